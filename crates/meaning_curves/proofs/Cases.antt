@@ -1,0 +1,54 @@
+-- Small cases of the definitions, in one table that one proof covers. Assumes nothing.
+use mathlib.Core.Bool.{Bool, true, false, not}
+use mathlib.Core.List.{List, [], _∷_, map}
+use mathlib.Core.Option.{Option, none, some}
+use Prim.Native.Nat.{ℕ}
+use lib.Dec.{T, eqb}
+use lib.IntN.{ℤ, pos, negsuc}
+use lib.ListN.{length}
+use Rattle.meaning_numbers.specs.Case.{holds, sameℤ, sameList}
+use Rattle.meaning_numbers.specs.Place.{numbersFrom}
+use Rattle.meaning_curves.specs.Limits.{firstOutside}
+use Rattle.meaning_curves.specs.Curve.{at, stretch, windowSum, spread}
+use Rattle.meaning_curves.specs.Normal.{normalised}
+use Rattle.meaning_curves.specs.Match.{distance, rawMatch, normalMatch}
+use Rattle.meaning_curves.specs.Open.{openCurves}
+
+-- the place is p
+isAt : Option ℕ → ℕ → Bool
+isAt none p = false
+isAt (some k) p = eqb k p
+
+-- the normalised values of a list
+normals : List ℤ → List ℤ
+normals l = map (normalised (at l) (length l)) (numbersFrom 0 (length l))
+
+isNormal : List ℤ → List ℤ → Bool
+isNormal l n = sameList sameℤ (normals l) n
+
+-- the distance of two lists of the same length
+isDistance : List ℤ → List ℤ → ℕ → ℕ → Bool
+isDistance l q b d = eqb (distance (at l) (at q) b (length l)) d
+
+cases : List Bool
+cases =
+    isNormal (pos 0 ∷ pos 0 ∷ pos 1 ∷ []) (negsuc 69 ∷ negsuc 69 ∷ pos 141 ∷ [])
+    ∷ isNormal (pos 1 ∷ pos 3 ∷ []) (negsuc 99 ∷ pos 100 ∷ [])
+    ∷ isDistance (pos 0 ∷ pos 0 ∷ pos 1 ∷ []) (pos 0 ∷ pos 1 ∷ pos 1 ∷ []) 0 1
+    ∷ isDistance (pos 0 ∷ pos 0 ∷ pos 1 ∷ []) (pos 0 ∷ pos 1 ∷ pos 1 ∷ []) 1 0
+    ∷ isDistance (pos 0 ∷ pos 5 ∷ pos 1 ∷ []) (pos 3 ∷ pos 1 ∷ pos 1 ∷ []) 0 25
+    ∷ isDistance (pos 0 ∷ pos 5 ∷ pos 1 ∷ []) (pos 3 ∷ pos 1 ∷ pos 1 ∷ []) 2 13
+    ∷ isDistance (pos 4 ∷ pos 0 ∷ pos 0 ∷ pos 9 ∷ []) (pos 4 ∷ pos 4 ∷ pos 4 ∷ pos 0 ∷ []) 1 97
+    ∷ isDistance (pos 4 ∷ pos 0 ∷ pos 0 ∷ pos 9 ∷ []) (pos 4 ∷ pos 4 ∷ pos 4 ∷ pos 0 ∷ []) 2 81
+    ∷ normalMatch (at (pos 0 ∷ pos 2 ∷ [])) (at (pos 0 ∷ pos 1 ∷ [])) 2 0 0 20 1
+    ∷ not (normalMatch (at (pos 0 ∷ pos 3 ∷ [])) (at (pos 0 ∷ pos 1 ∷ [])) 2 0 0 20 1)
+    ∷ not (normalMatch (at (pos 5 ∷ pos 5 ∷ [])) (at (pos 5 ∷ pos 5 ∷ [])) 2 0 1000 100 1)
+    ∷ rawMatch (at (pos 5 ∷ pos 5 ∷ [])) (at (pos 5 ∷ pos 5 ∷ [])) 2 0 0
+    ∷ sameℤ (windowSum (pos 1 ∷ pos 2 ∷ pos 4 ∷ pos 3 ∷ pos 1 ∷ []) 2 1) (pos 6)
+    ∷ eqb (spread (at (pos 0 ∷ pos 0 ∷ pos 1 ∷ [])) 3) 2
+    ∷ isAt (firstOutside (pos 10000 ∷ negsuc 9999 ∷ negsuc 10000 ∷ pos 10001 ∷ [])) 2
+    ∷ []
+
+all : T (holds cases)
+unfolding openCurves cases isAt normals isNormal isDistance
+all = tt

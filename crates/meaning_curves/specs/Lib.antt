@@ -1,0 +1,9 @@
+-- Series, stretches, distances and matches, as document 01 has them.
+pub mod Limits
+pub mod Curve
+pub mod Straight
+pub mod Warp
+pub mod Table
+pub mod Normal
+pub mod Match
+pub mod Open

@@ -1,0 +1,72 @@
+-- All limits of document 01, 'The product' and 'Rows': what each quantity may be. Assumes nothing.
+use mathlib.Core.Bool.{Bool, not}
+use mathlib.Core.List.{List}
+use mathlib.Core.Option.{Option}
+use Prim.Native.Nat.{ℕ}
+use lib.IntN.{ℤ, pos, negsuc, _-ℤ_}
+use Rattle.meaning_numbers.specs.Order.{within}
+use Rattle.meaning_numbers.specs.Place.{firstPlace}
+
+-- the most values of a series, and so the most windows of an index
+abbrev pub mostValues : ℕ
+mostValues = 1048576
+
+-- the most values of a series that the search program and the audit of two texts take
+abbrev pub mostProgramValues : ℕ
+mostProgramValues = 4096
+
+-- series length n, from 1 to the most that the call takes
+abbrev pub lengthIn : ℕ → ℕ → Bool
+lengthIn most n = within (pos 1) (pos most) (pos n)
+
+-- value: -10,000 to 10,000
+abbrev pub valueIn : ℤ → Bool
+valueIn x = within (negsuc 9999) (pos 10000) x
+
+-- window length w: 1 to 256
+abbrev pub windowIn : ℤ → Bool
+windowIn w = within (pos 1) (pos 256) w
+
+-- row width d, in sums: 1 to 1,000,000
+abbrev pub widthIn : ℤ → Bool
+widthIn d = within (pos 1) (pos 1000000) d
+
+-- merge percentage g: 0 to 100
+abbrev pub mergeIn : ℤ → Bool
+mergeIn g = within (pos 0) (pos 100) g
+
+-- query length m: 1 to 1,024
+abbrev pub queryLengthIn : ℕ → Bool
+queryLengthIn m = within (pos 1) (pos 1024) (pos m)
+
+-- band b: 0 to m - 1
+abbrev pub bandIn : ℕ → ℤ → Bool
+bandIn m b = within (pos 0) (pos m -ℤ pos 1) b
+
+-- threshold E: 0 to 10^12
+abbrev pub thresholdIn : ℤ → Bool
+thresholdIn E = within (pos 0) (pos 1000000000000) E
+
+-- scale limit a, in tenths: 10 to 100
+abbrev pub scaleIn : ℤ → Bool
+scaleIn a = within (pos 10) (pos 100) a
+
+-- shift limit h: 0 to 20,000
+abbrev pub shiftIn : ℤ → Bool
+shiftIn h = within (pos 0) (pos 20000) h
+
+-- windows of an index: at least one, at most 1,048,576
+abbrev pub windowsIn : ℤ → Bool
+windowsIn W = within (pos 1) (pos mostValues) W
+
+-- the least end of a range: -4,000,000
+abbrev pub lowestEnd : ℤ
+lowestEnd = negsuc 3999999
+
+-- ends of a range: inside -4,000,000 to 4,000,000
+abbrev pub endIn : ℤ → Bool
+endIn z = within lowestEnd (pos 4000000) z
+
+-- the place of the first value outside its limits
+unfoldable pub firstOutside : List ℤ → Option ℕ
+firstOutside s = firstPlace (λ x. not (valueIn x)) s

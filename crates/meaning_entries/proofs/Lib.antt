@@ -1,0 +1,2 @@
+-- What the definitions imply, by subject.
+pub mod Cases

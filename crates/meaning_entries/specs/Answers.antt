@@ -1,0 +1,82 @@
+-- Document 01's number, place, counts and values for each case of each answer. A refusal gives counts 0, except 24. Assumes nothing.
+use mathlib.Core.Option.{Option, none, some}
+use Prim.Native.Nat.{ℕ}
+use lib.IntN.{natAbs}
+use lib.ListN.{length}
+use Rattle.meaning_rows.specs.declared.Head.{Head}
+use Rattle.meaning_rows.specs.Index.{Index}
+use Rattle.meaning_entries.specs.declared.Built.{Built}
+use Rattle.meaning_entries.specs.declared.Extended.{Extended}
+use Rattle.meaning_entries.specs.declared.Audited.{Audited}
+use Rattle.meaning_entries.specs.declared.Written.{Written}
+use Rattle.meaning_entries.specs.declared.Loaded.{Loaded}
+use Rattle.meaning_entries.specs.declared.Found.{Found}
+
+-- the head of an index that is well formed
+abbrev pub headOf : Index → Head
+headOf x = record { window = natAbs (x .window); width = natAbs (x .width); windows = natAbs (x .windows) }
+
+-- ---- number and place, where the call is refused
+
+abbrev pub builtRefusal : Built → Option (ℕ × ℕ)
+builtRefusal (Built.Index h rows runs) = none
+builtRefusal (Built.Refused n p) = some (n, p)
+
+abbrev pub extendedRefusal : Extended → Option (ℕ × ℕ)
+extendedRefusal (Extended.Index h rows runs) = none
+extendedRefusal (Extended.Refused n p) = some (n, p)
+
+abbrev pub auditedRefusal : Audited → Option (ℕ × ℕ)
+auditedRefusal Audited.Yes = none
+auditedRefusal (Audited.Wrong row offset) = none
+auditedRefusal (Audited.Missing count) = none
+auditedRefusal (Audited.Refused n p) = some (n, p)
+
+abbrev pub writtenRefusal : Written → Option (ℕ × ℕ)
+writtenRefusal (Written.Text length) = none
+writtenRefusal (Written.Refused n p) = some (n, p)
+
+abbrev pub loadedRefusal : Loaded → Option (ℕ × ℕ)
+loadedRefusal (Loaded.Index h rows runs) = none
+loadedRefusal (Loaded.Refused n p) = some (n, p)
+
+-- a full list is refusal 24
+abbrev pub foundRefusal : Found → Option (ℕ × ℕ)
+foundRefusal (Found.All candidates matches) = none
+foundRefusal (Found.Full candidates matches) = some (24, 0)
+foundRefusal (Found.Refused n p) = some (n, p)
+
+-- ---- counts
+
+-- how many rows and runs stand in the buffers
+abbrev pub builtCounts : Built → ℕ × ℕ
+builtCounts (Built.Index h rows runs) = (rows, runs)
+builtCounts (Built.Refused n p) = (0, 0)
+
+-- how many rows and runs stand in the buffers
+abbrev pub extendedCounts : Extended → ℕ × ℕ
+extendedCounts (Extended.Index h rows runs) = (rows, runs)
+extendedCounts (Extended.Refused n p) = (0, 0)
+
+-- how many rows and runs stand in the buffers
+abbrev pub loadedCounts : Loaded → ℕ × ℕ
+loadedCounts (Loaded.Index h rows runs) = (rows, runs)
+loadedCounts (Loaded.Refused n p) = (0, 0)
+
+-- how many bytes the text has
+abbrev pub writtenCount : Written → ℕ
+writtenCount (Written.Text length) = length
+writtenCount (Written.Refused n p) = 0
+
+-- how many windows stand nowhere
+abbrev pub missingCount : Audited → ℕ
+missingCount Audited.Yes = 0
+missingCount (Audited.Wrong row offset) = 0
+missingCount (Audited.Missing count) = count
+missingCount (Audited.Refused n p) = 0
+
+-- how many candidates and matches; 24 gives both true counts
+abbrev pub foundCounts : Found → ℕ × ℕ
+foundCounts (Found.All candidates matches) = (candidates, matches)
+foundCounts (Found.Full candidates matches) = (candidates, matches)
+foundCounts (Found.Refused n p) = (0, 0)

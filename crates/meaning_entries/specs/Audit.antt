@@ -1,0 +1,42 @@
+-- The entry audit, and what it is for an index to pass against a series. Assumes nothing.
+use mathlib.Core.Path.{_≡_}
+use mathlib.Core.Bool.{Bool, true, false}
+use mathlib.Core.List.{List, [], _∷_}
+use mathlib.Core.Option.{Option, none, some}
+use Prim.Native.Nat.{ℕ, zero, suc}
+use lib.IntN.{ℤ}
+use Rattle.meaning_curves.specs.Limits.{mostValues}
+use Rattle.meaning_rows.specs.Index.{Index}
+use Rattle.meaning_rows.specs.Audit.{firstWrong, missing}
+use Rattle.meaning_entries.specs.declared.Audited.{Audited}
+use Rattle.meaning_entries.specs.Refusal.{Condition, firstRefusal, lengthOutside, valueOutside, illFormed, fewerWindows, moreWindows}
+
+pub record AuditCall : Type 0 where
+  pub series : List ℤ
+  pub index : Index
+
+-- the refusals, in order; `most` is the most values that the call takes
+unfoldable pub auditTable : ℕ → AuditCall → List Condition
+auditTable most c =
+    lengthOutside most (c .series)
+    ∷ valueOutside (c .series)
+    ∷ illFormed (c .index)
+    ∷ fewerWindows (c .index) (c .series)
+    ∷ moreWindows (c .index) (c .series)
+    ∷ []
+
+-- where none is filed wrongly: yes, or how many windows stand nowhere
+unfoldable pub complete : ℕ → Audited
+complete zero = Audited.Yes
+complete (suc n) = Audited.Missing (suc n)
+
+-- what an audit that is not refused says
+unfoldable pub audited : AuditCall → Audited
+audited c = elim (firstWrong (c .index) (c .series)) [ some x ↦ Audited.Wrong (x .0) (x .1) | none ↦ complete (missing (c .index)) ]
+
+unfoldable pub auditAnswer : AuditCall → Audited
+auditAnswer c = elim (firstRefusal (auditTable mostValues c)) [ some r ↦ Audited.Refused (r .0) (r .1) | none ↦ audited c ]
+
+-- 01, Rows: an index passes against a series exactly if the audit of the two is not refused and says yes
+abbrev pub Passes : Index → List ℤ → Type 0
+Passes x s = auditAnswer (record { series = s; index = x }) ≡ Audited.Yes

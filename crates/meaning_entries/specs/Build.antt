@@ -1,0 +1,53 @@
+-- The entry build. Assumes nothing.
+use mathlib.Core.List.{List, [], _∷_}
+use mathlib.Core.Option.{Option, none, some}
+use Prim.Native.Nat.{ℕ}
+use lib.IntN.{ℤ, natAbs}
+use lib.ListN.{length}
+use Rattle.meaning_curves.specs.Limits.{mostValues}
+use Rattle.meaning_curves.specs.Curve.{windowCount}
+use Rattle.meaning_rows.specs.Index.{Index}
+use Rattle.meaning_rows.specs.Build.{built}
+use Rattle.meaning_entries.specs.declared.Built.{Built}
+use Rattle.meaning_entries.specs.Refusal.{Condition, firstRefusal, lengthOutside, valueOutside, windowOutside, widthOutside, mergeOutside, bufferShort}
+use Rattle.meaning_entries.specs.Buffers.{IndexBuffers, runRoom, indexIn}
+use Rattle.meaning_entries.specs.Answers.{headOf}
+
+pub record BuildCall : Type 0 where
+  pub series : List ℤ
+  pub window : ℤ
+  pub width : ℤ
+  pub merge : ℤ
+
+-- how many windows the series has
+abbrev pub buildWindows : BuildCall → ℕ
+buildWindows c = windowCount (length (c .series)) (natAbs (c .window))
+
+-- the refusals, in order
+unfoldable pub buildTable : BuildCall → IndexBuffers → List Condition
+buildTable c b =
+    lengthOutside mostValues (c .series)
+    ∷ valueOutside (c .series)
+    ∷ windowOutside (c .window) (c .series)
+    ∷ widthOutside (c .width)
+    ∷ mergeOutside (c .merge)
+    ∷ bufferShort (length (b .rows)) (buildWindows c)
+    ∷ bufferShort (runRoom b) (buildWindows c)
+    ∷ []
+
+abbrev pub buildRefusal : BuildCall → IndexBuffers → Option (ℕ × ℕ)
+buildRefusal c b = firstRefusal (buildTable c b)
+
+-- what a call that is not refused builds
+unfoldable pub buildIndex : BuildCall → Index
+buildIndex c = built (c .series) (natAbs (c .window)) (natAbs (c .width)) (natAbs (c .merge))
+
+unfoldable pub buildAnswer : BuildCall → IndexBuffers → Built
+buildAnswer c b = elim (buildRefusal c b) [
+  | some r ↦ Built.Refused (r .0) (r .1)
+  | none ↦ Built.Index (headOf (buildIndex c)) (length (buildIndex c .rows)) (length (buildIndex c .runs))
+]
+
+-- the buffers afterwards
+unfoldable pub buildAfter : BuildCall → IndexBuffers → IndexBuffers
+buildAfter c b = elim (buildRefusal c b) [ some r ↦ b | none ↦ indexIn (buildIndex c) b ]

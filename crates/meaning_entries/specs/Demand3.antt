@@ -1,0 +1,54 @@
+-- Demand 3: through whichever two audited indexes, the same list, and that list is exactly all matches. One claim about both searches together and all four queries. Assumes nothing.
+use mathlib.Core.Path.{_≡_}
+use mathlib.Core.List.{List, [], _∷_}
+use Prim.Native.Nat.{ℕ}
+use lib.IntN.{ℤ}
+use lib.ListN.{length, take}
+use Rattle.meaning_rows.specs.Index.{Index}
+use Rattle.meaning_filter.specs.declared.Kind.{Kind}
+use Rattle.meaning_filter.specs.Matches.{allMatches}
+use Rattle.meaning_entries.specs.declared.Found.{Found}
+use Rattle.meaning_entries.specs.Audit.{Passes}
+use Rattle.meaning_entries.specs.Search.{SearchCall, SearchBuffers, question}
+use Rattle.meaning_entries.specs.Demand2.{SearchKept}
+
+-- the first entries of a list's two slices, as pairs
+unfoldable pub pairs : List ℕ → List ℕ → List (ℕ × ℕ)
+pairs [] ds = []
+pairs (o ∷ os) [] = []
+pairs (o ∷ os) (d ∷ ds) = (o, d) ∷ pairs os ds
+
+-- a search that kept its promise, through an index that passes the audit, and listed `count` matches
+pub record Searched (c : SearchCall) (count : ℕ) (list : List (ℕ × ℕ)) : Type 0 where
+  pub passes : Passes (c .index) (c .series)
+  pub before : SearchBuffers
+  pub after : SearchBuffers
+  pub candidates : ℕ
+  pub kept : SearchKept c before (Found.All candidates count) after
+  pub listed : list ≡ take count (pairs (after .offsets) (after .distances))
+
+-- the same search through another index
+abbrev pub through : Index → SearchCall → SearchCall
+through x c = record {
+  series = c .series;
+  index = x;
+  kind = c .kind;
+  query = c .query;
+  band = c .band;
+  threshold = c .threshold;
+  scale = c .scale;
+  shift = c .shift;
+}
+
+-- what both searches list
+pub record SameMatches (c : SearchCall) (count₁ count₂ : ℕ) (list₁ list₂ : List (ℕ × ℕ)) : Type 0 where
+  pub counts : count₁ ≡ count₂
+  pub lists : list₁ ≡ list₂
+  pub all : list₁ ≡ allMatches (question c)
+  pub long : count₁ ≡ length list₁
+
+-- for every series, query, kind and limits, and every two indexes
+pub Demand3 : Type 0
+Demand3 =
+    (c : SearchCall) (x : Index) (count₁ count₂ : ℕ) (list₁ list₂ : List (ℕ × ℕ))
+    → Searched c count₁ list₁ → Searched (through x c) count₂ list₂ → SameMatches c count₁ count₂ list₁ list₂

@@ -1,0 +1,51 @@
+-- The entry extend: the old index is lent, the result goes to fresh buffers. Assumes nothing.
+use mathlib.Core.List.{List, [], _∷_}
+use mathlib.Core.Option.{Option, none, some}
+use Prim.Native.Nat.{ℕ}
+use lib.IntN.{ℤ, natAbs}
+use lib.ListN.{length}
+use Rattle.meaning_curves.specs.Limits.{mostValues}
+use Rattle.meaning_curves.specs.Curve.{windowCount}
+use Rattle.meaning_rows.specs.Index.{Index}
+use Rattle.meaning_rows.specs.Extend.{extended}
+use Rattle.meaning_entries.specs.declared.Extended.{Extended}
+use Rattle.meaning_entries.specs.Refusal.{Condition, firstRefusal, lengthOutside, valueOutside, illFormed, moreWindows, bufferShort}
+use Rattle.meaning_entries.specs.Buffers.{IndexBuffers, runRoom, indexIn}
+use Rattle.meaning_entries.specs.Answers.{headOf}
+
+-- the whole, longer series, and the old index
+pub record ExtendCall : Type 0 where
+  pub series : List ℤ
+  pub index : Index
+
+-- how many windows the series has
+abbrev pub extendWindows : ExtendCall → ℕ
+extendWindows c = windowCount (length (c .series)) (natAbs (c .index .window))
+
+-- the refusals, in order
+unfoldable pub extendTable : ExtendCall → IndexBuffers → List Condition
+extendTable c b =
+    lengthOutside mostValues (c .series)
+    ∷ valueOutside (c .series)
+    ∷ illFormed (c .index)
+    ∷ moreWindows (c .index) (c .series)
+    ∷ bufferShort (length (b .rows)) (extendWindows c)
+    ∷ bufferShort (runRoom b) (extendWindows c)
+    ∷ []
+
+abbrev pub extendRefusal : ExtendCall → IndexBuffers → Option (ℕ × ℕ)
+extendRefusal c b = firstRefusal (extendTable c b)
+
+-- what a call that is not refused makes
+unfoldable pub extendIndex : ExtendCall → Index
+extendIndex c = extended (c .index) (c .series)
+
+unfoldable pub extendAnswer : ExtendCall → IndexBuffers → Extended
+extendAnswer c b = elim (extendRefusal c b) [
+  | some r ↦ Extended.Refused (r .0) (r .1)
+  | none ↦ Extended.Index (headOf (extendIndex c)) (length (extendIndex c .rows)) (length (extendIndex c .runs))
+]
+
+-- the buffers afterwards
+unfoldable pub extendAfter : ExtendCall → IndexBuffers → IndexBuffers
+extendAfter c b = elim (extendRefusal c b) [ some r ↦ b | none ↦ indexIn (extendIndex c) b ]

@@ -1,0 +1,51 @@
+-- The entry read: an index text becomes an index in lent buffers. Assumes nothing.
+use mathlib.Core.List.{List, [], _∷_}
+use mathlib.Core.Option.{Option, none, some}
+use Prim.Native.Nat.{ℕ, _+_}
+use lib.IntN.{pos}
+use lib.ListN.{length}
+use Rattle.meaning_rows.specs.Index.{Index}
+use Rattle.meaning_text.specs.Form.{Form}
+use Rattle.meaning_text.specs.Read.{Verdict, fine, unfit, readText, lineOf}
+use Rattle.meaning_text.specs.Texts.{indexForm, indexSaid}
+use Rattle.meaning_entries.specs.declared.Loaded.{Loaded}
+use Rattle.meaning_entries.specs.Refusal.{Condition, where?, firstRefusal, illFormed, bufferShort}
+use Rattle.meaning_entries.specs.Buffers.{IndexBuffers, runRoom, indexIn}
+use Rattle.meaning_entries.specs.Answers.{headOf}
+
+-- the first bad line of a text that is not in the form, after `before` lines
+unfoldable pub badLine : Form → ℕ → List ℕ → Option ℕ
+badLine f before t = elim (readText f t) [ fine v ↦ none | unfit p ↦ some (before + lineOf t p) ]
+
+-- 12: a text that cannot be read; first bad line
+unfoldable pub unreadable : Form → ℕ → List ℕ → Condition
+unreadable f before t = where? 12 (badLine f before t)
+
+-- the index that a text gives; of a text that cannot be read nothing is asked
+unfoldable pub textIndex : List ℕ → Index
+textIndex t = elim (readText indexForm t) [
+  | fine v ↦ indexSaid v
+  | unfit p ↦ record { window = pos 0; width = pos 0; windows = pos 0; rows = []; runs = [] }
+]
+
+-- the refusals, in order
+unfoldable pub loadTable : List ℕ → IndexBuffers → List Condition
+loadTable t b =
+    unreadable indexForm 0 t
+    ∷ illFormed (textIndex t)
+    ∷ bufferShort (length (b .rows)) (length (textIndex t .rows))
+    ∷ bufferShort (runRoom b) (length (textIndex t .runs))
+    ∷ []
+
+abbrev pub loadRefusal : List ℕ → IndexBuffers → Option (ℕ × ℕ)
+loadRefusal t b = firstRefusal (loadTable t b)
+
+unfoldable pub loadAnswer : List ℕ → IndexBuffers → Loaded
+loadAnswer t b = elim (loadRefusal t b) [
+  | some r ↦ Loaded.Refused (r .0) (r .1)
+  | none ↦ Loaded.Index (headOf (textIndex t)) (length (textIndex t .rows)) (length (textIndex t .runs))
+]
+
+-- the buffers afterwards
+unfoldable pub loadAfter : List ℕ → IndexBuffers → IndexBuffers
+loadAfter t b = elim (loadRefusal t b) [ some r ↦ b | none ↦ indexIn (textIndex t) b ]

@@ -1,0 +1,111 @@
+-- The search program, from the bytes it reads to the bytes it prints. Build and search are judged together as one call, before anything is printed. Assumes nothing.
+use mathlib.Core.Bool.{Bool, true, false}
+use mathlib.Core.List.{List, [], _∷_, _++_}
+use mathlib.Core.Option.{Option, none, some}
+use Prim.Native.Nat.{ℕ}
+use lib.IntN.{ℤ, pos}
+use lib.ListN.{length}
+use Rattle.meaning_curves.specs.Limits.{mostProgramValues}
+use Rattle.meaning_rows.specs.Index.{Index}
+use Rattle.meaning_filter.specs.declared.Kind.{Kind}
+use Rattle.meaning_filter.specs.declared.Kind.the-variants.{Raw}
+use Rattle.meaning_text.specs.Form.{Value}
+use Rattle.meaning_text.specs.Read.{Verdict, fine, unfit, readText}
+use Rattle.meaning_text.specs.Texts.{programForm, kindSaid, indexText, foundText, refusedText}
+use Rattle.meaning_entries.specs.Refusal.{Condition, firstRefusal, lengthOutside, valueOutside, windowOutside, widthOutside, mergeOutside, queryLengthOutside, queryBelowWindow, bandOutside, thresholdOutside, scaleOrShiftOutside, flatQuery}
+use Rattle.meaning_entries.specs.Load.{unreadable}
+use Rattle.meaning_entries.specs.Build.{BuildCall, buildIndex}
+use Rattle.meaning_entries.specs.Search.{SearchCall, searchCandidates, searchMatches}
+
+-- what the five lines say
+pub record ProgramCall : Type 0 where
+  pub window : ℤ
+  pub width : ℤ
+  pub merge : ℤ
+  pub series : List ℤ
+  pub kind : Kind
+  pub band : ℤ
+  pub threshold : ℤ
+  pub scale : ℤ
+  pub shift : ℤ
+  pub query : List ℤ
+
+unfoldable pub programSaid : Value programForm → ProgramCall
+programSaid v =
+    let find = v .1 .1 .1 .1 in
+    record {
+      window = v .0;
+      width = v .1 .0;
+      merge = v .1 .1 .0;
+      series = v .1 .1 .1 .0;
+      kind = kindSaid (find .0);
+      band = find .1 .0;
+      threshold = find .1 .1 .0;
+      scale = find .1 .1 .1 .0;
+      shift = find .1 .1 .1 .1 .0;
+      query = find .1 .1 .1 .1 .1;
+    }
+
+-- the call that a text gives; of a text that cannot be read nothing is asked
+unfoldable pub textProgram : List ℕ → ProgramCall
+textProgram t = elim (readText programForm t) [
+  | fine v ↦ programSaid v
+  | unfit p ↦ record {
+    window = pos 0;
+    width = pos 0;
+    merge = pos 0;
+    series = [];
+    kind = Raw;
+    band = pos 0;
+    threshold = pos 0;
+    scale = pos 0;
+    shift = pos 0;
+    query = [];
+  }
+]
+
+-- the refusals, in order
+unfoldable pub programTable : List ℕ → List Condition
+programTable t =
+    let c = textProgram t in
+    unreadable programForm 0 t
+    ∷ lengthOutside mostProgramValues (c .series)
+    ∷ valueOutside (c .series)
+    ∷ valueOutside (c .query)
+    ∷ windowOutside (c .window) (c .series)
+    ∷ widthOutside (c .width)
+    ∷ mergeOutside (c .merge)
+    ∷ queryLengthOutside (c .query) (c .series)
+    ∷ queryBelowWindow (c .query) (c .window)
+    ∷ bandOutside (c .query) (c .band)
+    ∷ thresholdOutside (c .threshold)
+    ∷ scaleOrShiftOutside (c .scale) (c .shift)
+    ∷ flatQuery (c .kind) (c .query)
+    ∷ []
+
+-- the index that the program builds
+unfoldable pub programIndex : ProgramCall → Index
+programIndex c = buildIndex (record { series = c .series; window = c .window; width = c .width; merge = c .merge })
+
+-- the search through it
+abbrev pub programSearch : ProgramCall → SearchCall
+programSearch c = record {
+  series = c .series;
+  index = programIndex c;
+  kind = c .kind;
+  query = c .query;
+  band = c .band;
+  threshold = c .threshold;
+  scale = c .scale;
+  shift = c .shift;
+}
+
+-- it prints the index, then the list
+unfoldable pub printed : ProgramCall → List ℕ
+printed c =
+    let x = programSearch c in
+    indexText (x .index) ++ foundText (length (searchMatches x)) (searchCandidates x) (searchMatches x)
+
+-- a refusal prints only `(refused N P)`
+unfoldable pub program : List ℕ → List ℕ
+program t = elim (firstRefusal (programTable t)) [ some r ↦ refusedText (r .0) (r .1) | none ↦ printed (textProgram t) ]

@@ -1,0 +1,116 @@
+-- The entry search: one series, one index, one query of either kind, straight or warped. Assumes nothing.
+use mathlib.Core.Bool.{Bool, true, false}
+use mathlib.Core.List.{List, [], _∷_, map}
+use mathlib.Core.Option.{Option, none, some}
+use Prim.Native.Nat.{ℕ}
+use lib.Dec.{eqb, ltb}
+use lib.IntN.{ℤ, pos, natAbs}
+use lib.ListN.{length, take}
+use Rattle.meaning_curves.specs.Limits.{mostValues}
+use Rattle.meaning_curves.specs.Curve.{windowCount}
+use Rattle.meaning_rows.specs.Index.{Index}
+use Rattle.meaning_filter.specs.declared.Kind.{Kind}
+use Rattle.meaning_filter.specs.Matches.{Question, candidateRuns, candidateCount, matchList}
+use Rattle.meaning_entries.specs.declared.Found.{Found}
+use Rattle.meaning_entries.specs.Refusal.{Condition, if?, firstRefusal, lengthOutside, valueOutside, queryLengthOutside, queryBelowWindow, bandOutside, thresholdOutside, scaleOrShiftOutside, flatQuery, illFormed, fewerWindows, moreWindows, bufferShort}
+use Rattle.meaning_entries.specs.Buffers.{filled, pairRoom}
+
+-- band b, threshold E, scale limit a, shift limit h are whole numbers, as a text may have any
+pub record SearchCall : Type 0 where
+  pub series : List ℤ
+  pub index : Index
+  pub kind : Kind
+  pub query : List ℤ
+  pub band : ℤ
+  pub threshold : ℤ
+  pub scale : ℤ
+  pub shift : ℤ
+
+-- candidate buffer, scratch, and the list
+pub record SearchBuffers : Type 0 where
+  pub left : List ℕ
+  pub right : List ℕ
+  pub scratch : List ℕ
+  pub offsets : List ℕ
+  pub distances : List ℕ
+
+-- what a call within its limits asks
+unfoldable pub question : SearchCall → Question
+question c = record {
+  series = c .series;
+  kind = c .kind;
+  query = c .query;
+  limits = record { band = natAbs (c .band); threshold = natAbs (c .threshold); scale = natAbs (c .scale); shift = natAbs (c .shift) };
+}
+
+-- how many windows the series has
+abbrev pub searchWindows : SearchCall → ℕ
+searchWindows c = windowCount (length (c .series)) (natAbs (c .index .window))
+
+-- the matches that the search lists
+abbrev pub searchMatches : SearchCall → List (ℕ × ℕ)
+searchMatches c = matchList (c .index) (question c)
+
+-- how many entries the list holds
+abbrev pub listRoom : SearchBuffers → ℕ
+listRoom b = pairRoom (b .offsets) (b .distances)
+
+-- 24: more matches than the list holds
+unfoldable pub listShort : SearchCall → SearchBuffers → Condition
+listShort c b = if? 24 (ltb (listRoom b) (length (searchMatches c)))
+
+-- the refusals, in order
+unfoldable pub searchTable : SearchCall → SearchBuffers → List Condition
+searchTable c b =
+    lengthOutside mostValues (c .series)
+    ∷ valueOutside (c .series)
+    ∷ valueOutside (c .query)
+    ∷ queryLengthOutside (c .query) (c .series)
+    ∷ queryBelowWindow (c .query) (c .index .window)
+    ∷ bandOutside (c .query) (c .band)
+    ∷ thresholdOutside (c .threshold)
+    ∷ scaleOrShiftOutside (c .scale) (c .shift)
+    ∷ flatQuery (c .kind) (c .query)
+    ∷ illFormed (c .index)
+    ∷ fewerWindows (c .index) (c .series)
+    ∷ moreWindows (c .index) (c .series)
+    ∷ bufferShort (pairRoom (b .left) (b .right)) (searchWindows c)
+    ∷ bufferShort (length (b .scratch)) (searchWindows c)
+    ∷ listShort c b
+    ∷ []
+
+abbrev pub searchRefusal : SearchCall → SearchBuffers → Option (ℕ × ℕ)
+searchRefusal c b = firstRefusal (searchTable c b)
+
+-- a search that looked: not refused, or refused by 24 alone
+unfoldable pub looked : Option (ℕ × ℕ) → Bool
+looked none = true
+looked (some r) = eqb (r .0) 24
+
+-- the candidates, and the matches among them
+abbrev pub searchCandidates : SearchCall → ℕ
+searchCandidates c = candidateCount (c .index) (question c)
+
+-- refused: number and place; but 24 gives both true counts
+unfoldable pub searchRefused : SearchCall → ℕ × ℕ → Found
+searchRefused c r = elim (eqb (r .0) 24) [ true ↦ Found.Full (searchCandidates c) (length (searchMatches c)) | false ↦ Found.Refused (r .0) (r .1) ]
+
+unfoldable pub searchAnswer : SearchCall → SearchBuffers → Found
+searchAnswer c b = elim (searchRefusal c b) [ some r ↦ searchRefused c r | none ↦ Found.All (searchCandidates c) (length (searchMatches c)) ]
+
+-- candidates stand first in their buffer as joined runs, scratch is all 0, the list has the matches, or the first of them if it cannot hold all
+unfoldable pub lookedAfter : SearchCall → SearchBuffers → SearchBuffers
+lookedAfter c b =
+    let runs = candidateRuns (c .index) (question c) in
+    let list = take (listRoom b) (searchMatches c) in
+    record {
+      left = filled 0 (map (λ x. x .0) runs) (b .left);
+      right = filled 0 (map (λ x. x .1) runs) (b .right);
+      scratch = filled 0 [] (b .scratch);
+      offsets = filled 0 (map (λ x. x .0) list) (b .offsets);
+      distances = filled 0 (map (λ x. x .1) list) (b .distances);
+    }
+
+-- the buffers afterwards
+unfoldable pub searchAfter : SearchCall → SearchBuffers → SearchBuffers
+searchAfter c b = elim (looked (searchRefusal c b)) [ true ↦ lookedAfter c b | false ↦ b ]

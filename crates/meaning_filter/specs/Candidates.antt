@@ -1,0 +1,22 @@
+-- Candidates: the offsets that the index does not rule out (01, Candidates). Assumes nothing.
+use mathlib.Core.Bool.{Bool, true, false, _&&_}
+use mathlib.Core.List.{List, [], _∷_}
+use Prim.Native.Nat.{ℕ, zero, suc, _+_}
+use lib.IntN.{ℤ, natAbs}
+use lib.Signed.{leZ, ltZ}
+use Rattle.meaning_numbers.specs.Place.{any}
+use Rattle.meaning_rows.specs.declared.Row.{Row}
+use Rattle.meaning_rows.specs.Index.{Index, stands}
+
+-- a row is met by a range if low ≤ upper end and up > lower end
+abbrev pub met : ℤ × ℤ → Row → Bool
+met range r = leZ (r .low) (range .1) && ltZ (range .0) (r .up)
+
+-- window j stands in some row that the range meets
+abbrev pub admits : Index → ℤ × ℤ → ℕ → Bool
+admits x range j = any (λ r. met range r && stands x r j) (x .rows)
+
+-- each part's window, the first at offset j and each w further, stands in some row that the part's range meets
+unfoldable pub candidate : Index → List (ℤ × ℤ) → ℕ → Bool
+candidate x [] j = true
+candidate x (range ∷ rest) j = admits x range j && candidate x rest (j + natAbs (x .window))

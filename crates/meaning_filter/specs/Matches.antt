@@ -1,0 +1,71 @@
+-- The list of matches, with offset and distance, and what a search through an index finds (01, Candidates). Assumes nothing.
+use mathlib.Core.Bool.{Bool, true, false, cond, _&&_}
+use mathlib.Core.List.{List, [], _∷_, map}
+use Prim.Native.Nat.{ℕ, zero, suc, _+_, _-_}
+use lib.IntN.{ℤ, natAbs}
+use lib.ListN.{length}
+use Rattle.meaning_numbers.specs.Sum.{count}
+use Rattle.meaning_numbers.specs.Place.{keep, numbersFrom}
+use Rattle.meaning_curves.specs.Curve.{at, stretch}
+use Rattle.meaning_curves.specs.Match.{distance, normalDistance, rawMatch, normalMatch}
+use Rattle.meaning_rows.specs.Index.{Index}
+use Rattle.meaning_rows.specs.Runs.{runs}
+use Rattle.meaning_filter.specs.declared.Kind.{Kind}
+use Rattle.meaning_filter.specs.declared.Kind.the-variants.{Raw, Normal}
+use Rattle.meaning_filter.specs.declared.Limits.{Limits}
+use Rattle.meaning_filter.specs.Range.{ranges}
+use Rattle.meaning_filter.specs.Candidates.{candidate}
+
+-- what is looked for in a series: a query of a kind, within limits
+pub record Question : Type 0 where
+  pub series : List ℤ
+  pub kind : Kind
+  pub query : List ℤ
+  pub limits : Limits
+
+-- m
+abbrev pub queryLength : Question → ℕ
+queryLength z = length (z .query)
+
+-- how many offsets there are: from 0 to n - m
+abbrev pub offsetCount : Question → ℕ
+offsetCount z = length (z .series) + 1 - queryLength z
+
+-- a stretch matches a query
+unfoldable pub matches : Kind → (s q : ℕ → ℤ) → ℕ → Limits → Bool
+matches Raw s q m l = rawMatch s q m (l .band) (l .threshold)
+matches Normal s q m l = normalMatch s q m (l .band) (l .threshold) (l .scale) (l .shift)
+
+-- its distance
+unfoldable pub distanceTo : Kind → (s q : ℕ → ℤ) → ℕ → Limits → ℕ
+distanceTo Raw s q m l = distance s q (l .band) m
+distanceTo Normal s q m l = normalDistance s q (l .band) m
+
+-- the stretch of offset j matches
+abbrev pub matchesAt : Question → ℕ → Bool
+matchesAt z j = matches (z .kind) (stretch (z .series) j) (at (z .query)) (queryLength z) (z .limits)
+
+-- an entry of the list: an offset and its distance
+abbrev pub listed : Question → ℕ → ℕ × ℕ
+listed z j = (j, distanceTo (z .kind) (stretch (z .series) j) (at (z .query)) (queryLength z) (z .limits))
+
+-- all matches, ascending, with no index
+unfoldable pub allMatches : Question → List (ℕ × ℕ)
+allMatches z = map (listed z) (keep (matchesAt z) (numbersFrom 0 (offsetCount z)))
+
+-- ---- through an index
+
+-- offset j is a candidate
+unfoldable pub candidateAt : Index → Question → ℕ → Bool
+candidateAt x z = candidate x (ranges (z .kind) (at (z .query)) (queryLength z) (z .limits) (natAbs (x .window)))
+
+-- the candidates as joined runs, and how many they are
+unfoldable pub candidateRuns : Index → Question → List (ℕ × ℕ)
+candidateRuns x z = runs (candidateAt x z) (offsetCount z)
+
+unfoldable pub candidateCount : Index → Question → ℕ
+candidateCount x z = count (candidateAt x z) (offsetCount z)
+
+-- a search lists matches among candidates, with offset and distance
+unfoldable pub matchList : Index → Question → List (ℕ × ℕ)
+matchList x z = map (listed z) (keep (matchesAt z) (keep (candidateAt x z) (numbersFrom 0 (offsetCount z))))

@@ -1,0 +1,18 @@
+// What a search is asked for: the kind of query and its limits. specs/ has the meanings, proofs/ what they imply.
+
+// A query's kind.
+pub enum Kind {
+    Raw,
+    Normal,
+}
+
+// The limits of a search: band b, threshold E, scale limit a in tenths, shift limit h.
+pub struct Limits {
+    pub band: u32,
+    pub threshold: u64,
+    pub scale: u32,
+    pub shift: u32,
+}
+
+// A crate has one function at least.
+pub fn nothing() {}

@@ -1,0 +1,8 @@
+-- Whole numbers, as document 01 uses them.
+pub mod Sum
+pub mod Root
+pub mod Quotient
+pub mod Order
+pub mod Place
+pub mod Case
+pub mod Open
