@@ -6,13 +6,13 @@ use Prim.Native.Nat.{ℕ}
 use lib.Dec.{T, eqb}
 use lib.IntN.{ℤ, pos, negsuc}
 use lib.ListN.{length}
-use Rattle.meaning_numbers.specs.Case.{holds, sameℤ, sameList}
+use Rattle.meaning_numbers.proofs.Table.{holds, sameℤ, sameList}
 use Rattle.meaning_numbers.specs.Place.{numbersFrom}
 use Rattle.meaning_curves.specs.Limits.{firstOutside}
 use Rattle.meaning_curves.specs.Curve.{at, stretch, windowSum, spread}
 use Rattle.meaning_curves.specs.Normal.{normalised}
 use Rattle.meaning_curves.specs.Match.{distance, rawMatch, normalMatch}
-use Rattle.meaning_curves.specs.Open.{openCurves}
+use Rattle.meaning_curves.proofs.Open.{openCurves}
 
 -- the place is p
 isAt : Option ℕ → ℕ → Bool

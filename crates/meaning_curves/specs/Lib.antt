@@ -6,4 +6,3 @@ pub mod Warp
 pub mod Table
 pub mod Normal
 pub mod Match
-pub mod Open

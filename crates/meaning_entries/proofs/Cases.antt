@@ -1,9 +1,64 @@
--- One proof for the table of cases. Assumes nothing.
-use lib.Dec.{T}
-use Rattle.meaning_numbers.specs.Case.{holds}
-use Rattle.meaning_entries.specs.Cases.{prints, cases}
-use Rattle.meaning_entries.specs.Open.{openEntries}
+-- The table of cases: the starred cases of document 01 ('Worth trying'), its worked texts, and those of files. One proof covers the table. Assumes nothing.
+use mathlib.Core.Bool.{Bool, not, _&&_}
+use mathlib.Core.List.{List, [], _∷_, _++_, map}
+use Prim.Native.Nat.{ℕ}
+use lib.Dec.{T, eqb}
+use lib.IntN.{ℤ, pos, negsuc}
+use lib.ListN.{length}
+use Rattle.meaning_numbers.specs.Root.{root}
+use Rattle.meaning_numbers.specs.Place.{numbersFrom}
+use Rattle.meaning_numbers.proofs.Table.{holds, sameℤ, sameList}
+use Rattle.meaning_curves.specs.Curve.{at}
+use Rattle.meaning_curves.specs.Normal.{normalised}
+use Rattle.meaning_curves.specs.Match.{distance, normalMatch}
+use Rattle.meaning_rows.specs.Range.{rowNumber, lowOf, upOf}
+use Rattle.meaning_filter.specs.Envelope.{lower, upper}
+use Rattle.meaning_entries.proofs.Open.{openEntries}
+use Rattle.meaning_entries.proofs.Row.{prints, openRow}
+use Rattle.meaning_entries.proofs.Vectors.{vectors}
 
-all : T (holds cases)
-unfolding openEntries prints cases
+-- the values of a curve of n places
+values : ℕ → (ℕ → ℤ) → List ℤ
+values n f = map f (numbersFrom 0 n)
+
+starred : List Bool
+unfolding values
+starred =
+    -- The index above; row 2..4 is not merged at the end, though it could be then.
+    prints "(window 2)\n(width 2)\n(merge 80)\n(series 1 2 4 3 1)\n(find raw 0 5 10 0 (query 2 4))\n"
+    "(index (window 2) (width 2) (windows 4)\n(row 2 4 (0 0))\n(row 4 8 (1 3))\n)\n(found 3 (candidates 4)\n(at 0 5)\n(at 1 0)\n(at 2 5)\n)\n"
+    -- Sum -1, d = 2: range [-2, 0).
+    ∷ (sameℤ (lowOf 2 (rowNumber 2 (negsuc 0))) (negsuc 1) && sameℤ (upOf 2 (rowNumber 2 (negsuc 0))) (pos 0))
+    -- E = 4 above: candidates 1 to 3, match 1 only.
+    ∷ prints "(window 2)\n(width 2)\n(merge 80)\n(series 1 2 4 3 1)\n(find raw 0 4 10 0 (query 2 4))\n"
+    "(index (window 2) (width 2) (windows 4)\n(row 2 4 (0 0))\n(row 4 8 (1 3))\n)\n(found 1 (candidates 3)\n(at 1 0)\n)\n"
+    -- Query 4 3, E = 0: match 2; three candidates at g = 80, two at g = 0.
+    ∷ prints "(window 2)\n(width 2)\n(merge 80)\n(series 1 2 4 3 1)\n(find raw 0 0 10 0 (query 4 3))\n"
+    "(index (window 2) (width 2) (windows 4)\n(row 2 4 (0 0))\n(row 4 8 (1 3))\n)\n(found 1 (candidates 3)\n(at 2 0)\n)\n"
+    ∷ prints "(window 2)\n(width 2)\n(merge 0)\n(series 1 2 4 3 1)\n(find raw 0 0 10 0 (query 4 3))\n"
+    "(index (window 2) (width 2) (windows 4)\n(row 2 4 (0 0))\n(row 4 6 (3 3))\n(row 6 8 (1 2))\n)\n(found 1 (candidates 2)\n(at 2 0)\n)\n"
+    -- 0 0 1 normalises to -70 -70 141.
+    ∷ sameList sameℤ (values 3 (normalised (at (pos 0 ∷ pos 0 ∷ pos 1 ∷ [])) 3)) (negsuc 69 ∷ negsuc 69 ∷ pos 141 ∷ [])
+    -- 1 3 gives -100 100.
+    ∷ sameList sameℤ (values 2 (normalised (at (pos 1 ∷ pos 3 ∷ [])) 2)) (negsuc 99 ∷ pos 100 ∷ [])
+    -- 0 0 1 against 0 1 1: distance 1 at b = 0, 0 at b = 1.
+    ∷ eqb (distance (at (pos 0 ∷ pos 0 ∷ pos 1 ∷ [])) (at (pos 0 ∷ pos 1 ∷ pos 1 ∷ [])) 0 3) 1
+    ∷ eqb (distance (at (pos 0 ∷ pos 0 ∷ pos 1 ∷ [])) (at (pos 0 ∷ pos 1 ∷ pos 1 ∷ [])) 1 3) 0
+    -- Envelope of 0 3 1 at b = 1: 0 0 1 and 3 3 3.
+    ∷ sameList sameℤ (values 3 (lower (at (pos 0 ∷ pos 3 ∷ pos 1 ∷ [])) 3 1)) (pos 0 ∷ pos 0 ∷ pos 1 ∷ [])
+    ∷ sameList sameℤ (values 3 (upper (at (pos 0 ∷ pos 3 ∷ pos 1 ∷ [])) 3 1)) (pos 3 ∷ pos 3 ∷ pos 3 ∷ [])
+    -- Query 0 1, a = 20, h = 1: 0 2 matches, 0 3 does not (E = 0).
+    ∷ normalMatch (at (pos 0 ∷ pos 2 ∷ [])) (at (pos 0 ∷ pos 1 ∷ [])) 2 0 0 20 1
+    ∷ not (normalMatch (at (pos 0 ∷ pos 3 ∷ [])) (at (pos 0 ∷ pos 1 ∷ [])) 2 0 0 20 1)
+    -- root(8) = 2, root(9) = 3.
+    ∷ eqb (root 8) 2
+    ∷ eqb (root 9) 3
+    ∷ []
+
+pub cases : List Bool
+unfolding starred
+cases = starred ++ vectors
+
+pub all : T (holds cases)
+unfolding openEntries openRow cases vectors
 all = tt

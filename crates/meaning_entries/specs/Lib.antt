@@ -13,5 +13,3 @@ pub mod Program
 pub mod Demand1
 pub mod Demand2
 pub mod Demand3
-pub mod Open
-pub mod Cases

@@ -3,4 +3,3 @@ pub mod Envelope
 pub mod Range
 pub mod Candidates
 pub mod Matches
-pub mod Open

@@ -1,15 +1,13 @@
--- Small cases of the definitions, in one table that one proof covers, and what the proof says of each. Assumes nothing.
-use mathlib.Core.Bool.{Bool, true, false, not}
+-- Small cases of the definitions, in one table that one proof covers. Assumes nothing.
+use mathlib.Core.Bool.{Bool, not}
 use mathlib.Core.List.{List, [], _∷_}
-use Prim.Native.Nat.{ℕ, zero, suc}
 use lib.Dec.{T, eqb}
 use lib.IntN.{ℤ, pos, negsuc}
-use lib.ListN.{getD}
-use Rattle.meaning_numbers.specs.Case.{holds, sameℤ}
+use Rattle.meaning_numbers.proofs.Table.{holds, sameℤ}
 use Rattle.meaning_numbers.specs.Root.{root}
 use Rattle.meaning_numbers.specs.Quotient.{floorℤ, ceilℤ, multiple}
 use Rattle.meaning_numbers.specs.Order.{within}
-use Rattle.meaning_numbers.specs.Open.{openNumbers}
+use Rattle.meaning_numbers.proofs.Open.{openNumbers}
 
 cases : List Bool
 cases =
@@ -23,19 +21,3 @@ cases =
 all : T (holds cases)
 unfolding openNumbers cases
 all = tt
-
-rest : (t : Bool) (l : List Bool) → T (holds (t ∷ l)) → T (holds l)
-unfolding holds
-rest true l h = h
-rest false l h = absurd h
-
-here : (t : Bool) (l : List Bool) → T (holds (t ∷ l)) → T t
-unfolding holds
-here true l h = tt
-here false l h = absurd h
-
--- where a table holds, each of its cases does
-pub each : (l : List Bool) → T (holds l) → (k : ℕ) → T (getD l k true)
-each [] h k = tt
-each (t ∷ l) h zero = here t l h
-each (t ∷ l) h (suc k) = each l (rest t l h) k

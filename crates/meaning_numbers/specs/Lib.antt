@@ -4,5 +4,3 @@ pub mod Root
 pub mod Quotient
 pub mod Order
 pub mod Place
-pub mod Case
-pub mod Open

@@ -2,8 +2,8 @@
 use mathlib.Core.Bool.{Bool, true, false, not}
 use mathlib.Core.List.{List, [], _∷_}
 use lib.Dec.{T}
-use Rattle.meaning_numbers.specs.Case.{holds}
-use Rattle.meaning_rows.specs.Open.{openRows}
+use Rattle.meaning_numbers.proofs.Table.{holds}
+use Rattle.meaning_rows.proofs.Open.{openRows}
 
 cases : List Bool
 cases = true ∷ []

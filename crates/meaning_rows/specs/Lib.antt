@@ -6,4 +6,3 @@ pub mod Judge
 pub mod Audit
 pub mod Build
 pub mod Extend
-pub mod Open

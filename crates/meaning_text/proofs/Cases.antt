@@ -4,12 +4,12 @@ use mathlib.Core.List.{List, [], _∷_}
 use Prim.Native.Nat.{ℕ}
 use Prim.Native.String.{String}
 use lib.Dec.{T, eqb}
-use Rattle.meaning_numbers.specs.Case.{holds, sameList}
+use Rattle.meaning_numbers.proofs.Table.{holds, sameList}
 use Rattle.meaning_text.specs.Bytes.{bytes}
 use Rattle.meaning_text.specs.Form.{Form, spell}
 use Rattle.meaning_text.specs.Read.{Verdict, fine, unfit, readText, lineOf}
 use Rattle.meaning_text.specs.Texts.{indexForm, seriesForm, programForm}
-use Rattle.meaning_text.specs.Open.{openText}
+use Rattle.meaning_text.proofs.Open.{openText}
 
 -- the text is in the form, and spelled again it is the same
 readsBack : Form → String → Bool

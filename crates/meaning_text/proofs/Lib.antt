@@ -1,2 +1,3 @@
 -- What the definitions imply, by subject.
+pub mod Open
 pub mod Cases

@@ -4,4 +4,3 @@ pub mod Number
 pub mod Form
 pub mod Read
 pub mod Texts
-pub mod Open

@@ -1,0 +1,10 @@
+-- Every definition of this crate that stays shut until it is named, and those below, under one name: a proof that computes a case says `unfolding openFilter`. Assumes nothing.
+use Rattle.meaning_rows.proofs.Open.{openRows}
+use Rattle.meaning_filter.specs.Envelope.{leastOf, greatestOf, lower, upper}
+use Rattle.meaning_filter.specs.Range.{lowerSum, upperSum, rawLow, rawHigh, normalLow, normalHigh, rangeOf, ranges}
+use Rattle.meaning_filter.specs.Candidates.{candidate}
+use Rattle.meaning_filter.specs.Matches.{matches, distanceTo, allMatches, candidateAt, candidateRuns, candidateCount, matchList}
+
+unfoldable pub openFilter : Unit {0}
+unfolding openRows leastOf greatestOf lower upper lowerSum upperSum rawLow rawHigh normalLow normalHigh rangeOf ranges candidate matches distanceTo allMatches candidateAt candidateRuns candidateCount matchList
+openFilter = tt
