@@ -1,4 +1,11 @@
--- What the definitions imply, by subject.
+-- What the definitions imply, by subject, and the laws of whole numbers that the toolchain lacks.
+pub mod Rep
+pub mod Machine
+pub mod Sum
+pub mod Cauchy
+pub mod Root
+pub mod Quotient
+pub mod Order
 pub mod Table
 pub mod Open
 pub mod Cases

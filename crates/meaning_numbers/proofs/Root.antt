@@ -1,0 +1,47 @@
+-- `root` is the whole square root (`root-is`), the greatest number whose square does not pass (`root-most`), and the only such number (`root-only`). Assumes nothing.
+use mathlib.Core.Path.{_≡_}
+use mathlib.Core.Bool.{Bool, true, false, not}
+use Prim.Native.Nat.{ℕ, zero, suc, _+_, _*_, _/_, _<_, _≤_}
+use native.Mathlib.Omega.{arith}
+use native.Mathlib.Nat.{mul-le-mul}
+use native.Mathlib.Decide.{decLe}
+use lib.Dec.{T, ltb, ltb→lt, nltb→le}
+use Rattle.meaning_numbers.specs.Root.{IsRoot, nextBit, rootWithin, root}
+
+-- ---- squares keep and reflect the order
+
+pub sq-le : {x y : ℕ} → x ≤ y → x * x ≤ y * y
+sq-le h = mul-le-mul h h
+
+pub le-of-sq : {x r : ℕ} → x * x < (r + 1) * (r + 1) → x ≤ r
+le-of-sq {x} {r} h = elim (decLe x r) [ yes l ↦ l | no f ↦ absurd (omega (arith, sq-le {x = r + 1} {y = x} (omega arith))) ]
+
+pub le-of-sq-le : {x r : ℕ} → x * x ≤ r * r → x ≤ r
+le-of-sq-le {x} {r} h = le-of-sq {x = x} {r = r} (omega arith)
+
+pub root-most : {x y r : ℕ} → IsRoot y r → x * x ≤ y → x ≤ r
+root-most {x} {y} {r} i h = le-of-sq {x = x} {r = r} (omega (arith, i .high))
+
+pub root-only : {y r t : ℕ} → IsRoot y r → IsRoot y t → r ≡ t
+root-only {y} {r} {t} i k = omega (arith, root-most i (k .low), root-most k (i .low))
+
+-- ---- the root by bits
+
+next-bit-is : (t : Bool) (y r : ℕ) → (T t → y < (r + 1) * (r + 1)) → (T (not t) → (r + 1) * (r + 1) ≤ y) → r * r ≤ y → y < (r + 2) * (r + 2) → IsRoot y (nextBit t r)
+unfolding nextBit
+next-bit-is true y r f g l h = record { low = l; high = f tt }
+next-bit-is false y r f g l h = record { low = g tt; high = omega arith }
+
+root-within-is : (n y : ℕ) → y ≤ n → IsRoot y (rootWithin n y)
+unfolding rootWithin
+root-within-is zero zero h = omega arith
+root-within-is zero (suc y) h = absurd (omega arith)
+root-within-is (suc n) zero h = omega arith
+root-within-is (suc n) (suc y) h =
+    let k = rootWithin n (suc y / 4) in
+    let i = root-within-is n (suc y / 4) (omega arith) in
+    next-bit-is (ltb (suc y) ((2 * k + 1) * (2 * k + 1))) (suc y) (2 * k) (ltb→lt _ _) (nltb→le _ _) (omega (arith, i .low)) (omega (arith, i .high))
+
+pub root-is : (y : ℕ) → IsRoot y (root y)
+unfolding root
+root-is y = root-within-is y y (omega arith)
