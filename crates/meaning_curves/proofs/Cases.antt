@@ -47,6 +47,7 @@ cases =
     ∷ sameℤ (windowSum (pos 1 ∷ pos 2 ∷ pos 4 ∷ pos 3 ∷ pos 1 ∷ []) 2 1) (pos 6)
     ∷ eqb (spread (at (pos 0 ∷ pos 0 ∷ pos 1 ∷ [])) 3) 2
     ∷ isAt (firstOutside (pos 10000 ∷ negsuc 9999 ∷ negsuc 10000 ∷ pos 10001 ∷ [])) 2
+    ∷ isAt (firstOutside (pos 10000 ∷ pos 10001 ∷ [])) 1
     ∷ []
 
 all : T (holds cases)

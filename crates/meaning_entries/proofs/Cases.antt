@@ -1,4 +1,4 @@
--- The table of cases: the starred cases of document 01 ('Worth trying'), its worked texts, and those of files. One proof covers the table. Assumes nothing.
+-- The table of cases: the starred cases of document 01 ('Worth trying'), its worked texts, calls over lent buffers, and texts of files. One proof covers the table. Assumes nothing.
 use mathlib.Core.Bool.{Bool, not, _&&_}
 use mathlib.Core.List.{List, [], _∷_, _++_, map}
 use Prim.Native.Nat.{ℕ}
@@ -15,6 +15,7 @@ use Rattle.meaning_rows.specs.Range.{rowNumber, lowOf, upOf}
 use Rattle.meaning_filter.specs.Envelope.{lower, upper}
 use Rattle.meaning_entries.proofs.Open.{openEntries}
 use Rattle.meaning_entries.proofs.Row.{prints, openRow}
+use Rattle.meaning_entries.proofs.Calls.{calls}
 use Rattle.meaning_entries.proofs.Vectors.{vectors}
 
 -- the values of a curve of n places
@@ -57,8 +58,8 @@ starred =
 
 pub cases : List Bool
 unfolding starred
-cases = starred ++ vectors
+cases = starred ++ (calls ++ vectors)
 
 pub all : T (holds cases)
-unfolding openEntries openRow cases vectors
+unfolding openEntries openRow cases calls vectors
 all = tt

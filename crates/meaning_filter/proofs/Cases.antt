@@ -1,13 +1,74 @@
--- Small cases of the definitions, in one table that one proof covers. Assumes nothing.
-use mathlib.Core.Bool.{Bool, true, false, not}
-use mathlib.Core.List.{List, [], _∷_}
-use lib.Dec.{T}
-use Rattle.meaning_numbers.proofs.Table.{holds}
+-- Small cases of the definitions, in one table that one proof covers. The ends of ranges are those of an independent program. Assumes nothing.
+use mathlib.Core.Bool.{Bool, true, false, not, _&&_}
+use mathlib.Core.List.{List, [], _∷_, map}
+use Prim.Native.Nat.{ℕ}
+use lib.Dec.{T, eqb}
+use lib.IntN.{ℤ, pos, negsuc}
+use Rattle.meaning_numbers.specs.Place.{numbersFrom}
+use Rattle.meaning_numbers.proofs.Table.{holds, sameℤ, sameList}
+use Rattle.meaning_curves.specs.Curve.{at}
+use Rattle.meaning_curves.specs.Normal.{normalised}
+use Rattle.meaning_rows.specs.Build.{built}
+use Rattle.meaning_filter.specs.declared.Kind.{Kind}
+use Rattle.meaning_filter.specs.declared.Kind.the-variants.{Raw, Normal}
+use Rattle.meaning_filter.specs.Envelope.{lower, upper}
+use Rattle.meaning_filter.specs.Range.{rawLow, rawHigh, normalLow, normalHigh}
+use Rattle.meaning_filter.specs.Matches.{Question, candidateRuns, candidateCount, matchList, allMatches}
 use Rattle.meaning_filter.proofs.Open.{openFilter}
 
+samePair : ℕ × ℕ → ℕ × ℕ → Bool
+samePair x y = eqb (x .0) (y .0) && eqb (x .1) (y .1)
+
+-- the values of a curve at its first n places
+values : ℕ → (ℕ → ℤ) → List ℤ
+values n f = map f (numbersFrom 0 n)
+
+worked : List ℤ
+worked = pos 1 ∷ pos 2 ∷ pos 4 ∷ pos 3 ∷ pos 1 ∷ []
+
+-- a straight query with threshold E, scale limit 20 tenths and shift limit 1
+ask : Kind → List ℤ → ℕ → List ℤ → Question
+ask kind q E s = record { series = s; kind = kind; query = q; limits = record { band = 0; threshold = E; scale = 20; shift = 1 } }
+
+three : List ℤ
+three = pos 0 ∷ pos 3 ∷ pos 1 ∷ []
+
+four : List ℤ
+four = pos 0 ∷ pos 1 ∷ pos 7 ∷ negsuc 1 ∷ []
+
+five : List ℤ
+five = pos 5 ∷ pos 9 ∷ pos 40 ∷ negsuc 29 ∷ pos 17 ∷ []
+
 cases : List Bool
-cases = true ∷ []
+cases =
+    -- envelopes, at b = 1, 0 and beyond the query
+    sameList sameℤ (values 3 (lower (at three) 3 1)) (pos 0 ∷ pos 0 ∷ pos 1 ∷ [])
+    ∷ sameList sameℤ (values 3 (upper (at three) 3 1)) (pos 3 ∷ pos 3 ∷ pos 3 ∷ [])
+    ∷ sameList sameℤ (values 3 (lower (at three) 3 0)) three
+    ∷ sameList sameℤ (values 3 (upper (at three) 3 0)) three
+    ∷ sameList sameℤ (values 5 (lower (at five) 5 4)) (negsuc 29 ∷ negsuc 29 ∷ negsuc 29 ∷ negsuc 29 ∷ negsuc 29 ∷ [])
+    -- ranges of parts: 0 1 7 -2 in parts of 2 (E = 500, a = 20, h = 1), and 5 9 40 -30 17, one part of 3 from place 1 on (b = 2, E = 90000, a = 15, h = 3)
+    ∷ sameℤ (normalLow (at four) 4 1 500 20 1 2 2) (negsuc 14)
+    ∷ sameℤ (normalHigh (at four) 4 1 500 20 1 2 2) (pos 29)
+    ∷ sameℤ (normalLow (at four) 4 0 500 20 1 0 2) (negsuc 4)
+    ∷ sameℤ (normalHigh (at four) 4 0 500 20 1 0 2) (pos 4)
+    ∷ sameℤ (normalLow (at five) 5 2 90000 15 3 1 3) (negsuc 332)
+    ∷ sameℤ (normalHigh (at five) 5 2 90000 15 3 1 3) (pos 353)
+    ∷ sameℤ (rawLow (normalised (at five) 5) 5 2 90000 1 3) (negsuc 1022)
+    ∷ sameℤ (rawHigh (normalised (at five) 5) 5 2 90000 1 3) (pos 939)
+    ∷ sameℤ (rawLow (at (pos 2 ∷ pos 4 ∷ [])) 2 0 5 0 2) (pos 3)
+    ∷ sameℤ (rawHigh (at (pos 2 ∷ pos 4 ∷ [])) 2 0 5 0 2) (pos 9)
+    -- candidates and matches: query 2 4 in the worked series
+    ∷ sameList samePair (candidateRuns (built worked 2 2 80) (ask Raw (pos 2 ∷ pos 4 ∷ []) 5 worked)) ((0, 3) ∷ [])
+    ∷ sameList samePair (candidateRuns (built worked 2 2 80) (ask Raw (pos 2 ∷ pos 4 ∷ []) 4 worked)) ((1, 3) ∷ [])
+    ∷ eqb (candidateCount (built worked 2 2 0) (ask Raw (pos 4 ∷ pos 3 ∷ []) 0 worked)) 2
+    ∷ eqb (candidateCount (built worked 2 2 0) (ask Raw (pos 2 ∷ pos 4 ∷ []) 0 worked)) 2
+    ∷ eqb (candidateCount (built worked 2 2 0) (ask Raw (pos 2 ∷ pos 2 ∷ []) 0 worked)) 1
+    ∷ sameList samePair (matchList (built worked 2 2 80) (ask Raw (pos 2 ∷ pos 4 ∷ []) 5 worked)) ((0, 5) ∷ (1, 0) ∷ (2, 5) ∷ [])
+    ∷ sameList samePair (allMatches (ask Raw (pos 2 ∷ pos 4 ∷ []) 5 worked)) ((0, 5) ∷ (1, 0) ∷ (2, 5) ∷ [])
+    ∷ sameList samePair (matchList (built (pos 0 ∷ pos 2 ∷ pos 0 ∷ pos 3 ∷ []) 2 2 80) (ask Normal (pos 0 ∷ pos 1 ∷ []) 0 (pos 0 ∷ pos 2 ∷ pos 0 ∷ pos 3 ∷ []))) ((0, 0) ∷ [])
+    ∷ []
 
 all : T (holds cases)
-unfolding openFilter cases
+unfolding openFilter samePair values worked ask three four five cases
 all = tt

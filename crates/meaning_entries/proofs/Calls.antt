@@ -1,0 +1,220 @@
+-- Rows of the table of cases that are calls over lent buffers: the answer, and every buffer afterwards. Answers and buffers are compared as lists of numbers. Assumes nothing.
+use mathlib.Core.Bool.{Bool, _&&_}
+use mathlib.Core.List.{List, [], _∷_, _++_}
+use Prim.Native.Nat.{ℕ}
+use lib.Dec.{eqb}
+use lib.IntN.{ℤ, pos, negsuc, natAbs}
+use lib.ListN.{drop, replicate}
+use Rattle.meaning_numbers.proofs.Table.{sameList}
+use Rattle.meaning_rows.specs.declared.Row.{Row}
+use Rattle.meaning_rows.specs.declared.Head.{Head}
+use Rattle.meaning_rows.specs.Index.{Index, lent}
+use Rattle.meaning_filter.specs.declared.Kind.{Kind}
+use Rattle.meaning_filter.specs.declared.Kind.the-variants.{Raw, Normal}
+use Rattle.meaning_text.specs.Bytes.{bytes}
+use Rattle.meaning_text.specs.Form.{spell}
+use Rattle.meaning_text.specs.Texts.{seriesForm}
+use Rattle.meaning_entries.specs.declared.Built.{Built}
+use Rattle.meaning_entries.specs.declared.Extended.{Extended}
+use Rattle.meaning_entries.specs.declared.Audited.{Audited}
+use Rattle.meaning_entries.specs.declared.Written.{Written}
+use Rattle.meaning_entries.specs.declared.Loaded.{Loaded}
+use Rattle.meaning_entries.specs.declared.Found.{Found}
+use Rattle.meaning_entries.specs.Buffers.{IndexBuffers}
+use Rattle.meaning_entries.specs.Build.{BuildCall, buildAnswer, buildAfter}
+use Rattle.meaning_entries.specs.Extend.{ExtendCall, extendAnswer, extendAfter}
+use Rattle.meaning_entries.specs.Audit.{AuditCall, auditAnswer}
+use Rattle.meaning_entries.specs.Write.{writeAnswer, writeAfter}
+use Rattle.meaning_entries.specs.Load.{loadAnswer, loadAfter}
+use Rattle.meaning_entries.specs.Search.{SearchCall, SearchBuffers, searchAnswer, searchAfter}
+use Rattle.meaning_entries.specs.AuditText.{auditTextAnswer, pack, unpack}
+
+-- ---- as numbers
+
+head : Head → List ℕ
+head h = h .window ∷ h .width ∷ h .windows ∷ []
+
+built : Built → List ℕ
+unfolding head
+built (Built.Index h rows runs) = head h ++ (rows ∷ runs ∷ [])
+built (Built.Refused n p) = n ∷ p ∷ []
+
+grown : Extended → List ℕ
+unfolding head
+grown (Extended.Index h rows runs) = head h ++ (rows ∷ runs ∷ [])
+grown (Extended.Refused n p) = n ∷ p ∷ []
+
+loaded : Loaded → List ℕ
+unfolding head
+loaded (Loaded.Index h rows runs) = head h ++ (rows ∷ runs ∷ [])
+loaded (Loaded.Refused n p) = n ∷ p ∷ []
+
+written : Written → List ℕ
+written (Written.Text length) = length ∷ []
+written (Written.Refused n p) = n ∷ p ∷ []
+
+audited : Audited → List ℕ
+audited Audited.Yes = []
+audited (Audited.Wrong row offset) = 1 ∷ row ∷ offset ∷ []
+audited (Audited.Missing count) = 2 ∷ count ∷ []
+audited (Audited.Refused n p) = 3 ∷ n ∷ p ∷ []
+
+found : Found → List ℕ
+found (Found.All candidates matches) = 0 ∷ candidates ∷ matches ∷ []
+found (Found.Full candidates matches) = 24 ∷ candidates ∷ matches ∷ []
+found (Found.Refused n p) = n ∷ p ∷ []
+
+-- a row by the sizes of its ends, its first and its runs
+records : List Row → List ℕ
+records [] = []
+records (r ∷ l) = natAbs (r .low) ∷ natAbs (r .up) ∷ r .first ∷ r .runs ∷ records l
+
+-- the buffers one after the other
+indexBuffers : IndexBuffers → List ℕ
+unfolding records
+indexBuffers b = records (b .rows) ++ (b .left ++ b .right)
+
+searchBuffers : SearchBuffers → List ℕ
+searchBuffers b = b .left ++ (b .right ++ (b .scratch ++ (b .offsets ++ b .distances)))
+
+same : List ℕ → List ℕ → Bool
+same = sameList eqb
+
+-- ---- calls
+
+sevenRow : Row
+sevenRow = record { low = pos 7; up = pos 7; first = 7; runs = 7 }
+
+-- buffers that hold sevens: so many rows, left and right entries
+sevens : ℕ → ℕ → ℕ → IndexBuffers
+unfolding sevenRow
+sevens rows left right = record { rows = replicate rows sevenRow; left = replicate left 7; right = replicate right 7 }
+
+worked : List ℤ
+worked = pos 1 ∷ pos 2 ∷ pos 4 ∷ pos 3 ∷ pos 1 ∷ []
+
+row : ℤ → ℤ → ℕ → ℕ → Row
+row low up first runs = record { low = low; up = up; first = first; runs = runs }
+
+-- the worked index, lent with an entry more than it uses
+workedIndex : Index
+unfolding row
+workedIndex =
+    lent (record { window = 2; width = 2; windows = 4 }) (row (pos 2) (pos 4) 0 1 ∷ row (pos 4) (pos 8) 1 1 ∷ []) (0 ∷ 1 ∷ 9 ∷ []) (0 ∷ 3 ∷ 9 ∷ [])
+
+build : List ℤ → ℤ → ℤ → ℤ → BuildCall
+build s w d g = record { series = s; window = w; width = d; merge = g }
+
+builds : BuildCall → IndexBuffers → List ℕ → List ℕ → Bool
+unfolding same built indexBuffers
+builds c b answer after = same (built (buildAnswer c b)) answer && same (indexBuffers (buildAfter c b)) after
+
+-- a straight search with a = 10, h = 0
+searchIn : List ℤ → Index → Kind → List ℤ → ℤ → SearchCall
+searchIn s x kind q E = record {
+  series = s;
+  index = x;
+  kind = kind;
+  query = q;
+  band = pos 0;
+  threshold = E;
+  scale = pos 10;
+  shift = pos 0;
+}
+
+-- the same in the worked series
+searchFor : Index → Kind → List ℤ → ℤ → SearchCall
+unfolding worked searchIn
+searchFor = searchIn worked
+
+-- buffers that hold sevens: so many candidates, scratch entries and list entries
+lists : ℕ → ℕ → ℕ → SearchBuffers
+lists candidates scratch list = record {
+  left = replicate candidates 7;
+  right = replicate candidates 7;
+  scratch = replicate scratch 7;
+  offsets = replicate list 7;
+  distances = replicate list 7;
+}
+
+finds : SearchCall → SearchBuffers → List ℕ → List ℕ → Bool
+unfolding same found searchBuffers
+finds c b answer after = same (found (searchAnswer c b)) answer && same (searchBuffers (searchAfter c b)) after
+
+audits : List ℤ → Index → List ℕ → Bool
+unfolding same audited
+audits s x answer = same (audited (auditAnswer (record { series = s; index = x }))) answer
+
+packs : Audited → Bool
+unfolding same audited
+packs a = same (audited (unpack (pack a))) (audited a)
+
+-- an index with these rows and runs, w = 2, d = 2, four windows
+other : List Row → List ℕ → List ℕ → Index
+other rows left right = lent (record { window = 2; width = 2; windows = 4 }) rows left right
+
+unfoldable pub calls : List Bool
+unfolding worked workedIndex row build builds searchIn searchFor lists finds audits packs other sevens same grown loaded written
+calls =
+    -- build: success, unused entries 0, also past the shorter slice; refused, nothing altered
+    builds (build worked (pos 2) (pos 2) (pos 80)) (sevens 4 4 5) (2 ∷ 2 ∷ 4 ∷ 2 ∷ 2 ∷ [])
+    (2 ∷ 4 ∷ 0 ∷ 1 ∷ 4 ∷ 8 ∷ 1 ∷ 1 ∷ 0 ∷ 0 ∷ 0 ∷ 0 ∷ 0 ∷ 0 ∷ 0 ∷ 0 ∷ 0 ∷ 1 ∷ 0 ∷ 0 ∷ 0 ∷ 3 ∷ 0 ∷ 0 ∷ 0 ∷ [])
+    ∷ builds (build worked (pos 2) (pos 2) (pos 80)) (sevens 1 4 3) (23 ∷ 0 ∷ []) (7 ∷ 7 ∷ 7 ∷ 7 ∷ 7 ∷ 7 ∷ 7 ∷ 7 ∷ 7 ∷ 7 ∷ 7 ∷ [])
+    ∷ builds (build worked (pos 2) (pos 2) (pos 101)) (sevens 0 0 0) (5 ∷ 0 ∷ []) []
+    ∷ builds (build worked (pos 2) (pos 1000001) (pos 101)) (sevens 0 0 0) (4 ∷ 0 ∷ []) []
+    ∷ builds (build worked (pos 6) (pos 0) (pos 101)) (sevens 0 0 0) (3 ∷ 0 ∷ []) []
+    ∷ builds (build (pos 1 ∷ pos 10001 ∷ []) (pos 6) (pos 0) (pos 101)) (sevens 0 0 0) (2 ∷ 1 ∷ []) []
+    ∷ builds (build [] (pos 6) (pos 0) (pos 101)) (sevens 0 0 0) (1 ∷ 0 ∷ []) []
+    -- extend: equal window counts give a copy
+    ∷ same (grown (extendAnswer (record { series = worked; index = workedIndex }) (sevens 4 4 4))) (2 ∷ 2 ∷ 4 ∷ 2 ∷ 2 ∷ [])
+    ∷ same (indexBuffers (extendAfter (record { series = worked; index = workedIndex }) (sevens 4 4 4)))
+    (2 ∷ 4 ∷ 0 ∷ 1 ∷ 4 ∷ 8 ∷ 1 ∷ 1 ∷ 0 ∷ 0 ∷ 0 ∷ 0 ∷ 0 ∷ 0 ∷ 0 ∷ 0 ∷ 0 ∷ 1 ∷ 0 ∷ 0 ∷ 0 ∷ 3 ∷ 0 ∷ 0 ∷ [])
+    ∷ same (grown (extendAnswer (record { series = pos 1 ∷ pos 2 ∷ []; index = workedIndex }) (sevens 0 0 0))) (22 ∷ 0 ∷ [])
+    ∷ same (grown (extendAnswer (record { series = worked; index = workedIndex }) (sevens 4 3 4))) (23 ∷ 0 ∷ [])
+    -- audit: yes; fewer windows; more windows; w above n
+    ∷ audits worked workedIndex []
+    ∷ audits (worked ++ (pos 1 ∷ [])) workedIndex (3 ∷ 21 ∷ 0 ∷ [])
+    ∷ audits (pos 1 ∷ pos 2 ∷ []) workedIndex (3 ∷ 22 ∷ 0 ∷ [])
+    ∷ audits (pos 1 ∷ []) workedIndex (3 ∷ 22 ∷ 0 ∷ [])
+    ∷ audits worked (other [] [] []) (2 ∷ 4 ∷ [])
+    -- the layout in the run buffer: a part that does not begin where the row before ends, one that passes the end, ends at the extremes of the types
+    ∷ audits worked (other (row (pos 2) (pos 4) 0 1 ∷ row (pos 4) (pos 8) 2 1 ∷ []) (0 ∷ 9 ∷ 1 ∷ []) (0 ∷ 9 ∷ 3 ∷ [])) (3 ∷ 20 ∷ 1 ∷ [])
+    ∷ audits worked (other (row (pos 2) (pos 4) 0 2 ∷ []) (0 ∷ 2 ∷ []) (0 ∷ [])) (3 ∷ 20 ∷ 0 ∷ [])
+    ∷ audits worked (other (row (negsuc 2147483647) (pos 2147483646) 0 4294967295 ∷ []) (0 ∷ []) (4294967295 ∷ [])) (3 ∷ 20 ∷ 0 ∷ [])
+    -- write: the worked index is 74 bytes long
+    ∷ same (written (writeAnswer workedIndex (replicate 73 7))) (23 ∷ 0 ∷ [])
+    ∷ same (written (writeAnswer workedIndex (replicate 74 7))) (74 ∷ [])
+    ∷ same (drop 72 (writeAfter workedIndex (replicate 76 7))) (41 ∷ 10 ∷ 0 ∷ 0 ∷ [])
+    ∷ same (writeAfter workedIndex (replicate 3 7)) (7 ∷ 7 ∷ 7 ∷ [])
+    -- read: the worked index text, buffers exactly long enough, and too short
+    ∷ same (loaded (loadAnswer (bytes "(index (window 2) (width 2) (windows 4)\n(row 2 4 (0 0))\n(row 4 8 (1 3))\n)\n") (sevens 2 2 2))) (2 ∷ 2 ∷ 4 ∷ 2 ∷ 2 ∷ [])
+    ∷ same (indexBuffers (loadAfter (bytes "(index (window 2) (width 2) (windows 4)\n(row 2 4 (0 0))\n(row 4 8 (1 3))\n)\n") (sevens 2 3 2)))
+    (2 ∷ 4 ∷ 0 ∷ 1 ∷ 4 ∷ 8 ∷ 1 ∷ 1 ∷ 0 ∷ 1 ∷ 0 ∷ 0 ∷ 3 ∷ [])
+    ∷ same (loaded (loadAnswer (bytes "(index (window 2) (width 2) (windows 4)\n(row 2 4 (0 0))\n(row 4 8 (1 3))\n)\n") (sevens 1 2 2))) (23 ∷ 0 ∷ [])
+    ∷ same (loaded (loadAnswer (bytes "(index (window 2) (width 2) (windows 4)\n(row 2 4 (0 0))\n(row 3 8 (1 3))\n)\n") (sevens 1 2 2))) (20 ∷ 1 ∷ [])
+    ∷ same (loaded (loadAnswer (bytes "(index (window 2) (width 2) (windows 4)\n(row 2 4 (0 0))\n(row 3 8 (1 3))\n") (sevens 1 2 2))) (12 ∷ 4 ∷ [])
+    -- search: success; a list exactly full; 24 with both true counts and the first matches; a list of length 0
+    ∷ finds (searchFor workedIndex Raw (pos 2 ∷ pos 4 ∷ []) (pos 5)) (lists 4 4 4) (0 ∷ 4 ∷ 3 ∷ []) (0 ∷ 0 ∷ 0 ∷ 0 ∷ 3 ∷ 0 ∷ 0 ∷ 0 ∷ 0 ∷ 0 ∷ 0 ∷ 0 ∷ 0 ∷ 1 ∷ 2 ∷ 0 ∷ 5 ∷ 0 ∷ 5 ∷ 0 ∷ [])
+    ∷ finds (searchFor workedIndex Raw (pos 2 ∷ pos 4 ∷ []) (pos 5)) (lists 4 4 3) (0 ∷ 4 ∷ 3 ∷ []) (0 ∷ 0 ∷ 0 ∷ 0 ∷ 3 ∷ 0 ∷ 0 ∷ 0 ∷ 0 ∷ 0 ∷ 0 ∷ 0 ∷ 0 ∷ 1 ∷ 2 ∷ 5 ∷ 0 ∷ 5 ∷ [])
+    ∷ finds (searchFor workedIndex Raw (pos 2 ∷ pos 4 ∷ []) (pos 5)) (lists 4 4 2) (24 ∷ 4 ∷ 3 ∷ []) (0 ∷ 0 ∷ 0 ∷ 0 ∷ 3 ∷ 0 ∷ 0 ∷ 0 ∷ 0 ∷ 0 ∷ 0 ∷ 0 ∷ 0 ∷ 1 ∷ 5 ∷ 0 ∷ [])
+    ∷ finds (searchFor workedIndex Raw (pos 5 ∷ pos 5 ∷ []) (pos 0)) (lists 4 4 0) (0 ∷ 0 ∷ 0 ∷ []) (0 ∷ 0 ∷ 0 ∷ 0 ∷ 0 ∷ 0 ∷ 0 ∷ 0 ∷ 0 ∷ 0 ∷ 0 ∷ 0 ∷ [])
+    -- search refused: each buffer too short, the query after the series, m below a w outside its limits, a flat query
+    ∷ finds (searchFor workedIndex Raw (pos 2 ∷ pos 4 ∷ []) (pos 5)) (lists 3 4 0) (23 ∷ 0 ∷ []) (7 ∷ 7 ∷ 7 ∷ 7 ∷ 7 ∷ 7 ∷ 7 ∷ 7 ∷ 7 ∷ 7 ∷ [])
+    ∷ finds (searchFor workedIndex Raw (pos 2 ∷ pos 4 ∷ []) (pos 5)) (lists 4 3 0) (23 ∷ 0 ∷ []) (7 ∷ 7 ∷ 7 ∷ 7 ∷ 7 ∷ 7 ∷ 7 ∷ 7 ∷ 7 ∷ 7 ∷ 7 ∷ [])
+    ∷ finds (searchFor workedIndex Raw (pos 2 ∷ negsuc 10000 ∷ []) (negsuc 0)) (lists 0 0 0) (2 ∷ 1 ∷ []) []
+    ∷ finds (searchIn (pos 0 ∷ pos 10001 ∷ []) workedIndex Raw (negsuc 10000 ∷ []) (negsuc 0)) (lists 0 0 0) (2 ∷ 1 ∷ []) []
+    ∷ finds (searchFor (lent (record { window = 300; width = 2; windows = 4 }) [] [] []) Raw (pos 2 ∷ pos 4 ∷ []) (negsuc 0)) (lists 0 0 0) (7 ∷ 0 ∷ []) []
+    ∷ finds (searchFor (lent (record { window = 0; width = 2; windows = 4 }) [] [] []) Raw (pos 2 ∷ pos 4 ∷ []) (pos 0)) (lists 0 0 0) (20 ∷ 0 ∷ []) []
+    ∷ finds (searchFor workedIndex Normal (pos 5 ∷ pos 5 ∷ []) (pos 0)) (lists 0 0 0) (11 ∷ 0 ∷ []) []
+    ∷ finds (searchFor workedIndex Raw [] (pos 0)) (lists 0 0 0) (6 ∷ 0 ∷ []) []
+    -- the audit of two texts takes 4,096 values and no more; the index is of another series
+    ∷ same (audited (auditTextAnswer (bytes "(index (window 1) (width 1) (windows 1)\n)\n") (spell seriesForm (replicate 4096 (pos 0))))) (3 ∷ 21 ∷ 0 ∷ [])
+    ∷ same (audited (auditTextAnswer (bytes "(index (window 1) (width 1) (windows 1)\n)\n") (spell seriesForm (replicate 4097 (pos 0))))) (3 ∷ 1 ∷ 0 ∷ [])
+    -- the number of the C entry and back
+    ∷ packs Audited.Yes
+    ∷ packs (Audited.Wrong 4095 4095)
+    ∷ packs (Audited.Missing 4096)
+    ∷ packs (Audited.Refused 12 1000000000000000000)
+    ∷ packs (Audited.Refused 2 4095)
+    ∷ packs (Audited.Refused 22 0)
+    ∷ []
