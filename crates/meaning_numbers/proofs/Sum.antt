@@ -50,6 +50,11 @@ unfolding Σℤ
 Σℤ-same zero f g h = refl
 Σℤ-same (suc n) f g h = rw (Σℤ-same n f g (λ j l. h j (le-step l)), h n (omega arith))
 
+pub Σℕ-same : (n : ℕ) (f g : ℕ → ℕ) → ((j : ℕ) → j < n → f j ≡ g j) → Σℕ n f ≡ Σℕ n g
+unfolding Σℕ
+Σℕ-same zero f g h = refl
+Σℕ-same (suc n) f g h = rw (Σℕ-same n f g (λ j l. h j (le-step l)), h n (omega arith))
+
 -- a sum cut in two
 pub Σℕ-split : (p w : ℕ) (f : ℕ → ℕ) → Σℕ (p + w) f ≡ Σℕ p f + Σℕ w (λ k. f (p + k))
 unfolding Σℕ

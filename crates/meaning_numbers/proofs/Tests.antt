@@ -12,6 +12,14 @@ pub is-false : (t : Bool) → T (not t) → t ≡ false
 is-false true h = absurd h
 is-false false h = refl
 
+pub not-not : (t : Bool) → T (not (not t)) → T t
+not-not true h = tt
+not-not false h = absurd h
+
+pub yes-not-not : (t : Bool) → T t → T (not (not t))
+yes-not-not true h = tt
+yes-not-not false h = absurd h
+
 -- it passes or it fails
 pub decided : (t : Bool) → T t ⊎ T (not t)
 decided true = inl tt
