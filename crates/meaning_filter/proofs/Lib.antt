@@ -1,3 +1,11 @@
 -- What the definitions imply, by subject.
+pub mod Envelope
+pub mod Bound
+pub mod Range
+pub mod Cut
+pub mod Scale
+pub mod Shift
+pub mod Kept
 pub mod Open
+pub mod Lost
 pub mod Cases

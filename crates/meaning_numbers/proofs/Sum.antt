@@ -66,6 +66,10 @@ pub Σℕ-part : (m p w : ℕ) (f : ℕ → ℕ) → p + w ≤ m → Σℕ w (λ
     let e : m ≡ p + w + (m - (p + w)) = omega arith in
     rw e (omega (arith, Σℕ-split (p + w) (m - (p + w)) f, Σℕ-split p w f))
 
+-- fewer terms, no greater a sum
+pub Σℕ-fewer : (n m : ℕ) (f : ℕ → ℕ) → n ≤ m → Σℕ n f ≤ Σℕ m f
+Σℕ-fewer n m f h = let e : m ≡ n + (m - n) = omega arith in rw e (omega (arith, Σℕ-split n (m - n) f))
+
 -- a sum of values that are each m times a value less t
 pub Σℤ-centred : (m w : ℕ) (t : ℤ) (s : ℕ → ℤ) → Σℤ w (λ k. pos m *ℤ s k -ℤ t) ≡ pos m *ℤ Σℤ w s -ℤ pos w *ℤ t
 unfolding Σℤ
