@@ -6,6 +6,8 @@ pub mod Cut
 pub mod Scale
 pub mod Shift
 pub mod Kept
+pub mod Candidates
+pub mod Matches
 pub mod Open
 pub mod Lost
 pub mod Cases

@@ -9,6 +9,8 @@ pub mod Order
 pub mod Tests
 pub mod Between
 pub mod Place
+pub mod Any
+pub mod Keep
 pub mod Table
 pub mod Open
 pub mod Cases
