@@ -1,5 +1,5 @@
 -- When a stretch matches a query, as facts: the tests `rawMatch` and `normalMatch` pass exactly where they hold. Assumes nothing.
-use mathlib.Core.Bool.{Bool, not, _&&_}
+use mathlib.Core.Bool.{not, _&&_}
 use Prim.Native.Nat.{ℕ, zero, suc, _*_, _<_, _≤_}
 use native.Mathlib.Omega.{arith}
 use lib.Dec.{T, leb, eqb, leb→le, le→leb, eqb·suc-zero}

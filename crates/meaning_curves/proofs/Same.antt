@@ -1,12 +1,11 @@
 -- Distances, spreads and normalised values of m values ask for those values alone: curves that agree below m have the same (`distance-same`, `spread-same`, `normalised-same`). For the warped distance, each path of the one is a path of the other (`path-same`). Assumes nothing.
-use mathlib.Core.Path.{_≡_, refl, sym}
-use Prim.Native.Nat.{ℕ, zero, suc, _+_, _-_, _<_, _≤_}
+use mathlib.Core.Path.{_≡_, sym}
+use Prim.Native.Nat.{ℕ, suc, _<_}
 use native.Mathlib.Omega.{arith}
 use lib.IntN.{ℤ, natAbs}
-use Rattle.meaning_numbers.specs.Sum.{Σℤ, Σℕ, square}
+use Rattle.meaning_numbers.specs.Sum.{square}
 use Rattle.meaning_numbers.proofs.Sum.{Σℤ-same, Σℕ-same}
 use Rattle.meaning_curves.specs.Curve.{spread}
-use Rattle.meaning_curves.specs.Straight.{cost}
 use Rattle.meaning_curves.specs.Warp.{WarpPath, start, first, second, both, IsWarped}
 use Rattle.meaning_curves.specs.Normal.{normalised}
 use Rattle.meaning_curves.specs.Match.{distance}

@@ -4,10 +4,10 @@ use mathlib.Core.Bool.{Bool, _&&_}
 use mathlib.Core.List.{List, map}
 use Prim.Native.Nat.{ℕ, zero, suc, _+_, _*_, _/_, _<_, _≤_}
 use native.Mathlib.Omega.{arith}
-use native.Mathlib.Nat.{div-mul-le-self, mul-le-mul-right, add-assoc}
+use native.Mathlib.Nat.{div-mul-le-self, mul-le-mul-right}
 use lib.Dec.{T}
-use lib.IntN.{ℤ, pos, natAbs}
-use lib.ListN.{length, getD}
+use lib.IntN.{ℤ, natAbs}
+use lib.ListN.{length}
 use lib.Signed.{_≤ℤ_, _<ℤ_, leZ, ltZ, leZ-yes, ltZ-yes}
 use Rattle.meaning_numbers.specs.Sum.{Σℤ}
 use Rattle.meaning_numbers.specs.Place.{any, numbersFrom}

@@ -5,7 +5,7 @@ use native.Mathlib.Omega.{arith}
 use native.Mathlib.Nat.{mul-le-mul-left}
 use lib.IntN.{ℤ, pos, negsuc, _+ℤ_, _-ℤ_, _*ℤ_}
 use Rattle.meaning_numbers.specs.Root.{IsRoot}
-use Rattle.meaning_numbers.proofs.Rep.{Rep, rep-self, rep-pos, rep-neg, rep-add, rep-sub, rep-mul, rep-le}
+use Rattle.meaning_numbers.proofs.Rep.{rep-self, rep-pos, rep-neg, rep-add, rep-sub, rep-mul, rep-le}
 use Rattle.meaning_numbers.proofs.Root.{le-of-sq, le-of-sq-le}
 use Rattle.meaning_numbers.proofs.Between.{Between}
 use Rattle.meaning_curves.specs.Normal.{IsCut, signed}

@@ -1,7 +1,7 @@
 -- The envelope encloses every query value within b places that exists (`envelope`), and no tighter: each end is such a value (`lower-one`, `upper-one`), so at band 0 both are the query (`lower-straight`, `upper-straight`). By induction on the number of places. Assumes nothing.
 use mathlib.Core.Path.{_≡_, refl}
 use mathlib.Core.Logic.{_⊎_, inl, inr, ⊎-elim}
-use Prim.Native.Nat.{ℕ, zero, suc, _+_, _-_, _<_, _≤_, min}
+use Prim.Native.Nat.{ℕ, zero, suc, _+_, _-_, _<_, _≤_}
 use native.Mathlib.Omega.{arith}
 use native.Mathlib.Decide.{decLe}
 use lib.IntN.{ℤ}

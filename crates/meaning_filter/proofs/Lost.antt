@@ -1,6 +1,6 @@
 -- Why X has - w and Y has + w: without, a match is lost. The query 0 0 1000 matches itself, and the sum of its first part, 0, lies below the lower end 4 that Q- - r gives; X = Q- - r - w gives -1. By computation. Assumes nothing.
 use mathlib.Core.Path.{_≡_, refl}
-use mathlib.Core.List.{List, [], _∷_}
+use mathlib.Core.List.{[], _∷_}
 use Prim.Native.Nat.{ℕ, _+_, _*_}
 use lib.Dec.{T}
 use lib.IntN.{ℤ, pos, negsuc, _+ℤ_, _-ℤ_, _*ℤ_}

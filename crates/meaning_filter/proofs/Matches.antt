@@ -1,9 +1,7 @@
 -- A search through an index lists all matches, in order and with their distances (`all-found`): every match is a candidate, so looking among the candidates alone loses none. Assumes nothing.
-use mathlib.Core.Path.{_≡_, refl}
-use mathlib.Core.List.{map}
-use Prim.Native.Nat.{ℕ, _<_}
+use mathlib.Core.Path.{_≡_}
+use Prim.Native.Nat.{_<_}
 use native.Mathlib.Omega.{arith}
-use Rattle.meaning_numbers.specs.Place.{keep, numbersFrom}
 use Rattle.meaning_numbers.proofs.Keep.{keep-twice}
 use Rattle.meaning_rows.specs.Index.{Index}
 use Rattle.meaning_filter.specs.Matches.{Question, queryLength, offsetCount, matchesAt, candidateAt, allMatches, matchList}

@@ -1,10 +1,10 @@
 -- The first place that passes a test. `First` says what it is and `Nowhere` that there is none; `place-is` and `none-is` say that `firstPlace` answers so.
 -- One or the other holds of every list (`look`), so the answer of `firstPlace` tells which (`is-place`, `is-none`). The default stands for entries past the end and is asked by nothing. Assumes nothing.
 use mathlib.Core.Path.{_≡_, refl}
-use mathlib.Core.Bool.{Bool, true, false, not, cond}
+use mathlib.Core.Bool.{Bool, not}
 use mathlib.Core.List.{List, [], _∷_}
 use mathlib.Core.Logic.{_⊎_, inl, inr, ⊎-elim}
-use mathlib.Core.Option.{Option, none, some}
+use mathlib.Core.Option.{none, some}
 use Prim.Native.Nat.{ℕ, zero, suc, _+_, _<_}
 use native.Mathlib.Omega.{arith}
 use lib.Dec.{T}
