@@ -1,3 +1,10 @@
 -- What the definitions imply, by subject.
+pub mod Limits
+pub mod Spread
+pub mod Normal
+pub mod Table
+pub mod Straight
+pub mod Same
+pub mod Match
 pub mod Open
 pub mod Cases

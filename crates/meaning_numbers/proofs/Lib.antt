@@ -6,6 +6,11 @@ pub mod Cauchy
 pub mod Root
 pub mod Quotient
 pub mod Order
+pub mod Tests
+pub mod Between
+pub mod Place
+pub mod Any
+pub mod Keep
 pub mod Table
 pub mod Open
 pub mod Cases

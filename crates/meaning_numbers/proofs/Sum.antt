@@ -50,6 +50,11 @@ unfolding Σℤ
 Σℤ-same zero f g h = refl
 Σℤ-same (suc n) f g h = rw (Σℤ-same n f g (λ j l. h j (le-step l)), h n (omega arith))
 
+pub Σℕ-same : (n : ℕ) (f g : ℕ → ℕ) → ((j : ℕ) → j < n → f j ≡ g j) → Σℕ n f ≡ Σℕ n g
+unfolding Σℕ
+Σℕ-same zero f g h = refl
+Σℕ-same (suc n) f g h = rw (Σℕ-same n f g (λ j l. h j (le-step l)), h n (omega arith))
+
 -- a sum cut in two
 pub Σℕ-split : (p w : ℕ) (f : ℕ → ℕ) → Σℕ (p + w) f ≡ Σℕ p f + Σℕ w (λ k. f (p + k))
 unfolding Σℕ
@@ -60,6 +65,10 @@ pub Σℕ-part : (m p w : ℕ) (f : ℕ → ℕ) → p + w ≤ m → Σℕ w (λ
 Σℕ-part m p w f h =
     let e : m ≡ p + w + (m - (p + w)) = omega arith in
     rw e (omega (arith, Σℕ-split (p + w) (m - (p + w)) f, Σℕ-split p w f))
+
+-- fewer terms, no greater a sum
+pub Σℕ-fewer : (n m : ℕ) (f : ℕ → ℕ) → n ≤ m → Σℕ n f ≤ Σℕ m f
+Σℕ-fewer n m f h = let e : m ≡ n + (m - n) = omega arith in rw e (omega (arith, Σℕ-split n (m - n) f))
 
 -- a sum of values that are each m times a value less t
 pub Σℤ-centred : (m w : ℕ) (t : ℤ) (s : ℕ → ℤ) → Σℤ w (λ k. pos m *ℤ s k -ℤ t) ≡ pos m *ℤ Σℤ w s -ℤ pos w *ℤ t

@@ -1,0 +1,84 @@
+-- Every match is a candidate, in an index that files each window of the series in a row that holds its sum (`kept-candidate`). The sum of a part of the stretch is that of a window of the series, it lies in the part's range (`kept`), and so the row that holds it is met (`row-met`). Assumes nothing.
+use mathlib.Core.Path.{_≡_}
+use mathlib.Core.Bool.{Bool, _&&_}
+use mathlib.Core.List.{List, map}
+use Prim.Native.Nat.{ℕ, zero, suc, _+_, _*_, _/_, _<_, _≤_}
+use native.Mathlib.Omega.{arith}
+use native.Mathlib.Nat.{div-mul-le-self, mul-le-mul-right}
+use lib.Dec.{T}
+use lib.IntN.{ℤ, natAbs}
+use lib.ListN.{length}
+use lib.Signed.{_≤ℤ_, _<ℤ_, leZ, ltZ, leZ-yes, ltZ-yes}
+use Rattle.meaning_numbers.specs.Sum.{Σℤ}
+use Rattle.meaning_numbers.specs.Place.{any, numbersFrom}
+use Rattle.meaning_numbers.proofs.Rep.{zarith}
+use Rattle.meaning_numbers.proofs.Sum.{Σℤ-same}
+use Rattle.meaning_numbers.proofs.Tests.{two-tests, both-tests}
+use Rattle.meaning_numbers.proofs.Any.{any-map}
+use Rattle.meaning_numbers.proofs.Between.{Between}
+use Rattle.meaning_curves.specs.Curve.{at, stretch, windowSum}
+use Rattle.meaning_rows.specs.declared.Row.{Row}
+use Rattle.meaning_rows.specs.Range.{inside}
+use Rattle.meaning_rows.specs.Index.{Index, stands}
+use Rattle.meaning_filter.specs.Range.{rangeOf, ranges}
+use Rattle.meaning_filter.specs.Candidates.{met, admits, candidate}
+use Rattle.meaning_filter.specs.Matches.{Question, queryLength, offsetCount, matchesAt, candidateAt}
+use Rattle.meaning_filter.proofs.Kept.{kept}
+
+-- window j stands in some row of the index that holds the sum z
+abbrev pub filedAt : Index → ℤ → ℕ → Bool
+filedAt x z j = any (λ r. inside (r .low) (r .up) z && stands x r j) (x .rows)
+
+-- each window of the series stands in a row that holds its sum
+pub record Filed (x : Index) (s : List ℤ) : Type 0 where
+  pub at : (j : ℕ) → j + natAbs (x .window) ≤ length s → T (filedAt x (windowSum s (natAbs (x .window)) j) j)
+
+-- a row that holds a sum in the range is met
+pub row-met : {lo z hi low up : ℤ} → Between lo z hi → low ≤ℤ z → z <ℤ up → (low ≤ℤ hi) × (lo <ℤ up)
+row-met {lo} {z} {hi} {low} {up} b h k = (omega zarith, omega zarith)
+
+met-holding : (range : ℤ × ℤ) (z : ℤ) (r : Row) → Between (range .0) z (range .1) → T (inside (r .low) (r .up) z) → T (met range r)
+unfolding inside
+met-holding range z r b t =
+    let h = two-tests (leZ (r .low) z) (ltZ z (r .up)) t in
+    let m = row-met b (leZ-yes {a = r .low} {b = z} (h .0)) (ltZ-yes {a = z} {b = r .up} (h .1)) in
+    both-tests (leZ (r .low) (range .1)) (ltZ (range .0) (r .up)) (m .0 .le) (m .1 .lt)
+
+pub filed-admits : (x : Index) (range : ℤ × ℤ) (z : ℤ) (j : ℕ) → Between (range .0) z (range .1) → T (filedAt x z j) → T (admits x range j)
+filed-admits x range z j b = any-map (λ r. inside (r .low) (r .up) z && stands x r j) (λ r. met range r && stands x r j)
+    (λ r t. let h = two-tests (inside (r .low) (r .up) z) (stands x r j) t in both-tests (met range r) (stands x r j) (met-holding range z r b (h .0)) (h .1))
+    (x .rows)
+
+-- ---- the parts, in order
+
+-- n parts from part k on, part i at window j + i × w
+all-admitted : (x : Index) (f : ℕ → ℤ × ℤ) (j k n : ℕ) → ((i : ℕ) → i < k + n → T (admits x (f i) (j + i * natAbs (x .window)))) → T (candidate x (map f (numbersFrom k n)) (j + k * natAbs (x .window)))
+unfolding candidate numbersFrom
+all-admitted x f j k zero h = tt
+all-admitted x f j k (suc n) h =
+    let w = natAbs (x .window) in
+    let e : j + k * w + w ≡ j + suc k * w = omega arith in
+    both-tests (admits x (f k) (j + k * w)) (candidate x (map f (numbersFrom (suc k) n)) (j + k * w + w)) (h k (omega arith))
+    (rw e (all-admitted x f j (suc k) n (λ i l. h i (omega arith))))
+
+part-fits : (m w i : ℕ) → i < m / w → i * w + w ≤ m
+part-fits m w i h = omega (arith, div-mul-le-self m w, mul-le-mul-right w h)
+
+-- the sum of the part at p of the stretch of offset j is that of window j + p
+part-sum : (s : List ℤ) (j p w : ℕ) → Σℤ w (λ k. stretch s j (p + k)) ≡ windowSum s w (j + p)
+unfolding windowSum
+part-sum s j p w = Σℤ-same w (λ k. stretch s j (p + k)) (stretch s (j + p)) (λ k l. let e : j + (p + k) ≡ j + p + k = omega arith in rw e)
+
+pub kept-candidate : (x : Index) (z : Question) (j : ℕ) → Filed x (z .series) → 0 < queryLength z → 0 < z .limits .scale → j < offsetCount z → T (matchesAt z j) → T (candidateAt x z j)
+unfolding candidateAt ranges
+kept-candidate x z j filed long one there t =
+    let w = natAbs (x .window) in
+    let m = queryLength z in
+    let s = z .series in
+    let range = rangeOf (z .kind) (at (z .query)) m (z .limits) w in
+    let e : j + 0 * w ≡ j = omega arith in
+    rw e at (all-admitted x range j 0 (m / w) (λ i l.
+    let fits = part-fits m w i (omega arith) in
+    filed-admits x (range i) (windowSum s w (j + i * w)) (j + i * w)
+    (rw (part-sum s j (i * w) w) at (kept (z .kind) (stretch s j) (at (z .query)) m (z .limits) w i long one fits t))
+    (filed .at (j + i * w) (omega arith))))
