@@ -1,5 +1,8 @@
 -- What the definitions imply, by subject.
 pub mod Open
+pub mod Refusal
+pub mod Demand1
+pub mod Listed
 pub mod Row
 pub mod Calls
 pub mod Vectors

@@ -1,6 +1,6 @@
 -- Every definition of this crate that stays shut until it is named, and those below, under one name: a proof that computes a case says `unfolding openEntries`. Assumes nothing.
 use Rattle.meaning_text.proofs.Open.{openText}
-use Rattle.meaning_entries.specs.Refusal.{firstRefusal, lengthOutside, valueOutside, windowOutside, widthOutside, mergeOutside, queryLengthOutside, queryBelowWindow, bandOutside, thresholdOutside, scaleOrShiftOutside, flatQuery, illFormed, fewerWindows, moreWindows, bufferShort}
+use Rattle.meaning_entries.specs.Refusal.{firstRefusal, lengthOutside, valueOutside, windowOutside, widthOutside, mergeOutside, queryLengthOutside, queryBelowWindow, bandOutside, thresholdOutside, scaleOrShiftOutside, normalFlat, flatQuery, illFormed, fewerWindows, moreWindows, bufferShort}
 use Rattle.meaning_entries.specs.Buffers.{filled, indexIn}
 use Rattle.meaning_entries.specs.Build.{buildTable, buildIndex, buildAnswer, buildAfter}
 use Rattle.meaning_entries.specs.Extend.{extendTable, extendIndex, extendAnswer, extendAfter}
@@ -13,5 +13,5 @@ use Rattle.meaning_entries.specs.Program.{programSaid, textProgram, prog
 use Rattle.meaning_entries.specs.Demand3.{pairs}
 
 unfoldable pub openEntries : Unit {0}
-unfolding openText firstRefusal lengthOutside valueOutside windowOutside widthOutside mergeOutside queryLengthOutside queryBelowWindow bandOutside thresholdOutside scaleOrShiftOutside flatQuery illFormed fewerWindows moreWindows bufferShort filled indexIn buildTable buildIndex buildAnswer buildAfter extendTable extendIndex extendAnswer extendAfter auditTable complete audited auditAnswer writeTable writeAnswer writeAfter badLine unreadable textIndex loadTable loadAnswer loadAfter question listShort searchTable looked searchRefused searchAnswer lookedAfter searchAfter textSeries auditTextTable auditTextAnswer packRefusal pack unpackBy unpack auditText programSaid textProgram programTable programIndex printed program pairs
+unfolding openText firstRefusal lengthOutside valueOutside windowOutside widthOutside mergeOutside queryLengthOutside queryBelowWindow bandOutside thresholdOutside scaleOrShiftOutside normalFlat flatQuery illFormed fewerWindows moreWindows bufferShort filled indexIn buildTable buildIndex buildAnswer buildAfter extendTable extendIndex extendAnswer extendAfter auditTable complete audited auditAnswer writeTable writeAnswer writeAfter badLine unreadable textIndex loadTable loadAnswer loadAfter question listShort searchTable looked searchRefused searchAnswer lookedAfter searchAfter textSeries auditTextTable auditTextAnswer packRefusal pack unpackBy unpack auditText programSaid textProgram programTable programIndex printed program pairs
 openEntries = tt

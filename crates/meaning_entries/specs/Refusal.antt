@@ -74,10 +74,14 @@ thresholdOutside E = if? 9 (not (thresholdIn E))
 unfoldable pub scaleOrShiftOutside : ℤ → ℤ → Condition
 scaleOrShiftOutside a h = if? 10 (not (scaleIn a) || not (shiftIn h))
 
+-- a normalised query that is flat; a raw one may be
+unfoldable pub normalFlat : Kind → List ℤ → Bool
+normalFlat Raw q = false
+normalFlat Normal q = flat (at q) (length q)
+
 -- 11: normalised query flat
 unfoldable pub flatQuery : Kind → List ℤ → Condition
-flatQuery Raw q = if? 11 false
-flatQuery Normal q = if? 11 (flat (at q) (length q))
+flatQuery kind q = if? 11 (normalFlat kind q)
 
 -- 20: index not well formed; first bad row, 0 for the head
 unfoldable pub illFormed : Index → Condition

@@ -1,0 +1,145 @@
+-- Demand 1 of the meanings: each entry's answer refuses by the first line of its table that applies, and by no other. By cases on that line; of a search, the one line with the number 24 has the place 0. Assumes nothing.
+use mathlib.Core.Path.{_≡_, refl, sym, subst}
+use mathlib.Core.Bool.{Bool, true, false, not, cond, _&&_}
+use mathlib.Core.List.{List, [], _∷_}
+use mathlib.Core.Option.{Option, none, some}
+use Prim.Native.Nat.{ℕ, zero, suc}
+use native.Mathlib.Omega.{arith}
+use lib.Dec.{T, T-not, eqb, eqb→eq, ltb}
+use lib.ListN.{length}
+use Rattle.meaning_numbers.proofs.Tests.{two-tests}
+use Rattle.meaning_curves.specs.Limits.{mostValues}
+use Rattle.meaning_rows.specs.Index.{Index}
+use Rattle.meaning_rows.specs.Audit.{firstWrong, missing}
+use Rattle.meaning_entries.specs.declared.Audited.{Audited}
+use Rattle.meaning_entries.specs.declared.Found.{Found}
+use Rattle.meaning_entries.specs.Refusal.{Condition, firstRefusal, lengthOutside, valueOutside, queryLengthOutside, queryBelowWindow, bandOutside, thresholdOutside, scaleOrShiftOutside, flatQuery, illFormed, fewerWindows, moreWindows, bufferShort}
+use Rattle.meaning_entries.specs.Buffers.{IndexBuffers}
+use Rattle.meaning_entries.specs.Answers.{builtRefusal, extendedRefusal, auditedRefusal, writtenRefusal, loadedRefusal, foundRefusal}
+use Rattle.meaning_entries.specs.Build.{BuildCall, buildTable, buildAnswer}
+use Rattle.meaning_entries.specs.Extend.{ExtendCall, extendTable, extendAnswer}
+use Rattle.meaning_entries.specs.Audit.{AuditCall, auditTable, complete, audited, auditAnswer}
+use Rattle.meaning_entries.specs.Write.{writeTable, writeAnswer}
+use Rattle.meaning_entries.specs.Load.{loadTable, loadAnswer}
+use Rattle.meaning_entries.specs.Search.{SearchCall, SearchBuffers, listRoom, searchMatches, searchTable, listShort, searchRefused, searchAnswer}
+use Rattle.meaning_entries.specs.AuditText.{auditTextTable, textCall, auditTextAnswer}
+use Rattle.meaning_entries.specs.Demand1.{Refuses}
+use Rattle.meaning_entries.proofs.Refusal.{First, here, later, is-first}
+
+build-by : (c : BuildCall) (b : IndexBuffers) (o : Option (ℕ × ℕ)) → firstRefusal (buildTable c b) ≡ o → builtRefusal (buildAnswer c b) ≡ o
+unfolding buildAnswer
+build-by c b none e = rw (e, buildAnswer)
+build-by c b (some r) e = rw (e, buildAnswer)
+
+pub build-refuses : (c : BuildCall) (b : IndexBuffers) → Refuses (buildTable c b) (builtRefusal (buildAnswer c b))
+build-refuses c b = record { same = build-by c b (firstRefusal (buildTable c b)) refl }
+
+extend-by : (c : ExtendCall) (b : IndexBuffers) (o : Option (ℕ × ℕ)) → firstRefusal (extendTable c b) ≡ o → extendedRefusal (extendAnswer c b) ≡ o
+unfolding extendAnswer
+extend-by c b none e = rw (e, extendAnswer)
+extend-by c b (some r) e = rw (e, extendAnswer)
+
+pub extend-refuses : (c : ExtendCall) (b : IndexBuffers) → Refuses (extendTable c b) (extendedRefusal (extendAnswer c b))
+extend-refuses c b = record { same = extend-by c b (firstRefusal (extendTable c b)) refl }
+
+write-by : (x : Index) (t : List ℕ) (o : Option (ℕ × ℕ)) → firstRefusal (writeTable x t) ≡ o → writtenRefusal (writeAnswer x t) ≡ o
+unfolding writeAnswer
+write-by x t none e = rw (e, writeAnswer)
+write-by x t (some r) e = rw (e, writeAnswer)
+
+pub write-refuses : (x : Index) (t : List ℕ) → Refuses (writeTable x t) (writtenRefusal (writeAnswer x t))
+write-refuses x t = record { same = write-by x t (firstRefusal (writeTable x t)) refl }
+
+load-by : (t : List ℕ) (b : IndexBuffers) (o : Option (ℕ × ℕ)) → firstRefusal (loadTable t b) ≡ o → loadedRefusal (loadAnswer t b) ≡ o
+unfolding loadAnswer
+load-by t b none e = rw (e, loadAnswer)
+load-by t b (some r) e = rw (e, loadAnswer)
+
+pub load-refuses : (t : List ℕ) (b : IndexBuffers) → Refuses (loadTable t b) (loadedRefusal (loadAnswer t b))
+load-refuses t b = record { same = load-by t b (firstRefusal (loadTable t b)) refl }
+
+-- ---- audits: what is said where nothing refuses is no refusal
+
+complete-said : (n : ℕ) → auditedRefusal (complete n) ≡ none
+unfolding complete
+complete-said zero = refl
+complete-said (suc n) = refl
+
+audited-by : (c : AuditCall) (o : Option (ℕ × ℕ)) → firstWrong (c .index) (c .series) ≡ o → auditedRefusal (audited c) ≡ none
+unfolding audited
+audited-by c none e = rw (e, audited) (complete-said (missing (c .index)))
+audited-by c (some x) e = rw (e, audited)
+
+audited-said : (c : AuditCall) → auditedRefusal (audited c) ≡ none
+audited-said c = audited-by c (firstWrong (c .index) (c .series)) refl
+
+audit-by : (c : AuditCall) (o : Option (ℕ × ℕ)) → firstRefusal (auditTable mostValues c) ≡ o → auditedRefusal (auditAnswer c) ≡ o
+unfolding auditAnswer
+audit-by c none e = rw (e, auditAnswer) (audited-said c)
+audit-by c (some r) e = rw (e, auditAnswer)
+
+pub audit-refuses : (c : AuditCall) → Refuses (auditTable mostValues c) (auditedRefusal (auditAnswer c))
+audit-refuses c = record { same = audit-by c (firstRefusal (auditTable mostValues c)) refl }
+
+audit-text-by : (x s : List ℕ) (o : Option (ℕ × ℕ)) → firstRefusal (auditTextTable x s) ≡ o → auditedRefusal (auditTextAnswer x s) ≡ o
+unfolding auditTextAnswer
+audit-text-by x s none e = rw (e, auditTextAnswer) (audited-said (textCall x s))
+audit-text-by x s (some r) e = rw (e, auditTextAnswer)
+
+pub audit-text-refuses : (x s : List ℕ) → Refuses (auditTextTable x s) (auditedRefusal (auditTextAnswer x s))
+audit-text-refuses x s = record { same = audit-text-by x s (firstRefusal (auditTextTable x s)) refl }
+
+-- ---- a search: 24 has the place 0
+
+-- where the line has the number 24, its place is 0
+abbrev Zero : Condition → Type 0
+Zero c = (p : ℕ) → c .number ≡ 24 → c .place ≡ some p → p ≡ 0
+
+-- no line before the last has that number
+others : Condition → List Condition → Bool
+others c [] = true
+others c (d ∷ l) = not (eqb (c .number) 24) && others d l
+
+last : Condition → List Condition → Condition
+last c [] = c
+last c (d ∷ l) = last d l
+
+number-other : (n : ℕ) {B : Type 0} → T (not (eqb n 24)) → n ≡ 24 → B
+number-other n t e = absurd (T-not (eqb n 24) t (rw e tt))
+
+zero-first : (c : Condition) (l : List Condition) {n p : ℕ} → T (others c l) → Zero (last c l) → First (c ∷ l) n p → n ≡ 24 → p ≡ 0
+unfolding others last
+zero-first c [] {p = p} t z (here e) i = z p i e
+zero-first c [] t z (later e f) i = elim f [ ]
+zero-first c (d ∷ l) t z (here e) i = number-other (c .number) (two-tests (not (eqb (c .number) 24)) (others d l) t .0) i
+zero-first c (d ∷ l) t z (later e f) i = zero-first d l (two-tests (not (eqb (c .number) 24)) (others d l) t .1) z f i
+
+list-zero : (c : SearchCall) (b : SearchBuffers) → Zero (listShort c b)
+unfolding listShort
+list-zero c b p i e = by (ltb (listRoom b) (length (searchMatches c))) e
+  where
+    by : (t : Bool) → cond t (some 0) none ≡ some p → p ≡ 0
+    by true h = cc
+    by false h = let z : _≡_ {A = ℕ} 0 1 = cc in absurd (omega arith)
+
+search-zero : (c : SearchCall) (b : SearchBuffers) {n p : ℕ} → First (searchTable c b) n p → n ≡ 24 → p ≡ 0
+unfolding searchTable lengthOutside valueOutside queryLengthOutside queryBelowWindow bandOutside thresholdOutside scaleOrShiftOutside flatQuery illFormed fewerWindows moreWindows bufferShort others last
+search-zero c b f = zero-first _ _ tt (list-zero c b) f
+
+-- what a refused search answers
+refused-by : (c : SearchCall) (n p : ℕ) (t : Bool) → eqb n 24 ≡ t → (n ≡ 24 → p ≡ 0) → foundRefusal (searchRefused c (n, p)) ≡ some (n, p)
+unfolding searchRefused
+refused-by c n p true e z =
+    let i : n ≡ 24 = eqb→eq n 24 (subst T (sym e) tt) in
+    let j : p ≡ 0 = z i in
+    rw (e, searchRefused) (rw (i, j) refl)
+refused-by c n p false e z = rw (e, searchRefused)
+
+search-by : (c : SearchCall) (b : SearchBuffers) (o : Option (ℕ × ℕ)) → firstRefusal (searchTable c b) ≡ o → foundRefusal (searchAnswer c b) ≡ o
+unfolding searchAnswer
+search-by c b none e = rw (e, searchAnswer)
+search-by c b (some r) e =
+    rw (e, searchAnswer) (refused-by c (r .0) (r .1) (eqb (r .0) 24) refl (search-zero c b (is-first (searchTable c b) (r .0) (r .1) e)))
+
+pub search-refuses : (c : SearchCall) (b : SearchBuffers) → Refuses (searchTable c b) (foundRefusal (searchAnswer c b))
+search-refuses c b = record { same = search-by c b (firstRefusal (searchTable c b)) refl }

@@ -1,0 +1,94 @@
+-- The tables of refusals are total and exclusive: a call is refused by exactly one line, the first that applies, or by none, and then no line applies. By induction on the table. Assumes nothing.
+use mathlib.Core.Path.{_≡_, refl, sym, _∙_, ap, subst₂}
+use mathlib.Core.Bool.{Bool, true, false, not}
+use mathlib.Core.List.{List, [], _∷_}
+use mathlib.Core.Logic.{_⊎_, inl, inr}
+use mathlib.Core.Option.{Option, none, some}
+use Prim.Native.Nat.{ℕ, zero, suc}
+use native.Mathlib.Omega.{arith}
+use lib.Dec.{T}
+use lib.ListN.{getD}
+use Rattle.meaning_entries.specs.Refusal.{Condition, firstRefusal, if?}
+
+-- no line applies
+pub data Passed : List Condition → Type 0 where
+  end : Passed []
+  more : {c : Condition} {l : List Condition} → c .place ≡ none → Passed l → Passed (c ∷ l)
+
+-- the first line that applies has the number n and the place p
+pub data First : List Condition → ℕ → ℕ → Type 0 where
+  here : {c : Condition} {l : List Condition} {p : ℕ} → c .place ≡ some p → First (c ∷ l) (c .number) p
+  later : {c : Condition} {l : List Condition} {n p : ℕ} → c .place ≡ none → First l n p → First (c ∷ l) n p
+
+first-yes : (c : Condition) (l : List Condition) (p : ℕ) → c .place ≡ some p → firstRefusal (c ∷ l) ≡ some (c .number, p)
+unfolding firstRefusal
+first-yes c l p e = rw (e, firstRefusal)
+
+first-no : (c : Condition) (l : List Condition) → c .place ≡ none → firstRefusal (c ∷ l) ≡ firstRefusal l
+unfolding firstRefusal
+first-no c l e = rw (e, firstRefusal)
+
+pub passed-is : {l : List Condition} → Passed l → firstRefusal l ≡ none
+unfolding firstRefusal
+passed-is end = refl
+passed-is (more {c} {l} e h) = first-no c l e ∙ passed-is h
+
+pub first-is : {l : List Condition} {n p : ℕ} → First l n p → firstRefusal l ≡ some (n, p)
+first-is (here {c} {l} {p} e) = first-yes c l p e
+first-is (later {c} {l} e h) = first-no c l e ∙ first-is h
+
+-- one of the two holds
+pub judged : (l : List Condition) → Passed l ⊎ ((n : ℕ) × (p : ℕ) × First l n p)
+judged [] = inl end
+judged (c ∷ l) = by (c .place) refl (judged l)
+  where
+    by : (o : Option ℕ) → c .place ≡ o → Passed l ⊎ ((n : ℕ) × (p : ℕ) × First l n p) → Passed (c ∷ l) ⊎ ((n : ℕ) × (p : ℕ) × First (c ∷ l) n p)
+    by (some p) e r = inr (c .number, p, here e)
+    by none e (inl h) = inl (more e h)
+    by none e (inr h) = inr (h .0, h .1, later e (h .2))
+
+-- and what `firstRefusal` says is which
+none-some : {A B : Type 0} {a : A} → none ≡ some a → B
+none-some e = let z : _≡_ {A = ℕ} 0 1 = cc in absurd (omega arith)
+
+pub is-passed : (l : List Condition) → firstRefusal l ≡ none → Passed l
+is-passed l e = by (judged l)
+  where
+    by : Passed l ⊎ ((n : ℕ) × (p : ℕ) × First l n p) → Passed l
+    by (inl h) = h
+    by (inr h) = none-some (sym e ∙ first-is (h .2))
+
+-- two refusals that are the same have the same number and the same place
+same-refusal : {r t : ℕ × ℕ} → some r ≡ some t → (r .0 ≡ t .0) × (r .1 ≡ t .1)
+same-refusal {r} {t} e = let q : r ≡ t = cc in (ap (λ (x : ℕ × ℕ). x .0) q, ap (λ (x : ℕ × ℕ). x .1) q)
+
+pub is-first : (l : List Condition) (n p : ℕ) → firstRefusal l ≡ some (n, p) → First l n p
+is-first l n p e = by (judged l)
+  where
+    by : Passed l ⊎ ((m : ℕ) × (k : ℕ) × First l m k) → First l n p
+    by (inl h) = none-some (sym (passed-is h) ∙ e)
+    by (inr h) = let q = same-refusal (sym (first-is (h .2)) ∙ e) in subst₂ (First l) (q .0) (q .1) (h .2)
+
+-- a call that one line refuses no other refuses, and where none applies none refuses
+pub exclusive : {l : List Condition} {n p : ℕ} {B : Type 0} → First l n p → Passed l → B
+exclusive f h = none-some (sym (passed-is h) ∙ first-is f)
+
+pub first-only : {l : List Condition} {n m p k : ℕ} → First l n p → First l m k → (n ≡ m) × (p ≡ k)
+first-only f g = same-refusal (sym (first-is f) ∙ first-is g)
+
+-- ---- a line of a table that passed, by its place
+
+pub free : Condition
+free = record { number = 0; place = none }
+
+pub passed-at : {l : List Condition} → Passed l → (k : ℕ) → getD l k free .place ≡ none
+unfolding free
+passed-at end zero = refl
+passed-at end (suc k) = refl
+passed-at (more e h) zero = e
+passed-at (more e h) (suc k) = passed-at h k
+
+-- a condition whose place is 0 and that does not apply: its test fails
+pub not-if : (n : ℕ) (t : Bool) → if? n t .place ≡ none → T (not t)
+not-if n true e = none-some (sym e)
+not-if n false e = tt
