@@ -1,3 +1,4 @@
 -- What the definitions imply, by subject.
 pub mod Open
 pub mod Cases
+pub mod Reading

@@ -1,0 +1,215 @@
+-- What reading comes to, for any reader: either a value is taken, and what it is spelled as is taken off the text; or what was read begins some spelled value. Whatever stands behind the next byte does not matter.
+-- Readers are put together: a word, one reader after another, one reader many times. Assumes nothing.
+use mathlib.Core.Path.{_≡_, refl, sym, ap, _∙_, subst}
+use mathlib.Core.List.{List, [], _∷_, _++_, append-assoc, append-nil}
+use mathlib.Core.Bool.{Bool, true, false}
+use Prim.Native.Nat.{ℕ, zero, suc, _+_, _<_, _≤_}
+use native.Mathlib.Omega.{arith}
+use lib.Dec.{eqb}
+use lib.ListN.{length, length-append}
+use borrow.Author.Tests.{eqb-true, eq-eqb}
+use Rattle.meaning_text.specs.Number.{Read, got, bad}
+use Rattle.meaning_text.specs.Form.{spellMany, Each, end, more, readWord, thenRead, readMany}
+
+-- a test is taken apart with what it says
+pub on-flag : (t : Bool) {A : Type 0} → (t ≡ true → A) → (t ≡ false → A) → A
+on-flag true f g = f refl
+on-flag false f g = g refl
+
+-- two texts have the same first byte
+pub data Alike : List ℕ → List ℕ → Type 0 where
+  alike : {b : ℕ} {r s : List ℕ} → Alike (b ∷ r) (b ∷ s)
+
+alike-behind : (p : List ℕ) {u w : List ℕ} → Alike u w → Alike (p ++ u) (p ++ w)
+alike-behind [] a = a
+alike-behind (b ∷ p) a = alike
+
+alike-from : {t u w : List ℕ} (p : List ℕ) → t ≡ p ++ u → Alike u w → Alike t (p ++ w)
+alike-from p e a = rw e (alike-behind p a)
+
+-- what holds of all texts with this first byte
+pub like : (P : List ℕ → Type 0) {b : ℕ} {t : List ℕ} → ((r : List ℕ) → P (b ∷ r)) → (s : List ℕ) → Alike (b ∷ t) s → P s
+like P f s (alike {s = r}) = f r
+
+-- the next byte, if any, does not pass the test
+abbrev pub NotNext : (ℕ → Bool) → List ℕ → Type 0
+NotNext p [] = Unit {0}
+NotNext p (b ∷ t) = p b ≡ false
+
+module _ {A : Type 0} (reads : List ℕ → Read A) (spells : A → List ℕ) (Good : A → Type 0) where
+  -- reading t takes v and leaves u
+  pub record Taken (t : List ℕ) (v : A) (u : List ℕ) : Type 0 where
+    pub good : Good v
+    pub parts : t ≡ spells v ++ u
+    pub steady : (w : List ℕ) → Alike u w → reads (spells v ++ w) ≡ got v w
+
+  -- reading t is bad at u
+  pub record Refused (t u : List ℕ) : Type 0 where
+    pub before : List ℕ
+    pub after : List ℕ
+    pub value : A
+    pub good : Good value
+    pub parts : t ≡ before ++ u
+    pub begun : before ++ after ≡ spells value
+    pub steady : (w : List ℕ) → Alike u w → reads (before ++ w) ≡ bad w
+
+  abbrev pub Outcome : List ℕ → Read A → Type 0
+  Outcome t (got v u) = Taken t v u
+  Outcome t (bad u) = Refused t u
+
+-- a reader that agrees with another on all texts like t
+module _ {A : Type 0} (reads reads′ : List ℕ → Read A) (spells spells′ : A → List ℕ) (Good Good′ : A → Type 0) (same : (v : A) → Good v → Good′ v × (spells v ≡ spells′ v)) (t : List ℕ) (agree : (s : List ℕ) → Alike t s → reads′ s ≡ reads s) where
+  pub outcome-as : (x : Read A) → Outcome reads spells Good t x → Outcome reads′ spells′ Good′ t x
+  outcome-as (got v u) o =
+      let e = same v (o .good) in
+      let p : t ≡ spells′ v ++ u = rw (← e .1) (o .parts) in
+      record { good = e .0; parts = p; steady = λ w a. agree (spells′ v ++ w) (alike-from (spells′ v) p a) ∙ rw (← e .1) (o .steady w a) }
+  outcome-as (bad u) o =
+      let e = same (o .value) (o .good) in
+      record { before = o .before; after = o .after; value = o .value; good = e .0; parts = o .parts; begun = o .begun ∙ e .1; steady = λ w a. agree (o .before ++ w) (alike-from (o .before) (o .parts) a) ∙ o .steady w a }
+
+-- ---- a word
+
+pub word-back : {A : Type 0} (w : List ℕ) (a : A) (t : List ℕ) → readWord w a (w ++ t) ≡ got a t
+unfolding readWord
+word-back [] a t = refl
+word-back (c ∷ w) a t = rw (eq-eqb c c refl, readWord) (word-back w a t)
+
+abbrev pub Word : {A : Type 0} → List ℕ → A → List ℕ → Read A → Type 0
+Word w a = Outcome (readWord w a) (λ _. w) (λ v. v ≡ a)
+
+module _ {A : Type 0} (w : List ℕ) (a : A) (c : ℕ) where
+  word-more : (t : List ℕ) (x : Read A) → Word w a t x → Word (c ∷ w) a (c ∷ t) x
+  unfolding readWord
+  word-more t (got v u) o = record { good = o .good; parts = ap (_∷_ c) (o .parts); steady = λ s l. rw (eq-eqb c c refl, readWord) (o .steady s l) }
+  word-more t (bad u) o = record {
+    before = c ∷ o .before;
+    after = o .after;
+    value = o .value;
+    good = o .good;
+    parts = ap (_∷_ c) (o .parts);
+    begun = ap (_∷_ c) (o .begun);
+    steady = λ s l. rw (eq-eqb c c refl, readWord) (o .steady s l) }
+
+  word-not : (u : List ℕ) → ((s : List ℕ) → Alike u s → readWord (c ∷ w) a s ≡ bad s) → Word (c ∷ w) a u (bad u)
+  word-not u h = record { before = []; after = c ∷ w; value = a; good = refl; parts = refl; begun = refl; steady = h }
+
+pub word-read : {A : Type 0} (w : List ℕ) (a : A) (t : List ℕ) → Word w a t (readWord w a t)
+unfolding readWord
+word-read [] a t = record { good = refl; parts = refl; steady = λ s l. refl }
+word-read (c ∷ w) a [] = word-not w a c [] (λ s l. elim l [ ])
+word-read (c ∷ w) a (b ∷ t) =
+    on-flag (eqb b c)
+    (λ e. rw (e, readWord) (rw (eqb-true b c e) (word-more w a c t (readWord w a t) (word-read w a t))))
+    (λ e. rw (e, readWord) (word-not w a c (b ∷ t) (like (λ s. readWord (c ∷ w) a s ≡ bad s) (λ r. rw (e, readWord)))))
+
+-- ---- one reader after another
+
+module _ {A B C : Type 0} (one : List ℕ → Read A) (spellA : A → List ℕ) (GoodA : A → Type 0) (two : List ℕ → Read B) (spellB : B → List ℕ) (GoodB : B → Type 0) (reads : List ℕ → Read C) (spellC : C → List ℕ) (GoodC : C → Type 0) (make : A → B → C) (made : (a : A) (b : B) → GoodA a → GoodB b → GoodC (make a b) × (spellC (make a b) ≡ spellA a ++ spellB b)) (some : (b : B) × GoodB b) (next : A → List ℕ → Read C) (next-is : (a : A) (u : List ℕ) → next a u ≡ thenRead (two u) (λ b v. got (make a b) v)) (t : List ℕ) (agree : (s : List ℕ) → Alike t s → reads s ≡ thenRead (one s) next) where
+  -- the first value is taken: what the second reader comes to
+  module _ (a : A) (u : List ℕ) (k : Taken one spellA GoodA t a u) where
+    parted : (l v : List ℕ) → u ≡ l ++ v → t ≡ (spellA a ++ l) ++ v
+    parted l v e = rw append-assoc (rw (← e) (k .parts))
+
+    second-is : (l w v : List ℕ) → u ≡ l ++ v → Alike v w → reads ((spellA a ++ l) ++ w) ≡ thenRead (two (l ++ w)) (λ b v. got (make a b) v)
+    unfolding thenRead
+    second-is l w v e h =
+        agree ((spellA a ++ l) ++ w) (alike-from (spellA a ++ l) (parted l v e) h)
+        ∙ rw (append-assoc (spellA a) l w, k .steady (l ++ w) (alike-from l e h))
+        (next-is a (l ++ w))
+
+    second : (y : Read B) → Outcome two spellB GoodB u y → Outcome reads spellC GoodC t (thenRead y (λ b v. got (make a b) v))
+    unfolding thenRead
+    second (got b v) o =
+        let m = made a b (k .good) (o .good) in
+        record {
+          good = m .0;
+          parts = rw (m .1) (parted (spellB b) v (o .parts));
+          steady = λ w h. rw (m .1) (second-is (spellB b) w v (o .parts) h ∙ rw (o .steady w h)) }
+    second (bad v) o =
+        let m = made a (o .value) (k .good) (o .good) in
+        record {
+          before = spellA a ++ o .before;
+          after = o .after;
+          value = make a (o .value);
+          good = m .0;
+          parts = parted (o .before) v (o .parts);
+          begun = rw (m .1, append-assoc, o .begun);
+          steady = λ w h. second-is (o .before) w v (o .parts) h ∙ rw (o .steady w h) }
+
+  pub both-read : (x : Read A) → Outcome one spellA GoodA t x → ((a : A) (u : List ℕ) → Taken one spellA GoodA t a u → Outcome two spellB GoodB u (two u)) → Outcome reads spellC GoodC t (thenRead x next)
+  unfolding thenRead
+  both-read (got a u) o f = rw next-is (second a u o (two u) (f a u o))
+  both-read (bad u) o f =
+      let m = made (o .value) (some .0) (o .good) (some .1) in
+      record {
+        before = o .before;
+        after = o .after ++ spellB (some .0);
+        value = make (o .value) (some .0);
+        good = m .0;
+        parts = o .parts;
+        begun = rw (m .1, ← o .begun, append-assoc);
+        steady = λ w h. agree (o .before ++ w) (alike-from (o .before) (o .parts) h) ∙ rw (o .steady w h) }
+
+-- ---- one reader many times
+
+then-same : {A B : Type 0} (x : Read A) (f g : A → List ℕ → Read B) → ((a : A) (u : List ℕ) → x ≡ got a u → f a u ≡ g a u) → thenRead x f ≡ thenRead x g
+unfolding thenRead
+then-same (got a u) f g h = h a u refl
+then-same (bad u) f g h = refl
+
+module _ {A : Type 0} (begins : ℕ → Bool) (one : List ℕ → Read A) where
+  abbrev pub readAll : List ℕ → Read (List A)
+  readAll t = readMany begins one (length t) t
+
+module _ {A : Type 0} (begins : ℕ → Bool) (one : List ℕ → Read A) (spells : A → List ℕ) (Good : A → Type 0) (read-one : (t : List ℕ) → Outcome one spells Good t (one t)) (filled : (v : A) → Good v → 0 < length (spells v)) where
+  shorter : (t u : List ℕ) (a : A) → Taken one spells Good t a u → length u < length t
+  shorter t u a k = omega (arith, filled a (k .good), simp length-append at (ap length (k .parts)))
+
+  -- the bound is enough
+  enough : (k j : ℕ) (t : List ℕ) → length t ≤ k → length t ≤ j → readMany begins one k t ≡ readMany begins one j t
+  unfolding readMany
+  enough zero zero t h g = refl
+  enough zero (suc j) [] h g = refl
+  enough zero (suc j) (b ∷ t) h g = absurd (omega arith)
+  enough (suc k) zero [] h g = refl
+  enough (suc k) zero (b ∷ t) h g = absurd (omega arith)
+  enough (suc k) (suc j) [] h g = refl
+  enough (suc k) (suc j) (b ∷ t) h g =
+      on-flag (begins b)
+      (λ e. rw (e, readMany) (then-same (one (b ∷ t)) _ _ (λ a u o. let l = shorter (b ∷ t) u a (rw o at (read-one (b ∷ t))) in rw (enough k j u (omega arith) (omega arith)))))
+      (λ e. rw (e, readMany))
+
+  abbrev next : A → List ℕ → Read (List A)
+  next a u = thenRead (readAll begins one u) (λ l v. got (a ∷ l) v)
+
+  -- one more
+  pub many-more : (b : ℕ) (t : List ℕ) → begins b ≡ true → readAll begins one (b ∷ t) ≡ thenRead (one (b ∷ t)) next
+  unfolding readMany
+  many-more b t e =
+      rw (e, readMany) (then-same (one (b ∷ t)) _ next (λ a u o. let l = shorter (b ∷ t) u a (rw o at (read-one (b ∷ t))) in rw (enough (length t) (length u) u (omega arith) (omega arith))))
+
+  -- and no more
+  pub many-end : (t : List ℕ) → NotNext begins t → readAll begins one t ≡ got [] t
+  unfolding readMany
+  many-end [] e = refl
+  many-end (b ∷ t) e = rw (e, readMany)
+
+  many-none : Taken (readAll begins one) (spellMany spells) (Each Good) [] [] []
+  unfolding spellMany
+  many-none = record { good = end; parts = refl; steady = λ w l. elim l [ ] }
+
+  many-to : (k : ℕ) (t : List ℕ) → length t ≤ k → Outcome (readAll begins one) (spellMany spells) (Each Good) t (readAll begins one t)
+  unfolding readMany spellMany
+  many-to zero [] h = many-none
+  many-to zero (b ∷ t) h = absurd (omega arith)
+  many-to (suc k) [] h = many-none
+  many-to (suc k) (b ∷ t) h =
+      on-flag (begins b)
+      (λ e. rw (many-more b t e)
+        (both-read one spells Good (readAll begins one) (spellMany spells) (Each Good) (readAll begins one) (spellMany spells) (Each Good) _∷_ (λ a l g i. (more g i, refl)) ([], end) next (λ a u. refl) (b ∷ t)
+          (like (λ s. readAll begins one s ≡ thenRead (one s) next) (λ r. many-more b r e)) (one (b ∷ t)) (read-one (b ∷ t)) (λ a u o. many-to k u (omega (arith, shorter (b ∷ t) u a o)))))
+      (λ e. rw (many-end (b ∷ t) e) (record { good = end; parts = refl; steady = like (λ s. readAll begins one s ≡ got [] s) (λ r. many-end (b ∷ r) e) }))
+
+  pub many-read : (t : List ℕ) → Outcome (readAll begins one) (spellMany spells) (Each Good) t (readAll begins one t)
+  many-read t = many-to (length t) t (omega arith)
