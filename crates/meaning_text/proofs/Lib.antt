@@ -2,3 +2,4 @@
 pub mod Open
 pub mod Cases
 pub mod Reading
+pub mod Number

@@ -2,7 +2,7 @@
 -- Readers are put together: a word, one reader after another, one reader many times. Assumes nothing.
 use mathlib.Core.Path.{_≡_, refl, sym, ap, _∙_, subst}
 use mathlib.Core.List.{List, [], _∷_, _++_, append-assoc, append-nil}
-use mathlib.Core.Bool.{Bool, true, false}
+use mathlib.Core.Bool.{Bool, true, false, _&&_}
 use Prim.Native.Nat.{ℕ, zero, suc, _+_, _<_, _≤_}
 use native.Mathlib.Omega.{arith}
 use lib.Dec.{eqb}
@@ -15,6 +15,13 @@ use Rattle.meaning_text.specs.Form.{spellMany, Each, end, more, readWord
 pub on-flag : (t : Bool) {A : Type 0} → (t ≡ true → A) → (t ≡ false → A) → A
 on-flag true f g = f refl
 on-flag false f g = g refl
+
+pub false-true : {A : Type 0} → false ≡ true → A
+false-true e = let z : _≡_ {A = ℕ} 0 1 = cc in absurd (omega arith)
+
+pub and-true : (a b : Bool) → a && b ≡ true → (a ≡ true) × (b ≡ true)
+and-true true b e = (refl, e)
+and-true false b e = false-true e
 
 -- two texts have the same first byte
 pub data Alike : List ℕ → List ℕ → Type 0 where
