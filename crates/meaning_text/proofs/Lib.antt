@@ -3,3 +3,4 @@ pub mod Open
 pub mod Cases
 pub mod Reading
 pub mod Number
+pub mod Form

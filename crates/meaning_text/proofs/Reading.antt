@@ -43,6 +43,22 @@ abbrev pub NotNext : (ℕ → Bool) → List ℕ → Type 0
 NotNext p [] = Unit {0}
 NotNext p (b ∷ t) = p b ≡ false
 
+-- there is a next byte, and it passes the test
+pub data Begun (p : ℕ → Bool) : List ℕ → Type 0 where
+  begun : {b : ℕ} {r : List ℕ} → p b ≡ true → Begun p (b ∷ r)
+
+pub begun-before : {p : ℕ → Bool} {s : List ℕ} (t : List ℕ) → Begun p s → Begun p (s ++ t)
+begun-before t (begun e) = begun e
+
+pub begun-as : {p q : ℕ → Bool} {s : List ℕ} → ((b : ℕ) → p b ≡ true → q b ≡ true) → Begun p s → Begun q s
+begun-as h (begun {b = b} e) = begun (h b e)
+
+pub begun-not : {p q : ℕ → Bool} {s : List ℕ} → ((b : ℕ) → p b ≡ true → q b ≡ false) → Begun p s → NotNext q s
+begun-not h (begun {b = b} e) = h b e
+
+begun-long : {p : ℕ → Bool} {s : List ℕ} → Begun p s → 0 < length s
+begun-long (begun e) = omega arith
+
 module _ {A : Type 0} (reads : List ℕ → Read A) (spells : A → List ℕ) (Good : A → Type 0) where
   -- reading t takes v and leaves u
   pub record Taken (t : List ℕ) (v : A) (u : List ℕ) : Type 0 where
@@ -169,9 +185,9 @@ module _ {A : Type 0} (begins : ℕ → Bool) (one : List ℕ → Read A) where
   abbrev pub readAll : List ℕ → Read (List A)
   readAll t = readMany begins one (length t) t
 
-module _ {A : Type 0} (begins : ℕ → Bool) (one : List ℕ → Read A) (spells : A → List ℕ) (Good : A → Type 0) (read-one : (t : List ℕ) → Outcome one spells Good t (one t)) (filled : (v : A) → Good v → 0 < length (spells v)) where
+module _ {A : Type 0} (begins : ℕ → Bool) (one : List ℕ → Read A) (spells : A → List ℕ) (Good : A → Type 0) (read-one : (t : List ℕ) → Outcome one spells Good t (one t)) (first : (v : A) → Good v → Begun begins (spells v)) where
   shorter : (t u : List ℕ) (a : A) → Taken one spells Good t a u → length u < length t
-  shorter t u a k = omega (arith, filled a (k .good), simp length-append at (ap length (k .parts)))
+  shorter t u a k = omega (arith, begun-long (first a (k .good)), simp length-append at (ap length (k .parts)))
 
   -- the bound is enough
   enough : (k j : ℕ) (t : List ℕ) → length t ≤ k → length t ≤ j → readMany begins one k t ≡ readMany begins one j t
@@ -220,3 +236,19 @@ module _ {A : Type 0} (begins : ℕ → Bool) (one : List ℕ → Read A) (spell
 
   pub many-read : (t : List ℕ) → Outcome (readAll begins one) (spellMany spells) (Each Good) t (readAll begins one t)
   many-read t = many-to (length t) t (omega arith)
+
+  module _ (follows : ℕ → Bool) (back : (v : A) → Good v → (t : List ℕ) → NotNext follows t → one (spells v ++ t) ≡ got v t) (apart : (b : ℕ) → begins b ≡ true → follows b ≡ false) where
+    many-next : (l : List A) → Each Good l → (t : List ℕ) → NotNext follows t → NotNext follows (spellMany spells l ++ t)
+    unfolding spellMany
+    many-next [] end t f = f
+    many-next (x ∷ l) (more g i) t f = begun-not apart (begun-before t (begun-before (spellMany spells l) (first x g)))
+
+    begun-more : {s : List ℕ} → Begun begins s → readAll begins one s ≡ thenRead (one s) next
+    begun-more (begun {b = b} {r = r} e) = many-more b r e
+
+    pub many-back : (l : List A) → Each Good l → (t : List ℕ) → NotNext follows t → NotNext begins t → readAll begins one (spellMany spells l ++ t) ≡ got l t
+    unfolding spellMany thenRead
+    many-back [] end t f h = many-end t h
+    many-back (x ∷ l) (more g i) t f h =
+        rw append-assoc
+        (begun-more (begun-before (spellMany spells l ++ t) (first x g)) ∙ rw (back x g (spellMany spells l ++ t) (many-next l i t f), many-back l i t f h))
