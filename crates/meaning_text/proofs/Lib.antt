@@ -4,3 +4,4 @@ pub mod Cases
 pub mod Reading
 pub mod Number
 pub mod Form
+pub mod Text
