@@ -5,3 +5,4 @@ pub mod Reading
 pub mod Number
 pub mod Form
 pub mod Text
+pub mod Texts

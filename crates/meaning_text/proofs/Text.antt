@@ -98,3 +98,13 @@ module _ (f : Form) (decides : decided f ≡ true) where
   pub first-bad : (t : List ℕ) (n : ℕ) → readText f t ≡ unfit n → Longest f t n
   unfolding readText
   first-bad t n e = stopped t (read f t) n (form-read f decides t) e
+
+-- the laws of a form's whole texts
+pub record Lawful (f : Form) : Type 0 where
+  pub reads-back : (v : Value f) → Spellable f v → readText f (spell f v) ≡ fine v
+  pub reads-only : (t : List ℕ) (v : Value f) → readText f t ≡ fine v → Spellable f v × (t ≡ spell f v)
+  pub first-bad : (t : List ℕ) (n : ℕ) → readText f t ≡ unfit n → Longest f t n
+  pub spell-injective : (v w : Value f) → Spellable f v → Spellable f w → spell f v ≡ spell f w → v ≡ w
+
+pub lawful : (f : Form) → decided f ≡ true → Lawful f
+lawful f d = record { reads-back = reads-back f d; reads-only = reads-only f d; first-bad = first-bad f d; spell-injective = spell-injective f d }
