@@ -6,3 +6,4 @@ pub mod Number
 pub mod Form
 pub mod Text
 pub mod Texts
+pub mod Lines
