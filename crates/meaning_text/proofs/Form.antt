@@ -1,7 +1,7 @@
 -- For every form whose next byte decides (`decided`): what is spelled is read back where nothing follows that could go on, nothing else is read, and a refusal comes behind the longest beginning.
 -- By induction on the form; each is put together of readers (`Reading`). Assumes nothing.
-use mathlib.Core.Path.{_≡_, refl, sym, ap, _∙_, subst}
-use mathlib.Core.List.{List, [], _∷_, _++_, append-assoc, append-nil}
+use mathlib.Core.Path.{_≡_, refl, sym, _∙_}
+use mathlib.Core.List.{List, [], _∷_, _++_, append-assoc}
 use mathlib.Core.Bool.{Bool, true, false, not, _&&_, _||_, or-true}
 use Prim.Native.Char.{code}
 use Prim.Native.Nat.{ℕ, zero, suc, _+_, _<_, _≤_}
@@ -12,10 +12,10 @@ use lib.IntN.{ℤ, pos, negsuc}
 use borrow.Author.Tests.{eqb-true, eqb-false, eq-eqb, not-true}
 use Rattle.meaning_numbers.specs.Place.{every, numbersFrom}
 use Rattle.meaning_text.specs.Bytes.{bytes}
-use Rattle.meaning_text.specs.Number.{spellℤ, Short, Read, got, bad, isDigit}
-use Rattle.meaning_text.specs.Form.{Form, number, oneOf, lead, trail, both, many, Value, spellOne, spellMany, spell, Each, end, more, Spellable, readWord, thenRead, wordStarts, starts, readOne, readMany, read}
+use Rattle.meaning_text.specs.Number.{spellℤ, Read, got, bad, isDigit}
+use Rattle.meaning_text.specs.Form.{Form, number, oneOf, lead, trail, both, many, Value, spellOne, spellMany, spell, end, Spellable, readWord, thenRead, wordStarts, starts, readOne, read}
 use Rattle.meaning_text.specs.Read.{Viable}
-use Rattle.meaning_text.proofs.Reading.{on-flag, false-true, and-true, Alike, like, NotNext, Begun, begun, begun-before, begun-as, begun-not, Taken, Refused, Outcome, outcome-as, Word, word-back, word-read, both-read, many-read, many-back}
+use Rattle.meaning_text.proofs.Reading.{on-flag, false-true, and-true, like, NotNext, Begun, begun, begun-before, begun-as, begun-not, Refused, Outcome, outcome-as, word-back, word-read, both-read, many-read, many-back}
 use Rattle.meaning_text.proofs.Number.{leading, is-digit, digit-is, read-spelled, number-read}
 
 -- ---- where the next byte decides
@@ -204,9 +204,9 @@ one-read v w [] = record { before = []; after = bytes v; value = true; good = tt
 one-read v w (b ∷ t) =
     on-flag (wordStarts v b)
     (λ e. rw (e, readOne) (outcome-as (readWord (bytes v) true) (readOne v w) (λ _. bytes v) (spellOne v w) (λ x. x ≡ true) (λ _. Unit {0}) (λ x h. rw h (tt, refl)) (b ∷ t)
-      (like (λ s. readOne v w s ≡ readWord (bytes v) true s) (λ r. rw (e, readOne))) (readWord (bytes v) true (b ∷ t)) (word-read (bytes v) true (b ∷ t))))
+    (like (λ s. readOne v w s ≡ readWord (bytes v) true s) (λ r. rw (e, readOne))) (readWord (bytes v) true (b ∷ t)) (word-read (bytes v) true (b ∷ t))))
     (λ e. rw (e, readOne) (outcome-as (readWord (bytes w) false) (readOne v w) (λ _. bytes w) (spellOne v w) (λ x. x ≡ false) (λ _. Unit {0}) (λ x h. rw h (tt, refl)) (b ∷ t)
-      (like (λ s. readOne v w s ≡ readWord (bytes w) false s) (λ r. rw (e, readOne))) (readWord (bytes w) false (b ∷ t)) (word-read (bytes w) false (b ∷ t))))
+    (like (λ s. readOne v w s ≡ readWord (bytes w) false s) (λ r. rw (e, readOne))) (readWord (bytes w) false (b ∷ t)) (word-read (bytes w) false (b ∷ t))))
 
 abbrev pub Comes : (f : Form) → List ℕ → Read (Value f) → Type 0
 Comes f = Outcome (read f) (spell f) (Spellable f)

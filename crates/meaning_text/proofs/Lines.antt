@@ -1,17 +1,17 @@
 -- Lines: newlines add up, lines count from 1 and grow with the place, and a beginning of an index text has at most one line for 8 of its bytes, but for the last line.
 -- For the last: every byte pays 1 and a newline costs 8; `credit` says what a form's texts leave of a credit, whatever they say. Assumes nothing.
-use mathlib.Core.Path.{_≡_, refl, sym, ap, _∙_}
+use mathlib.Core.Path.{_≡_, refl, ap, _∙_}
 use mathlib.Core.List.{List, [], _∷_, _++_}
-use mathlib.Core.Bool.{Bool, true, false, cond}
+use mathlib.Core.Bool.{true, false, cond}
 use mathlib.Core.Option.{Option, none, some, bind, bind-eq-some-iff}
-use Prim.Native.Nat.{ℕ, zero, suc, _+_, _*_, _-_, _<_, _≤_, min}
+use Prim.Native.Nat.{ℕ, suc, _+_, _*_, _-_, _<_, _≤_, min}
 use native.Mathlib.Nat.{le-refl, le-trans}
 use native.Mathlib.Omega.{arith}
 use lib.Dec.{eqb, leb}
 use lib.IntN.{ℤ, pos, negsuc}
 use lib.ListN.{length, getD, take, drop}
 use lib.Seq.{take-suc, take-add, take-append-add, length-take-le}
-use borrow.Author.Tests.{eqb-true, eqb-false, ne-eqb, leb-true}
+use borrow.Author.Tests.{ne-eqb, leb-true}
 use Rattle.meaning_text.specs.Bytes.{bytes, newlines}
 use Rattle.meaning_text.specs.Number.{spellℕ, spellℤ}
 use Rattle.meaning_text.specs.Form.{Form, number, oneOf, lead, trail, both, many, Value, spellOne, spellMany, spell}
@@ -115,8 +115,8 @@ word-paid [] c d e = rw (← some-same e) (settled (le-refl c))
 word-paid (b ∷ w) c d e =
     on-flag (eqb b 10)
     (λ t. on-flag (leb 7 c)
-      (λ l. pays (leb-true 7 c l) (word-paid w (c - 7) d (rw (t, creditWord, l) at e)))
-      (λ l. none-some (rw (t, creditWord, l) at e)))
+    (λ l. pays (leb-true 7 c l) (word-paid w (c - 7) d (rw (t, creditWord, l) at e)))
+    (λ l. none-some (rw (t, creditWord, l) at e)))
     (λ t. earns t (word-paid w (suc c) d (rw (t, creditWord) at e)))
 
 digit-paid : (d c : ℕ) → d < 10 → Paid c ((48 + d) ∷ []) (suc c)

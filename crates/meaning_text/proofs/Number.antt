@@ -1,18 +1,18 @@
 -- Numbers: their digits; what is spelled is read back where no digit follows, nothing else is read, and a refusal comes behind a beginning of a spelled number.
 -- By induction on the last digit, and over the digits read so far (`Reach`). Assumes nothing.
-use mathlib.Core.Path.{_≡_, refl, sym, ap, _∙_, subst}
-use mathlib.Core.List.{List, [], _∷_, _++_, append-assoc, append-nil}
-use mathlib.Core.Bool.{Bool, true, false, _&&_}
+use mathlib.Core.Path.{_≡_, refl, sym, _∙_}
+use mathlib.Core.List.{List, [], _∷_, _++_, append-assoc}
+use mathlib.Core.Bool.{true, false, _&&_}
 use mathlib.Core.Logic.{_⊎_, inl, inr, ⊎-elim}
 use Prim.Native.Nat.{ℕ, zero, suc, _+_, _*_, _-_, _/_, _%_, _<_, _≤_, _^_}
 use native.Mathlib.Nat.{one-le-pow, pow-le-pow-right}
 use native.Mathlib.Omega.{arith}
 use lib.Dec.{eqb, ltb, leb}
-use lib.IntN.{ℤ, pos, negsuc, negℤ, natAbs}
-use borrow.Author.Tests.{ltb-true, ltb-false, lt-ltb, le-ltb, leb-true, leb-false, le-leb, eqb-true, eqb-false, ne-eqb}
+use lib.IntN.{ℤ, pos, negsuc, negℤ}
+use borrow.Author.Tests.{ltb-true, ltb-false, lt-ltb, le-ltb, leb-true, le-leb, eqb-true, ne-eqb}
 use Rattle.meaning_text.specs.Number.{digits, spellℕ, spellℤ, Short, Read, got, bad, isDigit, readDigits, readPositive, withSign, readℤ}
 use Rattle.meaning_text.specs.Form.{readWord, thenRead}
-use Rattle.meaning_text.proofs.Reading.{on-flag, and-true, Alike, like, NotNext, Taken, Refused, Outcome, outcome-as, word-read, both-read}
+use Rattle.meaning_text.proofs.Reading.{on-flag, and-true, Alike, like, NotNext, Refused, Outcome, outcome-as, word-read, both-read}
 
 -- ---- digits
 
@@ -112,7 +112,8 @@ reach-more m d k l r =
       all = omega (arith, r .all);
       low = omega (arith, r .low);
       high = omega (arith, r .high);
-      reads = λ t. rw (spell-more m d h l, append-assoc, r .reads, digit-is d l, readDigits, e) }
+      reads = λ t. rw (spell-more m d h l, append-assoc, r .reads, digit-is d l, readDigits, e);
+    }
 
 reach : (n : ℕ) → Positive n → (k : ℕ) × Reach n k
 reach =
@@ -143,10 +144,10 @@ digits-read (suc k) n [] r = record { good = reach-good n (suc k) r; parts = ref
 digits-read (suc k) n (b ∷ t) r =
     on-flag (isDigit b)
     (λ e. let h = is-digit b e in
-      let l : b - 48 < 10 = omega (arith, h .0, h .1) in
-      let c : 48 + (b - 48) ≡ b = omega (arith, h .0) in
-      let p : spellℕ (10 * n + (b - 48)) ++ t ≡ spellℕ n ++ (b ∷ t) = rw (spell-more n (b - 48) (reach-good n (suc k) r .0) l, append-assoc, c) in
-      rw (e, readDigits) (rw p at (digits-read k (10 * n + (b - 48)) t (reach-more n (b - 48) k l r))))
+    let l : b - 48 < 10 = omega (arith, h .0, h .1) in
+    let c : 48 + (b - 48) ≡ b = omega (arith, h .0) in
+    let p : spellℕ (10 * n + (b - 48)) ++ t ≡ spellℕ n ++ (b ∷ t) = rw (spell-more n (b - 48) (reach-good n (suc k) r .0) l, append-assoc, c) in
+    rw (e, readDigits) (rw p at (digits-read k (10 * n + (b - 48)) t (reach-more n (b - 48) k l r))))
     (λ e. rw (e, readDigits) (record { good = reach-good n (suc k) r; parts = refl; steady = like (λ w. readPositive (spellℕ n ++ w) ≡ got n w) (λ w. r .reads (b ∷ w) ∙ digits-stop (suc k) n (b ∷ w) e) }))
 
 positive-read : (t : List ℕ) → Above t (readPositive t)
@@ -155,11 +156,11 @@ positive-read [] = record { before = []; after = spellℕ 1; value = 1; good = (
 positive-read (b ∷ t) =
     on-flag (isDigit b && ltb 48 b)
     (λ e. let h = and-true (isDigit b) (ltb 48 b) e in
-      let g = is-digit b (h .0) in
-      let l : b - 48 < 10 = omega (arith, g .0, g .1) in
-      let a : 0 < b - 48 = omega (arith, ltb-true 48 b (h .1)) in
-      let c : 48 + (b - 48) ≡ b = omega (arith, g .0) in
-      rw (e, readPositive) (rw (spell-one (b - 48) l, c) at (digits-read 17 (b - 48) t (reach-one (b - 48) a l))))
+    let g = is-digit b (h .0) in
+    let l : b - 48 < 10 = omega (arith, g .0, g .1) in
+    let a : 0 < b - 48 = omega (arith, ltb-true 48 b (h .1)) in
+    let c : 48 + (b - 48) ≡ b = omega (arith, g .0) in
+    rw (e, readPositive) (rw (spell-one (b - 48) l, c) at (digits-read 17 (b - 48) t (reach-one (b - 48) a l))))
     (λ e. rw (e, readPositive) (record { before = []; after = spellℕ 1; value = 1; good = (omega arith, omega arith); parts = refl; begun = refl; steady = like (λ w. readPositive w ≡ bad w) (λ w. rw (e, readPositive)) }))
 
 positive-back : (n : ℕ) → Positive n → (t : List ℕ) → NotNext isDigit t → readPositive (spellℕ n ++ t) ≡ got n t
@@ -210,9 +211,9 @@ number-read (b ∷ t) =
     on-flag (eqb b 45)
     (λ e. rw (eqb-true b 45 e) (signed (45 ∷ []) (λ n. negℤ (pos n)) minus-made (45 ∷ t) (like (λ s. readℤ s ≡ thenRead (readWord (45 ∷ []) true s) (λ _ u. withSign (λ n. negℤ (pos n)) (readPositive u))) (λ r. refl))))
     (λ e. on-flag (eqb b 48)
-      (λ f. rw (eqb-true b 48 f) (outcome-as (readWord (48 ∷ []) (pos 0)) readℤ (λ _. 48 ∷ []) spellℤ (λ v. v ≡ pos 0) Short
-        (λ v h. rw h (omega arith, sym (spell-one 0 (omega arith)))) (48 ∷ t) (like (λ s. readℤ s ≡ readWord (48 ∷ []) (pos 0) s) (λ r. refl)) (got (pos 0) t) (word-read (48 ∷ []) (pos 0) (48 ∷ t))))
-      (λ f. rw (read-plain b e f t) (signed [] pos (λ n g. (g .1, refl)) (b ∷ t) (like (λ s. readℤ s ≡ thenRead (readWord [] true s) (λ _ u. withSign pos (readPositive u))) (λ r. read-plain b e f r)))))
+    (λ f. rw (eqb-true b 48 f) (outcome-as (readWord (48 ∷ []) (pos 0)) readℤ (λ _. 48 ∷ []) spellℤ (λ v. v ≡ pos 0) Short
+    (λ v h. rw h (omega arith, sym (spell-one 0 (omega arith)))) (48 ∷ t) (like (λ s. readℤ s ≡ readWord (48 ∷ []) (pos 0) s) (λ r. refl)) (got (pos 0) t) (word-read (48 ∷ []) (pos 0) (48 ∷ t))))
+    (λ f. rw (read-plain b e f t) (signed [] pos (λ n g. (g .1, refl)) (b ∷ t) (like (λ s. readℤ s ≡ thenRead (readWord [] true s) (λ _ u. withSign pos (readPositive u))) (λ r. read-plain b e f r)))))
 
 pub read-spelled-only : (t : List ℕ) (z : ℤ) (u : List ℕ) → readℤ t ≡ got z u → Short z × (t ≡ spellℤ z ++ u)
 read-spelled-only t z u e = let k : Number t (got z u) = rw e at (number-read t) in (k .good, k .parts)

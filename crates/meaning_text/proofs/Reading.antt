@@ -1,9 +1,9 @@
 -- What reading comes to, for any reader: either a value is taken, and what it is spelled as is taken off the text; or what was read begins some spelled value. Whatever stands behind the next byte does not matter.
 -- Readers are put together: a word, one reader after another, one reader many times. Assumes nothing.
-use mathlib.Core.Path.{_≡_, refl, sym, ap, _∙_, subst}
-use mathlib.Core.List.{List, [], _∷_, _++_, append-assoc, append-nil}
+use mathlib.Core.Path.{_≡_, refl, ap, _∙_}
+use mathlib.Core.List.{List, [], _∷_, _++_, append-assoc}
 use mathlib.Core.Bool.{Bool, true, false, _&&_}
-use Prim.Native.Nat.{ℕ, zero, suc, _+_, _<_, _≤_}
+use Prim.Native.Nat.{ℕ, zero, suc, _<_, _≤_}
 use native.Mathlib.Omega.{arith}
 use lib.Dec.{eqb}
 use lib.ListN.{length, length-append}
@@ -112,7 +112,8 @@ module _ {A : Type 0} (w : List ℕ) (a : A) (c : ℕ) where
     good = o .good;
     parts = ap (_∷_ c) (o .parts);
     begun = ap (_∷_ c) (o .begun);
-    steady = λ s l. rw (eq-eqb c c refl, readWord) (o .steady s l) }
+    steady = λ s l. rw (eq-eqb c c refl, readWord) (o .steady s l);
+  }
 
   word-not : (u : List ℕ) → ((s : List ℕ) → Alike u s → readWord (c ∷ w) a s ≡ bad s) → Word (c ∷ w) a u (bad u)
   word-not u h = record { before = []; after = c ∷ w; value = a; good = refl; parts = refl; begun = refl; steady = h }
@@ -148,7 +149,8 @@ module _ {A B C : Type 0} (one : List ℕ → Read A) (spellA : A → List ℕ) 
         record {
           good = m .0;
           parts = rw (m .1) (parted (spellB b) v (o .parts));
-          steady = λ w h. rw (m .1) (second-is (spellB b) w v (o .parts) h ∙ rw (o .steady w h)) }
+          steady = λ w h. rw (m .1) (second-is (spellB b) w v (o .parts) h ∙ rw (o .steady w h));
+        }
     second (bad v) o =
         let m = made a (o .value) (k .good) (o .good) in
         record {
@@ -158,7 +160,8 @@ module _ {A B C : Type 0} (one : List ℕ → Read A) (spellA : A → List ℕ) 
           good = m .0;
           parts = parted (o .before) v (o .parts);
           begun = rw (m .1, append-assoc, o .begun);
-          steady = λ w h. second-is (o .before) w v (o .parts) h ∙ rw (o .steady w h) }
+          steady = λ w h. second-is (o .before) w v (o .parts) h ∙ rw (o .steady w h);
+        }
 
   pub both-read : (x : Read A) → Outcome one spellA GoodA t x → ((a : A) (u : List ℕ) → Taken one spellA GoodA t a u → Outcome two spellB GoodB u (two u)) → Outcome reads spellC GoodC t (thenRead x next)
   unfolding thenRead
@@ -172,7 +175,8 @@ module _ {A B C : Type 0} (one : List ℕ → Read A) (spellA : A → List ℕ) 
         good = m .0;
         parts = o .parts;
         begun = rw (m .1, ← o .begun, append-assoc);
-        steady = λ w h. agree (o .before ++ w) (alike-from (o .before) (o .parts) h) ∙ rw (o .steady w h) }
+        steady = λ w h. agree (o .before ++ w) (alike-from (o .before) (o .parts) h) ∙ rw (o .steady w h);
+      }
 
 -- ---- one reader many times
 
@@ -230,8 +234,8 @@ module _ {A : Type 0} (begins : ℕ → Bool) (one : List ℕ → Read A) (spell
   many-to (suc k) (b ∷ t) h =
       on-flag (begins b)
       (λ e. rw (many-more b t e)
-        (both-read one spells Good (readAll begins one) (spellMany spells) (Each Good) (readAll begins one) (spellMany spells) (Each Good) _∷_ (λ a l g i. (more g i, refl)) ([], end) next (λ a u. refl) (b ∷ t)
-          (like (λ s. readAll begins one s ≡ thenRead (one s) next) (λ r. many-more b r e)) (one (b ∷ t)) (read-one (b ∷ t)) (λ a u o. many-to k u (omega (arith, shorter (b ∷ t) u a o)))))
+      (both-read one spells Good (readAll begins one) (spellMany spells) (Each Good) (readAll begins one) (spellMany spells) (Each Good) _∷_ (λ a l g i. (more g i, refl)) ([], end) next (λ a u. refl) (b ∷ t)
+      (like (λ s. readAll begins one s ≡ thenRead (one s) next) (λ r. many-more b r e)) (one (b ∷ t)) (read-one (b ∷ t)) (λ a u o. many-to k u (omega (arith, shorter (b ∷ t) u a o)))))
       (λ e. rw (many-end (b ∷ t) e) (record { good = end; parts = refl; steady = like (λ s. readAll begins one s ≡ got [] s) (λ r. many-end (b ∷ r) e) }))
 
   pub many-read : (t : List ℕ) → Outcome (readAll begins one) (spellMany spells) (Each Good) t (readAll begins one t)

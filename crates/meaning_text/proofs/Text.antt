@@ -2,8 +2,7 @@
 -- A refusal does not depend on what stands behind the bad byte (`Form`), so no text in the form goes on with it. Assumes nothing.
 use mathlib.Core.Path.{_≡_, refl, sym, ap, _∙_}
 use mathlib.Core.List.{List, [], _∷_, _++_, append-assoc, append-nil}
-use mathlib.Core.Bool.{Bool, true, false}
-use mathlib.Core.Logic.{_⊎_, inl, inr, ⊎-elim}
+use mathlib.Core.Bool.{true}
 use Prim.Native.Nat.{ℕ, zero, suc, _+_, _-_, _<_, _≤_}
 use native.Mathlib.Omega.{arith}
 use lib.Dec.{ltb}
@@ -13,7 +12,7 @@ use borrow.Author.Tests.{ltb-true, ltb-false}
 use Rattle.meaning_text.specs.Number.{Read, got, bad}
 use Rattle.meaning_text.specs.Form.{Form, Value, spell, Spellable, read}
 use Rattle.meaning_text.specs.Read.{Verdict, fine, unfit, ended, readText, Viable, Longest}
-use Rattle.meaning_text.proofs.Reading.{on-flag, Alike, alike, Taken, Refused}
+use Rattle.meaning_text.proofs.Reading.{on-flag, Alike, alike}
 use Rattle.meaning_text.proofs.Form.{decided, Comes, form-read, spelled-read, read-spelled-only, refused-viable}
 
 -- two places that both end the longest beginning are the same
@@ -22,8 +21,8 @@ longest-only f t m n a b =
     on-flag (ltb m n)
     (λ e. absurd (a .longest n (ltb-true m n e) (b .inside) (b .viable)))
     (λ e. on-flag (ltb n m)
-      (λ g. absurd (b .longest m (ltb-true n m g) (a .inside) (a .viable)))
-      (λ g. omega (arith, ltb-false m n e, ltb-false n m g)))
+    (λ g. absurd (b .longest m (ltb-true n m g) (a .inside) (a .viable)))
+    (λ g. omega (arith, ltb-false m n e, ltb-false n m g)))
 
 fine-same : {A : Type 0} {v w : A} → fine v ≡ fine w → v ≡ w
 fine-same e = cc
@@ -57,9 +56,10 @@ module _ (f : Form) (t p u : List ℕ) (parts : t ≡ p ++ u) (viable : Viable f
         inside = omega arith;
         viable = rw (parts, take-at p u (length p) refl) viable;
         longest = λ m a b s.
-          let k : m ≡ length p + (m - length p) = omega arith in
-          let c : take m t ≡ p ++ take (m - length p) u = rw parts (ap (λ (j : ℕ). take j (p ++ u)) k ∙ take-append-add p u (m - length p)) in
-          longer u refl (m - length p) (omega arith) (omega (arith, simp length-append at (ap length parts))) (rw c at s) })
+            let k : m ≡ length p + (m - length p) = omega arith in
+            let c : take m t ≡ p ++ take (m - length p) u = rw parts (ap (λ (j : ℕ). take j (p ++ u)) k ∙ take-append-add p u (m - length p)) in
+            longer u refl (m - length p) (omega arith) (omega (arith, simp length-append at (ap length parts))) (rw c at s);
+      })
 
 module _ (f : Form) (decides : decided f ≡ true) where
   read-whole : (v : Value f) → Spellable f v → read f (spell f v) ≡ got v []
@@ -89,10 +89,10 @@ module _ (f : Form) (decides : decided f ≡ true) where
   stopped t (got a []) n o e = unfit-fine (sym e)
   stopped t (got a (b ∷ u)) n o e =
       rw (← unfit-same e) (longest-at f t (spell f a) (b ∷ u) (o .parts) ([], a, o .good, append-nil (spell f a))
-        (λ w l v g s. let z : got a w ≡ got v [] = sym (o .steady w l) ∙ ap (read f) s ∙ read-whole v g in not-empty l (rest-same z)))
+      (λ w l v g s. let z : got a w ≡ got v [] = sym (o .steady w l) ∙ ap (read f) s ∙ read-whole v g in not-empty l (rest-same z)))
   stopped t (bad u) n o e =
       rw (← unfit-same e) (longest-at f t (o .before) u (o .parts) (refused-viable f t u o)
-        (λ w l v g s. got-bad (sym (o .steady w l) ∙ ap (read f) s ∙ read-whole v g)))
+      (λ w l v g s. got-bad (sym (o .steady w l) ∙ ap (read f) s ∙ read-whole v g)))
 
   -- 01, Text: the first bad byte
   pub first-bad : (t : List ℕ) (n : ℕ) → readText f t ≡ unfit n → Longest f t n

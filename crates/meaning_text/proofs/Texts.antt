@@ -1,15 +1,14 @@
 -- The forms of document 01 are decided by the next byte, so the laws of whole texts hold of each. An index read and written again is the same text, and an index written and read again is the same index where its rows are laid end to end. Assumes nothing.
 use mathlib.Core.Path.{_≡_, refl, sym, ap, _∙_}
-use mathlib.Core.List.{List, [], _∷_, _++_, append-assoc, append-nil, map}
-use mathlib.Core.Bool.{Bool, true, false}
-use Prim.Native.Nat.{ℕ, zero, suc, _+_, _-_, _<_, _≤_}
+use mathlib.Core.List.{List, [], _∷_, _++_, append-assoc, map}
+use Prim.Native.Nat.{ℕ, _+_, _≤_}
 use native.Mathlib.Omega.{arith}
 use lib.IntN.{ℤ}
 use lib.ListN.{length, take, drop, take-append-drop, length-append, length-take, length-drop}
-use lib.Seq.{take-at, drop-at, drop-append-seam, take-append-seam, drop-length, drop-drop, length-take-le}
+use lib.Seq.{drop-append-seam, take-append-seam, drop-length, drop-drop}
 use Rattle.meaning_rows.specs.Index.{Index, Entry, RangeRow, records, allRuns, laidOut, rangeRow, rangeRows}
 use Rattle.meaning_rows.specs.declared.Row.{Row}
-use Rattle.meaning_text.specs.Form.{Form, Value, Spellable, spell}
+use Rattle.meaning_text.specs.Form.{Value, Spellable}
 use Rattle.meaning_text.specs.Read.{fine, readText}
 use Rattle.meaning_text.specs.Texts.{indexForm, seriesForm, findForm, programForm, foundForm, refusedForm, rowForm, rowSaid, sayRow, indexSaid, sayIndex, indexText}
 use Rattle.meaning_text.proofs.Open.{openText}
@@ -116,3 +115,8 @@ laid-end k n (r ∷ l) e = next (laid-end (k + length (r .runs)) n l (omega (ari
 pub index-again : (t : List ℕ) (v : Value indexForm) → readText indexForm t ≡ fine v → indexText (indexSaid v) ≡ t
 unfolding indexText
 index-again t v e = rw say-said (sym (index-laws .reads-only t v e .1))
+
+-- an index that is written is read again
+pub index-back : (x : Index) → Spellable indexForm (sayIndex x) → readText indexForm (indexText x) ≡ fine (sayIndex x)
+unfolding indexText
+index-back x g = index-laws .reads-back (sayIndex x) g
