@@ -15,7 +15,7 @@ use Rattle.meaning_text.specs.Bytes.{bytes}
 use Rattle.meaning_text.specs.Number.{spellℤ, Read, got, bad, isDigit}
 use Rattle.meaning_text.specs.Form.{Form, number, oneOf, lead, trail, both, many, Value, spellOne, spellMany, spell, end, Spellable, readWord, thenRead, wordStarts, starts, readOne, read}
 use Rattle.meaning_text.specs.Read.{Viable}
-use Rattle.meaning_text.proofs.Reading.{on-flag, false-true, and-true, like, NotNext, Begun, begun, begun-before, begun-as, begun-not, Refused, Outcome, outcome-as, word-back, word-read, both-read, many-read, many-back}
+use Rattle.meaning_text.proofs.Reading.{on-flag, false-true, and-true, like, NotNext, Begun, begun, begun-before, begun-as, begun-not, Reader, Taken, Refused, Outcome, refused-here, outcome-as, theWord, word-back, word-read, both-read, many-read, many-back}
 use Rattle.meaning_text.proofs.Number.{leading, is-digit, digit-is, read-spelled, number-read}
 
 -- ---- where the next byte decides
@@ -198,34 +198,37 @@ word-then [] a t = refl
 word-then (c ∷ w) a [] = refl
 word-then (c ∷ w) a (b ∷ t) = on-flag (eqb b c) (λ e. rw (e, readWord) (word-then w a t)) (λ e. rw (e, readWord))
 
-one-read : (v w : String) (t : List ℕ) → Outcome (readOne v w) (spellOne v w) (λ _. Unit {0}) t (readOne v w t)
+abbrev oneWord : String → String → Reader Bool
+oneWord v w = record { reads = readOne v w; spells = spellOne v w; Good = λ _. Unit {0} }
+
+one-read : (v w : String) (t : List ℕ) → Outcome (oneWord v w) t (readOne v w t)
 unfolding readOne spellOne
-one-read v w [] = record { before = []; after = bytes v; value = true; good = tt; parts = refl; begun = refl; steady = λ w l. elim l [ ] }
+one-read v w [] = refused-here (oneWord v w) true tt [] (λ w l. elim l [ ])
 one-read v w (b ∷ t) =
     on-flag (wordStarts v b)
-    (λ e. rw (e, readOne) (outcome-as (readWord (bytes v) true) (readOne v w) (λ _. bytes v) (spellOne v w) (λ x. x ≡ true) (λ _. Unit {0}) (λ x h. rw h (tt, refl)) (b ∷ t)
-    (like (λ s. readOne v w s ≡ readWord (bytes v) true s) (λ r. rw (e, readOne))) (readWord (bytes v) true (b ∷ t)) (word-read (bytes v) true (b ∷ t))))
-    (λ e. rw (e, readOne) (outcome-as (readWord (bytes w) false) (readOne v w) (λ _. bytes w) (spellOne v w) (λ x. x ≡ false) (λ _. Unit {0}) (λ x h. rw h (tt, refl)) (b ∷ t)
-    (like (λ s. readOne v w s ≡ readWord (bytes w) false s) (λ r. rw (e, readOne))) (readWord (bytes w) false (b ∷ t)) (word-read (bytes w) false (b ∷ t))))
+    (λ e. rw (e, readOne)
+    (outcome-as (theWord (bytes v) true) (oneWord v w) (λ x h. rw h (tt, refl)) (b ∷ t) (like (λ s. readOne v w s ≡ readWord (bytes v) true s) (λ r. rw (e, readOne))) (readWord (bytes v) true (b ∷ t)) (word-read (bytes v) true (b ∷ t))))
+    (λ e. rw (e, readOne)
+    (outcome-as (theWord (bytes w) false) (oneWord v w) (λ x h. rw h (tt, refl)) (b ∷ t) (like (λ s. readOne v w s ≡ readWord (bytes w) false s) (λ r. rw (e, readOne))) (readWord (bytes w) false (b ∷ t)) (word-read (bytes w) false (b ∷ t))))
 
-abbrev pub Comes : (f : Form) → List ℕ → Read (Value f) → Type 0
-Comes f = Outcome (read f) (spell f) (Spellable f)
+abbrev pub theForm : (f : Form) → Reader (Value f)
+theForm f = record { reads = read f; spells = spell f; Good = Spellable f }
 
-pub form-read : (f : Form) → decided f ≡ true → (t : List ℕ) → Comes f t (read f t)
+pub form-read : (f : Form) → decided f ≡ true → (t : List ℕ) → Outcome (theForm f) t (read f t)
 unfolding read spell
 form-read number d t = number-read t
 form-read (oneOf v w) d t = one-read v w t
 form-read (lead w f) d t =
-    both-read (readWord (bytes w) true) (λ _. bytes w) (λ x. x ≡ true) (read f) (spell f) (Spellable f) (read (lead w f)) (spell (lead w f)) (Spellable f) (λ _ x. x) (λ _ x _ g. (g, refl)) (some-value f)
-    (λ _ u. read f u) (λ _ u. then-got (read f u)) t (λ s l. refl) (readWord (bytes w) true t) (word-read (bytes w) true t) (λ _ u _. form-read f (lead-parts w f d .1) u)
+    both-read (theWord (bytes w) true) (theForm f) (theForm (lead w f)) (λ _ x. x) (λ _ x _ g. (g, refl)) (some-value f) (λ _ u. read f u) (λ _ u. then-got (read f u)) t (λ s l. refl)
+    (readWord (bytes w) true t) (word-read (bytes w) true t) (λ _ u _. form-read f (lead-parts w f d .1) u)
 form-read (trail f w) d t =
-    both-read (read f) (spell f) (Spellable f) (readWord (bytes w) true) (λ _. bytes w) (λ x. x ≡ true) (read (trail f w)) (spell (trail f w)) (Spellable f) (λ x _. x) (λ x _ g _. (g, refl)) (true, refl)
-    (λ x u. readWord (bytes w) x u) (λ x u. word-then (bytes w) x u) t (λ s l. refl) (read f t) (form-read f (trail-parts f w d .0) t) (λ _ u _. word-read (bytes w) true u)
+    both-read (theForm f) (theWord (bytes w) true) (theForm (trail f w)) (λ x _. x) (λ x _ g _. (g, refl)) (true, refl) (λ x u. readWord (bytes w) x u) (λ x u. word-then (bytes w) x u) t (λ s l. refl)
+    (read f t) (form-read f (trail-parts f w d .0) t) (λ _ u _. word-read (bytes w) true u)
 form-read (both f g) d t =
     let s = both-parts f g d in
-    both-read (read f) (spell f) (Spellable f) (read g) (spell g) (Spellable g) (read (both f g)) (spell (both f g)) (Spellable (both f g)) (λ x y. (x, y)) (λ x y i j. ((i, j), refl)) (some-value g)
-    (λ x u. thenRead (read g u) (λ y v. got (x, y) v)) (λ x u. refl) t (λ s l. refl) (read f t) (form-read f (s .0) t) (λ _ u _. form-read g (s .1) u)
-form-read (many f) d t = let s = many-parts f d in many-read (starts f) (read f) (spell f) (Spellable f) (form-read f (s .0)) (λ v g. firm-begun f (s .0) (s .1) v) t
+    both-read (theForm f) (theForm g) (theForm (both f g)) (λ x y. (x, y)) (λ x y i j. ((i, j), refl)) (some-value g) (λ x u. thenRead (read g u) (λ y v. got (x, y) v)) (λ x u. refl) t (λ s l. refl)
+    (read f t) (form-read f (s .0) t) (λ _ u _. form-read g (s .1) u)
+form-read (many f) d t = let s = many-parts f d in many-read (starts f) (theForm f) (form-read f (s .0)) (λ v g. firm-begun f (s .0) (s .1) v) t
 
 -- ---- what is spelled is read back
 
@@ -264,15 +267,15 @@ spelled-read (both f g) d v i t h =
 spelled-read (many f) d v g t h =
     let s = many-parts f d in
     let n = not-or (starts f) (follows f) t h in
-    many-back (starts f) (read f) (spell f) (Spellable f) (form-read f (s .0)) (λ v g. firm-begun f (s .0) (s .1) v) (follows f) (spelled-read f (s .0)) (λ b e. clear-first (follows f) f b (s .2) e) v g t (n .1) (n .0)
+    many-back (starts f) (theForm f) (form-read f (s .0)) (λ v g. firm-begun f (s .0) (s .1) v) (follows f) (spelled-read f (s .0)) (λ b e. clear-first (follows f) f b (s .2) e) v g t (n .1) (n .0)
 
 -- ---- nothing else is read, and where a refusal comes
 
 pub read-spelled-only : (f : Form) → decided f ≡ true → (t : List ℕ) (v : Value f) (u : List ℕ) → read f t ≡ got v u → Spellable f v × (t ≡ spell f v ++ u)
-read-spelled-only f d t v u e = let k : Comes f t (got v u) = rw e at (form-read f d t) in (k .good, k .parts)
+read-spelled-only f d t v u e = let k : Taken (theForm f) t v u = rw e at (form-read f d t) in (k .good, k .parts)
 
-pub read-refused : (f : Form) → decided f ≡ true → (t u : List ℕ) → read f t ≡ bad u → Refused (read f) (spell f) (Spellable f) t u
+pub read-refused : (f : Form) → decided f ≡ true → (t u : List ℕ) → read f t ≡ bad u → Refused (theForm f) t u
 read-refused f d t u e = rw e at (form-read f d t)
 
-pub refused-viable : (f : Form) (t u : List ℕ) (k : Refused (read f) (spell f) (Spellable f) t u) → Viable f (k .before)
-refused-viable f t u k = (k .after, k .value, k .good, k .begun)
+pub refused-viable : (f : Form) (t u : List ℕ) (k : Refused (theForm f) t u) → Viable f (k .before)
+refused-viable f t u k = (k .after, k .value, k .good, k .begins)

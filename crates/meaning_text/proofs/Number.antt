@@ -12,7 +12,7 @@ use lib.IntN.{ℤ, pos, negsuc, negℤ}
 use borrow.Author.Tests.{ltb-true, ltb-false, lt-ltb, le-ltb, leb-true, le-leb, eqb-true, ne-eqb}
 use Rattle.meaning_text.specs.Number.{digits, spellℕ, spellℤ, Short, Read, got, bad, isDigit, readDigits, readPositive, withSign, readℤ}
 use Rattle.meaning_text.specs.Form.{readWord, thenRead}
-use Rattle.meaning_text.proofs.Reading.{on-flag, and-true, Alike, like, NotNext, Refused, Outcome, outcome-as, word-read, both-read}
+use Rattle.meaning_text.proofs.Reading.{on-flag, and-true, Alike, like, NotNext, Reader, Taken, Refused, Outcome, refused-here, outcome-as, theWord, word-read, both-read}
 
 -- ---- digits
 
@@ -134,10 +134,10 @@ digits-stop zero n t h = refl
 digits-stop (suc k) n [] h = refl
 digits-stop (suc k) n (b ∷ t) h = rw (h, readDigits)
 
-abbrev Above : List ℕ → Read ℕ → Type 0
-Above = Outcome readPositive spellℕ Positive
+abbrev above : Reader ℕ
+above = record { reads = readPositive; spells = spellℕ; Good = Positive }
 
-digits-read : (k n : ℕ) (t : List ℕ) → Reach n k → Above (spellℕ n ++ t) (readDigits k n t)
+digits-read : (k n : ℕ) (t : List ℕ) → Reach n k → Outcome above (spellℕ n ++ t) (readDigits k n t)
 unfolding readDigits
 digits-read zero n t r = record { good = reach-good n zero r; parts = refl; steady = λ w l. r .reads w }
 digits-read (suc k) n [] r = record { good = reach-good n (suc k) r; parts = refl; steady = λ w l. elim l [ ] }
@@ -150,9 +150,12 @@ digits-read (suc k) n (b ∷ t) r =
     rw (e, readDigits) (rw p at (digits-read k (10 * n + (b - 48)) t (reach-more n (b - 48) k l r))))
     (λ e. rw (e, readDigits) (record { good = reach-good n (suc k) r; parts = refl; steady = like (λ w. readPositive (spellℕ n ++ w) ≡ got n w) (λ w. r .reads (b ∷ w) ∙ digits-stop (suc k) n (b ∷ w) e) }))
 
-positive-read : (t : List ℕ) → Above t (readPositive t)
+positive-not : (t : List ℕ) → ((w : List ℕ) → Alike t w → readPositive w ≡ bad w) → Refused above t t
+positive-not t h = refused-here above 1 (omega arith, omega arith) t h
+
+positive-read : (t : List ℕ) → Outcome above t (readPositive t)
 unfolding readPositive
-positive-read [] = record { before = []; after = spellℕ 1; value = 1; good = (omega arith, omega arith); parts = refl; begun = refl; steady = λ w l. elim l [ ] }
+positive-read [] = positive-not [] (λ w l. elim l [ ])
 positive-read (b ∷ t) =
     on-flag (isDigit b && ltb 48 b)
     (λ e. let h = and-true (isDigit b) (ltb 48 b) e in
@@ -161,7 +164,7 @@ positive-read (b ∷ t) =
     let a : 0 < b - 48 = omega (arith, ltb-true 48 b (h .1)) in
     let c : 48 + (b - 48) ≡ b = omega (arith, g .0) in
     rw (e, readPositive) (rw (spell-one (b - 48) l, c) at (digits-read 17 (b - 48) t (reach-one (b - 48) a l))))
-    (λ e. rw (e, readPositive) (record { before = []; after = spellℕ 1; value = 1; good = (omega arith, omega arith); parts = refl; begun = refl; steady = like (λ w. readPositive w ≡ bad w) (λ w. rw (e, readPositive)) }))
+    (λ e. rw (e, readPositive) (positive-not (b ∷ t) (like (λ w. readPositive w ≡ bad w) (λ w. rw (e, readPositive)))))
 
 positive-back : (n : ℕ) → Positive n → (t : List ℕ) → NotNext isDigit t → readPositive (spellℕ n ++ t) ≡ got n t
 positive-back n h t f = let r = reach n h in r .1 .reads t ∙ digits-stop (r .0) n t f
@@ -188,14 +191,17 @@ read-spelled (pos (suc n)) h t f =
     e ∙ rw (positive-back (suc n) (omega arith, h) t f)
 read-spelled (negsuc n) h t f = rw (positive-back (suc n) (omega arith, h) t f)
 
-abbrev pub Number : List ℕ → Read ℤ → Type 0
-Number = Outcome readℤ spellℤ Short
+abbrev pub theNumber : Reader ℤ
+theNumber = record { reads = readℤ; spells = spellℤ; Good = Short }
 
 -- a sign, as a word, before a number above 0
+abbrev signThen : List ℕ → (ℕ → ℤ) → List ℕ → Read ℤ
+signThen sign f t = thenRead (readWord sign true t) (λ _ u. withSign f (readPositive u))
+
 module _ (sign : List ℕ) (f : ℕ → ℤ) (made : (n : ℕ) → Positive n → Short (f n) × (spellℤ (f n) ≡ sign ++ spellℕ n)) where
-  signed : (t : List ℕ) → ((s : List ℕ) → Alike t s → readℤ s ≡ thenRead (readWord sign true s) (λ _ u. withSign f (readPositive u))) → Number t (thenRead (readWord sign true t) (λ _ u. withSign f (readPositive u)))
+  signed : (t : List ℕ) → ((s : List ℕ) → Alike t s → readℤ s ≡ signThen sign f s) → Outcome theNumber t (signThen sign f t)
   signed t agree =
-      both-read (readWord sign true) (λ _. sign) (λ v. v ≡ true) readPositive spellℕ Positive readℤ spellℤ Short (λ _ n. f n) (λ _ n _ g. made n g) (1, (omega arith, omega arith))
+      both-read (theWord sign true) above theNumber (λ _ n. f n) (λ _ n _ g. made n g) (1, (omega arith, omega arith))
       (λ _ u. withSign f (readPositive u)) (λ _ u. sign-then f (readPositive u)) t agree (readWord sign true t) (word-read sign true t) (λ _ u _. positive-read u)
 
 minus-made : (n : ℕ) → Positive n → Short (negℤ (pos n)) × (spellℤ (negℤ (pos n)) ≡ 45 ∷ spellℕ n)
@@ -204,19 +210,20 @@ minus-made zero h = absurd (omega arith)
 minus-made (suc n) h = (h .1, refl)
 
 -- nothing else is read, and a refusal comes behind the beginning of a spelled number
-pub number-read : (t : List ℕ) → Number t (readℤ t)
+pub number-read : (t : List ℕ) → Outcome theNumber t (readℤ t)
 unfolding readℤ readWord thenRead spellℤ
-number-read [] = record { before = []; after = spellℤ (pos 0); value = pos 0; good = omega arith; parts = refl; begun = refl; steady = λ w l. elim l [ ] }
+number-read [] = refused-here theNumber (pos 0) (omega arith) [] (λ w l. elim l [ ])
 number-read (b ∷ t) =
     on-flag (eqb b 45)
-    (λ e. rw (eqb-true b 45 e) (signed (45 ∷ []) (λ n. negℤ (pos n)) minus-made (45 ∷ t) (like (λ s. readℤ s ≡ thenRead (readWord (45 ∷ []) true s) (λ _ u. withSign (λ n. negℤ (pos n)) (readPositive u))) (λ r. refl))))
+    (λ e. rw (eqb-true b 45 e) (signed (45 ∷ []) (λ n. negℤ (pos n)) minus-made (45 ∷ t) (like (λ s. readℤ s ≡ signThen (45 ∷ []) (λ n. negℤ (pos n)) s) (λ r. refl))))
     (λ e. on-flag (eqb b 48)
-    (λ f. rw (eqb-true b 48 f) (outcome-as (readWord (48 ∷ []) (pos 0)) readℤ (λ _. 48 ∷ []) spellℤ (λ v. v ≡ pos 0) Short
-    (λ v h. rw h (omega arith, sym (spell-one 0 (omega arith)))) (48 ∷ t) (like (λ s. readℤ s ≡ readWord (48 ∷ []) (pos 0) s) (λ r. refl)) (got (pos 0) t) (word-read (48 ∷ []) (pos 0) (48 ∷ t))))
-    (λ f. rw (read-plain b e f t) (signed [] pos (λ n g. (g .1, refl)) (b ∷ t) (like (λ s. readℤ s ≡ thenRead (readWord [] true s) (λ _ u. withSign pos (readPositive u))) (λ r. read-plain b e f r)))))
+    (λ f. rw (eqb-true b 48 f)
+    (outcome-as (theWord (48 ∷ []) (pos 0)) theNumber (λ v h. rw h (omega arith, sym (spell-one 0 (omega arith)))) (48 ∷ t)
+    (like (λ s. readℤ s ≡ readWord (48 ∷ []) (pos 0) s) (λ r. refl)) (got (pos 0) t) (word-read (48 ∷ []) (pos 0) (48 ∷ t))))
+    (λ f. rw (read-plain b e f t) (signed [] pos (λ n g. (g .1, refl)) (b ∷ t) (like (λ s. readℤ s ≡ signThen [] pos s) (λ r. read-plain b e f r)))))
 
 pub read-spelled-only : (t : List ℕ) (z : ℤ) (u : List ℕ) → readℤ t ≡ got z u → Short z × (t ≡ spellℤ z ++ u)
-read-spelled-only t z u e = let k : Number t (got z u) = rw e at (number-read t) in (k .good, k .parts)
+read-spelled-only t z u e = let k : Taken theNumber t z u = rw e at (number-read t) in (k .good, k .parts)
 
-pub read-refused : (t u : List ℕ) → readℤ t ≡ bad u → Refused readℤ spellℤ Short t u
+pub read-refused : (t u : List ℕ) → readℤ t ≡ bad u → Refused theNumber t u
 read-refused t u e = rw e at (number-read t)

@@ -59,50 +59,68 @@ begun-not h (begun {b = b} e) = h b e
 begun-long : {p : ℕ → Bool} {s : List ℕ} → Begun p s → 0 < length s
 begun-long (begun e) = omega arith
 
-module _ {A : Type 0} (reads : List ℕ → Read A) (spells : A → List ℕ) (Good : A → Type 0) where
+-- a reader, and what it is to read
+pub record Reader (A : Type 0) : Type 1 where
+  pub reads : List ℕ → Read A
+  pub spells : A → List ℕ
+  pub Good : A → Type 0
+
+module _ {A : Type 0} (R : Reader A) where
   -- reading t takes v and leaves u
   pub record Taken (t : List ℕ) (v : A) (u : List ℕ) : Type 0 where
-    pub good : Good v
-    pub parts : t ≡ spells v ++ u
-    pub steady : (w : List ℕ) → Alike u w → reads (spells v ++ w) ≡ got v w
+    pub good : R .Good v
+    pub parts : t ≡ R .spells v ++ u
+    pub steady : (w : List ℕ) → Alike u w → R .reads (R .spells v ++ w) ≡ got v w
 
   -- reading t is bad at u
   pub record Refused (t u : List ℕ) : Type 0 where
     pub before : List ℕ
     pub after : List ℕ
     pub value : A
-    pub good : Good value
+    pub good : R .Good value
     pub parts : t ≡ before ++ u
-    pub begun : before ++ after ≡ spells value
-    pub steady : (w : List ℕ) → Alike u w → reads (before ++ w) ≡ bad w
+    pub begins : before ++ after ≡ R .spells value
+    pub steady : (w : List ℕ) → Alike u w → R .reads (before ++ w) ≡ bad w
 
   abbrev pub Outcome : List ℕ → Read A → Type 0
   Outcome t (got v u) = Taken t v u
   Outcome t (bad u) = Refused t u
 
+  -- bad at once
+  pub refused-here : (v : A) → R .Good v → (t : List ℕ) → ((w : List ℕ) → Alike t w → R .reads w ≡ bad w) → Refused t t
+  refused-here v g t h = record { before = []; after = R .spells v; value = v; good = g; parts = refl; begins = refl; steady = h }
+
 -- a reader that agrees with another on all texts like t
-module _ {A : Type 0} (reads reads′ : List ℕ → Read A) (spells spells′ : A → List ℕ) (Good Good′ : A → Type 0) (same : (v : A) → Good v → Good′ v × (spells v ≡ spells′ v)) (t : List ℕ) (agree : (s : List ℕ) → Alike t s → reads′ s ≡ reads s) where
-  pub outcome-as : (x : Read A) → Outcome reads spells Good t x → Outcome reads′ spells′ Good′ t x
+module _ {A : Type 0} (R S : Reader A) (same : (v : A) → R .Good v → S .Good v × (R .spells v ≡ S .spells v)) (t : List ℕ) (agree : (s : List ℕ) → Alike t s → S .reads s ≡ R .reads s) where
+  pub outcome-as : (x : Read A) → Outcome R t x → Outcome S t x
   outcome-as (got v u) o =
       let e = same v (o .good) in
-      let p : t ≡ spells′ v ++ u = rw (← e .1) (o .parts) in
-      record { good = e .0; parts = p; steady = λ w a. agree (spells′ v ++ w) (alike-from (spells′ v) p a) ∙ rw (← e .1) (o .steady w a) }
+      let p : t ≡ S .spells v ++ u = rw (← e .1) (o .parts) in
+      record { good = e .0; parts = p; steady = λ w a. agree (S .spells v ++ w) (alike-from (S .spells v) p a) ∙ rw (← e .1) (o .steady w a) }
   outcome-as (bad u) o =
       let e = same (o .value) (o .good) in
-      record { before = o .before; after = o .after; value = o .value; good = e .0; parts = o .parts; begun = o .begun ∙ e .1; steady = λ w a. agree (o .before ++ w) (alike-from (o .before) (o .parts) a) ∙ o .steady w a }
+      record {
+        before = o .before;
+        after = o .after;
+        value = o .value;
+        good = e .0;
+        parts = o .parts;
+        begins = o .begins ∙ e .1;
+        steady = λ w a. agree (o .before ++ w) (alike-from (o .before) (o .parts) a) ∙ o .steady w a;
+      }
 
 -- ---- a word
+
+abbrev pub theWord : {A : Type 0} → List ℕ → A → Reader A
+theWord w a = record { reads = readWord w a; spells = λ _. w; Good = λ v. v ≡ a }
 
 pub word-back : {A : Type 0} (w : List ℕ) (a : A) (t : List ℕ) → readWord w a (w ++ t) ≡ got a t
 unfolding readWord
 word-back [] a t = refl
 word-back (c ∷ w) a t = rw (eq-eqb c c refl, readWord) (word-back w a t)
 
-abbrev pub Word : {A : Type 0} → List ℕ → A → List ℕ → Read A → Type 0
-Word w a = Outcome (readWord w a) (λ _. w) (λ v. v ≡ a)
-
 module _ {A : Type 0} (w : List ℕ) (a : A) (c : ℕ) where
-  word-more : (t : List ℕ) (x : Read A) → Word w a t x → Word (c ∷ w) a (c ∷ t) x
+  word-more : (t : List ℕ) (x : Read A) → Outcome (theWord w a) t x → Outcome (theWord (c ∷ w) a) (c ∷ t) x
   unfolding readWord
   word-more t (got v u) o = record { good = o .good; parts = ap (_∷_ c) (o .parts); steady = λ s l. rw (eq-eqb c c refl, readWord) (o .steady s l) }
   word-more t (bad u) o = record {
@@ -111,70 +129,72 @@ module _ {A : Type 0} (w : List ℕ) (a : A) (c : ℕ) where
     value = o .value;
     good = o .good;
     parts = ap (_∷_ c) (o .parts);
-    begun = ap (_∷_ c) (o .begun);
+    begins = ap (_∷_ c) (o .begins);
     steady = λ s l. rw (eq-eqb c c refl, readWord) (o .steady s l);
   }
 
-  word-not : (u : List ℕ) → ((s : List ℕ) → Alike u s → readWord (c ∷ w) a s ≡ bad s) → Word (c ∷ w) a u (bad u)
-  word-not u h = record { before = []; after = c ∷ w; value = a; good = refl; parts = refl; begun = refl; steady = h }
-
-pub word-read : {A : Type 0} (w : List ℕ) (a : A) (t : List ℕ) → Word w a t (readWord w a t)
+pub word-read : {A : Type 0} (w : List ℕ) (a : A) (t : List ℕ) → Outcome (theWord w a) t (readWord w a t)
 unfolding readWord
 word-read [] a t = record { good = refl; parts = refl; steady = λ s l. refl }
-word-read (c ∷ w) a [] = word-not w a c [] (λ s l. elim l [ ])
+word-read (c ∷ w) a [] = refused-here (theWord (c ∷ w) a) a refl [] (λ s l. elim l [ ])
 word-read (c ∷ w) a (b ∷ t) =
     on-flag (eqb b c)
     (λ e. rw (e, readWord) (rw (eqb-true b c e) (word-more w a c t (readWord w a t) (word-read w a t))))
-    (λ e. rw (e, readWord) (word-not w a c (b ∷ t) (like (λ s. readWord (c ∷ w) a s ≡ bad s) (λ r. rw (e, readWord)))))
+    (λ e. rw (e, readWord) (refused-here (theWord (c ∷ w) a) a refl (b ∷ t) (like (λ s. readWord (c ∷ w) a s ≡ bad s) (λ r. rw (e, readWord)))))
 
 -- ---- one reader after another
 
-module _ {A B C : Type 0} (one : List ℕ → Read A) (spellA : A → List ℕ) (GoodA : A → Type 0) (two : List ℕ → Read B) (spellB : B → List ℕ) (GoodB : B → Type 0) (reads : List ℕ → Read C) (spellC : C → List ℕ) (GoodC : C → Type 0) (make : A → B → C) (made : (a : A) (b : B) → GoodA a → GoodB b → GoodC (make a b) × (spellC (make a b) ≡ spellA a ++ spellB b)) (some : (b : B) × GoodB b) (next : A → List ℕ → Read C) (next-is : (a : A) (u : List ℕ) → next a u ≡ thenRead (two u) (λ b v. got (make a b) v)) (t : List ℕ) (agree : (s : List ℕ) → Alike t s → reads s ≡ thenRead (one s) next) where
+module _
+    {A B C : Type 0} (R : Reader A) (S : Reader B) (P : Reader C) (make : A → B → C)
+    (made : (a : A) (b : B) → R .Good a → S .Good b → P .Good (make a b) × (P .spells (make a b) ≡ R .spells a ++ S .spells b))
+    (some : (b : B) × S .Good b)
+    (next : A → List ℕ → Read C) (next-is : (a : A) (u : List ℕ) → next a u ≡ thenRead (S .reads u) (λ b v. got (make a b) v))
+    (t : List ℕ) (agree : (s : List ℕ) → Alike t s → P .reads s ≡ thenRead (R .reads s) next) where
   -- the first value is taken: what the second reader comes to
-  module _ (a : A) (u : List ℕ) (k : Taken one spellA GoodA t a u) where
-    parted : (l v : List ℕ) → u ≡ l ++ v → t ≡ (spellA a ++ l) ++ v
+  module _ (a : A) (u : List ℕ) (k : Taken R t a u) where
+    parted : (l v : List ℕ) → u ≡ l ++ v → t ≡ (R .spells a ++ l) ++ v
     parted l v e = rw append-assoc (rw (← e) (k .parts))
 
-    second-is : (l w v : List ℕ) → u ≡ l ++ v → Alike v w → reads ((spellA a ++ l) ++ w) ≡ thenRead (two (l ++ w)) (λ b v. got (make a b) v)
+    second-is : (l w v : List ℕ) → u ≡ l ++ v → Alike v w → P .reads ((R .spells a ++ l) ++ w) ≡ thenRead (S .reads (l ++ w)) (λ b v. got (make a b) v)
     unfolding thenRead
     second-is l w v e h =
-        agree ((spellA a ++ l) ++ w) (alike-from (spellA a ++ l) (parted l v e) h)
-        ∙ rw (append-assoc (spellA a) l w, k .steady (l ++ w) (alike-from l e h))
+        agree ((R .spells a ++ l) ++ w) (alike-from (R .spells a ++ l) (parted l v e) h)
+        ∙ rw (append-assoc (R .spells a) l w, k .steady (l ++ w) (alike-from l e h))
         (next-is a (l ++ w))
 
-    second : (y : Read B) → Outcome two spellB GoodB u y → Outcome reads spellC GoodC t (thenRead y (λ b v. got (make a b) v))
+    second : (y : Read B) → Outcome S u y → Outcome P t (thenRead y (λ b v. got (make a b) v))
     unfolding thenRead
     second (got b v) o =
         let m = made a b (k .good) (o .good) in
         record {
           good = m .0;
-          parts = rw (m .1) (parted (spellB b) v (o .parts));
-          steady = λ w h. rw (m .1) (second-is (spellB b) w v (o .parts) h ∙ rw (o .steady w h));
+          parts = rw (m .1) (parted (S .spells b) v (o .parts));
+          steady = λ w h. rw (m .1) (second-is (S .spells b) w v (o .parts) h ∙ rw (o .steady w h));
         }
     second (bad v) o =
         let m = made a (o .value) (k .good) (o .good) in
         record {
-          before = spellA a ++ o .before;
+          before = R .spells a ++ o .before;
           after = o .after;
           value = make a (o .value);
           good = m .0;
           parts = parted (o .before) v (o .parts);
-          begun = rw (m .1, append-assoc, o .begun);
+          begins = rw (m .1, append-assoc, o .begins);
           steady = λ w h. second-is (o .before) w v (o .parts) h ∙ rw (o .steady w h);
         }
 
-  pub both-read : (x : Read A) → Outcome one spellA GoodA t x → ((a : A) (u : List ℕ) → Taken one spellA GoodA t a u → Outcome two spellB GoodB u (two u)) → Outcome reads spellC GoodC t (thenRead x next)
+  pub both-read : (x : Read A) → Outcome R t x → ((a : A) (u : List ℕ) → Taken R t a u → Outcome S u (S .reads u)) → Outcome P t (thenRead x next)
   unfolding thenRead
-  both-read (got a u) o f = rw next-is (second a u o (two u) (f a u o))
+  both-read (got a u) o f = rw next-is (second a u o (S .reads u) (f a u o))
   both-read (bad u) o f =
       let m = made (o .value) (some .0) (o .good) (some .1) in
       record {
         before = o .before;
-        after = o .after ++ spellB (some .0);
+        after = o .after ++ S .spells (some .0);
         value = make (o .value) (some .0);
         good = m .0;
         parts = o .parts;
-        begun = rw (m .1, ← o .begun, append-assoc);
+        begins = rw (m .1, ← o .begins, append-assoc);
         steady = λ w h. agree (o .before ++ w) (alike-from (o .before) (o .parts) h) ∙ rw (o .steady w h);
       }
 
@@ -185,16 +205,19 @@ unfolding thenRead
 then-same (got a u) f g h = h a u refl
 then-same (bad u) f g h = refl
 
-module _ {A : Type 0} (begins : ℕ → Bool) (one : List ℕ → Read A) where
+module _ {A : Type 0} (begins : ℕ → Bool) (R : Reader A) where
   abbrev pub readAll : List ℕ → Read (List A)
-  readAll t = readMany begins one (length t) t
+  readAll t = readMany begins (R .reads) (length t) t
 
-module _ {A : Type 0} (begins : ℕ → Bool) (one : List ℕ → Read A) (spells : A → List ℕ) (Good : A → Type 0) (read-one : (t : List ℕ) → Outcome one spells Good t (one t)) (first : (v : A) → Good v → Begun begins (spells v)) where
-  shorter : (t u : List ℕ) (a : A) → Taken one spells Good t a u → length u < length t
+  abbrev pub times : Reader (List A)
+  times = record { reads = readAll; spells = spellMany (R .spells); Good = Each (R .Good) }
+
+module _ {A : Type 0} (begins : ℕ → Bool) (R : Reader A) (read-one : (t : List ℕ) → Outcome R t (R .reads t)) (first : (v : A) → R .Good v → Begun begins (R .spells v)) where
+  shorter : (t u : List ℕ) (a : A) → Taken R t a u → length u < length t
   shorter t u a k = omega (arith, begun-long (first a (k .good)), simp length-append at (ap length (k .parts)))
 
   -- the bound is enough
-  enough : (k j : ℕ) (t : List ℕ) → length t ≤ k → length t ≤ j → readMany begins one k t ≡ readMany begins one j t
+  enough : (k j : ℕ) (t : List ℕ) → length t ≤ k → length t ≤ j → readMany begins (R .reads) k t ≡ readMany begins (R .reads) j t
   unfolding readMany
   enough zero zero t h g = refl
   enough zero (suc j) [] h g = refl
@@ -204,55 +227,56 @@ module _ {A : Type 0} (begins : ℕ → Bool) (one : List ℕ → Read A) (spell
   enough (suc k) (suc j) [] h g = refl
   enough (suc k) (suc j) (b ∷ t) h g =
       on-flag (begins b)
-      (λ e. rw (e, readMany) (then-same (one (b ∷ t)) _ _ (λ a u o. let l = shorter (b ∷ t) u a (rw o at (read-one (b ∷ t))) in rw (enough k j u (omega arith) (omega arith)))))
+      (λ e. rw (e, readMany) (then-same (R .reads (b ∷ t)) _ _ (λ a u o. let l = shorter (b ∷ t) u a (rw o at (read-one (b ∷ t))) in rw (enough k j u (omega arith) (omega arith)))))
       (λ e. rw (e, readMany))
 
   abbrev next : A → List ℕ → Read (List A)
-  next a u = thenRead (readAll begins one u) (λ l v. got (a ∷ l) v)
+  next a u = thenRead (readAll begins R u) (λ l v. got (a ∷ l) v)
 
   -- one more
-  pub many-more : (b : ℕ) (t : List ℕ) → begins b ≡ true → readAll begins one (b ∷ t) ≡ thenRead (one (b ∷ t)) next
+  many-more : (b : ℕ) (t : List ℕ) → begins b ≡ true → readAll begins R (b ∷ t) ≡ thenRead (R .reads (b ∷ t)) next
   unfolding readMany
   many-more b t e =
-      rw (e, readMany) (then-same (one (b ∷ t)) _ next (λ a u o. let l = shorter (b ∷ t) u a (rw o at (read-one (b ∷ t))) in rw (enough (length t) (length u) u (omega arith) (omega arith))))
+      rw (e, readMany)
+      (then-same (R .reads (b ∷ t)) _ next (λ a u o. let l = shorter (b ∷ t) u a (rw o at (read-one (b ∷ t))) in rw (enough (length t) (length u) u (omega arith) (omega arith))))
 
   -- and no more
-  pub many-end : (t : List ℕ) → NotNext begins t → readAll begins one t ≡ got [] t
+  many-end : (t : List ℕ) → NotNext begins t → readAll begins R t ≡ got [] t
   unfolding readMany
   many-end [] e = refl
   many-end (b ∷ t) e = rw (e, readMany)
 
-  many-none : Taken (readAll begins one) (spellMany spells) (Each Good) [] [] []
+  many-none : (t : List ℕ) → ((w : List ℕ) → Alike t w → readAll begins R w ≡ got [] w) → Taken (times begins R) t [] t
   unfolding spellMany
-  many-none = record { good = end; parts = refl; steady = λ w l. elim l [ ] }
+  many-none t h = record { good = end; parts = refl; steady = h }
 
-  many-to : (k : ℕ) (t : List ℕ) → length t ≤ k → Outcome (readAll begins one) (spellMany spells) (Each Good) t (readAll begins one t)
+  many-to : (k : ℕ) (t : List ℕ) → length t ≤ k → Outcome (times begins R) t (readAll begins R t)
   unfolding readMany spellMany
-  many-to zero [] h = many-none
+  many-to zero [] h = many-none [] (λ w l. elim l [ ])
   many-to zero (b ∷ t) h = absurd (omega arith)
-  many-to (suc k) [] h = many-none
+  many-to (suc k) [] h = many-none [] (λ w l. elim l [ ])
   many-to (suc k) (b ∷ t) h =
       on-flag (begins b)
       (λ e. rw (many-more b t e)
-      (both-read one spells Good (readAll begins one) (spellMany spells) (Each Good) (readAll begins one) (spellMany spells) (Each Good) _∷_ (λ a l g i. (more g i, refl)) ([], end) next (λ a u. refl) (b ∷ t)
-      (like (λ s. readAll begins one s ≡ thenRead (one s) next) (λ r. many-more b r e)) (one (b ∷ t)) (read-one (b ∷ t)) (λ a u o. many-to k u (omega (arith, shorter (b ∷ t) u a o)))))
-      (λ e. rw (many-end (b ∷ t) e) (record { good = end; parts = refl; steady = like (λ s. readAll begins one s ≡ got [] s) (λ r. many-end (b ∷ r) e) }))
+      (both-read R (times begins R) (times begins R) _∷_ (λ a l g i. (more g i, refl)) ([], end) next (λ a u. refl) (b ∷ t)
+      (like (λ s. readAll begins R s ≡ thenRead (R .reads s) next) (λ r. many-more b r e)) (R .reads (b ∷ t)) (read-one (b ∷ t)) (λ a u o. many-to k u (omega (arith, shorter (b ∷ t) u a o)))))
+      (λ e. rw (many-end (b ∷ t) e) (many-none (b ∷ t) (like (λ s. readAll begins R s ≡ got [] s) (λ r. many-end (b ∷ r) e))))
 
-  pub many-read : (t : List ℕ) → Outcome (readAll begins one) (spellMany spells) (Each Good) t (readAll begins one t)
+  pub many-read : (t : List ℕ) → Outcome (times begins R) t (readAll begins R t)
   many-read t = many-to (length t) t (omega arith)
 
-  module _ (follows : ℕ → Bool) (back : (v : A) → Good v → (t : List ℕ) → NotNext follows t → one (spells v ++ t) ≡ got v t) (apart : (b : ℕ) → begins b ≡ true → follows b ≡ false) where
-    many-next : (l : List A) → Each Good l → (t : List ℕ) → NotNext follows t → NotNext follows (spellMany spells l ++ t)
+  module _ (follows : ℕ → Bool) (back : (v : A) → R .Good v → (t : List ℕ) → NotNext follows t → R .reads (R .spells v ++ t) ≡ got v t) (apart : (b : ℕ) → begins b ≡ true → follows b ≡ false) where
+    many-next : (l : List A) → Each (R .Good) l → (t : List ℕ) → NotNext follows t → NotNext follows (spellMany (R .spells) l ++ t)
     unfolding spellMany
     many-next [] end t f = f
-    many-next (x ∷ l) (more g i) t f = begun-not apart (begun-before t (begun-before (spellMany spells l) (first x g)))
+    many-next (x ∷ l) (more g i) t f = begun-not apart (begun-before t (begun-before (spellMany (R .spells) l) (first x g)))
 
-    begun-more : {s : List ℕ} → Begun begins s → readAll begins one s ≡ thenRead (one s) next
+    begun-more : {s : List ℕ} → Begun begins s → readAll begins R s ≡ thenRead (R .reads s) next
     begun-more (begun {b = b} {r = r} e) = many-more b r e
 
-    pub many-back : (l : List A) → Each Good l → (t : List ℕ) → NotNext follows t → NotNext begins t → readAll begins one (spellMany spells l ++ t) ≡ got l t
+    pub many-back : (l : List A) → Each (R .Good) l → (t : List ℕ) → NotNext follows t → NotNext begins t → readAll begins R (spellMany (R .spells) l ++ t) ≡ got l t
     unfolding spellMany thenRead
     many-back [] end t f h = many-end t h
     many-back (x ∷ l) (more g i) t f h =
-        rw append-assoc
-        (begun-more (begun-before (spellMany spells l ++ t) (first x g)) ∙ rw (back x g (spellMany spells l ++ t) (many-next l i t f), many-back l i t f h))
+        let m = spellMany (R .spells) l ++ t in
+        rw append-assoc (begun-more (begun-before m (first x g)) ∙ rw (back x g m (many-next l i t f), many-back l i t f h))

@@ -12,8 +12,8 @@ use borrow.Author.Tests.{ltb-true, ltb-false}
 use Rattle.meaning_text.specs.Number.{Read, got, bad}
 use Rattle.meaning_text.specs.Form.{Form, Value, spell, Spellable, read}
 use Rattle.meaning_text.specs.Read.{Verdict, fine, unfit, ended, readText, Viable, Longest}
-use Rattle.meaning_text.proofs.Reading.{on-flag, Alike, alike}
-use Rattle.meaning_text.proofs.Form.{decided, Comes, form-read, spelled-read, read-spelled-only, refused-viable}
+use Rattle.meaning_text.proofs.Reading.{on-flag, Alike, alike, Outcome}
+use Rattle.meaning_text.proofs.Form.{decided, theForm, form-read, spelled-read, read-spelled-only, refused-viable}
 
 -- two places that both end the longest beginning are the same
 pub longest-only : (f : Form) (t : List ℕ) (m n : ℕ) → Longest f t m → Longest f t n → m ≡ n
@@ -84,7 +84,7 @@ module _ (f : Form) (decides : decided f ≡ true) where
   pub spell-injective : (v w : Value f) → Spellable f v → Spellable f w → spell f v ≡ spell f w → v ≡ w
   spell-injective v w g h e = let r : fine v ≡ fine w = sym (reads-back v g) ∙ ap (readText f) e ∙ reads-back w h in fine-same r
 
-  stopped : (t : List ℕ) (x : Read (Value f)) (n : ℕ) → Comes f t x → ended (length t) x ≡ unfit n → Longest f t n
+  stopped : (t : List ℕ) (x : Read (Value f)) (n : ℕ) → Outcome (theForm f) t x → ended (length t) x ≡ unfit n → Longest f t n
   unfolding ended
   stopped t (got a []) n o e = unfit-fine (sym e)
   stopped t (got a (b ∷ u)) n o e =
