@@ -13,7 +13,7 @@ use Rattle.meaning_text.specs.Number.{Read, got, bad}
 use Rattle.meaning_text.specs.Form.{Form, Value, spell, Spellable, read}
 use Rattle.meaning_text.specs.Read.{Verdict, fine, unfit, ended, readText, Viable, Longest}
 use Rattle.meaning_text.proofs.Reading.{on-flag, Alike, alike, Outcome}
-use Rattle.meaning_text.proofs.Form.{decided, theForm, form-read, spelled-read, read-spelled-only, refused-viable}
+use Rattle.meaning_text.proofs.Form.{decided, theForm, form-read, spelled-read, refused-viable}
 
 -- two places that both end the longest beginning are the same
 pub longest-only : (f : Form) (t : List ℕ) (m n : ℕ) → Longest f t m → Longest f t n → m ≡ n
@@ -33,11 +33,11 @@ unfit-same e = cc
 unfit-fine : {A B : Type 0} {n : ℕ} {v : A} → unfit n ≡ fine v → B
 unfit-fine e = let z : _≡_ {A = ℕ} 0 1 = cc in absurd (omega arith)
 
-got-bad : {A B : Type 0} {v : A} {u w : List ℕ} → bad u ≡ got v w → B
-got-bad e = let z : _≡_ {A = ℕ} 0 1 = cc in absurd (omega arith)
+bad-got : {A B : Type 0} {v : A} {u w : List ℕ} → bad u ≡ got v w → B
+bad-got e = let z : _≡_ {A = ℕ} 0 1 = cc in absurd (omega arith)
 
-rest-same : {A : Type 0} {v w : A} {t u : List ℕ} → got v t ≡ got w u → t ≡ u
-rest-same e = cc
+got-same : {A : Type 0} {v w : A} {t u : List ℕ} → got v t ≡ got w u → (v ≡ w) × (t ≡ u)
+got-same e = (cc, cc)
 
 not-empty : {u w : List ℕ} → Alike u w → w ≡ [] → ⊥
 not-empty alike e = let z : _≡_ {A = ℕ} 0 1 = cc in omega arith
@@ -61,50 +61,42 @@ module _ (f : Form) (t p u : List ℕ) (parts : t ≡ p ++ u) (viable : Viable f
             longer u refl (m - length p) (omega arith) (omega (arith, simp length-append at (ap length parts))) (rw c at s);
       })
 
+-- the laws of a form's whole texts
+pub record Lawful (f : Form) : Type 0 where
+  -- what is spelled is read back
+  pub reads-back : (v : Value f) → Spellable f v → readText f (spell f v) ≡ fine v
+  -- nothing else is read
+  pub reads-only : (t : List ℕ) (v : Value f) → readText f t ≡ fine v → Spellable f v × (t ≡ spell f v)
+  -- 01, Text: the first bad byte
+  pub first-bad : (t : List ℕ) (n : ℕ) → readText f t ≡ unfit n → Longest f t n
+  -- two values are not spelled alike
+  pub spell-injective : (v w : Value f) → Spellable f v → Spellable f w → spell f v ≡ spell f w → v ≡ w
+
 module _ (f : Form) (decides : decided f ≡ true) where
   read-whole : (v : Value f) → Spellable f v → read f (spell f v) ≡ got v []
   read-whole v g = rw append-nil at (spelled-read f decides v g [] tt)
 
-  -- what is spelled is read back
-  pub reads-back : (v : Value f) → Spellable f v → readText f (spell f v) ≡ fine v
-  unfolding readText ended
-  reads-back v g = rw (read-whole v g)
-
-  -- nothing else is read
-  pub reads-only : (t : List ℕ) (v : Value f) → readText f t ≡ fine v → Spellable f v × (t ≡ spell f v)
-  unfolding readText ended
-  reads-only t v e = go (read f t) refl e
-    where
-      go : (x : Read (Value f)) → read f t ≡ x → ended (length t) x ≡ fine v → Spellable f v × (t ≡ spell f v)
-      go (got a []) r e = let s = read-spelled-only f decides t v [] (r ∙ ap (λ (a : Value f). got a []) (fine-same e)) in (s .0, s .1 ∙ append-nil (spell f v))
-      go (got a (b ∷ u)) r e = unfit-fine e
-      go (bad u) r e = unfit-fine e
-
-  -- two values are not spelled alike
-  pub spell-injective : (v w : Value f) → Spellable f v → Spellable f w → spell f v ≡ spell f w → v ≡ w
-  spell-injective v w g h e = let r : fine v ≡ fine w = sym (reads-back v g) ∙ ap (readText f) e ∙ reads-back w h in fine-same r
-
-  stopped : (t : List ℕ) (x : Read (Value f)) (n : ℕ) → Outcome (theForm f) t x → ended (length t) x ≡ unfit n → Longest f t n
+  ends-fine : (t : List ℕ) (x : Read (Value f)) (v : Value f) → Outcome (theForm f) t x → ended (length t) x ≡ fine v → Spellable f v × (t ≡ spell f v)
   unfolding ended
-  stopped t (got a []) n o e = unfit-fine (sym e)
-  stopped t (got a (b ∷ u)) n o e =
-      rw (← unfit-same e) (longest-at f t (spell f a) (b ∷ u) (o .parts) ([], a, o .good, append-nil (spell f a))
-      (λ w l v g s. let z : got a w ≡ got v [] = sym (o .steady w l) ∙ ap (read f) s ∙ read-whole v g in not-empty l (rest-same z)))
-  stopped t (bad u) n o e =
-      rw (← unfit-same e) (longest-at f t (o .before) u (o .parts) (refused-viable f t u o)
-      (λ w l v g s. got-bad (sym (o .steady w l) ∙ ap (read f) s ∙ read-whole v g)))
+  ends-fine t (got a []) v o e = rw (← fine-same e) (o .good, o .parts ∙ append-nil (spell f a))
+  ends-fine t (got a (b ∷ u)) v o e = unfit-fine e
+  ends-fine t (bad u) v o e = unfit-fine e
 
-  -- 01, Text: the first bad byte
-  pub first-bad : (t : List ℕ) (n : ℕ) → readText f t ≡ unfit n → Longest f t n
-  unfolding readText
-  first-bad t n e = stopped t (read f t) n (form-read f decides t) e
+  ends-unfit : (t : List ℕ) (x : Read (Value f)) (n : ℕ) → Outcome (theForm f) t x → ended (length t) x ≡ unfit n → Longest f t n
+  unfolding ended
+  ends-unfit t (got a []) n o e = unfit-fine (sym e)
+  ends-unfit t (got a (b ∷ u)) n o e =
+      rw (← unfit-same e)
+      (longest-at f t (spell f a) (b ∷ u) (o .parts) ([], a, o .good, append-nil (spell f a))
+      (λ w l v g s. let z : got a w ≡ got v [] = sym (o .steady w l) ∙ ap (read f) s ∙ read-whole v g in not-empty l (got-same z .1)))
+  ends-unfit t (bad u) n o e =
+      rw (← unfit-same e) (longest-at f t (o .before) u (o .parts) (refused-viable f t u o) (λ w l v g s. bad-got (sym (o .steady w l) ∙ ap (read f) s ∙ read-whole v g)))
 
--- the laws of a form's whole texts
-pub record Lawful (f : Form) : Type 0 where
-  pub reads-back : (v : Value f) → Spellable f v → readText f (spell f v) ≡ fine v
-  pub reads-only : (t : List ℕ) (v : Value f) → readText f t ≡ fine v → Spellable f v × (t ≡ spell f v)
-  pub first-bad : (t : List ℕ) (n : ℕ) → readText f t ≡ unfit n → Longest f t n
-  pub spell-injective : (v w : Value f) → Spellable f v → Spellable f w → spell f v ≡ spell f w → v ≡ w
-
-pub lawful : (f : Form) → decided f ≡ true → Lawful f
-lawful f d = record { reads-back = reads-back f d; reads-only = reads-only f d; first-bad = first-bad f d; spell-injective = spell-injective f d }
+  pub lawful : Lawful f
+  unfolding readText ended
+  lawful = record {
+    reads-back = λ v g. rw (read-whole v g);
+    reads-only = λ t v e. ends-fine t (read f t) v (form-read f decides t) e;
+    first-bad = λ t n e. ends-unfit t (read f t) n (form-read f decides t) e;
+    spell-injective = λ v w g h e. got-same (sym (read-whole v g) ∙ ap (read f) e ∙ read-whole w h) .0;
+  }

@@ -13,7 +13,7 @@ use Rattle.meaning_text.specs.Read.{fine, readText}
 use Rattle.meaning_text.specs.Texts.{indexForm, seriesForm, findForm, programForm, foundForm, refusedForm, rowForm, rowSaid, sayRow, indexSaid, sayIndex, indexText}
 use Rattle.meaning_text.proofs.Open.{openText}
 use Rattle.meaning_text.proofs.Form.{filled, clearWord, clear, follows, firm, opens, decided}
-use Rattle.meaning_text.proofs.Text.{Lawful, lawful, reads-only}
+use Rattle.meaning_text.proofs.Text.{Lawful, lawful}
 
 unfoldable openDecided : Unit {0}
 unfolding openText filled clearWord clear follows firm opens decided
