@@ -83,7 +83,7 @@ unfoldable pub wordStarts : String → ℕ → Bool
 wordStarts empty b = false
 wordStarts (c before w) b = eqb b (code c)
 
--- some text of the form begins with the byte
+-- some text of the form begins with the byte, where its first part is not empty
 unfoldable pub starts : Form → ℕ → Bool
 starts number b = eqb b 45 || isDigit b
 starts (oneOf v w) b = wordStarts v b || wordStarts w b
