@@ -3,6 +3,7 @@ pub mod Open
 pub mod Refusal
 pub mod Demand1
 pub mod Listed
+pub mod Pack
 pub mod Row
 pub mod Calls
 pub mod Vectors
