@@ -6,6 +6,8 @@ pub mod Cauchy
 pub mod Root
 pub mod Quotient
 pub mod Order
+pub mod Count
+pub mod Place
 pub mod Table
 pub mod Open
 pub mod Cases

@@ -1,3 +1,5 @@
 -- What the definitions imply, by subject.
+pub mod Range
+pub mod Runs
 pub mod Open
 pub mod Cases

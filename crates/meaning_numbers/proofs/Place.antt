@@ -1,0 +1,89 @@
+-- Laws of tests, of lists searched by a test, and of the numbers from k on. Where some entry passes there is one in the list that does (`any-found`), and back (`any-mem`). Assumes nothing.
+use mathlib.Core.Path.{_≡_, refl, sym, ap, _∙_}
+use mathlib.Core.Logic.{_⊎_, inl, inr, ⊎-elim}
+use mathlib.Core.Bool.{Bool, true, false, cond, not, _&&_, _||_, false≢true}
+use mathlib.Core.List.{List, [], _∷_, _++_, map, List·Memᴰ as Mem, List·Memᴰ·head as here, List·Memᴰ·tail as there, List·Memᴰ·not-nil as not-nil, List·Memᴰ·cases-cons as cases}
+use mathlib.Core.Option.{Option, none, some}
+use Prim.Native.Nat.{ℕ, zero, suc, _+_, _<_, _≤_}
+use native.Mathlib.Omega.{arith}
+use native.Mathlib.Decide.{decLe}
+use lib.Dec.{T}
+use lib.ListN.{length, getD}
+use Rattle.meaning_numbers.specs.Place.{placeFrom, any, every, numbersFrom}
+
+-- ---- tests
+
+pub by-test {ℓ} : {X : Type ℓ} (t : Bool) → (t ≡ true → X) → (t ≡ false → X) → X
+by-test true f g = f refl
+by-test false f g = g refl
+
+pub both : (a b : Bool) → (a && b) ≡ true → (a ≡ true) × (b ≡ true)
+both true b e = (refl, e)
+both false b e = absurd (false≢true e)
+
+pub of-both : {a b : Bool} → a ≡ true → b ≡ true → (a && b) ≡ true
+of-both p q = rw (p, q)
+
+pub clash {ℓ} : {X : Type ℓ} {t : Bool} → t ≡ true → t ≡ false → X
+clash p q = absurd (false≢true (sym q ∙ p))
+
+-- ---- lists
+
+module _ {A : Type 0} where
+  pub record Found (p : A → Bool) (l : List A) : Type 0 where
+    pub entry : A
+    pub is : Mem entry l
+    pub passes : p entry ≡ true
+
+  pub any-mem : (p : A → Bool) {x : A} {l : List A} → Mem x l → p x ≡ true → any p l ≡ true
+  unfolding any
+  any-mem p (here e) h = rw (← e, h)
+  any-mem p (there {x = y} {xs = l} m) h = by-test (p y) (λ t. rw t) (λ f. rw f (any-mem p m h))
+
+  pub any-found : (p : A → Bool) (l : List A) → any p l ≡ true → Found p l
+  unfolding any
+  any-found p [] e = absurd (false≢true e)
+  any-found p (x ∷ l) e = by-test (p x)
+      (λ t. record { entry = x; is = here refl; passes = t })
+      (λ f. let r = any-found p l (rw f at e) in record { entry = r .entry; is = there (r .is); passes = r .passes })
+
+  pub any-none : (p : A → Bool) (l : List A) → ((x : A) → Mem x l → p x ≡ false) → any p l ≡ false
+  any-none p l h = by-test (any p l) (λ t. let r = any-found p l t in clash (r .passes) (h (r .entry) (r .is))) (λ f. f)
+
+  pub none-any : (p : A → Bool) {x : A} {l : List A} → any p l ≡ false → Mem x l → p x ≡ false
+  none-any p {x} f m = by-test (p x) (λ t. clash (any-mem p m t) f) (λ g. g)
+
+  pub any-cong : (p q : A → Bool) (l : List A) → ((x : A) → Mem x l → p x ≡ q x) → any p l ≡ any q l
+  unfolding any
+  any-cong p q [] h = refl
+  any-cong p q (x ∷ l) h = rw (h x (here refl), any-cong p q l (λ y m. h y (there m)))
+
+  -- an entry stands at its place
+  pub mem-at : (o : A) (l : List A) (k : ℕ) → k < length l → Mem (getD l k o) l
+  mem-at o [] k h = absurd (omega arith)
+  mem-at o (x ∷ l) zero h = here refl
+  mem-at o (x ∷ l) (suc k) h = there (mem-at o l k (omega arith))
+
+  -- where no entry passes, none is placed
+  pub place-none : (k : ℕ) (p : A → Bool) (l : List A) → placeFrom k p l ≡ none → (x : A) → Mem x l → p x ≡ false
+  unfolding placeFrom
+  place-none k p [] e x m = absurd (not-nil m)
+  place-none k p (y ∷ l) e x m = by-test (p y) (λ t. let z : _≡_ {A = ℕ} 0 1 = cc (sym (rw t at e)) in absurd (omega arith))
+      (λ f. ⊎-elim (λ q. rw q f) (λ n. place-none (suc k) p l (rw f at e) x n) (cases m))
+
+pub any-map : {A B : Type 0} (p : B → Bool) (f : A → B) (l : List A) → any p (map f l) ≡ any (λ x. p (f x)) l
+unfolding any
+any-map p f [] = refl
+any-map p f (x ∷ l) = rw (any-map p f l)
+
+-- ---- the numbers from k on
+
+pub mem-numbers : (k n j : ℕ) → k ≤ j → j < k + n → Mem j (numbersFrom k n)
+unfolding numbersFrom
+mem-numbers k zero j a b = absurd (omega arith)
+mem-numbers k (suc n) j a b = elim (decLe (suc k) j) [ yes h ↦ there (mem-numbers (suc k) n j h (omega arith)) | no f ↦ let e : j ≡ k = omega arith in here e ]
+
+pub numbers-mem : (k n j : ℕ) → Mem j (numbersFrom k n) → (k ≤ j) × (j < k + n)
+unfolding numbersFrom
+numbers-mem k zero j m = absurd (not-nil m)
+numbers-mem k (suc n) j m = ⊎-elim (λ e. (omega arith, omega arith)) (λ t. let h = numbers-mem (suc k) n j t in (omega arith, omega arith)) (cases m)
