@@ -1,5 +1,5 @@
 -- Laws of tests, of lists searched by a test, and of the numbers from k on. Where some entry passes there is one in the list that does (`any-found`), and back (`any-mem`). Assumes nothing.
-use mathlib.Core.Path.{_≡_, refl, sym, ap, _∙_}
+use mathlib.Core.Path.{_≡_, refl, sym, ap, _∙_, subst}
 use mathlib.Core.Logic.{_⊎_, inl, inr, ⊎-elim}
 use mathlib.Core.Bool.{Bool, true, false, cond, not, _&&_, _||_, false≢true}
 use mathlib.Core.List.{List, [], _∷_, _++_, map, List·Memᴰ as Mem, List·Memᴰ·head as here, List·Memᴰ·tail as there, List·Memᴰ·not-nil as not-nil, List·Memᴰ·cases-cons as cases}
@@ -70,6 +70,35 @@ module _ {A : Type 0} where
   place-none k p [] e x m = absurd (not-nil m)
   place-none k p (y ∷ l) e x m = by-test (p y) (λ t. let z : _≡_ {A = ℕ} 0 1 = cc (sym (rw t at e)) in absurd (omega arith))
       (λ f. ⊎-elim (λ q. rw q f) (λ n. place-none (suc k) p l (rw f at e) x n) (cases m))
+
+-- every entry is so
+unfoldable pub All : {A : Type 0} → (A → Type 0) → List A → Type 0
+All P [] = Unit {0}
+All P (x ∷ l) = P x × All P l
+
+pub all-mem : {A : Type 0} (P : A → Type 0) {x : A} (l : List A) → All P l → Mem x l → P x
+unfolding All
+all-mem P [] a m = absurd (not-nil m)
+all-mem P (y ∷ l) a m = ⊎-elim (λ e. subst P (sym e) (a .0)) (λ n. all-mem P l (a .1) n) (cases m)
+
+pub mem-all : {A : Type 0} (P : A → Type 0) (l : List A) → ((x : A) → Mem x l → P x) → All P l
+unfolding All
+mem-all P [] f = tt
+mem-all P (y ∷ l) f = (f y (here refl), mem-all P l (λ x m. f x (there m)))
+
+pub mem-map : {A B : Type 0} (f : A → B) {x : A} {l : List A} → Mem x l → Mem (f x) (map f l)
+mem-map f (here e) = here (ap f e)
+mem-map f (there m) = there (mem-map f m)
+
+pub record Image {A B : Type 0} (f : A → B) (l : List A) (y : B) : Type 0 where
+  pub entry : A
+  pub is : Mem entry l
+  pub same : y ≡ f entry
+
+pub map-mem : {A B : Type 0} (f : A → B) {y : B} (l : List A) → Mem y (map f l) → Image f l y
+map-mem f [] m = absurd (not-nil m)
+map-mem f (x ∷ l) m = ⊎-elim (λ e. record { entry = x; is = here refl; same = e })
+    (λ n. let r = map-mem f l n in record { entry = r .entry; is = there (r .is); same = r .same }) (cases m)
 
 pub any-map : {A B : Type 0} (p : B → Bool) (f : A → B) (l : List A) → any p (map f l) ≡ any (λ x. p (f x)) l
 unfolding any

@@ -1,5 +1,7 @@
 -- What the definitions imply, by subject.
 pub mod Range
 pub mod Runs
+pub mod Times
+pub mod Judge
 pub mod Open
 pub mod Cases

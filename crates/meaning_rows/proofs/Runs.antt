@@ -3,20 +3,22 @@
 use mathlib.Core.Path.{_≡_, refl, sym, ap, _∙_, subst}
 use mathlib.Core.Bool.{Bool, true, false, cond, not, _&&_, _||_, and-true, and-false, or-false, or-assoc, false≢true}
 use mathlib.Core.List.{List, [], _∷_, _++_, map}
-use Prim.Native.Nat.{ℕ, zero, suc, _+_, _-_, _<_, _≤_}
+use Prim.Native.Nat.{ℕ, zero, suc, _+_, _-_, _<_, _≤_, min}
 use native.Mathlib.Omega.{arith}
 use native.Mathlib.Numerals.{add-one}
 use native.Mathlib.Nat.{le-step}
+use native.Mathlib.Decide.{decLe}
 use lib.Dec.{leb, ltb, eqb}
 use lib.ListN.{length, length-append}
 use borrow.Author.Tests.{leb-true, leb-false, ltb-true, ltb-false, eqb-true, eqb-false, lt-ltb, le-ltb, le-leb, lt-leb, ne-eqb}
 use Rattle.meaning_numbers.specs.Sum.{bit, count}
 use Rattle.meaning_numbers.specs.Place.{any}
-use Rattle.meaning_numbers.proofs.Count.{count-cong, count-le, count-mono, count-add, count-shift}
-use Rattle.meaning_numbers.proofs.Place.{by-test, clash, any-map}
+use Rattle.meaning_numbers.proofs.Count.{bit-or, count-cong, count-le, count-mono, count-add, count-shift, count-never}
+use Rattle.meaning_numbers.proofs.Place.{by-test, both, clash}
 use Rattle.meaning_rows.specs.Runs.{before, reach, takeIn, runs, runCount}
 use Rattle.meaning_rows.specs.Index.{inRun}
 use Rattle.meaning_rows.specs.Build.{entry}
+use Rattle.meaning_rows.specs.Judge.{runLengths}
 
 -- ---- how many runs
 
@@ -288,3 +290,95 @@ pub runs-hold : (p : ℕ → Bool) (n j : ℕ) → held (runs p n) j ≡ (ltb j 
 unfolding runs held
 runs-hold p zero j = rw (le-ltb j 0 (omega arith))
 runs-hold p (suc n) j = held-takeIn (p n) (before p n) (runs p n) n j (runs-apart p n) (runs-next p n) ∙ rw (runs-hold p n j) (one-more p n j)
+
+pub entries-of-runs : (p : ℕ → Bool) (n j : ℕ) → any (inRun j) (map entry (runs p n)) ≡ (ltb j n && p j)
+entries-of-runs p n j = entries-hold (runs p n) j ∙ runs-hold p n j
+
+-- ---- runs are told by their members
+
+in-run : (x : ℕ × ℕ) (l : List (ℕ × ℕ)) (j : ℕ) → x .0 ≤ j → j ≤ x .1 → held (x ∷ l) j ≡ true
+unfolding held
+in-run x l j a b = rw (le-leb (x .0) j a, le-leb j (x .1) b)
+
+past-run : (x : ℕ × ℕ) (l : List (ℕ × ℕ)) (j : ℕ) → x .1 < j → held (x ∷ l) j ≡ held l j
+unfolding held
+past-run x l j b = rw (lt-leb j (x .1) b, and-false (leb (x .0) j))
+
+pub held-in : (n a : ℕ) (l : List (ℕ × ℕ)) (j : ℕ) → Apart n a l → held l j ≡ true → (a ≤ j) × (j < n)
+unfolding Apart held
+held-in n a [] j p h = absurd (false≢true h)
+held-in n a (x ∷ l) j p h = by-test (leb (x .0) j && leb j (x .1))
+    (λ t. let b = both (leb (x .0) j) (leb j (x .1)) t in let c = leb-true (x .0) j (b .0) in let e = leb-true j (x .1) (b .1) in (omega arith, omega arith))
+    (λ f. let r = held-in n (x .1 + 2) l j (p .3) (rw f at h) in (omega arith, r .1))
+
+not-held : (n a : ℕ) (l : List (ℕ × ℕ)) (j : ℕ) → Apart n a l → (a ≤ j → j < n → ⊥) → held l j ≡ false
+not-held n a l j p f = by-test (held l j) (λ t. let r = held-in n a l j p t in absurd (f (r .0) (r .1))) (λ g. g)
+
+no-less : (n a b : ℕ) (x y : ℕ × ℕ) (l m : List (ℕ × ℕ)) → Apart n a (x ∷ l) → Apart n b (y ∷ m) → ((j : ℕ) → held (x ∷ l) j ≡ held (y ∷ m) j) → (y .0 ≤ x .0) × (x .0 ≡ y .0 → y .1 ≤ x .1)
+unfolding Apart
+no-less n a b x y l m p q h = (
+    held-in n (y .0) (y ∷ m) (x .0) (omega arith, q .1, q .2, q .3) (sym (h (x .0)) ∙ in-run x l (x .0) (omega arith) (p .1)) .0,
+    λ e. elim (decLe (y .1) (x .1)) [
+      | yes g ↦ g
+      | no f ↦ clash (h (x .1 + 1) ∙ in-run y m (x .1 + 1) (omega arith) (omega arith))
+          (past-run x l (x .1 + 1) (omega arith) ∙ not-held n (x .1 + 2) l (x .1 + 1) (p .3) (λ c d. omega arith))
+    ],
+  )
+
+pub apart-unique : (n a b : ℕ) (l m : List (ℕ × ℕ)) → Apart n a l → Apart n b m → ((j : ℕ) → held l j ≡ held m j) → l ≡ m
+unfolding Apart held
+apart-unique n a b [] [] p q h = refl
+apart-unique n a b [] (y ∷ m) p q h = clash (h (y .0) ∙ in-run y m (y .0) (omega arith) (q .1)) refl
+apart-unique n a b (x ∷ l) [] p q h = clash (sym (h (x .0)) ∙ in-run x l (x .0) (omega arith) (p .1)) refl
+apart-unique n a b (x ∷ l) (y ∷ m) p q h =
+    let f = no-less n a b x y l m p q h in
+    let g = no-less n b a y x m l q p (λ j. sym (h j)) in
+    let e : x .0 ≡ y .0 = omega arith in
+    let c = f .1 e in
+    let d = g .1 (sym e) in
+    let s : x .1 ≡ y .1 = omega arith in
+    let same : x ≡ y = λ i. (e i, s i) in
+    cc (
+      same,
+      apart-unique n (x .1 + 2) (y .1 + 2) l m (p .3) (q .3)
+          (λ j. elim (decLe (x .1 + 2) j) [
+            | yes k ↦ sym (past-run x l j (omega arith)) ∙ h j ∙ past-run y m j (omega arith)
+            | no k ↦ not-held n (x .1 + 2) l j (p .3) (λ u v. omega arith) ∙ sym (not-held n (y .1 + 2) m j (q .3) (λ u v. omega arith))
+          ]),
+    )
+
+-- runs that are apart are the runs of their members
+pub apart-runs : (n a : ℕ) (l : List (ℕ × ℕ)) → Apart n a l → runs (held l) n ≡ l
+apart-runs n a l p = apart-unique n 0 a (runs (held l) n) l (runs-apart (held l) n) p
+    (λ j. runs-hold (held l) n j ∙ by-test (held l j) (λ t. rw (t, lt-ltb j n (held-in n a l j p t .1))) (λ f. rw f (and-false (ltb j n))))
+
+-- ---- and have as many members as their lengths add up to
+
+count-range : (l r n : ℕ) → count (λ j. leb l j && leb j r) n ≡ min n (r + 1) - l
+unfolding count bit
+count-range l r zero = omega arith
+count-range l r (suc n) = by-test (leb l n)
+    (λ t. by-test (leb n r)
+    (λ u. rw (t, u) (omega (arith, count-range l r n, leb-true l n t, leb-true n r u)))
+    (λ u. rw (t, u) (omega (arith, count-range l r n, leb-true l n t, leb-false n r u))))
+    (λ t. rw t (omega (arith, count-range l r n, leb-false l n t)))
+
+-- of the first run and the rest, at most one has j
+first-or-rest : (n a : ℕ) (x : ℕ × ℕ) (l : List (ℕ × ℕ)) (j : ℕ) → Apart n a (x ∷ l) → ((leb (x .0) j && leb j (x .1)) && held l j) ≡ false
+unfolding Apart
+first-or-rest n a x l j p = by-test (held l j)
+    (λ t. let b = held-in n (x .1 + 2) l j (p .3) t .0 in rw (lt-leb j (x .1) (omega arith), and-false (leb (x .0) j)))
+    (λ f. rw f (and-false (leb (x .0) j && leb j (x .1))))
+
+pub lengths-count : (n a : ℕ) (l : List (ℕ × ℕ)) → Apart n a l → runLengths (map entry l) ≡ count (held l) n
+unfolding Apart runLengths held bit
+lengths-count n a [] p = sym (count-never (held []) n (λ j b. refl))
+lengths-count n a (x ∷ l) p =
+    let first : ℕ → Bool = λ j. leb (x .0) j && leb j (x .1) in
+    omega (
+      arith,
+      lengths-count n (x .1 + 2) l (p .3),
+      count-range (x .0) (x .1) n,
+      count-never (λ j. false) n (λ j b. refl),
+      count-add (held (x ∷ l)) (λ j. false) first (held l) n (λ j b. omega (arith, bit-or (first j) (held l j) (first-or-rest n a x l j p))),
+    )
