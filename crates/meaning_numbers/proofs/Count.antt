@@ -6,7 +6,7 @@ use native.Mathlib.Omega.{arith}
 use native.Mathlib.Numerals.{add-one}
 use native.Mathlib.Nat.{le-step}
 use native.Mathlib.Decide.{decLt}
-use Rattle.meaning_numbers.specs.Sum.{Σℕ, bit, count}
+use Rattle.meaning_numbers.specs.Sum.{bit, count}
 
 pub bit-le : (b : Bool) → bit b ≤ 1
 unfolding bit
@@ -76,11 +76,11 @@ unfolding count
 count-shift p zero = omega arith
 count-shift p (suc n) = let h : count p (suc n) ≡ bit (p 0) + count (λ j. p (suc j)) n = count-shift p n in omega (arith, h)
 
--- a count is a sum of ones
-pub count-sum : (p : ℕ → Bool) (n : ℕ) → count p n ≡ Σℕ n (λ j. bit (p j))
-unfolding count Σℕ
-count-sum p zero = refl
-count-sum p (suc n) = rw (count-sum p n)
+-- each number passes or does not
+pub count-not : (p : ℕ → Bool) (n : ℕ) → count (λ j. not (p j)) n + count p n ≡ n
+unfolding count
+count-not p zero = refl
+count-not p (suc n) = omega (arith, count-not p n, bit-not (p n))
 
 -- no number passes exactly if the count is 0
 pub count-never : (p : ℕ → Bool) (n : ℕ) → ((j : ℕ) → j < n → p j ≡ false) → count p n ≡ 0

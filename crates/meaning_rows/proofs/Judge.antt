@@ -3,7 +3,7 @@
 use mathlib.Core.Path.{_≡_, refl, sym, ap, _∙_, subst}
 use mathlib.Core.Logic.{_⊎_, inl, inr, ⊎-elim}
 use mathlib.Core.Bool.{Bool, true, false, cond, _&&_, false≢true}
-use mathlib.Core.List.{List, [], _∷_, map, List·Memᴰ as Mem, List·Memᴰ·head as here, List·Memᴰ·tail as there, List·Memᴰ·not-nil as not-nil, List·Memᴰ·cases-cons as cases}
+use mathlib.Core.List.{List, [], _∷_, map}
 use mathlib.Core.Option.{Option, none, some}
 use Prim.Native.Nat.{ℕ, zero, suc, _+_, _-_, _<_, _≤_, min}
 use native.Mathlib.Omega.{arith}
@@ -15,16 +15,17 @@ use borrow.Author.Tests.{leb-true, eqb-true, le-leb, eq-eqb, lt-ltb, ltb-true}
 use Rattle.meaning_numbers.specs.Order.{within}
 use Rattle.meaning_numbers.specs.Quotient.{multiple}
 use Rattle.meaning_numbers.specs.Sum.{count}
-use Rattle.meaning_numbers.proofs.Rep.{zarith}
+use Rattle.meaning_numbers.specs.Place.{any}
+use Rattle.meaning_numbers.proofs.Count.{count-cong}
 use Rattle.meaning_numbers.proofs.Machine.{ltZ-true, leZ-true, lt-ltZ}
-use Rattle.meaning_numbers.proofs.Place.{by-test, both, of-both, clash}
+use Rattle.meaning_numbers.proofs.Place.{by-test, both, of-both, clash, All, all-mem, mem-at}
 use Rattle.meaning_curves.specs.Limits.{windowIn, widthIn, windowsIn, endIn, lowestEnd, mostValues}
 use Rattle.meaning_rows.specs.declared.Row.{Row}
-use Rattle.meaning_rows.specs.Index.{Index, Entry, runsOf}
+use Rattle.meaning_rows.specs.Index.{Index, Entry, runsOf, inRun, stands}
 use Rattle.meaning_rows.specs.Judge.{headGood, runsGood, runLengths, rangeGood, partGood, rowGood, badRowFrom, firstBadRow}
 use Rattle.meaning_rows.specs.Build.{entry}
 use Rattle.meaning_rows.proofs.Range.{le-leZ}
-use Rattle.meaning_rows.proofs.Runs.{Apart, held}
+use Rattle.meaning_rows.proofs.Runs.{Apart, held, entries-hold, held-in, lengths-count}
 use Rattle.meaning_rows.proofs.Times.{Range, Ascending}
 
 -- ---- limits
@@ -223,3 +224,97 @@ first-bad x k e = by-test (headGood x)
     let i : b .0 ≡ k = omega (arith, b .1) in
     inr record { head = h; is-row = rw i at (b .2); before = rw i at (b .3); bad = rw i at (b .4) })
     (λ f. inl (same-some (rw f at e), λ h. clash (head-good x h) f))
+
+-- ---- what follows for the rows of a well-formed index
+
+abbrev pub rangeOf : Row → Range
+rangeOf r = (r .low, r .up)
+
+-- how many runs some rows have, and their run lengths added up
+unfoldable pub runTotal : List Row → ℕ
+runTotal [] = 0
+runTotal (r ∷ l) = r .runs + runTotal l
+
+unfoldable pub lengthTotal : Index → List Row → ℕ
+lengthTotal x [] = 0
+lengthTotal x (r ∷ l) = runLengths (runsOf x r) + lengthTotal x l
+
+length-apart : (n a : ℕ) (l : List (ℕ × ℕ)) → Apart n a l → length (map entry l) ≤ runLengths (map entry l)
+unfolding Apart runLengths
+length-apart n a [] p = omega arith
+length-apart n a (x ∷ l) p = omega (arith, length-apart n (x .1 + 2) l (p .3))
+
+module _ (x : Index) where
+  pub length-runsOf : (r : Row) → r .first + r .runs ≤ length (x .runs) → length (runsOf x r) ≡ r .runs
+  length-runsOf r h = simp (length-take, length-drop) (omega arith)
+
+  pub runs-lengths : (r : Row) → GoodRow x r → r .runs ≤ runLengths (runsOf x r)
+  runs-lengths r g =
+      let e = g .good .is in
+      let h = length-apart (natAbs (x .windows)) 0 (g .good .plain) (g .good .apart) in
+      omega (arith, length-runsOf r (g .fits), subst (λ (l : List Entry). length l ≤ runLengths l) (sym e) h)
+
+  -- a row's windows are as many as its run lengths add up to
+  pub lengths-are : (r : Row) → GoodRow x r → runLengths (runsOf x r) ≡ count (stands x r) (natAbs (x .windows))
+  lengths-are r g =
+      let n = natAbs (x .windows) in
+      let m = g .good .plain in
+      subst (λ (l : List Entry). runLengths l ≡ count (λ j. any (inRun j) l) n) (sym (g .good .is))
+      (lengths-count n 0 m (g .good .apart) ∙ count-cong (held m) (λ j. any (inRun j) (map entry m)) n (λ j b. sym (entries-hold m j)))
+
+  -- a window that stands in a row is below the window count
+  pub stands-below : (r : Row) (j : ℕ) → GoodRow x r → stands x r j ≡ true → j < natAbs (x .windows)
+  stands-below r j g t =
+      let m = g .good .plain in
+      held-in (natAbs (x .windows)) 0 m j (g .good .apart) (sym (entries-hold m j) ∙ subst (λ (l : List Entry). any (inRun j) l ≡ true) (g .good .is) t) .1
+
+  pub each-good : (least : ℤ) (first taken : ℕ) (l : List Row) → GoodRows x least first taken l → All (GoodRow x) l
+  unfolding GoodRows All
+  each-good least first taken [] g = tt
+  each-good least first taken (r ∷ l) g = (g .0 .row, each-good (r .up) (first + r .runs) (taken + runLengths (runsOf x r)) l (g .1))
+
+  pub rows-ascend : (least : ℤ) (first taken : ℕ) (l : List Row) → GoodRows x least first taken l → Ascending least (map rangeOf l)
+  unfolding GoodRows Ascending
+  rows-ascend least first taken [] g = tt
+  rows-ascend least first taken (r ∷ l) g = (g .0 .order, g .0 .row .wide, rows-ascend (r .up) (first + r .runs) (taken + runLengths (runsOf x r)) l (g .1))
+
+  lengths-within : (least : ℤ) (first taken : ℕ) (l : List Row) → taken ≤ natAbs (x .windows) → GoodRows x least first taken l → taken + lengthTotal x l ≤ natAbs (x .windows)
+  unfolding GoodRows lengthTotal
+  lengths-within least first taken [] h g = omega arith
+  lengths-within least first taken (r ∷ l) h g =
+      omega (arith, lengths-within (r .up) (first + r .runs) (taken + runLengths (runsOf x r)) l (g .0 .total) (g .1))
+
+  runs-within : (l : List Row) → All (GoodRow x) l → (length l ≤ runTotal l) × (runTotal l ≤ lengthTotal x l)
+  unfolding All runTotal lengthTotal
+  runs-within [] g = (omega arith, omega arith)
+  runs-within (r ∷ l) g = let h = runs-within l (g .1) in (omega (arith, g .0 .some-run), omega (arith, runs-lengths r (g .0)))
+
+  parts : (o : Row) (k : ℕ) (least : ℤ) (first taken : ℕ) (l : List Row) → k < length l → GoodRows x least first taken l → getD l k o .first ≡ first + runTotal (take k l)
+  unfolding GoodRows runTotal
+  parts o k least first taken [] h g = absurd (omega arith)
+  parts o zero least first taken (r ∷ l) h g = omega (arith, g .0 .begins)
+  parts o (suc k) least first taken (r ∷ l) h g = omega (arith, parts o k (r .up) (first + r .runs) (taken + runLengths (runsOf x r)) l (omega arith) (g .1))
+
+  module _ (f : WellFormed x) where
+    pub each-row : All (GoodRow x) (x .rows)
+    each-row = each-good lowestEnd 0 0 (x .rows) (f .rows)
+
+    pub ranges-ascend : Ascending lowestEnd (map rangeOf (x .rows))
+    ranges-ascend = rows-ascend lowestEnd 0 0 (x .rows) (f .rows)
+
+    pub row-at : (o : Row) (k : ℕ) → k < length (x .rows) → GoodRow x (getD (x .rows) k o)
+    row-at o k h = all-mem (GoodRow x) (x .rows) each-row (mem-at o (x .rows) k h)
+
+    -- a row's runs begin where those of the rows before end
+    pub first-at : (o : Row) (k : ℕ) → k < length (x .rows) → getD (x .rows) k o .first ≡ runTotal (take k (x .rows))
+    first-at o k h = omega (arith, parts o k lowestEnd 0 0 (x .rows) h (f .rows))
+
+    -- run lengths total at most the windows
+    pub lengths-at-most : lengthTotal x (x .rows) ≤ natAbs (x .windows)
+    lengths-at-most = omega (arith, lengths-within lowestEnd 0 0 (x .rows) (omega arith) (f .rows))
+
+    pub rows-at-most : length (x .rows) ≤ natAbs (x .windows)
+    rows-at-most = omega (arith, runs-within (x .rows) each-row, lengths-at-most)
+
+    pub runs-at-most : runTotal (x .rows) ≤ natAbs (x .windows)
+    runs-at-most = omega (arith, runs-within (x .rows) each-row, lengths-at-most)

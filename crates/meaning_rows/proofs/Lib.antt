@@ -3,5 +3,6 @@ pub mod Range
 pub mod Runs
 pub mod Times
 pub mod Judge
+pub mod Audit
 pub mod Open
 pub mod Cases

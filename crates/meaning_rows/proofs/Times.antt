@@ -1,4 +1,4 @@
--- A list of sets of offsets, each given as a test: how many of them have an offset (`times`), and their sizes added up, which count each offset as often (`sizes-are`).
+-- A list of sets of offsets, each given as a test: how many of them have an offset (`times`), and their sizes added up (`sizes`), which count each offset as often (`sizes-more`).
 -- And of ranges: where they ascend, at most one holds a sum (`holders-are`). Assumes nothing.
 use mathlib.Core.Path.{_≡_, refl, sym, ap, _∙_}
 use mathlib.Core.Bool.{Bool, true, false, _&&_, _||_}
@@ -8,7 +8,7 @@ use native.Mathlib.Omega.{arith}
 use native.Mathlib.Nat.{le-step}
 use lib.IntN.{ℤ, pos}
 use lib.Signed.{_≤ℤ_, _<ℤ_}
-use Rattle.meaning_numbers.specs.Sum.{Σℕ, bit, count}
+use Rattle.meaning_numbers.specs.Sum.{bit, count}
 use Rattle.meaning_numbers.specs.Place.{any}
 use Rattle.meaning_numbers.proofs.Rep.{zarith}
 use Rattle.meaning_numbers.proofs.Count.{bit-false, false-bit}
@@ -36,10 +36,11 @@ unfolding sizes count times
 sizes-more [] n = refl
 sizes-more (p ∷ l) n = omega (arith, sizes-more l n)
 
-pub sizes-are : (l : List (ℕ → Bool)) (n : ℕ) → sizes l n ≡ Σℕ n (times l)
-unfolding Σℕ
-sizes-are l zero = sizes-none l
-sizes-are l (suc n) = omega (arith, sizes-more l n, sizes-are l n)
+-- where at most one set has an offset, they have as many offsets as are in some set
+pub sizes-count : (l : List (ℕ → Bool)) (p : ℕ → Bool) (n : ℕ) → ((j : ℕ) → j < n → times l j ≡ bit (p j)) → sizes l n ≡ count p n
+unfolding count
+sizes-count l p zero h = sizes-none l
+sizes-count l p (suc n) h = omega (arith, sizes-more l n, sizes-count l p n (λ j b. h j (le-step b)), h n (omega arith))
 
 -- where each offset from m on stands in one set, n - m more are counted
 pub sizes-once : (l : List (ℕ → Bool)) (m k : ℕ) → ((j : ℕ) → m ≤ j → j < m + k → times l j ≡ 1) → sizes l (m + k) ≡ sizes l m + k
