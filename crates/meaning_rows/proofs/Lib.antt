@@ -2,6 +2,7 @@
 pub mod Range
 pub mod Runs
 pub mod Times
+pub mod Build
 pub mod Judge
 pub mod Audit
 pub mod Open
