@@ -12,7 +12,7 @@ use lib.Dec.{ltb}
 use lib.ListN.{length, length-map, length-append}
 use lib.IntN.{ℤ, pos, _+ℤ_, _*ℤ_}
 use lib.Signed.{_≤ℤ_, _<ℤ_, ltZ, ≤ℤ-refl}
-use borrow.Author.Tests.{lt-ltb}
+use borrow.Author.Tests.{lt-ltb, ltb-true}
 use Rattle.meaning_numbers.specs.Sum.{bit, count}
 use Rattle.meaning_numbers.specs.Place.{any}
 use Rattle.meaning_numbers.proofs.Rep.{zarith}
@@ -24,7 +24,7 @@ use Rattle.meaning_rows.specs.Index.{RangeRow, inRun, allRuns}
 use Rattle.meaning_rows.specs.Build.{SetRow, insert, rowNumbers, rowAt, filed, join, takes, upward, merged, entry, withRuns, builtRows}
 use Rattle.meaning_rows.proofs.Range.{inside-yes, is-inside, inside-join, widen, next-le, row-after, row-before, in-own}
 use Rattle.meaning_rows.proofs.Runs.{runs-cong, runs-le-count, runs-hold, held, entries-of-runs}
-use Rattle.meaning_rows.proofs.Times.{Range, holds, Ascending, holders, holders-are, times, sizes, sizes-once}
+use Rattle.meaning_rows.proofs.Times.{Range, holds, Ascending, holders, holders-are, times, sizes, sizes-all}
 
 abbrev pub range : SetRow → Range
 range r = (r .low, r .up)
@@ -323,3 +323,189 @@ sorted-unique (x ∷ l) (y ∷ m) s t f g =
           (λ z o. ⊎-elim (λ q. let a : x <ℤ z = mem-above z x l (s .0) o in absurd (omega zarith)) (λ n. n) (cases (f z (there o))))
           (λ z o. ⊎-elim (λ q. let a : y <ℤ z = mem-above z y m (t .0) o in absurd (omega zarith)) (λ n. n) (cases (g z (there o)))),
     )
+
+-- ---- no row is empty
+
+pub record Occupied (n : ℕ) (r : SetRow) : Type 0 where
+  pub at : ℕ
+  pub below : at < n
+  pub member : r .has at ≡ true
+
+occupied-join : (n : ℕ) (r s : SetRow) → Occupied n r → Occupied n s → Occupied n (join r s)
+unfolding join
+occupied-join n r s o q = record { at = o .at; below = o .below; member = rw (o .member) }
+
+some-held : (l : List (ℕ × ℕ)) (j : ℕ) → held l j ≡ true → 1 ≤ length l
+unfolding held
+some-held [] j e = clash e refl
+some-held (x ∷ l) j e = omega arith
+
+pub occupied-runs : (n : ℕ) (r : SetRow) → Occupied n r → 1 ≤ runCount (r .has) n
+occupied-runs n r o = some-held (runs (r .has) n) (o .at) (runs-hold (r .has) n (o .at) ∙ rw (lt-ltb (o .at) n (o .below), o .member))
+
+-- both ends of a range are so
+pub record Ends (P : ℤ → Type 0) (r : SetRow) : Type 0 where
+  pub low-end : P (r .low)
+  pub up-end : P (r .up)
+
+ends-join : (P : ℤ → Type 0) (r s : SetRow) → Ends P r → Ends P s → Ends P (join r s)
+unfolding join
+ends-join P r s o q = record { low-end = o .low-end; up-end = q .up-end }
+
+-- runs are at most as many as members
+pub runs-sizes : (n : ℕ) (rows : List SetRow) → length (allRuns (map (withRuns n) rows)) ≤ sizes (sets rows) n
+unfolding allRuns withRuns sizes
+runs-sizes n [] = omega arith
+runs-sizes n (r ∷ rows) = omega (
+    arith,
+    length-append (map entry (runs (r .has) n)) (allRuns (map (withRuns n) rows)),
+    length-map (runs (r .has) n) entry,
+    runs-le-count (r .has) n,
+    runs-sizes n rows,
+  )
+
+-- ---- the build
+
+-- the rows of a build, with their offsets as sets
+abbrev pub mergedRows : (ℕ → ℤ) → ℕ → ℕ → ℕ → List SetRow
+mergedRows sum d g n = merged g n (filed sum d n)
+
+module _ (sum : ℕ → ℤ) (d n : ℕ) (one : 0 < d) where
+  fine-at : (k : ℤ) → Fine sum n (rowAt sum d k)
+  unfolding rowAt
+  fine-at k = record { wide = widen d k one; exact = λ j l. refl }
+
+  -- a window's row number is at most k, or among those that follow
+  filed-chain : (k : ℤ) (ks : List ℤ) → Sorted (k ∷ ks) → ((j : ℕ) → j < n → (rowNumber d (sum j) ≤ℤ k) ⊎ Mem (rowNumber d (sum j)) ks)
+      → Chain sum n (rowAt sum d k) (map (rowAt sum d) ks)
+  unfolding Chain Sorted Above rowAt
+  filed-chain k [] s m = fine-at k
+  filed-chain k (l ∷ ks) s m =
+      let k<l : k <ℤ l = s .0 .0 in (
+        fine-at k,
+        record {
+          order = next-le d k l k<l;
+          none = λ j b h t. let up : k <ℤ rowNumber d (sum j) = row-after d k (sum j) one h in
+              let dn : rowNumber d (sum j) <ℤ l = row-before d l (sum j) one t in
+              ⊎-elim (λ low. omega zarith)
+              (λ o. ⊎-elim (λ e. omega zarith) (λ q. let x : l <ℤ rowNumber d (sum j) = mem-above (rowNumber d (sum j)) l ks (s .1 .0) q in omega zarith) (cases o)) (m j b);
+        },
+        filed-chain l ks (s .1) (λ j b. ⊎-elim (λ low. inl (omega zarith)) (λ o. ⊎-elim (λ e. inl (omega zarith)) (λ q. inr q) (cases o)) (m j b)),
+      )
+
+  tiled-of : (ks : List ℤ) → Sorted ks → ((j : ℕ) → j < n → Mem (rowNumber d (sum j)) ks) → Tiled sum n (map (rowAt sum d) ks)
+  unfolding Tiled Sorted
+  tiled-of [] s m = tt
+  tiled-of (k ∷ ks) s m = filed-chain k ks s (λ j b. ⊎-elim (λ e. inl (omega zarith)) (λ o. inr o) (cases (m j b)))
+
+  pub filed-tiled : Tiled sum n (filed sum d n)
+  unfolding filed
+  filed-tiled = tiled-of (rowNumbers sum d n) (numbers-sorted sum d n) (λ j b. numbers-mem sum d n j b)
+
+  pub filed-covers : (j : ℕ) → j < n → covered (sum j) (filed sum d n) ≡ true
+  unfolding filed rowAt
+  filed-covers j b = any-mem (λ r. inside (r .low) (r .up) (sum j)) (mem-map (rowAt sum d) (numbers-mem sum d n j b)) (in-own d (sum j) one)
+
+  filed-all : (P : SetRow → Type 0) → ((j : ℕ) → j < n → P (rowAt sum d (rowNumber d (sum j)))) → All P (filed sum d n)
+  unfolding filed
+  filed-all P h = mem-all P (map (rowAt sum d) (rowNumbers sum d n)) (λ r m.
+      let i = map-mem (rowAt sum d) (rowNumbers sum d n) m in
+      let o = numbers-occur sum d n (i .entry) (i .is) in
+      subst P (sym (i .same ∙ ap (rowAt sum d) (sym (o .is)))) (h (o .at) (o .below)))
+
+  module _ (g : ℕ) where
+    pub built-tiled : Tiled sum n (mergedRows sum d g n)
+    built-tiled = merged-tiled sum n g (filed sum d n) filed-tiled
+
+    pub built-covers : (j : ℕ) → j < n → covered (sum j) (mergedRows sum d g n) ≡ true
+    built-covers j b = merged-covers sum n g (sum j) (filed sum d n) filed-tiled (filed-covers j b)
+
+    pub built-once : (j : ℕ) → j < n → times (sets (mergedRows sum d g n)) j ≡ 1
+    built-once j b = tiled-once sum n j b (mergedRows sum d g n) built-tiled (built-covers j b)
+
+    pub built-occupied : All (Occupied n) (mergedRows sum d g n)
+    unfolding rowAt
+    built-occupied = merged-all (Occupied n) (occupied-join n) g n (filed sum d n)
+        (filed-all (Occupied n) (λ j b. record { at = j; below = b; member = in-own d (sum j) one }))
+
+    pub built-ends : (P : ℤ → Type 0) → ((j : ℕ) → j < n → P (lowOf d (rowNumber d (sum j))) × P (upOf d (rowNumber d (sum j)))) → All (Ends P) (mergedRows sum d g n)
+    unfolding rowAt
+    built-ends P h = merged-all (Ends P) (ends-join P) g n (filed sum d n) (filed-all (Ends P) (λ j b. record { low-end = h j b .0; up-end = h j b .1 }))
+
+    -- a row of a build has exactly the windows whose sums its range holds
+    pub built-holds : (r : RangeRow) (j : ℕ) → Mem r (builtRows sum d g n) → any (inRun j) (r .runs) ≡ (ltb j n && inside (r .low) (r .up) (sum j))
+    unfolding builtRows withRuns
+    built-holds r j m =
+        let i = map-mem (withRuns n) (mergedRows sum d g n) m in
+        let q = i .entry in
+        let f = all-mem (Fine sum n) (mergedRows sum d g n) (tiled-fine sum n (mergedRows sum d g n) built-tiled) (i .is) in
+        subst (λ (t : RangeRow). any (inRun j) (t .runs) ≡ (ltb j n && inside (t .low) (t .up) (sum j))) (sym (i .same))
+        (entries-of-runs (q .has) n j ∙ by-test (ltb j n) (λ t. rw (t, f .exact j (ltb-true j n t))) (λ u. rw u))
+
+    pub built-length : length (builtRows sum d g n) ≤ n
+    unfolding builtRows filed
+    built-length = omega (
+        arith,
+        length-map (mergedRows sum d g n) (withRuns n),
+        merged-length g n (filed sum d n),
+        length-map (rowNumbers sum d n) (rowAt sum d),
+        numbers-length sum d n,
+      )
+
+    pub built-runs : length (allRuns (builtRows sum d g n)) ≤ n
+    unfolding builtRows
+    built-runs = omega (arith, runs-sizes n (mergedRows sum d g n), sizes-all (sets (mergedRows sum d g n)) n built-once)
+
+-- ---- merging told by ranges alone
+
+-- the windows whose sums a range holds
+abbrev pub heldBy : (ℕ → ℤ) → Range → ℕ → Bool
+heldBy sum r j = inside (r .0) (r .1) (sum j)
+
+unfoldable pub takesRange : (ℕ → ℤ) → ℕ → ℕ → Range → Range → Bool
+takesRange sum g n r s = ltb (100 * runCount (heldBy sum (r .0, s .1)) n) (g * (runCount (heldBy sum r) n + runCount (heldBy sum s) n))
+
+unfoldable pub upwardRange : (ℕ → ℤ) → ℕ → ℕ → Range → List Range → List Range
+upwardRange sum g n r [] = r ∷ []
+upwardRange sum g n r (s ∷ rest) = elim (takesRange sum g n r s) [ true ↦ upwardRange sum g n (r .0, s .1) rest | false ↦ r ∷ upwardRange sum g n s rest ]
+
+unfoldable pub mergedRange : (ℕ → ℤ) → ℕ → ℕ → List Range → List Range
+mergedRange sum g n [] = []
+mergedRange sum g n (r ∷ rest) = upwardRange sum g n r rest
+
+pub range-yes : (sum : ℕ → ℤ) (g n : ℕ) (r s : Range) (rest : List Range) → takesRange sum g n r s ≡ true → upwardRange sum g n r (s ∷ rest) ≡ upwardRange sum g n (r .0, s .1) rest
+unfolding upwardRange
+range-yes sum g n r s rest t = rw (t, upwardRange)
+
+pub range-no : (sum : ℕ → ℤ) (g n : ℕ) (r s : Range) (rest : List Range) → takesRange sum g n r s ≡ false → upwardRange sum g n r (s ∷ rest) ≡ r ∷ upwardRange sum g n s rest
+unfolding upwardRange
+range-no sum g n r s rest f = rw (f, upwardRange)
+
+module _ (sum : ℕ → ℤ) (n : ℕ) where
+  -- a row's runs are the runs of the windows whose sums its range holds
+  pub fine-runs : (r : SetRow) → Fine sum n r → runs (r .has) n ≡ runs (heldBy sum (range r)) n
+  fine-runs r f = runs-cong (r .has) (heldBy sum (range r)) n (f .exact)
+
+  takes-range : (g : ℕ) (r s : SetRow) → Fine sum n r → Fine sum n s → Gap sum n (r .up) (s .low) → takes g n r s ≡ takesRange sum g n (range r) (range s)
+  unfolding takes takesRange join
+  takes-range g r s f h gap = rw (fine-runs (join r s) (fine-join sum n r s f h gap), fine-runs r f, fine-runs s h)
+
+  upward-range : (g : ℕ) (r : SetRow) (rest : List SetRow) → Chain sum n r rest → map range (upward g n r rest) ≡ upwardRange sum g n (range r) (map range rest)
+  unfolding upward upwardRange Chain join
+  upward-range g r [] c = refl
+  upward-range g r (s ∷ rest) c = by-test (takes g n r s)
+      (λ t. let e : takesRange sum g n (range r) (range s) ≡ true = sym (same c) ∙ t in
+      rw (upward-yes g n r s rest t) (upward-range g (join r s) rest (chain-join sum n r s rest c) ∙ sym (range-yes sum g n (range r) (range s) (map range rest) e)))
+      (λ t. let e : takesRange sum g n (range r) (range s) ≡ false = sym (same c) ∙ t in
+      rw (upward-no g n r s rest t) (ap (λ (l : List Range). range r ∷ l) (upward-range g s rest (c .2)) ∙ sym (range-no sum g n (range r) (range s) (map range rest) e)))
+    where
+      same : Chain sum n r (s ∷ rest) → takes g n r s ≡ takesRange sum g n (range r) (range s)
+      same c = takes-range g r s (c .0) (fine-first sum n s rest (c .2)) (c .1)
+
+  pub merged-range : (g : ℕ) (rows : List SetRow) → Tiled sum n rows → map range (merged g n rows) ≡ mergedRange sum g n (map range rows)
+  unfolding merged mergedRange Tiled
+  merged-range g [] t = refl
+  merged-range g (r ∷ rest) t = upward-range g r rest t
+
+pub built-range : (sum : ℕ → ℤ) (d g n : ℕ) → 0 < d → map range (mergedRows sum d g n) ≡ mergedRange sum g n (map range (filed sum d n))
+built-range sum d g n one = merged-range sum n g (filed sum d n) (filed-tiled sum d n one)

@@ -42,6 +42,11 @@ unfolding count
 sizes-count l p zero h = sizes-none l
 sizes-count l p (suc n) h = omega (arith, sizes-more l n, sizes-count l p n (λ j b. h j (le-step b)), h n (omega arith))
 
+-- where each offset stands in one set, all are counted once
+pub sizes-all : (l : List (ℕ → Bool)) (n : ℕ) → ((j : ℕ) → j < n → times l j ≡ 1) → sizes l n ≡ n
+sizes-all l zero h = sizes-none l
+sizes-all l (suc n) h = omega (arith, sizes-more l n, sizes-all l n (λ j b. h j (le-step b)), h n (omega arith))
+
 -- where each offset from m on stands in one set, n - m more are counted
 pub sizes-once : (l : List (ℕ → Bool)) (m k : ℕ) → ((j : ℕ) → m ≤ j → j < m + k → times l j ≡ 1) → sizes l (m + k) ≡ sizes l m + k
 sizes-once l m zero h = let e : m + 0 ≡ m = omega arith in rw e (omega arith)
