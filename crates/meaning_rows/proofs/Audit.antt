@@ -256,19 +256,24 @@ one-holder a z r q (y ∷ l) p m n h k = ⊎-elim
         omega zarith
 
 module _ (x : Index) (s : List ℤ) (g : WellFormed x) where
-  pub audit-yes : firstWrong x s ≡ none → missing x ≡ 0 → Filed x s
-  unfolding missing
-  audit-yes e z = record { home = λ j b.
-      let right = all-right x s g e in
-      let at = any-found (λ r. stands x r j) (x .rows) (not-false (any (λ r. stands x r j) (x .rows)) (never-count (nowhere x) (natAbs (x .windows)) z j b)) in
-      let h = all-mem (RightRow x (sums x s)) (x .rows) right (at .is) j (at .passes) in
+  -- a window that is filed right wherever it stands, and stands somewhere, has a home
+  pub home-of : (j : ℕ) → ((r : Row) → Mem r (x .rows) → stands x r j ≡ true → inside (r .low) (r .up) (sums x s j) ≡ true) → any (λ r. stands x r j) (x .rows) ≡ true → Home x s j
+  home-of j right e =
+      let at = any-found (λ r. stands x r j) (x .rows) e in
+      let h = right (at .entry) (at .is) (at .passes) in
       record {
         row = at .entry;
         is = at .is;
         stands-there = at .passes;
         holds-it = h;
-        no-other = λ r m t. one-holder lowestEnd (sums x s j) r (at .entry) (x .rows) (ranges-ascend x g) m (at .is) (all-mem (RightRow x (sums x s)) (x .rows) right m j t) h;
-      } }
+        no-other = λ r m t. one-holder lowestEnd (sums x s j) r (at .entry) (x .rows) (ranges-ascend x g) m (at .is) (right r m t) h;
+      }
+
+  pub audit-yes : firstWrong x s ≡ none → missing x ≡ 0 → Filed x s
+  unfolding missing
+  audit-yes e z = record { home = λ j b. home-of j
+      (λ r m t. all-mem (RightRow x (sums x s)) (x .rows) (all-right x s g e) m j t)
+      (not-false (any (λ r. stands x r j) (x .rows)) (never-count (nowhere x) (natAbs (x .windows)) z j b)) }
 
   pub filed-passes : Filed x s → (firstWrong x s ≡ none) × (missing x ≡ 0)
   unfolding missing

@@ -4,6 +4,7 @@ pub mod Runs
 pub mod Times
 pub mod Build
 pub mod Judge
+pub mod Laid
 pub mod Audit
 pub mod Open
 pub mod Cases
