@@ -17,6 +17,7 @@ use Rattle.meaning_numbers.specs.Sum.{bit, count}
 use Rattle.meaning_numbers.specs.Place.{any}
 use Rattle.meaning_numbers.proofs.Rep.{zarith}
 use Rattle.meaning_numbers.proofs.Machine.{ltZ-true, ltZ-false, lt-ltZ, le-ltZ}
+use Rattle.meaning_numbers.proofs.Count.{bit-true}
 use Rattle.meaning_numbers.proofs.Place.{by-test, clash, any-mem, any-map, mem-map, All, all-mem, mem-all, map-mem}
 use Rattle.meaning_rows.specs.Range.{rowNumber, lowOf, upOf, inside}
 use Rattle.meaning_rows.specs.Runs.{runs, runCount}
@@ -36,6 +37,19 @@ sets l = map (λ r. r .has) l
 -- some row's range holds z
 abbrev pub covered : ℤ → List SetRow → Bool
 covered z l = any (λ r. inside (r .low) (r .up) z) l
+
+-- the row has j exactly if its range holds z
+abbrev pub Exact : ℤ → ℕ → SetRow → Type 0
+Exact z j r = r .has j ≡ inside (r .low) (r .up) z
+
+exact-times : (z : ℤ) (j : ℕ) (rows : List SetRow) → All (Exact z j) rows → times (sets rows) j ≡ holders (map range rows) z
+unfolding All times holders
+exact-times z j [] h = refl
+exact-times z j (r ∷ rest) h = rw (h .0, exact-times z j rest (h .1))
+
+-- where rows ascend and one holds its sum, an offset stands in one row
+pub exact-once : (a z : ℤ) (j : ℕ) (rows : List SetRow) → Ascending a (map range rows) → All (Exact z j) rows → covered z rows ≡ true → times (sets rows) j ≡ 1
+exact-once a z j rows p h e = exact-times z j rows h ∙ holders-are a z (map range rows) p ∙ rw (any-map (holds z) range rows, e) (bit-true refl)
 
 -- ---- rows that tile the windows
 
@@ -151,18 +165,12 @@ module _ (sum : ℕ → ℤ) (n : ℕ) where
   tiled-fine [] t = tt
   tiled-fine (r ∷ rest) t = chain-ascends (r .low) r rest (≤ℤ-refl (r .low)) t .1
 
-  -- a window stands in as many rows as hold its sum
-  pub fine-times : (j : ℕ) → j < n → (rows : List SetRow) → All (Fine sum n) rows → times (sets rows) j ≡ holders (map range rows) (sum j)
-  unfolding All times holders
-  fine-times j b [] f = refl
-  fine-times j b (r ∷ rest) f = rw (f .0 .exact j b, fine-times j b rest (f .1))
-
   pub tiled-once : (j : ℕ) → j < n → (rows : List SetRow) → Tiled sum n rows → covered (sum j) rows ≡ true → times (sets rows) j ≡ 1
   unfolding Tiled any bit
   tiled-once j b [] t e = clash e refl
   tiled-once j b (r ∷ rest) t e =
       let k = chain-ascends (r .low) r rest (≤ℤ-refl (r .low)) t in
-      fine-times j b (r ∷ rest) (k .1) ∙ holders-are (r .low) (sum j) (map range (r ∷ rest)) (k .0) ∙ rw (any-map (holds (sum j)) range (r ∷ rest), e)
+      exact-once (r .low) (sum j) j (r ∷ rest) (k .0) (mem-all (Exact (sum j) j) (r ∷ rest) (λ q m. all-mem (Fine sum n) (r ∷ rest) (k .1) m .exact j b)) e
 
 -- ---- what both rows of a join have, it has
 

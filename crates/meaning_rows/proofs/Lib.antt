@@ -6,5 +6,6 @@ pub mod Build
 pub mod Judge
 pub mod Laid
 pub mod Audit
+pub mod Sets
 pub mod Open
 pub mod Cases
