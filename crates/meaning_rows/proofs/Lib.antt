@@ -7,5 +7,6 @@ pub mod Judge
 pub mod Laid
 pub mod Audit
 pub mod Sets
+pub mod Sums
 pub mod Open
 pub mod Cases

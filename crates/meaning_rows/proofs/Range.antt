@@ -1,14 +1,16 @@
 -- Row k holds exactly its sums, negative ones too: a sum lies in the range of its row number (`row-holds`) and in no other row's (`row-only`), by the two inequalities of the quotient rounded down.
 -- A range test is read as its two orders both ways (`inside-yes`, `is-inside`), and two ranges with nothing between them join (`inside-join`). Assumes nothing.
-use mathlib.Core.Path.{_≡_, refl, sym, _∙_, subst}
+use mathlib.Core.Path.{_≡_, refl, sym, ap, _∙_, subst}
 use mathlib.Core.Bool.{Bool, true, false, cond, _&&_, _||_, and-false}
-use Prim.Native.Nat.{ℕ, zero, suc, _+_, _*_, _/_, _<_, _≤_}
+use Prim.Native.Nat.{ℕ, zero, suc, _+_, _*_, _/_, _%_, _<_, _≤_}
 use native.Mathlib.Omega.{arith}
-use native.Mathlib.Nat.{div-mul-le-self, lt-div-mul-add}
+use native.Mathlib.Nat.{div-mul-le-self, lt-div-mul-add, div-add-mod', mul-mod-left}
 use lib.Dec.{T}
-use lib.IntN.{ℤ, pos, subℕ, _+ℤ_, _*ℤ_}
+use lib.IntN.{ℤ, pos, negsuc, negℤ, natAbs, subℕ, _+ℤ_, _*ℤ_}
 use lib.Signed.{_≤ℤ_, _<ℤ_, leZ, ltZ}
-use Rattle.meaning_numbers.proofs.Rep.{Rep, rep-self, rep-pos, rep-add, rep-mul, rep-le, rep-lt, rep-subℕ, zarith, z-add, *ℤ-mono}
+use borrow.Author.Tests.{eqb-true, eq-eqb}
+use Rattle.meaning_numbers.specs.Quotient.{multiple}
+use Rattle.meaning_numbers.proofs.Rep.{Rep, rep-self, rep-pos, rep-add, rep-mul, rep-eq, rep-le, rep-lt, rep-subℕ, zarith, z-add, *ℤ-mono}
 use Rattle.meaning_numbers.proofs.Machine.{zmach, ltZ-true, ltZ-false, lt-ltZ, le-ltZ}
 use Rattle.meaning_numbers.proofs.Quotient.{floor-is}
 use Rattle.meaning_numbers.proofs.Place.{by-test, clash}
@@ -115,3 +117,27 @@ row-raised {z} n c e b d h m one =
     let low : lowOf d k ≤ℤ z = rep-le (rep-mul K (rep-pos d)) h (omega arith) in
     let up : z <ℤ upOf d k = rep-lt h (rep-mul (rep-add K (rep-pos 1)) (rep-pos d)) (omega arith) in
     rw (← row-unique d k z one (inside-yes (lowOf d k) (upOf d k) z low up)) K
+
+-- a row's range is d wide
+pub up-is : (d : ℕ) (k : ℤ) → upOf d k ≡ lowOf d k +ℤ pos d
+up-is d k = rep-eq (rep-mul (rep-add (rep-self k) (rep-pos 1)) (rep-pos d)) (rep-add (rep-mul (rep-self k) (rep-pos d)) (rep-pos d)) (omega arith)
+
+-- ---- multiples
+
+size-neg : (n : ℕ) → natAbs (negℤ (pos n)) ≡ n
+size-neg zero = refl
+size-neg (suc n) = refl
+
+pub multiple-of : (d : ℕ) (k : ℤ) → multiple d (lowOf d k) ≡ true
+unfolding multiple
+multiple-of d (pos n) = eq-eqb (n * d % d) 0 (mul-mod-left n d)
+multiple-of d (negsuc n) = rw (size-neg (suc n * d)) (eq-eqb (suc n * d % d) 0 (mul-mod-left (suc n) d))
+
+below-zero : (d q n : ℕ) → q * d ≡ suc n → (k : ℤ) × (negsuc n ≡ lowOf d k)
+below-zero d zero n e = absurd (omega arith)
+below-zero d (suc q) n e = (negsuc q, rw e)
+
+pub multiple-is : (d : ℕ) (z : ℤ) → multiple d z ≡ true → (k : ℤ) × (z ≡ lowOf d k)
+unfolding multiple
+multiple-is d (pos n) e = (pos (n / d), ap pos (omega (arith, div-add-mod' n d, eqb-true (n % d) 0 e)))
+multiple-is d (negsuc n) e = below-zero d (suc n / d) n (omega (arith, div-add-mod' (suc n) d, eqb-true (suc n % d) 0 e))
