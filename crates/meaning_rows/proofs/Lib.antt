@@ -8,5 +8,7 @@ pub mod Laid
 pub mod Audit
 pub mod Sets
 pub mod Sums
+pub mod BuiltPasses
+pub mod Extend
 pub mod Open
 pub mod Cases

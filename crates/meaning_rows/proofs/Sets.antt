@@ -1,5 +1,5 @@
 -- Rows given by sets of offsets, laid out with their runs. A row has below n exactly the offsets of its set (`row-shows`, `shows-row`).
--- Such an index is well formed if the ranges ascend and their ends are good, no set is empty, and the sizes total at most the windows (`sets-well-formed`). Assumes nothing.
+-- Such an index is well formed if the ranges ascend and their ends are good, no set is empty, and the sizes total at most the windows (`sets-well-formed`), and then a window that its sets hold rightly has a home (`sets-home`). Assumes nothing.
 use mathlib.Core.Path.{_≡_, refl, sym, ap, _∙_, subst}
 use mathlib.Core.Logic.{⊎-elim}
 use mathlib.Core.Bool.{Bool, true, false, _&&_}
@@ -9,21 +9,26 @@ use native.Mathlib.Omega.{arith}
 use lib.Dec.{ltb}
 use lib.IntN.{ℤ, pos, natAbs}
 use lib.ListN.{length, length-map, take, drop}
-use lib.Signed.{_≤ℤ_, _<ℤ_}
+use lib.Signed.{_≤ℤ_, _<ℤ_, leZ}
 use borrow.Author.Tests.{lt-ltb}
 use Rattle.meaning_numbers.specs.Sum.{count}
 use Rattle.meaning_numbers.specs.Place.{any}
+use Rattle.meaning_numbers.specs.Order.{within}
+use Rattle.meaning_numbers.proofs.Machine.{leZ-true}
 use Rattle.meaning_numbers.proofs.Count.{count-cong}
-use Rattle.meaning_numbers.proofs.Place.{All, all-mem}
+use Rattle.meaning_numbers.proofs.Place.{by-test, both, of-both, any-map, any-found, any-mem, All}
 use Rattle.meaning_curves.specs.Limits.{lowestEnd}
+use Rattle.meaning_curves.specs.Curve.{windowSum}
 use Rattle.meaning_rows.specs.declared.Row.{Row}
+use Rattle.meaning_rows.specs.Range.{inside}
 use Rattle.meaning_rows.specs.Index.{Index, Entry, RangeRow, inRun, stands, runsOf, records, allRuns, laidOut}
 use Rattle.meaning_rows.specs.Runs.{runs}
 use Rattle.meaning_rows.specs.Judge.{runLengths}
 use Rattle.meaning_rows.specs.Build.{SetRow, entry, withRuns}
 use Rattle.meaning_rows.proofs.Runs.{held, runs-apart, runs-hold, entries-of-runs, lengths-count}
-use Rattle.meaning_rows.proofs.Times.{Ascending, sizes}
+use Rattle.meaning_rows.proofs.Times.{Ascending, times, sizes, none-times}
 use Rattle.meaning_rows.proofs.Judge.{GoodHead, GoodEnd, GoodRows, NextRow, WellFormed}
+use Rattle.meaning_rows.proofs.Audit.{Home, home-of}
 use Rattle.meaning_rows.proofs.Laid.{Lays, laid}
 use Rattle.meaning_rows.proofs.Build.{range, sets, Ends, Occupied, occupied-runs}
 
@@ -36,6 +41,9 @@ pub record Shows (x : Index) (n : ℕ) (q : SetRow) (r : Row) : Type 0 where
   pub low : r .low ≡ q .low
   pub up : r .up ≡ q .up
   pub has : (j : ℕ) → stands x r j ≡ (ltb j n && q .has j)
+
+pub shows-inside : (x : Index) (n : ℕ) (q : SetRow) (r : Row) (z : ℤ) → Shows x n q r → inside (r .low) (r .up) z ≡ inside (q .low) (q .up) z
+shows-inside x n q r z h = cc (h .low, h .up)
 
 pub record ShownBy (x : Index) (n : ℕ) (l : List Row) (q : SetRow) : Type 0 where
   pub row : Row
@@ -117,3 +125,24 @@ module _ (window width : ℤ) (n : ℕ) (all : List SetRow) where
   pub sets-well-formed : GoodHead (shown window width n all) → Sound (natAbs width) n all → WellFormed (shown window width n all)
   sets-well-formed h s =
       record { head = h; rows = good-from lowestEnd 0 0 all (laid (map (withRuns n) all)) (s .ascending) (s .ends) (s .occupied) (omega (arith, s .total)) }
+
+  -- a window that some set has, and that each set that has it holds rightly, has a home
+  pub sets-home : (s : List ℤ) (j : ℕ) → WellFormed (shown window width n all) → j < n
+      → ((q : SetRow) → Mem q all → q .has j ≡ true → inside (q .low) (q .up) (windowSum s (natAbs window) j) ≡ true) → any (λ q. q .has j) all ≡ true
+      → Home (shown window width n all) s j
+  sets-home s j g b right e =
+      let x = shown window width n all in
+      let f = any-found (λ q. q .has j) all e in
+      let r = shows-row (f .entry) (f .is) in
+      home-of x s g j
+      (λ q m t. let a = row-shows q m in let h = a .shows in
+      shows-inside x n (a .set) q (windowSum s (natAbs window) j) h ∙ right (a .set) (a .is) (both (ltb j n) (a .set .has j) (sym (h .has j) ∙ t) .1))
+      (any-mem (λ q. stands x q j) (r .is) (r .shows .has j ∙ of-both (lt-ltb j n b) (f .passes)))
+
+pub once-any : (j : ℕ) (rows : List SetRow) → times (sets rows) j ≡ 1 → any (λ q. q .has j) rows ≡ true
+once-any j rows e = by-test (any (λ q. q .has j) rows) (λ t. t)
+    (λ f. absurd (omega (arith, none-times (sets rows) j (any-map (λ p. p j) (λ q. q .has) rows ∙ f))))
+
+pub end-least : (d : ℕ) (z : ℤ) → GoodEnd d z → lowestEnd ≤ℤ z
+unfolding within
+end-least d z e = leZ-true (both (leZ lowestEnd z) (leZ z (pos 4000000)) (e .limited) .0)
