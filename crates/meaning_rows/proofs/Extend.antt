@@ -27,6 +27,7 @@ use Rattle.meaning_rows.specs.Range.{rowNumber, lowOf, upOf, inside}
 use Rattle.meaning_rows.specs.Runs.{runs}
 use Rattle.meaning_rows.specs.Index.{Index, Entry, RangeRow, runsOf, inRun, stands, rangeRow, rangeRows, records}
 use Rattle.meaning_rows.specs.Build.{SetRow, insert, rowAt, entry, withRuns}
+use Rattle.meaning_rows.specs.Judge.{runLengths}
 use Rattle.meaning_rows.specs.Extend.{grown, known, newNumbers, added, insertRow, insertRows, extendedRows, extended}
 use Rattle.meaning_rows.proofs.Range.{where-is, inside-yes, is-inside, widen, next-le, row-before, in-own, multiple-is}
 use Rattle.meaning_rows.proofs.Runs.{Apart, held, runs-cong, apart-runs, entries-hold}
@@ -92,3 +93,112 @@ insert-ascends a r (q ∷ l) h w b p = let wide = p .1 in by-test (ltZ (r .low) 
     (λ t. let c = ltZ-true {a = r .low} {b = q .low} t in let e : r .up ≤ℤ q .low = ⊎-elim (λ e. e) (λ e. absurd (omega zarith)) (b .0) in rw (insert-here r q l t) (h, w, (e, p .1, p .2)))
     (λ f. let c = ltZ-false {a = r .low} {b = q .low} f in let e : q .up ≤ℤ r .low = ⊎-elim (λ e. absurd (omega zarith)) (λ e. e) (b .0) in
     rw (insert-later r q l f) (p .0, p .1, insert-ascends (q .up) r l e w (b .1) (p .2)))
+
+-- ---- the row numbers of new windows that no old range holds
+
+pub record NewAt (x : Index) (sum : ℕ → ℤ) (d old end : ℕ) (k : ℤ) : Type 0 where
+  pub at : ℕ
+  pub new : old ≤ at
+  pub below : at < end
+  pub unknown : known x (sum at) ≡ false
+  pub is : rowNumber d (sum at) ≡ k
+
+module _ (x : Index) (sum : ℕ → ℤ) (d old : ℕ) where
+  new-known : (more : ℕ) → known x (sum (old + more)) ≡ true → newNumbers x sum d old (suc more) ≡ newNumbers x sum d old more
+  unfolding newNumbers
+  new-known more t = rw t
+
+  new-unknown : (more : ℕ) → known x (sum (old + more)) ≡ false → newNumbers x sum d old (suc more) ≡ insert (rowNumber d (sum (old + more))) (newNumbers x sum d old more)
+  unfolding newNumbers
+  new-unknown more f = rw f
+
+  new-sorted : (more : ℕ) → Sorted (newNumbers x sum d old more)
+  unfolding newNumbers Sorted
+  new-sorted zero = tt
+  new-sorted (suc more) = by-test (known x (sum (old + more)))
+      (λ t. rw (new-known more t) (new-sorted more))
+      (λ f. rw (new-unknown more f) (insert-sorted (rowNumber d (sum (old + more))) (newNumbers x sum d old more) (new-sorted more)))
+
+  new-mem : (more j : ℕ) → old ≤ j → j < old + more → known x (sum j) ≡ false → Mem (rowNumber d (sum j)) (newNumbers x sum d old more)
+  unfolding newNumbers
+  new-mem zero j a b u = absurd (omega arith)
+  new-mem (suc more) j a b u =
+      let k = rowNumber d (sum (old + more)) in
+      let l = newNumbers x sum d old more in
+      elim (decLt j (old + more)) [
+        | yes h ↦ by-test (known x (sum (old + more))) (λ t. rw (new-known more t) (new-mem more j a h u)) (λ f. rw (new-unknown more f) (insert-keeps (rowNumber d (sum j)) k l (new-mem more j a h u)))
+        | no f ↦ let e : j ≡ old + more = omega arith in rw (new-unknown more (rw e at u), e) (insert-mem k l)
+      ]
+
+  new-occur : (more : ℕ) (k : ℤ) → Mem k (newNumbers x sum d old more) → NewAt x sum d old (old + more) k
+  unfolding newNumbers
+  new-occur zero k m = absurd (not-nil m)
+  new-occur (suc more) k m = by-test (known x (sum (old + more)))
+      (λ t. later (new-occur more k (rw (new-known more t) at m)))
+      (λ f. ⊎-elim (λ e. record { at = old + more; new = omega arith; below = omega arith; unknown = f; is = sym e }) (λ o. later (new-occur more k o))
+      (insert-only k (rowNumber d (sum (old + more))) (newNumbers x sum d old more) (rw (new-unknown more f) at m)))
+    where
+      later : NewAt x sum d old (old + more) k → NewAt x sum d old (old + suc more) k
+      later r = record { at = r .at; new = r .new; below = omega (arith, r .below); unknown = r .unknown; is = r .is }
+
+-- ---- old rows and new rows
+
+-- what a longer series must be
+pub record Extendable (x : Index) (s : List ℤ) : Type 0 where
+  pub longer : natAbs (x .windows) ≤ windowCount (length s) (natAbs (x .window))
+  pub short : length s ≤ mostValues
+  pub values : firstOutside s ≡ none
+
+-- a good row has a window
+some-member : (n : ℕ) (l : List (ℕ × ℕ)) → Apart n 0 l → 1 ≤ length (map entry l) → (j : ℕ) × (j < n) × (held l j ≡ true)
+unfolding Apart held
+some-member n [] p h = absurd (omega arith)
+some-member n (e ∷ l) p h = (e .0, omega arith, rw (le-leb (e .0) (e .0) (omega arith), le-leb (e .0) (e .1) (p .1)))
+
+good-member : (x : Index) (r : Row) → GoodRow x r → (j : ℕ) × (j < natAbs (x .windows)) × (stands x r j ≡ true)
+good-member x r g =
+    let m = g .good .plain in
+    let h = some-member (natAbs (x .windows)) m (g .good .apart) (subst (λ (l : List Entry). 1 ≤ length l) (g .good .is) (omega (arith, length-runsOf x r (g .fits), g .some-run))) in
+    (h .0, h .1, subst (λ (l : List Entry). any (inRun (h .0)) l ≡ true) (sym (g .good .is)) (entries-hold m (h .0) ∙ h .2))
+
+module _ (x : Index) (sum : ℕ → ℤ) (old : ℕ) where
+  grown-new : (r : Row) (j : ℕ) → old ≤ j → grown x sum old r .has j ≡ inside (r .low) (r .up) (sum j)
+  unfolding grown
+  grown-new r j h = rw (le-leb old j h)
+
+  grown-old : (r : Row) (j : ℕ) → j < old → grown x sum old r .has j ≡ stands x r j
+  unfolding grown
+  grown-old r j h = rw (lt-leb old j h)
+
+  grown-range : (r : Row) → range (grown x sum old r) ≡ rangeOf r
+  unfolding grown
+  grown-range r = refl
+
+  grown-ranges : (l : List Row) → map range (map (grown x sum old) l) ≡ map rangeOf l
+  unfolding grown
+  grown-ranges [] = refl
+  grown-ranges (r ∷ l) = rw (grown-ranges l)
+
+  added-new : (d : ℕ) (k : ℤ) (j : ℕ) → old ≤ j → added sum d old k .has j ≡ inside (lowOf d k) (upOf d k) (sum j)
+  unfolding added rowAt
+  added-new d k j h = rw (le-leb old j h)
+
+  added-old : (d : ℕ) (k : ℤ) (j : ℕ) → j < old → added sum d old k .has j ≡ false
+  unfolding added rowAt
+  added-old d k j h = rw (lt-leb old j h)
+
+  added-range : (d : ℕ) (k : ℤ) → range (added sum d old k) ≡ (lowOf d k, upOf d k)
+  unfolding added rowAt
+  added-range d k = refl
+
+  sizes-added : (d : ℕ) (ks : List ℤ) → sizes (sets (map (added sum d old) ks)) old ≡ 0
+  unfolding sizes
+  sizes-added d [] = refl
+  sizes-added d (k ∷ ks) = omega (arith, count-never (added sum d old k .has) old (λ j b. added-old d k j b), sizes-added d ks)
+
+  sizes-grown : (l : List Row) → natAbs (x .windows) ≡ old → All (GoodRow x) l → sizes (sets (map (grown x sum old) l)) old ≡ lengthTotal x l
+  unfolding sizes All lengthTotal
+  sizes-grown [] e g = refl
+  sizes-grown (r ∷ l) e g =
+      let h : runLengths (runsOf x r) ≡ count (stands x r) old = rw e at (lengths-are x r (g .0)) in
+      omega (arith, h, count-cong (grown x sum old r .has) (stands x r) old (λ j b. grown-old r j b), sizes-grown l e (g .1))
