@@ -202,3 +202,142 @@ module _ (x : Index) (sum : ℕ → ℤ) (old : ℕ) where
   sizes-grown (r ∷ l) e g =
       let h : runLengths (runsOf x r) ≡ count (stands x r) old = rw e at (lengths-are x r (g .0)) in
       omega (arith, h, count-cong (grown x sum old r .has) (stands x r) old (λ j b. grown-old r j b), sizes-grown l e (g .1))
+
+-- a new row lies beside each row whose range does not hold the sum that it was made for
+beside : (d : ℕ) (low up z : ℤ) → 0 < d → GoodEnd d low → GoodEnd d up → inside low up z ≡ false
+    → (upOf d (rowNumber d z) ≤ℤ low) ⊎ (up ≤ℤ lowOf d (rowNumber d z))
+beside d low up z one a b f =
+    let p = multiple-is d low (a .divides) in
+    let q = multiple-is d up (b .divides) in
+    let k = rowNumber d z in
+    where-is low up z
+    (λ h. inl (subst (λ (t : ℤ). upOf d k ≤ℤ t) (sym (p .1)) (next-le d k (p .0) (row-before d (p .0) z one (subst (λ (t : ℤ). z <ℤ t) (p .1) h)))))
+    (λ h l. clash (inside-yes low up z h l) f)
+    (λ h l. inr (subst (λ (t : ℤ). t ≤ℤ lowOf d k) (sym (q .1)) (*ℤ-mono {x = q .0} {y = k} d (floor-most (q .0) z d one (subst (λ (t : ℤ). t ≤ℤ z) (q .1) l)))))
+
+module _ (sum : ℕ → ℤ) (d old : ℕ) (one : 0 < d) (rows : List SetRow) where
+  inserts-ascends : (a : ℤ) (ks : List ℤ) → Sorted ks → ((k : ℤ) → Mem k ks → (a ≤ℤ lowOf d k) × All (Beside (added sum d old k)) rows)
+      → Ascending a (map range rows) → Ascending a (map range (insertRows (map (added sum d old) ks) rows))
+  unfolding insertRows Sorted added rowAt
+  inserts-ascends a [] s h p = p
+  inserts-ascends a (k ∷ ks) s h p =
+      let r = added sum d old k in
+      let f = h k (here refl) in
+      insert-ascends a r (insertRows (map (added sum d old) ks) rows) (f .0) (widen d k one)
+      (all-inserts (Beside r) (map (added sum d old) ks) rows
+      (mem-all (Beside r) (map (added sum d old) ks) (λ q m. let i = map-mem (added sum d old) ks m in
+      subst (Beside r) (sym (i .same)) (inl (next-le d k (i .entry) (mem-above (i .entry) k ks (s .0) (i .is))))))
+      (f .1))
+      (inserts-ascends a ks (s .1) (λ l m. h l (there m)) p)
+
+module _ (x : Index) (s : List ℤ) (g : WellFormed x) (e : Extendable x s) where
+  abbrev w : ℕ
+  w = natAbs (x .window)
+
+  abbrev d : ℕ
+  d = natAbs (x .width)
+
+  abbrev old : ℕ
+  old = natAbs (x .windows)
+
+  abbrev n : ℕ
+  n = windowCount (length s) w
+
+  abbrev sum : ℕ → ℤ
+  sum = windowSum s w
+
+  abbrev numbers : List ℤ
+  numbers = newNumbers x sum d old (n - old)
+
+  abbrev news : List SetRow
+  news = map (added sum d old) numbers
+
+  abbrev olds : List SetRow
+  olds = map (grown x sum old) (x .rows)
+
+  abbrev rows : List SetRow
+  rows = insertRows news olds
+
+  one : 0 < d
+  one = omega (arith, g .head .width .least)
+
+  end-is : old + (n - old) ≡ n
+  end-is = omega (arith, e .longer)
+
+  each-new : (P : SetRow → Type 0) → ((k : ℤ) → NewAt x sum d old n k → P (added sum d old k)) → All P news
+  each-new P h = mem-all P news (λ q m. let i = map-mem (added sum d old) numbers m in
+      subst P (sym (i .same)) (h (i .entry) (subst (λ (end : ℕ). NewAt x sum d old end (i .entry)) end-is (new-occur x sum d old (n - old) (i .entry) (i .is)))))
+
+  each-old : (P : SetRow → Type 0) → ((r : Row) → Mem r (x .rows) → GoodRow x r → P (grown x sum old r)) → All P olds
+  each-old P h = mem-all P olds (λ q m. let i = map-mem (grown x sum old) (x .rows) m in
+      subst P (sym (i .same)) (h (i .entry) (i .is) (all-mem (GoodRow x) (x .rows) (each-row x g) (i .is))))
+
+  each : (P : SetRow → Type 0) → ((k : ℤ) → NewAt x sum d old n k → P (added sum d old k)) → ((r : Row) → Mem r (x .rows) → GoodRow x r → P (grown x sum old r)) → All P rows
+  each P f h = all-inserts P news olds (each-new P f) (each-old P h)
+
+  new-ends : (k : ℤ) → NewAt x sum d old n k → GoodEnd d (lowOf d k) × GoodEnd d (upOf d k)
+  new-ends k a = subst (λ (t : ℤ). GoodEnd d (lowOf d t) × GoodEnd d (upOf d t)) (a .is) (ends-good s w d (a .at) (e .values) (g .head .window .most) one (g .head .width .most))
+
+  new-beside : (k : ℤ) → NewAt x sum d old n k → All (Beside (added sum d old k)) olds
+  unfolding grown added rowAt
+  new-beside k a = each-old (Beside (added sum d old k)) (λ r m o.
+      subst (λ (t : ℤ). (upOf d t ≤ℤ r .low) ⊎ (r .up ≤ℤ lowOf d t)) (a .is)
+      (beside d (r .low) (r .up) (sum (a .at)) one (o .low-end) (o .up-end) (none-any (λ q. inside (q .low) (q .up) (sum (a .at))) (a .unknown) m)))
+
+  ascends : Ascending lowestEnd (map range rows)
+  ascends = inserts-ascends sum d old one olds lowestEnd numbers (new-sorted x sum d old (n - old))
+      (λ k m. let a = subst (λ (end : ℕ). NewAt x sum d old end k) end-is (new-occur x sum d old (n - old) k m) in (end-least d (lowOf d k) (new-ends k a .0), new-beside k a))
+      (rw (grown-ranges x sum old (x .rows)) (ranges-ascend x g))
+
+  -- a new window stands in exactly the rows that hold its sum, and in one
+  exact-new : (j : ℕ) → old ≤ j → All (Exact (sum j) j) rows
+  unfolding grown added rowAt
+  exact-new j h = each (Exact (sum j) j) (λ k a. added-new x sum old d k j h) (λ r m o. grown-new x sum old r j h)
+
+  covers-new : (j : ℕ) → old ≤ j → j < n → covered (sum j) rows ≡ true
+  unfolding grown added rowAt
+  covers-new j a b = by-test (known x (sum j))
+      (λ t. let f = any-found (λ r. inside (r .low) (r .up) (sum j)) (x .rows) t in
+      any-mem (λ q. inside (q .low) (q .up) (sum j)) (mem-inserts (grown x sum old (f .entry)) news olds (inr (mem-map (grown x sum old) (f .is)))) (f .passes))
+      (λ f. let k = rowNumber d (sum j) in
+      any-mem (λ q. inside (q .low) (q .up) (sum j)) (mem-inserts (added sum d old k) news olds (inl (mem-map (added sum d old) (new-mem x sum d old (n - old) j a (omega (arith, end-is)) f)))) (in-own d (sum j) one))
+
+  once-new : (j : ℕ) → old ≤ j → j < n → times (sets rows) j ≡ 1
+  once-new j a b = exact-once lowestEnd (sum j) j rows ascends (exact-new j a) (covers-new j a b)
+
+  total : sizes (sets rows) n ≤ n
+  total = omega (
+      arith,
+      rw end-is at (sizes-once (sets rows) old (n - old) (λ j a b. once-new j a (omega (arith, end-is)))),
+      sizes-inserts old news olds,
+      sizes-added x sum old d numbers,
+      sizes-grown x sum old (x .rows) refl (each-row x g),
+      lengths-at-most x g,
+      e .longer,
+    )
+
+  sound : Sound d n rows
+  unfolding grown added rowAt
+  sound = record {
+      ascending = ascends;
+      ends = each (Ends (GoodEnd d)) (λ k a. record { low-end = new-ends k a .0; up-end = new-ends k a .1 }) (λ r m o. record { low-end = o .low-end; up-end = o .up-end });
+      occupied = each (Occupied n)
+          (λ k a. record { at = a .at; below = a .below; member = added-new x sum old d k (a .at) (a .new) ∙ rw (← (a .is)) (in-own d (sum (a .at)) one) })
+          (λ r m o. let i = good-member x r o in record { at = i .0; below = omega (arith, i .1, e .longer); member = grown-old x sum old r (i .0) (i .1) ∙ i .2 });
+      total = total;
+    }
+
+  pub extended-well-formed : WellFormed (extended x s)
+  unfolding extended extendedRows
+  extended-well-formed = sets-well-formed (x .window) (x .width) n rows
+      (record {
+        window = g .head .window;
+        width = g .head .width;
+        windows = record { is = refl; least = omega (arith, e .longer, g .head .windows .least); most = omega (arith, e .short, g .head .window .least) };
+      }) sound
+
+  -- each new window stands in exactly one row, which holds its sum
+  pub extended-new : (j : ℕ) → natAbs (x .windows) ≤ j → j < windowCount (length s) (natAbs (x .window)) → Home (extended x s) s j
+  unfolding extended extendedRows
+  extended-new j a b = sets-home (x .window) (x .width) n rows s j extended-well-formed b
+      (λ q m t. sym (all-mem (Exact (sum j) j) rows (exact-new j a) m) ∙ t) (once-any j rows (once-new j a b))
