@@ -230,6 +230,12 @@ module _ (sum : ℕ → ℤ) (d old : ℕ) (one : 0 < d) (rows : List SetRow) wh
       (f .1))
       (inserts-ascends a ks (s .1) (λ l m. h l (there m)) p)
 
+-- row q of y is row r of x, with its range and its old windows
+pub record Kept (x y : Index) (r q : Row) : Type 0 where
+  pub low : q .low ≡ r .low
+  pub up : q .up ≡ r .up
+  pub windows : (j : ℕ) → j < natAbs (x .windows) → stands y q j ≡ stands x r j
+
 module _ (x : Index) (s : List ℤ) (g : WellFormed x) (e : Extendable x s) where
   abbrev w : ℕ
   w = natAbs (x .window)
@@ -341,3 +347,45 @@ module _ (x : Index) (s : List ℤ) (g : WellFormed x) (e : Extendable x s) wher
   unfolding extended extendedRows
   extended-new j a b = sets-home (x .window) (x .width) n rows s j extended-well-formed b
       (λ q m t. sym (all-mem (Exact (sum j) j) rows (exact-new j a) m) ∙ t) (once-any j rows (once-new j a b))
+
+  old-below : (j : ℕ) (t : Bool) → j < old → (ltb j n && t) ≡ t
+  old-below j t b = rw (lt-ltb j n (omega (arith, e .longer)))
+
+  kept-by : (r q : Row) → Shows (extended x s) n (grown x sum old r) q → Kept x (extended x s) r q
+  unfolding grown
+  kept-by r q h = record { low = h .low; up = h .up; windows = λ j b. h .has j ∙ old-below j (grown x sum old r .has j) b ∙ grown-old x sum old r j b }
+
+  -- every old row is kept
+  pub extended-kept : (r : Row) → Mem r (x .rows) → (q : Row) × Mem q (extended x s .rows) × Kept x (extended x s) r q
+  unfolding extended extendedRows
+  extended-kept r m = let f = shows-row (x .window) (x .width) n rows (grown x sum old r) (mem-inserts (grown x sum old r) news olds (inr (mem-map (grown x sum old) m))) in
+      (f .row, f .is, kept-by r (f .row) (f .shows))
+
+  -- and any other row has no old window
+  pub extended-only : (q : Row) → Mem q (extended x s .rows) → ((r : Row) × Mem r (x .rows) × Kept x (extended x s) r q) ⊎ ((j : ℕ) → j < natAbs (x .windows) → stands (extended x s) q j ≡ false)
+  unfolding extended extendedRows
+  extended-only q m =
+      let f = row-shows (x .window) (x .width) n rows q m in
+      all-mem (λ t. Shows (extended x s) n t q → ((r : Row) × Mem r (x .rows) × Kept x (extended x s) r q) ⊎ ((j : ℕ) → j < old → stands (extended x s) q j ≡ false)) rows
+      (each (λ t. Shows (extended x s) n t q → ((r : Row) × Mem r (x .rows) × Kept x (extended x s) r q) ⊎ ((j : ℕ) → j < old → stands (extended x s) q j ≡ false))
+      (λ k a h. inr (λ j b. h .has j ∙ old-below j (added sum d old k .has j) b ∙ added-old x sum old d k j b))
+      (λ r o i h. inl (r, o, kept-by r q h)))
+      (f .is) (f .shows)
+
+  right : (r q : Row) (j : ℕ) → r ≡ q → inside (q .low) (q .up) (sum j) ≡ true → inside (grown x sum old r .low) (grown x sum old r .up) (sum j) ≡ true
+  unfolding grown
+  right r q j h t = rw h t
+
+  -- filed right against the part of the series that it has windows of, it is extended to one filed right
+  pub extended-filed : Filed x (take (natAbs (x .windows) + natAbs (x .window) - 1) s) → Filed (extended x s) s
+  unfolding extended extendedRows
+  extended-filed f = record { home = λ j b. elim (decLt j old) [
+      | yes l ↦
+          let h = f .home j l in
+          let same : windowSum (take (old + w - 1) s) w j ≡ sum j = sum-of-part s (old + w - 1) w j (omega (arith, g .head .window .least)) in
+          let P : SetRow → Type 0 = λ q. q .has j ≡ true → inside (q .low) (q .up) (sum j) ≡ true in
+          sets-home (x .window) (x .width) n rows s j extended-well-formed b
+          (λ q m. all-mem P rows (each P (λ k a t. clash t (added-old x sum old d k j l)) (λ r o i t. right r (h .row) j (h .no-other r o (sym (grown-old x sum old r j l) ∙ t)) (rw same at (h .holds-it)))) m)
+          (any-mem (λ q. q .has j) (mem-inserts (grown x sum old (h .row)) news olds (inr (mem-map (grown x sum old) (h .is)))) (grown-old x sum old (h .row) j l ∙ h .stands-there))
+      | no m ↦ extended-new j (omega arith) b
+    ] }
