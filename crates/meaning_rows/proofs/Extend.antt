@@ -25,7 +25,7 @@ use Rattle.meaning_curves.specs.Curve.{windowSum, windowCount}
 use Rattle.meaning_rows.specs.declared.Row.{Row}
 use Rattle.meaning_rows.specs.Range.{rowNumber, lowOf, upOf, inside}
 use Rattle.meaning_rows.specs.Runs.{runs}
-use Rattle.meaning_rows.specs.Index.{Index, Entry, RangeRow, runsOf, inRun, stands, rangeRow, rangeRows, records}
+use Rattle.meaning_rows.specs.Index.{Index, Entry, RangeRow, runsOf, inRun, stands, rangeRow, rangeRows, records, allRuns}
 use Rattle.meaning_rows.specs.Build.{SetRow, insert, rowAt, entry, withRuns}
 use Rattle.meaning_rows.specs.Judge.{runLengths}
 use Rattle.meaning_rows.specs.Extend.{grown, known, newNumbers, added, insertRow, insertRows, extendedRows, extended}
@@ -33,9 +33,9 @@ use Rattle.meaning_rows.proofs.Range.{where-is, inside-yes, is-inside, 
 use Rattle.meaning_rows.proofs.Runs.{Apart, held, runs-cong, apart-runs, entries-hold}
 use Rattle.meaning_rows.proofs.Times.{Ascending, times, sizes, sizes-once}
 use Rattle.meaning_rows.proofs.Build.{range, sets, covered, Exact, exact-once, Ends, Occupied, Sorted, Above, mem-above, insert-sorted, insert-mem, insert-keeps, insert-only}
-use Rattle.meaning_rows.proofs.Judge.{GoodEnd, GoodRow, GoodRows, WellFormed, rangeOf, lengthTotal, lengths-are, length-runsOf, each-row, ranges-ascend, lengths-at-most, rows-at-most}
+use Rattle.meaning_rows.proofs.Judge.{GoodEnd, GoodRow, GoodRows, WellFormed, rangeOf, lengthTotal, lengths-are, length-runsOf, each-row, ranges-ascend, lengths-at-most, rows-at-most, runs-at-most, runTotal}
 use Rattle.meaning_rows.proofs.Audit.{Home, Filed}
-use Rattle.meaning_rows.proofs.Laid.{rows-back}
+use Rattle.meaning_rows.proofs.Laid.{rows-back, laid-again, length-allRuns}
 use Rattle.meaning_rows.proofs.Sets.{shown, Sound, Shows, sets-well-formed, sets-home, shows-row, row-shows, once-any, end-least}
 use Rattle.meaning_rows.proofs.Sums.{ends-good, sum-of-part}
 
@@ -389,3 +389,42 @@ module _ (x : Index) (s : List ℤ) (g : WellFormed x) (e : Extendable x s) wher
           (any-mem (λ q. q .has j) (mem-inserts (grown x sum old (h .row)) news olds (inr (mem-map (grown x sum old) (h .is)))) (grown-old x sum old (h .row) j l ∙ h .stands-there))
       | no m ↦ extended-new j (omega arith) b
     ] }
+
+  -- at most as many rows and runs as windows
+  pub extended-most : (length (extended x s .rows) ≤ windowCount (length s) (natAbs (x .window))) × (length (extended x s .runs) ≤ windowCount (length s) (natAbs (x .window)))
+  unfolding extended extendedRows
+  extended-most = (
+      rows-at-most (extended x s) extended-well-formed,
+      omega (arith, runs-at-most (extended x s) extended-well-formed, length-allRuns 0 (map (withRuns n) rows)),
+    )
+
+-- ---- as many windows as before: a copy
+
+grown-copy : (x : Index) (sum : ℕ → ℤ) (r : Row) → GoodRow x r → withRuns (natAbs (x .windows)) (grown x sum (natAbs (x .windows)) r) ≡ rangeRow x r
+unfolding withRuns grown
+grown-copy x sum r g =
+    let n = natAbs (x .windows) in
+    let m = g .good .plain in
+    let q = grown x sum n r in
+    let member : (j : ℕ) → j < n → q .has j ≡ held m j = λ j b. grown-old x sum n r j b ∙ ap (λ (l : List Entry). any (inRun j) l) (g .good .is) ∙ entries-hold m j in
+    let e : map entry (runs (q .has) n) ≡ runsOf x r = ap (map entry) (runs-cong (q .has) (held m) n member ∙ apart-runs n 0 m (g .good .apart)) ∙ sym (g .good .is) in
+    λ i. record { low = r .low; up = r .up; runs = e i }
+
+grown-copies : (x : Index) (sum : ℕ → ℤ) (l : List Row) → All (GoodRow x) l → map (withRuns (natAbs (x .windows))) (map (grown x sum (natAbs (x .windows))) l) ≡ map (rangeRow x) l
+unfolding All
+grown-copies x sum [] g = refl
+grown-copies x sum (r ∷ l) g = cc (grown-copy x sum r (g .0), grown-copies x sum l (g .1))
+
+copy-rows : (x : Index) (sum : ℕ → ℤ) (n : ℕ) → WellFormed x → n ≡ natAbs (x .windows) → extendedRows x sum n ≡ rangeRows x
+unfolding extendedRows newNumbers insertRows
+copy-rows x sum n g e = let z : natAbs (x .windows) - natAbs (x .windows) ≡ 0 = omega arith in rw (e, z) (grown-copies x sum (x .rows) (each-row x g))
+
+pub extended-copy : (x : Index) (s : List ℤ) → WellFormed x → windowCount (length s) (natAbs (x .window)) ≡ natAbs (x .windows)
+    → (extended x s .rows ≡ x .rows) × (extended x s .runs ≡ take (runTotal (x .rows)) (x .runs)) × (rangeRows (extended x s) ≡ rangeRows x)
+unfolding extended
+extended-copy x s g e =
+    let w = natAbs (x .window) in
+    let n = windowCount (length s) w in
+    let same = copy-rows x (windowSum s w) n g e in
+    let again = laid-again x g in
+    (ap (records 0) same ∙ again .0, ap allRuns same ∙ again .1, rows-back (x .window) (x .width) (pos n) (extendedRows x (windowSum s w) n) ∙ same)

@@ -1,15 +1,17 @@
 -- Rows laid out and read back are the same rows (`rows-back`): each row's part of the run buffer is its runs, and begins where the row before ends (`first-laid`).
--- There are as many records as rows and as many run entries as runs (`length-records`, `length-allRuns`). Assumes nothing.
+-- There are as many records as rows and as many run entries as runs (`length-records`, `length-allRuns`), and the rows of a well-formed index are laid out as they stand (`laid-again`). Assumes nothing.
 use mathlib.Core.Path.{_≡_, refl, sym, ap, _∙_, subst}
 use mathlib.Core.List.{List, [], _∷_, _++_, map, append-assoc}
 use Prim.Native.Nat.{ℕ, zero, suc, _+_, _<_, _≤_}
 use native.Mathlib.Omega.{arith}
 use lib.IntN.{ℤ}
 use lib.ListN.{length, getD, take, drop, length-append, List·getD-map}
-use lib.Seq.{take-append-seam, drop-append-seam}
+use lib.Seq.{take-append-seam, drop-append-seam, take-add, drop-drop}
+use Rattle.meaning_curves.specs.Limits.{lowestEnd}
 use Rattle.meaning_rows.specs.declared.Row.{Row}
 use Rattle.meaning_rows.specs.Index.{Index, Entry, RangeRow, records, allRuns, laidOut, runsOf, rangeRow, rangeRows}
-use Rattle.meaning_rows.proofs.Judge.{runTotal}
+use Rattle.meaning_rows.specs.Judge.{runLengths}
+use Rattle.meaning_rows.proofs.Judge.{GoodRows, WellFormed, runTotal, length-runsOf}
 
 -- from k on the run buffer has the runs of the rows, one row's after the other's
 unfoldable pub Lays : List Entry → ℕ → List RangeRow → Type 0
@@ -65,3 +67,24 @@ module _ (window width windows : ℤ) (l : List RangeRow) where
   -- a row's runs begin where the rows before end
   pub first-laid : (o : Row) (i : ℕ) → i < length l → getD (laidOut window width windows l .rows) i o .first ≡ length (allRuns (take i l))
   first-laid o i h = omega (arith, first-from o 0 l i h)
+
+-- ---- the rows of a well-formed index, laid out again: the same records, and the run entries that they take
+
+module _ (x : Index) where
+  records-again : (least : ℤ) (first taken : ℕ) (l : List Row) → GoodRows x least first taken l → records first (map (rangeRow x) l) ≡ l
+  unfolding GoodRows records
+  records-again least first taken [] g = refl
+  records-again least first taken (r ∷ l) g =
+      let e = sym (g .0 .begins) in
+      let f = length-runsOf x r (g .0 .row .fits) in
+      let same : record { low = r .low; up = r .up; first = first; runs = length (runsOf x r) } ≡ r = λ i. record { low = r .low; up = r .up; first = e i; runs = f i } in
+      cc (same, f, records-again (r .up) (first + r .runs) (taken + runLengths (runsOf x r)) l (g .1))
+
+  runs-again : (least : ℤ) (first taken : ℕ) (l : List Row) → GoodRows x least first taken l → allRuns (map (rangeRow x) l) ≡ take (runTotal l) (drop first (x .runs))
+  unfolding GoodRows allRuns runTotal
+  runs-again least first taken [] g = refl
+  runs-again least first taken (r ∷ l) g =
+      rw (take-add (r .runs) (runTotal l) (drop first (x .runs)), drop-drop (r .runs) first (x .runs), runs-again (r .up) (first + r .runs) (taken + runLengths (runsOf x r)) l (g .1), g .0 .begins)
+
+  pub laid-again : WellFormed x → (records 0 (rangeRows x) ≡ x .rows) × (allRuns (rangeRows x) ≡ take (runTotal (x .rows)) (x .runs))
+  laid-again g = (records-again lowestEnd 0 0 (x .rows) (g .rows), runs-again lowestEnd 0 0 (x .rows) (g .rows))
