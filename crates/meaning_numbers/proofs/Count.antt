@@ -1,6 +1,6 @@
 -- How many of the numbers below n pass a test: a turn of a loop (`count-more`), bounds, sums of counts, none and all. Each is an induction on n. Assumes nothing.
 use mathlib.Core.Path.{_≡_, refl}
-use mathlib.Core.Bool.{Bool, true, false, cond, not, _&&_, _||_, false≢true}
+use mathlib.Core.Bool.{Bool, true, false, not, _&&_, _||_, false≢true}
 use Prim.Native.Nat.{ℕ, zero, suc, _+_, _<_, _≤_}
 use native.Mathlib.Omega.{arith}
 use native.Mathlib.Numerals.{add-one}
@@ -20,11 +20,6 @@ bit-true e = rw e
 pub bit-false : {b : Bool} → b ≡ false → bit b ≡ 0
 unfolding bit
 bit-false e = rw e
-
-pub true-bit : (b : Bool) → 1 ≤ bit b → b ≡ true
-unfolding bit
-true-bit true h = refl
-true-bit false h = absurd (omega arith)
 
 pub false-bit : (b : Bool) → bit b ≡ 0 → b ≡ false
 unfolding bit

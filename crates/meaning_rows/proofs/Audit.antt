@@ -2,7 +2,7 @@
 -- Else the first row and offset filed wrongly, all before it filed right (`first-wrong`, `wrong-first`); else how many windows stand nowhere, all less the run lengths (`missing-are`). Assumes nothing.
 use mathlib.Core.Path.{_≡_, refl, sym, ap, _∙_, subst}
 use mathlib.Core.Logic.{_⊎_, inl, inr, ⊎-elim}
-use mathlib.Core.Bool.{Bool, true, false, cond, not, _&&_, _||_, or-true}
+use mathlib.Core.Bool.{Bool, true, false, _&&_, or-true}
 use mathlib.Core.List.{List, [], _∷_, _++_, map, List·Memᴰ as Mem, List·Memᴰ·head as here, List·Memᴰ·tail as there, List·Memᴰ·not-nil as not-nil, List·Memᴰ·cases-cons as cases, List·Memᴰ·append-cases as append-cases, Memᴰ·append-left as in-left, Memᴰ·append-right as in-right}
 use mathlib.Core.Option.{Option, none, some}
 use Prim.Native.Nat.{ℕ, zero, suc, _+_, _-_, _<_, _≤_}
@@ -11,9 +11,9 @@ use native.Mathlib.Decide.{decLe}
 use lib.Dec.{leb}
 use lib.IntN.{ℤ, pos, natAbs}
 use lib.ListN.{length, getD}
-use lib.Signed.{_≤ℤ_, _<ℤ_}
-use borrow.Author.Tests.{leb-true, le-leb, not-true, not-false}
-use Rattle.meaning_numbers.specs.Sum.{bit, count}
+use lib.Signed.{_≤ℤ_}
+use borrow.Author.Tests.{leb-true, le-leb, not-false}
+use Rattle.meaning_numbers.specs.Sum.{bit}
 use Rattle.meaning_numbers.specs.Place.{any, numbersFrom}
 use Rattle.meaning_numbers.proofs.Rep.{zarith}
 use Rattle.meaning_numbers.proofs.Count.{count-never, never-count, count-not}
@@ -23,11 +23,11 @@ use Rattle.meaning_rows.specs.declared.Row.{Row}
 use Rattle.meaning_rows.specs.Range.{inside}
 use Rattle.meaning_rows.specs.Index.{Index, Entry, runsOf, inRun, stands}
 use Rattle.meaning_rows.specs.Build.{entry}
-use Rattle.meaning_rows.specs.Audit.{offsets, misfiled, wrongIn, wrongFrom, sums, firstWrong, nowhere, missing}
+use Rattle.meaning_rows.specs.Audit.{offsets, wrongIn, wrongFrom, sums, firstWrong, nowhere, missing}
 use Rattle.meaning_rows.proofs.Range.{is-inside}
 use Rattle.meaning_rows.proofs.Runs.{Apart, held, entries-hold}
 use Rattle.meaning_rows.proofs.Times.{Ascending, times, sizes, sizes-count, none-times}
-use Rattle.meaning_rows.proofs.Judge.{GoodRuns, GoodRow, WellFormed, rangeOf, lengthTotal, lengths-are, stands-below, each-row, ranges-ascend}
+use Rattle.meaning_rows.proofs.Judge.{GoodRow, WellFormed, rangeOf, lengthTotal, lengths-are, stands-below, each-row, ranges-ascend}
 
 -- ---- the offsets of runs are those that stand in them, upward
 
@@ -320,3 +320,7 @@ missing-are x s g e =
       sizes-count (standing x (x .rows)) somewhere n (λ j b. right-once x (sums x s) lowestEnd j (x .rows) (ranges-ascend x g) (all-right x s g e)),
       count-not somewhere n,
     )
+
+-- on a yes the run lengths total the windows
+pub yes-total : (x : Index) (s : List ℤ) → WellFormed x → Filed x s → lengthTotal x (x .rows) ≡ natAbs (x .windows)
+yes-total x s g f = let p = filed-passes x s g f in omega (arith, missing-are x s g (p .0), p .1)

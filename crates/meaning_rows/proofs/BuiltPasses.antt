@@ -1,29 +1,25 @@
 -- The index that is built of a series passes against it: it is well formed, no offset is filed wrongly and no window is missing (`built-passes`), with at most as many rows and runs as windows.
 -- Its rows ascend and hold each window once, by the laws of the build, and its ends are in their limits, since the window sums are. Assumes nothing.
-use mathlib.Core.Path.{_≡_, refl, sym, ap, _∙_, subst}
-use mathlib.Core.Bool.{Bool, true, false}
-use mathlib.Core.List.{List, map, List·Memᴰ as Mem}
-use mathlib.Core.Option.{Option, none, some}
-use Prim.Native.Nat.{ℕ, zero, suc, _+_, _-_, _<_, _≤_}
+use mathlib.Core.Path.{_≡_, refl, sym, _∙_}
+use mathlib.Core.Bool.{true}
+use mathlib.Core.List.{List}
+use mathlib.Core.Option.{none}
+use Prim.Native.Nat.{ℕ, _<_, _≤_}
 use native.Mathlib.Omega.{arith}
-use lib.IntN.{ℤ, pos, natAbs}
+use lib.IntN.{ℤ, pos}
 use lib.ListN.{length}
-use lib.Signed.{_≤ℤ_, leZ}
-use Rattle.meaning_numbers.specs.Order.{within}
-use Rattle.meaning_numbers.specs.Place.{any}
-use Rattle.meaning_numbers.proofs.Machine.{leZ-true}
-use Rattle.meaning_numbers.proofs.Place.{both, by-test, clash, All, all-mem, mem-all, any-map}
+use lib.Signed.{_≤ℤ_}
+use Rattle.meaning_numbers.proofs.Place.{All, all-mem, mem-all}
 use Rattle.meaning_curves.specs.Limits.{windowIn, widthIn, mostValues, firstOutside, lowestEnd}
 use Rattle.meaning_curves.specs.Curve.{windowSum, windowCount}
-use Rattle.meaning_rows.specs.Index.{Index}
 use Rattle.meaning_rows.specs.Judge.{firstBadRow}
 use Rattle.meaning_rows.specs.Audit.{firstWrong, missing}
 use Rattle.meaning_rows.specs.Build.{SetRow, builtRows, built}
-use Rattle.meaning_rows.proofs.Times.{sizes, sizes-all, times, times-none, none-times}
+use Rattle.meaning_rows.proofs.Times.{sizes-all}
 use Rattle.meaning_rows.proofs.Build.{sets, Ends, Fine, mergedRows, built-tiled, tiled-fine, tiled-ascends, built-once, built-occupied, built-ends, built-runs}
-use Rattle.meaning_rows.proofs.Judge.{Between, between, GoodHead, GoodEnd, WellFormed, none-bad, rows-at-most}
-use Rattle.meaning_rows.proofs.Audit.{Home, Filed, filed-passes}
-use Rattle.meaning_rows.proofs.Sets.{shown, Sound, sets-well-formed, sets-home, once-any, end-least}
+use Rattle.meaning_rows.proofs.Judge.{Between, between, GoodEnd, WellFormed, none-bad, rows-at-most}
+use Rattle.meaning_rows.proofs.Audit.{Filed, filed-passes}
+use Rattle.meaning_rows.proofs.Sets.{Sound, sets-well-formed, sets-home, once-any, end-least}
 use Rattle.meaning_rows.proofs.Sums.{ends-good}
 
 -- what a series, a window length and a row width are in their limits

@@ -2,41 +2,41 @@
 -- The result is well formed (`extended-well-formed`), is filed right if the old index was (`extended-filed`), and for as many windows is a copy (`extended-copy`). New rows go beside the old, for ranges are whole numbers of row widths. Assumes nothing.
 use mathlib.Core.Path.{_≡_, refl, sym, ap, _∙_, subst}
 use mathlib.Core.Logic.{_⊎_, inl, inr, ⊎-elim}
-use mathlib.Core.Bool.{Bool, true, false, cond, _&&_, _||_}
+use mathlib.Core.Bool.{Bool, true, false, _&&_}
 use mathlib.Core.List.{List, [], _∷_, map, List·Memᴰ as Mem, List·Memᴰ·head as here, List·Memᴰ·tail as there, List·Memᴰ·not-nil as not-nil, List·Memᴰ·cases-cons as cases}
 use mathlib.Core.Option.{none}
 use Prim.Native.Nat.{ℕ, zero, suc, _+_, _-_, _<_, _≤_}
 use native.Mathlib.Omega.{arith}
 use native.Mathlib.Decide.{decLt}
-use lib.Dec.{leb, ltb}
-use lib.IntN.{ℤ, pos, natAbs, _*ℤ_}
+use lib.Dec.{ltb}
+use lib.IntN.{ℤ, pos, natAbs}
 use lib.ListN.{length, take}
 use lib.Signed.{_≤ℤ_, _<ℤ_, ltZ}
-use borrow.Author.Tests.{le-leb, lt-leb, lt-ltb, leb-true}
+use borrow.Author.Tests.{le-leb, lt-leb, lt-ltb}
 use Rattle.meaning_numbers.specs.Sum.{count}
 use Rattle.meaning_numbers.specs.Place.{any}
 use Rattle.meaning_numbers.proofs.Rep.{zarith, *ℤ-mono}
 use Rattle.meaning_numbers.proofs.Machine.{ltZ-true, ltZ-false}
 use Rattle.meaning_numbers.proofs.Quotient.{floor-most}
 use Rattle.meaning_numbers.proofs.Count.{count-cong, count-never}
-use Rattle.meaning_numbers.proofs.Place.{by-test, both, clash, any-mem, any-found, none-any, mem-map, map-mem, All, all-mem, mem-all}
+use Rattle.meaning_numbers.proofs.Place.{by-test, clash, any-mem, any-found, none-any, mem-map, map-mem, All, all-mem, mem-all}
 use Rattle.meaning_curves.specs.Limits.{mostValues, firstOutside, lowestEnd}
 use Rattle.meaning_curves.specs.Curve.{windowSum, windowCount}
 use Rattle.meaning_rows.specs.declared.Row.{Row}
 use Rattle.meaning_rows.specs.Range.{rowNumber, lowOf, upOf, inside}
 use Rattle.meaning_rows.specs.Runs.{runs}
-use Rattle.meaning_rows.specs.Index.{Index, Entry, RangeRow, runsOf, inRun, stands, rangeRow, rangeRows, records, allRuns}
+use Rattle.meaning_rows.specs.Index.{Index, Entry, runsOf, inRun, stands, rangeRow, rangeRows, records, allRuns}
 use Rattle.meaning_rows.specs.Build.{SetRow, insert, rowAt, entry, withRuns}
 use Rattle.meaning_rows.specs.Judge.{runLengths}
 use Rattle.meaning_rows.specs.Extend.{grown, known, newNumbers, added, insertRow, insertRows, extendedRows, extended}
-use Rattle.meaning_rows.proofs.Range.{where-is, inside-yes, is-inside, widen, next-le, row-before, in-own, multiple-is}
+use Rattle.meaning_rows.proofs.Range.{where-is, inside-yes, widen, next-le, row-before, in-own, multiple-is}
 use Rattle.meaning_rows.proofs.Runs.{Apart, held, runs-cong, apart-runs, entries-hold}
 use Rattle.meaning_rows.proofs.Times.{Ascending, times, sizes, sizes-once}
-use Rattle.meaning_rows.proofs.Build.{range, sets, covered, Exact, exact-once, Ends, Occupied, Sorted, Above, mem-above, insert-sorted, insert-mem, insert-keeps, insert-only}
-use Rattle.meaning_rows.proofs.Judge.{GoodEnd, GoodRow, GoodRows, WellFormed, rangeOf, lengthTotal, lengths-are, length-runsOf, each-row, ranges-ascend, lengths-at-most, rows-at-most, runs-at-most, runTotal}
+use Rattle.meaning_rows.proofs.Build.{range, sets, covered, Exact, exact-once, Ends, Occupied, Sorted, mem-above, insert-sorted, insert-mem, insert-keeps, insert-only}
+use Rattle.meaning_rows.proofs.Judge.{GoodEnd, GoodRow, WellFormed, rangeOf, lengthTotal, lengths-are, length-runsOf, each-row, ranges-ascend, lengths-at-most, rows-at-most, runs-at-most, runTotal}
 use Rattle.meaning_rows.proofs.Audit.{Home, Filed}
 use Rattle.meaning_rows.proofs.Laid.{rows-back, laid-again, length-allRuns}
-use Rattle.meaning_rows.proofs.Sets.{shown, Sound, Shows, sets-well-formed, sets-home, shows-row, row-shows, once-any, end-least}
+use Rattle.meaning_rows.proofs.Sets.{Sound, Shows, sets-well-formed, sets-home, shows-row, row-shows, once-any, end-least}
 use Rattle.meaning_rows.proofs.Sums.{ends-good, sum-of-part}
 
 -- ---- rows put among others
@@ -170,10 +170,6 @@ module _ (x : Index) (sum : ℕ → ℤ) (old : ℕ) where
   unfolding grown
   grown-old r j h = rw (lt-leb old j h)
 
-  grown-range : (r : Row) → range (grown x sum old r) ≡ rangeOf r
-  unfolding grown
-  grown-range r = refl
-
   grown-ranges : (l : List Row) → map range (map (grown x sum old) l) ≡ map rangeOf l
   unfolding grown
   grown-ranges [] = refl
@@ -186,10 +182,6 @@ module _ (x : Index) (sum : ℕ → ℤ) (old : ℕ) where
   added-old : (d : ℕ) (k : ℤ) (j : ℕ) → j < old → added sum d old k .has j ≡ false
   unfolding added rowAt
   added-old d k j h = rw (lt-leb old j h)
-
-  added-range : (d : ℕ) (k : ℤ) → range (added sum d old k) ≡ (lowOf d k, upOf d k)
-  unfolding added rowAt
-  added-range d k = refl
 
   sizes-added : (d : ℕ) (ks : List ℤ) → sizes (sets (map (added sum d old) ks)) old ≡ 0
   unfolding sizes

@@ -1,15 +1,17 @@
--- What judging an index means: `firstBadRow` is none exactly if the index is well formed, as a record of facts (`well-formed`, `none-bad`), and else the place of the first bad row (`first-bad`).
+-- What judging an index means: `firstBadRow` is none exactly if the index is well formed, as a record of facts (`well-formed`, `none-bad`), and else the place of the first bad row (`first-bad`, `bad-first`).
 -- Each test is turned into its fact and back; a well-formed index has at most as many rows as runs, and runs as windows (`rows-at-most`, `runs-at-most`). Assumes nothing.
 use mathlib.Core.Path.{_≡_, refl, sym, ap, _∙_, subst}
 use mathlib.Core.Logic.{_⊎_, inl, inr, ⊎-elim}
-use mathlib.Core.Bool.{Bool, true, false, cond, _&&_, false≢true}
+use mathlib.Core.Bool.{true, false, _&&_}
 use mathlib.Core.List.{List, [], _∷_, map}
 use mathlib.Core.Option.{Option, none, some}
-use Prim.Native.Nat.{ℕ, zero, suc, _+_, _-_, _<_, _≤_, min}
+use Prim.Native.Nat.{ℕ, zero, suc, _+_, _<_, _≤_}
 use native.Mathlib.Omega.{arith}
-use lib.Dec.{leb, eqb}
+use native.Mathlib.Decide.{decLe}
+use lib.Dec.{leb}
 use lib.IntN.{ℤ, pos, negsuc, _+ℤ_, natAbs}
-use lib.ListN.{length, getD, take, drop, length-take, length-drop}
+use lib.ListN.{length, getD, take, drop, length-take, length-drop, drop-of-length-le}
+use lib.Seq.{take-take, drop-cons}
 use lib.Signed.{_≤ℤ_, _<ℤ_, leZ, ltZ}
 use borrow.Author.Tests.{leb-true, eqb-true, le-leb, eq-eqb, lt-ltb, ltb-true}
 use Rattle.meaning_numbers.specs.Order.{within}
@@ -19,7 +21,7 @@ use Rattle.meaning_numbers.specs.Place.{any}
 use Rattle.meaning_numbers.proofs.Count.{count-cong}
 use Rattle.meaning_numbers.proofs.Machine.{ltZ-true, leZ-true, lt-ltZ}
 use Rattle.meaning_numbers.proofs.Place.{by-test, both, of-both, clash, All, all-mem, mem-at}
-use Rattle.meaning_curves.specs.Limits.{windowIn, widthIn, windowsIn, endIn, lowestEnd, mostValues}
+use Rattle.meaning_curves.specs.Limits.{endIn, lowestEnd, mostValues}
 use Rattle.meaning_rows.specs.declared.Row.{Row}
 use Rattle.meaning_rows.specs.Index.{Index, Entry, runsOf, inRun, stands}
 use Rattle.meaning_rows.specs.Judge.{headGood, runsGood, runLengths, rangeGood, partGood, rowGood, badRowFrom, firstBadRow}
@@ -224,6 +226,46 @@ first-bad x k e = by-test (headGood x)
     let i : b .0 ≡ k = omega (arith, b .1) in
     inr record { head = h; is-row = rw i at (b .2); before = rw i at (b .3); bad = rw i at (b .4) })
     (λ f. inl (same-some (rw f at e), λ h. clash (head-good x h) f))
+
+good-part : (x : Index) (i : ℕ) (least : ℤ) (first taken : ℕ) (l : List Row) → GoodRows x least first taken l → GoodRows x least first taken (take i l)
+unfolding GoodRows
+good-part x zero least first taken l g = tt
+good-part x (suc i) least first taken [] g = tt
+good-part x (suc i) least first taken (r ∷ l) g = (g .0, good-part x i (r .up) (first + r .runs) (taken + runLengths (runsOf x r)) l (g .1))
+
+not-after : (x : Index) (k m : ℕ) → FirstBad x k → FirstBad x m → k ≤ m
+not-after x k m f b = elim (decLe k m) [
+  | yes h ↦ h
+  | no n ↦ let h : suc m ≤ k = omega arith in absurd (b .bad (rw (take-take (suc m) k (x .rows)) at (good-part x (suc m) lowestEnd 0 0 (take k (x .rows)) (f .before))))
+]
+
+-- there is one first bad row, and it is said
+pub bad-first : (x : Index) (k : ℕ) → FirstBad x k → firstBadRow x ≡ some k
+bad-first x k f = said (firstBadRow x) refl
+  where
+    said : (o : Option ℕ) → firstBadRow x ≡ o → firstBadRow x ≡ some k
+    said none e = absurd (f .bad (good-part x (suc k) lowestEnd 0 0 (x .rows) (well-formed x e .rows)))
+    said (some m) e = ⊎-elim (λ h. absurd (h .1 (f .head)))
+        (λ b. let a = not-after x k m f b in let c = not-after x m k b f in let same : m ≡ k = omega arith in e ∙ ap some same) (first-bad x m e)
+
+pub bad-head : (x : Index) → (GoodHead x → ⊥) → firstBadRow x ≡ some 0
+unfolding firstBadRow
+bad-head x h = by-test (headGood x) (λ t. absurd (h (good-head x t))) (λ f. rw f)
+
+-- one turn of a loop over the rows
+module _ (x : Index) (o : Row) (k : ℕ) (least : ℤ) (first taken : ℕ) where
+  pub judge-end : length (x .rows) ≤ k → badRowFrom x k least first taken (drop k (x .rows)) ≡ none
+  unfolding badRowFrom
+  judge-end h = rw (drop-of-length-le (x .rows) h)
+
+  pub judge-more : k < length (x .rows) → let r = getD (x .rows) k o in rowGood x least first taken r ≡ true
+      → badRowFrom x k least first taken (drop k (x .rows)) ≡ badRowFrom x (suc k) (r .up) (first + r .runs) (taken + runLengths (runsOf x r)) (drop (suc k) (x .rows))
+  unfolding badRowFrom
+  judge-more h t = rw (drop-cons (x .rows) k o h, t)
+
+  pub judge-stop : k < length (x .rows) → rowGood x least first taken (getD (x .rows) k o) ≡ false → badRowFrom x k least first taken (drop k (x .rows)) ≡ some k
+  unfolding badRowFrom
+  judge-stop h t = rw (drop-cons (x .rows) k o h, t)
 
 -- ---- what follows for the rows of a well-formed index
 

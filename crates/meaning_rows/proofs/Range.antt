@@ -1,12 +1,12 @@
 -- Row k holds exactly its sums, negative ones too: a sum lies in the range of its row number (`row-holds`) and in no other row's (`row-only`), by the two inequalities of the quotient rounded down.
 -- A range test is read as its two orders both ways (`inside-yes`, `is-inside`), and two ranges with nothing between them join (`inside-join`). Assumes nothing.
-use mathlib.Core.Path.{_≡_, refl, sym, ap, _∙_, subst}
-use mathlib.Core.Bool.{Bool, true, false, cond, _&&_, _||_, and-false}
+use mathlib.Core.Path.{_≡_, refl, ap}
+use mathlib.Core.Bool.{Bool, true, false, _&&_, _||_, and-false}
 use Prim.Native.Nat.{ℕ, zero, suc, _+_, _*_, _/_, _%_, _<_, _≤_}
 use native.Mathlib.Omega.{arith}
 use native.Mathlib.Nat.{div-mul-le-self, lt-div-mul-add, div-add-mod', mul-mod-left}
 use lib.Dec.{T}
-use lib.IntN.{ℤ, pos, negsuc, negℤ, natAbs, subℕ, _+ℤ_, _*ℤ_}
+use lib.IntN.{ℤ, pos, negsuc, negℤ, natAbs, subℕ, _+ℤ_}
 use lib.Signed.{_≤ℤ_, _<ℤ_, leZ, ltZ}
 use borrow.Author.Tests.{eqb-true, eq-eqb}
 use Rattle.meaning_numbers.specs.Quotient.{multiple}

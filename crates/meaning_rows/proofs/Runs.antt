@@ -1,7 +1,7 @@
 -- Runs of a set, given as a test: they have exactly its members (`runs-hold`), ascend and do not touch (`runs-apart`), and are as many as its members whose offset before is none (`runs-are`).
 -- The runs of a union are those of both less the places where the two touch (`runs-of-union`). Each is an induction on the number of offsets, one offset taken in at a time. Assumes nothing.
-use mathlib.Core.Path.{_≡_, refl, sym, ap, _∙_, subst}
-use mathlib.Core.Bool.{Bool, true, false, cond, not, _&&_, _||_, and-true, and-false, or-false, or-assoc, false≢true}
+use mathlib.Core.Path.{_≡_, refl, sym, ap, _∙_}
+use mathlib.Core.Bool.{Bool, true, false, not, _&&_, _||_, and-true, and-false, or-false, or-assoc, false≢true}
 use mathlib.Core.List.{List, [], _∷_, _++_, map}
 use Prim.Native.Nat.{ℕ, zero, suc, _+_, _-_, _<_, _≤_, min}
 use native.Mathlib.Omega.{arith}
@@ -258,7 +258,7 @@ in-reach l r n j h e =
 held-reach : (n a : ℕ) (l : List (ℕ × ℕ)) (j : ℕ) → Apart n a l → Next true l n → held (reach l n) j ≡ (held l j || eqb j n)
 unfolding held reach Next Apart
 held-reach n a [] j p h = absurd h
-held-reach n a (x ∷ []) j p h = rw (in-reach (x .0) (x .1) n j (p .1) h, or-false, or-false)
+held-reach n a (x ∷ []) j p h = rw (in-reach (x .0) (x .1) n j (p .1) h) (simp or-false)
 held-reach n a (x ∷ y ∷ l) j p h = rw (held-reach n (x .1 + 2) (y ∷ l) j (p .3) h) (sym (or-assoc (leb (x .0) j && leb j (x .1)) (held (y ∷ l) j) (eqb j n)))
 
 point : (n j : ℕ) → (leb n j && leb j n) ≡ eqb j n

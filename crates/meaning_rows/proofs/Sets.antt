@@ -2,14 +2,14 @@
 -- Such an index is well formed if the ranges ascend and their ends are good, no set is empty, and the sizes total at most the windows (`sets-well-formed`), and then a window that its sets hold rightly has a home (`sets-home`). Assumes nothing.
 use mathlib.Core.Path.{_≡_, refl, sym, ap, _∙_, subst}
 use mathlib.Core.Logic.{⊎-elim}
-use mathlib.Core.Bool.{Bool, true, false, _&&_}
+use mathlib.Core.Bool.{Bool, true, _&&_}
 use mathlib.Core.List.{List, [], _∷_, map, List·Memᴰ as Mem, List·Memᴰ·head as here, List·Memᴰ·tail as there, List·Memᴰ·not-nil as not-nil, List·Memᴰ·cases-cons as cases}
-use Prim.Native.Nat.{ℕ, zero, suc, _+_, _-_, _<_, _≤_}
+use Prim.Native.Nat.{ℕ, _+_, _<_, _≤_}
 use native.Mathlib.Omega.{arith}
 use lib.Dec.{ltb}
 use lib.IntN.{ℤ, pos, natAbs}
-use lib.ListN.{length, length-map, take, drop}
-use lib.Signed.{_≤ℤ_, _<ℤ_, leZ}
+use lib.ListN.{length, length-map}
+use lib.Signed.{_≤ℤ_, leZ}
 use borrow.Author.Tests.{lt-ltb}
 use Rattle.meaning_numbers.specs.Sum.{count}
 use Rattle.meaning_numbers.specs.Place.{any}
@@ -21,13 +21,13 @@ use Rattle.meaning_curves.specs.Limits.{lowestEnd}
 use Rattle.meaning_curves.specs.Curve.{windowSum}
 use Rattle.meaning_rows.specs.declared.Row.{Row}
 use Rattle.meaning_rows.specs.Range.{inside}
-use Rattle.meaning_rows.specs.Index.{Index, Entry, RangeRow, inRun, stands, runsOf, records, allRuns, laidOut}
+use Rattle.meaning_rows.specs.Index.{Index, Entry, inRun, stands, runsOf, records, laidOut}
 use Rattle.meaning_rows.specs.Runs.{runs}
 use Rattle.meaning_rows.specs.Judge.{runLengths}
 use Rattle.meaning_rows.specs.Build.{SetRow, entry, withRuns}
 use Rattle.meaning_rows.proofs.Runs.{held, runs-apart, runs-hold, entries-of-runs, lengths-count}
 use Rattle.meaning_rows.proofs.Times.{Ascending, times, sizes, none-times}
-use Rattle.meaning_rows.proofs.Judge.{GoodHead, GoodEnd, GoodRows, NextRow, WellFormed}
+use Rattle.meaning_rows.proofs.Judge.{GoodHead, GoodEnd, GoodRows, WellFormed}
 use Rattle.meaning_rows.proofs.Audit.{Home, home-of}
 use Rattle.meaning_rows.proofs.Laid.{Lays, laid}
 use Rattle.meaning_rows.proofs.Build.{range, sets, Ends, Occupied, occupied-runs}

@@ -1,10 +1,10 @@
 -- The limits of window sums: values in their limits have window sums of at most 10,000 w either way (`sum-limits`), so the ends of a sum's row are good ends of a range (`ends-good`).
 -- The windows of a series and of a part from its start have the same sums (`sum-of-part`). Assumes nothing.
-use mathlib.Core.Path.{_≡_, refl, sym, ap, _∙_}
-use mathlib.Core.Bool.{Bool, true, false, not}
+use mathlib.Core.Path.{_≡_}
+use mathlib.Core.Bool.{true, not}
 use mathlib.Core.List.{List}
 use mathlib.Core.Option.{none}
-use Prim.Native.Nat.{ℕ, zero, suc, _+_, _*_, _-_, _<_, _≤_}
+use Prim.Native.Nat.{ℕ, _+_, _*_, _<_, _≤_}
 use native.Mathlib.Omega.{arith}
 use native.Mathlib.Decide.{decLt}
 use lib.IntN.{ℤ, pos, negsuc, negℤ, _+ℤ_}
@@ -13,8 +13,7 @@ use lib.Seq.{getD-take}
 use lib.Signed.{_≤ℤ_, _<ℤ_, leZ}
 use borrow.Author.Tests.{not-false}
 use Rattle.meaning_numbers.specs.Order.{within}
-use Rattle.meaning_numbers.specs.Sum.{Σℤ, Σℕ}
-use Rattle.meaning_numbers.proofs.Rep.{up, dn, rep-self, rep-pos, rep-neg, rep-le, zarith, z-add, z-neg}
+use Rattle.meaning_numbers.proofs.Rep.{up, dn, rep-pos, rep-neg, rep-le, zarith, z-add, z-neg}
 use Rattle.meaning_numbers.proofs.Machine.{leZ-true}
 use Rattle.meaning_numbers.proofs.Sum.{rep-Σ-self, Σℕ-le, Σℤ-same}
 use Rattle.meaning_numbers.proofs.Place.{both, of-both, mem-at, place-none}

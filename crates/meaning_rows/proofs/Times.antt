@@ -1,17 +1,17 @@
 -- A list of sets of offsets, each given as a test: how many of them have an offset (`times`), and their sizes added up (`sizes`), which count each offset as often (`sizes-more`).
 -- And of ranges: where they ascend, at most one holds a sum (`holders-are`). Assumes nothing.
-use mathlib.Core.Path.{_≡_, refl, sym, ap, _∙_}
-use mathlib.Core.Bool.{Bool, true, false, _&&_, _||_}
-use mathlib.Core.List.{List, [], _∷_, map, List·Memᴰ as Mem, List·Memᴰ·head as here, List·Memᴰ·tail as there}
+use mathlib.Core.Path.{_≡_, refl}
+use mathlib.Core.Bool.{Bool, false}
+use mathlib.Core.List.{List, [], _∷_}
 use Prim.Native.Nat.{ℕ, zero, suc, _+_, _-_, _<_, _≤_}
 use native.Mathlib.Omega.{arith}
 use native.Mathlib.Nat.{le-step}
-use lib.IntN.{ℤ, pos}
+use lib.IntN.{ℤ}
 use lib.Signed.{_≤ℤ_, _<ℤ_}
 use Rattle.meaning_numbers.specs.Sum.{bit, count}
 use Rattle.meaning_numbers.specs.Place.{any}
 use Rattle.meaning_numbers.proofs.Rep.{zarith}
-use Rattle.meaning_numbers.proofs.Count.{bit-false, false-bit}
+use Rattle.meaning_numbers.proofs.Count.{bit-false}
 use Rattle.meaning_numbers.proofs.Place.{by-test, clash}
 use Rattle.meaning_rows.specs.Range.{inside}
 use Rattle.meaning_rows.proofs.Range.{inside-below, is-inside}
@@ -54,12 +54,7 @@ sizes-once l m (suc k) h =
     let e : m + suc k ≡ suc (m + k) = omega arith in
     rw e (omega (arith, sizes-more l (m + k), sizes-once l m k (λ j a b. h j a (omega arith)), h (m + k) (omega arith) (omega arith)))
 
--- no set has j exactly if the number is 0
-pub times-none : (l : List (ℕ → Bool)) (j : ℕ) → times l j ≡ 0 → any (λ p. p j) l ≡ false
-unfolding any times
-times-none [] j e = refl
-times-none (p ∷ l) j e = rw (false-bit (p j) (omega arith)) (times-none l j (omega arith))
-
+-- where no set has j the number is 0
 pub none-times : (l : List (ℕ → Bool)) (j : ℕ) → any (λ p. p j) l ≡ false → times l j ≡ 0
 unfolding any times
 none-times [] j e = refl
@@ -78,11 +73,6 @@ holds z r = inside (r .0) (r .1) z
 unfoldable pub Ascending : ℤ → List Range → Type 0
 Ascending a [] = Unit {0}
 Ascending a (r ∷ l) = (a ≤ℤ r .0) × (r .0 <ℤ r .1) × Ascending (r .1) l
-
-pub ascending-down : (a b : ℤ) (l : List Range) → a ≤ℤ b → Ascending b l → Ascending a l
-unfolding Ascending
-ascending-down a b [] h p = tt
-ascending-down a b (r ∷ l) h p = let k = p .0 in (omega zarith, p .1, p .2)
 
 -- how many ranges hold z
 unfoldable pub holders : List Range → ℤ → ℕ
