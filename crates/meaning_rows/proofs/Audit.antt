@@ -173,9 +173,9 @@ module _ (x : Index) (sum : ℕ → ℤ) where
 
 not-before : (x : Index) (sum : ℕ → ℤ) (o : Row) (l : List Row) (k j i c : ℕ) → FirstWrong x sum o l k j → FirstWrong x sum o l i c → (k ≤ i) × (i ≡ k → j ≤ c)
 not-before x sum o l k j i c f w = (
-    elim (decLe k i) [ yes h ↦ h | no n ↦ clash (f .rows-before i (omega arith) c (w .stands-there)) (w .outside) ],
-    λ e. elim (decLe j c) [ yes h ↦ h | no n ↦ clash (f .offsets-before c (omega arith) (rw e at (w .stands-there))) (rw e at (w .outside)) ],
-  )
+  elim (decLe k i) [ yes h ↦ h | no n ↦ clash (f .rows-before i (omega arith) c (w .stands-there)) (w .outside) ],
+  λ e. elim (decLe j c) [ yes h ↦ h | no n ↦ clash (f .offsets-before c (omega arith) (rw e at (w .stands-there))) (rw e at (w .outside)) ],
+)
 
 one-wrong : (x : Index) (sum : ℕ → ℤ) (o : Row) (l : List Row) (k j i c : ℕ) → FirstWrong x sum o l k j → FirstWrong x sum o l i c → (i ≡ k) × (c ≡ j)
 one-wrong x sum o l k j i c f w =
@@ -271,17 +271,19 @@ module _ (x : Index) (s : List ℤ) (g : WellFormed x) where
 
   pub audit-yes : firstWrong x s ≡ none → missing x ≡ 0 → Filed x s
   unfolding missing
-  audit-yes e z = record { home = λ j b. home-of j
-      (λ r m t. all-mem (RightRow x (sums x s)) (x .rows) (all-right x s g e) m j t)
-      (not-false (any (λ r. stands x r j) (x .rows)) (never-count (nowhere x) (natAbs (x .windows)) z j b)) }
+  audit-yes e z = record {
+    home = λ j b. home-of j
+        (λ r m t. all-mem (RightRow x (sums x s)) (x .rows) (all-right x s g e) m j t)
+        (not-false (any (λ r. stands x r j) (x .rows)) (never-count (nowhere x) (natAbs (x .windows)) z j b));
+  }
 
   pub filed-passes : Filed x s → (firstWrong x s ≡ none) × (missing x ≡ 0)
   unfolding missing
   filed-passes f = (
-      none-wrong x s g (mem-all (RightRow x (sums x s)) (x .rows) (λ r m j t.
-      let h = f .home j (stands-below x r j (all-mem (GoodRow x) (x .rows) (each-row x g) m) t) in rw (h .no-other r m t) (h .holds-it))),
-      count-never (nowhere x) (natAbs (x .windows)) (λ j b. let h = f .home j b in rw (any-mem (λ r. stands x r j) (h .is) (h .stands-there))),
-    )
+    none-wrong x s g (mem-all (RightRow x (sums x s)) (x .rows) (λ r m j t.
+        let h = f .home j (stands-below x r j (all-mem (GoodRow x) (x .rows) (each-row x g) m) t) in rw (h .no-other r m t) (h .holds-it))),
+    count-never (nowhere x) (natAbs (x .windows)) (λ j b. let h = f .home j b in rw (any-mem (λ r. stands x r j) (h .is) (h .stands-there))),
+  )
 
 -- ---- how many windows stand nowhere
 

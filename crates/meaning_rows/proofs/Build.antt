@@ -1,5 +1,6 @@
--- A build's rows hold every window exactly once (`built-once`), each exactly the windows whose sums lie in its range (`built-holds`); the ranges ascend (`built-ascends`), no row is empty (`built-occupied`), and there are at most as many rows and runs as windows (`built-length`, `built-runs`).
--- Filed rows tile the windows, with no window's sum between neighbours, and merging keeps that; so a row is its range, and merging can be told by ranges alone (`built-range`). Assumes nothing.
+-- A build's rows hold every window exactly once (`built-once`), each exactly the windows whose sums lie in its range (`built-holds`). They ascend, none is empty (`built-tiled`, `built-occupied`),
+-- and there are at most as many rows and runs as windows (`built-length`, `built-runs`). Filed rows tile the windows, with no window's sum between neighbours, and merging keeps that; so a row
+-- is its range, and merging can be told by ranges alone (`built-range`). Assumes nothing.
 use mathlib.Core.Path.{_≡_, refl, sym, ap, _∙_, subst}
 use mathlib.Core.Logic.{_⊎_, inl, inr, ⊎-elim}
 use mathlib.Core.Bool.{Bool, true, false, _&&_, or-true}
@@ -365,12 +366,12 @@ pub runs-sizes : (n : ℕ) (rows : List SetRow) → length (allRuns (map (withRu
 unfolding allRuns withRuns sizes
 runs-sizes n [] = omega arith
 runs-sizes n (r ∷ rows) = omega (
-    arith,
-    length-append (map entry (runs (r .has) n)) (allRuns (map (withRuns n) rows)),
-    length-map (runs (r .has) n) entry,
-    runs-le-count (r .has) n,
-    runs-sizes n rows,
-  )
+  arith,
+  length-append (map entry (runs (r .has) n)) (allRuns (map (withRuns n) rows)),
+  length-map (runs (r .has) n) entry,
+  runs-le-count (r .has) n,
+  runs-sizes n rows,
+)
 
 -- ---- the build
 
@@ -453,12 +454,12 @@ module _ (sum : ℕ → ℤ) (d n : ℕ) (one : 0 < d) where
     pub built-length : length (builtRows sum d g n) ≤ n
     unfolding builtRows filed
     built-length = omega (
-        arith,
-        length-map (mergedRows sum d g n) (withRuns n),
-        merged-length g n (filed sum d n),
-        length-map (rowNumbers sum d n) (rowAt sum d),
-        numbers-length sum d n,
-      )
+      arith,
+      length-map (mergedRows sum d g n) (withRuns n),
+      merged-length g n (filed sum d n),
+      length-map (rowNumbers sum d n) (rowAt sum d),
+      numbers-length sum d n,
+    )
 
     pub built-runs : length (allRuns (builtRows sum d g n)) ≤ n
     unfolding builtRows

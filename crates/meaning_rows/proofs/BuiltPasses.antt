@@ -54,12 +54,12 @@ module _ (s : List ℤ) (w d g : ℕ) (b : Buildable s w d) where
 
   sound : Sound d count rows
   sound = record {
-      ascending = tiled-ascends sum count lowestEnd rows
-          (mem-all (λ r. lowestEnd ≤ℤ r .low) rows (λ r m. end-least d (r .low) (all-mem (Ends (GoodEnd d)) rows good-ends m .low-end))) (built-tiled sum d count one g);
-      ends = good-ends;
-      occupied = built-occupied sum d count one g;
-      total = omega (arith, sizes-all (sets rows) count (built-once sum d count one g));
-    }
+    ascending = tiled-ascends sum count lowestEnd rows
+        (mem-all (λ r. lowestEnd ≤ℤ r .low) rows (λ r m. end-least d (r .low) (all-mem (Ends (GoodEnd d)) rows good-ends m .low-end))) (built-tiled sum d count one g);
+    ends = good-ends;
+    occupied = built-occupied sum d count one g;
+    total = omega (arith, sizes-all (sets rows) count (built-once sum d count one g));
+  }
 
   pub built-well-formed : WellFormed (built s w d g)
   unfolding built builtRows
@@ -68,9 +68,11 @@ module _ (s : List ℤ) (w d g : ℕ) (b : Buildable s w d) where
 
   pub built-filed : Filed (built s w d g) s
   unfolding built builtRows
-  built-filed = record { home = λ j l. sets-home (pos w) (pos d) count rows s j built-well-formed l
-      (λ q m t. sym (all-mem (Fine sum count) rows (tiled-fine sum count rows (built-tiled sum d count one g)) m .exact j l) ∙ t)
-      (once-any j rows (built-once sum d count one g j l)) }
+  built-filed = record {
+    home = λ j l. sets-home (pos w) (pos d) count rows s j built-well-formed l
+        (λ q m t. sym (all-mem (Fine sum count) rows (tiled-fine sum count rows (built-tiled sum d count one g)) m .exact j l) ∙ t)
+        (once-any j rows (built-once sum d count one g j l));
+  }
 
   pub built-passes : (firstBadRow (built s w d g) ≡ none) × (firstWrong (built s w d g) s ≡ none) × (missing (built s w d g) ≡ 0)
   built-passes = let p = filed-passes (built s w d g) s built-well-formed built-filed in (none-bad (built s w d g) built-well-formed, p .0, p .1)

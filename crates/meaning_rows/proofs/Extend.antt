@@ -1,5 +1,6 @@
--- Extending a well-formed index over a longer series. Old ranges are kept, with their old windows (`extended-kept`, `extended-only`); each new window stands in exactly one row, which holds its sum (`extended-new`).
--- The result is well formed (`extended-well-formed`), is filed right if the old index was (`extended-filed`), and for as many windows is a copy (`extended-copy`). New rows go beside the old, for ranges are whole numbers of row widths. Assumes nothing.
+-- Extending a well-formed index over a longer series: old ranges are kept, with their old windows (`extended-kept`), other rows are new (`extended-only`), and each new window stands in
+-- exactly one row, which holds its sum (`extended-new`). The result is well formed (`extended-well-formed`), is filed right if the old index was (`extended-filed`), and for as many windows is
+-- a copy (`extended-copy`). New rows go beside the old, whose ranges are whole numbers of row widths. Assumes nothing.
 use mathlib.Core.Path.{_≡_, refl, sym, ap, _∙_, subst}
 use mathlib.Core.Logic.{_⊎_, inl, inr, ⊎-elim}
 use mathlib.Core.Bool.{Bool, true, false, _&&_}
@@ -228,6 +229,13 @@ pub record Kept (x y : Index) (r q : Row) : Type 0 where
   pub up : q .up ≡ r .up
   pub windows : (j : ℕ) → j < natAbs (x .windows) → stands y q j ≡ stands x r j
 
+-- row q of y is a row of width d with no old window
+pub record NewRow (x y : Index) (q : Row) : Type 0 where
+  pub number : ℤ
+  pub low : q .low ≡ lowOf (natAbs (x .width)) number
+  pub up : q .up ≡ upOf (natAbs (x .width)) number
+  pub no-old : (j : ℕ) → j < natAbs (x .windows) → stands y q j ≡ false
+
 module _ (x : Index) (s : List ℤ) (g : WellFormed x) (e : Extendable x s) where
   abbrev w : ℕ
   w = natAbs (x .window)
@@ -305,25 +313,25 @@ module _ (x : Index) (s : List ℤ) (g : WellFormed x) (e : Extendable x s) wher
 
   total : sizes (sets rows) n ≤ n
   total = omega (
-      arith,
-      rw end-is at (sizes-once (sets rows) old (n - old) (λ j a b. once-new j a (omega (arith, end-is)))),
-      sizes-inserts old news olds,
-      sizes-added x sum old d numbers,
-      sizes-grown x sum old (x .rows) refl (each-row x g),
-      lengths-at-most x g,
-      e .longer,
-    )
+    arith,
+    rw end-is at (sizes-once (sets rows) old (n - old) (λ j a b. once-new j a (omega (arith, end-is)))),
+    sizes-inserts old news olds,
+    sizes-added x sum old d numbers,
+    sizes-grown x sum old (x .rows) refl (each-row x g),
+    lengths-at-most x g,
+    e .longer,
+  )
 
   sound : Sound d n rows
   unfolding grown added rowAt
   sound = record {
-      ascending = ascends;
-      ends = each (Ends (GoodEnd d)) (λ k a. record { low-end = new-ends k a .0; up-end = new-ends k a .1 }) (λ r m o. record { low-end = o .low-end; up-end = o .up-end });
-      occupied = each (Occupied n)
-          (λ k a. record { at = a .at; below = a .below; member = added-new x sum old d k (a .at) (a .new) ∙ rw (← (a .is)) (in-own d (sum (a .at)) one) })
-          (λ r m o. let i = good-member x r o in record { at = i .0; below = omega (arith, i .1, e .longer); member = grown-old x sum old r (i .0) (i .1) ∙ i .2 });
-      total = total;
-    }
+    ascending = ascends;
+    ends = each (Ends (GoodEnd d)) (λ k a. record { low-end = new-ends k a .0; up-end = new-ends k a .1 }) (λ r m o. record { low-end = o .low-end; up-end = o .up-end });
+    occupied = each (Occupied n)
+        (λ k a. record { at = a .at; below = a .below; member = added-new x sum old d k (a .at) (a .new) ∙ rw (← (a .is)) (in-own d (sum (a .at)) one) })
+        (λ r m o. let i = good-member x r o in record { at = i .0; below = omega (arith, i .1, e .longer); member = grown-old x sum old r (i .0) (i .1) ∙ i .2 });
+    total = total;
+  }
 
   pub extended-well-formed : WellFormed (extended x s)
   unfolding extended extendedRows
@@ -353,16 +361,17 @@ module _ (x : Index) (s : List ℤ) (g : WellFormed x) (e : Extendable x s) wher
   extended-kept r m = let f = shows-row (x .window) (x .width) n rows (grown x sum old r) (mem-inserts (grown x sum old r) news olds (inr (mem-map (grown x sum old) m))) in
       (f .row, f .is, kept-by r (f .row) (f .shows))
 
-  -- and any other row has no old window
-  pub extended-only : (q : Row) → Mem q (extended x s .rows) → ((r : Row) × Mem r (x .rows) × Kept x (extended x s) r q) ⊎ ((j : ℕ) → j < natAbs (x .windows) → stands (extended x s) q j ≡ false)
+  new-by : (k : ℤ) (q : Row) → Shows (extended x s) n (added sum d old k) q → NewRow x (extended x s) q
+  unfolding added rowAt
+  new-by k q h = record { number = k; low = h .low; up = h .up; no-old = λ j b. h .has j ∙ old-below j (added sum d old k .has j) b ∙ added-old x sum old d k j b }
+
+  -- and any other row is a new one
+  pub extended-only : (q : Row) → Mem q (extended x s .rows) → ((r : Row) × Mem r (x .rows) × Kept x (extended x s) r q) ⊎ NewRow x (extended x s) q
   unfolding extended extendedRows
   extended-only q m =
       let f = row-shows (x .window) (x .width) n rows q m in
-      all-mem (λ t. Shows (extended x s) n t q → ((r : Row) × Mem r (x .rows) × Kept x (extended x s) r q) ⊎ ((j : ℕ) → j < old → stands (extended x s) q j ≡ false)) rows
-      (each (λ t. Shows (extended x s) n t q → ((r : Row) × Mem r (x .rows) × Kept x (extended x s) r q) ⊎ ((j : ℕ) → j < old → stands (extended x s) q j ≡ false))
-      (λ k a h. inr (λ j b. h .has j ∙ old-below j (added sum d old k .has j) b ∙ added-old x sum old d k j b))
-      (λ r o i h. inl (r, o, kept-by r q h)))
-      (f .is) (f .shows)
+      let P : SetRow → Type 0 = λ t. Shows (extended x s) n t q → ((r : Row) × Mem r (x .rows) × Kept x (extended x s) r q) ⊎ NewRow x (extended x s) q in
+      all-mem P rows (each P (λ k a h. inr (new-by k q h)) (λ r o i h. inl (r, o, kept-by r q h))) (f .is) (f .shows)
 
   right : (r q : Row) (j : ℕ) → r ≡ q → inside (q .low) (q .up) (sum j) ≡ true → inside (grown x sum old r .low) (grown x sum old r .up) (sum j) ≡ true
   unfolding grown
@@ -371,7 +380,8 @@ module _ (x : Index) (s : List ℤ) (g : WellFormed x) (e : Extendable x s) wher
   -- filed right against the part of the series that it has windows of, it is extended to one filed right
   pub extended-filed : Filed x (take (natAbs (x .windows) + natAbs (x .window) - 1) s) → Filed (extended x s) s
   unfolding extended extendedRows
-  extended-filed f = record { home = λ j b. elim (decLt j old) [
+  extended-filed f = record {
+    home = λ j b. elim (decLt j old) [
       | yes l ↦
           let h = f .home j l in
           let same : windowSum (take (old + w - 1) s) w j ≡ sum j = sum-of-part s (old + w - 1) w j (omega (arith, g .head .window .least)) in
@@ -380,15 +390,16 @@ module _ (x : Index) (s : List ℤ) (g : WellFormed x) (e : Extendable x s) wher
           (λ q m. all-mem P rows (each P (λ k a t. clash t (added-old x sum old d k j l)) (λ r o i t. right r (h .row) j (h .no-other r o (sym (grown-old x sum old r j l) ∙ t)) (rw same at (h .holds-it)))) m)
           (any-mem (λ q. q .has j) (mem-inserts (grown x sum old (h .row)) news olds (inr (mem-map (grown x sum old) (h .is)))) (grown-old x sum old (h .row) j l ∙ h .stands-there))
       | no m ↦ extended-new j (omega arith) b
-    ] }
+    ];
+  }
 
   -- at most as many rows and runs as windows
   pub extended-most : (length (extended x s .rows) ≤ windowCount (length s) (natAbs (x .window))) × (length (extended x s .runs) ≤ windowCount (length s) (natAbs (x .window)))
   unfolding extended extendedRows
   extended-most = (
-      rows-at-most (extended x s) extended-well-formed,
-      omega (arith, runs-at-most (extended x s) extended-well-formed, length-allRuns 0 (map (withRuns n) rows)),
-    )
+    rows-at-most (extended x s) extended-well-formed,
+    omega (arith, runs-at-most (extended x s) extended-well-formed, length-allRuns 0 (map (withRuns n) rows)),
+  )
 
 -- ---- as many windows as before: a copy
 

@@ -23,8 +23,7 @@ unfolding Lays allRuns
 lays-after b front [] e = tt
 lays-after b front (r ∷ l) e =
     let rest = allRuns l in
-    let longer = length-append front (r .runs) in
-    (
+    let longer = length-append front (r .runs) in (
       rw e (omega (arith, length-append front (r .runs ++ rest), length-append (r .runs) rest)),
       rw (e, drop-append-seam front (r .runs ++ rest)) (take-append-seam (r .runs) rest),
       subst (λ (k : ℕ). Lays b k l) longer (lays-after b (front ++ r .runs) l (e ∙ sym (append-assoc front (r .runs) rest))),

@@ -317,13 +317,13 @@ not-held n a l j p f = by-test (held l j) (λ t. let r = held-in n a l j p t in 
 no-less : (n a b : ℕ) (x y : ℕ × ℕ) (l m : List (ℕ × ℕ)) → Apart n a (x ∷ l) → Apart n b (y ∷ m) → ((j : ℕ) → held (x ∷ l) j ≡ held (y ∷ m) j) → (y .0 ≤ x .0) × (x .0 ≡ y .0 → y .1 ≤ x .1)
 unfolding Apart
 no-less n a b x y l m p q h = (
-    held-in n (y .0) (y ∷ m) (x .0) (omega arith, q .1, q .2, q .3) (sym (h (x .0)) ∙ in-run x l (x .0) (omega arith) (p .1)) .0,
-    λ e. elim (decLe (y .1) (x .1)) [
-      | yes g ↦ g
-      | no f ↦ clash (h (x .1 + 1) ∙ in-run y m (x .1 + 1) (omega arith) (omega arith))
-          (past-run x l (x .1 + 1) (omega arith) ∙ not-held n (x .1 + 2) l (x .1 + 1) (p .3) (λ c d. omega arith))
-    ],
-  )
+  held-in n (y .0) (y ∷ m) (x .0) (omega arith, q .1, q .2, q .3) (sym (h (x .0)) ∙ in-run x l (x .0) (omega arith) (p .1)) .0,
+  λ e. elim (decLe (y .1) (x .1)) [
+    | yes g ↦ g
+    | no f ↦ clash (h (x .1 + 1) ∙ in-run y m (x .1 + 1) (omega arith) (omega arith))
+        (past-run x l (x .1 + 1) (omega arith) ∙ not-held n (x .1 + 2) l (x .1 + 1) (p .3) (λ c d. omega arith))
+  ],
+)
 
 pub apart-unique : (n a b : ℕ) (l m : List (ℕ × ℕ)) → Apart n a l → Apart n b m → ((j : ℕ) → held l j ≡ held m j) → l ≡ m
 unfolding Apart held

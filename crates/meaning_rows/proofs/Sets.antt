@@ -1,5 +1,5 @@
--- Rows given by sets of offsets, laid out with their runs. A row has below n exactly the offsets of its set (`row-shows`, `shows-row`).
--- Such an index is well formed if the ranges ascend and their ends are good, no set is empty, and the sizes total at most the windows (`sets-well-formed`), and then a window that its sets hold rightly has a home (`sets-home`). Assumes nothing.
+-- Rows given by sets of offsets, laid out with their runs. A row has below n exactly the offsets of its set (`row-shows`, `shows-row`). Such an index is well formed if the ranges ascend and
+-- their ends are good, no set is empty, and the sizes total at most the windows (`sets-well-formed`); then a window that its sets hold rightly has a home (`sets-home`). Assumes nothing.
 use mathlib.Core.Path.{_≡_, refl, sym, ap, _∙_, subst}
 use mathlib.Core.Logic.{⊎-elim}
 use mathlib.Core.Bool.{Bool, true, _&&_}
@@ -104,8 +104,7 @@ module _ (window width : ℤ) (n : ℕ) (all : List SetRow) where
       let own = map entry (runs (q .has) n) in
       let r : Row = record { low = q .low; up = q .up; first = k; runs = length own } in
       let same : runsOf x r ≡ own = h .1 in
-      let long : runLengths (runsOf x r) ≡ count (q .has) n = ap runLengths same ∙ runs-count (q .has) n in
-      (
+      let long : runLengths (runsOf x r) ≡ count (q .has) n = ap runLengths same ∙ runs-count (q .has) n in (
         record {
           row = record {
             wide = a .1;

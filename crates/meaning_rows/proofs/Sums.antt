@@ -68,8 +68,7 @@ ends-good s w d j e small one most =
     let b : z <ℤ upOf d k = row-above d z one in
     let c = up-is d k in
     let n = z-neg (pos (10000 * w)) in
-    let m = z-add (lowOf d k) (pos d) in
-    (
+    let m = z-add (lowOf d k) (pos d) in (
       record { divides = multiple-of d k; limited = end-in (lowOf d k) (omega zarith) (omega zarith) },
       record { divides = multiple-of d (k +ℤ pos 1); limited = end-in (upOf d k) (omega zarith) (omega zarith) },
     )
