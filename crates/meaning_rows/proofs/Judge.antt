@@ -19,6 +19,7 @@ use Rattle.meaning_numbers.specs.Quotient.{multiple}
 use Rattle.meaning_numbers.specs.Sum.{count}
 use Rattle.meaning_numbers.specs.Place.{any}
 use Rattle.meaning_numbers.proofs.Count.{count-cong}
+use Rattle.meaning_numbers.proofs.Rep.{zarith}
 use Rattle.meaning_numbers.proofs.Machine.{ltZ-true, leZ-true, lt-ltZ}
 use Rattle.meaning_numbers.proofs.Place.{by-test, both, of-both, clash, All, all-mem, mem-at}
 use Rattle.meaning_curves.specs.Limits.{endIn, lowestEnd, mostValues}
@@ -320,6 +321,20 @@ module _ (x : Index) where
   rows-ascend least first taken [] g = tt
   rows-ascend least first taken (r ∷ l) g = (g .0 .order, g .0 .row .wide, rows-ascend (r .up) (first + r .runs) (taken + runLengths (runsOf x r)) l (g .1))
 
+  -- a row begins at or after the end of each row before it
+  begins-after : (o : Row) (a : ℤ) (k : ℕ) (l : List Row) → k < length l → Ascending a (map rangeOf l) → a ≤ℤ getD l k o .low
+  unfolding Ascending
+  begins-after o a k [] h p = absurd (omega arith)
+  begins-after o a zero (r ∷ l) h p = p .0
+  begins-after o a (suc k) (r ∷ l) h p = let b = p .0 in let c = p .1 in let e = begins-after o (r .up) k l (omega arith) (p .2) in omega zarith
+
+  in-order : (o : Row) (a : ℤ) (i k : ℕ) (l : List Row) → i < k → k < length l → Ascending a (map rangeOf l) → getD l i o .up ≤ℤ getD l k o .low
+  unfolding Ascending
+  in-order o a i k [] b h p = absurd (omega arith)
+  in-order o a i zero (r ∷ l) b h p = absurd (omega arith)
+  in-order o a zero (suc k) (r ∷ l) b h p = begins-after o (r .up) k l (omega arith) (p .2)
+  in-order o a (suc i) (suc k) (r ∷ l) b h p = in-order o (r .up) i k l (omega arith) (omega arith) (p .2)
+
   lengths-within : (least : ℤ) (first taken : ℕ) (l : List Row) → taken ≤ natAbs (x .windows) → GoodRows x least first taken l → taken + lengthTotal x l ≤ natAbs (x .windows)
   unfolding GoodRows lengthTotal
   lengths-within least first taken [] h g = omega arith
@@ -346,6 +361,9 @@ module _ (x : Index) where
 
     pub row-at : (o : Row) (k : ℕ) → k < length (x .rows) → GoodRow x (getD (x .rows) k o)
     row-at o k h = all-mem (GoodRow x) (x .rows) each-row (mem-at o (x .rows) k h)
+
+    pub order-at : (o : Row) (i k : ℕ) → i < k → k < length (x .rows) → getD (x .rows) i o .up ≤ℤ getD (x .rows) k o .low
+    order-at o i k b h = in-order o lowestEnd i k (x .rows) b h ranges-ascend
 
     -- a row's runs begin where those of the rows before end
     pub first-at : (o : Row) (k : ℕ) → k < length (x .rows) → getD (x .rows) k o .first ≡ runTotal (take k (x .rows))
