@@ -4,6 +4,8 @@ pub mod Refusal
 pub mod Demand1
 pub mod Listed
 pub mod Pack
+pub mod Passes
+pub mod Demand3
 pub mod Row
 pub mod Calls
 pub mod Vectors

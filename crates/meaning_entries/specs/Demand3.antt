@@ -48,7 +48,7 @@ pub record SameMatches (c : SearchCall) (count₁ count₂ : ℕ) (list₁ list�
   pub long : count₁ ≡ length list₁
 
 -- for every series, query, kind and limits, and every two indexes
-pub Demand3 : Type 0
+abbrev pub Demand3 : Type 0
 Demand3 =
     (c : SearchCall) (x : Index) (count₁ count₂ : ℕ) (list₁ list₂ : List (ℕ × ℕ))
     → Searched c count₁ list₁ → Searched (through x c) count₂ list₂ → SameMatches c count₁ count₂ list₁ list₂

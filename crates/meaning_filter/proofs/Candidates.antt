@@ -1,5 +1,5 @@
 -- Every match is a candidate, in an index that files each window of the series in a row that holds its sum (`kept-candidate`). The sum of a part of the stretch is that of a window of the series, it lies in the part's range (`kept`), and so the row that holds it is met (`row-met`). Assumes nothing.
-use mathlib.Core.Path.{_≡_}
+use mathlib.Core.Path.{_≡_, sym, subst}
 use mathlib.Core.Bool.{Bool, _&&_}
 use mathlib.Core.List.{List, map}
 use Prim.Native.Nat.{ℕ, zero, suc, _+_, _*_, _/_, _<_, _≤_}
@@ -13,13 +13,14 @@ use Rattle.meaning_numbers.specs.Sum.{Σℤ}
 use Rattle.meaning_numbers.specs.Place.{any, numbersFrom}
 use Rattle.meaning_numbers.proofs.Rep.{zarith}
 use Rattle.meaning_numbers.proofs.Sum.{Σℤ-same}
-use Rattle.meaning_numbers.proofs.Tests.{two-tests, both-tests}
-use Rattle.meaning_numbers.proofs.Any.{any-map}
+use Rattle.meaning_numbers.proofs.Tests.{two-tests, both-tests, of-both}
+use Rattle.meaning_numbers.proofs.Member.{any-weaken, any-mem}
 use Rattle.meaning_numbers.proofs.Between.{Between}
 use Rattle.meaning_curves.specs.Curve.{at, stretch, windowSum}
 use Rattle.meaning_rows.specs.declared.Row.{Row}
 use Rattle.meaning_rows.specs.Range.{inside}
 use Rattle.meaning_rows.specs.Index.{Index, stands}
+use Rattle.meaning_rows.proofs.Audit.{Filed}
 use Rattle.meaning_filter.specs.Range.{rangeOf, ranges}
 use Rattle.meaning_filter.specs.Candidates.{met, admits, candidate}
 use Rattle.meaning_filter.specs.Matches.{Question, queryLength, offsetCount, matchesAt, candidateAt}
@@ -29,9 +30,18 @@ use Rattle.meaning_filter.proofs.Kept.{kept}
 abbrev pub filedAt : Index → ℤ → ℕ → Bool
 filedAt x z j = any (λ r. inside (r .low) (r .up) z && stands x r j) (x .rows)
 
--- each window of the series stands in a row that holds its sum
-pub record Filed (x : Index) (s : List ℤ) : Type 0 where
+-- each window of the series stands in a row that holds its sum: what the filter needs of an index
+pub record Reached (x : Index) (s : List ℤ) : Type 0 where
   pub at : (j : ℕ) → j + natAbs (x .window) ≤ length s → T (filedAt x (windowSum s (natAbs (x .window)) j) j)
+
+-- an index with as many windows as the series, each filed right, is such an index
+pub filed-reached : (x : Index) (s : List ℤ) → Filed x s → natAbs (x .windows) + natAbs (x .window) ≡ length s + 1 → Reached x s
+filed-reached x s f e = record {
+  at = λ j h.
+      let o = f .home j (omega arith) in
+      let z = windowSum s (natAbs (x .window)) j in
+      subst T (sym (any-mem (λ r. inside (r .low) (r .up) z && stands x r j) (o .is) (of-both (o .holds-it) (o .stands-there)))) tt;
+}
 
 -- a row that holds a sum in the range is met
 pub row-met : {lo z hi low up : ℤ} → Between lo z hi → low ≤ℤ z → z <ℤ up → (low ≤ℤ hi) × (lo <ℤ up)
@@ -45,7 +55,7 @@ met-holding range z r b t =
     both-tests (leZ (r .low) (range .1)) (ltZ (range .0) (r .up)) (m .0 .le) (m .1 .lt)
 
 pub filed-admits : (x : Index) (range : ℤ × ℤ) (z : ℤ) (j : ℕ) → Between (range .0) z (range .1) → T (filedAt x z j) → T (admits x range j)
-filed-admits x range z j b = any-map (λ r. inside (r .low) (r .up) z && stands x r j) (λ r. met range r && stands x r j)
+filed-admits x range z j b = any-weaken (λ r. inside (r .low) (r .up) z && stands x r j) (λ r. met range r && stands x r j)
     (λ r t. let h = two-tests (inside (r .low) (r .up) z) (stands x r j) t in both-tests (met range r) (stands x r j) (met-holding range z r b (h .0)) (h .1))
     (x .rows)
 
@@ -69,7 +79,7 @@ part-sum : (s : List ℤ) (j p w : ℕ) → Σℤ w (λ k. stretch s j (p + k)) 
 unfolding windowSum
 part-sum s j p w = Σℤ-same w (λ k. stretch s j (p + k)) (stretch s (j + p)) (λ k l. let e : j + (p + k) ≡ j + p + k = omega arith in rw e)
 
-pub kept-candidate : (x : Index) (z : Question) (j : ℕ) → Filed x (z .series) → 0 < queryLength z → 0 < z .limits .scale → j < offsetCount z → T (matchesAt z j) → T (candidateAt x z j)
+pub kept-candidate : (x : Index) (z : Question) (j : ℕ) → Reached x (z .series) → 0 < queryLength z → 0 < z .limits .scale → j < offsetCount z → T (matchesAt z j) → T (candidateAt x z j)
 unfolding candidateAt ranges
 kept-candidate x z j filed long one there t =
     let w = natAbs (x .window) in

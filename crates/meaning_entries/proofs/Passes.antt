@@ -1,0 +1,110 @@
+-- What it says that an index passes against a series (`passed`): it is well formed, it has n - w + 1 windows, and each stands in the row that holds its sum and in no other; and back (`passes`). So every window can be reached by the filter (`passes-reached`), and on a yes the run lengths total the windows (`passes-total`). Assumes nothing.
+use mathlib.Core.Path.{_≡_, refl, sym, _∙_}
+use mathlib.Core.Bool.{Bool, true, false, not}
+use mathlib.Core.List.{List, [], _∷_}
+use mathlib.Core.Option.{Option, none, some}
+use Prim.Native.Nat.{ℕ, zero, suc, _+_}
+use native.Mathlib.Omega.{arith}
+use lib.Dec.{T}
+use lib.IntN.{ℤ, pos, natAbs, _+ℤ_, _-ℤ_}
+use lib.ListN.{length}
+use lib.Signed.{_≤ℤ_, ltZ, ltZ-no}
+use Rattle.meaning_numbers.proofs.Rep.{zarith, z-add, z-sub}
+use Rattle.meaning_numbers.proofs.Machine.{le-ltZ}
+use Rattle.meaning_numbers.proofs.Tests.{yes-not-not}
+use Rattle.meaning_curves.specs.Limits.{mostValues, lengthIn, firstOutside}
+use Rattle.meaning_rows.specs.Index.{Index}
+use Rattle.meaning_rows.specs.Judge.{firstBadRow}
+use Rattle.meaning_rows.specs.Audit.{firstWrong, missing}
+use Rattle.meaning_rows.proofs.Judge.{WellFormed, well-formed, none-bad, lengthTotal}
+use Rattle.meaning_rows.proofs.Audit.{Filed, audit-yes, filed-passes, yes-total}
+use Rattle.meaning_filter.proofs.Candidates.{Reached, filed-reached}
+use Rattle.meaning_entries.specs.declared.Audited.{Audited}
+use Rattle.meaning_entries.specs.Refusal.{if?, firstRefusal, lengthOutside, valueOutside, illFormed, windowsOf, fewerWindows, moreWindows}
+use Rattle.meaning_entries.specs.Audit.{AuditCall, auditTable, complete, audited, auditAnswer, Passes}
+use Rattle.meaning_entries.proofs.Refusal.{end, more, passed-is, is-passed, passed-at, not-if}
+
+-- yes is said where nothing refuses, nothing is filed wrongly and nothing is missing
+record Yes (c : AuditCall) : Type 0 where
+  free : firstRefusal (auditTable mostValues c) ≡ none
+  right : firstWrong (c .index) (c .series) ≡ none
+  full : missing (c .index) ≡ 0
+
+complete-yes : (n : ℕ) → complete n ≡ Audited.Yes → n ≡ 0
+unfolding complete
+complete-yes zero e = refl
+complete-yes (suc n) e = let z : _≡_ {A = ℕ} 0 1 = cc in absurd (omega arith)
+
+yes-right : (c : AuditCall) → firstRefusal (auditTable mostValues c) ≡ none → (o : Option (ℕ × ℕ)) → firstWrong (c .index) (c .series) ≡ o → audited c ≡ Audited.Yes → Yes c
+unfolding audited
+yes-right c free none e h = record { free = free; right = e; full = complete-yes (missing (c .index)) (rw (e, audited) at h) }
+yes-right c free (some x) e h = let g = rw (e, audited) at h in let z : _≡_ {A = ℕ} 0 1 = cc in absurd (omega arith)
+
+yes-free : (c : AuditCall) (o : Option (ℕ × ℕ)) → firstRefusal (auditTable mostValues c) ≡ o → auditAnswer c ≡ Audited.Yes → Yes c
+unfolding auditAnswer
+yes-free c none e h = yes-right c e (firstWrong (c .index) (c .series)) refl (rw (e, auditAnswer) at h)
+yes-free c (some r) e h = let g = rw (e, auditAnswer) at h in let z : _≡_ {A = ℕ} 0 1 = cc in absurd (omega arith)
+
+-- an index that passes
+pub record Passed (x : Index) (s : List ℤ) : Type 0 where
+  pub formed : WellFormed x
+  pub windows : natAbs (x .windows) + natAbs (x .window) ≡ length s + 1
+  pub filed : Filed x s
+
+-- as many windows as the series has
+same-windows : (x : Index) (s : List ℤ) → WellFormed x → windowsOf x s ≤ℤ x .windows → x .windows ≤ℤ windowsOf x s → natAbs (x .windows) + natAbs (x .window) ≡ length s + 1
+same-windows x s g h k =
+    let w : x .window ≡ pos (natAbs (x .window)) = g .head .window .is in
+    let n : x .windows ≡ pos (natAbs (x .windows)) = g .head .windows .is in
+    omega (zarith, z-add (pos (length s) -ℤ x .window) (pos 1), z-sub (pos (length s)) (x .window))
+
+pub passed : (x : Index) (s : List ℤ) → Passes x s → Passed x s
+unfolding auditTable illFormed fewerWindows moreWindows
+passed x s p =
+    let c : AuditCall = record { series = s; index = x } in
+    let y = yes-free c (firstRefusal (auditTable mostValues c)) refl p in
+    let t = is-passed (auditTable mostValues c) (y .free) in
+    let g = well-formed x (passed-at t 2) in
+    record {
+      formed = g;
+      windows = same-windows x s g
+          (ltZ-no {a = x .windows} {b = windowsOf x s} (not-if 21 (ltZ (x .windows) (windowsOf x s)) (passed-at t 3)))
+          (ltZ-no {a = windowsOf x s} {b = x .windows} (not-if 22 (ltZ (windowsOf x s) (x .windows)) (passed-at t 4)));
+      filed = audit-yes x s g (y .right) (y .full);
+    }
+
+pub passes-reached : (x : Index) (s : List ℤ) → Passes x s → Reached x s
+passes-reached x s p = let y = passed x s p in filed-reached x s (y .filed) (y .windows)
+
+pub passes-total : (x : Index) (s : List ℤ) → Passes x s → lengthTotal x (x .rows) ≡ natAbs (x .windows)
+passes-total x s p = let y = passed x s p in yes-total x s (y .formed) (y .filed)
+
+-- ---- and back
+
+no-lt : {a b : ℤ} → b ≤ℤ a → T (not (ltZ a b))
+no-lt {a} {b} h = rw (le-ltZ {a = a} {b = b} h) tt
+
+not-applies : (n : ℕ) (t : Bool) → T (not t) → if? n t .place ≡ none
+not-applies n true h = absurd h
+not-applies n false h = refl
+
+yes-said : (c : AuditCall) → firstRefusal (auditTable mostValues c) ≡ none → firstWrong (c .index) (c .series) ≡ none → missing (c .index) ≡ 0 → auditAnswer c ≡ Audited.Yes
+unfolding auditAnswer audited complete
+yes-said c free right full = rw (free, auditAnswer) (rw (right, audited) (rw full refl))
+
+pub passes : (x : Index) (s : List ℤ) → T (lengthIn mostValues (length s)) → firstOutside s ≡ none → Passed x s → Passes x s
+unfolding auditTable lengthOutside valueOutside illFormed fewerWindows moreWindows
+passes x s long values p =
+    let c : AuditCall = record { series = s; index = x } in
+    let f = filed-passes x s (p .formed) (p .filed) in
+    let w : x .window ≡ pos (natAbs (x .window)) = p .formed .head .window .is in
+    let n : x .windows ≡ pos (natAbs (x .windows)) = p .formed .head .windows .is in
+    let e = p .windows in
+    let a = z-add (pos (length s) -ℤ x .window) (pos 1) in
+    let b = z-sub (pos (length s)) (x .window) in
+    yes-said c
+    (passed-is (more (not-applies 1 (not (lengthIn mostValues (length s))) (yes-not-not (lengthIn mostValues (length s)) long))
+    (more values (more (none-bad x (p .formed))
+    (more (not-applies 21 (ltZ (x .windows) (windowsOf x s)) (no-lt {a = x .windows} {b = windowsOf x s} (omega (zarith, a, b))))
+    (more (not-applies 22 (ltZ (windowsOf x s) (x .windows)) (no-lt {a = windowsOf x s} {b = x .windows} (omega (zarith, a, b)))) end))))))
+    (f .0) (f .1)
