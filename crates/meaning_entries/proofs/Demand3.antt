@@ -1,6 +1,6 @@
 -- Demand 3, proved as specs/Demand3.antt states it. Each of the two searches has listed the matches that it means (`listed-is`), its index lets the filter reach every window (`passes-reached`),
 -- so what it means is all matches (`all-found`), which do not depend on the index. Assumes nothing.
-use mathlib.Core.Path.{_≡_, refl, sym, ap, _∙_}
+use mathlib.Core.Path.{_≡_, sym, ap, subst, _∙_}
 use mathlib.Core.Bool.{Bool, not, _||_}
 use mathlib.Core.List.{List}
 use mathlib.Core.Option.{none}
@@ -14,8 +14,8 @@ use Rattle.meaning_numbers.proofs.Machine.{z-abs}
 use Rattle.meaning_numbers.proofs.Tests.{not-not, neither}
 use Rattle.meaning_numbers.proofs.Between.{within-yes}
 use Rattle.meaning_curves.specs.Limits.{queryLengthIn, scaleIn, shiftIn}
-use Rattle.meaning_filter.specs.Matches.{matchList, allMatches}
-use Rattle.meaning_filter.proofs.Matches.{all-found}
+use Rattle.meaning_filter.specs.Matches.{allMatches, Exactly}
+use Rattle.meaning_filter.proofs.Matches.{all-found, all-exactly}
 use Rattle.meaning_entries.specs.Refusal.{firstRefusal, queryLengthOutside, scaleOrShiftOutside}
 use Rattle.meaning_entries.specs.Search.{SearchCall, SearchBuffers, question, searchMatches, searchTable}
 use Rattle.meaning_entries.specs.Demand3.{Searched, through, Demand3}
@@ -52,4 +52,10 @@ unfolding question
 demand3 c x n₁ n₂ l₁ l₂ one two =
     let a = all-listed c n₁ l₁ one in
     let b = all-listed (through x c) n₂ l₂ two in
-    record { counts = a .1 ∙ sym (b .1); lists = a .0 ∙ sym (b .0); all = a .0; long = a .1 ∙ ap length (sym (a .0)) }
+    record {
+      counts = a .1 ∙ sym (b .1);
+      lists = a .0 ∙ sym (b .0);
+      all = a .0;
+      exact = subst (Exactly (question c)) (sym (a .0)) (all-exactly (question c));
+      long = a .1 ∙ ap length (sym (a .0));
+    }

@@ -6,6 +6,7 @@ pub mod Listed
 pub mod Pack
 pub mod Passes
 pub mod Demand3
+pub mod Made
 pub mod Row
 pub mod Calls
 pub mod Vectors

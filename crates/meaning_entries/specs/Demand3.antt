@@ -6,7 +6,7 @@ use lib.IntN.{ℤ}
 use lib.ListN.{length, take}
 use Rattle.meaning_rows.specs.Index.{Index}
 use Rattle.meaning_filter.specs.declared.Kind.{Kind}
-use Rattle.meaning_filter.specs.Matches.{allMatches}
+use Rattle.meaning_filter.specs.Matches.{allMatches, Exactly}
 use Rattle.meaning_entries.specs.declared.Found.{Found}
 use Rattle.meaning_entries.specs.Audit.{Passes}
 use Rattle.meaning_entries.specs.Search.{SearchCall, SearchBuffers, question}
@@ -40,11 +40,12 @@ through x c = record {
   shift = c .shift;
 }
 
--- what both searches list
+-- what both searches list: the same, and that is exactly all matches
 pub record SameMatches (c : SearchCall) (count₁ count₂ : ℕ) (list₁ list₂ : List (ℕ × ℕ)) : Type 0 where
   pub counts : count₁ ≡ count₂
   pub lists : list₁ ≡ list₂
   pub all : list₁ ≡ allMatches (question c)
+  pub exact : Exactly (question c) list₁
   pub long : count₁ ≡ length list₁
 
 -- for every series, query, kind and limits, and every two indexes

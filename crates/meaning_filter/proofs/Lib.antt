@@ -8,6 +8,7 @@ pub mod Shift
 pub mod Kept
 pub mod Candidates
 pub mod Matches
+pub mod Handed
 pub mod Open
 pub mod Lost
 pub mod Cases

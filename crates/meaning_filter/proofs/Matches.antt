@@ -1,13 +1,44 @@
--- A search through an index lists all matches, in order and with their distances (`all-found`): every match is a candidate, so looking among the candidates alone loses none. Assumes nothing.
-use mathlib.Core.Path.{_≡_}
-use Prim.Native.Nat.{_<_}
+-- A search through an index lists all matches, in order and with their distances (`all-found`): every match is a candidate, so looking among the candidates alone loses none.
+-- All matches are exactly those (`all-exactly`): ascending, each once, and an offset stands among them exactly if its stretch matches. Assumes nothing.
+use mathlib.Core.Path.{_≡_, refl, sym, subst}
+use mathlib.Core.Bool.{Bool}
+use mathlib.Core.List.{List, map}
+use Prim.Native.Nat.{ℕ, zero, suc, _<_}
 use native.Mathlib.Omega.{arith}
-use Rattle.meaning_numbers.proofs.Keep.{keep-twice}
+use lib.Dec.{T}
+use Rattle.meaning_numbers.specs.Place.{keep, numbersFrom}
+use Rattle.meaning_numbers.proofs.Tests.{by-test}
+use Rattle.meaning_numbers.proofs.Member.{map-mem, mem-map, numbers-mem, mem-numbers}
+use Rattle.meaning_numbers.proofs.Keep.{keep-twice, kept-mem, mem-kept}
 use Rattle.meaning_rows.specs.Index.{Index}
-use Rattle.meaning_filter.specs.Matches.{Question, queryLength, offsetCount, matchesAt, candidateAt, allMatches, matchList}
+use Rattle.meaning_filter.specs.Matches.{Question, queryLength, offsetCount, matchesAt, listed, candidateAt, allMatches, matchList, Upward, done, next, Exactly}
 use Rattle.meaning_filter.proofs.Candidates.{Reached, kept-candidate}
 
 pub all-found : (x : Index) (z : Question) → Reached x (z .series) → 0 < queryLength z → 0 < z .limits .scale → matchList x z ≡ allMatches z
 unfolding matchList allMatches
 all-found x z filed long one =
     rw (keep-twice (matchesAt z) (candidateAt x z) 0 (offsetCount z) (λ j l. kept-candidate x z j filed long one (omega arith)))
+
+-- the numbers from k on that pass a test, with something beside each, are upward
+kept-upward : (p : ℕ → Bool) (f : ℕ → ℕ × ℕ) → ((j : ℕ) → f j .0 ≡ j) → (k n : ℕ) → Upward k (map f (keep p (numbersFrom k n)))
+unfolding keep numbersFrom
+kept-upward p f e k zero = done
+kept-upward p f e k (suc n) = by-test (p k)
+    (λ t. rw t (next {k = k} {e = f k} (omega (arith, e k)) (subst (λ (i : ℕ). Upward (suc i) (map f (keep p (numbersFrom (suc k) n)))) (sym (e k)) (kept-upward p f e (suc k) n))))
+    (λ t. rw t (upward-down (kept-upward p f e (suc k) n)))
+  where
+    upward-down : {l : List (ℕ × ℕ)} → Upward (suc k) l → Upward k l
+    upward-down done = done
+    upward-down (next {e = e} h u) = next {k = k} {e = e} (omega arith) u
+
+pub all-exactly : (z : Question) → Exactly z (allMatches z)
+unfolding allMatches
+all-exactly z = record {
+  ascending = kept-upward (matchesAt z) (listed z) (λ j. refl) 0 (offsetCount z);
+  only = λ e m.
+      let i = map-mem (listed z) (keep (matchesAt z) (numbersFrom 0 (offsetCount z))) m in
+      let k = kept-mem (matchesAt z) (numbersFrom 0 (offsetCount z)) (i .is) in
+      let b = numbers-mem 0 (offsetCount z) (i .entry) (k .0) in
+      subst (λ (x : ℕ × ℕ). (x .0 < offsetCount z) × T (matchesAt z (x .0)) × (x ≡ listed z (x .0))) (sym (i .same)) (omega (arith, b .1), k .1, refl);
+  every = λ j h t. mem-map (listed z) (mem-kept (matchesAt z) (mem-numbers 0 (offsetCount z) j (omega arith) (omega arith)) t);
+}

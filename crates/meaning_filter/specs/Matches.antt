@@ -1,7 +1,9 @@
 -- The list of matches, with offset and distance, and what a search through an index finds (01, Candidates). Assumes nothing.
-use mathlib.Core.Bool.{Bool, true, false, cond, _&&_}
-use mathlib.Core.List.{List, [], _∷_, map}
-use Prim.Native.Nat.{ℕ, zero, suc, _+_, _-_}
+use mathlib.Core.Path.{_≡_}
+use mathlib.Core.Bool.{Bool}
+use mathlib.Core.List.{List, [], _∷_, map, List·Memᴰ as Mem}
+use Prim.Native.Nat.{ℕ, suc, _+_, _-_, _<_, _≤_}
+use lib.Dec.{T}
 use lib.IntN.{ℤ, natAbs}
 use lib.ListN.{length}
 use Rattle.meaning_numbers.specs.Sum.{count}
@@ -52,6 +54,17 @@ listed z j = (j, distanceTo (z .kind) (stretch (z .series) j) (at (z .query)) (q
 -- all matches, ascending, with no index
 unfoldable pub allMatches : Question → List (ℕ × ℕ)
 allMatches z = map (listed z) (keep (matchesAt z) (numbersFrom 0 (offsetCount z)))
+
+-- the offsets of a list are at least k, ascending, each once
+pub data Upward : ℕ → List (ℕ × ℕ) → Type 0 where
+  done : {k : ℕ} → Upward k []
+  next : {k : ℕ} {e : ℕ × ℕ} {l : List (ℕ × ℕ)} → k ≤ e .0 → Upward (suc (e .0)) l → Upward k (e ∷ l)
+
+-- a list is exactly all matches: ascending, each once; an entry is an offset whose stretch matches, with its distance; and every such offset stands in it
+pub record Exactly (z : Question) (l : List (ℕ × ℕ)) : Type 0 where
+  pub ascending : Upward 0 l
+  pub only : (e : ℕ × ℕ) → Mem e l → (e .0 < offsetCount z) × T (matchesAt z (e .0)) × (e ≡ listed z (e .0))
+  pub every : (j : ℕ) → j < offsetCount z → T (matchesAt z j) → Mem (listed z j) l
 
 -- ---- through an index
 

@@ -1,11 +1,13 @@
--- What is kept of what is kept: where each number below k + n that passes p passes c, keeping by c first changes nothing (`keep-twice`). By induction on n. Assumes nothing.
-use mathlib.Core.Path.{_≡_, refl}
+-- What is kept: the entries that are in the list and pass (`kept-mem`, `mem-kept`). Where each number below k + n that passes p passes c, keeping by c first changes nothing (`keep-twice`). Assumes nothing.
+use mathlib.Core.Path.{_≡_, refl, sym, subst}
+use mathlib.Core.Logic.{⊎-elim}
 use mathlib.Core.Bool.{Bool, true, false, cond}
-use mathlib.Core.List.{List, _∷_}
+use mathlib.Core.List.{List, [], _∷_, List·Memᴰ as Mem, List·Memᴰ·head as here, List·Memᴰ·tail as there, List·Memᴰ·not-nil as not-nil, List·Memᴰ·cases-cons as cases}
 use Prim.Native.Nat.{ℕ, zero, suc, _+_, _<_}
 use native.Mathlib.Omega.{arith}
 use lib.Dec.{T}
 use Rattle.meaning_numbers.specs.Place.{keep, numbersFrom}
+use Rattle.meaning_numbers.proofs.Tests.{is-true, by-test}
 
 -- one entry x more, where p answers y of it and c answers t
 keep-one : {A : Type 0} (p : A → Bool) (y t : Bool) (x : A) (l r : List A) → p x ≡ y → (T y → T t) → keep p l ≡ r → keep p (cond t (x ∷ l) l) ≡ cond y (x ∷ r) r
@@ -19,3 +21,17 @@ unfolding keep numbersFrom
 keep-twice p c k zero f = refl
 keep-twice p c k (suc n) f =
     keep-one p (p k) (c k) k (keep c (numbersFrom (suc k) n)) (keep p (numbersFrom (suc k) n)) refl (f k (omega arith)) (keep-twice p c (suc k) n (λ j l. f j (omega arith)))
+
+-- ---- members
+
+pub kept-mem : {A : Type 0} (p : A → Bool) {x : A} (l : List A) → Mem x (keep p l) → Mem x l × T (p x)
+unfolding keep
+kept-mem p [] m = absurd (not-nil m)
+kept-mem {A} p {x} (y ∷ l) m = by-test (p y)
+    (λ t. ⊎-elim (λ e. (here e, subst (λ (z : A). T (p z)) (sym e) (subst T (sym t) tt))) (λ n. let h = kept-mem p l n in (there (h .0), h .1)) (cases (rw t at m)))
+    (λ f. let h = kept-mem p l (rw f at m) in (there (h .0), h .1))
+
+pub mem-kept : {A : Type 0} (p : A → Bool) {x : A} {l : List A} → Mem x l → T (p x) → Mem x (keep p l)
+unfolding keep
+mem-kept {A} p {x} (here {xs = l} e) h = rw (is-true (p _) (subst (λ (z : A). T (p z)) e h)) (here e)
+mem-kept p (there {x = y} {xs = l} m) h = by-test (p y) (λ t. rw t (there (mem-kept p m h))) (λ f. rw f (mem-kept p m h))

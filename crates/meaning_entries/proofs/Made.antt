@@ -1,0 +1,117 @@
+-- What a build that is not refused makes passes against its series (`build-passes`); so does what an extension makes of an index that passes against the part of the series that it has windows for (`extend-passes`). Each has at most as many rows and runs as windows. Assumes nothing.
+use mathlib.Core.Path.{_≡_, refl, sym, subst}
+use mathlib.Core.Bool.{Bool, true, not, _||_}
+use mathlib.Core.List.{List}
+use mathlib.Core.Option.{none}
+use Prim.Native.Nat.{ℕ, _+_, _-_, _≤_}
+use native.Mathlib.Omega.{arith}
+use lib.Dec.{T}
+use lib.IntN.{ℤ, pos, natAbs, _+ℤ_, _-ℤ_}
+use lib.ListN.{length, take}
+use lib.Signed.{_≤ℤ_, ltZ, ltZ-no}
+use Rattle.meaning_numbers.proofs.Rep.{zarith, z-add, z-sub}
+use Rattle.meaning_numbers.proofs.Tests.{is-true, not-not, neither}
+use Rattle.meaning_numbers.proofs.Between.{within-yes}
+use Rattle.meaning_curves.specs.Limits.{mostValues, lengthIn, windowIn, widthIn, firstOutside}
+use Rattle.meaning_curves.specs.Curve.{windowCount}
+use Rattle.meaning_rows.specs.Index.{Index}
+use Rattle.meaning_rows.specs.Build.{built}
+use Rattle.meaning_rows.specs.Extend.{extended}
+use Rattle.meaning_rows.proofs.Judge.{Between, between, WellFormed, well-formed}
+use Rattle.meaning_rows.proofs.BuiltPasses.{Buildable, built-well-formed, built-filed, built-most}
+use Rattle.meaning_rows.proofs.Extend.{Extendable, extended-well-formed, extended-filed, extended-most}
+use Rattle.meaning_entries.specs.Refusal.{if?, firstRefusal, lengthOutside, valueOutside, windowOutside, widthOutside, illFormed, windowsOf, moreWindows}
+use Rattle.meaning_entries.specs.Buffers.{IndexBuffers}
+use Rattle.meaning_entries.specs.Audit.{Passes}
+use Rattle.meaning_entries.specs.Build.{BuildCall, buildTable, buildRefusal, buildIndex, buildWindows}
+use Rattle.meaning_entries.specs.Extend.{ExtendCall, extendTable, extendRefusal, extendIndex, extendWindows}
+use Rattle.meaning_entries.proofs.Refusal.{Passed, is-passed, passed-at, not-if}
+use Rattle.meaning_entries.proofs.Passes.{passed, passes}
+
+-- a test that does not refuse where its failing would
+holds : (n : ℕ) (t : Bool) → if? n (not t) .place ≡ none → T t
+holds n t e = not-not t (not-if n (not t) e)
+
+-- ---- a build
+
+buildable : (c : BuildCall) (b : IndexBuffers) → buildRefusal c b ≡ none → Buildable (c .series) (natAbs (c .window)) (natAbs (c .width))
+unfolding buildTable lengthOutside valueOutside windowOutside widthOutside
+buildable c b e =
+    let t = is-passed (buildTable c b) e in
+    let s = c .series in
+    let w = neither (not (windowIn (c .window))) (ltZ (pos (length s)) (c .window)) (not-if 3 (not (windowIn (c .window)) || ltZ (pos (length s)) (c .window)) (passed-at t 2)) in
+    let i = is-true (windowIn (c .window)) (not-not (windowIn (c .window)) (w .0)) in
+    let j = is-true (widthIn (c .width)) (holds 4 (widthIn (c .width)) (passed-at t 3)) in
+    let p : c .window ≡ pos (natAbs (c .window)) = between 1 256 (c .window) i .is in
+    let q : c .width ≡ pos (natAbs (c .width)) = between 1 1000000 (c .width) j .is in
+    let n : c .window ≤ℤ pos (length s) = ltZ-no {a = pos (length s)} {b = c .window} (w .1) in
+    let l = within-yes (pos 1) (pos mostValues) (pos (length s)) (holds 1 (lengthIn mostValues (length s)) (passed-at t 0)) in
+    record {
+      window = subst (λ (z : ℤ). windowIn z ≡ true) p i;
+      width = subst (λ (z : ℤ). widthIn z ≡ true) q j;
+      long = omega zarith;
+      short = omega (zarith, l .high);
+      values = passed-at t 1;
+    }
+
+build-long : (c : BuildCall) (b : IndexBuffers) → buildRefusal c b ≡ none → T (lengthIn mostValues (length (c .series)))
+unfolding buildTable lengthOutside
+build-long c b e = holds 1 (lengthIn mostValues (length (c .series))) (passed-at (is-passed (buildTable c b) e) 0)
+
+pub build-passes : (c : BuildCall) (b : IndexBuffers) → buildRefusal c b ≡ none → Passes (buildIndex c) (c .series)
+unfolding buildIndex built
+build-passes c b e =
+    let s = c .series in
+    let w = natAbs (c .window) in
+    let k = buildable c b e in
+    passes (buildIndex c) s (build-long c b e) (k .values) (record {
+      formed = built-well-formed s w (natAbs (c .width)) (natAbs (c .merge)) k;
+      windows = omega (arith, k .long);
+      filed = built-filed s w (natAbs (c .width)) (natAbs (c .merge)) k;
+    })
+
+pub build-most : (c : BuildCall) (b : IndexBuffers) → buildRefusal c b ≡ none → (length (buildIndex c .rows) ≤ buildWindows c) × (length (buildIndex c .runs) ≤ buildWindows c)
+unfolding buildIndex
+build-most c b e = built-most (c .series) (natAbs (c .window)) (natAbs (c .width)) (natAbs (c .merge)) (buildable c b e)
+
+-- ---- an extension
+
+module _ (c : ExtendCall) (b : IndexBuffers) (e : extendRefusal c b ≡ none) where
+  extend-formed : WellFormed (c .index)
+  unfolding extendTable illFormed
+  extend-formed = well-formed (c .index) (passed-at (is-passed (extendTable c b) e) 2)
+
+  extend-long : T (lengthIn mostValues (length (c .series)))
+  unfolding extendTable lengthOutside
+  extend-long = holds 1 (lengthIn mostValues (length (c .series))) (passed-at (is-passed (extendTable c b) e) 0)
+
+  extendable : Extendable (c .index) (c .series)
+  unfolding extendTable valueOutside moreWindows
+  extendable =
+      let t = is-passed (extendTable c b) e in
+      let x = c .index in
+      let s = c .series in
+      let n : x .windows ≤ℤ windowsOf x s = ltZ-no {a = windowsOf x s} {b = x .windows} (not-if 22 (ltZ (windowsOf x s) (x .windows)) (passed-at t 3)) in
+      let p : x .window ≡ pos (natAbs (x .window)) = extend-formed .head .window .is in
+      let q : x .windows ≡ pos (natAbs (x .windows)) = extend-formed .head .windows .is in
+      let l = within-yes (pos 1) (pos mostValues) (pos (length s)) extend-long in
+      record {
+        longer = omega (zarith, z-add (pos (length s) -ℤ x .window) (pos 1), z-sub (pos (length s)) (x .window));
+        short = omega (zarith, l .high);
+        values = passed-at t 1;
+      }
+
+  pub extend-passes : Passes (c .index) (take (natAbs (c .index .windows) + natAbs (c .index .window) - 1) (c .series)) → Passes (extendIndex c) (c .series)
+  unfolding extendIndex extended
+  extend-passes p =
+      let x = c .index in
+      let s = c .series in
+      passes (extendIndex c) s extend-long (extendable .values) (record {
+        formed = extended-well-formed x s extend-formed extendable;
+        windows = omega (arith, extendable .longer, extend-formed .head .windows .least);
+        filed = extended-filed x s extend-formed extendable (passed x (take (natAbs (x .windows) + natAbs (x .window) - 1) s) p .filed);
+      })
+
+  pub extend-most : (length (extendIndex c .rows) ≤ extendWindows c) × (length (extendIndex c .runs) ≤ extendWindows c)
+  unfolding extendIndex
+  extend-most = extended-most (c .index) (c .series) extend-formed extendable

@@ -1,0 +1,29 @@
+-- The candidates are handed out as joined runs: ascending, not touching, below n - m + 1 (`runs-apart`); an offset stands in one of them exactly if it is a candidate (`runs-hold`); and their lengths add up to the number of candidates (`runs-count`). These are the laws of runs at the candidates. Assumes nothing.
+use mathlib.Core.Path.{_≡_, _∙_}
+use mathlib.Core.Bool.{Bool, _&&_}
+use mathlib.Core.List.{map}
+use Prim.Native.Nat.{ℕ}
+use borrow.Author.Tests.{lt-ltb}
+use lib.Dec.{ltb}
+use Rattle.meaning_numbers.specs.Sum.{count}
+use Rattle.meaning_numbers.proofs.Count.{count-cong}
+use Rattle.meaning_rows.specs.Index.{Index}
+use Rattle.meaning_rows.specs.Judge.{runLengths}
+use Rattle.meaning_rows.specs.Build.{entry}
+use Rattle.meaning_rows.proofs.Runs as Runs
+use Rattle.meaning_filter.specs.Matches.{Question, offsetCount, candidateAt, candidateRuns, candidateCount}
+
+module _ (x : Index) (z : Question) where
+  pub runs-apart : Runs.Apart (offsetCount z) 0 (candidateRuns x z)
+  unfolding candidateRuns
+  runs-apart = Runs.runs-apart (candidateAt x z) (offsetCount z)
+
+  pub runs-hold : (j : ℕ) → Runs.held (candidateRuns x z) j ≡ (ltb j (offsetCount z) && candidateAt x z j)
+  unfolding candidateRuns
+  runs-hold j = Runs.runs-hold (candidateAt x z) (offsetCount z) j
+
+  pub runs-count : runLengths (map entry (candidateRuns x z)) ≡ candidateCount x z
+  unfolding candidateCount
+  runs-count =
+      Runs.lengths-count (offsetCount z) 0 (candidateRuns x z) runs-apart
+      ∙ count-cong (Runs.held (candidateRuns x z)) (candidateAt x z) (offsetCount z) (λ j l. runs-hold j ∙ rw (lt-ltb j (offsetCount z) l))
