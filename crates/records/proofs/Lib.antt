@@ -1,0 +1,10 @@
+-- The kit for walks over lent records, generic (Walk, Elem, Lends, Again, LocalMut, Lent) and of `Row` (RowKit, Rows), and the laws of chunks.
+pub mod Walk
+pub mod Elem
+pub mod Again
+pub mod Lends
+pub mod LocalMut
+pub mod Lent
+pub mod RowKit
+pub mod Rows
+pub mod Chunk

@@ -1,0 +1,2 @@
+-- What is said of lent row records.
+pub mod Records

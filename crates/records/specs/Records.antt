@@ -1,0 +1,23 @@
+-- The record of zeros, and the records that a chunk holds. Assumes nothing.
+use mathlib.Core.List.{List, [], _∷_}
+use Prim.Native.Nat.{ℕ, zero, suc, _+_, _-_, min}
+use lib.IntN.{pos}
+use lib.ListN.{length, getD, set, replicate}
+use Rattle.meaning_rows.specs.declared.Row.{Row}
+
+-- what stands past the end of the lent records
+abbrev pub zeroRow : Row
+zeroRow = record { low = pos 0; up = pos 0; first = 0; runs = 0 }
+
+-- the first n entries of a list, exchanged for the n records that stand from a place on
+unfoldable pub copied : List Row → ℕ → ℕ → List Row → List Row
+copied rows from zero out = out
+copied rows from (suc n) out = set (copied rows from n out) n (getD rows (from + n) zeroRow)
+
+-- how many of `size` records stand from a place on, where there are `count`
+abbrev pub countFrom : ℕ → ℕ → ℕ → ℕ
+countFrom count from size = min (count - from) size
+
+-- the 64 records from a place on, past the end the record of zeros
+unfoldable pub chunkOf : List Row → ℕ → List Row
+chunkOf rows from = copied rows from 64 (replicate 64 zeroRow)
