@@ -2,10 +2,12 @@
 pub mod Rep
 pub mod Machine
 pub mod Sum
+pub mod Slide
 pub mod Cauchy
 pub mod Root
 pub mod Quotient
 pub mod Order
+pub mod Choice
 pub mod Tests
 pub mod Between
 pub mod Place
