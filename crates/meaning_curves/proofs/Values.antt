@@ -1,5 +1,7 @@
 -- A value in its limits, and every value of a list: by place, with a default that lies in the limits, so that no length is asked. What two such values are apart is at most 20,000, and its square at most 400,000,000. Assumes nothing.
-use mathlib.Core.Path.{_≡_}
+use mathlib.Core.Path.{_≡_, sym, subst}
+use mathlib.Core.Bool.{Bool, true, false, not}
+use mathlib.Core.Logic.{⊎-elim}
 use mathlib.Core.List.{List}
 use mathlib.Core.Option.{none}
 use Prim.Native.Nat.{ℕ, suc, _+_, _*_, _<_, _≤_}
@@ -13,6 +15,7 @@ use Rattle.meaning_numbers.proofs.Rep.{up, dn, zarith, z-sub}
 use Rattle.meaning_numbers.proofs.Machine.{z-abs}
 use Rattle.meaning_numbers.proofs.Sum.{Σℕ-le}
 use Rattle.meaning_numbers.proofs.Root.{sq-le}
+use Rattle.meaning_numbers.proofs.Tests.{is-true, is-false, decided}
 use Rattle.meaning_numbers.proofs.Between.{Between, within-yes, yes-within}
 use Rattle.meaning_curves.specs.Limits.{valueIn, firstOutside}
 use Rattle.meaning_curves.specs.Curve.{at, stretch}
@@ -33,6 +36,19 @@ all-in s h = record {
     | no f ↦ rw (List·getD-eq-default s (pos 0) {n = k} (omega arith)) (record { low = omega zarith; high = omega zarith })
   ];
 }
+
+-- the test, as code answers it
+pub value-yes : {x : ℤ} → InLimits x → valueIn x ≡ true
+value-yes h = is-true _ (yes-within h)
+
+pub value-no : (x : ℤ) → (InLimits x → ⊥) → valueIn x ≡ false
+value-no x f = ⊎-elim (λ t. absurd (f (within-yes (negsuc 9999) (pos 10000) x t))) (is-false _) (decided (valueIn x))
+
+pub yes-value : (x : ℤ) → valueIn x ≡ true → InLimits x
+yes-value x e = within-yes (negsuc 9999) (pos 10000) x (subst T (sym e) tt)
+
+pub no-value : (x : ℤ) → valueIn x ≡ false → T (not (valueIn x))
+no-value x e = subst (λ (t : Bool). T (not t)) (sym e) tt
 
 -- no value is outside exactly where all are in
 pub none-outside : (s : List ℤ) → firstOutside s ≡ none → AllIn s
