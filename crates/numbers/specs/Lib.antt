@@ -3,3 +3,4 @@ pub mod Row
 pub mod Raised
 pub mod Back
 pub mod Within
+pub mod Blocks
