@@ -107,7 +107,7 @@ pub fn least_of(q: &[i32], lo: usize, n: usize) -> i32
     while k < n {
         k += 1;
         let y = q[lo + k];
-        best = lower_of(best, y);
+        best = lesser_value(best, y);
     }
     best
 }
@@ -139,7 +139,7 @@ pub fn greatest_of(q: &[i32], lo: usize, n: usize) -> i32
     while k < n {
         k += 1;
         let y = q[lo + k];
-        best = higher_of(best, y);
+        best = greater_value(best, y);
     }
     best
 }

@@ -3,16 +3,18 @@ use mathlib.Core.Path.{_≡_, _∙_, ap}
 use Prim.Native.Nat.{ℕ, _+_, _*_, _-_, _≤_}
 use native.Mathlib.Omega.{arith}
 use Rattle.meaning_filter.proofs.Apart.{excess-sq-le}
+use Rattle.meaning_curves.specs.Curve.{at, stretch}
 use Rattle.meaning_filter.proofs.Bound.{apart}
 use Rattle.meaning_numbers.proofs.Sum.{Σℕ-none, Σℕ-more}
 use Rattle.meaning_numbers.specs.Sum.{square, Σℕ}
 use Rattle.numbers.specs.Back.{in-arg}
+use Rattle.distance_envelope.specs.Envelope.{excess-back}
 use Rattle.distance_envelope.proofs.envelope_part.Statement.{statement}
 use Rattle.distance_envelope.proofs.envelope_part.Tie as tie
 
 abbrev Inv-loop : tie.InvT-loop
 Inv-loop s from low high p n sum₀ k₀ sum k =
-    (k ≤ n) × (sum ≤ 400000000 * k) × (sum ≡ Σℕ k (λ k. apart s from low high (p + k)))
+    (k ≤ n) × (sum ≤ 400000000 * k) × (sum ≡ Σℕ k (λ k. apart (stretch s from) (at low) (at high) (p + k)))
 
 abbrev μ-loop : tie.MeasureT-loop
 μ-loop s from low high p n sum₀ k₀ sum k = n - k
@@ -25,7 +27,7 @@ module _ (c : tie.After-outside-squared Inv-loop μ-loop) where
   abbrev p : ℕ
   p = start .args .p + c .before .before .before .before .before .loop .k
 
-  told : c .outside-squared .result ≡ apart (start .args .s .now) (start .args .from) (start .args .low .now) (start .args .high .now) p
+  told : c .outside-squared .result ≡ apart (stretch (start .args .s .now) (start .args .from)) (at (start .args .low .now)) (at (start .args .high .now)) p
   told = let p = start .pre .1 .1 .1 .1 in c .outside-squared .ensures ∙ ap square (excess-back (p .1 .at _) (p .2 .at _) (p .0 .at _))
 
   small : c .outside-squared .result ≤ 400000000

@@ -11,6 +11,7 @@ use Rattle.meaning_curves.specs.Curve.{at}
 use Rattle.meaning_filter.specs.Envelope.{greatestOf}
 use Rattle.meaning_numbers.specs.Order.{maxℤ}
 use Rattle.numbers.specs.Back.{in-back, in-arg}
+use Rattle.distance_envelope.specs.Envelope.{greatest-none, greatest-more}
 use Rattle.distance_envelope.proofs.greatest_of.Statement.{statement}
 use Rattle.distance_envelope.proofs.greatest_of.Tie as tie
 
@@ -23,15 +24,15 @@ abbrev μ-loop : tie.MeasureT-loop
 loop-holds : tie.Need-loop-holds Inv-loop μ-loop
 loop-holds c = (omega arith, in-back (c .before .pre .1 .at _) ∙ sym (greatest-none (at (c .before .args .q .now)) (c .before .args .lo)))
 
-higher-of-requires : tie.Need-higher-of-requires Inv-loop μ-loop
-higher-of-requires c κs = search needs
+greater-value-requires : tie.Need-greater-value-requires Inv-loop μ-loop
+greater-value-requires c κs = search needs
 
 loop-again : tie.Need-loop-again Inv-loop μ-loop
 loop-again c =
     let o = c .before .before .before .before .before in
     let l = c .before .before .before .loop in
     let y = in-back (o .pre .1 .at (o .args .lo + (l .k + 1))) in
-    (omega arith, toZ-ofZ w32 (c .higher-of .result) (record { sfits = c .higher-of .ok }) ∙ rw (l .inv .1, y) at (c .higher-of .ensures) ∙ sym (greatest-more (at (o .args .q .now)) (o .args .lo) (l .k)))
+    (omega arith, toZ-ofZ w32 (c .greater-value .result) (record { sfits = c .greater-value .ok }) ∙ rw (l .inv .1, y) at (c .greater-value .ensures) ∙ sym (greatest-more (at (o .args .q .now)) (o .args .lo) (l .k)))
 
 returns : tie.Need-returns Inv-loop μ-loop
 returns c =
@@ -51,7 +52,7 @@ greatest-of-spec =
     (λ c. omega arith)
     (λ c. omega arith)
     (λ c. omega arith)
-    higher-of-requires
+    greater-value-requires
     (λ c. omega arith)
     loop-again
     returns)

@@ -11,6 +11,7 @@ use Rattle.meaning_curves.specs.Curve.{at}
 use Rattle.meaning_filter.specs.Envelope.{leastOf}
 use Rattle.meaning_numbers.specs.Order.{minℤ}
 use Rattle.numbers.specs.Back.{in-back, in-arg}
+use Rattle.distance_envelope.specs.Envelope.{least-none, least-more}
 use Rattle.distance_envelope.proofs.least_of.Statement.{statement}
 use Rattle.distance_envelope.proofs.least_of.Tie as tie
 
@@ -23,15 +24,15 @@ abbrev μ-loop : tie.MeasureT-loop
 loop-holds : tie.Need-loop-holds Inv-loop μ-loop
 loop-holds c = (omega arith, in-back (c .before .pre .1 .at _) ∙ sym (least-none (at (c .before .args .q .now)) (c .before .args .lo)))
 
-lower-of-requires : tie.Need-lower-of-requires Inv-loop μ-loop
-lower-of-requires c κs = search needs
+lesser-value-requires : tie.Need-lesser-value-requires Inv-loop μ-loop
+lesser-value-requires c κs = search needs
 
 loop-again : tie.Need-loop-again Inv-loop μ-loop
 loop-again c =
     let o = c .before .before .before .before .before in
     let l = c .before .before .before .loop in
     let y = in-back (o .pre .1 .at (o .args .lo + (l .k + 1))) in
-    (omega arith, toZ-ofZ w32 (c .lower-of .result) (record { sfits = c .lower-of .ok }) ∙ rw (l .inv .1, y) at (c .lower-of .ensures) ∙ sym (least-more (at (o .args .q .now)) (o .args .lo) (l .k)))
+    (omega arith, toZ-ofZ w32 (c .lesser-value .result) (record { sfits = c .lesser-value .ok }) ∙ rw (l .inv .1, y) at (c .lesser-value .ensures) ∙ sym (least-more (at (o .args .q .now)) (o .args .lo) (l .k)))
 
 returns : tie.Need-returns Inv-loop μ-loop
 returns c =
@@ -51,7 +52,7 @@ least-of-spec =
     (λ c. omega arith)
     (λ c. omega arith)
     (λ c. omega arith)
-    lower-of-requires
+    lesser-value-requires
     (λ c. omega arith)
     loop-again
     returns)

@@ -11,6 +11,7 @@ use mir.Syntax.{w32}
 use mir.ValLaws.{toZ-ofZ}
 use Rattle.meaning_curves.specs.Curve.{at}
 use Rattle.meaning_filter.specs.Envelope.{lower}
+use Rattle.distance_envelope.specs.Envelope.{lower-at}
 use Rattle.distance_envelope.proofs.lower_envelope.Statement.{statement}
 use Rattle.distance_envelope.proofs.lower_envelope.Tie as tie
 

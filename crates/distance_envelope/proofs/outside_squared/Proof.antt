@@ -6,6 +6,7 @@ use native.Mathlib.Omega.{arith}
 use Rattle.meaning_filter.proofs.Apart.{excess-sq-le}
 use Rattle.meaning_filter.proofs.Bound.{excess}
 use Rattle.numbers.specs.Back.{in-arg}
+use Rattle.distance_envelope.specs.Envelope.{excess-back}
 use Rattle.distance_envelope.proofs.outside_squared.Statement.{statement}
 use Rattle.distance_envelope.proofs.outside_squared.Tie as tie
 
