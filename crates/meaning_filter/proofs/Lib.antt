@@ -1,6 +1,7 @@
 -- What the definitions imply, by subject.
 pub mod Envelope
 pub mod Bound
+pub mod Apart
 pub mod Range
 pub mod Cut
 pub mod Scale

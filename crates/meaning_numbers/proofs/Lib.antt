@@ -4,10 +4,12 @@ pub mod Machine
 pub mod Tests
 pub mod Between
 pub mod Sum
+pub mod Slide
 pub mod Cauchy
 pub mod Root
 pub mod Quotient
 pub mod Order
+pub mod Choice
 pub mod Count
 pub mod Place
 pub mod Member

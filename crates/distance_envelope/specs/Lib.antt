@@ -1,0 +1,2 @@
+-- An envelope as it stands in a list.
+pub mod Envelope

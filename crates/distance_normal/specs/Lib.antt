@@ -1,0 +1,2 @@
+-- A normalised value by one multiplication and one test.
+pub mod Normal

@@ -1,0 +1,41 @@
+-- `distance_warped::clear_row` meets its contract. Assumes nothing.
+use borrow.Author.Count.{below-more}
+use mathlib.Core.Path.{_≡_, refl, _∙_}
+use Prim.Native.Nat.{ℕ, _+_, _-_, _≤_, _<_}
+use native.Mathlib.Omega.{arith}
+use lib.ListN.{length, getD, length-set}
+use lib.Seq.{getD-set-same, getD-set-other}
+use Rattle.distance_warped.specs.Rows.{big}
+use Rattle.distance_warped.proofs.clear_row.Statement.{statement}
+use Rattle.distance_warped.proofs.clear_row.Tie as tie
+
+abbrev Inv-loop : tie.InvT-loop
+Inv-loop row₀ m k₀ row k = (k ≤ m + 1) × (length row ≡ length row₀) × ((n : ℕ) → n < k → getD row n 0 ≡ big)
+
+abbrev μ-loop : tie.MeasureT-loop
+μ-loop row₀ m k₀ row k = m + 1 - k
+
+loop-again : tie.Need-loop-again Inv-loop μ-loop
+loop-again c =
+    let row = c .before .loop .row in
+    let k = c .before .loop .k in
+    let here : k < length row = omega arith in (
+      omega arith,
+      simp length-set (omega arith),
+      below-more _ k (λ n l. getD-set-other row k n big 0 (λ e. omega arith) ∙ c .before .loop .inv .2 n l) (getD-set-same row k big 0 here),
+    )
+
+pub clear-row-spec : {M : Type 1} → statement M
+clear-row-spec =
+    tie.close
+    (tie.spec
+    Inv-loop
+    μ-loop
+    (λ c. (omega arith, refl, λ n l. absurd (omega arith)))
+    (λ c. omega arith)
+    (λ c. omega arith)
+    (λ c. omega arith)
+    (λ c. omega arith)
+    loop-again
+    (λ c. omega arith)
+    (λ c k l. c .before .loop .inv .2 k (omega arith)))

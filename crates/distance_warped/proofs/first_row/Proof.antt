@@ -1,0 +1,102 @@
+-- `distance_warped::first_row` meets its contract. The invariant: the row is made as far as cell j (`Halfway`). Assumes nothing.
+use borrow.Author.Needs.{needs}
+use mathlib.Core.Path.{_≡_, refl, _∙_, sym}
+use Prim.Native.Nat.{ℕ, _+_, _*_, _-_, _≤_, _<_}
+use native.Mathlib.Omega.{arith}
+use lib.ListN.{length, getD, set, length-set}
+use lib.IntN.{ℤ, pos}
+use Rattle.distance_warped.specs.Rows.{big, before, before-none, before-more, cells, Halfway, halfway-more, first-start, first-end, first-cell}
+use Rattle.meaning_curves.proofs.Values.{cost-le}
+use Rattle.meaning_curves.specs.Curve.{at, stretch}
+use Rattle.meaning_curves.specs.Straight.{cost}
+use Rattle.numbers.specs.Back.{cost-back, in-arg}
+use Rattle.distance_warped.proofs.first_row.Statement.{statement}
+use Rattle.distance_warped.proofs.first_row.Tie as tie
+
+abbrev Inv-loop : tie.InvT-loop
+Inv-loop s from q b row₀ m x hi left₀ j₀ row left j =
+    let f : ℕ → ℕ = cells (stretch s from) (at q) b 0 in
+    (j ≤ hi) × (length row ≡ length row₀) × (m < length row) × Halfway (λ _. big) f j m row × (left ≡ before 0 f j) × (left ≤ 400000000 * j)
+
+abbrev μ-loop : tie.MeasureT-loop
+μ-loop s from q b row₀ m x hi left₀ j₀ row left j = hi - j
+
+loop-holds : tie.Need-loop-holds Inv-loop μ-loop
+loop-holds c =
+    let o = c .before .before .before .before .before .before .before in
+    let S = stretch (o .args .s .now) (o .args .from) in
+    let Q = at (o .args .q .now) in
+    let r = c .before .before .before .before .clear-row in
+    (omega arith, refl, omega (arith, r .kept .0), first-start S Q (o .args .b) _ _ (r .ensures), sym (before-none 0 (cells S Q (o .args .b) 0)), omega arith)
+
+-- a turn
+module _ (l : tie.At-loop Inv-loop μ-loop) where
+  abbrev o : tie.Start Inv-loop μ-loop
+  o = l .before .before .before .before .before .before .before .before
+
+  abbrev S : ℕ → ℤ
+  S = stretch (o .args .s .now) (o .args .from)
+
+  abbrev Q : ℕ → ℤ
+  Q = at (o .args .q .now)
+
+  small : (x y : ℕ) → cost (S x) (Q y) ≤ 400000000
+  small x y = cost-le (o .pre .1 .1 .0 .at _) (o .pre .1 .1 .1 .at _)
+
+told : (c : tie.After-squared Inv-loop μ-loop) → let l = c .before .before .before in c .squared .result ≡ cost (S l 0) (Q l (l .loop .j))
+told c =
+    let l = c .before .before .before in
+    let e : o l .args .from + 0 ≡ o l .args .from = omega arith in
+    rw e (c .squared .ensures ∙ cost-back (o l .pre .1 .1 .0 .at _) (o l .pre .1 .1 .1 .at _))
+
+squared-requires : tie.Need-squared-requires Inv-loop μ-loop
+squared-requires c κs = let p = o (c .before .before) .pre .1 .1 in (in-arg (p .0 .at _), in-arg (p .1 .at _))
+
+add-left : tie.Need-add-left Inv-loop μ-loop
+add-left c = let l = c .before .before .before in omega (arith, told c, small l 0 (l .loop .j))
+
+loop-again : tie.Need-loop-again Inv-loop μ-loop
+loop-again c =
+    let l = c .before .before .before in
+    let f = cells (S l) (Q l) (o l .args .b) 0 in
+    let j = l .loop .j in
+    let v = l .loop .inv in
+    let new : l .loop .left + c .squared .result ≡ f j = omega (arith, told c, v .4, first-cell (S l) (Q l) (o l .args .b) (small l) j (record { first = omega arith; second = omega arith })) in (
+      omega arith,
+      length-set (l .loop .row) (j + 1) _ ∙ v .1,
+      simp length-set (v .2),
+      halfway-more _ (v .3) (omega arith) new,
+      new ∙ sym (before-more 0 f j),
+      omega (arith, told c, small l 0 j),
+    )
+
+same-length : tie.Need-same-length Inv-loop μ-loop
+same-length c = c .before .loop .inv .1 ∙ c .before .before .before .before .before .before .clear-row .kept .0
+
+returns : tie.Need-returns Inv-loop μ-loop
+returns c =
+    let l = c .before in
+    first-end (S l) (Q l) (o l .args .b) (l .loop .j) _ _ (omega arith) (l .loop .inv .3)
+
+pub first-row-spec : {M : Type 1} → statement M
+first-row-spec =
+    tie.close
+    (tie.spec
+    Inv-loop
+    μ-loop
+    (λ c κs. omega arith)
+    (λ c. omega arith)
+    (λ c. omega arith)
+    (λ c κs. omega arith)
+    loop-holds
+    (λ c. omega arith)
+    (λ c. omega arith)
+    squared-requires
+    add-left
+    (λ c. omega arith)
+    (λ c. omega arith)
+    (λ c. omega arith)
+    (λ c. omega arith)
+    loop-again
+    same-length
+    returns)

@@ -1,0 +1,133 @@
+-- `distance_warped::next_row` meets its contract. The invariant: the row is made as far as cell j (`Halfway`), with the two numbers before it and the least number so far. Assumes nothing.
+use borrow.Author.Needs.{needs}
+use mathlib.Core.Path.{_≡_, refl, _∙_, sym}
+use mathlib.Core.List.{List}
+use Prim.Native.Nat.{ℕ, _+_, _*_, _-_, _≤_, _<_}
+use native.Mathlib.Omega.{arith}
+use lib.ListN.{length, getD, set, length-set}
+use lib.IntN.{ℤ, pos}
+use Rattle.distance_warped.specs.Rows.{big, before, before-more, cells, RowIs, Halfway, halfway-more, row-start, row-end, before-le, next-cell, least-more, low-new}
+use Rattle.meaning_curves.proofs.Values.{cost-le}
+use Rattle.meaning_curves.specs.Curve.{at, stretch}
+use Rattle.meaning_curves.specs.Straight.{cost}
+use Rattle.numbers.specs.Back.{cost-back, in-arg}
+use Rattle.distance_warped.proofs.next_row.Statement.{statement}
+use Rattle.distance_warped.proofs.next_row.Tie as tie
+
+abbrev Inv-loop : tie.InvT-loop
+Inv-loop s from q b i row₀ m k x lo hi corner₀ left₀ least₀ j₀ row corner left least j =
+    let f : ℕ → ℕ → ℕ = cells (stretch s from) (at q) b in
+    (lo ≤ j) × (j ≤ hi) × (length row ≡ length row₀) × (m < length row) × Halfway (f i) (f (i + 1)) j m row × (corner ≡ before big (f i) j) × (left ≡ before big (f (i + 1)) j)
+    × ((n : ℕ) → lo ≤ n → n < j → least ≤ f (i + 1) n)
+
+abbrev μ-loop : tie.MeasureT-loop
+μ-loop s from q b i row₀ m k x lo hi corner₀ left₀ least₀ j₀ row corner left least j = hi - j
+
+loop-holds : tie.Need-loop-holds Inv-loop μ-loop
+loop-holds c =
+    let o = c .before .before .before .before .before in
+    let S = stretch (o .args .s .now) (o .args .from) in
+    let Q = at (o .args .q .now) in
+    let i = o .args .i in
+    let b = o .args .b in
+    let e : c .before .before .band-low .result ≡ i + 1 - b = omega arith in
+    let r = o .pre .1 .1 .1 in
+    (omega arith, omega arith, refl, simp length-set (omega arith), rw e (row-start S Q b i _ _ (omega arith) (omega arith) r), r .at _ (omega arith), rw e (sym (low-new S Q b i (i + 1 - b) (omega arith))), λ n l u. absurd (omega arith))
+
+-- a turn
+module _ (l : tie.At-loop Inv-loop μ-loop) where
+  abbrev o : tie.Start Inv-loop μ-loop
+  o = l .before .before .before .before .before .before
+
+  abbrev S : ℕ → ℤ
+  S = stretch (o .args .s .now) (o .args .from)
+
+  abbrev Q : ℕ → ℤ
+  Q = at (o .args .q .now)
+
+  small : (x y : ℕ) → cost (S x) (Q y) ≤ 400000000
+  small x y = cost-le (o .pre .1 .1 .0 .0 .at _) (o .pre .1 .1 .0 .1 .at _)
+
+told : (c : tie.After-cell Inv-loop μ-loop) → let l = c .before .before .before .before in
+    c .cell .result ≡ cells (S l) (Q l) (o l .args .b) (o l .args .i + 1) (l .loop .j)
+told c =
+    let l = c .before .before .before .before in
+    let f = cells (S l) (Q l) (o l .args .b) in
+    let i = o l .args .i in
+    let j = l .loop .j in
+    let v = l .loop .inv in
+    omega (
+      arith,
+      c .cell .ensures,
+      cost-back (o l .pre .1 .1 .0 .0 .at (o l .args .from + (i + 1))) (o l .pre .1 .1 .0 .1 .at j),
+      next-cell (S l) (Q l) (o l .args .b) (small l) i j (omega arith) (record { first = omega arith; second = omega arith }),
+      v .4 .rest (j + 1) (omega arith) (omega arith) ∙ before-more big (f i) j,
+      v .5,
+      v .6,
+    )
+
+cell-requires : tie.Need-cell-requires Inv-loop μ-loop
+cell-requires c κs =
+    let l = c .before .before .before in
+    let p = o l .pre .1 .1 .0 in
+    (omega (arith, l .loop .inv .6, before-le (S l) (Q l) (o l .args .b) (small l) (o l .args .i + 1) (l .loop .j) (omega arith)), (in-arg (p .0 .at _), in-arg (p .1 .at _)))
+
+loop-again : tie.Need-loop-again Inv-loop μ-loop
+loop-again c =
+    let l = c .before .before .before .before .before in
+    let f = cells (S l) (Q l) (o l .args .b) in
+    let i = o l .args .i in
+    let j = l .loop .j in
+    let v = l .loop .inv in
+    let here : j + 1 < length (l .loop .row) = omega arith in
+    let new = told (c .before) in (
+      omega arith,
+      omega arith,
+      length-set (l .loop .row) (j + 1) (c .before .cell .result) ∙ v .2,
+      simp length-set (v .3),
+      halfway-more _ (v .4) here new,
+      v .4 .rest (j + 1) (omega arith) (omega arith),
+      new ∙ sym (before-more big (f (i + 1)) j),
+      rw (c .lesser .ensures) (least-more (S l) (Q l) (o l .args .b) (small l) (i + 1) _ j _ _ new (v .7)),
+    )
+
+returns : tie.Need-returns Inv-loop μ-loop
+returns c =
+    let l = c .before in
+    let v = l .loop .inv in
+    let e : l .loop .j ≡ l .before .before .band-high .result = omega arith in (
+      row-end (S l) (Q l) (o l .args .b) (o l .args .i) (l .loop .j) _ _ (omega arith) (v .4),
+      record { at = λ j u n. v .7 j (omega (arith, n .first)) (omega (arith, n .second)) },
+    )
+
+pub next-row-spec : {M : Type 1} → statement M
+next-row-spec =
+    tie.close
+    (tie.spec
+    Inv-loop
+    μ-loop
+    (λ c. omega arith)
+    (λ c. omega arith)
+    (λ c. omega arith)
+    (λ c. omega arith)
+    (λ c κs. search needs)
+    (λ c κs. omega arith)
+    (λ c. omega arith)
+    (λ c. omega arith)
+    (λ c. omega arith)
+    (λ c. omega arith)
+    loop-holds
+    (λ c. omega arith)
+    (λ c. omega arith)
+    (λ c. omega arith)
+    (λ c. omega arith)
+    (λ c. omega arith)
+    cell-requires
+    (λ c κs. search needs)
+    (λ c. omega arith)
+    (λ c. omega arith)
+    (λ c. omega arith)
+    (λ c. omega arith)
+    loop-again
+    (λ c. c .before .loop .inv .2 ∙ simp length-set)
+    returns)

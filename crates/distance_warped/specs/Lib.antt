@@ -1,0 +1,2 @@
+-- The row of the table that code keeps.
+pub mod Rows

@@ -1,0 +1,73 @@
+-- A value in its limits, and every value of a list: by place, with a default that lies in the limits, so that no length is asked. What two such values are apart is at most 20,000, and its square at most 400,000,000. Assumes nothing.
+use mathlib.Core.Path.{_≡_, sym, subst}
+use mathlib.Core.Bool.{Bool, true, false, not}
+use mathlib.Core.Logic.{⊎-elim}
+use mathlib.Core.List.{List}
+use mathlib.Core.Option.{none}
+use Prim.Native.Nat.{ℕ, suc, _+_, _*_, _<_, _≤_}
+use native.Mathlib.Decide.{decLe}
+use native.Mathlib.Omega.{arith}
+use lib.Dec.{T}
+use lib.ListN.{length, List·getD-eq-default}
+use lib.IntN.{ℤ, pos, negsuc, _-ℤ_, natAbs}
+use Rattle.meaning_numbers.specs.Sum.{Σℕ}
+use Rattle.meaning_numbers.proofs.Rep.{up, dn, zarith, z-sub}
+use Rattle.meaning_numbers.proofs.Machine.{z-abs}
+use Rattle.meaning_numbers.proofs.Sum.{Σℕ-le}
+use Rattle.meaning_numbers.proofs.Root.{sq-le}
+use Rattle.meaning_numbers.proofs.Tests.{is-true, is-false, decided}
+use Rattle.meaning_numbers.proofs.Between.{Between, within-yes, yes-within}
+use Rattle.meaning_curves.specs.Limits.{valueIn, firstOutside}
+use Rattle.meaning_curves.specs.Curve.{at, stretch}
+use Rattle.meaning_curves.specs.Straight.{cost}
+use Rattle.meaning_curves.proofs.Limits.{values-in, in-values}
+
+abbrev pub InLimits : ℤ → Type 0
+InLimits x = Between (negsuc 9999) x (pos 10000)
+
+pub record AllIn (s : List ℤ) : Type 0 where
+  pub at : (k : ℕ) → InLimits (at s k)
+
+-- past the end of a list stands the default, which is in the limits
+pub all-in : (s : List ℤ) → ((k : ℕ) → k < length s → InLimits (at s k)) → AllIn s
+all-in s h = record {
+  at = λ k. elim (decLe (suc k) (length s)) [
+    | yes l ↦ h k l
+    | no f ↦ rw (List·getD-eq-default s (pos 0) {n = k} (omega arith)) (record { low = omega zarith; high = omega zarith })
+  ];
+}
+
+-- the test, as code answers it
+pub value-yes : {x : ℤ} → InLimits x → valueIn x ≡ true
+value-yes h = is-true _ (yes-within h)
+
+pub value-no : (x : ℤ) → (InLimits x → ⊥) → valueIn x ≡ false
+value-no x f = ⊎-elim (λ t. absurd (f (within-yes (negsuc 9999) (pos 10000) x t))) (is-false _) (decided (valueIn x))
+
+pub yes-value : (x : ℤ) → valueIn x ≡ true → InLimits x
+yes-value x e = within-yes (negsuc 9999) (pos 10000) x (subst T (sym e) tt)
+
+pub no-value : (x : ℤ) → valueIn x ≡ false → T (not (valueIn x))
+no-value x e = subst (λ (t : Bool). T (not t)) (sym e) tt
+
+-- no value is outside exactly where all are in
+pub none-outside : (s : List ℤ) → firstOutside s ≡ none → AllIn s
+none-outside s e = record { at = λ k. within-yes (negsuc 9999) (pos 10000) (at s k) (values-in s e k) }
+
+pub outside-none : {s : List ℤ} → AllIn s → firstOutside s ≡ none
+outside-none {s} h = in-values s (λ j l. yes-within (h .at j))
+
+-- ---- sizes
+
+pub size-le : {x : ℤ} → InLimits x → natAbs x ≤ 10000
+size-le {x} h = omega (zarith, z-abs x, h .low, h .high)
+
+pub gap-le : {x y : ℤ} → InLimits x → InLimits y → natAbs (x -ℤ y) ≤ 20000
+gap-le {x} {y} h k = omega (zarith, z-sub x y, z-abs (x -ℤ y), h .low, h .high, k .low, k .high)
+
+pub cost-le : {x y : ℤ} → InLimits x → InLimits y → cost x y ≤ 400000000
+cost-le h k = omega (arith, sq-le (gap-le h k))
+
+-- n squared differences from place p on
+pub costs-le : {s q : List ℤ} → AllIn s → AllIn q → (from p n : ℕ) → Σℕ n (λ k. cost (stretch s from (p + k)) (at q (p + k))) ≤ 400000000 * n
+costs-le {s} {q} h i from p n = Σℕ-le n 400000000 (λ k. cost (stretch s from (p + k)) (at q (p + k))) (λ k l. cost-le (h .at (from + (p + k))) (i .at (p + k)))

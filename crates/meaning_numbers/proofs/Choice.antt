@@ -1,0 +1,22 @@
+-- Which of two whole numbers is the lesser and which the greater, told by the flag of the test x < y, as code that branches on it has it. Assumes nothing.
+use mathlib.Core.Path.{_≡_}
+use mathlib.Core.Bool.{Bool, true, false}
+use lib.IntN.{ℤ}
+use lib.Signed.{ltZ}
+use Rattle.meaning_numbers.specs.Order.{minℤ, maxℤ}
+
+pub min-yes : (x y : ℤ) → ltZ x y ≡ true → minℤ x y ≡ x
+unfolding minℤ
+min-yes x y e = rw e
+
+pub min-no : (x y : ℤ) → ltZ x y ≡ false → minℤ x y ≡ y
+unfolding minℤ
+min-no x y e = rw e
+
+pub max-yes : (x y : ℤ) → ltZ x y ≡ true → maxℤ x y ≡ y
+unfolding maxℤ
+max-yes x y e = rw e
+
+pub max-no : (x y : ℤ) → ltZ x y ≡ false → maxℤ x y ≡ x
+unfolding maxℤ
+max-no x y e = rw e

@@ -1,0 +1,13 @@
+-- `numbers::quotient` meets its contract. Assumes nothing.
+use borrow.Author.Needs.{needs}
+use mathlib.Core.Path.{_≡_, sym}
+use native.Mathlib.Nat.{div-zero}
+use native.Mathlib.Omega.{arith}
+use Rattle.numbers.proofs.quotient.Statement.{statement}
+use Rattle.numbers.proofs.quotient.Tie as tie
+
+returns : tie.Need-returns
+returns c = let e : c .before .args .d ≡ 0 = omega arith in rw e (sym (div-zero (c .before .args .n)))
+
+pub quotient-spec : {M : Type 1} → statement M
+quotient-spec = tie.close (tie.spec returns (λ c. search needs) (λ c. search needs))

@@ -1,0 +1,23 @@
+-- `numbers::raise` meets its contract. Assumes nothing.
+use lib.IntN.{ℤ, pos, _+ℤ_}
+use mir.Syntax.{w32}
+use mir.Val.{toZ, ofZ}
+use Rattle.meaning_numbers.proofs.Machine.{z-abs, zmach32}
+use Rattle.meaning_numbers.proofs.Rep.{z-add}
+use Rattle.numbers.proofs.raise.Statement.{statement}
+use Rattle.numbers.proofs.raise.Tie as tie
+
+abbrev x : tie.Start → ℤ
+x c = toZ w32 (ofZ w32 (c .args .x))
+
+add-result : tie.Need-add-result
+add-result c = omega (zmach32, z-add (x c) (pos 10000))
+
+cast-result : tie.Need-cast-result
+cast-result c = let f = add-result c in omega (zmach32, z-add (x c) (pos 10000), z-abs (toZ w32 (ofZ w32 (x c +ℤ pos 10000))))
+
+returns : tie.Need-returns
+returns c = let f = add-result c in omega (zmach32, z-add (x c) (pos 10000), z-abs (toZ w32 (ofZ w32 (x c +ℤ pos 10000))))
+
+pub raise-spec : {M : Type 1} → statement M
+raise-spec = tie.close (tie.spec add-result cast-result returns)

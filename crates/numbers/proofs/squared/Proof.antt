@@ -1,0 +1,26 @@
+-- `numbers::squared` meets its contract. Assumes nothing.
+use borrow.Author.Needs.{needs}
+use mathlib.Core.Path.{_≡_, refl, _∙_}
+use Prim.Native.Nat.{_*_, _≤_}
+use lib.IntN.{_-ℤ_, natAbs}
+use native.Mathlib.Omega.{arith}
+use Rattle.meaning_curves.proofs.Values.{cost-le}
+use Rattle.numbers.specs.Back.{in-back, in-arg}
+use Rattle.numbers.proofs.squared.Statement.{statement}
+use Rattle.numbers.proofs.squared.Tie as tie
+
+-- the difference as the meaning has it
+told : (c : tie.After-gap) → c .gap .result ≡ natAbs (c .before .args .x -ℤ c .before .args .y)
+told c = c .gap .ensures ∙ rw (in-back (c .before .pre .0), in-back (c .before .pre .1)) refl
+
+small : (c : tie.After-gap) → c .gap .result * c .gap .result ≤ 400000000
+small c = rw (told c) (cost-le (c .before .pre .0) (c .before .pre .1))
+
+pub squared-spec : {M : Type 1} → statement M
+squared-spec =
+    tie.close
+    (tie.spec
+    (λ c κs. (in-arg (c .pre .0), in-arg (c .pre .1)))
+    (λ c. search needs)
+    (λ c. omega (arith, small c))
+    (λ c. rw (told c) refl))

@@ -1,0 +1,132 @@
+// Leaf arithmetic: whole roots, row numbers, and the few functions that own signed numbers.
+ghost use mathlib.Core.Path.{_≡_};
+ghost use Prim.Native.Nat.{ℕ, _+_, _*_, _/_, _<_, _≤_, min, max};
+ghost use lib.IntN.{ℤ, pos, _-ℤ_, natAbs};
+ghost use Rattle.meaning_numbers.specs.Root.{root};
+ghost use Rattle.meaning_numbers.specs.Order.{minℤ, maxℤ};
+ghost use Rattle.meaning_curves.specs.Limits.{valueIn};
+ghost use Rattle.meaning_curves.specs.Straight.{cost};
+ghost use Rattle.meaning_curves.proofs.Values.{InLimits};
+ghost use Rattle.meaning_rows.specs.Range.{rowNumber};
+ghost use Rattle.numbers.specs.Raised.{raised};
+
+// The whole square root: it lies from `r` to below `r + width`, and each turn halves the width.
+pub fn root(y: u64) -> u64
+    ensures { λ r. ⌜ r ≡ root y ⌝ }
+{
+    let mut r: u64 = 0;
+    let mut width: u64 = 4294967296;
+    while 1 < width {
+        let half = width / 2;
+        let t = r + half;
+        if t * t <= y {
+            r = t;
+        }
+        width = width - half;
+    }
+    r
+}
+
+// The quotient, rounded down; 0 by 0.
+pub fn quotient(n: u32, d: u32) -> u32
+    ensures { λ r. ⌜ r ≡ n / d ⌝ }
+{
+    if d == 0 {
+        return 0;
+    }
+    n / d
+}
+
+// The number of the row that holds a sum, for negative sums too; for rows of width 0, which nothing asks for, 0 or -1.
+pub fn row_number(sum: i32, width: u32) -> i32
+    ensures { λ r. ⌜ r ≡ rowNumber width sum ⌝ }
+{
+    if sum < 0 {
+        let n = (-1 - sum) as u32;
+        let k = quotient(n, width) as i32;
+        return -1 - k;
+    }
+    let n = sum as u32;
+    quotient(n, width) as i32
+}
+
+// Whether a value is in its limits.
+pub fn in_limits(x: i32) -> bool
+    ensures { λ r. ⌜ r ≡ valueIn x ⌝ }
+{
+    if x < -10000 {
+        return false;
+    }
+    if 10000 < x {
+        return false;
+    }
+    true
+}
+
+// A value raised by 10,000.
+pub fn raise(x: i32) -> u64
+    requires { ⌜ InLimits x ⌝ }
+    ensures { λ r. ⌜ r ≡ raised x ⌝ }
+{
+    (x + 10000) as u64
+}
+
+// A sum lowered by a bias.
+pub fn lower(n: u64, k: u64) -> i32
+    requires { ⌜ n ≤ 1000000000 ⌝ }
+    requires { ⌜ k ≤ 1000000000 ⌝ }
+    ensures { λ r. ⌜ r ≡ pos n -ℤ pos k ⌝ }
+{
+    n as i32 - k as i32
+}
+
+// The size of the difference of two values.
+pub fn gap(x: i32, y: i32) -> u32
+    requires { ⌜ InLimits x ⌝ }
+    requires { ⌜ InLimits y ⌝ }
+    ensures { λ r. ⌜ r ≡ natAbs (x -ℤ y) ⌝ }
+{
+    let d = x - y;
+    if d < 0 { (0 - d) as u32 } else { d as u32 }
+}
+
+// The squared difference of two values.
+pub fn squared(x: i32, y: i32) -> u64
+    requires { ⌜ InLimits x ⌝ }
+    requires { ⌜ InLimits y ⌝ }
+    ensures { λ r. ⌜ r ≡ cost x y ⌝ }
+{
+    let d = gap(x, y) as u64;
+    d * d
+}
+
+// The size of the difference of two numbers.
+pub fn difference(a: u64, b: u64) -> u64
+    ensures { λ r. ⌜ r ≡ natAbs (pos a -ℤ pos b) ⌝ }
+{
+    if a < b { b - a } else { a - b }
+}
+
+pub fn lesser(a: u64, b: u64) -> u64
+    ensures { λ r. ⌜ r ≡ min a b ⌝ }
+{
+    if a < b { a } else { b }
+}
+
+pub fn greater(a: u64, b: u64) -> u64
+    ensures { λ r. ⌜ r ≡ max a b ⌝ }
+{
+    if a < b { b } else { a }
+}
+
+pub fn lesser_value(x: i32, y: i32) -> i32
+    ensures { λ r. ⌜ r ≡ minℤ x y ⌝ }
+{
+    if x < y { x } else { y }
+}
+
+pub fn greater_value(x: i32, y: i32) -> i32
+    ensures { λ r. ⌜ r ≡ maxℤ x y ⌝ }
+{
+    if x < y { y } else { x }
+}

@@ -1,0 +1,14 @@
+-- `values::spread_of` meets its contract (`spread-raised`). Assumes nothing.
+use native.Mathlib.Omega.{arith}
+use Rattle.values.specs.Sums.{spread-small, spread-raised}
+use Rattle.values.proofs.spread_of.Statement.{statement}
+use Rattle.values.proofs.spread_of.Tie as tie
+
+pub spread-of-spec : {M : Type 1} → statement M
+spread-of-spec =
+    tie.close
+    (tie.spec
+    (λ c. let p = c .before .pre in let l = spread-small (p .1 .0) (p .1 .1) (p .0) in omega arith)
+    (λ c. let p = c .before .before .pre in let l = spread-small (p .1 .0) (p .1 .1) (p .0) in omega arith)
+    (λ c. let p = c .before .before .pre in omega (arith, spread-raised (p .1 .0) (p .1 .1)))
+    (λ c. let p = c .before .before .pre in omega (arith, spread-raised (p .1 .0) (p .1 .1))))

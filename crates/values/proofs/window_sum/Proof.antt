@@ -1,0 +1,29 @@
+-- `values::window_sum` meets its contract: the raised sum less the bias (`window-raised`). Assumes nothing.
+use borrow.Author.Needs.{needs}
+use mathlib.Core.Path.{_≡_, _∙_, ap}
+use Prim.Native.Nat.{ℕ, _*_}
+use native.Mathlib.Omega.{arith}
+use lib.IntN.{pos, _-ℤ_}
+use mir.Syntax.{w32}
+use mir.ValLaws.{toZ-ofZ}
+use Rattle.meaning_numbers.proofs.Sum.{Σℕ-le}
+use Rattle.meaning_curves.specs.Curve.{stretch}
+use Rattle.numbers.specs.Raised.{raised, raised-le}
+use Rattle.values.specs.Window.{window-raised}
+use Rattle.values.proofs.window_sum.Statement.{statement}
+use Rattle.values.proofs.window_sum.Tie as tie
+
+lower-requires : tie.Need-lower-requires
+lower-requires c κs =
+    let o = c .before in
+    let a = o .args in
+    (omega (arith, c .raised-sum .ensures, Σℕ-le (a .w) 20000 (λ k. raised (stretch (a .s .now) (a .j) k)) (λ k l. raised-le (o .pre .1 .1 .at _))), omega arith)
+
+returns : tie.Need-returns
+returns c =
+    let o = c .before .before in
+    toZ-ofZ w32 (c .lower .result) (record { sfits = c .lower .ok }) ∙ c .lower .ensures
+    ∙ ap (λ (n : ℕ). pos n -ℤ pos (10000 * o .args .w)) (c .before .raised-sum .ensures) ∙ window-raised (o .args .w) (o .args .j) (o .pre .1 .1)
+
+pub window-sum-spec : {M : Type 1} → statement M
+window-sum-spec = tie.close (tie.spec (λ c κs. search needs) (λ c. search needs) lower-requires returns)
