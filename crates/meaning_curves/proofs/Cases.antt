@@ -1,14 +1,14 @@
 -- Small cases of the definitions, in one table that one proof covers. Assumes nothing.
-use mathlib.Core.Bool.{Bool, true, false, not}
+use mathlib.Core.Bool.{Bool, true, false, not, _&&_}
 use mathlib.Core.List.{List, [], _∷_, map}
 use mathlib.Core.Option.{Option, none, some}
 use Prim.Native.Nat.{ℕ}
 use lib.Dec.{T, eqb}
-use lib.IntN.{ℤ, pos, negsuc}
+use lib.IntN.{ℤ, pos, negsuc, _+ℤ_, _-ℤ_}
 use lib.ListN.{length}
 use Rattle.meaning_numbers.proofs.Table.{holds, sameℤ, sameList}
 use Rattle.meaning_numbers.specs.Place.{numbersFrom}
-use Rattle.meaning_curves.specs.Limits.{firstOutside}
+use Rattle.meaning_curves.specs.Limits.{lengthIn, valueIn, windowIn, widthIn, mergeIn, queryLengthIn, bandIn, thresholdIn, scaleIn, shiftIn, windowsIn, endIn, firstOutside}
 use Rattle.meaning_curves.specs.Curve.{at, stretch, windowSum, spread}
 use Rattle.meaning_curves.specs.Normal.{normalised}
 use Rattle.meaning_curves.specs.Match.{distance, rawMatch, normalMatch}
@@ -30,9 +30,25 @@ isNormal l n = sameList sameℤ (normals l) n
 isDistance : List ℤ → List ℤ → ℕ → ℕ → Bool
 isDistance l q b d = eqb (distance (at l) (at q) b (length l)) d
 
+-- a limit holds at both its ends and not beside them
+ends : (ℤ → Bool) → ℤ → ℤ → Bool
+ends p low high = p low && (p high && (not (p (low -ℤ pos 1)) && not (p (high +ℤ pos 1))))
+
 cases : List Bool
 cases =
-    isNormal (pos 0 ∷ pos 0 ∷ pos 1 ∷ []) (negsuc 69 ∷ negsuc 69 ∷ pos 141 ∷ [])
+    ends valueIn (negsuc 9999) (pos 10000)
+    ∷ ends windowIn (pos 1) (pos 256)
+    ∷ ends widthIn (pos 1) (pos 1000000)
+    ∷ ends mergeIn (pos 0) (pos 100)
+    ∷ ends (bandIn 7) (pos 0) (pos 6)
+    ∷ ends thresholdIn (pos 0) (pos 1000000000000)
+    ∷ ends scaleIn (pos 10) (pos 100)
+    ∷ ends shiftIn (pos 0) (pos 20000)
+    ∷ ends windowsIn (pos 1) (pos 1048576)
+    ∷ ends endIn (negsuc 3999999) (pos 4000000)
+    ∷ (lengthIn 4096 1 && (lengthIn 4096 4096 && (not (lengthIn 4096 0) && not (lengthIn 4096 4097))))
+    ∷ (queryLengthIn 1 && (queryLengthIn 1024 && (not (queryLengthIn 0) && not (queryLengthIn 1025))))
+    ∷ isNormal (pos 0 ∷ pos 0 ∷ pos 1 ∷ []) (negsuc 69 ∷ negsuc 69 ∷ pos 141 ∷ [])
     ∷ isNormal (pos 1 ∷ pos 3 ∷ []) (negsuc 99 ∷ pos 100 ∷ [])
     ∷ isDistance (pos 0 ∷ pos 0 ∷ pos 1 ∷ []) (pos 0 ∷ pos 1 ∷ pos 1 ∷ []) 0 1
     ∷ isDistance (pos 0 ∷ pos 0 ∷ pos 1 ∷ []) (pos 0 ∷ pos 1 ∷ pos 1 ∷ []) 1 0
@@ -51,5 +67,5 @@ cases =
     ∷ []
 
 all : T (holds cases)
-unfolding openCurves cases isAt normals isNormal isDistance
+unfolding openCurves cases ends isAt normals isNormal isDistance
 all = tt

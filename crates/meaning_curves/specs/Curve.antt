@@ -25,6 +25,6 @@ windowCount n w = n + 1 - w
 abbrev pub total : (ℕ → ℤ) → ℕ → ℤ
 total s m = Σℤ m s
 
--- 01, Distances: A = m × (sum of squares) - T × T, which is never negative
+-- 01, Distances: A = m × (sum of squares) - T × T, which is never negative (law: `spread-is`)
 unfoldable pub spread : (ℕ → ℤ) → ℕ → ℕ
 spread s m = m * Σℕ m (λ k. square (natAbs (s k))) - square (natAbs (total s m))

@@ -16,7 +16,7 @@ pub record IsCut (A : ℕ) (c : ℤ) (t : ℕ) : Type 0 where
   pub low : t * t * A ≤ square (100 * natAbs c)
   pub high : square (100 * natAbs c) < (t + 1) * (t + 1) * A
 
--- that t, computed
+-- that t, computed, for A above 0 (law: `cut-is`)
 unfoldable pub cut : ℕ → ℤ → ℕ
 cut A c = root (square (100 * natAbs c) / A)
 

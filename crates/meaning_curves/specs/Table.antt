@@ -1,4 +1,4 @@
--- The table that computes the warped distance: at (i, j) the least total of the paths to that pair, or none where no path leads. Assumes nothing.
+-- The table that computes the warped distance: at (i, j) the least total of the paths to that pair, or none where no path leads (laws: `attained`, `least-total`). Assumes nothing.
 use mathlib.Core.Bool.{Bool, true, false, _&&_}
 use mathlib.Core.Option.{Option, none, some}
 use Prim.Native.Nat.{ℕ, zero, suc, _+_, _-_, min}
@@ -40,6 +40,7 @@ unfoldable pub nextRow : (s q : ℕ → ℤ) → ℕ → ℕ → (ℕ → Option
 nextRow s q b i before zero = step s q b (suc i) 0 (before 0)
 nextRow s q b i before (suc j) = step s q b (suc i) (suc j) (least (before j) (least (before (suc j)) (nextRow s q b i before j)))
 
+-- row i of the table, by place
 unfoldable pub table : (s q : ℕ → ℤ) → ℕ → ℕ → ℕ → Option ℕ
 table s q b zero = firstRow s q b
 table s q b (suc i) = nextRow s q b i (table s q b i)
@@ -49,6 +50,6 @@ unfoldable pub valueOf : Option ℕ → ℕ
 valueOf none = 0
 valueOf (some t) = t
 
--- 01, Distances: the warped distance of m values within the band b
+-- 01, Distances: the warped distance of m values within the band b; there is always a path to the last pair (law: `warped-is`)
 unfoldable pub warped : (s q : ℕ → ℤ) → ℕ → ℕ → ℕ
 warped s q b m = valueOf (table s q b (m - 1) (m - 1))

@@ -27,7 +27,8 @@ use Rattle.meaning_entries.specs.Audit.{AuditCall, auditAnswer}
 use Rattle.meaning_entries.specs.Write.{writeAnswer, writeAfter}
 use Rattle.meaning_entries.specs.Load.{loadAnswer, loadAfter}
 use Rattle.meaning_entries.specs.Search.{SearchCall, SearchBuffers, searchAnswer, searchAfter}
-use Rattle.meaning_entries.specs.AuditText.{auditTextAnswer, pack, unpack}
+use Rattle.meaning_entries.specs.AuditText.{auditTextAnswer, auditText, pack, unpack}
+use Rattle.meaning_entries.specs.Program.{program}
 
 -- ---- as numbers
 
@@ -159,6 +160,8 @@ calls =
     -- build: success, unused entries 0, also past the shorter slice; refused, nothing altered
     builds (build worked (pos 2) (pos 2) (pos 80)) (sevens 4 4 5) (2 ∷ 2 ∷ 4 ∷ 2 ∷ 2 ∷ [])
     (2 ∷ 4 ∷ 0 ∷ 1 ∷ 4 ∷ 8 ∷ 1 ∷ 1 ∷ 0 ∷ 0 ∷ 0 ∷ 0 ∷ 0 ∷ 0 ∷ 0 ∷ 0 ∷ 0 ∷ 1 ∷ 0 ∷ 0 ∷ 0 ∷ 3 ∷ 0 ∷ 0 ∷ 0 ∷ [])
+    ∷ builds (build worked (pos 2) (pos 2) (pos 80)) (sevens 3 4 4) (23 ∷ 0 ∷ []) (replicate 20 7)
+    ∷ builds (build worked (pos 2) (pos 2) (pos 80)) (sevens 4 4 3) (23 ∷ 0 ∷ []) (replicate 23 7)
     ∷ builds (build worked (pos 2) (pos 2) (pos 80)) (sevens 1 4 3) (23 ∷ 0 ∷ []) (7 ∷ 7 ∷ 7 ∷ 7 ∷ 7 ∷ 7 ∷ 7 ∷ 7 ∷ 7 ∷ 7 ∷ 7 ∷ [])
     ∷ builds (build worked (pos 2) (pos 2) (pos 101)) (sevens 0 0 0) (5 ∷ 0 ∷ []) []
     ∷ builds (build worked (pos 2) (pos 1000001) (pos 101)) (sevens 0 0 0) (4 ∷ 0 ∷ []) []
@@ -171,6 +174,7 @@ calls =
     (2 ∷ 4 ∷ 0 ∷ 1 ∷ 4 ∷ 8 ∷ 1 ∷ 1 ∷ 0 ∷ 0 ∷ 0 ∷ 0 ∷ 0 ∷ 0 ∷ 0 ∷ 0 ∷ 0 ∷ 1 ∷ 0 ∷ 0 ∷ 0 ∷ 3 ∷ 0 ∷ 0 ∷ [])
     ∷ same (grown (extendAnswer (record { series = pos 1 ∷ pos 2 ∷ []; index = workedIndex }) (sevens 0 0 0))) (22 ∷ 0 ∷ [])
     ∷ same (grown (extendAnswer (record { series = worked; index = workedIndex }) (sevens 4 3 4))) (23 ∷ 0 ∷ [])
+    ∷ same (grown (extendAnswer (record { series = worked; index = workedIndex }) (sevens 3 4 4))) (23 ∷ 0 ∷ [])
     -- audit: yes; fewer windows; more windows; w above n
     ∷ audits worked workedIndex []
     ∷ audits (worked ++ (pos 1 ∷ [])) workedIndex (3 ∷ 21 ∷ 0 ∷ [])
@@ -191,6 +195,7 @@ calls =
     ∷ same (indexBuffers (loadAfter (bytes "(index (window 2) (width 2) (windows 4)\n(row 2 4 (0 0))\n(row 4 8 (1 3))\n)\n") (sevens 2 3 2)))
     (2 ∷ 4 ∷ 0 ∷ 1 ∷ 4 ∷ 8 ∷ 1 ∷ 1 ∷ 0 ∷ 1 ∷ 0 ∷ 0 ∷ 3 ∷ [])
     ∷ same (loaded (loadAnswer (bytes "(index (window 2) (width 2) (windows 4)\n(row 2 4 (0 0))\n(row 4 8 (1 3))\n)\n") (sevens 1 2 2))) (23 ∷ 0 ∷ [])
+    ∷ same (loaded (loadAnswer (bytes "(index (window 2) (width 2) (windows 4)\n(row 2 4 (0 0))\n(row 4 8 (1 3))\n)\n") (sevens 2 2 1))) (23 ∷ 0 ∷ [])
     ∷ same (loaded (loadAnswer (bytes "(index (window 2) (width 2) (windows 4)\n(row 2 4 (0 0))\n(row 3 8 (1 3))\n)\n") (sevens 1 2 2))) (20 ∷ 1 ∷ [])
     ∷ same (loaded (loadAnswer (bytes "(index (window 2) (width 2) (windows 4)\n(row 2 4 (0 0))\n(row 3 8 (1 3))\n") (sevens 1 2 2))) (12 ∷ 4 ∷ [])
     -- search: success; a list exactly full; 24 with both true counts and the first matches; a list of length 0
@@ -198,6 +203,12 @@ calls =
     ∷ finds (searchFor workedIndex Raw (pos 2 ∷ pos 4 ∷ []) (pos 5)) (lists 4 4 3) (0 ∷ 4 ∷ 3 ∷ []) (0 ∷ 0 ∷ 0 ∷ 0 ∷ 3 ∷ 0 ∷ 0 ∷ 0 ∷ 0 ∷ 0 ∷ 0 ∷ 0 ∷ 0 ∷ 1 ∷ 2 ∷ 5 ∷ 0 ∷ 5 ∷ [])
     ∷ finds (searchFor workedIndex Raw (pos 2 ∷ pos 4 ∷ []) (pos 5)) (lists 4 4 2) (24 ∷ 4 ∷ 3 ∷ []) (0 ∷ 0 ∷ 0 ∷ 0 ∷ 3 ∷ 0 ∷ 0 ∷ 0 ∷ 0 ∷ 0 ∷ 0 ∷ 0 ∷ 0 ∷ 1 ∷ 5 ∷ 0 ∷ [])
     ∷ finds (searchFor workedIndex Raw (pos 5 ∷ pos 5 ∷ []) (pos 0)) (lists 4 4 0) (0 ∷ 0 ∷ 0 ∷ []) (0 ∷ 0 ∷ 0 ∷ 0 ∷ 0 ∷ 0 ∷ 0 ∷ 0 ∷ 0 ∷ 0 ∷ 0 ∷ 0 ∷ [])
+    -- a list whose two slices differ: the shorter one counts, and nothing is written behind it
+    ∷ finds (searchFor workedIndex Raw (pos 2 ∷ pos 4 ∷ []) (pos 5)) (record { left = replicate 4 9; right = replicate 5 9; scratch = replicate 4 9; offsets = replicate 4 9; distances = replicate 2 9 }) (24 ∷ 4 ∷ 3 ∷ [])
+    (0 ∷ 0 ∷ 0 ∷ 0 ∷ 3 ∷ 0 ∷ 0 ∷ 0 ∷ 0 ∷ 0 ∷ 0 ∷ 0 ∷ 0 ∷ 0 ∷ 1 ∷ 0 ∷ 0 ∷ 5 ∷ 0 ∷ [])
+    -- fewer and more windows than the series
+    ∷ finds (searchIn (worked ++ (pos 1 ∷ [])) workedIndex Raw (pos 2 ∷ pos 4 ∷ []) (pos 5)) (lists 9 9 9) (21 ∷ 0 ∷ []) (replicate 45 7)
+    ∷ finds (searchIn (pos 1 ∷ pos 2 ∷ []) workedIndex Raw (pos 2 ∷ pos 4 ∷ []) (pos 5)) (lists 0 0 0) (22 ∷ 0 ∷ []) []
     -- search refused: each buffer too short, the query after the series, m below a w outside its limits, a flat query
     ∷ finds (searchFor workedIndex Raw (pos 2 ∷ pos 4 ∷ []) (pos 5)) (lists 3 4 0) (23 ∷ 0 ∷ []) (7 ∷ 7 ∷ 7 ∷ 7 ∷ 7 ∷ 7 ∷ 7 ∷ 7 ∷ 7 ∷ 7 ∷ [])
     ∷ finds (searchFor workedIndex Raw (pos 2 ∷ pos 4 ∷ []) (pos 5)) (lists 4 3 0) (23 ∷ 0 ∷ []) (7 ∷ 7 ∷ 7 ∷ 7 ∷ 7 ∷ 7 ∷ 7 ∷ 7 ∷ 7 ∷ 7 ∷ 7 ∷ [])
@@ -210,7 +221,11 @@ calls =
     -- the audit of two texts takes 4,096 values and no more; the index is of another series
     ∷ same (audited (auditTextAnswer (bytes "(index (window 1) (width 1) (windows 1)\n)\n") (spell seriesForm (replicate 4096 (pos 0))))) (3 ∷ 21 ∷ 0 ∷ [])
     ∷ same (audited (auditTextAnswer (bytes "(index (window 1) (width 1) (windows 1)\n)\n") (spell seriesForm (replicate 4097 (pos 0))))) (3 ∷ 1 ∷ 0 ∷ [])
-    -- the number of the C entry and back
+    -- so does the program
+    ∷ same (program (bytes "(window 1)\n(width 1)\n(merge 0)\n" ++ (spell seriesForm (replicate 4097 (pos 0)) ++ bytes "(find raw 0 0 10 0 (query 0))\n"))) (bytes "(refused 1 0)\n")
+    -- the number of the C entry: wrong at row 1, offset 1
+    ∷ eqb (auditText (bytes "(index (window 1) (width 1) (windows 2)\n(row 0 1 (0 0))\n(row 1 2 (1 1))\n)\n") (bytes "(series 0 0)\n")) 8388617
+    -- and back
     ∷ packs Audited.Yes
     ∷ packs (Audited.Wrong 4095 4095)
     ∷ packs (Audited.Missing 4096)

@@ -1,4 +1,4 @@
--- The table of cases: the starred cases of document 01 ('Worth trying'), its worked texts, calls over lent buffers, and texts of files. One proof covers the table. Assumes nothing.
+-- The table of cases: the starred cases of document 01 ('Worth trying'), its worked texts, calls over lent buffers, edges, and texts of files. One proof covers the table. Assumes nothing.
 use mathlib.Core.Bool.{Bool, not, _&&_}
 use mathlib.Core.List.{List, [], _∷_, _++_, map}
 use Prim.Native.Nat.{ℕ}
@@ -12,18 +12,34 @@ use Rattle.meaning_curves.specs.Curve.{at}
 use Rattle.meaning_curves.specs.Normal.{normalised}
 use Rattle.meaning_curves.specs.Match.{distance, normalMatch}
 use Rattle.meaning_rows.specs.Range.{rowNumber, lowOf, upOf}
+use Rattle.meaning_rows.specs.Build.{built}
+use Rattle.meaning_filter.specs.declared.Kind.the-variants.{Raw}
 use Rattle.meaning_filter.specs.Envelope.{lower, upper}
+use Rattle.meaning_filter.specs.Matches.{Question, candidateRuns}
 use Rattle.meaning_entries.proofs.Open.{openEntries}
 use Rattle.meaning_entries.proofs.Row.{prints, openRow}
 use Rattle.meaning_entries.proofs.Calls.{calls}
+use Rattle.meaning_entries.proofs.Edges.{edges}
 use Rattle.meaning_entries.proofs.Vectors.{vectors}
 
 -- the values of a curve of n places
 values : ℕ → (ℕ → ℤ) → List ℤ
 values n f = map f (numbersFrom 0 n)
 
+samePair : ℕ × ℕ → ℕ × ℕ → Bool
+samePair x y = eqb (x .0) (y .0) && eqb (x .1) (y .1)
+
+-- the query 2 4 in the worked series, E = 4
+above : Question
+above = record {
+  series = pos 1 ∷ pos 2 ∷ pos 4 ∷ pos 3 ∷ pos 1 ∷ [];
+  kind = Raw;
+  query = pos 2 ∷ pos 4 ∷ [];
+  limits = record { band = 0; threshold = 4; scale = 10; shift = 0 };
+}
+
 starred : List Bool
-unfolding values
+unfolding values samePair above
 starred =
     -- The index above; row 2..4 is not merged at the end, though it could be then.
     prints "(window 2)\n(width 2)\n(merge 80)\n(series 1 2 4 3 1)\n(find raw 0 5 10 0 (query 2 4))\n"
@@ -33,6 +49,7 @@ starred =
     -- E = 4 above: candidates 1 to 3, match 1 only.
     ∷ prints "(window 2)\n(width 2)\n(merge 80)\n(series 1 2 4 3 1)\n(find raw 0 4 10 0 (query 2 4))\n"
     "(index (window 2) (width 2) (windows 4)\n(row 2 4 (0 0))\n(row 4 8 (1 3))\n)\n(found 1 (candidates 3)\n(at 1 0)\n)\n"
+    ∷ sameList samePair (candidateRuns (built (pos 1 ∷ pos 2 ∷ pos 4 ∷ pos 3 ∷ pos 1 ∷ []) 2 2 80) above) ((1, 3) ∷ [])
     -- Query 4 3, E = 0: match 2; three candidates at g = 80, two at g = 0.
     ∷ prints "(window 2)\n(width 2)\n(merge 80)\n(series 1 2 4 3 1)\n(find raw 0 0 10 0 (query 4 3))\n"
     "(index (window 2) (width 2) (windows 4)\n(row 2 4 (0 0))\n(row 4 8 (1 3))\n)\n(found 1 (candidates 3)\n(at 2 0)\n)\n"
@@ -58,8 +75,8 @@ starred =
 
 pub cases : List Bool
 unfolding starred
-cases = starred ++ (calls ++ vectors)
+cases = starred ++ (calls ++ (edges ++ vectors))
 
 pub all : T (holds cases)
-unfolding openEntries openRow cases calls vectors
+unfolding openEntries openRow cases calls edges vectors
 all = tt

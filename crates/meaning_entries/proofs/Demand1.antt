@@ -11,9 +11,10 @@ use Rattle.meaning_numbers.proofs.Tests.{two-tests}
 use Rattle.meaning_curves.specs.Limits.{mostValues}
 use Rattle.meaning_rows.specs.Index.{Index}
 use Rattle.meaning_rows.specs.Audit.{firstWrong, missing}
+use Rattle.meaning_text.specs.Texts.{refusedText}
 use Rattle.meaning_entries.specs.declared.Audited.{Audited}
 use Rattle.meaning_entries.specs.declared.Found.{Found}
-use Rattle.meaning_entries.specs.Refusal.{Condition, firstRefusal, lengthOutside, valueOutside, queryLengthOutside, queryBelowWindow, bandOutside, thresholdOutside, scaleOrShiftOutside, flatQuery, illFormed, fewerWindows, moreWindows, bufferShort}
+use Rattle.meaning_entries.specs.Refusal.{Condition, firstRefusal, lengthOutside, valueOutside, queryLengthOutside, queryBelowWindow, bandOutside, thresholdOutside, scaleOrShiftOutside, flatQuery, illFormed, fewerWindows, moreWindows, bufferShort, listShort}
 use Rattle.meaning_entries.specs.Buffers.{IndexBuffers}
 use Rattle.meaning_entries.specs.Answers.{builtRefusal, extendedRefusal, auditedRefusal, writtenRefusal, loadedRefusal, foundRefusal}
 use Rattle.meaning_entries.specs.Build.{BuildCall, buildTable, buildAnswer}
@@ -21,9 +22,10 @@ use Rattle.meaning_entries.specs.Extend.{ExtendCall, extendTable, extend
 use Rattle.meaning_entries.specs.Audit.{AuditCall, auditTable, complete, audited, auditAnswer}
 use Rattle.meaning_entries.specs.Write.{writeTable, writeAnswer}
 use Rattle.meaning_entries.specs.Load.{loadTable, loadAnswer}
-use Rattle.meaning_entries.specs.Search.{SearchCall, SearchBuffers, listRoom, searchMatches, searchTable, listShort, searchRefused, searchAnswer}
+use Rattle.meaning_entries.specs.Search.{SearchCall, SearchBuffers, listRoom, searchMatches, searchTable, searchRefused, searchAnswer}
 use Rattle.meaning_entries.specs.AuditText.{auditTextTable, textCall, auditTextAnswer}
-use Rattle.meaning_entries.specs.Demand1.{Refuses}
+use Rattle.meaning_entries.specs.Program.{programTable, program}
+use Rattle.meaning_entries.specs.Demand1.{Refuses, BuildRefuses, ExtendRefuses, AuditRefuses, WriteRefuses, LoadRefuses, SearchRefuses, ProgramRefuses}
 use Rattle.meaning_entries.proofs.Refusal.{First, here, later, is-first}
 
 build-by : (c : BuildCall) (b : IndexBuffers) (o : Option (ℕ × ℕ)) → firstRefusal (buildTable c b) ≡ o → builtRefusal (buildAnswer c b) ≡ o
@@ -31,7 +33,7 @@ unfolding buildAnswer
 build-by c b none e = rw (e, buildAnswer)
 build-by c b (some r) e = rw (e, buildAnswer)
 
-pub build-refuses : (c : BuildCall) (b : IndexBuffers) → Refuses (buildTable c b) (builtRefusal (buildAnswer c b))
+pub build-refuses : (c : BuildCall) (b : IndexBuffers) → BuildRefuses c b (buildAnswer c b)
 build-refuses c b = record { same = build-by c b (firstRefusal (buildTable c b)) refl }
 
 extend-by : (c : ExtendCall) (b : IndexBuffers) (o : Option (ℕ × ℕ)) → firstRefusal (extendTable c b) ≡ o → extendedRefusal (extendAnswer c b) ≡ o
@@ -39,7 +41,7 @@ unfolding extendAnswer
 extend-by c b none e = rw (e, extendAnswer)
 extend-by c b (some r) e = rw (e, extendAnswer)
 
-pub extend-refuses : (c : ExtendCall) (b : IndexBuffers) → Refuses (extendTable c b) (extendedRefusal (extendAnswer c b))
+pub extend-refuses : (c : ExtendCall) (b : IndexBuffers) → ExtendRefuses c b (extendAnswer c b)
 extend-refuses c b = record { same = extend-by c b (firstRefusal (extendTable c b)) refl }
 
 write-by : (x : Index) (t : List ℕ) (o : Option (ℕ × ℕ)) → firstRefusal (writeTable x t) ≡ o → writtenRefusal (writeAnswer x t) ≡ o
@@ -47,7 +49,7 @@ unfolding writeAnswer
 write-by x t none e = rw (e, writeAnswer)
 write-by x t (some r) e = rw (e, writeAnswer)
 
-pub write-refuses : (x : Index) (t : List ℕ) → Refuses (writeTable x t) (writtenRefusal (writeAnswer x t))
+pub write-refuses : (x : Index) (t : List ℕ) → WriteRefuses x t (writeAnswer x t)
 write-refuses x t = record { same = write-by x t (firstRefusal (writeTable x t)) refl }
 
 load-by : (t : List ℕ) (b : IndexBuffers) (o : Option (ℕ × ℕ)) → firstRefusal (loadTable t b) ≡ o → loadedRefusal (loadAnswer t b) ≡ o
@@ -55,7 +57,7 @@ unfolding loadAnswer
 load-by t b none e = rw (e, loadAnswer)
 load-by t b (some r) e = rw (e, loadAnswer)
 
-pub load-refuses : (t : List ℕ) (b : IndexBuffers) → Refuses (loadTable t b) (loadedRefusal (loadAnswer t b))
+pub load-refuses : (t : List ℕ) (b : IndexBuffers) → LoadRefuses t b (loadAnswer t b)
 load-refuses t b = record { same = load-by t b (firstRefusal (loadTable t b)) refl }
 
 -- ---- audits: what is said where nothing refuses is no refusal
@@ -78,7 +80,7 @@ unfolding auditAnswer
 audit-by c none e = rw (e, auditAnswer) (audited-said c)
 audit-by c (some r) e = rw (e, auditAnswer)
 
-pub audit-refuses : (c : AuditCall) → Refuses (auditTable mostValues c) (auditedRefusal (auditAnswer c))
+pub audit-refuses : (c : AuditCall) → AuditRefuses c (auditAnswer c)
 audit-refuses c = record { same = audit-by c (firstRefusal (auditTable mostValues c)) refl }
 
 audit-text-by : (x s : List ℕ) (o : Option (ℕ × ℕ)) → firstRefusal (auditTextTable x s) ≡ o → auditedRefusal (auditTextAnswer x s) ≡ o
@@ -114,9 +116,9 @@ zero-first c [] t z (later e f) i = elim f [ ]
 zero-first c (d ∷ l) t z (here e) i = number-other (c .number) (two-tests (not (eqb (c .number) 24)) (others d l) t .0) i
 zero-first c (d ∷ l) t z (later e f) i = zero-first d l (two-tests (not (eqb (c .number) 24)) (others d l) t .1) z f i
 
-list-zero : (c : SearchCall) (b : SearchBuffers) → Zero (listShort c b)
+list-zero : (room found : ℕ) → Zero (listShort room found)
 unfolding listShort
-list-zero c b p i e = by (ltb (listRoom b) (length (searchMatches c))) e
+list-zero room found p i e = by (ltb room found) e
   where
     by : (t : Bool) → cond t (some 0) none ≡ some p → p ≡ 0
     by true h = cc
@@ -124,7 +126,7 @@ list-zero c b p i e = by (ltb (listRoom b) (length (searchMatches c))) e
 
 search-zero : (c : SearchCall) (b : SearchBuffers) {n p : ℕ} → First (searchTable c b) n p → n ≡ 24 → p ≡ 0
 unfolding searchTable lengthOutside valueOutside queryLengthOutside queryBelowWindow bandOutside thresholdOutside scaleOrShiftOutside flatQuery illFormed fewerWindows moreWindows bufferShort others last
-search-zero c b f = zero-first _ _ tt (list-zero c b) f
+search-zero c b f = zero-first _ _ tt (list-zero (listRoom b) (length (searchMatches c))) f
 
 -- what a refused search answers
 refused-by : (c : SearchCall) (n p : ℕ) (t : Bool) → eqb n 24 ≡ t → (n ≡ 24 → p ≡ 0) → foundRefusal (searchRefused c (n, p)) ≡ some (n, p)
@@ -141,5 +143,14 @@ search-by c b none e = rw (e, searchAnswer)
 search-by c b (some r) e =
     rw (e, searchAnswer) (refused-by c (r .0) (r .1) (eqb (r .0) 24) refl (search-zero c b (is-first (searchTable c b) (r .0) (r .1) e)))
 
-pub search-refuses : (c : SearchCall) (b : SearchBuffers) → Refuses (searchTable c b) (foundRefusal (searchAnswer c b))
+pub search-refuses : (c : SearchCall) (b : SearchBuffers) → SearchRefuses c b (searchAnswer c b)
 search-refuses c b = record { same = search-by c b (firstRefusal (searchTable c b)) refl }
+
+-- ---- the search program
+
+program-by : (t : List ℕ) (n p : ℕ) → firstRefusal (programTable t) ≡ some (n, p) → program t ≡ refusedText n p
+unfolding program
+program-by t n p e = rw (e, program)
+
+pub program-refuses : (t : List ℕ) → ProgramRefuses t (program t)
+program-refuses t = program-by t

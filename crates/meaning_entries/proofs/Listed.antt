@@ -11,9 +11,9 @@ use lib.ListN.{length, take}
 use lib.Seq.{take-all}
 use Rattle.meaning_numbers.proofs.Tests.{two-tests, not-not}
 use Rattle.meaning_entries.specs.declared.Found.{Found}
-use Rattle.meaning_entries.specs.Refusal.{Condition, firstRefusal}
+use Rattle.meaning_entries.specs.Refusal.{Condition, firstRefusal, listShort}
 use Rattle.meaning_entries.specs.Buffers.{filled}
-use Rattle.meaning_entries.specs.Search.{SearchCall, SearchBuffers, listRoom, searchMatches, searchCandidates, listShort, searchTable, looked, searchRefused, searchAnswer, lookedAfter, searchAfter}
+use Rattle.meaning_entries.specs.Search.{SearchCall, SearchBuffers, listRoom, searchMatches, searchCandidates, searchTable, looked, searchRefused, searchAnswer, lookedAfter, searchAfter}
 use Rattle.meaning_entries.specs.Demand2.{SearchKept}
 use Rattle.meaning_entries.specs.Demand3.{pairs}
 use Rattle.meaning_entries.proofs.Refusal.{is-passed, passed-at, not-if}

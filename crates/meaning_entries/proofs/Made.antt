@@ -20,7 +20,7 @@ use Rattle.meaning_rows.specs.Extend.{extended}
 use Rattle.meaning_rows.proofs.Judge.{Between, between, WellFormed, well-formed}
 use Rattle.meaning_rows.proofs.BuiltPasses.{Buildable, built-well-formed, built-filed, built-most}
 use Rattle.meaning_rows.proofs.Extend.{Extendable, extended-well-formed, extended-filed, extended-most}
-use Rattle.meaning_entries.specs.Refusal.{if?, firstRefusal, lengthOutside, valueOutside, windowOutside, widthOutside, illFormed, windowsOf, moreWindows}
+use Rattle.meaning_entries.specs.Refusal.{atZero, firstRefusal, lengthOutside, valueOutside, windowOutside, widthOutside, illFormed, windowsOf, moreWindows}
 use Rattle.meaning_entries.specs.Buffers.{IndexBuffers}
 use Rattle.meaning_entries.specs.Audit.{Passes}
 use Rattle.meaning_entries.specs.Build.{BuildCall, buildTable, buildRefusal, buildIndex, buildWindows}
@@ -29,7 +29,7 @@ use Rattle.meaning_entries.proofs.Refusal.{Passed, is-passed, passed-at
 use Rattle.meaning_entries.proofs.Passes.{passed, passes}
 
 -- a test that does not refuse where its failing would
-holds : (n : ℕ) (t : Bool) → if? n (not t) .place ≡ none → T t
+holds : (n : ℕ) (t : Bool) → atZero n (not t) .place ≡ none → T t
 holds n t e = not-not t (not-if n (not t) e)
 
 -- ---- a build

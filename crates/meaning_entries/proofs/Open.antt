@@ -1,17 +1,17 @@
 -- Every definition of this crate that stays shut until it is named, and those below, under one name: a proof that computes a case says `unfolding openEntries`. Assumes nothing.
 use Rattle.meaning_text.proofs.Open.{openText}
-use Rattle.meaning_entries.specs.Refusal.{firstRefusal, lengthOutside, valueOutside, windowOutside, widthOutside, mergeOutside, queryLengthOutside, queryBelowWindow, bandOutside, thresholdOutside, scaleOrShiftOutside, normalFlat, flatQuery, illFormed, fewerWindows, moreWindows, bufferShort}
+use Rattle.meaning_entries.specs.Refusal.{firstRefusal, lengthOutside, valueOutside, windowOutside, widthOutside, mergeOutside, queryLengthOutside, queryBelowWindow, bandOutside, thresholdOutside, scaleOrShiftOutside, normalFlat, flatQuery, illFormed, fewerWindows, moreWindows, bufferShort, badLine, unreadable, listShort}
 use Rattle.meaning_entries.specs.Buffers.{filled, indexIn}
-use Rattle.meaning_entries.specs.Build.{buildTable, buildIndex, buildAnswer, buildAfter}
-use Rattle.meaning_entries.specs.Extend.{extendTable, extendIndex, extendAnswer, extendAfter}
+use Rattle.meaning_entries.specs.Build.{buildTable, buildIndex, buildAnswer, buildCounts, buildAfter}
+use Rattle.meaning_entries.specs.Extend.{extendTable, extendIndex, extendAnswer, extendCounts, extendAfter}
 use Rattle.meaning_entries.specs.Audit.{auditTable, complete, audited, auditAnswer}
-use Rattle.meaning_entries.specs.Write.{writeTable, writeAnswer, writeAfter}
-use Rattle.meaning_entries.specs.Load.{badLine, unreadable, textIndex, loadTable, loadAnswer, loadAfter}
-use Rattle.meaning_entries.specs.Search.{question, listShort, searchTable, looked, searchRefused, searchAnswer, lookedAfter, searchAfter}
+use Rattle.meaning_entries.specs.Write.{writeTable, writeAnswer, writeCount, writeAfter}
+use Rattle.meaning_entries.specs.Load.{textIndex, loadTable, loadAnswer, loadCounts, loadAfter}
+use Rattle.meaning_entries.specs.Search.{question, searchTable, looked, searchRefused, searchAnswer, searchCounts, lookedAfter, searchAfter}
 use Rattle.meaning_entries.specs.AuditText.{textSeries, auditTextTable, auditTextAnswer, packRefusal, pack, unpackBy, unpack, auditText}
 use Rattle.meaning_entries.specs.Program.{programSaid, textProgram, programTable, programIndex, printed, program}
 use Rattle.meaning_entries.specs.Demand3.{pairs}
 
 unfoldable pub openEntries : Unit {0}
-unfolding openText firstRefusal lengthOutside valueOutside windowOutside widthOutside mergeOutside queryLengthOutside queryBelowWindow bandOutside thresholdOutside scaleOrShiftOutside normalFlat flatQuery illFormed fewerWindows moreWindows bufferShort filled indexIn buildTable buildIndex buildAnswer buildAfter extendTable extendIndex extendAnswer extendAfter auditTable complete audited auditAnswer writeTable writeAnswer writeAfter badLine unreadable textIndex loadTable loadAnswer loadAfter question listShort searchTable looked searchRefused searchAnswer lookedAfter searchAfter textSeries auditTextTable auditTextAnswer packRefusal pack unpackBy unpack auditText programSaid textProgram programTable programIndex printed program pairs
+unfolding openText firstRefusal lengthOutside valueOutside windowOutside widthOutside mergeOutside queryLengthOutside queryBelowWindow bandOutside thresholdOutside scaleOrShiftOutside normalFlat flatQuery illFormed fewerWindows moreWindows bufferShort filled indexIn buildTable buildIndex buildAnswer buildCounts buildAfter extendTable extendIndex extendAnswer extendCounts extendAfter auditTable complete audited auditAnswer writeTable writeAnswer writeCount writeAfter badLine unreadable textIndex loadTable loadAnswer loadCounts loadAfter question listShort searchTable looked searchRefused searchAnswer searchCounts lookedAfter searchAfter textSeries auditTextTable auditTextAnswer packRefusal pack unpackBy unpack auditText programSaid textProgram programTable programIndex printed program pairs
 openEntries = tt

@@ -20,7 +20,7 @@ use Rattle.meaning_rows.proofs.Judge.{WellFormed, well-formed, none-bad, length
 use Rattle.meaning_rows.proofs.Audit.{Filed, audit-yes, filed-passes, yes-total}
 use Rattle.meaning_filter.proofs.Candidates.{Reached, filed-reached}
 use Rattle.meaning_entries.specs.declared.Audited.{Audited}
-use Rattle.meaning_entries.specs.Refusal.{if?, firstRefusal, lengthOutside, valueOutside, illFormed, windowsOf, fewerWindows, moreWindows}
+use Rattle.meaning_entries.specs.Refusal.{atZero, firstRefusal, lengthOutside, valueOutside, illFormed, windowsOf, fewerWindows, moreWindows}
 use Rattle.meaning_entries.specs.Audit.{AuditCall, auditTable, complete, audited, auditAnswer, Passes}
 use Rattle.meaning_entries.proofs.Refusal.{end, more, passed-is, is-passed, passed-at, not-if}
 
@@ -84,7 +84,7 @@ passes-total x s p = let y = passed x s p in yes-total x s (y .formed) (y .filed
 no-lt : {a b : ℤ} → b ≤ℤ a → T (not (ltZ a b))
 no-lt {a} {b} h = rw (le-ltZ {a = a} {b = b} h) tt
 
-not-applies : (n : ℕ) (t : Bool) → T (not t) → if? n t .place ≡ none
+not-applies : (n : ℕ) (t : Bool) → T (not t) → atZero n t .place ≡ none
 not-applies n true h = absurd h
 not-applies n false h = refl
 

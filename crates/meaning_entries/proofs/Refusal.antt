@@ -8,7 +8,7 @@ use Prim.Native.Nat.{ℕ, zero, suc}
 use native.Mathlib.Omega.{arith}
 use lib.Dec.{T}
 use lib.ListN.{getD}
-use Rattle.meaning_entries.specs.Refusal.{Condition, firstRefusal, if?}
+use Rattle.meaning_entries.specs.Refusal.{Condition, firstRefusal, atZero}
 
 -- no line applies
 pub data Passed : List Condition → Type 0 where
@@ -89,6 +89,6 @@ passed-at (more e h) zero = e
 passed-at (more e h) (suc k) = passed-at h k
 
 -- a condition whose place is 0 and that does not apply: its test fails
-pub not-if : (n : ℕ) (t : Bool) → if? n t .place ≡ none → T (not t)
+pub not-if : (n : ℕ) (t : Bool) → atZero n t .place ≡ none → T (not t)
 not-if n true e = none-some (sym e)
 not-if n false e = tt

@@ -46,6 +46,28 @@ foundRefusal (Found.All candidates matches) = none
 foundRefusal (Found.Full candidates matches) = some (24, 0)
 foundRefusal (Found.Refused n p) = some (n, p)
 
+-- ---- values
+
+-- the head of the index that stands in the buffers
+abbrev pub builtHead : Built → Option Head
+builtHead (Built.Index h rows runs) = some h
+builtHead (Built.Refused n p) = none
+
+abbrev pub extendedHead : Extended → Option Head
+extendedHead (Extended.Index h rows runs) = some h
+extendedHead (Extended.Refused n p) = none
+
+abbrev pub loadedHead : Loaded → Option Head
+loadedHead (Loaded.Index h rows runs) = some h
+loadedHead (Loaded.Refused n p) = none
+
+-- the first row and offset filed wrongly
+abbrev pub wrongPlace : Audited → Option (ℕ × ℕ)
+wrongPlace Audited.Yes = none
+wrongPlace (Audited.Wrong row offset) = some (row, offset)
+wrongPlace (Audited.Missing count) = none
+wrongPlace (Audited.Refused n p) = none
+
 -- ---- counts
 
 -- how many rows and runs stand in the buffers

@@ -6,14 +6,21 @@ use mathlib.Core.Option.{Option, none, some}
 use Prim.Native.Nat.{ℕ, zero, suc}
 use lib.IntN.{ℤ}
 use Rattle.meaning_curves.specs.Limits.{mostValues}
-use Rattle.meaning_rows.specs.Index.{Index}
+use Rattle.meaning_rows.specs.declared.Row.{Row}
+use Rattle.meaning_rows.specs.declared.Head.{Head}
+use Rattle.meaning_rows.specs.Index.{Index, lent}
 use Rattle.meaning_rows.specs.Audit.{firstWrong, missing}
 use Rattle.meaning_entries.specs.declared.Audited.{Audited}
 use Rattle.meaning_entries.specs.Refusal.{Condition, firstRefusal, lengthOutside, valueOutside, illFormed, fewerWindows, moreWindows}
 
+-- the series, and the index that is to have its windows
 pub record AuditCall : Type 0 where
   pub series : List ℤ
   pub index : Index
+
+-- the call over a lent index
+abbrev pub lentAudit : List ℤ → Head → List Row → List ℕ → List ℕ → AuditCall
+lentAudit series head rows left right = record { series = series; index = lent head rows left right }
 
 -- the refusals, in order; `most` is the most values that the call takes
 unfoldable pub auditTable : ℕ → AuditCall → List Condition
@@ -37,6 +44,6 @@ audited c = elim (firstWrong (c .index) (c .series)) [ some x ↦ Audited.Wrong 
 unfoldable pub auditAnswer : AuditCall → Audited
 auditAnswer c = elim (firstRefusal (auditTable mostValues c)) [ some r ↦ Audited.Refused (r .0) (r .1) | none ↦ audited c ]
 
--- 01, Rows: an index passes against a series exactly if the audit of the two is not refused and says yes
+-- 01, Rows: an index passes against a series exactly if the audit of the two, over lent rows, is not refused and says yes; here of any index, lent ones among them (law: `passed`)
 abbrev pub Passes : Index → List ℤ → Type 0
 Passes x s = auditAnswer (record { series = s; index = x }) ≡ Audited.Yes

@@ -10,9 +10,9 @@ use Rattle.meaning_text.specs.Bytes.{newlines}
 use Rattle.meaning_text.specs.Read.{Verdict, fine, unfit, readText}
 use Rattle.meaning_text.specs.Texts.{indexForm, seriesForm}
 use Rattle.meaning_entries.specs.declared.Audited.{Audited}
-use Rattle.meaning_entries.specs.Refusal.{Condition, firstRefusal}
+use Rattle.meaning_entries.specs.Refusal.{Condition, firstRefusal, unreadable}
 use Rattle.meaning_entries.specs.Audit.{AuditCall, auditTable, audited}
-use Rattle.meaning_entries.specs.Load.{unreadable, textIndex}
+use Rattle.meaning_entries.specs.Load.{textIndex}
 
 -- the series that a line gives; of a line that cannot be read nothing is asked
 unfoldable pub textSeries : List ℕ → List ℤ

@@ -2,7 +2,7 @@
 use mathlib.Core.List.{List, [], _∷_}
 use mathlib.Core.Option.{Option, none, some}
 use Prim.Native.Nat.{ℕ}
-use lib.IntN.{ℤ, natAbs}
+use lib.IntN.{ℤ, pos, natAbs}
 use lib.ListN.{length}
 use Rattle.meaning_curves.specs.Limits.{mostValues}
 use Rattle.meaning_curves.specs.Curve.{windowCount}
@@ -13,11 +13,16 @@ use Rattle.meaning_entries.specs.Refusal.{Condition, firstRefusal, lengt
 use Rattle.meaning_entries.specs.Buffers.{IndexBuffers, runRoom, indexIn}
 use Rattle.meaning_entries.specs.Answers.{headOf}
 
+-- series, window length w, row width d, merge percentage g
 pub record BuildCall : Type 0 where
   pub series : List ℤ
   pub window : ℤ
   pub width : ℤ
   pub merge : ℤ
+
+-- the call that numbers of the code make
+abbrev pub lentBuild : List ℤ → ℕ → ℕ → ℕ → BuildCall
+lentBuild series w d g = record { series = series; window = pos w; width = pos d; merge = pos g }
 
 -- how many windows the series has
 abbrev pub buildWindows : BuildCall → ℕ
@@ -47,6 +52,10 @@ buildAnswer c b = elim (buildRefusal c b) [
   | some r ↦ Built.Refused (r .0) (r .1)
   | none ↦ Built.Index (headOf (buildIndex c)) (length (buildIndex c .rows)) (length (buildIndex c .runs))
 ]
+
+-- how many rows and runs stand in the buffers; a refusal gives counts 0
+unfoldable pub buildCounts : BuildCall → IndexBuffers → ℕ × ℕ
+buildCounts c b = elim (buildRefusal c b) [ some r ↦ (0, 0) | none ↦ (length (buildIndex c .rows), length (buildIndex c .runs)) ]
 
 -- the buffers afterwards
 unfoldable pub buildAfter : BuildCall → IndexBuffers → IndexBuffers

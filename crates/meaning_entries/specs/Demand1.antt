@@ -1,10 +1,55 @@
--- Demand 1: an entry refuses by the conditions of its table and by no others. Assumes nothing.
+-- Demand 1: an entry refuses by the conditions of its table and by no others, for every input. (That it takes every input and ends is what a proved function without `requires` does.) Assumes nothing.
 use mathlib.Core.Path.{_≡_}
 use mathlib.Core.List.{List}
-use mathlib.Core.Option.{Option}
+use mathlib.Core.Option.{Option, some}
 use Prim.Native.Nat.{ℕ}
+use Rattle.meaning_rows.specs.Index.{Index}
+use Rattle.meaning_text.specs.Texts.{refusedText}
+use Rattle.meaning_entries.specs.declared.Built.{Built}
+use Rattle.meaning_entries.specs.declared.Extended.{Extended}
+use Rattle.meaning_entries.specs.declared.Audited.{Audited}
+use Rattle.meaning_entries.specs.declared.Written.{Written}
+use Rattle.meaning_entries.specs.declared.Loaded.{Loaded}
+use Rattle.meaning_entries.specs.declared.Found.{Found}
 use Rattle.meaning_entries.specs.Refusal.{Condition, firstRefusal}
+use Rattle.meaning_entries.specs.Buffers.{IndexBuffers}
+use Rattle.meaning_entries.specs.Answers.{builtRefusal, extendedRefusal, auditedRefusal, writtenRefusal, loadedRefusal, foundRefusal}
+use Rattle.meaning_curves.specs.Limits.{mostValues}
+use Rattle.meaning_entries.specs.Build.{BuildCall, buildTable}
+use Rattle.meaning_entries.specs.Extend.{ExtendCall, extendTable}
+use Rattle.meaning_entries.specs.Audit.{AuditCall, auditTable}
+use Rattle.meaning_entries.specs.Write.{writeTable}
+use Rattle.meaning_entries.specs.Load.{loadTable}
+use Rattle.meaning_entries.specs.Search.{SearchCall, SearchBuffers, searchTable}
+use Rattle.meaning_entries.specs.AuditText.{auditTextTable, unpack}
+use Rattle.meaning_entries.specs.Program.{programTable}
 
 -- what an answer refuses by, if it does, is the first line of the table that applies, with its number and place; if none applies it does not refuse
 pub record Refuses (table : List Condition) (refusal : Option (ℕ × ℕ)) : Type 0 where
   pub same : refusal ≡ firstRefusal table
+
+abbrev pub BuildRefuses : BuildCall → IndexBuffers → Built → Type 0
+BuildRefuses c before answer = Refuses (buildTable c before) (builtRefusal answer)
+
+abbrev pub ExtendRefuses : ExtendCall → IndexBuffers → Extended → Type 0
+ExtendRefuses c before answer = Refuses (extendTable c before) (extendedRefusal answer)
+
+abbrev pub AuditRefuses : AuditCall → Audited → Type 0
+AuditRefuses c answer = Refuses (auditTable mostValues c) (auditedRefusal answer)
+
+abbrev pub WriteRefuses : Index → List ℕ → Written → Type 0
+WriteRefuses x before answer = Refuses (writeTable x before) (writtenRefusal answer)
+
+abbrev pub LoadRefuses : List ℕ → IndexBuffers → Loaded → Type 0
+LoadRefuses text before answer = Refuses (loadTable text before) (loadedRefusal answer)
+
+abbrev pub SearchRefuses : SearchCall → SearchBuffers → Found → Type 0
+SearchRefuses c before answer = Refuses (searchTable c before) (foundRefusal answer)
+
+-- the number of the C entry
+abbrev pub AuditTextRefuses : List ℕ → List ℕ → ℕ → Type 0
+AuditTextRefuses index series answer = Refuses (auditTextTable index series) (auditedRefusal (unpack answer))
+
+-- the search program prints its refusal
+abbrev pub ProgramRefuses : List ℕ → List ℕ → Type 0
+ProgramRefuses input output = (n p : ℕ) → firstRefusal (programTable input) ≡ some (n, p) → output ≡ refusedText n p

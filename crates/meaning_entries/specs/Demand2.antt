@@ -1,7 +1,9 @@
--- Demand 2: each entry keeps its promise. A record for each entry: the answer, and the content of every lent buffer afterwards, for every call and whatever the buffers held before. Assumes nothing.
+-- Demand 2: each entry keeps its promise. A record for each entry: the answer, with this paper's number, place and counts of it, and the content of every lent buffer afterwards, for every call and whatever the buffers held before.
+-- Nothing is left free but how the number of the C entry is packed (`pack`), which is ours to say. Assumes nothing.
 use mathlib.Core.Path.{_≡_}
 use mathlib.Core.List.{List}
 use Prim.Native.Nat.{ℕ}
+use Rattle.meaning_curves.specs.Limits.{mostValues}
 use Rattle.meaning_rows.specs.Index.{Index}
 use Rattle.meaning_entries.specs.declared.Built.{Built}
 use Rattle.meaning_entries.specs.declared.Extended.{Extended}
@@ -9,47 +11,67 @@ use Rattle.meaning_entries.specs.declared.Audited.{Audited}
 use Rattle.meaning_entries.specs.declared.Written.{Written}
 use Rattle.meaning_entries.specs.declared.Loaded.{Loaded}
 use Rattle.meaning_entries.specs.declared.Found.{Found}
+use Rattle.meaning_entries.specs.Refusal.{firstRefusal}
 use Rattle.meaning_entries.specs.Buffers.{IndexBuffers}
-use Rattle.meaning_entries.specs.Build.{BuildCall, buildAnswer, buildAfter}
-use Rattle.meaning_entries.specs.Extend.{ExtendCall, extendAnswer, extendAfter}
-use Rattle.meaning_entries.specs.Audit.{AuditCall, auditAnswer}
-use Rattle.meaning_entries.specs.Write.{writeAnswer, writeAfter}
-use Rattle.meaning_entries.specs.Load.{loadAnswer, loadAfter}
-use Rattle.meaning_entries.specs.Search.{SearchCall, SearchBuffers, searchAnswer, searchAfter}
-use Rattle.meaning_entries.specs.AuditText.{auditText}
+use Rattle.meaning_entries.specs.Answers.{builtRefusal, builtCounts, extendedRefusal, extendedCounts, auditedRefusal, writtenRefusal, writtenCount, loadedRefusal, loadedCounts, foundRefusal, foundCounts}
+use Rattle.meaning_entries.specs.Build.{BuildCall, buildRefusal, buildAnswer, buildCounts, buildAfter}
+use Rattle.meaning_entries.specs.Extend.{ExtendCall, extendRefusal, extendAnswer, extendCounts, extendAfter}
+use Rattle.meaning_entries.specs.Audit.{AuditCall, auditTable, auditAnswer}
+use Rattle.meaning_entries.specs.Write.{writeRefusal, writeAnswer, writeCount, writeAfter}
+use Rattle.meaning_entries.specs.Load.{loadRefusal, loadAnswer, loadCounts, loadAfter}
+use Rattle.meaning_entries.specs.Search.{SearchCall, SearchBuffers, searchRefusal, searchAnswer, searchCounts, searchAfter}
+use Rattle.meaning_entries.specs.AuditText.{auditTextTable, auditText, unpack}
+use Rattle.meaning_entries.specs.Program.{program}
 
 pub record BuildKept (c : BuildCall) (before : IndexBuffers) (answer : Built) (after : IndexBuffers) : Type 0 where
   pub answered : answer ≡ buildAnswer c before
+  pub refused : builtRefusal answer ≡ buildRefusal c before
+  pub counted : builtCounts answer ≡ buildCounts c before
   pub rows : after .rows ≡ buildAfter c before .rows
   pub left : after .left ≡ buildAfter c before .left
   pub right : after .right ≡ buildAfter c before .right
 
 pub record ExtendKept (c : ExtendCall) (before : IndexBuffers) (answer : Extended) (after : IndexBuffers) : Type 0 where
   pub answered : answer ≡ extendAnswer c before
+  pub refused : extendedRefusal answer ≡ extendRefusal c before
+  pub counted : extendedCounts answer ≡ extendCounts c before
   pub rows : after .rows ≡ extendAfter c before .rows
   pub left : after .left ≡ extendAfter c before .left
   pub right : after .right ≡ extendAfter c before .right
 
 pub record AuditKept (c : AuditCall) (answer : Audited) : Type 0 where
   pub answered : answer ≡ auditAnswer c
+  pub refused : auditedRefusal answer ≡ firstRefusal (auditTable mostValues c)
 
 pub record WriteKept (x : Index) (before : List ℕ) (answer : Written) (after : List ℕ) : Type 0 where
   pub answered : answer ≡ writeAnswer x before
+  pub refused : writtenRefusal answer ≡ writeRefusal x before
+  pub counted : writtenCount answer ≡ writeCount x before
   pub text : after ≡ writeAfter x before
 
 pub record LoadKept (text : List ℕ) (before : IndexBuffers) (answer : Loaded) (after : IndexBuffers) : Type 0 where
   pub answered : answer ≡ loadAnswer text before
+  pub refused : loadedRefusal answer ≡ loadRefusal text before
+  pub counted : loadedCounts answer ≡ loadCounts text before
   pub rows : after .rows ≡ loadAfter text before .rows
   pub left : after .left ≡ loadAfter text before .left
   pub right : after .right ≡ loadAfter text before .right
 
 pub record SearchKept (c : SearchCall) (before : SearchBuffers) (answer : Found) (after : SearchBuffers) : Type 0 where
   pub answered : answer ≡ searchAnswer c before
+  pub refused : foundRefusal answer ≡ searchRefusal c before
+  pub counted : foundCounts answer ≡ searchCounts c before
   pub left : after .left ≡ searchAfter c before .left
   pub right : after .right ≡ searchAfter c before .right
   pub scratch : after .scratch ≡ searchAfter c before .scratch
   pub offsets : after .offsets ≡ searchAfter c before .offsets
   pub distances : after .distances ≡ searchAfter c before .distances
 
+-- the number of the C entry, which unpacked is the answer
 pub record AuditTextKept (index series : List ℕ) (answer : ℕ) : Type 0 where
   pub answered : answer ≡ auditText index series
+  pub refused : auditedRefusal (unpack answer) ≡ firstRefusal (auditTextTable index series)
+
+-- what the search program prints
+pub record ProgramKept (input output : List ℕ) : Type 0 where
+  pub printed : output ≡ program input

@@ -1,4 +1,5 @@
--- Demand 3: through whichever two audited indexes, the same list, and that list is exactly all matches. One claim about both searches together and all four queries. Assumes nothing.
+-- Demand 3: through whichever two audited indexes, the same list, and that list is exactly all matches. One claim about both searches together and all four queries.
+-- It is a claim about the meanings: a search that keeps its promise (`SearchKept`, demand 2) meets it, through whichever index passes. Assumes nothing.
 use mathlib.Core.Path.{_≡_}
 use mathlib.Core.List.{List, [], _∷_}
 use Prim.Native.Nat.{ℕ}
@@ -12,7 +13,7 @@ use Rattle.meaning_entries.specs.Audit.{Passes}
 use Rattle.meaning_entries.specs.Search.{SearchCall, SearchBuffers, question}
 use Rattle.meaning_entries.specs.Demand2.{SearchKept}
 
--- the first entries of a list's two slices, as pairs
+-- the entries of a list's two slices, as pairs, as many as the shorter slice has
 unfoldable pub pairs : List ℕ → List ℕ → List (ℕ × ℕ)
 pairs [] ds = []
 pairs (o ∷ os) [] = []

@@ -6,7 +6,9 @@ use lib.IntN.{ℤ, natAbs}
 use lib.ListN.{length}
 use Rattle.meaning_curves.specs.Limits.{mostValues}
 use Rattle.meaning_curves.specs.Curve.{windowCount}
-use Rattle.meaning_rows.specs.Index.{Index}
+use Rattle.meaning_rows.specs.declared.Row.{Row}
+use Rattle.meaning_rows.specs.declared.Head.{Head}
+use Rattle.meaning_rows.specs.Index.{Index, lent}
 use Rattle.meaning_rows.specs.Extend.{extended}
 use Rattle.meaning_entries.specs.declared.Extended.{Extended}
 use Rattle.meaning_entries.specs.Refusal.{Condition, firstRefusal, lengthOutside, valueOutside, illFormed, moreWindows, bufferShort}
@@ -17,6 +19,10 @@ use Rattle.meaning_entries.specs.Answers.{headOf}
 pub record ExtendCall : Type 0 where
   pub series : List ℤ
   pub index : Index
+
+-- the call over a lent index
+abbrev pub lentExtend : List ℤ → Head → List Row → List ℕ → List ℕ → ExtendCall
+lentExtend series head rows left right = record { series = series; index = lent head rows left right }
 
 -- how many windows the series has
 abbrev pub extendWindows : ExtendCall → ℕ
@@ -45,6 +51,10 @@ extendAnswer c b = elim (extendRefusal c b) [
   | some r ↦ Extended.Refused (r .0) (r .1)
   | none ↦ Extended.Index (headOf (extendIndex c)) (length (extendIndex c .rows)) (length (extendIndex c .runs))
 ]
+
+-- how many rows and runs stand in the buffers; a refusal gives counts 0
+unfoldable pub extendCounts : ExtendCall → IndexBuffers → ℕ × ℕ
+extendCounts c b = elim (extendRefusal c b) [ some r ↦ (0, 0) | none ↦ (length (extendIndex c .rows), length (extendIndex c .runs)) ]
 
 -- the buffers afterwards
 unfoldable pub extendAfter : ExtendCall → IndexBuffers → IndexBuffers

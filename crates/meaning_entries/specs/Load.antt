@@ -1,25 +1,16 @@
 -- The entry read: an index text becomes an index in lent buffers. Assumes nothing.
 use mathlib.Core.List.{List, [], _∷_}
 use mathlib.Core.Option.{Option, none, some}
-use Prim.Native.Nat.{ℕ, _+_}
+use Prim.Native.Nat.{ℕ}
 use lib.IntN.{pos}
 use lib.ListN.{length}
 use Rattle.meaning_rows.specs.Index.{Index}
-use Rattle.meaning_text.specs.Form.{Form}
-use Rattle.meaning_text.specs.Read.{Verdict, fine, unfit, readText, lineOf}
+use Rattle.meaning_text.specs.Read.{Verdict, fine, unfit, readText}
 use Rattle.meaning_text.specs.Texts.{indexForm, indexSaid}
 use Rattle.meaning_entries.specs.declared.Loaded.{Loaded}
-use Rattle.meaning_entries.specs.Refusal.{Condition, where?, firstRefusal, illFormed, bufferShort}
+use Rattle.meaning_entries.specs.Refusal.{Condition, firstRefusal, unreadable, illFormed, bufferShort}
 use Rattle.meaning_entries.specs.Buffers.{IndexBuffers, runRoom, indexIn}
 use Rattle.meaning_entries.specs.Answers.{headOf}
-
--- the first bad line of a text that is not in the form, after `before` lines
-unfoldable pub badLine : Form → ℕ → List ℕ → Option ℕ
-badLine f before t = elim (readText f t) [ fine v ↦ none | unfit p ↦ some (before + lineOf t p) ]
-
--- 12: a text that cannot be read; first bad line
-unfoldable pub unreadable : Form → ℕ → List ℕ → Condition
-unreadable f before t = where? 12 (badLine f before t)
 
 -- the index that a text gives; of a text that cannot be read nothing is asked
 unfoldable pub textIndex : List ℕ → Index
@@ -45,6 +36,10 @@ loadAnswer t b = elim (loadRefusal t b) [
   | some r ↦ Loaded.Refused (r .0) (r .1)
   | none ↦ Loaded.Index (headOf (textIndex t)) (length (textIndex t .rows)) (length (textIndex t .runs))
 ]
+
+-- how many rows and runs stand in the buffers; a refusal gives counts 0
+unfoldable pub loadCounts : List ℕ → IndexBuffers → ℕ × ℕ
+loadCounts t b = elim (loadRefusal t b) [ some r ↦ (0, 0) | none ↦ (length (textIndex t .rows), length (textIndex t .runs)) ]
 
 -- the buffers afterwards
 unfoldable pub loadAfter : List ℕ → IndexBuffers → IndexBuffers

@@ -12,8 +12,7 @@ use Rattle.meaning_filter.specs.declared.Kind.the-variants.{Raw}
 use Rattle.meaning_text.specs.Form.{Value}
 use Rattle.meaning_text.specs.Read.{Verdict, fine, unfit, readText}
 use Rattle.meaning_text.specs.Texts.{programForm, kindSaid, indexText, foundText, refusedText}
-use Rattle.meaning_entries.specs.Refusal.{Condition, firstRefusal, lengthOutside, valueOutside, windowOutside, widthOutside, mergeOutside, queryLengthOutside, queryBelowWindow, bandOutside, thresholdOutside, scaleOrShiftOutside, flatQuery}
-use Rattle.meaning_entries.specs.Load.{unreadable}
+use Rattle.meaning_entries.specs.Refusal.{Condition, firstRefusal, lengthOutside, valueOutside, windowOutside, widthOutside, mergeOutside, queryLengthOutside, queryBelowWindow, bandOutside, thresholdOutside, scaleOrShiftOutside, flatQuery, unreadable}
 use Rattle.meaning_entries.specs.Build.{BuildCall, buildIndex}
 use Rattle.meaning_entries.specs.Search.{SearchCall, searchCandidates, searchMatches}
 

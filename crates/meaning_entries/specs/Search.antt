@@ -3,16 +3,19 @@ use mathlib.Core.Bool.{Bool, true, false}
 use mathlib.Core.List.{List, [], _∷_, map}
 use mathlib.Core.Option.{Option, none, some}
 use Prim.Native.Nat.{ℕ}
-use lib.Dec.{eqb, ltb}
+use lib.Dec.{eqb}
 use lib.IntN.{ℤ, pos, natAbs}
 use lib.ListN.{length, take}
 use Rattle.meaning_curves.specs.Limits.{mostValues}
 use Rattle.meaning_curves.specs.Curve.{windowCount}
-use Rattle.meaning_rows.specs.Index.{Index}
+use Rattle.meaning_rows.specs.declared.Row.{Row}
+use Rattle.meaning_rows.specs.declared.Head.{Head}
+use Rattle.meaning_rows.specs.Index.{Index, lent}
 use Rattle.meaning_filter.specs.declared.Kind.{Kind}
+use Rattle.meaning_filter.specs.declared.Limits.{Limits}
 use Rattle.meaning_filter.specs.Matches.{Question, candidateRuns, candidateCount, matchList}
 use Rattle.meaning_entries.specs.declared.Found.{Found}
-use Rattle.meaning_entries.specs.Refusal.{Condition, if?, firstRefusal, lengthOutside, valueOutside, queryLengthOutside, queryBelowWindow, bandOutside, thresholdOutside, scaleOrShiftOutside, flatQuery, illFormed, fewerWindows, moreWindows, bufferShort}
+use Rattle.meaning_entries.specs.Refusal.{Condition, firstRefusal, lengthOutside, valueOutside, queryLengthOutside, queryBelowWindow, bandOutside, thresholdOutside, scaleOrShiftOutside, flatQuery, illFormed, fewerWindows, moreWindows, bufferShort, listShort}
 use Rattle.meaning_entries.specs.Buffers.{filled, pairRoom}
 
 -- band b, threshold E, scale limit a, shift limit h are whole numbers, as a text may have any
@@ -25,6 +28,19 @@ pub record SearchCall : Type 0 where
   pub threshold : ℤ
   pub scale : ℤ
   pub shift : ℤ
+
+-- the call over a lent index, with limits of the code
+abbrev pub lentSearch : List ℤ → Head → List Row → List ℕ → List ℕ → Kind → List ℤ → Limits → SearchCall
+lentSearch series head rows left right kind query l = record {
+  series = series;
+  index = lent head rows left right;
+  kind = kind;
+  query = query;
+  band = pos (l .band);
+  threshold = pos (l .threshold);
+  scale = pos (l .scale);
+  shift = pos (l .shift);
+}
 
 -- candidate buffer, scratch, and the list
 pub record SearchBuffers : Type 0 where
@@ -55,10 +71,6 @@ searchMatches c = matchList (c .index) (question c)
 abbrev pub listRoom : SearchBuffers → ℕ
 listRoom b = pairRoom (b .offsets) (b .distances)
 
--- 24: more matches than the list holds
-unfoldable pub listShort : SearchCall → SearchBuffers → Condition
-listShort c b = if? 24 (ltb (listRoom b) (length (searchMatches c)))
-
 -- the refusals, in order
 unfoldable pub searchTable : SearchCall → SearchBuffers → List Condition
 searchTable c b =
@@ -76,7 +88,7 @@ searchTable c b =
     ∷ moreWindows (c .index) (c .series)
     ∷ bufferShort (pairRoom (b .left) (b .right)) (searchWindows c)
     ∷ bufferShort (length (b .scratch)) (searchWindows c)
-    ∷ listShort c b
+    ∷ listShort (listRoom b) (length (searchMatches c))
     ∷ []
 
 abbrev pub searchRefusal : SearchCall → SearchBuffers → Option (ℕ × ℕ)
@@ -87,7 +99,7 @@ unfoldable pub looked : Option (ℕ × ℕ) → Bool
 looked none = true
 looked (some r) = eqb (r .0) 24
 
--- the candidates, and the matches among them
+-- how many candidates there are
 abbrev pub searchCandidates : SearchCall → ℕ
 searchCandidates c = candidateCount (c .index) (question c)
 
@@ -97,6 +109,10 @@ searchRefused c r = elim (eqb (r .0) 24) [ true ↦ Found.Full (searchCandidates
 
 unfoldable pub searchAnswer : SearchCall → SearchBuffers → Found
 searchAnswer c b = elim (searchRefusal c b) [ some r ↦ searchRefused c r | none ↦ Found.All (searchCandidates c) (length (searchMatches c)) ]
+
+-- how many candidates and matches; a refusal gives counts 0, but 24 both true counts
+unfoldable pub searchCounts : SearchCall → SearchBuffers → ℕ × ℕ
+searchCounts c b = elim (looked (searchRefusal c b)) [ true ↦ (searchCandidates c, length (searchMatches c)) | false ↦ (0, 0) ]
 
 -- candidates stand first in their buffer as joined runs, scratch is all 0, the list has the matches, or the first of them if it cannot hold all
 unfoldable pub lookedAfter : SearchCall → SearchBuffers → SearchBuffers

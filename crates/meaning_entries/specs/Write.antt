@@ -19,6 +19,10 @@ writeRefusal x text = firstRefusal (writeTable x text)
 unfoldable pub writeAnswer : Index → List ℕ → Written
 writeAnswer x text = elim (writeRefusal x text) [ some r ↦ Written.Refused (r .0) (r .1) | none ↦ Written.Text (length (indexText x)) ]
 
+-- how many bytes were written; a refusal gives count 0
+unfoldable pub writeCount : Index → List ℕ → ℕ
+writeCount x text = elim (writeRefusal x text) [ some r ↦ 0 | none ↦ length (indexText x) ]
+
 -- the text buffer afterwards
 unfoldable pub writeAfter : Index → List ℕ → List ℕ
 writeAfter x text = elim (writeRefusal x text) [ some r ↦ text | none ↦ filled 0 (indexText x) text ]

@@ -18,20 +18,20 @@ use Rattle.meaning_filter.specs.Envelope.{lower, upper}
 abbrev pub partCount : ℕ → ℕ → ℕ
 partCount m w = m / w
 
--- Q- of the part of w places from p on: the sum of the lower envelope, which at b = 0 is the sum of the part itself
-unfoldable pub lowerSum : (ℕ → ℤ) → (m b p w : ℕ) → ℤ
-lowerSum q m b p w = Σℤ w (λ k. lower q m b (p + k))
+-- Q- of the part of w places from `from` on: the sum of the lower envelope, which at b = 0 is the sum of the part itself
+unfoldable pub lowerSum : (ℕ → ℤ) → (m b from w : ℕ) → ℤ
+lowerSum q m b from w = Σℤ w (λ k. lower q m b (from + k))
 
 -- Q+: the sum of the upper envelope
-unfoldable pub upperSum : (ℕ → ℤ) → (m b p w : ℕ) → ℤ
-upperSum q m b p w = Σℤ w (λ k. upper q m b (p + k))
+unfoldable pub upperSum : (ℕ → ℤ) → (m b from w : ℕ) → ℤ
+upperSum q m b from w = Σℤ w (λ k. upper q m b (from + k))
 
 -- Raw range: Q- - r to Q+ + r, where r = root(w × E)
-unfoldable pub rawLow : (ℕ → ℤ) → (m b E p w : ℕ) → ℤ
-rawLow q m b E p w = lowerSum q m b p w -ℤ pos (root (w * E))
+unfoldable pub rawLow : (ℕ → ℤ) → (m b E from w : ℕ) → ℤ
+rawLow q m b E from w = lowerSum q m b from w -ℤ pos (root (w * E))
 
-unfoldable pub rawHigh : (ℕ → ℤ) → (m b E p w : ℕ) → ℤ
-rawHigh q m b E p w = upperSum q m b p w +ℤ pos (root (w * E))
+unfoldable pub rawHigh : (ℕ → ℤ) → (m b E from w : ℕ) → ℤ
+rawHigh q m b E from w = upperSum q m b from w +ℤ pos (root (w * E))
 
 -- u = root(100 × A(q) / a²)
 abbrev pub lowScale : ℕ → ℕ → ℕ
@@ -42,24 +42,24 @@ abbrev pub highScale : ℕ → ℕ → ℕ
 highScale A a = root (a * a * A / 100) + 1
 
 -- X = Q- - r - w, over the query's normalised values
-abbrev pub lowNormal : (ℕ → ℤ) → (m b E p w : ℕ) → ℤ
-lowNormal q m b E p w = rawLow (normalised q m) m b E p w -ℤ pos w
+abbrev pub lowNormal : (ℕ → ℤ) → (m b E from w : ℕ) → ℤ
+lowNormal q m b E from w = rawLow (normalised q m) m b E from w -ℤ pos w
 
 -- Y = Q+ + r + w
-abbrev pub highNormal : (ℕ → ℤ) → (m b E p w : ℕ) → ℤ
-highNormal q m b E p w = rawHigh (normalised q m) m b E p w +ℤ pos w
+abbrev pub highNormal : (ℕ → ℤ) → (m b E from w : ℕ) → ℤ
+highNormal q m b E from w = rawHigh (normalised q m) m b E from w +ℤ pos w
 
 -- from (min(X×u, X×v) + 100×w×(T(q) - m×h)) / (100×m), rounded up
-unfoldable pub normalLow : (ℕ → ℤ) → (m b E a h p w : ℕ) → ℤ
-normalLow q m b E a h p w =
-    let X = lowNormal q m b E p w in
+unfoldable pub normalLow : (ℕ → ℤ) → (m b E a h from w : ℕ) → ℤ
+normalLow q m b E a h from w =
+    let X = lowNormal q m b E from w in
     let A = spread q m in
     ceilℤ (minℤ (X *ℤ pos (lowScale A a)) (X *ℤ pos (highScale A a)) +ℤ pos (100 * w) *ℤ (total q m -ℤ pos (m * h))) (100 * m)
 
 -- to (max(Y×u, Y×v) + 100×w×(T(q) + m×h)) / (100×m), rounded down
-unfoldable pub normalHigh : (ℕ → ℤ) → (m b E a h p w : ℕ) → ℤ
-normalHigh q m b E a h p w =
-    let Y = highNormal q m b E p w in
+unfoldable pub normalHigh : (ℕ → ℤ) → (m b E a h from w : ℕ) → ℤ
+normalHigh q m b E a h from w =
+    let Y = highNormal q m b E from w in
     let A = spread q m in
     floorℤ (maxℤ (Y *ℤ pos (lowScale A a)) (Y *ℤ pos (highScale A a)) +ℤ pos (100 * w) *ℤ (total q m +ℤ pos (m * h))) (100 * m)
 

@@ -1,7 +1,7 @@
 -- Members of lists. Where some entry passes there is one in the list that does (`any-found`), and back (`any-mem`); every entry is so (`All`); the members of a mapped list and of the numbers from k on. Assumes nothing.
 use mathlib.Core.Path.{_≡_, refl, sym, ap, _∙_, subst}
 use mathlib.Core.Logic.{⊎-elim}
-use mathlib.Core.Bool.{Bool, true, false, _||_, false≢true}
+use mathlib.Core.Bool.{Bool, true, false, _&&_, _||_, false≢true}
 use mathlib.Core.List.{List, [], _∷_, map, List·Memᴰ as Mem, List·Memᴰ·head as here, List·Memᴰ·tail as there, List·Memᴰ·not-nil as not-nil, List·Memᴰ·cases-cons as cases}
 use mathlib.Core.Option.{none, some}
 use Prim.Native.Nat.{ℕ, zero, suc, _+_, _<_, _≤_}
@@ -11,6 +11,11 @@ use lib.Dec.{T}
 use lib.ListN.{length, getD}
 use Rattle.meaning_numbers.specs.Place.{placeFrom, any, numbersFrom}
 use Rattle.meaning_numbers.proofs.Tests.{by-test, clash}
+
+-- every entry passes the test
+unfoldable pub every : {A : Type 0} → (A → Bool) → List A → Bool
+every p [] = true
+every p (x ∷ l) = p x && every p l
 
 module _ {A : Type 0} where
   pub record Found (p : A → Bool) (l : List A) : Type 0 where

@@ -1,5 +1,5 @@
 -- Lists and the places in them, counted from 0. Assumes nothing.
-use mathlib.Core.Bool.{Bool, true, false, cond, _&&_, _||_}
+use mathlib.Core.Bool.{Bool, false, cond, _||_}
 use mathlib.Core.List.{List, [], _∷_}
 use mathlib.Core.Option.{Option, none, some}
 use Prim.Native.Nat.{ℕ, zero, suc}
@@ -12,11 +12,6 @@ placeFrom k p (x ∷ l) = cond (p x) (some k) (placeFrom (suc k) p l)
 -- the place of the first entry that passes the test
 abbrev pub firstPlace : {A : Type 0} → (A → Bool) → List A → Option ℕ
 firstPlace p l = placeFrom 0 p l
-
--- every entry passes the test
-unfoldable pub every : {A : Type 0} → (A → Bool) → List A → Bool
-every p [] = true
-every p (x ∷ l) = p x && every p l
 
 -- some entry passes the test
 unfoldable pub any : {A : Type 0} → (A → Bool) → List A → Bool

@@ -34,6 +34,7 @@ wrongFrom x sum k (r ∷ l) = wrongIn sum k r (offsets (runsOf x r)) (wrongFrom 
 abbrev pub sums : Index → List ℤ → ℕ → ℤ
 sums x s = windowSum s (natAbs (x .window))
 
+-- 01, Rows: the first row and offset filed wrongly
 unfoldable pub firstWrong : Index → List ℤ → Option (ℕ × ℕ)
 firstWrong x s = wrongFrom x (sums x s) 0 (x .rows)
 

@@ -48,6 +48,7 @@ unfoldable pub upward : ℕ → ℕ → SetRow → List SetRow → List SetRow
 upward g n r [] = r ∷ []
 upward g n r (s ∷ rest) = elim (takes g n r s) [ true ↦ upward g n (join r s) rest | false ↦ r ∷ upward g n s rest ]
 
+-- the rows merged, beginning with the lowest as the current row
 unfoldable pub merged : ℕ → ℕ → List SetRow → List SetRow
 merged g n [] = []
 merged g n (r ∷ rest) = upward g n r rest

@@ -41,6 +41,7 @@ unfoldable pub insertRow : SetRow → List SetRow → List SetRow
 insertRow r [] = r ∷ []
 insertRow r (x ∷ l) = cond (ltZ (r .low) (x .low)) (r ∷ x ∷ l) (x ∷ insertRow r l)
 
+-- each of some rows put among others
 unfoldable pub insertRows : List SetRow → List SetRow → List SetRow
 insertRows [] l = l
 insertRows (r ∷ rest) l = insertRow r (insertRows rest l)

@@ -13,6 +13,7 @@ use Rattle.meaning_rows.specs.declared.Head.{Head}
 abbrev pub Entry : Type 0
 Entry = ℤ × ℤ
 
+-- window length w, row width d, number of windows, row records, run entries
 pub record Index : Type 0 where
   pub window : ℤ
   pub width : ℤ
@@ -66,6 +67,7 @@ unfoldable pub allRuns : List RangeRow → List Entry
 allRuns [] = []
 allRuns (r ∷ l) = r .runs ++ allRuns l
 
+-- rows with their runs as an index, laid out in order
 abbrev pub laidOut : ℤ → ℤ → ℤ → List RangeRow → Index
 laidOut window width windows l = record {
   window = window;

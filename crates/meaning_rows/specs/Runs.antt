@@ -22,6 +22,7 @@ takeIn false b l n = l
 takeIn true false l n = l ++ ((n, n) ∷ [])
 takeIn true true l n = reach l n
 
+-- the runs of the offsets below n that are in the set (laws: `runs-hold`, `runs-apart`)
 unfoldable pub runs : (ℕ → Bool) → ℕ → List (ℕ × ℕ)
 runs p zero = []
 runs p (suc n) = takeIn (p n) (before p n) (runs p n) n

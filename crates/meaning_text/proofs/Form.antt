@@ -10,7 +10,8 @@ use native.Mathlib.Omega.{arith}
 use lib.Dec.{eqb}
 use lib.IntN.{ℤ, pos, negsuc}
 use borrow.Author.Tests.{eqb-true, eqb-false, eq-eqb, not-true}
-use Rattle.meaning_numbers.specs.Place.{every, numbersFrom}
+use Rattle.meaning_numbers.specs.Place.{numbersFrom}
+use Rattle.meaning_numbers.proofs.Member.{every}
 use Rattle.meaning_text.specs.Bytes.{bytes}
 use Rattle.meaning_text.specs.Number.{spellℤ, Read, got, bad, isDigit}
 use Rattle.meaning_text.specs.Form.{Form, number, oneOf, lead, trail, both, many, Value, spellOne, spellMany, spell, end, Spellable, readWord, thenRead, wordStarts, starts, readOne, read}

@@ -35,14 +35,17 @@ Value (many f) = List (Value f)
 
 -- ---- spelling
 
+-- the word that a test picks
 unfoldable pub spellOne : String → String → Bool → List ℕ
 spellOne v w true = bytes v
 spellOne v w false = bytes w
 
+-- values one after the other
 unfoldable pub spellMany : {A : Type 0} → (A → List ℕ) → List A → List ℕ
 spellMany one [] = []
 spellMany one (x ∷ l) = one x ++ spellMany one l
 
+-- a value of a form as bytes
 unfoldable pub spell : (f : Form) → Value f → List ℕ
 spell number z = spellℤ z
 spell (oneOf v w) t = spellOne v w t
@@ -106,6 +109,7 @@ readMany begins one (suc k) (b ∷ t) = elim (begins b) [
   | false ↦ got [] (b ∷ t)
 ]
 
+-- a value of the form off the front of a text (laws: `spelled-read`, `read-spelled-only`)
 unfoldable pub read : (f : Form) → List ℕ → Read (Value f)
 read number t = readℤ t
 read (oneOf v w) t = readOne v w t

@@ -10,6 +10,7 @@ unfoldable pub digits : ℕ → ℕ → List ℕ
 digits zero n = (48 + n) ∷ []
 digits (suc k) n = elim (ltb n 10) [ true ↦ (48 + n) ∷ [] | false ↦ digits k (n / 10) ++ ((48 + n % 10) ∷ []) ]
 
+-- a natural number in base ten
 unfoldable pub spellℕ : ℕ → List ℕ
 spellℕ n = digits n n
 

@@ -18,7 +18,7 @@ ended n (got a []) = fine a
 ended n (got a (b ∷ t)) = unfit (n - length (b ∷ t))
 ended n (bad t) = unfit (n - length t)
 
--- a text read as a whole
+-- a text read as a whole (laws: `reads-back`, `reads-only`, `first-bad`)
 unfoldable pub readText : (f : Form) → List ℕ → Verdict (Value f)
 readText f t = ended (length t) (read f t)
 

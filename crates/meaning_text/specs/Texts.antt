@@ -8,7 +8,7 @@ use Rattle.meaning_filter.specs.declared.Kind.{Kind}
 use Rattle.meaning_filter.specs.declared.Kind.the-variants.{Raw, Normal}
 use Rattle.meaning_text.specs.Form.{Form, Value, number, oneOf, lead, trail, both, many, spell}
 
--- `(2 4)` among other items
+-- a run, l then r, with the space before it: ` (0 0)`
 abbrev pub runForm : Form
 runForm = trail (both (lead " (" number) (lead " " number)) ")"
 
@@ -54,9 +54,11 @@ refusedForm = trail (both (lead "(refused " number) (lead " " number)) ")\n"
 
 -- ---- what the values stand for
 
+-- the row that a line gives
 abbrev pub rowSaid : Value rowForm → RangeRow
 rowSaid v = record { low = v .0; up = v .1 .0; runs = v .1 .1 }
 
+-- a row as a line says it
 abbrev pub sayRow : RangeRow → Value rowForm
 sayRow r = (r .low, (r .up, r .runs))
 
@@ -64,6 +66,7 @@ sayRow r = (r .low, (r .up, r .runs))
 unfoldable pub indexSaid : Value indexForm → Index
 indexSaid v = laidOut (v .0) (v .1 .0) (v .1 .1 .0) (map rowSaid (v .1 .1 .1))
 
+-- an index as a text says it
 unfoldable pub sayIndex : Index → Value indexForm
 sayIndex x = (x .window, (x .width, (x .windows, map sayRow (rangeRows x))))
 

@@ -1,0 +1,107 @@
+-- Demand 2 for code: an entry that gives the answer that is meant and leaves the buffers that are meant keeps its promise; number, place and counts follow from the answer. By cases on the refusal. Assumes nothing.
+use mathlib.Core.Path.{_≡_, refl, sym, ap, _∙_}
+use mathlib.Core.Bool.{Bool, true, false}
+use mathlib.Core.List.{List}
+use mathlib.Core.Option.{Option, none, some}
+use Prim.Native.Nat.{ℕ}
+use lib.Dec.{eqb}
+use Rattle.meaning_rows.specs.Index.{Index}
+use Rattle.meaning_entries.specs.declared.Built.{Built}
+use Rattle.meaning_entries.specs.declared.Extended.{Extended}
+use Rattle.meaning_entries.specs.declared.Audited.{Audited}
+use Rattle.meaning_entries.specs.declared.Written.{Written}
+use Rattle.meaning_entries.specs.declared.Loaded.{Loaded}
+use Rattle.meaning_entries.specs.declared.Found.{Found}
+use Rattle.meaning_entries.specs.Buffers.{IndexBuffers}
+use Rattle.meaning_entries.specs.Answers.{builtRefusal, builtCounts, extendedRefusal, extendedCounts, auditedRefusal, writtenRefusal, writtenCount, loadedRefusal, loadedCounts, foundRefusal, foundCounts}
+use Rattle.meaning_entries.specs.Build.{BuildCall, buildRefusal, buildAnswer, buildCounts, buildAfter}
+use Rattle.meaning_entries.specs.Extend.{ExtendCall, extendRefusal, extendAnswer, extendCounts, extendAfter}
+use Rattle.meaning_entries.specs.Audit.{AuditCall, auditAnswer}
+use Rattle.meaning_entries.specs.Write.{writeRefusal, writeAnswer, writeCount, writeAfter}
+use Rattle.meaning_entries.specs.Load.{loadRefusal, loadAnswer, loadCounts, loadAfter}
+use Rattle.meaning_entries.specs.Search.{SearchCall, SearchBuffers, searchRefusal, looked, searchRefused, searchAnswer, searchCounts, searchAfter}
+use Rattle.meaning_entries.specs.Demand2.{BuildKept, ExtendKept, AuditKept, WriteKept, LoadKept, SearchKept}
+use Rattle.meaning_entries.proofs.Demand1.{build-refuses, extend-refuses, audit-refuses, write-refuses, load-refuses, search-refuses}
+
+build-by : (c : BuildCall) (b : IndexBuffers) (o : Option (ℕ × ℕ)) → buildRefusal c b ≡ o → builtCounts (buildAnswer c b) ≡ buildCounts c b
+unfolding buildAnswer buildCounts
+build-by c b none h = rw (h, buildAnswer, buildCounts)
+build-by c b (some r) h = rw (h, buildAnswer, buildCounts)
+
+pub build-kept : (c : BuildCall) (b : IndexBuffers) (a : Built) (after : IndexBuffers) → a ≡ buildAnswer c b → after ≡ buildAfter c b → BuildKept c b a after
+build-kept c b a after h k = record {
+  answered = h;
+  refused = ap builtRefusal h ∙ build-refuses c b .same;
+  counted = ap builtCounts h ∙ build-by c b (buildRefusal c b) refl;
+  rows = ap (λ (x : IndexBuffers). x .rows) k;
+  left = ap (λ (x : IndexBuffers). x .left) k;
+  right = ap (λ (x : IndexBuffers). x .right) k;
+}
+
+extend-by : (c : ExtendCall) (b : IndexBuffers) (o : Option (ℕ × ℕ)) → extendRefusal c b ≡ o → extendedCounts (extendAnswer c b) ≡ extendCounts c b
+unfolding extendAnswer extendCounts
+extend-by c b none h = rw (h, extendAnswer, extendCounts)
+extend-by c b (some r) h = rw (h, extendAnswer, extendCounts)
+
+pub extend-kept : (c : ExtendCall) (b : IndexBuffers) (a : Extended) (after : IndexBuffers) → a ≡ extendAnswer c b → after ≡ extendAfter c b → ExtendKept c b a after
+extend-kept c b a after h k = record {
+  answered = h;
+  refused = ap extendedRefusal h ∙ extend-refuses c b .same;
+  counted = ap extendedCounts h ∙ extend-by c b (extendRefusal c b) refl;
+  rows = ap (λ (x : IndexBuffers). x .rows) k;
+  left = ap (λ (x : IndexBuffers). x .left) k;
+  right = ap (λ (x : IndexBuffers). x .right) k;
+}
+
+load-by : (t : List ℕ) (b : IndexBuffers) (o : Option (ℕ × ℕ)) → loadRefusal t b ≡ o → loadedCounts (loadAnswer t b) ≡ loadCounts t b
+unfolding loadAnswer loadCounts
+load-by t b none h = rw (h, loadAnswer, loadCounts)
+load-by t b (some r) h = rw (h, loadAnswer, loadCounts)
+
+pub load-kept : (t : List ℕ) (b : IndexBuffers) (a : Loaded) (after : IndexBuffers) → a ≡ loadAnswer t b → after ≡ loadAfter t b → LoadKept t b a after
+load-kept t b a after h k = record {
+  answered = h;
+  refused = ap loadedRefusal h ∙ load-refuses t b .same;
+  counted = ap loadedCounts h ∙ load-by t b (loadRefusal t b) refl;
+  rows = ap (λ (x : IndexBuffers). x .rows) k;
+  left = ap (λ (x : IndexBuffers). x .left) k;
+  right = ap (λ (x : IndexBuffers). x .right) k;
+}
+
+pub audit-kept : (c : AuditCall) (a : Audited) → a ≡ auditAnswer c → AuditKept c a
+audit-kept c a h = record { answered = h; refused = ap auditedRefusal h ∙ audit-refuses c .same }
+
+write-by : (x : Index) (t : List ℕ) (o : Option (ℕ × ℕ)) → writeRefusal x t ≡ o → writtenCount (writeAnswer x t) ≡ writeCount x t
+unfolding writeAnswer writeCount
+write-by x t none h = rw (h, writeAnswer, writeCount)
+write-by x t (some r) h = rw (h, writeAnswer, writeCount)
+
+pub write-kept : (x : Index) (t : List ℕ) (a : Written) (after : List ℕ) → a ≡ writeAnswer x t → after ≡ writeAfter x t → WriteKept x t a after
+write-kept x t a after h k = record {
+  answered = h;
+  refused = ap writtenRefusal h ∙ write-refuses x t .same;
+  counted = ap writtenCount h ∙ write-by x t (writeRefusal x t) refl;
+  text = k;
+}
+
+refused-counts : (c : SearchCall) (b : SearchBuffers) (r : ℕ × ℕ) (t : Bool) → searchRefusal c b ≡ some r → eqb (r .0) 24 ≡ t → foundCounts (searchRefused c r) ≡ searchCounts c b
+unfolding searchRefused searchCounts looked
+refused-counts c b r true e h = rw (e, h, searchRefused, searchCounts)
+refused-counts c b r false e h = rw (e, h, searchRefused, searchCounts)
+
+search-by : (c : SearchCall) (b : SearchBuffers) (o : Option (ℕ × ℕ)) → searchRefusal c b ≡ o → foundCounts (searchAnswer c b) ≡ searchCounts c b
+unfolding searchAnswer searchCounts looked
+search-by c b none h = rw (h, searchAnswer, searchCounts)
+search-by c b (some r) h = rw (h, searchAnswer) (refused-counts c b r (eqb (r .0) 24) h refl)
+
+pub search-kept : (c : SearchCall) (b : SearchBuffers) (a : Found) (after : SearchBuffers) → a ≡ searchAnswer c b → after ≡ searchAfter c b → SearchKept c b a after
+search-kept c b a after h k = record {
+  answered = h;
+  refused = ap foundRefusal h ∙ search-refuses c b .same;
+  counted = ap foundCounts h ∙ search-by c b (searchRefusal c b) refl;
+  left = ap (λ (x : SearchBuffers). x .left) k;
+  right = ap (λ (x : SearchBuffers). x .right) k;
+  scratch = ap (λ (x : SearchBuffers). x .scratch) k;
+  offsets = ap (λ (x : SearchBuffers). x .offsets) k;
+  distances = ap (λ (x : SearchBuffers). x .distances) k;
+}
