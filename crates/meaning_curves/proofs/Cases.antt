@@ -1,5 +1,5 @@
 -- Small cases of the definitions, in one table that one proof covers. Assumes nothing.
-use mathlib.Core.Bool.{Bool, true, false, not, _&&_}
+use mathlib.Core.Bool.{Bool, false, not, _&&_}
 use mathlib.Core.List.{List, [], _∷_, map}
 use mathlib.Core.Option.{Option, none, some}
 use Prim.Native.Nat.{ℕ}
@@ -9,7 +9,7 @@ use lib.ListN.{length}
 use Rattle.meaning_numbers.proofs.Table.{holds, sameℤ, sameList}
 use Rattle.meaning_numbers.specs.Place.{numbersFrom}
 use Rattle.meaning_curves.specs.Limits.{lengthIn, valueIn, windowIn, widthIn, mergeIn, queryLengthIn, bandIn, thresholdIn, scaleIn, shiftIn, windowsIn, endIn, firstOutside}
-use Rattle.meaning_curves.specs.Curve.{at, stretch, windowSum, spread}
+use Rattle.meaning_curves.specs.Curve.{at, windowSum, spread}
 use Rattle.meaning_curves.specs.Normal.{normalised}
 use Rattle.meaning_curves.specs.Match.{distance, rawMatch, normalMatch}
 use Rattle.meaning_curves.proofs.Open.{openCurves}

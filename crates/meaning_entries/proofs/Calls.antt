@@ -22,8 +22,8 @@ use Rattle.meaning_entries.specs.declared.Loaded.{Loaded}
 use Rattle.meaning_entries.specs.declared.Found.{Found}
 use Rattle.meaning_entries.specs.Buffers.{IndexBuffers}
 use Rattle.meaning_entries.specs.Build.{BuildCall, buildAnswer, buildAfter}
-use Rattle.meaning_entries.specs.Extend.{ExtendCall, extendAnswer, extendAfter}
-use Rattle.meaning_entries.specs.Audit.{AuditCall, auditAnswer}
+use Rattle.meaning_entries.specs.Extend.{extendAnswer, extendAfter}
+use Rattle.meaning_entries.specs.Audit.{auditAnswer}
 use Rattle.meaning_entries.specs.Write.{writeAnswer, writeAfter}
 use Rattle.meaning_entries.specs.Load.{loadAnswer, loadAfter}
 use Rattle.meaning_entries.specs.Search.{SearchCall, SearchBuffers, searchAnswer, searchAfter}

@@ -4,7 +4,6 @@ use mathlib.Core.List.{List, [], _∷_, _++_, map}
 use Prim.Native.Nat.{ℕ}
 use lib.Dec.{T, eqb}
 use lib.IntN.{ℤ, pos, negsuc}
-use lib.ListN.{length}
 use Rattle.meaning_numbers.specs.Root.{root}
 use Rattle.meaning_numbers.specs.Place.{numbersFrom}
 use Rattle.meaning_numbers.proofs.Table.{holds, sameℤ, sameList}

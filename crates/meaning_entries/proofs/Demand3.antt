@@ -1,13 +1,12 @@
 -- Demand 3, proved as specs/Demand3.antt states it. Each of the two searches has listed the matches that it means (`listed-is`), its index lets the filter reach every window (`passes-reached`),
 -- so what it means is all matches (`all-found`), which do not depend on the index. Assumes nothing.
 use mathlib.Core.Path.{_≡_, sym, ap, subst, _∙_}
-use mathlib.Core.Bool.{Bool, not, _||_}
+use mathlib.Core.Bool.{not, _||_}
 use mathlib.Core.List.{List}
 use mathlib.Core.Option.{none}
 use Prim.Native.Nat.{ℕ, _<_}
-use native.Mathlib.Omega.{arith}
-use lib.Dec.{T, ltb}
-use lib.IntN.{ℤ, pos, natAbs}
+use lib.Dec.{ltb}
+use lib.IntN.{pos, natAbs}
 use lib.ListN.{length}
 use Rattle.meaning_numbers.proofs.Rep.{zarith}
 use Rattle.meaning_numbers.proofs.Machine.{z-abs}
@@ -17,7 +16,7 @@ use Rattle.meaning_curves.specs.Limits.{queryLengthIn, scaleIn, shiftIn}
 use Rattle.meaning_filter.specs.Matches.{allMatches, Exactly}
 use Rattle.meaning_filter.proofs.Matches.{all-found, all-exactly}
 use Rattle.meaning_entries.specs.Refusal.{firstRefusal, queryLengthOutside, scaleOrShiftOutside}
-use Rattle.meaning_entries.specs.Search.{SearchCall, SearchBuffers, question, searchMatches, searchTable}
+use Rattle.meaning_entries.specs.Search.{SearchCall, SearchBuffers, question, searchTable}
 use Rattle.meaning_entries.specs.Demand3.{Searched, through, Demand3}
 use Rattle.meaning_entries.proofs.Refusal.{is-passed, passed-at, not-if}
 use Rattle.meaning_entries.proofs.Listed.{answered, listed-is}

@@ -1,17 +1,15 @@
 -- What a search that kept its promise and was not refused has listed: the matches that it means, all of them (`listed-is`). The list's buffer begins with them, as many as the answer says. Assumes nothing.
-use mathlib.Core.Path.{_≡_, refl, sym, ap, _∙_}
-use mathlib.Core.Bool.{Bool, true, false, not, cond, _||_}
+use mathlib.Core.Path.{_≡_, refl, ap}
+use mathlib.Core.Bool.{Bool, true, false}
 use mathlib.Core.List.{List, [], _∷_, _++_, map}
 use mathlib.Core.Option.{Option, none, some}
-use Prim.Native.Nat.{ℕ, zero, suc, _≤_, _<_}
+use Prim.Native.Nat.{ℕ, _≤_}
 use native.Mathlib.Omega.{arith}
-use lib.Dec.{T, eqb, ltb, nltb→le}
-use lib.IntN.{ℤ, pos, natAbs}
+use lib.Dec.{eqb, ltb, nltb→le}
 use lib.ListN.{length, take}
 use lib.Seq.{take-all}
-use Rattle.meaning_numbers.proofs.Tests.{two-tests, not-not}
 use Rattle.meaning_entries.specs.declared.Found.{Found}
-use Rattle.meaning_entries.specs.Refusal.{Condition, firstRefusal, listShort}
+use Rattle.meaning_entries.specs.Refusal.{firstRefusal, listShort}
 use Rattle.meaning_entries.specs.Buffers.{filled}
 use Rattle.meaning_entries.specs.Search.{SearchCall, SearchBuffers, listRoom, searchMatches, searchCandidates, searchTable, looked, searchRefused, searchAnswer, lookedAfter, searchAfter}
 use Rattle.meaning_entries.specs.Demand2.{SearchKept}

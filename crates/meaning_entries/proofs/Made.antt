@@ -1,31 +1,28 @@
 -- What a build that is not refused makes passes against its series (`build-passes`); so does what an extension makes of an index that passes against the part of the series that it has windows for (`extend-passes`). Each has at most as many rows and runs as windows. Assumes nothing.
-use mathlib.Core.Path.{_≡_, refl, sym, subst}
+use mathlib.Core.Path.{_≡_, subst}
 use mathlib.Core.Bool.{Bool, true, not, _||_}
-use mathlib.Core.List.{List}
 use mathlib.Core.Option.{none}
 use Prim.Native.Nat.{ℕ, _+_, _-_, _≤_}
 use native.Mathlib.Omega.{arith}
 use lib.Dec.{T}
-use lib.IntN.{ℤ, pos, natAbs, _+ℤ_, _-ℤ_}
+use lib.IntN.{ℤ, pos, natAbs, _-ℤ_}
 use lib.ListN.{length, take}
 use lib.Signed.{_≤ℤ_, ltZ, ltZ-no}
 use Rattle.meaning_numbers.proofs.Rep.{zarith, z-add, z-sub}
 use Rattle.meaning_numbers.proofs.Tests.{is-true, not-not, neither}
 use Rattle.meaning_numbers.proofs.Between.{within-yes}
-use Rattle.meaning_curves.specs.Limits.{mostValues, lengthIn, windowIn, widthIn, firstOutside}
-use Rattle.meaning_curves.specs.Curve.{windowCount}
-use Rattle.meaning_rows.specs.Index.{Index}
+use Rattle.meaning_curves.specs.Limits.{mostValues, lengthIn, windowIn, widthIn}
 use Rattle.meaning_rows.specs.Build.{built}
 use Rattle.meaning_rows.specs.Extend.{extended}
-use Rattle.meaning_rows.proofs.Judge.{Between, between, WellFormed, well-formed}
+use Rattle.meaning_rows.proofs.Judge.{between, WellFormed, well-formed}
 use Rattle.meaning_rows.proofs.BuiltPasses.{Buildable, built-well-formed, built-filed, built-most}
 use Rattle.meaning_rows.proofs.Extend.{Extendable, extended-well-formed, extended-filed, extended-most}
-use Rattle.meaning_entries.specs.Refusal.{atZero, firstRefusal, lengthOutside, valueOutside, windowOutside, widthOutside, illFormed, windowsOf, moreWindows}
+use Rattle.meaning_entries.specs.Refusal.{atZero, lengthOutside, valueOutside, windowOutside, widthOutside, illFormed, windowsOf, moreWindows}
 use Rattle.meaning_entries.specs.Buffers.{IndexBuffers}
 use Rattle.meaning_entries.specs.Audit.{Passes}
 use Rattle.meaning_entries.specs.Build.{BuildCall, buildTable, buildRefusal, buildIndex, buildWindows}
 use Rattle.meaning_entries.specs.Extend.{ExtendCall, extendTable, extendRefusal, extendIndex, extendWindows}
-use Rattle.meaning_entries.proofs.Refusal.{Passed, is-passed, passed-at, not-if}
+use Rattle.meaning_entries.proofs.Refusal.{is-passed, passed-at, not-if}
 use Rattle.meaning_entries.proofs.Passes.{passed, passes}
 
 -- a test that does not refuse where its failing would

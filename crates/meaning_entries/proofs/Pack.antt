@@ -1,7 +1,7 @@
 -- The number of the C entry tells the answer again: `unpack` is inverse to `pack` for every answer that can occur. Quotients and remainders by numerals, one `omega` each. Assumes nothing.
 use mathlib.Core.Path.{_≡_, refl, sym, ap, ap₂, _∙_, subst}
 use mathlib.Core.Bool.{Bool, true, false}
-use Prim.Native.Nat.{ℕ, zero, suc, _+_, _*_, _/_, _%_, _<_}
+use Prim.Native.Nat.{ℕ, _+_, _*_, _/_, _%_, _<_}
 use native.Mathlib.Omega.{arith}
 use lib.Dec.{T, eqb, eqb→eq}
 use Rattle.meaning_curves.specs.Limits.{mostValues}

@@ -1,12 +1,12 @@
 -- What it says that an index passes against a series (`passed`): it is well formed, it has n - w + 1 windows, and each stands in the row that holds its sum and in no other; and back (`passes`). So every window can be reached by the filter (`passes-reached`), and on a yes the run lengths total the windows (`passes-total`). Assumes nothing.
-use mathlib.Core.Path.{_≡_, refl, sym, _∙_}
+use mathlib.Core.Path.{_≡_, refl}
 use mathlib.Core.Bool.{Bool, true, false, not}
-use mathlib.Core.List.{List, [], _∷_}
+use mathlib.Core.List.{List}
 use mathlib.Core.Option.{Option, none, some}
 use Prim.Native.Nat.{ℕ, zero, suc, _+_}
 use native.Mathlib.Omega.{arith}
 use lib.Dec.{T}
-use lib.IntN.{ℤ, pos, natAbs, _+ℤ_, _-ℤ_}
+use lib.IntN.{ℤ, pos, natAbs, _-ℤ_}
 use lib.ListN.{length}
 use lib.Signed.{_≤ℤ_, ltZ, ltZ-no}
 use Rattle.meaning_numbers.proofs.Rep.{zarith, z-add, z-sub}
@@ -14,7 +14,6 @@ use Rattle.meaning_numbers.proofs.Machine.{le-ltZ}
 use Rattle.meaning_numbers.proofs.Tests.{yes-not-not}
 use Rattle.meaning_curves.specs.Limits.{mostValues, lengthIn, firstOutside}
 use Rattle.meaning_rows.specs.Index.{Index}
-use Rattle.meaning_rows.specs.Judge.{firstBadRow}
 use Rattle.meaning_rows.specs.Audit.{firstWrong, missing}
 use Rattle.meaning_rows.proofs.Judge.{WellFormed, well-formed, none-bad, lengthTotal}
 use Rattle.meaning_rows.proofs.Audit.{Filed, audit-yes, filed-passes, yes-total}

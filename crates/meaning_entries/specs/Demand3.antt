@@ -3,10 +3,8 @@
 use mathlib.Core.Path.{_≡_}
 use mathlib.Core.List.{List, [], _∷_}
 use Prim.Native.Nat.{ℕ}
-use lib.IntN.{ℤ}
 use lib.ListN.{length, take}
 use Rattle.meaning_rows.specs.Index.{Index}
-use Rattle.meaning_filter.specs.declared.Kind.{Kind}
 use Rattle.meaning_filter.specs.Matches.{allMatches, Exactly}
 use Rattle.meaning_entries.specs.declared.Found.{Found}
 use Rattle.meaning_entries.specs.Audit.{Passes}

@@ -5,7 +5,7 @@ use Prim.Native.Nat.{ℕ}
 use lib.IntN.{pos}
 use lib.ListN.{length}
 use Rattle.meaning_rows.specs.Index.{Index}
-use Rattle.meaning_text.specs.Read.{Verdict, fine, unfit, readText}
+use Rattle.meaning_text.specs.Read.{fine, unfit, readText}
 use Rattle.meaning_text.specs.Texts.{indexForm, indexSaid}
 use Rattle.meaning_entries.specs.declared.Loaded.{Loaded}
 use Rattle.meaning_entries.specs.Refusal.{Condition, firstRefusal, unreadable, illFormed, bufferShort}

@@ -1,7 +1,6 @@
 -- The search program, from the bytes it reads to the bytes it prints. Build and search are judged together as one call, before anything is printed. Assumes nothing.
-use mathlib.Core.Bool.{Bool, true, false}
 use mathlib.Core.List.{List, [], _∷_, _++_}
-use mathlib.Core.Option.{Option, none, some}
+use mathlib.Core.Option.{none, some}
 use Prim.Native.Nat.{ℕ}
 use lib.IntN.{ℤ, pos}
 use lib.ListN.{length}
@@ -10,10 +9,10 @@ use Rattle.meaning_rows.specs.Index.{Index}
 use Rattle.meaning_filter.specs.declared.Kind.{Kind}
 use Rattle.meaning_filter.specs.declared.Kind.the-variants.{Raw}
 use Rattle.meaning_text.specs.Form.{Value}
-use Rattle.meaning_text.specs.Read.{Verdict, fine, unfit, readText}
+use Rattle.meaning_text.specs.Read.{fine, unfit, readText}
 use Rattle.meaning_text.specs.Texts.{programForm, kindSaid, indexText, foundText, refusedText}
 use Rattle.meaning_entries.specs.Refusal.{Condition, firstRefusal, lengthOutside, valueOutside, windowOutside, widthOutside, mergeOutside, queryLengthOutside, queryBelowWindow, bandOutside, thresholdOutside, scaleOrShiftOutside, flatQuery, unreadable}
-use Rattle.meaning_entries.specs.Build.{BuildCall, buildIndex}
+use Rattle.meaning_entries.specs.Build.{buildIndex}
 use Rattle.meaning_entries.specs.Search.{SearchCall, searchCandidates, searchMatches}
 
 -- what the five lines say

@@ -1,6 +1,6 @@
 -- The conditions under which a call is refused (01, 'Refused for the input', 'Refused for the state'), each with its number and the place that it gives.
 -- An entry's table is a list of them in order, and the call is refused by the first that applies. Assumes nothing.
-use mathlib.Core.Bool.{Bool, true, false, not, cond, _||_}
+use mathlib.Core.Bool.{Bool, false, not, cond, _||_}
 use mathlib.Core.List.{List, [], _∷_}
 use mathlib.Core.Option.{Option, none, some}
 use Prim.Native.Nat.{ℕ, _+_}
@@ -16,7 +16,7 @@ use Rattle.meaning_rows.specs.Judge.{firstBadRow}
 use Rattle.meaning_filter.specs.declared.Kind.{Kind}
 use Rattle.meaning_filter.specs.declared.Kind.the-variants.{Raw, Normal}
 use Rattle.meaning_text.specs.Form.{Form}
-use Rattle.meaning_text.specs.Read.{Verdict, fine, unfit, readText, lineOf}
+use Rattle.meaning_text.specs.Read.{fine, unfit, readText, lineOf}
 
 -- a line of a table: its number, and the first place at which it applies, if it does
 pub record Condition : Type 0 where

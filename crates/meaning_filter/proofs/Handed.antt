@@ -1,11 +1,10 @@
 -- The candidates are handed out as joined runs: ascending, not touching, below n - m + 1 (`runs-apart`); an offset stands in one of them exactly if it is a candidate (`runs-hold`); and their lengths add up to the number of candidates (`runs-count`). These are the laws of runs at the candidates. Assumes nothing.
 use mathlib.Core.Path.{_≡_, _∙_}
-use mathlib.Core.Bool.{Bool, _&&_}
+use mathlib.Core.Bool.{_&&_}
 use mathlib.Core.List.{map}
 use Prim.Native.Nat.{ℕ}
 use borrow.Author.Tests.{lt-ltb}
 use lib.Dec.{ltb}
-use Rattle.meaning_numbers.specs.Sum.{count}
 use Rattle.meaning_numbers.proofs.Count.{count-cong}
 use Rattle.meaning_rows.specs.Index.{Index}
 use Rattle.meaning_rows.specs.Judge.{runLengths}

@@ -1,7 +1,7 @@
 -- Candidates: the offsets that the index does not rule out (01, Candidates). Assumes nothing.
-use mathlib.Core.Bool.{Bool, true, false, _&&_}
+use mathlib.Core.Bool.{Bool, true, _&&_}
 use mathlib.Core.List.{List, [], _∷_}
-use Prim.Native.Nat.{ℕ, zero, suc, _+_}
+use Prim.Native.Nat.{ℕ, _+_}
 use lib.IntN.{ℤ, natAbs}
 use lib.Signed.{leZ, ltZ}
 use Rattle.meaning_numbers.specs.Place.{any}

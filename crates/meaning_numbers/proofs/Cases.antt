@@ -2,7 +2,7 @@
 use mathlib.Core.Bool.{Bool, not}
 use mathlib.Core.List.{List, [], _∷_}
 use lib.Dec.{T, eqb}
-use lib.IntN.{ℤ, pos, negsuc}
+use lib.IntN.{pos, negsuc}
 use Rattle.meaning_numbers.proofs.Table.{holds, sameℤ}
 use Rattle.meaning_numbers.specs.Root.{root}
 use Rattle.meaning_numbers.specs.Quotient.{floorℤ, ceilℤ, multiple}

@@ -1,8 +1,8 @@
 -- The audit of a well-formed index against a series with as many windows (01, Rows). Assumes nothing.
-use mathlib.Core.Bool.{Bool, true, false, not, cond}
-use mathlib.Core.List.{List, [], _∷_, _++_, map}
+use mathlib.Core.Bool.{Bool, not, cond}
+use mathlib.Core.List.{List, [], _∷_, _++_}
 use mathlib.Core.Option.{Option, none, some}
-use Prim.Native.Nat.{ℕ, zero, suc, _+_, _-_}
+use Prim.Native.Nat.{ℕ, suc, _+_, _-_}
 use lib.IntN.{ℤ, natAbs}
 use Rattle.meaning_numbers.specs.Sum.{count}
 use Rattle.meaning_numbers.specs.Place.{any, numbersFrom}

@@ -1,8 +1,8 @@
 -- The index: head, row records and run entries, as they are lent or as a text spells them. A text may have any whole numbers, so the head and the run entries are whole numbers here. Assumes nothing.
 use mathlib.Core.Bool.{Bool, _&&_}
 use mathlib.Core.List.{List, [], _∷_, _++_, map}
-use Prim.Native.Nat.{ℕ, zero, suc, _+_}
-use lib.IntN.{ℤ, pos, natAbs}
+use Prim.Native.Nat.{ℕ, _+_}
+use lib.IntN.{ℤ, pos}
 use lib.ListN.{length, take, drop}
 use lib.Signed.{leZ}
 use Rattle.meaning_numbers.specs.Place.{any}

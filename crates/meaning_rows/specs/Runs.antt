@@ -1,8 +1,7 @@
 -- Runs of a set of offsets below n, the set given as a test: pairs (l, r), ascending, joined where they touch (01, Rows). Assumes nothing.
-use mathlib.Core.Bool.{Bool, true, false, _&&_, _||_}
+use mathlib.Core.Bool.{Bool, true, false}
 use mathlib.Core.List.{List, [], _∷_, _++_}
 use Prim.Native.Nat.{ℕ, zero, suc}
-use lib.Dec.{leb}
 use lib.ListN.{length}
 
 -- the test at the offset before n, where there is one

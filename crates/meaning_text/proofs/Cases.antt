@@ -1,5 +1,5 @@
 -- Small cases of the definitions, in one table that one proof covers. Assumes nothing.
-use mathlib.Core.Bool.{Bool, true, false, not}
+use mathlib.Core.Bool.{Bool, false}
 use mathlib.Core.List.{List, [], _∷_}
 use Prim.Native.Nat.{ℕ}
 use Prim.Native.String.{String}
@@ -7,7 +7,7 @@ use lib.Dec.{T, eqb}
 use Rattle.meaning_numbers.proofs.Table.{holds, sameList}
 use Rattle.meaning_text.specs.Bytes.{bytes}
 use Rattle.meaning_text.specs.Form.{Form, spell}
-use Rattle.meaning_text.specs.Read.{Verdict, fine, unfit, readText, lineOf}
+use Rattle.meaning_text.specs.Read.{fine, unfit, readText, lineOf}
 use Rattle.meaning_text.specs.Texts.{indexForm, seriesForm, programForm}
 use Rattle.meaning_text.proofs.Open.{openText}
 

@@ -1,9 +1,9 @@
 -- The texts of document 01: the index text, the series line, the search program's input and its two outputs, the refusal. Assumes nothing.
 use mathlib.Core.Bool.{Bool, true, false}
-use mathlib.Core.List.{List, [], _∷_, map}
+use mathlib.Core.List.{List, map}
 use Prim.Native.Nat.{ℕ}
-use lib.IntN.{ℤ, pos}
-use Rattle.meaning_rows.specs.Index.{Index, Entry, RangeRow, laidOut, rangeRows}
+use lib.IntN.{pos}
+use Rattle.meaning_rows.specs.Index.{Index, RangeRow, laidOut, rangeRows}
 use Rattle.meaning_filter.specs.declared.Kind.{Kind}
 use Rattle.meaning_filter.specs.declared.Kind.the-variants.{Raw, Normal}
 use Rattle.meaning_text.specs.Form.{Form, Value, number, oneOf, lead, trail, both, many, spell}
