@@ -1,5 +1,5 @@
 -- Demand 1 of the meanings: each entry's answer refuses by the first line of its table that applies, and by no other. By cases on that line; of a search, the one line with the number 24 has the place 0. Assumes nothing.
-use mathlib.Core.Path.{_≡_, refl, sym, subst}
+use mathlib.Core.Path.{_≡_, refl, sym, ap, _∙_, subst}
 use mathlib.Core.Bool.{Bool, true, false, not, cond, _&&_}
 use mathlib.Core.List.{List, [], _∷_}
 use mathlib.Core.Option.{Option, none, some}
@@ -21,10 +21,11 @@ use Rattle.meaning_entries.specs.Audit.{AuditCall, auditTable, complete,
 use Rattle.meaning_entries.specs.Write.{writeTable, writeAnswer}
 use Rattle.meaning_entries.specs.Load.{loadTable, loadAnswer}
 use Rattle.meaning_entries.specs.Search.{SearchCall, SearchBuffers, listRoom, searchMatches, searchTable, searchRefused, searchAnswer}
-use Rattle.meaning_entries.specs.AuditText.{auditTextTable, textCall, auditTextAnswer}
+use Rattle.meaning_entries.specs.AuditText.{auditTextTable, textCall, auditTextAnswer, auditText}
 use Rattle.meaning_entries.specs.Program.{programTable, program}
-use Rattle.meaning_entries.specs.Demand1.{Refuses, BuildRefuses, ExtendRefuses, AuditRefuses, WriteRefuses, LoadRefuses, SearchRefuses, ProgramRefuses}
+use Rattle.meaning_entries.specs.Demand1.{BuildRefuses, ExtendRefuses, AuditRefuses, WriteRefuses, LoadRefuses, SearchRefuses, AuditTextRefuses, ProgramRefuses}
 use Rattle.meaning_entries.proofs.Refusal.{First, here, later, is-first}
+use Rattle.meaning_entries.proofs.Pack.{audit-text-back}
 
 build-by : (c : BuildCall) (b : IndexBuffers) (o : Option (ℕ × ℕ)) → firstRefusal (buildTable c b) ≡ o → builtRefusal (buildAnswer c b) ≡ o
 unfolding buildAnswer
@@ -86,8 +87,8 @@ unfolding auditTextAnswer
 audit-text-by x s none e = rw (e, auditTextAnswer) (audited-said (textCall x s))
 audit-text-by x s (some r) e = rw (e, auditTextAnswer)
 
-pub audit-text-refuses : (x s : List ℕ) → Refuses (auditTextTable x s) (auditedRefusal (auditTextAnswer x s))
-audit-text-refuses x s = record { same = audit-text-by x s (firstRefusal (auditTextTable x s)) refl }
+pub audit-text-refuses : (x s : List ℕ) → AuditTextRefuses x s (auditText x s)
+audit-text-refuses x s = record { same = ap auditedRefusal (audit-text-back x s) ∙ audit-text-by x s (firstRefusal (auditTextTable x s)) refl }
 
 -- ---- a search: 24 has the place 0
 

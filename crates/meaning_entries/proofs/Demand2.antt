@@ -20,8 +20,9 @@ use Rattle.meaning_entries.specs.Audit.{AuditCall, auditAnswer}
 use Rattle.meaning_entries.specs.Write.{writeRefusal, writeAnswer, writeCount, writeAfter}
 use Rattle.meaning_entries.specs.Load.{loadRefusal, loadAnswer, loadCounts, loadAfter}
 use Rattle.meaning_entries.specs.Search.{SearchCall, SearchBuffers, searchRefusal, looked, searchRefused, searchAnswer, searchCounts, searchAfter}
-use Rattle.meaning_entries.specs.Demand2.{BuildKept, ExtendKept, AuditKept, WriteKept, LoadKept, SearchKept}
-use Rattle.meaning_entries.proofs.Demand1.{build-refuses, extend-refuses, audit-refuses, write-refuses, load-refuses, search-refuses}
+use Rattle.meaning_entries.specs.AuditText.{unpack, auditText}
+use Rattle.meaning_entries.specs.Demand2.{BuildKept, ExtendKept, AuditKept, WriteKept, LoadKept, SearchKept, AuditTextKept}
+use Rattle.meaning_entries.proofs.Demand1.{build-refuses, extend-refuses, audit-refuses, write-refuses, load-refuses, search-refuses, audit-text-refuses}
 
 build-by : (c : BuildCall) (b : IndexBuffers) (o : Option (ℕ × ℕ)) → buildRefusal c b ≡ o → builtCounts (buildAnswer c b) ≡ buildCounts c b
 unfolding buildAnswer buildCounts
@@ -70,6 +71,9 @@ load-kept t b a after h k = record {
 
 pub audit-kept : (c : AuditCall) (a : Audited) → a ≡ auditAnswer c → AuditKept c a
 audit-kept c a h = record { answered = h; refused = ap auditedRefusal h ∙ audit-refuses c .same }
+
+pub audit-text-kept : (x s : List ℕ) (a : ℕ) → a ≡ auditText x s → AuditTextKept x s a
+audit-text-kept x s a h = record { answered = h; refused = ap (λ (n : ℕ). auditedRefusal (unpack n)) h ∙ audit-text-refuses x s .same }
 
 write-by : (x : Index) (t : List ℕ) (o : Option (ℕ × ℕ)) → writeRefusal x t ≡ o → writtenCount (writeAnswer x t) ≡ writeCount x t
 unfolding writeAnswer writeCount

@@ -1,6 +1,8 @@
--- What a build that is not refused makes passes against its series (`build-passes`); so does what an extension makes of an index that passes against the part of the series that it has windows for (`extend-passes`). Each has at most as many rows and runs as windows. Assumes nothing.
+-- What a build that is not refused makes passes against its series (`build-passes`); so does what an extension makes of an index that passes against the part of the series that it has windows for (`extend-passes`). Each has at most as many rows and runs as windows.
+-- So what the search program lists is all matches (`program-all`). Assumes nothing.
 use mathlib.Core.Path.{_≡_, subst}
 use mathlib.Core.Bool.{Bool, true, not, _||_}
+use mathlib.Core.List.{List}
 use mathlib.Core.Option.{none}
 use Prim.Native.Nat.{ℕ, _+_, _-_, _≤_}
 use native.Mathlib.Omega.{arith}
@@ -11,19 +13,24 @@ use lib.Signed.{_≤ℤ_, ltZ, ltZ-no}
 use Rattle.meaning_numbers.proofs.Rep.{zarith, z-add, z-sub}
 use Rattle.meaning_numbers.proofs.Tests.{is-true, not-not, neither}
 use Rattle.meaning_numbers.proofs.Between.{within-yes}
-use Rattle.meaning_curves.specs.Limits.{mostValues, lengthIn, windowIn, widthIn}
+use Rattle.meaning_curves.specs.Limits.{mostValues, mostProgramValues, lengthIn, windowIn, widthIn, firstOutside}
 use Rattle.meaning_rows.specs.Build.{built}
 use Rattle.meaning_rows.specs.Extend.{extended}
 use Rattle.meaning_rows.proofs.Judge.{between, WellFormed, well-formed}
 use Rattle.meaning_rows.proofs.BuiltPasses.{Buildable, built-well-formed, built-filed, built-most}
 use Rattle.meaning_rows.proofs.Extend.{Extendable, extended-well-formed, extended-filed, extended-most}
-use Rattle.meaning_entries.specs.Refusal.{atZero, lengthOutside, valueOutside, windowOutside, widthOutside, illFormed, windowsOf, moreWindows}
+use Rattle.meaning_filter.specs.Matches.{allMatches}
+use Rattle.meaning_filter.proofs.Candidates.{filed-reached}
+use Rattle.meaning_filter.proofs.Matches.{all-found}
+use Rattle.meaning_entries.specs.Refusal.{atZero, firstRefusal, lengthOutside, valueOutside, windowOutside, widthOutside, queryLengthOutside, scaleOrShiftOutside, illFormed, windowsOf, moreWindows}
 use Rattle.meaning_entries.specs.Buffers.{IndexBuffers}
 use Rattle.meaning_entries.specs.Audit.{Passes}
 use Rattle.meaning_entries.specs.Build.{BuildCall, buildTable, buildRefusal, buildIndex, buildWindows}
+use Rattle.meaning_entries.specs.Search.{question, searchMatches}
+use Rattle.meaning_entries.specs.Program.{textProgram, programTable, programIndex, programSearch}
 use Rattle.meaning_entries.specs.Extend.{ExtendCall, extendTable, extendRefusal, extendIndex, extendWindows}
-use Rattle.meaning_entries.proofs.Refusal.{is-passed, passed-at, not-if}
-use Rattle.meaning_entries.proofs.Passes.{passed, passes}
+use Rattle.meaning_entries.proofs.Refusal.{is-passed, passed-at, not-if, query-some, scale-some}
+use Rattle.meaning_entries.proofs.Passes.{Passed, passed, passes}
 
 -- a test that does not refuse where its failing would
 holds : (n : ℕ) (t : Bool) → atZero n (not t) .place ≡ none → T t
@@ -31,41 +38,48 @@ holds n t e = not-not t (not-if n (not t) e)
 
 -- ---- a build
 
-buildable : (c : BuildCall) (b : IndexBuffers) → buildRefusal c b ≡ none → Buildable (c .series) (natAbs (c .window)) (natAbs (c .width))
-unfolding buildTable lengthOutside valueOutside windowOutside widthOutside
-buildable c b e =
-    let t = is-passed (buildTable c b) e in
-    let s = c .series in
-    let w = neither (not (windowIn (c .window))) (ltZ (pos (length s)) (c .window)) (not-if 3 (not (windowIn (c .window)) || ltZ (pos (length s)) (c .window)) (passed-at t 2)) in
-    let i = is-true (windowIn (c .window)) (not-not (windowIn (c .window)) (w .0)) in
-    let j = is-true (widthIn (c .width)) (holds 4 (widthIn (c .width)) (passed-at t 3)) in
-    let p : c .window ≡ pos (natAbs (c .window)) = between 1 256 (c .window) i .is in
-    let q : c .width ≡ pos (natAbs (c .width)) = between 1 1000000 (c .width) j .is in
-    let n : c .window ≤ℤ pos (length s) = ltZ-no {a = pos (length s)} {b = c .window} (w .1) in
-    let l = within-yes (pos 1) (pos mostValues) (pos (length s)) (holds 1 (lengthIn mostValues (length s)) (passed-at t 0)) in
+-- numbers in their limits, as their lines of a table say
+limits-buildable : (s : List ℤ) (w d : ℤ) → length s ≤ mostValues → firstOutside s ≡ none → T (not (not (windowIn w) || ltZ (pos (length s)) w)) → T (widthIn d) → Buildable s (natAbs w) (natAbs d)
+limits-buildable s w d short values t u =
+    let v = neither (not (windowIn w)) (ltZ (pos (length s)) w) t in
+    let i = is-true (windowIn w) (not-not (windowIn w) (v .0)) in
+    let j = is-true (widthIn d) u in
+    let p : w ≡ pos (natAbs w) = between 1 256 w i .is in
+    let q : d ≡ pos (natAbs d) = between 1 1000000 d j .is in
+    let n : w ≤ℤ pos (length s) = ltZ-no {a = pos (length s)} {b = w} (v .1) in
     record {
       window = subst (λ (z : ℤ). windowIn z ≡ true) p i;
       width = subst (λ (z : ℤ). widthIn z ≡ true) q j;
       long = omega zarith;
-      short = omega (zarith, l .high);
-      values = passed-at t 1;
+      short = short;
+      values = values;
     }
+
+length-in : (most n : ℕ) → T (lengthIn most n) → n ≤ most
+length-in most n t = let l = within-yes (pos 1) (pos most) (pos n) t in omega (zarith, l .high)
+
+-- what is built of them
+built-passed : (s : List ℤ) (w d g : ℕ) → Buildable s w d → Passed (built s w d g) s
+unfolding built
+built-passed s w d g k = record { formed = built-well-formed s w d g k; windows = omega (arith, k .long); filed = built-filed s w d g k }
 
 build-long : (c : BuildCall) (b : IndexBuffers) → buildRefusal c b ≡ none → T (lengthIn mostValues (length (c .series)))
 unfolding buildTable lengthOutside
 build-long c b e = holds 1 (lengthIn mostValues (length (c .series))) (passed-at (is-passed (buildTable c b) e) 0)
 
-pub build-passes : (c : BuildCall) (b : IndexBuffers) → buildRefusal c b ≡ none → Passes (buildIndex c) (c .series)
-unfolding buildIndex built
-build-passes c b e =
+buildable : (c : BuildCall) (b : IndexBuffers) → buildRefusal c b ≡ none → Buildable (c .series) (natAbs (c .window)) (natAbs (c .width))
+unfolding buildTable valueOutside windowOutside widthOutside
+buildable c b e =
+    let t = is-passed (buildTable c b) e in
     let s = c .series in
-    let w = natAbs (c .window) in
+    limits-buildable s (c .window) (c .width) (length-in mostValues (length s) (build-long c b e)) (passed-at t 1)
+    (not-if 3 (not (windowIn (c .window)) || ltZ (pos (length s)) (c .window)) (passed-at t 2)) (holds 4 (widthIn (c .width)) (passed-at t 3))
+
+pub build-passes : (c : BuildCall) (b : IndexBuffers) → buildRefusal c b ≡ none → Passes (buildIndex c) (c .series)
+unfolding buildIndex
+build-passes c b e =
     let k = buildable c b e in
-    passes (buildIndex c) s (build-long c b e) (k .values) (record {
-      formed = built-well-formed s w (natAbs (c .width)) (natAbs (c .merge)) k;
-      windows = omega (arith, k .long);
-      filed = built-filed s w (natAbs (c .width)) (natAbs (c .merge)) k;
-    })
+    passes (buildIndex c) (c .series) (build-long c b e) (k .values) (built-passed (c .series) (natAbs (c .window)) (natAbs (c .width)) (natAbs (c .merge)) k)
 
 pub build-most : (c : BuildCall) (b : IndexBuffers) → buildRefusal c b ≡ none → (length (buildIndex c .rows) ≤ buildWindows c) × (length (buildIndex c .runs) ≤ buildWindows c)
 unfolding buildIndex
@@ -91,10 +105,9 @@ module _ (c : ExtendCall) (b : IndexBuffers) (e : extendRefusal c b ≡ none) wh
       let n : x .windows ≤ℤ windowsOf x s = ltZ-no {a = windowsOf x s} {b = x .windows} (not-if 22 (ltZ (windowsOf x s) (x .windows)) (passed-at t 3)) in
       let p : x .window ≡ pos (natAbs (x .window)) = extend-formed .head .window .is in
       let q : x .windows ≡ pos (natAbs (x .windows)) = extend-formed .head .windows .is in
-      let l = within-yes (pos 1) (pos mostValues) (pos (length s)) extend-long in
       record {
         longer = omega (zarith, z-add (pos (length s) -ℤ x .window) (pos 1), z-sub (pos (length s)) (x .window));
-        short = omega (zarith, l .high);
+        short = length-in mostValues (length s) extend-long;
         values = passed-at t 1;
       }
 
@@ -112,3 +125,25 @@ module _ (c : ExtendCall) (b : IndexBuffers) (e : extendRefusal c b ≡ none) wh
   pub extend-most : (length (extendIndex c .rows) ≤ extendWindows c) × (length (extendIndex c .runs) ≤ extendWindows c)
   unfolding extendIndex
   extend-most = extended-most (c .index) (c .series) extend-formed extendable
+
+-- ---- the search program
+
+program-buildable : (t : List ℕ) → firstRefusal (programTable t) ≡ none → let c = textProgram t in Buildable (c .series) (natAbs (c .window)) (natAbs (c .width))
+unfolding programTable lengthOutside valueOutside windowOutside widthOutside
+program-buildable t e =
+    let c = textProgram t in
+    let p = is-passed (programTable t) e in
+    let n = length-in mostProgramValues (length (c .series)) (holds 1 (lengthIn mostProgramValues (length (c .series))) (passed-at p 1)) in
+    limits-buildable (c .series) (c .window) (c .width) (omega arith) (passed-at p 2)
+    (not-if 3 (not (windowIn (c .window)) || ltZ (pos (length (c .series))) (c .window)) (passed-at p 4)) (holds 4 (widthIn (c .width)) (passed-at p 5))
+
+-- what it lists, where it does not refuse, is all matches
+pub program-all : (t : List ℕ) → firstRefusal (programTable t) ≡ none → let x = programSearch (textProgram t) in searchMatches x ≡ allMatches (question x)
+unfolding programIndex buildIndex question programTable queryLengthOutside scaleOrShiftOutside
+program-all t e =
+    let c = textProgram t in
+    let x = programSearch c in
+    let p = is-passed (programTable t) e in
+    let y = built-passed (c .series) (natAbs (c .window)) (natAbs (c .width)) (natAbs (c .merge)) (program-buildable t e) in
+    all-found (x .index) (question x) (filed-reached (x .index) (c .series) (y .filed) (y .windows))
+    (query-some (c .query) (c .series) (passed-at p 7)) (scale-some (c .scale) (c .shift) (passed-at p 11))

@@ -1,12 +1,27 @@
--- The number of the C entry tells the answer again: `unpack` is inverse to `pack` for every answer that can occur. Quotients and remainders by numerals, one `omega` each. Assumes nothing.
+-- The number of the C entry tells the answer again: `unpack` is inverse to `pack` for every answer that the audit of two texts gives (`audit-text-back`), since the numbers of refusals are below 32 and the offsets of a well-formed index below the most windows. Assumes nothing.
 use mathlib.Core.Path.{_≡_, refl, sym, ap, ap₂, _∙_, subst}
-use mathlib.Core.Bool.{Bool, true, false}
-use Prim.Native.Nat.{ℕ, _+_, _*_, _/_, _%_, _<_}
+use mathlib.Core.Bool.{Bool, true, false, _&&_}
+use mathlib.Core.List.{List, [], _∷_}
+use mathlib.Core.Option.{Option, none, some}
+use Prim.Native.Nat.{ℕ, zero, suc, _+_, _*_, _/_, _%_, _<_}
 use native.Mathlib.Omega.{arith}
-use lib.Dec.{T, eqb, eqb→eq}
+use lib.Dec.{T, eqb, eqb→eq, ltb, ltb→lt}
+use lib.IntN.{ℤ}
+use lib.ListN.{getD}
+use Rattle.meaning_numbers.proofs.Tests.{two-tests}
 use Rattle.meaning_curves.specs.Limits.{mostValues}
+use Rattle.meaning_rows.specs.Index.{Index}
+use Rattle.meaning_rows.specs.Judge.{firstBadRow}
+use Rattle.meaning_rows.specs.Audit.{firstWrong, missing}
+use Rattle.meaning_rows.proofs.Judge.{well-formed, row-at, stands-below}
+use Rattle.meaning_rows.proofs.Audit.{first-wrong}
 use Rattle.meaning_entries.specs.declared.Audited.{Audited}
-use Rattle.meaning_entries.specs.AuditText.{packRefusal, pack, unpackBy, unpack}
+use Rattle.meaning_entries.specs.Refusal.{Condition, firstRefusal, lengthOutside, valueOutside, unreadable, illFormed, fewerWindows, moreWindows}
+use Rattle.meaning_entries.specs.Buffers.{zeroRow}
+use Rattle.meaning_entries.specs.Audit.{AuditCall, auditTable, complete, audited}
+use Rattle.meaning_entries.specs.Load.{textIndex}
+use Rattle.meaning_entries.specs.AuditText.{textCall, auditTextTable, auditTextAnswer, packRefusal, pack, unpackBy, unpack, auditText}
+use Rattle.meaning_entries.proofs.Refusal.{First, here, later, is-passed, is-first, passed-at}
 
 -- an offset is below the most windows, and every number of a refusal below 32
 abbrev pub Packable : Audited → Type 0
@@ -41,3 +56,50 @@ unpack-pack (Audited.Wrong row offset) h =
     by-parts (8 * v + 1) 1 v (omega arith) (omega arith) ∙ ap₂ Audited.Wrong a b
 unpack-pack (Audited.Missing count) h = by-parts (8 * count + 2) 2 count (omega arith) (omega arith)
 unpack-pack (Audited.Refused n p) h = refused-back n p (eqb n 12) refl h
+
+-- ---- every answer that occurs
+
+-- a test that the numbers of a table pass, the number of its first line that applies passes
+numbers-pass : (P : ℕ → Bool) → List Condition → Bool
+numbers-pass P [] = true
+numbers-pass P (c ∷ l) = P (c .number) && numbers-pass P l
+
+first-passes : (P : ℕ → Bool) {l : List Condition} {n p : ℕ} → T (numbers-pass P l) → First l n p → T (P n)
+unfolding numbers-pass
+first-passes P t (here {c} {l} e) = two-tests (P (c .number)) (numbers-pass P l) t .0
+first-passes P t (later {c} {l} e f) = first-passes P (two-tests (P (c .number)) (numbers-pass P l) t .1) f
+
+small-number : (x s : List ℕ) {n p : ℕ} → firstRefusal (auditTextTable x s) ≡ some (n, p) → n < 32
+unfolding numbers-pass auditTextTable auditTable unreadable lengthOutside valueOutside illFormed fewerWindows moreWindows
+small-number x s {n} {p} e = ltb→lt n 32 (first-passes (λ k. ltb k 32) tt (is-first (auditTextTable x s) n p e))
+
+wrong-offset : (x : Index) (s : List ℤ) (k j : ℕ) → firstBadRow x ≡ none → firstWrong x s ≡ some (k, j) → j < mostValues
+wrong-offset x s k j h e =
+    let g = well-formed x h in
+    let w = first-wrong x s g zeroRow k j e in
+    omega (arith, stands-below x (getD (x .rows) k zeroRow) j (row-at x g zeroRow k (w .is-row)) (w .stands-there), g .head .windows .most)
+
+complete-packable : (n : ℕ) → Packable (complete n)
+unfolding complete
+complete-packable zero = tt
+complete-packable (suc n) = tt
+
+audited-packable : (c : AuditCall) (o : Option (ℕ × ℕ)) → firstBadRow (c .index) ≡ none → firstWrong (c .index) (c .series) ≡ o → Packable (audited c)
+unfolding audited
+audited-packable c none h e = rw (e, audited) (complete-packable (missing (c .index)))
+audited-packable c (some r) h e = rw (e, audited) (wrong-offset (c .index) (c .series) (r .0) (r .1) h e)
+
+formed : (x s : List ℕ) → firstRefusal (auditTextTable x s) ≡ none → firstBadRow (textIndex x) ≡ none
+unfolding auditTextTable auditTable illFormed
+formed x s e = passed-at (is-passed (auditTextTable x s) e) 4
+
+packable-by : (x s : List ℕ) (o : Option (ℕ × ℕ)) → firstRefusal (auditTextTable x s) ≡ o → Packable (auditTextAnswer x s)
+unfolding auditTextAnswer
+packable-by x s none e =
+    let c = textCall x s in
+    rw (e, auditTextAnswer) (audited-packable c (firstWrong (c .index) (c .series)) (formed x s e) refl)
+packable-by x s (some r) e = rw (e, auditTextAnswer) (small-number x s e)
+
+pub audit-text-back : (x s : List ℕ) → unpack (auditText x s) ≡ auditTextAnswer x s
+unfolding auditText
+audit-text-back x s = unpack-pack (auditTextAnswer x s) (packable-by x s (firstRefusal (auditTextTable x s)) refl)

@@ -1,14 +1,20 @@
 -- The tables of refusals are total and exclusive: a call is refused by exactly one line, the first that applies, or by none, and then no line applies. By induction on the table. Assumes nothing.
 use mathlib.Core.Path.{_≡_, refl, sym, _∙_, ap, subst₂}
-use mathlib.Core.Bool.{Bool, true, false, not}
+use mathlib.Core.Bool.{Bool, true, false, not, _||_}
 use mathlib.Core.List.{List, [], _∷_}
 use mathlib.Core.Logic.{_⊎_, inl, inr}
 use mathlib.Core.Option.{Option, none, some}
-use Prim.Native.Nat.{ℕ, zero, suc}
+use Prim.Native.Nat.{ℕ, zero, suc, _<_}
 use native.Mathlib.Omega.{arith}
-use lib.Dec.{T}
-use lib.ListN.{getD}
-use Rattle.meaning_entries.specs.Refusal.{Condition, firstRefusal, atZero}
+use lib.Dec.{T, ltb}
+use lib.IntN.{ℤ, pos, natAbs}
+use lib.ListN.{length, getD}
+use Rattle.meaning_numbers.proofs.Rep.{zarith}
+use Rattle.meaning_numbers.proofs.Machine.{z-abs}
+use Rattle.meaning_numbers.proofs.Tests.{not-not, neither}
+use Rattle.meaning_numbers.proofs.Between.{within-yes}
+use Rattle.meaning_curves.specs.Limits.{queryLengthIn, scaleIn, shiftIn}
+use Rattle.meaning_entries.specs.Refusal.{Condition, firstRefusal, atZero, queryLengthOutside, scaleOrShiftOutside}
 
 -- no line applies
 pub data Passed : List Condition → Type 0 where
@@ -92,3 +98,19 @@ passed-at (more e h) (suc k) = passed-at h k
 pub not-if : (n : ℕ) (t : Bool) → atZero n t .place ≡ none → T (not t)
 not-if n true e = none-some (sym e)
 not-if n false e = tt
+
+-- ---- a query and a scale limit that are not refused
+
+pub query-some : (q s : List ℤ) → queryLengthOutside q s .place ≡ none → 0 < length q
+unfolding queryLengthOutside
+query-some q s e =
+    let t = neither (not (queryLengthIn (length q))) (ltb (length s) (length q)) (not-if 6 (not (queryLengthIn (length q)) || ltb (length s) (length q)) e) in
+    let w = within-yes (pos 1) (pos 1024) (pos (length q)) (not-not (queryLengthIn (length q)) (t .0)) in
+    omega (zarith, w .low)
+
+pub scale-some : (a h : ℤ) → scaleOrShiftOutside a h .place ≡ none → 0 < natAbs a
+unfolding scaleOrShiftOutside
+scale-some a h e =
+    let t = neither (not (scaleIn a)) (not (shiftIn h)) (not-if 10 (not (scaleIn a) || not (shiftIn h)) e) in
+    let w = within-yes (pos 10) (pos 100) a (not-not (scaleIn a) (t .0)) in
+    omega (zarith, w .low, z-abs a)
