@@ -1,4 +1,4 @@
--- A `&κ mut [T]` that a walk lends for a call and has back, as four steps. It says nothing of the crate, and can be copied as it stands, with `Again.antt`.
+-- A `&κ mut [T]` that a walk lends for a call and has back, as four steps. It says nothing of the crate. A crate above says `use Rattle.records.proofs.Lends.{..}`.
 --     Own, Shr         what a `&κ mut [T]`, and a `&κ [T]`, owns at the list l, where m is the count that its machine value has
 --     lend, back       it is lent again as a `&mut`, for a lifetime ν that is made for the call; and comes back at the list zs′ that the callee's contract says
 --     share, unshare   it is lent as a `&`, likewise; and comes back as it was.        SharedAgain      what the holder keeps meanwhile

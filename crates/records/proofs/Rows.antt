@@ -2,6 +2,7 @@
 --     Rs, Own          a `&[Row]`'s value, and what it owns at the lifetime κ
 --     low, Good        a record's machine value, and what is known of one that is owned
 --     calls-row-at     a call of `row_at`: the token and what the slice owns are at the head, and stay there. The result is record k, written out
+--     calls-chunk-at   a call of `chunk_at`, likewise. `chunk` is a chunk's machine value
 --     calls-count      a call of `count_from`: the context stays as it was
 -- Assumes `Given`, and that the table of calls is monotone under a frame, as every `Tables` is.
 use mathlib.Core.Path.{_≡_, refl}
@@ -24,9 +25,10 @@ use types.Run.{Opds}
 use denote.Laws.{Is}
 use denote.Builtin.{usize}
 use denote.Plain.{uint-makes, uint-tells}
+use denote.Array.{Array, array-vals, array-tells}
 use denote.Ref.{RefT, ptr, now}
 use denote.Slice.{sliceVal, ShrSlice, slice-vals, shr-slice-copy}
-use denote.Steps.{owned, nothing}
+use denote.Steps.{owned, nothing, only}
 use denote.Struct.Laws as LL
 use denote.Triple.Clauses.{lasts}
 use denote.Triple.Spec.{tripleOf}
@@ -35,10 +37,12 @@ use denote.Triple.Walked.{says}
 use Rattle.meaning_rows.specs.declared.Row.{Row}
 use Rattle.meaning_rows.proofs.Row as T
 use Rattle.meaning_rows.proofs.Row.Laws as T′
-use Rattle.records.specs.Records.{zeroRow, countFrom}
+use Rattle.records.specs.Records.{zeroRow, countFrom, chunkOf}
 use Rattle.records.proofs.Walk.{calls-kept, calls-plain}
 use Rattle.records.proofs.row_at as row
 use Rattle.records.proofs.row_at.Symbol.{name as #records·row-at}
+use Rattle.records.proofs.chunk_at as chunk-at
+use Rattle.records.proofs.chunk_at.Symbol.{name as #records·chunk-at}
 use Rattle.records.proofs.count_from as count
 use Rattle.records.proofs.count_from.Symbol.{name as #records·count-from}
 
@@ -56,10 +60,17 @@ low = LL.val T.the-type T′.the-laws
 abbrev pub Good : Row → Type 0
 Good r = Is T.the-row r (low r ∷ [])
 
+-- the machine value of a chunk of records
+abbrev pub chunk : List Row → Val
+chunk l = only (array-vals (LL.vals T.the-type T′.the-laws) l)
+
 -- the contracts that the proofs cite
 module _ {M : Type 1} (𝓤 : URA M) (H : Heap 𝓤) (A : Atoms 𝓤) (mem : Memory → SProp 𝓤) (run : Routine → Fun 𝓤) where
   abbrev pub RowAt : Contract 𝓤
   RowAt = tripleOf 𝓤 H A row.signature (row.spec 𝓤 H A mem run)
+
+  abbrev pub ChunkAt : Contract 𝓤
+  ChunkAt = tripleOf 𝓤 H A chunk-at.signature (chunk-at.spec 𝓤 H A mem run)
 
   abbrev pub CountFrom : Contract 𝓤
   CountFrom = tripleOf 𝓤 H A count.signature (count.spec 𝓤 H A mem run)
@@ -68,6 +79,9 @@ module _ {M : Type 1} (𝓤 : URA M) (H : Heap 𝓤) (A : Atoms 𝓤) (mem : Mem
   abbrev pub to-row-at : Lft → Share → Rs → ℕ → RowAt .Ghost
   to-row-at κ q x k = (((κ, tt), (q, tt), tt, (x, (k, tt)), (slice-vals x, (vint w64 k ∷ [], tt))), tt)
 
+  abbrev pub to-chunk-at : Lft → Share → Rs → ℕ → ChunkAt .Ghost
+  to-chunk-at κ q x k = (((κ, tt), (q, tt), tt, (x, (k, tt)), (slice-vals x, (vint w64 k ∷ [], tt))), tt)
+
   abbrev pub to-count : ℕ → ℕ → ℕ → CountFrom .Ghost
   to-count a b c = ((tt, tt, tt, (a, (b, (c, tt))), (vint w64 a ∷ [], (vint w64 b ∷ [], (vint w64 c ∷ [], tt)))), tt)
 
@@ -75,6 +89,10 @@ module _ {M : Type 1} (𝓤 : URA M) (H : Heap 𝓤) (A : Atoms 𝓤) (mem : Mem
     asks-row-at : (κ : Lft) (q : Share) (x : Rs) (k : ℕ) → k < length (now x) → k < 2 ^ 64 → ent 𝓤 (sep 𝓤 (A .lft κ q) (sem 𝓤 H A (Own κ x))) (RowAt .pre (to-row-at κ q x k))
     asks-row-at κ q x k l g = qed W (‵ (flft κ q) ∷ ‵ (Own κ x) ∷ []) ∵ says ! l $ nothing ! $ move ! (1 ∷ 0 ∷ []) $ join ! $ frame ! $ frame ! $ nothing ! $
         owned ! usize (Is usize) (uint-makes 𝓤 H A W w64) k _ (refl, g) $ fjoin ! $ done !
+
+    asks-chunk-at : (κ : Lft) (q : Share) (x : Rs) (k : ℕ) → k < 2 ^ 64 → ent 𝓤 (sep 𝓤 (A .lft κ q) (sem 𝓤 H A (Own κ x))) (ChunkAt .pre (to-chunk-at κ q x k))
+    asks-chunk-at κ q x k g = qed W (‵ (flft κ q) ∷ ‵ (Own κ x) ∷ []) ∵ nothing ! $ move ! (1 ∷ 0 ∷ []) $ join ! $ nothing ! $ owned ! usize (Is usize) (uint-makes 𝓤 H A W w64) k _ (refl, g) $ fjoin ! $
+        move ! (2 ∷ 0 ∷ []) $ fjoin ! $ move ! (1 ∷ 0 ∷ []) $ join ! $ frame ! $ done !
 
     asks-count : (a b c : ℕ) → a < 2 ^ 64 → b < 2 ^ 64 → c < 2 ^ 64 → ent 𝓤 (emp 𝓤) (CountFrom .pre (to-count a b c))
     asks-count a b c f g h = qed W [] ∵ nothing ! $ nothing ! $ nothing ! $ owned ! usize (Is usize) (uint-makes 𝓤 H A W w64) c _ (refl, h) $ fjoin ! $
@@ -89,6 +107,15 @@ module _ {M : Type 1} {𝓤 : URA M} {H : Heap 𝓤} {A : Atoms 𝓤} {K : Type 
       calls-kept t fm row.signature (row.spec 𝓤 H A mem run) met (to-row-at 𝓤 H A mem run κ q x k) (‵ (flft κ q)) (‵ (Own κ x)) (shr-slice-copy 𝓤 H A W (named 0) κ T.the-row .twice x (slice-vals x))
       (asks-row-at 𝓤 H A mem run W κ q x k l g) (fst∗ 𝓤 (A .lft κ q) (emp 𝓤)) (getD (now x) k zeroRow) low (LL.tells T.the-type T′.the-laws)
       (λ r. exE 𝓤 _ (λ ws. snd∗ 𝓤 (sem 𝓤 H A (lasts row.ended (κ, tt) (x, (k, tt)) ws)) (fact 𝓤 (r ≡ getD (now x) k zeroRow)))) os next
+
+  pub calls-chunk-at : K → FmC 𝓤 H (W .laws) C → (mem : Memory → SProp 𝓤) (run : Routine → Fun 𝓤) → Triple 𝓤 (C #records·chunk-at) (ChunkAt 𝓤 H A mem run) → (κ : Lft) (q : Share) (x : Rs) (k : ℕ) → k < 2 ^ 64
+      → Opds K W (raw (ChunkAt 𝓤 H A mem run .pre (to-chunk-at 𝓤 H A mem run κ q x k)) ∷ ‵ (Own κ x) ∷ Γ) E xs (sliceVal (ptr x) (length (now x)) ∷ vint w64 k ∷ [])
+      → (Is (Array T.the-row 64) (chunkOf (now x) k) (chunk (chunkOf (now x) k) ∷ []) → Seq K W (‵ (flft κ q) ∷ ‵ (Own κ x) ∷ Γ) (lands C Λ E d (chunk (chunkOf (now x) k)) rest p))
+      → Seq K W (‵ (flft κ q) ∷ ‵ (Own κ x) ∷ Γ) (runs C Λ E (seq (call #records·chunk-at xs d) rest) p)
+  calls-chunk-at t fm mem run met κ q x k g os next =
+      calls-kept t fm chunk-at.signature (chunk-at.spec 𝓤 H A mem run) met (to-chunk-at 𝓤 H A mem run κ q x k) (‵ (flft κ q)) (‵ (Own κ x)) (shr-slice-copy 𝓤 H A W (named 0) κ T.the-row .twice x (slice-vals x))
+      (asks-chunk-at 𝓤 H A mem run W κ q x k g) (fst∗ 𝓤 (A .lft κ q) (emp 𝓤)) (chunkOf (now x) k) chunk (array-tells T.the-row (LL.vals T.the-type T′.the-laws) (LL.tells T.the-type T′.the-laws) 64)
+      (λ r. exE 𝓤 _ (λ ws. snd∗ 𝓤 (sem 𝓤 H A (lasts chunk-at.ended (κ, tt) (x, (k, tt)) ws)) (fact 𝓤 (r ≡ chunkOf (now x) k)))) os next
 
   pub calls-count : K → FmC 𝓤 H (W .laws) C → (mem : Memory → SProp 𝓤) (run : Routine → Fun 𝓤) → Triple 𝓤 (C #records·count-from) (CountFrom 𝓤 H A mem run) → (a b c : ℕ) → a < 2 ^ 64 → b < 2 ^ 64 → c < 2 ^ 64
       → Opds K W (raw (CountFrom 𝓤 H A mem run .pre (to-count 𝓤 H A mem run a b c)) ∷ Γ) E xs (vint w64 a ∷ vint w64 b ∷ vint w64 c ∷ [])

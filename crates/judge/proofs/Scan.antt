@@ -1,0 +1,92 @@
+-- Judging a row's runs, one run at a time: `scan-next` for a good run, `scan-bad` for a bad one, `scan-end` where none is left. `part-next` has the first run of a part of the run buffer. Assumes nothing.
+use mathlib.Core.Path.{_≡_, refl, sym}
+use mathlib.Core.Bool.{Bool, true, false, _&&_, false≢true}
+use mathlib.Core.List.{List, [], _∷_}
+use Prim.Native.Nat.{ℕ, zero, suc, _+_, _-_, _<_, _≤_, min}
+use native.Mathlib.Omega.{arith}
+use lib.Dec.{leb, ltb}
+use lib.IntN.{ℤ, pos}
+use lib.ListN.{length, getD, take, drop}
+use borrow.Author.Tests.{leb-true, ltb-true}
+use Rattle.meaning_rows.specs.Index.{Entry, entries}
+use Rattle.meaning_rows.specs.Judge.{runsGood, runLengths}
+use Rattle.judge.specs.State.{untold, scan}
+
+-- ---- a part of the run buffer
+
+-- the entries from i up to and not with `to`
+abbrev pub part : List ℕ → List ℕ → ℕ → ℕ → List Entry
+part left right i to = take (to - i) (drop i (entries left right))
+
+pub length-entries : (left right : List ℕ) → length (entries left right) ≡ min (length left) (length right)
+unfolding entries
+length-entries [] right = omega arith
+length-entries (x ∷ left) [] = omega arith
+length-entries (x ∷ left) (y ∷ right) = omega (arith, length-entries left right)
+
+entries-drop : (left right : List ℕ) (i : ℕ) → i < length left → i < length right
+    → drop i (entries left right) ≡ (pos (getD left i 0), pos (getD right i 0)) ∷ drop (suc i) (entries left right)
+unfolding entries
+entries-drop [] right i h k = absurd (omega arith)
+entries-drop (x ∷ left) [] i h k = absurd (omega arith)
+entries-drop (x ∷ left) (y ∷ right) zero h k = refl
+entries-drop (x ∷ left) (y ∷ right) (suc i) h k = entries-drop left right i (omega arith) (omega arith)
+
+pub part-next : (left right : List ℕ) (i to : ℕ) → i < to → to ≤ length left → to ≤ length right
+    → part left right i to ≡ (pos (getD left i 0), pos (getD right i 0)) ∷ part left right (i + 1) to
+part-next left right i to l h k =
+    let e : to - i ≡ suc (to - (i + 1)) = omega arith in
+    let n : i + 1 ≡ suc i = omega arith in
+    rw (e, entries-drop left right i (omega arith) (omega arith), n) refl
+
+pub part-none : (left right : List ℕ) (i to : ℕ) → to ≤ i → part left right i to ≡ []
+part-none left right i to l = let e : to - i ≡ 0 = omega arith in rw e refl
+
+-- ---- one run
+
+-- a run, after runs that end below `least`
+abbrev pub runGood : ℕ → ℕ → ℕ → ℕ → Bool
+runGood windows least l r = leb least l && (leb l r && ltb r windows)
+
+-- what the test says
+pub record GoodRun (windows least l r : ℕ) : Type 0 where
+  pub below : least ≤ l
+  pub order : l ≤ r
+  pub inside : r < windows
+
+-- two tests that pass
+pub both : (a b : Bool) → (a && b) ≡ true → (a ≡ true) × (b ≡ true)
+both true b e = (refl, e)
+both false b e = absurd (false≢true e)
+
+pub good-run : (windows least l r : ℕ) → runGood windows least l r ≡ true → GoodRun windows least l r
+good-run windows least l r e =
+    let a = both (leb least l) (leb l r && ltb r windows) e in let b = both (leb l r) (ltb r windows) (a .1) in
+    record { below = leb-true least l (a .0); order = leb-true l r (b .0); inside = ltb-true r windows (b .1) }
+
+pub all-four : (a b c d : Bool) → (a && (b && c)) ≡ true → (a && (b && (c && d))) ≡ d
+all-four true true true d e = refl
+all-four true true false d e = absurd (false≢true e)
+all-four true false c d e = absurd (false≢true e)
+all-four false b c d e = absurd (false≢true e)
+
+pub not-all : (a b c d : Bool) → (a && (b && c)) ≡ false → (a && (b && (c && d))) ≡ false
+not-all true true true d e = absurd (false≢true (sym e))
+not-all true true false d e = refl
+not-all true false c d e = refl
+not-all false b c d e = refl
+
+module _ (windows least total l r : ℕ) (rest : List Entry) where
+  pub scan-next : runGood windows least l r ≡ true → scan (pos windows) (pos least) total ((pos l, pos r) ∷ rest) ≡ scan (pos windows) (pos (r + 2)) (total + (r + 1 - l)) rest
+  unfolding scan runsGood runLengths
+  scan-next e =
+      let n : total + (r + 1 - l + runLengths rest) ≡ total + (r + 1 - l) + runLengths rest = omega arith in
+      rw (all-four (leb least l) (leb l r) (ltb r windows) (runsGood (pos windows) (pos (r + 2)) rest) e, n) refl
+
+  pub scan-bad : runGood windows least l r ≡ false → scan (pos windows) (pos least) total ((pos l, pos r) ∷ rest) ≡ untold
+  unfolding scan runsGood
+  scan-bad e = rw (not-all (leb least l) (leb l r) (ltb r windows) (runsGood (pos windows) (pos (r + 2)) rest) e) refl
+
+pub scan-end : (windows least : ℤ) (total : ℕ) → scan windows least total [] ≡ record { good = true; total = total }
+unfolding scan runsGood runLengths
+scan-end windows least total = let n : total + 0 ≡ total = omega arith in rw n refl
