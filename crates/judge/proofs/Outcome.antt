@@ -11,12 +11,12 @@ use lib.ListN.{length, getD, drop, drop-of-length-le}
 use Rattle.meaning_rows.specs.declared.Row.{Row}
 use Rattle.meaning_rows.specs.declared.Head.{Head}
 use Rattle.meaning_rows.specs.Index.{Index, lent, runsOf}
-use Rattle.meaning_rows.specs.Judge.{headGood, runsGood, runLengths, rangeGood, partGood, rowGood, badRowFrom, firstBadRow}
+use Rattle.meaning_rows.specs.Judge.{headGood, runsGood, runLengths, rangeGood, partGood, rowGood, badRowFrom, firstBadRow, lengthTotal}
 use Rattle.records.specs.Records.{zeroRow}
 use Rattle.records.proofs.Walk.{drop-next}
 use Rattle.judge.specs.declared.State.{State}
 use Rattle.judge.specs.declared.Judged.{Judged}
-use Rattle.judge.specs.Judged.{lengthTotal, outcome, judgedOf}
+use Rattle.judge.specs.Judged.{outcome, judgedOf}
 use Rattle.judge.specs.State.{start, failed, moved, next, verdictOf}
 use Rattle.judge.proofs.Scan.{both}
 use Rattle.judge.proofs.Next.{fits-room}

@@ -15,7 +15,8 @@ use Rattle.meaning_numbers.proofs.Tests.{yes-not-not}
 use Rattle.meaning_curves.specs.Limits.{mostValues, lengthIn, firstOutside}
 use Rattle.meaning_rows.specs.Index.{Index}
 use Rattle.meaning_rows.specs.Audit.{firstWrong, missing}
-use Rattle.meaning_rows.proofs.Judge.{WellFormed, well-formed, none-bad, lengthTotal}
+use Rattle.meaning_rows.specs.Judge.{lengthTotal}
+use Rattle.meaning_rows.proofs.Judge.{WellFormed, well-formed, none-bad}
 use Rattle.meaning_rows.proofs.Audit.{Filed, audit-yes, filed-passes, yes-total}
 use Rattle.meaning_filter.proofs.Candidates.{Reached, filed-reached}
 use Rattle.meaning_entries.specs.declared.Audited.{Audited}

@@ -28,7 +28,8 @@ use Rattle.meaning_rows.specs.Audit.{offsets, wrongIn, wrongFrom, sums, 
 use Rattle.meaning_rows.proofs.Range.{is-inside}
 use Rattle.meaning_rows.proofs.Runs.{Apart, held, entries-hold}
 use Rattle.meaning_rows.proofs.Times.{Ascending, times, sizes, sizes-count, none-times}
-use Rattle.meaning_rows.proofs.Judge.{GoodRow, WellFormed, rangeOf, lengthTotal, lengths-are, stands-below, each-row, ranges-ascend}
+use Rattle.meaning_rows.specs.Judge.{lengthTotal}
+use Rattle.meaning_rows.proofs.Judge.{GoodRow, WellFormed, rangeOf, lengths-are, stands-below, each-row, ranges-ascend}
 
 -- ---- the offsets of runs are those that stand in them, upward
 

@@ -17,7 +17,7 @@ use Rattle.meaning_rows.specs.Audit.{firstWrong, missing}
 use Rattle.meaning_rows.specs.Build.{SetRow, builtRows, built}
 use Rattle.meaning_rows.proofs.Times.{sizes-all}
 use Rattle.meaning_rows.proofs.Build.{sets, Ends, Fine, mergedRows, built-tiled, tiled-fine, tiled-ascends, built-once, built-occupied, built-ends, built-runs}
-use Rattle.meaning_rows.proofs.Judge.{Between, between, GoodEnd, WellFormed, none-bad, rows-at-most}
+use Rattle.meaning_rows.proofs.Judge.{Natural, between, GoodEnd, WellFormed, none-bad, rows-at-most}
 use Rattle.meaning_rows.proofs.Audit.{Filed, filed-passes}
 use Rattle.meaning_rows.proofs.Sets.{Sound, sets-well-formed, sets-home, once-any, end-least}
 use Rattle.meaning_rows.proofs.Sums.{ends-good}
@@ -40,10 +40,10 @@ module _ (s : List ℤ) (w d g : ℕ) (b : Buildable s w d) where
   abbrev rows : List SetRow
   rows = mergedRows sum d g count
 
-  w-in : Between 1 256 (pos w)
+  w-in : Natural 1 256 (pos w)
   w-in = between 1 256 (pos w) (b .window)
 
-  d-in : Between 1 1000000 (pos d)
+  d-in : Natural 1 1000000 (pos d)
   d-in = between 1 1000000 (pos d) (b .width)
 
   one : 0 < d

@@ -29,13 +29,13 @@ use Rattle.meaning_rows.specs.Range.{rowNumber, lowOf, upOf, inside}
 use Rattle.meaning_rows.specs.Runs.{runs}
 use Rattle.meaning_rows.specs.Index.{Index, Entry, runsOf, inRun, stands, rangeRow, rangeRows, records, allRuns}
 use Rattle.meaning_rows.specs.Build.{SetRow, insert, rowAt, entry, withRuns}
-use Rattle.meaning_rows.specs.Judge.{runLengths}
+use Rattle.meaning_rows.specs.Judge.{runLengths, lengthTotal}
 use Rattle.meaning_rows.specs.Extend.{grown, known, newNumbers, added, insertRow, insertRows, extendedRows, extended}
 use Rattle.meaning_rows.proofs.Range.{where-is, inside-yes, widen, next-le, row-before, in-own, multiple-is}
 use Rattle.meaning_rows.proofs.Runs.{Apart, held, runs-cong, apart-runs, entries-hold}
 use Rattle.meaning_rows.proofs.Times.{Ascending, times, sizes, sizes-once}
 use Rattle.meaning_rows.proofs.Build.{range, sets, covered, Exact, exact-once, Ends, Occupied, Sorted, mem-above, insert-sorted, insert-mem, insert-keeps, insert-only}
-use Rattle.meaning_rows.proofs.Judge.{GoodEnd, GoodRow, WellFormed, rangeOf, lengthTotal, lengths-are, length-runsOf, each-row, ranges-ascend, lengths-at-most, rows-at-most, runs-at-most, runTotal}
+use Rattle.meaning_rows.proofs.Judge.{GoodEnd, GoodRow, WellFormed, rangeOf, lengths-are, length-runsOf, each-row, ranges-ascend, lengths-at-most, rows-at-most, runs-at-most, runTotal}
 use Rattle.meaning_rows.proofs.Audit.{Home, Filed}
 use Rattle.meaning_rows.proofs.Laid.{rows-back, laid-again, length-allRuns}
 use Rattle.meaning_rows.proofs.Sets.{Sound, Shows, sets-well-formed, sets-home, shows-row, row-shows, once-any, end-least}

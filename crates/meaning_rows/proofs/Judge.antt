@@ -26,7 +26,7 @@ use Rattle.meaning_numbers.proofs.Member.{All, all-mem, mem-at}
 use Rattle.meaning_curves.specs.Limits.{endIn, lowestEnd, mostValues}
 use Rattle.meaning_rows.specs.declared.Row.{Row}
 use Rattle.meaning_rows.specs.Index.{Index, Entry, runsOf, inRun, stands}
-use Rattle.meaning_rows.specs.Judge.{headGood, runsGood, runLengths, rangeGood, partGood, rowGood, badRowFrom, firstBadRow}
+use Rattle.meaning_rows.specs.Judge.{headGood, runsGood, runLengths, rangeGood, partGood, rowGood, badRowFrom, firstBadRow, lengthTotal}
 use Rattle.meaning_rows.specs.Build.{entry}
 use Rattle.meaning_rows.proofs.Range.{le-leZ}
 use Rattle.meaning_rows.proofs.Runs.{Apart, held, entries-hold, held-in, lengths-count}
@@ -35,25 +35,25 @@ use Rattle.meaning_rows.proofs.Times.{Range, Ascending}
 -- ---- limits
 
 -- z is a natural number in its limits
-pub record Between (low high : ℕ) (z : ℤ) : Type 0 where
+pub record Natural (low high : ℕ) (z : ℤ) : Type 0 where
   pub is : z ≡ pos (natAbs z)
   pub least : low ≤ natAbs z
   pub most : natAbs z ≤ high
 
-pub between : (low high : ℕ) (z : ℤ) → within (pos low) (pos high) z ≡ true → Between low high z
+pub between : (low high : ℕ) (z : ℤ) → within (pos low) (pos high) z ≡ true → Natural low high z
 unfolding within
 between low high (pos n) e = let b = both (leb low n) (leb n high) e in record { is = refl; least = leb-true low n (b .0); most = leb-true n high (b .1) }
 between low high (negsuc n) e = clash e refl
 
-pub is-within : (low high : ℕ) (z : ℤ) → Between low high z → within (pos low) (pos high) z ≡ true
+pub is-within : (low high : ℕ) (z : ℤ) → Natural low high z → within (pos low) (pos high) z ≡ true
 unfolding within
 is-within low high (pos n) b = of-both (le-leb low n (b .least)) (le-leb n high (b .most))
 is-within low high (negsuc n) b = let e : _≡_ {A = ℕ} 0 1 = cc (b .is) in absurd (omega arith)
 
 pub record GoodHead (x : Index) : Type 0 where
-  pub window : Between 1 256 (x .window)
-  pub width : Between 1 1000000 (x .width)
-  pub windows : Between 1 mostValues (x .windows)
+  pub window : Natural 1 256 (x .window)
+  pub width : Natural 1 1000000 (x .width)
+  pub windows : Natural 1 mostValues (x .windows)
 
 pub good-head : (x : Index) → headGood x ≡ true → GoodHead x
 unfolding headGood
@@ -278,10 +278,6 @@ rangeOf r = (r .low, r .up)
 unfoldable pub runTotal : List Row → ℕ
 runTotal [] = 0
 runTotal (r ∷ l) = r .runs + runTotal l
-
-unfoldable pub lengthTotal : Index → List Row → ℕ
-lengthTotal x [] = 0
-lengthTotal x (r ∷ l) = runLengths (runsOf x r) + lengthTotal x l
 
 length-apart : (n a : ℕ) (l : List (ℕ × ℕ)) → Apart n a l → length (map entry l) ≤ runLengths (map entry l)
 unfolding Apart runLengths

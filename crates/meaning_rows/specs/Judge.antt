@@ -26,6 +26,11 @@ unfoldable pub runLengths : List Entry → ℕ
 runLengths [] = 0
 runLengths (e ∷ l) = natAbs (e .1) + 1 - natAbs (e .0) + runLengths l
 
+-- the run lengths of rows, added up
+unfoldable pub lengthTotal : Index → List Row → ℕ
+lengthTotal x [] = 0
+lengthTotal x (r ∷ l) = runLengths (runsOf x r) + lengthTotal x l
+
 -- the range is nonempty, its ends are multiples of d inside their limits, and it does not begin below `least`, where the row before ends
 unfoldable pub rangeGood : Index → ℤ → Row → Bool
 rangeGood x least r =
