@@ -1,4 +1,4 @@
 -- What a match test answers, and what it is given.
 pub mod Answer
 pub mod Alike
-pub mod Ready
+pub mod Bound

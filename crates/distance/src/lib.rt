@@ -3,6 +3,7 @@ use distance_envelope::envelope_bound;
 use distance_envelope::lower_envelope;
 use distance_envelope::upper_envelope;
 use distance_normal::normalise;
+use distance_query::Query;
 use distance_straight::straight;
 use distance_warped::warped_in;
 use meaning_filter::Kind;
@@ -22,18 +23,12 @@ ghost use Rattle.values.specs.Sums.{AreSums};
 ghost use Rattle.meaning_filter.specs.declared.Kind.{Kind};
 ghost use Rattle.distance.specs.Answer.{nearness, matched};
 ghost use Rattle.distance.specs.Alike.{Alike, Says};
-ghost use Rattle.distance.specs.Ready.{Envelopes, Ready};
+ghost use Rattle.distance_query.specs.Ready.{Envelopes, Ready};
 
 // Whether a stretch matches, and its distance.
 pub enum Match {
     Yes { distance: u64 },
     No,
-}
-
-// The numbers that depend on the query alone: the sum of its raised values, and its spread.
-pub struct Query {
-    pub values: u64,
-    pub spread: u64,
 }
 
 // A distance where it is at most the threshold.
@@ -155,4 +150,37 @@ pub fn match_normal(
     let b = l.band as usize;
     let threshold = l.threshold;
     compare_normal(s, from, t, a, curve, low, high, b, threshold, room, row)
+}
+
+// The match test: whether the stretch of `s` that starts at `from` matches the query `q`, and its distance. `t` are the stretch's sums, which only a normalised query asks for; `query`, `curve`, `low` and `high` are made of the query once.
+pub fn match_at(
+    kind: Kind,
+    s: &[i32],
+    from: usize,
+    t: Sums,
+    q: &[i32],
+    query: Query,
+    curve: &[i32],
+    low: &[i32],
+    high: &[i32],
+    l: Limits,
+    room: &mut [i32],
+    row: &mut [u64],
+) -> Match
+    requires { do ⌜ from + (← ⟦q.len()⟧) ≤ (← ⟦s.len()⟧) ⌝ }
+    requires { do ⌜ (0 < (← ⟦q.len()⟧)) × ((← ⟦q.len()⟧) ≤ 1024) ⌝ }
+    requires { do ⌜ ((← ⟦room.len()⟧) ≡ (← ⟦q.len()⟧)) × ((← ⟦q.len()⟧) < (← ⟦row.len()⟧)) ⌝ }
+    requires { ⌜ AllIn (now s) × AllIn (now q) × (l .scale ≤ 100) ⌝ }
+    requires { do ⌜ (kind ≡ Kind.Normal → AreSums (now s) from (← ⟦q.len()⟧) (t .values) (t .squares)) ⌝ }
+    requires { ⌜ Ready kind (now q) (l .band) (now curve) (now low) (now high) (query .values) (query .spread) ⌝ }
+    ensures { λ r. do ⌜ r ≡ matched kind (stretch (now (s .entry)) from) (at (now (q .entry))) (← ⟦q.len()⟧ .entry) l ⌝ }
+{
+    match kind {
+        Kind::Raw => {
+            let b = l.band as usize;
+            let threshold = l.threshold;
+            compare(s, from, curve, low, high, b, threshold, row)
+        }
+        Kind::Normal => match_normal(s, from, t, q, query, curve, low, high, l, room, row),
+    }
 }

@@ -10,7 +10,7 @@ use Rattle.meaning_curves.specs.Match.{distance}
 use Rattle.meaning_curves.proofs.Straight.{distance-is}
 use Rattle.numbers.specs.Within.{within-above}
 use Rattle.distance.specs.Answer.{nearness, no-answer, within-answer, straight-distance}
-use Rattle.distance.specs.Ready.{low-in, high-in, bound-le}
+use Rattle.distance.specs.Bound.{low-in, high-in, bound-le}
 use Rattle.distance.proofs.compare.Statement.{statement}
 use Rattle.distance.proofs.compare.Tie as tie
 

@@ -8,7 +8,7 @@ use Rattle.meaning_curves.specs.Curve.{at, stretch, spread}
 use Rattle.meaning_curves.proofs.Same.{distance-same}
 use Rattle.distance_normal.specs.Normal.{normalised-in}
 use Rattle.distance.specs.Answer.{nearness}
-use Rattle.distance.specs.Ready.{normal-room, same-self}
+use Rattle.distance.specs.Bound.{normal-room, same-self}
 use Rattle.distance.proofs.compare_normal.Statement.{statement}
 use Rattle.distance.proofs.compare_normal.Tie as tie
 

@@ -1,5 +1,4 @@
--- What depends on the query alone and is made once (`Ready`): the curve that stretches are compared with, its envelopes, and the query's raised sum and spread.
--- The envelope bound of a stretch is at most its distance from that curve (`bound-le`). Assumes nothing.
+-- What the match test knows of a stretch beside the query: its envelope bound is at most its distance (`bound-le`), raised sums differ as the sums do (`shift-raised`), and spreads are not large. Assumes nothing.
 use mathlib.Core.Path.{_≡_, refl, sym, ap}
 use mathlib.Core.List.{List}
 use Prim.Native.Nat.{ℕ, _+_, _*_, _<_, _≤_}
@@ -18,32 +17,13 @@ use Rattle.meaning_curves.proofs.Values.{AllIn, all-in, size-le}
 use Rattle.meaning_curves.proofs.Sizes.{spread-le}
 use Rattle.meaning_curves.proofs.Same.{Same}
 use Rattle.meaning_filter.specs.declared.Kind.{Kind}
-use Rattle.meaning_filter.specs.declared.Kind.the-variants.{Raw, Normal}
 use Rattle.meaning_filter.specs.Envelope.{lower, upper}
 use Rattle.meaning_filter.proofs.Envelope.{lower-one, upper-one, envelope}
 use Rattle.meaning_filter.proofs.Bound.{apart, distance-bound}
 use Rattle.numbers.specs.Raised.{raised}
 use Rattle.values.specs.Sums.{sum-raised}
 use Rattle.distance_normal.specs.Normal.{Normalised}
-use Rattle.distance_envelope.specs.Envelope.{IsEnvelope}
-
--- the envelopes of a curve of m values at the band b
-pub record Envelopes (curve : List ℤ) (m b : ℕ) (low high : List ℤ) : Type 0 where
-  pub below : IsEnvelope (lower (at curve) m b) m low
-  pub above : IsEnvelope (upper (at curve) m b) m high
-
--- the curve that stretches are compared with: the query, or its normalised values
-abbrev pub curveOf : Kind → (ℕ → ℤ) → ℕ → ℕ → ℤ
-curveOf Raw q m = q
-curveOf Normal q m = normalised q m
-
-pub record Ready (kind : Kind) (q : List ℤ) (b : ℕ) (curve low high : List ℤ) (p A : ℕ) : Type 0 where
-  pub long : length curve ≡ length q
-  pub same : Same (length q) (at curve) (curveOf kind (at q) (length q))
-  pub inside : AllIn curve
-  pub envelopes : Envelopes curve (length q) b low high
-  pub values : p ≡ Σℕ (length q) (λ k. raised (stretch q 0 k))
-  pub spread : A ≡ spread (at q) (length q)
+use Rattle.distance_query.specs.Ready.{Envelopes, Ready, from-start}
 
 -- ---- envelopes
 
@@ -59,11 +39,6 @@ pub bound-le : {curve low high : List ℤ} {m b : ℕ} (s : ℕ → ℤ) → 0 <
 bound-le {curve} {low} {high} {m} {b} s long e =
     rw (e .below .long, Σℕ-same m (apart s (at low) (at high)) (apart s (lower (at curve) m b) (upper (at curve) m b)) (λ k l. rw (e .below .at k l, e .above .at k l) refl))
     (distance-bound s m (envelope (at curve) m b) (omega arith) long)
-
--- ---- a stretch from the first place on is the list itself
-
-pub from-start : (q : List ℤ) (m : ℕ) → Same m (stretch q 0) (at q)
-from-start q m = record { at = λ k l. rw zero-add refl }
 
 -- ---- the raised sums differ as the sums do
 
@@ -85,3 +60,8 @@ same-self m q = record { at = λ k l. refl }
 
 pub spread-limit : {q : List ℤ} (m : ℕ) → AllIn q → m ≤ 1024 → spread (at q) m ≤ 419430400000000
 spread-limit {q} m h short = omega (arith, spread-le (at q) m 10000 (λ k l. size-le (h .at k)), sq-le {x = m * 10000} {y = 10240000} (omega arith))
+
+-- ---- what is ready for a kind that is told
+
+pub of-kind : {kind other : Kind} {q curve low high : List ℤ} {b p A : ℕ} → kind ≡ other → Ready kind q b curve low high p A → Ready other q b curve low high p A
+of-kind e r = rw e at r
