@@ -1,7 +1,5 @@
 // Whether a stretch matches a query: cheap tests first, then the envelope bound, then the distance.
-use distance_envelope::envelope_bound;
-use distance_envelope::lower_envelope;
-use distance_envelope::upper_envelope;
+use distance_bound::envelope_bound;
 use distance_normal::normalise;
 use distance_query::Query;
 use distance_straight::straight;
@@ -11,7 +9,6 @@ use meaning_filter::Limits;
 use numbers::difference;
 use values::Sums;
 use values::spread_of;
-use values::sums_at;
 ghost use mathlib.Core.Path.{_≡_};
 ghost use Prim.Native.Nat.{ℕ, _+_, _<_, _≤_};
 ghost use lib.ListN.{length};

@@ -6,15 +6,11 @@ use native.Mathlib.Omega.{arith}
 use native.Mathlib.Numerals.{add-one}
 use lib.ListN.{length}
 use lib.IntN.{ℤ}
-use mir.Syntax.{w32}
-use mir.Val.{toZ, ofZ}
 use Rattle.meaning_numbers.specs.Order.{minℤ, maxℤ}
 use Rattle.meaning_curves.specs.Curve.{at}
 use Rattle.meaning_curves.proofs.Values.{InLimits, AllIn}
 use Rattle.meaning_filter.specs.Envelope.{leastOf, greatestOf, lower, upper}
 use Rattle.meaning_filter.proofs.Envelope.{least-one, greatest-one}
-use Rattle.meaning_filter.proofs.Bound.{excess}
-use Rattle.numbers.specs.Back.{in-back}
 
 pub record IsEnvelope (f : ℕ → ℤ) (m : ℕ) (out : List ℤ) : Type 0 where
   pub long : length out ≡ m
@@ -42,10 +38,6 @@ least-in {q} lo n h = let o = least-one (at q) lo n in rw (o .same) (h .at (o .p
 
 pub greatest-in : {q : List ℤ} (lo n : ℕ) → AllIn q → InLimits (greatestOf (at q) lo n)
 greatest-in {q} lo n h = let o = greatest-one (at q) lo n in rw (o .same) (h .at (o .place))
-
--- what a value lies outside, of values that are passed on
-pub excess-back : {l u x : ℤ} → InLimits l → InLimits u → InLimits x → excess (toZ w32 (ofZ w32 l)) (toZ w32 (ofZ w32 u)) (toZ w32 (ofZ w32 x)) ≡ excess l u x
-excess-back h k i = rw (in-back h, in-back k, in-back i) refl
 
 -- the places of the band, as code has them
 last-place : (m b i : ℕ) → min (i + b + 1) m - 1 ≡ min (i + b) (m - 1)

@@ -1,4 +1,4 @@
--- `distance_envelope::outside_squared` meets its contract. Assumes nothing.
+-- `distance_bound::outside_squared` meets its contract. Assumes nothing.
 use borrow.Author.Needs.{needs}
 use mathlib.Core.Path.{_≡_, refl, _∙_}
 use Prim.Native.Nat.{_*_, _≤_}
@@ -6,9 +6,9 @@ use native.Mathlib.Omega.{arith}
 use Rattle.meaning_filter.proofs.Apart.{excess-sq-le}
 use Rattle.meaning_filter.proofs.Bound.{excess}
 use Rattle.numbers.specs.Back.{in-arg}
-use Rattle.distance_envelope.specs.Envelope.{excess-back}
-use Rattle.distance_envelope.proofs.outside_squared.Statement.{statement}
-use Rattle.distance_envelope.proofs.outside_squared.Tie as tie
+use Rattle.distance_bound.specs.Excess.{excess-back}
+use Rattle.distance_bound.proofs.outside_squared.Statement.{statement}
+use Rattle.distance_bound.proofs.outside_squared.Tie as tie
 
 -- the excess as the meaning has it
 told : (c : tie.After-outside) → c .outside .result ≡ excess (c .before .args .low) (c .before .args .high) (c .before .args .x)

@@ -1,4 +1,4 @@
--- `distance_envelope::envelope_part` meets its contract. The invariant: the sum so far. Assumes nothing.
+-- `distance_bound::envelope_part` meets its contract. The invariant: the sum so far. Assumes nothing.
 use mathlib.Core.Path.{_≡_, _∙_, ap}
 use Prim.Native.Nat.{ℕ, _+_, _*_, _-_, _≤_}
 use native.Mathlib.Omega.{arith}
@@ -8,9 +8,9 @@ use Rattle.meaning_filter.proofs.Bound.{apart}
 use Rattle.meaning_numbers.proofs.Sum.{Σℕ-none, Σℕ-more}
 use Rattle.meaning_numbers.specs.Sum.{square, Σℕ}
 use Rattle.numbers.specs.Back.{in-arg}
-use Rattle.distance_envelope.specs.Envelope.{excess-back}
-use Rattle.distance_envelope.proofs.envelope_part.Statement.{statement}
-use Rattle.distance_envelope.proofs.envelope_part.Tie as tie
+use Rattle.distance_bound.specs.Excess.{excess-back}
+use Rattle.distance_bound.proofs.envelope_part.Statement.{statement}
+use Rattle.distance_bound.proofs.envelope_part.Tie as tie
 
 abbrev Inv-loop : tie.InvT-loop
 Inv-loop s from low high p n sum₀ k₀ sum k =

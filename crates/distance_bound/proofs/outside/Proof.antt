@@ -1,4 +1,4 @@
--- `distance_envelope::outside` meets its contract: the greater of the two differences, and 0 where it is negative. Assumes nothing.
+-- `distance_bound::outside` meets its contract: the greater of the two differences, and 0 where it is negative. Assumes nothing.
 use mathlib.Core.Path.{_≡_, ap}
 use mathlib.Core.Logic.{⊎-elim}
 use Prim.Native.Nat.{_≤_}
@@ -9,8 +9,8 @@ use Rattle.meaning_filter.proofs.Apart.{up-is, excess-small}
 use Rattle.meaning_filter.proofs.Bound.{excess}
 use Rattle.meaning_numbers.proofs.Machine.{z-abs, zmach32}
 use Rattle.meaning_numbers.proofs.Rep.{up, dn, z-sub}
-use Rattle.distance_envelope.proofs.outside.Statement.{statement}
-use Rattle.distance_envelope.proofs.outside.Tie as tie
+use Rattle.distance_bound.proofs.outside.Statement.{statement}
+use Rattle.distance_bound.proofs.outside.Tie as tie
 
 -- the numbers as the machine reads them
 abbrev low : tie.Start → ℤ
