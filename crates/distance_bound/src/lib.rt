@@ -1,6 +1,6 @@
 // The envelope bound of a stretch: what its values lie outside an envelope, squared and summed, left early.
 ghost use mathlib.Core.Path.{_≡_};
-ghost use Prim.Native.Nat.{ℕ, _+_, _≤_};
+ghost use Prim.Native.Nat.{_+_, _≤_};
 ghost use Rattle.meaning_numbers.specs.Sum.{Σℕ, square};
 ghost use Rattle.meaning_curves.specs.Curve.{at, stretch};
 ghost use Rattle.meaning_curves.proofs.Values.{InLimits, AllIn};

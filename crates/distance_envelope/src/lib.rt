@@ -2,7 +2,7 @@
 use numbers::greater_value;
 use numbers::lesser_value;
 ghost use mathlib.Core.Path.{_≡_};
-ghost use Prim.Native.Nat.{ℕ, _+_, _-_, _<_, _≤_, min};
+ghost use Prim.Native.Nat.{_+_, _-_, _<_, min};
 ghost use Rattle.meaning_curves.specs.Curve.{at};
 ghost use Rattle.meaning_curves.proofs.Values.{AllIn};
 ghost use Rattle.meaning_filter.specs.Envelope.{leastOf, greatestOf, lower, upper};

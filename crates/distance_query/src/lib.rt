@@ -7,14 +7,12 @@ use values::Sums;
 use values::spread_of;
 use values::sums_at;
 ghost use mathlib.Core.Path.{_≡_};
-ghost use Prim.Native.Nat.{ℕ, _<_, _≤_};
-ghost use lib.ListN.{length};
+ghost use Prim.Native.Nat.{_<_, _≤_};
 ghost use Rattle.meaning_curves.specs.Curve.{at, stretch, spread};
 ghost use Rattle.meaning_curves.proofs.Values.{AllIn};
-ghost use Rattle.meaning_curves.proofs.Same.{Same};
 ghost use Rattle.meaning_filter.specs.declared.Kind.{Kind};
 ghost use Rattle.values.specs.Sums.{AreSums};
-ghost use Rattle.distance_query.specs.Ready.{Ready, curveOf, IsCurve};
+ghost use Rattle.distance_query.specs.Ready.{Ready, IsCurve};
 
 // The numbers that depend on the query alone: the sum of its raised values, and its spread.
 pub struct Query {

@@ -11,7 +11,7 @@ use lib.Dec.{T}
 use lib.ListN.{length, List·getD-eq-default}
 use lib.IntN.{ℤ, pos, negsuc, _-ℤ_, natAbs}
 use Rattle.meaning_numbers.specs.Sum.{Σℕ}
-use Rattle.meaning_numbers.proofs.Rep.{up, dn, zarith, z-sub}
+use Rattle.meaning_numbers.proofs.Rep.{zarith, z-sub}
 use Rattle.meaning_numbers.proofs.Machine.{z-abs}
 use Rattle.meaning_numbers.proofs.Sum.{Σℕ-le}
 use Rattle.meaning_numbers.proofs.Root.{sq-le}

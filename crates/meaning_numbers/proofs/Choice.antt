@@ -1,6 +1,6 @@
 -- Which of two whole numbers is the lesser and which the greater, told by the flag of the test x < y, as code that branches on it has it. Assumes nothing.
 use mathlib.Core.Path.{_≡_}
-use mathlib.Core.Bool.{Bool, true, false}
+use mathlib.Core.Bool.{true, false}
 use lib.IntN.{ℤ}
 use lib.Signed.{ltZ}
 use Rattle.meaning_numbers.specs.Order.{minℤ, maxℤ}

@@ -6,7 +6,7 @@ use native.Mathlib.Nat.{add-zero}
 use native.Mathlib.Decide.{decLe}
 use lib.IntN.{ℤ, _+ℤ_}
 use Rattle.meaning_numbers.specs.Sum.{Σℤ, Σℕ}
-use Rattle.meaning_numbers.proofs.Rep.{up, dn, zarith, z-add, z-eq}
+use Rattle.meaning_numbers.proofs.Rep.{zarith, z-add, z-eq}
 
 pub Σℕ-slide : (g : ℕ → ℕ) (from m : ℕ) → Σℕ m (λ k. g (from + 1 + k)) + g from ≡ Σℕ m (λ k. g (from + k)) + g (from + m)
 unfolding Σℕ

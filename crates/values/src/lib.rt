@@ -3,7 +3,7 @@ use numbers::in_limits;
 use numbers::lower;
 use numbers::raise;
 ghost use mathlib.Core.Path.{_≡_};
-ghost use Prim.Native.Nat.{ℕ, _+_, _<_, _≤_};
+ghost use Prim.Native.Nat.{_+_, _<_, _≤_};
 ghost use Rattle.meaning_numbers.specs.Sum.{Σℕ};
 ghost use Rattle.meaning_curves.specs.Limits.{firstOutside};
 ghost use Rattle.meaning_curves.specs.Curve.{stretch, windowSum, spread};

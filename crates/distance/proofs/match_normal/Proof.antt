@@ -1,18 +1,18 @@
 -- `distance::match_normal` meets its contract: where a cheap test fails the stretch does not match (`unlike-matched`), else the distance decides (`alike-matched`). Assumes nothing.
 use borrow.Author.Needs.{needs}
 use borrow.Author.Tests.{not-true, not-false}
-use mathlib.Core.Path.{_≡_, _∙_, ap, sym}
+use mathlib.Core.Path.{_≡_, _∙_, ap}
 use Prim.Native.Nat.{ℕ, _≤_}
-use native.Mathlib.Omega.{arith}
 use lib.IntN.{ℤ, pos, _-ℤ_, natAbs}
 use lib.ListN.{length}
 use Rattle.meaning_curves.specs.Curve.{at, stretch, total, spread}
 use Rattle.meaning_curves.specs.Normal.{normalised}
 use Rattle.meaning_curves.proofs.Same.{distance-same}
 use Rattle.values.specs.Sums.{spread-bound}
-use Rattle.distance.specs.Answer.{nearness}
+use Rattle.distance_compare.specs.Answer.{nearness}
 use Rattle.distance.specs.Alike.{alike-matched, unlike-matched}
-use Rattle.distance.specs.Bound.{shift-raised, same-self, spread-limit}
+use Rattle.distance_compare.specs.Bound.{same-self}
+use Rattle.distance.specs.Shift.{shift-raised, spread-limit}
 use Rattle.distance.proofs.match_normal.Statement.{statement}
 use Rattle.distance.proofs.match_normal.Tie as tie
 

@@ -1,16 +1,14 @@
 -- `distance_envelope::least_of` meets its contract. The invariant: the least value so far, of whose bits the loop keeps. Assumes nothing.
 use borrow.Author.Needs.{needs}
-use mathlib.Core.Path.{_≡_, refl, _∙_, ap, sym}
-use Prim.Native.Nat.{ℕ, _+_, _-_, _≤_, _<_}
+use mathlib.Core.Path.{_≡_, _∙_, sym}
+use Prim.Native.Nat.{_+_, _-_, _≤_}
 use native.Mathlib.Omega.{arith}
-use lib.ListN.{length}
 use mir.Syntax.{w32}
-use mir.Val.{toZ, ofZ}
+use mir.Val.{toZ}
 use mir.ValLaws.{toZ-ofZ}
 use Rattle.meaning_curves.specs.Curve.{at}
 use Rattle.meaning_filter.specs.Envelope.{leastOf}
-use Rattle.meaning_numbers.specs.Order.{minℤ}
-use Rattle.numbers.specs.Back.{in-back, in-arg}
+use Rattle.numbers.specs.Back.{in-back}
 use Rattle.distance_envelope.specs.Envelope.{least-none, least-more}
 use Rattle.distance_envelope.proofs.least_of.Statement.{statement}
 use Rattle.distance_envelope.proofs.least_of.Tie as tie

@@ -1,10 +1,8 @@
 -- `distance_query::curve_of` meets its contract, by the kind. Assumes nothing.
 use borrow.Author.Needs.{needs}
-use mathlib.Core.Path.{_≡_, sym}
-use Prim.Native.Nat.{_+_, _≤_}
+use mathlib.Core.Path.{_≡_}
 use native.Mathlib.Omega.{arith}
 use native.Mathlib.Nat.{zero-add}
-use lib.ListN.{length}
 use Rattle.meaning_filter.specs.declared.Kind.the-variants.{Raw, Normal}
 use Rattle.distance_query.specs.Ready.{normal-curve}
 use Rattle.distance_query.proofs.curve_of.Statement.{statement}

@@ -1,6 +1,6 @@
 -- `distance_query::prepare` meets its contract: what its callees made, over the query's length. Assumes nothing.
 use borrow.Author.Needs.{needs}
-use mathlib.Core.Path.{_≡_, _∙_}
+use mathlib.Core.Path.{_∙_}
 use lib.ListN.{length}
 use Rattle.meaning_curves.proofs.Same.{spread-same}
 use Rattle.distance_query.specs.Ready.{from-start}

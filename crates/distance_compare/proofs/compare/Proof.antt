@@ -1,6 +1,6 @@
--- `distance::compare` meets its contract: the straight distance is the distance at band 0, and the warped one at any band. What the envelope bound passes, the distance passes (`bound-le`). Assumes nothing.
+-- `distance_compare::compare` meets its contract: the straight distance is the distance at band 0, and the warped one at any band. What the envelope bound passes, the distance passes (`bound-le`). Assumes nothing.
 use borrow.Author.Needs.{needs}
-use mathlib.Core.Path.{_≡_, _∙_, ap, sym}
+use mathlib.Core.Path.{_∙_, ap, sym}
 use Prim.Native.Nat.{ℕ}
 use native.Mathlib.Omega.{arith}
 use lib.ListN.{length}
@@ -9,10 +9,10 @@ use Rattle.meaning_curves.specs.Curve.{at, stretch}
 use Rattle.meaning_curves.specs.Match.{distance}
 use Rattle.meaning_curves.proofs.Straight.{distance-is}
 use Rattle.numbers.specs.Within.{within-above}
-use Rattle.distance.specs.Answer.{nearness, no-answer, within-answer, straight-distance}
-use Rattle.distance.specs.Bound.{low-in, high-in, bound-le}
-use Rattle.distance.proofs.compare.Statement.{statement}
-use Rattle.distance.proofs.compare.Tie as tie
+use Rattle.distance_compare.specs.Answer.{nearness, no-answer, within-answer, straight-distance}
+use Rattle.distance_compare.specs.Bound.{low-in, high-in, bound-le}
+use Rattle.distance_compare.proofs.compare.Statement.{statement}
+use Rattle.distance_compare.proofs.compare.Tie as tie
 
 -- the stretch and the curve
 module _ (o : tie.Start) where

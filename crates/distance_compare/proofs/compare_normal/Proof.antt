@@ -1,16 +1,16 @@
--- `distance::compare_normal` meets its contract: what stands in the room are the normalised values, and the distance asks for no others (`distance-same`). Assumes nothing.
+-- `distance_compare::compare_normal` meets its contract: what stands in the room are the normalised values, and the distance asks for no others (`distance-same`). Assumes nothing.
 use borrow.Author.Needs.{needs}
-use mathlib.Core.Path.{_≡_, _∙_, ap, sym}
+use mathlib.Core.Path.{_∙_, ap, sym}
 use Prim.Native.Nat.{ℕ, _<_}
 use native.Mathlib.Omega.{arith}
 use lib.ListN.{length}
 use Rattle.meaning_curves.specs.Curve.{at, stretch, spread}
 use Rattle.meaning_curves.proofs.Same.{distance-same}
 use Rattle.distance_normal.specs.Normal.{normalised-in}
-use Rattle.distance.specs.Answer.{nearness}
-use Rattle.distance.specs.Bound.{normal-room, same-self}
-use Rattle.distance.proofs.compare_normal.Statement.{statement}
-use Rattle.distance.proofs.compare_normal.Tie as tie
+use Rattle.distance_compare.specs.Answer.{nearness}
+use Rattle.distance_compare.specs.Bound.{normal-room, same-self}
+use Rattle.distance_compare.proofs.compare_normal.Statement.{statement}
+use Rattle.distance_compare.proofs.compare_normal.Tie as tie
 
 normalise-requires : tie.Need-normalise-requires
 normalise-requires c κs =

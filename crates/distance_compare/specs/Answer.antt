@@ -1,22 +1,18 @@
--- What a match test answers: the distance of a stretch that matches, by the meaning (`matched`). A distance that was left early answers the same as the whole one (`within-answer`). Assumes nothing.
+-- A distance within a threshold, as an answer. One that was left early answers the same as the whole one (`within-answer`). Assumes nothing.
 use mathlib.Core.Path.{_≡_, refl}
 use mathlib.Core.Bool.{Bool, true, false}
 use mathlib.Core.Logic.{⊎-elim}
 use Prim.Native.Nat.{ℕ, _<_, _≤_}
 use native.Mathlib.Omega.{arith}
 use native.Mathlib.Decide.{decLe}
-use lib.Dec.{T, leb, leb→le, le→leb}
+use lib.Dec.{leb, leb→le, le→leb}
 use lib.IntN.{ℤ}
 use Rattle.meaning_numbers.proofs.Tests.{is-true, is-false, decided}
 use Rattle.meaning_curves.specs.Straight.{straight}
-use Rattle.meaning_curves.specs.Match.{distance, rawMatch}
-use Rattle.meaning_filter.specs.declared.Kind.{Kind}
-use Rattle.meaning_filter.specs.declared.Kind.the-variants.{Raw}
-use Rattle.meaning_filter.specs.declared.Limits.{Limits}
-use Rattle.meaning_filter.specs.Matches.{matches, distanceTo}
+use Rattle.meaning_curves.specs.Match.{distance}
 use Rattle.numbers.specs.Within.{Within}
-use Rattle.distance.specs.declared.Match.{Match}
-use Rattle.distance.specs.declared.Match.the-variants.{Yes, No}
+use Rattle.distance_compare.specs.declared.Match.{Match}
+use Rattle.distance_compare.specs.declared.Match.the-variants.{Yes, No}
 
 abbrev pub answer : Bool → ℕ → Match
 answer true d = Yes d
@@ -25,10 +21,6 @@ answer false d = No
 -- d where it is at most the threshold
 abbrev pub nearness : ℕ → ℕ → Match
 nearness d E = answer (leb d E) d
-
--- whether the stretch s matches the query q, both of m values, and its distance
-unfoldable pub matched : Kind → (s q : ℕ → ℤ) → ℕ → Limits → Match
-matched kind s q m l = answer (matches kind s q m l) (distanceTo kind s q m l)
 
 -- ---- tests of numbers
 
@@ -56,7 +48,3 @@ within-answer {d} {E} {r} w = elim (decLe d E) [
 pub straight-distance : {b : ℕ} (s q : ℕ → ℤ) (m : ℕ) → b ≡ 0 → straight s q m ≡ distance s q b m
 unfolding distance
 straight-distance s q m e = rw e refl
-
-pub raw-matched : (s q : ℕ → ℤ) (m : ℕ) (l : Limits) → nearness (distance s q (l .band) m) (l .threshold) ≡ matched Raw s q m l
-unfolding matched matches distanceTo rawMatch
-raw-matched s q m l = refl
