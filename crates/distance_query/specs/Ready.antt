@@ -15,6 +15,7 @@ use Rattle.meaning_filter.specs.declared.Kind.{Kind}
 use Rattle.meaning_filter.specs.declared.Kind.the-variants.{Raw, Normal}
 use Rattle.meaning_filter.specs.Envelope.{lower, upper}
 use Rattle.numbers.specs.Raised.{raised}
+use Rattle.values.specs.Copy.{Copied}
 use Rattle.distance_normal.specs.Normal.{Normalised, normalised-in}
 use Rattle.distance_envelope.specs.Envelope.{IsEnvelope}
 
@@ -48,8 +49,8 @@ from-start q m = record { at = λ k l. rw zero-add refl }
 
 -- ---- a curve of each kind
 
-pub raw-curve : {q out : List ℤ} → length out ≡ length q → AllIn q → ((k : ℕ) → k < length q → at out k ≡ at q k) → IsCurve Raw q out
-raw-curve {q} {out} e h f = record { long = e; same = record { at = f }; inside = all-in out (λ k l. rw (f k (omega arith)) (h .at k)) }
+pub raw-curve : {q out : List ℤ} → AllIn q → Copied q out → IsCurve Raw q out
+raw-curve {q} {out} h c = record { long = c .long; same = record { at = c .at }; inside = all-in out (λ k l. rw (c .at k (omega (arith, c .long))) (h .at k)) }
 
 pub normal-curve : {q out : List ℤ} {a : ℕ} → length q ≤ 1024 → a ≡ spread (stretch q 0) (length q) → 0 < a → Normalised (stretch q 0) (length q) out → IsCurve Normal q out
 normal-curve {q} {out} short e some n = record {

@@ -4,6 +4,7 @@ use distance_envelope::upper_envelope;
 use distance_normal::normalise;
 use meaning_filter::Kind;
 use values::Sums;
+use values::copy_values;
 use values::spread_of;
 use values::sums_at;
 ghost use mathlib.Core.Path.{_≡_};
@@ -18,21 +19,6 @@ ghost use Rattle.distance_query.specs.Ready.{Ready, IsCurve};
 pub struct Query {
     pub values: u64,
     pub spread: u64,
-}
-
-// The values of `q` into `out`.
-pub fn copy_values(q: &[i32], out: &mut [i32])
-    requires { do ⌜ (← ⟦out.len()⟧) ≡ (← ⟦q.len()⟧) ⌝ }
-    requires { ⌜ AllIn (now q) ⌝ }
-    ensures { λ r. do ⌜ IsCurve Kind.Raw (now (q .entry)) (now (out .exit)) ⌝ }
-{
-    let m = q.len();
-    let mut i: usize = 0;
-    while i < m {
-        let x = q[i];
-        out[i] = x;
-        i += 1;
-    }
 }
 
 // The curve of a query: its values, or its normalised values, of its sums and its spread.

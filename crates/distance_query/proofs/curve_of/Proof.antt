@@ -4,7 +4,7 @@ use mathlib.Core.Path.{_≡_}
 use native.Mathlib.Omega.{arith}
 use native.Mathlib.Nat.{zero-add}
 use Rattle.meaning_filter.specs.declared.Kind.the-variants.{Raw, Normal}
-use Rattle.distance_query.specs.Ready.{normal-curve}
+use Rattle.distance_query.specs.Ready.{raw-curve, normal-curve}
 use Rattle.distance_query.proofs.curve_of.Statement.{statement}
 use Rattle.distance_query.proofs.curve_of.Tie as tie
 
@@ -21,7 +21,7 @@ normalise-requires c κs =
     rw (p .0, zero-add) (omega arith, (p .1 .0, (p .1 .1 .0, (p .1 .1 .1 .0, (p .1 .1 .1 .1 .0, p .1 .1 .1 .1 .1 (normal (c .before)))))))
 
 returns : tie.Need-returns
-returns c = rw (raw (c .before .before .before)) (c .before .copy-values .ensures)
+returns c = let t = c .before .before .before in rw (raw t) (raw-curve (t .before .before .pre .1 .1 .0) (c .before .copy-values .ensures))
 
 returns-2 : tie.Need-returns-2
 returns-2 c =
