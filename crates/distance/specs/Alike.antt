@@ -1,21 +1,22 @@
 -- The tests of a normalised query that ask for no value: flat, scale and shift, over the numbers that code has (`Alike`). They are those of the meaning (`alike-facts`), so where they fail the stretch does not match (`unlike-matched`), and where they pass the distance decides (`alike-matched`). Assumes nothing.
 use mathlib.Core.Path.{_≡_, refl, sym, subst}
-use mathlib.Core.Bool.{Bool, true, false, not, _&&_}
+use mathlib.Core.Bool.{Bool, true, false, not}
 use mathlib.Core.Logic.{⊎-elim}
 use Prim.Native.Nat.{ℕ, zero, suc, _*_, _<_, _≤_}
 use native.Mathlib.Omega.{arith}
-use lib.Dec.{T, leb, eqb, le→leb, eqb·suc-zero}
+use lib.Dec.{T, eqb, eqb·suc-zero}
 use lib.IntN.{ℤ, pos, _-ℤ_, natAbs}
-use Rattle.meaning_numbers.proofs.Tests.{is-true, is-false, decided, both-tests}
+use Rattle.meaning_numbers.proofs.Tests.{is-true, is-false, decided}
 use Rattle.meaning_curves.specs.Curve.{total, spread}
 use Rattle.meaning_curves.specs.Normal.{flat}
-use Rattle.meaning_curves.specs.Match.{normalDistance, normalMatch, scaleNear, shiftNear}
-use Rattle.meaning_curves.proofs.Match.{NormalMatch, normal-yes}
+use Rattle.meaning_curves.specs.Match.{normalDistance, normalMatch}
+use Rattle.meaning_curves.proofs.Match.{normal-yes}
 use Rattle.meaning_filter.specs.declared.Kind.the-variants.{Normal}
 use Rattle.meaning_filter.specs.declared.Limits.{Limits}
 use Rattle.meaning_filter.specs.Matches.{matches, distanceTo}
-use Rattle.distance.specs.declared.Match.the-variants.{No}
-use Rattle.distance.specs.Answer.{answer, nearness, matched, leb-yes}
+use Rattle.distance_compare.specs.declared.Match.the-variants.{No}
+use Rattle.distance_compare.specs.Answer.{nearness, leb-yes}
+use Rattle.distance.specs.Matched.{matched}
 
 -- of spreads A and B and raised sums p and q, of m values each, within scale a and shift h
 pub record Alike (A p B q m a h : ℕ) : Type 0 where

@@ -1,4 +1,4 @@
--- What a match test answers, and what it is given.
-pub mod Answer
+-- What a match test answers, and the tests that ask for no value.
+pub mod Matched
 pub mod Alike
-pub mod Ready
+pub mod Shift

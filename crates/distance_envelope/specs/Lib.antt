@@ -1,2 +1,4 @@
--- An envelope as it stands in a list.
+-- An envelope as it stands in a list, and how it is made.
 pub mod Envelope
+pub mod Best
+pub mod Pass

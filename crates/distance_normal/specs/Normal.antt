@@ -1,6 +1,6 @@
 -- A normalised value by one multiplication and one test. With F the root of 2^62 / A, and g = 100 × |c| below 2^31, the number e = g × F / 2^31 is the cut or one less than it (`estimate`): it is never too large, since F² × A ≤ 2^62, and e + 2 always is, since 2^62 < (F + 1)² × A.
 -- The cut is determined by its two inequalities (`cut-same`). Assumes nothing.
-use mathlib.Core.Path.{_≡_, refl, ap, _∙_, sym}
+use mathlib.Core.Path.{_≡_, refl, ap}
 use mathlib.Core.List.{List}
 use Prim.Native.Nat.{ℕ, zero, suc, _+_, _-_, _*_, _/_, _<_, _≤_}
 use mathlib.Core.Bool.{Bool, true, false, not}
@@ -8,15 +8,13 @@ use native.Mathlib.Omega.{arith}
 use lib.Dec.{T, leb, leb→le, nleb→lt}
 use mir.Val.{boolByte}
 use native.Mathlib.Nat.{add-zero, mul-le-mul, mul-le-mul-left, mul-le-mul-right, le-div-iff-mul-le, div-lt-iff-lt-mul}
-use native.Mathlib.Decide.{decLe}
 use lib.ListN.{length, getD}
 use lib.IntN.{ℤ, pos, negsuc, negℤ, natAbs, _-ℤ_}
-use lib.Signed.{_≤ℤ_}
-use Rattle.meaning_numbers.proofs.Rep.{up, dn, Rep, zarith, rep-pos, rep-sub, rep-by, rep-eq}
+use Rattle.meaning_numbers.proofs.Rep.{Rep, zarith, rep-pos, rep-sub, rep-by, rep-eq}
 use Rattle.meaning_numbers.specs.Root.{root}
 use Rattle.meaning_numbers.proofs.Root.{sq-le, le-of-sq-le, root-is}
 use Rattle.meaning_curves.specs.Curve.{spread}
-use Rattle.meaning_curves.specs.Normal.{centred, IsCut, cut, signed, normalised}
+use Rattle.meaning_curves.specs.Normal.{centred, cut, signed, normalised}
 use Rattle.meaning_curves.proofs.Normal.{cut-is, cut-only}
 use Rattle.meaning_curves.proofs.Sizes.{normal-small}
 use Rattle.meaning_curves.proofs.Values.{InLimits, AllIn, all-in}

@@ -1,7 +1,7 @@
 // The straight distance of a query and a stretch, left early.
 use numbers::squared;
 ghost use mathlib.Core.Path.{_≡_};
-ghost use Prim.Native.Nat.{ℕ, _+_, _≤_};
+ghost use Prim.Native.Nat.{_+_, _≤_};
 ghost use Rattle.meaning_numbers.specs.Sum.{Σℕ};
 ghost use Rattle.meaning_curves.specs.Curve.{at, stretch};
 ghost use Rattle.meaning_curves.specs.Straight.{cost, straight};

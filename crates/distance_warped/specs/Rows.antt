@@ -2,18 +2,18 @@
 -- A path to the end passes every row, so the least number of a row is at most the distance (`least-warped`). Assumes nothing.
 use mathlib.Core.Path.{_≡_, refl, sym, _∙_}
 use mathlib.Core.List.{List}
-use mathlib.Core.Option.{Option, none, some}
-use Prim.Native.Nat.{ℕ, zero, suc, _+_, _-_, _*_, _<_, _≤_, min}
+use mathlib.Core.Option.{Option}
+use Prim.Native.Nat.{ℕ, zero, suc, _+_, _-_, _<_, _≤_, min}
 use native.Mathlib.Omega.{arith}
 use native.Mathlib.Numerals.{add-one}
-use native.Mathlib.Nat.{mul-le-mul-right, zero-add}
+use native.Mathlib.Nat.{mul-le-mul-right}
 use native.Mathlib.Decide.{decLe}
 use lib.ListN.{length, getD, set}
 use lib.Seq.{getD-set-same, getD-set-other}
 use lib.IntN.{ℤ}
 use Rattle.meaning_curves.specs.Straight.{cost}
 use Rattle.meaning_curves.specs.Warp.{Near, WarpPath, start, first, second, both}
-use Rattle.meaning_curves.specs.Table.{table, warped}
+use Rattle.meaning_curves.specs.Table.{warped}
 use Rattle.meaning_curves.proofs.Table.{All, missing, there, Under, under, attained, least-total, warped-is}
 use Rattle.meaning_curves.proofs.Grid.{grid, coded, path-near, path-small, grid-start, grid-out, grid-top, grid-side, grid-inner, grid-distance}
 

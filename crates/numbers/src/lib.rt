@@ -1,7 +1,7 @@
 // Leaf arithmetic: whole roots, row numbers, and the few functions that own signed numbers.
 ghost use mathlib.Core.Path.{_≡_};
-ghost use Prim.Native.Nat.{ℕ, _+_, _*_, _/_, _<_, _≤_, min, max};
-ghost use lib.IntN.{ℤ, pos, _-ℤ_, natAbs};
+ghost use Prim.Native.Nat.{_+_, _*_, _/_, _<_, _≤_, min, max};
+ghost use lib.IntN.{pos, _-ℤ_, natAbs};
 ghost use Rattle.meaning_numbers.specs.Root.{root};
 ghost use Rattle.meaning_numbers.specs.Order.{minℤ, maxℤ};
 ghost use Rattle.meaning_curves.specs.Limits.{valueIn};

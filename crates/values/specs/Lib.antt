@@ -2,3 +2,4 @@
 pub mod Place
 pub mod Sums
 pub mod Window
+pub mod Copy

@@ -1,11 +1,11 @@
 -- The sums of a stretch as code keeps them, over values raised by 10,000: the sum of m raised values and the sum of their squares. The spread and the centred values are those of the values themselves (`spread-raised`, `centred-raised`).
 -- They move by one place (`slide-values`, `slide-squares`). Assumes nothing.
-use mathlib.Core.Path.{_≡_, refl}
+use mathlib.Core.Path.{_≡_}
 use mathlib.Core.List.{List}
-use Prim.Native.Nat.{ℕ, zero, suc, _+_, _*_, _<_, _≤_}
+use Prim.Native.Nat.{ℕ, zero, suc, _+_, _*_, _≤_}
 use native.Mathlib.Omega.{arith}
 use native.Mathlib.Nat.{mul-le-mul}
-use lib.IntN.{ℤ, pos, _*ℤ_}
+use lib.IntN.{ℤ, _*ℤ_}
 use Rattle.meaning_numbers.specs.Sum.{Σℕ, Σℤ, square}
 use Rattle.meaning_numbers.proofs.Rep.{Rep, rep-pos, rep-by, rep-add, rep-sub, rep-mul, eq-rep}
 use Rattle.meaning_numbers.proofs.Sum.{Σℕ-le}

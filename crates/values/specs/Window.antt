@@ -1,11 +1,11 @@
 -- The sum of a window: from the sum of its raised values (`window-raised`), how large it gets (`window-small`), and from the window before (`window-next`). Assumes nothing.
-use mathlib.Core.Path.{_≡_, refl}
+use mathlib.Core.Path.{_≡_}
 use mathlib.Core.List.{List}
 use Prim.Native.Nat.{ℕ, _+_, _*_, _≤_}
 use native.Mathlib.Omega.{arith}
 use lib.IntN.{ℤ, pos, _+ℤ_, _-ℤ_}
 use Rattle.meaning_numbers.specs.Sum.{Σℕ}
-use Rattle.meaning_numbers.proofs.Rep.{up, dn, zarith, rep-pos, rep-sub, rep-eq, z-rep}
+use Rattle.meaning_numbers.proofs.Rep.{up, dn, rep-pos, rep-sub, rep-eq, z-rep}
 use Rattle.meaning_numbers.proofs.Sum.{Σℕ-le}
 use Rattle.meaning_numbers.proofs.Slide.{Σℤ-slide}
 use Rattle.meaning_curves.specs.Curve.{at, stretch, windowSum}

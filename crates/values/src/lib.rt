@@ -3,7 +3,7 @@ use numbers::in_limits;
 use numbers::lower;
 use numbers::raise;
 ghost use mathlib.Core.Path.{_≡_};
-ghost use Prim.Native.Nat.{ℕ, _+_, _<_, _≤_};
+ghost use Prim.Native.Nat.{_+_, _<_, _≤_};
 ghost use Rattle.meaning_numbers.specs.Sum.{Σℕ};
 ghost use Rattle.meaning_curves.specs.Limits.{firstOutside};
 ghost use Rattle.meaning_curves.specs.Curve.{stretch, windowSum, spread};
@@ -11,6 +11,7 @@ ghost use Rattle.meaning_curves.proofs.Values.{AllIn};
 ghost use Rattle.numbers.specs.Raised.{raised};
 ghost use Rattle.values.specs.Place.{placed};
 ghost use Rattle.values.specs.Sums.{AreSums};
+ghost use Rattle.values.specs.Copy.{Copied};
 
 // The place of what was looked for.
 pub enum Place {
@@ -130,4 +131,18 @@ pub fn spread_of(s: &[i32], from: usize, m: usize, t: Sums) -> u64
     ensures { λ r. ⌜ r ≡ spread (stretch (now (s .entry)) from) m ⌝ }
 {
     (m as u64) * t.squares - t.values * t.values
+}
+
+// The values of `q` into `out`.
+pub fn copy_values(q: &[i32], out: &mut [i32])
+    requires { do ⌜ (← ⟦out.len()⟧) ≡ (← ⟦q.len()⟧) ⌝ }
+    ensures { λ r. ⌜ Copied (now (q .entry)) (now (out .exit)) ⌝ }
+{
+    let m = q.len();
+    let mut j: usize = 0;
+    while j < m {
+        let x = q[j];
+        out[j] = x;
+        j += 1;
+    }
 }

@@ -1,18 +1,18 @@
 -- `distance::match_normal` meets its contract: where a cheap test fails the stretch does not match (`unlike-matched`), else the distance decides (`alike-matched`). Assumes nothing.
 use borrow.Author.Needs.{needs}
 use borrow.Author.Tests.{not-true, not-false}
-use mathlib.Core.Path.{_≡_, _∙_, ap, sym}
+use mathlib.Core.Path.{_≡_, _∙_, ap}
 use Prim.Native.Nat.{ℕ, _≤_}
-use native.Mathlib.Omega.{arith}
 use lib.IntN.{ℤ, pos, _-ℤ_, natAbs}
 use lib.ListN.{length}
 use Rattle.meaning_curves.specs.Curve.{at, stretch, total, spread}
 use Rattle.meaning_curves.specs.Normal.{normalised}
 use Rattle.meaning_curves.proofs.Same.{distance-same}
 use Rattle.values.specs.Sums.{spread-bound}
-use Rattle.distance.specs.Answer.{nearness}
+use Rattle.distance_compare.specs.Answer.{nearness}
 use Rattle.distance.specs.Alike.{alike-matched, unlike-matched}
-use Rattle.distance.specs.Ready.{shift-raised, same-self, spread-limit}
+use Rattle.distance_compare.specs.Bound.{same-self}
+use Rattle.distance.specs.Shift.{shift-raised, spread-limit}
 use Rattle.distance.proofs.match_normal.Statement.{statement}
 use Rattle.distance.proofs.match_normal.Tie as tie
 
@@ -54,7 +54,7 @@ compare-normal-requires c κs =
     let p = o d .pre .1 in
     let ready = p .1 .1 .1 .1 in
     let like = e .before .alike .ensures .yes (not-false _ (e .if1 .left)) in
-    rw (ready .long) (o d .pre .0, (p .0, (p .1 .0, ((p .1 .1 .0 .0, ready .inside), (ready .envelopes, (p .1 .1 .1 .0, (d .spread-of .ensures, like .not-flat)))))))
+    rw (ready .curve-is .long) (o d .pre .0, (p .0, (p .1 .0, ((p .1 .1 .0 .0, ready .curve-is .inside), (ready .envelopes, (p .1 .1 .1 .0, (d .spread-of .ensures, like .not-flat)))))))
 
 returns-2 : tie.Need-returns-2
 returns-2 c =
@@ -64,8 +64,8 @@ returns-2 c =
     let ready = p .1 .1 .1 .1 in
     let l = o d .args .l in
     let like = e .before .alike .ensures .yes (not-false _ (e .if1 .left)) in
-    rw (ready .long) at (c .before .before .before .compare-normal .ensures)
-    ∙ ap (λ (x : ℕ). nearness x (l .threshold)) (distance-same (l .band) (p .0 .0) (same-self (m d) (normalised (S d) (m d))) (ready .same))
+    rw (ready .curve-is .long) at (c .before .before .before .compare-normal .ensures)
+    ∙ ap (λ (x : ℕ). nearness x (l .threshold)) (distance-same (l .band) (p .0 .0) (same-self (m d) (normalised (S d) (m d))) (ready .curve-is .same))
     ∙ alike-matched (S d) (Q d) (m d) l (d .spread-of .ensures) (ready .spread) (shift d) like
 
 pub match-normal-spec : {M : Type 1} → statement M

@@ -2,13 +2,13 @@
 use borrow.Author.Needs.{needs}
 use mathlib.Core.Path.{_≡_, _∙_}
 use mathlib.Core.Logic.{⊎-elim}
-use Prim.Native.Nat.{ℕ, _+_, _-_, _≤_, _<_}
+use Prim.Native.Nat.{_+_, _-_, _≤_}
 use native.Mathlib.Omega.{arith}
 use lib.IntN.{pos, negℤ, _-ℤ_}
 use mir.Syntax.{w32}
-use mir.Val.{toZ, ofZ}
+use mir.Val.{toZ}
 use mir.ValLaws.{toZ-ofZ, toZ-pos}
-use Rattle.distance_normal.specs.Normal.{CutOf, cut-small, normal-up, normal-down, diff}
+use Rattle.distance_normal.specs.Normal.{cut-small, normal-up, normal-down, diff}
 use Rattle.meaning_numbers.proofs.Machine.{zmach32}
 use Rattle.meaning_numbers.proofs.Rep.{z-sub, z-neg, zarith}
 use Rattle.distance_normal.proofs.normal_of.Statement.{statement}

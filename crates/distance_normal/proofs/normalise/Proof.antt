@@ -1,17 +1,16 @@
 -- `distance_normal::normalise` meets its contract. The invariant: the values so far are normalised. Assumes nothing.
-use borrow.Author.Needs.{needs}
 use borrow.Author.Count.{below-more}
-use mathlib.Core.Path.{_≡_, refl, _∙_, ap, sym}
-use Prim.Native.Nat.{ℕ, _+_, _*_, _-_, _≤_, _<_}
+use mathlib.Core.Path.{_≡_, refl, _∙_, sym}
+use Prim.Native.Nat.{ℕ, _*_, _-_, _≤_, _<_}
 use native.Mathlib.Nat.{mul-le-mul}
 use native.Mathlib.Omega.{arith}
-use lib.ListN.{length, getD, set, length-set}
+use lib.ListN.{length, getD, length-set}
 use lib.Seq.{getD-set-same, getD-set-other}
-use lib.IntN.{ℤ, pos, _-ℤ_}
+use lib.IntN.{pos}
 use mir.Syntax.{w32}
 use mir.Val.{toZ, ofZ}
 use mir.ValLaws.{toZ-ofZ}
-use Rattle.distance_normal.specs.Normal.{normal, normalised-is}
+use Rattle.distance_normal.specs.Normal.{normalised-is}
 use Rattle.meaning_curves.specs.Curve.{stretch}
 use Rattle.meaning_curves.specs.Normal.{normalised}
 use Rattle.numbers.specs.Back.{in-arg, raised-back}

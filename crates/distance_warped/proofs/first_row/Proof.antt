@@ -1,10 +1,9 @@
 -- `distance_warped::first_row` meets its contract. The invariant: the row is made as far as cell j (`Halfway`). Assumes nothing.
-use borrow.Author.Needs.{needs}
 use mathlib.Core.Path.{_≡_, refl, _∙_, sym}
 use Prim.Native.Nat.{ℕ, _+_, _*_, _-_, _≤_, _<_}
 use native.Mathlib.Omega.{arith}
-use lib.ListN.{length, getD, set, length-set}
-use lib.IntN.{ℤ, pos}
+use lib.ListN.{length, length-set}
+use lib.IntN.{ℤ}
 use Rattle.distance_warped.specs.Rows.{big, before, before-none, before-more, cells, Halfway, halfway-more, first-start, first-end, first-cell}
 use Rattle.meaning_curves.proofs.Values.{cost-le}
 use Rattle.meaning_curves.specs.Curve.{at, stretch}

@@ -1,12 +1,11 @@
 -- `distance_warped::next_row` meets its contract. The invariant: the row is made as far as cell j (`Halfway`), with the two numbers before it and the least number so far. Assumes nothing.
 use borrow.Author.Needs.{needs}
 use mathlib.Core.Path.{_≡_, refl, _∙_, sym}
-use mathlib.Core.List.{List}
-use Prim.Native.Nat.{ℕ, _+_, _*_, _-_, _≤_, _<_}
+use Prim.Native.Nat.{ℕ, _+_, _-_, _≤_, _<_}
 use native.Mathlib.Omega.{arith}
-use lib.ListN.{length, getD, set, length-set}
-use lib.IntN.{ℤ, pos}
-use Rattle.distance_warped.specs.Rows.{big, before, before-more, cells, RowIs, Halfway, halfway-more, row-start, row-end, before-le, next-cell, least-more, low-new}
+use lib.ListN.{length, length-set}
+use lib.IntN.{ℤ}
+use Rattle.distance_warped.specs.Rows.{big, before, before-more, cells, Halfway, halfway-more, row-start, row-end, before-le, next-cell, least-more, low-new}
 use Rattle.meaning_curves.proofs.Values.{cost-le}
 use Rattle.meaning_curves.specs.Curve.{at, stretch}
 use Rattle.meaning_curves.specs.Straight.{cost}

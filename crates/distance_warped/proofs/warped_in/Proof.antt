@@ -1,5 +1,4 @@
 -- `distance_warped::warped_in` meets its contract. The invariant: `row` is row i of the table. Left early, the least number of a row is at most the distance (`least-warped`). Assumes nothing.
-use borrow.Author.Needs.{needs}
 use mathlib.Core.Path.{_≡_, refl, _∙_}
 use Prim.Native.Nat.{ℕ, _+_, _-_, _≤_, _<_}
 use native.Mathlib.Omega.{arith}

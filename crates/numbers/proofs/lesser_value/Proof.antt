@@ -1,7 +1,5 @@
 -- `numbers::lesser_value` meets its contract. Assumes nothing.
-use mathlib.Core.Path.{_≡_, _∙_, sym}
-use mathlib.Core.Bool.{true, false}
-use lib.Signed.{ltZ}
+use mathlib.Core.Path.{_∙_, sym}
 use mir.Syntax.{w32}
 use mir.ValLaws.{toZ-ofZ}
 use Rattle.meaning_numbers.proofs.Choice.{min-yes, min-no}

@@ -1,9 +1,8 @@
 -- `numbers::row_number` meets its contract: of a negative sum z the number -1 - z is not negative, and its quotient is -1 less the row's number. Assumes nothing.
 use borrow.Author.Needs.{needs}
-use mathlib.Core.Path.{_≡_, _∙_, sym}
-use Prim.Native.Nat.{ℕ, _<_}
+use mathlib.Core.Path.{_≡_, sym}
+use Prim.Native.Nat.{_<_}
 use native.Mathlib.Nat.{div-le-self}
-use native.Mathlib.Omega.{arith}
 use lib.IntN.{ℤ, pos, negsuc, _-ℤ_, natAbs}
 use mir.Syntax.{w32}
 use mir.Val.{toZ, ofZ}

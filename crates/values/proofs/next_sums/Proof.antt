@@ -1,7 +1,7 @@
 -- `values::next_sums` meets its contract (`slide-values`, `slide-squares`). Assumes nothing.
 use borrow.Author.Needs.{needs}
 use mathlib.Core.Path.{_≡_, _∙_, sym}
-use Prim.Native.Nat.{ℕ, _+_, _*_, _-_, _≤_}
+use Prim.Native.Nat.{_+_, _*_, _≤_}
 use native.Mathlib.Omega.{arith}
 use Rattle.meaning_curves.specs.Curve.{at}
 use Rattle.meaning_numbers.proofs.Root.{sq-le}

@@ -1,8 +1,8 @@
 -- `values::next_window` meets its contract (`window-next`); nothing wraps, as no window's sum is large (`window-small`). Assumes nothing.
 use borrow.Author.Needs.{needs}
-use mathlib.Core.Path.{_≡_, sym}
+use mathlib.Core.Path.{_≡_}
 use Prim.Native.Nat.{_+_}
-use lib.IntN.{ℤ, _+ℤ_, _-ℤ_}
+use lib.IntN.{ℤ, _-ℤ_}
 use mir.Syntax.{w32}
 use mir.Val.{toZ, ofZ}
 use Rattle.meaning_numbers.proofs.Rep.{z-add, z-sub, z-eq}

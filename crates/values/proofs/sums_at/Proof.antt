@@ -1,6 +1,6 @@
 -- `values::sums_at` meets its contract. The invariant: both sums so far. Assumes nothing.
 use mathlib.Core.Path.{_≡_, _∙_}
-use Prim.Native.Nat.{ℕ, _+_, _*_, _-_, _≤_}
+use Prim.Native.Nat.{_*_, _-_, _≤_}
 use native.Mathlib.Omega.{arith}
 use Rattle.meaning_curves.specs.Curve.{stretch}
 use Rattle.meaning_numbers.proofs.Root.{sq-le}
@@ -8,7 +8,6 @@ use Rattle.meaning_numbers.proofs.Sum.{Σℕ-none, Σℕ-more}
 use Rattle.meaning_numbers.specs.Sum.{Σℕ, square}
 use Rattle.numbers.specs.Back.{in-arg, raised-back}
 use Rattle.numbers.specs.Raised.{raised, raised-le}
-use Rattle.values.specs.Sums.{AreSums}
 use Rattle.values.proofs.sums_at.Statement.{statement}
 use Rattle.values.proofs.sums_at.Tie as tie
 

@@ -1,6 +1,6 @@
 -- `values::window_sum` meets its contract: the raised sum less the bias (`window-raised`). Assumes nothing.
 use borrow.Author.Needs.{needs}
-use mathlib.Core.Path.{_≡_, _∙_, ap}
+use mathlib.Core.Path.{_∙_, ap}
 use Prim.Native.Nat.{ℕ, _*_}
 use native.Mathlib.Omega.{arith}
 use lib.IntN.{pos, _-ℤ_}

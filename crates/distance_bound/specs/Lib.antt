@@ -1,0 +1,2 @@
+-- What a value lies outside an envelope, of values that are passed on.
+pub mod Excess

@@ -1,0 +1,13 @@
+-- `distance_envelope::envelope` meets its contract (`passes-edge`). Assumes nothing.
+use borrow.Author.Needs.{needs}
+use Rattle.distance_envelope.specs.Pass.{passes-edge}
+use Rattle.distance_envelope.proofs.envelope.Statement.{statement}
+use Rattle.distance_envelope.proofs.envelope.Tie as tie
+
+returns : tie.Need-returns
+returns c =
+    let ahead = c .before .before .before .before in
+    passes-edge (ahead .before .before .before .copy-values .ensures) (ahead .reach-ahead .ensures) (c .before .reach-back .ensures)
+
+pub envelope-spec : {M : Type 1} → statement M
+envelope-spec = tie.close (tie.spec (λ c κs. search needs) (λ c κs. search needs) (λ c κs. search needs) (λ c. search needs) returns)

@@ -1,0 +1,52 @@
+-- `distance_envelope::pass_back` meets its contract. The invariant: the pass is made from the end as far as place i (`BackTo`). Assumes nothing.
+use borrow.Author.Needs.{needs}
+use mathlib.Core.Path.{_≡_, refl, _∙_}
+use Prim.Native.Nat.{ℕ, _+_, _-_, _≤_, min}
+use native.Mathlib.Omega.{arith}
+use lib.IntN.{ℤ}
+use lib.ListN.{length, length-set}
+use mir.Syntax.{w32}
+use mir.Val.{toZ, ofZ}
+use mir.ValLaws.{toZ-ofZ}
+use Rattle.meaning_curves.specs.Curve.{at}
+use Rattle.distance_envelope.specs.Best.{pick}
+use Rattle.distance_envelope.specs.Pass.{BackTo, back-start, back-next, back-end}
+use Rattle.distance_envelope.proofs.pass_back.Statement.{statement}
+use Rattle.distance_envelope.proofs.pass_back.Tie as tie
+
+abbrev Inv-loop : tie.InvT-loop
+Inv-loop out₀ d low i₀ out i = (i ≤ length out₀) × (min d (length out₀) ≤ i) × (length out ≡ length out₀) × BackTo low d i out₀ out
+
+abbrev μ-loop : tie.MeasureT-loop
+μ-loop out₀ d low i₀ out i = i
+
+loop-again : tie.Need-loop-again Inv-loop μ-loop
+loop-again c =
+    let l = c .before .before .before .before in
+    let o = l .before in
+    let x = at (l .loop .out) (l .loop .i - 1 - o .args .d) in
+    let y = at (l .loop .out) (l .loop .i - 1) in
+    let new : toZ w32 (ofZ w32 (c .pick .result)) ≡ pick (o .args .low) x y =
+    toZ-ofZ w32 (c .pick .result) (record { sfits = c .pick .ok }) ∙ c .pick .ensures ∙ rw (toZ-ofZ w32 x (search needs), toZ-ofZ w32 y (search needs)) refl in
+    (omega arith, omega arith, length-set (l .loop .out) (l .loop .i - 1) _ ∙ l .loop .inv .2, back-next _ (l .loop .inv .3) (omega arith) (omega arith) new)
+
+pub pass-back-spec : {M : Type 1} → statement M
+pass-back-spec =
+    tie.close
+    (tie.spec
+    Inv-loop
+    μ-loop
+    (λ c. (omega arith, omega arith, omega arith, back-start _ _ _))
+    (λ c. omega arith)
+    (λ c. omega arith)
+    (λ c. omega arith)
+    (λ c. omega arith)
+    (λ c. omega arith)
+    (λ c. omega arith)
+    (λ c κs. search needs)
+    (λ c. omega arith)
+    (λ c. omega arith)
+    (λ c. omega arith)
+    loop-again
+    (λ c. omega arith)
+    (λ c. back-end (c .before .loop .inv .3) (omega arith)))

@@ -1,0 +1,35 @@
+-- `distance_envelope::reach_ahead` meets its contract. The invariant: each value is the best of n places ahead and itself (`Ahead`). Assumes nothing.
+use borrow.Author.Needs.{needs}
+use mathlib.Core.Path.{_≡_}
+use Prim.Native.Nat.{_-_, _≤_}
+use native.Mathlib.Omega.{arith}
+use Rattle.distance_envelope.specs.Pass.{Ahead, ahead-none, ahead-pass}
+use Rattle.distance_envelope.proofs.reach_ahead.Statement.{statement}
+use Rattle.distance_envelope.proofs.reach_ahead.Tie as tie
+
+abbrev Inv-loop : tie.InvT-loop
+Inv-loop out₀ b low n₀ out n = (n ≤ b) × Ahead low n out₀ out
+
+abbrev μ-loop : tie.MeasureT-loop
+μ-loop out₀ b low n₀ out n = b - n
+
+loop-again : tie.Need-loop-again Inv-loop μ-loop
+loop-again c = (omega arith, ahead-pass (c .before .before .before .before .before .loop .inv .1) (c .before .pass-ahead .ensures) (omega arith))
+
+returns : tie.Need-returns Inv-loop μ-loop
+returns c = let e : c .before .loop .n ≡ c .before .before .args .b = omega arith in rw e at (c .before .loop .inv .1)
+
+pub reach-ahead-spec : {M : Type 1} → statement M
+reach-ahead-spec =
+    tie.close
+    (tie.spec
+    Inv-loop
+    μ-loop
+    (λ c. (omega arith, ahead-none _ _))
+    (λ c κs. omega arith)
+    (λ c κs. search needs)
+    (λ c. omega arith)
+    (λ c. omega arith)
+    loop-again
+    (λ c. c .before .loop .inv .1 .long)
+    returns)

@@ -1,0 +1,2 @@
+-- What is made of a query once.
+pub mod Ready

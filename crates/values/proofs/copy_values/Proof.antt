@@ -1,0 +1,49 @@
+-- `values::copy_values` meets its contract. The invariant: the values so far are those of q. Assumes nothing.
+use borrow.Author.Needs.{needs}
+use borrow.Author.Count.{below-more}
+use mathlib.Core.Path.{_≡_, refl, _∙_}
+use Prim.Native.Nat.{ℕ, _-_, _≤_, _<_}
+use native.Mathlib.Omega.{arith}
+use lib.IntN.{pos}
+use lib.ListN.{length, length-set}
+use lib.Seq.{getD-set-same, getD-set-other}
+use mir.Syntax.{w32}
+use mir.ValLaws.{toZ-ofZ}
+use Rattle.meaning_curves.specs.Curve.{at}
+use Rattle.values.proofs.copy_values.Statement.{statement}
+use Rattle.values.proofs.copy_values.Tie as tie
+
+abbrev Inv-loop : tie.InvT-loop
+Inv-loop q out₀ m j₀ out j = (j ≤ m) × (length out ≡ length out₀) × ((k : ℕ) → k < j → at out k ≡ at q k)
+
+abbrev μ-loop : tie.MeasureT-loop
+μ-loop q out₀ m j₀ out j = m - j
+
+loop-again : tie.Need-loop-again Inv-loop μ-loop
+loop-again c =
+    let l = c .before .before in
+    let out = l .loop .out in
+    let j = l .loop .j in
+    let room : j < length out = omega arith in (
+      omega arith,
+      simp length-set (omega arith),
+      below-more _ j (λ k u. getD-set-other out j k _ (pos 0) (λ e. omega arith) ∙ l .loop .inv .2 k u)
+          (getD-set-same out j _ (pos 0) room ∙ toZ-ofZ w32 (at (l .before .args .q .now) j) (search needs)),
+    )
+
+pub copy-values-spec : {M : Type 1} → statement M
+copy-values-spec =
+    tie.close
+    (tie.spec
+    Inv-loop
+    μ-loop
+    (λ c. (omega arith, refl, λ k l. absurd (omega arith)))
+    (λ c. omega arith)
+    (λ c. omega arith)
+    (λ c. omega arith)
+    (λ c. omega arith)
+    (λ c. omega arith)
+    (λ c. omega arith)
+    loop-again
+    (λ c. omega arith)
+    (λ c. record { long = omega arith; at = λ k l. c .before .loop .inv .2 k (omega arith) }))

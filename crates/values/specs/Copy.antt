@@ -1,0 +1,11 @@
+-- A list that holds the values of another. Assumes nothing.
+use mathlib.Core.Path.{_≡_}
+use mathlib.Core.List.{List}
+use Prim.Native.Nat.{ℕ, _<_}
+use lib.IntN.{ℤ}
+use lib.ListN.{length}
+use Rattle.meaning_curves.specs.Curve.{at}
+
+pub record Copied (q out : List ℤ) : Type 0 where
+  pub long : length out ≡ length q
+  pub at : (k : ℕ) → k < length q → at out k ≡ at q k
