@@ -1,8 +1,0 @@
--- `distance_normal::factor` meets its contract. Assumes nothing.
-use borrow.Author.Needs.{needs}
-use Rattle.distance_normal.specs.Normal.{factor-is}
-use Rattle.distance_normal.proofs.factor.Statement.{statement}
-use Rattle.distance_normal.proofs.factor.Tie as tie
-
-pub factor-spec : {M : Type 1} → statement M
-factor-spec = tie.close (tie.spec (λ c. search needs) (λ c κs. search needs) (λ c. rw (c .root .ensures) (factor-is (c .before .pre))))

@@ -1,2 +1,0 @@
--- A normalised value by one multiplication and one test.
-pub mod Normal

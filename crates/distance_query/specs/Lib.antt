@@ -1,2 +1,0 @@
--- What is made of a query once.
-pub mod Ready

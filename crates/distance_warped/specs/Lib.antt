@@ -1,2 +1,0 @@
--- The row of the table that code keeps.
-pub mod Rows

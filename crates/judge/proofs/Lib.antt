@@ -1,5 +1,0 @@
--- What the definitions of specs/ imply.
-pub mod Scan
-pub mod Next
-pub mod Outcome
-pub mod Calls

@@ -1,2 +1,0 @@
--- What is said of lent row records.
-pub mod Records
