@@ -8,6 +8,7 @@ pub mod Listed
 pub mod Pack
 pub mod Passes
 pub mod Demand3
+pub mod Witness
 pub mod Made
 pub mod Row
 pub mod Calls
