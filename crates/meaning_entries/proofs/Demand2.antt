@@ -3,9 +3,12 @@ use mathlib.Core.Path.{_≡_, refl, ap, _∙_}
 use mathlib.Core.Bool.{Bool, true, false}
 use mathlib.Core.List.{List}
 use mathlib.Core.Option.{Option, none, some}
-use Prim.Native.Nat.{ℕ}
+use Prim.Native.Nat.{ℕ, zero, suc}
 use lib.Dec.{eqb}
+use Rattle.meaning_curves.specs.Limits.{mostValues}
 use Rattle.meaning_rows.specs.Index.{Index}
+use Rattle.meaning_rows.specs.Audit.{firstWrong, missing}
+use Rattle.meaning_entries.specs.Refusal.{firstRefusal}
 use Rattle.meaning_entries.specs.declared.Built.{Built}
 use Rattle.meaning_entries.specs.declared.Extended.{Extended}
 use Rattle.meaning_entries.specs.declared.Audited.{Audited}
@@ -13,12 +16,12 @@ use Rattle.meaning_entries.specs.declared.Written.{Written}
 use Rattle.meaning_entries.specs.declared.Loaded.{Loaded}
 use Rattle.meaning_entries.specs.declared.Found.{Found}
 use Rattle.meaning_entries.specs.Buffers.{IndexBuffers}
-use Rattle.meaning_entries.specs.Answers.{builtRefusal, builtCounts, extendedRefusal, extendedCounts, auditedRefusal, writtenRefusal, writtenCount, loadedRefusal, loadedCounts, foundRefusal, foundCounts}
-use Rattle.meaning_entries.specs.Build.{BuildCall, buildRefusal, buildAnswer, buildCounts, buildAfter}
-use Rattle.meaning_entries.specs.Extend.{ExtendCall, extendRefusal, extendAnswer, extendCounts, extendAfter}
-use Rattle.meaning_entries.specs.Audit.{AuditCall, auditAnswer}
+use Rattle.meaning_entries.specs.Answers.{builtRefusal, builtHead, builtCounts, extendedRefusal, extendedHead, extendedCounts, auditedRefusal, wrongPlace, writtenRefusal, writtenCount, loadedRefusal, loadedHead, loadedCounts, foundRefusal, foundCounts}
+use Rattle.meaning_entries.specs.Build.{BuildCall, buildRefusal, buildAnswer, buildHead, buildCounts, buildAfter}
+use Rattle.meaning_entries.specs.Extend.{ExtendCall, extendRefusal, extendAnswer, extendHead, extendCounts, extendAfter}
+use Rattle.meaning_entries.specs.Audit.{AuditCall, auditTable, complete, audited, auditAnswer, auditWrong}
 use Rattle.meaning_entries.specs.Write.{writeRefusal, writeAnswer, writeCount, writeAfter}
-use Rattle.meaning_entries.specs.Load.{loadRefusal, loadAnswer, loadCounts, loadAfter}
+use Rattle.meaning_entries.specs.Load.{loadRefusal, loadAnswer, loadHead, loadCounts, loadAfter}
 use Rattle.meaning_entries.specs.Search.{SearchCall, SearchBuffers, searchRefusal, looked, searchRefused, searchAnswer, searchCounts, searchAfter}
 use Rattle.meaning_entries.specs.AuditText.{unpack, auditText}
 use Rattle.meaning_entries.specs.Demand2.{BuildKept, ExtendKept, AuditKept, WriteKept, LoadKept, SearchKept, AuditTextKept}
@@ -29,10 +32,16 @@ unfolding buildAnswer buildCounts
 build-by c b none h = rw (h, buildAnswer, buildCounts)
 build-by c b (some r) h = rw (h, buildAnswer, buildCounts)
 
+build-head : (c : BuildCall) (b : IndexBuffers) (o : Option (ℕ × ℕ)) → buildRefusal c b ≡ o → builtHead (buildAnswer c b) ≡ buildHead c b
+unfolding buildAnswer buildHead
+build-head c b none h = rw (h, buildAnswer, buildHead)
+build-head c b (some r) h = rw (h, buildAnswer, buildHead)
+
 pub build-kept : (c : BuildCall) (b : IndexBuffers) (a : Built) (after : IndexBuffers) → a ≡ buildAnswer c b → after ≡ buildAfter c b → BuildKept c b a after
 build-kept c b a after h k = record {
   answered = h;
   refused = ap builtRefusal h ∙ build-refuses c b .same;
+  headed = ap builtHead h ∙ build-head c b (buildRefusal c b) refl;
   counted = ap builtCounts h ∙ build-by c b (buildRefusal c b) refl;
   rows = ap (λ (x : IndexBuffers). x .rows) k;
   left = ap (λ (x : IndexBuffers). x .left) k;
@@ -44,10 +53,16 @@ unfolding extendAnswer extendCounts
 extend-by c b none h = rw (h, extendAnswer, extendCounts)
 extend-by c b (some r) h = rw (h, extendAnswer, extendCounts)
 
+extend-head : (c : ExtendCall) (b : IndexBuffers) (o : Option (ℕ × ℕ)) → extendRefusal c b ≡ o → extendedHead (extendAnswer c b) ≡ extendHead c b
+unfolding extendAnswer extendHead
+extend-head c b none h = rw (h, extendAnswer, extendHead)
+extend-head c b (some r) h = rw (h, extendAnswer, extendHead)
+
 pub extend-kept : (c : ExtendCall) (b : IndexBuffers) (a : Extended) (after : IndexBuffers) → a ≡ extendAnswer c b → after ≡ extendAfter c b → ExtendKept c b a after
 extend-kept c b a after h k = record {
   answered = h;
   refused = ap extendedRefusal h ∙ extend-refuses c b .same;
+  headed = ap extendedHead h ∙ extend-head c b (extendRefusal c b) refl;
   counted = ap extendedCounts h ∙ extend-by c b (extendRefusal c b) refl;
   rows = ap (λ (x : IndexBuffers). x .rows) k;
   left = ap (λ (x : IndexBuffers). x .left) k;
@@ -59,18 +74,39 @@ unfolding loadAnswer loadCounts
 load-by t b none h = rw (h, loadAnswer, loadCounts)
 load-by t b (some r) h = rw (h, loadAnswer, loadCounts)
 
+load-head : (t : List ℕ) (b : IndexBuffers) (o : Option (ℕ × ℕ)) → loadRefusal t b ≡ o → loadedHead (loadAnswer t b) ≡ loadHead t b
+unfolding loadAnswer loadHead
+load-head t b none h = rw (h, loadAnswer, loadHead)
+load-head t b (some r) h = rw (h, loadAnswer, loadHead)
+
 pub load-kept : (t : List ℕ) (b : IndexBuffers) (a : Loaded) (after : IndexBuffers) → a ≡ loadAnswer t b → after ≡ loadAfter t b → LoadKept t b a after
 load-kept t b a after h k = record {
   answered = h;
   refused = ap loadedRefusal h ∙ load-refuses t b .same;
+  headed = ap loadedHead h ∙ load-head t b (loadRefusal t b) refl;
   counted = ap loadedCounts h ∙ load-by t b (loadRefusal t b) refl;
   rows = ap (λ (x : IndexBuffers). x .rows) k;
   left = ap (λ (x : IndexBuffers). x .left) k;
   right = ap (λ (x : IndexBuffers). x .right) k;
 }
 
+complete-right : (n : ℕ) → wrongPlace (complete n) ≡ none
+unfolding complete
+complete-right zero = refl
+complete-right (suc n) = refl
+
+audited-wrong : (c : AuditCall) (o : Option (ℕ × ℕ)) → firstWrong (c .index) (c .series) ≡ o → wrongPlace (audited c) ≡ o
+unfolding audited
+audited-wrong c none e = rw (e, audited) (complete-right (missing (c .index)))
+audited-wrong c (some x) e = rw (e, audited)
+
+audit-wrong : (c : AuditCall) (o : Option (ℕ × ℕ)) → firstRefusal (auditTable mostValues c) ≡ o → wrongPlace (auditAnswer c) ≡ auditWrong c
+unfolding auditAnswer auditWrong
+audit-wrong c none e = rw (e, auditAnswer, auditWrong) (audited-wrong c (firstWrong (c .index) (c .series)) refl)
+audit-wrong c (some r) e = rw (e, auditAnswer, auditWrong)
+
 pub audit-kept : (c : AuditCall) (a : Audited) → a ≡ auditAnswer c → AuditKept c a
-audit-kept c a h = record { answered = h; refused = ap auditedRefusal h ∙ audit-refuses c .same }
+audit-kept c a h = record { answered = h; refused = ap auditedRefusal h ∙ audit-refuses c .same; wrong = ap wrongPlace h ∙ audit-wrong c (firstRefusal (auditTable mostValues c)) refl }
 
 pub audit-text-kept : (x s : List ℕ) (a : ℕ) → a ≡ auditText x s → AuditTextKept x s a
 audit-text-kept x s a h = record { answered = h; refused = ap (λ (n : ℕ). auditedRefusal (unpack n)) h ∙ audit-text-refuses x s .same }

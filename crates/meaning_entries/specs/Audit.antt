@@ -1,7 +1,7 @@
 -- The entry audit, and what it is for an index to pass against a series. Assumes nothing.
 use mathlib.Core.Path.{_≡_}
 use mathlib.Core.List.{List, [], _∷_}
-use mathlib.Core.Option.{none, some}
+use mathlib.Core.Option.{Option, none, some}
 use Prim.Native.Nat.{ℕ, zero, suc}
 use lib.IntN.{ℤ}
 use Rattle.meaning_curves.specs.Limits.{mostValues}
@@ -42,6 +42,10 @@ audited c = elim (firstWrong (c .index) (c .series)) [ some x ↦ Audited.Wrong 
 
 unfoldable pub auditAnswer : AuditCall → Audited
 auditAnswer c = elim (firstRefusal (auditTable mostValues c)) [ some r ↦ Audited.Refused (r .0) (r .1) | none ↦ audited c ]
+
+-- the first row and offset filed wrongly, of an audit that is not refused
+unfoldable pub auditWrong : AuditCall → Option (ℕ × ℕ)
+auditWrong c = elim (firstRefusal (auditTable mostValues c)) [ some r ↦ none | none ↦ firstWrong (c .index) (c .series) ]
 
 -- 01, Rows: an index passes against a series exactly if the audit of the two, over lent rows, is not refused and says yes; here of any index, lent ones among them (law: `passed`)
 abbrev pub Passes : Index → List ℤ → Type 0

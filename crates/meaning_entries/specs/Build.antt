@@ -6,6 +6,7 @@ use lib.IntN.{ℤ, pos, natAbs}
 use lib.ListN.{length}
 use Rattle.meaning_curves.specs.Limits.{mostValues}
 use Rattle.meaning_curves.specs.Curve.{windowCount}
+use Rattle.meaning_rows.specs.declared.Head.{Head}
 use Rattle.meaning_rows.specs.Index.{Index}
 use Rattle.meaning_rows.specs.Build.{built}
 use Rattle.meaning_entries.specs.declared.Built.{Built}
@@ -52,6 +53,10 @@ buildAnswer c b = elim (buildRefusal c b) [
   | some r ↦ Built.Refused (r .0) (r .1)
   | none ↦ Built.Index (headOf (buildIndex c)) (length (buildIndex c .rows)) (length (buildIndex c .runs))
 ]
+
+-- the head of the index that stands in the buffers; a refusal gives none
+unfoldable pub buildHead : BuildCall → IndexBuffers → Option Head
+buildHead c b = elim (buildRefusal c b) [ some r ↦ none | none ↦ some (headOf (buildIndex c)) ]
 
 -- how many rows and runs stand in the buffers; a refusal gives counts 0
 unfoldable pub buildCounts : BuildCall → IndexBuffers → ℕ × ℕ

@@ -13,12 +13,12 @@ use Rattle.meaning_entries.specs.declared.Loaded.{Loaded}
 use Rattle.meaning_entries.specs.declared.Found.{Found}
 use Rattle.meaning_entries.specs.Refusal.{firstRefusal}
 use Rattle.meaning_entries.specs.Buffers.{IndexBuffers}
-use Rattle.meaning_entries.specs.Answers.{builtRefusal, builtCounts, extendedRefusal, extendedCounts, auditedRefusal, writtenRefusal, writtenCount, loadedRefusal, loadedCounts, foundRefusal, foundCounts}
-use Rattle.meaning_entries.specs.Build.{BuildCall, buildRefusal, buildAnswer, buildCounts, buildAfter}
-use Rattle.meaning_entries.specs.Extend.{ExtendCall, extendRefusal, extendAnswer, extendCounts, extendAfter}
-use Rattle.meaning_entries.specs.Audit.{AuditCall, auditTable, auditAnswer}
+use Rattle.meaning_entries.specs.Answers.{builtRefusal, builtHead, builtCounts, extendedRefusal, extendedHead, extendedCounts, auditedRefusal, wrongPlace, writtenRefusal, writtenCount, loadedRefusal, loadedHead, loadedCounts, foundRefusal, foundCounts}
+use Rattle.meaning_entries.specs.Build.{BuildCall, buildRefusal, buildAnswer, buildHead, buildCounts, buildAfter}
+use Rattle.meaning_entries.specs.Extend.{ExtendCall, extendRefusal, extendAnswer, extendHead, extendCounts, extendAfter}
+use Rattle.meaning_entries.specs.Audit.{AuditCall, auditTable, auditAnswer, auditWrong}
 use Rattle.meaning_entries.specs.Write.{writeRefusal, writeAnswer, writeCount, writeAfter}
-use Rattle.meaning_entries.specs.Load.{loadRefusal, loadAnswer, loadCounts, loadAfter}
+use Rattle.meaning_entries.specs.Load.{loadRefusal, loadAnswer, loadHead, loadCounts, loadAfter}
 use Rattle.meaning_entries.specs.Search.{SearchCall, SearchBuffers, searchRefusal, searchAnswer, searchCounts, searchAfter}
 use Rattle.meaning_entries.specs.AuditText.{auditTextTable, auditText, unpack}
 use Rattle.meaning_entries.specs.Program.{program}
@@ -26,6 +26,7 @@ use Rattle.meaning_entries.specs.Program.{program}
 pub record BuildKept (c : BuildCall) (before : IndexBuffers) (answer : Built) (after : IndexBuffers) : Type 0 where
   pub answered : answer ≡ buildAnswer c before
   pub refused : builtRefusal answer ≡ buildRefusal c before
+  pub headed : builtHead answer ≡ buildHead c before
   pub counted : builtCounts answer ≡ buildCounts c before
   pub rows : after .rows ≡ buildAfter c before .rows
   pub left : after .left ≡ buildAfter c before .left
@@ -34,6 +35,7 @@ pub record BuildKept (c : BuildCall) (before : IndexBuffers) (answer : Built) (a
 pub record ExtendKept (c : ExtendCall) (before : IndexBuffers) (answer : Extended) (after : IndexBuffers) : Type 0 where
   pub answered : answer ≡ extendAnswer c before
   pub refused : extendedRefusal answer ≡ extendRefusal c before
+  pub headed : extendedHead answer ≡ extendHead c before
   pub counted : extendedCounts answer ≡ extendCounts c before
   pub rows : after .rows ≡ extendAfter c before .rows
   pub left : after .left ≡ extendAfter c before .left
@@ -42,6 +44,7 @@ pub record ExtendKept (c : ExtendCall) (before : IndexBuffers) (answer : Extende
 pub record AuditKept (c : AuditCall) (answer : Audited) : Type 0 where
   pub answered : answer ≡ auditAnswer c
   pub refused : auditedRefusal answer ≡ firstRefusal (auditTable mostValues c)
+  pub wrong : wrongPlace answer ≡ auditWrong c
 
 pub record WriteKept (x : Index) (before : List ℕ) (answer : Written) (after : List ℕ) : Type 0 where
   pub answered : answer ≡ writeAnswer x before
@@ -52,6 +55,7 @@ pub record WriteKept (x : Index) (before : List ℕ) (answer : Written) (after :
 pub record LoadKept (text : List ℕ) (before : IndexBuffers) (answer : Loaded) (after : IndexBuffers) : Type 0 where
   pub answered : answer ≡ loadAnswer text before
   pub refused : loadedRefusal answer ≡ loadRefusal text before
+  pub headed : loadedHead answer ≡ loadHead text before
   pub counted : loadedCounts answer ≡ loadCounts text before
   pub rows : after .rows ≡ loadAfter text before .rows
   pub left : after .left ≡ loadAfter text before .left

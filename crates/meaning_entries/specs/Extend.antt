@@ -52,6 +52,10 @@ extendAnswer c b = elim (extendRefusal c b) [
   | none ↦ Extended.Index (headOf (extendIndex c)) (length (extendIndex c .rows)) (length (extendIndex c .runs))
 ]
 
+-- the head of the index that stands in the buffers; a refusal gives none
+unfoldable pub extendHead : ExtendCall → IndexBuffers → Option Head
+extendHead c b = elim (extendRefusal c b) [ some r ↦ none | none ↦ some (headOf (extendIndex c)) ]
+
 -- how many rows and runs stand in the buffers; a refusal gives counts 0
 unfoldable pub extendCounts : ExtendCall → IndexBuffers → ℕ × ℕ
 extendCounts c b = elim (extendRefusal c b) [ some r ↦ (0, 0) | none ↦ (length (extendIndex c .rows), length (extendIndex c .runs)) ]

@@ -4,6 +4,7 @@ use mathlib.Core.Option.{Option, none, some}
 use Prim.Native.Nat.{ℕ}
 use lib.IntN.{pos}
 use lib.ListN.{length}
+use Rattle.meaning_rows.specs.declared.Head.{Head}
 use Rattle.meaning_rows.specs.Index.{Index}
 use Rattle.meaning_text.specs.Read.{fine, unfit, readText}
 use Rattle.meaning_text.specs.Texts.{indexForm, indexSaid}
@@ -36,6 +37,10 @@ loadAnswer t b = elim (loadRefusal t b) [
   | some r ↦ Loaded.Refused (r .0) (r .1)
   | none ↦ Loaded.Index (headOf (textIndex t)) (length (textIndex t .rows)) (length (textIndex t .runs))
 ]
+
+-- the head of the index that stands in the buffers; a refusal gives none
+unfoldable pub loadHead : List ℕ → IndexBuffers → Option Head
+loadHead t b = elim (loadRefusal t b) [ some r ↦ none | none ↦ some (headOf (textIndex t)) ]
 
 -- how many rows and runs stand in the buffers; a refusal gives counts 0
 unfoldable pub loadCounts : List ℕ → IndexBuffers → ℕ × ℕ
