@@ -1,6 +1,10 @@
 -- What the definitions imply, by subject.
 pub mod Range
 pub mod Runs
+pub mod Columns
+pub mod Neighbours
+pub mod Parts
+pub mod Cursors
 pub mod Times
 pub mod Build
 pub mod Judge

@@ -122,7 +122,7 @@ unfolding before either
 before-either p q zero = refl
 before-either p q (suc j) = refl
 
-before-apart : (p q : ℕ → Bool) (j : ℕ) → ((i : ℕ) → i < suc j → (p i && q i) ≡ false) → (before p j && before q j) ≡ false
+pub before-apart : (p q : ℕ → Bool) (j : ℕ) → ((i : ℕ) → i < suc j → (p i && q i) ≡ false) → (before p j && before q j) ≡ false
 unfolding before
 before-apart p q zero h = refl
 before-apart p q (suc j) h = h j (omega arith)

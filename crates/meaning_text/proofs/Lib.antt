@@ -7,3 +7,5 @@ pub mod Form
 pub mod Text
 pub mod Texts
 pub mod Lines
+pub mod Onward
+pub mod Automaton
