@@ -9,7 +9,7 @@ typedef uint64_t u64;
 #define DECLARE(P)                                                                                                       \
     size_t P##_straight(const i32 *, size_t, const i32 *, size_t, u64, u64 *, size_t);                                   \
     size_t P##_bound(const i32 *, size_t, const i32 *, size_t, const i32 *, size_t, u64, u64 *, size_t);                 \
-    size_t P##_warped(const i32 *, size_t, const i32 *, size_t, size_t, u64, u64 *, size_t, u64 *, size_t);              \
+    size_t P##_warped(const i32 *, size_t, const i32 *, size_t, size_t, u64, u64 *, size_t);                             \
     size_t P##_normal(const i32 *, size_t, i32 *, size_t, u64 *, size_t);                                                \
     u64 P##_root(u64);
 DECLARE(curve)
@@ -35,7 +35,7 @@ static i32 in_limits(int v) { return v > 10000 ? 10000 : v < -10000 ? -10000 : v
 #define N 100000
 #define REPS 15 // each of a few ms
 static i32 s[N], q[1024], low[1024], high[1024], v1[1024], v2[1024], w1[1024], w2[1024];
-static u64 o1[N], o2[N], row[1025];
+static u64 o1[N], o2[N];
 static u64 r1, r2;
 static double ra, ca;
 static int different;
@@ -86,9 +86,9 @@ int main(void) {
         snprintf(name, sizeof name, "bound m=%d b=%d left early", m, b);
         RACE(name, (double)stretches * 16, "1.2", curve_bound(s, n, low, m, high, m, 1000000, o1, N), plain_bound(s, n, low, m, high, m, 1000000, o2, N));
         snprintf(name, sizeof name, "warped m=%d b=%d whole", m, b);
-        RACE(name, cells, "1.2", curve_warped(s, nw, q, m, b, ~0ull, row, 1025, o1, N), plain_warped(s, nw, q, m, b, ~0ull, row, 1025, o2, N));
+        RACE(name, cells, "1.2", curve_warped(s, nw, q, m, b, ~0ull, o1, N), plain_warped(s, nw, q, m, b, ~0ull, o2, N));
         snprintf(name, sizeof name, "warped m=%d b=%d left early", m, b);
-        RACE(name, cells, "1.2", curve_warped(s, nw, q, m, b, 100000000, row, 1025, o1, N), plain_warped(s, nw, q, m, b, 100000000, row, 1025, o2, N));
+        RACE(name, cells, "1.2", curve_warped(s, nw, q, m, b, 100000000, o1, N), plain_warped(s, nw, q, m, b, 100000000, o2, N));
         snprintf(name, sizeof name, "normalised m=%d", m);
         RACE(name, (double)stretches * m, "1.5", curve_normal(s, n, v1, m, o1, N), plain_normal(s, n, v2, m, o2, N));
         snprintf(name, sizeof name, "envelopes m=%d b=%d", m, b);

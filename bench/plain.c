@@ -89,8 +89,9 @@ static u64 warped(const i32 *s, const i32 *q, size_t m, size_t b, u64 limit, u64
     return row[m];
 }
 
-size_t plain_warped(const i32 *s, size_t n, const i32 *q, size_t m, size_t b, u64 limit, u64 *row, size_t rows, u64 *out, size_t room) {
-    if (rows <= m || !fits(s, n, m, room) || !all_in(q, m)) return 0;
+size_t plain_warped(const i32 *s, size_t n, const i32 *q, size_t m, size_t b, u64 limit, u64 *out, size_t room) {
+    u64 row[1025];
+    if (!fits(s, n, m, room) || !all_in(q, m)) return 0;
     size_t at = 0;
     for (; at <= n - m; at++) out[at] = warped(s + at, q, m, b, limit, row);
     return at;

@@ -8,7 +8,7 @@ unsafe extern "C" {
     fn curve_root(y: u64) -> u64;
     fn curve_straight(s: *const i32, n: usize, q: *const i32, m: usize, limit: u64, out: *mut u64, outs: usize) -> usize;
     fn curve_bound(s: *const i32, n: usize, low: *const i32, lows: usize, high: *const i32, highs: usize, limit: u64, out: *mut u64, outs: usize) -> usize;
-    fn curve_warped(s: *const i32, n: usize, q: *const i32, m: usize, b: usize, limit: u64, row: *mut u64, rows: usize, out: *mut u64, outs: usize) -> usize;
+    fn curve_warped(s: *const i32, n: usize, q: *const i32, m: usize, b: usize, limit: u64, out: *mut u64, outs: usize) -> usize;
     fn curve_envelopes(q: *const i32, m: usize, b: usize, low: *mut i32, lows: usize, high: *mut i32, highs: usize) -> bool;
     fn curve_normal(s: *const i32, n: usize, room: *mut i32, m: usize, out: *mut u64, outs: usize) -> usize;
     fn curve_matches(
@@ -16,6 +16,7 @@ unsafe extern "C" {
         curve: *mut i32, curves: usize, low: *mut i32, lows: usize, high: *mut i32, highs: usize, room: *mut i32, rooms: usize,
         row: *mut u64, rows: usize, out: *mut u64, outs: usize,
     ) -> usize;
+    fn curve_outside(s: *const i32, n: usize) -> usize;
     fn curve_windows(s: *const i32, n: usize, w: usize, d: u32, sums: *mut i32, sums_long: usize, rows: *mut i32, rows_long: usize) -> usize;
 }
 
@@ -66,7 +67,7 @@ impl Test {
 
     fn warped(&mut self, s: &[i32], q: &[i32], b: usize, limit: u64) {
         let (n, m) = (s.len(), q.len());
-        let k = unsafe { curve_warped(s.as_ptr(), n, q.as_ptr(), m, b, limit, self.row.as_mut_ptr(), m + 1, self.out.as_mut_ptr(), ROOM) };
+        let k = unsafe { curve_warped(s.as_ptr(), n, q.as_ptr(), m, b, limit, self.out.as_mut_ptr(), ROOM) };
         let mut good = k == n - m + 1;
         for at in 0..n - m + 1 { let r = self.out[at]; good = self.within(warped(&s[at..at + m], q, b), limit, r) && good }
         self.say(good, "warped", || format!("{s:?} {q:?} {b} {limit}"));
@@ -132,16 +133,22 @@ impl Test {
         let mut bad = s.to_vec();
         let k = self.r.below(n as u64) as usize;
         bad[k] = [10001, -10001, i32::MAX, i32::MIN][self.r.below(4) as usize];
+        let k = self.r.below(2 * n as u64) as usize;
+        if k < n { bad[k] = 10001 }
         let o = self.out.as_mut_ptr();
-        let w = self.row.as_mut_ptr();
+        let at = unsafe { curve_outside(bad.as_ptr(), n) };
+        let first = bad.iter().position(|&v| !(-10000..=10000).contains(&v)).unwrap_or(n);
+        self.say(at == first, "outside", || format!("{bad:?} {at}"));
+        let all = unsafe { curve_outside(s.as_ptr(), n) };
+        self.say(all == n, "inside", || format!("{s:?} {all}"));
         let x = unsafe {
             [
                 curve_straight(bad.as_ptr(), n, q.as_ptr(), m, 0, o, ROOM),
                 curve_straight(q.as_ptr(), m, bad.as_ptr(), n, 0, o, if n == m { ROOM } else { 0 }),
                 curve_straight(s.as_ptr(), n, q.as_ptr(), 0, 0, o, ROOM),
                 curve_straight(s.as_ptr(), n, q.as_ptr(), m, 0, o, n - m),
-                curve_warped(bad.as_ptr(), n, q.as_ptr(), m, 0, 0, w, m + 1, o, ROOM),
-                curve_warped(s.as_ptr(), n, q.as_ptr(), m, 0, 0, w, m, o, ROOM),
+                curve_warped(bad.as_ptr(), n, q.as_ptr(), m, 0, 0, o, ROOM),
+                curve_warped(s.as_ptr(), n, q.as_ptr(), m, 0, 0, o, n - m),
                 curve_normal(bad.as_ptr(), n, self.a.as_mut_ptr(), m, o, ROOM),
             ]
         };

@@ -17,13 +17,14 @@ use values::Place;
 use values::Sums;
 use values::first_outside;
 use values::next_sums;
+use values::next_window;
 use values::spread_of;
 use values::sums_at;
 use values::window_sum;
 ghost use mathlib.Core.Path.{_≡_};
 ghost use mathlib.Core.Bool.{true};
 ghost use Prim.Native.Nat.{_+_, _<_, _≤_};
-ghost use Rattle.meaning_curves.specs.Curve.{at, stretch, spread};
+ghost use Rattle.meaning_curves.specs.Curve.{at, stretch, spread, windowSum};
 ghost use Rattle.meaning_curves.proofs.Values.{AllIn};
 ghost use Rattle.meaning_filter.specs.declared.Kind.{Kind};
 ghost use Rattle.values.specs.Sums.{AreSums};
@@ -114,30 +115,27 @@ pub extern "C" fn curve_bound(
     at
 }
 
-// The warped distance of `q` from each stretch of `s`, likewise. `row` is room for a row of the table.
+// The warped distance of `q` from each stretch of `s`, likewise.
 #[no_mangle]
 pub extern "C" fn curve_warped(
     s: &[i32],
     q: &[i32],
     b: usize,
     limit: u64,
-    row: &mut [u64],
     out: &mut [u64],
 ) -> usize {
     let n = s.len();
     let m = q.len();
-    if row.len() <= m {
-        return 0;
-    }
     if !fits(s, m, out.len()) {
         return 0;
     }
     if !all_in(q) {
         return 0;
     }
+    let mut row: [u64; 1025] = [0; 1025];
     let mut at: usize = 0;
     while at <= n - m {
-        out[at] = warped_in(s, at, q, b, limit, row);
+        out[at] = warped_in(s, at, q, b, limit, &mut row);
         at += 1;
     }
     at
@@ -332,6 +330,30 @@ pub extern "C" fn curve_matches(
     each_match(k, s, q, query, curve, low, high, l, room, row, out)
 }
 
+// The sum of the next window, where there is one.
+fn window_after(s: &[i32], w: usize, at: usize, sum: i32) -> i32
+    requires { do ⌜ at + w ≤ (← ⟦s.len()⟧) ⌝ }
+    requires { ⌜ w ≤ 256 ⌝ }
+    requires { ⌜ AllIn (now s) ⌝ }
+    requires { ⌜ sum ≡ windowSum (now s) w at ⌝ }
+    ensures { λ r. do ⌜ (at + w < (← ⟦s.len()⟧ .entry) → r ≡ windowSum (now (s .entry)) w (at + 1)) ⌝ }
+{
+    if at + w < s.len() {
+        next_window(s, w, at, sum)
+    } else {
+        sum
+    }
+}
+
+// The place of the first value outside its limits, or how many values there are.
+#[no_mangle]
+pub extern "C" fn curve_outside(s: &[i32]) -> usize {
+    match first_outside(s) {
+        Place::At(k) => k,
+        Place::Nowhere => s.len(),
+    }
+}
+
 // The sum of each window of `w` values into `sums`, and the row that holds it, at the width `d`, into `rows`. How many were written.
 #[no_mangle]
 pub extern "C" fn curve_windows(
@@ -351,11 +373,12 @@ pub extern "C" fn curve_windows(
     if !fits(s, w, sums.len()) {
         return 0;
     }
+    let mut sum = window_sum(s, w, 0);
     let mut at: usize = 0;
     while at <= n - w {
-        let sum = window_sum(s, w, at);
         sums[at] = sum;
         rows[at] = row_number(sum, d);
+        sum = window_after(s, w, at, sum);
         at += 1;
     }
     at

@@ -198,8 +198,7 @@ fn try_straight(s: &[i32], q: &[i32], nums: &[u64], at: usize, e: u64) -> bool {
 
 fn try_warped(s: &[i32], q: &[i32], nums: &[u64], at: usize, b: usize, e: u64) -> bool {
     let mut got = [0u64; 64];
-    let mut row = [0u64; 64];
-    let k = curve_warped(s, q, b, e, &mut row, &mut got);
+    let k = curve_warped(s, q, b, e, &mut got);
     agree(&got, k, nums, at, e)
 }
 
