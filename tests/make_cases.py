@@ -4,6 +4,7 @@
 tests/vectors/table/NN.in, .out             input and output of the search program
 tests/vectors/audit/NNN.index, .series, .out   two texts and what their audit says
 tests/vectors/extend/NNN.in, .out           an index text with a series line behind it, and the extended index's text
+tests/vectors/computed.txt                  which audits and extensions are small enough to compute on; the table is, whole
 
 usage: tests/make_cases.py [--check]    --check only says whether the file is what the vectors give
 """
@@ -42,9 +43,10 @@ def quoted(path):
 def rows():
     for path in sorted((vectors / "table").glob("*.in")):
         yield f"prints {quoted(path)} {quoted(path.with_suffix('.out'))}", path
-    for path in sorted((vectors / "audit").glob("*.index")):
+    computed = [vectors / name for name in (vectors / "computed.txt").read_text().split()]
+    for path in (p.with_suffix(".index") for p in computed if p.parent.name == "audit"):
         yield f"audits {quoted(path)} {quoted(path.with_suffix('.series'))} {quoted(path.with_suffix('.out'))}", path
-    for path in sorted((vectors / "extend").glob("*.in")):
+    for path in (p.with_suffix(".in") for p in computed if p.parent.name == "extend"):
         yield f"extends {quoted(path)} {quoted(path.with_suffix('.out'))}", path
 
 
