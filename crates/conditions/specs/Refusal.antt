@@ -1,4 +1,4 @@
--- What refuses a call, as code has it, by a table of conditions (`refusalOf`): a line of it (`line-is`), and its parts (`part-refuses`, `part-passes`). Assumes nothing.
+-- What refuses a call, as code has it, by a table of conditions (`refusalOf`): a line of it (`line-is`, `line-before`), and its parts (`part-refuses`, `part-passes`). Assumes nothing.
 use mathlib.Core.Path.{_≡_, refl, sym, ap, _∙_}
 use mathlib.Core.Bool.{Bool, true, false, cond}
 use mathlib.Core.List.{List, [], _∷_, _++_}
@@ -48,24 +48,29 @@ pub place-none : (c : Condition) (l : List Condition) → c .place ≡ none → 
 unfolding firstRefusal
 place-none c l e = rw (e, firstRefusal)
 
+-- a test before what a table says
+pub line-before : (n : ℕ) {r r′ : Refusal} {b : Bool} (t : Bool) (l : List Condition) → r ≡ refusalOf l → b ≡ t → r′ ≡ refuseIf b n r → r′ ≡ refusalOf (atZero n t ∷ l)
+line-before n t l e f g = cc (e, f, g, line-is n t l)
+
 -- number 0 is that nothing refuses, in a table that has no such number
-pub passes : (l : List Condition) → T (lacks 0 l) → refusalOf l .number ≡ 0 → Passed l
+pub passes : {r : Refusal} (l : List Condition) → T (lacks 0 l) → r ≡ refusalOf l → r .number ≡ 0 → Passed l
 unfolding asRefusal
-passes l t e = by (firstRefusal l) refl
+passes {r} l t e z = by (firstRefusal l) refl
   where
     by : (o : Option (ℕ × ℕ)) → firstRefusal l ≡ o → Passed l
     by none h = is-passed l h
-    by (some r) h = clash (eq-eqb (r .0) 0 (sym (ap (λ (x : Option (ℕ × ℕ)). asRefusal x .number) h) ∙ e)) (first-lacks 0 t (is-first l (r .0) (r .1) h))
+    by (some x) h =
+        clash (eq-eqb (x .0) 0 (sym (ap (λ (y : Option (ℕ × ℕ)). asRefusal y .number) h) ∙ sym (ap (λ (y : Refusal). y .number) e) ∙ z)) (first-lacks 0 t (is-first l (x .0) (x .1) h))
 
 -- the first part of a table refuses
-pub part-refuses : (a b : List Condition) → (refusalOf a .number ≡ 0 → ⊥) → refusalOf (a ++ b) ≡ refusalOf a
+pub part-refuses : {r : Refusal} (a b : List Condition) → r ≡ refusalOf a → (r .number ≡ 0 → ⊥) → r ≡ refusalOf (a ++ b)
 unfolding asRefusal
-part-refuses a b f = by (firstRefusal a) refl
+part-refuses {r} a b e f = by (firstRefusal a) refl
   where
-    by : (o : Option (ℕ × ℕ)) → firstRefusal a ≡ o → refusalOf (a ++ b) ≡ refusalOf a
-    by none h = absurd (f (ap (λ (x : Option (ℕ × ℕ)). asRefusal x .number) h))
-    by (some r) h = ap asRefusal (first-is (first-left b (is-first a (r .0) (r .1) h)) ∙ sym h)
+    by : (o : Option (ℕ × ℕ)) → firstRefusal a ≡ o → r ≡ refusalOf (a ++ b)
+    by none h = absurd (f (ap (λ (y : Refusal). y .number) e ∙ ap (λ (x : Option (ℕ × ℕ)). asRefusal x .number) h))
+    by (some x) h = e ∙ ap asRefusal (h ∙ sym (first-is (first-left b (is-first a (x .0) (x .1) h))))
 
 -- or it does not
-pub part-passes : {a : List Condition} (b : List Condition) → Passed a → refusalOf (a ++ b) ≡ refusalOf b
-part-passes b h = ap asRefusal (first-right b h)
+pub part-passes : {r : Refusal} {a : List Condition} (b : List Condition) → Passed a → r ≡ refusalOf b → r ≡ refusalOf (a ++ b)
+part-passes b h e = e ∙ sym (ap asRefusal (first-right b h))
