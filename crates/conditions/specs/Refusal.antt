@@ -1,4 +1,4 @@
--- What refuses a call, as code has it, by a table of conditions (`refusalOf`): a line of it (`line-is`, `line-before`), and its parts (`part-refuses`, `part-passes`). Assumes nothing.
+-- What refuses a call, as code has it, by a table of conditions (`refusalOf`): a line of it (`line-is`, `line-before`), what it says (`passes`, `refuses`), and its parts (`part-refuses`, `part-passes`). Assumes nothing.
 use mathlib.Core.Path.{_≡_, refl, sym, ap, _∙_}
 use mathlib.Core.Bool.{Bool, true, false, cond}
 use mathlib.Core.List.{List, [], _∷_, _++_}
@@ -62,14 +62,22 @@ passes {r} l t e z = by (firstRefusal l) refl
     by (some x) h =
         clash (eq-eqb (x .0) 0 (sym (ap (λ (y : Option (ℕ × ℕ)). asRefusal y .number) h) ∙ sym (ap (λ (y : Refusal). y .number) e) ∙ z)) (first-lacks 0 t (is-first l (x .0) (x .1) h))
 
+-- any other number is that of the first line that applies
+pub refuses : {r : Refusal} (l : List Condition) → r ≡ refusalOf l → (r .number ≡ 0 → ⊥) → firstRefusal l ≡ some (r .number, r .place)
+unfolding asRefusal
+refuses {r} l e f = by (firstRefusal l) refl
+  where
+    by : (o : Option (ℕ × ℕ)) → firstRefusal l ≡ o → firstRefusal l ≡ some (r .number, r .place)
+    by none h = absurd (f (ap (λ (y : Refusal). y .number) e ∙ ap (λ (x : Option (ℕ × ℕ)). asRefusal x .number) h))
+    by (some x) h =
+        let g : r ≡ record { number = x .0; place = x .1 } = e ∙ ap asRefusal h in
+        h ∙ sym (ap (λ (y : Refusal). some (y .number, y .place)) g)
+
 -- the first part of a table refuses
 pub part-refuses : {r : Refusal} (a b : List Condition) → r ≡ refusalOf a → (r .number ≡ 0 → ⊥) → r ≡ refusalOf (a ++ b)
-unfolding asRefusal
-part-refuses {r} a b e f = by (firstRefusal a) refl
-  where
-    by : (o : Option (ℕ × ℕ)) → firstRefusal a ≡ o → r ≡ refusalOf (a ++ b)
-    by none h = absurd (f (ap (λ (y : Refusal). y .number) e ∙ ap (λ (x : Option (ℕ × ℕ)). asRefusal x .number) h))
-    by (some x) h = e ∙ ap asRefusal (h ∙ sym (first-is (first-left b (is-first a (x .0) (x .1) h))))
+part-refuses {r} a b e f =
+    let h = refuses a e f in
+    e ∙ ap asRefusal (h ∙ sym (first-is (first-left b (is-first a (r .number) (r .place) h))))
 
 -- or it does not
 pub part-passes : {r : Refusal} {a : List Condition} (b : List Condition) → Passed a → r ≡ refusalOf b → r ≡ refusalOf (a ++ b)
