@@ -1,15 +1,14 @@
 -- The matches among some offsets, as entries of the list (`found`): those of the candidates' runs are the list that a search means (`found-among`). What checking asks for (`Prepared`), and the sums that slide (`SumsFor`). Assumes nothing.
-use mathlib.Core.Path.{_≡_, refl, sym, ap, _∙_}
+use mathlib.Core.Path.{_≡_, refl, sym, ap}
 use mathlib.Core.Bool.{Bool, true, false, cond}
 use mathlib.Core.List.{List, [], _∷_, _++_, map, append-nil}
 use Prim.Native.Nat.{ℕ, zero, suc, _+_, _-_, _<_, _≤_}
 use native.Mathlib.Omega.{arith}
 use native.Mathlib.Numerals.{add-one}
 use lib.IntN.{ℤ}
-use lib.ListN.{length, length-map, getD, take, length-append}
+use lib.ListN.{length, length-map, getD, take}
 use lib.Seq.{take-suc}
 use Rattle.meaning_numbers.specs.Place.{keep, numbersFrom}
-use Rattle.meaning_numbers.proofs.Tests.{by-test}
 use Rattle.meaning_curves.specs.Curve.{at, stretch}
 use Rattle.meaning_curves.proofs.Values.{AllIn}
 use Rattle.meaning_rows.specs.Index.{Index}
@@ -24,7 +23,7 @@ use Rattle.distance_compare.specs.declared.Match.{Match}
 use Rattle.distance_compare.specs.Answer.{answer}
 use Rattle.distance.specs.Matched.{matched}
 use Rattle.checking.specs.Members.{between, members, numbers-end, keep-append, keep-length, length-numbers, members-append, kept-members}
-use Rattle.checking.specs.Listed.{Listed, list-on, length-pairs}
+use Rattle.checking.specs.Listed.{length-pairs}
 
 -- what is looked for
 abbrev pub asked : Kind → List ℤ → List ℤ → Limits → Question

@@ -4,3 +4,4 @@ pub mod Listed
 pub mod Clear
 pub mod Found
 pub mod Turn
+pub mod Candidates

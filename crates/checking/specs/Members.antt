@@ -2,7 +2,7 @@
 use mathlib.Core.Path.{_≡_, refl, sym, ap, _∙_}
 use mathlib.Core.Bool.{Bool, true, false, cond}
 use mathlib.Core.List.{List, [], _∷_, _++_, append-nil, append-assoc}
-use Prim.Native.Nat.{ℕ, zero, suc, _+_, _-_, _<_, _≤_}
+use Prim.Native.Nat.{ℕ, zero, suc, _+_, _-_, _≤_}
 use native.Mathlib.Omega.{arith}
 use native.Mathlib.Nat.{zero-add}
 use lib.ListN.{length}
@@ -65,7 +65,7 @@ longer l r n h e =
 members-reach : (n a : ℕ) (l : List (ℕ × ℕ)) → Apart n a l → Next true l n → members (reach l n) ≡ members l ++ (n ∷ [])
 unfolding members reach Apart Next
 members-reach n a [] p h = absurd h
-members-reach n a (x ∷ []) p h = rw (longer (x .0) (x .1) n (p .1) h, append-nil, append-nil) refl
+members-reach n a (x ∷ []) p h = rw (longer (x .0) (x .1) n (p .1) h, append-nil (between x ++ (n ∷ [])), append-nil (between x)) refl
 members-reach n a (x ∷ y ∷ l) p h = rw (members-reach n (x .1 + 2) (y ∷ l) (p .3) h) (sym (append-assoc (between x) (members (y ∷ l)) (n ∷ [])))
 
 members-takeIn : (a b : Bool) (l : List (ℕ × ℕ)) (n : ℕ) → Apart n 0 l → Next b l n → members (takeIn a b l n) ≡ members l ++ cond a (n ∷ []) []

@@ -4,12 +4,11 @@ use mathlib.Core.Bool.{Bool, true, false, cond}
 use mathlib.Core.List.{List, [], _∷_, _++_}
 use mathlib.Core.Option.{Option, none, some}
 use Prim.Native.Nat.{ℕ}
-use native.Mathlib.Omega.{arith}
-use lib.Dec.{T, eqb}
+use lib.Dec.{T}
 use borrow.Author.Tests.{eq-eqb}
 use Rattle.meaning_numbers.proofs.Tests.{clash}
 use Rattle.meaning_entries.specs.Refusal.{Condition, firstRefusal, atZero}
-use Rattle.meaning_entries.proofs.Refusal.{Passed, is-passed, passed-is, is-first, first-is, lacks, first-left, first-right, first-lacks}
+use Rattle.meaning_entries.proofs.Refusal.{Passed, is-passed, is-first, first-is, lacks, first-left, first-right, first-lacks}
 use Rattle.conditions.specs.declared.Refusal.{Refusal}
 
 -- nothing refuses

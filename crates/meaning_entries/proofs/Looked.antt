@@ -1,11 +1,11 @@
 -- The table of a search is what is known before it looks (`planTable`), and whether the list holds all matches, which is known only at its end. Where the first part refuses, that is the answer and no buffer is altered (`plan-refused`);
 -- else the buffers are those of a search that looked, and the answer is by the number of matches (`plan-all`, `plan-full`). Assumes nothing.
-use mathlib.Core.Path.{_≡_, refl, sym, ap, _∙_}
-use mathlib.Core.Bool.{Bool, true, false}
+use mathlib.Core.Path.{_≡_, refl, ap, _∙_}
+use mathlib.Core.Bool.{false}
 use mathlib.Core.List.{List, [], _∷_, _++_}
-use mathlib.Core.Option.{Option, none, some}
+use mathlib.Core.Option.{none, some}
 use Prim.Native.Nat.{ℕ, _<_, _≤_}
-use lib.Dec.{T, eqb, ltb}
+use lib.Dec.{T, eqb}
 use lib.ListN.{length}
 use borrow.Author.Tests.{lt-ltb, le-ltb}
 use Rattle.meaning_curves.specs.Limits.{mostValues}

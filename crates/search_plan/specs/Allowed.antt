@@ -1,7 +1,7 @@
 -- The plan over a lent index is the refusal of the search before it looks (`plan-is`). Where it refuses, that is the answer, and no buffer is altered (`plan-stops`). Where it does not, the call is within all limits (`allowed`), and what is left to decide is whether the list holds all matches (`goes-on`). Assumes nothing.
 use mathlib.Core.Path.{_≡_, refl, subst}
-use mathlib.Core.Bool.{Bool, true, false, not, _||_}
-use mathlib.Core.List.{List, [], _∷_, _++_}
+use mathlib.Core.Bool.{not, _||_}
+use mathlib.Core.List.{List}
 use mathlib.Core.Option.{Option, none, some}
 use Prim.Native.Nat.{ℕ, zero, suc, _+_, _-_, _<_, _≤_}
 use native.Mathlib.Omega.{arith}
@@ -24,13 +24,12 @@ use Rattle.meaning_rows.proofs.Judge.{WellFormed, well-formed}
 use Rattle.meaning_filter.specs.declared.Kind.{Kind}
 use Rattle.meaning_filter.specs.declared.Limits.{Limits}
 use Rattle.meaning_entries.specs.declared.Found.{Found}
-use Rattle.meaning_entries.specs.Refusal.{Condition, firstRefusal, lengthOutside, valueOutside, queryLengthOutside, queryBelowWindow, bandOutside, thresholdOutside, scaleOrShiftOutside, flatQuery, normalFlat, illFormed, windowsOf, fewerWindows, moreWindows, bufferShort}
+use Rattle.meaning_entries.specs.Refusal.{firstRefusal, lengthOutside, valueOutside, queryLengthOutside, queryBelowWindow, bandOutside, thresholdOutside, scaleOrShiftOutside, flatQuery, normalFlat, illFormed, windowsOf, fewerWindows, moreWindows, bufferShort}
 use Rattle.meaning_entries.specs.Buffers.{pairRoom}
 use Rattle.meaning_entries.specs.Search.{SearchCall, SearchBuffers, lentSearch, searchAnswer, searchAfter}
-use Rattle.meaning_entries.proofs.Refusal.{Passed, passed-is, passed-at, not-if, lacks, is-first}
+use Rattle.meaning_entries.proofs.Refusal.{Passed, passed-is, passed-at, not-if, lacks}
 use Rattle.meaning_entries.proofs.Looked.{planTable, plan-refused}
 use Rattle.meaning_entries.proofs.Passes.{same-windows}
-use Rattle.judge.specs.declared.Judged.{Judged}
 use Rattle.judge.specs.Judged.{outcome, judgedOf}
 use Rattle.conditions.specs.declared.Refusal.{Refusal}
 use Rattle.conditions.specs.Refusal.{refusalOf, passes, refuses}

@@ -1,7 +1,7 @@
 -- The plan, case by case, as its code goes. Assumes nothing.
 use mathlib.Core.Path.{_≡_, refl, sym, ap, _∙_}
 use mathlib.Core.Bool.{Bool, true, false, not, _||_}
-use mathlib.Core.List.{List, [], _∷_, _++_}
+use mathlib.Core.List.{List, [], _∷_}
 use mathlib.Core.Option.{Option, none, some}
 use Prim.Native.Nat.{ℕ, _≤_}
 use native.Mathlib.Omega.{arith}
@@ -20,15 +20,14 @@ use Rattle.meaning_curves.specs.Limits.{mostValues, lengthIn, firstOutside, que
 use Rattle.meaning_rows.specs.declared.Head.{Head}
 use Rattle.meaning_filter.specs.declared.Kind.{Kind}
 use Rattle.meaning_filter.specs.declared.Limits.{Limits}
-use Rattle.meaning_entries.specs.Refusal.{Condition, firstRefusal, atPlace, lengthOutside, valueOutside, queryLengthOutside, queryBelowWindow, bandOutside, thresholdOutside, scaleOrShiftOutside, flatQuery, normalFlat}
+use Rattle.meaning_entries.specs.Refusal.{atPlace, lengthOutside, valueOutside, queryLengthOutside, queryBelowWindow, bandOutside, thresholdOutside, scaleOrShiftOutside, flatQuery, normalFlat}
 use Rattle.meaning_entries.proofs.Refusal.{Passed, passed-at, not-if, lacks}
-use Rattle.values.specs.declared.Place.{Place}
 use Rattle.values.specs.declared.Place.the-variants.{At, Nowhere}
 use Rattle.values.specs.Place.{placed}
 use Rattle.judge.specs.declared.Judged.{Judged}
 use Rattle.conditions.specs.declared.Refusal.{Refusal}
 use Rattle.conditions.specs.Refusal.{refusalOf, unrefused, none-is, line-is, place-is, place-none}
-use Rattle.search_plan.specs.Tables.{valuesTable, numbersTable, inputTable, badRow, windowsTable, stateTable, planOf}
+use Rattle.search_plan.specs.Tables.{valuesTable, numbersTable, inputTable, badRow, windowsTable, stateTable}
 
 -- ---- values
 

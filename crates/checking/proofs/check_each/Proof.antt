@@ -1,9 +1,9 @@
 -- `checking::check_each` meets its contract. The invariant is `RunsSoFar`, and that the room keeps its length; the measure is how many runs are left. Assumes nothing.
 use borrow.Author.Needs.{needs}
 use mathlib.Core.Path.{_≡_, refl, _∙_}
-use Prim.Native.Nat.{ℕ, _+_, _-_, _<_, _≤_}
+use Prim.Native.Nat.{_-_, _<_}
 use native.Mathlib.Omega.{arith}
-use lib.ListN.{length, getD}
+use lib.ListN.{length}
 use Rattle.checking.specs.Found.{asked}
 use Rattle.checking.specs.Turn.{RunsSoFar, run-inside, runs-start, runs-next, runs-end}
 use Rattle.checking.proofs.check_each.Statement.{statement}

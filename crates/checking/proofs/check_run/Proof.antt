@@ -1,5 +1,4 @@
 -- `checking::check_run` meets its contract. The invariant is `RunSoFar`, and that the room keeps its length; the measure is how many offsets are left. Assumes nothing.
-use borrow.Author.Needs.{needs}
 use mathlib.Core.Path.{_≡_, refl, _∙_}
 use Prim.Native.Nat.{ℕ, _+_, _-_, _≤_}
 use native.Mathlib.Omega.{arith}

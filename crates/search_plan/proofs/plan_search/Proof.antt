@@ -1,6 +1,6 @@
 -- `search_plan::plan_search` meets its contract: the input, then the state. Assumes nothing.
 use borrow.Author.Needs.{needs}
-use mathlib.Core.Path.{_≡_, ap, _∙_}
+use mathlib.Core.Path.{ap, _∙_}
 use mathlib.Core.List.{List}
 use Prim.Native.Nat.{ℕ, min}
 use Rattle.meaning_entries.specs.Refusal.{Condition}
