@@ -1,18 +1,17 @@
--- Checking the candidates of a search: their runs, as they are handed out, are lent (`candidates-lent`), and what is listed of them is what the search means (`candidates-checked`), as it stands in the buffers afterwards (`list-after`). Assumes nothing.
+-- Checking the candidates of a search: their runs, as they are handed out, are lent (`candidates-lent`), and the list of its matches is the one that stands in the buffers afterwards (`list-after`). Assumes nothing.
 use mathlib.Core.Path.{_≡_}
 use mathlib.Core.List.{List, map}
 use Prim.Native.Nat.{ℕ, _-_, _≤_}
 use native.Mathlib.Omega.{arith}
 use lib.ListN.{length, replicate, length-append, length-map}
 use Rattle.meaning_rows.specs.Index.{Index}
-use Rattle.meaning_filter.specs.Matches.{Question, offsetCount, candidateRuns, matchList}
+use Rattle.meaning_filter.specs.Matches.{Question, offsetCount, candidateRuns}
 use Rattle.meaning_filter.proofs.Handed.{runs-apart}
 use Rattle.meaning_entries.specs.Buffers.{filled}
 use Rattle.meaning_entries.specs.Search.{SearchCall, SearchBuffers, searchMatches, lookedAfter}
 use Rattle.meaning_entries.proofs.Listed.{pairs-back}
-use Rattle.checking.specs.Members.{members}
 use Rattle.checking.specs.Listed.{ListFilled}
-use Rattle.checking.specs.Found.{RunsLent, lentRuns, found, found-among}
+use Rattle.checking.specs.Found.{RunsLent, lentRuns}
 
 -- runs that stand first in two slices
 pub runs-first : (l : List (ℕ × ℕ)) (a b : List ℕ) → lentRuns (filled 0 (map (λ x. x .0) l) a) (filled 0 (map (λ x. x .1) l) b) (length l) ≡ l
@@ -33,10 +32,6 @@ module _ (x : Index) (z : Question) where
         in-right = omega (arith, filled-long (map (λ x. x .1) l) b, length-map l (λ x. x .1));
         apart = rw (runs-first l a b) (runs-apart x z);
       }
-
-  pub candidates-checked : (left right : List ℕ) (runs : ℕ) {r : ℕ} {o d o′ d′ : List ℕ} → lentRuns left right runs ≡ candidateRuns x z → ListFilled (found z (members (lentRuns left right runs))) r o d o′ d′
-      → ListFilled (matchList x z) r o d o′ d′
-  candidates-checked left right runs e f = rw (e, found-among x z) at f
 
 -- the list of a search that looked
 pub list-after : (c : SearchCall) (b : SearchBuffers) {r : ℕ} {o d : List ℕ} → ListFilled (searchMatches c) r (b .offsets) (b .distances) o d
