@@ -2,11 +2,13 @@
 pub mod Open
 pub mod Refusal
 pub mod Tables
+pub mod Looked
 pub mod Demand1
 pub mod Demand2
 pub mod Listed
 pub mod Pack
 pub mod Passes
+pub mod Full
 pub mod Demand3
 pub mod Witness
 pub mod Made

@@ -17,7 +17,7 @@ use Rattle.meaning_entries.specs.Demand3.{pairs}
 use Rattle.meaning_entries.proofs.Refusal.{is-passed, passed-at, not-if}
 
 -- the first entries of two columns with anything behind them are the pairs that they were made of
-pairs-back : (l : List (ℕ × ℕ)) (a b : List ℕ) → take (length l) (pairs (map (λ x. x .0) l ++ a) (map (λ x. x .1) l ++ b)) ≡ l
+pub pairs-back : (l : List (ℕ × ℕ)) (a b : List ℕ) → take (length l) (pairs (map (λ x. x .0) l ++ a) (map (λ x. x .1) l ++ b)) ≡ l
 unfolding pairs
 pairs-back [] a b = refl
 pairs-back (x ∷ l) a b = ap (λ (t : List (ℕ × ℕ)). x ∷ t) (pairs-back l a b)

@@ -52,7 +52,7 @@ pub record Passed (x : Index) (s : List ℤ) : Type 0 where
   pub filed : Filed x s
 
 -- as many windows as the series has
-same-windows : (x : Index) (s : List ℤ) → WellFormed x → windowsOf x s ≤ℤ x .windows → x .windows ≤ℤ windowsOf x s → natAbs (x .windows) + natAbs (x .window) ≡ length s + 1
+pub same-windows : (x : Index) (s : List ℤ) → WellFormed x → windowsOf x s ≤ℤ x .windows → x .windows ≤ℤ windowsOf x s → natAbs (x .windows) + natAbs (x .window) ≡ length s + 1
 same-windows x s g h k =
     let w : x .window ≡ pos (natAbs (x .window)) = g .head .window .is in
     let n : x .windows ≡ pos (natAbs (x .windows)) = g .head .windows .is in

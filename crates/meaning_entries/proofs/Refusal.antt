@@ -1,17 +1,17 @@
--- The tables of refusals are total and exclusive: a call is refused by exactly one line, the first that applies, or by none, and then no line applies. By induction on the table. Assumes nothing.
+-- The tables of refusals are total and exclusive: a call is refused by exactly one line, the first that applies, or by none, and then no line applies. A table in two parts is refused by the first part or else by the second (`first-left`, `first-right`). By induction on the table. Assumes nothing.
 use mathlib.Core.Path.{_≡_, refl, sym, _∙_, ap, subst₂}
-use mathlib.Core.Bool.{Bool, true, false, not, _||_}
-use mathlib.Core.List.{List, [], _∷_}
+use mathlib.Core.Bool.{Bool, true, false, not, _&&_, _||_}
+use mathlib.Core.List.{List, [], _∷_, _++_}
 use mathlib.Core.Logic.{_⊎_, inl, inr}
 use mathlib.Core.Option.{Option, none, some}
 use Prim.Native.Nat.{ℕ, zero, suc, _<_}
 use native.Mathlib.Omega.{arith}
-use lib.Dec.{T, ltb}
+use lib.Dec.{T, eqb, ltb}
 use lib.IntN.{ℤ, pos, natAbs}
 use lib.ListN.{length, getD}
 use Rattle.meaning_numbers.proofs.Rep.{zarith}
 use Rattle.meaning_numbers.proofs.Machine.{z-abs}
-use Rattle.meaning_numbers.proofs.Tests.{not-not, neither}
+use Rattle.meaning_numbers.proofs.Tests.{is-false, two-tests, not-not, neither}
 use Rattle.meaning_numbers.proofs.Between.{within-yes}
 use Rattle.meaning_curves.specs.Limits.{queryLengthIn, scaleIn, shiftIn}
 use Rattle.meaning_entries.specs.Refusal.{Condition, firstRefusal, atZero, queryLengthOutside, scaleOrShiftOutside}
@@ -81,6 +81,26 @@ exclusive f h = none-some (sym (passed-is h) ∙ first-is f)
 
 pub first-only : {l : List Condition} {n m p k : ℕ} → First l n p → First l m k → (n ≡ m) × (p ≡ k)
 first-only f g = same-refusal (sym (first-is f) ∙ first-is g)
+
+-- ---- a table in two parts
+
+pub first-left : {a : List Condition} {n p : ℕ} (b : List Condition) → First a n p → First (a ++ b) n p
+first-left b (here e) = here e
+first-left b (later e f) = later e (first-left b f)
+
+pub first-right : {a : List Condition} (b : List Condition) → Passed a → firstRefusal (a ++ b) ≡ firstRefusal b
+first-right b end = refl
+first-right b (more {c} {l} e h) = first-no c (l ++ b) e ∙ first-right b h
+
+-- no line has the number n
+unfoldable pub lacks : ℕ → List Condition → Bool
+lacks n [] = true
+lacks n (c ∷ l) = not (eqb (c .number) n) && lacks n l
+
+pub first-lacks : {l : List Condition} {n p : ℕ} (k : ℕ) → T (lacks k l) → First l n p → eqb n k ≡ false
+unfolding lacks
+first-lacks k t (here {c} {l} e) = is-false (eqb (c .number) k) (two-tests (not (eqb (c .number) k)) (lacks k l) t .0)
+first-lacks k t (later {c} {l} e f) = first-lacks k (two-tests (not (eqb (c .number) k)) (lacks k l) t .1) f
 
 -- ---- a line of a table that passed, by its place
 

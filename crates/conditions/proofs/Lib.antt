@@ -1,0 +1,2 @@
+-- What the tests of the code say.
+pub mod Tests

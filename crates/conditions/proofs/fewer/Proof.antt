@@ -1,0 +1,11 @@
+-- `conditions::fewer` meets its contract (`fewer-is`). Assumes nothing.
+use borrow.Author.Needs.{needs}
+use Rattle.conditions.proofs.Tests.{fewer-is}
+use Rattle.conditions.proofs.fewer.Statement.{statement}
+use Rattle.conditions.proofs.fewer.Tie as tie
+
+returns : tie.Need-returns
+returns c = fewer-is (c .args .windows) (c .args .w) (c .args .n)
+
+pub fewer-spec : {M : Type 1} → statement M
+fewer-spec = tie.close (tie.spec (λ c. search needs) returns)

@@ -1,0 +1,2 @@
+-- What the contracts of conditions cite, and what follows of it.
+pub mod Refusal

@@ -1,0 +1,3 @@
+-- What the contracts of finding cite, and how a search ends.
+pub mod Answer
+pub mod Search

@@ -1,0 +1,4 @@
+-- What the contracts of the plan cite, and what follows of it.
+pub mod Tables
+pub mod Cases
+pub mod Allowed
