@@ -1,0 +1,5 @@
+-- What the definitions of specs/ imply, and calls of this crate's functions in a walk.
+pub mod Ends
+pub mod Above
+pub mod Spanned
+pub mod Calls

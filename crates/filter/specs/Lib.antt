@@ -1,0 +1,2 @@
+-- What the contracts of filter cite.
+pub mod Met

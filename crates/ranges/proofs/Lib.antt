@@ -1,0 +1,4 @@
+-- What the definitions of specs/ imply.
+pub mod Sizes
+pub mod Same
+pub mod Ends

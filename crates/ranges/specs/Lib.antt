@@ -1,0 +1,3 @@
+-- What the contracts of ranges cite.
+pub mod Small
+pub mod Frame
