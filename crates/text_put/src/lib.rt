@@ -71,6 +71,12 @@ pub fn write_number(buf: &mut [u8], at: usize, x: i64) -> usize
     put_digits(buf, at, m)
 }
 
+pub fn write_u64(buf: &mut [u8], at: usize, x: u64) -> usize
+    ensures { λ r. ⌜ Put (now (buf .entry)) at (spellℤ (pos x)) (now (buf .exit)) r ⌝ }
+{
+    put_digits(buf, at, x)
+}
+
 pub fn write_u32(buf: &mut [u8], at: usize, x: u32) -> usize
     ensures { λ r. ⌜ Put (now (buf .entry)) at (spellℤ (pos x)) (now (buf .exit)) r ⌝ }
 {

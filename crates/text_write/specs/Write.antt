@@ -58,7 +58,7 @@ unfolding spellMany
 many-both one [] m = refl
 many-both one (y ∷ l) m = rw (many-both one l m, append-assoc)
 
-many-turn : {A : Type 0} (one : A → List ℕ) (l : List A) (d : A) (i : ℕ) → i < length l → spellMany one (take (i + 1) l) ≡ spellMany one (take i l) ++ one (getD l i d)
+pub many-turn : {A : Type 0} (one : A → List ℕ) (l : List A) (d : A) (i : ℕ) → i < length l → spellMany one (take (i + 1) l) ≡ spellMany one (take i l) ++ one (getD l i d)
 unfolding spellMany
 many-turn one l d i h = rw (add-one, take-suc l i d h, many-both one (take i l) (getD l i d ∷ []), append-nil)
 

@@ -1,4 +1,4 @@
--- `text_count::count_runs` meets its contract. Assumes nothing.
+-- `text_count::count_runs` meets its contract. The invariant: the first i runs of the part are counted (`Runs`). Assumes nothing.
 use Prim.Native.Nat.{_-_}
 use native.Mathlib.Omega.{arith}
 use Rattle.text_count.specs.Count.{Runs, runs-start, runs-turn, runs-end, runs-past}

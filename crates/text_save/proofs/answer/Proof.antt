@@ -1,4 +1,4 @@
--- `text_save::answer` meets its contract. Assumes nothing.
+-- `text_save::answer` meets its contract. By cases. Assumes nothing.
 use mathlib.Core.Path.{sym}
 use Rattle.text_save.specs.Answer.{answer-fits, answer-short, answer-bad}
 use borrow.Author.Needs.{needs}

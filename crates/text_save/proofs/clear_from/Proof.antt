@@ -1,4 +1,4 @@
--- `text_save::clear_from` meets its contract. Assumes nothing.
+-- `text_save::clear_from` meets its contract. The invariant: zeros stand from the place up to i (`Clearing`). Assumes nothing.
 use Prim.Native.Nat.{_-_}
 use native.Mathlib.Omega.{arith}
 use lib.ListN.{length, length-set}

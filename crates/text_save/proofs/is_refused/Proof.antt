@@ -1,4 +1,4 @@
--- `text_save::is_refused` meets its contract. Assumes nothing.
+-- `text_save::is_refused` meets its contract. By cases. Assumes nothing.
 use Rattle.text_save.specs.Answer.{isRefused}
 use borrow.Author.Needs.{needs}
 use Rattle.text_save.proofs.is_refused.Statement.{statement}

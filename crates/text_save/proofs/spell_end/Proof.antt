@@ -1,4 +1,4 @@
--- `text_save::spell_end` meets its contract. Assumes nothing.
+-- `text_save::spell_end` meets its contract. By the flag: written and cleared behind, or counted. Assumes nothing.
 use Rattle.text_save.specs.Spell.{ended-stored, ended-only}
 use borrow.Author.Needs.{needs}
 use Rattle.text_save.proofs.spell_end.Statement.{statement}

@@ -1,4 +1,4 @@
--- `text_save::spell_head` meets its contract. Assumes nothing.
+-- `text_save::spell_head` meets its contract. By the flag: written, or counted. Assumes nothing.
 use Rattle.text_save.specs.Spell.{spelled-stored, spelled-only}
 use borrow.Author.Needs.{needs}
 use Rattle.text_save.proofs.spell_head.Statement.{statement}
