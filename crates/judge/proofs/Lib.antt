@@ -3,3 +3,4 @@ pub mod Scan
 pub mod Next
 pub mod Outcome
 pub mod Calls
+pub mod JudgeCall

@@ -53,13 +53,14 @@ index-parts h rows left right = rw (rows-said rows (lent h rows left right) left
 
 -- ---- one more
 
-many-more : {A : Type 0} (one : A → List ℕ) (l : List A) (x : A) → spellMany one (l ++ (x ∷ [])) ≡ spellMany one l ++ one x
+pub many-both : {A : Type 0} (one : A → List ℕ) (l m : List A) → spellMany one (l ++ m) ≡ spellMany one l ++ spellMany one m
 unfolding spellMany
-many-more one [] x = append-nil (one x)
-many-more one (y ∷ l) x = rw (many-more one l x, append-assoc)
+many-both one [] m = refl
+many-both one (y ∷ l) m = rw (many-both one l m, append-assoc)
 
-many-turn : {A : Type 0} (one : A → List ℕ) (l : List A) (d : A) (i : ℕ) → i < length l → spellMany one (take (i + 1) l) ≡ spellMany one (take i l) ++ one (getD l i d)
-many-turn one l d i h = rw (add-one, take-suc l i d h) (many-more one (take i l) (getD l i d))
+pub many-turn : {A : Type 0} (one : A → List ℕ) (l : List A) (d : A) (i : ℕ) → i < length l → spellMany one (take (i + 1) l) ≡ spellMany one (take i l) ++ one (getD l i d)
+unfolding spellMany
+many-turn one l d i h = rw (add-one, take-suc l i d h, many-both one (take i l) (getD l i d ∷ []), append-nil)
 
 pub rows-turn : (rows : List Row) (left right : List ℕ) (d : Row) (i : ℕ) → i < length rows → rowsText (take (i + 1) rows) left right ≡ rowsText (take i rows) left right ++ rowText (getD rows i d) left right
 unfolding rowsText
@@ -83,6 +84,23 @@ entry-at (x ∷ left) (y ∷ right) (suc i) h g = entry-at left right i (omega a
 part-is : (first runs : ℕ) (left right : List ℕ) → length (partOf first runs left right) ≡ min runs (min (length left) (length right) - first)
 part-is first runs left right = simp (length-take, length-drop) (rw (entries-length left right) (omega arith))
 
+-- ---- a row's runs one after the other
+
+module _ (first runs : ℕ) (left right : List ℕ) (n : ℕ) (room : n ≡ min runs (min (length left) (length right) - first)) where
+  pub runs-more : (i : ℕ) → i < n
+      → runsText (take (i + 1) (partOf first runs left right)) ≡ runsText (take i (partOf first runs left right)) ++ spell runForm (pos (getD left (first + i) 0), pos (getD right (first + i) 0))
+  unfolding runsText
+  runs-more i h =
+      let l : i < length (partOf first runs left right) = omega (arith, part-is first runs left right) in
+      let e : getD (partOf first runs left right) i (pos 0, pos 0) ≡ (pos (getD left (first + i) 0), pos (getD right (first + i) 0)) =
+      getD-take runs (drop first (entries left right)) i (pos 0, pos 0) (omega arith)
+      ∙ getD-drop first (entries left right) i (pos 0, pos 0)
+      ∙ entry-at left right (first + i) (omega arith) (omega arith) in
+      rw (many-turn (spell runForm) (partOf first runs left right) (pos 0, pos 0) i l, e)
+
+  pub runs-all : (i : ℕ) → n ≤ i → take i (partOf first runs left right) ≡ partOf first runs left right
+  runs-all i h = take-all i _ (omega (arith, part-is first runs left right))
+
 -- ---- the loop over a row's runs
 
 -- after i of n runs
@@ -97,18 +115,7 @@ runs-start old at first runs left right n buf to e p = record { put = p; within 
 
 module _ {old : List ℕ} {at first runs : ℕ} {left right : List ℕ} {n : ℕ} {buf : List ℕ} {to i : ℕ} (r : Runs old at first runs left right n buf to i) where
   pub runs-turn : i < n → {new : List ℕ} {next : ℕ} → Put buf to (spell runForm (pos (getD left (first + i) 0), pos (getD right (first + i) 0))) new next → Runs old at first runs left right n new next (i + 1)
-  unfolding runsText
-  runs-turn h p =
-      let l : i < length (partOf first runs left right) = omega (arith, part-is first runs left right, r .room) in
-      let e : getD (partOf first runs left right) i (pos 0, pos 0) ≡ (pos (getD left (first + i) 0), pos (getD right (first + i) 0)) =
-      getD-take runs (drop first (entries left right)) i (pos 0, pos 0) (omega (arith, r .room))
-      ∙ getD-drop first (entries left right) i (pos 0, pos 0)
-      ∙ entry-at left right (first + i) (omega (arith, r .room)) (omega (arith, r .room)) in
-      record {
-        put = rw (many-turn (spell runForm) (partOf first runs left right) (pos 0, pos 0) i l, e) (put-then (r .put) p);
-        within = omega arith;
-        room = r .room;
-      }
+  runs-turn h p = record { put = rw (runs-more first runs left right n (r .room) i h) (put-then (r .put) p); within = omega arith; room = r .room }
 
   pub runs-end : n ≤ i → Put old at (runsText (partOf first runs left right)) buf to
-  runs-end h = let e : take i (partOf first runs left right) ≡ partOf first runs left right = take-all i _ (omega (arith, part-is first runs left right, r .room)) in rw e at (r .put)
+  runs-end h = rw (runs-all first runs left right n (r .room) i h) at (r .put)

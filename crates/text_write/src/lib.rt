@@ -51,7 +51,7 @@ fn less_of(a: usize, b: usize) -> usize
 }
 
 // How many of `runs` entries from `first` on there are in slices of these lengths.
-fn part_length(first: usize, runs: usize, left: usize, right: usize) -> usize
+pub fn part_length(first: usize, runs: usize, left: usize, right: usize) -> usize
     ensures { λ r. ⌜ r ≡ min runs (min left right - first) ⌝ }
 {
     let both = less_of(left, right);

@@ -1,0 +1,40 @@
+-- `text_count::count_run` meets its contract. Assumes nothing.
+use native.Mathlib.Omega.{arith}
+use Rattle.text_count.specs.Count.{counted-is, run-length}
+use lib.IntN.{pos}
+use Rattle.meaning_text.specs.Form.{spell}
+use Rattle.meaning_text.specs.Texts.{runForm}
+use borrow.Author.Needs.{needs}
+use Rattle.text_count.proofs.count_run.Statement.{statement}
+use Rattle.text_count.proofs.count_run.Tie as tie
+
+digit-count-requires : tie.Need-digit-count-requires
+digit-count-requires c κs = search needs
+
+digit-count-requires-2 : tie.Need-digit-count-requires-2
+digit-count-requires-2 c κs = search needs
+
+add-advance : tie.Need-add-advance
+add-advance c = search needs
+
+add-advance-2 : tie.Need-add-advance-2
+add-advance-2 c = search needs
+
+advance-requires : tie.Need-advance-requires
+advance-requires c κs = search needs
+
+returns : tie.Need-returns
+returns c =
+    let s = c .before .before .before .args in
+    counted-is (spell runForm (pos (s .left), pos (s .right))) _ (omega (arith, run-length (s .left) (s .right), c .before .digit-count2 .ensures .0, c .before .before .digit-count .ensures .0)) (c .advance .ensures)
+
+pub count-run-spec : {M : Type 1} → statement M
+count-run-spec =
+    tie.close
+    (tie.spec
+    digit-count-requires
+    digit-count-requires-2
+    add-advance
+    add-advance-2
+    advance-requires
+    returns)

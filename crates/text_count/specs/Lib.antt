@@ -1,0 +1,2 @@
+-- Texts counted.
+pub mod Count

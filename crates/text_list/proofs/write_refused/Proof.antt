@@ -1,0 +1,60 @@
+-- `text_list::write_refused` meets its contract. Words and numbers in order, put together as they are spelled. Assumes nothing.
+use Rattle.meaning_text.specs.Bytes.{bytes}
+use Rattle.meaning_text.specs.Form.{spell}
+use Rattle.meaning_text.specs.Texts.{refusedText}
+use Rattle.text_put.specs.Put.{put-then}
+use borrow.Author.Needs.{needs}
+use Rattle.text_list.proofs.write_refused.Statement.{statement}
+use Rattle.text_list.proofs.write_refused.Tie as tie
+
+slice-aggregate-put-word : tie.Need-slice-aggregate-put-word
+slice-aggregate-put-word c = search needs
+
+put-word-requires : tie.Need-put-word-requires
+put-word-requires c κs = search needs
+
+write-u32-requires : tie.Need-write-u32-requires
+write-u32-requires c κs = search needs
+
+slice-aggregate-put-word-2 : tie.Need-slice-aggregate-put-word-2
+slice-aggregate-put-word-2 c = search needs
+
+put-word-requires-2 : tie.Need-put-word-requires-2
+put-word-requires-2 c κs = search needs
+
+write-u64-requires : tie.Need-write-u64-requires
+write-u64-requires c κs = search needs
+
+slice-aggregate-put-word-3 : tie.Need-slice-aggregate-put-word-3
+slice-aggregate-put-word-3 c = search needs
+
+put-word-requires-3 : tie.Need-put-word-requires-3
+put-word-requires-3 c κs = search needs
+
+same-length : tie.Need-same-length
+same-length c = search needs
+
+returns : tie.Need-returns
+unfolding refusedText spell bytes
+returns c =
+    let p3 = c .before .before in
+    let w2 = p3 .before .before .before .before .before in
+    let p2 = w2 .before .before .before .before in
+    let w1 = p2 .before .before .before .before .before in
+    let p1 = w1 .before .before .before .before in
+    put-then (put-then (put-then (p1 .put-word .ensures) (w1 .write-u32 .ensures)) (put-then (p2 .put-word2 .ensures) (w2 .write-u64 .ensures))) (p3 .put-word3 .ensures)
+
+pub write-refused-spec : {M : Type 1} → statement M
+write-refused-spec =
+    tie.close
+    (tie.spec
+    slice-aggregate-put-word
+    put-word-requires
+    write-u32-requires
+    slice-aggregate-put-word-2
+    put-word-requires-2
+    write-u64-requires
+    slice-aggregate-put-word-3
+    put-word-requires-3
+    same-length
+    returns)

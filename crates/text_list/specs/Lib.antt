@@ -1,0 +1,2 @@
+-- The text of a list of matches.
+pub mod Found

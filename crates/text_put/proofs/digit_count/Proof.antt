@@ -1,0 +1,28 @@
+-- `text_put::digit_count` meets its contract: five digits are taken off at once. Assumes nothing.
+use Prim.Native.Nat.{_/_}
+use native.Mathlib.Omega.{arith}
+use Rattle.text_put.specs.Digits.{length-five, length-most}
+use borrow.Author.Needs.{needs}
+use Rattle.text_put.proofs.digit_count.Statement.{statement}
+use Rattle.text_put.proofs.digit_count.Tie as tie
+
+few-digits-requires : tie.Need-few-digits-requires
+few-digits-requires c κs = search needs
+
+returns : tie.Need-returns
+returns c = (c .few-digits .ensures, omega (arith, c .few-digits .ensures, length-most 4 (c .before .before .args .n) (omega arith)))
+
+few-digits-requires-2 : tie.Need-few-digits-requires-2
+few-digits-requires-2 c κs = omega (arith, c .before .fits .n)
+
+add-result : tie.Need-add-result
+add-result c = omega (arith, c .few-digits2 .ensures, length-most 9 (c .before .before .args .n / 100000) (omega (arith, c .before .before .fits .n)))
+
+returns-2 : tie.Need-returns-2
+returns-2 c =
+    let n = c .before .before .args .n in
+    let e = length-five n (omega arith) in
+    (omega (arith, c .few-digits2 .ensures, e), omega (arith, c .few-digits2 .ensures, e, length-most 9 n (omega (arith, c .before .before .fits .n))))
+
+pub digit-count-spec : {M : Type 1} → statement M
+digit-count-spec = tie.close (tie.spec few-digits-requires returns few-digits-requires-2 add-result returns-2)

@@ -1,0 +1,60 @@
+-- `text_put::number_length` meets its contract: the digits, and the sign of a number below 0. Assumes nothing.
+use mathlib.Core.Path.{_≡_, sym, ap, _∙_}
+use Prim.Native.Nat.{ℕ, _+_, _≤_}
+use native.Mathlib.Omega.{arith}
+use lib.IntN.{ℤ, pos, natAbs}
+use lib.ListN.{length}
+use lib.Signed.{_≤ℤ_, _<ℤ_}
+use mir.Syntax.{w32, w64}
+use mir.Val.{toZ, ofZ}
+use mir.ValLaws.{toZ-ofZ}
+use Rattle.meaning_numbers.proofs.Machine.{zmach32}
+use Rattle.meaning_text.specs.Number.{spellℕ, spellℤ}
+use Rattle.text_put.specs.Digits.{sfits-wide, abs-small, spell-minus, spell-plus}
+use borrow.Author.Needs.{needs}
+use Rattle.text_put.proofs.number_length.Statement.{statement}
+use Rattle.text_put.proofs.number_length.Tie as tie
+
+-- the number, as the machine reads it at 64 bits
+wide : (s : tie.Start) → toZ w64 (ofZ w64 (toZ w32 (ofZ w32 (s .args .x)))) ≡ s .args .x
+wide s = rw (toZ-ofZ w32 (s .args .x) (s .fits .x)) (toZ-ofZ w64 (s .args .x) (sfits-wide (s .fits .x)))
+
+cast-magnitude : tie.Need-cast-magnitude
+cast-magnitude c = rw (toZ-ofZ w32 (c .args .x) (c .fits .x)) (sfits-wide (c .fits .x))
+
+magnitude-requires : tie.Need-magnitude-requires
+magnitude-requires c κs = search needs
+
+abs : (m : tie.After-magnitude) → m .magnitude .result ≡ natAbs (m .before .args .x)
+abs m = m .magnitude .ensures ∙ ap natAbs (wide (m .before))
+
+-- it has 32 bits
+small : (m : tie.After-magnitude) → m .magnitude .result ≤ 2147483648
+small m = omega (arith, abs m, abs-small (m .before .fits .x))
+
+cast-digit-count : tie.Need-cast-digit-count
+cast-digit-count c = omega (arith, small c)
+
+digit-count-requires : tie.Need-digit-count-requires
+digit-count-requires c κs = search needs
+
+add-result : tie.Need-add-result
+add-result c = omega (arith, c .before .digit-count .ensures .1)
+
+returns : tie.Need-returns
+returns c =
+    let m = c .before .before in
+    let x = m .before .args .x in
+    let h : x <ℤ pos 0 = omega zmach32 in
+    let n : length (spellℕ (m .magnitude .result)) ≡ length (spellℕ (natAbs x)) = ap (λ (k : ℕ). length (spellℕ k)) (abs m) in
+    (omega (arith, c .before .digit-count .ensures .0, n, ap length (spell-minus x h)), omega (arith, c .before .digit-count .ensures .1))
+
+returns-2 : tie.Need-returns-2
+returns-2 c =
+    let m = c .before .before in
+    let x = m .before .args .x in
+    let h : pos 0 ≤ℤ x = omega zmach32 in
+    (c .before .digit-count .ensures .0 ∙ ap (λ (k : ℕ). length (spellℕ k)) (abs m) ∙ sym (ap length (spell-plus x h)), omega (arith, c .before .digit-count .ensures .1))
+
+pub number-length-spec : {M : Type 1} → statement M
+number-length-spec = tie.close (tie.spec cast-magnitude magnitude-requires cast-digit-count digit-count-requires add-result returns returns-2)

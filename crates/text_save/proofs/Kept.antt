@@ -1,0 +1,87 @@
+-- The entry keeps its promise: what it answers, and what it leaves in the text, by the first refusal. Assumes nothing.
+use mathlib.Core.Path.{_≡_, refl, sym, ap, _∙_}
+use mathlib.Core.Bool.{Bool, true, false}
+use mathlib.Core.List.{List, [], _∷_, _++_}
+use mathlib.Core.Option.{Option, none, some}
+use Prim.Native.Nat.{ℕ, suc, _+_, _-_, _<_, _≤_, min}
+use native.Mathlib.Decide.{decLe}
+use native.Mathlib.Omega.{arith}
+use lib.ListN.{length, take, drop, replicate}
+use lib.Seq.{sets, sets-eq, length-sets, take-append-le, take-length}
+use borrow.Author.Tests.{lt-ltb, le-ltb, le-leb, lt-leb}
+use Rattle.meaning_rows.specs.Index.{Index}
+use Rattle.meaning_rows.specs.Judge.{firstBadRow, lengthTotal}
+use Rattle.meaning_text.specs.Texts.{indexText}
+use Rattle.meaning_entries.specs.declared.Written.{Written}
+use Rattle.meaning_entries.specs.Refusal.{firstRefusal, illFormed, bufferShort}
+use Rattle.meaning_entries.specs.Buffers.{filled}
+use Rattle.meaning_entries.specs.Write.{writeTable, writeRefusal, writeAnswer, writeAfter}
+use Rattle.meaning_entries.specs.Demand2.{WriteKept}
+use Rattle.meaning_entries.proofs.Demand2.{write-kept}
+use Rattle.judge.specs.declared.Judged.{Judged}
+use Rattle.judge.specs.Judged.{judgedOf, outcome}
+use Rattle.text_save.specs.Spell.{Ended, cleared}
+use Rattle.text_save.specs.Answer.{answerOf, isRefused}
+
+-- an answer, and why
+data Because (x : Index) (text : List ℕ) : Written → Type 0 where
+  refused : (n p : ℕ) → writeRefusal x text ≡ some (n, p) → Because x text (Written.Refused n p)
+  fits : writeRefusal x text ≡ none → length (indexText x) ≤ length text → Because x text (Written.Text (length (indexText x)))
+
+module _ (x : Index) (text : List ℕ) (n : ℕ) (counted : n ≡ min (length (indexText x)) (suc (length text))) where
+  bad : (k : ℕ) → firstBadRow x ≡ some k → writeRefusal x text ≡ some (20, k)
+  unfolding writeTable firstRefusal illFormed
+  bad k e = rw (e, firstRefusal)
+
+  short : firstBadRow x ≡ none → length text < length (indexText x) → writeRefusal x text ≡ some (23, 0)
+  unfolding writeTable firstRefusal illFormed bufferShort
+  short e h = rw (e, firstRefusal, lt-ltb (length text) (length (indexText x)) h)
+
+  passed : firstBadRow x ≡ none → length (indexText x) ≤ length text → writeRefusal x text ≡ none
+  unfolding writeTable firstRefusal illFormed bufferShort
+  passed e h = rw (e, firstRefusal, le-ltb (length text) (length (indexText x)) h)
+
+  because : Because x text (answerOf (judgedOf x) n (length text))
+  unfolding judgedOf outcome answerOf
+  because = by (firstBadRow x) refl
+    where
+      by : (o : Option ℕ) → firstBadRow x ≡ o → Because x text (answerOf (outcome o (lengthTotal x (x .rows))) n (length text))
+      by (some k) e = refused 20 k (bad k e)
+      by none e = elim (decLe (length (indexText x)) (length text)) [
+        | yes h ↦ let is : n ≡ length (indexText x) = omega arith in rw (le-leb n (length text) (omega arith), is) (fits (passed e h) h)
+        | no f ↦ rw (lt-leb n (length text) (omega arith)) (refused 23 0 (short e (omega arith)))
+      ]
+
+answered : {x : Index} {text : List ℕ} {a : Written} → Because x text a → a ≡ writeAnswer x text
+unfolding writeAnswer
+answered (refused n p e) = rw (e, writeAnswer)
+answered (fits e h) = rw (e, writeAnswer)
+
+untouched : {x : Index} {text : List ℕ} {a : Written} → Because x text a → isRefused a ≡ true → text ≡ writeAfter x text
+unfolding writeAfter isRefused
+untouched (refused n p e) h = rw (e, writeAfter)
+untouched (fits e l) h = let z : _≡_ {A = ℕ} 0 1 = cc in absurd (omega arith)
+
+-- a text with room, and zeros behind it
+whole : (l text : List ℕ) (to : ℕ) → length l ≤ length text → to ≡ length l → cleared to (sets text 0 l) ≡ filled 0 l text
+unfolding cleared filled
+whole l text to h e =
+    let s : sets text 0 l ≡ l ++ drop (0 + length l) text = sets-eq l text 0 (omega arith) in
+    rw (e, length-sets text 0 l, s, take-append-le (length l) l (drop (0 + length l) text) (omega arith), take-length l)
+
+complete : {x : Index} {text : List ℕ} {a : Written} → Because x text a → isRefused a ≡ false → (new : List ℕ) (to : ℕ) → Ended true text 0 (indexText x) new to → new ≡ writeAfter x text
+unfolding writeAfter isRefused
+complete (refused n p e) h new to d = let z : _≡_ {A = ℕ} 0 1 = cc in absurd (omega arith)
+complete {x} {text} (fits e l) h new to d = rw (e, writeAfter) (d .holds ∙ whole (indexText x) text to l (omega (arith, d .ends)))
+
+-- ---- at the two returns
+
+module _ (x : Index) (text : List ℕ) {j : Judged} {n : ℕ} {a : Written} {counted : List ℕ} (judged : j ≡ judgedOf x) (count : Ended false text 0 (indexText x) counted n) (answer : a ≡ answerOf j n (length text)) where
+  why : Because x text a
+  why = rw (answer, judged) (because x text n (omega (arith, count .ends)))
+
+  pub kept-refused : isRefused a ≡ true → WriteKept x text a counted
+  kept-refused h = write-kept x text a counted (answered why) (count .holds ∙ untouched why h)
+
+  pub kept-written : isRefused a ≡ false → {new : List ℕ} {to : ℕ} → Ended true counted 0 (indexText x) new to → WriteKept x text a new
+  kept-written h {new} {to} d = write-kept x text a new (answered why) (complete why h new to (rw (count .holds) at d))

@@ -1,0 +1,22 @@
+-- `text_save::is_refused` meets its contract. By cases. Assumes nothing.
+use Rattle.text_save.specs.Answer.{isRefused}
+use borrow.Author.Needs.{needs}
+use Rattle.text_save.proofs.is_refused.Statement.{statement}
+use Rattle.text_save.proofs.is_refused.Tie as tie
+
+enum-told : tie.Need-enum-told
+enum-told c = search needs
+
+enum-told-2 : tie.Need-enum-told-2
+enum-told-2 c = search needs
+
+returns : tie.Need-returns
+unfolding isRefused
+returns c = rw (c .enum-told .given .1)
+
+returns-2 : tie.Need-returns-2
+unfolding isRefused
+returns-2 c = rw (c .enum-told2 .given .1)
+
+pub is-refused-spec : {M : Type 1} → statement M
+is-refused-spec = tie.close (tie.spec enum-told enum-told-2 returns returns-2)

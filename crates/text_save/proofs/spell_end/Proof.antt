@@ -1,0 +1,36 @@
+-- `text_save::spell_end` meets its contract. By the flag: written and cleared behind, or counted. Assumes nothing.
+use Rattle.text_save.specs.Spell.{ended-stored, ended-only}
+use borrow.Author.Needs.{needs}
+use Rattle.text_save.proofs.spell_end.Statement.{statement}
+use Rattle.text_save.proofs.spell_end.Tie as tie
+
+write-end-requires : tie.Need-write-end-requires
+write-end-requires c κs = search needs
+
+clear-from-requires : tie.Need-clear-from-requires
+clear-from-requires c κs = search needs
+
+same-length : tie.Need-same-length
+same-length c = search needs
+
+returns : tie.Need-returns
+returns c =
+    let w = c .before .before .before .before .before .before in
+    ended-stored (w .before .before .if1 .taken) (w .write-end .ensures) (c .before .before .clear-from .ensures)
+
+count-end-requires : tie.Need-count-end-requires
+count-end-requires c κs = search needs
+
+returns-2 : tie.Need-returns-2
+returns-2 c = ended-only (c .before .if1 .left) (c .count-end .ensures)
+
+pub spell-end-spec : {M : Type 1} → statement M
+spell-end-spec =
+    tie.close
+    (tie.spec
+    write-end-requires
+    clear-from-requires
+    same-length
+    returns
+    count-end-requires
+    returns-2)

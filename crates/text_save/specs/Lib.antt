@@ -1,0 +1,3 @@
+-- What the entry write promises of its parts.
+pub mod Spell
+pub mod Answer
