@@ -36,6 +36,19 @@ abbrev pub endOf : {T : Type 0} → Fed (Seen T) → Verdict T
 endOf (going x p) = atEnd (keptAt (x .state) (x .kept)) p
 endOf (failed p) = unfit p
 
+-- the order after some bytes
+abbrev pub Ordered : Fed Reading → Type 0
+Ordered (going x p) = Order (statePart (x .state)) (x .said)
+Ordered (failed p) = Unit {0}
+
+pub fed-ordered : (l : List ℕ) (x : Reading) (p : ℕ) → GoodState (x .state) → Order (statePart (x .state)) (x .said) → Ordered (feed step (going x p) l)
+unfolding feed
+fed-ordered [] x p h o = o
+fed-ordered (b ∷ l) x p h o =
+    on-option (step x b)
+    (λ n e. rw e (fed-ordered l n (suc p) (stays x b n h e) (order-step x b n h o e)))
+    (λ e. rw (e, feed-failed step l p) tt)
+
 module _ {T : Type 0} (tell : Place → ℤ → T → T) (shut : T → T) where
   abbrev pub movedTo : Moved → T → Option (Seen T)
   movedTo (Moved.To s) t = some (seen s t)
@@ -76,20 +89,20 @@ module _ {T : Type 0} (tell : Place → ℤ → T → T) (shut : T → T) where
         (λ n e. rw (step-seen x b o, e) (fed-seen l n (suc p) (stays x b n h e) (order-step x b n h o e)))
         (λ e. rw (step-seen x b o, e, feed-failed keep l p, feed-failed step l p) refl)
 
-    module _ {A : Type 0} (out : T → A) (say : Value indexForm → A) (same : (g : Said) → out (view g) ≡ say (value g)) where
-      end-by : (s : State) (g : Said) (p : ℕ) → verdictOf out (atEnd (keptAt s (view g)) p) ≡ verdictOf say (atEnd (acceptState s g) p)
-      end-by (State.In w k) g p = refl
-      end-by (State.At q n) g p = refl
-      end-by (State.Before t) g p = refl
-      end-by State.Done g p = ap fine (same g)
+    module _ {A : Type 0} (out : T → A) (say : Value indexForm → A) (same : (g : Said) → g .runs ≡ [] → out (view g) ≡ say (value g)) where
+      end-by : (s : State) (g : Said) (p : ℕ) → Order (statePart s) g → verdictOf out (atEnd (keptAt s (view g)) p) ≡ verdictOf say (atEnd (acceptState s g) p)
+      end-by (State.In w k) g p o = refl
+      end-by (State.At q n) g p o = refl
+      end-by (State.Before t) g p o = refl
+      end-by State.Done g p o = ap fine (same g o)
 
-      ends-by : (f : Fed Reading) → verdictOf out (endOf (seenFed f)) ≡ verdictOf say (judged accept f)
+      ends-by : (f : Fed Reading) → Ordered f → verdictOf out (endOf (seenFed f)) ≡ verdictOf say (judged accept f)
       unfolding accept
-      ends-by (going x p) = end-by (x .state) (x .said) p
-      ends-by (failed p) = refl
+      ends-by (going x p) o = end-by (x .state) (x .said) p o
+      ends-by (failed p) o = refl
 
       pub text-viewed : (t : List ℕ) → verdictOf out (endOf (feed keep (going (seenOf start) 0) t)) ≡ verdictOf say (readText indexForm t)
-      text-viewed t = rw (index-comes t, fed-seen t start 0 index-good (refl, refl)) (ends-by (feed step (going start 0) t))
+      text-viewed t = rw (index-comes t, fed-seen t start 0 index-good (refl, refl)) (ends-by (feed step (going start 0) t) (fed-ordered t start 0 index-good (refl, refl)))
 
 -- ---- a loop over the bytes
 

@@ -87,7 +87,7 @@ pub text-scanned : (t : List ℕ) → keptScanned (endOf (Whole tellTally shutTa
 text-scanned t =
     kept-said (endOf (Whole tellTally shutTally startTally t))
     ∙ ap (λ (x : Tally). said (verdictOf outOf (endOf (Whole tellTally shutTally x t)))) (sym start-is)
-    ∙ ap said (text-viewed tellTally shutTally tallyOf tells shuts outOf scannedText (λ g. refl) t)
+    ∙ ap said (text-viewed tellTally shutTally tallyOf tells shuts outOf scannedText (λ g o. refl) t)
     ∙ text-said (readText indexForm t)
 
 -- ---- small counts

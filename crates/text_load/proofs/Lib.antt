@@ -1,0 +1,2 @@
+-- What reading an index text implies: its runs in the run buffer (`Columns`).
+pub mod Columns
