@@ -64,7 +64,7 @@ at-least : (a : ℕ) (z : ℤ) → leZ (pos a) z ≡ true → (z ≡ pos (natAbs
 at-least a (pos n) e = (refl, leb-true a n e)
 at-least a (negsuc n) e = absurd (false≢true e)
 
-held-nat : (z : ℤ) → z ≡ pos (natAbs z) → natAbs z ≤ 4294967295 → held z ≡ natAbs z
+pub held-nat : (z : ℤ) → z ≡ pos (natAbs z) → natAbs z ≤ 4294967295 → held z ≡ natAbs z
 held-nat z e h = ap held e ∙ held-pos (natAbs z) h
 
 -- a number in limits below the greatest is in them as it is held
@@ -77,7 +77,7 @@ within-held low high z h =
 -- ---- runs
 
 -- a run of whole numbers
-abbrev entryGood : ℕ → ℕ → ℤ → ℤ → Bool
+abbrev pub entryGood : ℕ → ℕ → ℤ → ℤ → Bool
 entryGood W a l r = leZ (pos a) l && (leZ l r && ltZ r (pos W))
 
 run-to : (W a : ℕ) (l r : ℤ) → W ≤ 4294967295 → runGood W a (held l) (held r) ≡ true → entryGood W a l r ≡ true
@@ -87,14 +87,14 @@ run-to W a l r h e =
     (of-both (le-leb a (held l) (g .below)) (of-both (le-leb (held l) (held r) (g .order)) (lt-ltb (held r) W (g .inside))))
 
 -- what a good run of whole numbers is
-record GoodEntry (W a : ℕ) (l r : ℤ) : Type 0 where
-  left : l ≡ pos (natAbs l)
-  right : r ≡ pos (natAbs r)
-  below : a ≤ natAbs l
-  order : natAbs l ≤ natAbs r
-  inside : natAbs r < W
+pub record GoodEntry (W a : ℕ) (l r : ℤ) : Type 0 where
+  pub left : l ≡ pos (natAbs l)
+  pub right : r ≡ pos (natAbs r)
+  pub below : a ≤ natAbs l
+  pub order : natAbs l ≤ natAbs r
+  pub inside : natAbs r < W
 
-good-entry : (W a : ℕ) (l r : ℤ) → entryGood W a l r ≡ true → GoodEntry W a l r
+pub good-entry : (W a : ℕ) (l r : ℤ) → entryGood W a l r ≡ true → GoodEntry W a l r
 good-entry W a l r e =
     let b = both (leZ (pos a) l) (leZ l r && ltZ r (pos W)) e in
     let c = both (leZ l r) (ltZ r (pos W)) (b .1) in
@@ -112,17 +112,17 @@ run-same : (W a : ℕ) (l r : ℤ) → W ≤ 4294967295 → runGood W a (held l)
 run-same W a l r h = same-flag (runGood W a (held l) (held r)) (entryGood W a l r) (run-to W a l r h) (run-from W a l r h)
 
 -- tests in another order of brackets
-three : (a b c d : Bool) → (a && (b && (c && d))) ≡ ((a && (b && c)) && d)
+pub three : (a b c d : Bool) → (a && (b && (c && d))) ≡ ((a && (b && c)) && d)
 three true true c d = refl
 three true false c d = refl
 three false b c d = refl
 
-runs-bad : (W : ℕ) (s : Runs) (l : List Entry) → s .good ≡ false → runsFrom W s l .good ≡ false
+pub runs-bad : (W : ℕ) (s : Runs) (l : List Entry) → s .good ≡ false → runsFrom W s l .good ≡ false
 unfolding runsFrom runNext
 runs-bad W s [] e = e
 runs-bad W s (x ∷ l) e = rw e (runs-bad W (record { count = s .count + 1; good = false; least = 0; total = 0 }) l refl)
 
-runs-count : (W : ℕ) (s : Runs) (l : List Entry) → runsFrom W s l .count ≡ s .count + length l
+pub runs-count : (W : ℕ) (s : Runs) (l : List Entry) → runsFrom W s l .count ≡ s .count + length l
 unfolding runsFrom runNext
 runs-count W s [] = omega arith
 runs-count W s (x ∷ l) =
@@ -131,11 +131,11 @@ runs-count W s (x ∷ l) =
     omega (arith, runs-count W n l, e)
 
 -- the runs are good where the meanings say so, and then their lengths total what the meanings say
-record RunsAre (W : ℕ) (s : Runs) (l : List Entry) : Type 0 where
-  good : runsFrom W s l .good ≡ runsGood (pos W) (pos (s .least)) l
-  total : runsGood (pos W) (pos (s .least)) l ≡ true → runsFrom W s l .total ≡ s .total + runLengths l
+pub record RunsAre (W : ℕ) (s : Runs) (l : List Entry) : Type 0 where
+  pub good : runsFrom W s l .good ≡ runsGood (pos W) (pos (s .least)) l
+  pub total : runsGood (pos W) (pos (s .least)) l ≡ true → runsFrom W s l .total ≡ s .total + runLengths l
 
-runs-are : (W : ℕ) (s : Runs) (l : List Entry) → W ≤ 4294967295 → s .good ≡ true → RunsAre W s l
+pub runs-are : (W : ℕ) (s : Runs) (l : List Entry) → W ≤ 4294967295 → s .good ≡ true → RunsAre W s l
 unfolding runsFrom runNext runsGood runLengths
 runs-are W s [] h g = record { good = g; total = λ e. omega arith }
 runs-are W s (x ∷ l) h g =
@@ -172,7 +172,7 @@ end-clamp z e =
     let high : z ≤ℤ pos 2147483647 = omega (zmach, f-le z (pos 4000000) (b .1)) in
     rw (le-ltZ low, le-ltZ high) refl
 
-clamp-end : (z : ℤ) → endIn (clamp z) ≡ true → clamp z ≡ z
+pub clamp-end : (z : ℤ) → endIn (clamp z) ≡ true → clamp z ≡ z
 unfolding within
 clamp-end z e =
     on-flag (ltZ z (negsuc 2147483647))
@@ -180,7 +180,7 @@ clamp-end z e =
     (λ t. on-flag (ltZ (pos 2147483647) z) (λ u. absurd (false≢true (rw (t, u) at e))) (λ u. rw (t, u) refl))
 
 -- the two ends of a good range
-range-ends : (x : Index) (least : ℤ) (r : Row) → rangeGood x least r ≡ true → (endIn (r .low) ≡ true) × (endIn (r .up) ≡ true)
+pub range-ends : (x : Index) (least : ℤ) (r : Row) → rangeGood x least r ≡ true → (endIn (r .low) ≡ true) × (endIn (r .up) ≡ true)
 unfolding rangeGood
 range-ends x least r e =
     let a = both (ltZ (r .low) (r .up)) _ e in
@@ -209,14 +209,14 @@ module _ (h : Head) (x : Index) (width : natAbs (x .width) ≡ h .width) (low up
 
 -- ---- rows
 
-rows-stop : (h : Head) (c : Rows) (l : List (Value rowForm)) → c .good ≡ false → (rowsFrom h c l .good ≡ false) × (rowsFrom h c l .rows ≡ c .rows)
+pub rows-stop : (h : Head) (c : Rows) (l : List (Value rowForm)) → c .good ≡ false → (rowsFrom h c l .good ≡ false) × (rowsFrom h c l .rows ≡ c .rows)
 unfolding rowsFrom rowNext
 rows-stop h c [] e = (e, refl)
 rows-stop h c (r ∷ l) e = rw e (rows-stop h (record { good = false; rows = c .rows; runs = c .runs; least = pos 0; taken = 0 }) l refl)
 
 module _ (h : Head) (x : Index) (width : natAbs (x .width) ≡ h .width) (windows : x .windows ≡ pos (h .windows)) (most : h .windows ≤ 4294967295) where
   -- the runs of a row, as they are counted
-  abbrev tallied : Value rowForm → Runs
+  abbrev pub tallied : Value rowForm → Runs
   tallied r = runsFrom (h .windows) noRuns (r .1 .1)
 
   abbrev placed : ℕ → Value rowForm → Row
@@ -245,14 +245,14 @@ module _ (h : Head) (x : Index) (width : natAbs (x .width) ≡ h .width) (window
       last-two false b d = refl
 
   -- after a good row the tally has what the meanings have
-  record NextIs (c : Rows) (r : Value rowForm) (n : Rows) : Type 0 where
-    good : n .good ≡ true
-    rows : n .rows ≡ suc (c .rows)
-    runs : n .runs ≡ c .runs + length (r .1 .1)
-    least : n .least ≡ r .1 .0
-    taken : n .taken ≡ c .taken + runLengths (r .1 .1)
+  pub record NextIs (c : Rows) (r : Value rowForm) (n : Rows) : Type 0 where
+    pub good : n .good ≡ true
+    pub rows : n .rows ≡ suc (c .rows)
+    pub runs : n .runs ≡ c .runs + length (r .1 .1)
+    pub least : n .least ≡ r .1 .0
+    pub taken : n .taken ≡ c .taken + runLengths (r .1 .1)
 
-  next-is : (c : Rows) (r : Value rowForm) → c .good ≡ true → rowFits h c (clamp (r .0)) (clamp (r .1 .0)) (tallied r) ≡ true → NextIs c r (rowNext h c (clamp (r .0)) (clamp (r .1 .0)) (tallied r))
+  pub next-is : (c : Rows) (r : Value rowForm) → c .good ≡ true → rowFits h c (clamp (r .0)) (clamp (r .1 .0)) (tallied r) ≡ true → NextIs c r (rowNext h c (clamp (r .0)) (clamp (r .1 .0)) (tallied r))
   unfolding rowNext
   next-is c r g e =
       let a = runs-are (h .windows) noRuns (r .1 .1) most refl in
@@ -288,7 +288,7 @@ module _ (h : Head) (x : Index) (width : natAbs (x .width) ≡ h .width) (window
   unfolding rowNext
   next-stopped c r e = rw (e, and-false (c .good)) refl
 
-  next-off : (c : Rows) (r : Value rowForm) (l : List (Value rowForm)) → rowFits h c (clamp (r .0)) (clamp (r .1 .0)) (tallied r) ≡ false → (rowsFrom h c (r ∷ l) .good ≡ false) × (rowsFrom h c (r ∷ l) .rows ≡ c .rows)
+  pub next-off : (c : Rows) (r : Value rowForm) (l : List (Value rowForm)) → rowFits h c (clamp (r .0)) (clamp (r .1 .0)) (tallied r) ≡ false → (rowsFrom h c (r ∷ l) .good ≡ false) × (rowsFrom h c (r ∷ l) .rows ≡ c .rows)
   unfolding rowsFrom
   next-off c r l e =
       let n = next-stopped c r e in
@@ -317,7 +317,7 @@ module _ (h : Head) (x : Index) (width : natAbs (x .width) ≡ h .width) (window
       bad-off (c .rows) (c .least) (c .runs) (c .taken) (placed (c .runs) r) (records (c .runs + length (r .1 .1)) more) (same ∙ e) ∙ rw (q .0, q .1) refl)
 
   -- how many rows and runs there are, where all are good
-  counted : (l : List (Value rowForm)) (c : Rows) → c .good ≡ true → rowsFrom h c l .good ≡ true → (rowsFrom h c l .rows ≡ c .rows + length l) × (rowsFrom h c l .runs ≡ c .runs + length (allRuns (map rowSaid l)))
+  pub counted : (l : List (Value rowForm)) (c : Rows) → c .good ≡ true → rowsFrom h c l .good ≡ true → (rowsFrom h c l .rows ≡ c .rows + length l) × (rowsFrom h c l .runs ≡ c .runs + length (allRuns (map rowSaid l)))
   unfolding rowsFrom allRuns
   counted [] c g e = (omega arith, omega arith)
   counted (r ∷ l) c g e =
@@ -367,11 +367,11 @@ module _ (v : Value indexForm) where
         most = z .most;
       }
 
-  width-is : HeadIs → natAbs (X .width) ≡ h .width
+  pub width-is : HeadIs → natAbs (X .width) ≡ h .width
   unfolding indexSaid
   width-is i = ap natAbs (i .width)
 
-  windows-is : HeadIs → X .windows ≡ pos (h .windows)
+  pub windows-is : HeadIs → X .windows ≡ pos (h .windows)
   unfolding indexSaid
   windows-is i = i .windows
 

@@ -1,3 +1,4 @@
+use mathlib.Core.Path.{_≡_, refl}
 use borrow.Author.Needs.{needs}
 use Rattle.text_load.proofs.count_if.Statement.{statement}
 use Rattle.text_load.proofs.count_if.Tie as tie
@@ -10,7 +11,7 @@ add-result c = search needs
 
 -- src/lib.rt:129:1
 returns : tie.Need-returns
-returns c = ?
+returns c = rw (c .if1 .taken) refl
 
 -- src/lib.rt:129:1
 returns-2 : tie.Need-returns-2

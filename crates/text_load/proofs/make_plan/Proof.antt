@@ -1,3 +1,6 @@
+use mathlib.Core.Path.{_≡_, refl, sym, ap, _∙_}
+use Rattle.text_judge.specs.declared.Scanned.{Scanned}
+use Rattle.text_load.specs.Plan.{planScanned}
 use borrow.Author.Needs.{needs}
 use Rattle.text_load.proofs.make_plan.Statement.{statement}
 use Rattle.text_load.proofs.make_plan.Tie as tie
@@ -34,11 +37,13 @@ plan-fine-requires c κs = search needs
 
 -- src/lib.rt:81:1
 returns : tie.Need-returns
-returns c = ?
+unfolding planScanned
+returns c = let l = c .before in let a = l .before .before in let s = a .before .before in let b = s .before .before in let e = sym (s .scan .ensures) ∙ a .at .given .1 in c .refuse .ensures ∙ (rw (l .line-at .ensures) refl) ∙ sym (ap (planScanned (b .args .text .now) (b .args .rows) (b .args .runs)) e)
 
 -- src/lib.rt:81:1
 returns-2 : tie.Need-returns-2
-returns-2 c = ?
+unfolding planScanned
+returns-2 c = let a = c .before .before in let s = a .before .before in let b = s .before .before in let e = sym (s .scan .ensures) ∙ a .head .given .1 in c .plan-fine .ensures ∙ sym (ap (planScanned (b .args .text .now) (b .args .rows) (b .args .runs)) e)
 
 pub make-plan-spec : {M : Type 1} → statement M
 make-plan-spec =

@@ -1,3 +1,5 @@
+use mathlib.Core.Path.{_≡_, refl, sym, ap, _∙_}
+use lib.Seq.{set-out}
 use borrow.Author.Needs.{needs}
 use Rattle.text_load.proofs.put_if.Statement.{statement}
 use Rattle.text_load.proofs.put_if.Tie as tie
@@ -18,11 +20,11 @@ same-length c = search needs
 
 -- src/lib.rt:119:1
 returns : tie.Need-returns
-returns c = ?
+returns c = rw (c .before .if1 .taken) refl
 
 -- src/lib.rt:119:1
 returns-2 : tie.Need-returns-2
-returns-2 c = ?
+returns-2 c = let s = c .before .before in rw (c .before .if1 .taken) (sym (set-out (s .args .out .now) (s .args .k) (s .args .x) (c .if2 .left)))
 
 -- src/lib.rt:119:1
 returns-3 : tie.Need-returns-3
