@@ -37,7 +37,7 @@ pub enum Feeding {
 }
 
 // The nearest value that an i32 holds.
-fn narrow(z: i64) -> i32
+pub fn narrow(z: i64) -> i32
     ensures { λ r. ⌜ r ≡ clamp z ⌝ }
 {
     if z < -2147483648 {

@@ -61,7 +61,7 @@ told Place.Right z g = record { window = g .window; width = g .width; windows = 
 
 -- a row's end
 abbrev pub closed : Said → Said
-closed g = record { window = g .window; width = g .width; windows = g .windows; rows = g .rows ++ ((g .low, (g .up, g .runs)) ∷ []); low = g .low; up = g .up; runs = g .runs; left = g .left }
+closed g = record { window = g .window; width = g .width; windows = g .windows; rows = g .rows ++ ((g .low, (g .up, g .runs)) ∷ []); low = g .low; up = g .up; runs = []; left = g .left }
 
 abbrev pub value : Said → Value indexForm
 value g = (g .window, (g .width, (g .windows, g .rows)))
@@ -188,7 +188,7 @@ behind-then Word.RunEnd k g h = refl
 behind-then Word.RowEnd k g h = let e : k ≡ 1 = omega arith in rw e
 behind-then Word.End k g h = refl
 
-inside : (w : Word) (k : ℕ) → suc k < length (word w) → closes w k ≡ false
+pub inside : (w : Word) (k : ℕ) → suc k < length (word w) → closes w k ≡ false
 unfolding word bytes closes
 inside Word.Window k h = refl
 inside Word.Width k h = refl
@@ -202,7 +202,7 @@ inside Word.RunEnd k h = refl
 inside Word.RowEnd k h = let e : k ≡ 0 = omega arith in rw e
 inside Word.End k h = refl
 
-not-first : (w : Word) → closes w 0 ≡ false
+pub not-first : (w : Word) → closes w 0 ≡ false
 unfolding closes
 not-first Word.Window = refl
 not-first Word.Width = refl
@@ -216,10 +216,10 @@ not-first Word.RunEnd = refl
 not-first Word.RowEnd = refl
 not-first Word.End = refl
 
-there-same : {s n : State} → Reached.There s ≡ Reached.There n → s ≡ n
+pub there-same : {s n : State} → Reached.There s ≡ Reached.There n → s ≡ n
 there-same e = cc
 
-not-there : {A : Type 0} {s : State} → Reached.Not ≡ Reached.There s → A
+pub not-there : {A : Type 0} {s : State} → Reached.Not ≡ Reached.There s → A
 not-there e = let z : _≡_ {A = ℕ} 0 1 = cc in absurd (omega arith)
 
 there-not : {A : Type 0} {s : State} → Reached.There s ≡ Reached.Not → A
@@ -331,14 +331,14 @@ after-turn Place.Right g = refl
 
 -- ---- every state
 
-on-reached : (x : Reached) {A : Type 0} → ((s : State) → x ≡ Reached.There s → A) → (x ≡ Reached.Not → A) → A
+pub on-reached : (x : Reached) {A : Type 0} → ((s : State) → x ≡ Reached.There s → A) → (x ≡ Reached.Not → A) → A
 on-reached (Reached.There s) f g = f s refl
 on-reached Reached.Not f g = g refl
 
-some-same : {x y : Reading} → some x ≡ some y → x ≡ y
+pub some-same : {x y : Reading} → some x ≡ some y → x ≡ y
 some-same e = cc
 
-none-some : {A : Type 0} {x : Reading} → none ≡ some x → A
+pub none-some : {A : Type 0} {x : Reading} → none ≡ some x → A
 none-some e = let z : _≡_ {A = ℕ} 0 1 = cc in absurd (omega arith)
 
 some-none : {A : Type 0} {x : Reading} → some x ≡ none → A

@@ -1,0 +1,320 @@
+// Judging an index text in one pass over its bytes, whatever its length: whether it can be read, how many rows and runs it has, and the first bad row of its index (01, Rows). Nothing is kept of a row that is closed but where it ended.
+ghost use mathlib.Core.Path.{_≡_};
+ghost use Prim.Native.Nat.{_+_, _<_, _≤_, _^_};
+ghost use Rattle.meaning_text.specs.Read.{readText};
+ghost use Rattle.meaning_text.specs.Texts.{indexForm};
+ghost use Rattle.meaning_text.proofs.Automaton.{atEnd};
+ghost use Rattle.text_index.specs.View.{keptAt};
+ghost use Rattle.text_judge.specs.Tally.{held, noRuns, runNext, Sound, noRows, rowNext, tellTally, shutTally, Fits, startTally, scanned, keptScanned};
+use judge::range_good;
+use judge::run_good;
+use judge::total_good;
+use meaning_rows::Head;
+use meaning_rows::Row;
+use text_feed::narrow;
+use text_index::Moved;
+use text_index::Place;
+use text_index::State;
+use text_index::Word;
+use text_index::index_step;
+
+// The runs of a row so far: how many, that they are good, the least left end that the next may have, and their lengths added up.
+pub struct Runs {
+    pub count: usize,
+    pub good: bool,
+    pub least: u64,
+    pub total: usize,
+}
+
+// The row that is open: its range, the left end of the run that is open, and its runs.
+pub struct Open {
+    pub low: i32,
+    pub up: i32,
+    pub left: u32,
+    pub runs: Runs,
+}
+
+// The rows that are closed: that they are good, how many, how many runs they have, where the last one's range ends, and their run lengths added up. After a bad row nothing is counted on.
+pub struct Rows {
+    pub good: bool,
+    pub rows: usize,
+    pub runs: usize,
+    pub least: i32,
+    pub taken: usize,
+}
+
+// What is known of a text so far.
+pub struct Tally {
+    pub head: Head,
+    pub rows: Rows,
+    pub row: Open,
+}
+
+// A text cannot be read from a place on; or what its head and rows come to.
+pub enum Scanned {
+    Bad(usize),
+    Fine(Head, Rows),
+}
+
+// A number as a u32 holds it; one that it does not hold becomes the greatest, which is outside every limit.
+pub fn hold(z: i64) -> u32
+    ensures { λ r. ⌜ r ≡ held z ⌝ }
+{
+    if z < 0 {
+        return 4294967295;
+    }
+    if 4294967295 < z {
+        return 4294967295;
+    }
+    z as u32
+}
+
+pub fn no_runs() -> Runs
+    ensures { λ r. ⌜ r ≡ noRuns ⌝ }
+{
+    Runs {
+        count: 0,
+        good: true,
+        least: 0,
+        total: 0,
+    }
+}
+
+pub fn no_rows() -> Rows
+    ensures { λ r. ⌜ r ≡ noRows ⌝ }
+{
+    Rows {
+        good: true,
+        rows: 0,
+        runs: 0,
+        least: -4000000,
+        taken: 0,
+    }
+}
+
+// One run more.
+pub fn more_run(windows: u32, s: Runs, l: u32, r: u32) -> Runs
+    requires { ⌜ Sound s ⌝ }
+    requires { ⌜ s .count < 2 ^ 63 ⌝ }
+    ensures { λ n. ⌜ n ≡ runNext windows s l r ⌝ }
+{
+    let count = s.count + 1;
+    let fine = run_good(windows as u64, s.least, l as u64, r as u64);
+    if s.good & fine {
+        return Runs {
+            count,
+            good: true,
+            least: r as u64 + 2,
+            total: s.total + (r as usize + 1 - l as usize),
+        };
+    }
+    Runs {
+        count,
+        good: false,
+        least: 0,
+        total: 0,
+    }
+}
+
+// The open row is closed.
+pub fn close_row(head: Head, s: Rows, o: Open) -> Rows
+    requires { ⌜ s .rows < 2 ^ 63 ⌝ }
+    requires { ⌜ s .runs + o .runs .count < 2 ^ 63 ⌝ }
+    ensures { λ n. ⌜ n ≡ rowNext head s (o .low) (o .up) (o .runs) ⌝ }
+{
+    let low = o.low;
+    let up = o.up;
+    let count = o.runs.count;
+    let total = o.runs.total;
+    let r = Row {
+        low,
+        up,
+        first: 0,
+        runs: 0,
+    };
+    let range = range_good(head, s.least, r);
+    let most = total_good(head.windows as usize, s.taken, total);
+    if s.good & (range & ((1 <= count) & (o.runs.good & most))) {
+        return Rows {
+            good: true,
+            rows: s.rows + 1,
+            runs: s.runs + count,
+            least: up,
+            taken: s.taken + total,
+        };
+    }
+    Rows {
+        good: false,
+        rows: s.rows,
+        runs: s.runs,
+        least: 0,
+        taken: 0,
+    }
+}
+
+// What a number says.
+pub fn tell(t: Tally, p: Place, z: i64) -> Tally
+    requires { ⌜ Sound (t .row .runs) ⌝ }
+    requires { ⌜ t .row .runs .count < 2 ^ 63 ⌝ }
+    ensures { λ n. ⌜ n ≡ tellTally p z t ⌝ }
+{
+    let h = t.head;
+    let rows = t.rows;
+    let o = t.row;
+    let runs = o.runs;
+    match p {
+        Place::Window => Tally {
+            head: Head {
+                window: hold(z),
+                width: h.width,
+                windows: h.windows,
+            },
+            rows,
+            row: o,
+        },
+        Place::Width => Tally {
+            head: Head {
+                window: h.window,
+                width: hold(z),
+                windows: h.windows,
+            },
+            rows,
+            row: o,
+        },
+        Place::Windows => Tally {
+            head: Head {
+                window: h.window,
+                width: h.width,
+                windows: hold(z),
+            },
+            rows,
+            row: o,
+        },
+        Place::Low => Tally {
+            head: h,
+            rows,
+            row: Open {
+                low: narrow(z),
+                up: o.up,
+                left: o.left,
+                runs,
+            },
+        },
+        Place::Up => Tally {
+            head: h,
+            rows,
+            row: Open {
+                low: o.low,
+                up: narrow(z),
+                left: o.left,
+                runs: no_runs(),
+            },
+        },
+        Place::Left => Tally {
+            head: h,
+            rows,
+            row: Open {
+                low: o.low,
+                up: o.up,
+                left: hold(z),
+                runs,
+            },
+        },
+        Place::Right => Tally {
+            head: h,
+            rows,
+            row: Open {
+                low: o.low,
+                up: o.up,
+                left: o.left,
+                runs: more_run(h.windows, runs, o.left, hold(z)),
+            },
+        },
+    }
+}
+
+// What a row's end says.
+pub fn shut(t: Tally) -> Tally
+    requires { ⌜ t .rows .rows < 2 ^ 63 ⌝ }
+    requires { ⌜ t .rows .runs + t .row .runs .count < 2 ^ 63 ⌝ }
+    ensures { λ n. ⌜ n ≡ shutTally t ⌝ }
+{
+    let head = t.head;
+    let rows = t.rows;
+    let o = t.row;
+    Tally {
+        head,
+        rows: close_row(head, rows, o),
+        row: Open {
+            low: o.low,
+            up: o.up,
+            left: o.left,
+            runs: no_runs(),
+        },
+    }
+}
+
+// Nothing has been said.
+pub fn no_tally() -> Tally
+    ensures { λ t. ⌜ t ≡ startTally ⌝ }
+{
+    Tally {
+        head: Head {
+            window: 0,
+            width: 0,
+            windows: 0,
+        },
+        rows: no_rows(),
+        row: Open {
+            low: 0,
+            up: 0,
+            left: 0,
+            runs: no_runs(),
+        },
+    }
+}
+
+// The end of a text of `at` bytes.
+fn scan_end(s: State, t: Tally, at: usize) -> Scanned
+    ensures { λ r. ⌜ r ≡ keptScanned (atEnd (keptAt s t) at) ⌝ }
+{
+    let head = t.head;
+    let rows = t.rows;
+    match s {
+        State::In(_, _) => Scanned::Bad(at),
+        State::At(_, _) => Scanned::Bad(at),
+        State::Before(_) => Scanned::Bad(at),
+        State::Done => Scanned::Fine(head, rows),
+    }
+}
+
+// A whole text.
+pub fn scan(text: &[u8]) -> Scanned
+    ensures { λ r. ⌜ r ≡ scanned (readText indexForm (now (text .entry))) ⌝ }
+{
+    let mut s = State::In(Word::Window, 0);
+    let mut t = no_tally();
+    let mut i = 0;
+    while i < text.len() {
+        match index_step(s, text[i]) {
+            Moved::To(n) => {
+                s = n;
+                i += 1;
+            }
+            Moved::Value(n, p, z) => {
+                s = n;
+                t = tell(t, p, z);
+                i += 1;
+            }
+            Moved::Closed(n) => {
+                s = n;
+                t = shut(t);
+                i += 1;
+            }
+            Moved::Refuse => {
+                return Scanned::Bad(i);
+            }
+        }
+    }
+    scan_end(s, t, i)
+}

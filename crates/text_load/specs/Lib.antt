@@ -1,0 +1,3 @@
+-- Reading an index text: what is planned (`Plan`), and its runs in the run buffer (`Runs`).
+pub mod Plan
+pub mod Runs

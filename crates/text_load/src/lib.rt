@@ -1,0 +1,230 @@
+// Reading an index text into lent buffers (01, Text and program): a pass that judges the text, and where nothing refuses a pass that puts its runs into the run buffer and one that puts its rows into the row records. A refusal alters nothing.
+use judge::head_good;
+use judge::lesser;
+use meaning_entries::Loaded;
+use meaning_rows::Head;
+use meaning_rows::Row;
+use text_index::Moved;
+use text_index::Place;
+use text_index::State;
+use text_index::Word;
+use text_index::index_step;
+use text_judge::Rows;
+use text_judge::Scanned;
+use text_judge::hold;
+use text_judge::scan;
+use text_reader::line_at;
+use text_rows::fill_rows;
+ghost use mathlib.Core.Path.{_≡_};
+ghost use mathlib.Core.Bool.{cond};
+ghost use Prim.Native.Nat.{_+_, _<_, _^_, min};
+ghost use lib.ListN.{length, set, replicate};
+ghost use Rattle.meaning_entries.specs.Demand2.{LoadKept};
+ghost use Rattle.text_load.specs.Runs.{isLeft, isRight, FilledRuns};
+ghost use Rattle.text_load.specs.Plan.{refusedPlan, fitPlan, planFor, columnAfter, heldLefts, heldRights, textRuns, planAnswer};
+
+// What is known before anything is stored: the refusal, of number 0 where there is none; else the head, how many rows and runs there are, and how many row records are to be filled.
+pub struct Plan {
+    pub number: u32,
+    pub place: usize,
+    pub head: Head,
+    pub rows: usize,
+    pub runs: usize,
+    pub to: usize,
+}
+
+fn refuse(number: u32, place: usize) -> Plan
+    ensures { λ p. ⌜ p ≡ refusedPlan number place ⌝ }
+{
+    let head = Head {
+        window: 0,
+        width: 0,
+        windows: 0,
+    };
+    Plan {
+        number,
+        place,
+        head,
+        rows: 0,
+        runs: 0,
+        to: 0,
+    }
+}
+
+// The plan for a text that can be read, where there is room for so many rows and runs.
+fn plan_fine(head: Head, c: Rows, rows: usize, runs: usize) -> Plan
+    ensures { λ p. ⌜ p ≡ fitPlan head c rows runs ⌝ }
+{
+    if !head_good(head) {
+        return refuse(20, 0);
+    }
+    if !c.good {
+        return refuse(20, c.rows);
+    }
+    if rows < c.rows {
+        return refuse(23, 0);
+    }
+    if runs < c.runs {
+        return refuse(23, 0);
+    }
+    Plan {
+        number: 0,
+        place: 0,
+        head,
+        rows: c.rows,
+        runs: c.runs,
+        to: rows,
+    }
+}
+
+// The plan for a text.
+pub fn make_plan(text: &[u8], rows: usize, runs: usize) -> Plan
+    ensures { λ p. ⌜ p ≡ planFor (now (text .entry)) rows runs ⌝ }
+{
+    match scan(text) {
+        Scanned::Bad(at) => refuse(12, line_at(text, at)),
+        Scanned::Fine(head, c) => plan_fine(head, c, rows, runs),
+    }
+}
+
+fn is_left(p: Place) -> bool
+    ensures { λ b. ⌜ b ≡ isLeft p ⌝ }
+{
+    match p {
+        Place::Window => false,
+        Place::Width => false,
+        Place::Windows => false,
+        Place::Low => false,
+        Place::Up => false,
+        Place::Left => true,
+        Place::Right => false,
+    }
+}
+
+fn is_right(p: Place) -> bool
+    ensures { λ b. ⌜ b ≡ isRight p ⌝ }
+{
+    match p {
+        Place::Window => false,
+        Place::Width => false,
+        Place::Windows => false,
+        Place::Low => false,
+        Place::Up => false,
+        Place::Left => false,
+        Place::Right => true,
+    }
+}
+
+// x is put at place k, where it is wanted and the buffer has the place.
+fn put_if(wanted: bool, out: &mut [u32], k: usize, x: u32)
+    ensures { λ _. ⌜ now (out .exit) ≡ cond wanted (set (now (out .entry)) k x) (now (out .entry)) ⌝ }
+{
+    if wanted {
+        if k < out.len() {
+            out[k] = x;
+        }
+    }
+}
+
+fn count_if(wanted: bool, k: usize) -> usize
+    requires { ⌜ k < 2 ^ 63 ⌝ }
+    ensures { λ n. ⌜ n ≡ cond wanted (k + 1) k ⌝ }
+{
+    if wanted { k + 1 } else { k }
+}
+
+fn pick_if(wanted: bool, x: u32, y: u32) -> u32
+    ensures { λ n. ⌜ n ≡ cond wanted x y ⌝ }
+{
+    if wanted { x } else { y }
+}
+
+// The runs of a text, one after the other.
+pub fn fill_runs(text: &[u8], left: &mut [u32], right: &mut [u32])
+    ensures { λ _. ⌜ FilledRuns (now (text .entry)) (now (left .entry)) (now (right .entry)) (now (left .exit)) (now (right .exit)) ⌝ }
+{
+    let mut s = State::In(Word::Window, 0);
+    let mut l: u32 = 0;
+    let mut k: usize = 0;
+    let mut i: usize = 0;
+    while i < text.len() {
+        match index_step(s, text[i]) {
+            Moved::To(n) => {
+                s = n;
+                i += 1;
+            }
+            Moved::Value(n, p, z) => {
+                let x = hold(z);
+                let ends = is_right(p);
+                put_if(ends, left, k, l);
+                put_if(ends, right, k, x);
+                k = count_if(ends, k);
+                l = pick_if(is_left(p), x, l);
+                s = n;
+                i += 1;
+            }
+            Moved::Closed(n) => {
+                s = n;
+                i += 1;
+            }
+            Moved::Refuse => {
+                return;
+            }
+        }
+    }
+}
+
+// Every entry is made 0.
+fn clear(out: &mut [u32])
+    ensures { λ _. ⌜ now (out .exit) ≡ replicate (length (now (out .entry))) 0 ⌝ }
+{
+    let mut i = 0;
+    while i < out.len() {
+        out[i] = 0;
+        i += 1;
+    }
+}
+
+// The plan for a text, and where nothing refuses its runs in the run buffer.
+pub fn load_runs(text: &[u8], rows: usize, left: &mut [u32], right: &mut [u32]) -> Plan
+    ensures { λ p. ⌜ p ≡ planFor (now (text .entry)) rows (min (length (now (left .entry))) (length (now (right .entry)))) ⌝ }
+    ensures { λ p. ⌜ now (left .exit) ≡ columnAfter (p .number) (heldLefts (textRuns (now (text .entry)))) (now (left .entry)) ⌝ }
+    ensures { λ p. ⌜ now (right .exit) ≡ columnAfter (p .number) (heldRights (textRuns (now (text .entry)))) (now (right .entry)) ⌝ }
+{
+    let room = lesser(left.len(), right.len());
+    let p = make_plan(text, rows, room);
+    if p.number != 0 {
+        return p;
+    }
+    clear(left);
+    clear(right);
+    fill_runs(text, left, right);
+    p
+}
+
+// What is answered.
+pub fn answer(p: Plan) -> Loaded
+    ensures { λ a. ⌜ a ≡ planAnswer p ⌝ }
+{
+    let head = p.head;
+    if p.number != 0 {
+        return Loaded::Refused {
+            number: p.number,
+            place: p.place,
+        };
+    }
+    Loaded::Index {
+        head,
+        rows: p.rows,
+        runs: p.runs,
+    }
+}
+
+// An index text becomes an index in lent buffers.
+pub fn read(text: &[u8], rows: &mut [Row], left: &mut [u32], right: &mut [u32]) -> Loaded
+    ensures { λ a. ⌜ LoadKept (now (text .entry)) (record { rows = now (rows .entry); left = now (left .entry); right = now (right .entry) }) a (record { rows = now (rows .exit); left = now (left .exit); right = now (right .exit) }) ⌝ }
+{
+    let p = load_runs(text, rows.len(), left, right);
+    fill_rows(text, p.to, rows);
+    answer(p)
+}

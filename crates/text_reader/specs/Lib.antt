@@ -1,0 +1,1 @@
+-- The reader of texts says what it does by the meanings.

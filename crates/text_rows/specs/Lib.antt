@@ -1,0 +1,2 @@
+-- A text read row by row (`Line`).
+pub mod Line

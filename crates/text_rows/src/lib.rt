@@ -1,0 +1,131 @@
+// The rows of an index text put into lent row records, in one pass over its bytes: each record when its line is read, and records of zeros past the last.
+use meaning_rows::Row;
+use text_index::Moved;
+use text_index::State;
+use text_index::Word;
+use text_index::index_step;
+use text_judge::Tally;
+use text_judge::no_tally;
+use text_judge::shut;
+use text_judge::tell;
+ghost use mathlib.Core.Path.{_≡_};
+ghost use Prim.Native.Nat.{_<_, _≤_, min};
+ghost use lib.IntN.{pos};
+ghost use lib.ListN.{length};
+ghost use Rattle.text_rows.specs.Line.{rowMade, noLine, nextLine, Ready, stored};
+
+// A text up to the end of a row: where it stands, what is known so far, and the row; a row of zeros where none was left.
+pub struct Line {
+    pub state: State,
+    pub at: usize,
+    pub tally: Tally,
+    pub row: Row,
+}
+
+// A count as a u32 holds it.
+fn short(n: usize) -> u32
+    ensures { λ r. ⌜ r ≡ min n 4294967295 ⌝ }
+{
+    if n < 4294967295 {
+        return n as u32;
+    }
+    4294967295
+}
+
+// The record of the row that is open.
+fn make_row(t: Tally) -> Row
+    ensures { λ r. ⌜ r ≡ rowMade t ⌝ }
+{
+    let rows = t.rows;
+    let o = t.row;
+    let runs = o.runs;
+    Row {
+        low: o.low,
+        up: o.up,
+        first: short(rows.runs),
+        runs: short(runs.count),
+    }
+}
+
+fn line_end(s: State, at: usize, t: Tally) -> Line
+    ensures { λ r. ⌜ r ≡ record { state = s; at = at; tally = t; row = record { low = pos 0; up = pos 0; first = 0; runs = 0 } } ⌝ }
+{
+    let row = Row {
+        low: 0,
+        up: 0,
+        first: 0,
+        runs: 0,
+    };
+    Line {
+        state: s,
+        at,
+        tally: t,
+        row,
+    }
+}
+
+// Nothing has been read.
+pub fn no_line() -> Line
+    ensures { λ r. ⌜ r ≡ noLine ⌝ }
+{
+    let t = no_tally();
+    line_end(State::In(Word::Window, 0), 0, t)
+}
+
+// Reads on to the end of the next row.
+pub fn next_line(text: &[u8], p: Line) -> Line
+    requires { ⌜ Ready (length (now text)) p ⌝ }
+    ensures { λ r. ⌜ r ≡ nextLine (now (text .entry)) p ⌝ }
+{
+    let mut s = p.state;
+    let mut t = p.tally;
+    let mut i = p.at;
+    while i < text.len() {
+        match index_step(s, text[i]) {
+            Moved::To(n) => {
+                s = n;
+                i += 1;
+            }
+            Moved::Value(n, q, z) => {
+                s = n;
+                t = tell(t, q, z);
+                i += 1;
+            }
+            Moved::Closed(n) => {
+                let row = make_row(t);
+                let u = shut(t);
+                return Line {
+                    state: n,
+                    at: i + 1,
+                    tally: u,
+                    row,
+                };
+            }
+            Moved::Refuse => {
+                return line_end(s, i, t);
+            }
+        }
+    }
+    line_end(s, i, t)
+}
+
+// The row that a line ended with.
+pub fn line_row(p: Line) -> Row
+    ensures { λ r. ⌜ r ≡ p .row ⌝ }
+{
+    p.row
+}
+
+// The first `to` records are those of the text, as far as it has rows, and then records of zeros.
+pub fn fill_rows(text: &[u8], to: usize, rows: &mut [Row])
+    requires { ⌜ to ≤ length (now rows) ⌝ }
+    ensures { λ _. ⌜ now (rows .exit) ≡ stored (now (text .entry)) to (now (rows .entry)) ⌝ }
+{
+    let mut p = no_line();
+    let mut k = 0;
+    while k < to {
+        p = next_line(text, p);
+        rows[k] = line_row(p);
+        k += 1;
+    }
+}
