@@ -19,8 +19,10 @@ use Rattle.meaning_rows.specs.declared.Row.{Row}
 use Rattle.meaning_rows.specs.Range.{lowOf, upOf, inside}
 use Rattle.meaning_rows.specs.Runs.{runs, runCount}
 use Rattle.meaning_rows.specs.Index.{RangeRow, records}
-use Rattle.meaning_rows.specs.Build.{SetRow, rowNumbers, rowAt, filed, join, takes, upward, merged, entry, withRuns, builtRows}
+use Rattle.meaning_rows.specs.Build.{SetRow, rowNumbers, rowAt, filed, merged, entry, withRuns, builtRows}
 use Rattle.meaning_rows.proofs.Laid.{length-records}
+use Rattle.meaning_rows.proofs.LaidAt.{records-at}
+use Rattle.meaning_rows.proofs.Build.{merged-none}
 use Rattle.records.specs.Records.{zeroRow}
 use Rattle.filing.specs.Levels.{level, rowOf, windowsOf, Lent}
 use Rattle.filing.specs.Table.{table}
@@ -28,43 +30,6 @@ use Rattle.tally.specs.Tally.{isRow, Counted}
 use Rattle.tally.specs.Rows.{front-at}
 use Rattle.tally.specs.Numbers.{lowered, table-numbers, row-runs}
 use Rattle.pack.specs.Packed.{total, Summed, startOf, rowFrom, packed, packed-none, packed-more, length-packed}
-
--- ---- at g = 0 nothing is merged
-
-takes-none : (n : ℕ) (r s : SetRow) → takes 0 n r s ≡ false
-unfolding takes
-takes-none n r s = le-ltb (100 * runCount (join r s .has) n) (0 * (runCount (r .has) n + runCount (s .has) n)) (omega arith)
-
-upward-none : (n : ℕ) (r : SetRow) (l : List SetRow) → upward 0 n r l ≡ r ∷ l
-unfolding upward
-upward-none n r [] = refl
-upward-none n r (s ∷ l) = rw (takes-none n r s, upward) (ap (λ (m : List SetRow). r ∷ m) (upward-none n s l))
-
-pub merged-none : (n : ℕ) (l : List SetRow) → merged 0 n l ≡ l
-unfolding merged
-merged-none n [] = refl
-merged-none n (r ∷ l) = upward-none n r l
-
--- ---- records, by place
-
-pub Σℕ-shift : (n : ℕ) (f : ℕ → ℕ) → Σℕ (suc n) f ≡ f 0 + Σℕ n (λ k. f (suc k))
-unfolding Σℕ
-Σℕ-shift zero f = omega arith
-Σℕ-shift (suc n) f = omega (arith, Σℕ-shift n f)
-
-module _ (G : ℕ → RangeRow) where
-  abbrev size : ℕ → ℕ
-  size k = length (G k .runs)
-
-  pub records-at : (k : ℕ) (t : List ℕ) (i : ℕ) → i < length t
-      → getD (records k (map G t)) i zeroRow ≡ record { low = G (getD t i 0) .low; up = G (getD t i 0) .up; first = k + Σℕ i (λ x. size (getD t x 0)); runs = size (getD t i 0) }
-  unfolding records
-  records-at k [] i h = absurd (omega arith)
-  records-at k (x ∷ t) zero h = let e : k ≡ k + Σℕ 0 (λ y. size (getD (x ∷ t) y 0)) = omega (arith, Σℕ-none (λ y. size (getD (x ∷ t) y 0))) in
-      λ j. record { low = G x .low; up = G x .up; first = e j; runs = size x }
-  records-at k (x ∷ t) (suc i) h =
-      let e : k + size x + Σℕ i (λ y. size (getD t y 0)) ≡ k + Σℕ (suc i) (λ y. size (getD (x ∷ t) y 0)) = omega (arith, Σℕ-shift i (λ y. size (getD (x ∷ t) y 0))) in
-      records-at (k + size x) t i (omega arith) ∙ (λ j. record { low = G (getD t i 0) .low; up = G (getD t i 0) .up; first = e j; runs = size (getD t i 0) })
 
 -- ---- packed, by place
 
@@ -154,7 +119,7 @@ module _ {s : List ℤ} {w e : ℕ} (d b : ℕ) (one : 0 < d) (bias : 10000 * w 
         let up = ap (λ (x : ℕ). pos (x * d + d) -ℤ pos (10000 * w + e)) f ∙ up-is k in
         let first = first-is i l in
         let size = runs-is i l in
-        (λ j. record { low = low j; up = up j; first = first j; runs = size j }) ∙ sym (records-at row 0 t i l)
+        (λ j. record { low = low j; up = up j; first = first j; runs = size j }) ∙ sym (records-at 0 row zeroRow 0 t i l)
 
     pub built-records : (rows : List Row) → length t ≤ length rows
         → packed numbers ends d (10000 * w + e) (length t) rows ≡ records 0 (builtRows (windowSum s w) d 0 (windowsOf s w)) ++ drop (length t) rows
