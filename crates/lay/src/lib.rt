@@ -14,7 +14,15 @@ ghost use Rattle.pack.specs.PackedAs.{PackedAs};
 ghost use Rattle.lay.specs.Laid.{LayAsked, LaidOut, Cleared};
 
 // The row numbers of the windows in `left`, and beside each in `right` where the row's part of the run buffer ends; how many rows there are. What the flags hold does not matter.
-pub fn lay_out_by(flags: [u8; 262144], s: &[i32], w: usize, e: u64, d: u64, left: &mut [u32], right: &mut [u32]) -> usize
+pub fn lay_out_by(
+    flags: [u8; 262144],
+    s: &[i32],
+    w: usize,
+    e: u64,
+    d: u64,
+    left: &mut [u32],
+    right: &mut [u32],
+) -> usize
     requires { ⌜ LayAsked (now s) w e d (now left) (now right) ⌝ }
     ensures { λ n. ⌜ LaidOut (now (s .entry)) w e d n (now (left .exit)) (now (right .exit)) ⌝ }
 {
@@ -38,4 +46,23 @@ pub fn clear_runs(left: &mut [u32], right: &mut [u32])
 {
     clear_numbers(left);
     clear_numbers(right);
+}
+
+// The records of the rows before merging are packed in `rows`; how many there are. `bias` is what sums are raised by in all.
+pub fn lay_rows(
+    s: &[i32],
+    w: usize,
+    e: u64,
+    d: u64,
+    bias: u64,
+    rows: &mut [Row],
+    left: &mut [u32],
+    right: &mut [u32],
+) -> usize
+    requires { ⌜ (LayAsked (now s) w e d (now left) (now right)) × (bias ≡ 10000 * w + e) × (windowsOf (now s) w ≤ length (now rows)) ⌝ }
+    ensures { λ n. ⌜ PackedAs (windowsOf (now (s .entry)) w) (filed (windowSum (now (s .entry)) w) d (windowsOf (now (s .entry)) w)) (now (rows .exit)) n ⌝ }
+{
+    let n = lay_out(s, w, e, d, left, right);
+    pack_rows(left, right, d, bias, n, rows);
+    n
 }

@@ -28,9 +28,10 @@ sum-up-requires c κs =
     let s = c .before .before .before .before .before .before .before .before .before .before .before .before in
     let a = s .pre in
     let p = c .before .before .before .before .before .before in
-    let n : p .plan .result ≡ length (table (s .args .s .now) (s .args .w) (s .args .e) (s .args .d)) = omega (arith, p .plan .ensures .0 .count) in
-    (omega (arith, n, rows-fit a, a .in-right, p .plan .kept .1 .1 .1 .1 .1 .1 .0),
-    omega (arith, ap (total (counts p)) n, counts-fit (s .args .d) (a .rows) (a .least) (a .bias) (a .lent) (p .plan .ensures .1), a .lent .long, a .lent .some))
+    let n : p .plan .result ≡ length (table (s .args .s .now) (s .args .w) (s .args .e) (s .args .d)) = omega (arith, p .plan .ensures .0 .count) in (
+      omega (arith, n, rows-fit a, a .in-right, p .plan .kept .1 .1 .1 .1 .1 .1 .0),
+      omega (arith, ap (total (counts p)) n, counts-fit (s .args .d) (a .rows) (a .least) (a .bias) (a .lent) (p .plan .ensures .1), a .lent .long, a .lent .some),
+    )
 
 returns : tie.Need-returns
 returns c =
