@@ -1,0 +1,2 @@
+-- Calls of the parts of a build in a walk.
+pub mod Calls
