@@ -153,3 +153,20 @@ module _ {d g : ℕ} {s : List ℤ} {w e : ℕ} {rows : List Row} {n : ℕ} {lef
       pub finished : Holds d g s w (buffers rows left₀ right₀) (buffers cleared left′ right′)
       unfolding indexIn built builtRows
       finished = λ i. record { rows = rows-is i; left = left-is i; right = right-is i }
+
+-- only how long the buffers were matters
+pub holds-same : (d g : ℕ) (s : List ℤ) (w : ℕ) {new : IndexBuffers} (rows rows₀ : List Row) (left left₀ right right₀ : List ℕ) → length rows ≡ length rows₀ → length left ≡ length left₀ → length right ≡ length right₀
+    → Holds d g s w (buffers rows left right) new → Holds d g s w (buffers rows₀ left₀ right₀) new
+unfolding indexIn filled
+holds-same d g s w rows rows₀ left left₀ right right₀ a b c h =
+    let x = built s w d g in
+    h ∙ (λ i. record {
+      rows = x .rows ++ replicate (a i - length (x .rows)) zeroRow;
+      left = lefts (x .runs) ++ replicate (b i - length (lefts (x .runs))) 0;
+      right = rights (x .runs) ++ replicate (c i - length (rights (x .runs))) 0;
+    })
+
+-- the rows of a build, counted
+pub rows-counted : {n : ℕ} (d g : ℕ) (s : List ℤ) (w : ℕ) → n ≡ length (mergedRows (windowSum s w) d g (windowsOf s w)) → n ≡ length (built s w d g .rows)
+unfolding built builtRows
+rows-counted {n} d g s w e = let l = mergedRows (windowSum s w) d g (windowsOf s w) in e ∙ sym (length-records 0 (map (withRuns (windowsOf s w)) l) ∙ length-map l (withRuns (windowsOf s w)))

@@ -3,11 +3,15 @@ use filing::Place;
 use filing::first_level;
 use fill::fill_parts;
 use lay::clear_runs;
+use lay::lay_rows;
 use meaning_rows::Row;
 use records::clear_rows;
 ghost use mathlib.Core.Path.{_≡_};
-ghost use Rattle.filing.specs.Levels.{level, Lent};
-ghost use Prim.Native.Nat.{ℕ};
+ghost use Rattle.filing.specs.Levels.{Lent, windowsOf};
+ghost use Prim.Native.Nat.{ℕ, _+_, _*_, _≤_};
+ghost use lib.ListN.{length};
+ghost use Rattle.meaning_rows.specs.Build.{built};
+ghost use Rattle.lay.specs.Laid.{LayAsked};
 ghost use Rattle.fill.specs.Turn.{At};
 ghost use Rattle.build.specs.Filled.{Fillable, buffers, Holds};
 
@@ -40,4 +44,24 @@ pub fn fill_rows(
     clear_runs(left, right);
     let from = first_place(s, w, e);
     fill_parts(s, w, e, rows, n, from, left, right);
+}
+
+// The index without merging; how many rows it has. Sums are raised by `bias` in all.
+pub fn build_plain(
+    s: &[i32],
+    w: usize,
+    e: u64,
+    d: u64,
+    bias: u64,
+    rows: &mut [Row],
+    left: &mut [u32],
+    right: &mut [u32],
+) -> usize
+    requires { ⌜ (LayAsked (now s) w e d (now left) (now right)) × (bias ≡ 10000 * w + e) × (windowsOf (now s) w ≤ length (now rows)) ⌝ }
+    ensures { λ n. ⌜ (n ≡ length (built (now (s .entry)) w d 0 .rows))
+        × Holds d 0 (now (s .entry)) w (buffers (now (rows .entry)) (now (left .entry)) (now (right .entry))) (buffers (now (rows .exit)) (now (left .exit)) (now (right .exit))) ⌝ }
+{
+    let n = lay_rows(s, w, e, d, bias, rows, left, right);
+    fill_rows(s, w, e, rows, n, left, right);
+    n
 }
