@@ -1,1 +1,3 @@
--- The contracts of fill cite what stands below it.
+-- What the contracts of fill cite.
+pub mod Turn
+pub mod Pass

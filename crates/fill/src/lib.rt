@@ -1,38 +1,80 @@
-// A turn of the pass that fills all parts: the run that begins at a window filed in the part of its row.
+// The pass that fills all parts: every run of windows filed in the part of its row, whatever ranges the rows have.
 use filing::Place;
-use filing::next_row;
+use filing::next_out;
+use layout::find_record;
 use meaning_rows::Row;
+use numbers::lower;
 use parts::file_run;
 ghost use mathlib.Core.Path.{_≡_};
-ghost use Prim.Native.Nat.{_+_, _-_, _<_, _≤_};
-ghost use lib.ListN.{set};
-ghost use Rattle.meaning_rows.proofs.Cursors.{fileRight};
-ghost use Rattle.filing.specs.Levels.{level, Lent, windowsOf};
-ghost use Rattle.filing.specs.Change.{NextRow};
-ghost use Rattle.parts.specs.Part.{written, PartRoom};
+ghost use mathlib.Core.Bool.{Bool};
+ghost use Prim.Native.Nat.{ℕ, _+_, _*_, _<_, _≤_};
+ghost use lib.IntN.{ℤ, pos, negsuc};
+ghost use lib.Signed.{_≤ℤ_};
+ghost use Rattle.meaning_curves.specs.Curve.{windowSum};
+ghost use Rattle.fill.specs.Turn.{raisedEnd, At, TurnAsked, Turned};
+ghost use Rattle.fill.specs.Pass.{Passable, Passed};
 
-// The run of the windows of one row that begins at `at` is filed as the next run of row `r`; where the next run begins.
+// An end of a range raised by a bias; 0 where that is negative.
+pub fn raise_end(x: i32, bias: u64) -> u64
+    requires { ⌜ bias ≤ 1000000000 ⌝ }
+    requires { ⌜ (negsuc 999999999 ≤ℤ x) × (x ≤ℤ pos 1000000000) ⌝ }
+    ensures { λ r. ⌜ r ≡ raisedEnd bias x ⌝ }
+{
+    let t = x + (bias as i32);
+    if t < 0 { 0 } else { t as u64 }
+}
+
+// The sum of a window, from its raised sum.
+pub fn sum_at(s: &[i32], w: usize, e: u64, at: Place) -> i32
+    requires { ⌜ At (now s) w e at ⌝ }
+    ensures { λ r. ⌜ r ≡ windowSum (now (s .entry)) w (at .offset) ⌝ }
+{
+    lower(at.level, 10000 * (w as u64) + e)
+}
+
+// The run of windows with sums in the range of row `r` that begins at `at` is filed as the next run of the row; where it ends.
 pub fn file_turn(
     s: &[i32],
     w: usize,
     e: u64,
-    d: u64,
     at: Place,
     r: Row,
     left: &mut [u32],
     right: &mut [u32],
 ) -> Place
-    requires { ⌜ Lent (now s) w e ⌝ }
-    requires { ⌜ (1 ≤ d) × (d ≤ 1000000) ⌝ }
-    requires { ⌜ at .offset < windowsOf (now s) w ⌝ }
-    requires { ⌜ at .level ≡ level (now s) w e (at .offset) ⌝ }
-    requires { ⌜ PartRoom r (now left) (now right) ⌝ }
-    ensures { λ t. ⌜ NextRow (level (now (s .entry)) w e) d (windowsOf (now (s .entry)) w) (at .offset) (t .offset) (t .level) ⌝ }
-    ensures { λ _. ⌜ now (left .exit) ≡ set (now (left .entry)) (r .first + written r (now (right .entry))) (at .offset) ⌝ }
-    ensures { λ t. ⌜ now (right .exit) ≡ fileRight (now (right .entry)) (r .first) (r .runs) (written r (now (right .entry))) (t .offset - 1) ⌝ }
+    requires { ⌜ TurnAsked (now s) w e at r (now left) (now right) ⌝ }
+    ensures { λ t. ⌜ Turned (now (s .entry)) w e (at .offset) r (now (left .entry)) (now (right .entry)) t (now (left .exit)) (now (right .exit)) ⌝ }
 {
     let from = at.offset;
-    let next = next_row(s, w, e, d, at);
+    let bias = 10000 * (w as u64) + e;
+    let lo = raise_end(r.low, bias);
+    let hi = raise_end(r.up, bias);
+    let next = next_out(s, w, e, at, lo, hi);
     file_run(r, from, next.offset, left, right);
     next
+}
+
+// Every run of windows from `from` on is filed in the part of its row. The ghost value has the test of each row: which windows are its.
+pub fn fill_parts(
+    s: &[i32],
+    w: usize,
+    e: u64,
+    rows: &[Row],
+    count: usize,
+    from: Place,
+    left: &mut [u32],
+    right: &mut [u32],
+)
+    ghost { ℕ → ℕ → Bool }
+    requires { λ p. ⌜ Passable p (now s) w e from (now rows) count (now left) (now right) ⌝ }
+    ensures { λ p _. ⌜ Passed p (now (s .entry)) w count (now (left .entry)) (now (right .entry)) (now (left .exit)) (now (right .exit)) ⌝ }
+{
+    let windows = s.len() + 1 - w;
+    let mut at = from;
+    while at.offset < windows {
+        let sum = sum_at(s, w, e, at);
+        let r = find_record(rows, count, sum);
+        let next = file_turn(s, w, e, at, r, left, right);
+        at = next;
+    }
 }

@@ -2,6 +2,7 @@
 use mathlib.Core.Path.{_≡_, refl, sym, _∙_}
 use Prim.Native.Nat.{ℕ, suc, _+_, _-_, _/_, _<_, _≤_, _^_}
 use native.Mathlib.Omega.{arith}
+use native.Mathlib.Decide.{decLt}
 use mathlib.Core.Bool.{Bool, true, false}
 use mathlib.Core.List.{List}
 use lib.ListN.{getD, length}
@@ -12,7 +13,7 @@ use Rattle.meaning_numbers.proofs.Machine.{zmach}
 use Rattle.meaning_numbers.proofs.Tests.{by-test}
 use Rattle.meaning_rows.specs.declared.Row.{Row}
 use Rattle.records.specs.Records.{zeroRow}
-use Rattle.layout.specs.Search.{midOf, nextLo, nextHi, Climbs, Found}
+use Rattle.layout.specs.Search.{midOf, nextLo, nextHi, Climbs, Found, Reached}
 
 -- the first row whose upper end is above the sum stands from lo to hi
 pub record Between (rows : List Row) (n : ℕ) (sum : ℤ) (lo hi : ℕ) : Type 0 where
@@ -64,3 +65,10 @@ module _ (rows : List Row) (n : ℕ) (sum : ℤ) (lo hi : ℕ) (asc : Climbs row
 
 pub between-ends : (rows : List Row) (n : ℕ) (sum : ℤ) (lo hi : ℕ) → Between rows n sum lo hi → hi ≤ lo → Found rows n sum lo
 between-ends rows n sum lo hi b h = record { within = omega (arith, b .order, b .within); before = b .before; at = λ l. b .after lo h l }
+
+-- where one row reaches above the sum, the search finds one
+pub found-below : (rows : List Row) (n : ℕ) (z : ℤ) (k : ℕ) → Reached rows n z → Found rows n z k → k < n
+found-below rows n z k h f = elim (decLt k n) [
+  | yes l ↦ l
+  | no x ↦ let a : getD rows (h .at) zeroRow .up ≤ℤ z = f .before (h .at) (omega (arith, h .below)) in let b : z <ℤ getD rows (h .at) zeroRow .up = h .above in absurd (omega zarith)
+]

@@ -1,4 +1,5 @@
 -- The two ends of a binary search over row records after a turn, and what the search finds. Assumes nothing.
+use mathlib.Core.Path.{_≡_}
 use Prim.Native.Nat.{ℕ, suc, _+_, _-_, _/_, _<_, _≤_}
 use mathlib.Core.Bool.{Bool, cond}
 use mathlib.Core.List.{List}
@@ -27,3 +28,16 @@ pub record Found (rows : List Row) (n : ℕ) (sum : ℤ) (k : ℕ) : Type 0 wher
   pub within : k ≤ n
   pub before : (i : ℕ) → i < k → getD rows i zeroRow .up ≤ℤ sum
   pub at : k < n → sum <ℤ getD rows k zeroRow .up
+
+-- one of the first n rows has its upper end above the sum
+pub record Reached (rows : List Row) (n : ℕ) (sum : ℤ) : Type 0 where
+  pub at : ℕ
+  pub below : at < n
+  pub above : sum <ℤ getD rows at zeroRow .up
+
+-- r is the first of the first n rows whose upper end is above the sum
+pub record FoundRow (rows : List Row) (n : ℕ) (sum : ℤ) (r : Row) : Type 0 where
+  pub place : ℕ
+  pub below : place < n
+  pub found : Found rows n sum place
+  pub is : r ≡ getD rows place zeroRow

@@ -4,7 +4,7 @@ use records::row_at;
 ghost use mathlib.Core.Path.{_≡_};
 ghost use Prim.Native.Nat.{_+_, _-_, _<_, _≤_};
 ghost use lib.ListN.{length, getD};
-ghost use Rattle.layout.specs.Search.{midOf, nextLo, nextHi, Climbs, Found};
+ghost use Rattle.layout.specs.Search.{midOf, nextLo, nextHi, Climbs, Found, Reached, FoundRow};
 
 pub fn middle(lo: usize, hi: usize) -> usize
     requires { ⌜ lo ≤ hi ⌝ }
@@ -45,4 +45,13 @@ pub fn find_row(rows: &[Row], count: usize, sum: i32) -> usize
         lo = next;
     }
     lo
+}
+
+// The first of the first `count` rows whose upper end is above `sum`, where there is one.
+pub fn find_record(rows: &[Row], count: usize, sum: i32) -> Row
+    requires { ⌜ Climbs (now rows) count × Reached (now rows) count sum ⌝ }
+    ensures { λ r. ⌜ FoundRow (now (rows .entry)) count sum r ⌝ }
+{
+    let i = find_row(rows, count, sum);
+    row_at(rows, i)
 }

@@ -13,7 +13,7 @@ use lib.Dec.{ltb}
 use lib.ListN.{length, length-map, length-append}
 use lib.IntN.{ℤ}
 use lib.Signed.{_≤ℤ_, _<ℤ_, ltZ, ≤ℤ-refl}
-use borrow.Author.Tests.{lt-ltb, ltb-true}
+use borrow.Author.Tests.{lt-ltb, le-ltb, ltb-true}
 use Rattle.meaning_numbers.specs.Sum.{bit}
 use Rattle.meaning_numbers.specs.Place.{any}
 use Rattle.meaning_numbers.proofs.Rep.{zarith}
@@ -299,7 +299,7 @@ numbers-mem sum d (suc n) j l = elim (decLt j n) [
   | no f ↦ let e : j ≡ n = omega arith in rw e (insert-mem (rowNumber d (sum n)) (rowNumbers sum d n))
 ]
 
-numbers-length : (sum : ℕ → ℤ) (d n : ℕ) → length (rowNumbers sum d n) ≤ n
+pub numbers-length : (sum : ℕ → ℤ) (d n : ℕ) → length (rowNumbers sum d n) ≤ n
 unfolding rowNumbers
 numbers-length sum d zero = omega arith
 numbers-length sum d (suc n) = omega (arith, insert-length (rowNumber d (sum n)) (rowNumbers sum d n), numbers-length sum d n)
@@ -465,6 +465,22 @@ module _ (sum : ℕ → ℤ) (d n : ℕ) (one : 0 < d) where
     pub built-runs : length (allRuns (builtRows sum d g n)) ≤ n
     unfolding builtRows
     built-runs = omega (arith, runs-sizes n (mergedRows sum d g n), sizes-all (sets (mergedRows sum d g n)) n built-once)
+
+-- ---- at g = 0 nothing is merged
+
+takes-none : (n : ℕ) (r s : SetRow) → takes 0 n r s ≡ false
+unfolding takes
+takes-none n r s = le-ltb (100 * runCount (join r s .has) n) (0 * (runCount (r .has) n + runCount (s .has) n)) (omega arith)
+
+upward-none : (n : ℕ) (r : SetRow) (l : List SetRow) → upward 0 n r l ≡ r ∷ l
+unfolding upward
+upward-none n r [] = refl
+upward-none n r (s ∷ l) = rw (takes-none n r s, upward) (ap (λ (m : List SetRow). r ∷ m) (upward-none n s l))
+
+pub merged-none : (n : ℕ) (l : List SetRow) → merged 0 n l ≡ l
+unfolding merged
+merged-none n [] = refl
+merged-none n (r ∷ l) = upward-none n r l
 
 -- ---- merging told by ranges alone
 

@@ -27,7 +27,7 @@ length-file right f n t v = by-test (ltb (t + 1) n)
     (λ h. rw h (length-set right (f + t) v))
 
 -- what is not written stays
-filed-other : (right : List ℕ) (f n t v x : ℕ) → (x ≡ f + t → ⊥) → (x ≡ f + n - 1 → ⊥) → getD (fileRight right f n t v) x 0 ≡ getD right x 0
+pub filed-other : (right : List ℕ) (f n t v x : ℕ) → (x ≡ f + t → ⊥) → (x ≡ f + n - 1 → ⊥) → getD (fileRight right f n t v) x 0 ≡ getD right x 0
 unfolding fileRight
 filed-other right f n t v x a b = by-test (ltb (t + 1) n)
     (λ h. rw h (getD-set-other (set right (f + t) v) (f + n - 1) x (t + 1) 0 b ∙ getD-set-other right (f + t) x v 0 a))

@@ -9,6 +9,7 @@ pub mod Times
 pub mod Build
 pub mod Judge
 pub mod Laid
+pub mod LaidAt
 pub mod Audit
 pub mod Sets
 pub mod Sums

@@ -1,5 +1,4 @@
 -- What the contracts of pack cite.
 pub mod Packed
 pub mod Records
-pub mod Columns
-pub mod Filling
+pub mod PackedAs

@@ -1,10 +1,11 @@
 -- What is packed out of the table of a series and the sums of its counts is the records of its build without merging (`built-records`), in front of what was there. Assumes nothing.
 use mathlib.Core.Path.{_≡_, refl, sym, ap, _∙_}
 use mathlib.Core.Bool.{Bool, true, false, cond}
-use mathlib.Core.List.{List, [], _∷_, _++_, map}
-use Prim.Native.Nat.{ℕ, zero, suc, _+_, _-_, _*_, _<_, _≤_}
+use mathlib.Core.List.{List, [], _∷_, _++_, map, List·Memᴰ as Mem}
+use Prim.Native.Nat.{ℕ, zero, suc, _+_, _-_, _*_, _/_, _<_, _≤_}
 use native.Mathlib.Omega.{arith}
 use native.Mathlib.Decide.{decLt}
+use native.Mathlib.Nat.{div-mul-le-self}
 use lib.Dec.{ltb, eqb}
 use lib.IntN.{ℤ, pos, _-ℤ_}
 use lib.ListN.{length, getD, take, drop, set, length-append, length-drop, length-map, List·getD-append}
@@ -14,57 +15,24 @@ use Rattle.meaning_numbers.specs.Sum.{Σℕ}
 use Rattle.meaning_numbers.proofs.Sum.{Σℕ-none, Σℕ-more, Σℕ-same}
 use Rattle.meaning_numbers.proofs.Rep.{Rep, rep-pos, rep-sub, rep-mul, rep-add, rep-eq}
 use Rattle.meaning_numbers.proofs.Tests.{by-test}
+use Rattle.meaning_numbers.proofs.Member.{mem-at}
 use Rattle.meaning_curves.specs.Curve.{windowSum}
 use Rattle.meaning_rows.specs.declared.Row.{Row}
 use Rattle.meaning_rows.specs.Range.{lowOf, upOf, inside}
 use Rattle.meaning_rows.specs.Runs.{runs, runCount}
-use Rattle.meaning_rows.specs.Index.{RangeRow, records}
-use Rattle.meaning_rows.specs.Build.{SetRow, rowNumbers, rowAt, filed, join, takes, upward, merged, entry, withRuns, builtRows}
+use Rattle.meaning_rows.specs.Index.{RangeRow, records, allRuns}
+use Rattle.meaning_rows.specs.Build.{SetRow, rowNumbers, rowAt, filed, merged, entry, withRuns, builtRows}
 use Rattle.meaning_rows.proofs.Laid.{length-records}
+use Rattle.meaning_rows.proofs.LaidAt.{records-at, runs-total}
+use Rattle.meaning_rows.proofs.Build.{numbers-length, merged-none, built-runs}
 use Rattle.records.specs.Records.{zeroRow}
-use Rattle.filing.specs.Levels.{level, rowOf, windowsOf, Lent}
+use Rattle.filing.specs.Levels.{level, rowOf, windowsOf, Lent, level-small}
+use Rattle.filing.specs.Marks.{met, yes-met}
 use Rattle.filing.specs.Table.{table}
 use Rattle.tally.specs.Tally.{isRow, Counted}
 use Rattle.tally.specs.Rows.{front-at}
-use Rattle.tally.specs.Numbers.{lowered, table-numbers, row-runs}
-use Rattle.pack.specs.Packed.{total, Summed, startOf, rowFrom, packed, packed-none, packed-more, length-packed}
-
--- ---- at g = 0 nothing is merged
-
-takes-none : (n : ℕ) (r s : SetRow) → takes 0 n r s ≡ false
-unfolding takes
-takes-none n r s = le-ltb (100 * runCount (join r s .has) n) (0 * (runCount (r .has) n + runCount (s .has) n)) (omega arith)
-
-upward-none : (n : ℕ) (r : SetRow) (l : List SetRow) → upward 0 n r l ≡ r ∷ l
-unfolding upward
-upward-none n r [] = refl
-upward-none n r (s ∷ l) = rw (takes-none n r s, upward) (ap (λ (m : List SetRow). r ∷ m) (upward-none n s l))
-
-pub merged-none : (n : ℕ) (l : List SetRow) → merged 0 n l ≡ l
-unfolding merged
-merged-none n [] = refl
-merged-none n (r ∷ l) = upward-none n r l
-
--- ---- records, by place
-
-pub Σℕ-shift : (n : ℕ) (f : ℕ → ℕ) → Σℕ (suc n) f ≡ f 0 + Σℕ n (λ k. f (suc k))
-unfolding Σℕ
-Σℕ-shift zero f = omega arith
-Σℕ-shift (suc n) f = omega (arith, Σℕ-shift n f)
-
-module _ (G : ℕ → RangeRow) where
-  abbrev size : ℕ → ℕ
-  size k = length (G k .runs)
-
-  pub records-at : (k : ℕ) (t : List ℕ) (i : ℕ) → i < length t
-      → getD (records k (map G t)) i zeroRow ≡ record { low = G (getD t i 0) .low; up = G (getD t i 0) .up; first = k + Σℕ i (λ x. size (getD t x 0)); runs = size (getD t i 0) }
-  unfolding records
-  records-at k [] i h = absurd (omega arith)
-  records-at k (x ∷ t) zero h = let e : k ≡ k + Σℕ 0 (λ y. size (getD (x ∷ t) y 0)) = omega (arith, Σℕ-none (λ y. size (getD (x ∷ t) y 0))) in
-      λ j. record { low = G x .low; up = G x .up; first = e j; runs = size x }
-  records-at k (x ∷ t) (suc i) h =
-      let e : k + size x + Σℕ i (λ y. size (getD t y 0)) ≡ k + Σℕ (suc i) (λ y. size (getD (x ∷ t) y 0)) = omega (arith, Σℕ-shift i (λ y. size (getD (x ∷ t) y 0))) in
-      records-at (k + size x) t i (omega arith) ∙ (λ j. record { low = G (getD t i 0) .low; up = G (getD t i 0) .up; first = e j; runs = size (getD t i 0) })
+use Rattle.tally.specs.Numbers.{lowered, table-only, table-numbers, row-runs}
+use Rattle.pack.specs.Packed.{total, Summed, startOf, rowFrom, RowRoom, Packable, packed, packed-none, packed-more, length-packed}
 
 -- ---- packed, by place
 
@@ -116,6 +84,14 @@ module _ {s : List ℤ} {w e : ℕ} (d b : ℕ) (one : 0 < d) (bias : 10000 * w 
       rw (merged-none (windowsOf s w) (map (rowAt (windowSum s w) d) (rowNumbers (windowSum s w) d (windowsOf s w))), ← table-numbers d b one bias h)
       (map-three (withRuns (windowsOf s w)) (rowAt (windowSum s w) d) (lowered b) (table s w e d))
 
+  -- a row number of the table is that of a window
+  small-row : (k : ℕ) → Mem k (table s w e d) → d ≤ 1000000 → k * d + d ≤ 1000000000
+  unfolding rowOf
+  small-row k m most =
+      let q = yes-met (rowOf (level s w e) d) (windowsOf s w) k (table-only d b one bias h k m) in
+      let e′ : level s w e (q .at) / d ≡ k = q .is in
+      rw (← e′) (omega (arith, div-mul-le-self (level s w e (q .at)) d, level-small (q .at) h))
+
   size-is : (k : ℕ) → length (row k .runs) ≡ runCount (isRow (rowOf (level s w e) d) k) (windowsOf s w)
   unfolding row withRuns rowAt
   size-is k =
@@ -129,6 +105,29 @@ module _ {s : List ℤ} {w e : ℕ} (d b : ℕ) (one : 0 < d) (bias : 10000 * w 
   up-is : (k : ℕ) → pos (k * d + d) -ℤ pos (10000 * w + e) ≡ row k .up
   unfolding row withRuns rowAt lowered
   up-is k = rep-eq (rep-sub (rep-pos (k * d + d)) (rep-pos (10000 * w + e))) (rep-mul (rep-add (rep-sub (rep-pos k) (rep-pos b)) (rep-pos 1)) (rep-pos d)) (omega (arith, bias))
+
+  -- at most as many rows as windows, and as many runs
+  pub table-fits : length (table s w e d) ≤ windowsOf s w
+  table-fits = omega (arith, length-map (table s w e d) (lowered b), ap length (table-numbers d b one bias h), numbers-length (windowSum s w) d (windowsOf s w))
+
+  pub counts-fit : {counts : List ℕ} → Counted (rowOf (level s w e) d) (windowsOf s w) (table s w e d) counts → total counts (length (table s w e d)) ≤ windowsOf s w
+  counts-fit {counts} c =
+      let t = table s w e d in
+      let same : total counts (length t) ≡ Σℕ (length t) (λ x. length (row (getD t x 0) .runs)) = Σℕ-same (length t) (λ x. getD counts x 0) (λ x. length (row (getD t x 0) .runs)) (λ x l. c .count x l ∙ sym (size-is (getD t x 0))) in
+      omega (arith, same, runs-total 0 row t, ap (λ (l : List RangeRow). length (allRuns l)) built-is, built-runs (windowSum s w) d (windowsOf s w) one 0)
+
+  -- what is packed of the table can be made
+  pub table-packable : {numbers counts ends : List ℕ} → take (length (table s w e d)) numbers ≡ table s w e d → length (table s w e d) ≤ length numbers → length (table s w e d) ≤ length ends
+      → Summed (length (table s w e d)) counts ends → d ≤ 1000000 → Packable numbers ends d (10000 * w + e) (length (table s w e d))
+  table-packable {numbers} {counts} {ends} front a z m most = record {
+    row = λ i l. record {
+      in-numbers = omega arith;
+      in-ends = omega arith;
+      small = rw (front-at numbers (table s w e d) (length (table s w e d)) front refl i l) (small-row (getD (table s w e d) i 0) (mem-at 0 (table s w e d) i l) most);
+      low-bias = omega (arith, h .most, h .small);
+      order = omega (arith, m .end i l, Σℕ-more i (λ k. getD counts k 0), start-is m i l);
+    };
+  }
 
   module _ (numbers counts ends : List ℕ) (front : take (length (table s w e d)) numbers ≡ table s w e d)
       (c : Counted (rowOf (level s w e) d) (windowsOf s w) (table s w e d) counts) (m : Summed (length (table s w e d)) counts ends) where
@@ -154,7 +153,7 @@ module _ {s : List ℤ} {w e : ℕ} (d b : ℕ) (one : 0 < d) (bias : 10000 * w 
         let up = ap (λ (x : ℕ). pos (x * d + d) -ℤ pos (10000 * w + e)) f ∙ up-is k in
         let first = first-is i l in
         let size = runs-is i l in
-        (λ j. record { low = low j; up = up j; first = first j; runs = size j }) ∙ sym (records-at row 0 t i l)
+        (λ j. record { low = low j; up = up j; first = first j; runs = size j }) ∙ sym (records-at 0 row zeroRow 0 t i l)
 
     pub built-records : (rows : List Row) → length t ≤ length rows
         → packed numbers ends d (10000 * w + e) (length t) rows ≡ records 0 (builtRows (windowSum s w) d 0 (windowsOf s w)) ++ drop (length t) rows

@@ -72,7 +72,7 @@ module _ {s : List ℤ} {w e : ℕ} (d b : ℕ) (one : 0 < d) (bias : 10000 * w 
   unfolding lowered
   row-lowered j = rep-eq (rep-sub (rep-pos (rowOf (level s w e) d j)) (rep-pos b)) (row-is j) (omega arith)
 
-  table-only : (k : ℕ) → Mem k (table s w e d) → met (rowOf (level s w e) d) (windowsOf s w) k ≡ true
+  pub table-only : (k : ℕ) → Mem k (table s w e d) → met (rowOf (level s w e) d) (windowsOf s w) k ≡ true
   unfolding table
   table-only k m = picked-only (met (rowOf (level s w e) d) (windowsOf s w)) 0 top k m
 

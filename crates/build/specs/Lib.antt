@@ -1,0 +1,3 @@
+-- What the contracts of build cite.
+pub mod Rowed
+pub mod Filled

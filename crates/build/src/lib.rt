@@ -1,0 +1,67 @@
+// An index built of a series: its rows laid out, merged, and their parts filled.
+use filing::Place;
+use filing::first_level;
+use fill::fill_parts;
+use lay::clear_runs;
+use lay::lay_rows;
+use meaning_rows::Row;
+use records::clear_rows;
+ghost use mathlib.Core.Path.{_≡_};
+ghost use Rattle.filing.specs.Levels.{Lent, windowsOf};
+ghost use Prim.Native.Nat.{ℕ, _+_, _*_, _≤_};
+ghost use lib.ListN.{length};
+ghost use Rattle.meaning_rows.specs.Build.{built};
+ghost use Rattle.lay.specs.Laid.{LayAsked};
+ghost use Rattle.fill.specs.Turn.{At};
+ghost use Rattle.build.specs.Filled.{Fillable, buffers, Holds};
+
+// The first window, with its raised sum.
+pub fn first_place(s: &[i32], w: usize, e: u64) -> Place
+    requires { ⌜ Lent (now s) w e ⌝ }
+    ensures { λ p. ⌜ At (now (s .entry)) w e p × (p .offset ≡ 0) ⌝ }
+{
+    Place {
+        offset: 0,
+        level: first_level(s, w, e),
+    }
+}
+
+// The parts of the first `n` records are filled, and what is not used of the buffers is made 0. The ghost value has the row width and the merge percentage of the build whose rows are packed.
+pub fn fill_rows(
+    s: &[i32],
+    w: usize,
+    e: u64,
+    rows: &mut [Row],
+    n: usize,
+    left: &mut [u32],
+    right: &mut [u32],
+)
+    ghost { ℕ × ℕ }
+    requires { λ p. ⌜ Fillable (p .0) (p .1) (now s) w e (now rows) n (now left) (now right) ⌝ }
+    ensures { λ p _. ⌜ Holds (p .0) (p .1) (now (s .entry)) w (buffers (now (rows .entry)) (now (left .entry)) (now (right .entry))) (buffers (now (rows .exit)) (now (left .exit)) (now (right .exit))) ⌝ }
+{
+    clear_rows(rows, n);
+    clear_runs(left, right);
+    let from = first_place(s, w, e);
+    fill_parts(s, w, e, rows, n, from, left, right);
+}
+
+// The index without merging; how many rows it has. Sums are raised by `bias` in all.
+pub fn build_plain(
+    s: &[i32],
+    w: usize,
+    e: u64,
+    d: u64,
+    bias: u64,
+    rows: &mut [Row],
+    left: &mut [u32],
+    right: &mut [u32],
+) -> usize
+    requires { ⌜ (LayAsked (now s) w e d (now left) (now right)) × (bias ≡ 10000 * w + e) × (windowsOf (now s) w ≤ length (now rows)) ⌝ }
+    ensures { λ n. ⌜ (n ≡ length (built (now (s .entry)) w d 0 .rows))
+        × Holds d 0 (now (s .entry)) w (buffers (now (rows .entry)) (now (left .entry)) (now (right .entry))) (buffers (now (rows .exit)) (now (left .exit)) (now (right .exit))) ⌝ }
+{
+    let n = lay_rows(s, w, e, d, bias, rows, left, right);
+    fill_rows(s, w, e, rows, n, left, right);
+    n
+}

@@ -1,0 +1,2 @@
+-- Calls of the pass's parts in a walk.
+pub mod Calls

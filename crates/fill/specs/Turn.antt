@@ -1,0 +1,75 @@
+-- A turn of the pass: one run of windows with sums in the range of a row, filed in the row's part. A raised range holds a raised sum exactly if the range holds the sum (`within-is`). Assumes nothing.
+use mathlib.Core.Path.{_≡_, refl, sym, ap, _∙_}
+use mathlib.Core.Bool.{Bool, true, false}
+use mathlib.Core.List.{List}
+use Prim.Native.Nat.{ℕ, _+_, _-_, _*_, _<_, _≤_}
+use native.Mathlib.Omega.{arith}
+use native.Mathlib.Decide.{decLt}
+use lib.Dec.{leb, ltb}
+use lib.IntN.{ℤ, pos, negsuc}
+use lib.ListN.{length, getD, set}
+use lib.Signed.{_≤ℤ_, _<ℤ_}
+use borrow.Author.Tests.{le-leb, lt-leb, lt-ltb, le-ltb}
+use Rattle.meaning_numbers.proofs.Rep.{Rep, up, dn, zarith}
+use Rattle.meaning_numbers.proofs.Tests.{clash}
+use Rattle.meaning_curves.specs.Curve.{windowSum}
+use Rattle.meaning_rows.specs.declared.Row.{Row}
+use Rattle.meaning_rows.specs.Range.{inside}
+use Rattle.meaning_rows.proofs.Range.{where-is, inside-yes, inside-below, inside-above}
+use Rattle.meaning_rows.proofs.Cursors.{fileRight}
+use Rattle.filing.specs.declared.Place.{Place}
+use Rattle.filing.specs.Levels.{level, Lent, windowsOf, within, level-is}
+use Rattle.filing.specs.Change.{Change, Stop}
+use Rattle.parts.specs.Part.{written, PartRoom}
+
+-- an end of a range plus a bias, and 0 where that is negative
+abbrev pub raisedEnd : ℕ → ℤ → ℕ
+raisedEnd k x = (up x + k) - dn x
+
+-- both ends are far from what 32 bits hold
+pub record Small (r : Row) : Type 0 where
+  pub least : negsuc 999999999 ≤ℤ r .low
+  pub order : r .low ≤ℤ r .up
+  pub most : r .up ≤ℤ pos 1000000000
+
+-- a window with its raised sum
+pub record At (s : List ℤ) (w e : ℕ) (at : Place) : Type 0 where
+  pub lent : Lent s w e
+  pub below : at .offset ≤ windowsOf s w
+  pub sum : at .level ≡ level s w e (at .offset)
+
+pub record TurnAsked (s : List ℤ) (w e : ℕ) (at : Place) (r : Row) (left right : List ℕ) : Type 0 where
+  pub place : At s w e at
+  pub below : at .offset < windowsOf s w
+  pub held : inside (r .low) (r .up) (windowSum s w (at .offset)) ≡ true
+  pub small : Small r
+  pub room : PartRoom r left right
+
+-- the run that begins at `from` ends at t, and is filed
+pub record Turned (s : List ℤ) (w e from : ℕ) (r : Row) (left right : List ℕ) (t : Place) (left′ right′ : List ℕ) : Type 0 where
+  pub change : Change (λ j. inside (r .low) (r .up) (windowSum s w j)) from (windowsOf s w) (t .offset)
+  pub sum : t .level ≡ level s w e (t .offset)
+  pub left-is : left′ ≡ set left (r .first + written r right) from
+  pub right-is : right′ ≡ fileRight right (r .first) (r .runs) (written r right) (t .offset - 1)
+
+-- ---- laws
+
+pub within-is : {z : ℤ} {n k : ℕ} (low high : ℤ) → Rep z n k → within (raisedEnd k low) (raisedEnd k high) n ≡ inside low high z
+unfolding within
+within-is {z} {n} {k} low high h = where-is low high z
+    (λ a. rw (lt-leb (raisedEnd k low) n (omega (zarith, h, a)), inside-below low high z a))
+    (λ a b. rw (le-leb (raisedEnd k low) n (omega (zarith, h, a)), lt-ltb n (raisedEnd k high) (omega (zarith, h, b)), inside-yes low high z a b))
+    (λ a b. rw (le-leb (raisedEnd k low) n (omega (zarith, h, a)), le-ltb n (raisedEnd k high) (omega (zarith, h, b)), inside-above low high z b))
+
+-- a change of one test is a change of another that agrees with it
+pub change-same : {p q : ℕ → Bool} {from n r : ℕ} → ((j : ℕ) → p j ≡ q j) → Change p from n r → Change q from n r
+change-same h c = record { above = c .above; below = c .below; same = λ j a b. sym (h j) ∙ c .same j a b; other = λ l. sym (h _) ∙ c .other l }
+
+-- the end of the windows whose raised sums are in the raised range of a row is that of those whose sums are in its range
+pub stop-held : {s : List ℤ} {w e from r z lo hi : ℕ} (low high : ℤ) → Lent s w e → lo ≡ raisedEnd (10000 * w + e) low → hi ≡ raisedEnd (10000 * w + e) high
+    → Stop (level s w e) (windowsOf s w) lo hi from r z → Change (λ j. inside low high (windowSum s w j)) from (windowsOf s w) r
+stop-held low high h p q t = change-same (λ j. rw (p, q) (within-is low high (level-is j h))) (t .change)
+
+-- where the first passes, the change comes later
+pub change-held : {p : ℕ → Bool} {from n r : ℕ} → from < n → p from ≡ true → Change p from n r → from < r
+change-held {p} {from} {n} {r} l t c = elim (decLt from r) [ yes m ↦ m | no f ↦ let e : r ≡ from = omega (arith, c .above) in clash t (rw e at (c .other (omega arith))) ]

@@ -1,0 +1,2 @@
+-- What the contracts of lay cite.
+pub mod Laid

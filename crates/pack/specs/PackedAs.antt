@@ -1,0 +1,14 @@
+-- Rows as sets of windows, packed: the first records are theirs, with their parts one after the other. Assumes nothing.
+use mathlib.Core.Path.{_≡_}
+use mathlib.Core.List.{List, map}
+use Prim.Native.Nat.{ℕ, _≤_}
+use lib.ListN.{length, take}
+use Rattle.meaning_rows.specs.declared.Row.{Row}
+use Rattle.meaning_rows.specs.Index.{records}
+use Rattle.meaning_rows.specs.Build.{SetRow, withRuns}
+
+-- the first `count` records are those of the rows of l, whose windows are below n
+pub record PackedAs (n : ℕ) (l : List SetRow) (rows : List Row) (count : ℕ) : Type 0 where
+  pub many : count ≡ length l
+  pub within : count ≤ length rows
+  pub front : take count rows ≡ records 0 (map (withRuns n) l)
