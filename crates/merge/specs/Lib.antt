@@ -1,0 +1,3 @@
+-- What the contracts of merge cite.
+pub mod Names
+pub mod Group
