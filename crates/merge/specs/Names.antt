@@ -5,7 +5,7 @@ use mathlib.Core.Bool.{Bool, true, false, cond, _&&_, _||_, and-false}
 use mathlib.Core.List.{List, [], _∷_}
 use Prim.Native.Nat.{ℕ, zero, suc, _+_, _<_, _≤_}
 use native.Mathlib.Omega.{arith}
-use native.Mathlib.Numerals.{add-one}
+use native.Mathlib.Decide.{decLe}
 use lib.Dec.{leb, ltb, eqb}
 use lib.ListN.{length, getD}
 use borrow.Author.Tests.{leb-true, leb-false, ltb-true, ltb-false, eqb-true, eqb-false, lt-ltb, le-ltb, le-leb, lt-leb, eq-eqb, ne-eqb}
@@ -69,6 +69,15 @@ module _ (row : ℕ → ℕ) (n a b : ℕ) where
   unfolding nameBefore before
   before-within zero = none-within
   before-within (suc l) = name-within l
+
+-- the group of one row
+pub group-one : (row : ℕ → ℕ) (n i j : ℕ) → j < n → isRow row i j ≡ group row n i (i + 1) j
+unfolding group isRow within
+group-one row n i j l = rw (lt-ltb j n l) (by-test (eqb (row j) i)
+    (λ t. let e = eqb-true (row j) i t in rw (t, le-leb i (row j) (omega arith), lt-ltb (row j) (i + 1) (omega arith)))
+    (λ f. let e : (row j ≡ i) → ⊥ = eqb-false (row j) i f in rw f (by-test (leb i (row j))
+    (λ t. let b = leb-true i (row j) t in rw (t, le-ltb (row j) (i + 1) (elim (decLe (i + 1) (row j)) [ yes k ↦ k | no k ↦ absurd (e (omega arith)) ])))
+    (λ t. rw t))))
 
 -- a sum over a list of ones for what passes is a count over its places
 sum-count : (h : ℕ → ℕ) (p : ℕ → Bool) (xs : List ℕ) → ((t : ℕ) → t < length xs → h (getD xs t 0) ≡ bit (p t)) → sumOver h xs ≡ count p (length xs)
