@@ -11,6 +11,10 @@ use Rattle.meaning_rows.specs.declared.Row.{Row}
 use Rattle.merge.specs.declared.Group.{Group}
 use Rattle.merge.specs.Names.{namesOf}
 
+-- the group of the first row
+abbrev pub firstGroup : Row → Group
+firstGroup r = record { place = 0; from = 0; row = r }
+
 -- how many entries of row i name a row from `from` up to it
 abbrev pub touching : List ℕ → List ℕ → Row → ℕ → ℕ → ℕ
 touching left right r from i = count (namesOf left (r .first) (from + 1) (i + 1)) (r .runs) + count (namesOf right (r .first) (from + 1) (i + 1)) (r .runs)

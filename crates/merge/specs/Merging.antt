@@ -23,7 +23,7 @@ use Rattle.filing.specs.Levels.{within}
 use Rattle.tally.specs.Tally.{isRow}
 use Rattle.merge.specs.declared.Group.{Group}
 use Rattle.merge.specs.Names.{group, namesOf, NamedRow, group-one, group-more, runs-merged}
-use Rattle.merge.specs.Group.{touching, unionRuns, joined, begun, nextGroup, Joinable}
+use Rattle.merge.specs.Group.{touching, firstGroup, unionRuns, joined, begun, nextGroup, Joinable}
 
 -- ---- rows as sets, packed
 
@@ -58,6 +58,11 @@ pub record Ready (t : Rows) (rows : List Row) (count : ℕ) (left right : List �
   pub names : (i : ℕ) → i < count → NamedRow (t .row) (t .windows) i (partAt (t .row) (t .windows) i) left right
   pub in-left : partAt (t .row) (t .windows) count ≤ length left
   pub in-right : partAt (t .row) (t .windows) count ≤ length right
+
+-- some rows are so
+pub record Mergeable (rows : List Row) (count : ℕ) (left right : List ℕ) : Type 0 where
+  pub some : Rows
+  pub ready : Ready some rows count left right
 
 -- ---- records of rows, one by one
 
@@ -123,10 +128,6 @@ module _ (t : Rows) (count : ℕ) (left right : List ℕ) (g : ℕ) where
     pub current : SetRow
     pub ahead : List SetRow
     pub stand : Stand closed current ahead i rows m
-
-  -- the group of the first row
-  abbrev pub firstGroup : List Row → Group
-  firstGroup rows = record { place = 0; from = 0; row = getD rows 0 zeroRow }
 
   -- the group after the record at i
   abbrev pub next : ℕ → List Row → Group → Group
@@ -265,7 +266,7 @@ module _ (t : Rows) (count : ℕ) (left right : List ℕ) (g : ℕ) where
         go (s ∷ ahead) y = able (z .closed) (z .current) s ahead i rows m y short il ir few percent
 
   module _ (rows : List Row) (r : Ready t rows count left right) where
-    first-stand : (s : SetRow) (l : List SetRow) → t .list ≡ s ∷ l → Stand [] s l 1 rows (firstGroup rows)
+    first-stand : (s : SetRow) (l : List SetRow) → t .list ≡ s ∷ l → Stand [] s l 1 rows (firstGroup (getD rows 0 zeroRow))
     unfolding Numbered merged runTotal
     first-stand s l e =
         let many : count ≡ suc (length l) = r .packed .many ∙ ap length e in
@@ -293,10 +294,10 @@ module _ (t : Rows) (count : ℕ) (left right : List ℕ) (g : ℕ) where
           long = r .packed .within;
         }
 
-    pub merging-start : Merging 1 rows (firstGroup rows)
+    pub merging-start : Merging 1 rows (firstGroup (getD rows 0 zeroRow))
     merging-start = go (t .list) refl
       where
-        go : (l : List SetRow) → t .list ≡ l → Merging 1 rows (firstGroup rows)
+        go : (l : List SetRow) → t .list ≡ l → Merging 1 rows (firstGroup (getD rows 0 zeroRow))
         go [] e = absurd (omega (arith, r .some, r .packed .many, ap length e))
         go (s ∷ l) e = record { closed = []; current = s; ahead = l; stand = first-stand s l e }
 

@@ -6,7 +6,9 @@ ghost use Prim.Native.Nat.{ℕ, _+_, _≤_};
 ghost use lib.ListN.{length};
 ghost use Rattle.meaning_numbers.specs.Sum.{count};
 ghost use Rattle.merge.specs.Names.{namesOf};
-ghost use Rattle.merge.specs.Group.{touching, nextGroup, Joinable};
+ghost use Rattle.meaning_rows.specs.Build.{merged};
+ghost use Rattle.merge.specs.Group.{touching, firstGroup, nextGroup, Joinable};
+ghost use Rattle.merge.specs.Merging.{Rows, Ready, PackedAs, Mergeable};
 
 // A group of rows on the way: the place of its record, the first of its rows, its record.
 pub struct Group {
@@ -82,4 +84,34 @@ pub fn merge_row(m: Group, i: usize, r: Row, left: &[u32], right: &[u32], g: u64
             row: begun,
         }
     }
+}
+
+// The group of the first row.
+pub fn first_group(r: Row) -> Group
+    ensures { λ m. ⌜ m ≡ firstGroup r ⌝ }
+{
+    Group {
+        place: 0,
+        from: 0,
+        row: r,
+    }
+}
+
+// The rows packed in the first `n` records are merged, once upward, in place; how many there are then. Their parts have the names of their neighbours.
+pub fn merge_rows(rows: &mut [Row], n: usize, left: &[u32], right: &[u32], g: u64) -> usize
+    requires { ⌜ Mergeable (now rows) n (now left) (now right) × (g ≤ 100) ⌝ }
+    ensures { λ k. ⌜ ((t : Rows) → Ready t (now (rows .entry)) n (now (left .entry)) (now (right .entry)) → PackedAs (t .windows) (merged g (t .windows) (t .list)) (now (rows .exit)) k) ⌝ }
+{
+    let start = rows[0];
+    let mut m = first_group(start);
+    let mut i: usize = 1;
+    while i < n {
+        let r = rows[i];
+        m = merge_row(m, i, r, left, right, g);
+        let k = m.place;
+        let row = m.row;
+        rows[k] = row;
+        i += 1;
+    }
+    m.place + 1
 }
