@@ -99,7 +99,7 @@ pub fn name_neighbours(
     let mut at = first_place(s, w, e);
     let mut before: usize = 0;
     let mut name = name_at(rows, count, len, w, e, at);
-    while name != 0 {
+    while 0 < name {
         let r = row_at(rows, name - 1);
         let next = run_end(s, w, e, at, r);
         let after = name_at(rows, count, len, w, e, next);

@@ -137,11 +137,19 @@ module _ {M : Type 1} (𝓤 : URA M) (H : Heap 𝓤) (A : Atoms 𝓤) (W : Given
   meets : Meets 𝓤 H A f.signature (WpFn 𝓤 H (𝓣 .C) (𝓣 .Λ) code.function) (f.spec 𝓤 H A mem run)
   meets = walk-meets 𝓤 H A f.ended stayed W (
     goes-dropped 𝓤 H A W 1 (shrSlice 0 tt (λ _. T.the-row)) yes (λ κs x f. refl),
-    (goes-dropped 𝓤 H A W 1 (plain (λ _. usize)) yes (λ κs x f. refl),
-    (goes-dropped 𝓤 H A W 1 (plain (λ _. usize)) yes (λ κs x f. refl),
-    (goes-dropped 𝓤 H A W 1 (plain (λ _. usize)) yes (λ κs x f. refl),
-    (goes-dropped 𝓤 H A W 1 (plain (λ _. usize)) yes (λ κs x f. refl),
-    (goes-dropped 𝓤 H A W 1 (plain (λ _. P.the-row)) yes (λ κs x f. refl), tt))))),
+    (
+      goes-dropped 𝓤 H A W 1 (plain (λ _. usize)) yes (λ κs x f. refl),
+      (
+        goes-dropped 𝓤 H A W 1 (plain (λ _. usize)) yes (λ κs x f. refl),
+        (
+          goes-dropped 𝓤 H A W 1 (plain (λ _. usize)) yes (λ κs x f. refl),
+          (
+            goes-dropped 𝓤 H A W 1 (plain (λ _. usize)) yes (λ κs x f. refl),
+            (goes-dropped 𝓤 H A W 1 (plain (λ _. P.the-row)) yes (λ κs x f. refl), tt),
+          ),
+        ),
+      ),
+    ),
   ) (f.clauses 𝓤 H A mem run) (WpFn 𝓤 H (𝓣 .C) (𝓣 .Λ) code.function) (WpFn-mono 𝓤 H (W .laws) 𝓣 code.function) walks
 
 pub name-at-spec : {M : Type 1} → stated.statement M
