@@ -79,7 +79,7 @@ unfolding runTotal
 total-end n [] s = omega arith
 total-end n (x ∷ l) s = omega (arith, total-end n l s)
 
-records-first : (n k : ℕ) (s : SetRow) (l : List SetRow) → records k (map (withRuns n) (s ∷ l)) ≡ recordOf n k s ∷ records (k + runCount (s .has) n) (map (withRuns n) l)
+pub records-first : (n k : ℕ) (s : SetRow) (l : List SetRow) → records k (map (withRuns n) (s ∷ l)) ≡ recordOf n k s ∷ records (k + runCount (s .has) n) (map (withRuns n) l)
 unfolding records withRuns
 records-first n k s l = rw (length-map (runs (s .has) n) entry)
 

@@ -2,3 +2,4 @@
 pub mod Ranges
 pub mod Naming
 pub mod Places
+pub mod Packed

@@ -89,7 +89,7 @@ module _ (s : List ℤ) (w e : ℕ) (rows : List Row) (count : ℕ) where
     small-name : (j : ℕ) → nameAt row n j ≤ 4294967295
     unfolding nameAt
     small-name j = by-test (ltb j n)
-        (λ t. rw t (omega (arith, u .ranges .home j (ltb-true j n t), u .few)))
+        (λ t. rw t (omega (arith, u .ranges .ranged .home j (ltb-true j n t), u .few)))
         (λ f. rw f (omega arith))
 
     small-before : (j : ℕ) → nameBefore row n j ≤ 4294967295
@@ -109,7 +109,7 @@ module _ (s : List ℤ) (w e : ℕ) (rows : List Row) (count : ℕ) where
 
     pub nameable : (at : Place) → at .offset ≤ n → at .level ≡ level s w e (at .offset) → Nameable rows count w e at
     nameable at b l = record {
-      climbs = range-climbs (windowSum s w) n rows count (u .ranges);
+      climbs = range-climbs (windowSum s w) n rows count (u .ranges .ranged);
       some = u .lent .some;
       most = u .lent .most;
       small = u .lent .small;
@@ -161,20 +161,20 @@ module _ (s : List ℤ) (w e : ℕ) (rows : List Row) (count : ℕ) where
         here = getD rows (name - 1) zeroRow
 
         home : row j < count
-        home = u .ranges .home j less
+        home = u .ranges .ranged .home j less
 
         pub turn-place : name - 1 < length rows
-        turn-place = omega (arith, place-is, home, u .ranges .within-rows)
+        turn-place = omega (arith, place-is, home, u .ranges .ranged .within-rows)
 
         here-is : here ≡ getD rows (row j) zeroRow
         here-is = rw place-is
 
         pub turn-end : Lent s w e × (at .offset ≤ windowsOf s w) × (at .level ≡ level s w e (at .offset)) × LimitedRow here
-        turn-end = (u .lent, z .below, z .level-is, rw here-is (u .ranges .limited (row j) home))
+        turn-end = (u .lent, z .below, z .level-is, rw here-is (u .ranges .ranged .limited (row j) home))
 
         module _ (next : Place) (stop : Stop (level s w e) n (raisedBy (10000 * w + e) (here .low)) (raisedBy (10000 * w + e) (here .up)) (at .offset) (next .offset) (next .level)) where
           run : RowRun row n j (next .offset)
-          run = stop-run (windowSum s w) (level s w e) (10000 * w + e) n rows count (u .ranges) (λ k. level-is k (u .lent)) j (next .offset) (next .level) less (rw place-is at stop)
+          run = stop-run (windowSum s w) (level s w e) (10000 * w + e) n rows count (u .ranges .ranged) (λ k. level-is k (u .lent)) j (next .offset) (next .level) less (rw place-is at stop)
 
           pub turn-next : (next .offset ≤ n) × (next .level ≡ level s w e (next .offset))
           turn-next = (run .below, stop .sum)

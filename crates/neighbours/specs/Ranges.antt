@@ -56,14 +56,18 @@ placeIn rows n z = firstNot (endsBy rows z) n
 unfoldable pub rowIn : List Row → ℕ → (ℕ → ℤ) → ℕ → ℕ
 rowIn rows count sum j = placeIn rows count (sum j)
 
--- the first `count` records are rows of n windows: their ranges ascend and hold every window, and each has its part of the run buffer, one behind the other
-pub record RangeRows (sum : ℕ → ℤ) (n : ℕ) (rows : List Row) (count : ℕ) : Type 0 where
+-- the ranges of the first `count` records ascend, can be raised, and hold every window
+pub record Ranged (sum : ℕ → ℤ) (n : ℕ) (rows : List Row) (count : ℕ) : Type 0 where
   pub within-rows : count ≤ length rows
   pub wide : (i : ℕ) → i < count → getD rows i zeroRow .low <ℤ getD rows i zeroRow .up
   pub order : (i k : ℕ) → i < k → k < count → getD rows i zeroRow .up ≤ℤ getD rows k zeroRow .low
   pub limited : (i : ℕ) → i < count → LimitedRow (getD rows i zeroRow)
   pub home : (j : ℕ) → j < n → rowIn rows count sum j < count
   pub holds : (j : ℕ) → j < n → getD rows (rowIn rows count sum j) zeroRow .low ≤ℤ sum j
+
+-- and each row has its part of the run buffer, one behind the other
+pub record RangeRows (sum : ℕ → ℤ) (n : ℕ) (rows : List Row) (count : ℕ) : Type 0 where
+  pub ranged : Ranged sum n rows count
   pub first-is : (i : ℕ) → i < count → getD rows i zeroRow .first ≡ partAt (rowIn rows count sum) n i
   pub runs-is : (i : ℕ) → i < count → getD rows i zeroRow .runs ≡ runCount (isRow (rowIn rows count sum) i) n
 
@@ -100,14 +104,14 @@ first-unique p n k b passes fails = elim (decLt k (firstNot p n)) [
 
 -- ---- what is found
 
-no-leZ : {a b : ℤ} → leZ a b ≡ false → b <ℤ a
+pub no-leZ : {a b : ℤ} → leZ a b ≡ false → b <ℤ a
 no-leZ {a} {b} h = omega (zarith, f-gt a b h)
 
 pub found-place : (rows : List Row) (n : ℕ) (z : ℤ) (k : ℕ) → Found rows n z k → k ≡ placeIn rows n z
 unfolding placeIn endsBy
 found-place rows n z k f = first-unique (endsBy rows z) n k (f .within) (λ i l. le-leZ (f .before i l)) (λ l. lt-leZ (f .at l))
 
-module _ (sum : ℕ → ℤ) (n : ℕ) (rows : List Row) (count : ℕ) (r : RangeRows sum n rows count) where
+module _ (sum : ℕ → ℤ) (n : ℕ) (rows : List Row) (count : ℕ) (r : Ranged sum n rows count) where
   abbrev row : ℕ → ℕ
   row = rowIn rows count sum
 
@@ -156,7 +160,7 @@ within-raised k m low high z h = by-test (leZ low z)
         (λ u. let a : high ≤ℤ z = ltZ-false u in rw (u, le-ltb m (raisedBy k high) (omega (zarith, h))))
 
 -- a run of raised sums in the range of its row is a run of the row's windows
-pub stop-run : (sum : ℕ → ℤ) (lv : ℕ → ℕ) (k n : ℕ) (rows : List Row) (count : ℕ) → RangeRows sum n rows count → ((j : ℕ) → Rep (sum j) (lv j) k) → (from r z : ℕ) → from < n
+pub stop-run : (sum : ℕ → ℤ) (lv : ℕ → ℕ) (k n : ℕ) (rows : List Row) (count : ℕ) → Ranged sum n rows count → ((j : ℕ) → Rep (sum j) (lv j) k) → (from r z : ℕ) → from < n
     → Stop lv n (raisedBy k (getD rows (rowIn rows count sum from) zeroRow .low)) (raisedBy k (getD rows (rowIn rows count sum from) zeroRow .up)) from r z → RowRun (rowIn rows count sum) n from r
 unfolding isRow
 stop-run sum lv k n rows count h lv-is from r z less s = record {
