@@ -76,11 +76,11 @@ unfoldable From : (ℕ → ℤ) → ℕ → ℤ → List SetRow → Type 0
 From sum n low [] = ⊥
 From sum n low (r ∷ rest) = (r .low ≡ low) × Chain sum n r rest
 
-upward-yes : (g n : ℕ) (r s : SetRow) (rest : List SetRow) → takes g n r s ≡ true → upward g n r (s ∷ rest) ≡ upward g n (join r s) rest
+pub upward-yes : (g n : ℕ) (r s : SetRow) (rest : List SetRow) → takes g n r s ≡ true → upward g n r (s ∷ rest) ≡ upward g n (join r s) rest
 unfolding upward
 upward-yes g n r s rest t = rw (t, upward)
 
-upward-no : (g n : ℕ) (r s : SetRow) (rest : List SetRow) → takes g n r s ≡ false → upward g n r (s ∷ rest) ≡ r ∷ upward g n s rest
+pub upward-no : (g n : ℕ) (r s : SetRow) (rest : List SetRow) → takes g n r s ≡ false → upward g n r (s ∷ rest) ≡ r ∷ upward g n s rest
 unfolding upward
 upward-no g n r s rest f = rw (f, upward)
 

@@ -6,6 +6,22 @@ ghost use lib.ListN.{length, set};
 ghost use Rattle.meaning_rows.proofs.Cursors.{fileRight};
 ghost use Rattle.parts.specs.Part.{written, PartRoom};
 
+// The entry `x`, `y` is filed as the next of the row.
+pub fn file_entry(r: Row, x: usize, y: usize, left: &mut [u32], right: &mut [u32])
+    requires { ⌜ (x ≤ 4294967295) × (y ≤ 4294967295) × PartRoom r (now left) (now right) ⌝ }
+    ensures { λ _. ⌜ (now (left .exit) ≡ set (now (left .entry)) (r .first + written r (now (right .entry))) x) × (now (right .exit) ≡ fileRight (now (right .entry)) (r .first) (r .runs) (written r (now (right .entry))) y) ⌝ }
+{
+    let first = r.first as usize;
+    let runs = r.runs as usize;
+    let last = first + runs - 1;
+    let t = right[last] as usize;
+    left[first + t] = x as u32;
+    right[first + t] = y as u32;
+    if t + 1 < runs {
+        right[last] = (t + 1) as u32;
+    }
+}
+
 // The run of the windows from `from` up to and not with `next` is filed as the next run of the row.
 pub fn file_run(r: Row, from: usize, next: usize, left: &mut [u32], right: &mut [u32])
     requires { ⌜ (from < next) × (next ≤ 1048576) ⌝ }
@@ -13,13 +29,5 @@ pub fn file_run(r: Row, from: usize, next: usize, left: &mut [u32], right: &mut 
     ensures { λ _. ⌜ now (left .exit) ≡ set (now (left .entry)) (r .first + written r (now (right .entry))) from ⌝ }
     ensures { λ _. ⌜ now (right .exit) ≡ fileRight (now (right .entry)) (r .first) (r .runs) (written r (now (right .entry))) (next - 1) ⌝ }
 {
-    let first = r.first as usize;
-    let runs = r.runs as usize;
-    let last = first + runs - 1;
-    let t = right[last] as usize;
-    left[first + t] = from as u32;
-    right[first + t] = (next - 1) as u32;
-    if t + 1 < runs {
-        right[last] = (t + 1) as u32;
-    }
+    file_entry(r, from, next - 1, left, right);
 }

@@ -1,4 +1,4 @@
--- `parts::file_run` meets its contract. Assumes nothing.
+-- `parts::file_entry` meets its contract. Assumes nothing.
 use borrow.Author.Needs.{needs}
 use borrow.Author.Tests.{lt-ltb, le-ltb}
 use mathlib.Core.Path.{_≡_, refl}
@@ -6,11 +6,11 @@ use Prim.Native.Nat.{ℕ, _+_, _-_, _<_, _≤_}
 use native.Mathlib.Omega.{arith}
 use lib.ListN.{length-set}
 use Rattle.meaning_rows.proofs.Cursors.{fileRight}
-use Rattle.parts.proofs.file_run.Statement.{statement}
-use Rattle.parts.proofs.file_run.Tie as tie
+use Rattle.parts.proofs.file_entry.Statement.{statement}
+use Rattle.parts.proofs.file_entry.Tie as tie
 
 slice-write-right-2 : tie.Need-slice-write-right-2
-slice-write-right-2 c = let o = c .before .before .before .before in simp length-set (omega (arith, o .pre .1 .in-right, o .pre .1 .more))
+slice-write-right-2 c = let o = c .before .before .before .before in simp length-set (omega (arith, o .pre .2 .in-right, o .pre .2 .more))
 
 returns : tie.Need-returns
 unfolding fileRight
@@ -20,11 +20,10 @@ returns-2 : tie.Need-returns-2
 unfolding fileRight
 returns-2 c = (refl, rw (le-ltb _ _ (c .if1 .left)))
 
-pub file-run-spec : {M : Type 1} → statement M
-file-run-spec =
+pub file-entry-spec : {M : Type 1} → statement M
+file-entry-spec =
     tie.close
     (tie.spec
-    (λ c. search needs)
     (λ c. search needs)
     (λ c. search needs)
     (λ c. search needs)

@@ -1,0 +1,2 @@
+-- Calls of the covered functions of merging in a walk.
+pub mod Calls

@@ -1,0 +1,111 @@
+// The rows before and after each run named, in one pass over the runs of a series: as its entry in the part of its row a run gets the name of the row of the window before it and that of the window
+// after it. A row's name is one more than its place, and 0 names none.
+use filing::Place;
+use filing::first_level;
+use filing::next_out;
+use layout::find_row;
+use meaning_rows::Row;
+use numbers::lower;
+use parts::file_entry;
+use records::row_at;
+ghost use mathlib.Core.Path.{_≡_};
+ghost use mathlib.Core.Bool.{cond};
+ghost use Prim.Native.Nat.{ℕ, _+_, _*_, _<_, _≤_};
+ghost use lib.Dec.{ltb};
+ghost use lib.ListN.{length, getD};
+ghost use Rattle.meaning_curves.specs.Curve.{windowSum, windowCount};
+ghost use Rattle.filing.specs.Levels.{level, Lent, windowsOf};
+ghost use Rattle.filing.specs.Change.{Stop};
+ghost use Rattle.merge.specs.Names.{NamedRow};
+ghost use Rattle.merge.specs.Merging.{partAt};
+ghost use Rattle.neighbours.specs.Ranges.{raisedBy, Limited, LimitedRow, rowIn};
+ghost use Rattle.neighbours.specs.Places.{placeFrom, sumAt, nameFor, nameIn, Nameable, Unnamed};
+
+// An end of a range, raised, and not below 0: raised sums compare with it as sums do with the end.
+pub fn raise_end(x: i32, bias: u64) -> u64
+    requires { ⌜ Limited x × (bias ≤ 1000000000) ⌝ }
+    ensures { λ r. ⌜ r ≡ raisedBy bias x ⌝ }
+{
+    let y = (x + 1000000000) as u64 + bias;
+    if y < 1000000000 { 0 } else { y - 1000000000 }
+}
+
+// The first window.
+pub fn first_place(s: &[i32], w: usize, e: u64) -> Place
+    requires { ⌜ Lent (now s) w e ⌝ }
+    ensures { λ r. ⌜ r ≡ placeFrom (now (s .entry)) w e 0 ⌝ }
+{
+    Place {
+        offset: 0,
+        level: first_level(s, w, e),
+    }
+}
+
+// From a window on, the first whose sum is not in the row's range, or the number of windows.
+pub fn run_end(s: &[i32], w: usize, e: u64, at: Place, r: Row) -> Place
+    requires { ⌜ Lent (now s) w e × (at .offset ≤ windowsOf (now s) w) × (at .level ≡ level (now s) w e (at .offset)) × LimitedRow r ⌝ }
+    ensures { λ t. ⌜ Stop (level (now (s .entry)) w e) (windowsOf (now (s .entry)) w) (raisedBy (10000 * w + e) (r .low)) (raisedBy (10000 * w + e) (r .up)) (at .offset) (t .offset) (t .level) ⌝ }
+{
+    let bias = 10000 * (w as u64) + e;
+    let low = r.low;
+    let up = r.up;
+    let lo = raise_end(low, bias);
+    let hi = raise_end(up, bias);
+    next_out(s, w, e, at, lo, hi)
+}
+
+// The sum of a window, from its raised sum.
+pub fn sum_of(w: usize, e: u64, at: Place) -> i32
+    requires { ⌜ (w ≤ 256) × (e ≤ 1000000) × (at .level ≤ 1000000000) ⌝ }
+    ensures { λ r. ⌜ r ≡ sumAt w e at ⌝ }
+{
+    let level = at.level;
+    lower(level, 10000 * (w as u64) + e)
+}
+
+// The name of row `i` where there is a window, of `len` values, and else of none.
+pub fn name_of(len: usize, w: usize, at: Place, i: usize) -> usize
+    requires { ⌜ (1 ≤ w) × (w ≤ 256) × (at .offset ≤ 1048576) × (i ≤ 4294967294) ⌝ }
+    ensures { λ r. ⌜ r ≡ nameFor len w (at .offset) i ⌝ }
+{
+    let j = at.offset;
+    if j + w <= len { i + 1 } else { 0 }
+}
+
+// The name of the row of a window among the first `count` rows; of none past the last window.
+pub fn name_at(rows: &[Row], count: usize, len: usize, w: usize, e: u64, at: Place) -> usize
+    requires { ⌜ Nameable (now rows) count w e at ⌝ }
+    ensures { λ r. ⌜ r ≡ nameIn (now (rows .entry)) count len w e at ⌝ }
+{
+    let sum = sum_of(w, e, at);
+    let i = find_row(rows, count, sum);
+    name_of(len, w, at, i)
+}
+
+// The parts of the first `count` rows are filled with the names of the neighbours of their runs.
+pub fn name_neighbours(
+    s: &[i32],
+    w: usize,
+    e: u64,
+    rows: &[Row],
+    count: usize,
+    left: &mut [u32],
+    right: &mut [u32],
+)
+    requires { ⌜ Unnamed (now s) w e (now rows) count (now left) (now right) ⌝ }
+    ensures { λ _. ⌜ ((i : ℕ) → i < count → NamedRow (rowIn (now (rows .entry)) count (windowSum (now (s .entry)) w)) (windowsOf (now (s .entry)) w) i (partAt (rowIn (now (rows .entry)) count (windowSum (now (s .entry)) w)) (windowsOf (now (s .entry)) w) i) (now (left .exit)) (now (right .exit))) ⌝ }
+{
+    let len = s.len();
+    let mut at = first_place(s, w, e);
+    let mut before: usize = 0;
+    let mut name = name_at(rows, count, len, w, e, at);
+    while 0 < name {
+        let r = row_at(rows, name - 1);
+        let next = run_end(s, w, e, at, r);
+        let after = name_at(rows, count, len, w, e, next);
+        file_entry(r, before, after, left, right);
+        before = name;
+        name = after;
+        at = next;
+    }
+}
