@@ -43,11 +43,11 @@ use Rattle.meaning_rows.proofs.Sums.{ends-good, sum-of-part}
 
 -- ---- rows put among others
 
-insert-here : (r q : SetRow) (l : List SetRow) → ltZ (r .low) (q .low) ≡ true → insertRow r (q ∷ l) ≡ r ∷ q ∷ l
+pub insert-here : (r q : SetRow) (l : List SetRow) → ltZ (r .low) (q .low) ≡ true → insertRow r (q ∷ l) ≡ r ∷ q ∷ l
 unfolding insertRow
 insert-here r q l t = rw t
 
-insert-later : (r q : SetRow) (l : List SetRow) → ltZ (r .low) (q .low) ≡ false → insertRow r (q ∷ l) ≡ q ∷ insertRow r l
+pub insert-later : (r q : SetRow) (l : List SetRow) → ltZ (r .low) (q .low) ≡ false → insertRow r (q ∷ l) ≡ q ∷ insertRow r l
 unfolding insertRow
 insert-later r q l f = rw f
 
@@ -114,14 +114,14 @@ module _ (x : Index) (sum : ℕ → ℤ) (d old : ℕ) where
   unfolding newNumbers
   new-unknown more f = rw f
 
-  new-sorted : (more : ℕ) → Sorted (newNumbers x sum d old more)
+  pub new-sorted : (more : ℕ) → Sorted (newNumbers x sum d old more)
   unfolding newNumbers Sorted
   new-sorted zero = tt
   new-sorted (suc more) = by-test (known x (sum (old + more)))
       (λ t. rw (new-known more t) (new-sorted more))
       (λ f. rw (new-unknown more f) (insert-sorted (rowNumber d (sum (old + more))) (newNumbers x sum d old more) (new-sorted more)))
 
-  new-mem : (more j : ℕ) → old ≤ j → j < old + more → known x (sum j) ≡ false → Mem (rowNumber d (sum j)) (newNumbers x sum d old more)
+  pub new-mem : (more j : ℕ) → old ≤ j → j < old + more → known x (sum j) ≡ false → Mem (rowNumber d (sum j)) (newNumbers x sum d old more)
   unfolding newNumbers
   new-mem zero j a b u = absurd (omega arith)
   new-mem (suc more) j a b u =
@@ -132,7 +132,7 @@ module _ (x : Index) (sum : ℕ → ℤ) (d old : ℕ) where
         | no f ↦ let e : j ≡ old + more = omega arith in rw (new-unknown more (rw e at u), e) (insert-mem k l)
       ]
 
-  new-occur : (more : ℕ) (k : ℤ) → Mem k (newNumbers x sum d old more) → NewAt x sum d old (old + more) k
+  pub new-occur : (more : ℕ) (k : ℤ) → Mem k (newNumbers x sum d old more) → NewAt x sum d old (old + more) k
   unfolding newNumbers
   new-occur zero k m = absurd (not-nil m)
   new-occur (suc more) k m = by-test (known x (sum (old + more)))
@@ -198,7 +198,7 @@ module _ (x : Index) (sum : ℕ → ℤ) (old : ℕ) where
       omega (arith, h, count-cong (grown x sum old r .has) (stands x r) old (λ j b. grown-old r j b), sizes-grown l e (g .1))
 
 -- a new row lies beside each row whose range does not hold the sum that it was made for
-beside : (d : ℕ) (low up z : ℤ) → 0 < d → GoodEnd d low → GoodEnd d up → inside low up z ≡ false
+pub beside : (d : ℕ) (low up z : ℤ) → 0 < d → GoodEnd d low → GoodEnd d up → inside low up z ≡ false
     → (upOf d (rowNumber d z) ≤ℤ low) ⊎ (up ≤ℤ lowOf d (rowNumber d z))
 beside d low up z one a b f =
     let p = multiple-is d low (a .divides) in

@@ -14,5 +14,6 @@ pub mod Sets
 pub mod Sums
 pub mod BuiltPasses
 pub mod Extend
+pub mod Woven
 pub mod Open
 pub mod Cases
