@@ -4,7 +4,7 @@ use mathlib.Core.Path.{_≡_, refl, sym, ap, _∙_, subst}
 use mathlib.Core.Logic.{⊎-elim}
 use mathlib.Core.Bool.{Bool, true, false, cond, not, _&&_}
 use mathlib.Core.List.{List, [], _∷_, map, List·Memᴰ as Mem, List·Memᴰ·head as here, List·Memᴰ·tail as there, List·Memᴰ·not-nil as not-nil, List·Memᴰ·cases-cons as cases}
-use Prim.Native.Nat.{ℕ, _+_, _-_, _<_, _≤_}
+use Prim.Native.Nat.{ℕ, suc, _+_, _-_, _<_, _≤_}
 use native.Mathlib.Omega.{arith}
 use lib.Dec.{leb}
 use lib.IntN.{ℤ, natAbs}
@@ -87,6 +87,19 @@ module _ (d : ℕ) where
   all-woven P rows (k ∷ ks) a h = by-test (heldBy rows (lowOf d k))
       (λ t. rw (woven-held rows k ks t) (all-woven P rows ks a (λ z m. h z (there m))))
       (λ f. rw (woven-free rows k ks f) (all-put P (newRow d k) (woven d rows ks) (h k (here refl)) (all-woven P rows ks a (λ z m. h z (there m)))))
+
+  length-put : (r : Row) (l : List Row) → length (put r l) ≡ suc (length l)
+  unfolding put
+  length-put r [] = refl
+  length-put r (q ∷ l) = by-test (ltZ (r .low) (q .low)) (λ t. rw (put-here r q l t)) (λ f. rw (put-later r q l f) (ap suc (length-put r l)))
+
+  -- no row is lost
+  pub woven-long : (rows : List Row) (ks : List ℤ) → length rows ≤ length (woven d rows ks)
+  unfolding woven
+  woven-long rows [] = omega arith
+  woven-long rows (k ∷ ks) = by-test (heldBy rows (lowOf d k))
+      (λ t. rw (woven-held rows k ks t) (woven-long rows ks))
+      (λ f. rw (woven-free rows k ks f) (omega (arith, length-put (newRow d k) (woven d rows ks), woven-long rows ks)))
 
   -- a number whose range the next row holds is skipped
   pub weave-inside : (r : Row) (rows : List Row) (k : ℤ) (ks : List ℤ) → r .low ≤ℤ lowOf d k → lowOf d k <ℤ r .up → woven d (r ∷ rows) (k ∷ ks) ≡ woven d (r ∷ rows) ks
