@@ -164,11 +164,11 @@ good-member x r g =
     (h .0, h .1, subst (λ (l : List Entry). any (inRun (h .0)) l ≡ true) (sym (g .good .is)) (entries-hold m (h .0) ∙ h .2))
 
 module _ (x : Index) (sum : ℕ → ℤ) (old : ℕ) where
-  grown-new : (r : Row) (j : ℕ) → old ≤ j → grown x sum old r .has j ≡ inside (r .low) (r .up) (sum j)
+  pub grown-new : (r : Row) (j : ℕ) → old ≤ j → grown x sum old r .has j ≡ inside (r .low) (r .up) (sum j)
   unfolding grown
   grown-new r j h = rw (le-leb old j h)
 
-  grown-old : (r : Row) (j : ℕ) → j < old → grown x sum old r .has j ≡ stands x r j
+  pub grown-old : (r : Row) (j : ℕ) → j < old → grown x sum old r .has j ≡ stands x r j
   unfolding grown
   grown-old r j h = rw (lt-leb old j h)
 
@@ -262,7 +262,7 @@ module _ (x : Index) (s : List ℤ) (g : WellFormed x) (e : Extendable x s) wher
   abbrev olds : List SetRow
   olds = map (grown x sum old) (x .rows)
 
-  abbrev rows : List SetRow
+  abbrev pub rows : List SetRow
   rows = insertRows news olds
 
   one : 0 < d
@@ -291,7 +291,7 @@ module _ (x : Index) (s : List ℤ) (g : WellFormed x) (e : Extendable x s) wher
       subst (λ (t : ℤ). (upOf d t ≤ℤ r .low) ⊎ (r .up ≤ℤ lowOf d t)) (a .is)
       (beside d (r .low) (r .up) (sum (a .at)) one (o .low-end) (o .up-end) (none-any (λ q. inside (q .low) (q .up) (sum (a .at))) (a .unknown) m)))
 
-  ascends : Ascending lowestEnd (map range rows)
+  pub ascends : Ascending lowestEnd (map range rows)
   ascends = inserts-ascends sum d old one olds lowestEnd numbers (new-sorted x sum d old (n - old))
       (λ k m. let a = subst (λ (end : ℕ). NewAt x sum d old end k) end-is (new-occur x sum d old (n - old) k m) in (end-least d (lowOf d k) (new-ends k a .0), new-beside k a))
       (rw (grown-ranges x sum old (x .rows)) (ranges-ascend x g))
@@ -301,7 +301,7 @@ module _ (x : Index) (s : List ℤ) (g : WellFormed x) (e : Extendable x s) wher
   unfolding grown added rowAt
   exact-new j h = each (Exact (sum j) j) (λ k a. added-new x sum old d k j h) (λ r m o. grown-new x sum old r j h)
 
-  covers-new : (j : ℕ) → old ≤ j → j < n → covered (sum j) rows ≡ true
+  pub covers-new : (j : ℕ) → old ≤ j → j < n → covered (sum j) rows ≡ true
   unfolding grown added rowAt
   covers-new j a b = by-test (known x (sum j))
       (λ t. let f = any-found (λ r. inside (r .low) (r .up) (sum j)) (x .rows) t in

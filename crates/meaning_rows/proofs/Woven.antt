@@ -8,27 +8,29 @@ use Prim.Native.Nat.{ℕ, suc, _+_, _-_, _<_, _≤_}
 use native.Mathlib.Omega.{arith}
 use lib.Dec.{leb}
 use lib.IntN.{ℤ, natAbs}
-use lib.ListN.{length}
+use lib.ListN.{length, length-map}
 use lib.Signed.{_≤ℤ_, _<ℤ_, ltZ}
 use Rattle.meaning_numbers.specs.Place.{any}
 use Rattle.meaning_numbers.proofs.Rep.{zarith, *ℤ-mono}
 use Rattle.meaning_numbers.proofs.Machine.{ltZ-false, lt-ltZ, le-ltZ}
 use Rattle.meaning_numbers.proofs.Quotient.{floor-most}
 use Rattle.meaning_numbers.proofs.Tests.{by-test, clash}
-use Rattle.meaning_numbers.proofs.Member.{any-cong, All, all-mem, mem-all}
+use Rattle.meaning_numbers.proofs.Member.{any-cong, any-map, All, all-mem, mem-all}
+use Rattle.meaning_curves.specs.Limits.{lowestEnd}
 use Rattle.meaning_curves.specs.Curve.{windowSum, windowCount}
 use Rattle.meaning_rows.specs.declared.Row.{Row}
 use Rattle.meaning_rows.specs.Range.{rowNumber, lowOf, upOf, inside}
 use Rattle.meaning_rows.specs.Runs.{runs}
 use Rattle.meaning_rows.specs.Index.{Index, RangeRow}
 use Rattle.meaning_rows.specs.Build.{SetRow, rowNumbers, rowAt, entry, withRuns}
-use Rattle.meaning_rows.specs.Extend.{grown, newNumbers, added, insertRow, insertRows, extendedRows}
+use Rattle.meaning_rows.specs.Extend.{grown, newNumbers, added, insertRow, insertRows, extendedRows, extended}
 use Rattle.meaning_rows.proofs.Range.{inside-yes, is-inside, inside-below, widen, next-le, row-below, multiple-is}
 use Rattle.meaning_rows.proofs.Runs.{runs-cong}
-use Rattle.meaning_rows.proofs.Times.{Ascending}
-use Rattle.meaning_rows.proofs.Build.{Above, Sorted, mem-above, sorted-unique, numbers-sorted, numbers-mem, numbers-occur}
+use Rattle.meaning_rows.proofs.Times.{Range, holds, Ascending}
+use Rattle.meaning_rows.proofs.Build.{range, Above, Sorted, mem-above, sorted-unique, numbers-sorted, numbers-mem, numbers-occur}
 use Rattle.meaning_rows.proofs.Judge.{GoodEnd, GoodRow, WellFormed, rangeOf, each-row}
-use Rattle.meaning_rows.proofs.Extend.{NewAt, insert-here, insert-later, new-sorted, new-mem, new-occur, beside}
+use Rattle.meaning_rows.proofs.Laid.{length-records}
+use Rattle.meaning_rows.proofs.Extend.{NewAt, Extendable, rows, ascends, covers-new, extended-most, insert-here, insert-later, new-sorted, new-mem, new-occur, beside}
 
 -- the record of a new row, which has no run yet
 unfoldable pub newRow : ℕ → ℤ → Row
@@ -292,3 +294,47 @@ woven-extended x sum n g =
     let d = natAbs (x .width) in
     ap (λ (l : List ℤ). map (withRuns n) (insertRows (map (added sum d old) l) (map (grown x sum old) (x .rows)))) (free-numbers x g sum old (n - old))
     ∙ weaves x sum old n d (x .rows) (rowNumbers (λ j. sum (old + j)) d (n - old))
+
+-- ---- the ranges
+
+abbrev ends : RangeRow → Range
+ends q = (q .low, q .up)
+
+ends-runs : (n : ℕ) (l : List SetRow) → map range l ≡ map ends (map (withRuns n) l)
+unfolding withRuns
+ends-runs n [] = refl
+ends-runs n (r ∷ l) = ap (λ (m : List Range). range r ∷ m) (ends-runs n l)
+
+ends-grown : (x : Index) (sum : ℕ → ℤ) (old n : ℕ) (l : List Row) → map rangeOf l ≡ map ends (map (grownRuns x sum old n) l)
+unfolding withRuns grown
+ends-grown x sum old n [] = refl
+ends-grown x sum old n (r ∷ l) = ap (λ (m : List Range). rangeOf r ∷ m) (ends-grown x sum old n l)
+
+module _ (x : Index) (s : List ℤ) (g : WellFormed x) (e : Extendable x s) where
+  abbrev sums : ℕ → ℤ
+  sums = windowSum s (natAbs (x .window))
+
+  abbrev count : ℕ
+  count = windowCount (length s) (natAbs (x .window))
+
+  -- the records of the rows of the extension
+  abbrev pub wovenRows : List Row
+  wovenRows = woven (natAbs (x .width)) (x .rows) (rowNumbers (λ j. sums (natAbs (x .windows) + j)) (natAbs (x .width)) (count - natAbs (x .windows)))
+
+  same-ranges : map rangeOf wovenRows ≡ map range (rows x s g e)
+  unfolding extendedRows
+  same-ranges = ends-grown x sums (natAbs (x .windows)) count wovenRows ∙ ap (map ends) (sym (woven-extended x sums count g)) ∙ sym (ends-runs count (rows x s g e))
+
+  pub woven-ascends : Ascending lowestEnd (map rangeOf wovenRows)
+  woven-ascends = subst (Ascending lowestEnd) (sym same-ranges) (ascends x s g e)
+
+  -- each new window's sum lies in the range of a row
+  pub woven-covers : (j : ℕ) → natAbs (x .windows) ≤ j → j < count → heldBy wovenRows (sums j) ≡ true
+  woven-covers j a b =
+      sym (any-map (holds (sums j)) rangeOf wovenRows) ∙ ap (any (holds (sums j))) same-ranges ∙ any-map (holds (sums j)) range (rows x s g e) ∙ covers-new x s g e j a b
+
+  -- there are at most as many rows as windows
+  pub woven-most : length wovenRows ≤ count
+  unfolding extended
+  woven-most =
+      omega (arith, extended-most x s g e .0, length-records 0 (extendedRows x sums count), ap length (woven-extended x sums count g), length-map wovenRows (grownRuns x sums (natAbs (x .windows)) count))
