@@ -3,6 +3,7 @@ use filing::Place;
 use filing::next_out;
 use meaning_rows::Row;
 use pack::start_of;
+use records::row_at;
 use values::raised_sum;
 ghost use mathlib.Core.Path.{_≡_};
 ghost use mathlib.Core.Bool.{Bool};
@@ -11,6 +12,7 @@ ghost use lib.ListN.{length, getD};
 ghost use Rattle.filing.specs.Levels.{level, Lent, windowsOf};
 ghost use Rattle.meaning_rows.proofs.Grown.{lastEnds};
 ghost use Rattle.extend_count.specs.Raise.{raisedEnd, EndRoom};
+ghost use Rattle.extend_count.specs.Listed.{listed, endOf, sizeOf, Listable};
 ghost use Rattle.extend_count.specs.Rank.{rank, Climbing};
 ghost use Rattle.extend_count.specs.Count.{Countable, Counted};
 
@@ -21,6 +23,20 @@ pub fn raised_end(z: i32, bias: u64) -> u32
 {
     let t = z + bias as i32;
     if t < 0 { 0 } else { t as u32 }
+}
+
+// The raised upper ends of the first `count` rows, and beside them how many runs each has.
+pub fn list_ends(rows: &[Row], count: usize, bias: u64, ups: &mut [u32], counts: &mut [u32])
+    requires { ⌜ Listable (now rows) count bias (length (now ups)) (length (now counts)) ⌝ }
+    ensures { λ _. ⌜ (now (ups .exit) ≡ listed (endOf (now (rows .entry)) bias) count (now (ups .entry))) × (now (counts .exit) ≡ listed (sizeOf (now (rows .entry))) count (now (counts .entry))) ⌝ }
+{
+    let mut i: usize = 0;
+    while i < count {
+        let r = row_at(rows, i);
+        ups[i] = raised_end(r.up, bias);
+        counts[i] = r.runs;
+        i += 1;
+    }
 }
 
 // How many of the first `count` ends are at most `n`: the place of the first end above it.
