@@ -2,12 +2,9 @@
 ghost use mathlib.Core.Path.{_≡_};
 ghost use mathlib.Core.Bool.{true};
 ghost use Prim.Native.Nat.{_+_, _-_, _<_, _≤_};
-ghost use lib.IntN.{pos, _+ℤ_, _-ℤ_};
-ghost use lib.Signed.{ltZ};
 ghost use Rattle.meaning_curves.specs.Curve.{at, windowSum};
 ghost use Rattle.meaning_curves.proofs.Values.{AllIn};
 ghost use lib.ListN.{length};
-ghost use Rattle.meaning_curves.specs.Limits.{mostValues, lengthIn};
 ghost use Rattle.meaning_rows.specs.Range.{inside};
 ghost use Rattle.meaning_entries.specs.Audit.{lentAudit};
 ghost use Rattle.meaning_entries.specs.Demand2.{AuditKept};
@@ -19,6 +16,9 @@ use meaning_entries::Audited;
 use meaning_rows::Head;
 use meaning_rows::Row;
 use records::chunk_at;
+use refuse::fewer;
+use refuse::length_in;
+use refuse::more;
 use values::Place;
 use values::first_outside;
 use values::window_sum;
@@ -112,29 +112,6 @@ pub fn audit_chunk(
         row: row,
         offset: offset,
     }
-}
-
-// The length of a series is in its limits.
-pub fn length_in(n: usize) -> bool
-    ensures { λ b. ⌜ b ≡ lengthIn mostValues n ⌝ }
-{
-    (1 <= n) & (n <= 1048576)
-}
-
-// An index of so many windows has fewer than a series of n values.
-pub fn fewer(windows: u32, w: u32, n: usize) -> bool
-    ensures { λ b. ⌜ b ≡ ltZ (pos windows) (pos n -ℤ pos w +ℤ pos 1) ⌝ }
-{
-    let sum = windows as usize + w as usize;
-    sum <= n
-}
-
-// It has more.
-pub fn more(windows: u32, w: u32, n: usize) -> bool
-    ensures { λ b. ⌜ b ≡ ltZ (pos n -ℤ pos w +ℤ pos 1) (pos windows) ⌝ }
-{
-    let sum = windows as usize + w as usize;
-    if n < sum { n + 1 < sum } else { false }
 }
 
 // The difference, 0 where it would be below.

@@ -1,8 +1,8 @@
--- `audit::more` meets its contract (`more-is`, `not-more`). Assumes nothing.
+-- `refuse::more` meets its contract (`more-is`, `not-more`). Assumes nothing.
 use borrow.Author.Needs.{needs}
-use Rattle.audit.proofs.Windows.{more-is, not-more}
-use Rattle.audit.proofs.more.Statement.{statement}
-use Rattle.audit.proofs.more.Tie as tie
+use Rattle.refuse.proofs.Windows.{more-is, not-more}
+use Rattle.refuse.proofs.more.Statement.{statement}
+use Rattle.refuse.proofs.more.Tie as tie
 
 returns : tie.Need-returns
 returns c = let a = c .before .args in more-is (a .windows) (a .w) (a .n)

@@ -1,8 +1,8 @@
--- `audit::fewer` meets its contract (`fewer-is`). Assumes nothing.
+-- `refuse::fewer` meets its contract (`fewer-is`). Assumes nothing.
 use borrow.Author.Needs.{needs}
-use Rattle.audit.proofs.Windows.{fewer-is}
-use Rattle.audit.proofs.fewer.Statement.{statement}
-use Rattle.audit.proofs.fewer.Tie as tie
+use Rattle.refuse.proofs.Windows.{fewer-is}
+use Rattle.refuse.proofs.fewer.Statement.{statement}
+use Rattle.refuse.proofs.fewer.Tie as tie
 
 returns : tie.Need-returns
 returns c = fewer-is (c .args .windows) (c .args .w) (c .args .n)

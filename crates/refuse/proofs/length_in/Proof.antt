@@ -1,8 +1,8 @@
--- `audit::length_in` meets its contract: its two tests are those of the definition. Assumes nothing.
+-- `refuse::length_in` meets its contract: its two tests are those of the definition. Assumes nothing.
 use Rattle.meaning_numbers.specs.Order.{within}
 use borrow.Author.Needs.{needs}
-use Rattle.audit.proofs.length_in.Statement.{statement}
-use Rattle.audit.proofs.length_in.Tie as tie
+use Rattle.refuse.proofs.length_in.Statement.{statement}
+use Rattle.refuse.proofs.length_in.Tie as tie
 
 returns : tie.Need-returns
 unfolding within

@@ -1,0 +1,2 @@
+-- How the code compares window counts.
+pub mod Windows
