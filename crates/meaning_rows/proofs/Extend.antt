@@ -43,11 +43,11 @@ use Rattle.meaning_rows.proofs.Sums.{ends-good, sum-of-part}
 
 -- ---- rows put among others
 
-insert-here : (r q : SetRow) (l : List SetRow) → ltZ (r .low) (q .low) ≡ true → insertRow r (q ∷ l) ≡ r ∷ q ∷ l
+pub insert-here : (r q : SetRow) (l : List SetRow) → ltZ (r .low) (q .low) ≡ true → insertRow r (q ∷ l) ≡ r ∷ q ∷ l
 unfolding insertRow
 insert-here r q l t = rw t
 
-insert-later : (r q : SetRow) (l : List SetRow) → ltZ (r .low) (q .low) ≡ false → insertRow r (q ∷ l) ≡ q ∷ insertRow r l
+pub insert-later : (r q : SetRow) (l : List SetRow) → ltZ (r .low) (q .low) ≡ false → insertRow r (q ∷ l) ≡ q ∷ insertRow r l
 unfolding insertRow
 insert-later r q l f = rw f
 
@@ -114,14 +114,14 @@ module _ (x : Index) (sum : ℕ → ℤ) (d old : ℕ) where
   unfolding newNumbers
   new-unknown more f = rw f
 
-  new-sorted : (more : ℕ) → Sorted (newNumbers x sum d old more)
+  pub new-sorted : (more : ℕ) → Sorted (newNumbers x sum d old more)
   unfolding newNumbers Sorted
   new-sorted zero = tt
   new-sorted (suc more) = by-test (known x (sum (old + more)))
       (λ t. rw (new-known more t) (new-sorted more))
       (λ f. rw (new-unknown more f) (insert-sorted (rowNumber d (sum (old + more))) (newNumbers x sum d old more) (new-sorted more)))
 
-  new-mem : (more j : ℕ) → old ≤ j → j < old + more → known x (sum j) ≡ false → Mem (rowNumber d (sum j)) (newNumbers x sum d old more)
+  pub new-mem : (more j : ℕ) → old ≤ j → j < old + more → known x (sum j) ≡ false → Mem (rowNumber d (sum j)) (newNumbers x sum d old more)
   unfolding newNumbers
   new-mem zero j a b u = absurd (omega arith)
   new-mem (suc more) j a b u =
@@ -132,7 +132,7 @@ module _ (x : Index) (sum : ℕ → ℤ) (d old : ℕ) where
         | no f ↦ let e : j ≡ old + more = omega arith in rw (new-unknown more (rw e at u), e) (insert-mem k l)
       ]
 
-  new-occur : (more : ℕ) (k : ℤ) → Mem k (newNumbers x sum d old more) → NewAt x sum d old (old + more) k
+  pub new-occur : (more : ℕ) (k : ℤ) → Mem k (newNumbers x sum d old more) → NewAt x sum d old (old + more) k
   unfolding newNumbers
   new-occur zero k m = absurd (not-nil m)
   new-occur (suc more) k m = by-test (known x (sum (old + more)))
@@ -164,11 +164,11 @@ good-member x r g =
     (h .0, h .1, subst (λ (l : List Entry). any (inRun (h .0)) l ≡ true) (sym (g .good .is)) (entries-hold m (h .0) ∙ h .2))
 
 module _ (x : Index) (sum : ℕ → ℤ) (old : ℕ) where
-  grown-new : (r : Row) (j : ℕ) → old ≤ j → grown x sum old r .has j ≡ inside (r .low) (r .up) (sum j)
+  pub grown-new : (r : Row) (j : ℕ) → old ≤ j → grown x sum old r .has j ≡ inside (r .low) (r .up) (sum j)
   unfolding grown
   grown-new r j h = rw (le-leb old j h)
 
-  grown-old : (r : Row) (j : ℕ) → j < old → grown x sum old r .has j ≡ stands x r j
+  pub grown-old : (r : Row) (j : ℕ) → j < old → grown x sum old r .has j ≡ stands x r j
   unfolding grown
   grown-old r j h = rw (lt-leb old j h)
 
@@ -198,7 +198,7 @@ module _ (x : Index) (sum : ℕ → ℤ) (old : ℕ) where
       omega (arith, h, count-cong (grown x sum old r .has) (stands x r) old (λ j b. grown-old r j b), sizes-grown l e (g .1))
 
 -- a new row lies beside each row whose range does not hold the sum that it was made for
-beside : (d : ℕ) (low up z : ℤ) → 0 < d → GoodEnd d low → GoodEnd d up → inside low up z ≡ false
+pub beside : (d : ℕ) (low up z : ℤ) → 0 < d → GoodEnd d low → GoodEnd d up → inside low up z ≡ false
     → (upOf d (rowNumber d z) ≤ℤ low) ⊎ (up ≤ℤ lowOf d (rowNumber d z))
 beside d low up z one a b f =
     let p = multiple-is d low (a .divides) in
@@ -262,7 +262,7 @@ module _ (x : Index) (s : List ℤ) (g : WellFormed x) (e : Extendable x s) wher
   abbrev olds : List SetRow
   olds = map (grown x sum old) (x .rows)
 
-  abbrev rows : List SetRow
+  abbrev pub rows : List SetRow
   rows = insertRows news olds
 
   one : 0 < d
@@ -291,7 +291,7 @@ module _ (x : Index) (s : List ℤ) (g : WellFormed x) (e : Extendable x s) wher
       subst (λ (t : ℤ). (upOf d t ≤ℤ r .low) ⊎ (r .up ≤ℤ lowOf d t)) (a .is)
       (beside d (r .low) (r .up) (sum (a .at)) one (o .low-end) (o .up-end) (none-any (λ q. inside (q .low) (q .up) (sum (a .at))) (a .unknown) m)))
 
-  ascends : Ascending lowestEnd (map range rows)
+  pub ascends : Ascending lowestEnd (map range rows)
   ascends = inserts-ascends sum d old one olds lowestEnd numbers (new-sorted x sum d old (n - old))
       (λ k m. let a = subst (λ (end : ℕ). NewAt x sum d old end k) end-is (new-occur x sum d old (n - old) k m) in (end-least d (lowOf d k) (new-ends k a .0), new-beside k a))
       (rw (grown-ranges x sum old (x .rows)) (ranges-ascend x g))
@@ -301,7 +301,7 @@ module _ (x : Index) (s : List ℤ) (g : WellFormed x) (e : Extendable x s) wher
   unfolding grown added rowAt
   exact-new j h = each (Exact (sum j) j) (λ k a. added-new x sum old d k j h) (λ r m o. grown-new x sum old r j h)
 
-  covers-new : (j : ℕ) → old ≤ j → j < n → covered (sum j) rows ≡ true
+  pub covers-new : (j : ℕ) → old ≤ j → j < n → covered (sum j) rows ≡ true
   unfolding grown added rowAt
   covers-new j a b = by-test (known x (sum j))
       (λ t. let f = any-found (λ r. inside (r .low) (r .up) (sum j)) (x .rows) t in

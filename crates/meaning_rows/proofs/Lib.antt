@@ -15,5 +15,7 @@ pub mod Sets
 pub mod Sums
 pub mod BuiltPasses
 pub mod Extend
+pub mod Woven
+pub mod Grown
 pub mod Open
 pub mod Cases

@@ -2,6 +2,7 @@
 --     Rs, Own          a `&[Row]`'s value, and what it owns at the lifetime κ
 --     low, Good        a record's machine value, and what is known of one that is owned
 --     calls-row-at     a call of `row_at`: the token and what the slice owns are at the head, and stay there. The result is record k, written out
+--     calls-row-or     a call of `row_or`, likewise, with the record that stands past the end
 --     calls-chunk-at   a call of `chunk_at`, likewise. `chunk` is a chunk's machine value
 --     calls-count      a call of `count_from`: the context stays as it was
 -- Assumes `Given`, and that the table of calls is monotone under a frame, as every `Tables` is.
@@ -41,6 +42,8 @@ use Rattle.records.specs.Records.{zeroRow, countFrom, chunkOf}
 use Rattle.records.proofs.Walk.{calls-kept, calls-plain}
 use Rattle.records.proofs.row_at as row
 use Rattle.records.proofs.row_at.Symbol.{name as #records·row-at}
+use Rattle.records.proofs.row_or as or
+use Rattle.records.proofs.row_or.Symbol.{name as #records·row-or}
 use Rattle.records.proofs.chunk_at as chunk-at
 use Rattle.records.proofs.chunk_at.Symbol.{name as #records·chunk-at}
 use Rattle.records.proofs.count_from as count
@@ -69,6 +72,9 @@ module _ {M : Type 1} (𝓤 : URA M) (H : Heap 𝓤) (A : Atoms 𝓤) (mem : Mem
   abbrev pub RowAt : Contract 𝓤
   RowAt = tripleOf 𝓤 H A row.signature (row.spec 𝓤 H A mem run)
 
+  abbrev pub RowOr : Contract 𝓤
+  RowOr = tripleOf 𝓤 H A or.signature (or.spec 𝓤 H A mem run)
+
   abbrev pub ChunkAt : Contract 𝓤
   ChunkAt = tripleOf 𝓤 H A chunk-at.signature (chunk-at.spec 𝓤 H A mem run)
 
@@ -78,6 +84,9 @@ module _ {M : Type 1} (𝓤 : URA M) (H : Heap 𝓤) (A : Atoms 𝓤) (mem : Mem
   -- what each is called at
   abbrev pub to-row-at : Lft → Share → Rs → ℕ → RowAt .Ghost
   to-row-at κ q x k = (((κ, tt), (q, tt), tt, (x, (k, tt)), (slice-vals x, (vint w64 k ∷ [], tt))), tt)
+
+  abbrev pub to-row-or : Lft → Share → Rs → ℕ → Row → RowOr .Ghost
+  to-row-or κ q x k o = (((κ, tt), (q, tt), tt, (x, (k, (o, tt))), (slice-vals x, (vint w64 k ∷ [], (low o ∷ [], tt)))), tt)
 
   abbrev pub to-chunk-at : Lft → Share → Rs → ℕ → ChunkAt .Ghost
   to-chunk-at κ q x k = (((κ, tt), (q, tt), tt, (x, (k, tt)), (slice-vals x, (vint w64 k ∷ [], tt))), tt)
@@ -89,6 +98,10 @@ module _ {M : Type 1} (𝓤 : URA M) (H : Heap 𝓤) (A : Atoms 𝓤) (mem : Mem
     asks-row-at : (κ : Lft) (q : Share) (x : Rs) (k : ℕ) → k < length (now x) → k < 2 ^ 64 → ent 𝓤 (sep 𝓤 (A .lft κ q) (sem 𝓤 H A (Own κ x))) (RowAt .pre (to-row-at κ q x k))
     asks-row-at κ q x k l g = qed W (‵ (flft κ q) ∷ ‵ (Own κ x) ∷ []) ∵ says ! l $ nothing ! $ move ! (1 ∷ 0 ∷ []) $ join ! $ frame ! $ frame ! $ nothing ! $
         owned ! usize (Is usize) (uint-makes 𝓤 H A W w64) k _ (refl, g) $ fjoin ! $ done !
+
+    asks-row-or : (κ : Lft) (q : Share) (x : Rs) (k : ℕ) (o : Row) → k < 2 ^ 64 → Good o → ent 𝓤 (sep 𝓤 (A .lft κ q) (sem 𝓤 H A (Own κ x))) (RowOr .pre (to-row-or κ q x k o))
+    asks-row-or κ q x k o g is = qed W (‵ (flft κ q) ∷ ‵ (Own κ x) ∷ []) ∵ nothing ! $ move ! (1 ∷ 0 ∷ []) $ join ! $ nothing ! $ owned ! T.the-row (Is T.the-row) (LL.makes T.the-type T′.the-plain 𝓤 H A) o _ is $ fjoin ! $
+        owned ! usize (Is usize) (uint-makes 𝓤 H A W w64) k _ (refl, g) $ fjoin ! $ move ! (2 ∷ 0 ∷ []) $ fjoin ! $ move ! (1 ∷ 0 ∷ []) $ join ! $ frame ! $ done !
 
     asks-chunk-at : (κ : Lft) (q : Share) (x : Rs) (k : ℕ) → k < 2 ^ 64 → ent 𝓤 (sep 𝓤 (A .lft κ q) (sem 𝓤 H A (Own κ x))) (ChunkAt .pre (to-chunk-at κ q x k))
     asks-chunk-at κ q x k g = qed W (‵ (flft κ q) ∷ ‵ (Own κ x) ∷ []) ∵ nothing ! $ move ! (1 ∷ 0 ∷ []) $ join ! $ nothing ! $ owned ! usize (Is usize) (uint-makes 𝓤 H A W w64) k _ (refl, g) $ fjoin ! $
@@ -107,6 +120,15 @@ module _ {M : Type 1} {𝓤 : URA M} {H : Heap 𝓤} {A : Atoms 𝓤} {K : Type 
       calls-kept t fm row.signature (row.spec 𝓤 H A mem run) met (to-row-at 𝓤 H A mem run κ q x k) (‵ (flft κ q)) (‵ (Own κ x)) (shr-slice-copy 𝓤 H A W (named 0) κ T.the-row .twice x (slice-vals x))
       (asks-row-at 𝓤 H A mem run W κ q x k l g) (fst∗ 𝓤 (A .lft κ q) (emp 𝓤)) (getD (now x) k zeroRow) low (LL.tells T.the-type T′.the-laws)
       (λ r. exE 𝓤 _ (λ ws. snd∗ 𝓤 (sem 𝓤 H A (lasts row.ended (κ, tt) (x, (k, tt)) ws)) (fact 𝓤 (r ≡ getD (now x) k zeroRow)))) os next
+
+  pub calls-row-or : K → FmC 𝓤 H (W .laws) C → (mem : Memory → SProp 𝓤) (run : Routine → Fun 𝓤) → Triple 𝓤 (C #records·row-or) (RowOr 𝓤 H A mem run) → (κ : Lft) (q : Share) (x : Rs) (k : ℕ) (o : Row) → k < 2 ^ 64 → Good o
+      → Opds K W (raw (RowOr 𝓤 H A mem run .pre (to-row-or 𝓤 H A mem run κ q x k o)) ∷ ‵ (Own κ x) ∷ Γ) E xs (sliceVal (ptr x) (length (now x)) ∷ vint w64 k ∷ low o ∷ [])
+      → (Good (getD (now x) k o) → Seq K W (‵ (flft κ q) ∷ ‵ (Own κ x) ∷ Γ) (lands C Λ E d (low (getD (now x) k o)) rest p))
+      → Seq K W (‵ (flft κ q) ∷ ‵ (Own κ x) ∷ Γ) (runs C Λ E (seq (call #records·row-or xs d) rest) p)
+  calls-row-or t fm mem run met κ q x k o g is os next =
+      calls-kept t fm or.signature (or.spec 𝓤 H A mem run) met (to-row-or 𝓤 H A mem run κ q x k o) (‵ (flft κ q)) (‵ (Own κ x)) (shr-slice-copy 𝓤 H A W (named 0) κ T.the-row .twice x (slice-vals x))
+      (asks-row-or 𝓤 H A mem run W κ q x k o g is) (fst∗ 𝓤 (A .lft κ q) (emp 𝓤)) (getD (now x) k o) low (LL.tells T.the-type T′.the-laws)
+      (λ r. exE 𝓤 _ (λ ws. snd∗ 𝓤 (sem 𝓤 H A (lasts or.ended (κ, tt) (x, (k, (o, tt))) ws)) (fact 𝓤 (r ≡ getD (now x) k o)))) os next
 
   pub calls-chunk-at : K → FmC 𝓤 H (W .laws) C → (mem : Memory → SProp 𝓤) (run : Routine → Fun 𝓤) → Triple 𝓤 (C #records·chunk-at) (ChunkAt 𝓤 H A mem run) → (κ : Lft) (q : Share) (x : Rs) (k : ℕ) → k < 2 ^ 64
       → Opds K W (raw (ChunkAt 𝓤 H A mem run .pre (to-chunk-at 𝓤 H A mem run κ q x k)) ∷ ‵ (Own κ x) ∷ Γ) E xs (sliceVal (ptr x) (length (now x)) ∷ vint w64 k ∷ [])

@@ -21,6 +21,16 @@ pub fn row_at(rows: &[Row], k: usize) -> Row
     rows[k]
 }
 
+// Record k, or another where there is none.
+pub fn row_or(rows: &[Row], k: usize, none: Row) -> Row
+    ensures { λ r. ⌜ r ≡ getD (now (rows .entry)) k none ⌝ }
+{
+    if k < rows.len() {
+        return row_at(rows, k);
+    }
+    none
+}
+
 // Record r is stored at place k.
 pub fn put_row(rows: &mut [Row], k: usize, r: Row)
     requires { ⌜ k < length (now rows) ⌝ }

@@ -42,7 +42,7 @@ unfolding Above
 above-all b x [] h = tt
 above-all b x (y ∷ l) h = (lowered-lt b x y (h 0 (omega arith)), above-all b x l (λ i k. h (suc i) (omega arith)))
 
-rising-sorted : (b : ℕ) (l : List ℕ) → Rising l (length l) → Sorted (map (lowered b) l)
+pub rising-sorted : (b : ℕ) (l : List ℕ) → Rising l (length l) → Sorted (map (lowered b) l)
 unfolding Sorted
 rising-sorted b [] r = tt
 rising-sorted b (x ∷ l) r = (

@@ -1,0 +1,131 @@
+-- `extend_count::count_new` meets its contract. The invariant: the runs of the windows passed are counted, and the next window begins a run (`counted-turn`, `fresh-next`). Assumes nothing.
+use mathlib.Core.Path.{_≡_, refl, sym, ap, _∙_, subst}
+use Prim.Native.Nat.{ℕ, _+_, _-_, _≤_, _<_}
+use native.Mathlib.Omega.{arith}
+use lib.ListN.{length, getD}
+use Rattle.meaning_rows.proofs.Runs.{runs-le}
+use Rattle.filing.specs.Levels.{level, windowsOf}
+use Rattle.filing.specs.Change.{Stop, RowRun}
+use Rattle.tally.specs.Tally.{isRow, Fresh, fresh-next}
+use Rattle.pack.specs.Packed.{startOf}
+use Rattle.extend_count.specs.Rank.{rank}
+use Rattle.extend_count.specs.Count.{rowFrom, Countable, Counted, row-new, counted-starts, fresh-old, next-run, counted-turn}
+use Rattle.extend_count.proofs.count_new.Statement.{statement}
+use Rattle.extend_count.proofs.count_new.Tie as tie
+
+abbrev Inv-loop : tie.InvT-loop
+Inv-loop s w e old ups count counts₀ windows j₀ n₀ counts j n =
+    (old ≤ j) × (j ≤ windows) × (j < windows → n ≡ level s w e j) × Fresh (rowFrom s w e old ups count) windows j × Counted s w e old ups count counts₀ j counts
+
+abbrev μ-loop : tie.MeasureT-loop
+μ-loop s w e old ups count counts₀ windows j₀ n₀ counts j n = windows - j
+
+loop-holds : tie.Need-loop-holds Inv-loop μ-loop
+loop-holds c =
+    let o = c .before .before .before in
+    let a = o .args in (
+      omega arith,
+      o .pre .some-left,
+      c .level-at .ensures,
+      fresh-old (a .s .now) (a .w) (a .e) (a .old) (a .ups .now) (a .count) (o .pre .has-row),
+      counted-starts (a .s .now) (a .w) (a .e) (a .old) (a .ups .now) (a .count) (a .counts .now),
+    )
+
+-- the row of the window, by rank
+module _ (c : tie.After-find-above Inv-loop μ-loop) where
+  abbrev l : tie.At-loop Inv-loop μ-loop
+  l = c .before .before
+
+  abbrev o : tie.Start Inv-loop μ-loop
+  o = l .before .before .before .before
+
+  abbrev row : ℕ → ℕ
+  row = rowFrom (o .args .s .now) (o .args .w) (o .args .e) (o .args .old) (o .args .ups .now) (o .args .count)
+
+  is-row : c .find-above .result ≡ row (l .loop .j)
+  is-row =
+      c .find-above .ensures ∙ ap (rank (o .args .ups .now) (o .args .count)) (l .loop .inv .2 (c .before .loop-test .taken))
+      ∙ sym (row-new (o .args .s .now) (o .args .w) (o .args .e) (o .args .old) (o .args .ups .now) (o .args .count) (l .loop .j) (l .loop .inv .0))
+
+  below : c .find-above .result < o .args .count
+  below = subst (λ (k : ℕ). k < o .args .count)
+      (sym (c .find-above .ensures ∙ ap (rank (o .args .ups .now) (o .args .count)) (l .loop .inv .2 (c .before .loop-test .taken))))
+      (o .pre .has-row (l .loop .j) (l .loop .inv .0) (c .before .loop-test .taken))
+
+  in-counts : c .find-above .result < length (l .loop .counts)
+  in-counts = omega (arith, below, o .pre .in-counts, l .loop .inv .4 .long)
+
+  few : getD (l .loop .counts) (c .find-above .result) 0 ≤ 2097153
+  few = omega (
+    arith,
+    l .loop .inv .4 .count (c .find-above .result) below,
+    o .pre .small (c .find-above .result) below,
+    runs-le (isRow row (c .find-above .result)) (l .loop .j),
+    l .loop .inv .1,
+    o .pre .lent .long,
+  )
+
+next-out-requires : tie.Need-next-out-requires Inv-loop μ-loop
+next-out-requires c κs =
+    let f = c .before .before .before in
+    (o f .pre .lent, (l f .loop .inv .1, l f .loop .inv .2 (f .before .loop-test .taken)))
+
+-- the run that begins at the window
+module _ (c : tie.After-next-out Inv-loop μ-loop) where
+  abbrev f : tie.After-find-above Inv-loop μ-loop
+  f = c .before .before .before .before
+
+  run : RowRun (row f) (windowsOf (o f .args .s .now) (o f .args .w)) (l f .loop .j) (c .next-out .result .offset)
+  run =
+      let a = o f .args in
+      let low = c .before .before .start-of .ensures ∙ ap (startOf (a .ups .now)) (is-row f) in
+      let up = ap (λ (k : ℕ). getD (a .ups .now) k 0) (is-row f) in
+      next-run (a .s .now) (a .w) (a .e) (a .old) (a .ups .now) (a .count) (o f .pre .has-row) (o f .pre .climbing) {z = c .next-out .result .level} (l f .loop .inv .0) (f .before .loop-test .taken)
+      (rw (← low, ← up) (c .next-out .ensures))
+
+loop-again : tie.Need-loop-again Inv-loop μ-loop
+loop-again c =
+    let a = o (f c) .args in
+    let v = l (f c) .loop .inv in
+    let h = run c in
+    let turn = counted-turn (a .s .now) (a .w) (a .e) (a .old) (a .ups .now) (a .count) h (v .3) (subst (λ (k : ℕ). k < a .count) (is-row (f c)) (below (f c))) (omega (arith, o (f c) .pre .in-counts, v .4 .long)) (v .4) in (
+      omega (arith, v .0, h .ahead),
+      h .below,
+      λ _. c .next-out .ensures .sum,
+      fresh-next (row (f c)) (windowsOf (a .s .now) (a .w)) (l (f c) .loop .j) (c .next-out .result .offset) h,
+      rw (is-row (f c)) turn,
+    )
+
+returns : tie.Need-returns Inv-loop μ-loop
+returns c =
+    let l = c .before in
+    let a = l .before .before .before .before .args in
+    let e : l .loop .j ≡ windowsOf (a .s .now) (a .w) = omega (arith, c .loop-test .left, l .loop .inv .1) in
+    rw e at (l .loop .inv .4)
+
+pub count-new-spec : {M : Type 1} → statement M
+count-new-spec =
+    tie.close
+    (tie.spec
+    Inv-loop
+    μ-loop
+    (λ c. omega (arith, c .before .before .pre .lent .long))
+    (λ c. omega (arith, c .before .before .pre .lent .fits))
+    (λ c κs. c .before .before .pre .lent)
+    loop-holds
+    (λ c κs. let o = c .before .before .before .before .before in (o .pre .in-ups, o .pre .climbing))
+    (λ c. omega (arith, in-counts c))
+    (λ c. in-counts (c .before))
+    (λ c. omega (arith, few (c .before)))
+    (λ c. omega (arith, in-counts (c .before)))
+    (λ c. in-counts (c .before))
+    (λ c κs. omega (arith, below (c .before), o (c .before) .pre .in-ups))
+    (λ c. omega (arith, c .start-of .ok))
+    (λ c. omega (arith, below (c .before .before), o (c .before .before) .pre .in-ups))
+    (λ c. omega (arith, below (c .before .before .before), o (c .before .before .before) .pre .in-ups))
+    (λ c. omega (arith, c .shared-slice-known2 .given (c .before .before .before .find-above .result)))
+    next-out-requires
+    (λ c. omega (arith, run c .ahead, run c .below))
+    loop-again
+    (λ c. c .before .loop .inv .4 .long)
+    returns)

@@ -1,0 +1,5 @@
+-- What the contracts of extend_count cite.
+pub mod Raise
+pub mod Listed
+pub mod Rank
+pub mod Count

@@ -1,0 +1,2 @@
+-- Calls of the covered functions, as steps of a walk.
+pub mod Calls

@@ -1,0 +1,3 @@
+-- What the contracts of extend_lay cite.
+pub mod Lay
+pub mod Copy

@@ -1,0 +1,3 @@
+-- The plan is the refusal that the meanings say.
+pub mod Cases
+pub mod Planned

@@ -1,0 +1,2 @@
+-- What the contracts of extend_plan cite.
+pub mod Plan
