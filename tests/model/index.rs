@@ -45,7 +45,7 @@ pub fn runs_of(set: &BTreeSet<usize>) -> Vec<(usize, usize)> {
 }
 
 /// Rows with their runs one after the other in the run buffer.
-fn laid_out(w: usize, d: i64, n: usize, rows: &[SetRow]) -> Index {
+pub fn laid_out(w: usize, d: i64, n: usize, rows: &[SetRow]) -> Index {
     let mut x = Index { window: w as i64, width: d, windows: n as i64, rows: vec![], runs: vec![] };
     for r in rows {
         let runs = runs_of(&r.has);
@@ -78,7 +78,7 @@ pub fn build(s: &[i32], w: usize, d: i64, g: i64) -> Index {
     laid_out(w, d, sums.len(), &rows)
 }
 
-fn set_rows(x: &Index) -> Vec<SetRow> {
+pub fn set_rows(x: &Index) -> Vec<SetRow> {
     x.rows.iter().map(|r| SetRow {
         low: r.low,
         up: r.up,

@@ -1,0 +1,2 @@
+-- What the contracts of the entries for C cite.
+pub mod Told

@@ -1,0 +1,166 @@
+// Compares the model with the compiled entries over lent records, through the static library of `index_c`, and with the plain C that they are raced against: index_compare [TURNS].
+#![allow(dead_code)]
+mod index;
+mod lent;
+mod model;
+mod texts;
+use index::*;
+use lent::*;
+use model::*;
+use std::time::Instant;
+
+unsafe extern "C" {
+    fn index_audit(series: *const i32, n: usize, head: Head, rows: *const Row, count: usize, left: *const u32, lefts: usize, right: *const u32, rights: usize) -> Answer;
+    fn plain_build(s: *const i32, n: usize, w: usize, d: u32, g: u32, rows: *mut Row, room: usize, left: *mut u32, right: *mut u32) -> usize;
+    fn plain_extend(
+        s: *const i32, n: usize, w: usize, d: u32, old: usize, rows0: *const Row, count0: usize, left0: *const u32, right0: *const u32,
+        rows: *mut Row, room: usize, left: *mut u32, right: *mut u32,
+    ) -> usize;
+    fn plain_audit(s: *const i32, n: usize, w: usize, d: u32, windows: u32, rows: *const Row, count: usize, left: *const u32, right: *const u32, room: usize) -> i32;
+}
+
+/// An answer as it is told to C.
+#[repr(C)]
+#[derive(Clone, Copy, PartialEq, Eq, Debug)]
+struct Answer { kind: u32, head: Head, first: usize, second: usize }
+
+/// An answer without a head.
+fn numbers(kind: u32, first: usize, second: usize) -> Answer { Answer { kind, head: Head::default(), first, second } }
+
+struct Test {
+    r: Numbers,
+    inputs: u64,
+    wrong: u64,
+    plain: u64,
+    /// how often an audit said yes, wrong, missing, and each refusal
+    said: [u64; 3],
+    refused: [u64; 23],
+}
+
+impl Test {
+    fn say(&mut self, good: bool, what: &str, more: impl FnOnce() -> String) {
+        self.inputs += 1;
+        if !good {
+            self.wrong += 1;
+            if self.wrong <= 10 { println!("DIFFERENT: {what} {}", more()) }
+        }
+    }
+
+    /// What the model answers.
+    fn audited(&mut self, s: &[i32], x: &Index) -> Answer {
+        let wide: Vec<i64> = s.iter().map(|&v| v as i64).collect();
+        if let Some((number, place)) = audit_refusal(x, &wide, 1 << 20) {
+            self.refused[number as usize] += 1;
+            return numbers(3, number as usize, place);
+        }
+        let told = match audit(x, s) {
+            Audited::Yes => numbers(0, 0, 0),
+            Audited::Wrong(k, j) => numbers(1, k, j),
+            Audited::Missing(n) => numbers(2, n, 0),
+        };
+        self.said[told.kind as usize] += 1;
+        told
+    }
+
+    fn audit(&mut self, s: &[i32], x: &Lent) {
+        let right = self.audited(s, &x.index());
+        let told = unsafe { index_audit(s.as_ptr(), s.len(), x.head, x.rows.as_ptr(), x.rows.len(), x.left.as_ptr(), x.left.len(), x.right.as_ptr(), x.right.len()) };
+        self.say(told == right, "audit", || format!("{s:?} {x:?}: {told:?}, the model {right:?}"));
+        if x.suits(s.len()) { self.plain_audit(s, x, right) }
+    }
+
+    // ---- the plain C, on inputs that are not refused for their numbers
+
+    fn plain_audit(&mut self, s: &[i32], x: &Lent, right: Answer) {
+        let room = x.left.len().min(x.right.len());
+        let told = unsafe { plain_audit(s.as_ptr(), s.len(), x.head.window as usize, x.head.width, x.head.windows, x.rows.as_ptr(), x.rows.len(), x.left.as_ptr(), x.right.as_ptr(), room) };
+        let kind = match (right.kind, right.first) { (3, 2) => 3, (3, _) => 4, (kind, _) => kind };
+        self.plain += 1;
+        self.say(told as u32 == kind, "plain audit", || format!("{s:?} {x:?}: {told}, the model {right:?}"));
+    }
+
+    fn plain_build(&mut self, s: &[i32], w: usize, d: u32, g: u32) {
+        let room = s.len() - w + 1 + self.r.below(3) as usize;
+        let mut b = Buffers::of_rubbish(&mut self.r, room);
+        let count = unsafe { plain_build(s.as_ptr(), s.len(), w, d, g, b.rows.as_mut_ptr(), room, b.left.as_mut_ptr(), b.right.as_mut_ptr()) };
+        let x = build(s, w, d as i64, g as i64);
+        self.plain += 1;
+        self.say(count == x.rows.len() && b == Buffers::of(&x, room), "plain build", || format!("{s:?} {w} {d} {g}"));
+    }
+
+    fn plain_extend(&mut self, s: &[i32], x: &Lent) {
+        let room = s.len() - x.head.window as usize + 1 + self.r.below(3) as usize;
+        let mut b = Buffers::of_rubbish(&mut self.r, room);
+        let count = unsafe {
+            plain_extend(
+                s.as_ptr(), s.len(), x.head.window as usize, x.head.width, x.head.windows as usize, x.rows.as_ptr(), x.rows.len(), x.left.as_ptr(), x.right.as_ptr(),
+                b.rows.as_mut_ptr(), room, b.left.as_mut_ptr(), b.right.as_mut_ptr(),
+            )
+        };
+        let y = extend(&x.index(), s);
+        self.plain += 1;
+        self.say(count == y.rows.len() && b == Buffers::of(&y, room), "plain extend", || format!("{s:?} {x:?}"));
+    }
+
+    // ---- one turn of each
+
+    fn audits(&mut self, n: usize) {
+        let s = any_series(&mut self.r, n);
+        let (w, d, g) = any_numbers(&mut self.r, n);
+        let mut x = Lent::of(&build(&s, w, d as i64, g as i64));
+        if self.r.below(2) == 0 { x.rubbish_behind(&mut self.r) }
+        if self.r.below(2) == 0 { return self.audit(&s, &x) }
+        let how = self.r.below(6);
+        if how < 2 { x.refile(&mut self.r); }
+        if how > 2 { x.damage(&mut self.r) }
+        if how > 4 { x.damage(&mut self.r) }
+        let s = if how == 2 || self.r.below(8) == 0 { damaged_series(&mut self.r, &s) } else { s };
+        self.audit(&s, &x);
+    }
+
+    fn builds(&mut self, n: usize) {
+        let s = any_series(&mut self.r, n);
+        let (w, d, g) = any_numbers(&mut self.r, n);
+        self.plain_build(&s, w, d, g);
+    }
+
+    fn extends(&mut self, n: usize) {
+        let s = any_series(&mut self.r, n);
+        let (w, d, g) = any_numbers(&mut self.r, n);
+        let old = self.r.from_to(w as i64, n as i64) as usize;
+        let mut x = Lent::of(&build(&s[..old], w, d as i64, g as i64));
+        if self.r.below(2) == 0 { x.refile(&mut self.r); }
+        if self.r.below(2) == 0 { x.rubbish_behind(&mut self.r) }
+        if bad_row(&x.index()).is_none() { self.plain_extend(&s, &x) }
+    }
+
+    /// The greatest series, one value more, and an index of one row that is right.
+    fn greatest(&mut self) {
+        let s = vec![1; (1 << 20) + 1];
+        for (n, w) in [(1 << 20, 1), (1 << 20, 256), ((1 << 20) + 1, 2), ((1 << 20) + 1, 1)] {
+            let windows = n - w as usize + 1;
+            let row = Row { low: 0, up: 1_000, first: 0, runs: 1 };
+            let x = Lent { head: Head { window: w, width: 1_000, windows: windows as u32 }, rows: vec![row], left: vec![0], right: vec![windows as u32 - 1] };
+            self.audit(&s[..n], &x);
+        }
+    }
+}
+
+fn main() {
+    let turns: u64 = std::env::args().nth(1).map_or(120_000, |x| x.parse().unwrap());
+    let start = Instant::now();
+    let mut t = Test { r: Numbers(88172645463325252), inputs: 0, wrong: 0, plain: 0, said: [0; 3], refused: [0; 23] };
+    for k in 0..turns {
+        let n = match k % 100 { 0 => t.r.from_to(150, 400), 1..=9 => t.r.from_to(40, 149), 10..=19 => t.r.from_to(1, 3), _ => t.r.from_to(4, 40) } as usize;
+        t.audits(n);
+        if k % 8 == 0 { t.builds(n) }
+        if k % 8 == 4 { t.extends(n) }
+    }
+    t.greatest();
+    let told: Vec<String> = [1, 2, 20, 21, 22].iter().map(|&k| format!("{k}: {}", t.refused[k])).collect();
+    println!(
+        "{} inputs, {} differences ({} of the plain C; audits: {} yes, {} filed wrongly, {} missing, refused {}) in {:.1} s",
+        t.inputs, t.wrong, t.plain, t.said[0], t.said[1], t.said[2], told.join(" "), start.elapsed().as_secs_f64()
+    );
+    if t.wrong > 0 { std::process::exit(1) }
+}
