@@ -12,6 +12,8 @@ use lib.Signed.{ltZ}
 use borrow.Author.Tests.{ne-eqb, eq-eqb}
 use Rattle.meaning_curves.specs.Limits.{mostValues, lengthIn, windowIn, widthIn, mergeIn, firstOutside}
 use Rattle.meaning_curves.specs.Curve.{windowCount}
+use Rattle.meaning_curves.proofs.Values.{AllIn, none-outside}
+use Rattle.meaning_rows.proofs.Judge.{Natural, between}
 use Rattle.meaning_entries.specs.Refusal.{Condition, firstRefusal, atZero, lengthOutside, valueOutside, windowOutside, widthOutside, mergeOutside, bufferShort}
 use Rattle.meaning_entries.specs.Buffers.{IndexBuffers}
 use Rattle.meaning_entries.specs.Build.{lentBuild, buildTable}
@@ -21,18 +23,32 @@ use Rattle.values.specs.Place.{placed}
 use Rattle.build_plan.specs.declared.Plan.{Plan}
 
 abbrev pub refusedBy : ℕ → ℕ → Plan
-refusedBy n p = record { number = n; place = p; extra = 0; bias = 0 }
+refusedBy n p = record { number = n; place = p; window = 0; width = 0; extra = 0; bias = 0 }
 
 -- the refusal that a plan has
 abbrev pub refusalOf : Plan → Option (ℕ × ℕ)
 refusalOf p = cond (eqb (p .number) 0) none (some (p .number, p .place))
 
--- sums of windows of w values raised by a multiple of d
-pub record Lifts (w d extra bias : ℕ) : Type 0 where
+-- window length and row width, and sums of windows raised by a multiple of the width
+pub record Lifts (w d : ℕ) (p : Plan) : Type 0 where
+  pub window : p .window ≡ w
+  pub width : p .width ≡ d
   pub rows : ℕ
-  pub multiple : bias ≡ rows * d
-  pub is : bias ≡ 10000 * w + extra
-  pub small : extra ≤ 1000000
+  pub multiple : p .bias ≡ rows * d
+  pub is : p .bias ≡ 10000 * w + p .extra
+  pub small : p .extra ≤ 1000000
+
+-- numbers in their limits, and room, of a series of n values
+pub record Goes (n w d rows left right : ℕ) (p : Plan) : Type 0 where
+  pub lifts : Lifts w d p
+  pub some : 1 ≤ w
+  pub most : w ≤ 256
+  pub fits : w ≤ n
+  pub least-width : 1 ≤ d
+  pub most-width : d ≤ 1000000
+  pub in-rows : windowCount n w ≤ rows
+  pub in-left : windowCount n w ≤ left
+  pub in-right : windowCount n w ≤ right
 
 -- the lines of the table after that of the values, of a series of n values
 abbrev pub numbersTable : ℕ → ℕ → ℕ → ℕ → ℕ → ℕ → ℕ → List Condition
@@ -42,11 +58,11 @@ numbersTable n w d g rows left right =
 
 pub record NumbersPlanned (n w d g rows left right : ℕ) (p : Plan) : Type 0 where
   pub refusal : refusalOf p ≡ firstRefusal (numbersTable n w d g rows left right)
-  pub lifts : p .number ≡ 0 → Lifts w d (p .extra) (p .bias)
+  pub goes : p .number ≡ 0 → Goes n w d rows left right p
 
 pub record Planned (s : List ℤ) (w d g rows left right : ℕ) (p : Plan) : Type 0 where
   pub refusal : refusalOf p ≡ firstRefusal (lengthOutside mostValues s ∷ valueOutside s ∷ numbersTable (length s) w d g rows left right)
-  pub lifts : p .number ≡ 0 → Lifts w d (p .extra) (p .bias)
+  pub goes : p .number ≡ 0 → AllIn s × (length s ≤ 1048576) × Goes (length s) w d rows left right p
 
 -- ---- laws
 
@@ -94,7 +110,7 @@ is-refused k = rw (ne-eqb (suc k) 0 (λ z. omega arith)) refl
 module _ (n w d g rows left right : ℕ) (p : Plan) where
   -- refused by a number, at place 0
   by : (k : ℕ) → firstRefusal (numbersTable n w d g rows left right) ≡ some (suc k, 0) → p ≡ refusedBy (suc k) 0 → NumbersPlanned n w d g rows left right p
-  by k f e = record { refusal = ap refusalOf e ∙ is-refused k ∙ sym f; lifts = λ z. absurd (omega (arith, ap (λ (q : Plan). q .number) e)) }
+  by k f e = record { refusal = ap refusalOf e ∙ is-refused k ∙ sym f; goes = λ z. absurd (omega (arith, ap (λ (q : Plan). q .number) e)) }
 
   abbrev in-window : Bool
   in-window = windowIn (pos w)
@@ -128,17 +144,17 @@ module _ (n w d g rows left right : ℕ) (p : Plan) where
       pub plan-runs : few-rows ≡ false → few-runs ≡ true → p ≡ refusedBy 23 0 → NumbersPlanned n w d g rows left right p
       plan-runs f h = by 22 (line-runs in-window above (widthIn (pos d)) (mergeIn (pos g)) few-rows few-runs a b c e f h)
 
-      pub plan-goes : few-rows ≡ false → few-runs ≡ false → p .number ≡ 0 → Lifts w d (p .extra) (p .bias) → NumbersPlanned n w d g rows left right p
-      plan-goes f h z l = record { refusal = not-refused p z ∙ sym (line-none in-window above (widthIn (pos d)) (mergeIn (pos g)) few-rows few-runs a b c e f h); lifts = λ _. l }
+      pub plan-goes : few-rows ≡ false → few-runs ≡ false → p .number ≡ 0 → Goes n w d rows left right p → NumbersPlanned n w d g rows left right p
+      plan-goes f h z l = record { refusal = not-refused p z ∙ sym (line-none in-window above (widthIn (pos d)) (mergeIn (pos g)) few-rows few-runs a b c e f h); goes = λ _. l }
 
 module _ (s : List ℤ) (w d g rows left right : ℕ) {p : Plan} where
   pub planned-long : lengthIn mostValues (length s) ≡ false → p ≡ refusedBy 1 0 → Planned s w d g rows left right p
   unfolding firstRefusal lengthOutside
-  planned-long f e = record { refusal = ap refusalOf e ∙ rw f refl; lifts = λ z. absurd (omega (arith, ap (λ (q : Plan). q .number) e)) }
+  planned-long f e = record { refusal = ap refusalOf e ∙ rw f refl; goes = λ z. absurd (omega (arith, ap (λ (q : Plan). q .number) e)) }
 
   pub planned-outside : lengthIn mostValues (length s) ≡ true → (k : ℕ) → At k ≡ placed (firstOutside s) → p ≡ refusedBy 2 k → Planned s w d g rows left right p
   unfolding firstRefusal lengthOutside valueOutside
-  planned-outside f k h e = record { refusal = ap refusalOf e ∙ rw (f, found k (firstOutside s) h) refl; lifts = λ z. absurd (omega (arith, ap (λ (q : Plan). q .number) e)) }
+  planned-outside f k h e = record { refusal = ap refusalOf e ∙ rw (f, found k (firstOutside s) h) refl; goes = λ z. absurd (omega (arith, ap (λ (q : Plan). q .number) e)) }
     where
       found : (k : ℕ) (o : Option ℕ) → At k ≡ placed o → o ≡ some k
       found k none q = let z : _≡_ {A = ℕ} 0 1 = cc in absurd (omega arith)
@@ -146,7 +162,7 @@ module _ (s : List ℤ) (w d g rows left right : ℕ) {p : Plan} where
 
   pub planned-inside : lengthIn mostValues (length s) ≡ true → Nowhere ≡ placed (firstOutside s) → NumbersPlanned (length s) w d g rows left right p → Planned s w d g rows left right p
   unfolding firstRefusal lengthOutside valueOutside
-  planned-inside f h q = record { refusal = q .refusal ∙ rw (f, nowhere (firstOutside s) h) refl; lifts = q .lifts }
+  planned-inside f h q = record { refusal = q .refusal ∙ rw (f, nowhere (firstOutside s) h) refl; goes = λ z. (none-outside s (nowhere (firstOutside s) h), between 1 1048576 (pos (length s)) f .most, q .goes z) }
     where
       nowhere : (o : Option ℕ) → Nowhere ≡ placed o → o ≡ none
       nowhere none q = refl

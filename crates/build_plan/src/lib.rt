@@ -10,10 +10,12 @@ ghost use lib.IntN.{pos};
 ghost use Rattle.meaning_curves.specs.Limits.{windowIn, widthIn, mergeIn};
 ghost use Rattle.build_plan.specs.Plan.{refusedBy, Lifts, NumbersPlanned, Planned};
 
-// The refusal, of number 0 where there is none, and what sums are raised by: `extra` beside 10,000 for each value, `bias` in all.
+// The refusal, of number 0 where there is none; window length and row width; and what sums are raised by: `extra` beside 10,000 for each value, `bias` in all.
 pub struct Plan {
     pub number: u32,
     pub place: usize,
+    pub window: usize,
+    pub width: u64,
     pub extra: u64,
     pub bias: u64,
 }
@@ -25,6 +27,8 @@ pub fn refused(number: u32, place: usize) -> Plan
     Plan {
         number: number,
         place: place,
+        window: 0,
+        width: 0,
         extra: 0,
         bias: 0,
     }
@@ -34,7 +38,7 @@ pub fn refused(number: u32, place: usize) -> Plan
 pub fn lift(w: u32, d: u32) -> Plan
     requires { ⌜ w ≤ 256 ⌝ }
     requires { ⌜ (1 ≤ d) × (d ≤ 1000000) ⌝ }
-    ensures { λ p. ⌜ (p .number ≡ 0) × Lifts w d (p .extra) (p .bias) ⌝ }
+    ensures { λ p. ⌜ (p .number ≡ 0) × Lifts w d p ⌝ }
 {
     let wide = d as u64;
     let long = w as u64;
@@ -42,6 +46,8 @@ pub fn lift(w: u32, d: u32) -> Plan
     Plan {
         number: 0,
         place: 0,
+        window: w as usize,
+        width: wide,
         extra: bias - 10000 * long,
         bias: bias,
     }

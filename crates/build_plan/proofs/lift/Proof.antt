@@ -7,7 +7,7 @@ use Rattle.build_plan.proofs.lift.Tie as tie
 returns : tie.Need-returns
 returns c =
     let r = c .raised-rows in
-    (refl, record { rows = r .result; multiple = refl; is = omega (arith, r .ensures); small = omega (arith, r .ensures, c .before .pre) })
+    (refl, record { window = refl; width = refl; rows = r .result; multiple = refl; is = omega (arith, r .ensures); small = omega (arith, r .ensures, c .before .pre) })
 
 pub lift-spec : {M : Type 1} → statement M
 lift-spec =

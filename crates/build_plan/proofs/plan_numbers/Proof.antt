@@ -89,7 +89,18 @@ returns-7 c =
     let e = w .before .before in
     let a = e .before .before .before .args in
     plan-goes (a .n) (a .w) (a .d) (a .g) (a .rows) (a .left) (a .right) _ (in-window (e .before)) (below e) (in-width w) (in-merge m) (le-ltb (a .rows) (windowCount (a .n) (a .w)) (l .before .if5 .left))
-    (le-ltb (min (a .left) (a .right)) (windowCount (a .n) (a .w)) (omega (arith, l .lesser .ensures, c .before .if6 .left))) (c .lift .ensures .0) (c .lift .ensures .1)
+    (le-ltb (min (a .left) (a .right)) (windowCount (a .n) (a .w)) (omega (arith, l .lesser .ensures, c .before .if6 .left))) (c .lift .ensures .0)
+    (let u = between 1 256 _ (in-window (e .before)) in let v = between 1 1000000 _ (in-width w) in record {
+      lifts = c .lift .ensures .1;
+      some = u .least;
+      most = u .most;
+      fits = omega (arith, e .if2 .left);
+      least-width = v .least;
+      most-width = v .most;
+      in-rows = omega (arith, l .before .if5 .left);
+      in-left = omega (arith, l .lesser .ensures, c .before .if6 .left);
+      in-right = omega (arith, l .lesser .ensures, c .before .if6 .left);
+    })
 
 lift-requires : tie.Need-lift-requires
 lift-requires c κs =
