@@ -1,0 +1,2 @@
+-- Calls of the parts of the entry in a walk.
+pub mod Calls
