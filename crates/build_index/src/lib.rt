@@ -77,3 +77,21 @@ pub fn build_planned(
     let r = row_at(rows, k);
     answer(series, w, d, n, r)
 }
+
+// The build of merge percentage 0.
+pub fn build_unmerged(
+    series: &[i32],
+    w: u32,
+    d: u32,
+    rows: &mut [Row],
+    left: &mut [u32],
+    right: &mut [u32],
+) -> Built
+    ensures { λ b. ⌜ BuildKept (lentBuild (now (series .entry)) w d 0) (buffers (now (rows .entry)) (now (left .entry)) (now (right .entry))) b (buffers (now (rows .exit)) (now (left .exit)) (now (right .exit))) ⌝ }
+{
+    let p = make_plan(series, w, d, 0, rows.len(), left.len(), right.len());
+    if p.number != 0 {
+        return refuse(p);
+    }
+    build_planned(series, w, d, p, rows, left, right)
+}

@@ -18,9 +18,9 @@ use prog.Wp.{Heap, Env, Wp, WpFn, Tables, atReturn}
 use ghost.Atoms.{Atoms}
 use contract.Monad.{Fun}
 use contract.Running.{givenOf, tables, tablesOf}
-use types.Kit.{Given, Item, Sq, runs, params′, ‵, atRet, _⊛_, ⋆, _$_, _∵_, !, qed, by, move, keep, drop, split, join, fsplit, fjoin, feqI, suffices, frame, done}
+use types.Kit.{Given, Item, rewrite, Sq, runs, params′, ‵, atRet, _⊛_, ⋆, _$_, _∵_, !, qed, by, move, keep, drop, split, join, fsplit, fjoin, feqI, suffices, frame, done}
 use types.Part.{whole, sub, look-in, agg}
-use types.Run.{look, init, store, forget, unit-lit, stop, hop, fld, from, load, of-opd, addr, assigns, exec, and-then, no-more, land, returns, enter, alloc1, alloc0, params1, pass1, pass0, free0}
+use types.Run.{look, init, store, forget, unit-lit, bin, lit, returns-within, stop, hop, fld, from, load, of-opd, addr, assigns, exec, and-then, no-more, land, returns, enter, alloc1, alloc0, params1, pass1, pass0, free0}
 use sound.WpLaws.{FmC, fmOf, WpFn-mono}
 use denote.RattleType.{owns}
 use denote.Laws.{Is}
