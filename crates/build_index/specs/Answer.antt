@@ -1,0 +1,134 @@
+-- What a build answers, and that it keeps its promise (`refused-kept`, `built-kept`). Assumes nothing.
+use mathlib.Core.Path.{_≡_, refl, sym, ap, _∙_, subst}
+use mathlib.Core.Bool.{Bool, true, false}
+use mathlib.Core.List.{List, [], _∷_, _++_, map}
+use mathlib.Core.Option.{Option, none, some}
+use Prim.Native.Nat.{ℕ, _+_, _-_, _*_, _<_, _≤_}
+use native.Mathlib.Omega.{arith}
+use lib.Dec.{eqb}
+use lib.IntN.{ℤ, pos, natAbs}
+use lib.ListN.{length, getD, replicate, length-append, length-map, List·getD-append}
+use borrow.Author.Tests.{ne-eqb, eq-eqb}
+use Rattle.meaning_numbers.specs.Place.{any}
+use Rattle.meaning_numbers.specs.Sum.{Σℕ}
+use Rattle.meaning_numbers.proofs.Tests.{clash}
+use Rattle.meaning_numbers.proofs.Sum.{Σℕ-more}
+use Rattle.meaning_curves.specs.Curve.{windowSum, windowCount}
+use Rattle.meaning_rows.specs.declared.Row.{Row}
+use Rattle.meaning_rows.specs.declared.Head.{Head}
+use Rattle.meaning_rows.specs.Index.{Index, records, allRuns}
+use Rattle.meaning_rows.specs.Build.{SetRow, withRuns, built, builtRows}
+use Rattle.meaning_rows.proofs.Build.{mergedRows, covered, built-covers}
+use Rattle.meaning_rows.proofs.Laid.{length-records}
+use Rattle.meaning_rows.proofs.LaidAt.{records-at, runs-total}
+use Rattle.meaning_entries.specs.declared.Built.{Built}
+use Rattle.meaning_entries.specs.Refusal.{firstRefusal}
+use Rattle.meaning_entries.specs.Buffers.{IndexBuffers, filled, indexIn}
+use Rattle.meaning_entries.specs.Build.{lentBuild, buildTable, buildRefusal, buildIndex, buildAnswer, buildAfter}
+use Rattle.meaning_entries.specs.Demand2.{BuildKept}
+use Rattle.meaning_entries.proofs.Demand2.{build-kept}
+use Rattle.records.specs.Records.{zeroRow}
+use Rattle.filing.specs.Levels.{Lent, windowsOf}
+use Rattle.build.specs.Rowed.{noRow}
+use Rattle.build.specs.Filled.{buffers, Holds}
+use Rattle.lay.specs.Laid.{LayAsked}
+use Rattle.build_plan.specs.declared.Plan.{Plan}
+use Rattle.build_plan.specs.Plan.{refusalOf, Goes, Planned, table-is}
+
+abbrev pub refusedAs : Plan → Built
+refusedAs p = Built.Refused (p .number) (p .place)
+
+-- the answer with the head of w, d and so many windows, n rows, and as many runs as the parts up to that of the last row r have
+abbrev pub indexAs : ℕ → ℕ → ℕ → ℕ → Row → Built
+indexAs windows w d n r = Built.Index (record { window = w; width = d; windows = windows }) n (r .first + r .runs)
+
+-- the plan of a call with these buffers
+abbrev pub PlannedFor : List ℤ → ℕ → ℕ → ℕ → IndexBuffers → Plan → Type 0
+PlannedFor s w d g b p = Planned s w d g (length (b .rows)) (length (b .left)) (length (b .right)) p
+
+-- ---- laws
+
+some-row : (z : ℤ) (l : List SetRow) → covered z l ≡ true → 1 ≤ length l
+unfolding any
+some-row z [] h = clash h refl
+some-row z (r ∷ l) h = omega arith
+
+module _ (s : List ℤ) (w d g : ℕ) (b : IndexBuffers) (p : Plan) (h : PlannedFor s w d g b p) where
+  refusal-is : refusalOf p ≡ buildRefusal (lentBuild s w d g) b
+  refusal-is = h .refusal ∙ ap firstRefusal (sym (table-is s w d g b))
+
+  -- a refused call leaves the buffers as they were
+  pub refused-kept : (p .number ≡ 0 → ⊥) → BuildKept (lentBuild s w d g) b (refusedAs p) b
+  unfolding buildAnswer buildAfter
+  refused-kept f =
+      let e : buildRefusal (lentBuild s w d g) b ≡ some (p .number, p .place) = sym refusal-is ∙ rw (ne-eqb (p .number) 0 f) refl in
+      build-kept (lentBuild s w d g) b (refusedAs p) b (rw (buildAnswer, e) refl) (rw (buildAfter, e) refl)
+
+  module _ (z : p .number ≡ 0) where
+    not-refused : buildRefusal (lentBuild s w d g) b ≡ none
+    not-refused = sym refusal-is ∙ rw (eq-eqb (p .number) 0 z) refl
+
+    abbrev go : Goes (length s) w d (length (b .rows)) (length (b .left)) (length (b .right)) p
+    go = h .goes z .2
+
+    pub plan-lent : Lent s w (p .extra)
+    plan-lent = record { all = h .goes z .0; some = go .some; most = go .most; fits = go .fits; long = h .goes z .1; small = go .lifts .small }
+
+    pub plan-window : p .window ≡ w
+    plan-window = go .lifts .window
+
+    pub plan-width : p .width ≡ d
+    plan-width = go .lifts .width
+
+    -- what the answer asks
+    pub plan-sizes : (w ≤ length s) × (length s ≤ 1048576)
+    plan-sizes = (go .fits, h .goes z .1)
+
+    -- what the build asks
+    pub plan-lays : (LayAsked s (p .window) (p .extra) (p .width) (b .left) (b .right)) × (p .bias ≡ 10000 * p .window + p .extra) × (windowsOf s (p .window) ≤ length (b .rows))
+    plan-lays = rw (go .lifts .window, go .lifts .width) (
+      record { lent = plan-lent; least = go .least-width; most = go .most-width; rows = go .lifts .rows; bias = sym (go .lifts .is) ∙ go .lifts .multiple; in-left = go .in-left; in-right = go .in-right },
+      go .lifts .is,
+      go .in-rows,
+    )
+
+    abbrev l : List SetRow
+    l = mergedRows (windowSum s w) d g (windowsOf s w)
+
+    rows-long : length (built s w d g .rows) ≡ length l
+    unfolding built builtRows
+    rows-long = length-records 0 (map (withRuns (windowsOf s w)) l) ∙ length-map l (withRuns (windowsOf s w))
+
+    -- each window has a row, so there is one
+    pub some-rows : {n : ℕ} → n ≡ length (built s w d g .rows) → 1 ≤ n
+    some-rows e = omega (arith, e, rows-long, some-row (windowSum s w 0) l (built-covers (windowSum s w) d (windowsOf s w) (go .least-width) g 0 (omega (arith, go .fits))))
+
+    module _ {new : IndexBuffers} {n : ℕ} (e : n ≡ length (built s w d g .rows)) (k : Holds d g s w b new) where
+      rows-are : new .rows ≡ built s w d g .rows ++ replicate (length (b .rows) - length (built s w d g .rows)) zeroRow
+      unfolding indexIn filled
+      rows-are = ap (λ (x : IndexBuffers). x .rows) k
+
+      pub last-in : n - 1 < length (new .rows)
+      last-in =
+          let rest : List Row = replicate (length (b .rows) - length (built s w d g .rows)) zeroRow in
+          omega (arith, e, some-rows e, ap length rows-are, length-append (built s w d g .rows) rest)
+
+      -- the last row's part ends where all parts end
+      last-total : getD (new .rows) (n - 1) zeroRow .first + getD (new .rows) (n - 1) zeroRow .runs ≡ length (built s w d g .runs)
+      unfolding built builtRows
+      last-total =
+          let rest : List Row = replicate (length (b .rows) - length (built s w d g .rows)) zeroRow in
+          let m : n - 1 < length (built s w d g .rows) = omega (arith, e, some-rows e) in
+          let i : n - 1 < length l = omega (arith, m, rows-long) in
+          let r = ap (λ (x : List Row). getD x (n - 1) zeroRow) rows-are ∙ List·getD-append (built s w d g .rows) rest zeroRow (n - 1) m ∙ records-at noRow (withRuns (windowsOf s w)) zeroRow 0 l (n - 1) i in
+          let f : ℕ → ℕ = λ y. length (withRuns (windowsOf s w) (getD l y noRow) .runs) in
+          let c : n - 1 + 1 ≡ length l = omega (arith, e, rows-long, some-rows e) in
+          omega (arith, ap (λ (x : Row). x .first) r, ap (λ (x : Row). x .runs) r, Σℕ-more (n - 1) f, ap (λ (x : ℕ). Σℕ x f) c, runs-total noRow (withRuns (windowsOf s w)) l)
+
+      pub built-kept : {r : Row} → r ≡ getD (new .rows) (n - 1) zeroRow → BuildKept (lentBuild s w d g) b (indexAs (windowCount (length s) w) w d n r) new
+      unfolding buildAnswer buildAfter buildIndex built
+      built-kept {r} q =
+          let t : r .first + r .runs ≡ length (built s w d g .runs) = ap (λ (x : Row). x .first + x .runs) q ∙ last-total in
+          build-kept (lentBuild s w d g) b (indexAs (windowCount (length s) w) w d n r) new
+          ((λ j. Built.Index (record { window = w; width = d; windows = windowCount (length s) w }) (e j) (t j)) ∙ rw (buildAnswer, not-refused) refl)
+          (k ∙ rw (buildAfter, not-refused) refl)

@@ -1,0 +1,2 @@
+-- What the contracts of build_index cite.
+pub mod Answer

@@ -1,0 +1,97 @@
+// The entry that builds an index: refused, or the index in the lent buffers. Without merging, which is a build of merge percentage 0.
+use build::build_plain;
+use build_plan::Plan;
+use build_plan::make_plan;
+use meaning_entries::Built;
+use meaning_rows::Head;
+use meaning_rows::Row;
+use records::row_at;
+ghost use mathlib.Core.Path.{_≡_};
+ghost use Prim.Native.Nat.{_+_, _-_, _≤_};
+ghost use lib.ListN.{length};
+ghost use Rattle.meaning_curves.specs.Curve.{windowCount};
+ghost use Rattle.meaning_entries.specs.Build.{lentBuild};
+ghost use Rattle.meaning_entries.specs.Demand2.{BuildKept};
+ghost use Rattle.build.specs.Filled.{buffers};
+ghost use Rattle.build_index.specs.Answer.{refusedAs, indexAs, PlannedFor};
+
+// The answer of a refused call.
+pub fn refuse(p: Plan) -> Built
+    ensures { λ b. ⌜ b ≡ refusedAs p ⌝ }
+{
+    Built::Refused {
+        number: p.number,
+        place: p.place,
+    }
+}
+
+// The place before `n`.
+pub fn place_before(n: usize) -> usize
+    requires { ⌜ 1 ≤ n ⌝ }
+    ensures { λ k. ⌜ k ≡ n - 1 ⌝ }
+{
+    n - 1
+}
+
+// The answer of a call that built `n` rows, the last of which is `r`.
+pub fn answer(series: &[i32], w: u32, d: u32, n: usize, r: Row) -> Built
+    requires { ⌜ (w ≤ length (now series)) × (length (now series) ≤ 1048576) ⌝ }
+    ensures { λ b. ⌜ b ≡ indexAs (windowCount (length (now (series .entry))) w) w d n r ⌝ }
+{
+    let windows = series.len() + 1 - w as usize;
+    Built::Index {
+        head: Head {
+            window: w,
+            width: d,
+            windows: windows as u32,
+        },
+        rows: n,
+        runs: r.first as usize + r.runs as usize,
+    }
+}
+
+// The index without merging, by a plan that does not refuse, and the answer.
+pub fn build_planned(
+    series: &[i32],
+    w: u32,
+    d: u32,
+    p: Plan,
+    rows: &mut [Row],
+    left: &mut [u32],
+    right: &mut [u32],
+) -> Built
+    requires { ⌜ (PlannedFor (now series) w d 0 (buffers (now rows) (now left) (now right)) p) × (p .number ≡ 0) ⌝ }
+    ensures { λ b. ⌜ BuildKept (lentBuild (now (series .entry)) w d 0) (buffers (now (rows .entry)) (now (left .entry)) (now (right .entry))) b (buffers (now (rows .exit)) (now (left .exit)) (now (right .exit))) ⌝ }
+{
+    let n = build_plain(
+        series,
+        p.window,
+        p.extra,
+        p.width,
+        p.bias,
+        rows,
+        left,
+        right,
+    );
+    let k = place_before(n);
+    let r = row_at(rows, k);
+    answer(series, w, d, n, r)
+}
+
+// The build of merge percentage 0.
+pub fn build_unmerged(
+    series: &[i32],
+    w: u32,
+    d: u32,
+    rows: &mut [Row],
+    left: &mut [u32],
+    right: &mut [u32],
+) -> Built
+    ensures { λ b. ⌜ BuildKept (lentBuild (now (series .entry)) w d 0) (buffers (now (rows .entry)) (now (left .entry)) (now (right .entry))) b (buffers (now (rows .exit)) (now (left .exit)) (now (right .exit))) ⌝ }
+{
+    let p = make_plan(series, w, d, 0, rows.len(), left.len(), right.len());
+    if p.number != 0 {
+        return refuse(p);
+    }
+    build_planned(series, w, d, p, rows, left, right)
+}
