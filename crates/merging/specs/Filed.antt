@@ -15,7 +15,7 @@ use Rattle.filing.specs.Levels.{level, rowOf, Lent, windowsOf}
 use Rattle.filing.specs.Table.{table}
 use Rattle.tally.specs.Tally.{Counted}
 use Rattle.tally.specs.Numbers.{lowered, table-numbers}
-use Rattle.pack.specs.Packed.{Summed, packed, length-packed}
+use Rattle.pack.specs.Packed.{Summed, packed}
 use Rattle.pack.specs.Records.{merged-none, built-records}
 use Rattle.merge.specs.Merging.{PackedAs}
 use Rattle.neighbours.specs.Packed.{filed-sound}

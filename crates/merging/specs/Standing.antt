@@ -7,7 +7,7 @@ use lib.IntN.{ℤ}
 use lib.ListN.{length, getD}
 use Rattle.meaning_curves.specs.Curve.{windowSum}
 use Rattle.meaning_rows.specs.declared.Row.{Row}
-use Rattle.meaning_rows.specs.Build.{SetRow, merged}
+use Rattle.meaning_rows.specs.Build.{SetRow}
 use Rattle.filing.specs.Levels.{Lent, windowsOf}
 use Rattle.merge.specs.Names.{NamedRow}
 use Rattle.merge.specs.Merging.{Rows, Ready, PackedAs, Mergeable, partAt}
