@@ -1,11 +1,9 @@
--- The group of rows on the way. Assumes nothing.
-use mathlib.Core.Path.{_≡_, refl, sym, ap, _∙_}
-use mathlib.Core.Bool.{Bool, true, false, cond}
-use mathlib.Core.List.{List, [], _∷_}
-use Prim.Native.Nat.{ℕ, zero, suc, _+_, _-_, _*_, _<_, _≤_}
-use native.Mathlib.Omega.{arith}
+-- The group of rows on the way, and the group after one row more: the row is taken in, or begins the next group (`nextGroup`). Assumes nothing.
+use mathlib.Core.Bool.{cond}
+use mathlib.Core.List.{List}
+use Prim.Native.Nat.{ℕ, _+_, _-_, _*_, _<_, _≤_}
 use lib.Dec.{ltb}
-use lib.ListN.{length, getD}
+use lib.ListN.{length}
 use Rattle.meaning_numbers.specs.Sum.{count}
 use Rattle.meaning_rows.specs.declared.Row.{Row}
 use Rattle.merge.specs.declared.Group.{Group}

@@ -1,9 +1,9 @@
 -- Merging on its way over packed rows: what holds before row i (`Merging`), how it begins (`merging-start`), a turn (`merging-turn`), what a turn needs (`merging-joinable`) and the end
 -- (`merging-end`): the records are those of the merged rows. The rows are sets of windows, window j in row `row j`; the decision is that of `takes`, by counts of names. Assumes nothing.
-use mathlib.Core.Path.{_≡_, refl, sym, ap, _∙_, subst}
-use mathlib.Core.Bool.{Bool, true, false, cond, _||_}
-use mathlib.Core.List.{List, [], _∷_, _++_, map, append-nil, append-assoc}
-use Prim.Native.Nat.{ℕ, zero, suc, _+_, _-_, _*_, _<_, _≤_}
+use mathlib.Core.Path.{_≡_, refl, sym, ap, _∙_}
+use mathlib.Core.Bool.{true, false}
+use mathlib.Core.List.{List, [], _∷_, _++_, map, append-assoc}
+use Prim.Native.Nat.{ℕ, suc, _+_, _-_, _*_, _<_, _≤_}
 use native.Mathlib.Omega.{arith}
 use native.Mathlib.Numerals.{add-one}
 use lib.Dec.{ltb}
@@ -22,7 +22,7 @@ use Rattle.records.specs.Records.{zeroRow}
 use Rattle.filing.specs.Levels.{within}
 use Rattle.tally.specs.Tally.{isRow}
 use Rattle.merge.specs.declared.Group.{Group}
-use Rattle.merge.specs.Names.{group, namesOf, NamedRow, group-one, group-more, runs-merged}
+use Rattle.merge.specs.Names.{group, NamedRow, group-one, group-more, runs-merged}
 use Rattle.merge.specs.Group.{touching, firstGroup, unionRuns, joined, begun, nextGroup, Joinable}
 
 -- ---- rows as sets, packed

@@ -1,17 +1,17 @@
 -- Names of rows: window j stands in row `row j`, whose name is one more; 0 names none. A run's entry has the name before it and the name after it. A row that joins a group of rows
 -- has as many neighbours in the group as entries that name one of its rows, so the runs of the union are counted by names alone (`runs-merged`). Assumes nothing.
-use mathlib.Core.Path.{_≡_, refl, sym, ap, _∙_}
-use mathlib.Core.Bool.{Bool, true, false, cond, _&&_, _||_, and-false}
+use mathlib.Core.Path.{_≡_, refl, sym, ap}
+use mathlib.Core.Bool.{Bool, false, cond, _&&_, _||_, and-false}
 use mathlib.Core.List.{List, [], _∷_}
 use Prim.Native.Nat.{ℕ, zero, suc, _+_, _<_, _≤_}
 use native.Mathlib.Omega.{arith}
 use native.Mathlib.Decide.{decLe}
 use lib.Dec.{leb, ltb, eqb}
 use lib.ListN.{length, getD}
-use borrow.Author.Tests.{leb-true, leb-false, ltb-true, ltb-false, eqb-true, eqb-false, lt-ltb, le-ltb, le-leb, lt-leb, eq-eqb, ne-eqb}
+use borrow.Author.Tests.{leb-true, leb-false, ltb-true, ltb-false, eqb-true, eqb-false, lt-ltb, le-ltb, le-leb, lt-leb}
 use Rattle.meaning_numbers.specs.Sum.{bit, count}
 use Rattle.meaning_numbers.proofs.Count.{count-shift}
-use Rattle.meaning_numbers.proofs.Tests.{by-test, both, clash}
+use Rattle.meaning_numbers.proofs.Tests.{by-test}
 use Rattle.meaning_rows.specs.Runs.{before, runs, runCount}
 use Rattle.meaning_rows.proofs.Runs.{either, runs-cong}
 use Rattle.meaning_rows.proofs.Columns.{lefts, rights, length-lefts, length-rights}

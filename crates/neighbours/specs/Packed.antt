@@ -1,7 +1,7 @@
 -- Rows of a build that stand packed in records: their ranges hold the windows, so the rows can be named (`packed-unnamed`) and, with the names in their parts, merged (`packed-ready`). The rows of a build are so
 -- before merging (`filed-sound`) and after it (`merged-sound`), so what is merged stands packed again as rows by ranges (`packed-ranges`). Assumes nothing.
 use mathlib.Core.Path.{_≡_, refl, sym, ap, _∙_, subst}
-use mathlib.Core.Bool.{Bool, true, false, _||_}
+use mathlib.Core.Bool.{true, false}
 use mathlib.Core.List.{List, [], _∷_, map}
 use Prim.Native.Nat.{ℕ, zero, suc, _+_, _-_, _*_, _<_, _≤_}
 use native.Mathlib.Omega.{arith}
@@ -25,14 +25,14 @@ use Rattle.meaning_rows.specs.Index.{records, allRuns}
 use Rattle.meaning_rows.specs.Build.{SetRow, filed, merged, entry, withRuns, builtRows}
 use Rattle.meaning_rows.proofs.Range.{is-inside, row-below, row-above}
 use Rattle.meaning_rows.proofs.Runs.{runs-cong}
-use Rattle.meaning_rows.proofs.Build.{Fine, Gap, Chain, Tiled, Ends, covered, mergedRows, built-tiled, built-covers, built-ends, built-length, built-runs}
+use Rattle.meaning_rows.proofs.Build.{Fine, Chain, Tiled, Ends, covered, mergedRows, built-tiled, built-covers, built-ends, built-length, built-runs}
 use Rattle.records.specs.Records.{zeroRow}
 use Rattle.filing.specs.Levels.{level, Lent, windowsOf, level-is, level-le}
 use Rattle.tally.specs.Tally.{isRow}
 use Rattle.pack.specs.Records.{merged-none, Σℕ-shift}
 use Rattle.merge.specs.Names.{NamedRow}
-use Rattle.merge.specs.Merging.{PackedAs, Numbered, Rows, Ready, partAt, recordOf, records-first}
-use Rattle.neighbours.specs.Ranges.{Limited, LimitedRow, firstNot, endsBy, placeIn, rowIn, Ranged, RangeRows, first-passes, first-fails, held-row, no-leZ}
+use Rattle.merge.specs.Merging.{PackedAs, Numbered, Ready, partAt, recordOf, records-first}
+use Rattle.neighbours.specs.Ranges.{Limited, endsBy, placeIn, rowIn, Ranged, RangeRows, first-passes, first-fails, held-row, no-leZ}
 use Rattle.neighbours.specs.Places.{Unnamed}
 
 -- rows of n windows: they tile them, hold each, have ends that can be raised, and no more runs than windows

@@ -1,15 +1,14 @@
 -- Windows by place and raised sum, their names, and what holds on the way of the pass that names neighbours (`Underway`). Assumes nothing.
 use mathlib.Core.Path.{_≡_, refl, sym, ap, _∙_, subst}
-use mathlib.Core.Bool.{Bool, true, false, cond}
+use mathlib.Core.Bool.{cond}
 use mathlib.Core.List.{List}
 use Prim.Native.Nat.{ℕ, zero, suc, _+_, _-_, _*_, _<_, _≤_}
 use native.Mathlib.Omega.{arith}
-use native.Mathlib.Numerals.{add-one}
 use lib.Dec.{ltb}
 use lib.IntN.{ℤ, pos, _-ℤ_}
 use lib.ListN.{length, getD, set, length-set}
-use borrow.Author.Tests.{lt-ltb, le-ltb, ltb-true, ltb-false}
-use Rattle.meaning_numbers.proofs.Rep.{Rep, rep-pos, rep-sub, rep-eq}
+use borrow.Author.Tests.{lt-ltb, ltb-true, ltb-false}
+use Rattle.meaning_numbers.proofs.Rep.{rep-pos, rep-sub, rep-eq}
 use Rattle.meaning_numbers.proofs.Tests.{by-test}
 use Rattle.meaning_curves.specs.Curve.{windowSum, windowCount}
 use Rattle.meaning_rows.specs.declared.Row.{Row}
@@ -21,10 +20,10 @@ use Rattle.filing.specs.Levels.{level, Lent, windowsOf, level-is, level-small}
 use Rattle.filing.specs.Change.{Stop, RowRun}
 use Rattle.tally.specs.Tally.{isRow}
 use Rattle.parts.specs.Part.{written, PartRoom}
-use Rattle.layout.specs.Search.{Climbs, Found}
+use Rattle.layout.specs.Search.{Climbs}
 use Rattle.merge.specs.Names.{nameAt, nameBefore, NamedRow}
 use Rattle.merge.specs.Merging.{partAt}
-use Rattle.neighbours.specs.Ranges.{raisedBy, LimitedRow, placeIn, rowIn, RangeRows, range-climbs, found-place, stop-run}
+use Rattle.neighbours.specs.Ranges.{raisedBy, LimitedRow, placeIn, rowIn, RangeRows, range-climbs, stop-run}
 use Rattle.neighbours.specs.Naming.{Naming, naming-start, naming-more, naming-written, naming-room, naming-run, naming-end}
 
 -- window j with its raised sum

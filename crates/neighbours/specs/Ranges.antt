@@ -1,18 +1,18 @@
 -- Rows as ranges of lent records: the row of a window is the first whose upper end is above the window's sum (`rowIn`). Where the ranges ascend and hold every window, row i holds exactly the windows
 -- whose row is i (`held-row`), and a run of raised sums in its range is a run of its windows (`stop-run`). Assumes nothing.
-use mathlib.Core.Path.{_≡_, refl, sym, ap, _∙_}
-use mathlib.Core.Bool.{Bool, true, false, cond, _&&_, and-false}
+use mathlib.Core.Path.{_≡_, refl, sym, _∙_}
+use mathlib.Core.Bool.{Bool, true, false, cond}
 use mathlib.Core.List.{List}
-use Prim.Native.Nat.{ℕ, zero, suc, _+_, _-_, _*_, _<_, _≤_}
+use Prim.Native.Nat.{ℕ, zero, suc, _+_, _-_, _<_, _≤_}
 use native.Mathlib.Omega.{arith}
-use native.Mathlib.Decide.{decLt, decLe}
-use lib.Dec.{leb, ltb, eqb}
-use lib.IntN.{ℤ, pos, _-ℤ_}
+use native.Mathlib.Decide.{decLt}
+use lib.Dec.{ltb, eqb}
+use lib.IntN.{ℤ}
 use lib.ListN.{length, getD}
 use lib.Signed.{leZ, ltZ, _≤ℤ_, _<ℤ_, ≤ℤ-refl}
-use borrow.Author.Tests.{le-leb, lt-leb, lt-ltb, le-ltb, eqb-true, eqb-false, eq-eqb, ne-eqb}
+use borrow.Author.Tests.{le-leb, lt-leb, lt-ltb, le-ltb, eqb-true, eqb-false, eq-eqb}
 use Rattle.meaning_numbers.proofs.Rep.{Rep, up, dn, zarith}
-use Rattle.meaning_numbers.proofs.Machine.{f-gt, leZ-true, lt-ltZ, le-ltZ, ltZ-true, ltZ-false}
+use Rattle.meaning_numbers.proofs.Machine.{f-gt, leZ-true, ltZ-true, ltZ-false}
 use Rattle.meaning_numbers.proofs.Tests.{by-test, clash}
 use Rattle.meaning_rows.specs.declared.Row.{Row}
 use Rattle.meaning_rows.specs.Range.{inside}

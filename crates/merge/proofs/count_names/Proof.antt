@@ -1,10 +1,9 @@
 -- `merge::count_names` meets its contract. The invariant: k of the first t names are in the range. Assumes nothing.
-use mathlib.Core.Path.{_≡_, refl, sym, ap, _∙_}
-use Prim.Native.Nat.{ℕ, _+_, _-_, _≤_, _<_}
+use mathlib.Core.Path.{_≡_, sym, ap, _∙_}
+use Prim.Native.Nat.{ℕ, _+_, _-_, _≤_}
 use native.Mathlib.Omega.{arith}
-use lib.ListN.{length}
 use borrow.Author.Needs.{needs}
-use Rattle.meaning_numbers.specs.Sum.{count, bit}
+use Rattle.meaning_numbers.specs.Sum.{count}
 use Rattle.meaning_numbers.proofs.Count.{count-none, count-more, bit-true, bit-false}
 use Rattle.merge.specs.Names.{namesOf}
 use Rattle.merge.proofs.count_names.Statement.{statement}

@@ -1,7 +1,7 @@
 -- `merge::merge_row` meets its contract: in each branch the test on counts is the test of `nextGroup`, and what is stored in a signed field is what it was. Assumes nothing.
 use borrow.Author.Needs.{needs}
 use borrow.Author.Tests.{lt-ltb, le-ltb}
-use mathlib.Core.Path.{_≡_, refl, sym, ap, _∙_}
+use mathlib.Core.Path.{_≡_}
 use Prim.Native.Nat.{ℕ, _+_, _-_, _*_, _≤_, _<_, _^_}
 use native.Mathlib.Nat.{mul-le-mul-right}
 use native.Mathlib.Omega.{arith}
@@ -10,7 +10,7 @@ use lib.Signed.{mag}
 use mir.Syntax.{w32, w64}
 use mir.Val.{toZ, ofZ, Fits}
 use mir.ValLaws.{toZ-ofZ}
-use Rattle.merge.specs.Group.{nextGroup, unionRuns}
+use Rattle.merge.specs.Group.{nextGroup}
 use Rattle.merge.proofs.merge_row.Statement.{statement}
 use Rattle.merge.proofs.merge_row.Tie as tie
 

@@ -1,6 +1,6 @@
 -- `neighbours::name_neighbours` meets its contract: a walk of its MIR, by hand. A turn reads the record of the run's row, finds the run's end and the name of the row behind it, and lends both columns to the
 -- covered function that files the entry. What is known before a turn is `Underway`. Assumes nothing.
-use mathlib.Core.Path.{_≡_, refl, sym, _∙_, ap, subst}
+use mathlib.Core.Path.{_≡_, refl}
 use mathlib.Core.Bool.{Bool, true, false}
 use Prim.Native.Nat.{ℕ, _<_, _≤_, _^_, _+_, _-_, _*_}
 use native.Mathlib.Omega.{arith}

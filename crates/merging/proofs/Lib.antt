@@ -1,0 +1,2 @@
+-- Calls of a walk.
+pub mod Calls

@@ -1,0 +1,3 @@
+-- What the contract of merging cites.
+pub mod Standing
+pub mod Filed
