@@ -57,7 +57,7 @@ use Rattle.text_write.specs.Write.{headText, endText, rowText}
 use Rattle.records.proofs.Walk.{calls-plain}
 use Rattle.text_save.specs.Spell.{Spelled, Ended}
 use Rattle.text_save.specs.Answer.{answerOf, isRefused}
-use Rattle.text_save.proofs.Lent.{Last, calls-lent, calls-lent-kept}
+use Rattle.text_save.proofs.LentCall.{Last, calls-lent, calls-lent-kept}
 use Rattle.text_save.proofs.spell_head as head
 use Rattle.text_save.proofs.spell_head.Symbol.{name as #spell-head}
 use Rattle.text_save.proofs.spell_row as row

@@ -1,5 +1,5 @@
--- The walks of the loop over lent records and of the entry.
-pub mod Lent
+-- The calls that lend a text again, those of the two walks, what the entry keeps, and the call of the entry by crates above.
+pub mod LentCall
 pub mod Calls
 pub mod Kept
 pub mod WriteCall

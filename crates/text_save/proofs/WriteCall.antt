@@ -41,7 +41,7 @@ use Rattle.records.proofs.Lends.{Own as OwnMut}
 use Rattle.records.proofs.Rows.{Rs}
 use Rattle.judge.proofs.Calls.{Ns, low-head, IsHead}
 use Rattle.judge.proofs.JudgeCall.{AllToks, AllOwns, all-twice}
-use Rattle.text_save.proofs.Lent.{Last, calls-lent-kept}
+use Rattle.text_save.proofs.LentCall.{Last, calls-lent-kept}
 use Rattle.text_save.proofs.Calls.{low-written, IsWritten}
 use Rattle.text_save.proofs.write as write
 use Rattle.text_save.proofs.write.Symbol.{name as #write}
