@@ -13,7 +13,7 @@ use text_judge::Rows;
 use text_judge::Scanned;
 use text_judge::hold;
 use text_judge::scan;
-use text_reader::line_at;
+use text_reader::bad_line;
 use text_rows::fill_rows;
 ghost use mathlib.Core.Path.{_≡_};
 ghost use mathlib.Core.Bool.{cond};
@@ -82,7 +82,7 @@ pub fn make_plan(text: &[u8], rows: usize, runs: usize) -> Plan
     ensures { λ p. ⌜ p ≡ planFor (now (text .entry)) rows runs ⌝ }
 {
     match scan(text) {
-        Scanned::Bad(at) => refuse(12, line_at(text, at)),
+        Scanned::Bad(at) => refuse(12, bad_line(text, at)),
         Scanned::Fine(head, c) => plan_fine(head, c, rows, runs),
     }
 }
