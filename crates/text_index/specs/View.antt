@@ -1,5 +1,5 @@
 -- What a loop over an index text keeps of what is said: any view of it that a number and a row's end move in the same way comes to the view of what the text says (`text-viewed`). Assumes nothing.
-use mathlib.Core.Path.{_≡_, refl, sym, ap, _∙_}
+use mathlib.Core.Path.{_≡_, refl, ap, _∙_}
 use mathlib.Core.List.{List, [], _∷_}
 use mathlib.Core.Option.{Option, none, some}
 use Prim.Native.Nat.{ℕ, suc, _+_, _<_, _≤_}

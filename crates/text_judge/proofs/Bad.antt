@@ -1,29 +1,29 @@
 -- The tally has the first bad row: numbers that the code's types do not hold become numbers outside every limit, so that a head, a run, a range and a row are judged as the meanings judge them (`text-bad`), and where the rows are good their counts are the text's (`rows-counted`). Assumes nothing.
 use mathlib.Core.Path.{_≡_, refl, sym, ap, _∙_, subst}
 use mathlib.Core.Bool.{Bool, true, false, cond, _&&_, false≢true}
-use mathlib.Core.List.{List, [], _∷_, _++_, map}
-use mathlib.Core.Option.{Option, none, some}
-use Prim.Native.Nat.{ℕ, zero, suc, _+_, _-_, _<_, _≤_}
+use mathlib.Core.List.{List, [], _∷_, map}
+use mathlib.Core.Option.{none, some}
+use Prim.Native.Nat.{ℕ, suc, _+_, _-_, _<_, _≤_}
 use native.Mathlib.Omega.{arith}
-use lib.Dec.{leb, ltb, eqb}
+use lib.Dec.{leb, ltb}
 use lib.IntN.{ℤ, pos, negsuc, _+ℤ_, natAbs}
 use lib.ListN.{length, length-append, length-map}
-use lib.Signed.{leZ, ltZ, _<ℤ_, _≤ℤ_}
+use lib.Signed.{leZ, ltZ, _≤ℤ_}
 use borrow.Author.Tests.{leb-true, le-leb, ltb-true, ltb-false, lt-ltb, le-ltb, eq-eqb}
 use Rattle.meaning_numbers.specs.Order.{within}
 use Rattle.meaning_numbers.specs.Quotient.{multiple}
 use Rattle.meaning_numbers.proofs.Machine.{zmach, le-ltZ, f-le}
-use Rattle.meaning_curves.specs.Limits.{windowIn, widthIn, windowsIn, endIn, lowestEnd, mostValues}
+use Rattle.meaning_curves.specs.Limits.{windowIn, widthIn, windowsIn, endIn, lowestEnd}
 use Rattle.meaning_rows.specs.declared.Head.{Head}
 use Rattle.meaning_rows.specs.declared.Row.{Row}
-use Rattle.meaning_rows.specs.Index.{Index, Entry, RangeRow, lent, runsOf, records, allRuns, laidOut}
+use Rattle.meaning_rows.specs.Index.{Index, Entry, RangeRow, lent, runsOf, records, allRuns}
 use Rattle.meaning_rows.specs.Judge.{headGood, runsGood, runLengths, rangeGood, partGood, rowGood, badRowFrom, firstBadRow}
-use Rattle.meaning_rows.proofs.Judge.{Natural, between, is-within}
+use Rattle.meaning_rows.proofs.Judge.{between}
 use Rattle.meaning_rows.proofs.Laid.{Lays, laid, length-records}
 use Rattle.meaning_text.specs.Form.{Value}
 use Rattle.meaning_text.specs.Texts.{indexForm, rowForm, rowSaid, indexSaid}
 use Rattle.meaning_text.proofs.Reading.{on-flag}
-use Rattle.judge.proofs.Scan.{both, runGood, GoodRun, good-run}
+use Rattle.judge.proofs.Scan.{both, runGood, good-run}
 use Rattle.text_feed.specs.Keep.{clamp}
 use Rattle.text_judge.specs.declared.Runs.{Runs}
 use Rattle.text_judge.specs.declared.Rows.{Rows}

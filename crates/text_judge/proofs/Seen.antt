@@ -1,12 +1,11 @@
 -- The tally is a view of what has been said, so that a pass over a text comes to the text's own head and rows (`text-scanned`); its counts stay small (`tell-fits`, `shut-fits`). Assumes nothing.
 use mathlib.Core.Path.{_≡_, refl, sym, ap, _∙_}
-use mathlib.Core.Bool.{Bool, true, false, cond, _&&_}
+use mathlib.Core.Bool.{_&&_}
 use mathlib.Core.List.{List, [], _∷_, _++_}
-use Prim.Native.Nat.{ℕ, suc, _+_, _-_, _<_, _≤_}
+use Prim.Native.Nat.{ℕ, _+_, _-_, _≤_}
 use native.Mathlib.Omega.{arith}
-use lib.Dec.{leb}
-use lib.IntN.{ℤ, pos, natAbs}
-use lib.Signed.{ltZ, _<ℤ_, _≤ℤ_}
+use lib.IntN.{ℤ, pos}
+use lib.Signed.{ltZ}
 use Rattle.meaning_numbers.proofs.Machine.{zmach, f-ge, z-abs}
 use Rattle.meaning_rows.specs.declared.Head.{Head}
 use Rattle.meaning_rows.specs.Index.{Entry}
@@ -15,7 +14,7 @@ use Rattle.meaning_text.specs.Read.{Verdict, fine, unfit, readText}
 use Rattle.meaning_text.specs.Texts.{indexForm, rowForm}
 use Rattle.meaning_text.proofs.Automaton.{verdictOf}
 use Rattle.meaning_text.proofs.Reading.{on-flag}
-use Rattle.judge.proofs.Scan.{both, runGood, GoodRun, good-run}
+use Rattle.judge.proofs.Scan.{both, runGood, good-run}
 use Rattle.text_feed.specs.Keep.{clamp}
 use Rattle.text_index.specs.declared.Place.{Place}
 use Rattle.text_index.specs.Follow.{Said, told, closed, value}
@@ -49,7 +48,7 @@ tallyOf g = record {
   row = record { low = clamp (g .low); up = clamp (g .up); left = held (g .left); runs = runsFrom (held (g .windows)) noRuns (g .runs) };
 }
 
-tells : (p : Place) (z : ℤ) (g : Said) → Order (placePart p) g → tallyOf (told p z g) ≡ tellTally p z (tallyOf g)
+pub tells : (p : Place) (z : ℤ) (g : Said) → Order (placePart p) g → tallyOf (told p z g) ≡ tellTally p z (tallyOf g)
 unfolding tellTally runsFrom rowsFrom
 tells Place.Window z g o = rw (o .0, o .1) refl
 tells Place.Width z g o = rw (o .0, o .1) refl
@@ -59,7 +58,7 @@ tells Place.Up z g o = refl
 tells Place.Left z g o = refl
 tells Place.Right z g o = rw (runs-more (held (g .windows)) noRuns (g .runs) (g .left, z)) refl
 
-shuts : (g : Said) → tallyOf (closed g) ≡ shutTally (tallyOf g)
+pub shuts : (g : Said) → tallyOf (closed g) ≡ shutTally (tallyOf g)
 unfolding shutTally runsFrom
 shuts g = rw (rows-more (headHeld (value g)) noRows (g .rows) (g .low, (g .up, g .runs))) refl
 
@@ -78,7 +77,7 @@ text-said : (x : Verdict (Value indexForm)) → said (verdictOf scannedText x) �
 text-said (fine v) = refl
 text-said (unfit p) = refl
 
-start-is : tallyOf (Rattle.text_index.specs.Follow.nothingSaid) ≡ startTally
+pub start-is : tallyOf (Rattle.text_index.specs.Follow.nothingSaid) ≡ startTally
 unfolding held runsFrom rowsFrom
 start-is = refl
 

@@ -1,5 +1,4 @@
 -- What is known of an index text so far: its head, its closed rows and its open row, in numbers of the types that the code has, and how a number and a row's end move it. Assumes nothing.
-use mathlib.Core.Path.{_≡_}
 use mathlib.Core.Bool.{Bool, true, false, cond, _&&_}
 use mathlib.Core.List.{List, [], _∷_}
 use Prim.Native.Nat.{ℕ, _+_, _-_, _≤_}

@@ -2,7 +2,7 @@
 use mathlib.Core.Path.{_≡_, refl, sym, ap, _∙_}
 use mathlib.Core.Bool.{Bool, true, false, cond}
 use mathlib.Core.List.{List, [], _∷_, _++_, map, append-assoc, append-nil}
-use Prim.Native.Nat.{ℕ, suc, _+_, _<_, _≤_}
+use Prim.Native.Nat.{ℕ, _+_, _<_, _≤_}
 use native.Mathlib.Omega.{arith}
 use lib.IntN.{ℤ}
 use lib.ListN.{length, getD, set, length-append, length-map, length-set}
@@ -10,7 +10,7 @@ use lib.Seq.{sets}
 use Rattle.meaning_rows.specs.Index.{Entry, RangeRow, allRuns}
 use Rattle.meaning_text.specs.Form.{Value}
 use Rattle.meaning_text.specs.Read.{Verdict, fine, unfit, readText}
-use Rattle.meaning_text.specs.Texts.{indexForm, rowForm, rowSaid, indexSaid}
+use Rattle.meaning_text.specs.Texts.{indexForm, rowSaid, indexSaid}
 use Rattle.meaning_text.proofs.Automaton.{verdictOf, atEnd}
 use Rattle.text_put.specs.Put.{sets-append}
 use Rattle.text_index.specs.declared.Place.{Place}

@@ -5,12 +5,11 @@ use Prim.Native.Nat.{ℕ}
 use native.Mathlib.Omega.{arith}
 use lib.ListN.{length, replicate}
 use borrow.Author.Tests.{eq-eqb, ne-eqb}
-use Rattle.meaning_rows.specs.Index.{Index, Entry}
+use Rattle.meaning_rows.specs.Index.{Index}
 use Rattle.meaning_text.specs.Form.{Value}
 use Rattle.meaning_text.specs.Read.{Verdict, fine, unfit, readText}
 use Rattle.meaning_text.specs.Texts.{indexForm, indexSaid}
 use Rattle.meaning_entries.specs.Load.{textIndex}
-use Rattle.text_judge.specs.Tally.{scanned}
 use Rattle.text_load.specs.declared.Plan.{Plan}
 use Rattle.text_load.specs.Plan.{planScanned, planFor, textRuns, heldLefts, heldRights, columnAfter}
 use Rattle.text_load.specs.Runs.{FilledRuns}

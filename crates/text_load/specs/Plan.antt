@@ -1,7 +1,8 @@
 -- What is planned before anything is stored, by what the text comes to; what is answered, and what stands in a column of the run buffer afterwards. Assumes nothing.
-use mathlib.Core.Bool.{Bool, cond, not}
+use mathlib.Core.Path.{_≡_}
+use mathlib.Core.Bool.{cond}
 use mathlib.Core.List.{List, [], map}
-use Prim.Native.Nat.{ℕ}
+use Prim.Native.Nat.{ℕ, min}
 use lib.Dec.{ltb, eqb}
 use lib.ListN.{length, replicate}
 use lib.Seq.{sets}
@@ -55,3 +56,9 @@ heldRights l = map (λ e. held (e .1)) l
 -- a column afterwards: the new entries and 0 in the others, or nothing altered
 unfoldable pub columnAfter : ℕ → List ℕ → List ℕ → List ℕ
 columnAfter n new old = cond (eqb n 0) (sets (replicate (length old) 0) 0 new) old
+
+-- what is planned for a text, and the run buffer afterwards
+pub record Loads (t : List ℕ) (rows : ℕ) (left right : List ℕ) (p : Plan) (left' right' : List ℕ) : Type 0 where
+  pub planned : p ≡ planFor t rows (min (length left) (length right))
+  pub lefts : left' ≡ columnAfter (p .number) (heldLefts (textRuns t)) left
+  pub rights : right' ≡ columnAfter (p .number) (heldRights (textRuns t)) right

@@ -13,15 +13,15 @@ use text_judge::Rows;
 use text_judge::Scanned;
 use text_judge::hold;
 use text_judge::scan;
-use text_reader::line_at;
+use text_reader::bad_line;
 use text_rows::fill_rows;
 ghost use mathlib.Core.Path.{_≡_};
 ghost use mathlib.Core.Bool.{cond};
-ghost use Prim.Native.Nat.{_+_, _<_, _^_, min};
+ghost use Prim.Native.Nat.{_+_, _<_, _^_};
 ghost use lib.ListN.{length, set, replicate};
 ghost use Rattle.meaning_entries.specs.Demand2.{LoadKept};
 ghost use Rattle.text_load.specs.Runs.{isLeft, isRight, FilledRuns};
-ghost use Rattle.text_load.specs.Plan.{refusedPlan, fitPlan, planFor, columnAfter, heldLefts, heldRights, textRuns, planAnswer};
+ghost use Rattle.text_load.specs.Plan.{refusedPlan, fitPlan, planFor, Loads, planAnswer};
 
 // What is known before anything is stored: the refusal, of number 0 where there is none; else the head, how many rows and runs there are, and how many row records are to be filled.
 pub struct Plan {
@@ -82,7 +82,7 @@ pub fn make_plan(text: &[u8], rows: usize, runs: usize) -> Plan
     ensures { λ p. ⌜ p ≡ planFor (now (text .entry)) rows runs ⌝ }
 {
     match scan(text) {
-        Scanned::Bad(at) => refuse(12, line_at(text, at)),
+        Scanned::Bad(at) => refuse(12, bad_line(text, at)),
         Scanned::Fine(head, c) => plan_fine(head, c, rows, runs),
     }
 }
@@ -187,9 +187,7 @@ fn clear(out: &mut [u32])
 
 // The plan for a text, and where nothing refuses its runs in the run buffer.
 pub fn load_runs(text: &[u8], rows: usize, left: &mut [u32], right: &mut [u32]) -> Plan
-    ensures { λ p. ⌜ p ≡ planFor (now (text .entry)) rows (min (length (now (left .entry))) (length (now (right .entry)))) ⌝ }
-    ensures { λ p. ⌜ now (left .exit) ≡ columnAfter (p .number) (heldLefts (textRuns (now (text .entry)))) (now (left .entry)) ⌝ }
-    ensures { λ p. ⌜ now (right .exit) ≡ columnAfter (p .number) (heldRights (textRuns (now (text .entry)))) (now (right .entry)) ⌝ }
+    ensures { λ p. ⌜ Loads (now (text .entry)) rows (now (left .entry)) (now (right .entry)) p (now (left .exit)) (now (right .exit)) ⌝ }
 {
     let room = lesser(left.len(), right.len());
     let p = make_plan(text, rows, room);

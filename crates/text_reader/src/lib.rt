@@ -1,4 +1,4 @@
-// A text and a position in it: the line of a position.
+// A text and a position in it, together: the reader, and the line that it stands in.
 ghost use mathlib.Core.Path.{_≡_};
 ghost use Rattle.meaning_text.specs.Read.{lineOf};
 
@@ -20,4 +20,31 @@ pub fn line_at(text: &[u8], at: usize) -> usize
         }
     }
     n
+}
+
+// A text and a position in it.
+pub struct Reader<'a> {
+    pub text: &'a [u8],
+    pub at: usize,
+}
+
+// The reader of a text at a position.
+pub fn reader_of<'a>(text: &'a [u8], at: usize) -> Reader<'a>
+    ensures { λ r. ⌜ (r .text ≡ text .entry) × (r .at ≡ at) ⌝ }
+{
+    Reader { text, at }
+}
+
+// The line that a reader stands in.
+pub fn line<'a>(r: Reader<'a>) -> usize
+    ensures { λ n. ⌜ n ≡ lineOf (now (r .entry .text)) (r .entry .at) ⌝ }
+{
+    line_at(r.text, r.at)
+}
+
+// The line of a place in a text.
+pub fn bad_line(text: &[u8], at: usize) -> usize
+    ensures { λ n. ⌜ n ≡ lineOf (now (text .entry)) at ⌝ }
+{
+    line(reader_of(text, at))
 }

@@ -27,7 +27,6 @@ use denote.Triple.Clauses.{lasts}
 use denote.Triple.Spec.{tripleOf}
 use denote.Triple.Statement.{Contract, Triple}
 use denote.Triple.Walked.{says}
-use Rattle.meaning_rows.specs.declared.Row.{Row}
 use Rattle.meaning_rows.proofs.Row as T
 use Rattle.meaning_rows.proofs.Row.Laws as T′
 use Rattle.records.proofs.Walk.{calls-kept, calls-plain}

@@ -13,12 +13,12 @@ use Rattle.text_index.specs.declared.State.{State}
 use Rattle.text_index.specs.declared.Moved.{Moved}
 use Rattle.text_index.specs.Step.{indexStep, GoodState}
 use Rattle.text_index.specs.Follow.{index-good}
-use Rattle.text_index.specs.View.{GoodMoved, step-good}
+use Rattle.text_index.specs.View.{step-good}
 use Rattle.text_judge.specs.declared.Tally.{Tally}
 use Rattle.text_judge.specs.Tally.{tellTally, shutTally, Fits}
 use Rattle.text_judge.proofs.Seen.{start-fits, same-fits, tell-fits, shut-fits}
 use Rattle.text_rows.specs.declared.Line.{Line}
-use Rattle.text_rows.specs.Line.{rowMade, lineEnd, noLine, lineFrom, nextLine, lineAt, stored, Ready}
+use Rattle.text_rows.specs.Line.{rowMade, lineEnd, lineFrom, nextLine, lineAt, stored, Ready}
 
 -- what a byte does
 abbrev lineMoved : Moved → State → Tally → ℕ → List ℕ → Line

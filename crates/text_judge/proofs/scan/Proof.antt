@@ -1,4 +1,5 @@
-use mathlib.Core.Path.{_≡_, refl, sym, ap, _∙_}
+-- `text_judge::scan` meets its contract. The invariant: what is left of the text comes to what the text comes to (`Kept`), and no count is above the bytes read (`Fits`). The measure is what is left of the text. Assumes nothing.
+use mathlib.Core.Path.{_≡_, sym, ap, _∙_}
 use Prim.Native.Nat.{_-_}
 use native.Mathlib.Omega.{arith}
 use borrow.Author.Needs.{needs}
@@ -11,13 +12,6 @@ use Rattle.text_judge.specs.Tally.{startTally, tellTally, shutTally, Fit
 use Rattle.text_judge.proofs.Seen.{text-scanned, start-fits, same-fits, tell-fits, shut-fits}
 use Rattle.text_judge.proofs.scan.Statement.{statement}
 use Rattle.text_judge.proofs.scan.Tie as tie
-use Rattle.text_judge.proofs.scan.Reads as reads
-use Rattle.text_judge.proofs.scan.Lts as lts
-use Rattle.text_index.proofs.index_step.Reads as index-step-reads
-use Rattle.text_judge.proofs.no_tally.Reads as no-tally-reads
-use Rattle.text_judge.proofs.scan_end.Reads as scan-end-reads
-use Rattle.text_judge.proofs.shut.Reads as shut-reads
-use Rattle.text_judge.proofs.tell.Reads as tell-reads
 
 abbrev Inv-loop : tie.InvT-loop
 Inv-loop text s₀ t₀ i₀ s t i = Kept tellTally shutTally startTally text s t i × Fits t i
@@ -25,91 +19,69 @@ Inv-loop text s₀ t₀ i₀ s t i = Kept tellTally shutTally startTally text s 
 abbrev μ-loop : tie.MeasureT-loop
 μ-loop text s₀ t₀ i₀ s t i = length text - i
 
--- src/lib.rt:296:9
 no-tally-requires : tie.Need-no-tally-requires Inv-loop μ-loop
 no-tally-requires c κs = search needs
 
--- src/lib.rt:298:5
 loop-holds : tie.Need-loop-holds Inv-loop μ-loop
 loop-holds c = rw (c .no-tally .ensures) (kept-start tellTally shutTally startTally _, start-fits)
 
--- src/lib.rt:299:29
 shared-slice-read-index-step : tie.Need-shared-slice-read-index-step Inv-loop μ-loop
 shared-slice-read-index-step c = omega arith
 
--- src/lib.rt:299:15
 index-step-requires : tie.Need-index-step-requires Inv-loop μ-loop
 index-step-requires c κs = c .before .before .loop .inv .0 .good
 
--- src/lib.rt:300:23
 enum-known-n : tie.Need-enum-known-n Inv-loop μ-loop
 enum-known-n c = search needs
 
--- src/lib.rt:302:17
 add-i : tie.Need-add-i Inv-loop μ-loop
 add-i c = omega arith
 
--- src/lib.rt:298:5
 loop-less : tie.Need-loop-less Inv-loop μ-loop
 loop-less c = omega arith
 
--- src/lib.rt:298:5
 loop-again : tie.Need-loop-again Inv-loop μ-loop
 loop-again c = let a = c .before .before .before in let l = a .before .before .before in (kept-to tellTally shutTally startTally _ (l .loop .s) (l .loop .t) (l .loop .i) (l .loop .inv .0) (a .before .before .loop-test .taken) (c .before .n .given .0 .0) (sym (a .index-step .ensures) ∙ c .before .n .given .1), same-fits (l .loop .t) (l .loop .i) (l .loop .inv .1))
 
--- src/lib.rt:304:26
 enum-known-n-2 : tie.Need-enum-known-n-2 Inv-loop μ-loop
 enum-known-n-2 c = search needs
 
--- src/lib.rt:306:17
 tell-requires : tie.Need-tell-requires Inv-loop μ-loop
 tell-requires c κs = let a = c .before .before .before in let l = a .before .before .before in (l .loop .inv .1 .sound, omega (arith, l .loop .inv .1 .runs, a .before .before .loop-test .taken, l .before .before .before .good))
 
--- src/lib.rt:307:17
 add-i-2 : tie.Need-add-i-2 Inv-loop μ-loop
 add-i-2 c = omega arith
 
--- src/lib.rt:298:5
 loop-less-2 : tie.Need-loop-less-2 Inv-loop μ-loop
 loop-less-2 c = omega arith
 
--- src/lib.rt:298:5
 loop-again-2 : tie.Need-loop-again-2 Inv-loop μ-loop
 loop-again-2 c = let n = c .before .before in let a = n .before .before in let l = a .before .before .before in let z = n .n2 .given .0 .1 .1 .0 in let e : toZ w64 (ofZ w64 z) ≡ z = toZ-ofZ w64 z (search (needs, c .before .known-told2 .given)) in let q = rw e at (c .tell .ensures) in rw q (kept-value tellTally shutTally startTally _ (l .loop .s) (l .loop .t) (l .loop .i) (l .loop .inv .0) (a .before .before .loop-test .taken) (n .n2 .given .0 .0) (n .n2 .given .0 .1 .0) z (sym (a .index-step .ensures) ∙ n .n2 .given .1), tell-fits (n .n2 .given .0 .1 .0) z (l .loop .t) (l .loop .i) (l .loop .inv .1))
 
--- src/lib.rt:309:27
 enum-known-n-3 : tie.Need-enum-known-n-3 Inv-loop μ-loop
 enum-known-n-3 c = search needs
 
--- src/lib.rt:311:17
 shut-requires : tie.Need-shut-requires Inv-loop μ-loop
 shut-requires c κs = let a = c .before .before .before in let l = a .before .before .before in (omega (arith, l .loop .inv .1 .rows, a .before .before .loop-test .taken, l .before .before .before .good), omega (arith, l .loop .inv .1 .runs, a .before .before .loop-test .taken, l .before .before .before .good))
 
--- src/lib.rt:312:17
 add-i-3 : tie.Need-add-i-3 Inv-loop μ-loop
 add-i-3 c = omega arith
 
--- src/lib.rt:298:5
 loop-less-3 : tie.Need-loop-less-3 Inv-loop μ-loop
 loop-less-3 c = omega arith
 
--- src/lib.rt:298:5
 loop-again-3 : tie.Need-loop-again-3 Inv-loop μ-loop
 loop-again-3 c = let n = c .before .before in let a = n .before .before in let l = a .before .before .before in rw (c .shut .ensures) (kept-closed tellTally shutTally startTally _ (l .loop .s) (l .loop .t) (l .loop .i) (l .loop .inv .0) (a .before .before .loop-test .taken) (n .n3 .given .0 .0) (sym (a .index-step .ensures) ∙ n .n3 .given .1), shut-fits (l .loop .t) (l .loop .i) (l .loop .inv .1))
 
--- src/lib.rt:315:17
 enum-told : tie.Need-enum-told Inv-loop μ-loop
 enum-told c = search needs
 
--- src/lib.rt:315:17
 returns : tie.Need-returns Inv-loop μ-loop
 returns c = let a = c .before .before in let l = a .before .before .before in sym (ap keptScanned (kept-refuse tellTally shutTally startTally _ (l .loop .s) (l .loop .t) (l .loop .i) (l .loop .inv .0) (a .before .before .loop-test .taken) (sym (a .index-step .ensures) ∙ c .enum-told .given .1))) ∙ text-scanned _
 
--- src/lib.rt:319:5
 scan-end-requires : tie.Need-scan-end-requires Inv-loop μ-loop
 scan-end-requires c κs = search needs
 
--- src/lib.rt:292:1
 returns-2 : tie.Need-returns-2 Inv-loop μ-loop
 returns-2 c = let l = c .before .before in c .scan-end .ensures ∙ sym (ap keptScanned (kept-end tellTally shutTally startTally _ (l .loop .s) (l .loop .t) (l .loop .i) (l .loop .inv .0) (c .before .loop-test .left))) ∙ text-scanned _
 

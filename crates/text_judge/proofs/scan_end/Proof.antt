@@ -1,38 +1,29 @@
+-- `text_judge::scan_end` meets its contract. By the case. Assumes nothing.
 use borrow.Author.Needs.{needs}
 use Rattle.text_judge.proofs.scan_end.Statement.{statement}
 use Rattle.text_judge.proofs.scan_end.Tie as tie
-use Rattle.text_judge.proofs.scan_end.Reads as reads
-use Rattle.text_judge.proofs.scan_end.Lts as lts
 
--- src/lib.rt:284:28
 enum-told : tie.Need-enum-told
 enum-told c = search needs
 
--- src/lib.rt:285:28
 enum-told-2 : tie.Need-enum-told-2
 enum-told-2 c = search needs
 
--- src/lib.rt:286:29
 enum-told-3 : tie.Need-enum-told-3
 enum-told-3 c = search needs
 
--- src/lib.rt:287:24
 enum-told-4 : tie.Need-enum-told-4
 enum-told-4 c = search needs
 
--- src/lib.rt:278:1
 returns : tie.Need-returns
 returns c = simp (c .enum-told .given .1)
 
--- src/lib.rt:278:1
 returns-2 : tie.Need-returns-2
 returns-2 c = simp (c .enum-told2 .given .1)
 
--- src/lib.rt:278:1
 returns-3 : tie.Need-returns-3
 returns-3 c = simp (c .enum-told3 .given .1)
 
--- src/lib.rt:278:1
 returns-4 : tie.Need-returns-4
 returns-4 c = simp (c .enum-told4 .given .1)
 

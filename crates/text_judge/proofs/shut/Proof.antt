@@ -1,24 +1,18 @@
-use mathlib.Core.Path.{_≡_, refl, sym, ap, _∙_}
+-- `text_judge::shut` meets its contract. By what closing the row gives. Assumes nothing.
+use mathlib.Core.Path.{refl}
 use mir.Syntax.{w32}
 use mir.ValLaws.{toZ-ofZ}
 use Rattle.text_judge.specs.Tally.{shutTally}
 use borrow.Author.Needs.{needs}
 use Rattle.text_judge.proofs.shut.Statement.{statement}
 use Rattle.text_judge.proofs.shut.Tie as tie
-use Rattle.text_judge.proofs.shut.Reads as reads
-use Rattle.text_judge.proofs.shut.Lts as lts
-use Rattle.text_judge.proofs.close_row.Reads as close-row-reads
-use Rattle.text_judge.proofs.no_runs.Reads as no-runs-reads
 
--- src/lib.rt:247:15
 close-row-requires : tie.Need-close-row-requires
 close-row-requires c κs = search needs
 
--- src/lib.rt:252:19
 no-runs-requires : tie.Need-no-runs-requires
 no-runs-requires c κs = search needs
 
--- src/lib.rt:237:1
 returns : tie.Need-returns
 unfolding shutTally
 returns c = let m = c .before in let n = m .before in let s = n .before .before .before .before in let l = toZ-ofZ w32 (s .args .t .row .low) (record { sfits = c .struct-told .given .0 .1 }) in let u = toZ-ofZ w32 (s .args .t .row .up) (record { sfits = c .struct-told .given .1 .0 .1 }) in rw (u, l, n .close-row .ensures, m .no-runs .ensures) refl

@@ -1,23 +1,18 @@
-use mathlib.Core.Path.{_≡_, refl, _∙_}
+-- `text_rows::make_row` meets its contract. On numbers that the machine reads back as they are. Assumes nothing.
+use mathlib.Core.Path.{refl}
 use mir.Syntax.{w32}
 use mir.ValLaws.{toZ-ofZ}
 use Rattle.text_rows.specs.Line.{rowMade}
 use borrow.Author.Needs.{needs}
 use Rattle.text_rows.proofs.make_row.Statement.{statement}
 use Rattle.text_rows.proofs.make_row.Tie as tie
-use Rattle.text_rows.proofs.make_row.Reads as reads
-use Rattle.text_rows.proofs.make_row.Lts as lts
-use Rattle.text_rows.proofs.short.Reads as short-reads
 
--- src/lib.rt:45:16
 short-requires : tie.Need-short-requires
 short-requires c κs = search needs
 
--- src/lib.rt:46:15
 short-requires-2 : tie.Need-short-requires-2
 short-requires-2 c κs = search needs
 
--- src/lib.rt:36:1
 returns : tie.Need-returns
 unfolding rowMade
 returns c = let a = c .before in let s = a .before .before .before .before .before in let l = toZ-ofZ w32 (s .args .t .row .low) (record { sfits = c .struct-told .given .0 .1 }) in let u = toZ-ofZ w32 (s .args .t .row .up) (record { sfits = c .struct-told .given .1 .0 .1 }) in rw (l, u, a .short2 .ensures, a .before .short .ensures) refl
