@@ -5,3 +5,4 @@ pub mod Spanned
 pub mod Turn
 pub mod Calls
 pub mod PartCalls
+pub mod Meaning
