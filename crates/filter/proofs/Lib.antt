@@ -6,3 +6,4 @@ pub mod Turn
 pub mod Calls
 pub mod PartCalls
 pub mod Meaning
+pub mod FindCalls

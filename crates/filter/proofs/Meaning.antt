@@ -9,6 +9,7 @@ use native.Mathlib.Decide.{decLt}
 use lib.Dec.{eqb}
 use lib.IntN.{ℤ, pos, _-ℤ_, natAbs}
 use lib.ListN.{length, getD, replicate, length-replicate, getD-replicate, List·getD-eq-default}
+use borrow.Author.Tests.{lt-ltb}
 use Rattle.meaning_numbers.specs.Sum.{count}
 use Rattle.meaning_numbers.proofs.Count.{count-cong}
 use Rattle.meaning_curves.specs.Curve.{at}
@@ -33,7 +34,7 @@ use Rattle.ranges.proofs.Ends.{range-is}
 use Rattle.candidates.specs.Leading.{leading, Counted}
 use Rattle.candidates.specs.Handed.{stood, Handed}
 use Rattle.candidates.proofs.Leading.{counted-ends}
-use Rattle.filter.specs.Parts.{partRange, PartsReady}
+use Rattle.filter.specs.Parts.{partRange, PartsReady, FoundAll}
 
 -- counts that were cleared
 pub cleared-zeros : (l : List ℕ) (j : ℕ) → getD (filled 0 [] l) j 0 ≡ 0
@@ -50,6 +51,23 @@ leading-cong x r s (suc p) j h = rw (h p (omega arith), leading-cong x r s p j (
 
 counted-cong : (x : Index) (r s : ℕ → ℤ × ℤ) (n p : ℕ) (l : List ℕ) → ((i : ℕ) → i < p → r i ≡ s i) → Counted x r n p l → Counted x s n p l
 counted-cong x r s n p l h c = record { at = λ j. c .at j ∙ rw (leading-cong x r s p j h) }
+
+-- a buffer cleared whole is told by its length
+pub cleared-same : (a c : List ℕ) → length a ≡ length c → _≡_ {A = List ℕ} (filled 0 [] a) (filled 0 [] c)
+unfolding filled
+cleared-same a c e = rw e
+
+-- counts that were raised by all parts, and handed out
+pub found-all : (x : Index) (range : ℕ → ℤ × ℤ) (parts n : ℕ) (scratch : List ℕ) {l r l′ r′ : List ℕ} {k found : ℕ} → Counted x range n parts scratch → Handed (stood scratch parts) n l r l′ r′ k found → FoundAll x range parts n l r l′ r′ k found
+found-all x range parts n scratch {l} {r} c h =
+    let same : (j : ℕ) → j < n → stood scratch parts j ≡ eqb (leading x range parts j) parts = λ j b. rw (c .at j, lt-ltb j n b) in
+    let e = runs-cong (stood scratch parts) (λ j. eqb (leading x range parts j) parts) n same in
+    record {
+      count-is = h .count-is ∙ ap length e;
+      found-is = h .found-is ∙ count-cong (stood scratch parts) (λ j. eqb (leading x range parts j) parts) n same;
+      left-is = h .left-is ∙ ap (λ (y : List (ℕ × ℕ)). filled 0 (map (λ t. t .0) y) l) e;
+      right-is = h .right-is ∙ ap (λ (y : List (ℕ × ℕ)). filled 0 (map (λ t. t .1) y) r) e;
+    }
 
 -- the part of a query that part i is
 part-inside : (m w i : ℕ) → i < m / w → i * w + w ≤ m

@@ -1,4 +1,7 @@
 // The rows that a part's range meets, and all parts of a query in turn: the scratch count of every offset. The runs of neighbouring rows stand side by side, so the rows that a range meets have one stretch of the run buffer.
+use candidates::Found;
+use candidates::clear_scratch;
+use candidates::collect;
 use candidates::raise_runs;
 use layout::find_row;
 use meaning_rows::Head;
@@ -8,6 +11,8 @@ use ranges::Range;
 use ranges::part_range;
 use records::row_at;
 ghost use mathlib.Core.Path.{_≡_};
+ghost use mathlib.Core.List.{[]};
+ghost use Rattle.meaning_entries.specs.Buffers.{filled};
 ghost use Prim.Native.Nat.{_+_, _-_, _*_, _<_, _≤_};
 ghost use lib.ListN.{length, getD, take, drop};
 ghost use Rattle.meaning_rows.specs.Index.{entries, lent};
@@ -16,7 +21,7 @@ ghost use Rattle.candidates.specs.Raise.{reached, Raised};
 ghost use Rattle.candidates.specs.Leading.{Counted};
 ghost use Rattle.records.specs.Records.{zeroRow};
 ghost use Rattle.filter.specs.Met.{clampOf, endOf, reachedRuns, spanOf, metSpan};
-ghost use Rattle.filter.specs.Parts.{partRange, PartsReady};
+ghost use Rattle.filter.specs.Parts.{partRange, PartsReady, FindReady, FoundAll};
 
 // A stretch of the run buffer: the entries from `from` up to and not with `to`.
 pub struct Span {
@@ -163,4 +168,36 @@ pub fn raise_parts(
         raise_part(scratch, left, right, span, w, i, offsets);
         i += 1;
     }
+}
+
+// A number of parts, as the scratch count holds it.
+pub fn part_number(parts: usize) -> u16
+    requires { ⌜ parts ≤ 1024 ⌝ }
+    ensures { λ p. ⌜ p ≡ parts ⌝ }
+{
+    parts as u16
+}
+
+// The offsets that meet all parts handed out as joined runs at the front of `first` and `last`, 0 behind them, and every count made 0; how many runs and offsets they are.
+pub fn find_candidates(
+    scratch: &mut [u16],
+    first: &mut [u32],
+    last: &mut [u32],
+    rows: &[Row],
+    left: &[u32],
+    right: &[u32],
+    low: &[i32],
+    high: &[i32],
+    head: Head,
+    f: Frame,
+    parts: usize,
+    offsets: usize,
+) -> Found
+    requires { ⌜ FindReady head (now rows) (now left) (now right) (now low) (now high) f parts offsets (now scratch) (now first) (now last) ⌝ }
+    ensures { λ r. ⌜ FoundAll (lent head (now (rows .entry)) (now (left .entry)) (now (right .entry))) (partRange f (now (low .entry)) (now (high .entry)) (head .window)) parts offsets (now (first .entry)) (now (last .entry)) (now (first .exit)) (now (last .exit)) (r .runs) (r .candidates) × (now (scratch .exit) ≡ filled 0 [] (now (scratch .entry))) ⌝ }
+{
+    let p = part_number(parts);
+    clear_scratch(scratch);
+    raise_parts(scratch, rows, left, right, low, high, head, f, parts, offsets);
+    collect(scratch, p, offsets, first, last)
 }
