@@ -1,4 +1,4 @@
--- What a search has of the scratch count: where its parts are ready (`parts-ready`) and all of them were raised, the offsets that stand at their number are the candidates of document 01 (`stood-candidates`), and what is handed out are their joined runs and their count (`handed-candidates`). Assumes nothing.
+-- What a search has of the scratch count: where a query was made ready, all parts can be asked (`parts-ready`, `find-ready`); the offsets that meet all of them are the candidates of document 01 (`leading-candidates`), and what is handed out are their joined runs and their count (`found-candidates`). Assumes nothing.
 use mathlib.Core.Path.{_≡_, refl, sym, ap, _∙_}
 use mathlib.Core.Bool.{Bool}
 use mathlib.Core.List.{List, [], map}
@@ -33,8 +33,8 @@ use Rattle.ranges.proofs.Sizes.{frame-in}
 use Rattle.ranges.proofs.Ends.{range-is}
 use Rattle.candidates.specs.Leading.{leading, Counted}
 use Rattle.candidates.specs.Handed.{stood, Handed}
-use Rattle.candidates.proofs.Leading.{counted-ends}
-use Rattle.filter.specs.Parts.{partRange, PartsReady, FoundAll}
+use Rattle.candidates.proofs.Leading.{leading-all}
+use Rattle.filter.specs.Parts.{partRange, PartsReady, FindReady, FoundAll}
 
 -- counts that were cleared
 pub cleared-zeros : (l : List ℕ) (j : ℕ) → getD (filled 0 [] l) j 0 ≡ 0
@@ -44,13 +44,14 @@ cleared-zeros l j = elim (decLt j (length l - 0)) [
   | no n ↦ List·getD-eq-default (replicate (length l - 0) 0) 0 {n = j} (omega (arith, length-replicate {A = ℕ} (length l - 0) 0))
 ]
 
+length-cleared : (l : List ℕ) → length (filled 0 [] l) ≡ length l
+unfolding filled
+length-cleared l = omega (arith, length-replicate {A = ℕ} (length l - 0) 0)
+
 leading-cong : (x : Index) (r s : ℕ → ℤ × ℤ) (p j : ℕ) → ((i : ℕ) → i < p → r i ≡ s i) → leading x r p j ≡ leading x s p j
 unfolding leading
 leading-cong x r s zero j h = refl
 leading-cong x r s (suc p) j h = rw (h p (omega arith), leading-cong x r s p j (λ i l. h i (le-step l)))
-
-counted-cong : (x : Index) (r s : ℕ → ℤ × ℤ) (n p : ℕ) (l : List ℕ) → ((i : ℕ) → i < p → r i ≡ s i) → Counted x r n p l → Counted x s n p l
-counted-cong x r s n p l h c = record { at = λ j. c .at j ∙ rw (leading-cong x r s p j h) }
 
 -- a buffer cleared whole is told by its length
 pub cleared-same : (a c : List ℕ) → length a ≡ length c → _≡_ {A = List ℕ} (filled 0 [] a) (filled 0 [] c)
@@ -105,30 +106,43 @@ module _ (z : Question) (head : Head) (rows : List Row) (left right : List ℕ) 
     zeros = zeros;
   }
 
+  -- what finding the candidates asks, whatever the counts are
+  pub find-ready : {scratch first last : List ℕ} → WellFormed x → QueryIn m w (z .limits) values spread → offsetCount z ≤ length scratch → offsetCount z ≤ length first → offsetCount z ≤ length last → offsetCount z ≤ 1048576
+      → FindReady head rows left right low high f p (offsetCount z) scratch first last
+  find-ready {scratch} formed q room first-room last-room few = record {
+    ready = parts-ready formed q (omega (arith, length-cleared scratch)) (cleared-zeros scratch);
+    first-room = first-room;
+    last-room = last-room;
+    few = few;
+  }
+
   part-range-is : (i : ℕ) → i < p → partRange f low high w i ≡ rangeOf (z .kind) (at (z .query)) m (z .limits) w i
   part-range-is i h = range-is (z .limits) w i good ready (part-inside m w i h)
 
-  module _ {scratch : List ℕ} (c : Counted x (partRange f low high w) (offsetCount z) p scratch) where
-    pub stood-candidates : (j : ℕ) → j < offsetCount z → stood scratch p j ≡ candidateAt x z j
-    unfolding candidateAt ranges
-    stood-candidates j l =
-        counted-ends x (rangeOf (z .kind) (at (z .query)) m (z .limits) w) (offsetCount z) p scratch
-        (counted-cong x (partRange f low high w) (rangeOf (z .kind) (at (z .query)) m (z .limits) w) (offsetCount z) p scratch part-range-is c) j l
+  -- the offsets that meet all parts are the candidates
+  abbrev all : ℕ → Bool
+  all j = eqb (leading x (partRange f low high w) p j) p
 
-    runs-are : runs (stood scratch p) (offsetCount z) ≡ candidateRuns x z
-    unfolding candidateRuns
-    runs-are = runs-cong (stood scratch p) (candidateAt x z) (offsetCount z) stood-candidates
+  pub leading-candidates : (j : ℕ) → all j ≡ candidateAt x z j
+  unfolding candidateAt ranges
+  leading-candidates j =
+      let range = rangeOf (z .kind) (at (z .query)) m (z .limits) w in
+      ap (λ (k : ℕ). eqb k p) (leading-cong x (partRange f low high w) range p j part-range-is) ∙ leading-all x range p j
 
-    count-is : count (stood scratch p) (offsetCount z) ≡ candidateCount x z
-    unfolding candidateCount
-    count-is = count-cong (stood scratch p) (candidateAt x z) (offsetCount z) stood-candidates
+  runs-are : runs all (offsetCount z) ≡ candidateRuns x z
+  unfolding candidateRuns
+  runs-are = runs-cong all (candidateAt x z) (offsetCount z) (λ j _. leading-candidates j)
 
-    -- what `collect` hands out
-    pub handed-candidates : {l r l′ r′ : List ℕ} {k found : ℕ} → Handed (stood scratch p) (offsetCount z) l r l′ r′ k found
-        → (l′ ≡ filled 0 (map (λ y. y .0) (candidateRuns x z)) l) × (r′ ≡ filled 0 (map (λ y. y .1) (candidateRuns x z)) r) × (k ≡ length (candidateRuns x z)) × (found ≡ candidateCount x z)
-    handed-candidates {l} {r} h = (
-      h .left-is ∙ ap (λ (y : List (ℕ × ℕ)). filled 0 (map (λ e. e .0) y) l) runs-are,
-      h .right-is ∙ ap (λ (y : List (ℕ × ℕ)). filled 0 (map (λ e. e .1) y) r) runs-are,
-      h .count-is ∙ ap length runs-are,
-      h .found-is ∙ count-is,
-    )
+  count-is : count all (offsetCount z) ≡ candidateCount x z
+  unfolding candidateCount
+  count-is = count-cong all (candidateAt x z) (offsetCount z) (λ j _. leading-candidates j)
+
+  -- what is handed out: the candidates' joined runs, 0 behind them, and how many they are
+  pub found-candidates : {l r l′ r′ : List ℕ} {k found : ℕ} → FoundAll x (partRange f low high w) p (offsetCount z) l r l′ r′ k found
+      → (l′ ≡ filled 0 (map (λ y. y .0) (candidateRuns x z)) l) × (r′ ≡ filled 0 (map (λ y. y .1) (candidateRuns x z)) r) × (k ≡ length (candidateRuns x z)) × (found ≡ candidateCount x z)
+  found-candidates {l} {r} h = (
+    h .left-is ∙ ap (λ (y : List (ℕ × ℕ)). filled 0 (map (λ e. e .0) y) l) runs-are,
+    h .right-is ∙ ap (λ (y : List (ℕ × ℕ)). filled 0 (map (λ e. e .1) y) r) runs-are,
+    h .count-is ∙ ap length runs-are,
+    h .found-is ∙ count-is,
+  )

@@ -198,6 +198,17 @@ pub fn find_candidates(
 {
     let p = part_number(parts);
     clear_scratch(scratch);
-    raise_parts(scratch, rows, left, right, low, high, head, f, parts, offsets);
+    raise_parts(
+        scratch,
+        rows,
+        left,
+        right,
+        low,
+        high,
+        head,
+        f,
+        parts,
+        offsets,
+    );
     collect(scratch, p, offsets, first, last)
 }
