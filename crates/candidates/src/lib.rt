@@ -154,8 +154,7 @@ pub fn collect(
     right: &mut [u32],
 ) -> Found
     requires { ⌜ (offsets ≤ length (now scratch)) × (offsets ≤ length (now left)) × (offsets ≤ length (now right)) × (offsets ≤ 1048576) ⌝ }
-    ensures { λ r. ⌜ Handed (stood (now (scratch .entry)) p) offsets (now (left .entry)) (now (right .entry)) (now (left .exit)) (now (right .exit)) (r .runs) (r .candidates) ⌝ }
-    ensures { λ _. ⌜ now (scratch .exit) ≡ filled 0 [] (now (scratch .entry)) ⌝ }
+    ensures { λ r. ⌜ Handed (stood (now (scratch .entry)) p) offsets (now (left .entry)) (now (right .entry)) (now (left .exit)) (now (right .exit)) (r .runs) (r .candidates) × (now (scratch .exit) ≡ filled 0 [] (now (scratch .entry))) ⌝ }
 {
     let found = write_runs(scratch, p, offsets, left, right);
     let runs = found.runs;

@@ -1,2 +1,3 @@
 -- What the contracts of filter cite.
 pub mod Met
+pub mod Parts

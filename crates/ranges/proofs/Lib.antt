@@ -2,3 +2,4 @@
 pub mod Sizes
 pub mod Same
 pub mod Ends
+pub mod Fits
