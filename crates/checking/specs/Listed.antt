@@ -5,7 +5,7 @@ use Prim.Native.Nat.{ℕ, zero, suc, _+_, _-_, _<_, _≤_, min}
 use native.Mathlib.Omega.{arith}
 use native.Mathlib.Numerals.{add-one}
 use lib.ListN.{length, take, set, length-append, length-set, length-take}
-use lib.Seq.{take-all, take-nil, take-suc-set}
+use lib.Seq.{take-all, take-suc-set}
 use Rattle.meaning_entries.specs.Buffers.{filled, pairRoom}
 use Rattle.meaning_entries.specs.Demand3.{pairs}
 
@@ -96,23 +96,15 @@ list-full k j d a b h =
 -- ---- the list at the end
 
 -- the columns of the first entries
-first-offsets : (k : ℕ) (a b : List ℕ) → map (λ x. x .0) (take k (pairs a b)) ≡ take (min k (pairRoom a b)) a
+first-columns : (k : ℕ) (a b : List ℕ) → let i = min k (pairRoom a b) in (map (λ x. x .0) (take k (pairs a b)) ≡ take i a) × (map (λ x. x .1) (take k (pairs a b)) ≡ take i b)
 unfolding pairs
-first-offsets zero a b = let e : min 0 (pairRoom a b) ≡ 0 = omega arith in rw e
-first-offsets (suc k) [] b = rw (take-nil {A = ℕ} (min (suc k) (pairRoom [] b)))
-first-offsets (suc k) (x ∷ a) [] = let e : min (suc k) (min (suc (length a)) 0) ≡ 0 = omega arith in rw e
-first-offsets (suc k) (x ∷ a) (y ∷ b) =
+first-columns zero a b = let e : min 0 (pairRoom a b) ≡ 0 = omega arith in rw e (refl, refl)
+first-columns (suc k) [] b = let e : min (suc k) (min 0 (length b)) ≡ 0 = omega arith in rw e (refl, refl)
+first-columns (suc k) (x ∷ a) [] = let e : min (suc k) (min (suc (length a)) 0) ≡ 0 = omega arith in rw e (refl, refl)
+first-columns (suc k) (x ∷ a) (y ∷ b) =
     let e : min (suc k) (min (suc (length a)) (suc (length b))) ≡ suc (min k (min (length a) (length b))) = omega arith in
-    rw e (ap (λ (l : List ℕ). x ∷ l) (first-offsets k a b))
-
-first-distances : (k : ℕ) (a b : List ℕ) → map (λ x. x .1) (take k (pairs a b)) ≡ take (min k (pairRoom a b)) b
-unfolding pairs
-first-distances zero a b = let e : min 0 (pairRoom a b) ≡ 0 = omega arith in rw e
-first-distances (suc k) [] b = let e : min (suc k) (min 0 (length b)) ≡ 0 = omega arith in rw e
-first-distances (suc k) (x ∷ a) [] = rw (take-nil {A = ℕ} (min (suc k) (pairRoom (x ∷ a) [])))
-first-distances (suc k) (x ∷ a) (y ∷ b) =
-    let e : min (suc k) (min (suc (length a)) (suc (length b))) ≡ suc (min k (min (length a) (length b))) = omega arith in
-    rw e (ap (λ (l : List ℕ). y ∷ l) (first-distances k a b))
+    let r = first-columns k a b in
+    rw e (ap (λ (l : List ℕ). x ∷ l) (r .0), ap (λ (l : List ℕ). y ∷ l) (r .1))
 
 -- everything from place e on is made 0, where the list ends
 pub list-filled : {l : List (ℕ × ℕ)} {r e k : ℕ} {a b a′ b′ a″ b″ : List ℕ} → Listed l 0 r a b a′ b′ → e ≡ min r k → k ≡ min (length a′) (length b′) → a″ ≡ filled 0 (take e a′) a′ → b″ ≡ filled 0 (take e b′) b′
@@ -123,6 +115,6 @@ list-filled {l} {r} {e} {k} {a} {b} {a′} {b′} s end room f g =
     let front : take r (pairs a′ b′) ≡ take (pairRoom a b) l = s .front in
     record {
       count = omega (arith, s .count);
-      offsets-are = cc (f, here, s .as-many-offsets, front, first-offsets r a′ b′);
-      distances-are = cc (g, here, s .as-many-distances, front, first-distances r a′ b′);
+      offsets-are = cc (f, here, s .as-many-offsets, front, first-columns r a′ b′ .0);
+      distances-are = cc (g, here, s .as-many-distances, front, first-columns r a′ b′ .1);
     }

@@ -38,7 +38,7 @@ check-run-requires c κs =
     let v = t .before .loop .inv in
     let p = o t .pre in
     let h = run-inside (p .1 .1) (t .before .loop .i) (t .loop-test .taken) in
-    (p .0, ((v .0 ∙ p .1 .0 .0, omega (arith, v .1, p .1 .0 .1)), (v .2 .few (t .loop-test .taken), h .0, omega (arith, h .1))))
+    (p .0, ((v .0 ∙ p .1 .0 .0, omega (arith, v .1, p .1 .0 .1)), (v .2 .few (t .loop-test .taken), omega (arith, h .0), omega (arith, h .0, h .1))))
 
 loop-again : tie.Need-loop-again Inv-loop μ-loop
 loop-again c =

@@ -36,7 +36,7 @@ match-at-requires c κs =
     let g = c .before .before .before in
     let p = o g .pre in
     let v = g .loop .inv in
-    let h = inside g (c .before .before .loop-test .taken) in (
+    let h = inside g (omega (arith, c .before .before .loop-test .taken)) in (
       h,
       ((p .0 .some, p .0 .few), ((v .0 ∙ p .1 .0 .0, omega (arith, v .1, p .1 .0 .1)), ((p .0 .values, p .0 .query, p .0 .scale), ((λ e. v .2 .sums e h), p .0 .ready)))),
     )
@@ -44,20 +44,20 @@ match-at-requires c κs =
 list-match-requires : tie.Need-list-match-requires Inv-loop μ-loop
 list-match-requires c κs =
     let g = c .before .before .before .before .before .before .before .before .before in
-    let h = inside g (c .before .before .before .before .before .before .before .before .loop-test .taken) in
+    let h = inside g (omega (arith, c .before .before .before .before .before .before .before .before .loop-test .taken)) in
     (omega (arith, o g .pre .0 .long), omega (arith, o g .pre .0 .long, g .loop .inv .2 .few))
 
 slide-sums-requires : tie.Need-slide-sums-requires Inv-loop μ-loop
 slide-sums-requires c κs =
     let g = c .before .before .before .before .before .before .before .before .before .before .before .before .before .before in
-    let h = inside g (c .before .before .before .before .before .before .before .before .before .before .before .before .before .loop-test .taken) in
+    let h = inside g (omega (arith, c .before .before .before .before .before .before .before .before .before .before .before .before .before .loop-test .taken)) in
     let p = o g .pre .0 in
     ((h, p .few, p .values), g .loop .inv .2 .sums)
 
 add-j : tie.Need-add-j Inv-loop μ-loop
 add-j c =
     let g = c .before .before .before .before .before .before .before .before .before .before .before .before .before .before .before in
-    let h = inside g (c .before .before .before .before .before .before .before .before .before .before .before .before .before .before .loop-test .taken) in
+    let h = inside g (omega (arith, c .before .before .before .before .before .before .before .before .before .before .before .before .before .before .loop-test .taken)) in
     omega (arith, h, o g .pre .0 .long)
 
 loop-less : tie.Need-loop-less Inv-loop μ-loop
@@ -71,7 +71,7 @@ loop-again c =
     let v = g .loop .inv in (
       a .before .before .before .before .before .room .given ∙ v .0,
       a .before .before .before .before .row .given ∙ v .1,
-      run-next (t .before .before .before .loop-test .taken) (v .2) (t .match-at .ensures) (a .list-match .ensures) (c .slide-sums .ensures),
+      run-next (omega (arith, t .before .before .before .loop-test .taken)) (v .2) (t .match-at .ensures) (a .list-match .ensures) (c .slide-sums .ensures),
     )
 
 same-length : tie.Need-same-length Inv-loop μ-loop
