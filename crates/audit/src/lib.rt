@@ -4,7 +4,7 @@ ghost use mathlib.Core.Bool.{true};
 ghost use Prim.Native.Nat.{_+_, _-_, _<_, _≤_};
 ghost use lib.IntN.{pos, _+ℤ_, _-ℤ_};
 ghost use lib.Signed.{ltZ};
-ghost use Rattle.meaning_curves.specs.Curve.{at, windowSum};
+ghost use Rattle.meaning_curves.specs.Curve.{windowSum};
 ghost use Rattle.meaning_curves.proofs.Values.{AllIn};
 ghost use lib.ListN.{length};
 ghost use Rattle.meaning_curves.specs.Limits.{mostValues, lengthIn};
@@ -21,6 +21,7 @@ use meaning_rows::Row;
 use records::chunk_at;
 use values::Place;
 use values::first_outside;
+use values::next_window;
 use values::window_sum;
 
 // What is known after some rows: that the audit goes on, or else the row and offset filed wrongly.
@@ -44,24 +45,19 @@ pub fn holds(low: i32, up: i32, sum: i32) -> bool
     (low <= sum) & (sum < up)
 }
 
-// The sum of the next window, one value added and one taken away; past the end of the series stands 0.
-pub fn slide(s: &[i32], w: usize, j: usize, sum: i32) -> i32
-    requires { ⌜ j + w ≤ length (now s) ⌝ }
+// The sum of the next window of a run that ends at `last`; at its end the sum stays.
+pub fn slide(s: &[i32], w: usize, j: usize, last: usize, sum: i32) -> i32
+    requires { ⌜ last + w ≤ length (now s) ⌝ }
     requires { ⌜ w ≤ 256 ⌝ }
     requires { ⌜ AllIn (now s) ⌝ }
     requires { ⌜ sum ≡ windowSum (now s) w j ⌝ }
-    ensures { λ r. ⌜ r ≡ windowSum (now (s .entry)) w (j + 1) ⌝ }
+    ensures { λ r. ⌜ (j < last → r ≡ windowSum (now (s .entry)) w (j + 1)) ⌝ }
 {
-    let x = value_at(s, j);
-    let y = value_at(s, j + w);
-    sum - x + y
-}
-
-// The value at a place, 0 past the end.
-pub fn value_at(s: &[i32], k: usize) -> i32
-    ensures { λ x. ⌜ x ≡ at (now (s .entry)) k ⌝ }
-{
-    if k < s.len() { s[k] } else { 0 }
+    if j < last {
+        next_window(s, w, j, sum)
+    } else {
+        sum
+    }
 }
 
 // The rows of a chunk, counted on from `from`, after a state. The loops are left at the first offset filed wrongly.
@@ -100,7 +96,7 @@ pub fn audit_chunk(
                     offset = j;
                     break 'rows;
                 }
-                sum = slide(series, w, j, sum);
+                sum = slide(series, w, j, last, sum);
                 j += 1;
             }
             i += 1;

@@ -73,7 +73,7 @@ pub fn next_window(s: &[i32], w: usize, j: usize, sum: i32) -> i32
 {
     let x = s[j];
     let y = s[j + w];
-    sum - x + y
+    sum + (y - x)
 }
 
 // The sum of the raised values of a stretch, and the sum of their squares.

@@ -1,4 +1,4 @@
--- `audit::audit_chunk` meets its contract. The invariant of each loop: what is filed wrongly first among what is left to audit is what is filed wrongly first in the chunk, and nothing is filed wrongly so far; of the innermost loop, besides, that the sum is that of the offset's window.
+-- `audit::audit_chunk` meets its contract. The invariant of each loop: what is filed wrongly first among what is left to audit is what is filed wrongly first in the chunk, and nothing is filed wrongly so far; of the innermost loop, besides, that the sum is that of the offset's window, where the run has not ended.
 -- The measures are how many rows, runs and offsets are left. Assumes nothing.
 use borrow.Author.Needs.{needs}
 use borrow.Author.Tests.{not-true, not-false}
@@ -24,7 +24,7 @@ use Rattle.audit.proofs.audit_chunk.Tie as tie
 
 abbrev Inv-offsets : tie.InvT-offsets
 Inv-offsets from series left right chunk w go₀ row₀ offset₀ k r i end j₀ last sum₀ go row offset j sum =
-    (j ≤ last + 1) × Still go row offset × (toZ w32 sum ≡ windowSum series w j) × (inOffsets series w left right (from + k) r j last (i + 1) end (later series w left right from chunk k) ≡ wrongOf series w left right from chunk)
+    (j ≤ last + 1) × Still go row offset × (j ≤ last → toZ w32 sum ≡ windowSum series w j) × (inOffsets series w left right (from + k) r j last (i + 1) end (later series w left right from chunk k) ≡ wrongOf series w left right from chunk)
 
 abbrev μ-offsets : tie.MeasureT-offsets
 μ-offsets from series left right chunk w go₀ row₀ offset₀ k r i end j₀ last sum₀ go row offset j sum = last + 1 - j
@@ -130,7 +130,7 @@ module _ (c : tie.After-holds Inv-offsets μ-offsets Inv-runs μ-runs Inv-rows �
   told =
       let a = toZ-ofZ w32 (row .low) (record { sfits = c .before .struct-told2 .given .0 .1 }) in
       let b = toZ-ofZ w32 (row .up) (record { sfits = c .before .struct-told2 .given .1 .0 .1 }) in
-      c .holds .ensures ∙ (λ i. inside (a i) (b i) (here .offsets .inv .2 i))
+      c .holds .ensures ∙ (λ i. inside (a i) (b i) (here .offsets .inv .2 (c .before .before .before .offsets-test .taken) i))
 
 -- ---- the needs
 
@@ -201,7 +201,7 @@ offsets-holds c =
     let o = up-runs a in (
       omega (arith, upward a h),
       a .runs .inv .2,
-      toZ-ofZ w32 (c .window-sum .result) (record { sfits = c .window-sum .ok }) ∙ c .window-sum .ensures,
+      (λ _. toZ-ofZ w32 (c .window-sum .result) (record { sfits = c .window-sum .ok }) ∙ c .window-sum .ensures),
       run-begins (series o) (w o) (left o) (right o) (from o + o .rows .k) (r o) (a .runs .i) (end a) (after a) h (reads a .in-left) (reads a .in-right) ∙ a .runs .inv .3,
     )
 
@@ -220,7 +220,7 @@ slide-requires c κs =
     let a = up-offsets b in
     let h = b .before .before .before .before .runs-test .taken in
     let y = ready (up-runs a) in
-    (omega (arith, below a h, c .before .before .before .before .offsets-test .taken), (y .window, (y .values, b .offsets .inv .2)))
+    (below a h, (y .window, (y .values, b .offsets .inv .2 (c .before .before .before .before .offsets-test .taken))))
 
 add-j : tie.Need-add-j Inv-offsets μ-offsets Inv-runs μ-runs Inv-rows μ-rows
 add-j c =
@@ -241,7 +241,7 @@ offsets-again c =
     let g = c .before .before in (
       omega (arith, t),
       b .offsets .inv .1,
-      toZ-ofZ w32 (c .slide .result) (record { sfits = c .slide .ok }) ∙ c .slide .ensures,
+      (λ more. toZ-ofZ w32 (c .slide .result) (record { sfits = c .slide .ok }) ∙ c .slide .ensures (omega (arith, more))),
       filed-right (series o) (w o) (left o) (right o) (from o + o .rows .k) (r o) (b .offsets .j) (last a) (a .runs .i + 1) (end a) (after a) t (sym (told g) ∙ not-false (g .holds .result) (c .before .if2 .left)) ∙ b .offsets .inv .3,
     )
 
