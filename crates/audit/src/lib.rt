@@ -1,4 +1,4 @@
-// The audit of a lent index against a series (01, Rows): refused, or yes, or the first row and offset filed wrongly, or how many windows stand nowhere. Any content may be lent. The sum slides inside a run.
+// The audit of a lent index against a series (01, Rows): refused, or yes, or the first row and offset filed wrongly, or how many windows stand nowhere. Any content may be lent. The sum slides inside a run: a value comes in, the window is tested, a value goes out, so no read needs a test.
 ghost use mathlib.Core.Path.{_≡_};
 ghost use mathlib.Core.Bool.{true};
 ghost use Prim.Native.Nat.{_+_, _-_, _<_, _≤_};
@@ -21,7 +21,6 @@ use meaning_rows::Row;
 use records::chunk_at;
 use values::Place;
 use values::first_outside;
-use values::next_window;
 use values::window_sum;
 
 // What is known after some rows: that the audit goes on, or else the row and offset filed wrongly.
@@ -45,19 +44,28 @@ pub fn holds(low: i32, up: i32, sum: i32) -> bool
     (low <= sum) & (sum < up)
 }
 
-// The sum of the next window of a run that ends at `last`; at its end the sum stays.
-pub fn slide(s: &[i32], w: usize, j: usize, last: usize, sum: i32) -> i32
-    requires { ⌜ last + w ≤ length (now s) ⌝ }
-    requires { ⌜ w ≤ 256 ⌝ }
+// The sum of a window, of the sum of its values but the last: that one comes in.
+pub fn value_in(s: &[i32], rest: usize, j: usize, part: i32) -> i32
+    requires { ⌜ j + rest < length (now s) ⌝ }
+    requires { ⌜ rest < 256 ⌝ }
     requires { ⌜ AllIn (now s) ⌝ }
-    requires { ⌜ sum ≡ windowSum (now s) w j ⌝ }
-    ensures { λ r. ⌜ (j < last → r ≡ windowSum (now (s .entry)) w (j + 1)) ⌝ }
+    requires { ⌜ part ≡ windowSum (now s) rest j ⌝ }
+    ensures { λ r. ⌜ r ≡ windowSum (now (s .entry)) (rest + 1) j ⌝ }
 {
-    if j < last {
-        next_window(s, w, j, sum)
-    } else {
-        sum
-    }
+    let x = s[j + rest];
+    part + x
+}
+
+// The sum of the next window's values but the last: the first of this window goes out.
+pub fn value_out(s: &[i32], rest: usize, j: usize, sum: i32) -> i32
+    requires { ⌜ j + rest < length (now s) ⌝ }
+    requires { ⌜ rest < 256 ⌝ }
+    requires { ⌜ AllIn (now s) ⌝ }
+    requires { ⌜ sum ≡ windowSum (now s) (rest + 1) j ⌝ }
+    ensures { λ r. ⌜ r ≡ windowSum (now (s .entry)) rest (j + 1) ⌝ }
+{
+    let x = s[j];
+    sum - x
 }
 
 // The rows of a chunk, counted on from `from`, after a state. The loops are left at the first offset filed wrongly.
@@ -77,6 +85,7 @@ pub fn audit_chunk(
         return s;
     }
     let w = head.window as usize;
+    let rest = w - 1;
     let mut go = true;
     let mut row: usize = 0;
     let mut offset: usize = 0;
@@ -88,15 +97,16 @@ pub fn audit_chunk(
         'runs: while i < end {
             let mut j = left[i] as usize;
             let last = right[i] as usize;
-            let mut sum = window_sum(series, w, j);
+            let mut part = window_sum(series, rest, j);
             'offsets: while j <= last {
+                let sum = value_in(series, rest, j, part);
                 if !holds(r.low, r.up, sum) {
                     go = false;
                     row = from + k;
                     offset = j;
                     break 'rows;
                 }
-                sum = slide(series, w, j, last, sum);
+                part = value_out(series, rest, j, sum);
                 j += 1;
             }
             i += 1;

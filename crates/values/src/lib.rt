@@ -73,7 +73,7 @@ pub fn next_window(s: &[i32], w: usize, j: usize, sum: i32) -> i32
 {
     let x = s[j];
     let y = s[j + w];
-    sum + (y - x)
+    sum - x + y
 }
 
 // The sum of the raised values of a stretch, and the sum of their squares.

@@ -35,7 +35,7 @@ module _ (c : tie.After-y) where
   Y = toZ w32 (ofZ w32 y)
 
   abbrev D : ℤ
-  D = toZ w32 (ofZ w32 (Y -ℤ X))
+  D = toZ w32 (ofZ w32 (S -ℤ X))
 
   x-in : InLimits x
   x-in = o .pre .1 .1 .0 .at (o .args .j)
@@ -50,13 +50,15 @@ module _ (c : tie.After-y) where
   y-back = in-back y-in
 
 sub-result : tie.Need-sub-result
-sub-result c = omega (zmach32, z-sub (Y c) (X c), z-eq (x-back c), z-eq (y-back c), x-in c, y-in c)
+sub-result c =
+    let a = o c .args in
+    omega (zmach32, z-sub (S c) (X c), window-small (a .w) (a .j) (o c .pre .1 .1 .0), z-eq (x-back c), x-in c, o c .fits .sum)
 
 add-result : tie.Need-add-result
 add-result c =
     let a = o c .args in
     let f = sub-result c in
-    omega (zmach32, z-sub (Y c) (X c), z-add (S c) (D c), window-small (a .w) (a .j) (o c .pre .1 .1 .0), z-eq (x-back c), z-eq (y-back c), x-in c, y-in c, o c .fits .sum)
+    omega (zmach32, z-sub (S c) (X c), z-add (D c) (Y c), window-small (a .w) (a .j) (o c .pre .1 .1 .0), z-eq (x-back c), z-eq (y-back c), x-in c, y-in c)
 
 returns : tie.Need-returns
 returns c =
@@ -66,8 +68,8 @@ returns c =
     let s = a .s .now in
     omega (
       zmach32,
-      z-sub (Y c) (X c),
-      z-add (S c) (D c),
+      z-sub (S c) (X c),
+      z-add (D c) (Y c),
       z-eq (x-back c),
       z-eq (y-back c),
       z-eq (window-next s (a .w) (a .j)),
