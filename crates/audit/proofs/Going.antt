@@ -187,10 +187,11 @@ module _ (series : List ℤ) (h : Head) (rows : List Row) (left right : List ℕ
   pub auditing-ready : (s : State) (from : ℕ) → from + 64 < 2 ^ 64 → Auditing s from → s .go ≡ true → Ready series h left right (chunkOf rows from) from
   auditing-ready s from l a t =
       let g = a .on t in
-      let w = g .sound .formed .head .window .most in
+      let w = g .sound .formed .head .window in
       record {
         values = g .sound .values;
-        window = w;
+        least = w .least;
+        window = w .most;
         far = l;
         size = chunk-length rows from;
         rows = λ k b. chunk-reads series h rows left right (g .sound .fits) (g .sound .formed) from k b;

@@ -29,6 +29,7 @@ pub record Reads (n w : ℕ) (left right : List ℕ) (r : Row) : Type 0 where
 
 pub record Ready (series : List ℤ) (h : Head) (left right : List ℕ) (chunk : List Row) (from : ℕ) : Type 0 where
   pub values : AllIn series
+  pub least : 1 ≤ h .window
   pub window : h .window ≤ 256
   pub far : from + 64 < 2 ^ 64
   pub size : length chunk ≡ 64

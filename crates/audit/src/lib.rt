@@ -1,8 +1,8 @@
-// The audit of a lent index against a series (01, Rows): refused, or yes, or the first row and offset filed wrongly, or how many windows stand nowhere. Any content may be lent. The sum slides inside a run.
+// The audit of a lent index against a series (01, Rows): refused, or yes, or the first row and offset filed wrongly, or how many windows stand nowhere. Any content may be lent. The sum slides inside a run: a value comes in, the window is tested, a value goes out, so no read needs a test.
 ghost use mathlib.Core.Path.{_≡_};
 ghost use mathlib.Core.Bool.{true};
 ghost use Prim.Native.Nat.{_+_, _-_, _<_, _≤_};
-ghost use Rattle.meaning_curves.specs.Curve.{at, windowSum};
+ghost use Rattle.meaning_curves.specs.Curve.{windowSum};
 ghost use Rattle.meaning_curves.proofs.Values.{AllIn};
 ghost use lib.ListN.{length};
 ghost use Rattle.meaning_rows.specs.Range.{inside};
@@ -44,24 +44,28 @@ pub fn holds(low: i32, up: i32, sum: i32) -> bool
     (low <= sum) & (sum < up)
 }
 
-// The sum of the next window, one value added and one taken away; past the end of the series stands 0.
-pub fn slide(s: &[i32], w: usize, j: usize, sum: i32) -> i32
-    requires { ⌜ j + w ≤ length (now s) ⌝ }
-    requires { ⌜ w ≤ 256 ⌝ }
+// The sum of a window, of the sum of its values but the last: that one comes in.
+pub fn value_in(s: &[i32], rest: usize, j: usize, part: i32) -> i32
+    requires { ⌜ j + rest < length (now s) ⌝ }
+    requires { ⌜ rest < 256 ⌝ }
     requires { ⌜ AllIn (now s) ⌝ }
-    requires { ⌜ sum ≡ windowSum (now s) w j ⌝ }
-    ensures { λ r. ⌜ r ≡ windowSum (now (s .entry)) w (j + 1) ⌝ }
+    requires { ⌜ part ≡ windowSum (now s) rest j ⌝ }
+    ensures { λ r. ⌜ r ≡ windowSum (now (s .entry)) (rest + 1) j ⌝ }
 {
-    let x = value_at(s, j);
-    let y = value_at(s, j + w);
-    sum - x + y
+    let x = s[j + rest];
+    part + x
 }
 
-// The value at a place, 0 past the end.
-pub fn value_at(s: &[i32], k: usize) -> i32
-    ensures { λ x. ⌜ x ≡ at (now (s .entry)) k ⌝ }
+// The sum of the next window's values but the last: the first of this window goes out.
+pub fn value_out(s: &[i32], rest: usize, j: usize, sum: i32) -> i32
+    requires { ⌜ j + rest < length (now s) ⌝ }
+    requires { ⌜ rest < 256 ⌝ }
+    requires { ⌜ AllIn (now s) ⌝ }
+    requires { ⌜ sum ≡ windowSum (now s) (rest + 1) j ⌝ }
+    ensures { λ r. ⌜ r ≡ windowSum (now (s .entry)) rest (j + 1) ⌝ }
 {
-    if k < s.len() { s[k] } else { 0 }
+    let x = s[j];
+    sum - x
 }
 
 // The rows of a chunk, counted on from `from`, after a state. The loops are left at the first offset filed wrongly.
@@ -81,6 +85,7 @@ pub fn audit_chunk(
         return s;
     }
     let w = head.window as usize;
+    let rest = w - 1;
     let mut go = true;
     let mut row: usize = 0;
     let mut offset: usize = 0;
@@ -92,15 +97,16 @@ pub fn audit_chunk(
         'runs: while i < end {
             let mut j = left[i] as usize;
             let last = right[i] as usize;
-            let mut sum = window_sum(series, w, j);
+            let mut part = window_sum(series, rest, j);
             'offsets: while j <= last {
+                let sum = value_in(series, rest, j, part);
                 if !holds(r.low, r.up, sum) {
                     go = false;
                     row = from + k;
                     offset = j;
                     break 'rows;
                 }
-                sum = slide(series, w, j, sum);
+                part = value_out(series, rest, j, sum);
                 j += 1;
             }
             i += 1;

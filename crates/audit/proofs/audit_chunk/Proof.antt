@@ -1,4 +1,4 @@
--- `audit::audit_chunk` meets its contract. The invariant of each loop: what is filed wrongly first among what is left to audit is what is filed wrongly first in the chunk, and nothing is filed wrongly so far; of the innermost loop, besides, that the sum is that of the offset's window.
+-- `audit::audit_chunk` meets its contract. The invariant of each loop: what is filed wrongly first among what is left to audit is what is filed wrongly first in the chunk, and nothing is filed wrongly so far; of the innermost loop, besides, that the part is the sum of the offset's window but for its last value.
 -- The measures are how many rows, runs and offsets are left. Assumes nothing.
 use borrow.Author.Needs.{needs}
 use borrow.Author.Tests.{not-true, not-false}
@@ -23,25 +23,25 @@ use Rattle.audit.proofs.audit_chunk.Statement.{statement}
 use Rattle.audit.proofs.audit_chunk.Tie as tie
 
 abbrev Inv-offsets : tie.InvT-offsets
-Inv-offsets from series left right chunk w go₀ row₀ offset₀ k r i end j₀ last sum₀ go row offset j sum =
-    (j ≤ last + 1) × Still go row offset × (toZ w32 sum ≡ windowSum series w j) × (inOffsets series w left right (from + k) r j last (i + 1) end (later series w left right from chunk k) ≡ wrongOf series w left right from chunk)
+Inv-offsets from series left right chunk w rest go₀ row₀ offset₀ k r i end j₀ last part₀ go row offset j part =
+    (j ≤ last + 1) × Still go row offset × (toZ w32 part ≡ windowSum series rest j) × (inOffsets series w left right (from + k) r j last (i + 1) end (later series w left right from chunk k) ≡ wrongOf series w left right from chunk)
 
 abbrev μ-offsets : tie.MeasureT-offsets
-μ-offsets from series left right chunk w go₀ row₀ offset₀ k r i end j₀ last sum₀ go row offset j sum = last + 1 - j
+μ-offsets from series left right chunk w rest go₀ row₀ offset₀ k r i end j₀ last part₀ go row offset j part = last + 1 - j
 
 abbrev Inv-runs : tie.InvT-runs
-Inv-runs from series left right chunk w go₀ row₀ offset₀ k r i₀ end go row offset i =
+Inv-runs from series left right chunk w rest go₀ row₀ offset₀ k r i₀ end go row offset i =
     (i₀ ≤ i) × (i ≤ end) × Still go row offset × (inRuns series w left right (from + k) r i end (later series w left right from chunk k) ≡ wrongOf series w left right from chunk)
 
 abbrev μ-runs : tie.MeasureT-runs
-μ-runs from series left right chunk w go₀ row₀ offset₀ k r i₀ end go row offset i = end - i
+μ-runs from series left right chunk w rest go₀ row₀ offset₀ k r i₀ end go row offset i = end - i
 
 abbrev Inv-rows : tie.InvT-rows
-Inv-rows from series left right chunk w go₀ row₀ offset₀ k₀ go row offset k =
+Inv-rows from series left right chunk w rest go₀ row₀ offset₀ k₀ go row offset k =
     (k ≤ 64) × Still go row offset × (wrongOf series w left right (from + k) (drop k chunk) ≡ wrongOf series w left right from chunk)
 
 abbrev μ-rows : tie.MeasureT-rows
-μ-rows from series left right chunk w go₀ row₀ offset₀ k₀ go row offset k = 64 - k
+μ-rows from series left right chunk w rest go₀ row₀ offset₀ k₀ go row offset k = 64 - k
 
 -- ---- where each loop stands
 
@@ -121,16 +121,26 @@ module _ (c : Runs) where
 -- what the test of an offset says
 module _ (c : tie.After-holds Inv-offsets μ-offsets Inv-runs μ-runs Inv-rows μ-rows) where
   abbrev here : Offsets
-  here = c .before .before .before .before
+  here = c .before .before .before .before .before
 
   abbrev row : Row
   row = r (up-runs (up-offsets here))
+
+  -- the sum that is tested
+  filed : toZ w32 (ofZ w32 (c .before .before .before .value-in .result)) ≡ windowSum (series (up-runs (up-offsets here))) (w (up-runs (up-offsets here)) - 1 + 1) (here .offsets .j)
+  filed = toZ-ofZ w32 (c .before .before .before .value-in .result) (record { sfits = c .before .before .before .value-in .ok }) ∙ c .before .before .before .value-in .ensures
+
+  tested : toZ w32 (ofZ w32 (c .before .before .before .value-in .result)) ≡ windowSum (series (up-runs (up-offsets here))) (w (up-runs (up-offsets here))) (here .offsets .j)
+  tested =
+      let o = up-runs (up-offsets here) in
+      let e : w o - 1 + 1 ≡ w o = omega (arith, ready o .least) in
+      filed ∙ ap (λ (n : ℕ). windowSum (series o) n (here .offsets .j)) e
 
   told : c .holds .result ≡ inside (row .low) (row .up) (windowSum (series (up-runs (up-offsets here))) (w (up-runs (up-offsets here))) (here .offsets .j))
   told =
       let a = toZ-ofZ w32 (row .low) (record { sfits = c .before .struct-told2 .given .0 .1 }) in
       let b = toZ-ofZ w32 (row .up) (record { sfits = c .before .struct-told2 .given .1 .0 .1 }) in
-      c .holds .ensures ∙ (λ i. inside (a i) (b i) (here .offsets .inv .2 i))
+      c .holds .ensures ∙ (λ i. inside (a i) (b i) (tested i))
 
 -- ---- the needs
 
@@ -141,6 +151,12 @@ returns c =
 
 cast-w : tie.Need-cast-w Inv-offsets μ-offsets Inv-runs μ-runs Inv-rows μ-rows
 cast-w c = search needs
+
+sub-rest : tie.Need-sub-rest Inv-offsets μ-offsets Inv-runs μ-runs Inv-rows μ-rows
+sub-rest c =
+    let s = c .before .before .before .before .before in
+    let y = s .pre (not-false (s .args .s .go) (c .before .if1 .left)) in
+    omega (arith, y .least)
 
 rows-holds : tie.Need-rows-holds Inv-offsets μ-offsets Inv-runs μ-runs Inv-rows μ-rows
 rows-holds c =
@@ -192,7 +208,7 @@ window-sum-requires c κs =
     let a = c .before .before .before in
     let h = c .before .before .runs-test .taken in
     let y = ready (up-runs a) in
-    (omega (arith, upward a h, below a h), (y .window, y .values))
+    (omega (arith, upward a h, below a h), (omega (arith, y .window), y .values))
 
 offsets-holds : tie.Need-offsets-holds Inv-offsets μ-offsets Inv-runs μ-runs Inv-rows μ-rows
 offsets-holds c =
@@ -205,43 +221,51 @@ offsets-holds c =
       run-begins (series o) (w o) (left o) (right o) (from o + o .rows .k) (r o) (a .runs .i) (end a) (after a) h (reads a .in-left) (reads a .in-right) ∙ a .runs .inv .3,
     )
 
+value-in-requires : tie.Need-value-in-requires Inv-offsets μ-offsets Inv-runs μ-runs Inv-rows μ-rows
+value-in-requires c κs =
+    let b = c .before in
+    let a = up-offsets b in
+    let h = b .before .before .before .before .runs-test .taken in
+    let y = ready (up-runs a) in
+    (omega (arith, below a h, c .offsets-test .taken, y .least), (omega (arith, y .window, y .least), (y .values, b .offsets .inv .2)))
+
 holds-requires : tie.Need-holds-requires Inv-offsets μ-offsets Inv-runs μ-runs Inv-rows μ-rows
 holds-requires c κs = tt
 
 add-row : tie.Need-add-row Inv-offsets μ-offsets Inv-runs μ-runs Inv-rows μ-rows
 add-row c =
-    let b = c .before .before .before .before .before in
+    let b = here (c .before) in
     let o = up-runs (up-offsets b) in
     omega (arith, ready o .far, up-offsets b .before .before .before .before .rows-test .taken)
 
-slide-requires : tie.Need-slide-requires Inv-offsets μ-offsets Inv-runs μ-runs Inv-rows μ-rows
-slide-requires c κs =
-    let b = c .before .before .before .before .before in
+value-out-requires : tie.Need-value-out-requires Inv-offsets μ-offsets Inv-runs μ-runs Inv-rows μ-rows
+value-out-requires c κs =
+    let b = here (c .before) in
     let a = up-offsets b in
     let h = b .before .before .before .before .runs-test .taken in
     let y = ready (up-runs a) in
-    (omega (arith, below a h, c .before .before .before .before .offsets-test .taken), (y .window, (y .values, b .offsets .inv .2)))
+    (omega (arith, below a h, c .before .before .before .before .before .offsets-test .taken, y .least), (omega (arith, y .window, y .least), (y .values, filed (c .before))))
 
 add-j : tie.Need-add-j Inv-offsets μ-offsets Inv-runs μ-runs Inv-rows μ-rows
 add-j c =
-    let b = c .before .before .before .before .before .before in
+    let b = here (c .before .before) in
     let a = up-offsets b in
     let h = b .before .before .before .before .runs-test .taken in
-    omega (arith, below a h, c .before .before .before .before .before .offsets-test .taken, start (up-runs a) .good)
+    omega (arith, below a h, c .before .before .before .before .before .before .offsets-test .taken, start (up-runs a) .good)
 
 offsets-less : tie.Need-offsets-less Inv-offsets μ-offsets Inv-runs μ-runs Inv-rows μ-rows
-offsets-less c = let h = c .before .before .before .before .before .offsets-test .taken in omega (arith, h)
+offsets-less c = let h = c .before .before .before .before .before .before .offsets-test .taken in omega (arith, h)
 
 offsets-again : tie.Need-offsets-again Inv-offsets μ-offsets Inv-runs μ-runs Inv-rows μ-rows
 offsets-again c =
-    let b = c .before .before .before .before .before .before in
+    let g = c .before .before in
+    let b = here g in
     let a = up-offsets b in
     let o = up-runs a in
-    let t = c .before .before .before .before .before .offsets-test .taken in
-    let g = c .before .before in (
+    let t = c .before .before .before .before .before .before .offsets-test .taken in (
       omega (arith, t),
       b .offsets .inv .1,
-      toZ-ofZ w32 (c .slide .result) (record { sfits = c .slide .ok }) ∙ c .slide .ensures,
+      toZ-ofZ w32 (c .value-out .result) (record { sfits = c .value-out .ok }) ∙ c .value-out .ensures,
       filed-right (series o) (w o) (left o) (right o) (from o + o .rows .k) (r o) (b .offsets .j) (last a) (a .runs .i + 1) (end a) (after a) t (sym (told g) ∙ not-false (g .holds .result) (c .before .if2 .left)) ∙ b .offsets .inv .3,
     )
 
@@ -289,12 +313,12 @@ returns-2 c =
 
 returns-3 : tie.Need-returns-3 Inv-offsets μ-offsets Inv-runs μ-runs Inv-rows μ-rows
 returns-3 c =
-    let b = c .before .before .before .before .before in
+    let b = here (c .before) in
     let a = up-offsets b in
     let o = up-runs a in
     let s = start o in
     let n = from o + o .rows .k in
-    let t = c .before .before .before .before .offsets-test .taken in
+    let t = c .before .before .before .before .before .offsets-test .taken in
     wrong-found n (b .offsets .j)
     ∙ chunk-found (series o) (s .args .head) (left o) (right o) (s .args .s) (from o) (chunk o) (goes o) (some (n, b .offsets .j))
     (filed-wrong (series o) (w o) (left o) (right o) n (r o) (b .offsets .j) (last a) (a .runs .i + 1) (end a) (after a) t (sym (told (c .before)) ∙ not-true (c .before .holds .result) (c .if2 .taken)) ∙ b .offsets .inv .3)
@@ -311,6 +335,7 @@ audit-chunk-spec =
     μ-rows
     returns
     cast-w
+    sub-rest
     rows-holds
     mul-r
     array-copy-out-r
@@ -326,9 +351,10 @@ audit-chunk-spec =
     cast-last
     window-sum-requires
     offsets-holds
+    value-in-requires
     holds-requires
     add-row
-    slide-requires
+    value-out-requires
     add-j
     offsets-less
     offsets-again

@@ -1,0 +1,67 @@
+// Runs the proved entries over lent records and the plain C on the same input, in turn, compares what they answer, and prints the least time of 15 runs of each and the ratio. The indexes are built by the plain C.
+#include <stdint.h>
+#include <stdio.h>
+#include <time.h>
+typedef int32_t i32;
+typedef uint32_t u32;
+typedef uint64_t u64;
+typedef struct { i32 low, up; u32 first, runs; } Row;
+typedef struct { u32 window, width, windows; } Head;
+typedef struct { u32 kind; Head head; size_t first, second; } Answer;
+
+Answer index_audit(const i32 *, size_t, Head, const Row *, size_t, const u32 *, size_t, const u32 *, size_t);
+size_t plain_build(const i32 *, size_t, size_t, u32, u32, Row *, size_t, u32 *, u32 *);
+int plain_audit(const i32 *, size_t, size_t, u32, u32, const Row *, size_t, const u32 *, const u32 *, size_t);
+
+static double now(void) {
+    struct timespec t;
+    clock_gettime(CLOCK_THREAD_CPUTIME_ID, &t); // time of this thread alone: other work on the machine disturbs less
+    return t.tv_sec + 1e-9 * t.tv_nsec;
+}
+
+static u64 state = 88172645463325252ull;
+static u64 any(void) {
+    state ^= state << 13;
+    state ^= state >> 7;
+    state ^= state << 17;
+    return state;
+}
+static i32 in_limits(int v) { return v > 10000 ? 10000 : v < -10000 ? -10000 : v; }
+
+enum { N = 1 << 20, W = 64, ROOM = N - W + 1, REPS = 15 };
+static i32 s[N];
+static Row rows[ROOM];
+static u32 left[ROOM], right[ROOM];
+static int different;
+
+// rattle and C in turn
+static void race_audit(const char *name, u32 d, u32 g) {
+    Head head = {W, d, ROOM};
+    size_t count = plain_build(s, N, W, d, g, rows, ROOM, left, right);
+    size_t runs = rows[count - 1].first + rows[count - 1].runs;
+    double ra = 1e9, ca = 1e9;
+    u32 x = 9;
+    int y = 9;
+    for (int k = 0; k < REPS; k++) {
+        double t0 = now();
+        x = index_audit(s, N, head, rows, count, left, runs, right, runs).kind;
+        double t1 = now();
+        y = plain_audit(s, N, W, d, ROOM, rows, count, left, right, runs);
+        double t2 = now();
+        if (t1 - t0 < ra) ra = t1 - t0;
+        if (t2 - t1 < ca) ca = t2 - t1;
+    }
+    if (x != 0 || y != 0) different++;
+    printf("audit %-12s d=%-5u g=%-3u ratio %5.2f  (goal 1.3)  %8.3f / %8.3f ms  %7zu rows %8zu runs%s\n", name, d, g, ra / ca, ra * 1e3, ca * 1e3, count, runs, x == 0 && y == 0 ? "" : "  DIFFERENT");
+    fflush(stdout);
+}
+
+int main(void) {
+    for (int noisy = 0; noisy < 2; noisy++) {
+        int v = 0;
+        for (int i = 0; i < N; i++) s[i] = noisy ? (int)(any() % 20001) - 10000 : (v = in_limits(v + (int)(any() % 201) - 100));
+        for (int k = 0; k < 4; k++) race_audit(noisy ? "noisy" : "random walk", k / 2 ? 4096 : 16, k % 2 ? 80 : 0);
+    }
+    puts(different ? "DIFFERENT answers" : "all answers are the same");
+    return different != 0;
+}
