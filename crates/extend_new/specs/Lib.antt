@@ -1,0 +1,2 @@
+-- What the contracts of extend_new cite.
+pub mod New
