@@ -1,3 +1,4 @@
 -- What the contracts of extend_lay cite.
 pub mod Lay
 pub mod Copy
+pub mod Records
