@@ -1,4 +1,6 @@
 -- What the contracts of extend_lay cite.
 pub mod Lay
 pub mod Copy
+pub mod Passed
 pub mod Records
+pub mod Columns
