@@ -4,3 +4,4 @@ pub mod Copy
 pub mod Passed
 pub mod Records
 pub mod Columns
+pub mod OldRuns
