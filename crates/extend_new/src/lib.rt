@@ -3,13 +3,13 @@ use filing::Place;
 use filing::list_rows;
 use filing::next_out;
 ghost use mathlib.Core.Path.{_≡_};
-ghost use mathlib.Core.Bool.{Bool, true, false, cond};
+ghost use mathlib.Core.Bool.{true};
 ghost use Prim.Native.Nat.{ℕ, _+_, _-_, _<_, _≤_};
-ghost use lib.ListN.{length, getD, set};
-ghost use Rattle.filing.specs.Levels.{level, Lent, windowsOf};
-ghost use Rattle.filing.specs.Change.{Stop};
+ghost use lib.ListN.{length, getD};
+ghost use Rattle.filing.specs.Levels.{Lent, windowsOf};
 ghost use Rattle.filing.specs.Picked.{Appended};
 ghost use Rattle.extend_new.specs.New.{newTable, lessJoin};
+ghost use Rattle.extend_new.specs.Join.{Joinable, JoinedRun};
 
 // The row numbers of the windows from `old` on, ascending, each once, written to the front of `out`; how many there are. What the flags hold does not matter.
 pub fn list_new(
@@ -43,4 +43,29 @@ pub fn take_join(joins: bool, i: usize, counts: &mut [u32])
     if joins {
         counts[i] = counts[i] - 1;
     }
+}
+
+// Where the first new run joins an old one, that run's right end, at `spot`, goes on to the end of the new one; where the next run begins.
+pub fn join_run(
+    s: &[i32],
+    w: usize,
+    e: u64,
+    at: Place,
+    joins: bool,
+    low: u64,
+    up: u64,
+    spot: usize,
+    right: &mut [u32],
+) -> Place
+    requires { ⌜ Lent (now s) w e ⌝ }
+    requires { ⌜ Joinable (now s) w e at joins low up spot (length (now right)) ⌝ }
+    ensures { λ t. ⌜ JoinedRun (now (s .entry)) w e at joins low up spot (now (right .entry)) t (now (right .exit)) ⌝ }
+{
+    if !joins {
+        return at;
+    }
+    let next = next_out(s, w, e, at, low, up);
+    let end = next.offset;
+    right[spot] = (end - 1) as u32;
+    next
 }
