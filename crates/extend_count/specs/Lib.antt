@@ -3,3 +3,4 @@ pub mod Raise
 pub mod Listed
 pub mod Rank
 pub mod Count
+pub mod Extension

@@ -65,7 +65,7 @@ map-three f g h [] = refl
 map-three f g h (x ∷ t) = ap (λ (l : List RangeRow). f (g (h x)) ∷ l) (map-three f g h t)
 
 -- where a part begins: at the sum of the counts before
-start-is : {n : ℕ} {counts ends : List ℕ} → Summed n counts ends → (i : ℕ) → i < n → startOf ends i ≡ total counts i
+pub start-is : {n : ℕ} {counts ends : List ℕ} → Summed n counts ends → (i : ℕ) → i < n → startOf ends i ≡ total counts i
 unfolding startOf
 start-is {n} {counts} {ends} s zero h = sym (Σℕ-none (λ k. getD counts k 0))
 start-is {n} {counts} {ends} s (suc i) h =

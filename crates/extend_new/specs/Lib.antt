@@ -1,0 +1,3 @@
+-- What the contracts of extend_new cite.
+pub mod New
+pub mod Join
