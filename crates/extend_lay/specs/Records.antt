@@ -13,7 +13,8 @@ use Rattle.meaning_rows.specs.Index.{RangeRow, records}
 use Rattle.meaning_rows.proofs.Laid.{length-records}
 use Rattle.records.specs.Records.{zeroRow}
 use Rattle.pack.specs.Packed.{total, Summed, startOf}
-use Rattle.pack.specs.Records.{Σℕ-shift, start-is}
+use Rattle.meaning_rows.proofs.LaidAt.{Σℕ-shift}
+use Rattle.pack.specs.Records.{start-is}
 use Rattle.extend_lay.specs.Lay.{withPart, laidTo, EndsRoom, laid-at, length-laid}
 
 -- what stands past the last row

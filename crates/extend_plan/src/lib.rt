@@ -3,10 +3,10 @@ ghost use mathlib.Core.Path.{_≡_};
 ghost use Prim.Native.Nat.{_+_, _-_, _≤_};
 ghost use lib.Dec.{ltb};
 ghost use Rattle.extend_plan.specs.Plan.{roomed, planOf};
-use judge::Judged;
-use meaning_rows::Head;
 use conditions::length_in;
 use conditions::more;
+use judge::Judged;
+use meaning_rows::Head;
 use values::Place;
 use values::first_outside;
 

@@ -12,7 +12,7 @@ use Rattle.meaning_rows.specs.declared.Row.{Row}
 use Rattle.meaning_rows.specs.Index.{Entry, RangeRow, records, allRuns}
 
 -- the first summand taken out
-Σℕ-shift : (n : ℕ) (f : ℕ → ℕ) → Σℕ (suc n) f ≡ f 0 + Σℕ n (λ k. f (suc k))
+pub Σℕ-shift : (n : ℕ) (f : ℕ → ℕ) → Σℕ (suc n) f ≡ f 0 + Σℕ n (λ k. f (suc k))
 unfolding Σℕ
 Σℕ-shift zero f = omega arith
 Σℕ-shift (suc n) f = omega (arith, Σℕ-shift n f)

@@ -21,17 +21,12 @@ use Rattle.meaning_rows.proofs.Build.{upward-yes, upward-no}
 use Rattle.records.specs.Records.{zeroRow}
 use Rattle.filing.specs.Levels.{within}
 use Rattle.tally.specs.Tally.{isRow}
+use Rattle.pack.specs.PackedAs.{PackedAs}
 use Rattle.merge.specs.declared.Group.{Group}
 use Rattle.merge.specs.Names.{group, NamedRow, group-one, group-more, runs-merged}
 use Rattle.merge.specs.Group.{touching, firstGroup, unionRuns, joined, begun, nextGroup, Joinable}
 
 -- ---- rows as sets, packed
-
--- the first `count` records are those of the rows, laid out in order, each with the runs of its windows
-pub record PackedAs (n : ℕ) (l : List SetRow) (rows : List Row) (count : ℕ) : Type 0 where
-  pub many : count ≡ length l
-  pub within : count ≤ length rows
-  pub front : take count rows ≡ records 0 (map (withRuns n) l)
 
 -- the rows of the list, from number i on, have the windows of their number
 unfoldable pub Numbered : (ℕ → ℕ) → ℕ → ℕ → List SetRow → Type 0

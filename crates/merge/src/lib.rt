@@ -8,7 +8,8 @@ ghost use Rattle.meaning_numbers.specs.Sum.{count};
 ghost use Rattle.merge.specs.Names.{namesOf};
 ghost use Rattle.meaning_rows.specs.Build.{merged};
 ghost use Rattle.merge.specs.Group.{touching, firstGroup, nextGroup, Joinable};
-ghost use Rattle.merge.specs.Merging.{Rows, Ready, PackedAs, Mergeable};
+ghost use Rattle.pack.specs.PackedAs.{PackedAs};
+ghost use Rattle.merge.specs.Merging.{Rows, Ready, Mergeable};
 
 // A group of rows on the way: the place of its record, the first of its rows, its record.
 pub struct Group {

@@ -39,7 +39,8 @@ use Rattle.meaning_rows.specs.Build.{merged}
 use Rattle.meaning_rows.proofs.Row as T
 use Rattle.records.proofs.Again.{LentAgain}
 use Rattle.records.proofs.Lends.{Own, Shr, SharedAgain, lend, back, share, unshare}
-use Rattle.merge.specs.Merging.{Rows, Ready, PackedAs, Mergeable}
+use Rattle.pack.specs.PackedAs.{PackedAs}
+use Rattle.merge.specs.Merging.{Rows, Ready, Mergeable}
 use Rattle.merge.proofs.merge_rows as merge-fn
 use Rattle.merge.proofs.merge_rows.Symbol.{name as #merge·merge-rows}
 use Rattle.neighbours.specs.Places.{Unnamed}

@@ -10,7 +10,8 @@ use Rattle.meaning_rows.specs.declared.Row.{Row}
 use Rattle.meaning_rows.specs.Build.{SetRow}
 use Rattle.filing.specs.Levels.{Lent, windowsOf}
 use Rattle.merge.specs.Names.{NamedRow}
-use Rattle.merge.specs.Merging.{Rows, Ready, PackedAs, Mergeable, partAt}
+use Rattle.pack.specs.PackedAs.{PackedAs}
+use Rattle.merge.specs.Merging.{Rows, Ready, Mergeable, partAt}
 use Rattle.neighbours.specs.Ranges.{rowIn}
 use Rattle.neighbours.specs.Places.{Unnamed}
 use Rattle.neighbours.specs.Packed.{Sound, packed-unnamed, packed-ready}

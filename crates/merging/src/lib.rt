@@ -7,7 +7,7 @@ ghost use Prim.Native.Nat.{_+_, _≤_};
 ghost use Rattle.meaning_curves.specs.Curve.{windowSum};
 ghost use Rattle.meaning_rows.specs.Build.{SetRow, merged};
 ghost use Rattle.filing.specs.Levels.{windowsOf};
-ghost use Rattle.merge.specs.Merging.{PackedAs};
+ghost use Rattle.pack.specs.PackedAs.{PackedAs};
 ghost use Rattle.neighbours.specs.Packed.{Sound};
 ghost use Rattle.merging.specs.Standing.{Standing};
 

@@ -12,7 +12,7 @@ use Rattle.meaning_rows.proofs.Columns.{runCount-mono}
 use Rattle.meaning_rows.proofs.Cursors.{Cursors, PartsAs, parts-as-start, cursors-start, fileRight, length-file, filed-as, cursors-run}
 use Rattle.filing.specs.Change.{RowRun}
 use Rattle.tally.specs.Tally.{isRow, Fresh, fresh-start, fresh-next, run-mine}
-use Rattle.pack.specs.Columns.{parts-laid}
+use Rattle.parts.specs.Filling.{parts-laid}
 use Rattle.merge.specs.Names.{nameAt, nameBefore, nameAfter, NamedRow}
 use Rattle.merge.specs.Merging.{partAt}
 

@@ -25,13 +25,14 @@ use Rattle.meaning_rows.specs.Index.{records, allRuns}
 use Rattle.meaning_rows.specs.Build.{SetRow, filed, merged, entry, withRuns, builtRows}
 use Rattle.meaning_rows.proofs.Range.{is-inside, row-below, row-above}
 use Rattle.meaning_rows.proofs.Runs.{runs-cong}
-use Rattle.meaning_rows.proofs.Build.{Fine, Chain, Tiled, Ends, covered, mergedRows, built-tiled, built-covers, built-ends, built-length, built-runs}
+use Rattle.meaning_rows.proofs.Build.{Fine, Chain, Tiled, Ends, covered, mergedRows, built-tiled, built-covers, built-ends, built-length, built-runs, merged-none}
 use Rattle.records.specs.Records.{zeroRow}
 use Rattle.filing.specs.Levels.{level, Lent, windowsOf, level-is, level-le}
 use Rattle.tally.specs.Tally.{isRow}
-use Rattle.pack.specs.Records.{merged-none, Σℕ-shift}
+use Rattle.meaning_rows.proofs.LaidAt.{Σℕ-shift}
 use Rattle.merge.specs.Names.{NamedRow}
-use Rattle.merge.specs.Merging.{PackedAs, Numbered, Ready, partAt, recordOf, records-first}
+use Rattle.pack.specs.PackedAs.{PackedAs}
+use Rattle.merge.specs.Merging.{Numbered, Ready, partAt, recordOf, records-first}
 use Rattle.neighbours.specs.Ranges.{Limited, endsBy, placeIn, rowIn, Ranged, RangeRows, first-passes, first-fails, held-row, no-leZ}
 use Rattle.neighbours.specs.Places.{Unnamed}
 

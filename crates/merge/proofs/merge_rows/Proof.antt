@@ -54,7 +54,8 @@ use Rattle.records.proofs.RowKit.{IsRow, fits-16, typed, row-elem, row-makes, h
 use Rattle.records.proofs.Walk.{loops-by, by-bool, lose, lose-room}
 use Rattle.merge.specs.declared.Group.{Group}
 use Rattle.merge.specs.Group.{firstGroup, nextGroup, Joinable}
-use Rattle.merge.specs.Merging.{Rows, Ready, PackedAs, Mergeable, Merging, merging-start, merging-turn, merging-place, merging-joinable, merging-end}
+use Rattle.pack.specs.PackedAs.{PackedAs}
+use Rattle.merge.specs.Merging.{Rows, Ready, Mergeable, Merging, merging-start, merging-turn, merging-place, merging-joinable, merging-end}
 use Rattle.merge.proofs.Group as G
 use Rattle.merge.proofs.Group.Laws as G′
 use Rattle.merge.proofs.Calls.{FirstGroup, MergeRow, Toks, Owns, low-group, IsGroup, calls-first, calls-merge}

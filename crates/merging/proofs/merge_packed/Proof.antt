@@ -43,7 +43,7 @@ use Rattle.meaning_rows.specs.Build.{SetRow, merged}
 use Rattle.meaning_rows.proofs.Row as T
 use Rattle.records.proofs.Walk.{lose}
 use Rattle.filing.specs.Levels.{windowsOf}
-use Rattle.merge.specs.Merging.{PackedAs}
+use Rattle.pack.specs.PackedAs.{PackedAs}
 use Rattle.merge.proofs.merge_rows.Symbol as merge-def
 use Rattle.merge.proofs.merge_rows.Symbol.{name as #merge·merge-rows}
 use Rattle.merge.proofs.merge_rows.Met as merge-thm
