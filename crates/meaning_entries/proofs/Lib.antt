@@ -10,6 +10,7 @@ pub mod Passes
 pub mod Demand3
 pub mod Witness
 pub mod Made
+pub mod Again
 pub mod Row
 pub mod Calls
 pub mod Edges
