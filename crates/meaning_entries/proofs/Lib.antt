@@ -12,6 +12,7 @@ pub mod Full
 pub mod Demand3
 pub mod Witness
 pub mod Made
+pub mod Again
 pub mod Row
 pub mod Calls
 pub mod Edges

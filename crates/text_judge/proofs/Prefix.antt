@@ -22,7 +22,7 @@ use Rattle.text_judge.specs.declared.Rows.{Rows}
 use Rattle.text_judge.specs.Tally.{held, noRuns, runNext, runsFrom, noRows, rowFits, rowNext, rowsFrom, headHeld}
 use Rattle.text_judge.proofs.Bad.{held-nat, entryGood, good-entry, three, runs-bad, runs-count, runs-are, clamp-end, range-ends, rows-stop, NextIs, next-is, next-off, counted, HeadIs, head-is, width-is, windows-is}
 
-map-append : {A B : Type 0} (f : A → B) (a b : List A) → map f (a ++ b) ≡ map f a ++ map f b
+pub map-append : {A B : Type 0} (f : A → B) (a b : List A) → map f (a ++ b) ≡ map f a ++ map f b
 map-append f [] b = refl
 map-append f (x ∷ a) b = rw (map-append f a b) refl
 

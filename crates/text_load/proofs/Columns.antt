@@ -21,6 +21,7 @@ use Rattle.text_index.specs.Follow.{start, Said, nothingSaid, told, closed, val
 use Rattle.text_index.specs.Order.{placePart, Order}
 use Rattle.text_index.specs.View.{keptAt, endOf, Whole, text-viewed, Kept, kept-start, kept-to, kept-value, kept-closed, kept-refuse, kept-end}
 use Rattle.text_judge.specs.Tally.{held}
+use Rattle.text_judge.proofs.Prefix.{map-append}
 use Rattle.text_load.specs.Plan.{heldLefts, heldRights}
 use Rattle.text_load.specs.Runs.{isLeft, isRight, Columns, tellColumns, shutColumns, startColumns, FilledRuns}
 
@@ -28,10 +29,6 @@ runs-append : (a b : List RangeRow) → allRuns (a ++ b) ≡ allRuns a ++ allRun
 unfolding allRuns
 runs-append [] b = refl
 runs-append (r ∷ a) b = rw (runs-append a b) (sym (append-assoc (r .runs) (allRuns a) (allRuns b)))
-
-map-append : {A B : Type 0} (f : A → B) (a b : List A) → map f (a ++ b) ≡ map f a ++ map f b
-map-append f [] b = refl
-map-append f (x ∷ a) b = rw (map-append f a b) refl
 
 -- the runs so far: of the closed rows, and of the row that is open
 abbrev entriesOf : Said → List Entry

@@ -25,6 +25,7 @@ use Rattle.meaning_entries.specs.Answers.{headOf}
 use Rattle.meaning_entries.specs.Load.{loadTable, loadRefusal, loadAnswer, loadAfter}
 use Rattle.meaning_entries.specs.Demand2.{LoadKept}
 use Rattle.meaning_entries.proofs.Demand2.{load-kept}
+use Rattle.meaning_entries.proofs.Again.{text-fine}
 use Rattle.text_judge.specs.declared.Rows.{Rows}
 use Rattle.text_judge.specs.Tally.{noRows, rowsFrom, headHeld}
 use Rattle.text_judge.proofs.Bad.{head-is, text-bad, rows-counted}
@@ -34,7 +35,7 @@ use Rattle.text_rows.proofs.Turn.{stored-none}
 use Rattle.text_rows.proofs.Filled.{rows-filled}
 use Rattle.text_load.specs.declared.Plan.{Plan}
 use Rattle.text_load.specs.Plan.{refusedPlan, fitPlan, planScanned, planFor, planAnswer, textRuns, heldLefts, heldRights, columnAfter, Loads}
-use Rattle.text_load.proofs.Planned.{on-verdict, text-is}
+use Rattle.text_load.proofs.Planned.{on-verdict}
 
 -- the entry, by its plan
 record Outcome (t : List ℕ) (b : IndexBuffers) (p : Plan) : Type 0 where
@@ -89,10 +90,10 @@ module _ (t : List ℕ) (b : IndexBuffers) (v : Value indexForm) (e : readText i
 
   first-is : (o : Option ℕ) (r s : Bool) → firstBadRow X ≡ o → ltb (length (b .rows)) (length (X .rows)) ≡ r → ltb (runRoom b) (length (X .runs)) ≡ s → loadRefusal t b ≡ first o r s
   unfolding loadTable firstRefusal unreadable badLine illFormed bufferShort
-  first-is (some k) r s f g i = rw (e, badLine, text-is t v e, f) refl
-  first-is none true s f g i = rw (e, badLine, text-is t v e, f, g) refl
-  first-is none false true f g i = rw (e, badLine, text-is t v e, f, g, i) refl
-  first-is none false false f g i = rw (e, badLine, text-is t v e, f, g, i) refl
+  first-is (some k) r s f g i = rw (e, badLine, text-fine t v e, f) refl
+  first-is none true s f g i = rw (e, badLine, text-fine t v e, f, g) refl
+  first-is none false true f g i = rw (e, badLine, text-fine t v e, f, g, i) refl
+  first-is none false false f g i = rw (e, badLine, text-fine t v e, f, g, i) refl
 
   -- everything is good: the index is loaded
   module _ (head : headGood (lent h [] [] []) ≡ true) (good : c .good ≡ true) (rows-room : ltb (length (b .rows)) (c .rows) ≡ false) (runs-room : ltb (runRoom b) (c .runs) ≡ false) where
@@ -134,15 +135,15 @@ module _ (t : List ℕ) (b : IndexBuffers) (v : Value indexForm) (e : readText i
     right-right = ap (sets (replicate (length (b .right)) 0) 0) (runs-held v head good .1) ∙ column (rights (X .runs)) (b .right) (omega (arith, length-map (X .runs) (λ (x : Entry). natAbs (x .1)), runs-fit))
 
     runs-are : textRuns t ≡ X .runs
-    runs-are = ap (λ (x : Index). x .runs) (text-is t v e)
+    runs-are = ap (λ (x : Index). x .runs) (text-fine t v e)
 
     loaded : Outcome t b p
     unfolding planAnswer loadAnswer loadAfter columnAfter indexIn
     loaded = record {
-      answer = rw (none-refuses, loadAnswer, text-is t v e, ← head-right, ← counts .0, ← counts .1) refl;
-      rows = rows-right ∙ rw (none-refuses, loadAfter, text-is t v e) refl;
-      left = ap (sets (replicate (length (b .left)) 0) 0) (ap heldLefts runs-are) ∙ left-right ∙ rw (none-refuses, loadAfter, text-is t v e) refl;
-      right = ap (sets (replicate (length (b .right)) 0) 0) (ap heldRights runs-are) ∙ right-right ∙ rw (none-refuses, loadAfter, text-is t v e) refl;
+      answer = rw (none-refuses, loadAnswer, text-fine t v e, ← head-right, ← counts .0, ← counts .1) refl;
+      rows = rows-right ∙ rw (none-refuses, loadAfter, text-fine t v e) refl;
+      left = ap (sets (replicate (length (b .left)) 0) 0) (ap heldLefts runs-are) ∙ left-right ∙ rw (none-refuses, loadAfter, text-fine t v e) refl;
+      right = ap (sets (replicate (length (b .right)) 0) 0) (ap heldRights runs-are) ∙ right-right ∙ rw (none-refuses, loadAfter, text-fine t v e) refl;
     }
 
   -- by the head, the rows and the room

@@ -9,7 +9,7 @@ use Rattle.meaning_rows.specs.Index.{Index}
 use Rattle.meaning_text.specs.Form.{Value}
 use Rattle.meaning_text.specs.Read.{Verdict, fine, unfit, readText}
 use Rattle.meaning_text.specs.Texts.{indexForm, indexSaid}
-use Rattle.meaning_entries.specs.Load.{textIndex}
+use Rattle.meaning_entries.proofs.Again.{text-fine}
 use Rattle.text_load.specs.declared.Plan.{Plan}
 use Rattle.text_load.specs.Plan.{planScanned, planFor, textRuns, heldLefts, heldRights, columnAfter}
 use Rattle.text_load.specs.Runs.{FilledRuns}
@@ -17,10 +17,6 @@ use Rattle.text_load.specs.Runs.{FilledRuns}
 pub on-verdict : {A B : Type 0} (x : Verdict A) → ((a : A) → x ≡ fine a → B) → ((p : ℕ) → x ≡ unfit p → B) → B
 on-verdict (fine a) f g = f a refl
 on-verdict (unfit p) f g = g p refl
-
-pub text-is : (t : List ℕ) (v : Value indexForm) → readText indexForm t ≡ fine v → textIndex t ≡ indexSaid v
-unfolding textIndex
-text-is t v e = rw (e, textIndex) refl
 
 pub readable : (t : List ℕ) (rows runs : ℕ) → planFor t rows runs .number ≡ 0 → (v : Value indexForm) × (readText indexForm t ≡ fine v)
 unfolding planScanned
@@ -41,5 +37,5 @@ module _ (t left right : List ℕ) (p : Plan) (rows runs : ℕ) (e : p ≡ planF
   column-filled =
       let v = readable t rows runs (sym (ap (λ (q : Plan). q .number) e) ∙ h) in
       let g = f (v .0) (v .1) in
-      let r : textRuns t ≡ indexSaid (v .0) .runs = ap (λ (x : Index). x .runs) (text-is t (v .0) (v .1)) in
+      let r : textRuns t ≡ indexSaid (v .0) .runs = ap (λ (x : Index). x .runs) (text-fine t (v .0) (v .1)) in
       rw (eq-eqb (p .number) 0 h, r, ← a, ← b) (g .0, g .1)

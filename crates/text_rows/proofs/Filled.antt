@@ -29,7 +29,7 @@ use Rattle.text_feed.specs.Keep.{clamp}
 use Rattle.text_judge.specs.declared.Tally.{Tally}
 use Rattle.text_judge.specs.Tally.{noRuns, runsFrom, noRows, rowsFrom, headHeld}
 use Rattle.text_judge.proofs.Seen.{tallyOf, tells, shuts, start-is}
-use Rattle.text_judge.proofs.Prefix.{row-placed}
+use Rattle.text_judge.proofs.Prefix.{map-append, row-placed}
 use Rattle.text_rows.specs.declared.Line.{Line}
 use Rattle.text_rows.specs.Line.{zeroRow, rowMade, lineFrom, nextLine, lineAt, stored}
 use Rattle.text_rows.proofs.Turn.{line-byte, line-ready, length-stored}
@@ -240,10 +240,6 @@ drop-none [] (suc k) e = refl
 drop-none (x ∷ l) zero e = let z : suc (length l) ≡ 0 = ap length e in absurd (omega arith)
 drop-none (x ∷ l) (suc k) e = drop-none l k e
 
-map-append : (a b : Rs) → map rowSaid (a ++ b) ≡ map rowSaid a ++ map rowSaid b
-map-append [] b = refl
-map-append (x ∷ a) b = rw (map-append a b) refl
-
 -- a row's record, behind the rows before it
 record-at : (a : List RangeRow) (r : RangeRow) (b : List RangeRow) (k : ℕ) → getD (records k (a ++ (r ∷ b))) (length a) zeroRow ≡ record { low = r .low; up = r .up; first = k + length (allRuns a); runs = length (r .runs) }
 unfolding records allRuns
@@ -369,7 +365,7 @@ module _ (t : List ℕ) (v : Value indexForm) (readable : readText indexForm t �
         let ρ : Value rowForm = (g .low, (g .up, g .runs)) in
         let a = r .said .rows in
         let e : rowsIn v ≡ a ++ (ρ ∷ w .rest) = r .rows ∙ ap (λ (q : Rs). a ++ q) (w .left) in
-        let m : map rowSaid (rowsIn v) ≡ map rowSaid a ++ (rowSaid ρ ∷ map rowSaid (w .rest)) = ap (map rowSaid) e ∙ map-append a (ρ ∷ w .rest) in
+        let m : map rowSaid (rowsIn v) ≡ map rowSaid a ++ (rowSaid ρ ∷ map rowSaid (w .rest)) = ap (map rowSaid) e ∙ map-append rowSaid a (ρ ∷ w .rest) in
         let long : length (map rowSaid a) ≡ k = omega (arith, length-map a rowSaid, ap length e, length-append a (ρ ∷ w .rest), ap length (w .left), length-drop k (rowsIn v)) in
         c .made ∙ made-is g ∙ ap (λ (x : Head). madeBy x (g .rows) ρ) (w .head) ∙ ap (λ (q : Rs). madeBy (headHeld v) q ρ) (c .rows) ∙ made-right a ρ (w .rest) e
         ∙ sym (record-at (map rowSaid a) (rowSaid ρ) (map rowSaid (w .rest)) 0) ∙ ap (λ (q : ℕ). getD (records 0 (map rowSaid a ++ (rowSaid ρ ∷ map rowSaid (w .rest)))) q zeroRow) long ∙ ap (λ (l : List RangeRow). getD (records 0 l) k zeroRow) (sym m)
