@@ -44,6 +44,18 @@ pub fn holds(low: i32, up: i32, sum: i32) -> bool
     (low <= sum) & (sum < up)
 }
 
+// The sum of a window's values but the last.
+pub fn part_sum(s: &[i32], rest: usize, j: usize) -> i32
+    requires { ⌜ j + rest < length (now s) ⌝ }
+    requires { ⌜ rest < 256 ⌝ }
+    requires { ⌜ AllIn (now s) ⌝ }
+    ensures { λ r. ⌜ r ≡ windowSum (now (s .entry)) rest j ⌝ }
+{
+    let sum = window_sum(s, rest + 1, j);
+    let x = s[j + rest];
+    sum - x
+}
+
 // The sum of a window, of the sum of its values but the last: that one comes in.
 pub fn value_in(s: &[i32], rest: usize, j: usize, part: i32) -> i32
     requires { ⌜ j + rest < length (now s) ⌝ }
@@ -97,7 +109,7 @@ pub fn audit_chunk(
         'runs: while i < end {
             let mut j = left[i] as usize;
             let last = right[i] as usize;
-            let mut part = window_sum(series, rest, j);
+            let mut part = part_sum(series, rest, j);
             'offsets: while j <= last {
                 let sum = value_in(series, rest, j, part);
                 if !holds(r.low, r.up, sum) {

@@ -203,12 +203,12 @@ shared-slice-read-last c = let R = reads (c .before .before .before) in omega (a
 cast-last : tie.Need-cast-last Inv-offsets μ-offsets Inv-runs μ-runs Inv-rows μ-rows
 cast-last c = omega (arith, c .shared-slice-known4 .given (c .before .before .before .runs .i))
 
-window-sum-requires : tie.Need-window-sum-requires Inv-offsets μ-offsets Inv-runs μ-runs Inv-rows μ-rows
-window-sum-requires c κs =
+part-sum-requires : tie.Need-part-sum-requires Inv-offsets μ-offsets Inv-runs μ-runs Inv-rows μ-rows
+part-sum-requires c κs =
     let a = c .before .before .before in
     let h = c .before .before .runs-test .taken in
     let y = ready (up-runs a) in
-    (omega (arith, upward a h, below a h), (omega (arith, y .window), y .values))
+    (omega (arith, upward a h, below a h, y .least), (omega (arith, y .window, y .least), y .values))
 
 offsets-holds : tie.Need-offsets-holds Inv-offsets μ-offsets Inv-runs μ-runs Inv-rows μ-rows
 offsets-holds c =
@@ -217,7 +217,7 @@ offsets-holds c =
     let o = up-runs a in (
       omega (arith, upward a h),
       a .runs .inv .2,
-      toZ-ofZ w32 (c .window-sum .result) (record { sfits = c .window-sum .ok }) ∙ c .window-sum .ensures,
+      toZ-ofZ w32 (c .part-sum .result) (record { sfits = c .part-sum .ok }) ∙ c .part-sum .ensures,
       run-begins (series o) (w o) (left o) (right o) (from o + o .rows .k) (r o) (a .runs .i) (end a) (after a) h (reads a .in-left) (reads a .in-right) ∙ a .runs .inv .3,
     )
 
@@ -349,7 +349,7 @@ audit-chunk-spec =
     mul-last
     shared-slice-read-last
     cast-last
-    window-sum-requires
+    part-sum-requires
     offsets-holds
     value-in-requires
     holds-requires
