@@ -105,7 +105,7 @@ impl Lent {
 
     /// Damaged once, in one of the ways below; where there is nothing to damage it stays.
     pub fn damage(&mut self, r: &mut Numbers) {
-        match r.below(8) {
+        match r.below(9) {
             0 => self.range_moved(r),
             1 => self.rows_mixed(r),
             2 => self.part_moved(r),
@@ -113,6 +113,7 @@ impl Lent {
             4 => self.head_moved(r),
             5 => self.extremes(r),
             6 => self.slices_cut(r),
+            7 => self.run_split(r),
             _ => self.refile(r),
         };
     }
@@ -179,6 +180,22 @@ impl Lent {
             9 => self.left[i] = r.next() as u32,
             _ => self.right[i] = r.next() as u32,
         }
+        Some(())
+    }
+
+    /// A run of a row cut in two that touch, or that leave out the offset between them, and the rows after it moved along.
+    fn run_split(&mut self, r: &mut Numbers) -> Option<()> {
+        if crate::index::bad_row(&self.index()).is_some() { return None }
+        let k = self.any_row(r)?;
+        let i = self.rows[k].first as usize + r.below(self.rows[k].runs as u64) as usize;
+        let (l, end, gap) = (self.left[i], self.right[i], r.below(2) as u32);
+        if end - l <= gap { return None }
+        let middle = r.from_to(l as i64, (end - gap) as i64 - 1) as u32;
+        self.right[i] = middle;
+        self.left.insert(i + 1, middle + 1 + gap);
+        self.right.insert(i + 1, end);
+        self.rows[k].runs += 1;
+        for row in &mut self.rows[k + 1..] { row.first += 1 }
         Some(())
     }
 
