@@ -1,5 +1,5 @@
 // What a build is refused for, and by how much it raises sums where it is not.
-use audit::length_in;
+use conditions::length_in;
 use judge::lesser;
 use pack::raised_rows;
 use values::Place;
