@@ -38,7 +38,6 @@ use denote.Triple.Walked.{says}
 use Rattle.meaning_curves.specs.Curve.{windowSum}
 use Rattle.meaning_rows.specs.declared.Row.{Row}
 use Rattle.meaning_rows.specs.Build.{filed}
-use Rattle.meaning_rows.proofs.Build.{mergedRows}
 use Rattle.meaning_rows.proofs.Row as T
 use Rattle.filing.specs.Levels.{windowsOf}
 use Rattle.records.proofs.Again.{LentAgain}
@@ -47,7 +46,7 @@ use Rattle.pack.specs.PackedAs.{PackedAs}
 use Rattle.lay.specs.Laid.{LayAsked}
 use Rattle.lay.proofs.lay_rows as lay
 use Rattle.lay.proofs.lay_rows.Symbol.{name as #lay-rows}
-use Rattle.build.specs.Filled.{Fillable, buffers, Holds}
+use Rattle.build.specs.Filled.{Fillable, MergeAsked, MergedAs, buffers, Holds}
 use Rattle.build.proofs.merge_some as merge
 use Rattle.build.proofs.merge_some.Symbol.{name as #merge-some}
 use Rattle.build.proofs.fill_rows as rows
@@ -73,7 +72,7 @@ module _ {M : Type 1} (𝓤 : URA M) (H : Heap 𝓤) (A : Atoms 𝓤) (mem : Mem
     abbrev pub to-merge-some : ℕ → GName → ℕ → GName → ℕ → GName → MergeSome .Ghost
     to-merge-some νa δa νl δl νr δr = (((κs, ((νa ∷ []), ((νl ∷ []), ((νr ∷ []), tt)))), (qs, (fullShare, (fullShare, (fullShare, tt)))), tt, (vs, (w, (e, (part, ((record { ptr = (ba, oa); name = δa; now = ya }), (many, ((record { ptr = (bl, ol); name = δl; now = yl }), ((record { ptr = (br, or); name = δr; now = yr }), tt)))))))), (sliceVal (vs .ptr) (length (vs .now)) ∷ [], (vint w64 w ∷ [], (vint w64 e ∷ [], (vint w64 part ∷ [], (sliceVal (ba, oa) ma ∷ [], (vint w64 many ∷ [], (sliceVal (bl, ol) ml ∷ [], (sliceVal (br, or) mr ∷ [], tt))))))))), wide)
 
-    asks-merge-some : (W : Given 𝓤 H A) (g-w : w < 2 ^ 64) (g-e : e < 2 ^ 64) (g-part : part < 2 ^ 64) (g-many : many < 2 ^ 64) (asked : (Fillable wide 0 (vs .now) w e ya many yl yr × (part ≤ 100))) (νa : ℕ) (δa : GName) (νl : ℕ) (δl : GName) (νr : ℕ) (δr : GName) → ent 𝓤 (⋆ 𝓤 H A (‵ (flft κs qs) ∷ ‵ (flft (νa ∷ []) fullShare) ∷ ‵ (flft (νl ∷ []) fullShare) ∷ ‵ (flft (νr ∷ []) fullShare) ∷ ‵ (ShrSlice (named 0) κs i32 .own vs (sliceVal (vs .ptr) (length (vs .now)) ∷ [])) ∷ ‵ (Own T.the-row ba oa ma (named 0) (νa ∷ []) δa ya) ∷ ‵ (Own u32 bl ol ml (named 0) (νl ∷ []) δl yl) ∷ ‵ (Own u32 br or mr (named 0) (νr ∷ []) δr yr) ∷ [])) (MergeSome .pre (to-merge-some νa δa νl δl νr δr))
+    asks-merge-some : (W : Given 𝓤 H A) (g-w : w < 2 ^ 64) (g-e : e < 2 ^ 64) (g-part : part < 2 ^ 64) (g-many : many < 2 ^ 64) (asked : MergeAsked wide part (vs .now) w e ya many yl yr) (νa : ℕ) (δa : GName) (νl : ℕ) (δl : GName) (νr : ℕ) (δr : GName) → ent 𝓤 (⋆ 𝓤 H A (‵ (flft κs qs) ∷ ‵ (flft (νa ∷ []) fullShare) ∷ ‵ (flft (νl ∷ []) fullShare) ∷ ‵ (flft (νr ∷ []) fullShare) ∷ ‵ (ShrSlice (named 0) κs i32 .own vs (sliceVal (vs .ptr) (length (vs .now)) ∷ [])) ∷ ‵ (Own T.the-row ba oa ma (named 0) (νa ∷ []) δa ya) ∷ ‵ (Own u32 bl ol ml (named 0) (νl ∷ []) δl yl) ∷ ‵ (Own u32 br or mr (named 0) (νr ∷ []) δr yr) ∷ [])) (MergeSome .pre (to-merge-some νa δa νl δl νr δr))
     asks-merge-some W g-w g-e g-part g-many asked νa δa νl δl νr δr = qed W (‵ (flft κs qs) ∷ ‵ (flft (νa ∷ []) fullShare) ∷ ‵ (flft (νl ∷ []) fullShare) ∷ ‵ (flft (νr ∷ []) fullShare) ∷ ‵ (ShrSlice (named 0) κs i32 .own vs (sliceVal (vs .ptr) (length (vs .now)) ∷ [])) ∷ ‵ (Own T.the-row ba oa ma (named 0) (νa ∷ []) δa ya) ∷ ‵ (Own u32 bl ol ml (named 0) (νl ∷ []) δl yl) ∷ ‵ (Own u32 br or mr (named 0) (νr ∷ []) δr yr) ∷ []) ∵
         says ! asked $ nothing ! $ move ! (4 ∷ 0 ∷ []) $ join ! $ move ! (3 ∷ 0 ∷ []) $ join ! $ move ! (2 ∷ 0 ∷ []) $ join ! $ move ! (1 ∷ 0 ∷ []) $ join ! $ frame ! $ nothing ! $ move ! (4 ∷ 0 ∷ []) $ fjoin ! $ move ! (3 ∷ 0 ∷ []) $ fjoin ! $ owned ! usize (Is usize) (uint-makes 𝓤 H A W w64) many _ (refl, g-many) $ fjoin ! $ move ! (2 ∷ 0 ∷ []) $ fjoin ! $ owned ! usize (Is usize) (uint-makes 𝓤 H A W w64) part _ (refl, g-part) $ fjoin ! $ owned ! usize (Is usize) (uint-makes 𝓤 H A W w64) e _ (refl, g-e) $ fjoin ! $ owned ! usize (Is usize) (uint-makes 𝓤 H A W w64) w _ (refl, g-w) $ fjoin ! $ move ! (1 ∷ 0 ∷ []) $ fjoin ! $ done !
 
@@ -159,9 +158,9 @@ module _ {M : Type 1} {𝓤 : URA M} {H : Heap 𝓤} {A : Atoms 𝓤} {K : Type 
       move t (6 ∷ 7 ∷ 5 ∷ 4 ∷ 3 ∷ 2 ∷ 1 ∷ 0 ∷ []) $
       k r (ls .1 .1 .1 .1 .1 .0) (ls .1 .1 .1 .1 .1 .1 .0) (ls .1 .1 .1 .1 .1 .1 .1 .0) said (is .1) longa longl longr)))))))))))
 
-  pub calls-merge-some : K → FmC 𝓤 H (W .laws) C → (mem : Memory → SProp 𝓤) (run : Routine → Fun 𝓤) → Triple 𝓤 (C #merge-some) (MergeSome 𝓤 H A mem run) → (κs : Lft) (qs : Share) (vs : RefT (List ℤ)) (κa : Lft) (qa : Share) (ba oa ma : ℕ) (γa : GName) (ya : List Row) (κl : Lft) (ql : Share) (bl ol ml : ℕ) (γl : GName) (yl : List ℕ) (κr : Lft) (qr : Share) (br or mr : ℕ) (γr : GName) (yr : List ℕ) (w : ℕ) (e : ℕ) (part : ℕ) (many : ℕ) (wide : ℕ) → length ya ≡ ma → Room T.the-row ma → length yl ≡ ml → Room u32 ml → length yr ≡ mr → Room u32 mr → w < 2 ^ 64 → e < 2 ^ 64 → part < 2 ^ 64 → many < 2 ^ 64 → (Fillable wide 0 (vs .now) w e ya many yl yr × (part ≤ 100))
+  pub calls-merge-some : K → FmC 𝓤 H (W .laws) C → (mem : Memory → SProp 𝓤) (run : Routine → Fun 𝓤) → Triple 𝓤 (C #merge-some) (MergeSome 𝓤 H A mem run) → (κs : Lft) (qs : Share) (vs : RefT (List ℤ)) (κa : Lft) (qa : Share) (ba oa ma : ℕ) (γa : GName) (ya : List Row) (κl : Lft) (ql : Share) (bl ol ml : ℕ) (γl : GName) (yl : List ℕ) (κr : Lft) (qr : Share) (br or mr : ℕ) (γr : GName) (yr : List ℕ) (w : ℕ) (e : ℕ) (part : ℕ) (many : ℕ) (wide : ℕ) → length ya ≡ ma → Room T.the-row ma → length yl ≡ ml → Room u32 ml → length yr ≡ mr → Room u32 mr → w < 2 ^ 64 → e < 2 ^ 64 → part < 2 ^ 64 → many < 2 ^ 64 → MergeAsked wide part (vs .now) w e ya many yl yr
       → ((νa : ℕ) (δa : GName) (νl : ℕ) (δl : GName) (νr : ℕ) (δr : GName) → Opds K W (raw (MergeSome 𝓤 H A mem run .pre (to-merge-some 𝓤 H A mem run κs qs vs κa qa ba oa ma γa ya κl ql bl ol ml γl yl κr qr br or mr γr yr w e part many wide νa δa νl δl νr δr)) ∷ ‵ (ShrSlice (named 0) κs i32 .own vs (sliceVal (vs .ptr) (length (vs .now)) ∷ [])) ∷ ‵ (LentAgain T.the-row κa (νa ∷ []) qa γa ba oa δa ya) ∷ ‵ (LentAgain u32 κl (νl ∷ []) ql γl bl ol δl yl) ∷ ‵ (LentAgain u32 κr (νr ∷ []) qr γr br or δr yr) ∷ Γ) E xs (sliceVal (vs .ptr) (length (vs .now)) ∷ vint w64 w ∷ vint w64 e ∷ vint w64 part ∷ sliceVal (ba, oa) ma ∷ vint w64 many ∷ sliceVal (bl, ol) ml ∷ sliceVal (br, or) mr ∷ []))
-      → ((r : ℕ) (za : List Row) (zl : List ℕ) (zr : List ℕ) → PackedAs (windowsOf (vs .now) w) (mergedRows (windowSum (vs .now) w) wide part (windowsOf (vs .now) w)) za r → r < 2 ^ 64 → length za ≡ length ya → length zl ≡ length yl → length zr ≡ length yr → Seq K W (‵ (flft κs qs) ∷ ‵ (ShrSlice (named 0) κs i32 .own vs (sliceVal (vs .ptr) (length (vs .now)) ∷ [])) ∷ ‵ (flft κa qa) ∷ ‵ (Own T.the-row ba oa ma (named 0) κa γa za) ∷ ‵ (flft κl ql) ∷ ‵ (Own u32 bl ol ml (named 0) κl γl zl) ∷ ‵ (flft κr qr) ∷ ‵ (Own u32 br or mr (named 0) κr γr zr) ∷ Γ) (lands C Λ E d (vint w64 r) rest p))
+      → ((r : ℕ) (za : List Row) (zl : List ℕ) (zr : List ℕ) → MergedAs wide part (vs .now) w za r → r < 2 ^ 64 → length za ≡ length ya → length zl ≡ length yl → length zr ≡ length yr → Seq K W (‵ (flft κs qs) ∷ ‵ (ShrSlice (named 0) κs i32 .own vs (sliceVal (vs .ptr) (length (vs .now)) ∷ [])) ∷ ‵ (flft κa qa) ∷ ‵ (Own T.the-row ba oa ma (named 0) κa γa za) ∷ ‵ (flft κl ql) ∷ ‵ (Own u32 bl ol ml (named 0) κl γl zl) ∷ ‵ (flft κr qr) ∷ ‵ (Own u32 br or mr (named 0) κr γr zr) ∷ Γ) (lands C Λ E d (vint w64 r) rest p))
       → Seq K W (‵ (flft κs qs) ∷ ‵ (ShrSlice (named 0) κs i32 .own vs (sliceVal (vs .ptr) (length (vs .now)) ∷ [])) ∷ ‵ (flft κa qa) ∷ ‵ (Own T.the-row ba oa ma (named 0) κa γa ya) ∷ ‵ (flft κl ql) ∷ ‵ (Own u32 bl ol ml (named 0) κl γl yl) ∷ ‵ (flft κr qr) ∷ ‵ (Own u32 br or mr (named 0) κr γr yr) ∷ Γ) (runs C Λ E (seq (call #merge-some xs d) rest) p)
   calls-merge-some t fm mem run met κs qs vs κa qa ba oa ma γa ya κl ql bl ol ml γl yl κr qr br or mr γr yr w e part many wide ea rooma el rooml er roomr g-w g-e g-part g-many asked os k =
       move t (3 ∷ 2 ∷ []) $
@@ -177,9 +176,9 @@ module _ {M : Type 1} {𝓤 : URA M} {H : Heap 𝓤} {A : Atoms 𝓤} {K : Type 
       group t 8 $ use1 W (raw (MergeSome 𝓤 H A mem run .pre (to-merge-some 𝓤 H A mem run κs qs vs κa qa ba oa ma γa ya κl ql bl ol ml γl yl κr qr br or mr γr yr w e part many wide νa δa νl δl νr δr))) (asks-merge-some 𝓤 H A mem run κs qs vs κa qa ba oa ma γa ya κl ql bl ol ml γl yl κr qr br or mr γr yr w e part many wide W g-w g-e g-part g-many asked νa δa νl δl νr δr) $
       calls-at t fm (MergeSome 𝓤 H A mem run) met (to-merge-some 𝓤 H A mem run κs qs vs κa qa ba oa ma γa ya κl ql bl ol ml γl yl κr qr br or mr γr yr w e part many wide νa δa νl δl νr δr) (os νa δa νl δl νr δr) (λ u. use1 W (later (some (λ (r : ℕ). ((‵ (flft κs qs) ⊛ ‵ (flft (νa ∷ []) fullShare) ⊛ ‵ (flft (νl ∷ []) fullShare) ⊛ ‵ (flft (νr ∷ []) fullShare) ⊛ ‵ ftrue) ⊛ ‵ (usize .own r (u ∷ []))) ⊛ raw (ensured 𝓤 H A merge.ended (merge.clauses 𝓤 H A mem run) (κs, ((νa ∷ []), ((νl ∷ []), ((νr ∷ []), tt)))) (vs, (w, (e, (part, ((record { ptr = (ba, oa); name = δa; now = ya }), (many, ((record { ptr = (bl, ol); name = δl; now = yl }), ((record { ptr = (br, or); name = δr; now = yr }), tt)))))))) wide r)))) (id⊢ 𝓤 _) $ await t tt $ pick t (λ r. split t $
       move t (1 ∷ []) $
-      use1 W (some (λ (ls : (Unit {0} × (Unit {0} × (Unit {0} × (Unit {0} × (List Row × (Unit {0} × (List ℕ × (List ℕ × Unit {0}))))))))). ‵ (lasts merge.ended (κs, ((νa ∷ []), ((νl ∷ []), ((νr ∷ []), tt)))) (vs, (w, (e, (part, ((record { ptr = (ba, oa); name = δa; now = ya }), (many, ((record { ptr = (bl, ol); name = δl; now = yl }), ((record { ptr = (br, or); name = δr; now = yr }), tt)))))))) ls) ⊛ raw (fact 𝓤 (PackedAs (windowsOf (vs .now) w) (mergedRows (windowSum (vs .now) w) wide part (windowsOf (vs .now) w)) (ls .1 .1 .1 .1 .0) r)))) (id⊢ 𝓤 _) $ pick t (λ ls. split t $
+      use1 W (some (λ (ls : (Unit {0} × (Unit {0} × (Unit {0} × (Unit {0} × (List Row × (Unit {0} × (List ℕ × (List ℕ × Unit {0}))))))))). ‵ (lasts merge.ended (κs, ((νa ∷ []), ((νl ∷ []), ((νr ∷ []), tt)))) (vs, (w, (e, (part, ((record { ptr = (ba, oa); name = δa; now = ya }), (many, ((record { ptr = (bl, ol); name = δl; now = yl }), ((record { ptr = (br, or); name = δr; now = yr }), tt)))))))) ls) ⊛ raw (fact 𝓤 (MergedAs wide part (vs .now) w (ls .1 .1 .1 .1 .0) r)))) (id⊢ 𝓤 _) $ pick t (λ ls. split t $
       move t (1 ∷ []) $
-      heard t (PackedAs (windowsOf (vs .now) w) (mergedRows (windowSum (vs .now) w) wide part (windowsOf (vs .now) w)) (ls .1 .1 .1 .1 .0) r) (λ said.
+      heard t (MergedAs wide part (vs .now) w (ls .1 .1 .1 .1 .0) r) (λ said.
       fsplit t $
       drop t $
       fsplit t $

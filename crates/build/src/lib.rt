@@ -11,13 +11,10 @@ ghost use mathlib.Core.Path.{_≡_};
 ghost use Rattle.filing.specs.Levels.{Lent, windowsOf};
 ghost use Prim.Native.Nat.{ℕ, _+_, _*_, _≤_};
 ghost use lib.ListN.{length};
-ghost use Rattle.meaning_curves.specs.Curve.{windowSum};
 ghost use Rattle.meaning_rows.specs.Build.{built};
-ghost use Rattle.meaning_rows.proofs.Build.{mergedRows};
-ghost use Rattle.pack.specs.PackedAs.{PackedAs};
 ghost use Rattle.lay.specs.Laid.{LayAsked};
 ghost use Rattle.fill.specs.Turn.{At};
-ghost use Rattle.build.specs.Filled.{Fillable, buffers, Holds};
+ghost use Rattle.build.specs.Filled.{Fillable, MergeAsked, MergedAs, buffers, Holds};
 
 // The first window, with its raised sum.
 pub fn first_place(s: &[i32], w: usize, e: u64) -> Place
@@ -62,8 +59,8 @@ pub fn merge_some(
     right: &mut [u32],
 ) -> usize
     ghost { ℕ }
-    requires { λ d. ⌜ Fillable d 0 (now s) w e (now rows) n (now left) (now right) × (g ≤ 100) ⌝ }
-    ensures { λ d k. ⌜ PackedAs (windowsOf (now (s .entry)) w) (mergedRows (windowSum (now (s .entry)) w) d g (windowsOf (now (s .entry)) w)) (now (rows .exit)) k ⌝ }
+    requires { λ d. ⌜ MergeAsked d g (now s) w e (now rows) n (now left) (now right) ⌝ }
+    ensures { λ d k. ⌜ MergedAs d g (now (s .entry)) w (now (rows .exit)) k ⌝ }
 {
     if g == 0 {
         return n;

@@ -43,14 +43,14 @@ use Rattle.records.proofs.Walk.{lose, lose-room}
 use Rattle.records.proofs.Lends as Lends
 use Rattle.meaning_curves.specs.Curve.{windowSum}
 use Rattle.meaning_rows.specs.Build.{SetRow, filed, built}
-use Rattle.meaning_rows.proofs.Build.{mergedRows, merged-none}
+use Rattle.meaning_rows.proofs.Build.{merged-none}
 use Rattle.filing.specs.Levels.{windowsOf}
 use Rattle.pack.specs.PackedAs.{PackedAs}
 use Rattle.lay.specs.Laid.{LayAsked}
 use Rattle.lay.proofs.lay_rows.Symbol as lay-def
 use Rattle.lay.proofs.lay_rows.Symbol.{name as #lay-rows}
 use Rattle.lay.proofs.lay_rows.Met as lay-thm
-use Rattle.build.specs.Filled.{Fillable, buffers, Holds, holds-same, rows-counted}
+use Rattle.build.specs.Filled.{Fillable, MergedAs, buffers, Holds, holds-same, rows-counted}
 use Rattle.build.proofs.Passes.{LayRows, MergeSome, FillRows, calls-lay-rows, calls-merge-some, calls-fill-rows}
 use Rattle.build.proofs.merge_some.Symbol as merge-def
 use Rattle.build.proofs.merge_some.Symbol.{name as #merge-some}
@@ -105,7 +105,7 @@ module _ {M : Type 1} (𝓤 : URA M) (H : Heap 𝓤) (A : Atoms 𝓤) (W : Given
   module _ (𝓣 : Tables 𝓤 H) (fm : FmC 𝓤 H (W .laws) (𝓣 .C)) (known-lay : Triple 𝓤 (𝓣 .C #lay-rows) (LayRows 𝓤 H A mem run)) (known-merge : Triple 𝓤 (𝓣 .C #merge-some) (MergeSome 𝓤 H A mem run)) (known-fill : Triple 𝓤 (𝓣 .C #fill-rows) (FillRows 𝓤 H A mem run))
       (g-s : Room i32 (length (xs .now))) (g-w : w < 2 ^ 64) (g-e : e < 2 ^ 64) (g-d : d < 2 ^ 64) (g-bias : bias < 2 ^ 64) (g-g : g < 2 ^ 64) (g-a : Room T.the-row (length (xa .now))) (g-l : Room u32 (length (xl .now))) (g-r : Room u32 (length (xr .now))) (asked : (LayAsked (xs .now) w e d (xl .now) (xr .now)) × (bias ≡ 10000 * w + e) × (windowsOf (xs .now) w ≤ length (xa .now)) × (g ≤ 100)) where
     -- rows of either percentage, packed, can be filled
-    fillable : (h k : ℕ) (ya : List Row) (yl yr : List ℕ) → PackedAs (windowsOf (xs .now) w) (mergedRows (windowSum (xs .now) w) d h (windowsOf (xs .now) w)) ya k → length yl ≡ length (xl .now) → length yr ≡ length (xr .now) → Fillable d h (xs .now) w e ya k yl yr
+    fillable : (h k : ℕ) (ya : List Row) (yl yr : List ℕ) → MergedAs d h (xs .now) w ya k → length yl ≡ length (xl .now) → length yr ≡ length (xr .now) → Fillable d h (xs .now) w e ya k yl yr
     fillable h k ya yl yr packed long-yl long-yr = record {
       lent = asked .0 .lent;
       least = asked .0 .least;
@@ -115,10 +115,10 @@ module _ {M : Type 1} (𝓤 : URA M) (H : Heap 𝓤) (A : Atoms 𝓤) (W : Given
       in-right = omega (arith, asked .0 .in-right, long-yr);
     }
 
-    unmerged : (n : ℕ) (ya : List Row) → PackedAs (windowsOf (xs .now) w) (filed (windowSum (xs .now) w) d (windowsOf (xs .now) w)) ya n → PackedAs (windowsOf (xs .now) w) (mergedRows (windowSum (xs .now) w) d 0 (windowsOf (xs .now) w)) ya n
+    unmerged : (n : ℕ) (ya : List Row) → PackedAs (windowsOf (xs .now) w) (filed (windowSum (xs .now) w) d (windowsOf (xs .now) w)) ya n → MergedAs d 0 (xs .now) w ya n
     unmerged n ya packed = subst (λ (l : List SetRow). PackedAs (windowsOf (xs .now) w) l ya n) (sym (merged-none (windowsOf (xs .now) w) (filed (windowSum (xs .now) w) d (windowsOf (xs .now) w)))) packed
 
-    promised : (k : ℕ) (ua : List Row) (ul ur : List ℕ) → PackedAs (windowsOf (xs .now) w) (mergedRows (windowSum (xs .now) w) d g (windowsOf (xs .now) w)) ua k → length ua ≡ length (xa .now) → length ul ≡ length (xl .now) → length ur ≡ length (xr .now)
+    promised : (k : ℕ) (ua : List Row) (ul ur : List ℕ) → MergedAs d g (xs .now) w ua k → length ua ≡ length (xa .now) → length ul ≡ length (xl .now) → length ur ≡ length (xr .now)
         → (za : List Row) (zl zr : List ℕ) → Holds d g (xs .now) w (buffers ua ul ur) (buffers za zl zr) → (k ≡ length (built (xs .now) w d g .rows)) × Holds d g (xs .now) w (buffers (xa .now) (xl .now) (xr .now)) (buffers za zl zr)
     promised k ua ul ur packed long-a long-l long-r za zl zr h = (rows-counted d g (xs .now) w (packed .many), holds-same d g (xs .now) w ua (xa .now) ul (xl .now) ur (xr .now) long-a long-l long-r h)
 
@@ -126,7 +126,7 @@ module _ {M : Type 1} (𝓤 : URA M) (H : Heap 𝓤) (A : Atoms 𝓤) (W : Given
       abbrev En : Env 𝓤 H
       En = (word, l₀) ∷ ((sliceTy (tyRef (named 0) imm half)), l₁) ∷ (word, l₂) ∷ (word, l₃) ∷ (word, l₄) ∷ (word, l₅) ∷ (word, l₆) ∷ ((sliceTy (tyRef (named 1) mut record-type)), l₇) ∷ ((sliceTy (tyRef (named 2) mut half)), l₈) ∷ ((sliceTy (tyRef (named 3) mut half)), l₉) ∷ (word, l₁₀) ∷ (word, l₁₁) ∷ ((tyRef erased mut record-type), l₁₂) ∷ ((sliceTy (tyRef erased mut record-type)), l₁₃) ∷ ((tyRef erased mut half), l₁₄) ∷ ((sliceTy (tyRef erased mut half)), l₁₅) ∷ ((tyRef erased mut half), l₁₆) ∷ ((sliceTy (tyRef erased mut half)), l₁₇) ∷ ((tyRef erased mut record-type), l₁₈) ∷ ((sliceTy (tyRef erased mut record-type)), l₁₉) ∷ ((tyRef erased mut half), l₂₀) ∷ ((sliceTy (tyRef erased mut half)), l₂₁) ∷ ((tyRef erased mut half), l₂₂) ∷ ((sliceTy (tyRef erased mut half)), l₂₃) ∷ (tyUnit, l₂₄) ∷ ((tyRef erased mut record-type), l₂₅) ∷ ((sliceTy (tyRef erased mut record-type)), l₂₆) ∷ ((tyRef erased mut half), l₂₇) ∷ ((sliceTy (tyRef erased mut half)), l₂₈) ∷ ((tyRef erased mut half), l₂₉) ∷ ((sliceTy (tyRef erased mut half)), l₃₀) ∷ []
 
-      go-4 : (n : ℕ) (ya : List Row) (yl : List ℕ) (yr : List ℕ) (packed : PackedAs (windowsOf (xs .now) w) (filed (windowSum (xs .now) w) d (windowsOf (xs .now) w)) ya n) (g-n : n < 2 ^ 64) (long-ya : length ya ≡ length (xa .now)) (long-yl : length yl ≡ length (xl .now)) (long-yr : length yr ≡ length (xr .now)) (k : ℕ) (ua : List Row) (ul : List ℕ) (ur : List ℕ) (merged′ : PackedAs (windowsOf (xs .now) w) (mergedRows (windowSum (xs .now) w) d g (windowsOf (xs .now) w)) ua k) (g-k : k < 2 ^ 64) (long-ua : length ua ≡ length ya) (long-ul : length ul ≡ length yl) (long-ur : length ur ≡ length yr) (za : List Row) (zl : List ℕ) (zr : List ℕ) (held : Holds d g (xs .now) w (buffers ua ul ur) (buffers za zl zr)) (long-za : length za ≡ length ua) (long-zl : length zl ≡ length ul) (long-zr : length zr ≡ length ur) → ent 𝓤 (⋆ 𝓤 H A (‵ (flft κs qs) ∷ ‵ (ShrSlice (named 0) κs i32 .own xs (sliceVal (xs .ptr) (length (xs .now)) ∷ [])) ∷ ‵ (flft κa qa) ∷ ‵ (Lends.Own T.the-row (xa .ptr .0) (xa .ptr .1) (length (xa .now)) (named 0) κa (xa .name) za)
+      go-4 : (n : ℕ) (ya : List Row) (yl : List ℕ) (yr : List ℕ) (packed : PackedAs (windowsOf (xs .now) w) (filed (windowSum (xs .now) w) d (windowsOf (xs .now) w)) ya n) (g-n : n < 2 ^ 64) (long-ya : length ya ≡ length (xa .now)) (long-yl : length yl ≡ length (xl .now)) (long-yr : length yr ≡ length (xr .now)) (k : ℕ) (ua : List Row) (ul : List ℕ) (ur : List ℕ) (merged′ : MergedAs d g (xs .now) w ua k) (g-k : k < 2 ^ 64) (long-ua : length ua ≡ length ya) (long-ul : length ul ≡ length yl) (long-ur : length ur ≡ length yr) (za : List Row) (zl : List ℕ) (zr : List ℕ) (held : Holds d g (xs .now) w (buffers ua ul ur) (buffers za zl zr)) (long-za : length za ≡ length ua) (long-zl : length zl ≡ length ul) (long-zr : length zr ≡ length ur) → ent 𝓤 (⋆ 𝓤 H A (‵ (flft κs qs) ∷ ‵ (ShrSlice (named 0) κs i32 .own xs (sliceVal (xs .ptr) (length (xs .now)) ∷ [])) ∷ ‵ (flft κa qa) ∷ ‵ (Lends.Own T.the-row (xa .ptr .0) (xa .ptr .1) (length (xa .now)) (named 0) κa (xa .name) za)
           ∷ ‵ (flft κl ql) ∷ ‵ (Lends.Own u32 (xl .ptr .0) (xl .ptr .1) (length (xl .now)) (named 0) κl (xl .name) zl) ∷ ‵ (flft κr qr) ∷ ‵ (Lends.Own u32 (xr .ptr .0) (xr .ptr .1) (length (xr .now)) (named 0) κr (xr .name) zr)
           ∷ ‵ (froom (sliceTy (tyRef erased mut half)) l₃₀ 0) ∷ ‵ (fdies (sliceTy (tyRef erased mut half)) l₃₀) ∷ ‵ (froom (tyRef erased mut half) l₂₉ 0) ∷ ‵ (fdies (tyRef erased mut half) l₂₉)
           ∷ ‵ (froom (sliceTy (tyRef erased mut half)) l₂₈ 0) ∷ ‵ (fdies (sliceTy (tyRef erased mut half)) l₂₈) ∷ ‵ (froom (tyRef erased mut half) l₂₇ 0) ∷ ‵ (fdies (tyRef erased mut half) l₂₇)
@@ -169,7 +169,7 @@ module _ {M : Type 1} (𝓤 : URA M) (H : Heap 𝓤) (A : Atoms 𝓤) (W : Given
           keep ! (0 ∷ 2 ∷ 4 ∷ 6 ∷ 3 ∷ 5 ∷ 7 ∷ []) $
           by ! (exits za (long-za ∙ long-ua ∙ long-ya) zl (long-zl ∙ long-ul ∙ long-yl) zr (long-zr ∙ long-ur ∙ long-yr) k g-k (promised k ua ul ur merged′ (long-ua ∙ long-ya) (long-ul ∙ long-yl) (long-ur ∙ long-yr) za zl zr held))
 
-      go-3 : (n : ℕ) (ya : List Row) (yl : List ℕ) (yr : List ℕ) (packed : PackedAs (windowsOf (xs .now) w) (filed (windowSum (xs .now) w) d (windowsOf (xs .now) w)) ya n) (g-n : n < 2 ^ 64) (long-ya : length ya ≡ length (xa .now)) (long-yl : length yl ≡ length (xl .now)) (long-yr : length yr ≡ length (xr .now)) (k : ℕ) (ua : List Row) (ul : List ℕ) (ur : List ℕ) (merged′ : PackedAs (windowsOf (xs .now) w) (mergedRows (windowSum (xs .now) w) d g (windowsOf (xs .now) w)) ua k) (g-k : k < 2 ^ 64) (long-ua : length ua ≡ length ya) (long-ul : length ul ≡ length yl) (long-ur : length ur ≡ length yr) → ent 𝓤 (⋆ 𝓤 H A (‵ (flft κs qs) ∷ ‵ (ShrSlice (named 0) κs i32 .own xs (sliceVal (xs .ptr) (length (xs .now)) ∷ [])) ∷ ‵ (flft κa qa) ∷ ‵ (Lends.Own T.the-row (xa .ptr .0) (xa .ptr .1) (length (xa .now)) (named 0) κa (xa .name) ua)
+      go-3 : (n : ℕ) (ya : List Row) (yl : List ℕ) (yr : List ℕ) (packed : PackedAs (windowsOf (xs .now) w) (filed (windowSum (xs .now) w) d (windowsOf (xs .now) w)) ya n) (g-n : n < 2 ^ 64) (long-ya : length ya ≡ length (xa .now)) (long-yl : length yl ≡ length (xl .now)) (long-yr : length yr ≡ length (xr .now)) (k : ℕ) (ua : List Row) (ul : List ℕ) (ur : List ℕ) (merged′ : MergedAs d g (xs .now) w ua k) (g-k : k < 2 ^ 64) (long-ua : length ua ≡ length ya) (long-ul : length ul ≡ length yl) (long-ur : length ur ≡ length yr) → ent 𝓤 (⋆ 𝓤 H A (‵ (flft κs qs) ∷ ‵ (ShrSlice (named 0) κs i32 .own xs (sliceVal (xs .ptr) (length (xs .now)) ∷ [])) ∷ ‵ (flft κa qa) ∷ ‵ (Lends.Own T.the-row (xa .ptr .0) (xa .ptr .1) (length (xa .now)) (named 0) κa (xa .name) ua)
           ∷ ‵ (flft κl ql) ∷ ‵ (Lends.Own u32 (xl .ptr .0) (xl .ptr .1) (length (xl .now)) (named 0) κl (xl .name) ul) ∷ ‵ (flft κr qr) ∷ ‵ (Lends.Own u32 (xr .ptr .0) (xr .ptr .1) (length (xr .now)) (named 0) κr (xr .name) ur)
           ∷ ‵ (froom (sliceTy (tyRef erased mut half)) l₃₀ 0) ∷ ‵ (fdies (sliceTy (tyRef erased mut half)) l₃₀) ∷ ‵ (froom (tyRef erased mut half) l₂₉ 0) ∷ ‵ (fdies (tyRef erased mut half) l₂₉)
           ∷ ‵ (froom (sliceTy (tyRef erased mut half)) l₂₈ 0) ∷ ‵ (fdies (sliceTy (tyRef erased mut half)) l₂₈) ∷ ‵ (froom (tyRef erased mut half) l₂₇ 0) ∷ ‵ (fdies (tyRef erased mut half) l₂₇)

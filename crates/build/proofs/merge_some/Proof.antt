@@ -48,7 +48,7 @@ use package.mir.Syntax.{tyBool}
 use package.mir.Val.{vbool}
 use Rattle.meaning_curves.specs.Curve.{windowSum}
 use Rattle.meaning_rows.specs.Build.{SetRow, filed, merged}
-use Rattle.meaning_rows.proofs.Build.{mergedRows, merged-none}
+use Rattle.meaning_rows.proofs.Build.{merged-none}
 use Rattle.filing.specs.Levels.{windowsOf}
 use Rattle.records.proofs.Walk.{by-bool, goes-in, passes-by}
 use Rattle.pack.specs.PackedAs.{PackedAs}
@@ -62,7 +62,7 @@ use Rattle.merging.specs.Filed.{filed-standing}
 use Rattle.merging.proofs.merge_packed.Symbol as packed-def
 use Rattle.merging.proofs.merge_packed.Symbol.{name as #merge-packed}
 use Rattle.merging.proofs.merge_packed.Met as packed-thm
-use Rattle.build.specs.Filled.{Fillable}
+use Rattle.build.specs.Filled.{MergeAsked, MergedAs}
 use Rattle.build.proofs.Calls.{ClearRuns, calls-clear-runs}
 use Rattle.build.proofs.Merge.{MergePacked, calls-merge-packed}
 use Rattle.build.proofs.merge_some.Key.{name as #self}
@@ -103,16 +103,16 @@ module _ {M : Type 1} (𝓤 : URA M) (H : Heap 𝓤) (A : Atoms 𝓤) (W : Given
   abbrev Post : Val → SProp 𝓤
   Post = walkOf 𝓤 H A f.ended stayed (f.clauses 𝓤 H A mem run) .post bound
 
-  exits : (za : List Row) (long-a : length za ≡ length (xa .now)) (zl : List ℕ) (long-l : length zl ≡ length (xl .now)) (zr : List ℕ) (long-r : length zr ≡ length (xr .now)) (k : ℕ) (g-k : k < 2 ^ 64) (right : PackedAs (windowsOf (xs .now) w) (mergedRows (windowSum (xs .now) w) d g (windowsOf (xs .now) w)) za k) → ent 𝓤 (⋆ 𝓤 H A (‵ (flft κs qs) ∷ ‵ (flft κa qa) ∷ ‵ (flft κl ql) ∷ ‵ (flft κr qr) ∷ ‵ (Lends.Own T.the-row (xa .ptr .0) (xa .ptr .1) (length (xa .now)) (named 0) κa (xa .name) za) ∷ ‵ (Lends.Own u32 (xl .ptr .0) (xl .ptr .1) (length (xl .now)) (named 0) κl (xl .name) zl) ∷ ‵ (Lends.Own u32 (xr .ptr .0) (xr .ptr .1) (length (xr .now)) (named 0) κr (xr .name) zr) ∷ [])) (Post (vint w64 k))
+  exits : (za : List Row) (long-a : length za ≡ length (xa .now)) (zl : List ℕ) (long-l : length zl ≡ length (xl .now)) (zr : List ℕ) (long-r : length zr ≡ length (xr .now)) (k : ℕ) (g-k : k < 2 ^ 64) (right : MergedAs d g (xs .now) w za k) → ent 𝓤 (⋆ 𝓤 H A (‵ (flft κs qs) ∷ ‵ (flft κa qa) ∷ ‵ (flft κl ql) ∷ ‵ (flft κr qr) ∷ ‵ (Lends.Own T.the-row (xa .ptr .0) (xa .ptr .1) (length (xa .now)) (named 0) κa (xa .name) za) ∷ ‵ (Lends.Own u32 (xl .ptr .0) (xl .ptr .1) (length (xl .now)) (named 0) κl (xl .name) zl) ∷ ‵ (Lends.Own u32 (xr .ptr .0) (xr .ptr .1) (length (xr .now)) (named 0) κr (xr .name) zr) ∷ [])) (Post (vint w64 k))
   exits za long-a zl long-l zr long-r k g-k right =
       qed W (‵ (flft κs qs) ∷ ‵ (flft κa qa) ∷ ‵ (flft κl ql) ∷ ‵ (flft κr qr) ∷ ‵ (Lends.Own T.the-row (xa .ptr .0) (xa .ptr .1) (length (xa .now)) (named 0) κa (xa .name) za) ∷ ‵ (Lends.Own u32 (xl .ptr .0) (xl .ptr .1) (length (xl .now)) (named 0) κl (xl .name) zl) ∷ ‵ (Lends.Own u32 (xr .ptr .0) (xr .ptr .1) (length (xr .now)) (named 0) κr (xr .name) zr) ∷ []) ∵
       suffices ! _ (ends-at 𝓤 H A f.ended stayed (f.clauses 𝓤 H A mem run) W bound (vint w64 k) k (tt, (tt, (tt, (tt, (za, (tt, (zl, (zr, tt)))))))) (tt, (tt, (tt, (tt, (long-a, (tt, (long-l, (long-r, tt))))))))) $ says ! right $
       nothing ! $ move ! (4 ∷ 0 ∷ []) $ join ! $ move ! (3 ∷ 0 ∷ []) $ join ! $ move ! (2 ∷ 0 ∷ []) $ join ! $ move ! (1 ∷ 0 ∷ []) $ join ! $ frame ! $ nothing ! $ move ! (3 ∷ 0 ∷ []) $ fjoin ! $ move ! (2 ∷ 0 ∷ []) $ fjoin ! $ nothing ! $ fjoin ! $ move ! (1 ∷ 0 ∷ []) $ fjoin ! $ nothing ! $ fjoin ! $ nothing ! $ fjoin ! $ nothing ! $ fjoin ! $ nothing ! $ fjoin ! $ frame ! $ owned ! usize (Is usize) (uint-makes 𝓤 H A W w64) k _ (refl, g-k) $ done !
 
   module _ (𝓣 : Tables 𝓤 H) (fm : FmC 𝓤 H (W .laws) (𝓣 .C)) (known-runs : Triple 𝓤 (𝓣 .C #clear-runs) (ClearRuns 𝓤 H A mem run)) (known-packed : Triple 𝓤 (𝓣 .C #merge-packed) (MergePacked 𝓤 H A mem run))
-      (g-s : Room i32 (length (xs .now))) (g-w : w < 2 ^ 64) (g-e : e < 2 ^ 64) (g-g : g < 2 ^ 64) (g-a : Room T.the-row (length (xa .now))) (g-n : n < 2 ^ 64) (g-l : Room u32 (length (xl .now))) (g-r : Room u32 (length (xr .now))) (asked : Fillable d 0 (xs .now) w e (xa .now) n (xl .now) (xr .now) × (g ≤ 100)) where
+      (g-s : Room i32 (length (xs .now))) (g-w : w < 2 ^ 64) (g-e : e < 2 ^ 64) (g-g : g < 2 ^ 64) (g-a : Room T.the-row (length (xa .now))) (g-n : n < 2 ^ 64) (g-l : Room u32 (length (xl .now))) (g-r : Room u32 (length (xr .now))) (asked : MergeAsked d g (xs .now) w e (xa .now) n (xl .now) (xr .now)) where
     -- percentage 0 merges nothing
-    as-it-was : eqb g 0 ≡ true → PackedAs (windowsOf (xs .now) w) (mergedRows (windowSum (xs .now) w) d g (windowsOf (xs .now) w)) (xa .now) n
+    as-it-was : eqb g 0 ≡ true → MergedAs d g (xs .now) w (xa .now) n
     as-it-was z = rw (eqb-true g 0 z) (asked .0 .packed)
 
     plain-packed : PackedAs (windowsOf (xs .now) w) (filed (windowSum (xs .now) w) d (windowsOf (xs .now) w)) (xa .now) n
@@ -121,7 +121,7 @@ module _ {M : Type 1} (𝓤 : URA M) (H : Heap 𝓤) (A : Atoms 𝓤) (W : Given
     standing : (ul ur : List ℕ) → Cleared (xl .now) ul × Cleared (xr .now) ur → Standing (xs .now) w e (xa .now) n ul ur
     standing ul ur c = filed-standing d (asked .0 .least) (asked .0 .lent) (xa .now) n plain-packed (asked .0 .most) ul ur (omega (arith, asked .0 .in-left, c .0 .long)) (omega (arith, asked .0 .in-right, c .1 .long)) (c .1 .zero)
 
-    merged-so : (za : List Row) (k : ℕ) → ((l : List SetRow) → Sound (windowSum (xs .now) w) (windowsOf (xs .now) w) l → PackedAs (windowsOf (xs .now) w) l (xa .now) n → PackedAs (windowsOf (xs .now) w) (merged g (windowsOf (xs .now) w) l) za k) → PackedAs (windowsOf (xs .now) w) (mergedRows (windowSum (xs .now) w) d g (windowsOf (xs .now) w)) za k
+    merged-so : (za : List Row) (k : ℕ) → ((l : List SetRow) → Sound (windowSum (xs .now) w) (windowsOf (xs .now) w) l → PackedAs (windowsOf (xs .now) w) l (xa .now) n → PackedAs (windowsOf (xs .now) w) (merged g (windowsOf (xs .now) w) l) za k) → MergedAs d g (xs .now) w za k
     merged-so za k said = said (filed (windowSum (xs .now) w) d (windowsOf (xs .now) w)) (filed-sound (xs .now) w e (asked .0 .lent) d (asked .0 .least) (asked .0 .most)) plain-packed
 
     module _ (l₀ l₁ l₂ l₃ l₄ l₅ l₆ l₇ l₈ l₉ l₁₀ l₁₁ l₁₂ l₁₃ l₁₄ l₁₅ l₁₆ l₁₇ l₁₈ l₁₉ l₂₀ : ℕ) where
