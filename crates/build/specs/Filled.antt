@@ -38,6 +38,14 @@ pub record Fillable (d g : ℕ) (s : List ℤ) (w e : ℕ) (rows : List Row) (n 
   pub in-left : windowsOf s w ≤ length left
   pub in-right : windowsOf s w ≤ length right
 
+-- what merging by percentage g asks, of the rows of a build without merging
+abbrev pub MergeAsked : ℕ → ℕ → List ℤ → ℕ → ℕ → List Row → ℕ → List ℕ → List ℕ → Type 0
+MergeAsked d g s w e rows n left right = Fillable d 0 s w e rows n left right × (g ≤ 100)
+
+-- and what is packed then
+abbrev pub MergedAs : ℕ → ℕ → List ℤ → ℕ → List Row → ℕ → Type 0
+MergedAs d g s w rows k = PackedAs (windowsOf s w) (mergedRows (windowSum s w) d g (windowsOf s w)) rows k
+
 -- row and run buffers
 abbrev pub buffers : List Row → List ℕ → List ℕ → IndexBuffers
 buffers rows left right = record { rows = rows; left = left; right = right }

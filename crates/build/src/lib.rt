@@ -5,6 +5,7 @@ use fill::fill_parts;
 use lay::clear_runs;
 use lay::lay_rows;
 use meaning_rows::Row;
+use merging::merge_packed;
 use records::clear_rows;
 ghost use mathlib.Core.Path.{_≡_};
 ghost use Rattle.filing.specs.Levels.{Lent, windowsOf};
@@ -13,7 +14,7 @@ ghost use lib.ListN.{length};
 ghost use Rattle.meaning_rows.specs.Build.{built};
 ghost use Rattle.lay.specs.Laid.{LayAsked};
 ghost use Rattle.fill.specs.Turn.{At};
-ghost use Rattle.build.specs.Filled.{Fillable, buffers, Holds};
+ghost use Rattle.build.specs.Filled.{Fillable, MergeAsked, MergedAs, buffers, Holds};
 
 // The first window, with its raised sum.
 pub fn first_place(s: &[i32], w: usize, e: u64) -> Place
@@ -46,22 +47,46 @@ pub fn fill_rows(
     fill_parts(s, w, e, rows, n, from, left, right);
 }
 
-// The index without merging; how many rows it has. Sums are raised by `bias` in all.
-pub fn build_plain(
+// The rows packed in the first `n` records, of a build without merging, are merged; how many there are then. What the two columns hold afterwards is of no use. The ghost value is the row width.
+pub fn merge_some(
+    s: &[i32],
+    w: usize,
+    e: u64,
+    g: u64,
+    rows: &mut [Row],
+    n: usize,
+    left: &mut [u32],
+    right: &mut [u32],
+) -> usize
+    ghost { ℕ }
+    requires { λ d. ⌜ MergeAsked d g (now s) w e (now rows) n (now left) (now right) ⌝ }
+    ensures { λ d k. ⌜ MergedAs d g (now (s .entry)) w (now (rows .exit)) k ⌝ }
+{
+    if g == 0 {
+        return n;
+    }
+    clear_runs(left, right);
+    merge_packed(s, w, e, g, rows, n, left, right)
+}
+
+// The index, merged by percentage `g`; how many rows it has. Sums are raised by `bias` in all.
+pub fn build_rows(
     s: &[i32],
     w: usize,
     e: u64,
     d: u64,
     bias: u64,
+    g: u64,
     rows: &mut [Row],
     left: &mut [u32],
     right: &mut [u32],
 ) -> usize
-    requires { ⌜ (LayAsked (now s) w e d (now left) (now right)) × (bias ≡ 10000 * w + e) × (windowsOf (now s) w ≤ length (now rows)) ⌝ }
-    ensures { λ n. ⌜ (n ≡ length (built (now (s .entry)) w d 0 .rows))
-        × Holds d 0 (now (s .entry)) w (buffers (now (rows .entry)) (now (left .entry)) (now (right .entry))) (buffers (now (rows .exit)) (now (left .exit)) (now (right .exit))) ⌝ }
+    requires { ⌜ (LayAsked (now s) w e d (now left) (now right)) × (bias ≡ 10000 * w + e) × (windowsOf (now s) w ≤ length (now rows)) × (g ≤ 100) ⌝ }
+    ensures { λ k. ⌜ (k ≡ length (built (now (s .entry)) w d g .rows))
+        × Holds d g (now (s .entry)) w (buffers (now (rows .entry)) (now (left .entry)) (now (right .entry))) (buffers (now (rows .exit)) (now (left .exit)) (now (right .exit))) ⌝ }
 {
     let n = lay_rows(s, w, e, d, bias, rows, left, right);
-    fill_rows(s, w, e, rows, n, left, right);
-    n
+    let k = merge_some(s, w, e, g, rows, n, left, right);
+    fill_rows(s, w, e, rows, k, left, right);
+    k
 }

@@ -52,9 +52,11 @@ use Rattle.records.proofs.row_at as row
 use Rattle.records.proofs.row_at.Symbol.{name as #row-at}
 use Rattle.lay.specs.Laid.{LayAsked}
 use Rattle.build.specs.Filled.{buffers, Holds}
-use Rattle.build.proofs.build_plain as plain
-use Rattle.build.proofs.build_plain.Symbol.{name as #build-plain}
+use Rattle.build.proofs.build_rows as rows
+use Rattle.build.proofs.build_rows.Symbol.{name as #build-rows}
 use Rattle.build_index.specs.Answer.{indexAs}
+use Rattle.build_index.proofs.widened as wider
+use Rattle.build_index.proofs.widened.Symbol.{name as #widened}
 use Rattle.build_index.proofs.place_before as before
 use Rattle.build_index.proofs.place_before.Symbol.{name as #place-before}
 use Rattle.build_index.proofs.answer as answer
@@ -66,16 +68,27 @@ low-built = EL.val Bu.the-type Bu′.the-laws
 
 -- the contracts that the walk cites, what each is called at, and what it asks
 module _ {M : Type 1} (𝓤 : URA M) (H : Heap 𝓤) (A : Atoms 𝓤) (mem : Memory → SProp 𝓤) (run : Routine → Fun 𝓤) where
-  abbrev pub BuildPlain : Contract 𝓤
-  BuildPlain = tripleOf 𝓤 H A plain.signature (plain.spec 𝓤 H A mem run)
+  abbrev pub Widened : Contract 𝓤
+  Widened = tripleOf 𝓤 H A wider.signature (wider.spec 𝓤 H A mem run)
 
-  module _ (κs : Lft) (qs : Share) (vs : RefT (List ℤ)) (κa : Lft) (qa : Share) (ba oa ma : ℕ) (γa : GName) (ya : List Row) (κl : Lft) (ql : Share) (bl ol ml : ℕ) (γl : GName) (yl : List ℕ) (κr : Lft) (qr : Share) (br or mr : ℕ) (γr : GName) (yr : List ℕ) (w : ℕ) (e : ℕ) (wide : ℕ) (bias : ℕ) where
-    abbrev pub to-build-plain : ℕ → GName → ℕ → GName → ℕ → GName → BuildPlain .Ghost
-    to-build-plain νa δa νl δl νr δr = (((κs, ((νa ∷ []), ((νl ∷ []), ((νr ∷ []), tt)))), (qs, (fullShare, (fullShare, (fullShare, tt)))), tt, (vs, (w, (e, (wide, (bias, ((record { ptr = (ba, oa); name = δa; now = ya }), ((record { ptr = (bl, ol); name = δl; now = yl }), ((record { ptr = (br, or); name = δr; now = yr }), tt)))))))), (sliceVal (vs .ptr) (length (vs .now)) ∷ [], (vint w64 w ∷ [], (vint w64 e ∷ [], (vint w64 wide ∷ [], (vint w64 bias ∷ [], (sliceVal (ba, oa) ma ∷ [], (sliceVal (bl, ol) ml ∷ [], (sliceVal (br, or) mr ∷ [], tt))))))))), tt)
+  module _ (merge : ℕ) where
+    abbrev pub to-widened : Widened .Ghost
+    to-widened = ((tt, tt, tt, (merge, tt), (vint w32 merge ∷ [], tt)), tt)
 
-    asks-build-plain : (W : Given 𝓤 H A) (g-w : w < 2 ^ 64) (g-e : e < 2 ^ 64) (g-wide : wide < 2 ^ 64) (g-bias : bias < 2 ^ 64) (asked : ((LayAsked (vs .now) w e wide yl yr) × (bias ≡ 10000 * w + e) × (windowsOf (vs .now) w ≤ length ya))) (νa : ℕ) (δa : GName) (νl : ℕ) (δl : GName) (νr : ℕ) (δr : GName) → ent 𝓤 (⋆ 𝓤 H A (‵ (flft κs qs) ∷ ‵ (flft (νa ∷ []) fullShare) ∷ ‵ (flft (νl ∷ []) fullShare) ∷ ‵ (flft (νr ∷ []) fullShare) ∷ ‵ (ShrSlice (named 0) κs i32 .own vs (sliceVal (vs .ptr) (length (vs .now)) ∷ [])) ∷ ‵ (Own T.the-row ba oa ma (named 0) (νa ∷ []) δa ya) ∷ ‵ (Own u32 bl ol ml (named 0) (νl ∷ []) δl yl) ∷ ‵ (Own u32 br or mr (named 0) (νr ∷ []) δr yr) ∷ [])) (BuildPlain .pre (to-build-plain νa δa νl δl νr δr))
-    asks-build-plain W g-w g-e g-wide g-bias asked νa δa νl δl νr δr = qed W (‵ (flft κs qs) ∷ ‵ (flft (νa ∷ []) fullShare) ∷ ‵ (flft (νl ∷ []) fullShare) ∷ ‵ (flft (νr ∷ []) fullShare) ∷ ‵ (ShrSlice (named 0) κs i32 .own vs (sliceVal (vs .ptr) (length (vs .now)) ∷ [])) ∷ ‵ (Own T.the-row ba oa ma (named 0) (νa ∷ []) δa ya) ∷ ‵ (Own u32 bl ol ml (named 0) (νl ∷ []) δl yl) ∷ ‵ (Own u32 br or mr (named 0) (νr ∷ []) δr yr) ∷ []) ∵
-        says ! asked $ nothing ! $ move ! (4 ∷ 0 ∷ []) $ join ! $ move ! (3 ∷ 0 ∷ []) $ join ! $ move ! (2 ∷ 0 ∷ []) $ join ! $ move ! (1 ∷ 0 ∷ []) $ join ! $ frame ! $ nothing ! $ move ! (4 ∷ 0 ∷ []) $ fjoin ! $ move ! (3 ∷ 0 ∷ []) $ fjoin ! $ move ! (2 ∷ 0 ∷ []) $ fjoin ! $ owned ! usize (Is usize) (uint-makes 𝓤 H A W w64) bias _ (refl, g-bias) $ fjoin ! $ owned ! usize (Is usize) (uint-makes 𝓤 H A W w64) wide _ (refl, g-wide) $ fjoin ! $ owned ! usize (Is usize) (uint-makes 𝓤 H A W w64) e _ (refl, g-e) $ fjoin ! $ owned ! usize (Is usize) (uint-makes 𝓤 H A W w64) w _ (refl, g-w) $ fjoin ! $ move ! (1 ∷ 0 ∷ []) $ fjoin ! $ done !
+    asks-widened : (W : Given 𝓤 H A) (g-merge : merge < 2 ^ 32) → ent 𝓤 (⋆ 𝓤 H A ([])) (Widened .pre (to-widened))
+    asks-widened W g-merge = qed W ([]) ∵
+        nothing ! $ nothing ! $ owned ! u32 (Is u32) (uint-makes 𝓤 H A W w32) merge _ (refl, g-merge) $ fjoin ! $ move ! (1 ∷ 0 ∷ []) $ join ! $ frame ! $ done !
+
+  abbrev pub BuildRows : Contract 𝓤
+  BuildRows = tripleOf 𝓤 H A rows.signature (rows.spec 𝓤 H A mem run)
+
+  module _ (κs : Lft) (qs : Share) (vs : RefT (List ℤ)) (κa : Lft) (qa : Share) (ba oa ma : ℕ) (γa : GName) (ya : List Row) (κl : Lft) (ql : Share) (bl ol ml : ℕ) (γl : GName) (yl : List ℕ) (κr : Lft) (qr : Share) (br or mr : ℕ) (γr : GName) (yr : List ℕ) (w : ℕ) (e : ℕ) (wide : ℕ) (bias : ℕ) (part : ℕ) where
+    abbrev pub to-build-rows : ℕ → GName → ℕ → GName → ℕ → GName → BuildRows .Ghost
+    to-build-rows νa δa νl δl νr δr = (((κs, ((νa ∷ []), ((νl ∷ []), ((νr ∷ []), tt)))), (qs, (fullShare, (fullShare, (fullShare, tt)))), tt, (vs, (w, (e, (wide, (bias, (part, ((record { ptr = (ba, oa); name = δa; now = ya }), ((record { ptr = (bl, ol); name = δl; now = yl }), ((record { ptr = (br, or); name = δr; now = yr }), tt))))))))), (sliceVal (vs .ptr) (length (vs .now)) ∷ [], (vint w64 w ∷ [], (vint w64 e ∷ [], (vint w64 wide ∷ [], (vint w64 bias ∷ [], (vint w64 part ∷ [], (sliceVal (ba, oa) ma ∷ [], (sliceVal (bl, ol) ml ∷ [], (sliceVal (br, or) mr ∷ [], tt)))))))))), tt)
+
+    asks-build-rows : (W : Given 𝓤 H A) (g-w : w < 2 ^ 64) (g-e : e < 2 ^ 64) (g-wide : wide < 2 ^ 64) (g-bias : bias < 2 ^ 64) (g-part : part < 2 ^ 64) (asked : ((LayAsked (vs .now) w e wide yl yr) × (bias ≡ 10000 * w + e) × (windowsOf (vs .now) w ≤ length ya) × (part ≤ 100))) (νa : ℕ) (δa : GName) (νl : ℕ) (δl : GName) (νr : ℕ) (δr : GName) → ent 𝓤 (⋆ 𝓤 H A (‵ (flft κs qs) ∷ ‵ (flft (νa ∷ []) fullShare) ∷ ‵ (flft (νl ∷ []) fullShare) ∷ ‵ (flft (νr ∷ []) fullShare) ∷ ‵ (ShrSlice (named 0) κs i32 .own vs (sliceVal (vs .ptr) (length (vs .now)) ∷ [])) ∷ ‵ (Own T.the-row ba oa ma (named 0) (νa ∷ []) δa ya) ∷ ‵ (Own u32 bl ol ml (named 0) (νl ∷ []) δl yl) ∷ ‵ (Own u32 br or mr (named 0) (νr ∷ []) δr yr) ∷ [])) (BuildRows .pre (to-build-rows νa δa νl δl νr δr))
+    asks-build-rows W g-w g-e g-wide g-bias g-part asked νa δa νl δl νr δr = qed W (‵ (flft κs qs) ∷ ‵ (flft (νa ∷ []) fullShare) ∷ ‵ (flft (νl ∷ []) fullShare) ∷ ‵ (flft (νr ∷ []) fullShare) ∷ ‵ (ShrSlice (named 0) κs i32 .own vs (sliceVal (vs .ptr) (length (vs .now)) ∷ [])) ∷ ‵ (Own T.the-row ba oa ma (named 0) (νa ∷ []) δa ya) ∷ ‵ (Own u32 bl ol ml (named 0) (νl ∷ []) δl yl) ∷ ‵ (Own u32 br or mr (named 0) (νr ∷ []) δr yr) ∷ []) ∵
+        says ! asked $ nothing ! $ move ! (4 ∷ 0 ∷ []) $ join ! $ move ! (3 ∷ 0 ∷ []) $ join ! $ move ! (2 ∷ 0 ∷ []) $ join ! $ move ! (1 ∷ 0 ∷ []) $ join ! $ frame ! $ nothing ! $ move ! (4 ∷ 0 ∷ []) $ fjoin ! $ move ! (3 ∷ 0 ∷ []) $ fjoin ! $ move ! (2 ∷ 0 ∷ []) $ fjoin ! $ owned ! usize (Is usize) (uint-makes 𝓤 H A W w64) part _ (refl, g-part) $ fjoin ! $ owned ! usize (Is usize) (uint-makes 𝓤 H A W w64) bias _ (refl, g-bias) $ fjoin ! $ owned ! usize (Is usize) (uint-makes 𝓤 H A W w64) wide _ (refl, g-wide) $ fjoin ! $ owned ! usize (Is usize) (uint-makes 𝓤 H A W w64) e _ (refl, g-e) $ fjoin ! $ owned ! usize (Is usize) (uint-makes 𝓤 H A W w64) w _ (refl, g-w) $ fjoin ! $ move ! (1 ∷ 0 ∷ []) $ fjoin ! $ done !
 
   abbrev pub PlaceBefore : Contract 𝓤
   PlaceBefore = tripleOf 𝓤 H A before.signature (before.spec 𝓤 H A mem run)
@@ -111,11 +124,33 @@ module _ {M : Type 1} (𝓤 : URA M) (H : Heap 𝓤) (A : Atoms 𝓤) (mem : Mem
         says ! asked $ nothing ! $ move ! (1 ∷ 0 ∷ []) $ join ! $ frame ! $ nothing ! $ owned ! T.the-row (Is T.the-row) (LL.makes T.the-type T′.the-plain 𝓤 H A) row _ g-row $ fjoin ! $ owned ! usize (Is usize) (uint-makes 𝓤 H A W w64) many _ (refl, g-many) $ fjoin ! $ owned ! u32 (Is u32) (uint-makes 𝓤 H A W w32) wide _ (refl, g-wide) $ fjoin ! $ owned ! u32 (Is u32) (uint-makes 𝓤 H A W w32) w _ (refl, g-w) $ fjoin ! $ move ! (1 ∷ 0 ∷ []) $ fjoin ! $ done !
 
 module _ {M : Type 1} {𝓤 : URA M} {H : Heap 𝓤} {A : Atoms 𝓤} {K : Type 0} {W : Given 𝓤 H A} {Γ : List (Item 𝓤)} {E : Env 𝓤 H} {C : Calls 𝓤 H} {Λ : Loops 𝓤 H} {p : Post 𝓤 H} {d : Place} {rest : Body} {xs : List Operand} where
-  pub calls-build-plain : K → FmC 𝓤 H (W .laws) C → (mem : Memory → SProp 𝓤) (run : Routine → Fun 𝓤) → Triple 𝓤 (C #build-plain) (BuildPlain 𝓤 H A mem run) → (κs : Lft) (qs : Share) (vs : RefT (List ℤ)) (κa : Lft) (qa : Share) (ba oa ma : ℕ) (γa : GName) (ya : List Row) (κl : Lft) (ql : Share) (bl ol ml : ℕ) (γl : GName) (yl : List ℕ) (κr : Lft) (qr : Share) (br or mr : ℕ) (γr : GName) (yr : List ℕ) (w : ℕ) (e : ℕ) (wide : ℕ) (bias : ℕ) → length ya ≡ ma → Room T.the-row ma → length yl ≡ ml → Room u32 ml → length yr ≡ mr → Room u32 mr → w < 2 ^ 64 → e < 2 ^ 64 → wide < 2 ^ 64 → bias < 2 ^ 64 → ((LayAsked (vs .now) w e wide yl yr) × (bias ≡ 10000 * w + e) × (windowsOf (vs .now) w ≤ length ya))
-      → ((νa : ℕ) (δa : GName) (νl : ℕ) (δl : GName) (νr : ℕ) (δr : GName) → Opds K W (raw (BuildPlain 𝓤 H A mem run .pre (to-build-plain 𝓤 H A mem run κs qs vs κa qa ba oa ma γa ya κl ql bl ol ml γl yl κr qr br or mr γr yr w e wide bias νa δa νl δl νr δr)) ∷ ‵ (ShrSlice (named 0) κs i32 .own vs (sliceVal (vs .ptr) (length (vs .now)) ∷ [])) ∷ ‵ (LentAgain T.the-row κa (νa ∷ []) qa γa ba oa δa ya) ∷ ‵ (LentAgain u32 κl (νl ∷ []) ql γl bl ol δl yl) ∷ ‵ (LentAgain u32 κr (νr ∷ []) qr γr br or δr yr) ∷ Γ) E xs (sliceVal (vs .ptr) (length (vs .now)) ∷ vint w64 w ∷ vint w64 e ∷ vint w64 wide ∷ vint w64 bias ∷ sliceVal (ba, oa) ma ∷ sliceVal (bl, ol) ml ∷ sliceVal (br, or) mr ∷ []))
-      → ((r : ℕ) (za : List Row) (zl : List ℕ) (zr : List ℕ) → ((r ≡ length (built (vs .now) w wide 0 .rows)) × Holds wide 0 (vs .now) w (buffers ya yl yr) (buffers za zl zr)) → r < 2 ^ 64 → length za ≡ length ya → length zl ≡ length yl → length zr ≡ length yr → Seq K W (‵ (flft κs qs) ∷ ‵ (ShrSlice (named 0) κs i32 .own vs (sliceVal (vs .ptr) (length (vs .now)) ∷ [])) ∷ ‵ (flft κa qa) ∷ ‵ (Own T.the-row ba oa ma (named 0) κa γa za) ∷ ‵ (flft κl ql) ∷ ‵ (Own u32 bl ol ml (named 0) κl γl zl) ∷ ‵ (flft κr qr) ∷ ‵ (Own u32 br or mr (named 0) κr γr zr) ∷ Γ) (lands C Λ E d (vint w64 r) rest p))
-      → Seq K W (‵ (flft κs qs) ∷ ‵ (ShrSlice (named 0) κs i32 .own vs (sliceVal (vs .ptr) (length (vs .now)) ∷ [])) ∷ ‵ (flft κa qa) ∷ ‵ (Own T.the-row ba oa ma (named 0) κa γa ya) ∷ ‵ (flft κl ql) ∷ ‵ (Own u32 bl ol ml (named 0) κl γl yl) ∷ ‵ (flft κr qr) ∷ ‵ (Own u32 br or mr (named 0) κr γr yr) ∷ Γ) (runs C Λ E (seq (call #build-plain xs d) rest) p)
-  calls-build-plain t fm mem run met κs qs vs κa qa ba oa ma γa ya κl ql bl ol ml γl yl κr qr br or mr γr yr w e wide bias ea rooma el rooml er roomr g-w g-e g-wide g-bias asked os k =
+  pub calls-widened : K → FmC 𝓤 H (W .laws) C → (mem : Memory → SProp 𝓤) (run : Routine → Fun 𝓤) → Triple 𝓤 (C #widened) (Widened 𝓤 H A mem run) → (merge : ℕ) → merge < 2 ^ 32
+      → (Opds K W (raw (Widened 𝓤 H A mem run .pre (to-widened 𝓤 H A mem run merge)) ∷ Γ) E xs (vint w32 merge ∷ []))
+      → ((r : ℕ) → (r ≡ merge) → r < 2 ^ 64 → Seq K W (Γ) (lands C Λ E d (vint w64 r) rest p))
+      → Seq K W (Γ) (runs C Λ E (seq (call #widened xs d) rest) p)
+  calls-widened t fm mem run met merge g-merge os k =
+      use0 W (raw (Widened 𝓤 H A mem run .pre (to-widened 𝓤 H A mem run merge))) (asks-widened 𝓤 H A mem run merge W g-merge) $
+      calls-at t fm (Widened 𝓤 H A mem run) met (to-widened 𝓤 H A mem run merge) (os) (λ u. use1 W (later (some (λ (r : ℕ). ((‵ ftrue) ⊛ ‵ (usize .own r (u ∷ []))) ⊛ raw (ensured 𝓤 H A wider.ended (wider.clauses 𝓤 H A mem run) tt (merge, tt) tt r)))) (id⊢ 𝓤 _) $ await t tt $ pick t (λ r. split t $
+      move t (1 ∷ []) $
+      use1 W (some (λ (ls : (Unit {0} × Unit {0})). ‵ (lasts wider.ended tt (merge, tt) ls) ⊛ raw (fact 𝓤 ((r ≡ merge))))) (id⊢ 𝓤 _) $ pick t (λ ls. split t $
+      move t (1 ∷ []) $
+      heard t ((r ≡ merge)) (λ said.
+      fsplit t $
+      drop t $
+      drop t $
+      move t (0 ∷ []) $
+      split t $
+      move t (1 ∷ []) $
+      facts t usize (Is usize) (shows 𝓤 H A usize) r (u ∷ []) (λ is. regoal t (λ (v : Val). lands C Λ E d v rest p) (ap only (uint-tells w64 r (u ∷ []) is)) refl $
+      move t (0 ∷ []) $
+      drop t $
+      k r said (is .1))))))
+
+  pub calls-build-rows : K → FmC 𝓤 H (W .laws) C → (mem : Memory → SProp 𝓤) (run : Routine → Fun 𝓤) → Triple 𝓤 (C #build-rows) (BuildRows 𝓤 H A mem run) → (κs : Lft) (qs : Share) (vs : RefT (List ℤ)) (κa : Lft) (qa : Share) (ba oa ma : ℕ) (γa : GName) (ya : List Row) (κl : Lft) (ql : Share) (bl ol ml : ℕ) (γl : GName) (yl : List ℕ) (κr : Lft) (qr : Share) (br or mr : ℕ) (γr : GName) (yr : List ℕ) (w : ℕ) (e : ℕ) (wide : ℕ) (bias : ℕ) (part : ℕ) → length ya ≡ ma → Room T.the-row ma → length yl ≡ ml → Room u32 ml → length yr ≡ mr → Room u32 mr → w < 2 ^ 64 → e < 2 ^ 64 → wide < 2 ^ 64 → bias < 2 ^ 64 → part < 2 ^ 64 → ((LayAsked (vs .now) w e wide yl yr) × (bias ≡ 10000 * w + e) × (windowsOf (vs .now) w ≤ length ya) × (part ≤ 100))
+      → ((νa : ℕ) (δa : GName) (νl : ℕ) (δl : GName) (νr : ℕ) (δr : GName) → Opds K W (raw (BuildRows 𝓤 H A mem run .pre (to-build-rows 𝓤 H A mem run κs qs vs κa qa ba oa ma γa ya κl ql bl ol ml γl yl κr qr br or mr γr yr w e wide bias part νa δa νl δl νr δr)) ∷ ‵ (ShrSlice (named 0) κs i32 .own vs (sliceVal (vs .ptr) (length (vs .now)) ∷ [])) ∷ ‵ (LentAgain T.the-row κa (νa ∷ []) qa γa ba oa δa ya) ∷ ‵ (LentAgain u32 κl (νl ∷ []) ql γl bl ol δl yl) ∷ ‵ (LentAgain u32 κr (νr ∷ []) qr γr br or δr yr) ∷ Γ) E xs (sliceVal (vs .ptr) (length (vs .now)) ∷ vint w64 w ∷ vint w64 e ∷ vint w64 wide ∷ vint w64 bias ∷ vint w64 part ∷ sliceVal (ba, oa) ma ∷ sliceVal (bl, ol) ml ∷ sliceVal (br, or) mr ∷ []))
+      → ((r : ℕ) (za : List Row) (zl : List ℕ) (zr : List ℕ) → ((r ≡ length (built (vs .now) w wide part .rows)) × Holds wide part (vs .now) w (buffers ya yl yr) (buffers za zl zr)) → r < 2 ^ 64 → length za ≡ length ya → length zl ≡ length yl → length zr ≡ length yr → Seq K W (‵ (flft κs qs) ∷ ‵ (ShrSlice (named 0) κs i32 .own vs (sliceVal (vs .ptr) (length (vs .now)) ∷ [])) ∷ ‵ (flft κa qa) ∷ ‵ (Own T.the-row ba oa ma (named 0) κa γa za) ∷ ‵ (flft κl ql) ∷ ‵ (Own u32 bl ol ml (named 0) κl γl zl) ∷ ‵ (flft κr qr) ∷ ‵ (Own u32 br or mr (named 0) κr γr zr) ∷ Γ) (lands C Λ E d (vint w64 r) rest p))
+      → Seq K W (‵ (flft κs qs) ∷ ‵ (ShrSlice (named 0) κs i32 .own vs (sliceVal (vs .ptr) (length (vs .now)) ∷ [])) ∷ ‵ (flft κa qa) ∷ ‵ (Own T.the-row ba oa ma (named 0) κa γa ya) ∷ ‵ (flft κl ql) ∷ ‵ (Own u32 bl ol ml (named 0) κl γl yl) ∷ ‵ (flft κr qr) ∷ ‵ (Own u32 br or mr (named 0) κr γr yr) ∷ Γ) (runs C Λ E (seq (call #build-rows xs d) rest) p)
+  calls-build-rows t fm mem run met κs qs vs κa qa ba oa ma γa ya κl ql bl ol ml γl yl κr qr br or mr γr yr w e wide bias part ea rooma el rooml er roomr g-w g-e g-wide g-bias g-part asked os k =
       move t (3 ∷ 2 ∷ []) $
       lend T.the-row ba oa ma (named 0) (named 0) κa qa γa ya ea t tt (λ νa δa.
       move t (6 ∷ 5 ∷ []) $
@@ -126,12 +161,14 @@ module _ {M : Type 1} {𝓤 : URA M} {H : Heap 𝓤} {A : Atoms 𝓤} {K : Type 
       use1 W (‵ (ShrSlice (named 0) κs i32 .own vs (sliceVal (vs .ptr) (length (vs .now)) ∷ [])) ⊛ ‵ (ShrSlice (named 0) κs i32 .own vs (sliceVal (vs .ptr) (length (vs .now)) ∷ []))) (shr-slice-copy 𝓤 H A W (named 0) κs i32 .twice vs (slice-vals vs)) $
       split t $
       move t (11 ∷ 8 ∷ 5 ∷ 2 ∷ 0 ∷ 9 ∷ 6 ∷ 3 ∷ 1 ∷ 10 ∷ 7 ∷ 4 ∷ []) $
-      group t 8 $ use1 W (raw (BuildPlain 𝓤 H A mem run .pre (to-build-plain 𝓤 H A mem run κs qs vs κa qa ba oa ma γa ya κl ql bl ol ml γl yl κr qr br or mr γr yr w e wide bias νa δa νl δl νr δr))) (asks-build-plain 𝓤 H A mem run κs qs vs κa qa ba oa ma γa ya κl ql bl ol ml γl yl κr qr br or mr γr yr w e wide bias W g-w g-e g-wide g-bias asked νa δa νl δl νr δr) $
-      calls-at t fm (BuildPlain 𝓤 H A mem run) met (to-build-plain 𝓤 H A mem run κs qs vs κa qa ba oa ma γa ya κl ql bl ol ml γl yl κr qr br or mr γr yr w e wide bias νa δa νl δl νr δr) (os νa δa νl δl νr δr) (λ u. use1 W (later (some (λ (r : ℕ). ((‵ (flft κs qs) ⊛ ‵ (flft (νa ∷ []) fullShare) ⊛ ‵ (flft (νl ∷ []) fullShare) ⊛ ‵ (flft (νr ∷ []) fullShare) ⊛ ‵ ftrue) ⊛ ‵ (usize .own r (u ∷ []))) ⊛ raw (ensured 𝓤 H A plain.ended (plain.clauses 𝓤 H A mem run) (κs, ((νa ∷ []), ((νl ∷ []), ((νr ∷ []), tt)))) (vs, (w, (e, (wide, (bias, ((record { ptr = (ba, oa); name = δa; now = ya }), ((record { ptr = (bl, ol); name = δl; now = yl }), ((record { ptr = (br, or); name = δr; now = yr }), tt)))))))) tt r)))) (id⊢ 𝓤 _) $ await t tt $ pick t (λ r. split t $
+      group t 8 $ use1 W (raw (BuildRows 𝓤 H A mem run .pre (to-build-rows 𝓤 H A mem run κs qs vs κa qa ba oa ma γa ya κl ql bl ol ml γl yl κr qr br or mr γr yr w e wide bias part νa δa νl δl νr δr))) (asks-build-rows 𝓤 H A mem run κs qs vs κa qa ba oa ma γa ya κl ql bl ol ml γl yl κr qr br or mr γr yr w e wide bias part W g-w g-e g-wide g-bias g-part asked νa δa νl δl νr δr) $
+      calls-at t fm (BuildRows 𝓤 H A mem run) met (to-build-rows 𝓤 H A mem run κs qs vs κa qa ba oa ma γa ya κl ql bl ol ml γl yl κr qr br or mr γr yr w e wide bias part νa δa νl δl νr δr) (os νa δa νl δl νr δr) (λ u. use1 W (later (some (λ (r : ℕ). ((‵ (flft κs qs) ⊛ ‵ (flft (νa ∷ []) fullShare) ⊛ ‵ (flft (νl ∷ []) fullShare) ⊛ ‵ (flft (νr ∷ []) fullShare) ⊛ ‵ ftrue) ⊛ ‵ (usize .own r (u ∷ []))) ⊛ raw (ensured 𝓤 H A rows.ended (rows.clauses 𝓤 H A mem run) (κs, ((νa ∷ []), ((νl ∷ []), ((νr ∷ []), tt)))) (vs, (w, (e, (wide, (bias, (part, ((record { ptr = (ba, oa); name = δa; now = ya }), ((record { ptr = (bl, ol); name = δl; now = yl }), ((record { ptr = (br, or); name = δr; now = yr }), tt))))))))) tt r)))) (id⊢ 𝓤 _) $ await t tt $ pick t (λ r. split t $
       move t (1 ∷ []) $
-      use1 W (some (λ (ls : (Unit {0} × (Unit {0} × (Unit {0} × (Unit {0} × (Unit {0} × (List Row × (List ℕ × (List ℕ × Unit {0}))))))))). ‵ (lasts plain.ended (κs, ((νa ∷ []), ((νl ∷ []), ((νr ∷ []), tt)))) (vs, (w, (e, (wide, (bias, ((record { ptr = (ba, oa); name = δa; now = ya }), ((record { ptr = (bl, ol); name = δl; now = yl }), ((record { ptr = (br, or); name = δr; now = yr }), tt)))))))) ls) ⊛ raw (fact 𝓤 (((r ≡ length (built (vs .now) w wide 0 .rows)) × Holds wide 0 (vs .now) w (buffers ya yl yr) (buffers (ls .1 .1 .1 .1 .1 .0) (ls .1 .1 .1 .1 .1 .1 .0) (ls .1 .1 .1 .1 .1 .1 .1 .0))))))) (id⊢ 𝓤 _) $ pick t (λ ls. split t $
+      use1 W (some (λ (ls : (Unit {0} × (Unit {0} × (Unit {0} × (Unit {0} × (Unit {0} × (Unit {0} × (List Row × (List ℕ × (List ℕ × Unit {0})))))))))). ‵ (lasts rows.ended (κs, ((νa ∷ []), ((νl ∷ []), ((νr ∷ []), tt)))) (vs, (w, (e, (wide, (bias, (part, ((record { ptr = (ba, oa); name = δa; now = ya }), ((record { ptr = (bl, ol); name = δl; now = yl }), ((record { ptr = (br, or); name = δr; now = yr }), tt))))))))) ls) ⊛ raw (fact 𝓤 (((r ≡ length (built (vs .now) w wide part .rows)) × Holds wide part (vs .now) w (buffers ya yl yr) (buffers (ls .1 .1 .1 .1 .1 .1 .0) (ls .1 .1 .1 .1 .1 .1 .1 .0) (ls .1 .1 .1 .1 .1 .1 .1 .1 .0))))))) (id⊢ 𝓤 _) $ pick t (λ ls. split t $
       move t (1 ∷ []) $
-      heard t (((r ≡ length (built (vs .now) w wide 0 .rows)) × Holds wide 0 (vs .now) w (buffers ya yl yr) (buffers (ls .1 .1 .1 .1 .1 .0) (ls .1 .1 .1 .1 .1 .1 .0) (ls .1 .1 .1 .1 .1 .1 .1 .0)))) (λ said.
+      heard t (((r ≡ length (built (vs .now) w wide part .rows)) × Holds wide part (vs .now) w (buffers ya yl yr) (buffers (ls .1 .1 .1 .1 .1 .1 .0) (ls .1 .1 .1 .1 .1 .1 .1 .0) (ls .1 .1 .1 .1 .1 .1 .1 .1 .0)))) (λ said.
+      fsplit t $
+      drop t $
       fsplit t $
       drop t $
       fsplit t $
@@ -173,13 +210,13 @@ module _ {M : Type 1} {𝓤 : URA M} {H : Heap 𝓤} {A : Atoms 𝓤} {K : Type 
       move t (1 ∷ []) $
       drop t $
       move t (2 ∷ 8 ∷ 6 ∷ []) $
-      back T.the-row ba oa ma (named 0) (named 0) κa qa γa ya ea t tt νa δa (ls .1 .1 .1 .1 .1 .0) rooma longa $
+      back T.the-row ba oa ma (named 0) (named 0) κa qa γa ya ea t tt νa δa (ls .1 .1 .1 .1 .1 .1 .0) rooma longa $
       move t (3 ∷ 8 ∷ 6 ∷ []) $
-      back u32 bl ol ml (named 0) (named 0) κl ql γl yl el t tt νl δl (ls .1 .1 .1 .1 .1 .1 .0) rooml longl $
+      back u32 bl ol ml (named 0) (named 0) κl ql γl yl el t tt νl δl (ls .1 .1 .1 .1 .1 .1 .1 .0) rooml longl $
       move t (4 ∷ 8 ∷ 6 ∷ []) $
-      back u32 br or mr (named 0) (named 0) κr qr γr yr er t tt νr δr (ls .1 .1 .1 .1 .1 .1 .1 .0) roomr longr $
+      back u32 br or mr (named 0) (named 0) κr qr γr yr er t tt νr δr (ls .1 .1 .1 .1 .1 .1 .1 .1 .0) roomr longr $
       move t (6 ∷ 7 ∷ 5 ∷ 4 ∷ 3 ∷ 2 ∷ 1 ∷ 0 ∷ []) $
-      k r (ls .1 .1 .1 .1 .1 .0) (ls .1 .1 .1 .1 .1 .1 .0) (ls .1 .1 .1 .1 .1 .1 .1 .0) said (is .1) longa longl longr)))))))))))
+      k r (ls .1 .1 .1 .1 .1 .1 .0) (ls .1 .1 .1 .1 .1 .1 .1 .0) (ls .1 .1 .1 .1 .1 .1 .1 .1 .0) said (is .1) longa longl longr)))))))))))
 
   pub calls-place-before : K → FmC 𝓤 H (W .laws) C → (mem : Memory → SProp 𝓤) (run : Routine → Fun 𝓤) → Triple 𝓤 (C #place-before) (PlaceBefore 𝓤 H A mem run) → (many : ℕ) → many < 2 ^ 64 → 1 ≤ many
       → (Opds K W (raw (PlaceBefore 𝓤 H A mem run .pre (to-place-before 𝓤 H A mem run many)) ∷ Γ) E xs (vint w64 many ∷ []))

@@ -68,7 +68,7 @@ module _ (s : List ℤ) (w d g : ℕ) (b : IndexBuffers) (p : Plan) (h : Planned
     not-refused : buildRefusal (lentBuild s w d g) b ≡ none
     not-refused = sym refusal-is ∙ rw (eq-eqb (p .number) 0 z) refl
 
-    abbrev go : Goes (length s) w d (length (b .rows)) (length (b .left)) (length (b .right)) p
+    abbrev go : Goes (length s) w d g (length (b .rows)) (length (b .left)) (length (b .right)) p
     go = h .goes z .2
 
     pub plan-lent : Lent s w (p .extra)
@@ -85,11 +85,12 @@ module _ (s : List ℤ) (w d g : ℕ) (b : IndexBuffers) (p : Plan) (h : Planned
     plan-sizes = (go .fits, h .goes z .1)
 
     -- what the build asks
-    pub plan-lays : (LayAsked s (p .window) (p .extra) (p .width) (b .left) (b .right)) × (p .bias ≡ 10000 * p .window + p .extra) × (windowsOf s (p .window) ≤ length (b .rows))
+    pub plan-lays : (LayAsked s (p .window) (p .extra) (p .width) (b .left) (b .right)) × (p .bias ≡ 10000 * p .window + p .extra) × (windowsOf s (p .window) ≤ length (b .rows)) × (g ≤ 100)
     plan-lays = rw (go .lifts .window, go .lifts .width) (
       record { lent = plan-lent; least = go .least-width; most = go .most-width; rows = go .lifts .rows; bias = sym (go .lifts .is) ∙ go .lifts .multiple; in-left = go .in-left; in-right = go .in-right },
       go .lifts .is,
       go .in-rows,
+      go .most-merge,
     )
 
     abbrev l : List SetRow

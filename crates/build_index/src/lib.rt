@@ -1,5 +1,5 @@
-// The entry that builds an index: refused, or the index in the lent buffers. Without merging, which is a build of merge percentage 0.
-use build::build_plain;
+// The entry that builds an index: refused, or the index in the lent buffers.
+use build::build_rows;
 use build_plan::Plan;
 use build_plan::make_plan;
 use meaning_entries::Built;
@@ -50,25 +50,35 @@ pub fn answer(series: &[i32], w: u32, d: u32, n: usize, r: Row) -> Built
     }
 }
 
-// The index without merging, by a plan that does not refuse, and the answer.
+// The same number with 64 bits.
+pub fn widened(g: u32) -> u64
+    ensures { λ m. ⌜ m ≡ g ⌝ }
+{
+    g as u64
+}
+
+// The index by a plan that does not refuse, and the answer.
 pub fn build_planned(
     series: &[i32],
     w: u32,
     d: u32,
+    g: u32,
     p: Plan,
     rows: &mut [Row],
     left: &mut [u32],
     right: &mut [u32],
 ) -> Built
-    requires { ⌜ (PlannedFor (now series) w d 0 (buffers (now rows) (now left) (now right)) p) × (p .number ≡ 0) ⌝ }
-    ensures { λ b. ⌜ BuildKept (lentBuild (now (series .entry)) w d 0) (buffers (now (rows .entry)) (now (left .entry)) (now (right .entry))) b (buffers (now (rows .exit)) (now (left .exit)) (now (right .exit))) ⌝ }
+    requires { ⌜ (PlannedFor (now series) w d g (buffers (now rows) (now left) (now right)) p) × (p .number ≡ 0) ⌝ }
+    ensures { λ b. ⌜ BuildKept (lentBuild (now (series .entry)) w d g) (buffers (now (rows .entry)) (now (left .entry)) (now (right .entry))) b (buffers (now (rows .exit)) (now (left .exit)) (now (right .exit))) ⌝ }
 {
-    let n = build_plain(
+    let m = widened(g);
+    let n = build_rows(
         series,
         p.window,
         p.extra,
         p.width,
         p.bias,
+        m,
         rows,
         left,
         right,
@@ -78,20 +88,21 @@ pub fn build_planned(
     answer(series, w, d, n, r)
 }
 
-// The build of merge percentage 0.
-pub fn build_unmerged(
+// The build of an index of window length `w` and row width `d`, merged by percentage `g`.
+pub fn build(
     series: &[i32],
     w: u32,
     d: u32,
+    g: u32,
     rows: &mut [Row],
     left: &mut [u32],
     right: &mut [u32],
 ) -> Built
-    ensures { λ b. ⌜ BuildKept (lentBuild (now (series .entry)) w d 0) (buffers (now (rows .entry)) (now (left .entry)) (now (right .entry))) b (buffers (now (rows .exit)) (now (left .exit)) (now (right .exit))) ⌝ }
+    ensures { λ b. ⌜ BuildKept (lentBuild (now (series .entry)) w d g) (buffers (now (rows .entry)) (now (left .entry)) (now (right .entry))) b (buffers (now (rows .exit)) (now (left .exit)) (now (right .exit))) ⌝ }
 {
-    let p = make_plan(series, w, d, 0, rows.len(), left.len(), right.len());
+    let p = make_plan(series, w, d, g, rows.len(), left.len(), right.len());
     if p.number != 0 {
         return refuse(p);
     }
-    build_planned(series, w, d, p, rows, left, right)
+    build_planned(series, w, d, g, p, rows, left, right)
 }

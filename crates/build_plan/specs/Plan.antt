@@ -39,13 +39,14 @@ pub record Lifts (w d : ℕ) (p : Plan) : Type 0 where
   pub small : p .extra ≤ 1000000
 
 -- numbers in their limits, and room, of a series of n values
-pub record Goes (n w d rows left right : ℕ) (p : Plan) : Type 0 where
+pub record Goes (n w d g rows left right : ℕ) (p : Plan) : Type 0 where
   pub lifts : Lifts w d p
   pub some : 1 ≤ w
   pub most : w ≤ 256
   pub fits : w ≤ n
   pub least-width : 1 ≤ d
   pub most-width : d ≤ 1000000
+  pub most-merge : g ≤ 100
   pub in-rows : windowCount n w ≤ rows
   pub in-left : windowCount n w ≤ left
   pub in-right : windowCount n w ≤ right
@@ -58,11 +59,11 @@ numbersTable n w d g rows left right =
 
 pub record NumbersPlanned (n w d g rows left right : ℕ) (p : Plan) : Type 0 where
   pub refusal : refusalOf p ≡ firstRefusal (numbersTable n w d g rows left right)
-  pub goes : p .number ≡ 0 → Goes n w d rows left right p
+  pub goes : p .number ≡ 0 → Goes n w d g rows left right p
 
 pub record Planned (s : List ℤ) (w d g rows left right : ℕ) (p : Plan) : Type 0 where
   pub refusal : refusalOf p ≡ firstRefusal (lengthOutside mostValues s ∷ valueOutside s ∷ numbersTable (length s) w d g rows left right)
-  pub goes : p .number ≡ 0 → AllIn s × (length s ≤ 1048576) × Goes (length s) w d rows left right p
+  pub goes : p .number ≡ 0 → AllIn s × (length s ≤ 1048576) × Goes (length s) w d g rows left right p
 
 -- ---- laws
 
@@ -144,7 +145,7 @@ module _ (n w d g rows left right : ℕ) (p : Plan) where
       pub plan-runs : few-rows ≡ false → few-runs ≡ true → p ≡ refusedBy 23 0 → NumbersPlanned n w d g rows left right p
       plan-runs f h = by 22 (line-runs in-window above (widthIn (pos d)) (mergeIn (pos g)) few-rows few-runs a b c e f h)
 
-      pub plan-goes : few-rows ≡ false → few-runs ≡ false → p .number ≡ 0 → Goes n w d rows left right p → NumbersPlanned n w d g rows left right p
+      pub plan-goes : few-rows ≡ false → few-runs ≡ false → p .number ≡ 0 → Goes n w d g rows left right p → NumbersPlanned n w d g rows left right p
       plan-goes f h z l = record { refusal = not-refused p z ∙ sym (line-none in-window above (widthIn (pos d)) (mergeIn (pos g)) few-rows few-runs a b c e f h); goes = λ _. l }
 
 module _ (s : List ℤ) (w d g rows left right : ℕ) {p : Plan} where

@@ -1,13 +1,12 @@
--- The packed rows of a series can be merged (`filed-standing`), and what stands then are the records of the build (`merged-records`). Assumes nothing.
+-- The packed rows of a series can be merged (`filed-standing`). Assumes nothing.
 use mathlib.Core.Path.{_≡_}
 use mathlib.Core.List.{List}
 use Prim.Native.Nat.{ℕ, _<_, _≤_}
 use lib.IntN.{ℤ}
-use lib.ListN.{length, getD, take}
+use lib.ListN.{length, getD}
 use Rattle.meaning_curves.specs.Curve.{windowSum}
 use Rattle.meaning_rows.specs.declared.Row.{Row}
-use Rattle.meaning_rows.specs.Index.{records}
-use Rattle.meaning_rows.specs.Build.{filed, merged, builtRows}
+use Rattle.meaning_rows.specs.Build.{filed}
 use Rattle.filing.specs.Levels.{Lent, windowsOf}
 use Rattle.pack.specs.PackedAs.{PackedAs}
 use Rattle.neighbours.specs.Packed.{filed-sound}
@@ -31,8 +30,3 @@ module _ {s : List ℤ} {w e : ℕ} (d : ℕ) (one : 0 < d) (h : Lent s w e) whe
     in-right = ir;
     zeros = z;
   }
-
-  -- merged, they are the records of the build
-  pub merged-records : (g : ℕ) (rows : List Row) (k : ℕ) → PackedAs windows (merged g windows (filed sums d windows)) rows k → take k rows ≡ records 0 (builtRows sums d g windows)
-  unfolding builtRows
-  merged-records g rows k p = p .front

@@ -97,6 +97,7 @@ returns-7 c =
       fits = omega (arith, e .if2 .left);
       least-width = v .least;
       most-width = v .most;
+      most-merge = between 0 100 _ (in-merge m) .most;
       in-rows = omega (arith, l .before .if5 .left);
       in-left = omega (arith, l .lesser .ensures, c .before .if6 .left);
       in-right = omega (arith, l .lesser .ensures, c .before .if6 .left);
