@@ -1,6 +1,7 @@
 // Runs the proved entries over lent records and the plain C on the same input, in turn, compares what they answer, and prints the least time of 15 runs of each and the ratio. The indexes are built by the plain C.
 #include <stdint.h>
 #include <stdio.h>
+#include <string.h>
 #include <time.h>
 typedef int32_t i32;
 typedef uint32_t u32;
@@ -10,6 +11,7 @@ typedef struct { u32 window, width, windows; } Head;
 typedef struct { u32 kind; Head head; size_t first, second; } Answer;
 
 Answer index_audit(const i32 *, size_t, Head, const Row *, size_t, const u32 *, size_t, const u32 *, size_t);
+Answer index_build(const i32 *, size_t, u32, u32, u32, Row *, size_t, u32 *, size_t, u32 *, size_t);
 size_t plain_build(const i32 *, size_t, size_t, u32, u32, Row *, size_t, u32 *, u32 *);
 int plain_audit(const i32 *, size_t, size_t, u32, u32, const Row *, size_t, const u32 *, const u32 *, size_t);
 
@@ -32,6 +34,8 @@ enum { N = 1 << 20, W = 64, ROOM = N - W + 1, REPS = 15 };
 static i32 s[N];
 static Row rows[ROOM];
 static u32 left[ROOM], right[ROOM];
+static Row rows2[ROOM];
+static u32 left2[ROOM], right2[ROOM];
 static int different;
 
 // rattle and C in turn
@@ -56,10 +60,39 @@ static void race_audit(const char *name, u32 d, u32 g) {
     fflush(stdout);
 }
 
+// and against one pass of memset over the buffers
+static void race_build(const char *name, u32 d, u32 g) {
+    double ra = 1e9, ca = 1e9, ma = 1e9;
+    Answer x = {9, {0, 0, 0}, 0, 0};
+    size_t y = 0;
+    for (int k = 0; k < 5; k++) {
+        double t0 = now();
+        x = index_build(s, N, W, d, g, rows2, ROOM, left2, ROOM, right2, ROOM);
+        double t1 = now();
+        y = plain_build(s, N, W, d, g, rows, ROOM, left, right);
+        double t2 = now();
+        if (t1 - t0 < ra) ra = t1 - t0;
+        if (t2 - t1 < ca) ca = t2 - t1;
+    }
+    int same = x.kind == 0 && x.first == y && !memcmp(rows, rows2, sizeof rows) && !memcmp(left, left2, sizeof left) && !memcmp(right, right2, sizeof right);
+    for (int k = 0; k < 5; k++) {
+        double t0 = now();
+        memset(rows2, k, sizeof rows2);
+        memset(left2, k, sizeof left2);
+        memset(right2, k, sizeof right2);
+        double t1 = now();
+        if (t1 - t0 < ma) ma = t1 - t0;
+    }
+    if (!same) different++;
+    printf("build %-12s d=%-5u g=%-3u ratio %5.2f  (goal 1.3)  %8.3f / %8.3f ms  %5.1f memsets  %7zu rows%s\n", name, d, g, ra / ca, ra * 1e3, ca * 1e3, ra / ma, y, same ? "" : "  DIFFERENT");
+    fflush(stdout);
+}
+
 int main(void) {
     for (int noisy = 0; noisy < 2; noisy++) {
         int v = 0;
         for (int i = 0; i < N; i++) s[i] = noisy ? (int)(any() % 20001) - 10000 : (v = in_limits(v + (int)(any() % 201) - 100));
+        for (int k = 0; k < 4; k++) race_build(noisy ? "noisy" : "random walk", k / 2 ? 4096 : 16, k % 2 ? 80 : 0);
         for (int k = 0; k < 4; k++) race_audit(noisy ? "noisy" : "random walk", k / 2 ? 4096 : 16, k % 2 ? 80 : 0);
     }
     puts(different ? "DIFFERENT answers" : "all answers are the same");

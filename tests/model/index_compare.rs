@@ -11,6 +11,9 @@ use std::time::Instant;
 
 unsafe extern "C" {
     fn index_audit(series: *const i32, n: usize, head: Head, rows: *const Row, count: usize, left: *const u32, lefts: usize, right: *const u32, rights: usize) -> Answer;
+    fn index_build(
+        series: *const i32, n: usize, w: u32, d: u32, g: u32, rows: *mut Row, count: usize, left: *mut u32, lefts: usize, right: *mut u32, rights: usize,
+    ) -> Answer;
     fn plain_build(s: *const i32, n: usize, w: usize, d: u32, g: u32, rows: *mut Row, room: usize, left: *mut u32, right: *mut u32) -> usize;
     fn plain_extend(
         s: *const i32, n: usize, w: usize, d: u32, old: usize, rows0: *const Row, count0: usize, left0: *const u32, right0: *const u32,
@@ -35,6 +38,9 @@ struct Test {
     /// how often an audit said yes, wrong, missing, and each refusal
     said: [u64; 3],
     refused: [u64; 23],
+    /// how often a build was not refused, and each refusal
+    built: u64,
+    unbuilt: [u64; 24],
 }
 
 impl Test {
@@ -67,6 +73,29 @@ impl Test {
         let told = unsafe { index_audit(s.as_ptr(), s.len(), x.head, x.rows.as_ptr(), x.rows.len(), x.left.as_ptr(), x.left.len(), x.right.as_ptr(), x.right.len()) };
         self.say(told == right, "audit", || format!("{s:?} {x:?}: {told:?}, the model {right:?}"));
         if x.suits(s.len()) { self.plain_audit(s, x, right) }
+    }
+
+    /// The build into buffers of any lengths, full of rubbish: refused, they stay; else they hold the index and zeros.
+    fn build(&mut self, s: &[i32], w: u32, d: u32, g: u32, rooms: [usize; 3]) {
+        let most = rooms.into_iter().max().unwrap();
+        let mut b = Buffers::of_rubbish(&mut self.r, most);
+        b.cut(rooms);
+        let wide: Vec<i64> = s.iter().map(|&v| v as i64).collect();
+        let (answer, after) = match build_refusal(&wide, 1 << 20, w as i64, d as i64, g as i64, rooms.into_iter().min().unwrap()) {
+            Some((number, place)) => {
+                self.unbuilt[number as usize] += 1;
+                (numbers(3, number as usize, place), b.clone())
+            }
+            None => {
+                self.built += 1;
+                let x = build(s, w as usize, d as i64, g as i64);
+                let mut after = Buffers::of(&x, most);
+                after.cut(rooms);
+                (Answer { kind: 0, head: Lent::of(&x).head, first: x.rows.len(), second: x.runs.len() }, after)
+            }
+        };
+        let told = unsafe { index_build(s.as_ptr(), s.len(), w, d, g, b.rows.as_mut_ptr(), b.rows.len(), b.left.as_mut_ptr(), b.left.len(), b.right.as_mut_ptr(), b.right.len()) };
+        self.say(told == answer && b == after, "build", || format!("{s:?} {w} {d} {g} {rooms:?}: {told:?}, the model {answer:?}"));
     }
 
     // ---- the plain C, on inputs that are not refused for their numbers
@@ -122,6 +151,15 @@ impl Test {
         let s = any_series(&mut self.r, n);
         let (w, d, g) = any_numbers(&mut self.r, n);
         self.plain_build(&s, w, d, g);
+        let windows = n - w + 1;
+        let rooms = [0; 3].map(|_| windows + self.r.below(4) as usize);
+        self.build(&s, w as u32, d, g, rooms);
+        let any = [0, 1, 100, 101, 256, 257, 1_000_000, 1_000_001, u32::MAX];
+        let mut pick = |x: u32| if self.r.below(6) == 0 { any[self.r.below(9) as usize] } else { x };
+        let (w, d, g) = (pick(w as u32), pick(d), pick(g));
+        let rooms = [0; 3].map(|_| (windows + self.r.below(4) as usize).saturating_sub(self.r.below(4) as usize / 3));
+        let s = if self.r.below(3) == 0 { damaged_series(&mut self.r, &s) } else { s };
+        self.build(&s, w, d, g, rooms);
     }
 
     fn extends(&mut self, n: usize) {
@@ -149,18 +187,19 @@ impl Test {
 fn main() {
     let turns: u64 = std::env::args().nth(1).map_or(120_000, |x| x.parse().unwrap());
     let start = Instant::now();
-    let mut t = Test { r: Numbers(88172645463325252), inputs: 0, wrong: 0, plain: 0, said: [0; 3], refused: [0; 23] };
+    let mut t = Test { r: Numbers(88172645463325252), inputs: 0, wrong: 0, plain: 0, said: [0; 3], refused: [0; 23], built: 0, unbuilt: [0; 24] };
     for k in 0..turns {
         let n = match k % 100 { 0 => t.r.from_to(150, 400), 1..=9 => t.r.from_to(40, 149), 10..=19 => t.r.from_to(1, 3), _ => t.r.from_to(4, 40) } as usize;
         t.audits(n);
-        if k % 8 == 0 { t.builds(n) }
+        if k % 2 == 0 { t.builds(n) }
         if k % 8 == 4 { t.extends(n) }
     }
     t.greatest();
     let told: Vec<String> = [1, 2, 20, 21, 22].iter().map(|&k| format!("{k}: {}", t.refused[k])).collect();
+    let unbuilt: Vec<String> = [1, 2, 3, 4, 5, 23].iter().map(|&k| format!("{k}: {}", t.unbuilt[k])).collect();
     println!(
-        "{} inputs, {} differences ({} of the plain C; audits: {} yes, {} filed wrongly, {} missing, refused {}) in {:.1} s",
-        t.inputs, t.wrong, t.plain, t.said[0], t.said[1], t.said[2], told.join(" "), start.elapsed().as_secs_f64()
+        "{} inputs, {} differences ({} of the plain C; audits: {} yes, {} filed wrongly, {} missing, refused {}; builds: {} built, refused {}) in {:.1} s",
+        t.inputs, t.wrong, t.plain, t.said[0], t.said[1], t.said[2], told.join(" "), t.built, unbuilt.join(" "), start.elapsed().as_secs_f64()
     );
     if t.wrong > 0 { std::process::exit(1) }
 }

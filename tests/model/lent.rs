@@ -11,7 +11,7 @@ pub struct Head { pub window: u32, pub width: u32, pub windows: u32 }
 pub struct Lent { pub head: Head, pub rows: Vec<Row>, pub left: Vec<u32>, pub right: Vec<u32> }
 
 /// The three lent buffers of a build or an extension.
-#[derive(PartialEq, Eq, Debug)]
+#[derive(Clone, PartialEq, Eq, Debug)]
 pub struct Buffers { pub rows: Vec<Row>, pub left: Vec<u32>, pub right: Vec<u32> }
 
 fn row_of(r: &AnyRow) -> Row { Row { low: r.low as i32, up: r.up as i32, first: r.first as u32, runs: r.runs as u32 } }
@@ -25,6 +25,13 @@ impl Buffers {
         b.left.resize(room, 0);
         b.right.resize(room, 0);
         b
+    }
+
+    /// The three to lengths of their own.
+    pub fn cut(&mut self, rooms: [usize; 3]) {
+        self.rows.truncate(rooms[0]);
+        self.left.truncate(rooms[1]);
+        self.right.truncate(rooms[2]);
     }
 
     pub fn of_rubbish(r: &mut Numbers, room: usize) -> Buffers {

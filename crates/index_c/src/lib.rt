@@ -1,9 +1,12 @@
 // The entries over lent records for C: for the comparison under tests/ and the measurements under bench/, and for nothing else. Each takes what the entry takes, calls it, and tells its answer as a struct of numbers.
 ghost use mathlib.Core.Path.{_≡_};
 ghost use Rattle.meaning_entries.specs.Audit.{lentAudit, auditAnswer};
-ghost use Rattle.index_c.specs.Told.{numbersOf, toldAudited};
+ghost use Rattle.meaning_entries.specs.Build.{lentBuild};
+ghost use Rattle.index_c.specs.Told.{numbersOf, toldAudited, indexOf, toldBuilt, BuildTold};
 use audit::audit;
+use build_index::build;
 use meaning_entries::Audited;
+use meaning_entries::Built;
 use meaning_rows::Head;
 use meaning_rows::Row;
 
@@ -58,4 +61,43 @@ pub extern "C" fn index_audit(
 {
     let a = audit(series, head, rows, left, right);
     tell_audited(a)
+}
+
+// The index in the buffers: its head, and how many rows and runs it has.
+fn index_told(head: Head, rows: usize, runs: usize) -> Answer
+    ensures { λ a. ⌜ a ≡ indexOf head rows runs ⌝ }
+{
+    Answer {
+        kind: 0,
+        head: head,
+        first: rows,
+        second: runs,
+    }
+}
+
+// What a build answers: 0 the index's head, and how many rows and runs it has; 3 the refusal's number and place.
+fn tell_built(a: Built) -> Answer
+    ensures { λ t. ⌜ t ≡ toldBuilt a ⌝ }
+{
+    match a {
+        Built::Index { head, rows, runs } => index_told(head, rows, runs),
+        Built::Refused { number, place } => numbers(3, number as usize, place),
+    }
+}
+
+// The build.
+#[no_mangle]
+pub extern "C" fn index_build(
+    series: &[i32],
+    w: u32,
+    d: u32,
+    g: u32,
+    rows: &mut [Row],
+    left: &mut [u32],
+    right: &mut [u32],
+) -> Answer
+    ensures { λ t. ⌜ BuildTold (lentBuild (now (series .entry)) w d g) (record { rows = now (rows .entry); left = now (left .entry); right = now (right .entry) }) t (record { rows = now (rows .exit); left = now (left .exit); right = now (right .exit) }) ⌝ }
+{
+    let a = build(series, w, d, g, rows, left, right);
+    tell_built(a)
 }
