@@ -1,4 +1,4 @@
--- The stretch of runs that code finds has exactly the offsets that the range admits (`span-admits`), and lies inside the run buffer (`span-inside`), where the index is well formed.
+-- The stretch of runs that code finds has exactly the offsets that the range admits (`span-admits`), and lies inside the run buffer (`span-inside`, `span-few`), where the index is well formed.
 -- The rows met are those from row a up to row e: they begin after the rows that end at or below the range, and end before those that begin above it. Their runs stand side by side. Assumes nothing.
 use mathlib.Core.Path.{_≡_, refl, sym, ap, _∙_, subst}
 use mathlib.Core.Bool.{Bool, true, false, cond, _&&_, false≢true}
@@ -7,9 +7,9 @@ use Prim.Native.Nat.{ℕ, zero, suc, _+_, _-_, _<_, _≤_}
 use native.Mathlib.Omega.{arith}
 use native.Mathlib.Decide.{decLt, decLe}
 use lib.Dec.{eqb, ltb}
-use lib.IntN.{ℤ, pos}
+use lib.IntN.{ℤ, pos, natAbs}
 use lib.ListN.{length, getD, take, drop, length-take, length-drop, List·getD-eq-default}
-use lib.Seq.{getD-take, getD-drop, take-suc}
+use lib.Seq.{getD-take, getD-drop, take-suc, take-length}
 use lib.Signed.{leZ, ltZ, _≤ℤ_, _<ℤ_}
 use borrow.Author.Tests.{ltb-true, ltb-false, lt-ltb, le-ltb, eq-eqb, ne-eqb}
 use Rattle.meaning_numbers.specs.Place.{any}
@@ -84,6 +84,10 @@ module _ (x : Index) (f : WellFormed x) where
   unfolding runTotal
   F-inside zero h = omega arith
   F-inside (suc k) h = omega (arith, F-more k h, first-at x f zeroRow k h, row-at x f zeroRow k h .fits)
+
+  -- and there are at most as many as windows
+  F-few : (k : ℕ) → k ≤ length rows → F k ≤ natAbs (x .windows)
+  F-few k h = omega (arith, F-mono k (length rows) h (omega arith), ap runTotal (take-length rows), runs-at-most x f)
 
   -- the row that has run g
   row-of : (a d g : ℕ) → a + d ≤ length rows → F a ≤ g → g < F (a + d) → (k : ℕ) × (a ≤ k) × (k < a + d) × (F k ≤ g) × (g < F (suc k))
@@ -265,6 +269,13 @@ module _ (x : Index) (f : WellFormed x) where
     pub span-inside : metSpan rows low high .to ≤ length (x .runs)
     unfolding metSpan spanOf
     span-inside = rw to-is (F-inside e e-le)
+
+    pub span-few : (metSpan rows low high .from ≤ natAbs (x .windows)) × (metSpan rows low high .to ≤ natAbs (x .windows))
+    unfolding metSpan spanOf
+    span-few = (
+      by-test (ltb a n) (λ t. rw (t, first-at x f zeroRow a (ltb-true a n t)) (F-few a (above-le rows low))) (λ t. rw (t, to-is) (F-few e e-le)),
+      rw to-is (F-few e e-le),
+    )
 
   -- ---- a range whose ends are clamped meets the same rows
 

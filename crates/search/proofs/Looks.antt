@@ -1,0 +1,194 @@
+-- A search that nothing refuses before it looks: what its parts ask for is had (`put-asked`, `meet-asked`, `look-asked`), and what they promise is the promise of the search (`look-kept`). Assumes nothing.
+use mathlib.Core.Path.{_≡_, refl, sym, ap, _∙_}
+use mathlib.Core.Bool.{Bool, _&&_}
+use mathlib.Core.List.{List, [], map}
+use Prim.Native.Nat.{ℕ, zero, suc, _+_, _-_, _*_, _/_, _<_, _≤_}
+use native.Mathlib.Omega.{arith}
+use native.Mathlib.Nat.{div-le-self, div-mul-le-self}
+use lib.Dec.{eqb}
+use lib.IntN.{ℤ, pos, natAbs}
+use lib.ListN.{length, getD, take, drop, length-replicate}
+use Rattle.meaning_numbers.specs.Sum.{count}
+use Rattle.meaning_numbers.specs.Place.{any}
+use Rattle.meaning_numbers.proofs.Count.{count-cong}
+use Rattle.meaning_curves.specs.Curve.{at}
+use Rattle.meaning_rows.specs.declared.Row.{Row}
+use Rattle.meaning_rows.specs.declared.Head.{Head}
+use Rattle.meaning_rows.specs.Index.{Index, lent, entries, inRun}
+use Rattle.meaning_rows.specs.Runs.{runs}
+use Rattle.meaning_rows.proofs.Runs.{runs-cong}
+use Rattle.meaning_filter.specs.declared.Kind.{Kind}
+use Rattle.meaning_filter.specs.declared.Limits.{Limits}
+use Rattle.meaning_filter.specs.Range.{rangeOf, ranges}
+use Rattle.meaning_filter.specs.Candidates.{admits}
+use Rattle.meaning_filter.specs.Matches.{Question, offsetCount, candidateAt, candidateRuns, candidateCount}
+use Rattle.meaning_entries.specs.declared.Found.{Found}
+use Rattle.meaning_entries.specs.Buffers.{filled, pairRoom}
+use Rattle.meaning_entries.specs.Search.{SearchCall, SearchBuffers, lentSearch, question, lookedAfter}
+use Rattle.meaning_entries.specs.Demand2.{SearchKept}
+use Rattle.judge.proofs.Scan.{length-entries}
+use Rattle.candidates.specs.Leading.{leading, Counted}
+use Rattle.candidates.specs.Handed.{stood}
+use Rattle.candidates.proofs.Leading.{leading-all}
+use Rattle.ranges.proofs.Fits.{LimitsIn}
+use Rattle.filter.specs.declared.Span.{Span}
+use Rattle.filter.specs.Met.{clampOf, metSpan}
+use Rattle.filter.specs.Parts.{FoundAll}
+use Rattle.filter.proofs.Meaning.{cleared-zeros, found-all}
+use Rattle.filter.proofs.Spanned.{span-admits, span-inside, span-few, clamp-admits, climbs}
+use Rattle.spans.specs.Held.{lowEnds, highEnds, raisedEnd, Held, RangesReady, RangesHeld, raised-most, lowered}
+use Rattle.spans.specs.Met.{spanAt, MeetReady, AllMet}
+use Rattle.spans.specs.Raised.{CountedBy, stretchHit, StretchesReady, counted-all}
+use Rattle.search_plan.specs.Allowed.{Allowed, thePlan, allowed}
+use Rattle.finding.specs.Search.{limited, search-ends}
+use Rattle.search.specs.Looked.{LookReady, Looked}
+
+length-cleared : (l : List ℕ) → length (filled 0 [] l) ≡ length l
+unfolding filled
+length-cleared l = omega (arith, length-replicate {A = ℕ} (length l - 0) 0)
+
+-- a buffer is filled by its length
+filled-same : (l a b : List ℕ) → length a ≡ length b → _≡_ {A = List ℕ} (filled 0 l a) (filled 0 l b)
+unfolding filled
+filled-same l a b e = rw e
+
+-- a query has at most as many parts as there are windows
+more : (k w : ℕ) → 1 ≤ w → k + w ≤ suc k * w
+more k zero a = absurd (omega arith)
+more k (suc w) a = omega arith
+
+parts-le : (m w n : ℕ) → 1 ≤ w → w ≤ m → m ≤ n → m / w ≤ n + 1 - w
+parts-le m w n a b c = by (m / w) (div-mul-le-self m w)
+  where
+    by : (k : ℕ) → k * w ≤ m → k ≤ n + 1 - w
+    by zero h = omega arith
+    by (suc k) h = omega (arith, more k w a)
+
+module _ (s : List ℤ) (h : Head) (rows : List Row) (left right : List ℕ) (kind : Kind) (q : List ℤ) (l : Limits) (b : SearchBuffers) (z : thePlan s h rows left right kind q l b .number ≡ 0) where
+  abbrev m : ℕ
+  m = length q
+
+  abbrev w : ℕ
+  w = h .window
+
+  abbrev p : ℕ
+  p = m / w
+
+  abbrev n : ℕ
+  n = length s + 1 - m
+
+  abbrev x : Index
+  x = lent h rows left right
+
+  abbrev call : SearchCall
+  call = lentSearch s h rows left right kind q l
+
+  abbrev range : ℕ → ℤ × ℤ
+  range = rangeOf kind (at q) m l w
+
+  a : Allowed s h x kind q l (pairRoom (b .left) (b .right)) (length (b .scratch))
+  a = allowed s h rows left right kind q l b z
+
+  window-in : (1 ≤ w) × (w ≤ 256)
+  window-in = (a .formed .head .window .least, a .formed .head .window .most)
+
+  pub put-asked : RangesReady kind q l w (b .left) (b .right)
+  put-asked =
+      let k = parts-le m w (length s) (window-in .0) (a .window) (a .inside) in
+      record {
+        values = a .query;
+        some = a .some;
+        few = a .few;
+        not-flat = a .not-flat;
+        window = window-in .0;
+        limits = record { window = window-in .1; threshold = a .threshold; scale = omega (arith, a .scale-low); scale-most = a .scale-high; shift = a .shift };
+        first-room = omega (arith, k, a .candidates-fit);
+        last-room = omega (arith, k, a .candidates-fit);
+      }
+
+  module _ {first₁ last₁ : List ℕ} (held : RangesHeld kind q l w (b .left) (b .right) first₁ last₁) where
+    pub meet-asked : MeetReady rows p first₁ last₁
+    meet-asked = record {
+      climbs = climbs x (a .formed);
+      few = λ lo hi. let f = span-few x (a .formed) lo hi in (omega (arith, f .0, a .formed .head .windows .most), omega (arith, f .1, a .formed .head .windows .most));
+      ends = λ i k. record {
+        in-first = omega (arith, held .first-long, put-asked .first-room);
+        in-last = omega (arith, held .last-long, put-asked .last-room);
+        first-most = rw (held .held .first-at i (omega arith) k) (raised-most (range i .0));
+        last-most = rw (held .held .last-at i (omega arith) k) (raised-most (range i .1));
+      };
+    }
+
+    abbrev met : ℕ → Span
+    met i = metSpan rows (clampOf (range i .0)) (clampOf (range i .1))
+
+    span-is : (i : ℕ) → i < p → spanAt rows first₁ last₁ i ≡ met i
+    span-is i k = rw (held .held .first-at i (omega arith) k, held .held .last-at i (omega arith) k, lowered (range i .0), lowered (range i .1))
+
+    module _ {first₂ last₂ : List ℕ} (all : AllMet rows p first₁ last₁ first₂ last₂) where
+      from-is : (i : ℕ) → i < p → getD first₂ i 0 ≡ met i .from
+      from-is i k = all .held .first-at i (omega arith) k ∙ ap (λ (t : Span). t .from) (span-is i k)
+
+      to-is : (i : ℕ) → i < p → getD last₂ i 0 ≡ met i .to
+      to-is i k = all .held .last-at i (omega arith) k ∙ ap (λ (t : Span). t .to) (span-is i k)
+
+      inside : (i : ℕ) → i < p → getD last₂ i 0 ≤ length (entries left right)
+      inside i k = rw (to-is i k) (span-inside x (a .formed) (clampOf (range i .0)) (clampOf (range i .1)))
+
+      pub look-asked : LookReady s w left right kind q l first₂ last₂ (b .scratch)
+      look-asked = record {
+        limited = limited a;
+        inside = a .inside;
+        window = window-in .0;
+        window-most = window-in .1;
+        stretches = record {
+          most = omega (arith, div-le-self m w, a .few);
+          window = window-in .1;
+          first-room = omega (arith, all .first-long, held .first-long, put-asked .first-room);
+          last-room = omega (arith, all .last-long, held .last-long, put-asked .last-room);
+          inside-left = λ i k. omega (arith, inside i k, length-entries left right);
+          inside-right = λ i k. omega (arith, inside i k, length-entries left right);
+          room = omega (arith, length-cleared (b .scratch), a .scratch-fits, a .window);
+          zeros = cleared-zeros (b .scratch);
+        };
+        room = omega (arith, a .scratch-fits, a .window);
+        first-room = omega (arith, all .first-long, held .first-long, a .candidates-fit, a .window);
+        last-room = omega (arith, all .last-long, held .last-long, a .candidates-fit, a .window);
+      }
+
+      hit-is : (i j : ℕ) → i < p → stretchHit left right first₂ last₂ w i j ≡ admits x (range i) (j + i * w)
+      hit-is i j k = rw (from-is i k, to-is i k) (span-admits x (a .formed) (clampOf (range i .0)) (clampOf (range i .1)) (j + i * w) ∙ clamp-admits x (a .formed) (range i) (j + i * w))
+
+      module _ {r : Found} {left′ right′ scratch offsets distances : List ℕ} (e : Looked s w left right kind q l (record { left = first₂; right = last₂; scratch = b .scratch; offsets = b .offsets; distances = b .distances }) r (record { left = left′; right = right′; scratch = scratch; offsets = offsets; distances = distances })) where
+        counted : Counted x range n p (e .counts)
+        counted = counted-all x range (stretchHit left right first₂ last₂ w) n p (e .counts) hit-is (e .counted)
+
+        found : FoundAll x range p n first₂ last₂ left′ right′ (e .runs) (e .candidates)
+        found = found-all x range p n (e .counts) counted (e .handed)
+
+        abbrev lead : ℕ → Bool
+        lead j = eqb (leading x range p j) p
+
+        lead-is : (j : ℕ) → lead j ≡ candidateAt x (question call) j
+        unfolding candidateAt ranges question
+        lead-is j = leading-all x range p j
+
+        runs-are : runs lead n ≡ candidateRuns x (question call)
+        unfolding candidateRuns question
+        runs-are = runs-cong lead (candidateAt x (question call)) n (λ j _. lead-is j)
+
+        count-is : count lead n ≡ candidateCount x (question call)
+        unfolding candidateCount question
+        count-is = count-cong lead (candidateAt x (question call)) n (λ j _. lead-is j)
+
+        left-is : left′ ≡ lookedAfter call b .left
+        unfolding lookedAfter
+        left-is = found .left-is ∙ ap (λ (y : List (ℕ × ℕ)). filled 0 (map (λ t. t .0) y) first₂) runs-are ∙ filled-same _ first₂ (b .left) (all .first-long ∙ held .first-long)
+
+        right-is : right′ ≡ lookedAfter call b .right
+        unfolding lookedAfter
+        right-is = found .right-is ∙ ap (λ (y : List (ℕ × ℕ)). filled 0 (map (λ t. t .1) y) last₂) runs-are ∙ filled-same _ last₂ (b .right) (all .last-long ∙ held .last-long)
+
+        pub look-kept : SearchKept call b r (record { left = left′; right = right′; scratch = scratch; offsets = offsets; distances = distances })
+        unfolding lookedAfter
+        look-kept = search-ends s h rows left right kind q l b left-is right-is (found .count-is ∙ ap length runs-are) z (e .cleared) (found .found-is ∙ count-is) (e .answered)

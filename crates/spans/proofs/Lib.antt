@@ -1,0 +1,3 @@
+-- Laws of spans, and calls of a walk.
+pub mod Query
+pub mod Calls
