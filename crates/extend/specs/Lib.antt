@@ -1,0 +1,2 @@
+-- What the contracts of extend cite.
+pub mod Rowed
