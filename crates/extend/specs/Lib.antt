@@ -1,2 +1,3 @@
 -- What the contracts of extend cite.
 pub mod Rowed
+pub mod Joined
