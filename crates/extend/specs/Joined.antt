@@ -1,44 +1,39 @@
--- Where the old runs are copied and the first new run is joined, the pass can begin (`passable`), and where it ends the buffers hold the extended index (`finished`). Assumes nothing.
+-- Where the old runs are copied and the first new run is joined, the pass can begin (`passable`). Assumes nothing.
 use mathlib.Core.Path.{_≡_, refl, sym, ap, _∙_, subst}
 use mathlib.Core.Bool.{Bool, true, false}
-use mathlib.Core.List.{List, [], _∷_, _++_, map}
+use mathlib.Core.List.{List, map}
 use Prim.Native.Nat.{ℕ, zero, suc, _+_, _-_, _*_, _<_, _≤_}
 use native.Mathlib.Omega.{arith}
-use lib.IntN.{ℤ, pos, natAbs}
-use lib.ListN.{length, getD, set, take, replicate, length-set, length-map}
+use lib.IntN.{ℤ, natAbs}
+use lib.ListN.{length, getD, set, take, length-set}
 use lib.Seq.{getD-set-other}
+use Rattle.meaning_numbers.specs.Sum.{bit}
 use Rattle.meaning_numbers.proofs.Tests.{by-test, clash}
 use Rattle.meaning_curves.specs.Curve.{windowSum, windowCount}
 use Rattle.meaning_rows.specs.declared.Row.{Row}
 use Rattle.meaning_rows.specs.Range.{inside}
-use Rattle.meaning_rows.specs.Runs.{before, runs, runCount}
-use Rattle.meaning_rows.specs.Index.{Index, RangeRow, entries, records, allRuns}
-use Rattle.meaning_rows.specs.Build.{withRuns}
-use Rattle.meaning_rows.specs.Extend.{grown, extendedRows, extended}
+use Rattle.meaning_rows.specs.Runs.{before, runCount}
+use Rattle.meaning_rows.specs.Index.{Index, RangeRow, entries, records}
 use Rattle.meaning_rows.proofs.Judge.{WellFormed}
-use Rattle.meaning_rows.proofs.Runs.{before-more}
+use Rattle.meaning_rows.proofs.Runs.{before-more, before-some}
 use Rattle.meaning_rows.proofs.Columns.{runCount-mono}
-use Rattle.meaning_rows.proofs.Extend.{Extendable, grown-new}
+use Rattle.meaning_rows.proofs.Extend.{Extendable}
 use Rattle.meaning_rows.proofs.Woven.{wovenRows, grownRuns}
 use Rattle.meaning_rows.proofs.Parts.{Parts}
 use Rattle.meaning_rows.proofs.Cursors.{Cursors}
-use Rattle.meaning_rows.proofs.Laid.{length-records}
-use Rattle.meaning_rows.proofs.LaidAt.{column-at}
-use Rattle.meaning_entries.specs.Buffers.{IndexBuffers, filled, indexIn, lefts, rights}
 use Rattle.records.specs.Records.{zeroRow}
 use Rattle.filing.specs.declared.Place.{Place}
-use Rattle.filing.specs.Levels.{Lent, windowsOf, level}
+use Rattle.filing.specs.Levels.{Lent, windowsOf, level, level-is}
 use Rattle.filing.specs.Change.{Change, Stop}
 use Rattle.parts.specs.Filling.{partStart, partsTotal, parts-laid, Filling}
-use Rattle.fill.specs.Turn.{At, raisedEnd, stop-held}
+use Rattle.fill.specs.Turn.{At, raisedEnd, within-is, stop-held}
 use Rattle.fill.specs.Pass.{Passable, Passed, Rowed, rowed-once}
-use Rattle.build.specs.Filled.{buffers, filled-is, lefts-entry, rights-entry}
 use Rattle.extend_lay.specs.Copy.{columnTo, Copyable, length-column}
 use Rattle.extend_lay.specs.Columns.{column-past}
 use Rattle.extend_lay.specs.OldRuns.{rowHas, LaidRows, copyable, old-parts, old-cursors}
 use Rattle.extend_new.specs.Join.{JoinedRun, Joinable, joined-parts, joined-cursors}
 use Rattle.meaning_rows.proofs.Grown.{length-entries}
-use Rattle.extend.specs.Rowed.{rows-are, size-is, start-is, total-is, total-most, first-at, runs-at, low-at, up-at, extended-rowed, extended-laid}
+use Rattle.extend.specs.Rowed.{total-most, first-at, extended-rowed, extended-laid}
 
 -- parts that begin at the same places
 parts-first : {R W : ℕ} {P : ℕ → ℕ → Bool} {f h : ℕ → ℕ} {j : ℕ} {l r : List ℕ} → ((i : ℕ) → i < R → f i ≡ h i) → Parts R W P f j l r → Parts R W P h j l r
@@ -49,6 +44,11 @@ parts-first {l = l} {r = r} e p = record {
 
 cursors-first : {R W : ℕ} {P : ℕ → ℕ → Bool} {f h : ℕ → ℕ} {j : ℕ} {r : List ℕ} → ((i : ℕ) → i < R → f i ≡ h i) → Cursors R W P f j r → Cursors R W P h j r
 cursors-first {W = W} {P = P} {r = r} e c = record { cursor = λ i b m. ap (λ (k : ℕ). getD r (k + runCount (P i) W - 1) 0) (sym (e i b)) ∙ c .cursor i b m }
+
+-- a set that has the offset before has a run
+some-before : (p : ℕ → Bool) (j : ℕ) → before p j ≡ true → 1 ≤ runCount p j
+unfolding bit
+some-before p j h = omega (arith, rw h at (before-some p j))
 
 module _ (x : Index) (s : List ℤ) (g : WellFormed x) (long : Extendable x s) where
   abbrev w : ℕ
@@ -242,3 +242,32 @@ module _ (x : Index) (s : List ℤ) (g : WellFormed x) (long : Extendable x s) w
 
       pub passable : Passable P s w e t rows size oldLeft right′
       passable = by-test joins passable-joined passable-fresh
+
+      -- behind all parts nothing is changed
+      past-joined : joins ≡ true → (y : ℕ) → total ≤ y → getD right′ y 0 ≡ getD right₀ y 0
+      past-joined v y l =
+          let a = parts-laid size n P .room i (j .row v) in
+          let b = runCount-mono (P i) old n (long .longer) in
+          let c = some-before (P i) old (j .goes-on v) in
+          ap (λ (k : List ℕ). getD k y 0) (wrote v) ∙ getD-set-other oldRight (partStart size n P i + runCount (P i) old - 1) y (old + m v) 0 (λ q. omega arith) ∙ past-right y l
+
+      pub past-both : (y : ℕ) → total ≤ y → (getD oldLeft y 0 ≡ getD left₀ y 0) × (getD right′ y 0 ≡ getD right₀ y 0)
+      past-both y l = (past-left y l, by-test joins (λ v. past-joined v y l) (λ f. ap (λ (k : List ℕ). getD k y 0) (h .stays f .1) ∙ past-right y l))
+
+      pub long-both : (length oldLeft ≡ length left₀) × (length right′ ≡ length right₀)
+      long-both = (long-left, by-test joins (λ v. same-long v ∙ long-right) (λ f. ap length (h .stays f .1) ∙ long-right))
+
+    -- what joining asks
+    pub joinable : (e : ℕ) {place : Place} → At s w e place → place .offset ≡ old → {i : ℕ} {joins : Bool} → Joins i joins → {lo hi spot : ℕ}
+        → (joins ≡ true → lo ≡ raisedEnd (10000 * w + e) (getD rows i zeroRow .low)) → (joins ≡ true → hi ≡ raisedEnd (10000 * w + e) (getD rows i zeroRow .up))
+        → (joins ≡ true → spot ≡ partStart size n P i + runCount (P i) old - 1) → Joinable s w e place joins lo hi spot (length oldRight)
+    joinable e {place} start begins {i} {joins} j low high where-is = record {
+      begins = λ v. omega (arith, j .new v, begins);
+      sum = λ v. start .sum;
+      holds = λ v. rw (low v, high v, begins) (within-is (getD rows i zeroRow .low) (getD rows i zeroRow .up) (level-is old (start .lent)) ∙ sym (rowed .holds i old (j .row v) (omega arith) (j .new v)) ∙ j .holds v);
+      fits = λ v.
+          let a = parts-laid size n P .room i (j .row v) in
+          let b = runCount-mono (P i) old n (long .longer) in
+          let c = some-before (P i) old (j .goes-on v) in
+          omega (arith, where-is v, room-right, long-right);
+    }

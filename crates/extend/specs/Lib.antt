@@ -1,3 +1,4 @@
 -- What the contracts of extend cite.
 pub mod Rowed
 pub mod Joined
+pub mod Finished
