@@ -1,4 +1,5 @@
 -- What the contracts of extend cite.
+pub mod Steps
 pub mod Rowed
 pub mod Joined
 pub mod Finished
