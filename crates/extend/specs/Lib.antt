@@ -3,3 +3,5 @@ pub mod Steps
 pub mod Rowed
 pub mod Joined
 pub mod Finished
+pub mod Woven
+pub mod Counts
