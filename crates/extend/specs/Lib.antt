@@ -5,3 +5,4 @@ pub mod Joined
 pub mod Finished
 pub mod Woven
 pub mod Counts
+pub mod Laid
