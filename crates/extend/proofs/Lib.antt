@@ -1,0 +1,2 @@
+-- Calls of the parts of an extension in a walk.
+pub mod Calls

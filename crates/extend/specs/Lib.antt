@@ -6,3 +6,4 @@ pub mod Finished
 pub mod Woven
 pub mod Counts
 pub mod Laid
+pub mod Shell

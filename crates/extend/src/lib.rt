@@ -8,12 +8,15 @@ use extend_new::list_new;
 use extend_new::take_join;
 use filing::Place;
 use filing::slide;
+use extend_rows::weave_rows;
 use fill::raise_end;
 use meaning_rows::Row;
 use pack::sum_up;
+use records::clear_rows;
 ghost use mathlib.Core.Path.{_≡_};
 ghost use Prim.Native.Nat.{_+_, _-_, _<_, _≤_};
 ghost use lib.ListN.{length};
+ghost use Rattle.meaning_rows.specs.Index.{Index};
 ghost use Rattle.filing.specs.Levels.{level, Lent, windowsOf};
 ghost use Rattle.filing.specs.Picked.{Appended};
 ghost use Rattle.pack.specs.Packed.{Summed};
@@ -22,6 +25,7 @@ ghost use Rattle.extend_count.specs.Rank.{rank};
 ghost use Rattle.extend_count.specs.Count.{Countable, Counted};
 ghost use Rattle.extend_new.specs.New.{newTable, lessJoin};
 ghost use Rattle.extend.specs.Steps.{firstNew, joinsOf, spotOf, SumAsked, JoinAsked, JoinedAt};
+ghost use Rattle.extend.specs.Shell.{WeaveAsked, WovenAs};
 
 // The row numbers of the windows from `old` on, as `list_new` gives them. What the flags hold does not matter.
 pub fn list_by(
@@ -146,4 +150,26 @@ pub fn join_first(
     let up = raise_end(q.up, bias);
     let joins = last_ends(r, olds, first_new(s, w, old));
     join_run(s, w, e, at, joins, low, up, spot_of(q, r), right)
+}
+
+// The rows of the extension woven into `rows`, not laid out yet, and zeros behind them; how many there are. The ghost value is the old index.
+pub fn weave_new(
+    s: &[i32],
+    w: usize,
+    e: u64,
+    d: u64,
+    base: u64,
+    old: usize,
+    from: &[Row],
+    rows: &mut [Row],
+    left: &mut [u32],
+) -> usize
+    ghost { Index }
+    requires { λ x. ⌜ WeaveAsked x (now s) w e d base old (now from) (now rows) (now left) ⌝ }
+    ensures { λ x n. ⌜ WovenAs x (now (s .entry)) (now (rows .entry)) (now (rows .exit)) n ⌝ }
+{
+    let k = list_numbers(s, old, w, e, d, left);
+    let n = weave_rows(from, left, k, d, base, rows);
+    clear_rows(rows, n);
+    n
 }
