@@ -7,3 +7,4 @@ pub mod Woven
 pub mod Counts
 pub mod Laid
 pub mod Shell
+pub mod Passes

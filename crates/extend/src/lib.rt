@@ -3,13 +3,17 @@ use extend_count::count_new;
 use extend_count::find_above;
 use extend_count::last_ends;
 use extend_count::level_at;
+use extend_count::list_ends;
+use extend_lay::copy_column;
+use extend_lay::lay_rows;
 use extend_new::join_run;
 use extend_new::list_new;
 use extend_new::take_join;
+use extend_rows::weave_rows;
 use filing::Place;
 use filing::slide;
-use extend_rows::weave_rows;
 use fill::raise_end;
+use lay::clear_runs;
 use meaning_rows::Row;
 use pack::sum_up;
 use records::clear_rows;
@@ -25,6 +29,7 @@ ghost use Rattle.extend_count.specs.Rank.{rank};
 ghost use Rattle.extend_count.specs.Count.{Countable, Counted};
 ghost use Rattle.extend_new.specs.New.{newTable, lessJoin};
 ghost use Rattle.extend.specs.Steps.{firstNew, joinsOf, spotOf, SumAsked, JoinAsked, JoinedAt};
+ghost use Rattle.extend.specs.Passes.{CountAsked, CountedAs, LayAsked, LaidBy, CopyAsked, CopiedAs};
 ghost use Rattle.extend.specs.Shell.{WeaveAsked, WovenAs};
 
 // The row numbers of the windows from `old` on, as `list_new` gives them. What the flags hold does not matter.
@@ -172,4 +177,61 @@ pub fn weave_new(
     let n = weave_rows(from, left, k, d, base, rows);
     clear_rows(rows, n);
     n
+}
+
+// The runs of the first `n` rows counted in `left`, beside their raised upper ends in `right`; the row of the first new window.
+pub fn count_rows(
+    s: &[i32],
+    w: usize,
+    e: u64,
+    bias: u64,
+    old: usize,
+    rows: &[Row],
+    n: usize,
+    left: &mut [u32],
+    right: &mut [u32],
+) -> usize
+    requires { ⌜ CountAsked (now s) w e bias old (now rows) n (now left) (now right) ⌝ }
+    ensures { λ i. ⌜ CountedAs (now (s .entry)) w e bias old (now (rows .entry)) n (now (left .entry)) (now (right .entry)) i (now (left .exit)) (now (right .exit)) ⌝ }
+{
+    clear_runs(left, right);
+    list_ends(rows, n, bias, right, left);
+    count_windows(s, w, e, old, right, n, left)
+}
+
+// The first `n` rows laid out by their counts, of which that of row `i`, which had `row` before, is one less if the first new run joins.
+pub fn lay_joined(
+    s: &[i32],
+    w: usize,
+    old: usize,
+    row: Row,
+    olds: &[u32],
+    i: usize,
+    rows: &mut [Row],
+    n: usize,
+    left: &mut [u32],
+)
+    requires { ⌜ LayAsked (now s) w old row (now olds) i (now rows) n (now left) ⌝ }
+    ensures { λ _. ⌜ LaidBy (now (s .entry)) w old row (now (olds .entry)) i (now (rows .entry)) n (now (left .entry)) (now (rows .exit)) ⌝ }
+{
+    sum_joined(s, w, old, row, olds, i, left, n);
+    lay_rows(left, n, rows);
+}
+
+// The old runs copied to the parts of the first `n` rows, in columns made 0.
+pub fn copy_runs(
+    from: &[Row],
+    lefts: &[u32],
+    rights: &[u32],
+    rows: &[Row],
+    n: usize,
+    left: &mut [u32],
+    right: &mut [u32],
+)
+    requires { ⌜ CopyAsked (now from) (now lefts) (now rights) (now rows) n (now left) (now right) ⌝ }
+    ensures { λ _. ⌜ CopiedAs (now (from .entry)) (now (lefts .entry)) (now (rights .entry)) (now (rows .entry)) n (now (left .entry)) (now (right .entry)) (now (left .exit)) (now (right .exit)) ⌝ }
+{
+    clear_runs(left, right);
+    copy_column(from, lefts, rows, n, left);
+    copy_column(from, rights, rows, n, right);
 }

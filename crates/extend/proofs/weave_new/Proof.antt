@@ -106,7 +106,6 @@ module _ {M : Type 1} (𝓤 : URA M) (H : Heap 𝓤) (A : Atoms 𝓤) (W : Given
 
   module _ (𝓣 : Tables 𝓤 H) (fm : FmC 𝓤 H (W .laws) (𝓣 .C)) (known-numbers : Triple 𝓤 (𝓣 .C #list-numbers) (ListNumbers 𝓤 H A mem run)) (known-weave : Triple 𝓤 (𝓣 .C #weave-rows) (WeaveRows 𝓤 H A mem run)) (known-rows : Triple 𝓤 (𝓣 .C #clear-rows) (ClearRows 𝓤 H A mem run))
       (g-s : Room i32 (length (xs .now))) (g-w : w < 2 ^ 64) (g-e : e < 2 ^ 64) (g-d : d < 2 ^ 64) (g-base : base < 2 ^ 64) (g-old : old < 2 ^ 64) (g-f : Room T.the-row (length (xf .now))) (g-a : Room T.the-row (length (xa .now))) (g-l : Room u32 (length (xl .now))) (asked : WeaveAsked index (xs .now) w e d base old (xf .now) (xa .now) (xl .now)) where
-
     module _ (l₀ l₁ l₂ l₃ l₄ l₅ l₆ l₇ l₈ l₉ l₁₀ l₁₁ l₁₂ l₁₃ l₁₄ l₁₅ l₁₆ l₁₇ l₁₈ l₁₉ l₂₀ : ℕ) where
       abbrev En : Env 𝓤 H
       En = (word, l₀) ∷ ((sliceTy (tyRef (named 0) imm half)), l₁) ∷ (word, l₂) ∷ (word, l₃) ∷ (word, l₄) ∷ (word, l₅) ∷ (word, l₆) ∷ ((sliceTy (tyRef (named 1) imm record-type)), l₇) ∷ ((sliceTy (tyRef (named 2) mut record-type)), l₈) ∷ ((sliceTy (tyRef (named 3) mut half)), l₉) ∷ (word, l₁₀) ∷ (word, l₁₁) ∷ ((tyRef erased mut half), l₁₂) ∷ ((sliceTy (tyRef erased mut half)), l₁₃) ∷ ((tyRef erased imm half), l₁₄) ∷ ((sliceTy (tyRef erased imm half)), l₁₅) ∷ ((tyRef erased mut record-type), l₁₆) ∷ ((sliceTy (tyRef erased mut record-type)), l₁₇) ∷ (tyUnit, l₁₈) ∷ ((tyRef erased mut record-type), l₁₉) ∷ ((sliceTy (tyRef erased mut record-type)), l₂₀) ∷ []
