@@ -143,8 +143,8 @@ module _ (x : Index) (s : List ℤ) (g : WellFormed x) (long : Extendable x s) (
         abbrev first : ℕ
         first = rank ups size (level s w e old)
 
-        i-in : i < size
-        i-in = rw (first-new some) (first-in x s g long e lent ups ends counts counts′ sizes c some left right is)
+        pub row-in : i < size
+        row-in = rw (first-new some) (first-in x s g long e lent ups ends counts counts′ sizes c some left right is)
 
         ends-is : J ≡ lastEnds (getD made first zeroRow) right old
         unfolding joinsOf firstNew
@@ -159,8 +159,8 @@ module _ (x : Index) (s : List ℤ) (g : WellFormed x) (long : Extendable x s) (
         joins-new : Joins x s g long i J
         joins-new = record {
           new = λ t. some;
-          row = λ t. i-in;
-          holds = λ t. has-is i i-in ∙ eq-eqb first i (sym (first-new some));
+          row = λ t. row-in;
+          holds = λ t. has-is i row-in ∙ eq-eqb first i (sym (first-new some));
           goes-on = λ t. before-is ∙ t;
           fresh = λ f k l m t. let q : k ≡ i = sym (eqb-true first k (sym (has-is k l) ∙ t)) ∙ sym (first-new some) in ap (λ (k : ℕ). before (P k) old) q ∙ before-is ∙ f;
         }
@@ -174,7 +174,7 @@ module _ (x : Index) (s : List ℤ) (g : WellFormed x) (long : Extendable x s) (
         count-new : (k : ℕ) → k < size → getD (lessJoin J i counts′) k 0 ≡ runCount (P k) n
         count-new k l = by-test (eqb k i)
             (λ t. let q = eqb-true k i t in rw q (by-test J
-            (λ y. rw (less-yes i counts′ y) (getD-set-same counts′ i (getD counts′ i 0 - 1) 0 (omega (arith, i-in, c .long, ap length lc, length-listed (sizeOf rows) size left₁)) ∙ omega (arith, own-count, bit-true y)))
+            (λ y. rw (less-yes i counts′ y) (getD-set-same counts′ i (getD counts′ i 0 - 1) 0 (omega (arith, row-in, c .long, ap length lc, length-listed (sizeOf rows) size left₁)) ∙ omega (arith, own-count, bit-true y)))
             (λ f. rw (less-no i counts′ f) (omega (arith, own-count, bit-false f)))))
             (λ f. let q : (k ≡ i) → ⊥ = eqb-false k i f in
             let o = other-counts x s g long e lent ups ends counts counts′ sizes c some left right is k l (λ p. q (p ∙ sym (first-new some))) in
@@ -209,7 +209,7 @@ module _ (x : Index) (s : List ℤ) (g : WellFormed x) (long : Extendable x s) (
           let many = ap length lc in
           record {
             fits = omega (arith, c .long, many, length-listed (sizeOf rows) size left₁);
-            has = λ t. let h = joins .new t in (omega (arith, i-in h, c .long, many, length-listed (sizeOf rows) size left₁), omega (arith, own-count h, bit-true t));
+            has = λ t. let h = joins .new t in (omega (arith, row-in h, c .long, many, length-listed (sizeOf rows) size left₁), omega (arith, own-count h, bit-true t));
             small = omega (arith, Σℕ-same size (λ k. getD (lessJoin J i counts′) k 0) (λ k. runCount (P k) n) (λ k l. count-is k l), total-most x s g long, lent .long, lent .some);
           }
 

@@ -8,3 +8,4 @@ pub mod Counts
 pub mod Laid
 pub mod Shell
 pub mod Passes
+pub mod Whole
