@@ -108,7 +108,7 @@ module _ (x : Index) (s : List ℤ) (g : WellFormed x) (long : Extendable x s) (
     sizes : (i : ℕ) → i < size → getD counts i 0 ≡ at i .runs
     sizes i l = ap (λ (m : List ℕ). getD m i 0) lc ∙ listed-at (sizeOf rows) size left₁ in-counts i l ∙ ap (λ (r : Row). r .runs) (row-at i)
 
-    old-size : (i : ℕ) → i < size → runCount (P i) old ≡ at i .runs
+    pub old-size : (i : ℕ) → i < size → runCount (P i) old ≡ at i .runs
     old-size i l = old-count x sum (at i) (begun x s g long e lent ups ends i l)
 
     pub countable : Countable s w e old ups size counts

@@ -1,6 +1,6 @@
--- The passes of an extension, one after the other: what each asks follows from what those before it left, up to the copying of the old runs. Assumes nothing.
-use mathlib.Core.Path.{_≡_, refl, ap, _∙_}
-use mathlib.Core.Bool.{Bool}
+-- The passes of an extension, one after the other: what each asks follows from what those before it left, and at the end the buffers hold the extended index (`extended-held`). Assumes nothing.
+use mathlib.Core.Path.{_≡_, refl, ap, _∙_, subst}
+use mathlib.Core.Bool.{Bool, true}
 use mathlib.Core.List.{List, map}
 use Prim.Native.Nat.{ℕ, _+_, _-_, _*_, _<_, _≤_}
 use native.Mathlib.Omega.{arith}
@@ -15,17 +15,31 @@ use Rattle.meaning_rows.proofs.Extend.{Extendable}
 use Rattle.meaning_rows.proofs.Woven.{wovenRows, woven-most, grownRuns}
 use Rattle.meaning_entries.specs.Buffers.{filled}
 use Rattle.records.specs.Records.{zeroRow}
+use Rattle.meaning_numbers.proofs.Rep.{zarith}
+use Rattle.meaning_rows.specs.Runs.{runCount}
+use Rattle.filing.specs.declared.Place.{Place}
 use Rattle.filing.specs.Levels.{Lent, windowsOf}
+use Rattle.parts.specs.Filling.{partStart, partsTotal}
+use Rattle.fill.specs.Turn.{Small, raisedEnd}
+use Rattle.fill.specs.Pass.{Passable, Passed}
+use Rattle.build.specs.Filled.{buffers}
+use Rattle.extend_rows.specs.Weave.{getD-past}
+use Rattle.extend_lay.specs.Lay.{laid-past}
+use Rattle.extend_lay.specs.Copy.{columnTo}
+use Rattle.extend_lay.specs.OldRuns.{rowHas}
+use Rattle.extend_new.specs.Join.{JoinedRun}
 use Rattle.extend_count.specs.Listed.{listed, endOf, sizeOf}
 use Rattle.extend_new.specs.New.{lessJoin}
 use Rattle.extend_lay.specs.Records.{Matches}
-use Rattle.extend.specs.Steps.{joinsOf, SumAsked}
+use Rattle.extend.specs.Steps.{joinsOf, SumAsked, spotOf, JoinAsked, JoinedAt}
 use Rattle.extend.specs.Woven.{row-is, rows-long}
-use Rattle.extend.specs.Counts.{listable, countable, row-fits, joins, sum-asked, matches, row-in}
+use Rattle.extend.specs.Counts.{listable, countable, row-fits, joins, sum-asked, matches, row-in, old-size}
 use Rattle.extend.specs.Laid.{lay-asked, laid-front, laid-rows, laid-long}
-use Rattle.extend.specs.Joined.{Joins, copies-left, copies-right}
+use Rattle.extend.specs.Joined.{Joins, copies-left, copies-right, joinable, passable, past-both, long-both}
+use Rattle.extend.specs.Finished.{HoldsExtended, finished}
+use Rattle.extend.specs.Rowed.{first-at, extended-rowed}
 use Rattle.extend.specs.Shell.{WovenAs, WeaveAsked}
-use Rattle.extend.specs.Passes.{CountAsked, CountedAs, LayAsked, LaidBy, CopyAsked}
+use Rattle.extend.specs.Passes.{CountAsked, CountedAs, LayAsked, LaidBy, CopyAsked, CopiedAs}
 
 -- the index of these numbers and slices
 abbrev pub indexOf : ℕ → ℕ → ℕ → List Row → List ℕ → List ℕ → Index
@@ -143,3 +157,64 @@ module _ {s : List ℤ} {w e d b old : ℕ} {from : List Row} {lefts rights : Li
           lefts-fit = copies-left x s (h .formed) (h .longer) lefts rights refl rows₂ (omega (arith, long-laid, fits-all)) front left₃ right₃ (omega (arith, a, h .in-left)) (omega (arith, b, h .in-right));
           rights-fit = copies-right x s (h .formed) (h .longer) lefts rights refl rows₂ (omega (arith, long-laid, fits-all)) front left₃ right₃ (omega (arith, a, h .in-left)) (omega (arith, b, h .in-right));
         }
+
+        module _ (left₃ right₃ : List ℕ) (long-l : length left₃ ≡ length left) (long-r : length right₃ ≡ length right) (left₄ right₄ : List ℕ) (k : CopiedAs from lefts rights rows₂ size left₃ right₃ left₄ right₄) where
+          in-l : n ≤ length (k .l)
+          in-l = omega (arith, k .cleared .0 .long, long-l, h .in-left)
+
+          in-r : n ≤ length (k .r)
+          in-r = omega (arith, k .cleared .1 .long, long-r, h .in-right)
+
+          fits₂ : size ≤ length rows₂
+          fits₂ = omega (arith, long-laid, fits-all)
+
+          abbrev new-row : Row
+          new-row = getD rows₂ i zeroRow
+
+          abbrev P : ℕ → ℕ → Bool
+          P = rowHas x s (h .formed) (h .longer)
+
+          spot-is : J ≡ true → spotOf new-row row ≡ partStart size n P i + runCount (P i) old - 1
+          spot-is t = omega (
+            arith,
+            first-at x s (h .formed) (h .longer) rows₂ fits₂ front i (joined .row t),
+            old-size x s (h .formed) (h .longer) e (h .lent) lefts rights refl rows₁ row-at in-rows right₂ (listed (sizeOf rows₁) size (c .l)) (c .r) (c .l) (c .ends) refl fit-r fit-l i (joined .row t),
+            ap (λ (q : Row). q .runs) (row-at i),
+          )
+
+          past-row : size ≤ i → new-row ≡ zeroRow
+          past-row f = ap (λ (l : List Row). getD l i zeroRow) (y .is) ∙ laid-past (y .ends) size rows₁ i f ∙ row-at i ∙ getD-past zeroRow made i f
+
+          small-row : Small new-row
+          small-row = elim (decLt i size) [
+            | yes l ↦ extended-rowed x s (h .formed) (h .longer) rows₂ fits₂ front .small i l
+            | no f ↦ rw (past-row (omega arith)) (record { least = omega zarith; order = omega zarith; most = omega zarith })
+          ]
+
+          pub join-asked : JoinAsked s w e old J new-row row (length right₄)
+          join-asked = record {
+            lent = h .lent;
+            below = h .longer .longer;
+            small = small-row;
+            can = λ p a b. rw (k .right-is) (joinable x s (h .formed) (h .longer) lefts rights refl rows₂ fits₂ front (k .l) (k .r) in-l in-r e a b joined (λ t. refl) (λ t. refl) spot-is);
+          }
+
+          module _ (t : Place) (right₅ : List ℕ) (j : JoinedAt s w e old J new-row row right₄ t right₅) where
+            run : JoinedRun s w e (j .place) J (raisedEnd (10000 * w + e) (new-row .low)) (raisedEnd (10000 * w + e) (new-row .up)) (spotOf new-row row) (columnTo from rights rows₂ size (k .r)) t right₅
+            run = subst (λ (l : List ℕ). JoinedRun s w e (j .place) J (raisedEnd (10000 * w + e) (new-row .low)) (raisedEnd (10000 * w + e) (new-row .up)) (spotOf new-row row) l t right₅) (k .right-is) (j .run)
+
+            -- the pass can begin
+            pub fill-asked : Passable P s w e t rows₂ size left₄ right₅
+            fill-asked = rw (k .left-is) (passable x s (h .formed) (h .longer) lefts rights refl rows₂ fits₂ front (k .l) (k .r) in-l in-r e (j .start) (j .begins) joined (λ q. refl) (λ q. refl) spot-is run)
+
+            long-columns : (length (columnTo from lefts rows₂ size (k .l)) ≡ length (k .l)) × (length right₅ ≡ length (k .r))
+            long-columns = long-both x s (h .formed) (h .longer) lefts rights refl rows₂ fits₂ front (k .l) (k .r) in-l in-r e (j .start) (j .begins) joined (λ q. refl) (λ q. refl) spot-is run
+
+            zeros : (z : ℕ) → partsTotal size n P ≤ z → (getD (columnTo from lefts rows₂ size (k .l)) z 0 ≡ getD (k .l) z 0) × (getD right₅ z 0 ≡ getD (k .r) z 0)
+            zeros z l = past-both x s (h .formed) (h .longer) lefts rights refl rows₂ fits₂ front (k .l) (k .r) in-l in-r e (j .start) (j .begins) joined (λ q. refl) (λ q. refl) spot-is run z l
+
+            -- and where it ends, the buffers hold the extended index
+            pub extended-held : (left₆ right₆ : List ℕ) → Passed P s w size left₄ right₅ left₆ right₆ → HoldsExtended x s (buffers rows left right) (buffers rows₂ left₆ right₆)
+            extended-held left₆ right₆ f = finished x s (h .formed) (h .longer) rows left right (h .in-left) (h .in-right)
+                (record { long = ap length (k .left-is) ∙ long-columns .0 ∙ k .cleared .0 .long ∙ long-l; zero = λ z l. ap (λ (m : List ℕ). getD m z 0) (k .left-is) ∙ zeros z l .0 ∙ k .cleared .0 .zero z })
+                (record { long = long-columns .1 ∙ k .cleared .1 .long ∙ long-r; zero = λ z l. zeros z l .1 ∙ k .cleared .1 .zero z }) f rows-are
