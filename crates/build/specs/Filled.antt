@@ -73,12 +73,12 @@ filled-is new old col long fits front past =
           past x (omega arith) ∙ sym (zeros (length old - length new) (x - length new)) ∙ sym (getD-append-add new rest (x - length new) 0) ∙ ap (λ (z : ℕ). getD (new ++ rest) z 0) q
     ])
 
-lefts-entry : (l : List (ℕ × ℕ)) → lefts (map entry l) ≡ Columns.lefts l
+pub lefts-entry : (l : List (ℕ × ℕ)) → lefts (map entry l) ≡ Columns.lefts l
 unfolding Columns.lefts
 lefts-entry [] = refl
 lefts-entry (x ∷ l) = ap (λ (m : List ℕ). x .0 ∷ m) (lefts-entry l)
 
-rights-entry : (l : List (ℕ × ℕ)) → rights (map entry l) ≡ Columns.rights l
+pub rights-entry : (l : List (ℕ × ℕ)) → rights (map entry l) ≡ Columns.rights l
 unfolding Columns.rights
 rights-entry [] = refl
 rights-entry (x ∷ l) = ap (λ (m : List ℕ). x .1 ∷ m) (rights-entry l)

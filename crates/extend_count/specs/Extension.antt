@@ -51,25 +51,25 @@ onward-not p old j h = rw (lt-leb old j h)
 
 -- ---- ranges that ascend, by index
 
-low-from : (a : ℤ) (l : List Row) (k : ℕ) → k < length l → Ascending a (map rangeOf l) → (a ≤ℤ getD l k zeroRow .low) × (getD l k zeroRow .low <ℤ getD l k zeroRow .up)
+pub low-from : (a : ℤ) (l : List Row) (k : ℕ) → k < length l → Ascending a (map rangeOf l) → (a ≤ℤ getD l k zeroRow .low) × (getD l k zeroRow .low <ℤ getD l k zeroRow .up)
 unfolding Ascending
 low-from a [] k h p = absurd (omega arith)
 low-from a (r ∷ l) zero h p = (p .0, p .1)
 low-from a (r ∷ l) (suc k) h p = let b = p .0 in let c = p .1 in let e = low-from (r .up) l k (omega arith) (p .2) in let f = e .0 in (omega zarith, e .1)
 
-in-order : (a : ℤ) (l : List Row) (i k : ℕ) → i < k → k < length l → Ascending a (map rangeOf l) → getD l i zeroRow .up ≤ℤ getD l k zeroRow .low
+pub in-order : (a : ℤ) (l : List Row) (i k : ℕ) → i < k → k < length l → Ascending a (map rangeOf l) → getD l i zeroRow .up ≤ℤ getD l k zeroRow .low
 unfolding Ascending
 in-order a [] i k b h p = absurd (omega arith)
 in-order a (r ∷ l) i zero b h p = absurd (omega arith)
 in-order a (r ∷ l) zero (suc k) b h p = low-from (r .up) l k (omega arith) (p .2) .0
 in-order a (r ∷ l) (suc i) (suc k) b h p = in-order (r .up) l i k (omega arith) (omega arith) (p .2)
 
-record Holder (l : List Row) (z : ℤ) : Type 0 where
-  at : ℕ
-  below : at < length l
-  holds : inside (getD l at zeroRow .low) (getD l at zeroRow .up) z ≡ true
+pub record Holder (l : List Row) (z : ℤ) : Type 0 where
+  pub at : ℕ
+  pub below : at < length l
+  pub holds : inside (getD l at zeroRow .low) (getD l at zeroRow .up) z ≡ true
 
-holder : (l : List Row) (z : ℤ) → any (λ r. inside (r .low) (r .up) z) l ≡ true → Holder l z
+pub holder : (l : List Row) (z : ℤ) → any (λ r. inside (r .low) (r .up) z) l ≡ true → Holder l z
 unfolding any
 holder [] z e = clash e refl
 holder (r ∷ l) z e = by-test (inside (r .low) (r .up) z)
@@ -157,7 +157,7 @@ module _ (x : Index) (s : List ℤ) (g : WellFormed x) (long : Extendable x s) (
         ∙ sym (grown-new x sum old (getD rows i zeroRow) j a) ∙ sym (onward-is (has i) old j a)
   ]
 
-  begun : (i : ℕ) → i < size → Begun x (getD rows i zeroRow)
+  pub begun : (i : ℕ) → i < size → Begun x (getD rows i zeroRow)
   begun i l = all-mem (Begun x) rows (begun-woven x g (natAbs (x .width)) (rowNumbers (λ j. sum (old + j)) (natAbs (x .width)) (n - old))) (mem-at zeroRow rows i l)
 
   module _ (start counts : List ℕ) (sizes : (i : ℕ) → i < size → getD start i 0 ≡ getD rows i zeroRow .runs) (c : Counted s w e old ups size start n counts) (some : old < n) where
@@ -184,15 +184,15 @@ module _ (x : Index) (s : List ℤ) (g : WellFormed x) (long : Extendable x s) (
       abbrev pub joins : Bool
       joins = lastEnds (getD rows first zeroRow) right old
 
-      first-in : first < size
+      pub first-in : first < size
       first-in = new-row old (omega arith) some
 
-      has-first : (i : ℕ) → i < size → has i old ≡ eqb first i
+      pub has-first : (i : ℕ) → i < size → has i old ≡ eqb first i
       has-first i l =
           grown-new x sum old (getD rows i zeroRow) old (omega arith)
           ∙ sym (one-row rows bias ups asc ends (sum old) (level s w e old) i (level-is old lent) l (woven-covers x s g long old (omega arith) some))
 
-      first-joins : before (has first) old ≡ joins
+      pub first-joins : before (has first) old ≡ joins
       first-joins = joins-old x left right is (getD rows first zeroRow) (begun first first-in) sum
 
       -- of the other rows, the counts are the runs

@@ -39,7 +39,7 @@ unfolding laidTo
 length-laid ends zero rows = refl
 length-laid ends (suc n) rows = length-set (laidTo ends n rows) n (withPart (getD (laidTo ends n rows) n zeroRow) ends n) ∙ length-laid ends n rows
 
-laid-past : (ends : List ℕ) (n : ℕ) (rows : List Row) (i : ℕ) → n ≤ i → getD (laidTo ends n rows) i zeroRow ≡ getD rows i zeroRow
+pub laid-past : (ends : List ℕ) (n : ℕ) (rows : List Row) (i : ℕ) → n ≤ i → getD (laidTo ends n rows) i zeroRow ≡ getD rows i zeroRow
 unfolding laidTo
 laid-past ends zero rows i h = refl
 laid-past ends (suc n) rows i h = getD-set-other (laidTo ends n rows) n i (withPart (getD (laidTo ends n rows) n zeroRow) ends n) zeroRow (λ e. omega arith) ∙ laid-past ends n rows i (omega arith)

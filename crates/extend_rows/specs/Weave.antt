@@ -74,7 +74,7 @@ all-at P o [] i a h = absurd (omega arith)
 all-at P o (r ∷ l) zero a h = a .0
 all-at P o (r ∷ l) (suc i) a h = all-at P o l i (a .1) (omega arith)
 
-getD-past : (o : Row) (l : List Row) (i : ℕ) → length l ≤ i → getD l i o ≡ o
+pub getD-past : (o : Row) (l : List Row) (i : ℕ) → length l ≤ i → getD l i o ≡ o
 getD-past o [] i h = refl
 getD-past o (r ∷ l) zero h = absurd (omega arith)
 getD-past o (r ∷ l) (suc i) h = getD-past o l i (omega arith)
