@@ -1,0 +1,3 @@
+-- What the contracts of demand 3 of the code cite.
+pub mod Told
+pub mod Both

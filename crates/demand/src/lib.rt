@@ -1,0 +1,148 @@
+// Demand 3 of the code (01, Candidates): one series audited against two lent indexes, and searched for one query through both.
+use audit::audit;
+use meaning_entries::Audited;
+use meaning_entries::Found;
+use meaning_filter::Kind;
+use meaning_filter::Limits;
+use meaning_rows::Head;
+use meaning_rows::Row;
+use search::search;
+ghost use mathlib.Core.Path.{_≡_};
+ghost use Rattle.meaning_rows.specs.Index.{lent};
+ghost use Rattle.meaning_entries.specs.Search.{lentSearch};
+ghost use Rattle.search.specs.Refused.{buffers};
+ghost use Rattle.demand.specs.Both.{Demand3Kept};
+ghost use Rattle.demand.specs.Told.{yes, toldSecond, toldFound, told};
+
+// Both searches listed their matches, so many; or else what stood first in the way: an audit that did not say yes, a search that was refused.
+pub enum Both {
+    Listed { first: usize, second: usize },
+    FirstAudit,
+    SecondAudit,
+    FirstSearch,
+    SecondSearch,
+}
+
+// An audit says yes.
+fn says_yes(a: Audited) -> bool
+    ensures { λ b. ⌜ b ≡ yes a ⌝ }
+{
+    match a {
+        Audited::Yes => true,
+        Audited::Wrong { row, offset } => false,
+        Audited::Missing { count } => false,
+        Audited::Refused { number, place } => false,
+    }
+}
+
+// What a second search comes to, where the first listed `count` matches.
+fn tell_second(count: usize, second: Found) -> Both
+    ensures { λ b. ⌜ b ≡ toldSecond count second ⌝ }
+{
+    match second {
+        Found::All {
+            candidates,
+            matches,
+        } => Both::Listed {
+            first: count,
+            second: matches,
+        },
+        Found::Full {
+            candidates,
+            matches,
+        } => Both::SecondSearch,
+        Found::Refused { number, place } => Both::SecondSearch,
+    }
+}
+
+// What two searches come to.
+fn tell_found(first: Found, second: Found) -> Both
+    ensures { λ b. ⌜ b ≡ toldFound first second ⌝ }
+{
+    match first {
+        Found::All {
+            candidates,
+            matches,
+        } => tell_second(matches, second),
+        Found::Full {
+            candidates,
+            matches,
+        } => Both::FirstSearch,
+        Found::Refused { number, place } => Both::FirstSearch,
+    }
+}
+
+// What two audits and two searches come to.
+fn tell(one: Audited, two: Audited, first: Found, second: Found) -> Both
+    ensures { λ b. ⌜ b ≡ told one two first second ⌝ }
+{
+    if !says_yes(one) {
+        return Both::FirstAudit;
+    }
+    if !says_yes(two) {
+        return Both::SecondAudit;
+    }
+    tell_found(first, second)
+}
+
+// Both indexes audited, and the series searched through both.
+pub fn demand(
+    series: &[i32],
+    head1: Head,
+    rows1: &[Row],
+    left1: &[u32],
+    right1: &[u32],
+    head2: Head,
+    rows2: &[Row],
+    left2: &[u32],
+    right2: &[u32],
+    kind: Kind,
+    query: &[i32],
+    l: Limits,
+    first1: &mut [u32],
+    last1: &mut [u32],
+    scratch1: &mut [u16],
+    offsets1: &mut [u32],
+    distances1: &mut [u64],
+    first2: &mut [u32],
+    last2: &mut [u32],
+    scratch2: &mut [u16],
+    offsets2: &mut [u32],
+    distances2: &mut [u64],
+) -> Both
+    ensures { λ a. ⌜ Demand3Kept (lentSearch (now (series .entry)) head1 (now (rows1 .entry)) (now (left1 .entry)) (now (right1 .entry)) kind (now (query .entry)) l) (lent head2 (now (rows2 .entry)) (now (left2 .entry)) (now (right2 .entry))) (buffers (now (first1 .entry)) (now (last1 .entry)) (now (scratch1 .entry)) (now (offsets1 .entry)) (now (distances1 .entry))) (buffers (now (first2 .entry)) (now (last2 .entry)) (now (scratch2 .entry)) (now (offsets2 .entry)) (now (distances2 .entry))) a (buffers (now (first1 .exit)) (now (last1 .exit)) (now (scratch1 .exit)) (now (offsets1 .exit)) (now (distances1 .exit))) (buffers (now (first2 .exit)) (now (last2 .exit)) (now (scratch2 .exit)) (now (offsets2 .exit)) (now (distances2 .exit))) ⌝ }
+{
+    let one = audit(series, head1, rows1, left1, right1);
+    let two = audit(series, head2, rows2, left2, right2);
+    let found1 = search(
+        series,
+        head1,
+        rows1,
+        left1,
+        right1,
+        kind,
+        query,
+        l,
+        first1,
+        last1,
+        scratch1,
+        offsets1,
+        distances1,
+    );
+    let found2 = search(
+        series,
+        head2,
+        rows2,
+        left2,
+        right2,
+        kind,
+        query,
+        l,
+        first2,
+        last2,
+        scratch2,
+        offsets2,
+        distances2,
+    );
+    tell(one, two, found1, found2)
+}
