@@ -12,7 +12,10 @@ typedef struct { u32 kind; Head head; size_t first, second; } Answer;
 
 Answer index_audit(const i32 *, size_t, Head, const Row *, size_t, const u32 *, size_t, const u32 *, size_t);
 Answer index_build(const i32 *, size_t, u32, u32, u32, Row *, size_t, u32 *, size_t, u32 *, size_t);
+Answer index_extend(const i32 *, size_t, Head, const Row *, size_t, const u32 *, size_t, const u32 *, size_t, Row *, size_t, u32 *, size_t, u32 *, size_t);
 size_t plain_build(const i32 *, size_t, size_t, u32, u32, Row *, size_t, u32 *, u32 *);
+size_t plain_extend(const i32 *, size_t, size_t, u32, size_t, const Row *, size_t, const u32 *, const u32 *, Row *, size_t, u32 *, u32 *);
+int plain_judge(const i32 *, size_t, u32, u32, const Row *, size_t, const u32 *, const u32 *, size_t, u64 *);
 int plain_audit(const i32 *, size_t, size_t, u32, u32, const Row *, size_t, const u32 *, const u32 *, size_t);
 
 static double now(void) {
@@ -34,8 +37,8 @@ enum { N = 1 << 20, W = 64, ROOM = N - W + 1, REPS = 15 };
 static i32 s[N];
 static Row rows[ROOM];
 static u32 left[ROOM], right[ROOM];
-static Row rows2[ROOM];
-static u32 left2[ROOM], right2[ROOM];
+static Row rows2[ROOM], old_rows[ROOM];
+static u32 left2[ROOM], right2[ROOM], old_left[ROOM], old_right[ROOM];
 static int different;
 
 // rattle and C in turn
@@ -88,11 +91,37 @@ static void race_build(const char *name, u32 d, u32 g) {
     fflush(stdout);
 }
 
+// by 1 %; both judge the old index and the values, then extend
+static void race_extend(const char *name, u32 d, u32 g) {
+    size_t n = N - N / 100, old = n - W + 1;
+    Head head = {W, d, old};
+    size_t count = plain_build(s, n, W, d, g, old_rows, old, old_left, old_right);
+    size_t runs = old_rows[count - 1].first + old_rows[count - 1].runs, y = 0;
+    double ra = 1e9, ca = 1e9;
+    Answer x = {9, {0, 0, 0}, 0, 0};
+    for (int k = 0; k < REPS; k++) {
+        double t0 = now();
+        x = index_extend(s, N, head, old_rows, count, old_left, runs, old_right, runs, rows2, ROOM, left2, ROOM, right2, ROOM);
+        double t1 = now();
+        u64 total;
+        if (plain_judge(s, N, d, old, old_rows, count, old_left, old_right, runs, &total)) different++;
+        y = plain_extend(s, N, W, d, old, old_rows, count, old_left, old_right, rows, ROOM, left, right);
+        double t2 = now();
+        if (t1 - t0 < ra) ra = t1 - t0;
+        if (t2 - t1 < ca) ca = t2 - t1;
+    }
+    int same = x.kind == 0 && x.first == y && !memcmp(rows, rows2, sizeof rows) && !memcmp(left, left2, sizeof left) && !memcmp(right, right2, sizeof right);
+    if (!same) different++;
+    printf("extend %-11s d=%-5u g=%-3u ratio %5.2f  (goal 1.3)  %8.3f / %8.3f ms  %7zu rows, %zu before%s\n", name, d, g, ra / ca, ra * 1e3, ca * 1e3, y, count, same ? "" : "  DIFFERENT");
+    fflush(stdout);
+}
+
 int main(void) {
     for (int noisy = 0; noisy < 2; noisy++) {
         int v = 0;
         for (int i = 0; i < N; i++) s[i] = noisy ? (int)(any() % 20001) - 10000 : (v = in_limits(v + (int)(any() % 201) - 100));
         for (int k = 0; k < 4; k++) race_build(noisy ? "noisy" : "random walk", k / 2 ? 4096 : 16, k % 2 ? 80 : 0);
+        for (int k = 0; k < 4; k++) race_extend(noisy ? "noisy" : "random walk", k / 2 ? 4096 : 16, k % 2 ? 80 : 0);
         for (int k = 0; k < 4; k++) race_audit(noisy ? "noisy" : "random walk", k / 2 ? 4096 : 16, k % 2 ? 80 : 0);
     }
     puts(different ? "DIFFERENT answers" : "all answers are the same");

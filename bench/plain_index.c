@@ -1,4 +1,4 @@
-// Build, extend and audit in plain C, by the same passes as the proved code. Inputs are taken as judged: these functions test nothing.
+// Build, extend and audit in plain C, by the same passes as the proved code. Build and extend take their inputs as judged.
 #include <stdint.h>
 #include <string.h>
 typedef int32_t i32;
@@ -197,24 +197,33 @@ size_t plain_extend(const i32 *s, size_t n, size_t w, u32 width, size_t old, con
     return count;
 }
 
-// 0: yes; 1: an offset is filed wrongly; 2: some stand nowhere. The index is judged too.
-int plain_audit(const i32 *s, size_t n, size_t w, u32 width, u32 windows, const Row *rows, size_t count, const u32 *left, const u32 *right, size_t room) {
+// 0: the values are in their limits and the index is well formed; 3: a value is outside; 4: the index is not well formed. *total is made the run lengths
+int plain_judge(const i32 *s, size_t n, u32 width, u32 windows, const Row *rows, size_t count, const u32 *left, const u32 *right, size_t room, u64 *total) {
     for (size_t k = 0; k < n; k++) if (s[k] < -10000 || s[k] > 10000) return 3;
     i32 least = -4000000;
-    u64 place = 0, total = 0;
+    u64 place = 0;
+    *total = 0;
     for (size_t i = 0; i < count; i++) {
         Row r = rows[i];
         if (r.low >= r.up || r.low % (i32)width || r.up % (i32)width || r.low < least || r.up > 4000000 || r.runs < 1 || r.first != place || place + r.runs > room) return 4;
         u64 next = 0;
         for (size_t x = r.first; x < place + r.runs; x++) {
             if (left[x] < next || right[x] < left[x] || right[x] >= windows) return 4;
-            total += right[x] + 1 - left[x];
+            *total += right[x] + 1 - left[x];
             next = (u64)right[x] + 2;
         }
-        if (total > windows) return 4;
+        if (*total > windows) return 4;
         least = r.up;
         place += r.runs;
     }
+    return 0;
+}
+
+// 0: yes; 1: an offset is filed wrongly; 2: some stand nowhere. The index is judged too.
+int plain_audit(const i32 *s, size_t n, size_t w, u32 width, u32 windows, const Row *rows, size_t count, const u32 *left, const u32 *right, size_t room) {
+    u64 total;
+    int refused = plain_judge(s, n, width, windows, rows, count, left, right, room, &total);
+    if (refused) return refused;
     for (size_t i = 0; i < count; i++)
         for (size_t x = rows[i].first; x < (size_t)rows[i].first + rows[i].runs; x++) {
             i32 t = sum_of(s + left[x], w);

@@ -14,6 +14,10 @@ unsafe extern "C" {
     fn index_build(
         series: *const i32, n: usize, w: u32, d: u32, g: u32, rows: *mut Row, count: usize, left: *mut u32, lefts: usize, right: *mut u32, rights: usize,
     ) -> Answer;
+    fn index_extend(
+        series: *const i32, n: usize, head: Head, from: *const Row, count0: usize, left0: *const u32, lefts0: usize, right0: *const u32, rights0: usize,
+        rows: *mut Row, count: usize, left: *mut u32, lefts: usize, right: *mut u32, rights: usize,
+    ) -> Answer;
     fn plain_build(s: *const i32, n: usize, w: usize, d: u32, g: u32, rows: *mut Row, room: usize, left: *mut u32, right: *mut u32) -> usize;
     fn plain_extend(
         s: *const i32, n: usize, w: usize, d: u32, old: usize, rows0: *const Row, count0: usize, left0: *const u32, right0: *const u32,
@@ -30,6 +34,29 @@ struct Answer { kind: u32, head: Head, first: usize, second: usize }
 /// An answer without a head.
 fn numbers(kind: u32, first: usize, second: usize) -> Answer { Answer { kind, head: Head::default(), first, second } }
 
+/// What the model leaves of a build or an extension in buffers of these lengths: refused, they stay; else they hold the index and zeros.
+fn left_in(b: &Buffers, made: Result<Index, Refusal>) -> (Answer, Buffers) {
+    match made {
+        Err((number, place)) => (numbers(3, number as usize, place), b.clone()),
+        Ok(x) => {
+            let rooms = [b.rows.len(), b.left.len(), b.right.len()];
+            let mut after = Buffers::of(&x, rooms.into_iter().max().unwrap());
+            after.cut(rooms);
+            (Answer { kind: 0, head: Lent::of(&x).head, first: x.rows.len(), second: x.runs.len() }, after)
+        }
+    }
+}
+
+/// How often an entry that makes an index was not refused, and each refusal.
+#[derive(Default)]
+struct Tally { made: u64, refused: [u64; 24] }
+
+impl Tally {
+    fn add(&mut self, a: &Answer) { if a.kind == 3 { self.refused[a.first] += 1 } else { self.made += 1 } }
+
+    fn told(&self, numbers: &[usize]) -> String { numbers.iter().map(|&k| format!("{k}: {}", self.refused[k])).collect::<Vec<_>>().join(" ") }
+}
+
 struct Test {
     r: Numbers,
     inputs: u64,
@@ -38,9 +65,8 @@ struct Test {
     /// how often an audit said yes, wrong, missing, and each refusal
     said: [u64; 3],
     refused: [u64; 23],
-    /// how often a build was not refused, and each refusal
-    built: u64,
-    unbuilt: [u64; 24],
+    built: Tally,
+    extended: Tally,
 }
 
 impl Test {
@@ -75,27 +101,37 @@ impl Test {
         if x.suits(s.len()) { self.plain_audit(s, x, right) }
     }
 
-    /// The build into buffers of any lengths, full of rubbish: refused, they stay; else they hold the index and zeros.
-    fn build(&mut self, s: &[i32], w: u32, d: u32, g: u32, rooms: [usize; 3]) {
-        let most = rooms.into_iter().max().unwrap();
-        let mut b = Buffers::of_rubbish(&mut self.r, most);
+    /// Buffers of these lengths, full of rubbish.
+    fn rubbish(&mut self, rooms: [usize; 3]) -> Buffers {
+        let mut b = Buffers::of_rubbish(&mut self.r, rooms.into_iter().max().unwrap());
         b.cut(rooms);
+        b
+    }
+
+    fn build(&mut self, s: &[i32], w: u32, d: u32, g: u32, rooms: [usize; 3]) {
+        let mut b = self.rubbish(rooms);
         let wide: Vec<i64> = s.iter().map(|&v| v as i64).collect();
-        let (answer, after) = match build_refusal(&wide, 1 << 20, w as i64, d as i64, g as i64, rooms.into_iter().min().unwrap()) {
-            Some((number, place)) => {
-                self.unbuilt[number as usize] += 1;
-                (numbers(3, number as usize, place), b.clone())
-            }
-            None => {
-                self.built += 1;
-                let x = build(s, w as usize, d as i64, g as i64);
-                let mut after = Buffers::of(&x, most);
-                after.cut(rooms);
-                (Answer { kind: 0, head: Lent::of(&x).head, first: x.rows.len(), second: x.runs.len() }, after)
-            }
-        };
+        let refused = build_refusal(&wide, 1 << 20, w as i64, d as i64, g as i64, rooms.into_iter().min().unwrap());
+        let (answer, after) = left_in(&b, refused.map_or_else(|| Ok(build(s, w as usize, d as i64, g as i64)), Err));
+        self.built.add(&answer);
         let told = unsafe { index_build(s.as_ptr(), s.len(), w, d, g, b.rows.as_mut_ptr(), b.rows.len(), b.left.as_mut_ptr(), b.left.len(), b.right.as_mut_ptr(), b.right.len()) };
         self.say(told == answer && b == after, "build", || format!("{s:?} {w} {d} {g} {rooms:?}: {told:?}, the model {answer:?}"));
+    }
+
+    fn extend(&mut self, s: &[i32], x: &Lent, rooms: [usize; 3]) {
+        let mut b = self.rubbish(rooms);
+        let old = x.index();
+        let refused = extend_refusal(&old, s, rooms.into_iter().min().unwrap());
+        let (answer, after) = left_in(&b, refused.map_or_else(|| Ok(extend(&old, s)), Err));
+        self.extended.add(&answer);
+        let told = unsafe {
+            index_extend(
+                s.as_ptr(), s.len(), x.head, x.rows.as_ptr(), x.rows.len(), x.left.as_ptr(), x.left.len(), x.right.as_ptr(), x.right.len(),
+                b.rows.as_mut_ptr(), b.rows.len(), b.left.as_mut_ptr(), b.left.len(), b.right.as_mut_ptr(), b.right.len(),
+            )
+        };
+        self.say(told == answer && b == after, "extend", || format!("{s:?} {x:?} {rooms:?}: {told:?}, the model {answer:?}"));
+        if answer.kind == 0 { self.plain_extend(s, x) }
     }
 
     // ---- the plain C, on inputs that are not refused for their numbers
@@ -162,14 +198,21 @@ impl Test {
         self.build(&s, w, d, g, rooms);
     }
 
+    /// By no value, by one or by many; the old index damaged or filed wrongly half of the time.
     fn extends(&mut self, n: usize) {
         let s = any_series(&mut self.r, n);
         let (w, d, g) = any_numbers(&mut self.r, n);
-        let old = self.r.from_to(w as i64, n as i64) as usize;
+        let old = match self.r.below(4) { 0 => n, 1 => (n - 1).max(w), _ => self.r.from_to(w as i64, n as i64) as usize };
         let mut x = Lent::of(&build(&s[..old], w, d as i64, g as i64));
-        if self.r.below(2) == 0 { x.refile(&mut self.r); }
         if self.r.below(2) == 0 { x.rubbish_behind(&mut self.r) }
-        if bad_row(&x.index()).is_none() { self.plain_extend(&s, &x) }
+        let windows = n - w + 1;
+        let rooms = [0; 3].map(|_| (windows + self.r.below(4) as usize).saturating_sub(self.r.below(16) as usize / 15));
+        if self.r.below(2) == 0 { return self.extend(&s, &x, rooms) }
+        let how = self.r.below(6);
+        if how < 3 { x.refile(&mut self.r); }
+        if how > 1 { x.damage(&mut self.r) }
+        let s = if how == 5 { damaged_series(&mut self.r, &s) } else { s };
+        self.extend(&s, &x, rooms);
     }
 
     /// The greatest series, one value more, and an index of one row that is right.
@@ -180,6 +223,8 @@ impl Test {
             let row = Row { low: 0, up: 1_000, first: 0, runs: 1 };
             let x = Lent { head: Head { window: w, width: 1_000, windows: windows as u32 }, rows: vec![row], left: vec![0], right: vec![windows as u32 - 1] };
             self.audit(&s[..n], &x);
+            let x = Lent { head: Head { windows: windows as u32 - 2, ..x.head }, right: vec![windows as u32 - 3], ..x };
+            self.extend(&s[..n], &x, [windows; 3]);
         }
     }
 }
@@ -187,19 +232,18 @@ impl Test {
 fn main() {
     let turns: u64 = std::env::args().nth(1).map_or(120_000, |x| x.parse().unwrap());
     let start = Instant::now();
-    let mut t = Test { r: Numbers(88172645463325252), inputs: 0, wrong: 0, plain: 0, said: [0; 3], refused: [0; 23], built: 0, unbuilt: [0; 24] };
+    let mut t = Test { r: Numbers(88172645463325252), inputs: 0, wrong: 0, plain: 0, said: [0; 3], refused: [0; 23], built: Tally::default(), extended: Tally::default() };
     for k in 0..turns {
         let n = match k % 100 { 0 => t.r.from_to(150, 400), 1..=9 => t.r.from_to(40, 149), 10..=19 => t.r.from_to(1, 3), _ => t.r.from_to(4, 40) } as usize;
         t.audits(n);
         if k % 2 == 0 { t.builds(n) }
-        if k % 8 == 4 { t.extends(n) }
+        if k % 2 == 1 { t.extends(n) }
     }
     t.greatest();
     let told: Vec<String> = [1, 2, 20, 21, 22].iter().map(|&k| format!("{k}: {}", t.refused[k])).collect();
-    let unbuilt: Vec<String> = [1, 2, 3, 4, 5, 23].iter().map(|&k| format!("{k}: {}", t.unbuilt[k])).collect();
     println!(
-        "{} inputs, {} differences ({} of the plain C; audits: {} yes, {} filed wrongly, {} missing, refused {}; builds: {} built, refused {}) in {:.1} s",
-        t.inputs, t.wrong, t.plain, t.said[0], t.said[1], t.said[2], told.join(" "), t.built, unbuilt.join(" "), start.elapsed().as_secs_f64()
+        "{} inputs, {} differences ({} of the plain C; audits: {} yes, {} filed wrongly, {} missing, refused {}; builds: {} built, refused {}; extensions: {} made, refused {}) in {:.1} s",
+        t.inputs, t.wrong, t.plain, t.said[0], t.said[1], t.said[2], told.join(" "), t.built.made, t.built.told(&[1, 2, 3, 4, 5, 23]), t.extended.made, t.extended.told(&[1, 2, 20, 22, 23]), start.elapsed().as_secs_f64()
     );
     if t.wrong > 0 { std::process::exit(1) }
 }

@@ -1,30 +1,30 @@
 -- What stands in the buffers once the parts of a build's rows are filled is its index (`finished`). Assumes nothing.
-use mathlib.Core.Path.{_≡_, refl, sym, ap, _∙_, subst}
+use mathlib.Core.Path.{_≡_, refl, sym, ap, _∙_}
 use mathlib.Core.List.{List, [], _∷_, _++_, map}
 use Prim.Native.Nat.{ℕ, zero, suc, _+_, _-_, _<_, _≤_}
 use native.Mathlib.Omega.{arith}
 use native.Mathlib.Decide.{decLt}
-use lib.IntN.{ℤ, pos, natAbs}
-use lib.ListN.{length, getD, take, drop, replicate, length-append, length-map, length-replicate, List·getD-append}
+use lib.IntN.{ℤ, natAbs}
+use lib.ListN.{length, getD, take, replicate, length-append, length-map, length-replicate, List·getD-append}
 use lib.Seq.{ext-getD, getD-append-add, take-append-seam}
 use Rattle.meaning_numbers.specs.Sum.{Σℕ}
-use Rattle.meaning_numbers.proofs.Sum.{Σℕ-same}
+use Rattle.meaning_numbers.proofs.Sum.{Σℕ-same, Σℕ-more}
 use Rattle.meaning_curves.specs.Curve.{windowSum}
 use Rattle.meaning_rows.specs.declared.Row.{Row}
 use Rattle.meaning_rows.specs.Runs.{runs, runCount}
-use Rattle.meaning_rows.specs.Index.{Index, Entry, records, allRuns, laidOut}
+use Rattle.meaning_rows.specs.Index.{RangeRow, records, allRuns}
 use Rattle.meaning_rows.specs.Build.{SetRow, entry, withRuns, builtRows, built}
 use Rattle.meaning_rows.proofs.Build.{mergedRows, built-runs}
 use Rattle.meaning_rows.proofs.Columns as Columns
 use Rattle.meaning_rows.proofs.Laid.{length-records}
-use Rattle.meaning_rows.proofs.LaidAt.{runs-total, column-at}
+use Rattle.meaning_rows.proofs.LaidAt.{records-at, runs-total, column-at}
 use Rattle.meaning_entries.specs.Buffers.{IndexBuffers, filled, indexIn, lefts, rights}
 use Rattle.records.specs.Records.{zeroRow}
 use Rattle.filing.specs.declared.Place.{Place}
 use Rattle.filing.specs.Levels.{Lent, windowsOf}
 use Rattle.pack.specs.PackedAs.{PackedAs}
 use Rattle.lay.specs.Laid.{Cleared}
-use Rattle.parts.specs.Filling.{partStart, partsTotal, Filling, filling-start}
+use Rattle.parts.specs.Filling.{partStart, partsTotal, filling-start}
 use Rattle.fill.specs.Turn.{At}
 use Rattle.fill.specs.Pass.{Passable, Passed}
 use Rattle.build.specs.Rowed.{noRow, tests, built-rowed}
@@ -56,10 +56,28 @@ Holds d g s w old new = new ≡ indexIn (built s w d g) old
 
 -- ---- laws
 
-zeros : (n x : ℕ) → let rest : List ℕ = replicate n 0 in getD rest x 0 ≡ 0
-zeros zero x = refl
-zeros (suc n) zero = refl
-zeros (suc n) (suc x) = zeros n x
+zeros : {A : Type 0} (a : A) (n x : ℕ) → getD (replicate n a) x a ≡ a
+zeros a zero x = refl
+zeros a (suc n) zero = refl
+zeros a (suc n) (suc x) = zeros a n x
+
+-- where no row is laid out, a record of zeros stands first
+no-part : {X : Type 0} (G : X → RangeRow) (old : List Row) → let r = getD (filled zeroRow (records 0 (map G [])) old) 0 zeroRow in r .first + r .runs ≡ length (allRuns (map G []))
+unfolding filled records allRuns
+no-part G old = ap (λ (r : Row). r .first + r .runs) (zeros zeroRow (length old - 0) 0)
+
+-- of rows laid out in a buffer, the part of the last ends where all parts end
+pub last-part : {X : Type 0} (o : X) (G : X → RangeRow) (t : List X) (old : List Row) → let r = getD (filled zeroRow (records 0 (map G t)) old) (length t - 1) zeroRow in r .first + r .runs ≡ length (allRuns (map G t))
+unfolding filled
+last-part o G [] old = no-part G old
+last-part o G (x ∷ l) old =
+    let t = x ∷ l in
+    let made = records 0 (map G t) in
+    let i : length t - 1 < length t = omega arith in
+    let f : ℕ → ℕ = λ y. length (G (getD t y o) .runs) in
+    let c : length t - 1 + 1 ≡ length t = omega arith in
+    let r = List·getD-append made (replicate (length old - length made) zeroRow) zeroRow (length t - 1) (omega (arith, i, length-records 0 (map G t), length-map t G)) ∙ records-at o G zeroRow 0 t (length t - 1) i in
+    omega (arith, ap (λ (q : Row). q .first) r, ap (λ (q : Row). q .runs) r, Σℕ-more (length t - 1) f, ap (λ (y : ℕ). Σℕ y f) c, runs-total o G t)
 
 -- a buffer that is 0 behind the new entries
 pub filled-is : (new old col : List ℕ) → length col ≡ length old → length new ≤ length old → ((x : ℕ) → x < length new → getD col x 0 ≡ getD new x 0) → ((x : ℕ) → length new ≤ x → getD col x 0 ≡ 0) → col ≡ filled 0 new old
@@ -70,7 +88,7 @@ filled-is new old col long fits front past =
     (λ x l. elim (decLt x (length new)) [
       | yes b ↦ front x b ∙ sym (List·getD-append new rest 0 x b)
       | no f ↦ let q : length new + (x - length new) ≡ x = omega arith in
-          past x (omega arith) ∙ sym (zeros (length old - length new) (x - length new)) ∙ sym (getD-append-add new rest (x - length new) 0) ∙ ap (λ (z : ℕ). getD (new ++ rest) z 0) q
+          past x (omega arith) ∙ sym (zeros 0 (length old - length new) (x - length new)) ∙ sym (getD-append-add new rest (x - length new) 0) ∙ ap (λ (z : ℕ). getD (new ++ rest) z 0) q
     ])
 
 pub lefts-entry : (l : List (ℕ × ℕ)) → lefts (map entry l) ≡ Columns.lefts l

@@ -1,36 +1,31 @@
 -- What a build answers, and that it keeps its promise (`refused-kept`, `built-kept`). Assumes nothing.
-use mathlib.Core.Path.{_≡_, refl, sym, ap, _∙_, subst}
-use mathlib.Core.Bool.{Bool, true, false}
+use mathlib.Core.Path.{_≡_, refl, sym, ap, _∙_}
+use mathlib.Core.Bool.{true}
 use mathlib.Core.List.{List, [], _∷_, _++_, map}
-use mathlib.Core.Option.{Option, none, some}
+use mathlib.Core.Option.{none, some}
 use Prim.Native.Nat.{ℕ, _+_, _-_, _*_, _<_, _≤_}
 use native.Mathlib.Omega.{arith}
-use lib.Dec.{eqb}
-use lib.IntN.{ℤ, pos, natAbs}
-use lib.ListN.{length, getD, replicate, length-append, length-map, List·getD-append}
+use lib.IntN.{ℤ}
+use lib.ListN.{length, getD, replicate, length-append, length-map}
 use borrow.Author.Tests.{ne-eqb, eq-eqb}
 use Rattle.meaning_numbers.specs.Place.{any}
-use Rattle.meaning_numbers.specs.Sum.{Σℕ}
 use Rattle.meaning_numbers.proofs.Tests.{clash}
-use Rattle.meaning_numbers.proofs.Sum.{Σℕ-more}
 use Rattle.meaning_curves.specs.Curve.{windowSum, windowCount}
 use Rattle.meaning_rows.specs.declared.Row.{Row}
-use Rattle.meaning_rows.specs.declared.Head.{Head}
-use Rattle.meaning_rows.specs.Index.{Index, records, allRuns}
+use Rattle.meaning_rows.specs.Index.{Index}
 use Rattle.meaning_rows.specs.Build.{SetRow, withRuns, built, builtRows}
 use Rattle.meaning_rows.proofs.Build.{mergedRows, covered, built-covers}
 use Rattle.meaning_rows.proofs.Laid.{length-records}
-use Rattle.meaning_rows.proofs.LaidAt.{records-at, runs-total}
 use Rattle.meaning_entries.specs.declared.Built.{Built}
 use Rattle.meaning_entries.specs.Refusal.{firstRefusal}
 use Rattle.meaning_entries.specs.Buffers.{IndexBuffers, filled, indexIn}
-use Rattle.meaning_entries.specs.Build.{lentBuild, buildTable, buildRefusal, buildIndex, buildAnswer, buildAfter}
+use Rattle.meaning_entries.specs.Build.{lentBuild, buildRefusal, buildIndex, buildAnswer, buildAfter}
 use Rattle.meaning_entries.specs.Demand2.{BuildKept}
 use Rattle.meaning_entries.proofs.Demand2.{build-kept}
 use Rattle.records.specs.Records.{zeroRow}
 use Rattle.filing.specs.Levels.{Lent, windowsOf}
 use Rattle.build.specs.Rowed.{noRow}
-use Rattle.build.specs.Filled.{buffers, Holds}
+use Rattle.build.specs.Filled.{Holds, last-part}
 use Rattle.lay.specs.Laid.{LayAsked}
 use Rattle.build_plan.specs.declared.Plan.{Plan}
 use Rattle.build_plan.specs.Plan.{refusalOf, Goes, Planned, table-is}
@@ -116,15 +111,10 @@ module _ (s : List ℤ) (w d g : ℕ) (b : IndexBuffers) (p : Plan) (h : Planned
 
       -- the last row's part ends where all parts end
       last-total : getD (new .rows) (n - 1) zeroRow .first + getD (new .rows) (n - 1) zeroRow .runs ≡ length (built s w d g .runs)
-      unfolding built builtRows
+      unfolding built builtRows indexIn
       last-total =
-          let rest : List Row = replicate (length (b .rows) - length (built s w d g .rows)) zeroRow in
-          let m : n - 1 < length (built s w d g .rows) = omega (arith, e, some-rows e) in
-          let i : n - 1 < length l = omega (arith, m, rows-long) in
-          let r = ap (λ (x : List Row). getD x (n - 1) zeroRow) rows-are ∙ List·getD-append (built s w d g .rows) rest zeroRow (n - 1) m ∙ records-at noRow (withRuns (windowsOf s w)) zeroRow 0 l (n - 1) i in
-          let f : ℕ → ℕ = λ y. length (withRuns (windowsOf s w) (getD l y noRow) .runs) in
-          let c : n - 1 + 1 ≡ length l = omega (arith, e, rows-long, some-rows e) in
-          omega (arith, ap (λ (x : Row). x .first) r, ap (λ (x : Row). x .runs) r, Σℕ-more (n - 1) f, ap (λ (x : ℕ). Σℕ x f) c, runs-total noRow (withRuns (windowsOf s w)) l)
+          let c : n - 1 ≡ length l - 1 = omega (arith, e, rows-long) in
+          ap (λ (x : IndexBuffers). let r = getD (x .rows) (n - 1) zeroRow in r .first + r .runs) k ∙ ap (λ (y : ℕ). let r = getD (filled zeroRow (built s w d g .rows) (b .rows)) y zeroRow in r .first + r .runs) c ∙ last-part noRow (withRuns (windowsOf s w)) l (b .rows)
 
       pub built-kept : {r : Row} → r ≡ getD (new .rows) (n - 1) zeroRow → BuildKept (lentBuild s w d g) b (indexAs (windowCount (length s) w) w d n r) new
       unfolding buildAnswer buildAfter buildIndex built

@@ -1,17 +1,19 @@
 -- The passes of an extension, one after the other: what each asks follows from what those before it left, and at the end the buffers hold the extended index (`extended-held`). Assumes nothing.
-use mathlib.Core.Path.{_≡_, refl, ap, _∙_, subst}
+use mathlib.Core.Path.{_≡_, refl, sym, ap, _∙_, subst}
 use mathlib.Core.Bool.{Bool, true}
 use mathlib.Core.List.{List, map}
 use Prim.Native.Nat.{ℕ, _+_, _-_, _*_, _<_, _≤_}
 use native.Mathlib.Omega.{arith}
 use native.Mathlib.Decide.{decLt}
 use lib.IntN.{ℤ, pos}
-use lib.ListN.{length, getD, take}
+use lib.ListN.{length, getD, take, length-map}
 use Rattle.meaning_curves.specs.Curve.{windowSum}
 use Rattle.meaning_rows.specs.declared.Row.{Row}
 use Rattle.meaning_rows.specs.Index.{Index, RangeRow, entries, records}
+use Rattle.meaning_rows.specs.Extend.{extended}
 use Rattle.meaning_rows.proofs.Judge.{WellFormed}
 use Rattle.meaning_rows.proofs.Extend.{Extendable}
+use Rattle.meaning_rows.proofs.Laid.{length-records}
 use Rattle.meaning_rows.proofs.Woven.{wovenRows, woven-most, grownRuns}
 use Rattle.meaning_entries.specs.Buffers.{filled}
 use Rattle.records.specs.Records.{zeroRow}
@@ -37,7 +39,7 @@ use Rattle.extend.specs.Counts.{listable, countable, row-fits, joins, su
 use Rattle.extend.specs.Laid.{lay-asked, laid-front, laid-rows, laid-long}
 use Rattle.extend.specs.Joined.{Joins, copies-left, copies-right, joinable, passable, past-both, long-both}
 use Rattle.extend.specs.Finished.{HoldsExtended, finished}
-use Rattle.extend.specs.Rowed.{first-at, extended-rowed}
+use Rattle.extend.specs.Rowed.{rows-are, first-at, extended-rowed}
 use Rattle.extend.specs.Shell.{WovenAs, WeaveAsked}
 use Rattle.extend.specs.Passes.{CountAsked, CountedAs, LayAsked, LaidBy, CopyAsked, CopiedAs}
 
@@ -77,6 +79,11 @@ module _ {s : List ℤ} {w e d b old : ℕ} {from : List Row} {lefts rights : Li
     in-rows = h .in-rows;
     in-left = h .in-left;
   }
+
+  -- there are as many rows as the extended index has
+  pub rows-counted : {rows₁ : List Row} {count : ℕ} → WovenAs x s rows rows₁ count → count ≡ length (extended x s .rows)
+  unfolding extended
+  rows-counted v = v .0 ∙ sym (length-map made G) ∙ sym (length-records 0 (map G made)) ∙ ap (λ (l : List RangeRow). length (records 0 l)) (sym (rows-are x s (h .formed) (h .longer)))
 
   most : size ≤ n
   most = woven-most x s (h .formed) (h .longer)
@@ -146,8 +153,8 @@ module _ {s : List ℤ} {w e d b old : ℕ} {from : List Row} {lefts rights : Li
         front = ap (take size) (y .is) ∙ laid-front G made rows rows₁ (v .1) row-at fits-all long-rows (lessJoin J i left₂) (y .ends) same-counts (y .summed)
 
         -- the records are those of the extended index
-        pub rows-are : rows₂ ≡ filled zeroRow (records 0 (map G made)) rows
-        rows-are = y .is ∙ laid-rows G made rows rows₁ (v .1) row-at fits-all long-rows (lessJoin J i left₂) (y .ends) same-counts (y .summed)
+        pub laid-are : rows₂ ≡ filled zeroRow (records 0 (map G made)) rows
+        laid-are = y .is ∙ laid-rows G made rows rows₁ (v .1) row-at fits-all long-rows (lessJoin J i left₂) (y .ends) same-counts (y .summed)
 
         long-laid : length rows₂ ≡ length rows
         long-laid = ap length (y .is) ∙ laid-long G made rows rows₁ (v .1) row-at fits-all long-rows (lessJoin J i left₂) (y .ends) same-counts (y .summed)
@@ -217,4 +224,4 @@ module _ {s : List ℤ} {w e d b old : ℕ} {from : List Row} {lefts rights : Li
             pub extended-held : (left₆ right₆ : List ℕ) → Passed P s w size left₄ right₅ left₆ right₆ → HoldsExtended x s (buffers rows left right) (buffers rows₂ left₆ right₆)
             extended-held left₆ right₆ f = finished x s (h .formed) (h .longer) rows left right (h .in-left) (h .in-right)
                 (record { long = ap length (k .left-is) ∙ long-columns .0 ∙ k .cleared .0 .long ∙ long-l; zero = λ z l. ap (λ (m : List ℕ). getD m z 0) (k .left-is) ∙ zeros z l .0 ∙ k .cleared .0 .zero z })
-                (record { long = long-columns .1 ∙ k .cleared .1 .long ∙ long-r; zero = λ z l. zeros z l .1 ∙ k .cleared .1 .zero z }) f rows-are
+                (record { long = long-columns .1 ∙ k .cleared .1 .long ∙ long-r; zero = λ z l. zeros z l .1 ∙ k .cleared .1 .zero z }) f laid-are

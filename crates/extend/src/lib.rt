@@ -12,25 +12,31 @@ use extend_new::take_join;
 use extend_rows::weave_rows;
 use filing::Place;
 use filing::slide;
+use fill::fill_parts;
 use fill::raise_end;
 use lay::clear_runs;
 use meaning_rows::Row;
 use pack::sum_up;
 use records::clear_rows;
+use records::row_at;
 ghost use mathlib.Core.Path.{_≡_};
-ghost use Prim.Native.Nat.{_+_, _-_, _<_, _≤_};
+ghost use Prim.Native.Nat.{_+_, _-_, _*_, _<_, _≤_};
 ghost use lib.ListN.{length};
 ghost use Rattle.meaning_rows.specs.Index.{Index};
+ghost use Rattle.meaning_rows.specs.Extend.{extended};
 ghost use Rattle.filing.specs.Levels.{level, Lent, windowsOf};
 ghost use Rattle.filing.specs.Picked.{Appended};
 ghost use Rattle.pack.specs.Packed.{Summed};
 ghost use Rattle.fill.specs.Turn.{At};
+ghost use Rattle.build.specs.Filled.{buffers};
 ghost use Rattle.extend_count.specs.Rank.{rank};
 ghost use Rattle.extend_count.specs.Count.{Countable, Counted};
 ghost use Rattle.extend_new.specs.New.{newTable, lessJoin};
 ghost use Rattle.extend.specs.Steps.{firstNew, joinsOf, spotOf, SumAsked, JoinAsked, JoinedAt};
 ghost use Rattle.extend.specs.Passes.{CountAsked, CountedAs, LayAsked, LaidBy, CopyAsked, CopiedAs};
 ghost use Rattle.extend.specs.Shell.{WeaveAsked, WovenAs};
+ghost use Rattle.extend.specs.Finished.{HoldsExtended};
+ghost use Rattle.extend.specs.Whole.{indexOf, PassesAsked};
 
 // The row numbers of the windows from `old` on, as `list_new` gives them. What the flags hold does not matter.
 pub fn list_by(
@@ -234,4 +240,35 @@ pub fn copy_runs(
     clear_runs(left, right);
     copy_column(from, lefts, rows, n, left);
     copy_column(from, rights, rows, n, right);
+}
+
+// The index extended over the series; how many rows it has. Sums are raised by `bias` in all, which is `base` row widths.
+pub fn extend_passes(
+    s: &[i32],
+    w: usize,
+    e: u64,
+    d: u64,
+    base: u64,
+    bias: u64,
+    old: usize,
+    from: &[Row],
+    lefts: &[u32],
+    rights: &[u32],
+    rows: &mut [Row],
+    left: &mut [u32],
+    right: &mut [u32],
+) -> usize
+    requires { ⌜ (PassesAsked (now s) w e d base old (now from) (now lefts) (now rights) (now rows) (now left) (now right)) × (bias ≡ 10000 * w + e) ⌝ }
+    ensures { λ n. ⌜ (n ≡ length (extended (indexOf w d old (now (from .entry)) (now (lefts .entry)) (now (rights .entry))) (now (s .entry)) .rows))
+        × HoldsExtended (indexOf w d old (now (from .entry)) (now (lefts .entry)) (now (rights .entry))) (now (s .entry)) (buffers (now (rows .entry)) (now (left .entry)) (now (right .entry))) (buffers (now (rows .exit)) (now (left .exit)) (now (right .exit))) ⌝ }
+{
+    let n = weave_new(s, w, e, d, base, old, from, rows, left);
+    let i = count_rows(s, w, e, bias, old, rows, n, left, right);
+    let r = row_at(rows, i);
+    lay_joined(s, w, old, r, rights, i, rows, n, left);
+    copy_runs(from, lefts, rights, rows, n, left, right);
+    let q = row_at(rows, i);
+    let at = join_first(s, w, e, old, q, r, rights, right);
+    fill_parts(s, w, e, rows, n, at, left, right);
+    n
 }

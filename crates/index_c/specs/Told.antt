@@ -4,8 +4,10 @@ use Prim.Native.Nat.{ℕ}
 use Rattle.meaning_rows.specs.declared.Head.{Head}
 use Rattle.meaning_entries.specs.declared.Audited.{Audited}
 use Rattle.meaning_entries.specs.declared.Built.{Built}
+use Rattle.meaning_entries.specs.declared.Extended.{Extended}
 use Rattle.meaning_entries.specs.Buffers.{IndexBuffers}
 use Rattle.meaning_entries.specs.Build.{BuildCall, buildAnswer, buildAfter}
+use Rattle.meaning_entries.specs.Extend.{ExtendCall, extendAnswer, extendAfter}
 use Rattle.index_c.specs.declared.Answer.{Answer}
 
 abbrev pub noHead : Head
@@ -37,3 +39,14 @@ pub record BuildTold (c : BuildCall) (before : IndexBuffers) (answer : Answer) (
   pub rows : after .rows ≡ buildAfter c before .rows
   pub left : after .left ≡ buildAfter c before .left
   pub right : after .right ≡ buildAfter c before .right
+
+-- of an extension, likewise
+unfoldable pub toldExtended : Extended → Answer
+toldExtended (Extended.Index head rows runs) = indexOf head rows runs
+toldExtended (Extended.Refused number place) = numbersOf 3 number place
+
+pub record ExtendTold (c : ExtendCall) (before : IndexBuffers) (answer : Answer) (after : IndexBuffers) : Type 0 where
+  pub answered : answer ≡ toldExtended (extendAnswer c before)
+  pub rows : after .rows ≡ extendAfter c before .rows
+  pub left : after .left ≡ extendAfter c before .left
+  pub right : after .right ≡ extendAfter c before .right

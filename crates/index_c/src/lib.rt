@@ -2,11 +2,14 @@
 ghost use mathlib.Core.Path.{_≡_};
 ghost use Rattle.meaning_entries.specs.Audit.{lentAudit, auditAnswer};
 ghost use Rattle.meaning_entries.specs.Build.{lentBuild};
-ghost use Rattle.index_c.specs.Told.{numbersOf, toldAudited, indexOf, toldBuilt, BuildTold};
+ghost use Rattle.meaning_entries.specs.Extend.{lentExtend};
+ghost use Rattle.index_c.specs.Told.{numbersOf, toldAudited, indexOf, toldBuilt, BuildTold, toldExtended, ExtendTold};
 use audit::audit;
 use build_index::build;
+use extend_index::extend;
 use meaning_entries::Audited;
 use meaning_entries::Built;
+use meaning_entries::Extended;
 use meaning_rows::Head;
 use meaning_rows::Row;
 
@@ -100,4 +103,32 @@ pub extern "C" fn index_build(
 {
     let a = build(series, w, d, g, rows, left, right);
     tell_built(a)
+}
+
+// What an extension answers, likewise.
+fn tell_extended(a: Extended) -> Answer
+    ensures { λ t. ⌜ t ≡ toldExtended a ⌝ }
+{
+    match a {
+        Extended::Index { head, rows, runs } => index_told(head, rows, runs),
+        Extended::Refused { number, place } => numbers(3, number as usize, place),
+    }
+}
+
+// The extension.
+#[no_mangle]
+pub extern "C" fn index_extend(
+    series: &[i32],
+    head: Head,
+    from: &[Row],
+    lefts: &[u32],
+    rights: &[u32],
+    rows: &mut [Row],
+    left: &mut [u32],
+    right: &mut [u32],
+) -> Answer
+    ensures { λ t. ⌜ ExtendTold (lentExtend (now (series .entry)) head (now (from .entry)) (now (lefts .entry)) (now (rights .entry))) (record { rows = now (rows .entry); left = now (left .entry); right = now (right .entry) }) t (record { rows = now (rows .exit); left = now (left .exit); right = now (right .exit) }) ⌝ }
+{
+    let a = extend(series, head, from, lefts, rights, rows, left, right);
+    tell_extended(a)
 }

@@ -1,0 +1,3 @@
+-- Calls of the parts of the entry in a walk.
+pub mod Calls
+pub mod Entry
