@@ -1,0 +1,47 @@
+-- Where all rows of an index text are good, the run lengths that judging added up are those of its index (`rows-taken`). Assumes nothing.
+use mathlib.Core.Path.{_≡_, refl, sym, ap, subst, _∙_}
+use mathlib.Core.Bool.{true, false, false≢true}
+use mathlib.Core.List.{List, [], _∷_, map}
+use Prim.Native.Nat.{ℕ, _+_, _≤_}
+use native.Mathlib.Omega.{arith}
+use lib.IntN.{natAbs, pos}
+use lib.ListN.{length}
+use Rattle.meaning_rows.specs.declared.Head.{Head}
+use Rattle.meaning_rows.specs.Index.{Index, Entry, lent, runsOf, records}
+use Rattle.meaning_rows.specs.Judge.{headGood, runLengths, lengthTotal}
+use Rattle.meaning_rows.proofs.Laid.{Lays, laid}
+use Rattle.meaning_text.specs.Form.{Value}
+use Rattle.meaning_text.specs.Texts.{indexForm, rowForm, rowSaid, indexSaid}
+use Rattle.meaning_text.proofs.Reading.{on-flag}
+use Rattle.text_feed.specs.Keep.{clamp}
+use Rattle.text_judge.specs.declared.Rows.{Rows}
+use Rattle.text_judge.specs.Tally.{noRows, rowFits, rowNext, rowsFrom, headHeld}
+use Rattle.text_judge.proofs.Bad.{tallied, next-is, next-off, head-is, width-is, windows-is}
+
+module _ (h : Head) (x : Index) (width : natAbs (x .width) ≡ h .width) (windows : x .windows ≡ pos (h .windows)) (most : h .windows ≤ 4294967295) where
+  abbrev runs-in : Value rowForm → Rattle.text_judge.specs.declared.Runs.Runs
+  runs-in r = tallied h x width windows most r
+
+  taken-from : (l : List (Value rowForm)) (c : Rows) → c .good ≡ true → Lays (x .runs) (c .runs) (map rowSaid l) → rowsFrom h c l .good ≡ true
+      → rowsFrom h c l .taken ≡ c .taken + lengthTotal x (records (c .runs) (map rowSaid l))
+  unfolding rowsFrom records lengthTotal Lays
+  taken-from [] c g s e = omega arith
+  taken-from (r ∷ l) c g s e =
+      on-flag (rowFits h c (clamp (r .0)) (clamp (r .1 .0)) (runs-in r))
+      (λ t.
+      let i = next-is h x width windows most c r g t in
+      let n = rowNext h c (clamp (r .0)) (clamp (r .1 .0)) (runs-in r) in
+      let more = map rowSaid l in
+      let j = taken-from l n (i .good) (subst (λ (k : ℕ). Lays (x .runs) k more) (sym (i .runs)) (s .2)) e in
+      let d = ap (λ (k : ℕ). lengthTotal x (records k more)) (i .runs) in
+      let q = ap runLengths (s .1) in
+      omega (arith, j, i .taken, d, q))
+      (λ t. absurd (false≢true (sym (next-off h x width windows most c r l t .0) ∙ e)))
+
+pub rows-taken : (v : Value indexForm) → headGood (lent (headHeld v) [] [] []) ≡ true → rowsFrom (headHeld v) noRows (v .1 .1 .1) .good ≡ true
+    → rowsFrom (headHeld v) noRows (v .1 .1 .1) .taken ≡ lengthTotal (indexSaid v) (indexSaid v .rows)
+unfolding indexSaid
+rows-taken v head good =
+    let i = head-is v head in
+    let q = taken-from (headHeld v) (indexSaid v) (width-is v i) (windows-is v i) (omega (arith, i .most)) (v .1 .1 .1) noRows refl (laid (map rowSaid (v .1 .1 .1))) good in
+    omega (arith, q)

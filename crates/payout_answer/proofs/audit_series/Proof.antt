@@ -1,0 +1,73 @@
+-- `payout_answer::audit_series` meets its contract: the answer by the plan, and where nothing refuses by the walk over the rows. Assumes nothing.
+use mathlib.Core.Path.{_≡_, sym, ap, _∙_}
+use Rattle.audit.specs.declared.Plan.{Plan}
+use Rattle.audit.specs.Plan.{planOf, answerOf}
+use Rattle.payout_answer.specs.Judged.{judgedRows}
+use Rattle.payout_answer.proofs.Planned.{stopped-right, goes-sized, walked-right}
+use borrow.Author.Needs.{needs}
+use Rattle.payout_answer.proofs.audit_series.Statement.{statement}
+use Rattle.payout_answer.proofs.audit_series.Tie as tie
+
+-- the plan
+module _ (m : tie.After-make-plan) where
+  abbrev o : tie.Start
+  o = m .before .before .before
+
+  abbrev plan : Plan
+  plan = planOf (o .args .series .now) (o .args .head) (judgedRows (o .args .head) (o .args .c))
+
+  made : m .make-plan .result ≡ plan
+  made = m .make-plan .ensures ∙ ap (planOf (o .args .series .now) (o .args .head)) (m .before .judged-rows .ensures)
+
+  number-zero : m .make-plan .result .number ≡ 0 → plan .number ≡ 0
+  number-zero e = sym (ap (λ (u : Plan). u .number) made) ∙ e
+
+judged-rows-requires : tie.Need-judged-rows-requires
+judged-rows-requires c κs = search needs
+
+make-plan-requires : tie.Need-make-plan-requires
+make-plan-requires c κs = search needs
+
+begin-requires : tie.Need-begin-requires
+begin-requires c κs = search needs
+
+answer-requires : tie.Need-answer-requires
+answer-requires c κs = search needs
+
+returns : tie.Need-returns
+returns c =
+    let t = c .before .before in
+    let m = t .before .before in
+    let a = o m .args in
+    c .answer .ensures ∙ ap (λ (u : Plan). answerOf u (c .before .begin .result)) (made m)
+    ∙ stopped-right (a .index .now) (a .series .now) (a .head) (a .c) (o m .pre) (c .before .begin .result) (λ z. t .if1 .taken (ap (λ (u : Plan). u .number) (made m) ∙ z))
+
+walk-rows-requires : tie.Need-walk-rows-requires
+walk-rows-requires c κs =
+    let m = c .before .before in
+    let a = o m .args in
+    goes-sized (a .index .now) (a .series .now) (a .head) (a .c) (o m .pre) (number-zero m (c .if1 .left))
+
+answer-requires-2 : tie.Need-answer-requires-2
+answer-requires-2 c κs = search needs
+
+returns-2 : tie.Need-returns-2
+returns-2 c =
+    let w = c .before in
+    let m = w .before .before .before in
+    let a = o m .args in
+    c .answer2 .ensures ∙ ap (λ (u : Plan). answerOf u (w .walk-rows .result)) (made m)
+    ∙ walked-right (a .index .now) (a .series .now) (a .head) (a .c) (o m .pre) (w .walk-rows .result) (number-zero m (w .before .if1 .left)) (w .walk-rows .ensures)
+
+pub audit-series-spec : {M : Type 1} → statement M
+audit-series-spec =
+    tie.close
+    (tie.spec
+    judged-rows-requires
+    make-plan-requires
+    begin-requires
+    answer-requires
+    returns
+    walk-rows-requires
+    answer-requires-2
+    returns-2)

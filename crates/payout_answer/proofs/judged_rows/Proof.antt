@@ -1,0 +1,33 @@
+-- `payout_answer::judged_rows` meets its contract. By its tests, in the order of the definition. Assumes nothing.
+use mathlib.Core.Path.{refl, sym, _∙_}
+use borrow.Author.Tests.{not-true, not-false}
+use Rattle.payout_answer.specs.Judged.{judgedRows}
+use borrow.Author.Needs.{needs}
+use Rattle.payout_answer.proofs.judged_rows.Statement.{statement}
+use Rattle.payout_answer.proofs.judged_rows.Tie as tie
+
+head-good-requires : tie.Need-head-good-requires
+head-good-requires c κs = search needs
+
+returns : tie.Need-returns
+unfolding judgedRows
+returns c = let h = c .before in let e = sym (h .head-good .ensures) ∙ not-true (h .head-good .result) (c .if1 .taken) in rw e refl
+
+returns-2 : tie.Need-returns-2
+unfolding judgedRows
+returns-2 c =
+    let d = c .before .before in
+    let h = d .before in
+    let e = sym (h .head-good .ensures) ∙ not-false (h .head-good .result) (d .if1 .left) in
+    rw (e, not-true (h .before .args .c .good) (c .if2 .taken)) refl
+
+returns-3 : tie.Need-returns-3
+unfolding judgedRows
+returns-3 c =
+    let d = c .before .before in
+    let h = d .before in
+    let e = sym (h .head-good .ensures) ∙ not-false (h .head-good .result) (d .if1 .left) in
+    rw (e, not-false (h .before .args .c .good) (c .if2 .left)) refl
+
+pub judged-rows-spec : {M : Type 1} → statement M
+judged-rows-spec = tie.close (tie.spec head-good-requires returns returns-2 returns-3)

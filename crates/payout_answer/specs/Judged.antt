@@ -1,0 +1,13 @@
+-- What judging an index text said, by the head and the rows that it came to. Assumes nothing.
+use mathlib.Core.Bool.{cond}
+use mathlib.Core.List.{[]}
+use mathlib.Core.Option.{none, some}
+use Rattle.meaning_rows.specs.declared.Head.{Head}
+use Rattle.meaning_rows.specs.Index.{lent}
+use Rattle.meaning_rows.specs.Judge.{headGood}
+use Rattle.judge.specs.declared.Judged.{Judged}
+use Rattle.text_judge.specs.declared.Rows.{Rows}
+
+-- the first bad row, 0 for the head; else the run lengths added up
+unfoldable pub judgedRows : Head → Rows → Judged
+judgedRows h c = cond (headGood (lent h [] [] [])) (cond (c .good) (Judged.Fine (c .taken)) (Judged.Bad (c .rows))) (Judged.Bad 0)

@@ -1,0 +1,2 @@
+-- What judging an index text said, as the audit is planned by it (`Judged`).
+pub mod Judged

@@ -1,0 +1,2 @@
+-- What reading a series line implies.
+pub mod Whole

@@ -1,0 +1,2 @@
+-- What a series line comes to (`Line`).
+pub mod Line

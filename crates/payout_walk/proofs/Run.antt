@@ -1,0 +1,58 @@
+-- A run audited as a row of one run: what the audit of a chunk asks holds (`run-ready`), and the state afterwards by the test of the run's ends. Assumes nothing.
+use mathlib.Core.Path.{_≡_, refl, sym, ap, subst, _∙_}
+use mathlib.Core.Bool.{true, false, cond, _&&_}
+use mathlib.Core.List.{List, [], _∷_}
+use Prim.Native.Nat.{ℕ, zero, suc, _+_, _<_, _≤_, _^_}
+use native.Mathlib.Omega.{arith}
+use lib.Dec.{leb}
+use lib.IntN.{ℤ}
+use lib.ListN.{length, getD, replicate, getD-replicate}
+use lib.Seq.{getD-set-other}
+use borrow.Author.Tests.{leb-true}
+use Rattle.meaning_numbers.proofs.Tests.{both}
+use Rattle.meaning_rows.specs.declared.Row.{Row}
+use Rattle.meaning_rows.specs.declared.Head.{Head}
+use Rattle.records.specs.Records.{zeroRow}
+use Rattle.audit.specs.declared.State.{State}
+use Rattle.audit.specs.State.{Reads, Ready, chunked}
+use Rattle.payout_walk.specs.declared.Walk.{Walk}
+use Rattle.payout_walk.specs.Walk.{Sized, oneRun, afterRun}
+
+one-reads : (n w l r : ℕ) (low up : ℤ) → l ≤ r → r + w ≤ n → (k : ℕ) → k < 64 → Reads n w (l ∷ []) (r ∷ []) (getD (oneRun low up) k zeroRow)
+unfolding oneRun
+one-reads n w l r low up a b zero h = record {
+  in-left = omega arith;
+  in-right = omega arith;
+  upward = λ i x y. let e : i ≡ 0 = omega arith in rw e a;
+  inside = λ i x y. let e : i ≡ 0 = omega arith in rw e b;
+}
+one-reads n w l r low up a b (suc k) h =
+    let x : Row = record { low = low; up = up; first = 0; runs = 1 } in
+    let e : getD (oneRun low up) (suc k) zeroRow ≡ zeroRow = getD-set-other (replicate 64 zeroRow) 0 (suc k) x zeroRow (λ z. omega arith) ∙ getD-replicate 64 (suc k) zeroRow zeroRow h in
+    subst (Reads n w (l ∷ []) (r ∷ [])) (sym e) (record { in-left = omega arith; in-right = omega arith; upward = λ i p q. absurd (omega arith); inside = λ i p q. absurd (omega arith) })
+
+module _ (series : List ℤ) (h : Head) (t : Walk) (r : ℕ) where
+  -- the run's windows lie in the series
+  abbrev fits : mathlib.Core.Bool.Bool
+  fits = leb (t .left) r && leb (r + h .window) (length series)
+
+  pub run-ready : Sized series h → t .rows < 2 ^ 63 → fits ≡ true → Ready series h (t .left ∷ []) (r ∷ []) (oneRun (t .low) (t .up)) (t .rows)
+  unfolding oneRun
+  run-ready z f e =
+      let a = both (leb (t .left) r) (leb (r + h .window) (length series)) e in
+      record {
+        values = z .values;
+        least = z .least;
+        window = z .window;
+        far = omega (arith, f);
+        size = refl;
+        rows = λ k b. one-reads (length series) (h .window) (t .left) r (t .low) (t .up) (leb-true (t .left) r (a .0)) (leb-true (r + h .window) (length series) (a .1)) k b;
+      }
+
+  pub run-off : fits ≡ false → t .found ≡ afterRun series h t r
+  unfolding afterRun
+  run-off e = rw e refl
+
+  pub run-on : fits ≡ true → chunked series h (t .left ∷ []) (r ∷ []) (t .found) (t .rows) (oneRun (t .low) (t .up)) ≡ afterRun series h t r
+  unfolding afterRun
+  run-on e = rw e refl

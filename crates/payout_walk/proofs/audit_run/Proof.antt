@@ -1,0 +1,67 @@
+-- `payout_walk::audit_run` meets its contract: the run as a row of one run. Assumes nothing.
+use borrow.Author.Tests.{not-true, not-false}
+use mathlib.Core.Path.{_≡_, sym, _∙_}
+use mir.Syntax.{w32}
+use mir.ValLaws.{toZ-ofZ}
+use Rattle.payout_walk.specs.Walk.{oneRun}
+use Rattle.payout_walk.proofs.Run.{run-ready, run-off, run-on}
+use borrow.Author.Needs.{needs}
+use Rattle.payout_walk.proofs.audit_run.Statement.{statement}
+use Rattle.payout_walk.proofs.audit_run.Tie as tie
+
+cast-run-reads : tie.Need-cast-run-reads
+cast-run-reads c = search needs
+
+cast-run-reads-2 : tie.Need-cast-run-reads-2
+cast-run-reads-2 c = search needs
+
+run-reads-requires : tie.Need-run-reads-requires
+run-reads-requires c κs = search needs
+
+returns : tie.Need-returns
+returns c = let f = c .before in let s = f .before .before .before in run-off (s .args .series .now) (s .args .head) (s .args .t) (s .args .r) (sym (f .run-reads .ensures) ∙ not-true (f .run-reads .result) (c .if1 .taken))
+
+array-set-from-chunk : tie.Need-array-set-from-chunk
+array-set-from-chunk c = search needs
+
+slice-aggregate-audit-chunk : tie.Need-slice-aggregate-audit-chunk
+slice-aggregate-audit-chunk c = search needs
+
+slice-aggregate-audit-chunk-2 : tie.Need-slice-aggregate-audit-chunk-2
+slice-aggregate-audit-chunk-2 c = search needs
+
+audit-chunk-requires : tie.Need-audit-chunk-requires
+unfolding oneRun
+audit-chunk-requires c κs =
+    let i = c .before .before .before in
+    let f = i .before in
+    let s = f .before .before .before in
+    let e = sym (f .run-reads .ensures) ∙ not-false (f .run-reads .result) (i .if1 .left) in
+    let l = toZ-ofZ w32 (s .args .t .low) (record { sfits = c .before .before .struct-told .given .0 .1 }) in
+    let u = toZ-ofZ w32 (s .args .t .up) (record { sfits = c .before .before .struct-told .given .1 .0 .1 }) in
+    rw (l, u) (λ g. run-ready (s .args .series .now) (s .args .head) (s .args .t) (s .args .r) (s .pre .0) (s .pre .1) e)
+
+returns-2 : tie.Need-returns-2
+unfolding oneRun
+returns-2 c =
+    let i = c .before .before .before .before in
+    let f = i .before in
+    let s = f .before .before .before in
+    let e = sym (f .run-reads .ensures) ∙ not-false (f .run-reads .result) (i .if1 .left) in
+    let l = toZ-ofZ w32 (s .args .t .low) (record { sfits = c .before .before .before .struct-told .given .0 .1 }) in
+    let u = toZ-ofZ w32 (s .args .t .up) (record { sfits = c .before .before .before .struct-told .given .1 .0 .1 }) in
+    (rw (l, u) at (c .audit-chunk .ensures)) ∙ run-on (s .args .series .now) (s .args .head) (s .args .t) (s .args .r) e
+
+pub audit-run-spec : {M : Type 1} → statement M
+audit-run-spec =
+    tie.close
+    (tie.spec
+    cast-run-reads
+    cast-run-reads-2
+    run-reads-requires
+    returns
+    array-set-from-chunk
+    slice-aggregate-audit-chunk
+    slice-aggregate-audit-chunk-2
+    audit-chunk-requires
+    returns-2)

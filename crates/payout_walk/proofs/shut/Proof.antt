@@ -1,0 +1,19 @@
+-- `payout_walk::shut` meets its contract. Assumes nothing.
+use borrow.Author.Needs.{needs}
+use Rattle.payout_walk.specs.Walk.{shutWalk}
+use Rattle.payout_walk.proofs.shut.Statement.{statement}
+use Rattle.payout_walk.proofs.shut.Tie as tie
+use Rattle.payout_walk.proofs.shut.Reads as reads
+use Rattle.payout_walk.proofs.shut.Lts as lts
+
+-- src/lib.rt:131:15
+add-t3 : tie.Need-add-t3
+add-t3 c = search needs
+
+-- src/lib.rt:122:1
+returns : tie.Need-returns
+unfolding shutWalk
+returns c = search needs
+
+pub shut-spec : {M : Type 1} → statement M
+shut-spec = tie.close (tie.spec add-t3 returns)

@@ -1,0 +1,142 @@
+-- `payout_walk::walk_rows` meets its contract. The invariant: what is left of the text comes to what the text comes to (`Kept`), and no more rows are closed than bytes were read. The measure is what is left of the text. Assumes nothing.
+use mathlib.Core.Path.{_≡_, sym, ap, _∙_}
+use mathlib.Core.List.{List}
+use Prim.Native.Nat.{ℕ, _+_, _-_, _≤_}
+use native.Mathlib.Omega.{arith}
+use borrow.Author.Needs.{needs}
+use borrow.Author.Tests.{not-true}
+use lib.IntN.{ℤ}
+use lib.ListN.{length}
+use mir.Syntax.{w64}
+use mir.Val.{toZ, ofZ}
+use mir.ValLaws.{toZ-ofZ}
+use Rattle.meaning_rows.specs.declared.Head.{Head}
+use Rattle.text_index.specs.View.{Kept, kept-start, kept-to, kept-value, kept-closed}
+use Rattle.payout_walk.specs.Walk.{startWalk, tellWalk, shutWalk}
+use Rattle.payout_walk.proofs.Seen.{walked-end, walked-refuse, walked-stopped, tell-rows, shut-rows}
+use Rattle.payout_walk.proofs.walk_rows.Statement.{statement}
+use Rattle.payout_walk.proofs.walk_rows.Tie as tie
+
+abbrev Inv-loop : tie.InvT-loop
+Inv-loop text series head s₀ t₀ i₀ s t i = Kept (tellWalk series head) shutWalk startWalk text s t i × (t .rows ≤ i)
+
+abbrev μ-loop : tie.MeasureT-loop
+μ-loop text series head s₀ t₀ i₀ s t i = length text - i
+
+-- what is audited
+abbrev At : Type 0
+At = tie.At-loop Inv-loop μ-loop
+
+abbrev S : At → List ℤ
+S l = l .before .before .before .args .series .now
+
+abbrev H : At → Head
+H l = l .before .before .before .args .head
+
+no-walk-requires : tie.Need-no-walk-requires Inv-loop μ-loop
+no-walk-requires c κs = search needs
+
+loop-holds : tie.Need-loop-holds Inv-loop μ-loop
+loop-holds c = rw (c .no-walk .ensures) (kept-start (tellWalk (c .before .before .args .series .now) (c .before .before .args .head)) shutWalk startWalk _, omega arith)
+
+shared-slice-read-index-step : tie.Need-shared-slice-read-index-step Inv-loop μ-loop
+shared-slice-read-index-step c = omega arith
+
+index-step-requires : tie.Need-index-step-requires Inv-loop μ-loop
+index-step-requires c κs = c .before .before .loop .inv .0 .good
+
+enum-known-n : tie.Need-enum-known-n Inv-loop μ-loop
+enum-known-n c = search needs
+
+add-i : tie.Need-add-i Inv-loop μ-loop
+add-i c = omega arith
+
+loop-less : tie.Need-loop-less Inv-loop μ-loop
+loop-less c = omega arith
+
+loop-again : tie.Need-loop-again Inv-loop μ-loop
+loop-again c = let a = c .before .before .before in let l = a .before .before .before in (kept-to (tellWalk (S l) (H l)) shutWalk startWalk _ (l .loop .s) (l .loop .t) (l .loop .i) (l .loop .inv .0) (a .before .before .loop-test .taken) (c .before .n .given .0 .0) (sym (a .index-step .ensures) ∙ c .before .n .given .1), omega (arith, l .loop .inv .1))
+
+enum-known-n-2 : tie.Need-enum-known-n-2 Inv-loop μ-loop
+enum-known-n-2 c = search needs
+
+tell-requires : tie.Need-tell-requires Inv-loop μ-loop
+tell-requires c κs = let a = c .before .before .before in let l = a .before .before .before in (l .before .before .before .pre, omega (arith, l .loop .inv .1, a .before .before .loop-test .taken, l .before .before .before .good))
+
+add-i-2 : tie.Need-add-i-2 Inv-loop μ-loop
+add-i-2 c = omega arith
+
+-- after a number
+moved : (c : tie.After-tell Inv-loop μ-loop) → let n = c .before .before in let l = n .before .before .before .before .before in
+    Kept (tellWalk (S l) (H l)) shutWalk startWalk (l .before .before .before .args .text .now) (n .n2 .given .0 .0) (c .tell .result) (l .loop .i + 1) × (c .tell .result .rows ≤ l .loop .i + 1)
+moved c =
+    let n = c .before .before in
+    let a = n .before .before in
+    let l = a .before .before .before in
+    let p = n .n2 .given .0 .1 .0 in
+    let z = n .n2 .given .0 .1 .1 .0 in
+    let e : toZ w64 (ofZ w64 z) ≡ z = toZ-ofZ w64 z (search (needs, c .before .known-told2 .given)) in
+    let q = rw e at (c .tell .ensures) in
+    rw q (kept-value (tellWalk (S l) (H l)) shutWalk startWalk _ (l .loop .s) (l .loop .t) (l .loop .i) (l .loop .inv .0) (a .before .before .loop-test .taken) (n .n2 .given .0 .0) p z (sym (a .index-step .ensures) ∙ n .n2 .given .1), omega (arith, l .loop .inv .1, tell-rows (S l) (H l) p z (l .loop .t)))
+
+returns : tie.Need-returns Inv-loop μ-loop
+returns c = let t = c .before .before .before in let n = t .before .before in let l = n .before .before .before .before .before in walked-stopped (S l) (H l) _ (n .n2 .given .0 .0) (t .tell .result) (l .loop .i + 1) (moved t .0) (not-true (t .tell .result .found .go) (c .before .if1 .taken))
+
+loop-less-2 : tie.Need-loop-less-2 Inv-loop μ-loop
+loop-less-2 c = omega arith
+
+loop-again-2 : tie.Need-loop-again-2 Inv-loop μ-loop
+loop-again-2 c = moved (c .before .before)
+
+enum-known-n-3 : tie.Need-enum-known-n-3 Inv-loop μ-loop
+enum-known-n-3 c = search needs
+
+shut-requires : tie.Need-shut-requires Inv-loop μ-loop
+shut-requires c κs = let a = c .before .before .before in let l = a .before .before .before in omega (arith, l .loop .inv .1, a .before .before .loop-test .taken, l .before .before .before .good)
+
+add-i-3 : tie.Need-add-i-3 Inv-loop μ-loop
+add-i-3 c = omega arith
+
+loop-less-3 : tie.Need-loop-less-3 Inv-loop μ-loop
+loop-less-3 c = omega arith
+
+loop-again-3 : tie.Need-loop-again-3 Inv-loop μ-loop
+loop-again-3 c = let n = c .before .before in let a = n .before .before in let l = a .before .before .before in rw (c .shut .ensures) (kept-closed (tellWalk (S l) (H l)) shutWalk startWalk _ (l .loop .s) (l .loop .t) (l .loop .i) (l .loop .inv .0) (a .before .before .loop-test .taken) (n .n3 .given .0 .0) (sym (a .index-step .ensures) ∙ n .n3 .given .1), omega (arith, l .loop .inv .1, shut-rows (l .loop .t)))
+
+enum-told : tie.Need-enum-told Inv-loop μ-loop
+enum-told c = search needs
+
+returns-2 : tie.Need-returns-2 Inv-loop μ-loop
+returns-2 c = let e = c .before in let a = e .before .before in let l = a .before .before .before in walked-refuse (S l) (H l) _ (l .loop .s) (l .loop .t) (l .loop .i) (l .loop .inv .0) (a .before .before .loop-test .taken) (sym (a .index-step .ensures) ∙ e .enum-told .given .1)
+
+returns-3 : tie.Need-returns-3 Inv-loop μ-loop
+returns-3 c = let l = c .before .before in walked-end (S l) (H l) _ (l .loop .s) (l .loop .t) (l .loop .i) (l .loop .inv .0) (c .before .loop-test .left)
+
+pub walk-rows-spec : {M : Type 1} → statement M
+walk-rows-spec =
+    tie.close
+    (tie.spec
+    Inv-loop
+    μ-loop
+    no-walk-requires
+    loop-holds
+    shared-slice-read-index-step
+    index-step-requires
+    enum-known-n
+    add-i
+    loop-less
+    loop-again
+    enum-known-n-2
+    tell-requires
+    add-i-2
+    returns
+    loop-less-2
+    loop-again-2
+    enum-known-n-3
+    shut-requires
+    add-i-3
+    loop-less-3
+    loop-again-3
+    enum-told
+    returns-2
+    returns-3)
