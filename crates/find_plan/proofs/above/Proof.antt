@@ -1,0 +1,18 @@
+-- `find_plan::above` meets its contract. Assumes nothing.
+use borrow.Author.Needs.{needs}
+use Rattle.find_plan.specs.Text.{cast-is}
+use Rattle.meaning_numbers.proofs.Machine.{zmach, z-cast}
+use lib.IntN.{pos}
+use mir.Syntax.{w64}
+use mir.ValLaws.{toZ-ofZ}
+use Rattle.find_plan.proofs.above.Statement.{statement}
+use Rattle.find_plan.proofs.above.Tie as tie
+
+cast-result : tie.Need-cast-result
+cast-result c = search needs
+
+returns : tie.Need-returns
+returns c = rw (toZ-ofZ w64 (c .args .z) (c .fits .z), cast-is (c .args .n) (c .pre))
+
+pub above-spec : {M : Type 1} → statement M
+above-spec = tie.close (tie.spec cast-result returns)
