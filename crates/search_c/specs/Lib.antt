@@ -1,0 +1,2 @@
+-- What the contracts of the search for C cite.
+pub mod Told

@@ -1,0 +1,295 @@
+// Compares the model with the compiled entry that searches, through the static library of `search_c`, and with the plain C that it is raced against: search_compare [TURNS].
+#![allow(dead_code)]
+mod index;
+mod lent;
+mod model;
+mod texts;
+use index::*;
+use lent::*;
+use model::*;
+use std::time::Instant;
+
+/// The kind and the limits, as C asks for them.
+#[repr(C)]
+#[derive(Clone, Copy, Debug)]
+struct Asked { kind: u32, band: u32, threshold: u64, scale: u32, shift: u32 }
+
+/// An answer as it is told to C.
+#[repr(C)]
+#[derive(Clone, Copy, PartialEq, Eq, Debug)]
+struct Answer { kind: u32, first: usize, second: usize }
+
+#[repr(C)]
+#[derive(Clone, Copy, PartialEq, Eq, Debug, Default)]
+struct Counts { candidates: u64, matches: u64 }
+
+unsafe extern "C" {
+    fn index_search(
+        series: *const i32, n: usize, head: Head, rows: *const Row, count: usize, left: *const u32, lefts: usize, right: *const u32, rights: usize, asked: Asked, query: *const i32, m: usize,
+        first: *mut u32, firsts: usize, last: *mut u32, lasts: usize, scratch: *mut u16, counts: usize, offsets: *mut u32, entries: usize, distances: *mut u64, sizes: usize,
+    ) -> Answer;
+    fn plain_search(
+        series: *const i32, n: usize, head: Head, rows: *const Row, count: usize, left: *const u32, right: *const u32, runs: usize, asked: Asked, query: *const i32, m: usize,
+        first: *mut u32, last: *mut u32, scratch: *mut u16, offsets: *mut u32, distances: *mut u64, room: u64, found: *mut Counts,
+    ) -> i32;
+    fn plain_scan(series: *const i32, n: usize, asked: Asked, query: *const i32, m: usize, offsets: *mut u32, distances: *mut u64, room: u64, found: *mut Counts) -> i32;
+}
+
+/// The five lent buffers of a search.
+#[derive(Clone, PartialEq, Eq, Debug)]
+struct Lists { first: Vec<u32>, last: Vec<u32>, scratch: Vec<u16>, offsets: Vec<u32>, distances: Vec<u64> }
+
+impl Lists {
+    fn of_rubbish(r: &mut Numbers, rooms: [usize; 5]) -> Lists {
+        Lists {
+            first: (0..rooms[0]).map(|_| r.next() as u32).collect(),
+            last: (0..rooms[1]).map(|_| r.next() as u32).collect(),
+            scratch: (0..rooms[2]).map(|_| r.next() as u16).collect(),
+            offsets: (0..rooms[3]).map(|_| r.next() as u32).collect(),
+            distances: (0..rooms[4]).map(|_| r.next()).collect(),
+        }
+    }
+
+    /// What a search that looked leaves: candidates as joined runs, matches as far as the list holds them, and zeros.
+    fn after(&self, f: &Found) -> Lists {
+        let runs = runs_of(&f.candidates.iter().copied().collect());
+        let room = self.offsets.len().min(self.distances.len());
+        let list = &f.matches[..room.min(f.matches.len())];
+        fn filled<T: Copy + Default>(room: usize, with: Vec<T>) -> Vec<T> { let mut v = with; v.resize(room, T::default()); v }
+        Lists {
+            first: filled(self.first.len(), runs.iter().map(|r| r.0 as u32).collect()),
+            last: filled(self.last.len(), runs.iter().map(|r| r.1 as u32).collect()),
+            scratch: vec![0; self.scratch.len()],
+            offsets: filled(self.offsets.len(), list.iter().map(|e| e.0 as u32).collect()),
+            distances: filled(self.distances.len(), list.iter().map(|e| e.1).collect()),
+        }
+    }
+}
+
+struct Test {
+    r: Numbers,
+    inputs: u64,
+    wrong: u64,
+    plain: u64,
+    /// searches of each kind that looked, those with matches, all matches, lists too short, each refusal
+    looked: [u64; 4],
+    matched: u64,
+    matches: u64,
+    full: u64,
+    refused: [u64; 24],
+    /// searches through an index that is well formed and wrong, and series searched through several indexes
+    misled: u64,
+    several: u64,
+}
+
+impl Test {
+    fn say(&mut self, good: bool, what: &str, more: impl FnOnce() -> String) {
+        self.inputs += 1;
+        if !good {
+            self.wrong += 1;
+            if self.wrong <= 10 { println!("DIFFERENT: {what} {}", more()) }
+        }
+    }
+
+    /// What the model answers, and what it leaves in the buffers.
+    fn found(&mut self, s: &[i32], x: &Index, z: &Question, before: &Lists) -> (Answer, Lists) {
+        if let Some((number, place)) = search_refusal(x, s, z, before.first.len().min(before.last.len()), before.scratch.len()) {
+            self.refused[number as usize] += 1;
+            return (Answer { kind: 3, first: number as usize, second: place }, before.clone());
+        }
+        let f = search(x, s, z);
+        let full = f.matches.len() > before.offsets.len().min(before.distances.len());
+        self.looked[2 * z.normal as usize + (z.band > 0) as usize] += 1;
+        self.matched += (!f.matches.is_empty()) as u64;
+        self.matches += f.matches.len() as u64;
+        self.full += full as u64;
+        (Answer { kind: full as u32, first: f.candidates.len(), second: f.matches.len() }, before.after(&f))
+    }
+
+    /// One search into buffers full of rubbish; what stands in the list where it was not refused.
+    fn search(&mut self, s: &[i32], x: &Lent, a: Asked, q: &[i32], rooms: [usize; 5]) -> Option<Vec<(u32, u64)>> {
+        let before = Lists::of_rubbish(&mut self.r, rooms);
+        let z = Question { normal: a.kind != 0, query: q, band: a.band as i64, threshold: a.threshold.min(i64::MAX as u64) as i64, scale: a.scale as i64, shift: a.shift as i64 };
+        let (answer, after) = self.found(s, &x.index(), &z, &before);
+        let mut b = before.clone();
+        let told = unsafe {
+            index_search(
+                s.as_ptr(), s.len(), x.head, x.rows.as_ptr(), x.rows.len(), x.left.as_ptr(), x.left.len(), x.right.as_ptr(), x.right.len(), a, q.as_ptr(), q.len(),
+                b.first.as_mut_ptr(), b.first.len(), b.last.as_mut_ptr(), b.last.len(), b.scratch.as_mut_ptr(), b.scratch.len(), b.offsets.as_mut_ptr(), b.offsets.len(), b.distances.as_mut_ptr(), b.distances.len(),
+            )
+        };
+        self.say(told == answer && b == after, "search", || format!("{s:?} {x:?} {a:?} {q:?} {rooms:?}: {told:?} {b:?}, the model {answer:?} {after:?}"));
+        if answer.kind == 0 && self.r.below(2) == 0 { self.plain(s, x, a, q, &after, answer) }
+        (answer.kind == 0).then(|| b.offsets.iter().copied().zip(b.distances.iter().copied()).take(answer.second).collect())
+    }
+
+    /// The plain C, where the list has room; its list is as long as the shorter of the two slices.
+    fn plain(&mut self, s: &[i32], x: &Lent, a: Asked, q: &[i32], after: &Lists, answer: Answer) {
+        let windows = x.head.windows as usize;
+        let room = after.offsets.len().min(after.distances.len());
+        let mut b = Lists::of_rubbish(&mut self.r, [windows, windows, windows, room, room]);
+        let mut right = after.clone();
+        right.first.truncate(windows);
+        right.last.truncate(windows);
+        right.scratch.truncate(windows);
+        right.offsets.truncate(room);
+        right.distances.truncate(room);
+        let mut counts = Counts::default();
+        let done = unsafe {
+            plain_search(
+                s.as_ptr(), s.len(), x.head, x.rows.as_ptr(), x.rows.len(), x.left.as_ptr(), x.right.as_ptr(), x.left.len().min(x.right.len()), a, q.as_ptr(), q.len(),
+                b.first.as_mut_ptr(), b.last.as_mut_ptr(), b.scratch.as_mut_ptr(), b.offsets.as_mut_ptr(), b.distances.as_mut_ptr(), room as u64, &mut counts,
+            )
+        };
+        self.plain += 1;
+        let same = done == 1 && b == right && counts == Counts { candidates: answer.first as u64, matches: answer.second as u64 };
+        self.say(same, "plain search", || format!("{s:?} {x:?} {a:?} {q:?}: {counts:?} {b:?}"));
+        if !matches!(audit(&x.index(), s), Audited::Yes) { return }
+        let done = unsafe { plain_scan(s.as_ptr(), s.len(), a, q.as_ptr(), q.len(), b.offsets.as_mut_ptr(), b.distances.as_mut_ptr(), room as u64, &mut counts) };
+        self.plain += 1;
+        self.say(done == 1 && b == right && counts.matches == answer.second as u64, "plain scan", || format!("{s:?} {a:?} {q:?}: {counts:?} {b:?}"));
+    }
+
+    // ---- inputs
+
+    /// A query that the series resembles at some places: nearly the same, or moved and stretched too where it is normalised.
+    fn plant(&mut self, s: &mut [i32], q: &[i32], normal: bool) {
+        let r = &mut self.r;
+        for _ in 0..r.below(4) {
+            let at = r.below((s.len() - q.len() + 1) as u64) as usize;
+            let (k, t) = if normal { (r.from_to(7, 14), r.from_to(-50, 50)) } else { (10, 0) };
+            let (noise, late) = (r.from_to(0, 2), r.below(2) as usize);
+            for j in 0..q.len() { s[at + j] = in_limits(q[j.saturating_sub(late)] as i64 * k / 10 + t + r.from_to(-noise, noise)) }
+        }
+    }
+
+    /// A threshold at the distance of some stretch or beside it, none, or the greatest.
+    fn threshold(&mut self, s: &[i32], q: &[i32], normal: bool, b: usize) -> u64 {
+        let at = self.r.below((s.len() - q.len() + 1) as u64) as usize;
+        let near = &s[at..at + q.len()];
+        let d = if q.len() > 300 && b > 0 { self.r.below(100_000) as i128 } else if !normal { distance(near, q, b) } else { match (normalised(near), normalised(q)) { (Some(x), Some(y)) => distance(&x, &y, b), _ => 0 } };
+        let d = (d as u64).min(1_000_000_000_000);
+        match self.r.below(8) { 0 => 0, 1 => 1_000_000_000_000, 2 => d.saturating_sub(1), 3 | 4 => d, 5 => d / 2, 6 => (2 * d).min(1_000_000_000_000), _ => self.r.below(1_000_000) }
+    }
+
+    fn asked(&mut self, s: &[i32], q: &[i32], normal: bool, warped: bool) -> Asked {
+        let most = q.len() as u64 - 1;
+        let band = if !warped || most == 0 { 0 } else { 1 + match self.r.below(3) { 0 => self.r.below(most), _ => self.r.below(most.min(4)) } } as u32;
+        let threshold = self.threshold(s, q, normal, band as usize);
+        let scale = match self.r.below(4) { 0 => 10, 1 => 100, _ => self.r.from_to(10, 40) } as u32;
+        let shift = match self.r.below(4) { 0 => 0, 1 => 20_000, _ => self.r.from_to(0, 300) } as u32;
+        Asked { kind: if normal { [1, 2, u32::MAX][self.r.below(3) as usize] } else { 0 }, band, threshold, scale, shift }
+    }
+
+    /// One of the numbers at a limit or past it.
+    fn past_limits(&mut self, mut a: Asked, m: usize) -> Asked {
+        let k = self.r.below(4) as usize;
+        match self.r.below(4) {
+            0 => a.band = [m as u32, m as u32 + 1, u32::MAX, (m as u32).wrapping_sub(1)][k],
+            1 => a.threshold = [1_000_000_000_001, u64::MAX, 1 << 63, 1_000_000_000_000][k],
+            2 => a.scale = [9, 101, 0, u32::MAX][k],
+            _ => a.shift = [20_001, u32::MAX, 20_000, 1 << 31][k],
+        }
+        a
+    }
+
+    /// A query that may be empty, too long, or have a value outside.
+    fn damaged_query(&mut self, q: &[i32], n: usize) -> Vec<i32> {
+        let mut q = q.to_vec();
+        let k = self.r.below(q.len() as u64) as usize;
+        match self.r.below(6) {
+            0 => q[k] = [10_001, -10_001, i32::MAX, i32::MIN][self.r.below(4) as usize],
+            1 => q.truncate(k),
+            2 => q.resize(n + 1, 1),
+            3 => q.resize(1_025, 2),
+            4 => q = vec![5; q.len()],
+            _ => q.clear(),
+        }
+        q
+    }
+
+    fn rooms(&mut self, windows: usize, list: usize) -> [usize; 5] {
+        let mut at_least = |n: usize| n + self.r.below(4) as usize;
+        [at_least(windows), at_least(windows), at_least(windows), at_least(list), at_least(list)]
+    }
+
+    /// One turn: a series with planted matches, searched through several indexes that are right, then through one that may not be.
+    fn turn(&mut self, n: usize, kind: u64) {
+        let normal = kind >= 2;
+        let m = match self.r.below(6) { 0 => n, 1 => 1 + self.r.below(n as u64) as usize, _ => 1 + self.r.below(n.min(9) as u64) as usize };
+        let m = if normal && n > 1 { m.max(2) } else { m };
+        let mut s = any_series(&mut self.r, n);
+        let q = query(&mut self.r, &s, m.min(1_024));
+        self.plant(&mut s, &q, normal);
+        let a = self.asked(&s, &q, normal, kind % 2 == 1);
+        let mut lists = vec![];
+        for _ in 0..2 {
+            let (w, d, g) = any_numbers(&mut self.r, n);
+            let x = Lent::of(&build(&s, w.min(q.len()), d as i64, g as i64));
+            let rooms = self.rooms(n, n);
+            lists.extend(self.search(&s, &x, a, &q, rooms));
+        }
+        if lists.len() == 2 {
+            self.several += 1;
+            self.say(lists[0] == lists[1], "two indexes", || format!("{s:?} {a:?} {q:?}: {lists:?}"));
+        }
+        self.damaged(&s, &q, a);
+    }
+
+    /// A short list or buffer, numbers past their limits, an index that is wrong or ill formed, a series or a query that is damaged.
+    fn damaged(&mut self, s: &[i32], q: &[i32], a: Asked) {
+        let (w, d, g) = any_numbers(&mut self.r, s.len());
+        let w = if self.r.below(4) > 0 { w.min(q.len()) } else { w };
+        let mut x = Lent::of(&build(s, w, d as i64, g as i64));
+        if self.r.below(2) == 0 { x.rubbish_behind(&mut self.r) }
+        let (mut s, mut q, mut a) = (s.to_vec(), q.to_vec(), a);
+        let windows = s.len() - w + 1;
+        let room = self.r.below(4) as usize;
+        let mut rooms = self.rooms(windows, room);
+        match self.r.below(8) {
+            0 => rooms[self.r.below(3) as usize] = windows - 1,
+            1 | 2 => { x.refile(&mut self.r); self.misled += bad_row(&x.index()).is_none() as u64 }
+            3 => x.damage(&mut self.r),
+            4 => a = self.past_limits(a, q.len()),
+            5 => q = self.damaged_query(&q, s.len()),
+            6 => s = damaged_series(&mut self.r, &s),
+            _ => rooms[3 + self.r.below(2) as usize] = 0,
+        }
+        self.search(&s, &x, a, &q, rooms);
+    }
+
+    /// Queries of 1,024 values and one more, over a longer series.
+    fn longest(&mut self, kind: u64) {
+        let n = self.r.from_to(1_024, 1_200) as usize;
+        let mut s = any_series(&mut self.r, n);
+        let m = 1_024 - self.r.below(3) as usize;
+        let q = query(&mut self.r, &s, m);
+        self.plant(&mut s, &q, kind >= 2);
+        let mut a = self.asked(&s, &q, kind >= 2, false);
+        a.band = if kind % 2 == 0 { 0 } else { self.r.from_to(1, 30) as u32 };
+        let most = 1 << self.r.below(30);
+        a.threshold = self.r.below(most);
+        for w in [256, 1 + self.r.below(256) as usize] {
+            let x = Lent::of(&build(&s, w, 1_000, 80));
+            let rooms = self.rooms(n, 100);
+            self.search(&s, &x, a, &q, rooms);
+        }
+    }
+}
+
+fn main() {
+    let turns: u64 = std::env::args().nth(1).map_or(60_000, |x| x.parse().unwrap());
+    let start = Instant::now();
+    let mut t = Test { r: Numbers(88172645463325252), inputs: 0, wrong: 0, plain: 0, looked: [0; 4], matched: 0, matches: 0, full: 0, refused: [0; 24], misled: 0, several: 0 };
+    for k in 0..turns {
+        let n = match k % 100 { 0 => t.r.from_to(60, 120), 1..=9 => t.r.from_to(30, 59), 10..=19 => t.r.from_to(1, 3), _ => t.r.from_to(4, 29) } as usize;
+        t.turn(n, k / 100 % 4);
+        if k % 2_000 == 0 { t.longest(k / 2_000 % 4) }
+    }
+    let told: Vec<String> = (0..24).filter(|&k| t.refused[k] > 0).map(|k| format!("{k}: {}", t.refused[k])).collect();
+    println!(
+        "{} inputs, {} differences ({} of the plain C; looked: raw {} straight, {} warped, normalised {} straight, {} warped; {} with matches, {} matches, {} lists too short, {} through a wrong index, {} series through two indexes; refused {}) in {:.1} s",
+        t.inputs, t.wrong, t.plain, t.looked[0], t.looked[1], t.looked[2], t.looked[3], t.matched, t.matches, t.full, t.misled, t.several, told.join(" "), start.elapsed().as_secs_f64()
+    );
+    if t.wrong > 0 { std::process::exit(1) }
+}
