@@ -1,16 +1,16 @@
 -- A value that is passed on or stored is the machine's bits read back. In the limits that is the value, so what a callee says of the bits it says of the value. Assumes nothing.
 use mathlib.Core.Path.{_≡_, refl, sym, _∙_}
 use mathlib.Core.Bool.{Bool, true, false}
-use Prim.Native.Nat.{_<_, _≤_}
+use Prim.Native.Nat.{_+_, _<_, _≤_}
 use native.Mathlib.Omega.{arith}
-use lib.IntN.{ℤ, pos, negsuc}
+use lib.IntN.{ℤ, pos, negsuc, _+ℤ_, _-ℤ_}
 use lib.Signed.{ltZ}
 use mir.Syntax.{Width, w32}
 use mir.Val.{SFits, toZ, ofZ}
 use mir.ValLaws.{toZ-ofZ}
 use Rattle.meaning_numbers.specs.Order.{minℤ, maxℤ}
 use Rattle.meaning_numbers.proofs.Choice.{min-yes, min-no, max-yes, max-no}
-use Rattle.meaning_numbers.proofs.Rep.{up, dn}
+use Rattle.meaning_numbers.proofs.Rep.{up, dn, z-add, z-sub}
 use Rattle.meaning_numbers.proofs.Machine.{zmach32}
 use Rattle.meaning_curves.specs.Straight.{cost}
 use Rattle.meaning_curves.proofs.Values.{InLimits}
@@ -49,3 +49,17 @@ module _ (w : Width) {x y : ℤ} (f : SFits w x) (g : SFits w y) where
 
   pub greater-first : ltZ (toZ w (ofZ w x)) (toZ w (ofZ w y)) ≡ false → toZ w (ofZ w x) ≡ maxℤ x y
   greater-first e = toZ-ofZ w x f ∙ sym (max-no x y (less e))
+
+-- a value added to a sum, or taken from it: b is the sum z as the machine reads it
+module _ {b z x : ℤ} (is : b ≡ z) (above : up z ≤ dn z + 1000000000) (below : dn z ≤ up z + 1000000000) (h : InLimits x) where
+  pub plus-fits : SFits w32 (b +ℤ toZ w32 (ofZ w32 x))
+  plus-fits = rw (is, in-back h) (omega (zmach32, z-add z x, h .low, h .high))
+
+  pub plus-back : toZ w32 (ofZ w32 (b +ℤ toZ w32 (ofZ w32 x))) ≡ z +ℤ x
+  plus-back = toZ-ofZ w32 _ plus-fits ∙ rw (is, in-back h)
+
+  pub minus-fits : SFits w32 (b -ℤ toZ w32 (ofZ w32 x))
+  minus-fits = rw (is, in-back h) (omega (zmach32, z-sub z x, h .low, h .high))
+
+  pub minus-back : toZ w32 (ofZ w32 (b -ℤ toZ w32 (ofZ w32 x))) ≡ z -ℤ x
+  minus-back = toZ-ofZ w32 _ minus-fits ∙ rw (is, in-back h)
