@@ -22,7 +22,8 @@ use Rattle.meaning_rows.proofs.Judge.{GoodRow, WellFormed, runs-good, row-at}
 use Rattle.records.specs.Records.{zeroRow, chunkOf}
 use Rattle.records.proofs.Walk.{drop-next}
 use Rattle.records.proofs.Chunk.{chunk-at, chunk-length}
-use Rattle.judge.proofs.Scan.{part, part-next, length-entries}
+use Rattle.meaning_rows.proofs.Grown.{length-entries}
+use Rattle.judge.proofs.Scan.{part, part-next}
 use Rattle.audit.specs.State.{Reads, onlyRuns, wrongOf}
 
 -- ---- a chunk, and what comes after

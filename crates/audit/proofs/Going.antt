@@ -28,7 +28,9 @@ use Rattle.meaning_entries.proofs.Refusal.{First, Passed, here, later, end, mor
 use Rattle.records.specs.Records.{chunkOf}
 use Rattle.records.proofs.Chunk.{chunk-length}
 use Rattle.judge.specs.declared.Judged.{Judged}
+use Rattle.conditions.proofs.Lines.{long-place, value-place, formed-place, fewer-place, more-place}
 use Rattle.judge.specs.Judged.{outcome, judgedOf}
+use Rattle.judge.proofs.Outcome.{judged-by}
 use Rattle.audit.specs.declared.Plan.{Plan}
 use Rattle.audit.specs.declared.State.{State}
 use Rattle.audit.specs.State.{found, Ready, wrongOf, chunked}
@@ -62,40 +64,14 @@ module _ (series : List ℤ) (h : Head) (rows : List Row) (left right : List ℕ
     stops : (n q : ℕ) → thePlan ≡ refusedBy n q → (n ≡ 0 → ⊥) → firstRefusal table ≡ some (n, q) → Planned
     goes : thePlan ≡ free → firstRefusal table ≡ none → Sound → Planned
 
-  -- ---- the lines of the table
-
   abbrev had : ℤ
   had = pos (length series) -ℤ pos (h .window) +ℤ pos 1
-
-  long-place : (t : Bool) → lengthIn mostValues (length series) ≡ t → lengthOutside mostValues series .place ≡ cond (not t) (some 0) none
-  unfolding lengthOutside
-  long-place t e = rw e refl
-
-  value-place : valueOutside series .place ≡ firstOutside series
-  unfolding valueOutside
-  value-place = refl
-
-  formed-place : illFormed X .place ≡ firstBadRow X
-  unfolding illFormed
-  formed-place = refl
-
-  fewer-place : (t : Bool) → ltZ (pos (h .windows)) had ≡ t → fewerWindows X series .place ≡ cond t (some 0) none
-  unfolding fewerWindows
-  fewer-place t e = rw e refl
-
-  more-place : (t : Bool) → ltZ had (pos (h .windows)) ≡ t → moreWindows X series .place ≡ cond t (some 0) none
-  unfolding moreWindows
-  more-place t e = rw e refl
 
   -- ---- the plan, by the first line that applies
 
   plan-in : lengthIn mostValues (length series) ≡ true → (o : Option ℕ) → firstOutside series ≡ o → thePlan ≡ valuedPlan o (judgedPlan h (length series) (judgedOf X))
   unfolding planOf
   plan-in e o f = rw (e, f) refl
-
-  judged-by : (o : Option ℕ) → firstBadRow X ≡ o → judgedOf X ≡ outcome o (lengthTotal X rows)
-  unfolding judgedOf
-  judged-by o e = rw e refl
 
   same-count : ltZ (pos (h .windows)) had ≡ false → ltZ had (pos (h .windows)) ≡ false → h .windows + h .window ≡ length series + 1
   same-count e f =
@@ -106,34 +82,34 @@ module _ (series : List ℤ) (h : Head) (rows : List Row) (left right : List ℕ
   by-windows : (long : lengthIn mostValues (length series) ≡ true) → firstOutside series ≡ none → firstBadRow X ≡ none → Planned
   unfolding auditTable valuedPlan judgedPlan outcome lengthOutside valueOutside illFormed fewerWindows moreWindows
   by-windows long inside well =
-      let p : thePlan ≡ sized h (length series) (lengthTotal X rows) = plan-in long none inside ∙ ap (judgedPlan h (length series)) (judged-by none well) in
+      let p : thePlan ≡ sized h (length series) (lengthTotal X rows) = plan-in long none inside ∙ ap (judgedPlan h (length series)) (judged-by X none well) in
       by-test (ltZ (pos (h .windows)) had)
       (λ t. stops 21 0 (p ∙ sym (sized-fewer h (length series) (lengthTotal X rows) t)) (λ e. omega arith)
-      (first-is (later (long-place true long) (later (value-place ∙ inside) (later (formed-place ∙ well) (here (fewer-place true t)))))))
+      (first-is (later (long-place series true long) (later (value-place series none inside) (later (formed-place X none well) (here (fewer-place X series true t)))))))
       (λ f. by-test (ltZ had (pos (h .windows)))
       (λ t. stops 22 0 (p ∙ sym (sized-more h (length series) (lengthTotal X rows) f t)) (λ e. omega arith)
-      (first-is (later (long-place true long) (later (value-place ∙ inside) (later (formed-place ∙ well) (later (fewer-place false f) (here (more-place true t))))))))
+      (first-is (later (long-place series true long) (later (value-place series none inside) (later (formed-place X none well) (later (fewer-place X series false f) (here (more-place X series true t))))))))
       (λ g. goes (p ∙ sym (sized-fits h (length series) (lengthTotal X rows) f g (h .windows - lengthTotal X rows) refl))
-      (passed-is (more (long-place true long) (more (value-place ∙ inside) (more (formed-place ∙ well) (more (fewer-place false f) (more (more-place false g) end))))))
+      (passed-is (more (long-place series true long) (more (value-place series none inside) (more (formed-place X none well) (more (fewer-place X series false f) (more (more-place X series false g) end))))))
       (record { values = none-outside series inside; formed = well-formed X well; fits = same-count f g })))
 
   by-formed : lengthIn mostValues (length series) ≡ true → firstOutside series ≡ none → (o : Option ℕ) → firstBadRow X ≡ o → Planned
   unfolding auditTable valuedPlan judgedPlan outcome lengthOutside valueOutside illFormed
   by-formed long inside none e = by-windows long inside e
   by-formed long inside (some k) e =
-      stops 20 k (plan-in long none inside ∙ ap (judgedPlan h (length series)) (judged-by (some k) e)) (λ z. omega arith)
-      (first-is (later (long-place true long) (later (value-place ∙ inside) (here (formed-place ∙ e)))))
+      stops 20 k (plan-in long none inside ∙ ap (judgedPlan h (length series)) (judged-by X (some k) e)) (λ z. omega arith)
+      (first-is (later (long-place series true long) (later (value-place series none inside) (here (formed-place X (some k) e)))))
 
   by-values : lengthIn mostValues (length series) ≡ true → (o : Option ℕ) → firstOutside series ≡ o → Planned
   unfolding auditTable valuedPlan lengthOutside valueOutside
   by-values long none e = by-formed long e (firstBadRow X) refl
-  by-values long (some k) e = stops 2 k (plan-in long (some k) e) (λ z. omega arith) (first-is (later (long-place true long) (here (value-place ∙ e))))
+  by-values long (some k) e = stops 2 k (plan-in long (some k) e) (λ z. omega arith) (first-is (later (long-place series true long) (here (value-place series (some k) e))))
 
   planned : Planned
   unfolding auditTable lengthOutside
   planned = by-test (lengthIn mostValues (length series))
       (λ t. by-values t (firstOutside series) refl)
-      (λ f. stops 1 0 (sym (plan-long series h (judgedOf X) f)) (λ z. omega arith) (first-is (here (long-place false f))))
+      (λ f. stops 1 0 (sym (plan-long series h (judgedOf X) f)) (λ z. omega arith) (first-is (here (long-place series false f))))
 
   -- ---- the answer
 

@@ -1,5 +1,4 @@
 -- What auditing implies, and the calls of the loop over lent records.
-pub mod Sliding
 pub mod Turn
 pub mod Cases
 pub mod Chunks

@@ -25,7 +25,9 @@ use Rattle.meaning_entries.specs.Buffers.{IndexBuffers, runRoom}
 use Rattle.meaning_entries.specs.Extend.{ExtendCall, lentExtend, extendWindows, extendTable}
 use Rattle.meaning_entries.proofs.Refusal.{First, Passed, here, later, end, more, first-is, passed-is}
 use Rattle.judge.specs.declared.Judged.{Judged}
+use Rattle.conditions.proofs.Lines.{long-place, value-place, formed-place, more-place, short-place}
 use Rattle.judge.specs.Judged.{outcome, judgedOf}
+use Rattle.judge.proofs.Outcome.{judged-by}
 use Rattle.extend_plan.specs.declared.Plan.{Plan}
 use Rattle.extend_plan.specs.Plan.{refusedBy, free, roomed, judgedPlan, valuedPlan, planOf}
 use Rattle.extend_plan.proofs.Cases.{long-most, roomed-more, roomed-rows, roomed-runs, roomed-free, plan-long}
@@ -57,40 +59,14 @@ module _ (series : List ℤ) (h : Head) (rows : List Row) (left right : List ℕ
     stops : (k q : ℕ) → thePlan ≡ refusedBy k q → (k ≡ 0 → ⊥) → firstRefusal table ≡ some (k, q) → Planned
     goes : thePlan ≡ free → firstRefusal table ≡ none → Sound → Planned
 
-  -- ---- the lines of the table
-
   abbrev had : ℤ
   had = pos n -ℤ pos (h .window) +ℤ pos 1
-
-  long-place : (t : Bool) → lengthIn mostValues n ≡ t → lengthOutside mostValues series .place ≡ cond (not t) (some 0) none
-  unfolding lengthOutside
-  long-place t e = rw e refl
-
-  value-place : valueOutside series .place ≡ firstOutside series
-  unfolding valueOutside
-  value-place = refl
-
-  formed-place : illFormed X .place ≡ firstBadRow X
-  unfolding illFormed
-  formed-place = refl
-
-  more-place : (t : Bool) → ltZ had (pos (h .windows)) ≡ t → moreWindows X series .place ≡ cond t (some 0) none
-  unfolding moreWindows
-  more-place t e = rw e refl
-
-  short-place : (room : ℕ) (t : Bool) → ltb room (extendWindows call) ≡ t → bufferShort room (extendWindows call) .place ≡ cond t (some 0) none
-  unfolding bufferShort
-  short-place room t e = rw e refl
 
   -- ---- the plan, by the first line that applies
 
   plan-in : lengthIn mostValues n ≡ true → (o : Option ℕ) → firstOutside series ≡ o → thePlan ≡ valuedPlan o (judgedPlan h n (length (b .rows)) (runRoom b) (judgedOf X))
   unfolding planOf
   plan-in e o f = rw (e, f) refl
-
-  judged-by : (o : Option ℕ) → firstBadRow X ≡ o → judgedOf X ≡ outcome o (lengthTotal X rows)
-  unfolding judgedOf
-  judged-by o e = rw e refl
 
   enough : ltZ had (pos (h .windows)) ≡ false → h .windows ≤ n + 1 - h .window
   enough f =
@@ -102,18 +78,18 @@ module _ (series : List ℤ) (h : Head) (rows : List Row) (left right : List ℕ
   by-room long inside well =
       let R = length (b .rows) in
       let U = runRoom b in
-      let p : thePlan ≡ roomed h n R U = plan-in long none inside ∙ ap (judgedPlan h n R U) (judged-by none well) in
+      let p : thePlan ≡ roomed h n R U = plan-in long none inside ∙ ap (judgedPlan h n R U) (judged-by X none well) in
       by-test (ltZ had (pos (h .windows)))
       (λ t. stops 22 0 (p ∙ sym (roomed-more h n R U t)) (λ e. omega arith)
-      (first-is (later (long-place true long) (later (value-place ∙ inside) (later (formed-place ∙ well) (here (more-place true t)))))))
+      (first-is (later (long-place series true long) (later (value-place series none inside) (later (formed-place X none well) (here (more-place X series true t)))))))
       (λ f. by-test (ltb R (extendWindows call))
       (λ t. stops 23 0 (p ∙ sym (roomed-rows h n R U f t)) (λ e. omega arith)
-      (first-is (later (long-place true long) (later (value-place ∙ inside) (later (formed-place ∙ well) (later (more-place false f) (here (short-place R true t))))))))
+      (first-is (later (long-place series true long) (later (value-place series none inside) (later (formed-place X none well) (later (more-place X series false f) (here (short-place R (extendWindows call) true t))))))))
       (λ g. by-test (ltb U (extendWindows call))
       (λ t. stops 23 0 (p ∙ sym (roomed-runs h n R U f g t)) (λ e. omega arith)
-      (first-is (later (long-place true long) (later (value-place ∙ inside) (later (formed-place ∙ well) (later (more-place false f) (later (short-place R false g) (here (short-place U true t)))))))))
+      (first-is (later (long-place series true long) (later (value-place series none inside) (later (formed-place X none well) (later (more-place X series false f) (later (short-place R (extendWindows call) false g) (here (short-place U (extendWindows call) true t)))))))))
       (λ k. goes (p ∙ sym (roomed-free h n R U f g k))
-      (passed-is (more (long-place true long) (more (value-place ∙ inside) (more (formed-place ∙ well) (more (more-place false f) (more (short-place R false g) (more (short-place U false k) end)))))))
+      (passed-is (more (long-place series true long) (more (value-place series none inside) (more (formed-place X none well) (more (more-place X series false f) (more (short-place R (extendWindows call) false g) (more (short-place U (extendWindows call) false k) end)))))))
       (record {
         formed = well-formed X well;
         longer = record { longer = enough f; short = long-most n long; values = inside };
@@ -125,16 +101,16 @@ module _ (series : List ℤ) (h : Head) (rows : List Row) (left right : List ℕ
   unfolding extendTable valuedPlan judgedPlan outcome lengthOutside valueOutside illFormed
   by-formed long inside none e = by-room long inside e
   by-formed long inside (some k) e =
-      stops 20 k (plan-in long none inside ∙ ap (judgedPlan h n (length (b .rows)) (runRoom b)) (judged-by (some k) e)) (λ z. omega arith)
-      (first-is (later (long-place true long) (later (value-place ∙ inside) (here (formed-place ∙ e)))))
+      stops 20 k (plan-in long none inside ∙ ap (judgedPlan h n (length (b .rows)) (runRoom b)) (judged-by X (some k) e)) (λ z. omega arith)
+      (first-is (later (long-place series true long) (later (value-place series none inside) (here (formed-place X (some k) e)))))
 
   by-values : lengthIn mostValues n ≡ true → (o : Option ℕ) → firstOutside series ≡ o → Planned
   unfolding extendTable valuedPlan lengthOutside valueOutside
   by-values long none e = by-formed long e (firstBadRow X) refl
-  by-values long (some k) e = stops 2 k (plan-in long (some k) e) (λ z. omega arith) (first-is (later (long-place true long) (here (value-place ∙ e))))
+  by-values long (some k) e = stops 2 k (plan-in long (some k) e) (λ z. omega arith) (first-is (later (long-place series true long) (here (value-place series (some k) e))))
 
   pub planned : Planned
   unfolding extendTable lengthOutside
   planned = by-test (lengthIn mostValues n)
       (λ t. by-values t (firstOutside series) refl)
-      (λ f. stops 1 0 (sym (plan-long series h (judgedOf X) (length (b .rows)) (runRoom b) f)) (λ z. omega arith) (first-is (here (long-place false f))))
+      (λ f. stops 1 0 (sym (plan-long series h (judgedOf X) (length (b .rows)) (runRoom b) f)) (λ z. omega arith) (first-is (here (long-place series false f))))

@@ -12,7 +12,8 @@ use Rattle.meaning_rows.specs.Index.{Index, runsOf}
 use Rattle.meaning_rows.specs.Judge.{runsGood, runLengths, rangeGood, partGood, rowGood}
 use Rattle.judge.specs.declared.State.{State}
 use Rattle.judge.specs.State.{failed, moved, untold, scan, after, next}
-use Rattle.judge.proofs.Scan.{both, all-four, not-all}
+use Rattle.meaning_numbers.proofs.Tests.{both}
+use Rattle.judge.proofs.Scan.{all-four, not-all}
 
 module _ (x : Index) (s : State) (r : Row) where
   -- everything of a row but its runs

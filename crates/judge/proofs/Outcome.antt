@@ -8,6 +8,7 @@ use native.Mathlib.Omega.{arith}
 use lib.Dec.{leb}
 use lib.IntN.{ℤ, pos, natAbs}
 use lib.ListN.{length, getD, drop, drop-of-length-le}
+use Rattle.meaning_numbers.proofs.Tests.{by-test, both}
 use Rattle.meaning_rows.specs.declared.Row.{Row}
 use Rattle.meaning_rows.specs.declared.Head.{Head}
 use Rattle.meaning_rows.specs.Index.{Index, lent, runsOf}
@@ -18,12 +19,7 @@ use Rattle.judge.specs.declared.State.{State}
 use Rattle.judge.specs.declared.Judged.{Judged}
 use Rattle.judge.specs.Judged.{outcome, judgedOf}
 use Rattle.judge.specs.State.{start, failed, moved, next, verdictOf}
-use Rattle.judge.proofs.Scan.{both}
 use Rattle.judge.proofs.Next.{fits-room}
-
-by-test {ℓ} : {X : Type ℓ} (t : Bool) → (t ≡ true → X) → (t ≡ false → X) → X
-by-test true f g = f refl
-by-test false f g = g refl
 
 -- ---- rows do not change how a row is judged
 
@@ -163,3 +159,9 @@ module _ (h : Head) (rows : List Row) (left right : List ℕ) where
 
   pub judging-ends : (s : State) (k : ℕ) → length rows ≤ k → Judging s k → verdictOf s k ≡ judgedOf X
   judging-ends s k l j = turn-none X k s ∙ ap (judgedFrom X k s) (sym (drop-of-length-le rows l)) ∙ j
+
+-- ---- the judgement, by the first bad row
+
+pub judged-by : (x : Index) (o : Option ℕ) → firstBadRow x ≡ o → judgedOf x ≡ outcome o (lengthTotal x (x .rows))
+unfolding judgedOf
+judged-by x o e = rw e refl

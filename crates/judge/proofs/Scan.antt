@@ -8,6 +8,8 @@ use lib.Dec.{leb, ltb}
 use lib.IntN.{ℤ, pos}
 use lib.ListN.{length, getD, take, drop}
 use borrow.Author.Tests.{leb-true, ltb-true}
+pub use Rattle.meaning_numbers.proofs.Tests.{both}
+pub use Rattle.meaning_rows.proofs.Grown.{length-entries}
 use Rattle.meaning_rows.specs.Index.{Entry, entries}
 use Rattle.meaning_rows.specs.Judge.{runsGood, runLengths}
 use Rattle.judge.specs.State.{untold, scan}
@@ -17,12 +19,6 @@ use Rattle.judge.specs.State.{untold, scan}
 -- the entries from i up to and not with `to`
 abbrev pub part : List ℕ → List ℕ → ℕ → ℕ → List Entry
 part left right i to = take (to - i) (drop i (entries left right))
-
-pub length-entries : (left right : List ℕ) → length (entries left right) ≡ min (length left) (length right)
-unfolding entries
-length-entries [] right = omega arith
-length-entries (x ∷ left) [] = omega arith
-length-entries (x ∷ left) (y ∷ right) = omega (arith, length-entries left right)
 
 entries-drop : (left right : List ℕ) (i : ℕ) → i < length left → i < length right
     → drop i (entries left right) ≡ (pos (getD left i 0), pos (getD right i 0)) ∷ drop (suc i) (entries left right)
@@ -53,11 +49,6 @@ pub record GoodRun (windows least l r : ℕ) : Type 0 where
   pub below : least ≤ l
   pub order : l ≤ r
   pub inside : r < windows
-
--- two tests that pass
-pub both : (a b : Bool) → (a && b) ≡ true → (a ≡ true) × (b ≡ true)
-both true b e = (refl, e)
-both false b e = absurd (false≢true e)
 
 pub good-run : (windows least l r : ℕ) → runGood windows least l r ≡ true → GoodRun windows least l r
 good-run windows least l r e =

@@ -1,16 +1,21 @@
 -- The sizes of a frame's numbers, within the limits of a query: all products fit 64 bits (`frame-in`). Assumes nothing.
 use mathlib.Core.Path.{_≡_}
+use mathlib.Core.Bool.{Bool}
 use Prim.Native.Nat.{ℕ, _+_, _*_, _/_, _<_, _≤_}
 use native.Mathlib.Omega.{arith}
 use native.Mathlib.Nat.{mul-le-mul, div-le-self, mul-pos}
 use lib.IntN.{ℤ, pos, _+ℤ_, _-ℤ_, _*ℤ_}
+use mir.Syntax.{w64}
+use mir.Val.{toZ, ofZ}
 use Rattle.meaning_numbers.specs.Root.{root}
 use Rattle.meaning_numbers.proofs.Root.{root-is, le-of-sq-le}
 use Rattle.meaning_filter.specs.declared.Kind.{Kind}
 use Rattle.meaning_filter.specs.declared.Kind.the-variants.{Raw, Normal}
 use Rattle.meaning_filter.specs.declared.Limits.{Limits}
 use Rattle.meaning_filter.specs.Range.{lowScale, highScale}
-use Rattle.ranges.specs.Small.{Small, small-pos, small-more, small-add, small-sub, small-mul}
+use Rattle.distance_envelope.specs.Best.{pick}
+use Rattle.ranges.specs.declared.Frame.{Frame}
+use Rattle.ranges.specs.Small.{Small, small-pos, small-more, small-add, small-sub, small-mul, small-pick, small-back, arg-back}
 use Rattle.ranges.specs.Frame.{frameOf, FrameIn, QueryIn}
 
 root-le : (y k : ℕ) → y ≤ k * k → root y ≤ k
@@ -81,3 +86,33 @@ module _ {m w : ℕ} {l : Limits} {values spread : ℕ} (q : QueryIn m w l value
 pub scaled-small : (x u v : ℤ) → Small 18560256 x → Small 204800001 u → Small 204800001 v
     → Small 3801140447360256 (x *ℤ u) × Small 3801140447360256 (x *ℤ v)
 scaled-small x u v h k l = (small-more 3801140447360256 (omega arith) (small-mul x u h k), small-more 3801140447360256 (omega arith) (small-mul x v h l))
+
+-- the sum of an envelope and the reach, passed on
+pub operands : {sum reach : ℤ} → Small 2560000 sum → Small 16000256 reach → Small 4000000000000000 (toZ w64 (ofZ w64 sum)) × Small 4000000000000000 (toZ w64 (ofZ w64 reach))
+operands {sum} {reach} h k = (arg-back sum (omega arith) (small-more 4000000000000000 (omega arith) h), arg-back reach (omega arith) (small-more 4000000000000000 (omega arith) k))
+
+-- X or Y is x, as a callee makes it of the machine's bits: what is divided at that end is small, and so the bits of what is told of it are those of the number
+module _ {f : Frame} {sum more x : ℤ} (step : ℤ → ℤ → ℤ) (i : FrameIn f) (h : Small 2560000 sum) (k : Small 1310720000000 more) (s : Small 18560256 (step sum (f .reach))) (e : x ≡ step (toZ w64 (ofZ w64 sum)) (toZ w64 (ofZ w64 (f .reach)))) where
+  moved : toZ w64 (ofZ w64 x) ≡ step sum (f .reach)
+  moved = rw (e, small-back sum (omega arith) h, small-back (f .reach) (omega arith) (i .reach)) (small-back (step sum (f .reach)) (omega arith) s)
+
+  pub asks-dividend : FrameIn f × Small 18560256 (toZ w64 (ofZ w64 x)) × Small 1310720000000 (toZ w64 (ofZ w64 more))
+  asks-dividend = (i, rw moved s, arg-back more (omega arith) k)
+
+  module _ (low : Bool) {n : ℤ} (d : n ≡ pick low (toZ w64 (ofZ w64 x) *ℤ f .narrow) (toZ w64 (ofZ w64 x) *ℤ f .wide) +ℤ toZ w64 (ofZ w64 more)) where
+    abbrev near : ℤ
+    near = step sum (f .reach) *ℤ f .narrow
+
+    abbrev far : ℤ
+    far = step sum (f .reach) *ℤ f .wide
+
+    dividend-is : n ≡ pick low near far +ℤ more
+    dividend-is = rw (d, moved, small-back more (omega arith) k)
+
+    pub dividend-small : Small 3802451167360256 n
+    dividend-small =
+        let z = scaled-small (step sum (f .reach)) (f .narrow) (f .wide) s (i .narrow) (i .wide) in
+        rw dividend-is (small-add (pick low near far) more (small-pick low near far (z .0) (z .1)) k)
+
+    pub dividend-back : toZ w64 (ofZ w64 n) ≡ pick low near far +ℤ more
+    dividend-back = rw (small-back n (omega arith) dividend-small) dividend-is

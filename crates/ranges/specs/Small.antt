@@ -1,5 +1,6 @@
 -- Whole numbers of a size: sums, differences, products and quotients of small numbers are small, and a small number fits 64 bits. Assumes nothing.
 use mathlib.Core.Path.{_≡_, refl, sym, subst}
+use mathlib.Core.Bool.{Bool, true, false}
 use mathlib.Core.Logic.{⊎-elim}
 use Prim.Native.Nat.{ℕ, suc, _+_, _*_, _/_, _<_, _≤_, _^_}
 use native.Mathlib.Omega.{arith}
@@ -13,6 +14,7 @@ use Rattle.meaning_numbers.specs.Quotient.{floorℤ}
 use Rattle.meaning_numbers.proofs.Rep.{up, dn, z-add, z-sub, z-neg, to-eq}
 use Rattle.meaning_numbers.proofs.Order.{minℤ-one, maxℤ-one}
 use Rattle.meaning_numbers.proofs.Machine.{to-sfits}
+use Rattle.distance_envelope.specs.Best.{pick}
 
 -- z lies from -n to n
 pub record Small (n : ℕ) (z : ℤ) : Type 0 where
@@ -58,6 +60,10 @@ small-min {n} x y h k = ⊎-elim (λ e. subst (λ (z : ℤ). Small n z) (sym e) 
 
 pub small-max : {n : ℕ} (x y : ℤ) → Small n x → Small n y → Small n (maxℤ x y)
 small-max {n} x y h k = ⊎-elim (λ e. subst (λ (z : ℤ). Small n z) (sym e) k) (λ e. subst (λ (z : ℤ). Small n z) (sym e) h) (maxℤ-one x y)
+
+pub small-pick : {n : ℕ} (low : Bool) (x y : ℤ) → Small n x → Small n y → Small n (pick low x y)
+small-pick true = small-min
+small-pick false = small-max
 
 -- ---- the machine's bits read back
 

@@ -15,6 +15,7 @@ ghost use Rattle.meaning_curves.specs.Curve.{windowSum};
 ghost use Rattle.meaning_curves.proofs.Values.{AllIn};
 ghost use Rattle.meaning_filter.specs.Range.{lowScale, highScale};
 ghost use Rattle.meaning_filter.specs.declared.Kind.{Kind};
+ghost use Rattle.distance_envelope.specs.Best.{pick};
 ghost use Rattle.ranges.specs.Small.{Small};
 ghost use Rattle.ranges.specs.Frame.{rawFrame, normalFrame, frameOf, lowEnd, highEnd, rangeAt, FrameIn, QueryIn};
 
@@ -154,14 +155,32 @@ pub fn frame_of(kind: Kind, m: u64, w: u64, l: Limits, q: Query) -> Frame
     }
 }
 
+// The lesser of two numbers, or the greater.
+pub fn pick_of(low: bool, x: i64, y: i64) -> i64
+    ensures { λ r. ⌜ r ≡ pick low x y ⌝ }
+{
+    if low {
+        return lesser_of(x, y);
+    }
+    greater_of(x, y)
+}
+
+// What is divided at an end of a range: the lesser or the greater of the two multiples of `x`, with `more` added.
+pub fn dividend(f: Frame, x: i64, low: bool, more: i64) -> i64
+    requires { ⌜ FrameIn f × Small 18560256 x × Small 1310720000000 more ⌝ }
+    ensures { λ r. ⌜ r ≡ pick low (x *ℤ f .narrow) (x *ℤ f .wide) +ℤ more ⌝ }
+{
+    let out = pick_of(low, times(x, f.narrow), times(x, f.wide));
+    plus(out, more)
+}
+
 // The lower end of a part's range, of the sum of the lower envelope.
 pub fn low_end(f: Frame, sum: i64) -> i64
     requires { ⌜ FrameIn f × Small 2560000 sum ⌝ }
     ensures { λ r. ⌜ r ≡ lowEnd f sum ⌝ }
 {
     let x = minus(sum, f.reach);
-    let least = lesser_of(times(x, f.narrow), times(x, f.wide));
-    ceil_quotient(plus(least, f.fall), f.divisor)
+    ceil_quotient(dividend(f, x, true, f.fall), f.divisor)
 }
 
 // The upper end, of the sum of the upper envelope.
@@ -170,8 +189,7 @@ pub fn high_end(f: Frame, sum: i64) -> i64
     ensures { λ r. ⌜ r ≡ highEnd f sum ⌝ }
 {
     let y = plus(sum, f.reach);
-    let most = greater_of(times(y, f.narrow), times(y, f.wide));
-    floor_quotient(plus(most, f.rise), f.divisor)
+    floor_quotient(dividend(f, y, false, f.rise), f.divisor)
 }
 
 // The range of part `i`, of the envelopes.

@@ -1,4 +1,4 @@
--- The kit for walks over lent records, generic (Walk, Told, Elem, Lends, Again, LocalMut, Lent) and of `Row` (RowKit, Rows, Writes), and the laws of chunks.
+-- The kit for walks over lent records, generic (Walk, Told, Elem, Lends, Again, LocalMut, Lent), of `Row` (RowKit, Rows, Writes) and of the two run slices (Slices), and the laws of chunks.
 pub mod Walk
 pub mod Elem
 pub mod Again
@@ -7,6 +7,7 @@ pub mod LocalMut
 pub mod Lent
 pub mod RowKit
 pub mod Rows
+pub mod Slices
 pub mod Told
 pub mod Writes
 pub mod Chunk

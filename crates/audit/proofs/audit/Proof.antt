@@ -58,6 +58,7 @@ use Rattle.meaning_entries.proofs.Audited.Laws as Au′
 use Rattle.records.specs.Records.{chunkOf}
 use Rattle.records.proofs.Walk.{by-bool, goes-in, passes-by, lose, lose-room, loops-by}
 use Rattle.records.proofs.Rows.{Rs, Own, chunk, ChunkAt, calls-chunk-at}
+use Rattle.records.proofs.Slices.{Ns, Toks, Owns}
 use Rattle.records.proofs.chunk_at.Symbol as chunk-at-def
 use Rattle.records.proofs.chunk_at.Symbol.{name as #records·chunk-at}
 use Rattle.records.proofs.chunk_at.Met as chunk-at-thm
@@ -65,6 +66,8 @@ use Rattle.judge.specs.declared.Judged.{Judged}
 use Rattle.judge.specs.Judged.{judgedOf}
 use Rattle.judge.proofs.Judged as J
 use Rattle.judge.proofs.Judged.Laws as J′
+use Rattle.judge.proofs.Calls.{low-head, IsHead, low-judged, IsJudged, head-typed, judged-typed}
+use Rattle.judge.proofs.JudgeCall.{JudgeAll, calls-judge}
 use Rattle.judge.proofs.judge.Symbol as judge-def
 use Rattle.judge.proofs.judge.Symbol.{name as #judge·judge}
 use Rattle.judge.proofs.judge.Met as judge-thm
@@ -76,7 +79,7 @@ use Rattle.audit.proofs.State.Laws as S′
 use Rattle.audit.proofs.Plan as P
 use Rattle.audit.proofs.Plan.Laws as P′
 use Rattle.audit.proofs.Going.{thePlan, Auditing, afterChunk, auditing-starts, auditing-ready, auditing-next, auditing-stops, auditing-ends}
-use Rattle.audit.proofs.Calls.{Ns, Zs, OwnZ, low-head, IsHead, low-state, IsState, low-plan, IsPlan, low-judged, IsJudged, low-audited, IsAudited, IsChunk, JudgeAll, MakePlan, Begin, AuditChunk, Answer, Toks, Owns, calls-judge, calls-plan, calls-begin, calls-chunk, calls-answer}
+use Rattle.audit.proofs.Calls.{Zs, OwnZ, low-state, IsState, low-plan, IsPlan, low-audited, IsAudited, IsChunk, MakePlan, Begin, AuditChunk, Answer, calls-plan, calls-begin, calls-chunk, calls-answer}
 use Rattle.audit.proofs.make_plan.Symbol as plan-def
 use Rattle.audit.proofs.make_plan.Symbol.{name as #audit·make-plan}
 use Rattle.audit.proofs.make_plan.Met as plan-thm
@@ -138,10 +141,10 @@ module _ {M : Type 1} (𝓤 : URA M) (H : Heap 𝓤) (A : Atoms 𝓤) (W : Given
   planned = thePlan (now z) h ys (now u) (now w)
 
   abbrev Tk : Item 𝓤
-  Tk = Toks 𝓤 H A mem run W κ₂ κ₃ q₂ q₃ u w
+  Tk = Toks 𝓤 κ₂ κ₃ q₂ q₃
 
   abbrev Ow : Item 𝓤
-  Ow = Owns 𝓤 H A mem run W κ₂ κ₃ q₂ q₃ u w
+  Ow = Owns 𝓤 κ₂ κ₃ u w
 
   abbrev at : Vals f.signature (κ₀, (κ, (κ₂, (κ₃, tt))))
   at = (slice-vals z, (low-head h ∷ [], (slice-vals x, (slice-vals u, (slice-vals w, tt)))))
@@ -171,17 +174,11 @@ module _ {M : Type 1} (𝓤 : URA M) (H : Heap 𝓤) (A : Atoms 𝓤) (W : Given
       nothing ! $ nothing ! $ fjoin ! $ nothing ! $ fjoin ! $ nothing ! $ fjoin ! $ nothing ! $ fjoin ! $ nothing ! $ fjoin ! $ frame ! $
       owned ! Au.the-row (Is Au.the-row) (EL.makes Au.the-type Au′.the-plain 𝓤 H A) a _ g $ done !
 
-  head-typed : IsHead h → Tr (hasTy Hd′.mir (low-head h)) × WT (low-head h)
-  head-typed g = LL.lawful Hd.the-type Hd′.the-laws 𝓤 H A W .typed h _ g .0
-
   plan-typed : (y : Plan) → IsPlan y → Tr (hasTy P′.mir (low-plan y)) × WT (low-plan y)
   plan-typed y g = LL.lawful P.the-type P′.the-laws 𝓤 H A W .typed y _ g .0
 
   state-typed : (s : State) → IsState s → Tr (hasTy S′.mir (low-state s)) × WT (low-state s)
   state-typed s g = LL.lawful S.the-type S′.the-laws 𝓤 H A W .typed s _ g .0
-
-  judged-typed : (j : Judged) → IsJudged j → Tr (hasTy J′.mir (low-judged j)) × WT (low-judged j)
-  judged-typed j g = EL.lawful J.the-type J′.the-laws 𝓤 H A W tt .typed j _ g .0
 
   audited-typed : (a : Audited) → IsAudited a → Tr (hasTy Au′.mir (low-audited a)) × WT (low-audited a)
   audited-typed a g = EL.lawful Au.the-type Au′.the-laws 𝓤 H A W tt .typed a _ g .0
@@ -288,8 +285,8 @@ module _ {M : Type 1} (𝓤 : URA M) (H : Heap 𝓤) (A : Atoms 𝓤) (W : Given
           move ! (29 ∷ []) $ fsplit ! $ move ! (1 ∷ []) $ fsplit ! $ drop ! $ fsplit ! $ move ! (1 ∷ []) $ fsplit ! $ move ! (1 ∷ []) $ fsplit ! $ move ! (1 ∷ []) $ drop ! $
           move ! (1 ∷ 0 ∷ []) $ join ! $
           move ! (1 ∷ 0 ∷ []) $ join ! $ move ! (2 ∷ 3 ∷ []) $ join ! $
-          calls-judge κ₂ κ₃ q₂ q₃ u w ! fm mem run known-judge κ q h x gh (and-then ! (load ! (from ! (stop !)) (look ! 24 refl)) (and-then ! (load ! (from ! (stop !)) (look ! 22 refl)) (and-then ! (load ! (from ! (stop !)) (look ! 20 refl)) (and-then ! (load ! (from ! (stop !)) (look ! 18 refl)) (no-more !))))) (λ j ej gj.
-          land ! (from ! (stop !)) (init ! 16 refl (judged-typed j gj)) $
+          calls-judge κ₂ κ₃ q₂ q₃ u w κ q x ! fm mem run known-judge h gh (and-then ! (load ! (from ! (stop !)) (look ! 24 refl)) (and-then ! (load ! (from ! (stop !)) (look ! 22 refl)) (and-then ! (load ! (from ! (stop !)) (look ! 20 refl)) (and-then ! (load ! (from ! (stop !)) (look ! 18 refl)) (no-more !))))) (λ j ej gj.
+          land ! (from ! (stop !)) (init ! 16 refl (judged-typed 𝓤 H A W j gj)) $
           split ! $ move ! (2 ∷ []) $ split ! $ move ! (5 ∷ 4 ∷ 2 ∷ 0 ∷ 3 ∷ 1 ∷ []) $
           calls-plan ! fm mem run known-plan κ₀ q₀ z h j gh gj (and-then ! (load ! (from ! (stop !)) (look ! 28 refl)) (and-then ! (load ! (from ! (stop !)) (look ! 26 refl)) (and-then ! (load ! (from ! (stop !)) (look ! 18 refl)) (no-more !)))) (λ y ey gy.
           land ! (from ! (stop !)) (init ! 16 refl (plan-typed y gy)) $
@@ -315,7 +312,7 @@ module _ {M : Type 1} (𝓤 : URA M) (H : Heap 𝓤) (A : Atoms 𝓤) (W : Given
       passes-in : Sq W At-entry (params′ En passed (runs (𝓣 .C) (𝓣 .Λ) En mir.t-1 (atRet En Post)))
       passes-in =
           params1 ! $
-          pass1 ! (init ! 22 refl (tt, (tt, (record { fits = gz .0 }, tt)))) $ pass1 ! (init ! 20 refl (head-typed gh)) $ pass1 ! (init ! 18 refl (tt, (tt, (record { fits = gn .0 }, tt)))) $
+          pass1 ! (init ! 22 refl (tt, (tt, (record { fits = gz .0 }, tt)))) $ pass1 ! (init ! 20 refl (head-typed 𝓤 H A W h gh)) $ pass1 ! (init ! 18 refl (tt, (tt, (record { fits = gn .0 }, tt)))) $
           pass1 ! (init ! 16 refl (tt, (tt, (record { fits = gu .0 }, tt)))) $ pass1 ! (init ! 14 refl (tt, (tt, (record { fits = gw .0 }, tt)))) $ pass0 ! $
           by ! begins
 

@@ -1,17 +1,13 @@
--- `audit::value_in` meets its contract (`window-last`); nothing wraps, as no window's sum is large (`window-small`). Assumes nothing.
+-- `audit::value_in` meets its contract (`window-last`); nothing wraps, as no window's sum is large (`in-fits`). Assumes nothing.
 use borrow.Author.Needs.{needs}
-use mathlib.Core.Path.{_≡_}
+use mathlib.Core.Path.{_≡_, _∙_}
 use Prim.Native.Nat.{_+_}
-use lib.IntN.{ℤ}
+use native.Mathlib.Omega.{arith}
 use mir.Syntax.{w32}
 use mir.Val.{toZ, ofZ}
-use Rattle.meaning_numbers.proofs.Rep.{z-add, z-eq}
-use Rattle.meaning_numbers.proofs.Machine.{zmach32}
-use Rattle.meaning_curves.specs.Curve.{at, windowSum}
-use Rattle.meaning_curves.proofs.Values.{InLimits}
-use Rattle.numbers.specs.Back.{in-back}
-use Rattle.values.specs.Window.{window-small}
-use Rattle.audit.proofs.Sliding.{window-last}
+use mir.ValLaws.{toZ-ofZ}
+use Rattle.meaning_curves.specs.Curve.{windowSum}
+use Rattle.values.specs.Window.{in-fits, in-sum, window-last}
 use Rattle.audit.proofs.value_in.Statement.{statement}
 use Rattle.audit.proofs.value_in.Tie as tie
 
@@ -19,33 +15,11 @@ module _ (c : tie.After-x) where
   abbrev o : tie.Start
   o = c .before
 
-  -- the value, and as the machine reads it and the sum
-  abbrev x : ℤ
-  x = at (o .args .s .now) (o .args .j + o .args .rest)
-
-  abbrev S : ℤ
-  S = toZ w32 (ofZ w32 (o .args .part))
-
-  abbrev X : ℤ
-  X = toZ w32 (ofZ w32 x)
-
-  x-in : InLimits x
-  x-in = o .pre .1 .1 .0 .at (o .args .j + o .args .rest)
-
-  x-back : X ≡ x
-  x-back = in-back x-in
-
-add-result : tie.Need-add-result
-add-result c =
-    let a = o c .args in
-    omega (zmach32, z-add (S c) (X c), window-small (a .rest) (a .j) (o c .pre .1 .1 .0), z-eq (x-back c), x-in c, o c .fits .part)
+  sum-is : toZ w32 (ofZ w32 (o .args .part)) ≡ windowSum (o .args .s .now) (o .args .rest) (o .args .j)
+  sum-is = toZ-ofZ w32 (o .args .part) (o .fits .part) ∙ o .pre .1 .1 .1
 
 returns : tie.Need-returns
-returns c =
-    let a = o c .args in
-    let f = add-result c in
-    let s = a .s .now in
-    omega (zmach32, z-add (S c) (X c), z-eq (x-back c), z-eq (window-last s (a .rest) (a .j)), z-add (windowSum s (a .rest) (a .j)) (x c))
+returns c = let a = o c .args in in-sum (a .rest) (a .j) (o c .pre .1 .1 .0) (omega arith) (sum-is c) (a .j + a .rest) ∙ window-last (a .s .now) (a .rest) (a .j)
 
 pub value-in-spec : {M : Type 1} → statement M
-value-in-spec = tie.close (tie.spec (λ c. search needs) (λ c. search needs) (λ c. search needs) add-result returns)
+value-in-spec = tie.close (tie.spec (λ c. search needs) (λ c. search needs) (λ c. search needs) (λ c. let a = o c .args in in-fits (a .rest) (a .j) (o c .pre .1 .1 .0) (omega arith) (sum-is c) (a .j + a .rest)) returns)

@@ -7,7 +7,7 @@ use lib.Dec.{leb}
 use mir.Syntax.{w32}
 use mir.ValLaws.{toZ-ofZ}
 use borrow.Author.Tests.{leb-true}
-use Rattle.judge.proofs.Scan.{both}
+use Rattle.meaning_numbers.proofs.Tests.{both}
 use borrow.Author.Needs.{needs}
 use Rattle.judge.proofs.after_row.Statement.{statement}
 use Rattle.judge.proofs.after_row.Tie as tie

@@ -64,7 +64,8 @@ use Rattle.judge.proofs.State.Laws as S′
 use Rattle.judge.proofs.Judged as J
 use Rattle.judge.proofs.Judged.Laws as J′
 use Rattle.judge.proofs.Outcome.{judgedFrom, nextAt, Judging, judging-starts, judging-next, judging-stops, judging-ends}
-use Rattle.judge.proofs.Calls.{Ns, low-head, IsHead, low-state, IsState, low-judged, IsJudged, JudgeHead, JudgeRow, Verdict, Toks, Owns, calls-judge-head, calls-judge-row, calls-verdict}
+use Rattle.records.proofs.Slices.{Ns, Toks, Owns}
+use Rattle.judge.proofs.Calls.{low-head, IsHead, low-state, IsState, low-judged, IsJudged, head-typed, judged-typed, JudgeHead, JudgeRow, Verdict, calls-judge-head, calls-judge-row, calls-verdict}
 use Rattle.judge.proofs.judge_head.Symbol as head-def
 use Rattle.judge.proofs.judge_head.Symbol.{name as #judge·judge-head}
 use Rattle.judge.proofs.judge_head.Met as head-thm
@@ -117,10 +118,10 @@ module _ {M : Type 1} (𝓤 : URA M) (H : Heap 𝓤) (A : Atoms 𝓤) (W : Given
   outcome = judgedOf (lent h ys (now u) (now w))
 
   abbrev Tk : Item 𝓤
-  Tk = Toks 𝓤 H A mem run W κ₁ κ₂ q₁ q₂ u w
+  Tk = Toks 𝓤 κ₁ κ₂ q₁ q₂
 
   abbrev Ow : Item 𝓤
-  Ow = Owns 𝓤 H A mem run W κ₁ κ₂ q₁ q₂ u w
+  Ow = Owns 𝓤 κ₁ κ₂ u w
 
   abbrev at : Vals f.signature (κ, (κ₁, (κ₂, tt)))
   at = (low-head h ∷ [], (slice-vals x, (slice-vals u, (slice-vals w, tt))))
@@ -152,17 +153,11 @@ module _ {M : Type 1} (𝓤 : URA M) (H : Heap 𝓤) (A : Atoms 𝓤) (W : Given
   starts : (s : State) → s ≡ start (lent h [] [] []) → Judging h ys (now u) (now w) s 0
   starts s e = ap (λ (s : State). judgedFrom (lent h ys (now u) (now w)) 0 s ys) e ∙ judging-starts h ys (now u) (now w)
 
-  head-typed : IsHead h → Tr (hasTy Hd′.mir (low-head h)) × WT (low-head h)
-  head-typed g = LL.lawful Hd.the-type Hd′.the-laws 𝓤 H A W .typed h _ g .0
-
   row-typed : (r : Row) → Good r → Tr (hasTy T′.mir (low r)) × WT (low r)
   row-typed r g = LL.lawful T.the-type T′.the-laws 𝓤 H A W .typed r _ g .0
 
   state-typed : (s : State) → IsState s → Tr (hasTy S′.mir (low-state s)) × WT (low-state s)
   state-typed s g = LL.lawful S.the-type S′.the-laws 𝓤 H A W .typed s _ g .0
-
-  judged-typed : (j : Judged) → IsJudged j → Tr (hasTy J′.mir (low-judged j)) × WT (low-judged j)
-  judged-typed j g = EL.lawful J.the-type J′.the-laws 𝓤 H A W tt .typed j _ g .0
 
   module _ (𝓣 : Tables 𝓤 H) (fm : FmC 𝓤 H (W .laws) (𝓣 .C)) (known-head : Triple 𝓤 (𝓣 .C #judge·judge-head) (JudgeHead 𝓤 H A mem run)) (known-row : Triple 𝓤 (𝓣 .C #records·row-at) (RowAt 𝓤 H A mem run)) (known-judge : Triple 𝓤 (𝓣 .C #judge·judge-row) (JudgeRow 𝓤 H A mem run)) (known-verdict : Triple 𝓤 (𝓣 .C #judge·verdict) (Verdict 𝓤 H A mem run))
       (gh : IsHead h) (gn : Room T.the-row (length ys)) (gu : Room u32 (length (now u))) (gw : Room u32 (length (now w))) where
@@ -222,7 +217,7 @@ module _ {M : Type 1} (𝓤 : URA M) (H : Heap 𝓤) (A : Atoms 𝓤) (W : Given
           rewrite ! 6 (λ (t : Bool). ‵ (fat fullShare tyBool l₈ 0 (vbool (not t)))) e refl $
           goes-in ! (load ! (from ! (stop !)) (look ! 6 refl)) $ jumps ! $ exec ! (𝓣 .C) (𝓣 .Λ) En mir.t-4 (atRet En Post) $
           calls-verdict ! fm mem run known-verdict (after σ) (σ .1) gs here (and-then ! (load ! (from ! (stop !)) (look ! 13 refl)) (and-then ! (load ! (from ! (stop !)) (look ! 11 refl)) (no-more !))) (λ gj.
-          land ! (from ! (stop !)) (init ! 22 refl (judged-typed (verdictOf (after σ) (σ .1)) gj)) $
+          land ! (from ! (stop !)) (init ! 22 refl (judged-typed 𝓤 H A W (verdictOf (after σ) (σ .1)) gj)) $
           returns ! (look ! 22 refl) $
           lose ! 22 refl refl $ lose ! 20 refl refl $ lose ! 18 refl refl $ lose ! 16 refl refl $ lose ! 14 refl refl $ lose ! 12 refl refl $ lose ! 10 refl refl $ lose ! 8 refl refl $ lose ! 6 refl refl $ lose ! 4 refl refl $ free0 ! $
           keep ! (0 ∷ 2 ∷ []) $
@@ -231,7 +226,7 @@ module _ {M : Type 1} (𝓤 : URA M) (H : Heap 𝓤) (A : Atoms 𝓤) (W : Given
           rewrite ! 6 (λ (t : Bool). ‵ (fat fullShare tyBool l₈ 0 (vbool t))) test refl $
           leaves-loop ! (load ! (from ! (stop !)) (look ! 6 refl)) $ exec ! (𝓣 .C) (𝓣 .Λ) En mir.t-4 (atRet En Post) $
           calls-verdict ! fm mem run known-verdict (σ .0) (σ .1) (facts .1 .0) (fits-here (σ .1) (length ys) (facts .0) (gn .0)) (and-then ! (load ! (from ! (stop !)) (look ! 13 refl)) (and-then ! (load ! (from ! (stop !)) (look ! 11 refl)) (no-more !))) (λ gj.
-          land ! (from ! (stop !)) (init ! 22 refl (judged-typed (verdictOf (σ .0) (σ .1)) gj)) $
+          land ! (from ! (stop !)) (init ! 22 refl (judged-typed 𝓤 H A W (verdictOf (σ .0) (σ .1)) gj)) $
           returns ! (look ! 22 refl) $
           lose ! 22 refl refl $ lose ! 20 refl refl $ lose ! 18 refl refl $ lose ! 16 refl refl $ lose ! 14 refl refl $ lose ! 12 refl refl $ lose ! 10 refl refl $ lose ! 8 refl refl $ lose ! 6 refl refl $ lose-room ! 4 refl refl $ free0 ! $
           keep ! (0 ∷ 2 ∷ []) $
@@ -284,7 +279,7 @@ module _ {M : Type 1} (𝓤 : URA M) (H : Heap 𝓤) (A : Atoms 𝓤) (W : Given
       passes-in : Sq W At-entry (params′ En passed (runs (𝓣 .C) (𝓣 .Λ) En mir.t-1 (atRet En Post)))
       passes-in =
           params1 ! $
-          pass1 ! (init ! 16 refl (head-typed gh)) $ pass1 ! (init ! 14 refl (tt, (tt, (record { fits = gn .0 }, tt)))) $
+          pass1 ! (init ! 16 refl (head-typed 𝓤 H A W h gh)) $ pass1 ! (init ! 14 refl (tt, (tt, (record { fits = gn .0 }, tt)))) $
           pass1 ! (init ! 12 refl (tt, (tt, (record { fits = gu .0 }, tt)))) $ pass1 ! (init ! 10 refl (tt, (tt, (record { fits = gw .0 }, tt)))) $ pass0 ! $
           by ! begins
 

@@ -10,7 +10,7 @@ use borrow.Author.Tests.{not-true, not-false}
 use Rattle.meaning_rows.specs.Index.{Index, lent, entries, runsOf}
 use Rattle.meaning_rows.specs.Judge.{rangeGood, partGood}
 use Rattle.judge.specs.State.{room, scan, after}
-use Rattle.judge.proofs.Scan.{length-entries}
+use Rattle.meaning_rows.proofs.Grown.{length-entries}
 use Rattle.judge.proofs.Next.{fitting, fits-room, next-bad, next-fits}
 use borrow.Author.Needs.{needs}
 use Rattle.judge.proofs.judge_row.Statement.{statement}

@@ -1,22 +1,8 @@
--- `numbers::lesser_value` meets its contract. Assumes nothing.
-use mathlib.Core.Path.{_∙_, sym}
+-- `numbers::lesser_value` meets its contract, by the flag of its test. Assumes nothing.
 use mir.Syntax.{w32}
-use mir.ValLaws.{toZ-ofZ}
-use Rattle.meaning_numbers.proofs.Choice.{min-yes, min-no}
+use Rattle.numbers.specs.Back.{lesser-first, lesser-second}
 use Rattle.numbers.proofs.lesser_value.Statement.{statement}
 use Rattle.numbers.proofs.lesser_value.Tie as tie
 
-returns : tie.Need-returns
-returns c =
-    let a = c .before .args in
-    let f = c .before .fits in
-    toZ-ofZ w32 (a .x) (f .x) ∙ sym (min-yes (a .x) (a .y) (rw (toZ-ofZ w32 (a .x) (f .x), toZ-ofZ w32 (a .y) (f .y)) at (c .if1 .taken)))
-
-returns-2 : tie.Need-returns-2
-returns-2 c =
-    let a = c .before .args in
-    let f = c .before .fits in
-    toZ-ofZ w32 (a .y) (f .y) ∙ sym (min-no (a .x) (a .y) (rw (toZ-ofZ w32 (a .x) (f .x), toZ-ofZ w32 (a .y) (f .y)) at (c .if1 .left)))
-
 pub lesser-value-spec : {M : Type 1} → statement M
-lesser-value-spec = tie.close (tie.spec returns returns-2)
+lesser-value-spec = tie.close (tie.spec (λ c. let f = c .before .fits in lesser-first w32 (f .x) (f .y) (c .if1 .taken)) (λ c. let f = c .before .fits in lesser-second w32 (f .x) (f .y) (c .if1 .left)))

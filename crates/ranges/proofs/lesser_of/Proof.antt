@@ -1,22 +1,8 @@
--- `ranges::lesser_of` meets its contract. Assumes nothing.
-use mathlib.Core.Path.{_∙_, sym}
+-- `ranges::lesser_of` meets its contract, by the flag of its test. Assumes nothing.
 use mir.Syntax.{w64}
-use mir.ValLaws.{toZ-ofZ}
-use Rattle.meaning_numbers.proofs.Choice.{min-yes, min-no}
+use Rattle.numbers.specs.Back.{lesser-first, lesser-second}
 use Rattle.ranges.proofs.lesser_of.Statement.{statement}
 use Rattle.ranges.proofs.lesser_of.Tie as tie
 
-returns : tie.Need-returns
-returns c =
-    let a = c .before .args in
-    let f = c .before .fits in
-    toZ-ofZ w64 (a .x) (f .x) ∙ sym (min-yes (a .x) (a .y) (rw (toZ-ofZ w64 (a .x) (f .x), toZ-ofZ w64 (a .y) (f .y)) at (c .if1 .taken)))
-
-returns-2 : tie.Need-returns-2
-returns-2 c =
-    let a = c .before .args in
-    let f = c .before .fits in
-    toZ-ofZ w64 (a .y) (f .y) ∙ sym (min-no (a .x) (a .y) (rw (toZ-ofZ w64 (a .x) (f .x), toZ-ofZ w64 (a .y) (f .y)) at (c .if1 .left)))
-
 pub lesser-of-spec : {M : Type 1} → statement M
-lesser-of-spec = tie.close (tie.spec returns returns-2)
+lesser-of-spec = tie.close (tie.spec (λ c. let f = c .before .fits in lesser-first w64 (f .x) (f .y) (c .if1 .taken)) (λ c. let f = c .before .fits in lesser-second w64 (f .x) (f .y) (c .if1 .left)))
