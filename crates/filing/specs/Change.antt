@@ -36,6 +36,34 @@ pub record NextRow (lv : ℕ → ℕ) (d n from r z : ℕ) : Type 0 where
 
 -- ---- laws
 
+-- where the windows passed are in the range, what is told from there on is told from the first
+pub stop-from : {lv : ℕ → ℕ} {n lo hi r z : ℕ} (from j : ℕ) → from ≤ j → ((k : ℕ) → k < j → from ≤ k → within lo hi (lv k) ≡ true) → Stop lv n lo hi j r z → Stop lv n lo hi from r z
+stop-from from j l h s = record {
+  change = record {
+    above = omega (arith, s .change .above);
+    below = s .change .below;
+    same = λ k a b. elim (decLt k j) [ yes m ↦ h k m b | no m ↦ s .change .same k a (omega arith) ];
+    other = s .change .other;
+  };
+  sum = s .sum;
+}
+
+-- no window but one passes, and none is left
+pub stop-one : {lv : ℕ → ℕ} {n lo hi z : ℕ} (j : ℕ) → within lo hi (lv j) ≡ true → j + 1 ≡ n → z ≡ lv (j + 1) → Stop lv n lo hi j (j + 1) z
+stop-one {lv} {n} {lo} {hi} j h e s = record {
+  change = record {
+    above = omega arith;
+    below = omega arith;
+    same = λ k a b. let q : k ≡ j = omega arith in rw q h;
+    other = λ l. absurd (omega arith);
+  };
+  sum = s;
+}
+
+-- the first does not pass, or none is left
+pub stop-here : {lv : ℕ → ℕ} {n lo hi z : ℕ} (j : ℕ) → j ≤ n → (j < n → within lo hi (lv j) ≡ false) → z ≡ lv j → Stop lv n lo hi j j z
+stop-here j l f s = record { change = record { above = omega arith; below = l; same = λ k a b. absurd (omega arith); other = f }; sum = s }
+
 -- a number is in the range of a row exactly if its quotient is the row's number
 in-row : (d k n : ℕ) → 0 < d → within (k * d) (k * d + d) n ≡ true → n / d ≡ k
 unfolding within

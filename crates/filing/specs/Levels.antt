@@ -47,6 +47,10 @@ pub record Bounds (lv : ℕ → ℕ) (n least greatest : ℕ) : Type 0 where
 
 -- ---- laws
 
+-- one number is both ends
+pub bounds-one : {lv : ℕ → ℕ} {z : ℕ} → z ≡ lv 0 → Bounds lv 1 z z
+bounds-one e = record { bound = λ j k. let i : j ≡ 0 = omega arith in rw i (omega arith, omega arith) }
+
 -- one more number
 pub bounds-more : {lv : ℕ → ℕ} {n l g : ℕ} (a b z : ℕ) → Bounds lv n l g → z ≡ lv n → a ≡ min l z → b ≡ max g z → Bounds lv (n + 1) a b
 bounds-more {lv} {n} {l} {g} a b z h e p q = record {

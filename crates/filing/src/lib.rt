@@ -1,6 +1,7 @@
 // Passes over the windows of a series, by runs: the windows of a run have sums in one range, and no row number is computed inside it. Sums are raised, so that nothing is signed here.
 use numbers::greater;
 use numbers::lesser;
+use numbers::quotient;
 use numbers::raise;
 use values::raised_sum;
 ghost use mathlib.Core.Path.{_≡_};
@@ -47,6 +48,18 @@ pub fn slide(s: &[i32], w: usize, e: u64, j: usize, n: u64) -> u64
     n + value_at(s, j + w) - value_at(s, j)
 }
 
+// The raised sum of the next window, where there is one: no read needs a test.
+pub fn move_on(s: &[i32], w: usize, e: u64, j: usize, n: u64) -> u64
+    requires { ⌜ Lent (now s) w e ⌝ }
+    requires { ⌜ j + w < length (now s) ⌝ }
+    requires { ⌜ n ≡ level (now s) w e j ⌝ }
+    ensures { λ r. ⌜ r ≡ level (now (s .entry)) w e (j + 1) ⌝ }
+{
+    let x = s[j];
+    let y = s[j + w];
+    n + raise(y) - raise(x)
+}
+
 // The raised sum of the first window.
 pub fn first_level(s: &[i32], w: usize, e: u64) -> u64
     requires { ⌜ Lent (now s) w e ⌝ }
@@ -62,6 +75,27 @@ pub fn in_range(lo: u64, hi: u64, n: u64) -> bool
     lo <= n && n < hi
 }
 
+// From the last window on, or past it: the first whose raised sum is not in the raised range, or the number of windows.
+pub fn last_out(s: &[i32], w: usize, e: u64, from: Place, lo: u64, hi: u64) -> Place
+    requires { ⌜ Lent (now s) w e ⌝ }
+    requires { ⌜ (length (now s) ≤ from .offset + w) × (from .offset ≤ windowsOf (now s) w) ⌝ }
+    requires { ⌜ from .level ≡ level (now s) w e (from .offset) ⌝ }
+    ensures { λ r. ⌜ Stop (level (now (s .entry)) w e) (windowsOf (now (s .entry)) w) lo hi (from .offset) (r .offset) (r .level) ⌝ }
+{
+    let j = from.offset;
+    let n = from.level;
+    if s.len() < j + w {
+        return from;
+    }
+    if !in_range(lo, hi, n) {
+        return from;
+    }
+    Place {
+        offset: j + 1,
+        level: slide(s, w, e, j, n),
+    }
+}
+
 // The first window at or after `from` whose raised sum is not in the raised range, or the number of windows.
 pub fn next_out(s: &[i32], w: usize, e: u64, from: Place, lo: u64, hi: u64) -> Place
     requires { ⌜ Lent (now s) w e ⌝ }
@@ -69,35 +103,50 @@ pub fn next_out(s: &[i32], w: usize, e: u64, from: Place, lo: u64, hi: u64) -> P
     requires { ⌜ from .level ≡ level (now s) w e (from .offset) ⌝ }
     ensures { λ r. ⌜ Stop (level (now (s .entry)) w e) (windowsOf (now (s .entry)) w) lo hi (from .offset) (r .offset) (r .level) ⌝ }
 {
-    let windows = s.len() + 1 - w;
+    let last = s.len() - w;
     let mut j = from.offset;
     let mut n = from.level;
-    while j < windows {
+    while j < last {
         if !in_range(lo, hi, n) {
             return Place {
                 offset: j,
                 level: n,
             };
         }
-        n = slide(s, w, e, j, n);
+        n = move_on(s, w, e, j, n);
         j += 1;
     }
-    Place {
-        offset: j,
-        level: n,
-    }
+    last_out(
+        s,
+        w,
+        e,
+        Place {
+            offset: j,
+            level: n,
+        },
+        lo,
+        hi,
+    )
 }
 
-// From a window on, the first whose row number is another, or the number of windows. Row numbers are quotients of raised sums.
-pub fn next_row(s: &[i32], w: usize, e: u64, d: u64, from: Place) -> Place
+// The raised row number of a raised sum. Every row number is made here.
+pub fn row_of_level(n: u64, d: u64) -> u64
+    requires { ⌜ n ≤ 6120000 ⌝ }
+    requires { ⌜ d ≤ 1000000 ⌝ }
+    ensures { λ k. ⌜ k ≡ n / d ⌝ }
+{
+    quotient(n as u32, d as u32) as u64
+}
+
+// From a window on, whose row number is `k`, the first whose row number is another, or the number of windows.
+pub fn next_row(s: &[i32], w: usize, e: u64, d: u64, k: u64, from: Place) -> Place
     requires { ⌜ Lent (now s) w e ⌝ }
     requires { ⌜ (1 ≤ d) × (d ≤ 1000000) ⌝ }
     requires { ⌜ from .offset < windowsOf (now s) w ⌝ }
-    requires { ⌜ from .level ≡ level (now s) w e (from .offset) ⌝ }
+    requires { ⌜ (from .level ≡ level (now s) w e (from .offset)) × (k ≡ rowOf (level (now s) w e) d (from .offset)) ⌝ }
     ensures { λ r. ⌜ NextRow (level (now (s .entry)) w e) d (windowsOf (now (s .entry)) w) (from .offset) (r .offset) (r .level) ⌝ }
 {
-    let n = from.level;
-    let low = n / d * d;
+    let low = k * d;
     next_out(s, w, e, from, low, low + d)
 }
 
@@ -125,12 +174,14 @@ pub fn mark(s: &[i32], w: usize, e: u64, d: u64, base: u64, flags: &mut [u8])
     let mut j: usize = 0;
     let mut n = first_level(s, w, e);
     while j < windows {
-        set_flag(flags, base, n / d);
+        let k = row_of_level(n, d);
+        set_flag(flags, base, k);
         let next = next_row(
             s,
             w,
             e,
             d,
+            k,
             Place {
                 offset: j,
                 level: n,
@@ -207,15 +258,15 @@ pub fn level_ends(s: &[i32], w: usize, e: u64) -> Ends
     ensures { λ r. ⌜ Bounds (level (now (s .entry)) w e) (windowsOf (now (s .entry)) w) (r .least) (r .greatest) ⌝ }
     ensures { λ r. ⌜ r .greatest ≤ 6120000 ⌝ }
 {
-    let windows = s.len() + 1 - w;
+    let last = s.len() - w;
     let mut n = first_level(s, w, e);
     let mut least = n;
     let mut greatest = n;
     let mut j: usize = 0;
-    while j < windows {
+    while j < last {
+        n = move_on(s, w, e, j, n);
         least = lesser(least, n);
         greatest = greater(greatest, n);
-        n = slide(s, w, e, j, n);
         j += 1;
     }
     Ends {
@@ -234,8 +285,8 @@ pub fn list_rows(s: &[i32], w: usize, e: u64, d: u64, flags: &mut [u8], out: &mu
 {
     let ends = level_ends(s, w, e);
     let size = flags.len() as u64;
-    let last = ends.greatest / d;
-    let mut base = ends.least / d;
+    let last = row_of_level(ends.greatest, d);
+    let mut base = row_of_level(ends.least, d);
     let mut k: usize = 0;
     while base <= last {
         k = list_chunk(s, w, e, d, base, flags, out, k);

@@ -1,6 +1,7 @@
 // Row records packed out of the table of row numbers and the ends of the rows' parts: a thin walked loop over a covered function that makes one record by value.
 use meaning_rows::Row;
 use numbers::lower;
+use numbers::quotient;
 ghost use mathlib.Core.Path.{_≡_};
 ghost use Prim.Native.Nat.{ℕ, _+_, _-_, _*_, _<_, _≤_};
 ghost use lib.ListN.{length, getD};
@@ -12,7 +13,8 @@ pub fn raised_rows(w: u64, d: u64) -> u64
     requires { ⌜ (1 ≤ d) × (d ≤ 1000000) ⌝ }
     ensures { λ r. ⌜ (10000 * w ≤ r * d) × (r * d ≤ 10000 * w + (d - 1)) ⌝ }
 {
-    (10000 * w + (d - 1)) / d
+    let most = 10000 * w + (d - 1);
+    quotient(most as u32, d as u32) as u64
 }
 
 // Each count is made the sum of the counts up to it: where its row's part ends.

@@ -2,13 +2,14 @@
 use mathlib.Core.Path.{_≡_, refl, sym, ap, _∙_}
 use mathlib.Core.Bool.{Bool, true, false}
 use mathlib.Core.List.{List}
-use Prim.Native.Nat.{ℕ, zero, suc, _+_, _-_, _<_, _≤_}
+use Prim.Native.Nat.{ℕ, zero, suc, _+_, _-_, _*_, _<_, _≤_}
 use native.Mathlib.Omega.{arith}
 use native.Mathlib.Decide.{decLt}
-use lib.Dec.{eqb}
+use lib.Dec.{leb, eqb}
 use lib.ListN.{length, getD, set}
 use lib.Seq.{getD-set-same, getD-set-other}
-use borrow.Author.Tests.{eqb-true, eqb-false, eq-eqb, ne-eqb}
+use borrow.Author.Tests.{leb-true, leb-false, eqb-true, eqb-false, eq-eqb, ne-eqb}
+use Rattle.meaning_numbers.specs.Sum.{bit}
 use Rattle.meaning_numbers.proofs.Tests.{by-test}
 use Rattle.meaning_rows.specs.Runs.{before, runs, runCount}
 use Rattle.meaning_rows.proofs.Runs.{before-none, before-more}
@@ -25,6 +26,11 @@ pub record Has (t : List ℕ) (n k : ℕ) : Type 0 where
   pub at : ℕ
   pub below : at < n
   pub is : getD t at 0 ≡ k
+
+-- wherever k stands among the first n numbers, it is one of the size places from lo on
+pub record Sought (t : List ℕ) (n k lo size : ℕ) : Type 0 where
+  pub fits : lo + size ≤ n
+  pub place : (i : ℕ) → i < n → getD t i 0 ≡ k → (lo ≤ i) × (i < lo + size)
 
 -- window j has row number k
 unfoldable pub isRow : (ℕ → ℕ) → ℕ → ℕ → Bool
@@ -48,6 +54,21 @@ rising-gt {t} {n} r i m a b h = elim (decLt i m) [
   | yes l ↦ l
   | no f ↦ elim (decLt m i) [ yes l ↦ absurd (omega (arith, r .up m i l a)) | no g ↦ let e : i ≡ m = omega arith in absurd (omega (arith, ap (λ (x : ℕ). getD t x 0) e)) ]
 ]
+
+-- a half, or nothing
+pub half-or-none : (half b : ℕ) (t : Bool) → b ≡ bit t → half * b ≤ half
+unfolding bit
+half-or-none half b true e = rw e (omega arith)
+half-or-none half b false e = rw e (omega arith)
+
+-- one number asked leaves the half that it is in
+pub sought-half : {t : List ℕ} {n k lo size half b : ℕ} → Rising t n → half + half ≤ size → half < size → b ≡ bit (leb (getD t (lo + half) 0) k) → Sought t n k lo size → Sought t n k (lo + half * b) (size - half)
+unfolding bit
+sought-half {t} {n} {k} {lo} {size} {half} {b} r two less e s = by-test (leb (getD t (lo + half) 0) k)
+    (λ y. let one : b ≡ 1 = rw y at e in let q : lo + half * b ≡ lo + half = rw one (omega arith) in let u = leb-true (getD t (lo + half) 0) k y in
+    rw q (record { fits = omega (arith, s .fits); place = λ i l h. (rising-le r i (lo + half) l (omega (arith, s .fits)) (omega arith), omega (arith, s .place i l h .1)) }))
+    (λ y. let none : b ≡ 0 = rw y at e in let q : lo + half * b ≡ lo = rw none (omega arith) in let u = leb-false (getD t (lo + half) 0) k y in
+    rw q (record { fits = omega (arith, s .fits); place = λ i l h. (s .place i l h .0, omega (arith, rising-gt r i (lo + half) l (omega (arith, s .fits)) (omega arith))) }))
 
 pub fresh-start : (row : ℕ → ℕ) (n : ℕ) → Fresh row n 0
 fresh-start row n = record { cut = λ l. before-none (isRow row (row 0)) }

@@ -3,13 +3,24 @@ use filing::Place;
 use filing::first_level;
 use filing::list_rows;
 use filing::next_row;
+use filing::row_of_level;
 ghost use mathlib.Core.Path.{_≡_};
 ghost use Prim.Native.Nat.{ℕ, _+_, _-_, _<_, _≤_};
+ghost use lib.Dec.{leb};
 ghost use lib.ListN.{length, getD, take};
+ghost use Rattle.meaning_numbers.specs.Sum.{bit};
 ghost use Rattle.filing.specs.Levels.{level, rowOf, Lent, windowsOf};
 ghost use Rattle.filing.specs.Picked.{Appended};
 ghost use Rattle.filing.specs.Table.{table};
 ghost use Rattle.tally.specs.Tally.{Rising, Has, Counted};
+
+// 1 where a number is at most `k`, else 0: a quotient, so that no jump depends on it. Nobody could foretell the jumps of a search.
+pub fn at_most(x: u32, k: u64) -> usize
+    requires { ⌜ k < 4294967296 ⌝ }
+    ensures { λ b. ⌜ b ≡ bit (leb x k) ⌝ }
+{
+    ((k + 4294967296 - x as u64) / 4294967296) as usize
+}
 
 // The place of a number that a rising table has.
 pub fn find_number(numbers: &[u32], count: usize, k: u64) -> usize
@@ -19,14 +30,12 @@ pub fn find_number(numbers: &[u32], count: usize, k: u64) -> usize
     ensures { λ r. ⌜ (r < count) × (getD (now (numbers .entry)) r 0 ≡ k) ⌝ }
 {
     let mut lo: usize = 0;
-    let mut hi = count;
-    while 1 < hi - lo {
-        let mid = lo + (hi - lo) / 2;
-        if numbers[mid] as u64 <= k {
-            lo = mid;
-        } else {
-            hi = mid;
-        }
+    let mut size = count;
+    while 1 < size {
+        let half = size / 2;
+        let x = numbers[lo + half];
+        lo += half * at_most(x, k);
+        size -= half;
     }
     lo
 }
@@ -63,13 +72,15 @@ pub fn count_runs(
     let mut j: usize = 0;
     let mut n = first_level(s, w, e);
     while j < windows {
-        let i = find_number(numbers, count, n / d);
+        let k = row_of_level(n, d);
+        let i = find_number(numbers, count, k);
         counts[i] = counts[i] + 1;
         let next = next_row(
             s,
             w,
             e,
             d,
+            k,
             Place {
                 offset: j,
                 level: n,

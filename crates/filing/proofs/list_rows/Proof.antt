@@ -20,14 +20,23 @@ abbrev μ-loop : tie.MeasureT-loop
 μ-loop s w e d flags₀ out₀ size last base₀ k₀ flags out base k = last + 1 - base
 
 -- the last row number is small
-last-small : (c : tie.After-level-ends Inv-loop μ-loop) → c .level-ends .result .greatest / c .before .before .before .args .d ≤ 6120000
-last-small c = omega (arith, c .level-ends .ensures .1, div-le-self (c .level-ends .result .greatest) (c .before .before .before .args .d))
+last-small : (c : tie.After-row-of-level Inv-loop μ-loop) → c .row-of-level .result ≤ 6120000
+last-small c =
+    let n = c .before .level-ends .result .greatest in
+    omega (arith, c .row-of-level .ensures, c .before .level-ends .ensures .1, div-le-self n (c .before .before .before .before .args .d))
+
+-- both ends are raised sums
+ends-small : (c : tie.After-level-ends Inv-loop μ-loop) → (c .level-ends .result .least ≤ 6120000) × (c .level-ends .result .greatest ≤ 6120000)
+ends-small c =
+    let o = c .before .before .before in
+    let b = c .level-ends .ensures .0 .bound 0 (omega (arith, o .pre .0 .fits)) in
+    (omega (arith, b .0, b .1, c .level-ends .ensures .1), c .level-ends .ensures .1)
 
 loop-holds : tie.Need-loop-holds Inv-loop μ-loop
 loop-holds c =
     let e = c .before .before .level-ends .ensures .0 in
     let o = c .before .before .before .before .before in
-    (rw (table-start (o .args .d) (o .pre .0) (o .pre .1 .0 .0) e) (append-none 0 (o .args .out .now)), refl)
+    (rw (c .row-of-level2 .ensures, table-start (o .args .d) (o .pre .0) (o .pre .1 .0 .0) e) (append-none 0 (o .args .out .now)), refl)
 
 list-chunk-requires : tie.Need-list-chunk-requires Inv-loop μ-loop
 list-chunk-requires c κs =
@@ -37,7 +46,7 @@ list-chunk-requires c κs =
       (
         o .pre .1 .0,
         (
-          omega (arith, l .loop .inv .1, last-small (l .before .before .before), c .before .before .loop-test .taken, o .pre .1 .1 .0 .1),
+          omega (arith, l .loop .inv .1, last-small (l .before .before), c .before .before .loop-test .taken, o .pre .1 .1 .0 .1),
           chunk-room (o .args .d) (o .pre .0) (l .loop .base) (length (l .loop .flags)) (l .loop .inv .0) (o .pre .1 .1 .1),
         ),
       ),
@@ -46,7 +55,7 @@ list-chunk-requires c κs =
 add-base : tie.Need-add-base Inv-loop μ-loop
 add-base c =
     let l = c .before .before .before .before .before .before .before .before in
-    omega (arith, last-small (l .before .before .before), c .before .before .before .before .before .before .before .loop-test .taken, l .before .before .before .before .before .before .pre .1 .1 .0 .1)
+    omega (arith, last-small (l .before .before), c .before .before .before .before .before .before .before .loop-test .taken, l .before .before .before .before .before .before .pre .1 .1 .0 .1)
 
 loop-less : tie.Need-loop-less Inv-loop μ-loop
 loop-less c = let l = c .before .before .before .before .before .before .before .before in omega (arith, c .before .before .before .before .before .before .before .loop-test .taken, l .before .before .before .before .before .before .pre .1 .1 .0 .0)
@@ -61,7 +70,7 @@ returns : tie.Need-returns Inv-loop μ-loop
 returns c =
     let l = c .before in
     let o = l .before .before .before .before .before .before in
-    rw (table-end (o .args .d) (o .pre .0) (o .pre .1 .0 .0) (l .before .before .before .level-ends .ensures .0) (l .loop .base) (c .loop-test .left)) at (l .loop .inv .0)
+    rw (table-end (o .args .d) (o .pre .0) (o .pre .1 .0 .0) (l .before .before .before .level-ends .ensures .0) (l .loop .base) (omega (arith, l .before .before .row-of-level .ensures, c .loop-test .left))) at (l .loop .inv .0)
 
 pub list-rows-spec : {M : Type 1} → statement M
 list-rows-spec =
@@ -70,8 +79,8 @@ list-rows-spec =
     Inv-loop
     μ-loop
     (λ c κs. c .before .before .pre .0)
-    (λ c. omega (arith, c .before .before .before .before .pre .1 .0 .0))
-    (λ c. omega (arith, c .before .before .before .before .before .pre .1 .0 .0))
+    (λ c κs. (ends-small c .1, c .before .before .before .pre .1 .0 .1))
+    (λ c κs. (ends-small (c .before) .0, c .before .before .before .before .pre .1 .0 .1))
     loop-holds
     list-chunk-requires
     add-base

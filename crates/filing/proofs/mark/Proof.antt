@@ -5,7 +5,7 @@ use mathlib.Core.List.{List}
 use Prim.Native.Nat.{ℕ, _+_, _-_, _/_, _≤_, _<_}
 use native.Mathlib.Omega.{arith}
 use lib.ListN.{length}
-use Rattle.filing.specs.Levels.{level, rowOf, windowsOf}
+use Rattle.filing.specs.Levels.{level, rowOf, windowsOf, level-small}
 use Rattle.filing.specs.Marks.{Flags, flags-start, flags-run, length-flagged}
 use Rattle.filing.proofs.mark.Statement.{statement}
 use Rattle.filing.proofs.mark.Tie as tie
@@ -22,27 +22,43 @@ loop-holds c =
     let o = c .before .before in
     (omega arith, c .first-level .ensures, flags-start _ (o .args .base) (o .args .flags .now) (o .pre .1 .1), refl)
 
+-- the row number of the window at hand
+module _ (c : tie.After-row-of-level Inv-loop μ-loop) where
+  abbrev l : tie.At-loop Inv-loop μ-loop
+  l = c .before .before
+
+  abbrev o : tie.Start Inv-loop μ-loop
+  o = l .before .before .before
+
+  is-row : c .row-of-level .result ≡ rowOf (level (o .args .s .now) (o .args .w) (o .args .e)) (o .args .d) (l .loop .j)
+  unfolding rowOf
+  is-row = c .row-of-level .ensures ∙ ap (λ (n : ℕ). n / o .args .d) (l .loop .inv .1)
+
+row-of-level-requires : tie.Need-row-of-level-requires Inv-loop μ-loop
+row-of-level-requires c κs =
+    let l = c .before in
+    let o = l .before .before .before in
+    (omega (arith, l .loop .inv .1, level-small (l .loop .j) (o .pre .0)), o .pre .1 .0 .1)
+
 next-row-requires : tie.Need-next-row-requires Inv-loop μ-loop
 next-row-requires c κs =
-    let l = c .before .before .before .before .before in
-    let o = l .before .before .before in
-    (o .pre .0, (o .pre .1 .0, (c .before .before .before .before .loop-test .taken, l .loop .inv .1)))
+    let r = c .before .before .before .before in
+    (o r .pre .0, (o r .pre .1 .0, (r .before .loop-test .taken, (l r .loop .inv .1, is-row r))))
 
 loop-less : tie.Need-loop-less Inv-loop μ-loop
 loop-less c = omega (arith, c .next-row .ensures .run .ahead, c .next-row .ensures .run .below)
 
 loop-again : tie.Need-loop-again Inv-loop μ-loop
-unfolding rowOf
 loop-again c =
-    let l = c .before .before .before .before .before .before in
-    let a = l .before .before .before .args in
-    let v = l .loop .inv in
+    let k = c .before .before .before .before .before in
+    let a = o k .args in
+    let v = l k .loop .inv in
     let r = c .next-row .ensures in
     let e = c .before .before .before .set-flag .ensures in (
       r .run .below,
       r .sum,
-      rw (e, v .1) (flags-run _ _ (l .loop .j) (c .next-row .result .offset) (r .run) (a .base) (l .loop .flags) (v .2)),
-      ap length e ∙ length-flagged (l .loop .flags) (a .base) _ ∙ v .3,
+      rw (e, is-row k) (flags-run _ _ (l k .loop .j) (c .next-row .result .offset) (r .run) (a .base) (l k .loop .flags) (v .2)),
+      ap length e ∙ length-flagged (l k .loop .flags) (a .base) _ ∙ v .3,
     )
 
 returns : tie.Need-returns Inv-loop μ-loop
@@ -62,7 +78,7 @@ mark-spec =
     (λ c. omega (arith, c .before .pre .0 .fits))
     (λ c κs. c .before .pre .0)
     loop-holds
-    (λ c. omega (arith, c .before .before .before .before .before .pre .1 .0))
+    row-of-level-requires
     (λ c κs. search needs)
     next-row-requires
     loop-less

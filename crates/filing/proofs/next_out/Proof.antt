@@ -6,16 +6,18 @@ use mathlib.Core.Path.{_≡_, sym, ap, _∙_}
 use mathlib.Core.Bool.{true}
 use Prim.Native.Nat.{ℕ, _+_, _-_, _≤_, _<_}
 use native.Mathlib.Omega.{arith}
-use Rattle.filing.specs.Levels.{level, within, Lent}
+use lib.ListN.{length}
+use Rattle.filing.specs.Levels.{level, within, windowsOf, Lent}
+use Rattle.filing.specs.Change.{stop-from, stop-here}
 use Rattle.filing.proofs.next_out.Statement.{statement}
 use Rattle.filing.proofs.next_out.Tie as tie
 
 abbrev Inv-loop : tie.InvT-loop
-Inv-loop s w e lo hi windows j₀ n₀ j n =
-    (j₀ ≤ j) × (j ≤ windows) × (n ≡ level s w e j) × ((k : ℕ) → k < j → j₀ ≤ k → within lo hi (level s w e k) ≡ true)
+Inv-loop s w e lo hi last j₀ n₀ j n =
+    (j₀ ≤ j) × (j ≤ windowsOf s w) × (n ≡ level s w e j) × ((k : ℕ) → k < j → j₀ ≤ k → within lo hi (level s w e k) ≡ true)
 
 abbrev μ-loop : tie.MeasureT-loop
-μ-loop s w e lo hi windows j₀ n₀ j n = windows - j
+μ-loop s w e lo hi last j₀ n₀ j n = last - j
 
 -- the answer speaks of the window at hand
 here : (c : tie.After-in-range Inv-loop μ-loop) → let l = c .before .before in let a = l .before .args in
@@ -27,24 +29,32 @@ loop-holds c = (omega arith, c .pre .1 .0, c .pre .1 .1, λ k l m. absurd (omega
 
 returns : tie.Need-returns Inv-loop μ-loop
 returns c =
-    let v = c .before .before .before .loop .inv in
-    record { change = record { above = v .0; below = v .1; same = v .3; other = λ l. sym (here (c .before)) ∙ not-true _ (c .if1 .taken) }; sum = v .2 }
-
-slide-requires : tie.Need-slide-requires Inv-loop μ-loop
-slide-requires c κs =
     let l = c .before .before .before in
-    let h = l .before .pre .0 in
-    (h, (omega (arith, h .long, h .some, h .fits, c .before .before .loop-test .taken), l .loop .inv .2))
+    let v = l .loop .inv in
+    stop-from (l .before .args .from .offset) (l .loop .j) (v .0) (v .3) (stop-here (l .loop .j) (v .1) (λ _. sym (here (c .before)) ∙ not-true _ (c .if1 .taken)) (v .2))
+
+move-on-requires : tie.Need-move-on-requires Inv-loop μ-loop
+move-on-requires c κs =
+    let l = c .before .before .before in
+    (l .before .pre .0, (omega (arith, c .before .before .loop-test .taken), l .loop .inv .2))
 
 loop-again : tie.Need-loop-again Inv-loop μ-loop
 loop-again c =
-    let v = c .before .before .before .before .loop .inv in
-    (omega arith, omega arith, c .slide .ensures, below-more _ _ (v .3) (λ m. sym (here (c .before .before)) ∙ not-false _ (c .before .if1 .left)))
+    let l = c .before .before .before .before in
+    let v = l .loop .inv in
+    (omega arith, omega (arith, c .before .before .before .loop-test .taken), c .move-on .ensures, below-more _ _ (v .3) (λ m. sym (here (c .before .before)) ∙ not-false _ (c .before .if1 .left)))
+
+last-out-requires : tie.Need-last-out-requires Inv-loop μ-loop
+last-out-requires c κs =
+    let l = c .before in
+    let v = l .loop .inv in
+    (l .before .pre .0, ((omega (arith, c .loop-test .left), v .1), v .2))
 
 returns-2 : tie.Need-returns-2 Inv-loop μ-loop
 returns-2 c =
-    let v = c .before .loop .inv in
-    record { change = record { above = v .0; below = v .1; same = v .3; other = λ l. absurd (omega (arith, c .loop-test .left)) }; sum = v .2 }
+    let l = c .before .before in
+    let v = l .loop .inv in
+    stop-from (l .before .args .from .offset) (l .loop .j) (v .0) (v .3) (c .last-out .ensures)
 
 pub next-out-spec : {M : Type 1} → statement M
 next-out-spec =
@@ -52,13 +62,13 @@ next-out-spec =
     (tie.spec
     Inv-loop
     μ-loop
-    (λ c. omega (arith, c .pre .0 .long))
     (λ c. omega (arith, c .pre .0 .fits))
     loop-holds
     (λ c κs. search needs)
     returns
-    slide-requires
+    move-on-requires
     (λ c. omega arith)
     (λ c. omega arith)
     loop-again
+    last-out-requires
     returns-2)

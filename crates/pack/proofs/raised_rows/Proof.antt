@@ -8,11 +8,12 @@ use Rattle.pack.proofs.raised_rows.Tie as tie
 
 returns : tie.Need-returns
 returns c =
-    let d = c .args .d in
-    let x = 10000 * c .args .w + (d - 1) in
+    let o = c .before in
+    let d = o .args .d in
+    let x = 10000 * o .args .w + (d - 1) in
     let low = div-mul-le-self x d in
-    let high = lt-div-mul-add {a = x} {b = d} (c .pre .1 .0) in
-    (omega (arith, low, high, c .pre .1 .0), omega (arith, low))
+    let high = lt-div-mul-add {a = x} {b = d} (o .pre .1 .0) in
+    rw (c .quotient .ensures) (omega (arith, low, high, o .pre .1 .0), omega (arith, low))
 
 pub raised-rows-spec : {M : Type 1} → statement M
-raised-rows-spec = tie.close (tie.spec (λ c. search needs) (λ c. search needs) (λ c. search needs) (λ c. search needs) returns)
+raised-rows-spec = tie.close (tie.spec (λ c. search needs) (λ c. search needs) (λ c. search needs) (λ c. search needs) (λ c. search needs) (λ c κs. search needs) (λ c. search needs) returns)
