@@ -19,15 +19,12 @@ use Rattle.extend.specs.Steps.{joinsOf, SumAsked}
 -- the rows can be listed, and then the new windows counted
 pub record CountAsked (s : List ℤ) (w e bias old : ℕ) (rows : List Row) (n : ℕ) (left right : List ℕ) : Type 0 where
   pub lists : Listable rows n bias (length right) (length left)
-  pub counts : (l r : List ℕ) → Cleared left l → Cleared right r → Countable s w e old (listed (endOf rows bias) n r) n (listed (sizeOf rows) n l)
+  pub counts : Countable s w e old (listed (endOf rows bias) n right) n (listed (sizeOf rows) n left)
 
 -- the runs are counted in the left column, beside the ends in the right one; i is the row of the first new window
 pub record CountedAs (s : List ℤ) (w e bias old : ℕ) (rows : List Row) (n : ℕ) (left right : List ℕ) (i : ℕ) (left′ right′ : List ℕ) : Type 0 where
-  pub l : List ℕ
-  pub r : List ℕ
-  pub cleared : Cleared left l × Cleared right r
-  pub ends : right′ ≡ listed (endOf rows bias) n r
-  pub counted : Counted s w e old right′ n (listed (sizeOf rows) n l) (windowsOf s w) left′
+  pub ends : right′ ≡ listed (endOf rows bias) n right
+  pub counted : Counted s w e old right′ n (listed (sizeOf rows) n left) (windowsOf s w) left′
   pub first : old < windowsOf s w → i ≡ rank right′ n (level s w e old)
   pub none : windowsOf s w ≤ old → i ≡ 0
 

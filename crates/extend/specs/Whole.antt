@@ -101,16 +101,16 @@ module _ {s : List ℤ} {w e d b old : ℕ} {from : List Row} {lefts rights : Li
     pub count-asked : CountAsked s w e (10000 * w + e) old rows₁ count left₁ right
     count-asked = rw (v .0) (record {
       lists = listable x s (h .formed) (h .longer) e (h .lent) lefts rights refl rows₁ row-at in-rows (length right) (length left₁) (omega (arith, most, h .in-right)) (omega (arith, most, h .in-left, long₁));
-      counts = λ l r cl cr. countable x s (h .formed) (h .longer) e (h .lent) lefts rights refl rows₁ row-at in-rows (listed (endOf rows₁ (10000 * w + e)) size r) (listed (sizeOf rows₁) size l) r l refl refl
-          (omega (arith, most, h .in-right, cr .long)) (omega (arith, most, h .in-left, long₁, cl .long));
+      counts = countable x s (h .formed) (h .longer) e (h .lent) lefts rights refl rows₁ row-at in-rows (listed (endOf rows₁ (10000 * w + e)) size right) (listed (sizeOf rows₁) size left₁) right left₁ refl refl
+          (omega (arith, most, h .in-right)) (omega (arith, most, h .in-left, long₁));
     })
 
     module _ (i : ℕ) (left₂ right₂ : List ℕ) (c : CountedAs s w e (10000 * w + e) old rows₁ size left₁ right i left₂ right₂) where
-      fit-r : size ≤ length (c .r)
-      fit-r = omega (arith, most, h .in-right, c .cleared .1 .long)
+      fit-r : size ≤ length right
+      fit-r = omega (arith, most, h .in-right)
 
-      fit-l : size ≤ length (c .l)
-      fit-l = omega (arith, most, h .in-left, long₁, c .cleared .0 .long)
+      fit-l : size ≤ length left₁
+      fit-l = omega (arith, most, h .in-left, long₁)
 
       abbrev row : Row
       row = getD rows₁ i zeroRow
@@ -119,26 +119,26 @@ module _ {s : List ℤ} {w e d b old : ℕ} {from : List Row} {lefts rights : Li
       J = joinsOf s w old row rights
 
       pub joined : Joins x s (h .formed) (h .longer) i J
-      joined = joins x s (h .formed) (h .longer) e (h .lent) lefts rights refl rows₁ row-at in-rows right₂ (listed (sizeOf rows₁) size (c .l)) (c .r) (c .l) (c .ends) refl fit-r fit-l left₂ (c .counted) i (c .first)
+      joined = joins x s (h .formed) (h .longer) e (h .lent) lefts rights refl rows₁ row-at in-rows right₂ (listed (sizeOf rows₁) size left₁) right left₁ (c .ends) refl fit-r fit-l left₂ (c .counted) i (c .first)
 
       pub old-fits : row .first + row .runs ≤ length rights
-      old-fits = row-fits x s (h .formed) (h .longer) e (h .lent) lefts rights refl rows₁ row-at in-rows right₂ (listed (sizeOf rows₁) size (c .l)) (c .r) (c .l) (c .ends) refl fit-r fit-l left₂ (c .counted) i (c .first)
+      old-fits = row-fits x s (h .formed) (h .longer) e (h .lent) lefts rights refl rows₁ row-at in-rows right₂ (listed (sizeOf rows₁) size left₁) right left₁ (c .ends) refl fit-r fit-l left₂ (c .counted) i (c .first)
 
       -- there is a record i
       pub first-in : i < length rows₁
       first-in = elim (decLt old n) [
-        | yes l ↦ omega (arith, in-rows, row-in x s (h .formed) (h .longer) e (h .lent) lefts rights refl rows₁ row-at in-rows right₂ (listed (sizeOf rows₁) size (c .l)) (c .r) (c .l) (c .ends) refl fit-r fit-l left₂ (c .counted) i (c .first) l)
+        | yes l ↦ omega (arith, in-rows, row-in x s (h .formed) (h .longer) e (h .lent) lefts rights refl rows₁ row-at in-rows right₂ (listed (sizeOf rows₁) size left₁) right left₁ (c .ends) refl fit-r fit-l left₂ (c .counted) i (c .first) l)
         | no f ↦ omega (arith, c .none (omega arith), long-rows, h .in-rows, h .lent .fits, h .lent .some)
       ]
 
       sums : SumAsked J i left₂ size
-      sums = sum-asked x s (h .formed) (h .longer) e (h .lent) lefts rights refl rows₁ row-at in-rows right₂ (listed (sizeOf rows₁) size (c .l)) (c .r) (c .l) (c .ends) refl fit-r fit-l left₂ (c .counted) i (c .first)
+      sums = sum-asked x s (h .formed) (h .longer) e (h .lent) lefts rights refl rows₁ row-at in-rows right₂ (listed (sizeOf rows₁) size left₁) right left₁ (c .ends) refl fit-r fit-l left₂ (c .counted) i (c .first)
 
       fits-all : size ≤ length rows
       fits-all = omega (arith, most, h .in-rows)
 
       same-counts : Matches (map G made) rows₁ (lessJoin J i left₂)
-      same-counts = matches x s (h .formed) (h .longer) e (h .lent) lefts rights refl rows₁ row-at in-rows right₂ (listed (sizeOf rows₁) size (c .l)) (c .r) (c .l) (c .ends) refl fit-r fit-l left₂ (c .counted) i (c .first)
+      same-counts = matches x s (h .formed) (h .longer) e (h .lent) lefts rights refl rows₁ row-at in-rows right₂ (listed (sizeOf rows₁) size left₁) right left₁ (c .ends) refl fit-r fit-l left₂ (c .counted) i (c .first)
 
       pub lays-asked : LayAsked s w old row rights i rows₁ size left₂
       lays-asked = record {
@@ -185,7 +185,7 @@ module _ {s : List ℤ} {w e d b old : ℕ} {from : List Row} {lefts rights : Li
           spot-is t = omega (
             arith,
             first-at x s (h .formed) (h .longer) rows₂ fits₂ front i (joined .row t),
-            old-size x s (h .formed) (h .longer) e (h .lent) lefts rights refl rows₁ row-at in-rows right₂ (listed (sizeOf rows₁) size (c .l)) (c .r) (c .l) (c .ends) refl fit-r fit-l i (joined .row t),
+            old-size x s (h .formed) (h .longer) e (h .lent) lefts rights refl rows₁ row-at in-rows right₂ (listed (sizeOf rows₁) size left₁) right left₁ (c .ends) refl fit-r fit-l i (joined .row t),
             ap (λ (q : Row). q .runs) (row-at i),
           )
 

@@ -200,7 +200,6 @@ pub fn count_rows(
     requires { ⌜ CountAsked (now s) w e bias old (now rows) n (now left) (now right) ⌝ }
     ensures { λ i. ⌜ CountedAs (now (s .entry)) w e bias old (now (rows .entry)) n (now (left .entry)) (now (right .entry)) i (now (left .exit)) (now (right .exit)) ⌝ }
 {
-    clear_runs(left, right);
     list_ends(rows, n, bias, right, left);
     count_windows(s, w, e, old, right, n, left)
 }

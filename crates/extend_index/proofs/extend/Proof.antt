@@ -151,69 +151,34 @@ module _ {M : Type 1} (𝓤 : URA M) (H : Heap 𝓤) (A : Atoms 𝓤) (W : Given
       abbrev En : Env 𝓤 H
       En = (Ex′.mir, l₀) ∷ ((sliceTy (tyRef (named 0) imm half)), l₁) ∷ (Hd′.mir, l₂) ∷ ((sliceTy (tyRef (named 1) imm record-type)), l₃) ∷ ((sliceTy (tyRef (named 2) imm half)), l₄) ∷ ((sliceTy (tyRef (named 3) imm half)), l₅) ∷ ((sliceTy (tyRef (named 4) mut record-type)), l₆) ∷ ((sliceTy (tyRef (named 5) mut half)), l₇) ∷ ((sliceTy (tyRef (named 6) mut half)), l₈) ∷ (J′.mir, l₉) ∷ (word, l₁₀) ∷ (Pn′.mir, l₁₁) ∷ (word, l₁₂) ∷ (word, l₁₃) ∷ (tyBool, l₁₄) ∷ ((tyRef erased mut record-type), l₁₅) ∷ ((sliceTy (tyRef erased mut record-type)), l₁₆) ∷ ((tyRef erased mut half), l₁₇) ∷ ((sliceTy (tyRef erased mut half)), l₁₈) ∷ ((tyRef erased mut half), l₁₉) ∷ ((sliceTy (tyRef erased mut half)), l₂₀) ∷ []
 
-      go-6 : (j : Judged) (is-j : j ≡ judgedOf (lent head (xf .now) (xc .now) (xh .now))) (g-j : Is J.the-row j (low-judged j ∷ [])) (m : ℕ) (is-m : m ≡ min (length (xl .now)) (length (xr .now))) (g-m : m < 2 ^ 64) (p : Plan) (is-p : p ≡ planOf (xs .now) head j (length (xa .now)) m) (g-p : Is Pn.the-row p (low-plan p ∷ [])) (yes′ : eqb (p .number) 0 ≡ true) (t : Extended) (za : List Row) (zl : List ℕ) (zr : List ℕ) (kept : ExtendKept (lentExtend (xs .now) head (xf .now) (xc .now) (xh .now)) (buffers (xa .now) (xl .now) (xr .now)) t (buffers za zl zr)) (g-t : Is Ex.the-row t (low-extended t ∷ [])) (long-a : length za ≡ length (xa .now)) (long-l : length zl ≡ length (xl .now)) (long-r : length zr ≡ length (xr .now)) → ent 𝓤 (⋆ 𝓤 H A (‵ (flft κs qs) ∷ ‵ (ShrSlice (named 0) κs i32 .own xs (sliceVal (xs .ptr) (length (xs .now)) ∷ [])) ∷ ‵ (flft κf qf) ∷ ‵ (ShrSlice (named 0) κf T.the-row .own xf (sliceVal (xf .ptr) (length (xf .now)) ∷ []))
+      -- what is had between two calls: what the slices own, and the locals, by those that change
+      abbrev Held : Item 𝓤 → Item 𝓤 → Item 𝓤 → Item 𝓤 → Item 𝓤 → Item 𝓤 → Item 𝓤 → Item 𝓤 → Item 𝓤 → List (Item 𝓤)
+      Held i₁ i₂ i₃ i₄ i₅ i₆ i₇ i₈ i₉ = ‵ (flft κs qs) ∷ ‵ (ShrSlice (named 0) κs i32 .own xs (sliceVal (xs .ptr) (length (xs .now)) ∷ [])) ∷ ‵ (flft κf qf) ∷ ‵ (ShrSlice (named 0) κf T.the-row .own xf (sliceVal (xf .ptr) (length (xf .now)) ∷ []))
           ∷ ‵ (flft κc qc) ∷ ‵ (ShrSlice (named 0) κc u32 .own xc (sliceVal (xc .ptr) (length (xc .now)) ∷ [])) ∷ ‵ (flft κh qh) ∷ ‵ (ShrSlice (named 0) κh u32 .own xh (sliceVal (xh .ptr) (length (xh .now)) ∷ []))
-          ∷ ‵ (flft κa qa) ∷ ‵ (Lends.Own T.the-row (xa .ptr .0) (xa .ptr .1) (length (xa .now)) (named 0) κa (xa .name) za) ∷ ‵ (flft κl ql) ∷ ‵ (Lends.Own u32 (xl .ptr .0) (xl .ptr .1) (length (xl .now)) (named 0) κl (xl .name) zl)
-          ∷ ‵ (flft κr qr) ∷ ‵ (Lends.Own u32 (xr .ptr .0) (xr .ptr .1) (length (xr .now)) (named 0) κr (xr .name) zr) ∷ ‵ (froom (sliceTy (tyRef erased mut half)) l₂₀ 0) ∷ ‵ (fdies (sliceTy (tyRef erased mut half)) l₂₀)
+          ∷ ‵ (flft κa qa) ∷ i₁ ∷ ‵ (flft κl ql) ∷ i₂
+          ∷ ‵ (flft κr qr) ∷ i₃ ∷ ‵ (froom (sliceTy (tyRef erased mut half)) l₂₀ 0) ∷ ‵ (fdies (sliceTy (tyRef erased mut half)) l₂₀)
           ∷ ‵ (froom (tyRef erased mut half) l₁₉ 0) ∷ ‵ (fdies (tyRef erased mut half) l₁₉) ∷ ‵ (froom (sliceTy (tyRef erased mut half)) l₁₈ 0) ∷ ‵ (fdies (sliceTy (tyRef erased mut half)) l₁₈)
           ∷ ‵ (froom (tyRef erased mut half) l₁₇ 0) ∷ ‵ (fdies (tyRef erased mut half) l₁₇) ∷ ‵ (froom (sliceTy (tyRef erased mut record-type)) l₁₆ 0) ∷ ‵ (fdies (sliceTy (tyRef erased mut record-type)) l₁₆)
           ∷ ‵ (froom (tyRef erased mut record-type) l₁₅ 0) ∷ ‵ (fdies (tyRef erased mut record-type) l₁₅) ∷ ‵ (froom tyBool l₁₄ 0) ∷ ‵ (fdies tyBool l₁₄)
-          ∷ ‵ (fat fullShare word l₁₃ 0 (vint w64 (length (xr .now)))) ∷ ‵ (fdies word l₁₃) ∷ ‵ (fat fullShare word l₁₂ 0 (vint w64 (length (xa .now)))) ∷ ‵ (fdies word l₁₂)
-          ∷ ‵ (fat fullShare Pn′.mir l₁₁ 0 (low-plan p)) ∷ ‵ (fdies Pn′.mir l₁₁) ∷ ‵ (fat fullShare word l₁₀ 0 (vint w64 m)) ∷ ‵ (fdies word l₁₀)
-          ∷ ‵ (fat fullShare J′.mir l₉ 0 (low-judged j)) ∷ ‵ (fdies J′.mir l₉) ∷ ‵ (fat fullShare (sliceTy (tyRef (named 6) mut half)) l₈ 0 (sliceVal (xr .ptr) (length (xr .now)))) ∷ ‵ (fdies (sliceTy (tyRef (named 6) mut half)) l₈)
+          ∷ i₄ ∷ ‵ (fdies word l₁₃) ∷ i₅ ∷ ‵ (fdies word l₁₂)
+          ∷ i₆ ∷ ‵ (fdies Pn′.mir l₁₁) ∷ i₇ ∷ ‵ (fdies word l₁₀)
+          ∷ i₈ ∷ ‵ (fdies J′.mir l₉) ∷ ‵ (fat fullShare (sliceTy (tyRef (named 6) mut half)) l₈ 0 (sliceVal (xr .ptr) (length (xr .now)))) ∷ ‵ (fdies (sliceTy (tyRef (named 6) mut half)) l₈)
           ∷ ‵ (fat fullShare (sliceTy (tyRef (named 5) mut half)) l₇ 0 (sliceVal (xl .ptr) (length (xl .now)))) ∷ ‵ (fdies (sliceTy (tyRef (named 5) mut half)) l₇) ∷ ‵ (fat fullShare (sliceTy (tyRef (named 4) mut record-type)) l₆ 0 (sliceVal (xa .ptr) (length (xa .now)))) ∷ ‵ (fdies (sliceTy (tyRef (named 4) mut record-type)) l₆)
           ∷ ‵ (fat fullShare (sliceTy (tyRef (named 3) imm half)) l₅ 0 (sliceVal (xh .ptr) (length (xh .now)))) ∷ ‵ (fdies (sliceTy (tyRef (named 3) imm half)) l₅) ∷ ‵ (fat fullShare (sliceTy (tyRef (named 2) imm half)) l₄ 0 (sliceVal (xc .ptr) (length (xc .now)))) ∷ ‵ (fdies (sliceTy (tyRef (named 2) imm half)) l₄)
           ∷ ‵ (fat fullShare (sliceTy (tyRef (named 1) imm record-type)) l₃ 0 (sliceVal (xf .ptr) (length (xf .now)))) ∷ ‵ (fdies (sliceTy (tyRef (named 1) imm record-type)) l₃) ∷ ‵ (fat fullShare Hd′.mir l₂ 0 (low-head head)) ∷ ‵ (fdies Hd′.mir l₂)
-          ∷ ‵ (fat fullShare (sliceTy (tyRef (named 0) imm half)) l₁ 0 (sliceVal (xs .ptr) (length (xs .now)))) ∷ ‵ (fdies (sliceTy (tyRef (named 0) imm half)) l₁) ∷ ‵ (fat fullShare Ex′.mir l₀ 0 (low-extended t)) ∷ ‵ (fdies Ex′.mir l₀) ∷ [])) (Wp 𝓤 H (𝓣 .C) (𝓣 .Λ) En mir.t-16 (atReturn 𝓤 H En Post))
+          ∷ ‵ (fat fullShare (sliceTy (tyRef (named 0) imm half)) l₁ 0 (sliceVal (xs .ptr) (length (xs .now)))) ∷ ‵ (fdies (sliceTy (tyRef (named 0) imm half)) l₁) ∷ i₉ ∷ ‵ (fdies Ex′.mir l₀) ∷ []
+
+      go-6 : (j : Judged) (is-j : j ≡ judgedOf (lent head (xf .now) (xc .now) (xh .now))) (g-j : Is J.the-row j (low-judged j ∷ [])) (m : ℕ) (is-m : m ≡ min (length (xl .now)) (length (xr .now))) (g-m : m < 2 ^ 64) (p : Plan) (is-p : p ≡ planOf (xs .now) head j (length (xa .now)) m) (g-p : Is Pn.the-row p (low-plan p ∷ [])) (yes′ : eqb (p .number) 0 ≡ true) (t : Extended) (za : List Row) (zl : List ℕ) (zr : List ℕ) (kept : ExtendKept (lentExtend (xs .now) head (xf .now) (xc .now) (xh .now)) (buffers (xa .now) (xl .now) (xr .now)) t (buffers za zl zr)) (g-t : Is Ex.the-row t (low-extended t ∷ [])) (long-a : length za ≡ length (xa .now)) (long-l : length zl ≡ length (xl .now)) (long-r : length zr ≡ length (xr .now)) → ent 𝓤 (⋆ 𝓤 H A (Held (‵ (Lends.Own T.the-row (xa .ptr .0) (xa .ptr .1) (length (xa .now)) (named 0) κa (xa .name) za)) (‵ (Lends.Own u32 (xl .ptr .0) (xl .ptr .1) (length (xl .now)) (named 0) κl (xl .name) zl)) (‵ (Lends.Own u32 (xr .ptr .0) (xr .ptr .1) (length (xr .now)) (named 0) κr (xr .name) zr)) (‵ (fat fullShare word l₁₃ 0 (vint w64 (length (xr .now))))) (‵ (fat fullShare word l₁₂ 0 (vint w64 (length (xa .now))))) (‵ (fat fullShare Pn′.mir l₁₁ 0 (low-plan p))) (‵ (fat fullShare word l₁₀ 0 (vint w64 m))) (‵ (fat fullShare J′.mir l₉ 0 (low-judged j))) (‵ (fat fullShare Ex′.mir l₀ 0 (low-extended t))))) (Wp 𝓤 H (𝓣 .C) (𝓣 .Λ) En mir.t-16 (atReturn 𝓤 H En Post))
       go-6 j is-j g-j m is-m g-m p is-p g-p yes′ t za zl zr kept g-t long-a long-l long-r =
-          qed W (‵ (flft κs qs) ∷ ‵ (ShrSlice (named 0) κs i32 .own xs (sliceVal (xs .ptr) (length (xs .now)) ∷ [])) ∷ ‵ (flft κf qf) ∷ ‵ (ShrSlice (named 0) κf T.the-row .own xf (sliceVal (xf .ptr) (length (xf .now)) ∷ []))
-          ∷ ‵ (flft κc qc) ∷ ‵ (ShrSlice (named 0) κc u32 .own xc (sliceVal (xc .ptr) (length (xc .now)) ∷ [])) ∷ ‵ (flft κh qh) ∷ ‵ (ShrSlice (named 0) κh u32 .own xh (sliceVal (xh .ptr) (length (xh .now)) ∷ []))
-          ∷ ‵ (flft κa qa) ∷ ‵ (Lends.Own T.the-row (xa .ptr .0) (xa .ptr .1) (length (xa .now)) (named 0) κa (xa .name) za) ∷ ‵ (flft κl ql) ∷ ‵ (Lends.Own u32 (xl .ptr .0) (xl .ptr .1) (length (xl .now)) (named 0) κl (xl .name) zl)
-          ∷ ‵ (flft κr qr) ∷ ‵ (Lends.Own u32 (xr .ptr .0) (xr .ptr .1) (length (xr .now)) (named 0) κr (xr .name) zr) ∷ ‵ (froom (sliceTy (tyRef erased mut half)) l₂₀ 0) ∷ ‵ (fdies (sliceTy (tyRef erased mut half)) l₂₀)
-          ∷ ‵ (froom (tyRef erased mut half) l₁₉ 0) ∷ ‵ (fdies (tyRef erased mut half) l₁₉) ∷ ‵ (froom (sliceTy (tyRef erased mut half)) l₁₈ 0) ∷ ‵ (fdies (sliceTy (tyRef erased mut half)) l₁₈)
-          ∷ ‵ (froom (tyRef erased mut half) l₁₇ 0) ∷ ‵ (fdies (tyRef erased mut half) l₁₇) ∷ ‵ (froom (sliceTy (tyRef erased mut record-type)) l₁₆ 0) ∷ ‵ (fdies (sliceTy (tyRef erased mut record-type)) l₁₆)
-          ∷ ‵ (froom (tyRef erased mut record-type) l₁₅ 0) ∷ ‵ (fdies (tyRef erased mut record-type) l₁₅) ∷ ‵ (froom tyBool l₁₄ 0) ∷ ‵ (fdies tyBool l₁₄)
-          ∷ ‵ (fat fullShare word l₁₃ 0 (vint w64 (length (xr .now)))) ∷ ‵ (fdies word l₁₃) ∷ ‵ (fat fullShare word l₁₂ 0 (vint w64 (length (xa .now)))) ∷ ‵ (fdies word l₁₂)
-          ∷ ‵ (fat fullShare Pn′.mir l₁₁ 0 (low-plan p)) ∷ ‵ (fdies Pn′.mir l₁₁) ∷ ‵ (fat fullShare word l₁₀ 0 (vint w64 m)) ∷ ‵ (fdies word l₁₀)
-          ∷ ‵ (fat fullShare J′.mir l₉ 0 (low-judged j)) ∷ ‵ (fdies J′.mir l₉) ∷ ‵ (fat fullShare (sliceTy (tyRef (named 6) mut half)) l₈ 0 (sliceVal (xr .ptr) (length (xr .now)))) ∷ ‵ (fdies (sliceTy (tyRef (named 6) mut half)) l₈)
-          ∷ ‵ (fat fullShare (sliceTy (tyRef (named 5) mut half)) l₇ 0 (sliceVal (xl .ptr) (length (xl .now)))) ∷ ‵ (fdies (sliceTy (tyRef (named 5) mut half)) l₇) ∷ ‵ (fat fullShare (sliceTy (tyRef (named 4) mut record-type)) l₆ 0 (sliceVal (xa .ptr) (length (xa .now)))) ∷ ‵ (fdies (sliceTy (tyRef (named 4) mut record-type)) l₆)
-          ∷ ‵ (fat fullShare (sliceTy (tyRef (named 3) imm half)) l₅ 0 (sliceVal (xh .ptr) (length (xh .now)))) ∷ ‵ (fdies (sliceTy (tyRef (named 3) imm half)) l₅) ∷ ‵ (fat fullShare (sliceTy (tyRef (named 2) imm half)) l₄ 0 (sliceVal (xc .ptr) (length (xc .now)))) ∷ ‵ (fdies (sliceTy (tyRef (named 2) imm half)) l₄)
-          ∷ ‵ (fat fullShare (sliceTy (tyRef (named 1) imm record-type)) l₃ 0 (sliceVal (xf .ptr) (length (xf .now)))) ∷ ‵ (fdies (sliceTy (tyRef (named 1) imm record-type)) l₃) ∷ ‵ (fat fullShare Hd′.mir l₂ 0 (low-head head)) ∷ ‵ (fdies Hd′.mir l₂)
-          ∷ ‵ (fat fullShare (sliceTy (tyRef (named 0) imm half)) l₁ 0 (sliceVal (xs .ptr) (length (xs .now)))) ∷ ‵ (fdies (sliceTy (tyRef (named 0) imm half)) l₁) ∷ ‵ (fat fullShare Ex′.mir l₀ 0 (low-extended t)) ∷ ‵ (fdies Ex′.mir l₀) ∷ []) ∵ exec ! (𝓣 .C) (𝓣 .Λ) En mir.t-16 (atRet En Post) $
+          qed W (Held (‵ (Lends.Own T.the-row (xa .ptr .0) (xa .ptr .1) (length (xa .now)) (named 0) κa (xa .name) za)) (‵ (Lends.Own u32 (xl .ptr .0) (xl .ptr .1) (length (xl .now)) (named 0) κl (xl .name) zl)) (‵ (Lends.Own u32 (xr .ptr .0) (xr .ptr .1) (length (xr .now)) (named 0) κr (xr .name) zr)) (‵ (fat fullShare word l₁₃ 0 (vint w64 (length (xr .now))))) (‵ (fat fullShare word l₁₂ 0 (vint w64 (length (xa .now))))) (‵ (fat fullShare Pn′.mir l₁₁ 0 (low-plan p))) (‵ (fat fullShare word l₁₀ 0 (vint w64 m))) (‵ (fat fullShare J′.mir l₉ 0 (low-judged j))) (‵ (fat fullShare Ex′.mir l₀ 0 (low-extended t)))) ∵ exec ! (𝓣 .C) (𝓣 .Λ) En mir.t-16 (atRet En Post) $
           returns ! (look ! 54 refl) $
           lose ! 54 refl refl $ lose ! 52 refl refl $ lose ! 50 refl refl $ lose ! 48 refl refl $ lose ! 46 refl refl $ lose ! 44 refl refl $ lose ! 42 refl refl $ lose ! 40 refl refl $ lose ! 38 refl refl $ lose ! 36 refl refl $ lose ! 34 refl refl $ lose ! 32 refl refl $ lose ! 30 refl refl $ lose ! 28 refl refl $ lose-room ! 26 refl refl $ lose-room ! 24 refl refl $ lose-room ! 22 refl refl $ lose-room ! 20 refl refl $ lose-room ! 18 refl refl $ lose-room ! 16 refl refl $ lose-room ! 14 refl refl $ free0 ! $
           keep ! (0 ∷ 2 ∷ 4 ∷ 6 ∷ 8 ∷ 10 ∷ 12 ∷ 9 ∷ 11 ∷ 13 ∷ []) $
           by ! (exits za long-a zl long-l zr long-r t g-t kept)
 
-      go-5 : (j : Judged) (is-j : j ≡ judgedOf (lent head (xf .now) (xc .now) (xh .now))) (g-j : Is J.the-row j (low-judged j ∷ [])) (m : ℕ) (is-m : m ≡ min (length (xl .now)) (length (xr .now))) (g-m : m < 2 ^ 64) (p : Plan) (is-p : p ≡ planOf (xs .now) head j (length (xa .now)) m) (g-p : Is Pn.the-row p (low-plan p ∷ [])) (yes′ : eqb (p .number) 0 ≡ true) → ent 𝓤 (⋆ 𝓤 H A (‵ (flft κs qs) ∷ ‵ (ShrSlice (named 0) κs i32 .own xs (sliceVal (xs .ptr) (length (xs .now)) ∷ [])) ∷ ‵ (flft κf qf) ∷ ‵ (ShrSlice (named 0) κf T.the-row .own xf (sliceVal (xf .ptr) (length (xf .now)) ∷ []))
-          ∷ ‵ (flft κc qc) ∷ ‵ (ShrSlice (named 0) κc u32 .own xc (sliceVal (xc .ptr) (length (xc .now)) ∷ [])) ∷ ‵ (flft κh qh) ∷ ‵ (ShrSlice (named 0) κh u32 .own xh (sliceVal (xh .ptr) (length (xh .now)) ∷ []))
-          ∷ ‵ (flft κa qa) ∷ ‵ (Lends.Own T.the-row (xa .ptr .0) (xa .ptr .1) (length (xa .now)) (named 0) κa (xa .name) (xa .now)) ∷ ‵ (flft κl ql) ∷ ‵ (Lends.Own u32 (xl .ptr .0) (xl .ptr .1) (length (xl .now)) (named 0) κl (xl .name) (xl .now))
-          ∷ ‵ (flft κr qr) ∷ ‵ (Lends.Own u32 (xr .ptr .0) (xr .ptr .1) (length (xr .now)) (named 0) κr (xr .name) (xr .now)) ∷ ‵ (froom (sliceTy (tyRef erased mut half)) l₂₀ 0) ∷ ‵ (fdies (sliceTy (tyRef erased mut half)) l₂₀)
-          ∷ ‵ (froom (tyRef erased mut half) l₁₉ 0) ∷ ‵ (fdies (tyRef erased mut half) l₁₉) ∷ ‵ (froom (sliceTy (tyRef erased mut half)) l₁₈ 0) ∷ ‵ (fdies (sliceTy (tyRef erased mut half)) l₁₈)
-          ∷ ‵ (froom (tyRef erased mut half) l₁₇ 0) ∷ ‵ (fdies (tyRef erased mut half) l₁₇) ∷ ‵ (froom (sliceTy (tyRef erased mut record-type)) l₁₆ 0) ∷ ‵ (fdies (sliceTy (tyRef erased mut record-type)) l₁₆)
-          ∷ ‵ (froom (tyRef erased mut record-type) l₁₅ 0) ∷ ‵ (fdies (tyRef erased mut record-type) l₁₅) ∷ ‵ (froom tyBool l₁₄ 0) ∷ ‵ (fdies tyBool l₁₄)
-          ∷ ‵ (fat fullShare word l₁₃ 0 (vint w64 (length (xr .now)))) ∷ ‵ (fdies word l₁₃) ∷ ‵ (fat fullShare word l₁₂ 0 (vint w64 (length (xa .now)))) ∷ ‵ (fdies word l₁₂)
-          ∷ ‵ (fat fullShare Pn′.mir l₁₁ 0 (low-plan p)) ∷ ‵ (fdies Pn′.mir l₁₁) ∷ ‵ (fat fullShare word l₁₀ 0 (vint w64 m)) ∷ ‵ (fdies word l₁₀)
-          ∷ ‵ (fat fullShare J′.mir l₉ 0 (low-judged j)) ∷ ‵ (fdies J′.mir l₉) ∷ ‵ (fat fullShare (sliceTy (tyRef (named 6) mut half)) l₈ 0 (sliceVal (xr .ptr) (length (xr .now)))) ∷ ‵ (fdies (sliceTy (tyRef (named 6) mut half)) l₈)
-          ∷ ‵ (fat fullShare (sliceTy (tyRef (named 5) mut half)) l₇ 0 (sliceVal (xl .ptr) (length (xl .now)))) ∷ ‵ (fdies (sliceTy (tyRef (named 5) mut half)) l₇) ∷ ‵ (fat fullShare (sliceTy (tyRef (named 4) mut record-type)) l₆ 0 (sliceVal (xa .ptr) (length (xa .now)))) ∷ ‵ (fdies (sliceTy (tyRef (named 4) mut record-type)) l₆)
-          ∷ ‵ (fat fullShare (sliceTy (tyRef (named 3) imm half)) l₅ 0 (sliceVal (xh .ptr) (length (xh .now)))) ∷ ‵ (fdies (sliceTy (tyRef (named 3) imm half)) l₅) ∷ ‵ (fat fullShare (sliceTy (tyRef (named 2) imm half)) l₄ 0 (sliceVal (xc .ptr) (length (xc .now)))) ∷ ‵ (fdies (sliceTy (tyRef (named 2) imm half)) l₄)
-          ∷ ‵ (fat fullShare (sliceTy (tyRef (named 1) imm record-type)) l₃ 0 (sliceVal (xf .ptr) (length (xf .now)))) ∷ ‵ (fdies (sliceTy (tyRef (named 1) imm record-type)) l₃) ∷ ‵ (fat fullShare Hd′.mir l₂ 0 (low-head head)) ∷ ‵ (fdies Hd′.mir l₂)
-          ∷ ‵ (fat fullShare (sliceTy (tyRef (named 0) imm half)) l₁ 0 (sliceVal (xs .ptr) (length (xs .now)))) ∷ ‵ (fdies (sliceTy (tyRef (named 0) imm half)) l₁) ∷ ‵ (froom Ex′.mir l₀ 0) ∷ ‵ (fdies Ex′.mir l₀) ∷ [])) (Wp 𝓤 H (𝓣 .C) (𝓣 .Λ) En mir.t-9 (atReturn 𝓤 H En Post))
+      go-5 : (j : Judged) (is-j : j ≡ judgedOf (lent head (xf .now) (xc .now) (xh .now))) (g-j : Is J.the-row j (low-judged j ∷ [])) (m : ℕ) (is-m : m ≡ min (length (xl .now)) (length (xr .now))) (g-m : m < 2 ^ 64) (p : Plan) (is-p : p ≡ planOf (xs .now) head j (length (xa .now)) m) (g-p : Is Pn.the-row p (low-plan p ∷ [])) (yes′ : eqb (p .number) 0 ≡ true) → ent 𝓤 (⋆ 𝓤 H A (Held (‵ (Lends.Own T.the-row (xa .ptr .0) (xa .ptr .1) (length (xa .now)) (named 0) κa (xa .name) (xa .now))) (‵ (Lends.Own u32 (xl .ptr .0) (xl .ptr .1) (length (xl .now)) (named 0) κl (xl .name) (xl .now))) (‵ (Lends.Own u32 (xr .ptr .0) (xr .ptr .1) (length (xr .now)) (named 0) κr (xr .name) (xr .now))) (‵ (fat fullShare word l₁₃ 0 (vint w64 (length (xr .now))))) (‵ (fat fullShare word l₁₂ 0 (vint w64 (length (xa .now))))) (‵ (fat fullShare Pn′.mir l₁₁ 0 (low-plan p))) (‵ (fat fullShare word l₁₀ 0 (vint w64 m))) (‵ (fat fullShare J′.mir l₉ 0 (low-judged j))) (‵ (froom Ex′.mir l₀ 0)))) (Wp 𝓤 H (𝓣 .C) (𝓣 .Λ) En mir.t-9 (atReturn 𝓤 H En Post))
       go-5 j is-j g-j m is-m g-m p is-p g-p yes′ =
-          qed W (‵ (flft κs qs) ∷ ‵ (ShrSlice (named 0) κs i32 .own xs (sliceVal (xs .ptr) (length (xs .now)) ∷ [])) ∷ ‵ (flft κf qf) ∷ ‵ (ShrSlice (named 0) κf T.the-row .own xf (sliceVal (xf .ptr) (length (xf .now)) ∷ []))
-          ∷ ‵ (flft κc qc) ∷ ‵ (ShrSlice (named 0) κc u32 .own xc (sliceVal (xc .ptr) (length (xc .now)) ∷ [])) ∷ ‵ (flft κh qh) ∷ ‵ (ShrSlice (named 0) κh u32 .own xh (sliceVal (xh .ptr) (length (xh .now)) ∷ []))
-          ∷ ‵ (flft κa qa) ∷ ‵ (Lends.Own T.the-row (xa .ptr .0) (xa .ptr .1) (length (xa .now)) (named 0) κa (xa .name) (xa .now)) ∷ ‵ (flft κl ql) ∷ ‵ (Lends.Own u32 (xl .ptr .0) (xl .ptr .1) (length (xl .now)) (named 0) κl (xl .name) (xl .now))
-          ∷ ‵ (flft κr qr) ∷ ‵ (Lends.Own u32 (xr .ptr .0) (xr .ptr .1) (length (xr .now)) (named 0) κr (xr .name) (xr .now)) ∷ ‵ (froom (sliceTy (tyRef erased mut half)) l₂₀ 0) ∷ ‵ (fdies (sliceTy (tyRef erased mut half)) l₂₀)
-          ∷ ‵ (froom (tyRef erased mut half) l₁₉ 0) ∷ ‵ (fdies (tyRef erased mut half) l₁₉) ∷ ‵ (froom (sliceTy (tyRef erased mut half)) l₁₈ 0) ∷ ‵ (fdies (sliceTy (tyRef erased mut half)) l₁₈)
-          ∷ ‵ (froom (tyRef erased mut half) l₁₇ 0) ∷ ‵ (fdies (tyRef erased mut half) l₁₇) ∷ ‵ (froom (sliceTy (tyRef erased mut record-type)) l₁₆ 0) ∷ ‵ (fdies (sliceTy (tyRef erased mut record-type)) l₁₆)
-          ∷ ‵ (froom (tyRef erased mut record-type) l₁₅ 0) ∷ ‵ (fdies (tyRef erased mut record-type) l₁₅) ∷ ‵ (froom tyBool l₁₄ 0) ∷ ‵ (fdies tyBool l₁₄)
-          ∷ ‵ (fat fullShare word l₁₃ 0 (vint w64 (length (xr .now)))) ∷ ‵ (fdies word l₁₃) ∷ ‵ (fat fullShare word l₁₂ 0 (vint w64 (length (xa .now)))) ∷ ‵ (fdies word l₁₂)
-          ∷ ‵ (fat fullShare Pn′.mir l₁₁ 0 (low-plan p)) ∷ ‵ (fdies Pn′.mir l₁₁) ∷ ‵ (fat fullShare word l₁₀ 0 (vint w64 m)) ∷ ‵ (fdies word l₁₀)
-          ∷ ‵ (fat fullShare J′.mir l₉ 0 (low-judged j)) ∷ ‵ (fdies J′.mir l₉) ∷ ‵ (fat fullShare (sliceTy (tyRef (named 6) mut half)) l₈ 0 (sliceVal (xr .ptr) (length (xr .now)))) ∷ ‵ (fdies (sliceTy (tyRef (named 6) mut half)) l₈)
-          ∷ ‵ (fat fullShare (sliceTy (tyRef (named 5) mut half)) l₇ 0 (sliceVal (xl .ptr) (length (xl .now)))) ∷ ‵ (fdies (sliceTy (tyRef (named 5) mut half)) l₇) ∷ ‵ (fat fullShare (sliceTy (tyRef (named 4) mut record-type)) l₆ 0 (sliceVal (xa .ptr) (length (xa .now)))) ∷ ‵ (fdies (sliceTy (tyRef (named 4) mut record-type)) l₆)
-          ∷ ‵ (fat fullShare (sliceTy (tyRef (named 3) imm half)) l₅ 0 (sliceVal (xh .ptr) (length (xh .now)))) ∷ ‵ (fdies (sliceTy (tyRef (named 3) imm half)) l₅) ∷ ‵ (fat fullShare (sliceTy (tyRef (named 2) imm half)) l₄ 0 (sliceVal (xc .ptr) (length (xc .now)))) ∷ ‵ (fdies (sliceTy (tyRef (named 2) imm half)) l₄)
-          ∷ ‵ (fat fullShare (sliceTy (tyRef (named 1) imm record-type)) l₃ 0 (sliceVal (xf .ptr) (length (xf .now)))) ∷ ‵ (fdies (sliceTy (tyRef (named 1) imm record-type)) l₃) ∷ ‵ (fat fullShare Hd′.mir l₂ 0 (low-head head)) ∷ ‵ (fdies Hd′.mir l₂)
-          ∷ ‵ (fat fullShare (sliceTy (tyRef (named 0) imm half)) l₁ 0 (sliceVal (xs .ptr) (length (xs .now)))) ∷ ‵ (fdies (sliceTy (tyRef (named 0) imm half)) l₁) ∷ ‵ (froom Ex′.mir l₀ 0) ∷ ‵ (fdies Ex′.mir l₀) ∷ []) ∵ exec ! (𝓣 .C) (𝓣 .Λ) En mir.t-9 (atRet En Post) $
+          qed W (Held (‵ (Lends.Own T.the-row (xa .ptr .0) (xa .ptr .1) (length (xa .now)) (named 0) κa (xa .name) (xa .now))) (‵ (Lends.Own u32 (xl .ptr .0) (xl .ptr .1) (length (xl .now)) (named 0) κl (xl .name) (xl .now))) (‵ (Lends.Own u32 (xr .ptr .0) (xr .ptr .1) (length (xr .now)) (named 0) κr (xr .name) (xr .now))) (‵ (fat fullShare word l₁₃ 0 (vint w64 (length (xr .now))))) (‵ (fat fullShare word l₁₂ 0 (vint w64 (length (xa .now))))) (‵ (fat fullShare Pn′.mir l₁₁ 0 (low-plan p))) (‵ (fat fullShare word l₁₀ 0 (vint w64 m))) (‵ (fat fullShare J′.mir l₉ 0 (low-judged j))) (‵ (froom Ex′.mir l₀ 0))) ∵ exec ! (𝓣 .C) (𝓣 .Λ) En mir.t-9 (atRet En Post) $
           assigns ! (addr ! (from ! (fld ! refl (hop ! (look-in ! 42 (sub ! 0 refl (whole !))) (stop !))))) (from ! (stop !)) (init ! 24 refl (tt, tt)) $
           assigns ! (agg ! (and-then ! (load ! (from ! (stop !)) (look ! 24 refl)) (and-then ! (load ! (from ! (fld ! refl (stop !))) (look-in ! 42 (sub ! 1 refl (whole !)))) (no-more !)))) (from ! (stop !)) (init ! 22 refl (tt, (tt, (record { fits = g-a .0 }, tt)))) $
           assigns ! (addr ! (from ! (fld ! refl (hop ! (look-in ! 40 (sub ! 0 refl (whole !))) (stop !))))) (from ! (stop !)) (init ! 20 refl (tt, tt)) $
@@ -227,35 +192,9 @@ module _ {M : Type 1} (𝓤 : URA M) (H : Heap 𝓤) (A : Atoms 𝓤) (W : Given
           keep ! (0 ∷ 1 ∷ 2 ∷ 3 ∷ 4 ∷ 5 ∷ 6 ∷ 7 ∷ 8 ∷ 9 ∷ 10 ∷ 11 ∷ 12 ∷ 13 ∷ 14 ∷ 15 ∷ 16 ∷ 17 ∷ 18 ∷ 19 ∷ 20 ∷ 21 ∷ 22 ∷ 23 ∷ 24 ∷ 25 ∷ 26 ∷ 27 ∷ 28 ∷ 29 ∷ 30 ∷ 31 ∷ 32 ∷ 33 ∷ 34 ∷ 35 ∷ 36 ∷ 37 ∷ 38 ∷ 39 ∷ 40 ∷ 41 ∷ 42 ∷ 43 ∷ 44 ∷ 45 ∷ 46 ∷ 47 ∷ 48 ∷ 49 ∷ 50 ∷ 51 ∷ 52 ∷ 53 ∷ 54 ∷ 55 ∷ []) $
           by ! (go-6 j is-j g-j m is-m g-m p is-p g-p yes′ t za zl zr kept g-t long-a long-l long-r))
 
-      go-4 : (j : Judged) (is-j : j ≡ judgedOf (lent head (xf .now) (xc .now) (xh .now))) (g-j : Is J.the-row j (low-judged j ∷ [])) (m : ℕ) (is-m : m ≡ min (length (xl .now)) (length (xr .now))) (g-m : m < 2 ^ 64) (p : Plan) (is-p : p ≡ planOf (xs .now) head j (length (xa .now)) m) (g-p : Is Pn.the-row p (low-plan p ∷ [])) → ent 𝓤 (⋆ 𝓤 H A (‵ (flft κs qs) ∷ ‵ (ShrSlice (named 0) κs i32 .own xs (sliceVal (xs .ptr) (length (xs .now)) ∷ [])) ∷ ‵ (flft κf qf) ∷ ‵ (ShrSlice (named 0) κf T.the-row .own xf (sliceVal (xf .ptr) (length (xf .now)) ∷ []))
-          ∷ ‵ (flft κc qc) ∷ ‵ (ShrSlice (named 0) κc u32 .own xc (sliceVal (xc .ptr) (length (xc .now)) ∷ [])) ∷ ‵ (flft κh qh) ∷ ‵ (ShrSlice (named 0) κh u32 .own xh (sliceVal (xh .ptr) (length (xh .now)) ∷ []))
-          ∷ ‵ (flft κa qa) ∷ ‵ (Lends.Own T.the-row (xa .ptr .0) (xa .ptr .1) (length (xa .now)) (named 0) κa (xa .name) (xa .now)) ∷ ‵ (flft κl ql) ∷ ‵ (Lends.Own u32 (xl .ptr .0) (xl .ptr .1) (length (xl .now)) (named 0) κl (xl .name) (xl .now))
-          ∷ ‵ (flft κr qr) ∷ ‵ (Lends.Own u32 (xr .ptr .0) (xr .ptr .1) (length (xr .now)) (named 0) κr (xr .name) (xr .now)) ∷ ‵ (froom (sliceTy (tyRef erased mut half)) l₂₀ 0) ∷ ‵ (fdies (sliceTy (tyRef erased mut half)) l₂₀)
-          ∷ ‵ (froom (tyRef erased mut half) l₁₉ 0) ∷ ‵ (fdies (tyRef erased mut half) l₁₉) ∷ ‵ (froom (sliceTy (tyRef erased mut half)) l₁₈ 0) ∷ ‵ (fdies (sliceTy (tyRef erased mut half)) l₁₈)
-          ∷ ‵ (froom (tyRef erased mut half) l₁₇ 0) ∷ ‵ (fdies (tyRef erased mut half) l₁₇) ∷ ‵ (froom (sliceTy (tyRef erased mut record-type)) l₁₆ 0) ∷ ‵ (fdies (sliceTy (tyRef erased mut record-type)) l₁₆)
-          ∷ ‵ (froom (tyRef erased mut record-type) l₁₅ 0) ∷ ‵ (fdies (tyRef erased mut record-type) l₁₅) ∷ ‵ (froom tyBool l₁₄ 0) ∷ ‵ (fdies tyBool l₁₄)
-          ∷ ‵ (fat fullShare word l₁₃ 0 (vint w64 (length (xr .now)))) ∷ ‵ (fdies word l₁₃) ∷ ‵ (fat fullShare word l₁₂ 0 (vint w64 (length (xa .now)))) ∷ ‵ (fdies word l₁₂)
-          ∷ ‵ (fat fullShare Pn′.mir l₁₁ 0 (low-plan p)) ∷ ‵ (fdies Pn′.mir l₁₁) ∷ ‵ (fat fullShare word l₁₀ 0 (vint w64 m)) ∷ ‵ (fdies word l₁₀)
-          ∷ ‵ (fat fullShare J′.mir l₉ 0 (low-judged j)) ∷ ‵ (fdies J′.mir l₉) ∷ ‵ (fat fullShare (sliceTy (tyRef (named 6) mut half)) l₈ 0 (sliceVal (xr .ptr) (length (xr .now)))) ∷ ‵ (fdies (sliceTy (tyRef (named 6) mut half)) l₈)
-          ∷ ‵ (fat fullShare (sliceTy (tyRef (named 5) mut half)) l₇ 0 (sliceVal (xl .ptr) (length (xl .now)))) ∷ ‵ (fdies (sliceTy (tyRef (named 5) mut half)) l₇) ∷ ‵ (fat fullShare (sliceTy (tyRef (named 4) mut record-type)) l₆ 0 (sliceVal (xa .ptr) (length (xa .now)))) ∷ ‵ (fdies (sliceTy (tyRef (named 4) mut record-type)) l₆)
-          ∷ ‵ (fat fullShare (sliceTy (tyRef (named 3) imm half)) l₅ 0 (sliceVal (xh .ptr) (length (xh .now)))) ∷ ‵ (fdies (sliceTy (tyRef (named 3) imm half)) l₅) ∷ ‵ (fat fullShare (sliceTy (tyRef (named 2) imm half)) l₄ 0 (sliceVal (xc .ptr) (length (xc .now)))) ∷ ‵ (fdies (sliceTy (tyRef (named 2) imm half)) l₄)
-          ∷ ‵ (fat fullShare (sliceTy (tyRef (named 1) imm record-type)) l₃ 0 (sliceVal (xf .ptr) (length (xf .now)))) ∷ ‵ (fdies (sliceTy (tyRef (named 1) imm record-type)) l₃) ∷ ‵ (fat fullShare Hd′.mir l₂ 0 (low-head head)) ∷ ‵ (fdies Hd′.mir l₂)
-          ∷ ‵ (fat fullShare (sliceTy (tyRef (named 0) imm half)) l₁ 0 (sliceVal (xs .ptr) (length (xs .now)))) ∷ ‵ (fdies (sliceTy (tyRef (named 0) imm half)) l₁) ∷ ‵ (froom Ex′.mir l₀ 0) ∷ ‵ (fdies Ex′.mir l₀) ∷ [])) (Wp 𝓤 H (𝓣 .C) (𝓣 .Λ) En mir.t-7 (atReturn 𝓤 H En Post))
+      go-4 : (j : Judged) (is-j : j ≡ judgedOf (lent head (xf .now) (xc .now) (xh .now))) (g-j : Is J.the-row j (low-judged j ∷ [])) (m : ℕ) (is-m : m ≡ min (length (xl .now)) (length (xr .now))) (g-m : m < 2 ^ 64) (p : Plan) (is-p : p ≡ planOf (xs .now) head j (length (xa .now)) m) (g-p : Is Pn.the-row p (low-plan p ∷ [])) → ent 𝓤 (⋆ 𝓤 H A (Held (‵ (Lends.Own T.the-row (xa .ptr .0) (xa .ptr .1) (length (xa .now)) (named 0) κa (xa .name) (xa .now))) (‵ (Lends.Own u32 (xl .ptr .0) (xl .ptr .1) (length (xl .now)) (named 0) κl (xl .name) (xl .now))) (‵ (Lends.Own u32 (xr .ptr .0) (xr .ptr .1) (length (xr .now)) (named 0) κr (xr .name) (xr .now))) (‵ (fat fullShare word l₁₃ 0 (vint w64 (length (xr .now))))) (‵ (fat fullShare word l₁₂ 0 (vint w64 (length (xa .now))))) (‵ (fat fullShare Pn′.mir l₁₁ 0 (low-plan p))) (‵ (fat fullShare word l₁₀ 0 (vint w64 m))) (‵ (fat fullShare J′.mir l₉ 0 (low-judged j))) (‵ (froom Ex′.mir l₀ 0)))) (Wp 𝓤 H (𝓣 .C) (𝓣 .Λ) En mir.t-7 (atReturn 𝓤 H En Post))
       go-4 j is-j g-j m is-m g-m p is-p g-p =
-          qed W (‵ (flft κs qs) ∷ ‵ (ShrSlice (named 0) κs i32 .own xs (sliceVal (xs .ptr) (length (xs .now)) ∷ [])) ∷ ‵ (flft κf qf) ∷ ‵ (ShrSlice (named 0) κf T.the-row .own xf (sliceVal (xf .ptr) (length (xf .now)) ∷ []))
-          ∷ ‵ (flft κc qc) ∷ ‵ (ShrSlice (named 0) κc u32 .own xc (sliceVal (xc .ptr) (length (xc .now)) ∷ [])) ∷ ‵ (flft κh qh) ∷ ‵ (ShrSlice (named 0) κh u32 .own xh (sliceVal (xh .ptr) (length (xh .now)) ∷ []))
-          ∷ ‵ (flft κa qa) ∷ ‵ (Lends.Own T.the-row (xa .ptr .0) (xa .ptr .1) (length (xa .now)) (named 0) κa (xa .name) (xa .now)) ∷ ‵ (flft κl ql) ∷ ‵ (Lends.Own u32 (xl .ptr .0) (xl .ptr .1) (length (xl .now)) (named 0) κl (xl .name) (xl .now))
-          ∷ ‵ (flft κr qr) ∷ ‵ (Lends.Own u32 (xr .ptr .0) (xr .ptr .1) (length (xr .now)) (named 0) κr (xr .name) (xr .now)) ∷ ‵ (froom (sliceTy (tyRef erased mut half)) l₂₀ 0) ∷ ‵ (fdies (sliceTy (tyRef erased mut half)) l₂₀)
-          ∷ ‵ (froom (tyRef erased mut half) l₁₉ 0) ∷ ‵ (fdies (tyRef erased mut half) l₁₉) ∷ ‵ (froom (sliceTy (tyRef erased mut half)) l₁₈ 0) ∷ ‵ (fdies (sliceTy (tyRef erased mut half)) l₁₈)
-          ∷ ‵ (froom (tyRef erased mut half) l₁₇ 0) ∷ ‵ (fdies (tyRef erased mut half) l₁₇) ∷ ‵ (froom (sliceTy (tyRef erased mut record-type)) l₁₆ 0) ∷ ‵ (fdies (sliceTy (tyRef erased mut record-type)) l₁₆)
-          ∷ ‵ (froom (tyRef erased mut record-type) l₁₅ 0) ∷ ‵ (fdies (tyRef erased mut record-type) l₁₅) ∷ ‵ (froom tyBool l₁₄ 0) ∷ ‵ (fdies tyBool l₁₄)
-          ∷ ‵ (fat fullShare word l₁₃ 0 (vint w64 (length (xr .now)))) ∷ ‵ (fdies word l₁₃) ∷ ‵ (fat fullShare word l₁₂ 0 (vint w64 (length (xa .now)))) ∷ ‵ (fdies word l₁₂)
-          ∷ ‵ (fat fullShare Pn′.mir l₁₁ 0 (low-plan p)) ∷ ‵ (fdies Pn′.mir l₁₁) ∷ ‵ (fat fullShare word l₁₀ 0 (vint w64 m)) ∷ ‵ (fdies word l₁₀)
-          ∷ ‵ (fat fullShare J′.mir l₉ 0 (low-judged j)) ∷ ‵ (fdies J′.mir l₉) ∷ ‵ (fat fullShare (sliceTy (tyRef (named 6) mut half)) l₈ 0 (sliceVal (xr .ptr) (length (xr .now)))) ∷ ‵ (fdies (sliceTy (tyRef (named 6) mut half)) l₈)
-          ∷ ‵ (fat fullShare (sliceTy (tyRef (named 5) mut half)) l₇ 0 (sliceVal (xl .ptr) (length (xl .now)))) ∷ ‵ (fdies (sliceTy (tyRef (named 5) mut half)) l₇) ∷ ‵ (fat fullShare (sliceTy (tyRef (named 4) mut record-type)) l₆ 0 (sliceVal (xa .ptr) (length (xa .now)))) ∷ ‵ (fdies (sliceTy (tyRef (named 4) mut record-type)) l₆)
-          ∷ ‵ (fat fullShare (sliceTy (tyRef (named 3) imm half)) l₅ 0 (sliceVal (xh .ptr) (length (xh .now)))) ∷ ‵ (fdies (sliceTy (tyRef (named 3) imm half)) l₅) ∷ ‵ (fat fullShare (sliceTy (tyRef (named 2) imm half)) l₄ 0 (sliceVal (xc .ptr) (length (xc .now)))) ∷ ‵ (fdies (sliceTy (tyRef (named 2) imm half)) l₄)
-          ∷ ‵ (fat fullShare (sliceTy (tyRef (named 1) imm record-type)) l₃ 0 (sliceVal (xf .ptr) (length (xf .now)))) ∷ ‵ (fdies (sliceTy (tyRef (named 1) imm record-type)) l₃) ∷ ‵ (fat fullShare Hd′.mir l₂ 0 (low-head head)) ∷ ‵ (fdies Hd′.mir l₂)
-          ∷ ‵ (fat fullShare (sliceTy (tyRef (named 0) imm half)) l₁ 0 (sliceVal (xs .ptr) (length (xs .now)))) ∷ ‵ (fdies (sliceTy (tyRef (named 0) imm half)) l₁) ∷ ‵ (froom Ex′.mir l₀ 0) ∷ ‵ (fdies Ex′.mir l₀) ∷ []) ∵ exec ! (𝓣 .C) (𝓣 .Λ) En mir.t-7 (atRet En Post) $
+          qed W (Held (‵ (Lends.Own T.the-row (xa .ptr .0) (xa .ptr .1) (length (xa .now)) (named 0) κa (xa .name) (xa .now))) (‵ (Lends.Own u32 (xl .ptr .0) (xl .ptr .1) (length (xl .now)) (named 0) κl (xl .name) (xl .now))) (‵ (Lends.Own u32 (xr .ptr .0) (xr .ptr .1) (length (xr .now)) (named 0) κr (xr .name) (xr .now))) (‵ (fat fullShare word l₁₃ 0 (vint w64 (length (xr .now))))) (‵ (fat fullShare word l₁₂ 0 (vint w64 (length (xa .now))))) (‵ (fat fullShare Pn′.mir l₁₁ 0 (low-plan p))) (‵ (fat fullShare word l₁₀ 0 (vint w64 m))) (‵ (fat fullShare J′.mir l₉ 0 (low-judged j))) (‵ (froom Ex′.mir l₀ 0))) ∵ exec ! (𝓣 .C) (𝓣 .Λ) En mir.t-7 (atRet En Post) $
           assigns ! (bin ! (load ! (from ! (fld ! refl (stop !))) (look-in ! 32 (sub ! 0 refl (whole !)))) (lit ! tt) tt) (from ! (stop !)) (init ! 26 refl (tt, tt)) $
           by-bool (eqb (p .number) 0)
           (λ yes′. rewrite ! 26 (λ (t : Bool). ‵ (fat fullShare tyBool l₁₄ 0 (vbool (not t)))) yes′ refl $ passes-by ! (load ! (from ! (stop !)) (look ! 26 refl)) $
@@ -270,35 +209,9 @@ module _ {M : Type 1} (𝓤 : URA M) (H : Heap 𝓤) (A : Atoms 𝓤) (W : Given
           keep ! (0 ∷ 2 ∷ 4 ∷ 6 ∷ 8 ∷ 10 ∷ 12 ∷ 9 ∷ 11 ∷ 13 ∷ []) $
           by ! (exits (xa .now) refl (xl .now) refl (xr .now) refl t g-t (refused-so j is-j m is-m p is-p no′ t is-t))))
 
-      go-3 : (j : Judged) (is-j : j ≡ judgedOf (lent head (xf .now) (xc .now) (xh .now))) (g-j : Is J.the-row j (low-judged j ∷ [])) (m : ℕ) (is-m : m ≡ min (length (xl .now)) (length (xr .now))) (g-m : m < 2 ^ 64) → ent 𝓤 (⋆ 𝓤 H A (‵ (flft κs qs) ∷ ‵ (ShrSlice (named 0) κs i32 .own xs (sliceVal (xs .ptr) (length (xs .now)) ∷ [])) ∷ ‵ (flft κf qf) ∷ ‵ (ShrSlice (named 0) κf T.the-row .own xf (sliceVal (xf .ptr) (length (xf .now)) ∷ []))
-          ∷ ‵ (flft κc qc) ∷ ‵ (ShrSlice (named 0) κc u32 .own xc (sliceVal (xc .ptr) (length (xc .now)) ∷ [])) ∷ ‵ (flft κh qh) ∷ ‵ (ShrSlice (named 0) κh u32 .own xh (sliceVal (xh .ptr) (length (xh .now)) ∷ []))
-          ∷ ‵ (flft κa qa) ∷ ‵ (Lends.Own T.the-row (xa .ptr .0) (xa .ptr .1) (length (xa .now)) (named 0) κa (xa .name) (xa .now)) ∷ ‵ (flft κl ql) ∷ ‵ (Lends.Own u32 (xl .ptr .0) (xl .ptr .1) (length (xl .now)) (named 0) κl (xl .name) (xl .now))
-          ∷ ‵ (flft κr qr) ∷ ‵ (Lends.Own u32 (xr .ptr .0) (xr .ptr .1) (length (xr .now)) (named 0) κr (xr .name) (xr .now)) ∷ ‵ (froom (sliceTy (tyRef erased mut half)) l₂₀ 0) ∷ ‵ (fdies (sliceTy (tyRef erased mut half)) l₂₀)
-          ∷ ‵ (froom (tyRef erased mut half) l₁₉ 0) ∷ ‵ (fdies (tyRef erased mut half) l₁₉) ∷ ‵ (froom (sliceTy (tyRef erased mut half)) l₁₈ 0) ∷ ‵ (fdies (sliceTy (tyRef erased mut half)) l₁₈)
-          ∷ ‵ (froom (tyRef erased mut half) l₁₇ 0) ∷ ‵ (fdies (tyRef erased mut half) l₁₇) ∷ ‵ (froom (sliceTy (tyRef erased mut record-type)) l₁₆ 0) ∷ ‵ (fdies (sliceTy (tyRef erased mut record-type)) l₁₆)
-          ∷ ‵ (froom (tyRef erased mut record-type) l₁₅ 0) ∷ ‵ (fdies (tyRef erased mut record-type) l₁₅) ∷ ‵ (froom tyBool l₁₄ 0) ∷ ‵ (fdies tyBool l₁₄)
-          ∷ ‵ (fat fullShare word l₁₃ 0 (vint w64 (length (xr .now)))) ∷ ‵ (fdies word l₁₃) ∷ ‵ (fat fullShare word l₁₂ 0 (vint w64 (length (xl .now)))) ∷ ‵ (fdies word l₁₂)
-          ∷ ‵ (froom Pn′.mir l₁₁ 0) ∷ ‵ (fdies Pn′.mir l₁₁) ∷ ‵ (fat fullShare word l₁₀ 0 (vint w64 m)) ∷ ‵ (fdies word l₁₀)
-          ∷ ‵ (fat fullShare J′.mir l₉ 0 (low-judged j)) ∷ ‵ (fdies J′.mir l₉) ∷ ‵ (fat fullShare (sliceTy (tyRef (named 6) mut half)) l₈ 0 (sliceVal (xr .ptr) (length (xr .now)))) ∷ ‵ (fdies (sliceTy (tyRef (named 6) mut half)) l₈)
-          ∷ ‵ (fat fullShare (sliceTy (tyRef (named 5) mut half)) l₇ 0 (sliceVal (xl .ptr) (length (xl .now)))) ∷ ‵ (fdies (sliceTy (tyRef (named 5) mut half)) l₇) ∷ ‵ (fat fullShare (sliceTy (tyRef (named 4) mut record-type)) l₆ 0 (sliceVal (xa .ptr) (length (xa .now)))) ∷ ‵ (fdies (sliceTy (tyRef (named 4) mut record-type)) l₆)
-          ∷ ‵ (fat fullShare (sliceTy (tyRef (named 3) imm half)) l₅ 0 (sliceVal (xh .ptr) (length (xh .now)))) ∷ ‵ (fdies (sliceTy (tyRef (named 3) imm half)) l₅) ∷ ‵ (fat fullShare (sliceTy (tyRef (named 2) imm half)) l₄ 0 (sliceVal (xc .ptr) (length (xc .now)))) ∷ ‵ (fdies (sliceTy (tyRef (named 2) imm half)) l₄)
-          ∷ ‵ (fat fullShare (sliceTy (tyRef (named 1) imm record-type)) l₃ 0 (sliceVal (xf .ptr) (length (xf .now)))) ∷ ‵ (fdies (sliceTy (tyRef (named 1) imm record-type)) l₃) ∷ ‵ (fat fullShare Hd′.mir l₂ 0 (low-head head)) ∷ ‵ (fdies Hd′.mir l₂)
-          ∷ ‵ (fat fullShare (sliceTy (tyRef (named 0) imm half)) l₁ 0 (sliceVal (xs .ptr) (length (xs .now)))) ∷ ‵ (fdies (sliceTy (tyRef (named 0) imm half)) l₁) ∷ ‵ (froom Ex′.mir l₀ 0) ∷ ‵ (fdies Ex′.mir l₀) ∷ [])) (Wp 𝓤 H (𝓣 .C) (𝓣 .Λ) En mir.t-5 (atReturn 𝓤 H En Post))
+      go-3 : (j : Judged) (is-j : j ≡ judgedOf (lent head (xf .now) (xc .now) (xh .now))) (g-j : Is J.the-row j (low-judged j ∷ [])) (m : ℕ) (is-m : m ≡ min (length (xl .now)) (length (xr .now))) (g-m : m < 2 ^ 64) → ent 𝓤 (⋆ 𝓤 H A (Held (‵ (Lends.Own T.the-row (xa .ptr .0) (xa .ptr .1) (length (xa .now)) (named 0) κa (xa .name) (xa .now))) (‵ (Lends.Own u32 (xl .ptr .0) (xl .ptr .1) (length (xl .now)) (named 0) κl (xl .name) (xl .now))) (‵ (Lends.Own u32 (xr .ptr .0) (xr .ptr .1) (length (xr .now)) (named 0) κr (xr .name) (xr .now))) (‵ (fat fullShare word l₁₃ 0 (vint w64 (length (xr .now))))) (‵ (fat fullShare word l₁₂ 0 (vint w64 (length (xl .now))))) (‵ (froom Pn′.mir l₁₁ 0)) (‵ (fat fullShare word l₁₀ 0 (vint w64 m))) (‵ (fat fullShare J′.mir l₉ 0 (low-judged j))) (‵ (froom Ex′.mir l₀ 0)))) (Wp 𝓤 H (𝓣 .C) (𝓣 .Λ) En mir.t-5 (atReturn 𝓤 H En Post))
       go-3 j is-j g-j m is-m g-m =
-          qed W (‵ (flft κs qs) ∷ ‵ (ShrSlice (named 0) κs i32 .own xs (sliceVal (xs .ptr) (length (xs .now)) ∷ [])) ∷ ‵ (flft κf qf) ∷ ‵ (ShrSlice (named 0) κf T.the-row .own xf (sliceVal (xf .ptr) (length (xf .now)) ∷ []))
-          ∷ ‵ (flft κc qc) ∷ ‵ (ShrSlice (named 0) κc u32 .own xc (sliceVal (xc .ptr) (length (xc .now)) ∷ [])) ∷ ‵ (flft κh qh) ∷ ‵ (ShrSlice (named 0) κh u32 .own xh (sliceVal (xh .ptr) (length (xh .now)) ∷ []))
-          ∷ ‵ (flft κa qa) ∷ ‵ (Lends.Own T.the-row (xa .ptr .0) (xa .ptr .1) (length (xa .now)) (named 0) κa (xa .name) (xa .now)) ∷ ‵ (flft κl ql) ∷ ‵ (Lends.Own u32 (xl .ptr .0) (xl .ptr .1) (length (xl .now)) (named 0) κl (xl .name) (xl .now))
-          ∷ ‵ (flft κr qr) ∷ ‵ (Lends.Own u32 (xr .ptr .0) (xr .ptr .1) (length (xr .now)) (named 0) κr (xr .name) (xr .now)) ∷ ‵ (froom (sliceTy (tyRef erased mut half)) l₂₀ 0) ∷ ‵ (fdies (sliceTy (tyRef erased mut half)) l₂₀)
-          ∷ ‵ (froom (tyRef erased mut half) l₁₉ 0) ∷ ‵ (fdies (tyRef erased mut half) l₁₉) ∷ ‵ (froom (sliceTy (tyRef erased mut half)) l₁₈ 0) ∷ ‵ (fdies (sliceTy (tyRef erased mut half)) l₁₈)
-          ∷ ‵ (froom (tyRef erased mut half) l₁₇ 0) ∷ ‵ (fdies (tyRef erased mut half) l₁₇) ∷ ‵ (froom (sliceTy (tyRef erased mut record-type)) l₁₆ 0) ∷ ‵ (fdies (sliceTy (tyRef erased mut record-type)) l₁₆)
-          ∷ ‵ (froom (tyRef erased mut record-type) l₁₅ 0) ∷ ‵ (fdies (tyRef erased mut record-type) l₁₅) ∷ ‵ (froom tyBool l₁₄ 0) ∷ ‵ (fdies tyBool l₁₄)
-          ∷ ‵ (fat fullShare word l₁₃ 0 (vint w64 (length (xr .now)))) ∷ ‵ (fdies word l₁₃) ∷ ‵ (fat fullShare word l₁₂ 0 (vint w64 (length (xl .now)))) ∷ ‵ (fdies word l₁₂)
-          ∷ ‵ (froom Pn′.mir l₁₁ 0) ∷ ‵ (fdies Pn′.mir l₁₁) ∷ ‵ (fat fullShare word l₁₀ 0 (vint w64 m)) ∷ ‵ (fdies word l₁₀)
-          ∷ ‵ (fat fullShare J′.mir l₉ 0 (low-judged j)) ∷ ‵ (fdies J′.mir l₉) ∷ ‵ (fat fullShare (sliceTy (tyRef (named 6) mut half)) l₈ 0 (sliceVal (xr .ptr) (length (xr .now)))) ∷ ‵ (fdies (sliceTy (tyRef (named 6) mut half)) l₈)
-          ∷ ‵ (fat fullShare (sliceTy (tyRef (named 5) mut half)) l₇ 0 (sliceVal (xl .ptr) (length (xl .now)))) ∷ ‵ (fdies (sliceTy (tyRef (named 5) mut half)) l₇) ∷ ‵ (fat fullShare (sliceTy (tyRef (named 4) mut record-type)) l₆ 0 (sliceVal (xa .ptr) (length (xa .now)))) ∷ ‵ (fdies (sliceTy (tyRef (named 4) mut record-type)) l₆)
-          ∷ ‵ (fat fullShare (sliceTy (tyRef (named 3) imm half)) l₅ 0 (sliceVal (xh .ptr) (length (xh .now)))) ∷ ‵ (fdies (sliceTy (tyRef (named 3) imm half)) l₅) ∷ ‵ (fat fullShare (sliceTy (tyRef (named 2) imm half)) l₄ 0 (sliceVal (xc .ptr) (length (xc .now)))) ∷ ‵ (fdies (sliceTy (tyRef (named 2) imm half)) l₄)
-          ∷ ‵ (fat fullShare (sliceTy (tyRef (named 1) imm record-type)) l₃ 0 (sliceVal (xf .ptr) (length (xf .now)))) ∷ ‵ (fdies (sliceTy (tyRef (named 1) imm record-type)) l₃) ∷ ‵ (fat fullShare Hd′.mir l₂ 0 (low-head head)) ∷ ‵ (fdies Hd′.mir l₂)
-          ∷ ‵ (fat fullShare (sliceTy (tyRef (named 0) imm half)) l₁ 0 (sliceVal (xs .ptr) (length (xs .now)))) ∷ ‵ (fdies (sliceTy (tyRef (named 0) imm half)) l₁) ∷ ‵ (froom Ex′.mir l₀ 0) ∷ ‵ (fdies Ex′.mir l₀) ∷ []) ∵ exec ! (𝓣 .C) (𝓣 .Λ) En mir.t-5 (atRet En Post) $
+          qed W (Held (‵ (Lends.Own T.the-row (xa .ptr .0) (xa .ptr .1) (length (xa .now)) (named 0) κa (xa .name) (xa .now))) (‵ (Lends.Own u32 (xl .ptr .0) (xl .ptr .1) (length (xl .now)) (named 0) κl (xl .name) (xl .now))) (‵ (Lends.Own u32 (xr .ptr .0) (xr .ptr .1) (length (xr .now)) (named 0) κr (xr .name) (xr .now))) (‵ (fat fullShare word l₁₃ 0 (vint w64 (length (xr .now))))) (‵ (fat fullShare word l₁₂ 0 (vint w64 (length (xl .now))))) (‵ (froom Pn′.mir l₁₁ 0)) (‵ (fat fullShare word l₁₀ 0 (vint w64 m))) (‵ (fat fullShare J′.mir l₉ 0 (low-judged j))) (‵ (froom Ex′.mir l₀ 0))) ∵ exec ! (𝓣 .C) (𝓣 .Λ) En mir.t-5 (atRet En Post) $
           assigns ! (of-opd ! (load ! (from ! (fld ! refl (stop !))) (look-in ! 42 (sub ! 1 refl (whole !))))) (from ! (stop !)) (store ! 30 refl (tt, record { fits = g-a .0 })) $
           move ! (0 ∷ 1 ∷ []) $
           calls-make-plan ! fm mem run known-make κs qs xs head j (length (xa .now)) m g-head g-j (g-a .0) g-m (and-then ! (load ! (from ! (stop !)) (look ! 52 refl)) (and-then ! (load ! (from ! (stop !)) (look ! 50 refl)) (and-then ! (load ! (from ! (stop !)) (look ! 36 refl)) (and-then ! (load ! (from ! (stop !)) (look ! 30 refl)) (and-then ! (load ! (from ! (stop !)) (look ! 34 refl)) (no-more !)))))) (λ p is-p g-p.
@@ -306,35 +219,9 @@ module _ {M : Type 1} (𝓤 : URA M) (H : Heap 𝓤) (A : Atoms 𝓤) (W : Given
           keep ! (0 ∷ 1 ∷ 2 ∷ 3 ∷ 4 ∷ 5 ∷ 6 ∷ 7 ∷ 8 ∷ 9 ∷ 10 ∷ 11 ∷ 12 ∷ 13 ∷ 14 ∷ 15 ∷ 16 ∷ 17 ∷ 18 ∷ 19 ∷ 20 ∷ 21 ∷ 22 ∷ 23 ∷ 24 ∷ 25 ∷ 26 ∷ 27 ∷ 28 ∷ 29 ∷ 30 ∷ 31 ∷ 32 ∷ 33 ∷ 34 ∷ 35 ∷ 36 ∷ 37 ∷ 38 ∷ 39 ∷ 40 ∷ 41 ∷ 42 ∷ 43 ∷ 44 ∷ 45 ∷ 46 ∷ 47 ∷ 48 ∷ 49 ∷ 50 ∷ 51 ∷ 52 ∷ 53 ∷ 54 ∷ 55 ∷ []) $
           by ! (go-4 j is-j g-j m is-m g-m p is-p g-p))
 
-      go-2 : (j : Judged) (is-j : j ≡ judgedOf (lent head (xf .now) (xc .now) (xh .now))) (g-j : Is J.the-row j (low-judged j ∷ [])) → ent 𝓤 (⋆ 𝓤 H A (‵ (flft κs qs) ∷ ‵ (ShrSlice (named 0) κs i32 .own xs (sliceVal (xs .ptr) (length (xs .now)) ∷ [])) ∷ ‵ (flft κf qf) ∷ ‵ (ShrSlice (named 0) κf T.the-row .own xf (sliceVal (xf .ptr) (length (xf .now)) ∷ []))
-          ∷ ‵ (flft κc qc) ∷ ‵ (ShrSlice (named 0) κc u32 .own xc (sliceVal (xc .ptr) (length (xc .now)) ∷ [])) ∷ ‵ (flft κh qh) ∷ ‵ (ShrSlice (named 0) κh u32 .own xh (sliceVal (xh .ptr) (length (xh .now)) ∷ []))
-          ∷ ‵ (flft κa qa) ∷ ‵ (Lends.Own T.the-row (xa .ptr .0) (xa .ptr .1) (length (xa .now)) (named 0) κa (xa .name) (xa .now)) ∷ ‵ (flft κl ql) ∷ ‵ (Lends.Own u32 (xl .ptr .0) (xl .ptr .1) (length (xl .now)) (named 0) κl (xl .name) (xl .now))
-          ∷ ‵ (flft κr qr) ∷ ‵ (Lends.Own u32 (xr .ptr .0) (xr .ptr .1) (length (xr .now)) (named 0) κr (xr .name) (xr .now)) ∷ ‵ (froom (sliceTy (tyRef erased mut half)) l₂₀ 0) ∷ ‵ (fdies (sliceTy (tyRef erased mut half)) l₂₀)
-          ∷ ‵ (froom (tyRef erased mut half) l₁₉ 0) ∷ ‵ (fdies (tyRef erased mut half) l₁₉) ∷ ‵ (froom (sliceTy (tyRef erased mut half)) l₁₈ 0) ∷ ‵ (fdies (sliceTy (tyRef erased mut half)) l₁₈)
-          ∷ ‵ (froom (tyRef erased mut half) l₁₇ 0) ∷ ‵ (fdies (tyRef erased mut half) l₁₇) ∷ ‵ (froom (sliceTy (tyRef erased mut record-type)) l₁₆ 0) ∷ ‵ (fdies (sliceTy (tyRef erased mut record-type)) l₁₆)
-          ∷ ‵ (froom (tyRef erased mut record-type) l₁₅ 0) ∷ ‵ (fdies (tyRef erased mut record-type) l₁₅) ∷ ‵ (froom tyBool l₁₄ 0) ∷ ‵ (fdies tyBool l₁₄)
-          ∷ ‵ (froom word l₁₃ 0) ∷ ‵ (fdies word l₁₃) ∷ ‵ (froom word l₁₂ 0) ∷ ‵ (fdies word l₁₂)
-          ∷ ‵ (froom Pn′.mir l₁₁ 0) ∷ ‵ (fdies Pn′.mir l₁₁) ∷ ‵ (froom word l₁₀ 0) ∷ ‵ (fdies word l₁₀)
-          ∷ ‵ (fat fullShare J′.mir l₉ 0 (low-judged j)) ∷ ‵ (fdies J′.mir l₉) ∷ ‵ (fat fullShare (sliceTy (tyRef (named 6) mut half)) l₈ 0 (sliceVal (xr .ptr) (length (xr .now)))) ∷ ‵ (fdies (sliceTy (tyRef (named 6) mut half)) l₈)
-          ∷ ‵ (fat fullShare (sliceTy (tyRef (named 5) mut half)) l₇ 0 (sliceVal (xl .ptr) (length (xl .now)))) ∷ ‵ (fdies (sliceTy (tyRef (named 5) mut half)) l₇) ∷ ‵ (fat fullShare (sliceTy (tyRef (named 4) mut record-type)) l₆ 0 (sliceVal (xa .ptr) (length (xa .now)))) ∷ ‵ (fdies (sliceTy (tyRef (named 4) mut record-type)) l₆)
-          ∷ ‵ (fat fullShare (sliceTy (tyRef (named 3) imm half)) l₅ 0 (sliceVal (xh .ptr) (length (xh .now)))) ∷ ‵ (fdies (sliceTy (tyRef (named 3) imm half)) l₅) ∷ ‵ (fat fullShare (sliceTy (tyRef (named 2) imm half)) l₄ 0 (sliceVal (xc .ptr) (length (xc .now)))) ∷ ‵ (fdies (sliceTy (tyRef (named 2) imm half)) l₄)
-          ∷ ‵ (fat fullShare (sliceTy (tyRef (named 1) imm record-type)) l₃ 0 (sliceVal (xf .ptr) (length (xf .now)))) ∷ ‵ (fdies (sliceTy (tyRef (named 1) imm record-type)) l₃) ∷ ‵ (fat fullShare Hd′.mir l₂ 0 (low-head head)) ∷ ‵ (fdies Hd′.mir l₂)
-          ∷ ‵ (fat fullShare (sliceTy (tyRef (named 0) imm half)) l₁ 0 (sliceVal (xs .ptr) (length (xs .now)))) ∷ ‵ (fdies (sliceTy (tyRef (named 0) imm half)) l₁) ∷ ‵ (froom Ex′.mir l₀ 0) ∷ ‵ (fdies Ex′.mir l₀) ∷ [])) (Wp 𝓤 H (𝓣 .C) (𝓣 .Λ) En mir.t-2 (atReturn 𝓤 H En Post))
+      go-2 : (j : Judged) (is-j : j ≡ judgedOf (lent head (xf .now) (xc .now) (xh .now))) (g-j : Is J.the-row j (low-judged j ∷ [])) → ent 𝓤 (⋆ 𝓤 H A (Held (‵ (Lends.Own T.the-row (xa .ptr .0) (xa .ptr .1) (length (xa .now)) (named 0) κa (xa .name) (xa .now))) (‵ (Lends.Own u32 (xl .ptr .0) (xl .ptr .1) (length (xl .now)) (named 0) κl (xl .name) (xl .now))) (‵ (Lends.Own u32 (xr .ptr .0) (xr .ptr .1) (length (xr .now)) (named 0) κr (xr .name) (xr .now))) (‵ (froom word l₁₃ 0)) (‵ (froom word l₁₂ 0)) (‵ (froom Pn′.mir l₁₁ 0)) (‵ (froom word l₁₀ 0)) (‵ (fat fullShare J′.mir l₉ 0 (low-judged j))) (‵ (froom Ex′.mir l₀ 0)))) (Wp 𝓤 H (𝓣 .C) (𝓣 .Λ) En mir.t-2 (atReturn 𝓤 H En Post))
       go-2 j is-j g-j =
-          qed W (‵ (flft κs qs) ∷ ‵ (ShrSlice (named 0) κs i32 .own xs (sliceVal (xs .ptr) (length (xs .now)) ∷ [])) ∷ ‵ (flft κf qf) ∷ ‵ (ShrSlice (named 0) κf T.the-row .own xf (sliceVal (xf .ptr) (length (xf .now)) ∷ []))
-          ∷ ‵ (flft κc qc) ∷ ‵ (ShrSlice (named 0) κc u32 .own xc (sliceVal (xc .ptr) (length (xc .now)) ∷ [])) ∷ ‵ (flft κh qh) ∷ ‵ (ShrSlice (named 0) κh u32 .own xh (sliceVal (xh .ptr) (length (xh .now)) ∷ []))
-          ∷ ‵ (flft κa qa) ∷ ‵ (Lends.Own T.the-row (xa .ptr .0) (xa .ptr .1) (length (xa .now)) (named 0) κa (xa .name) (xa .now)) ∷ ‵ (flft κl ql) ∷ ‵ (Lends.Own u32 (xl .ptr .0) (xl .ptr .1) (length (xl .now)) (named 0) κl (xl .name) (xl .now))
-          ∷ ‵ (flft κr qr) ∷ ‵ (Lends.Own u32 (xr .ptr .0) (xr .ptr .1) (length (xr .now)) (named 0) κr (xr .name) (xr .now)) ∷ ‵ (froom (sliceTy (tyRef erased mut half)) l₂₀ 0) ∷ ‵ (fdies (sliceTy (tyRef erased mut half)) l₂₀)
-          ∷ ‵ (froom (tyRef erased mut half) l₁₉ 0) ∷ ‵ (fdies (tyRef erased mut half) l₁₉) ∷ ‵ (froom (sliceTy (tyRef erased mut half)) l₁₈ 0) ∷ ‵ (fdies (sliceTy (tyRef erased mut half)) l₁₈)
-          ∷ ‵ (froom (tyRef erased mut half) l₁₇ 0) ∷ ‵ (fdies (tyRef erased mut half) l₁₇) ∷ ‵ (froom (sliceTy (tyRef erased mut record-type)) l₁₆ 0) ∷ ‵ (fdies (sliceTy (tyRef erased mut record-type)) l₁₆)
-          ∷ ‵ (froom (tyRef erased mut record-type) l₁₅ 0) ∷ ‵ (fdies (tyRef erased mut record-type) l₁₅) ∷ ‵ (froom tyBool l₁₄ 0) ∷ ‵ (fdies tyBool l₁₄)
-          ∷ ‵ (froom word l₁₃ 0) ∷ ‵ (fdies word l₁₃) ∷ ‵ (froom word l₁₂ 0) ∷ ‵ (fdies word l₁₂)
-          ∷ ‵ (froom Pn′.mir l₁₁ 0) ∷ ‵ (fdies Pn′.mir l₁₁) ∷ ‵ (froom word l₁₀ 0) ∷ ‵ (fdies word l₁₀)
-          ∷ ‵ (fat fullShare J′.mir l₉ 0 (low-judged j)) ∷ ‵ (fdies J′.mir l₉) ∷ ‵ (fat fullShare (sliceTy (tyRef (named 6) mut half)) l₈ 0 (sliceVal (xr .ptr) (length (xr .now)))) ∷ ‵ (fdies (sliceTy (tyRef (named 6) mut half)) l₈)
-          ∷ ‵ (fat fullShare (sliceTy (tyRef (named 5) mut half)) l₇ 0 (sliceVal (xl .ptr) (length (xl .now)))) ∷ ‵ (fdies (sliceTy (tyRef (named 5) mut half)) l₇) ∷ ‵ (fat fullShare (sliceTy (tyRef (named 4) mut record-type)) l₆ 0 (sliceVal (xa .ptr) (length (xa .now)))) ∷ ‵ (fdies (sliceTy (tyRef (named 4) mut record-type)) l₆)
-          ∷ ‵ (fat fullShare (sliceTy (tyRef (named 3) imm half)) l₅ 0 (sliceVal (xh .ptr) (length (xh .now)))) ∷ ‵ (fdies (sliceTy (tyRef (named 3) imm half)) l₅) ∷ ‵ (fat fullShare (sliceTy (tyRef (named 2) imm half)) l₄ 0 (sliceVal (xc .ptr) (length (xc .now)))) ∷ ‵ (fdies (sliceTy (tyRef (named 2) imm half)) l₄)
-          ∷ ‵ (fat fullShare (sliceTy (tyRef (named 1) imm record-type)) l₃ 0 (sliceVal (xf .ptr) (length (xf .now)))) ∷ ‵ (fdies (sliceTy (tyRef (named 1) imm record-type)) l₃) ∷ ‵ (fat fullShare Hd′.mir l₂ 0 (low-head head)) ∷ ‵ (fdies Hd′.mir l₂)
-          ∷ ‵ (fat fullShare (sliceTy (tyRef (named 0) imm half)) l₁ 0 (sliceVal (xs .ptr) (length (xs .now)))) ∷ ‵ (fdies (sliceTy (tyRef (named 0) imm half)) l₁) ∷ ‵ (froom Ex′.mir l₀ 0) ∷ ‵ (fdies Ex′.mir l₀) ∷ []) ∵ exec ! (𝓣 .C) (𝓣 .Λ) En mir.t-2 (atRet En Post) $
+          qed W (Held (‵ (Lends.Own T.the-row (xa .ptr .0) (xa .ptr .1) (length (xa .now)) (named 0) κa (xa .name) (xa .now))) (‵ (Lends.Own u32 (xl .ptr .0) (xl .ptr .1) (length (xl .now)) (named 0) κl (xl .name) (xl .now))) (‵ (Lends.Own u32 (xr .ptr .0) (xr .ptr .1) (length (xr .now)) (named 0) κr (xr .name) (xr .now))) (‵ (froom word l₁₃ 0)) (‵ (froom word l₁₂ 0)) (‵ (froom Pn′.mir l₁₁ 0)) (‵ (froom word l₁₀ 0)) (‵ (fat fullShare J′.mir l₉ 0 (low-judged j))) (‵ (froom Ex′.mir l₀ 0))) ∵ exec ! (𝓣 .C) (𝓣 .Λ) En mir.t-2 (atRet En Post) $
           assigns ! (of-opd ! (load ! (from ! (fld ! refl (stop !))) (look-in ! 40 (sub ! 1 refl (whole !))))) (from ! (stop !)) (init ! 30 refl (tt, record { fits = g-l .0 })) $
           assigns ! (of-opd ! (load ! (from ! (fld ! refl (stop !))) (look-in ! 38 (sub ! 1 refl (whole !))))) (from ! (stop !)) (init ! 28 refl (tt, record { fits = g-r .0 })) $
           calls-lesser ! fm mem run known-less (length (xl .now)) (length (xr .now)) (g-l .0) (g-r .0) (and-then ! (load ! (from ! (stop !)) (look ! 31 refl)) (and-then ! (load ! (from ! (stop !)) (look ! 29 refl)) (no-more !))) (λ m is-m g-m.
@@ -342,35 +229,9 @@ module _ {M : Type 1} (𝓤 : URA M) (H : Heap 𝓤) (A : Atoms 𝓤) (W : Given
           keep ! (0 ∷ 1 ∷ 2 ∷ 3 ∷ 4 ∷ 5 ∷ 6 ∷ 7 ∷ 8 ∷ 9 ∷ 10 ∷ 11 ∷ 12 ∷ 13 ∷ 14 ∷ 15 ∷ 16 ∷ 17 ∷ 18 ∷ 19 ∷ 20 ∷ 21 ∷ 22 ∷ 23 ∷ 24 ∷ 25 ∷ 26 ∷ 27 ∷ 28 ∷ 29 ∷ 30 ∷ 31 ∷ 32 ∷ 33 ∷ 34 ∷ 35 ∷ 36 ∷ 37 ∷ 38 ∷ 39 ∷ 40 ∷ 41 ∷ 42 ∷ 43 ∷ 44 ∷ 45 ∷ 46 ∷ 47 ∷ 48 ∷ 49 ∷ 50 ∷ 51 ∷ 52 ∷ 53 ∷ 54 ∷ 55 ∷ []) $
           by ! (go-3 j is-j g-j m is-m g-m))
 
-      go-1 : ent 𝓤 (⋆ 𝓤 H A (‵ (flft κs qs) ∷ ‵ (ShrSlice (named 0) κs i32 .own xs (sliceVal (xs .ptr) (length (xs .now)) ∷ [])) ∷ ‵ (flft κf qf) ∷ ‵ (ShrSlice (named 0) κf T.the-row .own xf (sliceVal (xf .ptr) (length (xf .now)) ∷ []))
-          ∷ ‵ (flft κc qc) ∷ ‵ (ShrSlice (named 0) κc u32 .own xc (sliceVal (xc .ptr) (length (xc .now)) ∷ [])) ∷ ‵ (flft κh qh) ∷ ‵ (ShrSlice (named 0) κh u32 .own xh (sliceVal (xh .ptr) (length (xh .now)) ∷ []))
-          ∷ ‵ (flft κa qa) ∷ ‵ (Lends.Own T.the-row (xa .ptr .0) (xa .ptr .1) (length (xa .now)) (named 0) κa (xa .name) (xa .now)) ∷ ‵ (flft κl ql) ∷ ‵ (Lends.Own u32 (xl .ptr .0) (xl .ptr .1) (length (xl .now)) (named 0) κl (xl .name) (xl .now))
-          ∷ ‵ (flft κr qr) ∷ ‵ (Lends.Own u32 (xr .ptr .0) (xr .ptr .1) (length (xr .now)) (named 0) κr (xr .name) (xr .now)) ∷ ‵ (froom (sliceTy (tyRef erased mut half)) l₂₀ 0) ∷ ‵ (fdies (sliceTy (tyRef erased mut half)) l₂₀)
-          ∷ ‵ (froom (tyRef erased mut half) l₁₉ 0) ∷ ‵ (fdies (tyRef erased mut half) l₁₉) ∷ ‵ (froom (sliceTy (tyRef erased mut half)) l₁₈ 0) ∷ ‵ (fdies (sliceTy (tyRef erased mut half)) l₁₈)
-          ∷ ‵ (froom (tyRef erased mut half) l₁₇ 0) ∷ ‵ (fdies (tyRef erased mut half) l₁₇) ∷ ‵ (froom (sliceTy (tyRef erased mut record-type)) l₁₆ 0) ∷ ‵ (fdies (sliceTy (tyRef erased mut record-type)) l₁₆)
-          ∷ ‵ (froom (tyRef erased mut record-type) l₁₅ 0) ∷ ‵ (fdies (tyRef erased mut record-type) l₁₅) ∷ ‵ (froom tyBool l₁₄ 0) ∷ ‵ (fdies tyBool l₁₄)
-          ∷ ‵ (froom word l₁₃ 0) ∷ ‵ (fdies word l₁₃) ∷ ‵ (froom word l₁₂ 0) ∷ ‵ (fdies word l₁₂)
-          ∷ ‵ (froom Pn′.mir l₁₁ 0) ∷ ‵ (fdies Pn′.mir l₁₁) ∷ ‵ (froom word l₁₀ 0) ∷ ‵ (fdies word l₁₀)
-          ∷ ‵ (froom J′.mir l₉ 0) ∷ ‵ (fdies J′.mir l₉) ∷ ‵ (fat fullShare (sliceTy (tyRef (named 6) mut half)) l₈ 0 (sliceVal (xr .ptr) (length (xr .now)))) ∷ ‵ (fdies (sliceTy (tyRef (named 6) mut half)) l₈)
-          ∷ ‵ (fat fullShare (sliceTy (tyRef (named 5) mut half)) l₇ 0 (sliceVal (xl .ptr) (length (xl .now)))) ∷ ‵ (fdies (sliceTy (tyRef (named 5) mut half)) l₇) ∷ ‵ (fat fullShare (sliceTy (tyRef (named 4) mut record-type)) l₆ 0 (sliceVal (xa .ptr) (length (xa .now)))) ∷ ‵ (fdies (sliceTy (tyRef (named 4) mut record-type)) l₆)
-          ∷ ‵ (fat fullShare (sliceTy (tyRef (named 3) imm half)) l₅ 0 (sliceVal (xh .ptr) (length (xh .now)))) ∷ ‵ (fdies (sliceTy (tyRef (named 3) imm half)) l₅) ∷ ‵ (fat fullShare (sliceTy (tyRef (named 2) imm half)) l₄ 0 (sliceVal (xc .ptr) (length (xc .now)))) ∷ ‵ (fdies (sliceTy (tyRef (named 2) imm half)) l₄)
-          ∷ ‵ (fat fullShare (sliceTy (tyRef (named 1) imm record-type)) l₃ 0 (sliceVal (xf .ptr) (length (xf .now)))) ∷ ‵ (fdies (sliceTy (tyRef (named 1) imm record-type)) l₃) ∷ ‵ (fat fullShare Hd′.mir l₂ 0 (low-head head)) ∷ ‵ (fdies Hd′.mir l₂)
-          ∷ ‵ (fat fullShare (sliceTy (tyRef (named 0) imm half)) l₁ 0 (sliceVal (xs .ptr) (length (xs .now)))) ∷ ‵ (fdies (sliceTy (tyRef (named 0) imm half)) l₁) ∷ ‵ (froom Ex′.mir l₀ 0) ∷ ‵ (fdies Ex′.mir l₀) ∷ [])) (Wp 𝓤 H (𝓣 .C) (𝓣 .Λ) En mir.t-1 (atReturn 𝓤 H En Post))
+      go-1 : ent 𝓤 (⋆ 𝓤 H A (Held (‵ (Lends.Own T.the-row (xa .ptr .0) (xa .ptr .1) (length (xa .now)) (named 0) κa (xa .name) (xa .now))) (‵ (Lends.Own u32 (xl .ptr .0) (xl .ptr .1) (length (xl .now)) (named 0) κl (xl .name) (xl .now))) (‵ (Lends.Own u32 (xr .ptr .0) (xr .ptr .1) (length (xr .now)) (named 0) κr (xr .name) (xr .now))) (‵ (froom word l₁₃ 0)) (‵ (froom word l₁₂ 0)) (‵ (froom Pn′.mir l₁₁ 0)) (‵ (froom word l₁₀ 0)) (‵ (froom J′.mir l₉ 0)) (‵ (froom Ex′.mir l₀ 0)))) (Wp 𝓤 H (𝓣 .C) (𝓣 .Λ) En mir.t-1 (atReturn 𝓤 H En Post))
       go-1 =
-          qed W (‵ (flft κs qs) ∷ ‵ (ShrSlice (named 0) κs i32 .own xs (sliceVal (xs .ptr) (length (xs .now)) ∷ [])) ∷ ‵ (flft κf qf) ∷ ‵ (ShrSlice (named 0) κf T.the-row .own xf (sliceVal (xf .ptr) (length (xf .now)) ∷ []))
-          ∷ ‵ (flft κc qc) ∷ ‵ (ShrSlice (named 0) κc u32 .own xc (sliceVal (xc .ptr) (length (xc .now)) ∷ [])) ∷ ‵ (flft κh qh) ∷ ‵ (ShrSlice (named 0) κh u32 .own xh (sliceVal (xh .ptr) (length (xh .now)) ∷ []))
-          ∷ ‵ (flft κa qa) ∷ ‵ (Lends.Own T.the-row (xa .ptr .0) (xa .ptr .1) (length (xa .now)) (named 0) κa (xa .name) (xa .now)) ∷ ‵ (flft κl ql) ∷ ‵ (Lends.Own u32 (xl .ptr .0) (xl .ptr .1) (length (xl .now)) (named 0) κl (xl .name) (xl .now))
-          ∷ ‵ (flft κr qr) ∷ ‵ (Lends.Own u32 (xr .ptr .0) (xr .ptr .1) (length (xr .now)) (named 0) κr (xr .name) (xr .now)) ∷ ‵ (froom (sliceTy (tyRef erased mut half)) l₂₀ 0) ∷ ‵ (fdies (sliceTy (tyRef erased mut half)) l₂₀)
-          ∷ ‵ (froom (tyRef erased mut half) l₁₉ 0) ∷ ‵ (fdies (tyRef erased mut half) l₁₉) ∷ ‵ (froom (sliceTy (tyRef erased mut half)) l₁₈ 0) ∷ ‵ (fdies (sliceTy (tyRef erased mut half)) l₁₈)
-          ∷ ‵ (froom (tyRef erased mut half) l₁₇ 0) ∷ ‵ (fdies (tyRef erased mut half) l₁₇) ∷ ‵ (froom (sliceTy (tyRef erased mut record-type)) l₁₆ 0) ∷ ‵ (fdies (sliceTy (tyRef erased mut record-type)) l₁₆)
-          ∷ ‵ (froom (tyRef erased mut record-type) l₁₅ 0) ∷ ‵ (fdies (tyRef erased mut record-type) l₁₅) ∷ ‵ (froom tyBool l₁₄ 0) ∷ ‵ (fdies tyBool l₁₄)
-          ∷ ‵ (froom word l₁₃ 0) ∷ ‵ (fdies word l₁₃) ∷ ‵ (froom word l₁₂ 0) ∷ ‵ (fdies word l₁₂)
-          ∷ ‵ (froom Pn′.mir l₁₁ 0) ∷ ‵ (fdies Pn′.mir l₁₁) ∷ ‵ (froom word l₁₀ 0) ∷ ‵ (fdies word l₁₀)
-          ∷ ‵ (froom J′.mir l₉ 0) ∷ ‵ (fdies J′.mir l₉) ∷ ‵ (fat fullShare (sliceTy (tyRef (named 6) mut half)) l₈ 0 (sliceVal (xr .ptr) (length (xr .now)))) ∷ ‵ (fdies (sliceTy (tyRef (named 6) mut half)) l₈)
-          ∷ ‵ (fat fullShare (sliceTy (tyRef (named 5) mut half)) l₇ 0 (sliceVal (xl .ptr) (length (xl .now)))) ∷ ‵ (fdies (sliceTy (tyRef (named 5) mut half)) l₇) ∷ ‵ (fat fullShare (sliceTy (tyRef (named 4) mut record-type)) l₆ 0 (sliceVal (xa .ptr) (length (xa .now)))) ∷ ‵ (fdies (sliceTy (tyRef (named 4) mut record-type)) l₆)
-          ∷ ‵ (fat fullShare (sliceTy (tyRef (named 3) imm half)) l₅ 0 (sliceVal (xh .ptr) (length (xh .now)))) ∷ ‵ (fdies (sliceTy (tyRef (named 3) imm half)) l₅) ∷ ‵ (fat fullShare (sliceTy (tyRef (named 2) imm half)) l₄ 0 (sliceVal (xc .ptr) (length (xc .now)))) ∷ ‵ (fdies (sliceTy (tyRef (named 2) imm half)) l₄)
-          ∷ ‵ (fat fullShare (sliceTy (tyRef (named 1) imm record-type)) l₃ 0 (sliceVal (xf .ptr) (length (xf .now)))) ∷ ‵ (fdies (sliceTy (tyRef (named 1) imm record-type)) l₃) ∷ ‵ (fat fullShare Hd′.mir l₂ 0 (low-head head)) ∷ ‵ (fdies Hd′.mir l₂)
-          ∷ ‵ (fat fullShare (sliceTy (tyRef (named 0) imm half)) l₁ 0 (sliceVal (xs .ptr) (length (xs .now)))) ∷ ‵ (fdies (sliceTy (tyRef (named 0) imm half)) l₁) ∷ ‵ (froom Ex′.mir l₀ 0) ∷ ‵ (fdies Ex′.mir l₀) ∷ []) ∵ exec ! (𝓣 .C) (𝓣 .Λ) En mir.t-1 (atRet En Post) $
+          qed W (Held (‵ (Lends.Own T.the-row (xa .ptr .0) (xa .ptr .1) (length (xa .now)) (named 0) κa (xa .name) (xa .now))) (‵ (Lends.Own u32 (xl .ptr .0) (xl .ptr .1) (length (xl .now)) (named 0) κl (xl .name) (xl .now))) (‵ (Lends.Own u32 (xr .ptr .0) (xr .ptr .1) (length (xr .now)) (named 0) κr (xr .name) (xr .now))) (‵ (froom word l₁₃ 0)) (‵ (froom word l₁₂ 0)) (‵ (froom Pn′.mir l₁₁ 0)) (‵ (froom word l₁₀ 0)) (‵ (froom J′.mir l₉ 0)) (‵ (froom Ex′.mir l₀ 0))) ∵ exec ! (𝓣 .C) (𝓣 .Λ) En mir.t-1 (atRet En Post) $
           nothing ! $
           move ! (7 ∷ 0 ∷ []) $
           join ! $

@@ -149,104 +149,43 @@ module _ {M : Type 1} (𝓤 : URA M) (H : Heap 𝓤) (A : Atoms 𝓤) (W : Given
       abbrev En : Env 𝓤 H
       En = (Ex′.mir, l₀) ∷ ((sliceTy (tyRef (named 0) imm half)), l₁) ∷ (Hd′.mir, l₂) ∷ ((sliceTy (tyRef (named 1) imm record-type)), l₃) ∷ ((sliceTy (tyRef (named 2) imm half)), l₄) ∷ ((sliceTy (tyRef (named 3) imm half)), l₅) ∷ ((sliceTy (tyRef (named 4) mut record-type)), l₆) ∷ ((sliceTy (tyRef (named 5) mut half)), l₇) ∷ ((sliceTy (tyRef (named 6) mut half)), l₈) ∷ (Lf′.mir, l₉) ∷ (word, l₁₀) ∷ (word, l₁₁) ∷ (T′.mir, l₁₂) ∷ ((tyRef erased mut record-type), l₁₃) ∷ ((sliceTy (tyRef erased mut record-type)), l₁₄) ∷ ((tyRef erased mut half), l₁₅) ∷ ((sliceTy (tyRef erased mut half)), l₁₆) ∷ ((tyRef erased mut half), l₁₇) ∷ ((sliceTy (tyRef erased mut half)), l₁₈) ∷ ((tyRef erased imm record-type), l₁₉) ∷ ((sliceTy (tyRef erased imm record-type)), l₂₀) ∷ []
 
-      go-6 : (u : Lift) (lifted : Lifts (head .window) (head .width) (head .windows) u) (g-u : Is Lf.the-row u (low-lift u ∷ [])) (n : ℕ) (za : List Row) (zl : List ℕ) (zr : List ℕ) (made : (n ≡ length (extended (indexOf (u .window) (u .width) (u .old) (xf .now) (xc .now) (xh .now)) (xs .now) .rows)) × HoldsExtended (indexOf (u .window) (u .width) (u .old) (xf .now) (xc .now) (xh .now)) (xs .now) (buffers (xa .now) (xl .now) (xr .now)) (buffers za zl zr)) (g-n : n < 2 ^ 64) (long-a : length za ≡ length (xa .now)) (long-l : length zl ≡ length (xl .now)) (long-r : length zr ≡ length (xr .now)) (k : ℕ) (is-k : k ≡ n - 1) (g-k : k < 2 ^ 64) (row : Row) (is-row : row ≡ getD za k zeroRow) (g-row : Good row) (t : Extended) (is-t : t ≡ indexAs (windowCount (length (xs .now)) (head .window)) head n row) (g-t : Is Ex.the-row t (low-extended t ∷ [])) → ent 𝓤 (⋆ 𝓤 H A (‵ (flft κs qs) ∷ ‵ (ShrSlice (named 0) κs i32 .own xs (sliceVal (xs .ptr) (length (xs .now)) ∷ [])) ∷ ‵ (flft κf qf) ∷ ‵ (ShrSlice (named 0) κf T.the-row .own xf (sliceVal (xf .ptr) (length (xf .now)) ∷ []))
+      -- what is had between two calls: what the slices own, and the locals, by those that change
+      abbrev Held : Item 𝓤 → Item 𝓤 → Item 𝓤 → Item 𝓤 → Item 𝓤 → Item 𝓤 → Item 𝓤 → Item 𝓤 → List (Item 𝓤)
+      Held i₁ i₂ i₃ i₄ i₅ i₆ i₇ i₈ = ‵ (flft κs qs) ∷ ‵ (ShrSlice (named 0) κs i32 .own xs (sliceVal (xs .ptr) (length (xs .now)) ∷ [])) ∷ ‵ (flft κf qf) ∷ ‵ (ShrSlice (named 0) κf T.the-row .own xf (sliceVal (xf .ptr) (length (xf .now)) ∷ []))
           ∷ ‵ (flft κc qc) ∷ ‵ (ShrSlice (named 0) κc u32 .own xc (sliceVal (xc .ptr) (length (xc .now)) ∷ [])) ∷ ‵ (flft κh qh) ∷ ‵ (ShrSlice (named 0) κh u32 .own xh (sliceVal (xh .ptr) (length (xh .now)) ∷ []))
-          ∷ ‵ (flft κa qa) ∷ ‵ (Lends.Own T.the-row (xa .ptr .0) (xa .ptr .1) (length (xa .now)) (named 0) κa (xa .name) za) ∷ ‵ (flft κl ql) ∷ ‵ (Lends.Own u32 (xl .ptr .0) (xl .ptr .1) (length (xl .now)) (named 0) κl (xl .name) zl)
-          ∷ ‵ (flft κr qr) ∷ ‵ (Lends.Own u32 (xr .ptr .0) (xr .ptr .1) (length (xr .now)) (named 0) κr (xr .name) zr) ∷ ‵ (froom (sliceTy (tyRef erased imm record-type)) l₂₀ 0) ∷ ‵ (fdies (sliceTy (tyRef erased imm record-type)) l₂₀)
+          ∷ ‵ (flft κa qa) ∷ i₁ ∷ ‵ (flft κl ql) ∷ i₂
+          ∷ ‵ (flft κr qr) ∷ i₃ ∷ ‵ (froom (sliceTy (tyRef erased imm record-type)) l₂₀ 0) ∷ ‵ (fdies (sliceTy (tyRef erased imm record-type)) l₂₀)
           ∷ ‵ (froom (tyRef erased imm record-type) l₁₉ 0) ∷ ‵ (fdies (tyRef erased imm record-type) l₁₉) ∷ ‵ (froom (sliceTy (tyRef erased mut half)) l₁₈ 0) ∷ ‵ (fdies (sliceTy (tyRef erased mut half)) l₁₈)
           ∷ ‵ (froom (tyRef erased mut half) l₁₇ 0) ∷ ‵ (fdies (tyRef erased mut half) l₁₇) ∷ ‵ (froom (sliceTy (tyRef erased mut half)) l₁₆ 0) ∷ ‵ (fdies (sliceTy (tyRef erased mut half)) l₁₆)
           ∷ ‵ (froom (tyRef erased mut half) l₁₅ 0) ∷ ‵ (fdies (tyRef erased mut half) l₁₅) ∷ ‵ (froom (sliceTy (tyRef erased mut record-type)) l₁₄ 0) ∷ ‵ (fdies (sliceTy (tyRef erased mut record-type)) l₁₄)
-          ∷ ‵ (froom (tyRef erased mut record-type) l₁₃ 0) ∷ ‵ (fdies (tyRef erased mut record-type) l₁₃) ∷ ‵ (fat fullShare T′.mir l₁₂ 0 (low row)) ∷ ‵ (fdies T′.mir l₁₂)
-          ∷ ‵ (fat fullShare word l₁₁ 0 (vint w64 k)) ∷ ‵ (fdies word l₁₁) ∷ ‵ (fat fullShare word l₁₀ 0 (vint w64 n)) ∷ ‵ (fdies word l₁₀)
-          ∷ ‵ (fat fullShare Lf′.mir l₉ 0 (low-lift u)) ∷ ‵ (fdies Lf′.mir l₉) ∷ ‵ (fat fullShare (sliceTy (tyRef (named 6) mut half)) l₈ 0 (sliceVal (xr .ptr) (length (xr .now)))) ∷ ‵ (fdies (sliceTy (tyRef (named 6) mut half)) l₈)
+          ∷ ‵ (froom (tyRef erased mut record-type) l₁₃ 0) ∷ ‵ (fdies (tyRef erased mut record-type) l₁₃) ∷ i₄ ∷ ‵ (fdies T′.mir l₁₂)
+          ∷ i₅ ∷ ‵ (fdies word l₁₁) ∷ i₆ ∷ ‵ (fdies word l₁₀)
+          ∷ i₇ ∷ ‵ (fdies Lf′.mir l₉) ∷ ‵ (fat fullShare (sliceTy (tyRef (named 6) mut half)) l₈ 0 (sliceVal (xr .ptr) (length (xr .now)))) ∷ ‵ (fdies (sliceTy (tyRef (named 6) mut half)) l₈)
           ∷ ‵ (fat fullShare (sliceTy (tyRef (named 5) mut half)) l₇ 0 (sliceVal (xl .ptr) (length (xl .now)))) ∷ ‵ (fdies (sliceTy (tyRef (named 5) mut half)) l₇) ∷ ‵ (fat fullShare (sliceTy (tyRef (named 4) mut record-type)) l₆ 0 (sliceVal (xa .ptr) (length (xa .now)))) ∷ ‵ (fdies (sliceTy (tyRef (named 4) mut record-type)) l₆)
           ∷ ‵ (fat fullShare (sliceTy (tyRef (named 3) imm half)) l₅ 0 (sliceVal (xh .ptr) (length (xh .now)))) ∷ ‵ (fdies (sliceTy (tyRef (named 3) imm half)) l₅) ∷ ‵ (fat fullShare (sliceTy (tyRef (named 2) imm half)) l₄ 0 (sliceVal (xc .ptr) (length (xc .now)))) ∷ ‵ (fdies (sliceTy (tyRef (named 2) imm half)) l₄)
           ∷ ‵ (fat fullShare (sliceTy (tyRef (named 1) imm record-type)) l₃ 0 (sliceVal (xf .ptr) (length (xf .now)))) ∷ ‵ (fdies (sliceTy (tyRef (named 1) imm record-type)) l₃) ∷ ‵ (fat fullShare Hd′.mir l₂ 0 (low-head head)) ∷ ‵ (fdies Hd′.mir l₂)
-          ∷ ‵ (fat fullShare (sliceTy (tyRef (named 0) imm half)) l₁ 0 (sliceVal (xs .ptr) (length (xs .now)))) ∷ ‵ (fdies (sliceTy (tyRef (named 0) imm half)) l₁) ∷ ‵ (fat fullShare Ex′.mir l₀ 0 (low-extended t)) ∷ ‵ (fdies Ex′.mir l₀) ∷ [])) (Wp 𝓤 H (𝓣 .C) (𝓣 .Λ) En mir.t-14 (atReturn 𝓤 H En Post))
+          ∷ ‵ (fat fullShare (sliceTy (tyRef (named 0) imm half)) l₁ 0 (sliceVal (xs .ptr) (length (xs .now)))) ∷ ‵ (fdies (sliceTy (tyRef (named 0) imm half)) l₁) ∷ i₈ ∷ ‵ (fdies Ex′.mir l₀) ∷ []
+
+      go-6 : (u : Lift) (lifted : Lifts (head .window) (head .width) (head .windows) u) (g-u : Is Lf.the-row u (low-lift u ∷ [])) (n : ℕ) (za : List Row) (zl : List ℕ) (zr : List ℕ) (made : (n ≡ length (extended (indexOf (u .window) (u .width) (u .old) (xf .now) (xc .now) (xh .now)) (xs .now) .rows)) × HoldsExtended (indexOf (u .window) (u .width) (u .old) (xf .now) (xc .now) (xh .now)) (xs .now) (buffers (xa .now) (xl .now) (xr .now)) (buffers za zl zr)) (g-n : n < 2 ^ 64) (long-a : length za ≡ length (xa .now)) (long-l : length zl ≡ length (xl .now)) (long-r : length zr ≡ length (xr .now)) (k : ℕ) (is-k : k ≡ n - 1) (g-k : k < 2 ^ 64) (row : Row) (is-row : row ≡ getD za k zeroRow) (g-row : Good row) (t : Extended) (is-t : t ≡ indexAs (windowCount (length (xs .now)) (head .window)) head n row) (g-t : Is Ex.the-row t (low-extended t ∷ [])) → ent 𝓤 (⋆ 𝓤 H A (Held (‵ (Lends.Own T.the-row (xa .ptr .0) (xa .ptr .1) (length (xa .now)) (named 0) κa (xa .name) za)) (‵ (Lends.Own u32 (xl .ptr .0) (xl .ptr .1) (length (xl .now)) (named 0) κl (xl .name) zl)) (‵ (Lends.Own u32 (xr .ptr .0) (xr .ptr .1) (length (xr .now)) (named 0) κr (xr .name) zr)) (‵ (fat fullShare T′.mir l₁₂ 0 (low row))) (‵ (fat fullShare word l₁₁ 0 (vint w64 k))) (‵ (fat fullShare word l₁₀ 0 (vint w64 n))) (‵ (fat fullShare Lf′.mir l₉ 0 (low-lift u))) (‵ (fat fullShare Ex′.mir l₀ 0 (low-extended t))))) (Wp 𝓤 H (𝓣 .C) (𝓣 .Λ) En mir.t-14 (atReturn 𝓤 H En Post))
       go-6 u lifted g-u n za zl zr made g-n long-a long-l long-r k is-k g-k row is-row g-row t is-t g-t =
-          qed W (‵ (flft κs qs) ∷ ‵ (ShrSlice (named 0) κs i32 .own xs (sliceVal (xs .ptr) (length (xs .now)) ∷ [])) ∷ ‵ (flft κf qf) ∷ ‵ (ShrSlice (named 0) κf T.the-row .own xf (sliceVal (xf .ptr) (length (xf .now)) ∷ []))
-          ∷ ‵ (flft κc qc) ∷ ‵ (ShrSlice (named 0) κc u32 .own xc (sliceVal (xc .ptr) (length (xc .now)) ∷ [])) ∷ ‵ (flft κh qh) ∷ ‵ (ShrSlice (named 0) κh u32 .own xh (sliceVal (xh .ptr) (length (xh .now)) ∷ []))
-          ∷ ‵ (flft κa qa) ∷ ‵ (Lends.Own T.the-row (xa .ptr .0) (xa .ptr .1) (length (xa .now)) (named 0) κa (xa .name) za) ∷ ‵ (flft κl ql) ∷ ‵ (Lends.Own u32 (xl .ptr .0) (xl .ptr .1) (length (xl .now)) (named 0) κl (xl .name) zl)
-          ∷ ‵ (flft κr qr) ∷ ‵ (Lends.Own u32 (xr .ptr .0) (xr .ptr .1) (length (xr .now)) (named 0) κr (xr .name) zr) ∷ ‵ (froom (sliceTy (tyRef erased imm record-type)) l₂₀ 0) ∷ ‵ (fdies (sliceTy (tyRef erased imm record-type)) l₂₀)
-          ∷ ‵ (froom (tyRef erased imm record-type) l₁₉ 0) ∷ ‵ (fdies (tyRef erased imm record-type) l₁₉) ∷ ‵ (froom (sliceTy (tyRef erased mut half)) l₁₈ 0) ∷ ‵ (fdies (sliceTy (tyRef erased mut half)) l₁₈)
-          ∷ ‵ (froom (tyRef erased mut half) l₁₇ 0) ∷ ‵ (fdies (tyRef erased mut half) l₁₇) ∷ ‵ (froom (sliceTy (tyRef erased mut half)) l₁₆ 0) ∷ ‵ (fdies (sliceTy (tyRef erased mut half)) l₁₆)
-          ∷ ‵ (froom (tyRef erased mut half) l₁₅ 0) ∷ ‵ (fdies (tyRef erased mut half) l₁₅) ∷ ‵ (froom (sliceTy (tyRef erased mut record-type)) l₁₄ 0) ∷ ‵ (fdies (sliceTy (tyRef erased mut record-type)) l₁₄)
-          ∷ ‵ (froom (tyRef erased mut record-type) l₁₃ 0) ∷ ‵ (fdies (tyRef erased mut record-type) l₁₃) ∷ ‵ (fat fullShare T′.mir l₁₂ 0 (low row)) ∷ ‵ (fdies T′.mir l₁₂)
-          ∷ ‵ (fat fullShare word l₁₁ 0 (vint w64 k)) ∷ ‵ (fdies word l₁₁) ∷ ‵ (fat fullShare word l₁₀ 0 (vint w64 n)) ∷ ‵ (fdies word l₁₀)
-          ∷ ‵ (fat fullShare Lf′.mir l₉ 0 (low-lift u)) ∷ ‵ (fdies Lf′.mir l₉) ∷ ‵ (fat fullShare (sliceTy (tyRef (named 6) mut half)) l₈ 0 (sliceVal (xr .ptr) (length (xr .now)))) ∷ ‵ (fdies (sliceTy (tyRef (named 6) mut half)) l₈)
-          ∷ ‵ (fat fullShare (sliceTy (tyRef (named 5) mut half)) l₇ 0 (sliceVal (xl .ptr) (length (xl .now)))) ∷ ‵ (fdies (sliceTy (tyRef (named 5) mut half)) l₇) ∷ ‵ (fat fullShare (sliceTy (tyRef (named 4) mut record-type)) l₆ 0 (sliceVal (xa .ptr) (length (xa .now)))) ∷ ‵ (fdies (sliceTy (tyRef (named 4) mut record-type)) l₆)
-          ∷ ‵ (fat fullShare (sliceTy (tyRef (named 3) imm half)) l₅ 0 (sliceVal (xh .ptr) (length (xh .now)))) ∷ ‵ (fdies (sliceTy (tyRef (named 3) imm half)) l₅) ∷ ‵ (fat fullShare (sliceTy (tyRef (named 2) imm half)) l₄ 0 (sliceVal (xc .ptr) (length (xc .now)))) ∷ ‵ (fdies (sliceTy (tyRef (named 2) imm half)) l₄)
-          ∷ ‵ (fat fullShare (sliceTy (tyRef (named 1) imm record-type)) l₃ 0 (sliceVal (xf .ptr) (length (xf .now)))) ∷ ‵ (fdies (sliceTy (tyRef (named 1) imm record-type)) l₃) ∷ ‵ (fat fullShare Hd′.mir l₂ 0 (low-head head)) ∷ ‵ (fdies Hd′.mir l₂)
-          ∷ ‵ (fat fullShare (sliceTy (tyRef (named 0) imm half)) l₁ 0 (sliceVal (xs .ptr) (length (xs .now)))) ∷ ‵ (fdies (sliceTy (tyRef (named 0) imm half)) l₁) ∷ ‵ (fat fullShare Ex′.mir l₀ 0 (low-extended t)) ∷ ‵ (fdies Ex′.mir l₀) ∷ []) ∵ exec ! (𝓣 .C) (𝓣 .Λ) En mir.t-14 (atRet En Post) $
+          qed W (Held (‵ (Lends.Own T.the-row (xa .ptr .0) (xa .ptr .1) (length (xa .now)) (named 0) κa (xa .name) za)) (‵ (Lends.Own u32 (xl .ptr .0) (xl .ptr .1) (length (xl .now)) (named 0) κl (xl .name) zl)) (‵ (Lends.Own u32 (xr .ptr .0) (xr .ptr .1) (length (xr .now)) (named 0) κr (xr .name) zr)) (‵ (fat fullShare T′.mir l₁₂ 0 (low row))) (‵ (fat fullShare word l₁₁ 0 (vint w64 k))) (‵ (fat fullShare word l₁₀ 0 (vint w64 n))) (‵ (fat fullShare Lf′.mir l₉ 0 (low-lift u))) (‵ (fat fullShare Ex′.mir l₀ 0 (low-extended t)))) ∵ exec ! (𝓣 .C) (𝓣 .Λ) En mir.t-14 (atRet En Post) $
           returns ! (look ! 54 refl) $
           lose ! 54 refl refl $ lose ! 52 refl refl $ lose ! 50 refl refl $ lose ! 48 refl refl $ lose ! 46 refl refl $ lose ! 44 refl refl $ lose ! 42 refl refl $ lose ! 40 refl refl $ lose ! 38 refl refl $ lose ! 36 refl refl $ lose ! 34 refl refl $ lose ! 32 refl refl $ lose ! 30 refl refl $ lose-room ! 28 refl refl $ lose-room ! 26 refl refl $ lose-room ! 24 refl refl $ lose-room ! 22 refl refl $ lose-room ! 20 refl refl $ lose-room ! 18 refl refl $ lose-room ! 16 refl refl $ lose-room ! 14 refl refl $ free0 ! $
           keep ! (0 ∷ 2 ∷ 4 ∷ 6 ∷ 8 ∷ 10 ∷ 12 ∷ 9 ∷ 11 ∷ 13 ∷ []) $
           by ! (exits za long-a zl long-l zr long-r t g-t (kept u lifted n za zl zr made k is-k row is-row t is-t))
 
-      go-5 : (u : Lift) (lifted : Lifts (head .window) (head .width) (head .windows) u) (g-u : Is Lf.the-row u (low-lift u ∷ [])) (n : ℕ) (za : List Row) (zl : List ℕ) (zr : List ℕ) (made : (n ≡ length (extended (indexOf (u .window) (u .width) (u .old) (xf .now) (xc .now) (xh .now)) (xs .now) .rows)) × HoldsExtended (indexOf (u .window) (u .width) (u .old) (xf .now) (xc .now) (xh .now)) (xs .now) (buffers (xa .now) (xl .now) (xr .now)) (buffers za zl zr)) (g-n : n < 2 ^ 64) (long-a : length za ≡ length (xa .now)) (long-l : length zl ≡ length (xl .now)) (long-r : length zr ≡ length (xr .now)) (k : ℕ) (is-k : k ≡ n - 1) (g-k : k < 2 ^ 64) (row : Row) (is-row : row ≡ getD za k zeroRow) (g-row : Good row) → ent 𝓤 (⋆ 𝓤 H A (‵ (flft κs qs) ∷ ‵ (ShrSlice (named 0) κs i32 .own xs (sliceVal (xs .ptr) (length (xs .now)) ∷ [])) ∷ ‵ (flft κf qf) ∷ ‵ (ShrSlice (named 0) κf T.the-row .own xf (sliceVal (xf .ptr) (length (xf .now)) ∷ []))
-          ∷ ‵ (flft κc qc) ∷ ‵ (ShrSlice (named 0) κc u32 .own xc (sliceVal (xc .ptr) (length (xc .now)) ∷ [])) ∷ ‵ (flft κh qh) ∷ ‵ (ShrSlice (named 0) κh u32 .own xh (sliceVal (xh .ptr) (length (xh .now)) ∷ []))
-          ∷ ‵ (flft κa qa) ∷ ‵ (Lends.Own T.the-row (xa .ptr .0) (xa .ptr .1) (length (xa .now)) (named 0) κa (xa .name) za) ∷ ‵ (flft κl ql) ∷ ‵ (Lends.Own u32 (xl .ptr .0) (xl .ptr .1) (length (xl .now)) (named 0) κl (xl .name) zl)
-          ∷ ‵ (flft κr qr) ∷ ‵ (Lends.Own u32 (xr .ptr .0) (xr .ptr .1) (length (xr .now)) (named 0) κr (xr .name) zr) ∷ ‵ (froom (sliceTy (tyRef erased imm record-type)) l₂₀ 0) ∷ ‵ (fdies (sliceTy (tyRef erased imm record-type)) l₂₀)
-          ∷ ‵ (froom (tyRef erased imm record-type) l₁₉ 0) ∷ ‵ (fdies (tyRef erased imm record-type) l₁₉) ∷ ‵ (froom (sliceTy (tyRef erased mut half)) l₁₈ 0) ∷ ‵ (fdies (sliceTy (tyRef erased mut half)) l₁₈)
-          ∷ ‵ (froom (tyRef erased mut half) l₁₇ 0) ∷ ‵ (fdies (tyRef erased mut half) l₁₇) ∷ ‵ (froom (sliceTy (tyRef erased mut half)) l₁₆ 0) ∷ ‵ (fdies (sliceTy (tyRef erased mut half)) l₁₆)
-          ∷ ‵ (froom (tyRef erased mut half) l₁₅ 0) ∷ ‵ (fdies (tyRef erased mut half) l₁₅) ∷ ‵ (froom (sliceTy (tyRef erased mut record-type)) l₁₄ 0) ∷ ‵ (fdies (sliceTy (tyRef erased mut record-type)) l₁₄)
-          ∷ ‵ (froom (tyRef erased mut record-type) l₁₃ 0) ∷ ‵ (fdies (tyRef erased mut record-type) l₁₃) ∷ ‵ (fat fullShare T′.mir l₁₂ 0 (low row)) ∷ ‵ (fdies T′.mir l₁₂)
-          ∷ ‵ (fat fullShare word l₁₁ 0 (vint w64 k)) ∷ ‵ (fdies word l₁₁) ∷ ‵ (fat fullShare word l₁₀ 0 (vint w64 n)) ∷ ‵ (fdies word l₁₀)
-          ∷ ‵ (fat fullShare Lf′.mir l₉ 0 (low-lift u)) ∷ ‵ (fdies Lf′.mir l₉) ∷ ‵ (fat fullShare (sliceTy (tyRef (named 6) mut half)) l₈ 0 (sliceVal (xr .ptr) (length (xr .now)))) ∷ ‵ (fdies (sliceTy (tyRef (named 6) mut half)) l₈)
-          ∷ ‵ (fat fullShare (sliceTy (tyRef (named 5) mut half)) l₇ 0 (sliceVal (xl .ptr) (length (xl .now)))) ∷ ‵ (fdies (sliceTy (tyRef (named 5) mut half)) l₇) ∷ ‵ (fat fullShare (sliceTy (tyRef (named 4) mut record-type)) l₆ 0 (sliceVal (xa .ptr) (length (xa .now)))) ∷ ‵ (fdies (sliceTy (tyRef (named 4) mut record-type)) l₆)
-          ∷ ‵ (fat fullShare (sliceTy (tyRef (named 3) imm half)) l₅ 0 (sliceVal (xh .ptr) (length (xh .now)))) ∷ ‵ (fdies (sliceTy (tyRef (named 3) imm half)) l₅) ∷ ‵ (fat fullShare (sliceTy (tyRef (named 2) imm half)) l₄ 0 (sliceVal (xc .ptr) (length (xc .now)))) ∷ ‵ (fdies (sliceTy (tyRef (named 2) imm half)) l₄)
-          ∷ ‵ (fat fullShare (sliceTy (tyRef (named 1) imm record-type)) l₃ 0 (sliceVal (xf .ptr) (length (xf .now)))) ∷ ‵ (fdies (sliceTy (tyRef (named 1) imm record-type)) l₃) ∷ ‵ (fat fullShare Hd′.mir l₂ 0 (low-head head)) ∷ ‵ (fdies Hd′.mir l₂)
-          ∷ ‵ (fat fullShare (sliceTy (tyRef (named 0) imm half)) l₁ 0 (sliceVal (xs .ptr) (length (xs .now)))) ∷ ‵ (fdies (sliceTy (tyRef (named 0) imm half)) l₁) ∷ ‵ (froom Ex′.mir l₀ 0) ∷ ‵ (fdies Ex′.mir l₀) ∷ [])) (Wp 𝓤 H (𝓣 .C) (𝓣 .Λ) En mir.t-13 (atReturn 𝓤 H En Post))
+      go-5 : (u : Lift) (lifted : Lifts (head .window) (head .width) (head .windows) u) (g-u : Is Lf.the-row u (low-lift u ∷ [])) (n : ℕ) (za : List Row) (zl : List ℕ) (zr : List ℕ) (made : (n ≡ length (extended (indexOf (u .window) (u .width) (u .old) (xf .now) (xc .now) (xh .now)) (xs .now) .rows)) × HoldsExtended (indexOf (u .window) (u .width) (u .old) (xf .now) (xc .now) (xh .now)) (xs .now) (buffers (xa .now) (xl .now) (xr .now)) (buffers za zl zr)) (g-n : n < 2 ^ 64) (long-a : length za ≡ length (xa .now)) (long-l : length zl ≡ length (xl .now)) (long-r : length zr ≡ length (xr .now)) (k : ℕ) (is-k : k ≡ n - 1) (g-k : k < 2 ^ 64) (row : Row) (is-row : row ≡ getD za k zeroRow) (g-row : Good row) → ent 𝓤 (⋆ 𝓤 H A (Held (‵ (Lends.Own T.the-row (xa .ptr .0) (xa .ptr .1) (length (xa .now)) (named 0) κa (xa .name) za)) (‵ (Lends.Own u32 (xl .ptr .0) (xl .ptr .1) (length (xl .now)) (named 0) κl (xl .name) zl)) (‵ (Lends.Own u32 (xr .ptr .0) (xr .ptr .1) (length (xr .now)) (named 0) κr (xr .name) zr)) (‵ (fat fullShare T′.mir l₁₂ 0 (low row))) (‵ (fat fullShare word l₁₁ 0 (vint w64 k))) (‵ (fat fullShare word l₁₀ 0 (vint w64 n))) (‵ (fat fullShare Lf′.mir l₉ 0 (low-lift u))) (‵ (froom Ex′.mir l₀ 0)))) (Wp 𝓤 H (𝓣 .C) (𝓣 .Λ) En mir.t-13 (atReturn 𝓤 H En Post))
       go-5 u lifted g-u n za zl zr made g-n long-a long-l long-r k is-k g-k row is-row g-row =
-          qed W (‵ (flft κs qs) ∷ ‵ (ShrSlice (named 0) κs i32 .own xs (sliceVal (xs .ptr) (length (xs .now)) ∷ [])) ∷ ‵ (flft κf qf) ∷ ‵ (ShrSlice (named 0) κf T.the-row .own xf (sliceVal (xf .ptr) (length (xf .now)) ∷ []))
-          ∷ ‵ (flft κc qc) ∷ ‵ (ShrSlice (named 0) κc u32 .own xc (sliceVal (xc .ptr) (length (xc .now)) ∷ [])) ∷ ‵ (flft κh qh) ∷ ‵ (ShrSlice (named 0) κh u32 .own xh (sliceVal (xh .ptr) (length (xh .now)) ∷ []))
-          ∷ ‵ (flft κa qa) ∷ ‵ (Lends.Own T.the-row (xa .ptr .0) (xa .ptr .1) (length (xa .now)) (named 0) κa (xa .name) za) ∷ ‵ (flft κl ql) ∷ ‵ (Lends.Own u32 (xl .ptr .0) (xl .ptr .1) (length (xl .now)) (named 0) κl (xl .name) zl)
-          ∷ ‵ (flft κr qr) ∷ ‵ (Lends.Own u32 (xr .ptr .0) (xr .ptr .1) (length (xr .now)) (named 0) κr (xr .name) zr) ∷ ‵ (froom (sliceTy (tyRef erased imm record-type)) l₂₀ 0) ∷ ‵ (fdies (sliceTy (tyRef erased imm record-type)) l₂₀)
-          ∷ ‵ (froom (tyRef erased imm record-type) l₁₉ 0) ∷ ‵ (fdies (tyRef erased imm record-type) l₁₉) ∷ ‵ (froom (sliceTy (tyRef erased mut half)) l₁₈ 0) ∷ ‵ (fdies (sliceTy (tyRef erased mut half)) l₁₈)
-          ∷ ‵ (froom (tyRef erased mut half) l₁₇ 0) ∷ ‵ (fdies (tyRef erased mut half) l₁₇) ∷ ‵ (froom (sliceTy (tyRef erased mut half)) l₁₆ 0) ∷ ‵ (fdies (sliceTy (tyRef erased mut half)) l₁₆)
-          ∷ ‵ (froom (tyRef erased mut half) l₁₅ 0) ∷ ‵ (fdies (tyRef erased mut half) l₁₅) ∷ ‵ (froom (sliceTy (tyRef erased mut record-type)) l₁₄ 0) ∷ ‵ (fdies (sliceTy (tyRef erased mut record-type)) l₁₄)
-          ∷ ‵ (froom (tyRef erased mut record-type) l₁₃ 0) ∷ ‵ (fdies (tyRef erased mut record-type) l₁₃) ∷ ‵ (fat fullShare T′.mir l₁₂ 0 (low row)) ∷ ‵ (fdies T′.mir l₁₂)
-          ∷ ‵ (fat fullShare word l₁₁ 0 (vint w64 k)) ∷ ‵ (fdies word l₁₁) ∷ ‵ (fat fullShare word l₁₀ 0 (vint w64 n)) ∷ ‵ (fdies word l₁₀)
-          ∷ ‵ (fat fullShare Lf′.mir l₉ 0 (low-lift u)) ∷ ‵ (fdies Lf′.mir l₉) ∷ ‵ (fat fullShare (sliceTy (tyRef (named 6) mut half)) l₈ 0 (sliceVal (xr .ptr) (length (xr .now)))) ∷ ‵ (fdies (sliceTy (tyRef (named 6) mut half)) l₈)
-          ∷ ‵ (fat fullShare (sliceTy (tyRef (named 5) mut half)) l₇ 0 (sliceVal (xl .ptr) (length (xl .now)))) ∷ ‵ (fdies (sliceTy (tyRef (named 5) mut half)) l₇) ∷ ‵ (fat fullShare (sliceTy (tyRef (named 4) mut record-type)) l₆ 0 (sliceVal (xa .ptr) (length (xa .now)))) ∷ ‵ (fdies (sliceTy (tyRef (named 4) mut record-type)) l₆)
-          ∷ ‵ (fat fullShare (sliceTy (tyRef (named 3) imm half)) l₅ 0 (sliceVal (xh .ptr) (length (xh .now)))) ∷ ‵ (fdies (sliceTy (tyRef (named 3) imm half)) l₅) ∷ ‵ (fat fullShare (sliceTy (tyRef (named 2) imm half)) l₄ 0 (sliceVal (xc .ptr) (length (xc .now)))) ∷ ‵ (fdies (sliceTy (tyRef (named 2) imm half)) l₄)
-          ∷ ‵ (fat fullShare (sliceTy (tyRef (named 1) imm record-type)) l₃ 0 (sliceVal (xf .ptr) (length (xf .now)))) ∷ ‵ (fdies (sliceTy (tyRef (named 1) imm record-type)) l₃) ∷ ‵ (fat fullShare Hd′.mir l₂ 0 (low-head head)) ∷ ‵ (fdies Hd′.mir l₂)
-          ∷ ‵ (fat fullShare (sliceTy (tyRef (named 0) imm half)) l₁ 0 (sliceVal (xs .ptr) (length (xs .now)))) ∷ ‵ (fdies (sliceTy (tyRef (named 0) imm half)) l₁) ∷ ‵ (froom Ex′.mir l₀ 0) ∷ ‵ (fdies Ex′.mir l₀) ∷ []) ∵ exec ! (𝓣 .C) (𝓣 .Λ) En mir.t-13 (atRet En Post) $
+          qed W (Held (‵ (Lends.Own T.the-row (xa .ptr .0) (xa .ptr .1) (length (xa .now)) (named 0) κa (xa .name) za)) (‵ (Lends.Own u32 (xl .ptr .0) (xl .ptr .1) (length (xl .now)) (named 0) κl (xl .name) zl)) (‵ (Lends.Own u32 (xr .ptr .0) (xr .ptr .1) (length (xr .now)) (named 0) κr (xr .name) zr)) (‵ (fat fullShare T′.mir l₁₂ 0 (low row))) (‵ (fat fullShare word l₁₁ 0 (vint w64 k))) (‵ (fat fullShare word l₁₀ 0 (vint w64 n))) (‵ (fat fullShare Lf′.mir l₉ 0 (low-lift u))) (‵ (froom Ex′.mir l₀ 0))) ∵ exec ! (𝓣 .C) (𝓣 .Λ) En mir.t-13 (atRet En Post) $
           move ! (0 ∷ 1 ∷ []) $
           calls-answer ! fm mem run known-answer κs qs xs head n row g-head g-n g-row (sizes (xs .now) head (xf .now) (xc .now) (xh .now) (buffers (xa .now) (xl .now) (xr .now)) asked) (and-then ! (load ! (from ! (stop !)) (look ! 52 refl)) (and-then ! (load ! (from ! (stop !)) (look ! 50 refl)) (and-then ! (load ! (from ! (stop !)) (look ! 34 refl)) (and-then ! (load ! (from ! (stop !)) (look ! 30 refl)) (no-more !))))) (λ t is-t g-t.
           land ! (from ! (stop !)) (init ! 54 refl (EL.lawful Ex.the-type Ex′.the-laws 𝓤 H A W tt .typed t _ g-t .0)) $
           keep ! (0 ∷ 1 ∷ 2 ∷ 3 ∷ 4 ∷ 5 ∷ 6 ∷ 7 ∷ 8 ∷ 9 ∷ 10 ∷ 11 ∷ 12 ∷ 13 ∷ 14 ∷ 15 ∷ 16 ∷ 17 ∷ 18 ∷ 19 ∷ 20 ∷ 21 ∷ 22 ∷ 23 ∷ 24 ∷ 25 ∷ 26 ∷ 27 ∷ 28 ∷ 29 ∷ 30 ∷ 31 ∷ 32 ∷ 33 ∷ 34 ∷ 35 ∷ 36 ∷ 37 ∷ 38 ∷ 39 ∷ 40 ∷ 41 ∷ 42 ∷ 43 ∷ 44 ∷ 45 ∷ 46 ∷ 47 ∷ 48 ∷ 49 ∷ 50 ∷ 51 ∷ 52 ∷ 53 ∷ 54 ∷ 55 ∷ []) $
           by ! (go-6 u lifted g-u n za zl zr made g-n long-a long-l long-r k is-k g-k row is-row g-row t is-t g-t))
 
-      go-4 : (u : Lift) (lifted : Lifts (head .window) (head .width) (head .windows) u) (g-u : Is Lf.the-row u (low-lift u ∷ [])) (n : ℕ) (za : List Row) (zl : List ℕ) (zr : List ℕ) (made : (n ≡ length (extended (indexOf (u .window) (u .width) (u .old) (xf .now) (xc .now) (xh .now)) (xs .now) .rows)) × HoldsExtended (indexOf (u .window) (u .width) (u .old) (xf .now) (xc .now) (xh .now)) (xs .now) (buffers (xa .now) (xl .now) (xr .now)) (buffers za zl zr)) (g-n : n < 2 ^ 64) (long-a : length za ≡ length (xa .now)) (long-l : length zl ≡ length (xl .now)) (long-r : length zr ≡ length (xr .now)) (k : ℕ) (is-k : k ≡ n - 1) (g-k : k < 2 ^ 64) → ent 𝓤 (⋆ 𝓤 H A (‵ (flft κs qs) ∷ ‵ (ShrSlice (named 0) κs i32 .own xs (sliceVal (xs .ptr) (length (xs .now)) ∷ [])) ∷ ‵ (flft κf qf) ∷ ‵ (ShrSlice (named 0) κf T.the-row .own xf (sliceVal (xf .ptr) (length (xf .now)) ∷ []))
-          ∷ ‵ (flft κc qc) ∷ ‵ (ShrSlice (named 0) κc u32 .own xc (sliceVal (xc .ptr) (length (xc .now)) ∷ [])) ∷ ‵ (flft κh qh) ∷ ‵ (ShrSlice (named 0) κh u32 .own xh (sliceVal (xh .ptr) (length (xh .now)) ∷ []))
-          ∷ ‵ (flft κa qa) ∷ ‵ (Lends.Own T.the-row (xa .ptr .0) (xa .ptr .1) (length (xa .now)) (named 0) κa (xa .name) za) ∷ ‵ (flft κl ql) ∷ ‵ (Lends.Own u32 (xl .ptr .0) (xl .ptr .1) (length (xl .now)) (named 0) κl (xl .name) zl)
-          ∷ ‵ (flft κr qr) ∷ ‵ (Lends.Own u32 (xr .ptr .0) (xr .ptr .1) (length (xr .now)) (named 0) κr (xr .name) zr) ∷ ‵ (froom (sliceTy (tyRef erased imm record-type)) l₂₀ 0) ∷ ‵ (fdies (sliceTy (tyRef erased imm record-type)) l₂₀)
-          ∷ ‵ (froom (tyRef erased imm record-type) l₁₉ 0) ∷ ‵ (fdies (tyRef erased imm record-type) l₁₉) ∷ ‵ (froom (sliceTy (tyRef erased mut half)) l₁₈ 0) ∷ ‵ (fdies (sliceTy (tyRef erased mut half)) l₁₈)
-          ∷ ‵ (froom (tyRef erased mut half) l₁₇ 0) ∷ ‵ (fdies (tyRef erased mut half) l₁₇) ∷ ‵ (froom (sliceTy (tyRef erased mut half)) l₁₆ 0) ∷ ‵ (fdies (sliceTy (tyRef erased mut half)) l₁₆)
-          ∷ ‵ (froom (tyRef erased mut half) l₁₅ 0) ∷ ‵ (fdies (tyRef erased mut half) l₁₅) ∷ ‵ (froom (sliceTy (tyRef erased mut record-type)) l₁₄ 0) ∷ ‵ (fdies (sliceTy (tyRef erased mut record-type)) l₁₄)
-          ∷ ‵ (froom (tyRef erased mut record-type) l₁₃ 0) ∷ ‵ (fdies (tyRef erased mut record-type) l₁₃) ∷ ‵ (froom T′.mir l₁₂ 0) ∷ ‵ (fdies T′.mir l₁₂)
-          ∷ ‵ (fat fullShare word l₁₁ 0 (vint w64 k)) ∷ ‵ (fdies word l₁₁) ∷ ‵ (fat fullShare word l₁₀ 0 (vint w64 n)) ∷ ‵ (fdies word l₁₀)
-          ∷ ‵ (fat fullShare Lf′.mir l₉ 0 (low-lift u)) ∷ ‵ (fdies Lf′.mir l₉) ∷ ‵ (fat fullShare (sliceTy (tyRef (named 6) mut half)) l₈ 0 (sliceVal (xr .ptr) (length (xr .now)))) ∷ ‵ (fdies (sliceTy (tyRef (named 6) mut half)) l₈)
-          ∷ ‵ (fat fullShare (sliceTy (tyRef (named 5) mut half)) l₇ 0 (sliceVal (xl .ptr) (length (xl .now)))) ∷ ‵ (fdies (sliceTy (tyRef (named 5) mut half)) l₇) ∷ ‵ (fat fullShare (sliceTy (tyRef (named 4) mut record-type)) l₆ 0 (sliceVal (xa .ptr) (length (xa .now)))) ∷ ‵ (fdies (sliceTy (tyRef (named 4) mut record-type)) l₆)
-          ∷ ‵ (fat fullShare (sliceTy (tyRef (named 3) imm half)) l₅ 0 (sliceVal (xh .ptr) (length (xh .now)))) ∷ ‵ (fdies (sliceTy (tyRef (named 3) imm half)) l₅) ∷ ‵ (fat fullShare (sliceTy (tyRef (named 2) imm half)) l₄ 0 (sliceVal (xc .ptr) (length (xc .now)))) ∷ ‵ (fdies (sliceTy (tyRef (named 2) imm half)) l₄)
-          ∷ ‵ (fat fullShare (sliceTy (tyRef (named 1) imm record-type)) l₃ 0 (sliceVal (xf .ptr) (length (xf .now)))) ∷ ‵ (fdies (sliceTy (tyRef (named 1) imm record-type)) l₃) ∷ ‵ (fat fullShare Hd′.mir l₂ 0 (low-head head)) ∷ ‵ (fdies Hd′.mir l₂)
-          ∷ ‵ (fat fullShare (sliceTy (tyRef (named 0) imm half)) l₁ 0 (sliceVal (xs .ptr) (length (xs .now)))) ∷ ‵ (fdies (sliceTy (tyRef (named 0) imm half)) l₁) ∷ ‵ (froom Ex′.mir l₀ 0) ∷ ‵ (fdies Ex′.mir l₀) ∷ [])) (Wp 𝓤 H (𝓣 .C) (𝓣 .Λ) En mir.t-10 (atReturn 𝓤 H En Post))
+      go-4 : (u : Lift) (lifted : Lifts (head .window) (head .width) (head .windows) u) (g-u : Is Lf.the-row u (low-lift u ∷ [])) (n : ℕ) (za : List Row) (zl : List ℕ) (zr : List ℕ) (made : (n ≡ length (extended (indexOf (u .window) (u .width) (u .old) (xf .now) (xc .now) (xh .now)) (xs .now) .rows)) × HoldsExtended (indexOf (u .window) (u .width) (u .old) (xf .now) (xc .now) (xh .now)) (xs .now) (buffers (xa .now) (xl .now) (xr .now)) (buffers za zl zr)) (g-n : n < 2 ^ 64) (long-a : length za ≡ length (xa .now)) (long-l : length zl ≡ length (xl .now)) (long-r : length zr ≡ length (xr .now)) (k : ℕ) (is-k : k ≡ n - 1) (g-k : k < 2 ^ 64) → ent 𝓤 (⋆ 𝓤 H A (Held (‵ (Lends.Own T.the-row (xa .ptr .0) (xa .ptr .1) (length (xa .now)) (named 0) κa (xa .name) za)) (‵ (Lends.Own u32 (xl .ptr .0) (xl .ptr .1) (length (xl .now)) (named 0) κl (xl .name) zl)) (‵ (Lends.Own u32 (xr .ptr .0) (xr .ptr .1) (length (xr .now)) (named 0) κr (xr .name) zr)) (‵ (froom T′.mir l₁₂ 0)) (‵ (fat fullShare word l₁₁ 0 (vint w64 k))) (‵ (fat fullShare word l₁₀ 0 (vint w64 n))) (‵ (fat fullShare Lf′.mir l₉ 0 (low-lift u))) (‵ (froom Ex′.mir l₀ 0)))) (Wp 𝓤 H (𝓣 .C) (𝓣 .Λ) En mir.t-10 (atReturn 𝓤 H En Post))
       go-4 u lifted g-u n za zl zr made g-n long-a long-l long-r k is-k g-k =
-          qed W (‵ (flft κs qs) ∷ ‵ (ShrSlice (named 0) κs i32 .own xs (sliceVal (xs .ptr) (length (xs .now)) ∷ [])) ∷ ‵ (flft κf qf) ∷ ‵ (ShrSlice (named 0) κf T.the-row .own xf (sliceVal (xf .ptr) (length (xf .now)) ∷ []))
-          ∷ ‵ (flft κc qc) ∷ ‵ (ShrSlice (named 0) κc u32 .own xc (sliceVal (xc .ptr) (length (xc .now)) ∷ [])) ∷ ‵ (flft κh qh) ∷ ‵ (ShrSlice (named 0) κh u32 .own xh (sliceVal (xh .ptr) (length (xh .now)) ∷ []))
-          ∷ ‵ (flft κa qa) ∷ ‵ (Lends.Own T.the-row (xa .ptr .0) (xa .ptr .1) (length (xa .now)) (named 0) κa (xa .name) za) ∷ ‵ (flft κl ql) ∷ ‵ (Lends.Own u32 (xl .ptr .0) (xl .ptr .1) (length (xl .now)) (named 0) κl (xl .name) zl)
-          ∷ ‵ (flft κr qr) ∷ ‵ (Lends.Own u32 (xr .ptr .0) (xr .ptr .1) (length (xr .now)) (named 0) κr (xr .name) zr) ∷ ‵ (froom (sliceTy (tyRef erased imm record-type)) l₂₀ 0) ∷ ‵ (fdies (sliceTy (tyRef erased imm record-type)) l₂₀)
-          ∷ ‵ (froom (tyRef erased imm record-type) l₁₉ 0) ∷ ‵ (fdies (tyRef erased imm record-type) l₁₉) ∷ ‵ (froom (sliceTy (tyRef erased mut half)) l₁₈ 0) ∷ ‵ (fdies (sliceTy (tyRef erased mut half)) l₁₈)
-          ∷ ‵ (froom (tyRef erased mut half) l₁₇ 0) ∷ ‵ (fdies (tyRef erased mut half) l₁₇) ∷ ‵ (froom (sliceTy (tyRef erased mut half)) l₁₆ 0) ∷ ‵ (fdies (sliceTy (tyRef erased mut half)) l₁₆)
-          ∷ ‵ (froom (tyRef erased mut half) l₁₅ 0) ∷ ‵ (fdies (tyRef erased mut half) l₁₅) ∷ ‵ (froom (sliceTy (tyRef erased mut record-type)) l₁₄ 0) ∷ ‵ (fdies (sliceTy (tyRef erased mut record-type)) l₁₄)
-          ∷ ‵ (froom (tyRef erased mut record-type) l₁₃ 0) ∷ ‵ (fdies (tyRef erased mut record-type) l₁₃) ∷ ‵ (froom T′.mir l₁₂ 0) ∷ ‵ (fdies T′.mir l₁₂)
-          ∷ ‵ (fat fullShare word l₁₁ 0 (vint w64 k)) ∷ ‵ (fdies word l₁₁) ∷ ‵ (fat fullShare word l₁₀ 0 (vint w64 n)) ∷ ‵ (fdies word l₁₀)
-          ∷ ‵ (fat fullShare Lf′.mir l₉ 0 (low-lift u)) ∷ ‵ (fdies Lf′.mir l₉) ∷ ‵ (fat fullShare (sliceTy (tyRef (named 6) mut half)) l₈ 0 (sliceVal (xr .ptr) (length (xr .now)))) ∷ ‵ (fdies (sliceTy (tyRef (named 6) mut half)) l₈)
-          ∷ ‵ (fat fullShare (sliceTy (tyRef (named 5) mut half)) l₇ 0 (sliceVal (xl .ptr) (length (xl .now)))) ∷ ‵ (fdies (sliceTy (tyRef (named 5) mut half)) l₇) ∷ ‵ (fat fullShare (sliceTy (tyRef (named 4) mut record-type)) l₆ 0 (sliceVal (xa .ptr) (length (xa .now)))) ∷ ‵ (fdies (sliceTy (tyRef (named 4) mut record-type)) l₆)
-          ∷ ‵ (fat fullShare (sliceTy (tyRef (named 3) imm half)) l₅ 0 (sliceVal (xh .ptr) (length (xh .now)))) ∷ ‵ (fdies (sliceTy (tyRef (named 3) imm half)) l₅) ∷ ‵ (fat fullShare (sliceTy (tyRef (named 2) imm half)) l₄ 0 (sliceVal (xc .ptr) (length (xc .now)))) ∷ ‵ (fdies (sliceTy (tyRef (named 2) imm half)) l₄)
-          ∷ ‵ (fat fullShare (sliceTy (tyRef (named 1) imm record-type)) l₃ 0 (sliceVal (xf .ptr) (length (xf .now)))) ∷ ‵ (fdies (sliceTy (tyRef (named 1) imm record-type)) l₃) ∷ ‵ (fat fullShare Hd′.mir l₂ 0 (low-head head)) ∷ ‵ (fdies Hd′.mir l₂)
-          ∷ ‵ (fat fullShare (sliceTy (tyRef (named 0) imm half)) l₁ 0 (sliceVal (xs .ptr) (length (xs .now)))) ∷ ‵ (fdies (sliceTy (tyRef (named 0) imm half)) l₁) ∷ ‵ (froom Ex′.mir l₀ 0) ∷ ‵ (fdies Ex′.mir l₀) ∷ []) ∵ exec ! (𝓣 .C) (𝓣 .Λ) En mir.t-10 (atRet En Post) $
+          qed W (Held (‵ (Lends.Own T.the-row (xa .ptr .0) (xa .ptr .1) (length (xa .now)) (named 0) κa (xa .name) za)) (‵ (Lends.Own u32 (xl .ptr .0) (xl .ptr .1) (length (xl .now)) (named 0) κl (xl .name) zl)) (‵ (Lends.Own u32 (xr .ptr .0) (xr .ptr .1) (length (xr .now)) (named 0) κr (xr .name) zr)) (‵ (froom T′.mir l₁₂ 0)) (‵ (fat fullShare word l₁₁ 0 (vint w64 k))) (‵ (fat fullShare word l₁₀ 0 (vint w64 n))) (‵ (fat fullShare Lf′.mir l₉ 0 (low-lift u))) (‵ (froom Ex′.mir l₀ 0))) ∵ exec ! (𝓣 .C) (𝓣 .Λ) En mir.t-10 (atRet En Post) $
           assigns ! (addr ! (from ! (fld ! refl (hop ! (look-in ! 42 (sub ! 0 refl (whole !))) (stop !))))) (from ! (stop !)) (init ! 16 refl (tt, tt)) $
           assigns ! (agg ! (and-then ! (load ! (from ! (stop !)) (look ! 16 refl)) (and-then ! (load ! (from ! (fld ! refl (stop !))) (look-in ! 42 (sub ! 1 refl (whole !)))) (no-more !)))) (from ! (stop !)) (init ! 14 refl (tt, (tt, (record { fits = g-a .0 }, tt)))) $
           move ! (8 ∷ 9 ∷ []) $
@@ -256,69 +195,17 @@ module _ {M : Type 1} (𝓤 : URA M) (H : Heap 𝓤) (A : Atoms 𝓤) (W : Given
           keep ! (2 ∷ 3 ∷ 4 ∷ 5 ∷ 6 ∷ 7 ∷ 8 ∷ 9 ∷ 0 ∷ 1 ∷ 10 ∷ 11 ∷ 12 ∷ 13 ∷ 14 ∷ 15 ∷ 16 ∷ 17 ∷ 18 ∷ 19 ∷ 20 ∷ 21 ∷ 22 ∷ 23 ∷ 24 ∷ 25 ∷ 26 ∷ 27 ∷ 28 ∷ 29 ∷ 30 ∷ 31 ∷ 32 ∷ 33 ∷ 34 ∷ 35 ∷ 36 ∷ 37 ∷ 38 ∷ 39 ∷ 40 ∷ 41 ∷ 42 ∷ 43 ∷ 44 ∷ 45 ∷ 46 ∷ 47 ∷ 48 ∷ 49 ∷ 50 ∷ 51 ∷ 52 ∷ 53 ∷ 54 ∷ 55 ∷ []) $
           by ! (go-5 u lifted g-u n za zl zr made g-n long-a long-l long-r k is-k g-k row is-row g-row))
 
-      go-3 : (u : Lift) (lifted : Lifts (head .window) (head .width) (head .windows) u) (g-u : Is Lf.the-row u (low-lift u ∷ [])) (n : ℕ) (za : List Row) (zl : List ℕ) (zr : List ℕ) (made : (n ≡ length (extended (indexOf (u .window) (u .width) (u .old) (xf .now) (xc .now) (xh .now)) (xs .now) .rows)) × HoldsExtended (indexOf (u .window) (u .width) (u .old) (xf .now) (xc .now) (xh .now)) (xs .now) (buffers (xa .now) (xl .now) (xr .now)) (buffers za zl zr)) (g-n : n < 2 ^ 64) (long-a : length za ≡ length (xa .now)) (long-l : length zl ≡ length (xl .now)) (long-r : length zr ≡ length (xr .now)) → ent 𝓤 (⋆ 𝓤 H A (‵ (flft κs qs) ∷ ‵ (ShrSlice (named 0) κs i32 .own xs (sliceVal (xs .ptr) (length (xs .now)) ∷ [])) ∷ ‵ (flft κf qf) ∷ ‵ (ShrSlice (named 0) κf T.the-row .own xf (sliceVal (xf .ptr) (length (xf .now)) ∷ []))
-          ∷ ‵ (flft κc qc) ∷ ‵ (ShrSlice (named 0) κc u32 .own xc (sliceVal (xc .ptr) (length (xc .now)) ∷ [])) ∷ ‵ (flft κh qh) ∷ ‵ (ShrSlice (named 0) κh u32 .own xh (sliceVal (xh .ptr) (length (xh .now)) ∷ []))
-          ∷ ‵ (flft κa qa) ∷ ‵ (Lends.Own T.the-row (xa .ptr .0) (xa .ptr .1) (length (xa .now)) (named 0) κa (xa .name) za) ∷ ‵ (flft κl ql) ∷ ‵ (Lends.Own u32 (xl .ptr .0) (xl .ptr .1) (length (xl .now)) (named 0) κl (xl .name) zl)
-          ∷ ‵ (flft κr qr) ∷ ‵ (Lends.Own u32 (xr .ptr .0) (xr .ptr .1) (length (xr .now)) (named 0) κr (xr .name) zr) ∷ ‵ (froom (sliceTy (tyRef erased imm record-type)) l₂₀ 0) ∷ ‵ (fdies (sliceTy (tyRef erased imm record-type)) l₂₀)
-          ∷ ‵ (froom (tyRef erased imm record-type) l₁₉ 0) ∷ ‵ (fdies (tyRef erased imm record-type) l₁₉) ∷ ‵ (froom (sliceTy (tyRef erased mut half)) l₁₈ 0) ∷ ‵ (fdies (sliceTy (tyRef erased mut half)) l₁₈)
-          ∷ ‵ (froom (tyRef erased mut half) l₁₇ 0) ∷ ‵ (fdies (tyRef erased mut half) l₁₇) ∷ ‵ (froom (sliceTy (tyRef erased mut half)) l₁₆ 0) ∷ ‵ (fdies (sliceTy (tyRef erased mut half)) l₁₆)
-          ∷ ‵ (froom (tyRef erased mut half) l₁₅ 0) ∷ ‵ (fdies (tyRef erased mut half) l₁₅) ∷ ‵ (froom (sliceTy (tyRef erased mut record-type)) l₁₄ 0) ∷ ‵ (fdies (sliceTy (tyRef erased mut record-type)) l₁₄)
-          ∷ ‵ (froom (tyRef erased mut record-type) l₁₃ 0) ∷ ‵ (fdies (tyRef erased mut record-type) l₁₃) ∷ ‵ (froom T′.mir l₁₂ 0) ∷ ‵ (fdies T′.mir l₁₂)
-          ∷ ‵ (froom word l₁₁ 0) ∷ ‵ (fdies word l₁₁) ∷ ‵ (fat fullShare word l₁₀ 0 (vint w64 n)) ∷ ‵ (fdies word l₁₀)
-          ∷ ‵ (fat fullShare Lf′.mir l₉ 0 (low-lift u)) ∷ ‵ (fdies Lf′.mir l₉) ∷ ‵ (fat fullShare (sliceTy (tyRef (named 6) mut half)) l₈ 0 (sliceVal (xr .ptr) (length (xr .now)))) ∷ ‵ (fdies (sliceTy (tyRef (named 6) mut half)) l₈)
-          ∷ ‵ (fat fullShare (sliceTy (tyRef (named 5) mut half)) l₇ 0 (sliceVal (xl .ptr) (length (xl .now)))) ∷ ‵ (fdies (sliceTy (tyRef (named 5) mut half)) l₇) ∷ ‵ (fat fullShare (sliceTy (tyRef (named 4) mut record-type)) l₆ 0 (sliceVal (xa .ptr) (length (xa .now)))) ∷ ‵ (fdies (sliceTy (tyRef (named 4) mut record-type)) l₆)
-          ∷ ‵ (fat fullShare (sliceTy (tyRef (named 3) imm half)) l₅ 0 (sliceVal (xh .ptr) (length (xh .now)))) ∷ ‵ (fdies (sliceTy (tyRef (named 3) imm half)) l₅) ∷ ‵ (fat fullShare (sliceTy (tyRef (named 2) imm half)) l₄ 0 (sliceVal (xc .ptr) (length (xc .now)))) ∷ ‵ (fdies (sliceTy (tyRef (named 2) imm half)) l₄)
-          ∷ ‵ (fat fullShare (sliceTy (tyRef (named 1) imm record-type)) l₃ 0 (sliceVal (xf .ptr) (length (xf .now)))) ∷ ‵ (fdies (sliceTy (tyRef (named 1) imm record-type)) l₃) ∷ ‵ (fat fullShare Hd′.mir l₂ 0 (low-head head)) ∷ ‵ (fdies Hd′.mir l₂)
-          ∷ ‵ (fat fullShare (sliceTy (tyRef (named 0) imm half)) l₁ 0 (sliceVal (xs .ptr) (length (xs .now)))) ∷ ‵ (fdies (sliceTy (tyRef (named 0) imm half)) l₁) ∷ ‵ (froom Ex′.mir l₀ 0) ∷ ‵ (fdies Ex′.mir l₀) ∷ [])) (Wp 𝓤 H (𝓣 .C) (𝓣 .Λ) En mir.t-9 (atReturn 𝓤 H En Post))
+      go-3 : (u : Lift) (lifted : Lifts (head .window) (head .width) (head .windows) u) (g-u : Is Lf.the-row u (low-lift u ∷ [])) (n : ℕ) (za : List Row) (zl : List ℕ) (zr : List ℕ) (made : (n ≡ length (extended (indexOf (u .window) (u .width) (u .old) (xf .now) (xc .now) (xh .now)) (xs .now) .rows)) × HoldsExtended (indexOf (u .window) (u .width) (u .old) (xf .now) (xc .now) (xh .now)) (xs .now) (buffers (xa .now) (xl .now) (xr .now)) (buffers za zl zr)) (g-n : n < 2 ^ 64) (long-a : length za ≡ length (xa .now)) (long-l : length zl ≡ length (xl .now)) (long-r : length zr ≡ length (xr .now)) → ent 𝓤 (⋆ 𝓤 H A (Held (‵ (Lends.Own T.the-row (xa .ptr .0) (xa .ptr .1) (length (xa .now)) (named 0) κa (xa .name) za)) (‵ (Lends.Own u32 (xl .ptr .0) (xl .ptr .1) (length (xl .now)) (named 0) κl (xl .name) zl)) (‵ (Lends.Own u32 (xr .ptr .0) (xr .ptr .1) (length (xr .now)) (named 0) κr (xr .name) zr)) (‵ (froom T′.mir l₁₂ 0)) (‵ (froom word l₁₁ 0)) (‵ (fat fullShare word l₁₀ 0 (vint w64 n))) (‵ (fat fullShare Lf′.mir l₉ 0 (low-lift u))) (‵ (froom Ex′.mir l₀ 0)))) (Wp 𝓤 H (𝓣 .C) (𝓣 .Λ) En mir.t-9 (atReturn 𝓤 H En Post))
       go-3 u lifted g-u n za zl zr made g-n long-a long-l long-r =
-          qed W (‵ (flft κs qs) ∷ ‵ (ShrSlice (named 0) κs i32 .own xs (sliceVal (xs .ptr) (length (xs .now)) ∷ [])) ∷ ‵ (flft κf qf) ∷ ‵ (ShrSlice (named 0) κf T.the-row .own xf (sliceVal (xf .ptr) (length (xf .now)) ∷ []))
-          ∷ ‵ (flft κc qc) ∷ ‵ (ShrSlice (named 0) κc u32 .own xc (sliceVal (xc .ptr) (length (xc .now)) ∷ [])) ∷ ‵ (flft κh qh) ∷ ‵ (ShrSlice (named 0) κh u32 .own xh (sliceVal (xh .ptr) (length (xh .now)) ∷ []))
-          ∷ ‵ (flft κa qa) ∷ ‵ (Lends.Own T.the-row (xa .ptr .0) (xa .ptr .1) (length (xa .now)) (named 0) κa (xa .name) za) ∷ ‵ (flft κl ql) ∷ ‵ (Lends.Own u32 (xl .ptr .0) (xl .ptr .1) (length (xl .now)) (named 0) κl (xl .name) zl)
-          ∷ ‵ (flft κr qr) ∷ ‵ (Lends.Own u32 (xr .ptr .0) (xr .ptr .1) (length (xr .now)) (named 0) κr (xr .name) zr) ∷ ‵ (froom (sliceTy (tyRef erased imm record-type)) l₂₀ 0) ∷ ‵ (fdies (sliceTy (tyRef erased imm record-type)) l₂₀)
-          ∷ ‵ (froom (tyRef erased imm record-type) l₁₉ 0) ∷ ‵ (fdies (tyRef erased imm record-type) l₁₉) ∷ ‵ (froom (sliceTy (tyRef erased mut half)) l₁₈ 0) ∷ ‵ (fdies (sliceTy (tyRef erased mut half)) l₁₈)
-          ∷ ‵ (froom (tyRef erased mut half) l₁₇ 0) ∷ ‵ (fdies (tyRef erased mut half) l₁₇) ∷ ‵ (froom (sliceTy (tyRef erased mut half)) l₁₆ 0) ∷ ‵ (fdies (sliceTy (tyRef erased mut half)) l₁₆)
-          ∷ ‵ (froom (tyRef erased mut half) l₁₅ 0) ∷ ‵ (fdies (tyRef erased mut half) l₁₅) ∷ ‵ (froom (sliceTy (tyRef erased mut record-type)) l₁₄ 0) ∷ ‵ (fdies (sliceTy (tyRef erased mut record-type)) l₁₄)
-          ∷ ‵ (froom (tyRef erased mut record-type) l₁₃ 0) ∷ ‵ (fdies (tyRef erased mut record-type) l₁₃) ∷ ‵ (froom T′.mir l₁₂ 0) ∷ ‵ (fdies T′.mir l₁₂)
-          ∷ ‵ (froom word l₁₁ 0) ∷ ‵ (fdies word l₁₁) ∷ ‵ (fat fullShare word l₁₀ 0 (vint w64 n)) ∷ ‵ (fdies word l₁₀)
-          ∷ ‵ (fat fullShare Lf′.mir l₉ 0 (low-lift u)) ∷ ‵ (fdies Lf′.mir l₉) ∷ ‵ (fat fullShare (sliceTy (tyRef (named 6) mut half)) l₈ 0 (sliceVal (xr .ptr) (length (xr .now)))) ∷ ‵ (fdies (sliceTy (tyRef (named 6) mut half)) l₈)
-          ∷ ‵ (fat fullShare (sliceTy (tyRef (named 5) mut half)) l₇ 0 (sliceVal (xl .ptr) (length (xl .now)))) ∷ ‵ (fdies (sliceTy (tyRef (named 5) mut half)) l₇) ∷ ‵ (fat fullShare (sliceTy (tyRef (named 4) mut record-type)) l₆ 0 (sliceVal (xa .ptr) (length (xa .now)))) ∷ ‵ (fdies (sliceTy (tyRef (named 4) mut record-type)) l₆)
-          ∷ ‵ (fat fullShare (sliceTy (tyRef (named 3) imm half)) l₅ 0 (sliceVal (xh .ptr) (length (xh .now)))) ∷ ‵ (fdies (sliceTy (tyRef (named 3) imm half)) l₅) ∷ ‵ (fat fullShare (sliceTy (tyRef (named 2) imm half)) l₄ 0 (sliceVal (xc .ptr) (length (xc .now)))) ∷ ‵ (fdies (sliceTy (tyRef (named 2) imm half)) l₄)
-          ∷ ‵ (fat fullShare (sliceTy (tyRef (named 1) imm record-type)) l₃ 0 (sliceVal (xf .ptr) (length (xf .now)))) ∷ ‵ (fdies (sliceTy (tyRef (named 1) imm record-type)) l₃) ∷ ‵ (fat fullShare Hd′.mir l₂ 0 (low-head head)) ∷ ‵ (fdies Hd′.mir l₂)
-          ∷ ‵ (fat fullShare (sliceTy (tyRef (named 0) imm half)) l₁ 0 (sliceVal (xs .ptr) (length (xs .now)))) ∷ ‵ (fdies (sliceTy (tyRef (named 0) imm half)) l₁) ∷ ‵ (froom Ex′.mir l₀ 0) ∷ ‵ (fdies Ex′.mir l₀) ∷ []) ∵ exec ! (𝓣 .C) (𝓣 .Λ) En mir.t-9 (atRet En Post) $
+          qed W (Held (‵ (Lends.Own T.the-row (xa .ptr .0) (xa .ptr .1) (length (xa .now)) (named 0) κa (xa .name) za)) (‵ (Lends.Own u32 (xl .ptr .0) (xl .ptr .1) (length (xl .now)) (named 0) κl (xl .name) zl)) (‵ (Lends.Own u32 (xr .ptr .0) (xr .ptr .1) (length (xr .now)) (named 0) κr (xr .name) zr)) (‵ (froom T′.mir l₁₂ 0)) (‵ (froom word l₁₁ 0)) (‵ (fat fullShare word l₁₀ 0 (vint w64 n))) (‵ (fat fullShare Lf′.mir l₉ 0 (low-lift u))) (‵ (froom Ex′.mir l₀ 0))) ∵ exec ! (𝓣 .C) (𝓣 .Λ) En mir.t-9 (atRet En Post) $
           calls-last-place ! fm mem run known-last n g-n (and-then ! (load ! (from ! (stop !)) (look ! 35 refl)) (no-more !)) (λ k is-k g-k.
           land ! (from ! (stop !)) (init ! 32 refl (tt, record { fits = g-k })) $
           keep ! (0 ∷ 1 ∷ 2 ∷ 3 ∷ 4 ∷ 5 ∷ 6 ∷ 7 ∷ 8 ∷ 9 ∷ 10 ∷ 11 ∷ 12 ∷ 13 ∷ 14 ∷ 15 ∷ 16 ∷ 17 ∷ 18 ∷ 19 ∷ 20 ∷ 21 ∷ 22 ∷ 23 ∷ 24 ∷ 25 ∷ 26 ∷ 27 ∷ 28 ∷ 29 ∷ 30 ∷ 31 ∷ 32 ∷ 33 ∷ 34 ∷ 35 ∷ 36 ∷ 37 ∷ 38 ∷ 39 ∷ 40 ∷ 41 ∷ 42 ∷ 43 ∷ 44 ∷ 45 ∷ 46 ∷ 47 ∷ 48 ∷ 49 ∷ 50 ∷ 51 ∷ 52 ∷ 53 ∷ 54 ∷ 55 ∷ []) $
           by ! (go-4 u lifted g-u n za zl zr made g-n long-a long-l long-r k is-k g-k))
 
-      go-2 : (u : Lift) (lifted : Lifts (head .window) (head .width) (head .windows) u) (g-u : Is Lf.the-row u (low-lift u ∷ [])) → ent 𝓤 (⋆ 𝓤 H A (‵ (flft κs qs) ∷ ‵ (ShrSlice (named 0) κs i32 .own xs (sliceVal (xs .ptr) (length (xs .now)) ∷ [])) ∷ ‵ (flft κf qf) ∷ ‵ (ShrSlice (named 0) κf T.the-row .own xf (sliceVal (xf .ptr) (length (xf .now)) ∷ []))
-          ∷ ‵ (flft κc qc) ∷ ‵ (ShrSlice (named 0) κc u32 .own xc (sliceVal (xc .ptr) (length (xc .now)) ∷ [])) ∷ ‵ (flft κh qh) ∷ ‵ (ShrSlice (named 0) κh u32 .own xh (sliceVal (xh .ptr) (length (xh .now)) ∷ []))
-          ∷ ‵ (flft κa qa) ∷ ‵ (Lends.Own T.the-row (xa .ptr .0) (xa .ptr .1) (length (xa .now)) (named 0) κa (xa .name) (xa .now)) ∷ ‵ (flft κl ql) ∷ ‵ (Lends.Own u32 (xl .ptr .0) (xl .ptr .1) (length (xl .now)) (named 0) κl (xl .name) (xl .now))
-          ∷ ‵ (flft κr qr) ∷ ‵ (Lends.Own u32 (xr .ptr .0) (xr .ptr .1) (length (xr .now)) (named 0) κr (xr .name) (xr .now)) ∷ ‵ (froom (sliceTy (tyRef erased imm record-type)) l₂₀ 0) ∷ ‵ (fdies (sliceTy (tyRef erased imm record-type)) l₂₀)
-          ∷ ‵ (froom (tyRef erased imm record-type) l₁₉ 0) ∷ ‵ (fdies (tyRef erased imm record-type) l₁₉) ∷ ‵ (froom (sliceTy (tyRef erased mut half)) l₁₈ 0) ∷ ‵ (fdies (sliceTy (tyRef erased mut half)) l₁₈)
-          ∷ ‵ (froom (tyRef erased mut half) l₁₇ 0) ∷ ‵ (fdies (tyRef erased mut half) l₁₇) ∷ ‵ (froom (sliceTy (tyRef erased mut half)) l₁₆ 0) ∷ ‵ (fdies (sliceTy (tyRef erased mut half)) l₁₆)
-          ∷ ‵ (froom (tyRef erased mut half) l₁₅ 0) ∷ ‵ (fdies (tyRef erased mut half) l₁₅) ∷ ‵ (froom (sliceTy (tyRef erased mut record-type)) l₁₄ 0) ∷ ‵ (fdies (sliceTy (tyRef erased mut record-type)) l₁₄)
-          ∷ ‵ (froom (tyRef erased mut record-type) l₁₃ 0) ∷ ‵ (fdies (tyRef erased mut record-type) l₁₃) ∷ ‵ (froom T′.mir l₁₂ 0) ∷ ‵ (fdies T′.mir l₁₂)
-          ∷ ‵ (froom word l₁₁ 0) ∷ ‵ (fdies word l₁₁) ∷ ‵ (froom word l₁₀ 0) ∷ ‵ (fdies word l₁₀)
-          ∷ ‵ (fat fullShare Lf′.mir l₉ 0 (low-lift u)) ∷ ‵ (fdies Lf′.mir l₉) ∷ ‵ (fat fullShare (sliceTy (tyRef (named 6) mut half)) l₈ 0 (sliceVal (xr .ptr) (length (xr .now)))) ∷ ‵ (fdies (sliceTy (tyRef (named 6) mut half)) l₈)
-          ∷ ‵ (fat fullShare (sliceTy (tyRef (named 5) mut half)) l₇ 0 (sliceVal (xl .ptr) (length (xl .now)))) ∷ ‵ (fdies (sliceTy (tyRef (named 5) mut half)) l₇) ∷ ‵ (fat fullShare (sliceTy (tyRef (named 4) mut record-type)) l₆ 0 (sliceVal (xa .ptr) (length (xa .now)))) ∷ ‵ (fdies (sliceTy (tyRef (named 4) mut record-type)) l₆)
-          ∷ ‵ (fat fullShare (sliceTy (tyRef (named 3) imm half)) l₅ 0 (sliceVal (xh .ptr) (length (xh .now)))) ∷ ‵ (fdies (sliceTy (tyRef (named 3) imm half)) l₅) ∷ ‵ (fat fullShare (sliceTy (tyRef (named 2) imm half)) l₄ 0 (sliceVal (xc .ptr) (length (xc .now)))) ∷ ‵ (fdies (sliceTy (tyRef (named 2) imm half)) l₄)
-          ∷ ‵ (fat fullShare (sliceTy (tyRef (named 1) imm record-type)) l₃ 0 (sliceVal (xf .ptr) (length (xf .now)))) ∷ ‵ (fdies (sliceTy (tyRef (named 1) imm record-type)) l₃) ∷ ‵ (fat fullShare Hd′.mir l₂ 0 (low-head head)) ∷ ‵ (fdies Hd′.mir l₂)
-          ∷ ‵ (fat fullShare (sliceTy (tyRef (named 0) imm half)) l₁ 0 (sliceVal (xs .ptr) (length (xs .now)))) ∷ ‵ (fdies (sliceTy (tyRef (named 0) imm half)) l₁) ∷ ‵ (froom Ex′.mir l₀ 0) ∷ ‵ (fdies Ex′.mir l₀) ∷ [])) (Wp 𝓤 H (𝓣 .C) (𝓣 .Λ) En mir.t-2 (atReturn 𝓤 H En Post))
+      go-2 : (u : Lift) (lifted : Lifts (head .window) (head .width) (head .windows) u) (g-u : Is Lf.the-row u (low-lift u ∷ [])) → ent 𝓤 (⋆ 𝓤 H A (Held (‵ (Lends.Own T.the-row (xa .ptr .0) (xa .ptr .1) (length (xa .now)) (named 0) κa (xa .name) (xa .now))) (‵ (Lends.Own u32 (xl .ptr .0) (xl .ptr .1) (length (xl .now)) (named 0) κl (xl .name) (xl .now))) (‵ (Lends.Own u32 (xr .ptr .0) (xr .ptr .1) (length (xr .now)) (named 0) κr (xr .name) (xr .now))) (‵ (froom T′.mir l₁₂ 0)) (‵ (froom word l₁₁ 0)) (‵ (froom word l₁₀ 0)) (‵ (fat fullShare Lf′.mir l₉ 0 (low-lift u))) (‵ (froom Ex′.mir l₀ 0)))) (Wp 𝓤 H (𝓣 .C) (𝓣 .Λ) En mir.t-2 (atReturn 𝓤 H En Post))
       go-2 u lifted g-u =
-          qed W (‵ (flft κs qs) ∷ ‵ (ShrSlice (named 0) κs i32 .own xs (sliceVal (xs .ptr) (length (xs .now)) ∷ [])) ∷ ‵ (flft κf qf) ∷ ‵ (ShrSlice (named 0) κf T.the-row .own xf (sliceVal (xf .ptr) (length (xf .now)) ∷ []))
-          ∷ ‵ (flft κc qc) ∷ ‵ (ShrSlice (named 0) κc u32 .own xc (sliceVal (xc .ptr) (length (xc .now)) ∷ [])) ∷ ‵ (flft κh qh) ∷ ‵ (ShrSlice (named 0) κh u32 .own xh (sliceVal (xh .ptr) (length (xh .now)) ∷ []))
-          ∷ ‵ (flft κa qa) ∷ ‵ (Lends.Own T.the-row (xa .ptr .0) (xa .ptr .1) (length (xa .now)) (named 0) κa (xa .name) (xa .now)) ∷ ‵ (flft κl ql) ∷ ‵ (Lends.Own u32 (xl .ptr .0) (xl .ptr .1) (length (xl .now)) (named 0) κl (xl .name) (xl .now))
-          ∷ ‵ (flft κr qr) ∷ ‵ (Lends.Own u32 (xr .ptr .0) (xr .ptr .1) (length (xr .now)) (named 0) κr (xr .name) (xr .now)) ∷ ‵ (froom (sliceTy (tyRef erased imm record-type)) l₂₀ 0) ∷ ‵ (fdies (sliceTy (tyRef erased imm record-type)) l₂₀)
-          ∷ ‵ (froom (tyRef erased imm record-type) l₁₉ 0) ∷ ‵ (fdies (tyRef erased imm record-type) l₁₉) ∷ ‵ (froom (sliceTy (tyRef erased mut half)) l₁₈ 0) ∷ ‵ (fdies (sliceTy (tyRef erased mut half)) l₁₈)
-          ∷ ‵ (froom (tyRef erased mut half) l₁₇ 0) ∷ ‵ (fdies (tyRef erased mut half) l₁₇) ∷ ‵ (froom (sliceTy (tyRef erased mut half)) l₁₆ 0) ∷ ‵ (fdies (sliceTy (tyRef erased mut half)) l₁₆)
-          ∷ ‵ (froom (tyRef erased mut half) l₁₅ 0) ∷ ‵ (fdies (tyRef erased mut half) l₁₅) ∷ ‵ (froom (sliceTy (tyRef erased mut record-type)) l₁₄ 0) ∷ ‵ (fdies (sliceTy (tyRef erased mut record-type)) l₁₄)
-          ∷ ‵ (froom (tyRef erased mut record-type) l₁₃ 0) ∷ ‵ (fdies (tyRef erased mut record-type) l₁₃) ∷ ‵ (froom T′.mir l₁₂ 0) ∷ ‵ (fdies T′.mir l₁₂)
-          ∷ ‵ (froom word l₁₁ 0) ∷ ‵ (fdies word l₁₁) ∷ ‵ (froom word l₁₀ 0) ∷ ‵ (fdies word l₁₀)
-          ∷ ‵ (fat fullShare Lf′.mir l₉ 0 (low-lift u)) ∷ ‵ (fdies Lf′.mir l₉) ∷ ‵ (fat fullShare (sliceTy (tyRef (named 6) mut half)) l₈ 0 (sliceVal (xr .ptr) (length (xr .now)))) ∷ ‵ (fdies (sliceTy (tyRef (named 6) mut half)) l₈)
-          ∷ ‵ (fat fullShare (sliceTy (tyRef (named 5) mut half)) l₇ 0 (sliceVal (xl .ptr) (length (xl .now)))) ∷ ‵ (fdies (sliceTy (tyRef (named 5) mut half)) l₇) ∷ ‵ (fat fullShare (sliceTy (tyRef (named 4) mut record-type)) l₆ 0 (sliceVal (xa .ptr) (length (xa .now)))) ∷ ‵ (fdies (sliceTy (tyRef (named 4) mut record-type)) l₆)
-          ∷ ‵ (fat fullShare (sliceTy (tyRef (named 3) imm half)) l₅ 0 (sliceVal (xh .ptr) (length (xh .now)))) ∷ ‵ (fdies (sliceTy (tyRef (named 3) imm half)) l₅) ∷ ‵ (fat fullShare (sliceTy (tyRef (named 2) imm half)) l₄ 0 (sliceVal (xc .ptr) (length (xc .now)))) ∷ ‵ (fdies (sliceTy (tyRef (named 2) imm half)) l₄)
-          ∷ ‵ (fat fullShare (sliceTy (tyRef (named 1) imm record-type)) l₃ 0 (sliceVal (xf .ptr) (length (xf .now)))) ∷ ‵ (fdies (sliceTy (tyRef (named 1) imm record-type)) l₃) ∷ ‵ (fat fullShare Hd′.mir l₂ 0 (low-head head)) ∷ ‵ (fdies Hd′.mir l₂)
-          ∷ ‵ (fat fullShare (sliceTy (tyRef (named 0) imm half)) l₁ 0 (sliceVal (xs .ptr) (length (xs .now)))) ∷ ‵ (fdies (sliceTy (tyRef (named 0) imm half)) l₁) ∷ ‵ (froom Ex′.mir l₀ 0) ∷ ‵ (fdies Ex′.mir l₀) ∷ []) ∵ exec ! (𝓣 .C) (𝓣 .Λ) En mir.t-2 (atRet En Post) $
+          qed W (Held (‵ (Lends.Own T.the-row (xa .ptr .0) (xa .ptr .1) (length (xa .now)) (named 0) κa (xa .name) (xa .now))) (‵ (Lends.Own u32 (xl .ptr .0) (xl .ptr .1) (length (xl .now)) (named 0) κl (xl .name) (xl .now))) (‵ (Lends.Own u32 (xr .ptr .0) (xr .ptr .1) (length (xr .now)) (named 0) κr (xr .name) (xr .now))) (‵ (froom T′.mir l₁₂ 0)) (‵ (froom word l₁₁ 0)) (‵ (froom word l₁₀ 0)) (‵ (fat fullShare Lf′.mir l₉ 0 (low-lift u))) (‵ (froom Ex′.mir l₀ 0))) ∵ exec ! (𝓣 .C) (𝓣 .Λ) En mir.t-2 (atRet En Post) $
           assigns ! (addr ! (from ! (fld ! refl (hop ! (look-in ! 42 (sub ! 0 refl (whole !))) (stop !))))) (from ! (stop !)) (init ! 28 refl (tt, tt)) $
           assigns ! (agg ! (and-then ! (load ! (from ! (stop !)) (look ! 28 refl)) (and-then ! (load ! (from ! (fld ! refl (stop !))) (look-in ! 42 (sub ! 1 refl (whole !)))) (no-more !)))) (from ! (stop !)) (init ! 26 refl (tt, (tt, (record { fits = g-a .0 }, tt)))) $
           assigns ! (addr ! (from ! (fld ! refl (hop ! (look-in ! 40 (sub ! 0 refl (whole !))) (stop !))))) (from ! (stop !)) (init ! 24 refl (tt, tt)) $
@@ -332,35 +219,9 @@ module _ {M : Type 1} (𝓤 : URA M) (H : Heap 𝓤) (A : Atoms 𝓤) (W : Given
           keep ! (0 ∷ 1 ∷ 2 ∷ 3 ∷ 4 ∷ 5 ∷ 6 ∷ 7 ∷ 8 ∷ 9 ∷ 10 ∷ 11 ∷ 12 ∷ 13 ∷ 14 ∷ 15 ∷ 16 ∷ 17 ∷ 18 ∷ 19 ∷ 20 ∷ 21 ∷ 22 ∷ 23 ∷ 24 ∷ 25 ∷ 26 ∷ 27 ∷ 28 ∷ 29 ∷ 30 ∷ 31 ∷ 32 ∷ 33 ∷ 34 ∷ 35 ∷ 36 ∷ 37 ∷ 38 ∷ 39 ∷ 40 ∷ 41 ∷ 42 ∷ 43 ∷ 44 ∷ 45 ∷ 46 ∷ 47 ∷ 48 ∷ 49 ∷ 50 ∷ 51 ∷ 52 ∷ 53 ∷ 54 ∷ 55 ∷ []) $
           by ! (go-3 u lifted g-u n za zl zr made g-n long-a long-l long-r))
 
-      go-1 : ent 𝓤 (⋆ 𝓤 H A (‵ (flft κs qs) ∷ ‵ (ShrSlice (named 0) κs i32 .own xs (sliceVal (xs .ptr) (length (xs .now)) ∷ [])) ∷ ‵ (flft κf qf) ∷ ‵ (ShrSlice (named 0) κf T.the-row .own xf (sliceVal (xf .ptr) (length (xf .now)) ∷ []))
-          ∷ ‵ (flft κc qc) ∷ ‵ (ShrSlice (named 0) κc u32 .own xc (sliceVal (xc .ptr) (length (xc .now)) ∷ [])) ∷ ‵ (flft κh qh) ∷ ‵ (ShrSlice (named 0) κh u32 .own xh (sliceVal (xh .ptr) (length (xh .now)) ∷ []))
-          ∷ ‵ (flft κa qa) ∷ ‵ (Lends.Own T.the-row (xa .ptr .0) (xa .ptr .1) (length (xa .now)) (named 0) κa (xa .name) (xa .now)) ∷ ‵ (flft κl ql) ∷ ‵ (Lends.Own u32 (xl .ptr .0) (xl .ptr .1) (length (xl .now)) (named 0) κl (xl .name) (xl .now))
-          ∷ ‵ (flft κr qr) ∷ ‵ (Lends.Own u32 (xr .ptr .0) (xr .ptr .1) (length (xr .now)) (named 0) κr (xr .name) (xr .now)) ∷ ‵ (froom (sliceTy (tyRef erased imm record-type)) l₂₀ 0) ∷ ‵ (fdies (sliceTy (tyRef erased imm record-type)) l₂₀)
-          ∷ ‵ (froom (tyRef erased imm record-type) l₁₉ 0) ∷ ‵ (fdies (tyRef erased imm record-type) l₁₉) ∷ ‵ (froom (sliceTy (tyRef erased mut half)) l₁₈ 0) ∷ ‵ (fdies (sliceTy (tyRef erased mut half)) l₁₈)
-          ∷ ‵ (froom (tyRef erased mut half) l₁₇ 0) ∷ ‵ (fdies (tyRef erased mut half) l₁₇) ∷ ‵ (froom (sliceTy (tyRef erased mut half)) l₁₆ 0) ∷ ‵ (fdies (sliceTy (tyRef erased mut half)) l₁₆)
-          ∷ ‵ (froom (tyRef erased mut half) l₁₅ 0) ∷ ‵ (fdies (tyRef erased mut half) l₁₅) ∷ ‵ (froom (sliceTy (tyRef erased mut record-type)) l₁₄ 0) ∷ ‵ (fdies (sliceTy (tyRef erased mut record-type)) l₁₄)
-          ∷ ‵ (froom (tyRef erased mut record-type) l₁₃ 0) ∷ ‵ (fdies (tyRef erased mut record-type) l₁₃) ∷ ‵ (froom T′.mir l₁₂ 0) ∷ ‵ (fdies T′.mir l₁₂)
-          ∷ ‵ (froom word l₁₁ 0) ∷ ‵ (fdies word l₁₁) ∷ ‵ (froom word l₁₀ 0) ∷ ‵ (fdies word l₁₀)
-          ∷ ‵ (froom Lf′.mir l₉ 0) ∷ ‵ (fdies Lf′.mir l₉) ∷ ‵ (fat fullShare (sliceTy (tyRef (named 6) mut half)) l₈ 0 (sliceVal (xr .ptr) (length (xr .now)))) ∷ ‵ (fdies (sliceTy (tyRef (named 6) mut half)) l₈)
-          ∷ ‵ (fat fullShare (sliceTy (tyRef (named 5) mut half)) l₇ 0 (sliceVal (xl .ptr) (length (xl .now)))) ∷ ‵ (fdies (sliceTy (tyRef (named 5) mut half)) l₇) ∷ ‵ (fat fullShare (sliceTy (tyRef (named 4) mut record-type)) l₆ 0 (sliceVal (xa .ptr) (length (xa .now)))) ∷ ‵ (fdies (sliceTy (tyRef (named 4) mut record-type)) l₆)
-          ∷ ‵ (fat fullShare (sliceTy (tyRef (named 3) imm half)) l₅ 0 (sliceVal (xh .ptr) (length (xh .now)))) ∷ ‵ (fdies (sliceTy (tyRef (named 3) imm half)) l₅) ∷ ‵ (fat fullShare (sliceTy (tyRef (named 2) imm half)) l₄ 0 (sliceVal (xc .ptr) (length (xc .now)))) ∷ ‵ (fdies (sliceTy (tyRef (named 2) imm half)) l₄)
-          ∷ ‵ (fat fullShare (sliceTy (tyRef (named 1) imm record-type)) l₃ 0 (sliceVal (xf .ptr) (length (xf .now)))) ∷ ‵ (fdies (sliceTy (tyRef (named 1) imm record-type)) l₃) ∷ ‵ (fat fullShare Hd′.mir l₂ 0 (low-head head)) ∷ ‵ (fdies Hd′.mir l₂)
-          ∷ ‵ (fat fullShare (sliceTy (tyRef (named 0) imm half)) l₁ 0 (sliceVal (xs .ptr) (length (xs .now)))) ∷ ‵ (fdies (sliceTy (tyRef (named 0) imm half)) l₁) ∷ ‵ (froom Ex′.mir l₀ 0) ∷ ‵ (fdies Ex′.mir l₀) ∷ [])) (Wp 𝓤 H (𝓣 .C) (𝓣 .Λ) En mir.t-1 (atReturn 𝓤 H En Post))
+      go-1 : ent 𝓤 (⋆ 𝓤 H A (Held (‵ (Lends.Own T.the-row (xa .ptr .0) (xa .ptr .1) (length (xa .now)) (named 0) κa (xa .name) (xa .now))) (‵ (Lends.Own u32 (xl .ptr .0) (xl .ptr .1) (length (xl .now)) (named 0) κl (xl .name) (xl .now))) (‵ (Lends.Own u32 (xr .ptr .0) (xr .ptr .1) (length (xr .now)) (named 0) κr (xr .name) (xr .now))) (‵ (froom T′.mir l₁₂ 0)) (‵ (froom word l₁₁ 0)) (‵ (froom word l₁₀ 0)) (‵ (froom Lf′.mir l₉ 0)) (‵ (froom Ex′.mir l₀ 0)))) (Wp 𝓤 H (𝓣 .C) (𝓣 .Λ) En mir.t-1 (atReturn 𝓤 H En Post))
       go-1 =
-          qed W (‵ (flft κs qs) ∷ ‵ (ShrSlice (named 0) κs i32 .own xs (sliceVal (xs .ptr) (length (xs .now)) ∷ [])) ∷ ‵ (flft κf qf) ∷ ‵ (ShrSlice (named 0) κf T.the-row .own xf (sliceVal (xf .ptr) (length (xf .now)) ∷ []))
-          ∷ ‵ (flft κc qc) ∷ ‵ (ShrSlice (named 0) κc u32 .own xc (sliceVal (xc .ptr) (length (xc .now)) ∷ [])) ∷ ‵ (flft κh qh) ∷ ‵ (ShrSlice (named 0) κh u32 .own xh (sliceVal (xh .ptr) (length (xh .now)) ∷ []))
-          ∷ ‵ (flft κa qa) ∷ ‵ (Lends.Own T.the-row (xa .ptr .0) (xa .ptr .1) (length (xa .now)) (named 0) κa (xa .name) (xa .now)) ∷ ‵ (flft κl ql) ∷ ‵ (Lends.Own u32 (xl .ptr .0) (xl .ptr .1) (length (xl .now)) (named 0) κl (xl .name) (xl .now))
-          ∷ ‵ (flft κr qr) ∷ ‵ (Lends.Own u32 (xr .ptr .0) (xr .ptr .1) (length (xr .now)) (named 0) κr (xr .name) (xr .now)) ∷ ‵ (froom (sliceTy (tyRef erased imm record-type)) l₂₀ 0) ∷ ‵ (fdies (sliceTy (tyRef erased imm record-type)) l₂₀)
-          ∷ ‵ (froom (tyRef erased imm record-type) l₁₉ 0) ∷ ‵ (fdies (tyRef erased imm record-type) l₁₉) ∷ ‵ (froom (sliceTy (tyRef erased mut half)) l₁₈ 0) ∷ ‵ (fdies (sliceTy (tyRef erased mut half)) l₁₈)
-          ∷ ‵ (froom (tyRef erased mut half) l₁₇ 0) ∷ ‵ (fdies (tyRef erased mut half) l₁₇) ∷ ‵ (froom (sliceTy (tyRef erased mut half)) l₁₆ 0) ∷ ‵ (fdies (sliceTy (tyRef erased mut half)) l₁₆)
-          ∷ ‵ (froom (tyRef erased mut half) l₁₅ 0) ∷ ‵ (fdies (tyRef erased mut half) l₁₅) ∷ ‵ (froom (sliceTy (tyRef erased mut record-type)) l₁₄ 0) ∷ ‵ (fdies (sliceTy (tyRef erased mut record-type)) l₁₄)
-          ∷ ‵ (froom (tyRef erased mut record-type) l₁₃ 0) ∷ ‵ (fdies (tyRef erased mut record-type) l₁₃) ∷ ‵ (froom T′.mir l₁₂ 0) ∷ ‵ (fdies T′.mir l₁₂)
-          ∷ ‵ (froom word l₁₁ 0) ∷ ‵ (fdies word l₁₁) ∷ ‵ (froom word l₁₀ 0) ∷ ‵ (fdies word l₁₀)
-          ∷ ‵ (froom Lf′.mir l₉ 0) ∷ ‵ (fdies Lf′.mir l₉) ∷ ‵ (fat fullShare (sliceTy (tyRef (named 6) mut half)) l₈ 0 (sliceVal (xr .ptr) (length (xr .now)))) ∷ ‵ (fdies (sliceTy (tyRef (named 6) mut half)) l₈)
-          ∷ ‵ (fat fullShare (sliceTy (tyRef (named 5) mut half)) l₇ 0 (sliceVal (xl .ptr) (length (xl .now)))) ∷ ‵ (fdies (sliceTy (tyRef (named 5) mut half)) l₇) ∷ ‵ (fat fullShare (sliceTy (tyRef (named 4) mut record-type)) l₆ 0 (sliceVal (xa .ptr) (length (xa .now)))) ∷ ‵ (fdies (sliceTy (tyRef (named 4) mut record-type)) l₆)
-          ∷ ‵ (fat fullShare (sliceTy (tyRef (named 3) imm half)) l₅ 0 (sliceVal (xh .ptr) (length (xh .now)))) ∷ ‵ (fdies (sliceTy (tyRef (named 3) imm half)) l₅) ∷ ‵ (fat fullShare (sliceTy (tyRef (named 2) imm half)) l₄ 0 (sliceVal (xc .ptr) (length (xc .now)))) ∷ ‵ (fdies (sliceTy (tyRef (named 2) imm half)) l₄)
-          ∷ ‵ (fat fullShare (sliceTy (tyRef (named 1) imm record-type)) l₃ 0 (sliceVal (xf .ptr) (length (xf .now)))) ∷ ‵ (fdies (sliceTy (tyRef (named 1) imm record-type)) l₃) ∷ ‵ (fat fullShare Hd′.mir l₂ 0 (low-head head)) ∷ ‵ (fdies Hd′.mir l₂)
-          ∷ ‵ (fat fullShare (sliceTy (tyRef (named 0) imm half)) l₁ 0 (sliceVal (xs .ptr) (length (xs .now)))) ∷ ‵ (fdies (sliceTy (tyRef (named 0) imm half)) l₁) ∷ ‵ (froom Ex′.mir l₀ 0) ∷ ‵ (fdies Ex′.mir l₀) ∷ []) ∵ exec ! (𝓣 .C) (𝓣 .Λ) En mir.t-1 (atRet En Post) $
+          qed W (Held (‵ (Lends.Own T.the-row (xa .ptr .0) (xa .ptr .1) (length (xa .now)) (named 0) κa (xa .name) (xa .now))) (‵ (Lends.Own u32 (xl .ptr .0) (xl .ptr .1) (length (xl .now)) (named 0) κl (xl .name) (xl .now))) (‵ (Lends.Own u32 (xr .ptr .0) (xr .ptr .1) (length (xr .now)) (named 0) κr (xr .name) (xr .now))) (‵ (froom T′.mir l₁₂ 0)) (‵ (froom word l₁₁ 0)) (‵ (froom word l₁₀ 0)) (‵ (froom Lf′.mir l₉ 0)) (‵ (froom Ex′.mir l₀ 0))) ∵ exec ! (𝓣 .C) (𝓣 .Λ) En mir.t-1 (atRet En Post) $
           calls-lift-of ! fm mem run known-lifting (head .window) (head .width) (head .windows) (g-head .1 .1 .0 .1) (g-head .1 .1 .1 .0 .1) (g-head .1 .1 .1 .1 .0 .1) (lift-asked (xs .now) head (xf .now) (xc .now) (xh .now) (buffers (xa .now) (xl .now) (xr .now)) asked) (and-then ! (load ! (from ! (fld ! refl (stop !))) (look-in ! 51 (sub ! 0 refl (whole !)))) (and-then ! (load ! (from ! (fld ! refl (stop !))) (look-in ! 51 (sub ! 1 refl (whole !)))) (and-then ! (load ! (from ! (fld ! refl (stop !))) (look-in ! 51 (sub ! 2 refl (whole !)))) (no-more !)))) (λ u lifted g-u.
           land ! (from ! (stop !)) (init ! 36 refl (LL.lawful Lf.the-type Lf′.the-laws 𝓤 H A W .typed u _ g-u .0)) $
           keep ! (0 ∷ 1 ∷ 2 ∷ 3 ∷ 4 ∷ 5 ∷ 6 ∷ 7 ∷ 8 ∷ 9 ∷ 10 ∷ 11 ∷ 12 ∷ 13 ∷ 14 ∷ 15 ∷ 16 ∷ 17 ∷ 18 ∷ 19 ∷ 20 ∷ 21 ∷ 22 ∷ 23 ∷ 24 ∷ 25 ∷ 26 ∷ 27 ∷ 28 ∷ 29 ∷ 30 ∷ 31 ∷ 32 ∷ 33 ∷ 34 ∷ 35 ∷ 36 ∷ 37 ∷ 38 ∷ 39 ∷ 40 ∷ 41 ∷ 42 ∷ 43 ∷ 44 ∷ 45 ∷ 46 ∷ 47 ∷ 48 ∷ 49 ∷ 50 ∷ 51 ∷ 52 ∷ 53 ∷ 54 ∷ 55 ∷ []) $
