@@ -17,7 +17,7 @@ use Rattle.meaning_rows.specs.Index.{Index}
 use Rattle.meaning_text.proofs.Reading.{on-flag}
 use Rattle.meaning_entries.specs.declared.Audited.{Audited}
 use Rattle.meaning_entries.specs.Refusal.{firstRefusal, lengthOutside, valueOutside}
-use Rattle.meaning_entries.specs.Audit.{AuditCall, auditTable, auditAnswer}
+use Rattle.meaning_entries.specs.Audit.{auditTable, auditAnswer}
 use Rattle.text_feed.specs.Keep.{clamp}
 
 in-clamp : (z : ℤ) → valueIn z ≡ true → clamp z ≡ z

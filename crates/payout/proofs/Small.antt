@@ -1,10 +1,10 @@
 -- The number of an answer fits 64 bits (`number-small`): a line of an index text has at least 8 bytes but the last, a series line is one line, and rows and offsets are no more than windows. Assumes nothing.
-use mathlib.Core.Path.{_≡_, refl, sym, ap, subst, _∙_}
+use mathlib.Core.Path.{_≡_, refl, sym, ap, _∙_}
 use mathlib.Core.Bool.{Bool, true, false, not, cond}
 use mathlib.Core.List.{List, [], _∷_, _++_, append-nil}
 use mathlib.Core.Logic.{⊎-elim}
 use mathlib.Core.Option.{Option, none, some}
-use Prim.Native.Nat.{ℕ, zero, suc, _+_, _*_, _-_, _<_, _≤_, _^_}
+use Prim.Native.Nat.{ℕ, zero, suc, _+_, _*_, _<_, _≤_, _^_}
 use native.Mathlib.Omega.{arith}
 use lib.Dec.{eqb, ltb}
 use lib.IntN.{ℤ, pos, negsuc, natAbs}
@@ -18,12 +18,12 @@ use Rattle.meaning_rows.specs.Index.{Index, runsOf}
 use Rattle.meaning_rows.specs.Judge.{runLengths, firstBadRow}
 use Rattle.meaning_rows.specs.Audit.{firstWrong, missing}
 use Rattle.meaning_rows.specs.declared.Row.{Row}
-use Rattle.meaning_rows.proofs.Judge.{GoodHead, GoodRows, WellFormed, FirstBad, between, runs-lengths, well-formed, first-bad, rows-at-most, row-at, stands-below}
+use Rattle.meaning_rows.proofs.Judge.{GoodRows, between, runs-lengths, well-formed, first-bad, rows-at-most, row-at, stands-below}
 use Rattle.meaning_rows.proofs.Audit.{first-wrong, missing-are}
 use Rattle.meaning_text.specs.Bytes.{bytes, newlines}
 use Rattle.meaning_text.specs.Number.{spellℕ, spellℤ}
 use Rattle.meaning_text.specs.Form.{Value, spellMany, spell}
-use Rattle.meaning_text.specs.Read.{Verdict, fine, unfit, readText, lineOf, Viable, Longest}
+use Rattle.meaning_text.specs.Read.{Verdict, fine, unfit, readText, lineOf}
 use Rattle.meaning_text.specs.Texts.{indexForm, seriesForm}
 use Rattle.meaning_text.proofs.Reading.{on-flag}
 use Rattle.meaning_text.proofs.Number.{spell-one, spell-more, by-digits}

@@ -1,6 +1,6 @@
 -- `payout::audit_line` meets its contract. By what the line came to. Assumes nothing.
-use mathlib.Core.Path.{_≡_, sym, ap, _∙_}
-use Prim.Native.Nat.{ℕ, _+_}
+use mathlib.Core.Path.{sym, ap, _∙_}
+use Prim.Native.Nat.{_+_}
 use native.Mathlib.Omega.{arith}
 use Rattle.meaning_text.proofs.Lines.{newlines-length}
 use Rattle.meaning_entries.specs.declared.Audited.{Audited}

@@ -1,5 +1,5 @@
 -- `payout::audit_pair` meets its contract. By what the index text came to. Assumes nothing.
-use mathlib.Core.Path.{_≡_, sym, ap, _∙_}
+use mathlib.Core.Path.{sym, ap, _∙_}
 use Rattle.meaning_entries.specs.declared.Audited.{Audited}
 use Rattle.payout.proofs.Outcome.{index-stopped}
 use borrow.Author.Needs.{needs}
