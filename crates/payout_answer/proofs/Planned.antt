@@ -1,9 +1,9 @@
 -- The audit of an index text against a series: the first line of the table that applies is the plan's (`planned`); what the audit of the rows asks holds where nothing refuses (`goes-sized`), and what is answered is what the meanings say (`stopped-right`, `walked-right`). Assumes nothing.
 use mathlib.Core.Path.{_≡_, refl, sym, ap, subst, _∙_}
 use mathlib.Core.Bool.{Bool, true, false, not, cond}
-use mathlib.Core.List.{List, [], _∷_}
+use mathlib.Core.List.{List, []}
 use mathlib.Core.Option.{Option, none, some}
-use Prim.Native.Nat.{ℕ, zero, suc, _+_, _-_, _≤_}
+use Prim.Native.Nat.{ℕ, _+_, _-_}
 use native.Mathlib.Omega.{arith}
 use lib.IntN.{ℤ, pos, natAbs, _+ℤ_, _-ℤ_}
 use lib.ListN.{length}
@@ -15,9 +15,9 @@ use Rattle.meaning_curves.specs.Limits.{mostValues, lengthIn, firstOutside}
 use Rattle.meaning_curves.proofs.Values.{AllIn, none-outside}
 use Rattle.meaning_rows.specs.declared.Head.{Head}
 use Rattle.meaning_rows.specs.Index.{Index, lent}
-use Rattle.meaning_rows.specs.Judge.{headGood, lengthTotal, firstBadRow}
+use Rattle.meaning_rows.specs.Judge.{headGood, firstBadRow}
 use Rattle.meaning_rows.specs.Audit.{firstWrong, missing}
-use Rattle.meaning_rows.proofs.Judge.{WellFormed, good-head, well-formed}
+use Rattle.meaning_rows.proofs.Judge.{good-head, well-formed}
 use Rattle.meaning_rows.proofs.Audit.{missing-are}
 use Rattle.meaning_text.specs.Form.{Value}
 use Rattle.meaning_text.specs.Read.{Verdict, fine, unfit, readText}
@@ -27,7 +27,7 @@ use Rattle.meaning_entries.specs.Refusal.{Condition, firstRefusal, lengthOutsid
 use Rattle.meaning_entries.specs.Audit.{AuditCall, auditTable, complete, audited, auditAnswer}
 use Rattle.meaning_entries.specs.Load.{textIndex}
 use Rattle.meaning_entries.proofs.Again.{text-fine}
-use Rattle.meaning_entries.proofs.Refusal.{First, Passed, here, later, end, more, first-is, passed-is}
+use Rattle.meaning_entries.proofs.Refusal.{here, later, end, more, first-is, passed-is}
 use Rattle.judge.specs.declared.Judged.{Judged}
 use Rattle.audit.specs.declared.Plan.{Plan}
 use Rattle.audit.specs.declared.State.{State}

@@ -5,21 +5,21 @@ use mathlib.Core.List.{List, [], _∷_, map}
 use Prim.Native.Nat.{ℕ, _+_, _≤_}
 use native.Mathlib.Omega.{arith}
 use lib.IntN.{natAbs, pos}
-use lib.ListN.{length}
 use Rattle.meaning_rows.specs.declared.Head.{Head}
-use Rattle.meaning_rows.specs.Index.{Index, Entry, lent, runsOf, records}
+use Rattle.meaning_rows.specs.Index.{Index, lent, records}
 use Rattle.meaning_rows.specs.Judge.{headGood, runLengths, lengthTotal}
 use Rattle.meaning_rows.proofs.Laid.{Lays, laid}
 use Rattle.meaning_text.specs.Form.{Value}
 use Rattle.meaning_text.specs.Texts.{indexForm, rowForm, rowSaid, indexSaid}
 use Rattle.meaning_text.proofs.Reading.{on-flag}
 use Rattle.text_feed.specs.Keep.{clamp}
+use Rattle.text_judge.specs.declared.Runs.{Runs}
 use Rattle.text_judge.specs.declared.Rows.{Rows}
 use Rattle.text_judge.specs.Tally.{noRows, rowFits, rowNext, rowsFrom, headHeld}
 use Rattle.text_judge.proofs.Bad.{tallied, next-is, next-off, head-is, width-is, windows-is}
 
 module _ (h : Head) (x : Index) (width : natAbs (x .width) ≡ h .width) (windows : x .windows ≡ pos (h .windows)) (most : h .windows ≤ 4294967295) where
-  abbrev runs-in : Value rowForm → Rattle.text_judge.specs.declared.Runs.Runs
+  abbrev runs-in : Value rowForm → Runs
   runs-in r = tallied h x width windows most r
 
   taken-from : (l : List (Value rowForm)) (c : Rows) → c .good ≡ true → Lays (x .runs) (c .runs) (map rowSaid l) → rowsFrom h c l .good ≡ true

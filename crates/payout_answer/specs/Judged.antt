@@ -1,7 +1,6 @@
 -- What judging an index text said, by the head and the rows that it came to. Assumes nothing.
 use mathlib.Core.Bool.{cond}
 use mathlib.Core.List.{[]}
-use mathlib.Core.Option.{none, some}
 use Rattle.meaning_rows.specs.declared.Head.{Head}
 use Rattle.meaning_rows.specs.Index.{lent}
 use Rattle.meaning_rows.specs.Judge.{headGood}

@@ -1,16 +1,13 @@
 -- A series line fed in one piece comes to what the form says of it (`line-going`, `line-failed`). Assumes nothing.
 use mathlib.Core.Path.{_≡_, refl, sym, ap, _∙_}
 use mathlib.Core.List.{List, [], _∷_}
-use mathlib.Core.Option.{Option, none, some}
 use Prim.Native.Nat.{ℕ, _<_, _^_}
 use native.Mathlib.Omega.{arith}
 use lib.IntN.{ℤ, pos}
-use lib.ListN.{length}
-use Rattle.meaning_text.specs.Read.{Verdict, fine, unfit, readText}
+use Rattle.meaning_text.specs.Read.{fine, unfit, readText}
 use Rattle.meaning_text.specs.Texts.{seriesForm}
 use Rattle.meaning_text.proofs.Automaton.{Fed, going, failed, feed, atEnd, judged}
 use Rattle.text_lines.specs.declared.State.{State}
-use Rattle.text_lines.specs.Step.{GoodState}
 use Rattle.text_lines.specs.Follow.{Said, nothingSaid, Reading, at, step, acceptState, accept, seriesStart, seriesValue, series-good, series-comes}
 use Rattle.text_feed.specs.declared.Progress.{Progress}
 use Rattle.text_feed.specs.declared.Feeding.{Feeding}

@@ -1,11 +1,10 @@
 -- The rows of a good index text, audited run by run, come to what is filed wrongly first in its index (`rows-found`). Assumes nothing.
 use mathlib.Core.Path.{_≡_, refl, sym, ap, subst, _∙_}
-use mathlib.Core.Bool.{Bool, true, not, cond}
+use mathlib.Core.Bool.{true, not, cond}
 use mathlib.Core.List.{List, [], _∷_, _++_, map, append-assoc, append-nil}
 use mathlib.Core.Option.{Option, none, some}
 use Prim.Native.Nat.{ℕ, zero, suc, _+_, _-_, _<_, _≤_}
 use native.Mathlib.Omega.{arith}
-use lib.Dec.{leb}
 use lib.IntN.{ℤ, pos, natAbs}
 use lib.ListN.{length, replicate}
 use borrow.Author.Tests.{le-leb}
@@ -16,10 +15,10 @@ use Rattle.meaning_curves.specs.Curve.{windowSum}
 use Rattle.meaning_rows.specs.declared.Row.{Row}
 use Rattle.meaning_rows.specs.declared.Head.{Head}
 use Rattle.meaning_rows.specs.Range.{inside}
-use Rattle.meaning_rows.specs.Index.{Index, Entry, entries, lent, runsOf, records}
+use Rattle.meaning_rows.specs.Index.{Index, entries, lent, runsOf, records}
 use Rattle.meaning_rows.specs.Build.{entry}
-use Rattle.meaning_rows.specs.Judge.{headGood, firstBadRow}
-use Rattle.meaning_rows.specs.Audit.{offsets, wrongIn, wrongFrom, sums, firstWrong}
+use Rattle.meaning_rows.specs.Judge.{headGood}
+use Rattle.meaning_rows.specs.Audit.{offsets, wrongIn, wrongFrom, firstWrong}
 use Rattle.meaning_rows.proofs.Runs.{Apart}
 use Rattle.meaning_rows.proofs.Judge.{GoodRow, WellFormed, well-formed, each-row}
 use Rattle.meaning_rows.proofs.Laid.{Lays, laid}

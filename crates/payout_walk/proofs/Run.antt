@@ -1,6 +1,6 @@
 -- A run audited as a row of one run: what the audit of a chunk asks holds (`run-ready`), and the state afterwards by the test of the run's ends. Assumes nothing.
-use mathlib.Core.Path.{_≡_, refl, sym, ap, subst, _∙_}
-use mathlib.Core.Bool.{true, false, cond, _&&_}
+use mathlib.Core.Path.{_≡_, refl, sym, subst, _∙_}
+use mathlib.Core.Bool.{Bool, true, false, _&&_}
 use mathlib.Core.List.{List, [], _∷_}
 use Prim.Native.Nat.{ℕ, zero, suc, _+_, _<_, _≤_, _^_}
 use native.Mathlib.Omega.{arith}
@@ -13,7 +13,6 @@ use Rattle.meaning_numbers.proofs.Tests.{both}
 use Rattle.meaning_rows.specs.declared.Row.{Row}
 use Rattle.meaning_rows.specs.declared.Head.{Head}
 use Rattle.records.specs.Records.{zeroRow}
-use Rattle.audit.specs.declared.State.{State}
 use Rattle.audit.specs.State.{Reads, Ready, chunked}
 use Rattle.payout_walk.specs.declared.Walk.{Walk}
 use Rattle.payout_walk.specs.Walk.{Sized, oneRun, afterRun}
@@ -33,7 +32,7 @@ one-reads n w l r low up a b (suc k) h =
 
 module _ (series : List ℤ) (h : Head) (t : Walk) (r : ℕ) where
   -- the run's windows lie in the series
-  abbrev fits : mathlib.Core.Bool.Bool
+  abbrev fits : Bool
   fits = leb (t .left) r && leb (r + h .window) (length series)
 
   pub run-ready : Sized series h → t .rows < 2 ^ 63 → fits ≡ true → Ready series h (t .left ∷ []) (r ∷ []) (oneRun (t .low) (t .up)) (t .rows)

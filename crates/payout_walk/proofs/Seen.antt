@@ -1,8 +1,8 @@
 -- What is known of the rows is a view of what has been said, so that a pass over a text comes to the text's own rows (`walked-by`); once an offset is filed wrongly nothing changes any more (`walked-stopped`). Assumes nothing.
 use mathlib.Core.Path.{_≡_, refl, sym, ap, subst, _∙_}
-use mathlib.Core.Bool.{Bool, true, false, cond, _&&_}
+use mathlib.Core.Bool.{false, _&&_}
 use mathlib.Core.List.{List, [], _∷_, _++_}
-use mathlib.Core.Option.{Option, none, some}
+use mathlib.Core.Option.{some}
 use Prim.Native.Nat.{ℕ, suc, _+_, _<_, _≤_}
 use native.Mathlib.Omega.{arith}
 use lib.Dec.{leb}
@@ -13,7 +13,7 @@ use Rattle.meaning_rows.specs.Index.{Entry}
 use Rattle.meaning_text.specs.Form.{Value}
 use Rattle.meaning_text.specs.Read.{Verdict, fine, unfit, readText}
 use Rattle.meaning_text.specs.Texts.{indexForm, rowForm}
-use Rattle.meaning_text.proofs.Automaton.{Fed, going, failed, feed, feed-one, feed-none, feed-failed, verdictOf, on-option}
+use Rattle.meaning_text.proofs.Automaton.{going, feed, feed-one, feed-none, atEnd, verdictOf}
 use Rattle.meaning_text.proofs.Reading.{on-flag}
 use Rattle.audit.specs.declared.State.{State}
 use Rattle.audit.specs.State.{chunked}
@@ -115,7 +115,7 @@ module _ (series : List ℤ) (h : Head) where
   pub walked-end : (t : List ℕ) (s : Reached) (x : Walk) (i : ℕ) → Kept (tellWalk series h) shutWalk startWalk t s x i → length t ≤ i → Walked series h t (x .found)
   walked-end t s x i k g = by s (kept-end (tellWalk series h) shutWalk startWalk t s x i k g)
     where
-      by : (s : Reached) → Passed t ≡ Rattle.meaning_text.proofs.Automaton.atEnd (keptAt s x) i → Walked series h t (x .found)
+      by : (s : Reached) → Passed t ≡ atEnd (keptAt s x) i → Walked series h t (x .found)
       by (Reached.In w n) e = walked-none t i (x .found) e
       by (Reached.At p n) e = walked-none t i (x .found) e
       by (Reached.Before b) e = walked-none t i (x .found) e

@@ -1,7 +1,7 @@
 // The rows of an index text audited against a series in one pass over its bytes (01, Rows): a run is audited where its right end is read, as a row of one run, and nothing is kept of it. The pass stops at the first offset filed wrongly.
 ghost use mathlib.Core.Path.{_≡_};
 ghost use mathlib.Core.Bool.{_&&_};
-ghost use Prim.Native.Nat.{_+_, _<_, _≤_, _^_};
+ghost use Prim.Native.Nat.{_+_, _<_, _^_};
 ghost use lib.Dec.{leb};
 ghost use Rattle.payout_walk.specs.Walk.{Sized, startWalk, afterRun, tellWalk, shutWalk, Walked};
 use audit::audit_chunk;
@@ -78,8 +78,7 @@ pub fn audit_run(series: &[i32], head: Head, t: Walk, r: u32) -> audit::State
 
 // What a number says.
 pub fn tell(series: &[i32], head: Head, t: Walk, p: Place, z: i64) -> Walk
-    requires { ⌜ Sized (now series) head ⌝ }
-    requires { ⌜ t .rows < 2 ^ 63 ⌝ }
+    requires { ⌜ Sized (now series) head × (t .rows < 2 ^ 63) ⌝ }
     ensures { λ n. ⌜ n ≡ tellWalk (now (series .entry)) head p z t ⌝ }
 {
     let found = t.found;

@@ -1,6 +1,6 @@
 -- `payout_walk::audit_run` meets its contract: the run as a row of one run. Assumes nothing.
 use borrow.Author.Tests.{not-true, not-false}
-use mathlib.Core.Path.{_≡_, sym, _∙_}
+use mathlib.Core.Path.{sym, _∙_}
 use mir.Syntax.{w32}
 use mir.ValLaws.{toZ-ofZ}
 use Rattle.payout_walk.specs.Walk.{oneRun}

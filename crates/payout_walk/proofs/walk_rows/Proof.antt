@@ -1,7 +1,7 @@
 -- `payout_walk::walk_rows` meets its contract. The invariant: what is left of the text comes to what the text comes to (`Kept`), and no more rows are closed than bytes were read. The measure is what is left of the text. Assumes nothing.
-use mathlib.Core.Path.{_≡_, sym, ap, _∙_}
+use mathlib.Core.Path.{_≡_, sym, _∙_}
 use mathlib.Core.List.{List}
-use Prim.Native.Nat.{ℕ, _+_, _-_, _≤_}
+use Prim.Native.Nat.{_+_, _-_, _≤_}
 use native.Mathlib.Omega.{arith}
 use borrow.Author.Needs.{needs}
 use borrow.Author.Tests.{not-true}

@@ -1,0 +1,22 @@
+-- `payout::newline_count` meets its contract: the last line has every newline before it. Assumes nothing.
+use mathlib.Core.Path.{ap, _∙_}
+use Prim.Native.Nat.{ℕ, _-_}
+use native.Mathlib.Omega.{arith}
+use lib.ListN.{length}
+use Rattle.meaning_text.proofs.Lines.{line-counts}
+use Rattle.payout.proofs.Outcome.{last-line}
+use borrow.Author.Needs.{needs}
+use Rattle.payout.proofs.newline_count.Statement.{statement}
+use Rattle.payout.proofs.newline_count.Tie as tie
+
+bad-line-requires : tie.Need-bad-line-requires
+bad-line-requires c κs = search needs
+
+sub-result : tie.Need-sub-result
+sub-result c = let t = c .before .before .args .text .now in omega (arith, c .bad-line .ensures, line-counts t (length t))
+
+returns : tie.Need-returns
+returns c = let t = c .before .before .args .text .now in ap (λ (n : ℕ). n - 1) (c .bad-line .ensures) ∙ last-line t
+
+pub newline-count-spec : {M : Type 1} → statement M
+newline-count-spec = tie.close (tie.spec bad-line-requires sub-result returns)

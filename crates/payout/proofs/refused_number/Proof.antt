@@ -1,0 +1,22 @@
+-- `payout::refused_number` meets its contract. By the number. Assumes nothing.
+use mathlib.Core.Path.{sym, subst, _∙_}
+use Prim.Native.Nat.{ℕ, _<_, _^_}
+use Rattle.payout.proofs.Small.{packed-unread, packed-other}
+use Rattle.payout.proofs.refused_number.Statement.{statement}
+use Rattle.payout.proofs.refused_number.Tie as tie
+
+unread-number-requires : tie.Need-unread-number-requires
+unread-number-requires c κs = subst (λ (n : ℕ). n < 2 ^ 64) (sym (packed-unread (c .before .args .number) (c .before .args .place) (c .if1 .taken))) (c .before .pre)
+
+returns : tie.Need-returns
+returns c = c .unread-number .ensures ∙ packed-unread (c .before .before .args .number) (c .before .before .args .place) (c .before .if1 .taken)
+
+other-number-requires : tie.Need-other-number-requires
+other-number-requires c κs = subst (λ (n : ℕ). n < 2 ^ 64) (sym (packed-other (c .before .args .number) (c .before .args .place) (c .if1 .left))) (c .before .pre)
+
+returns-2 : tie.Need-returns-2
+returns-2 c = c .other-number .ensures ∙ packed-other (c .before .before .args .number) (c .before .before .args .place) (c .before .if1 .left)
+
+pub refused-number-spec : {M : Type 1} → statement M
+refused-number-spec =
+    tie.close (tie.spec unread-number-requires returns other-number-requires returns-2)

@@ -1,0 +1,2 @@
+-- The audit of the first values of a buffer (`Counted`).
+pub mod Counted
