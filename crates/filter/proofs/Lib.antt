@@ -2,8 +2,6 @@
 pub mod Ends
 pub mod Above
 pub mod Spanned
-pub mod Turn
 pub mod Calls
 pub mod PartCalls
 pub mod Meaning
-pub mod FindCalls

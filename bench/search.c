@@ -1,0 +1,103 @@
+// Runs the proved search, the same search in plain C and a scan without index in plain C on the same input, in turn, compares what they list, and prints the least time of some runs of each and the ratios. The indexes are built by the plain C.
+#include <stdint.h>
+#include <stdio.h>
+#include <string.h>
+#include <time.h>
+typedef int32_t i32;
+typedef uint16_t u16;
+typedef uint32_t u32;
+typedef uint64_t u64;
+typedef struct { i32 low, up; u32 first, runs; } Row;
+typedef struct { u32 window, width, windows; } Head;
+typedef struct { u32 kind, band; u64 threshold; u32 scale, shift; } Asked;
+typedef struct { u32 kind; size_t first, second; } Answer;
+typedef struct { u64 candidates, matches; } Counts;
+
+Answer index_search(const i32 *, size_t, Head, const Row *, size_t, const u32 *, size_t, const u32 *, size_t, Asked, const i32 *, size_t,
+                    u32 *, size_t, u32 *, size_t, u16 *, size_t, u32 *, size_t, u64 *, size_t);
+int plain_search(const i32 *, size_t, Head, const Row *, size_t, const u32 *, const u32 *, size_t, Asked, const i32 *, size_t, u32 *, u32 *, u16 *, u32 *, u64 *, u64, Counts *);
+int plain_scan(const i32 *, size_t, Asked, const i32 *, size_t, u32 *, u64 *, u64, Counts *);
+size_t plain_build(const i32 *, size_t, size_t, u32, u32, Row *, size_t, u32 *, u32 *);
+
+static double now(void) {
+    struct timespec t;
+    clock_gettime(CLOCK_THREAD_CPUTIME_ID, &t); // time of this thread alone: other work on the machine disturbs less
+    return t.tv_sec + 1e-9 * t.tv_nsec;
+}
+
+static u64 state = 88172645463325252ull;
+static u64 any(void) {
+    state ^= state << 13;
+    state ^= state >> 7;
+    state ^= state << 17;
+    return state;
+}
+static i32 in_limits(int v) { return v > 10000 ? 10000 : v < -10000 ? -10000 : v; }
+
+enum { N = 1 << 20, W = 64, ROOM = N - W + 1, LIST = 4096 };
+typedef struct { u32 first[ROOM], last[ROOM]; u16 scratch[ROOM]; u32 offsets[LIST]; u64 distances[LIST]; } Lists;
+static i32 s[N], q[1024];
+static Row rows[ROOM];
+static u32 left[ROOM], right[ROOM];
+static Lists mine, plain;
+static u32 offsets[LIST];
+static u64 distances[LIST];
+static int different, missed;
+
+static double least(double a, double b) { return a < b ? a : b; }
+
+// all three in turn
+static void race(const char *name, size_t count, Head head, size_t m, Asked asked, int selective) {
+    size_t runs = rows[count - 1].first + rows[count - 1].runs;
+    double ra = 1e9, ca = 1e9, sa = 1e9, all = 0;
+    Answer x = {9, 0, 0};
+    Counts y = {0, 0}, z = {0, 0};
+    for (int k = 0; k < 15 && (k < 2 || all < 3); k++) {
+        double t0 = now();
+        x = index_search(s, N, head, rows, count, left, runs, right, runs, asked, q, m, mine.first, ROOM, mine.last, ROOM, mine.scratch, ROOM, mine.offsets, LIST, mine.distances, LIST);
+        double t1 = now();
+        plain_search(s, N, head, rows, count, left, right, runs, asked, q, m, plain.first, plain.last, plain.scratch, plain.offsets, plain.distances, LIST, &y);
+        double t2 = now();
+        plain_scan(s, N, asked, q, m, offsets, distances, LIST, &z);
+        double t3 = now();
+        ra = least(ra, t1 - t0);
+        ca = least(ca, t2 - t1);
+        sa = least(sa, t3 - t2);
+        all += t3 - t0;
+    }
+    int same = x.kind < 3 && x.first == y.candidates && x.second == y.matches && y.matches == z.matches && !memcmp(&mine, &plain, sizeof mine) && !memcmp(mine.offsets, offsets, sizeof offsets) && !memcmp(mine.distances, distances, sizeof distances);
+    int slow = ra > 1.3 * ca || ra > 1.5 * sa || (selective && asked.band && 5 * ra > sa);
+    if (!same) different++;
+    if (slow) missed++;
+    printf("%-19s m=%-4zu %-13s of C %5.2f  of the scan 1/%-6.2f %8.2f / %8.2f / %8.2f ms  %7zu candidates %6zu matches%s%s\n", name, m, selective ? "selective" : "not selective", ra / ca, sa / ra, ra * 1e3, ca * 1e3, sa * 1e3,
+           x.first, x.second, slow ? "  MISSED" : "", same ? "" : "  DIFFERENT");
+    fflush(stdout);
+}
+
+// the four kinds, for a query that stands in the series with some noise
+static void races(u32 d, u32 g, size_t most) {
+    Head head = {W, d, ROOM};
+    size_t count = plain_build(s, N, W, d, g, rows, ROOM, left, right);
+    printf("index of w=%d d=%u g=%u: %zu rows, %u runs\n", W, d, g, count, rows[count - 1].first + rows[count - 1].runs);
+    for (size_t m = 256; m <= most; m *= 4)
+        for (u32 kind = 0; kind < 2; kind++)
+            for (u32 warped = 0; warped < 2; warped++)
+                for (int selective = 1; selective >= 0; selective--) {
+                    for (size_t i = 0; i < m; i++) q[i] = in_limits(s[N / 2 + i] + (int)(any() % 11) - 5);
+                    u64 each = kind ? (selective ? 4 : 300) : (selective ? 15 : 20000); // squared difference a value
+                    Asked asked = {kind, warped ? m / 20 : 0, each * m, kind && selective ? 12 : 20, kind && selective ? 200 : 2000};
+                    char name[40];
+                    snprintf(name, sizeof name, "%s %s", kind ? "normalised" : "raw", warped ? "warped" : "straight");
+                    race(name, count, head, m, asked, selective);
+                }
+}
+
+int main(void) {
+    int v = 0;
+    for (int i = 0; i < N; i++) s[i] = v = in_limits(v + (int)(any() % 201) - 100);
+    races(4096, 0, 1024);
+    races(16, 80, 256);
+    puts(different ? "DIFFERENT answers" : "all answers and buffers are the same");
+    printf("%d goals missed (at most 1.3 of C, at most 1.5 of the scan, selective warped searches at most 1/5 of the scan)\n", missed);
+    return different != 0;
+}
