@@ -1,15 +1,15 @@
 -- The loop over the chunks of an audit. `Auditing` is its invariant: where the audit goes on, nothing refuses and what is filed wrongly first from here on is what is filed wrongly first; where it does not, the answer is had. How it starts, moves, stops and ends. Assumes nothing.
 use mathlib.Core.Path.{_≡_, refl, sym, ap, subst, _∙_}
-use mathlib.Core.Bool.{Bool, true, false, not, cond}
-use mathlib.Core.List.{List, [], _∷_}
+use mathlib.Core.Bool.{true, false}
+use mathlib.Core.List.{List}
 use mathlib.Core.Option.{Option, none, some}
-use Prim.Native.Nat.{ℕ, zero, suc, _+_, _-_, _<_, _≤_, _^_}
+use Prim.Native.Nat.{ℕ, _+_, _-_, _<_, _≤_, _^_}
 use native.Mathlib.Omega.{arith}
-use lib.Dec.{T, eqb}
+use lib.Dec.{eqb}
 use lib.IntN.{ℤ, pos, _+ℤ_, _-ℤ_}
 use lib.ListN.{length, drop, drop-of-length-le}
 use lib.Signed.{ltZ, ltZ-no, _≤ℤ_}
-use borrow.Author.Tests.{eq-eqb, ne-eqb}
+use borrow.Author.Tests.{ne-eqb}
 use Rattle.meaning_numbers.proofs.Rep.{zarith, z-add, z-sub}
 use Rattle.meaning_numbers.proofs.Tests.{by-test, clash}
 use Rattle.meaning_curves.specs.Limits.{mostValues, lengthIn, firstOutside}
@@ -24,10 +24,9 @@ use Rattle.meaning_rows.proofs.Audit.{missing-are}
 use Rattle.meaning_entries.specs.declared.Audited.{Audited}
 use Rattle.meaning_entries.specs.Refusal.{Condition, firstRefusal, lengthOutside, valueOutside, illFormed, fewerWindows, moreWindows}
 use Rattle.meaning_entries.specs.Audit.{AuditCall, lentAudit, auditTable, complete, audited, auditAnswer}
-use Rattle.meaning_entries.proofs.Refusal.{First, Passed, here, later, end, more, first-is, passed-is}
+use Rattle.meaning_entries.proofs.Refusal.{here, later, end, more, first-is, passed-is}
 use Rattle.records.specs.Records.{chunkOf}
 use Rattle.records.proofs.Chunk.{chunk-length}
-use Rattle.judge.specs.declared.Judged.{Judged}
 use Rattle.conditions.proofs.Lines.{long-place, value-place, formed-place, fewer-place, more-place}
 use Rattle.judge.specs.Judged.{outcome, judgedOf}
 use Rattle.judge.proofs.Outcome.{judged-by}

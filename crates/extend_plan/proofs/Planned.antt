@@ -1,7 +1,7 @@
 -- The plan of an extension is its refusal (`planned`): the first line of its table that applies; where none does, the index is well formed and the series long enough, and the buffers have room. Assumes nothing.
-use mathlib.Core.Path.{_≡_, refl, sym, ap, subst, _∙_}
-use mathlib.Core.Bool.{Bool, true, false, not, cond}
-use mathlib.Core.List.{List, [], _∷_}
+use mathlib.Core.Path.{_≡_, refl, sym, ap, _∙_}
+use mathlib.Core.Bool.{true, false}
+use mathlib.Core.List.{List}
 use mathlib.Core.Option.{Option, none, some}
 use Prim.Native.Nat.{ℕ, _+_, _-_, _≤_}
 use native.Mathlib.Omega.{arith}
@@ -17,14 +17,13 @@ use Rattle.meaning_curves.specs.Limits.{mostValues, lengthIn, firstOutside}
 use Rattle.meaning_rows.specs.declared.Row.{Row}
 use Rattle.meaning_rows.specs.declared.Head.{Head}
 use Rattle.meaning_rows.specs.Index.{Index, lent}
-use Rattle.meaning_rows.specs.Judge.{lengthTotal, firstBadRow}
+use Rattle.meaning_rows.specs.Judge.{firstBadRow}
 use Rattle.meaning_rows.proofs.Judge.{WellFormed, well-formed}
 use Rattle.meaning_rows.proofs.Extend.{Extendable}
 use Rattle.meaning_entries.specs.Refusal.{Condition, firstRefusal, lengthOutside, valueOutside, illFormed, moreWindows, bufferShort}
 use Rattle.meaning_entries.specs.Buffers.{IndexBuffers, runRoom}
 use Rattle.meaning_entries.specs.Extend.{ExtendCall, lentExtend, extendWindows, extendTable}
-use Rattle.meaning_entries.proofs.Refusal.{First, Passed, here, later, end, more, first-is, passed-is}
-use Rattle.judge.specs.declared.Judged.{Judged}
+use Rattle.meaning_entries.proofs.Refusal.{here, later, end, more, first-is, passed-is}
 use Rattle.conditions.proofs.Lines.{long-place, value-place, formed-place, more-place, short-place}
 use Rattle.judge.specs.Judged.{outcome, judgedOf}
 use Rattle.judge.proofs.Outcome.{judged-by}

@@ -50,7 +50,7 @@ use Rattle.layout.proofs.find_row as find
 use Rattle.layout.proofs.find_row.Symbol.{name as #layout·find-row}
 use Rattle.neighbours.specs.Ranges.{raisedBy, LimitedRow, placeIn, found-place}
 use Rattle.neighbours.specs.Places.{placeFrom, sumAt, nameFor, nameIn, Nameable}
-use Rattle.neighbours.proofs.Told.{calls-told}
+use Rattle.records.proofs.Told.{calls-told-kept}
 use Rattle.neighbours.proofs.sum_of as sum-fn
 use Rattle.neighbours.proofs.sum_of.Symbol.{name as #neighbours·sum-of}
 use Rattle.neighbours.proofs.name_of as name-fn
@@ -195,6 +195,6 @@ module _ {M : Type 1} {𝓤 : URA M} {H : Heap 𝓤} {A : Atoms 𝓤} {K : Type 
       → ((v : Place) → Stop (level (now s) w e) (windowsOf (now s) w) (raisedBy (10000 * w + e) (r .low)) (raisedBy (10000 * w + e) (r .up)) (p .offset) (v .offset) (v .level) → IsPlace v → Seq K W (‵ (flft κ q) ∷ ‵ (OwnZ κ s) ∷ Γ) (lands C Λ E d (low-place v) rest o))
       → Seq K W (‵ (flft κ q) ∷ ‵ (OwnZ κ s) ∷ Γ) (runs C Λ E (seq (call #neighbours·run-end xs d) rest) o)
   calls-run-end t fm mem run met κ q s w e p r gw ge gp gr y os k =
-      calls-told t fm end-fn.signature (end-fn.spec 𝓤 H A mem run) met (to-run-end 𝓤 H A mem run κ q s w e p r) (‵ (flft κ q)) (‵ (OwnZ κ s)) (shr-slice-copy 𝓤 H A W (named 0) κ i32 .twice s (slice-vals s))
+      calls-told-kept t fm end-fn.signature (end-fn.spec 𝓤 H A mem run) met (to-run-end 𝓤 H A mem run κ q s w e p r) (‵ (flft κ q)) (‵ (OwnZ κ s)) (shr-slice-copy 𝓤 H A W (named 0) κ i32 .twice s (slice-vals s))
       (asks-run-end 𝓤 H A mem run W κ q s w e p r gw ge gp gr y) (fst∗ 𝓤 (A .lft κ q) (emp 𝓤)) (λ v. Stop (level (now s) w e) (windowsOf (now s) w) (raisedBy (10000 * w + e) (r .low)) (raisedBy (10000 * w + e) (r .up)) (p .offset) (v .offset) (v .level)) low-place (LL.tells P.the-type P′.the-laws)
       (λ v. exE 𝓤 _ (λ ws. snd∗ 𝓤 (sem 𝓤 H A (lasts end-fn.ended (κ, tt) (s, (w, (e, (p, (r, tt))))) ws)) (fact 𝓤 (Stop (level (now s) w e) (windowsOf (now s) w) (raisedBy (10000 * w + e) (r .low)) (raisedBy (10000 * w + e) (r .up)) (p .offset) (v .offset) (v .level))))) os k

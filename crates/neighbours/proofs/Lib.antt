@@ -1,4 +1,3 @@
 -- Calls of a walk.
-pub mod Told
 pub mod Calls
 pub mod FileCall

@@ -58,7 +58,8 @@ use Rattle.pack.specs.PackedAs.{PackedAs}
 use Rattle.merge.specs.Merging.{Rows, Ready, Mergeable, Merging, merging-start, merging-turn, merging-place, merging-joinable, merging-end}
 use Rattle.merge.proofs.Group as G
 use Rattle.merge.proofs.Group.Laws as G′
-use Rattle.merge.proofs.Calls.{FirstGroup, MergeRow, Toks, Owns, low-group, IsGroup, calls-first, calls-merge}
+use Rattle.records.proofs.Slices.{Toks, Owns}
+use Rattle.merge.proofs.Calls.{FirstGroup, MergeRow, low-group, IsGroup, calls-first, calls-merge}
 use Rattle.merge.proofs.first_group.Symbol as first-def
 use Rattle.merge.proofs.first_group.Symbol.{name as #merge·first-group}
 use Rattle.merge.proofs.first_group.Met as first-thm
@@ -207,7 +208,7 @@ module _ {M : Type 1} (𝓤 : URA M) (H : Heap 𝓤) (A : Atoms 𝓤) (W : Given
   passed = sliceVal (xr .ptr) (length ys) ∷ vint w64 n ∷ sliceVal (xa .ptr) (length (xa .now)) ∷ sliceVal (xe .ptr) (length (xe .now)) ∷ vint w64 g ∷ []
 
   abbrev Tokens : Item 𝓤
-  Tokens = ‵ (flft κ₀ q₀) ⊛ Toks 𝓤 H A mem run W κ₁ κ₂ q₁ q₂ xa xe
+  Tokens = ‵ (flft κ₀ q₀) ⊛ Toks 𝓤 κ₁ κ₂ q₁ q₂
 
   abbrev Owned : Item 𝓤
   Owned = ‵ (owns (MutSlice (named 0) κ₀ T.the-row ∷ usize ∷ ShrSlice (named 1) κ₁ u32 ∷ ShrSlice (named 2) κ₂ u32 ∷ usize ∷ []) a vals)
@@ -217,9 +218,9 @@ module _ {M : Type 1} (𝓤 : URA M) (H : Heap 𝓤) (A : Atoms 𝓤) (W : Given
 
   exits : Room T.the-row (length ys) → (zs : List Row) → length zs ≡ length ys → (k : ℕ) → k < 2 ^ 64
       → ((t : Rows) → Ready t ys n (xa .now) (xe .now) → PackedAs (t .windows) (merged g (t .windows) (t .list)) zs k)
-      → ent 𝓤 (⋆ 𝓤 H A (‵ (fobs (xr .name) (codedHoleys T.the-row .code (heres T.the-row zs))) ∷ ‵ (fbor κ₀ (Held T.the-row (length zs) b o (xr .name))) ∷ ‵ (flft κ₀ q₀) ∷ Toks 𝓤 H A mem run W κ₁ κ₂ q₁ q₂ xa xe ∷ [])) (Post (vint w64 k))
+      → ent 𝓤 (⋆ 𝓤 H A (‵ (fobs (xr .name) (codedHoleys T.the-row .code (heres T.the-row zs))) ∷ ‵ (fbor κ₀ (Held T.the-row (length zs) b o (xr .name))) ∷ ‵ (flft κ₀ q₀) ∷ Toks 𝓤 κ₁ κ₂ q₁ q₂ ∷ [])) (Post (vint w64 k))
   exits rm zs e k fits right =
-      qed W (‵ (fobs (xr .name) (codedHoleys T.the-row .code (heres T.the-row zs))) ∷ ‵ (fbor κ₀ (Held T.the-row (length zs) b o (xr .name))) ∷ ‵ (flft κ₀ q₀) ∷ Toks 𝓤 H A mem run W κ₁ κ₂ q₁ q₂ xa xe ∷ []) ∵
+      qed W (‵ (fobs (xr .name) (codedHoleys T.the-row .code (heres T.the-row zs))) ∷ ‵ (fbor κ₀ (Held T.the-row (length zs) b o (xr .name))) ∷ ‵ (flft κ₀ q₀) ∷ Toks 𝓤 κ₁ κ₂ q₁ q₂ ∷ []) ∵
       suffices ! _ (ends-at 𝓤 H A f′.ended stayed (f′.clauses 𝓤 H A mem run) W ((κs, qs, tt, a, vals), tt) (vint w64 k) k (zs, (tt, (tt, (tt, (tt, tt))))) (e, (tt, (tt, (tt, (tt, tt)))))) $ says ! right $
       move ! (2 ∷ 3 ∷ []) $ join ! $ frame ! $
       nothing ! $ nothing ! $ fjoin ! $ nothing ! $ fjoin ! $ nothing ! $ fjoin ! $ nothing ! $ fjoin ! $
@@ -235,7 +236,7 @@ module _ {M : Type 1} (𝓤 : URA M) (H : Heap 𝓤) (A : Atoms 𝓤) (W : Given
       En = (word, l₀) ∷ (rowsTy, l₁) ∷ (word, l₂) ∷ (leftTy, l₃) ∷ (rightTy, l₄) ∷ (word, l₅) ∷ (T′.mir, l₆) ∷ (G′.mir, l₇) ∷ (word, l₈) ∷ (T′.mir, l₉) ∷ (word, l₁₀) ∷ (T′.mir, l₁₁) ∷ (tyPtr, l₁₂) ∷ (T′.mir, l₁₃) ∷ (tyBool, l₁₄) ∷ (word, l₁₅) ∷ (tyPtr, l₁₆) ∷ (T′.mir, l₁₇) ∷ (tyPtr, l₁₈) ∷ []
 
       abbrev At : State ys n (xa .now) (xe .now) g → List (Item 𝓤)
-      At s = Toks 𝓤 H A mem run W κ₁ κ₂ q₁ q₂ xa xe ∷ Owns 𝓤 H A mem run W κ₁ κ₂ q₁ q₂ xa xe ∷ ‵ (row T.the-row fullShare (s .1) b o) ∷ ‵ (froom tyPtr l₁₈ 0) ∷ ‵ (fdies tyPtr l₁₈) ∷ ‵ (froom T′.mir l₁₇ 0) ∷ ‵ (fdies T′.mir l₁₇) ∷ ‵ (froom tyPtr l₁₆ 0) ∷ ‵ (fdies tyPtr l₁₆) ∷ ‵ (froom word l₁₅ 0) ∷ ‵ (fdies word l₁₅) ∷ ‵ (froom tyBool l₁₄ 0) ∷ ‵ (fdies tyBool l₁₄) ∷ ‵ (froom T′.mir l₁₃ 0) ∷ ‵ (fdies T′.mir l₁₃) ∷ ‵ (froom tyPtr l₁₂ 0) ∷ ‵ (fdies tyPtr l₁₂) ∷ ‵ (froom T′.mir l₁₁ 0) ∷ ‵ (fdies T′.mir l₁₁) ∷ ‵ (froom word l₁₀ 0) ∷ ‵ (fdies word l₁₀) ∷ ‵ (froom T′.mir l₉ 0) ∷ ‵ (fdies T′.mir l₉) ∷ ‵ (fat fullShare word l₈ 0 (vint w64 (s .0))) ∷ ‵ (fdies word l₈) ∷ ‵ (fat fullShare G′.mir l₇ 0 (low-group (s .2))) ∷ ‵ (fdies G′.mir l₇) ∷ ‵ (froom T′.mir l₆ 0) ∷ ‵ (fdies T′.mir l₆) ∷ ‵ (fat fullShare word l₅ 0 (vint w64 g)) ∷ ‵ (fdies word l₅) ∷ ‵ (fat fullShare rightTy l₄ 0 (sliceVal (xe .ptr) (length (xe .now)))) ∷ ‵ (fdies rightTy l₄) ∷ ‵ (fat fullShare leftTy l₃ 0 (sliceVal (xa .ptr) (length (xa .now)))) ∷ ‵ (fdies leftTy l₃) ∷ ‵ (fat fullShare word l₂ 0 (vint w64 n)) ∷ ‵ (fdies word l₂) ∷ ‵ (fat fullShare rowsTy l₁ 0 (sliceVal (xr .ptr) (length ys))) ∷ ‵ (fdies rowsTy l₁) ∷ ‵ (froom word l₀ 0) ∷ ‵ (fdies word l₀) ∷ ‵ (fobor κ₀ q₀ (Held T.the-row (length ys) b o (xr .name))) ∷ ‵ (fobs (xr .name) (codedHoleys T.the-row .code (heres T.the-row ys))) ∷ ‵ (fauth (xr .name) (codedHoleys T.the-row .code (heres T.the-row ys))) ∷ []
+      At s = Toks 𝓤 κ₁ κ₂ q₁ q₂ ∷ Owns 𝓤 κ₁ κ₂ xa xe ∷ ‵ (row T.the-row fullShare (s .1) b o) ∷ ‵ (froom tyPtr l₁₈ 0) ∷ ‵ (fdies tyPtr l₁₈) ∷ ‵ (froom T′.mir l₁₇ 0) ∷ ‵ (fdies T′.mir l₁₇) ∷ ‵ (froom tyPtr l₁₆ 0) ∷ ‵ (fdies tyPtr l₁₆) ∷ ‵ (froom word l₁₅ 0) ∷ ‵ (fdies word l₁₅) ∷ ‵ (froom tyBool l₁₄ 0) ∷ ‵ (fdies tyBool l₁₄) ∷ ‵ (froom T′.mir l₁₃ 0) ∷ ‵ (fdies T′.mir l₁₃) ∷ ‵ (froom tyPtr l₁₂ 0) ∷ ‵ (fdies tyPtr l₁₂) ∷ ‵ (froom T′.mir l₁₁ 0) ∷ ‵ (fdies T′.mir l₁₁) ∷ ‵ (froom word l₁₀ 0) ∷ ‵ (fdies word l₁₀) ∷ ‵ (froom T′.mir l₉ 0) ∷ ‵ (fdies T′.mir l₉) ∷ ‵ (fat fullShare word l₈ 0 (vint w64 (s .0))) ∷ ‵ (fdies word l₈) ∷ ‵ (fat fullShare G′.mir l₇ 0 (low-group (s .2))) ∷ ‵ (fdies G′.mir l₇) ∷ ‵ (froom T′.mir l₆ 0) ∷ ‵ (fdies T′.mir l₆) ∷ ‵ (fat fullShare word l₅ 0 (vint w64 g)) ∷ ‵ (fdies word l₅) ∷ ‵ (fat fullShare rightTy l₄ 0 (sliceVal (xe .ptr) (length (xe .now)))) ∷ ‵ (fdies rightTy l₄) ∷ ‵ (fat fullShare leftTy l₃ 0 (sliceVal (xa .ptr) (length (xa .now)))) ∷ ‵ (fdies leftTy l₃) ∷ ‵ (fat fullShare word l₂ 0 (vint w64 n)) ∷ ‵ (fdies word l₂) ∷ ‵ (fat fullShare rowsTy l₁ 0 (sliceVal (xr .ptr) (length ys))) ∷ ‵ (fdies rowsTy l₁) ∷ ‵ (froom word l₀ 0) ∷ ‵ (fdies word l₀) ∷ ‵ (fobor κ₀ q₀ (Held T.the-row (length ys) b o (xr .name))) ∷ ‵ (fobs (xr .name) (codedHoleys T.the-row .code (heres T.the-row ys))) ∷ ‵ (fauth (xr .name) (codedHoleys T.the-row .code (heres T.the-row ys))) ∷ []
 
       -- when the loop is left, the rest of the body runs
       abbrev Left : Out → SProp 𝓤
@@ -281,7 +282,7 @@ module _ {M : Type 1} (𝓤 : URA M) (H : Heap 𝓤) (A : Atoms 𝓤) (W : Given
 
       -- where the body begins, with the records open
       abbrev Opened : List (Item 𝓤)
-      Opened = Toks 𝓤 H A mem run W κ₁ κ₂ q₁ q₂ xa xe ∷ Owns 𝓤 H A mem run W κ₁ κ₂ q₁ q₂ xa xe ∷ ‵ (row T.the-row fullShare ys b o) ∷ ‵ (froom tyPtr l₁₈ 0) ∷ ‵ (fdies tyPtr l₁₈) ∷ ‵ (froom T′.mir l₁₇ 0) ∷ ‵ (fdies T′.mir l₁₇) ∷ ‵ (froom tyPtr l₁₆ 0) ∷ ‵ (fdies tyPtr l₁₆) ∷ ‵ (froom word l₁₅ 0) ∷ ‵ (fdies word l₁₅) ∷ ‵ (froom tyBool l₁₄ 0) ∷ ‵ (fdies tyBool l₁₄) ∷ ‵ (froom T′.mir l₁₃ 0) ∷ ‵ (fdies T′.mir l₁₃) ∷ ‵ (froom tyPtr l₁₂ 0) ∷ ‵ (fdies tyPtr l₁₂) ∷ ‵ (froom T′.mir l₁₁ 0) ∷ ‵ (fdies T′.mir l₁₁) ∷ ‵ (froom word l₁₀ 0) ∷ ‵ (fdies word l₁₀) ∷ ‵ (froom T′.mir l₉ 0) ∷ ‵ (fdies T′.mir l₉) ∷ ‵ (froom word l₈ 0) ∷ ‵ (fdies word l₈) ∷ ‵ (froom G′.mir l₇ 0) ∷ ‵ (fdies G′.mir l₇) ∷ ‵ (froom T′.mir l₆ 0) ∷ ‵ (fdies T′.mir l₆) ∷ ‵ (fat fullShare word l₅ 0 (vint w64 g)) ∷ ‵ (fdies word l₅) ∷ ‵ (fat fullShare rightTy l₄ 0 (sliceVal (xe .ptr) (length (xe .now)))) ∷ ‵ (fdies rightTy l₄) ∷ ‵ (fat fullShare leftTy l₃ 0 (sliceVal (xa .ptr) (length (xa .now)))) ∷ ‵ (fdies leftTy l₃) ∷ ‵ (fat fullShare word l₂ 0 (vint w64 n)) ∷ ‵ (fdies word l₂) ∷ ‵ (fat fullShare rowsTy l₁ 0 (sliceVal (xr .ptr) (length ys))) ∷ ‵ (fdies rowsTy l₁) ∷ ‵ (froom word l₀ 0) ∷ ‵ (fdies word l₀) ∷ ‵ (fobor κ₀ q₀ (Held T.the-row (length ys) b o (xr .name))) ∷ ‵ (fobs (xr .name) (codedHoleys T.the-row .code (heres T.the-row ys))) ∷ ‵ (fauth (xr .name) (codedHoleys T.the-row .code (heres T.the-row ys))) ∷ []
+      Opened = Toks 𝓤 κ₁ κ₂ q₁ q₂ ∷ Owns 𝓤 κ₁ κ₂ xa xe ∷ ‵ (row T.the-row fullShare ys b o) ∷ ‵ (froom tyPtr l₁₈ 0) ∷ ‵ (fdies tyPtr l₁₈) ∷ ‵ (froom T′.mir l₁₇ 0) ∷ ‵ (fdies T′.mir l₁₇) ∷ ‵ (froom tyPtr l₁₆ 0) ∷ ‵ (fdies tyPtr l₁₆) ∷ ‵ (froom word l₁₅ 0) ∷ ‵ (fdies word l₁₅) ∷ ‵ (froom tyBool l₁₄ 0) ∷ ‵ (fdies tyBool l₁₄) ∷ ‵ (froom T′.mir l₁₃ 0) ∷ ‵ (fdies T′.mir l₁₃) ∷ ‵ (froom tyPtr l₁₂ 0) ∷ ‵ (fdies tyPtr l₁₂) ∷ ‵ (froom T′.mir l₁₁ 0) ∷ ‵ (fdies T′.mir l₁₁) ∷ ‵ (froom word l₁₀ 0) ∷ ‵ (fdies word l₁₀) ∷ ‵ (froom T′.mir l₉ 0) ∷ ‵ (fdies T′.mir l₉) ∷ ‵ (froom word l₈ 0) ∷ ‵ (fdies word l₈) ∷ ‵ (froom G′.mir l₇ 0) ∷ ‵ (fdies G′.mir l₇) ∷ ‵ (froom T′.mir l₆ 0) ∷ ‵ (fdies T′.mir l₆) ∷ ‵ (fat fullShare word l₅ 0 (vint w64 g)) ∷ ‵ (fdies word l₅) ∷ ‵ (fat fullShare rightTy l₄ 0 (sliceVal (xe .ptr) (length (xe .now)))) ∷ ‵ (fdies rightTy l₄) ∷ ‵ (fat fullShare leftTy l₃ 0 (sliceVal (xa .ptr) (length (xa .now)))) ∷ ‵ (fdies leftTy l₃) ∷ ‵ (fat fullShare word l₂ 0 (vint w64 n)) ∷ ‵ (fdies word l₂) ∷ ‵ (fat fullShare rowsTy l₁ 0 (sliceVal (xr .ptr) (length ys))) ∷ ‵ (fdies rowsTy l₁) ∷ ‵ (froom word l₀ 0) ∷ ‵ (fdies word l₀) ∷ ‵ (fobor κ₀ q₀ (Held T.the-row (length ys) b o (xr .name))) ∷ ‵ (fobs (xr .name) (codedHoleys T.the-row .code (heres T.the-row ys))) ∷ ‵ (fauth (xr .name) (codedHoleys T.the-row .code (heres T.the-row ys))) ∷ []
 
       -- the body, up to the loop
       body : ent 𝓤 (⋆ 𝓤 H A Opened) (Wp 𝓤 H (𝓣 .C) (𝓣 .Λ) En mir′.t-1 (atReturn 𝓤 H En Post))

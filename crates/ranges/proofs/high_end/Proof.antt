@@ -1,6 +1,6 @@
 -- `ranges::high_end` meets its contract: what is divided is small, so what the callees say of the machine's bits they say of the numbers (`dividend-back`). Assumes nothing.
 use borrow.Author.Needs.{needs}
-use mathlib.Core.Path.{_≡_, _∙_}
+use mathlib.Core.Path.{_∙_}
 use mathlib.Core.Bool.{false}
 use lib.IntN.{_+ℤ_}
 use mir.Syntax.{w64}

@@ -1,6 +1,6 @@
 -- `ranges::pick_of` meets its contract, by the flag. Assumes nothing.
 use borrow.Author.Needs.{needs}
-use mathlib.Core.Path.{_≡_, refl, _∙_}
+use mathlib.Core.Path.{refl, _∙_}
 use mir.Syntax.{w64}
 use mir.ValLaws.{toZ-ofZ}
 use Rattle.ranges.proofs.pick_of.Statement.{statement}
