@@ -1,0 +1,3 @@
+-- Calls in the walk of `build_audited`.
+pub mod First
+pub mod Calls
