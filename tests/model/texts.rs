@@ -118,6 +118,10 @@ fn lines(text: &[u8]) -> usize { text.iter().filter(|&&b| b == b'\n').count() }
 
 pub fn read_index(text: &[u8]) -> Result<Index, usize> { read(text, |r| r.index()) }
 
+pub fn read_series(text: &[u8]) -> Result<Vec<i64>, usize> { read(text, |r| r.series()) }
+
+pub fn read_call(text: &[u8]) -> Result<Call, usize> { read(text, |r| r.call()) }
+
 pub fn write_index(x: &Index) -> String {
     let mut t = format!("(index (window {}) (width {}) (windows {})\n", x.window, x.width, x.windows);
     for r in &x.rows {

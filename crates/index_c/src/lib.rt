@@ -23,7 +23,7 @@ pub struct Answer {
 }
 
 // A kind and two numbers.
-fn numbers(kind: u32, first: usize, second: usize) -> Answer
+pub fn numbers(kind: u32, first: usize, second: usize) -> Answer
     ensures { λ a. ⌜ a ≡ numbersOf kind first second ⌝ }
 {
     let none = Head {
@@ -67,7 +67,7 @@ pub extern "C" fn index_audit(
 }
 
 // The index in the buffers: its head, and how many rows and runs it has.
-fn index_told(head: Head, rows: usize, runs: usize) -> Answer
+pub fn index_told(head: Head, rows: usize, runs: usize) -> Answer
     ensures { λ a. ⌜ a ≡ indexOf head rows runs ⌝ }
 {
     Answer {

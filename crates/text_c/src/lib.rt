@@ -1,14 +1,21 @@
-// The writing of texts for C: for the comparison under tests/ and the measurements under bench/, and for nothing else. C has no row records of ours, so they are made here from columns of numbers. What is written is promised by the functions called.
+// The writing and reading of index texts for C: for the comparison under tests/ and the measurements under bench/, and for nothing else. The entry write takes its rows as columns of numbers, of which row records are made here; the entry read lends them.
+use index_c::Answer;
+use index_c::index_told;
+use index_c::numbers;
 use judge::lesser;
+use meaning_entries::Loaded;
 use meaning_entries::Written;
 use meaning_rows::Head;
 use meaning_rows::Row;
+use text_load::read;
 use text_save::write;
 use text_write::write_row;
+ghost use mathlib.Core.Path.{_≡_};
 ghost use Prim.Native.Nat.{_≤_};
 ghost use lib.ListN.{take};
 ghost use Rattle.meaning_rows.specs.Index.{lent};
 ghost use Rattle.meaning_entries.specs.Demand2.{WriteKept};
+ghost use Rattle.text_c.specs.Told.{toldLoaded, LoadTold};
 
 // A row with all the runs, written at the front of the buffer; one past its end where there is no room.
 #[no_mangle]
@@ -108,4 +115,28 @@ pub extern "C" fn text_index(
     };
     let table = table_of(lows, ups, firsts, counts);
     packed(write_table(head, table, n, left, right, text))
+}
+
+// What a reading answers: 0 the index's head, and how many rows and runs it has; 3 the refusal's number and place.
+fn tell_loaded(a: Loaded) -> Answer
+    ensures { λ t. ⌜ t ≡ toldLoaded a ⌝ }
+{
+    match a {
+        Loaded::Index { head, rows, runs } => index_told(head, rows, runs),
+        Loaded::Refused { number, place } => numbers(3, number as usize, place),
+    }
+}
+
+// The entry read.
+#[no_mangle]
+pub extern "C" fn text_read(
+    text: &[u8],
+    rows: &mut [Row],
+    left: &mut [u32],
+    right: &mut [u32],
+) -> Answer
+    ensures { λ t. ⌜ LoadTold (now (text .entry)) (record { rows = now (rows .entry); left = now (left .entry); right = now (right .entry) }) t (record { rows = now (rows .exit); left = now (left .exit); right = now (right .exit) }) ⌝ }
+{
+    let a = read(text, rows, left, right);
+    tell_loaded(a)
 }

@@ -8,11 +8,8 @@ use text_numbers::number_value;
 ghost use mathlib.Core.Path.{_≡_};
 ghost use Prim.Native.Nat.{_<_};
 ghost use lib.ListN.{length, getD};
-ghost use Rattle.meaning_text.specs.Read.{readText};
-ghost use Rattle.meaning_text.specs.Texts.{indexForm};
 ghost use Rattle.text_numbers.specs.Number.{NumGood, whole};
 ghost use Rattle.text_index.specs.Step.{word, behind, turnAfter, pick, reach, closes, wordStep, turnStep, endStep, numberStep, indexStep, GoodState};
-ghost use Rattle.text_index.specs.Judge.{endOf, judgement};
 
 // The fixed words, by what stands behind each: a number, a row or the end, a run or the row's end.
 pub enum Word {
@@ -251,50 +248,4 @@ pub fn index_step(s: State, b: u8) -> Moved
         State::Before(t) => step_turn(t, b),
         State::Done => Moved::Refuse,
     }
-}
-
-// A text is in the form, or the place of its first bad byte; of a text cut short, the place where its next byte is due.
-pub enum Judged {
-    Fine,
-    Bad(usize),
-}
-
-// The end of a text of `at` bytes.
-fn text_end(s: State, at: usize) -> Judged
-    ensures { λ r. ⌜ r ≡ endOf s at ⌝ }
-{
-    match s {
-        State::In(_, _) => Judged::Bad(at),
-        State::At(_, _) => Judged::Bad(at),
-        State::Before(_) => Judged::Bad(at),
-        State::Done => Judged::Fine,
-    }
-}
-
-// A whole text.
-pub fn judge_index(text: &[u8]) -> Judged
-    ensures { λ r. ⌜ r ≡ judgement (readText indexForm (now (text .entry))) ⌝ }
-{
-    let mut s = State::In(Word::Window, 0);
-    let mut i = 0;
-    while i < text.len() {
-        match index_step(s, text[i]) {
-            Moved::To(n) => {
-                s = n;
-                i += 1;
-            }
-            Moved::Value(n, _, _) => {
-                s = n;
-                i += 1;
-            }
-            Moved::Closed(n) => {
-                s = n;
-                i += 1;
-            }
-            Moved::Refuse => {
-                return Judged::Bad(i);
-            }
-        }
-    }
-    text_end(s, i)
 }

@@ -4,6 +4,7 @@ ghost use Prim.Native.Nat.{_+_, _<_, _≤_, _^_};
 ghost use Rattle.meaning_text.specs.Read.{readText};
 ghost use Rattle.meaning_text.specs.Texts.{indexForm};
 ghost use Rattle.meaning_text.proofs.Automaton.{atEnd};
+ghost use Rattle.text_index.specs.declared.Place.{Place};
 ghost use Rattle.text_index.specs.View.{keptAt};
 ghost use Rattle.text_judge.specs.Tally.{held, noRuns, runNext, Sound, noRows, rowNext, tellTally, shutTally, Fits, startTally, scanned, keptScanned};
 use judge::range_good;
@@ -11,12 +12,12 @@ use judge::run_good;
 use judge::total_good;
 use meaning_rows::Head;
 use meaning_rows::Row;
+use text_event::Event;
+use text_event::next_event;
 use text_feed::narrow;
-use text_index::Moved;
 use text_index::Place;
 use text_index::State;
 use text_index::Word;
-use text_index::index_step;
 
 // The runs of a row so far: how many, that they are good, the least left end that the next may have, and their lengths added up.
 pub struct Runs {
@@ -233,6 +234,15 @@ pub fn tell(t: Tally, p: Place, z: i64) -> Tally
     }
 }
 
+// What a run says.
+pub fn tell_run(t: Tally, l: i64, r: i64) -> Tally
+    requires { ⌜ Sound (t .row .runs) ⌝ }
+    requires { ⌜ t .row .runs .count < 2 ^ 63 ⌝ }
+    ensures { λ n. ⌜ n ≡ tellTally Place.Right r (tellTally Place.Left l t) ⌝ }
+{
+    tell(tell(t, Place::Left, l), Place::Right, r)
+}
+
 // What a row's end says.
 pub fn shut(t: Tally) -> Tally
     requires { ⌜ t .rows .rows < 2 ^ 63 ⌝ }
@@ -295,26 +305,28 @@ pub fn scan(text: &[u8]) -> Scanned
     let mut s = State::In(Word::Window, 0);
     let mut t = no_tally();
     let mut i = 0;
-    while i < text.len() {
-        match index_step(s, text[i]) {
-            Moved::To(n) => {
-                s = n;
-                i += 1;
+    loop {
+        match next_event(text, s, i) {
+            Event::Run(l, r, at) => {
+                t = tell_run(t, l, r);
+                i = at;
             }
-            Moved::Value(n, p, z) => {
+            Event::Value(n, p, z, at) => {
                 s = n;
                 t = tell(t, p, z);
-                i += 1;
+                i = at;
             }
-            Moved::Closed(n) => {
+            Event::Closed(n, at) => {
                 s = n;
                 t = shut(t);
-                i += 1;
+                i = at;
             }
-            Moved::Refuse => {
-                return Scanned::Bad(i);
+            Event::Refuse(_, at) => {
+                return Scanned::Bad(at);
+            }
+            Event::End(n, at) => {
+                return scan_end(n, t, at);
             }
         }
     }
-    scan_end(s, t, i)
 }

@@ -20,6 +20,8 @@ use Rattle.text_index.specs.Step.{indexStep}
 use Rattle.text_index.specs.Follow.{start, Said, nothingSaid, told, closed, value}
 use Rattle.text_index.specs.Order.{placePart, Order}
 use Rattle.text_index.specs.View.{keptAt, endOf, Whole, text-viewed, Kept, kept-start, kept-to, kept-value, kept-closed, kept-refuse, kept-end}
+use Rattle.text_event.specs.declared.Event.{Event}
+use Rattle.text_event.specs.Event.{Quiet, EventAt, quiet-keeps, value-keeps, run-keeps}
 use Rattle.text_judge.specs.Tally.{held}
 use Rattle.text_judge.proofs.Prefix.{map-append}
 use Rattle.text_load.specs.Plan.{heldLefts, heldRights}
@@ -131,38 +133,55 @@ count-most : (t : Bool) (k : ℕ) → cond t (k + 1) k ≤ k + 1
 count-most true k = omega arith
 count-most false k = omega arith
 
-module _ {text left₀ right₀ left right : List ℕ} {s : State} {l k i : ℕ} (r : Filling text left₀ right₀ left right s l k i) where
+module _ (text left₀ right₀ : List ℕ) where
   abbrev at-start : Columns
   at-start = startColumns left₀ right₀
 
-  abbrev here : Columns
-  here = record { left = l; count = k; lefts = left; rights = right }
+  -- the same, of columns
+  abbrev Fill : State → Columns → ℕ → Type 0
+  Fill s t i = Filling text left₀ right₀ (t .lefts) (t .rights) s (t .left) (t .count) i
 
-  module _ (h : i < length text) where
-    pub filling-to : (n : State) → indexStep s (getD text i 0) ≡ Moved.To n → Filling text left₀ right₀ left right n l k (i + 1)
-    filling-to n e = record { kept = kept-to tellColumns shutColumns at-start text s here i (r .kept) h n e; count = omega (arith, r .count); left-long = r .left-long; right-long = r .right-long }
+  to : (s : State) (t : Columns) (i : ℕ) → Fill s t i → i < length text → (n : State) → indexStep s (getD text i 0) ≡ Moved.To n → Fill n t (i + 1)
+  to s t i r h n e = record { kept = kept-to tellColumns shutColumns at-start text s t i (r .kept) h n e; count = omega (arith, r .count); left-long = r .left-long; right-long = r .right-long }
 
-    pub filling-closed : (n : State) → indexStep s (getD text i 0) ≡ Moved.Closed n → Filling text left₀ right₀ left right n l k (i + 1)
-    filling-closed n e = record { kept = kept-closed tellColumns shutColumns at-start text s here i (r .kept) h n e; count = omega (arith, r .count); left-long = r .left-long; right-long = r .right-long }
+  value-to : (s : State) (t : Columns) (i : ℕ) → Fill s t i → i < length text → (n : State) (p : Place) (z : ℤ) → indexStep s (getD text i 0) ≡ Moved.Value n p z → Fill n (tellColumns p z t) (i + 1)
+  unfolding tellColumns
+  value-to s t i r h n p z e = record {
+    kept = kept-value tellColumns shutColumns at-start text s t i (r .kept) h n p z e;
+    count = omega (arith, r .count, count-most (isRight p) (t .count));
+    left-long = set-long (isRight p) (t .lefts) (t .count) (t .left) ∙ r .left-long;
+    right-long = set-long (isRight p) (t .rights) (t .count) (held z) ∙ r .right-long;
+  }
 
-    pub filling-value : (n : State) (p : Place) (z : ℤ) → indexStep s (getD text i 0) ≡ Moved.Value n p z
-        → Filling text left₀ right₀ (cond (isRight p) (set left k l) left) (cond (isRight p) (set right k (held z)) right) n (cond (isLeft p) (held z) l) (cond (isRight p) (k + 1) k) (i + 1)
+  module _ {left right : List ℕ} {s : State} {l k i : ℕ} (r : Filling text left₀ right₀ left right s l k i) where
+    abbrev here : Columns
+    here = record { left = l; count = k; lefts = left; rights = right }
+
+    quiet : {n : State} {j : ℕ} → Quiet text s i n j → Fill n here j
+    quiet q = quiet-keeps tellColumns text Fill to value-to here q r
+
+    pub filling-run : (a b : ℤ) (j : ℕ) → EventAt text s i (Event.Run a b j) → Filling text left₀ right₀ (set left k (held a)) (set right k (held b)) s (held a) (k + 1) j
     unfolding tellColumns
-    filling-value n p z e = record {
-      kept = kept-value tellColumns shutColumns at-start text s here i (r .kept) h n p z e;
-      count = omega (arith, r .count, count-most (isRight p) k);
-      left-long = set-long (isRight p) left k l ∙ r .left-long;
-      right-long = set-long (isRight p) right k (held z) ∙ r .right-long;
-    }
+    filling-run a b j e = rw (e .0) (run-keeps tellColumns text Fill to value-to here (e .1) (rw (e .0) at r))
 
-    pub filling-refuse : indexStep s (getD text i 0) ≡ Moved.Refuse → FilledRuns text left₀ right₀ left right
-    filling-refuse e = filled-none left₀ right₀ text i left right (kept-refuse tellColumns shutColumns at-start text s here i (r .kept) h e)
+    pub filling-value : (n : State) (p : Place) (z : ℤ) (j : ℕ) → EventAt text s i (Event.Value n p z j)
+        → Filling text left₀ right₀ (cond (isRight p) (set left k l) left) (cond (isRight p) (set right k (held z)) right) n (cond (isLeft p) (held z) l) (cond (isRight p) (k + 1) k) j
+    unfolding tellColumns
+    filling-value n p z j e = value-keeps tellColumns text Fill to value-to here e r
 
-  pub filling-end : length text ≤ i → FilledRuns text left₀ right₀ left right
-  filling-end h = by-state s (kept-end tellColumns shutColumns at-start text s here i (r .kept) h)
-    where
-      by-state : (q : State) → Passed left₀ right₀ text ≡ atEnd (keptAt q here) i → FilledRuns text left₀ right₀ left right
-      by-state (State.In w j) e = filled-none left₀ right₀ text i left right e
-      by-state (State.At p n) e = filled-none left₀ right₀ text i left right e
-      by-state (State.Before t) e = filled-none left₀ right₀ text i left right e
-      by-state State.Done e = filled-by left₀ right₀ text here e
+    pub filling-closed : (n : State) (j : ℕ) → EventAt text s i (Event.Closed n j) → Filling text left₀ right₀ left right n l k j
+    filling-closed n j e =
+        let q = quiet (e .quiet) in
+        rw (e .next) (record { kept = kept-closed tellColumns shutColumns at-start text (e .last) here (e .place) (q .kept) (e .inside) n (e .ends); count = omega (arith, q .count); left-long = r .left-long; right-long = r .right-long })
+
+    pub filling-refuse : (n : State) (j : ℕ) → EventAt text s i (Event.Refuse n j) → FilledRuns text left₀ right₀ left right
+    filling-refuse n j e = filled-none left₀ right₀ text j left right (kept-refuse tellColumns shutColumns at-start text n here j (quiet (e .0) .kept) (e .1) (e .2))
+
+    pub filling-end : (n : State) (j : ℕ) → EventAt text s i (Event.End n j) → FilledRuns text left₀ right₀ left right
+    filling-end n j e = by-state n (kept-end tellColumns shutColumns at-start text n here j (quiet (e .0) .kept) (e .1))
+      where
+        by-state : (q : State) → Passed left₀ right₀ text ≡ atEnd (keptAt q here) j → FilledRuns text left₀ right₀ left right
+        by-state (State.In w m) d = filled-none left₀ right₀ text j left right d
+        by-state (State.At p m) d = filled-none left₀ right₀ text j left right d
+        by-state (State.Before t) d = filled-none left₀ right₀ text j left right d
+        by-state State.Done d = filled-by left₀ right₀ text here d

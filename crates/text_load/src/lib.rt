@@ -4,11 +4,11 @@ use judge::lesser;
 use meaning_entries::Loaded;
 use meaning_rows::Head;
 use meaning_rows::Row;
-use text_index::Moved;
+use text_event::Event;
+use text_event::next_event;
 use text_index::Place;
 use text_index::State;
 use text_index::Word;
-use text_index::index_step;
 use text_judge::Rows;
 use text_judge::Scanned;
 use text_judge::hold;
@@ -115,14 +115,21 @@ fn is_right(p: Place) -> bool
     }
 }
 
-// x is put at place k, where it is wanted and the buffer has the place.
+// x is put at place k, where the buffer has it.
+fn put(out: &mut [u32], k: usize, x: u32)
+    ensures { λ _. ⌜ now (out .exit) ≡ set (now (out .entry)) k x ⌝ }
+{
+    if k < out.len() {
+        out[k] = x;
+    }
+}
+
+// The same where it is wanted.
 fn put_if(wanted: bool, out: &mut [u32], k: usize, x: u32)
     ensures { λ _. ⌜ now (out .exit) ≡ cond wanted (set (now (out .entry)) k x) (now (out .entry)) ⌝ }
 {
     if wanted {
-        if k < out.len() {
-            out[k] = x;
-        }
+        put(out, k, x);
     }
 }
 
@@ -147,13 +154,16 @@ pub fn fill_runs(text: &[u8], left: &mut [u32], right: &mut [u32])
     let mut l: u32 = 0;
     let mut k: usize = 0;
     let mut i: usize = 0;
-    while i < text.len() {
-        match index_step(s, text[i]) {
-            Moved::To(n) => {
-                s = n;
-                i += 1;
+    loop {
+        match next_event(text, s, i) {
+            Event::Run(a, b, at) => {
+                l = hold(a);
+                put(left, k, l);
+                put(right, k, hold(b));
+                k += 1;
+                i = at;
             }
-            Moved::Value(n, p, z) => {
+            Event::Value(n, p, z, at) => {
                 let x = hold(z);
                 let ends = is_right(p);
                 put_if(ends, left, k, l);
@@ -161,13 +171,16 @@ pub fn fill_runs(text: &[u8], left: &mut [u32], right: &mut [u32])
                 k = count_if(ends, k);
                 l = pick_if(is_left(p), x, l);
                 s = n;
-                i += 1;
+                i = at;
             }
-            Moved::Closed(n) => {
+            Event::Closed(n, at) => {
                 s = n;
-                i += 1;
+                i = at;
             }
-            Moved::Refuse => {
+            Event::Refuse(_, _) => {
+                return;
+            }
+            Event::End(_, _) => {
                 return;
             }
         }

@@ -1,4 +1,4 @@
--- A turn of the loop that reads on to the end of a row: what is left of the text comes to the same line (`Going`). A line that has been read can be read on (`next-ready`). Assumes nothing.
+-- An event of the loop that reads on to the end of a row: what is left of the text comes to the same line (`Going`). A line that has been read can be read on (`next-ready`). Assumes nothing.
 use mathlib.Core.Path.{_≡_, refl, sym, ap, _∙_, subst}
 use mathlib.Core.List.{List, [], _∷_}
 use Prim.Native.Nat.{ℕ, zero, suc, _+_, _<_, _≤_}
@@ -14,6 +14,8 @@ use Rattle.text_index.specs.declared.Moved.{Moved}
 use Rattle.text_index.specs.Step.{indexStep, GoodState}
 use Rattle.text_index.specs.Follow.{index-good}
 use Rattle.text_index.specs.View.{step-good}
+use Rattle.text_event.specs.declared.Event.{Event}
+use Rattle.text_event.specs.Event.{Quiet, EventAt, quiet-keeps, value-keeps, run-keeps}
 use Rattle.text_judge.specs.declared.Tally.{Tally}
 use Rattle.text_judge.specs.Tally.{tellTally, shutTally, Fits}
 use Rattle.text_judge.proofs.Seen.{start-fits, same-fits, tell-fits, shut-fits}
@@ -59,21 +61,40 @@ module _ (text : List ℕ) (s₀ : State) (t₀ : Tally) (i₀ : ℕ) where
         let q : i + 1 ≡ suc i = omega arith in
         record { good = g; fits = f; inside = omega arith; same = rw q (sym k ∙ turn m e) }
 
-    pub going-to : (n : State) → indexStep s (getD text i 0) ≡ Moved.To n → Going n t (i + 1)
+    going-to : (n : State) → indexStep s (getD text i 0) ≡ Moved.To n → Going n t (i + 1)
     going-to n e = next (Moved.To n) n t e (step-good s (getD text i 0) (Moved.To n) (r .good) e) (same-fits t i (r .fits)) refl
 
-    pub going-value : (n : State) (q : Place) (z : ℤ) → indexStep s (getD text i 0) ≡ Moved.Value n q z → Going n (tellTally q z t) (i + 1)
+    going-value : (n : State) (q : Place) (z : ℤ) → indexStep s (getD text i 0) ≡ Moved.Value n q z → Going n (tellTally q z t) (i + 1)
     going-value n q z e = next (Moved.Value n q z) n (tellTally q z t) e (step-good s (getD text i 0) (Moved.Value n q z) (r .good) e) (tell-fits q z t i (r .fits)) refl
 
-    pub going-closed : (n : State) → indexStep s (getD text i 0) ≡ Moved.Closed n → record { state = n; at = i + 1; tally = shutTally t; row = rowMade t } ≡ whole
+    going-closed : (n : State) → indexStep s (getD text i 0) ≡ Moved.Closed n → record { state = n; at = i + 1; tally = shutTally t; row = rowMade t } ≡ whole
     going-closed n e = let q : i + 1 ≡ suc i = omega arith in rw q (turn (Moved.Closed n) e)
 
-    pub going-refuse : indexStep s (getD text i 0) ≡ Moved.Refuse → lineEnd s i t ≡ whole
+    going-refuse : indexStep s (getD text i 0) ≡ Moved.Refuse → lineEnd s i t ≡ whole
     going-refuse e = turn Moved.Refuse e
 
-  pub going-end : (s : State) (t : Tally) (i : ℕ) → Going s t i → length text ≤ i → lineEnd s i t ≡ whole
+  going-end : (s : State) (t : Tally) (i : ℕ) → Going s t i → length text ≤ i → lineEnd s i t ≡ whole
   unfolding lineFrom
   going-end s t i r h = rw (drop-of-length-le text h) at (r .same)
+
+  module _ {s : State} {t : Tally} {i : ℕ} (r : Going s t i) where
+    quiet : {n : State} {j : ℕ} → Quiet text s i n j → Going n t j
+    quiet q = quiet-keeps tellTally text Going going-to going-value t q r
+
+    pub line-run : (l z : ℤ) (j : ℕ) → EventAt text s i (Event.Run l z j) → Going s (tellTally Place.Right z (tellTally Place.Left l t)) j
+    line-run l z j e = rw (e .0) (run-keeps tellTally text Going going-to going-value t (e .1) (rw (e .0) at r))
+
+    pub line-value : (n : State) (p : Place) (z : ℤ) (j : ℕ) → EventAt text s i (Event.Value n p z j) → Going n (tellTally p z t) j
+    line-value n p z j e = value-keeps tellTally text Going going-to going-value t e r
+
+    pub line-closed : (n : State) (j : ℕ) → EventAt text s i (Event.Closed n j) → record { state = n; at = j; tally = shutTally t; row = rowMade t } ≡ whole
+    line-closed n j e = rw (e .next) (going-closed (e .last) t (e .place) (quiet (e .quiet)) (e .inside) n (e .ends))
+
+    pub line-refuse : (n : State) (j : ℕ) → EventAt text s i (Event.Refuse n j) → lineEnd n j t ≡ whole
+    line-refuse n j e = going-refuse n t j (quiet (e .0)) (e .1) (e .2)
+
+    pub line-stop : (n : State) (j : ℕ) → EventAt text s i (Event.End n j) → lineEnd n j t ≡ whole
+    line-stop n j e = going-end n t j (quiet (e .0)) (e .1)
 
 -- ---- reading on
 

@@ -1,13 +1,14 @@
 // The rows of an index text put into lent row records, in one pass over its bytes: each record when its line is read, and records of zeros past the last.
 use meaning_rows::Row;
-use text_index::Moved;
+use text_event::Event;
+use text_event::next_event;
 use text_index::State;
 use text_index::Word;
-use text_index::index_step;
 use text_judge::Tally;
 use text_judge::no_tally;
 use text_judge::shut;
 use text_judge::tell;
+use text_judge::tell_run;
 ghost use mathlib.Core.Path.{_≡_};
 ghost use Prim.Native.Nat.{_<_, _≤_, min};
 ghost use lib.IntN.{pos};
@@ -80,33 +81,35 @@ pub fn next_line(text: &[u8], p: Line) -> Line
     let mut s = p.state;
     let mut t = p.tally;
     let mut i = p.at;
-    while i < text.len() {
-        match index_step(s, text[i]) {
-            Moved::To(n) => {
-                s = n;
-                i += 1;
+    loop {
+        match next_event(text, s, i) {
+            Event::Run(l, r, at) => {
+                t = tell_run(t, l, r);
+                i = at;
             }
-            Moved::Value(n, q, z) => {
+            Event::Value(n, q, z, at) => {
                 s = n;
                 t = tell(t, q, z);
-                i += 1;
+                i = at;
             }
-            Moved::Closed(n) => {
+            Event::Closed(n, at) => {
                 let row = make_row(t);
                 let u = shut(t);
                 return Line {
                     state: n,
-                    at: i + 1,
+                    at,
                     tally: u,
                     row,
                 };
             }
-            Moved::Refuse => {
-                return line_end(s, i, t);
+            Event::Refuse(n, at) => {
+                return line_end(n, at, t);
+            }
+            Event::End(n, at) => {
+                return line_end(n, at, t);
             }
         }
     }
-    line_end(s, i, t)
 }
 
 // The row that a line ended with.

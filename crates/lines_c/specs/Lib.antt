@@ -1,0 +1,2 @@
+-- What the contracts of the lines for C cite.
+pub mod Piece

@@ -1,0 +1,2 @@
+-- What the contract of the entry read for C cites.
+pub mod Told

@@ -1,0 +1,21 @@
+-- The answer of a reading as C is told it, and the buffers it leaves. Assumes nothing.
+use mathlib.Core.Path.{_≡_}
+use mathlib.Core.List.{List}
+use Prim.Native.Nat.{ℕ}
+use Rattle.meaning_entries.specs.declared.Loaded.{Loaded}
+use Rattle.meaning_entries.specs.Buffers.{IndexBuffers}
+use Rattle.meaning_entries.specs.Load.{loadAnswer, loadAfter}
+use Rattle.index_c.specs.declared.Answer.{Answer}
+use Rattle.index_c.specs.Told.{numbersOf, indexOf}
+
+-- 0: the index; 3: the refusal's number and place
+unfoldable pub toldLoaded : Loaded → Answer
+toldLoaded (Loaded.Index head rows runs) = indexOf head rows runs
+toldLoaded (Loaded.Refused number place) = numbersOf 3 number place
+
+-- the answer of a reading is told, and its buffers are as it leaves them
+pub record LoadTold (text : List ℕ) (before : IndexBuffers) (answer : Answer) (after : IndexBuffers) : Type 0 where
+  pub answered : answer ≡ toldLoaded (loadAnswer text before)
+  pub rows : after .rows ≡ loadAfter text before .rows
+  pub left : after .left ≡ loadAfter text before .left
+  pub right : after .right ≡ loadAfter text before .right

@@ -1,0 +1,2 @@
+-- The steps of the automaton by which a run is read.
+pub mod Steps

@@ -1,0 +1,2 @@
+-- What comes next in an index text.
+pub mod Event
