@@ -1,11 +1,11 @@
--- `try_distance::read_numbers` meets its contract. Assumes nothing.
+-- `vectors::read_numbers` meets its contract. Assumes nothing.
 use borrow.Author.Needs.{needs}
 use mathlib.Core.Path.{_≡_}
 use Prim.Native.Nat.{_-_, _≤_}
 use native.Mathlib.Omega.{arith}
 use lib.ListN.{length}
-use Rattle.try_distance.proofs.read_numbers.Statement.{statement}
-use Rattle.try_distance.proofs.read_numbers.Tie as tie
+use Rattle.vectors.proofs.read_numbers.Statement.{statement}
+use Rattle.vectors.proofs.read_numbers.Tie as tie
 
 abbrev Inv-loop : tie.InvT-loop
 Inv-loop text out₀ k₀ x₀ minus₀ i₀ out k x minus i = (i ≤ length text) × (length out ≡ length out₀)

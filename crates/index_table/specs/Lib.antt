@@ -1,0 +1,2 @@
+-- What the contracts of index_table cite.
+pub mod Table

@@ -1,0 +1,30 @@
+-- `try_index::agree_numbers` meets its contract. Assumes nothing.
+use borrow.Author.Needs.{needs}
+use Prim.Native.Nat.{_-_, _≤_}
+use native.Mathlib.Omega.{arith}
+use lib.ListN.{length}
+use Rattle.try_index.proofs.agree_numbers.Statement.{statement}
+use Rattle.try_index.proofs.agree_numbers.Tie as tie
+
+abbrev Inv-loop : tie.InvT-loop
+Inv-loop got nums at k₀ k = k ≤ length got
+
+abbrev μ-loop : tie.MeasureT-loop
+μ-loop got nums at k₀ k = length got - k
+
+pub agree-numbers-spec : {M : Type 1} → statement M
+agree-numbers-spec =
+    tie.close
+    (tie.spec
+    Inv-loop
+    μ-loop
+    (λ c. omega arith)
+    (λ c κs. search needs)
+    (λ c κs. search needs)
+    (λ c. omega arith)
+    (λ c. omega arith)
+    (λ c. search needs)
+    (λ c. omega arith)
+    (λ c. omega arith)
+    (λ c. omega arith)
+    (λ c. search needs))

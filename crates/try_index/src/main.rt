@@ -1,0 +1,349 @@
+// Runs the vectors of its standard input (tests/model/index_vectors.rs writes them: the paper's cases, then answers of the model) through the entries over lent records, and says of each group how many agree.
+use index_table::audit_table;
+use index_table::build_table;
+use judge::lesser;
+use meaning_entries::Audited;
+use meaning_entries::Built;
+use meaning_rows::Head;
+use meaning_rows::Row;
+use vectors::get;
+use vectors::get_natural;
+use vectors::get_small;
+use vectors::get_values;
+use vectors::plus;
+use vectors::read_numbers;
+use vectors::value;
+ghost use Prim.Native.Nat.{_≤_};
+
+// ---- parts of a vector
+
+// A length, of at most `most`.
+fn get_length(nums: &[u64], at: usize, most: usize) -> usize
+    ensures { λ r. ⌜ r ≤ most ⌝ }
+{
+    let x = get_natural(nums, at) as usize;
+    if most < x {
+        return 0;
+    }
+    x
+}
+
+// Numbers from the place `from` on, as many as `out` holds.
+fn get_numbers(nums: &[u64], from: usize, out: &mut [u32]) {
+    let mut k: usize = 0;
+    while k < out.len() {
+        let at = plus(from, k);
+        out[k] = get_small(nums, at);
+        k += 1;
+    }
+}
+
+// The place of row `k`, of rows of four numbers.
+fn row_place(at: usize, k: usize) -> usize {
+    let two = plus(k, k);
+    plus(at, plus(two, two))
+}
+
+fn get_row(nums: &[u64], at: usize) -> Row {
+    Row {
+        low: value(get(nums, at)),
+        up: value(get(nums, plus(at, 1))),
+        first: get_small(nums, plus(at, 2)),
+        runs: get_small(nums, plus(at, 3)),
+    }
+}
+
+fn get_rows(nums: &[u64], at: usize) -> [Row; 64] {
+    let mut rows = [Row {
+        low: 0,
+        up: 0,
+        first: 0,
+        runs: 0,
+    }; 64];
+    let mut k: usize = 0;
+    while k < 64 {
+        rows[k] = get_row(nums, row_place(at, k));
+        k += 1;
+    }
+    rows
+}
+
+fn get_head(nums: &[u64], at: usize) -> Head {
+    Head {
+        window: get_small(nums, at),
+        width: get_small(nums, plus(at, 1)),
+        windows: get_small(nums, plus(at, 2)),
+    }
+}
+
+// What a run buffer holds before a build: numbers from `x` on.
+fn fill_rubbish(out: &mut [u32], x: u32) {
+    let mut k: usize = 0;
+    let mut y = x;
+    while k < out.len() {
+        out[k] = y;
+        y = std::num::wrapping_add_u32(y, 1);
+        k += 1;
+    }
+}
+
+// ---- comparing
+
+// Whether the numbers are those from the place `at` on.
+fn agree_numbers(got: &[u32], nums: &[u64], at: usize) -> bool {
+    let mut k: usize = 0;
+    while k < got.len() {
+        let want = get_small(nums, plus(at, k));
+        let x = got[k];
+        if want != x {
+            return false;
+        }
+        k += 1;
+    }
+    true
+}
+
+fn same_row(r: Row, want: Row) -> bool {
+    (r.low == want.low) & (r.up == want.up) & (r.first == want.first) & (r.runs == want.runs)
+}
+
+// Whether the rows are the `count` rows from the place `at` on, and every other the one behind them.
+fn agree_rows(rows: [Row; 64], nums: &[u64], at: usize, count: usize) -> bool {
+    let mut k: usize = 0;
+    while k < 64 {
+        let want = get_row(nums, row_place(at, lesser(k, count)));
+        let r = rows[k];
+        if !same_row(r, want) {
+            return false;
+        }
+        k += 1;
+    }
+    true
+}
+
+// Whether an answer of this kind, with this head and these numbers, stands at the place `at`.
+fn agree_told(nums: &[u64], at: usize, kind: u64, head: Head, first: usize, second: usize) -> bool {
+    let want = get_head(nums, plus(at, 1));
+    let same = (head.window == want.window)
+        & (head.width == want.width)
+        & (head.windows == want.windows);
+    let told = get_natural(nums, at) == kind;
+    let one = get_natural(nums, plus(at, 4)) == first as u64;
+    let two = get_natural(nums, plus(at, 5)) == second as u64;
+    same & told & one & two
+}
+
+fn agree_numbered(nums: &[u64], at: usize, kind: u64, first: usize, second: usize) -> bool {
+    let none = Head {
+        window: 0,
+        width: 0,
+        windows: 0,
+    };
+    agree_told(nums, at, kind, none, first, second)
+}
+
+fn agree_built(a: Built, nums: &[u64], at: usize) -> bool {
+    match a {
+        Built::Index { head, rows, runs } => agree_told(nums, at, 0, head, rows, runs),
+        Built::Refused { number, place } => agree_numbered(nums, at, 3, number as usize, place),
+    }
+}
+
+fn agree_audited(a: Audited, nums: &[u64], at: usize) -> bool {
+    match a {
+        Audited::Yes => agree_numbered(nums, at, 0, 0, 0),
+        Audited::Wrong { row, offset } => agree_numbered(nums, at, 1, row, offset),
+        Audited::Missing { count } => agree_numbered(nums, at, 2, count, 0),
+        Audited::Refused { number, place } => agree_numbered(nums, at, 3, number as usize, place),
+    }
+}
+
+// ---- the tests
+
+// Whether a vector agrees, and where the next one is.
+struct Tried {
+    good: bool,
+    at: usize,
+}
+
+// A build's answer and every buffer afterwards, against those from the place `at` on: the answer, how many rows, these and the row behind them, the two columns of the run buffer.
+fn judge_built(
+    answer: Built,
+    rows: [Row; 64],
+    nums: &[u64],
+    at: usize,
+    left: &[u32],
+    right: &[u32],
+) -> Tried {
+    let count = get_length(nums, plus(at, 6), 64);
+    let from = plus(at, 7);
+    let lefts = row_place(from, plus(count, 1));
+    let rights = plus(lefts, left.len());
+    let told = agree_built(answer, nums, at);
+    let same = agree_rows(rows, nums, from, count);
+    let one = agree_numbers(left, nums, lefts);
+    let two = agree_numbers(right, nums, rights);
+    Tried {
+        good: told & same & one & two,
+        at: plus(rights, right.len()),
+    }
+}
+
+// A build into these columns, by the numbers from the place `at` on.
+fn build_in(nums: &[u64], at: usize, s: &[i32], left: &mut [u32], right: &mut [u32]) -> Tried {
+    let w = get_small(nums, at);
+    let d = get_small(nums, plus(at, 1));
+    let g = get_small(nums, plus(at, 2));
+    fill_rubbish(left, 1000);
+    fill_rubbish(right, 2000);
+    let t = build_table(s, w, d, g, left, right);
+    let answer = t.answer;
+    let rows = t.rows;
+    judge_built(answer, rows, nums, plus(at, 5), left, right)
+}
+
+// A build: n, the values; w; d; g; the lengths of the two columns of the run buffer; what is expected.
+fn try_build(nums: &[u64], from: usize) -> Tried {
+    let n = get_length(nums, from, 320);
+    let at = plus(plus(from, 1), n);
+    let lefts = get_length(nums, plus(at, 3), 80);
+    let rights = get_length(nums, plus(at, 4), 80);
+    let mut s = [0i32; 320];
+    let mut left = [0u32; 80];
+    let mut right = [0u32; 80];
+    get_values(nums, plus(from, 1), &mut s);
+    build_in(nums, at, &s[..n], &mut left[..lefts], &mut right[..rights])
+}
+
+// The audit of an index at the place `at`, with the columns of its run buffer from `second` on.
+fn audit_in(
+    nums: &[u64],
+    at: usize,
+    second: usize,
+    count: usize,
+    s: &[i32],
+    left: &mut [u32],
+    right: &mut [u32],
+) -> Tried
+    requires { ⌜ count ≤ 64 ⌝ }
+{
+    let head = get_head(nums, at);
+    let table = get_rows(nums, plus(at, 4));
+    let third = plus(plus(second, 1), left.len());
+    let last = plus(plus(third, 1), right.len());
+    get_numbers(nums, plus(second, 1), left);
+    get_numbers(nums, plus(third, 1), right);
+    let a = audit_table(s, head, table, count, left, right);
+    Tried {
+        good: agree_audited(a, nums, last),
+        at: plus(last, 6),
+    }
+}
+
+// An audit: n, the values; the head; how many rows, and these; the two columns of the run buffer, each after its length; the answer.
+fn try_audit(nums: &[u64], from: usize) -> Tried {
+    let n = get_length(nums, from, 320);
+    let at = plus(plus(from, 1), n);
+    let count = get_length(nums, plus(at, 3), 64);
+    let second = row_place(plus(at, 4), count);
+    let lefts = get_length(nums, second, 80);
+    let rights = get_length(nums, plus(plus(second, 1), lefts), 80);
+    let mut s = [0i32; 320];
+    let mut left = [0u32; 80];
+    let mut right = [0u32; 80];
+    get_values(nums, plus(from, 1), &mut s);
+    audit_in(
+        nums,
+        at,
+        second,
+        count,
+        &s[..n],
+        &mut left[..lefts],
+        &mut right[..rights],
+    )
+}
+
+// A vector, of its kind: 1 a build, 2 an audit.
+fn try_one(nums: &[u64], test: u64, from: usize) -> Tried {
+    match test {
+        1 => try_build(nums, from),
+        2 => try_audit(nums, from),
+        _ => Tried {
+            good: false,
+            at: from,
+        },
+    }
+}
+
+// ---- the vectors, one after the other
+
+// Where the next one is, and how many of the group agree so far.
+struct Turn {
+    at: usize,
+    agreed: u64,
+    tried: u64,
+}
+
+fn name(group: u64) {
+    match group {
+        0 => io::write_all(1, b"builds of the paper's cases"),
+        1 => io::write_all(1, b"refused builds"),
+        2 => io::write_all(1, b"audits of the paper's index, whole and damaged"),
+        3 => io::write_all(1, b"builds"),
+        4 => io::write_all(1, b"audits of what is built"),
+        _ => io::write_all(1, b"audits of damaged indexes"),
+    }
+    ;
+}
+
+fn end_group(group: u64, t: Turn) {
+    name(group);
+    io::write_all(1, b": ");
+    io::print_decimal(1, t.agreed);
+    io::write_all(1, b" of ");
+    io::print_decimal(1, t.tried);
+    io::write_all(1, b" agree\n");
+}
+
+fn step(nums: &[u64], t: Turn) -> Turn {
+    let from = t.at;
+    let test = get_natural(nums, from);
+    if test == 0 {
+        let group = get_natural(nums, plus(from, 1));
+        end_group(group, t);
+        return Turn {
+            at: plus(from, 2),
+            agreed: 0,
+            tried: 0,
+        };
+    }
+    let one = try_one(nums, test, plus(from, 1));
+    let good = one.good as u64;
+    Turn {
+        at: one.at,
+        agreed: std::num::wrapping_add_u64(t.agreed, good),
+        tried: std::num::wrapping_add_u64(t.tried, 1),
+    }
+}
+
+// The first number says how many lines follow.
+fn run(nums: &[u64]) {
+    let mut t = Turn {
+        at: 1,
+        agreed: 0,
+        tried: 0,
+    };
+    let mut left = get_natural(nums, 0);
+    while 0 < left {
+        t = step(nums, t);
+        left -= 1;
+    }
+}
+
+fn main() {
+    let mut text = io::large_buffer();
+    let n = io::read_full(0, &mut text);
+    let mut nums = [0u64; 32768];
+    read_numbers(&text[..n], &mut nums);
+    run(&nums);
+}
