@@ -1,0 +1,31 @@
+-- `try_search::agree_distances` meets its contract. Assumes nothing.
+use borrow.Author.Needs.{needs}
+use Prim.Native.Nat.{_-_, _≤_}
+use native.Mathlib.Omega.{arith}
+use lib.ListN.{length}
+use Rattle.try_search.proofs.agree_distances.Statement.{statement}
+use Rattle.try_search.proofs.agree_distances.Tie as tie
+
+abbrev Inv-loop : tie.InvT-loop
+Inv-loop got nums at from k₀ k = k ≤ length got
+
+abbrev μ-loop : tie.MeasureT-loop
+μ-loop got nums at from k₀ k = length got - k
+
+pub agree-distances-spec : {M : Type 1} → statement M
+agree-distances-spec =
+    tie.close
+    (tie.spec
+    Inv-loop
+    μ-loop
+    (λ c κs. search needs)
+    (λ c. omega arith)
+    (λ c κs. search needs)
+    (λ c κs. search needs)
+    (λ c. omega arith)
+    (λ c. omega arith)
+    (λ c. search needs)
+    (λ c. omega arith)
+    (λ c. omega arith)
+    (λ c. omega arith)
+    (λ c. search needs))

@@ -1,0 +1,30 @@
+-- `try_search::get_rows` meets its contract. Assumes nothing.
+use borrow.Author.Needs.{needs}
+use Prim.Native.Nat.{_-_, _≤_}
+use native.Mathlib.Omega.{arith}
+use Rattle.try_search.proofs.get_rows.Statement.{statement}
+use Rattle.try_search.proofs.get_rows.Tie as tie
+
+abbrev Inv-loop : tie.InvT-loop
+Inv-loop nums at rows₀ k₀ rows k = k ≤ 64
+
+abbrev μ-loop : tie.MeasureT-loop
+μ-loop nums at rows₀ k₀ rows k = 64 - k
+
+pub get-rows-spec : {M : Type 1} → statement M
+get-rows-spec =
+    tie.close
+    (tie.spec
+    Inv-loop
+    μ-loop
+    (λ c. omega arith)
+    (λ c κs. search needs)
+    (λ c. omega arith)
+    (λ c κs. search needs)
+    (λ c κs. search needs)
+    (λ c. omega arith)
+    (λ c. omega arith)
+    (λ c. omega arith)
+    (λ c. omega arith)
+    (λ c. omega arith)
+    (λ c. search needs))

@@ -1,0 +1,25 @@
+-- `try_search::run` meets its contract. Assumes nothing.
+use borrow.Author.Needs.{needs}
+use Prim.Native.Nat.{_≤_}
+use native.Mathlib.Omega.{arith}
+use Rattle.try_search.proofs.run.Statement.{statement}
+use Rattle.try_search.proofs.run.Tie as tie
+
+abbrev Inv-loop : tie.InvT-loop
+Inv-loop nums turns t₀ left₀ t left = left ≤ turns
+
+abbrev μ-loop : tie.MeasureT-loop
+μ-loop nums turns t₀ left₀ t left = left
+
+pub run-spec : {M : Type 1} → statement M
+run-spec =
+    tie.close
+    (tie.spec
+    Inv-loop
+    μ-loop
+    (λ c. omega arith)
+    (λ c κs. search needs)
+    (λ c. omega arith)
+    (λ c. omega arith)
+    (λ c. omega arith)
+    (λ c. search needs))
