@@ -17,7 +17,7 @@ use prog.Wp.{Heap, Env, Calls, Loops}
 use ghost.Atoms.{Atoms}
 use contract.Monad.{Fun, fact}
 use sound.WpLaws.{FmC}
-use types.Kit.{Given, Item, use0, ‵, raw, _⊛_, ⋆, some, later, Post, runs, lands, Seq, _$_, _∵_, !, qed, move, drop, use1, split, join, group, pick, await, regoal, fsplit, fjoin, feqL, frame, done}
+use types.Kit.{Given, Item, use0, ‵, raw, _⊛_, ⋆, some, later, Post, runs, lands, Seq, _$_, _∵_, !, qed, move, drop, use1, split, join, group, pick, await, regoal, fsplit, fjoin, frame, done}
 use types.Run.{Opds}
 use denote.Laws.{Is, shows}
 use denote.Builtin.{i32, u32, u16, u64}
@@ -54,9 +54,10 @@ use Rattle.meaning_entries.specs.Audit.{lentAudit}
 use Rattle.meaning_entries.specs.Search.{lentSearch}
 use Rattle.meaning_entries.specs.Demand2.{AuditKept, SearchKept}
 use Rattle.search.specs.Refused.{buffers}
+use Rattle.search.proofs.EntryCalls.{calls-kept}
 use Rattle.demand.specs.Told.{told}
 use Rattle.records.proofs.Again.{LentAgain}
-use Rattle.records.proofs.Lends.{Own, lend, back}
+use Rattle.records.proofs.Lends.{Own}
 use Rattle.audit.proofs.audit as auditing
 use Rattle.audit.proofs.audit.Symbol.{name as #audit}
 use Rattle.search.proofs.search as searching
@@ -176,118 +177,7 @@ module _ {M : Type 1} {𝓤 : URA M} {H : Heap 𝓤} {A : Atoms 𝓤} {K : Type 
       → ((r : Found) (zl : List ℕ) (zr : List ℕ) (zc : List ℕ) (zo : List ℕ) (zd : List ℕ) → SearchKept (lentSearch (vs .now) head (va .now) (vu .now) (vv .now) kind (vq .now) limits) (buffers yl yr yc yo yd) r (buffers zl zr zc zo zd) → Is Fd.the-row r (low-found r ∷ []) → length zl ≡ length yl → length zr ≡ length yr → length zc ≡ length yc → length zo ≡ length yo → length zd ≡ length yd → Seq K W (‵ (flft κs qs) ∷ ‵ (ShrSlice (named 0) κs i32 .own vs (sliceVal (vs .ptr) (length (vs .now)) ∷ [])) ∷ ‵ (flft κa qa) ∷ ‵ (ShrSlice (named 0) κa T.the-row .own va (sliceVal (va .ptr) (length (va .now)) ∷ [])) ∷ ‵ (flft κu qu) ∷ ‵ (ShrSlice (named 0) κu u32 .own vu (sliceVal (vu .ptr) (length (vu .now)) ∷ [])) ∷ ‵ (flft κv qv) ∷ ‵ (ShrSlice (named 0) κv u32 .own vv (sliceVal (vv .ptr) (length (vv .now)) ∷ [])) ∷ ‵ (flft κq qq) ∷ ‵ (ShrSlice (named 0) κq i32 .own vq (sliceVal (vq .ptr) (length (vq .now)) ∷ [])) ∷ ‵ (flft κl ql) ∷ ‵ (Own u32 bl ol ml (named 0) κl γl zl) ∷ ‵ (flft κr qr) ∷ ‵ (Own u32 br or mr (named 0) κr γr zr) ∷ ‵ (flft κc qc) ∷ ‵ (Own u16 bc oc mc (named 0) κc γc zc) ∷ ‵ (flft κo qo) ∷ ‵ (Own u32 bo oo mo (named 0) κo γo zo) ∷ ‵ (flft κd qd) ∷ ‵ (Own u64 bd od md (named 0) κd γd zd) ∷ Γ) (lands C Λ E d (low-found r) rest p))
       → Seq K W (‵ (flft κs qs) ∷ ‵ (ShrSlice (named 0) κs i32 .own vs (sliceVal (vs .ptr) (length (vs .now)) ∷ [])) ∷ ‵ (flft κa qa) ∷ ‵ (ShrSlice (named 0) κa T.the-row .own va (sliceVal (va .ptr) (length (va .now)) ∷ [])) ∷ ‵ (flft κu qu) ∷ ‵ (ShrSlice (named 0) κu u32 .own vu (sliceVal (vu .ptr) (length (vu .now)) ∷ [])) ∷ ‵ (flft κv qv) ∷ ‵ (ShrSlice (named 0) κv u32 .own vv (sliceVal (vv .ptr) (length (vv .now)) ∷ [])) ∷ ‵ (flft κq qq) ∷ ‵ (ShrSlice (named 0) κq i32 .own vq (sliceVal (vq .ptr) (length (vq .now)) ∷ [])) ∷ ‵ (flft κl ql) ∷ ‵ (Own u32 bl ol ml (named 0) κl γl yl) ∷ ‵ (flft κr qr) ∷ ‵ (Own u32 br or mr (named 0) κr γr yr) ∷ ‵ (flft κc qc) ∷ ‵ (Own u16 bc oc mc (named 0) κc γc yc) ∷ ‵ (flft κo qo) ∷ ‵ (Own u32 bo oo mo (named 0) κo γo yo) ∷ ‵ (flft κd qd) ∷ ‵ (Own u64 bd od md (named 0) κd γd yd) ∷ Γ) (runs C Λ E (seq (call #search xs d) rest) p)
   calls-search t fm mem run met κs qs vs κa qa va κu qu vu κv qv vv κq qq vq κl ql bl ol ml γl yl κr qr br or mr γr yr κc qc bc oc mc γc yc κo qo bo oo mo γo yo κd qd bd od md γd yd head kind limits el rooml er roomr ec roomc eo roomo ed roomd g-head g-kind g-limits os k =
-      move t (11 ∷ 10 ∷ []) $
-      lend u32 bl ol ml (named 0) (named 0) κl ql γl yl el t tt (λ νl δl.
-      move t (14 ∷ 13 ∷ []) $
-      lend u32 br or mr (named 0) (named 0) κr qr γr yr er t tt (λ νr δr.
-      move t (17 ∷ 16 ∷ []) $
-      lend u16 bc oc mc (named 0) (named 0) κc qc γc yc ec t tt (λ νc δc.
-      move t (20 ∷ 19 ∷ []) $
-      lend u32 bo oo mo (named 0) (named 0) κo qo γo yo eo t tt (λ νo δo.
-      move t (23 ∷ 22 ∷ []) $
-      lend u64 bd od md (named 0) (named 0) κd qd γd yd ed t tt (λ νd δd.
-      move t (16 ∷ []) $
-      use1 W (‵ (ShrSlice (named 0) κs i32 .own vs (sliceVal (vs .ptr) (length (vs .now)) ∷ [])) ⊛ ‵ (ShrSlice (named 0) κs i32 .own vs (sliceVal (vs .ptr) (length (vs .now)) ∷ []))) (shr-slice-copy 𝓤 H A W (named 0) κs i32 .twice vs (slice-vals vs)) $
-      split t $
-      move t (19 ∷ []) $
-      use1 W (‵ (ShrSlice (named 0) κa T.the-row .own va (sliceVal (va .ptr) (length (va .now)) ∷ [])) ⊛ ‵ (ShrSlice (named 0) κa T.the-row .own va (sliceVal (va .ptr) (length (va .now)) ∷ []))) (shr-slice-copy 𝓤 H A W (named 0) κa T.the-row .twice va (slice-vals va)) $
-      split t $
-      move t (22 ∷ []) $
-      use1 W (‵ (ShrSlice (named 0) κu u32 .own vu (sliceVal (vu .ptr) (length (vu .now)) ∷ [])) ⊛ ‵ (ShrSlice (named 0) κu u32 .own vu (sliceVal (vu .ptr) (length (vu .now)) ∷ []))) (shr-slice-copy 𝓤 H A W (named 0) κu u32 .twice vu (slice-vals vu)) $
-      split t $
-      move t (25 ∷ []) $
-      use1 W (‵ (ShrSlice (named 0) κv u32 .own vv (sliceVal (vv .ptr) (length (vv .now)) ∷ [])) ⊛ ‵ (ShrSlice (named 0) κv u32 .own vv (sliceVal (vv .ptr) (length (vv .now)) ∷ []))) (shr-slice-copy 𝓤 H A W (named 0) κv u32 .twice vv (slice-vals vv)) $
-      split t $
-      move t (28 ∷ []) $
-      use1 W (‵ (ShrSlice (named 0) κq i32 .own vq (sliceVal (vq .ptr) (length (vq .now)) ∷ [])) ⊛ ‵ (ShrSlice (named 0) κq i32 .own vq (sliceVal (vq .ptr) (length (vq .now)) ∷ []))) (shr-slice-copy 𝓤 H A W (named 0) κq i32 .twice vq (slice-vals vq)) $
-      split t $
-      move t (25 ∷ 26 ∷ 27 ∷ 28 ∷ 29 ∷ 22 ∷ 19 ∷ 16 ∷ 13 ∷ 10 ∷ 8 ∷ 6 ∷ 4 ∷ 2 ∷ 0 ∷ 23 ∷ 20 ∷ 17 ∷ 14 ∷ 11 ∷ 9 ∷ 7 ∷ 5 ∷ 3 ∷ 1 ∷ 24 ∷ 21 ∷ 18 ∷ 15 ∷ 12 ∷ []) $
-      group t 20 $ use1 W (raw (Searches 𝓤 H A mem run .pre (to-search 𝓤 H A mem run κs qs vs κa qa va κu qu vu κv qv vv κq qq vq κl ql bl ol ml γl yl κr qr br or mr γr yr κc qc bc oc mc γc yc κo qo bo oo mo γo yo κd qd bd od md γd yd head kind limits νl δl νr δr νc δc νo δo νd δd))) (asks-search 𝓤 H A mem run κs qs vs κa qa va κu qu vu κv qv vv κq qq vq κl ql bl ol ml γl yl κr qr br or mr γr yr κc qc bc oc mc γc yc κo qo bo oo mo γo yo κd qd bd od md γd yd head kind limits W g-head g-kind g-limits νl δl νr δr νc δc νo δo νd δd) $
-      calls-at t fm (Searches 𝓤 H A mem run) met (to-search 𝓤 H A mem run κs qs vs κa qa va κu qu vu κv qv vv κq qq vq κl ql bl ol ml γl yl κr qr br or mr γr yr κc qc bc oc mc γc yc κo qo bo oo mo γo yo κd qd bd od md γd yd head kind limits νl δl νr δr νc δc νo δo νd δd) (os νl δl νr δr νc δc νo δo νd δd) (λ u. use1 W (later (some (λ (r : Found). ((‵ (flft κs qs) ⊛ ‵ (flft κa qa) ⊛ ‵ (flft κu qu) ⊛ ‵ (flft κv qv) ⊛ ‵ (flft κq qq) ⊛ ‵ (flft (νl ∷ []) fullShare) ⊛ ‵ (flft (νr ∷ []) fullShare) ⊛ ‵ (flft (νc ∷ []) fullShare) ⊛ ‵ (flft (νo ∷ []) fullShare) ⊛ ‵ (flft (νd ∷ []) fullShare) ⊛ ‵ ftrue) ⊛ ‵ (Fd.the-row .own r (u ∷ []))) ⊛ raw (ensured 𝓤 H A searching.ended (searching.clauses 𝓤 H A mem run) (κs, (κa, (κu, (κv, (κq, ((νl ∷ []), ((νr ∷ []), ((νc ∷ []), ((νo ∷ []), ((νd ∷ []), tt)))))))))) (vs, (head, (va, (vu, (vv, (kind, (vq, (limits, ((record { ptr = (bl, ol); name = δl; now = yl }), ((record { ptr = (br, or); name = δr; now = yr }), ((record { ptr = (bc, oc); name = δc; now = yc }), ((record { ptr = (bo, oo); name = δo; now = yo }), ((record { ptr = (bd, od); name = δd; now = yd }), tt))))))))))))) tt r)))) (id⊢ 𝓤 _) $ await t tt $ pick t (λ r. split t $
-      move t (1 ∷ []) $
-      use1 W (some (λ (ls : (Unit {0} × (Unit {0} × (Unit {0} × (Unit {0} × (Unit {0} × (Unit {0} × (Unit {0} × (Unit {0} × (List ℕ × (List ℕ × (List ℕ × (List ℕ × (List ℕ × Unit {0})))))))))))))). ‵ (lasts searching.ended (κs, (κa, (κu, (κv, (κq, ((νl ∷ []), ((νr ∷ []), ((νc ∷ []), ((νo ∷ []), ((νd ∷ []), tt)))))))))) (vs, (head, (va, (vu, (vv, (kind, (vq, (limits, ((record { ptr = (bl, ol); name = δl; now = yl }), ((record { ptr = (br, or); name = δr; now = yr }), ((record { ptr = (bc, oc); name = δc; now = yc }), ((record { ptr = (bo, oo); name = δo; now = yo }), ((record { ptr = (bd, od); name = δd; now = yd }), tt))))))))))))) ls) ⊛ raw (fact 𝓤 (SearchKept (lentSearch (vs .now) head (va .now) (vu .now) (vv .now) kind (vq .now) limits) (buffers yl yr yc yo yd) r (buffers (ls .1 .1 .1 .1 .1 .1 .1 .1 .0) (ls .1 .1 .1 .1 .1 .1 .1 .1 .1 .0) (ls .1 .1 .1 .1 .1 .1 .1 .1 .1 .1 .0) (ls .1 .1 .1 .1 .1 .1 .1 .1 .1 .1 .1 .0) (ls .1 .1 .1 .1 .1 .1 .1 .1 .1 .1 .1 .1 .0)))))) (id⊢ 𝓤 _) $ pick t (λ ls. split t $
-      move t (1 ∷ []) $
-      heard t (SearchKept (lentSearch (vs .now) head (va .now) (vu .now) (vv .now) kind (vq .now) limits) (buffers yl yr yc yo yd) r (buffers (ls .1 .1 .1 .1 .1 .1 .1 .1 .0) (ls .1 .1 .1 .1 .1 .1 .1 .1 .1 .0) (ls .1 .1 .1 .1 .1 .1 .1 .1 .1 .1 .0) (ls .1 .1 .1 .1 .1 .1 .1 .1 .1 .1 .1 .0) (ls .1 .1 .1 .1 .1 .1 .1 .1 .1 .1 .1 .1 .0))) (λ said.
-      fsplit t $
-      drop t $
-      fsplit t $
-      drop t $
-      fsplit t $
-      drop t $
-      fsplit t $
-      drop t $
-      fsplit t $
-      drop t $
-      fsplit t $
-      drop t $
-      fsplit t $
-      drop t $
-      fsplit t $
-      drop t $
-      fsplit t $
-      fsplit t $
-      move t (1 ∷ []) $
-      feqL t (λ longl.
-      move t (1 ∷ []) $
-      fsplit t $
-      fsplit t $
-      move t (1 ∷ []) $
-      feqL t (λ longr.
-      move t (1 ∷ []) $
-      fsplit t $
-      fsplit t $
-      move t (1 ∷ []) $
-      feqL t (λ longc.
-      move t (1 ∷ []) $
-      fsplit t $
-      fsplit t $
-      move t (1 ∷ []) $
-      feqL t (λ longo.
-      move t (1 ∷ []) $
-      fsplit t $
-      fsplit t $
-      move t (1 ∷ []) $
-      feqL t (λ longd.
-      move t (1 ∷ []) $
-      drop t $
-      move t (5 ∷ []) $
-      split t $
-      move t (1 ∷ []) $
-      facts t Fd.the-row (Is Fd.the-row) (shows 𝓤 H A Fd.the-row) r (u ∷ []) (λ is. regoal t (λ (v : Val). lands C Λ E d v rest p) (ap only (EL.tells Fd.the-type Fd′.the-laws r (u ∷ []) is)) refl $
-      move t (0 ∷ []) $
-      split t $
-      move t (1 ∷ []) $
-      split t $
-      move t (1 ∷ []) $
-      split t $
-      move t (1 ∷ []) $
-      split t $
-      move t (1 ∷ []) $
-      split t $
-      move t (1 ∷ []) $
-      split t $
-      move t (1 ∷ []) $
-      split t $
-      move t (1 ∷ []) $
-      split t $
-      move t (1 ∷ []) $
-      split t $
-      move t (1 ∷ []) $
-      split t $
-      move t (1 ∷ []) $
-      drop t $
-      move t (4 ∷ 20 ∷ 14 ∷ []) $
-      back u32 bl ol ml (named 0) (named 0) κl ql γl yl el t tt νl δl (ls .1 .1 .1 .1 .1 .1 .1 .1 .0) rooml longl $
-      move t (5 ∷ 20 ∷ 14 ∷ []) $
-      back u32 br or mr (named 0) (named 0) κr qr γr yr er t tt νr δr (ls .1 .1 .1 .1 .1 .1 .1 .1 .1 .0) roomr longr $
-      move t (6 ∷ 20 ∷ 14 ∷ []) $
-      back u16 bc oc mc (named 0) (named 0) κc qc γc yc ec t tt νc δc (ls .1 .1 .1 .1 .1 .1 .1 .1 .1 .1 .0) roomc longc $
-      move t (7 ∷ 20 ∷ 14 ∷ []) $
-      back u32 bo oo mo (named 0) (named 0) κo qo γo yo eo t tt νo δo (ls .1 .1 .1 .1 .1 .1 .1 .1 .1 .1 .1 .0) roomo longo $
-      move t (8 ∷ 20 ∷ 14 ∷ []) $
-      back u64 bd od md (named 0) (named 0) κd qd γd yd ed t tt νd δd (ls .1 .1 .1 .1 .1 .1 .1 .1 .1 .1 .1 .1 .0) roomd longd $
-      move t (14 ∷ 15 ∷ 13 ∷ 16 ∷ 12 ∷ 17 ∷ 11 ∷ 18 ∷ 10 ∷ 19 ∷ 9 ∷ 8 ∷ 7 ∷ 6 ∷ 5 ∷ 4 ∷ 3 ∷ 2 ∷ 1 ∷ 0 ∷ []) $
-      k r (ls .1 .1 .1 .1 .1 .1 .1 .1 .0) (ls .1 .1 .1 .1 .1 .1 .1 .1 .1 .0) (ls .1 .1 .1 .1 .1 .1 .1 .1 .1 .1 .0) (ls .1 .1 .1 .1 .1 .1 .1 .1 .1 .1 .1 .0) (ls .1 .1 .1 .1 .1 .1 .1 .1 .1 .1 .1 .1 .0) said (subst (Is Fd.the-row r) (EL.tells Fd.the-type Fd′.the-laws r (u ∷ []) is) is) longl longr longc longo longd)))))))))))))))
+      calls-kept t fm (Searches 𝓤 H A mem run) met κs qs vs κa qa va κu qu vu κv qv vv κq qq vq κl ql bl ol ml γl yl κr qr br or mr γr yr κc qc bc oc mc γc yc κo qo bo oo mo γo yo κd qd bd od md γd yd head kind limits (to-search 𝓤 H A mem run κs qs vs κa qa va κu qu vu κv qv vv κq qq vq κl ql bl ol ml γl yl κr qr br or mr γr yr κc qc bc oc mc γc yc κo qo bo oo mo γo yo κd qd bd od md γd yd head kind limits) (asks-search 𝓤 H A mem run κs qs vs κa qa va κu qu vu κv qv vv κq qq vq κl ql bl ol ml γl yl κr qr br or mr γr yr κc qc bc oc mc γc yc κo qo bo oo mo γo yo κd qd bd od md γd yd head kind limits W g-head g-kind g-limits) (λ νl δl νr δr νc δc νo δo νd δd u. id⊢ 𝓤 _) el rooml er roomr ec roomc eo roomo ed roomd os k
 
   pub calls-tell : K → FmC 𝓤 H (W .laws) C → (mem : Memory → SProp 𝓤) (run : Routine → Fun 𝓤) → Triple 𝓤 (C #tell) (Telling 𝓤 H A mem run) → (one : Audited) (two : Audited) (first : Found) (second : Found) → Is Au.the-row one (low-audited one ∷ []) → Is Au.the-row two (low-audited two ∷ []) → Is Fd.the-row first (low-found first ∷ []) → Is Fd.the-row second (low-found second ∷ [])
       → (Opds K W (raw (Telling 𝓤 H A mem run .pre (to-tell 𝓤 H A mem run one two first second)) ∷ Γ) E xs (low-audited one ∷ low-audited two ∷ low-found first ∷ low-found second ∷ []))

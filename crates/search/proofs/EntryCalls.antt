@@ -14,12 +14,12 @@ use mir.Val.{Val, vunit, vint, ofZ}
 use base.Logic.{SProp, ent, id⊢}
 use base.Fml.{Lft, GName, Share, ftrue, flft}
 use prog.Memory.{Memory}
-use prog.Routine.{Routine}
+use prog.Routine.{Routine, Name}
 use prog.Wp.{Heap, Env, Calls, Loops}
 use ghost.Atoms.{Atoms}
 use contract.Monad.{Fun, fact}
 use sound.WpLaws.{FmC}
-use types.Kit.{Given, Item, use0, ‵, raw, _⊛_, ⋆, some, later, Post, runs, lands, Seq, _$_, _∵_, !, qed, move, drop, use1, split, join, group, pick, await, regoal, fsplit, fjoin, feqL, frame, done}
+use types.Kit.{Given, Item, mean, use0, ‵, raw, _⊛_, ⋆, some, later, Post, runs, lands, Seq, _$_, _∵_, !, qed, move, drop, use1, split, join, group, pick, await, regoal, fsplit, fjoin, feqL, frame, done}
 use types.Run.{Opds}
 use denote.Laws.{Is, shows}
 use denote.Plain.{Nothing, uint-makes, uint-tells}
@@ -139,6 +139,10 @@ module _ {M : Type 1} (𝓤 : URA M) (H : Heap 𝓤) (A : Atoms 𝓤) (mem : Mem
     asks-look W g-head g-kind g-limits asked νl δl νr δr νc δc νo δo νd δd = qed W (‵ (flft κs qs) ∷ ‵ (flft κa qa) ∷ ‵ (flft κu qu) ∷ ‵ (flft κv qv) ∷ ‵ (flft κq qq) ∷ ‵ (flft (νl ∷ []) fullShare) ∷ ‵ (flft (νr ∷ []) fullShare) ∷ ‵ (flft (νc ∷ []) fullShare) ∷ ‵ (flft (νo ∷ []) fullShare) ∷ ‵ (flft (νd ∷ []) fullShare) ∷ ‵ (ShrSlice (named 0) κs i32 .own vs (sliceVal (vs .ptr) (length (vs .now)) ∷ [])) ∷ ‵ (ShrSlice (named 0) κa T.the-row .own va (sliceVal (va .ptr) (length (va .now)) ∷ [])) ∷ ‵ (ShrSlice (named 0) κu u32 .own vu (sliceVal (vu .ptr) (length (vu .now)) ∷ [])) ∷ ‵ (ShrSlice (named 0) κv u32 .own vv (sliceVal (vv .ptr) (length (vv .now)) ∷ [])) ∷ ‵ (ShrSlice (named 0) κq i32 .own vq (sliceVal (vq .ptr) (length (vq .now)) ∷ [])) ∷ ‵ (Own u32 bl ol ml (named 0) (νl ∷ []) δl yl) ∷ ‵ (Own u32 br or mr (named 0) (νr ∷ []) δr yr) ∷ ‵ (Own u16 bc oc mc (named 0) (νc ∷ []) δc yc) ∷ ‵ (Own u32 bo oo mo (named 0) (νo ∷ []) δo yo) ∷ ‵ (Own u64 bd od md (named 0) (νd ∷ []) δd yd) ∷ []) ∵
         says ! asked $ nothing ! $ move ! (10 ∷ 0 ∷ []) $ join ! $ move ! (9 ∷ 0 ∷ []) $ join ! $ move ! (8 ∷ 0 ∷ []) $ join ! $ move ! (7 ∷ 0 ∷ []) $ join ! $ move ! (6 ∷ 0 ∷ []) $ join ! $ move ! (5 ∷ 0 ∷ []) $ join ! $ move ! (4 ∷ 0 ∷ []) $ join ! $ move ! (3 ∷ 0 ∷ []) $ join ! $ move ! (2 ∷ 0 ∷ []) $ join ! $ move ! (1 ∷ 0 ∷ []) $ join ! $ frame ! $ nothing ! $ move ! (10 ∷ 0 ∷ []) $ fjoin ! $ move ! (9 ∷ 0 ∷ []) $ fjoin ! $ move ! (8 ∷ 0 ∷ []) $ fjoin ! $ move ! (7 ∷ 0 ∷ []) $ fjoin ! $ move ! (6 ∷ 0 ∷ []) $ fjoin ! $ owned ! Lm.the-row (Is Lm.the-row) (LL.makes Lm.the-type Lm′.the-plain 𝓤 H A) limits _ g-limits $ fjoin ! $ move ! (5 ∷ 0 ∷ []) $ fjoin ! $ owned ! Kd.the-row (Is Kd.the-row) (EL.makes Kd.the-type Kd′.the-plain 𝓤 H A) kind _ g-kind $ fjoin ! $ move ! (4 ∷ 0 ∷ []) $ fjoin ! $ move ! (3 ∷ 0 ∷ []) $ fjoin ! $ move ! (2 ∷ 0 ∷ []) $ fjoin ! $ owned ! Hd.the-row (Is Hd.the-row) (LL.makes Hd.the-type Hd′.the-plain 𝓤 H A) head _ g-head $ fjoin ! $ move ! (1 ∷ 0 ∷ []) $ fjoin ! $ done !
 
+-- what a call that keeps the promise of a search gives: the tokens, the answer, and what the buffers hold
+abbrev pub Given-back : {M : Type 1} (𝓤 : URA M) (κs : Lft) (qs : Share) (vs : RefT (List ℤ)) (κa : Lft) (qa : Share) (va : RefT (List Row)) (κu : Lft) (qu : Share) (vu : RefT (List ℕ)) (κv : Lft) (qv : Share) (vv : RefT (List ℕ)) (κq : Lft) (qq : Share) (vq : RefT (List ℤ)) (κl : Lft) (ql : Share) (bl ol ml : ℕ) (γl : GName) (yl : List ℕ) (κr : Lft) (qr : Share) (br or mr : ℕ) (γr : GName) (yr : List ℕ) (κc : Lft) (qc : Share) (bc oc mc : ℕ) (γc : GName) (yc : List ℕ) (κo : Lft) (qo : Share) (bo oo mo : ℕ) (γo : GName) (yo : List ℕ) (κd : Lft) (qd : Share) (bd od md : ℕ) (γd : GName) (yd : List ℕ) (head : Head) (kind : Kind) (limits : Limits) (νl : ℕ) (δl : GName) (νr : ℕ) (δr : GName) (νc : ℕ) (δc : GName) (νo : ℕ) (δo : GName) (νd : ℕ) (δd : GName) (u : Val) → Item 𝓤
+Given-back 𝓤 κs qs vs κa qa va κu qu vu κv qv vv κq qq vq κl ql bl ol ml γl yl κr qr br or mr γr yr κc qc bc oc mc γc yc κo qo bo oo mo γo yo κd qd bd od md γd yd head kind limits νl δl νr δr νc δc νo δo νd δd u = later (some (λ (r : Found). ((‵ (flft κs qs) ⊛ ‵ (flft κa qa) ⊛ ‵ (flft κu qu) ⊛ ‵ (flft κv qv) ⊛ ‵ (flft κq qq) ⊛ ‵ (flft (νl ∷ []) fullShare) ⊛ ‵ (flft (νr ∷ []) fullShare) ⊛ ‵ (flft (νc ∷ []) fullShare) ⊛ ‵ (flft (νo ∷ []) fullShare) ⊛ ‵ (flft (νd ∷ []) fullShare) ⊛ ‵ ftrue) ⊛ ‵ (Fd.the-row .own r (u ∷ []))) ⊛ (some (λ (ls : (Unit {0} × (Unit {0} × (Unit {0} × (Unit {0} × (Unit {0} × (Unit {0} × (Unit {0} × (Unit {0} × (List ℕ × (List ℕ × (List ℕ × (List ℕ × (List ℕ × Unit {0})))))))))))))). ‵ (lasts looking.ended (κs, (κa, (κu, (κv, (κq, ((νl ∷ []), ((νr ∷ []), ((νc ∷ []), ((νo ∷ []), ((νd ∷ []), tt)))))))))) (vs, (head, (va, (vu, (vv, (kind, (vq, (limits, ((record { ptr = (bl, ol); name = δl; now = yl }), ((record { ptr = (br, or); name = δr; now = yr }), ((record { ptr = (bc, oc); name = δc; now = yc }), ((record { ptr = (bo, oo); name = δo; now = yo }), ((record { ptr = (bd, od); name = δd; now = yd }), tt))))))))))))) ls) ⊛ raw (fact 𝓤 (SearchKept (lentSearch (vs .now) head (va .now) (vu .now) (vv .now) kind (vq .now) limits) (buffers yl yr yc yo yd) r (buffers (ls .1 .1 .1 .1 .1 .1 .1 .1 .0) (ls .1 .1 .1 .1 .1 .1 .1 .1 .1 .0) (ls .1 .1 .1 .1 .1 .1 .1 .1 .1 .1 .0) (ls .1 .1 .1 .1 .1 .1 .1 .1 .1 .1 .1 .0) (ls .1 .1 .1 .1 .1 .1 .1 .1 .1 .1 .1 .1 .0))))))))
+
 module _ {M : Type 1} {𝓤 : URA M} {H : Heap 𝓤} {A : Atoms 𝓤} {K : Type 0} {W : Given 𝓤 H A} {Γ : List (Item 𝓤)} {E : Env 𝓤 H} {C : Calls 𝓤 H} {Λ : Loops 𝓤 H} {p : Post 𝓤 H} {d : Place} {rest : Body} {xs : List Operand} where
   pub calls-judge : K → FmC 𝓤 H (W .laws) C → (mem : Memory → SProp 𝓤) (run : Routine → Fun 𝓤) → Triple 𝓤 (C #judge) (Judging 𝓤 H A mem run) → (κa : Lft) (qa : Share) (va : RefT (List Row)) (κu : Lft) (qu : Share) (vu : RefT (List ℕ)) (κv : Lft) (qv : Share) (vv : RefT (List ℕ)) (head : Head) → Is Hd.the-row head (low-head head ∷ [])
       → (Opds K W (raw (Judging 𝓤 H A mem run .pre (to-judge 𝓤 H A mem run κa qa va κu qu vu κv qv vv head)) ∷ ‵ (ShrSlice (named 0) κa T.the-row .own va (sliceVal (va .ptr) (length (va .now)) ∷ [])) ∷ ‵ (ShrSlice (named 0) κu u32 .own vu (sliceVal (vu .ptr) (length (vu .now)) ∷ [])) ∷ ‵ (ShrSlice (named 0) κv u32 .own vv (sliceVal (vv .ptr) (length (vv .now)) ∷ [])) ∷ Γ) E xs (low-head head ∷ sliceVal (va .ptr) (length (va .now)) ∷ sliceVal (vu .ptr) (length (vu .now)) ∷ sliceVal (vv .ptr) (length (vv .now)) ∷ []))
@@ -257,11 +261,15 @@ module _ {M : Type 1} {𝓤 : URA M} {H : Heap 𝓤} {A : Atoms 𝓤} {K : Type 
       drop t $
       k r said (subst (Is Fd.the-row r) (EL.tells Fd.the-type Fd′.the-laws r (u ∷ []) is) is))))))
 
-  pub calls-look : K → FmC 𝓤 H (W .laws) C → (mem : Memory → SProp 𝓤) (run : Routine → Fun 𝓤) → Triple 𝓤 (C #look) (Look 𝓤 H A mem run) → (κs : Lft) (qs : Share) (vs : RefT (List ℤ)) (κa : Lft) (qa : Share) (va : RefT (List Row)) (κu : Lft) (qu : Share) (vu : RefT (List ℕ)) (κv : Lft) (qv : Share) (vv : RefT (List ℕ)) (κq : Lft) (qq : Share) (vq : RefT (List ℤ)) (κl : Lft) (ql : Share) (bl ol ml : ℕ) (γl : GName) (yl : List ℕ) (κr : Lft) (qr : Share) (br or mr : ℕ) (γr : GName) (yr : List ℕ) (κc : Lft) (qc : Share) (bc oc mc : ℕ) (γc : GName) (yc : List ℕ) (κo : Lft) (qo : Share) (bo oo mo : ℕ) (γo : GName) (yo : List ℕ) (κd : Lft) (qd : Share) (bd od md : ℕ) (γd : GName) (yd : List ℕ) (head : Head) (kind : Kind) (limits : Limits) → length yl ≡ ml → Room u32 ml → length yr ≡ mr → Room u32 mr → length yc ≡ mc → Room u16 mc → length yo ≡ mo → Room u32 mo → length yd ≡ md → Room u64 md → Is Hd.the-row head (low-head head ∷ []) → Is Kd.the-row kind (low-kind kind ∷ []) → Is Lm.the-row limits (low-limits limits ∷ []) → thePlan (vs .now) head (va .now) (vu .now) (vv .now) kind (vq .now) limits (buffers yl yr yc yo yd) .number ≡ 0
-      → ((νl : ℕ) (δl : GName) (νr : ℕ) (δr : GName) (νc : ℕ) (δc : GName) (νo : ℕ) (δo : GName) (νd : ℕ) (δd : GName) → Opds K W (raw (Look 𝓤 H A mem run .pre (to-look 𝓤 H A mem run κs qs vs κa qa va κu qu vu κv qv vv κq qq vq κl ql bl ol ml γl yl κr qr br or mr γr yr κc qc bc oc mc γc yc κo qo bo oo mo γo yo κd qd bd od md γd yd head kind limits νl δl νr δr νc δc νo δo νd δd)) ∷ ‵ (ShrSlice (named 0) κs i32 .own vs (sliceVal (vs .ptr) (length (vs .now)) ∷ [])) ∷ ‵ (ShrSlice (named 0) κa T.the-row .own va (sliceVal (va .ptr) (length (va .now)) ∷ [])) ∷ ‵ (ShrSlice (named 0) κu u32 .own vu (sliceVal (vu .ptr) (length (vu .now)) ∷ [])) ∷ ‵ (ShrSlice (named 0) κv u32 .own vv (sliceVal (vv .ptr) (length (vv .now)) ∷ [])) ∷ ‵ (ShrSlice (named 0) κq i32 .own vq (sliceVal (vq .ptr) (length (vq .now)) ∷ [])) ∷ ‵ (LentAgain u32 κl (νl ∷ []) ql γl bl ol δl yl) ∷ ‵ (LentAgain u32 κr (νr ∷ []) qr γr br or δr yr) ∷ ‵ (LentAgain u16 κc (νc ∷ []) qc γc bc oc δc yc) ∷ ‵ (LentAgain u32 κo (νo ∷ []) qo γo bo oo δo yo) ∷ ‵ (LentAgain u64 κd (νd ∷ []) qd γd bd od δd yd) ∷ Γ) E xs (sliceVal (vs .ptr) (length (vs .now)) ∷ low-head head ∷ sliceVal (va .ptr) (length (va .now)) ∷ sliceVal (vu .ptr) (length (vu .now)) ∷ sliceVal (vv .ptr) (length (vv .now)) ∷ low-kind kind ∷ sliceVal (vq .ptr) (length (vq .now)) ∷ low-limits limits ∷ sliceVal (bl, ol) ml ∷ sliceVal (br, or) mr ∷ sliceVal (bc, oc) mc ∷ sliceVal (bo, oo) mo ∷ sliceVal (bd, od) md ∷ []))
+  -- a call that is lent an index, a query and the five buffers, and keeps the promise of a search: `c` is its contract, `x` what it is called at
+  pub calls-kept : K → FmC 𝓤 H (W .laws) C → {f : Name} (c : Contract 𝓤) → Triple 𝓤 (C f) c → (κs : Lft) (qs : Share) (vs : RefT (List ℤ)) (κa : Lft) (qa : Share) (va : RefT (List Row)) (κu : Lft) (qu : Share) (vu : RefT (List ℕ)) (κv : Lft) (qv : Share) (vv : RefT (List ℕ)) (κq : Lft) (qq : Share) (vq : RefT (List ℤ)) (κl : Lft) (ql : Share) (bl ol ml : ℕ) (γl : GName) (yl : List ℕ) (κr : Lft) (qr : Share) (br or mr : ℕ) (γr : GName) (yr : List ℕ) (κc : Lft) (qc : Share) (bc oc mc : ℕ) (γc : GName) (yc : List ℕ) (κo : Lft) (qo : Share) (bo oo mo : ℕ) (γo : GName) (yo : List ℕ) (κd : Lft) (qd : Share) (bd od md : ℕ) (γd : GName) (yd : List ℕ) (head : Head) (kind : Kind) (limits : Limits) (x : ℕ → GName → ℕ → GName → ℕ → GName → ℕ → GName → ℕ → GName → c .Ghost)
+      → ((νl : ℕ) (δl : GName) (νr : ℕ) (δr : GName) (νc : ℕ) (δc : GName) (νo : ℕ) (δo : GName) (νd : ℕ) (δd : GName) → ent 𝓤 (⋆ 𝓤 H A (‵ (flft κs qs) ∷ ‵ (flft κa qa) ∷ ‵ (flft κu qu) ∷ ‵ (flft κv qv) ∷ ‵ (flft κq qq) ∷ ‵ (flft (νl ∷ []) fullShare) ∷ ‵ (flft (νr ∷ []) fullShare) ∷ ‵ (flft (νc ∷ []) fullShare) ∷ ‵ (flft (νo ∷ []) fullShare) ∷ ‵ (flft (νd ∷ []) fullShare) ∷ ‵ (ShrSlice (named 0) κs i32 .own vs (sliceVal (vs .ptr) (length (vs .now)) ∷ [])) ∷ ‵ (ShrSlice (named 0) κa T.the-row .own va (sliceVal (va .ptr) (length (va .now)) ∷ [])) ∷ ‵ (ShrSlice (named 0) κu u32 .own vu (sliceVal (vu .ptr) (length (vu .now)) ∷ [])) ∷ ‵ (ShrSlice (named 0) κv u32 .own vv (sliceVal (vv .ptr) (length (vv .now)) ∷ [])) ∷ ‵ (ShrSlice (named 0) κq i32 .own vq (sliceVal (vq .ptr) (length (vq .now)) ∷ [])) ∷ ‵ (Own u32 bl ol ml (named 0) (νl ∷ []) δl yl) ∷ ‵ (Own u32 br or mr (named 0) (νr ∷ []) δr yr) ∷ ‵ (Own u16 bc oc mc (named 0) (νc ∷ []) δc yc) ∷ ‵ (Own u32 bo oo mo (named 0) (νo ∷ []) δo yo) ∷ ‵ (Own u64 bd od md (named 0) (νd ∷ []) δd yd) ∷ [])) (c .pre (x νl δl νr δr νc δc νo δo νd δd)))
+      → ((νl : ℕ) (δl : GName) (νr : ℕ) (δr : GName) (νc : ℕ) (δc : GName) (νo : ℕ) (δo : GName) (νd : ℕ) (δd : GName) (u : Val) → ent 𝓤 (c .post (x νl δl νr δr νc δc νo δo νd δd) u) (mean 𝓤 H A (Given-back 𝓤 κs qs vs κa qa va κu qu vu κv qv vv κq qq vq κl ql bl ol ml γl yl κr qr br or mr γr yr κc qc bc oc mc γc yc κo qo bo oo mo γo yo κd qd bd od md γd yd head kind limits νl δl νr δr νc δc νo δo νd δd u)))
+      → length yl ≡ ml → Room u32 ml → length yr ≡ mr → Room u32 mr → length yc ≡ mc → Room u16 mc → length yo ≡ mo → Room u32 mo → length yd ≡ md → Room u64 md
+      → ((νl : ℕ) (δl : GName) (νr : ℕ) (δr : GName) (νc : ℕ) (δc : GName) (νo : ℕ) (δo : GName) (νd : ℕ) (δd : GName) → Opds K W (raw (c .pre (x νl δl νr δr νc δc νo δo νd δd)) ∷ ‵ (ShrSlice (named 0) κs i32 .own vs (sliceVal (vs .ptr) (length (vs .now)) ∷ [])) ∷ ‵ (ShrSlice (named 0) κa T.the-row .own va (sliceVal (va .ptr) (length (va .now)) ∷ [])) ∷ ‵ (ShrSlice (named 0) κu u32 .own vu (sliceVal (vu .ptr) (length (vu .now)) ∷ [])) ∷ ‵ (ShrSlice (named 0) κv u32 .own vv (sliceVal (vv .ptr) (length (vv .now)) ∷ [])) ∷ ‵ (ShrSlice (named 0) κq i32 .own vq (sliceVal (vq .ptr) (length (vq .now)) ∷ [])) ∷ ‵ (LentAgain u32 κl (νl ∷ []) ql γl bl ol δl yl) ∷ ‵ (LentAgain u32 κr (νr ∷ []) qr γr br or δr yr) ∷ ‵ (LentAgain u16 κc (νc ∷ []) qc γc bc oc δc yc) ∷ ‵ (LentAgain u32 κo (νo ∷ []) qo γo bo oo δo yo) ∷ ‵ (LentAgain u64 κd (νd ∷ []) qd γd bd od δd yd) ∷ Γ) E xs (c .args (x νl δl νr δr νc δc νo δo νd δd)))
       → ((r : Found) (zl : List ℕ) (zr : List ℕ) (zc : List ℕ) (zo : List ℕ) (zd : List ℕ) → SearchKept (lentSearch (vs .now) head (va .now) (vu .now) (vv .now) kind (vq .now) limits) (buffers yl yr yc yo yd) r (buffers zl zr zc zo zd) → Is Fd.the-row r (low-found r ∷ []) → length zl ≡ length yl → length zr ≡ length yr → length zc ≡ length yc → length zo ≡ length yo → length zd ≡ length yd → Seq K W (‵ (flft κs qs) ∷ ‵ (ShrSlice (named 0) κs i32 .own vs (sliceVal (vs .ptr) (length (vs .now)) ∷ [])) ∷ ‵ (flft κa qa) ∷ ‵ (ShrSlice (named 0) κa T.the-row .own va (sliceVal (va .ptr) (length (va .now)) ∷ [])) ∷ ‵ (flft κu qu) ∷ ‵ (ShrSlice (named 0) κu u32 .own vu (sliceVal (vu .ptr) (length (vu .now)) ∷ [])) ∷ ‵ (flft κv qv) ∷ ‵ (ShrSlice (named 0) κv u32 .own vv (sliceVal (vv .ptr) (length (vv .now)) ∷ [])) ∷ ‵ (flft κq qq) ∷ ‵ (ShrSlice (named 0) κq i32 .own vq (sliceVal (vq .ptr) (length (vq .now)) ∷ [])) ∷ ‵ (flft κl ql) ∷ ‵ (Own u32 bl ol ml (named 0) κl γl zl) ∷ ‵ (flft κr qr) ∷ ‵ (Own u32 br or mr (named 0) κr γr zr) ∷ ‵ (flft κc qc) ∷ ‵ (Own u16 bc oc mc (named 0) κc γc zc) ∷ ‵ (flft κo qo) ∷ ‵ (Own u32 bo oo mo (named 0) κo γo zo) ∷ ‵ (flft κd qd) ∷ ‵ (Own u64 bd od md (named 0) κd γd zd) ∷ Γ) (lands C Λ E d (low-found r) rest p))
-      → Seq K W (‵ (flft κs qs) ∷ ‵ (ShrSlice (named 0) κs i32 .own vs (sliceVal (vs .ptr) (length (vs .now)) ∷ [])) ∷ ‵ (flft κa qa) ∷ ‵ (ShrSlice (named 0) κa T.the-row .own va (sliceVal (va .ptr) (length (va .now)) ∷ [])) ∷ ‵ (flft κu qu) ∷ ‵ (ShrSlice (named 0) κu u32 .own vu (sliceVal (vu .ptr) (length (vu .now)) ∷ [])) ∷ ‵ (flft κv qv) ∷ ‵ (ShrSlice (named 0) κv u32 .own vv (sliceVal (vv .ptr) (length (vv .now)) ∷ [])) ∷ ‵ (flft κq qq) ∷ ‵ (ShrSlice (named 0) κq i32 .own vq (sliceVal (vq .ptr) (length (vq .now)) ∷ [])) ∷ ‵ (flft κl ql) ∷ ‵ (Own u32 bl ol ml (named 0) κl γl yl) ∷ ‵ (flft κr qr) ∷ ‵ (Own u32 br or mr (named 0) κr γr yr) ∷ ‵ (flft κc qc) ∷ ‵ (Own u16 bc oc mc (named 0) κc γc yc) ∷ ‵ (flft κo qo) ∷ ‵ (Own u32 bo oo mo (named 0) κo γo yo) ∷ ‵ (flft κd qd) ∷ ‵ (Own u64 bd od md (named 0) κd γd yd) ∷ Γ) (runs C Λ E (seq (call #look xs d) rest) p)
-  calls-look t fm mem run met κs qs vs κa qa va κu qu vu κv qv vv κq qq vq κl ql bl ol ml γl yl κr qr br or mr γr yr κc qc bc oc mc γc yc κo qo bo oo mo γo yo κd qd bd od md γd yd head kind limits el rooml er roomr ec roomc eo roomo ed roomd g-head g-kind g-limits asked os k =
+      → Seq K W (‵ (flft κs qs) ∷ ‵ (ShrSlice (named 0) κs i32 .own vs (sliceVal (vs .ptr) (length (vs .now)) ∷ [])) ∷ ‵ (flft κa qa) ∷ ‵ (ShrSlice (named 0) κa T.the-row .own va (sliceVal (va .ptr) (length (va .now)) ∷ [])) ∷ ‵ (flft κu qu) ∷ ‵ (ShrSlice (named 0) κu u32 .own vu (sliceVal (vu .ptr) (length (vu .now)) ∷ [])) ∷ ‵ (flft κv qv) ∷ ‵ (ShrSlice (named 0) κv u32 .own vv (sliceVal (vv .ptr) (length (vv .now)) ∷ [])) ∷ ‵ (flft κq qq) ∷ ‵ (ShrSlice (named 0) κq i32 .own vq (sliceVal (vq .ptr) (length (vq .now)) ∷ [])) ∷ ‵ (flft κl ql) ∷ ‵ (Own u32 bl ol ml (named 0) κl γl yl) ∷ ‵ (flft κr qr) ∷ ‵ (Own u32 br or mr (named 0) κr γr yr) ∷ ‵ (flft κc qc) ∷ ‵ (Own u16 bc oc mc (named 0) κc γc yc) ∷ ‵ (flft κo qo) ∷ ‵ (Own u32 bo oo mo (named 0) κo γo yo) ∷ ‵ (flft κd qd) ∷ ‵ (Own u64 bd od md (named 0) κd γd yd) ∷ Γ) (runs C Λ E (seq (call f xs d) rest) p)
+  calls-kept t fm c met κs qs vs κa qa va κu qu vu κv qv vv κq qq vq κl ql bl ol ml γl yl κr qr br or mr γr yr κc qc bc oc mc γc yc κo qo bo oo mo γo yo κd qd bd od md γd yd head kind limits x asks gives el rooml er roomr ec roomc eo roomo ed roomd os k =
       move t (11 ∷ 10 ∷ []) $
       lend u32 bl ol ml (named 0) (named 0) κl ql γl yl el t tt (λ νl δl.
       move t (14 ∷ 13 ∷ []) $
@@ -288,10 +296,10 @@ module _ {M : Type 1} {𝓤 : URA M} {H : Heap 𝓤} {A : Atoms 𝓤} {K : Type 
       use1 W (‵ (ShrSlice (named 0) κq i32 .own vq (sliceVal (vq .ptr) (length (vq .now)) ∷ [])) ⊛ ‵ (ShrSlice (named 0) κq i32 .own vq (sliceVal (vq .ptr) (length (vq .now)) ∷ []))) (shr-slice-copy 𝓤 H A W (named 0) κq i32 .twice vq (slice-vals vq)) $
       split t $
       move t (25 ∷ 26 ∷ 27 ∷ 28 ∷ 29 ∷ 22 ∷ 19 ∷ 16 ∷ 13 ∷ 10 ∷ 8 ∷ 6 ∷ 4 ∷ 2 ∷ 0 ∷ 23 ∷ 20 ∷ 17 ∷ 14 ∷ 11 ∷ 9 ∷ 7 ∷ 5 ∷ 3 ∷ 1 ∷ 24 ∷ 21 ∷ 18 ∷ 15 ∷ 12 ∷ []) $
-      group t 20 $ use1 W (raw (Look 𝓤 H A mem run .pre (to-look 𝓤 H A mem run κs qs vs κa qa va κu qu vu κv qv vv κq qq vq κl ql bl ol ml γl yl κr qr br or mr γr yr κc qc bc oc mc γc yc κo qo bo oo mo γo yo κd qd bd od md γd yd head kind limits νl δl νr δr νc δc νo δo νd δd))) (asks-look 𝓤 H A mem run κs qs vs κa qa va κu qu vu κv qv vv κq qq vq κl ql bl ol ml γl yl κr qr br or mr γr yr κc qc bc oc mc γc yc κo qo bo oo mo γo yo κd qd bd od md γd yd head kind limits W g-head g-kind g-limits asked νl δl νr δr νc δc νo δo νd δd) $
-      calls-at t fm (Look 𝓤 H A mem run) met (to-look 𝓤 H A mem run κs qs vs κa qa va κu qu vu κv qv vv κq qq vq κl ql bl ol ml γl yl κr qr br or mr γr yr κc qc bc oc mc γc yc κo qo bo oo mo γo yo κd qd bd od md γd yd head kind limits νl δl νr δr νc δc νo δo νd δd) (os νl δl νr δr νc δc νo δo νd δd) (λ u. use1 W (later (some (λ (r : Found). ((‵ (flft κs qs) ⊛ ‵ (flft κa qa) ⊛ ‵ (flft κu qu) ⊛ ‵ (flft κv qv) ⊛ ‵ (flft κq qq) ⊛ ‵ (flft (νl ∷ []) fullShare) ⊛ ‵ (flft (νr ∷ []) fullShare) ⊛ ‵ (flft (νc ∷ []) fullShare) ⊛ ‵ (flft (νo ∷ []) fullShare) ⊛ ‵ (flft (νd ∷ []) fullShare) ⊛ ‵ ftrue) ⊛ ‵ (Fd.the-row .own r (u ∷ []))) ⊛ raw (ensured 𝓤 H A looking.ended (looking.clauses 𝓤 H A mem run) (κs, (κa, (κu, (κv, (κq, ((νl ∷ []), ((νr ∷ []), ((νc ∷ []), ((νo ∷ []), ((νd ∷ []), tt)))))))))) (vs, (head, (va, (vu, (vv, (kind, (vq, (limits, ((record { ptr = (bl, ol); name = δl; now = yl }), ((record { ptr = (br, or); name = δr; now = yr }), ((record { ptr = (bc, oc); name = δc; now = yc }), ((record { ptr = (bo, oo); name = δo; now = yo }), ((record { ptr = (bd, od); name = δd; now = yd }), tt))))))))))))) tt r)))) (id⊢ 𝓤 _) $ await t tt $ pick t (λ r. split t $
+      group t 20 $ use1 W (raw (c .pre (x νl δl νr δr νc δc νo δo νd δd))) (asks νl δl νr δr νc δc νo δo νd δd) $
+      calls-at t fm c met (x νl δl νr δr νc δc νo δo νd δd) (os νl δl νr δr νc δc νo δo νd δd) (λ u. use1 W (Given-back 𝓤 κs qs vs κa qa va κu qu vu κv qv vv κq qq vq κl ql bl ol ml γl yl κr qr br or mr γr yr κc qc bc oc mc γc yc κo qo bo oo mo γo yo κd qd bd od md γd yd head kind limits νl δl νr δr νc δc νo δo νd δd u) (gives νl δl νr δr νc δc νo δo νd δd u) $ await t tt $ pick t (λ r. split t $
       move t (1 ∷ []) $
-      use1 W (some (λ (ls : (Unit {0} × (Unit {0} × (Unit {0} × (Unit {0} × (Unit {0} × (Unit {0} × (Unit {0} × (Unit {0} × (List ℕ × (List ℕ × (List ℕ × (List ℕ × (List ℕ × Unit {0})))))))))))))). ‵ (lasts looking.ended (κs, (κa, (κu, (κv, (κq, ((νl ∷ []), ((νr ∷ []), ((νc ∷ []), ((νo ∷ []), ((νd ∷ []), tt)))))))))) (vs, (head, (va, (vu, (vv, (kind, (vq, (limits, ((record { ptr = (bl, ol); name = δl; now = yl }), ((record { ptr = (br, or); name = δr; now = yr }), ((record { ptr = (bc, oc); name = δc; now = yc }), ((record { ptr = (bo, oo); name = δo; now = yo }), ((record { ptr = (bd, od); name = δd; now = yd }), tt))))))))))))) ls) ⊛ raw (fact 𝓤 (SearchKept (lentSearch (vs .now) head (va .now) (vu .now) (vv .now) kind (vq .now) limits) (buffers yl yr yc yo yd) r (buffers (ls .1 .1 .1 .1 .1 .1 .1 .1 .0) (ls .1 .1 .1 .1 .1 .1 .1 .1 .1 .0) (ls .1 .1 .1 .1 .1 .1 .1 .1 .1 .1 .0) (ls .1 .1 .1 .1 .1 .1 .1 .1 .1 .1 .1 .0) (ls .1 .1 .1 .1 .1 .1 .1 .1 .1 .1 .1 .1 .0)))))) (id⊢ 𝓤 _) $ pick t (λ ls. split t $
+      pick t (λ ls. split t $
       move t (1 ∷ []) $
       heard t (SearchKept (lentSearch (vs .now) head (va .now) (vu .now) (vv .now) kind (vq .now) limits) (buffers yl yr yc yo yd) r (buffers (ls .1 .1 .1 .1 .1 .1 .1 .1 .0) (ls .1 .1 .1 .1 .1 .1 .1 .1 .1 .0) (ls .1 .1 .1 .1 .1 .1 .1 .1 .1 .1 .0) (ls .1 .1 .1 .1 .1 .1 .1 .1 .1 .1 .1 .0) (ls .1 .1 .1 .1 .1 .1 .1 .1 .1 .1 .1 .1 .0))) (λ said.
       fsplit t $
@@ -374,3 +382,10 @@ module _ {M : Type 1} {𝓤 : URA M} {H : Heap 𝓤} {A : Atoms 𝓤} {K : Type 
       back u64 bd od md (named 0) (named 0) κd qd γd yd ed t tt νd δd (ls .1 .1 .1 .1 .1 .1 .1 .1 .1 .1 .1 .1 .0) roomd longd $
       move t (14 ∷ 15 ∷ 13 ∷ 16 ∷ 12 ∷ 17 ∷ 11 ∷ 18 ∷ 10 ∷ 19 ∷ 9 ∷ 8 ∷ 7 ∷ 6 ∷ 5 ∷ 4 ∷ 3 ∷ 2 ∷ 1 ∷ 0 ∷ []) $
       k r (ls .1 .1 .1 .1 .1 .1 .1 .1 .0) (ls .1 .1 .1 .1 .1 .1 .1 .1 .1 .0) (ls .1 .1 .1 .1 .1 .1 .1 .1 .1 .1 .0) (ls .1 .1 .1 .1 .1 .1 .1 .1 .1 .1 .1 .0) (ls .1 .1 .1 .1 .1 .1 .1 .1 .1 .1 .1 .1 .0) said (subst (Is Fd.the-row r) (EL.tells Fd.the-type Fd′.the-laws r (u ∷ []) is) is) longl longr longc longo longd)))))))))))))))
+
+  pub calls-look : K → FmC 𝓤 H (W .laws) C → (mem : Memory → SProp 𝓤) (run : Routine → Fun 𝓤) → Triple 𝓤 (C #look) (Look 𝓤 H A mem run) → (κs : Lft) (qs : Share) (vs : RefT (List ℤ)) (κa : Lft) (qa : Share) (va : RefT (List Row)) (κu : Lft) (qu : Share) (vu : RefT (List ℕ)) (κv : Lft) (qv : Share) (vv : RefT (List ℕ)) (κq : Lft) (qq : Share) (vq : RefT (List ℤ)) (κl : Lft) (ql : Share) (bl ol ml : ℕ) (γl : GName) (yl : List ℕ) (κr : Lft) (qr : Share) (br or mr : ℕ) (γr : GName) (yr : List ℕ) (κc : Lft) (qc : Share) (bc oc mc : ℕ) (γc : GName) (yc : List ℕ) (κo : Lft) (qo : Share) (bo oo mo : ℕ) (γo : GName) (yo : List ℕ) (κd : Lft) (qd : Share) (bd od md : ℕ) (γd : GName) (yd : List ℕ) (head : Head) (kind : Kind) (limits : Limits) → length yl ≡ ml → Room u32 ml → length yr ≡ mr → Room u32 mr → length yc ≡ mc → Room u16 mc → length yo ≡ mo → Room u32 mo → length yd ≡ md → Room u64 md → Is Hd.the-row head (low-head head ∷ []) → Is Kd.the-row kind (low-kind kind ∷ []) → Is Lm.the-row limits (low-limits limits ∷ []) → thePlan (vs .now) head (va .now) (vu .now) (vv .now) kind (vq .now) limits (buffers yl yr yc yo yd) .number ≡ 0
+      → ((νl : ℕ) (δl : GName) (νr : ℕ) (δr : GName) (νc : ℕ) (δc : GName) (νo : ℕ) (δo : GName) (νd : ℕ) (δd : GName) → Opds K W (raw (Look 𝓤 H A mem run .pre (to-look 𝓤 H A mem run κs qs vs κa qa va κu qu vu κv qv vv κq qq vq κl ql bl ol ml γl yl κr qr br or mr γr yr κc qc bc oc mc γc yc κo qo bo oo mo γo yo κd qd bd od md γd yd head kind limits νl δl νr δr νc δc νo δo νd δd)) ∷ ‵ (ShrSlice (named 0) κs i32 .own vs (sliceVal (vs .ptr) (length (vs .now)) ∷ [])) ∷ ‵ (ShrSlice (named 0) κa T.the-row .own va (sliceVal (va .ptr) (length (va .now)) ∷ [])) ∷ ‵ (ShrSlice (named 0) κu u32 .own vu (sliceVal (vu .ptr) (length (vu .now)) ∷ [])) ∷ ‵ (ShrSlice (named 0) κv u32 .own vv (sliceVal (vv .ptr) (length (vv .now)) ∷ [])) ∷ ‵ (ShrSlice (named 0) κq i32 .own vq (sliceVal (vq .ptr) (length (vq .now)) ∷ [])) ∷ ‵ (LentAgain u32 κl (νl ∷ []) ql γl bl ol δl yl) ∷ ‵ (LentAgain u32 κr (νr ∷ []) qr γr br or δr yr) ∷ ‵ (LentAgain u16 κc (νc ∷ []) qc γc bc oc δc yc) ∷ ‵ (LentAgain u32 κo (νo ∷ []) qo γo bo oo δo yo) ∷ ‵ (LentAgain u64 κd (νd ∷ []) qd γd bd od δd yd) ∷ Γ) E xs (sliceVal (vs .ptr) (length (vs .now)) ∷ low-head head ∷ sliceVal (va .ptr) (length (va .now)) ∷ sliceVal (vu .ptr) (length (vu .now)) ∷ sliceVal (vv .ptr) (length (vv .now)) ∷ low-kind kind ∷ sliceVal (vq .ptr) (length (vq .now)) ∷ low-limits limits ∷ sliceVal (bl, ol) ml ∷ sliceVal (br, or) mr ∷ sliceVal (bc, oc) mc ∷ sliceVal (bo, oo) mo ∷ sliceVal (bd, od) md ∷ []))
+      → ((r : Found) (zl : List ℕ) (zr : List ℕ) (zc : List ℕ) (zo : List ℕ) (zd : List ℕ) → SearchKept (lentSearch (vs .now) head (va .now) (vu .now) (vv .now) kind (vq .now) limits) (buffers yl yr yc yo yd) r (buffers zl zr zc zo zd) → Is Fd.the-row r (low-found r ∷ []) → length zl ≡ length yl → length zr ≡ length yr → length zc ≡ length yc → length zo ≡ length yo → length zd ≡ length yd → Seq K W (‵ (flft κs qs) ∷ ‵ (ShrSlice (named 0) κs i32 .own vs (sliceVal (vs .ptr) (length (vs .now)) ∷ [])) ∷ ‵ (flft κa qa) ∷ ‵ (ShrSlice (named 0) κa T.the-row .own va (sliceVal (va .ptr) (length (va .now)) ∷ [])) ∷ ‵ (flft κu qu) ∷ ‵ (ShrSlice (named 0) κu u32 .own vu (sliceVal (vu .ptr) (length (vu .now)) ∷ [])) ∷ ‵ (flft κv qv) ∷ ‵ (ShrSlice (named 0) κv u32 .own vv (sliceVal (vv .ptr) (length (vv .now)) ∷ [])) ∷ ‵ (flft κq qq) ∷ ‵ (ShrSlice (named 0) κq i32 .own vq (sliceVal (vq .ptr) (length (vq .now)) ∷ [])) ∷ ‵ (flft κl ql) ∷ ‵ (Own u32 bl ol ml (named 0) κl γl zl) ∷ ‵ (flft κr qr) ∷ ‵ (Own u32 br or mr (named 0) κr γr zr) ∷ ‵ (flft κc qc) ∷ ‵ (Own u16 bc oc mc (named 0) κc γc zc) ∷ ‵ (flft κo qo) ∷ ‵ (Own u32 bo oo mo (named 0) κo γo zo) ∷ ‵ (flft κd qd) ∷ ‵ (Own u64 bd od md (named 0) κd γd zd) ∷ Γ) (lands C Λ E d (low-found r) rest p))
+      → Seq K W (‵ (flft κs qs) ∷ ‵ (ShrSlice (named 0) κs i32 .own vs (sliceVal (vs .ptr) (length (vs .now)) ∷ [])) ∷ ‵ (flft κa qa) ∷ ‵ (ShrSlice (named 0) κa T.the-row .own va (sliceVal (va .ptr) (length (va .now)) ∷ [])) ∷ ‵ (flft κu qu) ∷ ‵ (ShrSlice (named 0) κu u32 .own vu (sliceVal (vu .ptr) (length (vu .now)) ∷ [])) ∷ ‵ (flft κv qv) ∷ ‵ (ShrSlice (named 0) κv u32 .own vv (sliceVal (vv .ptr) (length (vv .now)) ∷ [])) ∷ ‵ (flft κq qq) ∷ ‵ (ShrSlice (named 0) κq i32 .own vq (sliceVal (vq .ptr) (length (vq .now)) ∷ [])) ∷ ‵ (flft κl ql) ∷ ‵ (Own u32 bl ol ml (named 0) κl γl yl) ∷ ‵ (flft κr qr) ∷ ‵ (Own u32 br or mr (named 0) κr γr yr) ∷ ‵ (flft κc qc) ∷ ‵ (Own u16 bc oc mc (named 0) κc γc yc) ∷ ‵ (flft κo qo) ∷ ‵ (Own u32 bo oo mo (named 0) κo γo yo) ∷ ‵ (flft κd qd) ∷ ‵ (Own u64 bd od md (named 0) κd γd yd) ∷ Γ) (runs C Λ E (seq (call #look xs d) rest) p)
+  calls-look t fm mem run met κs qs vs κa qa va κu qu vu κv qv vv κq qq vq κl ql bl ol ml γl yl κr qr br or mr γr yr κc qc bc oc mc γc yc κo qo bo oo mo γo yo κd qd bd od md γd yd head kind limits el rooml er roomr ec roomc eo roomo ed roomd g-head g-kind g-limits asked os k =
+      calls-kept t fm (Look 𝓤 H A mem run) met κs qs vs κa qa va κu qu vu κv qv vv κq qq vq κl ql bl ol ml γl yl κr qr br or mr γr yr κc qc bc oc mc γc yc κo qo bo oo mo γo yo κd qd bd od md γd yd head kind limits (to-look 𝓤 H A mem run κs qs vs κa qa va κu qu vu κv qv vv κq qq vq κl ql bl ol ml γl yl κr qr br or mr γr yr κc qc bc oc mc γc yc κo qo bo oo mo γo yo κd qd bd od md γd yd head kind limits) (asks-look 𝓤 H A mem run κs qs vs κa qa va κu qu vu κv qv vv κq qq vq κl ql bl ol ml γl yl κr qr br or mr γr yr κc qc bc oc mc γc yc κo qo bo oo mo γo yo κd qd bd od md γd yd head kind limits W g-head g-kind g-limits asked) (λ νl δl νr δr νc δc νo δo νd δd u. id⊢ 𝓤 _) el rooml er roomr ec roomc eo roomo ed roomd os k

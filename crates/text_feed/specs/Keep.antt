@@ -81,40 +81,28 @@ wordPlace Word.Window = 8
 wordPlace Word.Width = 8
 wordPlace Word.Merge = 8
 wordPlace Word.Series = 8
-wordPlace Word.Item = 8
 wordPlace Word.Find = 8
 wordPlace Word.Raw = 7
 wordPlace Word.Normal = 7
-wordPlace Word.Band = 8
-wordPlace Word.Threshold = 8
-wordPlace Word.Scale = 8
-wordPlace Word.Shift = 8
 wordPlace Word.Query = 8
-wordPlace Word.Asked = 8
 wordPlace Word.End = 8
 wordPlace Word.Line = 8
-wordPlace Word.Entry = 8
 wordPlace Word.LineEnd = 8
+wordPlace (Word.Space p) = 8
 
 abbrev pub wordNumber : Word → ℤ
 wordNumber Word.Window = pos 0
 wordNumber Word.Width = pos 0
 wordNumber Word.Merge = pos 0
 wordNumber Word.Series = pos 0
-wordNumber Word.Item = pos 0
 wordNumber Word.Find = pos 0
 wordNumber Word.Raw = pos 1
 wordNumber Word.Normal = pos 0
-wordNumber Word.Band = pos 0
-wordNumber Word.Threshold = pos 0
-wordNumber Word.Scale = pos 0
-wordNumber Word.Shift = pos 0
 wordNumber Word.Query = pos 0
-wordNumber Word.Asked = pos 0
 wordNumber Word.End = pos 0
 wordNumber Word.Line = pos 0
-wordNumber Word.Entry = pos 0
 wordNumber Word.LineEnd = pos 0
+wordNumber (Word.Space p) = pos 0
 
 -- ---- what is kept of what has been said
 
@@ -207,20 +195,14 @@ holds-named kept asked g numbers v w series query Word.Window h = record { alone
 holds-named kept asked g numbers v w series query Word.Width h = record { alone = rw (h .alone); first = h .first; second = h .second }
 holds-named kept asked g numbers v w series query Word.Merge h = record { alone = rw (h .alone); first = h .first; second = h .second }
 holds-named kept asked g numbers v w series query Word.Series h = record { alone = rw (h .alone); first = h .first; second = h .second }
-holds-named kept asked g numbers v w series query Word.Item h = record { alone = rw (h .alone); first = h .first; second = h .second }
 holds-named kept asked g numbers v w series query Word.Find h = record { alone = rw (h .alone); first = h .first; second = h .second }
 holds-named kept asked g numbers v w series query Word.Raw h = record { alone = rw (h .alone); first = h .first; second = h .second }
 holds-named kept asked g numbers v w series query Word.Normal h = record { alone = rw (h .alone); first = h .first; second = h .second }
-holds-named kept asked g numbers v w series query Word.Band h = record { alone = rw (h .alone); first = h .first; second = h .second }
-holds-named kept asked g numbers v w series query Word.Threshold h = record { alone = rw (h .alone); first = h .first; second = h .second }
-holds-named kept asked g numbers v w series query Word.Scale h = record { alone = rw (h .alone); first = h .first; second = h .second }
-holds-named kept asked g numbers v w series query Word.Shift h = record { alone = rw (h .alone); first = h .first; second = h .second }
 holds-named kept asked g numbers v w series query Word.Query h = record { alone = rw (h .alone); first = h .first; second = h .second }
-holds-named kept asked g numbers v w series query Word.Asked h = record { alone = rw (h .alone); first = h .first; second = h .second }
 holds-named kept asked g numbers v w series query Word.End h = record { alone = rw (h .alone); first = h .first; second = h .second }
 holds-named kept asked g numbers v w series query Word.Line h = record { alone = rw (h .alone); first = h .first; second = h .second }
-holds-named kept asked g numbers v w series query Word.Entry h = record { alone = rw (h .alone); first = h .first; second = h .second }
 holds-named kept asked g numbers v w series query Word.LineEnd h = record { alone = rw (h .alone); first = h .first; second = h .second }
+holds-named kept asked g numbers v w series query (Word.Space p) h = record { alone = rw (h .alone); first = h .first; second = h .second }
 
 -- ---- tests
 

@@ -167,20 +167,14 @@ fn kind_place(w: Word) -> usize
         Word::Width => 8,
         Word::Merge => 8,
         Word::Series => 8,
-        Word::Item => 8,
         Word::Find => 8,
         Word::Raw => 7,
         Word::Normal => 7,
-        Word::Band => 8,
-        Word::Threshold => 8,
-        Word::Scale => 8,
-        Word::Shift => 8,
         Word::Query => 8,
-        Word::Asked => 8,
         Word::End => 8,
         Word::Line => 8,
-        Word::Entry => 8,
         Word::LineEnd => 8,
+        Word::Space(_) => 8,
     }
 }
 
@@ -193,20 +187,14 @@ fn kind_number(w: Word) -> i64
         Word::Width => 0,
         Word::Merge => 0,
         Word::Series => 0,
-        Word::Item => 0,
         Word::Find => 0,
         Word::Raw => 1,
         Word::Normal => 0,
-        Word::Band => 0,
-        Word::Threshold => 0,
-        Word::Scale => 0,
-        Word::Shift => 0,
         Word::Query => 0,
-        Word::Asked => 0,
         Word::End => 0,
         Word::Line => 0,
-        Word::Entry => 0,
         Word::LineEnd => 0,
+        Word::Space(_) => 0,
     }
 }
 

@@ -80,20 +80,14 @@ named Word.Window g = g
 named Word.Width g = g
 named Word.Merge g = g
 named Word.Series g = g
-named Word.Item g = g
 named Word.Find g = g
 named Word.Raw g = kindSaid true g
 named Word.Normal g = kindSaid false g
-named Word.Band g = g
-named Word.Threshold g = g
-named Word.Scale g = g
-named Word.Shift g = g
 named Word.Query g = g
-named Word.Asked g = g
 named Word.End g = g
 named Word.Line g = g
-named Word.Entry g = g
 named Word.LineEnd g = g
+named (Word.Space p) g = g
 
 -- ---- the automaton
 
@@ -142,16 +136,16 @@ module _ {A : Type 0} (fin : Said → A) where
   afterShift g = wordThen (word Word.Query) (restQuery g)
 
   afterScale : Said → Rest A
-  afterScale g = wordThen (word Word.Shift) (numberThen Numeral.Start (λ z. afterShift (told Place.Shift z g)))
+  afterScale g = wordThen (word (Word.Space Place.Shift)) (numberThen Numeral.Start (λ z. afterShift (told Place.Shift z g)))
 
   afterThreshold : Said → Rest A
-  afterThreshold g = wordThen (word Word.Scale) (numberThen Numeral.Start (λ z. afterScale (told Place.Scale z g)))
+  afterThreshold g = wordThen (word (Word.Space Place.Scale)) (numberThen Numeral.Start (λ z. afterScale (told Place.Scale z g)))
 
   afterBand : Said → Rest A
-  afterBand g = wordThen (word Word.Threshold) (numberThen Numeral.Start (λ z. afterThreshold (told Place.Threshold z g)))
+  afterBand g = wordThen (word (Word.Space Place.Threshold)) (numberThen Numeral.Start (λ z. afterThreshold (told Place.Threshold z g)))
 
   afterKind : Said → Rest A
-  afterKind g = wordThen (word Word.Band) (numberThen Numeral.Start (λ z. afterBand (told Place.Band z g)))
+  afterKind g = wordThen (word (Word.Space Place.Band)) (numberThen Numeral.Start (λ z. afterBand (told Place.Band z g)))
 
   unfoldable restKind : Said → Rest A
   restKind g = readThen (oneOf "raw" "normal") (λ r. afterKind (kindSaid r g))
@@ -193,20 +187,14 @@ module _ {A : Type 0} (fin : Said → A) where
   behindThen Word.Width g = fromNumber Place.Width Numeral.Start g
   behindThen Word.Merge g = fromNumber Place.Merge Numeral.Start g
   behindThen Word.Series g = restSeries g
-  behindThen Word.Item g = fromNumber Place.Item Numeral.Start g
   behindThen Word.Find g = restKind g
   behindThen Word.Raw g = afterKind (kindSaid true g)
   behindThen Word.Normal g = afterKind (kindSaid false g)
-  behindThen Word.Band g = fromNumber Place.Band Numeral.Start g
-  behindThen Word.Threshold g = fromNumber Place.Threshold Numeral.Start g
-  behindThen Word.Scale g = fromNumber Place.Scale Numeral.Start g
-  behindThen Word.Shift g = fromNumber Place.Shift Numeral.Start g
   behindThen Word.Query g = restQuery g
-  behindThen Word.Asked g = fromNumber Place.Asked Numeral.Start g
   behindThen Word.End g = λ t. got (fin g) t
   behindThen Word.Line g = restLine g
-  behindThen Word.Entry g = fromNumber Place.Entry Numeral.Start g
   behindThen Word.LineEnd g = λ t. got (fin g) t
+  behindThen (Word.Space p) g = fromNumber p Numeral.Start g
 
   abbrev restTurn : Turn → Said → Rest A
   restTurn (Turn.One w) g = wordThen (word w) (behindThen w g)
@@ -241,20 +229,14 @@ good-behind Word.Window = tt
 good-behind Word.Width = tt
 good-behind Word.Merge = tt
 good-behind Word.Series = tt
-good-behind Word.Item = tt
 good-behind Word.Find = tt
 good-behind Word.Raw = tt
 good-behind Word.Normal = tt
-good-behind Word.Band = tt
-good-behind Word.Threshold = tt
-good-behind Word.Scale = tt
-good-behind Word.Shift = tt
 good-behind Word.Query = tt
-good-behind Word.Asked = tt
 good-behind Word.End = tt
 good-behind Word.Line = tt
-good-behind Word.Entry = tt
 good-behind Word.LineEnd = tt
+good-behind (Word.Space p) = tt
 
 on-reached : (x : Reached) {A : Type 0} → ((s : State) → x ≡ Reached.There s → A) → (x ≡ Reached.Not → A) → A
 on-reached (Reached.There s) f g = f s refl
@@ -276,20 +258,14 @@ module _ {A : Type 0} (fin : Said → A) where
   behind-then Word.Width g = refl
   behind-then Word.Merge g = refl
   behind-then Word.Series g = refl
-  behind-then Word.Item g = refl
   behind-then Word.Find g = refl
   behind-then Word.Raw g = refl
   behind-then Word.Normal g = refl
-  behind-then Word.Band g = refl
-  behind-then Word.Threshold g = refl
-  behind-then Word.Scale g = refl
-  behind-then Word.Shift g = refl
   behind-then Word.Query g = refl
-  behind-then Word.Asked g = refl
   behind-then Word.End g = refl
   behind-then Word.Line g = refl
-  behind-then Word.Entry g = refl
   behind-then Word.LineEnd g = refl
+  behind-then (Word.Space p) g = refl
 
   -- a word of one byte says nothing
   unnamed : (w : Word) (g : Said) → cond (ltb 1 (length (word w))) g (named w g) ≡ g
@@ -298,20 +274,14 @@ module _ {A : Type 0} (fin : Said → A) where
   unnamed Word.Width g = refl
   unnamed Word.Merge g = refl
   unnamed Word.Series g = refl
-  unnamed Word.Item g = refl
   unnamed Word.Find g = refl
   unnamed Word.Raw g = refl
   unnamed Word.Normal g = refl
-  unnamed Word.Band g = refl
-  unnamed Word.Threshold g = refl
-  unnamed Word.Scale g = refl
-  unnamed Word.Shift g = refl
   unnamed Word.Query g = refl
-  unnamed Word.Asked g = refl
   unnamed Word.End g = refl
   unnamed Word.Line g = refl
-  unnamed Word.Entry g = refl
   unnamed Word.LineEnd g = refl
+  unnamed (Word.Space p) g = refl
 
   -- a byte of a word
   module _ (w : Word) (k b : ℕ) (h : k < length (word w)) where

@@ -24,20 +24,14 @@ word Word.Window = bytes "(window "
 word Word.Width = bytes ")\n(width "
 word Word.Merge = bytes ")\n(merge "
 word Word.Series = bytes ")\n(series"
-word Word.Item = bytes " "
 word Word.Find = bytes ")\n(find "
 word Word.Raw = bytes "raw"
 word Word.Normal = bytes "normal"
-word Word.Band = bytes " "
-word Word.Threshold = bytes " "
-word Word.Scale = bytes " "
-word Word.Shift = bytes " "
 word Word.Query = bytes " (query"
-word Word.Asked = bytes " "
 word Word.End = bytes "))\n"
 word Word.Line = bytes "(series"
-word Word.Entry = bytes " "
 word Word.LineEnd = bytes ")\n"
+word (Word.Space p) = bytes " "
 
 -- the state behind a word
 unfoldable pub behind : Word → State
@@ -45,20 +39,14 @@ behind Word.Window = State.At Place.Window Numeral.Start
 behind Word.Width = State.At Place.Width Numeral.Start
 behind Word.Merge = State.At Place.Merge Numeral.Start
 behind Word.Series = State.Before Turn.Series
-behind Word.Item = State.At Place.Item Numeral.Start
 behind Word.Find = State.Before Turn.Kind
-behind Word.Raw = State.Before (Turn.One Word.Band)
-behind Word.Normal = State.Before (Turn.One Word.Band)
-behind Word.Band = State.At Place.Band Numeral.Start
-behind Word.Threshold = State.At Place.Threshold Numeral.Start
-behind Word.Scale = State.At Place.Scale Numeral.Start
-behind Word.Shift = State.At Place.Shift Numeral.Start
+behind Word.Raw = State.Before (Turn.One (Word.Space Place.Band))
+behind Word.Normal = State.Before (Turn.One (Word.Space Place.Band))
 behind Word.Query = State.Before Turn.Query
-behind Word.Asked = State.At Place.Asked Numeral.Start
 behind Word.End = State.Done
 behind Word.Line = State.Before Turn.Line
-behind Word.Entry = State.At Place.Entry Numeral.Start
 behind Word.LineEnd = State.Done
+behind (Word.Space p) = State.At p Numeral.Start
 
 -- what may come behind a number
 unfoldable pub turnAfter : Place → Turn
@@ -66,9 +54,9 @@ turnAfter Place.Window = Turn.One Word.Width
 turnAfter Place.Width = Turn.One Word.Merge
 turnAfter Place.Merge = Turn.One Word.Series
 turnAfter Place.Item = Turn.Series
-turnAfter Place.Band = Turn.One Word.Threshold
-turnAfter Place.Threshold = Turn.One Word.Scale
-turnAfter Place.Scale = Turn.One Word.Shift
+turnAfter Place.Band = Turn.One (Word.Space Place.Threshold)
+turnAfter Place.Threshold = Turn.One (Word.Space Place.Scale)
+turnAfter Place.Scale = Turn.One (Word.Space Place.Shift)
 turnAfter Place.Shift = Turn.One Word.Query
 turnAfter Place.Asked = Turn.Query
 turnAfter Place.Entry = Turn.Line
@@ -76,10 +64,10 @@ turnAfter Place.Entry = Turn.Line
 -- the only word that could begin with the byte
 unfoldable pub pick : Turn → ℕ → Word
 pick (Turn.One w) b = w
-pick Turn.Series b = cond (eqb b 32) Word.Item Word.Find
+pick Turn.Series b = cond (eqb b 32) (Word.Space Place.Item) Word.Find
 pick Turn.Kind b = cond (eqb b 114) Word.Raw Word.Normal
-pick Turn.Query b = cond (eqb b 32) Word.Asked Word.End
-pick Turn.Line b = cond (eqb b 32) Word.Entry Word.LineEnd
+pick Turn.Query b = cond (eqb b 32) (Word.Space Place.Asked) Word.End
+pick Turn.Line b = cond (eqb b 32) (Word.Space Place.Entry) Word.LineEnd
 
 -- the byte is byte k of the word, and where that leads
 unfoldable pub reach : Word → ℕ → ℕ → Reached
@@ -141,20 +129,14 @@ word-long Word.Window = omega arith
 word-long Word.Width = omega arith
 word-long Word.Merge = omega arith
 word-long Word.Series = omega arith
-word-long Word.Item = omega arith
 word-long Word.Find = omega arith
 word-long Word.Raw = omega arith
 word-long Word.Normal = omega arith
-word-long Word.Band = omega arith
-word-long Word.Threshold = omega arith
-word-long Word.Scale = omega arith
-word-long Word.Shift = omega arith
 word-long Word.Query = omega arith
-word-long Word.Asked = omega arith
 word-long Word.End = omega arith
 word-long Word.Line = omega arith
-word-long Word.Entry = omega arith
 word-long Word.LineEnd = omega arith
+word-long (Word.Space p) = omega arith
 
 pub word-short : (w : Word) → length (word w) ≤ 15
 unfolding word bytes
@@ -162,17 +144,11 @@ word-short Word.Window = omega arith
 word-short Word.Width = omega arith
 word-short Word.Merge = omega arith
 word-short Word.Series = omega arith
-word-short Word.Item = omega arith
 word-short Word.Find = omega arith
 word-short Word.Raw = omega arith
 word-short Word.Normal = omega arith
-word-short Word.Band = omega arith
-word-short Word.Threshold = omega arith
-word-short Word.Scale = omega arith
-word-short Word.Shift = omega arith
 word-short Word.Query = omega arith
-word-short Word.Asked = omega arith
 word-short Word.End = omega arith
 word-short Word.Line = omega arith
-word-short Word.Entry = omega arith
 word-short Word.LineEnd = omega arith
+word-short (Word.Space p) = omega arith

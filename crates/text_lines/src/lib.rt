@@ -11,26 +11,20 @@ ghost use lib.ListN.{length, getD};
 ghost use Rattle.text_numbers.specs.Number.{NumGood, whole};
 ghost use Rattle.text_lines.specs.Step.{word, behind, turnAfter, pick, reach, wordStep, turnStep, endStep, numberStep, lineStep, GoodState};
 
-// The fixed words: the program's, and those of a series line by itself.
+// The fixed words: the program's, those of a series line by itself, and a single space in front of a number.
 pub enum Word {
     Window,
     Width,
     Merge,
     Series,
-    Item,
     Find,
     Raw,
     Normal,
-    Band,
-    Threshold,
-    Scale,
-    Shift,
     Query,
-    Asked,
     End,
     Line,
-    Entry,
     LineEnd,
+    Space(Place),
 }
 
 // The numbers: the program's, with the values of its series and of its query, and the values of a series line by itself.
@@ -86,20 +80,14 @@ fn word_byte(w: Word, k: usize) -> u8
         Word::Width => letter(b")\n(width ", k),
         Word::Merge => letter(b")\n(merge ", k),
         Word::Series => letter(b")\n(series", k),
-        Word::Item => letter(b" ", k),
         Word::Find => letter(b")\n(find ", k),
         Word::Raw => letter(b"raw", k),
         Word::Normal => letter(b"normal", k),
-        Word::Band => letter(b" ", k),
-        Word::Threshold => letter(b" ", k),
-        Word::Scale => letter(b" ", k),
-        Word::Shift => letter(b" ", k),
         Word::Query => letter(b" (query", k),
-        Word::Asked => letter(b" ", k),
         Word::End => letter(b"))\n", k),
         Word::Line => letter(b"(series", k),
-        Word::Entry => letter(b" ", k),
         Word::LineEnd => letter(b")\n", k),
+        Word::Space(_) => letter(b" ", k),
     }
 }
 
@@ -111,20 +99,14 @@ fn word_length(w: Word) -> usize
         Word::Width => 9,
         Word::Merge => 9,
         Word::Series => 9,
-        Word::Item => 1,
         Word::Find => 8,
         Word::Raw => 3,
         Word::Normal => 6,
-        Word::Band => 1,
-        Word::Threshold => 1,
-        Word::Scale => 1,
-        Word::Shift => 1,
         Word::Query => 7,
-        Word::Asked => 1,
         Word::End => 3,
         Word::Line => 7,
-        Word::Entry => 1,
         Word::LineEnd => 2,
+        Word::Space(_) => 1,
     }
 }
 
@@ -137,20 +119,14 @@ fn word_end(w: Word) -> State
         Word::Width => State::At(Place::Width, Numeral::Start),
         Word::Merge => State::At(Place::Merge, Numeral::Start),
         Word::Series => State::Before(Turn::Series),
-        Word::Item => State::At(Place::Item, Numeral::Start),
         Word::Find => State::Before(Turn::Kind),
-        Word::Raw => State::Before(Turn::One(Word::Band)),
-        Word::Normal => State::Before(Turn::One(Word::Band)),
-        Word::Band => State::At(Place::Band, Numeral::Start),
-        Word::Threshold => State::At(Place::Threshold, Numeral::Start),
-        Word::Scale => State::At(Place::Scale, Numeral::Start),
-        Word::Shift => State::At(Place::Shift, Numeral::Start),
+        Word::Raw => State::Before(Turn::One(Word::Space(Place::Band))),
+        Word::Normal => State::Before(Turn::One(Word::Space(Place::Band))),
         Word::Query => State::Before(Turn::Query),
-        Word::Asked => State::At(Place::Asked, Numeral::Start),
         Word::End => State::Done,
         Word::Line => State::Before(Turn::Line),
-        Word::Entry => State::At(Place::Entry, Numeral::Start),
         Word::LineEnd => State::Done,
+        Word::Space(p) => State::At(p, Numeral::Start),
     }
 }
 
@@ -163,9 +139,9 @@ fn number_end(p: Place) -> Turn
         Place::Width => Turn::One(Word::Merge),
         Place::Merge => Turn::One(Word::Series),
         Place::Item => Turn::Series,
-        Place::Band => Turn::One(Word::Threshold),
-        Place::Threshold => Turn::One(Word::Scale),
-        Place::Scale => Turn::One(Word::Shift),
+        Place::Band => Turn::One(Word::Space(Place::Threshold)),
+        Place::Threshold => Turn::One(Word::Space(Place::Scale)),
+        Place::Scale => Turn::One(Word::Space(Place::Shift)),
         Place::Shift => Turn::One(Word::Query),
         Place::Asked => Turn::Query,
         Place::Entry => Turn::Line,
@@ -180,7 +156,7 @@ fn picked(t: Turn, b: u8) -> Word
         Turn::One(w) => w,
         Turn::Series => {
             if b == 32 {
-                return Word::Item;
+                return Word::Space(Place::Item);
             }
             Word::Find
         }
@@ -192,13 +168,13 @@ fn picked(t: Turn, b: u8) -> Word
         }
         Turn::Query => {
             if b == 32 {
-                return Word::Asked;
+                return Word::Space(Place::Asked);
             }
             Word::End
         }
         Turn::Line => {
             if b == 32 {
-                return Word::Entry;
+                return Word::Space(Place::Entry);
             }
             Word::LineEnd
         }

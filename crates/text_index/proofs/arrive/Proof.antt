@@ -8,24 +8,12 @@ use borrow.Author.Needs.{needs}
 use Rattle.text_index.proofs.arrive.Statement.{statement}
 use Rattle.text_index.proofs.arrive.Tie as tie
 
-word-byte-requires : tie.Need-word-byte-requires
-word-byte-requires c κs = search needs
-
 add-if2 : tie.Need-add-if2
 add-if2 c = omega (arith, word-short (c .before .before .args .w))
-
-word-length-requires : tie.Need-word-length-requires
-word-length-requires c κs = search needs
-
-add-t9 : tie.Need-add-t9
-add-t9 c = search needs
 
 returns : tie.Need-returns
 unfolding reach
 returns c = let a = c .before .before .before in simp (eq-eqb _ _ (c .before .before .if1 .taken ∙ a .word-byte .ensures), lt-ltb _ _ (rw (c .before .word-length .ensures) at (c .if2 .taken)))
-
-word-end-requires : tie.Need-word-end-requires
-word-end-requires c κs = search needs
 
 returns-2 : tie.Need-returns-2
 unfolding reach
@@ -39,11 +27,5 @@ pub arrive-spec : {M : Type 1} → statement M
 arrive-spec =
     tie.close
     (tie.spec
-    word-byte-requires
-    add-if2
-    word-length-requires
-    add-t9
-    returns
-    word-end-requires
-    returns-2
-    returns-3)
+    (search needs) add-if2 (search needs) (search needs) returns (search needs)
+    returns-2 returns-3)

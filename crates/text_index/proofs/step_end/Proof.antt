@@ -9,20 +9,8 @@ use borrow.Author.Needs.{needs}
 use Rattle.text_index.proofs.step_end.Statement.{statement}
 use Rattle.text_index.proofs.step_end.Tie as tie
 
-number-end-requires : tie.Need-number-end-requires
-number-end-requires c κs = search needs
-
-picked-requires : tie.Need-picked-requires
-picked-requires c κs = search needs
-
 arrive-requires : tie.Need-arrive-requires
 arrive-requires c κs = word-long _
-
-enum-known-s : tie.Need-enum-known-s
-enum-known-s c = search needs
-
-enum-told : tie.Need-enum-told
-enum-told c = search needs
 
 returns : tie.Need-returns
 unfolding endStep
@@ -36,10 +24,5 @@ pub step-end-spec : {M : Type 1} → statement M
 step-end-spec =
     tie.close
     (tie.spec
-    number-end-requires
-    picked-requires
-    arrive-requires
-    enum-known-s
-    enum-told
-    returns
+    (search needs) (search needs) arrive-requires (search needs) (search needs) returns
     returns-2)

@@ -9,27 +9,6 @@ use borrow.Author.Needs.{needs}
 use Rattle.text_index.proofs.step_number.Statement.{statement}
 use Rattle.text_index.proofs.step_number.Tie as tie
 
-number-step-requires : tie.Need-number-step-requires
-number-step-requires c κs = search needs
-
-enum-known-m : tie.Need-enum-known-m
-enum-known-m c = search needs
-
-enum-told : tie.Need-enum-told
-enum-told c = search needs
-
-number-value-requires : tie.Need-number-value-requires
-number-value-requires c κs = search needs
-
-enum-known-z : tie.Need-enum-known-z
-enum-known-z c = search needs
-
-step-end-requires : tie.Need-step-end-requires
-step-end-requires c κs = search needs
-
-enum-told-2 : tie.Need-enum-told-2
-enum-told-2 c = search needs
-
 returns : tie.Need-returns
 unfolding numberStep
 returns c = simp (sym (c .before .before .before .number-step .ensures) ∙ c .before .m .given .1)
@@ -46,13 +25,5 @@ pub step-number-spec : {M : Type 1} → statement M
 step-number-spec =
     tie.close
     (tie.spec
-    number-step-requires
-    enum-known-m
-    enum-told
-    number-value-requires
-    enum-known-z
-    step-end-requires
-    enum-told-2
-    returns
-    returns-2
-    returns-3)
+    (λ c κs. search needs) (λ c. search needs) (λ c. search needs) (λ c κs. search needs) (λ c. search needs)
+    (λ c κs. search needs) (λ c. search needs) returns returns-2 returns-3)

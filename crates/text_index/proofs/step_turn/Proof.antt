@@ -6,17 +6,8 @@ use borrow.Author.Needs.{needs}
 use Rattle.text_index.proofs.step_turn.Statement.{statement}
 use Rattle.text_index.proofs.step_turn.Tie as tie
 
-picked-requires : tie.Need-picked-requires
-picked-requires c κs = search needs
-
 arrive-requires : tie.Need-arrive-requires
 arrive-requires c κs = word-long _
-
-enum-known-s : tie.Need-enum-known-s
-enum-known-s c = search needs
-
-enum-told : tie.Need-enum-told
-enum-told c = search needs
 
 returns : tie.Need-returns
 unfolding turnStep
@@ -28,4 +19,6 @@ returns-2 c = let a = c .before .before in simp (sym (a .before .picked .ensures
 
 pub step-turn-spec : {M : Type 1} → statement M
 step-turn-spec =
-    tie.close (tie.spec picked-requires arrive-requires enum-known-s enum-told returns returns-2)
+    tie.close
+    (tie.spec
+    (search needs) arrive-requires (search needs) (search needs) returns returns-2)

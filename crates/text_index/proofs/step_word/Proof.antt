@@ -6,21 +6,9 @@ use borrow.Author.Needs.{needs}
 use Rattle.text_index.proofs.step_word.Statement.{statement}
 use Rattle.text_index.proofs.step_word.Tie as tie
 
-arrive-requires : tie.Need-arrive-requires
-arrive-requires c κs = search needs
-
-enum-known-s : tie.Need-enum-known-s
-enum-known-s c = search needs
-
-ends-row-requires : tie.Need-ends-row-requires
-ends-row-requires c κs = search needs
-
 returns : tie.Need-returns
 unfolding wordStep
 returns c = let a = c .before .before .before .before .before in simp (sym (a .arrive .ensures) ∙ c .before .before .before .s .given .1, sym (c .before .ends-row .ensures) ∙ c .if1 .taken)
-
-enum-told : tie.Need-enum-told
-enum-told c = search needs
 
 returns-2 : tie.Need-returns-2
 unfolding wordStep
@@ -33,4 +21,6 @@ returns-3 c = let a = c .before .before in simp (sym (a .arrive .ensures) ∙ c 
 pub step-word-spec : {M : Type 1} → statement M
 step-word-spec =
     tie.close
-    (tie.spec arrive-requires enum-known-s ends-row-requires returns enum-told returns-2 returns-3)
+    (tie.spec
+    (search needs) (search needs) (search needs) returns (search needs) returns-2
+    returns-3)

@@ -5,26 +5,11 @@ use borrow.Author.Needs.{needs}
 use Rattle.text_lines.proofs.line_step.Statement.{statement}
 use Rattle.text_lines.proofs.line_step.Tie as tie
 
-enum-known-s : tie.Need-enum-known-s
-enum-known-s c = search needs
-
 step-word-requires : tie.Need-step-word-requires
 step-word-requires c κs = rw (c .before .s .given .1) at (c .before .before .before .pre)
 
-enum-known-s-2 : tie.Need-enum-known-s-2
-enum-known-s-2 c = search needs
-
 step-number-requires : tie.Need-step-number-requires
 step-number-requires c κs = rw (c .before .s2 .given .1) at (c .before .before .before .pre)
-
-enum-known-s-3 : tie.Need-enum-known-s-3
-enum-known-s-3 c = search needs
-
-step-turn-requires : tie.Need-step-turn-requires
-step-turn-requires c κs = search needs
-
-enum-told : tie.Need-enum-told
-enum-told c = search needs
 
 returns : tie.Need-returns
 unfolding lineStep
@@ -46,14 +31,5 @@ pub line-step-spec : {M : Type 1} → statement M
 line-step-spec =
     tie.close
     (tie.spec
-    enum-known-s
-    step-word-requires
-    enum-known-s-2
-    step-number-requires
-    enum-known-s-3
-    step-turn-requires
-    enum-told
-    returns
-    returns-2
-    returns-3
-    returns-4)
+    (search needs) step-word-requires (search needs) step-number-requires (search needs)
+    (search needs) (search needs) returns returns-2 returns-3 returns-4)

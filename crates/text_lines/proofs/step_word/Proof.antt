@@ -7,24 +7,12 @@ use borrow.Author.Needs.{needs}
 use Rattle.text_lines.proofs.step_word.Statement.{statement}
 use Rattle.text_lines.proofs.step_word.Tie as tie
 
-arrive-requires : tie.Need-arrive-requires
-arrive-requires c κs = search needs
-
-enum-known-s : tie.Need-enum-known-s
-enum-known-s c = search needs
-
 add-if1 : tie.Need-add-if1
 add-if1 c = omega (arith, word-short (c .before .before .before .before .args .w))
-
-word-length-requires : tie.Need-word-length-requires
-word-length-requires c κs = search needs
 
 returns : tie.Need-returns
 unfolding wordStep
 returns c = let a = c .before .before .before .before .before in simp (sym (a .arrive .ensures) ∙ c .before .before .before .s .given .1, lt-ltb _ _ (rw (c .before .word-length .ensures) at (c .if1 .taken)))
-
-enum-told : tie.Need-enum-told
-enum-told c = search needs
 
 returns-2 : tie.Need-returns-2
 unfolding wordStep
@@ -38,11 +26,5 @@ pub step-word-spec : {M : Type 1} → statement M
 step-word-spec =
     tie.close
     (tie.spec
-    arrive-requires
-    enum-known-s
-    add-if1
-    word-length-requires
-    returns
-    enum-told
-    returns-2
-    returns-3)
+    (search needs) (search needs) add-if1 (search needs) returns (search needs)
+    returns-2 returns-3)
