@@ -1,0 +1,223 @@
+// Reads the index texts of its standard input, parted by '#', and every truncation of each; writes what each comes to, then the index of the whole text as it is written back, and what comes of too little room. tests/model/tried.rs has what it must write.
+use meaning_entries::Loaded;
+use meaning_rows::Head;
+use meaning_rows::Row;
+use text_c::text_index;
+use text_load::answer;
+use text_load::load_runs;
+use text_rows::line_row;
+use text_rows::next_line;
+use text_rows::no_line;
+ghost use Prim.Native.Nat.{_≤_};
+ghost use lib.ListN.{length};
+
+fn show(word: &[u8], first: u64, second: u64) {
+    io::write_all(1, b"(");
+    io::write_all(1, word);
+    io::write_all(1, b" ");
+    io::print_decimal(1, first);
+    io::write_all(1, b" ");
+    io::print_decimal(1, second);
+    io::write_all(1, b")\n");
+}
+
+// ---- writing back
+
+fn put_end(out: &mut [i32], k: usize, x: i32) {
+    if k < out.len() {
+        out[k] = x;
+    }
+}
+
+fn put_count(out: &mut [u32], k: usize, x: u32) {
+    if k < out.len() {
+        out[k] = x;
+    }
+}
+
+// A row in columns of numbers, at its place.
+fn put_row(
+    k: usize,
+    r: Row,
+    lows: &mut [i32],
+    ups: &mut [i32],
+    firsts: &mut [u32],
+    counts: &mut [u32],
+) {
+    put_end(lows, k, r.low);
+    put_end(ups, k, r.up);
+    put_count(firsts, k, r.first);
+    put_count(counts, k, r.runs);
+}
+
+// The first three rows of a text; zeros where it has fewer.
+fn columns(text: &[u8], lows: &mut [i32], ups: &mut [i32], firsts: &mut [u32], counts: &mut [u32]) {
+    let a = next_line(text, no_line());
+    let b = next_line(text, a);
+    let c = next_line(text, b);
+    put_row(0, line_row(a), lows, ups, firsts, counts);
+    put_row(1, line_row(b), lows, ups, firsts, counts);
+    put_row(2, line_row(c), lows, ups, firsts, counts);
+}
+
+// What the entry write answered, as text_c packs it, and what it wrote.
+fn show_written(a: u64, out: &[u8]) {
+    if a % 2 == 0 {
+        show(b"refused", a % 65536 / 2, a / 65536);
+        return;
+    }
+    let n = a / 2;
+    if n <= out.len() as u64 {
+        let end = n as usize;
+        io::write_all(1, &out[..end]);
+    }
+}
+
+// The first rows of columns, written.
+fn write_rows(
+    head: Head,
+    rows: usize,
+    lows: &[i32],
+    ups: &[i32],
+    firsts: &[u32],
+    counts: &[u32],
+    left: &[u32],
+    right: &[u32],
+    out: &mut [u8],
+) -> u64
+    requires { ⌜ (rows ≤ length (now lows)) × (rows ≤ length (now ups)) × (rows ≤ length (now firsts)) × (rows ≤ length (now counts)) ⌝ }
+{
+    text_index(
+        head.window,
+        head.width,
+        head.windows,
+        &lows[..rows],
+        &ups[..rows],
+        &firsts[..rows],
+        &counts[..rows],
+        left,
+        right,
+        out,
+    )
+}
+
+// An index that was read from a text, written.
+fn write_back(
+    text: &[u8],
+    head: Head,
+    rows: usize,
+    left: &[u32],
+    right: &[u32],
+    out: &mut [u8],
+) -> u64 {
+    let mut lows = [0i32; 3];
+    let mut ups = [0i32; 3];
+    let mut firsts = [0u32; 3];
+    let mut counts = [0u32; 3];
+    if 3 < rows {
+        return 0;
+    }
+    columns(text, &mut lows, &mut ups, &mut firsts, &mut counts);
+    write_rows(head, rows, &lows, &ups, &firsts, &counts, left, right, out)
+}
+
+// ---- reading
+
+fn show_read(a: Loaded) {
+    match a {
+        Loaded::Index {
+            head: _,
+            rows,
+            runs,
+        } => show(b"read", rows as u64, runs as u64),
+        Loaded::Refused { number, place } => show(b"refused", number as u64, place as u64),
+    }
+}
+
+// A text read where there is room for so many rows, and enough for its runs.
+fn try_rows(text: &[u8], rows: usize) {
+    let mut left = [7u32; 16];
+    let mut right = [7u32; 16];
+    let p = load_runs(text, rows, &mut left, &mut right);
+    show_read(answer(p));
+}
+
+// The same with room for two runs.
+fn try_two(text: &[u8]) {
+    let mut left = [7u32; 2];
+    let mut right = [7u32; 2];
+    let p = load_runs(text, 8, &mut left, &mut right);
+    show_read(answer(p));
+}
+
+// A text read, and written back where it can be read.
+fn try_back(text: &[u8], out: &mut [u8]) {
+    let mut left = [7u32; 16];
+    let mut right = [7u32; 16];
+    let p = load_runs(text, 8, &mut left, &mut right);
+    match answer(p) {
+        Loaded::Index {
+            head,
+            rows,
+            runs: _,
+        } => {
+            let a = write_back(text, head, rows, &left, &right, out);
+            show_written(a, out);
+        }
+        Loaded::Refused {
+            number: _,
+            place: _,
+        } => {}
+    }
+}
+
+fn truncations(text: &[u8]) {
+    let mut k = 0;
+    while k < text.len() {
+        try_rows(&text[..k], 8);
+        k += 1;
+    }
+}
+
+fn try_text(text: &[u8]) {
+    let mut long = [0u8; 512];
+    let mut short = [0u8; 16];
+    truncations(text);
+    try_rows(text, 8);
+    try_rows(text, 1);
+    try_two(text);
+    try_back(text, &mut long);
+    try_back(text, &mut short);
+}
+
+// ---- the texts
+
+// The place of the next '#', or the end.
+fn end_of(text: &[u8], from: usize) -> usize
+    requires { ⌜ from ≤ length (now text) ⌝ }
+    ensures { λ r. ⌜ (from ≤ r) × (r ≤ length (now (text .entry))) ⌝ }
+{
+    let mut i = from;
+    while i < text.len() {
+        if text[i] == b'#' {
+            return i;
+        }
+        i += 1;
+    }
+    i
+}
+
+fn run(all: &[u8]) {
+    let mut at = 0;
+    while at < all.len() {
+        let end = end_of(all, at);
+        try_text(&all[at..end]);
+        at = end + 1;
+    }
+}
+
+fn main() {
+    let mut buf = io::large_buffer();
+    let n = io::read_full(0, &mut buf);
+    run(&buf[..n]);
+}
