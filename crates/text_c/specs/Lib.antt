@@ -1,2 +1,2 @@
--- What the contract of the entry read for C cites.
+-- What the contracts of the entries read and write for C cite.
 pub mod Told

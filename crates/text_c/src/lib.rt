@@ -15,7 +15,7 @@ ghost use Prim.Native.Nat.{_≤_};
 ghost use lib.ListN.{take};
 ghost use Rattle.meaning_rows.specs.Index.{lent};
 ghost use Rattle.meaning_entries.specs.Demand2.{WriteKept};
-ghost use Rattle.text_c.specs.Told.{toldLoaded, LoadTold};
+ghost use Rattle.text_c.specs.Told.{toldLoaded, LoadTold, toldWritten, WriteTold};
 
 // A row with all the runs, written at the front of the buffer; one past its end where there is no room.
 #[no_mangle]
@@ -139,4 +139,29 @@ pub extern "C" fn text_read(
 {
     let a = read(text, rows, left, right);
     tell_loaded(a)
+}
+
+// What a writing answers: 0 the text's length; 3 the refusal's number and place.
+fn tell_written(a: Written) -> Answer
+    ensures { λ t. ⌜ t ≡ toldWritten a ⌝ }
+{
+    match a {
+        Written::Text { length } => numbers(0, length, 0),
+        Written::Refused { number, place } => numbers(3, number as usize, place),
+    }
+}
+
+// The entry write.
+#[no_mangle]
+pub extern "C" fn text_write(
+    head: Head,
+    rows: &[Row],
+    left: &[u32],
+    right: &[u32],
+    text: &mut [u8],
+) -> Answer
+    ensures { λ t. ⌜ WriteTold (lent head (now (rows .entry)) (now (left .entry)) (now (right .entry))) (now (text .entry)) t (now (text .exit)) ⌝ }
+{
+    let a = write(head, rows, left, right, text);
+    tell_written(a)
 }
