@@ -1,0 +1,4 @@
+-- Calls of the entries in a walk.
+pub mod Literal
+pub mod SearchCall
+pub mod BuildCall

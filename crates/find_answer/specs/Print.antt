@@ -1,0 +1,281 @@
+-- What the program prints where nothing refuses it: its build and its search are not refused either (`build-free`, `search-free`), what is built stands in the buffers (`lent-is`), and its texts have room. Assumes nothing.
+use mathlib.Core.Path.{_≡_, refl, sym, ap, _∙_, subst}
+use mathlib.Core.Bool.{Bool, true, false, not, cond, _||_}
+use mathlib.Core.List.{List, [], _∷_, _++_, map}
+use mathlib.Core.Option.{Option, none, some}
+use Prim.Native.Nat.{ℕ, zero, suc, _+_, _-_, _<_, _≤_, _^_, min}
+use native.Mathlib.Omega.{arith}
+use lib.Dec.{T, ltb}
+use lib.IntN.{ℤ, pos, natAbs, _+ℤ_, _-ℤ_}
+use lib.ListN.{length, take, drop, replicate, length-append, length-map, length-replicate, length-take}
+use lib.Seq.{take-append-seam, take-at, drop-at}
+use lib.Signed.{ltZ, _≤ℤ_}
+use borrow.Author.Tests.{le-ltb, ltb-false}
+use Rattle.meaning_numbers.proofs.Rep.{zarith, z-add, z-sub}
+use Rattle.meaning_numbers.proofs.Machine.{le-ltZ}
+use Rattle.meaning_numbers.proofs.Tests.{is-true, is-false, not-not, neither, yes-not-not}
+use Rattle.meaning_numbers.proofs.Count.{count-le}
+use Rattle.meaning_numbers.proofs.Between.{within-yes, yes-within}
+use Rattle.meaning_curves.specs.Limits.{mostValues, mostProgramValues, lengthIn, windowIn, widthIn, thresholdIn, queryLengthIn, firstOutside}
+use Rattle.meaning_curves.specs.Curve.{windowCount, windowSum}
+use Rattle.meaning_rows.specs.declared.Row.{Row}
+use Rattle.meaning_rows.specs.declared.Head.{Head}
+use Rattle.meaning_rows.specs.Runs.{runs}
+use Rattle.meaning_rows.specs.Index.{Index, Entry, RangeRow, entries, lent, allRuns}
+use Rattle.meaning_rows.specs.Build.{SetRow, entry, withRuns, builtRows, merged, filed, built}
+use Rattle.meaning_rows.proofs.Judge.{between, none-bad}
+use Rattle.meaning_rows.proofs.BuiltPasses.{Buildable, built-most}
+use Rattle.meaning_filter.specs.declared.Kind.{Kind}
+use Rattle.meaning_filter.specs.declared.Limits.{Limits}
+use Rattle.meaning_filter.specs.Matches.{Question, allMatches, offsetCount, candidateAt, candidateCount}
+use Rattle.meaning_text.specs.Texts.{indexText, foundText}
+use Rattle.meaning_entries.specs.declared.Built.{Built}
+use Rattle.meaning_entries.specs.declared.Found.{Found}
+use Rattle.meaning_entries.specs.Demand3.{pairs}
+use Rattle.meaning_entries.specs.Refusal.{Condition, firstRefusal, atZero, lengthOutside, valueOutside, windowOutside, widthOutside, mergeOutside, queryLengthOutside, queryBelowWindow, bandOutside, thresholdOutside, scaleOrShiftOutside, flatQuery, illFormed, windowsOf, fewerWindows, moreWindows, bufferShort, listShort}
+use Rattle.meaning_entries.specs.Buffers.{IndexBuffers, filled, zeroRow, lefts, rights, indexIn}
+use Rattle.meaning_entries.specs.Answers.{headOf}
+use Rattle.meaning_entries.specs.Build.{BuildCall, lentBuild, buildTable, buildRefusal, buildIndex, buildAnswer, buildAfter}
+use Rattle.meaning_entries.specs.Write.{writeTable, writeRefusal, writeAnswer, writeAfter}
+use Rattle.meaning_entries.specs.Search.{SearchCall, SearchBuffers, lentSearch, searchTable, searchRefusal, searchAnswer, searchMatches, searchCandidates, question}
+use Rattle.meaning_entries.specs.Program.{ProgramCall, programIndex, programSearch, printed}
+use Rattle.meaning_entries.specs.Demand2.{BuildKept, WriteKept, SearchKept}
+use Rattle.meaning_entries.proofs.Refusal.{Passed, end, more, passed-is, is-passed, passed-at, not-if, query-some, scale-some}
+use Rattle.meaning_entries.proofs.Made.{build-passes, build-most}
+use Rattle.meaning_entries.proofs.Passes as Audit
+use Rattle.meaning_entries.proofs.Listed.{listed-is}
+use Rattle.meaning_filter.proofs.Matches.{all-found}
+use Rattle.build.specs.Filled.{buffers as indexBuffers}
+use Rattle.find_plan.specs.declared.Asked.{Asked}
+use Rattle.find_plan.specs.Tables.{callOf}
+use Rattle.find_plan.specs.Says.{callLines}
+use Rattle.text_put.specs.Put.{Put, put-room, put-length}
+use Rattle.find_answer.specs.Sizes.{index-size, all-size}
+
+-- a line that does not apply
+passes-if : (n : ℕ) (t : Bool) → T (not t) → atZero n t .place ≡ none
+passes-if n true h = absurd h
+passes-if n false h = refl
+
+enough : (room need : ℕ) → need ≤ room → bufferShort room need .place ≡ none
+unfolding bufferShort
+enough room need h = rw (le-ltb room need h)
+
+-- ---- run entries in two columns
+
+columns-both : (a b : List Entry) → entries (lefts (a ++ b)) (rights (a ++ b)) ≡ entries (lefts a) (rights a) ++ entries (lefts b) (rights b)
+unfolding entries
+columns-both [] b = refl
+columns-both (x ∷ a) b = ap (λ (l : List Entry). (pos (natAbs (x .0)), pos (natAbs (x .1))) ∷ l) (columns-both a b)
+
+columns-entry : (l : List (ℕ × ℕ)) → entries (lefts (map entry l)) (rights (map entry l)) ≡ map entry l
+unfolding entries
+columns-entry [] = refl
+columns-entry (x ∷ l) = ap (λ (m : List Entry). entry x ∷ m) (columns-entry l)
+
+columns-rows : (n : ℕ) (l : List SetRow) → entries (lefts (allRuns (map (withRuns n) l))) (rights (allRuns (map (withRuns n) l))) ≡ allRuns (map (withRuns n) l)
+unfolding entries allRuns withRuns
+columns-rows n [] = refl
+columns-rows n (r ∷ l) = columns-both (withRuns n r .runs) (allRuns (map (withRuns n) l)) ∙ rw (columns-rows n l) (ap (λ (m : List Entry). m ++ allRuns (map (withRuns n) l)) (columns-entry (runs (r .has) n)))
+
+-- ---- a program that nothing refuses
+
+module _ (s q : List ℤ) (a : Asked) (free : Passed (callLines (callOf s q a))) where
+  abbrev w : ℕ
+  w = a .window
+
+  abbrev c : BuildCall
+  c = lentBuild s w (a .width) (a .merge)
+
+  abbrev pub x : Index
+  x = buildIndex c
+
+  length-is : T (lengthIn mostProgramValues (length s))
+  unfolding callLines callOf lengthOutside
+  length-is = not-not (lengthIn mostProgramValues (length s)) (not-if 1 (not (lengthIn mostProgramValues (length s))) (passed-at free 0))
+
+  pub few : length s ≤ 4096
+  few = omega (zarith, within-yes (pos 1) (pos 4096) (pos (length s)) length-is .high)
+
+  long-in : lengthOutside mostValues s .place ≡ none
+  unfolding lengthOutside
+  long-in = let b = within-yes (pos 1) (pos 4096) (pos (length s)) length-is in passes-if 1 (not (lengthIn mostValues (length s))) (yes-not-not (lengthIn mostValues (length s)) (yes-within (record { low = b .low; high = omega (zarith, b .high) })))
+
+  window-in : (1 ≤ w) × (w ≤ length s)
+  unfolding callLines callOf windowOutside
+  window-in =
+      let t = neither (not (windowIn (pos w))) (ltZ (pos (length s)) (pos w)) (not-if 3 (not (windowIn (pos w)) || ltZ (pos (length s)) (pos w)) (passed-at free 3)) in
+      let b = within-yes (pos 1) (pos 256) (pos w) (not-not (windowIn (pos w)) (t .0)) in
+      (omega (zarith, b .low), omega (arith, ltb-no (length s) w (is-false (ltb (length s) w) (t .1))))
+    where
+      ltb-no : (m n : ℕ) → ltb m n ≡ false → n ≤ m
+      ltb-no m n e = ltb-false m n e
+
+  windows-few : windowCount (length s) w ≤ 4096
+  windows-few = omega (arith, few, window-in .0)
+
+  module _ (rows : List Row) (left right : List ℕ) (r : length rows ≡ 4096) (l : length left ≡ 4096) (k : length right ≡ 4096) where
+    abbrev b : IndexBuffers
+    b = indexBuffers rows left right
+
+    -- its build is not refused
+    pub build-free : buildRefusal c b ≡ none
+    unfolding buildTable callLines callOf
+    build-free = passed-is (more long-in (more (passed-at free 1) (more (passed-at free 3) (more (passed-at free 4) (more (passed-at free 5)
+        (more (enough (length rows) (windowCount (length s) w) (omega (arith, r, windows-few))) (more (enough (min (length left) (length right)) (windowCount (length s) w) (omega (arith, l, k, windows-few))) end)))))))
+
+    is-passed-x : Audit.Passed x s
+    is-passed-x = Audit.passed x s (build-passes c b build-free)
+
+    most-x : (length (x .rows) ≤ 4096) × (length (x .runs) ≤ 4096)
+    most-x = let m = build-most c b build-free in (omega (arith, m .0, windows-few), omega (arith, m .1, windows-few))
+
+    -- what is built, as the code has it
+    pub record Stands (answer : Built) (rows′ : List Row) (left′ right′ : List ℕ) : Type 0 where
+      pub answered : answer ≡ Built.Index (headOf x) (length (x .rows)) (length (x .runs))
+      pub table : take (length (x .rows)) rows′ ≡ x .rows
+      pub first : take (length (x .runs)) left′ ≡ lefts (x .runs)
+      pub last : take (length (x .runs)) right′ ≡ rights (x .runs)
+
+    filled-front : {A : Type 0} (z : A) (new old : List A) (n : ℕ) → n ≡ length new → take n (filled z new old) ≡ new
+    unfolding filled
+    filled-front z new old n e = rw e (take-append-seam new (replicate (length old - length new) z))
+
+    pub stands : {answer : Built} {rows′ : List Row} {left′ right′ : List ℕ} → BuildKept c b answer (indexBuffers rows′ left′ right′) → Stands answer rows′ left′ right′
+    unfolding buildAnswer buildAfter indexIn
+    stands {answer} {rows′} {left′} {right′} h =
+        let e = build-free in
+        record {
+          answered = h .answered ∙ rw (e, buildAnswer);
+          table = ap (take (length (x .rows))) (h .rows ∙ rw (e, buildAfter)) ∙ filled-front zeroRow (x .rows) rows (length (x .rows)) refl;
+          first = ap (take (length (x .runs))) (h .left ∙ rw (e, buildAfter)) ∙ filled-front 0 (lefts (x .runs)) left (length (x .runs)) (sym (length-map (x .runs) (λ y. natAbs (y .0))));
+          last = ap (take (length (x .runs))) (h .right ∙ rw (e, buildAfter)) ∙ filled-front 0 (rights (x .runs)) right (length (x .runs)) (sym (length-map (x .runs) (λ y. natAbs (y .1))));
+        }
+
+  -- the index that is lent is what was built
+  pub lent-is : lent (headOf x) (x .rows) (lefts (x .runs)) (rights (x .runs)) ≡ x
+  unfolding buildIndex built builtRows
+  lent-is = λ i. record { window = x .window; width = x .width; windows = x .windows; rows = x .rows; runs = columns-rows (windowCount (length s) w) (merged (a .merge) (windowCount (length s) w) (filed (windowSum s w) (a .width) (windowCount (length s) w))) i }
+
+  -- ---- its search
+
+  abbrev pub d : SearchCall
+  d = record {
+    series = s;
+    index = x;
+    kind = a .kind;
+    query = q;
+    band = pos (a .limits .band);
+    threshold = pos (a .limits .threshold);
+    scale = pos (a .limits .scale);
+    shift = pos (a .limits .shift);
+  }
+
+  -- the search through what is lent is that through what was built
+  pub search-is : lentSearch s (headOf x) (x .rows) (lefts (x .runs)) (rights (x .runs)) (a .kind) q (a .limits) ≡ d
+  search-is = ap (λ (y : Index). record { series = s; index = y; kind = a .kind; query = q; band = pos (a .limits .band); threshold = pos (a .limits .threshold); scale = pos (a .limits .scale); shift = pos (a .limits .shift) }) lent-is
+
+  pub printed-is : printed (callOf s q a) ≡ indexText x ++ foundText (length (searchMatches d)) (searchCandidates d) (searchMatches d)
+  unfolding printed programIndex callOf
+  printed-is = refl
+
+  query-some-here : 1 ≤ length q
+  unfolding callLines callOf
+  query-some-here = query-some q s (passed-at free 6)
+
+  near : a .limits .threshold ≤ 1000000000000
+  unfolding callLines callOf thresholdOutside
+  near = let E = pos (a .limits .threshold) in omega (zarith, within-yes (pos 0) (pos 1000000000000) E (not-not (thresholdIn E) (not-if 9 (not (thresholdIn E)) (passed-at free 9))) .high)
+
+  candidates-few : searchCandidates d < 10 ^ 18
+  unfolding candidateCount question
+  candidates-few = omega (arith, count-le (candidateAt x (question d)) (length s + 1 - length q), few)
+
+  abbrev zeros : List ℕ
+  zeros = replicate 4096 0
+
+  abbrev no-rows : List Row
+  no-rows = replicate 4096 zeroRow
+
+  zeros-long : length zeros ≡ 4096
+  zeros-long = length-replicate {A = ℕ} 4096 0
+
+  rows-long : length no-rows ≡ 4096
+  rows-long = length-replicate 4096 zeroRow
+
+  passed-here : Audit.Passed x s
+  passed-here = is-passed-x no-rows zeros zeros rows-long zeros-long zeros-long
+
+  all-here : searchMatches d ≡ allMatches (question d)
+  unfolding callLines callOf question
+  all-here = all-found x (question d) (Audit.passes-reached x s (build-passes c (indexBuffers no-rows zeros zeros) (build-free no-rows zeros zeros rows-long zeros-long zeros-long))) (query-some q s (passed-at free 6)) (scale-some (pos (a .limits .scale)) (pos (a .limits .shift)) (passed-at free 10))
+
+  sizes-here : (length (allMatches (question d)) ≤ 4096) × (length (foundText (length (allMatches (question d))) (searchCandidates d) (allMatches (question d))) ≤ 200000)
+  unfolding question
+  sizes-here = all-size (question d) (searchCandidates d) (omega (arith, few, query-some-here)) near candidates-few
+
+  pub matches-few : length (searchMatches d) ≤ 4096
+  matches-few = omega (arith, ap length all-here, sizes-here .0)
+
+  pub found-few : length (foundText (length (searchMatches d)) (searchCandidates d) (searchMatches d)) ≤ 200000
+  found-few = rw all-here (sizes-here .1)
+
+  pub index-few : length (indexText x) ≤ 400000
+  unfolding buildIndex
+  index-few = let m = most-x no-rows zeros zeros rows-long zeros-long zeros-long in index-size s w (a .width) (a .merge) (passed-here .formed) (m .0) (m .1)
+
+  -- the text has room
+  pub write-free : (text : List ℕ) → 1048576 ≤ length text → writeRefusal x text ≡ none
+  unfolding writeTable illFormed
+  write-free text h = passed-is (more (none-bad x (passed-here .formed)) (more (enough (length text) (length (indexText x)) (omega (arith, h, index-few))) end))
+
+  -- as many windows as the series has
+  windows-are : (windowsOf x s ≤ℤ x .windows) × (x .windows ≤ℤ windowsOf x s)
+  unfolding buildIndex built
+  windows-are =
+      let h = z-add (pos (length s) -ℤ pos w) (pos 1) in
+      let k = z-sub (pos (length s)) (pos w) in
+      (omega (zarith, h, k, window-in .1), omega (zarith, h, k, window-in .1))
+
+  no-lt : {y z : ℤ} → z ≤ℤ y → T (not (ltZ y z))
+  no-lt {y} {z} h = rw (le-ltZ {a = y} {b = z} h) tt
+
+  pub search-free : (before : SearchBuffers) → length (before .left) ≡ 4096 → length (before .right) ≡ 4096 → length (before .scratch) ≡ 4096 → length (before .offsets) ≡ 4096 → length (before .distances) ≡ 4096 → searchRefusal d before ≡ none
+  unfolding searchTable callLines callOf illFormed fewerWindows moreWindows listShort queryBelowWindow buildIndex built
+  search-free before hl hr hc ho hd =
+      let n = windowCount (length s) w in
+      passed-is (more long-in (more (passed-at free 1) (more (passed-at free 2) (more (passed-at free 6) (more (passed-at free 7) (more (passed-at free 8) (more (passed-at free 9) (more (passed-at free 10) (more (passed-at free 11)
+      (more (none-bad x (passed-here .formed))
+      (more (passes-if 21 (ltZ (x .windows) (windowsOf x s)) (no-lt (windows-are .0)))
+      (more (passes-if 22 (ltZ (windowsOf x s) (x .windows)) (no-lt (windows-are .1)))
+      (more (enough (min (length (before .left)) (length (before .right))) n (omega (arith, hl, hr, windows-few)))
+      (more (enough (length (before .scratch)) n (omega (arith, hc, windows-few)))
+      (more (rw (le-ltb (min (length (before .offsets)) (length (before .distances))) (length (searchMatches d)) (omega (arith, ho, hd, matches-few)))) end)))))))))))))))
+
+-- ---- the list behind the index text
+
+-- where the answer is a list
+abbrev pub FoundPut : Found → List ℕ → ℕ → List ℕ → List ℕ → List ℕ → ℕ → Type 0
+FoundPut (Found.All candidates matches) text at offsets distances new to = Put text at (foundText matches candidates (take matches (pairs offsets distances))) new to
+FoundPut (Found.Full candidates matches) text at offsets distances new to = Unit {0}
+FoundPut (Found.Refused number place) text at offsets distances new to = Unit {0}
+
+pub list-put : (d : SearchCall) (before after : SearchBuffers) (t : Found) (text : List ℕ) (at : ℕ) (new : List ℕ) (to : ℕ) → SearchKept d before t after → searchRefusal d before ≡ none → FoundPut t text at (after .offsets) (after .distances) new to
+    → Put text at (foundText (length (searchMatches d)) (searchCandidates d) (searchMatches d)) new to
+unfolding searchAnswer
+list-put d before after t text at new to h e p =
+    let k : t ≡ Found.All (searchCandidates d) (length (searchMatches d)) = h .answered ∙ rw (e, searchAnswer) in
+    let g = subst (λ (f : Found). SearchKept d before f after) k h in
+    rw (listed-is d before after g) at (subst (λ (f : Found). FoundPut f text at (after .offsets) (after .distances) new to) k p)
+
+-- a text behind another in a buffer that has room
+pub put-behind : (t l old mid new : List ℕ) (at to : ℕ) → mid ≡ filled 0 t old → at ≡ length t → Put mid at l new to → length t + length l ≤ length old → (to ≤ length new) × (take to new ≡ t ++ l)
+unfolding filled
+put-behind t l old mid new at to e f p h =
+    let z : List ℕ = replicate (length old - length t) 0 in
+    let m : length mid ≡ length old = ap length e ∙ length-append t z ∙ rw (length-replicate {A = ℕ} (length old - length t) 0) (omega (arith, h)) in
+    let r = put-room p (omega (arith, p .ends, m, f, h)) in
+    let b : take at mid ≡ t = rw (f, e) (take-append-seam t z) in
+    let n : new ≡ (t ++ l) ++ drop (at + length l) mid = r .1 ∙ rw b in
+    let q : to ≡ length (t ++ l) = omega (arith, r .0, f, length-append t l) in
+    (omega (arith, put-length p, r .0, f, m, h), rw (n, q) (take-append-seam (t ++ l) _))
