@@ -64,7 +64,7 @@ use Rattle.assured.specs.declared.Assured.{Assured}
 use Rattle.assured.specs.Assured.{headIn, bothOf}
 use Rattle.assured.proofs.Assured as As
 use Rattle.assured.proofs.Assured.Laws as As′
-use Rattle.assured.proofs.First.{first}
+use Rattle.records.proofs.Prefix.{first}
 use Rattle.assured.proofs.head_in as head
 use Rattle.assured.proofs.head_in.Symbol.{name as #head-in}
 use Rattle.assured.proofs.rows_in as rows

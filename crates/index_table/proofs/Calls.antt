@@ -62,7 +62,7 @@ use Rattle.build_index.proofs.build as build
 use Rattle.build_index.proofs.build.Symbol.{name as #build}
 use Rattle.audit.proofs.audit as audit
 use Rattle.audit.proofs.audit.Symbol.{name as #audit}
-use Rattle.assured.proofs.First.{first}
+use Rattle.records.proofs.Prefix.{first}
 use Rattle.index_table.specs.declared.Tabled.{Tabled}
 use Rattle.index_table.specs.Table.{rubbishRows, tabledAs}
 use Rattle.index_table.proofs.Tabled as Ta

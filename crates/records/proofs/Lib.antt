@@ -1,10 +1,11 @@
--- The kit for walks over lent records, generic (Walk, Told, Elem, Lends, Again, LocalMut, Lent), of `Row` (RowKit, Rows, Writes) and of the two run slices (Slices), and the laws of chunks.
+-- The kit for walks over lent records, generic (Walk, Told, Elem, Lends, Again, LocalMut, Lent, Prefix), of `Row` (RowKit, Rows, Writes) and of the two run slices (Slices), and the laws of chunks.
 pub mod Walk
 pub mod Elem
 pub mod Again
 pub mod Lends
 pub mod LocalMut
 pub mod Lent
+pub mod Prefix
 pub mod RowKit
 pub mod Rows
 pub mod Slices

@@ -63,7 +63,7 @@ use Rattle.meaning_entries.specs.Demand2.{SearchKept}
 use Rattle.meaning_entries.proofs.Found as Fd
 use Rattle.meaning_entries.proofs.Found.Laws as Fd′
 use Rattle.records.proofs.Lent.{lends-local, back-local}
-use Rattle.text_c.proofs.Prefix.{prefix}
+use Rattle.records.proofs.Prefix.{prefix}
 use Rattle.search.specs.Refused.{buffers}
 use Rattle.search.proofs.EntryCalls.{low-head, low-limits, low-kind, low-found}
 use Rattle.search.proofs.search.Symbol as entry-def

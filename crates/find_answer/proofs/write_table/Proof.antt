@@ -63,7 +63,7 @@ use Rattle.text_save.proofs.WriteCall.{WriteAll, calls-write}
 use Rattle.text_save.proofs.write.Symbol as write-def
 use Rattle.text_save.proofs.write.Symbol.{name as #write}
 use Rattle.text_save.proofs.write.Met as write-thm
-use Rattle.text_c.proofs.Prefix.{prefix}
+use Rattle.records.proofs.Prefix.{prefix}
 use Rattle.find_answer.proofs.write_table.Key.{name as #write-table}
 use Rattle.find_answer.proofs.write_table as f
 use Rattle.find_answer.proofs.write_table.Statement as stated

@@ -61,7 +61,7 @@ use Rattle.meaning_entries.proofs.Found as Fd
 use Rattle.meaning_entries.proofs.Found.Laws as Fd′
 use Rattle.records.proofs.Walk.{lose}
 use Rattle.records.proofs.Lent.{lends-local, back-local}
-use Rattle.text_c.proofs.Prefix.{prefix}
+use Rattle.records.proofs.Prefix.{prefix}
 use Rattle.index_c.proofs.Forward.{meets-by, ends-with, calls-entry}
 use Rattle.search_c.proofs.Passing.{ensures-as}
 use Rattle.search.proofs.EntryCalls.{low-found}
