@@ -1,2 +1,3 @@
--- Calls in the walk of `build_audited`.
+-- Calls in the walks of `build_audited` and `extend_audited`.
 pub mod Calls
+pub mod CallsExtended

@@ -1,19 +1,28 @@
-// An index built, and then audited as it stands in the buffers: the audit says yes, whoever doubts it.
+// An index built or extended, and then audited as it stands in the buffers: the audit says yes, whoever doubts it.
 use audit::audit;
 use build_index::build;
+use extend_index::extend;
 use meaning_entries::Audited;
 use meaning_entries::Built;
+use meaning_entries::Extended;
 use meaning_rows::Head;
 use meaning_rows::Row;
 ghost use mathlib.Core.Path.{_≡_};
 ghost use Rattle.meaning_entries.specs.Build.{lentBuild};
+ghost use Rattle.meaning_entries.specs.Extend.{lentExtend};
 ghost use Rattle.build.specs.Filled.{buffers};
 ghost use Rattle.meaning_entries.specs.Answers.{builtCounts};
-ghost use Rattle.assured.specs.Assured.{noHead, headIn, bothOf, BuildAssured};
+ghost use Rattle.assured.specs.Assured.{noHead, headIn, bothOf, asBuilt, bothGrown, BuildAssured, ExtendAssured};
 
 // What the build answers, and what the audit says of the index in the buffers.
 pub struct Assured {
     pub built: Built,
+    pub audited: Audited,
+}
+
+// What the extension answers, and what the audit says of the index in the buffers.
+pub struct Grown {
+    pub extended: Extended,
     pub audited: Audited,
 }
 
@@ -84,4 +93,52 @@ pub fn build_audited(
     let k = runs_in(b);
     let a = audit(series, head, &rows[..n], &left[..k], &right[..k]);
     both(b, a)
+}
+
+// The answer of an extension, as that of a build.
+pub fn as_built(x: Extended) -> Built
+    ensures { λ b. ⌜ b ≡ asBuilt x ⌝ }
+{
+    match x {
+        Extended::Index { head, rows, runs } => Built::Index {
+            head: head,
+            rows: rows,
+            runs: runs,
+        },
+        Extended::Refused { number, place } => Built::Refused {
+            number: number,
+            place: place,
+        },
+    }
+}
+
+pub fn both_grown(x: Extended, a: Audited) -> Grown
+    ensures { λ t. ⌜ t ≡ bothGrown x a ⌝ }
+{
+    Grown {
+        extended: x,
+        audited: a,
+    }
+}
+
+// The extension, and the audit of the rows and runs that stand in the buffers then.
+pub fn extend_audited(
+    series: &[i32],
+    head: Head,
+    from: &[Row],
+    lefts: &[u32],
+    rights: &[u32],
+    rows: &mut [Row],
+    left: &mut [u32],
+    right: &mut [u32],
+) -> Grown
+    ensures { λ t. ⌜ ExtendAssured (lentExtend (now (series .entry)) head (now (from .entry)) (now (lefts .entry)) (now (rights .entry))) (buffers (now (rows .entry)) (now (left .entry)) (now (right .entry))) (t .extended) (t .audited) (buffers (now (rows .exit)) (now (left .exit)) (now (right .exit))) ⌝ }
+{
+    let x = extend(series, head, from, lefts, rights, rows, left, right);
+    let b = as_built(x);
+    let grown = head_in(b);
+    let n = rows_in(b);
+    let k = runs_in(b);
+    let a = audit(series, grown, &rows[..n], &left[..k], &right[..k]);
+    both_grown(x, a)
 }

@@ -44,37 +44,52 @@ use Rattle.meaning_rows.proofs.Row.Laws as T′
 use Rattle.meaning_rows.proofs.Head as Hd
 use Rattle.meaning_rows.proofs.Head.Laws as Hd′
 use Rattle.meaning_entries.specs.declared.Built.{Built}
+use Rattle.meaning_entries.specs.declared.Extended.{Extended}
 use Rattle.meaning_entries.specs.declared.Audited.{Audited}
 use Rattle.meaning_entries.specs.Build.{lentBuild}
+use Rattle.meaning_entries.specs.Extend.{lentExtend}
 use Rattle.meaning_entries.specs.Audit.{lentAudit}
-use Rattle.meaning_entries.specs.Demand2.{BuildKept, AuditKept}
+use Rattle.meaning_entries.specs.Demand2.{BuildKept, ExtendKept, AuditKept}
 use Rattle.meaning_entries.proofs.Built as Bu
 use Rattle.meaning_entries.proofs.Built.Laws as Bu′
+use Rattle.meaning_entries.proofs.Extended as Ex
+use Rattle.meaning_entries.proofs.Extended.Laws as Ex′
 use Rattle.meaning_entries.proofs.Audited as Au
 use Rattle.meaning_entries.proofs.Audited.Laws as Au′
 use Rattle.records.proofs.RowKit.{row-makes}
 use Rattle.records.proofs.Rows.{chunk}
 use Rattle.build.specs.Filled.{buffers}
 use Rattle.assured.proofs.Calls.{low-head, low-built, low-audited}
+use Rattle.extend_index.proofs.Calls.{low-extended}
 use Rattle.records.proofs.Again.{LentAgain}
 use Rattle.records.proofs.Lends.{Own, Shr, SharedAgain, lend, back, unshare}
 use Rattle.build_index.proofs.build as build
 use Rattle.build_index.proofs.build.Symbol.{name as #build}
+use Rattle.extend_index.proofs.extend as extend
+use Rattle.extend_index.proofs.extend.Symbol.{name as #extend}
 use Rattle.audit.proofs.audit as audit
 use Rattle.audit.proofs.audit.Symbol.{name as #audit}
 use Rattle.records.proofs.Prefix.{first}
 use Rattle.index_table.specs.declared.Tabled.{Tabled}
-use Rattle.index_table.specs.Table.{rubbishRows, tabledAs}
+use Rattle.index_table.specs.Table.{rubbishRows, tabledAs, extensionAs}
+use Rattle.index_table.specs.declared.Extension.{Extension}
 use Rattle.index_table.proofs.Tabled as Ta
 use Rattle.index_table.proofs.Tabled.Laws as Ta′
+use Rattle.index_table.proofs.Extension as Xt
+use Rattle.index_table.proofs.Extension.Laws as Xt′
 use Rattle.index_table.proofs.rubbish as rubbish
 use Rattle.index_table.proofs.rubbish.Symbol.{name as #rubbish}
 use Rattle.index_table.proofs.handed_out as handed
 use Rattle.index_table.proofs.handed_out.Symbol.{name as #handed-out}
+use Rattle.index_table.proofs.extension_out as out
+use Rattle.index_table.proofs.extension_out.Symbol.{name as #extension-out}
 
--- the machine value of what is handed out
+-- the machine values of what is handed out
 abbrev pub low-tabled : Tabled → Val
 low-tabled = LL.val Ta.the-type Ta′.the-laws
+
+abbrev pub low-extension : Extension → Val
+low-extension = LL.val Xt.the-type Xt′.the-laws
 
 -- the contracts that the walks cite, what each is called at, and what it asks
 module _ {M : Type 1} (𝓤 : URA M) (H : Heap 𝓤) (A : Atoms 𝓤) (mem : Memory → SProp 𝓤) (run : Routine → Fun 𝓤) where
@@ -110,6 +125,28 @@ module _ {M : Type 1} (𝓤 : URA M) (H : Heap 𝓤) (A : Atoms 𝓤) (mem : Mem
     asks-handed-out : (W : Given 𝓤 H A) (g-made : Is Bu.the-row made (low-built made ∷ [])) (g-rows : Is (Array T.the-row 64) rows (chunk rows ∷ [])) → ent 𝓤 (⋆ 𝓤 H A ([])) (HandedOut .pre (to-handed-out))
     asks-handed-out W g-made g-rows = qed W ([]) ∵
         nothing ! $ nothing ! $ owned ! (Array T.the-row 64) (Is (Array T.the-row 64)) (array-makes 𝓤 H A W T.the-row (row-makes 𝓤 H A W) 64) rows _ g-rows $ fjoin ! $ owned ! Bu.the-row (Is Bu.the-row) (EL.makes Bu.the-type Bu′.the-plain 𝓤 H A) made _ g-made $ fjoin ! $ move ! (1 ∷ 0 ∷ []) $ join ! $ frame ! $ done !
+
+  abbrev pub Extend : Contract 𝓤
+  Extend = tripleOf 𝓤 H A extend.signature (extend.spec 𝓤 H A mem run)
+
+  module _ (κs : Lft) (qs : Share) (vs : RefT (List ℤ)) (κf : Lft) (qf : Share) (bf of mf : ℕ) (γf : GName) (yf : List Row) (kf : ℕ) (κc : Lft) (qc : Share) (vc : RefT (List ℕ)) (κh : Lft) (qh : Share) (vh : RefT (List ℕ)) (κa : Lft) (qa : Share) (ba oa ma : ℕ) (γa : GName) (ya : List Row) (κl : Lft) (ql : Share) (bl ol ml : ℕ) (γl : GName) (yl : List ℕ) (κr : Lft) (qr : Share) (br or mr : ℕ) (γr : GName) (yr : List ℕ) (head : Head) where
+    abbrev pub to-extend : ℕ → GName → ℕ → GName → ℕ → GName → ℕ → GName → Extend .Ghost
+    to-extend νf δf νa δa νl δl νr δr = (((κs, ((νf ∷ []), (κc, (κh, ((νa ∷ []), ((νl ∷ []), ((νr ∷ []), tt))))))), (qs, (fullShare, (qc, (qh, (fullShare, (fullShare, (fullShare, tt))))))), tt, (vs, (head, ((record { ptr = (bf, of); name = δf; now = (take kf yf) }), (vc, (vh, ((record { ptr = (ba, oa); name = δa; now = ya }), ((record { ptr = (bl, ol); name = δl; now = yl }), ((record { ptr = (br, or); name = δr; now = yr }), tt)))))))), (sliceVal (vs .ptr) (length (vs .now)) ∷ [], (low-head head ∷ [], (sliceVal (bf, of) (length (take kf yf)) ∷ [], (sliceVal (vc .ptr) (length (vc .now)) ∷ [], (sliceVal (vh .ptr) (length (vh .now)) ∷ [], (sliceVal (ba, oa) ma ∷ [], (sliceVal (bl, ol) ml ∷ [], (sliceVal (br, or) mr ∷ [], tt))))))))), tt)
+
+    asks-extend : (W : Given 𝓤 H A) (g-head : Is Hd.the-row head (low-head head ∷ [])) (νf : ℕ) (δf : GName) (νa : ℕ) (δa : GName) (νl : ℕ) (δl : GName) (νr : ℕ) (δr : GName) → ent 𝓤 (⋆ 𝓤 H A (‵ (flft κs qs) ∷ ‵ (flft (νf ∷ []) fullShare) ∷ ‵ (flft κc qc) ∷ ‵ (flft κh qh) ∷ ‵ (flft (νa ∷ []) fullShare) ∷ ‵ (flft (νl ∷ []) fullShare) ∷ ‵ (flft (νr ∷ []) fullShare) ∷ ‵ (ShrSlice (named 0) κs i32 .own vs (sliceVal (vs .ptr) (length (vs .now)) ∷ [])) ∷ ‵ (Shr T.the-row bf of (length (take kf yf)) (named 0) (νf ∷ []) δf (take kf yf)) ∷ ‵ (ShrSlice (named 0) κc u32 .own vc (sliceVal (vc .ptr) (length (vc .now)) ∷ [])) ∷ ‵ (ShrSlice (named 0) κh u32 .own vh (sliceVal (vh .ptr) (length (vh .now)) ∷ [])) ∷ ‵ (Own T.the-row ba oa ma (named 0) (νa ∷ []) δa ya) ∷ ‵ (Own u32 bl ol ml (named 0) (νl ∷ []) δl yl) ∷ ‵ (Own u32 br or mr (named 0) (νr ∷ []) δr yr) ∷ [])) (Extend .pre (to-extend νf δf νa δa νl δl νr δr))
+    asks-extend W g-head νf δf νa δa νl δl νr δr = qed W (‵ (flft κs qs) ∷ ‵ (flft (νf ∷ []) fullShare) ∷ ‵ (flft κc qc) ∷ ‵ (flft κh qh) ∷ ‵ (flft (νa ∷ []) fullShare) ∷ ‵ (flft (νl ∷ []) fullShare) ∷ ‵ (flft (νr ∷ []) fullShare) ∷ ‵ (ShrSlice (named 0) κs i32 .own vs (sliceVal (vs .ptr) (length (vs .now)) ∷ [])) ∷ ‵ (Shr T.the-row bf of (length (take kf yf)) (named 0) (νf ∷ []) δf (take kf yf)) ∷ ‵ (ShrSlice (named 0) κc u32 .own vc (sliceVal (vc .ptr) (length (vc .now)) ∷ [])) ∷ ‵ (ShrSlice (named 0) κh u32 .own vh (sliceVal (vh .ptr) (length (vh .now)) ∷ [])) ∷ ‵ (Own T.the-row ba oa ma (named 0) (νa ∷ []) δa ya) ∷ ‵ (Own u32 bl ol ml (named 0) (νl ∷ []) δl yl) ∷ ‵ (Own u32 br or mr (named 0) (νr ∷ []) δr yr) ∷ []) ∵
+        nothing ! $ move ! (7 ∷ 0 ∷ []) $ join ! $ move ! (6 ∷ 0 ∷ []) $ join ! $ move ! (5 ∷ 0 ∷ []) $ join ! $ move ! (4 ∷ 0 ∷ []) $ join ! $ move ! (3 ∷ 0 ∷ []) $ join ! $ move ! (2 ∷ 0 ∷ []) $ join ! $ move ! (1 ∷ 0 ∷ []) $ join ! $ nothing ! $ move ! (8 ∷ 0 ∷ []) $ fjoin ! $ move ! (7 ∷ 0 ∷ []) $ fjoin ! $ move ! (6 ∷ 0 ∷ []) $ fjoin ! $ move ! (5 ∷ 0 ∷ []) $ fjoin ! $ move ! (4 ∷ 0 ∷ []) $ fjoin ! $ move ! (3 ∷ 0 ∷ []) $ fjoin ! $ owned ! Hd.the-row (Is Hd.the-row) (LL.makes Hd.the-type Hd′.the-plain 𝓤 H A) head _ g-head $ fjoin ! $ move ! (2 ∷ 0 ∷ []) $ fjoin ! $ move ! (1 ∷ 0 ∷ []) $ join ! $ frame ! $ done !
+
+  abbrev pub ExtensionOut : Contract 𝓤
+  ExtensionOut = tripleOf 𝓤 H A out.signature (out.spec 𝓤 H A mem run)
+
+  module _ (made : Extended) (rows : List Row) where
+    abbrev pub to-extension-out : ExtensionOut .Ghost
+    to-extension-out = ((tt, tt, tt, (made, (rows, tt)), (low-extended made ∷ [], (chunk rows ∷ [], tt))), tt)
+
+    asks-extension-out : (W : Given 𝓤 H A) (g-made : Is Ex.the-row made (low-extended made ∷ [])) (g-rows : Is (Array T.the-row 64) rows (chunk rows ∷ [])) → ent 𝓤 (⋆ 𝓤 H A ([])) (ExtensionOut .pre (to-extension-out))
+    asks-extension-out W g-made g-rows = qed W ([]) ∵
+        nothing ! $ nothing ! $ owned ! (Array T.the-row 64) (Is (Array T.the-row 64)) (array-makes 𝓤 H A W T.the-row (row-makes 𝓤 H A W) 64) rows _ g-rows $ fjoin ! $ owned ! Ex.the-row (Is Ex.the-row) (EL.makes Ex.the-type Ex′.the-plain 𝓤 H A) made _ g-made $ fjoin ! $ move ! (1 ∷ 0 ∷ []) $ join ! $ frame ! $ done !
 
   abbrev pub Audit : Contract 𝓤
   Audit = tripleOf 𝓤 H A audit.signature (audit.spec 𝓤 H A mem run)
@@ -236,6 +273,116 @@ module _ {M : Type 1} {𝓤 : URA M} {H : Heap 𝓤} {A : Atoms 𝓤} {K : Type 
       move t (0 ∷ []) $
       drop t $
       k r said (subst (Is Ta.the-row r) (LL.tells Ta.the-type Ta′.the-laws r (u ∷ []) is) is))))))
+
+  pub calls-extend : K → FmC 𝓤 H (W .laws) C → (mem : Memory → SProp 𝓤) (run : Routine → Fun 𝓤) → Triple 𝓤 (C #extend) (Extend 𝓤 H A mem run) → (κs : Lft) (qs : Share) (vs : RefT (List ℤ)) (κf : Lft) (qf : Share) (bf of mf : ℕ) (γf : GName) (yf : List Row) (kf : ℕ) (κc : Lft) (qc : Share) (vc : RefT (List ℕ)) (κh : Lft) (qh : Share) (vh : RefT (List ℕ)) (κa : Lft) (qa : Share) (ba oa ma : ℕ) (γa : GName) (ya : List Row) (κl : Lft) (ql : Share) (bl ol ml : ℕ) (γl : GName) (yl : List ℕ) (κr : Lft) (qr : Share) (br or mr : ℕ) (γr : GName) (yr : List ℕ) (head : Head) → length yf ≡ mf → Room T.the-row mf → length ya ≡ ma → Room T.the-row ma → length yl ≡ ml → Room u32 ml → length yr ≡ mr → Room u32 mr → Is Hd.the-row head (low-head head ∷ [])
+      → ((νf : ℕ) (δf : GName) (νa : ℕ) (δa : GName) (νl : ℕ) (δl : GName) (νr : ℕ) (δr : GName) → Opds K W (raw (Extend 𝓤 H A mem run .pre (to-extend 𝓤 H A mem run κs qs vs κf qf bf of mf γf yf kf κc qc vc κh qh vh κa qa ba oa ma γa ya κl ql bl ol ml γl yl κr qr br or mr γr yr head νf δf νa δa νl δl νr δr)) ∷ ‵ (ShrSlice (named 0) κs i32 .own vs (sliceVal (vs .ptr) (length (vs .now)) ∷ [])) ∷ ‵ (ShrSlice (named 0) κc u32 .own vc (sliceVal (vc .ptr) (length (vc .now)) ∷ [])) ∷ ‵ (ShrSlice (named 0) κh u32 .own vh (sliceVal (vh .ptr) (length (vh .now)) ∷ [])) ∷ ‵ (SharedAgain T.the-row bf of mf κf (νf ∷ []) qf γf yf) ∷ ‵ (LentAgain T.the-row κa (νa ∷ []) qa γa ba oa δa ya) ∷ ‵ (LentAgain u32 κl (νl ∷ []) ql γl bl ol δl yl) ∷ ‵ (LentAgain u32 κr (νr ∷ []) qr γr br or δr yr) ∷ Γ) E xs (sliceVal (vs .ptr) (length (vs .now)) ∷ low-head head ∷ sliceVal (bf, of) (length (take kf yf)) ∷ sliceVal (vc .ptr) (length (vc .now)) ∷ sliceVal (vh .ptr) (length (vh .now)) ∷ sliceVal (ba, oa) ma ∷ sliceVal (bl, ol) ml ∷ sliceVal (br, or) mr ∷ []))
+      → ((r : Extended) (za : List Row) (zl : List ℕ) (zr : List ℕ) → ExtendKept (lentExtend (vs .now) head (take kf yf) (vc .now) (vh .now)) (buffers ya yl yr) r (buffers za zl zr) → Is Ex.the-row r (low-extended r ∷ []) → length za ≡ length ya → length zl ≡ length yl → length zr ≡ length yr → Seq K W (‵ (flft κs qs) ∷ ‵ (ShrSlice (named 0) κs i32 .own vs (sliceVal (vs .ptr) (length (vs .now)) ∷ [])) ∷ ‵ (flft κf qf) ∷ ‵ (Own T.the-row bf of mf (named 0) κf γf yf) ∷ ‵ (flft κc qc) ∷ ‵ (ShrSlice (named 0) κc u32 .own vc (sliceVal (vc .ptr) (length (vc .now)) ∷ [])) ∷ ‵ (flft κh qh) ∷ ‵ (ShrSlice (named 0) κh u32 .own vh (sliceVal (vh .ptr) (length (vh .now)) ∷ [])) ∷ ‵ (flft κa qa) ∷ ‵ (Own T.the-row ba oa ma (named 0) κa γa za) ∷ ‵ (flft κl ql) ∷ ‵ (Own u32 bl ol ml (named 0) κl γl zl) ∷ ‵ (flft κr qr) ∷ ‵ (Own u32 br or mr (named 0) κr γr zr) ∷ Γ) (lands C Λ E d (low-extended r) rest p))
+      → Seq K W (‵ (flft κs qs) ∷ ‵ (ShrSlice (named 0) κs i32 .own vs (sliceVal (vs .ptr) (length (vs .now)) ∷ [])) ∷ ‵ (flft κf qf) ∷ ‵ (Own T.the-row bf of mf (named 0) κf γf yf) ∷ ‵ (flft κc qc) ∷ ‵ (ShrSlice (named 0) κc u32 .own vc (sliceVal (vc .ptr) (length (vc .now)) ∷ [])) ∷ ‵ (flft κh qh) ∷ ‵ (ShrSlice (named 0) κh u32 .own vh (sliceVal (vh .ptr) (length (vh .now)) ∷ [])) ∷ ‵ (flft κa qa) ∷ ‵ (Own T.the-row ba oa ma (named 0) κa γa ya) ∷ ‵ (flft κl ql) ∷ ‵ (Own u32 bl ol ml (named 0) κl γl yl) ∷ ‵ (flft κr qr) ∷ ‵ (Own u32 br or mr (named 0) κr γr yr) ∷ Γ) (runs C Λ E (seq (call #extend xs d) rest) p)
+  calls-extend t fm mem run met κs qs vs κf qf bf of mf γf yf kf κc qc vc κh qh vh κa qa ba oa ma γa ya κl ql bl ol ml γl yl κr qr br or mr γr yr head ef roomf ea rooma el rooml er roomr g-head os k =
+      move t (3 ∷ 2 ∷ []) $
+      first T.the-row bf of mf (named 0) (named 0) κf qf γf yf ef t tt (halved 𝓤 H A W (cStruct T.the-type T′.the-laws T′.the-copy)) kf (λ νf δf.
+      move t (10 ∷ 9 ∷ []) $
+      lend T.the-row ba oa ma (named 0) (named 0) κa qa γa ya ea t tt (λ νa δa.
+      move t (13 ∷ 12 ∷ []) $
+      lend u32 bl ol ml (named 0) (named 0) κl ql γl yl el t tt (λ νl δl.
+      move t (16 ∷ 15 ∷ []) $
+      lend u32 br or mr (named 0) (named 0) κr qr γr yr er t tt (λ νr δr.
+      move t (13 ∷ []) $
+      use1 W (‵ (ShrSlice (named 0) κs i32 .own vs (sliceVal (vs .ptr) (length (vs .now)) ∷ [])) ⊛ ‵ (ShrSlice (named 0) κs i32 .own vs (sliceVal (vs .ptr) (length (vs .now)) ∷ []))) (shr-slice-copy 𝓤 H A W (named 0) κs i32 .twice vs (slice-vals vs)) $
+      split t $
+      move t (16 ∷ []) $
+      use1 W (‵ (ShrSlice (named 0) κc u32 .own vc (sliceVal (vc .ptr) (length (vc .now)) ∷ [])) ⊛ ‵ (ShrSlice (named 0) κc u32 .own vc (sliceVal (vc .ptr) (length (vc .now)) ∷ []))) (shr-slice-copy 𝓤 H A W (named 0) κc u32 .twice vc (slice-vals vc)) $
+      split t $
+      move t (19 ∷ []) $
+      use1 W (‵ (ShrSlice (named 0) κh u32 .own vh (sliceVal (vh .ptr) (length (vh .now)) ∷ [])) ⊛ ‵ (ShrSlice (named 0) κh u32 .own vh (sliceVal (vh .ptr) (length (vh .now)) ∷ []))) (shr-slice-copy 𝓤 H A W (named 0) κh u32 .twice vh (slice-vals vh)) $
+      split t $
+      move t (18 ∷ 15 ∷ 19 ∷ 20 ∷ 12 ∷ 9 ∷ 6 ∷ 4 ∷ 16 ∷ 2 ∷ 0 ∷ 13 ∷ 10 ∷ 7 ∷ 5 ∷ 3 ∷ 1 ∷ 17 ∷ 14 ∷ 11 ∷ 8 ∷ []) $
+      group t 14 $ use1 W (raw (Extend 𝓤 H A mem run .pre (to-extend 𝓤 H A mem run κs qs vs κf qf bf of mf γf yf kf κc qc vc κh qh vh κa qa ba oa ma γa ya κl ql bl ol ml γl yl κr qr br or mr γr yr head νf δf νa δa νl δl νr δr))) (asks-extend 𝓤 H A mem run κs qs vs κf qf bf of mf γf yf kf κc qc vc κh qh vh κa qa ba oa ma γa ya κl ql bl ol ml γl yl κr qr br or mr γr yr head W g-head νf δf νa δa νl δl νr δr) $
+      calls-at t fm (Extend 𝓤 H A mem run) met (to-extend 𝓤 H A mem run κs qs vs κf qf bf of mf γf yf kf κc qc vc κh qh vh κa qa ba oa ma γa ya κl ql bl ol ml γl yl κr qr br or mr γr yr head νf δf νa δa νl δl νr δr) (os νf δf νa δa νl δl νr δr) (λ u. use1 W (later (some (λ (r : Extended). ((‵ (flft κs qs) ⊛ ‵ (flft (νf ∷ []) fullShare) ⊛ ‵ (flft κc qc) ⊛ ‵ (flft κh qh) ⊛ ‵ (flft (νa ∷ []) fullShare) ⊛ ‵ (flft (νl ∷ []) fullShare) ⊛ ‵ (flft (νr ∷ []) fullShare) ⊛ ‵ ftrue) ⊛ ‵ (Ex.the-row .own r (u ∷ []))) ⊛ raw (ensured 𝓤 H A extend.ended (extend.clauses 𝓤 H A mem run) (κs, ((νf ∷ []), (κc, (κh, ((νa ∷ []), ((νl ∷ []), ((νr ∷ []), tt))))))) (vs, (head, ((record { ptr = (bf, of); name = δf; now = (take kf yf) }), (vc, (vh, ((record { ptr = (ba, oa); name = δa; now = ya }), ((record { ptr = (bl, ol); name = δl; now = yl }), ((record { ptr = (br, or); name = δr; now = yr }), tt)))))))) tt r)))) (id⊢ 𝓤 _) $ await t tt $ pick t (λ r. split t $
+      move t (1 ∷ []) $
+      use1 W (some (λ (ls : (Unit {0} × (Unit {0} × (Unit {0} × (Unit {0} × (Unit {0} × (List Row × (List ℕ × (List ℕ × Unit {0}))))))))). ‵ (lasts extend.ended (κs, ((νf ∷ []), (κc, (κh, ((νa ∷ []), ((νl ∷ []), ((νr ∷ []), tt))))))) (vs, (head, ((record { ptr = (bf, of); name = δf; now = (take kf yf) }), (vc, (vh, ((record { ptr = (ba, oa); name = δa; now = ya }), ((record { ptr = (bl, ol); name = δl; now = yl }), ((record { ptr = (br, or); name = δr; now = yr }), tt)))))))) ls) ⊛ raw (fact 𝓤 (ExtendKept (lentExtend (vs .now) head (take kf yf) (vc .now) (vh .now)) (buffers ya yl yr) r (buffers (ls .1 .1 .1 .1 .1 .0) (ls .1 .1 .1 .1 .1 .1 .0) (ls .1 .1 .1 .1 .1 .1 .1 .0)))))) (id⊢ 𝓤 _) $ pick t (λ ls. split t $
+      move t (1 ∷ []) $
+      heard t (ExtendKept (lentExtend (vs .now) head (take kf yf) (vc .now) (vh .now)) (buffers ya yl yr) r (buffers (ls .1 .1 .1 .1 .1 .0) (ls .1 .1 .1 .1 .1 .1 .0) (ls .1 .1 .1 .1 .1 .1 .1 .0))) (λ said.
+      fsplit t $
+      drop t $
+      fsplit t $
+      drop t $
+      fsplit t $
+      drop t $
+      fsplit t $
+      drop t $
+      fsplit t $
+      drop t $
+      fsplit t $
+      fsplit t $
+      move t (1 ∷ []) $
+      feqL t (λ longa.
+      move t (1 ∷ []) $
+      fsplit t $
+      fsplit t $
+      move t (1 ∷ []) $
+      feqL t (λ longl.
+      move t (1 ∷ []) $
+      fsplit t $
+      fsplit t $
+      move t (1 ∷ []) $
+      feqL t (λ longr.
+      move t (1 ∷ []) $
+      drop t $
+      move t (3 ∷ []) $
+      split t $
+      move t (1 ∷ []) $
+      facts t Ex.the-row (Is Ex.the-row) (shows 𝓤 H A Ex.the-row) r (u ∷ []) (λ is. regoal t (λ (v : Val). lands C Λ E d v rest p) (ap only (EL.tells Ex.the-type Ex′.the-laws r (u ∷ []) is)) refl $
+      move t (0 ∷ []) $
+      split t $
+      move t (1 ∷ []) $
+      split t $
+      move t (1 ∷ []) $
+      split t $
+      move t (1 ∷ []) $
+      split t $
+      move t (1 ∷ []) $
+      split t $
+      move t (1 ∷ []) $
+      split t $
+      move t (1 ∷ []) $
+      split t $
+      move t (1 ∷ []) $
+      drop t $
+      move t (5 ∷ 13 ∷ []) $
+      unshare T.the-row bf of mf (named 0) (named 0) κf qf γf yf ef t tt νf roomf $
+      move t (4 ∷ 14 ∷ 10 ∷ []) $
+      back T.the-row ba oa ma (named 0) (named 0) κa qa γa ya ea t tt νa δa (ls .1 .1 .1 .1 .1 .0) rooma longa $
+      move t (5 ∷ 14 ∷ 10 ∷ []) $
+      back u32 bl ol ml (named 0) (named 0) κl ql γl yl el t tt νl δl (ls .1 .1 .1 .1 .1 .1 .0) rooml longl $
+      move t (6 ∷ 14 ∷ 10 ∷ []) $
+      back u32 br or mr (named 0) (named 0) κr qr γr yr er t tt νr δr (ls .1 .1 .1 .1 .1 .1 .1 .0) roomr longr $
+      move t (10 ∷ 11 ∷ 7 ∷ 6 ∷ 9 ∷ 12 ∷ 8 ∷ 13 ∷ 5 ∷ 4 ∷ 3 ∷ 2 ∷ 1 ∷ 0 ∷ []) $
+      k r (ls .1 .1 .1 .1 .1 .0) (ls .1 .1 .1 .1 .1 .1 .0) (ls .1 .1 .1 .1 .1 .1 .1 .0) said (subst (Is Ex.the-row r) (EL.tells Ex.the-type Ex′.the-laws r (u ∷ []) is) is) longa longl longr))))))))))))
+
+  pub calls-extension-out : K → FmC 𝓤 H (W .laws) C → (mem : Memory → SProp 𝓤) (run : Routine → Fun 𝓤) → Triple 𝓤 (C #extension-out) (ExtensionOut 𝓤 H A mem run) → (made : Extended) (rows : List Row) → Is Ex.the-row made (low-extended made ∷ []) → Is (Array T.the-row 64) rows (chunk rows ∷ [])
+      → (Opds K W (raw (ExtensionOut 𝓤 H A mem run .pre (to-extension-out 𝓤 H A mem run made rows)) ∷ Γ) E xs (low-extended made ∷ chunk rows ∷ []))
+      → ((r : Extension) → (r ≡ extensionAs made rows) → Is Xt.the-row r (low-extension r ∷ []) → Seq K W (Γ) (lands C Λ E d (low-extension r) rest p))
+      → Seq K W (Γ) (runs C Λ E (seq (call #extension-out xs d) rest) p)
+  calls-extension-out t fm mem run met made rows g-made g-rows os k =
+      use0 W (raw (ExtensionOut 𝓤 H A mem run .pre (to-extension-out 𝓤 H A mem run made rows))) (asks-extension-out 𝓤 H A mem run made rows W g-made g-rows) $
+      calls-at t fm (ExtensionOut 𝓤 H A mem run) met (to-extension-out 𝓤 H A mem run made rows) (os) (λ u. use1 W (later (some (λ (r : Extension). ((‵ ftrue) ⊛ ‵ (Xt.the-row .own r (u ∷ []))) ⊛ raw (ensured 𝓤 H A out.ended (out.clauses 𝓤 H A mem run) tt (made, (rows, tt)) tt r)))) (id⊢ 𝓤 _) $ await t tt $ pick t (λ r. split t $
+      move t (1 ∷ []) $
+      use1 W (some (λ (ls : (Unit {0} × (Unit {0} × Unit {0}))). ‵ (lasts out.ended tt (made, (rows, tt)) ls) ⊛ raw (fact 𝓤 ((r ≡ extensionAs made rows))))) (id⊢ 𝓤 _) $ pick t (λ ls. split t $
+      move t (1 ∷ []) $
+      heard t ((r ≡ extensionAs made rows)) (λ said.
+      fsplit t $
+      drop t $
+      fsplit t $
+      drop t $
+      drop t $
+      move t (0 ∷ []) $
+      split t $
+      move t (1 ∷ []) $
+      facts t Xt.the-row (Is Xt.the-row) (shows 𝓤 H A Xt.the-row) r (u ∷ []) (λ is. regoal t (λ (v : Val). lands C Λ E d v rest p) (ap only (LL.tells Xt.the-type Xt′.the-laws r (u ∷ []) is)) refl $
+      move t (0 ∷ []) $
+      drop t $
+      k r said (subst (Is Xt.the-row r) (LL.tells Xt.the-type Xt′.the-laws r (u ∷ []) is) is))))))
 
   pub calls-audit : K → FmC 𝓤 H (W .laws) C → (mem : Memory → SProp 𝓤) (run : Routine → Fun 𝓤) → Triple 𝓤 (C #audit) (Audit 𝓤 H A mem run) → (κs : Lft) (qs : Share) (vs : RefT (List ℤ)) (κa : Lft) (qa : Share) (ba oa ma : ℕ) (γa : GName) (ya : List Row) (ka : ℕ) (κl : Lft) (ql : Share) (vl : RefT (List ℕ)) (κr : Lft) (qr : Share) (vr : RefT (List ℕ)) (head : Head) → length ya ≡ ma → Room T.the-row ma → Is Hd.the-row head (low-head head ∷ [])
       → ((νa : ℕ) (δa : GName) → Opds K W (raw (Audit 𝓤 H A mem run .pre (to-audit 𝓤 H A mem run κs qs vs κa qa ba oa ma γa ya ka κl ql vl κr qr vr head νa δa)) ∷ ‵ (ShrSlice (named 0) κs i32 .own vs (sliceVal (vs .ptr) (length (vs .now)) ∷ [])) ∷ ‵ (ShrSlice (named 0) κl u32 .own vl (sliceVal (vl .ptr) (length (vl .now)) ∷ [])) ∷ ‵ (ShrSlice (named 0) κr u32 .own vr (sliceVal (vr .ptr) (length (vr .now)) ∷ [])) ∷ ‵ (SharedAgain T.the-row ba oa ma κa (νa ∷ []) qa γa ya) ∷ Γ) E xs (sliceVal (vs .ptr) (length (vs .now)) ∷ low-head head ∷ sliceVal (ba, oa) (length (take ka ya)) ∷ sliceVal (vl .ptr) (length (vl .now)) ∷ sliceVal (vr .ptr) (length (vr .now)) ∷ []))

@@ -1,9 +1,11 @@
-// Runs the vectors of its standard input (tests/model/index_vectors.rs writes them: the paper's cases, then answers of the model) through the entries over lent records, and says of each group how many agree.
+// Runs the vectors of its standard input (tests/model/index_vectors.rs writes them: the paper's cases, and answers of the model) through the entries over lent records, and says of each group how many agree.
 use index_table::audit_table;
 use index_table::build_table;
+use index_table::extend_table;
 use judge::lesser;
 use meaning_entries::Audited;
 use meaning_entries::Built;
+use meaning_entries::Extended;
 use meaning_rows::Head;
 use meaning_rows::Row;
 use vectors::get;
@@ -76,7 +78,40 @@ fn get_head(nums: &[u64], at: usize) -> Head {
     }
 }
 
-// What a run buffer holds before a build: numbers from `x` on.
+// Where a lent index stands: its head, how many rows, the entries of the two columns of its run buffer and their lengths, and what follows.
+struct Places {
+    head: usize,
+    rows: usize,
+    left: usize,
+    lefts: usize,
+    right: usize,
+    rights: usize,
+    end: usize,
+}
+
+// A lent index: the head; how many rows, and these; the two columns of the run buffer, each after its length.
+fn find_index(nums: &[u64], at: usize) -> Places
+    ensures { λ p. ⌜ (p .rows ≤ 64) × ((p .lefts ≤ 80) × (p .rights ≤ 80)) ⌝ }
+{
+    let rows = get_length(nums, plus(at, 3), 64);
+    let second = row_place(plus(at, 4), rows);
+    let lefts = get_length(nums, second, 80);
+    let left = plus(second, 1);
+    let third = plus(left, lefts);
+    let rights = get_length(nums, third, 80);
+    let right = plus(third, 1);
+    Places {
+        head: at,
+        rows: rows,
+        left: left,
+        lefts: lefts,
+        right: right,
+        rights: rights,
+        end: plus(right, rights),
+    }
+}
+
+// What a run buffer holds before a build or an extension: numbers from `x` on.
 fn fill_rubbish(out: &mut [u32], x: u32) {
     let mut k: usize = 0;
     let mut y = x;
@@ -149,6 +184,13 @@ fn agree_built(a: Built, nums: &[u64], at: usize) -> bool {
     }
 }
 
+fn agree_extended(a: Extended, nums: &[u64], at: usize) -> bool {
+    match a {
+        Extended::Index { head, rows, runs } => agree_told(nums, at, 0, head, rows, runs),
+        Extended::Refused { number, place } => agree_numbered(nums, at, 3, number as usize, place),
+    }
+}
+
 fn agree_audited(a: Audited, nums: &[u64], at: usize) -> bool {
     match a {
         Audited::Yes => agree_numbered(nums, at, 0, 0, 0),
@@ -166,9 +208,9 @@ struct Tried {
     at: usize,
 }
 
-// A build's answer and every buffer afterwards, against those from the place `at` on: the answer, how many rows, these and the row behind them, the two columns of the run buffer.
-fn judge_built(
-    answer: Built,
+// Every buffer after a build or an extension, where `told` says whether the answer agrees, against those from the place `at` on: the answer, how many rows, these and the row behind them, the two columns of the run buffer.
+fn judge_made(
+    told: bool,
     rows: [Row; 64],
     nums: &[u64],
     at: usize,
@@ -179,7 +221,6 @@ fn judge_built(
     let from = plus(at, 7);
     let lefts = row_place(from, plus(count, 1));
     let rights = plus(lefts, left.len());
-    let told = agree_built(answer, nums, at);
     let same = agree_rows(rows, nums, from, count);
     let one = agree_numbers(left, nums, lefts);
     let two = agree_numbers(right, nums, rights);
@@ -197,9 +238,11 @@ fn build_in(nums: &[u64], at: usize, s: &[i32], left: &mut [u32], right: &mut [u
     fill_rubbish(left, 1000);
     fill_rubbish(right, 2000);
     let t = build_table(s, w, d, g, left, right);
+    let from = plus(at, 5);
     let answer = t.answer;
     let rows = t.rows;
-    judge_built(answer, rows, nums, plus(at, 5), left, right)
+    let told = agree_built(answer, nums, from);
+    judge_made(told, rows, nums, from, left, right)
 }
 
 // A build: n, the values; w; d; g; the lengths of the two columns of the run buffer; what is expected.
@@ -215,59 +258,87 @@ fn try_build(nums: &[u64], from: usize) -> Tried {
     build_in(nums, at, &s[..n], &mut left[..lefts], &mut right[..rights])
 }
 
-// The audit of an index at the place `at`, with the columns of its run buffer from `second` on.
-fn audit_in(
+// The extension of the index at `p` into these columns.
+fn extend_in(
     nums: &[u64],
-    at: usize,
-    second: usize,
-    count: usize,
+    p: Places,
     s: &[i32],
+    lefts: &[u32],
+    rights: &[u32],
     left: &mut [u32],
     right: &mut [u32],
 ) -> Tried
-    requires { ⌜ count ≤ 64 ⌝ }
+    requires { ⌜ p .rows ≤ 64 ⌝ }
 {
-    let head = get_head(nums, at);
-    let table = get_rows(nums, plus(at, 4));
-    let third = plus(plus(second, 1), left.len());
-    let last = plus(plus(third, 1), right.len());
-    get_numbers(nums, plus(second, 1), left);
-    get_numbers(nums, plus(third, 1), right);
-    let a = audit_table(s, head, table, count, left, right);
+    let head = get_head(nums, p.head);
+    let table = get_rows(nums, plus(p.head, 4));
+    fill_rubbish(left, 1000);
+    fill_rubbish(right, 2000);
+    let t = extend_table(s, head, table, p.rows, lefts, rights, left, right);
+    let from = plus(p.end, 2);
+    let answer = t.answer;
+    let rows = t.rows;
+    let told = agree_extended(answer, nums, from);
+    judge_made(told, rows, nums, from, left, right)
+}
+
+// An extension: n, the values; the index; the lengths of the two columns of the fresh run buffer; what is expected.
+fn try_extend(nums: &[u64], from: usize) -> Tried {
+    let n = get_length(nums, from, 320);
+    let p = find_index(nums, plus(plus(from, 1), n));
+    let a = get_length(nums, p.end, 80);
+    let b = get_length(nums, plus(p.end, 1), 80);
+    let mut s = [0i32; 320];
+    let mut lefts = [0u32; 80];
+    let mut rights = [0u32; 80];
+    let mut left = [0u32; 80];
+    let mut right = [0u32; 80];
+    get_values(nums, plus(from, 1), &mut s);
+    get_numbers(nums, p.left, &mut lefts);
+    get_numbers(nums, p.right, &mut rights);
+    extend_in(
+        nums,
+        p,
+        &s[..n],
+        &lefts[..p.lefts],
+        &rights[..p.rights],
+        &mut left[..a],
+        &mut right[..b],
+    )
+}
+
+// The audit of the index at `p`.
+fn audit_in(nums: &[u64], p: Places, s: &[i32], left: &[u32], right: &[u32]) -> Tried
+    requires { ⌜ p .rows ≤ 64 ⌝ }
+{
+    let head = get_head(nums, p.head);
+    let table = get_rows(nums, plus(p.head, 4));
+    let a = audit_table(s, head, table, p.rows, left, right);
     Tried {
-        good: agree_audited(a, nums, last),
-        at: plus(last, 6),
+        good: agree_audited(a, nums, p.end),
+        at: plus(p.end, 6),
     }
 }
 
-// An audit: n, the values; the head; how many rows, and these; the two columns of the run buffer, each after its length; the answer.
+// An audit: n, the values; the index; the answer.
 fn try_audit(nums: &[u64], from: usize) -> Tried {
     let n = get_length(nums, from, 320);
-    let at = plus(plus(from, 1), n);
-    let count = get_length(nums, plus(at, 3), 64);
-    let second = row_place(plus(at, 4), count);
-    let lefts = get_length(nums, second, 80);
-    let rights = get_length(nums, plus(plus(second, 1), lefts), 80);
+    let p = find_index(nums, plus(plus(from, 1), n));
     let mut s = [0i32; 320];
     let mut left = [0u32; 80];
     let mut right = [0u32; 80];
     get_values(nums, plus(from, 1), &mut s);
-    audit_in(
-        nums,
-        at,
-        second,
-        count,
-        &s[..n],
-        &mut left[..lefts],
-        &mut right[..rights],
-    )
+    get_numbers(nums, p.left, &mut left);
+    get_numbers(nums, p.right, &mut right);
+    audit_in(nums, p, &s[..n], &left[..p.lefts], &right[..p.rights])
 }
 
-// A vector, of its kind: 1 a build, 2 an audit.
+// A vector, of its kind: 1 a build, 2 an audit, 3 an extension.
 fn try_one(nums: &[u64], test: u64, from: usize) -> Tried {
     match test {
         1 => try_build(nums, from),
         2 => try_audit(nums, from),
+        3 => try_extend(nums, from),
         _ => Tried {
             good: false,
             at: from,
@@ -291,7 +362,10 @@ fn name(group: u64) {
         2 => io::write_all(1, b"audits of the paper's index, whole and damaged"),
         3 => io::write_all(1, b"builds"),
         4 => io::write_all(1, b"audits of what is built"),
-        _ => io::write_all(1, b"audits of damaged indexes"),
+        5 => io::write_all(1, b"audits of damaged indexes"),
+        6 => io::write_all(1, b"extensions by hand"),
+        7 => io::write_all(1, b"extensions"),
+        _ => io::write_all(1, b"extensions of damaged indexes"),
     }
     ;
 }

@@ -55,18 +55,23 @@ use Rattle.meaning_rows.proofs.Row.Laws as T′
 use Rattle.meaning_rows.proofs.Head as Hd
 use Rattle.meaning_rows.proofs.Head.Laws as Hd′
 use Rattle.meaning_entries.specs.declared.Built.{Built}
+use Rattle.meaning_entries.specs.declared.Extended.{Extended}
 use Rattle.meaning_entries.specs.declared.Audited.{Audited}
 use Rattle.meaning_entries.specs.Build.{lentBuild}
+use Rattle.meaning_entries.specs.Extend.{lentExtend}
 use Rattle.meaning_entries.specs.Audit.{lentAudit}
-use Rattle.meaning_entries.specs.Demand2.{BuildKept, AuditKept}
+use Rattle.meaning_entries.specs.Demand2.{BuildKept, ExtendKept, AuditKept}
 use Rattle.meaning_entries.proofs.Built as Bu
 use Rattle.meaning_entries.proofs.Built.Laws as Bu′
+use Rattle.meaning_entries.proofs.Extended as Ex
+use Rattle.meaning_entries.proofs.Extended.Laws as Ex′
 use Rattle.meaning_entries.proofs.Audited as Au
 use Rattle.meaning_entries.proofs.Audited.Laws as Au′
 use Rattle.records.proofs.RowKit.{row-makes}
 use Rattle.records.proofs.Rows.{chunk}
 use Rattle.build.specs.Filled.{buffers}
 use Rattle.assured.proofs.Calls.{low-head, low-built, low-audited}
+use Rattle.extend_index.proofs.Calls.{low-extended}
 use Rattle.audit.proofs.audit.Symbol as audit-def
 use Rattle.audit.proofs.audit.Symbol.{name as #audit}
 use Rattle.audit.proofs.audit.Met as audit-thm

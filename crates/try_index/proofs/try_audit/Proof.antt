@@ -1,9 +1,7 @@
 -- `try_index::try_audit` meets its contract. Assumes nothing.
 use borrow.Author.Needs.{needs}
 use native.Mathlib.Omega.{arith}
-use mathlib.Core.Path.{sym}
 use lib.ListN.{length-take}
-use lib.Seq.{length-take-le}
 use Rattle.try_index.proofs.try_audit.Statement.{statement}
 use Rattle.try_index.proofs.try_audit.Tie as tie
 
@@ -16,20 +14,17 @@ try-audit-spec =
     (λ c κs. search needs)
     (λ c κs. search needs)
     (λ c κs. search needs)
+    (λ c. search needs)
     (λ c κs. search needs)
-    (λ c κs. search needs)
-    (λ c κs. search needs)
-    (λ c κs. search needs)
-    (λ c κs. search needs)
-    (λ c κs. search needs)
+    (λ c. search needs)
     (λ c κs. search needs)
     (λ c. search needs)
     (λ c κs. search needs)
     (λ c. search needs)
     (λ c. simp length-take (omega arith))
     (λ c. search needs)
-    (λ c. sym (length-take-le _ _ (search needs)))
+    (λ c. simp length-take (omega arith))
     (λ c. search needs)
-    (λ c. sym (length-take-le _ _ (search needs)))
+    (λ c. simp length-take (omega arith))
     (λ c κs. search needs)
     (λ c. search needs))
