@@ -6,7 +6,7 @@ use find_print::finish;
 use libc::STDIN_FILENO;
 use libc::STDOUT_FILENO;
 
-ghost use mathlib.Core.Path.{_≡_};
+ghost use Prim.Native.Nat.{_≤_};
 ghost use lib.ListN.{length};
 ghost use Rattle.find_plan.specs.Input.{Open};
 ghost use Rattle.find.specs.Reading.{StepFrom, ReadTo};
@@ -54,10 +54,15 @@ fn read_all(r: Input, numbers: &mut [i64], series: &mut [i32], query: &mut [i32]
 }
 
 // Room for all that the program prints.
-fn text_buffer() -> [u8; 1048576]
-    ensures { λ b. ⌜ 1048576 ≡ length b ⌝ }
-{
+fn text_buffer() -> [u8; 1048576] {
     [0; 1048576]
+}
+
+// Writes the first bytes of a text to standard output.
+fn print_first(text: &[u8], n: usize)
+    requires { ⌜ n ≤ length (now text) ⌝ }
+{
+    io::write_all(STDOUT_FILENO, &text[..n]);
 }
 
 fn main() {
@@ -67,5 +72,5 @@ fn main() {
     let r = read_all(begin(), &mut numbers, &mut series, &mut query);
     let mut text = text_buffer();
     let n = finish(r, &numbers, &series, &query, &mut text);
-    io::write_all(STDOUT_FILENO, &text[..n]);
+    print_first(&text, n);
 }
