@@ -1,0 +1,91 @@
+-- `find::read_all` meets its contract. The invariant: some text has been read, and as many bytes more can be as the turns that are left bring. The measure is the turns that are left. Assumes nothing.
+use Prim.Native.Nat.{_*_, _-_}
+use Rattle.find.specs.Reading.{ReadTo, open-less, read-less}
+use borrow.Author.Needs.{needs}
+use lib.ListN.{length}
+use mathlib.Core.Path.{_≡_, refl, _∙_}
+use native.Mathlib.Omega.{arith}
+use Rattle.find.proofs.read_all.Statement.{statement}
+use Rattle.find.proofs.read_all.Tie as tie
+
+abbrev Inv-loop : tie.InvT-loop
+Inv-loop numbers₀ series₀ query₀ x₀ turns₀ numbers series query x turns = ReadTo (65536 * turns) x numbers series query × (length numbers ≡ length numbers₀) × (length series ≡ length series₀) × (length query ≡ length query₀)
+
+abbrev μ-loop : tie.MeasureT-loop
+μ-loop numbers₀ series₀ query₀ x₀ turns₀ numbers series query x turns = turns
+
+loop-holds : tie.Need-loop-holds Inv-loop μ-loop
+loop-holds c = (read-less 4611686018427387904 _ _ _ _ _ (omega arith) (c .pre), refl, refl, refl)
+
+read-on-requires : tie.Need-read-on-requires Inv-loop μ-loop
+read-on-requires c κs = open-less _ (65536 * c .before .before .before .before .loop .turns) _ (omega arith) (c .before .before .before .before .loop .inv .0 .opened)
+
+enum-known-y : tie.Need-enum-known-y Inv-loop μ-loop
+enum-known-y c = search needs
+
+sub-turns : tie.Need-sub-turns Inv-loop μ-loop
+sub-turns c = omega arith
+
+loop-less : tie.Need-loop-less Inv-loop μ-loop
+loop-less c = omega arith
+
+loop-again : tie.Need-loop-again Inv-loop μ-loop
+loop-again c = 
+    let l = c .before .before .before .before .before .before .before .before .before .before .before in
+    let s = c .before .before .before .before .before .before in
+    let n = l .loop .turns - 1 in
+    let k = s .read-on .ensures (65536 * n) (read-less (65536 * l .loop .turns) _ _ _ _ _ (omega arith) (l .loop .inv .0)) in
+    (rw (c .before .y .given .1) at k, s .read-on .kept .1 .0 ∙ l .loop .inv .1, s .read-on .kept .1 .1 .0 ∙ l .loop .inv .2, s .read-on .kept .1 .1 .1 .0 ∙ l .loop .inv .3)
+
+enum-known-y-2 : tie.Need-enum-known-y-2 Inv-loop μ-loop
+enum-known-y-2 c = search needs
+
+same-length : tie.Need-same-length Inv-loop μ-loop
+same-length c = c .before .before .before .before .before .before .read-on .kept .1 .0 ∙ c .before .before .before .before .before .before .before .before .before .before .before .loop .inv .1
+
+same-length-2 : tie.Need-same-length-2 Inv-loop μ-loop
+same-length-2 c = c .before .before .before .before .before .before .read-on .kept .1 .1 .0 ∙ c .before .before .before .before .before .before .before .before .before .before .before .loop .inv .2
+
+same-length-3 : tie.Need-same-length-3 Inv-loop μ-loop
+same-length-3 c = c .before .before .before .before .before .before .read-on .kept .1 .1 .1 .0 ∙ c .before .before .before .before .before .before .before .before .before .before .before .loop .inv .3
+
+returns : tie.Need-returns Inv-loop μ-loop
+returns c = 
+    let l = c .before .before .before .before .before .before .before .before .before .before .before in
+    let s = c .before .before .before .before .before .before in
+    let k = s .read-on .ensures 0 (read-less (65536 * l .loop .turns) _ _ _ _ _ (omega arith) (l .loop .inv .0)) in
+    rw (c .before .y2 .given .1) at k
+
+same-length-4 : tie.Need-same-length-4 Inv-loop μ-loop
+same-length-4 c = c .before .loop .inv .1
+
+same-length-5 : tie.Need-same-length-5 Inv-loop μ-loop
+same-length-5 c = c .before .loop .inv .2
+
+same-length-6 : tie.Need-same-length-6 Inv-loop μ-loop
+same-length-6 c = c .before .loop .inv .3
+
+returns-2 : tie.Need-returns-2 Inv-loop μ-loop
+returns-2 c = read-less (65536 * c .before .loop .turns) _ _ _ _ _ (omega arith) (c .before .loop .inv .0)
+
+pub read-all-spec : {M : Type 1} → statement M
+read-all-spec =
+    tie.close
+    (tie.spec
+    Inv-loop
+    μ-loop
+    loop-holds
+    read-on-requires
+    enum-known-y
+    sub-turns
+    loop-less
+    loop-again
+    enum-known-y-2
+    same-length
+    same-length-2
+    same-length-3
+    returns
+    same-length-4
+    same-length-5
+    same-length-6
+    returns-2)

@@ -1,0 +1,76 @@
+// The search program: standard input to standard output. No contract can say what is read or written, so all that matters is promised by the functions on bytes that it calls.
+use find_plan::Input;
+use find_plan::begin;
+use find_plan::read_piece;
+use find_print::finish;
+use libc::STDIN_FILENO;
+use libc::STDOUT_FILENO;
+
+ghost use Prim.Native.Nat.{_≤_};
+ghost use lib.ListN.{length};
+ghost use Rattle.find_plan.specs.Input.{Open};
+ghost use Rattle.find.specs.Reading.{StepFrom, ReadTo};
+
+// There may be more to read, or the input is over.
+enum Step {
+    More(Input),
+    Over(Input),
+}
+
+// Reads the next piece of standard input; a read that fails ends the input.
+fn read_on(r: Input, numbers: &mut [i64], series: &mut [i32], query: &mut [i32]) -> Step
+    requires { ⌜ Open r 65536 ⌝ }
+    ensures { λ s. ⌜ StepFrom r (now (numbers .entry)) (now (series .entry)) (now (query .entry)) s (now (numbers .exit)) (now (series .exit)) (now (query .exit)) ⌝ }
+{
+    let mut buf = io::large_buffer();
+    let got = libc::read(STDIN_FILENO, &mut buf);
+    let n = io::count(got, &buf);
+    let x = read_piece(r, &buf[..n], numbers, series, query);
+    if n == 0 {
+        return Step::Over(x);
+    }
+    Step::More(x)
+}
+
+// Reads all of standard input, in as many pieces as no run uses up.
+fn read_all(r: Input, numbers: &mut [i64], series: &mut [i32], query: &mut [i32]) -> Input
+    requires { ⌜ ReadTo 4611686018427387904 r (now numbers) (now series) (now query) ⌝ }
+    ensures { λ x. ⌜ ReadTo 0 x (now (numbers .exit)) (now (series .exit)) (now (query .exit)) ⌝ }
+{
+    let mut x = r;
+    let mut turns: u64 = 70368744177663;
+    while 0 < turns {
+        match read_on(x, numbers, series, query) {
+            Step::More(y) => {
+                x = y;
+                turns -= 1;
+            }
+            Step::Over(y) => {
+                return y;
+            }
+        }
+    }
+    x
+}
+
+// Room for all that the program prints.
+fn text_buffer() -> [u8; 1048576] {
+    [0; 1048576]
+}
+
+// Writes the first bytes of a text to standard output.
+fn print_first(text: &[u8], n: usize)
+    requires { ⌜ n ≤ length (now text) ⌝ }
+{
+    io::write_all(STDOUT_FILENO, &text[..n]);
+}
+
+fn main() {
+    let mut numbers = [0i64, 0, 0, 0, 0, 0, 0, 1];
+    let mut series = [0i32; 4096];
+    let mut query = [0i32; 1024];
+    let r = read_all(begin(), &mut numbers, &mut series, &mut query);
+    let mut text = text_buffer();
+    let n = finish(r, &numbers, &series, &query, &mut text);
+    print_first(&text, n);
+}

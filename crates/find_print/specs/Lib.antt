@@ -1,0 +1,3 @@
+-- What is printed where nothing refuses (`Whole`), and at the end of the input (`End`).
+pub mod Whole
+pub mod End
