@@ -5,7 +5,6 @@ use find_plan::read_piece;
 use find_print::finish;
 use libc::STDIN_FILENO;
 use libc::STDOUT_FILENO;
-
 ghost use Prim.Native.Nat.{_≤_};
 ghost use lib.ListN.{length};
 ghost use Rattle.find_plan.specs.Input.{Open};

@@ -7,7 +7,7 @@ use lib.IntN.{ℤ}
 use lib.ListN.{length, take}
 use Rattle.meaning_text.specs.Texts.{foundText, refusedText}
 use Rattle.meaning_entries.specs.Search.{SearchCall, SearchBuffers, searchRefusal, searchMatches, searchCandidates}
-use Rattle.meaning_entries.specs.Program.{program}
+use Rattle.meaning_entries.specs.Demand2.{ProgramKept}
 use Rattle.text_put.specs.Put.{Put}
 use Rattle.find_plan.specs.declared.Input.{Input}
 use Rattle.find_plan.specs.Input.{Stands, Open}
@@ -33,7 +33,7 @@ pub record Reached (r : Input) (numbers series query : List ℤ) : Type 0 where
   pub long : length kept ≡ 4096
   pub short : length asked ≡ 1024
 
--- whatever text has been read, what the program prints
+-- whatever text has been read, the program keeps its promise
 pub record Finishes (r : Input) (numbers series query : List ℤ) (buffer : List ℕ) (n : ℕ) : Type 0 where
   pub within : n ≤ length buffer
-  pub is : (kept asked : List ℤ) (t : List ℕ) → length kept ≡ 4096 → length asked ≡ 1024 → Stands kept asked t r numbers series query → take n buffer ≡ program t
+  pub is : (kept asked : List ℤ) (t : List ℕ) → length kept ≡ 4096 → length asked ≡ 1024 → Stands kept asked t r numbers series query → ProgramKept t (take n buffer)

@@ -49,7 +49,7 @@ refused-end r numbers series query w old new to e f n p long put =
           let o : 0 + length text ≡ length text = omega arith in
           let b : take to new ≡ text = rw (z .1, z .0, o) (take-append-seam text (drop (length text) old)) in
           let q : program t ≡ text = rw (g, program) in
-          b ∙ sym q;
+          record { printed = b ∙ sym q };
     }
 
 -- ---- nothing refuses
@@ -94,5 +94,5 @@ module _ (r : Input) (numbers series query : List ℤ) (w : Refusal) (e : w ≡ 
     unfolding program
     printed-end new to h = record {
       within = h .within;
-      is = λ kept asked t hk ha s. h .is ∙ sym (ap printed (given kept asked t hk ha s .call)) ∙ sym (rw (passed-is (program-free kept asked t hk ha s), program));
+      is = λ kept asked t hk ha s. record { printed = h .is ∙ sym (ap printed (given kept asked t hk ha s .call)) ∙ sym (rw (passed-is (program-free kept asked t hk ha s), program)) };
     }

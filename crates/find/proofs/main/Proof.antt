@@ -72,4 +72,3 @@ main-spec =
     slice-aggregate-print-first
     print-first-requires
     returns)
-

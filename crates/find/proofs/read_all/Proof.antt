@@ -30,7 +30,7 @@ loop-less : tie.Need-loop-less Inv-loop μ-loop
 loop-less c = omega arith
 
 loop-again : tie.Need-loop-again Inv-loop μ-loop
-loop-again c = 
+loop-again c =
     let l = c .before .before .before .before .before .before .before .before .before .before .before in
     let s = c .before .before .before .before .before .before in
     let n = l .loop .turns - 1 in
@@ -50,7 +50,7 @@ same-length-3 : tie.Need-same-length-3 Inv-loop μ-loop
 same-length-3 c = c .before .before .before .before .before .before .read-on .kept .1 .1 .1 .0 ∙ c .before .before .before .before .before .before .before .before .before .before .before .loop .inv .3
 
 returns : tie.Need-returns Inv-loop μ-loop
-returns c = 
+returns c =
     let l = c .before .before .before .before .before .before .before .before .before .before .before in
     let s = c .before .before .before .before .before .before in
     let k = s .read-on .ensures 0 (read-less (65536 * l .loop .turns) _ _ _ _ _ (omega arith) (l .loop .inv .0)) in
