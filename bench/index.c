@@ -1,4 +1,4 @@
-// Runs the proved entries over lent records and the plain C on the same input, in turn, compares what they answer, and prints the least time of 15 runs of each and the ratio. The indexes are built by the plain C.
+// Runs the proved entries over lent records and the plain C on the same input, in turn, compares what they answer, and prints the least time of 15 runs of each, the ratio, and how many passes of memset over the buffers the proved entry's time is. The indexes are built by the plain C.
 #include <stdint.h>
 #include <stdio.h>
 #include <string.h>
@@ -41,6 +41,26 @@ static Row rows2[ROOM], old_rows[ROOM];
 static u32 left2[ROOM], right2[ROOM], old_left[ROOM], old_right[ROOM];
 static int different;
 
+// one pass of memset over the buffers
+static double memset_time(void) {
+    double least = 1e9;
+    for (int k = 0; k < 5; k++) {
+        double t0 = now();
+        memset(rows2, k, sizeof rows2);
+        memset(left2, k, sizeof left2);
+        memset(right2, k, sizeof right2);
+        double t1 = now();
+        if (t1 - t0 < least) least = t1 - t0;
+    }
+    return least;
+}
+
+static void say(const char *entry, const char *name, u32 d, u32 g, double ra, double ca, size_t rows, int same) {
+    if (!same) different++;
+    printf("%-6s %-12s d=%-5u g=%-3u ratio %5.2f  (goal 1.3)  %8.3f / %8.3f ms  %6.1f memsets  %7zu rows%s\n", entry, name, d, g, ra / ca, ra * 1e3, ca * 1e3, ra / memset_time(), rows, same ? "" : "  DIFFERENT");
+    fflush(stdout);
+}
+
 // rattle and C in turn
 static void race_audit(const char *name, u32 d, u32 g) {
     Head head = {W, d, ROOM};
@@ -58,14 +78,11 @@ static void race_audit(const char *name, u32 d, u32 g) {
         if (t1 - t0 < ra) ra = t1 - t0;
         if (t2 - t1 < ca) ca = t2 - t1;
     }
-    if (x != 0 || y != 0) different++;
-    printf("audit %-12s d=%-5u g=%-3u ratio %5.2f  (goal 1.3)  %8.3f / %8.3f ms  %7zu rows %8zu runs%s\n", name, d, g, ra / ca, ra * 1e3, ca * 1e3, count, runs, x == 0 && y == 0 ? "" : "  DIFFERENT");
-    fflush(stdout);
+    say("audit", name, d, g, ra, ca, count, x == 0 && y == 0);
 }
 
-// and against one pass of memset over the buffers
 static void race_build(const char *name, u32 d, u32 g) {
-    double ra = 1e9, ca = 1e9, ma = 1e9;
+    double ra = 1e9, ca = 1e9;
     Answer x = {9, {0, 0, 0}, 0, 0};
     size_t y = 0;
     for (int k = 0; k < 5; k++) {
@@ -78,17 +95,7 @@ static void race_build(const char *name, u32 d, u32 g) {
         if (t2 - t1 < ca) ca = t2 - t1;
     }
     int same = x.kind == 0 && x.first == y && !memcmp(rows, rows2, sizeof rows) && !memcmp(left, left2, sizeof left) && !memcmp(right, right2, sizeof right);
-    for (int k = 0; k < 5; k++) {
-        double t0 = now();
-        memset(rows2, k, sizeof rows2);
-        memset(left2, k, sizeof left2);
-        memset(right2, k, sizeof right2);
-        double t1 = now();
-        if (t1 - t0 < ma) ma = t1 - t0;
-    }
-    if (!same) different++;
-    printf("build %-12s d=%-5u g=%-3u ratio %5.2f  (goal 1.3)  %8.3f / %8.3f ms  %5.1f memsets  %7zu rows%s\n", name, d, g, ra / ca, ra * 1e3, ca * 1e3, ra / ma, y, same ? "" : "  DIFFERENT");
-    fflush(stdout);
+    say("build", name, d, g, ra, ca, y, same);
 }
 
 // by 1 %; both judge the old index and the values, then extend
@@ -111,9 +118,7 @@ static void race_extend(const char *name, u32 d, u32 g) {
         if (t2 - t1 < ca) ca = t2 - t1;
     }
     int same = x.kind == 0 && x.first == y && !memcmp(rows, rows2, sizeof rows) && !memcmp(left, left2, sizeof left) && !memcmp(right, right2, sizeof right);
-    if (!same) different++;
-    printf("extend %-11s d=%-5u g=%-3u ratio %5.2f  (goal 1.3)  %8.3f / %8.3f ms  %7zu rows, %zu before%s\n", name, d, g, ra / ca, ra * 1e3, ca * 1e3, y, count, same ? "" : "  DIFFERENT");
-    fflush(stdout);
+    say("extend", name, d, g, ra, ca, y, same);
 }
 
 int main(void) {
