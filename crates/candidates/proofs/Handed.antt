@@ -1,4 +1,4 @@
--- Runs at the front of two columns, cleared behind, are as they are handed out (`handed`); the offsets found are as many as pass (`found-more`). Assumes nothing.
+-- Runs at the front of two columns, cleared behind, are as they are handed out (`handed`). Assumes nothing.
 use mathlib.Core.Path.{_≡_, refl, sym, ap, _∙_}
 use mathlib.Core.Bool.{Bool, true, false}
 use mathlib.Core.List.{List, [], _∷_, _++_, map}
@@ -6,18 +6,12 @@ use Prim.Native.Nat.{ℕ, _+_, _-_, _≤_}
 use native.Mathlib.Omega.{arith}
 use lib.ListN.{length, take, drop, replicate, length-append, length-drop}
 use lib.Seq.{take-at}
-use mir.Val.{boolByte}
 use Rattle.meaning_numbers.specs.Sum.{bit, count}
 use Rattle.meaning_rows.specs.Runs.{runs, runCount}
 use Rattle.meaning_rows.proofs.Runs.{runs-le}
 use Rattle.meaning_rows.proofs.Columns.{lefts, rights, length-lefts, length-rights}
 use Rattle.meaning_entries.specs.Buffers.{filled}
 use Rattle.candidates.specs.Handed.{Columns, Handed}
-
-pub flag-bit : (t : Bool) → boolByte t ≡ bit t
-unfolding bit
-flag-bit true = refl
-flag-bit false = refl
 
 lefts-are : (l : List (ℕ × ℕ)) → lefts l ≡ map (λ x. x .0) l
 unfolding lefts

@@ -2,3 +2,4 @@
 pub mod Raise
 pub mod Leading
 pub mod Handed
+pub mod Take

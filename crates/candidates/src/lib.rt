@@ -5,11 +5,12 @@ ghost use mathlib.Core.Bool.{true, not, _&&_};
 ghost use mathlib.Core.List.{[], _++_};
 ghost use Prim.Native.Nat.{_+_, _-_, _<_, _≤_, min};
 ghost use lib.ListN.{length, take, drop, replicate};
-ghost use Rattle.meaning_numbers.specs.Sum.{bit};
+ghost use Rattle.meaning_numbers.specs.Sum.{bit, count};
 ghost use Rattle.meaning_rows.specs.Index.{entries};
 ghost use Rattle.meaning_rows.proofs.Columns.{putLeft, putRight};
 ghost use Rattle.meaning_entries.specs.Buffers.{filled};
 ghost use Rattle.candidates.specs.Handed.{stood, Columns, Handed};
+ghost use Rattle.candidates.specs.Take.{TakeReady, Took};
 ghost use Rattle.candidates.specs.Raise.{bump, between, reached, Raised};
 
 // The count of an offset whose window the part admits: one more where it stands at the part's number.
@@ -68,10 +69,11 @@ pub fn raise_runs(
     }
 }
 
-// How many runs and how many candidates were handed out.
+// How many runs and how many candidates were handed out, and whether the last run reaches to the last offset looked at, so that it may go on.
 pub struct Found {
     pub runs: usize,
     pub candidates: usize,
+    pub going: bool,
 }
 
 // Offset `j` taken in behind `k` runs, if it is `here`: it joins the last run where the offset before it is in it, and else begins a run; how many runs there are then.
@@ -94,6 +96,74 @@ pub fn put(here: bool, prev: bool, j: usize, k: usize, left: &mut [u32], right: 
     k + 1
 }
 
+// How many of the `n` offsets from `from` on stand at `p`.
+pub fn count_at(scratch: &[u16], p: u16, from: usize, n: usize) -> u16
+    requires { ⌜ (from + n ≤ length (now scratch)) × (n ≤ 64) ⌝ }
+    ensures { λ r. ⌜ r ≡ count (λ k. stood (now (scratch .entry)) p (from + k)) n ⌝ }
+{
+    let mut found: u16 = 0;
+    let mut k: usize = 0;
+    while k < n {
+        found += (scratch[from + k] == p) as u16;
+        k += 1;
+    }
+    found
+}
+
+// The `n` offsets from `from` on looked at one by one: those that stand at `p` are taken in behind what was handed out.
+pub fn take_each(
+    scratch: &[u16],
+    p: u16,
+    from: usize,
+    n: usize,
+    out: Found,
+    left: &mut [u32],
+    right: &mut [u32],
+) -> Found
+    requires { ⌜ TakeReady (now scratch) from n out (now left) (now right) ⌝ }
+    ensures { λ r. ⌜ Took (stood (now (scratch .entry)) p) from n out r (now (left .entry)) (now (right .entry)) (now (left .exit)) (now (right .exit)) ⌝ }
+{
+    let mut k = out.runs;
+    let mut found = out.candidates;
+    let mut prev = out.going;
+    let mut i: usize = 0;
+    while i < n {
+        let j = from + i;
+        let here = scratch[j] == p;
+        k = put(here, prev, j, k, left, right);
+        found += here as usize;
+        prev = here;
+        i += 1;
+    }
+    Found {
+        runs: k,
+        candidates: found,
+        going: prev,
+    }
+}
+
+// A block of 64 offsets: where none stands at `p`, it is passed over.
+pub fn take_block(
+    scratch: &[u16],
+    p: u16,
+    from: usize,
+    out: Found,
+    left: &mut [u32],
+    right: &mut [u32],
+) -> Found
+    requires { ⌜ TakeReady (now scratch) from 64 out (now left) (now right) ⌝ }
+    ensures { λ r. ⌜ Took (stood (now (scratch .entry)) p) from 64 out r (now (left .entry)) (now (right .entry)) (now (left .exit)) (now (right .exit)) ⌝ }
+{
+    if count_at(scratch, p, from, 64) == 0 {
+        return Found {
+            runs: out.runs,
+            candidates: out.candidates,
+            going: false,
+        };
+    }
+    take_each(scratch, p, from, 64, out, left, right)
+}
+
 // The joined runs of the offsets that stand at `p`, written to the front of `left` and `right`; how many runs and offsets they are.
 pub fn write_runs(
     scratch: &[u16],
@@ -105,21 +175,17 @@ pub fn write_runs(
     requires { ⌜ (offsets ≤ length (now scratch)) × (offsets ≤ length (now left)) × (offsets ≤ length (now right)) × (offsets ≤ 1048576) ⌝ }
     ensures { λ r. ⌜ Columns (stood (now (scratch .entry)) p) offsets (now (left .entry)) (now (right .entry)) (now (left .exit)) (now (right .exit)) (r .runs) (r .candidates) ⌝ }
 {
-    let mut k: usize = 0;
-    let mut found: usize = 0;
-    let mut prev = false;
+    let mut out = Found {
+        runs: 0,
+        candidates: 0,
+        going: false,
+    };
     let mut j: usize = 0;
-    while j < offsets {
-        let here = scratch[j] == p;
-        k = put(here, prev, j, k, left, right);
-        found += here as usize;
-        prev = here;
-        j += 1;
+    while 64 <= offsets - j {
+        out = take_block(scratch, p, j, out, left, right);
+        j += 64;
     }
-    Found {
-        runs: k,
-        candidates: found,
-    }
+    take_each(scratch, p, j, offsets - j, out, left, right)
 }
 
 // Every entry from `from` on is made 0.

@@ -16,7 +16,7 @@ use Rattle.meaning_curves.proofs.Same.{Same}
 use Rattle.meaning_filter.specs.Envelope.{lower, upper}
 use Rattle.meaning_filter.proofs.Envelope.{lower-one, upper-one, envelope}
 use Rattle.meaning_filter.proofs.Bound.{apart, distance-bound}
-use Rattle.distance_normal.specs.Normal.{Normalised}
+use Rattle.distance_normal.specs.Stretch.{Normalised}
 use Rattle.distance_query.specs.Ready.{Envelopes}
 
 -- ---- envelopes

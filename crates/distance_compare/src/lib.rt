@@ -1,18 +1,21 @@
 // The distance of a stretch and a curve where it is at most a threshold: the envelope bound first, then the distance.
 use distance_bound::envelope_bound;
-use distance_normal::normalise;
+use distance_bound::envelope_part;
+use distance_normal::factor;
+use distance_normal::normalise_part;
 use distance_straight::straight;
 use distance_warped::warped_in;
 use values::Sums;
 ghost use mathlib.Core.Path.{_≡_};
 ghost use Prim.Native.Nat.{_+_, _<_, _≤_};
-ghost use Rattle.meaning_curves.specs.Curve.{at, stretch, spread};
+ghost use Rattle.meaning_curves.specs.Curve.{at, stretch};
 ghost use Rattle.meaning_curves.specs.Normal.{normalised};
 ghost use Rattle.meaning_curves.specs.Match.{distance};
 ghost use Rattle.meaning_curves.proofs.Values.{AllIn};
-ghost use Rattle.values.specs.Sums.{AreSums};
+ghost use Rattle.distance_normal.specs.Stretch.{NormalReady};
 ghost use Rattle.distance_query.specs.Ready.{Envelopes};
 ghost use Rattle.distance_compare.specs.Answer.{nearness};
+ghost use Rattle.distance_compare.specs.Within.{NormalWithin};
 
 // Whether a stretch matches, and its distance.
 pub enum Match {
@@ -30,7 +33,29 @@ pub fn near_enough(d: u64, threshold: u64) -> Match
     Match::Yes { distance: d }
 }
 
-// The distance of a curve and the stretch of `s` that starts at `from`, where it is at most the threshold: straight at band 0, else warped, after the envelope bound. `row` is room for a row of the table.
+// The distance of a curve and the stretch of `s` that starts at `from`, where it is at most the threshold: straight at band 0, else warped. `row` is room for a row of the table.
+pub fn measure(
+    s: &[i32],
+    from: usize,
+    curve: &[i32],
+    b: usize,
+    threshold: u64,
+    row: &mut [u64],
+) -> Match
+    requires { do ⌜ from + (← ⟦curve.len()⟧) ≤ (← ⟦s.len()⟧) ⌝ }
+    requires { do ⌜ (0 < (← ⟦curve.len()⟧)) × ((← ⟦curve.len()⟧) ≤ 1024) × ((← ⟦curve.len()⟧) < (← ⟦row.len()⟧)) ⌝ }
+    requires { ⌜ AllIn (now s) × AllIn (now curve) ⌝ }
+    ensures { λ r. do ⌜ r ≡ nearness (distance (stretch (now (s .entry)) from) (at (now (curve .entry))) b (← ⟦curve.len()⟧ .entry)) threshold ⌝ }
+{
+    if b == 0 {
+        let d = straight(s, from, curve, threshold);
+        return near_enough(d, threshold);
+    }
+    let d = warped_in(s, from, curve, b, threshold, row);
+    near_enough(d, threshold)
+}
+
+// The same, after the envelope bound where the distance is warped.
 pub fn compare(
     s: &[i32],
     from: usize,
@@ -47,19 +72,49 @@ pub fn compare(
     requires { do ⌜ Envelopes (now curve) (← ⟦curve.len()⟧) b (now low) (now high) ⌝ }
     ensures { λ r. do ⌜ r ≡ nearness (distance (stretch (now (s .entry)) from) (at (now (curve .entry))) b (← ⟦curve.len()⟧ .entry)) threshold ⌝ }
 {
-    if b == 0 {
-        let d = straight(s, from, curve, threshold);
-        return near_enough(d, threshold);
+    if b != 0 {
+        let bound = envelope_bound(s, from, low, high, threshold);
+        if threshold < bound {
+            return Match::No;
+        }
     }
-    let bound = envelope_bound(s, from, low, high, threshold);
-    if threshold < bound {
-        return Match::No;
-    }
-    let d = warped_in(s, from, curve, b, threshold, row);
-    near_enough(d, threshold)
+    measure(s, from, curve, b, threshold, row)
 }
 
-// The same of the normalised values of a stretch that is not flat, of its sums and its spread. `room` is room for these values.
+// The normalised values of a stretch that is not flat, made block by block into `out`, and their envelope bound where it is at most `limit`; else some number above `limit`, and `out` holds the values so far.
+pub fn normalise_within(
+    s: &[i32],
+    from: usize,
+    t: Sums,
+    a: u64,
+    low: &[i32],
+    high: &[i32],
+    limit: u64,
+    out: &mut [i32],
+) -> u64
+    requires { do ⌜ NormalReady (now s) from (← ⟦out.len()⟧) (t .values) (t .squares) a ⌝ }
+    requires { do ⌜ ((← ⟦low.len()⟧) ≡ (← ⟦out.len()⟧)) × ((← ⟦high.len()⟧) ≡ (← ⟦out.len()⟧)) ⌝ }
+    requires { ⌜ AllIn (now low) × AllIn (now high) ⌝ }
+    ensures { λ r. do ⌜ NormalWithin (stretch (now (s .entry)) from) (← ⟦out.len()⟧ .entry) (now (low .entry)) (now (high .entry)) limit r (now (out .exit)) ⌝ }
+{
+    let m = out.len();
+    let f = factor(a);
+    let mut total: u64 = 0;
+    let mut i: usize = 0;
+    while 16 <= m - i {
+        normalise_part(s, from, t, a, f, i, 16, out);
+        let end = i + 16;
+        total += envelope_part(&out[..end], 0, low, high, i, 16);
+        if limit < total {
+            return total;
+        }
+        i = end;
+    }
+    normalise_part(s, from, t, a, f, i, m - i, out);
+    total + envelope_part(&out[..m], 0, low, high, i, m - i)
+}
+
+// The distance of a curve and the normalised values of a stretch that is not flat, of its sums and its spread, where it is at most the threshold. Values are normalised only as far as the envelope bound lets them. `room` is room for these values.
 pub fn compare_normal(
     s: &[i32],
     from: usize,
@@ -73,15 +128,15 @@ pub fn compare_normal(
     room: &mut [i32],
     row: &mut [u64],
 ) -> Match
-    requires { do ⌜ from + (← ⟦curve.len()⟧) ≤ (← ⟦s.len()⟧) ⌝ }
-    requires { do ⌜ (0 < (← ⟦curve.len()⟧)) × ((← ⟦curve.len()⟧) ≤ 1024) ⌝ }
+    requires { do ⌜ NormalReady (now s) from (← ⟦curve.len()⟧) (t .values) (t .squares) a ⌝ }
+    requires { do ⌜ (0 < (← ⟦curve.len()⟧)) × AllIn (now curve) ⌝ }
     requires { do ⌜ ((← ⟦room.len()⟧) ≡ (← ⟦curve.len()⟧)) × ((← ⟦curve.len()⟧) < (← ⟦row.len()⟧)) ⌝ }
-    requires { ⌜ AllIn (now s) × AllIn (now curve) ⌝ }
     requires { do ⌜ Envelopes (now curve) (← ⟦curve.len()⟧) b (now low) (now high) ⌝ }
-    requires { do ⌜ AreSums (now s) from (← ⟦curve.len()⟧) (t .values) (t .squares) ⌝ }
-    requires { do ⌜ (a ≡ spread (stretch (now s) from) (← ⟦curve.len()⟧)) × (0 < a) ⌝ }
     ensures { λ r. do ⌜ r ≡ nearness (distance (normalised (stretch (now (s .entry)) from) (← ⟦curve.len()⟧ .entry)) (at (now (curve .entry))) b (← ⟦curve.len()⟧ .entry)) threshold ⌝ }
 {
-    normalise(s, from, t, a, room);
-    compare(room, 0, curve, low, high, b, threshold, row)
+    let bound = normalise_within(s, from, t, a, low, high, threshold, room);
+    if threshold < bound {
+        return Match::No;
+    }
+    measure(room, 0, curve, b, threshold, row)
 }

@@ -1,2 +1,3 @@
--- A normalised value by one multiplication and one test.
+-- A normalised value by one multiplication and one test, and the normalised values of a stretch.
 pub mod Normal
+pub mod Stretch

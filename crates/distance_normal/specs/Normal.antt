@@ -1,14 +1,12 @@
 -- A normalised value by one multiplication and one test. With F the root of 2^62 / A, and g = 100 × |c| below 2^31, the number e = g × F / 2^31 is the cut or one less than it (`estimate`): it is never too large, since F² × A ≤ 2^62, and e + 2 always is, since 2^62 < (F + 1)² × A.
 -- The cut is determined by its two inequalities (`cut-same`). Assumes nothing.
 use mathlib.Core.Path.{_≡_, refl, ap}
-use mathlib.Core.List.{List}
 use Prim.Native.Nat.{ℕ, zero, suc, _+_, _-_, _*_, _/_, _<_, _≤_}
 use mathlib.Core.Bool.{Bool, true, false, not}
 use native.Mathlib.Omega.{arith}
 use lib.Dec.{T, leb, leb→le, nleb→lt}
 use mir.Val.{boolByte}
 use native.Mathlib.Nat.{add-zero, mul-le-mul, mul-le-mul-left, mul-le-mul-right, le-div-iff-mul-le, div-lt-iff-lt-mul}
-use lib.ListN.{length, getD}
 use lib.IntN.{ℤ, pos, negsuc, negℤ, natAbs, _-ℤ_}
 use Rattle.meaning_numbers.proofs.Rep.{Rep, zarith, rep-pos, rep-sub, rep-by, rep-eq}
 use Rattle.meaning_numbers.specs.Root.{root}
@@ -16,8 +14,6 @@ use Rattle.meaning_numbers.proofs.Root.{sq-le, le-of-sq-le, root-is}
 use Rattle.meaning_curves.specs.Curve.{spread}
 use Rattle.meaning_curves.specs.Normal.{centred, cut, signed, normalised}
 use Rattle.meaning_curves.proofs.Normal.{cut-is, cut-only}
-use Rattle.meaning_curves.proofs.Sizes.{normal-small}
-use Rattle.meaning_curves.proofs.Values.{InLimits, AllIn, all-in}
 
 -- a normalised value, of the spread A and the centred value c
 unfoldable pub normal : ℕ → ℤ → ℤ
@@ -97,19 +93,6 @@ cut-same c some h = cut-only (record { low = h .low; high = h .high }) (cut-is c
 
 pub cut-small : {A d t : ℕ} → 0 < A → CutOf A d t → t ≤ 100 * d
 cut-small {A} {d} {t} some h = size-le A t (100 * d) some (h .low)
-
--- ---- a whole stretch
-
-pub record Normalised (s : ℕ → ℤ) (m : ℕ) (out : List ℤ) : Type 0 where
-  pub long : length out ≡ m
-  pub at : (k : ℕ) → k < m → getD out k (pos 0) ≡ normalised s m k
-
-in-size : (x : ℤ) → natAbs x ≤ 3200 → InLimits x
-in-size (pos n) h = record { low = omega zarith; high = omega zarith }
-in-size (negsuc n) h = record { low = omega zarith; high = omega zarith }
-
-pub normalised-in : {s : ℕ → ℤ} {m : ℕ} {out : List ℤ} → 0 < spread s m → m ≤ 1024 → Normalised s m out → AllIn out
-normalised-in {s} {m} {out} some short h = all-in out (λ k l. let b : k < m = omega (arith, h .long) in rw (h .at k b) (in-size _ (normal-small s m k some b short)))
 
 pub centred-diff : {c : ℤ} {a b : ℕ} → Rep c a b → pos a -ℤ pos b ≡ c
 centred-diff {c} {a} {b} h = rep-eq (rep-sub (rep-pos a) (rep-pos b)) h (omega arith)

@@ -5,10 +5,9 @@ use values::Sums;
 ghost use mathlib.Core.Path.{_≡_};
 ghost use Prim.Native.Nat.{_+_, _<_, _≤_};
 ghost use lib.IntN.{pos, _-ℤ_};
-ghost use Rattle.meaning_curves.specs.Curve.{stretch, spread};
-ghost use Rattle.meaning_curves.proofs.Values.{AllIn};
-ghost use Rattle.values.specs.Sums.{AreSums};
-ghost use Rattle.distance_normal.specs.Normal.{IsFactor, CutOf, normal, Normalised};
+ghost use Rattle.meaning_curves.specs.Curve.{stretch};
+ghost use Rattle.distance_normal.specs.Normal.{IsFactor, CutOf, normal};
+ghost use Rattle.distance_normal.specs.Stretch.{NormalReady, NormalPart, Normalised};
 
 // The root of 2^62 / a, by which a stretch of the spread `a` is normalised.
 pub fn factor(a: u64) -> u64
@@ -52,23 +51,40 @@ pub fn normal_of(x: u64, p: u64, a: u64, f: u64) -> i32
     if x < p { 0 - t } else { t }
 }
 
-// The normalised values of the stretch of `out.len()` values that starts at `from`, of its sums and its spread.
+// The `n` normalised values from place `p` on of the stretch of `out.len()` values that starts at `from`, of its sums, its spread and its factor.
+pub fn normalise_part(
+    s: &[i32],
+    from: usize,
+    t: Sums,
+    a: u64,
+    f: u64,
+    p: usize,
+    n: usize,
+    out: &mut [i32],
+)
+    requires { do ⌜ NormalReady (now s) from (← ⟦out.len()⟧) (t .values) (t .squares) a ⌝ }
+    requires { ⌜ IsFactor a f ⌝ }
+    requires { do ⌜ p + n ≤ (← ⟦out.len()⟧) ⌝ }
+    ensures { λ r. do ⌜ NormalPart (stretch (now (s .entry)) from) (← ⟦out.len()⟧ .entry) p n (now (out .entry)) (now (out .exit)) ⌝ }
+{
+    let m = out.len();
+    let sum = t.values;
+    let mut k: usize = 0;
+    while k < n {
+        let j = p + k;
+        let x = s[from + j];
+        let v = (m as u64) * raise(x);
+        out[j] = normal_of(v, sum, a, f);
+        k += 1;
+    }
+}
+
+// All normalised values of that stretch.
 pub fn normalise(s: &[i32], from: usize, t: Sums, a: u64, out: &mut [i32])
-    requires { do ⌜ from + (← ⟦out.len()⟧) ≤ (← ⟦s.len()⟧) ⌝ }
-    requires { do ⌜ (← ⟦out.len()⟧) ≤ 1024 ⌝ }
-    requires { ⌜ AllIn (now s) ⌝ }
-    requires { do ⌜ AreSums (now s) from (← ⟦out.len()⟧) (t .values) (t .squares) ⌝ }
-    requires { do ⌜ (a ≡ spread (stretch (now s) from) (← ⟦out.len()⟧)) × (0 < a) ⌝ }
+    requires { do ⌜ NormalReady (now s) from (← ⟦out.len()⟧) (t .values) (t .squares) a ⌝ }
     ensures { λ r. do ⌜ Normalised (stretch (now (s .entry)) from) (← ⟦out.len()⟧ .entry) (now (out .exit)) ⌝ }
 {
     let m = out.len();
     let f = factor(a);
-    let p = t.values;
-    let mut j: usize = 0;
-    while j < m {
-        let x = s[from + j];
-        let v = (m as u64) * raise(x);
-        out[j] = normal_of(v, p, a, f);
-        j += 1;
-    }
+    normalise_part(s, from, t, a, f, 0, m, out);
 }

@@ -16,7 +16,7 @@ use Rattle.meaning_filter.specs.declared.Kind.the-variants.{Raw, Normal}
 use Rattle.meaning_filter.specs.Envelope.{lower, upper}
 use Rattle.numbers.specs.Raised.{raised}
 use Rattle.values.specs.Copy.{Copied}
-use Rattle.distance_normal.specs.Normal.{Normalised, normalised-in}
+use Rattle.distance_normal.specs.Stretch.{Normalised, normalised-in}
 use Rattle.distance_envelope.specs.Envelope.{IsEnvelope}
 
 -- the envelopes of a curve of m values at the band b

@@ -6,6 +6,7 @@ use native.Mathlib.Omega.{arith}
 use native.Mathlib.Numerals.{add-one}
 use native.Mathlib.Nat.{le-step}
 use native.Mathlib.Decide.{decLt}
+use mir.Val.{boolByte}
 use Rattle.meaning_numbers.specs.Sum.{bit, count}
 
 pub bit-le : (b : Bool) → bit b ≤ 1
@@ -25,6 +26,12 @@ pub false-bit : (b : Bool) → bit b ≡ 0 → b ≡ false
 unfolding bit
 false-bit true h = absurd (omega arith)
 false-bit false h = refl
+
+-- a flag cast to a number
+pub flag-bit : (b : Bool) → boolByte b ≡ bit b
+unfolding bit
+flag-bit true = refl
+flag-bit false = refl
 
 pub bit-not : (b : Bool) → bit (not b) + bit b ≡ 1
 unfolding bit

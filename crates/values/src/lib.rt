@@ -3,13 +3,15 @@ use numbers::in_limits;
 use numbers::lower;
 use numbers::raise;
 ghost use mathlib.Core.Path.{_≡_};
+ghost use mathlib.Core.Bool.{not};
 ghost use Prim.Native.Nat.{_+_, _<_, _≤_};
-ghost use Rattle.meaning_numbers.specs.Sum.{Σℕ};
-ghost use Rattle.meaning_curves.specs.Limits.{firstOutside};
+ghost use lib.ListN.{length};
+ghost use Rattle.meaning_numbers.specs.Sum.{Σℕ, count};
+ghost use Rattle.meaning_curves.specs.Limits.{valueIn, firstOutside};
 ghost use Rattle.meaning_curves.specs.Curve.{stretch, windowSum, spread};
 ghost use Rattle.meaning_curves.proofs.Values.{AllIn};
 ghost use Rattle.numbers.specs.Raised.{raised};
-ghost use Rattle.values.specs.Place.{placed};
+ghost use Rattle.values.specs.Place.{placed, InTo};
 ghost use Rattle.values.specs.Sums.{AreSums};
 ghost use Rattle.values.specs.Copy.{Copied};
 
@@ -19,11 +21,28 @@ pub enum Place {
     Nowhere,
 }
 
-// The place of the first value outside its limits.
-pub fn first_outside(s: &[i32]) -> Place
+// How many of the `n` values from `from` on are outside their limits.
+pub fn count_outside(s: &[i32], from: usize, n: usize) -> u32
+    requires { do ⌜ from + n ≤ (← ⟦s.len()⟧) ⌝ }
+    requires { ⌜ n ≤ 1024 ⌝ }
+    ensures { λ r. ⌜ r ≡ count (λ k. not (valueIn (stretch (now (s .entry)) from k))) n ⌝ }
+{
+    let mut found: u32 = 0;
+    let mut k: usize = 0;
+    while k < n {
+        let x = s[from + k];
+        found += !in_limits(x) as u32;
+        k += 1;
+    }
+    found
+}
+
+// The place of the first value outside its limits, where none before `from` is.
+pub fn outside_from(s: &[i32], from: usize) -> Place
+    requires { ⌜ (from ≤ length (now s)) × InTo (now s) from ⌝ }
     ensures { λ r. ⌜ r ≡ placed (firstOutside (now (s .entry))) ⌝ }
 {
-    let mut i: usize = 0;
+    let mut i = from;
     while i < s.len() {
         let x = s[i];
         if !in_limits(x) {
@@ -32,6 +51,20 @@ pub fn first_outside(s: &[i32]) -> Place
         i += 1;
     }
     Place::Nowhere
+}
+
+// The place of the first value outside its limits. Most series have none: a block is counted without a jump, and looked through only where one is outside.
+pub fn first_outside(s: &[i32]) -> Place
+    ensures { λ r. ⌜ r ≡ placed (firstOutside (now (s .entry))) ⌝ }
+{
+    let mut i: usize = 0;
+    while 256 <= s.len() - i {
+        if count_outside(s, i, 256) != 0 {
+            return outside_from(s, i);
+        }
+        i += 256;
+    }
+    outside_from(s, i)
 }
 
 // The sum of the raised values of the stretch of `m` values that starts at `from`.

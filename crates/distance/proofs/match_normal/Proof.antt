@@ -54,7 +54,10 @@ compare-normal-requires c κs =
     let p = o d .pre .1 in
     let ready = p .1 .1 .1 .1 in
     let like = e .before .alike .ensures .yes (not-false _ (e .if1 .left)) in
-    rw (ready .curve-is .long) (o d .pre .0, (p .0, (p .1 .0, ((p .1 .1 .0 .0, ready .curve-is .inside), (ready .envelopes, (p .1 .1 .1 .0, (d .spread-of .ensures, like .not-flat)))))))
+    rw (ready .curve-is .long) (
+      record { in-series = o d .pre .0; short = p .0 .1; values-in = p .1 .1 .0 .0; sums = p .1 .1 .1 .0; spread-is = d .spread-of .ensures; some = like .not-flat },
+      ((p .0 .0, ready .curve-is .inside), (p .1 .0, ready .envelopes)),
+    )
 
 returns-2 : tie.Need-returns-2
 returns-2 c =

@@ -2,7 +2,6 @@
 use borrow.Author.Needs.{needs}
 use mathlib.Core.Path.{_≡_}
 use native.Mathlib.Omega.{arith}
-use native.Mathlib.Nat.{zero-add}
 use Rattle.meaning_filter.specs.declared.Kind.the-variants.{Raw, Normal}
 use Rattle.distance_query.specs.Ready.{raw-curve, normal-curve}
 use Rattle.distance_query.proofs.curve_of.Statement.{statement}
@@ -18,7 +17,7 @@ normalise-requires : tie.Need-normalise-requires
 normalise-requires c κs =
     let o = c .before .before .before in
     let p = o .pre in
-    rw (p .0, zero-add) (omega arith, (p .1 .0, (p .1 .1 .0, (p .1 .1 .1 .0, (p .1 .1 .1 .1 .0, p .1 .1 .1 .1 .1 (normal (c .before)))))))
+    rw (p .0) (record { in-series = omega arith; short = p .1 .0; values-in = p .1 .1 .0; sums = p .1 .1 .1 .0; spread-is = p .1 .1 .1 .1 .0; some = p .1 .1 .1 .1 .1 (normal (c .before)) })
 
 returns : tie.Need-returns
 returns c = let t = c .before .before .before in rw (raw t) (raw-curve (t .before .before .pre .1 .1 .0) (c .before .copy-values .ensures))

@@ -1,45 +1,44 @@
--- `values::first_outside` meets its contract. The invariant: every value passed is in its limits. Assumes nothing.
+-- `values::first_outside` meets its contract. The invariant: every value passed is in its limits; a block that counts none adds its values (`block-in`). Assumes nothing.
 use borrow.Author.Needs.{needs}
-use borrow.Author.Count.{below-more}
-use borrow.Author.Tests.{not-true, not-false}
-use mathlib.Core.Path.{_≡_, sym, ap, subst, _∙_}
-use Prim.Native.Nat.{ℕ, _-_, _≤_, _<_}
+use borrow.Author.Tests.{not-false}
+use mathlib.Core.Path.{_≡_, sym, subst}
+use mathlib.Core.Bool.{not}
+use mathlib.Core.List.{List}
+use Prim.Native.Nat.{ℕ, _+_, _-_, _≤_, _<_}
 use native.Mathlib.Omega.{arith}
+use native.Mathlib.Decide.{decLt}
 use lib.Dec.{T}
+use lib.IntN.{ℤ}
 use lib.ListN.{length}
-use mir.Syntax.{w32}
-use mir.ValLaws.{toZ-ofZ}
-use Rattle.meaning_curves.specs.Curve.{at}
+use Rattle.meaning_numbers.specs.Sum.{count}
+use Rattle.meaning_numbers.proofs.Count.{never-count}
+use Rattle.meaning_curves.specs.Curve.{at, stretch}
 use Rattle.meaning_curves.specs.Limits.{valueIn}
-use Rattle.meaning_curves.proofs.Limits.{outside-is, in-values}
-use Rattle.meaning_curves.proofs.Values.{no-value}
-use Rattle.values.specs.Place.{placed}
+use Rattle.values.specs.Place.{InTo}
 use Rattle.values.proofs.first_outside.Statement.{statement}
 use Rattle.values.proofs.first_outside.Tie as tie
 
+block-in : (s : List ℤ) (i n : ℕ) → InTo s i → count (λ k. not (valueIn (stretch s i k))) n ≡ 0 → InTo s (i + n)
+block-in s i n h none = record {
+  inside = λ k l. elim (decLt k i) [
+    | yes b ↦ h .inside k b
+    | no f ↦
+        let e : i + (k - i) ≡ k = omega arith in
+        let v = never-count (λ j. not (valueIn (stretch s i j))) n none (k - i) (omega arith) in
+        rw e at (subst T (sym (not-false (valueIn (stretch s i (k - i))) v)) tt)
+  ];
+}
+
 abbrev Inv-loop : tie.InvT-loop
-Inv-loop s i₀ i = (i ≤ length s) × ((k : ℕ) → k < i → T (valueIn (at s k)))
+Inv-loop s i₀ i = (i ≤ length s) × InTo s i
 
 abbrev μ-loop : tie.MeasureT-loop
 μ-loop s i₀ i = length s - i
 
--- the answer speaks of the value at i
-told : (c : tie.After-in-limits Inv-loop μ-loop) → let l = c .before .before .before in c .in-limits .result ≡ valueIn (at (l .before .args .s .now) (l .loop .i))
-told c =
-    let l = c .before .before .before in
-    c .in-limits .ensures ∙ ap valueIn (toZ-ofZ w32 (at (l .before .args .s .now) (l .loop .i)) (search needs))
-
-returns : tie.Need-returns Inv-loop μ-loop
-returns c =
-    let l = c .before .before .before .before in
-    sym (ap placed (outside-is (record { there = omega arith; outside = no-value _ (sym (told (c .before)) ∙ not-true _ (c .if1 .taken)); before = l .loop .inv .1 })))
-
 loop-again : tie.Need-loop-again Inv-loop μ-loop
 loop-again c =
-    (omega arith, below-more _ _ (c .before .before .before .before .loop .inv .1) (subst T (sym (not-false _ (c .if1 .left)) ∙ told (c .before)) tt))
-
-returns-2 : tie.Need-returns-2 Inv-loop μ-loop
-returns-2 c = sym (ap placed (in-values (c .before .before .args .s .now) (λ k l. c .before .loop .inv .1 k (omega arith))))
+    let l = c .before .before .before in
+    (omega arith, block-in (l .before .args .s .now) (l .loop .i) 256 (l .loop .inv .1) (omega (arith, c .before .count-outside .ensures)))
 
 pub first-outside-spec : {M : Type 1} → statement M
 first-outside-spec =
@@ -47,12 +46,13 @@ first-outside-spec =
     (tie.spec
     Inv-loop
     μ-loop
-    (λ c. (omega arith, λ k l. absurd (omega arith)))
-    (λ c. omega arith)
+    (λ c. (omega arith, record { inside = λ k l. absurd (omega arith) }))
     (λ c. omega arith)
     (λ c κs. search needs)
-    returns
+    (λ c κs. search needs)
+    (λ c. search needs)
     (λ c. omega arith)
     (λ c. omega arith)
     loop-again
-    returns-2)
+    (λ c κs. search needs)
+    (λ c. search needs))

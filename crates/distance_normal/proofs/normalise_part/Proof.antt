@@ -1,0 +1,98 @@
+-- `distance_normal::normalise_part` meets its contract. The invariant: the values so far are normalised, and those before stay. Assumes nothing.
+use borrow.Author.Count.{below-more}
+use mathlib.Core.Path.{_≡_, refl, _∙_, sym}
+use Prim.Native.Nat.{ℕ, _+_, _*_, _-_, _≤_, _<_}
+use native.Mathlib.Nat.{mul-le-mul}
+use native.Mathlib.Omega.{arith}
+use lib.ListN.{length, getD, length-set}
+use lib.Seq.{getD-set-same, getD-set-other}
+use lib.IntN.{pos}
+use mir.Syntax.{w32}
+use mir.Val.{toZ, ofZ}
+use mir.ValLaws.{toZ-ofZ}
+use Rattle.meaning_curves.specs.Curve.{stretch}
+use Rattle.meaning_curves.specs.Normal.{normalised}
+use Rattle.numbers.specs.Back.{in-arg, raised-back}
+use Rattle.numbers.specs.Raised.{raised, raised-le}
+use Rattle.values.specs.Sums.{sums-le, spread-bound, centred-raised}
+use Rattle.distance_normal.specs.Normal.{normalised-is}
+use Rattle.distance_normal.specs.Stretch.{NormalPart}
+use Rattle.distance_normal.proofs.normalise_part.Statement.{statement}
+use Rattle.distance_normal.proofs.normalise_part.Tie as tie
+
+abbrev Inv-loop : tie.InvT-loop
+Inv-loop s from a f p n out₀ m sum k₀ out k = (k ≤ n) × NormalPart (stretch s from) m p k out₀ out
+
+abbrev μ-loop : tie.MeasureT-loop
+μ-loop s from a f p n out₀ m sum k₀ out k = n - k
+
+module _ (c : tie.After-raise Inv-loop μ-loop) where
+  abbrev start : tie.Start Inv-loop μ-loop
+  start = c .before .before .before .before
+
+  abbrev here : ℕ
+  here = start .args .p + c .before .before .before .loop .k
+
+  abbrev m : ℕ
+  m = length (start .args .out .now)
+
+  told : c .raise .result ≡ raised (stretch (start .args .s .now) (start .args .from) here)
+  told = c .raise .ensures ∙ raised-back (start .pre .0 .values-in .at _)
+
+  at-most : c .raise .result ≤ 20000
+  at-most = rw told (raised-le (start .pre .0 .values-in .at _))
+
+  small : m * c .raise .result ≤ 20480000
+  small = omega (arith, mul-le-mul (start .pre .0 .short) at-most)
+
+normal-of-requires : tie.Need-normal-of-requires Inv-loop μ-loop
+normal-of-requires c κs =
+    let r = start c .pre .0 in
+    let l = sums-le (r .values-in) (r .sums) in
+    (small c, (omega (arith, r .short), (r .some, (omega (arith, spread-bound (r .values-in) (r .sums) (r .short), r .spread-is), start c .pre .1 .0))))
+
+stored : (c : tie.After-normal-of Inv-loop μ-loop) → let b = c .before in
+    toZ w32 (ofZ w32 (c .normal-of .result)) ≡ normalised (stretch (start b .args .s .now) (start b .args .from)) (m b) (here b)
+stored c =
+    let b = c .before in
+    let r = start b .pre .0 in
+    toZ-ofZ w32 (c .normal-of .result) (record { sfits = c .normal-of .ok })
+    ∙ c .normal-of .ensures
+    ∙ normalised-is (stretch (start b .args .s .now) (start b .args .from)) (m b) (here b) (r .spread-is) (rw (sym (told b)) at (centred-raised (here b) (r .values-in) (r .sums)))
+
+loop-again : tie.Need-loop-again Inv-loop μ-loop
+loop-again c =
+    let l = c .before .before .before .before in
+    let out = l .loop .out in
+    let j = here (c .before) in
+    let v = l .loop .inv .1 in
+    let room : j < length out = omega (arith, v .long) in (
+      omega arith,
+      record {
+        long = simp length-set (v .long);
+        kept = λ k h. getD-set-other out j k _ (pos 0) (λ e. omega arith) ∙ v .kept k h;
+        made = below-more _ (l .loop .k) (λ k h. getD-set-other out j (start (c .before) .args .p + k) _ (pos 0) (λ e. omega arith) ∙ v .made k h) (getD-set-same out j _ (pos 0) room ∙ stored c);
+      },
+    )
+
+pub normalise-part-spec : {M : Type 1} → statement M
+normalise-part-spec =
+    tie.close
+    (tie.spec
+    Inv-loop
+    μ-loop
+    (λ c. (omega arith, record { long = refl; kept = λ k h. refl; made = λ k h. absurd (omega arith) }))
+    (λ c. omega (arith, c .before .before .pre .0 .in-series))
+    (λ c. omega (arith, c .before .before .pre .0 .in-series))
+    (λ c. omega (arith, c .before .before .pre .0 .in-series))
+    (λ c. omega (arith, c .before .before .pre .0 .in-series))
+    (λ c κs. in-arg (c .before .before .before .pre .0 .values-in .at _))
+    (λ c. omega (arith, small c))
+    normal-of-requires
+    (λ c. omega arith)
+    (λ c. omega (arith, c .before .before .before .before .loop .inv .1 .long))
+    (λ c. omega arith)
+    (λ c. omega arith)
+    loop-again
+    (λ c. c .before .loop .inv .1 .long)
+    (λ c. let e : c .before .loop .k ≡ c .before .before .args .n = omega arith in rw e at (c .before .loop .inv .1)))

@@ -1,0 +1,58 @@
+-- `values::outside_from` meets its contract. The invariant: every value passed is in its limits, and so is every value before. Assumes nothing.
+use borrow.Author.Needs.{needs}
+use borrow.Author.Count.{below-more}
+use borrow.Author.Tests.{not-true, not-false}
+use mathlib.Core.Path.{_≡_, sym, ap, subst, _∙_}
+use Prim.Native.Nat.{ℕ, _-_, _≤_, _<_}
+use native.Mathlib.Omega.{arith}
+use lib.Dec.{T}
+use lib.ListN.{length}
+use mir.Syntax.{w32}
+use mir.ValLaws.{toZ-ofZ}
+use Rattle.meaning_curves.specs.Curve.{at}
+use Rattle.meaning_curves.specs.Limits.{valueIn}
+use Rattle.meaning_curves.proofs.Limits.{outside-is, in-values}
+use Rattle.meaning_curves.proofs.Values.{no-value}
+use Rattle.values.specs.Place.{placed}
+use Rattle.values.proofs.outside_from.Statement.{statement}
+use Rattle.values.proofs.outside_from.Tie as tie
+
+abbrev Inv-loop : tie.InvT-loop
+Inv-loop s from i₀ i = (i ≤ length s) × ((k : ℕ) → k < i → T (valueIn (at s k)))
+
+abbrev μ-loop : tie.MeasureT-loop
+μ-loop s from i₀ i = length s - i
+
+-- the answer speaks of the value at i
+told : (c : tie.After-in-limits Inv-loop μ-loop) → let l = c .before .before .before in c .in-limits .result ≡ valueIn (at (l .before .args .s .now) (l .loop .i))
+told c =
+    let l = c .before .before .before in
+    c .in-limits .ensures ∙ ap valueIn (toZ-ofZ w32 (at (l .before .args .s .now) (l .loop .i)) (search needs))
+
+returns : tie.Need-returns Inv-loop μ-loop
+returns c =
+    let l = c .before .before .before .before in
+    sym (ap placed (outside-is (record { there = omega arith; outside = no-value _ (sym (told (c .before)) ∙ not-true _ (c .if1 .taken)); before = l .loop .inv .1 })))
+
+loop-again : tie.Need-loop-again Inv-loop μ-loop
+loop-again c =
+    (omega arith, below-more _ _ (c .before .before .before .before .loop .inv .1) (subst T (sym (not-false _ (c .if1 .left)) ∙ told (c .before)) tt))
+
+returns-2 : tie.Need-returns-2 Inv-loop μ-loop
+returns-2 c = sym (ap placed (in-values (c .before .before .args .s .now) (λ k l. c .before .loop .inv .1 k (omega arith))))
+
+pub outside-from-spec : {M : Type 1} → statement M
+outside-from-spec =
+    tie.close
+    (tie.spec
+    Inv-loop
+    μ-loop
+    (λ c. (omega arith, λ k l. c .pre .1 .inside k l))
+    (λ c. omega arith)
+    (λ c. omega arith)
+    (λ c κs. search needs)
+    returns
+    (λ c. omega arith)
+    (λ c. omega arith)
+    loop-again
+    returns-2)
