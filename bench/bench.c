@@ -9,7 +9,7 @@ typedef uint64_t u64;
 #define DECLARE(P)                                                                                                       \
     size_t P##_straight(const i32 *, size_t, const i32 *, size_t, u64, u64 *, size_t);                                   \
     size_t P##_bound(const i32 *, size_t, const i32 *, size_t, const i32 *, size_t, u64, u64 *, size_t);                 \
-    size_t P##_warped(const i32 *, size_t, const i32 *, size_t, size_t, u64, u64 *, size_t);                             \
+    size_t P##_warped(const i32 *, size_t, const i32 *, size_t, size_t, u64, i32 *, size_t, i32 *, size_t, u64 *, size_t); \
     size_t P##_normal(const i32 *, size_t, i32 *, size_t, u64 *, size_t);                                                \
     u64 P##_root(u64);
 DECLARE(curve)
@@ -86,9 +86,9 @@ int main(void) {
         snprintf(name, sizeof name, "bound m=%d b=%d left early", m, b);
         RACE(name, (double)stretches * 16, "1.2", curve_bound(s, n, low, m, high, m, 1000000, o1, N), plain_bound(s, n, low, m, high, m, 1000000, o2, N));
         snprintf(name, sizeof name, "warped m=%d b=%d whole", m, b);
-        RACE(name, cells, "1.2", curve_warped(s, nw, q, m, b, ~0ull, o1, N), plain_warped(s, nw, q, m, b, ~0ull, o2, N));
+        RACE(name, cells, "1.2", curve_warped(s, nw, q, m, b, ~0ull, v1, m, w1, m, o1, N), plain_warped(s, nw, q, m, b, ~0ull, v2, m, w2, m, o2, N));
         snprintf(name, sizeof name, "warped m=%d b=%d left early", m, b);
-        RACE(name, cells, "1.2", curve_warped(s, nw, q, m, b, 100000000, o1, N), plain_warped(s, nw, q, m, b, 100000000, o2, N));
+        RACE(name, cells, "1.2", curve_warped(s, nw, q, m, b, 100000000, v1, m, w1, m, o1, N), plain_warped(s, nw, q, m, b, 100000000, v2, m, w2, m, o2, N));
         snprintf(name, sizeof name, "normalised m=%d", m);
         RACE(name, (double)stretches * m, "1.5", curve_normal(s, n, v1, m, o1, N), plain_normal(s, n, v2, m, o2, N));
         snprintf(name, sizeof name, "envelopes m=%d b=%d", m, b);

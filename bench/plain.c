@@ -7,8 +7,11 @@ typedef int64_t i64;
 typedef uint64_t u64;
 
 static int all_in(const i32 *s, size_t n) {
-    for (size_t i = 0; i < n; i++)
-        if (s[i] < -10000 || s[i] > 10000) return 0;
+    for (size_t i = 0; i < n; i += 256) { // a block has no jump but its end
+        u32 out = 0;
+        for (size_t k = i; k < n && k < i + 256; k++) out += (u32)(s[k] + 10000) > 20000;
+        if (out) return 0;
+    }
     return 1;
 }
 
@@ -62,10 +65,15 @@ size_t plain_bound(const i32 *s, size_t n, const i32 *l, size_t m, const i32 *h,
     return at;
 }
 
+void plain_envelopes(const i32 *, size_t, size_t, i32 *, i32 *);
 #define BIG 819200000000ull
 static inline u64 lesser(u64 a, u64 b) { return a < b ? a : b; }
 
-static u64 warped(const i32 *s, const i32 *q, size_t m, size_t b, u64 limit, u64 *row) {
+// the envelope bound first; a row is left with the bound of the rows after it
+static u64 warped(const i32 *s, const i32 *q, const i32 *l, const i32 *h, size_t m, size_t b, u64 limit, u64 *row) {
+    u64 rest = bound(s, l, h, m, limit);
+    if (rest > limit) return rest;
+    rest -= outside(l[0], h[0], s[0]);
     for (size_t k = 0; k <= m; k++) row[k] = BIG;
     size_t hi = b < m ? b + 1 : m;
     u64 left = 0;
@@ -84,16 +92,18 @@ static u64 warped(const i32 *s, const i32 *q, size_t m, size_t b, u64 limit, u64
             least = lesser(left, least);
             row[j + 1] = left;
         }
-        if (least > limit) return least;
+        rest -= outside(l[k], h[k], x);
+        if (least + rest > limit) return least + rest;
     }
     return row[m];
 }
 
-size_t plain_warped(const i32 *s, size_t n, const i32 *q, size_t m, size_t b, u64 limit, u64 *out, size_t room) {
+size_t plain_warped(const i32 *s, size_t n, const i32 *q, size_t m, size_t b, u64 limit, i32 *low, size_t lm, i32 *high, size_t hm, u64 *out, size_t room) {
     u64 row[1025];
-    if (!fits(s, n, m, room) || !all_in(q, m)) return 0;
+    if (lm != m || hm != m || !fits(s, n, m, room) || !all_in(q, m)) return 0;
+    plain_envelopes(q, m, b, low, high);
     size_t at = 0;
-    for (; at <= n - m; at++) out[at] = warped(s + at, q, m, b, limit, row);
+    for (; at <= n - m; at++) out[at] = warped(s + at, q, low, high, m, b, limit, row);
     return at;
 }
 
@@ -107,14 +117,16 @@ u64 plain_root(u64 y) {
     return r;
 }
 
+static inline i32 normal(i32 s, size_t m, u64 p, u64 a, u64 f) {
+    u64 x = m * (u64)(s + 10000);
+    u64 d = x < p ? p - x : x - p, g = 100 * d, e = g * f >> 31, u = e + 1;
+    u64 t = u * u * a <= g * g ? u : e;
+    return x < p ? -(i32)t : (i32)t;
+}
+
 static void normalise(const i32 *s, size_t m, u64 p, u64 a, i32 *out) {
     u64 f = plain_root((1ull << 62) / a);
-    for (size_t j = 0; j < m; j++) {
-        u64 x = m * (u64)(s[j] + 10000);
-        u64 d = x < p ? p - x : x - p, g = 100 * d, e = g * f >> 31, u = e + 1;
-        u64 t = u * u * a <= g * g ? u : e;
-        out[j] = x < p ? -(i32)t : (i32)t;
-    }
+    for (size_t j = 0; j < m; j++) out[j] = normal(s[j], m, p, a, f);
 }
 
 size_t plain_normal(const i32 *s, size_t n, i32 *values, size_t m, u64 *out, size_t room) {

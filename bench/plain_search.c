@@ -87,11 +87,21 @@ static void raise_part(const Row *rows, size_t count, const u32 *left, const u32
 // the distance where it is at most the threshold, and 1; else 0
 static int near(const Prepared *p, const i32 *s, u64 *row, u64 *d) {
     u64 e = p->asked.threshold;
-    size_t b = p->asked.band;
-    if (b == 0) { *d = straight(s, p->curve, p->m, e); return *d <= e; }
-    if (bound(s, p->low, p->high, p->m, e) > e) return 0;
-    *d = warped(s, p->curve, p->m, b, e, row);
+    *d = p->asked.band ? warped(s, p->curve, p->low, p->high, p->m, p->asked.band, e, row) : straight(s, p->curve, p->m, e);
     return *d <= e;
+}
+
+// the same of normalised values, made block by block as far as the bound lets them
+static int near_normal(const Prepared *p, const i32 *s, u64 sum, u64 a, i32 *values, u64 *row, u64 *d) {
+    u64 e = p->asked.threshold, total = 0, f = plain_root((1ull << 62) / a);
+    size_t m = p->m;
+    for (size_t i = 0; i < m; i += 16) {
+        size_t end = m - i < 16 ? m : i + 16;
+        for (size_t j = i; j < end; j++) values[j] = normal(s[j], m, sum, a, f);
+        for (size_t j = i; j < end; j++) total += outside(p->low[j], p->high[j], values[j]);
+        if (total > e) return 0;
+    }
+    return near(p, values, row, d);
 }
 
 // the stretches at the offsets from..last are compared, and the matches listed behind the first k; how many there are then
@@ -104,7 +114,7 @@ static u64 compare(const Prepared *p, const i32 *s, size_t n, size_t from, size_
         if (p->asked.kind) {
             u64 a = m * squares - sum * sum, gap = sum < p->values ? p->values - sum : sum - p->values;
             yes = a && 100 * a <= square * p->spread && 100 * p->spread <= square * a && gap <= shift;
-            if (yes) { normalise(s + j, m, sum, a, values); yes = near(p, values, row, &d); }
+            if (yes) yes = near_normal(p, s + j, sum, a, values, row, &d);
             if (j + m < n) { u64 u = s[j] + 10000, v = s[j + m] + 10000; sum = sum + v - u; squares = squares + v * v - u * u; }
         } else yes = near(p, s + j, row, &d);
         if (yes) { if (k < room) { offsets[k] = j; distances[k] = d; } k++; }
@@ -130,11 +140,17 @@ int plain_search(const i32 *s, size_t n, Head h, const Row *rows, size_t count, 
         raise_part(rows, count, left, right, from, to, i * w, stretches, i, scratch);
     }
     int before = 0;
-    for (size_t j = 0; j < stretches; j++) {
-        int here = scratch[j] == parts;
-        if (here) { if (before) last[k - 1] = j; else { first[k] = last[k] = j; k++; } }
-        candidates += here;
-        before = here;
+    for (size_t i = 0; i < stretches; i += 64) { // a block without a candidate is passed over
+        size_t end = stretches - i < 64 ? stretches : i + 64;
+        u16 some = 0;
+        for (size_t j = i; j < end; j++) some += scratch[j] == parts;
+        if (!some) { before = 0; continue; }
+        for (size_t j = i; j < end; j++) {
+            int here = scratch[j] == parts;
+            if (here) { if (before) last[k - 1] = j; else { first[k] = last[k] = j; k++; } }
+            before = here;
+        }
+        candidates += some;
     }
     memset(first + k, 0, (h.windows - k) * sizeof *first);
     memset(last + k, 0, (h.windows - k) * sizeof *last);

@@ -8,7 +8,7 @@ unsafe extern "C" {
     fn curve_root(y: u64) -> u64;
     fn curve_straight(s: *const i32, n: usize, q: *const i32, m: usize, limit: u64, out: *mut u64, outs: usize) -> usize;
     fn curve_bound(s: *const i32, n: usize, low: *const i32, lows: usize, high: *const i32, highs: usize, limit: u64, out: *mut u64, outs: usize) -> usize;
-    fn curve_warped(s: *const i32, n: usize, q: *const i32, m: usize, b: usize, limit: u64, out: *mut u64, outs: usize) -> usize;
+    fn curve_warped(s: *const i32, n: usize, q: *const i32, m: usize, b: usize, limit: u64, low: *mut i32, lows: usize, high: *mut i32, highs: usize, out: *mut u64, outs: usize) -> usize;
     fn curve_envelopes(q: *const i32, m: usize, b: usize, low: *mut i32, lows: usize, high: *mut i32, highs: usize) -> bool;
     fn curve_normal(s: *const i32, n: usize, room: *mut i32, m: usize, out: *mut u64, outs: usize) -> usize;
     fn curve_matches(
@@ -67,7 +67,7 @@ impl Test {
 
     fn warped(&mut self, s: &[i32], q: &[i32], b: usize, limit: u64) {
         let (n, m) = (s.len(), q.len());
-        let k = unsafe { curve_warped(s.as_ptr(), n, q.as_ptr(), m, b, limit, self.out.as_mut_ptr(), ROOM) };
+        let k = unsafe { curve_warped(s.as_ptr(), n, q.as_ptr(), m, b, limit, self.a.as_mut_ptr(), m, self.b.as_mut_ptr(), m, self.out.as_mut_ptr(), ROOM) };
         let mut good = k == n - m + 1;
         for at in 0..n - m + 1 { let r = self.out[at]; good = self.within(warped(&s[at..at + m], q, b), limit, r) && good }
         self.say(good, "warped", || format!("{s:?} {q:?} {b} {limit}"));
@@ -147,8 +147,9 @@ impl Test {
                 curve_straight(q.as_ptr(), m, bad.as_ptr(), n, 0, o, if n == m { ROOM } else { 0 }),
                 curve_straight(s.as_ptr(), n, q.as_ptr(), 0, 0, o, ROOM),
                 curve_straight(s.as_ptr(), n, q.as_ptr(), m, 0, o, n - m),
-                curve_warped(bad.as_ptr(), n, q.as_ptr(), m, 0, 0, o, ROOM),
-                curve_warped(s.as_ptr(), n, q.as_ptr(), m, 0, 0, o, n - m),
+                curve_warped(bad.as_ptr(), n, q.as_ptr(), m, 0, 0, self.a.as_mut_ptr(), m, self.b.as_mut_ptr(), m, o, ROOM),
+                curve_warped(s.as_ptr(), n, q.as_ptr(), m, 0, 0, self.a.as_mut_ptr(), m, self.b.as_mut_ptr(), m, o, n - m),
+                curve_warped(s.as_ptr(), n, q.as_ptr(), m, 0, 0, self.a.as_mut_ptr(), m - 1, self.b.as_mut_ptr(), m, o, ROOM),
                 curve_normal(bad.as_ptr(), n, self.a.as_mut_ptr(), m, o, ROOM),
             ]
         };

@@ -1,6 +1,6 @@
 // The envelope bound of a stretch: what its values lie outside an envelope, squared and summed, left early.
 ghost use mathlib.Core.Path.{_≡_};
-ghost use Prim.Native.Nat.{_+_, _≤_};
+ghost use Prim.Native.Nat.{_+_, _<_, _≤_};
 ghost use Rattle.meaning_numbers.specs.Sum.{Σℕ, square};
 ghost use Rattle.meaning_curves.specs.Curve.{at, stretch};
 ghost use Rattle.meaning_curves.proofs.Values.{InLimits, AllIn};
@@ -34,6 +34,20 @@ pub fn outside_squared(low: i32, high: i32, x: i32) -> u64
     d * d
 }
 
+// The same of the value at place `j` of the stretch of `s` that starts at `from`, and of the envelope there.
+pub fn excess_at(s: &[i32], from: usize, low: &[i32], high: &[i32], j: usize) -> u64
+    requires { do ⌜ from + j < (← ⟦s.len()⟧) ⌝ }
+    requires { do ⌜ j < (← ⟦low.len()⟧) ⌝ }
+    requires { do ⌜ j < (← ⟦high.len()⟧) ⌝ }
+    requires { ⌜ AllIn (now s) × AllIn (now low) × AllIn (now high) ⌝ }
+    ensures { λ r. ⌜ r ≡ apart (stretch (now (s .entry)) from) (at (now (low .entry))) (at (now (high .entry))) j ⌝ }
+{
+    let x = s[from + j];
+    let l = low[j];
+    let h = high[j];
+    outside_squared(l, h, x)
+}
+
 // The sum of the squares of what `n` values, from place `p` on of the stretch of `s` that starts at `from`, lie outside the envelope.
 pub fn envelope_part(s: &[i32], from: usize, low: &[i32], high: &[i32], p: usize, n: usize) -> u64
     requires { do ⌜ from + (p + n) ≤ (← ⟦s.len()⟧) ⌝ }
@@ -46,11 +60,7 @@ pub fn envelope_part(s: &[i32], from: usize, low: &[i32], high: &[i32], p: usize
     let mut sum: u64 = 0;
     let mut k: usize = 0;
     while k < n {
-        let j = p + k;
-        let x = s[from + j];
-        let l = low[j];
-        let h = high[j];
-        sum += outside_squared(l, h, x);
+        sum += excess_at(s, from, low, high, p + k);
         k += 1;
     }
     sum

@@ -28,6 +28,7 @@ ghost use Rattle.meaning_curves.specs.Curve.{at, stretch, spread, windowSum};
 ghost use Rattle.meaning_curves.proofs.Values.{AllIn};
 ghost use Rattle.meaning_filter.specs.declared.Kind.{Kind};
 ghost use Rattle.values.specs.Sums.{AreSums};
+ghost use Rattle.distance_envelope.specs.Envelope.{Envelopes};
 ghost use Rattle.distance_query.specs.Ready.{Ready};
 ghost use Rattle.distance_c.specs.Fits.{Fits};
 
@@ -115,30 +116,57 @@ pub extern "C" fn curve_bound(
     at
 }
 
-// The warped distance of `q` from each stretch of `s`, likewise.
+// The warped distance of `q` from each stretch of `s`, of the query's envelopes.
+fn each_warped(
+    s: &[i32],
+    q: &[i32],
+    low: &[i32],
+    high: &[i32],
+    b: usize,
+    limit: u64,
+    out: &mut [u64],
+) -> usize
+    requires { do ⌜ Fits (now s) (← ⟦q.len()⟧) (← ⟦out.len()⟧) ⌝ }
+    requires { do ⌜ AllIn (now q) × Envelopes (now q) (← ⟦q.len()⟧) b (now low) (now high) ⌝ }
+{
+    let n = s.len();
+    let m = q.len();
+    let mut row: [u64; 1025] = [0; 1025];
+    let mut at: usize = 0;
+    while at <= n - m {
+        out[at] = warped_in(s, at, q, low, high, b, limit, &mut row);
+        at += 1;
+    }
+    at
+}
+
+// The warped distance of `q` from each stretch of `s`, likewise. `low` and `high` are as long as `q`.
 #[no_mangle]
 pub extern "C" fn curve_warped(
     s: &[i32],
     q: &[i32],
     b: usize,
     limit: u64,
+    low: &mut [i32],
+    high: &mut [i32],
     out: &mut [u64],
 ) -> usize {
-    let n = s.len();
     let m = q.len();
+    if low.len() != m {
+        return 0;
+    }
+    if high.len() != m {
+        return 0;
+    }
     if !fits(s, m, out.len()) {
         return 0;
     }
     if !all_in(q) {
         return 0;
     }
-    let mut row: [u64; 1025] = [0; 1025];
-    let mut at: usize = 0;
-    while at <= n - m {
-        out[at] = warped_in(s, at, q, b, limit, &mut row);
-        at += 1;
-    }
-    at
+    lower_envelope(q, b, low);
+    upper_envelope(q, b, high);
+    each_warped(s, q, low, high, b, limit, out)
 }
 
 // Both envelopes of `q` at the band `b`. Whether they were written.

@@ -1,4 +1,4 @@
--- A distance within a threshold, what is known of a curve and its envelopes, and normalised values within a limit.
+-- A distance within a threshold, and normalised values within a limit.
 pub mod Answer
-pub mod Bound
+pub mod Room
 pub mod Within

@@ -1,5 +1,4 @@
-// The distance of a stretch and a curve where it is at most a threshold: the envelope bound first, then the distance.
-use distance_bound::envelope_bound;
+// The distance of a stretch and a curve where it is at most a threshold. What is normalised is left by the envelope bound first.
 use distance_bound::envelope_part;
 use distance_normal::factor;
 use distance_normal::normalise_part;
@@ -13,7 +12,7 @@ ghost use Rattle.meaning_curves.specs.Normal.{normalised};
 ghost use Rattle.meaning_curves.specs.Match.{distance};
 ghost use Rattle.meaning_curves.proofs.Values.{AllIn};
 ghost use Rattle.distance_normal.specs.Stretch.{NormalReady};
-ghost use Rattle.distance_query.specs.Ready.{Envelopes};
+ghost use Rattle.distance_envelope.specs.Envelope.{Envelopes};
 ghost use Rattle.distance_compare.specs.Answer.{nearness};
 ghost use Rattle.distance_compare.specs.Within.{NormalWithin};
 
@@ -34,28 +33,6 @@ pub fn near_enough(d: u64, threshold: u64) -> Match
 }
 
 // The distance of a curve and the stretch of `s` that starts at `from`, where it is at most the threshold: straight at band 0, else warped. `row` is room for a row of the table.
-pub fn measure(
-    s: &[i32],
-    from: usize,
-    curve: &[i32],
-    b: usize,
-    threshold: u64,
-    row: &mut [u64],
-) -> Match
-    requires { do ⌜ from + (← ⟦curve.len()⟧) ≤ (← ⟦s.len()⟧) ⌝ }
-    requires { do ⌜ (0 < (← ⟦curve.len()⟧)) × ((← ⟦curve.len()⟧) ≤ 1024) × ((← ⟦curve.len()⟧) < (← ⟦row.len()⟧)) ⌝ }
-    requires { ⌜ AllIn (now s) × AllIn (now curve) ⌝ }
-    ensures { λ r. do ⌜ r ≡ nearness (distance (stretch (now (s .entry)) from) (at (now (curve .entry))) b (← ⟦curve.len()⟧ .entry)) threshold ⌝ }
-{
-    if b == 0 {
-        let d = straight(s, from, curve, threshold);
-        return near_enough(d, threshold);
-    }
-    let d = warped_in(s, from, curve, b, threshold, row);
-    near_enough(d, threshold)
-}
-
-// The same, after the envelope bound where the distance is warped.
 pub fn compare(
     s: &[i32],
     from: usize,
@@ -72,13 +49,12 @@ pub fn compare(
     requires { do ⌜ Envelopes (now curve) (← ⟦curve.len()⟧) b (now low) (now high) ⌝ }
     ensures { λ r. do ⌜ r ≡ nearness (distance (stretch (now (s .entry)) from) (at (now (curve .entry))) b (← ⟦curve.len()⟧ .entry)) threshold ⌝ }
 {
-    if b != 0 {
-        let bound = envelope_bound(s, from, low, high, threshold);
-        if threshold < bound {
-            return Match::No;
-        }
+    if b == 0 {
+        let d = straight(s, from, curve, threshold);
+        return near_enough(d, threshold);
     }
-    measure(s, from, curve, b, threshold, row)
+    let d = warped_in(s, from, curve, low, high, b, threshold, row);
+    near_enough(d, threshold)
 }
 
 // The normalised values of a stretch that is not flat, made block by block into `out`, and their envelope bound where it is at most `limit`; else some number above `limit`, and `out` holds the values so far.
@@ -138,5 +114,5 @@ pub fn compare_normal(
     if threshold < bound {
         return Match::No;
     }
-    measure(room, 0, curve, b, threshold, row)
+    compare(room, 0, curve, low, high, b, threshold, row)
 }

@@ -17,12 +17,7 @@ use Rattle.meaning_filter.specs.Envelope.{lower, upper}
 use Rattle.numbers.specs.Raised.{raised}
 use Rattle.values.specs.Copy.{Copied}
 use Rattle.distance_normal.specs.Stretch.{Normalised, normalised-in}
-use Rattle.distance_envelope.specs.Envelope.{IsEnvelope}
-
--- the envelopes of a curve of m values at the band b
-pub record Envelopes (curve : List ℤ) (m b : ℕ) (low high : List ℤ) : Type 0 where
-  pub below : IsEnvelope (lower (at curve) m b) m low
-  pub above : IsEnvelope (upper (at curve) m b) m high
+use Rattle.distance_envelope.specs.Envelope.{Envelopes}
 
 -- the curve that stretches are compared with: the query, or its normalised values
 abbrev pub curveOf : Kind → (ℕ → ℤ) → ℕ → ℕ → ℤ

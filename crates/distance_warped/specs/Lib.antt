@@ -1,2 +1,3 @@
--- The row of the table that code keeps.
+-- The row of the table that code keeps, and the envelope bound beside it.
 pub mod Rows
+pub mod Rest

@@ -1,5 +1,5 @@
 -- The table of the warped distance by rows, as code keeps one: cell j stands at place j + 1, and `big` at place 0 and wherever the band has no cell. With that, each cell is made from three numbers by one rule, at the band's edge too (`next-cell`, `first-cell`).
--- A path to the end passes every row, so the least number of a row is at most the distance (`least-warped`). Assumes nothing.
+-- Assumes nothing.
 use mathlib.Core.Path.{_≡_, refl, sym, _∙_}
 use mathlib.Core.List.{List}
 use mathlib.Core.Option.{Option}
@@ -72,27 +72,14 @@ coded-under : (d : ℕ) {o : Option ℕ} {n : ℕ} → Under o n → coded d o �
 unfolding coded
 coded-under d (under t n h) = h
 
-pub passes : {s q : ℕ → ℤ} {b n j t : ℕ} (i : ℕ) → i ≤ n → WarpPath s q b n j t → (k : ℕ) × (k ≤ j) × (u : ℕ) × WarpPath s q b i k u × (u ≤ t)
-passes {s} {q} {b} i h start = let e : i ≡ 0 = omega arith in rw e (0, omega arith, cost (s 0) (q 0), start, omega arith)
-passes {s} {q} {b} i h (first {i = n} {j} {t} p e) = elim (decLe i n) [
-  | yes l ↦ let r = passes i l p in (r .0, r .1, r .2, r .3, omega (arith, r .4))
-  | no f ↦ let same : i ≡ suc n = omega arith in rw same (j, omega arith, t + cost (s (suc n)) (q j), first p e, omega arith)
-]
-passes i h (second p e) = let r = passes i h p in (r .0, omega (arith, r .1), r .2, r .3, omega (arith, r .4))
-passes {s} {q} {b} i h (both {i = n} {j} {t} p e) = elim (decLe i n) [
-  | yes l ↦ let r = passes i l p in (r .0, omega (arith, r .1), r .2, r .3, omega (arith, r .4))
-  | no f ↦ let same : i ≡ suc n = omega arith in rw same (suc j, omega arith, t + cost (s (suc n)) (q (suc j)), both p e, omega arith)
-]
-
 module _ (s q : ℕ → ℤ) (b : ℕ) where
   abbrev pub cells : ℕ → ℕ → ℕ
   cells i = grid s q b big i
 
-  pub least-warped : (i m r : ℕ) → i < m → LeastOf (cells i) b i m r → r ≤ warped s q b m
+  -- the least number of a row is at most the total of each path to it
+  pub least-path : (i m r : ℕ) {j t : ℕ} → LeastOf (cells i) b i m r → j < m → WarpPath s q b i j t → r ≤ t
   unfolding grid
-  least-warped i m r h l =
-      let p = passes i (omega arith) (warped-is s q b m .attained) in
-      omega (arith, l .at (p .0) (omega (arith, p .1)) (path-near (p .3)), coded-under big (least-total s q b (p .3)), p .4)
+  least-path i m r {j} l h p = omega (arith, l .at j h (path-near p), coded-under big (least-total s q b p))
 
   pub last-cell : (m : ℕ) → 0 < m → before big (cells (m - 1)) m ≡ warped s q b m
   last-cell m h = let e : m ≡ m - 1 + 1 = omega arith in sym (rw (sym e) at (sym (before-more big (cells (m - 1)) (m - 1)))) ∙ grid-distance s q b big m

@@ -1,14 +1,19 @@
 // The warped distance of a query and a stretch within a band, in one row of the table, left early.
+use distance_bound::envelope_bound;
+use distance_bound::excess_at;
 use numbers::lesser;
 use numbers::squared;
 ghost use mathlib.Core.Path.{_≡_};
 ghost use Prim.Native.Nat.{ℕ, _+_, _-_, _<_, _≤_, min};
 ghost use lib.ListN.{getD};
+ghost use Rattle.meaning_numbers.specs.Sum.{Σℕ};
 ghost use Rattle.meaning_curves.specs.Curve.{at, stretch};
 ghost use Rattle.meaning_curves.specs.Straight.{cost};
 ghost use Rattle.meaning_curves.specs.Table.{warped};
 ghost use Rattle.meaning_curves.proofs.Values.{InLimits, AllIn};
+ghost use Rattle.meaning_filter.proofs.Bound.{apart};
 ghost use Rattle.numbers.specs.Within.{Within};
+ghost use Rattle.distance_envelope.specs.Envelope.{Envelopes};
 ghost use Rattle.distance_warped.specs.Rows.{big, cells, RowIs, LeastOf};
 
 // The first place of the band in row `k`.
@@ -101,23 +106,61 @@ pub fn next_row(s: &[i32], from: usize, q: &[i32], b: usize, i: usize, row: &mut
     least
 }
 
-// The warped distance of `q` and the stretch of `s` that starts at `from`, at the band `b`, where it is at most `limit`; else some number above `limit`. `row` is room for the table.
-pub fn warped_in(s: &[i32], from: usize, q: &[i32], b: usize, limit: u64, row: &mut [u64]) -> u64
+// The warped distance of `q` and the stretch of `s` that starts at `from`, at the band `b`, where it is at most `limit`; else some number above `limit`. The table is left where the least of a row passes the limit with the envelope bound of the rows after it; `bound` is that of all rows. `row` is room for the table.
+pub fn table_within(
+    s: &[i32],
+    from: usize,
+    q: &[i32],
+    low: &[i32],
+    high: &[i32],
+    b: usize,
+    bound: u64,
+    limit: u64,
+    row: &mut [u64],
+) -> u64
     requires { do ⌜ from + (← ⟦q.len()⟧) ≤ (← ⟦s.len()⟧) ⌝ }
     requires { do ⌜ (0 < (← ⟦q.len()⟧)) × ((← ⟦q.len()⟧) ≤ 1024) × ((← ⟦q.len()⟧) < (← ⟦row.len()⟧)) ⌝ }
     requires { ⌜ AllIn (now s) × AllIn (now q) ⌝ }
+    requires { do ⌜ Envelopes (now q) (← ⟦q.len()⟧) b (now low) (now high) ⌝ }
+    requires { do ⌜ bound ≡ Σℕ (← ⟦q.len()⟧) (apart (stretch (now s) from) (at (now low)) (at (now high))) ⌝ }
     ensures { λ r. do ⌜ Within (warped (stretch (now (s .entry)) from) (at (now (q .entry))) b (← ⟦q.len()⟧ .entry)) limit r ⌝ }
 {
     let m = q.len();
     first_row(s, from, q, b, row);
+    let mut rest = bound - excess_at(s, from, low, high, 0);
     let last = m - 1;
     let mut i: usize = 0;
     while i < last {
         let least = next_row(s, from, q, b, i, row);
-        if limit < least {
-            return least;
-        }
         i += 1;
+        rest -= excess_at(s, from, low, high, i);
+        if limit < least + rest {
+            return least + rest;
+        }
     }
     row[m]
+}
+
+// The same, after the envelope bound.
+pub fn warped_in(
+    s: &[i32],
+    from: usize,
+    q: &[i32],
+    low: &[i32],
+    high: &[i32],
+    b: usize,
+    limit: u64,
+    row: &mut [u64],
+) -> u64
+    requires { do ⌜ from + (← ⟦q.len()⟧) ≤ (← ⟦s.len()⟧) ⌝ }
+    requires { do ⌜ (0 < (← ⟦q.len()⟧)) × ((← ⟦q.len()⟧) ≤ 1024) × ((← ⟦q.len()⟧) < (← ⟦row.len()⟧)) ⌝ }
+    requires { ⌜ AllIn (now s) × AllIn (now q) ⌝ }
+    requires { do ⌜ Envelopes (now q) (← ⟦q.len()⟧) b (now low) (now high) ⌝ }
+    ensures { λ r. do ⌜ Within (warped (stretch (now (s .entry)) from) (at (now (q .entry))) b (← ⟦q.len()⟧ .entry)) limit r ⌝ }
+{
+    let bound = envelope_bound(s, from, low, high, limit);
+    if limit < bound {
+        return bound;
+    }
+    table_within(s, from, q, low, high, b, bound, limit, row)
 }

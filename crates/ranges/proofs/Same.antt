@@ -11,7 +11,7 @@ use Rattle.meaning_curves.specs.Curve.{at, windowSum}
 use Rattle.meaning_curves.proofs.Same.{Same}
 use Rattle.meaning_filter.specs.Envelope.{leastOf, greatestOf, reachOf, lower, upper}
 use Rattle.meaning_filter.specs.Range.{lowerSum, upperSum}
-use Rattle.distance_query.specs.Ready.{Envelopes}
+use Rattle.distance_envelope.specs.Envelope.{Envelopes}
 
 least-same : (s t : ℕ → ℤ) (k n : ℕ) → ((j : ℕ) → k ≤ j → j ≤ k + n → s j ≡ t j) → leastOf s k n ≡ leastOf t k n
 unfolding leastOf

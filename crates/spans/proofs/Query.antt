@@ -11,7 +11,7 @@ use Rattle.meaning_filter.specs.declared.Kind.{Kind}
 use Rattle.meaning_filter.specs.declared.Limits.{Limits}
 use Rattle.meaning_filter.specs.Range.{rangeOf}
 use Rattle.distance_query.specs.Ready.{Ready}
-use Rattle.distance_compare.specs.Bound.{low-in, high-in}
+use Rattle.distance_envelope.specs.Envelope.{low-in, high-in}
 use Rattle.ranges.specs.declared.Frame.{Frame}
 use Rattle.ranges.specs.Frame.{frameOf, QueryIn}
 use Rattle.ranges.proofs.Fits.{query-in}

@@ -87,9 +87,18 @@ fn try_straight(s: &[i32], q: &[i32], nums: &[u64], at: usize, e: u64) -> bool {
     agree(&got, k, nums, at, e)
 }
 
-fn try_warped(s: &[i32], q: &[i32], nums: &[u64], at: usize, b: usize, e: u64) -> bool {
+fn try_warped(
+    s: &[i32],
+    q: &[i32],
+    nums: &[u64],
+    at: usize,
+    b: usize,
+    e: u64,
+    low: &mut [i32],
+    high: &mut [i32],
+) -> bool {
     let mut got = [0u64; 64];
-    let k = curve_warped(s, q, b, e, &mut got);
+    let k = curve_warped(s, q, b, e, low, high, &mut got);
     agree(&got, k, nums, at, e)
 }
 
@@ -226,7 +235,7 @@ fn try_one(
     match test {
         1 => try_root(nums, want, e),
         2 => try_straight(s, q, nums, want, e),
-        3 => try_warped(s, q, nums, want, b as usize, e),
+        3 => try_warped(s, q, nums, want, b as usize, e, low, high),
         4 => try_envelopes(q, nums, want, b as usize, low, high),
         5 => try_bound(s, q, nums, want, b as usize, e, low, high),
         6 => try_spread(s, nums, want, room),

@@ -10,7 +10,7 @@ use Rattle.meaning_filter.specs.declared.Kind.the-variants.{Raw, Normal}
 use Rattle.distance_query.specs.Ready.{Ready}
 use Rattle.distance_compare.specs.Answer.{nearness}
 use Rattle.distance.specs.Matched.{raw-matched}
-use Rattle.distance_compare.specs.Bound.{same-self}
+use Rattle.distance_compare.specs.Room.{same-self}
 use Rattle.distance.specs.Shift.{of-kind}
 use Rattle.distance.proofs.match_at.Statement.{statement}
 use Rattle.distance.proofs.match_at.Tie as tie

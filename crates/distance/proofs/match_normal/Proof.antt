@@ -11,7 +11,7 @@ use Rattle.meaning_curves.proofs.Same.{distance-same}
 use Rattle.values.specs.Sums.{spread-bound}
 use Rattle.distance_compare.specs.Answer.{nearness}
 use Rattle.distance.specs.Alike.{alike-matched, unlike-matched}
-use Rattle.distance_compare.specs.Bound.{same-self}
+use Rattle.distance_compare.specs.Room.{same-self}
 use Rattle.distance.specs.Shift.{shift-raised, spread-limit}
 use Rattle.distance.proofs.match_normal.Statement.{statement}
 use Rattle.distance.proofs.match_normal.Tie as tie

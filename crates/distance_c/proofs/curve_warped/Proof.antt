@@ -1,55 +1,32 @@
--- `distance_c::curve_warped` meets its contract: what `warped_in` requires was tested. Assumes nothing.
+-- `distance_c::curve_warped` meets its contract: what its callees require was tested. Assumes nothing.
 use borrow.Author.Needs.{needs}
 use borrow.Author.Tests.{not-false}
-use mathlib.Core.Path.{_≡_, refl, _∙_, sym}
-use Prim.Native.Nat.{ℕ, _+_, _-_, _≤_, _<_}
 use native.Mathlib.Omega.{arith}
-use lib.ListN.{length, length-set}
-use Rattle.meaning_curves.proofs.Values.{AllIn}
-use Rattle.distance_c.specs.Fits.{Fits}
 use Rattle.distance_c.proofs.curve_warped.Statement.{statement}
 use Rattle.distance_c.proofs.curve_warped.Tie as tie
 
-abbrev Inv-loop : tie.InvT-loop
-Inv-loop s q b limit out₀ n m row₀ at₀ out row at =
-    Fits s m (length out₀) × (n ≡ length s) × (m ≡ length q) × (at ≤ n - m + 1) × (length out ≡ length out₀) × AllIn q × (length row ≡ 1025)
-
-abbrev μ-loop : tie.MeasureT-loop
-μ-loop s q b limit out₀ n m row₀ at₀ out row at = n - m + 1 - at
-
-loop-holds : tie.Need-loop-holds Inv-loop μ-loop
-loop-holds c = (
-  c .before .before .before .fits2 .ensures (not-false _ (c .before .before .if1 .left)),
-  omega arith,
-  omega arith,
-  omega arith,
-  omega arith,
-  c .before .all-in .ensures (not-false _ (c .if2 .left)),
-  refl,
-)
-
-warped-in-requires : tie.Need-warped-in-requires Inv-loop μ-loop
-warped-in-requires c κs =
-    let i = c .before .before .loop .inv in (omega (arith, i .0 .long), ((i .0 .some, i .0 .short, omega (arith, i .0 .short, i .6)), (i .0 .inside, i .5)))
+each-warped-requires : tie.Need-each-warped-requires
+each-warped-requires c κs =
+    let upper = c .before .before .before .before in
+    let lower = upper .before .before .before in
+    let e = lower .before .before in
+    let f = e .before .before .before .fits2 .ensures (not-false _ (e .before .before .if3 .left)) in
+    (f, (e .before .all-in .ensures (not-false _ (e .if4 .left)), record { below = lower .lower-envelope .ensures; above = upper .upper-envelope .ensures }))
 
 pub curve-warped-spec : {M : Type 1} → statement M
 curve-warped-spec =
     tie.close
     (tie.spec
-    Inv-loop
-    μ-loop
-    (λ c κs. search needs)
+    (λ c. search needs)
     (λ c. search needs)
     (λ c κs. search needs)
     (λ c. search needs)
-    loop-holds
-    (λ c. omega (arith, c .loop .inv .0 .long))
-    (λ c. sym (c .before .before .loop .inv .6))
-    warped-in-requires
-    (λ c. omega arith)
-    (λ c. let i = c .before .before .before .before .loop .inv in omega (arith, i .0 .enough))
-    (λ c. omega arith)
-    (λ c. omega arith)
-    (λ c. let i = c .before .before .before .before .loop .inv in (i .0, omega arith, omega arith, omega arith, simp length-set (i .4), i .5, c .before .warped-in .kept .1 .1 .1 .1 .1 .0 ∙ i .6))
-    (λ c. c .before .loop .inv .4)
+    (λ c κs. search needs)
+    (λ c. search needs)
+    (λ c κs. search needs)
+    (λ c κs. search needs)
+    each-warped-requires
+    (λ c. search needs)
+    (λ c. search needs)
+    (λ c. search needs)
     (λ c. search needs))

@@ -1,30 +1,47 @@
--- `distance_compare::compare` meets its contract: what the envelope bound passes, the distance passes (`bound-le`). Assumes nothing.
+-- `distance_compare::compare` meets its contract: the straight distance is the distance at band 0, and the warped one at any band. Assumes nothing.
 use borrow.Author.Needs.{needs}
+use mathlib.Core.Path.{_∙_, ap, sym}
 use Prim.Native.Nat.{ℕ}
 use native.Mathlib.Omega.{arith}
 use lib.ListN.{length}
 use lib.IntN.{ℤ}
 use Rattle.meaning_curves.specs.Curve.{at, stretch}
-use Rattle.meaning_curves.specs.Match.{distance}
-use Rattle.numbers.specs.Within.{within-above}
-use Rattle.distance_compare.specs.Answer.{no-answer}
-use Rattle.distance_compare.specs.Bound.{low-in, high-in, bound-le}
+use Rattle.meaning_curves.proofs.Straight.{distance-is}
+use Rattle.distance_compare.specs.Answer.{nearness, within-answer, straight-distance}
 use Rattle.distance_compare.proofs.compare.Statement.{statement}
 use Rattle.distance_compare.proofs.compare.Tie as tie
 
-envelope-bound-requires : tie.Need-envelope-bound-requires
-envelope-bound-requires c κs =
-    let p = c .before .before .pre in
-    let a = p .1 .1 .0 in
-    let e = p .1 .1 .1 in
-    (omega (arith, e .below .long), (omega (arith, e .below .long, e .above .long), (omega (arith, e .below .long), (a .0, low-in (a .1) e, high-in (a .1) e))))
+-- the stretch and the curve
+module _ (o : tie.Start) where
+  abbrev S : ℕ → ℤ
+  S = stretch (o .args .s .now) (o .args .from)
+
+  abbrev Q : ℕ → ℤ
+  Q = at (o .args .curve .now)
+
+  abbrev m : ℕ
+  m = length (o .args .curve .now)
 
 returns : tie.Need-returns
 returns c =
     let o = c .before .before .before .before in
-    let S = stretch (o .args .s .now) (o .args .from) in
-    let w = within-above (c .before .envelope-bound .ensures) (c .if2 .taken) in
-    no-answer {d = distance S (at (o .args .curve .now)) (o .args .b) (length (o .args .curve .now))} {E = o .args .threshold} (omega (arith, w, bound-le S (o .pre .1 .0 .0) (o .pre .1 .1 .1)))
+    c .near-enough .ensures ∙ within-answer (c .before .straight .ensures)
+    ∙ ap (λ (d : ℕ). nearness d (o .args .threshold)) (straight-distance (S o) (Q o) (m o) (omega arith))
+
+returns-2 : tie.Need-returns-2
+returns-2 c =
+    let o = c .before .before .before .before .before .before .before in
+    c .near-enough2 .ensures ∙ within-answer (c .before .before .before .warped-in .ensures)
+    ∙ ap (λ (d : ℕ). nearness d (o .args .threshold)) (sym (distance-is (S o) (Q o) (o .args .b) (m o) (o .pre .1 .0 .0)))
 
 pub compare-spec : {M : Type 1} → statement M
-compare-spec = tie.close (tie.spec envelope-bound-requires returns (λ c κs. search needs) (λ c. search needs) (λ c. search needs))
+compare-spec =
+    tie.close
+    (tie.spec
+    (λ c κs. search needs)
+    (λ c κs. search needs)
+    returns
+    (λ c κs. search needs)
+    (λ c κs. search needs)
+    (λ c. search needs)
+    returns-2)

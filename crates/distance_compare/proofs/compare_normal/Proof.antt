@@ -13,9 +13,11 @@ use Rattle.meaning_curves.specs.Match.{distance}
 use Rattle.meaning_curves.proofs.Same.{distance-same}
 use Rattle.meaning_filter.proofs.Bound.{apart}
 use Rattle.numbers.specs.Within.{within-above}
+use Rattle.distance_envelope.specs.Envelope.{low-in, high-in}
+use Rattle.distance_warped.specs.Rest.{bound-le}
 use Rattle.distance_normal.specs.Stretch.{normalised-in}
 use Rattle.distance_compare.specs.Answer.{nearness, no-answer}
-use Rattle.distance_compare.specs.Bound.{low-in, high-in, bound-le, normal-room, same-self}
+use Rattle.distance_compare.specs.Room.{normal-room, same-self}
 use Rattle.distance_compare.specs.Within.{NormalWithin}
 use Rattle.distance_compare.proofs.compare_normal.Statement.{statement}
 use Rattle.distance_compare.proofs.compare_normal.Tie as tie
@@ -44,7 +46,7 @@ module _ (c : tie.After-normalise-within) where
   made = rw (o .pre .1 .1 .0 .0) at (c .normalise-within .ensures)
 
   bound-is : Σℕ m (apart (normalised S m) (at (o .args .low .now)) (at (o .args .high .now))) ≤ distance (normalised S m) (at (o .args .curve .now)) (o .args .b) m
-  bound-is = let e = o .pre .1 .1 .1 in rw (e .below .long) at (bound-le (normalised S m) (o .pre .1 .0 .0) e)
+  bound-is = bound-le (normalised S m) (o .pre .1 .1 .1) (o .pre .1 .0 .0)
 
   some : 0 < spread S m
   some = omega (arith, o .pre .0 .some, o .pre .0 .spread-is)
@@ -54,19 +56,19 @@ returns c =
     let w = c .before .before in
     no-answer {d = distance (normalised (S w) (m w)) (at (o w .args .curve .now)) (o w .args .b) (m w)} {E = o w .args .threshold} (omega (arith, within-above (made w .bound) (c .if1 .taken), bound-is w))
 
-measure-requires : tie.Need-measure-requires
-measure-requires c κs =
+compare-requires : tie.Need-compare-requires
+compare-requires c κs =
     let w = c .before .before .before .before in
     let n = made w .made (c .before .before .if1 .left) in
     let p = o w .pre in
-    (omega (arith, n .long), ((p .1 .0 .0, p .0 .short, p .1 .1 .0 .1), (normalised-in (some w) (p .0 .short) n, p .1 .0 .1)))
+    (omega (arith, n .long), ((p .1 .0 .0, p .0 .short, p .1 .1 .0 .1), ((normalised-in (some w) (p .0 .short) n, p .1 .0 .1), p .1 .1 .1)))
 
 returns-2 : tie.Need-returns-2
 returns-2 c =
     let w = c .before .before .before .before .before .before .before in
     let n = made w .made (c .before .before .before .before .before .if1 .left) in
-    c .before .before .measure .ensures
+    c .before .before .compare .ensures
     ∙ ap (λ (d : ℕ). nearness d (o w .args .threshold)) (distance-same (o w .args .b) (o w .pre .1 .0 .0) (normal-room n) (same-self (m w) (at (o w .args .curve .now))))
 
 pub compare-normal-spec : {M : Type 1} → statement M
-compare-normal-spec = tie.close (tie.spec normalise-within-requires (λ c. search needs) returns measure-requires (λ c. search needs) (λ c. search needs) returns-2)
+compare-normal-spec = tie.close (tie.spec normalise-within-requires (λ c. search needs) returns compare-requires (λ c. search needs) (λ c. search needs) returns-2)

@@ -1,0 +1,43 @@
+-- `distance_c::each_warped` meets its contract. Assumes nothing.
+use borrow.Author.Needs.{needs}
+use mathlib.Core.Path.{_≡_, refl, _∙_, sym}
+use Prim.Native.Nat.{ℕ, _+_, _-_, _≤_, _<_}
+use native.Mathlib.Omega.{arith}
+use lib.ListN.{length, length-set}
+use Rattle.meaning_curves.proofs.Values.{AllIn}
+use Rattle.distance_envelope.specs.Envelope.{Envelopes}
+use Rattle.distance_c.specs.Fits.{Fits}
+use Rattle.distance_c.proofs.each_warped.Statement.{statement}
+use Rattle.distance_c.proofs.each_warped.Tie as tie
+
+abbrev Inv-loop : tie.InvT-loop
+Inv-loop s q low high b limit out₀ n m row₀ at₀ out row at =
+    Fits s m (length out₀) × (n ≡ length s) × (m ≡ length q) × (at ≤ n - m + 1) × (length out ≡ length out₀) × AllIn q × (length row ≡ 1025) × Envelopes q (length q) b low high
+
+abbrev μ-loop : tie.MeasureT-loop
+μ-loop s q low high b limit out₀ n m row₀ at₀ out row at = n - m + 1 - at
+
+loop-holds : tie.Need-loop-holds Inv-loop μ-loop
+loop-holds c = let p = c .before .pre in (p .0, omega arith, omega arith, omega arith, omega arith, p .1 .0, refl, p .1 .1)
+
+warped-in-requires : tie.Need-warped-in-requires Inv-loop μ-loop
+warped-in-requires c κs =
+    let i = c .before .before .loop .inv in (omega (arith, i .0 .long), ((i .0 .some, i .0 .short, omega (arith, i .0 .short, i .6)), ((i .0 .inside, i .5), i .7)))
+
+pub each-warped-spec : {M : Type 1} → statement M
+each-warped-spec =
+    tie.close
+    (tie.spec
+    Inv-loop
+    μ-loop
+    loop-holds
+    (λ c. omega (arith, c .loop .inv .0 .long))
+    (λ c. sym (c .before .before .loop .inv .6))
+    warped-in-requires
+    (λ c. omega arith)
+    (λ c. let i = c .before .before .before .before .loop .inv in omega (arith, i .0 .enough))
+    (λ c. omega arith)
+    (λ c. omega arith)
+    (λ c. let i = c .before .before .before .before .loop .inv in (i .0, omega arith, omega arith, omega arith, simp length-set (i .4), i .5, c .before .warped-in .kept .1 .1 .1 .1 .1 .1 .1 .0 ∙ i .6, i .7))
+    (λ c. c .before .loop .inv .4)
+    (λ c. search needs))
