@@ -1,4 +1,4 @@
-// A text and a position in it, together: the reader, and the line that it stands in.
+// A text and a position in it, together: the reader, which the rows of an index text are read through (`text_rows`), and the line that it stands in.
 ghost use mathlib.Core.Path.{_≡_};
 ghost use Rattle.meaning_text.specs.Read.{lineOf};
 

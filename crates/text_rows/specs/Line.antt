@@ -36,8 +36,13 @@ lineFrom s t i (b ∷ l) = elim (indexStep s b) [
   | Moved.Refuse ↦ lineEnd s i t
 ]
 
+-- a text from place i on, up to the end of a row
+abbrev pub rowFrom : List ℕ → ℕ → State → Tally → Line
+rowFrom text i s t = lineFrom s t i (drop i text)
+
+-- a line read on from where it ended
 unfoldable pub nextLine : List ℕ → Line → Line
-nextLine text p = lineFrom (p .state) (p .tally) (p .at) (drop (p .at) text)
+nextLine text p = rowFrom text (p .at) (p .state) (p .tally)
 
 -- after k rows
 unfoldable pub lineAt : List ℕ → ℕ → Line

@@ -1,4 +1,5 @@
 // The rows of an index text put into lent row records, in one pass over its bytes: each record when its line is read, and records of zeros past the last.
+// A row is read through the reader, which holds the text and where it stands (`next_row`); every caller without a reader has `next_line`.
 use meaning_rows::Row;
 use text_event::Event;
 use text_event::next_event;
@@ -9,11 +10,13 @@ use text_judge::no_tally;
 use text_judge::shut;
 use text_judge::tell;
 use text_judge::tell_run;
+use text_reader::Reader;
+use text_reader::reader_of;
 ghost use mathlib.Core.Path.{_≡_};
 ghost use Prim.Native.Nat.{_<_, _≤_, min};
 ghost use lib.IntN.{pos};
 ghost use lib.ListN.{length};
-ghost use Rattle.text_rows.specs.Line.{rowMade, noLine, nextLine, Ready, stored};
+ghost use Rattle.text_rows.specs.Line.{rowMade, lineEnd, noLine, rowFrom, nextLine, Ready, stored};
 
 // A text up to the end of a row: where it stands, what is known so far, and the row; a row of zeros where none was left.
 pub struct Line {
@@ -73,43 +76,59 @@ pub fn no_line() -> Line
     line_end(State::In(Word::Window, 0), 0, t)
 }
 
-// Reads on to the end of the next row.
-pub fn next_line(text: &[u8], p: Line) -> Line
-    requires { ⌜ Ready (length (now text)) p ⌝ }
-    ensures { λ r. ⌜ r ≡ nextLine (now (text .entry)) p ⌝ }
+// Reads on from place `at` to the end of the next row.
+fn row_from(text: &[u8], at: usize, s: State, t: Tally) -> Line
+    requires { ⌜ Ready (length (now text)) (lineEnd s at t) ⌝ }
+    ensures { λ r. ⌜ r ≡ rowFrom (now (text .entry)) at s t ⌝ }
 {
-    let mut s = p.state;
-    let mut t = p.tally;
-    let mut i = p.at;
+    let mut state = s;
+    let mut tally = t;
+    let mut i = at;
     loop {
-        match next_event(text, s, i) {
-            Event::Run(l, r, at) => {
-                t = tell_run(t, l, r);
-                i = at;
+        match next_event(text, state, i) {
+            Event::Run(l, r, j) => {
+                tally = tell_run(tally, l, r);
+                i = j;
             }
-            Event::Value(n, q, z, at) => {
-                s = n;
-                t = tell(t, q, z);
-                i = at;
+            Event::Value(n, q, z, j) => {
+                state = n;
+                tally = tell(tally, q, z);
+                i = j;
             }
-            Event::Closed(n, at) => {
-                let row = make_row(t);
-                let u = shut(t);
+            Event::Closed(n, j) => {
+                let row = make_row(tally);
+                let u = shut(tally);
                 return Line {
                     state: n,
-                    at,
+                    at: j,
                     tally: u,
                     row,
                 };
             }
-            Event::Refuse(n, at) => {
-                return line_end(n, at, t);
+            Event::Refuse(n, j) => {
+                return line_end(n, j, tally);
             }
-            Event::End(n, at) => {
-                return line_end(n, at, t);
+            Event::End(n, j) => {
+                return line_end(n, j, tally);
             }
         }
     }
+}
+
+// A reader reads on to the end of the next row.
+pub fn next_row<'a>(r: Reader<'a>, s: State, t: Tally) -> Line
+    requires { ⌜ Ready (length (now (r .text))) (lineEnd s (r .at) t) ⌝ }
+    ensures { λ n. ⌜ n ≡ rowFrom (now (r .entry .text)) (r .entry .at) s t ⌝ }
+{
+    row_from(r.text, r.at, s, t)
+}
+
+// The line after a line: the text is read on from where that one ended.
+pub fn next_line(text: &[u8], p: Line) -> Line
+    requires { ⌜ Ready (length (now text)) p ⌝ }
+    ensures { λ r. ⌜ r ≡ nextLine (now (text .entry)) p ⌝ }
+{
+    next_row(reader_of(text, p.at), p.state, p.tally)
 }
 
 // The row that a line ended with.

@@ -1,0 +1,136 @@
+-- `text_rows::row_from` meets its contract. The invariant: what is left of the text comes to the same line (`Going`). The measure is what is left of the text. Assumes nothing.
+use mathlib.Core.Path.{_≡_, _∙_}
+use Prim.Native.Nat.{_-_}
+use native.Mathlib.Omega.{arith}
+use borrow.Author.Needs.{needs}
+use lib.ListN.{length}
+use mir.Syntax.{w64}
+use mir.Val.{toZ, ofZ}
+use mir.ValLaws.{toZ-ofZ}
+use Rattle.text_event.specs.Event.{run-up, value-up}
+use Rattle.text_rows.proofs.Turn.{Going, going-start, line-run, line-value, line-closed, line-refuse, line-stop}
+use Rattle.text_rows.proofs.row_from.Statement.{statement}
+use Rattle.text_rows.proofs.row_from.Tie as tie
+
+abbrev Inv-loop : tie.InvT-loop
+Inv-loop text at s₀ t₀ i₀ s t i = Going text s₀ t₀ i₀ s t i
+
+abbrev μ-loop : tie.MeasureT-loop
+μ-loop text at s₀ t₀ i₀ s t i = length text - i
+
+loop-holds : tie.Need-loop-holds Inv-loop μ-loop
+loop-holds c = let s = c .before in going-start (s .args .text .now) (s .args .s) (s .args .t) (s .args .at) (s .pre .good) (s .pre .fits) (s .pre .inside)
+
+next-event-requires : tie.Need-next-event-requires Inv-loop μ-loop
+next-event-requires c κs = c .loop .inv .good
+
+enum-known-l : tie.Need-enum-known-l Inv-loop μ-loop
+enum-known-l c = search needs
+
+tell-run-requires : tie.Need-tell-run-requires Inv-loop μ-loop
+tell-run-requires c κs = let l = c .before .before .before .before in (l .loop .inv .fits .sound, omega (arith, l .loop .inv .fits .runs, l .loop .inv .inside, l .before .before .good))
+
+loop-less : tie.Need-loop-less Inv-loop μ-loop
+loop-less c =
+    let n = c .before .before in
+    let u = run-up ((rw (n .l .given .1) at (n .before .before .next-event .ensures)) .1) in
+    omega (arith, u .0, u .1)
+
+loop-again : tie.Need-loop-again Inv-loop μ-loop
+loop-again c =
+    let n = c .before .before in
+    let a = n .before .before in
+    let l = n .l .given .0 .0 in
+    let r = n .l .given .0 .1 .0 in
+    let e : toZ w64 (ofZ w64 l) ≡ l = toZ-ofZ w64 l (search (needs, c .before .known-told .given)) in
+    let f : toZ w64 (ofZ w64 r) ≡ r = toZ-ofZ w64 r (search (needs, c .before .known-told .given)) in
+    rw (rw (e, f) at (c .tell-run .ensures)) (line-run _ _ _ _ (a .before .loop .inv) l r _ (rw (n .l .given .1) at (a .next-event .ensures)))
+
+enum-known-n : tie.Need-enum-known-n Inv-loop μ-loop
+enum-known-n c = search needs
+
+tell-requires : tie.Need-tell-requires Inv-loop μ-loop
+tell-requires c κs = let l = c .before .before .before .before in (l .loop .inv .fits .sound, omega (arith, l .loop .inv .fits .runs, l .loop .inv .inside, l .before .before .good))
+
+loop-less-2 : tie.Need-loop-less-2 Inv-loop μ-loop
+loop-less-2 c =
+    let n = c .before .before in
+    let u = value-up (rw (n .n .given .1) at (n .before .before .next-event .ensures)) in
+    omega (arith, u .0, u .1)
+
+loop-again-2 : tie.Need-loop-again-2 Inv-loop μ-loop
+loop-again-2 c =
+    let n = c .before .before in
+    let a = n .before .before in
+    let z = n .n .given .0 .1 .1 .0 in
+    let e : toZ w64 (ofZ w64 z) ≡ z = toZ-ofZ w64 z (search (needs, c .before .known-told2 .given)) in
+    rw (rw e at (c .tell .ensures)) (line-value _ _ _ _ (a .before .loop .inv) (n .n .given .0 .0) (n .n .given .0 .1 .0) z _ (rw (n .n .given .1) at (a .next-event .ensures)))
+
+enum-known-n-2 : tie.Need-enum-known-n-2 Inv-loop μ-loop
+enum-known-n-2 c = search needs
+
+make-row-requires : tie.Need-make-row-requires Inv-loop μ-loop
+make-row-requires c κs = search needs
+
+shut-requires : tie.Need-shut-requires Inv-loop μ-loop
+shut-requires c κs =
+    let l = c .before .before .before .before .before in
+    (omega (arith, l .loop .inv .fits .rows, l .loop .inv .inside, l .before .before .good), omega (arith, l .loop .inv .fits .runs, l .loop .inv .inside, l .before .before .good))
+
+returns : tie.Need-returns Inv-loop μ-loop
+returns c =
+    let m = c .before in
+    let n = m .before .before in
+    let a = n .before .before in
+    rw (c .shut .ensures, m .make-row .ensures) (line-closed _ _ _ _ (a .before .loop .inv) (n .n2 .given .0 .0) _ (rw (n .n2 .given .1) at (a .next-event .ensures)))
+
+enum-known-n-3 : tie.Need-enum-known-n-3 Inv-loop μ-loop
+enum-known-n-3 c = search needs
+
+line-end-requires : tie.Need-line-end-requires Inv-loop μ-loop
+line-end-requires c κs = search needs
+
+returns-2 : tie.Need-returns-2 Inv-loop μ-loop
+returns-2 c =
+    let n = c .before .before in
+    let a = n .before .before in
+    c .line-end .ensures ∙ line-refuse _ _ _ _ (a .before .loop .inv) (n .n3 .given .0 .0) _ (rw (n .n3 .given .1) at (a .next-event .ensures))
+
+enum-known-n-4 : tie.Need-enum-known-n-4 Inv-loop μ-loop
+enum-known-n-4 c = search needs
+
+line-end-requires-2 : tie.Need-line-end-requires-2 Inv-loop μ-loop
+line-end-requires-2 c κs = search needs
+
+returns-3 : tie.Need-returns-3 Inv-loop μ-loop
+returns-3 c =
+    let n = c .before .before in
+    let a = n .before .before in
+    c .line-end2 .ensures ∙ line-stop _ _ _ _ (a .before .loop .inv) (n .n4 .given .0 .0) _ (rw (n .n4 .given .1) at (a .next-event .ensures))
+
+pub row-from-spec : {M : Type 1} → statement M
+row-from-spec =
+    tie.close
+    (tie.spec
+    Inv-loop
+    μ-loop
+    loop-holds
+    next-event-requires
+    enum-known-l
+    tell-run-requires
+    loop-less
+    loop-again
+    enum-known-n
+    tell-requires
+    loop-less-2
+    loop-again-2
+    enum-known-n-2
+    make-row-requires
+    shut-requires
+    returns
+    enum-known-n-3
+    line-end-requires
+    returns-2
+    enum-known-n-4
+    line-end-requires-2
+    returns-3)
