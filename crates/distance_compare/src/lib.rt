@@ -1,4 +1,4 @@
-// The distance of a stretch and a curve where it is at most a threshold. What is normalised is left by the envelope bound first.
+// The distance of a stretch and a curve where it is at most a threshold. Values are normalised only as far as the envelope bound stays at or below it.
 use distance_bound::envelope_part;
 use distance_normal::factor;
 use distance_normal::normalise_part;

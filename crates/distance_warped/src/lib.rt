@@ -1,4 +1,4 @@
-// The warped distance of a query and a stretch within a band, in one row of the table, left early.
+// The warped distance of a query and a stretch within a band: the envelope bound first, then the table in one row, left early.
 use distance_bound::envelope_bound;
 use distance_bound::excess_at;
 use numbers::lesser;
