@@ -126,7 +126,7 @@ module _ {M : Type 1} (𝓤 : URA M) (H : Heap 𝓤) (A : Atoms 𝓤) (W : Given
       abbrev En : Env 𝓤 H
       En = (word, l₀) ∷ ((sliceTy (tyRef (named 0) imm half)), l₁) ∷ (word, l₂) ∷ (word, l₃) ∷ (word, l₄) ∷ (word, l₅) ∷ (word, l₆) ∷ ((sliceTy (tyRef (named 1) mut record-type)), l₇) ∷ ((sliceTy (tyRef (named 2) mut half)), l₈) ∷ ((sliceTy (tyRef (named 3) mut half)), l₉) ∷ (word, l₁₀) ∷ (word, l₁₁) ∷ ((tyRef erased mut record-type), l₁₂) ∷ ((sliceTy (tyRef erased mut record-type)), l₁₃) ∷ ((tyRef erased mut half), l₁₄) ∷ ((sliceTy (tyRef erased mut half)), l₁₅) ∷ ((tyRef erased mut half), l₁₆) ∷ ((sliceTy (tyRef erased mut half)), l₁₇) ∷ ((tyRef erased mut record-type), l₁₈) ∷ ((sliceTy (tyRef erased mut record-type)), l₁₉) ∷ ((tyRef erased mut half), l₂₀) ∷ ((sliceTy (tyRef erased mut half)), l₂₁) ∷ ((tyRef erased mut half), l₂₂) ∷ ((sliceTy (tyRef erased mut half)), l₂₃) ∷ (tyUnit, l₂₄) ∷ ((tyRef erased mut record-type), l₂₅) ∷ ((sliceTy (tyRef erased mut record-type)), l₂₆) ∷ ((tyRef erased mut half), l₂₇) ∷ ((sliceTy (tyRef erased mut half)), l₂₈) ∷ ((tyRef erased mut half), l₂₉) ∷ ((sliceTy (tyRef erased mut half)), l₃₀) ∷ []
 
-      go-4 : (n : ℕ) (ya : List Row) (yl : List ℕ) (yr : List ℕ) (packed : PackedAs (windowsOf (xs .now) w) (filed (windowSum (xs .now) w) d (windowsOf (xs .now) w)) ya n) (g-n : n < 2 ^ 64) (long-ya : length ya ≡ length (xa .now)) (long-yl : length yl ≡ length (xl .now)) (long-yr : length yr ≡ length (xr .now)) (k : ℕ) (ua : List Row) (ul : List ℕ) (ur : List ℕ) (merged′ : MergedAs d g (xs .now) w ua k) (g-k : k < 2 ^ 64) (long-ua : length ua ≡ length ya) (long-ul : length ul ≡ length yl) (long-ur : length ur ≡ length yr) (za : List Row) (zl : List ℕ) (zr : List ℕ) (held : Holds d g (xs .now) w (buffers ua ul ur) (buffers za zl zr)) (long-za : length za ≡ length ua) (long-zl : length zl ≡ length ul) (long-zr : length zr ≡ length ur) → ent 𝓤 (⋆ 𝓤 H A (‵ (flft κs qs) ∷ ‵ (ShrSlice (named 0) κs i32 .own xs (sliceVal (xs .ptr) (length (xs .now)) ∷ [])) ∷ ‵ (flft κa qa) ∷ ‵ (Lends.Own T.the-row (xa .ptr .0) (xa .ptr .1) (length (xa .now)) (named 0) κa (xa .name) za)
+      go-4 : (n : ℕ) (ya : List Row) (yl : List ℕ) (yr : List ℕ) (packed : PackedAs (windowsOf (xs .now) w) (filed (windowSum (xs .now) w) d (windowsOf (xs .now) w)) ya n) (g-n : n < 2 ^ 64) (long-ya : length ya ≡ length (xa .now)) (long-yl : length yl ≡ length (xl .now)) (long-yr : length yr ≡ length (xr .now)) (k : ℕ) (ua : List Row) (ul : List ℕ) (ur : List ℕ) (merged′ : MergedAs d g (xs .now) w ua k) (g-k : k < 2 ^ 64) (long-ua : length ua ≡ length ya) (long-ul : length ul ≡ length yl) (long-ur : length ur ≡ length yr) (za : List Row) (zl : List ℕ) (zr : List ℕ) (held : Holds d g (xs .now) w (buffers ua ul ur) (buffers za zl zr)) (long-za : length za ≡ length ua) (long-zl : length zl ≡ length ul) (long-zr : length zr ≡ length ur) → Sq W (‵ (flft κs qs) ∷ ‵ (ShrSlice (named 0) κs i32 .own xs (sliceVal (xs .ptr) (length (xs .now)) ∷ [])) ∷ ‵ (flft κa qa) ∷ ‵ (Lends.Own T.the-row (xa .ptr .0) (xa .ptr .1) (length (xa .now)) (named 0) κa (xa .name) za)
           ∷ ‵ (flft κl ql) ∷ ‵ (Lends.Own u32 (xl .ptr .0) (xl .ptr .1) (length (xl .now)) (named 0) κl (xl .name) zl) ∷ ‵ (flft κr qr) ∷ ‵ (Lends.Own u32 (xr .ptr .0) (xr .ptr .1) (length (xr .now)) (named 0) κr (xr .name) zr)
           ∷ ‵ (froom (sliceTy (tyRef erased mut half)) l₃₀ 0) ∷ ‵ (fdies (sliceTy (tyRef erased mut half)) l₃₀) ∷ ‵ (froom (tyRef erased mut half) l₂₉ 0) ∷ ‵ (fdies (tyRef erased mut half) l₂₉)
           ∷ ‵ (froom (sliceTy (tyRef erased mut half)) l₂₈ 0) ∷ ‵ (fdies (sliceTy (tyRef erased mut half)) l₂₈) ∷ ‵ (froom (tyRef erased mut half) l₂₇ 0) ∷ ‵ (fdies (tyRef erased mut half) l₂₇)
@@ -143,33 +143,15 @@ module _ {M : Type 1} (𝓤 : URA M) (H : Heap 𝓤) (A : Atoms 𝓤) (W : Given
           ∷ ‵ (fat fullShare word l₆ 0 (vint w64 g)) ∷ ‵ (fdies word l₆) ∷ ‵ (fat fullShare word l₅ 0 (vint w64 bias)) ∷ ‵ (fdies word l₅)
           ∷ ‵ (fat fullShare word l₄ 0 (vint w64 d)) ∷ ‵ (fdies word l₄) ∷ ‵ (fat fullShare word l₃ 0 (vint w64 e)) ∷ ‵ (fdies word l₃)
           ∷ ‵ (fat fullShare word l₂ 0 (vint w64 w)) ∷ ‵ (fdies word l₂) ∷ ‵ (fat fullShare (sliceTy (tyRef (named 0) imm half)) l₁ 0 (sliceVal (xs .ptr) (length (xs .now)))) ∷ ‵ (fdies (sliceTy (tyRef (named 0) imm half)) l₁)
-          ∷ ‵ (froom word l₀ 0) ∷ ‵ (fdies word l₀) ∷ [])) (Wp 𝓤 H (𝓣 .C) (𝓣 .Λ) En mir.t-22 (atReturn 𝓤 H En Post))
+          ∷ ‵ (froom word l₀ 0) ∷ ‵ (fdies word l₀) ∷ []) (runs (𝓣 .C) (𝓣 .Λ) En mir.t-22 (atRet En Post))
       go-4 n ya yl yr packed g-n long-ya long-yl long-yr k ua ul ur merged′ g-k long-ua long-ul long-ur za zl zr held long-za long-zl long-zr =
-          qed W (‵ (flft κs qs) ∷ ‵ (ShrSlice (named 0) κs i32 .own xs (sliceVal (xs .ptr) (length (xs .now)) ∷ [])) ∷ ‵ (flft κa qa) ∷ ‵ (Lends.Own T.the-row (xa .ptr .0) (xa .ptr .1) (length (xa .now)) (named 0) κa (xa .name) za)
-          ∷ ‵ (flft κl ql) ∷ ‵ (Lends.Own u32 (xl .ptr .0) (xl .ptr .1) (length (xl .now)) (named 0) κl (xl .name) zl) ∷ ‵ (flft κr qr) ∷ ‵ (Lends.Own u32 (xr .ptr .0) (xr .ptr .1) (length (xr .now)) (named 0) κr (xr .name) zr)
-          ∷ ‵ (froom (sliceTy (tyRef erased mut half)) l₃₀ 0) ∷ ‵ (fdies (sliceTy (tyRef erased mut half)) l₃₀) ∷ ‵ (froom (tyRef erased mut half) l₂₉ 0) ∷ ‵ (fdies (tyRef erased mut half) l₂₉)
-          ∷ ‵ (froom (sliceTy (tyRef erased mut half)) l₂₈ 0) ∷ ‵ (fdies (sliceTy (tyRef erased mut half)) l₂₈) ∷ ‵ (froom (tyRef erased mut half) l₂₇ 0) ∷ ‵ (fdies (tyRef erased mut half) l₂₇)
-          ∷ ‵ (froom (sliceTy (tyRef erased mut record-type)) l₂₆ 0) ∷ ‵ (fdies (sliceTy (tyRef erased mut record-type)) l₂₆) ∷ ‵ (froom (tyRef erased mut record-type) l₂₅ 0) ∷ ‵ (fdies (tyRef erased mut record-type) l₂₅)
-          ∷ ‵ (fat fullShare tyUnit l₂₄ 0 (vunit)) ∷ ‵ (fdies tyUnit l₂₄) ∷ ‵ (froom (sliceTy (tyRef erased mut half)) l₂₃ 0) ∷ ‵ (fdies (sliceTy (tyRef erased mut half)) l₂₃)
-          ∷ ‵ (froom (tyRef erased mut half) l₂₂ 0) ∷ ‵ (fdies (tyRef erased mut half) l₂₂) ∷ ‵ (froom (sliceTy (tyRef erased mut half)) l₂₁ 0) ∷ ‵ (fdies (sliceTy (tyRef erased mut half)) l₂₁)
-          ∷ ‵ (froom (tyRef erased mut half) l₂₀ 0) ∷ ‵ (fdies (tyRef erased mut half) l₂₀) ∷ ‵ (froom (sliceTy (tyRef erased mut record-type)) l₁₉ 0) ∷ ‵ (fdies (sliceTy (tyRef erased mut record-type)) l₁₉)
-          ∷ ‵ (froom (tyRef erased mut record-type) l₁₈ 0) ∷ ‵ (fdies (tyRef erased mut record-type) l₁₈) ∷ ‵ (froom (sliceTy (tyRef erased mut half)) l₁₇ 0) ∷ ‵ (fdies (sliceTy (tyRef erased mut half)) l₁₇)
-          ∷ ‵ (froom (tyRef erased mut half) l₁₆ 0) ∷ ‵ (fdies (tyRef erased mut half) l₁₆) ∷ ‵ (froom (sliceTy (tyRef erased mut half)) l₁₅ 0) ∷ ‵ (fdies (sliceTy (tyRef erased mut half)) l₁₅)
-          ∷ ‵ (froom (tyRef erased mut half) l₁₄ 0) ∷ ‵ (fdies (tyRef erased mut half) l₁₄) ∷ ‵ (froom (sliceTy (tyRef erased mut record-type)) l₁₃ 0) ∷ ‵ (fdies (sliceTy (tyRef erased mut record-type)) l₁₃)
-          ∷ ‵ (froom (tyRef erased mut record-type) l₁₂ 0) ∷ ‵ (fdies (tyRef erased mut record-type) l₁₂) ∷ ‵ (fat fullShare word l₁₁ 0 (vint w64 k)) ∷ ‵ (fdies word l₁₁)
-          ∷ ‵ (fat fullShare word l₁₀ 0 (vint w64 n)) ∷ ‵ (fdies word l₁₀) ∷ ‵ (fat fullShare (sliceTy (tyRef (named 3) mut half)) l₉ 0 (sliceVal (xr .ptr) (length (xr .now)))) ∷ ‵ (fdies (sliceTy (tyRef (named 3) mut half)) l₉)
-          ∷ ‵ (fat fullShare (sliceTy (tyRef (named 2) mut half)) l₈ 0 (sliceVal (xl .ptr) (length (xl .now)))) ∷ ‵ (fdies (sliceTy (tyRef (named 2) mut half)) l₈) ∷ ‵ (fat fullShare (sliceTy (tyRef (named 1) mut record-type)) l₇ 0 (sliceVal (xa .ptr) (length (xa .now)))) ∷ ‵ (fdies (sliceTy (tyRef (named 1) mut record-type)) l₇)
-          ∷ ‵ (fat fullShare word l₆ 0 (vint w64 g)) ∷ ‵ (fdies word l₆) ∷ ‵ (fat fullShare word l₅ 0 (vint w64 bias)) ∷ ‵ (fdies word l₅)
-          ∷ ‵ (fat fullShare word l₄ 0 (vint w64 d)) ∷ ‵ (fdies word l₄) ∷ ‵ (fat fullShare word l₃ 0 (vint w64 e)) ∷ ‵ (fdies word l₃)
-          ∷ ‵ (fat fullShare word l₂ 0 (vint w64 w)) ∷ ‵ (fdies word l₂) ∷ ‵ (fat fullShare (sliceTy (tyRef (named 0) imm half)) l₁ 0 (sliceVal (xs .ptr) (length (xs .now)))) ∷ ‵ (fdies (sliceTy (tyRef (named 0) imm half)) l₁)
-          ∷ ‵ (froom word l₀ 0) ∷ ‵ (fdies word l₀) ∷ []) ∵ exec ! (𝓣 .C) (𝓣 .Λ) En mir.t-22 (atRet En Post) $
           assigns ! (of-opd ! (load ! (from ! (stop !)) (look ! 46 refl))) (from ! (stop !)) (init ! 68 refl (tt, record { fits = g-k })) $
           returns ! (look ! 68 refl) $
           lose ! 68 refl refl $ lose ! 66 refl refl $ lose ! 64 refl refl $ lose ! 62 refl refl $ lose ! 60 refl refl $ lose ! 58 refl refl $ lose ! 56 refl refl $ lose ! 54 refl refl $ lose ! 52 refl refl $ lose ! 50 refl refl $ lose ! 48 refl refl $ lose ! 46 refl refl $ lose-room ! 44 refl refl $ lose-room ! 42 refl refl $ lose-room ! 40 refl refl $ lose-room ! 38 refl refl $ lose-room ! 36 refl refl $ lose-room ! 34 refl refl $ lose-room ! 32 refl refl $ lose-room ! 30 refl refl $ lose-room ! 28 refl refl $ lose-room ! 26 refl refl $ lose-room ! 24 refl refl $ lose-room ! 22 refl refl $ lose ! 20 refl refl $ lose-room ! 18 refl refl $ lose-room ! 16 refl refl $ lose-room ! 14 refl refl $ lose-room ! 12 refl refl $ lose-room ! 10 refl refl $ lose-room ! 8 refl refl $ free0 ! $
           keep ! (0 ∷ 2 ∷ 4 ∷ 6 ∷ 3 ∷ 5 ∷ 7 ∷ []) $
           by ! (exits za (long-za ∙ long-ua ∙ long-ya) zl (long-zl ∙ long-ul ∙ long-yl) zr (long-zr ∙ long-ur ∙ long-yr) k g-k (promised k ua ul ur merged′ (long-ua ∙ long-ya) (long-ul ∙ long-yl) (long-ur ∙ long-yr) za zl zr held))
 
-      go-3 : (n : ℕ) (ya : List Row) (yl : List ℕ) (yr : List ℕ) (packed : PackedAs (windowsOf (xs .now) w) (filed (windowSum (xs .now) w) d (windowsOf (xs .now) w)) ya n) (g-n : n < 2 ^ 64) (long-ya : length ya ≡ length (xa .now)) (long-yl : length yl ≡ length (xl .now)) (long-yr : length yr ≡ length (xr .now)) (k : ℕ) (ua : List Row) (ul : List ℕ) (ur : List ℕ) (merged′ : MergedAs d g (xs .now) w ua k) (g-k : k < 2 ^ 64) (long-ua : length ua ≡ length ya) (long-ul : length ul ≡ length yl) (long-ur : length ur ≡ length yr) → ent 𝓤 (⋆ 𝓤 H A (‵ (flft κs qs) ∷ ‵ (ShrSlice (named 0) κs i32 .own xs (sliceVal (xs .ptr) (length (xs .now)) ∷ [])) ∷ ‵ (flft κa qa) ∷ ‵ (Lends.Own T.the-row (xa .ptr .0) (xa .ptr .1) (length (xa .now)) (named 0) κa (xa .name) ua)
+      go-3 : (n : ℕ) (ya : List Row) (yl : List ℕ) (yr : List ℕ) (packed : PackedAs (windowsOf (xs .now) w) (filed (windowSum (xs .now) w) d (windowsOf (xs .now) w)) ya n) (g-n : n < 2 ^ 64) (long-ya : length ya ≡ length (xa .now)) (long-yl : length yl ≡ length (xl .now)) (long-yr : length yr ≡ length (xr .now)) (k : ℕ) (ua : List Row) (ul : List ℕ) (ur : List ℕ) (merged′ : MergedAs d g (xs .now) w ua k) (g-k : k < 2 ^ 64) (long-ua : length ua ≡ length ya) (long-ul : length ul ≡ length yl) (long-ur : length ur ≡ length yr) → Sq W (‵ (flft κs qs) ∷ ‵ (ShrSlice (named 0) κs i32 .own xs (sliceVal (xs .ptr) (length (xs .now)) ∷ [])) ∷ ‵ (flft κa qa) ∷ ‵ (Lends.Own T.the-row (xa .ptr .0) (xa .ptr .1) (length (xa .now)) (named 0) κa (xa .name) ua)
           ∷ ‵ (flft κl ql) ∷ ‵ (Lends.Own u32 (xl .ptr .0) (xl .ptr .1) (length (xl .now)) (named 0) κl (xl .name) ul) ∷ ‵ (flft κr qr) ∷ ‵ (Lends.Own u32 (xr .ptr .0) (xr .ptr .1) (length (xr .now)) (named 0) κr (xr .name) ur)
           ∷ ‵ (froom (sliceTy (tyRef erased mut half)) l₃₀ 0) ∷ ‵ (fdies (sliceTy (tyRef erased mut half)) l₃₀) ∷ ‵ (froom (tyRef erased mut half) l₂₉ 0) ∷ ‵ (fdies (tyRef erased mut half) l₂₉)
           ∷ ‵ (froom (sliceTy (tyRef erased mut half)) l₂₈ 0) ∷ ‵ (fdies (sliceTy (tyRef erased mut half)) l₂₈) ∷ ‵ (froom (tyRef erased mut half) l₂₇ 0) ∷ ‵ (fdies (tyRef erased mut half) l₂₇)
@@ -186,26 +168,8 @@ module _ {M : Type 1} (𝓤 : URA M) (H : Heap 𝓤) (A : Atoms 𝓤) (W : Given
           ∷ ‵ (fat fullShare word l₆ 0 (vint w64 g)) ∷ ‵ (fdies word l₆) ∷ ‵ (fat fullShare word l₅ 0 (vint w64 bias)) ∷ ‵ (fdies word l₅)
           ∷ ‵ (fat fullShare word l₄ 0 (vint w64 d)) ∷ ‵ (fdies word l₄) ∷ ‵ (fat fullShare word l₃ 0 (vint w64 e)) ∷ ‵ (fdies word l₃)
           ∷ ‵ (fat fullShare word l₂ 0 (vint w64 w)) ∷ ‵ (fdies word l₂) ∷ ‵ (fat fullShare (sliceTy (tyRef (named 0) imm half)) l₁ 0 (sliceVal (xs .ptr) (length (xs .now)))) ∷ ‵ (fdies (sliceTy (tyRef (named 0) imm half)) l₁)
-          ∷ ‵ (froom word l₀ 0) ∷ ‵ (fdies word l₀) ∷ [])) (Wp 𝓤 H (𝓣 .C) (𝓣 .Λ) En mir.t-15 (atReturn 𝓤 H En Post))
+          ∷ ‵ (froom word l₀ 0) ∷ ‵ (fdies word l₀) ∷ []) (runs (𝓣 .C) (𝓣 .Λ) En mir.t-15 (atRet En Post))
       go-3 n ya yl yr packed g-n long-ya long-yl long-yr k ua ul ur merged′ g-k long-ua long-ul long-ur =
-          qed W (‵ (flft κs qs) ∷ ‵ (ShrSlice (named 0) κs i32 .own xs (sliceVal (xs .ptr) (length (xs .now)) ∷ [])) ∷ ‵ (flft κa qa) ∷ ‵ (Lends.Own T.the-row (xa .ptr .0) (xa .ptr .1) (length (xa .now)) (named 0) κa (xa .name) ua)
-          ∷ ‵ (flft κl ql) ∷ ‵ (Lends.Own u32 (xl .ptr .0) (xl .ptr .1) (length (xl .now)) (named 0) κl (xl .name) ul) ∷ ‵ (flft κr qr) ∷ ‵ (Lends.Own u32 (xr .ptr .0) (xr .ptr .1) (length (xr .now)) (named 0) κr (xr .name) ur)
-          ∷ ‵ (froom (sliceTy (tyRef erased mut half)) l₃₀ 0) ∷ ‵ (fdies (sliceTy (tyRef erased mut half)) l₃₀) ∷ ‵ (froom (tyRef erased mut half) l₂₉ 0) ∷ ‵ (fdies (tyRef erased mut half) l₂₉)
-          ∷ ‵ (froom (sliceTy (tyRef erased mut half)) l₂₈ 0) ∷ ‵ (fdies (sliceTy (tyRef erased mut half)) l₂₈) ∷ ‵ (froom (tyRef erased mut half) l₂₇ 0) ∷ ‵ (fdies (tyRef erased mut half) l₂₇)
-          ∷ ‵ (froom (sliceTy (tyRef erased mut record-type)) l₂₆ 0) ∷ ‵ (fdies (sliceTy (tyRef erased mut record-type)) l₂₆) ∷ ‵ (froom (tyRef erased mut record-type) l₂₅ 0) ∷ ‵ (fdies (tyRef erased mut record-type) l₂₅)
-          ∷ ‵ (froom tyUnit l₂₄ 0) ∷ ‵ (fdies tyUnit l₂₄) ∷ ‵ (froom (sliceTy (tyRef erased mut half)) l₂₃ 0) ∷ ‵ (fdies (sliceTy (tyRef erased mut half)) l₂₃)
-          ∷ ‵ (froom (tyRef erased mut half) l₂₂ 0) ∷ ‵ (fdies (tyRef erased mut half) l₂₂) ∷ ‵ (froom (sliceTy (tyRef erased mut half)) l₂₁ 0) ∷ ‵ (fdies (sliceTy (tyRef erased mut half)) l₂₁)
-          ∷ ‵ (froom (tyRef erased mut half) l₂₀ 0) ∷ ‵ (fdies (tyRef erased mut half) l₂₀) ∷ ‵ (froom (sliceTy (tyRef erased mut record-type)) l₁₉ 0) ∷ ‵ (fdies (sliceTy (tyRef erased mut record-type)) l₁₉)
-          ∷ ‵ (froom (tyRef erased mut record-type) l₁₈ 0) ∷ ‵ (fdies (tyRef erased mut record-type) l₁₈) ∷ ‵ (froom (sliceTy (tyRef erased mut half)) l₁₇ 0) ∷ ‵ (fdies (sliceTy (tyRef erased mut half)) l₁₇)
-          ∷ ‵ (froom (tyRef erased mut half) l₁₆ 0) ∷ ‵ (fdies (tyRef erased mut half) l₁₆) ∷ ‵ (froom (sliceTy (tyRef erased mut half)) l₁₅ 0) ∷ ‵ (fdies (sliceTy (tyRef erased mut half)) l₁₅)
-          ∷ ‵ (froom (tyRef erased mut half) l₁₄ 0) ∷ ‵ (fdies (tyRef erased mut half) l₁₄) ∷ ‵ (froom (sliceTy (tyRef erased mut record-type)) l₁₃ 0) ∷ ‵ (fdies (sliceTy (tyRef erased mut record-type)) l₁₃)
-          ∷ ‵ (froom (tyRef erased mut record-type) l₁₂ 0) ∷ ‵ (fdies (tyRef erased mut record-type) l₁₂) ∷ ‵ (fat fullShare word l₁₁ 0 (vint w64 k)) ∷ ‵ (fdies word l₁₁)
-          ∷ ‵ (fat fullShare word l₁₀ 0 (vint w64 n)) ∷ ‵ (fdies word l₁₀) ∷ ‵ (fat fullShare (sliceTy (tyRef (named 3) mut half)) l₉ 0 (sliceVal (xr .ptr) (length (xr .now)))) ∷ ‵ (fdies (sliceTy (tyRef (named 3) mut half)) l₉)
-          ∷ ‵ (fat fullShare (sliceTy (tyRef (named 2) mut half)) l₈ 0 (sliceVal (xl .ptr) (length (xl .now)))) ∷ ‵ (fdies (sliceTy (tyRef (named 2) mut half)) l₈) ∷ ‵ (fat fullShare (sliceTy (tyRef (named 1) mut record-type)) l₇ 0 (sliceVal (xa .ptr) (length (xa .now)))) ∷ ‵ (fdies (sliceTy (tyRef (named 1) mut record-type)) l₇)
-          ∷ ‵ (fat fullShare word l₆ 0 (vint w64 g)) ∷ ‵ (fdies word l₆) ∷ ‵ (fat fullShare word l₅ 0 (vint w64 bias)) ∷ ‵ (fdies word l₅)
-          ∷ ‵ (fat fullShare word l₄ 0 (vint w64 d)) ∷ ‵ (fdies word l₄) ∷ ‵ (fat fullShare word l₃ 0 (vint w64 e)) ∷ ‵ (fdies word l₃)
-          ∷ ‵ (fat fullShare word l₂ 0 (vint w64 w)) ∷ ‵ (fdies word l₂) ∷ ‵ (fat fullShare (sliceTy (tyRef (named 0) imm half)) l₁ 0 (sliceVal (xs .ptr) (length (xs .now)))) ∷ ‵ (fdies (sliceTy (tyRef (named 0) imm half)) l₁)
-          ∷ ‵ (froom word l₀ 0) ∷ ‵ (fdies word l₀) ∷ []) ∵ exec ! (𝓣 .C) (𝓣 .Λ) En mir.t-15 (atRet En Post) $
           assigns ! (addr ! (from ! (fld ! refl (hop ! (look-in ! 54 (sub ! 0 refl (whole !))) (stop !))))) (from ! (stop !)) (init ! 18 refl (tt, tt)) $
           assigns ! (agg ! (and-then ! (load ! (from ! (stop !)) (look ! 18 refl)) (and-then ! (load ! (from ! (fld ! refl (stop !))) (look-in ! 54 (sub ! 1 refl (whole !)))) (no-more !)))) (from ! (stop !)) (init ! 16 refl (tt, (tt, (record { fits = g-a .0 }, tt)))) $
           assigns ! (addr ! (from ! (fld ! refl (hop ! (look-in ! 52 (sub ! 0 refl (whole !))) (stop !))))) (from ! (stop !)) (init ! 14 refl (tt, tt)) $
@@ -216,10 +180,9 @@ module _ {M : Type 1} (𝓤 : URA M) (H : Heap 𝓤) (A : Atoms 𝓤) (W : Given
           calls-fill-rows ! fm mem run known-fill κs qs xs κa qa (xa .ptr .0) (xa .ptr .1) (length (xa .now)) (xa .name) ua κl ql (xl .ptr .0) (xl .ptr .1) (length (xl .now)) (xl .name) ul κr qr (xr .ptr .0) (xr .ptr .1) (length (xr .now)) (xr .name) ur w e k (d, g) (long-ua ∙ long-ya) g-a (long-ul ∙ long-yl) g-l (long-ur ∙ long-yr) g-r g-w g-e g-k (fillable g k ua ul ur merged′ (long-ul ∙ long-yl) (long-ur ∙ long-yr)) (λ νa δa νl δl νr δr. (and-then ! (load ! (from ! (stop !)) (look ! 63 refl)) (and-then ! (load ! (from ! (stop !)) (look ! 61 refl)) (and-then ! (load ! (from ! (stop !)) (look ! 59 refl)) (and-then ! (load ! (from ! (stop !)) (look ! 13 refl)) (and-then ! (load ! (from ! (stop !)) (look ! 43 refl)) (and-then ! (load ! (from ! (stop !)) (look ! 9 refl)) (and-then ! (load ! (from ! (stop !)) (look ! 5 refl)) (no-more !))))))))) (λ za zl zr held long-za long-zl long-zr.
           land ! (from ! (stop !)) (init ! 20 refl (tt, tt)) $
           forget ! 18 refl $ forget ! 16 refl $ forget ! 14 refl $ forget ! 12 refl $ forget ! 10 refl $ forget ! 8 refl $
-          keep ! (0 ∷ 1 ∷ 2 ∷ 3 ∷ 4 ∷ 5 ∷ 6 ∷ 7 ∷ 8 ∷ 9 ∷ 10 ∷ 11 ∷ 12 ∷ 13 ∷ 14 ∷ 15 ∷ 16 ∷ 17 ∷ 18 ∷ 19 ∷ 20 ∷ 21 ∷ 22 ∷ 23 ∷ 24 ∷ 25 ∷ 26 ∷ 27 ∷ 28 ∷ 29 ∷ 30 ∷ 31 ∷ 32 ∷ 33 ∷ 34 ∷ 35 ∷ 36 ∷ 37 ∷ 38 ∷ 39 ∷ 40 ∷ 41 ∷ 42 ∷ 43 ∷ 44 ∷ 45 ∷ 46 ∷ 47 ∷ 48 ∷ 49 ∷ 50 ∷ 51 ∷ 52 ∷ 53 ∷ 54 ∷ 55 ∷ 56 ∷ 57 ∷ 58 ∷ 59 ∷ 60 ∷ 61 ∷ 62 ∷ 63 ∷ 64 ∷ 65 ∷ 66 ∷ 67 ∷ 68 ∷ 69 ∷ []) $
-          by ! (go-4 n ya yl yr packed g-n long-ya long-yl long-yr k ua ul ur merged′ g-k long-ua long-ul long-ur za zl zr held long-za long-zl long-zr))
+          go-4 n ya yl yr packed g-n long-ya long-yl long-yr k ua ul ur merged′ g-k long-ua long-ul long-ur za zl zr held long-za long-zl long-zr)
 
-      go-2 : (n : ℕ) (ya : List Row) (yl : List ℕ) (yr : List ℕ) (packed : PackedAs (windowsOf (xs .now) w) (filed (windowSum (xs .now) w) d (windowsOf (xs .now) w)) ya n) (g-n : n < 2 ^ 64) (long-ya : length ya ≡ length (xa .now)) (long-yl : length yl ≡ length (xl .now)) (long-yr : length yr ≡ length (xr .now)) → ent 𝓤 (⋆ 𝓤 H A (‵ (flft κs qs) ∷ ‵ (ShrSlice (named 0) κs i32 .own xs (sliceVal (xs .ptr) (length (xs .now)) ∷ [])) ∷ ‵ (flft κa qa) ∷ ‵ (Lends.Own T.the-row (xa .ptr .0) (xa .ptr .1) (length (xa .now)) (named 0) κa (xa .name) ya)
+      go-2 : (n : ℕ) (ya : List Row) (yl : List ℕ) (yr : List ℕ) (packed : PackedAs (windowsOf (xs .now) w) (filed (windowSum (xs .now) w) d (windowsOf (xs .now) w)) ya n) (g-n : n < 2 ^ 64) (long-ya : length ya ≡ length (xa .now)) (long-yl : length yl ≡ length (xl .now)) (long-yr : length yr ≡ length (xr .now)) → Sq W (‵ (flft κs qs) ∷ ‵ (ShrSlice (named 0) κs i32 .own xs (sliceVal (xs .ptr) (length (xs .now)) ∷ [])) ∷ ‵ (flft κa qa) ∷ ‵ (Lends.Own T.the-row (xa .ptr .0) (xa .ptr .1) (length (xa .now)) (named 0) κa (xa .name) ya)
           ∷ ‵ (flft κl ql) ∷ ‵ (Lends.Own u32 (xl .ptr .0) (xl .ptr .1) (length (xl .now)) (named 0) κl (xl .name) yl) ∷ ‵ (flft κr qr) ∷ ‵ (Lends.Own u32 (xr .ptr .0) (xr .ptr .1) (length (xr .now)) (named 0) κr (xr .name) yr)
           ∷ ‵ (froom (sliceTy (tyRef erased mut half)) l₃₀ 0) ∷ ‵ (fdies (sliceTy (tyRef erased mut half)) l₃₀) ∷ ‵ (froom (tyRef erased mut half) l₂₉ 0) ∷ ‵ (fdies (tyRef erased mut half) l₂₉)
           ∷ ‵ (froom (sliceTy (tyRef erased mut half)) l₂₈ 0) ∷ ‵ (fdies (sliceTy (tyRef erased mut half)) l₂₈) ∷ ‵ (froom (tyRef erased mut half) l₂₇ 0) ∷ ‵ (fdies (tyRef erased mut half) l₂₇)
@@ -236,26 +199,8 @@ module _ {M : Type 1} (𝓤 : URA M) (H : Heap 𝓤) (A : Atoms 𝓤) (W : Given
           ∷ ‵ (fat fullShare word l₆ 0 (vint w64 g)) ∷ ‵ (fdies word l₆) ∷ ‵ (fat fullShare word l₅ 0 (vint w64 bias)) ∷ ‵ (fdies word l₅)
           ∷ ‵ (fat fullShare word l₄ 0 (vint w64 d)) ∷ ‵ (fdies word l₄) ∷ ‵ (fat fullShare word l₃ 0 (vint w64 e)) ∷ ‵ (fdies word l₃)
           ∷ ‵ (fat fullShare word l₂ 0 (vint w64 w)) ∷ ‵ (fdies word l₂) ∷ ‵ (fat fullShare (sliceTy (tyRef (named 0) imm half)) l₁ 0 (sliceVal (xs .ptr) (length (xs .now)))) ∷ ‵ (fdies (sliceTy (tyRef (named 0) imm half)) l₁)
-          ∷ ‵ (froom word l₀ 0) ∷ ‵ (fdies word l₀) ∷ [])) (Wp 𝓤 H (𝓣 .C) (𝓣 .Λ) En mir.t-8 (atReturn 𝓤 H En Post))
+          ∷ ‵ (froom word l₀ 0) ∷ ‵ (fdies word l₀) ∷ []) (runs (𝓣 .C) (𝓣 .Λ) En mir.t-8 (atRet En Post))
       go-2 n ya yl yr packed g-n long-ya long-yl long-yr =
-          qed W (‵ (flft κs qs) ∷ ‵ (ShrSlice (named 0) κs i32 .own xs (sliceVal (xs .ptr) (length (xs .now)) ∷ [])) ∷ ‵ (flft κa qa) ∷ ‵ (Lends.Own T.the-row (xa .ptr .0) (xa .ptr .1) (length (xa .now)) (named 0) κa (xa .name) ya)
-          ∷ ‵ (flft κl ql) ∷ ‵ (Lends.Own u32 (xl .ptr .0) (xl .ptr .1) (length (xl .now)) (named 0) κl (xl .name) yl) ∷ ‵ (flft κr qr) ∷ ‵ (Lends.Own u32 (xr .ptr .0) (xr .ptr .1) (length (xr .now)) (named 0) κr (xr .name) yr)
-          ∷ ‵ (froom (sliceTy (tyRef erased mut half)) l₃₀ 0) ∷ ‵ (fdies (sliceTy (tyRef erased mut half)) l₃₀) ∷ ‵ (froom (tyRef erased mut half) l₂₉ 0) ∷ ‵ (fdies (tyRef erased mut half) l₂₉)
-          ∷ ‵ (froom (sliceTy (tyRef erased mut half)) l₂₈ 0) ∷ ‵ (fdies (sliceTy (tyRef erased mut half)) l₂₈) ∷ ‵ (froom (tyRef erased mut half) l₂₇ 0) ∷ ‵ (fdies (tyRef erased mut half) l₂₇)
-          ∷ ‵ (froom (sliceTy (tyRef erased mut record-type)) l₂₆ 0) ∷ ‵ (fdies (sliceTy (tyRef erased mut record-type)) l₂₆) ∷ ‵ (froom (tyRef erased mut record-type) l₂₅ 0) ∷ ‵ (fdies (tyRef erased mut record-type) l₂₅)
-          ∷ ‵ (froom tyUnit l₂₄ 0) ∷ ‵ (fdies tyUnit l₂₄) ∷ ‵ (froom (sliceTy (tyRef erased mut half)) l₂₃ 0) ∷ ‵ (fdies (sliceTy (tyRef erased mut half)) l₂₃)
-          ∷ ‵ (froom (tyRef erased mut half) l₂₂ 0) ∷ ‵ (fdies (tyRef erased mut half) l₂₂) ∷ ‵ (froom (sliceTy (tyRef erased mut half)) l₂₁ 0) ∷ ‵ (fdies (sliceTy (tyRef erased mut half)) l₂₁)
-          ∷ ‵ (froom (tyRef erased mut half) l₂₀ 0) ∷ ‵ (fdies (tyRef erased mut half) l₂₀) ∷ ‵ (froom (sliceTy (tyRef erased mut record-type)) l₁₉ 0) ∷ ‵ (fdies (sliceTy (tyRef erased mut record-type)) l₁₉)
-          ∷ ‵ (froom (tyRef erased mut record-type) l₁₈ 0) ∷ ‵ (fdies (tyRef erased mut record-type) l₁₈) ∷ ‵ (froom (sliceTy (tyRef erased mut half)) l₁₇ 0) ∷ ‵ (fdies (sliceTy (tyRef erased mut half)) l₁₇)
-          ∷ ‵ (froom (tyRef erased mut half) l₁₆ 0) ∷ ‵ (fdies (tyRef erased mut half) l₁₆) ∷ ‵ (froom (sliceTy (tyRef erased mut half)) l₁₅ 0) ∷ ‵ (fdies (sliceTy (tyRef erased mut half)) l₁₅)
-          ∷ ‵ (froom (tyRef erased mut half) l₁₄ 0) ∷ ‵ (fdies (tyRef erased mut half) l₁₄) ∷ ‵ (froom (sliceTy (tyRef erased mut record-type)) l₁₃ 0) ∷ ‵ (fdies (sliceTy (tyRef erased mut record-type)) l₁₃)
-          ∷ ‵ (froom (tyRef erased mut record-type) l₁₂ 0) ∷ ‵ (fdies (tyRef erased mut record-type) l₁₂) ∷ ‵ (froom word l₁₁ 0) ∷ ‵ (fdies word l₁₁)
-          ∷ ‵ (fat fullShare word l₁₀ 0 (vint w64 n)) ∷ ‵ (fdies word l₁₀) ∷ ‵ (fat fullShare (sliceTy (tyRef (named 3) mut half)) l₉ 0 (sliceVal (xr .ptr) (length (xr .now)))) ∷ ‵ (fdies (sliceTy (tyRef (named 3) mut half)) l₉)
-          ∷ ‵ (fat fullShare (sliceTy (tyRef (named 2) mut half)) l₈ 0 (sliceVal (xl .ptr) (length (xl .now)))) ∷ ‵ (fdies (sliceTy (tyRef (named 2) mut half)) l₈) ∷ ‵ (fat fullShare (sliceTy (tyRef (named 1) mut record-type)) l₇ 0 (sliceVal (xa .ptr) (length (xa .now)))) ∷ ‵ (fdies (sliceTy (tyRef (named 1) mut record-type)) l₇)
-          ∷ ‵ (fat fullShare word l₆ 0 (vint w64 g)) ∷ ‵ (fdies word l₆) ∷ ‵ (fat fullShare word l₅ 0 (vint w64 bias)) ∷ ‵ (fdies word l₅)
-          ∷ ‵ (fat fullShare word l₄ 0 (vint w64 d)) ∷ ‵ (fdies word l₄) ∷ ‵ (fat fullShare word l₃ 0 (vint w64 e)) ∷ ‵ (fdies word l₃)
-          ∷ ‵ (fat fullShare word l₂ 0 (vint w64 w)) ∷ ‵ (fdies word l₂) ∷ ‵ (fat fullShare (sliceTy (tyRef (named 0) imm half)) l₁ 0 (sliceVal (xs .ptr) (length (xs .now)))) ∷ ‵ (fdies (sliceTy (tyRef (named 0) imm half)) l₁)
-          ∷ ‵ (froom word l₀ 0) ∷ ‵ (fdies word l₀) ∷ []) ∵ exec ! (𝓣 .C) (𝓣 .Λ) En mir.t-8 (atRet En Post) $
           assigns ! (addr ! (from ! (fld ! refl (hop ! (look-in ! 54 (sub ! 0 refl (whole !))) (stop !))))) (from ! (stop !)) (init ! 32 refl (tt, tt)) $
           assigns ! (agg ! (and-then ! (load ! (from ! (stop !)) (look ! 32 refl)) (and-then ! (load ! (from ! (fld ! refl (stop !))) (look-in ! 54 (sub ! 1 refl (whole !)))) (no-more !)))) (from ! (stop !)) (init ! 30 refl (tt, (tt, (record { fits = g-a .0 }, tt)))) $
           assigns ! (addr ! (from ! (fld ! refl (hop ! (look-in ! 52 (sub ! 0 refl (whole !))) (stop !))))) (from ! (stop !)) (init ! 28 refl (tt, tt)) $
@@ -266,10 +211,9 @@ module _ {M : Type 1} (𝓤 : URA M) (H : Heap 𝓤) (A : Atoms 𝓤) (W : Given
           calls-merge-some ! fm mem run known-merge κs qs xs κa qa (xa .ptr .0) (xa .ptr .1) (length (xa .now)) (xa .name) ya κl ql (xl .ptr .0) (xl .ptr .1) (length (xl .now)) (xl .name) yl κr qr (xr .ptr .0) (xr .ptr .1) (length (xr .now)) (xr .name) yr w e g n d long-ya g-a long-yl g-l long-yr g-r g-w g-e g-g g-n (fillable 0 n ya yl yr (unmerged n ya packed) long-yl long-yr, asked .3) (λ νa δa νl δl νr δr. (and-then ! (load ! (from ! (stop !)) (look ! 63 refl)) (and-then ! (load ! (from ! (stop !)) (look ! 61 refl)) (and-then ! (load ! (from ! (stop !)) (look ! 59 refl)) (and-then ! (load ! (from ! (stop !)) (look ! 53 refl)) (and-then ! (load ! (from ! (stop !)) (look ! 27 refl)) (and-then ! (load ! (from ! (stop !)) (look ! 45 refl)) (and-then ! (load ! (from ! (stop !)) (look ! 23 refl)) (and-then ! (load ! (from ! (stop !)) (look ! 19 refl)) (no-more !)))))))))) (λ k ua ul ur merged′ g-k long-ua long-ul long-ur.
           land ! (from ! (stop !)) (init ! 46 refl (tt, record { fits = g-k })) $
           forget ! 32 refl $ forget ! 30 refl $ forget ! 28 refl $ forget ! 26 refl $ forget ! 24 refl $ forget ! 22 refl $
-          keep ! (0 ∷ 1 ∷ 2 ∷ 3 ∷ 4 ∷ 5 ∷ 6 ∷ 7 ∷ 8 ∷ 9 ∷ 10 ∷ 11 ∷ 12 ∷ 13 ∷ 14 ∷ 15 ∷ 16 ∷ 17 ∷ 18 ∷ 19 ∷ 20 ∷ 21 ∷ 22 ∷ 23 ∷ 24 ∷ 25 ∷ 26 ∷ 27 ∷ 28 ∷ 29 ∷ 30 ∷ 31 ∷ 32 ∷ 33 ∷ 34 ∷ 35 ∷ 36 ∷ 37 ∷ 38 ∷ 39 ∷ 40 ∷ 41 ∷ 42 ∷ 43 ∷ 44 ∷ 45 ∷ 46 ∷ 47 ∷ 48 ∷ 49 ∷ 50 ∷ 51 ∷ 52 ∷ 53 ∷ 54 ∷ 55 ∷ 56 ∷ 57 ∷ 58 ∷ 59 ∷ 60 ∷ 61 ∷ 62 ∷ 63 ∷ 64 ∷ 65 ∷ 66 ∷ 67 ∷ 68 ∷ 69 ∷ []) $
-          by ! (go-3 n ya yl yr packed g-n long-ya long-yl long-yr k ua ul ur merged′ g-k long-ua long-ul long-ur))
+          go-3 n ya yl yr packed g-n long-ya long-yl long-yr k ua ul ur merged′ g-k long-ua long-ul long-ur)
 
-      go-1 : ent 𝓤 (⋆ 𝓤 H A (‵ (flft κs qs) ∷ ‵ (ShrSlice (named 0) κs i32 .own xs (sliceVal (xs .ptr) (length (xs .now)) ∷ [])) ∷ ‵ (flft κa qa) ∷ ‵ (Lends.Own T.the-row (xa .ptr .0) (xa .ptr .1) (length (xa .now)) (named 0) κa (xa .name) (xa .now))
+      go-1 : Sq W (‵ (flft κs qs) ∷ ‵ (ShrSlice (named 0) κs i32 .own xs (sliceVal (xs .ptr) (length (xs .now)) ∷ [])) ∷ ‵ (flft κa qa) ∷ ‵ (Lends.Own T.the-row (xa .ptr .0) (xa .ptr .1) (length (xa .now)) (named 0) κa (xa .name) (xa .now))
           ∷ ‵ (flft κl ql) ∷ ‵ (Lends.Own u32 (xl .ptr .0) (xl .ptr .1) (length (xl .now)) (named 0) κl (xl .name) (xl .now)) ∷ ‵ (flft κr qr) ∷ ‵ (Lends.Own u32 (xr .ptr .0) (xr .ptr .1) (length (xr .now)) (named 0) κr (xr .name) (xr .now))
           ∷ ‵ (froom (sliceTy (tyRef erased mut half)) l₃₀ 0) ∷ ‵ (fdies (sliceTy (tyRef erased mut half)) l₃₀) ∷ ‵ (froom (tyRef erased mut half) l₂₉ 0) ∷ ‵ (fdies (tyRef erased mut half) l₂₉)
           ∷ ‵ (froom (sliceTy (tyRef erased mut half)) l₂₈ 0) ∷ ‵ (fdies (sliceTy (tyRef erased mut half)) l₂₈) ∷ ‵ (froom (tyRef erased mut half) l₂₇ 0) ∷ ‵ (fdies (tyRef erased mut half) l₂₇)
@@ -286,26 +230,8 @@ module _ {M : Type 1} (𝓤 : URA M) (H : Heap 𝓤) (A : Atoms 𝓤) (W : Given
           ∷ ‵ (fat fullShare word l₆ 0 (vint w64 g)) ∷ ‵ (fdies word l₆) ∷ ‵ (fat fullShare word l₅ 0 (vint w64 bias)) ∷ ‵ (fdies word l₅)
           ∷ ‵ (fat fullShare word l₄ 0 (vint w64 d)) ∷ ‵ (fdies word l₄) ∷ ‵ (fat fullShare word l₃ 0 (vint w64 e)) ∷ ‵ (fdies word l₃)
           ∷ ‵ (fat fullShare word l₂ 0 (vint w64 w)) ∷ ‵ (fdies word l₂) ∷ ‵ (fat fullShare (sliceTy (tyRef (named 0) imm half)) l₁ 0 (sliceVal (xs .ptr) (length (xs .now)))) ∷ ‵ (fdies (sliceTy (tyRef (named 0) imm half)) l₁)
-          ∷ ‵ (froom word l₀ 0) ∷ ‵ (fdies word l₀) ∷ [])) (Wp 𝓤 H (𝓣 .C) (𝓣 .Λ) En mir.t-1 (atReturn 𝓤 H En Post))
+          ∷ ‵ (froom word l₀ 0) ∷ ‵ (fdies word l₀) ∷ []) (runs (𝓣 .C) (𝓣 .Λ) En mir.t-1 (atRet En Post))
       go-1 =
-          qed W (‵ (flft κs qs) ∷ ‵ (ShrSlice (named 0) κs i32 .own xs (sliceVal (xs .ptr) (length (xs .now)) ∷ [])) ∷ ‵ (flft κa qa) ∷ ‵ (Lends.Own T.the-row (xa .ptr .0) (xa .ptr .1) (length (xa .now)) (named 0) κa (xa .name) (xa .now))
-          ∷ ‵ (flft κl ql) ∷ ‵ (Lends.Own u32 (xl .ptr .0) (xl .ptr .1) (length (xl .now)) (named 0) κl (xl .name) (xl .now)) ∷ ‵ (flft κr qr) ∷ ‵ (Lends.Own u32 (xr .ptr .0) (xr .ptr .1) (length (xr .now)) (named 0) κr (xr .name) (xr .now))
-          ∷ ‵ (froom (sliceTy (tyRef erased mut half)) l₃₀ 0) ∷ ‵ (fdies (sliceTy (tyRef erased mut half)) l₃₀) ∷ ‵ (froom (tyRef erased mut half) l₂₉ 0) ∷ ‵ (fdies (tyRef erased mut half) l₂₉)
-          ∷ ‵ (froom (sliceTy (tyRef erased mut half)) l₂₈ 0) ∷ ‵ (fdies (sliceTy (tyRef erased mut half)) l₂₈) ∷ ‵ (froom (tyRef erased mut half) l₂₇ 0) ∷ ‵ (fdies (tyRef erased mut half) l₂₇)
-          ∷ ‵ (froom (sliceTy (tyRef erased mut record-type)) l₂₆ 0) ∷ ‵ (fdies (sliceTy (tyRef erased mut record-type)) l₂₆) ∷ ‵ (froom (tyRef erased mut record-type) l₂₅ 0) ∷ ‵ (fdies (tyRef erased mut record-type) l₂₅)
-          ∷ ‵ (froom tyUnit l₂₄ 0) ∷ ‵ (fdies tyUnit l₂₄) ∷ ‵ (froom (sliceTy (tyRef erased mut half)) l₂₃ 0) ∷ ‵ (fdies (sliceTy (tyRef erased mut half)) l₂₃)
-          ∷ ‵ (froom (tyRef erased mut half) l₂₂ 0) ∷ ‵ (fdies (tyRef erased mut half) l₂₂) ∷ ‵ (froom (sliceTy (tyRef erased mut half)) l₂₁ 0) ∷ ‵ (fdies (sliceTy (tyRef erased mut half)) l₂₁)
-          ∷ ‵ (froom (tyRef erased mut half) l₂₀ 0) ∷ ‵ (fdies (tyRef erased mut half) l₂₀) ∷ ‵ (froom (sliceTy (tyRef erased mut record-type)) l₁₉ 0) ∷ ‵ (fdies (sliceTy (tyRef erased mut record-type)) l₁₉)
-          ∷ ‵ (froom (tyRef erased mut record-type) l₁₈ 0) ∷ ‵ (fdies (tyRef erased mut record-type) l₁₈) ∷ ‵ (froom (sliceTy (tyRef erased mut half)) l₁₇ 0) ∷ ‵ (fdies (sliceTy (tyRef erased mut half)) l₁₇)
-          ∷ ‵ (froom (tyRef erased mut half) l₁₆ 0) ∷ ‵ (fdies (tyRef erased mut half) l₁₆) ∷ ‵ (froom (sliceTy (tyRef erased mut half)) l₁₅ 0) ∷ ‵ (fdies (sliceTy (tyRef erased mut half)) l₁₅)
-          ∷ ‵ (froom (tyRef erased mut half) l₁₄ 0) ∷ ‵ (fdies (tyRef erased mut half) l₁₄) ∷ ‵ (froom (sliceTy (tyRef erased mut record-type)) l₁₃ 0) ∷ ‵ (fdies (sliceTy (tyRef erased mut record-type)) l₁₃)
-          ∷ ‵ (froom (tyRef erased mut record-type) l₁₂ 0) ∷ ‵ (fdies (tyRef erased mut record-type) l₁₂) ∷ ‵ (froom word l₁₁ 0) ∷ ‵ (fdies word l₁₁)
-          ∷ ‵ (froom word l₁₀ 0) ∷ ‵ (fdies word l₁₀) ∷ ‵ (fat fullShare (sliceTy (tyRef (named 3) mut half)) l₉ 0 (sliceVal (xr .ptr) (length (xr .now)))) ∷ ‵ (fdies (sliceTy (tyRef (named 3) mut half)) l₉)
-          ∷ ‵ (fat fullShare (sliceTy (tyRef (named 2) mut half)) l₈ 0 (sliceVal (xl .ptr) (length (xl .now)))) ∷ ‵ (fdies (sliceTy (tyRef (named 2) mut half)) l₈) ∷ ‵ (fat fullShare (sliceTy (tyRef (named 1) mut record-type)) l₇ 0 (sliceVal (xa .ptr) (length (xa .now)))) ∷ ‵ (fdies (sliceTy (tyRef (named 1) mut record-type)) l₇)
-          ∷ ‵ (fat fullShare word l₆ 0 (vint w64 g)) ∷ ‵ (fdies word l₆) ∷ ‵ (fat fullShare word l₅ 0 (vint w64 bias)) ∷ ‵ (fdies word l₅)
-          ∷ ‵ (fat fullShare word l₄ 0 (vint w64 d)) ∷ ‵ (fdies word l₄) ∷ ‵ (fat fullShare word l₃ 0 (vint w64 e)) ∷ ‵ (fdies word l₃)
-          ∷ ‵ (fat fullShare word l₂ 0 (vint w64 w)) ∷ ‵ (fdies word l₂) ∷ ‵ (fat fullShare (sliceTy (tyRef (named 0) imm half)) l₁ 0 (sliceVal (xs .ptr) (length (xs .now)))) ∷ ‵ (fdies (sliceTy (tyRef (named 0) imm half)) l₁)
-          ∷ ‵ (froom word l₀ 0) ∷ ‵ (fdies word l₀) ∷ []) ∵ exec ! (𝓣 .C) (𝓣 .Λ) En mir.t-1 (atRet En Post) $
           assigns ! (addr ! (from ! (fld ! refl (hop ! (look-in ! 54 (sub ! 0 refl (whole !))) (stop !))))) (from ! (stop !)) (init ! 44 refl (tt, tt)) $
           assigns ! (agg ! (and-then ! (load ! (from ! (stop !)) (look ! 44 refl)) (and-then ! (load ! (from ! (fld ! refl (stop !))) (look-in ! 54 (sub ! 1 refl (whole !)))) (no-more !)))) (from ! (stop !)) (init ! 42 refl (tt, (tt, (record { fits = g-a .0 }, tt)))) $
           assigns ! (addr ! (from ! (fld ! refl (hop ! (look-in ! 52 (sub ! 0 refl (whole !))) (stop !))))) (from ! (stop !)) (init ! 40 refl (tt, tt)) $
@@ -316,8 +242,7 @@ module _ {M : Type 1} (𝓤 : URA M) (H : Heap 𝓤) (A : Atoms 𝓤) (W : Given
           calls-lay-rows ! fm mem run known-lay κs qs xs κa qa (xa .ptr .0) (xa .ptr .1) (length (xa .now)) (xa .name) (xa .now) κl ql (xl .ptr .0) (xl .ptr .1) (length (xl .now)) (xl .name) (xl .now) κr qr (xr .ptr .0) (xr .ptr .1) (length (xr .now)) (xr .name) (xr .now) w e d bias refl g-a refl g-l refl g-r g-w g-e g-d g-bias (asked .0, asked .1, asked .2) (λ νa δa νl δl νr δr. (and-then ! (load ! (from ! (stop !)) (look ! 63 refl)) (and-then ! (load ! (from ! (stop !)) (look ! 61 refl)) (and-then ! (load ! (from ! (stop !)) (look ! 59 refl)) (and-then ! (load ! (from ! (stop !)) (look ! 57 refl)) (and-then ! (load ! (from ! (stop !)) (look ! 55 refl)) (and-then ! (load ! (from ! (stop !)) (look ! 39 refl)) (and-then ! (load ! (from ! (stop !)) (look ! 35 refl)) (and-then ! (load ! (from ! (stop !)) (look ! 31 refl)) (no-more !)))))))))) (λ n ya yl yr packed g-n long-ya long-yl long-yr.
           land ! (from ! (stop !)) (init ! 48 refl (tt, record { fits = g-n })) $
           forget ! 44 refl $ forget ! 42 refl $ forget ! 40 refl $ forget ! 38 refl $ forget ! 36 refl $ forget ! 34 refl $
-          keep ! (0 ∷ 1 ∷ 2 ∷ 3 ∷ 4 ∷ 5 ∷ 6 ∷ 7 ∷ 8 ∷ 9 ∷ 10 ∷ 11 ∷ 12 ∷ 13 ∷ 14 ∷ 15 ∷ 16 ∷ 17 ∷ 18 ∷ 19 ∷ 20 ∷ 21 ∷ 22 ∷ 23 ∷ 24 ∷ 25 ∷ 26 ∷ 27 ∷ 28 ∷ 29 ∷ 30 ∷ 31 ∷ 32 ∷ 33 ∷ 34 ∷ 35 ∷ 36 ∷ 37 ∷ 38 ∷ 39 ∷ 40 ∷ 41 ∷ 42 ∷ 43 ∷ 44 ∷ 45 ∷ 46 ∷ 47 ∷ 48 ∷ 49 ∷ 50 ∷ 51 ∷ 52 ∷ 53 ∷ 54 ∷ 55 ∷ 56 ∷ 57 ∷ 58 ∷ 59 ∷ 60 ∷ 61 ∷ 62 ∷ 63 ∷ 64 ∷ 65 ∷ 66 ∷ 67 ∷ 68 ∷ 69 ∷ []) $
-          by ! (go-2 n ya yl yr packed g-n long-ya long-yl long-yr))
+          go-2 n ya yl yr packed g-n long-ya long-yl long-yr)
 
       -- what is had at entry is taken apart
       abbrev At-first : List (Item 𝓤)
@@ -372,7 +297,7 @@ module _ {M : Type 1} (𝓤 : URA M) (H : Heap 𝓤) (A : Atoms 𝓤) (W : Given
           move ! (1 ∷ []) $
           drop ! $
           keep ! (7 ∷ 3 ∷ 6 ∷ 2 ∷ 5 ∷ 1 ∷ 4 ∷ 0 ∷ 8 ∷ 9 ∷ 10 ∷ 11 ∷ 12 ∷ 13 ∷ 14 ∷ 15 ∷ 16 ∷ 17 ∷ 18 ∷ 19 ∷ 20 ∷ 21 ∷ 22 ∷ 23 ∷ 24 ∷ 25 ∷ 26 ∷ 27 ∷ 28 ∷ 29 ∷ 30 ∷ 31 ∷ 32 ∷ 33 ∷ 34 ∷ 35 ∷ 36 ∷ 37 ∷ 38 ∷ 39 ∷ 40 ∷ 41 ∷ 42 ∷ 43 ∷ 44 ∷ 45 ∷ 46 ∷ 47 ∷ 48 ∷ 49 ∷ 50 ∷ 51 ∷ 52 ∷ 53 ∷ 54 ∷ 55 ∷ 56 ∷ 57 ∷ 58 ∷ 59 ∷ 60 ∷ 61 ∷ 62 ∷ 63 ∷ 64 ∷ 65 ∷ 66 ∷ 67 ∷ 68 ∷ 69 ∷ []) $
-          by ! go-1
+          go-1
 
       -- the locals are allocated, and the parameters are passed
       abbrev At-entry : List (Item 𝓤)

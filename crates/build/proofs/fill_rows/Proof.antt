@@ -133,7 +133,7 @@ module _ {M : Type 1} (𝓤 : URA M) (H : Heap 𝓤) (A : Atoms 𝓤) (W : Given
       abbrev En : Env 𝓤 H
       En = (tyUnit, l₀) ∷ ((sliceTy (tyRef (named 0) imm half)), l₁) ∷ (word, l₂) ∷ (word, l₃) ∷ ((sliceTy (tyRef (named 1) mut record-type)), l₄) ∷ (word, l₅) ∷ ((sliceTy (tyRef (named 2) mut half)), l₆) ∷ ((sliceTy (tyRef (named 3) mut half)), l₇) ∷ (Pl′.mir, l₈) ∷ (tyUnit, l₉) ∷ ((tyRef erased mut record-type), l₁₀) ∷ ((sliceTy (tyRef erased mut record-type)), l₁₁) ∷ ((tyRef erased mut half), l₁₂) ∷ ((sliceTy (tyRef erased mut half)), l₁₃) ∷ ((tyRef erased mut half), l₁₄) ∷ ((sliceTy (tyRef erased mut half)), l₁₅) ∷ ((tyRef erased imm record-type), l₁₆) ∷ ((sliceTy (tyRef erased imm record-type)), l₁₇) ∷ ((tyRef erased mut half), l₁₈) ∷ ((sliceTy (tyRef erased mut half)), l₁₉) ∷ ((tyRef erased mut half), l₂₀) ∷ ((sliceTy (tyRef erased mut half)), l₂₁) ∷ []
 
-      go-5 : (za : List Row) (is-a : za ≡ take n (xa .now) ++ replicate (length (xa .now) - n) zeroRow) (long-a : length za ≡ length (xa .now)) (ul : List ℕ) (ur : List ℕ) (cleared : Cleared (xl .now) ul × Cleared (xr .now) ur) (long-ul : length ul ≡ length (xl .now)) (long-ur : length ur ≡ length (xr .now)) (p : Place) (first : At (xs .now) w e p × (p .offset ≡ 0)) (g-p : Is Pl.the-row p (low-place p ∷ [])) (zl : List ℕ) (zr : List ℕ) (passed′ : Passed has (xs .now) w n ul ur zl zr) (long-zl : length zl ≡ length ul) (long-zr : length zr ≡ length ur) → ent 𝓤 (⋆ 𝓤 H A (‵ (flft κs qs) ∷ ‵ (ShrSlice (named 0) κs i32 .own xs (sliceVal (xs .ptr) (length (xs .now)) ∷ [])) ∷ ‵ (flft κa qa) ∷ ‵ (Lends.Own T.the-row (xa .ptr .0) (xa .ptr .1) (length (xa .now)) (named 0) κa (xa .name) za)
+      go-5 : (za : List Row) (is-a : za ≡ take n (xa .now) ++ replicate (length (xa .now) - n) zeroRow) (long-a : length za ≡ length (xa .now)) (ul : List ℕ) (ur : List ℕ) (cleared : Cleared (xl .now) ul × Cleared (xr .now) ur) (long-ul : length ul ≡ length (xl .now)) (long-ur : length ur ≡ length (xr .now)) (p : Place) (first : At (xs .now) w e p × (p .offset ≡ 0)) (g-p : Is Pl.the-row p (low-place p ∷ [])) (zl : List ℕ) (zr : List ℕ) (passed′ : Passed has (xs .now) w n ul ur zl zr) (long-zl : length zl ≡ length ul) (long-zr : length zr ≡ length ur) → Sq W (‵ (flft κs qs) ∷ ‵ (ShrSlice (named 0) κs i32 .own xs (sliceVal (xs .ptr) (length (xs .now)) ∷ [])) ∷ ‵ (flft κa qa) ∷ ‵ (Lends.Own T.the-row (xa .ptr .0) (xa .ptr .1) (length (xa .now)) (named 0) κa (xa .name) za)
           ∷ ‵ (flft κl ql) ∷ ‵ (Lends.Own u32 (xl .ptr .0) (xl .ptr .1) (length (xl .now)) (named 0) κl (xl .name) zl) ∷ ‵ (flft κr qr) ∷ ‵ (Lends.Own u32 (xr .ptr .0) (xr .ptr .1) (length (xr .now)) (named 0) κr (xr .name) zr)
           ∷ ‵ (froom (sliceTy (tyRef erased mut half)) l₂₁ 0) ∷ ‵ (fdies (sliceTy (tyRef erased mut half)) l₂₁) ∷ ‵ (froom (tyRef erased mut half) l₂₀ 0) ∷ ‵ (fdies (tyRef erased mut half) l₂₀)
           ∷ ‵ (froom (sliceTy (tyRef erased mut half)) l₁₉ 0) ∷ ‵ (fdies (sliceTy (tyRef erased mut half)) l₁₉) ∷ ‵ (froom (tyRef erased mut half) l₁₈ 0) ∷ ‵ (fdies (tyRef erased mut half) l₁₈)
@@ -145,28 +145,15 @@ module _ {M : Type 1} (𝓤 : URA M) (H : Heap 𝓤) (A : Atoms 𝓤) (W : Given
           ∷ ‵ (fat fullShare (sliceTy (tyRef (named 3) mut half)) l₇ 0 (sliceVal (xr .ptr) (length (xr .now)))) ∷ ‵ (fdies (sliceTy (tyRef (named 3) mut half)) l₇) ∷ ‵ (fat fullShare (sliceTy (tyRef (named 2) mut half)) l₆ 0 (sliceVal (xl .ptr) (length (xl .now)))) ∷ ‵ (fdies (sliceTy (tyRef (named 2) mut half)) l₆)
           ∷ ‵ (fat fullShare word l₅ 0 (vint w64 n)) ∷ ‵ (fdies word l₅) ∷ ‵ (fat fullShare (sliceTy (tyRef (named 1) mut record-type)) l₄ 0 (sliceVal (xa .ptr) (length (xa .now)))) ∷ ‵ (fdies (sliceTy (tyRef (named 1) mut record-type)) l₄)
           ∷ ‵ (fat fullShare word l₃ 0 (vint w64 e)) ∷ ‵ (fdies word l₃) ∷ ‵ (fat fullShare word l₂ 0 (vint w64 w)) ∷ ‵ (fdies word l₂)
-          ∷ ‵ (fat fullShare (sliceTy (tyRef (named 0) imm half)) l₁ 0 (sliceVal (xs .ptr) (length (xs .now)))) ∷ ‵ (fdies (sliceTy (tyRef (named 0) imm half)) l₁) ∷ ‵ (froom tyUnit l₀ 0) ∷ ‵ (fdies tyUnit l₀) ∷ [])) (Wp 𝓤 H (𝓣 .C) (𝓣 .Λ) En mir.t-17 (atReturn 𝓤 H En Post))
+          ∷ ‵ (fat fullShare (sliceTy (tyRef (named 0) imm half)) l₁ 0 (sliceVal (xs .ptr) (length (xs .now)))) ∷ ‵ (fdies (sliceTy (tyRef (named 0) imm half)) l₁) ∷ ‵ (froom tyUnit l₀ 0) ∷ ‵ (fdies tyUnit l₀) ∷ []) (runs (𝓣 .C) (𝓣 .Λ) En mir.t-17 (atRet En Post))
       go-5 za is-a long-a ul ur cleared long-ul long-ur p first g-p zl zr passed′ long-zl long-zr =
-          qed W (‵ (flft κs qs) ∷ ‵ (ShrSlice (named 0) κs i32 .own xs (sliceVal (xs .ptr) (length (xs .now)) ∷ [])) ∷ ‵ (flft κa qa) ∷ ‵ (Lends.Own T.the-row (xa .ptr .0) (xa .ptr .1) (length (xa .now)) (named 0) κa (xa .name) za)
-          ∷ ‵ (flft κl ql) ∷ ‵ (Lends.Own u32 (xl .ptr .0) (xl .ptr .1) (length (xl .now)) (named 0) κl (xl .name) zl) ∷ ‵ (flft κr qr) ∷ ‵ (Lends.Own u32 (xr .ptr .0) (xr .ptr .1) (length (xr .now)) (named 0) κr (xr .name) zr)
-          ∷ ‵ (froom (sliceTy (tyRef erased mut half)) l₂₁ 0) ∷ ‵ (fdies (sliceTy (tyRef erased mut half)) l₂₁) ∷ ‵ (froom (tyRef erased mut half) l₂₀ 0) ∷ ‵ (fdies (tyRef erased mut half) l₂₀)
-          ∷ ‵ (froom (sliceTy (tyRef erased mut half)) l₁₉ 0) ∷ ‵ (fdies (sliceTy (tyRef erased mut half)) l₁₉) ∷ ‵ (froom (tyRef erased mut half) l₁₈ 0) ∷ ‵ (fdies (tyRef erased mut half) l₁₈)
-          ∷ ‵ (froom (sliceTy (tyRef erased imm record-type)) l₁₇ 0) ∷ ‵ (fdies (sliceTy (tyRef erased imm record-type)) l₁₇) ∷ ‵ (froom (tyRef erased imm record-type) l₁₆ 0) ∷ ‵ (fdies (tyRef erased imm record-type) l₁₆)
-          ∷ ‵ (froom (sliceTy (tyRef erased mut half)) l₁₅ 0) ∷ ‵ (fdies (sliceTy (tyRef erased mut half)) l₁₅) ∷ ‵ (froom (tyRef erased mut half) l₁₄ 0) ∷ ‵ (fdies (tyRef erased mut half) l₁₄)
-          ∷ ‵ (froom (sliceTy (tyRef erased mut half)) l₁₃ 0) ∷ ‵ (fdies (sliceTy (tyRef erased mut half)) l₁₃) ∷ ‵ (froom (tyRef erased mut half) l₁₂ 0) ∷ ‵ (fdies (tyRef erased mut half) l₁₂)
-          ∷ ‵ (froom (sliceTy (tyRef erased mut record-type)) l₁₁ 0) ∷ ‵ (fdies (sliceTy (tyRef erased mut record-type)) l₁₁) ∷ ‵ (froom (tyRef erased mut record-type) l₁₀ 0) ∷ ‵ (fdies (tyRef erased mut record-type) l₁₀)
-          ∷ ‵ (fat fullShare tyUnit l₉ 0 (vunit)) ∷ ‵ (fdies tyUnit l₉) ∷ ‵ (fat fullShare Pl′.mir l₈ 0 (low-place p)) ∷ ‵ (fdies Pl′.mir l₈)
-          ∷ ‵ (fat fullShare (sliceTy (tyRef (named 3) mut half)) l₇ 0 (sliceVal (xr .ptr) (length (xr .now)))) ∷ ‵ (fdies (sliceTy (tyRef (named 3) mut half)) l₇) ∷ ‵ (fat fullShare (sliceTy (tyRef (named 2) mut half)) l₆ 0 (sliceVal (xl .ptr) (length (xl .now)))) ∷ ‵ (fdies (sliceTy (tyRef (named 2) mut half)) l₆)
-          ∷ ‵ (fat fullShare word l₅ 0 (vint w64 n)) ∷ ‵ (fdies word l₅) ∷ ‵ (fat fullShare (sliceTy (tyRef (named 1) mut record-type)) l₄ 0 (sliceVal (xa .ptr) (length (xa .now)))) ∷ ‵ (fdies (sliceTy (tyRef (named 1) mut record-type)) l₄)
-          ∷ ‵ (fat fullShare word l₃ 0 (vint w64 e)) ∷ ‵ (fdies word l₃) ∷ ‵ (fat fullShare word l₂ 0 (vint w64 w)) ∷ ‵ (fdies word l₂)
-          ∷ ‵ (fat fullShare (sliceTy (tyRef (named 0) imm half)) l₁ 0 (sliceVal (xs .ptr) (length (xs .now)))) ∷ ‵ (fdies (sliceTy (tyRef (named 0) imm half)) l₁) ∷ ‵ (froom tyUnit l₀ 0) ∷ ‵ (fdies tyUnit l₀) ∷ []) ∵ exec ! (𝓣 .C) (𝓣 .Λ) En mir.t-17 (atRet En Post) $
           assigns ! (of-opd ! (unit-lit !)) (from ! (stop !)) (init ! 50 refl (tt, tt)) $
           returns ! (look ! 50 refl) $
           lose ! 50 refl refl $ lose ! 48 refl refl $ lose ! 46 refl refl $ lose ! 44 refl refl $ lose ! 42 refl refl $ lose ! 40 refl refl $ lose ! 38 refl refl $ lose ! 36 refl refl $ lose ! 34 refl refl $ lose ! 32 refl refl $ lose-room ! 30 refl refl $ lose-room ! 28 refl refl $ lose-room ! 26 refl refl $ lose-room ! 24 refl refl $ lose-room ! 22 refl refl $ lose-room ! 20 refl refl $ lose-room ! 18 refl refl $ lose-room ! 16 refl refl $ lose-room ! 14 refl refl $ lose-room ! 12 refl refl $ lose-room ! 10 refl refl $ lose-room ! 8 refl refl $ free0 ! $
           keep ! (0 ∷ 2 ∷ 4 ∷ 6 ∷ 3 ∷ 5 ∷ 7 ∷ []) $
           by ! (exits za long-a zl (long-zl ∙ long-ul) zr (long-zr ∙ long-ur) (holds za is-a ul ur cleared zl zr passed′))
 
-      go-4 : (za : List Row) (is-a : za ≡ take n (xa .now) ++ replicate (length (xa .now) - n) zeroRow) (long-a : length za ≡ length (xa .now)) (ul : List ℕ) (ur : List ℕ) (cleared : Cleared (xl .now) ul × Cleared (xr .now) ur) (long-ul : length ul ≡ length (xl .now)) (long-ur : length ur ≡ length (xr .now)) (p : Place) (first : At (xs .now) w e p × (p .offset ≡ 0)) (g-p : Is Pl.the-row p (low-place p ∷ [])) → ent 𝓤 (⋆ 𝓤 H A (‵ (flft κs qs) ∷ ‵ (ShrSlice (named 0) κs i32 .own xs (sliceVal (xs .ptr) (length (xs .now)) ∷ [])) ∷ ‵ (flft κa qa) ∷ ‵ (Lends.Own T.the-row (xa .ptr .0) (xa .ptr .1) (length (xa .now)) (named 0) κa (xa .name) za)
+      go-4 : (za : List Row) (is-a : za ≡ take n (xa .now) ++ replicate (length (xa .now) - n) zeroRow) (long-a : length za ≡ length (xa .now)) (ul : List ℕ) (ur : List ℕ) (cleared : Cleared (xl .now) ul × Cleared (xr .now) ur) (long-ul : length ul ≡ length (xl .now)) (long-ur : length ur ≡ length (xr .now)) (p : Place) (first : At (xs .now) w e p × (p .offset ≡ 0)) (g-p : Is Pl.the-row p (low-place p ∷ [])) → Sq W (‵ (flft κs qs) ∷ ‵ (ShrSlice (named 0) κs i32 .own xs (sliceVal (xs .ptr) (length (xs .now)) ∷ [])) ∷ ‵ (flft κa qa) ∷ ‵ (Lends.Own T.the-row (xa .ptr .0) (xa .ptr .1) (length (xa .now)) (named 0) κa (xa .name) za)
           ∷ ‵ (flft κl ql) ∷ ‵ (Lends.Own u32 (xl .ptr .0) (xl .ptr .1) (length (xl .now)) (named 0) κl (xl .name) ul) ∷ ‵ (flft κr qr) ∷ ‵ (Lends.Own u32 (xr .ptr .0) (xr .ptr .1) (length (xr .now)) (named 0) κr (xr .name) ur)
           ∷ ‵ (froom (sliceTy (tyRef erased mut half)) l₂₁ 0) ∷ ‵ (fdies (sliceTy (tyRef erased mut half)) l₂₁) ∷ ‵ (froom (tyRef erased mut half) l₂₀ 0) ∷ ‵ (fdies (tyRef erased mut half) l₂₀)
           ∷ ‵ (froom (sliceTy (tyRef erased mut half)) l₁₉ 0) ∷ ‵ (fdies (sliceTy (tyRef erased mut half)) l₁₉) ∷ ‵ (froom (tyRef erased mut half) l₁₈ 0) ∷ ‵ (fdies (tyRef erased mut half) l₁₈)
@@ -178,21 +165,8 @@ module _ {M : Type 1} (𝓤 : URA M) (H : Heap 𝓤) (A : Atoms 𝓤) (W : Given
           ∷ ‵ (fat fullShare (sliceTy (tyRef (named 3) mut half)) l₇ 0 (sliceVal (xr .ptr) (length (xr .now)))) ∷ ‵ (fdies (sliceTy (tyRef (named 3) mut half)) l₇) ∷ ‵ (fat fullShare (sliceTy (tyRef (named 2) mut half)) l₆ 0 (sliceVal (xl .ptr) (length (xl .now)))) ∷ ‵ (fdies (sliceTy (tyRef (named 2) mut half)) l₆)
           ∷ ‵ (fat fullShare word l₅ 0 (vint w64 n)) ∷ ‵ (fdies word l₅) ∷ ‵ (fat fullShare (sliceTy (tyRef (named 1) mut record-type)) l₄ 0 (sliceVal (xa .ptr) (length (xa .now)))) ∷ ‵ (fdies (sliceTy (tyRef (named 1) mut record-type)) l₄)
           ∷ ‵ (fat fullShare word l₃ 0 (vint w64 e)) ∷ ‵ (fdies word l₃) ∷ ‵ (fat fullShare word l₂ 0 (vint w64 w)) ∷ ‵ (fdies word l₂)
-          ∷ ‵ (fat fullShare (sliceTy (tyRef (named 0) imm half)) l₁ 0 (sliceVal (xs .ptr) (length (xs .now)))) ∷ ‵ (fdies (sliceTy (tyRef (named 0) imm half)) l₁) ∷ ‵ (froom tyUnit l₀ 0) ∷ ‵ (fdies tyUnit l₀) ∷ [])) (Wp 𝓤 H (𝓣 .C) (𝓣 .Λ) En mir.t-10 (atReturn 𝓤 H En Post))
+          ∷ ‵ (fat fullShare (sliceTy (tyRef (named 0) imm half)) l₁ 0 (sliceVal (xs .ptr) (length (xs .now)))) ∷ ‵ (fdies (sliceTy (tyRef (named 0) imm half)) l₁) ∷ ‵ (froom tyUnit l₀ 0) ∷ ‵ (fdies tyUnit l₀) ∷ []) (runs (𝓣 .C) (𝓣 .Λ) En mir.t-10 (atRet En Post))
       go-4 za is-a long-a ul ur cleared long-ul long-ur p first g-p =
-          qed W (‵ (flft κs qs) ∷ ‵ (ShrSlice (named 0) κs i32 .own xs (sliceVal (xs .ptr) (length (xs .now)) ∷ [])) ∷ ‵ (flft κa qa) ∷ ‵ (Lends.Own T.the-row (xa .ptr .0) (xa .ptr .1) (length (xa .now)) (named 0) κa (xa .name) za)
-          ∷ ‵ (flft κl ql) ∷ ‵ (Lends.Own u32 (xl .ptr .0) (xl .ptr .1) (length (xl .now)) (named 0) κl (xl .name) ul) ∷ ‵ (flft κr qr) ∷ ‵ (Lends.Own u32 (xr .ptr .0) (xr .ptr .1) (length (xr .now)) (named 0) κr (xr .name) ur)
-          ∷ ‵ (froom (sliceTy (tyRef erased mut half)) l₂₁ 0) ∷ ‵ (fdies (sliceTy (tyRef erased mut half)) l₂₁) ∷ ‵ (froom (tyRef erased mut half) l₂₀ 0) ∷ ‵ (fdies (tyRef erased mut half) l₂₀)
-          ∷ ‵ (froom (sliceTy (tyRef erased mut half)) l₁₉ 0) ∷ ‵ (fdies (sliceTy (tyRef erased mut half)) l₁₉) ∷ ‵ (froom (tyRef erased mut half) l₁₈ 0) ∷ ‵ (fdies (tyRef erased mut half) l₁₈)
-          ∷ ‵ (froom (sliceTy (tyRef erased imm record-type)) l₁₇ 0) ∷ ‵ (fdies (sliceTy (tyRef erased imm record-type)) l₁₇) ∷ ‵ (froom (tyRef erased imm record-type) l₁₆ 0) ∷ ‵ (fdies (tyRef erased imm record-type) l₁₆)
-          ∷ ‵ (froom (sliceTy (tyRef erased mut half)) l₁₅ 0) ∷ ‵ (fdies (sliceTy (tyRef erased mut half)) l₁₅) ∷ ‵ (froom (tyRef erased mut half) l₁₄ 0) ∷ ‵ (fdies (tyRef erased mut half) l₁₄)
-          ∷ ‵ (froom (sliceTy (tyRef erased mut half)) l₁₃ 0) ∷ ‵ (fdies (sliceTy (tyRef erased mut half)) l₁₃) ∷ ‵ (froom (tyRef erased mut half) l₁₂ 0) ∷ ‵ (fdies (tyRef erased mut half) l₁₂)
-          ∷ ‵ (froom (sliceTy (tyRef erased mut record-type)) l₁₁ 0) ∷ ‵ (fdies (sliceTy (tyRef erased mut record-type)) l₁₁) ∷ ‵ (froom (tyRef erased mut record-type) l₁₀ 0) ∷ ‵ (fdies (tyRef erased mut record-type) l₁₀)
-          ∷ ‵ (fat fullShare tyUnit l₉ 0 (vunit)) ∷ ‵ (fdies tyUnit l₉) ∷ ‵ (fat fullShare Pl′.mir l₈ 0 (low-place p)) ∷ ‵ (fdies Pl′.mir l₈)
-          ∷ ‵ (fat fullShare (sliceTy (tyRef (named 3) mut half)) l₇ 0 (sliceVal (xr .ptr) (length (xr .now)))) ∷ ‵ (fdies (sliceTy (tyRef (named 3) mut half)) l₇) ∷ ‵ (fat fullShare (sliceTy (tyRef (named 2) mut half)) l₆ 0 (sliceVal (xl .ptr) (length (xl .now)))) ∷ ‵ (fdies (sliceTy (tyRef (named 2) mut half)) l₆)
-          ∷ ‵ (fat fullShare word l₅ 0 (vint w64 n)) ∷ ‵ (fdies word l₅) ∷ ‵ (fat fullShare (sliceTy (tyRef (named 1) mut record-type)) l₄ 0 (sliceVal (xa .ptr) (length (xa .now)))) ∷ ‵ (fdies (sliceTy (tyRef (named 1) mut record-type)) l₄)
-          ∷ ‵ (fat fullShare word l₃ 0 (vint w64 e)) ∷ ‵ (fdies word l₃) ∷ ‵ (fat fullShare word l₂ 0 (vint w64 w)) ∷ ‵ (fdies word l₂)
-          ∷ ‵ (fat fullShare (sliceTy (tyRef (named 0) imm half)) l₁ 0 (sliceVal (xs .ptr) (length (xs .now)))) ∷ ‵ (fdies (sliceTy (tyRef (named 0) imm half)) l₁) ∷ ‵ (froom tyUnit l₀ 0) ∷ ‵ (fdies tyUnit l₀) ∷ []) ∵ exec ! (𝓣 .C) (𝓣 .Λ) En mir.t-10 (atRet En Post) $
           assigns ! (addr ! (from ! (fld ! refl (hop ! (look-in ! 42 (sub ! 0 refl (whole !))) (stop !))))) (from ! (stop !)) (init ! 18 refl (tt, tt)) $
           assigns ! (agg ! (and-then ! (load ! (from ! (stop !)) (look ! 18 refl)) (and-then ! (load ! (from ! (fld ! refl (stop !))) (look-in ! 42 (sub ! 1 refl (whole !)))) (no-more !)))) (from ! (stop !)) (init ! 16 refl (tt, (tt, (record { fits = g-a .0 }, tt)))) $
           assigns ! (addr ! (from ! (fld ! refl (hop ! (look-in ! 38 (sub ! 0 refl (whole !))) (stop !))))) (from ! (stop !)) (init ! 14 refl (tt, tt)) $
@@ -203,10 +177,9 @@ module _ {M : Type 1} (𝓤 : URA M) (H : Heap 𝓤) (A : Atoms 𝓤) (W : Given
           calls-fill-parts ! fm mem run known-fill κs qs xs κa qa (xa .ptr .0) (xa .ptr .1) (length (xa .now)) (xa .name) za κl ql (xl .ptr .0) (xl .ptr .1) (length (xl .now)) (xl .name) ul κr qr (xr .ptr .0) (xr .ptr .1) (length (xr .now)) (xr .name) ur w e n p has long-a g-a long-ul g-l long-ur g-r g-w g-e g-n g-p (passable za is-a ul ur cleared p first) (λ νa δa νl δl νr δr. (and-then ! (load ! (from ! (stop !)) (look ! 45 refl)) (and-then ! (load ! (from ! (stop !)) (look ! 43 refl)) (and-then ! (load ! (from ! (stop !)) (look ! 41 refl)) (and-then ! (load ! (from ! (stop !)) (look ! 13 refl)) (and-then ! (load ! (from ! (stop !)) (look ! 37 refl)) (and-then ! (load ! (from ! (stop !)) (look ! 31 refl)) (and-then ! (load ! (from ! (stop !)) (look ! 9 refl)) (and-then ! (load ! (from ! (stop !)) (look ! 5 refl)) (no-more !)))))))))) (λ zl zr passed′ long-zl long-zr.
           land ! (from ! (stop !)) (store ! 32 refl (tt, tt)) $
           forget ! 18 refl $ forget ! 16 refl $ forget ! 14 refl $ forget ! 12 refl $ forget ! 10 refl $ forget ! 8 refl $
-          keep ! (0 ∷ 1 ∷ 2 ∷ 3 ∷ 4 ∷ 5 ∷ 6 ∷ 7 ∷ 8 ∷ 9 ∷ 10 ∷ 11 ∷ 12 ∷ 13 ∷ 14 ∷ 15 ∷ 16 ∷ 17 ∷ 18 ∷ 19 ∷ 20 ∷ 21 ∷ 22 ∷ 23 ∷ 24 ∷ 25 ∷ 26 ∷ 27 ∷ 28 ∷ 29 ∷ 30 ∷ 31 ∷ 32 ∷ 33 ∷ 34 ∷ 35 ∷ 36 ∷ 37 ∷ 38 ∷ 39 ∷ 40 ∷ 41 ∷ 42 ∷ 43 ∷ 44 ∷ 45 ∷ 46 ∷ 47 ∷ 48 ∷ 49 ∷ 50 ∷ 51 ∷ []) $
-          by ! (go-5 za is-a long-a ul ur cleared long-ul long-ur p first g-p zl zr passed′ long-zl long-zr))
+          go-5 za is-a long-a ul ur cleared long-ul long-ur p first g-p zl zr passed′ long-zl long-zr)
 
-      go-3 : (za : List Row) (is-a : za ≡ take n (xa .now) ++ replicate (length (xa .now) - n) zeroRow) (long-a : length za ≡ length (xa .now)) (ul : List ℕ) (ur : List ℕ) (cleared : Cleared (xl .now) ul × Cleared (xr .now) ur) (long-ul : length ul ≡ length (xl .now)) (long-ur : length ur ≡ length (xr .now)) → ent 𝓤 (⋆ 𝓤 H A (‵ (flft κs qs) ∷ ‵ (ShrSlice (named 0) κs i32 .own xs (sliceVal (xs .ptr) (length (xs .now)) ∷ [])) ∷ ‵ (flft κa qa) ∷ ‵ (Lends.Own T.the-row (xa .ptr .0) (xa .ptr .1) (length (xa .now)) (named 0) κa (xa .name) za)
+      go-3 : (za : List Row) (is-a : za ≡ take n (xa .now) ++ replicate (length (xa .now) - n) zeroRow) (long-a : length za ≡ length (xa .now)) (ul : List ℕ) (ur : List ℕ) (cleared : Cleared (xl .now) ul × Cleared (xr .now) ur) (long-ul : length ul ≡ length (xl .now)) (long-ur : length ur ≡ length (xr .now)) → Sq W (‵ (flft κs qs) ∷ ‵ (ShrSlice (named 0) κs i32 .own xs (sliceVal (xs .ptr) (length (xs .now)) ∷ [])) ∷ ‵ (flft κa qa) ∷ ‵ (Lends.Own T.the-row (xa .ptr .0) (xa .ptr .1) (length (xa .now)) (named 0) κa (xa .name) za)
           ∷ ‵ (flft κl ql) ∷ ‵ (Lends.Own u32 (xl .ptr .0) (xl .ptr .1) (length (xl .now)) (named 0) κl (xl .name) ul) ∷ ‵ (flft κr qr) ∷ ‵ (Lends.Own u32 (xr .ptr .0) (xr .ptr .1) (length (xr .now)) (named 0) κr (xr .name) ur)
           ∷ ‵ (froom (sliceTy (tyRef erased mut half)) l₂₁ 0) ∷ ‵ (fdies (sliceTy (tyRef erased mut half)) l₂₁) ∷ ‵ (froom (tyRef erased mut half) l₂₀ 0) ∷ ‵ (fdies (tyRef erased mut half) l₂₀)
           ∷ ‵ (froom (sliceTy (tyRef erased mut half)) l₁₉ 0) ∷ ‵ (fdies (sliceTy (tyRef erased mut half)) l₁₉) ∷ ‵ (froom (tyRef erased mut half) l₁₈ 0) ∷ ‵ (fdies (tyRef erased mut half) l₁₈)
@@ -218,28 +191,14 @@ module _ {M : Type 1} (𝓤 : URA M) (H : Heap 𝓤) (A : Atoms 𝓤) (W : Given
           ∷ ‵ (fat fullShare (sliceTy (tyRef (named 3) mut half)) l₇ 0 (sliceVal (xr .ptr) (length (xr .now)))) ∷ ‵ (fdies (sliceTy (tyRef (named 3) mut half)) l₇) ∷ ‵ (fat fullShare (sliceTy (tyRef (named 2) mut half)) l₆ 0 (sliceVal (xl .ptr) (length (xl .now)))) ∷ ‵ (fdies (sliceTy (tyRef (named 2) mut half)) l₆)
           ∷ ‵ (fat fullShare word l₅ 0 (vint w64 n)) ∷ ‵ (fdies word l₅) ∷ ‵ (fat fullShare (sliceTy (tyRef (named 1) mut record-type)) l₄ 0 (sliceVal (xa .ptr) (length (xa .now)))) ∷ ‵ (fdies (sliceTy (tyRef (named 1) mut record-type)) l₄)
           ∷ ‵ (fat fullShare word l₃ 0 (vint w64 e)) ∷ ‵ (fdies word l₃) ∷ ‵ (fat fullShare word l₂ 0 (vint w64 w)) ∷ ‵ (fdies word l₂)
-          ∷ ‵ (fat fullShare (sliceTy (tyRef (named 0) imm half)) l₁ 0 (sliceVal (xs .ptr) (length (xs .now)))) ∷ ‵ (fdies (sliceTy (tyRef (named 0) imm half)) l₁) ∷ ‵ (froom tyUnit l₀ 0) ∷ ‵ (fdies tyUnit l₀) ∷ [])) (Wp 𝓤 H (𝓣 .C) (𝓣 .Λ) En mir.t-9 (atReturn 𝓤 H En Post))
+          ∷ ‵ (fat fullShare (sliceTy (tyRef (named 0) imm half)) l₁ 0 (sliceVal (xs .ptr) (length (xs .now)))) ∷ ‵ (fdies (sliceTy (tyRef (named 0) imm half)) l₁) ∷ ‵ (froom tyUnit l₀ 0) ∷ ‵ (fdies tyUnit l₀) ∷ []) (runs (𝓣 .C) (𝓣 .Λ) En mir.t-9 (atRet En Post))
       go-3 za is-a long-a ul ur cleared long-ul long-ur =
-          qed W (‵ (flft κs qs) ∷ ‵ (ShrSlice (named 0) κs i32 .own xs (sliceVal (xs .ptr) (length (xs .now)) ∷ [])) ∷ ‵ (flft κa qa) ∷ ‵ (Lends.Own T.the-row (xa .ptr .0) (xa .ptr .1) (length (xa .now)) (named 0) κa (xa .name) za)
-          ∷ ‵ (flft κl ql) ∷ ‵ (Lends.Own u32 (xl .ptr .0) (xl .ptr .1) (length (xl .now)) (named 0) κl (xl .name) ul) ∷ ‵ (flft κr qr) ∷ ‵ (Lends.Own u32 (xr .ptr .0) (xr .ptr .1) (length (xr .now)) (named 0) κr (xr .name) ur)
-          ∷ ‵ (froom (sliceTy (tyRef erased mut half)) l₂₁ 0) ∷ ‵ (fdies (sliceTy (tyRef erased mut half)) l₂₁) ∷ ‵ (froom (tyRef erased mut half) l₂₀ 0) ∷ ‵ (fdies (tyRef erased mut half) l₂₀)
-          ∷ ‵ (froom (sliceTy (tyRef erased mut half)) l₁₉ 0) ∷ ‵ (fdies (sliceTy (tyRef erased mut half)) l₁₉) ∷ ‵ (froom (tyRef erased mut half) l₁₈ 0) ∷ ‵ (fdies (tyRef erased mut half) l₁₈)
-          ∷ ‵ (froom (sliceTy (tyRef erased imm record-type)) l₁₇ 0) ∷ ‵ (fdies (sliceTy (tyRef erased imm record-type)) l₁₇) ∷ ‵ (froom (tyRef erased imm record-type) l₁₆ 0) ∷ ‵ (fdies (tyRef erased imm record-type) l₁₆)
-          ∷ ‵ (froom (sliceTy (tyRef erased mut half)) l₁₅ 0) ∷ ‵ (fdies (sliceTy (tyRef erased mut half)) l₁₅) ∷ ‵ (froom (tyRef erased mut half) l₁₄ 0) ∷ ‵ (fdies (tyRef erased mut half) l₁₄)
-          ∷ ‵ (froom (sliceTy (tyRef erased mut half)) l₁₃ 0) ∷ ‵ (fdies (sliceTy (tyRef erased mut half)) l₁₃) ∷ ‵ (froom (tyRef erased mut half) l₁₂ 0) ∷ ‵ (fdies (tyRef erased mut half) l₁₂)
-          ∷ ‵ (froom (sliceTy (tyRef erased mut record-type)) l₁₁ 0) ∷ ‵ (fdies (sliceTy (tyRef erased mut record-type)) l₁₁) ∷ ‵ (froom (tyRef erased mut record-type) l₁₀ 0) ∷ ‵ (fdies (tyRef erased mut record-type) l₁₀)
-          ∷ ‵ (fat fullShare tyUnit l₉ 0 (vunit)) ∷ ‵ (fdies tyUnit l₉) ∷ ‵ (froom Pl′.mir l₈ 0) ∷ ‵ (fdies Pl′.mir l₈)
-          ∷ ‵ (fat fullShare (sliceTy (tyRef (named 3) mut half)) l₇ 0 (sliceVal (xr .ptr) (length (xr .now)))) ∷ ‵ (fdies (sliceTy (tyRef (named 3) mut half)) l₇) ∷ ‵ (fat fullShare (sliceTy (tyRef (named 2) mut half)) l₆ 0 (sliceVal (xl .ptr) (length (xl .now)))) ∷ ‵ (fdies (sliceTy (tyRef (named 2) mut half)) l₆)
-          ∷ ‵ (fat fullShare word l₅ 0 (vint w64 n)) ∷ ‵ (fdies word l₅) ∷ ‵ (fat fullShare (sliceTy (tyRef (named 1) mut record-type)) l₄ 0 (sliceVal (xa .ptr) (length (xa .now)))) ∷ ‵ (fdies (sliceTy (tyRef (named 1) mut record-type)) l₄)
-          ∷ ‵ (fat fullShare word l₃ 0 (vint w64 e)) ∷ ‵ (fdies word l₃) ∷ ‵ (fat fullShare word l₂ 0 (vint w64 w)) ∷ ‵ (fdies word l₂)
-          ∷ ‵ (fat fullShare (sliceTy (tyRef (named 0) imm half)) l₁ 0 (sliceVal (xs .ptr) (length (xs .now)))) ∷ ‵ (fdies (sliceTy (tyRef (named 0) imm half)) l₁) ∷ ‵ (froom tyUnit l₀ 0) ∷ ‵ (fdies tyUnit l₀) ∷ []) ∵ exec ! (𝓣 .C) (𝓣 .Λ) En mir.t-9 (atRet En Post) $
           move ! (0 ∷ 1 ∷ []) $
           calls-first-place ! fm mem run known-first κs qs xs w e g-w g-e (asked .lent) (and-then ! (load ! (from ! (stop !)) (look ! 48 refl)) (and-then ! (load ! (from ! (stop !)) (look ! 46 refl)) (and-then ! (load ! (from ! (stop !)) (look ! 44 refl)) (no-more !)))) (λ p first g-p.
           land ! (from ! (stop !)) (init ! 34 refl (LL.lawful Pl.the-type Pl′.the-laws 𝓤 H A W .typed p _ g-p .0)) $
-          keep ! (0 ∷ 1 ∷ 2 ∷ 3 ∷ 4 ∷ 5 ∷ 6 ∷ 7 ∷ 8 ∷ 9 ∷ 10 ∷ 11 ∷ 12 ∷ 13 ∷ 14 ∷ 15 ∷ 16 ∷ 17 ∷ 18 ∷ 19 ∷ 20 ∷ 21 ∷ 22 ∷ 23 ∷ 24 ∷ 25 ∷ 26 ∷ 27 ∷ 28 ∷ 29 ∷ 30 ∷ 31 ∷ 32 ∷ 33 ∷ 34 ∷ 35 ∷ 36 ∷ 37 ∷ 38 ∷ 39 ∷ 40 ∷ 41 ∷ 42 ∷ 43 ∷ 44 ∷ 45 ∷ 46 ∷ 47 ∷ 48 ∷ 49 ∷ 50 ∷ 51 ∷ []) $
-          by ! (go-4 za is-a long-a ul ur cleared long-ul long-ur p first g-p))
+          go-4 za is-a long-a ul ur cleared long-ul long-ur p first g-p)
 
-      go-2 : (za : List Row) (is-a : za ≡ take n (xa .now) ++ replicate (length (xa .now) - n) zeroRow) (long-a : length za ≡ length (xa .now)) → ent 𝓤 (⋆ 𝓤 H A (‵ (flft κs qs) ∷ ‵ (ShrSlice (named 0) κs i32 .own xs (sliceVal (xs .ptr) (length (xs .now)) ∷ [])) ∷ ‵ (flft κa qa) ∷ ‵ (Lends.Own T.the-row (xa .ptr .0) (xa .ptr .1) (length (xa .now)) (named 0) κa (xa .name) za)
+      go-2 : (za : List Row) (is-a : za ≡ take n (xa .now) ++ replicate (length (xa .now) - n) zeroRow) (long-a : length za ≡ length (xa .now)) → Sq W (‵ (flft κs qs) ∷ ‵ (ShrSlice (named 0) κs i32 .own xs (sliceVal (xs .ptr) (length (xs .now)) ∷ [])) ∷ ‵ (flft κa qa) ∷ ‵ (Lends.Own T.the-row (xa .ptr .0) (xa .ptr .1) (length (xa .now)) (named 0) κa (xa .name) za)
           ∷ ‵ (flft κl ql) ∷ ‵ (Lends.Own u32 (xl .ptr .0) (xl .ptr .1) (length (xl .now)) (named 0) κl (xl .name) (xl .now)) ∷ ‵ (flft κr qr) ∷ ‵ (Lends.Own u32 (xr .ptr .0) (xr .ptr .1) (length (xr .now)) (named 0) κr (xr .name) (xr .now))
           ∷ ‵ (froom (sliceTy (tyRef erased mut half)) l₂₁ 0) ∷ ‵ (fdies (sliceTy (tyRef erased mut half)) l₂₁) ∷ ‵ (froom (tyRef erased mut half) l₂₀ 0) ∷ ‵ (fdies (tyRef erased mut half) l₂₀)
           ∷ ‵ (froom (sliceTy (tyRef erased mut half)) l₁₉ 0) ∷ ‵ (fdies (sliceTy (tyRef erased mut half)) l₁₉) ∷ ‵ (froom (tyRef erased mut half) l₁₈ 0) ∷ ‵ (fdies (tyRef erased mut half) l₁₈)
@@ -251,21 +210,8 @@ module _ {M : Type 1} (𝓤 : URA M) (H : Heap 𝓤) (A : Atoms 𝓤) (W : Given
           ∷ ‵ (fat fullShare (sliceTy (tyRef (named 3) mut half)) l₇ 0 (sliceVal (xr .ptr) (length (xr .now)))) ∷ ‵ (fdies (sliceTy (tyRef (named 3) mut half)) l₇) ∷ ‵ (fat fullShare (sliceTy (tyRef (named 2) mut half)) l₆ 0 (sliceVal (xl .ptr) (length (xl .now)))) ∷ ‵ (fdies (sliceTy (tyRef (named 2) mut half)) l₆)
           ∷ ‵ (fat fullShare word l₅ 0 (vint w64 n)) ∷ ‵ (fdies word l₅) ∷ ‵ (fat fullShare (sliceTy (tyRef (named 1) mut record-type)) l₄ 0 (sliceVal (xa .ptr) (length (xa .now)))) ∷ ‵ (fdies (sliceTy (tyRef (named 1) mut record-type)) l₄)
           ∷ ‵ (fat fullShare word l₃ 0 (vint w64 e)) ∷ ‵ (fdies word l₃) ∷ ‵ (fat fullShare word l₂ 0 (vint w64 w)) ∷ ‵ (fdies word l₂)
-          ∷ ‵ (fat fullShare (sliceTy (tyRef (named 0) imm half)) l₁ 0 (sliceVal (xs .ptr) (length (xs .now)))) ∷ ‵ (fdies (sliceTy (tyRef (named 0) imm half)) l₁) ∷ ‵ (froom tyUnit l₀ 0) ∷ ‵ (fdies tyUnit l₀) ∷ [])) (Wp 𝓤 H (𝓣 .C) (𝓣 .Λ) En mir.t-4 (atReturn 𝓤 H En Post))
+          ∷ ‵ (fat fullShare (sliceTy (tyRef (named 0) imm half)) l₁ 0 (sliceVal (xs .ptr) (length (xs .now)))) ∷ ‵ (fdies (sliceTy (tyRef (named 0) imm half)) l₁) ∷ ‵ (froom tyUnit l₀ 0) ∷ ‵ (fdies tyUnit l₀) ∷ []) (runs (𝓣 .C) (𝓣 .Λ) En mir.t-4 (atRet En Post))
       go-2 za is-a long-a =
-          qed W (‵ (flft κs qs) ∷ ‵ (ShrSlice (named 0) κs i32 .own xs (sliceVal (xs .ptr) (length (xs .now)) ∷ [])) ∷ ‵ (flft κa qa) ∷ ‵ (Lends.Own T.the-row (xa .ptr .0) (xa .ptr .1) (length (xa .now)) (named 0) κa (xa .name) za)
-          ∷ ‵ (flft κl ql) ∷ ‵ (Lends.Own u32 (xl .ptr .0) (xl .ptr .1) (length (xl .now)) (named 0) κl (xl .name) (xl .now)) ∷ ‵ (flft κr qr) ∷ ‵ (Lends.Own u32 (xr .ptr .0) (xr .ptr .1) (length (xr .now)) (named 0) κr (xr .name) (xr .now))
-          ∷ ‵ (froom (sliceTy (tyRef erased mut half)) l₂₁ 0) ∷ ‵ (fdies (sliceTy (tyRef erased mut half)) l₂₁) ∷ ‵ (froom (tyRef erased mut half) l₂₀ 0) ∷ ‵ (fdies (tyRef erased mut half) l₂₀)
-          ∷ ‵ (froom (sliceTy (tyRef erased mut half)) l₁₉ 0) ∷ ‵ (fdies (sliceTy (tyRef erased mut half)) l₁₉) ∷ ‵ (froom (tyRef erased mut half) l₁₈ 0) ∷ ‵ (fdies (tyRef erased mut half) l₁₈)
-          ∷ ‵ (froom (sliceTy (tyRef erased imm record-type)) l₁₇ 0) ∷ ‵ (fdies (sliceTy (tyRef erased imm record-type)) l₁₇) ∷ ‵ (froom (tyRef erased imm record-type) l₁₆ 0) ∷ ‵ (fdies (tyRef erased imm record-type) l₁₆)
-          ∷ ‵ (froom (sliceTy (tyRef erased mut half)) l₁₅ 0) ∷ ‵ (fdies (sliceTy (tyRef erased mut half)) l₁₅) ∷ ‵ (froom (tyRef erased mut half) l₁₄ 0) ∷ ‵ (fdies (tyRef erased mut half) l₁₄)
-          ∷ ‵ (froom (sliceTy (tyRef erased mut half)) l₁₃ 0) ∷ ‵ (fdies (sliceTy (tyRef erased mut half)) l₁₃) ∷ ‵ (froom (tyRef erased mut half) l₁₂ 0) ∷ ‵ (fdies (tyRef erased mut half) l₁₂)
-          ∷ ‵ (froom (sliceTy (tyRef erased mut record-type)) l₁₁ 0) ∷ ‵ (fdies (sliceTy (tyRef erased mut record-type)) l₁₁) ∷ ‵ (froom (tyRef erased mut record-type) l₁₀ 0) ∷ ‵ (fdies (tyRef erased mut record-type) l₁₀)
-          ∷ ‵ (fat fullShare tyUnit l₉ 0 (vunit)) ∷ ‵ (fdies tyUnit l₉) ∷ ‵ (froom Pl′.mir l₈ 0) ∷ ‵ (fdies Pl′.mir l₈)
-          ∷ ‵ (fat fullShare (sliceTy (tyRef (named 3) mut half)) l₇ 0 (sliceVal (xr .ptr) (length (xr .now)))) ∷ ‵ (fdies (sliceTy (tyRef (named 3) mut half)) l₇) ∷ ‵ (fat fullShare (sliceTy (tyRef (named 2) mut half)) l₆ 0 (sliceVal (xl .ptr) (length (xl .now)))) ∷ ‵ (fdies (sliceTy (tyRef (named 2) mut half)) l₆)
-          ∷ ‵ (fat fullShare word l₅ 0 (vint w64 n)) ∷ ‵ (fdies word l₅) ∷ ‵ (fat fullShare (sliceTy (tyRef (named 1) mut record-type)) l₄ 0 (sliceVal (xa .ptr) (length (xa .now)))) ∷ ‵ (fdies (sliceTy (tyRef (named 1) mut record-type)) l₄)
-          ∷ ‵ (fat fullShare word l₃ 0 (vint w64 e)) ∷ ‵ (fdies word l₃) ∷ ‵ (fat fullShare word l₂ 0 (vint w64 w)) ∷ ‵ (fdies word l₂)
-          ∷ ‵ (fat fullShare (sliceTy (tyRef (named 0) imm half)) l₁ 0 (sliceVal (xs .ptr) (length (xs .now)))) ∷ ‵ (fdies (sliceTy (tyRef (named 0) imm half)) l₁) ∷ ‵ (froom tyUnit l₀ 0) ∷ ‵ (fdies tyUnit l₀) ∷ []) ∵ exec ! (𝓣 .C) (𝓣 .Λ) En mir.t-4 (atRet En Post) $
           assigns ! (addr ! (from ! (fld ! refl (hop ! (look-in ! 38 (sub ! 0 refl (whole !))) (stop !))))) (from ! (stop !)) (init ! 26 refl (tt, tt)) $
           assigns ! (agg ! (and-then ! (load ! (from ! (stop !)) (look ! 26 refl)) (and-then ! (load ! (from ! (fld ! refl (stop !))) (look-in ! 38 (sub ! 1 refl (whole !)))) (no-more !)))) (from ! (stop !)) (init ! 24 refl (tt, (tt, (record { fits = g-l .0 }, tt)))) $
           assigns ! (addr ! (from ! (fld ! refl (hop ! (look-in ! 36 (sub ! 0 refl (whole !))) (stop !))))) (from ! (stop !)) (init ! 22 refl (tt, tt)) $
@@ -275,9 +221,9 @@ module _ {M : Type 1} (𝓤 : URA M) (H : Heap 𝓤) (A : Atoms 𝓤) (W : Given
           land ! (from ! (stop !)) (store ! 32 refl (tt, tt)) $
           forget ! 26 refl $ forget ! 24 refl $ forget ! 22 refl $ forget ! 20 refl $
           keep ! (4 ∷ 5 ∷ 6 ∷ 7 ∷ 0 ∷ 1 ∷ 2 ∷ 3 ∷ 8 ∷ 9 ∷ 10 ∷ 11 ∷ 12 ∷ 13 ∷ 14 ∷ 15 ∷ 16 ∷ 17 ∷ 18 ∷ 19 ∷ 20 ∷ 21 ∷ 22 ∷ 23 ∷ 24 ∷ 25 ∷ 26 ∷ 27 ∷ 28 ∷ 29 ∷ 30 ∷ 31 ∷ 32 ∷ 33 ∷ 34 ∷ 35 ∷ 36 ∷ 37 ∷ 38 ∷ 39 ∷ 40 ∷ 41 ∷ 42 ∷ 43 ∷ 44 ∷ 45 ∷ 46 ∷ 47 ∷ 48 ∷ 49 ∷ 50 ∷ 51 ∷ []) $
-          by ! (go-3 za is-a long-a ul ur cleared long-ul long-ur))
+          go-3 za is-a long-a ul ur cleared long-ul long-ur)
 
-      go-1 : ent 𝓤 (⋆ 𝓤 H A (‵ (flft κs qs) ∷ ‵ (ShrSlice (named 0) κs i32 .own xs (sliceVal (xs .ptr) (length (xs .now)) ∷ [])) ∷ ‵ (flft κa qa) ∷ ‵ (Lends.Own T.the-row (xa .ptr .0) (xa .ptr .1) (length (xa .now)) (named 0) κa (xa .name) (xa .now))
+      go-1 : Sq W (‵ (flft κs qs) ∷ ‵ (ShrSlice (named 0) κs i32 .own xs (sliceVal (xs .ptr) (length (xs .now)) ∷ [])) ∷ ‵ (flft κa qa) ∷ ‵ (Lends.Own T.the-row (xa .ptr .0) (xa .ptr .1) (length (xa .now)) (named 0) κa (xa .name) (xa .now))
           ∷ ‵ (flft κl ql) ∷ ‵ (Lends.Own u32 (xl .ptr .0) (xl .ptr .1) (length (xl .now)) (named 0) κl (xl .name) (xl .now)) ∷ ‵ (flft κr qr) ∷ ‵ (Lends.Own u32 (xr .ptr .0) (xr .ptr .1) (length (xr .now)) (named 0) κr (xr .name) (xr .now))
           ∷ ‵ (froom (sliceTy (tyRef erased mut half)) l₂₁ 0) ∷ ‵ (fdies (sliceTy (tyRef erased mut half)) l₂₁) ∷ ‵ (froom (tyRef erased mut half) l₂₀ 0) ∷ ‵ (fdies (tyRef erased mut half) l₂₀)
           ∷ ‵ (froom (sliceTy (tyRef erased mut half)) l₁₉ 0) ∷ ‵ (fdies (sliceTy (tyRef erased mut half)) l₁₉) ∷ ‵ (froom (tyRef erased mut half) l₁₈ 0) ∷ ‵ (fdies (tyRef erased mut half) l₁₈)
@@ -289,21 +235,8 @@ module _ {M : Type 1} (𝓤 : URA M) (H : Heap 𝓤) (A : Atoms 𝓤) (W : Given
           ∷ ‵ (fat fullShare (sliceTy (tyRef (named 3) mut half)) l₇ 0 (sliceVal (xr .ptr) (length (xr .now)))) ∷ ‵ (fdies (sliceTy (tyRef (named 3) mut half)) l₇) ∷ ‵ (fat fullShare (sliceTy (tyRef (named 2) mut half)) l₆ 0 (sliceVal (xl .ptr) (length (xl .now)))) ∷ ‵ (fdies (sliceTy (tyRef (named 2) mut half)) l₆)
           ∷ ‵ (fat fullShare word l₅ 0 (vint w64 n)) ∷ ‵ (fdies word l₅) ∷ ‵ (fat fullShare (sliceTy (tyRef (named 1) mut record-type)) l₄ 0 (sliceVal (xa .ptr) (length (xa .now)))) ∷ ‵ (fdies (sliceTy (tyRef (named 1) mut record-type)) l₄)
           ∷ ‵ (fat fullShare word l₃ 0 (vint w64 e)) ∷ ‵ (fdies word l₃) ∷ ‵ (fat fullShare word l₂ 0 (vint w64 w)) ∷ ‵ (fdies word l₂)
-          ∷ ‵ (fat fullShare (sliceTy (tyRef (named 0) imm half)) l₁ 0 (sliceVal (xs .ptr) (length (xs .now)))) ∷ ‵ (fdies (sliceTy (tyRef (named 0) imm half)) l₁) ∷ ‵ (froom tyUnit l₀ 0) ∷ ‵ (fdies tyUnit l₀) ∷ [])) (Wp 𝓤 H (𝓣 .C) (𝓣 .Λ) En mir.t-1 (atReturn 𝓤 H En Post))
+          ∷ ‵ (fat fullShare (sliceTy (tyRef (named 0) imm half)) l₁ 0 (sliceVal (xs .ptr) (length (xs .now)))) ∷ ‵ (fdies (sliceTy (tyRef (named 0) imm half)) l₁) ∷ ‵ (froom tyUnit l₀ 0) ∷ ‵ (fdies tyUnit l₀) ∷ []) (runs (𝓣 .C) (𝓣 .Λ) En mir.t-1 (atRet En Post))
       go-1 =
-          qed W (‵ (flft κs qs) ∷ ‵ (ShrSlice (named 0) κs i32 .own xs (sliceVal (xs .ptr) (length (xs .now)) ∷ [])) ∷ ‵ (flft κa qa) ∷ ‵ (Lends.Own T.the-row (xa .ptr .0) (xa .ptr .1) (length (xa .now)) (named 0) κa (xa .name) (xa .now))
-          ∷ ‵ (flft κl ql) ∷ ‵ (Lends.Own u32 (xl .ptr .0) (xl .ptr .1) (length (xl .now)) (named 0) κl (xl .name) (xl .now)) ∷ ‵ (flft κr qr) ∷ ‵ (Lends.Own u32 (xr .ptr .0) (xr .ptr .1) (length (xr .now)) (named 0) κr (xr .name) (xr .now))
-          ∷ ‵ (froom (sliceTy (tyRef erased mut half)) l₂₁ 0) ∷ ‵ (fdies (sliceTy (tyRef erased mut half)) l₂₁) ∷ ‵ (froom (tyRef erased mut half) l₂₀ 0) ∷ ‵ (fdies (tyRef erased mut half) l₂₀)
-          ∷ ‵ (froom (sliceTy (tyRef erased mut half)) l₁₉ 0) ∷ ‵ (fdies (sliceTy (tyRef erased mut half)) l₁₉) ∷ ‵ (froom (tyRef erased mut half) l₁₈ 0) ∷ ‵ (fdies (tyRef erased mut half) l₁₈)
-          ∷ ‵ (froom (sliceTy (tyRef erased imm record-type)) l₁₇ 0) ∷ ‵ (fdies (sliceTy (tyRef erased imm record-type)) l₁₇) ∷ ‵ (froom (tyRef erased imm record-type) l₁₆ 0) ∷ ‵ (fdies (tyRef erased imm record-type) l₁₆)
-          ∷ ‵ (froom (sliceTy (tyRef erased mut half)) l₁₅ 0) ∷ ‵ (fdies (sliceTy (tyRef erased mut half)) l₁₅) ∷ ‵ (froom (tyRef erased mut half) l₁₄ 0) ∷ ‵ (fdies (tyRef erased mut half) l₁₄)
-          ∷ ‵ (froom (sliceTy (tyRef erased mut half)) l₁₃ 0) ∷ ‵ (fdies (sliceTy (tyRef erased mut half)) l₁₃) ∷ ‵ (froom (tyRef erased mut half) l₁₂ 0) ∷ ‵ (fdies (tyRef erased mut half) l₁₂)
-          ∷ ‵ (froom (sliceTy (tyRef erased mut record-type)) l₁₁ 0) ∷ ‵ (fdies (sliceTy (tyRef erased mut record-type)) l₁₁) ∷ ‵ (froom (tyRef erased mut record-type) l₁₀ 0) ∷ ‵ (fdies (tyRef erased mut record-type) l₁₀)
-          ∷ ‵ (froom tyUnit l₉ 0) ∷ ‵ (fdies tyUnit l₉) ∷ ‵ (froom Pl′.mir l₈ 0) ∷ ‵ (fdies Pl′.mir l₈)
-          ∷ ‵ (fat fullShare (sliceTy (tyRef (named 3) mut half)) l₇ 0 (sliceVal (xr .ptr) (length (xr .now)))) ∷ ‵ (fdies (sliceTy (tyRef (named 3) mut half)) l₇) ∷ ‵ (fat fullShare (sliceTy (tyRef (named 2) mut half)) l₆ 0 (sliceVal (xl .ptr) (length (xl .now)))) ∷ ‵ (fdies (sliceTy (tyRef (named 2) mut half)) l₆)
-          ∷ ‵ (fat fullShare word l₅ 0 (vint w64 n)) ∷ ‵ (fdies word l₅) ∷ ‵ (fat fullShare (sliceTy (tyRef (named 1) mut record-type)) l₄ 0 (sliceVal (xa .ptr) (length (xa .now)))) ∷ ‵ (fdies (sliceTy (tyRef (named 1) mut record-type)) l₄)
-          ∷ ‵ (fat fullShare word l₃ 0 (vint w64 e)) ∷ ‵ (fdies word l₃) ∷ ‵ (fat fullShare word l₂ 0 (vint w64 w)) ∷ ‵ (fdies word l₂)
-          ∷ ‵ (fat fullShare (sliceTy (tyRef (named 0) imm half)) l₁ 0 (sliceVal (xs .ptr) (length (xs .now)))) ∷ ‵ (fdies (sliceTy (tyRef (named 0) imm half)) l₁) ∷ ‵ (froom tyUnit l₀ 0) ∷ ‵ (fdies tyUnit l₀) ∷ []) ∵ exec ! (𝓣 .C) (𝓣 .Λ) En mir.t-1 (atRet En Post) $
           assigns ! (addr ! (from ! (fld ! refl (hop ! (look-in ! 42 (sub ! 0 refl (whole !))) (stop !))))) (from ! (stop !)) (init ! 30 refl (tt, tt)) $
           assigns ! (agg ! (and-then ! (load ! (from ! (stop !)) (look ! 30 refl)) (and-then ! (load ! (from ! (fld ! refl (stop !))) (look-in ! 42 (sub ! 1 refl (whole !)))) (no-more !)))) (from ! (stop !)) (init ! 28 refl (tt, (tt, (record { fits = g-a .0 }, tt)))) $
           move ! (2 ∷ 3 ∷ []) $
@@ -311,7 +244,7 @@ module _ {M : Type 1} (𝓤 : URA M) (H : Heap 𝓤) (A : Atoms 𝓤) (W : Given
           land ! (from ! (stop !)) (init ! 32 refl (tt, tt)) $
           forget ! 30 refl $ forget ! 28 refl $
           keep ! (2 ∷ 3 ∷ 0 ∷ 1 ∷ 4 ∷ 5 ∷ 6 ∷ 7 ∷ 8 ∷ 9 ∷ 10 ∷ 11 ∷ 12 ∷ 13 ∷ 14 ∷ 15 ∷ 16 ∷ 17 ∷ 18 ∷ 19 ∷ 20 ∷ 21 ∷ 22 ∷ 23 ∷ 24 ∷ 25 ∷ 26 ∷ 27 ∷ 28 ∷ 29 ∷ 30 ∷ 31 ∷ 32 ∷ 33 ∷ 34 ∷ 35 ∷ 36 ∷ 37 ∷ 38 ∷ 39 ∷ 40 ∷ 41 ∷ 42 ∷ 43 ∷ 44 ∷ 45 ∷ 46 ∷ 47 ∷ 48 ∷ 49 ∷ 50 ∷ 51 ∷ []) $
-          by ! (go-2 za is-a long-a))
+          go-2 za is-a long-a)
 
       -- what is had at entry is taken apart
       abbrev At-first : List (Item 𝓤)
@@ -358,7 +291,7 @@ module _ {M : Type 1} (𝓤 : URA M) (H : Heap 𝓤) (A : Atoms 𝓤) (W : Given
           move ! (1 ∷ []) $
           drop ! $
           keep ! (7 ∷ 3 ∷ 6 ∷ 2 ∷ 5 ∷ 1 ∷ 4 ∷ 0 ∷ 8 ∷ 9 ∷ 10 ∷ 11 ∷ 12 ∷ 13 ∷ 14 ∷ 15 ∷ 16 ∷ 17 ∷ 18 ∷ 19 ∷ 20 ∷ 21 ∷ 22 ∷ 23 ∷ 24 ∷ 25 ∷ 26 ∷ 27 ∷ 28 ∷ 29 ∷ 30 ∷ 31 ∷ 32 ∷ 33 ∷ 34 ∷ 35 ∷ 36 ∷ 37 ∷ 38 ∷ 39 ∷ 40 ∷ 41 ∷ 42 ∷ 43 ∷ 44 ∷ 45 ∷ 46 ∷ 47 ∷ 48 ∷ 49 ∷ 50 ∷ 51 ∷ []) $
-          by ! go-1
+          go-1
 
       -- the locals are allocated, and the parameters are passed
       abbrev At-entry : List (Item 𝓤)

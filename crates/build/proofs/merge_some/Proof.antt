@@ -128,7 +128,7 @@ module _ {M : Type 1} (𝓤 : URA M) (H : Heap 𝓤) (A : Atoms 𝓤) (W : Given
       abbrev En : Env 𝓤 H
       En = (word, l₀) ∷ ((sliceTy (tyRef (named 0) imm half)), l₁) ∷ (word, l₂) ∷ (word, l₃) ∷ (word, l₄) ∷ ((sliceTy (tyRef (named 1) mut record-type)), l₅) ∷ (word, l₆) ∷ ((sliceTy (tyRef (named 2) mut half)), l₇) ∷ ((sliceTy (tyRef (named 3) mut half)), l₈) ∷ (tyBool, l₉) ∷ (tyUnit, l₁₀) ∷ ((tyRef erased mut half), l₁₁) ∷ ((sliceTy (tyRef erased mut half)), l₁₂) ∷ ((tyRef erased mut half), l₁₃) ∷ ((sliceTy (tyRef erased mut half)), l₁₄) ∷ ((tyRef erased mut record-type), l₁₅) ∷ ((sliceTy (tyRef erased mut record-type)), l₁₆) ∷ ((tyRef erased mut half), l₁₇) ∷ ((sliceTy (tyRef erased mut half)), l₁₈) ∷ ((tyRef erased mut half), l₁₉) ∷ ((sliceTy (tyRef erased mut half)), l₂₀) ∷ []
 
-      go-4 : (no′ : eqb g 0 ≡ false) (ul : List ℕ) (ur : List ℕ) (cleared : Cleared (xl .now) ul × Cleared (xr .now) ur) (long-ul : length ul ≡ length (xl .now)) (long-ur : length ur ≡ length (xr .now)) (k : ℕ) (za : List Row) (zl : List ℕ) (zr : List ℕ) (said : (l : List SetRow) → Sound (windowSum (xs .now) w) (windowsOf (xs .now) w) l → PackedAs (windowsOf (xs .now) w) l (xa .now) n → PackedAs (windowsOf (xs .now) w) (merged g (windowsOf (xs .now) w) l) za k) (g-k : k < 2 ^ 64) (long-za : length za ≡ length (xa .now)) (long-zl : length zl ≡ length ul) (long-zr : length zr ≡ length ur) → ent 𝓤 (⋆ 𝓤 H A (‵ (flft κs qs) ∷ ‵ (ShrSlice (named 0) κs i32 .own xs (sliceVal (xs .ptr) (length (xs .now)) ∷ [])) ∷ ‵ (flft κa qa) ∷ ‵ (Lends.Own T.the-row (xa .ptr .0) (xa .ptr .1) (length (xa .now)) (named 0) κa (xa .name) za)
+      go-4 : (no′ : eqb g 0 ≡ false) (ul : List ℕ) (ur : List ℕ) (cleared : Cleared (xl .now) ul × Cleared (xr .now) ur) (long-ul : length ul ≡ length (xl .now)) (long-ur : length ur ≡ length (xr .now)) (k : ℕ) (za : List Row) (zl : List ℕ) (zr : List ℕ) (said : (l : List SetRow) → Sound (windowSum (xs .now) w) (windowsOf (xs .now) w) l → PackedAs (windowsOf (xs .now) w) l (xa .now) n → PackedAs (windowsOf (xs .now) w) (merged g (windowsOf (xs .now) w) l) za k) (g-k : k < 2 ^ 64) (long-za : length za ≡ length (xa .now)) (long-zl : length zl ≡ length ul) (long-zr : length zr ≡ length ur) → Sq W (‵ (flft κs qs) ∷ ‵ (ShrSlice (named 0) κs i32 .own xs (sliceVal (xs .ptr) (length (xs .now)) ∷ [])) ∷ ‵ (flft κa qa) ∷ ‵ (Lends.Own T.the-row (xa .ptr .0) (xa .ptr .1) (length (xa .now)) (named 0) κa (xa .name) za)
           ∷ ‵ (flft κl ql) ∷ ‵ (Lends.Own u32 (xl .ptr .0) (xl .ptr .1) (length (xl .now)) (named 0) κl (xl .name) zl) ∷ ‵ (flft κr qr) ∷ ‵ (Lends.Own u32 (xr .ptr .0) (xr .ptr .1) (length (xr .now)) (named 0) κr (xr .name) zr)
           ∷ ‵ (froom (sliceTy (tyRef erased mut half)) l₂₀ 0) ∷ ‵ (fdies (sliceTy (tyRef erased mut half)) l₂₀) ∷ ‵ (froom (tyRef erased mut half) l₁₉ 0) ∷ ‵ (fdies (tyRef erased mut half) l₁₉)
           ∷ ‵ (froom (sliceTy (tyRef erased mut half)) l₁₈ 0) ∷ ‵ (fdies (sliceTy (tyRef erased mut half)) l₁₈) ∷ ‵ (froom (tyRef erased mut half) l₁₇ 0) ∷ ‵ (fdies (tyRef erased mut half) l₁₇)
@@ -140,27 +140,14 @@ module _ {M : Type 1} (𝓤 : URA M) (H : Heap 𝓤) (A : Atoms 𝓤) (W : Given
           ∷ ‵ (fat fullShare word l₆ 0 (vint w64 n)) ∷ ‵ (fdies word l₆) ∷ ‵ (fat fullShare (sliceTy (tyRef (named 1) mut record-type)) l₅ 0 (sliceVal (xa .ptr) (length (xa .now)))) ∷ ‵ (fdies (sliceTy (tyRef (named 1) mut record-type)) l₅)
           ∷ ‵ (fat fullShare word l₄ 0 (vint w64 g)) ∷ ‵ (fdies word l₄) ∷ ‵ (fat fullShare word l₃ 0 (vint w64 e)) ∷ ‵ (fdies word l₃)
           ∷ ‵ (fat fullShare word l₂ 0 (vint w64 w)) ∷ ‵ (fdies word l₂) ∷ ‵ (fat fullShare (sliceTy (tyRef (named 0) imm half)) l₁ 0 (sliceVal (xs .ptr) (length (xs .now)))) ∷ ‵ (fdies (sliceTy (tyRef (named 0) imm half)) l₁)
-          ∷ ‵ (fat fullShare word l₀ 0 (vint w64 k)) ∷ ‵ (fdies word l₀) ∷ [])) (Wp 𝓤 H (𝓣 .C) (𝓣 .Λ) En mir.t-15 (atReturn 𝓤 H En Post))
+          ∷ ‵ (fat fullShare word l₀ 0 (vint w64 k)) ∷ ‵ (fdies word l₀) ∷ []) (runs (𝓣 .C) (𝓣 .Λ) En mir.t-15 (atRet En Post))
       go-4 no′ ul ur cleared long-ul long-ur k za zl zr said g-k long-za long-zl long-zr =
-          qed W (‵ (flft κs qs) ∷ ‵ (ShrSlice (named 0) κs i32 .own xs (sliceVal (xs .ptr) (length (xs .now)) ∷ [])) ∷ ‵ (flft κa qa) ∷ ‵ (Lends.Own T.the-row (xa .ptr .0) (xa .ptr .1) (length (xa .now)) (named 0) κa (xa .name) za)
-          ∷ ‵ (flft κl ql) ∷ ‵ (Lends.Own u32 (xl .ptr .0) (xl .ptr .1) (length (xl .now)) (named 0) κl (xl .name) zl) ∷ ‵ (flft κr qr) ∷ ‵ (Lends.Own u32 (xr .ptr .0) (xr .ptr .1) (length (xr .now)) (named 0) κr (xr .name) zr)
-          ∷ ‵ (froom (sliceTy (tyRef erased mut half)) l₂₀ 0) ∷ ‵ (fdies (sliceTy (tyRef erased mut half)) l₂₀) ∷ ‵ (froom (tyRef erased mut half) l₁₉ 0) ∷ ‵ (fdies (tyRef erased mut half) l₁₉)
-          ∷ ‵ (froom (sliceTy (tyRef erased mut half)) l₁₈ 0) ∷ ‵ (fdies (sliceTy (tyRef erased mut half)) l₁₈) ∷ ‵ (froom (tyRef erased mut half) l₁₇ 0) ∷ ‵ (fdies (tyRef erased mut half) l₁₇)
-          ∷ ‵ (froom (sliceTy (tyRef erased mut record-type)) l₁₆ 0) ∷ ‵ (fdies (sliceTy (tyRef erased mut record-type)) l₁₆) ∷ ‵ (froom (tyRef erased mut record-type) l₁₅ 0) ∷ ‵ (fdies (tyRef erased mut record-type) l₁₅)
-          ∷ ‵ (froom (sliceTy (tyRef erased mut half)) l₁₄ 0) ∷ ‵ (fdies (sliceTy (tyRef erased mut half)) l₁₄) ∷ ‵ (froom (tyRef erased mut half) l₁₃ 0) ∷ ‵ (fdies (tyRef erased mut half) l₁₃)
-          ∷ ‵ (froom (sliceTy (tyRef erased mut half)) l₁₂ 0) ∷ ‵ (fdies (sliceTy (tyRef erased mut half)) l₁₂) ∷ ‵ (froom (tyRef erased mut half) l₁₁ 0) ∷ ‵ (fdies (tyRef erased mut half) l₁₁)
-          ∷ ‵ (fat fullShare tyUnit l₁₀ 0 (vunit)) ∷ ‵ (fdies tyUnit l₁₀) ∷ ‵ (froom tyBool l₉ 0) ∷ ‵ (fdies tyBool l₉)
-          ∷ ‵ (fat fullShare (sliceTy (tyRef (named 3) mut half)) l₈ 0 (sliceVal (xr .ptr) (length (xr .now)))) ∷ ‵ (fdies (sliceTy (tyRef (named 3) mut half)) l₈) ∷ ‵ (fat fullShare (sliceTy (tyRef (named 2) mut half)) l₇ 0 (sliceVal (xl .ptr) (length (xl .now)))) ∷ ‵ (fdies (sliceTy (tyRef (named 2) mut half)) l₇)
-          ∷ ‵ (fat fullShare word l₆ 0 (vint w64 n)) ∷ ‵ (fdies word l₆) ∷ ‵ (fat fullShare (sliceTy (tyRef (named 1) mut record-type)) l₅ 0 (sliceVal (xa .ptr) (length (xa .now)))) ∷ ‵ (fdies (sliceTy (tyRef (named 1) mut record-type)) l₅)
-          ∷ ‵ (fat fullShare word l₄ 0 (vint w64 g)) ∷ ‵ (fdies word l₄) ∷ ‵ (fat fullShare word l₃ 0 (vint w64 e)) ∷ ‵ (fdies word l₃)
-          ∷ ‵ (fat fullShare word l₂ 0 (vint w64 w)) ∷ ‵ (fdies word l₂) ∷ ‵ (fat fullShare (sliceTy (tyRef (named 0) imm half)) l₁ 0 (sliceVal (xs .ptr) (length (xs .now)))) ∷ ‵ (fdies (sliceTy (tyRef (named 0) imm half)) l₁)
-          ∷ ‵ (fat fullShare word l₀ 0 (vint w64 k)) ∷ ‵ (fdies word l₀) ∷ []) ∵ exec ! (𝓣 .C) (𝓣 .Λ) En mir.t-15 (atRet En Post) $
           returns ! (look ! 48 refl) $
           lose ! 48 refl refl $ lose ! 46 refl refl $ lose ! 44 refl refl $ lose ! 42 refl refl $ lose ! 40 refl refl $ lose ! 38 refl refl $ lose ! 36 refl refl $ lose ! 34 refl refl $ lose ! 32 refl refl $ lose-room ! 30 refl refl $ lose ! 28 refl refl $ lose-room ! 26 refl refl $ lose-room ! 24 refl refl $ lose-room ! 22 refl refl $ lose-room ! 20 refl refl $ lose-room ! 18 refl refl $ lose-room ! 16 refl refl $ lose-room ! 14 refl refl $ lose-room ! 12 refl refl $ lose-room ! 10 refl refl $ lose-room ! 8 refl refl $ free0 ! $
           keep ! (0 ∷ 2 ∷ 4 ∷ 6 ∷ 3 ∷ 5 ∷ 7 ∷ []) $
           by ! (exits za long-za zl (long-zl ∙ long-ul) zr (long-zr ∙ long-ur) k g-k (merged-so za k said))
 
-      go-3 : (no′ : eqb g 0 ≡ false) (ul : List ℕ) (ur : List ℕ) (cleared : Cleared (xl .now) ul × Cleared (xr .now) ur) (long-ul : length ul ≡ length (xl .now)) (long-ur : length ur ≡ length (xr .now)) → ent 𝓤 (⋆ 𝓤 H A (‵ (flft κs qs) ∷ ‵ (ShrSlice (named 0) κs i32 .own xs (sliceVal (xs .ptr) (length (xs .now)) ∷ [])) ∷ ‵ (flft κa qa) ∷ ‵ (Lends.Own T.the-row (xa .ptr .0) (xa .ptr .1) (length (xa .now)) (named 0) κa (xa .name) (xa .now))
+      go-3 : (no′ : eqb g 0 ≡ false) (ul : List ℕ) (ur : List ℕ) (cleared : Cleared (xl .now) ul × Cleared (xr .now) ur) (long-ul : length ul ≡ length (xl .now)) (long-ur : length ur ≡ length (xr .now)) → Sq W (‵ (flft κs qs) ∷ ‵ (ShrSlice (named 0) κs i32 .own xs (sliceVal (xs .ptr) (length (xs .now)) ∷ [])) ∷ ‵ (flft κa qa) ∷ ‵ (Lends.Own T.the-row (xa .ptr .0) (xa .ptr .1) (length (xa .now)) (named 0) κa (xa .name) (xa .now))
           ∷ ‵ (flft κl ql) ∷ ‵ (Lends.Own u32 (xl .ptr .0) (xl .ptr .1) (length (xl .now)) (named 0) κl (xl .name) ul) ∷ ‵ (flft κr qr) ∷ ‵ (Lends.Own u32 (xr .ptr .0) (xr .ptr .1) (length (xr .now)) (named 0) κr (xr .name) ur)
           ∷ ‵ (froom (sliceTy (tyRef erased mut half)) l₂₀ 0) ∷ ‵ (fdies (sliceTy (tyRef erased mut half)) l₂₀) ∷ ‵ (froom (tyRef erased mut half) l₁₉ 0) ∷ ‵ (fdies (tyRef erased mut half) l₁₉)
           ∷ ‵ (froom (sliceTy (tyRef erased mut half)) l₁₈ 0) ∷ ‵ (fdies (sliceTy (tyRef erased mut half)) l₁₈) ∷ ‵ (froom (tyRef erased mut half) l₁₇ 0) ∷ ‵ (fdies (tyRef erased mut half) l₁₇)
@@ -172,21 +159,8 @@ module _ {M : Type 1} (𝓤 : URA M) (H : Heap 𝓤) (A : Atoms 𝓤) (W : Given
           ∷ ‵ (fat fullShare word l₆ 0 (vint w64 n)) ∷ ‵ (fdies word l₆) ∷ ‵ (fat fullShare (sliceTy (tyRef (named 1) mut record-type)) l₅ 0 (sliceVal (xa .ptr) (length (xa .now)))) ∷ ‵ (fdies (sliceTy (tyRef (named 1) mut record-type)) l₅)
           ∷ ‵ (fat fullShare word l₄ 0 (vint w64 g)) ∷ ‵ (fdies word l₄) ∷ ‵ (fat fullShare word l₃ 0 (vint w64 e)) ∷ ‵ (fdies word l₃)
           ∷ ‵ (fat fullShare word l₂ 0 (vint w64 w)) ∷ ‵ (fdies word l₂) ∷ ‵ (fat fullShare (sliceTy (tyRef (named 0) imm half)) l₁ 0 (sliceVal (xs .ptr) (length (xs .now)))) ∷ ‵ (fdies (sliceTy (tyRef (named 0) imm half)) l₁)
-          ∷ ‵ (froom word l₀ 0) ∷ ‵ (fdies word l₀) ∷ [])) (Wp 𝓤 H (𝓣 .C) (𝓣 .Λ) En mir.t-8 (atReturn 𝓤 H En Post))
+          ∷ ‵ (froom word l₀ 0) ∷ ‵ (fdies word l₀) ∷ []) (runs (𝓣 .C) (𝓣 .Λ) En mir.t-8 (atRet En Post))
       go-3 no′ ul ur cleared long-ul long-ur =
-          qed W (‵ (flft κs qs) ∷ ‵ (ShrSlice (named 0) κs i32 .own xs (sliceVal (xs .ptr) (length (xs .now)) ∷ [])) ∷ ‵ (flft κa qa) ∷ ‵ (Lends.Own T.the-row (xa .ptr .0) (xa .ptr .1) (length (xa .now)) (named 0) κa (xa .name) (xa .now))
-          ∷ ‵ (flft κl ql) ∷ ‵ (Lends.Own u32 (xl .ptr .0) (xl .ptr .1) (length (xl .now)) (named 0) κl (xl .name) ul) ∷ ‵ (flft κr qr) ∷ ‵ (Lends.Own u32 (xr .ptr .0) (xr .ptr .1) (length (xr .now)) (named 0) κr (xr .name) ur)
-          ∷ ‵ (froom (sliceTy (tyRef erased mut half)) l₂₀ 0) ∷ ‵ (fdies (sliceTy (tyRef erased mut half)) l₂₀) ∷ ‵ (froom (tyRef erased mut half) l₁₉ 0) ∷ ‵ (fdies (tyRef erased mut half) l₁₉)
-          ∷ ‵ (froom (sliceTy (tyRef erased mut half)) l₁₈ 0) ∷ ‵ (fdies (sliceTy (tyRef erased mut half)) l₁₈) ∷ ‵ (froom (tyRef erased mut half) l₁₇ 0) ∷ ‵ (fdies (tyRef erased mut half) l₁₇)
-          ∷ ‵ (froom (sliceTy (tyRef erased mut record-type)) l₁₆ 0) ∷ ‵ (fdies (sliceTy (tyRef erased mut record-type)) l₁₆) ∷ ‵ (froom (tyRef erased mut record-type) l₁₅ 0) ∷ ‵ (fdies (tyRef erased mut record-type) l₁₅)
-          ∷ ‵ (froom (sliceTy (tyRef erased mut half)) l₁₄ 0) ∷ ‵ (fdies (sliceTy (tyRef erased mut half)) l₁₄) ∷ ‵ (froom (tyRef erased mut half) l₁₃ 0) ∷ ‵ (fdies (tyRef erased mut half) l₁₃)
-          ∷ ‵ (froom (sliceTy (tyRef erased mut half)) l₁₂ 0) ∷ ‵ (fdies (sliceTy (tyRef erased mut half)) l₁₂) ∷ ‵ (froom (tyRef erased mut half) l₁₁ 0) ∷ ‵ (fdies (tyRef erased mut half) l₁₁)
-          ∷ ‵ (fat fullShare tyUnit l₁₀ 0 (vunit)) ∷ ‵ (fdies tyUnit l₁₀) ∷ ‵ (froom tyBool l₉ 0) ∷ ‵ (fdies tyBool l₉)
-          ∷ ‵ (fat fullShare (sliceTy (tyRef (named 3) mut half)) l₈ 0 (sliceVal (xr .ptr) (length (xr .now)))) ∷ ‵ (fdies (sliceTy (tyRef (named 3) mut half)) l₈) ∷ ‵ (fat fullShare (sliceTy (tyRef (named 2) mut half)) l₇ 0 (sliceVal (xl .ptr) (length (xl .now)))) ∷ ‵ (fdies (sliceTy (tyRef (named 2) mut half)) l₇)
-          ∷ ‵ (fat fullShare word l₆ 0 (vint w64 n)) ∷ ‵ (fdies word l₆) ∷ ‵ (fat fullShare (sliceTy (tyRef (named 1) mut record-type)) l₅ 0 (sliceVal (xa .ptr) (length (xa .now)))) ∷ ‵ (fdies (sliceTy (tyRef (named 1) mut record-type)) l₅)
-          ∷ ‵ (fat fullShare word l₄ 0 (vint w64 g)) ∷ ‵ (fdies word l₄) ∷ ‵ (fat fullShare word l₃ 0 (vint w64 e)) ∷ ‵ (fdies word l₃)
-          ∷ ‵ (fat fullShare word l₂ 0 (vint w64 w)) ∷ ‵ (fdies word l₂) ∷ ‵ (fat fullShare (sliceTy (tyRef (named 0) imm half)) l₁ 0 (sliceVal (xs .ptr) (length (xs .now)))) ∷ ‵ (fdies (sliceTy (tyRef (named 0) imm half)) l₁)
-          ∷ ‵ (froom word l₀ 0) ∷ ‵ (fdies word l₀) ∷ []) ∵ exec ! (𝓣 .C) (𝓣 .Λ) En mir.t-8 (atRet En Post) $
           assigns ! (addr ! (from ! (fld ! refl (hop ! (look-in ! 38 (sub ! 0 refl (whole !))) (stop !))))) (from ! (stop !)) (init ! 18 refl (tt, tt)) $
           assigns ! (agg ! (and-then ! (load ! (from ! (stop !)) (look ! 18 refl)) (and-then ! (load ! (from ! (fld ! refl (stop !))) (look-in ! 38 (sub ! 1 refl (whole !)))) (no-more !)))) (from ! (stop !)) (init ! 16 refl (tt, (tt, (record { fits = g-a .0 }, tt)))) $
           assigns ! (addr ! (from ! (fld ! refl (hop ! (look-in ! 34 (sub ! 0 refl (whole !))) (stop !))))) (from ! (stop !)) (init ! 14 refl (tt, tt)) $
@@ -197,10 +171,9 @@ module _ {M : Type 1} (𝓤 : URA M) (H : Heap 𝓤) (A : Atoms 𝓤) (W : Given
           calls-merge-packed ! fm mem run known-packed κs qs xs κa qa (xa .ptr .0) (xa .ptr .1) (length (xa .now)) (xa .name) (xa .now) κl ql (xl .ptr .0) (xl .ptr .1) (length (xl .now)) (xl .name) ul κr qr (xr .ptr .0) (xr .ptr .1) (length (xr .now)) (xr .name) ur w e g n refl g-a long-ul g-l long-ur g-r g-w g-e g-g g-n (standing ul ur cleared, asked .1) (λ νa δa νl δl νr δr. (and-then ! (load ! (from ! (stop !)) (look ! 43 refl)) (and-then ! (load ! (from ! (stop !)) (look ! 41 refl)) (and-then ! (load ! (from ! (stop !)) (look ! 39 refl)) (and-then ! (load ! (from ! (stop !)) (look ! 37 refl)) (and-then ! (load ! (from ! (stop !)) (look ! 13 refl)) (and-then ! (load ! (from ! (stop !)) (look ! 33 refl)) (and-then ! (load ! (from ! (stop !)) (look ! 9 refl)) (and-then ! (load ! (from ! (stop !)) (look ! 5 refl)) (no-more !)))))))))) (λ k za zl zr said g-k long-za long-zl long-zr.
           land ! (from ! (stop !)) (init ! 48 refl (tt, record { fits = g-k })) $
           forget ! 18 refl $ forget ! 16 refl $ forget ! 14 refl $ forget ! 12 refl $ forget ! 10 refl $ forget ! 8 refl $
-          keep ! (0 ∷ 1 ∷ 2 ∷ 3 ∷ 4 ∷ 5 ∷ 6 ∷ 7 ∷ 8 ∷ 9 ∷ 10 ∷ 11 ∷ 12 ∷ 13 ∷ 14 ∷ 15 ∷ 16 ∷ 17 ∷ 18 ∷ 19 ∷ 20 ∷ 21 ∷ 22 ∷ 23 ∷ 24 ∷ 25 ∷ 26 ∷ 27 ∷ 28 ∷ 29 ∷ 30 ∷ 31 ∷ 32 ∷ 33 ∷ 34 ∷ 35 ∷ 36 ∷ 37 ∷ 38 ∷ 39 ∷ 40 ∷ 41 ∷ 42 ∷ 43 ∷ 44 ∷ 45 ∷ 46 ∷ 47 ∷ 48 ∷ 49 ∷ []) $
-          by ! (go-4 no′ ul ur cleared long-ul long-ur k za zl zr said g-k long-za long-zl long-zr))
+          go-4 no′ ul ur cleared long-ul long-ur k za zl zr said g-k long-za long-zl long-zr)
 
-      go-2 : (no′ : eqb g 0 ≡ false) → ent 𝓤 (⋆ 𝓤 H A (‵ (flft κs qs) ∷ ‵ (ShrSlice (named 0) κs i32 .own xs (sliceVal (xs .ptr) (length (xs .now)) ∷ [])) ∷ ‵ (flft κa qa) ∷ ‵ (Lends.Own T.the-row (xa .ptr .0) (xa .ptr .1) (length (xa .now)) (named 0) κa (xa .name) (xa .now))
+      go-2 : (no′ : eqb g 0 ≡ false) → Sq W (‵ (flft κs qs) ∷ ‵ (ShrSlice (named 0) κs i32 .own xs (sliceVal (xs .ptr) (length (xs .now)) ∷ [])) ∷ ‵ (flft κa qa) ∷ ‵ (Lends.Own T.the-row (xa .ptr .0) (xa .ptr .1) (length (xa .now)) (named 0) κa (xa .name) (xa .now))
           ∷ ‵ (flft κl ql) ∷ ‵ (Lends.Own u32 (xl .ptr .0) (xl .ptr .1) (length (xl .now)) (named 0) κl (xl .name) (xl .now)) ∷ ‵ (flft κr qr) ∷ ‵ (Lends.Own u32 (xr .ptr .0) (xr .ptr .1) (length (xr .now)) (named 0) κr (xr .name) (xr .now))
           ∷ ‵ (froom (sliceTy (tyRef erased mut half)) l₂₀ 0) ∷ ‵ (fdies (sliceTy (tyRef erased mut half)) l₂₀) ∷ ‵ (froom (tyRef erased mut half) l₁₉ 0) ∷ ‵ (fdies (tyRef erased mut half) l₁₉)
           ∷ ‵ (froom (sliceTy (tyRef erased mut half)) l₁₈ 0) ∷ ‵ (fdies (sliceTy (tyRef erased mut half)) l₁₈) ∷ ‵ (froom (tyRef erased mut half) l₁₇ 0) ∷ ‵ (fdies (tyRef erased mut half) l₁₇)
@@ -212,21 +185,8 @@ module _ {M : Type 1} (𝓤 : URA M) (H : Heap 𝓤) (A : Atoms 𝓤) (W : Given
           ∷ ‵ (fat fullShare word l₆ 0 (vint w64 n)) ∷ ‵ (fdies word l₆) ∷ ‵ (fat fullShare (sliceTy (tyRef (named 1) mut record-type)) l₅ 0 (sliceVal (xa .ptr) (length (xa .now)))) ∷ ‵ (fdies (sliceTy (tyRef (named 1) mut record-type)) l₅)
           ∷ ‵ (fat fullShare word l₄ 0 (vint w64 g)) ∷ ‵ (fdies word l₄) ∷ ‵ (fat fullShare word l₃ 0 (vint w64 e)) ∷ ‵ (fdies word l₃)
           ∷ ‵ (fat fullShare word l₂ 0 (vint w64 w)) ∷ ‵ (fdies word l₂) ∷ ‵ (fat fullShare (sliceTy (tyRef (named 0) imm half)) l₁ 0 (sliceVal (xs .ptr) (length (xs .now)))) ∷ ‵ (fdies (sliceTy (tyRef (named 0) imm half)) l₁)
-          ∷ ‵ (froom word l₀ 0) ∷ ‵ (fdies word l₀) ∷ [])) (Wp 𝓤 H (𝓣 .C) (𝓣 .Λ) En mir.t-3 (atReturn 𝓤 H En Post))
+          ∷ ‵ (froom word l₀ 0) ∷ ‵ (fdies word l₀) ∷ []) (runs (𝓣 .C) (𝓣 .Λ) En mir.t-3 (atRet En Post))
       go-2 no′ =
-          qed W (‵ (flft κs qs) ∷ ‵ (ShrSlice (named 0) κs i32 .own xs (sliceVal (xs .ptr) (length (xs .now)) ∷ [])) ∷ ‵ (flft κa qa) ∷ ‵ (Lends.Own T.the-row (xa .ptr .0) (xa .ptr .1) (length (xa .now)) (named 0) κa (xa .name) (xa .now))
-          ∷ ‵ (flft κl ql) ∷ ‵ (Lends.Own u32 (xl .ptr .0) (xl .ptr .1) (length (xl .now)) (named 0) κl (xl .name) (xl .now)) ∷ ‵ (flft κr qr) ∷ ‵ (Lends.Own u32 (xr .ptr .0) (xr .ptr .1) (length (xr .now)) (named 0) κr (xr .name) (xr .now))
-          ∷ ‵ (froom (sliceTy (tyRef erased mut half)) l₂₀ 0) ∷ ‵ (fdies (sliceTy (tyRef erased mut half)) l₂₀) ∷ ‵ (froom (tyRef erased mut half) l₁₉ 0) ∷ ‵ (fdies (tyRef erased mut half) l₁₉)
-          ∷ ‵ (froom (sliceTy (tyRef erased mut half)) l₁₈ 0) ∷ ‵ (fdies (sliceTy (tyRef erased mut half)) l₁₈) ∷ ‵ (froom (tyRef erased mut half) l₁₇ 0) ∷ ‵ (fdies (tyRef erased mut half) l₁₇)
-          ∷ ‵ (froom (sliceTy (tyRef erased mut record-type)) l₁₆ 0) ∷ ‵ (fdies (sliceTy (tyRef erased mut record-type)) l₁₆) ∷ ‵ (froom (tyRef erased mut record-type) l₁₅ 0) ∷ ‵ (fdies (tyRef erased mut record-type) l₁₅)
-          ∷ ‵ (froom (sliceTy (tyRef erased mut half)) l₁₄ 0) ∷ ‵ (fdies (sliceTy (tyRef erased mut half)) l₁₄) ∷ ‵ (froom (tyRef erased mut half) l₁₃ 0) ∷ ‵ (fdies (tyRef erased mut half) l₁₃)
-          ∷ ‵ (froom (sliceTy (tyRef erased mut half)) l₁₂ 0) ∷ ‵ (fdies (sliceTy (tyRef erased mut half)) l₁₂) ∷ ‵ (froom (tyRef erased mut half) l₁₁ 0) ∷ ‵ (fdies (tyRef erased mut half) l₁₁)
-          ∷ ‵ (froom tyUnit l₁₀ 0) ∷ ‵ (fdies tyUnit l₁₀) ∷ ‵ (froom tyBool l₉ 0) ∷ ‵ (fdies tyBool l₉)
-          ∷ ‵ (fat fullShare (sliceTy (tyRef (named 3) mut half)) l₈ 0 (sliceVal (xr .ptr) (length (xr .now)))) ∷ ‵ (fdies (sliceTy (tyRef (named 3) mut half)) l₈) ∷ ‵ (fat fullShare (sliceTy (tyRef (named 2) mut half)) l₇ 0 (sliceVal (xl .ptr) (length (xl .now)))) ∷ ‵ (fdies (sliceTy (tyRef (named 2) mut half)) l₇)
-          ∷ ‵ (fat fullShare word l₆ 0 (vint w64 n)) ∷ ‵ (fdies word l₆) ∷ ‵ (fat fullShare (sliceTy (tyRef (named 1) mut record-type)) l₅ 0 (sliceVal (xa .ptr) (length (xa .now)))) ∷ ‵ (fdies (sliceTy (tyRef (named 1) mut record-type)) l₅)
-          ∷ ‵ (fat fullShare word l₄ 0 (vint w64 g)) ∷ ‵ (fdies word l₄) ∷ ‵ (fat fullShare word l₃ 0 (vint w64 e)) ∷ ‵ (fdies word l₃)
-          ∷ ‵ (fat fullShare word l₂ 0 (vint w64 w)) ∷ ‵ (fdies word l₂) ∷ ‵ (fat fullShare (sliceTy (tyRef (named 0) imm half)) l₁ 0 (sliceVal (xs .ptr) (length (xs .now)))) ∷ ‵ (fdies (sliceTy (tyRef (named 0) imm half)) l₁)
-          ∷ ‵ (froom word l₀ 0) ∷ ‵ (fdies word l₀) ∷ []) ∵ exec ! (𝓣 .C) (𝓣 .Λ) En mir.t-3 (atRet En Post) $
           assigns ! (addr ! (from ! (fld ! refl (hop ! (look-in ! 34 (sub ! 0 refl (whole !))) (stop !))))) (from ! (stop !)) (init ! 26 refl (tt, tt)) $
           assigns ! (agg ! (and-then ! (load ! (from ! (stop !)) (look ! 26 refl)) (and-then ! (load ! (from ! (fld ! refl (stop !))) (look-in ! 34 (sub ! 1 refl (whole !)))) (no-more !)))) (from ! (stop !)) (init ! 24 refl (tt, (tt, (record { fits = g-l .0 }, tt)))) $
           assigns ! (addr ! (from ! (fld ! refl (hop ! (look-in ! 32 (sub ! 0 refl (whole !))) (stop !))))) (from ! (stop !)) (init ! 22 refl (tt, tt)) $
@@ -236,9 +196,9 @@ module _ {M : Type 1} (𝓤 : URA M) (H : Heap 𝓤) (A : Atoms 𝓤) (W : Given
           land ! (from ! (stop !)) (init ! 28 refl (tt, tt)) $
           forget ! 26 refl $ forget ! 24 refl $ forget ! 22 refl $ forget ! 20 refl $
           keep ! (4 ∷ 5 ∷ 6 ∷ 7 ∷ 0 ∷ 1 ∷ 2 ∷ 3 ∷ 8 ∷ 9 ∷ 10 ∷ 11 ∷ 12 ∷ 13 ∷ 14 ∷ 15 ∷ 16 ∷ 17 ∷ 18 ∷ 19 ∷ 20 ∷ 21 ∷ 22 ∷ 23 ∷ 24 ∷ 25 ∷ 26 ∷ 27 ∷ 28 ∷ 29 ∷ 30 ∷ 31 ∷ 32 ∷ 33 ∷ 34 ∷ 35 ∷ 36 ∷ 37 ∷ 38 ∷ 39 ∷ 40 ∷ 41 ∷ 42 ∷ 43 ∷ 44 ∷ 45 ∷ 46 ∷ 47 ∷ 48 ∷ 49 ∷ []) $
-          by ! (go-3 no′ ul ur cleared long-ul long-ur))
+          go-3 no′ ul ur cleared long-ul long-ur)
 
-      go-1 : ent 𝓤 (⋆ 𝓤 H A (‵ (flft κs qs) ∷ ‵ (ShrSlice (named 0) κs i32 .own xs (sliceVal (xs .ptr) (length (xs .now)) ∷ [])) ∷ ‵ (flft κa qa) ∷ ‵ (Lends.Own T.the-row (xa .ptr .0) (xa .ptr .1) (length (xa .now)) (named 0) κa (xa .name) (xa .now))
+      go-1 : Sq W (‵ (flft κs qs) ∷ ‵ (ShrSlice (named 0) κs i32 .own xs (sliceVal (xs .ptr) (length (xs .now)) ∷ [])) ∷ ‵ (flft κa qa) ∷ ‵ (Lends.Own T.the-row (xa .ptr .0) (xa .ptr .1) (length (xa .now)) (named 0) κa (xa .name) (xa .now))
           ∷ ‵ (flft κl ql) ∷ ‵ (Lends.Own u32 (xl .ptr .0) (xl .ptr .1) (length (xl .now)) (named 0) κl (xl .name) (xl .now)) ∷ ‵ (flft κr qr) ∷ ‵ (Lends.Own u32 (xr .ptr .0) (xr .ptr .1) (length (xr .now)) (named 0) κr (xr .name) (xr .now))
           ∷ ‵ (froom (sliceTy (tyRef erased mut half)) l₂₀ 0) ∷ ‵ (fdies (sliceTy (tyRef erased mut half)) l₂₀) ∷ ‵ (froom (tyRef erased mut half) l₁₉ 0) ∷ ‵ (fdies (tyRef erased mut half) l₁₉)
           ∷ ‵ (froom (sliceTy (tyRef erased mut half)) l₁₈ 0) ∷ ‵ (fdies (sliceTy (tyRef erased mut half)) l₁₈) ∷ ‵ (froom (tyRef erased mut half) l₁₇ 0) ∷ ‵ (fdies (tyRef erased mut half) l₁₇)
@@ -250,21 +210,8 @@ module _ {M : Type 1} (𝓤 : URA M) (H : Heap 𝓤) (A : Atoms 𝓤) (W : Given
           ∷ ‵ (fat fullShare word l₆ 0 (vint w64 n)) ∷ ‵ (fdies word l₆) ∷ ‵ (fat fullShare (sliceTy (tyRef (named 1) mut record-type)) l₅ 0 (sliceVal (xa .ptr) (length (xa .now)))) ∷ ‵ (fdies (sliceTy (tyRef (named 1) mut record-type)) l₅)
           ∷ ‵ (fat fullShare word l₄ 0 (vint w64 g)) ∷ ‵ (fdies word l₄) ∷ ‵ (fat fullShare word l₃ 0 (vint w64 e)) ∷ ‵ (fdies word l₃)
           ∷ ‵ (fat fullShare word l₂ 0 (vint w64 w)) ∷ ‵ (fdies word l₂) ∷ ‵ (fat fullShare (sliceTy (tyRef (named 0) imm half)) l₁ 0 (sliceVal (xs .ptr) (length (xs .now)))) ∷ ‵ (fdies (sliceTy (tyRef (named 0) imm half)) l₁)
-          ∷ ‵ (froom word l₀ 0) ∷ ‵ (fdies word l₀) ∷ [])) (Wp 𝓤 H (𝓣 .C) (𝓣 .Λ) En mir.t-1 (atReturn 𝓤 H En Post))
+          ∷ ‵ (froom word l₀ 0) ∷ ‵ (fdies word l₀) ∷ []) (runs (𝓣 .C) (𝓣 .Λ) En mir.t-1 (atRet En Post))
       go-1 =
-          qed W (‵ (flft κs qs) ∷ ‵ (ShrSlice (named 0) κs i32 .own xs (sliceVal (xs .ptr) (length (xs .now)) ∷ [])) ∷ ‵ (flft κa qa) ∷ ‵ (Lends.Own T.the-row (xa .ptr .0) (xa .ptr .1) (length (xa .now)) (named 0) κa (xa .name) (xa .now))
-          ∷ ‵ (flft κl ql) ∷ ‵ (Lends.Own u32 (xl .ptr .0) (xl .ptr .1) (length (xl .now)) (named 0) κl (xl .name) (xl .now)) ∷ ‵ (flft κr qr) ∷ ‵ (Lends.Own u32 (xr .ptr .0) (xr .ptr .1) (length (xr .now)) (named 0) κr (xr .name) (xr .now))
-          ∷ ‵ (froom (sliceTy (tyRef erased mut half)) l₂₀ 0) ∷ ‵ (fdies (sliceTy (tyRef erased mut half)) l₂₀) ∷ ‵ (froom (tyRef erased mut half) l₁₉ 0) ∷ ‵ (fdies (tyRef erased mut half) l₁₉)
-          ∷ ‵ (froom (sliceTy (tyRef erased mut half)) l₁₈ 0) ∷ ‵ (fdies (sliceTy (tyRef erased mut half)) l₁₈) ∷ ‵ (froom (tyRef erased mut half) l₁₇ 0) ∷ ‵ (fdies (tyRef erased mut half) l₁₇)
-          ∷ ‵ (froom (sliceTy (tyRef erased mut record-type)) l₁₆ 0) ∷ ‵ (fdies (sliceTy (tyRef erased mut record-type)) l₁₆) ∷ ‵ (froom (tyRef erased mut record-type) l₁₅ 0) ∷ ‵ (fdies (tyRef erased mut record-type) l₁₅)
-          ∷ ‵ (froom (sliceTy (tyRef erased mut half)) l₁₄ 0) ∷ ‵ (fdies (sliceTy (tyRef erased mut half)) l₁₄) ∷ ‵ (froom (tyRef erased mut half) l₁₃ 0) ∷ ‵ (fdies (tyRef erased mut half) l₁₃)
-          ∷ ‵ (froom (sliceTy (tyRef erased mut half)) l₁₂ 0) ∷ ‵ (fdies (sliceTy (tyRef erased mut half)) l₁₂) ∷ ‵ (froom (tyRef erased mut half) l₁₁ 0) ∷ ‵ (fdies (tyRef erased mut half) l₁₁)
-          ∷ ‵ (froom tyUnit l₁₀ 0) ∷ ‵ (fdies tyUnit l₁₀) ∷ ‵ (froom tyBool l₉ 0) ∷ ‵ (fdies tyBool l₉)
-          ∷ ‵ (fat fullShare (sliceTy (tyRef (named 3) mut half)) l₈ 0 (sliceVal (xr .ptr) (length (xr .now)))) ∷ ‵ (fdies (sliceTy (tyRef (named 3) mut half)) l₈) ∷ ‵ (fat fullShare (sliceTy (tyRef (named 2) mut half)) l₇ 0 (sliceVal (xl .ptr) (length (xl .now)))) ∷ ‵ (fdies (sliceTy (tyRef (named 2) mut half)) l₇)
-          ∷ ‵ (fat fullShare word l₆ 0 (vint w64 n)) ∷ ‵ (fdies word l₆) ∷ ‵ (fat fullShare (sliceTy (tyRef (named 1) mut record-type)) l₅ 0 (sliceVal (xa .ptr) (length (xa .now)))) ∷ ‵ (fdies (sliceTy (tyRef (named 1) mut record-type)) l₅)
-          ∷ ‵ (fat fullShare word l₄ 0 (vint w64 g)) ∷ ‵ (fdies word l₄) ∷ ‵ (fat fullShare word l₃ 0 (vint w64 e)) ∷ ‵ (fdies word l₃)
-          ∷ ‵ (fat fullShare word l₂ 0 (vint w64 w)) ∷ ‵ (fdies word l₂) ∷ ‵ (fat fullShare (sliceTy (tyRef (named 0) imm half)) l₁ 0 (sliceVal (xs .ptr) (length (xs .now)))) ∷ ‵ (fdies (sliceTy (tyRef (named 0) imm half)) l₁)
-          ∷ ‵ (froom word l₀ 0) ∷ ‵ (fdies word l₀) ∷ []) ∵ exec ! (𝓣 .C) (𝓣 .Λ) En mir.t-1 (atRet En Post) $
           assigns ! (bin ! (load ! (from ! (stop !)) (look ! 40 refl)) (lit ! tt) tt) (from ! (stop !)) (init ! 30 refl (tt, tt)) $
           by-bool (eqb g 0)
           (λ yes′. rewrite ! 30 (λ (t : Bool). ‵ (fat fullShare tyBool l₉ 0 (vbool t))) yes′ refl $ goes-in ! (load ! (from ! (stop !)) (look ! 30 refl)) $
@@ -275,8 +222,7 @@ module _ {M : Type 1} (𝓤 : URA M) (H : Heap 𝓤) (A : Atoms 𝓤) (W : Given
           by ! (exits (xa .now) refl (xl .now) refl (xr .now) refl n g-n (as-it-was yes′)))
           (λ no′. rewrite ! 30 (λ (t : Bool). ‵ (fat fullShare tyBool l₉ 0 (vbool t))) no′ refl $ passes-by ! (load ! (from ! (stop !)) (look ! 30 refl)) $
           forget ! 30 refl $
-          keep ! (0 ∷ 1 ∷ 2 ∷ 3 ∷ 4 ∷ 5 ∷ 6 ∷ 7 ∷ 8 ∷ 9 ∷ 10 ∷ 11 ∷ 12 ∷ 13 ∷ 14 ∷ 15 ∷ 16 ∷ 17 ∷ 18 ∷ 19 ∷ 20 ∷ 21 ∷ 22 ∷ 23 ∷ 24 ∷ 25 ∷ 26 ∷ 27 ∷ 28 ∷ 29 ∷ 30 ∷ 31 ∷ 32 ∷ 33 ∷ 34 ∷ 35 ∷ 36 ∷ 37 ∷ 38 ∷ 39 ∷ 40 ∷ 41 ∷ 42 ∷ 43 ∷ 44 ∷ 45 ∷ 46 ∷ 47 ∷ 48 ∷ 49 ∷ []) $
-          by ! (go-2 no′))
+          go-2 no′)
 
       -- what is had at entry is taken apart
       abbrev At-first : List (Item 𝓤)
@@ -324,7 +270,7 @@ module _ {M : Type 1} (𝓤 : URA M) (H : Heap 𝓤) (A : Atoms 𝓤) (W : Given
           move ! (1 ∷ []) $
           drop ! $
           keep ! (7 ∷ 3 ∷ 6 ∷ 2 ∷ 5 ∷ 1 ∷ 4 ∷ 0 ∷ 8 ∷ 9 ∷ 10 ∷ 11 ∷ 12 ∷ 13 ∷ 14 ∷ 15 ∷ 16 ∷ 17 ∷ 18 ∷ 19 ∷ 20 ∷ 21 ∷ 22 ∷ 23 ∷ 24 ∷ 25 ∷ 26 ∷ 27 ∷ 28 ∷ 29 ∷ 30 ∷ 31 ∷ 32 ∷ 33 ∷ 34 ∷ 35 ∷ 36 ∷ 37 ∷ 38 ∷ 39 ∷ 40 ∷ 41 ∷ 42 ∷ 43 ∷ 44 ∷ 45 ∷ 46 ∷ 47 ∷ 48 ∷ 49 ∷ []) $
-          by ! go-1
+          go-1
 
       -- the locals are allocated, and the parameters are passed
       abbrev At-entry : List (Item 𝓤)

@@ -125,7 +125,7 @@ module _ {M : Type 1} (𝓤 : URA M) (H : Heap 𝓤) (A : Atoms 𝓤) (W : Given
       abbrev En : Env 𝓤 H
       En = (Bu′.mir, l₀) ∷ ((sliceTy (tyRef (named 0) imm half)), l₁) ∷ (half, l₂) ∷ (half, l₃) ∷ (half, l₄) ∷ ((sliceTy (tyRef (named 1) mut record-type)), l₅) ∷ ((sliceTy (tyRef (named 2) mut half)), l₆) ∷ ((sliceTy (tyRef (named 3) mut half)), l₇) ∷ (Pn′.mir, l₈) ∷ (word, l₉) ∷ (word, l₁₀) ∷ (word, l₁₁) ∷ (tyBool, l₁₂) ∷ ((tyRef erased mut record-type), l₁₃) ∷ ((sliceTy (tyRef erased mut record-type)), l₁₄) ∷ ((tyRef erased mut half), l₁₅) ∷ ((sliceTy (tyRef erased mut half)), l₁₆) ∷ ((tyRef erased mut half), l₁₇) ∷ ((sliceTy (tyRef erased mut half)), l₁₈) ∷ []
 
-      go-4 : (p : Plan) (planned : Planned (xs .now) w d g (length (xa .now)) (length (xl .now)) (length (xr .now)) p) (g-p : Is Pn.the-row p (low-plan p ∷ [])) (yes′ : eqb (p .number) 0 ≡ true) (t : Built) (za : List Row) (zl : List ℕ) (zr : List ℕ) (kept : BuildKept (lentBuild (xs .now) w d g) (buffers (xa .now) (xl .now) (xr .now)) t (buffers za zl zr)) (g-t : Is Bu.the-row t (low-built t ∷ [])) (long-a : length za ≡ length (xa .now)) (long-l : length zl ≡ length (xl .now)) (long-r : length zr ≡ length (xr .now)) → ent 𝓤 (⋆ 𝓤 H A (‵ (flft κs qs) ∷ ‵ (ShrSlice (named 0) κs i32 .own xs (sliceVal (xs .ptr) (length (xs .now)) ∷ [])) ∷ ‵ (flft κa qa) ∷ ‵ (Lends.Own T.the-row (xa .ptr .0) (xa .ptr .1) (length (xa .now)) (named 0) κa (xa .name) za)
+      go-4 : (p : Plan) (planned : Planned (xs .now) w d g (length (xa .now)) (length (xl .now)) (length (xr .now)) p) (g-p : Is Pn.the-row p (low-plan p ∷ [])) (yes′ : eqb (p .number) 0 ≡ true) (t : Built) (za : List Row) (zl : List ℕ) (zr : List ℕ) (kept : BuildKept (lentBuild (xs .now) w d g) (buffers (xa .now) (xl .now) (xr .now)) t (buffers za zl zr)) (g-t : Is Bu.the-row t (low-built t ∷ [])) (long-a : length za ≡ length (xa .now)) (long-l : length zl ≡ length (xl .now)) (long-r : length zr ≡ length (xr .now)) → Sq W (‵ (flft κs qs) ∷ ‵ (ShrSlice (named 0) κs i32 .own xs (sliceVal (xs .ptr) (length (xs .now)) ∷ [])) ∷ ‵ (flft κa qa) ∷ ‵ (Lends.Own T.the-row (xa .ptr .0) (xa .ptr .1) (length (xa .now)) (named 0) κa (xa .name) za)
           ∷ ‵ (flft κl ql) ∷ ‵ (Lends.Own u32 (xl .ptr .0) (xl .ptr .1) (length (xl .now)) (named 0) κl (xl .name) zl) ∷ ‵ (flft κr qr) ∷ ‵ (Lends.Own u32 (xr .ptr .0) (xr .ptr .1) (length (xr .now)) (named 0) κr (xr .name) zr)
           ∷ ‵ (froom (sliceTy (tyRef erased mut half)) l₁₈ 0) ∷ ‵ (fdies (sliceTy (tyRef erased mut half)) l₁₈) ∷ ‵ (froom (tyRef erased mut half) l₁₇ 0) ∷ ‵ (fdies (tyRef erased mut half) l₁₇)
           ∷ ‵ (froom (sliceTy (tyRef erased mut half)) l₁₆ 0) ∷ ‵ (fdies (sliceTy (tyRef erased mut half)) l₁₆) ∷ ‵ (froom (tyRef erased mut half) l₁₅ 0) ∷ ‵ (fdies (tyRef erased mut half) l₁₅)
@@ -136,26 +136,14 @@ module _ {M : Type 1} (𝓤 : URA M) (H : Heap 𝓤) (A : Atoms 𝓤) (W : Given
           ∷ ‵ (fat fullShare (sliceTy (tyRef (named 2) mut half)) l₆ 0 (sliceVal (xl .ptr) (length (xl .now)))) ∷ ‵ (fdies (sliceTy (tyRef (named 2) mut half)) l₆) ∷ ‵ (fat fullShare (sliceTy (tyRef (named 1) mut record-type)) l₅ 0 (sliceVal (xa .ptr) (length (xa .now)))) ∷ ‵ (fdies (sliceTy (tyRef (named 1) mut record-type)) l₅)
           ∷ ‵ (fat fullShare half l₄ 0 (vint w32 g)) ∷ ‵ (fdies half l₄) ∷ ‵ (fat fullShare half l₃ 0 (vint w32 d)) ∷ ‵ (fdies half l₃)
           ∷ ‵ (fat fullShare half l₂ 0 (vint w32 w)) ∷ ‵ (fdies half l₂) ∷ ‵ (fat fullShare (sliceTy (tyRef (named 0) imm half)) l₁ 0 (sliceVal (xs .ptr) (length (xs .now)))) ∷ ‵ (fdies (sliceTy (tyRef (named 0) imm half)) l₁)
-          ∷ ‵ (fat fullShare Bu′.mir l₀ 0 (low-built t)) ∷ ‵ (fdies Bu′.mir l₀) ∷ [])) (Wp 𝓤 H (𝓣 .C) (𝓣 .Λ) En mir.t-14 (atReturn 𝓤 H En Post))
+          ∷ ‵ (fat fullShare Bu′.mir l₀ 0 (low-built t)) ∷ ‵ (fdies Bu′.mir l₀) ∷ []) (runs (𝓣 .C) (𝓣 .Λ) En mir.t-14 (atRet En Post))
       go-4 p planned g-p yes′ t za zl zr kept g-t long-a long-l long-r =
-          qed W (‵ (flft κs qs) ∷ ‵ (ShrSlice (named 0) κs i32 .own xs (sliceVal (xs .ptr) (length (xs .now)) ∷ [])) ∷ ‵ (flft κa qa) ∷ ‵ (Lends.Own T.the-row (xa .ptr .0) (xa .ptr .1) (length (xa .now)) (named 0) κa (xa .name) za)
-          ∷ ‵ (flft κl ql) ∷ ‵ (Lends.Own u32 (xl .ptr .0) (xl .ptr .1) (length (xl .now)) (named 0) κl (xl .name) zl) ∷ ‵ (flft κr qr) ∷ ‵ (Lends.Own u32 (xr .ptr .0) (xr .ptr .1) (length (xr .now)) (named 0) κr (xr .name) zr)
-          ∷ ‵ (froom (sliceTy (tyRef erased mut half)) l₁₈ 0) ∷ ‵ (fdies (sliceTy (tyRef erased mut half)) l₁₈) ∷ ‵ (froom (tyRef erased mut half) l₁₇ 0) ∷ ‵ (fdies (tyRef erased mut half) l₁₇)
-          ∷ ‵ (froom (sliceTy (tyRef erased mut half)) l₁₆ 0) ∷ ‵ (fdies (sliceTy (tyRef erased mut half)) l₁₆) ∷ ‵ (froom (tyRef erased mut half) l₁₅ 0) ∷ ‵ (fdies (tyRef erased mut half) l₁₅)
-          ∷ ‵ (froom (sliceTy (tyRef erased mut record-type)) l₁₄ 0) ∷ ‵ (fdies (sliceTy (tyRef erased mut record-type)) l₁₄) ∷ ‵ (froom (tyRef erased mut record-type) l₁₃ 0) ∷ ‵ (fdies (tyRef erased mut record-type) l₁₃)
-          ∷ ‵ (froom tyBool l₁₂ 0) ∷ ‵ (fdies tyBool l₁₂) ∷ ‵ (fat fullShare word l₁₁ 0 (vint w64 (length (xr .now)))) ∷ ‵ (fdies word l₁₁)
-          ∷ ‵ (fat fullShare word l₁₀ 0 (vint w64 (length (xl .now)))) ∷ ‵ (fdies word l₁₀) ∷ ‵ (fat fullShare word l₉ 0 (vint w64 (length (xa .now)))) ∷ ‵ (fdies word l₉)
-          ∷ ‵ (fat fullShare Pn′.mir l₈ 0 (low-plan p)) ∷ ‵ (fdies Pn′.mir l₈) ∷ ‵ (fat fullShare (sliceTy (tyRef (named 3) mut half)) l₇ 0 (sliceVal (xr .ptr) (length (xr .now)))) ∷ ‵ (fdies (sliceTy (tyRef (named 3) mut half)) l₇)
-          ∷ ‵ (fat fullShare (sliceTy (tyRef (named 2) mut half)) l₆ 0 (sliceVal (xl .ptr) (length (xl .now)))) ∷ ‵ (fdies (sliceTy (tyRef (named 2) mut half)) l₆) ∷ ‵ (fat fullShare (sliceTy (tyRef (named 1) mut record-type)) l₅ 0 (sliceVal (xa .ptr) (length (xa .now)))) ∷ ‵ (fdies (sliceTy (tyRef (named 1) mut record-type)) l₅)
-          ∷ ‵ (fat fullShare half l₄ 0 (vint w32 g)) ∷ ‵ (fdies half l₄) ∷ ‵ (fat fullShare half l₃ 0 (vint w32 d)) ∷ ‵ (fdies half l₃)
-          ∷ ‵ (fat fullShare half l₂ 0 (vint w32 w)) ∷ ‵ (fdies half l₂) ∷ ‵ (fat fullShare (sliceTy (tyRef (named 0) imm half)) l₁ 0 (sliceVal (xs .ptr) (length (xs .now)))) ∷ ‵ (fdies (sliceTy (tyRef (named 0) imm half)) l₁)
-          ∷ ‵ (fat fullShare Bu′.mir l₀ 0 (low-built t)) ∷ ‵ (fdies Bu′.mir l₀) ∷ []) ∵ exec ! (𝓣 .C) (𝓣 .Λ) En mir.t-14 (atRet En Post) $
           returns ! (look ! 44 refl) $
           lose ! 44 refl refl $ lose ! 42 refl refl $ lose ! 40 refl refl $ lose ! 38 refl refl $ lose ! 36 refl refl $ lose ! 34 refl refl $ lose ! 32 refl refl $ lose ! 30 refl refl $ lose ! 28 refl refl $ lose ! 26 refl refl $ lose ! 24 refl refl $ lose ! 22 refl refl $ lose-room ! 20 refl refl $ lose-room ! 18 refl refl $ lose-room ! 16 refl refl $ lose-room ! 14 refl refl $ lose-room ! 12 refl refl $ lose-room ! 10 refl refl $ lose-room ! 8 refl refl $ free0 ! $
           keep ! (0 ∷ 2 ∷ 4 ∷ 6 ∷ 3 ∷ 5 ∷ 7 ∷ []) $
           by ! (exits za long-a zl long-l zr long-r t g-t kept)
 
-      go-3 : (p : Plan) (planned : Planned (xs .now) w d g (length (xa .now)) (length (xl .now)) (length (xr .now)) p) (g-p : Is Pn.the-row p (low-plan p ∷ [])) (yes′ : eqb (p .number) 0 ≡ true) → ent 𝓤 (⋆ 𝓤 H A (‵ (flft κs qs) ∷ ‵ (ShrSlice (named 0) κs i32 .own xs (sliceVal (xs .ptr) (length (xs .now)) ∷ [])) ∷ ‵ (flft κa qa) ∷ ‵ (Lends.Own T.the-row (xa .ptr .0) (xa .ptr .1) (length (xa .now)) (named 0) κa (xa .name) (xa .now))
+      go-3 : (p : Plan) (planned : Planned (xs .now) w d g (length (xa .now)) (length (xl .now)) (length (xr .now)) p) (g-p : Is Pn.the-row p (low-plan p ∷ [])) (yes′ : eqb (p .number) 0 ≡ true) → Sq W (‵ (flft κs qs) ∷ ‵ (ShrSlice (named 0) κs i32 .own xs (sliceVal (xs .ptr) (length (xs .now)) ∷ [])) ∷ ‵ (flft κa qa) ∷ ‵ (Lends.Own T.the-row (xa .ptr .0) (xa .ptr .1) (length (xa .now)) (named 0) κa (xa .name) (xa .now))
           ∷ ‵ (flft κl ql) ∷ ‵ (Lends.Own u32 (xl .ptr .0) (xl .ptr .1) (length (xl .now)) (named 0) κl (xl .name) (xl .now)) ∷ ‵ (flft κr qr) ∷ ‵ (Lends.Own u32 (xr .ptr .0) (xr .ptr .1) (length (xr .now)) (named 0) κr (xr .name) (xr .now))
           ∷ ‵ (froom (sliceTy (tyRef erased mut half)) l₁₈ 0) ∷ ‵ (fdies (sliceTy (tyRef erased mut half)) l₁₈) ∷ ‵ (froom (tyRef erased mut half) l₁₇ 0) ∷ ‵ (fdies (tyRef erased mut half) l₁₇)
           ∷ ‵ (froom (sliceTy (tyRef erased mut half)) l₁₆ 0) ∷ ‵ (fdies (sliceTy (tyRef erased mut half)) l₁₆) ∷ ‵ (froom (tyRef erased mut half) l₁₅ 0) ∷ ‵ (fdies (tyRef erased mut half) l₁₅)
@@ -166,20 +154,8 @@ module _ {M : Type 1} (𝓤 : URA M) (H : Heap 𝓤) (A : Atoms 𝓤) (W : Given
           ∷ ‵ (fat fullShare (sliceTy (tyRef (named 2) mut half)) l₆ 0 (sliceVal (xl .ptr) (length (xl .now)))) ∷ ‵ (fdies (sliceTy (tyRef (named 2) mut half)) l₆) ∷ ‵ (fat fullShare (sliceTy (tyRef (named 1) mut record-type)) l₅ 0 (sliceVal (xa .ptr) (length (xa .now)))) ∷ ‵ (fdies (sliceTy (tyRef (named 1) mut record-type)) l₅)
           ∷ ‵ (fat fullShare half l₄ 0 (vint w32 g)) ∷ ‵ (fdies half l₄) ∷ ‵ (fat fullShare half l₃ 0 (vint w32 d)) ∷ ‵ (fdies half l₃)
           ∷ ‵ (fat fullShare half l₂ 0 (vint w32 w)) ∷ ‵ (fdies half l₂) ∷ ‵ (fat fullShare (sliceTy (tyRef (named 0) imm half)) l₁ 0 (sliceVal (xs .ptr) (length (xs .now)))) ∷ ‵ (fdies (sliceTy (tyRef (named 0) imm half)) l₁)
-          ∷ ‵ (froom Bu′.mir l₀ 0) ∷ ‵ (fdies Bu′.mir l₀) ∷ [])) (Wp 𝓤 H (𝓣 .C) (𝓣 .Λ) En mir.t-7 (atReturn 𝓤 H En Post))
+          ∷ ‵ (froom Bu′.mir l₀ 0) ∷ ‵ (fdies Bu′.mir l₀) ∷ []) (runs (𝓣 .C) (𝓣 .Λ) En mir.t-7 (atRet En Post))
       go-3 p planned g-p yes′ =
-          qed W (‵ (flft κs qs) ∷ ‵ (ShrSlice (named 0) κs i32 .own xs (sliceVal (xs .ptr) (length (xs .now)) ∷ [])) ∷ ‵ (flft κa qa) ∷ ‵ (Lends.Own T.the-row (xa .ptr .0) (xa .ptr .1) (length (xa .now)) (named 0) κa (xa .name) (xa .now))
-          ∷ ‵ (flft κl ql) ∷ ‵ (Lends.Own u32 (xl .ptr .0) (xl .ptr .1) (length (xl .now)) (named 0) κl (xl .name) (xl .now)) ∷ ‵ (flft κr qr) ∷ ‵ (Lends.Own u32 (xr .ptr .0) (xr .ptr .1) (length (xr .now)) (named 0) κr (xr .name) (xr .now))
-          ∷ ‵ (froom (sliceTy (tyRef erased mut half)) l₁₈ 0) ∷ ‵ (fdies (sliceTy (tyRef erased mut half)) l₁₈) ∷ ‵ (froom (tyRef erased mut half) l₁₇ 0) ∷ ‵ (fdies (tyRef erased mut half) l₁₇)
-          ∷ ‵ (froom (sliceTy (tyRef erased mut half)) l₁₆ 0) ∷ ‵ (fdies (sliceTy (tyRef erased mut half)) l₁₆) ∷ ‵ (froom (tyRef erased mut half) l₁₅ 0) ∷ ‵ (fdies (tyRef erased mut half) l₁₅)
-          ∷ ‵ (froom (sliceTy (tyRef erased mut record-type)) l₁₄ 0) ∷ ‵ (fdies (sliceTy (tyRef erased mut record-type)) l₁₄) ∷ ‵ (froom (tyRef erased mut record-type) l₁₃ 0) ∷ ‵ (fdies (tyRef erased mut record-type) l₁₃)
-          ∷ ‵ (froom tyBool l₁₂ 0) ∷ ‵ (fdies tyBool l₁₂) ∷ ‵ (fat fullShare word l₁₁ 0 (vint w64 (length (xr .now)))) ∷ ‵ (fdies word l₁₁)
-          ∷ ‵ (fat fullShare word l₁₀ 0 (vint w64 (length (xl .now)))) ∷ ‵ (fdies word l₁₀) ∷ ‵ (fat fullShare word l₉ 0 (vint w64 (length (xa .now)))) ∷ ‵ (fdies word l₉)
-          ∷ ‵ (fat fullShare Pn′.mir l₈ 0 (low-plan p)) ∷ ‵ (fdies Pn′.mir l₈) ∷ ‵ (fat fullShare (sliceTy (tyRef (named 3) mut half)) l₇ 0 (sliceVal (xr .ptr) (length (xr .now)))) ∷ ‵ (fdies (sliceTy (tyRef (named 3) mut half)) l₇)
-          ∷ ‵ (fat fullShare (sliceTy (tyRef (named 2) mut half)) l₆ 0 (sliceVal (xl .ptr) (length (xl .now)))) ∷ ‵ (fdies (sliceTy (tyRef (named 2) mut half)) l₆) ∷ ‵ (fat fullShare (sliceTy (tyRef (named 1) mut record-type)) l₅ 0 (sliceVal (xa .ptr) (length (xa .now)))) ∷ ‵ (fdies (sliceTy (tyRef (named 1) mut record-type)) l₅)
-          ∷ ‵ (fat fullShare half l₄ 0 (vint w32 g)) ∷ ‵ (fdies half l₄) ∷ ‵ (fat fullShare half l₃ 0 (vint w32 d)) ∷ ‵ (fdies half l₃)
-          ∷ ‵ (fat fullShare half l₂ 0 (vint w32 w)) ∷ ‵ (fdies half l₂) ∷ ‵ (fat fullShare (sliceTy (tyRef (named 0) imm half)) l₁ 0 (sliceVal (xs .ptr) (length (xs .now)))) ∷ ‵ (fdies (sliceTy (tyRef (named 0) imm half)) l₁)
-          ∷ ‵ (froom Bu′.mir l₀ 0) ∷ ‵ (fdies Bu′.mir l₀) ∷ []) ∵ exec ! (𝓣 .C) (𝓣 .Λ) En mir.t-7 (atRet En Post) $
           assigns ! (addr ! (from ! (fld ! refl (hop ! (look-in ! 34 (sub ! 0 refl (whole !))) (stop !))))) (from ! (stop !)) (init ! 18 refl (tt, tt)) $
           assigns ! (agg ! (and-then ! (load ! (from ! (stop !)) (look ! 18 refl)) (and-then ! (load ! (from ! (fld ! refl (stop !))) (look-in ! 34 (sub ! 1 refl (whole !)))) (no-more !)))) (from ! (stop !)) (init ! 16 refl (tt, (tt, (record { fits = g-a .0 }, tt)))) $
           assigns ! (addr ! (from ! (fld ! refl (hop ! (look-in ! 32 (sub ! 0 refl (whole !))) (stop !))))) (from ! (stop !)) (init ! 14 refl (tt, tt)) $
@@ -190,10 +166,9 @@ module _ {M : Type 1} (𝓤 : URA M) (H : Heap 𝓤) (A : Atoms 𝓤) (W : Given
           calls-build-planned ! fm mem run known-planned κs qs xs κa qa (xa .ptr .0) (xa .ptr .1) (length (xa .now)) (xa .name) (xa .now) κl ql (xl .ptr .0) (xl .ptr .1) (length (xl .now)) (xl .name) (xl .now) κr qr (xr .ptr .0) (xr .ptr .1) (length (xr .now)) (xr .name) (xr .now) w d g p refl g-a refl g-l refl g-r g-w g-d g-g g-p (planned, eqb-true (p .number) 0 yes′) (λ νa δa νl δl νr δr. (and-then ! (load ! (from ! (stop !)) (look ! 39 refl)) (and-then ! (load ! (from ! (stop !)) (look ! 37 refl)) (and-then ! (load ! (from ! (stop !)) (look ! 35 refl)) (and-then ! (load ! (from ! (stop !)) (look ! 33 refl)) (and-then ! (load ! (from ! (stop !)) (look ! 25 refl)) (and-then ! (load ! (from ! (stop !)) (look ! 13 refl)) (and-then ! (load ! (from ! (stop !)) (look ! 9 refl)) (and-then ! (load ! (from ! (stop !)) (look ! 5 refl)) (no-more !)))))))))) (λ t za zl zr kept g-t long-a long-l long-r.
           land ! (from ! (stop !)) (init ! 44 refl (EL.lawful Bu.the-type Bu′.the-laws 𝓤 H A W tt .typed t _ g-t .0)) $
           forget ! 18 refl $ forget ! 16 refl $ forget ! 14 refl $ forget ! 12 refl $ forget ! 10 refl $ forget ! 8 refl $
-          keep ! (0 ∷ 1 ∷ 2 ∷ 3 ∷ 4 ∷ 5 ∷ 6 ∷ 7 ∷ 8 ∷ 9 ∷ 10 ∷ 11 ∷ 12 ∷ 13 ∷ 14 ∷ 15 ∷ 16 ∷ 17 ∷ 18 ∷ 19 ∷ 20 ∷ 21 ∷ 22 ∷ 23 ∷ 24 ∷ 25 ∷ 26 ∷ 27 ∷ 28 ∷ 29 ∷ 30 ∷ 31 ∷ 32 ∷ 33 ∷ 34 ∷ 35 ∷ 36 ∷ 37 ∷ 38 ∷ 39 ∷ 40 ∷ 41 ∷ 42 ∷ 43 ∷ 44 ∷ 45 ∷ []) $
-          by ! (go-4 p planned g-p yes′ t za zl zr kept g-t long-a long-l long-r))
+          go-4 p planned g-p yes′ t za zl zr kept g-t long-a long-l long-r)
 
-      go-2 : (p : Plan) (planned : Planned (xs .now) w d g (length (xa .now)) (length (xl .now)) (length (xr .now)) p) (g-p : Is Pn.the-row p (low-plan p ∷ [])) → ent 𝓤 (⋆ 𝓤 H A (‵ (flft κs qs) ∷ ‵ (ShrSlice (named 0) κs i32 .own xs (sliceVal (xs .ptr) (length (xs .now)) ∷ [])) ∷ ‵ (flft κa qa) ∷ ‵ (Lends.Own T.the-row (xa .ptr .0) (xa .ptr .1) (length (xa .now)) (named 0) κa (xa .name) (xa .now))
+      go-2 : (p : Plan) (planned : Planned (xs .now) w d g (length (xa .now)) (length (xl .now)) (length (xr .now)) p) (g-p : Is Pn.the-row p (low-plan p ∷ [])) → Sq W (‵ (flft κs qs) ∷ ‵ (ShrSlice (named 0) κs i32 .own xs (sliceVal (xs .ptr) (length (xs .now)) ∷ [])) ∷ ‵ (flft κa qa) ∷ ‵ (Lends.Own T.the-row (xa .ptr .0) (xa .ptr .1) (length (xa .now)) (named 0) κa (xa .name) (xa .now))
           ∷ ‵ (flft κl ql) ∷ ‵ (Lends.Own u32 (xl .ptr .0) (xl .ptr .1) (length (xl .now)) (named 0) κl (xl .name) (xl .now)) ∷ ‵ (flft κr qr) ∷ ‵ (Lends.Own u32 (xr .ptr .0) (xr .ptr .1) (length (xr .now)) (named 0) κr (xr .name) (xr .now))
           ∷ ‵ (froom (sliceTy (tyRef erased mut half)) l₁₈ 0) ∷ ‵ (fdies (sliceTy (tyRef erased mut half)) l₁₈) ∷ ‵ (froom (tyRef erased mut half) l₁₇ 0) ∷ ‵ (fdies (tyRef erased mut half) l₁₇)
           ∷ ‵ (froom (sliceTy (tyRef erased mut half)) l₁₆ 0) ∷ ‵ (fdies (sliceTy (tyRef erased mut half)) l₁₆) ∷ ‵ (froom (tyRef erased mut half) l₁₅ 0) ∷ ‵ (fdies (tyRef erased mut half) l₁₅)
@@ -204,26 +179,13 @@ module _ {M : Type 1} (𝓤 : URA M) (H : Heap 𝓤) (A : Atoms 𝓤) (W : Given
           ∷ ‵ (fat fullShare (sliceTy (tyRef (named 2) mut half)) l₆ 0 (sliceVal (xl .ptr) (length (xl .now)))) ∷ ‵ (fdies (sliceTy (tyRef (named 2) mut half)) l₆) ∷ ‵ (fat fullShare (sliceTy (tyRef (named 1) mut record-type)) l₅ 0 (sliceVal (xa .ptr) (length (xa .now)))) ∷ ‵ (fdies (sliceTy (tyRef (named 1) mut record-type)) l₅)
           ∷ ‵ (fat fullShare half l₄ 0 (vint w32 g)) ∷ ‵ (fdies half l₄) ∷ ‵ (fat fullShare half l₃ 0 (vint w32 d)) ∷ ‵ (fdies half l₃)
           ∷ ‵ (fat fullShare half l₂ 0 (vint w32 w)) ∷ ‵ (fdies half l₂) ∷ ‵ (fat fullShare (sliceTy (tyRef (named 0) imm half)) l₁ 0 (sliceVal (xs .ptr) (length (xs .now)))) ∷ ‵ (fdies (sliceTy (tyRef (named 0) imm half)) l₁)
-          ∷ ‵ (froom Bu′.mir l₀ 0) ∷ ‵ (fdies Bu′.mir l₀) ∷ [])) (Wp 𝓤 H (𝓣 .C) (𝓣 .Λ) En mir.t-5 (atReturn 𝓤 H En Post))
+          ∷ ‵ (froom Bu′.mir l₀ 0) ∷ ‵ (fdies Bu′.mir l₀) ∷ []) (runs (𝓣 .C) (𝓣 .Λ) En mir.t-5 (atRet En Post))
       go-2 p planned g-p =
-          qed W (‵ (flft κs qs) ∷ ‵ (ShrSlice (named 0) κs i32 .own xs (sliceVal (xs .ptr) (length (xs .now)) ∷ [])) ∷ ‵ (flft κa qa) ∷ ‵ (Lends.Own T.the-row (xa .ptr .0) (xa .ptr .1) (length (xa .now)) (named 0) κa (xa .name) (xa .now))
-          ∷ ‵ (flft κl ql) ∷ ‵ (Lends.Own u32 (xl .ptr .0) (xl .ptr .1) (length (xl .now)) (named 0) κl (xl .name) (xl .now)) ∷ ‵ (flft κr qr) ∷ ‵ (Lends.Own u32 (xr .ptr .0) (xr .ptr .1) (length (xr .now)) (named 0) κr (xr .name) (xr .now))
-          ∷ ‵ (froom (sliceTy (tyRef erased mut half)) l₁₈ 0) ∷ ‵ (fdies (sliceTy (tyRef erased mut half)) l₁₈) ∷ ‵ (froom (tyRef erased mut half) l₁₇ 0) ∷ ‵ (fdies (tyRef erased mut half) l₁₇)
-          ∷ ‵ (froom (sliceTy (tyRef erased mut half)) l₁₆ 0) ∷ ‵ (fdies (sliceTy (tyRef erased mut half)) l₁₆) ∷ ‵ (froom (tyRef erased mut half) l₁₅ 0) ∷ ‵ (fdies (tyRef erased mut half) l₁₅)
-          ∷ ‵ (froom (sliceTy (tyRef erased mut record-type)) l₁₄ 0) ∷ ‵ (fdies (sliceTy (tyRef erased mut record-type)) l₁₄) ∷ ‵ (froom (tyRef erased mut record-type) l₁₃ 0) ∷ ‵ (fdies (tyRef erased mut record-type) l₁₃)
-          ∷ ‵ (froom tyBool l₁₂ 0) ∷ ‵ (fdies tyBool l₁₂) ∷ ‵ (fat fullShare word l₁₁ 0 (vint w64 (length (xr .now)))) ∷ ‵ (fdies word l₁₁)
-          ∷ ‵ (fat fullShare word l₁₀ 0 (vint w64 (length (xl .now)))) ∷ ‵ (fdies word l₁₀) ∷ ‵ (fat fullShare word l₉ 0 (vint w64 (length (xa .now)))) ∷ ‵ (fdies word l₉)
-          ∷ ‵ (fat fullShare Pn′.mir l₈ 0 (low-plan p)) ∷ ‵ (fdies Pn′.mir l₈) ∷ ‵ (fat fullShare (sliceTy (tyRef (named 3) mut half)) l₇ 0 (sliceVal (xr .ptr) (length (xr .now)))) ∷ ‵ (fdies (sliceTy (tyRef (named 3) mut half)) l₇)
-          ∷ ‵ (fat fullShare (sliceTy (tyRef (named 2) mut half)) l₆ 0 (sliceVal (xl .ptr) (length (xl .now)))) ∷ ‵ (fdies (sliceTy (tyRef (named 2) mut half)) l₆) ∷ ‵ (fat fullShare (sliceTy (tyRef (named 1) mut record-type)) l₅ 0 (sliceVal (xa .ptr) (length (xa .now)))) ∷ ‵ (fdies (sliceTy (tyRef (named 1) mut record-type)) l₅)
-          ∷ ‵ (fat fullShare half l₄ 0 (vint w32 g)) ∷ ‵ (fdies half l₄) ∷ ‵ (fat fullShare half l₃ 0 (vint w32 d)) ∷ ‵ (fdies half l₃)
-          ∷ ‵ (fat fullShare half l₂ 0 (vint w32 w)) ∷ ‵ (fdies half l₂) ∷ ‵ (fat fullShare (sliceTy (tyRef (named 0) imm half)) l₁ 0 (sliceVal (xs .ptr) (length (xs .now)))) ∷ ‵ (fdies (sliceTy (tyRef (named 0) imm half)) l₁)
-          ∷ ‵ (froom Bu′.mir l₀ 0) ∷ ‵ (fdies Bu′.mir l₀) ∷ []) ∵ exec ! (𝓣 .C) (𝓣 .Λ) En mir.t-5 (atRet En Post) $
           assigns ! (bin ! (load ! (from ! (fld ! refl (stop !))) (look-in ! 28 (sub ! 0 refl (whole !)))) (lit ! tt) tt) (from ! (stop !)) (init ! 20 refl (tt, tt)) $
           by-bool (eqb (p .number) 0)
           (λ yes′. rewrite ! 20 (λ (t : Bool). ‵ (fat fullShare tyBool l₁₂ 0 (vbool (not t)))) yes′ refl $ passes-by ! (load ! (from ! (stop !)) (look ! 20 refl)) $
           forget ! 20 refl $
-          keep ! (0 ∷ 1 ∷ 2 ∷ 3 ∷ 4 ∷ 5 ∷ 6 ∷ 7 ∷ 8 ∷ 9 ∷ 10 ∷ 11 ∷ 12 ∷ 13 ∷ 14 ∷ 15 ∷ 16 ∷ 17 ∷ 18 ∷ 19 ∷ 20 ∷ 21 ∷ 22 ∷ 23 ∷ 24 ∷ 25 ∷ 26 ∷ 27 ∷ 28 ∷ 29 ∷ 30 ∷ 31 ∷ 32 ∷ 33 ∷ 34 ∷ 35 ∷ 36 ∷ 37 ∷ 38 ∷ 39 ∷ 40 ∷ 41 ∷ 42 ∷ 43 ∷ 44 ∷ 45 ∷ []) $
-          by ! (go-3 p planned g-p yes′))
+          go-3 p planned g-p yes′)
           (λ no′. rewrite ! 20 (λ (t : Bool). ‵ (fat fullShare tyBool l₁₂ 0 (vbool (not t)))) no′ refl $ goes-in ! (load ! (from ! (stop !)) (look ! 20 refl)) $
           calls-refuse ! fm mem run known-refuse p g-p (and-then ! (load ! (from ! (stop !)) (look ! 29 refl)) (no-more !)) (λ t is-t g-t.
           land ! (from ! (stop !)) (init ! 44 refl (EL.lawful Bu.the-type Bu′.the-laws 𝓤 H A W tt .typed t _ g-t .0)) $
@@ -232,7 +194,7 @@ module _ {M : Type 1} (𝓤 : URA M) (H : Heap 𝓤) (A : Atoms 𝓤) (W : Given
           keep ! (0 ∷ 2 ∷ 4 ∷ 6 ∷ 3 ∷ 5 ∷ 7 ∷ []) $
           by ! (exits (xa .now) refl (xl .now) refl (xr .now) refl t g-t (refused-so p planned no′ t is-t))))
 
-      go-1 : ent 𝓤 (⋆ 𝓤 H A (‵ (flft κs qs) ∷ ‵ (ShrSlice (named 0) κs i32 .own xs (sliceVal (xs .ptr) (length (xs .now)) ∷ [])) ∷ ‵ (flft κa qa) ∷ ‵ (Lends.Own T.the-row (xa .ptr .0) (xa .ptr .1) (length (xa .now)) (named 0) κa (xa .name) (xa .now))
+      go-1 : Sq W (‵ (flft κs qs) ∷ ‵ (ShrSlice (named 0) κs i32 .own xs (sliceVal (xs .ptr) (length (xs .now)) ∷ [])) ∷ ‵ (flft κa qa) ∷ ‵ (Lends.Own T.the-row (xa .ptr .0) (xa .ptr .1) (length (xa .now)) (named 0) κa (xa .name) (xa .now))
           ∷ ‵ (flft κl ql) ∷ ‵ (Lends.Own u32 (xl .ptr .0) (xl .ptr .1) (length (xl .now)) (named 0) κl (xl .name) (xl .now)) ∷ ‵ (flft κr qr) ∷ ‵ (Lends.Own u32 (xr .ptr .0) (xr .ptr .1) (length (xr .now)) (named 0) κr (xr .name) (xr .now))
           ∷ ‵ (froom (sliceTy (tyRef erased mut half)) l₁₈ 0) ∷ ‵ (fdies (sliceTy (tyRef erased mut half)) l₁₈) ∷ ‵ (froom (tyRef erased mut half) l₁₇ 0) ∷ ‵ (fdies (tyRef erased mut half) l₁₇)
           ∷ ‵ (froom (sliceTy (tyRef erased mut half)) l₁₆ 0) ∷ ‵ (fdies (sliceTy (tyRef erased mut half)) l₁₆) ∷ ‵ (froom (tyRef erased mut half) l₁₅ 0) ∷ ‵ (fdies (tyRef erased mut half) l₁₅)
@@ -243,28 +205,15 @@ module _ {M : Type 1} (𝓤 : URA M) (H : Heap 𝓤) (A : Atoms 𝓤) (W : Given
           ∷ ‵ (fat fullShare (sliceTy (tyRef (named 2) mut half)) l₆ 0 (sliceVal (xl .ptr) (length (xl .now)))) ∷ ‵ (fdies (sliceTy (tyRef (named 2) mut half)) l₆) ∷ ‵ (fat fullShare (sliceTy (tyRef (named 1) mut record-type)) l₅ 0 (sliceVal (xa .ptr) (length (xa .now)))) ∷ ‵ (fdies (sliceTy (tyRef (named 1) mut record-type)) l₅)
           ∷ ‵ (fat fullShare half l₄ 0 (vint w32 g)) ∷ ‵ (fdies half l₄) ∷ ‵ (fat fullShare half l₃ 0 (vint w32 d)) ∷ ‵ (fdies half l₃)
           ∷ ‵ (fat fullShare half l₂ 0 (vint w32 w)) ∷ ‵ (fdies half l₂) ∷ ‵ (fat fullShare (sliceTy (tyRef (named 0) imm half)) l₁ 0 (sliceVal (xs .ptr) (length (xs .now)))) ∷ ‵ (fdies (sliceTy (tyRef (named 0) imm half)) l₁)
-          ∷ ‵ (froom Bu′.mir l₀ 0) ∷ ‵ (fdies Bu′.mir l₀) ∷ [])) (Wp 𝓤 H (𝓣 .C) (𝓣 .Λ) En mir.t-1 (atReturn 𝓤 H En Post))
+          ∷ ‵ (froom Bu′.mir l₀ 0) ∷ ‵ (fdies Bu′.mir l₀) ∷ []) (runs (𝓣 .C) (𝓣 .Λ) En mir.t-1 (atRet En Post))
       go-1 =
-          qed W (‵ (flft κs qs) ∷ ‵ (ShrSlice (named 0) κs i32 .own xs (sliceVal (xs .ptr) (length (xs .now)) ∷ [])) ∷ ‵ (flft κa qa) ∷ ‵ (Lends.Own T.the-row (xa .ptr .0) (xa .ptr .1) (length (xa .now)) (named 0) κa (xa .name) (xa .now))
-          ∷ ‵ (flft κl ql) ∷ ‵ (Lends.Own u32 (xl .ptr .0) (xl .ptr .1) (length (xl .now)) (named 0) κl (xl .name) (xl .now)) ∷ ‵ (flft κr qr) ∷ ‵ (Lends.Own u32 (xr .ptr .0) (xr .ptr .1) (length (xr .now)) (named 0) κr (xr .name) (xr .now))
-          ∷ ‵ (froom (sliceTy (tyRef erased mut half)) l₁₈ 0) ∷ ‵ (fdies (sliceTy (tyRef erased mut half)) l₁₈) ∷ ‵ (froom (tyRef erased mut half) l₁₇ 0) ∷ ‵ (fdies (tyRef erased mut half) l₁₇)
-          ∷ ‵ (froom (sliceTy (tyRef erased mut half)) l₁₆ 0) ∷ ‵ (fdies (sliceTy (tyRef erased mut half)) l₁₆) ∷ ‵ (froom (tyRef erased mut half) l₁₅ 0) ∷ ‵ (fdies (tyRef erased mut half) l₁₅)
-          ∷ ‵ (froom (sliceTy (tyRef erased mut record-type)) l₁₄ 0) ∷ ‵ (fdies (sliceTy (tyRef erased mut record-type)) l₁₄) ∷ ‵ (froom (tyRef erased mut record-type) l₁₃ 0) ∷ ‵ (fdies (tyRef erased mut record-type) l₁₃)
-          ∷ ‵ (froom tyBool l₁₂ 0) ∷ ‵ (fdies tyBool l₁₂) ∷ ‵ (froom word l₁₁ 0) ∷ ‵ (fdies word l₁₁)
-          ∷ ‵ (froom word l₁₀ 0) ∷ ‵ (fdies word l₁₀) ∷ ‵ (froom word l₉ 0) ∷ ‵ (fdies word l₉)
-          ∷ ‵ (froom Pn′.mir l₈ 0) ∷ ‵ (fdies Pn′.mir l₈) ∷ ‵ (fat fullShare (sliceTy (tyRef (named 3) mut half)) l₇ 0 (sliceVal (xr .ptr) (length (xr .now)))) ∷ ‵ (fdies (sliceTy (tyRef (named 3) mut half)) l₇)
-          ∷ ‵ (fat fullShare (sliceTy (tyRef (named 2) mut half)) l₆ 0 (sliceVal (xl .ptr) (length (xl .now)))) ∷ ‵ (fdies (sliceTy (tyRef (named 2) mut half)) l₆) ∷ ‵ (fat fullShare (sliceTy (tyRef (named 1) mut record-type)) l₅ 0 (sliceVal (xa .ptr) (length (xa .now)))) ∷ ‵ (fdies (sliceTy (tyRef (named 1) mut record-type)) l₅)
-          ∷ ‵ (fat fullShare half l₄ 0 (vint w32 g)) ∷ ‵ (fdies half l₄) ∷ ‵ (fat fullShare half l₃ 0 (vint w32 d)) ∷ ‵ (fdies half l₃)
-          ∷ ‵ (fat fullShare half l₂ 0 (vint w32 w)) ∷ ‵ (fdies half l₂) ∷ ‵ (fat fullShare (sliceTy (tyRef (named 0) imm half)) l₁ 0 (sliceVal (xs .ptr) (length (xs .now)))) ∷ ‵ (fdies (sliceTy (tyRef (named 0) imm half)) l₁)
-          ∷ ‵ (froom Bu′.mir l₀ 0) ∷ ‵ (fdies Bu′.mir l₀) ∷ []) ∵ exec ! (𝓣 .C) (𝓣 .Λ) En mir.t-1 (atRet En Post) $
           assigns ! (of-opd ! (load ! (from ! (fld ! refl (stop !))) (look-in ! 34 (sub ! 1 refl (whole !))))) (from ! (stop !)) (init ! 26 refl (tt, record { fits = g-a .0 })) $
           assigns ! (of-opd ! (load ! (from ! (fld ! refl (stop !))) (look-in ! 32 (sub ! 1 refl (whole !))))) (from ! (stop !)) (init ! 24 refl (tt, record { fits = g-l .0 })) $
           assigns ! (of-opd ! (load ! (from ! (fld ! refl (stop !))) (look-in ! 30 (sub ! 1 refl (whole !))))) (from ! (stop !)) (init ! 22 refl (tt, record { fits = g-r .0 })) $
           move ! (0 ∷ 1 ∷ []) $
           calls-make-plan ! fm mem run known-make κs qs xs w d g (length (xa .now)) (length (xl .now)) (length (xr .now)) g-w g-d g-g (g-a .0) (g-l .0) (g-r .0) (and-then ! (load ! (from ! (stop !)) (look ! 42 refl)) (and-then ! (load ! (from ! (stop !)) (look ! 40 refl)) (and-then ! (load ! (from ! (stop !)) (look ! 38 refl)) (and-then ! (load ! (from ! (stop !)) (look ! 36 refl)) (and-then ! (load ! (from ! (stop !)) (look ! 26 refl)) (and-then ! (load ! (from ! (stop !)) (look ! 24 refl)) (and-then ! (load ! (from ! (stop !)) (look ! 22 refl)) (no-more !)))))))) (λ p planned g-p.
           land ! (from ! (stop !)) (init ! 28 refl (LL.lawful Pn.the-type Pn′.the-laws 𝓤 H A W .typed p _ g-p .0)) $
-          keep ! (0 ∷ 1 ∷ 2 ∷ 3 ∷ 4 ∷ 5 ∷ 6 ∷ 7 ∷ 8 ∷ 9 ∷ 10 ∷ 11 ∷ 12 ∷ 13 ∷ 14 ∷ 15 ∷ 16 ∷ 17 ∷ 18 ∷ 19 ∷ 20 ∷ 21 ∷ 22 ∷ 23 ∷ 24 ∷ 25 ∷ 26 ∷ 27 ∷ 28 ∷ 29 ∷ 30 ∷ 31 ∷ 32 ∷ 33 ∷ 34 ∷ 35 ∷ 36 ∷ 37 ∷ 38 ∷ 39 ∷ 40 ∷ 41 ∷ 42 ∷ 43 ∷ 44 ∷ 45 ∷ []) $
-          by ! (go-2 p planned g-p))
+          go-2 p planned g-p)
 
       -- what is had at entry is taken apart
       abbrev At-first : List (Item 𝓤)
@@ -309,7 +258,7 @@ module _ {M : Type 1} (𝓤 : URA M) (H : Heap 𝓤) (A : Atoms 𝓤) (W : Given
           move ! (1 ∷ []) $
           drop ! $
           keep ! (7 ∷ 3 ∷ 6 ∷ 2 ∷ 5 ∷ 1 ∷ 4 ∷ 0 ∷ 8 ∷ 9 ∷ 10 ∷ 11 ∷ 12 ∷ 13 ∷ 14 ∷ 15 ∷ 16 ∷ 17 ∷ 18 ∷ 19 ∷ 20 ∷ 21 ∷ 22 ∷ 23 ∷ 24 ∷ 25 ∷ 26 ∷ 27 ∷ 28 ∷ 29 ∷ 30 ∷ 31 ∷ 32 ∷ 33 ∷ 34 ∷ 35 ∷ 36 ∷ 37 ∷ 38 ∷ 39 ∷ 40 ∷ 41 ∷ 42 ∷ 43 ∷ 44 ∷ 45 ∷ []) $
-          by ! go-1
+          go-1
 
       -- the locals are allocated, and the parameters are passed
       abbrev At-entry : List (Item 𝓤)

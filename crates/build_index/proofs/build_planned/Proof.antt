@@ -150,7 +150,7 @@ module _ {M : Type 1} (𝓤 : URA M) (H : Heap 𝓤) (A : Atoms 𝓤) (W : Given
       abbrev En : Env 𝓤 H
       En = (Bu′.mir, l₀) ∷ ((sliceTy (tyRef (named 0) imm half)), l₁) ∷ (half, l₂) ∷ (half, l₃) ∷ (half, l₄) ∷ (Pn′.mir, l₅) ∷ ((sliceTy (tyRef (named 1) mut record-type)), l₆) ∷ ((sliceTy (tyRef (named 2) mut half)), l₇) ∷ ((sliceTy (tyRef (named 3) mut half)), l₈) ∷ (word, l₉) ∷ (word, l₁₀) ∷ (word, l₁₁) ∷ (T′.mir, l₁₂) ∷ ((tyRef erased mut record-type), l₁₃) ∷ ((sliceTy (tyRef erased mut record-type)), l₁₄) ∷ ((tyRef erased mut half), l₁₅) ∷ ((sliceTy (tyRef erased mut half)), l₁₆) ∷ ((tyRef erased mut half), l₁₇) ∷ ((sliceTy (tyRef erased mut half)), l₁₈) ∷ ((tyRef erased imm record-type), l₁₉) ∷ ((sliceTy (tyRef erased imm record-type)), l₂₀) ∷ []
 
-      go-6 : (m : ℕ) (is-m : m ≡ g) (g-m : m < 2 ^ 64) (n : ℕ) (za : List Row) (zl : List ℕ) (zr : List ℕ) (made : (n ≡ length (built (xs .now) (p .window) (p .width) m .rows)) × Holds (p .width) m (xs .now) (p .window) (buffers (xa .now) (xl .now) (xr .now)) (buffers za zl zr)) (g-n : n < 2 ^ 64) (long-a : length za ≡ length (xa .now)) (long-l : length zl ≡ length (xl .now)) (long-r : length zr ≡ length (xr .now)) (k : ℕ) (is-k : k ≡ n - 1) (g-k : k < 2 ^ 64) (row : Row) (is-row : row ≡ getD za k zeroRow) (g-row : Good row) (t : Built) (is-t : t ≡ indexAs (windowCount (length (xs .now)) w) w d n row) (g-t : Is Bu.the-row t (low-built t ∷ [])) → ent 𝓤 (⋆ 𝓤 H A (‵ (flft κs qs) ∷ ‵ (ShrSlice (named 0) κs i32 .own xs (sliceVal (xs .ptr) (length (xs .now)) ∷ [])) ∷ ‵ (flft κa qa) ∷ ‵ (Lends.Own T.the-row (xa .ptr .0) (xa .ptr .1) (length (xa .now)) (named 0) κa (xa .name) za)
+      go-6 : (m : ℕ) (is-m : m ≡ g) (g-m : m < 2 ^ 64) (n : ℕ) (za : List Row) (zl : List ℕ) (zr : List ℕ) (made : (n ≡ length (built (xs .now) (p .window) (p .width) m .rows)) × Holds (p .width) m (xs .now) (p .window) (buffers (xa .now) (xl .now) (xr .now)) (buffers za zl zr)) (g-n : n < 2 ^ 64) (long-a : length za ≡ length (xa .now)) (long-l : length zl ≡ length (xl .now)) (long-r : length zr ≡ length (xr .now)) (k : ℕ) (is-k : k ≡ n - 1) (g-k : k < 2 ^ 64) (row : Row) (is-row : row ≡ getD za k zeroRow) (g-row : Good row) (t : Built) (is-t : t ≡ indexAs (windowCount (length (xs .now)) w) w d n row) (g-t : Is Bu.the-row t (low-built t ∷ [])) → Sq W (‵ (flft κs qs) ∷ ‵ (ShrSlice (named 0) κs i32 .own xs (sliceVal (xs .ptr) (length (xs .now)) ∷ [])) ∷ ‵ (flft κa qa) ∷ ‵ (Lends.Own T.the-row (xa .ptr .0) (xa .ptr .1) (length (xa .now)) (named 0) κa (xa .name) za)
           ∷ ‵ (flft κl ql) ∷ ‵ (Lends.Own u32 (xl .ptr .0) (xl .ptr .1) (length (xl .now)) (named 0) κl (xl .name) zl) ∷ ‵ (flft κr qr) ∷ ‵ (Lends.Own u32 (xr .ptr .0) (xr .ptr .1) (length (xr .now)) (named 0) κr (xr .name) zr)
           ∷ ‵ (froom (sliceTy (tyRef erased imm record-type)) l₂₀ 0) ∷ ‵ (fdies (sliceTy (tyRef erased imm record-type)) l₂₀) ∷ ‵ (froom (tyRef erased imm record-type) l₁₉ 0) ∷ ‵ (fdies (tyRef erased imm record-type) l₁₉)
           ∷ ‵ (froom (sliceTy (tyRef erased mut half)) l₁₈ 0) ∷ ‵ (fdies (sliceTy (tyRef erased mut half)) l₁₈) ∷ ‵ (froom (tyRef erased mut half) l₁₇ 0) ∷ ‵ (fdies (tyRef erased mut half) l₁₇)
@@ -162,27 +162,14 @@ module _ {M : Type 1} (𝓤 : URA M) (H : Heap 𝓤) (A : Atoms 𝓤) (W : Given
           ∷ ‵ (fat fullShare (sliceTy (tyRef (named 1) mut record-type)) l₆ 0 (sliceVal (xa .ptr) (length (xa .now)))) ∷ ‵ (fdies (sliceTy (tyRef (named 1) mut record-type)) l₆) ∷ ‵ (fat fullShare Pn′.mir l₅ 0 (low-plan p)) ∷ ‵ (fdies Pn′.mir l₅)
           ∷ ‵ (fat fullShare half l₄ 0 (vint w32 g)) ∷ ‵ (fdies half l₄) ∷ ‵ (fat fullShare half l₃ 0 (vint w32 d)) ∷ ‵ (fdies half l₃)
           ∷ ‵ (fat fullShare half l₂ 0 (vint w32 w)) ∷ ‵ (fdies half l₂) ∷ ‵ (fat fullShare (sliceTy (tyRef (named 0) imm half)) l₁ 0 (sliceVal (xs .ptr) (length (xs .now)))) ∷ ‵ (fdies (sliceTy (tyRef (named 0) imm half)) l₁)
-          ∷ ‵ (fat fullShare Bu′.mir l₀ 0 (low-built t)) ∷ ‵ (fdies Bu′.mir l₀) ∷ [])) (Wp 𝓤 H (𝓣 .C) (𝓣 .Λ) En mir.t-14 (atReturn 𝓤 H En Post))
+          ∷ ‵ (fat fullShare Bu′.mir l₀ 0 (low-built t)) ∷ ‵ (fdies Bu′.mir l₀) ∷ []) (runs (𝓣 .C) (𝓣 .Λ) En mir.t-14 (atRet En Post))
       go-6 m is-m g-m n za zl zr made g-n long-a long-l long-r k is-k g-k row is-row g-row t is-t g-t =
-          qed W (‵ (flft κs qs) ∷ ‵ (ShrSlice (named 0) κs i32 .own xs (sliceVal (xs .ptr) (length (xs .now)) ∷ [])) ∷ ‵ (flft κa qa) ∷ ‵ (Lends.Own T.the-row (xa .ptr .0) (xa .ptr .1) (length (xa .now)) (named 0) κa (xa .name) za)
-          ∷ ‵ (flft κl ql) ∷ ‵ (Lends.Own u32 (xl .ptr .0) (xl .ptr .1) (length (xl .now)) (named 0) κl (xl .name) zl) ∷ ‵ (flft κr qr) ∷ ‵ (Lends.Own u32 (xr .ptr .0) (xr .ptr .1) (length (xr .now)) (named 0) κr (xr .name) zr)
-          ∷ ‵ (froom (sliceTy (tyRef erased imm record-type)) l₂₀ 0) ∷ ‵ (fdies (sliceTy (tyRef erased imm record-type)) l₂₀) ∷ ‵ (froom (tyRef erased imm record-type) l₁₉ 0) ∷ ‵ (fdies (tyRef erased imm record-type) l₁₉)
-          ∷ ‵ (froom (sliceTy (tyRef erased mut half)) l₁₈ 0) ∷ ‵ (fdies (sliceTy (tyRef erased mut half)) l₁₈) ∷ ‵ (froom (tyRef erased mut half) l₁₇ 0) ∷ ‵ (fdies (tyRef erased mut half) l₁₇)
-          ∷ ‵ (froom (sliceTy (tyRef erased mut half)) l₁₆ 0) ∷ ‵ (fdies (sliceTy (tyRef erased mut half)) l₁₆) ∷ ‵ (froom (tyRef erased mut half) l₁₅ 0) ∷ ‵ (fdies (tyRef erased mut half) l₁₅)
-          ∷ ‵ (froom (sliceTy (tyRef erased mut record-type)) l₁₄ 0) ∷ ‵ (fdies (sliceTy (tyRef erased mut record-type)) l₁₄) ∷ ‵ (froom (tyRef erased mut record-type) l₁₃ 0) ∷ ‵ (fdies (tyRef erased mut record-type) l₁₃)
-          ∷ ‵ (fat fullShare T′.mir l₁₂ 0 (low row)) ∷ ‵ (fdies T′.mir l₁₂) ∷ ‵ (fat fullShare word l₁₁ 0 (vint w64 k)) ∷ ‵ (fdies word l₁₁)
-          ∷ ‵ (fat fullShare word l₁₀ 0 (vint w64 n)) ∷ ‵ (fdies word l₁₀) ∷ ‵ (fat fullShare word l₉ 0 (vint w64 m)) ∷ ‵ (fdies word l₉)
-          ∷ ‵ (fat fullShare (sliceTy (tyRef (named 3) mut half)) l₈ 0 (sliceVal (xr .ptr) (length (xr .now)))) ∷ ‵ (fdies (sliceTy (tyRef (named 3) mut half)) l₈) ∷ ‵ (fat fullShare (sliceTy (tyRef (named 2) mut half)) l₇ 0 (sliceVal (xl .ptr) (length (xl .now)))) ∷ ‵ (fdies (sliceTy (tyRef (named 2) mut half)) l₇)
-          ∷ ‵ (fat fullShare (sliceTy (tyRef (named 1) mut record-type)) l₆ 0 (sliceVal (xa .ptr) (length (xa .now)))) ∷ ‵ (fdies (sliceTy (tyRef (named 1) mut record-type)) l₆) ∷ ‵ (fat fullShare Pn′.mir l₅ 0 (low-plan p)) ∷ ‵ (fdies Pn′.mir l₅)
-          ∷ ‵ (fat fullShare half l₄ 0 (vint w32 g)) ∷ ‵ (fdies half l₄) ∷ ‵ (fat fullShare half l₃ 0 (vint w32 d)) ∷ ‵ (fdies half l₃)
-          ∷ ‵ (fat fullShare half l₂ 0 (vint w32 w)) ∷ ‵ (fdies half l₂) ∷ ‵ (fat fullShare (sliceTy (tyRef (named 0) imm half)) l₁ 0 (sliceVal (xs .ptr) (length (xs .now)))) ∷ ‵ (fdies (sliceTy (tyRef (named 0) imm half)) l₁)
-          ∷ ‵ (fat fullShare Bu′.mir l₀ 0 (low-built t)) ∷ ‵ (fdies Bu′.mir l₀) ∷ []) ∵ exec ! (𝓣 .C) (𝓣 .Λ) En mir.t-14 (atRet En Post) $
           returns ! (look ! 48 refl) $
           lose ! 48 refl refl $ lose ! 46 refl refl $ lose ! 44 refl refl $ lose ! 42 refl refl $ lose ! 40 refl refl $ lose ! 38 refl refl $ lose ! 36 refl refl $ lose ! 34 refl refl $ lose ! 32 refl refl $ lose ! 30 refl refl $ lose ! 28 refl refl $ lose ! 26 refl refl $ lose ! 24 refl refl $ lose-room ! 22 refl refl $ lose-room ! 20 refl refl $ lose-room ! 18 refl refl $ lose-room ! 16 refl refl $ lose-room ! 14 refl refl $ lose-room ! 12 refl refl $ lose-room ! 10 refl refl $ lose-room ! 8 refl refl $ free0 ! $
           keep ! (0 ∷ 2 ∷ 4 ∷ 6 ∷ 3 ∷ 5 ∷ 7 ∷ []) $
           by ! (exits za long-a zl long-l zr long-r t g-t (kept m is-m n za zl zr made k is-k row is-row t is-t))
 
-      go-5 : (m : ℕ) (is-m : m ≡ g) (g-m : m < 2 ^ 64) (n : ℕ) (za : List Row) (zl : List ℕ) (zr : List ℕ) (made : (n ≡ length (built (xs .now) (p .window) (p .width) m .rows)) × Holds (p .width) m (xs .now) (p .window) (buffers (xa .now) (xl .now) (xr .now)) (buffers za zl zr)) (g-n : n < 2 ^ 64) (long-a : length za ≡ length (xa .now)) (long-l : length zl ≡ length (xl .now)) (long-r : length zr ≡ length (xr .now)) (k : ℕ) (is-k : k ≡ n - 1) (g-k : k < 2 ^ 64) (row : Row) (is-row : row ≡ getD za k zeroRow) (g-row : Good row) → ent 𝓤 (⋆ 𝓤 H A (‵ (flft κs qs) ∷ ‵ (ShrSlice (named 0) κs i32 .own xs (sliceVal (xs .ptr) (length (xs .now)) ∷ [])) ∷ ‵ (flft κa qa) ∷ ‵ (Lends.Own T.the-row (xa .ptr .0) (xa .ptr .1) (length (xa .now)) (named 0) κa (xa .name) za)
+      go-5 : (m : ℕ) (is-m : m ≡ g) (g-m : m < 2 ^ 64) (n : ℕ) (za : List Row) (zl : List ℕ) (zr : List ℕ) (made : (n ≡ length (built (xs .now) (p .window) (p .width) m .rows)) × Holds (p .width) m (xs .now) (p .window) (buffers (xa .now) (xl .now) (xr .now)) (buffers za zl zr)) (g-n : n < 2 ^ 64) (long-a : length za ≡ length (xa .now)) (long-l : length zl ≡ length (xl .now)) (long-r : length zr ≡ length (xr .now)) (k : ℕ) (is-k : k ≡ n - 1) (g-k : k < 2 ^ 64) (row : Row) (is-row : row ≡ getD za k zeroRow) (g-row : Good row) → Sq W (‵ (flft κs qs) ∷ ‵ (ShrSlice (named 0) κs i32 .own xs (sliceVal (xs .ptr) (length (xs .now)) ∷ [])) ∷ ‵ (flft κa qa) ∷ ‵ (Lends.Own T.the-row (xa .ptr .0) (xa .ptr .1) (length (xa .now)) (named 0) κa (xa .name) za)
           ∷ ‵ (flft κl ql) ∷ ‵ (Lends.Own u32 (xl .ptr .0) (xl .ptr .1) (length (xl .now)) (named 0) κl (xl .name) zl) ∷ ‵ (flft κr qr) ∷ ‵ (Lends.Own u32 (xr .ptr .0) (xr .ptr .1) (length (xr .now)) (named 0) κr (xr .name) zr)
           ∷ ‵ (froom (sliceTy (tyRef erased imm record-type)) l₂₀ 0) ∷ ‵ (fdies (sliceTy (tyRef erased imm record-type)) l₂₀) ∷ ‵ (froom (tyRef erased imm record-type) l₁₉ 0) ∷ ‵ (fdies (tyRef erased imm record-type) l₁₉)
           ∷ ‵ (froom (sliceTy (tyRef erased mut half)) l₁₈ 0) ∷ ‵ (fdies (sliceTy (tyRef erased mut half)) l₁₈) ∷ ‵ (froom (tyRef erased mut half) l₁₇ 0) ∷ ‵ (fdies (tyRef erased mut half) l₁₇)
@@ -194,28 +181,14 @@ module _ {M : Type 1} (𝓤 : URA M) (H : Heap 𝓤) (A : Atoms 𝓤) (W : Given
           ∷ ‵ (fat fullShare (sliceTy (tyRef (named 1) mut record-type)) l₆ 0 (sliceVal (xa .ptr) (length (xa .now)))) ∷ ‵ (fdies (sliceTy (tyRef (named 1) mut record-type)) l₆) ∷ ‵ (fat fullShare Pn′.mir l₅ 0 (low-plan p)) ∷ ‵ (fdies Pn′.mir l₅)
           ∷ ‵ (fat fullShare half l₄ 0 (vint w32 g)) ∷ ‵ (fdies half l₄) ∷ ‵ (fat fullShare half l₃ 0 (vint w32 d)) ∷ ‵ (fdies half l₃)
           ∷ ‵ (fat fullShare half l₂ 0 (vint w32 w)) ∷ ‵ (fdies half l₂) ∷ ‵ (fat fullShare (sliceTy (tyRef (named 0) imm half)) l₁ 0 (sliceVal (xs .ptr) (length (xs .now)))) ∷ ‵ (fdies (sliceTy (tyRef (named 0) imm half)) l₁)
-          ∷ ‵ (froom Bu′.mir l₀ 0) ∷ ‵ (fdies Bu′.mir l₀) ∷ [])) (Wp 𝓤 H (𝓣 .C) (𝓣 .Λ) En mir.t-13 (atReturn 𝓤 H En Post))
+          ∷ ‵ (froom Bu′.mir l₀ 0) ∷ ‵ (fdies Bu′.mir l₀) ∷ []) (runs (𝓣 .C) (𝓣 .Λ) En mir.t-13 (atRet En Post))
       go-5 m is-m g-m n za zl zr made g-n long-a long-l long-r k is-k g-k row is-row g-row =
-          qed W (‵ (flft κs qs) ∷ ‵ (ShrSlice (named 0) κs i32 .own xs (sliceVal (xs .ptr) (length (xs .now)) ∷ [])) ∷ ‵ (flft κa qa) ∷ ‵ (Lends.Own T.the-row (xa .ptr .0) (xa .ptr .1) (length (xa .now)) (named 0) κa (xa .name) za)
-          ∷ ‵ (flft κl ql) ∷ ‵ (Lends.Own u32 (xl .ptr .0) (xl .ptr .1) (length (xl .now)) (named 0) κl (xl .name) zl) ∷ ‵ (flft κr qr) ∷ ‵ (Lends.Own u32 (xr .ptr .0) (xr .ptr .1) (length (xr .now)) (named 0) κr (xr .name) zr)
-          ∷ ‵ (froom (sliceTy (tyRef erased imm record-type)) l₂₀ 0) ∷ ‵ (fdies (sliceTy (tyRef erased imm record-type)) l₂₀) ∷ ‵ (froom (tyRef erased imm record-type) l₁₉ 0) ∷ ‵ (fdies (tyRef erased imm record-type) l₁₉)
-          ∷ ‵ (froom (sliceTy (tyRef erased mut half)) l₁₈ 0) ∷ ‵ (fdies (sliceTy (tyRef erased mut half)) l₁₈) ∷ ‵ (froom (tyRef erased mut half) l₁₇ 0) ∷ ‵ (fdies (tyRef erased mut half) l₁₇)
-          ∷ ‵ (froom (sliceTy (tyRef erased mut half)) l₁₆ 0) ∷ ‵ (fdies (sliceTy (tyRef erased mut half)) l₁₆) ∷ ‵ (froom (tyRef erased mut half) l₁₅ 0) ∷ ‵ (fdies (tyRef erased mut half) l₁₅)
-          ∷ ‵ (froom (sliceTy (tyRef erased mut record-type)) l₁₄ 0) ∷ ‵ (fdies (sliceTy (tyRef erased mut record-type)) l₁₄) ∷ ‵ (froom (tyRef erased mut record-type) l₁₃ 0) ∷ ‵ (fdies (tyRef erased mut record-type) l₁₃)
-          ∷ ‵ (fat fullShare T′.mir l₁₂ 0 (low row)) ∷ ‵ (fdies T′.mir l₁₂) ∷ ‵ (fat fullShare word l₁₁ 0 (vint w64 k)) ∷ ‵ (fdies word l₁₁)
-          ∷ ‵ (fat fullShare word l₁₀ 0 (vint w64 n)) ∷ ‵ (fdies word l₁₀) ∷ ‵ (fat fullShare word l₉ 0 (vint w64 m)) ∷ ‵ (fdies word l₉)
-          ∷ ‵ (fat fullShare (sliceTy (tyRef (named 3) mut half)) l₈ 0 (sliceVal (xr .ptr) (length (xr .now)))) ∷ ‵ (fdies (sliceTy (tyRef (named 3) mut half)) l₈) ∷ ‵ (fat fullShare (sliceTy (tyRef (named 2) mut half)) l₇ 0 (sliceVal (xl .ptr) (length (xl .now)))) ∷ ‵ (fdies (sliceTy (tyRef (named 2) mut half)) l₇)
-          ∷ ‵ (fat fullShare (sliceTy (tyRef (named 1) mut record-type)) l₆ 0 (sliceVal (xa .ptr) (length (xa .now)))) ∷ ‵ (fdies (sliceTy (tyRef (named 1) mut record-type)) l₆) ∷ ‵ (fat fullShare Pn′.mir l₅ 0 (low-plan p)) ∷ ‵ (fdies Pn′.mir l₅)
-          ∷ ‵ (fat fullShare half l₄ 0 (vint w32 g)) ∷ ‵ (fdies half l₄) ∷ ‵ (fat fullShare half l₃ 0 (vint w32 d)) ∷ ‵ (fdies half l₃)
-          ∷ ‵ (fat fullShare half l₂ 0 (vint w32 w)) ∷ ‵ (fdies half l₂) ∷ ‵ (fat fullShare (sliceTy (tyRef (named 0) imm half)) l₁ 0 (sliceVal (xs .ptr) (length (xs .now)))) ∷ ‵ (fdies (sliceTy (tyRef (named 0) imm half)) l₁)
-          ∷ ‵ (froom Bu′.mir l₀ 0) ∷ ‵ (fdies Bu′.mir l₀) ∷ []) ∵ exec ! (𝓣 .C) (𝓣 .Λ) En mir.t-13 (atRet En Post) $
           move ! (0 ∷ 1 ∷ []) $
           calls-answer ! fm mem run known-answer κs qs xs w d n row g-w g-d g-n g-row (plan-sizes (xs .now) w d g (buffers (xa .now) (xl .now) (xr .now)) p (asked .0) (asked .1)) (and-then ! (load ! (from ! (stop !)) (look ! 46 refl)) (and-then ! (load ! (from ! (stop !)) (look ! 44 refl)) (and-then ! (load ! (from ! (stop !)) (look ! 42 refl)) (and-then ! (load ! (from ! (stop !)) (look ! 28 refl)) (and-then ! (load ! (from ! (stop !)) (look ! 24 refl)) (no-more !)))))) (λ t is-t g-t.
           land ! (from ! (stop !)) (init ! 48 refl (EL.lawful Bu.the-type Bu′.the-laws 𝓤 H A W tt .typed t _ g-t .0)) $
-          keep ! (0 ∷ 1 ∷ 2 ∷ 3 ∷ 4 ∷ 5 ∷ 6 ∷ 7 ∷ 8 ∷ 9 ∷ 10 ∷ 11 ∷ 12 ∷ 13 ∷ 14 ∷ 15 ∷ 16 ∷ 17 ∷ 18 ∷ 19 ∷ 20 ∷ 21 ∷ 22 ∷ 23 ∷ 24 ∷ 25 ∷ 26 ∷ 27 ∷ 28 ∷ 29 ∷ 30 ∷ 31 ∷ 32 ∷ 33 ∷ 34 ∷ 35 ∷ 36 ∷ 37 ∷ 38 ∷ 39 ∷ 40 ∷ 41 ∷ 42 ∷ 43 ∷ 44 ∷ 45 ∷ 46 ∷ 47 ∷ 48 ∷ 49 ∷ []) $
-          by ! (go-6 m is-m g-m n za zl zr made g-n long-a long-l long-r k is-k g-k row is-row g-row t is-t g-t))
+          go-6 m is-m g-m n za zl zr made g-n long-a long-l long-r k is-k g-k row is-row g-row t is-t g-t)
 
-      go-4 : (m : ℕ) (is-m : m ≡ g) (g-m : m < 2 ^ 64) (n : ℕ) (za : List Row) (zl : List ℕ) (zr : List ℕ) (made : (n ≡ length (built (xs .now) (p .window) (p .width) m .rows)) × Holds (p .width) m (xs .now) (p .window) (buffers (xa .now) (xl .now) (xr .now)) (buffers za zl zr)) (g-n : n < 2 ^ 64) (long-a : length za ≡ length (xa .now)) (long-l : length zl ≡ length (xl .now)) (long-r : length zr ≡ length (xr .now)) (k : ℕ) (is-k : k ≡ n - 1) (g-k : k < 2 ^ 64) → ent 𝓤 (⋆ 𝓤 H A (‵ (flft κs qs) ∷ ‵ (ShrSlice (named 0) κs i32 .own xs (sliceVal (xs .ptr) (length (xs .now)) ∷ [])) ∷ ‵ (flft κa qa) ∷ ‵ (Lends.Own T.the-row (xa .ptr .0) (xa .ptr .1) (length (xa .now)) (named 0) κa (xa .name) za)
+      go-4 : (m : ℕ) (is-m : m ≡ g) (g-m : m < 2 ^ 64) (n : ℕ) (za : List Row) (zl : List ℕ) (zr : List ℕ) (made : (n ≡ length (built (xs .now) (p .window) (p .width) m .rows)) × Holds (p .width) m (xs .now) (p .window) (buffers (xa .now) (xl .now) (xr .now)) (buffers za zl zr)) (g-n : n < 2 ^ 64) (long-a : length za ≡ length (xa .now)) (long-l : length zl ≡ length (xl .now)) (long-r : length zr ≡ length (xr .now)) (k : ℕ) (is-k : k ≡ n - 1) (g-k : k < 2 ^ 64) → Sq W (‵ (flft κs qs) ∷ ‵ (ShrSlice (named 0) κs i32 .own xs (sliceVal (xs .ptr) (length (xs .now)) ∷ [])) ∷ ‵ (flft κa qa) ∷ ‵ (Lends.Own T.the-row (xa .ptr .0) (xa .ptr .1) (length (xa .now)) (named 0) κa (xa .name) za)
           ∷ ‵ (flft κl ql) ∷ ‵ (Lends.Own u32 (xl .ptr .0) (xl .ptr .1) (length (xl .now)) (named 0) κl (xl .name) zl) ∷ ‵ (flft κr qr) ∷ ‵ (Lends.Own u32 (xr .ptr .0) (xr .ptr .1) (length (xr .now)) (named 0) κr (xr .name) zr)
           ∷ ‵ (froom (sliceTy (tyRef erased imm record-type)) l₂₀ 0) ∷ ‵ (fdies (sliceTy (tyRef erased imm record-type)) l₂₀) ∷ ‵ (froom (tyRef erased imm record-type) l₁₉ 0) ∷ ‵ (fdies (tyRef erased imm record-type) l₁₉)
           ∷ ‵ (froom (sliceTy (tyRef erased mut half)) l₁₈ 0) ∷ ‵ (fdies (sliceTy (tyRef erased mut half)) l₁₈) ∷ ‵ (froom (tyRef erased mut half) l₁₇ 0) ∷ ‵ (fdies (tyRef erased mut half) l₁₇)
@@ -227,21 +200,8 @@ module _ {M : Type 1} (𝓤 : URA M) (H : Heap 𝓤) (A : Atoms 𝓤) (W : Given
           ∷ ‵ (fat fullShare (sliceTy (tyRef (named 1) mut record-type)) l₆ 0 (sliceVal (xa .ptr) (length (xa .now)))) ∷ ‵ (fdies (sliceTy (tyRef (named 1) mut record-type)) l₆) ∷ ‵ (fat fullShare Pn′.mir l₅ 0 (low-plan p)) ∷ ‵ (fdies Pn′.mir l₅)
           ∷ ‵ (fat fullShare half l₄ 0 (vint w32 g)) ∷ ‵ (fdies half l₄) ∷ ‵ (fat fullShare half l₃ 0 (vint w32 d)) ∷ ‵ (fdies half l₃)
           ∷ ‵ (fat fullShare half l₂ 0 (vint w32 w)) ∷ ‵ (fdies half l₂) ∷ ‵ (fat fullShare (sliceTy (tyRef (named 0) imm half)) l₁ 0 (sliceVal (xs .ptr) (length (xs .now)))) ∷ ‵ (fdies (sliceTy (tyRef (named 0) imm half)) l₁)
-          ∷ ‵ (froom Bu′.mir l₀ 0) ∷ ‵ (fdies Bu′.mir l₀) ∷ [])) (Wp 𝓤 H (𝓣 .C) (𝓣 .Λ) En mir.t-10 (atReturn 𝓤 H En Post))
+          ∷ ‵ (froom Bu′.mir l₀ 0) ∷ ‵ (fdies Bu′.mir l₀) ∷ []) (runs (𝓣 .C) (𝓣 .Λ) En mir.t-10 (atRet En Post))
       go-4 m is-m g-m n za zl zr made g-n long-a long-l long-r k is-k g-k =
-          qed W (‵ (flft κs qs) ∷ ‵ (ShrSlice (named 0) κs i32 .own xs (sliceVal (xs .ptr) (length (xs .now)) ∷ [])) ∷ ‵ (flft κa qa) ∷ ‵ (Lends.Own T.the-row (xa .ptr .0) (xa .ptr .1) (length (xa .now)) (named 0) κa (xa .name) za)
-          ∷ ‵ (flft κl ql) ∷ ‵ (Lends.Own u32 (xl .ptr .0) (xl .ptr .1) (length (xl .now)) (named 0) κl (xl .name) zl) ∷ ‵ (flft κr qr) ∷ ‵ (Lends.Own u32 (xr .ptr .0) (xr .ptr .1) (length (xr .now)) (named 0) κr (xr .name) zr)
-          ∷ ‵ (froom (sliceTy (tyRef erased imm record-type)) l₂₀ 0) ∷ ‵ (fdies (sliceTy (tyRef erased imm record-type)) l₂₀) ∷ ‵ (froom (tyRef erased imm record-type) l₁₉ 0) ∷ ‵ (fdies (tyRef erased imm record-type) l₁₉)
-          ∷ ‵ (froom (sliceTy (tyRef erased mut half)) l₁₈ 0) ∷ ‵ (fdies (sliceTy (tyRef erased mut half)) l₁₈) ∷ ‵ (froom (tyRef erased mut half) l₁₇ 0) ∷ ‵ (fdies (tyRef erased mut half) l₁₇)
-          ∷ ‵ (froom (sliceTy (tyRef erased mut half)) l₁₆ 0) ∷ ‵ (fdies (sliceTy (tyRef erased mut half)) l₁₆) ∷ ‵ (froom (tyRef erased mut half) l₁₅ 0) ∷ ‵ (fdies (tyRef erased mut half) l₁₅)
-          ∷ ‵ (froom (sliceTy (tyRef erased mut record-type)) l₁₄ 0) ∷ ‵ (fdies (sliceTy (tyRef erased mut record-type)) l₁₄) ∷ ‵ (froom (tyRef erased mut record-type) l₁₃ 0) ∷ ‵ (fdies (tyRef erased mut record-type) l₁₃)
-          ∷ ‵ (froom T′.mir l₁₂ 0) ∷ ‵ (fdies T′.mir l₁₂) ∷ ‵ (fat fullShare word l₁₁ 0 (vint w64 k)) ∷ ‵ (fdies word l₁₁)
-          ∷ ‵ (fat fullShare word l₁₀ 0 (vint w64 n)) ∷ ‵ (fdies word l₁₀) ∷ ‵ (fat fullShare word l₉ 0 (vint w64 m)) ∷ ‵ (fdies word l₉)
-          ∷ ‵ (fat fullShare (sliceTy (tyRef (named 3) mut half)) l₈ 0 (sliceVal (xr .ptr) (length (xr .now)))) ∷ ‵ (fdies (sliceTy (tyRef (named 3) mut half)) l₈) ∷ ‵ (fat fullShare (sliceTy (tyRef (named 2) mut half)) l₇ 0 (sliceVal (xl .ptr) (length (xl .now)))) ∷ ‵ (fdies (sliceTy (tyRef (named 2) mut half)) l₇)
-          ∷ ‵ (fat fullShare (sliceTy (tyRef (named 1) mut record-type)) l₆ 0 (sliceVal (xa .ptr) (length (xa .now)))) ∷ ‵ (fdies (sliceTy (tyRef (named 1) mut record-type)) l₆) ∷ ‵ (fat fullShare Pn′.mir l₅ 0 (low-plan p)) ∷ ‵ (fdies Pn′.mir l₅)
-          ∷ ‵ (fat fullShare half l₄ 0 (vint w32 g)) ∷ ‵ (fdies half l₄) ∷ ‵ (fat fullShare half l₃ 0 (vint w32 d)) ∷ ‵ (fdies half l₃)
-          ∷ ‵ (fat fullShare half l₂ 0 (vint w32 w)) ∷ ‵ (fdies half l₂) ∷ ‵ (fat fullShare (sliceTy (tyRef (named 0) imm half)) l₁ 0 (sliceVal (xs .ptr) (length (xs .now)))) ∷ ‵ (fdies (sliceTy (tyRef (named 0) imm half)) l₁)
-          ∷ ‵ (froom Bu′.mir l₀ 0) ∷ ‵ (fdies Bu′.mir l₀) ∷ []) ∵ exec ! (𝓣 .C) (𝓣 .Λ) En mir.t-10 (atRet En Post) $
           assigns ! (addr ! (from ! (fld ! refl (hop ! (look-in ! 36 (sub ! 0 refl (whole !))) (stop !))))) (from ! (stop !)) (init ! 10 refl (tt, tt)) $
           assigns ! (agg ! (and-then ! (load ! (from ! (stop !)) (look ! 10 refl)) (and-then ! (load ! (from ! (fld ! refl (stop !))) (look-in ! 36 (sub ! 1 refl (whole !)))) (no-more !)))) (from ! (stop !)) (init ! 8 refl (tt, (tt, (record { fits = g-a .0 }, tt)))) $
           move ! (2 ∷ 3 ∷ []) $
@@ -249,9 +209,9 @@ module _ {M : Type 1} (𝓤 : URA M) (H : Heap 𝓤) (A : Atoms 𝓤) (W : Given
           land ! (from ! (stop !)) (init ! 24 refl (LL.lawful T.the-type T′.the-laws 𝓤 H A W .typed row _ g-row .0)) $
           forget ! 10 refl $ forget ! 8 refl $
           keep ! (2 ∷ 3 ∷ 0 ∷ 1 ∷ 4 ∷ 5 ∷ 6 ∷ 7 ∷ 8 ∷ 9 ∷ 10 ∷ 11 ∷ 12 ∷ 13 ∷ 14 ∷ 15 ∷ 16 ∷ 17 ∷ 18 ∷ 19 ∷ 20 ∷ 21 ∷ 22 ∷ 23 ∷ 24 ∷ 25 ∷ 26 ∷ 27 ∷ 28 ∷ 29 ∷ 30 ∷ 31 ∷ 32 ∷ 33 ∷ 34 ∷ 35 ∷ 36 ∷ 37 ∷ 38 ∷ 39 ∷ 40 ∷ 41 ∷ 42 ∷ 43 ∷ 44 ∷ 45 ∷ 46 ∷ 47 ∷ 48 ∷ 49 ∷ []) $
-          by ! (go-5 m is-m g-m n za zl zr made g-n long-a long-l long-r k is-k g-k row is-row g-row))
+          go-5 m is-m g-m n za zl zr made g-n long-a long-l long-r k is-k g-k row is-row g-row)
 
-      go-3 : (m : ℕ) (is-m : m ≡ g) (g-m : m < 2 ^ 64) (n : ℕ) (za : List Row) (zl : List ℕ) (zr : List ℕ) (made : (n ≡ length (built (xs .now) (p .window) (p .width) m .rows)) × Holds (p .width) m (xs .now) (p .window) (buffers (xa .now) (xl .now) (xr .now)) (buffers za zl zr)) (g-n : n < 2 ^ 64) (long-a : length za ≡ length (xa .now)) (long-l : length zl ≡ length (xl .now)) (long-r : length zr ≡ length (xr .now)) → ent 𝓤 (⋆ 𝓤 H A (‵ (flft κs qs) ∷ ‵ (ShrSlice (named 0) κs i32 .own xs (sliceVal (xs .ptr) (length (xs .now)) ∷ [])) ∷ ‵ (flft κa qa) ∷ ‵ (Lends.Own T.the-row (xa .ptr .0) (xa .ptr .1) (length (xa .now)) (named 0) κa (xa .name) za)
+      go-3 : (m : ℕ) (is-m : m ≡ g) (g-m : m < 2 ^ 64) (n : ℕ) (za : List Row) (zl : List ℕ) (zr : List ℕ) (made : (n ≡ length (built (xs .now) (p .window) (p .width) m .rows)) × Holds (p .width) m (xs .now) (p .window) (buffers (xa .now) (xl .now) (xr .now)) (buffers za zl zr)) (g-n : n < 2 ^ 64) (long-a : length za ≡ length (xa .now)) (long-l : length zl ≡ length (xl .now)) (long-r : length zr ≡ length (xr .now)) → Sq W (‵ (flft κs qs) ∷ ‵ (ShrSlice (named 0) κs i32 .own xs (sliceVal (xs .ptr) (length (xs .now)) ∷ [])) ∷ ‵ (flft κa qa) ∷ ‵ (Lends.Own T.the-row (xa .ptr .0) (xa .ptr .1) (length (xa .now)) (named 0) κa (xa .name) za)
           ∷ ‵ (flft κl ql) ∷ ‵ (Lends.Own u32 (xl .ptr .0) (xl .ptr .1) (length (xl .now)) (named 0) κl (xl .name) zl) ∷ ‵ (flft κr qr) ∷ ‵ (Lends.Own u32 (xr .ptr .0) (xr .ptr .1) (length (xr .now)) (named 0) κr (xr .name) zr)
           ∷ ‵ (froom (sliceTy (tyRef erased imm record-type)) l₂₀ 0) ∷ ‵ (fdies (sliceTy (tyRef erased imm record-type)) l₂₀) ∷ ‵ (froom (tyRef erased imm record-type) l₁₉ 0) ∷ ‵ (fdies (tyRef erased imm record-type) l₁₉)
           ∷ ‵ (froom (sliceTy (tyRef erased mut half)) l₁₈ 0) ∷ ‵ (fdies (sliceTy (tyRef erased mut half)) l₁₈) ∷ ‵ (froom (tyRef erased mut half) l₁₇ 0) ∷ ‵ (fdies (tyRef erased mut half) l₁₇)
@@ -263,27 +223,13 @@ module _ {M : Type 1} (𝓤 : URA M) (H : Heap 𝓤) (A : Atoms 𝓤) (W : Given
           ∷ ‵ (fat fullShare (sliceTy (tyRef (named 1) mut record-type)) l₆ 0 (sliceVal (xa .ptr) (length (xa .now)))) ∷ ‵ (fdies (sliceTy (tyRef (named 1) mut record-type)) l₆) ∷ ‵ (fat fullShare Pn′.mir l₅ 0 (low-plan p)) ∷ ‵ (fdies Pn′.mir l₅)
           ∷ ‵ (fat fullShare half l₄ 0 (vint w32 g)) ∷ ‵ (fdies half l₄) ∷ ‵ (fat fullShare half l₃ 0 (vint w32 d)) ∷ ‵ (fdies half l₃)
           ∷ ‵ (fat fullShare half l₂ 0 (vint w32 w)) ∷ ‵ (fdies half l₂) ∷ ‵ (fat fullShare (sliceTy (tyRef (named 0) imm half)) l₁ 0 (sliceVal (xs .ptr) (length (xs .now)))) ∷ ‵ (fdies (sliceTy (tyRef (named 0) imm half)) l₁)
-          ∷ ‵ (froom Bu′.mir l₀ 0) ∷ ‵ (fdies Bu′.mir l₀) ∷ [])) (Wp 𝓤 H (𝓣 .C) (𝓣 .Λ) En mir.t-9 (atReturn 𝓤 H En Post))
+          ∷ ‵ (froom Bu′.mir l₀ 0) ∷ ‵ (fdies Bu′.mir l₀) ∷ []) (runs (𝓣 .C) (𝓣 .Λ) En mir.t-9 (atRet En Post))
       go-3 m is-m g-m n za zl zr made g-n long-a long-l long-r =
-          qed W (‵ (flft κs qs) ∷ ‵ (ShrSlice (named 0) κs i32 .own xs (sliceVal (xs .ptr) (length (xs .now)) ∷ [])) ∷ ‵ (flft κa qa) ∷ ‵ (Lends.Own T.the-row (xa .ptr .0) (xa .ptr .1) (length (xa .now)) (named 0) κa (xa .name) za)
-          ∷ ‵ (flft κl ql) ∷ ‵ (Lends.Own u32 (xl .ptr .0) (xl .ptr .1) (length (xl .now)) (named 0) κl (xl .name) zl) ∷ ‵ (flft κr qr) ∷ ‵ (Lends.Own u32 (xr .ptr .0) (xr .ptr .1) (length (xr .now)) (named 0) κr (xr .name) zr)
-          ∷ ‵ (froom (sliceTy (tyRef erased imm record-type)) l₂₀ 0) ∷ ‵ (fdies (sliceTy (tyRef erased imm record-type)) l₂₀) ∷ ‵ (froom (tyRef erased imm record-type) l₁₉ 0) ∷ ‵ (fdies (tyRef erased imm record-type) l₁₉)
-          ∷ ‵ (froom (sliceTy (tyRef erased mut half)) l₁₈ 0) ∷ ‵ (fdies (sliceTy (tyRef erased mut half)) l₁₈) ∷ ‵ (froom (tyRef erased mut half) l₁₇ 0) ∷ ‵ (fdies (tyRef erased mut half) l₁₇)
-          ∷ ‵ (froom (sliceTy (tyRef erased mut half)) l₁₆ 0) ∷ ‵ (fdies (sliceTy (tyRef erased mut half)) l₁₆) ∷ ‵ (froom (tyRef erased mut half) l₁₅ 0) ∷ ‵ (fdies (tyRef erased mut half) l₁₅)
-          ∷ ‵ (froom (sliceTy (tyRef erased mut record-type)) l₁₄ 0) ∷ ‵ (fdies (sliceTy (tyRef erased mut record-type)) l₁₄) ∷ ‵ (froom (tyRef erased mut record-type) l₁₃ 0) ∷ ‵ (fdies (tyRef erased mut record-type) l₁₃)
-          ∷ ‵ (froom T′.mir l₁₂ 0) ∷ ‵ (fdies T′.mir l₁₂) ∷ ‵ (froom word l₁₁ 0) ∷ ‵ (fdies word l₁₁)
-          ∷ ‵ (fat fullShare word l₁₀ 0 (vint w64 n)) ∷ ‵ (fdies word l₁₀) ∷ ‵ (fat fullShare word l₉ 0 (vint w64 m)) ∷ ‵ (fdies word l₉)
-          ∷ ‵ (fat fullShare (sliceTy (tyRef (named 3) mut half)) l₈ 0 (sliceVal (xr .ptr) (length (xr .now)))) ∷ ‵ (fdies (sliceTy (tyRef (named 3) mut half)) l₈) ∷ ‵ (fat fullShare (sliceTy (tyRef (named 2) mut half)) l₇ 0 (sliceVal (xl .ptr) (length (xl .now)))) ∷ ‵ (fdies (sliceTy (tyRef (named 2) mut half)) l₇)
-          ∷ ‵ (fat fullShare (sliceTy (tyRef (named 1) mut record-type)) l₆ 0 (sliceVal (xa .ptr) (length (xa .now)))) ∷ ‵ (fdies (sliceTy (tyRef (named 1) mut record-type)) l₆) ∷ ‵ (fat fullShare Pn′.mir l₅ 0 (low-plan p)) ∷ ‵ (fdies Pn′.mir l₅)
-          ∷ ‵ (fat fullShare half l₄ 0 (vint w32 g)) ∷ ‵ (fdies half l₄) ∷ ‵ (fat fullShare half l₃ 0 (vint w32 d)) ∷ ‵ (fdies half l₃)
-          ∷ ‵ (fat fullShare half l₂ 0 (vint w32 w)) ∷ ‵ (fdies half l₂) ∷ ‵ (fat fullShare (sliceTy (tyRef (named 0) imm half)) l₁ 0 (sliceVal (xs .ptr) (length (xs .now)))) ∷ ‵ (fdies (sliceTy (tyRef (named 0) imm half)) l₁)
-          ∷ ‵ (froom Bu′.mir l₀ 0) ∷ ‵ (fdies Bu′.mir l₀) ∷ []) ∵ exec ! (𝓣 .C) (𝓣 .Λ) En mir.t-9 (atRet En Post) $
           calls-place-before ! fm mem run known-before n g-n (some m is-m n za zl zr made) (and-then ! (load ! (from ! (stop !)) (look ! 29 refl)) (no-more !)) (λ k is-k g-k.
           land ! (from ! (stop !)) (init ! 26 refl (tt, record { fits = g-k })) $
-          keep ! (0 ∷ 1 ∷ 2 ∷ 3 ∷ 4 ∷ 5 ∷ 6 ∷ 7 ∷ 8 ∷ 9 ∷ 10 ∷ 11 ∷ 12 ∷ 13 ∷ 14 ∷ 15 ∷ 16 ∷ 17 ∷ 18 ∷ 19 ∷ 20 ∷ 21 ∷ 22 ∷ 23 ∷ 24 ∷ 25 ∷ 26 ∷ 27 ∷ 28 ∷ 29 ∷ 30 ∷ 31 ∷ 32 ∷ 33 ∷ 34 ∷ 35 ∷ 36 ∷ 37 ∷ 38 ∷ 39 ∷ 40 ∷ 41 ∷ 42 ∷ 43 ∷ 44 ∷ 45 ∷ 46 ∷ 47 ∷ 48 ∷ 49 ∷ []) $
-          by ! (go-4 m is-m g-m n za zl zr made g-n long-a long-l long-r k is-k g-k))
+          go-4 m is-m g-m n za zl zr made g-n long-a long-l long-r k is-k g-k)
 
-      go-2 : (m : ℕ) (is-m : m ≡ g) (g-m : m < 2 ^ 64) → ent 𝓤 (⋆ 𝓤 H A (‵ (flft κs qs) ∷ ‵ (ShrSlice (named 0) κs i32 .own xs (sliceVal (xs .ptr) (length (xs .now)) ∷ [])) ∷ ‵ (flft κa qa) ∷ ‵ (Lends.Own T.the-row (xa .ptr .0) (xa .ptr .1) (length (xa .now)) (named 0) κa (xa .name) (xa .now))
+      go-2 : (m : ℕ) (is-m : m ≡ g) (g-m : m < 2 ^ 64) → Sq W (‵ (flft κs qs) ∷ ‵ (ShrSlice (named 0) κs i32 .own xs (sliceVal (xs .ptr) (length (xs .now)) ∷ [])) ∷ ‵ (flft κa qa) ∷ ‵ (Lends.Own T.the-row (xa .ptr .0) (xa .ptr .1) (length (xa .now)) (named 0) κa (xa .name) (xa .now))
           ∷ ‵ (flft κl ql) ∷ ‵ (Lends.Own u32 (xl .ptr .0) (xl .ptr .1) (length (xl .now)) (named 0) κl (xl .name) (xl .now)) ∷ ‵ (flft κr qr) ∷ ‵ (Lends.Own u32 (xr .ptr .0) (xr .ptr .1) (length (xr .now)) (named 0) κr (xr .name) (xr .now))
           ∷ ‵ (froom (sliceTy (tyRef erased imm record-type)) l₂₀ 0) ∷ ‵ (fdies (sliceTy (tyRef erased imm record-type)) l₂₀) ∷ ‵ (froom (tyRef erased imm record-type) l₁₉ 0) ∷ ‵ (fdies (tyRef erased imm record-type) l₁₉)
           ∷ ‵ (froom (sliceTy (tyRef erased mut half)) l₁₈ 0) ∷ ‵ (fdies (sliceTy (tyRef erased mut half)) l₁₈) ∷ ‵ (froom (tyRef erased mut half) l₁₇ 0) ∷ ‵ (fdies (tyRef erased mut half) l₁₇)
@@ -295,21 +241,8 @@ module _ {M : Type 1} (𝓤 : URA M) (H : Heap 𝓤) (A : Atoms 𝓤) (W : Given
           ∷ ‵ (fat fullShare (sliceTy (tyRef (named 1) mut record-type)) l₆ 0 (sliceVal (xa .ptr) (length (xa .now)))) ∷ ‵ (fdies (sliceTy (tyRef (named 1) mut record-type)) l₆) ∷ ‵ (fat fullShare Pn′.mir l₅ 0 (low-plan p)) ∷ ‵ (fdies Pn′.mir l₅)
           ∷ ‵ (fat fullShare half l₄ 0 (vint w32 g)) ∷ ‵ (fdies half l₄) ∷ ‵ (fat fullShare half l₃ 0 (vint w32 d)) ∷ ‵ (fdies half l₃)
           ∷ ‵ (fat fullShare half l₂ 0 (vint w32 w)) ∷ ‵ (fdies half l₂) ∷ ‵ (fat fullShare (sliceTy (tyRef (named 0) imm half)) l₁ 0 (sliceVal (xs .ptr) (length (xs .now)))) ∷ ‵ (fdies (sliceTy (tyRef (named 0) imm half)) l₁)
-          ∷ ‵ (froom Bu′.mir l₀ 0) ∷ ‵ (fdies Bu′.mir l₀) ∷ [])) (Wp 𝓤 H (𝓣 .C) (𝓣 .Λ) En mir.t-2 (atReturn 𝓤 H En Post))
+          ∷ ‵ (froom Bu′.mir l₀ 0) ∷ ‵ (fdies Bu′.mir l₀) ∷ []) (runs (𝓣 .C) (𝓣 .Λ) En mir.t-2 (atRet En Post))
       go-2 m is-m g-m =
-          qed W (‵ (flft κs qs) ∷ ‵ (ShrSlice (named 0) κs i32 .own xs (sliceVal (xs .ptr) (length (xs .now)) ∷ [])) ∷ ‵ (flft κa qa) ∷ ‵ (Lends.Own T.the-row (xa .ptr .0) (xa .ptr .1) (length (xa .now)) (named 0) κa (xa .name) (xa .now))
-          ∷ ‵ (flft κl ql) ∷ ‵ (Lends.Own u32 (xl .ptr .0) (xl .ptr .1) (length (xl .now)) (named 0) κl (xl .name) (xl .now)) ∷ ‵ (flft κr qr) ∷ ‵ (Lends.Own u32 (xr .ptr .0) (xr .ptr .1) (length (xr .now)) (named 0) κr (xr .name) (xr .now))
-          ∷ ‵ (froom (sliceTy (tyRef erased imm record-type)) l₂₀ 0) ∷ ‵ (fdies (sliceTy (tyRef erased imm record-type)) l₂₀) ∷ ‵ (froom (tyRef erased imm record-type) l₁₉ 0) ∷ ‵ (fdies (tyRef erased imm record-type) l₁₉)
-          ∷ ‵ (froom (sliceTy (tyRef erased mut half)) l₁₈ 0) ∷ ‵ (fdies (sliceTy (tyRef erased mut half)) l₁₈) ∷ ‵ (froom (tyRef erased mut half) l₁₇ 0) ∷ ‵ (fdies (tyRef erased mut half) l₁₇)
-          ∷ ‵ (froom (sliceTy (tyRef erased mut half)) l₁₆ 0) ∷ ‵ (fdies (sliceTy (tyRef erased mut half)) l₁₆) ∷ ‵ (froom (tyRef erased mut half) l₁₅ 0) ∷ ‵ (fdies (tyRef erased mut half) l₁₅)
-          ∷ ‵ (froom (sliceTy (tyRef erased mut record-type)) l₁₄ 0) ∷ ‵ (fdies (sliceTy (tyRef erased mut record-type)) l₁₄) ∷ ‵ (froom (tyRef erased mut record-type) l₁₃ 0) ∷ ‵ (fdies (tyRef erased mut record-type) l₁₃)
-          ∷ ‵ (froom T′.mir l₁₂ 0) ∷ ‵ (fdies T′.mir l₁₂) ∷ ‵ (froom word l₁₁ 0) ∷ ‵ (fdies word l₁₁)
-          ∷ ‵ (froom word l₁₀ 0) ∷ ‵ (fdies word l₁₀) ∷ ‵ (fat fullShare word l₉ 0 (vint w64 m)) ∷ ‵ (fdies word l₉)
-          ∷ ‵ (fat fullShare (sliceTy (tyRef (named 3) mut half)) l₈ 0 (sliceVal (xr .ptr) (length (xr .now)))) ∷ ‵ (fdies (sliceTy (tyRef (named 3) mut half)) l₈) ∷ ‵ (fat fullShare (sliceTy (tyRef (named 2) mut half)) l₇ 0 (sliceVal (xl .ptr) (length (xl .now)))) ∷ ‵ (fdies (sliceTy (tyRef (named 2) mut half)) l₇)
-          ∷ ‵ (fat fullShare (sliceTy (tyRef (named 1) mut record-type)) l₆ 0 (sliceVal (xa .ptr) (length (xa .now)))) ∷ ‵ (fdies (sliceTy (tyRef (named 1) mut record-type)) l₆) ∷ ‵ (fat fullShare Pn′.mir l₅ 0 (low-plan p)) ∷ ‵ (fdies Pn′.mir l₅)
-          ∷ ‵ (fat fullShare half l₄ 0 (vint w32 g)) ∷ ‵ (fdies half l₄) ∷ ‵ (fat fullShare half l₃ 0 (vint w32 d)) ∷ ‵ (fdies half l₃)
-          ∷ ‵ (fat fullShare half l₂ 0 (vint w32 w)) ∷ ‵ (fdies half l₂) ∷ ‵ (fat fullShare (sliceTy (tyRef (named 0) imm half)) l₁ 0 (sliceVal (xs .ptr) (length (xs .now)))) ∷ ‵ (fdies (sliceTy (tyRef (named 0) imm half)) l₁)
-          ∷ ‵ (froom Bu′.mir l₀ 0) ∷ ‵ (fdies Bu′.mir l₀) ∷ []) ∵ exec ! (𝓣 .C) (𝓣 .Λ) En mir.t-2 (atRet En Post) $
           assigns ! (addr ! (from ! (fld ! refl (hop ! (look-in ! 36 (sub ! 0 refl (whole !))) (stop !))))) (from ! (stop !)) (init ! 22 refl (tt, tt)) $
           assigns ! (agg ! (and-then ! (load ! (from ! (stop !)) (look ! 22 refl)) (and-then ! (load ! (from ! (fld ! refl (stop !))) (look-in ! 36 (sub ! 1 refl (whole !)))) (no-more !)))) (from ! (stop !)) (init ! 20 refl (tt, (tt, (record { fits = g-a .0 }, tt)))) $
           assigns ! (addr ! (from ! (fld ! refl (hop ! (look-in ! 34 (sub ! 0 refl (whole !))) (stop !))))) (from ! (stop !)) (init ! 18 refl (tt, tt)) $
@@ -320,10 +253,9 @@ module _ {M : Type 1} (𝓤 : URA M) (H : Heap 𝓤) (A : Atoms 𝓤) (W : Given
           calls-build-rows ! fm mem run known-rows κs qs xs κa qa (xa .ptr .0) (xa .ptr .1) (length (xa .now)) (xa .name) (xa .now) κl ql (xl .ptr .0) (xl .ptr .1) (length (xl .now)) (xl .name) (xl .now) κr qr (xr .ptr .0) (xr .ptr .1) (length (xr .now)) (xr .name) (xr .now) (p .window) (p .extra) (p .width) (p .bias) m refl g-a refl g-l refl g-r (g-p .1 .1 .1 .1 .0 .1) (g-p .1 .1 .1 .1 .1 .1 .0 .1) (g-p .1 .1 .1 .1 .1 .0 .1) (g-p .1 .1 .1 .1 .1 .1 .1 .0 .1) g-m (lays m is-m) (λ νa δa νl δl νr δr. (and-then ! (load ! (from ! (stop !)) (look ! 43 refl)) (and-then ! (load ! (from ! (fld ! refl (stop !))) (look-in ! 35 (sub ! 2 refl (whole !)))) (and-then ! (load ! (from ! (fld ! refl (stop !))) (look-in ! 35 (sub ! 4 refl (whole !)))) (and-then ! (load ! (from ! (fld ! refl (stop !))) (look-in ! 35 (sub ! 3 refl (whole !)))) (and-then ! (load ! (from ! (fld ! refl (stop !))) (look-in ! 35 (sub ! 5 refl (whole !)))) (and-then ! (load ! (from ! (stop !)) (look ! 27 refl)) (and-then ! (load ! (from ! (stop !)) (look ! 17 refl)) (and-then ! (load ! (from ! (stop !)) (look ! 13 refl)) (and-then ! (load ! (from ! (stop !)) (look ! 9 refl)) (no-more !))))))))))) (λ n za zl zr made g-n long-a long-l long-r.
           land ! (from ! (stop !)) (init ! 28 refl (tt, record { fits = g-n })) $
           forget ! 22 refl $ forget ! 20 refl $ forget ! 18 refl $ forget ! 16 refl $ forget ! 14 refl $ forget ! 12 refl $
-          keep ! (0 ∷ 1 ∷ 2 ∷ 3 ∷ 4 ∷ 5 ∷ 6 ∷ 7 ∷ 8 ∷ 9 ∷ 10 ∷ 11 ∷ 12 ∷ 13 ∷ 14 ∷ 15 ∷ 16 ∷ 17 ∷ 18 ∷ 19 ∷ 20 ∷ 21 ∷ 22 ∷ 23 ∷ 24 ∷ 25 ∷ 26 ∷ 27 ∷ 28 ∷ 29 ∷ 30 ∷ 31 ∷ 32 ∷ 33 ∷ 34 ∷ 35 ∷ 36 ∷ 37 ∷ 38 ∷ 39 ∷ 40 ∷ 41 ∷ 42 ∷ 43 ∷ 44 ∷ 45 ∷ 46 ∷ 47 ∷ 48 ∷ 49 ∷ []) $
-          by ! (go-3 m is-m g-m n za zl zr made g-n long-a long-l long-r))
+          go-3 m is-m g-m n za zl zr made g-n long-a long-l long-r)
 
-      go-1 : ent 𝓤 (⋆ 𝓤 H A (‵ (flft κs qs) ∷ ‵ (ShrSlice (named 0) κs i32 .own xs (sliceVal (xs .ptr) (length (xs .now)) ∷ [])) ∷ ‵ (flft κa qa) ∷ ‵ (Lends.Own T.the-row (xa .ptr .0) (xa .ptr .1) (length (xa .now)) (named 0) κa (xa .name) (xa .now))
+      go-1 : Sq W (‵ (flft κs qs) ∷ ‵ (ShrSlice (named 0) κs i32 .own xs (sliceVal (xs .ptr) (length (xs .now)) ∷ [])) ∷ ‵ (flft κa qa) ∷ ‵ (Lends.Own T.the-row (xa .ptr .0) (xa .ptr .1) (length (xa .now)) (named 0) κa (xa .name) (xa .now))
           ∷ ‵ (flft κl ql) ∷ ‵ (Lends.Own u32 (xl .ptr .0) (xl .ptr .1) (length (xl .now)) (named 0) κl (xl .name) (xl .now)) ∷ ‵ (flft κr qr) ∷ ‵ (Lends.Own u32 (xr .ptr .0) (xr .ptr .1) (length (xr .now)) (named 0) κr (xr .name) (xr .now))
           ∷ ‵ (froom (sliceTy (tyRef erased imm record-type)) l₂₀ 0) ∷ ‵ (fdies (sliceTy (tyRef erased imm record-type)) l₂₀) ∷ ‵ (froom (tyRef erased imm record-type) l₁₉ 0) ∷ ‵ (fdies (tyRef erased imm record-type) l₁₉)
           ∷ ‵ (froom (sliceTy (tyRef erased mut half)) l₁₈ 0) ∷ ‵ (fdies (sliceTy (tyRef erased mut half)) l₁₈) ∷ ‵ (froom (tyRef erased mut half) l₁₇ 0) ∷ ‵ (fdies (tyRef erased mut half) l₁₇)
@@ -335,25 +267,11 @@ module _ {M : Type 1} (𝓤 : URA M) (H : Heap 𝓤) (A : Atoms 𝓤) (W : Given
           ∷ ‵ (fat fullShare (sliceTy (tyRef (named 1) mut record-type)) l₆ 0 (sliceVal (xa .ptr) (length (xa .now)))) ∷ ‵ (fdies (sliceTy (tyRef (named 1) mut record-type)) l₆) ∷ ‵ (fat fullShare Pn′.mir l₅ 0 (low-plan p)) ∷ ‵ (fdies Pn′.mir l₅)
           ∷ ‵ (fat fullShare half l₄ 0 (vint w32 g)) ∷ ‵ (fdies half l₄) ∷ ‵ (fat fullShare half l₃ 0 (vint w32 d)) ∷ ‵ (fdies half l₃)
           ∷ ‵ (fat fullShare half l₂ 0 (vint w32 w)) ∷ ‵ (fdies half l₂) ∷ ‵ (fat fullShare (sliceTy (tyRef (named 0) imm half)) l₁ 0 (sliceVal (xs .ptr) (length (xs .now)))) ∷ ‵ (fdies (sliceTy (tyRef (named 0) imm half)) l₁)
-          ∷ ‵ (froom Bu′.mir l₀ 0) ∷ ‵ (fdies Bu′.mir l₀) ∷ [])) (Wp 𝓤 H (𝓣 .C) (𝓣 .Λ) En mir.t-1 (atReturn 𝓤 H En Post))
+          ∷ ‵ (froom Bu′.mir l₀ 0) ∷ ‵ (fdies Bu′.mir l₀) ∷ []) (runs (𝓣 .C) (𝓣 .Λ) En mir.t-1 (atRet En Post))
       go-1 =
-          qed W (‵ (flft κs qs) ∷ ‵ (ShrSlice (named 0) κs i32 .own xs (sliceVal (xs .ptr) (length (xs .now)) ∷ [])) ∷ ‵ (flft κa qa) ∷ ‵ (Lends.Own T.the-row (xa .ptr .0) (xa .ptr .1) (length (xa .now)) (named 0) κa (xa .name) (xa .now))
-          ∷ ‵ (flft κl ql) ∷ ‵ (Lends.Own u32 (xl .ptr .0) (xl .ptr .1) (length (xl .now)) (named 0) κl (xl .name) (xl .now)) ∷ ‵ (flft κr qr) ∷ ‵ (Lends.Own u32 (xr .ptr .0) (xr .ptr .1) (length (xr .now)) (named 0) κr (xr .name) (xr .now))
-          ∷ ‵ (froom (sliceTy (tyRef erased imm record-type)) l₂₀ 0) ∷ ‵ (fdies (sliceTy (tyRef erased imm record-type)) l₂₀) ∷ ‵ (froom (tyRef erased imm record-type) l₁₉ 0) ∷ ‵ (fdies (tyRef erased imm record-type) l₁₉)
-          ∷ ‵ (froom (sliceTy (tyRef erased mut half)) l₁₈ 0) ∷ ‵ (fdies (sliceTy (tyRef erased mut half)) l₁₈) ∷ ‵ (froom (tyRef erased mut half) l₁₇ 0) ∷ ‵ (fdies (tyRef erased mut half) l₁₇)
-          ∷ ‵ (froom (sliceTy (tyRef erased mut half)) l₁₆ 0) ∷ ‵ (fdies (sliceTy (tyRef erased mut half)) l₁₆) ∷ ‵ (froom (tyRef erased mut half) l₁₅ 0) ∷ ‵ (fdies (tyRef erased mut half) l₁₅)
-          ∷ ‵ (froom (sliceTy (tyRef erased mut record-type)) l₁₄ 0) ∷ ‵ (fdies (sliceTy (tyRef erased mut record-type)) l₁₄) ∷ ‵ (froom (tyRef erased mut record-type) l₁₃ 0) ∷ ‵ (fdies (tyRef erased mut record-type) l₁₃)
-          ∷ ‵ (froom T′.mir l₁₂ 0) ∷ ‵ (fdies T′.mir l₁₂) ∷ ‵ (froom word l₁₁ 0) ∷ ‵ (fdies word l₁₁)
-          ∷ ‵ (froom word l₁₀ 0) ∷ ‵ (fdies word l₁₀) ∷ ‵ (froom word l₉ 0) ∷ ‵ (fdies word l₉)
-          ∷ ‵ (fat fullShare (sliceTy (tyRef (named 3) mut half)) l₈ 0 (sliceVal (xr .ptr) (length (xr .now)))) ∷ ‵ (fdies (sliceTy (tyRef (named 3) mut half)) l₈) ∷ ‵ (fat fullShare (sliceTy (tyRef (named 2) mut half)) l₇ 0 (sliceVal (xl .ptr) (length (xl .now)))) ∷ ‵ (fdies (sliceTy (tyRef (named 2) mut half)) l₇)
-          ∷ ‵ (fat fullShare (sliceTy (tyRef (named 1) mut record-type)) l₆ 0 (sliceVal (xa .ptr) (length (xa .now)))) ∷ ‵ (fdies (sliceTy (tyRef (named 1) mut record-type)) l₆) ∷ ‵ (fat fullShare Pn′.mir l₅ 0 (low-plan p)) ∷ ‵ (fdies Pn′.mir l₅)
-          ∷ ‵ (fat fullShare half l₄ 0 (vint w32 g)) ∷ ‵ (fdies half l₄) ∷ ‵ (fat fullShare half l₃ 0 (vint w32 d)) ∷ ‵ (fdies half l₃)
-          ∷ ‵ (fat fullShare half l₂ 0 (vint w32 w)) ∷ ‵ (fdies half l₂) ∷ ‵ (fat fullShare (sliceTy (tyRef (named 0) imm half)) l₁ 0 (sliceVal (xs .ptr) (length (xs .now)))) ∷ ‵ (fdies (sliceTy (tyRef (named 0) imm half)) l₁)
-          ∷ ‵ (froom Bu′.mir l₀ 0) ∷ ‵ (fdies Bu′.mir l₀) ∷ []) ∵ exec ! (𝓣 .C) (𝓣 .Λ) En mir.t-1 (atRet En Post) $
           calls-widened ! fm mem run known-wider g g-g (and-then ! (load ! (from ! (stop !)) (look ! 41 refl)) (no-more !)) (λ m is-m g-m.
           land ! (from ! (stop !)) (init ! 30 refl (tt, record { fits = g-m })) $
-          keep ! (0 ∷ 1 ∷ 2 ∷ 3 ∷ 4 ∷ 5 ∷ 6 ∷ 7 ∷ 8 ∷ 9 ∷ 10 ∷ 11 ∷ 12 ∷ 13 ∷ 14 ∷ 15 ∷ 16 ∷ 17 ∷ 18 ∷ 19 ∷ 20 ∷ 21 ∷ 22 ∷ 23 ∷ 24 ∷ 25 ∷ 26 ∷ 27 ∷ 28 ∷ 29 ∷ 30 ∷ 31 ∷ 32 ∷ 33 ∷ 34 ∷ 35 ∷ 36 ∷ 37 ∷ 38 ∷ 39 ∷ 40 ∷ 41 ∷ 42 ∷ 43 ∷ 44 ∷ 45 ∷ 46 ∷ 47 ∷ 48 ∷ 49 ∷ []) $
-          by ! (go-2 m is-m g-m))
+          go-2 m is-m g-m)
 
       -- what is had at entry is taken apart
       abbrev At-first : List (Item 𝓤)
@@ -401,7 +319,7 @@ module _ {M : Type 1} (𝓤 : URA M) (H : Heap 𝓤) (A : Atoms 𝓤) (W : Given
           move ! (1 ∷ []) $
           drop ! $
           keep ! (7 ∷ 3 ∷ 6 ∷ 2 ∷ 5 ∷ 1 ∷ 4 ∷ 0 ∷ 8 ∷ 9 ∷ 10 ∷ 11 ∷ 12 ∷ 13 ∷ 14 ∷ 15 ∷ 16 ∷ 17 ∷ 18 ∷ 19 ∷ 20 ∷ 21 ∷ 22 ∷ 23 ∷ 24 ∷ 25 ∷ 26 ∷ 27 ∷ 28 ∷ 29 ∷ 30 ∷ 31 ∷ 32 ∷ 33 ∷ 34 ∷ 35 ∷ 36 ∷ 37 ∷ 38 ∷ 39 ∷ 40 ∷ 41 ∷ 42 ∷ 43 ∷ 44 ∷ 45 ∷ 46 ∷ 47 ∷ 48 ∷ 49 ∷ []) $
-          by ! go-1
+          go-1
 
       -- the locals are allocated, and the parameters are passed
       abbrev At-entry : List (Item 𝓤)

@@ -102,7 +102,7 @@ module _ {M : Type 1} (𝓤 : URA M) (H : Heap 𝓤) (A : Atoms 𝓤) (W : Given
       abbrev En : Env 𝓤 H
       En = (tyUnit, l₀) ∷ ((sliceTy (tyRef (named 0) imm record-type)), l₁) ∷ ((sliceTy (tyRef (named 1) imm half)), l₂) ∷ ((sliceTy (tyRef (named 2) imm half)), l₃) ∷ ((sliceTy (tyRef (named 3) imm record-type)), l₄) ∷ (word, l₅) ∷ ((sliceTy (tyRef (named 4) mut half)), l₆) ∷ ((sliceTy (tyRef (named 5) mut half)), l₇) ∷ (tyUnit, l₈) ∷ ((tyRef erased mut half), l₉) ∷ ((sliceTy (tyRef erased mut half)), l₁₀) ∷ ((tyRef erased mut half), l₁₁) ∷ ((sliceTy (tyRef erased mut half)), l₁₂) ∷ ((tyRef erased mut half), l₁₃) ∷ ((sliceTy (tyRef erased mut half)), l₁₄) ∷ ((tyRef erased mut half), l₁₅) ∷ ((sliceTy (tyRef erased mut half)), l₁₆) ∷ []
 
-      go-4 : (ul : List ℕ) (ur : List ℕ) (cleared : Cleared (xl .now) ul × Cleared (xr .now) ur) (long-ul : length ul ≡ length (xl .now)) (long-ur : length ur ≡ length (xr .now)) (zl : List ℕ) (is-l : zl ≡ columnTo (xf .now) (xc .now) (xa .now) n ul) (long-zl : length zl ≡ length ul) (zr : List ℕ) (is-r : zr ≡ columnTo (xf .now) (xh .now) (xa .now) n ur) (long-zr : length zr ≡ length ur) → ent 𝓤 (⋆ 𝓤 H A (‵ (flft κf qf) ∷ ‵ (ShrSlice (named 0) κf T.the-row .own xf (sliceVal (xf .ptr) (length (xf .now)) ∷ [])) ∷ ‵ (flft κc qc) ∷ ‵ (ShrSlice (named 0) κc u32 .own xc (sliceVal (xc .ptr) (length (xc .now)) ∷ []))
+      go-4 : (ul : List ℕ) (ur : List ℕ) (cleared : Cleared (xl .now) ul × Cleared (xr .now) ur) (long-ul : length ul ≡ length (xl .now)) (long-ur : length ur ≡ length (xr .now)) (zl : List ℕ) (is-l : zl ≡ columnTo (xf .now) (xc .now) (xa .now) n ul) (long-zl : length zl ≡ length ul) (zr : List ℕ) (is-r : zr ≡ columnTo (xf .now) (xh .now) (xa .now) n ur) (long-zr : length zr ≡ length ur) → Sq W (‵ (flft κf qf) ∷ ‵ (ShrSlice (named 0) κf T.the-row .own xf (sliceVal (xf .ptr) (length (xf .now)) ∷ [])) ∷ ‵ (flft κc qc) ∷ ‵ (ShrSlice (named 0) κc u32 .own xc (sliceVal (xc .ptr) (length (xc .now)) ∷ []))
           ∷ ‵ (flft κh qh) ∷ ‵ (ShrSlice (named 0) κh u32 .own xh (sliceVal (xh .ptr) (length (xh .now)) ∷ [])) ∷ ‵ (flft κa qa) ∷ ‵ (ShrSlice (named 0) κa T.the-row .own xa (sliceVal (xa .ptr) (length (xa .now)) ∷ []))
           ∷ ‵ (flft κl ql) ∷ ‵ (Lends.Own u32 (xl .ptr .0) (xl .ptr .1) (length (xl .now)) (named 0) κl (xl .name) zl) ∷ ‵ (flft κr qr) ∷ ‵ (Lends.Own u32 (xr .ptr .0) (xr .ptr .1) (length (xr .now)) (named 0) κr (xr .name) zr)
           ∷ ‵ (froom (sliceTy (tyRef erased mut half)) l₁₆ 0) ∷ ‵ (fdies (sliceTy (tyRef erased mut half)) l₁₆) ∷ ‵ (froom (tyRef erased mut half) l₁₅ 0) ∷ ‵ (fdies (tyRef erased mut half) l₁₅)
@@ -113,27 +113,15 @@ module _ {M : Type 1} (𝓤 : URA M) (H : Heap 𝓤) (A : Atoms 𝓤) (W : Given
           ∷ ‵ (fat fullShare (sliceTy (tyRef (named 4) mut half)) l₆ 0 (sliceVal (xl .ptr) (length (xl .now)))) ∷ ‵ (fdies (sliceTy (tyRef (named 4) mut half)) l₆) ∷ ‵ (fat fullShare word l₅ 0 (vint w64 n)) ∷ ‵ (fdies word l₅)
           ∷ ‵ (fat fullShare (sliceTy (tyRef (named 3) imm record-type)) l₄ 0 (sliceVal (xa .ptr) (length (xa .now)))) ∷ ‵ (fdies (sliceTy (tyRef (named 3) imm record-type)) l₄) ∷ ‵ (fat fullShare (sliceTy (tyRef (named 2) imm half)) l₃ 0 (sliceVal (xh .ptr) (length (xh .now)))) ∷ ‵ (fdies (sliceTy (tyRef (named 2) imm half)) l₃)
           ∷ ‵ (fat fullShare (sliceTy (tyRef (named 1) imm half)) l₂ 0 (sliceVal (xc .ptr) (length (xc .now)))) ∷ ‵ (fdies (sliceTy (tyRef (named 1) imm half)) l₂) ∷ ‵ (fat fullShare (sliceTy (tyRef (named 0) imm record-type)) l₁ 0 (sliceVal (xf .ptr) (length (xf .now)))) ∷ ‵ (fdies (sliceTy (tyRef (named 0) imm record-type)) l₁)
-          ∷ ‵ (froom tyUnit l₀ 0) ∷ ‵ (fdies tyUnit l₀) ∷ [])) (Wp 𝓤 H (𝓣 .C) (𝓣 .Λ) En mir.t-12 (atReturn 𝓤 H En Post))
+          ∷ ‵ (froom tyUnit l₀ 0) ∷ ‵ (fdies tyUnit l₀) ∷ []) (runs (𝓣 .C) (𝓣 .Λ) En mir.t-12 (atRet En Post))
       go-4 ul ur cleared long-ul long-ur zl is-l long-zl zr is-r long-zr =
-          qed W (‵ (flft κf qf) ∷ ‵ (ShrSlice (named 0) κf T.the-row .own xf (sliceVal (xf .ptr) (length (xf .now)) ∷ [])) ∷ ‵ (flft κc qc) ∷ ‵ (ShrSlice (named 0) κc u32 .own xc (sliceVal (xc .ptr) (length (xc .now)) ∷ []))
-          ∷ ‵ (flft κh qh) ∷ ‵ (ShrSlice (named 0) κh u32 .own xh (sliceVal (xh .ptr) (length (xh .now)) ∷ [])) ∷ ‵ (flft κa qa) ∷ ‵ (ShrSlice (named 0) κa T.the-row .own xa (sliceVal (xa .ptr) (length (xa .now)) ∷ []))
-          ∷ ‵ (flft κl ql) ∷ ‵ (Lends.Own u32 (xl .ptr .0) (xl .ptr .1) (length (xl .now)) (named 0) κl (xl .name) zl) ∷ ‵ (flft κr qr) ∷ ‵ (Lends.Own u32 (xr .ptr .0) (xr .ptr .1) (length (xr .now)) (named 0) κr (xr .name) zr)
-          ∷ ‵ (froom (sliceTy (tyRef erased mut half)) l₁₆ 0) ∷ ‵ (fdies (sliceTy (tyRef erased mut half)) l₁₆) ∷ ‵ (froom (tyRef erased mut half) l₁₅ 0) ∷ ‵ (fdies (tyRef erased mut half) l₁₅)
-          ∷ ‵ (froom (sliceTy (tyRef erased mut half)) l₁₄ 0) ∷ ‵ (fdies (sliceTy (tyRef erased mut half)) l₁₄) ∷ ‵ (froom (tyRef erased mut half) l₁₃ 0) ∷ ‵ (fdies (tyRef erased mut half) l₁₃)
-          ∷ ‵ (froom (sliceTy (tyRef erased mut half)) l₁₂ 0) ∷ ‵ (fdies (sliceTy (tyRef erased mut half)) l₁₂) ∷ ‵ (froom (tyRef erased mut half) l₁₁ 0) ∷ ‵ (fdies (tyRef erased mut half) l₁₁)
-          ∷ ‵ (froom (sliceTy (tyRef erased mut half)) l₁₀ 0) ∷ ‵ (fdies (sliceTy (tyRef erased mut half)) l₁₀) ∷ ‵ (froom (tyRef erased mut half) l₉ 0) ∷ ‵ (fdies (tyRef erased mut half) l₉)
-          ∷ ‵ (fat fullShare tyUnit l₈ 0 (vunit)) ∷ ‵ (fdies tyUnit l₈) ∷ ‵ (fat fullShare (sliceTy (tyRef (named 5) mut half)) l₇ 0 (sliceVal (xr .ptr) (length (xr .now)))) ∷ ‵ (fdies (sliceTy (tyRef (named 5) mut half)) l₇)
-          ∷ ‵ (fat fullShare (sliceTy (tyRef (named 4) mut half)) l₆ 0 (sliceVal (xl .ptr) (length (xl .now)))) ∷ ‵ (fdies (sliceTy (tyRef (named 4) mut half)) l₆) ∷ ‵ (fat fullShare word l₅ 0 (vint w64 n)) ∷ ‵ (fdies word l₅)
-          ∷ ‵ (fat fullShare (sliceTy (tyRef (named 3) imm record-type)) l₄ 0 (sliceVal (xa .ptr) (length (xa .now)))) ∷ ‵ (fdies (sliceTy (tyRef (named 3) imm record-type)) l₄) ∷ ‵ (fat fullShare (sliceTy (tyRef (named 2) imm half)) l₃ 0 (sliceVal (xh .ptr) (length (xh .now)))) ∷ ‵ (fdies (sliceTy (tyRef (named 2) imm half)) l₃)
-          ∷ ‵ (fat fullShare (sliceTy (tyRef (named 1) imm half)) l₂ 0 (sliceVal (xc .ptr) (length (xc .now)))) ∷ ‵ (fdies (sliceTy (tyRef (named 1) imm half)) l₂) ∷ ‵ (fat fullShare (sliceTy (tyRef (named 0) imm record-type)) l₁ 0 (sliceVal (xf .ptr) (length (xf .now)))) ∷ ‵ (fdies (sliceTy (tyRef (named 0) imm record-type)) l₁)
-          ∷ ‵ (froom tyUnit l₀ 0) ∷ ‵ (fdies tyUnit l₀) ∷ []) ∵ exec ! (𝓣 .C) (𝓣 .Λ) En mir.t-12 (atRet En Post) $
           assigns ! (of-opd ! (unit-lit !)) (from ! (stop !)) (init ! 44 refl (tt, tt)) $
           returns ! (look ! 44 refl) $
           lose ! 44 refl refl $ lose ! 42 refl refl $ lose ! 40 refl refl $ lose ! 38 refl refl $ lose ! 36 refl refl $ lose ! 34 refl refl $ lose ! 32 refl refl $ lose ! 30 refl refl $ lose ! 28 refl refl $ lose-room ! 26 refl refl $ lose-room ! 24 refl refl $ lose-room ! 22 refl refl $ lose-room ! 20 refl refl $ lose-room ! 18 refl refl $ lose-room ! 16 refl refl $ lose-room ! 14 refl refl $ lose-room ! 12 refl refl $ free0 ! $
           keep ! (0 ∷ 2 ∷ 4 ∷ 6 ∷ 8 ∷ 10 ∷ 9 ∷ 11 ∷ []) $
           by ! (exits zl (long-zl ∙ long-ul) zr (long-zr ∙ long-ur) (record { l = ul; r = ur; cleared = cleared; left-is = is-l; right-is = is-r }))
 
-      go-3 : (ul : List ℕ) (ur : List ℕ) (cleared : Cleared (xl .now) ul × Cleared (xr .now) ur) (long-ul : length ul ≡ length (xl .now)) (long-ur : length ur ≡ length (xr .now)) (zl : List ℕ) (is-l : zl ≡ columnTo (xf .now) (xc .now) (xa .now) n ul) (long-zl : length zl ≡ length ul) → ent 𝓤 (⋆ 𝓤 H A (‵ (flft κf qf) ∷ ‵ (ShrSlice (named 0) κf T.the-row .own xf (sliceVal (xf .ptr) (length (xf .now)) ∷ [])) ∷ ‵ (flft κc qc) ∷ ‵ (ShrSlice (named 0) κc u32 .own xc (sliceVal (xc .ptr) (length (xc .now)) ∷ []))
+      go-3 : (ul : List ℕ) (ur : List ℕ) (cleared : Cleared (xl .now) ul × Cleared (xr .now) ur) (long-ul : length ul ≡ length (xl .now)) (long-ur : length ur ≡ length (xr .now)) (zl : List ℕ) (is-l : zl ≡ columnTo (xf .now) (xc .now) (xa .now) n ul) (long-zl : length zl ≡ length ul) → Sq W (‵ (flft κf qf) ∷ ‵ (ShrSlice (named 0) κf T.the-row .own xf (sliceVal (xf .ptr) (length (xf .now)) ∷ [])) ∷ ‵ (flft κc qc) ∷ ‵ (ShrSlice (named 0) κc u32 .own xc (sliceVal (xc .ptr) (length (xc .now)) ∷ []))
           ∷ ‵ (flft κh qh) ∷ ‵ (ShrSlice (named 0) κh u32 .own xh (sliceVal (xh .ptr) (length (xh .now)) ∷ [])) ∷ ‵ (flft κa qa) ∷ ‵ (ShrSlice (named 0) κa T.the-row .own xa (sliceVal (xa .ptr) (length (xa .now)) ∷ []))
           ∷ ‵ (flft κl ql) ∷ ‵ (Lends.Own u32 (xl .ptr .0) (xl .ptr .1) (length (xl .now)) (named 0) κl (xl .name) zl) ∷ ‵ (flft κr qr) ∷ ‵ (Lends.Own u32 (xr .ptr .0) (xr .ptr .1) (length (xr .now)) (named 0) κr (xr .name) ur)
           ∷ ‵ (froom (sliceTy (tyRef erased mut half)) l₁₆ 0) ∷ ‵ (fdies (sliceTy (tyRef erased mut half)) l₁₆) ∷ ‵ (froom (tyRef erased mut half) l₁₅ 0) ∷ ‵ (fdies (tyRef erased mut half) l₁₅)
@@ -144,20 +132,8 @@ module _ {M : Type 1} (𝓤 : URA M) (H : Heap 𝓤) (A : Atoms 𝓤) (W : Given
           ∷ ‵ (fat fullShare (sliceTy (tyRef (named 4) mut half)) l₆ 0 (sliceVal (xl .ptr) (length (xl .now)))) ∷ ‵ (fdies (sliceTy (tyRef (named 4) mut half)) l₆) ∷ ‵ (fat fullShare word l₅ 0 (vint w64 n)) ∷ ‵ (fdies word l₅)
           ∷ ‵ (fat fullShare (sliceTy (tyRef (named 3) imm record-type)) l₄ 0 (sliceVal (xa .ptr) (length (xa .now)))) ∷ ‵ (fdies (sliceTy (tyRef (named 3) imm record-type)) l₄) ∷ ‵ (fat fullShare (sliceTy (tyRef (named 2) imm half)) l₃ 0 (sliceVal (xh .ptr) (length (xh .now)))) ∷ ‵ (fdies (sliceTy (tyRef (named 2) imm half)) l₃)
           ∷ ‵ (fat fullShare (sliceTy (tyRef (named 1) imm half)) l₂ 0 (sliceVal (xc .ptr) (length (xc .now)))) ∷ ‵ (fdies (sliceTy (tyRef (named 1) imm half)) l₂) ∷ ‵ (fat fullShare (sliceTy (tyRef (named 0) imm record-type)) l₁ 0 (sliceVal (xf .ptr) (length (xf .now)))) ∷ ‵ (fdies (sliceTy (tyRef (named 0) imm record-type)) l₁)
-          ∷ ‵ (froom tyUnit l₀ 0) ∷ ‵ (fdies tyUnit l₀) ∷ [])) (Wp 𝓤 H (𝓣 .C) (𝓣 .Λ) En mir.t-9 (atReturn 𝓤 H En Post))
+          ∷ ‵ (froom tyUnit l₀ 0) ∷ ‵ (fdies tyUnit l₀) ∷ []) (runs (𝓣 .C) (𝓣 .Λ) En mir.t-9 (atRet En Post))
       go-3 ul ur cleared long-ul long-ur zl is-l long-zl =
-          qed W (‵ (flft κf qf) ∷ ‵ (ShrSlice (named 0) κf T.the-row .own xf (sliceVal (xf .ptr) (length (xf .now)) ∷ [])) ∷ ‵ (flft κc qc) ∷ ‵ (ShrSlice (named 0) κc u32 .own xc (sliceVal (xc .ptr) (length (xc .now)) ∷ []))
-          ∷ ‵ (flft κh qh) ∷ ‵ (ShrSlice (named 0) κh u32 .own xh (sliceVal (xh .ptr) (length (xh .now)) ∷ [])) ∷ ‵ (flft κa qa) ∷ ‵ (ShrSlice (named 0) κa T.the-row .own xa (sliceVal (xa .ptr) (length (xa .now)) ∷ []))
-          ∷ ‵ (flft κl ql) ∷ ‵ (Lends.Own u32 (xl .ptr .0) (xl .ptr .1) (length (xl .now)) (named 0) κl (xl .name) zl) ∷ ‵ (flft κr qr) ∷ ‵ (Lends.Own u32 (xr .ptr .0) (xr .ptr .1) (length (xr .now)) (named 0) κr (xr .name) ur)
-          ∷ ‵ (froom (sliceTy (tyRef erased mut half)) l₁₆ 0) ∷ ‵ (fdies (sliceTy (tyRef erased mut half)) l₁₆) ∷ ‵ (froom (tyRef erased mut half) l₁₅ 0) ∷ ‵ (fdies (tyRef erased mut half) l₁₅)
-          ∷ ‵ (froom (sliceTy (tyRef erased mut half)) l₁₄ 0) ∷ ‵ (fdies (sliceTy (tyRef erased mut half)) l₁₄) ∷ ‵ (froom (tyRef erased mut half) l₁₃ 0) ∷ ‵ (fdies (tyRef erased mut half) l₁₃)
-          ∷ ‵ (froom (sliceTy (tyRef erased mut half)) l₁₂ 0) ∷ ‵ (fdies (sliceTy (tyRef erased mut half)) l₁₂) ∷ ‵ (froom (tyRef erased mut half) l₁₁ 0) ∷ ‵ (fdies (tyRef erased mut half) l₁₁)
-          ∷ ‵ (froom (sliceTy (tyRef erased mut half)) l₁₀ 0) ∷ ‵ (fdies (sliceTy (tyRef erased mut half)) l₁₀) ∷ ‵ (froom (tyRef erased mut half) l₉ 0) ∷ ‵ (fdies (tyRef erased mut half) l₉)
-          ∷ ‵ (fat fullShare tyUnit l₈ 0 (vunit)) ∷ ‵ (fdies tyUnit l₈) ∷ ‵ (fat fullShare (sliceTy (tyRef (named 5) mut half)) l₇ 0 (sliceVal (xr .ptr) (length (xr .now)))) ∷ ‵ (fdies (sliceTy (tyRef (named 5) mut half)) l₇)
-          ∷ ‵ (fat fullShare (sliceTy (tyRef (named 4) mut half)) l₆ 0 (sliceVal (xl .ptr) (length (xl .now)))) ∷ ‵ (fdies (sliceTy (tyRef (named 4) mut half)) l₆) ∷ ‵ (fat fullShare word l₅ 0 (vint w64 n)) ∷ ‵ (fdies word l₅)
-          ∷ ‵ (fat fullShare (sliceTy (tyRef (named 3) imm record-type)) l₄ 0 (sliceVal (xa .ptr) (length (xa .now)))) ∷ ‵ (fdies (sliceTy (tyRef (named 3) imm record-type)) l₄) ∷ ‵ (fat fullShare (sliceTy (tyRef (named 2) imm half)) l₃ 0 (sliceVal (xh .ptr) (length (xh .now)))) ∷ ‵ (fdies (sliceTy (tyRef (named 2) imm half)) l₃)
-          ∷ ‵ (fat fullShare (sliceTy (tyRef (named 1) imm half)) l₂ 0 (sliceVal (xc .ptr) (length (xc .now)))) ∷ ‵ (fdies (sliceTy (tyRef (named 1) imm half)) l₂) ∷ ‵ (fat fullShare (sliceTy (tyRef (named 0) imm record-type)) l₁ 0 (sliceVal (xf .ptr) (length (xf .now)))) ∷ ‵ (fdies (sliceTy (tyRef (named 0) imm record-type)) l₁)
-          ∷ ‵ (froom tyUnit l₀ 0) ∷ ‵ (fdies tyUnit l₀) ∷ []) ∵ exec ! (𝓣 .C) (𝓣 .Λ) En mir.t-9 (atRet En Post) $
           assigns ! (addr ! (from ! (fld ! refl (hop ! (look-in ! 30 (sub ! 0 refl (whole !))) (stop !))))) (from ! (stop !)) (init ! 14 refl (tt, tt)) $
           assigns ! (agg ! (and-then ! (load ! (from ! (stop !)) (look ! 14 refl)) (and-then ! (load ! (from ! (fld ! refl (stop !))) (look-in ! 30 (sub ! 1 refl (whole !)))) (no-more !)))) (from ! (stop !)) (init ! 12 refl (tt, (tt, (record { fits = g-r .0 }, tt)))) $
           move ! (0 ∷ 1 ∷ 4 ∷ 5 ∷ 6 ∷ 7 ∷ 10 ∷ 11 ∷ []) $
@@ -165,9 +141,9 @@ module _ {M : Type 1} (𝓤 : URA M) (H : Heap 𝓤) (A : Atoms 𝓤) (W : Given
           land ! (from ! (stop !)) (store ! 28 refl (tt, tt)) $
           forget ! 14 refl $ forget ! 12 refl $
           keep ! (0 ∷ 1 ∷ 8 ∷ 9 ∷ 2 ∷ 3 ∷ 4 ∷ 5 ∷ 10 ∷ 11 ∷ 6 ∷ 7 ∷ 12 ∷ 13 ∷ 14 ∷ 15 ∷ 16 ∷ 17 ∷ 18 ∷ 19 ∷ 20 ∷ 21 ∷ 22 ∷ 23 ∷ 24 ∷ 25 ∷ 26 ∷ 27 ∷ 28 ∷ 29 ∷ 30 ∷ 31 ∷ 32 ∷ 33 ∷ 34 ∷ 35 ∷ 36 ∷ 37 ∷ 38 ∷ 39 ∷ 40 ∷ 41 ∷ 42 ∷ 43 ∷ 44 ∷ 45 ∷ []) $
-          by ! (go-4 ul ur cleared long-ul long-ur zl is-l long-zl zr is-r long-zr))
+          go-4 ul ur cleared long-ul long-ur zl is-l long-zl zr is-r long-zr)
 
-      go-2 : (ul : List ℕ) (ur : List ℕ) (cleared : Cleared (xl .now) ul × Cleared (xr .now) ur) (long-ul : length ul ≡ length (xl .now)) (long-ur : length ur ≡ length (xr .now)) → ent 𝓤 (⋆ 𝓤 H A (‵ (flft κf qf) ∷ ‵ (ShrSlice (named 0) κf T.the-row .own xf (sliceVal (xf .ptr) (length (xf .now)) ∷ [])) ∷ ‵ (flft κc qc) ∷ ‵ (ShrSlice (named 0) κc u32 .own xc (sliceVal (xc .ptr) (length (xc .now)) ∷ []))
+      go-2 : (ul : List ℕ) (ur : List ℕ) (cleared : Cleared (xl .now) ul × Cleared (xr .now) ur) (long-ul : length ul ≡ length (xl .now)) (long-ur : length ur ≡ length (xr .now)) → Sq W (‵ (flft κf qf) ∷ ‵ (ShrSlice (named 0) κf T.the-row .own xf (sliceVal (xf .ptr) (length (xf .now)) ∷ [])) ∷ ‵ (flft κc qc) ∷ ‵ (ShrSlice (named 0) κc u32 .own xc (sliceVal (xc .ptr) (length (xc .now)) ∷ []))
           ∷ ‵ (flft κh qh) ∷ ‵ (ShrSlice (named 0) κh u32 .own xh (sliceVal (xh .ptr) (length (xh .now)) ∷ [])) ∷ ‵ (flft κa qa) ∷ ‵ (ShrSlice (named 0) κa T.the-row .own xa (sliceVal (xa .ptr) (length (xa .now)) ∷ []))
           ∷ ‵ (flft κl ql) ∷ ‵ (Lends.Own u32 (xl .ptr .0) (xl .ptr .1) (length (xl .now)) (named 0) κl (xl .name) ul) ∷ ‵ (flft κr qr) ∷ ‵ (Lends.Own u32 (xr .ptr .0) (xr .ptr .1) (length (xr .now)) (named 0) κr (xr .name) ur)
           ∷ ‵ (froom (sliceTy (tyRef erased mut half)) l₁₆ 0) ∷ ‵ (fdies (sliceTy (tyRef erased mut half)) l₁₆) ∷ ‵ (froom (tyRef erased mut half) l₁₅ 0) ∷ ‵ (fdies (tyRef erased mut half) l₁₅)
@@ -178,20 +154,8 @@ module _ {M : Type 1} (𝓤 : URA M) (H : Heap 𝓤) (A : Atoms 𝓤) (W : Given
           ∷ ‵ (fat fullShare (sliceTy (tyRef (named 4) mut half)) l₆ 0 (sliceVal (xl .ptr) (length (xl .now)))) ∷ ‵ (fdies (sliceTy (tyRef (named 4) mut half)) l₆) ∷ ‵ (fat fullShare word l₅ 0 (vint w64 n)) ∷ ‵ (fdies word l₅)
           ∷ ‵ (fat fullShare (sliceTy (tyRef (named 3) imm record-type)) l₄ 0 (sliceVal (xa .ptr) (length (xa .now)))) ∷ ‵ (fdies (sliceTy (tyRef (named 3) imm record-type)) l₄) ∷ ‵ (fat fullShare (sliceTy (tyRef (named 2) imm half)) l₃ 0 (sliceVal (xh .ptr) (length (xh .now)))) ∷ ‵ (fdies (sliceTy (tyRef (named 2) imm half)) l₃)
           ∷ ‵ (fat fullShare (sliceTy (tyRef (named 1) imm half)) l₂ 0 (sliceVal (xc .ptr) (length (xc .now)))) ∷ ‵ (fdies (sliceTy (tyRef (named 1) imm half)) l₂) ∷ ‵ (fat fullShare (sliceTy (tyRef (named 0) imm record-type)) l₁ 0 (sliceVal (xf .ptr) (length (xf .now)))) ∷ ‵ (fdies (sliceTy (tyRef (named 0) imm record-type)) l₁)
-          ∷ ‵ (froom tyUnit l₀ 0) ∷ ‵ (fdies tyUnit l₀) ∷ [])) (Wp 𝓤 H (𝓣 .C) (𝓣 .Λ) En mir.t-6 (atReturn 𝓤 H En Post))
+          ∷ ‵ (froom tyUnit l₀ 0) ∷ ‵ (fdies tyUnit l₀) ∷ []) (runs (𝓣 .C) (𝓣 .Λ) En mir.t-6 (atRet En Post))
       go-2 ul ur cleared long-ul long-ur =
-          qed W (‵ (flft κf qf) ∷ ‵ (ShrSlice (named 0) κf T.the-row .own xf (sliceVal (xf .ptr) (length (xf .now)) ∷ [])) ∷ ‵ (flft κc qc) ∷ ‵ (ShrSlice (named 0) κc u32 .own xc (sliceVal (xc .ptr) (length (xc .now)) ∷ []))
-          ∷ ‵ (flft κh qh) ∷ ‵ (ShrSlice (named 0) κh u32 .own xh (sliceVal (xh .ptr) (length (xh .now)) ∷ [])) ∷ ‵ (flft κa qa) ∷ ‵ (ShrSlice (named 0) κa T.the-row .own xa (sliceVal (xa .ptr) (length (xa .now)) ∷ []))
-          ∷ ‵ (flft κl ql) ∷ ‵ (Lends.Own u32 (xl .ptr .0) (xl .ptr .1) (length (xl .now)) (named 0) κl (xl .name) ul) ∷ ‵ (flft κr qr) ∷ ‵ (Lends.Own u32 (xr .ptr .0) (xr .ptr .1) (length (xr .now)) (named 0) κr (xr .name) ur)
-          ∷ ‵ (froom (sliceTy (tyRef erased mut half)) l₁₆ 0) ∷ ‵ (fdies (sliceTy (tyRef erased mut half)) l₁₆) ∷ ‵ (froom (tyRef erased mut half) l₁₅ 0) ∷ ‵ (fdies (tyRef erased mut half) l₁₅)
-          ∷ ‵ (froom (sliceTy (tyRef erased mut half)) l₁₄ 0) ∷ ‵ (fdies (sliceTy (tyRef erased mut half)) l₁₄) ∷ ‵ (froom (tyRef erased mut half) l₁₃ 0) ∷ ‵ (fdies (tyRef erased mut half) l₁₃)
-          ∷ ‵ (froom (sliceTy (tyRef erased mut half)) l₁₂ 0) ∷ ‵ (fdies (sliceTy (tyRef erased mut half)) l₁₂) ∷ ‵ (froom (tyRef erased mut half) l₁₁ 0) ∷ ‵ (fdies (tyRef erased mut half) l₁₁)
-          ∷ ‵ (froom (sliceTy (tyRef erased mut half)) l₁₀ 0) ∷ ‵ (fdies (sliceTy (tyRef erased mut half)) l₁₀) ∷ ‵ (froom (tyRef erased mut half) l₉ 0) ∷ ‵ (fdies (tyRef erased mut half) l₉)
-          ∷ ‵ (fat fullShare tyUnit l₈ 0 (vunit)) ∷ ‵ (fdies tyUnit l₈) ∷ ‵ (fat fullShare (sliceTy (tyRef (named 5) mut half)) l₇ 0 (sliceVal (xr .ptr) (length (xr .now)))) ∷ ‵ (fdies (sliceTy (tyRef (named 5) mut half)) l₇)
-          ∷ ‵ (fat fullShare (sliceTy (tyRef (named 4) mut half)) l₆ 0 (sliceVal (xl .ptr) (length (xl .now)))) ∷ ‵ (fdies (sliceTy (tyRef (named 4) mut half)) l₆) ∷ ‵ (fat fullShare word l₅ 0 (vint w64 n)) ∷ ‵ (fdies word l₅)
-          ∷ ‵ (fat fullShare (sliceTy (tyRef (named 3) imm record-type)) l₄ 0 (sliceVal (xa .ptr) (length (xa .now)))) ∷ ‵ (fdies (sliceTy (tyRef (named 3) imm record-type)) l₄) ∷ ‵ (fat fullShare (sliceTy (tyRef (named 2) imm half)) l₃ 0 (sliceVal (xh .ptr) (length (xh .now)))) ∷ ‵ (fdies (sliceTy (tyRef (named 2) imm half)) l₃)
-          ∷ ‵ (fat fullShare (sliceTy (tyRef (named 1) imm half)) l₂ 0 (sliceVal (xc .ptr) (length (xc .now)))) ∷ ‵ (fdies (sliceTy (tyRef (named 1) imm half)) l₂) ∷ ‵ (fat fullShare (sliceTy (tyRef (named 0) imm record-type)) l₁ 0 (sliceVal (xf .ptr) (length (xf .now)))) ∷ ‵ (fdies (sliceTy (tyRef (named 0) imm record-type)) l₁)
-          ∷ ‵ (froom tyUnit l₀ 0) ∷ ‵ (fdies tyUnit l₀) ∷ []) ∵ exec ! (𝓣 .C) (𝓣 .Λ) En mir.t-6 (atRet En Post) $
           assigns ! (addr ! (from ! (fld ! refl (hop ! (look-in ! 32 (sub ! 0 refl (whole !))) (stop !))))) (from ! (stop !)) (init ! 18 refl (tt, tt)) $
           assigns ! (agg ! (and-then ! (load ! (from ! (stop !)) (look ! 18 refl)) (and-then ! (load ! (from ! (fld ! refl (stop !))) (look-in ! 32 (sub ! 1 refl (whole !)))) (no-more !)))) (from ! (stop !)) (init ! 16 refl (tt, (tt, (record { fits = g-l .0 }, tt)))) $
           move ! (0 ∷ 1 ∷ 2 ∷ 3 ∷ 6 ∷ 7 ∷ 8 ∷ 9 ∷ []) $
@@ -199,9 +163,9 @@ module _ {M : Type 1} (𝓤 : URA M) (H : Heap 𝓤) (A : Atoms 𝓤) (W : Given
           land ! (from ! (stop !)) (store ! 28 refl (tt, tt)) $
           forget ! 18 refl $ forget ! 16 refl $
           keep ! (0 ∷ 1 ∷ 2 ∷ 3 ∷ 8 ∷ 9 ∷ 4 ∷ 5 ∷ 6 ∷ 7 ∷ 10 ∷ 11 ∷ 12 ∷ 13 ∷ 14 ∷ 15 ∷ 16 ∷ 17 ∷ 18 ∷ 19 ∷ 20 ∷ 21 ∷ 22 ∷ 23 ∷ 24 ∷ 25 ∷ 26 ∷ 27 ∷ 28 ∷ 29 ∷ 30 ∷ 31 ∷ 32 ∷ 33 ∷ 34 ∷ 35 ∷ 36 ∷ 37 ∷ 38 ∷ 39 ∷ 40 ∷ 41 ∷ 42 ∷ 43 ∷ 44 ∷ 45 ∷ []) $
-          by ! (go-3 ul ur cleared long-ul long-ur zl is-l long-zl))
+          go-3 ul ur cleared long-ul long-ur zl is-l long-zl)
 
-      go-1 : ent 𝓤 (⋆ 𝓤 H A (‵ (flft κf qf) ∷ ‵ (ShrSlice (named 0) κf T.the-row .own xf (sliceVal (xf .ptr) (length (xf .now)) ∷ [])) ∷ ‵ (flft κc qc) ∷ ‵ (ShrSlice (named 0) κc u32 .own xc (sliceVal (xc .ptr) (length (xc .now)) ∷ []))
+      go-1 : Sq W (‵ (flft κf qf) ∷ ‵ (ShrSlice (named 0) κf T.the-row .own xf (sliceVal (xf .ptr) (length (xf .now)) ∷ [])) ∷ ‵ (flft κc qc) ∷ ‵ (ShrSlice (named 0) κc u32 .own xc (sliceVal (xc .ptr) (length (xc .now)) ∷ []))
           ∷ ‵ (flft κh qh) ∷ ‵ (ShrSlice (named 0) κh u32 .own xh (sliceVal (xh .ptr) (length (xh .now)) ∷ [])) ∷ ‵ (flft κa qa) ∷ ‵ (ShrSlice (named 0) κa T.the-row .own xa (sliceVal (xa .ptr) (length (xa .now)) ∷ []))
           ∷ ‵ (flft κl ql) ∷ ‵ (Lends.Own u32 (xl .ptr .0) (xl .ptr .1) (length (xl .now)) (named 0) κl (xl .name) (xl .now)) ∷ ‵ (flft κr qr) ∷ ‵ (Lends.Own u32 (xr .ptr .0) (xr .ptr .1) (length (xr .now)) (named 0) κr (xr .name) (xr .now))
           ∷ ‵ (froom (sliceTy (tyRef erased mut half)) l₁₆ 0) ∷ ‵ (fdies (sliceTy (tyRef erased mut half)) l₁₆) ∷ ‵ (froom (tyRef erased mut half) l₁₅ 0) ∷ ‵ (fdies (tyRef erased mut half) l₁₅)
@@ -212,20 +176,8 @@ module _ {M : Type 1} (𝓤 : URA M) (H : Heap 𝓤) (A : Atoms 𝓤) (W : Given
           ∷ ‵ (fat fullShare (sliceTy (tyRef (named 4) mut half)) l₆ 0 (sliceVal (xl .ptr) (length (xl .now)))) ∷ ‵ (fdies (sliceTy (tyRef (named 4) mut half)) l₆) ∷ ‵ (fat fullShare word l₅ 0 (vint w64 n)) ∷ ‵ (fdies word l₅)
           ∷ ‵ (fat fullShare (sliceTy (tyRef (named 3) imm record-type)) l₄ 0 (sliceVal (xa .ptr) (length (xa .now)))) ∷ ‵ (fdies (sliceTy (tyRef (named 3) imm record-type)) l₄) ∷ ‵ (fat fullShare (sliceTy (tyRef (named 2) imm half)) l₃ 0 (sliceVal (xh .ptr) (length (xh .now)))) ∷ ‵ (fdies (sliceTy (tyRef (named 2) imm half)) l₃)
           ∷ ‵ (fat fullShare (sliceTy (tyRef (named 1) imm half)) l₂ 0 (sliceVal (xc .ptr) (length (xc .now)))) ∷ ‵ (fdies (sliceTy (tyRef (named 1) imm half)) l₂) ∷ ‵ (fat fullShare (sliceTy (tyRef (named 0) imm record-type)) l₁ 0 (sliceVal (xf .ptr) (length (xf .now)))) ∷ ‵ (fdies (sliceTy (tyRef (named 0) imm record-type)) l₁)
-          ∷ ‵ (froom tyUnit l₀ 0) ∷ ‵ (fdies tyUnit l₀) ∷ [])) (Wp 𝓤 H (𝓣 .C) (𝓣 .Λ) En mir.t-1 (atReturn 𝓤 H En Post))
+          ∷ ‵ (froom tyUnit l₀ 0) ∷ ‵ (fdies tyUnit l₀) ∷ []) (runs (𝓣 .C) (𝓣 .Λ) En mir.t-1 (atRet En Post))
       go-1 =
-          qed W (‵ (flft κf qf) ∷ ‵ (ShrSlice (named 0) κf T.the-row .own xf (sliceVal (xf .ptr) (length (xf .now)) ∷ [])) ∷ ‵ (flft κc qc) ∷ ‵ (ShrSlice (named 0) κc u32 .own xc (sliceVal (xc .ptr) (length (xc .now)) ∷ []))
-          ∷ ‵ (flft κh qh) ∷ ‵ (ShrSlice (named 0) κh u32 .own xh (sliceVal (xh .ptr) (length (xh .now)) ∷ [])) ∷ ‵ (flft κa qa) ∷ ‵ (ShrSlice (named 0) κa T.the-row .own xa (sliceVal (xa .ptr) (length (xa .now)) ∷ []))
-          ∷ ‵ (flft κl ql) ∷ ‵ (Lends.Own u32 (xl .ptr .0) (xl .ptr .1) (length (xl .now)) (named 0) κl (xl .name) (xl .now)) ∷ ‵ (flft κr qr) ∷ ‵ (Lends.Own u32 (xr .ptr .0) (xr .ptr .1) (length (xr .now)) (named 0) κr (xr .name) (xr .now))
-          ∷ ‵ (froom (sliceTy (tyRef erased mut half)) l₁₆ 0) ∷ ‵ (fdies (sliceTy (tyRef erased mut half)) l₁₆) ∷ ‵ (froom (tyRef erased mut half) l₁₅ 0) ∷ ‵ (fdies (tyRef erased mut half) l₁₅)
-          ∷ ‵ (froom (sliceTy (tyRef erased mut half)) l₁₄ 0) ∷ ‵ (fdies (sliceTy (tyRef erased mut half)) l₁₄) ∷ ‵ (froom (tyRef erased mut half) l₁₃ 0) ∷ ‵ (fdies (tyRef erased mut half) l₁₃)
-          ∷ ‵ (froom (sliceTy (tyRef erased mut half)) l₁₂ 0) ∷ ‵ (fdies (sliceTy (tyRef erased mut half)) l₁₂) ∷ ‵ (froom (tyRef erased mut half) l₁₁ 0) ∷ ‵ (fdies (tyRef erased mut half) l₁₁)
-          ∷ ‵ (froom (sliceTy (tyRef erased mut half)) l₁₀ 0) ∷ ‵ (fdies (sliceTy (tyRef erased mut half)) l₁₀) ∷ ‵ (froom (tyRef erased mut half) l₉ 0) ∷ ‵ (fdies (tyRef erased mut half) l₉)
-          ∷ ‵ (froom tyUnit l₈ 0) ∷ ‵ (fdies tyUnit l₈) ∷ ‵ (fat fullShare (sliceTy (tyRef (named 5) mut half)) l₇ 0 (sliceVal (xr .ptr) (length (xr .now)))) ∷ ‵ (fdies (sliceTy (tyRef (named 5) mut half)) l₇)
-          ∷ ‵ (fat fullShare (sliceTy (tyRef (named 4) mut half)) l₆ 0 (sliceVal (xl .ptr) (length (xl .now)))) ∷ ‵ (fdies (sliceTy (tyRef (named 4) mut half)) l₆) ∷ ‵ (fat fullShare word l₅ 0 (vint w64 n)) ∷ ‵ (fdies word l₅)
-          ∷ ‵ (fat fullShare (sliceTy (tyRef (named 3) imm record-type)) l₄ 0 (sliceVal (xa .ptr) (length (xa .now)))) ∷ ‵ (fdies (sliceTy (tyRef (named 3) imm record-type)) l₄) ∷ ‵ (fat fullShare (sliceTy (tyRef (named 2) imm half)) l₃ 0 (sliceVal (xh .ptr) (length (xh .now)))) ∷ ‵ (fdies (sliceTy (tyRef (named 2) imm half)) l₃)
-          ∷ ‵ (fat fullShare (sliceTy (tyRef (named 1) imm half)) l₂ 0 (sliceVal (xc .ptr) (length (xc .now)))) ∷ ‵ (fdies (sliceTy (tyRef (named 1) imm half)) l₂) ∷ ‵ (fat fullShare (sliceTy (tyRef (named 0) imm record-type)) l₁ 0 (sliceVal (xf .ptr) (length (xf .now)))) ∷ ‵ (fdies (sliceTy (tyRef (named 0) imm record-type)) l₁)
-          ∷ ‵ (froom tyUnit l₀ 0) ∷ ‵ (fdies tyUnit l₀) ∷ []) ∵ exec ! (𝓣 .C) (𝓣 .Λ) En mir.t-1 (atRet En Post) $
           assigns ! (addr ! (from ! (fld ! refl (hop ! (look-in ! 32 (sub ! 0 refl (whole !))) (stop !))))) (from ! (stop !)) (init ! 26 refl (tt, tt)) $
           assigns ! (agg ! (and-then ! (load ! (from ! (stop !)) (look ! 26 refl)) (and-then ! (load ! (from ! (fld ! refl (stop !))) (look-in ! 32 (sub ! 1 refl (whole !)))) (no-more !)))) (from ! (stop !)) (init ! 24 refl (tt, (tt, (record { fits = g-l .0 }, tt)))) $
           assigns ! (addr ! (from ! (fld ! refl (hop ! (look-in ! 30 (sub ! 0 refl (whole !))) (stop !))))) (from ! (stop !)) (init ! 22 refl (tt, tt)) $
@@ -235,7 +187,7 @@ module _ {M : Type 1} (𝓤 : URA M) (H : Heap 𝓤) (A : Atoms 𝓤) (W : Given
           land ! (from ! (stop !)) (init ! 28 refl (tt, tt)) $
           forget ! 26 refl $ forget ! 24 refl $ forget ! 22 refl $ forget ! 20 refl $
           keep ! (4 ∷ 5 ∷ 6 ∷ 7 ∷ 8 ∷ 9 ∷ 10 ∷ 11 ∷ 0 ∷ 1 ∷ 2 ∷ 3 ∷ 12 ∷ 13 ∷ 14 ∷ 15 ∷ 16 ∷ 17 ∷ 18 ∷ 19 ∷ 20 ∷ 21 ∷ 22 ∷ 23 ∷ 24 ∷ 25 ∷ 26 ∷ 27 ∷ 28 ∷ 29 ∷ 30 ∷ 31 ∷ 32 ∷ 33 ∷ 34 ∷ 35 ∷ 36 ∷ 37 ∷ 38 ∷ 39 ∷ 40 ∷ 41 ∷ 42 ∷ 43 ∷ 44 ∷ 45 ∷ []) $
-          by ! (go-2 ul ur cleared long-ul long-ur))
+          go-2 ul ur cleared long-ul long-ur)
 
       -- what is had at entry is taken apart
       abbrev At-first : List (Item 𝓤)
@@ -283,7 +235,7 @@ module _ {M : Type 1} (𝓤 : URA M) (H : Heap 𝓤) (A : Atoms 𝓤) (W : Given
           move ! (1 ∷ []) $
           drop ! $
           keep ! (11 ∷ 5 ∷ 10 ∷ 4 ∷ 9 ∷ 3 ∷ 8 ∷ 2 ∷ 7 ∷ 1 ∷ 6 ∷ 0 ∷ 12 ∷ 13 ∷ 14 ∷ 15 ∷ 16 ∷ 17 ∷ 18 ∷ 19 ∷ 20 ∷ 21 ∷ 22 ∷ 23 ∷ 24 ∷ 25 ∷ 26 ∷ 27 ∷ 28 ∷ 29 ∷ 30 ∷ 31 ∷ 32 ∷ 33 ∷ 34 ∷ 35 ∷ 36 ∷ 37 ∷ 38 ∷ 39 ∷ 40 ∷ 41 ∷ 42 ∷ 43 ∷ 44 ∷ 45 ∷ []) $
-          by ! go-1
+          go-1
 
       -- the locals are allocated, and the parameters are passed
       abbrev At-entry : List (Item 𝓤)

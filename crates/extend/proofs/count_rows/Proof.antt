@@ -127,17 +127,15 @@ module _ {M : Type 1} (𝓤 : URA M) (H : Heap 𝓤) (A : Atoms 𝓤) (W : Given
           ∷ ‵ (fat fullShare word l₂ 0 (vint w64 w)) ∷ ‵ (fdies word l₂) ∷ ‵ (fat fullShare (sliceTy (tyRef (named 0) imm half)) l₁ 0 (sliceVal (xs .ptr) (length (xs .now)))) ∷ ‵ (fdies (sliceTy (tyRef (named 0) imm half)) l₁)
           ∷ i₄ ∷ ‵ (fdies word l₀) ∷ []
 
-      go-3 : (vr : List ℕ) (vl : List ℕ) (is : (vr ≡ listed (endOf (xa .now) bias) n (xr .now)) × (vl ≡ listed (sizeOf (xa .now)) n (xl .now))) (long-vr : length vr ≡ length (xr .now)) (long-vl : length vl ≡ length (xl .now)) (i : ℕ) (zl : List ℕ) (counted : (Counted (xs .now) w e old vr n vl (windowsOf (xs .now) w) zl) × (old < windowsOf (xs .now) w → i ≡ rank vr n (level (xs .now) w e old)) × (windowsOf (xs .now) w ≤ old → i ≡ 0)) (g-i : i < 2 ^ 64) (long-zl : length zl ≡ length vl) → ent 𝓤 (⋆ 𝓤 H A (Held (‵ (Lends.Own u32 (xl .ptr .0) (xl .ptr .1) (length (xl .now)) (named 0) κl (xl .name) zl)) (‵ (Lends.Own u32 (xr .ptr .0) (xr .ptr .1) (length (xr .now)) (named 0) κr (xr .name) vr)) (‵ (fat fullShare tyUnit l₁₀ 0 (vunit))) (‵ (fat fullShare word l₀ 0 (vint w64 i))))) (Wp 𝓤 H (𝓣 .C) (𝓣 .Λ) En mir.t-11 (atReturn 𝓤 H En Post))
+      go-3 : (vr : List ℕ) (vl : List ℕ) (is : (vr ≡ listed (endOf (xa .now) bias) n (xr .now)) × (vl ≡ listed (sizeOf (xa .now)) n (xl .now))) (long-vr : length vr ≡ length (xr .now)) (long-vl : length vl ≡ length (xl .now)) (i : ℕ) (zl : List ℕ) (counted : (Counted (xs .now) w e old vr n vl (windowsOf (xs .now) w) zl) × (old < windowsOf (xs .now) w → i ≡ rank vr n (level (xs .now) w e old)) × (windowsOf (xs .now) w ≤ old → i ≡ 0)) (g-i : i < 2 ^ 64) (long-zl : length zl ≡ length vl) → Sq W (Held (‵ (Lends.Own u32 (xl .ptr .0) (xl .ptr .1) (length (xl .now)) (named 0) κl (xl .name) zl)) (‵ (Lends.Own u32 (xr .ptr .0) (xr .ptr .1) (length (xr .now)) (named 0) κr (xr .name) vr)) (‵ (fat fullShare tyUnit l₁₀ 0 (vunit))) (‵ (fat fullShare word l₀ 0 (vint w64 i)))) (runs (𝓣 .C) (𝓣 .Λ) En mir.t-11 (atRet En Post))
       go-3 vr vl is long-vr long-vl i zl counted g-i long-zl =
-          qed W (Held (‵ (Lends.Own u32 (xl .ptr .0) (xl .ptr .1) (length (xl .now)) (named 0) κl (xl .name) zl)) (‵ (Lends.Own u32 (xr .ptr .0) (xr .ptr .1) (length (xr .now)) (named 0) κr (xr .name) vr)) (‵ (fat fullShare tyUnit l₁₀ 0 (vunit))) (‵ (fat fullShare word l₀ 0 (vint w64 i)))) ∵ exec ! (𝓣 .C) (𝓣 .Λ) En mir.t-11 (atRet En Post) $
           returns ! (look ! 44 refl) $
           lose ! 44 refl refl $ lose ! 42 refl refl $ lose ! 40 refl refl $ lose ! 38 refl refl $ lose ! 36 refl refl $ lose ! 34 refl refl $ lose ! 32 refl refl $ lose ! 30 refl refl $ lose ! 28 refl refl $ lose ! 26 refl refl $ lose ! 24 refl refl $ lose-room ! 22 refl refl $ lose-room ! 20 refl refl $ lose-room ! 18 refl refl $ lose-room ! 16 refl refl $ lose-room ! 14 refl refl $ lose-room ! 12 refl refl $ lose-room ! 10 refl refl $ lose-room ! 8 refl refl $ free0 ! $
           keep ! (0 ∷ 2 ∷ 4 ∷ 6 ∷ 5 ∷ 7 ∷ []) $
           by ! (exits zl (long-zl ∙ long-vl) vr long-vr i g-i (promised vr vl is i zl counted))
 
-      go-2 : (vr : List ℕ) (vl : List ℕ) (is : (vr ≡ listed (endOf (xa .now) bias) n (xr .now)) × (vl ≡ listed (sizeOf (xa .now)) n (xl .now))) (long-vr : length vr ≡ length (xr .now)) (long-vl : length vl ≡ length (xl .now)) → ent 𝓤 (⋆ 𝓤 H A (Held (‵ (Lends.Own u32 (xl .ptr .0) (xl .ptr .1) (length (xl .now)) (named 0) κl (xl .name) vl)) (‵ (Lends.Own u32 (xr .ptr .0) (xr .ptr .1) (length (xr .now)) (named 0) κr (xr .name) vr)) (‵ (fat fullShare tyUnit l₁₀ 0 (vunit))) (‵ (froom word l₀ 0)))) (Wp 𝓤 H (𝓣 .C) (𝓣 .Λ) En mir.t-6 (atReturn 𝓤 H En Post))
+      go-2 : (vr : List ℕ) (vl : List ℕ) (is : (vr ≡ listed (endOf (xa .now) bias) n (xr .now)) × (vl ≡ listed (sizeOf (xa .now)) n (xl .now))) (long-vr : length vr ≡ length (xr .now)) (long-vl : length vl ≡ length (xl .now)) → Sq W (Held (‵ (Lends.Own u32 (xl .ptr .0) (xl .ptr .1) (length (xl .now)) (named 0) κl (xl .name) vl)) (‵ (Lends.Own u32 (xr .ptr .0) (xr .ptr .1) (length (xr .now)) (named 0) κr (xr .name) vr)) (‵ (fat fullShare tyUnit l₁₀ 0 (vunit))) (‵ (froom word l₀ 0))) (runs (𝓣 .C) (𝓣 .Λ) En mir.t-6 (atRet En Post))
       go-2 vr vl is long-vr long-vl =
-          qed W (Held (‵ (Lends.Own u32 (xl .ptr .0) (xl .ptr .1) (length (xl .now)) (named 0) κl (xl .name) vl)) (‵ (Lends.Own u32 (xr .ptr .0) (xr .ptr .1) (length (xr .now)) (named 0) κr (xr .name) vr)) (‵ (fat fullShare tyUnit l₁₀ 0 (vunit))) (‵ (froom word l₀ 0))) ∵ exec ! (𝓣 .C) (𝓣 .Λ) En mir.t-6 (atRet En Post) $
           assigns ! (addr ! (from ! (fld ! refl (hop ! (look-in ! 26 (sub ! 0 refl (whole !))) (stop !))))) (from ! (stop !)) (init ! 14 refl (tt, tt)) $
           assigns ! (agg ! (and-then ! (load ! (from ! (stop !)) (look ! 14 refl)) (and-then ! (load ! (from ! (fld ! refl (stop !))) (look-in ! 26 (sub ! 1 refl (whole !)))) (no-more !)))) (from ! (stop !)) (init ! 12 refl (tt, (tt, (record { fits = g-r .0 }, tt)))) $
           assigns ! (addr ! (from ! (fld ! refl (hop ! (look-in ! 28 (sub ! 0 refl (whole !))) (stop !))))) (from ! (stop !)) (init ! 10 refl (tt, tt)) $
@@ -147,11 +145,10 @@ module _ {M : Type 1} (𝓤 : URA M) (H : Heap 𝓤) (A : Atoms 𝓤) (W : Given
           land ! (from ! (stop !)) (init ! 44 refl (tt, record { fits = g-i })) $
           forget ! 14 refl $ forget ! 12 refl $ forget ! 10 refl $ forget ! 8 refl $
           keep ! (0 ∷ 1 ∷ 6 ∷ 7 ∷ 4 ∷ 5 ∷ 2 ∷ 3 ∷ 8 ∷ 9 ∷ 10 ∷ 11 ∷ 12 ∷ 13 ∷ 14 ∷ 15 ∷ 16 ∷ 17 ∷ 18 ∷ 19 ∷ 20 ∷ 21 ∷ 22 ∷ 23 ∷ 24 ∷ 25 ∷ 26 ∷ 27 ∷ 28 ∷ 29 ∷ 30 ∷ 31 ∷ 32 ∷ 33 ∷ 34 ∷ 35 ∷ 36 ∷ 37 ∷ 38 ∷ 39 ∷ 40 ∷ 41 ∷ 42 ∷ 43 ∷ 44 ∷ 45 ∷ []) $
-          by ! (go-3 vr vl is long-vr long-vl i zl counted g-i long-zl))
+          go-3 vr vl is long-vr long-vl i zl counted g-i long-zl)
 
-      go-1 : ent 𝓤 (⋆ 𝓤 H A (Held (‵ (Lends.Own u32 (xl .ptr .0) (xl .ptr .1) (length (xl .now)) (named 0) κl (xl .name) (xl .now))) (‵ (Lends.Own u32 (xr .ptr .0) (xr .ptr .1) (length (xr .now)) (named 0) κr (xr .name) (xr .now))) (‵ (froom tyUnit l₁₀ 0)) (‵ (froom word l₀ 0)))) (Wp 𝓤 H (𝓣 .C) (𝓣 .Λ) En mir.t-1 (atReturn 𝓤 H En Post))
+      go-1 : Sq W (Held (‵ (Lends.Own u32 (xl .ptr .0) (xl .ptr .1) (length (xl .now)) (named 0) κl (xl .name) (xl .now))) (‵ (Lends.Own u32 (xr .ptr .0) (xr .ptr .1) (length (xr .now)) (named 0) κr (xr .name) (xr .now))) (‵ (froom tyUnit l₁₀ 0)) (‵ (froom word l₀ 0))) (runs (𝓣 .C) (𝓣 .Λ) En mir.t-1 (atRet En Post))
       go-1 =
-          qed W (Held (‵ (Lends.Own u32 (xl .ptr .0) (xl .ptr .1) (length (xl .now)) (named 0) κl (xl .name) (xl .now))) (‵ (Lends.Own u32 (xr .ptr .0) (xr .ptr .1) (length (xr .now)) (named 0) κr (xr .name) (xr .now))) (‵ (froom tyUnit l₁₀ 0)) (‵ (froom word l₀ 0))) ∵ exec ! (𝓣 .C) (𝓣 .Λ) En mir.t-1 (atRet En Post) $
           assigns ! (addr ! (from ! (fld ! refl (hop ! (look-in ! 26 (sub ! 0 refl (whole !))) (stop !))))) (from ! (stop !)) (init ! 22 refl (tt, tt)) $
           assigns ! (agg ! (and-then ! (load ! (from ! (stop !)) (look ! 22 refl)) (and-then ! (load ! (from ! (fld ! refl (stop !))) (look-in ! 26 (sub ! 1 refl (whole !)))) (no-more !)))) (from ! (stop !)) (init ! 20 refl (tt, (tt, (record { fits = g-r .0 }, tt)))) $
           assigns ! (addr ! (from ! (fld ! refl (hop ! (look-in ! 28 (sub ! 0 refl (whole !))) (stop !))))) (from ! (stop !)) (init ! 18 refl (tt, tt)) $
@@ -161,7 +158,7 @@ module _ {M : Type 1} (𝓤 : URA M) (H : Heap 𝓤) (A : Atoms 𝓤) (W : Given
           land ! (from ! (stop !)) (init ! 24 refl (tt, tt)) $
           forget ! 22 refl $ forget ! 20 refl $ forget ! 18 refl $ forget ! 16 refl $
           keep ! (6 ∷ 7 ∷ 0 ∷ 1 ∷ 4 ∷ 5 ∷ 2 ∷ 3 ∷ 8 ∷ 9 ∷ 10 ∷ 11 ∷ 12 ∷ 13 ∷ 14 ∷ 15 ∷ 16 ∷ 17 ∷ 18 ∷ 19 ∷ 20 ∷ 21 ∷ 22 ∷ 23 ∷ 24 ∷ 25 ∷ 26 ∷ 27 ∷ 28 ∷ 29 ∷ 30 ∷ 31 ∷ 32 ∷ 33 ∷ 34 ∷ 35 ∷ 36 ∷ 37 ∷ 38 ∷ 39 ∷ 40 ∷ 41 ∷ 42 ∷ 43 ∷ 44 ∷ 45 ∷ []) $
-          by ! (go-2 vr vl is long-vr long-vl))
+          go-2 vr vl is long-vr long-vl)
 
       -- what is had at entry is taken apart
       abbrev At-first : List (Item 𝓤)
@@ -210,7 +207,7 @@ module _ {M : Type 1} (𝓤 : URA M) (H : Heap 𝓤) (A : Atoms 𝓤) (W : Given
           move ! (1 ∷ []) $
           drop ! $
           keep ! (7 ∷ 3 ∷ 6 ∷ 2 ∷ 5 ∷ 1 ∷ 4 ∷ 0 ∷ 8 ∷ 9 ∷ 10 ∷ 11 ∷ 12 ∷ 13 ∷ 14 ∷ 15 ∷ 16 ∷ 17 ∷ 18 ∷ 19 ∷ 20 ∷ 21 ∷ 22 ∷ 23 ∷ 24 ∷ 25 ∷ 26 ∷ 27 ∷ 28 ∷ 29 ∷ 30 ∷ 31 ∷ 32 ∷ 33 ∷ 34 ∷ 35 ∷ 36 ∷ 37 ∷ 38 ∷ 39 ∷ 40 ∷ 41 ∷ 42 ∷ 43 ∷ 44 ∷ 45 ∷ []) $
-          by ! go-1
+          go-1
 
       -- the locals are allocated, and the parameters are passed
       abbrev At-entry : List (Item 𝓤)

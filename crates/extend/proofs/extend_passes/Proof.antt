@@ -215,18 +215,16 @@ module _ {M : Type 1} (𝓤 : URA M) (H : Heap 𝓤) (A : Atoms 𝓤) (W : Given
           ∷ ‵ (fat fullShare word l₂ 0 (vint w64 w)) ∷ ‵ (fdies word l₂) ∷ ‵ (fat fullShare (sliceTy (tyRef (named 0) imm half)) l₁ 0 (sliceVal (xs .ptr) (length (xs .now)))) ∷ ‵ (fdies (sliceTy (tyRef (named 0) imm half)) l₁)
           ∷ ‵ (froom word l₀ 0) ∷ ‵ (fdies word l₀) ∷ []
 
-      go-9 : (n : ℕ) (ua : List Row) (ul : List ℕ) (woven : WovenAs (indexOf w d old (xf .now) (xc .now) (xh .now)) (xs .now) (xa .now) ua n) (g-n : n < 2 ^ 64) (long-ua : length ua ≡ length (xa .now)) (long-ul : length ul ≡ length (xl .now)) (i : ℕ) (vl : List ℕ) (vr : List ℕ) (counted : CountedAs (xs .now) w e bias old ua n ul (xr .now) i vl vr) (g-i : i < 2 ^ 64) (long-vl : length vl ≡ length ul) (long-vr : length vr ≡ length (xr .now)) (row : Row) (is-row : row ≡ (getD ua i zeroRow)) (g-row : Good row) (za : List Row) (wl : List ℕ) (laid : LaidBy (xs .now) w old row (xh .now) i ua n vl za) (long-za : length za ≡ length ua) (long-wl : length wl ≡ length vl) (kl : List ℕ) (kr : List ℕ) (copied : CopiedAs (xf .now) (xc .now) (xh .now) za n wl vr kl kr) (long-kl : length kl ≡ length wl) (long-kr : length kr ≡ length vr) (q : Row) (is-q : q ≡ (getD za i zeroRow)) (g-q : Good q) (t : Place) (jr : List ℕ) (joined : JoinedAt (xs .now) w e old (joinsOf (xs .now) w old row (xh .now)) q row kr t jr) (g-t : Is Pl.the-row t (low-place t ∷ [])) (long-jr : length jr ≡ length kr) (zl : List ℕ) (zr : List ℕ) (passed′ : Passed has (xs .now) w n kl jr zl zr) (long-zl : length zl ≡ length kl) (long-zr : length zr ≡ length jr) → ent 𝓤 (⋆ 𝓤 H A (Held (‵ (Lends.Own T.the-row (xa .ptr .0) (xa .ptr .1) (length (xa .now)) (named 0) κa (xa .name) za)) (‵ (Lends.Own u32 (xl .ptr .0) (xl .ptr .1) (length (xl .now)) (named 0) κl (xl .name) zl)) (‵ (Lends.Own u32 (xr .ptr .0) (xr .ptr .1) (length (xr .now)) (named 0) κr (xr .name) zr)) (‵ (fat fullShare tyUnit l₃₁ 0 (vunit))) (‵ (fat fullShare Pl′.mir l₁₈ 0 (low-place t))) (‵ (fat fullShare T′.mir l₁₇ 0 (low q))) (‵ (fat fullShare T′.mir l₁₆ 0 (low row))) (‵ (fat fullShare word l₁₅ 0 (vint w64 i))) (‵ (fat fullShare word l₁₄ 0 (vint w64 n))))) (Wp 𝓤 H (𝓣 .C) (𝓣 .Λ) En mir.t-41 (atReturn 𝓤 H En Post))
+      go-9 : (n : ℕ) (ua : List Row) (ul : List ℕ) (woven : WovenAs (indexOf w d old (xf .now) (xc .now) (xh .now)) (xs .now) (xa .now) ua n) (g-n : n < 2 ^ 64) (long-ua : length ua ≡ length (xa .now)) (long-ul : length ul ≡ length (xl .now)) (i : ℕ) (vl : List ℕ) (vr : List ℕ) (counted : CountedAs (xs .now) w e bias old ua n ul (xr .now) i vl vr) (g-i : i < 2 ^ 64) (long-vl : length vl ≡ length ul) (long-vr : length vr ≡ length (xr .now)) (row : Row) (is-row : row ≡ (getD ua i zeroRow)) (g-row : Good row) (za : List Row) (wl : List ℕ) (laid : LaidBy (xs .now) w old row (xh .now) i ua n vl za) (long-za : length za ≡ length ua) (long-wl : length wl ≡ length vl) (kl : List ℕ) (kr : List ℕ) (copied : CopiedAs (xf .now) (xc .now) (xh .now) za n wl vr kl kr) (long-kl : length kl ≡ length wl) (long-kr : length kr ≡ length vr) (q : Row) (is-q : q ≡ (getD za i zeroRow)) (g-q : Good q) (t : Place) (jr : List ℕ) (joined : JoinedAt (xs .now) w e old (joinsOf (xs .now) w old row (xh .now)) q row kr t jr) (g-t : Is Pl.the-row t (low-place t ∷ [])) (long-jr : length jr ≡ length kr) (zl : List ℕ) (zr : List ℕ) (passed′ : Passed has (xs .now) w n kl jr zl zr) (long-zl : length zl ≡ length kl) (long-zr : length zr ≡ length jr) → Sq W (Held (‵ (Lends.Own T.the-row (xa .ptr .0) (xa .ptr .1) (length (xa .now)) (named 0) κa (xa .name) za)) (‵ (Lends.Own u32 (xl .ptr .0) (xl .ptr .1) (length (xl .now)) (named 0) κl (xl .name) zl)) (‵ (Lends.Own u32 (xr .ptr .0) (xr .ptr .1) (length (xr .now)) (named 0) κr (xr .name) zr)) (‵ (fat fullShare tyUnit l₃₁ 0 (vunit))) (‵ (fat fullShare Pl′.mir l₁₈ 0 (low-place t))) (‵ (fat fullShare T′.mir l₁₇ 0 (low q))) (‵ (fat fullShare T′.mir l₁₆ 0 (low row))) (‵ (fat fullShare word l₁₅ 0 (vint w64 i))) (‵ (fat fullShare word l₁₄ 0 (vint w64 n)))) (runs (𝓣 .C) (𝓣 .Λ) En mir.t-41 (atRet En Post))
       go-9 n ua ul woven g-n long-ua long-ul i vl vr counted g-i long-vl long-vr row is-row g-row za wl laid long-za long-wl kl kr copied long-kl long-kr q is-q g-q t jr joined g-t long-jr zl zr passed′ long-zl long-zr =
-          qed W (Held (‵ (Lends.Own T.the-row (xa .ptr .0) (xa .ptr .1) (length (xa .now)) (named 0) κa (xa .name) za)) (‵ (Lends.Own u32 (xl .ptr .0) (xl .ptr .1) (length (xl .now)) (named 0) κl (xl .name) zl)) (‵ (Lends.Own u32 (xr .ptr .0) (xr .ptr .1) (length (xr .now)) (named 0) κr (xr .name) zr)) (‵ (fat fullShare tyUnit l₃₁ 0 (vunit))) (‵ (fat fullShare Pl′.mir l₁₈ 0 (low-place t))) (‵ (fat fullShare T′.mir l₁₇ 0 (low q))) (‵ (fat fullShare T′.mir l₁₆ 0 (low row))) (‵ (fat fullShare word l₁₅ 0 (vint w64 i))) (‵ (fat fullShare word l₁₄ 0 (vint w64 n)))) ∵ exec ! (𝓣 .C) (𝓣 .Λ) En mir.t-41 (atRet En Post) $
           assigns ! (of-opd ! (load ! (from ! (stop !)) (look ! 88 refl))) (from ! (stop !)) (init ! 116 refl (tt, record { fits = g-n })) $
           returns ! (look ! 116 refl) $
           lose ! 116 refl refl $ lose ! 114 refl refl $ lose ! 112 refl refl $ lose ! 110 refl refl $ lose ! 108 refl refl $ lose ! 106 refl refl $ lose ! 104 refl refl $ lose ! 102 refl refl $ lose ! 100 refl refl $ lose ! 98 refl refl $ lose ! 96 refl refl $ lose ! 94 refl refl $ lose ! 92 refl refl $ lose ! 90 refl refl $ lose ! 88 refl refl $ lose ! 86 refl refl $ lose ! 84 refl refl $ lose ! 82 refl refl $ lose ! 80 refl refl $ lose-room ! 78 refl refl $ lose-room ! 76 refl refl $ lose-room ! 74 refl refl $ lose-room ! 72 refl refl $ lose-room ! 70 refl refl $ lose-room ! 68 refl refl $ lose-room ! 66 refl refl $ lose-room ! 64 refl refl $ lose-room ! 62 refl refl $ lose-room ! 60 refl refl $ lose-room ! 58 refl refl $ lose-room ! 56 refl refl $ lose ! 54 refl refl $ lose-room ! 52 refl refl $ lose-room ! 50 refl refl $ lose-room ! 48 refl refl $ lose-room ! 46 refl refl $ lose-room ! 44 refl refl $ lose-room ! 42 refl refl $ lose-room ! 40 refl refl $ lose-room ! 38 refl refl $ lose-room ! 36 refl refl $ lose-room ! 34 refl refl $ lose-room ! 32 refl refl $ lose-room ! 30 refl refl $ lose-room ! 28 refl refl $ lose-room ! 26 refl refl $ lose-room ! 24 refl refl $ lose-room ! 22 refl refl $ lose-room ! 20 refl refl $ lose-room ! 18 refl refl $ lose-room ! 16 refl refl $ lose-room ! 14 refl refl $ free0 ! $
           keep ! (0 ∷ 2 ∷ 4 ∷ 6 ∷ 8 ∷ 10 ∷ 12 ∷ 9 ∷ 11 ∷ 13 ∷ []) $
           by ! (exits za (long-za ∙ long-ua) zl (long-zl ∙ long-kl ∙ long-wl ∙ long-vl ∙ long-ul) zr (long-zr ∙ long-jr ∙ long-kr ∙ long-vr) n g-n (promised n ua ul woven long-ul i vl vr counted long-vr row is-row za laid wl (long-wl ∙ long-vl ∙ long-ul) kl kr copied q is-q t jr joined zl zr passed′))
 
-      go-8 : (n : ℕ) (ua : List Row) (ul : List ℕ) (woven : WovenAs (indexOf w d old (xf .now) (xc .now) (xh .now)) (xs .now) (xa .now) ua n) (g-n : n < 2 ^ 64) (long-ua : length ua ≡ length (xa .now)) (long-ul : length ul ≡ length (xl .now)) (i : ℕ) (vl : List ℕ) (vr : List ℕ) (counted : CountedAs (xs .now) w e bias old ua n ul (xr .now) i vl vr) (g-i : i < 2 ^ 64) (long-vl : length vl ≡ length ul) (long-vr : length vr ≡ length (xr .now)) (row : Row) (is-row : row ≡ (getD ua i zeroRow)) (g-row : Good row) (za : List Row) (wl : List ℕ) (laid : LaidBy (xs .now) w old row (xh .now) i ua n vl za) (long-za : length za ≡ length ua) (long-wl : length wl ≡ length vl) (kl : List ℕ) (kr : List ℕ) (copied : CopiedAs (xf .now) (xc .now) (xh .now) za n wl vr kl kr) (long-kl : length kl ≡ length wl) (long-kr : length kr ≡ length vr) (q : Row) (is-q : q ≡ (getD za i zeroRow)) (g-q : Good q) (t : Place) (jr : List ℕ) (joined : JoinedAt (xs .now) w e old (joinsOf (xs .now) w old row (xh .now)) q row kr t jr) (g-t : Is Pl.the-row t (low-place t ∷ [])) (long-jr : length jr ≡ length kr) → ent 𝓤 (⋆ 𝓤 H A (Held (‵ (Lends.Own T.the-row (xa .ptr .0) (xa .ptr .1) (length (xa .now)) (named 0) κa (xa .name) za)) (‵ (Lends.Own u32 (xl .ptr .0) (xl .ptr .1) (length (xl .now)) (named 0) κl (xl .name) kl)) (‵ (Lends.Own u32 (xr .ptr .0) (xr .ptr .1) (length (xr .now)) (named 0) κr (xr .name) jr)) (‵ (fat fullShare tyUnit l₃₁ 0 (vunit))) (‵ (fat fullShare Pl′.mir l₁₈ 0 (low-place t))) (‵ (fat fullShare T′.mir l₁₇ 0 (low q))) (‵ (fat fullShare T′.mir l₁₆ 0 (low row))) (‵ (fat fullShare word l₁₅ 0 (vint w64 i))) (‵ (fat fullShare word l₁₄ 0 (vint w64 n))))) (Wp 𝓤 H (𝓣 .C) (𝓣 .Λ) En mir.t-34 (atReturn 𝓤 H En Post))
+      go-8 : (n : ℕ) (ua : List Row) (ul : List ℕ) (woven : WovenAs (indexOf w d old (xf .now) (xc .now) (xh .now)) (xs .now) (xa .now) ua n) (g-n : n < 2 ^ 64) (long-ua : length ua ≡ length (xa .now)) (long-ul : length ul ≡ length (xl .now)) (i : ℕ) (vl : List ℕ) (vr : List ℕ) (counted : CountedAs (xs .now) w e bias old ua n ul (xr .now) i vl vr) (g-i : i < 2 ^ 64) (long-vl : length vl ≡ length ul) (long-vr : length vr ≡ length (xr .now)) (row : Row) (is-row : row ≡ (getD ua i zeroRow)) (g-row : Good row) (za : List Row) (wl : List ℕ) (laid : LaidBy (xs .now) w old row (xh .now) i ua n vl za) (long-za : length za ≡ length ua) (long-wl : length wl ≡ length vl) (kl : List ℕ) (kr : List ℕ) (copied : CopiedAs (xf .now) (xc .now) (xh .now) za n wl vr kl kr) (long-kl : length kl ≡ length wl) (long-kr : length kr ≡ length vr) (q : Row) (is-q : q ≡ (getD za i zeroRow)) (g-q : Good q) (t : Place) (jr : List ℕ) (joined : JoinedAt (xs .now) w e old (joinsOf (xs .now) w old row (xh .now)) q row kr t jr) (g-t : Is Pl.the-row t (low-place t ∷ [])) (long-jr : length jr ≡ length kr) → Sq W (Held (‵ (Lends.Own T.the-row (xa .ptr .0) (xa .ptr .1) (length (xa .now)) (named 0) κa (xa .name) za)) (‵ (Lends.Own u32 (xl .ptr .0) (xl .ptr .1) (length (xl .now)) (named 0) κl (xl .name) kl)) (‵ (Lends.Own u32 (xr .ptr .0) (xr .ptr .1) (length (xr .now)) (named 0) κr (xr .name) jr)) (‵ (fat fullShare tyUnit l₃₁ 0 (vunit))) (‵ (fat fullShare Pl′.mir l₁₈ 0 (low-place t))) (‵ (fat fullShare T′.mir l₁₇ 0 (low q))) (‵ (fat fullShare T′.mir l₁₆ 0 (low row))) (‵ (fat fullShare word l₁₅ 0 (vint w64 i))) (‵ (fat fullShare word l₁₄ 0 (vint w64 n)))) (runs (𝓣 .C) (𝓣 .Λ) En mir.t-34 (atRet En Post))
       go-8 n ua ul woven g-n long-ua long-ul i vl vr counted g-i long-vl long-vr row is-row g-row za wl laid long-za long-wl kl kr copied long-kl long-kr q is-q g-q t jr joined g-t long-jr =
-          qed W (Held (‵ (Lends.Own T.the-row (xa .ptr .0) (xa .ptr .1) (length (xa .now)) (named 0) κa (xa .name) za)) (‵ (Lends.Own u32 (xl .ptr .0) (xl .ptr .1) (length (xl .now)) (named 0) κl (xl .name) kl)) (‵ (Lends.Own u32 (xr .ptr .0) (xr .ptr .1) (length (xr .now)) (named 0) κr (xr .name) jr)) (‵ (fat fullShare tyUnit l₃₁ 0 (vunit))) (‵ (fat fullShare Pl′.mir l₁₈ 0 (low-place t))) (‵ (fat fullShare T′.mir l₁₇ 0 (low q))) (‵ (fat fullShare T′.mir l₁₆ 0 (low row))) (‵ (fat fullShare word l₁₅ 0 (vint w64 i))) (‵ (fat fullShare word l₁₄ 0 (vint w64 n)))) ∵ exec ! (𝓣 .C) (𝓣 .Λ) En mir.t-34 (atRet En Post) $
           assigns ! (addr ! (from ! (fld ! refl (hop ! (look-in ! 94 (sub ! 0 refl (whole !))) (stop !))))) (from ! (stop !)) (init ! 24 refl (tt, tt)) $
           assigns ! (agg ! (and-then ! (load ! (from ! (stop !)) (look ! 24 refl)) (and-then ! (load ! (from ! (fld ! refl (stop !))) (look-in ! 94 (sub ! 1 refl (whole !)))) (no-more !)))) (from ! (stop !)) (init ! 22 refl (tt, (tt, (record { fits = g-a .0 }, tt)))) $
           assigns ! (addr ! (from ! (fld ! refl (hop ! (look-in ! 92 (sub ! 0 refl (whole !))) (stop !))))) (from ! (stop !)) (init ! 20 refl (tt, tt)) $
@@ -238,11 +236,10 @@ module _ {M : Type 1} (𝓤 : URA M) (H : Heap 𝓤) (A : Atoms 𝓤) (W : Given
           land ! (from ! (stop !)) (store ! 54 refl (tt, tt)) $
           forget ! 24 refl $ forget ! 22 refl $ forget ! 20 refl $ forget ! 18 refl $ forget ! 16 refl $ forget ! 14 refl $
           keep ! (0 ∷ 1 ∷ 8 ∷ 9 ∷ 10 ∷ 11 ∷ 12 ∷ 13 ∷ 2 ∷ 3 ∷ 4 ∷ 5 ∷ 6 ∷ 7 ∷ 14 ∷ 15 ∷ 16 ∷ 17 ∷ 18 ∷ 19 ∷ 20 ∷ 21 ∷ 22 ∷ 23 ∷ 24 ∷ 25 ∷ 26 ∷ 27 ∷ 28 ∷ 29 ∷ 30 ∷ 31 ∷ 32 ∷ 33 ∷ 34 ∷ 35 ∷ 36 ∷ 37 ∷ 38 ∷ 39 ∷ 40 ∷ 41 ∷ 42 ∷ 43 ∷ 44 ∷ 45 ∷ 46 ∷ 47 ∷ 48 ∷ 49 ∷ 50 ∷ 51 ∷ 52 ∷ 53 ∷ 54 ∷ 55 ∷ 56 ∷ 57 ∷ 58 ∷ 59 ∷ 60 ∷ 61 ∷ 62 ∷ 63 ∷ 64 ∷ 65 ∷ 66 ∷ 67 ∷ 68 ∷ 69 ∷ 70 ∷ 71 ∷ 72 ∷ 73 ∷ 74 ∷ 75 ∷ 76 ∷ 77 ∷ 78 ∷ 79 ∷ 80 ∷ 81 ∷ 82 ∷ 83 ∷ 84 ∷ 85 ∷ 86 ∷ 87 ∷ 88 ∷ 89 ∷ 90 ∷ 91 ∷ 92 ∷ 93 ∷ 94 ∷ 95 ∷ 96 ∷ 97 ∷ 98 ∷ 99 ∷ 100 ∷ 101 ∷ 102 ∷ 103 ∷ 104 ∷ 105 ∷ 106 ∷ 107 ∷ 108 ∷ 109 ∷ 110 ∷ 111 ∷ 112 ∷ 113 ∷ 114 ∷ 115 ∷ 116 ∷ 117 ∷ []) $
-          by ! (go-9 n ua ul woven g-n long-ua long-ul i vl vr counted g-i long-vl long-vr row is-row g-row za wl laid long-za long-wl kl kr copied long-kl long-kr q is-q g-q t jr joined g-t long-jr zl zr passed′ long-zl long-zr))
+          go-9 n ua ul woven g-n long-ua long-ul i vl vr counted g-i long-vl long-vr row is-row g-row za wl laid long-za long-wl kl kr copied long-kl long-kr q is-q g-q t jr joined g-t long-jr zl zr passed′ long-zl long-zr)
 
-      go-7 : (n : ℕ) (ua : List Row) (ul : List ℕ) (woven : WovenAs (indexOf w d old (xf .now) (xc .now) (xh .now)) (xs .now) (xa .now) ua n) (g-n : n < 2 ^ 64) (long-ua : length ua ≡ length (xa .now)) (long-ul : length ul ≡ length (xl .now)) (i : ℕ) (vl : List ℕ) (vr : List ℕ) (counted : CountedAs (xs .now) w e bias old ua n ul (xr .now) i vl vr) (g-i : i < 2 ^ 64) (long-vl : length vl ≡ length ul) (long-vr : length vr ≡ length (xr .now)) (row : Row) (is-row : row ≡ (getD ua i zeroRow)) (g-row : Good row) (za : List Row) (wl : List ℕ) (laid : LaidBy (xs .now) w old row (xh .now) i ua n vl za) (long-za : length za ≡ length ua) (long-wl : length wl ≡ length vl) (kl : List ℕ) (kr : List ℕ) (copied : CopiedAs (xf .now) (xc .now) (xh .now) za n wl vr kl kr) (long-kl : length kl ≡ length wl) (long-kr : length kr ≡ length vr) (q : Row) (is-q : q ≡ (getD za i zeroRow)) (g-q : Good q) → ent 𝓤 (⋆ 𝓤 H A (Held (‵ (Lends.Own T.the-row (xa .ptr .0) (xa .ptr .1) (length (xa .now)) (named 0) κa (xa .name) za)) (‵ (Lends.Own u32 (xl .ptr .0) (xl .ptr .1) (length (xl .now)) (named 0) κl (xl .name) kl)) (‵ (Lends.Own u32 (xr .ptr .0) (xr .ptr .1) (length (xr .now)) (named 0) κr (xr .name) kr)) (‵ (fat fullShare tyUnit l₃₁ 0 (vunit))) (‵ (froom Pl′.mir l₁₈ 0)) (‵ (fat fullShare T′.mir l₁₇ 0 (low q))) (‵ (fat fullShare T′.mir l₁₆ 0 (low row))) (‵ (fat fullShare word l₁₅ 0 (vint w64 i))) (‵ (fat fullShare word l₁₄ 0 (vint w64 n))))) (Wp 𝓤 H (𝓣 .C) (𝓣 .Λ) En mir.t-31 (atReturn 𝓤 H En Post))
+      go-7 : (n : ℕ) (ua : List Row) (ul : List ℕ) (woven : WovenAs (indexOf w d old (xf .now) (xc .now) (xh .now)) (xs .now) (xa .now) ua n) (g-n : n < 2 ^ 64) (long-ua : length ua ≡ length (xa .now)) (long-ul : length ul ≡ length (xl .now)) (i : ℕ) (vl : List ℕ) (vr : List ℕ) (counted : CountedAs (xs .now) w e bias old ua n ul (xr .now) i vl vr) (g-i : i < 2 ^ 64) (long-vl : length vl ≡ length ul) (long-vr : length vr ≡ length (xr .now)) (row : Row) (is-row : row ≡ (getD ua i zeroRow)) (g-row : Good row) (za : List Row) (wl : List ℕ) (laid : LaidBy (xs .now) w old row (xh .now) i ua n vl za) (long-za : length za ≡ length ua) (long-wl : length wl ≡ length vl) (kl : List ℕ) (kr : List ℕ) (copied : CopiedAs (xf .now) (xc .now) (xh .now) za n wl vr kl kr) (long-kl : length kl ≡ length wl) (long-kr : length kr ≡ length vr) (q : Row) (is-q : q ≡ (getD za i zeroRow)) (g-q : Good q) → Sq W (Held (‵ (Lends.Own T.the-row (xa .ptr .0) (xa .ptr .1) (length (xa .now)) (named 0) κa (xa .name) za)) (‵ (Lends.Own u32 (xl .ptr .0) (xl .ptr .1) (length (xl .now)) (named 0) κl (xl .name) kl)) (‵ (Lends.Own u32 (xr .ptr .0) (xr .ptr .1) (length (xr .now)) (named 0) κr (xr .name) kr)) (‵ (fat fullShare tyUnit l₃₁ 0 (vunit))) (‵ (froom Pl′.mir l₁₈ 0)) (‵ (fat fullShare T′.mir l₁₇ 0 (low q))) (‵ (fat fullShare T′.mir l₁₆ 0 (low row))) (‵ (fat fullShare word l₁₅ 0 (vint w64 i))) (‵ (fat fullShare word l₁₄ 0 (vint w64 n)))) (runs (𝓣 .C) (𝓣 .Λ) En mir.t-31 (atRet En Post))
       go-7 n ua ul woven g-n long-ua long-ul i vl vr counted g-i long-vl long-vr row is-row g-row za wl laid long-za long-wl kl kr copied long-kl long-kr q is-q g-q =
-          qed W (Held (‵ (Lends.Own T.the-row (xa .ptr .0) (xa .ptr .1) (length (xa .now)) (named 0) κa (xa .name) za)) (‵ (Lends.Own u32 (xl .ptr .0) (xl .ptr .1) (length (xl .now)) (named 0) κl (xl .name) kl)) (‵ (Lends.Own u32 (xr .ptr .0) (xr .ptr .1) (length (xr .now)) (named 0) κr (xr .name) kr)) (‵ (fat fullShare tyUnit l₃₁ 0 (vunit))) (‵ (froom Pl′.mir l₁₈ 0)) (‵ (fat fullShare T′.mir l₁₇ 0 (low q))) (‵ (fat fullShare T′.mir l₁₆ 0 (low row))) (‵ (fat fullShare word l₁₅ 0 (vint w64 i))) (‵ (fat fullShare word l₁₄ 0 (vint w64 n)))) ∵ exec ! (𝓣 .C) (𝓣 .Λ) En mir.t-31 (atRet En Post) $
           assigns ! (addr ! (from ! (fld ! refl (hop ! (look-in ! 90 (sub ! 0 refl (whole !))) (stop !))))) (from ! (stop !)) (init ! 28 refl (tt, tt)) $
           assigns ! (agg ! (and-then ! (load ! (from ! (stop !)) (look ! 28 refl)) (and-then ! (load ! (from ! (fld ! refl (stop !))) (look-in ! 90 (sub ! 1 refl (whole !)))) (no-more !)))) (from ! (stop !)) (init ! 26 refl (tt, (tt, (record { fits = g-r .0 }, tt)))) $
           move ! (0 ∷ 1 ∷ 6 ∷ 7 ∷ 12 ∷ 13 ∷ []) $
@@ -250,11 +247,10 @@ module _ {M : Type 1} (𝓤 : URA M) (H : Heap 𝓤) (A : Atoms 𝓤) (W : Given
           land ! (from ! (stop !)) (init ! 80 refl (LL.lawful Pl.the-type Pl′.the-laws 𝓤 H A W .typed t _ g-t .0)) $
           forget ! 28 refl $ forget ! 26 refl $
           keep ! (0 ∷ 1 ∷ 6 ∷ 7 ∷ 8 ∷ 9 ∷ 2 ∷ 3 ∷ 10 ∷ 11 ∷ 12 ∷ 13 ∷ 4 ∷ 5 ∷ 14 ∷ 15 ∷ 16 ∷ 17 ∷ 18 ∷ 19 ∷ 20 ∷ 21 ∷ 22 ∷ 23 ∷ 24 ∷ 25 ∷ 26 ∷ 27 ∷ 28 ∷ 29 ∷ 30 ∷ 31 ∷ 32 ∷ 33 ∷ 34 ∷ 35 ∷ 36 ∷ 37 ∷ 38 ∷ 39 ∷ 40 ∷ 41 ∷ 42 ∷ 43 ∷ 44 ∷ 45 ∷ 46 ∷ 47 ∷ 48 ∷ 49 ∷ 50 ∷ 51 ∷ 52 ∷ 53 ∷ 54 ∷ 55 ∷ 56 ∷ 57 ∷ 58 ∷ 59 ∷ 60 ∷ 61 ∷ 62 ∷ 63 ∷ 64 ∷ 65 ∷ 66 ∷ 67 ∷ 68 ∷ 69 ∷ 70 ∷ 71 ∷ 72 ∷ 73 ∷ 74 ∷ 75 ∷ 76 ∷ 77 ∷ 78 ∷ 79 ∷ 80 ∷ 81 ∷ 82 ∷ 83 ∷ 84 ∷ 85 ∷ 86 ∷ 87 ∷ 88 ∷ 89 ∷ 90 ∷ 91 ∷ 92 ∷ 93 ∷ 94 ∷ 95 ∷ 96 ∷ 97 ∷ 98 ∷ 99 ∷ 100 ∷ 101 ∷ 102 ∷ 103 ∷ 104 ∷ 105 ∷ 106 ∷ 107 ∷ 108 ∷ 109 ∷ 110 ∷ 111 ∷ 112 ∷ 113 ∷ 114 ∷ 115 ∷ 116 ∷ 117 ∷ []) $
-          by ! (go-8 n ua ul woven g-n long-ua long-ul i vl vr counted g-i long-vl long-vr row is-row g-row za wl laid long-za long-wl kl kr copied long-kl long-kr q is-q g-q t jr joined g-t long-jr))
+          go-8 n ua ul woven g-n long-ua long-ul i vl vr counted g-i long-vl long-vr row is-row g-row za wl laid long-za long-wl kl kr copied long-kl long-kr q is-q g-q t jr joined g-t long-jr)
 
-      go-6 : (n : ℕ) (ua : List Row) (ul : List ℕ) (woven : WovenAs (indexOf w d old (xf .now) (xc .now) (xh .now)) (xs .now) (xa .now) ua n) (g-n : n < 2 ^ 64) (long-ua : length ua ≡ length (xa .now)) (long-ul : length ul ≡ length (xl .now)) (i : ℕ) (vl : List ℕ) (vr : List ℕ) (counted : CountedAs (xs .now) w e bias old ua n ul (xr .now) i vl vr) (g-i : i < 2 ^ 64) (long-vl : length vl ≡ length ul) (long-vr : length vr ≡ length (xr .now)) (row : Row) (is-row : row ≡ (getD ua i zeroRow)) (g-row : Good row) (za : List Row) (wl : List ℕ) (laid : LaidBy (xs .now) w old row (xh .now) i ua n vl za) (long-za : length za ≡ length ua) (long-wl : length wl ≡ length vl) (kl : List ℕ) (kr : List ℕ) (copied : CopiedAs (xf .now) (xc .now) (xh .now) za n wl vr kl kr) (long-kl : length kl ≡ length wl) (long-kr : length kr ≡ length vr) → ent 𝓤 (⋆ 𝓤 H A (Held (‵ (Lends.Own T.the-row (xa .ptr .0) (xa .ptr .1) (length (xa .now)) (named 0) κa (xa .name) za)) (‵ (Lends.Own u32 (xl .ptr .0) (xl .ptr .1) (length (xl .now)) (named 0) κl (xl .name) kl)) (‵ (Lends.Own u32 (xr .ptr .0) (xr .ptr .1) (length (xr .now)) (named 0) κr (xr .name) kr)) (‵ (fat fullShare tyUnit l₃₁ 0 (vunit))) (‵ (froom Pl′.mir l₁₈ 0)) (‵ (froom T′.mir l₁₇ 0)) (‵ (fat fullShare T′.mir l₁₆ 0 (low row))) (‵ (fat fullShare word l₁₅ 0 (vint w64 i))) (‵ (fat fullShare word l₁₄ 0 (vint w64 n))))) (Wp 𝓤 H (𝓣 .C) (𝓣 .Λ) En mir.t-28 (atReturn 𝓤 H En Post))
+      go-6 : (n : ℕ) (ua : List Row) (ul : List ℕ) (woven : WovenAs (indexOf w d old (xf .now) (xc .now) (xh .now)) (xs .now) (xa .now) ua n) (g-n : n < 2 ^ 64) (long-ua : length ua ≡ length (xa .now)) (long-ul : length ul ≡ length (xl .now)) (i : ℕ) (vl : List ℕ) (vr : List ℕ) (counted : CountedAs (xs .now) w e bias old ua n ul (xr .now) i vl vr) (g-i : i < 2 ^ 64) (long-vl : length vl ≡ length ul) (long-vr : length vr ≡ length (xr .now)) (row : Row) (is-row : row ≡ (getD ua i zeroRow)) (g-row : Good row) (za : List Row) (wl : List ℕ) (laid : LaidBy (xs .now) w old row (xh .now) i ua n vl za) (long-za : length za ≡ length ua) (long-wl : length wl ≡ length vl) (kl : List ℕ) (kr : List ℕ) (copied : CopiedAs (xf .now) (xc .now) (xh .now) za n wl vr kl kr) (long-kl : length kl ≡ length wl) (long-kr : length kr ≡ length vr) → Sq W (Held (‵ (Lends.Own T.the-row (xa .ptr .0) (xa .ptr .1) (length (xa .now)) (named 0) κa (xa .name) za)) (‵ (Lends.Own u32 (xl .ptr .0) (xl .ptr .1) (length (xl .now)) (named 0) κl (xl .name) kl)) (‵ (Lends.Own u32 (xr .ptr .0) (xr .ptr .1) (length (xr .now)) (named 0) κr (xr .name) kr)) (‵ (fat fullShare tyUnit l₃₁ 0 (vunit))) (‵ (froom Pl′.mir l₁₈ 0)) (‵ (froom T′.mir l₁₇ 0)) (‵ (fat fullShare T′.mir l₁₆ 0 (low row))) (‵ (fat fullShare word l₁₅ 0 (vint w64 i))) (‵ (fat fullShare word l₁₄ 0 (vint w64 n)))) (runs (𝓣 .C) (𝓣 .Λ) En mir.t-28 (atRet En Post))
       go-6 n ua ul woven g-n long-ua long-ul i vl vr counted g-i long-vl long-vr row is-row g-row za wl laid long-za long-wl kl kr copied long-kl long-kr =
-          qed W (Held (‵ (Lends.Own T.the-row (xa .ptr .0) (xa .ptr .1) (length (xa .now)) (named 0) κa (xa .name) za)) (‵ (Lends.Own u32 (xl .ptr .0) (xl .ptr .1) (length (xl .now)) (named 0) κl (xl .name) kl)) (‵ (Lends.Own u32 (xr .ptr .0) (xr .ptr .1) (length (xr .now)) (named 0) κr (xr .name) kr)) (‵ (fat fullShare tyUnit l₃₁ 0 (vunit))) (‵ (froom Pl′.mir l₁₈ 0)) (‵ (froom T′.mir l₁₇ 0)) (‵ (fat fullShare T′.mir l₁₆ 0 (low row))) (‵ (fat fullShare word l₁₅ 0 (vint w64 i))) (‵ (fat fullShare word l₁₄ 0 (vint w64 n)))) ∵ exec ! (𝓣 .C) (𝓣 .Λ) En mir.t-28 (atRet En Post) $
           assigns ! (addr ! (from ! (fld ! refl (hop ! (look-in ! 94 (sub ! 0 refl (whole !))) (stop !))))) (from ! (stop !)) (init ! 32 refl (tt, tt)) $
           assigns ! (agg ! (and-then ! (load ! (from ! (stop !)) (look ! 32 refl)) (and-then ! (load ! (from ! (fld ! refl (stop !))) (look-in ! 94 (sub ! 1 refl (whole !)))) (no-more !)))) (from ! (stop !)) (init ! 30 refl (tt, (tt, (record { fits = g-a .0 }, tt)))) $
           move ! (8 ∷ 9 ∷ []) $
@@ -262,11 +258,10 @@ module _ {M : Type 1} (𝓤 : URA M) (H : Heap 𝓤) (A : Atoms 𝓤) (W : Given
           land ! (from ! (stop !)) (init ! 82 refl (LL.lawful T.the-type T′.the-laws 𝓤 H A W .typed q _ g-q .0)) $
           forget ! 32 refl $ forget ! 30 refl $
           keep ! (2 ∷ 3 ∷ 4 ∷ 5 ∷ 6 ∷ 7 ∷ 8 ∷ 9 ∷ 0 ∷ 1 ∷ 10 ∷ 11 ∷ 12 ∷ 13 ∷ 14 ∷ 15 ∷ 16 ∷ 17 ∷ 18 ∷ 19 ∷ 20 ∷ 21 ∷ 22 ∷ 23 ∷ 24 ∷ 25 ∷ 26 ∷ 27 ∷ 28 ∷ 29 ∷ 30 ∷ 31 ∷ 32 ∷ 33 ∷ 34 ∷ 35 ∷ 36 ∷ 37 ∷ 38 ∷ 39 ∷ 40 ∷ 41 ∷ 42 ∷ 43 ∷ 44 ∷ 45 ∷ 46 ∷ 47 ∷ 48 ∷ 49 ∷ 50 ∷ 51 ∷ 52 ∷ 53 ∷ 54 ∷ 55 ∷ 56 ∷ 57 ∷ 58 ∷ 59 ∷ 60 ∷ 61 ∷ 62 ∷ 63 ∷ 64 ∷ 65 ∷ 66 ∷ 67 ∷ 68 ∷ 69 ∷ 70 ∷ 71 ∷ 72 ∷ 73 ∷ 74 ∷ 75 ∷ 76 ∷ 77 ∷ 78 ∷ 79 ∷ 80 ∷ 81 ∷ 82 ∷ 83 ∷ 84 ∷ 85 ∷ 86 ∷ 87 ∷ 88 ∷ 89 ∷ 90 ∷ 91 ∷ 92 ∷ 93 ∷ 94 ∷ 95 ∷ 96 ∷ 97 ∷ 98 ∷ 99 ∷ 100 ∷ 101 ∷ 102 ∷ 103 ∷ 104 ∷ 105 ∷ 106 ∷ 107 ∷ 108 ∷ 109 ∷ 110 ∷ 111 ∷ 112 ∷ 113 ∷ 114 ∷ 115 ∷ 116 ∷ 117 ∷ []) $
-          by ! (go-7 n ua ul woven g-n long-ua long-ul i vl vr counted g-i long-vl long-vr row is-row g-row za wl laid long-za long-wl kl kr copied long-kl long-kr q is-q g-q))
+          go-7 n ua ul woven g-n long-ua long-ul i vl vr counted g-i long-vl long-vr row is-row g-row za wl laid long-za long-wl kl kr copied long-kl long-kr q is-q g-q)
 
-      go-5 : (n : ℕ) (ua : List Row) (ul : List ℕ) (woven : WovenAs (indexOf w d old (xf .now) (xc .now) (xh .now)) (xs .now) (xa .now) ua n) (g-n : n < 2 ^ 64) (long-ua : length ua ≡ length (xa .now)) (long-ul : length ul ≡ length (xl .now)) (i : ℕ) (vl : List ℕ) (vr : List ℕ) (counted : CountedAs (xs .now) w e bias old ua n ul (xr .now) i vl vr) (g-i : i < 2 ^ 64) (long-vl : length vl ≡ length ul) (long-vr : length vr ≡ length (xr .now)) (row : Row) (is-row : row ≡ (getD ua i zeroRow)) (g-row : Good row) (za : List Row) (wl : List ℕ) (laid : LaidBy (xs .now) w old row (xh .now) i ua n vl za) (long-za : length za ≡ length ua) (long-wl : length wl ≡ length vl) → ent 𝓤 (⋆ 𝓤 H A (Held (‵ (Lends.Own T.the-row (xa .ptr .0) (xa .ptr .1) (length (xa .now)) (named 0) κa (xa .name) za)) (‵ (Lends.Own u32 (xl .ptr .0) (xl .ptr .1) (length (xl .now)) (named 0) κl (xl .name) wl)) (‵ (Lends.Own u32 (xr .ptr .0) (xr .ptr .1) (length (xr .now)) (named 0) κr (xr .name) vr)) (‵ (fat fullShare tyUnit l₃₁ 0 (vunit))) (‵ (froom Pl′.mir l₁₈ 0)) (‵ (froom T′.mir l₁₇ 0)) (‵ (fat fullShare T′.mir l₁₆ 0 (low row))) (‵ (fat fullShare word l₁₅ 0 (vint w64 i))) (‵ (fat fullShare word l₁₄ 0 (vint w64 n))))) (Wp 𝓤 H (𝓣 .C) (𝓣 .Λ) En mir.t-21 (atReturn 𝓤 H En Post))
+      go-5 : (n : ℕ) (ua : List Row) (ul : List ℕ) (woven : WovenAs (indexOf w d old (xf .now) (xc .now) (xh .now)) (xs .now) (xa .now) ua n) (g-n : n < 2 ^ 64) (long-ua : length ua ≡ length (xa .now)) (long-ul : length ul ≡ length (xl .now)) (i : ℕ) (vl : List ℕ) (vr : List ℕ) (counted : CountedAs (xs .now) w e bias old ua n ul (xr .now) i vl vr) (g-i : i < 2 ^ 64) (long-vl : length vl ≡ length ul) (long-vr : length vr ≡ length (xr .now)) (row : Row) (is-row : row ≡ (getD ua i zeroRow)) (g-row : Good row) (za : List Row) (wl : List ℕ) (laid : LaidBy (xs .now) w old row (xh .now) i ua n vl za) (long-za : length za ≡ length ua) (long-wl : length wl ≡ length vl) → Sq W (Held (‵ (Lends.Own T.the-row (xa .ptr .0) (xa .ptr .1) (length (xa .now)) (named 0) κa (xa .name) za)) (‵ (Lends.Own u32 (xl .ptr .0) (xl .ptr .1) (length (xl .now)) (named 0) κl (xl .name) wl)) (‵ (Lends.Own u32 (xr .ptr .0) (xr .ptr .1) (length (xr .now)) (named 0) κr (xr .name) vr)) (‵ (fat fullShare tyUnit l₃₁ 0 (vunit))) (‵ (froom Pl′.mir l₁₈ 0)) (‵ (froom T′.mir l₁₇ 0)) (‵ (fat fullShare T′.mir l₁₆ 0 (low row))) (‵ (fat fullShare word l₁₅ 0 (vint w64 i))) (‵ (fat fullShare word l₁₄ 0 (vint w64 n)))) (runs (𝓣 .C) (𝓣 .Λ) En mir.t-21 (atRet En Post))
       go-5 n ua ul woven g-n long-ua long-ul i vl vr counted g-i long-vl long-vr row is-row g-row za wl laid long-za long-wl =
-          qed W (Held (‵ (Lends.Own T.the-row (xa .ptr .0) (xa .ptr .1) (length (xa .now)) (named 0) κa (xa .name) za)) (‵ (Lends.Own u32 (xl .ptr .0) (xl .ptr .1) (length (xl .now)) (named 0) κl (xl .name) wl)) (‵ (Lends.Own u32 (xr .ptr .0) (xr .ptr .1) (length (xr .now)) (named 0) κr (xr .name) vr)) (‵ (fat fullShare tyUnit l₃₁ 0 (vunit))) (‵ (froom Pl′.mir l₁₈ 0)) (‵ (froom T′.mir l₁₇ 0)) (‵ (fat fullShare T′.mir l₁₆ 0 (low row))) (‵ (fat fullShare word l₁₅ 0 (vint w64 i))) (‵ (fat fullShare word l₁₄ 0 (vint w64 n)))) ∵ exec ! (𝓣 .C) (𝓣 .Λ) En mir.t-21 (atRet En Post) $
           assigns ! (addr ! (from ! (fld ! refl (hop ! (look-in ! 94 (sub ! 0 refl (whole !))) (stop !))))) (from ! (stop !)) (init ! 44 refl (tt, tt)) $
           assigns ! (agg ! (and-then ! (load ! (from ! (stop !)) (look ! 44 refl)) (and-then ! (load ! (from ! (fld ! refl (stop !))) (look-in ! 94 (sub ! 1 refl (whole !)))) (no-more !)))) (from ! (stop !)) (init ! 42 refl (tt, (tt, (record { fits = g-a .0 }, tt)))) $
           assigns ! (addr ! (from ! (fld ! refl (hop ! (look-in ! 92 (sub ! 0 refl (whole !))) (stop !))))) (from ! (stop !)) (init ! 40 refl (tt, tt)) $
@@ -278,11 +273,10 @@ module _ {M : Type 1} (𝓤 : URA M) (H : Heap 𝓤) (A : Atoms 𝓤) (W : Given
           land ! (from ! (stop !)) (store ! 54 refl (tt, tt)) $
           forget ! 44 refl $ forget ! 42 refl $ forget ! 40 refl $ forget ! 38 refl $ forget ! 36 refl $ forget ! 34 refl $
           keep ! (12 ∷ 13 ∷ 0 ∷ 1 ∷ 2 ∷ 3 ∷ 4 ∷ 5 ∷ 6 ∷ 7 ∷ 8 ∷ 9 ∷ 10 ∷ 11 ∷ 14 ∷ 15 ∷ 16 ∷ 17 ∷ 18 ∷ 19 ∷ 20 ∷ 21 ∷ 22 ∷ 23 ∷ 24 ∷ 25 ∷ 26 ∷ 27 ∷ 28 ∷ 29 ∷ 30 ∷ 31 ∷ 32 ∷ 33 ∷ 34 ∷ 35 ∷ 36 ∷ 37 ∷ 38 ∷ 39 ∷ 40 ∷ 41 ∷ 42 ∷ 43 ∷ 44 ∷ 45 ∷ 46 ∷ 47 ∷ 48 ∷ 49 ∷ 50 ∷ 51 ∷ 52 ∷ 53 ∷ 54 ∷ 55 ∷ 56 ∷ 57 ∷ 58 ∷ 59 ∷ 60 ∷ 61 ∷ 62 ∷ 63 ∷ 64 ∷ 65 ∷ 66 ∷ 67 ∷ 68 ∷ 69 ∷ 70 ∷ 71 ∷ 72 ∷ 73 ∷ 74 ∷ 75 ∷ 76 ∷ 77 ∷ 78 ∷ 79 ∷ 80 ∷ 81 ∷ 82 ∷ 83 ∷ 84 ∷ 85 ∷ 86 ∷ 87 ∷ 88 ∷ 89 ∷ 90 ∷ 91 ∷ 92 ∷ 93 ∷ 94 ∷ 95 ∷ 96 ∷ 97 ∷ 98 ∷ 99 ∷ 100 ∷ 101 ∷ 102 ∷ 103 ∷ 104 ∷ 105 ∷ 106 ∷ 107 ∷ 108 ∷ 109 ∷ 110 ∷ 111 ∷ 112 ∷ 113 ∷ 114 ∷ 115 ∷ 116 ∷ 117 ∷ []) $
-          by ! (go-6 n ua ul woven g-n long-ua long-ul i vl vr counted g-i long-vl long-vr row is-row g-row za wl laid long-za long-wl kl kr copied long-kl long-kr))
+          go-6 n ua ul woven g-n long-ua long-ul i vl vr counted g-i long-vl long-vr row is-row g-row za wl laid long-za long-wl kl kr copied long-kl long-kr)
 
-      go-4 : (n : ℕ) (ua : List Row) (ul : List ℕ) (woven : WovenAs (indexOf w d old (xf .now) (xc .now) (xh .now)) (xs .now) (xa .now) ua n) (g-n : n < 2 ^ 64) (long-ua : length ua ≡ length (xa .now)) (long-ul : length ul ≡ length (xl .now)) (i : ℕ) (vl : List ℕ) (vr : List ℕ) (counted : CountedAs (xs .now) w e bias old ua n ul (xr .now) i vl vr) (g-i : i < 2 ^ 64) (long-vl : length vl ≡ length ul) (long-vr : length vr ≡ length (xr .now)) (row : Row) (is-row : row ≡ (getD ua i zeroRow)) (g-row : Good row) → ent 𝓤 (⋆ 𝓤 H A (Held (‵ (Lends.Own T.the-row (xa .ptr .0) (xa .ptr .1) (length (xa .now)) (named 0) κa (xa .name) ua)) (‵ (Lends.Own u32 (xl .ptr .0) (xl .ptr .1) (length (xl .now)) (named 0) κl (xl .name) vl)) (‵ (Lends.Own u32 (xr .ptr .0) (xr .ptr .1) (length (xr .now)) (named 0) κr (xr .name) vr)) (‵ (froom tyUnit l₃₁ 0)) (‵ (froom Pl′.mir l₁₈ 0)) (‵ (froom T′.mir l₁₇ 0)) (‵ (fat fullShare T′.mir l₁₆ 0 (low row))) (‵ (fat fullShare word l₁₅ 0 (vint w64 i))) (‵ (fat fullShare word l₁₄ 0 (vint w64 n))))) (Wp 𝓤 H (𝓣 .C) (𝓣 .Λ) En mir.t-16 (atReturn 𝓤 H En Post))
+      go-4 : (n : ℕ) (ua : List Row) (ul : List ℕ) (woven : WovenAs (indexOf w d old (xf .now) (xc .now) (xh .now)) (xs .now) (xa .now) ua n) (g-n : n < 2 ^ 64) (long-ua : length ua ≡ length (xa .now)) (long-ul : length ul ≡ length (xl .now)) (i : ℕ) (vl : List ℕ) (vr : List ℕ) (counted : CountedAs (xs .now) w e bias old ua n ul (xr .now) i vl vr) (g-i : i < 2 ^ 64) (long-vl : length vl ≡ length ul) (long-vr : length vr ≡ length (xr .now)) (row : Row) (is-row : row ≡ (getD ua i zeroRow)) (g-row : Good row) → Sq W (Held (‵ (Lends.Own T.the-row (xa .ptr .0) (xa .ptr .1) (length (xa .now)) (named 0) κa (xa .name) ua)) (‵ (Lends.Own u32 (xl .ptr .0) (xl .ptr .1) (length (xl .now)) (named 0) κl (xl .name) vl)) (‵ (Lends.Own u32 (xr .ptr .0) (xr .ptr .1) (length (xr .now)) (named 0) κr (xr .name) vr)) (‵ (froom tyUnit l₃₁ 0)) (‵ (froom Pl′.mir l₁₈ 0)) (‵ (froom T′.mir l₁₇ 0)) (‵ (fat fullShare T′.mir l₁₆ 0 (low row))) (‵ (fat fullShare word l₁₅ 0 (vint w64 i))) (‵ (fat fullShare word l₁₄ 0 (vint w64 n)))) (runs (𝓣 .C) (𝓣 .Λ) En mir.t-16 (atRet En Post))
       go-4 n ua ul woven g-n long-ua long-ul i vl vr counted g-i long-vl long-vr row is-row g-row =
-          qed W (Held (‵ (Lends.Own T.the-row (xa .ptr .0) (xa .ptr .1) (length (xa .now)) (named 0) κa (xa .name) ua)) (‵ (Lends.Own u32 (xl .ptr .0) (xl .ptr .1) (length (xl .now)) (named 0) κl (xl .name) vl)) (‵ (Lends.Own u32 (xr .ptr .0) (xr .ptr .1) (length (xr .now)) (named 0) κr (xr .name) vr)) (‵ (froom tyUnit l₃₁ 0)) (‵ (froom Pl′.mir l₁₈ 0)) (‵ (froom T′.mir l₁₇ 0)) (‵ (fat fullShare T′.mir l₁₆ 0 (low row))) (‵ (fat fullShare word l₁₅ 0 (vint w64 i))) (‵ (fat fullShare word l₁₄ 0 (vint w64 n)))) ∵ exec ! (𝓣 .C) (𝓣 .Λ) En mir.t-16 (atRet En Post) $
           assigns ! (addr ! (from ! (fld ! refl (hop ! (look-in ! 94 (sub ! 0 refl (whole !))) (stop !))))) (from ! (stop !)) (init ! 52 refl (tt, tt)) $
           assigns ! (agg ! (and-then ! (load ! (from ! (stop !)) (look ! 52 refl)) (and-then ! (load ! (from ! (fld ! refl (stop !))) (look-in ! 94 (sub ! 1 refl (whole !)))) (no-more !)))) (from ! (stop !)) (init ! 50 refl (tt, (tt, (record { fits = g-a .0 }, tt)))) $
           assigns ! (addr ! (from ! (fld ! refl (hop ! (look-in ! 92 (sub ! 0 refl (whole !))) (stop !))))) (from ! (stop !)) (init ! 48 refl (tt, tt)) $
@@ -292,11 +286,10 @@ module _ {M : Type 1} (𝓤 : URA M) (H : Heap 𝓤) (A : Atoms 𝓤) (W : Given
           land ! (from ! (stop !)) (init ! 54 refl (tt, tt)) $
           forget ! 52 refl $ forget ! 50 refl $ forget ! 48 refl $ forget ! 46 refl $
           keep ! (0 ∷ 1 ∷ 8 ∷ 9 ∷ 10 ∷ 11 ∷ 2 ∷ 3 ∷ 4 ∷ 5 ∷ 6 ∷ 7 ∷ 12 ∷ 13 ∷ 14 ∷ 15 ∷ 16 ∷ 17 ∷ 18 ∷ 19 ∷ 20 ∷ 21 ∷ 22 ∷ 23 ∷ 24 ∷ 25 ∷ 26 ∷ 27 ∷ 28 ∷ 29 ∷ 30 ∷ 31 ∷ 32 ∷ 33 ∷ 34 ∷ 35 ∷ 36 ∷ 37 ∷ 38 ∷ 39 ∷ 40 ∷ 41 ∷ 42 ∷ 43 ∷ 44 ∷ 45 ∷ 46 ∷ 47 ∷ 48 ∷ 49 ∷ 50 ∷ 51 ∷ 52 ∷ 53 ∷ 54 ∷ 55 ∷ 56 ∷ 57 ∷ 58 ∷ 59 ∷ 60 ∷ 61 ∷ 62 ∷ 63 ∷ 64 ∷ 65 ∷ 66 ∷ 67 ∷ 68 ∷ 69 ∷ 70 ∷ 71 ∷ 72 ∷ 73 ∷ 74 ∷ 75 ∷ 76 ∷ 77 ∷ 78 ∷ 79 ∷ 80 ∷ 81 ∷ 82 ∷ 83 ∷ 84 ∷ 85 ∷ 86 ∷ 87 ∷ 88 ∷ 89 ∷ 90 ∷ 91 ∷ 92 ∷ 93 ∷ 94 ∷ 95 ∷ 96 ∷ 97 ∷ 98 ∷ 99 ∷ 100 ∷ 101 ∷ 102 ∷ 103 ∷ 104 ∷ 105 ∷ 106 ∷ 107 ∷ 108 ∷ 109 ∷ 110 ∷ 111 ∷ 112 ∷ 113 ∷ 114 ∷ 115 ∷ 116 ∷ 117 ∷ []) $
-          by ! (go-5 n ua ul woven g-n long-ua long-ul i vl vr counted g-i long-vl long-vr row is-row g-row za wl laid long-za long-wl))
+          go-5 n ua ul woven g-n long-ua long-ul i vl vr counted g-i long-vl long-vr row is-row g-row za wl laid long-za long-wl)
 
-      go-3 : (n : ℕ) (ua : List Row) (ul : List ℕ) (woven : WovenAs (indexOf w d old (xf .now) (xc .now) (xh .now)) (xs .now) (xa .now) ua n) (g-n : n < 2 ^ 64) (long-ua : length ua ≡ length (xa .now)) (long-ul : length ul ≡ length (xl .now)) (i : ℕ) (vl : List ℕ) (vr : List ℕ) (counted : CountedAs (xs .now) w e bias old ua n ul (xr .now) i vl vr) (g-i : i < 2 ^ 64) (long-vl : length vl ≡ length ul) (long-vr : length vr ≡ length (xr .now)) → ent 𝓤 (⋆ 𝓤 H A (Held (‵ (Lends.Own T.the-row (xa .ptr .0) (xa .ptr .1) (length (xa .now)) (named 0) κa (xa .name) ua)) (‵ (Lends.Own u32 (xl .ptr .0) (xl .ptr .1) (length (xl .now)) (named 0) κl (xl .name) vl)) (‵ (Lends.Own u32 (xr .ptr .0) (xr .ptr .1) (length (xr .now)) (named 0) κr (xr .name) vr)) (‵ (froom tyUnit l₃₁ 0)) (‵ (froom Pl′.mir l₁₈ 0)) (‵ (froom T′.mir l₁₇ 0)) (‵ (froom T′.mir l₁₆ 0)) (‵ (fat fullShare word l₁₅ 0 (vint w64 i))) (‵ (fat fullShare word l₁₄ 0 (vint w64 n))))) (Wp 𝓤 H (𝓣 .C) (𝓣 .Λ) En mir.t-13 (atReturn 𝓤 H En Post))
+      go-3 : (n : ℕ) (ua : List Row) (ul : List ℕ) (woven : WovenAs (indexOf w d old (xf .now) (xc .now) (xh .now)) (xs .now) (xa .now) ua n) (g-n : n < 2 ^ 64) (long-ua : length ua ≡ length (xa .now)) (long-ul : length ul ≡ length (xl .now)) (i : ℕ) (vl : List ℕ) (vr : List ℕ) (counted : CountedAs (xs .now) w e bias old ua n ul (xr .now) i vl vr) (g-i : i < 2 ^ 64) (long-vl : length vl ≡ length ul) (long-vr : length vr ≡ length (xr .now)) → Sq W (Held (‵ (Lends.Own T.the-row (xa .ptr .0) (xa .ptr .1) (length (xa .now)) (named 0) κa (xa .name) ua)) (‵ (Lends.Own u32 (xl .ptr .0) (xl .ptr .1) (length (xl .now)) (named 0) κl (xl .name) vl)) (‵ (Lends.Own u32 (xr .ptr .0) (xr .ptr .1) (length (xr .now)) (named 0) κr (xr .name) vr)) (‵ (froom tyUnit l₃₁ 0)) (‵ (froom Pl′.mir l₁₈ 0)) (‵ (froom T′.mir l₁₇ 0)) (‵ (froom T′.mir l₁₆ 0)) (‵ (fat fullShare word l₁₅ 0 (vint w64 i))) (‵ (fat fullShare word l₁₄ 0 (vint w64 n)))) (runs (𝓣 .C) (𝓣 .Λ) En mir.t-13 (atRet En Post))
       go-3 n ua ul woven g-n long-ua long-ul i vl vr counted g-i long-vl long-vr =
-          qed W (Held (‵ (Lends.Own T.the-row (xa .ptr .0) (xa .ptr .1) (length (xa .now)) (named 0) κa (xa .name) ua)) (‵ (Lends.Own u32 (xl .ptr .0) (xl .ptr .1) (length (xl .now)) (named 0) κl (xl .name) vl)) (‵ (Lends.Own u32 (xr .ptr .0) (xr .ptr .1) (length (xr .now)) (named 0) κr (xr .name) vr)) (‵ (froom tyUnit l₃₁ 0)) (‵ (froom Pl′.mir l₁₈ 0)) (‵ (froom T′.mir l₁₇ 0)) (‵ (froom T′.mir l₁₆ 0)) (‵ (fat fullShare word l₁₅ 0 (vint w64 i))) (‵ (fat fullShare word l₁₄ 0 (vint w64 n)))) ∵ exec ! (𝓣 .C) (𝓣 .Λ) En mir.t-13 (atRet En Post) $
           assigns ! (addr ! (from ! (fld ! refl (hop ! (look-in ! 94 (sub ! 0 refl (whole !))) (stop !))))) (from ! (stop !)) (init ! 58 refl (tt, tt)) $
           assigns ! (agg ! (and-then ! (load ! (from ! (stop !)) (look ! 58 refl)) (and-then ! (load ! (from ! (fld ! refl (stop !))) (look-in ! 94 (sub ! 1 refl (whole !)))) (no-more !)))) (from ! (stop !)) (init ! 56 refl (tt, (tt, (record { fits = g-a .0 }, tt)))) $
           move ! (8 ∷ 9 ∷ []) $
@@ -304,11 +297,10 @@ module _ {M : Type 1} (𝓤 : URA M) (H : Heap 𝓤) (A : Atoms 𝓤) (W : Given
           land ! (from ! (stop !)) (init ! 84 refl (LL.lawful T.the-type T′.the-laws 𝓤 H A W .typed row _ g-row .0)) $
           forget ! 58 refl $ forget ! 56 refl $
           keep ! (2 ∷ 3 ∷ 4 ∷ 5 ∷ 6 ∷ 7 ∷ 8 ∷ 9 ∷ 0 ∷ 1 ∷ 10 ∷ 11 ∷ 12 ∷ 13 ∷ 14 ∷ 15 ∷ 16 ∷ 17 ∷ 18 ∷ 19 ∷ 20 ∷ 21 ∷ 22 ∷ 23 ∷ 24 ∷ 25 ∷ 26 ∷ 27 ∷ 28 ∷ 29 ∷ 30 ∷ 31 ∷ 32 ∷ 33 ∷ 34 ∷ 35 ∷ 36 ∷ 37 ∷ 38 ∷ 39 ∷ 40 ∷ 41 ∷ 42 ∷ 43 ∷ 44 ∷ 45 ∷ 46 ∷ 47 ∷ 48 ∷ 49 ∷ 50 ∷ 51 ∷ 52 ∷ 53 ∷ 54 ∷ 55 ∷ 56 ∷ 57 ∷ 58 ∷ 59 ∷ 60 ∷ 61 ∷ 62 ∷ 63 ∷ 64 ∷ 65 ∷ 66 ∷ 67 ∷ 68 ∷ 69 ∷ 70 ∷ 71 ∷ 72 ∷ 73 ∷ 74 ∷ 75 ∷ 76 ∷ 77 ∷ 78 ∷ 79 ∷ 80 ∷ 81 ∷ 82 ∷ 83 ∷ 84 ∷ 85 ∷ 86 ∷ 87 ∷ 88 ∷ 89 ∷ 90 ∷ 91 ∷ 92 ∷ 93 ∷ 94 ∷ 95 ∷ 96 ∷ 97 ∷ 98 ∷ 99 ∷ 100 ∷ 101 ∷ 102 ∷ 103 ∷ 104 ∷ 105 ∷ 106 ∷ 107 ∷ 108 ∷ 109 ∷ 110 ∷ 111 ∷ 112 ∷ 113 ∷ 114 ∷ 115 ∷ 116 ∷ 117 ∷ []) $
-          by ! (go-4 n ua ul woven g-n long-ua long-ul i vl vr counted g-i long-vl long-vr row is-row g-row))
+          go-4 n ua ul woven g-n long-ua long-ul i vl vr counted g-i long-vl long-vr row is-row g-row)
 
-      go-2 : (n : ℕ) (ua : List Row) (ul : List ℕ) (woven : WovenAs (indexOf w d old (xf .now) (xc .now) (xh .now)) (xs .now) (xa .now) ua n) (g-n : n < 2 ^ 64) (long-ua : length ua ≡ length (xa .now)) (long-ul : length ul ≡ length (xl .now)) → ent 𝓤 (⋆ 𝓤 H A (Held (‵ (Lends.Own T.the-row (xa .ptr .0) (xa .ptr .1) (length (xa .now)) (named 0) κa (xa .name) ua)) (‵ (Lends.Own u32 (xl .ptr .0) (xl .ptr .1) (length (xl .now)) (named 0) κl (xl .name) ul)) (‵ (Lends.Own u32 (xr .ptr .0) (xr .ptr .1) (length (xr .now)) (named 0) κr (xr .name) (xr .now))) (‵ (froom tyUnit l₃₁ 0)) (‵ (froom Pl′.mir l₁₈ 0)) (‵ (froom T′.mir l₁₇ 0)) (‵ (froom T′.mir l₁₆ 0)) (‵ (froom word l₁₅ 0)) (‵ (fat fullShare word l₁₄ 0 (vint w64 n))))) (Wp 𝓤 H (𝓣 .C) (𝓣 .Λ) En mir.t-6 (atReturn 𝓤 H En Post))
+      go-2 : (n : ℕ) (ua : List Row) (ul : List ℕ) (woven : WovenAs (indexOf w d old (xf .now) (xc .now) (xh .now)) (xs .now) (xa .now) ua n) (g-n : n < 2 ^ 64) (long-ua : length ua ≡ length (xa .now)) (long-ul : length ul ≡ length (xl .now)) → Sq W (Held (‵ (Lends.Own T.the-row (xa .ptr .0) (xa .ptr .1) (length (xa .now)) (named 0) κa (xa .name) ua)) (‵ (Lends.Own u32 (xl .ptr .0) (xl .ptr .1) (length (xl .now)) (named 0) κl (xl .name) ul)) (‵ (Lends.Own u32 (xr .ptr .0) (xr .ptr .1) (length (xr .now)) (named 0) κr (xr .name) (xr .now))) (‵ (froom tyUnit l₃₁ 0)) (‵ (froom Pl′.mir l₁₈ 0)) (‵ (froom T′.mir l₁₇ 0)) (‵ (froom T′.mir l₁₆ 0)) (‵ (froom word l₁₅ 0)) (‵ (fat fullShare word l₁₄ 0 (vint w64 n)))) (runs (𝓣 .C) (𝓣 .Λ) En mir.t-6 (atRet En Post))
       go-2 n ua ul woven g-n long-ua long-ul =
-          qed W (Held (‵ (Lends.Own T.the-row (xa .ptr .0) (xa .ptr .1) (length (xa .now)) (named 0) κa (xa .name) ua)) (‵ (Lends.Own u32 (xl .ptr .0) (xl .ptr .1) (length (xl .now)) (named 0) κl (xl .name) ul)) (‵ (Lends.Own u32 (xr .ptr .0) (xr .ptr .1) (length (xr .now)) (named 0) κr (xr .name) (xr .now))) (‵ (froom tyUnit l₃₁ 0)) (‵ (froom Pl′.mir l₁₈ 0)) (‵ (froom T′.mir l₁₇ 0)) (‵ (froom T′.mir l₁₆ 0)) (‵ (froom word l₁₅ 0)) (‵ (fat fullShare word l₁₄ 0 (vint w64 n)))) ∵ exec ! (𝓣 .C) (𝓣 .Λ) En mir.t-6 (atRet En Post) $
           assigns ! (addr ! (from ! (fld ! refl (hop ! (look-in ! 94 (sub ! 0 refl (whole !))) (stop !))))) (from ! (stop !)) (init ! 70 refl (tt, tt)) $
           assigns ! (agg ! (and-then ! (load ! (from ! (stop !)) (look ! 70 refl)) (and-then ! (load ! (from ! (fld ! refl (stop !))) (look-in ! 94 (sub ! 1 refl (whole !)))) (no-more !)))) (from ! (stop !)) (init ! 68 refl (tt, (tt, (record { fits = g-a .0 }, tt)))) $
           assigns ! (addr ! (from ! (fld ! refl (hop ! (look-in ! 92 (sub ! 0 refl (whole !))) (stop !))))) (from ! (stop !)) (init ! 66 refl (tt, tt)) $
@@ -320,11 +312,10 @@ module _ {M : Type 1} (𝓤 : URA M) (H : Heap 𝓤) (A : Atoms 𝓤) (W : Given
           land ! (from ! (stop !)) (init ! 86 refl (tt, record { fits = g-i })) $
           forget ! 70 refl $ forget ! 68 refl $ forget ! 66 refl $ forget ! 64 refl $ forget ! 62 refl $ forget ! 60 refl $
           keep ! (0 ∷ 1 ∷ 8 ∷ 9 ∷ 10 ∷ 11 ∷ 12 ∷ 13 ∷ 2 ∷ 3 ∷ 4 ∷ 5 ∷ 6 ∷ 7 ∷ 14 ∷ 15 ∷ 16 ∷ 17 ∷ 18 ∷ 19 ∷ 20 ∷ 21 ∷ 22 ∷ 23 ∷ 24 ∷ 25 ∷ 26 ∷ 27 ∷ 28 ∷ 29 ∷ 30 ∷ 31 ∷ 32 ∷ 33 ∷ 34 ∷ 35 ∷ 36 ∷ 37 ∷ 38 ∷ 39 ∷ 40 ∷ 41 ∷ 42 ∷ 43 ∷ 44 ∷ 45 ∷ 46 ∷ 47 ∷ 48 ∷ 49 ∷ 50 ∷ 51 ∷ 52 ∷ 53 ∷ 54 ∷ 55 ∷ 56 ∷ 57 ∷ 58 ∷ 59 ∷ 60 ∷ 61 ∷ 62 ∷ 63 ∷ 64 ∷ 65 ∷ 66 ∷ 67 ∷ 68 ∷ 69 ∷ 70 ∷ 71 ∷ 72 ∷ 73 ∷ 74 ∷ 75 ∷ 76 ∷ 77 ∷ 78 ∷ 79 ∷ 80 ∷ 81 ∷ 82 ∷ 83 ∷ 84 ∷ 85 ∷ 86 ∷ 87 ∷ 88 ∷ 89 ∷ 90 ∷ 91 ∷ 92 ∷ 93 ∷ 94 ∷ 95 ∷ 96 ∷ 97 ∷ 98 ∷ 99 ∷ 100 ∷ 101 ∷ 102 ∷ 103 ∷ 104 ∷ 105 ∷ 106 ∷ 107 ∷ 108 ∷ 109 ∷ 110 ∷ 111 ∷ 112 ∷ 113 ∷ 114 ∷ 115 ∷ 116 ∷ 117 ∷ []) $
-          by ! (go-3 n ua ul woven g-n long-ua long-ul i vl vr counted g-i long-vl long-vr))
+          go-3 n ua ul woven g-n long-ua long-ul i vl vr counted g-i long-vl long-vr)
 
-      go-1 : ent 𝓤 (⋆ 𝓤 H A (Held (‵ (Lends.Own T.the-row (xa .ptr .0) (xa .ptr .1) (length (xa .now)) (named 0) κa (xa .name) (xa .now))) (‵ (Lends.Own u32 (xl .ptr .0) (xl .ptr .1) (length (xl .now)) (named 0) κl (xl .name) (xl .now))) (‵ (Lends.Own u32 (xr .ptr .0) (xr .ptr .1) (length (xr .now)) (named 0) κr (xr .name) (xr .now))) (‵ (froom tyUnit l₃₁ 0)) (‵ (froom Pl′.mir l₁₈ 0)) (‵ (froom T′.mir l₁₇ 0)) (‵ (froom T′.mir l₁₆ 0)) (‵ (froom word l₁₅ 0)) (‵ (froom word l₁₄ 0)))) (Wp 𝓤 H (𝓣 .C) (𝓣 .Λ) En mir.t-1 (atReturn 𝓤 H En Post))
+      go-1 : Sq W (Held (‵ (Lends.Own T.the-row (xa .ptr .0) (xa .ptr .1) (length (xa .now)) (named 0) κa (xa .name) (xa .now))) (‵ (Lends.Own u32 (xl .ptr .0) (xl .ptr .1) (length (xl .now)) (named 0) κl (xl .name) (xl .now))) (‵ (Lends.Own u32 (xr .ptr .0) (xr .ptr .1) (length (xr .now)) (named 0) κr (xr .name) (xr .now))) (‵ (froom tyUnit l₃₁ 0)) (‵ (froom Pl′.mir l₁₈ 0)) (‵ (froom T′.mir l₁₇ 0)) (‵ (froom T′.mir l₁₆ 0)) (‵ (froom word l₁₅ 0)) (‵ (froom word l₁₄ 0))) (runs (𝓣 .C) (𝓣 .Λ) En mir.t-1 (atRet En Post))
       go-1 =
-          qed W (Held (‵ (Lends.Own T.the-row (xa .ptr .0) (xa .ptr .1) (length (xa .now)) (named 0) κa (xa .name) (xa .now))) (‵ (Lends.Own u32 (xl .ptr .0) (xl .ptr .1) (length (xl .now)) (named 0) κl (xl .name) (xl .now))) (‵ (Lends.Own u32 (xr .ptr .0) (xr .ptr .1) (length (xr .now)) (named 0) κr (xr .name) (xr .now))) (‵ (froom tyUnit l₃₁ 0)) (‵ (froom Pl′.mir l₁₈ 0)) (‵ (froom T′.mir l₁₇ 0)) (‵ (froom T′.mir l₁₆ 0)) (‵ (froom word l₁₅ 0)) (‵ (froom word l₁₄ 0))) ∵ exec ! (𝓣 .C) (𝓣 .Λ) En mir.t-1 (atRet En Post) $
           assigns ! (addr ! (from ! (fld ! refl (hop ! (look-in ! 94 (sub ! 0 refl (whole !))) (stop !))))) (from ! (stop !)) (init ! 78 refl (tt, tt)) $
           assigns ! (agg ! (and-then ! (load ! (from ! (stop !)) (look ! 78 refl)) (and-then ! (load ! (from ! (fld ! refl (stop !))) (look-in ! 94 (sub ! 1 refl (whole !)))) (no-more !)))) (from ! (stop !)) (init ! 76 refl (tt, (tt, (record { fits = g-a .0 }, tt)))) $
           assigns ! (addr ! (from ! (fld ! refl (hop ! (look-in ! 92 (sub ! 0 refl (whole !))) (stop !))))) (from ! (stop !)) (init ! 74 refl (tt, tt)) $
@@ -334,7 +325,7 @@ module _ {M : Type 1} (𝓤 : URA M) (H : Heap 𝓤) (A : Atoms 𝓤) (W : Given
           land ! (from ! (stop !)) (init ! 88 refl (tt, record { fits = g-n })) $
           forget ! 78 refl $ forget ! 76 refl $ forget ! 74 refl $ forget ! 72 refl $
           keep ! (0 ∷ 1 ∷ 2 ∷ 3 ∷ 8 ∷ 9 ∷ 10 ∷ 11 ∷ 4 ∷ 5 ∷ 6 ∷ 7 ∷ 12 ∷ 13 ∷ 14 ∷ 15 ∷ 16 ∷ 17 ∷ 18 ∷ 19 ∷ 20 ∷ 21 ∷ 22 ∷ 23 ∷ 24 ∷ 25 ∷ 26 ∷ 27 ∷ 28 ∷ 29 ∷ 30 ∷ 31 ∷ 32 ∷ 33 ∷ 34 ∷ 35 ∷ 36 ∷ 37 ∷ 38 ∷ 39 ∷ 40 ∷ 41 ∷ 42 ∷ 43 ∷ 44 ∷ 45 ∷ 46 ∷ 47 ∷ 48 ∷ 49 ∷ 50 ∷ 51 ∷ 52 ∷ 53 ∷ 54 ∷ 55 ∷ 56 ∷ 57 ∷ 58 ∷ 59 ∷ 60 ∷ 61 ∷ 62 ∷ 63 ∷ 64 ∷ 65 ∷ 66 ∷ 67 ∷ 68 ∷ 69 ∷ 70 ∷ 71 ∷ 72 ∷ 73 ∷ 74 ∷ 75 ∷ 76 ∷ 77 ∷ 78 ∷ 79 ∷ 80 ∷ 81 ∷ 82 ∷ 83 ∷ 84 ∷ 85 ∷ 86 ∷ 87 ∷ 88 ∷ 89 ∷ 90 ∷ 91 ∷ 92 ∷ 93 ∷ 94 ∷ 95 ∷ 96 ∷ 97 ∷ 98 ∷ 99 ∷ 100 ∷ 101 ∷ 102 ∷ 103 ∷ 104 ∷ 105 ∷ 106 ∷ 107 ∷ 108 ∷ 109 ∷ 110 ∷ 111 ∷ 112 ∷ 113 ∷ 114 ∷ 115 ∷ 116 ∷ 117 ∷ []) $
-          by ! (go-2 n ua ul woven g-n long-ua long-ul))
+          go-2 n ua ul woven g-n long-ua long-ul)
 
       -- what is had at entry is taken apart
       abbrev At-first : List (Item 𝓤)
@@ -414,7 +405,7 @@ module _ {M : Type 1} (𝓤 : URA M) (H : Heap 𝓤) (A : Atoms 𝓤) (W : Given
           move ! (1 ∷ []) $
           drop ! $
           keep ! (13 ∷ 6 ∷ 12 ∷ 5 ∷ 11 ∷ 4 ∷ 10 ∷ 3 ∷ 9 ∷ 2 ∷ 8 ∷ 1 ∷ 7 ∷ 0 ∷ 14 ∷ 15 ∷ 16 ∷ 17 ∷ 18 ∷ 19 ∷ 20 ∷ 21 ∷ 22 ∷ 23 ∷ 24 ∷ 25 ∷ 26 ∷ 27 ∷ 28 ∷ 29 ∷ 30 ∷ 31 ∷ 32 ∷ 33 ∷ 34 ∷ 35 ∷ 36 ∷ 37 ∷ 38 ∷ 39 ∷ 40 ∷ 41 ∷ 42 ∷ 43 ∷ 44 ∷ 45 ∷ 46 ∷ 47 ∷ 48 ∷ 49 ∷ 50 ∷ 51 ∷ 52 ∷ 53 ∷ 54 ∷ 55 ∷ 56 ∷ 57 ∷ 58 ∷ 59 ∷ 60 ∷ 61 ∷ 62 ∷ 63 ∷ 64 ∷ 65 ∷ 66 ∷ 67 ∷ 68 ∷ 69 ∷ 70 ∷ 71 ∷ 72 ∷ 73 ∷ 74 ∷ 75 ∷ 76 ∷ 77 ∷ 78 ∷ 79 ∷ 80 ∷ 81 ∷ 82 ∷ 83 ∷ 84 ∷ 85 ∷ 86 ∷ 87 ∷ 88 ∷ 89 ∷ 90 ∷ 91 ∷ 92 ∷ 93 ∷ 94 ∷ 95 ∷ 96 ∷ 97 ∷ 98 ∷ 99 ∷ 100 ∷ 101 ∷ 102 ∷ 103 ∷ 104 ∷ 105 ∷ 106 ∷ 107 ∷ 108 ∷ 109 ∷ 110 ∷ 111 ∷ 112 ∷ 113 ∷ 114 ∷ 115 ∷ 116 ∷ 117 ∷ []) $
-          by ! go-1
+          go-1
 
       -- the locals are allocated, and the parameters are passed
       abbrev At-entry : List (Item 𝓤)

@@ -106,7 +106,7 @@ module _ {M : Type 1} (𝓤 : URA M) (H : Heap 𝓤) (A : Atoms 𝓤) (W : Given
       abbrev En : Env 𝓤 H
       En = (tyUnit, l₀) ∷ ((sliceTy (tyRef (named 0) imm half)), l₁) ∷ (word, l₂) ∷ (word, l₃) ∷ (T′.mir, l₄) ∷ ((sliceTy (tyRef (named 1) imm half)), l₅) ∷ (word, l₆) ∷ ((sliceTy (tyRef (named 2) mut record-type)), l₇) ∷ (word, l₈) ∷ ((sliceTy (tyRef (named 3) mut half)), l₉) ∷ (tyUnit, l₁₀) ∷ ((tyRef erased mut half), l₁₁) ∷ ((sliceTy (tyRef erased mut half)), l₁₂) ∷ ((tyRef erased imm half), l₁₃) ∷ ((sliceTy (tyRef erased imm half)), l₁₄) ∷ ((tyRef erased mut record-type), l₁₅) ∷ ((sliceTy (tyRef erased mut record-type)), l₁₆) ∷ []
 
-      go-3 : (zl : List ℕ) (summed : Summed n (lessJoin (joinsOf (xs .now) w old row (xo .now)) i (xl .now)) zl) (long-zl : length zl ≡ length (xl .now)) (za : List Row) (is-a : za ≡ laidTo zl n (xa .now)) (long-za : length za ≡ length (xa .now)) → ent 𝓤 (⋆ 𝓤 H A (‵ (flft κs qs) ∷ ‵ (ShrSlice (named 0) κs i32 .own xs (sliceVal (xs .ptr) (length (xs .now)) ∷ [])) ∷ ‵ (flft κo qo) ∷ ‵ (ShrSlice (named 0) κo u32 .own xo (sliceVal (xo .ptr) (length (xo .now)) ∷ []))
+      go-3 : (zl : List ℕ) (summed : Summed n (lessJoin (joinsOf (xs .now) w old row (xo .now)) i (xl .now)) zl) (long-zl : length zl ≡ length (xl .now)) (za : List Row) (is-a : za ≡ laidTo zl n (xa .now)) (long-za : length za ≡ length (xa .now)) → Sq W (‵ (flft κs qs) ∷ ‵ (ShrSlice (named 0) κs i32 .own xs (sliceVal (xs .ptr) (length (xs .now)) ∷ [])) ∷ ‵ (flft κo qo) ∷ ‵ (ShrSlice (named 0) κo u32 .own xo (sliceVal (xo .ptr) (length (xo .now)) ∷ []))
           ∷ ‵ (flft κa qa) ∷ ‵ (Lends.Own T.the-row (xa .ptr .0) (xa .ptr .1) (length (xa .now)) (named 0) κa (xa .name) za) ∷ ‵ (flft κl ql) ∷ ‵ (Lends.Own u32 (xl .ptr .0) (xl .ptr .1) (length (xl .now)) (named 0) κl (xl .name) zl)
           ∷ ‵ (froom (sliceTy (tyRef erased mut record-type)) l₁₆ 0) ∷ ‵ (fdies (sliceTy (tyRef erased mut record-type)) l₁₆) ∷ ‵ (froom (tyRef erased mut record-type) l₁₅ 0) ∷ ‵ (fdies (tyRef erased mut record-type) l₁₅)
           ∷ ‵ (froom (sliceTy (tyRef erased imm half)) l₁₄ 0) ∷ ‵ (fdies (sliceTy (tyRef erased imm half)) l₁₄) ∷ ‵ (froom (tyRef erased imm half) l₁₃ 0) ∷ ‵ (fdies (tyRef erased imm half) l₁₃)
@@ -116,26 +116,15 @@ module _ {M : Type 1} (𝓤 : URA M) (H : Heap 𝓤) (A : Atoms 𝓤) (W : Given
           ∷ ‵ (fat fullShare word l₆ 0 (vint w64 i)) ∷ ‵ (fdies word l₆) ∷ ‵ (fat fullShare (sliceTy (tyRef (named 1) imm half)) l₅ 0 (sliceVal (xo .ptr) (length (xo .now)))) ∷ ‵ (fdies (sliceTy (tyRef (named 1) imm half)) l₅)
           ∷ ‵ (fat fullShare T′.mir l₄ 0 (low row)) ∷ ‵ (fdies T′.mir l₄) ∷ ‵ (fat fullShare word l₃ 0 (vint w64 old)) ∷ ‵ (fdies word l₃)
           ∷ ‵ (fat fullShare word l₂ 0 (vint w64 w)) ∷ ‵ (fdies word l₂) ∷ ‵ (fat fullShare (sliceTy (tyRef (named 0) imm half)) l₁ 0 (sliceVal (xs .ptr) (length (xs .now)))) ∷ ‵ (fdies (sliceTy (tyRef (named 0) imm half)) l₁)
-          ∷ ‵ (froom tyUnit l₀ 0) ∷ ‵ (fdies tyUnit l₀) ∷ [])) (Wp 𝓤 H (𝓣 .C) (𝓣 .Λ) En mir.t-9 (atReturn 𝓤 H En Post))
+          ∷ ‵ (froom tyUnit l₀ 0) ∷ ‵ (fdies tyUnit l₀) ∷ []) (runs (𝓣 .C) (𝓣 .Λ) En mir.t-9 (atRet En Post))
       go-3 zl summed long-zl za is-a long-za =
-          qed W (‵ (flft κs qs) ∷ ‵ (ShrSlice (named 0) κs i32 .own xs (sliceVal (xs .ptr) (length (xs .now)) ∷ [])) ∷ ‵ (flft κo qo) ∷ ‵ (ShrSlice (named 0) κo u32 .own xo (sliceVal (xo .ptr) (length (xo .now)) ∷ []))
-          ∷ ‵ (flft κa qa) ∷ ‵ (Lends.Own T.the-row (xa .ptr .0) (xa .ptr .1) (length (xa .now)) (named 0) κa (xa .name) za) ∷ ‵ (flft κl ql) ∷ ‵ (Lends.Own u32 (xl .ptr .0) (xl .ptr .1) (length (xl .now)) (named 0) κl (xl .name) zl)
-          ∷ ‵ (froom (sliceTy (tyRef erased mut record-type)) l₁₆ 0) ∷ ‵ (fdies (sliceTy (tyRef erased mut record-type)) l₁₆) ∷ ‵ (froom (tyRef erased mut record-type) l₁₅ 0) ∷ ‵ (fdies (tyRef erased mut record-type) l₁₅)
-          ∷ ‵ (froom (sliceTy (tyRef erased imm half)) l₁₄ 0) ∷ ‵ (fdies (sliceTy (tyRef erased imm half)) l₁₄) ∷ ‵ (froom (tyRef erased imm half) l₁₃ 0) ∷ ‵ (fdies (tyRef erased imm half) l₁₃)
-          ∷ ‵ (froom (sliceTy (tyRef erased mut half)) l₁₂ 0) ∷ ‵ (fdies (sliceTy (tyRef erased mut half)) l₁₂) ∷ ‵ (froom (tyRef erased mut half) l₁₁ 0) ∷ ‵ (fdies (tyRef erased mut half) l₁₁)
-          ∷ ‵ (fat fullShare tyUnit l₁₀ 0 (vunit)) ∷ ‵ (fdies tyUnit l₁₀) ∷ ‵ (fat fullShare (sliceTy (tyRef (named 3) mut half)) l₉ 0 (sliceVal (xl .ptr) (length (xl .now)))) ∷ ‵ (fdies (sliceTy (tyRef (named 3) mut half)) l₉)
-          ∷ ‵ (fat fullShare word l₈ 0 (vint w64 n)) ∷ ‵ (fdies word l₈) ∷ ‵ (fat fullShare (sliceTy (tyRef (named 2) mut record-type)) l₇ 0 (sliceVal (xa .ptr) (length (xa .now)))) ∷ ‵ (fdies (sliceTy (tyRef (named 2) mut record-type)) l₇)
-          ∷ ‵ (fat fullShare word l₆ 0 (vint w64 i)) ∷ ‵ (fdies word l₆) ∷ ‵ (fat fullShare (sliceTy (tyRef (named 1) imm half)) l₅ 0 (sliceVal (xo .ptr) (length (xo .now)))) ∷ ‵ (fdies (sliceTy (tyRef (named 1) imm half)) l₅)
-          ∷ ‵ (fat fullShare T′.mir l₄ 0 (low row)) ∷ ‵ (fdies T′.mir l₄) ∷ ‵ (fat fullShare word l₃ 0 (vint w64 old)) ∷ ‵ (fdies word l₃)
-          ∷ ‵ (fat fullShare word l₂ 0 (vint w64 w)) ∷ ‵ (fdies word l₂) ∷ ‵ (fat fullShare (sliceTy (tyRef (named 0) imm half)) l₁ 0 (sliceVal (xs .ptr) (length (xs .now)))) ∷ ‵ (fdies (sliceTy (tyRef (named 0) imm half)) l₁)
-          ∷ ‵ (froom tyUnit l₀ 0) ∷ ‵ (fdies tyUnit l₀) ∷ []) ∵ exec ! (𝓣 .C) (𝓣 .Λ) En mir.t-9 (atRet En Post) $
           assigns ! (of-opd ! (unit-lit !)) (from ! (stop !)) (init ! 40 refl (tt, tt)) $
           returns ! (look ! 40 refl) $
           lose ! 40 refl refl $ lose ! 38 refl refl $ lose ! 36 refl refl $ lose ! 34 refl refl $ lose ! 32 refl refl $ lose ! 30 refl refl $ lose ! 28 refl refl $ lose ! 26 refl refl $ lose ! 24 refl refl $ lose ! 22 refl refl $ lose ! 20 refl refl $ lose-room ! 18 refl refl $ lose-room ! 16 refl refl $ lose-room ! 14 refl refl $ lose-room ! 12 refl refl $ lose-room ! 10 refl refl $ lose-room ! 8 refl refl $ free0 ! $
           keep ! (0 ∷ 2 ∷ 4 ∷ 6 ∷ 5 ∷ 7 ∷ []) $
           by ! (exits za long-za zl long-zl (record { ends = zl; long = long-zl; summed = summed; is = is-a }))
 
-      go-2 : (zl : List ℕ) (summed : Summed n (lessJoin (joinsOf (xs .now) w old row (xo .now)) i (xl .now)) zl) (long-zl : length zl ≡ length (xl .now)) → ent 𝓤 (⋆ 𝓤 H A (‵ (flft κs qs) ∷ ‵ (ShrSlice (named 0) κs i32 .own xs (sliceVal (xs .ptr) (length (xs .now)) ∷ [])) ∷ ‵ (flft κo qo) ∷ ‵ (ShrSlice (named 0) κo u32 .own xo (sliceVal (xo .ptr) (length (xo .now)) ∷ []))
+      go-2 : (zl : List ℕ) (summed : Summed n (lessJoin (joinsOf (xs .now) w old row (xo .now)) i (xl .now)) zl) (long-zl : length zl ≡ length (xl .now)) → Sq W (‵ (flft κs qs) ∷ ‵ (ShrSlice (named 0) κs i32 .own xs (sliceVal (xs .ptr) (length (xs .now)) ∷ [])) ∷ ‵ (flft κo qo) ∷ ‵ (ShrSlice (named 0) κo u32 .own xo (sliceVal (xo .ptr) (length (xo .now)) ∷ []))
           ∷ ‵ (flft κa qa) ∷ ‵ (Lends.Own T.the-row (xa .ptr .0) (xa .ptr .1) (length (xa .now)) (named 0) κa (xa .name) (xa .now)) ∷ ‵ (flft κl ql) ∷ ‵ (Lends.Own u32 (xl .ptr .0) (xl .ptr .1) (length (xl .now)) (named 0) κl (xl .name) zl)
           ∷ ‵ (froom (sliceTy (tyRef erased mut record-type)) l₁₆ 0) ∷ ‵ (fdies (sliceTy (tyRef erased mut record-type)) l₁₆) ∷ ‵ (froom (tyRef erased mut record-type) l₁₅ 0) ∷ ‵ (fdies (tyRef erased mut record-type) l₁₅)
           ∷ ‵ (froom (sliceTy (tyRef erased imm half)) l₁₄ 0) ∷ ‵ (fdies (sliceTy (tyRef erased imm half)) l₁₄) ∷ ‵ (froom (tyRef erased imm half) l₁₃ 0) ∷ ‵ (fdies (tyRef erased imm half) l₁₃)
@@ -145,19 +134,8 @@ module _ {M : Type 1} (𝓤 : URA M) (H : Heap 𝓤) (A : Atoms 𝓤) (W : Given
           ∷ ‵ (fat fullShare word l₆ 0 (vint w64 i)) ∷ ‵ (fdies word l₆) ∷ ‵ (fat fullShare (sliceTy (tyRef (named 1) imm half)) l₅ 0 (sliceVal (xo .ptr) (length (xo .now)))) ∷ ‵ (fdies (sliceTy (tyRef (named 1) imm half)) l₅)
           ∷ ‵ (fat fullShare T′.mir l₄ 0 (low row)) ∷ ‵ (fdies T′.mir l₄) ∷ ‵ (fat fullShare word l₃ 0 (vint w64 old)) ∷ ‵ (fdies word l₃)
           ∷ ‵ (fat fullShare word l₂ 0 (vint w64 w)) ∷ ‵ (fdies word l₂) ∷ ‵ (fat fullShare (sliceTy (tyRef (named 0) imm half)) l₁ 0 (sliceVal (xs .ptr) (length (xs .now)))) ∷ ‵ (fdies (sliceTy (tyRef (named 0) imm half)) l₁)
-          ∷ ‵ (froom tyUnit l₀ 0) ∷ ‵ (fdies tyUnit l₀) ∷ [])) (Wp 𝓤 H (𝓣 .C) (𝓣 .Λ) En mir.t-4 (atReturn 𝓤 H En Post))
+          ∷ ‵ (froom tyUnit l₀ 0) ∷ ‵ (fdies tyUnit l₀) ∷ []) (runs (𝓣 .C) (𝓣 .Λ) En mir.t-4 (atRet En Post))
       go-2 zl summed long-zl =
-          qed W (‵ (flft κs qs) ∷ ‵ (ShrSlice (named 0) κs i32 .own xs (sliceVal (xs .ptr) (length (xs .now)) ∷ [])) ∷ ‵ (flft κo qo) ∷ ‵ (ShrSlice (named 0) κo u32 .own xo (sliceVal (xo .ptr) (length (xo .now)) ∷ []))
-          ∷ ‵ (flft κa qa) ∷ ‵ (Lends.Own T.the-row (xa .ptr .0) (xa .ptr .1) (length (xa .now)) (named 0) κa (xa .name) (xa .now)) ∷ ‵ (flft κl ql) ∷ ‵ (Lends.Own u32 (xl .ptr .0) (xl .ptr .1) (length (xl .now)) (named 0) κl (xl .name) zl)
-          ∷ ‵ (froom (sliceTy (tyRef erased mut record-type)) l₁₆ 0) ∷ ‵ (fdies (sliceTy (tyRef erased mut record-type)) l₁₆) ∷ ‵ (froom (tyRef erased mut record-type) l₁₅ 0) ∷ ‵ (fdies (tyRef erased mut record-type) l₁₅)
-          ∷ ‵ (froom (sliceTy (tyRef erased imm half)) l₁₄ 0) ∷ ‵ (fdies (sliceTy (tyRef erased imm half)) l₁₄) ∷ ‵ (froom (tyRef erased imm half) l₁₃ 0) ∷ ‵ (fdies (tyRef erased imm half) l₁₃)
-          ∷ ‵ (froom (sliceTy (tyRef erased mut half)) l₁₂ 0) ∷ ‵ (fdies (sliceTy (tyRef erased mut half)) l₁₂) ∷ ‵ (froom (tyRef erased mut half) l₁₁ 0) ∷ ‵ (fdies (tyRef erased mut half) l₁₁)
-          ∷ ‵ (fat fullShare tyUnit l₁₀ 0 (vunit)) ∷ ‵ (fdies tyUnit l₁₀) ∷ ‵ (fat fullShare (sliceTy (tyRef (named 3) mut half)) l₉ 0 (sliceVal (xl .ptr) (length (xl .now)))) ∷ ‵ (fdies (sliceTy (tyRef (named 3) mut half)) l₉)
-          ∷ ‵ (fat fullShare word l₈ 0 (vint w64 n)) ∷ ‵ (fdies word l₈) ∷ ‵ (fat fullShare (sliceTy (tyRef (named 2) mut record-type)) l₇ 0 (sliceVal (xa .ptr) (length (xa .now)))) ∷ ‵ (fdies (sliceTy (tyRef (named 2) mut record-type)) l₇)
-          ∷ ‵ (fat fullShare word l₆ 0 (vint w64 i)) ∷ ‵ (fdies word l₆) ∷ ‵ (fat fullShare (sliceTy (tyRef (named 1) imm half)) l₅ 0 (sliceVal (xo .ptr) (length (xo .now)))) ∷ ‵ (fdies (sliceTy (tyRef (named 1) imm half)) l₅)
-          ∷ ‵ (fat fullShare T′.mir l₄ 0 (low row)) ∷ ‵ (fdies T′.mir l₄) ∷ ‵ (fat fullShare word l₃ 0 (vint w64 old)) ∷ ‵ (fdies word l₃)
-          ∷ ‵ (fat fullShare word l₂ 0 (vint w64 w)) ∷ ‵ (fdies word l₂) ∷ ‵ (fat fullShare (sliceTy (tyRef (named 0) imm half)) l₁ 0 (sliceVal (xs .ptr) (length (xs .now)))) ∷ ‵ (fdies (sliceTy (tyRef (named 0) imm half)) l₁)
-          ∷ ‵ (froom tyUnit l₀ 0) ∷ ‵ (fdies tyUnit l₀) ∷ []) ∵ exec ! (𝓣 .C) (𝓣 .Λ) En mir.t-4 (atRet En Post) $
           assigns ! (addr ! (from ! (fld ! refl (hop ! (look-in ! 22 (sub ! 0 refl (whole !))) (stop !))))) (from ! (stop !)) (init ! 14 refl (tt, tt)) $
           assigns ! (agg ! (and-then ! (load ! (from ! (stop !)) (look ! 14 refl)) (and-then ! (load ! (from ! (fld ! refl (stop !))) (look-in ! 22 (sub ! 1 refl (whole !)))) (no-more !)))) (from ! (stop !)) (init ! 12 refl (tt, (tt, (record { fits = g-l .0 }, tt)))) $
           assigns ! (addr ! (from ! (fld ! refl (hop ! (look-in ! 26 (sub ! 0 refl (whole !))) (stop !))))) (from ! (stop !)) (init ! 10 refl (tt, tt)) $
@@ -167,9 +145,9 @@ module _ {M : Type 1} (𝓤 : URA M) (H : Heap 𝓤) (A : Atoms 𝓤) (W : Given
           land ! (from ! (stop !)) (store ! 20 refl (tt, tt)) $
           forget ! 14 refl $ forget ! 12 refl $ forget ! 10 refl $ forget ! 8 refl $
           keep ! (4 ∷ 5 ∷ 6 ∷ 7 ∷ 2 ∷ 3 ∷ 0 ∷ 1 ∷ 8 ∷ 9 ∷ 10 ∷ 11 ∷ 12 ∷ 13 ∷ 14 ∷ 15 ∷ 16 ∷ 17 ∷ 18 ∷ 19 ∷ 20 ∷ 21 ∷ 22 ∷ 23 ∷ 24 ∷ 25 ∷ 26 ∷ 27 ∷ 28 ∷ 29 ∷ 30 ∷ 31 ∷ 32 ∷ 33 ∷ 34 ∷ 35 ∷ 36 ∷ 37 ∷ 38 ∷ 39 ∷ 40 ∷ 41 ∷ []) $
-          by ! (go-3 zl summed long-zl za is-a long-za))
+          go-3 zl summed long-zl za is-a long-za)
 
-      go-1 : ent 𝓤 (⋆ 𝓤 H A (‵ (flft κs qs) ∷ ‵ (ShrSlice (named 0) κs i32 .own xs (sliceVal (xs .ptr) (length (xs .now)) ∷ [])) ∷ ‵ (flft κo qo) ∷ ‵ (ShrSlice (named 0) κo u32 .own xo (sliceVal (xo .ptr) (length (xo .now)) ∷ []))
+      go-1 : Sq W (‵ (flft κs qs) ∷ ‵ (ShrSlice (named 0) κs i32 .own xs (sliceVal (xs .ptr) (length (xs .now)) ∷ [])) ∷ ‵ (flft κo qo) ∷ ‵ (ShrSlice (named 0) κo u32 .own xo (sliceVal (xo .ptr) (length (xo .now)) ∷ []))
           ∷ ‵ (flft κa qa) ∷ ‵ (Lends.Own T.the-row (xa .ptr .0) (xa .ptr .1) (length (xa .now)) (named 0) κa (xa .name) (xa .now)) ∷ ‵ (flft κl ql) ∷ ‵ (Lends.Own u32 (xl .ptr .0) (xl .ptr .1) (length (xl .now)) (named 0) κl (xl .name) (xl .now))
           ∷ ‵ (froom (sliceTy (tyRef erased mut record-type)) l₁₆ 0) ∷ ‵ (fdies (sliceTy (tyRef erased mut record-type)) l₁₆) ∷ ‵ (froom (tyRef erased mut record-type) l₁₅ 0) ∷ ‵ (fdies (tyRef erased mut record-type) l₁₅)
           ∷ ‵ (froom (sliceTy (tyRef erased imm half)) l₁₄ 0) ∷ ‵ (fdies (sliceTy (tyRef erased imm half)) l₁₄) ∷ ‵ (froom (tyRef erased imm half) l₁₃ 0) ∷ ‵ (fdies (tyRef erased imm half) l₁₃)
@@ -179,19 +157,8 @@ module _ {M : Type 1} (𝓤 : URA M) (H : Heap 𝓤) (A : Atoms 𝓤) (W : Given
           ∷ ‵ (fat fullShare word l₆ 0 (vint w64 i)) ∷ ‵ (fdies word l₆) ∷ ‵ (fat fullShare (sliceTy (tyRef (named 1) imm half)) l₅ 0 (sliceVal (xo .ptr) (length (xo .now)))) ∷ ‵ (fdies (sliceTy (tyRef (named 1) imm half)) l₅)
           ∷ ‵ (fat fullShare T′.mir l₄ 0 (low row)) ∷ ‵ (fdies T′.mir l₄) ∷ ‵ (fat fullShare word l₃ 0 (vint w64 old)) ∷ ‵ (fdies word l₃)
           ∷ ‵ (fat fullShare word l₂ 0 (vint w64 w)) ∷ ‵ (fdies word l₂) ∷ ‵ (fat fullShare (sliceTy (tyRef (named 0) imm half)) l₁ 0 (sliceVal (xs .ptr) (length (xs .now)))) ∷ ‵ (fdies (sliceTy (tyRef (named 0) imm half)) l₁)
-          ∷ ‵ (froom tyUnit l₀ 0) ∷ ‵ (fdies tyUnit l₀) ∷ [])) (Wp 𝓤 H (𝓣 .C) (𝓣 .Λ) En mir.t-1 (atReturn 𝓤 H En Post))
+          ∷ ‵ (froom tyUnit l₀ 0) ∷ ‵ (fdies tyUnit l₀) ∷ []) (runs (𝓣 .C) (𝓣 .Λ) En mir.t-1 (atRet En Post))
       go-1 =
-          qed W (‵ (flft κs qs) ∷ ‵ (ShrSlice (named 0) κs i32 .own xs (sliceVal (xs .ptr) (length (xs .now)) ∷ [])) ∷ ‵ (flft κo qo) ∷ ‵ (ShrSlice (named 0) κo u32 .own xo (sliceVal (xo .ptr) (length (xo .now)) ∷ []))
-          ∷ ‵ (flft κa qa) ∷ ‵ (Lends.Own T.the-row (xa .ptr .0) (xa .ptr .1) (length (xa .now)) (named 0) κa (xa .name) (xa .now)) ∷ ‵ (flft κl ql) ∷ ‵ (Lends.Own u32 (xl .ptr .0) (xl .ptr .1) (length (xl .now)) (named 0) κl (xl .name) (xl .now))
-          ∷ ‵ (froom (sliceTy (tyRef erased mut record-type)) l₁₆ 0) ∷ ‵ (fdies (sliceTy (tyRef erased mut record-type)) l₁₆) ∷ ‵ (froom (tyRef erased mut record-type) l₁₅ 0) ∷ ‵ (fdies (tyRef erased mut record-type) l₁₅)
-          ∷ ‵ (froom (sliceTy (tyRef erased imm half)) l₁₄ 0) ∷ ‵ (fdies (sliceTy (tyRef erased imm half)) l₁₄) ∷ ‵ (froom (tyRef erased imm half) l₁₃ 0) ∷ ‵ (fdies (tyRef erased imm half) l₁₃)
-          ∷ ‵ (froom (sliceTy (tyRef erased mut half)) l₁₂ 0) ∷ ‵ (fdies (sliceTy (tyRef erased mut half)) l₁₂) ∷ ‵ (froom (tyRef erased mut half) l₁₁ 0) ∷ ‵ (fdies (tyRef erased mut half) l₁₁)
-          ∷ ‵ (froom tyUnit l₁₀ 0) ∷ ‵ (fdies tyUnit l₁₀) ∷ ‵ (fat fullShare (sliceTy (tyRef (named 3) mut half)) l₉ 0 (sliceVal (xl .ptr) (length (xl .now)))) ∷ ‵ (fdies (sliceTy (tyRef (named 3) mut half)) l₉)
-          ∷ ‵ (fat fullShare word l₈ 0 (vint w64 n)) ∷ ‵ (fdies word l₈) ∷ ‵ (fat fullShare (sliceTy (tyRef (named 2) mut record-type)) l₇ 0 (sliceVal (xa .ptr) (length (xa .now)))) ∷ ‵ (fdies (sliceTy (tyRef (named 2) mut record-type)) l₇)
-          ∷ ‵ (fat fullShare word l₆ 0 (vint w64 i)) ∷ ‵ (fdies word l₆) ∷ ‵ (fat fullShare (sliceTy (tyRef (named 1) imm half)) l₅ 0 (sliceVal (xo .ptr) (length (xo .now)))) ∷ ‵ (fdies (sliceTy (tyRef (named 1) imm half)) l₅)
-          ∷ ‵ (fat fullShare T′.mir l₄ 0 (low row)) ∷ ‵ (fdies T′.mir l₄) ∷ ‵ (fat fullShare word l₃ 0 (vint w64 old)) ∷ ‵ (fdies word l₃)
-          ∷ ‵ (fat fullShare word l₂ 0 (vint w64 w)) ∷ ‵ (fdies word l₂) ∷ ‵ (fat fullShare (sliceTy (tyRef (named 0) imm half)) l₁ 0 (sliceVal (xs .ptr) (length (xs .now)))) ∷ ‵ (fdies (sliceTy (tyRef (named 0) imm half)) l₁)
-          ∷ ‵ (froom tyUnit l₀ 0) ∷ ‵ (fdies tyUnit l₀) ∷ []) ∵ exec ! (𝓣 .C) (𝓣 .Λ) En mir.t-1 (atRet En Post) $
           assigns ! (addr ! (from ! (fld ! refl (hop ! (look-in ! 22 (sub ! 0 refl (whole !))) (stop !))))) (from ! (stop !)) (init ! 18 refl (tt, tt)) $
           assigns ! (agg ! (and-then ! (load ! (from ! (stop !)) (look ! 18 refl)) (and-then ! (load ! (from ! (fld ! refl (stop !))) (look-in ! 22 (sub ! 1 refl (whole !)))) (no-more !)))) (from ! (stop !)) (init ! 16 refl (tt, (tt, (record { fits = g-l .0 }, tt)))) $
           move ! (0 ∷ 1 ∷ 2 ∷ 3 ∷ 6 ∷ 7 ∷ []) $
@@ -199,7 +166,7 @@ module _ {M : Type 1} (𝓤 : URA M) (H : Heap 𝓤) (A : Atoms 𝓤) (W : Given
           land ! (from ! (stop !)) (init ! 20 refl (tt, tt)) $
           forget ! 18 refl $ forget ! 16 refl $
           keep ! (0 ∷ 1 ∷ 2 ∷ 3 ∷ 6 ∷ 7 ∷ 4 ∷ 5 ∷ 8 ∷ 9 ∷ 10 ∷ 11 ∷ 12 ∷ 13 ∷ 14 ∷ 15 ∷ 16 ∷ 17 ∷ 18 ∷ 19 ∷ 20 ∷ 21 ∷ 22 ∷ 23 ∷ 24 ∷ 25 ∷ 26 ∷ 27 ∷ 28 ∷ 29 ∷ 30 ∷ 31 ∷ 32 ∷ 33 ∷ 34 ∷ 35 ∷ 36 ∷ 37 ∷ 38 ∷ 39 ∷ 40 ∷ 41 ∷ []) $
-          by ! (go-2 zl summed long-zl))
+          go-2 zl summed long-zl)
 
       -- what is had at entry is taken apart
       abbrev At-first : List (Item 𝓤)
@@ -247,7 +214,7 @@ module _ {M : Type 1} (𝓤 : URA M) (H : Heap 𝓤) (A : Atoms 𝓤) (W : Given
           move ! (1 ∷ []) $
           drop ! $
           keep ! (7 ∷ 3 ∷ 6 ∷ 2 ∷ 5 ∷ 1 ∷ 4 ∷ 0 ∷ 8 ∷ 9 ∷ 10 ∷ 11 ∷ 12 ∷ 13 ∷ 14 ∷ 15 ∷ 16 ∷ 17 ∷ 18 ∷ 19 ∷ 20 ∷ 21 ∷ 22 ∷ 23 ∷ 24 ∷ 25 ∷ 26 ∷ 27 ∷ 28 ∷ 29 ∷ 30 ∷ 31 ∷ 32 ∷ 33 ∷ 34 ∷ 35 ∷ 36 ∷ 37 ∷ 38 ∷ 39 ∷ 40 ∷ 41 ∷ []) $
-          by ! go-1
+          go-1
 
       -- the locals are allocated, and the parameters are passed
       abbrev At-entry : List (Item 𝓤)

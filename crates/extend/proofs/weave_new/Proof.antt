@@ -110,7 +110,7 @@ module _ {M : Type 1} (𝓤 : URA M) (H : Heap 𝓤) (A : Atoms 𝓤) (W : Given
       abbrev En : Env 𝓤 H
       En = (word, l₀) ∷ ((sliceTy (tyRef (named 0) imm half)), l₁) ∷ (word, l₂) ∷ (word, l₃) ∷ (word, l₄) ∷ (word, l₅) ∷ (word, l₆) ∷ ((sliceTy (tyRef (named 1) imm record-type)), l₇) ∷ ((sliceTy (tyRef (named 2) mut record-type)), l₈) ∷ ((sliceTy (tyRef (named 3) mut half)), l₉) ∷ (word, l₁₀) ∷ (word, l₁₁) ∷ ((tyRef erased mut half), l₁₂) ∷ ((sliceTy (tyRef erased mut half)), l₁₃) ∷ ((tyRef erased imm half), l₁₄) ∷ ((sliceTy (tyRef erased imm half)), l₁₅) ∷ ((tyRef erased mut record-type), l₁₆) ∷ ((sliceTy (tyRef erased mut record-type)), l₁₇) ∷ (tyUnit, l₁₈) ∷ ((tyRef erased mut record-type), l₁₉) ∷ ((sliceTy (tyRef erased mut record-type)), l₂₀) ∷ []
 
-      go-4 : (k : ℕ) (ul : List ℕ) (listed : Appended (newTable (xs .now) old w e d) 0 k (xl .now) ul) (g-k : k < 2 ^ 64) (long-ul : length ul ≡ length (xl .now)) (n : ℕ) (ua : List Row) (made : Made (xf .now) ul k d base (xa .now) n ua) (g-n : n < 2 ^ 64) (long-ua : length ua ≡ length (xa .now)) (za : List Row) (is-a : za ≡ take n ua ++ replicate (length ua - n) zeroRow) (long-za : length za ≡ length ua) → ent 𝓤 (⋆ 𝓤 H A (‵ (flft κs qs) ∷ ‵ (ShrSlice (named 0) κs i32 .own xs (sliceVal (xs .ptr) (length (xs .now)) ∷ [])) ∷ ‵ (flft κf qf) ∷ ‵ (ShrSlice (named 0) κf T.the-row .own xf (sliceVal (xf .ptr) (length (xf .now)) ∷ []))
+      go-4 : (k : ℕ) (ul : List ℕ) (listed : Appended (newTable (xs .now) old w e d) 0 k (xl .now) ul) (g-k : k < 2 ^ 64) (long-ul : length ul ≡ length (xl .now)) (n : ℕ) (ua : List Row) (made : Made (xf .now) ul k d base (xa .now) n ua) (g-n : n < 2 ^ 64) (long-ua : length ua ≡ length (xa .now)) (za : List Row) (is-a : za ≡ take n ua ++ replicate (length ua - n) zeroRow) (long-za : length za ≡ length ua) → Sq W (‵ (flft κs qs) ∷ ‵ (ShrSlice (named 0) κs i32 .own xs (sliceVal (xs .ptr) (length (xs .now)) ∷ [])) ∷ ‵ (flft κf qf) ∷ ‵ (ShrSlice (named 0) κf T.the-row .own xf (sliceVal (xf .ptr) (length (xf .now)) ∷ []))
           ∷ ‵ (flft κa qa) ∷ ‵ (Lends.Own T.the-row (xa .ptr .0) (xa .ptr .1) (length (xa .now)) (named 0) κa (xa .name) za) ∷ ‵ (flft κl ql) ∷ ‵ (Lends.Own u32 (xl .ptr .0) (xl .ptr .1) (length (xl .now)) (named 0) κl (xl .name) ul)
           ∷ ‵ (froom (sliceTy (tyRef erased mut record-type)) l₂₀ 0) ∷ ‵ (fdies (sliceTy (tyRef erased mut record-type)) l₂₀) ∷ ‵ (froom (tyRef erased mut record-type) l₁₉ 0) ∷ ‵ (fdies (tyRef erased mut record-type) l₁₉)
           ∷ ‵ (fat fullShare tyUnit l₁₈ 0 (vunit)) ∷ ‵ (fdies tyUnit l₁₈) ∷ ‵ (froom (sliceTy (tyRef erased mut record-type)) l₁₇ 0) ∷ ‵ (fdies (sliceTy (tyRef erased mut record-type)) l₁₇)
@@ -122,28 +122,15 @@ module _ {M : Type 1} (𝓤 : URA M) (H : Heap 𝓤) (A : Atoms 𝓤) (W : Given
           ∷ ‵ (fat fullShare word l₆ 0 (vint w64 old)) ∷ ‵ (fdies word l₆) ∷ ‵ (fat fullShare word l₅ 0 (vint w64 base)) ∷ ‵ (fdies word l₅)
           ∷ ‵ (fat fullShare word l₄ 0 (vint w64 d)) ∷ ‵ (fdies word l₄) ∷ ‵ (fat fullShare word l₃ 0 (vint w64 e)) ∷ ‵ (fdies word l₃)
           ∷ ‵ (fat fullShare word l₂ 0 (vint w64 w)) ∷ ‵ (fdies word l₂) ∷ ‵ (fat fullShare (sliceTy (tyRef (named 0) imm half)) l₁ 0 (sliceVal (xs .ptr) (length (xs .now)))) ∷ ‵ (fdies (sliceTy (tyRef (named 0) imm half)) l₁)
-          ∷ ‵ (froom word l₀ 0) ∷ ‵ (fdies word l₀) ∷ [])) (Wp 𝓤 H (𝓣 .C) (𝓣 .Λ) En mir.t-12 (atReturn 𝓤 H En Post))
+          ∷ ‵ (froom word l₀ 0) ∷ ‵ (fdies word l₀) ∷ []) (runs (𝓣 .C) (𝓣 .Λ) En mir.t-12 (atRet En Post))
       go-4 k ul listed g-k long-ul n ua made g-n long-ua za is-a long-za =
-          qed W (‵ (flft κs qs) ∷ ‵ (ShrSlice (named 0) κs i32 .own xs (sliceVal (xs .ptr) (length (xs .now)) ∷ [])) ∷ ‵ (flft κf qf) ∷ ‵ (ShrSlice (named 0) κf T.the-row .own xf (sliceVal (xf .ptr) (length (xf .now)) ∷ []))
-          ∷ ‵ (flft κa qa) ∷ ‵ (Lends.Own T.the-row (xa .ptr .0) (xa .ptr .1) (length (xa .now)) (named 0) κa (xa .name) za) ∷ ‵ (flft κl ql) ∷ ‵ (Lends.Own u32 (xl .ptr .0) (xl .ptr .1) (length (xl .now)) (named 0) κl (xl .name) ul)
-          ∷ ‵ (froom (sliceTy (tyRef erased mut record-type)) l₂₀ 0) ∷ ‵ (fdies (sliceTy (tyRef erased mut record-type)) l₂₀) ∷ ‵ (froom (tyRef erased mut record-type) l₁₉ 0) ∷ ‵ (fdies (tyRef erased mut record-type) l₁₉)
-          ∷ ‵ (fat fullShare tyUnit l₁₈ 0 (vunit)) ∷ ‵ (fdies tyUnit l₁₈) ∷ ‵ (froom (sliceTy (tyRef erased mut record-type)) l₁₇ 0) ∷ ‵ (fdies (sliceTy (tyRef erased mut record-type)) l₁₇)
-          ∷ ‵ (froom (tyRef erased mut record-type) l₁₆ 0) ∷ ‵ (fdies (tyRef erased mut record-type) l₁₆) ∷ ‵ (froom (sliceTy (tyRef erased imm half)) l₁₅ 0) ∷ ‵ (fdies (sliceTy (tyRef erased imm half)) l₁₅)
-          ∷ ‵ (froom (tyRef erased imm half) l₁₄ 0) ∷ ‵ (fdies (tyRef erased imm half) l₁₄) ∷ ‵ (froom (sliceTy (tyRef erased mut half)) l₁₃ 0) ∷ ‵ (fdies (sliceTy (tyRef erased mut half)) l₁₃)
-          ∷ ‵ (froom (tyRef erased mut half) l₁₂ 0) ∷ ‵ (fdies (tyRef erased mut half) l₁₂) ∷ ‵ (fat fullShare word l₁₁ 0 (vint w64 n)) ∷ ‵ (fdies word l₁₁)
-          ∷ ‵ (fat fullShare word l₁₀ 0 (vint w64 k)) ∷ ‵ (fdies word l₁₀) ∷ ‵ (fat fullShare (sliceTy (tyRef (named 3) mut half)) l₉ 0 (sliceVal (xl .ptr) (length (xl .now)))) ∷ ‵ (fdies (sliceTy (tyRef (named 3) mut half)) l₉)
-          ∷ ‵ (fat fullShare (sliceTy (tyRef (named 2) mut record-type)) l₈ 0 (sliceVal (xa .ptr) (length (xa .now)))) ∷ ‵ (fdies (sliceTy (tyRef (named 2) mut record-type)) l₈) ∷ ‵ (fat fullShare (sliceTy (tyRef (named 1) imm record-type)) l₇ 0 (sliceVal (xf .ptr) (length (xf .now)))) ∷ ‵ (fdies (sliceTy (tyRef (named 1) imm record-type)) l₇)
-          ∷ ‵ (fat fullShare word l₆ 0 (vint w64 old)) ∷ ‵ (fdies word l₆) ∷ ‵ (fat fullShare word l₅ 0 (vint w64 base)) ∷ ‵ (fdies word l₅)
-          ∷ ‵ (fat fullShare word l₄ 0 (vint w64 d)) ∷ ‵ (fdies word l₄) ∷ ‵ (fat fullShare word l₃ 0 (vint w64 e)) ∷ ‵ (fdies word l₃)
-          ∷ ‵ (fat fullShare word l₂ 0 (vint w64 w)) ∷ ‵ (fdies word l₂) ∷ ‵ (fat fullShare (sliceTy (tyRef (named 0) imm half)) l₁ 0 (sliceVal (xs .ptr) (length (xs .now)))) ∷ ‵ (fdies (sliceTy (tyRef (named 0) imm half)) l₁)
-          ∷ ‵ (froom word l₀ 0) ∷ ‵ (fdies word l₀) ∷ []) ∵ exec ! (𝓣 .C) (𝓣 .Λ) En mir.t-12 (atRet En Post) $
           assigns ! (of-opd ! (load ! (from ! (stop !)) (look ! 26 refl))) (from ! (stop !)) (init ! 48 refl (tt, record { fits = g-n })) $
           returns ! (look ! 48 refl) $
           lose ! 48 refl refl $ lose ! 46 refl refl $ lose ! 44 refl refl $ lose ! 42 refl refl $ lose ! 40 refl refl $ lose ! 38 refl refl $ lose ! 36 refl refl $ lose ! 34 refl refl $ lose ! 32 refl refl $ lose ! 30 refl refl $ lose ! 28 refl refl $ lose ! 26 refl refl $ lose-room ! 24 refl refl $ lose-room ! 22 refl refl $ lose-room ! 20 refl refl $ lose-room ! 18 refl refl $ lose-room ! 16 refl refl $ lose-room ! 14 refl refl $ lose ! 12 refl refl $ lose-room ! 10 refl refl $ lose-room ! 8 refl refl $ free0 ! $
           keep ! (0 ∷ 2 ∷ 4 ∷ 6 ∷ 5 ∷ 7 ∷ []) $
           by ! (exits za (long-za ∙ long-ua) ul long-ul n g-n (woven-as asked listed made is-a))
 
-      go-3 : (k : ℕ) (ul : List ℕ) (listed : Appended (newTable (xs .now) old w e d) 0 k (xl .now) ul) (g-k : k < 2 ^ 64) (long-ul : length ul ≡ length (xl .now)) (n : ℕ) (ua : List Row) (made : Made (xf .now) ul k d base (xa .now) n ua) (g-n : n < 2 ^ 64) (long-ua : length ua ≡ length (xa .now)) → ent 𝓤 (⋆ 𝓤 H A (‵ (flft κs qs) ∷ ‵ (ShrSlice (named 0) κs i32 .own xs (sliceVal (xs .ptr) (length (xs .now)) ∷ [])) ∷ ‵ (flft κf qf) ∷ ‵ (ShrSlice (named 0) κf T.the-row .own xf (sliceVal (xf .ptr) (length (xf .now)) ∷ []))
+      go-3 : (k : ℕ) (ul : List ℕ) (listed : Appended (newTable (xs .now) old w e d) 0 k (xl .now) ul) (g-k : k < 2 ^ 64) (long-ul : length ul ≡ length (xl .now)) (n : ℕ) (ua : List Row) (made : Made (xf .now) ul k d base (xa .now) n ua) (g-n : n < 2 ^ 64) (long-ua : length ua ≡ length (xa .now)) → Sq W (‵ (flft κs qs) ∷ ‵ (ShrSlice (named 0) κs i32 .own xs (sliceVal (xs .ptr) (length (xs .now)) ∷ [])) ∷ ‵ (flft κf qf) ∷ ‵ (ShrSlice (named 0) κf T.the-row .own xf (sliceVal (xf .ptr) (length (xf .now)) ∷ []))
           ∷ ‵ (flft κa qa) ∷ ‵ (Lends.Own T.the-row (xa .ptr .0) (xa .ptr .1) (length (xa .now)) (named 0) κa (xa .name) ua) ∷ ‵ (flft κl ql) ∷ ‵ (Lends.Own u32 (xl .ptr .0) (xl .ptr .1) (length (xl .now)) (named 0) κl (xl .name) ul)
           ∷ ‵ (froom (sliceTy (tyRef erased mut record-type)) l₂₀ 0) ∷ ‵ (fdies (sliceTy (tyRef erased mut record-type)) l₂₀) ∷ ‵ (froom (tyRef erased mut record-type) l₁₉ 0) ∷ ‵ (fdies (tyRef erased mut record-type) l₁₉)
           ∷ ‵ (froom tyUnit l₁₈ 0) ∷ ‵ (fdies tyUnit l₁₈) ∷ ‵ (froom (sliceTy (tyRef erased mut record-type)) l₁₇ 0) ∷ ‵ (fdies (sliceTy (tyRef erased mut record-type)) l₁₇)
@@ -155,21 +142,8 @@ module _ {M : Type 1} (𝓤 : URA M) (H : Heap 𝓤) (A : Atoms 𝓤) (W : Given
           ∷ ‵ (fat fullShare word l₆ 0 (vint w64 old)) ∷ ‵ (fdies word l₆) ∷ ‵ (fat fullShare word l₅ 0 (vint w64 base)) ∷ ‵ (fdies word l₅)
           ∷ ‵ (fat fullShare word l₄ 0 (vint w64 d)) ∷ ‵ (fdies word l₄) ∷ ‵ (fat fullShare word l₃ 0 (vint w64 e)) ∷ ‵ (fdies word l₃)
           ∷ ‵ (fat fullShare word l₂ 0 (vint w64 w)) ∷ ‵ (fdies word l₂) ∷ ‵ (fat fullShare (sliceTy (tyRef (named 0) imm half)) l₁ 0 (sliceVal (xs .ptr) (length (xs .now)))) ∷ ‵ (fdies (sliceTy (tyRef (named 0) imm half)) l₁)
-          ∷ ‵ (froom word l₀ 0) ∷ ‵ (fdies word l₀) ∷ [])) (Wp 𝓤 H (𝓣 .C) (𝓣 .Λ) En mir.t-9 (atReturn 𝓤 H En Post))
+          ∷ ‵ (froom word l₀ 0) ∷ ‵ (fdies word l₀) ∷ []) (runs (𝓣 .C) (𝓣 .Λ) En mir.t-9 (atRet En Post))
       go-3 k ul listed g-k long-ul n ua made g-n long-ua =
-          qed W (‵ (flft κs qs) ∷ ‵ (ShrSlice (named 0) κs i32 .own xs (sliceVal (xs .ptr) (length (xs .now)) ∷ [])) ∷ ‵ (flft κf qf) ∷ ‵ (ShrSlice (named 0) κf T.the-row .own xf (sliceVal (xf .ptr) (length (xf .now)) ∷ []))
-          ∷ ‵ (flft κa qa) ∷ ‵ (Lends.Own T.the-row (xa .ptr .0) (xa .ptr .1) (length (xa .now)) (named 0) κa (xa .name) ua) ∷ ‵ (flft κl ql) ∷ ‵ (Lends.Own u32 (xl .ptr .0) (xl .ptr .1) (length (xl .now)) (named 0) κl (xl .name) ul)
-          ∷ ‵ (froom (sliceTy (tyRef erased mut record-type)) l₂₀ 0) ∷ ‵ (fdies (sliceTy (tyRef erased mut record-type)) l₂₀) ∷ ‵ (froom (tyRef erased mut record-type) l₁₉ 0) ∷ ‵ (fdies (tyRef erased mut record-type) l₁₉)
-          ∷ ‵ (froom tyUnit l₁₈ 0) ∷ ‵ (fdies tyUnit l₁₈) ∷ ‵ (froom (sliceTy (tyRef erased mut record-type)) l₁₇ 0) ∷ ‵ (fdies (sliceTy (tyRef erased mut record-type)) l₁₇)
-          ∷ ‵ (froom (tyRef erased mut record-type) l₁₆ 0) ∷ ‵ (fdies (tyRef erased mut record-type) l₁₆) ∷ ‵ (froom (sliceTy (tyRef erased imm half)) l₁₅ 0) ∷ ‵ (fdies (sliceTy (tyRef erased imm half)) l₁₅)
-          ∷ ‵ (froom (tyRef erased imm half) l₁₄ 0) ∷ ‵ (fdies (tyRef erased imm half) l₁₄) ∷ ‵ (froom (sliceTy (tyRef erased mut half)) l₁₃ 0) ∷ ‵ (fdies (sliceTy (tyRef erased mut half)) l₁₃)
-          ∷ ‵ (froom (tyRef erased mut half) l₁₂ 0) ∷ ‵ (fdies (tyRef erased mut half) l₁₂) ∷ ‵ (fat fullShare word l₁₁ 0 (vint w64 n)) ∷ ‵ (fdies word l₁₁)
-          ∷ ‵ (fat fullShare word l₁₀ 0 (vint w64 k)) ∷ ‵ (fdies word l₁₀) ∷ ‵ (fat fullShare (sliceTy (tyRef (named 3) mut half)) l₉ 0 (sliceVal (xl .ptr) (length (xl .now)))) ∷ ‵ (fdies (sliceTy (tyRef (named 3) mut half)) l₉)
-          ∷ ‵ (fat fullShare (sliceTy (tyRef (named 2) mut record-type)) l₈ 0 (sliceVal (xa .ptr) (length (xa .now)))) ∷ ‵ (fdies (sliceTy (tyRef (named 2) mut record-type)) l₈) ∷ ‵ (fat fullShare (sliceTy (tyRef (named 1) imm record-type)) l₇ 0 (sliceVal (xf .ptr) (length (xf .now)))) ∷ ‵ (fdies (sliceTy (tyRef (named 1) imm record-type)) l₇)
-          ∷ ‵ (fat fullShare word l₆ 0 (vint w64 old)) ∷ ‵ (fdies word l₆) ∷ ‵ (fat fullShare word l₅ 0 (vint w64 base)) ∷ ‵ (fdies word l₅)
-          ∷ ‵ (fat fullShare word l₄ 0 (vint w64 d)) ∷ ‵ (fdies word l₄) ∷ ‵ (fat fullShare word l₃ 0 (vint w64 e)) ∷ ‵ (fdies word l₃)
-          ∷ ‵ (fat fullShare word l₂ 0 (vint w64 w)) ∷ ‵ (fdies word l₂) ∷ ‵ (fat fullShare (sliceTy (tyRef (named 0) imm half)) l₁ 0 (sliceVal (xs .ptr) (length (xs .now)))) ∷ ‵ (fdies (sliceTy (tyRef (named 0) imm half)) l₁)
-          ∷ ‵ (froom word l₀ 0) ∷ ‵ (fdies word l₀) ∷ []) ∵ exec ! (𝓣 .C) (𝓣 .Λ) En mir.t-9 (atRet En Post) $
           assigns ! (addr ! (from ! (fld ! refl (hop ! (look-in ! 32 (sub ! 0 refl (whole !))) (stop !))))) (from ! (stop !)) (init ! 10 refl (tt, tt)) $
           assigns ! (agg ! (and-then ! (load ! (from ! (stop !)) (look ! 10 refl)) (and-then ! (load ! (from ! (fld ! refl (stop !))) (look-in ! 32 (sub ! 1 refl (whole !)))) (no-more !)))) (from ! (stop !)) (init ! 8 refl (tt, (tt, (record { fits = g-a .0 }, tt)))) $
           move ! (4 ∷ 5 ∷ []) $
@@ -177,9 +151,9 @@ module _ {M : Type 1} (𝓤 : URA M) (H : Heap 𝓤) (A : Atoms 𝓤) (W : Given
           land ! (from ! (stop !)) (init ! 12 refl (tt, tt)) $
           forget ! 10 refl $ forget ! 8 refl $
           keep ! (2 ∷ 3 ∷ 4 ∷ 5 ∷ 0 ∷ 1 ∷ 6 ∷ 7 ∷ 8 ∷ 9 ∷ 10 ∷ 11 ∷ 12 ∷ 13 ∷ 14 ∷ 15 ∷ 16 ∷ 17 ∷ 18 ∷ 19 ∷ 20 ∷ 21 ∷ 22 ∷ 23 ∷ 24 ∷ 25 ∷ 26 ∷ 27 ∷ 28 ∷ 29 ∷ 30 ∷ 31 ∷ 32 ∷ 33 ∷ 34 ∷ 35 ∷ 36 ∷ 37 ∷ 38 ∷ 39 ∷ 40 ∷ 41 ∷ 42 ∷ 43 ∷ 44 ∷ 45 ∷ 46 ∷ 47 ∷ 48 ∷ 49 ∷ []) $
-          by ! (go-4 k ul listed g-k long-ul n ua made g-n long-ua za is-a long-za))
+          go-4 k ul listed g-k long-ul n ua made g-n long-ua za is-a long-za)
 
-      go-2 : (k : ℕ) (ul : List ℕ) (listed : Appended (newTable (xs .now) old w e d) 0 k (xl .now) ul) (g-k : k < 2 ^ 64) (long-ul : length ul ≡ length (xl .now)) → ent 𝓤 (⋆ 𝓤 H A (‵ (flft κs qs) ∷ ‵ (ShrSlice (named 0) κs i32 .own xs (sliceVal (xs .ptr) (length (xs .now)) ∷ [])) ∷ ‵ (flft κf qf) ∷ ‵ (ShrSlice (named 0) κf T.the-row .own xf (sliceVal (xf .ptr) (length (xf .now)) ∷ []))
+      go-2 : (k : ℕ) (ul : List ℕ) (listed : Appended (newTable (xs .now) old w e d) 0 k (xl .now) ul) (g-k : k < 2 ^ 64) (long-ul : length ul ≡ length (xl .now)) → Sq W (‵ (flft κs qs) ∷ ‵ (ShrSlice (named 0) κs i32 .own xs (sliceVal (xs .ptr) (length (xs .now)) ∷ [])) ∷ ‵ (flft κf qf) ∷ ‵ (ShrSlice (named 0) κf T.the-row .own xf (sliceVal (xf .ptr) (length (xf .now)) ∷ []))
           ∷ ‵ (flft κa qa) ∷ ‵ (Lends.Own T.the-row (xa .ptr .0) (xa .ptr .1) (length (xa .now)) (named 0) κa (xa .name) (xa .now)) ∷ ‵ (flft κl ql) ∷ ‵ (Lends.Own u32 (xl .ptr .0) (xl .ptr .1) (length (xl .now)) (named 0) κl (xl .name) ul)
           ∷ ‵ (froom (sliceTy (tyRef erased mut record-type)) l₂₀ 0) ∷ ‵ (fdies (sliceTy (tyRef erased mut record-type)) l₂₀) ∷ ‵ (froom (tyRef erased mut record-type) l₁₉ 0) ∷ ‵ (fdies (tyRef erased mut record-type) l₁₉)
           ∷ ‵ (froom tyUnit l₁₈ 0) ∷ ‵ (fdies tyUnit l₁₈) ∷ ‵ (froom (sliceTy (tyRef erased mut record-type)) l₁₇ 0) ∷ ‵ (fdies (sliceTy (tyRef erased mut record-type)) l₁₇)
@@ -191,21 +165,8 @@ module _ {M : Type 1} (𝓤 : URA M) (H : Heap 𝓤) (A : Atoms 𝓤) (W : Given
           ∷ ‵ (fat fullShare word l₆ 0 (vint w64 old)) ∷ ‵ (fdies word l₆) ∷ ‵ (fat fullShare word l₅ 0 (vint w64 base)) ∷ ‵ (fdies word l₅)
           ∷ ‵ (fat fullShare word l₄ 0 (vint w64 d)) ∷ ‵ (fdies word l₄) ∷ ‵ (fat fullShare word l₃ 0 (vint w64 e)) ∷ ‵ (fdies word l₃)
           ∷ ‵ (fat fullShare word l₂ 0 (vint w64 w)) ∷ ‵ (fdies word l₂) ∷ ‵ (fat fullShare (sliceTy (tyRef (named 0) imm half)) l₁ 0 (sliceVal (xs .ptr) (length (xs .now)))) ∷ ‵ (fdies (sliceTy (tyRef (named 0) imm half)) l₁)
-          ∷ ‵ (froom word l₀ 0) ∷ ‵ (fdies word l₀) ∷ [])) (Wp 𝓤 H (𝓣 .C) (𝓣 .Λ) En mir.t-4 (atReturn 𝓤 H En Post))
+          ∷ ‵ (froom word l₀ 0) ∷ ‵ (fdies word l₀) ∷ []) (runs (𝓣 .C) (𝓣 .Λ) En mir.t-4 (atRet En Post))
       go-2 k ul listed g-k long-ul =
-          qed W (‵ (flft κs qs) ∷ ‵ (ShrSlice (named 0) κs i32 .own xs (sliceVal (xs .ptr) (length (xs .now)) ∷ [])) ∷ ‵ (flft κf qf) ∷ ‵ (ShrSlice (named 0) κf T.the-row .own xf (sliceVal (xf .ptr) (length (xf .now)) ∷ []))
-          ∷ ‵ (flft κa qa) ∷ ‵ (Lends.Own T.the-row (xa .ptr .0) (xa .ptr .1) (length (xa .now)) (named 0) κa (xa .name) (xa .now)) ∷ ‵ (flft κl ql) ∷ ‵ (Lends.Own u32 (xl .ptr .0) (xl .ptr .1) (length (xl .now)) (named 0) κl (xl .name) ul)
-          ∷ ‵ (froom (sliceTy (tyRef erased mut record-type)) l₂₀ 0) ∷ ‵ (fdies (sliceTy (tyRef erased mut record-type)) l₂₀) ∷ ‵ (froom (tyRef erased mut record-type) l₁₉ 0) ∷ ‵ (fdies (tyRef erased mut record-type) l₁₉)
-          ∷ ‵ (froom tyUnit l₁₈ 0) ∷ ‵ (fdies tyUnit l₁₈) ∷ ‵ (froom (sliceTy (tyRef erased mut record-type)) l₁₇ 0) ∷ ‵ (fdies (sliceTy (tyRef erased mut record-type)) l₁₇)
-          ∷ ‵ (froom (tyRef erased mut record-type) l₁₆ 0) ∷ ‵ (fdies (tyRef erased mut record-type) l₁₆) ∷ ‵ (froom (sliceTy (tyRef erased imm half)) l₁₅ 0) ∷ ‵ (fdies (sliceTy (tyRef erased imm half)) l₁₅)
-          ∷ ‵ (froom (tyRef erased imm half) l₁₄ 0) ∷ ‵ (fdies (tyRef erased imm half) l₁₄) ∷ ‵ (froom (sliceTy (tyRef erased mut half)) l₁₃ 0) ∷ ‵ (fdies (sliceTy (tyRef erased mut half)) l₁₃)
-          ∷ ‵ (froom (tyRef erased mut half) l₁₂ 0) ∷ ‵ (fdies (tyRef erased mut half) l₁₂) ∷ ‵ (froom word l₁₁ 0) ∷ ‵ (fdies word l₁₁)
-          ∷ ‵ (fat fullShare word l₁₀ 0 (vint w64 k)) ∷ ‵ (fdies word l₁₀) ∷ ‵ (fat fullShare (sliceTy (tyRef (named 3) mut half)) l₉ 0 (sliceVal (xl .ptr) (length (xl .now)))) ∷ ‵ (fdies (sliceTy (tyRef (named 3) mut half)) l₉)
-          ∷ ‵ (fat fullShare (sliceTy (tyRef (named 2) mut record-type)) l₈ 0 (sliceVal (xa .ptr) (length (xa .now)))) ∷ ‵ (fdies (sliceTy (tyRef (named 2) mut record-type)) l₈) ∷ ‵ (fat fullShare (sliceTy (tyRef (named 1) imm record-type)) l₇ 0 (sliceVal (xf .ptr) (length (xf .now)))) ∷ ‵ (fdies (sliceTy (tyRef (named 1) imm record-type)) l₇)
-          ∷ ‵ (fat fullShare word l₆ 0 (vint w64 old)) ∷ ‵ (fdies word l₆) ∷ ‵ (fat fullShare word l₅ 0 (vint w64 base)) ∷ ‵ (fdies word l₅)
-          ∷ ‵ (fat fullShare word l₄ 0 (vint w64 d)) ∷ ‵ (fdies word l₄) ∷ ‵ (fat fullShare word l₃ 0 (vint w64 e)) ∷ ‵ (fdies word l₃)
-          ∷ ‵ (fat fullShare word l₂ 0 (vint w64 w)) ∷ ‵ (fdies word l₂) ∷ ‵ (fat fullShare (sliceTy (tyRef (named 0) imm half)) l₁ 0 (sliceVal (xs .ptr) (length (xs .now)))) ∷ ‵ (fdies (sliceTy (tyRef (named 0) imm half)) l₁)
-          ∷ ‵ (froom word l₀ 0) ∷ ‵ (fdies word l₀) ∷ []) ∵ exec ! (𝓣 .C) (𝓣 .Λ) En mir.t-4 (atRet En Post) $
           assigns ! (addr ! (from ! (fld ! refl (hop ! (look-in ! 30 (sub ! 0 refl (whole !))) (stop !))))) (from ! (stop !)) (init ! 20 refl (tt, tt)) $
           assigns ! (agg ! (and-then ! (load ! (from ! (stop !)) (look ! 20 refl)) (and-then ! (load ! (from ! (fld ! refl (stop !))) (look-in ! 30 (sub ! 1 refl (whole !)))) (no-more !)))) (from ! (stop !)) (init ! 18 refl (tt, (tt, (record { fits = g-l .0 }, tt)))) $
           assigns ! (addr ! (from ! (fld ! refl (hop ! (look-in ! 32 (sub ! 0 refl (whole !))) (stop !))))) (from ! (stop !)) (init ! 16 refl (tt, tt)) $
@@ -215,9 +176,9 @@ module _ {M : Type 1} (𝓤 : URA M) (H : Heap 𝓤) (A : Atoms 𝓤) (W : Given
           land ! (from ! (stop !)) (init ! 26 refl (tt, record { fits = g-n })) $
           forget ! 20 refl $ forget ! 18 refl $ forget ! 16 refl $ forget ! 14 refl $
           keep ! (6 ∷ 7 ∷ 0 ∷ 1 ∷ 4 ∷ 5 ∷ 2 ∷ 3 ∷ 8 ∷ 9 ∷ 10 ∷ 11 ∷ 12 ∷ 13 ∷ 14 ∷ 15 ∷ 16 ∷ 17 ∷ 18 ∷ 19 ∷ 20 ∷ 21 ∷ 22 ∷ 23 ∷ 24 ∷ 25 ∷ 26 ∷ 27 ∷ 28 ∷ 29 ∷ 30 ∷ 31 ∷ 32 ∷ 33 ∷ 34 ∷ 35 ∷ 36 ∷ 37 ∷ 38 ∷ 39 ∷ 40 ∷ 41 ∷ 42 ∷ 43 ∷ 44 ∷ 45 ∷ 46 ∷ 47 ∷ 48 ∷ 49 ∷ []) $
-          by ! (go-3 k ul listed g-k long-ul n ua made g-n long-ua))
+          go-3 k ul listed g-k long-ul n ua made g-n long-ua)
 
-      go-1 : ent 𝓤 (⋆ 𝓤 H A (‵ (flft κs qs) ∷ ‵ (ShrSlice (named 0) κs i32 .own xs (sliceVal (xs .ptr) (length (xs .now)) ∷ [])) ∷ ‵ (flft κf qf) ∷ ‵ (ShrSlice (named 0) κf T.the-row .own xf (sliceVal (xf .ptr) (length (xf .now)) ∷ []))
+      go-1 : Sq W (‵ (flft κs qs) ∷ ‵ (ShrSlice (named 0) κs i32 .own xs (sliceVal (xs .ptr) (length (xs .now)) ∷ [])) ∷ ‵ (flft κf qf) ∷ ‵ (ShrSlice (named 0) κf T.the-row .own xf (sliceVal (xf .ptr) (length (xf .now)) ∷ []))
           ∷ ‵ (flft κa qa) ∷ ‵ (Lends.Own T.the-row (xa .ptr .0) (xa .ptr .1) (length (xa .now)) (named 0) κa (xa .name) (xa .now)) ∷ ‵ (flft κl ql) ∷ ‵ (Lends.Own u32 (xl .ptr .0) (xl .ptr .1) (length (xl .now)) (named 0) κl (xl .name) (xl .now))
           ∷ ‵ (froom (sliceTy (tyRef erased mut record-type)) l₂₀ 0) ∷ ‵ (fdies (sliceTy (tyRef erased mut record-type)) l₂₀) ∷ ‵ (froom (tyRef erased mut record-type) l₁₉ 0) ∷ ‵ (fdies (tyRef erased mut record-type) l₁₉)
           ∷ ‵ (froom tyUnit l₁₈ 0) ∷ ‵ (fdies tyUnit l₁₈) ∷ ‵ (froom (sliceTy (tyRef erased mut record-type)) l₁₇ 0) ∷ ‵ (fdies (sliceTy (tyRef erased mut record-type)) l₁₇)
@@ -229,21 +190,8 @@ module _ {M : Type 1} (𝓤 : URA M) (H : Heap 𝓤) (A : Atoms 𝓤) (W : Given
           ∷ ‵ (fat fullShare word l₆ 0 (vint w64 old)) ∷ ‵ (fdies word l₆) ∷ ‵ (fat fullShare word l₅ 0 (vint w64 base)) ∷ ‵ (fdies word l₅)
           ∷ ‵ (fat fullShare word l₄ 0 (vint w64 d)) ∷ ‵ (fdies word l₄) ∷ ‵ (fat fullShare word l₃ 0 (vint w64 e)) ∷ ‵ (fdies word l₃)
           ∷ ‵ (fat fullShare word l₂ 0 (vint w64 w)) ∷ ‵ (fdies word l₂) ∷ ‵ (fat fullShare (sliceTy (tyRef (named 0) imm half)) l₁ 0 (sliceVal (xs .ptr) (length (xs .now)))) ∷ ‵ (fdies (sliceTy (tyRef (named 0) imm half)) l₁)
-          ∷ ‵ (froom word l₀ 0) ∷ ‵ (fdies word l₀) ∷ [])) (Wp 𝓤 H (𝓣 .C) (𝓣 .Λ) En mir.t-1 (atReturn 𝓤 H En Post))
+          ∷ ‵ (froom word l₀ 0) ∷ ‵ (fdies word l₀) ∷ []) (runs (𝓣 .C) (𝓣 .Λ) En mir.t-1 (atRet En Post))
       go-1 =
-          qed W (‵ (flft κs qs) ∷ ‵ (ShrSlice (named 0) κs i32 .own xs (sliceVal (xs .ptr) (length (xs .now)) ∷ [])) ∷ ‵ (flft κf qf) ∷ ‵ (ShrSlice (named 0) κf T.the-row .own xf (sliceVal (xf .ptr) (length (xf .now)) ∷ []))
-          ∷ ‵ (flft κa qa) ∷ ‵ (Lends.Own T.the-row (xa .ptr .0) (xa .ptr .1) (length (xa .now)) (named 0) κa (xa .name) (xa .now)) ∷ ‵ (flft κl ql) ∷ ‵ (Lends.Own u32 (xl .ptr .0) (xl .ptr .1) (length (xl .now)) (named 0) κl (xl .name) (xl .now))
-          ∷ ‵ (froom (sliceTy (tyRef erased mut record-type)) l₂₀ 0) ∷ ‵ (fdies (sliceTy (tyRef erased mut record-type)) l₂₀) ∷ ‵ (froom (tyRef erased mut record-type) l₁₉ 0) ∷ ‵ (fdies (tyRef erased mut record-type) l₁₉)
-          ∷ ‵ (froom tyUnit l₁₈ 0) ∷ ‵ (fdies tyUnit l₁₈) ∷ ‵ (froom (sliceTy (tyRef erased mut record-type)) l₁₇ 0) ∷ ‵ (fdies (sliceTy (tyRef erased mut record-type)) l₁₇)
-          ∷ ‵ (froom (tyRef erased mut record-type) l₁₆ 0) ∷ ‵ (fdies (tyRef erased mut record-type) l₁₆) ∷ ‵ (froom (sliceTy (tyRef erased imm half)) l₁₅ 0) ∷ ‵ (fdies (sliceTy (tyRef erased imm half)) l₁₅)
-          ∷ ‵ (froom (tyRef erased imm half) l₁₄ 0) ∷ ‵ (fdies (tyRef erased imm half) l₁₄) ∷ ‵ (froom (sliceTy (tyRef erased mut half)) l₁₃ 0) ∷ ‵ (fdies (sliceTy (tyRef erased mut half)) l₁₃)
-          ∷ ‵ (froom (tyRef erased mut half) l₁₂ 0) ∷ ‵ (fdies (tyRef erased mut half) l₁₂) ∷ ‵ (froom word l₁₁ 0) ∷ ‵ (fdies word l₁₁)
-          ∷ ‵ (froom word l₁₀ 0) ∷ ‵ (fdies word l₁₀) ∷ ‵ (fat fullShare (sliceTy (tyRef (named 3) mut half)) l₉ 0 (sliceVal (xl .ptr) (length (xl .now)))) ∷ ‵ (fdies (sliceTy (tyRef (named 3) mut half)) l₉)
-          ∷ ‵ (fat fullShare (sliceTy (tyRef (named 2) mut record-type)) l₈ 0 (sliceVal (xa .ptr) (length (xa .now)))) ∷ ‵ (fdies (sliceTy (tyRef (named 2) mut record-type)) l₈) ∷ ‵ (fat fullShare (sliceTy (tyRef (named 1) imm record-type)) l₇ 0 (sliceVal (xf .ptr) (length (xf .now)))) ∷ ‵ (fdies (sliceTy (tyRef (named 1) imm record-type)) l₇)
-          ∷ ‵ (fat fullShare word l₆ 0 (vint w64 old)) ∷ ‵ (fdies word l₆) ∷ ‵ (fat fullShare word l₅ 0 (vint w64 base)) ∷ ‵ (fdies word l₅)
-          ∷ ‵ (fat fullShare word l₄ 0 (vint w64 d)) ∷ ‵ (fdies word l₄) ∷ ‵ (fat fullShare word l₃ 0 (vint w64 e)) ∷ ‵ (fdies word l₃)
-          ∷ ‵ (fat fullShare word l₂ 0 (vint w64 w)) ∷ ‵ (fdies word l₂) ∷ ‵ (fat fullShare (sliceTy (tyRef (named 0) imm half)) l₁ 0 (sliceVal (xs .ptr) (length (xs .now)))) ∷ ‵ (fdies (sliceTy (tyRef (named 0) imm half)) l₁)
-          ∷ ‵ (froom word l₀ 0) ∷ ‵ (fdies word l₀) ∷ []) ∵ exec ! (𝓣 .C) (𝓣 .Λ) En mir.t-1 (atRet En Post) $
           assigns ! (addr ! (from ! (fld ! refl (hop ! (look-in ! 30 (sub ! 0 refl (whole !))) (stop !))))) (from ! (stop !)) (init ! 24 refl (tt, tt)) $
           assigns ! (agg ! (and-then ! (load ! (from ! (stop !)) (look ! 24 refl)) (and-then ! (load ! (from ! (fld ! refl (stop !))) (look-in ! 30 (sub ! 1 refl (whole !)))) (no-more !)))) (from ! (stop !)) (init ! 22 refl (tt, (tt, (record { fits = g-l .0 }, tt)))) $
           move ! (0 ∷ 1 ∷ 6 ∷ 7 ∷ []) $
@@ -251,7 +199,7 @@ module _ {M : Type 1} (𝓤 : URA M) (H : Heap 𝓤) (A : Atoms 𝓤) (W : Given
           land ! (from ! (stop !)) (init ! 28 refl (tt, record { fits = g-k })) $
           forget ! 24 refl $ forget ! 22 refl $
           keep ! (0 ∷ 1 ∷ 4 ∷ 5 ∷ 6 ∷ 7 ∷ 2 ∷ 3 ∷ 8 ∷ 9 ∷ 10 ∷ 11 ∷ 12 ∷ 13 ∷ 14 ∷ 15 ∷ 16 ∷ 17 ∷ 18 ∷ 19 ∷ 20 ∷ 21 ∷ 22 ∷ 23 ∷ 24 ∷ 25 ∷ 26 ∷ 27 ∷ 28 ∷ 29 ∷ 30 ∷ 31 ∷ 32 ∷ 33 ∷ 34 ∷ 35 ∷ 36 ∷ 37 ∷ 38 ∷ 39 ∷ 40 ∷ 41 ∷ 42 ∷ 43 ∷ 44 ∷ 45 ∷ 46 ∷ 47 ∷ 48 ∷ 49 ∷ []) $
-          by ! (go-2 k ul listed g-k long-ul))
+          go-2 k ul listed g-k long-ul)
 
       -- what is had at entry is taken apart
       abbrev At-first : List (Item 𝓤)
@@ -301,7 +249,7 @@ module _ {M : Type 1} (𝓤 : URA M) (H : Heap 𝓤) (A : Atoms 𝓤) (W : Given
           move ! (1 ∷ []) $
           drop ! $
           keep ! (7 ∷ 3 ∷ 6 ∷ 2 ∷ 5 ∷ 1 ∷ 4 ∷ 0 ∷ 8 ∷ 9 ∷ 10 ∷ 11 ∷ 12 ∷ 13 ∷ 14 ∷ 15 ∷ 16 ∷ 17 ∷ 18 ∷ 19 ∷ 20 ∷ 21 ∷ 22 ∷ 23 ∷ 24 ∷ 25 ∷ 26 ∷ 27 ∷ 28 ∷ 29 ∷ 30 ∷ 31 ∷ 32 ∷ 33 ∷ 34 ∷ 35 ∷ 36 ∷ 37 ∷ 38 ∷ 39 ∷ 40 ∷ 41 ∷ 42 ∷ 43 ∷ 44 ∷ 45 ∷ 46 ∷ 47 ∷ 48 ∷ 49 ∷ []) $
-          by ! go-1
+          go-1
 
       -- the locals are allocated, and the parameters are passed
       abbrev At-entry : List (Item 𝓤)

@@ -168,17 +168,15 @@ module _ {M : Type 1} (𝓤 : URA M) (H : Heap 𝓤) (A : Atoms 𝓤) (W : Given
           ∷ ‵ (fat fullShare (sliceTy (tyRef (named 1) imm record-type)) l₃ 0 (sliceVal (xf .ptr) (length (xf .now)))) ∷ ‵ (fdies (sliceTy (tyRef (named 1) imm record-type)) l₃) ∷ ‵ (fat fullShare Hd′.mir l₂ 0 (low-head head)) ∷ ‵ (fdies Hd′.mir l₂)
           ∷ ‵ (fat fullShare (sliceTy (tyRef (named 0) imm half)) l₁ 0 (sliceVal (xs .ptr) (length (xs .now)))) ∷ ‵ (fdies (sliceTy (tyRef (named 0) imm half)) l₁) ∷ i₉ ∷ ‵ (fdies Ex′.mir l₀) ∷ []
 
-      go-6 : (j : Judged) (is-j : j ≡ judgedOf (lent head (xf .now) (xc .now) (xh .now))) (g-j : Is J.the-row j (low-judged j ∷ [])) (m : ℕ) (is-m : m ≡ min (length (xl .now)) (length (xr .now))) (g-m : m < 2 ^ 64) (p : Plan) (is-p : p ≡ planOf (xs .now) head j (length (xa .now)) m) (g-p : Is Pn.the-row p (low-plan p ∷ [])) (yes′ : eqb (p .number) 0 ≡ true) (t : Extended) (za : List Row) (zl : List ℕ) (zr : List ℕ) (kept : ExtendKept (lentExtend (xs .now) head (xf .now) (xc .now) (xh .now)) (buffers (xa .now) (xl .now) (xr .now)) t (buffers za zl zr)) (g-t : Is Ex.the-row t (low-extended t ∷ [])) (long-a : length za ≡ length (xa .now)) (long-l : length zl ≡ length (xl .now)) (long-r : length zr ≡ length (xr .now)) → ent 𝓤 (⋆ 𝓤 H A (Held (‵ (Lends.Own T.the-row (xa .ptr .0) (xa .ptr .1) (length (xa .now)) (named 0) κa (xa .name) za)) (‵ (Lends.Own u32 (xl .ptr .0) (xl .ptr .1) (length (xl .now)) (named 0) κl (xl .name) zl)) (‵ (Lends.Own u32 (xr .ptr .0) (xr .ptr .1) (length (xr .now)) (named 0) κr (xr .name) zr)) (‵ (fat fullShare word l₁₃ 0 (vint w64 (length (xr .now))))) (‵ (fat fullShare word l₁₂ 0 (vint w64 (length (xa .now))))) (‵ (fat fullShare Pn′.mir l₁₁ 0 (low-plan p))) (‵ (fat fullShare word l₁₀ 0 (vint w64 m))) (‵ (fat fullShare J′.mir l₉ 0 (low-judged j))) (‵ (fat fullShare Ex′.mir l₀ 0 (low-extended t))))) (Wp 𝓤 H (𝓣 .C) (𝓣 .Λ) En mir.t-16 (atReturn 𝓤 H En Post))
+      go-6 : (j : Judged) (is-j : j ≡ judgedOf (lent head (xf .now) (xc .now) (xh .now))) (g-j : Is J.the-row j (low-judged j ∷ [])) (m : ℕ) (is-m : m ≡ min (length (xl .now)) (length (xr .now))) (g-m : m < 2 ^ 64) (p : Plan) (is-p : p ≡ planOf (xs .now) head j (length (xa .now)) m) (g-p : Is Pn.the-row p (low-plan p ∷ [])) (yes′ : eqb (p .number) 0 ≡ true) (t : Extended) (za : List Row) (zl : List ℕ) (zr : List ℕ) (kept : ExtendKept (lentExtend (xs .now) head (xf .now) (xc .now) (xh .now)) (buffers (xa .now) (xl .now) (xr .now)) t (buffers za zl zr)) (g-t : Is Ex.the-row t (low-extended t ∷ [])) (long-a : length za ≡ length (xa .now)) (long-l : length zl ≡ length (xl .now)) (long-r : length zr ≡ length (xr .now)) → Sq W (Held (‵ (Lends.Own T.the-row (xa .ptr .0) (xa .ptr .1) (length (xa .now)) (named 0) κa (xa .name) za)) (‵ (Lends.Own u32 (xl .ptr .0) (xl .ptr .1) (length (xl .now)) (named 0) κl (xl .name) zl)) (‵ (Lends.Own u32 (xr .ptr .0) (xr .ptr .1) (length (xr .now)) (named 0) κr (xr .name) zr)) (‵ (fat fullShare word l₁₃ 0 (vint w64 (length (xr .now))))) (‵ (fat fullShare word l₁₂ 0 (vint w64 (length (xa .now))))) (‵ (fat fullShare Pn′.mir l₁₁ 0 (low-plan p))) (‵ (fat fullShare word l₁₀ 0 (vint w64 m))) (‵ (fat fullShare J′.mir l₉ 0 (low-judged j))) (‵ (fat fullShare Ex′.mir l₀ 0 (low-extended t)))) (runs (𝓣 .C) (𝓣 .Λ) En mir.t-16 (atRet En Post))
       go-6 j is-j g-j m is-m g-m p is-p g-p yes′ t za zl zr kept g-t long-a long-l long-r =
-          qed W (Held (‵ (Lends.Own T.the-row (xa .ptr .0) (xa .ptr .1) (length (xa .now)) (named 0) κa (xa .name) za)) (‵ (Lends.Own u32 (xl .ptr .0) (xl .ptr .1) (length (xl .now)) (named 0) κl (xl .name) zl)) (‵ (Lends.Own u32 (xr .ptr .0) (xr .ptr .1) (length (xr .now)) (named 0) κr (xr .name) zr)) (‵ (fat fullShare word l₁₃ 0 (vint w64 (length (xr .now))))) (‵ (fat fullShare word l₁₂ 0 (vint w64 (length (xa .now))))) (‵ (fat fullShare Pn′.mir l₁₁ 0 (low-plan p))) (‵ (fat fullShare word l₁₀ 0 (vint w64 m))) (‵ (fat fullShare J′.mir l₉ 0 (low-judged j))) (‵ (fat fullShare Ex′.mir l₀ 0 (low-extended t)))) ∵ exec ! (𝓣 .C) (𝓣 .Λ) En mir.t-16 (atRet En Post) $
           returns ! (look ! 54 refl) $
           lose ! 54 refl refl $ lose ! 52 refl refl $ lose ! 50 refl refl $ lose ! 48 refl refl $ lose ! 46 refl refl $ lose ! 44 refl refl $ lose ! 42 refl refl $ lose ! 40 refl refl $ lose ! 38 refl refl $ lose ! 36 refl refl $ lose ! 34 refl refl $ lose ! 32 refl refl $ lose ! 30 refl refl $ lose ! 28 refl refl $ lose-room ! 26 refl refl $ lose-room ! 24 refl refl $ lose-room ! 22 refl refl $ lose-room ! 20 refl refl $ lose-room ! 18 refl refl $ lose-room ! 16 refl refl $ lose-room ! 14 refl refl $ free0 ! $
           keep ! (0 ∷ 2 ∷ 4 ∷ 6 ∷ 8 ∷ 10 ∷ 12 ∷ 9 ∷ 11 ∷ 13 ∷ []) $
           by ! (exits za long-a zl long-l zr long-r t g-t kept)
 
-      go-5 : (j : Judged) (is-j : j ≡ judgedOf (lent head (xf .now) (xc .now) (xh .now))) (g-j : Is J.the-row j (low-judged j ∷ [])) (m : ℕ) (is-m : m ≡ min (length (xl .now)) (length (xr .now))) (g-m : m < 2 ^ 64) (p : Plan) (is-p : p ≡ planOf (xs .now) head j (length (xa .now)) m) (g-p : Is Pn.the-row p (low-plan p ∷ [])) (yes′ : eqb (p .number) 0 ≡ true) → ent 𝓤 (⋆ 𝓤 H A (Held (‵ (Lends.Own T.the-row (xa .ptr .0) (xa .ptr .1) (length (xa .now)) (named 0) κa (xa .name) (xa .now))) (‵ (Lends.Own u32 (xl .ptr .0) (xl .ptr .1) (length (xl .now)) (named 0) κl (xl .name) (xl .now))) (‵ (Lends.Own u32 (xr .ptr .0) (xr .ptr .1) (length (xr .now)) (named 0) κr (xr .name) (xr .now))) (‵ (fat fullShare word l₁₃ 0 (vint w64 (length (xr .now))))) (‵ (fat fullShare word l₁₂ 0 (vint w64 (length (xa .now))))) (‵ (fat fullShare Pn′.mir l₁₁ 0 (low-plan p))) (‵ (fat fullShare word l₁₀ 0 (vint w64 m))) (‵ (fat fullShare J′.mir l₉ 0 (low-judged j))) (‵ (froom Ex′.mir l₀ 0)))) (Wp 𝓤 H (𝓣 .C) (𝓣 .Λ) En mir.t-9 (atReturn 𝓤 H En Post))
+      go-5 : (j : Judged) (is-j : j ≡ judgedOf (lent head (xf .now) (xc .now) (xh .now))) (g-j : Is J.the-row j (low-judged j ∷ [])) (m : ℕ) (is-m : m ≡ min (length (xl .now)) (length (xr .now))) (g-m : m < 2 ^ 64) (p : Plan) (is-p : p ≡ planOf (xs .now) head j (length (xa .now)) m) (g-p : Is Pn.the-row p (low-plan p ∷ [])) (yes′ : eqb (p .number) 0 ≡ true) → Sq W (Held (‵ (Lends.Own T.the-row (xa .ptr .0) (xa .ptr .1) (length (xa .now)) (named 0) κa (xa .name) (xa .now))) (‵ (Lends.Own u32 (xl .ptr .0) (xl .ptr .1) (length (xl .now)) (named 0) κl (xl .name) (xl .now))) (‵ (Lends.Own u32 (xr .ptr .0) (xr .ptr .1) (length (xr .now)) (named 0) κr (xr .name) (xr .now))) (‵ (fat fullShare word l₁₃ 0 (vint w64 (length (xr .now))))) (‵ (fat fullShare word l₁₂ 0 (vint w64 (length (xa .now))))) (‵ (fat fullShare Pn′.mir l₁₁ 0 (low-plan p))) (‵ (fat fullShare word l₁₀ 0 (vint w64 m))) (‵ (fat fullShare J′.mir l₉ 0 (low-judged j))) (‵ (froom Ex′.mir l₀ 0))) (runs (𝓣 .C) (𝓣 .Λ) En mir.t-9 (atRet En Post))
       go-5 j is-j g-j m is-m g-m p is-p g-p yes′ =
-          qed W (Held (‵ (Lends.Own T.the-row (xa .ptr .0) (xa .ptr .1) (length (xa .now)) (named 0) κa (xa .name) (xa .now))) (‵ (Lends.Own u32 (xl .ptr .0) (xl .ptr .1) (length (xl .now)) (named 0) κl (xl .name) (xl .now))) (‵ (Lends.Own u32 (xr .ptr .0) (xr .ptr .1) (length (xr .now)) (named 0) κr (xr .name) (xr .now))) (‵ (fat fullShare word l₁₃ 0 (vint w64 (length (xr .now))))) (‵ (fat fullShare word l₁₂ 0 (vint w64 (length (xa .now))))) (‵ (fat fullShare Pn′.mir l₁₁ 0 (low-plan p))) (‵ (fat fullShare word l₁₀ 0 (vint w64 m))) (‵ (fat fullShare J′.mir l₉ 0 (low-judged j))) (‵ (froom Ex′.mir l₀ 0))) ∵ exec ! (𝓣 .C) (𝓣 .Λ) En mir.t-9 (atRet En Post) $
           assigns ! (addr ! (from ! (fld ! refl (hop ! (look-in ! 42 (sub ! 0 refl (whole !))) (stop !))))) (from ! (stop !)) (init ! 24 refl (tt, tt)) $
           assigns ! (agg ! (and-then ! (load ! (from ! (stop !)) (look ! 24 refl)) (and-then ! (load ! (from ! (fld ! refl (stop !))) (look-in ! 42 (sub ! 1 refl (whole !)))) (no-more !)))) (from ! (stop !)) (init ! 22 refl (tt, (tt, (record { fits = g-a .0 }, tt)))) $
           assigns ! (addr ! (from ! (fld ! refl (hop ! (look-in ! 40 (sub ! 0 refl (whole !))) (stop !))))) (from ! (stop !)) (init ! 20 refl (tt, tt)) $
@@ -189,18 +187,15 @@ module _ {M : Type 1} (𝓤 : URA M) (H : Heap 𝓤) (A : Atoms 𝓤) (W : Given
           calls-extend-planned ! fm mem run known-goes κs qs xs κf qf xf κc qc xc κh qh xh κa qa (xa .ptr .0) (xa .ptr .1) (length (xa .now)) (xa .name) (xa .now) κl ql (xl .ptr .0) (xl .ptr .1) (length (xl .now)) (xl .name) (xl .now) κr qr (xr .ptr .0) (xr .ptr .1) (length (xr .now)) (xr .name) (xr .now) head refl g-a refl g-l refl g-r g-head (goes-on j is-j m is-m p is-p yes′) (λ νa δa νl δl νr δr. (and-then ! (load ! (from ! (stop !)) (look ! 46 refl)) (and-then ! (load ! (from ! (stop !)) (look ! 44 refl)) (and-then ! (load ! (from ! (stop !)) (look ! 42 refl)) (and-then ! (load ! (from ! (stop !)) (look ! 40 refl)) (and-then ! (load ! (from ! (stop !)) (look ! 38 refl)) (and-then ! (load ! (from ! (stop !)) (look ! 16 refl)) (and-then ! (load ! (from ! (stop !)) (look ! 12 refl)) (and-then ! (load ! (from ! (stop !)) (look ! 8 refl)) (no-more !)))))))))) (λ t za zl zr kept g-t long-a long-l long-r.
           land ! (from ! (stop !)) (init ! 54 refl (EL.lawful Ex.the-type Ex′.the-laws 𝓤 H A W tt .typed t _ g-t .0)) $
           forget ! 24 refl $ forget ! 22 refl $ forget ! 20 refl $ forget ! 18 refl $ forget ! 16 refl $ forget ! 14 refl $
-          keep ! (0 ∷ 1 ∷ 2 ∷ 3 ∷ 4 ∷ 5 ∷ 6 ∷ 7 ∷ 8 ∷ 9 ∷ 10 ∷ 11 ∷ 12 ∷ 13 ∷ 14 ∷ 15 ∷ 16 ∷ 17 ∷ 18 ∷ 19 ∷ 20 ∷ 21 ∷ 22 ∷ 23 ∷ 24 ∷ 25 ∷ 26 ∷ 27 ∷ 28 ∷ 29 ∷ 30 ∷ 31 ∷ 32 ∷ 33 ∷ 34 ∷ 35 ∷ 36 ∷ 37 ∷ 38 ∷ 39 ∷ 40 ∷ 41 ∷ 42 ∷ 43 ∷ 44 ∷ 45 ∷ 46 ∷ 47 ∷ 48 ∷ 49 ∷ 50 ∷ 51 ∷ 52 ∷ 53 ∷ 54 ∷ 55 ∷ []) $
-          by ! (go-6 j is-j g-j m is-m g-m p is-p g-p yes′ t za zl zr kept g-t long-a long-l long-r))
+          go-6 j is-j g-j m is-m g-m p is-p g-p yes′ t za zl zr kept g-t long-a long-l long-r)
 
-      go-4 : (j : Judged) (is-j : j ≡ judgedOf (lent head (xf .now) (xc .now) (xh .now))) (g-j : Is J.the-row j (low-judged j ∷ [])) (m : ℕ) (is-m : m ≡ min (length (xl .now)) (length (xr .now))) (g-m : m < 2 ^ 64) (p : Plan) (is-p : p ≡ planOf (xs .now) head j (length (xa .now)) m) (g-p : Is Pn.the-row p (low-plan p ∷ [])) → ent 𝓤 (⋆ 𝓤 H A (Held (‵ (Lends.Own T.the-row (xa .ptr .0) (xa .ptr .1) (length (xa .now)) (named 0) κa (xa .name) (xa .now))) (‵ (Lends.Own u32 (xl .ptr .0) (xl .ptr .1) (length (xl .now)) (named 0) κl (xl .name) (xl .now))) (‵ (Lends.Own u32 (xr .ptr .0) (xr .ptr .1) (length (xr .now)) (named 0) κr (xr .name) (xr .now))) (‵ (fat fullShare word l₁₃ 0 (vint w64 (length (xr .now))))) (‵ (fat fullShare word l₁₂ 0 (vint w64 (length (xa .now))))) (‵ (fat fullShare Pn′.mir l₁₁ 0 (low-plan p))) (‵ (fat fullShare word l₁₀ 0 (vint w64 m))) (‵ (fat fullShare J′.mir l₉ 0 (low-judged j))) (‵ (froom Ex′.mir l₀ 0)))) (Wp 𝓤 H (𝓣 .C) (𝓣 .Λ) En mir.t-7 (atReturn 𝓤 H En Post))
+      go-4 : (j : Judged) (is-j : j ≡ judgedOf (lent head (xf .now) (xc .now) (xh .now))) (g-j : Is J.the-row j (low-judged j ∷ [])) (m : ℕ) (is-m : m ≡ min (length (xl .now)) (length (xr .now))) (g-m : m < 2 ^ 64) (p : Plan) (is-p : p ≡ planOf (xs .now) head j (length (xa .now)) m) (g-p : Is Pn.the-row p (low-plan p ∷ [])) → Sq W (Held (‵ (Lends.Own T.the-row (xa .ptr .0) (xa .ptr .1) (length (xa .now)) (named 0) κa (xa .name) (xa .now))) (‵ (Lends.Own u32 (xl .ptr .0) (xl .ptr .1) (length (xl .now)) (named 0) κl (xl .name) (xl .now))) (‵ (Lends.Own u32 (xr .ptr .0) (xr .ptr .1) (length (xr .now)) (named 0) κr (xr .name) (xr .now))) (‵ (fat fullShare word l₁₃ 0 (vint w64 (length (xr .now))))) (‵ (fat fullShare word l₁₂ 0 (vint w64 (length (xa .now))))) (‵ (fat fullShare Pn′.mir l₁₁ 0 (low-plan p))) (‵ (fat fullShare word l₁₀ 0 (vint w64 m))) (‵ (fat fullShare J′.mir l₉ 0 (low-judged j))) (‵ (froom Ex′.mir l₀ 0))) (runs (𝓣 .C) (𝓣 .Λ) En mir.t-7 (atRet En Post))
       go-4 j is-j g-j m is-m g-m p is-p g-p =
-          qed W (Held (‵ (Lends.Own T.the-row (xa .ptr .0) (xa .ptr .1) (length (xa .now)) (named 0) κa (xa .name) (xa .now))) (‵ (Lends.Own u32 (xl .ptr .0) (xl .ptr .1) (length (xl .now)) (named 0) κl (xl .name) (xl .now))) (‵ (Lends.Own u32 (xr .ptr .0) (xr .ptr .1) (length (xr .now)) (named 0) κr (xr .name) (xr .now))) (‵ (fat fullShare word l₁₃ 0 (vint w64 (length (xr .now))))) (‵ (fat fullShare word l₁₂ 0 (vint w64 (length (xa .now))))) (‵ (fat fullShare Pn′.mir l₁₁ 0 (low-plan p))) (‵ (fat fullShare word l₁₀ 0 (vint w64 m))) (‵ (fat fullShare J′.mir l₉ 0 (low-judged j))) (‵ (froom Ex′.mir l₀ 0))) ∵ exec ! (𝓣 .C) (𝓣 .Λ) En mir.t-7 (atRet En Post) $
           assigns ! (bin ! (load ! (from ! (fld ! refl (stop !))) (look-in ! 32 (sub ! 0 refl (whole !)))) (lit ! tt) tt) (from ! (stop !)) (init ! 26 refl (tt, tt)) $
           by-bool (eqb (p .number) 0)
           (λ yes′. rewrite ! 26 (λ (t : Bool). ‵ (fat fullShare tyBool l₁₄ 0 (vbool (not t)))) yes′ refl $ passes-by ! (load ! (from ! (stop !)) (look ! 26 refl)) $
           forget ! 26 refl $
-          keep ! (0 ∷ 1 ∷ 2 ∷ 3 ∷ 4 ∷ 5 ∷ 6 ∷ 7 ∷ 8 ∷ 9 ∷ 10 ∷ 11 ∷ 12 ∷ 13 ∷ 14 ∷ 15 ∷ 16 ∷ 17 ∷ 18 ∷ 19 ∷ 20 ∷ 21 ∷ 22 ∷ 23 ∷ 24 ∷ 25 ∷ 26 ∷ 27 ∷ 28 ∷ 29 ∷ 30 ∷ 31 ∷ 32 ∷ 33 ∷ 34 ∷ 35 ∷ 36 ∷ 37 ∷ 38 ∷ 39 ∷ 40 ∷ 41 ∷ 42 ∷ 43 ∷ 44 ∷ 45 ∷ 46 ∷ 47 ∷ 48 ∷ 49 ∷ 50 ∷ 51 ∷ 52 ∷ 53 ∷ 54 ∷ 55 ∷ []) $
-          by ! (go-5 j is-j g-j m is-m g-m p is-p g-p yes′))
+          go-5 j is-j g-j m is-m g-m p is-p g-p yes′)
           (λ no′. rewrite ! 26 (λ (t : Bool). ‵ (fat fullShare tyBool l₁₄ 0 (vbool (not t)))) no′ refl $ goes-in ! (load ! (from ! (stop !)) (look ! 26 refl)) $
           calls-refuse ! fm mem run known-refuse p g-p (and-then ! (load ! (from ! (stop !)) (look ! 33 refl)) (no-more !)) (λ t is-t g-t.
           land ! (from ! (stop !)) (init ! 54 refl (EL.lawful Ex.the-type Ex′.the-laws 𝓤 H A W tt .typed t _ g-t .0)) $
@@ -209,29 +204,24 @@ module _ {M : Type 1} (𝓤 : URA M) (H : Heap 𝓤) (A : Atoms 𝓤) (W : Given
           keep ! (0 ∷ 2 ∷ 4 ∷ 6 ∷ 8 ∷ 10 ∷ 12 ∷ 9 ∷ 11 ∷ 13 ∷ []) $
           by ! (exits (xa .now) refl (xl .now) refl (xr .now) refl t g-t (refused-so j is-j m is-m p is-p no′ t is-t))))
 
-      go-3 : (j : Judged) (is-j : j ≡ judgedOf (lent head (xf .now) (xc .now) (xh .now))) (g-j : Is J.the-row j (low-judged j ∷ [])) (m : ℕ) (is-m : m ≡ min (length (xl .now)) (length (xr .now))) (g-m : m < 2 ^ 64) → ent 𝓤 (⋆ 𝓤 H A (Held (‵ (Lends.Own T.the-row (xa .ptr .0) (xa .ptr .1) (length (xa .now)) (named 0) κa (xa .name) (xa .now))) (‵ (Lends.Own u32 (xl .ptr .0) (xl .ptr .1) (length (xl .now)) (named 0) κl (xl .name) (xl .now))) (‵ (Lends.Own u32 (xr .ptr .0) (xr .ptr .1) (length (xr .now)) (named 0) κr (xr .name) (xr .now))) (‵ (fat fullShare word l₁₃ 0 (vint w64 (length (xr .now))))) (‵ (fat fullShare word l₁₂ 0 (vint w64 (length (xl .now))))) (‵ (froom Pn′.mir l₁₁ 0)) (‵ (fat fullShare word l₁₀ 0 (vint w64 m))) (‵ (fat fullShare J′.mir l₉ 0 (low-judged j))) (‵ (froom Ex′.mir l₀ 0)))) (Wp 𝓤 H (𝓣 .C) (𝓣 .Λ) En mir.t-5 (atReturn 𝓤 H En Post))
+      go-3 : (j : Judged) (is-j : j ≡ judgedOf (lent head (xf .now) (xc .now) (xh .now))) (g-j : Is J.the-row j (low-judged j ∷ [])) (m : ℕ) (is-m : m ≡ min (length (xl .now)) (length (xr .now))) (g-m : m < 2 ^ 64) → Sq W (Held (‵ (Lends.Own T.the-row (xa .ptr .0) (xa .ptr .1) (length (xa .now)) (named 0) κa (xa .name) (xa .now))) (‵ (Lends.Own u32 (xl .ptr .0) (xl .ptr .1) (length (xl .now)) (named 0) κl (xl .name) (xl .now))) (‵ (Lends.Own u32 (xr .ptr .0) (xr .ptr .1) (length (xr .now)) (named 0) κr (xr .name) (xr .now))) (‵ (fat fullShare word l₁₃ 0 (vint w64 (length (xr .now))))) (‵ (fat fullShare word l₁₂ 0 (vint w64 (length (xl .now))))) (‵ (froom Pn′.mir l₁₁ 0)) (‵ (fat fullShare word l₁₀ 0 (vint w64 m))) (‵ (fat fullShare J′.mir l₉ 0 (low-judged j))) (‵ (froom Ex′.mir l₀ 0))) (runs (𝓣 .C) (𝓣 .Λ) En mir.t-5 (atRet En Post))
       go-3 j is-j g-j m is-m g-m =
-          qed W (Held (‵ (Lends.Own T.the-row (xa .ptr .0) (xa .ptr .1) (length (xa .now)) (named 0) κa (xa .name) (xa .now))) (‵ (Lends.Own u32 (xl .ptr .0) (xl .ptr .1) (length (xl .now)) (named 0) κl (xl .name) (xl .now))) (‵ (Lends.Own u32 (xr .ptr .0) (xr .ptr .1) (length (xr .now)) (named 0) κr (xr .name) (xr .now))) (‵ (fat fullShare word l₁₃ 0 (vint w64 (length (xr .now))))) (‵ (fat fullShare word l₁₂ 0 (vint w64 (length (xl .now))))) (‵ (froom Pn′.mir l₁₁ 0)) (‵ (fat fullShare word l₁₀ 0 (vint w64 m))) (‵ (fat fullShare J′.mir l₉ 0 (low-judged j))) (‵ (froom Ex′.mir l₀ 0))) ∵ exec ! (𝓣 .C) (𝓣 .Λ) En mir.t-5 (atRet En Post) $
           assigns ! (of-opd ! (load ! (from ! (fld ! refl (stop !))) (look-in ! 42 (sub ! 1 refl (whole !))))) (from ! (stop !)) (store ! 30 refl (tt, record { fits = g-a .0 })) $
           move ! (0 ∷ 1 ∷ []) $
           calls-make-plan ! fm mem run known-make κs qs xs head j (length (xa .now)) m g-head g-j (g-a .0) g-m (and-then ! (load ! (from ! (stop !)) (look ! 52 refl)) (and-then ! (load ! (from ! (stop !)) (look ! 50 refl)) (and-then ! (load ! (from ! (stop !)) (look ! 36 refl)) (and-then ! (load ! (from ! (stop !)) (look ! 30 refl)) (and-then ! (load ! (from ! (stop !)) (look ! 34 refl)) (no-more !)))))) (λ p is-p g-p.
           land ! (from ! (stop !)) (init ! 32 refl (LL.lawful Pn.the-type Pn′.the-laws 𝓤 H A W .typed p _ g-p .0)) $
-          keep ! (0 ∷ 1 ∷ 2 ∷ 3 ∷ 4 ∷ 5 ∷ 6 ∷ 7 ∷ 8 ∷ 9 ∷ 10 ∷ 11 ∷ 12 ∷ 13 ∷ 14 ∷ 15 ∷ 16 ∷ 17 ∷ 18 ∷ 19 ∷ 20 ∷ 21 ∷ 22 ∷ 23 ∷ 24 ∷ 25 ∷ 26 ∷ 27 ∷ 28 ∷ 29 ∷ 30 ∷ 31 ∷ 32 ∷ 33 ∷ 34 ∷ 35 ∷ 36 ∷ 37 ∷ 38 ∷ 39 ∷ 40 ∷ 41 ∷ 42 ∷ 43 ∷ 44 ∷ 45 ∷ 46 ∷ 47 ∷ 48 ∷ 49 ∷ 50 ∷ 51 ∷ 52 ∷ 53 ∷ 54 ∷ 55 ∷ []) $
-          by ! (go-4 j is-j g-j m is-m g-m p is-p g-p))
+          go-4 j is-j g-j m is-m g-m p is-p g-p)
 
-      go-2 : (j : Judged) (is-j : j ≡ judgedOf (lent head (xf .now) (xc .now) (xh .now))) (g-j : Is J.the-row j (low-judged j ∷ [])) → ent 𝓤 (⋆ 𝓤 H A (Held (‵ (Lends.Own T.the-row (xa .ptr .0) (xa .ptr .1) (length (xa .now)) (named 0) κa (xa .name) (xa .now))) (‵ (Lends.Own u32 (xl .ptr .0) (xl .ptr .1) (length (xl .now)) (named 0) κl (xl .name) (xl .now))) (‵ (Lends.Own u32 (xr .ptr .0) (xr .ptr .1) (length (xr .now)) (named 0) κr (xr .name) (xr .now))) (‵ (froom word l₁₃ 0)) (‵ (froom word l₁₂ 0)) (‵ (froom Pn′.mir l₁₁ 0)) (‵ (froom word l₁₀ 0)) (‵ (fat fullShare J′.mir l₉ 0 (low-judged j))) (‵ (froom Ex′.mir l₀ 0)))) (Wp 𝓤 H (𝓣 .C) (𝓣 .Λ) En mir.t-2 (atReturn 𝓤 H En Post))
+      go-2 : (j : Judged) (is-j : j ≡ judgedOf (lent head (xf .now) (xc .now) (xh .now))) (g-j : Is J.the-row j (low-judged j ∷ [])) → Sq W (Held (‵ (Lends.Own T.the-row (xa .ptr .0) (xa .ptr .1) (length (xa .now)) (named 0) κa (xa .name) (xa .now))) (‵ (Lends.Own u32 (xl .ptr .0) (xl .ptr .1) (length (xl .now)) (named 0) κl (xl .name) (xl .now))) (‵ (Lends.Own u32 (xr .ptr .0) (xr .ptr .1) (length (xr .now)) (named 0) κr (xr .name) (xr .now))) (‵ (froom word l₁₃ 0)) (‵ (froom word l₁₂ 0)) (‵ (froom Pn′.mir l₁₁ 0)) (‵ (froom word l₁₀ 0)) (‵ (fat fullShare J′.mir l₉ 0 (low-judged j))) (‵ (froom Ex′.mir l₀ 0))) (runs (𝓣 .C) (𝓣 .Λ) En mir.t-2 (atRet En Post))
       go-2 j is-j g-j =
-          qed W (Held (‵ (Lends.Own T.the-row (xa .ptr .0) (xa .ptr .1) (length (xa .now)) (named 0) κa (xa .name) (xa .now))) (‵ (Lends.Own u32 (xl .ptr .0) (xl .ptr .1) (length (xl .now)) (named 0) κl (xl .name) (xl .now))) (‵ (Lends.Own u32 (xr .ptr .0) (xr .ptr .1) (length (xr .now)) (named 0) κr (xr .name) (xr .now))) (‵ (froom word l₁₃ 0)) (‵ (froom word l₁₂ 0)) (‵ (froom Pn′.mir l₁₁ 0)) (‵ (froom word l₁₀ 0)) (‵ (fat fullShare J′.mir l₉ 0 (low-judged j))) (‵ (froom Ex′.mir l₀ 0))) ∵ exec ! (𝓣 .C) (𝓣 .Λ) En mir.t-2 (atRet En Post) $
           assigns ! (of-opd ! (load ! (from ! (fld ! refl (stop !))) (look-in ! 40 (sub ! 1 refl (whole !))))) (from ! (stop !)) (init ! 30 refl (tt, record { fits = g-l .0 })) $
           assigns ! (of-opd ! (load ! (from ! (fld ! refl (stop !))) (look-in ! 38 (sub ! 1 refl (whole !))))) (from ! (stop !)) (init ! 28 refl (tt, record { fits = g-r .0 })) $
           calls-lesser ! fm mem run known-less (length (xl .now)) (length (xr .now)) (g-l .0) (g-r .0) (and-then ! (load ! (from ! (stop !)) (look ! 31 refl)) (and-then ! (load ! (from ! (stop !)) (look ! 29 refl)) (no-more !))) (λ m is-m g-m.
           land ! (from ! (stop !)) (init ! 34 refl (tt, record { fits = g-m })) $
-          keep ! (0 ∷ 1 ∷ 2 ∷ 3 ∷ 4 ∷ 5 ∷ 6 ∷ 7 ∷ 8 ∷ 9 ∷ 10 ∷ 11 ∷ 12 ∷ 13 ∷ 14 ∷ 15 ∷ 16 ∷ 17 ∷ 18 ∷ 19 ∷ 20 ∷ 21 ∷ 22 ∷ 23 ∷ 24 ∷ 25 ∷ 26 ∷ 27 ∷ 28 ∷ 29 ∷ 30 ∷ 31 ∷ 32 ∷ 33 ∷ 34 ∷ 35 ∷ 36 ∷ 37 ∷ 38 ∷ 39 ∷ 40 ∷ 41 ∷ 42 ∷ 43 ∷ 44 ∷ 45 ∷ 46 ∷ 47 ∷ 48 ∷ 49 ∷ 50 ∷ 51 ∷ 52 ∷ 53 ∷ 54 ∷ 55 ∷ []) $
-          by ! (go-3 j is-j g-j m is-m g-m))
+          go-3 j is-j g-j m is-m g-m)
 
-      go-1 : ent 𝓤 (⋆ 𝓤 H A (Held (‵ (Lends.Own T.the-row (xa .ptr .0) (xa .ptr .1) (length (xa .now)) (named 0) κa (xa .name) (xa .now))) (‵ (Lends.Own u32 (xl .ptr .0) (xl .ptr .1) (length (xl .now)) (named 0) κl (xl .name) (xl .now))) (‵ (Lends.Own u32 (xr .ptr .0) (xr .ptr .1) (length (xr .now)) (named 0) κr (xr .name) (xr .now))) (‵ (froom word l₁₃ 0)) (‵ (froom word l₁₂ 0)) (‵ (froom Pn′.mir l₁₁ 0)) (‵ (froom word l₁₀ 0)) (‵ (froom J′.mir l₉ 0)) (‵ (froom Ex′.mir l₀ 0)))) (Wp 𝓤 H (𝓣 .C) (𝓣 .Λ) En mir.t-1 (atReturn 𝓤 H En Post))
+      go-1 : Sq W (Held (‵ (Lends.Own T.the-row (xa .ptr .0) (xa .ptr .1) (length (xa .now)) (named 0) κa (xa .name) (xa .now))) (‵ (Lends.Own u32 (xl .ptr .0) (xl .ptr .1) (length (xl .now)) (named 0) κl (xl .name) (xl .now))) (‵ (Lends.Own u32 (xr .ptr .0) (xr .ptr .1) (length (xr .now)) (named 0) κr (xr .name) (xr .now))) (‵ (froom word l₁₃ 0)) (‵ (froom word l₁₂ 0)) (‵ (froom Pn′.mir l₁₁ 0)) (‵ (froom word l₁₀ 0)) (‵ (froom J′.mir l₉ 0)) (‵ (froom Ex′.mir l₀ 0))) (runs (𝓣 .C) (𝓣 .Λ) En mir.t-1 (atRet En Post))
       go-1 =
-          qed W (Held (‵ (Lends.Own T.the-row (xa .ptr .0) (xa .ptr .1) (length (xa .now)) (named 0) κa (xa .name) (xa .now))) (‵ (Lends.Own u32 (xl .ptr .0) (xl .ptr .1) (length (xl .now)) (named 0) κl (xl .name) (xl .now))) (‵ (Lends.Own u32 (xr .ptr .0) (xr .ptr .1) (length (xr .now)) (named 0) κr (xr .name) (xr .now))) (‵ (froom word l₁₃ 0)) (‵ (froom word l₁₂ 0)) (‵ (froom Pn′.mir l₁₁ 0)) (‵ (froom word l₁₀ 0)) (‵ (froom J′.mir l₉ 0)) (‵ (froom Ex′.mir l₀ 0))) ∵ exec ! (𝓣 .C) (𝓣 .Λ) En mir.t-1 (atRet En Post) $
           nothing ! $
           move ! (7 ∷ 0 ∷ []) $
           join ! $
@@ -259,7 +249,7 @@ module _ {M : Type 1} (𝓤 : URA M) (H : Heap 𝓤) (A : Atoms 𝓤) (W : Given
           move ! (1 ∷ []) $
           split ! $
           keep ! (6 ∷ 7 ∷ 5 ∷ 2 ∷ 4 ∷ 0 ∷ 3 ∷ 1 ∷ 8 ∷ 9 ∷ 10 ∷ 11 ∷ 12 ∷ 13 ∷ 14 ∷ 15 ∷ 16 ∷ 17 ∷ 18 ∷ 19 ∷ 20 ∷ 21 ∷ 22 ∷ 23 ∷ 24 ∷ 25 ∷ 26 ∷ 27 ∷ 28 ∷ 29 ∷ 30 ∷ 31 ∷ 32 ∷ 33 ∷ 34 ∷ 35 ∷ 36 ∷ 37 ∷ 38 ∷ 39 ∷ 40 ∷ 41 ∷ 42 ∷ 43 ∷ 44 ∷ 45 ∷ 46 ∷ 47 ∷ 48 ∷ 49 ∷ 50 ∷ 51 ∷ 52 ∷ 53 ∷ 54 ∷ 55 ∷ []) $
-          by ! (go-2 j is-j g-j))
+          go-2 j is-j g-j)
 
       -- what is had at entry is taken apart
       abbrev At-first : List (Item 𝓤)
@@ -313,7 +303,7 @@ module _ {M : Type 1} (𝓤 : URA M) (H : Heap 𝓤) (A : Atoms 𝓤) (W : Given
           move ! (1 ∷ []) $
           drop ! $
           keep ! (13 ∷ 6 ∷ 12 ∷ 5 ∷ 11 ∷ 4 ∷ 10 ∷ 3 ∷ 9 ∷ 2 ∷ 8 ∷ 1 ∷ 7 ∷ 0 ∷ 14 ∷ 15 ∷ 16 ∷ 17 ∷ 18 ∷ 19 ∷ 20 ∷ 21 ∷ 22 ∷ 23 ∷ 24 ∷ 25 ∷ 26 ∷ 27 ∷ 28 ∷ 29 ∷ 30 ∷ 31 ∷ 32 ∷ 33 ∷ 34 ∷ 35 ∷ 36 ∷ 37 ∷ 38 ∷ 39 ∷ 40 ∷ 41 ∷ 42 ∷ 43 ∷ 44 ∷ 45 ∷ 46 ∷ 47 ∷ 48 ∷ 49 ∷ 50 ∷ 51 ∷ 52 ∷ 53 ∷ 54 ∷ 55 ∷ []) $
-          by ! go-1
+          go-1
 
       -- the locals are allocated, and the parameters are passed
       abbrev At-entry : List (Item 𝓤)

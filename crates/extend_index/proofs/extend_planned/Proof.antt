@@ -166,26 +166,22 @@ module _ {M : Type 1} (𝓤 : URA M) (H : Heap 𝓤) (A : Atoms 𝓤) (W : Given
           ∷ ‵ (fat fullShare (sliceTy (tyRef (named 1) imm record-type)) l₃ 0 (sliceVal (xf .ptr) (length (xf .now)))) ∷ ‵ (fdies (sliceTy (tyRef (named 1) imm record-type)) l₃) ∷ ‵ (fat fullShare Hd′.mir l₂ 0 (low-head head)) ∷ ‵ (fdies Hd′.mir l₂)
           ∷ ‵ (fat fullShare (sliceTy (tyRef (named 0) imm half)) l₁ 0 (sliceVal (xs .ptr) (length (xs .now)))) ∷ ‵ (fdies (sliceTy (tyRef (named 0) imm half)) l₁) ∷ i₈ ∷ ‵ (fdies Ex′.mir l₀) ∷ []
 
-      go-6 : (u : Lift) (lifted : Lifts (head .window) (head .width) (head .windows) u) (g-u : Is Lf.the-row u (low-lift u ∷ [])) (n : ℕ) (za : List Row) (zl : List ℕ) (zr : List ℕ) (made : (n ≡ length (extended (indexOf (u .window) (u .width) (u .old) (xf .now) (xc .now) (xh .now)) (xs .now) .rows)) × HoldsExtended (indexOf (u .window) (u .width) (u .old) (xf .now) (xc .now) (xh .now)) (xs .now) (buffers (xa .now) (xl .now) (xr .now)) (buffers za zl zr)) (g-n : n < 2 ^ 64) (long-a : length za ≡ length (xa .now)) (long-l : length zl ≡ length (xl .now)) (long-r : length zr ≡ length (xr .now)) (k : ℕ) (is-k : k ≡ n - 1) (g-k : k < 2 ^ 64) (row : Row) (is-row : row ≡ getD za k zeroRow) (g-row : Good row) (t : Extended) (is-t : t ≡ indexAs (windowCount (length (xs .now)) (head .window)) head n row) (g-t : Is Ex.the-row t (low-extended t ∷ [])) → ent 𝓤 (⋆ 𝓤 H A (Held (‵ (Lends.Own T.the-row (xa .ptr .0) (xa .ptr .1) (length (xa .now)) (named 0) κa (xa .name) za)) (‵ (Lends.Own u32 (xl .ptr .0) (xl .ptr .1) (length (xl .now)) (named 0) κl (xl .name) zl)) (‵ (Lends.Own u32 (xr .ptr .0) (xr .ptr .1) (length (xr .now)) (named 0) κr (xr .name) zr)) (‵ (fat fullShare T′.mir l₁₂ 0 (low row))) (‵ (fat fullShare word l₁₁ 0 (vint w64 k))) (‵ (fat fullShare word l₁₀ 0 (vint w64 n))) (‵ (fat fullShare Lf′.mir l₉ 0 (low-lift u))) (‵ (fat fullShare Ex′.mir l₀ 0 (low-extended t))))) (Wp 𝓤 H (𝓣 .C) (𝓣 .Λ) En mir.t-14 (atReturn 𝓤 H En Post))
+      go-6 : (u : Lift) (lifted : Lifts (head .window) (head .width) (head .windows) u) (g-u : Is Lf.the-row u (low-lift u ∷ [])) (n : ℕ) (za : List Row) (zl : List ℕ) (zr : List ℕ) (made : (n ≡ length (extended (indexOf (u .window) (u .width) (u .old) (xf .now) (xc .now) (xh .now)) (xs .now) .rows)) × HoldsExtended (indexOf (u .window) (u .width) (u .old) (xf .now) (xc .now) (xh .now)) (xs .now) (buffers (xa .now) (xl .now) (xr .now)) (buffers za zl zr)) (g-n : n < 2 ^ 64) (long-a : length za ≡ length (xa .now)) (long-l : length zl ≡ length (xl .now)) (long-r : length zr ≡ length (xr .now)) (k : ℕ) (is-k : k ≡ n - 1) (g-k : k < 2 ^ 64) (row : Row) (is-row : row ≡ getD za k zeroRow) (g-row : Good row) (t : Extended) (is-t : t ≡ indexAs (windowCount (length (xs .now)) (head .window)) head n row) (g-t : Is Ex.the-row t (low-extended t ∷ [])) → Sq W (Held (‵ (Lends.Own T.the-row (xa .ptr .0) (xa .ptr .1) (length (xa .now)) (named 0) κa (xa .name) za)) (‵ (Lends.Own u32 (xl .ptr .0) (xl .ptr .1) (length (xl .now)) (named 0) κl (xl .name) zl)) (‵ (Lends.Own u32 (xr .ptr .0) (xr .ptr .1) (length (xr .now)) (named 0) κr (xr .name) zr)) (‵ (fat fullShare T′.mir l₁₂ 0 (low row))) (‵ (fat fullShare word l₁₁ 0 (vint w64 k))) (‵ (fat fullShare word l₁₀ 0 (vint w64 n))) (‵ (fat fullShare Lf′.mir l₉ 0 (low-lift u))) (‵ (fat fullShare Ex′.mir l₀ 0 (low-extended t)))) (runs (𝓣 .C) (𝓣 .Λ) En mir.t-14 (atRet En Post))
       go-6 u lifted g-u n za zl zr made g-n long-a long-l long-r k is-k g-k row is-row g-row t is-t g-t =
-          qed W (Held (‵ (Lends.Own T.the-row (xa .ptr .0) (xa .ptr .1) (length (xa .now)) (named 0) κa (xa .name) za)) (‵ (Lends.Own u32 (xl .ptr .0) (xl .ptr .1) (length (xl .now)) (named 0) κl (xl .name) zl)) (‵ (Lends.Own u32 (xr .ptr .0) (xr .ptr .1) (length (xr .now)) (named 0) κr (xr .name) zr)) (‵ (fat fullShare T′.mir l₁₂ 0 (low row))) (‵ (fat fullShare word l₁₁ 0 (vint w64 k))) (‵ (fat fullShare word l₁₀ 0 (vint w64 n))) (‵ (fat fullShare Lf′.mir l₉ 0 (low-lift u))) (‵ (fat fullShare Ex′.mir l₀ 0 (low-extended t)))) ∵ exec ! (𝓣 .C) (𝓣 .Λ) En mir.t-14 (atRet En Post) $
           returns ! (look ! 54 refl) $
           lose ! 54 refl refl $ lose ! 52 refl refl $ lose ! 50 refl refl $ lose ! 48 refl refl $ lose ! 46 refl refl $ lose ! 44 refl refl $ lose ! 42 refl refl $ lose ! 40 refl refl $ lose ! 38 refl refl $ lose ! 36 refl refl $ lose ! 34 refl refl $ lose ! 32 refl refl $ lose ! 30 refl refl $ lose-room ! 28 refl refl $ lose-room ! 26 refl refl $ lose-room ! 24 refl refl $ lose-room ! 22 refl refl $ lose-room ! 20 refl refl $ lose-room ! 18 refl refl $ lose-room ! 16 refl refl $ lose-room ! 14 refl refl $ free0 ! $
           keep ! (0 ∷ 2 ∷ 4 ∷ 6 ∷ 8 ∷ 10 ∷ 12 ∷ 9 ∷ 11 ∷ 13 ∷ []) $
           by ! (exits za long-a zl long-l zr long-r t g-t (kept u lifted n za zl zr made k is-k row is-row t is-t))
 
-      go-5 : (u : Lift) (lifted : Lifts (head .window) (head .width) (head .windows) u) (g-u : Is Lf.the-row u (low-lift u ∷ [])) (n : ℕ) (za : List Row) (zl : List ℕ) (zr : List ℕ) (made : (n ≡ length (extended (indexOf (u .window) (u .width) (u .old) (xf .now) (xc .now) (xh .now)) (xs .now) .rows)) × HoldsExtended (indexOf (u .window) (u .width) (u .old) (xf .now) (xc .now) (xh .now)) (xs .now) (buffers (xa .now) (xl .now) (xr .now)) (buffers za zl zr)) (g-n : n < 2 ^ 64) (long-a : length za ≡ length (xa .now)) (long-l : length zl ≡ length (xl .now)) (long-r : length zr ≡ length (xr .now)) (k : ℕ) (is-k : k ≡ n - 1) (g-k : k < 2 ^ 64) (row : Row) (is-row : row ≡ getD za k zeroRow) (g-row : Good row) → ent 𝓤 (⋆ 𝓤 H A (Held (‵ (Lends.Own T.the-row (xa .ptr .0) (xa .ptr .1) (length (xa .now)) (named 0) κa (xa .name) za)) (‵ (Lends.Own u32 (xl .ptr .0) (xl .ptr .1) (length (xl .now)) (named 0) κl (xl .name) zl)) (‵ (Lends.Own u32 (xr .ptr .0) (xr .ptr .1) (length (xr .now)) (named 0) κr (xr .name) zr)) (‵ (fat fullShare T′.mir l₁₂ 0 (low row))) (‵ (fat fullShare word l₁₁ 0 (vint w64 k))) (‵ (fat fullShare word l₁₀ 0 (vint w64 n))) (‵ (fat fullShare Lf′.mir l₉ 0 (low-lift u))) (‵ (froom Ex′.mir l₀ 0)))) (Wp 𝓤 H (𝓣 .C) (𝓣 .Λ) En mir.t-13 (atReturn 𝓤 H En Post))
+      go-5 : (u : Lift) (lifted : Lifts (head .window) (head .width) (head .windows) u) (g-u : Is Lf.the-row u (low-lift u ∷ [])) (n : ℕ) (za : List Row) (zl : List ℕ) (zr : List ℕ) (made : (n ≡ length (extended (indexOf (u .window) (u .width) (u .old) (xf .now) (xc .now) (xh .now)) (xs .now) .rows)) × HoldsExtended (indexOf (u .window) (u .width) (u .old) (xf .now) (xc .now) (xh .now)) (xs .now) (buffers (xa .now) (xl .now) (xr .now)) (buffers za zl zr)) (g-n : n < 2 ^ 64) (long-a : length za ≡ length (xa .now)) (long-l : length zl ≡ length (xl .now)) (long-r : length zr ≡ length (xr .now)) (k : ℕ) (is-k : k ≡ n - 1) (g-k : k < 2 ^ 64) (row : Row) (is-row : row ≡ getD za k zeroRow) (g-row : Good row) → Sq W (Held (‵ (Lends.Own T.the-row (xa .ptr .0) (xa .ptr .1) (length (xa .now)) (named 0) κa (xa .name) za)) (‵ (Lends.Own u32 (xl .ptr .0) (xl .ptr .1) (length (xl .now)) (named 0) κl (xl .name) zl)) (‵ (Lends.Own u32 (xr .ptr .0) (xr .ptr .1) (length (xr .now)) (named 0) κr (xr .name) zr)) (‵ (fat fullShare T′.mir l₁₂ 0 (low row))) (‵ (fat fullShare word l₁₁ 0 (vint w64 k))) (‵ (fat fullShare word l₁₀ 0 (vint w64 n))) (‵ (fat fullShare Lf′.mir l₉ 0 (low-lift u))) (‵ (froom Ex′.mir l₀ 0))) (runs (𝓣 .C) (𝓣 .Λ) En mir.t-13 (atRet En Post))
       go-5 u lifted g-u n za zl zr made g-n long-a long-l long-r k is-k g-k row is-row g-row =
-          qed W (Held (‵ (Lends.Own T.the-row (xa .ptr .0) (xa .ptr .1) (length (xa .now)) (named 0) κa (xa .name) za)) (‵ (Lends.Own u32 (xl .ptr .0) (xl .ptr .1) (length (xl .now)) (named 0) κl (xl .name) zl)) (‵ (Lends.Own u32 (xr .ptr .0) (xr .ptr .1) (length (xr .now)) (named 0) κr (xr .name) zr)) (‵ (fat fullShare T′.mir l₁₂ 0 (low row))) (‵ (fat fullShare word l₁₁ 0 (vint w64 k))) (‵ (fat fullShare word l₁₀ 0 (vint w64 n))) (‵ (fat fullShare Lf′.mir l₉ 0 (low-lift u))) (‵ (froom Ex′.mir l₀ 0))) ∵ exec ! (𝓣 .C) (𝓣 .Λ) En mir.t-13 (atRet En Post) $
           move ! (0 ∷ 1 ∷ []) $
           calls-answer ! fm mem run known-answer κs qs xs head n row g-head g-n g-row (sizes (xs .now) head (xf .now) (xc .now) (xh .now) (buffers (xa .now) (xl .now) (xr .now)) asked) (and-then ! (load ! (from ! (stop !)) (look ! 52 refl)) (and-then ! (load ! (from ! (stop !)) (look ! 50 refl)) (and-then ! (load ! (from ! (stop !)) (look ! 34 refl)) (and-then ! (load ! (from ! (stop !)) (look ! 30 refl)) (no-more !))))) (λ t is-t g-t.
           land ! (from ! (stop !)) (init ! 54 refl (EL.lawful Ex.the-type Ex′.the-laws 𝓤 H A W tt .typed t _ g-t .0)) $
-          keep ! (0 ∷ 1 ∷ 2 ∷ 3 ∷ 4 ∷ 5 ∷ 6 ∷ 7 ∷ 8 ∷ 9 ∷ 10 ∷ 11 ∷ 12 ∷ 13 ∷ 14 ∷ 15 ∷ 16 ∷ 17 ∷ 18 ∷ 19 ∷ 20 ∷ 21 ∷ 22 ∷ 23 ∷ 24 ∷ 25 ∷ 26 ∷ 27 ∷ 28 ∷ 29 ∷ 30 ∷ 31 ∷ 32 ∷ 33 ∷ 34 ∷ 35 ∷ 36 ∷ 37 ∷ 38 ∷ 39 ∷ 40 ∷ 41 ∷ 42 ∷ 43 ∷ 44 ∷ 45 ∷ 46 ∷ 47 ∷ 48 ∷ 49 ∷ 50 ∷ 51 ∷ 52 ∷ 53 ∷ 54 ∷ 55 ∷ []) $
-          by ! (go-6 u lifted g-u n za zl zr made g-n long-a long-l long-r k is-k g-k row is-row g-row t is-t g-t))
+          go-6 u lifted g-u n za zl zr made g-n long-a long-l long-r k is-k g-k row is-row g-row t is-t g-t)
 
-      go-4 : (u : Lift) (lifted : Lifts (head .window) (head .width) (head .windows) u) (g-u : Is Lf.the-row u (low-lift u ∷ [])) (n : ℕ) (za : List Row) (zl : List ℕ) (zr : List ℕ) (made : (n ≡ length (extended (indexOf (u .window) (u .width) (u .old) (xf .now) (xc .now) (xh .now)) (xs .now) .rows)) × HoldsExtended (indexOf (u .window) (u .width) (u .old) (xf .now) (xc .now) (xh .now)) (xs .now) (buffers (xa .now) (xl .now) (xr .now)) (buffers za zl zr)) (g-n : n < 2 ^ 64) (long-a : length za ≡ length (xa .now)) (long-l : length zl ≡ length (xl .now)) (long-r : length zr ≡ length (xr .now)) (k : ℕ) (is-k : k ≡ n - 1) (g-k : k < 2 ^ 64) → ent 𝓤 (⋆ 𝓤 H A (Held (‵ (Lends.Own T.the-row (xa .ptr .0) (xa .ptr .1) (length (xa .now)) (named 0) κa (xa .name) za)) (‵ (Lends.Own u32 (xl .ptr .0) (xl .ptr .1) (length (xl .now)) (named 0) κl (xl .name) zl)) (‵ (Lends.Own u32 (xr .ptr .0) (xr .ptr .1) (length (xr .now)) (named 0) κr (xr .name) zr)) (‵ (froom T′.mir l₁₂ 0)) (‵ (fat fullShare word l₁₁ 0 (vint w64 k))) (‵ (fat fullShare word l₁₀ 0 (vint w64 n))) (‵ (fat fullShare Lf′.mir l₉ 0 (low-lift u))) (‵ (froom Ex′.mir l₀ 0)))) (Wp 𝓤 H (𝓣 .C) (𝓣 .Λ) En mir.t-10 (atReturn 𝓤 H En Post))
+      go-4 : (u : Lift) (lifted : Lifts (head .window) (head .width) (head .windows) u) (g-u : Is Lf.the-row u (low-lift u ∷ [])) (n : ℕ) (za : List Row) (zl : List ℕ) (zr : List ℕ) (made : (n ≡ length (extended (indexOf (u .window) (u .width) (u .old) (xf .now) (xc .now) (xh .now)) (xs .now) .rows)) × HoldsExtended (indexOf (u .window) (u .width) (u .old) (xf .now) (xc .now) (xh .now)) (xs .now) (buffers (xa .now) (xl .now) (xr .now)) (buffers za zl zr)) (g-n : n < 2 ^ 64) (long-a : length za ≡ length (xa .now)) (long-l : length zl ≡ length (xl .now)) (long-r : length zr ≡ length (xr .now)) (k : ℕ) (is-k : k ≡ n - 1) (g-k : k < 2 ^ 64) → Sq W (Held (‵ (Lends.Own T.the-row (xa .ptr .0) (xa .ptr .1) (length (xa .now)) (named 0) κa (xa .name) za)) (‵ (Lends.Own u32 (xl .ptr .0) (xl .ptr .1) (length (xl .now)) (named 0) κl (xl .name) zl)) (‵ (Lends.Own u32 (xr .ptr .0) (xr .ptr .1) (length (xr .now)) (named 0) κr (xr .name) zr)) (‵ (froom T′.mir l₁₂ 0)) (‵ (fat fullShare word l₁₁ 0 (vint w64 k))) (‵ (fat fullShare word l₁₀ 0 (vint w64 n))) (‵ (fat fullShare Lf′.mir l₉ 0 (low-lift u))) (‵ (froom Ex′.mir l₀ 0))) (runs (𝓣 .C) (𝓣 .Λ) En mir.t-10 (atRet En Post))
       go-4 u lifted g-u n za zl zr made g-n long-a long-l long-r k is-k g-k =
-          qed W (Held (‵ (Lends.Own T.the-row (xa .ptr .0) (xa .ptr .1) (length (xa .now)) (named 0) κa (xa .name) za)) (‵ (Lends.Own u32 (xl .ptr .0) (xl .ptr .1) (length (xl .now)) (named 0) κl (xl .name) zl)) (‵ (Lends.Own u32 (xr .ptr .0) (xr .ptr .1) (length (xr .now)) (named 0) κr (xr .name) zr)) (‵ (froom T′.mir l₁₂ 0)) (‵ (fat fullShare word l₁₁ 0 (vint w64 k))) (‵ (fat fullShare word l₁₀ 0 (vint w64 n))) (‵ (fat fullShare Lf′.mir l₉ 0 (low-lift u))) (‵ (froom Ex′.mir l₀ 0))) ∵ exec ! (𝓣 .C) (𝓣 .Λ) En mir.t-10 (atRet En Post) $
           assigns ! (addr ! (from ! (fld ! refl (hop ! (look-in ! 42 (sub ! 0 refl (whole !))) (stop !))))) (from ! (stop !)) (init ! 16 refl (tt, tt)) $
           assigns ! (agg ! (and-then ! (load ! (from ! (stop !)) (look ! 16 refl)) (and-then ! (load ! (from ! (fld ! refl (stop !))) (look-in ! 42 (sub ! 1 refl (whole !)))) (no-more !)))) (from ! (stop !)) (init ! 14 refl (tt, (tt, (record { fits = g-a .0 }, tt)))) $
           move ! (8 ∷ 9 ∷ []) $
@@ -193,19 +189,16 @@ module _ {M : Type 1} (𝓤 : URA M) (H : Heap 𝓤) (A : Atoms 𝓤) (W : Given
           land ! (from ! (stop !)) (init ! 30 refl (LL.lawful T.the-type T′.the-laws 𝓤 H A W .typed row _ g-row .0)) $
           forget ! 16 refl $ forget ! 14 refl $
           keep ! (2 ∷ 3 ∷ 4 ∷ 5 ∷ 6 ∷ 7 ∷ 8 ∷ 9 ∷ 0 ∷ 1 ∷ 10 ∷ 11 ∷ 12 ∷ 13 ∷ 14 ∷ 15 ∷ 16 ∷ 17 ∷ 18 ∷ 19 ∷ 20 ∷ 21 ∷ 22 ∷ 23 ∷ 24 ∷ 25 ∷ 26 ∷ 27 ∷ 28 ∷ 29 ∷ 30 ∷ 31 ∷ 32 ∷ 33 ∷ 34 ∷ 35 ∷ 36 ∷ 37 ∷ 38 ∷ 39 ∷ 40 ∷ 41 ∷ 42 ∷ 43 ∷ 44 ∷ 45 ∷ 46 ∷ 47 ∷ 48 ∷ 49 ∷ 50 ∷ 51 ∷ 52 ∷ 53 ∷ 54 ∷ 55 ∷ []) $
-          by ! (go-5 u lifted g-u n za zl zr made g-n long-a long-l long-r k is-k g-k row is-row g-row))
+          go-5 u lifted g-u n za zl zr made g-n long-a long-l long-r k is-k g-k row is-row g-row)
 
-      go-3 : (u : Lift) (lifted : Lifts (head .window) (head .width) (head .windows) u) (g-u : Is Lf.the-row u (low-lift u ∷ [])) (n : ℕ) (za : List Row) (zl : List ℕ) (zr : List ℕ) (made : (n ≡ length (extended (indexOf (u .window) (u .width) (u .old) (xf .now) (xc .now) (xh .now)) (xs .now) .rows)) × HoldsExtended (indexOf (u .window) (u .width) (u .old) (xf .now) (xc .now) (xh .now)) (xs .now) (buffers (xa .now) (xl .now) (xr .now)) (buffers za zl zr)) (g-n : n < 2 ^ 64) (long-a : length za ≡ length (xa .now)) (long-l : length zl ≡ length (xl .now)) (long-r : length zr ≡ length (xr .now)) → ent 𝓤 (⋆ 𝓤 H A (Held (‵ (Lends.Own T.the-row (xa .ptr .0) (xa .ptr .1) (length (xa .now)) (named 0) κa (xa .name) za)) (‵ (Lends.Own u32 (xl .ptr .0) (xl .ptr .1) (length (xl .now)) (named 0) κl (xl .name) zl)) (‵ (Lends.Own u32 (xr .ptr .0) (xr .ptr .1) (length (xr .now)) (named 0) κr (xr .name) zr)) (‵ (froom T′.mir l₁₂ 0)) (‵ (froom word l₁₁ 0)) (‵ (fat fullShare word l₁₀ 0 (vint w64 n))) (‵ (fat fullShare Lf′.mir l₉ 0 (low-lift u))) (‵ (froom Ex′.mir l₀ 0)))) (Wp 𝓤 H (𝓣 .C) (𝓣 .Λ) En mir.t-9 (atReturn 𝓤 H En Post))
+      go-3 : (u : Lift) (lifted : Lifts (head .window) (head .width) (head .windows) u) (g-u : Is Lf.the-row u (low-lift u ∷ [])) (n : ℕ) (za : List Row) (zl : List ℕ) (zr : List ℕ) (made : (n ≡ length (extended (indexOf (u .window) (u .width) (u .old) (xf .now) (xc .now) (xh .now)) (xs .now) .rows)) × HoldsExtended (indexOf (u .window) (u .width) (u .old) (xf .now) (xc .now) (xh .now)) (xs .now) (buffers (xa .now) (xl .now) (xr .now)) (buffers za zl zr)) (g-n : n < 2 ^ 64) (long-a : length za ≡ length (xa .now)) (long-l : length zl ≡ length (xl .now)) (long-r : length zr ≡ length (xr .now)) → Sq W (Held (‵ (Lends.Own T.the-row (xa .ptr .0) (xa .ptr .1) (length (xa .now)) (named 0) κa (xa .name) za)) (‵ (Lends.Own u32 (xl .ptr .0) (xl .ptr .1) (length (xl .now)) (named 0) κl (xl .name) zl)) (‵ (Lends.Own u32 (xr .ptr .0) (xr .ptr .1) (length (xr .now)) (named 0) κr (xr .name) zr)) (‵ (froom T′.mir l₁₂ 0)) (‵ (froom word l₁₁ 0)) (‵ (fat fullShare word l₁₀ 0 (vint w64 n))) (‵ (fat fullShare Lf′.mir l₉ 0 (low-lift u))) (‵ (froom Ex′.mir l₀ 0))) (runs (𝓣 .C) (𝓣 .Λ) En mir.t-9 (atRet En Post))
       go-3 u lifted g-u n za zl zr made g-n long-a long-l long-r =
-          qed W (Held (‵ (Lends.Own T.the-row (xa .ptr .0) (xa .ptr .1) (length (xa .now)) (named 0) κa (xa .name) za)) (‵ (Lends.Own u32 (xl .ptr .0) (xl .ptr .1) (length (xl .now)) (named 0) κl (xl .name) zl)) (‵ (Lends.Own u32 (xr .ptr .0) (xr .ptr .1) (length (xr .now)) (named 0) κr (xr .name) zr)) (‵ (froom T′.mir l₁₂ 0)) (‵ (froom word l₁₁ 0)) (‵ (fat fullShare word l₁₀ 0 (vint w64 n))) (‵ (fat fullShare Lf′.mir l₉ 0 (low-lift u))) (‵ (froom Ex′.mir l₀ 0))) ∵ exec ! (𝓣 .C) (𝓣 .Λ) En mir.t-9 (atRet En Post) $
           calls-last-place ! fm mem run known-last n g-n (and-then ! (load ! (from ! (stop !)) (look ! 35 refl)) (no-more !)) (λ k is-k g-k.
           land ! (from ! (stop !)) (init ! 32 refl (tt, record { fits = g-k })) $
-          keep ! (0 ∷ 1 ∷ 2 ∷ 3 ∷ 4 ∷ 5 ∷ 6 ∷ 7 ∷ 8 ∷ 9 ∷ 10 ∷ 11 ∷ 12 ∷ 13 ∷ 14 ∷ 15 ∷ 16 ∷ 17 ∷ 18 ∷ 19 ∷ 20 ∷ 21 ∷ 22 ∷ 23 ∷ 24 ∷ 25 ∷ 26 ∷ 27 ∷ 28 ∷ 29 ∷ 30 ∷ 31 ∷ 32 ∷ 33 ∷ 34 ∷ 35 ∷ 36 ∷ 37 ∷ 38 ∷ 39 ∷ 40 ∷ 41 ∷ 42 ∷ 43 ∷ 44 ∷ 45 ∷ 46 ∷ 47 ∷ 48 ∷ 49 ∷ 50 ∷ 51 ∷ 52 ∷ 53 ∷ 54 ∷ 55 ∷ []) $
-          by ! (go-4 u lifted g-u n za zl zr made g-n long-a long-l long-r k is-k g-k))
+          go-4 u lifted g-u n za zl zr made g-n long-a long-l long-r k is-k g-k)
 
-      go-2 : (u : Lift) (lifted : Lifts (head .window) (head .width) (head .windows) u) (g-u : Is Lf.the-row u (low-lift u ∷ [])) → ent 𝓤 (⋆ 𝓤 H A (Held (‵ (Lends.Own T.the-row (xa .ptr .0) (xa .ptr .1) (length (xa .now)) (named 0) κa (xa .name) (xa .now))) (‵ (Lends.Own u32 (xl .ptr .0) (xl .ptr .1) (length (xl .now)) (named 0) κl (xl .name) (xl .now))) (‵ (Lends.Own u32 (xr .ptr .0) (xr .ptr .1) (length (xr .now)) (named 0) κr (xr .name) (xr .now))) (‵ (froom T′.mir l₁₂ 0)) (‵ (froom word l₁₁ 0)) (‵ (froom word l₁₀ 0)) (‵ (fat fullShare Lf′.mir l₉ 0 (low-lift u))) (‵ (froom Ex′.mir l₀ 0)))) (Wp 𝓤 H (𝓣 .C) (𝓣 .Λ) En mir.t-2 (atReturn 𝓤 H En Post))
+      go-2 : (u : Lift) (lifted : Lifts (head .window) (head .width) (head .windows) u) (g-u : Is Lf.the-row u (low-lift u ∷ [])) → Sq W (Held (‵ (Lends.Own T.the-row (xa .ptr .0) (xa .ptr .1) (length (xa .now)) (named 0) κa (xa .name) (xa .now))) (‵ (Lends.Own u32 (xl .ptr .0) (xl .ptr .1) (length (xl .now)) (named 0) κl (xl .name) (xl .now))) (‵ (Lends.Own u32 (xr .ptr .0) (xr .ptr .1) (length (xr .now)) (named 0) κr (xr .name) (xr .now))) (‵ (froom T′.mir l₁₂ 0)) (‵ (froom word l₁₁ 0)) (‵ (froom word l₁₀ 0)) (‵ (fat fullShare Lf′.mir l₉ 0 (low-lift u))) (‵ (froom Ex′.mir l₀ 0))) (runs (𝓣 .C) (𝓣 .Λ) En mir.t-2 (atRet En Post))
       go-2 u lifted g-u =
-          qed W (Held (‵ (Lends.Own T.the-row (xa .ptr .0) (xa .ptr .1) (length (xa .now)) (named 0) κa (xa .name) (xa .now))) (‵ (Lends.Own u32 (xl .ptr .0) (xl .ptr .1) (length (xl .now)) (named 0) κl (xl .name) (xl .now))) (‵ (Lends.Own u32 (xr .ptr .0) (xr .ptr .1) (length (xr .now)) (named 0) κr (xr .name) (xr .now))) (‵ (froom T′.mir l₁₂ 0)) (‵ (froom word l₁₁ 0)) (‵ (froom word l₁₀ 0)) (‵ (fat fullShare Lf′.mir l₉ 0 (low-lift u))) (‵ (froom Ex′.mir l₀ 0))) ∵ exec ! (𝓣 .C) (𝓣 .Λ) En mir.t-2 (atRet En Post) $
           assigns ! (addr ! (from ! (fld ! refl (hop ! (look-in ! 42 (sub ! 0 refl (whole !))) (stop !))))) (from ! (stop !)) (init ! 28 refl (tt, tt)) $
           assigns ! (agg ! (and-then ! (load ! (from ! (stop !)) (look ! 28 refl)) (and-then ! (load ! (from ! (fld ! refl (stop !))) (look-in ! 42 (sub ! 1 refl (whole !)))) (no-more !)))) (from ! (stop !)) (init ! 26 refl (tt, (tt, (record { fits = g-a .0 }, tt)))) $
           assigns ! (addr ! (from ! (fld ! refl (hop ! (look-in ! 40 (sub ! 0 refl (whole !))) (stop !))))) (from ! (stop !)) (init ! 24 refl (tt, tt)) $
@@ -216,16 +209,13 @@ module _ {M : Type 1} (𝓤 : URA M) (H : Heap 𝓤) (A : Atoms 𝓤) (W : Given
           calls-extend-passes ! fm mem run known-passes κs qs xs κf qf xf κc qc xc κh qh xh κa qa (xa .ptr .0) (xa .ptr .1) (length (xa .now)) (xa .name) (xa .now) κl ql (xl .ptr .0) (xl .ptr .1) (length (xl .now)) (xl .name) (xl .now) κr qr (xr .ptr .0) (xr .ptr .1) (length (xr .now)) (xr .name) (xr .now) (u .window) (u .extra) (u .width) (u .base) (u .bias) (u .old) refl g-a refl g-l refl g-r (g-u .1 .1 .0 .1) (g-u .1 .1 .1 .1 .1 .1 .0 .1) (g-u .1 .1 .1 .1 .0 .1) (g-u .1 .1 .1 .1 .1 .0 .1) (g-u .1 .1 .1 .1 .1 .1 .1 .0 .1) (g-u .1 .1 .1 .0 .1) (passes-asked (xs .now) head (xf .now) (xc .now) (xh .now) (buffers (xa .now) (xl .now) (xr .now)) asked lifted) (λ νa δa νl δl νr δr. (and-then ! (load ! (from ! (stop !)) (look ! 46 refl)) (and-then ! (load ! (from ! (fld ! refl (stop !))) (look-in ! 30 (sub ! 0 refl (whole !)))) (and-then ! (load ! (from ! (fld ! refl (stop !))) (look-in ! 30 (sub ! 4 refl (whole !)))) (and-then ! (load ! (from ! (fld ! refl (stop !))) (look-in ! 30 (sub ! 2 refl (whole !)))) (and-then ! (load ! (from ! (fld ! refl (stop !))) (look-in ! 30 (sub ! 3 refl (whole !)))) (and-then ! (load ! (from ! (fld ! refl (stop !))) (look-in ! 30 (sub ! 5 refl (whole !)))) (and-then ! (load ! (from ! (fld ! refl (stop !))) (look-in ! 30 (sub ! 1 refl (whole !)))) (and-then ! (load ! (from ! (stop !)) (look ! 42 refl)) (and-then ! (load ! (from ! (stop !)) (look ! 40 refl)) (and-then ! (load ! (from ! (stop !)) (look ! 38 refl)) (and-then ! (load ! (from ! (stop !)) (look ! 20 refl)) (and-then ! (load ! (from ! (stop !)) (look ! 16 refl)) (and-then ! (load ! (from ! (stop !)) (look ! 12 refl)) (no-more !))))))))))))))) (λ n za zl zr made g-n long-a long-l long-r.
           land ! (from ! (stop !)) (init ! 34 refl (tt, record { fits = g-n })) $
           forget ! 28 refl $ forget ! 26 refl $ forget ! 24 refl $ forget ! 22 refl $ forget ! 20 refl $ forget ! 18 refl $
-          keep ! (0 ∷ 1 ∷ 2 ∷ 3 ∷ 4 ∷ 5 ∷ 6 ∷ 7 ∷ 8 ∷ 9 ∷ 10 ∷ 11 ∷ 12 ∷ 13 ∷ 14 ∷ 15 ∷ 16 ∷ 17 ∷ 18 ∷ 19 ∷ 20 ∷ 21 ∷ 22 ∷ 23 ∷ 24 ∷ 25 ∷ 26 ∷ 27 ∷ 28 ∷ 29 ∷ 30 ∷ 31 ∷ 32 ∷ 33 ∷ 34 ∷ 35 ∷ 36 ∷ 37 ∷ 38 ∷ 39 ∷ 40 ∷ 41 ∷ 42 ∷ 43 ∷ 44 ∷ 45 ∷ 46 ∷ 47 ∷ 48 ∷ 49 ∷ 50 ∷ 51 ∷ 52 ∷ 53 ∷ 54 ∷ 55 ∷ []) $
-          by ! (go-3 u lifted g-u n za zl zr made g-n long-a long-l long-r))
+          go-3 u lifted g-u n za zl zr made g-n long-a long-l long-r)
 
-      go-1 : ent 𝓤 (⋆ 𝓤 H A (Held (‵ (Lends.Own T.the-row (xa .ptr .0) (xa .ptr .1) (length (xa .now)) (named 0) κa (xa .name) (xa .now))) (‵ (Lends.Own u32 (xl .ptr .0) (xl .ptr .1) (length (xl .now)) (named 0) κl (xl .name) (xl .now))) (‵ (Lends.Own u32 (xr .ptr .0) (xr .ptr .1) (length (xr .now)) (named 0) κr (xr .name) (xr .now))) (‵ (froom T′.mir l₁₂ 0)) (‵ (froom word l₁₁ 0)) (‵ (froom word l₁₀ 0)) (‵ (froom Lf′.mir l₉ 0)) (‵ (froom Ex′.mir l₀ 0)))) (Wp 𝓤 H (𝓣 .C) (𝓣 .Λ) En mir.t-1 (atReturn 𝓤 H En Post))
+      go-1 : Sq W (Held (‵ (Lends.Own T.the-row (xa .ptr .0) (xa .ptr .1) (length (xa .now)) (named 0) κa (xa .name) (xa .now))) (‵ (Lends.Own u32 (xl .ptr .0) (xl .ptr .1) (length (xl .now)) (named 0) κl (xl .name) (xl .now))) (‵ (Lends.Own u32 (xr .ptr .0) (xr .ptr .1) (length (xr .now)) (named 0) κr (xr .name) (xr .now))) (‵ (froom T′.mir l₁₂ 0)) (‵ (froom word l₁₁ 0)) (‵ (froom word l₁₀ 0)) (‵ (froom Lf′.mir l₉ 0)) (‵ (froom Ex′.mir l₀ 0))) (runs (𝓣 .C) (𝓣 .Λ) En mir.t-1 (atRet En Post))
       go-1 =
-          qed W (Held (‵ (Lends.Own T.the-row (xa .ptr .0) (xa .ptr .1) (length (xa .now)) (named 0) κa (xa .name) (xa .now))) (‵ (Lends.Own u32 (xl .ptr .0) (xl .ptr .1) (length (xl .now)) (named 0) κl (xl .name) (xl .now))) (‵ (Lends.Own u32 (xr .ptr .0) (xr .ptr .1) (length (xr .now)) (named 0) κr (xr .name) (xr .now))) (‵ (froom T′.mir l₁₂ 0)) (‵ (froom word l₁₁ 0)) (‵ (froom word l₁₀ 0)) (‵ (froom Lf′.mir l₉ 0)) (‵ (froom Ex′.mir l₀ 0))) ∵ exec ! (𝓣 .C) (𝓣 .Λ) En mir.t-1 (atRet En Post) $
           calls-lift-of ! fm mem run known-lifting (head .window) (head .width) (head .windows) (g-head .1 .1 .0 .1) (g-head .1 .1 .1 .0 .1) (g-head .1 .1 .1 .1 .0 .1) (lift-asked (xs .now) head (xf .now) (xc .now) (xh .now) (buffers (xa .now) (xl .now) (xr .now)) asked) (and-then ! (load ! (from ! (fld ! refl (stop !))) (look-in ! 51 (sub ! 0 refl (whole !)))) (and-then ! (load ! (from ! (fld ! refl (stop !))) (look-in ! 51 (sub ! 1 refl (whole !)))) (and-then ! (load ! (from ! (fld ! refl (stop !))) (look-in ! 51 (sub ! 2 refl (whole !)))) (no-more !)))) (λ u lifted g-u.
           land ! (from ! (stop !)) (init ! 36 refl (LL.lawful Lf.the-type Lf′.the-laws 𝓤 H A W .typed u _ g-u .0)) $
-          keep ! (0 ∷ 1 ∷ 2 ∷ 3 ∷ 4 ∷ 5 ∷ 6 ∷ 7 ∷ 8 ∷ 9 ∷ 10 ∷ 11 ∷ 12 ∷ 13 ∷ 14 ∷ 15 ∷ 16 ∷ 17 ∷ 18 ∷ 19 ∷ 20 ∷ 21 ∷ 22 ∷ 23 ∷ 24 ∷ 25 ∷ 26 ∷ 27 ∷ 28 ∷ 29 ∷ 30 ∷ 31 ∷ 32 ∷ 33 ∷ 34 ∷ 35 ∷ 36 ∷ 37 ∷ 38 ∷ 39 ∷ 40 ∷ 41 ∷ 42 ∷ 43 ∷ 44 ∷ 45 ∷ 46 ∷ 47 ∷ 48 ∷ 49 ∷ 50 ∷ 51 ∷ 52 ∷ 53 ∷ 54 ∷ 55 ∷ []) $
-          by ! (go-2 u lifted g-u))
+          go-2 u lifted g-u)
 
       -- what is had at entry is taken apart
       abbrev At-first : List (Item 𝓤)
@@ -279,7 +269,7 @@ module _ {M : Type 1} (𝓤 : URA M) (H : Heap 𝓤) (A : Atoms 𝓤) (W : Given
           move ! (1 ∷ []) $
           drop ! $
           keep ! (13 ∷ 6 ∷ 12 ∷ 5 ∷ 11 ∷ 4 ∷ 10 ∷ 3 ∷ 9 ∷ 2 ∷ 8 ∷ 1 ∷ 7 ∷ 0 ∷ 14 ∷ 15 ∷ 16 ∷ 17 ∷ 18 ∷ 19 ∷ 20 ∷ 21 ∷ 22 ∷ 23 ∷ 24 ∷ 25 ∷ 26 ∷ 27 ∷ 28 ∷ 29 ∷ 30 ∷ 31 ∷ 32 ∷ 33 ∷ 34 ∷ 35 ∷ 36 ∷ 37 ∷ 38 ∷ 39 ∷ 40 ∷ 41 ∷ 42 ∷ 43 ∷ 44 ∷ 45 ∷ 46 ∷ 47 ∷ 48 ∷ 49 ∷ 50 ∷ 51 ∷ 52 ∷ 53 ∷ 54 ∷ 55 ∷ []) $
-          by ! go-1
+          go-1
 
       -- the locals are allocated, and the parameters are passed
       abbrev At-entry : List (Item 𝓤)

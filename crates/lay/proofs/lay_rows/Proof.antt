@@ -114,7 +114,7 @@ module _ {M : Type 1} (𝓤 : URA M) (H : Heap 𝓤) (A : Atoms 𝓤) (W : Given
       abbrev En : Env 𝓤 H
       En = (word, l₀) ∷ ((sliceTy (tyRef (named 0) imm half)), l₁) ∷ (word, l₂) ∷ (word, l₃) ∷ (word, l₄) ∷ (word, l₅) ∷ ((sliceTy (tyRef (named 1) mut record-type)), l₆) ∷ ((sliceTy (tyRef (named 2) mut half)), l₇) ∷ ((sliceTy (tyRef (named 3) mut half)), l₈) ∷ (word, l₉) ∷ ((tyRef erased mut half), l₁₀) ∷ ((sliceTy (tyRef erased mut half)), l₁₁) ∷ ((tyRef erased mut half), l₁₂) ∷ ((sliceTy (tyRef erased mut half)), l₁₃) ∷ (tyUnit, l₁₄) ∷ ((tyRef erased imm half), l₁₅) ∷ ((sliceTy (tyRef erased imm half)), l₁₆) ∷ ((tyRef erased imm half), l₁₇) ∷ ((sliceTy (tyRef erased imm half)), l₁₈) ∷ ((tyRef erased mut record-type), l₁₉) ∷ ((sliceTy (tyRef erased mut record-type)), l₂₀) ∷ []
 
-      go-3 : (n : ℕ) (zl : List ℕ) (zr : List ℕ) (laid : LaidOut (xs .now) w e d n zl zr) (g-n : n < 2 ^ 64) (long-l : length zl ≡ length (xl .now)) (long-r : length zr ≡ length (xr .now)) (za : List Row) (is-a : za ≡ packed zl zr d bias n (xa .now)) (long-a : length za ≡ length (xa .now)) → ent 𝓤 (⋆ 𝓤 H A (‵ (flft κs qs) ∷ ‵ (ShrSlice (named 0) κs i32 .own xs (sliceVal (xs .ptr) (length (xs .now)) ∷ [])) ∷ ‵ (flft κa qa) ∷ ‵ (Lends.Own T.the-row (xa .ptr .0) (xa .ptr .1) (length (xa .now)) (named 0) κa (xa .name) za)
+      go-3 : (n : ℕ) (zl : List ℕ) (zr : List ℕ) (laid : LaidOut (xs .now) w e d n zl zr) (g-n : n < 2 ^ 64) (long-l : length zl ≡ length (xl .now)) (long-r : length zr ≡ length (xr .now)) (za : List Row) (is-a : za ≡ packed zl zr d bias n (xa .now)) (long-a : length za ≡ length (xa .now)) → Sq W (‵ (flft κs qs) ∷ ‵ (ShrSlice (named 0) κs i32 .own xs (sliceVal (xs .ptr) (length (xs .now)) ∷ [])) ∷ ‵ (flft κa qa) ∷ ‵ (Lends.Own T.the-row (xa .ptr .0) (xa .ptr .1) (length (xa .now)) (named 0) κa (xa .name) za)
           ∷ ‵ (flft κl ql) ∷ ‵ (Lends.Own u32 (xl .ptr .0) (xl .ptr .1) (length (xl .now)) (named 0) κl (xl .name) zl) ∷ ‵ (flft κr qr) ∷ ‵ (Lends.Own u32 (xr .ptr .0) (xr .ptr .1) (length (xr .now)) (named 0) κr (xr .name) zr)
           ∷ ‵ (froom (sliceTy (tyRef erased mut record-type)) l₂₀ 0) ∷ ‵ (fdies (sliceTy (tyRef erased mut record-type)) l₂₀) ∷ ‵ (froom (tyRef erased mut record-type) l₁₉ 0) ∷ ‵ (fdies (tyRef erased mut record-type) l₁₉)
           ∷ ‵ (froom (sliceTy (tyRef erased imm half)) l₁₈ 0) ∷ ‵ (fdies (sliceTy (tyRef erased imm half)) l₁₈) ∷ ‵ (froom (tyRef erased imm half) l₁₇ 0) ∷ ‵ (fdies (tyRef erased imm half) l₁₇)
@@ -126,28 +126,15 @@ module _ {M : Type 1} (𝓤 : URA M) (H : Heap 𝓤) (A : Atoms 𝓤) (W : Given
           ∷ ‵ (fat fullShare (sliceTy (tyRef (named 1) mut record-type)) l₆ 0 (sliceVal (xa .ptr) (length (xa .now)))) ∷ ‵ (fdies (sliceTy (tyRef (named 1) mut record-type)) l₆) ∷ ‵ (fat fullShare word l₅ 0 (vint w64 bias)) ∷ ‵ (fdies word l₅)
           ∷ ‵ (fat fullShare word l₄ 0 (vint w64 d)) ∷ ‵ (fdies word l₄) ∷ ‵ (fat fullShare word l₃ 0 (vint w64 e)) ∷ ‵ (fdies word l₃)
           ∷ ‵ (fat fullShare word l₂ 0 (vint w64 w)) ∷ ‵ (fdies word l₂) ∷ ‵ (fat fullShare (sliceTy (tyRef (named 0) imm half)) l₁ 0 (sliceVal (xs .ptr) (length (xs .now)))) ∷ ‵ (fdies (sliceTy (tyRef (named 0) imm half)) l₁)
-          ∷ ‵ (froom word l₀ 0) ∷ ‵ (fdies word l₀) ∷ [])) (Wp 𝓤 H (𝓣 .C) (𝓣 .Λ) En mir.t-13 (atReturn 𝓤 H En Post))
+          ∷ ‵ (froom word l₀ 0) ∷ ‵ (fdies word l₀) ∷ []) (runs (𝓣 .C) (𝓣 .Λ) En mir.t-13 (atRet En Post))
       go-3 n zl zr laid g-n long-l long-r za is-a long-a =
-          qed W (‵ (flft κs qs) ∷ ‵ (ShrSlice (named 0) κs i32 .own xs (sliceVal (xs .ptr) (length (xs .now)) ∷ [])) ∷ ‵ (flft κa qa) ∷ ‵ (Lends.Own T.the-row (xa .ptr .0) (xa .ptr .1) (length (xa .now)) (named 0) κa (xa .name) za)
-          ∷ ‵ (flft κl ql) ∷ ‵ (Lends.Own u32 (xl .ptr .0) (xl .ptr .1) (length (xl .now)) (named 0) κl (xl .name) zl) ∷ ‵ (flft κr qr) ∷ ‵ (Lends.Own u32 (xr .ptr .0) (xr .ptr .1) (length (xr .now)) (named 0) κr (xr .name) zr)
-          ∷ ‵ (froom (sliceTy (tyRef erased mut record-type)) l₂₀ 0) ∷ ‵ (fdies (sliceTy (tyRef erased mut record-type)) l₂₀) ∷ ‵ (froom (tyRef erased mut record-type) l₁₉ 0) ∷ ‵ (fdies (tyRef erased mut record-type) l₁₉)
-          ∷ ‵ (froom (sliceTy (tyRef erased imm half)) l₁₈ 0) ∷ ‵ (fdies (sliceTy (tyRef erased imm half)) l₁₈) ∷ ‵ (froom (tyRef erased imm half) l₁₇ 0) ∷ ‵ (fdies (tyRef erased imm half) l₁₇)
-          ∷ ‵ (froom (sliceTy (tyRef erased imm half)) l₁₆ 0) ∷ ‵ (fdies (sliceTy (tyRef erased imm half)) l₁₆) ∷ ‵ (froom (tyRef erased imm half) l₁₅ 0) ∷ ‵ (fdies (tyRef erased imm half) l₁₅)
-          ∷ ‵ (fat fullShare tyUnit l₁₄ 0 (vunit)) ∷ ‵ (fdies tyUnit l₁₄) ∷ ‵ (froom (sliceTy (tyRef erased mut half)) l₁₃ 0) ∷ ‵ (fdies (sliceTy (tyRef erased mut half)) l₁₃)
-          ∷ ‵ (froom (tyRef erased mut half) l₁₂ 0) ∷ ‵ (fdies (tyRef erased mut half) l₁₂) ∷ ‵ (froom (sliceTy (tyRef erased mut half)) l₁₁ 0) ∷ ‵ (fdies (sliceTy (tyRef erased mut half)) l₁₁)
-          ∷ ‵ (froom (tyRef erased mut half) l₁₀ 0) ∷ ‵ (fdies (tyRef erased mut half) l₁₀) ∷ ‵ (fat fullShare word l₉ 0 (vint w64 n)) ∷ ‵ (fdies word l₉)
-          ∷ ‵ (fat fullShare (sliceTy (tyRef (named 3) mut half)) l₈ 0 (sliceVal (xr .ptr) (length (xr .now)))) ∷ ‵ (fdies (sliceTy (tyRef (named 3) mut half)) l₈) ∷ ‵ (fat fullShare (sliceTy (tyRef (named 2) mut half)) l₇ 0 (sliceVal (xl .ptr) (length (xl .now)))) ∷ ‵ (fdies (sliceTy (tyRef (named 2) mut half)) l₇)
-          ∷ ‵ (fat fullShare (sliceTy (tyRef (named 1) mut record-type)) l₆ 0 (sliceVal (xa .ptr) (length (xa .now)))) ∷ ‵ (fdies (sliceTy (tyRef (named 1) mut record-type)) l₆) ∷ ‵ (fat fullShare word l₅ 0 (vint w64 bias)) ∷ ‵ (fdies word l₅)
-          ∷ ‵ (fat fullShare word l₄ 0 (vint w64 d)) ∷ ‵ (fdies word l₄) ∷ ‵ (fat fullShare word l₃ 0 (vint w64 e)) ∷ ‵ (fdies word l₃)
-          ∷ ‵ (fat fullShare word l₂ 0 (vint w64 w)) ∷ ‵ (fdies word l₂) ∷ ‵ (fat fullShare (sliceTy (tyRef (named 0) imm half)) l₁ 0 (sliceVal (xs .ptr) (length (xs .now)))) ∷ ‵ (fdies (sliceTy (tyRef (named 0) imm half)) l₁)
-          ∷ ‵ (froom word l₀ 0) ∷ ‵ (fdies word l₀) ∷ []) ∵ exec ! (𝓣 .C) (𝓣 .Λ) En mir.t-13 (atRet En Post) $
           assigns ! (of-opd ! (load ! (from ! (stop !)) (look ! 30 refl))) (from ! (stop !)) (init ! 48 refl (tt, record { fits = g-n })) $
           returns ! (look ! 48 refl) $
           lose ! 48 refl refl $ lose ! 46 refl refl $ lose ! 44 refl refl $ lose ! 42 refl refl $ lose ! 40 refl refl $ lose ! 38 refl refl $ lose ! 36 refl refl $ lose ! 34 refl refl $ lose ! 32 refl refl $ lose ! 30 refl refl $ lose-room ! 28 refl refl $ lose-room ! 26 refl refl $ lose-room ! 24 refl refl $ lose-room ! 22 refl refl $ lose ! 20 refl refl $ lose-room ! 18 refl refl $ lose-room ! 16 refl refl $ lose-room ! 14 refl refl $ lose-room ! 12 refl refl $ lose-room ! 10 refl refl $ lose-room ! 8 refl refl $ free0 ! $
           keep ! (0 ∷ 2 ∷ 4 ∷ 6 ∷ 3 ∷ 5 ∷ 7 ∷ []) $
           by ! (exits za long-a zl long-l zr long-r n g-n (packed-as n zl zr laid za is-a))
 
-      go-2 : (n : ℕ) (zl : List ℕ) (zr : List ℕ) (laid : LaidOut (xs .now) w e d n zl zr) (g-n : n < 2 ^ 64) (long-l : length zl ≡ length (xl .now)) (long-r : length zr ≡ length (xr .now)) → ent 𝓤 (⋆ 𝓤 H A (‵ (flft κs qs) ∷ ‵ (ShrSlice (named 0) κs i32 .own xs (sliceVal (xs .ptr) (length (xs .now)) ∷ [])) ∷ ‵ (flft κa qa) ∷ ‵ (Lends.Own T.the-row (xa .ptr .0) (xa .ptr .1) (length (xa .now)) (named 0) κa (xa .name) (xa .now))
+      go-2 : (n : ℕ) (zl : List ℕ) (zr : List ℕ) (laid : LaidOut (xs .now) w e d n zl zr) (g-n : n < 2 ^ 64) (long-l : length zl ≡ length (xl .now)) (long-r : length zr ≡ length (xr .now)) → Sq W (‵ (flft κs qs) ∷ ‵ (ShrSlice (named 0) κs i32 .own xs (sliceVal (xs .ptr) (length (xs .now)) ∷ [])) ∷ ‵ (flft κa qa) ∷ ‵ (Lends.Own T.the-row (xa .ptr .0) (xa .ptr .1) (length (xa .now)) (named 0) κa (xa .name) (xa .now))
           ∷ ‵ (flft κl ql) ∷ ‵ (Lends.Own u32 (xl .ptr .0) (xl .ptr .1) (length (xl .now)) (named 0) κl (xl .name) zl) ∷ ‵ (flft κr qr) ∷ ‵ (Lends.Own u32 (xr .ptr .0) (xr .ptr .1) (length (xr .now)) (named 0) κr (xr .name) zr)
           ∷ ‵ (froom (sliceTy (tyRef erased mut record-type)) l₂₀ 0) ∷ ‵ (fdies (sliceTy (tyRef erased mut record-type)) l₂₀) ∷ ‵ (froom (tyRef erased mut record-type) l₁₉ 0) ∷ ‵ (fdies (tyRef erased mut record-type) l₁₉)
           ∷ ‵ (froom (sliceTy (tyRef erased imm half)) l₁₈ 0) ∷ ‵ (fdies (sliceTy (tyRef erased imm half)) l₁₈) ∷ ‵ (froom (tyRef erased imm half) l₁₇ 0) ∷ ‵ (fdies (tyRef erased imm half) l₁₇)
@@ -159,21 +146,8 @@ module _ {M : Type 1} (𝓤 : URA M) (H : Heap 𝓤) (A : Atoms 𝓤) (W : Given
           ∷ ‵ (fat fullShare (sliceTy (tyRef (named 1) mut record-type)) l₆ 0 (sliceVal (xa .ptr) (length (xa .now)))) ∷ ‵ (fdies (sliceTy (tyRef (named 1) mut record-type)) l₆) ∷ ‵ (fat fullShare word l₅ 0 (vint w64 bias)) ∷ ‵ (fdies word l₅)
           ∷ ‵ (fat fullShare word l₄ 0 (vint w64 d)) ∷ ‵ (fdies word l₄) ∷ ‵ (fat fullShare word l₃ 0 (vint w64 e)) ∷ ‵ (fdies word l₃)
           ∷ ‵ (fat fullShare word l₂ 0 (vint w64 w)) ∷ ‵ (fdies word l₂) ∷ ‵ (fat fullShare (sliceTy (tyRef (named 0) imm half)) l₁ 0 (sliceVal (xs .ptr) (length (xs .now)))) ∷ ‵ (fdies (sliceTy (tyRef (named 0) imm half)) l₁)
-          ∷ ‵ (froom word l₀ 0) ∷ ‵ (fdies word l₀) ∷ [])) (Wp 𝓤 H (𝓣 .C) (𝓣 .Λ) En mir.t-6 (atReturn 𝓤 H En Post))
+          ∷ ‵ (froom word l₀ 0) ∷ ‵ (fdies word l₀) ∷ []) (runs (𝓣 .C) (𝓣 .Λ) En mir.t-6 (atRet En Post))
       go-2 n zl zr laid g-n long-l long-r =
-          qed W (‵ (flft κs qs) ∷ ‵ (ShrSlice (named 0) κs i32 .own xs (sliceVal (xs .ptr) (length (xs .now)) ∷ [])) ∷ ‵ (flft κa qa) ∷ ‵ (Lends.Own T.the-row (xa .ptr .0) (xa .ptr .1) (length (xa .now)) (named 0) κa (xa .name) (xa .now))
-          ∷ ‵ (flft κl ql) ∷ ‵ (Lends.Own u32 (xl .ptr .0) (xl .ptr .1) (length (xl .now)) (named 0) κl (xl .name) zl) ∷ ‵ (flft κr qr) ∷ ‵ (Lends.Own u32 (xr .ptr .0) (xr .ptr .1) (length (xr .now)) (named 0) κr (xr .name) zr)
-          ∷ ‵ (froom (sliceTy (tyRef erased mut record-type)) l₂₀ 0) ∷ ‵ (fdies (sliceTy (tyRef erased mut record-type)) l₂₀) ∷ ‵ (froom (tyRef erased mut record-type) l₁₉ 0) ∷ ‵ (fdies (tyRef erased mut record-type) l₁₉)
-          ∷ ‵ (froom (sliceTy (tyRef erased imm half)) l₁₈ 0) ∷ ‵ (fdies (sliceTy (tyRef erased imm half)) l₁₈) ∷ ‵ (froom (tyRef erased imm half) l₁₇ 0) ∷ ‵ (fdies (tyRef erased imm half) l₁₇)
-          ∷ ‵ (froom (sliceTy (tyRef erased imm half)) l₁₆ 0) ∷ ‵ (fdies (sliceTy (tyRef erased imm half)) l₁₆) ∷ ‵ (froom (tyRef erased imm half) l₁₅ 0) ∷ ‵ (fdies (tyRef erased imm half) l₁₅)
-          ∷ ‵ (froom tyUnit l₁₄ 0) ∷ ‵ (fdies tyUnit l₁₄) ∷ ‵ (froom (sliceTy (tyRef erased mut half)) l₁₃ 0) ∷ ‵ (fdies (sliceTy (tyRef erased mut half)) l₁₃)
-          ∷ ‵ (froom (tyRef erased mut half) l₁₂ 0) ∷ ‵ (fdies (tyRef erased mut half) l₁₂) ∷ ‵ (froom (sliceTy (tyRef erased mut half)) l₁₁ 0) ∷ ‵ (fdies (sliceTy (tyRef erased mut half)) l₁₁)
-          ∷ ‵ (froom (tyRef erased mut half) l₁₀ 0) ∷ ‵ (fdies (tyRef erased mut half) l₁₀) ∷ ‵ (fat fullShare word l₉ 0 (vint w64 n)) ∷ ‵ (fdies word l₉)
-          ∷ ‵ (fat fullShare (sliceTy (tyRef (named 3) mut half)) l₈ 0 (sliceVal (xr .ptr) (length (xr .now)))) ∷ ‵ (fdies (sliceTy (tyRef (named 3) mut half)) l₈) ∷ ‵ (fat fullShare (sliceTy (tyRef (named 2) mut half)) l₇ 0 (sliceVal (xl .ptr) (length (xl .now)))) ∷ ‵ (fdies (sliceTy (tyRef (named 2) mut half)) l₇)
-          ∷ ‵ (fat fullShare (sliceTy (tyRef (named 1) mut record-type)) l₆ 0 (sliceVal (xa .ptr) (length (xa .now)))) ∷ ‵ (fdies (sliceTy (tyRef (named 1) mut record-type)) l₆) ∷ ‵ (fat fullShare word l₅ 0 (vint w64 bias)) ∷ ‵ (fdies word l₅)
-          ∷ ‵ (fat fullShare word l₄ 0 (vint w64 d)) ∷ ‵ (fdies word l₄) ∷ ‵ (fat fullShare word l₃ 0 (vint w64 e)) ∷ ‵ (fdies word l₃)
-          ∷ ‵ (fat fullShare word l₂ 0 (vint w64 w)) ∷ ‵ (fdies word l₂) ∷ ‵ (fat fullShare (sliceTy (tyRef (named 0) imm half)) l₁ 0 (sliceVal (xs .ptr) (length (xs .now)))) ∷ ‵ (fdies (sliceTy (tyRef (named 0) imm half)) l₁)
-          ∷ ‵ (froom word l₀ 0) ∷ ‵ (fdies word l₀) ∷ []) ∵ exec ! (𝓣 .C) (𝓣 .Λ) En mir.t-6 (atRet En Post) $
           assigns ! (addr ! (from ! (fld ! refl (hop ! (look-in ! 34 (sub ! 0 refl (whole !))) (stop !))))) (from ! (stop !)) (init ! 18 refl (tt, tt)) $
           assigns ! (agg ! (and-then ! (load ! (from ! (stop !)) (look ! 18 refl)) (and-then ! (load ! (from ! (fld ! refl (stop !))) (look-in ! 34 (sub ! 1 refl (whole !)))) (no-more !)))) (from ! (stop !)) (init ! 16 refl (tt, (tt, (record { fits = g-l .0 }, tt)))) $
           assigns ! (addr ! (from ! (fld ! refl (hop ! (look-in ! 32 (sub ! 0 refl (whole !))) (stop !))))) (from ! (stop !)) (init ! 14 refl (tt, tt)) $
@@ -185,9 +159,9 @@ module _ {M : Type 1} (𝓤 : URA M) (H : Heap 𝓤) (A : Atoms 𝓤) (W : Given
           land ! (from ! (stop !)) (init ! 20 refl (tt, tt)) $
           forget ! 18 refl $ forget ! 16 refl $ forget ! 14 refl $ forget ! 12 refl $ forget ! 10 refl $ forget ! 8 refl $
           keep ! (6 ∷ 7 ∷ 4 ∷ 5 ∷ 0 ∷ 1 ∷ 2 ∷ 3 ∷ 8 ∷ 9 ∷ 10 ∷ 11 ∷ 12 ∷ 13 ∷ 14 ∷ 15 ∷ 16 ∷ 17 ∷ 18 ∷ 19 ∷ 20 ∷ 21 ∷ 22 ∷ 23 ∷ 24 ∷ 25 ∷ 26 ∷ 27 ∷ 28 ∷ 29 ∷ 30 ∷ 31 ∷ 32 ∷ 33 ∷ 34 ∷ 35 ∷ 36 ∷ 37 ∷ 38 ∷ 39 ∷ 40 ∷ 41 ∷ 42 ∷ 43 ∷ 44 ∷ 45 ∷ 46 ∷ 47 ∷ 48 ∷ 49 ∷ []) $
-          by ! (go-3 n zl zr laid g-n long-l long-r za is-a long-a))
+          go-3 n zl zr laid g-n long-l long-r za is-a long-a)
 
-      go-1 : ent 𝓤 (⋆ 𝓤 H A (‵ (flft κs qs) ∷ ‵ (ShrSlice (named 0) κs i32 .own xs (sliceVal (xs .ptr) (length (xs .now)) ∷ [])) ∷ ‵ (flft κa qa) ∷ ‵ (Lends.Own T.the-row (xa .ptr .0) (xa .ptr .1) (length (xa .now)) (named 0) κa (xa .name) (xa .now))
+      go-1 : Sq W (‵ (flft κs qs) ∷ ‵ (ShrSlice (named 0) κs i32 .own xs (sliceVal (xs .ptr) (length (xs .now)) ∷ [])) ∷ ‵ (flft κa qa) ∷ ‵ (Lends.Own T.the-row (xa .ptr .0) (xa .ptr .1) (length (xa .now)) (named 0) κa (xa .name) (xa .now))
           ∷ ‵ (flft κl ql) ∷ ‵ (Lends.Own u32 (xl .ptr .0) (xl .ptr .1) (length (xl .now)) (named 0) κl (xl .name) (xl .now)) ∷ ‵ (flft κr qr) ∷ ‵ (Lends.Own u32 (xr .ptr .0) (xr .ptr .1) (length (xr .now)) (named 0) κr (xr .name) (xr .now))
           ∷ ‵ (froom (sliceTy (tyRef erased mut record-type)) l₂₀ 0) ∷ ‵ (fdies (sliceTy (tyRef erased mut record-type)) l₂₀) ∷ ‵ (froom (tyRef erased mut record-type) l₁₉ 0) ∷ ‵ (fdies (tyRef erased mut record-type) l₁₉)
           ∷ ‵ (froom (sliceTy (tyRef erased imm half)) l₁₈ 0) ∷ ‵ (fdies (sliceTy (tyRef erased imm half)) l₁₈) ∷ ‵ (froom (tyRef erased imm half) l₁₇ 0) ∷ ‵ (fdies (tyRef erased imm half) l₁₇)
@@ -199,21 +173,8 @@ module _ {M : Type 1} (𝓤 : URA M) (H : Heap 𝓤) (A : Atoms 𝓤) (W : Given
           ∷ ‵ (fat fullShare (sliceTy (tyRef (named 1) mut record-type)) l₆ 0 (sliceVal (xa .ptr) (length (xa .now)))) ∷ ‵ (fdies (sliceTy (tyRef (named 1) mut record-type)) l₆) ∷ ‵ (fat fullShare word l₅ 0 (vint w64 bias)) ∷ ‵ (fdies word l₅)
           ∷ ‵ (fat fullShare word l₄ 0 (vint w64 d)) ∷ ‵ (fdies word l₄) ∷ ‵ (fat fullShare word l₃ 0 (vint w64 e)) ∷ ‵ (fdies word l₃)
           ∷ ‵ (fat fullShare word l₂ 0 (vint w64 w)) ∷ ‵ (fdies word l₂) ∷ ‵ (fat fullShare (sliceTy (tyRef (named 0) imm half)) l₁ 0 (sliceVal (xs .ptr) (length (xs .now)))) ∷ ‵ (fdies (sliceTy (tyRef (named 0) imm half)) l₁)
-          ∷ ‵ (froom word l₀ 0) ∷ ‵ (fdies word l₀) ∷ [])) (Wp 𝓤 H (𝓣 .C) (𝓣 .Λ) En mir.t-1 (atReturn 𝓤 H En Post))
+          ∷ ‵ (froom word l₀ 0) ∷ ‵ (fdies word l₀) ∷ []) (runs (𝓣 .C) (𝓣 .Λ) En mir.t-1 (atRet En Post))
       go-1 =
-          qed W (‵ (flft κs qs) ∷ ‵ (ShrSlice (named 0) κs i32 .own xs (sliceVal (xs .ptr) (length (xs .now)) ∷ [])) ∷ ‵ (flft κa qa) ∷ ‵ (Lends.Own T.the-row (xa .ptr .0) (xa .ptr .1) (length (xa .now)) (named 0) κa (xa .name) (xa .now))
-          ∷ ‵ (flft κl ql) ∷ ‵ (Lends.Own u32 (xl .ptr .0) (xl .ptr .1) (length (xl .now)) (named 0) κl (xl .name) (xl .now)) ∷ ‵ (flft κr qr) ∷ ‵ (Lends.Own u32 (xr .ptr .0) (xr .ptr .1) (length (xr .now)) (named 0) κr (xr .name) (xr .now))
-          ∷ ‵ (froom (sliceTy (tyRef erased mut record-type)) l₂₀ 0) ∷ ‵ (fdies (sliceTy (tyRef erased mut record-type)) l₂₀) ∷ ‵ (froom (tyRef erased mut record-type) l₁₉ 0) ∷ ‵ (fdies (tyRef erased mut record-type) l₁₉)
-          ∷ ‵ (froom (sliceTy (tyRef erased imm half)) l₁₈ 0) ∷ ‵ (fdies (sliceTy (tyRef erased imm half)) l₁₈) ∷ ‵ (froom (tyRef erased imm half) l₁₇ 0) ∷ ‵ (fdies (tyRef erased imm half) l₁₇)
-          ∷ ‵ (froom (sliceTy (tyRef erased imm half)) l₁₆ 0) ∷ ‵ (fdies (sliceTy (tyRef erased imm half)) l₁₆) ∷ ‵ (froom (tyRef erased imm half) l₁₅ 0) ∷ ‵ (fdies (tyRef erased imm half) l₁₅)
-          ∷ ‵ (froom tyUnit l₁₄ 0) ∷ ‵ (fdies tyUnit l₁₄) ∷ ‵ (froom (sliceTy (tyRef erased mut half)) l₁₃ 0) ∷ ‵ (fdies (sliceTy (tyRef erased mut half)) l₁₃)
-          ∷ ‵ (froom (tyRef erased mut half) l₁₂ 0) ∷ ‵ (fdies (tyRef erased mut half) l₁₂) ∷ ‵ (froom (sliceTy (tyRef erased mut half)) l₁₁ 0) ∷ ‵ (fdies (sliceTy (tyRef erased mut half)) l₁₁)
-          ∷ ‵ (froom (tyRef erased mut half) l₁₀ 0) ∷ ‵ (fdies (tyRef erased mut half) l₁₀) ∷ ‵ (froom word l₉ 0) ∷ ‵ (fdies word l₉)
-          ∷ ‵ (fat fullShare (sliceTy (tyRef (named 3) mut half)) l₈ 0 (sliceVal (xr .ptr) (length (xr .now)))) ∷ ‵ (fdies (sliceTy (tyRef (named 3) mut half)) l₈) ∷ ‵ (fat fullShare (sliceTy (tyRef (named 2) mut half)) l₇ 0 (sliceVal (xl .ptr) (length (xl .now)))) ∷ ‵ (fdies (sliceTy (tyRef (named 2) mut half)) l₇)
-          ∷ ‵ (fat fullShare (sliceTy (tyRef (named 1) mut record-type)) l₆ 0 (sliceVal (xa .ptr) (length (xa .now)))) ∷ ‵ (fdies (sliceTy (tyRef (named 1) mut record-type)) l₆) ∷ ‵ (fat fullShare word l₅ 0 (vint w64 bias)) ∷ ‵ (fdies word l₅)
-          ∷ ‵ (fat fullShare word l₄ 0 (vint w64 d)) ∷ ‵ (fdies word l₄) ∷ ‵ (fat fullShare word l₃ 0 (vint w64 e)) ∷ ‵ (fdies word l₃)
-          ∷ ‵ (fat fullShare word l₂ 0 (vint w64 w)) ∷ ‵ (fdies word l₂) ∷ ‵ (fat fullShare (sliceTy (tyRef (named 0) imm half)) l₁ 0 (sliceVal (xs .ptr) (length (xs .now)))) ∷ ‵ (fdies (sliceTy (tyRef (named 0) imm half)) l₁)
-          ∷ ‵ (froom word l₀ 0) ∷ ‵ (fdies word l₀) ∷ []) ∵ exec ! (𝓣 .C) (𝓣 .Λ) En mir.t-1 (atRet En Post) $
           assigns ! (addr ! (from ! (fld ! refl (hop ! (look-in ! 34 (sub ! 0 refl (whole !))) (stop !))))) (from ! (stop !)) (init ! 28 refl (tt, tt)) $
           assigns ! (agg ! (and-then ! (load ! (from ! (stop !)) (look ! 28 refl)) (and-then ! (load ! (from ! (fld ! refl (stop !))) (look-in ! 34 (sub ! 1 refl (whole !)))) (no-more !)))) (from ! (stop !)) (init ! 26 refl (tt, (tt, (record { fits = g-l .0 }, tt)))) $
           assigns ! (addr ! (from ! (fld ! refl (hop ! (look-in ! 32 (sub ! 0 refl (whole !))) (stop !))))) (from ! (stop !)) (init ! 24 refl (tt, tt)) $
@@ -223,7 +184,7 @@ module _ {M : Type 1} (𝓤 : URA M) (H : Heap 𝓤) (A : Atoms 𝓤) (W : Given
           land ! (from ! (stop !)) (init ! 30 refl (tt, record { fits = g-n })) $
           forget ! 28 refl $ forget ! 26 refl $ forget ! 24 refl $ forget ! 22 refl $
           keep ! (0 ∷ 1 ∷ 6 ∷ 7 ∷ 2 ∷ 3 ∷ 4 ∷ 5 ∷ 8 ∷ 9 ∷ 10 ∷ 11 ∷ 12 ∷ 13 ∷ 14 ∷ 15 ∷ 16 ∷ 17 ∷ 18 ∷ 19 ∷ 20 ∷ 21 ∷ 22 ∷ 23 ∷ 24 ∷ 25 ∷ 26 ∷ 27 ∷ 28 ∷ 29 ∷ 30 ∷ 31 ∷ 32 ∷ 33 ∷ 34 ∷ 35 ∷ 36 ∷ 37 ∷ 38 ∷ 39 ∷ 40 ∷ 41 ∷ 42 ∷ 43 ∷ 44 ∷ 45 ∷ 46 ∷ 47 ∷ 48 ∷ 49 ∷ []) $
-          by ! (go-2 n zl zr laid g-n long-l long-r))
+          go-2 n zl zr laid g-n long-l long-r)
 
       -- what is had at entry is taken apart
       abbrev At-first : List (Item 𝓤)
@@ -271,7 +232,7 @@ module _ {M : Type 1} (𝓤 : URA M) (H : Heap 𝓤) (A : Atoms 𝓤) (W : Given
           move ! (1 ∷ []) $
           drop ! $
           keep ! (7 ∷ 3 ∷ 6 ∷ 2 ∷ 5 ∷ 1 ∷ 4 ∷ 0 ∷ 8 ∷ 9 ∷ 10 ∷ 11 ∷ 12 ∷ 13 ∷ 14 ∷ 15 ∷ 16 ∷ 17 ∷ 18 ∷ 19 ∷ 20 ∷ 21 ∷ 22 ∷ 23 ∷ 24 ∷ 25 ∷ 26 ∷ 27 ∷ 28 ∷ 29 ∷ 30 ∷ 31 ∷ 32 ∷ 33 ∷ 34 ∷ 35 ∷ 36 ∷ 37 ∷ 38 ∷ 39 ∷ 40 ∷ 41 ∷ 42 ∷ 43 ∷ 44 ∷ 45 ∷ 46 ∷ 47 ∷ 48 ∷ 49 ∷ []) $
-          by ! go-1
+          go-1
 
       -- the locals are allocated, and the parameters are passed
       abbrev At-entry : List (Item 𝓤)

@@ -180,17 +180,15 @@ module _ {M : Type 1} (𝓤 : URA M) (H : Heap 𝓤) (A : Atoms 𝓤) (W : Given
           ∷ ‵ (fat fullShare (sliceTy (tyRef (named 1) imm record-type)) l₃ 0 (sliceVal (xa .ptr) (length (xa .now)))) ∷ ‵ (fdies (sliceTy (tyRef (named 1) imm record-type)) l₃) ∷ ‵ (fat fullShare Hd′.mir l₂ 0 (low-head head)) ∷ ‵ (fdies Hd′.mir l₂)
           ∷ ‵ (fat fullShare (sliceTy (tyRef (named 0) imm half)) l₁ 0 (sliceVal (xs .ptr) (length (xs .now)))) ∷ ‵ (fdies (sliceTy (tyRef (named 0) imm half)) l₁) ∷ cell₀ ∷ ‵ (fdies Fd′.mir l₀) ∷ []
 
-      go-4 : (p : ℕ) (fl : List ℕ) (fr : List ℕ) (put : RangesHeld kind (xq .now) limits (head .window) (xl .now) (xr .now) fl fr × (p ≡ length (xq .now) / head .window)) (g-p : p < 2 ^ 64) (long-fl : length fl ≡ length (xl .now)) (long-fr : length fr ≡ length (xr .now)) (ml : List ℕ) (mr : List ℕ) (met : AllMet (xa .now) p fl fr ml mr) (long-ml : length ml ≡ length fl) (long-mr : length mr ≡ length fr) (t : Found) (zl : List ℕ) (zr : List ℕ) (zc : List ℕ) (zo : List ℕ) (zd : List ℕ) (looked : Looked (xs .now) (head .window) (xu .now) (xv .now) kind (xq .now) limits (buffers ml mr (xc .now) (xo .now) (xd .now)) t (buffers zl zr zc zo zd)) (g-t : Is Fd.the-row t (low-found t ∷ [])) (long-l : length zl ≡ length ml) (long-r : length zr ≡ length mr) (long-c : length zc ≡ length (xc .now)) (long-o : length zo ≡ length (xo .now)) (long-d : length zd ≡ length (xd .now)) → ent 𝓤 (⋆ 𝓤 H A (At zl zr zc zo zd (‵ (fat fullShare tyUnit l₁₉ 0 (vunit))) (‵ (fat fullShare word l₁₄ 0 (vint w64 p))) (‵ (fat fullShare Fd′.mir l₀ 0 (low-found t))))) (Wp 𝓤 H (𝓣 .C) (𝓣 .Λ) En mir.t-22 (atReturn 𝓤 H En Post))
+      go-4 : (p : ℕ) (fl : List ℕ) (fr : List ℕ) (put : RangesHeld kind (xq .now) limits (head .window) (xl .now) (xr .now) fl fr × (p ≡ length (xq .now) / head .window)) (g-p : p < 2 ^ 64) (long-fl : length fl ≡ length (xl .now)) (long-fr : length fr ≡ length (xr .now)) (ml : List ℕ) (mr : List ℕ) (met : AllMet (xa .now) p fl fr ml mr) (long-ml : length ml ≡ length fl) (long-mr : length mr ≡ length fr) (t : Found) (zl : List ℕ) (zr : List ℕ) (zc : List ℕ) (zo : List ℕ) (zd : List ℕ) (looked : Looked (xs .now) (head .window) (xu .now) (xv .now) kind (xq .now) limits (buffers ml mr (xc .now) (xo .now) (xd .now)) t (buffers zl zr zc zo zd)) (g-t : Is Fd.the-row t (low-found t ∷ [])) (long-l : length zl ≡ length ml) (long-r : length zr ≡ length mr) (long-c : length zc ≡ length (xc .now)) (long-o : length zo ≡ length (xo .now)) (long-d : length zd ≡ length (xd .now)) → Sq W (At zl zr zc zo zd (‵ (fat fullShare tyUnit l₁₉ 0 (vunit))) (‵ (fat fullShare word l₁₄ 0 (vint w64 p))) (‵ (fat fullShare Fd′.mir l₀ 0 (low-found t)))) (runs (𝓣 .C) (𝓣 .Λ) En mir.t-22 (atRet En Post))
       go-4 p fl fr put g-p long-fl long-fr ml mr met long-ml long-mr t zl zr zc zo zd looked g-t long-l long-r long-c long-o long-d =
-          qed W (At zl zr zc zo zd (‵ (fat fullShare tyUnit l₁₉ 0 (vunit))) (‵ (fat fullShare word l₁₄ 0 (vint w64 p))) (‵ (fat fullShare Fd′.mir l₀ 0 (low-found t)))) ∵ exec ! (𝓣 .C) (𝓣 .Λ) En mir.t-22 (atRet En Post) $
           returns ! (look ! 86 refl) $
           lose ! 86 refl refl $ lose ! 84 refl refl $ lose ! 82 refl refl $ lose ! 80 refl refl $ lose ! 78 refl refl $ lose ! 76 refl refl $ lose ! 74 refl refl $ lose ! 72 refl refl $ lose ! 70 refl refl $ lose ! 68 refl refl $ lose ! 66 refl refl $ lose ! 64 refl refl $ lose ! 62 refl refl $ lose ! 60 refl refl $ lose ! 58 refl refl $ lose-room ! 56 refl refl $ lose-room ! 54 refl refl $ lose-room ! 52 refl refl $ lose-room ! 50 refl refl $ lose ! 48 refl refl $ lose-room ! 46 refl refl $ lose-room ! 44 refl refl $ lose-room ! 42 refl refl $ lose-room ! 40 refl refl $ lose-room ! 38 refl refl $ lose-room ! 36 refl refl $ lose-room ! 34 refl refl $ lose-room ! 32 refl refl $ lose-room ! 30 refl refl $ lose-room ! 28 refl refl $ lose-room ! 26 refl refl $ lose-room ! 24 refl refl $ lose-room ! 22 refl refl $ lose-room ! 20 refl refl $ free0 ! $
           keep ! (0 ∷ 2 ∷ 4 ∷ 6 ∷ 8 ∷ 10 ∷ 12 ∷ 14 ∷ 16 ∷ 18 ∷ 11 ∷ 13 ∷ 15 ∷ 17 ∷ 19 ∷ []) $
           by ! (exits zl (long-l ∙ long-ml ∙ long-fl) zr (long-r ∙ long-mr ∙ long-fr) zc long-c zo long-o zd long-d t g-t (kept-so p fl fr put ml mr met t zl zr zc zo zd looked))
 
-      go-3 : (p : ℕ) (fl : List ℕ) (fr : List ℕ) (put : RangesHeld kind (xq .now) limits (head .window) (xl .now) (xr .now) fl fr × (p ≡ length (xq .now) / head .window)) (g-p : p < 2 ^ 64) (long-fl : length fl ≡ length (xl .now)) (long-fr : length fr ≡ length (xr .now)) (ml : List ℕ) (mr : List ℕ) (met : AllMet (xa .now) p fl fr ml mr) (long-ml : length ml ≡ length fl) (long-mr : length mr ≡ length fr) → ent 𝓤 (⋆ 𝓤 H A (At ml mr (xc .now) (xo .now) (xd .now) (‵ (fat fullShare tyUnit l₁₉ 0 (vunit))) (‵ (fat fullShare word l₁₄ 0 (vint w64 p))) (‵ (froom Fd′.mir l₀ 0)))) (Wp 𝓤 H (𝓣 .C) (𝓣 .Λ) En mir.t-11 (atReturn 𝓤 H En Post))
+      go-3 : (p : ℕ) (fl : List ℕ) (fr : List ℕ) (put : RangesHeld kind (xq .now) limits (head .window) (xl .now) (xr .now) fl fr × (p ≡ length (xq .now) / head .window)) (g-p : p < 2 ^ 64) (long-fl : length fl ≡ length (xl .now)) (long-fr : length fr ≡ length (xr .now)) (ml : List ℕ) (mr : List ℕ) (met : AllMet (xa .now) p fl fr ml mr) (long-ml : length ml ≡ length fl) (long-mr : length mr ≡ length fr) → Sq W (At ml mr (xc .now) (xo .now) (xd .now) (‵ (fat fullShare tyUnit l₁₉ 0 (vunit))) (‵ (fat fullShare word l₁₄ 0 (vint w64 p))) (‵ (froom Fd′.mir l₀ 0))) (runs (𝓣 .C) (𝓣 .Λ) En mir.t-11 (atRet En Post))
       go-3 p fl fr put g-p long-fl long-fr ml mr met long-ml long-mr =
-          qed W (At ml mr (xc .now) (xo .now) (xd .now) (‵ (fat fullShare tyUnit l₁₉ 0 (vunit))) (‵ (fat fullShare word l₁₄ 0 (vint w64 p))) (‵ (froom Fd′.mir l₀ 0))) ∵ exec ! (𝓣 .C) (𝓣 .Λ) En mir.t-11 (atRet En Post) $
           assigns ! (addr ! (from ! (fld ! refl (hop ! (look-in ! 68 (sub ! 0 refl (whole !))) (stop !))))) (from ! (stop !)) (init ! 38 refl (tt, tt)) $
           assigns ! (agg ! (and-then ! (load ! (from ! (stop !)) (look ! 38 refl)) (and-then ! (load ! (from ! (fld ! refl (stop !))) (look-in ! 68 (sub ! 1 refl (whole !)))) (no-more !)))) (from ! (stop !)) (init ! 36 refl (tt, (tt, (record { fits = g-l .0 }, tt)))) $
           assigns ! (addr ! (from ! (fld ! refl (hop ! (look-in ! 66 (sub ! 0 refl (whole !))) (stop !))))) (from ! (stop !)) (init ! 34 refl (tt, tt)) $
@@ -206,11 +204,10 @@ module _ {M : Type 1} (𝓤 : URA M) (H : Heap 𝓤) (A : Atoms 𝓤) (W : Given
           land ! (from ! (stop !)) (init ! 86 refl (EL.lawful Fd.the-type Fd′.the-laws 𝓤 H A W tt .typed t _ g-t .0)) $
           forget ! 38 refl $ forget ! 36 refl $ forget ! 34 refl $ forget ! 32 refl $ forget ! 30 refl $ forget ! 28 refl $ forget ! 26 refl $ forget ! 24 refl $ forget ! 22 refl $ forget ! 20 refl $
           keep ! (0 ∷ 1 ∷ 18 ∷ 19 ∷ 2 ∷ 3 ∷ 4 ∷ 5 ∷ 6 ∷ 7 ∷ 8 ∷ 9 ∷ 10 ∷ 11 ∷ 12 ∷ 13 ∷ 14 ∷ 15 ∷ 16 ∷ 17 ∷ 20 ∷ 21 ∷ 22 ∷ 23 ∷ 24 ∷ 25 ∷ 26 ∷ 27 ∷ 28 ∷ 29 ∷ 30 ∷ 31 ∷ 32 ∷ 33 ∷ 34 ∷ 35 ∷ 36 ∷ 37 ∷ 38 ∷ 39 ∷ 40 ∷ 41 ∷ 42 ∷ 43 ∷ 44 ∷ 45 ∷ 46 ∷ 47 ∷ 48 ∷ 49 ∷ 50 ∷ 51 ∷ 52 ∷ 53 ∷ 54 ∷ 55 ∷ 56 ∷ 57 ∷ 58 ∷ 59 ∷ 60 ∷ 61 ∷ 62 ∷ 63 ∷ 64 ∷ 65 ∷ 66 ∷ 67 ∷ 68 ∷ 69 ∷ 70 ∷ 71 ∷ 72 ∷ 73 ∷ 74 ∷ 75 ∷ 76 ∷ 77 ∷ 78 ∷ 79 ∷ 80 ∷ 81 ∷ 82 ∷ 83 ∷ 84 ∷ 85 ∷ 86 ∷ 87 ∷ []) $
-          by ! (go-4 p fl fr put g-p long-fl long-fr ml mr met long-ml long-mr t zl zr zc zo zd looked g-t long-l long-r long-c long-o long-d))
+          go-4 p fl fr put g-p long-fl long-fr ml mr met long-ml long-mr t zl zr zc zo zd looked g-t long-l long-r long-c long-o long-d)
 
-      go-2 : (p : ℕ) (fl : List ℕ) (fr : List ℕ) (put : RangesHeld kind (xq .now) limits (head .window) (xl .now) (xr .now) fl fr × (p ≡ length (xq .now) / head .window)) (g-p : p < 2 ^ 64) (long-fl : length fl ≡ length (xl .now)) (long-fr : length fr ≡ length (xr .now)) → ent 𝓤 (⋆ 𝓤 H A (At fl fr (xc .now) (xo .now) (xd .now) (‵ (froom tyUnit l₁₉ 0)) (‵ (fat fullShare word l₁₄ 0 (vint w64 p))) (‵ (froom Fd′.mir l₀ 0)))) (Wp 𝓤 H (𝓣 .C) (𝓣 .Λ) En mir.t-6 (atReturn 𝓤 H En Post))
+      go-2 : (p : ℕ) (fl : List ℕ) (fr : List ℕ) (put : RangesHeld kind (xq .now) limits (head .window) (xl .now) (xr .now) fl fr × (p ≡ length (xq .now) / head .window)) (g-p : p < 2 ^ 64) (long-fl : length fl ≡ length (xl .now)) (long-fr : length fr ≡ length (xr .now)) → Sq W (At fl fr (xc .now) (xo .now) (xd .now) (‵ (froom tyUnit l₁₉ 0)) (‵ (fat fullShare word l₁₄ 0 (vint w64 p))) (‵ (froom Fd′.mir l₀ 0))) (runs (𝓣 .C) (𝓣 .Λ) En mir.t-6 (atRet En Post))
       go-2 p fl fr put g-p long-fl long-fr =
-          qed W (At fl fr (xc .now) (xo .now) (xd .now) (‵ (froom tyUnit l₁₉ 0)) (‵ (fat fullShare word l₁₄ 0 (vint w64 p))) (‵ (froom Fd′.mir l₀ 0))) ∵ exec ! (𝓣 .C) (𝓣 .Λ) En mir.t-6 (atRet En Post) $
           assigns ! (addr ! (from ! (fld ! refl (hop ! (look-in ! 68 (sub ! 0 refl (whole !))) (stop !))))) (from ! (stop !)) (init ! 46 refl (tt, tt)) $
           assigns ! (agg ! (and-then ! (load ! (from ! (stop !)) (look ! 46 refl)) (and-then ! (load ! (from ! (fld ! refl (stop !))) (look-in ! 68 (sub ! 1 refl (whole !)))) (no-more !)))) (from ! (stop !)) (init ! 44 refl (tt, (tt, (record { fits = g-l .0 }, tt)))) $
           assigns ! (addr ! (from ! (fld ! refl (hop ! (look-in ! 66 (sub ! 0 refl (whole !))) (stop !))))) (from ! (stop !)) (init ! 42 refl (tt, tt)) $
@@ -220,11 +217,10 @@ module _ {M : Type 1} (𝓤 : URA M) (H : Heap 𝓤) (A : Atoms 𝓤) (W : Given
           land ! (from ! (stop !)) (init ! 48 refl (tt, tt)) $
           forget ! 46 refl $ forget ! 44 refl $ forget ! 42 refl $ forget ! 40 refl $
           keep ! (6 ∷ 7 ∷ 0 ∷ 1 ∷ 8 ∷ 9 ∷ 10 ∷ 11 ∷ 12 ∷ 13 ∷ 2 ∷ 3 ∷ 4 ∷ 5 ∷ 14 ∷ 15 ∷ 16 ∷ 17 ∷ 18 ∷ 19 ∷ 20 ∷ 21 ∷ 22 ∷ 23 ∷ 24 ∷ 25 ∷ 26 ∷ 27 ∷ 28 ∷ 29 ∷ 30 ∷ 31 ∷ 32 ∷ 33 ∷ 34 ∷ 35 ∷ 36 ∷ 37 ∷ 38 ∷ 39 ∷ 40 ∷ 41 ∷ 42 ∷ 43 ∷ 44 ∷ 45 ∷ 46 ∷ 47 ∷ 48 ∷ 49 ∷ 50 ∷ 51 ∷ 52 ∷ 53 ∷ 54 ∷ 55 ∷ 56 ∷ 57 ∷ 58 ∷ 59 ∷ 60 ∷ 61 ∷ 62 ∷ 63 ∷ 64 ∷ 65 ∷ 66 ∷ 67 ∷ 68 ∷ 69 ∷ 70 ∷ 71 ∷ 72 ∷ 73 ∷ 74 ∷ 75 ∷ 76 ∷ 77 ∷ 78 ∷ 79 ∷ 80 ∷ 81 ∷ 82 ∷ 83 ∷ 84 ∷ 85 ∷ 86 ∷ 87 ∷ []) $
-          by ! (go-3 p fl fr put g-p long-fl long-fr ml mr met long-ml long-mr))
+          go-3 p fl fr put g-p long-fl long-fr ml mr met long-ml long-mr)
 
-      go-1 : ent 𝓤 (⋆ 𝓤 H A (At (xl .now) (xr .now) (xc .now) (xo .now) (xd .now) (‵ (froom tyUnit l₁₉ 0)) (‵ (froom word l₁₄ 0)) (‵ (froom Fd′.mir l₀ 0)))) (Wp 𝓤 H (𝓣 .C) (𝓣 .Λ) En mir.t-1 (atReturn 𝓤 H En Post))
+      go-1 : Sq W (At (xl .now) (xr .now) (xc .now) (xo .now) (xd .now) (‵ (froom tyUnit l₁₉ 0)) (‵ (froom word l₁₄ 0)) (‵ (froom Fd′.mir l₀ 0))) (runs (𝓣 .C) (𝓣 .Λ) En mir.t-1 (atRet En Post))
       go-1 =
-          qed W (At (xl .now) (xr .now) (xc .now) (xo .now) (xd .now) (‵ (froom tyUnit l₁₉ 0)) (‵ (froom word l₁₄ 0)) (‵ (froom Fd′.mir l₀ 0))) ∵ exec ! (𝓣 .C) (𝓣 .Λ) En mir.t-1 (atRet En Post) $
           assigns ! (addr ! (from ! (fld ! refl (hop ! (look-in ! 68 (sub ! 0 refl (whole !))) (stop !))))) (from ! (stop !)) (init ! 56 refl (tt, tt)) $
           assigns ! (agg ! (and-then ! (load ! (from ! (stop !)) (look ! 56 refl)) (and-then ! (load ! (from ! (fld ! refl (stop !))) (look-in ! 68 (sub ! 1 refl (whole !)))) (no-more !)))) (from ! (stop !)) (init ! 54 refl (tt, (tt, (record { fits = g-l .0 }, tt)))) $
           assigns ! (addr ! (from ! (fld ! refl (hop ! (look-in ! 66 (sub ! 0 refl (whole !))) (stop !))))) (from ! (stop !)) (init ! 52 refl (tt, tt)) $
@@ -234,7 +230,7 @@ module _ {M : Type 1} (𝓤 : URA M) (H : Heap 𝓤) (A : Atoms 𝓤) (W : Given
           land ! (from ! (stop !)) (init ! 58 refl (tt, record { fits = g-p })) $
           forget ! 56 refl $ forget ! 54 refl $ forget ! 52 refl $ forget ! 50 refl $
           keep ! (6 ∷ 7 ∷ 8 ∷ 9 ∷ 10 ∷ 11 ∷ 12 ∷ 13 ∷ 0 ∷ 1 ∷ 2 ∷ 3 ∷ 4 ∷ 5 ∷ 14 ∷ 15 ∷ 16 ∷ 17 ∷ 18 ∷ 19 ∷ 20 ∷ 21 ∷ 22 ∷ 23 ∷ 24 ∷ 25 ∷ 26 ∷ 27 ∷ 28 ∷ 29 ∷ 30 ∷ 31 ∷ 32 ∷ 33 ∷ 34 ∷ 35 ∷ 36 ∷ 37 ∷ 38 ∷ 39 ∷ 40 ∷ 41 ∷ 42 ∷ 43 ∷ 44 ∷ 45 ∷ 46 ∷ 47 ∷ 48 ∷ 49 ∷ 50 ∷ 51 ∷ 52 ∷ 53 ∷ 54 ∷ 55 ∷ 56 ∷ 57 ∷ 58 ∷ 59 ∷ 60 ∷ 61 ∷ 62 ∷ 63 ∷ 64 ∷ 65 ∷ 66 ∷ 67 ∷ 68 ∷ 69 ∷ 70 ∷ 71 ∷ 72 ∷ 73 ∷ 74 ∷ 75 ∷ 76 ∷ 77 ∷ 78 ∷ 79 ∷ 80 ∷ 81 ∷ 82 ∷ 83 ∷ 84 ∷ 85 ∷ 86 ∷ 87 ∷ []) $
-          by ! (go-2 p fl fr put g-p long-fl long-fr))
+          go-2 p fl fr put g-p long-fl long-fr)
 
       -- what is had at entry is taken apart
       abbrev At-first : List (Item 𝓤)
@@ -311,7 +307,7 @@ module _ {M : Type 1} (𝓤 : URA M) (H : Heap 𝓤) (A : Atoms 𝓤) (W : Given
           move ! (1 ∷ []) $
           drop ! $
           keep ! (19 ∷ 9 ∷ 18 ∷ 8 ∷ 17 ∷ 7 ∷ 16 ∷ 6 ∷ 15 ∷ 5 ∷ 14 ∷ 4 ∷ 13 ∷ 3 ∷ 12 ∷ 2 ∷ 11 ∷ 1 ∷ 10 ∷ 0 ∷ 20 ∷ 21 ∷ 22 ∷ 23 ∷ 24 ∷ 25 ∷ 26 ∷ 27 ∷ 28 ∷ 29 ∷ 30 ∷ 31 ∷ 32 ∷ 33 ∷ 34 ∷ 35 ∷ 36 ∷ 37 ∷ 38 ∷ 39 ∷ 40 ∷ 41 ∷ 42 ∷ 43 ∷ 44 ∷ 45 ∷ 46 ∷ 47 ∷ 48 ∷ 49 ∷ 50 ∷ 51 ∷ 52 ∷ 53 ∷ 54 ∷ 55 ∷ 56 ∷ 57 ∷ 58 ∷ 59 ∷ 60 ∷ 61 ∷ 62 ∷ 63 ∷ 64 ∷ 65 ∷ 66 ∷ 67 ∷ 68 ∷ 69 ∷ 70 ∷ 71 ∷ 72 ∷ 73 ∷ 74 ∷ 75 ∷ 76 ∷ 77 ∷ 78 ∷ 79 ∷ 80 ∷ 81 ∷ 82 ∷ 83 ∷ 84 ∷ 85 ∷ 86 ∷ 87 ∷ []) $
-          by ! go-1
+          go-1
 
       -- the locals are allocated, and the parameters are passed
       abbrev At-entry : List (Item 𝓤)

@@ -176,17 +176,15 @@ module _ {M : Type 1} (𝓤 : URA M) (H : Heap 𝓤) (A : Atoms 𝓤) (W : Given
           ∷ ‵ (fat fullShare (sliceTy (tyRef (named 1) imm record-type)) l₃ 0 (sliceVal (xa .ptr) (length (xa .now)))) ∷ ‵ (fdies (sliceTy (tyRef (named 1) imm record-type)) l₃) ∷ ‵ (fat fullShare Hd′.mir l₂ 0 (low-head head)) ∷ ‵ (fdies Hd′.mir l₂)
           ∷ ‵ (fat fullShare (sliceTy (tyRef (named 0) imm half)) l₁ 0 (sliceVal (xs .ptr) (length (xs .now)))) ∷ ‵ (fdies (sliceTy (tyRef (named 0) imm half)) l₁) ∷ cell₀ ∷ ‵ (fdies Fd′.mir l₀) ∷ []
 
-      go-5 : (j : Judged) (is-j : j ≡ judgedOf (lent head (xa .now) (xu .now) (xv .now))) (g-j : Is J.the-row j (low-judged j ∷ [])) (p : Refusal) (is-p : p ≡ planOf (xs .now) head j kind (xq .now) limits (min (length (xl .now)) (length (xr .now))) (length (xc .now))) (g-p : Is Rf.the-row p (low-refusal p ∷ [])) (yes′ : eqb (p .number) 0 ≡ true) (t : Found) (zl : List ℕ) (zr : List ℕ) (zc : List ℕ) (zo : List ℕ) (zd : List ℕ) (kept : SearchKept (lentSearch (xs .now) head (xa .now) (xu .now) (xv .now) kind (xq .now) limits) (buffers (xl .now) (xr .now) (xc .now) (xo .now) (xd .now)) t (buffers zl zr zc zo zd)) (g-t : Is Fd.the-row t (low-found t ∷ [])) (long-l : length zl ≡ length (xl .now)) (long-r : length zr ≡ length (xr .now)) (long-c : length zc ≡ length (xc .now)) (long-o : length zo ≡ length (xo .now)) (long-d : length zd ≡ length (xd .now)) → ent 𝓤 (⋆ 𝓤 H A (At zl zr zc zo zd (‵ (fat fullShare word l₁₈ 0 (vint w64 (length (xc .now))))) (‵ (fat fullShare word l₁₇ 0 (vint w64 (length (xr .now))))) (‵ (fat fullShare word l₁₆ 0 (vint w64 (length (xl .now))))) (‵ (fat fullShare Rf′.mir l₁₅ 0 (low-refusal p))) (‵ (fat fullShare J′.mir l₁₄ 0 (low-judged j))) (‵ (fat fullShare Fd′.mir l₀ 0 (low-found t))))) (Wp 𝓤 H (𝓣 .C) (𝓣 .Λ) En mir.t-19 (atReturn 𝓤 H En Post))
+      go-5 : (j : Judged) (is-j : j ≡ judgedOf (lent head (xa .now) (xu .now) (xv .now))) (g-j : Is J.the-row j (low-judged j ∷ [])) (p : Refusal) (is-p : p ≡ planOf (xs .now) head j kind (xq .now) limits (min (length (xl .now)) (length (xr .now))) (length (xc .now))) (g-p : Is Rf.the-row p (low-refusal p ∷ [])) (yes′ : eqb (p .number) 0 ≡ true) (t : Found) (zl : List ℕ) (zr : List ℕ) (zc : List ℕ) (zo : List ℕ) (zd : List ℕ) (kept : SearchKept (lentSearch (xs .now) head (xa .now) (xu .now) (xv .now) kind (xq .now) limits) (buffers (xl .now) (xr .now) (xc .now) (xo .now) (xd .now)) t (buffers zl zr zc zo zd)) (g-t : Is Fd.the-row t (low-found t ∷ [])) (long-l : length zl ≡ length (xl .now)) (long-r : length zr ≡ length (xr .now)) (long-c : length zc ≡ length (xc .now)) (long-o : length zo ≡ length (xo .now)) (long-d : length zd ≡ length (xd .now)) → Sq W (At zl zr zc zo zd (‵ (fat fullShare word l₁₈ 0 (vint w64 (length (xc .now))))) (‵ (fat fullShare word l₁₇ 0 (vint w64 (length (xr .now))))) (‵ (fat fullShare word l₁₆ 0 (vint w64 (length (xl .now))))) (‵ (fat fullShare Rf′.mir l₁₅ 0 (low-refusal p))) (‵ (fat fullShare J′.mir l₁₄ 0 (low-judged j))) (‵ (fat fullShare Fd′.mir l₀ 0 (low-found t)))) (runs (𝓣 .C) (𝓣 .Λ) En mir.t-19 (atRet En Post))
       go-5 j is-j g-j p is-p g-p yes′ t zl zr zc zo zd kept g-t long-l long-r long-c long-o long-d =
-          qed W (At zl zr zc zo zd (‵ (fat fullShare word l₁₈ 0 (vint w64 (length (xc .now))))) (‵ (fat fullShare word l₁₇ 0 (vint w64 (length (xr .now))))) (‵ (fat fullShare word l₁₆ 0 (vint w64 (length (xl .now))))) (‵ (fat fullShare Rf′.mir l₁₅ 0 (low-refusal p))) (‵ (fat fullShare J′.mir l₁₄ 0 (low-judged j))) (‵ (fat fullShare Fd′.mir l₀ 0 (low-found t)))) ∵ exec ! (𝓣 .C) (𝓣 .Λ) En mir.t-19 (atRet En Post) $
           returns ! (look ! 78 refl) $
           lose ! 78 refl refl $ lose ! 76 refl refl $ lose ! 74 refl refl $ lose ! 72 refl refl $ lose ! 70 refl refl $ lose ! 68 refl refl $ lose ! 66 refl refl $ lose ! 64 refl refl $ lose ! 62 refl refl $ lose ! 60 refl refl $ lose ! 58 refl refl $ lose ! 56 refl refl $ lose ! 54 refl refl $ lose ! 52 refl refl $ lose ! 50 refl refl $ lose ! 48 refl refl $ lose ! 46 refl refl $ lose ! 44 refl refl $ lose ! 42 refl refl $ lose-room ! 40 refl refl $ lose-room ! 38 refl refl $ lose-room ! 36 refl refl $ lose-room ! 34 refl refl $ lose-room ! 32 refl refl $ lose-room ! 30 refl refl $ lose-room ! 28 refl refl $ lose-room ! 26 refl refl $ lose-room ! 24 refl refl $ lose-room ! 22 refl refl $ lose-room ! 20 refl refl $ free0 ! $
           keep ! (0 ∷ 2 ∷ 4 ∷ 6 ∷ 8 ∷ 10 ∷ 12 ∷ 14 ∷ 16 ∷ 18 ∷ 11 ∷ 13 ∷ 15 ∷ 17 ∷ 19 ∷ []) $
           by ! (exits zl long-l zr long-r zc long-c zo long-o zd long-d t g-t kept)
 
-      go-4 : (j : Judged) (is-j : j ≡ judgedOf (lent head (xa .now) (xu .now) (xv .now))) (g-j : Is J.the-row j (low-judged j ∷ [])) (p : Refusal) (is-p : p ≡ planOf (xs .now) head j kind (xq .now) limits (min (length (xl .now)) (length (xr .now))) (length (xc .now))) (g-p : Is Rf.the-row p (low-refusal p ∷ [])) (yes′ : eqb (p .number) 0 ≡ true) → ent 𝓤 (⋆ 𝓤 H A (At (xl .now) (xr .now) (xc .now) (xo .now) (xd .now) (‵ (fat fullShare word l₁₈ 0 (vint w64 (length (xc .now))))) (‵ (fat fullShare word l₁₇ 0 (vint w64 (length (xr .now))))) (‵ (fat fullShare word l₁₆ 0 (vint w64 (length (xl .now))))) (‵ (fat fullShare Rf′.mir l₁₅ 0 (low-refusal p))) (‵ (fat fullShare J′.mir l₁₄ 0 (low-judged j))) (‵ (froom Fd′.mir l₀ 0)))) (Wp 𝓤 H (𝓣 .C) (𝓣 .Λ) En mir.t-8 (atReturn 𝓤 H En Post))
+      go-4 : (j : Judged) (is-j : j ≡ judgedOf (lent head (xa .now) (xu .now) (xv .now))) (g-j : Is J.the-row j (low-judged j ∷ [])) (p : Refusal) (is-p : p ≡ planOf (xs .now) head j kind (xq .now) limits (min (length (xl .now)) (length (xr .now))) (length (xc .now))) (g-p : Is Rf.the-row p (low-refusal p ∷ [])) (yes′ : eqb (p .number) 0 ≡ true) → Sq W (At (xl .now) (xr .now) (xc .now) (xo .now) (xd .now) (‵ (fat fullShare word l₁₈ 0 (vint w64 (length (xc .now))))) (‵ (fat fullShare word l₁₇ 0 (vint w64 (length (xr .now))))) (‵ (fat fullShare word l₁₆ 0 (vint w64 (length (xl .now))))) (‵ (fat fullShare Rf′.mir l₁₅ 0 (low-refusal p))) (‵ (fat fullShare J′.mir l₁₄ 0 (low-judged j))) (‵ (froom Fd′.mir l₀ 0))) (runs (𝓣 .C) (𝓣 .Λ) En mir.t-8 (atRet En Post))
       go-4 j is-j g-j p is-p g-p yes′ =
-          qed W (At (xl .now) (xr .now) (xc .now) (xo .now) (xd .now) (‵ (fat fullShare word l₁₈ 0 (vint w64 (length (xc .now))))) (‵ (fat fullShare word l₁₇ 0 (vint w64 (length (xr .now))))) (‵ (fat fullShare word l₁₆ 0 (vint w64 (length (xl .now))))) (‵ (fat fullShare Rf′.mir l₁₅ 0 (low-refusal p))) (‵ (fat fullShare J′.mir l₁₄ 0 (low-judged j))) (‵ (froom Fd′.mir l₀ 0))) ∵ exec ! (𝓣 .C) (𝓣 .Λ) En mir.t-8 (atRet En Post) $
           assigns ! (addr ! (from ! (fld ! refl (hop ! (look-in ! 60 (sub ! 0 refl (whole !))) (stop !))))) (from ! (stop !)) (init ! 38 refl (tt, tt)) $
           assigns ! (agg ! (and-then ! (load ! (from ! (stop !)) (look ! 38 refl)) (and-then ! (load ! (from ! (fld ! refl (stop !))) (look-in ! 60 (sub ! 1 refl (whole !)))) (no-more !)))) (from ! (stop !)) (init ! 36 refl (tt, (tt, (record { fits = g-l .0 }, tt)))) $
           assigns ! (addr ! (from ! (fld ! refl (hop ! (look-in ! 58 (sub ! 0 refl (whole !))) (stop !))))) (from ! (stop !)) (init ! 34 refl (tt, tt)) $
@@ -201,18 +199,15 @@ module _ {M : Type 1} (𝓤 : URA M) (H : Heap 𝓤) (A : Atoms 𝓤) (W : Given
           calls-look ! fm mem run known-look κs qs xs κa qa xa κu qu xu κv qv xv κq qq xq κl ql (xl .ptr .0) (xl .ptr .1) (length (xl .now)) (xl .name) (xl .now) κr qr (xr .ptr .0) (xr .ptr .1) (length (xr .now)) (xr .name) (xr .now) κc qc (xc .ptr .0) (xc .ptr .1) (length (xc .now)) (xc .name) (xc .now) κo qo (xo .ptr .0) (xo .ptr .1) (length (xo .now)) (xo .name) (xo .now) κd qd (xd .ptr .0) (xd .ptr .1) (length (xd .now)) (xd .name) (xd .now) head kind limits refl g-l refl g-r refl g-c refl g-o refl g-d g-head g-kind g-limits (goes-on j is-j p is-p yes′) (λ νl δl νr δr νc δc νo δo νd δd. (and-then ! (load ! (from ! (stop !)) (look ! 67 refl)) (and-then ! (load ! (from ! (stop !)) (look ! 65 refl)) (and-then ! (load ! (from ! (stop !)) (look ! 63 refl)) (and-then ! (load ! (from ! (stop !)) (look ! 61 refl)) (and-then ! (load ! (from ! (stop !)) (look ! 59 refl)) (and-then ! (load ! (from ! (stop !)) (look ! 57 refl)) (and-then ! (load ! (from ! (stop !)) (look ! 55 refl)) (and-then ! (load ! (from ! (stop !)) (look ! 53 refl)) (and-then ! (load ! (from ! (stop !)) (look ! 27 refl)) (and-then ! (load ! (from ! (stop !)) (look ! 23 refl)) (and-then ! (load ! (from ! (stop !)) (look ! 19 refl)) (and-then ! (load ! (from ! (stop !)) (look ! 15 refl)) (and-then ! (load ! (from ! (stop !)) (look ! 11 refl)) (no-more !))))))))))))))) (λ t zl zr zc zo zd kept g-t long-l long-r long-c long-o long-d.
           land ! (from ! (stop !)) (init ! 78 refl (EL.lawful Fd.the-type Fd′.the-laws 𝓤 H A W tt .typed t _ g-t .0)) $
           forget ! 38 refl $ forget ! 36 refl $ forget ! 34 refl $ forget ! 32 refl $ forget ! 30 refl $ forget ! 28 refl $ forget ! 26 refl $ forget ! 24 refl $ forget ! 22 refl $ forget ! 20 refl $
-          keep ! (0 ∷ 1 ∷ 2 ∷ 3 ∷ 4 ∷ 5 ∷ 6 ∷ 7 ∷ 8 ∷ 9 ∷ 10 ∷ 11 ∷ 12 ∷ 13 ∷ 14 ∷ 15 ∷ 16 ∷ 17 ∷ 18 ∷ 19 ∷ 20 ∷ 21 ∷ 22 ∷ 23 ∷ 24 ∷ 25 ∷ 26 ∷ 27 ∷ 28 ∷ 29 ∷ 30 ∷ 31 ∷ 32 ∷ 33 ∷ 34 ∷ 35 ∷ 36 ∷ 37 ∷ 38 ∷ 39 ∷ 40 ∷ 41 ∷ 42 ∷ 43 ∷ 44 ∷ 45 ∷ 46 ∷ 47 ∷ 48 ∷ 49 ∷ 50 ∷ 51 ∷ 52 ∷ 53 ∷ 54 ∷ 55 ∷ 56 ∷ 57 ∷ 58 ∷ 59 ∷ 60 ∷ 61 ∷ 62 ∷ 63 ∷ 64 ∷ 65 ∷ 66 ∷ 67 ∷ 68 ∷ 69 ∷ 70 ∷ 71 ∷ 72 ∷ 73 ∷ 74 ∷ 75 ∷ 76 ∷ 77 ∷ 78 ∷ 79 ∷ []) $
-          by ! (go-5 j is-j g-j p is-p g-p yes′ t zl zr zc zo zd kept g-t long-l long-r long-c long-o long-d))
+          go-5 j is-j g-j p is-p g-p yes′ t zl zr zc zo zd kept g-t long-l long-r long-c long-o long-d)
 
-      go-3 : (j : Judged) (is-j : j ≡ judgedOf (lent head (xa .now) (xu .now) (xv .now))) (g-j : Is J.the-row j (low-judged j ∷ [])) (p : Refusal) (is-p : p ≡ planOf (xs .now) head j kind (xq .now) limits (min (length (xl .now)) (length (xr .now))) (length (xc .now))) (g-p : Is Rf.the-row p (low-refusal p ∷ [])) → ent 𝓤 (⋆ 𝓤 H A (At (xl .now) (xr .now) (xc .now) (xo .now) (xd .now) (‵ (fat fullShare word l₁₈ 0 (vint w64 (length (xc .now))))) (‵ (fat fullShare word l₁₇ 0 (vint w64 (length (xr .now))))) (‵ (fat fullShare word l₁₆ 0 (vint w64 (length (xl .now))))) (‵ (fat fullShare Rf′.mir l₁₅ 0 (low-refusal p))) (‵ (fat fullShare J′.mir l₁₄ 0 (low-judged j))) (‵ (froom Fd′.mir l₀ 0)))) (Wp 𝓤 H (𝓣 .C) (𝓣 .Λ) En mir.t-6 (atReturn 𝓤 H En Post))
+      go-3 : (j : Judged) (is-j : j ≡ judgedOf (lent head (xa .now) (xu .now) (xv .now))) (g-j : Is J.the-row j (low-judged j ∷ [])) (p : Refusal) (is-p : p ≡ planOf (xs .now) head j kind (xq .now) limits (min (length (xl .now)) (length (xr .now))) (length (xc .now))) (g-p : Is Rf.the-row p (low-refusal p ∷ [])) → Sq W (At (xl .now) (xr .now) (xc .now) (xo .now) (xd .now) (‵ (fat fullShare word l₁₈ 0 (vint w64 (length (xc .now))))) (‵ (fat fullShare word l₁₇ 0 (vint w64 (length (xr .now))))) (‵ (fat fullShare word l₁₆ 0 (vint w64 (length (xl .now))))) (‵ (fat fullShare Rf′.mir l₁₅ 0 (low-refusal p))) (‵ (fat fullShare J′.mir l₁₄ 0 (low-judged j))) (‵ (froom Fd′.mir l₀ 0))) (runs (𝓣 .C) (𝓣 .Λ) En mir.t-6 (atRet En Post))
       go-3 j is-j g-j p is-p g-p =
-          qed W (At (xl .now) (xr .now) (xc .now) (xo .now) (xd .now) (‵ (fat fullShare word l₁₈ 0 (vint w64 (length (xc .now))))) (‵ (fat fullShare word l₁₇ 0 (vint w64 (length (xr .now))))) (‵ (fat fullShare word l₁₆ 0 (vint w64 (length (xl .now))))) (‵ (fat fullShare Rf′.mir l₁₅ 0 (low-refusal p))) (‵ (fat fullShare J′.mir l₁₄ 0 (low-judged j))) (‵ (froom Fd′.mir l₀ 0))) ∵ exec ! (𝓣 .C) (𝓣 .Λ) En mir.t-6 (atRet En Post) $
           assigns ! (bin ! (load ! (from ! (fld ! refl (stop !))) (look-in ! 48 (sub ! 0 refl (whole !)))) (lit ! tt) tt) (from ! (stop !)) (init ! 40 refl (tt, tt)) $
           by-bool (eqb (p .number) 0)
           (λ yes′. rewrite ! 40 (λ (t : Bool). ‵ (fat fullShare tyBool l₁₉ 0 (vbool (not t)))) yes′ refl $ passes-by ! (load ! (from ! (stop !)) (look ! 40 refl)) $
           forget ! 40 refl $
-          keep ! (0 ∷ 1 ∷ 2 ∷ 3 ∷ 4 ∷ 5 ∷ 6 ∷ 7 ∷ 8 ∷ 9 ∷ 10 ∷ 11 ∷ 12 ∷ 13 ∷ 14 ∷ 15 ∷ 16 ∷ 17 ∷ 18 ∷ 19 ∷ 20 ∷ 21 ∷ 22 ∷ 23 ∷ 24 ∷ 25 ∷ 26 ∷ 27 ∷ 28 ∷ 29 ∷ 30 ∷ 31 ∷ 32 ∷ 33 ∷ 34 ∷ 35 ∷ 36 ∷ 37 ∷ 38 ∷ 39 ∷ 40 ∷ 41 ∷ 42 ∷ 43 ∷ 44 ∷ 45 ∷ 46 ∷ 47 ∷ 48 ∷ 49 ∷ 50 ∷ 51 ∷ 52 ∷ 53 ∷ 54 ∷ 55 ∷ 56 ∷ 57 ∷ 58 ∷ 59 ∷ 60 ∷ 61 ∷ 62 ∷ 63 ∷ 64 ∷ 65 ∷ 66 ∷ 67 ∷ 68 ∷ 69 ∷ 70 ∷ 71 ∷ 72 ∷ 73 ∷ 74 ∷ 75 ∷ 76 ∷ 77 ∷ 78 ∷ 79 ∷ []) $
-          by ! (go-4 j is-j g-j p is-p g-p yes′))
+          go-4 j is-j g-j p is-p g-p yes′)
           (λ no′. rewrite ! 40 (λ (t : Bool). ‵ (fat fullShare tyBool l₁₉ 0 (vbool (not t)))) no′ refl $ goes-in ! (load ! (from ! (stop !)) (look ! 40 refl)) $
           calls-refuse ! fm mem run known-refuse p g-p (and-then ! (load ! (from ! (stop !)) (look ! 49 refl)) (no-more !)) (λ t is-t g-t.
           land ! (from ! (stop !)) (init ! 78 refl (EL.lawful Fd.the-type Fd′.the-laws 𝓤 H A W tt .typed t _ g-t .0)) $
@@ -221,9 +216,8 @@ module _ {M : Type 1} (𝓤 : URA M) (H : Heap 𝓤) (A : Atoms 𝓤) (W : Given
           keep ! (0 ∷ 2 ∷ 4 ∷ 6 ∷ 8 ∷ 10 ∷ 12 ∷ 14 ∷ 16 ∷ 18 ∷ 11 ∷ 13 ∷ 15 ∷ 17 ∷ 19 ∷ []) $
           by ! (exits (xl .now) refl (xr .now) refl (xc .now) refl (xo .now) refl (xd .now) refl t g-t (refused-so j is-j p is-p no′ t is-t))))
 
-      go-2 : (j : Judged) (is-j : j ≡ judgedOf (lent head (xa .now) (xu .now) (xv .now))) (g-j : Is J.the-row j (low-judged j ∷ [])) → ent 𝓤 (⋆ 𝓤 H A (At (xl .now) (xr .now) (xc .now) (xo .now) (xd .now) (‵ (froom word l₁₈ 0)) (‵ (froom word l₁₇ 0)) (‵ (froom word l₁₆ 0)) (‵ (froom Rf′.mir l₁₅ 0)) (‵ (fat fullShare J′.mir l₁₄ 0 (low-judged j))) (‵ (froom Fd′.mir l₀ 0)))) (Wp 𝓤 H (𝓣 .C) (𝓣 .Λ) En mir.t-2 (atReturn 𝓤 H En Post))
+      go-2 : (j : Judged) (is-j : j ≡ judgedOf (lent head (xa .now) (xu .now) (xv .now))) (g-j : Is J.the-row j (low-judged j ∷ [])) → Sq W (At (xl .now) (xr .now) (xc .now) (xo .now) (xd .now) (‵ (froom word l₁₈ 0)) (‵ (froom word l₁₇ 0)) (‵ (froom word l₁₆ 0)) (‵ (froom Rf′.mir l₁₅ 0)) (‵ (fat fullShare J′.mir l₁₄ 0 (low-judged j))) (‵ (froom Fd′.mir l₀ 0))) (runs (𝓣 .C) (𝓣 .Λ) En mir.t-2 (atRet En Post))
       go-2 j is-j g-j =
-          qed W (At (xl .now) (xr .now) (xc .now) (xo .now) (xd .now) (‵ (froom word l₁₈ 0)) (‵ (froom word l₁₇ 0)) (‵ (froom word l₁₆ 0)) (‵ (froom Rf′.mir l₁₅ 0)) (‵ (fat fullShare J′.mir l₁₄ 0 (low-judged j))) (‵ (froom Fd′.mir l₀ 0))) ∵ exec ! (𝓣 .C) (𝓣 .Λ) En mir.t-2 (atRet En Post) $
           assigns ! (of-opd ! (load ! (from ! (fld ! refl (stop !))) (look-in ! 60 (sub ! 1 refl (whole !))))) (from ! (stop !)) (init ! 46 refl (tt, record { fits = g-l .0 })) $
           assigns ! (of-opd ! (load ! (from ! (fld ! refl (stop !))) (look-in ! 58 (sub ! 1 refl (whole !))))) (from ! (stop !)) (init ! 44 refl (tt, record { fits = g-r .0 })) $
           assigns ! (of-opd ! (load ! (from ! (fld ! refl (stop !))) (look-in ! 56 (sub ! 1 refl (whole !))))) (from ! (stop !)) (init ! 42 refl (tt, record { fits = g-c .0 })) $
@@ -231,16 +225,15 @@ module _ {M : Type 1} (𝓤 : URA M) (H : Heap 𝓤) (A : Atoms 𝓤) (W : Given
           calls-plan ! fm mem run known-plan κs qs xs κq qq xq head j kind limits (length (xl .now)) (length (xr .now)) (length (xc .now)) g-head g-j g-kind g-limits (g-l .0) (g-r .0) (g-c .0) (and-then ! (load ! (from ! (stop !)) (look ! 75 refl)) (and-then ! (load ! (from ! (stop !)) (look ! 73 refl)) (and-then ! (load ! (from ! (stop !)) (look ! 49 refl)) (and-then ! (load ! (from ! (stop !)) (look ! 65 refl)) (and-then ! (load ! (from ! (stop !)) (look ! 63 refl)) (and-then ! (load ! (from ! (stop !)) (look ! 61 refl)) (and-then ! (load ! (from ! (stop !)) (look ! 45 refl)) (and-then ! (load ! (from ! (stop !)) (look ! 43 refl)) (and-then ! (load ! (from ! (stop !)) (look ! 41 refl)) (no-more !)))))))))) (λ p is-p g-p.
           land ! (from ! (stop !)) (init ! 48 refl (LL.lawful Rf.the-type Rf′.the-laws 𝓤 H A W .typed p _ g-p .0)) $
           keep ! (0 ∷ 1 ∷ 4 ∷ 5 ∷ 6 ∷ 7 ∷ 8 ∷ 9 ∷ 2 ∷ 3 ∷ 10 ∷ 11 ∷ 12 ∷ 13 ∷ 14 ∷ 15 ∷ 16 ∷ 17 ∷ 18 ∷ 19 ∷ 20 ∷ 21 ∷ 22 ∷ 23 ∷ 24 ∷ 25 ∷ 26 ∷ 27 ∷ 28 ∷ 29 ∷ 30 ∷ 31 ∷ 32 ∷ 33 ∷ 34 ∷ 35 ∷ 36 ∷ 37 ∷ 38 ∷ 39 ∷ 40 ∷ 41 ∷ 42 ∷ 43 ∷ 44 ∷ 45 ∷ 46 ∷ 47 ∷ 48 ∷ 49 ∷ 50 ∷ 51 ∷ 52 ∷ 53 ∷ 54 ∷ 55 ∷ 56 ∷ 57 ∷ 58 ∷ 59 ∷ 60 ∷ 61 ∷ 62 ∷ 63 ∷ 64 ∷ 65 ∷ 66 ∷ 67 ∷ 68 ∷ 69 ∷ 70 ∷ 71 ∷ 72 ∷ 73 ∷ 74 ∷ 75 ∷ 76 ∷ 77 ∷ 78 ∷ 79 ∷ []) $
-          by ! (go-3 j is-j g-j p is-p g-p))
+          go-3 j is-j g-j p is-p g-p)
 
-      go-1 : ent 𝓤 (⋆ 𝓤 H A (At (xl .now) (xr .now) (xc .now) (xo .now) (xd .now) (‵ (froom word l₁₈ 0)) (‵ (froom word l₁₇ 0)) (‵ (froom word l₁₆ 0)) (‵ (froom Rf′.mir l₁₅ 0)) (‵ (froom J′.mir l₁₄ 0)) (‵ (froom Fd′.mir l₀ 0)))) (Wp 𝓤 H (𝓣 .C) (𝓣 .Λ) En mir.t-1 (atReturn 𝓤 H En Post))
+      go-1 : Sq W (At (xl .now) (xr .now) (xc .now) (xo .now) (xd .now) (‵ (froom word l₁₈ 0)) (‵ (froom word l₁₇ 0)) (‵ (froom word l₁₆ 0)) (‵ (froom Rf′.mir l₁₅ 0)) (‵ (froom J′.mir l₁₄ 0)) (‵ (froom Fd′.mir l₀ 0))) (runs (𝓣 .C) (𝓣 .Λ) En mir.t-1 (atRet En Post))
       go-1 =
-          qed W (At (xl .now) (xr .now) (xc .now) (xo .now) (xd .now) (‵ (froom word l₁₈ 0)) (‵ (froom word l₁₇ 0)) (‵ (froom word l₁₆ 0)) (‵ (froom Rf′.mir l₁₅ 0)) (‵ (froom J′.mir l₁₄ 0)) (‵ (froom Fd′.mir l₀ 0))) ∵ exec ! (𝓣 .C) (𝓣 .Λ) En mir.t-1 (atRet En Post) $
           move ! (2 ∷ 3 ∷ 4 ∷ 5 ∷ 6 ∷ 7 ∷ []) $
           calls-judge ! fm mem run known-judge κa qa xa κu qu xu κv qv xv head g-head (and-then ! (load ! (from ! (stop !)) (look ! 72 refl)) (and-then ! (load ! (from ! (stop !)) (look ! 70 refl)) (and-then ! (load ! (from ! (stop !)) (look ! 68 refl)) (and-then ! (load ! (from ! (stop !)) (look ! 66 refl)) (no-more !))))) (λ j is-j g-j.
           land ! (from ! (stop !)) (init ! 50 refl (EL.lawful J.the-type J′.the-laws 𝓤 H A W tt .typed j _ g-j .0)) $
           keep ! (6 ∷ 7 ∷ 0 ∷ 1 ∷ 2 ∷ 3 ∷ 4 ∷ 5 ∷ 8 ∷ 9 ∷ 10 ∷ 11 ∷ 12 ∷ 13 ∷ 14 ∷ 15 ∷ 16 ∷ 17 ∷ 18 ∷ 19 ∷ 20 ∷ 21 ∷ 22 ∷ 23 ∷ 24 ∷ 25 ∷ 26 ∷ 27 ∷ 28 ∷ 29 ∷ 30 ∷ 31 ∷ 32 ∷ 33 ∷ 34 ∷ 35 ∷ 36 ∷ 37 ∷ 38 ∷ 39 ∷ 40 ∷ 41 ∷ 42 ∷ 43 ∷ 44 ∷ 45 ∷ 46 ∷ 47 ∷ 48 ∷ 49 ∷ 50 ∷ 51 ∷ 52 ∷ 53 ∷ 54 ∷ 55 ∷ 56 ∷ 57 ∷ 58 ∷ 59 ∷ 60 ∷ 61 ∷ 62 ∷ 63 ∷ 64 ∷ 65 ∷ 66 ∷ 67 ∷ 68 ∷ 69 ∷ 70 ∷ 71 ∷ 72 ∷ 73 ∷ 74 ∷ 75 ∷ 76 ∷ 77 ∷ 78 ∷ 79 ∷ []) $
-          by ! (go-2 j is-j g-j))
+          go-2 j is-j g-j)
 
       -- what is had at entry is taken apart
       abbrev At-first : List (Item 𝓤)
@@ -315,7 +308,7 @@ module _ {M : Type 1} (𝓤 : URA M) (H : Heap 𝓤) (A : Atoms 𝓤) (W : Given
           move ! (1 ∷ []) $
           drop ! $
           keep ! (19 ∷ 9 ∷ 18 ∷ 8 ∷ 17 ∷ 7 ∷ 16 ∷ 6 ∷ 15 ∷ 5 ∷ 14 ∷ 4 ∷ 13 ∷ 3 ∷ 12 ∷ 2 ∷ 11 ∷ 1 ∷ 10 ∷ 0 ∷ 20 ∷ 21 ∷ 22 ∷ 23 ∷ 24 ∷ 25 ∷ 26 ∷ 27 ∷ 28 ∷ 29 ∷ 30 ∷ 31 ∷ 32 ∷ 33 ∷ 34 ∷ 35 ∷ 36 ∷ 37 ∷ 38 ∷ 39 ∷ 40 ∷ 41 ∷ 42 ∷ 43 ∷ 44 ∷ 45 ∷ 46 ∷ 47 ∷ 48 ∷ 49 ∷ 50 ∷ 51 ∷ 52 ∷ 53 ∷ 54 ∷ 55 ∷ 56 ∷ 57 ∷ 58 ∷ 59 ∷ 60 ∷ 61 ∷ 62 ∷ 63 ∷ 64 ∷ 65 ∷ 66 ∷ 67 ∷ 68 ∷ 69 ∷ 70 ∷ 71 ∷ 72 ∷ 73 ∷ 74 ∷ 75 ∷ 76 ∷ 77 ∷ 78 ∷ 79 ∷ []) $
-          by ! go-1
+          go-1
 
       -- the locals are allocated, and the parameters are passed
       abbrev At-entry : List (Item 𝓤)

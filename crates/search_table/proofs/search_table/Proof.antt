@@ -62,7 +62,8 @@ use Rattle.meaning_entries.proofs.Found.Laws as Fd′
 use Rattle.records.proofs.Walk.{lose}
 use Rattle.records.proofs.Lent.{lends-local, back-local}
 use Rattle.records.proofs.Prefix.{prefix}
-use Rattle.index_c.proofs.Forward.{meets-by, ends-with, calls-entry}
+use Rattle.records.proofs.Told.{calls-ensured}
+use Rattle.index_c.proofs.Forward.{meets-by, ends-with}
 use Rattle.search_c.proofs.Passing.{ensures-as}
 use Rattle.search.proofs.EntryCalls.{low-found}
 use Rattle.search.proofs.search as entry
@@ -219,7 +220,7 @@ module _ {M : Type 1} (𝓤 : URA M) (H : Heap 𝓤) (A : Atoms 𝓤) (W : Given
         prefix T.the-row l₁₅ 0 ! tt (halved 𝓤 H A W (cStruct T.the-type T′.the-laws T′.the-copy)) (named 0) (α ∷ []) fullShare γ′ table n (λ γ₁.
         move ! (20 ∷ 1 ∷ 19 ∷ 18 ∷ 17 ∷ 16 ∷ 15 ∷ 14 ∷ 13 ∷ 12 ∷ 11 ∷ 0 ∷ 10 ∷ 9 ∷ 8 ∷ 7 ∷ 6 ∷ 5 ∷ 4 ∷ 3 ∷ []) $
         group ! 20 $ use1 W (raw (Entry 𝓤 H A mem run .pre (to-entry α γ₁ l₁₅))) (asks-entry α γ₁ l₁₅ g-head g-kind g-limits) $
-        calls-entry ! fm entry.signature (entry.spec 𝓤 H A mem run) known (to-entry α γ₁ l₁₅) low-found (EL.tells Fd.the-type Fd′.the-laws) (and-then ! (load ! (from ! (stop !)) (look ! 53 refl)) (and-then ! (load ! (from ! (stop !)) (look ! 51 refl)) (and-then ! (load ! (from ! (stop !)) (look ! 22 refl)) (and-then ! (load ! (from ! (stop !)) (look ! 45 refl)) (and-then ! (load ! (from ! (stop !)) (look ! 43 refl)) (and-then ! (load ! (from ! (stop !)) (look ! 41 refl)) (and-then ! (load ! (from ! (stop !)) (look ! 39 refl)) (and-then ! (load ! (from ! (stop !)) (look ! 37 refl)) (and-then ! (load ! (from ! (stop !)) (look ! 18 refl)) (and-then ! (load ! (from ! (stop !)) (look ! 14 refl)) (and-then ! (load ! (from ! (stop !)) (look ! 10 refl)) (and-then ! (load ! (from ! (stop !)) (look ! 6 refl)) (and-then ! (load ! (from ! (stop !)) (look ! 2 refl)) (no-more !)))))))))))))) (λ a g-a.
+        calls-ensured ! fm entry.signature (entry.spec 𝓤 H A mem run) known (to-entry α γ₁ l₁₅) (id⊢ 𝓤 _) low-found (EL.tells Fd.the-type Fd′.the-laws) (and-then ! (load ! (from ! (stop !)) (look ! 53 refl)) (and-then ! (load ! (from ! (stop !)) (look ! 51 refl)) (and-then ! (load ! (from ! (stop !)) (look ! 22 refl)) (and-then ! (load ! (from ! (stop !)) (look ! 45 refl)) (and-then ! (load ! (from ! (stop !)) (look ! 43 refl)) (and-then ! (load ! (from ! (stop !)) (look ! 41 refl)) (and-then ! (load ! (from ! (stop !)) (look ! 39 refl)) (and-then ! (load ! (from ! (stop !)) (look ! 37 refl)) (and-then ! (load ! (from ! (stop !)) (look ! 18 refl)) (and-then ! (load ! (from ! (stop !)) (look ! 14 refl)) (and-then ! (load ! (from ! (stop !)) (look ! 10 refl)) (and-then ! (load ! (from ! (stop !)) (look ! 6 refl)) (and-then ! (load ! (from ! (stop !)) (look ! 2 refl)) (no-more !)))))))))))))) (λ a g-a.
         land ! (from ! (stop !)) (init ! 56 refl (EL.lawful Fd.the-type Fd′.the-laws 𝓤 H A W tt .typed a _ g-a .0)) $
         use1 W (‵ (flft (κs .0) (qs .0)) ⊛ ‵ (flft (α ∷ []) fullShare) ⊛ ‵ (flft (κs .1 .0) (qs .1 .0)) ⊛ ‵ (flft (κs .1 .1 .0) (qs .1 .1 .0)) ⊛ ‵ (flft (κs .1 .1 .1 .0) (qs .1 .1 .1 .0)) ⊛ ‵ (flft (κs .1 .1 .1 .1 .0) (qs .1 .1 .1 .1 .0)) ⊛ ‵ (flft (κs .1 .1 .1 .1 .1 .0) (qs .1 .1 .1 .1 .1 .0)) ⊛ ‵ (flft (κs .1 .1 .1 .1 .1 .1 .0) (qs .1 .1 .1 .1 .1 .1 .0)) ⊛ ‵ (flft (κs .1 .1 .1 .1 .1 .1 .1 .0) (qs .1 .1 .1 .1 .1 .1 .1 .0)) ⊛ ‵ (flft (κs .1 .1 .1 .1 .1 .1 .1 .1 .0) (qs .1 .1 .1 .1 .1 .1 .1 .1 .0)) ⊛ ‵ ftrue) (id⊢ 𝓤 _) $
         split ! $
