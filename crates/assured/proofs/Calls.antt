@@ -1,4 +1,4 @@
--- The calls of `build_audited`, each as one step of its walk: token and own of each slice are at the head, and come back there; of a slice that is lent as `&mut`, at the list that the callee left. To the audit the first elements of each buffer are lent.
+-- The calls of `build_audited` but that of `build`, each as one step of its walk. To the audit the first elements of each buffer are lent: token and own of each slice are at the head, and come back there. The other calls leave the context as it was.
 -- Assumes `Given`, and that the table of calls is monotone under a frame, as every `Tables` is.
 use mathlib.Core.Path.{_≡_}
 use Prim.Native.Nat.{ℕ, _<_, _^_}
@@ -66,7 +66,7 @@ use Rattle.assured.proofs.runs_in.Symbol.{name as #runs-in}
 use Rattle.assured.proofs.both as both
 use Rattle.assured.proofs.both.Symbol.{name as #both}
 
--- machine values
+-- a machine value
 abbrev pub low-assured : Assured → Val
 low-assured = LL.val As.the-type As′.the-laws
 

@@ -1,4 +1,4 @@
--- The calls of `extend_audited` that `build_audited` has not, each as one step of its walk, as in Calls.antt.
+-- The calls of `extend_audited` that `build_audited` has not, but for that of `extend`, each as one step of its walk: the context stays as it was.
 -- Assumes `Given`, and that the table of calls is monotone under a frame, as every `Tables` is.
 use mathlib.Core.Path.{_≡_}
 use mathlib.Core.List.{List, [], _∷_}

@@ -144,6 +144,6 @@ module _ {M : Type 1} {𝓤 : URA M} {H : Heap 𝓤} {A : Atoms 𝓤} {K : Type 
       → Seq K W (‵ (flft κa qa) ∷ ‵ (Own T.the-row ba oa ma (named 0) κa γa ya) ∷ Γ) (runs C Λ E (seq (call #row-at xs d) rest) p)
   calls-row-lent t fm mem run met κa qa ba oa ma γa ya place ea rooma g-place asked os k =
       move t (1 ∷ 0 ∷ []) $ share T.the-row ba oa ma (named 0) (named 0) κa qa γa ya ea t tt (λ νa δa.
-      move t (0 ∷ 1 ∷ 2 ∷ []) $ group t 2 $ calls-ended t fm row.ended (row.clauses 𝓤 H A mem run) met (to-row-lent 𝓤 H A mem run κa qa ba oa ma γa ya place νa δa) (asks-row-lent 𝓤 H A mem run κa qa ba oa ma γa ya place W g-place asked νa δa) (λ r ls. r ≡ getD ya place zeroRow) (λ r ls. id⊢ 𝓤 _) low (LL.tells T.the-type T′.the-laws) (os νa δa) (λ r ls said is.
+      group t 2 $ calls-ended t fm row.ended (row.clauses 𝓤 H A mem run) met (to-row-lent 𝓤 H A mem run κa qa ba oa ma γa ya place νa δa) (asks-row-lent 𝓤 H A mem run κa qa ba oa ma γa ya place W g-place asked νa δa) (λ r ls. r ≡ getD ya place zeroRow) (λ r ls. id⊢ 𝓤 _) low (LL.tells T.the-type T′.the-laws) (os νa δa) (λ r ls said is.
       unshare T.the-row ba oa ma (named 0) (named 0) κa qa γa ya ea t tt νa rooma $
       move t (1 ∷ 0 ∷ []) $ k r said is))

@@ -1,4 +1,4 @@
--- The calls of `demand`, each as one step of its walk: token and own of each slice are at the head, and come back there; of a slice that is lent as `&mut`, at the list that the callee left.
+-- The call of `tell` as one step of the walk of `demand`: the context stays as it was.
 -- Assumes `Given`, and that the table of calls is monotone under a frame, as every `Tables` is.
 use mathlib.Core.Path.{_≡_}
 use mathlib.Core.List.{List, [], _∷_}
@@ -35,11 +35,11 @@ use Rattle.search.proofs.EntryCalls.{low-found}
 use Rattle.demand.proofs.tell as telling
 use Rattle.demand.proofs.tell.Symbol.{name as #tell}
 
--- machine values
+-- a machine value
 abbrev pub low-both : Both → Val
 low-both = EL.val Bt.the-type Bt′.the-laws
 
--- the contracts that the walk cites, what each is called at, and what it asks
+-- the contract, what it is called at, and what it asks
 module _ {M : Type 1} (𝓤 : URA M) (H : Heap 𝓤) (A : Atoms 𝓤) (mem : Memory → SProp 𝓤) (run : Routine → Fun 𝓤) where
   abbrev pub Telling : Contract 𝓤
   Telling = tripleOf 𝓤 H A telling.signature (telling.spec 𝓤 H A mem run)

@@ -38,7 +38,7 @@ module _ {M : Type 1} (𝓤 : URA M) (H : Heap 𝓤) (A : Atoms 𝓤) where
   Tokens zero κs qs = []
   Tokens (suc n) κs qs = ‵ (flft (κs .0) (qs .0)) ∷ Tokens n (κs .1) (qs .1)
 
-  tokens : (n : ℕ) (κs : Lfts n) (qs : Shares n) → ent 𝓤 (toks 𝓤 A n κs qs) (⋆ 𝓤 H A (Tokens n κs qs))
+  pub tokens : (n : ℕ) (κs : Lfts n) (qs : Shares n) → ent 𝓤 (toks 𝓤 A n κs qs) (⋆ 𝓤 H A (Tokens n κs qs))
   tokens zero κs qs = id⊢ 𝓤 (emp 𝓤)
   tokens (suc n) κs qs = via 𝓤 (sep 𝓤 (A .lft (κs .0) (qs .0)) (⋆ 𝓤 H A (Tokens n (κs .1) (qs .1)))) (monoR 𝓤 (A .lft (κs .0) (qs .0)) (tokens n (κs .1) (qs .1))) (push 𝓤 H A (‵ (flft (κs .0) (qs .0))) (Tokens n (κs .1) (qs .1)))
 

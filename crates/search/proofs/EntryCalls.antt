@@ -185,7 +185,7 @@ module _ {M : Type 1} {𝓤 : URA M} {H : Heap 𝓤} {A : Atoms 𝓤} {K : Type 
       move t (1 ∷ []) $ fsplit t $ fsplit t $ move t (1 ∷ []) $ feqL t (λ longo.
       move t (1 ∷ []) $ fsplit t $ fsplit t $ move t (1 ∷ []) $ feqL t (λ longd.
       move t (1 ∷ []) $ drop t $ move t (5 ∷ []) $ split t $ move t (1 ∷ []) $ facts t Fd.the-row (Is Fd.the-row) (shows 𝓤 H A Fd.the-row) r (u ∷ []) (λ is. regoal t (λ (v : Val). lands C Λ E d v rest p) (ap only (EL.tells Fd.the-type Fd′.the-laws r (u ∷ []) is)) refl $
-      move t (0 ∷ []) $ split t $ move t (1 ∷ []) $ split t $ move t (1 ∷ []) $ split t $ move t (1 ∷ []) $ split t $ move t (1 ∷ []) $ split t $ move t (1 ∷ []) $ split t $ move t (1 ∷ []) $ split t $ move t (1 ∷ []) $ split t $ move t (1 ∷ []) $ split t $ move t (1 ∷ []) $ split t $ move t (1 ∷ []) $ drop t $ move t (4 ∷ 20 ∷ 14 ∷ []) $ back u32 bl ol ml (named 0) (named 0) κl ql γl yl el t tt νl δl (ls .1 .1 .1 .1 .1 .1 .1 .1 .0) rooml longl $
+      split t $ move t (1 ∷ []) $ split t $ move t (1 ∷ []) $ split t $ move t (1 ∷ []) $ split t $ move t (1 ∷ []) $ split t $ move t (1 ∷ []) $ split t $ move t (1 ∷ []) $ split t $ move t (1 ∷ []) $ split t $ move t (1 ∷ []) $ split t $ move t (1 ∷ []) $ split t $ move t (1 ∷ []) $ drop t $ move t (4 ∷ 20 ∷ 14 ∷ []) $ back u32 bl ol ml (named 0) (named 0) κl ql γl yl el t tt νl δl (ls .1 .1 .1 .1 .1 .1 .1 .1 .0) rooml longl $
       move t (5 ∷ 20 ∷ 14 ∷ []) $ back u32 br or mr (named 0) (named 0) κr qr γr yr er t tt νr δr (ls .1 .1 .1 .1 .1 .1 .1 .1 .1 .0) roomr longr $
       move t (6 ∷ 20 ∷ 14 ∷ []) $ back u16 bc oc mc (named 0) (named 0) κc qc γc yc ec t tt νc δc (ls .1 .1 .1 .1 .1 .1 .1 .1 .1 .1 .0) roomc longc $
       move t (7 ∷ 20 ∷ 14 ∷ []) $ back u32 bo oo mo (named 0) (named 0) κo qo γo yo eo t tt νo δo (ls .1 .1 .1 .1 .1 .1 .1 .1 .1 .1 .1 .0) roomo longo $

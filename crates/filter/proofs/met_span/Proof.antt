@@ -20,7 +20,7 @@ use contract.Running.{givenOf, tables, tablesOf}
 use types.Kit.{Given, ‵, _⊛_, ⋆, _$_, _∵_, !, qed, by, move, keep, drop, split, join, fsplit, fjoin, suffices, frame, done}
 use types.Part.{whole, sub, look-in}
 use types.Run.{look, init, stop, fld, from, load, of-opd, assigns, and-then, no-more, land, returns, enter, alloc1, alloc0, params1, pass1, pass0, free0}
-use sound.WpLaws.{FmC, fmOf, WpFn-mono}
+use sound.WpLaws.{FmC, fmOf}
 use denote.RattleType.{owns}
 use denote.Laws.{Is}
 use denote.Ref.{ptr, now}
@@ -32,13 +32,13 @@ use denote.Triple.Entry.{Vals, onEntry}
 use denote.Triple.Spec.{Meets, tripleOf}
 use denote.Triple.Statement.{Triple}
 use denote.Triple.Table.{entered, cited}
-use denote.Triple.Walked.{says, Stays, stay-dropped, walkOf, goes-dropped, Walks, ends-at, walked, walk-meets, needs}
+use denote.Triple.Walked.{says, Stays, stay-dropped, walkOf, goes-dropped, ends-at, needs}
 use denote.Exit.{yes}
 use Rattle.meaning_rows.specs.declared.Row.{Row}
 use Rattle.meaning_rows.proofs.Row as T
 use Rattle.meaning_rows.proofs.Row.Laws as T′
 use Rattle.records.specs.Records.{zeroRow}
-use Rattle.records.proofs.Walk.{lose}
+use Rattle.records.proofs.Walk.{lose, walk-through}
 use Rattle.records.proofs.Rows.{Rs, Good, low, RowOr, calls-row-or}
 use Rattle.records.proofs.row_or.Symbol as row-or-def
 use Rattle.records.proofs.row_or.Symbol.{name as #records·row-or}
@@ -159,13 +159,10 @@ module _ {M : Type 1} (𝓤 : URA M) (H : Heap 𝓤) (A : Atoms 𝓤) (W : Given
         keep ! (0 ∷ []) $ by ! (exits gs))))))))))))))))))))))))
 
 module _ {M : Type 1} (𝓤 : URA M) (H : Heap 𝓤) (A : Atoms 𝓤) (W : Given 𝓤 H A) (mem : Memory → SProp 𝓤) (run : Routine → Fun 𝓤) (𝓣 : Tables 𝓤 H) (known-clamp : Triple 𝓤 (𝓣 .C #filter·clamp) (Clamp 𝓤 H A mem run)) (known-find : Triple 𝓤 (𝓣 .C #layout·find-row) (FindRow 𝓤 H A mem run)) (known-zero : Triple 𝓤 (𝓣 .C #filter·zero-row) (ZeroRow 𝓤 H A mem run)) (known-row : Triple 𝓤 (𝓣 .C #records·row-or) (RowOr 𝓤 H A mem run)) (known-before : Triple 𝓤 (𝓣 .C #filter·before) (Before 𝓤 H A mem run)) (known-span : Triple 𝓤 (𝓣 .C #filter·span-of) (SpanOf 𝓤 H A mem run)) where
-  walks : Walks 𝓤 H A f.ended stayed (WpFn 𝓤 H (𝓣 .C) (𝓣 .Λ) code.function) (f.clauses 𝓤 H A mem run)
-  walks = walked 𝓤 H A f.ended stayed (f.clauses 𝓤 H A mem run) (WpFn 𝓤 H (𝓣 .C) (𝓣 .Λ) code.function) (λ κs. (slice-vals, (LL.vals R.the-type R′.the-laws, tt))) (λ κs. (shr-slice-tells (named 0) (κs .0) T.the-row, (LL.tells R.the-type R′.the-laws, tt)))
-      (λ κs qs bounds a g are. needs 𝓤 _ _ (walk 𝓤 H A W mem run (κs .0) (qs .0) (a .0) (a .1 .0) 𝓣 (fmOf 𝓤 H (W .laws) 𝓣) known-clamp known-find known-zero known-row known-before known-span (are .0 .0 .1) (are .1 .0)))
-
   meets : Meets 𝓤 H A f.signature (WpFn 𝓤 H (𝓣 .C) (𝓣 .Λ) code.function) (f.spec 𝓤 H A mem run)
-  meets = walk-meets 𝓤 H A f.ended stayed W (goes-dropped 𝓤 H A W 1 (shrSlice 0 tt (λ _. T.the-row)) yes (λ κs x f. refl), (goes-dropped 𝓤 H A W 1 (plain (λ _. R.the-row)) yes (λ κs x f. refl), tt))
-      (f.clauses 𝓤 H A mem run) (WpFn 𝓤 H (𝓣 .C) (𝓣 .Λ) code.function) (WpFn-mono 𝓤 H (W .laws) 𝓣 code.function) walks
+  meets = walk-through 𝓤 H A f.ended stayed W (goes-dropped 𝓤 H A W 1 (shrSlice 0 tt (λ _. T.the-row)) yes (λ κs x f. refl), (goes-dropped 𝓤 H A W 1 (plain (λ _. R.the-row)) yes (λ κs x f. refl), tt)) (f.clauses 𝓤 H A mem run) 𝓣 code.function
+      (λ κs. (slice-vals, (LL.vals R.the-type R′.the-laws, tt))) (λ κs. (shr-slice-tells (named 0) (κs .0) T.the-row, (LL.tells R.the-type R′.the-laws, tt)))
+      (λ κs qs bounds a g are. needs 𝓤 _ _ (walk 𝓤 H A W mem run (κs .0) (qs .0) (a .0) (a .1 .0) 𝓣 (fmOf 𝓤 H (W .laws) 𝓣) known-clamp known-find known-zero known-row known-before known-span (are .0 .0 .1) (are .1 .0)))
 
 pub met-span-spec : {M : Type 1} → stated.statement M
 unfolding code.routine tablesOf

@@ -22,7 +22,7 @@ use types.Kit.{Given, ‵, _⊛_, ⋆, _$_, _∵_, !, qed, by, move, keep, drop,
 use types.Part.{whole, sub, look-in, agg}
 use types.Run.{look, init, stop, hop, fld, from, load, of-opd, addr, assigns, and-then, no-more, land, returns, enter, alloc1, alloc0, params1, pass1, pass0, free0}
 use types.Tokens.{lft-new, lft-end}
-use sound.WpLaws.{FmC, fmOf, WpFn-mono}
+use sound.WpLaws.{FmC, fmOf}
 use denote.RattleType.{owns}
 use denote.Laws.{Is}
 use denote.Array.{Array, array-vals, array-tells, array-lawful}
@@ -38,12 +38,12 @@ use denote.Triple.Entry.{Args, Vals, onEntry}
 use denote.Triple.Spec.{Meets, tripleOf}
 use denote.Triple.Statement.{Triple}
 use denote.Triple.Table.{entered, cited}
-use denote.Triple.Walked.{says, Stays, stay-slice, stay-dropped, walkOf, goes-slice, goes-dropped, Walks, ends-at, walked, walk-meets}
+use denote.Triple.Walked.{says, Stays, stay-slice, stay-dropped, walkOf, goes-slice, goes-dropped, ends-at}
 use denote.Exit.{yes}
 use Rattle.meaning_rows.specs.declared.Row.{Row}
 use Rattle.meaning_rows.proofs.Row as T
 use Rattle.meaning_rows.proofs.Row.Laws as T′
-use Rattle.records.proofs.Walk.{lose}
+use Rattle.records.proofs.Walk.{lose, walk-through}
 use Rattle.records.proofs.Lends.{Own as OwnMut}
 use Rattle.meaning_entries.specs.Build.{lentBuild}
 use Rattle.meaning_entries.specs.Demand2.{BuildKept}
@@ -169,16 +169,12 @@ module _ {M : Type 1} (𝓤 : URA M) (H : Heap 𝓤) (A : Atoms 𝓤) (W : Given
         by ! (exits zl longl zr longr u g-u (subst (λ (y : Table). BuildKept (lentBuild (xs .now) w wide g) (buffers table (xl .now) (xr .now)) (y .answer) (buffers (y .rows) zl zr)) (sym is-u) kept))))))))))))))))))))))))
 
 module _ {M : Type 1} (𝓤 : URA M) (H : Heap 𝓤) (A : Atoms 𝓤) (W : Given 𝓤 H A) (mem : Memory → SProp 𝓤) (run : Routine → Fun 𝓤) (𝓣 : Tables 𝓤 H) (known : Triple 𝓤 (𝓣 .C #build) (Build 𝓤 H A mem run)) (known-table : Triple 𝓤 (𝓣 .C #table-of) (Tabling 𝓤 H A mem run)) where
-  walks : Walks 𝓤 H A f.ended stayed (WpFn 𝓤 H (𝓣 .C) (𝓣 .Λ) code.function) (f.clauses 𝓤 H A mem run)
-  walks = walked 𝓤 H A f.ended stayed (f.clauses 𝓤 H A mem run) (WpFn 𝓤 H (𝓣 .C) (𝓣 .Λ) code.function) (λ κs. (slice-vals, (uint-vals w32, (uint-vals w32, (uint-vals w32, (array-vals row-vals, (slice-vals, (slice-vals, tt))))))))
+  meets : Meets 𝓤 H A f.signature (WpFn 𝓤 H (𝓣 .C) (𝓣 .Λ) code.function) (f.spec 𝓤 H A mem run)
+  meets = walk-through 𝓤 H A f.ended stayed W (goes-dropped 𝓤 H A W 3 (shrSlice 0 tt (λ _. i32)) yes (λ κs x f. refl), (goes-dropped 𝓤 H A W 3 (plain (λ _. u32)) yes (λ κs x f. refl), (goes-dropped 𝓤 H A W 3 (plain (λ _. u32)) yes (λ κs x f. refl), (goes-dropped 𝓤 H A W 3 (plain (λ _. u32)) yes (λ κs x f. refl), (goes-dropped 𝓤 H A W 3 (ArrayOf (plain (λ _. T.the-row)) (λ _. tt) 4096) yes (λ κs x f. refl), (goes-slice 𝓤 H A W 3 1 tt (plain (λ _. u32)), (goes-slice 𝓤 H A W 3 2 tt (plain (λ _. u32)), tt))))))) (f.clauses 𝓤 H A mem run) 𝓣 code.function
+      (λ κs. (slice-vals, (uint-vals w32, (uint-vals w32, (uint-vals w32, (array-vals row-vals, (slice-vals, (slice-vals, tt))))))))
       (λ κs. (shr-slice-tells (named 0) (κs .0) i32, (uint-tells w32, (uint-tells w32, (uint-tells w32, (array-tells T.the-row row-vals (LL.tells T.the-type T′.the-laws) 4096, (mut-slice-tells (named 1) (κs .1 .0) u32, (mut-slice-tells (named 2) (κs .1 .1 .0) u32, tt))))))))
       (λ κs qs bounds a g are. via 𝓤 _ (fst∗ 𝓤 _ (emp 𝓤)) (walk 𝓤 H A W mem run (κs .0) (κs .1 .0) (κs .1 .1 .0) (qs .0) (qs .1 .0) (qs .1 .1 .0) (a .0) (a .1 .0) (a .1 .1 .0) (a .1 .1 .1 .0) (a .1 .1 .1 .1 .0) (a .1 .1 .1 .1 .1 .0) (a .1 .1 .1 .1 .1 .1 .0) (𝓣 .C) (𝓣 .Λ) (fmOf 𝓤 H (W .laws) 𝓣) known known-table
       (are .0 .0 .1) (are .1 .0 .1) (are .1 .1 .0 .1) (are .1 .1 .1 .0 .1) (are .1 .1 .1 .1 .0) (are .1 .1 .1 .1 .0 .1 .0 .1) (are .1 .1 .1 .1 .1 .0 .0 .1) (are .1 .1 .1 .1 .1 .1 .0 .0 .1)))
-
-  meets : Meets 𝓤 H A f.signature (WpFn 𝓤 H (𝓣 .C) (𝓣 .Λ) code.function) (f.spec 𝓤 H A mem run)
-  meets =
-      walk-meets 𝓤 H A f.ended stayed W (goes-dropped 𝓤 H A W 3 (shrSlice 0 tt (λ _. i32)) yes (λ κs x f. refl), (goes-dropped 𝓤 H A W 3 (plain (λ _. u32)) yes (λ κs x f. refl), (goes-dropped 𝓤 H A W 3 (plain (λ _. u32)) yes (λ κs x f. refl), (goes-dropped 𝓤 H A W 3 (plain (λ _. u32)) yes (λ κs x f. refl), (goes-dropped 𝓤 H A W 3 (ArrayOf (plain (λ _. T.the-row)) (λ _. tt) 4096) yes (λ κs x f. refl), (goes-slice 𝓤 H A W 3 1 tt (plain (λ _. u32)), (goes-slice 𝓤 H A W 3 2 tt (plain (λ _. u32)), tt)))))))
-      (f.clauses 𝓤 H A mem run) (WpFn 𝓤 H (𝓣 .C) (𝓣 .Λ) code.function) (WpFn-mono 𝓤 H (W .laws) 𝓣 code.function) walks
 
 pub build-table-spec : {M : Type 1} → stated.statement M
 unfolding code.routine tablesOf

@@ -23,7 +23,7 @@ use types.Kit.{Given, ‵, rewrite, _⊛_, ⋆, _$_, _∵_, !, qed, by, move, ke
 use types.Part.{whole, sub, look-in, agg}
 use types.Run.{look, init, stop, hop, fld, from, load, of-opd, addr, assigns, and-then, no-more, land, returns, enter, alloc1, alloc0, params1, pass1, pass0, free0}
 use types.Tokens.{lft-new, lft-end}
-use sound.WpLaws.{FmC, fmOf, WpFn-mono}
+use sound.WpLaws.{FmC, fmOf}
 use denote.RattleType.{owns}
 use denote.Laws.{Is}
 use denote.Memory.{pointee}
@@ -40,12 +40,12 @@ use denote.Triple.Entry.{Args, Vals, onEntry}
 use denote.Triple.Spec.{Meets, tripleOf}
 use denote.Triple.Statement.{Triple}
 use denote.Triple.Table.{entered, cited}
-use denote.Triple.Walked.{says, needs, Stays, stay-slice, stay-dropped, walkOf, goes-slice, goes-dropped, Walks, ends-at, walked, walk-meets}
+use denote.Triple.Walked.{says, needs, Stays, stay-slice, stay-dropped, walkOf, goes-slice, goes-dropped, ends-at}
 use denote.Exit.{yes}
 use Rattle.meaning_rows.specs.declared.Row.{Row}
 use Rattle.meaning_rows.proofs.Row as T
 use Rattle.meaning_rows.proofs.Row.Laws as T′
-use Rattle.records.proofs.Walk.{lose}
+use Rattle.records.proofs.Walk.{lose, walk-through}
 use Rattle.records.proofs.Lends.{Own as OwnMut}
 use borrow.Table.Copies.{halved, cStruct}
 use Rattle.meaning_rows.specs.declared.Head.{Head}
@@ -232,16 +232,12 @@ module _ {M : Type 1} (𝓤 : URA M) (H : Heap 𝓤) (A : Atoms 𝓤) (W : Given
         by ! (exits zl longl zr longr zc longc zo longo zd longd t g-t kept)))))))))))))))))))))))))))))))))
 
 module _ {M : Type 1} (𝓤 : URA M) (H : Heap 𝓤) (A : Atoms 𝓤) (W : Given 𝓤 H A) (mem : Memory → SProp 𝓤) (run : Routine → Fun 𝓤) (𝓣 : Tables 𝓤 H) (known : Triple 𝓤 (𝓣 .C #search) (Searches 𝓤 H A mem run)) where
-  walks : Walks 𝓤 H A f.ended stayed (WpFn 𝓤 H (𝓣 .C) (𝓣 .Λ) code.function) (f.clauses 𝓤 H A mem run)
-  walks = walked 𝓤 H A f.ended stayed (f.clauses 𝓤 H A mem run) (WpFn 𝓤 H (𝓣 .C) (𝓣 .Λ) code.function) (λ κs. (slice-vals, (LL.vals Hd.the-type Hd′.the-laws, (array-vals row-vals, (uint-vals w64, (slice-vals, (slice-vals, (EL.vals Kd.the-type Kd′.the-laws, (slice-vals, (LL.vals Lm.the-type Lm′.the-laws, (slice-vals, (slice-vals, (slice-vals, (slice-vals, (slice-vals, tt)))))))))))))))
+  meets : Meets 𝓤 H A f.signature (WpFn 𝓤 H (𝓣 .C) (𝓣 .Λ) code.function) (f.spec 𝓤 H A mem run)
+  meets = walk-through 𝓤 H A f.ended stayed W (goes-dropped 𝓤 H A W 9 (shrSlice 0 tt (λ _. i32)) yes (λ κs x f. refl), (goes-dropped 𝓤 H A W 9 (plain (λ _. Hd.the-row)) yes (λ κs x f. refl), (goes-dropped 𝓤 H A W 9 (ArrayOf (plain (λ _. T.the-row)) (λ _. tt) 4096) yes (λ κs x f. refl), (goes-dropped 𝓤 H A W 9 (plain (λ _. usize)) yes (λ κs x f. refl), (goes-dropped 𝓤 H A W 9 (shrSlice 1 tt (λ _. u32)) yes (λ κs x f. refl), (goes-dropped 𝓤 H A W 9 (shrSlice 2 tt (λ _. u32)) yes (λ κs x f. refl), (goes-dropped 𝓤 H A W 9 (plain (λ _. Kd.the-row)) yes (λ κs x f. refl), (goes-dropped 𝓤 H A W 9 (shrSlice 3 tt (λ _. i32)) yes (λ κs x f. refl), (goes-dropped 𝓤 H A W 9 (plain (λ _. Lm.the-row)) yes (λ κs x f. refl), (goes-slice 𝓤 H A W 9 4 tt (plain (λ _. u32)), (goes-slice 𝓤 H A W 9 5 tt (plain (λ _. u32)), (goes-slice 𝓤 H A W 9 6 tt (plain (λ _. u16)), (goes-slice 𝓤 H A W 9 7 tt (plain (λ _. u32)), (goes-slice 𝓤 H A W 9 8 tt (plain (λ _. u64)), tt)))))))))))))) (f.clauses 𝓤 H A mem run) 𝓣 code.function
+      (λ κs. (slice-vals, (LL.vals Hd.the-type Hd′.the-laws, (array-vals row-vals, (uint-vals w64, (slice-vals, (slice-vals, (EL.vals Kd.the-type Kd′.the-laws, (slice-vals, (LL.vals Lm.the-type Lm′.the-laws, (slice-vals, (slice-vals, (slice-vals, (slice-vals, (slice-vals, tt)))))))))))))))
       (λ κs. (shr-slice-tells (named 0) (κs .0) i32, (LL.tells Hd.the-type Hd′.the-laws, (array-tells T.the-row row-vals (LL.tells T.the-type T′.the-laws) 4096, (uint-tells w64, (shr-slice-tells (named 1) (κs .1 .0) u32, (shr-slice-tells (named 2) (κs .1 .1 .0) u32, (EL.tells Kd.the-type Kd′.the-laws, (shr-slice-tells (named 3) (κs .1 .1 .1 .0) i32, (LL.tells Lm.the-type Lm′.the-laws, (mut-slice-tells (named 4) (κs .1 .1 .1 .1 .0) u32, (mut-slice-tells (named 5) (κs .1 .1 .1 .1 .1 .0) u32, (mut-slice-tells (named 6) (κs .1 .1 .1 .1 .1 .1 .0) u16, (mut-slice-tells (named 7) (κs .1 .1 .1 .1 .1 .1 .1 .0) u32, (mut-slice-tells (named 8) (κs .1 .1 .1 .1 .1 .1 .1 .1 .0) u64, tt)))))))))))))))
       (λ κs qs bounds a g are. needs 𝓤 (a .1 .1 .1 .0 ≤ 4096) _ (walk 𝓤 H A W mem run (κs .0) (κs .1 .0) (κs .1 .1 .0) (κs .1 .1 .1 .0) (κs .1 .1 .1 .1 .0) (κs .1 .1 .1 .1 .1 .0) (κs .1 .1 .1 .1 .1 .1 .0) (κs .1 .1 .1 .1 .1 .1 .1 .0) (κs .1 .1 .1 .1 .1 .1 .1 .1 .0) (qs .0) (qs .1 .0) (qs .1 .1 .0) (qs .1 .1 .1 .0) (qs .1 .1 .1 .1 .0) (qs .1 .1 .1 .1 .1 .0) (qs .1 .1 .1 .1 .1 .1 .0) (qs .1 .1 .1 .1 .1 .1 .1 .0) (qs .1 .1 .1 .1 .1 .1 .1 .1 .0) (a .0) (a .1 .0) (a .1 .1 .0) (a .1 .1 .1 .0) (a .1 .1 .1 .1 .0) (a .1 .1 .1 .1 .1 .0) (a .1 .1 .1 .1 .1 .1 .0) (a .1 .1 .1 .1 .1 .1 .1 .0) (a .1 .1 .1 .1 .1 .1 .1 .1 .0) (a .1 .1 .1 .1 .1 .1 .1 .1 .1 .0) (a .1 .1 .1 .1 .1 .1 .1 .1 .1 .1 .0) (a .1 .1 .1 .1 .1 .1 .1 .1 .1 .1 .1 .0) (a .1 .1 .1 .1 .1 .1 .1 .1 .1 .1 .1 .1 .0) (a .1 .1 .1 .1 .1 .1 .1 .1 .1 .1 .1 .1 .1 .0) (𝓣 .C) (𝓣 .Λ) (fmOf 𝓤 H (W .laws) 𝓣) known
       (are .0 .0 .1) (are .1 .0) (are .1 .1 .0) (are .1 .1 .0 .1 .0 .1) (are .1 .1 .1 .0 .1) (are .1 .1 .1 .1 .0 .0 .1) (are .1 .1 .1 .1 .1 .0 .0 .1) (are .1 .1 .1 .1 .1 .1 .0) (are .1 .1 .1 .1 .1 .1 .1 .0 .0 .1) (are .1 .1 .1 .1 .1 .1 .1 .1 .0) (are .1 .1 .1 .1 .1 .1 .1 .1 .1 .0 .0 .1) (are .1 .1 .1 .1 .1 .1 .1 .1 .1 .1 .0 .0 .1) (are .1 .1 .1 .1 .1 .1 .1 .1 .1 .1 .1 .0 .0 .1) (are .1 .1 .1 .1 .1 .1 .1 .1 .1 .1 .1 .1 .0 .0 .1) (are .1 .1 .1 .1 .1 .1 .1 .1 .1 .1 .1 .1 .1 .0 .0 .1)))
-
-  meets : Meets 𝓤 H A f.signature (WpFn 𝓤 H (𝓣 .C) (𝓣 .Λ) code.function) (f.spec 𝓤 H A mem run)
-  meets =
-      walk-meets 𝓤 H A f.ended stayed W (goes-dropped 𝓤 H A W 9 (shrSlice 0 tt (λ _. i32)) yes (λ κs x f. refl), (goes-dropped 𝓤 H A W 9 (plain (λ _. Hd.the-row)) yes (λ κs x f. refl), (goes-dropped 𝓤 H A W 9 (ArrayOf (plain (λ _. T.the-row)) (λ _. tt) 4096) yes (λ κs x f. refl), (goes-dropped 𝓤 H A W 9 (plain (λ _. usize)) yes (λ κs x f. refl), (goes-dropped 𝓤 H A W 9 (shrSlice 1 tt (λ _. u32)) yes (λ κs x f. refl), (goes-dropped 𝓤 H A W 9 (shrSlice 2 tt (λ _. u32)) yes (λ κs x f. refl), (goes-dropped 𝓤 H A W 9 (plain (λ _. Kd.the-row)) yes (λ κs x f. refl), (goes-dropped 𝓤 H A W 9 (shrSlice 3 tt (λ _. i32)) yes (λ κs x f. refl), (goes-dropped 𝓤 H A W 9 (plain (λ _. Lm.the-row)) yes (λ κs x f. refl), (goes-slice 𝓤 H A W 9 4 tt (plain (λ _. u32)), (goes-slice 𝓤 H A W 9 5 tt (plain (λ _. u32)), (goes-slice 𝓤 H A W 9 6 tt (plain (λ _. u16)), (goes-slice 𝓤 H A W 9 7 tt (plain (λ _. u32)), (goes-slice 𝓤 H A W 9 8 tt (plain (λ _. u64)), tt))))))))))))))
-      (f.clauses 𝓤 H A mem run) (WpFn 𝓤 H (𝓣 .C) (𝓣 .Λ) code.function) (WpFn-mono 𝓤 H (W .laws) 𝓣 code.function) walks
 
 pub search-table-spec : {M : Type 1} → stated.statement M
 unfolding code.routine tablesOf

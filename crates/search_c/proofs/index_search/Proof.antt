@@ -1,7 +1,7 @@
 -- `search_c::index_search` meets its contract: a walk of its MIR, by hand. Kind and limits are made of the struct of numbers; all that the other parameters own is passed on to `search`, and its answer to `tell_found`. All that the proof knows of the four is that they meet their contracts.
 -- Assumes nothing.
 use mathlib.Core.Path.{_≡_, refl, ap}
-use Prim.Native.Nat.{ℕ, _<_, _^_}
+use Prim.Native.Nat.{ℕ}
 use mathlib.Core.List.{List, [], _∷_}
 use lib.IntN.{ℤ}
 use lib.ListN.{length}
