@@ -5,23 +5,23 @@
 #include <time.h>
 typedef int32_t i32;
 typedef uint32_t u32;
-typedef uint64_t u64;
 typedef uint8_t u8;
 
-#define DECLARE(P) u64 P##_index(u32, u32, u32, const i32 *, size_t, const i32 *, size_t, const u32 *, size_t, const u32 *, size_t, const u32 *, size_t, const u32 *, size_t, u8 *, size_t);
+typedef struct { i32 low, up; u32 first, runs; } Row;
+typedef struct { u32 window, width, windows; } Head;
+typedef struct { u32 kind; Head head; size_t first, second; } Answer;
+
+#define DECLARE(P) \
+    Answer P##_write(Head, const Row *, size_t, const u32 *, size_t, const u32 *, size_t, u8 *, size_t); \
+    Answer P##_read(const u8 *, size_t, Row *, size_t, u32 *, size_t, u32 *, size_t);
 DECLARE(text)
 DECLARE(plain)
-
-typedef struct { i32 low, up; u32 first, runs; } Row;
-typedef struct { u32 kind, window, width, windows; size_t first, second; } Answer;
-Answer text_read(const u8 *, size_t, Row *, size_t, u32 *, size_t, u32 *, size_t);
-Answer plain_read(const u8 *, size_t, Row *, size_t, u32 *, size_t, u32 *, size_t);
 
 #define ROWS 64
 #define RUNS (1 << 20)
 #define SIZE (24 << 20)
-static i32 low[ROWS], up[ROWS];
-static u32 first[ROWS], runs[ROWS], left[RUNS], right[RUNS];
+static Row rows[ROWS];
+static u32 left[RUNS], right[RUNS];
 static u8 a[SIZE], b[SIZE];
 static u8 text[2 * SIZE];
 static struct { Row rows[RUNS]; u32 left[RUNS], right[RUNS]; } c, d;
@@ -59,7 +59,7 @@ static int read_race(u32 rows) {
         if (t1 - t0 < ra) ra = t1 - t0;
         if (t2 - t1 < ca) ca = t2 - t1;
     }
-    int same = !x.kind && !y.kind && x.windows == y.windows && x.first == rows && y.first == rows && x.second == RUNS && y.second == RUNS && !memcmp(&c, &d, sizeof c);
+    int same = !x.kind && !y.kind && x.head.windows == y.head.windows && x.first == rows && y.first == rows && x.second == RUNS && y.second == RUNS && !memcmp(&c, &d, sizeof c);
     printf("read, %d runs in %u rows, %.1f MB: proved %.0f MB/s (goal 200), plain C %.0f MB/s, ratio %.2f, %.1f / %.1f ns a run%s\n", RUNS, rows, n / 1e6, n / ra / 1e6, n / ca / 1e6, ra / ca, ra / RUNS * 1e9, ca / RUNS * 1e9, same ? "" : "  DIFFERENT");
     return same;
 }
@@ -67,23 +67,25 @@ static int read_race(u32 rows) {
 int main(void) {
     // window j stands in row j mod 64, as a run of its own
     for (u32 k = 0; k < ROWS; k++) {
-        low[k] = (i32)k - 32, up[k] = (i32)k - 31, first[k] = k * (RUNS / ROWS), runs[k] = RUNS / ROWS;
-        for (u32 i = 0; i < RUNS / ROWS; i++) left[first[k] + i] = right[first[k] + i] = k + ROWS * i;
+        rows[k] = (Row){(i32)k - 32, (i32)k - 31, k * (RUNS / ROWS), RUNS / ROWS};
+        for (u32 i = 0; i < RUNS / ROWS; i++) left[rows[k].first + i] = right[rows[k].first + i] = k + ROWS * i;
     }
     memset(a, 1, SIZE), memset(b, 2, SIZE);
     double ra = 1e9, ca = 1e9;
-    u64 x = 0, y = 0;
+    Head h = {1, 1, RUNS};
+    Answer x, y;
+    memset(&x, 0, sizeof x), memset(&y, 0, sizeof y);
     for (int k = 0; k < 15; k++) {
         double t0 = now();
-        x = text_index(1, 1, RUNS, low, ROWS, up, ROWS, first, ROWS, runs, ROWS, left, RUNS, right, RUNS, a, SIZE);
+        x = text_write(h, rows, ROWS, left, RUNS, right, RUNS, a, SIZE);
         double t1 = now();
-        y = plain_index(1, 1, RUNS, low, ROWS, up, ROWS, first, ROWS, runs, ROWS, left, RUNS, right, RUNS, b, SIZE);
+        y = plain_write(h, rows, ROWS, left, RUNS, right, RUNS, b, SIZE);
         double t2 = now();
         if (t1 - t0 < ra) ra = t1 - t0;
         if (t2 - t1 < ca) ca = t2 - t1;
     }
-    double bytes = (double)(x / 2);
-    int same = x == y && (x & 1) && !memcmp(a, b, SIZE);
+    double bytes = (double)x.first;
+    int same = !x.kind && !y.kind && x.first == y.first && !memcmp(a, b, SIZE);
     printf("write, %d runs, %.1f MB: proved %.0f MB/s (goal 200), plain C %.0f MB/s, ratio %.2f, %.1f / %.1f ns a run%s\n", RUNS, bytes / 1e6, bytes / ra / 1e6, bytes / ca / 1e6, ra / ca, ra / RUNS * 1e9, ca / RUNS * 1e9, same ? "" : "  DIFFERENT");
     same &= read_race(64);
     same &= read_race(1 << 18);

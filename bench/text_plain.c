@@ -31,47 +31,51 @@ static size_t digits(u32 x) {
 }
 static size_t size_of(i32 x) { return x < 0 ? 1 + digits(0u - (u32)x) : digits((u32)x); }
 
-static int good(u32 window, u32 width, u32 windows, const i32 *low, const i32 *up, const u32 *first, const u32 *runs, size_t rows, const u32 *left, const u32 *right, size_t room, u64 *bad) {
+typedef struct { i32 low, up; u32 first, runs; } Row;
+typedef struct { u32 window, width, windows; } Head;
+typedef struct { u32 kind; Head head; size_t first, second; } Answer;
+
+static int good(Head h, const Row *row, size_t rows, const u32 *left, const u32 *right, size_t room, size_t *bad) {
     *bad = 0;
-    if (window < 1 || window > 256 || width < 1 || width > 1000000 || windows < 1 || windows > 1048576) return 0;
+    if (h.window < 1 || h.window > 256 || h.width < 1 || h.width > 1000000 || h.windows < 1 || h.windows > 1048576) return 0;
     i32 least = -4000000;
     u64 at = 0, total = 0;
     for (size_t k = 0; k < rows; k++) {
         *bad = k;
-        if (low[k] >= up[k] || low[k] % (i32)width || up[k] % (i32)width || up[k] > 4000000 || low[k] < least) return 0;
-        if (!runs[k] || first[k] != at || at + runs[k] > room) return 0;
+        Row r = row[k];
+        if (r.low >= r.up || r.low % (i32)h.width || r.up % (i32)h.width || r.up > 4000000 || r.low < least) return 0;
+        if (!r.runs || r.first != at || at + r.runs > room) return 0;
         u64 free = 0;
-        for (u64 i = at; i < at + runs[k]; i++) {
-            if (left[i] < free || right[i] < left[i] || right[i] >= windows) return 0;
+        for (u64 i = at; i < at + r.runs; i++) {
+            if (left[i] < free || right[i] < left[i] || right[i] >= h.windows) return 0;
             free = (u64)right[i] + 2;
             total += right[i] - left[i] + 1;
         }
-        if (total > windows) return 0;
-        least = up[k];
-        at += runs[k];
+        if (total > h.windows) return 0;
+        least = r.up;
+        at += r.runs;
     }
     return 1;
 }
 
-u64 plain_index(u32 window, u32 width, u32 windows, const i32 *low, size_t rows, const i32 *up, size_t rows2, const u32 *first, size_t rows3, const u32 *runs, size_t rows4, const u32 *left, size_t lefts, const u32 *right, size_t rights, u8 *text, size_t size) {
-    u64 bad;
-    (void)rows2, (void)rows3, (void)rows4;
-    if (!good(window, width, windows, low, up, first, runs, rows, left, right, lefts < rights ? lefts : rights, &bad)) return bad << 16 | 40;
-    size_t n = 39 + digits(window) + digits(width) + digits(windows);
+Answer plain_write(Head h, const Row *row, size_t rows, const u32 *left, size_t lefts, const u32 *right, size_t rights, u8 *text, size_t size) {
+    size_t bad;
+    if (!good(h, row, rows, left, right, lefts < rights ? lefts : rights, &bad)) return (Answer){3, {0, 0, 0}, 20, bad};
+    size_t n = 39 + digits(h.window) + digits(h.width) + digits(h.windows);
     for (size_t k = 0; k < rows; k++) {
-        n += 8 + size_of(low[k]) + size_of(up[k]);
-        for (u32 i = first[k]; i < first[k] + runs[k]; i++) n += 4 + digits(left[i]) + digits(right[i]);
+        n += 8 + size_of(row[k].low) + size_of(row[k].up);
+        for (u32 i = row[k].first; i < row[k].first + row[k].runs; i++) n += 4 + digits(left[i]) + digits(right[i]);
     }
-    if (n > size) return 46;
+    if (n > size) return (Answer){3, {0, 0, 0}, 23, 0};
     u8 *p = word(text, "(index (window ");
-    p = word(number(p, window), ") (width ");
-    p = word(number(p, width), ") (windows ");
-    p = word(number(p, windows), ")\n");
+    p = word(number(p, h.window), ") (width ");
+    p = word(number(p, h.width), ") (windows ");
+    p = word(number(p, h.windows), ")\n");
     for (size_t k = 0; k < rows; k++) {
         p = word(p, "(row ");
-        p = word(value(p, low[k]), " ");
-        p = value(p, up[k]);
-        for (u32 i = first[k]; i < first[k] + runs[k]; i++) {
+        p = word(value(p, row[k].low), " ");
+        p = value(p, row[k].up);
+        for (u32 i = row[k].first; i < row[k].first + row[k].runs; i++) {
             p = word(p, " (");
             p = word(number(p, left[i]), " ");
             p = word(number(p, right[i]), ")");
@@ -80,13 +84,10 @@ u64 plain_index(u32 window, u32 width, u32 windows, const i32 *low, size_t rows,
     }
     p = word(p, ")\n");
     memset(p, 0, size - n);
-    return n * 2 + 1;
+    return (Answer){0, {0, 0, 0}, n, 0};
 }
 
 // ---- reading
-
-typedef struct { i32 low, up; u32 first, runs; } Row;
-typedef struct { u32 kind, window, width, windows; size_t first, second; } Answer;
 
 // The text and the position in it; a step that fails stays at the first byte that no text could have there.
 typedef struct { const u8 *at, *end; } Reader;
@@ -151,12 +152,12 @@ Answer plain_read(const u8 *text, size_t size, Row *row, size_t rows, u32 *left,
     if (!how) {
         size_t line = 1;
         for (const u8 *p = text; p < r.at; p++) line += *p == '\n';
-        return (Answer){3, 0, 0, 0, 12, line};
+        return (Answer){3, {0, 0, 0}, 12, line};
     }
-    if (how == 2) return (Answer){3, 0, 0, 0, 20, bad};
-    if (rows < n || lefts < m || rights < m) return (Answer){3, 0, 0, 0, 23, 0};
+    if (how == 2) return (Answer){3, {0, 0, 0}, 20, bad};
+    if (rows < n || lefts < m || rights < m) return (Answer){3, {0, 0, 0}, 23, 0};
     r = (Reader){text, text + size};
     pass(&r, head, &n, &m, &bad, row, left, right);
     memset(row + n, 0, (rows - n) * sizeof *row), memset(left + m, 0, (lefts - m) * 4), memset(right + m, 0, (rights - m) * 4);
-    return (Answer){0, (u32)head[0], (u32)head[1], (u32)head[2], n, m};
+    return (Answer){0, {(u32)head[0], (u32)head[1], (u32)head[2]}, n, m};
 }

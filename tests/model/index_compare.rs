@@ -26,14 +26,6 @@ unsafe extern "C" {
     fn plain_audit(s: *const i32, n: usize, w: usize, d: u32, windows: u32, rows: *const Row, count: usize, left: *const u32, right: *const u32, room: usize) -> i32;
 }
 
-/// An answer as it is told to C.
-#[repr(C)]
-#[derive(Clone, Copy, PartialEq, Eq, Debug)]
-struct Answer { kind: u32, head: Head, first: usize, second: usize }
-
-/// An answer without a head.
-fn numbers(kind: u32, first: usize, second: usize) -> Answer { Answer { kind, head: Head::default(), first, second } }
-
 /// What the model leaves of a build or an extension in buffers of these lengths: refused, they stay; else they hold the index and zeros.
 fn left_in(b: &Buffers, made: Result<Index, Refusal>) -> (Answer, Buffers) {
     match made {

@@ -7,6 +7,14 @@ use crate::model::{values, Numbers};
 #[derive(Clone, Copy, PartialEq, Eq, Debug, Default)]
 pub struct Head { pub window: u32, pub width: u32, pub windows: u32 }
 
+/// An answer as it is told to C.
+#[repr(C)]
+#[derive(Clone, Copy, PartialEq, Eq, Debug)]
+pub struct Answer { pub kind: u32, pub head: Head, pub first: usize, pub second: usize }
+
+/// An answer without a head; its kind is 3 where the call is refused.
+pub fn numbers(kind: u32, first: usize, second: usize) -> Answer { Answer { kind, head: Head::default(), first, second } }
+
 #[derive(Clone, PartialEq, Eq, Debug)]
 pub struct Lent { pub head: Head, pub rows: Vec<Row>, pub left: Vec<u32>, pub right: Vec<u32> }
 

@@ -6,7 +6,7 @@ mod model;
 mod spoil;
 mod texts;
 use index::{Row, bad_row, build};
-use lent::{Buffers, Head, Lent, any_numbers, any_series};
+use lent::{Answer, Buffers, Lent, any_numbers, any_series, numbers};
 use model::Numbers;
 use spoil::spoiled;
 use std::time::Instant;
@@ -16,12 +16,8 @@ unsafe extern "C" {
     fn text_read(text: *const u8, size: usize, rows: *mut Row, count: usize, left: *mut u32, lefts: usize, right: *mut u32, rights: usize) -> Answer;
 }
 
-/// An answer as it is told to C: 0 and the index's head, rows and runs; 3 and the refusal's number and place.
-#[repr(C)]
-#[derive(Clone, Copy, PartialEq, Eq, Debug)]
-struct Answer { kind: u32, head: Head, first: usize, second: usize }
-
-fn refused(number: usize, place: usize) -> Answer { Answer { kind: 3, head: Head::default(), first: number, second: place } }
+/// The refusal's number and place.
+fn refused(number: usize, place: usize) -> Answer { numbers(3, number, place) }
 
 const WORKED: [&str; 4] = [
     "(index (window 2) (width 2) (windows 4)\n(row 2 4 (0 0))\n(row 4 8 (1 3))\n)\n",

@@ -1,60 +1,25 @@
-// Compares the entry write, through the static library of `text_c`, with a model written from the words of document 01 and from nothing else: random indexes, a third of them ill formed, buffers short and long and full of rubbish.
-#[path = "model.rs"]
+// Compares the entry write, through the static library of `text_c`, with the model: random indexes, a third of them ill formed, buffers short and long and full of rubbish.
+#![allow(dead_code)]
+mod index;
+mod lent;
 mod model;
+mod texts;
+use index::{Row, bad_row};
+use lent::{Answer, Head, Lent, numbers};
 use model::Numbers;
 use std::time::Instant;
+use texts::write_index;
 
 unsafe extern "C" {
-    fn text_index(
-        window: u32, width: u32, windows: u32, lows: *const i32, rows: usize, ups: *const i32, rows2: usize, firsts: *const u32, rows3: usize, counts: *const u32, rows4: usize,
-        left: *const u32, lefts: usize, right: *const u32, rights: usize, text: *mut u8, size: usize,
-    ) -> u64;
-}
-
-#[derive(Clone, Debug)]
-struct Row { low: i32, up: i32, first: u32, runs: u32 }
-
-#[derive(Clone, Debug)]
-struct Index { window: u32, width: u32, windows: u32, rows: Vec<Row>, left: Vec<u32>, right: Vec<u32> }
-
-/// "First bad row; 0 for the head"; none where the index is well formed.
-fn first_bad(x: &Index) -> Option<usize> {
-    if !(1..=256).contains(&x.window) || !(1..=1_000_000).contains(&x.width) || !(1..=1_048_576).contains(&x.windows) { return Some(0) }
-    let (mut ends, mut next, mut total) = (-4_000_000i64, 0u64, 0u64);
-    let room = x.left.len().min(x.right.len()) as u64;
-    for (k, r) in x.rows.iter().enumerate() {
-        let (low, up, d) = (r.low as i64, r.up as i64, x.width as i64);
-        if low >= up || low % d != 0 || up % d != 0 || low < -4_000_000 || up > 4_000_000 || low < ends { return Some(k) }
-        if r.runs == 0 || r.first as u64 != next || r.first as u64 + r.runs as u64 > room { return Some(k) }
-        let mut free = 0u64;
-        for i in next..next + r.runs as u64 {
-            let (l, e) = (x.left[i as usize] as u64, x.right[i as usize] as u64);
-            if l < free || e < l || e >= x.windows as u64 { return Some(k) }
-            free = e + 2;
-            total += e - l + 1;
-        }
-        if total > x.windows as u64 { return Some(k) }
-        ends = up;
-        next += r.runs as u64;
-    }
-    None
-}
-
-fn spelled(x: &Index) -> String {
-    let mut t = format!("(index (window {}) (width {}) (windows {})\n", x.window, x.width, x.windows);
-    for r in &x.rows {
-        t += &format!("(row {} {}", r.low, r.up);
-        for i in r.first..r.first + r.runs { t += &format!(" ({} {})", x.left[i as usize], x.right[i as usize]) }
-        t += ")\n";
-    }
-    t + ")\n"
+    fn text_write(head: Head, rows: *const Row, count: usize, left: *const u32, lefts: usize, right: *const u32, rights: usize, text: *mut u8, size: usize) -> Answer;
 }
 
 /// A well-formed index.
-fn good(r: &mut Numbers) -> Index {
+fn good(r: &mut Numbers) -> Lent {
     let width = [1, 2, 7, 1000, 1_000_000, r.from_to(1, 1_000_000)][r.below(6) as usize] as u32;
     let windows = [1, 9, 100, 1_048_576, r.from_to(1, 1_048_576)][r.below(5) as usize] as u32;
-    let mut x = Index { window: [1, 256, r.from_to(1, 256)][r.below(3) as usize] as u32, width, windows, rows: vec![], left: vec![], right: vec![] };
+    let head = Head { window: [1, 256, r.from_to(1, 256)][r.below(3) as usize] as u32, width, windows };
+    let mut x = Lent { head, rows: vec![], left: vec![], right: vec![] };
     let (d, most) = (width as i64, 4_000_000 / width as i64);
     let mut at = match r.below(3) { 0 => -most, 1 => r.from_to(-most, most), _ => -(most.min(3)) };
     let mut total = 0u64;
@@ -88,14 +53,14 @@ fn any(r: &mut Numbers) -> u32 {
 }
 
 /// One or two things changed.
-fn spoiled(r: &mut Numbers, mut x: Index) -> Index {
+fn spoiled(r: &mut Numbers, mut x: Lent) -> Lent {
     for _ in 0..1 + r.below(2) {
         let k = r.below(x.rows.len().max(1) as u64) as usize;
         let i = r.below(x.left.len().max(1) as u64) as usize;
         match r.below(9) {
-            0 => x.window = any(r),
-            1 => x.width = any(r),
-            2 => x.windows = any(r),
+            0 => x.head.window = any(r),
+            1 => x.head.width = any(r),
+            2 => x.head.windows = any(r),
             3 => if let Some(y) = x.rows.get_mut(k) { y.low = y.low.wrapping_add(any(r) as i32) },
             4 => if let Some(y) = x.rows.get_mut(k) { y.up = if r.below(2) == 0 { y.low } else { any(r) as i32 } },
             5 => if let Some(y) = x.rows.get_mut(k) { y.first = if r.below(2) == 0 { y.first.wrapping_add(1) } else { any(r) } },
@@ -113,32 +78,22 @@ fn main() {
     let (mut wrong, mut written, mut bad, mut short) = (0u64, 0u64, 0u64, 0u64);
     for k in 0..turns {
         let mut x = good(&mut r);
-        while k % 3 == 0 && first_bad(&x).is_none() { x = spoiled(&mut r, x) }
-        let judged = first_bad(&x);
-        let full = if judged.is_none() { spelled(&x) } else { String::new() };
+        while k % 3 == 0 && bad_row(&x.index()).is_none() { x = spoiled(&mut r, x) }
+        let judged = bad_row(&x.index());
+        let full = if judged.is_none() { write_index(&x.index()) } else { String::new() };
         let long = if judged.is_none() { full.len() } else { 200 };
         let size = match r.below(6) { 0 => long, 1 => long.saturating_sub(1), 2 => long + 1, 3 => r.below(long as u64 + 1) as usize, 4 => 0, _ => long + r.below(300) as usize };
         let before: Vec<u8> = (0..size).map(|_| r.next() as u8).collect();
         let (expected, after) = match judged {
-            Some(row) => { bad += 1; ((row as u64) << 16 | 40, before.clone()) }
-            None if full.len() > size => { short += 1; (46, before.clone()) }
-            None => { written += 1; let mut a = full.clone().into_bytes(); a.resize(size, 0); (full.len() as u64 * 2 + 1, a) }
+            Some(row) => { bad += 1; (numbers(3, 20, row), before.clone()) }
+            None if full.len() > size => { short += 1; (numbers(3, 23, 0), before.clone()) }
+            None => { written += 1; let mut a = full.into_bytes(); a.resize(size, 0); (numbers(0, long, 0), a) }
         };
-        let lows: Vec<i32> = x.rows.iter().map(|y| y.low).collect();
-        let ups: Vec<i32> = x.rows.iter().map(|y| y.up).collect();
-        let firsts: Vec<u32> = x.rows.iter().map(|y| y.first).collect();
-        let counts: Vec<u32> = x.rows.iter().map(|y| y.runs).collect();
         let mut text = before;
-        let n = x.rows.len();
-        let answer = unsafe {
-            text_index(
-                x.window, x.width, x.windows, lows.as_ptr(), n, ups.as_ptr(), n, firsts.as_ptr(), n, counts.as_ptr(), n,
-                x.left.as_ptr(), x.left.len(), x.right.as_ptr(), x.right.len(), text.as_mut_ptr(), size,
-            )
-        };
+        let answer = unsafe { text_write(x.head, x.rows.as_ptr(), x.rows.len(), x.left.as_ptr(), x.left.len(), x.right.as_ptr(), x.right.len(), text.as_mut_ptr(), size) };
         if answer != expected || text != after {
             wrong += 1;
-            if wrong <= 5 { println!("DIFFERENT: answer {answer} expected {expected} size {size} {x:?}") }
+            if wrong <= 5 { println!("DIFFERENT: answer {answer:?} expected {expected:?} size {size} {x:?}") }
         }
     }
     println!("{turns} indexes, {wrong} differences ({written} written, {bad} ill formed, {short} with a short buffer) in {:.1} s", start.elapsed().as_secs_f64());

@@ -2,7 +2,7 @@
 use layout::find_row;
 use meaning_rows::Row;
 use ranges::Range;
-use records::row_at;
+use records::row_or;
 ghost use mathlib.Core.Path.{_≡_};
 ghost use Prim.Native.Nat.{_-_, _≤_};
 ghost use lib.ListN.{length, getD};
@@ -80,16 +80,6 @@ pub fn zero_row() -> Row
     }
 }
 
-// Record k, or the record of zeros where there is none.
-pub fn row_or_none(rows: &[Row], k: usize) -> Row
-    ensures { λ r. ⌜ r ≡ getD (now (rows .entry)) k zeroRow ⌝ }
-{
-    if k < rows.len() {
-        return row_at(rows, k);
-    }
-    zero_row()
-}
-
 // The runs of the rows that a range meets.
 pub fn met_span(rows: &[Row], range: Range) -> Span
     requires { ⌜ Climbs (now rows) (length (now rows)) ⌝ }
@@ -100,8 +90,9 @@ pub fn met_span(rows: &[Row], range: Range) -> Span
     let n = rows.len();
     let a = find_row(rows, n, low);
     let b = find_row(rows, n, high);
-    let first = row_or_none(rows, a);
-    let last = row_or_none(rows, before(b));
-    let edge = row_or_none(rows, b);
+    let none = zero_row();
+    let first = row_or(rows, a, none);
+    let last = row_or(rows, before(b), none);
+    let edge = row_or(rows, b, none);
     span_of(n, a, b, first, last, edge, high)
 }

@@ -1,4 +1,3 @@
 -- Calls of the entries in a walk.
 pub mod Literal
-pub mod SearchCall
 pub mod BuildCall

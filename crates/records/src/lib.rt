@@ -6,13 +6,6 @@ ghost use lib.ListN.{length, getD, set, take, replicate};
 ghost use Rattle.records.specs.Records.{zeroRow, copied, countFrom, chunkOf};
 use meaning_rows::Row;
 
-// How many records are lent.
-pub fn row_count(rows: &[Row]) -> usize
-    ensures { λ n. ⌜ n ≡ length (now (rows .entry)) ⌝ }
-{
-    rows.len()
-}
-
 // Record k.
 pub fn row_at(rows: &[Row], k: usize) -> Row
     requires { ⌜ k < length (now rows) ⌝ }

@@ -1,10 +1,10 @@
 // Runs the vectors of its standard input (tests/model/search_vectors.rs writes them: the paper's cases, then answers of the model) through the entry that searches, and says of each group how many agree.
+use find_answer::search_table;
 use meaning_entries::Found;
 use meaning_filter::Kind;
 use meaning_filter::Limits;
 use meaning_rows::Head;
 use meaning_rows::Row;
-use search_table::search_table;
 use vectors::get;
 use vectors::get_natural;
 use vectors::get_small;
@@ -52,14 +52,14 @@ fn get_row(nums: &[u64], at: usize) -> Row {
     }
 }
 
-// The rows of a list of four numbers each.
-fn get_rows(nums: &[u64], at: usize) -> [Row; 64] {
+// The first 64 rows of a list of four numbers each.
+fn get_rows(nums: &[u64], at: usize) -> [Row; 4096] {
     let mut rows = [Row {
         low: 0,
         up: 0,
         first: 0,
         runs: 0,
-    }; 64];
+    }; 4096];
     let mut k: usize = 0;
     while k < 64 {
         rows[k] = get_row(nums, plus(plus(at, 1), k * 4));

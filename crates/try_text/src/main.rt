@@ -1,8 +1,9 @@
 // Reads the index texts of its standard input, parted by '#', and every truncation of each; writes what each comes to, then the index of the whole text as it is written back, and what comes of too little room. tests/model/tried.rs has what it must write.
+use find_answer::write_table;
 use meaning_entries::Loaded;
+use meaning_entries::Written;
 use meaning_rows::Head;
 use meaning_rows::Row;
-use text_c::text_index;
 use text_load::answer;
 use text_load::load_runs;
 use text_rows::line_row;
@@ -23,102 +24,41 @@ fn show(word: &[u8], first: u64, second: u64) {
 
 // ---- writing back
 
-fn put_end(out: &mut [i32], k: usize, x: i32) {
-    if k < out.len() {
-        out[k] = x;
-    }
-}
-
-fn put_count(out: &mut [u32], k: usize, x: u32) {
-    if k < out.len() {
-        out[k] = x;
-    }
-}
-
-// A row in columns of numbers, at its place.
-fn put_row(
-    k: usize,
-    r: Row,
-    lows: &mut [i32],
-    ups: &mut [i32],
-    firsts: &mut [u32],
-    counts: &mut [u32],
-) {
-    put_end(lows, k, r.low);
-    put_end(ups, k, r.up);
-    put_count(firsts, k, r.first);
-    put_count(counts, k, r.runs);
-}
-
-// The first three rows of a text; zeros where it has fewer.
-fn columns(text: &[u8], lows: &mut [i32], ups: &mut [i32], firsts: &mut [u32], counts: &mut [u32]) {
+// The first three rows of a text, as row records; zeros where it has fewer.
+fn first_rows(text: &[u8]) -> [Row; 4096] {
+    let mut rows = [Row {
+        low: 0,
+        up: 0,
+        first: 0,
+        runs: 0,
+    }; 4096];
     let a = next_line(text, no_line());
     let b = next_line(text, a);
     let c = next_line(text, b);
-    put_row(0, line_row(a), lows, ups, firsts, counts);
-    put_row(1, line_row(b), lows, ups, firsts, counts);
-    put_row(2, line_row(c), lows, ups, firsts, counts);
+    rows[0] = line_row(a);
+    rows[1] = line_row(b);
+    rows[2] = line_row(c);
+    rows
 }
 
-// What the entry write answered, as text_c packs it, and what it wrote.
-fn show_written(a: u64, out: &[u8]) {
-    if a % 2 == 0 {
-        show(b"refused", a % 65536 / 2, a / 65536);
-        return;
-    }
-    let n = a / 2;
-    if n <= out.len() as u64 {
-        let end = n as usize;
-        io::write_all(1, &out[..end]);
+// What the entry write answered, and what it wrote.
+fn show_written(a: Written, out: &[u8]) {
+    match a {
+        Written::Text { length } => {
+            if length <= out.len() {
+                io::write_all(1, &out[..length]);
+            }
+        }
+        Written::Refused { number, place } => show(b"refused", number as u64, place as u64),
     }
 }
 
-// The first rows of columns, written.
-fn write_rows(
-    head: Head,
-    rows: usize,
-    lows: &[i32],
-    ups: &[i32],
-    firsts: &[u32],
-    counts: &[u32],
-    left: &[u32],
-    right: &[u32],
-    out: &mut [u8],
-) -> u64
-    requires { ⌜ (rows ≤ length (now lows)) × (rows ≤ length (now ups)) × (rows ≤ length (now firsts)) × (rows ≤ length (now counts)) ⌝ }
-{
-    text_index(
-        head.window,
-        head.width,
-        head.windows,
-        &lows[..rows],
-        &ups[..rows],
-        &firsts[..rows],
-        &counts[..rows],
-        left,
-        right,
-        out,
-    )
-}
-
-// An index that was read from a text, written.
-fn write_back(
-    text: &[u8],
-    head: Head,
-    rows: usize,
-    left: &[u32],
-    right: &[u32],
-    out: &mut [u8],
-) -> u64 {
-    let mut lows = [0i32; 3];
-    let mut ups = [0i32; 3];
-    let mut firsts = [0u32; 3];
-    let mut counts = [0u32; 3];
-    if 3 < rows {
-        return 0;
+// An index of at most three rows that was read from a text, written.
+fn write_back(text: &[u8], head: Head, rows: usize, left: &[u32], right: &[u32], out: &mut [u8]) {
+    if rows <= 3 {
+        let a = write_table(head, first_rows(text), rows, left, right, out);
+        show_written(a, out);
     }
-    columns(text, &mut lows, &mut ups, &mut firsts, &mut counts);
-    write_rows(head, rows, &lows, &ups, &firsts, &counts, left, right, out)
 }
 
 // ---- reading
@@ -161,8 +101,7 @@ fn try_back(text: &[u8], out: &mut [u8]) {
             rows,
             runs: _,
         } => {
-            let a = write_back(text, head, rows, &left, &right, out);
-            show_written(a, out);
+            write_back(text, head, rows, &left, &right, out);
         }
         Loaded::Refused {
             number: _,

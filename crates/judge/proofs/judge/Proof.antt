@@ -24,7 +24,7 @@ use contract.Running.{givenOf, tables, tablesOf}
 use types.Kit.{Given, Item, Sq, runs, params′, ‵, anyQ, atRet, rewrite, _⊛_, ⋆, _$_, _∵_, !, qed, by, move, keep, drop, split, join, fsplit, fjoin, suffices, frame, done}
 use types.Part.{whole, sub, look-in}
 use types.Run.{look, init, store, forget, stop, fld, from, load, lit, of-opd, bin, un, assigns, assigns-last, stays, leaves-loop, jumps, exec, and-then, no-more, land, returns, enter, alloc1, alloc0, params1, pass1, pass0, free0}
-use sound.WpLaws.{FmC, fmOf, WpFn-mono}
+use sound.WpLaws.{FmC, fmOf}
 use denote.RattleType.{owns}
 use denote.Laws.{Is}
 use borrow.Author.Tests.{ltb-true, ltb-false}
@@ -40,7 +40,7 @@ use denote.Triple.Entry.{Vals, onEntry}
 use denote.Triple.Spec.{Meets, tripleOf}
 use denote.Triple.Statement.{Triple}
 use denote.Triple.Table.{entered, cited}
-use denote.Triple.Walked.{says, Stays, stay-dropped, walkOf, goes-dropped, Walks, ends-at, walked, walk-meets}
+use denote.Triple.Walked.{says, Stays, stay-dropped, walkOf, goes-dropped, ends-at}
 use denote.Exit.{yes}
 use Rattle.meaning_rows.specs.declared.Row.{Row}
 use Rattle.meaning_rows.specs.declared.Head.{Head}
@@ -50,7 +50,7 @@ use Rattle.meaning_rows.proofs.Row.Laws as T′
 use Rattle.meaning_rows.proofs.Head as Hd
 use Rattle.meaning_rows.proofs.Head.Laws as Hd′
 use Rattle.records.specs.Records.{zeroRow}
-use Rattle.records.proofs.Walk.{by-bool, goes-in, passes-by, lose, lose-room, loops-by}
+use Rattle.records.proofs.Walk.{by-bool, goes-in, passes-by, lose, lose-room, loops-by, walk-through}
 use Rattle.records.proofs.Rows.{Rs, Own, Good, low, RowAt, calls-row-at}
 use Rattle.records.proofs.row_at.Symbol as row-def
 use Rattle.records.proofs.row_at.Symbol.{name as #records·row-at}
@@ -65,6 +65,7 @@ use Rattle.judge.proofs.Judged as J
 use Rattle.judge.proofs.Judged.Laws as J′
 use Rattle.judge.proofs.Outcome.{judgedFrom, nextAt, Judging, judging-starts, judging-next, judging-stops, judging-ends}
 use Rattle.records.proofs.Slices.{Ns, Toks, Owns}
+use Rattle.records.proofs.RowKit.{word}
 use Rattle.judge.proofs.Calls.{low-head, IsHead, low-state, IsState, low-judged, IsJudged, head-typed, judged-typed, JudgeHead, JudgeRow, Verdict, calls-judge-head, calls-judge-row, calls-verdict}
 use Rattle.judge.proofs.judge_head.Symbol as head-def
 use Rattle.judge.proofs.judge_head.Symbol.{name as #judge·judge-head}
@@ -84,9 +85,6 @@ use Rattle.judge.proofs.judge.Code.Mir as mir
 -- nothing is had of the parameters at exit: each can be copied, and nothing is said of a last value
 abbrev stayed : Stays (f.ended .signature .params) (f.ended .kept)
 stayed = (stay-dropped (plain (λ _. Hd.the-row)) yes, (stay-dropped (shrSlice 0 tt (λ _. T.the-row)) yes, (stay-dropped (shrSlice 1 tt (λ _. u32)) yes, (stay-dropped (shrSlice 2 tt (λ _. u32)) yes, tt))))
-
-abbrev word : Ty
-word = tyInt w64
 
 abbrev slice : Ty
 slice = sliceTy (tyRef (named 0) imm (pointee (T.the-row .written)))
@@ -288,17 +286,12 @@ module _ {M : Type 1} (𝓤 : URA M) (H : Heap 𝓤) (A : Atoms 𝓤) (W : Given
 
 module _ {M : Type 1} (𝓤 : URA M) (H : Heap 𝓤) (A : Atoms 𝓤) (W : Given 𝓤 H A) (mem : Memory → SProp 𝓤) (run : Routine → Fun 𝓤) (𝓣 : Tables 𝓤 H)
     (known-head : Triple 𝓤 (𝓣 .C #judge·judge-head) (JudgeHead 𝓤 H A mem run)) (known-row : Triple 𝓤 (𝓣 .C #records·row-at) (RowAt 𝓤 H A mem run)) (known-judge : Triple 𝓤 (𝓣 .C #judge·judge-row) (JudgeRow 𝓤 H A mem run)) (known-verdict : Triple 𝓤 (𝓣 .C #judge·verdict) (Verdict 𝓤 H A mem run)) where
-  walks : Walks 𝓤 H A f.ended stayed (WpFn 𝓤 H (𝓣 .C) (𝓣 .Λ) code.function) (f.clauses 𝓤 H A mem run)
-  walks = walked 𝓤 H A f.ended stayed (f.clauses 𝓤 H A mem run) (WpFn 𝓤 H (𝓣 .C) (𝓣 .Λ) code.function) (λ κs. (LL.vals Hd.the-type Hd′.the-laws, (slice-vals, (slice-vals, (slice-vals, tt)))))
+  meets : Meets 𝓤 H A f.signature (WpFn 𝓤 H (𝓣 .C) (𝓣 .Λ) code.function) (f.spec 𝓤 H A mem run)
+  meets = walk-through 𝓤 H A f.ended stayed W (goes-dropped 𝓤 H A W 3 (plain (λ _. Hd.the-row)) yes (λ κs x f. refl), (goes-dropped 𝓤 H A W 3 (shrSlice 0 tt (λ _. T.the-row)) yes (λ κs x f. refl), (goes-dropped 𝓤 H A W 3 (shrSlice 1 tt (λ _. u32)) yes (λ κs x f. refl), (goes-dropped 𝓤 H A W 3 (shrSlice 2 tt (λ _. u32)) yes (λ κs x f. refl), tt)))) (f.clauses 𝓤 H A mem run) 𝓣 code.function
+      (λ κs. (LL.vals Hd.the-type Hd′.the-laws, (slice-vals, (slice-vals, (slice-vals, tt)))))
       (λ κs. (LL.tells Hd.the-type Hd′.the-laws, (shr-slice-tells (named 0) (κs .0) T.the-row, (shr-slice-tells (named 1) (κs .1 .0) u32, (shr-slice-tells (named 2) (κs .1 .1 .0) u32, tt)))))
       (λ κs qs bounds a g are. via 𝓤 _ (fst∗ 𝓤 _ (emp 𝓤)) (walk 𝓤 H A W mem run (κs .0) (κs .1 .0) (κs .1 .1 .0) (qs .0) (qs .1 .0) (qs .1 .1 .0) (a .0) (a .1 .0) (a .1 .1 .0) (a .1 .1 .1 .0) 𝓣 (fmOf 𝓤 H (W .laws) 𝓣) known-head known-row known-judge known-verdict
       (are .0) (are .1 .0 .0 .1) (are .1 .1 .0 .0 .1) (are .1 .1 .1 .0 .0 .1)))
-
-  meets : Meets 𝓤 H A f.signature (WpFn 𝓤 H (𝓣 .C) (𝓣 .Λ) code.function) (f.spec 𝓤 H A mem run)
-  meets =
-      walk-meets 𝓤 H A f.ended stayed W
-      (goes-dropped 𝓤 H A W 3 (plain (λ _. Hd.the-row)) yes (λ κs x f. refl), (goes-dropped 𝓤 H A W 3 (shrSlice 0 tt (λ _. T.the-row)) yes (λ κs x f. refl), (goes-dropped 𝓤 H A W 3 (shrSlice 1 tt (λ _. u32)) yes (λ κs x f. refl), (goes-dropped 𝓤 H A W 3 (shrSlice 2 tt (λ _. u32)) yes (λ κs x f. refl), tt))))
-      (f.clauses 𝓤 H A mem run) (WpFn 𝓤 H (𝓣 .C) (𝓣 .Λ) code.function) (WpFn-mono 𝓤 H (W .laws) 𝓣 code.function) walks
 
 pub judge-spec : {M : Type 1} → stated.statement M
 unfolding code.routine tablesOf

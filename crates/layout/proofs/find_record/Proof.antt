@@ -1,6 +1,6 @@
 -- `layout::find_record` meets its contract: a walk of its MIR, by hand. It calls `find_row` for the place and `row_at` for the record. All that the proof knows of the two is that they meet their contracts.
 -- Assumes nothing.
-use mathlib.Core.Path.{_≡_, refl}
+use mathlib.Core.Path.{refl}
 use Prim.Native.Nat.{ℕ, _<_, _≤_, _^_}
 use native.Mathlib.Omega.{arith}
 use mathlib.Core.List.{List, [], _∷_}
@@ -21,7 +21,7 @@ use contract.Monad.{Fun}
 use contract.Running.{givenOf, tables, tablesOf}
 use types.Kit.{Given, ‵, _⊛_, ⋆, _$_, _∵_, !, qed, by, move, keep, drop, split, join, fsplit, fjoin, suffices, frame, done}
 use types.Run.{look, init, stop, from, load, and-then, no-more, land, returns, enter, alloc1, alloc0, params1, pass1, pass0, free0}
-use sound.WpLaws.{FmC, fmOf, WpFn-mono}
+use sound.WpLaws.{FmC, fmOf}
 use denote.RattleType.{owns}
 use denote.Laws.{Is}
 use denote.Plain.{uint-vals, uint-tells}
@@ -36,17 +36,17 @@ use denote.Triple.Entry.{Vals, onEntry}
 use denote.Triple.Spec.{Meets, tripleOf}
 use denote.Triple.Statement.{Triple}
 use denote.Triple.Table.{entered, cited}
-use denote.Triple.Walked.{says, Stays, stay-dropped, walkOf, goes-dropped, Walks, ends-at, walked, walk-meets, needs}
+use denote.Triple.Walked.{says, Stays, stay-dropped, walkOf, goes-dropped, ends-at, needs}
 use denote.Exit.{yes}
 use Rattle.meaning_rows.specs.declared.Row.{Row}
 use Rattle.records.specs.Records.{zeroRow}
-use Rattle.layout.specs.Search.{Climbs, Found, Reached, FoundRow}
+use Rattle.layout.specs.Search.{Climbs, Reached, FoundRow}
 use Rattle.meaning_rows.proofs.Row as T
 use Rattle.meaning_rows.proofs.Row.Laws as T′
 use Rattle.records.proofs.Rows.{Rs, Good, low, RowAt, calls-row-at}
 use Rattle.layout.proofs.Search.{found-below}
 use Rattle.layout.proofs.Calls.{FindRow, calls-find-row}
-use Rattle.records.proofs.Walk.{lose}
+use Rattle.records.proofs.Walk.{lose, walk-through}
 use Rattle.records.proofs.row_at.Symbol as row-def
 use Rattle.records.proofs.row_at.Symbol.{name as #row-at}
 use Rattle.records.proofs.row_at.Met as row-thm
@@ -100,12 +100,10 @@ module _ {M : Type 1} (𝓤 : URA M) (H : Heap 𝓤) (A : Atoms 𝓤) (W : Given
         keep ! (0 ∷ []) $ by ! (exits (getD ys k zeroRow) g (record { place = k; below = found-below ys n z k (asked .1) found; found = found; is = refl })))))))))
 
 module _ {M : Type 1} (𝓤 : URA M) (H : Heap 𝓤) (A : Atoms 𝓤) (W : Given 𝓤 H A) (mem : Memory → SProp 𝓤) (run : Routine → Fun 𝓤) (𝓣 : Tables 𝓤 H) (known-row : Triple 𝓤 (𝓣 .C #row-at) (RowAt 𝓤 H A mem run)) (known-find : Triple 𝓤 (𝓣 .C #find-row) (FindRow 𝓤 H A mem run)) where
-  walks : Walks 𝓤 H A f.ended stayed (WpFn 𝓤 H (𝓣 .C) (𝓣 .Λ) code.function) (f.clauses 𝓤 H A mem run)
-  walks = walked 𝓤 H A f.ended stayed (f.clauses 𝓤 H A mem run) (WpFn 𝓤 H (𝓣 .C) (𝓣 .Λ) code.function) (λ κs. (slice-vals, (uint-vals w64, (sint-vals w32, tt)))) (λ κs. (shr-slice-tells (named 0) (κs .0) T.the-row, (uint-tells w64, (sint-tells w32, tt))))
-      (λ κs qs bounds a g are. needs 𝓤 _ _ (walk 𝓤 H A W mem run (κs .0) (qs .0) (a .0) (a .1 .0) (a .1 .1 .0) 𝓣 (fmOf 𝓤 H (W .laws) 𝓣) known-row known-find (are .0 .0 .1) (are .1 .0 .1) (are .1 .1 .0 .1)))
-
   meets : Meets 𝓤 H A f.signature (WpFn 𝓤 H (𝓣 .C) (𝓣 .Λ) code.function) (f.spec 𝓤 H A mem run)
-  meets = walk-meets 𝓤 H A f.ended stayed W (goes-dropped 𝓤 H A W 1 (shrSlice 0 tt (λ _. T.the-row)) yes (λ κs x f. refl), (goes-dropped 𝓤 H A W 1 (plain (λ _. usize)) yes (λ κs x f. refl), (goes-dropped 𝓤 H A W 1 (plain (λ _. i32)) yes (λ κs x f. refl), tt))) (f.clauses 𝓤 H A mem run) (WpFn 𝓤 H (𝓣 .C) (𝓣 .Λ) code.function) (WpFn-mono 𝓤 H (W .laws) 𝓣 code.function) walks
+  meets = walk-through 𝓤 H A f.ended stayed W (goes-dropped 𝓤 H A W 1 (shrSlice 0 tt (λ _. T.the-row)) yes (λ κs x f. refl), (goes-dropped 𝓤 H A W 1 (plain (λ _. usize)) yes (λ κs x f. refl), (goes-dropped 𝓤 H A W 1 (plain (λ _. i32)) yes (λ κs x f. refl), tt))) (f.clauses 𝓤 H A mem run) 𝓣 code.function
+      (λ κs. (slice-vals, (uint-vals w64, (sint-vals w32, tt)))) (λ κs. (shr-slice-tells (named 0) (κs .0) T.the-row, (uint-tells w64, (sint-tells w32, tt))))
+      (λ κs qs bounds a g are. needs 𝓤 _ _ (walk 𝓤 H A W mem run (κs .0) (qs .0) (a .0) (a .1 .0) (a .1 .1 .0) 𝓣 (fmOf 𝓤 H (W .laws) 𝓣) known-row known-find (are .0 .0 .1) (are .1 .0 .1) (are .1 .1 .0 .1)))
 
 pub find-record-spec : {M : Type 1} → stated.statement M
 unfolding code.routine tablesOf

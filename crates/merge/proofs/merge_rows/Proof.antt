@@ -24,7 +24,7 @@ use contract.Running.{givenOf, tables, tablesOf}
 use types.Kit.{Given, Item, Sq, runs, params′, anyQ, atRet, ‵, _⊛_, ⋆, _$_, _∵_, !, qed, by, move, keep, drop, split, join, rewrite, fsplit, fjoin, suffices, frame, done}
 use types.Run.{land, look, init, store, forget, stop, hop, fld, from, load, lit, of-opd, bin, and-then, no-more, assigns, assigns-last, stays, leaves-loop, exec, returns, enter, alloc1, alloc0, params1, pass1, pass0, free0}
 use types.Part.{whole, sub, look-in}
-use sound.WpLaws.{FmC, WpFn-mono, fmOf}
+use sound.WpLaws.{FmC, fmOf}
 use denote.RattleType.{owns}
 use denote.Laws.{Is}
 use denote.Memory.{pointee}
@@ -41,7 +41,7 @@ use denote.Triple.Entry.{onEntry}
 use denote.Triple.Spec.{Meets, tripleOf}
 use denote.Triple.Table.{entered, cited}
 use denote.Triple.Statement.{Triple}
-use denote.Triple.Walked.{says, needs, Stays, stay-slice, stay-dropped, walkOf, goes-slice, goes-dropped, Walks, ends-at, walked, walk-meets}
+use denote.Triple.Walked.{says, needs, Stays, stay-slice, stay-dropped, walkOf, goes-slice, goes-dropped, ends-at}
 use denote.Exit.{yes}
 use borrow.Author.Tests.{ltb-true, ltb-false}
 use Rattle.meaning_rows.specs.declared.Row.{Row}
@@ -50,8 +50,8 @@ use Rattle.meaning_rows.proofs.Row as T
 use Rattle.meaning_rows.proofs.Row.Laws as T′
 use Rattle.records.specs.Records.{zeroRow}
 use Rattle.records.proofs.Elem.{knows, look-elem, store-elem}
-use Rattle.records.proofs.RowKit.{IsRow, fits-16, typed, row-elem, row-makes, held}
-use Rattle.records.proofs.Walk.{loops-by, by-bool, lose, lose-room}
+use Rattle.records.proofs.RowKit.{word, IsRow, fits-16, typed, row-elem, row-makes, held}
+use Rattle.records.proofs.Walk.{loops-by, by-bool, lose, lose-room, walk-through}
 use Rattle.merge.specs.declared.Group.{Group}
 use Rattle.merge.specs.Group.{firstGroup, nextGroup, Joinable}
 use Rattle.pack.specs.PackedAs.{PackedAs}
@@ -77,9 +77,6 @@ stayed = (
   stay-slice (0 ∷ []) tt (plain (λ _. T.the-row)),
   (stay-dropped (plain (λ _. usize)) yes, (stay-dropped (SliceRefOf (1 ∷ []) tt (plain (λ _. u32)) (λ _. tt)) yes, (stay-dropped (SliceRefOf (2 ∷ []) tt (plain (λ _. u32)) (λ _. tt)) yes, (stay-dropped (plain (λ _. usize)) yes, tt)))),
 )
-
-abbrev word : Ty
-word = tyInt w64
 
 abbrev rowsTy : Ty
 rowsTy = sliceTy (tyRef (named 0) mut (pointee (T.the-row .written)))
@@ -346,27 +343,12 @@ module _ {M : Type 1} (𝓤 : URA M) (H : Heap 𝓤) (A : Atoms 𝓤) (W : Given
     walk = qed W (Tokens ∷ Owned ∷ []) ∵ enter ! (𝓣 .C) (𝓣 .Λ) code.function passed Post $ alloc1 ! (λ l₀. alloc1 ! (λ l₁. alloc1 ! (λ l₂. alloc1 ! (λ l₃. alloc1 ! (λ l₄. alloc1 ! (λ l₅. alloc1 ! (λ l₆. alloc1 ! (λ l₇. alloc1 ! (λ l₈. alloc1 ! (λ l₉. alloc1 ! (λ l₁₀. alloc1 ! (λ l₁₁. alloc1 ! (λ l₁₂. alloc1 ! (λ l₁₃. alloc1 ! (λ l₁₄. alloc1 ! (λ l₁₅. alloc1 ! (λ l₁₆. alloc1 ! (λ l₁₇. alloc1 ! (λ l₁₈. alloc0 ! $ passing l₀ l₁ l₂ l₃ l₄ l₅ l₆ l₇ l₈ l₉ l₁₀ l₁₁ l₁₂ l₁₃ l₁₄ l₁₅ l₁₆ l₁₇ l₁₈)))))))))))))))))))
 
 module _ {M : Type 1} (𝓤 : URA M) (H : Heap 𝓤) (A : Atoms 𝓤) (W : Given 𝓤 H A) (mem : Memory → SProp 𝓤) (run : Routine → Fun 𝓤) (𝓣 : Tables 𝓤 H) (known-first : Triple 𝓤 (𝓣 .C #merge·first-group) (FirstGroup 𝓤 H A mem run)) (known-merge : Triple 𝓤 (𝓣 .C #merge·merge-row) (MergeRow 𝓤 H A mem run)) where
-  walks : Walks 𝓤 H A f′.ended stayed (WpFn 𝓤 H (𝓣 .C) (𝓣 .Λ) code.function) (f′.clauses 𝓤 H A mem run)
-  walks = walked 𝓤 H A f′.ended stayed (f′.clauses 𝓤 H A mem run) (WpFn 𝓤 H (𝓣 .C) (𝓣 .Λ) code.function)
+  meets : Meets 𝓤 H A f′.signature (WpFn 𝓤 H (𝓣 .C) (𝓣 .Λ) code.function) (f′.spec 𝓤 H A mem run)
+  meets = walk-through 𝓤 H A f′.ended stayed W (goes-slice 𝓤 H A W 3 0 tt (plain (λ _. T.the-row)), (goes-dropped 𝓤 H A W 3 (plain (λ _. usize)) yes (λ κs x f. refl), (goes-dropped 𝓤 H A W 3 (SliceRefOf (1 ∷ []) tt (plain (λ _. u32)) (λ _. tt)) yes (λ κs x f. refl), (goes-dropped 𝓤 H A W 3 (SliceRefOf (2 ∷ []) tt (plain (λ _. u32)) (λ _. tt)) yes (λ κs x f. refl), (goes-dropped 𝓤 H A W 3 (plain (λ _. usize)) yes (λ κs x f. refl), tt))))) (f′.clauses 𝓤 H A mem run) 𝓣 code.function
       (λ κs. (slice-vals, (uint-vals w64, (slice-vals, (slice-vals, (uint-vals w64, tt))))))
       (λ κs. (mut-slice-tells (named 0) (κs .0) T.the-row, (uint-tells w64, (shr-slice-tells (named 1) (κs .1 .0) u32, (shr-slice-tells (named 2) (κs .1 .1 .0) u32, (uint-tells w64, tt))))))
       (λ κs qs bounds a g are. needs 𝓤 (Mergeable (a .0 .now) (a .1 .0) (a .1 .1 .0 .now) (a .1 .1 .1 .0 .now) × (a .1 .1 .1 .1 .0 ≤ 100)) _
       (λ y. walk 𝓤 H A W mem run κs qs (a .0) (a .1 .0) (a .1 .1 .0) (a .1 .1 .1 .0) (a .1 .1 .1 .1 .0) 𝓣 (fmOf 𝓤 H (W .laws) 𝓣) known-first known-merge (are .0 .0 .1) (are .1 .1 .0 .0 .1) (are .1 .1 .1 .0 .0 .1) (are .1 .0 .1) (are .1 .1 .1 .1 .0 .1) (y .0) (y .1)))
-
-  meets : Meets 𝓤 H A f′.signature (WpFn 𝓤 H (𝓣 .C) (𝓣 .Λ) code.function) (f′.spec 𝓤 H A mem run)
-  meets = walk-meets 𝓤 H A f′.ended stayed W (
-    goes-slice 𝓤 H A W 3 0 tt (plain (λ _. T.the-row)),
-    (
-      goes-dropped 𝓤 H A W 3 (plain (λ _. usize)) yes (λ κs x f. refl),
-      (
-        goes-dropped 𝓤 H A W 3 (SliceRefOf (1 ∷ []) tt (plain (λ _. u32)) (λ _. tt)) yes (λ κs x f. refl),
-        (
-          goes-dropped 𝓤 H A W 3 (SliceRefOf (2 ∷ []) tt (plain (λ _. u32)) (λ _. tt)) yes (λ κs x f. refl),
-          (goes-dropped 𝓤 H A W 3 (plain (λ _. usize)) yes (λ κs x f. refl), tt),
-        ),
-      ),
-    ),
-  ) (f′.clauses 𝓤 H A mem run) (WpFn 𝓤 H (𝓣 .C) (𝓣 .Λ) code.function) (WpFn-mono 𝓤 H (W .laws) 𝓣 code.function) walks
 
 pub merge-rows-spec : {M : Type 1} → stated.statement M
 unfolding code.routine tablesOf

@@ -24,7 +24,7 @@ use contract.Running.{givenOf, tables, tablesOf}
 use types.Kit.{Given, Item, Sq, runs, params′, anyQ, atRet, ‵, _⊛_, ⋆, _$_, _∵_, !, qed, by, move, keep, drop, split, join, rewrite, fsplit, fjoin, feqI, suffices, frame, done}
 use types.Run.{land, look, init, store, forget, stop, hop, fld, from, load, lit, unit-lit, of-opd, addr, bin, and-then, no-more, assigns, assigns-last, stays, leaves-loop, exec, returns, enter, alloc1, alloc0, params1, pass1, pass0, free0}
 use types.Part.{whole, sub, look-in, agg}
-use sound.WpLaws.{FmC, WpFn-mono, fmOf}
+use sound.WpLaws.{FmC, fmOf}
 use denote.RattleType.{owns}
 use denote.Memory.{pointee}
 use denote.Plain.{uint-vals, uint-tells}
@@ -38,7 +38,7 @@ use denote.Triple.Entry.{onEntry}
 use denote.Triple.Spec.{Meets, tripleOf}
 use denote.Triple.Table.{entered, cited}
 use denote.Triple.Statement.{Triple}
-use denote.Triple.Walked.{says, needs, Stays, stay-slice, stay-dropped, walkOf, goes-slice, goes-dropped, Walks, ends-at, walked, walk-meets}
+use denote.Triple.Walked.{says, needs, Stays, stay-slice, stay-dropped, walkOf, goes-slice, goes-dropped, ends-at}
 use denote.Exit.{yes}
 use borrow.Author.Tests.{ltb-true, ltb-false}
 use Rattle.meaning_curves.specs.Curve.{windowSum}
@@ -47,11 +47,12 @@ use Rattle.meaning_rows.proofs.Row as T
 use Rattle.meaning_rows.proofs.Row.Laws as T′
 use Rattle.meaning_rows.proofs.Cursors.{fileRight}
 use Rattle.records.specs.Records.{zeroRow}
-use Rattle.records.proofs.Walk.{loops-by, by-bool, lose, lose-room}
+use Rattle.records.proofs.Walk.{loops-by, by-bool, lose, lose-room, walk-through}
 use Rattle.records.proofs.Rows.{Own, RowAt, calls-row-at}
 use Rattle.records.proofs.row_at.Symbol as row-def
 use Rattle.records.proofs.row_at.Symbol.{name as #records·row-at}
 use Rattle.records.proofs.row_at.Met as row-thm
+use Rattle.records.proofs.RowKit.{word}
 use Rattle.filing.specs.declared.Place.{Place}
 use Rattle.filing.specs.Levels.{level, windowsOf}
 use Rattle.filing.specs.Change.{Stop}
@@ -87,9 +88,6 @@ stayed = (
   stay-dropped (SliceRefOf (0 ∷ []) tt (plain (λ _. i32)) (λ _. tt)) yes,
   (stay-dropped (plain (λ _. usize)) yes, (stay-dropped (plain (λ _. usize)) yes, (stay-dropped (SliceRefOf (1 ∷ []) tt (plain (λ _. T.the-row)) (λ _. tt)) yes, (stay-dropped (plain (λ _. usize)) yes, (stay-slice (2 ∷ []) tt (plain (λ _. u32)), (stay-slice (3 ∷ []) tt (plain (λ _. u32)), tt)))))),
 )
-
-abbrev word : Ty
-word = tyInt w64
 
 abbrev seriesTy : Ty
 seriesTy = sliceTy (tyRef (named 0) imm (tyInt w32))
@@ -366,31 +364,13 @@ module _ {M : Type 1} (𝓤 : URA M) (H : Heap 𝓤) (A : Atoms 𝓤) (W : Given
     walk = qed W (Tokens ∷ Owned ∷ []) ∵ enter ! (𝓣 .C) (𝓣 .Λ) code.function passed Post $ alloc1 ! (λ l₀. alloc1 ! (λ l₁. alloc1 ! (λ l₂. alloc1 ! (λ l₃. alloc1 ! (λ l₄. alloc1 ! (λ l₅. alloc1 ! (λ l₆. alloc1 ! (λ l₇. alloc1 ! (λ l₈. alloc1 ! (λ l₉. alloc1 ! (λ l₁₀. alloc1 ! (λ l₁₁. alloc1 ! (λ l₁₂. alloc1 ! (λ l₁₃. alloc1 ! (λ l₁₄. alloc1 ! (λ l₁₅. alloc1 ! (λ l₁₆. alloc1 ! (λ l₁₇. alloc1 ! (λ l₁₈. alloc1 ! (λ l₁₉. alloc1 ! (λ l₂₀. alloc1 ! (λ l₂₁. alloc0 ! $ passing l₀ l₁ l₂ l₃ l₄ l₅ l₆ l₇ l₈ l₉ l₁₀ l₁₁ l₁₂ l₁₃ l₁₄ l₁₅ l₁₆ l₁₇ l₁₈ l₁₉ l₂₀ l₂₁))))))))))))))))))))))
 
 module _ {M : Type 1} (𝓤 : URA M) (H : Heap 𝓤) (A : Atoms 𝓤) (W : Given 𝓤 H A) (mem : Memory → SProp 𝓤) (run : Routine → Fun 𝓤) (𝓣 : Tables 𝓤 H) (known-first : Triple 𝓤 (𝓣 .C #neighbours·first-place) (FirstPlace 𝓤 H A mem run)) (known-at : Triple 𝓤 (𝓣 .C #neighbours·name-at) (NameAt 𝓤 H A mem run)) (known-row : Triple 𝓤 (𝓣 .C #records·row-at) (RowAt 𝓤 H A mem run)) (known-end : Triple 𝓤 (𝓣 .C #neighbours·run-end) (RunEnd 𝓤 H A mem run)) (known-file : Triple 𝓤 (𝓣 .C #parts·file-entry) (FileEntry 𝓤 H A mem run)) where
-  walks : Walks 𝓤 H A f′.ended stayed (WpFn 𝓤 H (𝓣 .C) (𝓣 .Λ) code.function) (f′.clauses 𝓤 H A mem run)
-  walks = walked 𝓤 H A f′.ended stayed (f′.clauses 𝓤 H A mem run) (WpFn 𝓤 H (𝓣 .C) (𝓣 .Λ) code.function)
+  meets : Meets 𝓤 H A f′.signature (WpFn 𝓤 H (𝓣 .C) (𝓣 .Λ) code.function) (f′.spec 𝓤 H A mem run)
+  meets = walk-through 𝓤 H A f′.ended stayed W (goes-dropped 𝓤 H A W 4 (SliceRefOf (0 ∷ []) tt (plain (λ _. i32)) (λ _. tt)) yes (λ κs x f. refl), (goes-dropped 𝓤 H A W 4 (plain (λ _. usize)) yes (λ κs x f. refl), (goes-dropped 𝓤 H A W 4 (plain (λ _. usize)) yes (λ κs x f. refl), (goes-dropped 𝓤 H A W 4 (SliceRefOf (1 ∷ []) tt (plain (λ _. T.the-row)) (λ _. tt)) yes (λ κs x f. refl), (goes-dropped 𝓤 H A W 4 (plain (λ _. usize)) yes (λ κs x f. refl), (goes-slice 𝓤 H A W 4 2 tt (plain (λ _. u32)), (goes-slice 𝓤 H A W 4 3 tt (plain (λ _. u32)), tt))))))) (f′.clauses 𝓤 H A mem run) 𝓣 code.function
       (λ κs. (slice-vals, (uint-vals w64, (uint-vals w64, (slice-vals, (uint-vals w64, (slice-vals, (slice-vals, tt))))))))
       (λ κs. (shr-slice-tells (named 0) (κs .0) i32, (uint-tells w64, (uint-tells w64, (shr-slice-tells (named 1) (κs .1 .0) T.the-row, (uint-tells w64, (mut-slice-tells (named 2) (κs .1 .1 .0) u32, (mut-slice-tells (named 3) (κs .1 .1 .1 .0) u32, tt))))))))
       (λ κs qs bounds a g are. needs 𝓤 _ _
       (walk 𝓤 H A W mem run κs qs (a .0) (a .1 .0) (a .1 .1 .0) (a .1 .1 .1 .0) (a .1 .1 .1 .1 .0) (a .1 .1 .1 .1 .1 .0) (a .1 .1 .1 .1 .1 .1 .0) 𝓣 (fmOf 𝓤 H (W .laws) 𝓣) known-first known-at known-row known-end known-file
       (are .0 .0 .1) (are .1 .0 .1) (are .1 .1 .0 .1) (are .1 .1 .1 .0 .0 .1) (are .1 .1 .1 .1 .0 .1) (are .1 .1 .1 .1 .1 .0 .0 .1) (are .1 .1 .1 .1 .1 .1 .0 .0 .1)))
-
-  meets : Meets 𝓤 H A f′.signature (WpFn 𝓤 H (𝓣 .C) (𝓣 .Λ) code.function) (f′.spec 𝓤 H A mem run)
-  meets = walk-meets 𝓤 H A f′.ended stayed W (
-    goes-dropped 𝓤 H A W 4 (SliceRefOf (0 ∷ []) tt (plain (λ _. i32)) (λ _. tt)) yes (λ κs x f. refl),
-    (
-      goes-dropped 𝓤 H A W 4 (plain (λ _. usize)) yes (λ κs x f. refl),
-      (
-        goes-dropped 𝓤 H A W 4 (plain (λ _. usize)) yes (λ κs x f. refl),
-        (
-          goes-dropped 𝓤 H A W 4 (SliceRefOf (1 ∷ []) tt (plain (λ _. T.the-row)) (λ _. tt)) yes (λ κs x f. refl),
-          (
-            goes-dropped 𝓤 H A W 4 (plain (λ _. usize)) yes (λ κs x f. refl),
-            (goes-slice 𝓤 H A W 4 2 tt (plain (λ _. u32)), (goes-slice 𝓤 H A W 4 3 tt (plain (λ _. u32)), tt)),
-          ),
-        ),
-      ),
-    ),
-  ) (f′.clauses 𝓤 H A mem run) (WpFn 𝓤 H (𝓣 .C) (𝓣 .Λ) code.function) (WpFn-mono 𝓤 H (W .laws) 𝓣 code.function) walks
 
 pub name-neighbours-spec : {M : Type 1} → stated.statement M
 unfolding code.routine tablesOf

@@ -21,7 +21,7 @@ use types.Kit.{Given, ‵, raw, some, later, _⊛_, ⋆, _$_, _∵_, !, qed, by,
 use types.Run.{land, look, init, forget, stop, fld, from, load, lit, of-opd, addr, and-then, no-more, assigns, returns, enter, alloc1, alloc0, params1, pass1, pass0, free1, free0}
 use types.Part.{agg, rep, whole, sub, look-in}
 use types.Tokens.{lft-new, lft-end}
-use sound.WpLaws.{FmC, fmOf, WpFn-mono}
+use sound.WpLaws.{FmC, fmOf}
 use denote.RattleType.{owns}
 use denote.Laws.{Is, shows}
 use denote.Shadow.{shadow}
@@ -39,8 +39,9 @@ use denote.Triple.Spec.{Meets, tripleOf}
 use denote.Triple.Call.{calls-at}
 use denote.Triple.Clauses.{ensured, lasts}
 use denote.Triple.Table.{entered, cited}
-use denote.Triple.Walked.{says, Stays, stay-dropped, walkOf, goes-dropped, Walks, ends-at, walked, walk-meets}
+use denote.Triple.Walked.{says, Stays, stay-dropped, walkOf, goes-dropped, ends-at}
 use denote.Exit.{yes}
+use Rattle.records.proofs.Walk.{walk-through}
 use Rattle.meaning_rows.specs.declared.Row.{Row}
 use Rattle.meaning_rows.proofs.Row as T
 use Rattle.meaning_rows.proofs.Row.Laws as T′
@@ -164,14 +165,12 @@ module _ {M : Type 1} (𝓤 : URA M) (H : Heap 𝓤) (A : Atoms 𝓤) (W : Given
         split ! $
         move ! (1 ∷ []) $
         facts ! Nothing (Is Nothing) (shows 𝓤 H A Nothing) r (w ∷ []) (λ u.
-        move ! (0 ∷ []) $
         split ! $
         move ! (1 ∷ []) $
         split ! $
         move ! (1 ∷ []) $
         drop ! $
         land ! (from ! (stop !)) (init ! 9 refl (nothing-lawful 𝓤 H A W .typed r (w ∷ []) u .0)) $
-        move ! (0 ∷ []) $
         lft-end ! tt $
         move ! (0 ∷ 4 ∷ 2 ∷ []) $
         back-local ! tt T.the-row rows-vals (LL.tells T.the-type T′.the-laws) 64 64 γ zs (chunk-length (x .now) place) (v zs) refl l₃ (λ is-zs.
@@ -186,14 +185,10 @@ module _ {M : Type 1} (𝓤 : URA M) (H : Heap 𝓤) (A : Atoms 𝓤) (W : Given
         wt l p = array-lawful 𝓤 H A W T.the-row (LL.lawful T.the-type T′.the-laws 𝓤 H A W) 64 .typed l _ p .0
 
 module _ {M : Type 1} (𝓤 : URA M) (H : Heap 𝓤) (A : Atoms 𝓤) (W : Given 𝓤 H A) (mem : Memory → SProp 𝓤) (run : Routine → Fun 𝓤) (𝓣 : Tables 𝓤 H) (known-count : Triple 𝓤 (𝓣 .C #records·count-from) (CountFrom 𝓤 H A mem run)) (known-copy : Triple 𝓤 (𝓣 .C #records·copy-rows) (Copy 𝓤 H A mem run)) where
-  walks : Walks 𝓤 H A f′.ended stayed (WpFn 𝓤 H (𝓣 .C) (𝓣 .Λ) code.function) (f′.clauses 𝓤 H A mem run)
-  walks = walked 𝓤 H A f′.ended stayed (f′.clauses 𝓤 H A mem run) (WpFn 𝓤 H (𝓣 .C) (𝓣 .Λ) code.function) (λ κs. (slice-vals, (uint-vals w64, tt))) (λ κs. (shr-slice-tells (named 0) (κs .0) T.the-row, (uint-tells w64, tt)))
-      (λ κs qs bounds a g are. via 𝓤 _ (fst∗ 𝓤 _ (emp 𝓤)) (walk 𝓤 H A W mem run (κs .0) (qs .0) (a .0) (a .1 .0) (𝓣 .C) (𝓣 .Λ) (fmOf 𝓤 H (W .laws) 𝓣) known-count known-copy (are .0 .0 .1) (are .1 .0 .1)))
-
   meets : Meets 𝓤 H A f′.signature (WpFn 𝓤 H (𝓣 .C) (𝓣 .Λ) code.function) (f′.spec 𝓤 H A mem run)
-  meets =
-      walk-meets 𝓤 H A f′.ended stayed W (goes-dropped 𝓤 H A W 1 (SliceRefOf (0 ∷ []) tt (plain (λ _. T.the-row)) (λ _. tt)) yes (λ κs x f. refl), (goes-dropped 𝓤 H A W 1 (plain (λ _. usize)) yes (λ κs x f. refl), tt))
-      (f′.clauses 𝓤 H A mem run) (WpFn 𝓤 H (𝓣 .C) (𝓣 .Λ) code.function) (WpFn-mono 𝓤 H (W .laws) 𝓣 code.function) walks
+  meets = walk-through 𝓤 H A f′.ended stayed W (goes-dropped 𝓤 H A W 1 (SliceRefOf (0 ∷ []) tt (plain (λ _. T.the-row)) (λ _. tt)) yes (λ κs x f. refl), (goes-dropped 𝓤 H A W 1 (plain (λ _. usize)) yes (λ κs x f. refl), tt)) (f′.clauses 𝓤 H A mem run) 𝓣 code.function
+      (λ κs. (slice-vals, (uint-vals w64, tt))) (λ κs. (shr-slice-tells (named 0) (κs .0) T.the-row, (uint-tells w64, tt)))
+      (λ κs qs bounds a g are. via 𝓤 _ (fst∗ 𝓤 _ (emp 𝓤)) (walk 𝓤 H A W mem run (κs .0) (qs .0) (a .0) (a .1 .0) (𝓣 .C) (𝓣 .Λ) (fmOf 𝓤 H (W .laws) 𝓣) known-count known-copy (are .0 .0 .1) (are .1 .0 .1)))
 
 pub chunk-at-spec : {M : Type 1} → stated.statement M
 unfolding code.routine tablesOf

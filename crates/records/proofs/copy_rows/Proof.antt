@@ -53,7 +53,7 @@ use Rattle.meaning_rows.specs.declared.Row.{Row}
 use Rattle.meaning_rows.proofs.Row as T
 use Rattle.meaning_rows.proofs.Row.Laws as T′
 use Rattle.records.proofs.Elem.{knows, look-elem, store-elem}
-use Rattle.records.proofs.RowKit.{vals as rows-vals, fits-16, typed, row-elem, row-makes, held}
+use Rattle.records.proofs.RowKit.{word, vals as rows-vals, fits-16, typed, row-elem, row-makes, held}
 use Rattle.records.specs.Records.{zeroRow, copied}
 use Rattle.records.proofs.Chunk.{copied-none, copied-more, length-copied}
 use Rattle.records.proofs.copy_rows.Key.{name as #records·copy-rows}
@@ -67,9 +67,6 @@ stayed = (stay-dropped (SliceRefOf (0 ∷ []) tt (plain (λ _. T.the-row)) (λ _
 
 abbrev byte : Ty
 byte = tyInt w8
-
-abbrev word : Ty
-word = tyInt w64
 
 module _ {M : Type 1} (𝓤 : URA M) (H : Heap 𝓤) (A : Atoms 𝓤) (W : Given 𝓤 H A) (mem : Memory → SProp 𝓤) (run : Routine → Fun 𝓤) (κs : Lfts 2) (qs : Shares 2) (xr : RefT (List Row)) (place : ℕ) (n : ℕ) (xo : RefT (List Row)) where
   abbrev Arg : Type 0
@@ -110,7 +107,6 @@ module _ {M : Type 1} (𝓤 : URA M) (H : Heap 𝓤) (A : Atoms 𝓤) (W : Given
       nothing ! $
       move ! (1 ∷ 2 ∷ []) $
       held ! (named 1) T.the-row (xo .ptr .0) (xo .ptr .1) (xo .now) zo e-o rm-o $
-      move ! (0 ∷ 1 ∷ []) $
       fjoin ! $
       nothing ! $
       fjoin ! $

@@ -22,12 +22,12 @@ use contract.Running.{givenOf, tables, tablesOf}
 use types.Kit.{Given, Item, Sq, runs, params′, ‵, atRet, rewrite, _⊛_, ⋆, _$_, _∵_, !, qed, by, move, keep, drop, split, join, fsplit, fjoin, suffices, frame, done}
 use types.Part.{whole, sub, look-in, agg}
 use types.Run.{look, init, store, forget, stop, hop, fld, from, load, of-opd, true-lit, false-lit, addr, assigns, exec, and-then, no-more, land, returns, returns-within, enter, alloc1, alloc0, params1, pass1, pass0, free0}
-use sound.WpLaws.{FmC, fmOf, WpFn-mono}
+use sound.WpLaws.{FmC, fmOf}
 use denote.RattleType.{owns}
 use denote.Laws.{Is}
 use denote.Memory.{pointee}
 use denote.Builtin.{u8, u32}
-use denote.Ref.{RefT, ptr, now}
+use denote.Ref.{ptr, now}
 use denote.Signature.{plain, shrSlice}
 use denote.Slice.{sliceTy, sliceVal, MutSlice, ShrSlice, Room, slice-vals, shr-slice-tells, mut-slice-tells}
 use denote.Steps.{owned, nothing}
@@ -37,7 +37,7 @@ use denote.Triple.Entry.{Args, Vals, onEntry}
 use denote.Triple.Spec.{Meets, tripleOf}
 use denote.Triple.Statement.{Triple}
 use denote.Triple.Table.{entered, cited}
-use denote.Triple.Walked.{says, Stays, stay-slice, stay-dropped, walkOf, goes-slice, goes-dropped, Walks, ends-at, walked, walk-meets}
+use denote.Triple.Walked.{says, Stays, stay-slice, stay-dropped, walkOf, goes-slice, goes-dropped, ends-at}
 use denote.Exit.{yes}
 use Rattle.meaning_rows.specs.declared.Row.{Row}
 use Rattle.meaning_rows.specs.declared.Head.{Head}
@@ -50,9 +50,10 @@ use Rattle.meaning_entries.specs.declared.Written.{Written}
 use Rattle.meaning_entries.specs.Demand2.{WriteKept}
 use Rattle.meaning_entries.proofs.Written as Wr
 use Rattle.meaning_entries.proofs.Written.Laws as Wr′
-use Rattle.records.proofs.Walk.{by-bool, goes-in, passes-by, lose, lose-room}
+use Rattle.records.proofs.Walk.{by-bool, goes-in, passes-by, lose, lose-room, walk-through}
 use Rattle.records.proofs.Lends.{Own as OwnMut}
-use Rattle.records.proofs.Rows.{Rs, Own}
+use Rattle.records.proofs.Rows.{Rs}
+use Rattle.records.proofs.RowKit.{word}
 use Rattle.judge.specs.declared.Judged.{Judged}
 use Rattle.judge.specs.Judged.{judgedOf}
 use Rattle.judge.proofs.Judged as J
@@ -84,9 +85,6 @@ use Rattle.text_save.proofs.write.Code.Mir as mir
 -- the text stays, at its last list; nothing is had of the other parameters at exit
 abbrev stayed : Stays (f.ended .signature .params) (f.ended .kept)
 stayed = (stay-dropped (plain (λ _. Hd.the-row)) yes, (stay-dropped (shrSlice 0 tt (λ _. T.the-row)) yes, (stay-dropped (shrSlice 1 tt (λ _. u32)) yes, (stay-dropped (shrSlice 2 tt (λ _. u32)) yes, (stay-slice (3 ∷ []) tt (plain (λ _. u8)), tt)))))
-
-abbrev word : Ty
-word = tyInt w64
 
 abbrev slice : Ty
 slice = sliceTy (tyRef (named 0) imm (pointee (T.the-row .written)))
@@ -282,18 +280,13 @@ module _ {M : Type 1} (𝓤 : URA M) (H : Heap 𝓤) (A : Atoms 𝓤) (W : Given
 
 module _ {M : Type 1} (𝓤 : URA M) (H : Heap 𝓤) (A : Atoms 𝓤) (W : Given 𝓤 H A) (mem : Memory → SProp 𝓤) (run : Routine → Fun 𝓤) (𝓣 : Tables 𝓤 H)
     (known-judge : Triple 𝓤 (𝓣 .C #judge) (JudgeAll 𝓤 H A mem run)) (known-index : Triple 𝓤 (𝓣 .C #spell-index) (SpellIndex 𝓤 H A mem run)) (known-answer : Triple 𝓤 (𝓣 .C #answer) (Answer 𝓤 H A mem run)) (known-refused : Triple 𝓤 (𝓣 .C #is-refused) (IsRefused 𝓤 H A mem run)) where
-  walks : Walks 𝓤 H A f.ended stayed (WpFn 𝓤 H (𝓣 .C) (𝓣 .Λ) code.function) (f.clauses 𝓤 H A mem run)
-  walks = walked 𝓤 H A f.ended stayed (f.clauses 𝓤 H A mem run) (WpFn 𝓤 H (𝓣 .C) (𝓣 .Λ) code.function) (λ κs. (LL.vals Hd.the-type Hd′.the-laws, (slice-vals, (slice-vals, (slice-vals, (slice-vals, tt))))))
+  meets : Meets 𝓤 H A f.signature (WpFn 𝓤 H (𝓣 .C) (𝓣 .Λ) code.function) (f.spec 𝓤 H A mem run)
+  meets = walk-through 𝓤 H A f.ended stayed W (goes-dropped 𝓤 H A W 4 (plain (λ _. Hd.the-row)) yes (λ κs x f. refl), (goes-dropped 𝓤 H A W 4 (shrSlice 0 tt (λ _. T.the-row)) yes (λ κs x f. refl), (goes-dropped 𝓤 H A W 4 (shrSlice 1 tt (λ _. u32)) yes (λ κs x f. refl), (goes-dropped 𝓤 H A W 4 (shrSlice 2 tt (λ _. u32)) yes (λ κs x f. refl), (goes-slice 𝓤 H A W 4 3 tt (plain (λ _. u8)), tt))))) (f.clauses 𝓤 H A mem run) 𝓣 code.function
+      (λ κs. (LL.vals Hd.the-type Hd′.the-laws, (slice-vals, (slice-vals, (slice-vals, (slice-vals, tt))))))
       (λ κs. (LL.tells Hd.the-type Hd′.the-laws, (shr-slice-tells (named 0) (κs .0) T.the-row, (shr-slice-tells (named 1) (κs .1 .0) u32, (shr-slice-tells (named 2) (κs .1 .1 .0) u32, (mut-slice-tells (named 3) (κs .1 .1 .1 .0) u8, tt))))))
       (λ κs qs bounds a g are. via 𝓤 _ (fst∗ 𝓤 _ (emp 𝓤)) (walk 𝓤 H A W mem run (κs .0) (κs .1 .0) (κs .1 .1 .0) (κs .1 .1 .1 .0) (qs .0) (qs .1 .0) (qs .1 .1 .0) (qs .1 .1 .1 .0)
       (a .0) (a .1 .0) (a .1 .1 .0) (a .1 .1 .1 .0) (a .1 .1 .1 .1 .0 .ptr .0) (a .1 .1 .1 .1 .0 .ptr .1) (a .1 .1 .1 .1 .0 .name) (a .1 .1 .1 .1 .0 .now) 𝓣 (fmOf 𝓤 H (W .laws) 𝓣) known-judge known-index known-answer known-refused
       (are .0) (are .1 .0 .0 .1) (are .1 .1 .0 .0 .1) (are .1 .1 .1 .0 .0 .1) (are .1 .1 .1 .1 .0 .0 .1)))
-
-  meets : Meets 𝓤 H A f.signature (WpFn 𝓤 H (𝓣 .C) (𝓣 .Λ) code.function) (f.spec 𝓤 H A mem run)
-  meets =
-      walk-meets 𝓤 H A f.ended stayed W
-      (goes-dropped 𝓤 H A W 4 (plain (λ _. Hd.the-row)) yes (λ κs x f. refl), (goes-dropped 𝓤 H A W 4 (shrSlice 0 tt (λ _. T.the-row)) yes (λ κs x f. refl), (goes-dropped 𝓤 H A W 4 (shrSlice 1 tt (λ _. u32)) yes (λ κs x f. refl), (goes-dropped 𝓤 H A W 4 (shrSlice 2 tt (λ _. u32)) yes (λ κs x f. refl), (goes-slice 𝓤 H A W 4 3 tt (plain (λ _. u8)), tt)))))
-      (f.clauses 𝓤 H A mem run) (WpFn 𝓤 H (𝓣 .C) (𝓣 .Λ) code.function) (WpFn-mono 𝓤 H (W .laws) 𝓣 code.function) walks
 
 pub write-spec : {M : Type 1} → stated.statement M
 unfolding code.routine tablesOf
