@@ -74,11 +74,32 @@ static void race(const char *name, size_t count, Head head, size_t m, Asked aske
     fflush(stdout);
 }
 
+// the least that any search through an index can take: a pass of memset over the buffers, and one that reads the series and the index
+static void floor_of(size_t count) {
+    size_t runs = rows[count - 1].first + rows[count - 1].runs;
+    double fa = 1e9;
+    volatile u64 seen = 0;
+    for (int k = 0; k < 15; k++) {
+        memset(&plain, k, sizeof plain); // others' memory in between, as in a race
+        double t0 = now();
+        memset(&mine, k, sizeof mine);
+        u64 sum = 0;
+        for (size_t i = 0; i < N; i++) sum += s[i];
+        for (size_t i = 0; i < runs; i++) sum += left[i] ^ right[i];
+        for (size_t i = 0; i < count; i++) sum += rows[i].low ^ rows[i].up;
+        seen = sum;
+        fa = least(fa, now() - t0);
+    }
+    (void)seen;
+    printf("buffers written once, series and index read once %8.2f ms\n", fa * 1e3);
+}
+
 // the four kinds, for a query that stands in the series with some noise
 static void races(u32 d, u32 g, size_t most) {
     Head head = {W, d, ROOM};
     size_t count = plain_build(s, N, W, d, g, rows, ROOM, left, right);
     printf("index of w=%d d=%u g=%u: %zu rows, %u runs\n", W, d, g, count, rows[count - 1].first + rows[count - 1].runs);
+    floor_of(count);
     for (size_t m = 256; m <= most; m *= 4)
         for (u32 kind = 0; kind < 2; kind++)
             for (u32 warped = 0; warped < 2; warped++)
