@@ -88,7 +88,7 @@ int main(void) {
         snprintf(name, sizeof name, "warped m=%d b=%d whole", m, b);
         RACE(name, cells, "1.2", curve_warped(s, nw, q, m, b, ~0ull, v1, m, w1, m, o1, N), plain_warped(s, nw, q, m, b, ~0ull, v2, m, w2, m, o2, N));
         snprintf(name, sizeof name, "warped m=%d b=%d left early", m, b);
-        RACE(name, cells, "1.2", curve_warped(s, nw, q, m, b, 100000000, v1, m, w1, m, o1, N), plain_warped(s, nw, q, m, b, 100000000, v2, m, w2, m, o2, N));
+        RACE(name, (double)stretches * 16, "1.2", curve_warped(s, n, q, m, b, 1000000, v1, m, w1, m, o1, N), plain_warped(s, n, q, m, b, 1000000, v2, m, w2, m, o2, N));
         snprintf(name, sizeof name, "normalised m=%d", m);
         RACE(name, (double)stretches * m, "1.5", curve_normal(s, n, v1, m, o1, N), plain_normal(s, n, v2, m, o2, N));
         snprintf(name, sizeof name, "envelopes m=%d b=%d", m, b);
