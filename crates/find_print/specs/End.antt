@@ -1,4 +1,4 @@
--- The end of the input: what refuses is printed (`refused-end`), and where nothing does, what was read is what the program was asked (`asked-end`). Assumes nothing.
+-- The end of the input: what refuses is printed (`refused-end`), and where nothing does, what was read is what the program was asked (`call-free`), and what it prints then is what document 01 says (`printed-end`). Assumes nothing.
 use mathlib.Core.Path.{_≡_, refl, sym, ap, _∙_, subst}
 use mathlib.Core.List.{List, [], _∷_}
 use mathlib.Core.Option.{none, some}

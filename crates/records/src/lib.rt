@@ -1,4 +1,4 @@
-// The lent row records: the few functions that take `&[Row]` or `&mut [Row]`. Everything above works on a `Row` by value, on a chunk of records by value, and on slices of numbers.
+// The lent row records: the functions that read, store, copy and clear them. Above, a function that takes `&[Row]` or `&mut [Row]` is thin and calls these; what it calls besides works on a `Row` by value, on a chunk of records by value, and on slices of numbers.
 ghost use mathlib.Core.Path.{_≡_};
 ghost use mathlib.Core.List.{_++_};
 ghost use Prim.Native.Nat.{_+_, _-_, _<_, _≤_};

@@ -1,4 +1,5 @@
 // Vectors for the programs that try cases: a text of whole numbers, read into numbers raised by 10^18, and taken out again. A place past the end has 0.
+
 // A number with one more digit; what is no digit makes it 0.
 pub fn with_digit(x: u64, c: u8) -> u64 {
     if c < b'0' {
