@@ -1,13 +1,13 @@
 -- The rows of an index, chunk by chunk: what is filed wrongly first from a place on is that of the chunk, or else of what comes after (`chunk-then`). Every row of a well-formed index can be read (`good-reads`), and so can what a chunk holds (`chunk-reads`). Assumes nothing.
 use mathlib.Core.Path.{_≡_, refl, sym, ap, subst, _∙_}
-use mathlib.Core.Bool.{Bool, true, false, cond, _&&_}
+use mathlib.Core.Bool.{true, _&&_}
 use mathlib.Core.List.{List, [], _∷_}
 use mathlib.Core.Option.{Option, none, some}
 use Prim.Native.Nat.{ℕ, zero, suc, _+_, _-_, _<_, _≤_}
 use native.Mathlib.Omega.{arith}
 use native.Mathlib.Decide.{decLe}
 use lib.Dec.{leb, ltb}
-use lib.IntN.{ℤ, pos, natAbs}
+use lib.IntN.{ℤ, pos}
 use lib.ListN.{length, getD, drop, drop-of-length-le, List·getD-eq-default}
 use borrow.Author.Tests.{leb-true, ltb-true}
 use Rattle.meaning_numbers.proofs.Tests.{both, by-test}

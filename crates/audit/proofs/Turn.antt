@@ -1,19 +1,18 @@
 -- The turns of the loops over a chunk's rows, their runs and the offsets of a run: what is filed wrongly first among what is left. A row begins (`row-begins`) and ends (`row-ends`), a run begins (`run-begins`) and ends (`run-ends`),
 -- an offset is filed right (`filed-right`) or wrongly (`filed-wrong`), and where no row is left none is (`none-left`). Assumes nothing.
 use mathlib.Core.Path.{_≡_, refl, sym, ap, _∙_}
-use mathlib.Core.Bool.{Bool, true, false, not, cond}
+use mathlib.Core.Bool.{Bool, true, false, cond}
 use mathlib.Core.List.{List, [], _∷_, _++_}
 use mathlib.Core.Option.{Option, none, some}
-use Prim.Native.Nat.{ℕ, zero, suc, _+_, _-_, _<_, _≤_}
+use Prim.Native.Nat.{ℕ, suc, _+_, _-_, _<_, _≤_}
 use native.Mathlib.Omega.{arith}
-use lib.IntN.{ℤ, pos}
-use lib.ListN.{length, getD, take, drop, drop-of-length-le}
+use lib.IntN.{ℤ}
+use lib.ListN.{length, getD, drop, drop-of-length-le}
 use Rattle.meaning_numbers.specs.Place.{numbersFrom}
 use Rattle.meaning_curves.specs.Curve.{windowSum}
 use Rattle.meaning_rows.specs.declared.Row.{Row}
 use Rattle.meaning_rows.specs.declared.Head.{Head}
 use Rattle.meaning_rows.specs.Range.{inside}
-use Rattle.meaning_rows.specs.Index.{Entry, entries}
 use Rattle.meaning_rows.specs.Audit.{offsets, wrongIn, wrongFrom}
 use Rattle.records.specs.Records.{zeroRow}
 use Rattle.records.proofs.Walk.{drop-next}

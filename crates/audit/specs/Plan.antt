@@ -1,8 +1,8 @@
 -- What the audit knows before it looks at the rows: the refusal, or how many windows the runs leave; how it begins, and what it answers where it ends. Assumes nothing.
-use mathlib.Core.Bool.{Bool, true, cond, not}
-use mathlib.Core.List.{List, []}
+use mathlib.Core.Bool.{cond}
+use mathlib.Core.List.{List}
 use mathlib.Core.Option.{Option, none, some}
-use Prim.Native.Nat.{ℕ, _+_, _-_, _≤_}
+use Prim.Native.Nat.{ℕ, _-_}
 use lib.Dec.{eqb}
 use lib.IntN.{ℤ, pos, _+ℤ_, _-ℤ_}
 use lib.ListN.{length}

@@ -1,6 +1,6 @@
 -- The state of an audit: that it goes on, or the row and offset filed wrongly. `Ready` is what the audit of a chunk of rows asks: every value in its limits, and every run of the rows inside the run buffer and the series. Assumes nothing.
 use mathlib.Core.Path.{_≡_}
-use mathlib.Core.Bool.{Bool, true, false, cond}
+use mathlib.Core.Bool.{true, false, cond}
 use mathlib.Core.List.{List, []}
 use mathlib.Core.Option.{Option, none, some}
 use Prim.Native.Nat.{ℕ, _+_, _<_, _≤_, _^_}

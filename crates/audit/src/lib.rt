@@ -1,7 +1,7 @@
 // The audit of a lent index against a series (01, Rows): refused, or yes, or the first row and offset filed wrongly, or how many windows stand nowhere. Any content may be lent. The sum slides inside a run: a value comes in, the window is tested, a value goes out, so no read needs a test.
 ghost use mathlib.Core.Path.{_≡_};
 ghost use mathlib.Core.Bool.{true};
-ghost use Prim.Native.Nat.{_+_, _-_, _<_, _≤_};
+ghost use Prim.Native.Nat.{_+_, _-_, _<_};
 ghost use Rattle.meaning_curves.specs.Curve.{windowSum};
 ghost use Rattle.meaning_curves.proofs.Values.{AllIn};
 ghost use lib.ListN.{length};

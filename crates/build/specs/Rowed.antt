@@ -1,8 +1,8 @@
 -- Rows that tile the sums, packed as records, are rows that the pass can fill (`packed-rowed`). Assumes nothing.
-use mathlib.Core.Path.{_≡_, refl, sym, ap, _∙_, subst}
-use mathlib.Core.Bool.{Bool, true, false, _||_}
+use mathlib.Core.Path.{_≡_, refl, sym, ap, _∙_}
+use mathlib.Core.Bool.{Bool, true, false}
 use mathlib.Core.List.{List, [], _∷_, map}
-use Prim.Native.Nat.{ℕ, zero, suc, _+_, _-_, _*_, _<_, _≤_}
+use Prim.Native.Nat.{ℕ, zero, suc, _+_, _<_, _≤_}
 use native.Mathlib.Omega.{arith}
 use lib.IntN.{ℤ, pos, negsuc, _+ℤ_}
 use lib.ListN.{length, getD, take, length-map}
@@ -11,7 +11,7 @@ use lib.Signed.{_≤ℤ_, _<ℤ_}
 use Rattle.meaning_numbers.specs.Place.{any}
 use Rattle.meaning_numbers.specs.Sum.{Σℕ}
 use Rattle.meaning_numbers.proofs.Sum.{Σℕ-same}
-use Rattle.meaning_numbers.proofs.Rep.{Rep, zarith, ≤ℤ-trans}
+use Rattle.meaning_numbers.proofs.Rep.{Rep, zarith}
 use Rattle.meaning_numbers.proofs.Tests.{by-test, clash}
 use Rattle.meaning_numbers.proofs.Member.{All, all-mem, mem-at}
 use Rattle.meaning_curves.specs.Curve.{windowSum}
@@ -21,14 +21,13 @@ use Rattle.meaning_rows.specs.Runs.{runs, runCount}
 use Rattle.meaning_rows.specs.Index.{records}
 use Rattle.meaning_rows.specs.Build.{SetRow, entry, withRuns}
 use Rattle.meaning_rows.proofs.Range.{row-below, row-above, up-is}
-use Rattle.meaning_rows.proofs.Build.{Fine, Gap, Chain, Tiled, Ends, covered, mergedRows, tiled-fine, built-tiled, built-covers, built-ends}
+use Rattle.meaning_rows.proofs.Build.{Fine, Chain, Tiled, Ends, covered, mergedRows, tiled-fine, built-tiled, built-covers, built-ends}
 use Rattle.meaning_rows.proofs.LaidAt.{records-at}
 use Rattle.records.specs.Records.{zeroRow}
 use Rattle.filing.specs.Levels.{Lent, windowsOf, level-is, level-small}
 use Rattle.pack.specs.PackedAs.{PackedAs}
 use Rattle.parts.specs.Filling.{partStart}
-use Rattle.fill.specs.Turn.{Small}
-use Rattle.fill.specs.Pass.{Home, Rowed}
+use Rattle.fill.specs.Pass.{Rowed}
 
 -- a row with no windows
 abbrev pub noRow : SetRow

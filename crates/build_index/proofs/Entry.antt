@@ -1,7 +1,7 @@
 -- The calls of the entry, each as one step of its walk, as in Calls.antt.
 -- Assumes `Given`, and that the table of calls is monotone under a frame, as every `Tables` is.
 use mathlib.Core.Path.{_≡_, refl}
-use Prim.Native.Nat.{ℕ, _-_, _<_, _^_}
+use Prim.Native.Nat.{ℕ, _<_, _^_}
 use mathlib.Core.List.{List, [], _∷_}
 use lib.IntN.{ℤ}
 use lib.ListN.{length}

@@ -3,7 +3,7 @@ use mathlib.Core.Path.{_≡_, refl, sym, ap, _∙_}
 use mathlib.Core.Bool.{Bool, true, false, not, cond, _||_}
 use mathlib.Core.List.{List, [], _∷_}
 use mathlib.Core.Option.{Option, none, some}
-use Prim.Native.Nat.{ℕ, suc, _+_, _-_, _*_, _<_, _≤_, min}
+use Prim.Native.Nat.{ℕ, suc, _+_, _*_, _≤_, min}
 use native.Mathlib.Omega.{arith}
 use lib.Dec.{ltb, eqb}
 use lib.IntN.{ℤ, pos}
@@ -13,11 +13,10 @@ use borrow.Author.Tests.{ne-eqb, eq-eqb}
 use Rattle.meaning_curves.specs.Limits.{mostValues, lengthIn, windowIn, widthIn, mergeIn, firstOutside}
 use Rattle.meaning_curves.specs.Curve.{windowCount}
 use Rattle.meaning_curves.proofs.Values.{AllIn, none-outside}
-use Rattle.meaning_rows.proofs.Judge.{Natural, between}
+use Rattle.meaning_rows.proofs.Judge.{between}
 use Rattle.meaning_entries.specs.Refusal.{Condition, firstRefusal, atZero, lengthOutside, valueOutside, windowOutside, widthOutside, mergeOutside, bufferShort}
 use Rattle.meaning_entries.specs.Buffers.{IndexBuffers}
 use Rattle.meaning_entries.specs.Build.{lentBuild, buildTable}
-use Rattle.values.specs.declared.Place.{Place}
 use Rattle.values.specs.declared.Place.the-variants.{At, Nowhere}
 use Rattle.values.specs.Place.{placed}
 use Rattle.build_plan.specs.declared.Plan.{Plan}

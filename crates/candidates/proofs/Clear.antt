@@ -1,9 +1,9 @@
 -- A buffer cleared from a place on, entry by entry (`clear-starts`, `clear-more`, `clear-ends`). Assumes nothing.
-use mathlib.Core.Path.{_≡_, refl, sym, ap, _∙_}
+use mathlib.Core.Path.{_≡_, sym, _∙_}
 use mathlib.Core.List.{List, [], _∷_, _++_, append-assoc, append-nil}
 use Prim.Native.Nat.{ℕ, _+_, _-_, _<_, _≤_}
 use native.Mathlib.Omega.{arith}
-use lib.ListN.{length, set, take, drop, replicate, length-append, length-replicate, length-take, length-drop, take-append-drop, drop-of-length-le, replicate-append-replicate}
+use lib.ListN.{length, set, take, drop, replicate, length-append, length-replicate, length-drop, take-append-drop, drop-of-length-le, replicate-append-replicate}
 use lib.Seq.{length-take-le}
 use Rattle.meaning_rows.proofs.Columns.{set-next}
 

@@ -1,13 +1,13 @@
 -- Runs at the front of two columns, cleared behind, are as they are handed out (`handed`). Assumes nothing.
 use mathlib.Core.Path.{_≡_, refl, sym, ap, _∙_}
-use mathlib.Core.Bool.{Bool, true, false}
+use mathlib.Core.Bool.{Bool}
 use mathlib.Core.List.{List, [], _∷_, _++_, map}
-use Prim.Native.Nat.{ℕ, _+_, _-_, _≤_}
+use Prim.Native.Nat.{ℕ, _-_, _≤_}
 use native.Mathlib.Omega.{arith}
 use lib.ListN.{length, take, drop, replicate, length-append, length-drop}
 use lib.Seq.{take-at}
-use Rattle.meaning_numbers.specs.Sum.{bit, count}
-use Rattle.meaning_rows.specs.Runs.{runs, runCount}
+use Rattle.meaning_numbers.specs.Sum.{count}
+use Rattle.meaning_rows.specs.Runs.{runs}
 use Rattle.meaning_rows.proofs.Runs.{runs-le}
 use Rattle.meaning_rows.proofs.Columns.{lefts, rights, length-lefts, length-rights}
 use Rattle.meaning_entries.specs.Buffers.{filled}

@@ -10,7 +10,7 @@ use Rattle.meaning_numbers.specs.Sum.{bit, count}
 use Rattle.meaning_numbers.proofs.Count.{bit-le, bit-false, count-more, never-count}
 use Rattle.meaning_rows.specs.Runs.{before, takeIn, runs, runCount}
 use Rattle.meaning_rows.proofs.Runs.{runs-more, runCount-more, before-more, runs-le}
-use Rattle.meaning_rows.proofs.Columns.{lefts, rights, putLeft, putRight, Filling, filling-next}
+use Rattle.meaning_rows.proofs.Columns.{putLeft, putRight, Filling, filling-next}
 use Rattle.candidates.specs.declared.Found.{Found}
 use Rattle.candidates.specs.Take.{Took}
 

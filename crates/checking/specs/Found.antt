@@ -14,7 +14,7 @@ use Rattle.meaning_curves.proofs.Values.{AllIn}
 use Rattle.meaning_rows.specs.Index.{Index}
 use Rattle.meaning_filter.specs.declared.Kind.{Kind}
 use Rattle.meaning_filter.specs.declared.Limits.{Limits}
-use Rattle.meaning_filter.specs.Matches.{Question, matches, distanceTo, matchesAt, listed, offsetCount, candidateAt, candidateRuns, matchList}
+use Rattle.meaning_filter.specs.Matches.{Question, distanceTo, matchesAt, listed, offsetCount, candidateAt, candidateRuns, matchList}
 use Rattle.meaning_rows.proofs.Runs.{Apart}
 use Rattle.meaning_entries.specs.Demand3.{pairs}
 use Rattle.values.specs.Sums.{AreSums}

@@ -8,7 +8,7 @@ use lib.Dec.{T, leb, leb→le, nleb→lt}
 use mir.Val.{boolByte}
 use native.Mathlib.Nat.{add-zero, mul-le-mul, mul-le-mul-left, mul-le-mul-right, le-div-iff-mul-le, div-lt-iff-lt-mul}
 use lib.IntN.{ℤ, pos, negsuc, negℤ, natAbs, _-ℤ_}
-use Rattle.meaning_numbers.proofs.Rep.{Rep, zarith, rep-pos, rep-sub, rep-by, rep-eq}
+use Rattle.meaning_numbers.proofs.Rep.{Rep, rep-pos, rep-sub, rep-by, rep-eq}
 use Rattle.meaning_numbers.specs.Root.{root}
 use Rattle.meaning_numbers.proofs.Root.{sq-le, le-of-sq-le, root-is}
 use Rattle.meaning_curves.specs.Curve.{spread}

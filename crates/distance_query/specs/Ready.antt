@@ -13,7 +13,6 @@ use Rattle.meaning_curves.proofs.Values.{AllIn, all-in}
 use Rattle.meaning_curves.proofs.Same.{Same, normalised-same}
 use Rattle.meaning_filter.specs.declared.Kind.{Kind}
 use Rattle.meaning_filter.specs.declared.Kind.the-variants.{Raw, Normal}
-use Rattle.meaning_filter.specs.Envelope.{lower, upper}
 use Rattle.numbers.specs.Raised.{raised}
 use Rattle.values.specs.Copy.{Copied}
 use Rattle.distance_normal.specs.Stretch.{Normalised, normalised-in}

@@ -5,7 +5,6 @@ use Prim.Native.Nat.{ℕ, suc, _+_, _-_, _*_, _<_, _≤_}
 use native.Mathlib.Omega.{arith}
 use native.Mathlib.Numerals.{add-one}
 use lib.IntN.{ℤ}
-use lib.ListN.{length}
 use Rattle.meaning_numbers.specs.Sum.{Σℕ}
 use Rattle.meaning_numbers.proofs.Sum.{Σℕ-same, Σℕ-le}
 use Rattle.meaning_curves.specs.Curve.{at, stretch}

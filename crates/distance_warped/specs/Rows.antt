@@ -11,9 +11,9 @@ use lib.ListN.{length, getD, set}
 use lib.Seq.{getD-set-same, getD-set-other}
 use lib.IntN.{ℤ}
 use Rattle.meaning_curves.specs.Straight.{cost}
-use Rattle.meaning_curves.specs.Warp.{Near, WarpPath, start, first, second, both}
+use Rattle.meaning_curves.specs.Warp.{Near, WarpPath, start, first, second}
 use Rattle.meaning_curves.specs.Table.{warped}
-use Rattle.meaning_curves.proofs.Table.{All, missing, there, Under, under, attained, least-total, warped-is}
+use Rattle.meaning_curves.proofs.Table.{All, missing, there, Under, under, attained, least-total}
 use Rattle.meaning_curves.proofs.Grid.{grid, coded, path-near, path-small, grid-start, grid-out, grid-top, grid-side, grid-inner, grid-distance}
 
 -- more than any total: 2048 times the greatest cost

@@ -1,22 +1,20 @@
 -- The runs of the extension's rows counted: what the counting asks (`countable`), whether the first new run joins (`joins`), and that the counts, less one where it does, are those of the extension's rows (`matches`). Assumes nothing.
-use mathlib.Core.Path.{_≡_, refl, sym, ap, _∙_, subst}
-use mathlib.Core.Bool.{Bool, true, false, _&&_, and-false}
+use mathlib.Core.Path.{_≡_, refl, sym, ap, _∙_}
+use mathlib.Core.Bool.{Bool, true, false, and-false}
 use mathlib.Core.List.{List, [], _∷_, map}
 use Prim.Native.Nat.{ℕ, zero, suc, _+_, _-_, _*_, _<_, _≤_}
 use native.Mathlib.Omega.{arith}
 use native.Mathlib.Decide.{decLt}
 use lib.Dec.{ltb, leb, eqb}
-use lib.IntN.{ℤ, pos, natAbs, _-ℤ_}
+use lib.IntN.{ℤ, pos, natAbs}
 use lib.ListN.{length, getD, set, length-map}
 use lib.Seq.{getD-set-same, getD-set-other}
-use lib.Signed.{_≤ℤ_}
 use borrow.Author.Tests.{lt-ltb, le-ltb, eqb-true, eqb-false, eq-eqb, ne-eqb}
 use Rattle.meaning_numbers.specs.Sum.{Σℕ, bit}
 use Rattle.meaning_numbers.proofs.Sum.{Σℕ-same}
 use Rattle.meaning_numbers.proofs.Count.{bit-true, bit-false}
 use Rattle.meaning_numbers.proofs.Rep.{zarith, z-sub}
 use Rattle.meaning_numbers.proofs.Tests.{by-test, clash}
-use Rattle.meaning_curves.specs.Limits.{lowestEnd}
 use Rattle.meaning_curves.specs.Curve.{windowSum, windowCount}
 use Rattle.meaning_rows.specs.declared.Row.{Row}
 use Rattle.meaning_rows.specs.Runs.{before, runCount}
@@ -29,19 +27,18 @@ use Rattle.meaning_rows.proofs.Extend.{Extendable}
 use Rattle.meaning_rows.proofs.Woven.{wovenRows, woven-ascends, grownRuns}
 use Rattle.meaning_rows.proofs.Grown.{lastEnds, old-count, length-entries}
 use Rattle.records.specs.Records.{zeroRow}
-use Rattle.filing.specs.Levels.{level, Lent, windowsOf}
+use Rattle.filing.specs.Levels.{level, Lent}
 use Rattle.tally.specs.Tally.{isRow}
 use Rattle.pack.specs.Packed.{total}
-use Rattle.parts.specs.Filling.{partsTotal}
 use Rattle.extend_rows.specs.Weave.{getD-past}
-use Rattle.extend_count.specs.Raise.{raisedEnd, EndRoom}
+use Rattle.extend_count.specs.Raise.{raisedEnd}
 use Rattle.extend_count.specs.Rank.{rank}
 use Rattle.extend_count.specs.Count.{rowFrom, Countable, Counted, counted-starts}
 use Rattle.extend_count.specs.Listed.{listed, endOf, sizeOf, Listable, listed-at, length-listed}
 use Rattle.extend_count.specs.Extension.{Ends, climbs, new-row, begun, first-in, has-first, first-joins, other-counts, first-count}
 use Rattle.extend_new.specs.New.{lessJoin}
 use Rattle.extend_lay.specs.OldRuns.{rowHas}
-use Rattle.extend_lay.specs.Records.{sizeAt, Matches}
+use Rattle.extend_lay.specs.Records.{Matches}
 use Rattle.extend.specs.Steps.{firstNew, joinsOf, SumAsked}
 use Rattle.extend.specs.Rowed.{ends-limits, size-is, total-most}
 use Rattle.extend.specs.Joined.{Joins}

@@ -2,7 +2,7 @@
 use mathlib.Core.Path.{_≡_, refl, sym, ap, _∙_, subst}
 use mathlib.Core.Bool.{Bool, true, false}
 use mathlib.Core.List.{List, map}
-use Prim.Native.Nat.{ℕ, zero, suc, _+_, _-_, _*_, _<_, _≤_}
+use Prim.Native.Nat.{ℕ, suc, _+_, _-_, _*_, _<_, _≤_}
 use native.Mathlib.Omega.{arith}
 use lib.IntN.{ℤ, natAbs}
 use lib.ListN.{length, getD, set, take, length-set}
@@ -23,11 +23,11 @@ use Rattle.meaning_rows.proofs.Parts.{Parts}
 use Rattle.meaning_rows.proofs.Cursors.{Cursors}
 use Rattle.records.specs.Records.{zeroRow}
 use Rattle.filing.specs.declared.Place.{Place}
-use Rattle.filing.specs.Levels.{Lent, windowsOf, level, level-is}
-use Rattle.filing.specs.Change.{Change, Stop}
-use Rattle.parts.specs.Filling.{partStart, partsTotal, parts-laid, Filling}
+use Rattle.filing.specs.Levels.{level, level-is}
+use Rattle.filing.specs.Change.{Change}
+use Rattle.parts.specs.Filling.{partStart, partsTotal, parts-laid}
 use Rattle.fill.specs.Turn.{At, raisedEnd, within-is, stop-held}
-use Rattle.fill.specs.Pass.{Passable, Passed, Rowed, rowed-once}
+use Rattle.fill.specs.Pass.{Passable, Rowed, rowed-once}
 use Rattle.extend_lay.specs.Copy.{columnTo, Copyable, length-column}
 use Rattle.extend_lay.specs.Columns.{column-past}
 use Rattle.extend_lay.specs.OldRuns.{rowHas, LaidRows, copyable, old-parts, old-cursors}

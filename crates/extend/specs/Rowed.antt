@@ -1,24 +1,24 @@
 -- The rows of an extension, laid out as records, are rows that the pass can fill from the old window count on (`extended-rowed`), and rows that the old runs can be copied to (`extended-laid`). Assumes nothing.
 use mathlib.Core.Path.{_≡_, refl, sym, ap, _∙_, subst}
-use mathlib.Core.Bool.{Bool, true, false}
-use mathlib.Core.List.{List, [], _∷_, map, List·Memᴰ as Mem}
-use Prim.Native.Nat.{ℕ, zero, suc, _+_, _-_, _<_, _≤_}
+use mathlib.Core.Bool.{Bool, true}
+use mathlib.Core.List.{List, map}
+use Prim.Native.Nat.{ℕ, _+_, _-_, _<_, _≤_}
 use native.Mathlib.Omega.{arith}
-use lib.IntN.{ℤ, pos, negsuc, natAbs}
+use lib.IntN.{ℤ, pos, natAbs}
 use lib.ListN.{length, getD, take, length-map}
 use lib.Seq.{getD-take}
-use lib.Signed.{_≤ℤ_, _<ℤ_, leZ}
+use lib.Signed.{_≤ℤ_, leZ}
 use Rattle.meaning_numbers.specs.Order.{within}
 use Rattle.meaning_numbers.specs.Sum.{Σℕ}
 use Rattle.meaning_numbers.proofs.Sum.{Σℕ-same}
-use Rattle.meaning_numbers.proofs.Rep.{zarith, z-sub}
+use Rattle.meaning_numbers.proofs.Rep.{zarith}
 use Rattle.meaning_numbers.proofs.Machine.{leZ-true}
 use Rattle.meaning_numbers.proofs.Tests.{both}
-use Rattle.meaning_numbers.proofs.Member.{All, all-mem, mem-all, mem-at}
+use Rattle.meaning_numbers.proofs.Member.{all-mem, mem-all, mem-at}
 use Rattle.meaning_curves.specs.Limits.{lowestEnd}
 use Rattle.meaning_curves.specs.Curve.{windowSum, windowCount}
 use Rattle.meaning_rows.specs.declared.Row.{Row}
-use Rattle.meaning_rows.specs.Range.{lowOf, upOf, inside}
+use Rattle.meaning_rows.specs.Range.{lowOf, upOf}
 use Rattle.meaning_rows.specs.Runs.{runs, runCount}
 use Rattle.meaning_rows.specs.Index.{Index, RangeRow, records, allRuns}
 use Rattle.meaning_rows.specs.Build.{entry, rowNumbers, withRuns}
@@ -31,9 +31,8 @@ use Rattle.meaning_rows.proofs.Woven.{newRow, all-woven, wovenRows, grownRuns, 
 use Rattle.meaning_rows.proofs.LaidAt.{records-at, runs-total}
 use Rattle.records.specs.Records.{zeroRow}
 use Rattle.parts.specs.Filling.{partStart, partsTotal, parts-laid}
-use Rattle.fill.specs.Turn.{Small}
-use Rattle.fill.specs.Pass.{Home, Rowed}
-use Rattle.extend_count.specs.Extension.{low-from, in-order, Holder, holder}
+use Rattle.fill.specs.Pass.{Rowed}
+use Rattle.extend_count.specs.Extension.{low-from, in-order, holder}
 use Rattle.extend_lay.specs.OldRuns.{rowHas, LaidRows}
 
 -- both ends of the range are good

@@ -1,14 +1,14 @@
 -- The row numbers of the new windows can be woven among the old rows (`weavable`), and the records made and cleared are the rows of the extension (`woven-rows`, `row-is`). Assumes nothing.
-use mathlib.Core.Path.{_≡_, refl, sym, ap, _∙_, subst}
-use mathlib.Core.Bool.{Bool, true, false}
-use mathlib.Core.List.{List, [], _∷_, _++_, map, List·Memᴰ as Mem}
-use Prim.Native.Nat.{ℕ, zero, suc, _+_, _-_, _*_, _/_, _<_, _≤_}
+use mathlib.Core.Path.{_≡_, refl, sym, ap, _∙_}
+use mathlib.Core.Bool.{true}
+use mathlib.Core.List.{List, _++_, map}
+use Prim.Native.Nat.{ℕ, zero, suc, _+_, _-_, _*_, _<_, _≤_}
 use native.Mathlib.Omega.{arith}
 use native.Mathlib.Decide.{decLt}
 use native.Mathlib.Nat.{div-mul-le-self}
 use lib.Dec.{ltb}
 use lib.IntN.{ℤ, pos, natAbs}
-use lib.ListN.{length, getD, take, drop, replicate, length-map, length-append, length-replicate, getD-replicate, List·getD-append}
+use lib.ListN.{length, getD, take, drop, replicate, length-map, length-append, length-replicate, List·getD-append}
 use lib.Seq.{getD-take, getD-append-add}
 use lib.Signed.{_≤ℤ_, _<ℤ_, leZ}
 use borrow.Author.Tests.{ltb-true}
@@ -16,12 +16,11 @@ use Rattle.meaning_numbers.specs.Order.{within}
 use Rattle.meaning_numbers.proofs.Rep.{zarith}
 use Rattle.meaning_numbers.proofs.Machine.{leZ-true}
 use Rattle.meaning_numbers.proofs.Tests.{by-test, both}
-use Rattle.meaning_numbers.proofs.Member.{All, all-mem, mem-all, mem-at}
+use Rattle.meaning_numbers.proofs.Member.{all-mem, mem-all, mem-at}
 use Rattle.meaning_curves.specs.Limits.{lowestEnd}
 use Rattle.meaning_curves.specs.Curve.{windowSum, windowCount}
 use Rattle.meaning_rows.specs.declared.Row.{Row}
 use Rattle.meaning_rows.specs.Index.{Index}
-use Rattle.meaning_rows.specs.Build.{rowNumbers}
 use Rattle.meaning_rows.proofs.Judge.{GoodEnd, GoodRow, WellFormed, each-row, ranges-ascend}
 use Rattle.meaning_rows.proofs.Build.{numbers-length}
 use Rattle.meaning_rows.proofs.Extend.{Extendable}
@@ -35,7 +34,7 @@ use Rattle.filing.specs.Picked.{Appended}
 use Rattle.tally.specs.Numbers.{lowered, table-only}
 use Rattle.tally.specs.Tally.{Rising}
 use Rattle.tally.specs.Rows.{table-rises}
-use Rattle.extend_rows.specs.Turn.{endLow, Cells}
+use Rattle.extend_rows.specs.Turn.{endLow}
 use Rattle.extend_rows.specs.Weave.{numbersOf, Weavable, Made, getD-past}
 use Rattle.extend_new.specs.New.{newTable, rest-lent, new-numbers}
 

@@ -1,6 +1,6 @@
 -- Counting the runs of new windows in their rows, by rank. Assumes nothing.
 use mathlib.Core.Path.{_≡_, refl, sym, ap, _∙_, subst}
-use mathlib.Core.Bool.{Bool, true, false, cond}
+use mathlib.Core.Bool.{true, false, cond}
 use mathlib.Core.List.{List}
 use Prim.Native.Nat.{ℕ, zero, suc, _+_, _-_, _<_, _≤_}
 use native.Mathlib.Omega.{arith}
@@ -12,12 +12,12 @@ use lib.Seq.{getD-set-same, getD-set-other}
 use borrow.Author.Tests.{leb-true, ltb-true, le-leb, lt-leb, lt-ltb, eqb-true, eqb-false, ne-eqb}
 use Rattle.meaning_numbers.proofs.Tests.{by-test, both, clash}
 use Rattle.meaning_rows.specs.Runs.{before, runCount}
-use Rattle.meaning_rows.proofs.Runs.{before-none, before-more, runs-le}
+use Rattle.meaning_rows.proofs.Runs.{before-none, before-more}
 use Rattle.meaning_rows.proofs.Parts.{stay-runs}
 use Rattle.meaning_rows.proofs.Columns.{runCount-none}
 use Rattle.filing.specs.Levels.{level, Lent, windowsOf, within}
 use Rattle.filing.specs.Change.{Stop, RowRun}
-use Rattle.tally.specs.Tally.{isRow, Fresh, fresh-next, run-mine, run-other}
+use Rattle.tally.specs.Tally.{isRow, Fresh, run-mine, run-other}
 use Rattle.pack.specs.Packed.{startOf}
 use Rattle.extend_count.specs.Rank.{rank, Climbing, rank-is, rank-under, rank-over}
 

@@ -1,22 +1,21 @@
 -- The counts of an extension are right: counting by rank, from each row's old runs on, gives the runs of the extension's rows, but for the first new run where it joins an old one (`counts-are`). Assumes nothing.
 use mathlib.Core.Path.{_≡_, refl, sym, ap, _∙_, subst}
-use mathlib.Core.Bool.{Bool, true, false, cond, _&&_, and-false, and-true}
+use mathlib.Core.Bool.{Bool, true, false, _&&_, and-false, and-true}
 use mathlib.Core.List.{List, [], _∷_, map}
 use Prim.Native.Nat.{ℕ, zero, suc, _+_, _-_, _*_, _<_, _≤_}
 use native.Mathlib.Omega.{arith}
 use native.Mathlib.Decide.{decLt}
 use lib.Dec.{eqb}
-use lib.IntN.{ℤ, pos, natAbs}
-use lib.ListN.{length, getD, set}
-use lib.Seq.{getD-set-same, getD-set-other}
+use lib.IntN.{ℤ, natAbs}
+use lib.ListN.{length, getD}
 use lib.Signed.{_≤ℤ_, _<ℤ_}
 use borrow.Author.Tests.{eq-eqb, ne-eqb, le-leb, lt-leb}
 use Rattle.meaning_numbers.specs.Sum.{bit}
 use Rattle.meaning_numbers.specs.Place.{any}
 use Rattle.meaning_numbers.proofs.Rep.{Rep, zarith}
-use Rattle.meaning_numbers.proofs.Count.{bit-true, bit-false}
+use Rattle.meaning_numbers.proofs.Count.{bit-false}
 use Rattle.meaning_numbers.proofs.Tests.{by-test, clash}
-use Rattle.meaning_numbers.proofs.Member.{All, all-mem, mem-at}
+use Rattle.meaning_numbers.proofs.Member.{all-mem, mem-at}
 use Rattle.meaning_curves.specs.Limits.{lowestEnd}
 use Rattle.meaning_curves.specs.Curve.{windowSum, windowCount}
 use Rattle.meaning_rows.specs.declared.Row.{Row}

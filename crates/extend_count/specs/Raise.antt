@@ -1,14 +1,12 @@
 -- An end of a range raised by a bias, 0 where that would be negative: a raised sum is tested against it as the sum against the end (`raised-le`). Assumes nothing.
-use mathlib.Core.Path.{_≡_, refl, sym, ap, _∙_}
-use mathlib.Core.Bool.{Bool, true, false, cond, not}
-use Prim.Native.Nat.{ℕ, _+_, _-_, _<_, _≤_}
+use mathlib.Core.Path.{_≡_}
+use mathlib.Core.Bool.{true, false, cond}
+use Prim.Native.Nat.{ℕ, _<_, _≤_}
 use native.Mathlib.Omega.{arith}
-use lib.Dec.{leb}
 use lib.IntN.{ℤ, pos, natAbs, _+ℤ_, _-ℤ_}
-use lib.Signed.{_≤ℤ_, _<ℤ_, leZ, ltZ}
-use borrow.Author.Tests.{leb-true, leb-false, le-leb, lt-leb}
-use Rattle.meaning_numbers.proofs.Rep.{Rep, rep-le, rep-lt, zarith, z-add, z-sub}
-use Rattle.meaning_numbers.proofs.Machine.{zmach, z-abs, ltZ-true, ltZ-false}
+use lib.Signed.{_≤ℤ_, _<ℤ_, ltZ}
+use Rattle.meaning_numbers.proofs.Rep.{Rep, zarith, z-add}
+use Rattle.meaning_numbers.proofs.Machine.{z-abs, ltZ-true, ltZ-false}
 use Rattle.meaning_numbers.proofs.Tests.{by-test}
 
 unfoldable pub raisedEnd : ℤ → ℕ → ℕ

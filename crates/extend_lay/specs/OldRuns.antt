@@ -1,9 +1,9 @@
 -- After both columns of the old run buffer are copied, each row's part holds the runs of its offsets below the old window count, and while it is not full its last right end has their number (`old-parts`, `old-cursors`). So the filling of the new
 -- windows can go on from there. Assumes nothing.
 use mathlib.Core.Path.{_≡_, refl, sym, ap, _∙_, subst}
-use mathlib.Core.Bool.{Bool, true, false}
-use mathlib.Core.List.{List, [], _∷_, map, List·Memᴰ as Mem}
-use Prim.Native.Nat.{ℕ, zero, suc, _+_, _-_, _<_, _≤_, min}
+use mathlib.Core.Bool.{Bool, true}
+use mathlib.Core.List.{List, [], _∷_}
+use Prim.Native.Nat.{ℕ, zero, suc, _+_, _-_, _<_, _≤_}
 use native.Mathlib.Omega.{arith}
 use native.Mathlib.Decide.{decLt}
 use lib.IntN.{ℤ, pos, natAbs}
@@ -17,7 +17,7 @@ use Rattle.meaning_numbers.proofs.Member.{All, all-mem, mem-all, mem-at}
 use Rattle.meaning_curves.specs.Limits.{lowestEnd}
 use Rattle.meaning_curves.specs.Curve.{windowSum, windowCount}
 use Rattle.meaning_rows.specs.declared.Row.{Row}
-use Rattle.meaning_rows.specs.Range.{lowOf, upOf}
+use Rattle.meaning_rows.specs.Range.{lowOf}
 use Rattle.meaning_rows.specs.Runs.{runs, runCount}
 use Rattle.meaning_rows.specs.Index.{Index, entries}
 use Rattle.meaning_rows.specs.Build.{rowNumbers}
@@ -30,10 +30,10 @@ use Rattle.meaning_rows.proofs.Parts.{Parts}
 use Rattle.meaning_rows.proofs.Cursors.{Cursors}
 use Rattle.meaning_rows.proofs.Extend.{Extendable}
 use Rattle.meaning_rows.proofs.Woven.{newRow, all-woven, wovenRows}
-use Rattle.meaning_rows.proofs.Grown.{Begun, begun-woven, old-runs, old-size, old-count, left-at, right-at, length-entries}
+use Rattle.meaning_rows.proofs.Grown.{Begun, begun-woven, old-runs, old-count, left-at, right-at, length-entries}
 use Rattle.records.specs.Records.{zeroRow}
 use Rattle.extend_rows.specs.Turn.{endLow, endRow}
-use Rattle.extend_lay.specs.Copy.{partSize, nextOld, passedTo, columnTo, CopyRoom, Copyable}
+use Rattle.extend_lay.specs.Copy.{partSize, nextOld, passedTo, columnTo, Copyable}
 use Rattle.extend_lay.specs.Passed.{PassedRow, own, new, passed-in, passed-row, passed-size}
 use Rattle.extend_lay.specs.Columns.{column-front, column-cursor}
 

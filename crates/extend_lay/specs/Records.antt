@@ -1,5 +1,5 @@
 -- Rows whose ranges and run counts are those of rows with their runs, laid out by the sums of the counts, are the records of these rows (`laid-records`). Assumes nothing.
-use mathlib.Core.Path.{_≡_, refl, sym, ap, _∙_}
+use mathlib.Core.Path.{_≡_, sym, _∙_}
 use mathlib.Core.List.{List, [], _∷_}
 use Prim.Native.Nat.{ℕ, zero, suc, _+_, _-_, _<_, _≤_}
 use native.Mathlib.Omega.{arith}
@@ -12,10 +12,10 @@ use Rattle.meaning_rows.specs.declared.Row.{Row}
 use Rattle.meaning_rows.specs.Index.{RangeRow, records}
 use Rattle.meaning_rows.proofs.Laid.{length-records}
 use Rattle.records.specs.Records.{zeroRow}
-use Rattle.pack.specs.Packed.{total, Summed, startOf}
+use Rattle.pack.specs.Packed.{Summed, startOf}
 use Rattle.meaning_rows.proofs.LaidAt.{Σℕ-shift}
 use Rattle.pack.specs.Records.{start-is}
-use Rattle.extend_lay.specs.Lay.{withPart, laidTo, EndsRoom, laid-at, length-laid}
+use Rattle.extend_lay.specs.Lay.{laidTo, EndsRoom, laid-at, length-laid}
 
 -- what stands past the last row
 abbrev noRow : RangeRow

@@ -7,7 +7,7 @@ use records::row_at;
 use records::row_or;
 ghost use mathlib.Core.Path.{_≡_};
 ghost use Prim.Native.Nat.{ℕ, _+_, _-_, _<_, _≤_};
-ghost use lib.ListN.{length, getD};
+ghost use lib.ListN.{length};
 ghost use Rattle.extend_lay.specs.Lay.{withPart, laidTo, EndsRoom};
 ghost use Rattle.extend_lay.specs.Copy.{partSize, written, partCopied, CopyRoom, oldPassed, columnTo, Copyable};
 

@@ -1,8 +1,8 @@
 -- The table of the row numbers of the windows from `old` on: lowered, it is the list of their row numbers (`new-numbers`). Assumes nothing.
-use mathlib.Core.Path.{_≡_, refl, sym, ap, _∙_}
+use mathlib.Core.Path.{_≡_, refl, ap, _∙_}
 use mathlib.Core.Bool.{Bool, true, false, cond}
 use mathlib.Core.List.{List, [], map}
-use Prim.Native.Nat.{ℕ, zero, suc, _+_, _-_, _*_, _<_, _≤_}
+use Prim.Native.Nat.{ℕ, zero, suc, _+_, _-_, _*_, _<_}
 use native.Mathlib.Omega.{arith}
 use lib.Dec.{ltb}
 use lib.IntN.{ℤ, pos}
@@ -13,9 +13,7 @@ use Rattle.meaning_numbers.specs.Sum.{Σℤ}
 use Rattle.meaning_numbers.proofs.Sum.{Σℤ-same}
 use Rattle.meaning_numbers.proofs.Tests.{by-test}
 use Rattle.meaning_curves.specs.Curve.{at, stretch, windowSum}
-use Rattle.meaning_curves.proofs.Values.{AllIn, InLimits}
-use Rattle.meaning_rows.specs.Range.{rowNumber}
-use Rattle.meaning_rows.specs.Build.{insert, rowNumbers}
+use Rattle.meaning_rows.specs.Build.{rowNumbers}
 use Rattle.filing.specs.Levels.{Lent, windowsOf}
 use Rattle.filing.specs.Table.{table}
 use Rattle.tally.specs.Numbers.{lowered, table-numbers}

@@ -4,7 +4,7 @@ use filing::list_rows;
 use filing::next_out;
 ghost use mathlib.Core.Path.{_≡_};
 ghost use mathlib.Core.Bool.{true};
-ghost use Prim.Native.Nat.{ℕ, _+_, _-_, _<_, _≤_};
+ghost use Prim.Native.Nat.{_+_, _-_, _<_, _≤_};
 ghost use lib.ListN.{length, getD};
 ghost use Rattle.filing.specs.Levels.{Lent, windowsOf};
 ghost use Rattle.filing.specs.Picked.{Appended};

@@ -1,5 +1,5 @@
 -- The plan of an extension, case by case. Assumes nothing.
-use mathlib.Core.Path.{_≡_, refl, sym, ap, _∙_}
+use mathlib.Core.Path.{_≡_, refl}
 use mathlib.Core.Bool.{Bool, true, false}
 use mathlib.Core.List.{List}
 use mathlib.Core.Option.{Option, none, some}
@@ -13,10 +13,8 @@ use Rattle.meaning_curves.specs.Limits.{mostValues, lengthIn, firstOutside}
 use Rattle.meaning_rows.specs.declared.Head.{Head}
 use Rattle.meaning_rows.proofs.Judge.{between}
 use Rattle.judge.specs.declared.Judged.{Judged}
-use Rattle.values.specs.declared.Place.{Place}
 use Rattle.values.specs.declared.Place.the-variants.{At, Nowhere}
 use Rattle.values.specs.Place.{placed}
-use Rattle.extend_plan.specs.declared.Plan.{Plan}
 use Rattle.extend_plan.specs.Plan.{refusedBy, free, roomed, judgedPlan, valuedPlan, planOf}
 
 pub long-most : (n : ℕ) → lengthIn mostValues n ≡ true → n ≤ 1048576

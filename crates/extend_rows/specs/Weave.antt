@@ -1,16 +1,15 @@
 -- The walk over old rows and row numbers: what it is given, what it has made after some turns (`Weaving`), how it begins, a turn (`weaving-turn`) and its end. Assumes nothing.
 use mathlib.Core.Path.{_≡_, refl, sym, ap, _∙_, subst}
 use mathlib.Core.Logic.{⊎-elim}
-use mathlib.Core.Bool.{Bool, true, false}
 use mathlib.Core.List.{List, [], _∷_, _++_, map, List·Memᴰ as Mem, List·Memᴰ·cases-cons as cases, List·Memᴰ·not-nil as not-nil, append-nil, append-assoc}
 use Prim.Native.Nat.{ℕ, zero, suc, _+_, _-_, _*_, _<_, _≤_}
 use native.Mathlib.Omega.{arith}
 use native.Mathlib.Numerals.{add-one}
 use native.Mathlib.Decide.{decLt}
 use lib.Dec.{ltb}
-use lib.IntN.{ℤ, pos, _+ℤ_, _-ℤ_}
+use lib.IntN.{ℤ, pos, _+ℤ_}
 use lib.ListN.{length, getD, set, take, drop, length-set, length-map, length-append, length-drop, drop-of-length-le, List·getD-map}
-use lib.Seq.{drop-cons, take-suc-set, take-set-le, getD-take, length-take-le, drop-length}
+use lib.Seq.{drop-cons, take-suc-set, take-set-le, getD-take, length-take-le}
 use lib.Signed.{_≤ℤ_, _<ℤ_, leZ, ltZ, ≤ℤ-refl}
 use borrow.Author.Tests.{lt-ltb, le-ltb}
 use Rattle.meaning_numbers.proofs.Rep.{zarith, z-sub, rep-eq, rep-pos, rep-sub, rep-mul}

@@ -3,10 +3,8 @@ use meaning_rows::Row;
 use numbers::lower;
 use records::row_or;
 ghost use mathlib.Core.Path.{_≡_};
-ghost use Prim.Native.Nat.{ℕ, _+_, _*_, _<_, _≤_};
-ghost use lib.IntN.{pos};
-ghost use lib.ListN.{length, getD};
-ghost use lib.Signed.{_≤ℤ_};
+ghost use Prim.Native.Nat.{_+_, _*_, _<_};
+ghost use lib.ListN.{length};
 ghost use Rattle.extend_rows.specs.Turn.{endRow, lowAt, chosenOf, oldAfter, numberAfter, madeAfter, Cells, Cell};
 ghost use Rattle.extend_rows.specs.Weave.{Weavable, Made};
 

@@ -1,11 +1,11 @@
 -- The table of the row numbers that windows have, ascending, over raised row numbers. A pass makes it from the least number to the greatest (`table-start`, `table-end`). Assumes nothing.
-use mathlib.Core.Path.{_≡_, refl, sym, ap, _∙_}
-use mathlib.Core.Bool.{Bool, true, false}
-use mathlib.Core.List.{List, [], _∷_, _++_, append-nil}
+use mathlib.Core.Path.{_≡_, sym, ap, _∙_}
+use mathlib.Core.Bool.{Bool}
+use mathlib.Core.List.{List, [], _++_, append-nil}
 use Prim.Native.Nat.{ℕ, _+_, _-_, _/_, _<_, _≤_}
 use native.Mathlib.Omega.{arith}
 use native.Mathlib.Decide.{decLe}
-use native.Mathlib.Nat.{div-le-self, le-div-iff-mul-le, div-mul-le-self, div-lt-iff-lt-mul, lt-div-mul-add}
+use native.Mathlib.Nat.{div-le-self, le-div-iff-mul-le, div-mul-le-self, div-lt-iff-lt-mul}
 use lib.IntN.{ℤ}
 use lib.ListN.{length, length-append}
 use Rattle.filing.specs.Levels.{level, rowOf, windowsOf, Lent, Bounds, level-small}

@@ -1,5 +1,5 @@
 -- The pass over the windows: rows as records with ranges and parts (`Rowed`), what holds where a turn begins (`Going`), and a turn over plain variables. Assumes nothing.
-use mathlib.Core.Path.{_≡_, refl, sym, ap, _∙_, subst}
+use mathlib.Core.Path.{_≡_, sym, ap, _∙_, subst}
 use mathlib.Core.Bool.{Bool, true, false}
 use mathlib.Core.List.{List}
 use Prim.Native.Nat.{ℕ, _+_, _-_, _<_, _≤_}
@@ -19,9 +19,9 @@ use Rattle.records.specs.Records.{zeroRow}
 use Rattle.filing.specs.declared.Place.{Place}
 use Rattle.filing.specs.Levels.{windowsOf}
 use Rattle.filing.specs.Change.{Change}
-use Rattle.layout.specs.Search.{Climbs, Found, Reached, FoundRow}
-use Rattle.parts.specs.Part.{written, PartRoom}
-use Rattle.parts.specs.Filling.{partStart, partsTotal, parts-laid, Filling, RunOf, some-left, cursor-is, filling-run}
+use Rattle.layout.specs.Search.{Climbs, Reached, FoundRow}
+use Rattle.parts.specs.Part.{written}
+use Rattle.parts.specs.Filling.{partStart, parts-laid, Filling, RunOf, some-left, cursor-is, filling-run}
 use Rattle.fill.specs.Turn.{Small, At, TurnAsked, Turned, change-held}
 
 -- window j stands in row `at`

@@ -1,14 +1,14 @@
 -- A turn of the pass: one run of windows with sums in the range of a row, filed in the row's part. A raised range holds a raised sum exactly if the range holds the sum (`within-is`). Assumes nothing.
-use mathlib.Core.Path.{_≡_, refl, sym, ap, _∙_}
-use mathlib.Core.Bool.{Bool, true, false}
+use mathlib.Core.Path.{_≡_, sym, _∙_}
+use mathlib.Core.Bool.{Bool, true}
 use mathlib.Core.List.{List}
 use Prim.Native.Nat.{ℕ, _+_, _-_, _*_, _<_, _≤_}
 use native.Mathlib.Omega.{arith}
 use native.Mathlib.Decide.{decLt}
 use lib.Dec.{leb, ltb}
 use lib.IntN.{ℤ, pos, negsuc}
-use lib.ListN.{length, getD, set}
-use lib.Signed.{_≤ℤ_, _<ℤ_}
+use lib.ListN.{set}
+use lib.Signed.{_≤ℤ_}
 use borrow.Author.Tests.{le-leb, lt-leb, lt-ltb, le-ltb}
 use Rattle.meaning_numbers.proofs.Rep.{Rep, up, dn, zarith}
 use Rattle.meaning_numbers.proofs.Tests.{clash}

@@ -8,7 +8,7 @@ use parts::file_run;
 ghost use mathlib.Core.Path.{_≡_};
 ghost use mathlib.Core.Bool.{Bool};
 ghost use Prim.Native.Nat.{ℕ, _+_, _*_, _<_, _≤_};
-ghost use lib.IntN.{ℤ, pos, negsuc};
+ghost use lib.IntN.{pos, negsuc};
 ghost use lib.Signed.{_≤ℤ_};
 ghost use Rattle.meaning_curves.specs.Curve.{windowSum};
 ghost use Rattle.fill.specs.Turn.{raisedEnd, At, TurnAsked, Turned};

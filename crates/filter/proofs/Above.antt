@@ -1,6 +1,6 @@
 -- The first row whose upper end is above a number: what a search finds is that place (`found-above`); every row before it ends at or below the number (`above-before`), and that row ends above it (`above-at`). Assumes nothing.
-use mathlib.Core.Path.{_≡_, refl, ap}
-use mathlib.Core.Bool.{true, false, cond}
+use mathlib.Core.Path.{_≡_}
+use mathlib.Core.Bool.{true, false}
 use mathlib.Core.List.{List, [], _∷_}
 use Prim.Native.Nat.{ℕ, zero, suc, _<_, _≤_}
 use native.Mathlib.Omega.{arith}

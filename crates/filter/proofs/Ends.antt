@@ -1,6 +1,6 @@
 -- A clamped end stands to every row end as it did (`clamp-le`, `clamp-lt`). Assumes nothing.
-use mathlib.Core.Path.{_≡_, refl, sym}
-use mathlib.Core.Bool.{Bool, true, false, cond, _&&_}
+use mathlib.Core.Path.{_≡_}
+use mathlib.Core.Bool.{true, false}
 use lib.IntN.{ℤ, pos, negsuc}
 use lib.Signed.{leZ, ltZ, _≤ℤ_, _<ℤ_}
 use Rattle.meaning_numbers.proofs.Machine.{zmach, leZ-true, lt-ltZ, le-ltZ}

@@ -9,11 +9,10 @@ use native.Mathlib.Decide.{decLt, decLe}
 use lib.Dec.{eqb, ltb}
 use lib.IntN.{ℤ, pos, natAbs}
 use lib.ListN.{length, getD, take, drop, length-take, length-drop, List·getD-eq-default}
-use lib.Seq.{getD-take, getD-drop, take-suc, take-length}
+use lib.Seq.{getD-take, getD-drop, take-length}
 use lib.Signed.{leZ, ltZ, _≤ℤ_, _<ℤ_}
-use borrow.Author.Tests.{ltb-true, ltb-false, lt-ltb, le-ltb, eq-eqb, ne-eqb}
+use borrow.Author.Tests.{ltb-true, ltb-false, lt-ltb, le-ltb, ne-eqb}
 use Rattle.meaning_numbers.specs.Place.{any}
-use Rattle.meaning_numbers.proofs.Rep.{zarith}
 use Rattle.meaning_numbers.proofs.Machine.{zmach, lt-ltZ, leZ-true, ltZ-true}
 use Rattle.meaning_numbers.proofs.Member.{any-mem, any-cong, all-mem, mem-at}
 use Rattle.meaning_numbers.proofs.Tests.{by-test, both, of-both}
@@ -25,7 +24,7 @@ use Rattle.meaning_filter.specs.Candidates.{met, admits}
 use Rattle.records.specs.Records.{zeroRow}
 use Rattle.layout.specs.Search.{Climbs}
 use Rattle.filter.specs.Met.{clampOf, firstAbove, endOf, reachedRuns, spanOf, metSpan}
-use Rattle.filter.proofs.Ends.{RowEnd, row-end, clamp-lt, clamp-le}
+use Rattle.filter.proofs.Ends.{row-end, clamp-lt, clamp-le}
 use Rattle.filter.proofs.Above.{above-le, above-before, above-at}
 
 -- ---- some entry passes, by its place

@@ -5,7 +5,7 @@ use ranges::Range;
 use records::row_or;
 ghost use mathlib.Core.Path.{_≡_};
 ghost use Prim.Native.Nat.{_-_, _≤_};
-ghost use lib.ListN.{length, getD};
+ghost use lib.ListN.{length};
 ghost use Rattle.layout.specs.Search.{Climbs};
 ghost use Rattle.records.specs.Records.{zeroRow};
 ghost use Rattle.filter.specs.Met.{clampOf, endOf, reachedRuns, spanOf, metSpan};

@@ -1,12 +1,10 @@
 -- The input as the program reads it, piece by piece: some text has been read, and n bytes more can be. Assumes nothing.
 use mathlib.Core.Path.{_≡_}
-use mathlib.Core.List.{List, [], _∷_, _++_}
+use mathlib.Core.List.{List, [], _++_}
 use Prim.Native.Nat.{ℕ, _+_, _<_, _≤_, _^_}
 use native.Mathlib.Omega.{arith}
-use lib.IntN.{ℤ, pos}
+use lib.IntN.{ℤ}
 use lib.ListN.{length}
-use Rattle.text_feed.specs.declared.Progress.{Progress}
-use Rattle.text_feed.specs.Feed.{Ready}
 use Rattle.text_lines.specs.Follow.{nothingSaid}
 use Rattle.text_feed.specs.Keep.{numbersOf}
 use Rattle.find_plan.specs.declared.Input.{Input}

@@ -1,11 +1,11 @@
 -- What is left in the text buffer: the list (`Listed`), the index and the list (`Prints`), and at the end of the input what the program prints (`Finishes`). Assumes nothing.
-use mathlib.Core.Path.{_≡_, refl, sym, ap, _∙_}
-use mathlib.Core.List.{List, [], _∷_, _++_}
-use mathlib.Core.Option.{none, some}
-use Prim.Native.Nat.{ℕ, _≤_, _<_, _^_}
+use mathlib.Core.Path.{_≡_}
+use mathlib.Core.List.{List}
+use mathlib.Core.Option.{none}
+use Prim.Native.Nat.{ℕ, _≤_}
 use lib.IntN.{ℤ}
 use lib.ListN.{length, take}
-use Rattle.meaning_text.specs.Texts.{foundText, refusedText}
+use Rattle.meaning_text.specs.Texts.{foundText}
 use Rattle.meaning_entries.specs.Search.{SearchCall, SearchBuffers, searchRefusal, searchMatches, searchCandidates}
 use Rattle.meaning_entries.specs.Demand2.{ProgramKept}
 use Rattle.text_put.specs.Put.{Put}

@@ -1,46 +1,42 @@
 -- What the program prints where nothing refuses it: its build and its search are not refused either (`build-free`, `search-free`), what is built stands in the buffers (`lent-is`), and its texts have room. Assumes nothing.
 use mathlib.Core.Path.{_≡_, refl, sym, ap, _∙_, subst}
-use mathlib.Core.Bool.{Bool, true, false, not, cond, _||_}
+use mathlib.Core.Bool.{Bool, true, false, not, _||_}
 use mathlib.Core.List.{List, [], _∷_, _++_, map}
-use mathlib.Core.Option.{Option, none, some}
-use Prim.Native.Nat.{ℕ, zero, suc, _+_, _-_, _<_, _≤_, _^_, min}
+use mathlib.Core.Option.{none, some}
+use Prim.Native.Nat.{ℕ, _+_, _-_, _<_, _≤_, _^_, min}
 use native.Mathlib.Omega.{arith}
 use lib.Dec.{T, ltb}
-use lib.IntN.{ℤ, pos, natAbs, _+ℤ_, _-ℤ_}
-use lib.ListN.{length, take, drop, replicate, length-append, length-map, length-replicate, length-take}
-use lib.Seq.{take-append-seam, take-at, drop-at}
+use lib.IntN.{ℤ, pos, natAbs, _-ℤ_}
+use lib.ListN.{length, take, drop, replicate, length-append, length-map, length-replicate}
+use lib.Seq.{take-append-seam}
 use lib.Signed.{ltZ, _≤ℤ_}
 use borrow.Author.Tests.{le-ltb, ltb-false}
 use Rattle.meaning_numbers.proofs.Rep.{zarith, z-add, z-sub}
 use Rattle.meaning_numbers.proofs.Machine.{le-ltZ}
-use Rattle.meaning_numbers.proofs.Tests.{is-true, is-false, not-not, neither, yes-not-not}
+use Rattle.meaning_numbers.proofs.Tests.{is-false, not-not, neither, yes-not-not}
 use Rattle.meaning_numbers.proofs.Count.{count-le}
 use Rattle.meaning_numbers.proofs.Between.{within-yes, yes-within}
-use Rattle.meaning_curves.specs.Limits.{mostValues, mostProgramValues, lengthIn, windowIn, widthIn, thresholdIn, queryLengthIn, firstOutside}
+use Rattle.meaning_curves.specs.Limits.{mostValues, mostProgramValues, lengthIn, windowIn, thresholdIn}
 use Rattle.meaning_curves.specs.Curve.{windowCount, windowSum}
 use Rattle.meaning_rows.specs.declared.Row.{Row}
-use Rattle.meaning_rows.specs.declared.Head.{Head}
 use Rattle.meaning_rows.specs.Runs.{runs}
-use Rattle.meaning_rows.specs.Index.{Index, Entry, RangeRow, entries, lent, allRuns}
+use Rattle.meaning_rows.specs.Index.{Index, Entry, entries, lent, allRuns}
 use Rattle.meaning_rows.specs.Build.{SetRow, entry, withRuns, builtRows, merged, filed, built}
-use Rattle.meaning_rows.proofs.Judge.{between, none-bad}
-use Rattle.meaning_rows.proofs.BuiltPasses.{Buildable, built-most}
-use Rattle.meaning_filter.specs.declared.Kind.{Kind}
-use Rattle.meaning_filter.specs.declared.Limits.{Limits}
-use Rattle.meaning_filter.specs.Matches.{Question, allMatches, offsetCount, candidateAt, candidateCount}
+use Rattle.meaning_rows.proofs.Judge.{none-bad}
+use Rattle.meaning_filter.specs.Matches.{allMatches, candidateAt, candidateCount}
 use Rattle.meaning_text.specs.Texts.{indexText, foundText}
 use Rattle.meaning_entries.specs.declared.Built.{Built}
 use Rattle.meaning_entries.specs.declared.Found.{Found}
 use Rattle.meaning_entries.specs.Demand3.{pairs}
-use Rattle.meaning_entries.specs.Refusal.{Condition, firstRefusal, atZero, lengthOutside, valueOutside, windowOutside, widthOutside, mergeOutside, queryLengthOutside, queryBelowWindow, bandOutside, thresholdOutside, scaleOrShiftOutside, flatQuery, illFormed, windowsOf, fewerWindows, moreWindows, bufferShort, listShort}
+use Rattle.meaning_entries.specs.Refusal.{atZero, lengthOutside, windowOutside, queryBelowWindow, thresholdOutside, illFormed, windowsOf, fewerWindows, moreWindows, bufferShort, listShort}
 use Rattle.meaning_entries.specs.Buffers.{IndexBuffers, filled, zeroRow, lefts, rights, indexIn}
 use Rattle.meaning_entries.specs.Answers.{headOf}
 use Rattle.meaning_entries.specs.Build.{BuildCall, lentBuild, buildTable, buildRefusal, buildIndex, buildAnswer, buildAfter}
-use Rattle.meaning_entries.specs.Write.{writeTable, writeRefusal, writeAnswer, writeAfter}
+use Rattle.meaning_entries.specs.Write.{writeTable, writeRefusal}
 use Rattle.meaning_entries.specs.Search.{SearchCall, SearchBuffers, lentSearch, searchTable, searchRefusal, searchAnswer, searchMatches, searchCandidates, question}
-use Rattle.meaning_entries.specs.Program.{ProgramCall, programIndex, programSearch, printed}
-use Rattle.meaning_entries.specs.Demand2.{BuildKept, WriteKept, SearchKept}
-use Rattle.meaning_entries.proofs.Refusal.{Passed, end, more, passed-is, is-passed, passed-at, not-if, query-some, scale-some}
+use Rattle.meaning_entries.specs.Program.{programIndex, printed}
+use Rattle.meaning_entries.specs.Demand2.{BuildKept, SearchKept}
+use Rattle.meaning_entries.proofs.Refusal.{Passed, end, more, passed-is, passed-at, not-if, query-some, scale-some}
 use Rattle.meaning_entries.proofs.Made.{build-passes, build-most}
 use Rattle.meaning_entries.proofs.Passes as Audit
 use Rattle.meaning_entries.proofs.Listed.{listed-is}

@@ -1,11 +1,11 @@
 -- How long the program's texts are at most, so that a buffer of 1,048,576 bytes holds them. Assumes nothing.
-use mathlib.Core.Path.{_≡_, refl, sym, ap, _∙_, subst}
-use mathlib.Core.Bool.{Bool, true, false, not, cond, _&&_}
-use mathlib.Core.List.{List, [], _∷_, _++_, map}
+use mathlib.Core.Path.{_≡_, ap, subst}
+use mathlib.Core.Bool.{true, not, _&&_}
+use mathlib.Core.List.{List, [], _∷_, map}
 use Prim.Native.Nat.{ℕ, zero, suc, _+_, _*_, _<_, _≤_, _^_}
 use native.Mathlib.Omega.{arith}
 use lib.Dec.{leb}
-use lib.IntN.{ℤ, pos, negsuc, natAbs}
+use lib.IntN.{ℤ, pos, negsuc}
 use lib.ListN.{length, length-append, length-map}
 use borrow.Author.Tests.{leb-true}
 use Rattle.meaning_numbers.specs.Place.{keep, numbersFrom}
@@ -22,9 +22,9 @@ use Rattle.meaning_filter.specs.declared.Kind.the-variants.{Raw, Normal}
 use Rattle.meaning_filter.specs.declared.Limits.{Limits}
 use Rattle.meaning_filter.specs.Matches.{Question, matches, distanceTo, matchesAt, listed, allMatches, offsetCount}
 use Rattle.meaning_text.specs.Bytes.{bytes}
-use Rattle.meaning_text.specs.Number.{spellℕ, spellℤ, Short}
+use Rattle.meaning_text.specs.Number.{spellℤ, Short}
 use Rattle.meaning_text.specs.Form.{Value, Spellable, Each, end, more, spell, spellMany}
-use Rattle.meaning_text.specs.Texts.{runForm, rowForm, indexForm, atForm, sayRow, sayIndex, indexText, foundText, refusedText}
+use Rattle.meaning_text.specs.Texts.{runForm, rowForm, indexForm, sayRow, sayIndex, indexText, foundText, refusedText}
 use Rattle.meaning_entries.proofs.Again.{spelled}
 use Rattle.text_put.specs.Digits.{length-most}
 use Rattle.text_list.specs.Found.{matchText, matchesText, found-parts}

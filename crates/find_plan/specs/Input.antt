@@ -13,7 +13,7 @@ use Rattle.meaning_text.proofs.Automaton.{Fed, going, failed, feed, feed-append
 use Rattle.meaning_text.proofs.Lines.{newlines-length, line-behind}
 use Rattle.text_lines.specs.declared.State.{State}
 use Rattle.text_lines.specs.declared.Word.{Word}
-use Rattle.text_lines.specs.Step.{GoodState, word-long}
+use Rattle.text_lines.specs.Step.{word-long}
 use Rattle.text_lines.specs.Follow.{Said, nothingSaid, Reading, step, programStart}
 use Rattle.text_feed.specs.declared.Progress.{Progress}
 use Rattle.text_feed.specs.declared.Feeding.{Feeding}

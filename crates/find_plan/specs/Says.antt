@@ -3,10 +3,10 @@ use mathlib.Core.Path.{_≡_, refl, sym, ap, _∙_, subst}
 use mathlib.Core.Bool.{Bool, true, false, not, cond, _||_}
 use mathlib.Core.List.{List, [], _∷_, _++_, map}
 use mathlib.Core.Logic.{_⊎_, inl, inr}
-use mathlib.Core.Option.{Option, none, some}
-use Prim.Native.Nat.{ℕ, _+_, _<_, _≤_, _^_}
+use mathlib.Core.Option.{none, some}
+use Prim.Native.Nat.{ℕ, _+_, _≤_}
 use native.Mathlib.Omega.{arith}
-use lib.Dec.{T, ltb}
+use lib.Dec.{ltb}
 use lib.IntN.{ℤ, pos, negsuc, natAbs, _-ℤ_}
 use lib.ListN.{length, take, drop}
 use lib.Seq.{sets, sets-eq, length-sets, take-append-seam}
@@ -15,9 +15,9 @@ use borrow.Author.Tests.{ltb-false}
 use Rattle.meaning_numbers.proofs.Rep.{zarith, z-sub}
 use Rattle.meaning_numbers.proofs.Machine.{le-ltZ}
 use Rattle.meaning_numbers.proofs.Tests.{by-test, not-not, neither}
-use Rattle.meaning_numbers.proofs.Between.{Between, within-yes}
+use Rattle.meaning_numbers.proofs.Between.{within-yes}
 use Rattle.meaning_curves.specs.Limits.{mostProgramValues, valueIn, firstOutside, windowIn, widthIn, mergeIn, bandIn, thresholdIn, scaleIn, shiftIn}
-use Rattle.meaning_curves.proofs.Values.{AllIn, yes-value, none-outside}
+use Rattle.meaning_curves.proofs.Values.{yes-value, none-outside}
 use Rattle.meaning_text.specs.Read.{readText, fine, unfit, lineOf}
 use Rattle.meaning_text.specs.Texts.{programForm, kindSaid}
 use Rattle.meaning_text.proofs.Automaton.{Fed, going, failed}
@@ -25,7 +25,6 @@ use Rattle.meaning_text.proofs.Reading.{on-flag}
 use Rattle.meaning_entries.specs.Refusal.{Condition, firstRefusal, lengthOutside, valueOutside, windowOutside, widthOutside, mergeOutside, queryLengthOutside, queryBelowWindow, bandOutside, thresholdOutside, scaleOrShiftOutside, flatQuery, badLine, unreadable}
 use Rattle.meaning_entries.specs.Program.{ProgramCall, programSaid, textProgram, programTable}
 use Rattle.meaning_entries.proofs.Refusal.{Passed, end, more, judged, First, first-is, first-left, first-right, passed-at, not-if}
-use Rattle.conditions.specs.declared.Refusal.{Refusal}
 use Rattle.conditions.specs.Refusal.{refusalOf, asRefusal, place-is, place-none}
 use Rattle.text_lines.specs.declared.State.{State}
 use Rattle.text_lines.specs.Follow.{Said, Reading, programStart, programValue, program-comes, acceptState}
@@ -38,7 +37,7 @@ use Rattle.text_feed.specs.Whole.{text-short, program-failed, program-done}
 use Rattle.find_plan.specs.declared.Input.{Input}
 use Rattle.find_plan.specs.declared.Numbers.{Numbers}
 use Rattle.find_plan.specs.Input.{fed, Stands, Open, going-is}
-use Rattle.find_plan.specs.Tables.{numbersAt, kindOf, firstOut, valuesTable, numbersTable, callTable, isDone, endTable, Sound, SoundEnd, Upto, Limited, askedOf, callOf}
+use Rattle.find_plan.specs.Tables.{numbersAt, kindOf, firstOut, valuesTable, numbersTable, callTable, isDone, endTable, SoundEnd, Upto, Limited, askedOf, callOf}
 use Rattle.find_plan.specs.Text.{series-few, series-in, query-in, query-few}
 
 -- ---- values that were kept

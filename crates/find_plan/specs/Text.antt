@@ -1,8 +1,8 @@
 -- What the table over what was kept says of the text. Assumes nothing.
 use mathlib.Core.Path.{_≡_, refl, sym, ap, _∙_}
 use mathlib.Core.Bool.{Bool, true, false, not, cond, _&&_, _||_}
-use mathlib.Core.Option.{Option, none, some}
-use mathlib.Core.List.{List, [], _∷_, _++_}
+use mathlib.Core.Option.{none, some}
+use mathlib.Core.List.{List, [], _∷_}
 use Prim.Native.Nat.{ℕ, _+_, _<_, _≤_, _^_}
 use lib.Dec.{T, leb, ltb}
 use borrow.Author.Tests.{not-true, not-false, lt-ltb, le-ltb}
@@ -10,7 +10,7 @@ use native.Mathlib.Omega.{arith}
 use lib.IntN.{ℤ, pos, negsuc}
 use mir.Syntax.{w64}
 use mir.Val.{toZ}
-use lib.ListN.{length, take}
+use lib.ListN.{length}
 use lib.Signed.{ltZ, leZ}
 use Rattle.meaning_numbers.proofs.Machine.{ltZ-true, ltZ-false, z-cast}
 use Rattle.meaning_numbers.proofs.Rep.{up, dn, zarith}

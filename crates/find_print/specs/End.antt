@@ -1,7 +1,6 @@
 -- The end of the input: what refuses is printed (`refused-end`), and where nothing does, what was read is what the program was asked (`call-free`), and what it prints then is what document 01 says (`printed-end`). Assumes nothing.
-use mathlib.Core.Path.{_≡_, refl, sym, ap, _∙_, subst}
-use mathlib.Core.List.{List, [], _∷_}
-use mathlib.Core.Option.{none, some}
+use mathlib.Core.Path.{_≡_, sym, ap, _∙_, subst}
+use mathlib.Core.List.{List, _∷_}
 use Prim.Native.Nat.{ℕ, _+_, _<_, _≤_, _^_}
 use native.Mathlib.Omega.{arith}
 use lib.Dec.{T}
@@ -9,16 +8,16 @@ use lib.IntN.{ℤ}
 use lib.ListN.{length, take, drop}
 use lib.Seq.{take-append-seam}
 use Rattle.meaning_text.specs.Texts.{refusedText}
-use Rattle.meaning_entries.specs.Refusal.{Condition, firstRefusal, unreadable, lengthOutside, valueOutside, windowOutside, widthOutside, mergeOutside, queryLengthOutside, queryBelowWindow, bandOutside, thresholdOutside, scaleOrShiftOutside, flatQuery}
-use Rattle.meaning_entries.specs.Program.{ProgramCall, programTable, textProgram, printed, program}
-use Rattle.meaning_entries.proofs.Refusal.{Passed, more, is-passed, passed-is, passed-at, lacks}
+use Rattle.meaning_entries.specs.Refusal.{Condition, unreadable, lengthOutside, valueOutside, windowOutside, widthOutside, mergeOutside, queryLengthOutside, queryBelowWindow, bandOutside, thresholdOutside, scaleOrShiftOutside, flatQuery}
+use Rattle.meaning_entries.specs.Program.{ProgramCall, programTable, printed, program}
+use Rattle.meaning_entries.proofs.Refusal.{Passed, more, passed-is, passed-at, lacks}
 use Rattle.conditions.specs.declared.Refusal.{Refusal}
 use Rattle.conditions.specs.Refusal.{refusalOf, passes, refuses}
 use Rattle.text_put.specs.Put.{Put, put-room, put-length}
 use Rattle.text_feed.specs.declared.Progress.{Progress}
 use Rattle.find_plan.specs.declared.Input.{Input}
 use Rattle.find_plan.specs.Input.{Stands}
-use Rattle.find_plan.specs.Tables.{numbersAt, endTable, SoundEnd, Limited, askedOf, callOf, valuesTable, numbersTable, callTable}
+use Rattle.find_plan.specs.Tables.{numbersAt, endTable, SoundEnd, askedOf, callOf, valuesTable, numbersTable, callTable}
 use Rattle.find_plan.specs.Says.{stands-sound, end-is, Given, asked-is, callLines, table-is}
 use Rattle.find_answer.specs.Sizes.{refused-size}
 use Rattle.find_answer.specs.Finish.{Prints, Reached, Finishes}

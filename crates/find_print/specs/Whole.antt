@@ -1,9 +1,8 @@
 -- The index and the list in the text buffer, where nothing refuses the program (`prints`). Assumes nothing.
-use mathlib.Core.Path.{_≡_, refl, sym, ap, _∙_, subst}
+use mathlib.Core.Path.{_≡_, sym, _∙_, subst}
 use mathlib.Core.Bool.{not, _||_}
-use mathlib.Core.List.{List, _++_}
-use mathlib.Core.Option.{none}
-use Prim.Native.Nat.{ℕ, _+_, _≤_}
+use mathlib.Core.List.{List}
+use Prim.Native.Nat.{ℕ, _≤_}
 use native.Mathlib.Omega.{arith}
 use lib.IntN.{ℤ, pos}
 use lib.ListN.{length, take}
@@ -19,7 +18,6 @@ use Rattle.meaning_text.specs.Texts.{indexText, foundText}
 use Rattle.meaning_entries.specs.declared.Built.{Built}
 use Rattle.meaning_entries.specs.declared.Written.{Written}
 use Rattle.meaning_entries.specs.Refusal.{windowOutside}
-use Rattle.meaning_entries.specs.Buffers.{filled}
 use Rattle.meaning_entries.specs.Answers.{headOf, writtenCount}
 use Rattle.meaning_entries.specs.Build.{lentBuild}
 use Rattle.meaning_entries.specs.Write.{writeCount, writeAfter}
@@ -28,7 +26,6 @@ use Rattle.meaning_entries.specs.Program.{printed}
 use Rattle.meaning_entries.specs.Demand2.{BuildKept, WriteKept}
 use Rattle.meaning_entries.proofs.Refusal.{Passed, passed-at, not-if}
 use Rattle.meaning_entries.proofs.Made.{build-most}
-use Rattle.text_put.specs.Put.{Put}
 use Rattle.build.specs.Filled.{buffers}
 use Rattle.find_plan.specs.declared.Asked.{Asked}
 use Rattle.find_plan.specs.Tables.{callOf}

@@ -3,7 +3,6 @@ use meaning_rows::Row;
 use records::row_at;
 ghost use mathlib.Core.Path.{_≡_};
 ghost use Prim.Native.Nat.{_+_, _-_, _<_, _≤_};
-ghost use lib.ListN.{length, getD};
 ghost use Rattle.layout.specs.Search.{midOf, nextLo, nextHi, Climbs, Found, Reached, FoundRow};
 
 pub fn middle(lo: usize, hi: usize) -> usize

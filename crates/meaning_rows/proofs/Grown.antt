@@ -1,14 +1,13 @@
 -- The runs of a row of an extension: below the old window count they are the row's old runs (`old-runs`, `left-at`, `right-at`), and below n as many as these and the runs of its new windows, less one where
 -- the first new run joins the last old one (`onward-count`), which is told by the end of the last old run (`joins-old`). Assumes nothing.
 use mathlib.Core.Path.{_≡_, refl, sym, ap, _∙_, subst}
-use mathlib.Core.Bool.{Bool, true, false, not, _&&_, and-false}
+use mathlib.Core.Bool.{Bool, true, false, not, _&&_}
 use mathlib.Core.List.{List, [], _∷_, map}
 use Prim.Native.Nat.{ℕ, zero, suc, _+_, _-_, _<_, _≤_, min}
 use native.Mathlib.Omega.{arith}
-use native.Mathlib.Numerals.{add-one}
 use lib.Dec.{leb, eqb}
 use lib.IntN.{ℤ, pos, natAbs}
-use lib.ListN.{length, getD, take, drop, length-map, length-drop, List·getD-map}
+use lib.ListN.{length, getD, take, drop, length-map, List·getD-map}
 use lib.Seq.{getD-take, getD-drop}
 use borrow.Author.Tests.{leb-true, le-leb, lt-leb, eq-eqb, ne-eqb}
 use Rattle.meaning_numbers.specs.Sum.{bit}
@@ -17,7 +16,7 @@ use Rattle.meaning_numbers.proofs.Tests.{by-test}
 use Rattle.meaning_numbers.proofs.Member.{All, all-mem, mem-all}
 use Rattle.meaning_rows.specs.declared.Row.{Row}
 use Rattle.meaning_rows.specs.Runs.{before, runs, runCount}
-use Rattle.meaning_rows.specs.Index.{Index, Entry, entries, runsOf, inRun, stands}
+use Rattle.meaning_rows.specs.Index.{Index, Entry, entries, runsOf, inRun}
 use Rattle.meaning_rows.specs.Build.{entry}
 use Rattle.meaning_rows.specs.Extend.{grown}
 use Rattle.meaning_rows.proofs.Runs.{Apart, Next, held, entries-hold, runs-cong, apart-runs, runs-next, runCount-more, before-none, before-more}

@@ -1,7 +1,7 @@
 -- Rows laid out in order, by place: record i begins where the parts before end (`records-at`), all parts together are as long as their sizes added up (`runs-total`), and a column of a run buffer whose parts hold the runs of the rows has the rows' run entries in order (`column-at`). Assumes nothing.
 use mathlib.Core.Path.{_≡_, refl, sym, ap, _∙_}
 use mathlib.Core.List.{List, [], _∷_, _++_, map}
-use Prim.Native.Nat.{ℕ, zero, suc, _+_, _-_, _<_, _≤_}
+use Prim.Native.Nat.{ℕ, zero, suc, _+_, _-_, _<_}
 use native.Mathlib.Omega.{arith}
 use native.Mathlib.Decide.{decLt}
 use lib.ListN.{length, getD, length-append, length-map, List·getD-append}

@@ -4,7 +4,7 @@ use mathlib.Core.Bool.{Bool, true, false, not, _&&_}
 use mathlib.Core.List.{List, [], _∷_, _++_}
 use Prim.Native.Nat.{ℕ, zero, suc, _+_, _<_, _≤_}
 use native.Mathlib.Omega.{arith}
-use lib.ListN.{length, getD}
+use lib.ListN.{getD}
 use Rattle.meaning_numbers.specs.Sum.{bit}
 use Rattle.meaning_rows.specs.Runs.{before, reach, takeIn, runs, runCount}
 use Rattle.meaning_rows.proofs.Runs.{runs-more, runCount-more, before-more}

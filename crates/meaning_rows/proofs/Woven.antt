@@ -2,7 +2,7 @@
 -- is kept (`weave-inside`, `weave-new`, `weave-old`). Laid out with their runs, the records that the walk makes are the rows of the extension (`woven-extended`). Assumes nothing.
 use mathlib.Core.Path.{_≡_, refl, sym, ap, _∙_, subst}
 use mathlib.Core.Logic.{⊎-elim}
-use mathlib.Core.Bool.{Bool, true, false, cond, not, _&&_}
+use mathlib.Core.Bool.{Bool, true, false, cond, not}
 use mathlib.Core.List.{List, [], _∷_, map, List·Memᴰ as Mem, List·Memᴰ·head as here, List·Memᴰ·tail as there, List·Memᴰ·not-nil as not-nil, List·Memᴰ·cases-cons as cases}
 use Prim.Native.Nat.{ℕ, suc, _+_, _-_, _<_, _≤_}
 use native.Mathlib.Omega.{arith}
@@ -12,10 +12,10 @@ use lib.ListN.{length, length-map}
 use lib.Signed.{_≤ℤ_, _<ℤ_, ltZ}
 use Rattle.meaning_numbers.specs.Place.{any}
 use Rattle.meaning_numbers.proofs.Rep.{zarith, *ℤ-mono}
-use Rattle.meaning_numbers.proofs.Machine.{ltZ-false, lt-ltZ, le-ltZ}
+use Rattle.meaning_numbers.proofs.Machine.{lt-ltZ, le-ltZ}
 use Rattle.meaning_numbers.proofs.Quotient.{floor-most}
 use Rattle.meaning_numbers.proofs.Tests.{by-test, clash}
-use Rattle.meaning_numbers.proofs.Member.{any-cong, any-map, All, all-mem, mem-all}
+use Rattle.meaning_numbers.proofs.Member.{any-cong, any-map, All, all-mem}
 use Rattle.meaning_curves.specs.Limits.{lowestEnd}
 use Rattle.meaning_curves.specs.Curve.{windowSum, windowCount}
 use Rattle.meaning_rows.specs.declared.Row.{Row}
@@ -30,7 +30,7 @@ use Rattle.meaning_rows.proofs.Times.{Range, holds, Ascending}
 use Rattle.meaning_rows.proofs.Build.{range, Above, Sorted, mem-above, sorted-unique, numbers-sorted, numbers-mem, numbers-occur}
 use Rattle.meaning_rows.proofs.Judge.{GoodEnd, GoodRow, WellFormed, rangeOf, each-row}
 use Rattle.meaning_rows.proofs.Laid.{length-records}
-use Rattle.meaning_rows.proofs.Extend.{NewAt, Extendable, rows, ascends, covers-new, extended-most, insert-here, insert-later, new-sorted, new-mem, new-occur, beside}
+use Rattle.meaning_rows.proofs.Extend.{Extendable, rows, ascends, covers-new, extended-most, new-sorted, new-mem, new-occur, beside}
 
 -- the record of a new row, which has no run yet
 unfoldable pub newRow : ℕ → ℤ → Row

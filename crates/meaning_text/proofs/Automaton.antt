@@ -1,5 +1,5 @@
 -- Reading byte by byte, for any form: an automaton whose every state has a reader for what is left of the text (`Onward`), such that a byte takes a state to one that reads the rest alike, comes to what `readText` says, whatever the pieces in which the text comes. Assumes nothing.
-use mathlib.Core.Path.{_≡_, refl, sym, ap, _∙_, subst}
+use mathlib.Core.Path.{_≡_, refl, ap, _∙_}
 use mathlib.Core.List.{List, [], _∷_, _++_}
 use mathlib.Core.Option.{Option, none, some}
 use Prim.Native.Nat.{ℕ, suc, _+_, _-_, _<_, _≤_}

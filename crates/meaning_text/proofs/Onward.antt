@@ -1,5 +1,5 @@
 -- Reading on: a form read, and then what is left of the text by a function of the value. So every place inside a form has its own reader for the rest, and a byte takes one such reader to the next: this is what an automaton follows (`Automaton`). Assumes nothing.
-use mathlib.Core.Path.{_≡_, refl, sym, ap, _∙_, fun-ext}
+use mathlib.Core.Path.{_≡_, refl, ap, _∙_, fun-ext}
 use mathlib.Core.List.{List, [], _∷_, _++_}
 use mathlib.Core.Bool.{Bool, true, false}
 use Prim.Native.Nat.{ℕ, zero, suc, _<_, _≤_}
@@ -8,12 +8,11 @@ use native.Mathlib.Omega.{arith}
 use lib.Dec.{eqb}
 use lib.ListN.{length, getD, drop, drop-of-length-le, length-append}
 use lib.Seq.{drop-cons}
-use borrow.Author.Tests.{eq-eqb}
 use Rattle.meaning_text.specs.Bytes.{bytes}
 use Rattle.meaning_text.specs.Number.{Read, got, bad}
-use Rattle.meaning_text.specs.Form.{Form, number, oneOf, lead, trail, both, many, Value, Spellable, spell, readWord, thenRead, wordStarts, starts, readOne, readMany, read}
-use Rattle.meaning_text.proofs.Reading.{on-flag, false-true, and-true, Begun, begun, Taken, Outcome}
-use Rattle.meaning_text.proofs.Form.{decided, firm, clear, follows, theForm, form-read}
+use Rattle.meaning_text.specs.Form.{Form, oneOf, lead, trail, both, many, Value, spell, readWord, thenRead, wordStarts, starts, readOne, readMany, read}
+use Rattle.meaning_text.proofs.Reading.{on-flag, Begun, begun, Taken}
+use Rattle.meaning_text.proofs.Form.{decided, theForm, form-read}
 
 -- a reader of what is left of a text
 abbrev pub Rest : Type 0 → Type 0

@@ -2,7 +2,7 @@
 use filing::in_range;
 use meaning_rows::Row;
 ghost use mathlib.Core.Path.{_≡_};
-ghost use Prim.Native.Nat.{ℕ, _+_, _≤_};
+ghost use Prim.Native.Nat.{_+_, _≤_};
 ghost use lib.ListN.{length};
 ghost use Rattle.meaning_numbers.specs.Sum.{count};
 ghost use Rattle.merge.specs.Names.{namesOf};

@@ -3,7 +3,7 @@ use meaning_rows::Row;
 use merge::merge_rows;
 use neighbours::name_neighbours;
 ghost use mathlib.Core.List.{List};
-ghost use Prim.Native.Nat.{_+_, _≤_};
+ghost use Prim.Native.Nat.{_≤_};
 ghost use Rattle.meaning_curves.specs.Curve.{windowSum};
 ghost use Rattle.meaning_rows.specs.Build.{SetRow, merged};
 ghost use Rattle.filing.specs.Levels.{windowsOf};

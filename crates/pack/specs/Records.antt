@@ -1,19 +1,19 @@
 -- What is packed out of the table of a series and the sums of its counts is the records of its build without merging (`built-records`), in front of what was there. Assumes nothing.
 use mathlib.Core.Path.{_≡_, refl, sym, ap, _∙_}
-use mathlib.Core.Bool.{Bool, true, false, cond}
+use mathlib.Core.Bool.{true, false}
 use mathlib.Core.List.{List, [], _∷_, _++_, map, List·Memᴰ as Mem}
 use Prim.Native.Nat.{ℕ, zero, suc, _+_, _-_, _*_, _/_, _<_, _≤_}
 use native.Mathlib.Omega.{arith}
 use native.Mathlib.Decide.{decLt}
 use native.Mathlib.Nat.{div-mul-le-self}
-use lib.Dec.{ltb, eqb}
+use lib.Dec.{eqb}
 use lib.IntN.{ℤ, pos, _-ℤ_}
 use lib.ListN.{length, getD, take, drop, set, length-append, length-drop, length-map, List·getD-append}
 use lib.Seq.{ext-getD, getD-append-add, getD-drop, getD-set-same, getD-set-other}
-use borrow.Author.Tests.{le-ltb, eqb-true, eqb-false, eq-eqb, ne-eqb}
+use borrow.Author.Tests.{eqb-true, eqb-false, ne-eqb}
 use Rattle.meaning_numbers.specs.Sum.{Σℕ}
 use Rattle.meaning_numbers.proofs.Sum.{Σℕ-none, Σℕ-more, Σℕ-same}
-use Rattle.meaning_numbers.proofs.Rep.{Rep, rep-pos, rep-sub, rep-mul, rep-add, rep-eq}
+use Rattle.meaning_numbers.proofs.Rep.{rep-pos, rep-sub, rep-mul, rep-add, rep-eq}
 use Rattle.meaning_numbers.proofs.Tests.{by-test}
 use Rattle.meaning_numbers.proofs.Member.{mem-at}
 use Rattle.meaning_curves.specs.Curve.{windowSum}
@@ -32,7 +32,7 @@ use Rattle.filing.specs.Table.{table}
 use Rattle.tally.specs.Tally.{isRow, Counted}
 use Rattle.tally.specs.Rows.{front-at}
 use Rattle.tally.specs.Numbers.{lowered, table-only, table-numbers, row-runs}
-use Rattle.pack.specs.Packed.{total, Summed, startOf, rowFrom, RowRoom, Packable, packed, packed-none, packed-more, length-packed}
+use Rattle.pack.specs.Packed.{total, Summed, startOf, rowFrom, Packable, packed, packed-none, packed-more, length-packed}
 
 -- ---- packed, by place
 

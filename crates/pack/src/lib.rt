@@ -3,8 +3,8 @@ use meaning_rows::Row;
 use numbers::lower;
 use numbers::quotient;
 ghost use mathlib.Core.Path.{_≡_};
-ghost use Prim.Native.Nat.{ℕ, _+_, _-_, _*_, _<_, _≤_};
-ghost use lib.ListN.{length, getD};
+ghost use Prim.Native.Nat.{_+_, _-_, _*_, _<_, _≤_};
+ghost use lib.ListN.{length};
 ghost use Rattle.pack.specs.Packed.{total, Summed, startOf, rowFrom, RowRoom, packed, Packable};
 
 // By how many rows row numbers are raised: so many that no window of `w` values has a row number below it.

@@ -1,8 +1,8 @@
 // A run filed in its row's part of the run buffer. While a part is not full, its last right end has the number of runs written so far; so filling needs no room but the parts.
 use meaning_rows::Row;
 ghost use mathlib.Core.Path.{_≡_};
-ghost use Prim.Native.Nat.{ℕ, _+_, _-_, _<_, _≤_};
-ghost use lib.ListN.{length, set};
+ghost use Prim.Native.Nat.{_+_, _-_, _<_, _≤_};
+ghost use lib.ListN.{set};
 ghost use Rattle.meaning_rows.proofs.Cursors.{fileRight};
 ghost use Rattle.parts.specs.Part.{written, PartRoom};
 

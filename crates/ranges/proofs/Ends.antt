@@ -1,8 +1,7 @@
 -- The ends of a part's range, as code makes them of a frame and the envelopes' sums, are the range of document 01 (`range-is`). Assumes nothing.
-use mathlib.Core.Path.{_≡_, refl, sym, ap, _∙_}
-use mathlib.Core.Bool.{cond}
+use mathlib.Core.Path.{_≡_, ap, _∙_}
 use mathlib.Core.List.{List}
-use Prim.Native.Nat.{ℕ, _+_, _*_, _/_, _≤_}
+use Prim.Native.Nat.{ℕ, _+_, _*_, _≤_}
 use native.Mathlib.Omega.{arith}
 use lib.IntN.{ℤ, pos, negsuc, negℤ, _+ℤ_, _-ℤ_, _*ℤ_}
 use lib.ListN.{length}
@@ -20,7 +19,7 @@ use Rattle.meaning_curves.proofs.Values.{AllIn}
 use Rattle.meaning_filter.specs.declared.Kind.{Kind}
 use Rattle.meaning_filter.specs.declared.Kind.the-variants.{Raw, Normal}
 use Rattle.meaning_filter.specs.declared.Limits.{Limits}
-use Rattle.meaning_filter.specs.Range.{lowerSum, upperSum, rawLow, rawHigh, normalLow, normalHigh, lowScale, highScale, rangeOf}
+use Rattle.meaning_filter.specs.Range.{lowerSum, upperSum, rawLow, rawHigh, normalLow, normalHigh, rangeOf}
 use Rattle.values.specs.Sums.{sum-raised}
 use Rattle.distance_query.specs.Ready.{Ready, curveOf, from-start}
 use Rattle.ranges.specs.Frame.{rawFrame, normalFrame, frameOf, lowEnd, highEnd}

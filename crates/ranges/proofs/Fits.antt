@@ -1,12 +1,12 @@
 -- A query that was made ready, within its limits, has the sizes that a frame is made from (`query-in`). Assumes nothing.
-use mathlib.Core.Path.{_≡_, refl, _∙_}
+use mathlib.Core.Path.{refl}
 use mathlib.Core.List.{List}
-use Prim.Native.Nat.{ℕ, _*_, _≤_}
+use Prim.Native.Nat.{ℕ, _≤_}
 use native.Mathlib.Omega.{arith}
 use lib.IntN.{ℤ}
 use lib.ListN.{length}
 use Rattle.meaning_numbers.specs.Sum.{Σℕ, square}
-use Rattle.meaning_curves.specs.Curve.{at, stretch, spread}
+use Rattle.meaning_curves.specs.Curve.{stretch, spread}
 use Rattle.meaning_curves.proofs.Values.{AllIn}
 use Rattle.meaning_curves.proofs.Same.{spread-same}
 use Rattle.meaning_filter.specs.declared.Kind.{Kind}

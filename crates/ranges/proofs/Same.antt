@@ -1,9 +1,8 @@
 -- Envelopes of m values ask for those values alone: curves that agree below m have the same (`lower-same`, `upper-same`), and so the same sums over a part. Assumes nothing.
-use mathlib.Core.Path.{_≡_, refl, _∙_}
+use mathlib.Core.Path.{_≡_, _∙_}
 use mathlib.Core.List.{List}
 use Prim.Native.Nat.{ℕ, zero, suc, _+_, _-_, _<_, _≤_}
 use native.Mathlib.Omega.{arith}
-use native.Mathlib.Nat.{add-zero}
 use lib.IntN.{ℤ}
 use Rattle.meaning_numbers.specs.Sum.{Σℤ}
 use Rattle.meaning_numbers.proofs.Sum.{Σℤ-same}

@@ -11,7 +11,6 @@ ghost use lib.ListN.{length};
 ghost use Rattle.meaning_numbers.specs.Order.{minℤ, maxℤ};
 ghost use Rattle.meaning_numbers.specs.Quotient.{floorℤ, ceilℤ};
 ghost use Rattle.meaning_numbers.specs.Root.{root};
-ghost use Rattle.meaning_curves.specs.Curve.{windowSum};
 ghost use Rattle.meaning_curves.proofs.Values.{AllIn};
 ghost use Rattle.meaning_filter.specs.Range.{lowScale, highScale};
 ghost use Rattle.meaning_filter.specs.declared.Kind.{Kind};

@@ -1,8 +1,8 @@
 -- The record of zeros, and the records that a chunk holds. Assumes nothing.
-use mathlib.Core.List.{List, [], _∷_}
+use mathlib.Core.List.{List}
 use Prim.Native.Nat.{ℕ, zero, suc, _+_, _-_, min}
 use lib.IntN.{pos}
-use lib.ListN.{length, getD, set, replicate}
+use lib.ListN.{getD, set, replicate}
 use Rattle.meaning_rows.specs.declared.Row.{Row}
 
 -- what stands past the end of the lent records

@@ -1,7 +1,7 @@
 -- The calls of `search`, each as one step of its walk: token and own of each slice are at the head, and come back there; of a slice that is lent as `&mut`, at the list that the callee left.
 -- Assumes `Given`, and that the table of calls is monotone under a frame, as every `Tables` is.
 use mathlib.Core.Path.{_≡_, refl, ap, subst}
-use Prim.Native.Nat.{ℕ, _-_, _<_, _^_, min}
+use Prim.Native.Nat.{ℕ, _<_, _^_, min}
 use mathlib.Core.List.{List, [], _∷_}
 use lib.IntN.{ℤ}
 use lib.ListN.{length}

@@ -1,44 +1,41 @@
 -- A search that nothing refuses before it looks: what its parts ask for is had (`put-asked`, `meet-asked`, `look-asked`), and what they promise is the promise of the search (`look-kept`). Assumes nothing.
-use mathlib.Core.Path.{_≡_, refl, sym, ap, _∙_}
-use mathlib.Core.Bool.{Bool, _&&_}
+use mathlib.Core.Path.{_≡_, ap, _∙_}
+use mathlib.Core.Bool.{Bool}
 use mathlib.Core.List.{List, [], map}
 use Prim.Native.Nat.{ℕ, zero, suc, _+_, _-_, _*_, _/_, _<_, _≤_}
 use native.Mathlib.Omega.{arith}
 use native.Mathlib.Nat.{div-le-self, div-mul-le-self}
 use lib.Dec.{eqb}
-use lib.IntN.{ℤ, pos, natAbs}
-use lib.ListN.{length, getD, take, drop, length-replicate}
+use lib.IntN.{ℤ}
+use lib.ListN.{length, getD, length-replicate}
 use Rattle.meaning_numbers.specs.Sum.{count}
-use Rattle.meaning_numbers.specs.Place.{any}
 use Rattle.meaning_numbers.proofs.Count.{count-cong}
 use Rattle.meaning_curves.specs.Curve.{at}
 use Rattle.meaning_rows.specs.declared.Row.{Row}
 use Rattle.meaning_rows.specs.declared.Head.{Head}
-use Rattle.meaning_rows.specs.Index.{Index, lent, entries, inRun}
+use Rattle.meaning_rows.specs.Index.{Index, lent, entries}
 use Rattle.meaning_rows.specs.Runs.{runs}
 use Rattle.meaning_rows.proofs.Runs.{runs-cong}
 use Rattle.meaning_filter.specs.declared.Kind.{Kind}
 use Rattle.meaning_filter.specs.declared.Limits.{Limits}
 use Rattle.meaning_filter.specs.Range.{rangeOf, ranges}
 use Rattle.meaning_filter.specs.Candidates.{admits}
-use Rattle.meaning_filter.specs.Matches.{Question, offsetCount, candidateAt, candidateRuns, candidateCount}
+use Rattle.meaning_filter.specs.Matches.{candidateAt, candidateRuns, candidateCount}
 use Rattle.meaning_entries.specs.declared.Found.{Found}
 use Rattle.meaning_entries.specs.Buffers.{filled, pairRoom}
 use Rattle.meaning_entries.specs.Search.{SearchCall, SearchBuffers, lentSearch, question, lookedAfter}
 use Rattle.meaning_entries.specs.Demand2.{SearchKept}
 use Rattle.judge.proofs.Scan.{length-entries}
 use Rattle.candidates.specs.Leading.{leading, Counted}
-use Rattle.candidates.specs.Handed.{stood}
 use Rattle.candidates.proofs.Leading.{leading-all}
-use Rattle.ranges.proofs.Fits.{LimitsIn}
 use Rattle.filter.specs.declared.Span.{Span}
 use Rattle.filter.specs.Met.{clampOf, metSpan}
 use Rattle.filter.specs.Parts.{FoundAll}
 use Rattle.filter.proofs.Meaning.{cleared-zeros, found-all}
 use Rattle.filter.proofs.Spanned.{span-admits, span-inside, span-few, clamp-admits, climbs}
-use Rattle.spans.specs.Held.{lowEnds, highEnds, raisedEnd, Held, RangesReady, RangesHeld, raised-most, lowered}
+use Rattle.spans.specs.Held.{RangesReady, RangesHeld, raised-most, lowered}
 use Rattle.spans.specs.Met.{spanAt, MeetReady, AllMet}
-use Rattle.spans.specs.Raised.{CountedBy, stretchHit, StretchesReady, counted-all}
+use Rattle.spans.specs.Raised.{stretchHit, counted-all}
 use Rattle.search_plan.specs.Allowed.{Allowed, thePlan, allowed}
 use Rattle.finding.specs.Search.{limited, search-ends}
 use Rattle.search.specs.Looked.{LookReady, Looked}

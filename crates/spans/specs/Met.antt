@@ -1,5 +1,5 @@
 -- Each entry of the candidate buffer replaced by the stretch of runs that its range meets (`AllMet`). A turn of the loop is `meeting-next`, over plain variables. Assumes nothing.
-use mathlib.Core.Path.{_≡_, refl, sym, ap, _∙_, subst}
+use mathlib.Core.Path.{_≡_, refl, ap, _∙_, subst}
 use mathlib.Core.List.{List}
 use Prim.Native.Nat.{ℕ, _+_, _<_, _≤_}
 use native.Mathlib.Omega.{arith}

@@ -12,7 +12,7 @@ use Rattle.meaning_numbers.specs.Place.{any}
 use Rattle.meaning_numbers.proofs.Tests.{by-test}
 use Rattle.meaning_rows.specs.Index.{Index, entries, inRun}
 use Rattle.meaning_filter.specs.Candidates.{admits}
-use Rattle.candidates.specs.Raise.{bump, reached, Raised}
+use Rattle.candidates.specs.Raise.{bump, Raised}
 use Rattle.candidates.specs.Leading.{leading, Counted}
 
 -- how many of the first i parts lead at offset j, of a test for each part and offset

@@ -1,21 +1,21 @@
 -- The table of a series, lowered, is the list of its row numbers (`table-numbers`), and a row's runs are those of the windows that have its number (`row-runs`). Assumes nothing.
-use mathlib.Core.Path.{_≡_, refl, sym, ap, _∙_, subst}
+use mathlib.Core.Path.{_≡_, sym, ap, _∙_, subst}
 use mathlib.Core.Logic.{⊎-elim}
-use mathlib.Core.Bool.{Bool, true, false}
-use mathlib.Core.List.{List, [], _∷_, _++_, map, List·Memᴰ as Mem, List·Memᴰ·not-nil as not-nil, List·Memᴰ·append-cases as append-cases, List·Memᴰ·eq-of-singleton as only}
-use Prim.Native.Nat.{ℕ, zero, suc, _+_, _-_, _*_, _/_, _<_, _≤_}
+use mathlib.Core.Bool.{Bool, true}
+use mathlib.Core.List.{List, [], _∷_, map, List·Memᴰ as Mem, List·Memᴰ·not-nil as not-nil, List·Memᴰ·append-cases as append-cases, List·Memᴰ·eq-of-singleton as only}
+use Prim.Native.Nat.{ℕ, zero, suc, _+_, _*_, _<_}
 use native.Mathlib.Omega.{arith}
 use lib.Dec.{eqb}
 use lib.IntN.{ℤ, pos, _-ℤ_}
 use lib.ListN.{length, getD}
 use lib.Signed.{_<ℤ_}
 use borrow.Author.Tests.{eq-eqb, ne-eqb}
-use Rattle.meaning_numbers.proofs.Rep.{Rep, rep-pos, rep-sub, rep-eq, rep-by, zarith, z-sub}
+use Rattle.meaning_numbers.proofs.Rep.{Rep, rep-pos, rep-sub, rep-eq, zarith, z-sub}
 use Rattle.meaning_numbers.proofs.Tests.{by-test, clash}
 use Rattle.meaning_numbers.proofs.Member.{mem-at, mem-map, map-mem}
 use Rattle.meaning_curves.specs.Curve.{windowSum}
 use Rattle.meaning_rows.specs.Range.{rowNumber, lowOf, upOf, inside}
-use Rattle.meaning_rows.specs.Runs.{runs, runCount}
+use Rattle.meaning_rows.specs.Runs.{runs}
 use Rattle.meaning_rows.specs.Build.{rowNumbers}
 use Rattle.meaning_rows.proofs.Range.{row-raised, row-unique, in-own}
 use Rattle.meaning_rows.proofs.Runs.{runs-cong}
@@ -24,7 +24,7 @@ use Rattle.filing.specs.Levels.{level, level-is, rowOf, windowsOf, Lent}
 use Rattle.filing.specs.Picked.{picked, picked-start, picked-yes, picked-no}
 use Rattle.filing.specs.Marks.{met, yes-met}
 use Rattle.filing.specs.Table.{table, top}
-use Rattle.tally.specs.Tally.{Rising, Has, isRow}
+use Rattle.tally.specs.Tally.{Rising, isRow}
 use Rattle.tally.specs.Rows.{table-rises, table-has}
 
 -- a raised row number lowered

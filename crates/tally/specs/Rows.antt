@@ -1,14 +1,14 @@
 -- The table of a series rises (`table-rises`), and has the row number of each window (`table-has`). Assumes nothing.
 use mathlib.Core.Path.{_≡_, refl, sym, ap, _∙_}
-use mathlib.Core.Bool.{Bool, true, false}
+use mathlib.Core.Bool.{Bool, true}
 use mathlib.Core.List.{List, [], _∷_, _++_}
-use Prim.Native.Nat.{ℕ, zero, suc, _+_, _-_, _<_, _≤_}
+use Prim.Native.Nat.{ℕ, zero, suc, _+_, _<_}
 use native.Mathlib.Omega.{arith}
 use native.Mathlib.Decide.{decLt}
 use lib.IntN.{ℤ}
 use lib.ListN.{length, getD, take, length-append, List·getD-append}
 use lib.Seq.{getD-at, getD-take}
-use Rattle.meaning_numbers.proofs.Tests.{by-test, clash}
+use Rattle.meaning_numbers.proofs.Tests.{by-test}
 use Rattle.filing.specs.Levels.{level, rowOf, windowsOf, Lent}
 use Rattle.filing.specs.Picked.{picked, picked-start, picked-yes, picked-no}
 use Rattle.filing.specs.Marks.{met, met-yes}

@@ -1,17 +1,16 @@
 -- Texts counted: the place behind a text that begins at a place, or one past a limit. The parts of an index text, by the lengths of their numbers. Assumes nothing.
-use mathlib.Core.Path.{_≡_, refl, sym, ap, _∙_}
-use mathlib.Core.List.{List, [], _∷_, _++_}
-use Prim.Native.Nat.{ℕ, zero, suc, _+_, _-_, _<_, _≤_, min}
+use mathlib.Core.Path.{_≡_, sym, ap, _∙_}
+use mathlib.Core.List.{List, _++_}
+use Prim.Native.Nat.{ℕ, suc, _+_, _-_, _<_, _≤_, min}
 use native.Mathlib.Omega.{arith}
-use lib.IntN.{ℤ, pos}
+use lib.IntN.{pos}
 use lib.ListN.{length, getD, take, drop, length-append, take-append-drop}
-use Rattle.meaning_rows.specs.Index.{Entry}
 use Rattle.meaning_rows.specs.declared.Row.{Row}
 use Rattle.meaning_text.specs.Bytes.{bytes}
 use Rattle.meaning_text.specs.Number.{spellℕ, spellℤ}
 use Rattle.meaning_text.specs.Form.{spell, spellMany}
-use Rattle.meaning_text.specs.Texts.{runForm, rowForm}
-use Rattle.text_write.specs.Write.{headText, endText, partOf, runsText, rowText, runs-more, runs-all, many-both}
+use Rattle.meaning_text.specs.Texts.{runForm}
+use Rattle.text_write.specs.Write.{headText, partOf, runsText, rowText, runs-more, runs-all, many-both}
 
 -- `to` is the place behind l, where l begins at `from`, or one past the limit
 pub record Counted (limit from : ℕ) (l : List ℕ) (to : ℕ) : Type 0 where

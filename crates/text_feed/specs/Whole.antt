@@ -1,13 +1,13 @@
 -- Whole texts in pieces: a piece behind another, and what a text that has ended comes to, for a form that the automaton of the lines follows from its start. Assumes nothing.
 use mathlib.Core.Path.{_≡_, refl, sym, ap, _∙_}
-use mathlib.Core.List.{List, [], _∷_, _++_}
-use mathlib.Core.Option.{Option, none, some}
+use mathlib.Core.List.{List}
+use mathlib.Core.Option.{none}
 use Prim.Native.Nat.{ℕ}
 use lib.IntN.{ℤ}
 use Rattle.meaning_text.specs.Form.{Form, Value}
-use Rattle.meaning_text.specs.Read.{Verdict, fine, unfit, readText}
+use Rattle.meaning_text.specs.Read.{fine, unfit, readText}
 use Rattle.meaning_text.specs.Texts.{seriesForm, programForm}
-use Rattle.meaning_text.proofs.Automaton.{Fed, going, failed, feed, feed-append, feed-failed, judged}
+use Rattle.meaning_text.proofs.Automaton.{Fed, going, failed, feed, feed-failed, judged}
 use Rattle.text_lines.specs.declared.State.{State}
 use Rattle.text_lines.specs.Follow.{Said, nothingSaid, Reading, at, step, accept, acceptState, programStart, seriesStart, programValue, seriesValue, program-comes, series-comes}
 use Rattle.text_feed.specs.declared.Values.{Values}

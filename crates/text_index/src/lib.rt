@@ -8,7 +8,7 @@ use text_numbers::number_value;
 ghost use mathlib.Core.Path.{_≡_};
 ghost use Prim.Native.Nat.{_<_};
 ghost use lib.ListN.{length, getD};
-ghost use Rattle.text_numbers.specs.Number.{NumGood, whole};
+ghost use Rattle.text_numbers.specs.Number.{NumGood};
 ghost use Rattle.text_index.specs.Step.{word, behind, turnAfter, pick, reach, closes, wordStep, turnStep, endStep, numberStep, indexStep, GoodState};
 
 // The fixed words, by what stands behind each: a number, a row or the end, a run or the row's end.

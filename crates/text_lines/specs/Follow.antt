@@ -1,30 +1,27 @@
 -- The automaton of the lines follows `seriesForm` and `programForm`, each from its own start: each state with what has been said so far has a reader for the rest of the text, and a byte takes it to the next. So the bytes of a text come to what `readText` says. Assumes nothing.
-use mathlib.Core.Path.{_≡_, refl, sym, ap, _∙_, fun-ext}
+use mathlib.Core.Path.{_≡_, refl, sym, ap, _∙_}
 use mathlib.Core.Bool.{Bool, true, false, cond}
 use mathlib.Core.List.{List, [], _∷_, _++_, append-assoc, append-nil}
 use mathlib.Core.Option.{Option, none, some}
-use Prim.Native.Nat.{ℕ, zero, suc, _+_, _<_, _≤_}
-use native.Mathlib.Numerals.{add-one}
+use Prim.Native.Nat.{ℕ, suc, _+_, _<_}
 use native.Mathlib.Omega.{arith}
 use lib.Dec.{ltb, eqb}
 use lib.IntN.{ℤ, pos}
 use lib.ListN.{length, getD, drop}
 use borrow.Author.Tests.{ltb-true, ltb-false}
 use Rattle.meaning_text.specs.Bytes.{bytes}
-use Rattle.meaning_text.specs.Number.{Read, got, bad}
-use Rattle.meaning_text.specs.Form.{Form, Value, number, oneOf, lead, trail, both, many, read}
-use Rattle.meaning_text.specs.Read.{Verdict, fine, unfit, readText}
+use Rattle.meaning_text.specs.Number.{got, bad}
+use Rattle.meaning_text.specs.Form.{Value, number, oneOf, lead, trail, both, many, read}
+use Rattle.meaning_text.specs.Read.{readText}
 use Rattle.meaning_text.specs.Texts.{valuesForm, seriesForm, programForm}
 use Rattle.meaning_text.proofs.Open.{openText}
 use Rattle.meaning_text.proofs.Form.{filled, clearWord, clear, follows, firm, opens, decided}
 use Rattle.meaning_text.proofs.Reading.{on-flag, begun}
 use Rattle.meaning_text.proofs.Onward.{Rest, wordThen, readThen, word-both, read-alone, lead-then, trail-then, both-then, one-then, one-ends, many-then, many-ends, word-over, word-next, word-off, word-short}
-use Rattle.meaning_text.proofs.Automaton.{Fed, going, failed, feed, on-option, Halts, bad-here, over, atRest, Follows, judged, form-comes}
+use Rattle.meaning_text.proofs.Automaton.{going, feed, Halts, bad-here, over, atRest, Follows, judged, form-comes}
 use Rattle.text_numbers.specs.declared.Numeral.{Numeral}
-use Rattle.text_numbers.specs.declared.Taken.{Taken}
-use Rattle.text_numbers.specs.declared.Whole.{Whole}
-use Rattle.text_numbers.specs.Number.{numStep, whole, NumGood, good-step, on-taken, on-whole}
-use Rattle.text_numbers.specs.Onward.{wholeThen, numberThen, number-more, number-stop, number-then}
+use Rattle.text_numbers.specs.Number.{numStep, whole, good-step, on-taken, on-whole}
+use Rattle.text_numbers.specs.Onward.{numberThen, number-more, number-stop, number-then}
 use Rattle.text_lines.specs.declared.Word.{Word}
 use Rattle.text_lines.specs.declared.Place.{Place}
 use Rattle.text_lines.specs.declared.Turn.{Turn}

@@ -8,7 +8,7 @@ use text_numbers::number_value;
 ghost use mathlib.Core.Path.{_≡_};
 ghost use Prim.Native.Nat.{_<_};
 ghost use lib.ListN.{length, getD};
-ghost use Rattle.text_numbers.specs.Number.{NumGood, whole};
+ghost use Rattle.text_numbers.specs.Number.{NumGood};
 ghost use Rattle.text_lines.specs.Step.{word, behind, turnAfter, pick, reach, wordStep, turnStep, endStep, numberStep, lineStep, GoodState};
 
 // The fixed words: the program's, those of a series line by itself, and a single space in front of a number.

@@ -1,5 +1,5 @@
 -- The text of a list of matches, as the code writes it: one match after the other, out of two slices. Assumes nothing.
-use mathlib.Core.Path.{_≡_, refl, sym, ap, _∙_}
+use mathlib.Core.Path.{_≡_, refl, _∙_}
 use mathlib.Core.List.{List, [], _∷_, _++_, append-assoc, map}
 use Prim.Native.Nat.{ℕ, zero, suc, _+_, _-_, _<_, _≤_, min}
 use native.Mathlib.Omega.{arith}
@@ -9,7 +9,7 @@ use lib.Seq.{take-all, getD-take}
 use Rattle.meaning_text.specs.Bytes.{bytes}
 use Rattle.meaning_text.specs.Number.{spellℤ}
 use Rattle.meaning_text.specs.Form.{spell, spellMany}
-use Rattle.meaning_text.specs.Texts.{atForm, foundForm, foundText}
+use Rattle.meaning_text.specs.Texts.{atForm, foundText}
 use Rattle.meaning_entries.specs.Demand3.{pairs}
 use Rattle.text_put.specs.Put.{Put, put-then}
 use Rattle.text_write.specs.Write.{many-turn}

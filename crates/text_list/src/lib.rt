@@ -3,7 +3,6 @@ use text_put::put_word;
 use text_put::write_u32;
 use text_put::write_u64;
 use text_write::part_length;
-ghost use mathlib.Core.Path.{_≡_};
 ghost use lib.IntN.{pos};
 ghost use lib.ListN.{take};
 ghost use Rattle.meaning_text.specs.Form.{spell};

@@ -1,12 +1,11 @@
 -- What a byte does to a number that has been read so far, and the value of a number that could end. The state is the magnitude: a 19th digit is one behind 10 ^ 17 or more. Assumes nothing.
-use mathlib.Core.Path.{_≡_, refl, sym, _∙_}
-use mathlib.Core.Bool.{Bool, true, false, cond, _&&_}
+use mathlib.Core.Path.{_≡_, refl}
+use mathlib.Core.Bool.{Bool, true, false, cond}
 use Prim.Native.Nat.{ℕ, suc, _+_, _*_, _-_, _<_, _≤_, _^_}
 use native.Mathlib.Omega.{arith}
-use lib.Dec.{ltb, leb, eqb}
+use lib.Dec.{ltb, eqb}
 use lib.IntN.{ℤ, pos, negℤ}
-use borrow.Author.Tests.{ltb-true, ltb-false, lt-ltb, le-ltb, leb-true, le-leb}
-use Rattle.meaning_text.specs.Number.{isDigit}
+use borrow.Author.Tests.{ltb-true, ltb-false, lt-ltb, le-ltb}
 use Rattle.meaning_text.proofs.Reading.{on-flag, false-true}
 use Rattle.text_numbers.specs.declared.Numeral.{Numeral}
 use Rattle.text_numbers.specs.declared.Numeral.the-variants.{Start, Sign, Zero, Plus, Less}

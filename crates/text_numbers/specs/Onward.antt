@@ -1,14 +1,14 @@
 -- A number, and then on from there: read byte by byte it comes to what `readℤ` says. Assumes nothing.
-use mathlib.Core.Path.{_≡_, refl, sym, ap, _∙_, fun-ext}
+use mathlib.Core.Path.{_≡_, refl, sym, _∙_, fun-ext}
 use mathlib.Core.List.{List, [], _∷_}
-use mathlib.Core.Bool.{Bool, true, false, _&&_}
+use mathlib.Core.Bool.{true, false, _&&_}
 use Prim.Native.Nat.{ℕ, zero, suc, _+_, _*_, _-_, _<_, _≤_, _^_}
-use native.Mathlib.Nat.{one-le-pow, pow-le-pow-right}
+use native.Mathlib.Nat.{pow-le-pow-right}
 use native.Mathlib.Omega.{arith}
 use lib.Dec.{ltb, leb, eqb}
 use lib.IntN.{ℤ, pos, negℤ}
-use borrow.Author.Tests.{ltb-true, ltb-false, lt-ltb, le-ltb, leb-true, le-leb, eqb-true, eqb-false}
-use Rattle.meaning_text.specs.Number.{Read, got, bad, isDigit, readDigits, readPositive, withSign, readℤ}
+use borrow.Author.Tests.{ltb-true, lt-ltb, le-ltb, le-leb}
+use Rattle.meaning_text.specs.Number.{bad, isDigit, readDigits, readPositive, withSign, readℤ}
 use Rattle.meaning_text.specs.Form.{number, thenRead, read}
 use Rattle.meaning_text.proofs.Reading.{on-flag, and-true, false-true}
 use Rattle.meaning_text.proofs.Number.{is-digit}
@@ -19,7 +19,7 @@ use Rattle.text_numbers.specs.declared.Taken.{Taken}
 use Rattle.text_numbers.specs.declared.Taken.the-variants.{More, Stop}
 use Rattle.text_numbers.specs.declared.Whole.{Whole}
 use Rattle.text_numbers.specs.declared.Whole.the-variants.{Value, Partial}
-use Rattle.text_numbers.specs.Number.{numStep, whole, within, within-true, within-yes, within-false, grown, first}
+use Rattle.text_numbers.specs.Number.{numStep, whole, within, within-yes, within-false, grown, first}
 
 -- on from a number that has ended, or a bad byte
 abbrev pub wholeThen : {A : Type 0} → Whole → (ℤ → Rest A) → Rest A

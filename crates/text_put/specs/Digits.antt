@@ -1,6 +1,6 @@
 -- The digits of a number, as the code writes them: those of a tenth of it and the last, and a '-' before those of a negative one. Assumes nothing.
 use mathlib.Core.Path.{_≡_, refl, sym, ap, _∙_}
-use mathlib.Core.List.{List, [], _∷_, _++_}
+use mathlib.Core.List.{[], _∷_, _++_}
 use Prim.Native.Nat.{ℕ, zero, suc, _+_, _*_, _/_, _%_, _<_, _≤_, _^_}
 use native.Mathlib.Nat.{one-le-pow, pow-suc}
 use native.Mathlib.Omega.{arith}

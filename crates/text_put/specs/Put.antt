@@ -1,14 +1,14 @@
 -- Bytes written into a buffer: byte by byte from a place on, as far as there is room; the next place is counted on to one past the end, which says that there was none. Assumes nothing.
-use mathlib.Core.Path.{_≡_, refl, sym, ap, _∙_}
+use mathlib.Core.Path.{_≡_, refl, sym, _∙_}
 use mathlib.Core.List.{List, [], _∷_, _++_}
 use mathlib.Core.Logic.{_⊎_, inl, inr, ⊎-elim}
 use mathlib.Core.Bool.{true, false}
-use Prim.Native.Nat.{ℕ, zero, suc, _+_, _-_, _<_, _≤_, min}
+use Prim.Native.Nat.{ℕ, suc, _+_, _<_, _≤_, min}
 use native.Mathlib.Omega.{arith}
 use native.Mathlib.Numerals.{add-one}
 use lib.Dec.{ltb}
-use lib.ListN.{length, take, drop, set, getD, length-set, length-append, length-drop, length-take}
-use lib.Seq.{sets, length-sets, sets-eq, set-out, take-at, take-suc, take-length, drop-at}
+use lib.ListN.{length, take, drop, set, getD, length-append}
+use lib.Seq.{sets, length-sets, sets-eq, set-out, take-suc, take-length}
 use borrow.Author.Tests.{ltb-true, ltb-false}
 
 -- l stands in `new` from place `from` on, as far as there is room, everything else is as in `old`, and `to` is the place behind l or one past the end

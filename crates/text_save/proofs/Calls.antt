@@ -21,13 +21,13 @@ use prog.Wp.{Heap, Env, Calls, Loops}
 use ghost.Atoms.{Atoms, sem}
 use contract.Monad.{Fun, fact}
 use sound.WpLaws.{FmC}
-use types.Kit.{Given, Item, ‵, _⊛_, mean, raw, some, Post, lands, runs, Seq, _$_, _∵_, !, qed, use1, split, join, move, drop, fjoin, frame, done}
+use types.Kit.{Given, Item, ‵, _⊛_, mean, raw, Post, lands, runs, Seq, _$_, _∵_, !, qed, split, join, move, drop, fjoin, frame, done}
 use types.Run.{Opds}
 use denote.Laws.{Is}
-use denote.Builtin.{usize, u8, u32}
+use denote.Builtin.{usize, u8}
 use denote.Plain.{Boolean, uint-makes, uint-tells, bool-makes, bool-tells}
 use denote.Ref.{RefT, ptr, now}
-use denote.Slice.{sliceVal, ShrSlice, Room, slice-vals, shr-slice-copy}
+use denote.Slice.{sliceVal, Room, slice-vals}
 use denote.Steps.{owned, nothing}
 use denote.Struct.Laws as LL
 use denote.Enum.Laws as EL
@@ -44,7 +44,7 @@ use Rattle.meaning_rows.proofs.Head.Laws as Hd′
 use Rattle.meaning_text.specs.Texts.{indexText}
 use Rattle.records.proofs.Again.{LentAgain}
 use Rattle.records.proofs.Lends.{Own as OwnMut}
-use Rattle.records.proofs.Rows.{Rs, Own, low, Good}
+use Rattle.records.proofs.Rows.{Rs, low, Good}
 use Rattle.judge.specs.declared.Judged.{Judged}
 use Rattle.judge.proofs.Judged as J
 use Rattle.judge.proofs.Judged.Laws as J′

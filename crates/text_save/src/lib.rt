@@ -12,7 +12,7 @@ use text_write::write_end;
 use text_write::write_head;
 use text_write::write_row;
 ghost use mathlib.Core.Path.{_≡_};
-ghost use Prim.Native.Nat.{_+_, _-_, _<_, _≤_, _^_};
+ghost use Prim.Native.Nat.{_<_};
 ghost use lib.IntN.{pos};
 ghost use lib.ListN.{length};
 ghost use Rattle.meaning_rows.specs.Index.{lent};

@@ -1,20 +1,20 @@
 -- The parts of an index text: its head, its rows one after the other, its end; together they are the text of the index. Assumes nothing.
-use mathlib.Core.Path.{_≡_, refl, sym, ap, _∙_}
+use mathlib.Core.Path.{_≡_, refl, _∙_}
 use mathlib.Core.List.{List, [], _∷_, _++_, append-assoc, append-nil, map}
 use Prim.Native.Nat.{ℕ, zero, suc, _+_, _-_, _<_, _≤_, min}
 use native.Mathlib.Numerals.{add-one}
 use native.Mathlib.Omega.{arith}
 use lib.IntN.{ℤ, pos}
 use lib.ListN.{length, getD, take, drop, length-take, length-drop}
-use lib.Seq.{take-suc, take-all, getD-take, getD-drop, length-take-le}
-use Rattle.meaning_rows.specs.Index.{Entry, Index, lent, entries, rangeRow, rangeRows}
+use lib.Seq.{take-suc, take-all, getD-take, getD-drop}
+use Rattle.meaning_rows.specs.Index.{Entry, Index, lent, entries, rangeRow}
 use Rattle.meaning_rows.specs.declared.Row.{Row}
 use Rattle.meaning_rows.specs.declared.Head.{Head}
 use Rattle.meaning_text.specs.Bytes.{bytes}
 use Rattle.meaning_text.specs.Number.{spellℤ}
-use Rattle.meaning_text.specs.Form.{Value, spell, spellMany}
-use Rattle.meaning_text.specs.Texts.{indexForm, rowForm, runForm, sayRow, sayIndex, indexText}
-use Rattle.text_put.specs.Put.{Put, put-none, put-then}
+use Rattle.meaning_text.specs.Form.{spell, spellMany}
+use Rattle.meaning_text.specs.Texts.{rowForm, runForm, sayRow, sayIndex, indexText}
+use Rattle.text_put.specs.Put.{Put, put-then}
 
 -- ---- the parts
 

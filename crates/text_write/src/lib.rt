@@ -5,11 +5,10 @@ use text_put::put_word;
 use text_put::write_i32;
 use text_put::write_u32;
 ghost use mathlib.Core.Path.{_≡_};
-ghost use Prim.Native.Nat.{ℕ, _+_, _-_, _≤_, _<_, _^_, min};
-ghost use lib.IntN.{ℤ, pos};
-ghost use lib.ListN.{length};
+ghost use Prim.Native.Nat.{_+_, _-_, _<_, min};
+ghost use lib.IntN.{pos};
 ghost use Rattle.meaning_text.specs.Form.{spell};
-ghost use Rattle.meaning_text.specs.Texts.{runForm, rowForm};
+ghost use Rattle.meaning_text.specs.Texts.{runForm};
 ghost use Rattle.text_put.specs.Put.{Put};
 ghost use Rattle.text_write.specs.Write.{headText, endText, partOf, runsText, rowText};
 

@@ -1,7 +1,7 @@
 -- `assured::extend_audited` meets its contract: a walk of its MIR, by hand. The index is extended, and the first rows and runs of the buffers are lent to the audit. All that the proof knows of the callees is that they meet their contracts.
 -- Assumes nothing.
 use mathlib.Core.Path.{_≡_, refl, sym}
-use Prim.Native.Nat.{ℕ, _-_, _<_, _≤_, _^_}
+use Prim.Native.Nat.{ℕ, _<_, _≤_, _^_}
 use native.Mathlib.Omega.{arith}
 use mathlib.Core.List.{List, [], _∷_}
 use lib.IntN.{ℤ}

@@ -1,6 +1,6 @@
 -- `audit::answer` meets its contract: its tests are those of the definition. Assumes nothing.
 use borrow.Author.Tests.{not-true, not-false}
-use mathlib.Core.Path.{_≡_, _∙_}
+use mathlib.Core.Path.{_∙_}
 use Rattle.audit.proofs.Cases.{answer-refused, answer-wrong, answer-complete, none-lacking, some-lacking}
 use Rattle.audit.proofs.answer.Statement.{statement}
 use Rattle.audit.proofs.answer.Tie as tie

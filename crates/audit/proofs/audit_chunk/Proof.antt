@@ -3,10 +3,10 @@
 use borrow.Author.Needs.{needs}
 use borrow.Author.Tests.{not-true, not-false}
 use mathlib.Core.Path.{_≡_, refl, sym, ap, _∙_}
-use mathlib.Core.Bool.{Bool, true, false, not, cond}
+use mathlib.Core.Bool.{true, false, not}
 use mathlib.Core.List.{List}
 use mathlib.Core.Option.{Option, none, some}
-use Prim.Native.Nat.{ℕ, suc, _+_, _-_, _<_, _≤_}
+use Prim.Native.Nat.{ℕ, _+_, _-_, _<_, _≤_}
 use native.Mathlib.Omega.{arith}
 use lib.ListN.{length, getD, drop}
 use mir.Syntax.{w32}
@@ -17,7 +17,7 @@ use lib.IntN.{ℤ}
 use Rattle.meaning_rows.specs.declared.Row.{Row}
 use Rattle.meaning_rows.specs.Range.{inside}
 use Rattle.records.specs.Records.{zeroRow}
-use Rattle.audit.specs.State.{found, Reads, Ready, wrongOf, chunked}
+use Rattle.audit.specs.State.{found, Reads, Ready, wrongOf}
 use Rattle.audit.proofs.Turn.{chunk-off, chunk-found, still-found, wrong-found, Still, inRuns, inOffsets, later, row-begins, row-ends, run-begins, run-ends, filed-right, filed-wrong, none-left}
 use Rattle.audit.proofs.audit_chunk.Statement.{statement}
 use Rattle.audit.proofs.audit_chunk.Tie as tie

@@ -1,7 +1,7 @@
 -- `audit::make_plan` meets its contract, case by case. Assumes nothing.
 use borrow.Author.Needs.{needs}
 use borrow.Author.Tests.{not-true, not-false}
-use mathlib.Core.Path.{_≡_, sym, _∙_}
+use mathlib.Core.Path.{sym, _∙_}
 use lib.ListN.{length}
 use Rattle.audit.proofs.Cases.{plan-long, plan-outside, plan-inside, judged-fine, judged-bad}
 use Rattle.audit.proofs.make_plan.Statement.{statement}

@@ -1,6 +1,6 @@
 -- `audit::plan_windows` meets its contract: its tests are those of the definition. Assumes nothing.
 use borrow.Author.Needs.{needs}
-use mathlib.Core.Path.{_≡_, sym, _∙_}
+use mathlib.Core.Path.{sym, _∙_}
 use Rattle.audit.proofs.Cases.{sized-fewer, sized-more, sized-fits}
 use Rattle.audit.proofs.plan_windows.Statement.{statement}
 use Rattle.audit.proofs.plan_windows.Tie as tie

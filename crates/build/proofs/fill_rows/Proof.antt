@@ -1,7 +1,7 @@
 -- `build::fill_rows` meets its contract: a walk of its MIR, by hand. What is not used of the records and all of the two run columns is made 0, and the pass fills the parts. All that the proof knows of the callees is that they meet their contracts.
 -- Assumes nothing.
 use mathlib.Core.Path.{_≡_, refl, _∙_}
-use Prim.Native.Nat.{ℕ, _+_, _-_, _<_, _^_}
+use Prim.Native.Nat.{ℕ, _-_, _<_, _^_}
 use mathlib.Core.List.{List, [], _∷_}
 use lib.IntN.{ℤ}
 use lib.ListN.{length}

@@ -1,7 +1,7 @@
 -- `build::merge_some` meets its contract: a walk of its MIR, by hand. Percentage 0 merges nothing; else the columns are made 0 for the names of neighbours, and the rows merged. All that the proof knows of the callees is that they meet their contracts.
 -- Assumes nothing.
 use mathlib.Core.Path.{_≡_, refl, _∙_, subst}
-use Prim.Native.Nat.{ℕ, _-_, _<_, _^_}
+use Prim.Native.Nat.{ℕ, _<_, _^_}
 use native.Mathlib.Omega.{arith}
 use mathlib.Core.List.{List, [], _∷_}
 use lib.IntN.{ℤ}

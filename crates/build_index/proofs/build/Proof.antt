@@ -1,7 +1,7 @@
 -- `build_index::build` meets its contract: a walk of its MIR, by hand. A plan that refuses leaves the buffers as they were; else the index is built. All that the proof knows of the callees is that they meet their contracts.
 -- Assumes nothing.
 use mathlib.Core.Path.{_≡_, refl}
-use Prim.Native.Nat.{ℕ, _-_, _<_, _^_}
+use Prim.Native.Nat.{ℕ, _<_, _^_}
 use mathlib.Core.List.{List, [], _∷_}
 use lib.IntN.{ℤ}
 use lib.ListN.{length}

@@ -5,7 +5,7 @@ use mathlib.Core.Path.{_≡_, sym, _∙_}
 use mathlib.Core.Bool.{true}
 use lib.ListN.{length}
 use Rattle.meaning_curves.specs.Limits.{mostValues, lengthIn}
-use Rattle.meaning_rows.proofs.Judge.{Natural, between}
+use Rattle.meaning_rows.proofs.Judge.{between}
 use Rattle.build_plan.specs.Plan.{planned-long, planned-outside, planned-inside}
 use Rattle.build_plan.proofs.make_plan.Statement.{statement}
 use Rattle.build_plan.proofs.make_plan.Tie as tie

@@ -1,9 +1,9 @@
 -- `build_plan::plan_numbers` meets its contract: each test is that of a line of the table. Assumes nothing.
 use borrow.Author.Needs.{needs}
 use borrow.Author.Tests.{not-true, not-false, lt-ltb, le-ltb}
-use mathlib.Core.Path.{_≡_, refl, sym, ap, _∙_}
-use mathlib.Core.Bool.{Bool, true, false}
-use Prim.Native.Nat.{ℕ, _+_, _-_, _<_, _≤_, min}
+use mathlib.Core.Path.{_≡_, sym, _∙_}
+use mathlib.Core.Bool.{true, false}
+use Prim.Native.Nat.{ℕ, _<_, _≤_, min}
 use native.Mathlib.Omega.{arith}
 use lib.Dec.{ltb}
 use lib.IntN.{pos}
@@ -12,7 +12,7 @@ use Rattle.meaning_numbers.proofs.Rep.{zarith}
 use Rattle.meaning_numbers.proofs.Machine.{lt-ltZ, le-ltZ}
 use Rattle.meaning_curves.specs.Limits.{windowIn, widthIn, mergeIn}
 use Rattle.meaning_curves.specs.Curve.{windowCount}
-use Rattle.meaning_rows.proofs.Judge.{Natural, between}
+use Rattle.meaning_rows.proofs.Judge.{between}
 use Rattle.build_plan.specs.Plan.{plan-window, plan-above, plan-width, plan-merge, plan-rows, plan-runs, plan-goes}
 use Rattle.build_plan.proofs.plan_numbers.Statement.{statement}
 use Rattle.build_plan.proofs.plan_numbers.Tie as tie

@@ -1,6 +1,5 @@
 -- `candidates::raise_runs` meets its contract. The invariant: raising by the runs that are left gives what is to be had (`going-next`). Assumes nothing.
-use mathlib.Core.Path.{_≡_, _∙_}
-use Prim.Native.Nat.{_-_, _<_, _≤_, _+_}
+use Prim.Native.Nat.{_-_, _<_, _+_}
 use native.Mathlib.Omega.{arith}
 use lib.ListN.{length, getD}
 use Rattle.judge.proofs.Scan.{part as partOf, part-next, part-none}

@@ -1,7 +1,7 @@
 -- `candidates::take_each` meets its contract. The invariant: the offsets passed are taken in (`taking-next`). Assumes nothing.
 use mathlib.Core.Path.{_≡_, refl}
 use mathlib.Core.Bool.{Bool, not, _&&_}
-use Prim.Native.Nat.{ℕ, _+_, _-_, _<_, _≤_}
+use Prim.Native.Nat.{_+_, _-_, _<_, _≤_}
 use native.Mathlib.Omega.{arith}
 use lib.ListN.{length}
 use Rattle.meaning_numbers.proofs.Count.{flag-bit, bit-le}

@@ -4,7 +4,6 @@ use mathlib.Core.Bool.{Bool}
 use mathlib.Core.List.{List}
 use Prim.Native.Nat.{ℕ, _+_, _-_, _≤_}
 use native.Mathlib.Omega.{arith}
-use lib.ListN.{length}
 use Rattle.meaning_numbers.specs.Sum.{bit, count}
 use Rattle.meaning_numbers.proofs.Count.{count-none, count-le}
 use Rattle.meaning_rows.proofs.Runs.{runs-le, before-some}

@@ -1,5 +1,5 @@
 -- `distance_bound::excess_at` meets its contract. Assumes nothing.
-use mathlib.Core.Path.{_≡_, _∙_, ap}
+use mathlib.Core.Path.{_∙_, ap}
 use native.Mathlib.Omega.{arith}
 use Rattle.meaning_numbers.specs.Sum.{square}
 use Rattle.numbers.specs.Back.{in-arg}

@@ -2,10 +2,9 @@
 use borrow.Author.Needs.{needs}
 use borrow.Author.Tests.{not-false}
 use mathlib.Core.Path.{_≡_, _∙_}
-use Prim.Native.Nat.{ℕ, _+_, _-_, _≤_}
+use Prim.Native.Nat.{_+_, _-_, _≤_}
 use native.Mathlib.Omega.{arith}
 use lib.ListN.{length, length-set}
-use Rattle.meaning_curves.proofs.Values.{AllIn}
 use Rattle.distance_c.specs.Fits.{Fits}
 use Rattle.values.specs.Sums.{AreSums}
 use Rattle.distance_c.proofs.curve_normal.Statement.{statement}

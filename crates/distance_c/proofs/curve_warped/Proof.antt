@@ -1,7 +1,6 @@
 -- `distance_c::curve_warped` meets its contract: what its callees require was tested. Assumes nothing.
 use borrow.Author.Needs.{needs}
 use borrow.Author.Tests.{not-false}
-use native.Mathlib.Omega.{arith}
 use Rattle.distance_c.proofs.curve_warped.Statement.{statement}
 use Rattle.distance_c.proofs.curve_warped.Tie as tie
 

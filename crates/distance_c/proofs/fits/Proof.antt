@@ -1,7 +1,7 @@
 -- `distance_c::fits` meets its contract. Assumes nothing.
 use borrow.Author.Needs.{needs}
 use native.Mathlib.Omega.{arith}
-use Rattle.distance_c.specs.Fits.{Fits, not-so}
+use Rattle.distance_c.specs.Fits.{not-so}
 use Rattle.distance_c.proofs.fits.Statement.{statement}
 use Rattle.distance_c.proofs.fits.Tie as tie
 

@@ -1,6 +1,6 @@
 -- `distance_envelope::pick` meets its contract, by the flag. Assumes nothing.
 use borrow.Author.Needs.{needs}
-use mathlib.Core.Path.{_≡_, refl, _∙_}
+use mathlib.Core.Path.{refl, _∙_}
 use mir.Syntax.{w32}
 use mir.ValLaws.{toZ-ofZ}
 use Rattle.distance_envelope.proofs.pick.Statement.{statement}

@@ -1,6 +1,5 @@
 -- `distance_warped::warped_in` meets its contract: what the envelope bound passes, the distance passes (`bound-le`). Assumes nothing.
 use borrow.Author.Needs.{needs}
-use mathlib.Core.Path.{_≡_, _∙_}
 use Prim.Native.Nat.{ℕ, _≤_}
 use native.Mathlib.Omega.{arith}
 use lib.ListN.{length}

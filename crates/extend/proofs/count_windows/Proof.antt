@@ -1,7 +1,6 @@
 -- `extend::count_windows` meets its contract. Assumes nothing.
 use borrow.Author.Needs.{needs}
-use mathlib.Core.Path.{_≡_, refl, ap, _∙_}
-use Prim.Native.Nat.{ℕ, _<_, _≤_}
+use mathlib.Core.Path.{refl, ap, _∙_}
 use native.Mathlib.Omega.{arith}
 use Rattle.extend_count.specs.Rank.{rank}
 use Rattle.extend.proofs.count_windows.Statement.{statement}

@@ -1,7 +1,5 @@
 -- `extend::first_new` meets its contract. Assumes nothing.
 use borrow.Author.Needs.{needs}
-use mathlib.Core.Path.{_≡_, sym}
-use native.Mathlib.Omega.{arith}
 use borrow.Author.Tests.{lt-ltb, le-ltb}
 use Rattle.filing.specs.Levels.{windowsOf}
 use Rattle.extend.specs.Steps.{firstNew}

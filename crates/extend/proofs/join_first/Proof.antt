@@ -1,8 +1,7 @@
 -- `extend::join_first` meets its contract. Assumes nothing.
 use borrow.Author.Needs.{needs}
-use mathlib.Core.Path.{_≡_, refl, sym, ap, _∙_, subst}
-use mathlib.Core.Bool.{Bool}
-use Prim.Native.Nat.{ℕ, _+_, _*_, _≤_}
+use mathlib.Core.Path.{_≡_, ap, _∙_}
+use Prim.Native.Nat.{ℕ, _+_, _*_}
 use native.Mathlib.Omega.{arith}
 use lib.IntN.{ℤ, pos, negsuc}
 use lib.Signed.{_≤ℤ_}
@@ -14,7 +13,7 @@ use Rattle.meaning_numbers.proofs.Machine.{zmach32}
 use Rattle.meaning_rows.specs.declared.Row.{Row}
 use Rattle.meaning_rows.proofs.Grown.{lastEnds}
 use Rattle.fill.specs.Turn.{Small, raisedEnd}
-use Rattle.extend.specs.Steps.{joinsOf, JoinAsked, JoinedAt, joinable-as, joined-as}
+use Rattle.extend.specs.Steps.{joinsOf, joinable-as, joined-as}
 use Rattle.extend.proofs.join_first.Statement.{statement}
 use Rattle.extend.proofs.join_first.Tie as tie
 

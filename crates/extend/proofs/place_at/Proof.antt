@@ -1,7 +1,7 @@
 -- `extend::place_at` meets its contract: past the last window the sum slides on from it. Assumes nothing.
 use borrow.Author.Needs.{needs}
 use mathlib.Core.Path.{_≡_, refl, ap, _∙_}
-use Prim.Native.Nat.{ℕ, _+_, _-_}
+use Prim.Native.Nat.{_+_, _-_}
 use native.Mathlib.Omega.{arith}
 use Rattle.filing.specs.Levels.{level}
 use Rattle.extend.proofs.place_at.Statement.{statement}

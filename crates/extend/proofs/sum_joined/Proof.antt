@@ -1,15 +1,15 @@
 -- `extend::sum_joined` meets its contract. Assumes nothing.
 use borrow.Author.Needs.{needs}
-use mathlib.Core.Path.{_≡_, refl, sym, ap, _∙_, subst}
+use mathlib.Core.Path.{_≡_, sym, ap, _∙_, subst}
 use mathlib.Core.Bool.{Bool}
 use mathlib.Core.List.{List}
-use Prim.Native.Nat.{ℕ, _≤_}
+use Prim.Native.Nat.{ℕ}
 use native.Mathlib.Omega.{arith}
 use lib.ListN.{length}
 use Rattle.meaning_rows.proofs.Grown.{lastEnds}
 use Rattle.pack.specs.Packed.{total, Summed}
 use Rattle.extend_new.specs.New.{lessJoin}
-use Rattle.extend.specs.Steps.{joinsOf, SumAsked, less-long}
+use Rattle.extend.specs.Steps.{joinsOf, less-long}
 use Rattle.extend.proofs.sum_joined.Statement.{statement}
 use Rattle.extend.proofs.sum_joined.Tie as tie
 

@@ -1,7 +1,7 @@
 -- `extend::weave_new` meets its contract: a walk of its MIR, by hand. The row numbers of the new windows are listed and woven among the old rows, and what is not used of the records is made 0. All that the proof knows of the callees is that they meet their contracts.
 -- Assumes nothing.
 use mathlib.Core.Path.{_≡_, refl, _∙_}
-use Prim.Native.Nat.{ℕ, _+_, _-_, _<_, _^_}
+use Prim.Native.Nat.{ℕ, _-_, _<_, _^_}
 use mathlib.Core.List.{List, [], _∷_}
 use lib.IntN.{ℤ}
 use lib.ListN.{length}

@@ -1,15 +1,15 @@
 -- `extend_count::count_new` meets its contract. The invariant: the runs of the windows passed are counted, and the next window begins a run (`counted-turn`, `fresh-next`). Assumes nothing.
-use mathlib.Core.Path.{_≡_, refl, sym, ap, _∙_, subst}
-use Prim.Native.Nat.{ℕ, _+_, _-_, _≤_, _<_}
+use mathlib.Core.Path.{_≡_, sym, ap, _∙_, subst}
+use Prim.Native.Nat.{ℕ, _-_, _≤_, _<_}
 use native.Mathlib.Omega.{arith}
 use lib.ListN.{length, getD}
 use Rattle.meaning_rows.proofs.Runs.{runs-le}
 use Rattle.filing.specs.Levels.{level, windowsOf}
-use Rattle.filing.specs.Change.{Stop, RowRun}
+use Rattle.filing.specs.Change.{RowRun}
 use Rattle.tally.specs.Tally.{isRow, Fresh, fresh-next}
 use Rattle.pack.specs.Packed.{startOf}
 use Rattle.extend_count.specs.Rank.{rank}
-use Rattle.extend_count.specs.Count.{rowFrom, Countable, Counted, row-new, counted-starts, fresh-old, next-run, counted-turn}
+use Rattle.extend_count.specs.Count.{rowFrom, Counted, row-new, counted-starts, fresh-old, next-run, counted-turn}
 use Rattle.extend_count.proofs.count_new.Statement.{statement}
 use Rattle.extend_count.proofs.count_new.Tie as tie
 

@@ -1,16 +1,16 @@
 -- `extend_count::raised_end` meets its contract: the sum fits. Assumes nothing.
 use borrow.Author.Needs.{needs}
-use mathlib.Core.Path.{_≡_, refl, sym, ap, _∙_}
-use Prim.Native.Nat.{ℕ, _+_, _-_, _<_, _≤_}
+use mathlib.Core.Path.{_≡_, sym, ap, _∙_}
+use Prim.Native.Nat.{ℕ}
 use native.Mathlib.Omega.{arith}
-use lib.IntN.{ℤ, pos, natAbs, _+ℤ_, _-ℤ_}
+use lib.IntN.{ℤ, pos, natAbs, _+ℤ_}
 use lib.Signed.{_≤ℤ_, ltZ}
 use mir.Syntax.{w32}
 use mir.Val.{toZ, ofZ, SFits}
 use mir.ValLaws.{toZ-ofZ, toZ-pos}
 use Rattle.meaning_numbers.proofs.Rep.{z-add, z-sub}
 use Rattle.meaning_numbers.proofs.Machine.{zmach32, ltZ-false, z-abs}
-use Rattle.extend_count.specs.Raise.{raisedEnd, EndRoom}
+use Rattle.extend_count.specs.Raise.{raisedEnd}
 use Rattle.extend_count.proofs.raised_end.Statement.{statement}
 use Rattle.extend_count.proofs.raised_end.Tie as tie
 

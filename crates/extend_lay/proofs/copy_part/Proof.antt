@@ -1,9 +1,5 @@
 -- `extend_lay::copy_part` meets its contract: the row's part of the column is lent to its writer. Assumes nothing.
 use borrow.Author.Needs.{needs}
-use mathlib.Core.Path.{_≡_, refl, sym, ap, _∙_}
-use Prim.Native.Nat.{ℕ, _+_, _-_, _<_, _≤_}
-use native.Mathlib.Omega.{arith}
-use lib.ListN.{length, take, drop}
 use Rattle.extend_lay.specs.Copy.{partSize, partCopied, rest-back}
 use Rattle.extend_lay.proofs.copy_part.Statement.{statement}
 use Rattle.extend_lay.proofs.copy_part.Tie as tie

@@ -1,11 +1,10 @@
 -- `extend_new::join_run` meets its contract: the window's sum is in the range, so the run ends after it. Assumes nothing.
 use borrow.Author.Needs.{needs}
 use borrow.Author.Tests.{not-true, not-false}
-use mathlib.Core.Path.{_≡_, refl, sym}
+use mathlib.Core.Path.{_≡_, refl}
 use mathlib.Core.Bool.{true}
-use Prim.Native.Nat.{ℕ, _+_, _-_, _<_, _≤_}
+use Prim.Native.Nat.{_<_}
 use native.Mathlib.Omega.{arith}
-use lib.ListN.{length, length-set}
 use Rattle.meaning_numbers.proofs.Tests.{clash}
 use Rattle.extend_new.specs.Join.{stop-ahead}
 use Rattle.extend_new.proofs.join_run.Statement.{statement}

@@ -1,9 +1,5 @@
 -- `extend_new::list_new` meets its contract: the new windows are those of the rest of the series, which is lent as a part. Assumes nothing.
 use borrow.Author.Needs.{needs}
-use mathlib.Core.Path.{_≡_, refl, sym}
-use Prim.Native.Nat.{ℕ, _+_, _-_, _<_, _≤_}
-use native.Mathlib.Omega.{arith}
-use lib.ListN.{length, take, drop}
 use borrow.Author.Tests.{lt-ltb, le-ltb}
 use Rattle.filing.specs.Levels.{windowsOf}
 use Rattle.filing.specs.Picked.{append-none}

@@ -1,8 +1,6 @@
 -- `extend_new::take_join` meets its contract. Assumes nothing.
 use borrow.Author.Needs.{needs}
-use mathlib.Core.Path.{_≡_, refl}
 use native.Mathlib.Omega.{arith}
-use lib.ListN.{length-set}
 use Rattle.extend_new.specs.New.{lessJoin}
 use Rattle.extend_new.proofs.take_join.Statement.{statement}
 use Rattle.extend_new.proofs.take_join.Tie as tie

@@ -1,6 +1,6 @@
 -- `extend_plan::plan_room` meets its contract: its tests are those of the definition. Assumes nothing.
 use borrow.Author.Needs.{needs}
-use mathlib.Core.Path.{_≡_, sym, _∙_}
+use mathlib.Core.Path.{sym, _∙_}
 use Rattle.extend_plan.proofs.Cases.{roomed-more, roomed-rows, roomed-runs, roomed-free}
 use Rattle.extend_plan.proofs.plan_room.Statement.{statement}
 use Rattle.extend_plan.proofs.plan_room.Tie as tie

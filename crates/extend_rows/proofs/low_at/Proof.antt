@@ -1,12 +1,11 @@
 -- `extend_rows::low_at` meets its contract: no product wraps, as the ranges are small. Assumes nothing.
 use borrow.Author.Needs.{needs}
-use mathlib.Core.Path.{_≡_, refl, sym, _∙_}
-use Prim.Native.Nat.{_<_, _^_}
+use mathlib.Core.Path.{_∙_}
 use native.Mathlib.Omega.{arith}
 use mir.Syntax.{w32}
 use mir.ValLaws.{toZ-ofZ}
 use borrow.Author.Tests.{lt-ltb, le-ltb}
-use Rattle.extend_rows.specs.Turn.{lowAt, Cells}
+use Rattle.extend_rows.specs.Turn.{lowAt}
 use Rattle.extend_rows.proofs.low_at.Statement.{statement}
 use Rattle.extend_rows.proofs.low_at.Tie as tie
 

@@ -1,5 +1,4 @@
 -- `extend_rows::made_after` meets its contract: its tests are those of the definition. Assumes nothing.
-use borrow.Author.Needs.{needs}
 use mathlib.Core.Path.{_≡_, sym, _∙_}
 use native.Mathlib.Omega.{arith}
 use lib.Signed.{leZ, ltZ}

@@ -1,5 +1,4 @@
 -- `filing::first_level` meets its contract. Assumes nothing.
-use mathlib.Core.Path.{_≡_, sym}
 use native.Mathlib.Omega.{arith}
 use Rattle.filing.specs.Levels.{level-first, level-small}
 use Rattle.filing.proofs.first_level.Statement.{statement}

@@ -1,9 +1,8 @@
 -- `filing::level_ends` meets its contract. The invariant: both ends of the windows passed (`bounds-more`). Assumes nothing.
 use borrow.Author.Needs.{needs}
 use mathlib.Core.Path.{_≡_}
-use Prim.Native.Nat.{ℕ, _+_, _-_, _≤_, _<_, min, max}
+use Prim.Native.Nat.{_+_, _-_, _≤_}
 use native.Mathlib.Omega.{arith}
-use lib.ListN.{length}
 use Rattle.filing.specs.Levels.{level, windowsOf, level-small, Bounds, bounds-more, bounds-one}
 use Rattle.filing.proofs.level_ends.Statement.{statement}
 use Rattle.filing.proofs.level_ends.Tie as tie

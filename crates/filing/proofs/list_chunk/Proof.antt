@@ -7,7 +7,7 @@ use lib.ListN.{length}
 use mathlib.Core.List.{List}
 use Rattle.filing.specs.Levels.{level, rowOf, windowsOf}
 use Rattle.filing.specs.Marks.{met, lit, lit-picked}
-use Rattle.filing.specs.Picked.{picked, Appended}
+use Rattle.filing.specs.Picked.{picked}
 use Rattle.filing.proofs.list_chunk.Statement.{statement}
 use Rattle.filing.proofs.list_chunk.Tie as tie
 

@@ -1,14 +1,13 @@
 -- `filing::list_rows` meets its contract. The invariant: the row numbers below the next chunk's first are listed. Assumes nothing.
-use borrow.Author.Needs.{needs}
-use mathlib.Core.Path.{_≡_, refl, sym, ap, _∙_}
-use Prim.Native.Nat.{ℕ, _+_, _-_, _/_, _≤_, _<_}
+use mathlib.Core.Path.{_≡_, refl, _∙_}
+use Prim.Native.Nat.{_+_, _-_, _≤_}
 use native.Mathlib.Omega.{arith}
 use native.Mathlib.Nat.{div-le-self}
 use lib.ListN.{length}
 use Rattle.filing.specs.Levels.{level, rowOf, windowsOf}
 use Rattle.filing.specs.Marks.{met}
-use Rattle.filing.specs.Picked.{picked, picked-on, Appended, append-none, append-on}
-use Rattle.filing.specs.Table.{table, chunk-next, chunk-room, table-start, table-end, table-room}
+use Rattle.filing.specs.Picked.{picked, Appended, append-none}
+use Rattle.filing.specs.Table.{table, chunk-next, chunk-room, table-start, table-end}
 use Rattle.filing.proofs.list_rows.Statement.{statement}
 use Rattle.filing.proofs.list_rows.Tie as tie
 

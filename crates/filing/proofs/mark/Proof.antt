@@ -1,8 +1,7 @@
 -- `filing::mark` meets its contract. The invariant: the flags tell the row numbers of the windows passed (`flags-run`). Assumes nothing.
 use borrow.Author.Needs.{needs}
 use mathlib.Core.Path.{_≡_, refl, ap, _∙_}
-use mathlib.Core.List.{List}
-use Prim.Native.Nat.{ℕ, _+_, _-_, _/_, _≤_, _<_}
+use Prim.Native.Nat.{ℕ, _-_, _/_, _≤_}
 use native.Mathlib.Omega.{arith}
 use lib.ListN.{length}
 use Rattle.filing.specs.Levels.{level, rowOf, windowsOf, level-small}

@@ -1,7 +1,7 @@
 -- `filing::move_on` meets its contract (`level-next`). Assumes nothing.
 use borrow.Author.Needs.{needs}
 use mathlib.Core.Path.{_≡_, _∙_}
-use Prim.Native.Nat.{ℕ, _+_, _≤_}
+use Prim.Native.Nat.{_+_}
 use native.Mathlib.Omega.{arith}
 use Rattle.meaning_curves.specs.Curve.{at}
 use Rattle.numbers.specs.Raised.{raised, raised-le}

@@ -4,10 +4,9 @@ use borrow.Author.Tests.{not-true, not-false}
 use borrow.Author.Count.{below-more}
 use mathlib.Core.Path.{_≡_, sym, ap, _∙_}
 use mathlib.Core.Bool.{true}
-use Prim.Native.Nat.{ℕ, _+_, _-_, _≤_, _<_}
+use Prim.Native.Nat.{ℕ, _-_, _≤_, _<_}
 use native.Mathlib.Omega.{arith}
-use lib.ListN.{length}
-use Rattle.filing.specs.Levels.{level, within, windowsOf, Lent}
+use Rattle.filing.specs.Levels.{level, within, windowsOf}
 use Rattle.filing.specs.Change.{stop-from, stop-here}
 use Rattle.filing.proofs.next_out.Statement.{statement}
 use Rattle.filing.proofs.next_out.Tie as tie

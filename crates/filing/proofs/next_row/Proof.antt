@@ -1,11 +1,9 @@
 -- `filing::next_row` meets its contract (`next-row`). Assumes nothing.
-use borrow.Author.Needs.{needs}
-use mathlib.Core.Path.{_≡_, sym, subst}
-use Prim.Native.Nat.{ℕ, _+_, _*_, _/_, _≤_}
+use Prim.Native.Nat.{_*_, _≤_}
 use native.Mathlib.Omega.{arith}
 use native.Mathlib.Nat.{div-mul-le-self}
 use Rattle.filing.specs.Levels.{level, rowOf, level-small}
-use Rattle.filing.specs.Change.{Stop, next-row}
+use Rattle.filing.specs.Change.{next-row}
 use Rattle.filing.proofs.next_row.Statement.{statement}
 use Rattle.filing.proofs.next_row.Tie as tie
 

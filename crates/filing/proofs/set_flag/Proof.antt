@@ -1,7 +1,7 @@
 -- `filing::set_flag` meets its contract. Assumes nothing.
 use borrow.Author.Needs.{needs}
 use borrow.Author.Tests.{le-leb, lt-leb}
-use mathlib.Core.Path.{_≡_, sym}
+use mathlib.Core.Path.{sym}
 use lib.Seq.{set-out}
 use Rattle.filing.specs.Marks.{flagged}
 use Rattle.filing.proofs.set_flag.Statement.{statement}

@@ -1,7 +1,6 @@
 -- `filing::slide` meets its contract (`level-next`). Assumes nothing.
-use borrow.Author.Needs.{needs}
 use mathlib.Core.Path.{_≡_}
-use Prim.Native.Nat.{ℕ, _+_, _≤_}
+use Prim.Native.Nat.{_+_}
 use native.Mathlib.Omega.{arith}
 use Rattle.numbers.specs.Raised.{raised-le}
 use Rattle.filing.specs.Levels.{level, level-next, level-small}

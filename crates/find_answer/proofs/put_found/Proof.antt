@@ -1,6 +1,5 @@
 -- `find_answer::put_found` meets its contract, by the answer. Assumes nothing.
 use borrow.Author.Needs.{needs}
-use Rattle.find_answer.specs.Print.{FoundPut}
 use Rattle.find_answer.proofs.put_found.Statement.{statement}
 use Rattle.find_answer.proofs.put_found.Tie as tie
 

@@ -1,8 +1,6 @@
 -- `find_plan::above` meets its contract. Assumes nothing.
 use borrow.Author.Needs.{needs}
 use Rattle.find_plan.specs.Text.{cast-is}
-use Rattle.meaning_numbers.proofs.Machine.{zmach, z-cast}
-use lib.IntN.{pos}
 use mir.Syntax.{w64}
 use mir.ValLaws.{toZ-ofZ}
 use Rattle.find_plan.proofs.above.Statement.{statement}

@@ -1,13 +1,10 @@
 -- `find_plan::band_outside` meets its contract. Assumes nothing.
 use borrow.Author.Needs.{needs}
-use Prim.Native.Nat.{ℕ}
 use Rattle.find_plan.specs.Text.{cast-is}
-use Rattle.meaning_numbers.proofs.Machine.{zmach, z-cast}
+use Rattle.meaning_numbers.proofs.Machine.{zmach}
 use Rattle.meaning_numbers.proofs.Rep.{z-sub}
-use Rattle.meaning_numbers.specs.Order.{within}
 use lib.IntN.{ℤ, pos, _-ℤ_}
-use mathlib.Core.Bool.{not}
-use mathlib.Core.Path.{_≡_, _∙_, ap, refl}
+use mathlib.Core.Path.{_∙_}
 use mir.Syntax.{w64}
 use mir.Val.{SFits}
 use mir.ValLaws.{toZ-ofZ}

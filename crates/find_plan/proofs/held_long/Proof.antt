@@ -1,8 +1,8 @@
 -- `find_plan::held_long` meets its contract. Assumes nothing.
 use borrow.Author.Needs.{needs}
 use Rattle.meaning_numbers.proofs.Machine.{zmach, z-abs, z-fits}
-use lib.IntN.{ℤ, pos}
-use lib.Signed.{_≤ℤ_, _<ℤ_}
+use lib.IntN.{pos}
+use lib.Signed.{_≤ℤ_}
 use mir.Syntax.{w64}
 use mir.ValLaws.{toZ-ofZ}
 use Rattle.find_plan.proofs.held_long.Statement.{statement}

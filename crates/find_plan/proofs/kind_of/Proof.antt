@@ -2,8 +2,6 @@
 use Rattle.meaning_numbers.proofs.Machine.{zmach, lt-ltZ, le-ltZ}
 use lib.IntN.{ℤ, pos}
 use lib.Signed.{_≤ℤ_, _<ℤ_}
-use mir.Syntax.{w64}
-use mir.ValLaws.{toZ-ofZ}
 use Rattle.find_plan.proofs.kind_of.Statement.{statement}
 use Rattle.find_plan.proofs.kind_of.Tie as tie
 

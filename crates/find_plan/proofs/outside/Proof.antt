@@ -3,7 +3,7 @@ use Rattle.find_plan.specs.Text.{not-le}
 use Rattle.meaning_numbers.proofs.Machine.{zmach}
 use Rattle.meaning_numbers.specs.Order.{within}
 use Rattle.text_feed.specs.Keep.{gt-leZ, le-leZ}
-use lib.IntN.{ℤ, pos}
+use lib.IntN.{ℤ}
 use lib.Signed.{_≤ℤ_, _<ℤ_}
 use mir.Syntax.{w64}
 use mir.ValLaws.{toZ-ofZ}

@@ -1,9 +1,6 @@
 -- `find_plan::read_piece` meets its contract, by what feeding comes to. Assumes nothing.
 use borrow.Author.Needs.{needs}
-use Prim.Native.Nat.{ℕ, _+_, _-_}
 use Rattle.find_plan.specs.Input.{open-ready, read-still, read-going, read-failed}
-use Rattle.meaning_text.specs.Read.{lineOf}
-use mathlib.Core.Path.{_∙_, ap}
 use Rattle.find_plan.proofs.read_piece.Statement.{statement}
 use Rattle.find_plan.proofs.read_piece.Tie as tie
 

@@ -1,6 +1,5 @@
 -- `find_plan::refuse_values` meets its contract, line by line. Assumes nothing.
 use Rattle.find_plan.specs.Text.{length-refused, series-refused, query-refused, values-pass}
-use mathlib.Core.Path.{refl}
 use Rattle.find_plan.proofs.refuse_values.Statement.{statement}
 use Rattle.find_plan.proofs.refuse_values.Tie as tie
 

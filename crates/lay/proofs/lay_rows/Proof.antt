@@ -1,7 +1,7 @@
 -- `lay::lay_rows` meets its contract: a walk of its MIR, by hand. The two run columns are lent to `lay_out`, and then, with the records, to `pack_rows`. All that the proof knows of the two is that they meet their contracts.
 -- Assumes nothing.
 use mathlib.Core.Path.{_≡_, refl}
-use Prim.Native.Nat.{ℕ, _+_, _-_, _*_, _<_, _≤_, _^_}
+use Prim.Native.Nat.{ℕ, _+_, _*_, _<_, _≤_, _^_}
 use native.Mathlib.Omega.{arith}
 use mathlib.Core.List.{List, [], _∷_}
 use lib.IntN.{ℤ}

@@ -1,6 +1,6 @@
 -- `pack::raised_rows` meets its contract, by the two inequalities of a quotient. Assumes nothing.
 use borrow.Author.Needs.{needs}
-use Prim.Native.Nat.{ℕ, _+_, _-_, _*_, _/_}
+use Prim.Native.Nat.{_+_, _-_, _*_}
 use native.Mathlib.Omega.{arith}
 use native.Mathlib.Nat.{div-mul-le-self, lt-div-mul-add}
 use Rattle.pack.proofs.raised_rows.Statement.{statement}

@@ -1,12 +1,11 @@
 -- `pack::row_from` meets its contract. Assumes nothing.
 use borrow.Author.Needs.{needs}
-use mathlib.Core.Path.{_≡_, refl, sym, _∙_}
+use mathlib.Core.Path.{_∙_}
 use Prim.Native.Nat.{_-_}
 use native.Mathlib.Omega.{arith}
 use lib.ListN.{getD}
 use mir.Syntax.{w32}
 use mir.ValLaws.{toZ-ofZ}
-use Rattle.pack.specs.Packed.{startOf, rowFrom}
 use Rattle.pack.proofs.row_from.Statement.{statement}
 use Rattle.pack.proofs.row_from.Tie as tie
 

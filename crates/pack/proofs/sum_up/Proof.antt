@@ -1,5 +1,5 @@
 -- `pack::sum_up` meets its contract. The invariant: the counts passed are sums, and the sum so far is theirs (`summed-more`). Assumes nothing.
-use mathlib.Core.Path.{_≡_, refl, sym, ap, _∙_}
+use mathlib.Core.Path.{_≡_, sym, _∙_}
 use Prim.Native.Nat.{ℕ, _+_, _-_, _≤_, _<_}
 use native.Mathlib.Omega.{arith}
 use lib.ListN.{length, getD}

@@ -3,8 +3,6 @@ use borrow.Author.Needs.{needs}
 use Rattle.payout_walk.specs.Walk.{shutWalk}
 use Rattle.payout_walk.proofs.shut.Statement.{statement}
 use Rattle.payout_walk.proofs.shut.Tie as tie
-use Rattle.payout_walk.proofs.shut.Reads as reads
-use Rattle.payout_walk.proofs.shut.Lts as lts
 
 -- src/lib.rt:131:15
 add-t3 : tie.Need-add-t3

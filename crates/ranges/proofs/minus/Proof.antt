@@ -1,5 +1,4 @@
 -- `ranges::minus` meets its contract: the numbers are small. Assumes nothing.
-use mathlib.Core.Path.{_∙_}
 use native.Mathlib.Omega.{arith}
 use mir.Syntax.{w64}
 use mir.ValLaws.{toZ-ofZ}

@@ -1,7 +1,7 @@
 -- `search::look` meets its contract: a walk of its MIR, by hand. The ranges of the parts are put into the candidate buffer, each is replaced by the stretch of runs that it meets, and the search ends. All that the proof knows of the callees is that they meet their contracts.
 -- Assumes nothing.
 use mathlib.Core.Path.{_≡_, refl, _∙_}
-use Prim.Native.Nat.{ℕ, _-_, _/_, _<_, _^_}
+use Prim.Native.Nat.{ℕ, _/_, _<_, _^_}
 use mathlib.Core.List.{List, [], _∷_}
 use lib.IntN.{ℤ}
 use lib.ListN.{length}

@@ -1,6 +1,6 @@
 -- `spans::meet_parts` meets its contract: a walk of its MIR, by hand. Each turn of the loop calls `range_at`, to which the two columns are lent to be read, `met_span`, and `put_span`, for which they are lent again. All that the proof knows of the three is that they meet their contracts.
 -- The invariant is `Meeting`, the measure how many parts are left; a turn is `meeting-next` of specs/Met.antt, over plain variables. Assumes nothing.
-use mathlib.Core.Path.{_≡_, refl, sym, _∙_, ap, subst}
+use mathlib.Core.Path.{_≡_, refl, sym, subst}
 use Prim.Native.Nat.{ℕ, _+_, _-_, _<_, _≤_, _^_}
 use native.Mathlib.Omega.{arith}
 use mathlib.Core.Bool.{Bool, true, false}
@@ -24,7 +24,6 @@ use types.Part.{whole, sub, look-in, agg}
 use types.Run.{look, init, store, forget, stop, hop, fld, from, load, lit, unit-lit, of-opd, addr, bin, assigns, assigns-last, stays, leaves-loop, exec, and-then, no-more, land, returns, enter, alloc1, alloc0, params1, pass1, pass0, free0}
 use sound.WpLaws.{FmC, fmOf, WpFn-mono}
 use denote.RattleType.{owns}
-use denote.Laws.{Is}
 use borrow.Author.Tests.{ltb-true, ltb-false}
 use denote.Memory.{pointee}
 use denote.Plain.{uint-vals, uint-tells}
@@ -40,7 +39,6 @@ use denote.Triple.Statement.{Triple}
 use denote.Triple.Table.{entered, cited}
 use denote.Triple.Walked.{says, Stays, stay-dropped, stay-slice, walkOf, goes-dropped, goes-slice, Walks, ends-at, walked, walk-meets, needs}
 use denote.Exit.{yes}
-use Rattle.meaning_rows.specs.declared.Row.{Row}
 use Rattle.meaning_rows.proofs.Row as T
 use Rattle.records.proofs.Walk.{by-bool, lose, lose-room, loops-by}
 use Rattle.records.proofs.Lends as Lends
@@ -57,7 +55,7 @@ use Rattle.filter.proofs.met_span.Symbol as met-def
 use Rattle.filter.proofs.met_span.Symbol.{name as #met-span}
 use Rattle.filter.proofs.met_span.Met as met-thm
 use Rattle.spans.specs.Held.{heldRange, Stored}
-use Rattle.spans.specs.Met.{spanOf, spanAt, MeetReady, AllMet, Meeting, meeting-starts, meeting-ends, meeting-asks, meeting-stores, meeting-next}
+use Rattle.spans.specs.Met.{spanOf, MeetReady, AllMet, Meeting, meeting-starts, meeting-ends, meeting-asks, meeting-stores, meeting-next}
 use Rattle.spans.proofs.Calls.{RangeAt, PutSpan, calls-range-at, calls-put-span}
 use Rattle.spans.proofs.range_at.Symbol as range-def
 use Rattle.spans.proofs.range_at.Symbol.{name as #range-at}

@@ -4,7 +4,7 @@ use Prim.Native.Nat.{ℕ, _+_, _-_, _/_, _≤_, _<_}
 use native.Mathlib.Omega.{arith}
 use lib.ListN.{length, getD, length-set}
 use Rattle.meaning_rows.proofs.Runs.{runs-le}
-use Rattle.filing.specs.Levels.{level, rowOf, windowsOf, Lent, level-small}
+use Rattle.filing.specs.Levels.{level, rowOf, windowsOf, level-small}
 use Rattle.filing.specs.Table.{table}
 use Rattle.tally.specs.Tally.{isRow, Fresh, Counted, fresh-start, fresh-next, counted-start, counted-run}
 use Rattle.tally.specs.Rows.{table-rises, table-has, front-at, front-rising, front-has}

@@ -1,11 +1,8 @@
 -- `tally::find_number` meets its contract. The invariant: wherever the number stands, it is one of the places left (`sought-half`). Assumes nothing.
-use mathlib.Core.Path.{_≡_, refl, sym, ap, _∙_}
-use Prim.Native.Nat.{ℕ, _+_, _-_, _*_, _/_, _≤_, _<_}
+use mathlib.Core.Path.{_≡_}
+use Prim.Native.Nat.{_*_, _/_, _≤_}
 use native.Mathlib.Omega.{arith}
-use lib.Dec.{leb}
-use lib.ListN.{length, getD}
-use Rattle.meaning_numbers.specs.Sum.{bit}
-use Rattle.tally.specs.Tally.{Rising, Has, Sought, half-or-none, sought-half}
+use Rattle.tally.specs.Tally.{Sought, half-or-none, sought-half}
 use Rattle.tally.proofs.find_number.Statement.{statement}
 use Rattle.tally.proofs.find_number.Tie as tie
 

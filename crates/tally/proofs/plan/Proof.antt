@@ -1,6 +1,5 @@
 -- `tally::plan` meets its contract: what it asks of each part, the part before has ensured. Assumes nothing.
 use borrow.Author.Needs.{needs}
-use mathlib.Core.Path.{_≡_}
 use native.Mathlib.Omega.{arith}
 use Rattle.tally.proofs.plan.Statement.{statement}
 use Rattle.tally.proofs.plan.Tie as tie

@@ -1,7 +1,5 @@
 -- `text_index::index_step` meets its contract. By the state. Assumes nothing.
-use mathlib.Core.Path.{_≡_, sym, _∙_}
 use Rattle.text_index.specs.Step.{indexStep}
-use mathlib.Core.Path.{sym, _∙_}
 use borrow.Author.Needs.{needs}
 use Rattle.text_index.proofs.index_step.Statement.{statement}
 use Rattle.text_index.proofs.index_step.Tie as tie

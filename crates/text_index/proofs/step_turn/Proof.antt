@@ -1,5 +1,5 @@
 -- `text_index::step_turn` meets its contract. The word that the byte picks is tried. Assumes nothing.
-use mathlib.Core.Path.{_≡_, sym, _∙_}
+use mathlib.Core.Path.{sym, _∙_}
 use Rattle.text_index.specs.Step.{turnStep, word-long}
 use mathlib.Core.Path.{sym, _∙_}
 use borrow.Author.Needs.{needs}

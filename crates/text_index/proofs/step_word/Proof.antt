@@ -1,5 +1,5 @@
 -- `text_index::step_word` meets its contract. By where the byte leads, and whether it ends a row. Assumes nothing.
-use mathlib.Core.Path.{_≡_, sym, _∙_}
+use mathlib.Core.Path.{sym, _∙_}
 use Rattle.text_index.specs.Step.{wordStep}
 use mathlib.Core.Path.{sym, _∙_}
 use borrow.Author.Needs.{needs}

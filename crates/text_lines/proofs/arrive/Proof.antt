@@ -1,5 +1,5 @@
 -- `text_lines::arrive` meets its contract. By the two tests. Assumes nothing.
-use mathlib.Core.Path.{_≡_, sym, _∙_}
+use mathlib.Core.Path.{sym, _∙_}
 use native.Mathlib.Omega.{arith}
 use borrow.Author.Tests.{eq-eqb, ne-eqb, lt-ltb, le-ltb}
 use Rattle.text_lines.specs.Step.{reach, word-short}

@@ -1,5 +1,5 @@
 -- `text_lines::picked` meets its contract. By the case and the byte. Assumes nothing.
-use borrow.Author.Tests.{eq-eqb, ne-eqb, lt-ltb, le-ltb}
+use borrow.Author.Tests.{eq-eqb, ne-eqb}
 use Rattle.text_lines.specs.Step.{pick}
 use borrow.Author.Needs.{needs}
 use Rattle.text_lines.proofs.picked.Statement.{statement}

@@ -1,7 +1,7 @@
 -- `text_lines::step_word` meets its contract. By where the byte leads, and whether it is the last of the word. Assumes nothing.
-use mathlib.Core.Path.{_≡_, sym, _∙_}
+use mathlib.Core.Path.{sym, _∙_}
 use native.Mathlib.Omega.{arith}
-use borrow.Author.Tests.{eq-eqb, ne-eqb, lt-ltb, le-ltb}
+use borrow.Author.Tests.{lt-ltb, le-ltb}
 use Rattle.text_lines.specs.Step.{wordStep, word-short}
 use borrow.Author.Needs.{needs}
 use Rattle.text_lines.proofs.step_word.Statement.{statement}

@@ -1,6 +1,5 @@
 -- `text_numbers::number_value` meets its contract. By the state of the number; its magnitude is below 10 ^ 18. Assumes nothing.
-use mathlib.Core.Path.{_≡_, ap, sym, _∙_}
-use Prim.Native.Nat.{_<_, _^_}
+use mathlib.Core.Path.{_≡_}
 use native.Mathlib.Omega.{arith}
 use lib.IntN.{pos, negℤ, _-ℤ_}
 use mir.Syntax.{w64}
@@ -8,7 +7,7 @@ use mir.Val.{toZ, ofZ}
 use mir.ValLaws.{toZ-pos}
 use Rattle.meaning_numbers.proofs.Rep.{z-sub, z-neg}
 use Rattle.meaning_numbers.proofs.Machine.{zmach, z-cast}
-use Rattle.text_numbers.specs.Number.{whole, NumGood}
+use Rattle.text_numbers.specs.Number.{whole}
 use borrow.Author.Needs.{needs}
 use Rattle.text_numbers.proofs.number_value.Statement.{statement}
 use Rattle.text_numbers.proofs.number_value.Tie as tie

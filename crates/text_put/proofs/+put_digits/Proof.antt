@@ -1,11 +1,10 @@
 -- `text_put::put_digits` meets its contract: one digit, or those of a tenth and the last. The measure is the number. Assumes nothing.
-use mathlib.Core.Path.{_≡_, sym, ap, _∙_, subst}
+use mathlib.Core.Path.{_∙_}
 use native.Mathlib.Omega.{arith}
 use borrow.Author.Needs.{needs}
-use Rattle.meaning_text.specs.Number.{spellℕ}
 use Rattle.meaning_text.proofs.Number.{spell-one}
 use Rattle.text_put.specs.Digits.{spell-split}
-use Rattle.text_put.specs.Put.{Put, put-then, put-length}
+use Rattle.text_put.specs.Put.{put-then}
 use Prim.Native.Nat.{ℕ, _<_}
 use borrow.Fn.Kinds.{In}
 use borrow.Fn.PlainCycle.{Measures, is, falls, and}

@@ -1,12 +1,9 @@
 -- `text_put::magnitude` meets its contract. By the sign. Assumes nothing.
-use mathlib.Core.Path.{_≡_, sym, ap, _∙_}
-use native.Mathlib.Omega.{arith}
-use lib.IntN.{pos, natAbs, _+ℤ_, _-ℤ_}
+use lib.IntN.{pos, _+ℤ_, _-ℤ_}
 use mir.Syntax.{w64}
 use mir.Val.{toZ, ofZ}
 use Rattle.meaning_numbers.proofs.Rep.{z-add, z-sub}
 use Rattle.meaning_numbers.proofs.Machine.{zmach, z-abs, z-fits}
-use borrow.Author.Needs.{needs}
 use Rattle.text_put.proofs.magnitude.Statement.{statement}
 use Rattle.text_put.proofs.magnitude.Tie as tie
 

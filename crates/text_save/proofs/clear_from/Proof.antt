@@ -3,7 +3,6 @@ use Prim.Native.Nat.{_-_}
 use native.Mathlib.Omega.{arith}
 use lib.ListN.{length, length-set}
 use Rattle.text_save.specs.Spell.{Clearing, clearing-starts, clearing-turn, clearing-length, clearing-ends}
-use borrow.Author.Needs.{needs}
 use Rattle.text_save.proofs.clear_from.Statement.{statement}
 use Rattle.text_save.proofs.clear_from.Tie as tie
 

@@ -1,5 +1,5 @@
 -- `text_write::write_runs` meets its contract. The invariant: the first i runs of the part stand in the buffer (`Runs`). Assumes nothing.
-use mathlib.Core.Path.{_≡_, refl, sym, _∙_}
+use mathlib.Core.Path.{_∙_}
 use Prim.Native.Nat.{_-_}
 use native.Mathlib.Omega.{arith}
 use borrow.Author.Needs.{needs}

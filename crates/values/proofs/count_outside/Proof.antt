@@ -8,7 +8,7 @@ use mir.Syntax.{w32}
 use mir.Val.{boolByte}
 use mir.ValLaws.{toZ-ofZ}
 use Rattle.meaning_numbers.specs.Sum.{count}
-use Rattle.meaning_numbers.proofs.Count.{flag-bit, bit-le, count-none, count-more, count-le}
+use Rattle.meaning_numbers.proofs.Count.{flag-bit, count-none, count-more, count-le}
 use Rattle.meaning_curves.specs.Curve.{stretch}
 use Rattle.meaning_curves.specs.Limits.{valueIn}
 use Rattle.values.proofs.count_outside.Statement.{statement}
