@@ -18,6 +18,7 @@ use judge::judge;
 use meaning_entries::Audited;
 use meaning_rows::Head;
 use meaning_rows::Row;
+use numbers::minus;
 use records::chunk_at;
 use values::Place;
 use values::first_outside;
@@ -130,13 +131,6 @@ pub fn audit_chunk(
         row: row,
         offset: offset,
     }
-}
-
-// The difference, 0 where it would be below.
-pub fn minus(a: usize, b: usize) -> usize
-    ensures { λ n. ⌜ n ≡ a - b ⌝ }
-{
-    if b <= a { a - b } else { 0 }
 }
 
 // The plan for a well-formed index, whose run lengths total `total`.

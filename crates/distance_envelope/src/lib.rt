@@ -1,6 +1,7 @@
 // The envelopes of a query within a band, by passes that double how far each value reaches: first ahead, then back. Some 2 × log2(b) passes over the query, in place.
 use numbers::greater_value;
 use numbers::lesser_value;
+use numbers::minus;
 use values::copy_values;
 ghost use mathlib.Core.Path.{_≡_};
 ghost use Prim.Native.Nat.{_+_, _-_, _<_, min};
@@ -20,13 +21,6 @@ pub fn pick(low: bool, x: i32, y: i32) -> i32
     greater_value(x, y)
 }
 
-// What is left of `m` places after `d`.
-pub fn places_left(m: usize, d: usize) -> usize
-    ensures { λ r. ⌜ r ≡ m - d ⌝ }
-{
-    if m < d { 0 } else { m - d }
-}
-
 // By how much a window that reaches `n` places grows on its way to `b`: by its length, or by what is left.
 pub fn growth(n: usize, b: usize) -> usize
     requires { ⌜ n < b ⌝ }
@@ -40,7 +34,7 @@ pub fn pass_ahead(out: &mut [i32], d: usize, low: bool)
     ensures { λ r. ⌜ PassAhead low d (now (out .entry)) (now (out .exit)) ⌝ }
 {
     let m = out.len();
-    let end = places_left(m, d);
+    let end = minus(m, d);
     let mut i: usize = 0;
     while i < end {
         let x = out[i];

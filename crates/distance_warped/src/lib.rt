@@ -2,6 +2,7 @@
 use distance_bound::envelope_bound;
 use distance_bound::excess_at;
 use numbers::lesser;
+use numbers::minus;
 use numbers::squared;
 ghost use mathlib.Core.Path.{_≡_};
 ghost use Prim.Native.Nat.{ℕ, _+_, _-_, _<_, _≤_, min};
@@ -15,13 +16,6 @@ ghost use Rattle.meaning_filter.proofs.Bound.{apart};
 ghost use Rattle.numbers.specs.Within.{Within};
 ghost use Rattle.distance_envelope.specs.Envelope.{Envelopes};
 ghost use Rattle.distance_warped.specs.Rows.{big, cells, RowIs, LeastOf};
-
-// The first place of the band in row `k`.
-pub fn band_low(k: usize, b: usize) -> usize
-    ensures { λ r. ⌜ r ≡ k - b ⌝ }
-{
-    if k < b { 0 } else { k - b }
-}
 
 // The place after the last of the band in row `k`.
 pub fn band_high(k: usize, b: usize, m: usize) -> usize
@@ -87,7 +81,7 @@ pub fn next_row(s: &[i32], from: usize, q: &[i32], b: usize, i: usize, row: &mut
     let m = q.len();
     let k = i + 1;
     let x = s[from + k];
-    let lo = band_low(k, b);
+    let lo = minus(k, b);
     let hi = band_high(k, b, m);
     let mut corner = row[lo];
     row[lo] = 819200000000;

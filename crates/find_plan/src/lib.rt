@@ -4,6 +4,7 @@ use conditions::query_length_outside;
 use conditions::refuse_if;
 use meaning_filter::Kind;
 use meaning_filter::Limits;
+use numbers::minus;
 use search_plan::normal_flat;
 use text_feed::Feeding;
 use text_feed::Progress;
@@ -49,13 +50,6 @@ pub fn begin() -> Input
     Input::Going(start, 1)
 }
 
-// How many bytes stand before a place, from another on.
-fn bytes_between(from: usize, to: usize) -> usize
-    ensures { λ r. ⌜ r ≡ to - from ⌝ }
-{
-    if from < to { to - from } else { 0 }
-}
-
 // The line of a place in a piece that begins in a line.
 fn line_in(line: usize, piece: &[u8], k: usize) -> usize
     requires { ⌜ (1 ≤ line) × (line + length (now piece) < 2 ^ 63 + 2) ⌝ }
@@ -86,7 +80,7 @@ pub fn read_piece(
                     Input::Going(n, next)
                 }
                 Feeding::Failed(k) => {
-                    let bad = line_in(line, piece, bytes_between(at, k));
+                    let bad = line_in(line, piece, minus(k, at));
                     Input::Failed(bad)
                 }
             }

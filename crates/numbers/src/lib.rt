@@ -1,6 +1,6 @@
 // Leaf arithmetic: whole roots, row numbers, and the few functions that own signed numbers.
 ghost use mathlib.Core.Path.{_≡_};
-ghost use Prim.Native.Nat.{_+_, _*_, _/_, _<_, _≤_, min, max};
+ghost use Prim.Native.Nat.{_+_, _-_, _*_, _/_, _<_, _≤_, min, max};
 ghost use lib.IntN.{pos, _-ℤ_, natAbs};
 ghost use Rattle.meaning_numbers.specs.Root.{root};
 ghost use Rattle.meaning_numbers.specs.Order.{minℤ, maxℤ};
@@ -105,6 +105,13 @@ pub fn difference(a: u64, b: u64) -> u64
     ensures { λ r. ⌜ r ≡ natAbs (pos a -ℤ pos b) ⌝ }
 {
     if a < b { b - a } else { a - b }
+}
+
+// The difference, 0 where it would be negative.
+pub fn minus(a: usize, b: usize) -> usize
+    ensures { λ r. ⌜ r ≡ a - b ⌝ }
+{
+    if a < b { 0 } else { a - b }
 }
 
 pub fn lesser(a: u64, b: u64) -> u64

@@ -22,8 +22,8 @@ line-in-requires c κs = let o = open-ready (c .before .before .before .before .
 enum-known-k : tie.Need-enum-known-k
 enum-known-k c = search needs
 
-bytes-between-requires : tie.Need-bytes-between-requires
-bytes-between-requires c κs = search needs
+minus-requires : tie.Need-minus-requires
+minus-requires c κs = search needs
 
 line-in-requires-2 : tie.Need-line-in-requires-2
 line-in-requires-2 c κs = let o = open-ready (c .before .before .before .before .before .before .before .before .before .before .before .before .r2 .given .1) (c .before .before .before .before .before .before .before .before .before .before .before .before .before .before .before .pre) in (o .1, o .2)
@@ -53,7 +53,7 @@ same-length-6 : tie.Need-same-length-6
 same-length-6 c = search needs
 
 returns-3 : tie.Need-returns-3
-returns-3 c = let a = c .before .before .before .before .before .before .before .before .before .before .before .before .before .before .before .before .args in read-failed (a .piece .now) (a .numbers .now) (a .series .now) (a .query .now) _ _ _ (c .before .before .before .before .before .before .before .before .before .before .before .before .before .r2 .given .1) (c .before .before .before .before .before .before .before .before .feed .ensures .0) (c .before .before .before .before .before .before .before .before .feed .ensures .1) (c .before .before .before .k .given .1) (rw (c .before .bytes-between .ensures) at (c .line-in2 .ensures))
+returns-3 c = let a = c .before .before .before .before .before .before .before .before .before .before .before .before .before .before .before .before .args in read-failed (a .piece .now) (a .numbers .now) (a .series .now) (a .query .now) _ _ _ (c .before .before .before .before .before .before .before .before .before .before .before .before .before .r2 .given .1) (c .before .before .before .before .before .before .before .before .feed .ensures .0) (c .before .before .before .before .before .before .before .before .feed .ensures .1) (c .before .before .before .k .given .1) (rw (c .before .minus .ensures) at (c .line-in2 .ensures))
 
 pub read-piece-spec : {M : Type 1} → statement M
 read-piece-spec =
@@ -65,7 +65,7 @@ read-piece-spec =
     enum-known-n
     line-in-requires
     enum-known-k
-    bytes-between-requires
+    minus-requires
     line-in-requires-2
     returns
     same-length
