@@ -1,10 +1,9 @@
 // The plan of an extension: its refusal, of what judging said and of how many entries the buffers hold.
 ghost use mathlib.Core.Path.{_≡_};
-ghost use Prim.Native.Nat.{_+_, _-_, _≤_};
-ghost use lib.Dec.{ltb};
 ghost use Rattle.extend_plan.specs.Plan.{roomed, planOf};
 use conditions::length_in;
 use conditions::more;
+use conditions::too_short;
 use judge::Judged;
 use meaning_rows::Head;
 use values::Place;
@@ -16,22 +15,8 @@ pub struct Plan {
     pub place: usize,
 }
 
-// A buffer of `room` entries is too short for the windows of n values.
-pub fn short(room: usize, n: usize, w: u32) -> bool
-    requires { ⌜ n ≤ 1048576 ⌝ }
-    ensures { λ b. ⌜ b ≡ ltb room (n + 1 - w) ⌝ }
-{
-    let size = w as usize;
-    if size <= n {
-        room < n + 1 - size
-    } else {
-        false
-    }
-}
-
 // The plan for a well-formed index.
 pub fn plan_room(head: Head, n: usize, rows: usize, runs: usize) -> Plan
-    requires { ⌜ n ≤ 1048576 ⌝ }
     ensures { λ p. ⌜ p ≡ roomed head n rows runs ⌝ }
 {
     let windows = head.windows;
@@ -42,13 +27,13 @@ pub fn plan_room(head: Head, n: usize, rows: usize, runs: usize) -> Plan
             place: 0,
         };
     }
-    if short(rows, n, w) {
+    if too_short(rows, w, n) {
         return Plan {
             number: 23,
             place: 0,
         };
     }
-    if short(runs, n, w) {
+    if too_short(runs, w, n) {
         return Plan {
             number: 23,
             place: 0,

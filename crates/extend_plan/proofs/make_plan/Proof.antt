@@ -3,7 +3,7 @@ use borrow.Author.Needs.{needs}
 use borrow.Author.Tests.{not-true, not-false}
 use mathlib.Core.Path.{sym, _∙_}
 use lib.ListN.{length}
-use Rattle.extend_plan.proofs.Cases.{long-most, plan-long, plan-outside, plan-inside, judged-fine, judged-bad}
+use Rattle.extend_plan.proofs.Cases.{plan-long, plan-outside, plan-inside, judged-fine, judged-bad}
 use Rattle.extend_plan.proofs.make_plan.Statement.{statement}
 use Rattle.extend_plan.proofs.make_plan.Tie as tie
 
@@ -17,11 +17,6 @@ returns-2 c =
     let a = e .before .before .args in
     plan-outside (a .series .now) (a .head) (a .j) (a .rows) (a .runs) (sym (e .before .length-in .ensures) ∙ not-false (e .before .length-in .result) (e .if1 .left)) (c .before .k .given .0 .0)
     (sym (c .before .k .given .1) ∙ f .first-outside .ensures)
-
-plan-room-requires : tie.Need-plan-room-requires
-plan-room-requires c κs =
-    let e = c .before .before .before .before .before in
-    long-most (length (e .before .before .args .series .now)) (sym (e .before .length-in .ensures) ∙ not-false (e .before .length-in .result) (e .if1 .left))
 
 returns-3 : tie.Need-returns-3
 returns-3 c =
@@ -53,7 +48,7 @@ make-plan-spec =
     (λ c. search needs)
     (λ c. search needs)
     (λ c. search needs)
-    plan-room-requires
+    (λ c κs. search needs)
     (λ c. search needs)
     returns-2
     returns-3

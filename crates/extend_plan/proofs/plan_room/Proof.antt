@@ -13,7 +13,7 @@ returns-2 c =
     let s = c .before in
     let m = s .before in
     let a = m .before .before .args in
-    roomed-rows (a .head) (a .n) (a .rows) (a .runs) (sym (m .before .more .ensures) ∙ m .if1 .left) (sym (s .short .ensures) ∙ c .if2 .taken)
+    roomed-rows (a .head) (a .n) (a .rows) (a .runs) (sym (m .before .more .ensures) ∙ m .if1 .left) (sym (s .too-short .ensures) ∙ c .if2 .taken)
 
 returns-3 : tie.Need-returns-3
 returns-3 c =
@@ -22,7 +22,7 @@ returns-3 c =
     let s = r .before in
     let m = s .before in
     let a = m .before .before .args in
-    roomed-runs (a .head) (a .n) (a .rows) (a .runs) (sym (m .before .more .ensures) ∙ m .if1 .left) (sym (s .short .ensures) ∙ r .if2 .left) (sym (u .short2 .ensures) ∙ c .if3 .taken)
+    roomed-runs (a .head) (a .n) (a .rows) (a .runs) (sym (m .before .more .ensures) ∙ m .if1 .left) (sym (s .too-short .ensures) ∙ r .if2 .left) (sym (u .too-short2 .ensures) ∙ c .if3 .taken)
 
 returns-4 : tie.Need-returns-4
 returns-4 c =
@@ -31,7 +31,7 @@ returns-4 c =
     let s = r .before in
     let m = s .before in
     let a = m .before .before .args in
-    roomed-free (a .head) (a .n) (a .rows) (a .runs) (sym (m .before .more .ensures) ∙ m .if1 .left) (sym (s .short .ensures) ∙ r .if2 .left) (sym (u .short2 .ensures) ∙ c .if3 .left)
+    roomed-free (a .head) (a .n) (a .rows) (a .runs) (sym (m .before .more .ensures) ∙ m .if1 .left) (sym (s .too-short .ensures) ∙ r .if2 .left) (sym (u .too-short2 .ensures) ∙ c .if3 .left)
 
 pub plan-room-spec : {M : Type 1} → statement M
 plan-room-spec = tie.close (tie.spec (λ c κs. search needs) returns (λ c κs. search needs) returns-2 (λ c κs. search needs) returns-3 returns-4)
