@@ -158,16 +158,13 @@ fn try_normal(s: &[i32], nums: &[u64], at: usize, room: &mut [i32]) -> bool {
     agree_values(room, nums, plus(at, 1))
 }
 
+// The matches of a query, raw or normalised: the threshold, the scale limit and the shift limit stand behind the band.
 fn try_matches(
     kind: u32,
     s: &[i32],
     q: &[i32],
     nums: &[u64],
     at: usize,
-    b: u32,
-    e: u64,
-    scale: u32,
-    shift: u32,
     curve: &mut [i32],
     low: &mut [i32],
     high: &mut [i32],
@@ -175,6 +172,10 @@ fn try_matches(
 ) -> bool {
     let mut got = [0u64; 64];
     let mut row = [0u64; 64];
+    let b = get_small(nums, at);
+    let e = get_natural(nums, plus(at, 1));
+    let scale = get_small(nums, plus(at, 2));
+    let shift = get_small(nums, plus(at, 3));
     let k = curve_matches(
         kind,
         s,
@@ -190,27 +191,54 @@ fn try_matches(
         &mut row,
         &mut got,
     );
-    agree(&got, k, nums, at, e)
+    agree(&got, k, nums, plus(at, 4), e)
 }
 
-// The sums of windows, then their rows: one length holds both.
+// The sums of windows, then their rows, whose width stands behind the band: one length holds both.
 fn try_rows(
     s: &[i32],
     w: usize,
     nums: &[u64],
     at: usize,
-    d: u32,
     sums: &mut [i32],
     rows: &mut [i32],
 ) -> bool {
+    let d = get_small(nums, plus(at, 1));
     let k = curve_windows(s, w, d, sums, rows);
     if k != sums.len() {
         return false;
     }
-    if !agree_values(sums, nums, plus(at, 1)) {
+    let want = plus(at, 5);
+    if !agree_values(sums, nums, want) {
         return false;
     }
-    agree_values(rows, nums, plus(plus(at, 1), k))
+    agree_values(rows, nums, plus(want, k))
+}
+
+// One vector of a distance, an envelope or a bound: `at` is the place of the band, after the query.
+fn try_curve(
+    test: u64,
+    s: &[i32],
+    q: &[i32],
+    nums: &[u64],
+    at: usize,
+    low: &mut [i32],
+    high: &mut [i32],
+    room: &mut [i32],
+) -> bool {
+    let b = get_small(nums, at) as usize;
+    let e = get_natural(nums, plus(at, 1));
+    let want = plus(at, 4);
+    match test {
+        1 => try_root(nums, want, e),
+        2 => try_straight(s, q, nums, want, e),
+        3 => try_warped(s, q, nums, want, b, e, low, high),
+        4 => try_envelopes(q, nums, want, b, low, high),
+        5 => try_bound(s, q, nums, want, b, e, low, high),
+        6 => try_spread(s, nums, want, room),
+        7 => try_normal(s, nums, want, room),
+        _ => false,
+    }
 }
 
 // One vector: `at` is the place of the band, after the query. Rooms are as long as the query; `sums` and `rows` as there are stretches.
@@ -227,59 +255,11 @@ fn try_one(
     sums: &mut [i32],
     rows: &mut [i32],
 ) -> bool {
-    let b = get_small(nums, at);
-    let e = get_natural(nums, plus(at, 1));
-    let scale = get_small(nums, plus(at, 2));
-    let shift = get_small(nums, plus(at, 3));
-    let want = plus(at, 4);
     match test {
-        1 => try_root(nums, want, e),
-        2 => try_straight(s, q, nums, want, e),
-        3 => try_warped(s, q, nums, want, b as usize, e, low, high),
-        4 => try_envelopes(q, nums, want, b as usize, low, high),
-        5 => try_bound(s, q, nums, want, b as usize, e, low, high),
-        6 => try_spread(s, nums, want, room),
-        7 => try_normal(s, nums, want, room),
-        8 => try_matches(
-            0,
-            s,
-            q,
-            nums,
-            want,
-            b,
-            e,
-            scale,
-            shift,
-            curve,
-            low,
-            high,
-            room,
-        ),
-        9 => try_matches(
-            1,
-            s,
-            q,
-            nums,
-            want,
-            b,
-            e,
-            scale,
-            shift,
-            curve,
-            low,
-            high,
-            room,
-        ),
-        10 => try_rows(
-            s,
-            q.len(),
-            nums,
-            want,
-            get_small(nums, plus(at, 1)),
-            sums,
-            rows,
-        ),
-        _ => false,
+        8 => try_matches(0, s, q, nums, at, curve, low, high, room),
+        9 => try_matches(1, s, q, nums, at, curve, low, high, room),
+        10 => try_rows(s, q.len(), nums, at, sums, rows),
+        _ => try_curve(test, s, q, nums, at, low, high, room),
     }
 }
 
