@@ -36,7 +36,7 @@ use Rattle.meaning_rows.proofs.Row.Laws as T′
 use Rattle.filing.specs.declared.Place.{Place as Spot}
 use Rattle.filing.proofs.Place as Pl
 use Rattle.filing.proofs.Place.Laws as Pl′
-use Rattle.filing.specs.Levels.{Lent}
+use Rattle.filing.specs.Levels.{Lent, placeFrom}
 use Rattle.records.specs.Records.{zeroRow}
 use Rattle.records.proofs.Again.{LentAgain}
 use Rattle.records.proofs.Lends.{Own, Shr, SharedAgain, lend, share, unshare, comes, twin}
@@ -47,13 +47,13 @@ use Rattle.records.proofs.Told.{calls-ended}
 use Rattle.lay.specs.Laid.{Cleared}
 use Rattle.lay.proofs.clear_runs as clear
 use Rattle.lay.proofs.clear_runs.Symbol.{name as #clear-runs}
-use Rattle.fill.specs.Turn.{At}
+use Rattle.fill.specs.Turn.{At, first-at}
 use Rattle.fill.specs.Pass.{Passable, Passed}
 use Rattle.fill.proofs.Calls.{low-place}
 use Rattle.fill.proofs.fill_parts as fill
 use Rattle.fill.proofs.fill_parts.Symbol.{name as #fill-parts}
-use Rattle.build.proofs.first_place as first
-use Rattle.build.proofs.first_place.Symbol.{name as #first-place}
+use Rattle.filing.proofs.first_place as first
+use Rattle.filing.proofs.first_place.Symbol.{name as #first-place}
 
 -- the contracts that the walk cites, what each is called at, and what it asks
 module _ {M : Type 1} (𝓤 : URA M) (H : Heap 𝓤) (A : Atoms 𝓤) (mem : Memory → SProp 𝓤) (run : Routine → Fun 𝓤) where
@@ -120,8 +120,8 @@ module _ {M : Type 1} {𝓤 : URA M} {H : Heap 𝓤} {A : Atoms 𝓤} {K : Type 
       → Seq K W (‵ (flft κs qs) ∷ ‵ (ShrSlice (named 0) κs i32 .own vs (sliceVal (vs .ptr) (length (vs .now)) ∷ [])) ∷ Γ) (runs C Λ E (seq (call #first-place xs d) rest) p)
   calls-first-place t fm mem run met κs qs vs w e g-w g-e asked os k =
       move t (1 ∷ []) $ twin t i32 (named 0) κs vs $
-      move t (2 ∷ 0 ∷ 1 ∷ []) $ group t 2 $ calls-ended t fm first.ended (first.clauses 𝓤 H A mem run) met (to-first-place 𝓤 H A mem run κs qs vs w e) (asks-first-place 𝓤 H A mem run κs qs vs w e W g-w g-e asked) (λ r ls. At (vs .now) w e r × (r .offset ≡ 0)) (λ r ls. id⊢ 𝓤 _) low-place (LL.tells Pl.the-type Pl′.the-laws) os (λ r ls said is.
-      k r said is)
+      move t (2 ∷ 0 ∷ 1 ∷ []) $ group t 2 $ calls-ended t fm first.ended (first.clauses 𝓤 H A mem run) met (to-first-place 𝓤 H A mem run κs qs vs w e) (asks-first-place 𝓤 H A mem run κs qs vs w e W g-w g-e asked) (λ r ls. r ≡ placeFrom (vs .now) w e 0) (λ r ls. id⊢ 𝓤 _) low-place (LL.tells Pl.the-type Pl′.the-laws) os (λ r ls said is.
+      k r (first-at asked said) is)
 
   pub calls-fill-parts : K → FmC 𝓤 H (W .laws) C → (mem : Memory → SProp 𝓤) (run : Routine → Fun 𝓤) → Triple 𝓤 (C #fill-parts) (FillParts 𝓤 H A mem run) → (κs : Lft) (qs : Share) (vs : RefT (List ℤ)) (κa : Lft) (qa : Share) (ba oa ma : ℕ) (γa : GName) (ya : List Row) (κl : Lft) (ql : Share) (bl ol ml : ℕ) (γl : GName) (yl : List ℕ) (κr : Lft) (qr : Share) (br or mr : ℕ) (γr : GName) (yr : List ℕ) (w : ℕ) (e : ℕ) (many : ℕ) (at : Spot) (test : ℕ → ℕ → Bool) → length ya ≡ ma → Room T.the-row ma → length yl ≡ ml → Room u32 ml → length yr ≡ mr → Room u32 mr → w < 2 ^ 64 → e < 2 ^ 64 → many < 2 ^ 64 → Is Pl.the-row at (low-place at ∷ []) → Passable test (vs .now) w e at ya many yl yr
       → ((νa : ℕ) (δa : GName) (νl : ℕ) (δl : GName) (νr : ℕ) (δr : GName) → Opds K W (raw (FillParts 𝓤 H A mem run .pre (to-fill-parts 𝓤 H A mem run κs qs vs κa qa ba oa ma γa ya κl ql bl ol ml γl yl κr qr br or mr γr yr w e many at test νa δa νl δl νr δr)) ∷ ‵ (ShrSlice (named 0) κs i32 .own vs (sliceVal (vs .ptr) (length (vs .now)) ∷ [])) ∷ ‵ (SharedAgain T.the-row ba oa ma κa (νa ∷ []) qa γa ya) ∷ ‵ (LentAgain u32 κl (νl ∷ []) ql γl bl ol δl yl) ∷ ‵ (LentAgain u32 κr (νr ∷ []) qr γr br or δr yr) ∷ Γ) E xs (sliceVal (vs .ptr) (length (vs .now)) ∷ vint w64 w ∷ vint w64 e ∷ sliceVal (ba, oa) ma ∷ vint w64 many ∷ low-place at ∷ sliceVal (bl, ol) ml ∷ sliceVal (br, or) mr ∷ []))

@@ -1,6 +1,5 @@
 // An index built of a series: its rows laid out, merged, and their parts filled.
-use filing::Place;
-use filing::first_level;
+use filing::first_place;
 use fill::fill_parts;
 use lay::clear_runs;
 use lay::lay_rows;
@@ -8,24 +7,12 @@ use meaning_rows::Row;
 use merging::merge_packed;
 use records::clear_rows;
 ghost use mathlib.Core.Path.{_≡_};
-ghost use Rattle.filing.specs.Levels.{Lent, windowsOf};
+ghost use Rattle.filing.specs.Levels.{windowsOf};
 ghost use Prim.Native.Nat.{ℕ, _+_, _*_, _≤_};
 ghost use lib.ListN.{length};
 ghost use Rattle.meaning_rows.specs.Build.{built};
 ghost use Rattle.lay.specs.Laid.{LayAsked};
-ghost use Rattle.fill.specs.Turn.{At};
 ghost use Rattle.build.specs.Filled.{Fillable, MergeAsked, MergedAs, buffers, Holds};
-
-// The first window, with its raised sum.
-pub fn first_place(s: &[i32], w: usize, e: u64) -> Place
-    requires { ⌜ Lent (now s) w e ⌝ }
-    ensures { λ p. ⌜ At (now (s .entry)) w e p × (p .offset ≡ 0) ⌝ }
-{
-    Place {
-        offset: 0,
-        level: first_level(s, w, e),
-    }
-}
 
 // The parts of the first `n` records are filled, and what is not used of the buffers is made 0. The ghost value has the row width and the merge percentage of the build whose rows are packed.
 pub fn fill_rows(

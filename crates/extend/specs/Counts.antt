@@ -31,7 +31,7 @@ use Rattle.filing.specs.Levels.{level, Lent}
 use Rattle.tally.specs.Tally.{isRow}
 use Rattle.pack.specs.Packed.{total}
 use Rattle.extend_rows.specs.Weave.{getD-past}
-use Rattle.extend_count.specs.Raise.{raisedEnd}
+use Rattle.filing.specs.Ends.{raisedEnd}
 use Rattle.extend_count.specs.Rank.{rank}
 use Rattle.extend_count.specs.Count.{rowFrom, Countable, Counted, counted-starts}
 use Rattle.extend_count.specs.Listed.{listed, endOf, sizeOf, Listable, listed-at, length-listed}
@@ -100,7 +100,7 @@ module _ (x : Index) (s : List ℤ) (g : WellFormed x) (long : Extendable x s) (
 
   module _ (ups counts right₁ left₁ : List ℕ) (lu : ups ≡ listed (endOf rows bias) size right₁) (lc : counts ≡ listed (sizeOf rows) size left₁) (in-ups : size ≤ length right₁) (in-counts : size ≤ length left₁) where
     ends : Ends made bias ups
-    ends = record { end = λ i l. ap (λ (m : List ℕ). getD m i 0) lu ∙ listed-at (endOf rows bias) size right₁ in-ups i l ∙ ap (λ (r : Row). raisedEnd (r .up) bias) (row-at i) }
+    ends = record { end = λ i l. ap (λ (m : List ℕ). getD m i 0) lu ∙ listed-at (endOf rows bias) size right₁ in-ups i l ∙ ap (λ (r : Row). raisedEnd bias (r .up)) (row-at i) }
 
     sizes : (i : ℕ) → i < size → getD counts i 0 ≡ at i .runs
     sizes i l = ap (λ (m : List ℕ). getD m i 0) lc ∙ listed-at (sizeOf rows) size left₁ in-counts i l ∙ ap (λ (r : Row). r .runs) (row-at i)

@@ -26,7 +26,8 @@ use Rattle.filing.specs.declared.Place.{Place}
 use Rattle.filing.specs.Levels.{level, level-is}
 use Rattle.filing.specs.Change.{Change}
 use Rattle.parts.specs.Filling.{partStart, partsTotal, parts-laid}
-use Rattle.fill.specs.Turn.{At, raisedEnd, within-is, stop-held}
+use Rattle.filing.specs.Ends.{raisedEnd, within-is}
+use Rattle.fill.specs.Turn.{At, stop-held}
 use Rattle.fill.specs.Pass.{Passable, Rowed, rowed-once}
 use Rattle.extend_lay.specs.Copy.{columnTo, Copyable, length-column}
 use Rattle.extend_lay.specs.Columns.{column-past}

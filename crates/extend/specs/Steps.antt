@@ -12,7 +12,8 @@ use Rattle.meaning_rows.proofs.Grown.{lastEnds}
 use Rattle.filing.specs.declared.Place.{Place}
 use Rattle.filing.specs.Levels.{Lent, windowsOf}
 use Rattle.pack.specs.Packed.{total}
-use Rattle.fill.specs.Turn.{At, Small, raisedEnd}
+use Rattle.filing.specs.Ends.{raisedEnd}
+use Rattle.fill.specs.Turn.{At, Small}
 use Rattle.extend_new.specs.New.{lessJoin}
 use Rattle.extend_new.specs.Join.{Joinable, JoinedRun}
 

@@ -22,7 +22,8 @@ use Rattle.meaning_rows.specs.Runs.{runCount}
 use Rattle.filing.specs.declared.Place.{Place}
 use Rattle.filing.specs.Levels.{Lent, windowsOf}
 use Rattle.parts.specs.Filling.{partStart, partsTotal}
-use Rattle.fill.specs.Turn.{Small, raisedEnd}
+use Rattle.filing.specs.Ends.{raisedEnd}
+use Rattle.fill.specs.Turn.{Small}
 use Rattle.fill.specs.Pass.{Passable, Passed}
 use Rattle.build.specs.Filled.{buffers}
 use Rattle.extend_rows.specs.Weave.{getD-past}

@@ -27,7 +27,8 @@ use denote.Triple.Spec.{tripleOf}
 use denote.Triple.Statement.{Contract, Triple}
 use denote.Triple.Walked.{says}
 use Rattle.records.proofs.Walk.{calls-plain}
-use Rattle.extend_count.specs.Raise.{raisedEnd, EndRoom}
+use Rattle.filing.specs.Ends.{raisedEnd}
+use Rattle.extend_count.specs.Listed.{EndRoom}
 use Rattle.extend_count.proofs.raised_end as end
 use Rattle.extend_count.proofs.raised_end.Symbol.{name as #raised-end}
 
@@ -45,7 +46,7 @@ module _ {M : Type 1} (𝓤 : URA M) (H : Heap 𝓤) (A : Atoms 𝓤) (mem : Mem
 module _ {M : Type 1} {𝓤 : URA M} {H : Heap 𝓤} {A : Atoms 𝓤} {K : Type 0} {W : Given 𝓤 H A} {Γ : List (Item 𝓤)} {E : Env 𝓤 H} {C : Calls 𝓤 H} {Λ : Loops 𝓤 H} {p : Post 𝓤 H} {d : Place} {rest : Body} {xs : List Operand} where
   pub calls-raised-end : K → FmC 𝓤 H (W .laws) C → (mem : Memory → SProp 𝓤) (run : Routine → Fun 𝓤) → Triple 𝓤 (C #raised-end) (RaisedEnd 𝓤 H A mem run) → (z : ℤ) (b : ℕ) → EndRoom z b → mag z < 2 ^ 31 → b < 2 ^ 64
       → Opds K W (raw (RaisedEnd 𝓤 H A mem run .pre (to-raised-end 𝓤 H A mem run z b)) ∷ Γ) E xs (vint w32 (ofZ w32 z) ∷ vint w64 b ∷ [])
-      → (raisedEnd z b < 2 ^ 32 → Seq K W Γ (lands C Λ E d (vint w32 (raisedEnd z b)) rest p)) → Seq K W Γ (runs C Λ E (seq (call #raised-end xs d) rest) p)
+      → (raisedEnd b z < 2 ^ 32 → Seq K W Γ (lands C Λ E d (vint w32 (raisedEnd b z)) rest p)) → Seq K W Γ (runs C Λ E (seq (call #raised-end xs d) rest) p)
   calls-raised-end t fm mem run met z b room e f os k =
-      calls-plain t fm end.signature (end.spec 𝓤 H A mem run) met (to-raised-end 𝓤 H A mem run z b) (asks-raised-end 𝓤 H A mem run W z b room e f) (raisedEnd z b) (vint w32) (uint-tells w32)
-      (λ n. exE 𝓤 _ (λ ws. snd∗ 𝓤 (sem 𝓤 H A (lasts end.ended tt (z, (b, tt)) ws)) (fact 𝓤 (n ≡ raisedEnd z b)))) os (λ is. k (is .1))
+      calls-plain t fm end.signature (end.spec 𝓤 H A mem run) met (to-raised-end 𝓤 H A mem run z b) (asks-raised-end 𝓤 H A mem run W z b room e f) (raisedEnd b z) (vint w32) (uint-tells w32)
+      (λ n. exE 𝓤 _ (λ ws. snd∗ 𝓤 (sem 𝓤 H A (lasts end.ended tt (z, (b, tt)) ws)) (fact 𝓤 (n ≡ raisedEnd b z)))) os (λ is. k (is .1))

@@ -34,7 +34,7 @@ use Rattle.meaning_rows.proofs.Grown.{onward, onward-count, lastEnds, Begun, be
 use Rattle.records.specs.Records.{zeroRow}
 use Rattle.filing.specs.Levels.{level, level-is, Lent}
 use Rattle.tally.specs.Tally.{isRow}
-use Rattle.extend_count.specs.Raise.{raisedEnd, raised-le, raised-gt, raised-mono}
+use Rattle.filing.specs.Ends.{raisedEnd, raised-le, raised-gt, raised-mono}
 use Rattle.extend_count.specs.Rank.{rank, Climbing, rank-is}
 use Rattle.extend_count.specs.Count.{rowFrom, Counted, row-new, row-old}
 
@@ -77,7 +77,7 @@ holder (r ∷ l) z e = by-test (inside (r .low) (r .up) z)
 
 -- the raised upper ends of the rows
 pub record Ends (rows : List Row) (bias : ℕ) (ups : List ℕ) : Type 0 where
-  pub end : (i : ℕ) → i < length rows → getD ups i 0 ≡ raisedEnd (getD rows i zeroRow .up) bias
+  pub end : (i : ℕ) → i < length rows → getD ups i 0 ≡ raisedEnd bias (getD rows i zeroRow .up)
 
 module _ (rows : List Row) (bias : ℕ) (ups : List ℕ) (asc : Ascending lowestEnd (map rangeOf rows)) (ends : Ends rows bias ups) where
   ups-order : (i k : ℕ) → i ≤ k → k < length rows → getD rows i zeroRow .up ≤ℤ getD rows k zeroRow .up

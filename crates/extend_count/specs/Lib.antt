@@ -1,5 +1,4 @@
 -- What the contracts of extend_count cite.
-pub mod Raise
 pub mod Listed
 pub mod Rank
 pub mod Count

@@ -5,11 +5,13 @@ use Prim.Native.Nat.{ℕ, zero, suc, _+_, _<_, _≤_}
 use native.Mathlib.Numerals.{add-one}
 use native.Mathlib.Omega.{arith}
 use native.Mathlib.Decide.{decLt}
+use lib.IntN.{ℤ, pos, _-ℤ_}
 use lib.ListN.{length, getD, set, length-set}
 use lib.Seq.{getD-set-same, getD-set-other}
+use lib.Signed.{_≤ℤ_}
 use Rattle.meaning_rows.specs.declared.Row.{Row}
 use Rattle.records.specs.Records.{zeroRow}
-use Rattle.extend_count.specs.Raise.{raisedEnd, EndRoom}
+use Rattle.filing.specs.Ends.{raisedEnd}
 
 -- the first n numbers
 unfoldable pub listed : (ℕ → ℕ) → ℕ → List ℕ → List ℕ
@@ -17,10 +19,16 @@ listed f zero l = l
 listed f (suc n) l = set (listed f n l) n (f n)
 
 abbrev pub endOf : List Row → ℕ → ℕ → ℕ
-endOf rows bias i = raisedEnd (getD rows i zeroRow .up) bias
+endOf rows bias i = raisedEnd bias (getD rows i zeroRow .up)
 
 abbrev pub sizeOf : List Row → ℕ → ℕ
 sizeOf rows i = getD rows i zeroRow .runs
+
+-- an end of a range and a bias, in their limits
+pub record EndRoom (z : ℤ) (bias : ℕ) : Type 0 where
+  pub least : (pos 0 -ℤ pos 4000000) ≤ℤ z
+  pub most : z ≤ℤ pos 4000000
+  pub small : bias ≤ 1000000000
 
 -- the rows are there, their ends in their limits, and the slices long enough
 pub record Listable (rows : List Row) (count bias ups counts : ℕ) : Type 0 where

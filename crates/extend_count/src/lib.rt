@@ -1,6 +1,7 @@
 // The runs of each row of an extension counted in one covered pass over the new windows: beside the raised upper ends of the rows, which ascend, stand the counts.
 use filing::Place;
 use filing::next_out;
+use filing::raise_end;
 use meaning_rows::Row;
 use pack::start_of;
 use records::row_at;
@@ -9,19 +10,18 @@ ghost use mathlib.Core.Path.{_≡_};
 ghost use Prim.Native.Nat.{_+_, _-_, _<_, _≤_};
 ghost use lib.ListN.{length};
 ghost use Rattle.filing.specs.Levels.{level, Lent, windowsOf};
+ghost use Rattle.filing.specs.Ends.{raisedEnd};
 ghost use Rattle.meaning_rows.proofs.Grown.{lastEnds};
-ghost use Rattle.extend_count.specs.Raise.{raisedEnd, EndRoom};
-ghost use Rattle.extend_count.specs.Listed.{listed, endOf, sizeOf, Listable};
+ghost use Rattle.extend_count.specs.Listed.{listed, endOf, sizeOf, EndRoom, Listable};
 ghost use Rattle.extend_count.specs.Rank.{rank, Climbing};
 ghost use Rattle.extend_count.specs.Count.{Countable, Counted};
 
 // An end of a range, raised; 0 where it lies below every raised sum.
 pub fn raised_end(z: i32, bias: u64) -> u32
     requires { ⌜ EndRoom z bias ⌝ }
-    ensures { λ r. ⌜ r ≡ raisedEnd z bias ⌝ }
+    ensures { λ r. ⌜ r ≡ raisedEnd bias z ⌝ }
 {
-    let t = z + bias as i32;
-    if t < 0 { 0 } else { t as u32 }
+    raise_end(z, bias) as u32
 }
 
 // The raised upper ends of the first `count` rows, and beside them how many runs each has.

@@ -16,6 +16,7 @@ use Rattle.meaning_curves.specs.Curve.{at, stretch, windowSum, windowCount}
 use Rattle.meaning_curves.proofs.Values.{AllIn}
 use Rattle.numbers.specs.Raised.{raised, raised-le}
 use Rattle.values.specs.Sums.{sum-raised}
+use Rattle.filing.specs.declared.Place.{Place}
 
 -- the raised sum of window j
 unfoldable pub level : List ℤ → ℕ → ℕ → ℕ → ℕ
@@ -40,6 +41,10 @@ pub record Lent (s : List ℤ) (w e : ℕ) : Type 0 where
 
 abbrev pub windowsOf : List ℤ → ℕ → ℕ
 windowsOf s w = windowCount (length s) w
+
+-- window j, with its raised sum
+abbrev pub placeFrom : List ℤ → ℕ → ℕ → ℕ → Place
+placeFrom s w e j = record { offset = j; level = level s w e j }
 
 -- every number below n has its value between the two
 pub record Bounds (lv : ℕ → ℕ) (n least greatest : ℕ) : Type 0 where

@@ -6,11 +6,14 @@ use numbers::raise;
 use values::raised_sum;
 ghost use mathlib.Core.Path.{_≡_};
 ghost use Prim.Native.Nat.{ℕ, _+_, _-_, _*_, _/_, _<_, _≤_};
+ghost use lib.IntN.{pos, negsuc};
 ghost use lib.ListN.{length, getD};
+ghost use lib.Signed.{_≤ℤ_};
 ghost use Rattle.meaning_curves.specs.Curve.{at};
 ghost use Rattle.meaning_curves.proofs.Values.{AllIn};
 ghost use Rattle.numbers.specs.Raised.{raised};
-ghost use Rattle.filing.specs.Levels.{level, rowOf, Lent, windowsOf, within, Bounds};
+ghost use Rattle.filing.specs.Levels.{level, placeFrom, rowOf, Lent, windowsOf, within, Bounds};
+ghost use Rattle.filing.specs.Ends.{raisedEnd};
 ghost use Rattle.filing.specs.Change.{Stop, NextRow};
 ghost use Rattle.filing.specs.Marks.{flagged, lit, met, Flags, Cleared};
 ghost use Rattle.filing.specs.Table.{table};
@@ -63,6 +66,27 @@ pub fn first_level(s: &[i32], w: usize, e: u64) -> u64
     ensures { λ r. ⌜ r ≡ level (now (s .entry)) w e 0 ⌝ }
 {
     raised_sum(s, 0, w) + e
+}
+
+// The first window.
+pub fn first_place(s: &[i32], w: usize, e: u64) -> Place
+    requires { ⌜ Lent (now s) w e ⌝ }
+    ensures { λ r. ⌜ r ≡ placeFrom (now (s .entry)) w e 0 ⌝ }
+{
+    Place {
+        offset: 0,
+        level: first_level(s, w, e),
+    }
+}
+
+// An end of a range raised by a bias; 0 where that is negative.
+pub fn raise_end(x: i32, bias: u64) -> u64
+    requires { ⌜ bias ≤ 1000000000 ⌝ }
+    requires { ⌜ (negsuc 999999999 ≤ℤ x) × (x ≤ℤ pos 1000000000) ⌝ }
+    ensures { λ r. ⌜ r ≡ raisedEnd bias x ⌝ }
+{
+    let t = x + (bias as i32);
+    if t < 0 { 0 } else { t as u64 }
 }
 
 // The raised sum is in the raised range.

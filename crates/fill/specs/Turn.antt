@@ -1,30 +1,24 @@
--- A turn of the pass: one run of windows with sums in the range of a row, filed in the row's part. A raised range holds a raised sum exactly if the range holds the sum (`within-is`). Assumes nothing.
-use mathlib.Core.Path.{_≡_, sym, _∙_}
+-- A turn of the pass: one run of windows with sums in the range of a row, filed in the row's part. Assumes nothing.
+use mathlib.Core.Path.{_≡_, refl, sym, _∙_}
 use mathlib.Core.Bool.{Bool, true}
 use mathlib.Core.List.{List}
 use Prim.Native.Nat.{ℕ, _+_, _-_, _*_, _<_, _≤_}
 use native.Mathlib.Omega.{arith}
 use native.Mathlib.Decide.{decLt}
-use lib.Dec.{leb, ltb}
 use lib.IntN.{ℤ, pos, negsuc}
 use lib.ListN.{set}
 use lib.Signed.{_≤ℤ_}
-use borrow.Author.Tests.{le-leb, lt-leb, lt-ltb, le-ltb}
-use Rattle.meaning_numbers.proofs.Rep.{Rep, up, dn, zarith}
+use Rattle.meaning_numbers.proofs.Rep.{up}
 use Rattle.meaning_numbers.proofs.Tests.{clash}
 use Rattle.meaning_curves.specs.Curve.{windowSum}
 use Rattle.meaning_rows.specs.declared.Row.{Row}
 use Rattle.meaning_rows.specs.Range.{inside}
-use Rattle.meaning_rows.proofs.Range.{where-is, inside-yes, inside-below, inside-above}
 use Rattle.meaning_rows.proofs.Cursors.{fileRight}
 use Rattle.filing.specs.declared.Place.{Place}
-use Rattle.filing.specs.Levels.{level, Lent, windowsOf, within, level-is}
+use Rattle.filing.specs.Levels.{level, placeFrom, Lent, windowsOf, level-is}
+use Rattle.filing.specs.Ends.{raisedEnd, within-is}
 use Rattle.filing.specs.Change.{Change, Stop}
 use Rattle.parts.specs.Part.{written, PartRoom}
-
--- an end of a range plus a bias, and 0 where that is negative
-abbrev pub raisedEnd : ℕ → ℤ → ℕ
-raisedEnd k x = (up x + k) - dn x
 
 -- both ends are far from what 32 bits hold
 pub record Small (r : Row) : Type 0 where
@@ -54,12 +48,9 @@ pub record Turned (s : List ℤ) (w e from : ℕ) (r : Row) (left right : List �
 
 -- ---- laws
 
-pub within-is : {z : ℤ} {n k : ℕ} (low high : ℤ) → Rep z n k → within (raisedEnd k low) (raisedEnd k high) n ≡ inside low high z
-unfolding within
-within-is {z} {n} {k} low high h = where-is low high z
-    (λ a. rw (lt-leb (raisedEnd k low) n (omega (zarith, h, a)), inside-below low high z a))
-    (λ a b. rw (le-leb (raisedEnd k low) n (omega (zarith, h, a)), lt-ltb n (raisedEnd k high) (omega (zarith, h, b)), inside-yes low high z a b))
-    (λ a b. rw (le-leb (raisedEnd k low) n (omega (zarith, h, a)), le-ltb n (raisedEnd k high) (omega (zarith, h, b)), inside-above low high z b))
+-- the first window
+pub first-at : {s : List ℤ} {w e : ℕ} {at : Place} → Lent s w e → at ≡ placeFrom s w e 0 → At s w e at × (at .offset ≡ 0)
+first-at h q = rw q (record { lent = h; below = omega arith; sum = refl }, refl)
 
 -- a change of one test is a change of another that agrees with it
 pub change-same : {p q : ℕ → Bool} {from n r : ℕ} → ((j : ℕ) → p j ≡ q j) → Change p from n r → Change q from n r

@@ -1,28 +1,17 @@
 // The pass that fills all parts: every run of windows filed in the part of its row, whatever ranges the rows have.
 use filing::Place;
 use filing::next_out;
+use filing::raise_end;
 use layout::find_record;
 use meaning_rows::Row;
 use numbers::lower;
 use parts::file_run;
 ghost use mathlib.Core.Path.{_≡_};
 ghost use mathlib.Core.Bool.{Bool};
-ghost use Prim.Native.Nat.{ℕ, _+_, _*_, _<_, _≤_};
-ghost use lib.IntN.{pos, negsuc};
-ghost use lib.Signed.{_≤ℤ_};
+ghost use Prim.Native.Nat.{ℕ, _+_, _*_, _<_};
 ghost use Rattle.meaning_curves.specs.Curve.{windowSum};
-ghost use Rattle.fill.specs.Turn.{raisedEnd, At, TurnAsked, Turned};
+ghost use Rattle.fill.specs.Turn.{At, TurnAsked, Turned};
 ghost use Rattle.fill.specs.Pass.{Passable, Passed};
-
-// An end of a range raised by a bias; 0 where that is negative.
-pub fn raise_end(x: i32, bias: u64) -> u64
-    requires { ⌜ bias ≤ 1000000000 ⌝ }
-    requires { ⌜ (negsuc 999999999 ≤ℤ x) × (x ≤ℤ pos 1000000000) ⌝ }
-    ensures { λ r. ⌜ r ≡ raisedEnd bias x ⌝ }
-{
-    let t = x + (bias as i32);
-    if t < 0 { 0 } else { t as u64 }
-}
 
 // The sum of a window, from its raised sum.
 pub fn sum_at(s: &[i32], w: usize, e: u64, at: Place) -> i32

@@ -41,15 +41,16 @@ use Rattle.meaning_rows.proofs.Row.Laws as T′
 use Rattle.records.proofs.Walk.{calls-kept, calls-plain}
 use Rattle.records.proofs.Rows.{Rs, Own, low, Good}
 use Rattle.filing.specs.declared.Place.{Place}
-use Rattle.filing.specs.Levels.{level, Lent, windowsOf}
+use Rattle.filing.specs.Levels.{level, Lent, windowsOf, placeFrom}
 use Rattle.filing.specs.Change.{Stop}
 use Rattle.filing.proofs.Place as P
 use Rattle.filing.proofs.Place.Laws as P′
 use Rattle.layout.specs.Search.{Climbs, Found}
 use Rattle.layout.proofs.find_row as find
 use Rattle.layout.proofs.find_row.Symbol.{name as #layout·find-row}
-use Rattle.neighbours.specs.Ranges.{raisedBy, LimitedRow, placeIn, found-place}
-use Rattle.neighbours.specs.Places.{placeFrom, sumAt, nameFor, nameIn, Nameable}
+use Rattle.filing.specs.Ends.{raisedEnd}
+use Rattle.neighbours.specs.Ranges.{LimitedRow, placeIn, found-place}
+use Rattle.neighbours.specs.Places.{sumAt, nameFor, nameIn, Nameable}
 use Rattle.records.proofs.Told.{calls-told-kept}
 use Rattle.neighbours.proofs.sum_of as sum-fn
 use Rattle.neighbours.proofs.sum_of.Symbol.{name as #neighbours·sum-of}
@@ -57,8 +58,8 @@ use Rattle.neighbours.proofs.name_of as name-fn
 use Rattle.neighbours.proofs.name_of.Symbol.{name as #neighbours·name-of}
 use Rattle.neighbours.proofs.name_at as at-fn
 use Rattle.neighbours.proofs.name_at.Symbol.{name as #neighbours·name-at}
-use Rattle.neighbours.proofs.first_place as first-fn
-use Rattle.neighbours.proofs.first_place.Symbol.{name as #neighbours·first-place}
+use Rattle.filing.proofs.first_place as first-fn
+use Rattle.filing.proofs.first_place.Symbol.{name as #filing·first-place}
 use Rattle.neighbours.proofs.run_end as end-fn
 use Rattle.neighbours.proofs.run_end.Symbol.{name as #neighbours·run-end}
 
@@ -179,10 +180,10 @@ module _ {M : Type 1} {𝓤 : URA M} {H : Heap 𝓤} {A : Atoms 𝓤} {K : Type 
       (asks-name-at 𝓤 H A mem run W κ q x n l w e p gn gl gw ge gp y) (fst∗ 𝓤 (A .lft κ q) (emp 𝓤)) (nameIn (now x) n l w e p) (vint w64) (uint-tells w64)
       (λ r. exE 𝓤 _ (λ ws. snd∗ 𝓤 (sem 𝓤 H A (lasts at-fn.ended (κ, tt) (x, (n, (l, (w, (e, (p, tt)))))) ws)) (fact 𝓤 (r ≡ nameIn (now x) n l w e p)))) os (λ is. k (nameIn (now x) n l w e p) refl (is .1))
 
-  pub calls-first : K → FmC 𝓤 H (W .laws) C → (mem : Memory → SProp 𝓤) (run : Routine → Fun 𝓤) → Triple 𝓤 (C #neighbours·first-place) (FirstPlace 𝓤 H A mem run) → (κ : Lft) (q : Share) (s : Zs) (w e : ℕ) → w < 2 ^ 64 → e < 2 ^ 64 → Lent (now s) w e
+  pub calls-first : K → FmC 𝓤 H (W .laws) C → (mem : Memory → SProp 𝓤) (run : Routine → Fun 𝓤) → Triple 𝓤 (C #filing·first-place) (FirstPlace 𝓤 H A mem run) → (κ : Lft) (q : Share) (s : Zs) (w e : ℕ) → w < 2 ^ 64 → e < 2 ^ 64 → Lent (now s) w e
       → Opds K W (raw (FirstPlace 𝓤 H A mem run .pre (to-first 𝓤 H A mem run κ q s w e)) ∷ ‵ (OwnZ κ s) ∷ Γ) E xs (sliceVal (ptr s) (length (now s)) ∷ vint w64 w ∷ vint w64 e ∷ [])
       → ((p : Place) → p ≡ placeFrom (now s) w e 0 → IsPlace p → Seq K W (‵ (flft κ q) ∷ ‵ (OwnZ κ s) ∷ Γ) (lands C Λ E d (low-place p) rest o))
-      → Seq K W (‵ (flft κ q) ∷ ‵ (OwnZ κ s) ∷ Γ) (runs C Λ E (seq (call #neighbours·first-place xs d) rest) o)
+      → Seq K W (‵ (flft κ q) ∷ ‵ (OwnZ κ s) ∷ Γ) (runs C Λ E (seq (call #filing·first-place xs d) rest) o)
   calls-first t fm mem run met κ q s w e gw ge y os k =
       calls-kept t fm first-fn.signature (first-fn.spec 𝓤 H A mem run) met (to-first 𝓤 H A mem run κ q s w e) (‵ (flft κ q)) (‵ (OwnZ κ s)) (shr-slice-copy 𝓤 H A W (named 0) κ i32 .twice s (slice-vals s))
       (asks-first 𝓤 H A mem run W κ q s w e gw ge y) (fst∗ 𝓤 (A .lft κ q) (emp 𝓤)) (placeFrom (now s) w e 0) low-place (LL.tells P.the-type P′.the-laws)
@@ -192,9 +193,9 @@ module _ {M : Type 1} {𝓤 : URA M} {H : Heap 𝓤} {A : Atoms 𝓤} {K : Type 
   pub calls-run-end : K → FmC 𝓤 H (W .laws) C → (mem : Memory → SProp 𝓤) (run : Routine → Fun 𝓤) → Triple 𝓤 (C #neighbours·run-end) (RunEnd 𝓤 H A mem run) → (κ : Lft) (q : Share) (s : Zs) (w e : ℕ) (p : Place) (r : Row) → w < 2 ^ 64 → e < 2 ^ 64 → IsPlace p → Good r
       → Lent (now s) w e × (p .offset ≤ windowsOf (now s) w) × (p .level ≡ level (now s) w e (p .offset)) × LimitedRow r
       → Opds K W (raw (RunEnd 𝓤 H A mem run .pre (to-run-end 𝓤 H A mem run κ q s w e p r)) ∷ ‵ (OwnZ κ s) ∷ Γ) E xs (sliceVal (ptr s) (length (now s)) ∷ vint w64 w ∷ vint w64 e ∷ low-place p ∷ low r ∷ [])
-      → ((v : Place) → Stop (level (now s) w e) (windowsOf (now s) w) (raisedBy (10000 * w + e) (r .low)) (raisedBy (10000 * w + e) (r .up)) (p .offset) (v .offset) (v .level) → IsPlace v → Seq K W (‵ (flft κ q) ∷ ‵ (OwnZ κ s) ∷ Γ) (lands C Λ E d (low-place v) rest o))
+      → ((v : Place) → Stop (level (now s) w e) (windowsOf (now s) w) (raisedEnd (10000 * w + e) (r .low)) (raisedEnd (10000 * w + e) (r .up)) (p .offset) (v .offset) (v .level) → IsPlace v → Seq K W (‵ (flft κ q) ∷ ‵ (OwnZ κ s) ∷ Γ) (lands C Λ E d (low-place v) rest o))
       → Seq K W (‵ (flft κ q) ∷ ‵ (OwnZ κ s) ∷ Γ) (runs C Λ E (seq (call #neighbours·run-end xs d) rest) o)
   calls-run-end t fm mem run met κ q s w e p r gw ge gp gr y os k =
       calls-told-kept t fm end-fn.signature (end-fn.spec 𝓤 H A mem run) met (to-run-end 𝓤 H A mem run κ q s w e p r) (‵ (flft κ q)) (‵ (OwnZ κ s)) (shr-slice-copy 𝓤 H A W (named 0) κ i32 .twice s (slice-vals s))
-      (asks-run-end 𝓤 H A mem run W κ q s w e p r gw ge gp gr y) (fst∗ 𝓤 (A .lft κ q) (emp 𝓤)) (λ v. Stop (level (now s) w e) (windowsOf (now s) w) (raisedBy (10000 * w + e) (r .low)) (raisedBy (10000 * w + e) (r .up)) (p .offset) (v .offset) (v .level)) low-place (LL.tells P.the-type P′.the-laws)
-      (λ v. exE 𝓤 _ (λ ws. snd∗ 𝓤 (sem 𝓤 H A (lasts end-fn.ended (κ, tt) (s, (w, (e, (p, (r, tt))))) ws)) (fact 𝓤 (Stop (level (now s) w e) (windowsOf (now s) w) (raisedBy (10000 * w + e) (r .low)) (raisedBy (10000 * w + e) (r .up)) (p .offset) (v .offset) (v .level))))) os k
+      (asks-run-end 𝓤 H A mem run W κ q s w e p r gw ge gp gr y) (fst∗ 𝓤 (A .lft κ q) (emp 𝓤)) (λ v. Stop (level (now s) w e) (windowsOf (now s) w) (raisedEnd (10000 * w + e) (r .low)) (raisedEnd (10000 * w + e) (r .up)) (p .offset) (v .offset) (v .level)) low-place (LL.tells P.the-type P′.the-laws)
+      (λ v. exE 𝓤 _ (λ ws. snd∗ 𝓤 (sem 𝓤 H A (lasts end-fn.ended (κ, tt) (s, (w, (e, (p, (r, tt))))) ws)) (fact 𝓤 (Stop (level (now s) w e) (windowsOf (now s) w) (raisedEnd (10000 * w + e) (r .low)) (raisedEnd (10000 * w + e) (r .up)) (p .offset) (v .offset) (v .level))))) os k

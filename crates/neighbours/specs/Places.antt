@@ -16,19 +16,16 @@ use Rattle.meaning_rows.specs.Runs.{runCount}
 use Rattle.meaning_rows.proofs.Cursors.{fileRight, length-file}
 use Rattle.records.specs.Records.{zeroRow}
 use Rattle.filing.specs.declared.Place.{Place}
-use Rattle.filing.specs.Levels.{level, Lent, windowsOf, level-is, level-small}
+use Rattle.filing.specs.Levels.{level, Lent, windowsOf, level-is, level-small, placeFrom}
 use Rattle.filing.specs.Change.{Stop, RowRun}
 use Rattle.tally.specs.Tally.{isRow}
 use Rattle.parts.specs.Part.{written, PartRoom}
 use Rattle.layout.specs.Search.{Climbs}
 use Rattle.merge.specs.Names.{nameAt, nameBefore, NamedRow}
 use Rattle.merge.specs.Merging.{partAt}
-use Rattle.neighbours.specs.Ranges.{raisedBy, LimitedRow, placeIn, rowIn, RangeRows, range-climbs, stop-run}
+use Rattle.filing.specs.Ends.{raisedEnd}
+use Rattle.neighbours.specs.Ranges.{LimitedRow, placeIn, rowIn, RangeRows, range-climbs, stop-run}
 use Rattle.neighbours.specs.Naming.{Naming, naming-start, naming-more, naming-written, naming-room, naming-run, naming-end}
-
--- window j with its raised sum
-abbrev pub placeFrom : List ℤ → ℕ → ℕ → ℕ → Place
-placeFrom s w e j = record { offset = j; level = level s w e j }
 
 -- the sum of a window
 abbrev pub sumAt : ℕ → ℕ → Place → ℤ
@@ -171,7 +168,7 @@ module _ (s : List ℤ) (w e : ℕ) (rows : List Row) (count : ℕ) where
         pub turn-end : Lent s w e × (at .offset ≤ windowsOf s w) × (at .level ≡ level s w e (at .offset)) × LimitedRow here
         turn-end = (u .lent, z .below, z .level-is, rw here-is (u .ranges .ranged .limited (row j) home))
 
-        module _ (next : Place) (stop : Stop (level s w e) n (raisedBy (10000 * w + e) (here .low)) (raisedBy (10000 * w + e) (here .up)) (at .offset) (next .offset) (next .level)) where
+        module _ (next : Place) (stop : Stop (level s w e) n (raisedEnd (10000 * w + e) (here .low)) (raisedEnd (10000 * w + e) (here .up)) (at .offset) (next .offset) (next .level)) where
           run : RowRun row n j (next .offset)
           run = stop-run (windowSum s w) (level s w e) (10000 * w + e) n rows count (u .ranges .ranged) (λ k. level-is k (u .lent)) j (next .offset) (next .level) less (rw place-is at stop)
 

@@ -3,16 +3,16 @@
 use mathlib.Core.Path.{_≡_, refl, sym, _∙_}
 use mathlib.Core.Bool.{Bool, true, false, cond}
 use mathlib.Core.List.{List}
-use Prim.Native.Nat.{ℕ, zero, suc, _+_, _-_, _<_, _≤_}
+use Prim.Native.Nat.{ℕ, zero, suc, _<_, _≤_}
 use native.Mathlib.Omega.{arith}
 use native.Mathlib.Decide.{decLt}
-use lib.Dec.{ltb, eqb}
-use lib.IntN.{ℤ}
+use lib.Dec.{eqb}
+use lib.IntN.{ℤ, pos, negsuc}
 use lib.ListN.{length, getD}
-use lib.Signed.{leZ, ltZ, _≤ℤ_, _<ℤ_, ≤ℤ-refl}
-use borrow.Author.Tests.{le-leb, lt-leb, lt-ltb, le-ltb, eqb-true, eqb-false, eq-eqb}
+use lib.Signed.{leZ, _≤ℤ_, _<ℤ_, ≤ℤ-refl}
+use borrow.Author.Tests.{eqb-true, eqb-false, eq-eqb}
 use Rattle.meaning_numbers.proofs.Rep.{Rep, up, dn, zarith}
-use Rattle.meaning_numbers.proofs.Machine.{f-gt, leZ-true, ltZ-true, ltZ-false}
+use Rattle.meaning_numbers.proofs.Machine.{f-gt, leZ-true}
 use Rattle.meaning_numbers.proofs.Tests.{by-test, clash}
 use Rattle.meaning_rows.specs.declared.Row.{Row}
 use Rattle.meaning_rows.specs.Range.{inside}
@@ -20,14 +20,11 @@ use Rattle.meaning_rows.specs.Runs.{runCount}
 use Rattle.meaning_rows.proofs.Range.{le-leZ, lt-leZ, inside-yes, is-inside}
 use Rattle.records.specs.Records.{zeroRow}
 use Rattle.filing.specs.Levels.{within}
+use Rattle.filing.specs.Ends.{raisedEnd, within-is}
 use Rattle.filing.specs.Change.{Change, Stop, RowRun}
 use Rattle.tally.specs.Tally.{isRow}
 use Rattle.layout.specs.Search.{Climbs, Found}
 use Rattle.merge.specs.Merging.{partAt}
-
--- x raised by k, and not below 0
-abbrev pub raisedBy : ℕ → ℤ → ℕ
-raisedBy k x = (up x + k) - dn x
 
 -- an end of a range that can be raised
 pub record Limited (x : ℤ) : Type 0 where
@@ -148,20 +145,13 @@ module _ (sum : ℕ → ℤ) (n : ℕ) (rows : List Row) (count : ℕ) (r : Rang
 
 -- ---- raised
 
-pub within-raised : (k m : ℕ) (low high z : ℤ) → Rep z m k → within (raisedBy k low) (raisedBy k high) m ≡ inside low high z
-unfolding within inside
-within-raised k m low high z h = by-test (leZ low z)
-    (λ t. let a : low ≤ℤ z = leZ-true t in rw (t, le-leb (raisedBy k low) m (omega (zarith, h))) (upper t))
-    (λ f. let a : z <ℤ low = no-leZ f in rw (f, lt-leb (raisedBy k low) m (omega (zarith, h))))
-  where
-    upper : leZ low z ≡ true → ltb m (raisedBy k high) ≡ ltZ z high
-    upper t = by-test (ltZ z high)
-        (λ u. let a : z <ℤ high = ltZ-true u in rw (u, lt-ltb m (raisedBy k high) (omega (zarith, h))))
-        (λ u. let a : high ≤ℤ z = ltZ-false u in rw (u, le-ltb m (raisedBy k high) (omega (zarith, h))))
+-- what `raise_end` asks of an end
+pub limited-asks : {x : ℤ} → Limited x → (negsuc 999999999 ≤ℤ x) × (x ≤ℤ pos 1000000000)
+limited-asks h = (omega (zarith, h .least), omega (zarith, h .most))
 
 -- a run of raised sums in the range of its row is a run of the row's windows
 pub stop-run : (sum : ℕ → ℤ) (lv : ℕ → ℕ) (k n : ℕ) (rows : List Row) (count : ℕ) → Ranged sum n rows count → ((j : ℕ) → Rep (sum j) (lv j) k) → (from r z : ℕ) → from < n
-    → Stop lv n (raisedBy k (getD rows (rowIn rows count sum from) zeroRow .low)) (raisedBy k (getD rows (rowIn rows count sum from) zeroRow .up)) from r z → RowRun (rowIn rows count sum) n from r
+    → Stop lv n (raisedEnd k (getD rows (rowIn rows count sum from) zeroRow .low)) (raisedEnd k (getD rows (rowIn rows count sum from) zeroRow .up)) from r z → RowRun (rowIn rows count sum) n from r
 unfolding isRow
 stop-run sum lv k n rows count h lv-is from r z less s = record {
   ahead = elim (decLt from r) [
@@ -176,8 +166,8 @@ stop-run sum lv k n rows count h lv-is from r z less s = record {
     row : ℕ → ℕ
     row = rowIn rows count sum
 
-    c : Change (λ j. within (raisedBy k (getD rows (rowIn rows count sum from) zeroRow .low)) (raisedBy k (getD rows (rowIn rows count sum from) zeroRow .up)) (lv j)) from n r
+    c : Change (λ j. within (raisedEnd k (getD rows (rowIn rows count sum from) zeroRow .low)) (raisedEnd k (getD rows (rowIn rows count sum from) zeroRow .up)) (lv j)) from n r
     c = s .change
 
-    mine : (j : ℕ) → j < n → within (raisedBy k (getD rows (rowIn rows count sum from) zeroRow .low)) (raisedBy k (getD rows (rowIn rows count sum from) zeroRow .up)) (lv j) ≡ eqb (rowIn rows count sum j) (rowIn rows count sum from)
-    mine j l = within-raised k (lv j) (getD rows (rowIn rows count sum from) zeroRow .low) (getD rows (rowIn rows count sum from) zeroRow .up) (sum j) (lv-is j) ∙ held-row sum n rows count h (rowIn rows count sum from) j (h .home from less) l
+    mine : (j : ℕ) → j < n → within (raisedEnd k (getD rows (rowIn rows count sum from) zeroRow .low)) (raisedEnd k (getD rows (rowIn rows count sum from) zeroRow .up)) (lv j) ≡ eqb (rowIn rows count sum j) (rowIn rows count sum from)
+    mine j l = within-is (getD rows (rowIn rows count sum from) zeroRow .low) (getD rows (rowIn rows count sum from) zeroRow .up) (lv-is j) ∙ held-row sum n rows count h (rowIn rows count sum from) j (h .home from less) l

@@ -1,8 +1,9 @@
 // The rows before and after each run named, in one pass over the runs of a series: as its entry in the part of its row a run gets the name of the row of the window before it and that of the window
 // after it. A row's name is one more than its place, and 0 names none.
 use filing::Place;
-use filing::first_level;
+use filing::first_place;
 use filing::next_out;
+use filing::raise_end;
 use layout::find_row;
 use meaning_rows::Row;
 use numbers::lower;
@@ -12,36 +13,17 @@ ghost use mathlib.Core.Path.{_≡_};
 ghost use Prim.Native.Nat.{ℕ, _+_, _*_, _<_, _≤_};
 ghost use Rattle.meaning_curves.specs.Curve.{windowSum};
 ghost use Rattle.filing.specs.Levels.{level, Lent, windowsOf};
+ghost use Rattle.filing.specs.Ends.{raisedEnd};
 ghost use Rattle.filing.specs.Change.{Stop};
 ghost use Rattle.merge.specs.Names.{NamedRow};
 ghost use Rattle.merge.specs.Merging.{partAt};
-ghost use Rattle.neighbours.specs.Ranges.{raisedBy, Limited, LimitedRow, rowIn};
-ghost use Rattle.neighbours.specs.Places.{placeFrom, sumAt, nameFor, nameIn, Nameable, Unnamed};
-
-// An end of a range, raised, and not below 0: raised sums compare with it as sums do with the end.
-pub fn raise_end(x: i32, bias: u64) -> u64
-    requires { ⌜ Limited x × (bias ≤ 1000000000) ⌝ }
-    ensures { λ r. ⌜ r ≡ raisedBy bias x ⌝ }
-{
-    let y = (x + 1000000000) as u64 + bias;
-    if y < 1000000000 { 0 } else { y - 1000000000 }
-}
-
-// The first window.
-pub fn first_place(s: &[i32], w: usize, e: u64) -> Place
-    requires { ⌜ Lent (now s) w e ⌝ }
-    ensures { λ r. ⌜ r ≡ placeFrom (now (s .entry)) w e 0 ⌝ }
-{
-    Place {
-        offset: 0,
-        level: first_level(s, w, e),
-    }
-}
+ghost use Rattle.neighbours.specs.Ranges.{LimitedRow, rowIn};
+ghost use Rattle.neighbours.specs.Places.{sumAt, nameFor, nameIn, Nameable, Unnamed};
 
 // From a window on, the first whose sum is not in the row's range, or the number of windows.
 pub fn run_end(s: &[i32], w: usize, e: u64, at: Place, r: Row) -> Place
     requires { ⌜ Lent (now s) w e × (at .offset ≤ windowsOf (now s) w) × (at .level ≡ level (now s) w e (at .offset)) × LimitedRow r ⌝ }
-    ensures { λ t. ⌜ Stop (level (now (s .entry)) w e) (windowsOf (now (s .entry)) w) (raisedBy (10000 * w + e) (r .low)) (raisedBy (10000 * w + e) (r .up)) (at .offset) (t .offset) (t .level) ⌝ }
+    ensures { λ t. ⌜ Stop (level (now (s .entry)) w e) (windowsOf (now (s .entry)) w) (raisedEnd (10000 * w + e) (r .low)) (raisedEnd (10000 * w + e) (r .up)) (at .offset) (t .offset) (t .level) ⌝ }
 {
     let bias = 10000 * (w as u64) + e;
     let low = r.low;

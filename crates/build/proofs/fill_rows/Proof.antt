@@ -67,9 +67,9 @@ use Rattle.fill.proofs.fill_parts.Met as fill-thm
 use Rattle.build.specs.Rowed.{tests}
 use Rattle.build.specs.Filled.{Fillable, buffers, Holds, starts, finished}
 use Rattle.build.proofs.Calls.{ClearRuns, FirstPlace, FillParts, calls-clear-runs, calls-first-place, calls-fill-parts}
-use Rattle.build.proofs.first_place.Symbol as first-def
-use Rattle.build.proofs.first_place.Symbol.{name as #first-place}
-use Rattle.build.proofs.first_place.Met as first-thm
+use Rattle.filing.proofs.first_place.Symbol as first-def
+use Rattle.filing.proofs.first_place.Symbol.{name as #first-place}
+use Rattle.filing.proofs.first_place.Met as first-thm
 use Rattle.build.proofs.fill_rows.Key.{name as #self}
 use Rattle.build.proofs.fill_rows as f
 use Rattle.build.proofs.fill_rows.Statement as stated
@@ -221,5 +221,5 @@ fill-rows-spec 𝓤 H 𝓜 𝓖 𝓡 =
     (meets 𝓤 H (𝓖 .A) (givenOf 𝓤 H 𝓜 𝓖) (𝓜 .mem) (𝓡 .run) (tablesOf 𝓤 H 𝓜 (tables 𝓤 H 𝓜 𝓡 code.env))
     (cited 𝓤 H (ClearRows 𝓤 H (𝓖 .A) (𝓜 .mem) (𝓡 .run)) 𝓜 𝓡 code.env #clear-rows rows-def.routine code.calls-records·clear-rows (rows-thm.met 𝓤 H 𝓜 𝓖 𝓡))
     (cited 𝓤 H (ClearRuns 𝓤 H (𝓖 .A) (𝓜 .mem) (𝓡 .run)) 𝓜 𝓡 code.env #clear-runs runs-def.routine code.calls-lay·clear-runs (runs-thm.met 𝓤 H 𝓜 𝓖 𝓡))
-    (cited 𝓤 H (FirstPlace 𝓤 H (𝓖 .A) (𝓜 .mem) (𝓡 .run)) 𝓜 𝓡 code.env #first-place first-def.routine code.calls-build·first-place (first-thm.met 𝓤 H 𝓜 𝓖 𝓡))
+    (cited 𝓤 H (FirstPlace 𝓤 H (𝓖 .A) (𝓜 .mem) (𝓡 .run)) 𝓜 𝓡 code.env #first-place first-def.routine code.calls-filing·first-place (first-thm.met 𝓤 H 𝓜 𝓖 𝓡))
     (cited 𝓤 H (FillParts 𝓤 H (𝓖 .A) (𝓜 .mem) (𝓡 .run)) 𝓜 𝓡 code.env #fill-parts fill-def.routine code.calls-fill·fill-parts (fill-thm.met 𝓤 H 𝓜 𝓖 𝓡)))

@@ -12,7 +12,8 @@ use Rattle.meaning_numbers.proofs.Rep.{zarith}
 use Rattle.meaning_numbers.proofs.Machine.{zmach32}
 use Rattle.meaning_rows.specs.declared.Row.{Row}
 use Rattle.meaning_rows.proofs.Grown.{lastEnds}
-use Rattle.fill.specs.Turn.{Small, raisedEnd}
+use Rattle.filing.specs.Ends.{raisedEnd}
+use Rattle.fill.specs.Turn.{Small}
 use Rattle.extend.specs.Steps.{joinsOf, joinable-as, joined-as}
 use Rattle.extend.proofs.join_first.Statement.{statement}
 use Rattle.extend.proofs.join_first.Tie as tie

@@ -12,7 +12,8 @@ use Rattle.meaning_curves.specs.Curve.{windowSum}
 use Rattle.meaning_rows.specs.Range.{inside}
 use Rattle.filing.specs.Levels.{windowsOf}
 use Rattle.filing.specs.Change.{Change}
-use Rattle.fill.specs.Turn.{raisedEnd, Small, stop-held, change-held}
+use Rattle.filing.specs.Ends.{raisedEnd}
+use Rattle.fill.specs.Turn.{Small, stop-held, change-held}
 use Rattle.fill.proofs.file_turn.Statement.{statement}
 use Rattle.fill.proofs.file_turn.Tie as tie
 

@@ -54,7 +54,7 @@ use Rattle.records.proofs.row_at.Symbol.{name as #records·row-at}
 use Rattle.records.proofs.row_at.Met as row-thm
 use Rattle.records.proofs.RowKit.{word}
 use Rattle.filing.specs.declared.Place.{Place}
-use Rattle.filing.specs.Levels.{level, windowsOf}
+use Rattle.filing.specs.Levels.{level, windowsOf, placeFrom}
 use Rattle.filing.specs.Change.{Stop}
 use Rattle.filing.proofs.Place as P
 use Rattle.filing.proofs.Place.Laws as P′
@@ -64,13 +64,14 @@ use Rattle.parts.proofs.file_entry.Symbol.{name as #parts·file-entry}
 use Rattle.parts.proofs.file_entry.Met as file-thm
 use Rattle.merge.specs.Names.{NamedRow}
 use Rattle.merge.specs.Merging.{partAt}
-use Rattle.neighbours.specs.Ranges.{raisedBy, rowIn}
-use Rattle.neighbours.specs.Places.{placeFrom, nameIn, Nameable, Unnamed, Underway, nameable, underway-start, underway-end, underway-turn, turn-place, turn-end, turn-next, turn-asks, turn-nearer}
+use Rattle.filing.specs.Ends.{raisedEnd}
+use Rattle.neighbours.specs.Ranges.{rowIn}
+use Rattle.neighbours.specs.Places.{nameIn, Nameable, Unnamed, Underway, nameable, underway-start, underway-end, underway-turn, turn-place, turn-end, turn-next, turn-asks, turn-nearer}
 use Rattle.neighbours.proofs.Calls.{OwnZ, low-place, IsPlace, FirstPlace, NameAt, RunEnd, calls-first, calls-name-at, calls-run-end}
 use Rattle.neighbours.proofs.FileCall.{FileEntry, Left, Right, calls-file}
-use Rattle.neighbours.proofs.first_place.Symbol as first-def
-use Rattle.neighbours.proofs.first_place.Symbol.{name as #neighbours·first-place}
-use Rattle.neighbours.proofs.first_place.Met as first-thm
+use Rattle.filing.proofs.first_place.Symbol as first-def
+use Rattle.filing.proofs.first_place.Symbol.{name as #filing·first-place}
+use Rattle.filing.proofs.first_place.Met as first-thm
 use Rattle.neighbours.proofs.name_at.Symbol as at-def
 use Rattle.neighbours.proofs.name_at.Symbol.{name as #neighbours·name-at}
 use Rattle.neighbours.proofs.name_at.Met as at-thm
@@ -121,7 +122,7 @@ module _ (ss : List ℤ) (w e : ℕ) (rows : List Row) (n : ℕ) (ls ks : List �
   here s = getD rows (s .2 - 1) zeroRow
 
   abbrev Stops : State → Place → Type 0
-  Stops s next = Stop (level ss w e) (windowsOf ss w) (raisedBy (10000 * w + e) (here s .low)) (raisedBy (10000 * w + e) (here s .up)) (s .0 .offset) (next .offset) (next .level)
+  Stops s next = Stop (level ss w e) (windowsOf ss w) (raisedEnd (10000 * w + e) (here s .low)) (raisedEnd (10000 * w + e) (here s .up)) (s .0 .offset) (next .offset) (next .level)
 
   abbrev measure : State → ℕ
   measure s = windowsOf ss w - s .0 .offset
@@ -218,7 +219,7 @@ module _ {M : Type 1} (𝓤 : URA M) (H : Heap 𝓤) (A : Atoms 𝓤) (W : Given
       nothing ! $ move ! (2 ∷ 0 ∷ []) $ fjoin ! $ move ! (1 ∷ 0 ∷ []) $ fjoin ! $ nothing ! $ fjoin ! $ nothing ! $ fjoin ! $ nothing ! $ fjoin ! $ nothing ! $ fjoin ! $ nothing ! $ fjoin ! $
       frame ! $ feqI ! (List Val) (vunit ∷ []) (vunit ∷ []) refl $ done !
 
-  module _ (𝓣 : Tables 𝓤 H) (fm : FmC 𝓤 H (W .laws) (𝓣 .C)) (known-first : Triple 𝓤 (𝓣 .C #neighbours·first-place) (FirstPlace 𝓤 H A mem run)) (known-at : Triple 𝓤 (𝓣 .C #neighbours·name-at) (NameAt 𝓤 H A mem run)) (known-row : Triple 𝓤 (𝓣 .C #records·row-at) (RowAt 𝓤 H A mem run)) (known-end : Triple 𝓤 (𝓣 .C #neighbours·run-end) (RunEnd 𝓤 H A mem run)) (known-file : Triple 𝓤 (𝓣 .C #parts·file-entry) (FileEntry 𝓤 H A mem run))
+  module _ (𝓣 : Tables 𝓤 H) (fm : FmC 𝓤 H (W .laws) (𝓣 .C)) (known-first : Triple 𝓤 (𝓣 .C #filing·first-place) (FirstPlace 𝓤 H A mem run)) (known-at : Triple 𝓤 (𝓣 .C #neighbours·name-at) (NameAt 𝓤 H A mem run)) (known-row : Triple 𝓤 (𝓣 .C #records·row-at) (RowAt 𝓤 H A mem run)) (known-end : Triple 𝓤 (𝓣 .C #neighbours·run-end) (RunEnd 𝓤 H A mem run)) (known-file : Triple 𝓤 (𝓣 .C #parts·file-entry) (FileEntry 𝓤 H A mem run))
       (rm-s : Room i32 (length (xs .now))) (gw : w < 2 ^ 64) (ge : e < 2 ^ 64) (rm-r : Room T.the-row (length (xr .now))) (gn : n < 2 ^ 64) (rm-l : Room u32 (length (xl .now))) (rm-k : Room u32 (length (xk .now))) (asked : Unnamed (xs .now) w e (xr .now) n (xl .now) (xk .now)) where
     abbrev Known : State → Type 0
     Known s = Facts (xs .now) w e (xr .now) n (xl .now) (xk .now) asked s
@@ -363,7 +364,7 @@ module _ {M : Type 1} (𝓤 : URA M) (H : Heap 𝓤) (A : Atoms 𝓤) (W : Given
     walk : ent 𝓤 (onEntry 𝓤 H A f′.signature κs qs a vals) (WpFn 𝓤 H (𝓣 .C) (𝓣 .Λ) code.function passed Post)
     walk = qed W (Tokens ∷ Owned ∷ []) ∵ enter ! (𝓣 .C) (𝓣 .Λ) code.function passed Post $ alloc1 ! (λ l₀. alloc1 ! (λ l₁. alloc1 ! (λ l₂. alloc1 ! (λ l₃. alloc1 ! (λ l₄. alloc1 ! (λ l₅. alloc1 ! (λ l₆. alloc1 ! (λ l₇. alloc1 ! (λ l₈. alloc1 ! (λ l₉. alloc1 ! (λ l₁₀. alloc1 ! (λ l₁₁. alloc1 ! (λ l₁₂. alloc1 ! (λ l₁₃. alloc1 ! (λ l₁₄. alloc1 ! (λ l₁₅. alloc1 ! (λ l₁₆. alloc1 ! (λ l₁₇. alloc1 ! (λ l₁₈. alloc1 ! (λ l₁₉. alloc1 ! (λ l₂₀. alloc1 ! (λ l₂₁. alloc0 ! $ passing l₀ l₁ l₂ l₃ l₄ l₅ l₆ l₇ l₈ l₉ l₁₀ l₁₁ l₁₂ l₁₃ l₁₄ l₁₅ l₁₆ l₁₇ l₁₈ l₁₉ l₂₀ l₂₁))))))))))))))))))))))
 
-module _ {M : Type 1} (𝓤 : URA M) (H : Heap 𝓤) (A : Atoms 𝓤) (W : Given 𝓤 H A) (mem : Memory → SProp 𝓤) (run : Routine → Fun 𝓤) (𝓣 : Tables 𝓤 H) (known-first : Triple 𝓤 (𝓣 .C #neighbours·first-place) (FirstPlace 𝓤 H A mem run)) (known-at : Triple 𝓤 (𝓣 .C #neighbours·name-at) (NameAt 𝓤 H A mem run)) (known-row : Triple 𝓤 (𝓣 .C #records·row-at) (RowAt 𝓤 H A mem run)) (known-end : Triple 𝓤 (𝓣 .C #neighbours·run-end) (RunEnd 𝓤 H A mem run)) (known-file : Triple 𝓤 (𝓣 .C #parts·file-entry) (FileEntry 𝓤 H A mem run)) where
+module _ {M : Type 1} (𝓤 : URA M) (H : Heap 𝓤) (A : Atoms 𝓤) (W : Given 𝓤 H A) (mem : Memory → SProp 𝓤) (run : Routine → Fun 𝓤) (𝓣 : Tables 𝓤 H) (known-first : Triple 𝓤 (𝓣 .C #filing·first-place) (FirstPlace 𝓤 H A mem run)) (known-at : Triple 𝓤 (𝓣 .C #neighbours·name-at) (NameAt 𝓤 H A mem run)) (known-row : Triple 𝓤 (𝓣 .C #records·row-at) (RowAt 𝓤 H A mem run)) (known-end : Triple 𝓤 (𝓣 .C #neighbours·run-end) (RunEnd 𝓤 H A mem run)) (known-file : Triple 𝓤 (𝓣 .C #parts·file-entry) (FileEntry 𝓤 H A mem run)) where
   meets : Meets 𝓤 H A f′.signature (WpFn 𝓤 H (𝓣 .C) (𝓣 .Λ) code.function) (f′.spec 𝓤 H A mem run)
   meets = walk-through 𝓤 H A f′.ended stayed W (goes-dropped 𝓤 H A W 4 (SliceRefOf (0 ∷ []) tt (plain (λ _. i32)) (λ _. tt)) yes (λ κs x f. refl), (goes-dropped 𝓤 H A W 4 (plain (λ _. usize)) yes (λ κs x f. refl), (goes-dropped 𝓤 H A W 4 (plain (λ _. usize)) yes (λ κs x f. refl), (goes-dropped 𝓤 H A W 4 (SliceRefOf (1 ∷ []) tt (plain (λ _. T.the-row)) (λ _. tt)) yes (λ κs x f. refl), (goes-dropped 𝓤 H A W 4 (plain (λ _. usize)) yes (λ κs x f. refl), (goes-slice 𝓤 H A W 4 2 tt (plain (λ _. u32)), (goes-slice 𝓤 H A W 4 3 tt (plain (λ _. u32)), tt))))))) (f′.clauses 𝓤 H A mem run) 𝓣 code.function
       (λ κs. (slice-vals, (uint-vals w64, (uint-vals w64, (slice-vals, (uint-vals w64, (slice-vals, (slice-vals, tt))))))))
@@ -378,7 +379,7 @@ name-neighbours-spec 𝓤 H 𝓜 𝓖 𝓡 =
     entered 𝓤 H (tripleOf 𝓤 H (𝓖 .A) f′.signature (f′.spec 𝓤 H (𝓖 .A) (𝓜 .mem) (𝓡 .run)))
     (tables 𝓤 H 𝓜 𝓡 code.env .C) (tables 𝓤 H 𝓜 𝓡 code.env .Λ) #neighbours·name-neighbours code.function (code.unfolded 𝓤 H 𝓜 𝓡)
     (meets 𝓤 H (𝓖 .A) (givenOf 𝓤 H 𝓜 𝓖) (𝓜 .mem) (𝓡 .run) (tablesOf 𝓤 H 𝓜 (tables 𝓤 H 𝓜 𝓡 code.env))
-    (cited 𝓤 H (FirstPlace 𝓤 H (𝓖 .A) (𝓜 .mem) (𝓡 .run)) 𝓜 𝓡 code.env #neighbours·first-place first-def.routine code.calls-neighbours·first-place (first-thm.met 𝓤 H 𝓜 𝓖 𝓡))
+    (cited 𝓤 H (FirstPlace 𝓤 H (𝓖 .A) (𝓜 .mem) (𝓡 .run)) 𝓜 𝓡 code.env #filing·first-place first-def.routine code.calls-filing·first-place (first-thm.met 𝓤 H 𝓜 𝓖 𝓡))
     (cited 𝓤 H (NameAt 𝓤 H (𝓖 .A) (𝓜 .mem) (𝓡 .run)) 𝓜 𝓡 code.env #neighbours·name-at at-def.routine code.calls-neighbours·name-at (at-thm.met 𝓤 H 𝓜 𝓖 𝓡))
     (cited 𝓤 H (RowAt 𝓤 H (𝓖 .A) (𝓜 .mem) (𝓡 .run)) 𝓜 𝓡 code.env #records·row-at row-def.routine code.calls-records·row-at (row-thm.met 𝓤 H 𝓜 𝓖 𝓡))
     (cited 𝓤 H (RunEnd 𝓤 H (𝓖 .A) (𝓜 .mem) (𝓡 .run)) 𝓜 𝓡 code.env #neighbours·run-end end-def.routine code.calls-neighbours·run-end (end-thm.met 𝓤 H 𝓜 𝓖 𝓡))

@@ -8,7 +8,7 @@ use lib.Signed.{mag}
 use mir.Syntax.{w32}
 use mir.Val.{toZ, ofZ}
 use mir.ValLaws.{toZ-ofZ}
-use Rattle.neighbours.specs.Ranges.{Limited}
+use Rattle.neighbours.specs.Ranges.{Limited, limited-asks}
 use Rattle.neighbours.proofs.run_end.Statement.{statement}
 use Rattle.neighbours.proofs.run_end.Tie as tie
 
@@ -22,10 +22,10 @@ up-back : (c : tie.After-struct-told2) → toZ w32 (ofZ w32 (c .before .before .
 up-back c = back (c .before .before .args .r .up) (c .struct-told2 .given .1 .0 .1)
 
 low-asks : tie.Need-raise-end-requires
-low-asks c u = let o = c .before .before in (subst Limited (sym (low-back (c .before))) (o .pre .3 .low-end), omega (arith, o .pre .0 .most, o .pre .0 .small))
+low-asks c u = let o = c .before .before in (omega (arith, o .pre .0 .most, o .pre .0 .small), limited-asks (subst Limited (sym (low-back (c .before))) (o .pre .3 .low-end)))
 
 up-asks : tie.Need-raise-end-requires-2
-up-asks c u = let o = c .before .before .before in (subst Limited (sym (up-back (c .before))) (o .pre .3 .up-end), omega (arith, o .pre .0 .most, o .pre .0 .small))
+up-asks c u = let o = c .before .before .before in (omega (arith, o .pre .0 .most, o .pre .0 .small), limited-asks (subst Limited (sym (up-back (c .before))) (o .pre .3 .up-end)))
 
 returns : tie.Need-returns
 returns c = rw (c .before .before .raise-end .ensures, c .before .raise-end2 .ensures, low-back (c .before .before .before .before), up-back (c .before .before .before)) at (c .next-out .ensures)

@@ -1,12 +1,12 @@
--- `fill::raise_end` meets its contract. Assumes nothing.
+-- `filing::raise_end` meets its contract. Assumes nothing.
 use native.Mathlib.Omega.{arith}
 use lib.IntN.{ℤ, _+ℤ_}
 use mir.Syntax.{w32}
 use mir.Val.{SFits, toZ, ofZ}
 use Rattle.meaning_numbers.proofs.Rep.{z-add}
 use Rattle.meaning_numbers.proofs.Machine.{zmach32, z-cast32, z-abs}
-use Rattle.fill.proofs.raise_end.Statement.{statement}
-use Rattle.fill.proofs.raise_end.Tie as tie
+use Rattle.filing.proofs.raise_end.Statement.{statement}
+use Rattle.filing.proofs.raise_end.Tie as tie
 
 -- the two numbers as the machine reads them
 abbrev x : tie.Start → ℤ

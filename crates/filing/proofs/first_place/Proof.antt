@@ -1,7 +1,7 @@
--- `neighbours::first_place` meets its contract. Assumes nothing.
+-- `filing::first_place` meets its contract. Assumes nothing.
 use borrow.Author.Needs.{needs}
-use Rattle.neighbours.proofs.first_place.Statement.{statement}
-use Rattle.neighbours.proofs.first_place.Tie as tie
+use Rattle.filing.proofs.first_place.Statement.{statement}
+use Rattle.filing.proofs.first_place.Tie as tie
 
 returns : tie.Need-returns
 returns c = rw (c .first-level .ensures)
