@@ -61,10 +61,6 @@ module _ (sum : ℕ → ℤ) (n : ℕ) where
   all-fine : (l : List SetRow) → Tiled sum n l → (i : ℕ) → i < length l → Fine sum n (getD l i noRow)
   all-fine l t i h = all-mem (Fine sum n) l (tiled-fine sum n l t) (mem-at noRow l i h)
 
-  chain-tiled : (r : SetRow) (l : List SetRow) → Chain sum n r l → Tiled sum n (r ∷ l)
-  unfolding Tiled
-  chain-tiled r l c = c
-
   tail-tiled : (r : SetRow) (l : List SetRow) → Tiled sum n (r ∷ l) → Tiled sum n l
   unfolding Tiled Chain
   tail-tiled r [] t = tt

@@ -1,21 +1,19 @@
--- What the scratch count tells: it is the number of parts exactly at the candidates (`leading-all`); it starts at 0 (`counted-starts`), and a part that raises by its rows makes the next count (`counted-next`). Assumes nothing.
+-- What the scratch count tells: it is the number of parts exactly at the candidates (`leading-all`). Assumes nothing.
 use mathlib.Core.Path.{_≡_, refl, sym, _∙_, ap}
 use mathlib.Core.Bool.{Bool, true, false, _&&_, and-true, and-false, and-assoc}
-use mathlib.Core.List.{List, map}
-use Prim.Native.Nat.{ℕ, zero, suc, _+_, _*_, _<_, _≤_}
+use mathlib.Core.List.{map}
+use Prim.Native.Nat.{ℕ, zero, suc, _+_, _*_, _≤_}
 use native.Mathlib.Omega.{arith}
 use native.Mathlib.Nat.{zero-add}
-use native.Mathlib.Numerals.{add-one}
-use lib.Dec.{eqb, ltb}
+use lib.Dec.{eqb}
 use lib.IntN.{ℤ, natAbs}
-use lib.ListN.{getD}
-use borrow.Author.Tests.{eq-eqb, ne-eqb, lt-ltb}
+use borrow.Author.Tests.{eq-eqb, ne-eqb}
 use Rattle.meaning_numbers.specs.Place.{numbersFrom}
 use Rattle.meaning_numbers.proofs.Tests.{by-test}
 use Rattle.meaning_rows.specs.Index.{Index}
 use Rattle.meaning_filter.specs.Candidates.{admits, candidate}
-use Rattle.candidates.specs.Raise.{bump, Raised}
-use Rattle.candidates.specs.Leading.{leading, Counted}
+use Rattle.candidates.specs.Raise.{bump}
+use Rattle.candidates.specs.Leading.{leading}
 
 -- a part's turn at a count that is at most its number
 turn : (a : Bool) (i n : ℕ) → n ≤ i → eqb (bump a i n) (suc i) ≡ (eqb n i && a)
@@ -51,19 +49,3 @@ module _ (x : Index) (range : ℕ → ℤ × ℤ) where
   leading-all (suc i) j =
       let a = admits x (range i) (j + i * w) in
       turn a i (leading x range i j) (leading-le i j) ∙ ap (λ (t : Bool). t && a) (leading-all i j) ∙ sym (candidate-more 0 i j ∙ rw (zero-add i))
-
-  -- ---- the scratch count
-
-  pub counted-starts : (offsets : ℕ) (scratch : List ℕ) → ((j : ℕ) → getD scratch j 0 ≡ 0) → Counted x range offsets 0 scratch
-  unfolding leading
-  counted-starts offsets scratch h = record { at = λ j. by-test (ltb j offsets) (λ t. rw t (h j)) (λ f. rw f (h j)) }
-
-  pub counted-next : (offsets i : ℕ) (hit : ℕ → Bool) (old new : List ℕ) → Counted x range offsets i old → Raised i hit old new
-      → ((j : ℕ) → hit j ≡ (ltb j offsets && admits x (range i) (j + i * w))) → Counted x range offsets (i + 1) new
-  unfolding leading bump
-  counted-next offsets i hit old new c r h =
-      rw (add-one i) (record { at = λ j. r .at j ∙ rw (h j, c .at j) (by-test (ltb j offsets) (λ t. rw t) (λ f. rw f)) })
-
-  -- an offset stands at the number of parts exactly if it is a candidate
-  pub counted-ends : (offsets p : ℕ) (scratch : List ℕ) → Counted x range offsets p scratch → (j : ℕ) → j < offsets → eqb (getD scratch j 0) p ≡ candidate x (map range (numbersFrom 0 p)) j
-  counted-ends offsets p scratch c j l = rw (c .at j, lt-ltb j offsets l) (leading-all p j)

@@ -38,10 +38,6 @@ out-trans : (t : Bool) (x y z : ℤ) → out t x y → out t y z → out t x z
 out-trans true x y z h k = ≤ℤ-trans h k
 out-trans false x y z h k = ≤ℤ-trans k h
 
-out-both : (t : Bool) (x y : ℤ) → out t x y → out t y x → x ≡ y
-out-both true x y h k = ≤ℤ-antisym h k
-out-both false x y h k = ≤ℤ-antisym k h
-
 pick-out : (t : Bool) (x y : ℤ) → out t (pick t x y) x × out t (pick t x y) y
 pick-out true x y = minℤ-le x y
 pick-out false x y = maxℤ-le x y

@@ -85,9 +85,6 @@ module _ (R W : ℕ) (P : ℕ → ℕ → Bool) (first : ℕ → ℕ) (total : �
   fits : at + bit (not (before (P i) j)) ≤ first i + runCount (P i) W
   fits = omega (arith, mine-more, runCount-mono (P i) (j + 1) W (omega arith))
 
-  fits-now : first i + runCount (P i) j ≤ first i + runCount (P i) W
-  fits-now = omega (arith, runCount-mono (P i) j W (omega arith))
-
   -- another row's runs stay
   other-runs : (k : ℕ) → k < R → (k ≡ i → ⊥) → runs (P k) (j + 1) ≡ runs (P k) j
   unfolding takeIn

@@ -1,4 +1,4 @@
--- How a search that looks ends: it is within its limits (`limited`), and where the candidates stand as they should, what is found is what the search means (`search-done`). `runs-lent` and `search-ends` say it of a lent index, for the entry. Assumes nothing.
+-- How a search that looks ends: it is within its limits (`limited`), and where the candidates stand as they should, what is found is what the search means (`search-done`). `search-ends` says it of a lent index, for the entry. Assumes nothing.
 use mathlib.Core.Path.{_≡_, refl, sym, _∙_}
 use mathlib.Core.List.{List}
 use mathlib.Core.Option.{none}
@@ -12,7 +12,7 @@ use Rattle.meaning_rows.specs.declared.Head.{Head}
 use Rattle.meaning_rows.specs.Index.{Index}
 use Rattle.meaning_filter.specs.declared.Kind.{Kind}
 use Rattle.meaning_filter.specs.declared.Limits.{Limits}
-use Rattle.meaning_filter.specs.Matches.{offsetCount, candidateRuns}
+use Rattle.meaning_filter.specs.Matches.{candidateRuns}
 use Rattle.meaning_entries.specs.declared.Found.{Found}
 use Rattle.meaning_entries.specs.Refusal.{firstRefusal}
 use Rattle.meaning_entries.specs.Search.{SearchCall, SearchBuffers, lentSearch, question, listRoom, searchMatches, searchCandidates, searchAnswer, searchAfter, lookedAfter}
@@ -21,8 +21,8 @@ use Rattle.meaning_entries.proofs.Demand2.{search-kept}
 use Rattle.meaning_entries.proofs.Looked.{planTable, plan-all, plan-full}
 use Rattle.search_plan.specs.Allowed.{Allowed, thePlan, goes-on}
 use Rattle.checking.specs.Members.{members}
-use Rattle.checking.specs.Found.{asked, RunsLent, lentRuns, found, found-among}
-use Rattle.checking.specs.Candidates.{runs-first, candidates-lent, list-after}
+use Rattle.checking.specs.Found.{asked, lentRuns, found, found-among}
+use Rattle.checking.specs.Candidates.{runs-first, list-after}
 use Rattle.finding.specs.Answer.{Limited, answerOf, Answers, answer-all, answer-full}
 
 pub limited : {s : List ℤ} {h : Head} {x : Index} {kind : Kind} {q : List ℤ} {l : Limits} {candidates scratch : ℕ} → Allowed s h x kind q l candidates scratch → Limited kind s q l
@@ -73,10 +73,6 @@ module _ (s : List ℤ) (h : Head) (rows : List Row) (left right : List ℕ) (ki
 
   -- the candidates stand in their buffer, k runs
   module _ {lefts rights : List ℕ} {k : ℕ} (e : lefts ≡ lookedAfter call b .left) (f : rights ≡ lookedAfter call b .right) (g : k ≡ length runs) where
-    pub runs-lent : RunsLent (offsetCount (asked kind s q l)) lefts rights k
-    unfolding lookedAfter question
-    runs-lent = rw (e, f, g) (candidates-lent (call .index) (question call) (b .left) (b .right))
-
     same-runs : lentRuns lefts rights k ≡ runs
     unfolding lookedAfter
     same-runs = rw (e, f, g) (runs-first runs (b .left) (b .right))

@@ -137,10 +137,6 @@ module _ {p : ℕ → Bool} {left₀ right₀ : List ℕ} {j k : ℕ} {prev : Bo
       prev-le : bit prev ≤ k
       prev-le = rw (f .prev-is, f .count-is) (before-some p j)
 
-      -- what `put` requires
-      pub filling-room : (k + bit (here && not prev) ≤ length left) × ((k + bit (here && not prev) ≤ length right) × (bit prev ≤ k))
-      filling-room = (omega (arith, fits-left, filling-left (omega (arith, fits-left))), (omega (arith, fits-right, filling-right (omega (arith, fits-right))), prev-le))
-
       -- what it ensures is the next turn's invariant
       pub filling-next : {k′ : ℕ} {left′ right′ : List ℕ} → k′ ≡ k + bit (here && not prev) → left′ ≡ putLeft here prev left k j → right′ ≡ putRight here prev right k j
           → Filling p left₀ right₀ (j + 1) k′ here left′ right′

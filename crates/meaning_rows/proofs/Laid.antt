@@ -5,7 +5,7 @@ use mathlib.Core.List.{List, [], _∷_, _++_, map, append-assoc}
 use Prim.Native.Nat.{ℕ, zero, suc, _+_, _<_, _≤_}
 use native.Mathlib.Omega.{arith}
 use lib.IntN.{ℤ}
-use lib.ListN.{length, getD, take, drop, length-append, List·getD-map}
+use lib.ListN.{length, getD, take, drop, length-append}
 use lib.Seq.{take-append-seam, drop-append-seam, take-add, drop-drop}
 use Rattle.meaning_curves.specs.Limits.{lowestEnd}
 use Rattle.meaning_rows.specs.declared.Row.{Row}
@@ -59,9 +59,6 @@ first-from o k (r ∷ l) (suc i) h = omega (arith, length-append (r .runs) (allR
 module _ (window width windows : ℤ) (l : List RangeRow) where
   pub rows-back : rangeRows (laidOut window width windows l) ≡ l
   rows-back = read-back (laidOut window width windows l) 0 l (laid l)
-
-  pub row-back : (o : Row) (i : ℕ) → rangeRow (laidOut window width windows l) (getD (records 0 l) i o) ≡ getD l i (rangeRow (laidOut window width windows l) o)
-  row-back o i = let x = laidOut window width windows l in sym (List·getD-map (rangeRow x) (records 0 l) i o) ∙ ap (λ (m : List RangeRow). getD m i (rangeRow x o)) rows-back
 
   -- a row's runs begin where the rows before end
   pub first-laid : (o : Row) (i : ℕ) → i < length l → getD (laidOut window width windows l .rows) i o .first ≡ length (allRuns (take i l))

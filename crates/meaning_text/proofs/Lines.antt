@@ -16,7 +16,7 @@ use Rattle.meaning_text.specs.Bytes.{bytes, newlines}
 use Rattle.meaning_text.specs.Number.{spellℕ, spellℤ}
 use Rattle.meaning_text.specs.Form.{Form, number, oneOf, lead, trail, both, many, Value, spellOne, spellMany, spell}
 use Rattle.meaning_text.specs.Read.{lineOf, Viable, Longest}
-use Rattle.meaning_text.specs.Texts.{indexForm, seriesForm, programForm}
+use Rattle.meaning_text.specs.Texts.{indexForm}
 use Rattle.meaning_text.proofs.Open.{openText}
 use Rattle.meaning_text.proofs.Reading.{on-flag}
 use Rattle.meaning_text.proofs.Number.{spell-one, spell-more, by-digits}
@@ -164,18 +164,10 @@ few-lines f d e p s =
     let r : Paid 0 (p ++ s .0) d = rw (s .3) (credit-paid f 0 d e (s .1)) in
     omega (arith, paid-begun p (s .0) r)
 
--- the beginnings of an index text, a series line and the program's input
+-- the beginnings of an index text
 pub index-lines : (p : List ℕ) → Viable indexForm p → newlines p * 8 ≤ length p
 unfolding openText creditWord credit bind
 index-lines = few-lines indexForm _ refl
-
-pub series-lines : (p : List ℕ) → Viable seriesForm p → newlines p * 8 ≤ length p
-unfolding openText creditWord credit bind
-series-lines = few-lines seriesForm _ refl
-
-pub program-lines : (p : List ℕ) → Viable programForm p → newlines p * 8 ≤ length p
-unfolding openText creditWord credit bind
-program-lines = few-lines programForm _ refl
 
 -- the bad line, where beginnings have few lines
 pub bad-line : (f : Form) → ((p : List ℕ) → Viable f p → newlines p * 8 ≤ length p) → (t : List ℕ) (n : ℕ) → Longest f t n → lineOf t n * 8 ≤ length t + 8

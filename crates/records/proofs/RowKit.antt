@@ -75,14 +75,8 @@ pub made-zero : IsRow zeroRow
 made-zero = made (pos 0) (pos 0) 0 0 (lit< tt) (lit< tt) (lit< tt) (lit< tt)
 
 -- what whoever holds a record knows of its fields
-pub row-low : (r : Row) → IsRow r → mag (r .low) < 2 ^ hbits w32
-row-low r g = LL.owed T.the-type T′.the-laws r (vals r) g .0 .1
-
 pub row-up : (r : Row) → IsRow r → mag (r .up) < 2 ^ hbits w32
 row-up r g = LL.owed T.the-type T′.the-laws r (vals r) g .1 .0 .1
-
-pub row-first : (r : Row) → IsRow r → r .first < 2 ^ 32
-row-first r g = LL.owed T.the-type T′.the-laws r (vals r) g .1 .1 .0 .1
 
 pub row-runs : (r : Row) → IsRow r → r .runs < 2 ^ 32
 row-runs r g = LL.owed T.the-type T′.the-laws r (vals r) g .1 .1 .1 .0 .1

@@ -1,8 +1,8 @@
-// The lent row records: the functions that read, store, copy and clear them. Above, a function that takes `&[Row]` or `&mut [Row]` is thin and calls these; what it calls besides works on a `Row` by value, on a chunk of records by value, and on slices of numbers.
+// The lent row records: the functions that read, copy and clear them. Above, a function that takes `&[Row]` or `&mut [Row]` is thin and calls these; what it calls besides works on a `Row` by value, on a chunk of records by value, and on slices of numbers.
 ghost use mathlib.Core.Path.{_≡_};
 ghost use mathlib.Core.List.{_++_};
 ghost use Prim.Native.Nat.{_+_, _-_, _<_, _≤_};
-ghost use lib.ListN.{length, getD, set, take, replicate};
+ghost use lib.ListN.{length, getD, take, replicate};
 ghost use Rattle.records.specs.Records.{zeroRow, copied, countFrom, chunkOf};
 use meaning_rows::Row;
 
@@ -22,14 +22,6 @@ pub fn row_or(rows: &[Row], k: usize, none: Row) -> Row
         return row_at(rows, k);
     }
     none
-}
-
-// Record r is stored at place k.
-pub fn put_row(rows: &mut [Row], k: usize, r: Row)
-    requires { ⌜ k < length (now rows) ⌝ }
-    ensures { λ _. ⌜ now (rows .exit) ≡ set (now (rows .entry)) k r ⌝ }
-{
-    rows[k] = r;
 }
 
 // Every record from a place on is made the record of zeros.

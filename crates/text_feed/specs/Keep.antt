@@ -3,7 +3,7 @@ use mathlib.Core.Path.{_≡_, refl, sym, ap, _∙_}
 use mathlib.Core.Bool.{Bool, true, false, cond, not}
 use mathlib.Core.List.{List, [], _∷_, _++_, map}
 use mathlib.Core.Option.{none, some}
-use Prim.Native.Nat.{ℕ, suc, _+_, _≤_}
+use Prim.Native.Nat.{ℕ, suc, _+_}
 use native.Mathlib.Omega.{arith}
 use lib.Dec.{eqb, ltb}
 use lib.IntN.{ℤ, pos, negsuc}
@@ -132,11 +132,6 @@ stored-more base vs z =
     map-append : (a b : List ℤ) → map clamp (a ++ b) ≡ map clamp a ++ map clamp b
     map-append [] b = refl
     map-append (x ∷ a) b = ap (λ (l : List ℤ). clamp x ∷ l) (map-append a b)
-
-leading-at-most : (vs : List ℤ) → leading vs ≤ length vs
-unfolding leading
-leading-at-most [] = omega arith
-leading-at-most (x ∷ vs) = on-flag (valueIn x) (λ e. rw e (omega (arith, leading-at-most vs))) (λ e. rw e (omega arith))
 
 leading-more : (vs : List ℤ) (z : ℤ) → leading (vs ++ (z ∷ [])) ≡ cond (eqb (leading vs) (length vs)) (cond (valueIn z) (length vs + 1) (leading vs)) (leading vs)
 unfolding leading

@@ -6,10 +6,10 @@ use Prim.Native.Nat.{ℕ}
 use lib.IntN.{ℤ}
 use Rattle.meaning_text.specs.Form.{Form, Value}
 use Rattle.meaning_text.specs.Read.{fine, unfit, readText}
-use Rattle.meaning_text.specs.Texts.{seriesForm, programForm}
+use Rattle.meaning_text.specs.Texts.{programForm}
 use Rattle.meaning_text.proofs.Automaton.{Fed, going, failed, feed, feed-failed, judged}
 use Rattle.text_lines.specs.declared.State.{State}
-use Rattle.text_lines.specs.Follow.{Said, nothingSaid, Reading, at, step, accept, acceptState, programStart, seriesStart, programValue, seriesValue, program-comes, series-comes}
+use Rattle.text_lines.specs.Follow.{Said, nothingSaid, Reading, at, step, accept, acceptState, programStart, programValue, program-comes}
 use Rattle.text_feed.specs.declared.Values.{Values}
 use Rattle.text_feed.specs.declared.Progress.{Progress}
 use Rattle.text_feed.specs.declared.Feeding.{Feeding}
@@ -72,11 +72,3 @@ program-failed = text-failed programForm programValue programStart program-comes
 pub program-done : (kept asked : List ℤ) (t : List ℕ) (numbers series query : List ℤ) (p : Progress) → p .state ≡ State.Done → Shows kept asked (Feeding.Going p) (feed step (going programStart 0) t) numbers series query
     → (g : Said) × (readText programForm t ≡ fine (programValue g)) × Holds kept asked g numbers (p .series) (p .query) series query
 program-done = text-done programForm programValue programStart program-comes
-
--- a series line by itself
-pub series-failed : (kept asked : List ℤ) (t : List ℕ) (numbers series query : List ℤ) (m : ℕ) → Shows kept asked (Feeding.Failed m) (feed step (going seriesStart 0) t) numbers series query → readText seriesForm t ≡ unfit m
-series-failed = text-failed seriesForm seriesValue seriesStart series-comes
-
-pub series-done : (kept asked : List ℤ) (t : List ℕ) (numbers series query : List ℤ) (p : Progress) → p .state ≡ State.Done → Shows kept asked (Feeding.Going p) (feed step (going seriesStart 0) t) numbers series query
-    → (g : Said) × (readText seriesForm t ≡ fine (seriesValue g)) × Holds kept asked g numbers (p .series) (p .query) series query
-series-done = text-done seriesForm seriesValue seriesStart series-comes

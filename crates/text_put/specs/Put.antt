@@ -46,10 +46,7 @@ put-then {a} {b} {c} {l} {m} {i} {j} {k} p q =
       ends = q .ends ∙ rw (len, p .ends, length-append l m) (omega arith);
     }
 
--- a byte, in the two cases of the code
-pub put-in : (old : List ℕ) (i b : ℕ) → i < length old → Put old i (b ∷ []) (set old i b) (i + 1)
-put-in old i b h = record { holds = refl; ends = omega arith }
-
+-- a byte that there is no room for
 pub put-out : (old : List ℕ) (i b : ℕ) → length old ≤ i → Put old i (b ∷ []) old (length old + 1)
 put-out old i b h = record { holds = sym (set-out old i b h); ends = omega arith }
 

@@ -46,10 +46,6 @@ spelled-stored {old = old} {l} {new} {from} {to} e p = rw e (spelled-put p)
 pub spelled-only : {store : Bool} {old l : List ℕ} {from to : ℕ} → store ≡ false → Counted (length old) from l to → Spelled store old from l old to
 spelled-only e p = rw e (spelled-counted p)
 
-pub spelled-length : {store : Bool} {old l new : List ℕ} {from to : ℕ} → Spelled store old from l new to → length new ≡ length old
-spelled-length {store = true} {old = old} {l = l} {from = from} p = rw (p .holds) (length-sets old from l)
-spelled-length {store = false} p = ap length (p .holds)
-
 pub spelled-then : {store : Bool} {a b c l m : List ℕ} {i j k : ℕ} → Spelled store a i l b j → Spelled store b j m c k → Spelled store a i (l ++ m) c k
 spelled-then {store = true} {l = l} {m = m} p q = spelled-put (put-then {l = l} {m = m} (record { holds = p .holds; ends = p .ends }) (record { holds = q .holds; ends = q .ends }))
 spelled-then {store = false} {l = l} {m = m} p q = record { holds = q .holds ∙ p .holds; ends = omega (arith, p .ends, q .ends, ap length (p .holds), length-append l m) }

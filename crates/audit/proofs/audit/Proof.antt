@@ -120,9 +120,6 @@ nears k n l = omega (arith, l)
 fits-next : (k n : ℕ) → k < n → n * 16 < 2 ^ 63 → k + 64 < 2 ^ 64
 fits-next k n l g = omega (arith, l, g)
 
-fits-here : (k n : ℕ) → k < n → n < 2 ^ 64 → k < 2 ^ 64
-fits-here k n l g = omega (arith, l, g)
-
 module _ {M : Type 1} (𝓤 : URA M) (H : Heap 𝓤) (A : Atoms 𝓤) (W : Given 𝓤 H A) (mem : Memory → SProp 𝓤) (run : Routine → Fun 𝓤) (κ₀ κ κ₂ κ₃ : Lft) (q₀ q q₂ q₃ : Share) (z : Zs) (h : Head) (x : Rs) (u w : Ns) where
   abbrev ys : List Row
   ys = now x

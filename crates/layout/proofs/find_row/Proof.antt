@@ -91,9 +91,6 @@ below a b c h k = omega arith
 both-within : (a b c : ℕ) → a ≤ b → b ≤ c → a ≤ c
 both-within a b c h k = omega arith
 
-weak : (a b : ℕ) → a < b → a ≤ b
-weak a b h = omega arith
-
 module _ {M : Type 1} (𝓤 : URA M) (H : Heap 𝓤) (A : Atoms 𝓤) (W : Given 𝓤 H A) (mem : Memory → SProp 𝓤) (run : Routine → Fun 𝓤) (κ : Lft) (q : Share) (x : Rs) (n : ℕ) (z : ℤ) where
   abbrev ys : List Row
   ys = now x
