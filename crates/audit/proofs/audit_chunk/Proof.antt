@@ -149,9 +149,6 @@ returns c =
     let s = c .before .before .before .before in
     chunk-off (s .args .series .now) (s .args .head) (s .args .left .now) (s .args .right .now) (s .args .s) (s .args .from) (s .args .t1) (not-true (s .args .s .go) (c .if1 .taken))
 
-cast-w : tie.Need-cast-w Inv-offsets μ-offsets Inv-runs μ-runs Inv-rows μ-rows
-cast-w c = search needs
-
 sub-rest : tie.Need-sub-rest Inv-offsets μ-offsets Inv-runs μ-runs Inv-rows μ-rows
 sub-rest c =
     let s = c .before .before .before .before .before in
@@ -163,21 +160,6 @@ rows-holds c =
     let s = c .before .before .before .before .before in
     let e : s .args .from + 0 ≡ s .args .from = omega arith in
     (omega arith, record { goes = refl; no-row = refl; no-offset = refl }, ap (λ (n : ℕ). wrongOf (s .args .series .now) (s .args .head .window) (s .args .left .now) (s .args .right .now) n (s .args .t1)) e)
-
-mul-r : tie.Need-mul-r Inv-offsets μ-offsets Inv-runs μ-runs Inv-rows μ-rows
-mul-r c = omega arith
-
-array-copy-out-r : tie.Need-array-copy-out-r Inv-offsets μ-offsets Inv-runs μ-runs Inv-rows μ-rows
-array-copy-out-r c = omega arith
-
-cast-i : tie.Need-cast-i Inv-offsets μ-offsets Inv-runs μ-runs Inv-rows μ-rows
-cast-i c = search needs
-
-cast-end : tie.Need-cast-end Inv-offsets μ-offsets Inv-runs μ-runs Inv-rows μ-rows
-cast-end c = search needs
-
-add-end : tie.Need-add-end Inv-offsets μ-offsets Inv-runs μ-runs Inv-rows μ-rows
-add-end c = search needs
 
 runs-holds : tie.Need-runs-holds Inv-offsets μ-offsets Inv-runs μ-runs Inv-rows μ-rows
 runs-holds c =
@@ -334,14 +316,14 @@ audit-chunk-spec =
     Inv-rows
     μ-rows
     returns
-    cast-w
+    (λ c. search needs)
     sub-rest
     rows-holds
-    mul-r
-    array-copy-out-r
-    cast-i
-    cast-end
-    add-end
+    (λ c. omega arith)
+    (λ c. omega arith)
+    (λ c. search needs)
+    (λ c. search needs)
+    (λ c. search needs)
     runs-holds
     mul-j
     shared-slice-read-j

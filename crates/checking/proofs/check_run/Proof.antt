@@ -60,9 +60,6 @@ add-j c =
     let h = inside g (omega (arith, c .before .before .before .before .before .before .before .before .before .before .before .before .before .before .loop-test .taken)) in
     omega (arith, h, o g .pre .0 .long)
 
-loop-less : tie.Need-loop-less Inv-loop μ-loop
-loop-less c = omega arith
-
 loop-again : tie.Need-loop-again Inv-loop μ-loop
 loop-again c =
     let a = c .before .before .before .before .before in
@@ -101,7 +98,7 @@ check-run-spec =
     list-match-requires
     slide-sums-requires
     add-j
-    loop-less
+    (λ c. omega arith)
     loop-again
     same-length
     same-length-2

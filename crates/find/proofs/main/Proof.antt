@@ -7,35 +7,8 @@ use borrow.Author.Needs.{needs}
 use Rattle.find.proofs.main.Statement.{statement}
 use Rattle.find.proofs.main.Tie as tie
 
-begin-requires : tie.Need-begin-requires
-begin-requires c κs = search needs
-
-slice-aggregate-read-all : tie.Need-slice-aggregate-read-all
-slice-aggregate-read-all c = search needs
-
-slice-aggregate-read-all-2 : tie.Need-slice-aggregate-read-all-2
-slice-aggregate-read-all-2 c = search needs
-
-slice-aggregate-read-all-3 : tie.Need-slice-aggregate-read-all-3
-slice-aggregate-read-all-3 c = search needs
-
 read-all-requires : tie.Need-read-all-requires
 read-all-requires c κs = rw (c .before .before .before .begin .ensures) (starts 4611686018427387904 _ _ (omega arith) (length-replicate {A = ℤ} 4096 (pos 0)) (length-replicate {A = ℤ} 1024 (pos 0)))
-
-text-buffer-requires : tie.Need-text-buffer-requires
-text-buffer-requires c κs = search needs
-
-slice-aggregate-finish : tie.Need-slice-aggregate-finish
-slice-aggregate-finish c = search needs
-
-slice-aggregate-finish-2 : tie.Need-slice-aggregate-finish-2
-slice-aggregate-finish-2 c = search needs
-
-slice-aggregate-finish-3 : tie.Need-slice-aggregate-finish-3
-slice-aggregate-finish-3 c = search needs
-
-slice-aggregate-finish-4 : tie.Need-slice-aggregate-finish-4
-slice-aggregate-finish-4 c = search needs
 
 finish-requires : tie.Need-finish-requires
 finish-requires c κs =
@@ -44,30 +17,21 @@ finish-requires c κs =
     let q = length-replicate {A = ℤ} 1024 (pos 0) in
     (record { reached = ends 0 _ _ _ _ (r .read-all .ensures); numbers-long = omega (arith, r .read-all .kept .1 .0); series-long = omega (arith, s, r .read-all .kept .1 .1 .0); query-long = omega (arith, q, r .read-all .kept .1 .1 .1 .0) }, search needs)
 
-slice-aggregate-print-first : tie.Need-slice-aggregate-print-first
-slice-aggregate-print-first c = search needs
-
-print-first-requires : tie.Need-print-first-requires
-print-first-requires c κs = search needs
-
-returns : tie.Need-returns
-returns c = search needs
-
 pub main-spec : {M : Type 1} → statement M
 main-spec =
     tie.close
     (tie.spec
-    begin-requires
-    slice-aggregate-read-all
-    slice-aggregate-read-all-2
-    slice-aggregate-read-all-3
+    (λ c κs. search needs)
+    (λ c. search needs)
+    (λ c. search needs)
+    (λ c. search needs)
     read-all-requires
-    text-buffer-requires
-    slice-aggregate-finish
-    slice-aggregate-finish-2
-    slice-aggregate-finish-3
-    slice-aggregate-finish-4
+    (λ c κs. search needs)
+    (λ c. search needs)
+    (λ c. search needs)
+    (λ c. search needs)
+    (λ c. search needs)
     finish-requires
-    slice-aggregate-print-first
-    print-first-requires
-    returns)
+    (λ c. search needs)
+    (λ c κs. search needs)
+    (λ c. search needs))

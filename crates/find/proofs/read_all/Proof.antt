@@ -20,15 +20,6 @@ loop-holds c = (read-less 4611686018427387904 _ _ _ _ _ (omega arith) (c .pre), 
 read-on-requires : tie.Need-read-on-requires Inv-loop μ-loop
 read-on-requires c κs = open-less _ (65536 * c .before .before .before .before .loop .turns) _ (omega arith) (c .before .before .before .before .loop .inv .0 .opened)
 
-enum-known-y : tie.Need-enum-known-y Inv-loop μ-loop
-enum-known-y c = search needs
-
-sub-turns : tie.Need-sub-turns Inv-loop μ-loop
-sub-turns c = omega arith
-
-loop-less : tie.Need-loop-less Inv-loop μ-loop
-loop-less c = omega arith
-
 loop-again : tie.Need-loop-again Inv-loop μ-loop
 loop-again c =
     let l = c .before .before .before .before .before .before .before .before .before .before .before in
@@ -36,9 +27,6 @@ loop-again c =
     let n = l .loop .turns - 1 in
     let k = s .read-on .ensures (65536 * n) (read-less (65536 * l .loop .turns) _ _ _ _ _ (omega arith) (l .loop .inv .0)) in
     (rw (c .before .y .given .1) at k, s .read-on .kept .1 .0 ∙ l .loop .inv .1, s .read-on .kept .1 .1 .0 ∙ l .loop .inv .2, s .read-on .kept .1 .1 .1 .0 ∙ l .loop .inv .3)
-
-enum-known-y-2 : tie.Need-enum-known-y-2 Inv-loop μ-loop
-enum-known-y-2 c = search needs
 
 same-length : tie.Need-same-length Inv-loop μ-loop
 same-length c = c .before .before .before .before .before .before .read-on .kept .1 .0 ∙ c .before .before .before .before .before .before .before .before .before .before .before .loop .inv .1
@@ -76,11 +64,11 @@ read-all-spec =
     μ-loop
     loop-holds
     read-on-requires
-    enum-known-y
-    sub-turns
-    loop-less
+    (λ c. search needs)
+    (λ c. omega arith)
+    (λ c. omega arith)
     loop-again
-    enum-known-y-2
+    (λ c. search needs)
     same-length
     same-length-2
     same-length-3

@@ -6,36 +6,6 @@ use lib.ListN.{length-replicate}
 use Rattle.find_answer.proofs.list_matches.Statement.{statement}
 use Rattle.find_answer.proofs.list_matches.Tie as tie
 
-slice-aggregate-search-table : tie.Need-slice-aggregate-search-table
-slice-aggregate-search-table c = search needs
-
-slice-aggregate-search-table-2 : tie.Need-slice-aggregate-search-table-2
-slice-aggregate-search-table-2 c = search needs
-
-slice-aggregate-search-table-3 : tie.Need-slice-aggregate-search-table-3
-slice-aggregate-search-table-3 c = search needs
-
-slice-aggregate-search-table-4 : tie.Need-slice-aggregate-search-table-4
-slice-aggregate-search-table-4 c = search needs
-
-slice-aggregate-search-table-5 : tie.Need-slice-aggregate-search-table-5
-slice-aggregate-search-table-5 c = search needs
-
-search-table-requires : tie.Need-search-table-requires
-search-table-requires c κs = search needs
-
-slice-aggregate-put-found : tie.Need-slice-aggregate-put-found
-slice-aggregate-put-found c = search needs
-
-slice-aggregate-put-found-2 : tie.Need-slice-aggregate-put-found-2
-slice-aggregate-put-found-2 c = search needs
-
-put-found-requires : tie.Need-put-found-requires
-put-found-requires c κs = search needs
-
-same-length : tie.Need-same-length
-same-length c = search needs
-
 returns : tie.Need-returns
 returns c =
     let z = length-replicate {A = ℕ} 4096 0 in
@@ -45,14 +15,14 @@ pub list-matches-spec : {M : Type 1} → statement M
 list-matches-spec =
     tie.close
     (tie.spec
-    slice-aggregate-search-table
-    slice-aggregate-search-table-2
-    slice-aggregate-search-table-3
-    slice-aggregate-search-table-4
-    slice-aggregate-search-table-5
-    search-table-requires
-    slice-aggregate-put-found
-    slice-aggregate-put-found-2
-    put-found-requires
-    same-length
+    (λ c. search needs)
+    (λ c. search needs)
+    (λ c. search needs)
+    (λ c. search needs)
+    (λ c. search needs)
+    (λ c κs. search needs)
+    (λ c. search needs)
+    (λ c. search needs)
+    (λ c κs. search needs)
+    (λ c. search needs)
     returns)

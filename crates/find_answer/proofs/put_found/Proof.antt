@@ -3,21 +3,6 @@ use borrow.Author.Needs.{needs}
 use Rattle.find_answer.proofs.put_found.Statement.{statement}
 use Rattle.find_answer.proofs.put_found.Tie as tie
 
-enum-known-a : tie.Need-enum-known-a
-enum-known-a c = search needs
-
-write-found-requires : tie.Need-write-found-requires
-write-found-requires c κs = search needs
-
-enum-told : tie.Need-enum-told
-enum-told c = search needs
-
-enum-told-2 : tie.Need-enum-told-2
-enum-told-2 c = search needs
-
-same-length : tie.Need-same-length
-same-length c = search needs
-
 returns : tie.Need-returns
 returns c = rw (c .before .before .before .before .before .a .given .1) (c .before .before .write-found .ensures)
 
@@ -31,11 +16,11 @@ pub put-found-spec : {M : Type 1} → statement M
 put-found-spec =
     tie.close
     (tie.spec
-    enum-known-a
-    write-found-requires
-    enum-told
-    enum-told-2
-    same-length
+    (λ c. search needs)
+    (λ c κs. search needs)
+    (λ c. search needs)
+    (λ c. search needs)
+    (λ c. search needs)
     returns
     returns-2
     returns-3)

@@ -10,17 +10,11 @@ use Rattle.find_plan.proofs.asked_of.Tie as tie
 held-requires : tie.Need-held-requires
 held-requires c κs = rw (toZ-ofZ w64 (c .before .args .x .band) (record { sfits = c .struct-told .given .1 .1 .1 .0 .1 })) (c .before .pre .band .least, omega (zarith, c .before .pre .band .most))
 
-held-long-requires : tie.Need-held-long-requires
-held-long-requires c κs = search needs
-
 held-requires-2 : tie.Need-held-requires-2
 held-requires-2 c κs = rw (toZ-ofZ w64 (c .before .before .before .before .before .args .x .scale) (record { sfits = c .struct-told3 .given .1 .1 .1 .1 .1 .0 .1 })) (c .before .before .before .before .before .pre .scale .least, omega (zarith, c .before .before .before .before .before .pre .scale .most))
 
 held-requires-3 : tie.Need-held-requires-3
 held-requires-3 c κs = rw (toZ-ofZ w64 (c .before .before .before .before .before .before .before .args .x .shift) (record { sfits = c .struct-told4 .given .1 .1 .1 .1 .1 .1 .0 .1 })) (c .before .before .before .before .before .before .before .pre .shift .least, omega (zarith, c .before .before .before .before .before .before .before .pre .shift .most))
-
-kind-of-requires : tie.Need-kind-of-requires
-kind-of-requires c κs = search needs
 
 held-requires-4 : tie.Need-held-requires-4
 held-requires-4 c κs = rw (toZ-ofZ w64 (c .before .before .before .before .before .before .before .before .before .before .before .args .x .window) (record { sfits = c .struct-told6 .given .0 .1 })) (c .before .before .before .before .before .before .before .before .before .before .before .pre .window .least, omega (zarith, c .before .before .before .before .before .before .before .before .before .before .before .pre .window .most))
@@ -55,10 +49,10 @@ asked-of-spec =
     tie.close
     (tie.spec
     held-requires
-    held-long-requires
+    (λ c κs. search needs)
     held-requires-2
     held-requires-3
-    kind-of-requires
+    (λ c κs. search needs)
     held-requires-4
     held-requires-5
     held-requires-6

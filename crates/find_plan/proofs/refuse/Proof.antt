@@ -6,15 +6,6 @@ use mathlib.Core.Path.{sym, _∙_}
 use Rattle.find_plan.proofs.refuse.Statement.{statement}
 use Rattle.find_plan.proofs.refuse.Tie as tie
 
-enum-known-r : tie.Need-enum-known-r
-enum-known-r c = search needs
-
-enum-known-r-2 : tie.Need-enum-known-r-2
-enum-known-r-2 c = search needs
-
-is-done-requires : tie.Need-is-done-requires
-is-done-requires c κs = search needs
-
 returns : tie.Need-returns
 returns c = let a = c .before .before .before .before .before .args in end-short (a .numbers .now) (a .query .now) (c .before .before .before .r2 .given .1) (sym (c .before .is-done .ensures) ∙ not-true (c .before .is-done .result) (c .if1 .taken))
 
@@ -34,9 +25,9 @@ pub refuse-spec : {M : Type 1} → statement M
 refuse-spec =
     tie.close
     (tie.spec
-    enum-known-r
-    enum-known-r-2
-    is-done-requires
+    (λ c. search needs)
+    (λ c. search needs)
+    (λ c κs. search needs)
     returns
     numbers-of-requires
     refuse-call-requires

@@ -41,9 +41,6 @@ second c =
 short : (c : tie.Else2) → c .before .before .before .before .before .before .args .q .count ≤ 1024
 short c = let o = c .before .before .before .before .before .before in query-few (o .args .v .count) (o .args .q .count) (o .args .x) (second c)
 
-refuse-values-requires : tie.Need-refuse-values-requires
-refuse-values-requires c κs = search needs
-
 returns : tie.Need-returns
 unfolding callTable
 returns c = let v = c .before .before in let o = v .before in part-refuses (one o) (two o ++ three o) (v .refuse-values .ensures) (c .if1 .taken)
@@ -55,9 +52,6 @@ returns-2 : tie.Need-returns-2
 unfolding callTable
 returns-2 c = let n = c .before .before in let o = n .before .before .before .before in part-passes (two o ++ three o) (first (n .before)) (part-refuses (two o) (three o) (n .refuse-numbers .ensures) (c .if2 .taken))
 
-kind-of-requires : tie.Need-kind-of-requires
-kind-of-requires c κs = search needs
-
 slice-aggregate-normal-flat : tie.Need-slice-aggregate-normal-flat
 slice-aggregate-normal-flat c = let e = c .before .before .before in let o = e .before .before .before .before .before .before in let h : o .args .q .count ≤ length (o .args .query .now) = omega (arith, short e, o .pre .long) in simp length-take (omega (arith, h))
 
@@ -66,9 +60,6 @@ normal-flat-requires c κs =
     let e = c .before .before .before in
     let o = e .before .before .before .before .before .before in
     (o .pre .inside (query-in (o .args .v) (o .args .q) (first (e .before .before .before))) (short e), simp length-take (omega (arith, short e)))
-
-refuse-if-requires : tie.Need-refuse-if-requires
-refuse-if-requires c κs = search needs
 
 returns-3 : tie.Need-returns-3
 unfolding callTable flatQuery
@@ -85,12 +76,12 @@ pub refuse-call-spec : {M : Type 1} → statement M
 refuse-call-spec =
     tie.close
     (tie.spec
-    refuse-values-requires
+    (λ c κs. search needs)
     returns
     refuse-numbers-requires
     returns-2
-    kind-of-requires
+    (λ c κs. search needs)
     slice-aggregate-normal-flat
     normal-flat-requires
-    refuse-if-requires
+    (λ c κs. search needs)
     returns-3)

@@ -15,59 +15,11 @@ use mir.ValLaws.{toZ-ofZ}
 use Rattle.find_plan.proofs.refuse_numbers.Statement.{statement}
 use Rattle.find_plan.proofs.refuse_numbers.Tie as tie
 
-outside-requires : tie.Need-outside-requires
-outside-requires c κs = search needs
-
-outside-requires-2 : tie.Need-outside-requires-2
-outside-requires-2 c κs = search needs
-
-refuse-if-requires : tie.Need-refuse-if-requires
-refuse-if-requires c κs = search needs
-
-outside-requires-3 : tie.Need-outside-requires-3
-outside-requires-3 c κs = search needs
-
-refuse-if-requires-2 : tie.Need-refuse-if-requires-2
-refuse-if-requires-2 c κs = search needs
-
-band-outside-requires : tie.Need-band-outside-requires
-band-outside-requires c κs = search needs
-
-refuse-if-requires-3 : tie.Need-refuse-if-requires-3
-refuse-if-requires-3 c κs = search needs
-
 above-requires : tie.Need-above-requires
 above-requires c κs = c .before .before .before .before .before .before .before .before .before .before .before .before .pre .1
 
-refuse-if-requires-4 : tie.Need-refuse-if-requires-4
-refuse-if-requires-4 c κs = search needs
-
-query-length-outside-requires : tie.Need-query-length-outside-requires
-query-length-outside-requires c κs = search needs
-
-refuse-if-requires-5 : tie.Need-refuse-if-requires-5
-refuse-if-requires-5 c κs = search needs
-
-outside-requires-4 : tie.Need-outside-requires-4
-outside-requires-4 c κs = search needs
-
-refuse-if-requires-6 : tie.Need-refuse-if-requires-6
-refuse-if-requires-6 c κs = search needs
-
-outside-requires-5 : tie.Need-outside-requires-5
-outside-requires-5 c κs = search needs
-
-refuse-if-requires-7 : tie.Need-refuse-if-requires-7
-refuse-if-requires-7 c κs = search needs
-
-outside-requires-6 : tie.Need-outside-requires-6
-outside-requires-6 c κs = search needs
-
 above-requires-2 : tie.Need-above-requires-2
 above-requires-2 c κs = c .before .before .before .before .before .before .before .before .before .before .before .before .before .before .before .before .before .before .before .before .before .before .before .before .before .pre .0
-
-refuse-if-requires-8 : tie.Need-refuse-if-requires-8
-refuse-if-requires-8 c κs = search needs
 
 returns : tie.Need-returns
 unfolding numbersTable
@@ -97,22 +49,22 @@ pub refuse-numbers-spec : {M : Type 1} → statement M
 refuse-numbers-spec =
     tie.close
     (tie.spec
-    outside-requires
-    outside-requires-2
-    refuse-if-requires
-    outside-requires-3
-    refuse-if-requires-2
-    band-outside-requires
-    refuse-if-requires-3
+    (λ c κs. search needs)
+    (λ c κs. search needs)
+    (λ c κs. search needs)
+    (λ c κs. search needs)
+    (λ c κs. search needs)
+    (λ c κs. search needs)
+    (λ c κs. search needs)
     above-requires
-    refuse-if-requires-4
-    query-length-outside-requires
-    refuse-if-requires-5
-    outside-requires-4
-    refuse-if-requires-6
-    outside-requires-5
-    refuse-if-requires-7
-    outside-requires-6
+    (λ c κs. search needs)
+    (λ c κs. search needs)
+    (λ c κs. search needs)
+    (λ c κs. search needs)
+    (λ c κs. search needs)
+    (λ c κs. search needs)
+    (λ c κs. search needs)
+    (λ c κs. search needs)
     above-requires-2
-    refuse-if-requires-8
+    (λ c κs. search needs)
     returns)

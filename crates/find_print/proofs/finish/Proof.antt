@@ -9,20 +9,8 @@ use Rattle.find_print.proofs.finish.Tie as tie
 refuse-requires : tie.Need-refuse-requires
 refuse-requires c κs = sound-here (c .before .args .r) (c .before .args .numbers .now) (c .before .args .series .now) (c .before .args .query .now) (c .before .pre .0 .reached)
 
-write-refused-requires : tie.Need-write-refused-requires
-write-refused-requires c κs = search needs
-
-same-length : tie.Need-same-length
-same-length c = search needs
-
 returns : tie.Need-returns
 returns c = refused-end (c .before .before .before .before .before .before .before .before .args .r) (c .before .before .before .before .before .before .before .before .args .numbers .now) (c .before .before .before .before .before .before .before .before .args .series .now) (c .before .before .before .before .before .before .before .before .args .query .now) (c .before .before .before .before .before .before .refuse .result) _ _ _ (c .before .before .before .before .before .before .refuse .ensures) (c .before .before .before .before .if1 .taken) (omega (arith, c .before .before .before .before .before .struct-known .given)) (omega (arith, c .before .before .before .before .before .struct-known .given)) (c .before .before .before .before .before .before .before .before .pre .1) (c .before .before .write-refused .ensures)
-
-enum-told : tie.Need-enum-told
-enum-told c = search needs
-
-enum-known-r : tie.Need-enum-known-r
-enum-known-r c = search needs
 
 slice-aggregate-print-answer : tie.Need-slice-aggregate-print-answer
 slice-aggregate-print-answer c = simp length-take (omega (arith, given-here (c .before .before .before .before .before .before .before .before .before .before .args .r) (c .before .before .before .before .before .before .before .before .before .before .args .numbers .now) (c .before .before .before .before .before .before .before .before .before .before .args .series .now) (c .before .before .before .before .before .before .before .before .before .before .args .query .now) (c .before .before .before .before .before .before .before .before .refuse .result) (c .before .before .before .before .before .before .before .before .refuse .ensures) (c .before .before .before .before .before .before .if1 .left) (c .before .before .before .before .r .given .1) (c .before .before .before .before .before .before .before .before .before .before .pre .0 .reached) .few, c .before .before .before .before .before .before .before .before .before .before .pre .0 .series-long))
@@ -42,9 +30,6 @@ print-answer-requires c κs = (rw (c .before .asked-of .ensures, c .before .befo
 returns-2 : tie.Need-returns-2
 returns-2 c = not-failed (c .before .before .before .before .before .before .args .r) (c .before .before .before .before .before .before .args .numbers .now) (c .before .before .before .before .before .before .args .series .now) (c .before .before .before .before .before .before .args .query .now) (c .before .before .before .before .refuse .result) (c .before .before .before .before .refuse .ensures) (c .before .before .if1 .left) (c .enum-told .given .1)
 
-same-length-2 : tie.Need-same-length-2
-same-length-2 c = search needs
-
 returns-3 : tie.Need-returns-3
 returns-3 c = printed-end (c .before .before .before .before .before .before .before .before .before .before .before .before .before .before .before .before .before .args .r) (c .before .before .before .before .before .before .before .before .before .before .before .before .before .before .before .before .before .args .numbers .now) (c .before .before .before .before .before .before .before .before .before .before .before .before .before .before .before .before .before .args .series .now) (c .before .before .before .before .before .before .before .before .before .before .before .before .before .before .before .before .before .args .query .now) (c .before .before .before .before .before .before .before .before .before .before .before .before .before .before .before .refuse .result) (c .before .before .before .before .before .before .before .before .before .before .before .before .before .before .before .refuse .ensures) (c .before .before .before .before .before .before .before .before .before .before .before .before .before .if1 .left) (c .before .before .before .before .before .before .before .before .before .before .before .r .given .1) _ _ (rw (c .before .before .before .before .asked-of .ensures, c .before .before .before .before .before .numbers-of .ensures) at (c .before .before .print-answer .ensures))
 
@@ -53,16 +38,16 @@ finish-spec =
     tie.close
     (tie.spec
     refuse-requires
-    write-refused-requires
-    same-length
+    (λ c κs. search needs)
+    (λ c. search needs)
     returns
-    enum-told
-    enum-known-r
+    (λ c. search needs)
+    (λ c. search needs)
     slice-aggregate-print-answer
     slice-aggregate-print-answer-2
     numbers-of-requires
     asked-of-requires
     print-answer-requires
     returns-2
-    same-length-2
+    (λ c. search needs)
     returns-3)

@@ -8,21 +8,6 @@ use native.Mathlib.Omega.{arith}
 use Rattle.find_print.proofs.print_answer.Statement.{statement}
 use Rattle.find_print.proofs.print_answer.Tie as tie
 
-slice-aggregate-build-table : tie.Need-slice-aggregate-build-table
-slice-aggregate-build-table c = search needs
-
-slice-aggregate-build-table-2 : tie.Need-slice-aggregate-build-table-2
-slice-aggregate-build-table-2 c = search needs
-
-build-table-requires : tie.Need-build-table-requires
-build-table-requires c κs = search needs
-
-enum-told : tie.Need-enum-told
-enum-told c = search needs
-
-enum-known-answer : tie.Need-enum-known-answer
-enum-known-answer c = search needs
-
 array-share-prefix-left : tie.Need-array-share-prefix-left
 array-share-prefix-left c = omega (arith, runs-few _ _ _ (c .before .before .before .before .before .before .before .before .before .before .pre .0) _ _ _ (length-replicate 4096 zeroRow) (length-replicate {A = ℕ} 4096 0) (length-replicate {A = ℕ} 4096 0) _ _ _ _ (c .before .before .before .before .before .before .build-table .ensures) (c .before .answer .given .1))
 
@@ -37,9 +22,6 @@ slice-aggregate-write-table-2 c = simp length-take (omega (arith, runs-few _ _ _
 
 write-table-requires : tie.Need-write-table-requires
 write-table-requires c κs = rows-few _ _ _ (c .before .before .before .before .before .before .before .before .before .before .before .before .before .pre .0) _ _ _ (length-replicate 4096 zeroRow) (length-replicate {A = ℕ} 4096 0) (length-replicate {A = ℕ} 4096 0) _ _ _ _ (c .before .before .before .before .before .before .before .before .before .build-table .ensures) (c .before .before .before .before .answer .given .1)
-
-length-of-requires : tie.Need-length-of-requires
-length-of-requires c κs = search needs
 
 array-share-prefix-left-2 : tie.Need-array-share-prefix-left-2
 array-share-prefix-left-2 c = omega (arith, runs-few _ _ _ (c .before .before .before .before .before .before .before .before .before .before .before .before .before .before .before .before .before .before .pre .0) _ _ _ (length-replicate 4096 zeroRow) (length-replicate {A = ℕ} 4096 0) (length-replicate {A = ℕ} 4096 0) _ _ _ _ (c .before .before .before .before .before .before .before .before .before .before .before .before .before .before .build-table .ensures) (c .before .before .before .before .before .before .before .before .before .answer .given .1))
@@ -59,9 +41,6 @@ list-matches-requires c κs = rows-few _ _ _ (c .before .before .before .before 
 returns : tie.Need-returns
 returns c = not-refused _ _ _ (c .before .before .before .before .before .before .before .before .before .pre .0) _ _ _ (length-replicate 4096 zeroRow) (length-replicate {A = ℕ} 4096 0) (length-replicate {A = ℕ} 4096 0) _ _ _ _ (c .before .before .before .before .before .build-table .ensures) (c .enum-told .given .1)
 
-same-length : tie.Need-same-length
-same-length c = search needs
-
 returns-2 : tie.Need-returns-2
 returns-2 c = prints _ _ _ (c .before .before .before .before .before .before .before .before .before .before .before .before .before .before .before .before .before .before .before .before .before .before .before .before .pre .0) _ _ _ (length-replicate 4096 zeroRow) (length-replicate {A = ℕ} 4096 0) (length-replicate {A = ℕ} 4096 0) _ _ _ _ (c .before .before .before .before .before .before .before .before .before .before .before .before .before .before .before .before .before .before .before .before .build-table .ensures) (c .before .before .before .before .before .before .before .before .before .before .before .before .before .before .before .answer .given .1) _ _ _ _ _ (c .before .before .before .before .before .before .before .before .before .before .before .before .before .before .before .before .before .before .before .before .before .before .before .before .pre .1) (c .before .before .before .before .before .before .before .before .before .before .write-table .ensures) (rw (c .before .before .before .before .before .before .before .length-of .ensures) at (c .before .before .list-matches .ensures))
 
@@ -69,22 +48,22 @@ pub print-answer-spec : {M : Type 1} → statement M
 print-answer-spec =
     tie.close
     (tie.spec
-    slice-aggregate-build-table
-    slice-aggregate-build-table-2
-    build-table-requires
-    enum-told
-    enum-known-answer
+    (λ c. search needs)
+    (λ c. search needs)
+    (λ c κs. search needs)
+    (λ c. search needs)
+    (λ c. search needs)
     array-share-prefix-left
     slice-aggregate-write-table
     array-share-prefix-right
     slice-aggregate-write-table-2
     write-table-requires
-    length-of-requires
+    (λ c κs. search needs)
     array-share-prefix-left-2
     slice-aggregate-list-matches
     array-share-prefix-right-2
     slice-aggregate-list-matches-2
     list-matches-requires
     returns
-    same-length
+    (λ c. search needs)
     returns-2)

@@ -14,23 +14,11 @@ Inv-loop text program sizes numbers₀ series₀ query₀ p₀ k₀ numbers seri
 abbrev μ-loop : tie.MeasureT-loop
 μ-loop text program sizes numbers₀ series₀ query₀ p₀ k₀ numbers series query p k = length sizes - k
 
-begin-requires : tie.Need-begin-requires Inv-loop μ-loop
-begin-requires c κs = search needs
-
 loop-holds : tie.Need-loop-holds Inv-loop μ-loop
 loop-holds c = let b = c .begin .ensures in (record { good = b .0; series = omega (arith, b .1, b .2); query = omega (arith, b .1, b .3); inside = omega (arith, b .1) }, refl, refl, refl)
 
-mul-piece : tie.Need-mul-piece Inv-loop μ-loop
-mul-piece c = omega arith
-
-shared-slice-read-piece : tie.Need-shared-slice-read-piece Inv-loop μ-loop
-shared-slice-read-piece c = omega arith
-
 piece-requires : tie.Need-piece-requires Inv-loop μ-loop
 piece-requires c κs = c .before .before .before .before .before .loop .inv .0
-
-enum-known-n : tie.Need-enum-known-n Inv-loop μ-loop
-enum-known-n c = search needs
 
 add-k : tie.Need-add-k Inv-loop μ-loop
 add-k c = omega (arith, c .before .before .before .before .before .before .before .before .before .before .before .loop-test .taken, c .before .before .before .before .before .before .before .before .before .before .before .before .before .before .before .before .good)
@@ -41,12 +29,6 @@ loop-less c = omega (arith, c .before .before .before .before .before .before .b
 loop-again : tie.Need-loop-again Inv-loop μ-loop
 loop-again c = let e = c .before .before .before .before .before .before .piece .ensures in let i = c .before .before .before .before .before .before .before .before .before .before .before .before .loop .inv in (rw (c .before .n .given .1) at (e .good), e .alone ∙ i .1, e .first ∙ i .2, e .second ∙ i .3)
 
-enum-known-place : tie.Need-enum-known-place Inv-loop μ-loop
-enum-known-place c = search needs
-
-bad-requires : tie.Need-bad-requires Inv-loop μ-loop
-bad-requires c κs = search needs
-
 same-length : tie.Need-same-length Inv-loop μ-loop
 same-length c = c .before .before .before .before .before .before .before .piece .ensures .alone ∙ c .before .before .before .before .before .before .before .before .before .before .before .before .before .loop .inv .1
 
@@ -56,14 +38,8 @@ same-length-2 c = c .before .before .before .before .before .before .before .pie
 same-length-3 : tie.Need-same-length-3 Inv-loop μ-loop
 same-length-3 c = c .before .before .before .before .before .before .before .piece .ensures .second ∙ c .before .before .before .before .before .before .before .before .before .before .before .before .before .loop .inv .3
 
-returns : tie.Need-returns Inv-loop μ-loop
-returns c = search needs
-
 piece-requires-2 : tie.Need-piece-requires-2 Inv-loop μ-loop
 piece-requires-2 c κs = c .before .before .before .before .loop .inv .0
-
-answer-requires : tie.Need-answer-requires Inv-loop μ-loop
-answer-requires c κs = search needs
 
 same-length-4 : tie.Need-same-length-4 Inv-loop μ-loop
 same-length-4 c = c .before .before .before .before .piece2 .ensures .alone ∙ c .before .before .before .before .before .before .before .before .before .loop .inv .1
@@ -74,33 +50,30 @@ same-length-5 c = c .before .before .before .before .piece2 .ensures .first ∙ 
 same-length-6 : tie.Need-same-length-6 Inv-loop μ-loop
 same-length-6 c = c .before .before .before .before .piece2 .ensures .second ∙ c .before .before .before .before .before .before .before .before .before .loop .inv .3
 
-returns-2 : tie.Need-returns-2 Inv-loop μ-loop
-returns-2 c = search needs
-
 pub lines-read-spec : {M : Type 1} → statement M
 lines-read-spec =
     tie.close
     (tie.spec
     Inv-loop
     μ-loop
-    begin-requires
+    (λ c κs. search needs)
     loop-holds
-    mul-piece
-    shared-slice-read-piece
+    (λ c. omega arith)
+    (λ c. omega arith)
     piece-requires
-    enum-known-n
+    (λ c. search needs)
     add-k
     loop-less
     loop-again
-    enum-known-place
-    bad-requires
+    (λ c. search needs)
+    (λ c κs. search needs)
     same-length
     same-length-2
     same-length-3
-    returns
+    (λ c. search needs)
     piece-requires-2
-    answer-requires
+    (λ c κs. search needs)
     same-length-4
     same-length-5
     same-length-6
-    returns-2)
+    (λ c. search needs))

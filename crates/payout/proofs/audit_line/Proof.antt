@@ -9,32 +9,8 @@ use borrow.Author.Needs.{needs}
 use Rattle.payout.proofs.audit_line.Statement.{statement}
 use Rattle.payout.proofs.audit_line.Tie as tie
 
-slice-aggregate-read-line : tie.Need-slice-aggregate-read-line
-slice-aggregate-read-line c = search needs
-
-read-line-requires : tie.Need-read-line-requires
-read-line-requires c κs = search needs
-
-enum-known-at : tie.Need-enum-known-at
-enum-known-at c = search needs
-
-newline-count-requires : tie.Need-newline-count-requires
-newline-count-requires c κs = search needs
-
-bad-line-requires : tie.Need-bad-line-requires
-bad-line-requires c κs = search needs
-
 add-t14 : tie.Need-add-t14
 add-t14 c = let n = c .before in let a = n .before .before in let s = a .before .before .before .before .before .before .before in omega (arith, n .newline-count .ensures, c .bad-line .ensures, newlines-length (s .args .index .now), line-most (s .args .line .now) (a .at .given .0 .0), s .good)
-
-enum-known-n : tie.Need-enum-known-n
-enum-known-n c = search needs
-
-slice-aggregate-audit-values : tie.Need-slice-aggregate-audit-values
-slice-aggregate-audit-values c = search needs
-
-audit-values-requires : tie.Need-audit-values-requires
-audit-values-requires c κs = search needs
 
 returns : tie.Need-returns
 returns c = let n = c .before in let a = n .before .before in let r = a .before .before .before in let s = r .before .before .before .before in ap (Audited.Refused 12) (λ i. n .newline-count .ensures i + c .bad-line .ensures i) ∙ line-stopped (s .args .index .now) (s .args .line .now) (s .args .head) (s .args .c) (s .pre) (a .at .given .0 .0) (sym (a .at .given .1) ∙ r .read-line .ensures .0)
@@ -46,14 +22,14 @@ pub audit-line-spec : {M : Type 1} → statement M
 audit-line-spec =
     tie.close
     (tie.spec
-    slice-aggregate-read-line
-    read-line-requires
-    enum-known-at
-    newline-count-requires
-    bad-line-requires
+    (λ c. search needs)
+    (λ c κs. search needs)
+    (λ c. search needs)
+    (λ c κs. search needs)
+    (λ c κs. search needs)
     add-t14
-    enum-known-n
-    slice-aggregate-audit-values
-    audit-values-requires
+    (λ c. search needs)
+    (λ c. search needs)
+    (λ c κs. search needs)
     returns
     returns-2)

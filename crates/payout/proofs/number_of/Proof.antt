@@ -7,25 +7,13 @@ use borrow.Author.Needs.{needs}
 use Rattle.payout.proofs.number_of.Statement.{statement}
 use Rattle.payout.proofs.number_of.Tie as tie
 
-enum-told : tie.Need-enum-told
-enum-told c = search needs
-
-enum-known-a : tie.Need-enum-known-a
-enum-known-a c = search needs
-
 wrong-number-requires : tie.Need-wrong-number-requires
 unfolding pack
 wrong-number-requires c κs = let a = c .before in subst (λ (u : Audited). pack u < 2 ^ 64) (a .a .given .1) (a .before .before .pre)
 
-enum-known-a-2 : tie.Need-enum-known-a-2
-enum-known-a-2 c = search needs
-
 missing-number-requires : tie.Need-missing-number-requires
 unfolding pack
 missing-number-requires c κs = let a = c .before in subst (λ (u : Audited). pack u < 2 ^ 64) (a .a2 .given .1) (a .before .before .pre)
-
-enum-known-a-3 : tie.Need-enum-known-a-3
-enum-known-a-3 c = search needs
 
 refused-number-requires : tie.Need-refused-number-requires
 unfolding pack
@@ -51,12 +39,12 @@ pub number-of-spec : {M : Type 1} → statement M
 number-of-spec =
     tie.close
     (tie.spec
-    enum-told
-    enum-known-a
+    (λ c. search needs)
+    (λ c. search needs)
     wrong-number-requires
-    enum-known-a-2
+    (λ c. search needs)
     missing-number-requires
-    enum-known-a-3
+    (λ c. search needs)
     refused-number-requires
     returns
     returns-2

@@ -22,18 +22,6 @@ module _ (m : tie.After-make-plan) where
   number-zero : m .make-plan .result .number ≡ 0 → plan .number ≡ 0
   number-zero e = sym (ap (λ (u : Plan). u .number) made) ∙ e
 
-judged-rows-requires : tie.Need-judged-rows-requires
-judged-rows-requires c κs = search needs
-
-make-plan-requires : tie.Need-make-plan-requires
-make-plan-requires c κs = search needs
-
-begin-requires : tie.Need-begin-requires
-begin-requires c κs = search needs
-
-answer-requires : tie.Need-answer-requires
-answer-requires c κs = search needs
-
 returns : tie.Need-returns
 returns c =
     let t = c .before .before in
@@ -48,9 +36,6 @@ walk-rows-requires c κs =
     let a = o m .args in
     goes-sized (a .index .now) (a .series .now) (a .head) (a .c) (o m .pre) (number-zero m (c .if1 .left))
 
-answer-requires-2 : tie.Need-answer-requires-2
-answer-requires-2 c κs = search needs
-
 returns-2 : tie.Need-returns-2
 returns-2 c =
     let w = c .before in
@@ -63,11 +48,11 @@ pub audit-series-spec : {M : Type 1} → statement M
 audit-series-spec =
     tie.close
     (tie.spec
-    judged-rows-requires
-    make-plan-requires
-    begin-requires
-    answer-requires
+    (λ c κs. search needs)
+    (λ c κs. search needs)
+    (λ c κs. search needs)
+    (λ c κs. search needs)
     returns
     walk-rows-requires
-    answer-requires-2
+    (λ c κs. search needs)
     returns-2)

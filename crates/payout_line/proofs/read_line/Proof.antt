@@ -9,32 +9,8 @@ use borrow.Author.Needs.{needs}
 use Rattle.payout_line.proofs.read_line.Statement.{statement}
 use Rattle.payout_line.proofs.read_line.Tie as tie
 
-array-set-of-numbers : tie.Need-array-set-of-numbers
-array-set-of-numbers c = search needs
-
-line-start-requires : tie.Need-line-start-requires
-line-start-requires c κs = search needs
-
-slice-aggregate-feed : tie.Need-slice-aggregate-feed
-slice-aggregate-feed c = search needs
-
-slice-aggregate-feed-2 : tie.Need-slice-aggregate-feed-2
-slice-aggregate-feed-2 c = search needs
-
 feed-requires : tie.Need-feed-requires
 feed-requires c κs = let l = c .before .before .before in rw (l .line-start .ensures) (start-ready _ (omega (arith, l .before .before .good)))
-
-enum-known-at : tie.Need-enum-known-at
-enum-known-at c = search needs
-
-enum-known-p : tie.Need-enum-known-p
-enum-known-p c = search needs
-
-line-end-requires : tie.Need-line-end-requires
-line-end-requires c κs = search needs
-
-same-length : tie.Need-same-length
-same-length c = search needs
 
 returns : tie.Need-returns
 returns c =
@@ -44,9 +20,6 @@ returns c =
     let s = l .before .before in
     let q = rw (l .line-start .ensures, a .at .given .1) at (f .feed .ensures .1 nothingSaid (s .args .values .now) (pos 0 ∷ [])) in
     line-failed (s .args .line .now) (s .args .values .now) _ (pos 0 ∷ []) _ _ (a .at .given .0 .0) q
-
-same-length-2 : tie.Need-same-length-2
-same-length-2 c = search needs
 
 returns-2 : tie.Need-returns-2
 returns-2 c =
@@ -62,15 +35,15 @@ pub read-line-spec : {M : Type 1} → statement M
 read-line-spec =
     tie.close
     (tie.spec
-    array-set-of-numbers
-    line-start-requires
-    slice-aggregate-feed
-    slice-aggregate-feed-2
+    (λ c. search needs)
+    (λ c κs. search needs)
+    (λ c. search needs)
+    (λ c. search needs)
     feed-requires
-    enum-known-at
-    enum-known-p
-    line-end-requires
-    same-length
+    (λ c. search needs)
+    (λ c. search needs)
+    (λ c κs. search needs)
+    (λ c. search needs)
     returns
-    same-length-2
+    (λ c. search needs)
     returns-2)

@@ -9,26 +9,8 @@ use borrow.Author.Needs.{needs}
 use Rattle.payout_walk.proofs.audit_run.Statement.{statement}
 use Rattle.payout_walk.proofs.audit_run.Tie as tie
 
-cast-run-reads : tie.Need-cast-run-reads
-cast-run-reads c = search needs
-
-cast-run-reads-2 : tie.Need-cast-run-reads-2
-cast-run-reads-2 c = search needs
-
-run-reads-requires : tie.Need-run-reads-requires
-run-reads-requires c κs = search needs
-
 returns : tie.Need-returns
 returns c = let f = c .before in let s = f .before .before .before in run-off (s .args .series .now) (s .args .head) (s .args .t) (s .args .r) (sym (f .run-reads .ensures) ∙ not-true (f .run-reads .result) (c .if1 .taken))
-
-array-set-from-chunk : tie.Need-array-set-from-chunk
-array-set-from-chunk c = search needs
-
-slice-aggregate-audit-chunk : tie.Need-slice-aggregate-audit-chunk
-slice-aggregate-audit-chunk c = search needs
-
-slice-aggregate-audit-chunk-2 : tie.Need-slice-aggregate-audit-chunk-2
-slice-aggregate-audit-chunk-2 c = search needs
 
 audit-chunk-requires : tie.Need-audit-chunk-requires
 unfolding oneRun
@@ -56,12 +38,12 @@ pub audit-run-spec : {M : Type 1} → statement M
 audit-run-spec =
     tie.close
     (tie.spec
-    cast-run-reads
-    cast-run-reads-2
-    run-reads-requires
+    (λ c. search needs)
+    (λ c. search needs)
+    (λ c κs. search needs)
     returns
-    array-set-from-chunk
-    slice-aggregate-audit-chunk
-    slice-aggregate-audit-chunk-2
+    (λ c. search needs)
+    (λ c. search needs)
+    (λ c. search needs)
     audit-chunk-requires
     returns-2)

@@ -33,38 +33,17 @@ S l = l .before .before .before .args .series .now
 abbrev H : At → Head
 H l = l .before .before .before .args .head
 
-no-walk-requires : tie.Need-no-walk-requires Inv-loop μ-loop
-no-walk-requires c κs = search needs
-
 loop-holds : tie.Need-loop-holds Inv-loop μ-loop
 loop-holds c = rw (c .no-walk .ensures) (kept-start (tellWalk (c .before .before .args .series .now) (c .before .before .args .head)) shutWalk startWalk _, omega arith)
-
-shared-slice-read-index-step : tie.Need-shared-slice-read-index-step Inv-loop μ-loop
-shared-slice-read-index-step c = omega arith
 
 index-step-requires : tie.Need-index-step-requires Inv-loop μ-loop
 index-step-requires c κs = c .before .before .loop .inv .0 .good
 
-enum-known-n : tie.Need-enum-known-n Inv-loop μ-loop
-enum-known-n c = search needs
-
-add-i : tie.Need-add-i Inv-loop μ-loop
-add-i c = omega arith
-
-loop-less : tie.Need-loop-less Inv-loop μ-loop
-loop-less c = omega arith
-
 loop-again : tie.Need-loop-again Inv-loop μ-loop
 loop-again c = let a = c .before .before .before in let l = a .before .before .before in (kept-to (tellWalk (S l) (H l)) shutWalk startWalk _ (l .loop .s) (l .loop .t) (l .loop .i) (l .loop .inv .0) (a .before .before .loop-test .taken) (c .before .n .given .0 .0) (sym (a .index-step .ensures) ∙ c .before .n .given .1), omega (arith, l .loop .inv .1))
 
-enum-known-n-2 : tie.Need-enum-known-n-2 Inv-loop μ-loop
-enum-known-n-2 c = search needs
-
 tell-requires : tie.Need-tell-requires Inv-loop μ-loop
 tell-requires c κs = let a = c .before .before .before in let l = a .before .before .before in (l .before .before .before .pre, omega (arith, l .loop .inv .1, a .before .before .loop-test .taken, l .before .before .before .good))
-
-add-i-2 : tie.Need-add-i-2 Inv-loop μ-loop
-add-i-2 c = omega arith
 
 -- after a number
 moved : (c : tie.After-tell Inv-loop μ-loop) → let n = c .before .before in let l = n .before .before .before .before .before in
@@ -82,29 +61,14 @@ moved c =
 returns : tie.Need-returns Inv-loop μ-loop
 returns c = let t = c .before .before .before in let n = t .before .before in let l = n .before .before .before .before .before in walked-stopped (S l) (H l) _ (n .n2 .given .0 .0) (t .tell .result) (l .loop .i + 1) (moved t .0) (not-true (t .tell .result .found .go) (c .before .if1 .taken))
 
-loop-less-2 : tie.Need-loop-less-2 Inv-loop μ-loop
-loop-less-2 c = omega arith
-
 loop-again-2 : tie.Need-loop-again-2 Inv-loop μ-loop
 loop-again-2 c = moved (c .before .before)
-
-enum-known-n-3 : tie.Need-enum-known-n-3 Inv-loop μ-loop
-enum-known-n-3 c = search needs
 
 shut-requires : tie.Need-shut-requires Inv-loop μ-loop
 shut-requires c κs = let a = c .before .before .before in let l = a .before .before .before in omega (arith, l .loop .inv .1, a .before .before .loop-test .taken, l .before .before .before .good)
 
-add-i-3 : tie.Need-add-i-3 Inv-loop μ-loop
-add-i-3 c = omega arith
-
-loop-less-3 : tie.Need-loop-less-3 Inv-loop μ-loop
-loop-less-3 c = omega arith
-
 loop-again-3 : tie.Need-loop-again-3 Inv-loop μ-loop
 loop-again-3 c = let n = c .before .before in let a = n .before .before in let l = a .before .before .before in rw (c .shut .ensures) (kept-closed (tellWalk (S l) (H l)) shutWalk startWalk _ (l .loop .s) (l .loop .t) (l .loop .i) (l .loop .inv .0) (a .before .before .loop-test .taken) (n .n3 .given .0 .0) (sym (a .index-step .ensures) ∙ n .n3 .given .1), omega (arith, l .loop .inv .1, shut-rows (l .loop .t)))
-
-enum-told : tie.Need-enum-told Inv-loop μ-loop
-enum-told c = search needs
 
 returns-2 : tie.Need-returns-2 Inv-loop μ-loop
 returns-2 c = let e = c .before in let a = e .before .before in let l = a .before .before .before in walked-refuse (S l) (H l) _ (l .loop .s) (l .loop .t) (l .loop .i) (l .loop .inv .0) (a .before .before .loop-test .taken) (sym (a .index-step .ensures) ∙ e .enum-told .given .1)
@@ -118,25 +82,25 @@ walk-rows-spec =
     (tie.spec
     Inv-loop
     μ-loop
-    no-walk-requires
+    (λ c κs. search needs)
     loop-holds
-    shared-slice-read-index-step
+    (λ c. omega arith)
     index-step-requires
-    enum-known-n
-    add-i
-    loop-less
+    (λ c. search needs)
+    (λ c. omega arith)
+    (λ c. omega arith)
     loop-again
-    enum-known-n-2
+    (λ c. search needs)
     tell-requires
-    add-i-2
+    (λ c. omega arith)
     returns
-    loop-less-2
+    (λ c. omega arith)
     loop-again-2
-    enum-known-n-3
+    (λ c. search needs)
     shut-requires
-    add-i-3
-    loop-less-3
+    (λ c. omega arith)
+    (λ c. omega arith)
     loop-again-3
-    enum-told
+    (λ c. search needs)
     returns-2
     returns-3)

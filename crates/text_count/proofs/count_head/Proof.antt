@@ -7,27 +7,6 @@ use borrow.Author.Needs.{needs}
 use Rattle.text_count.proofs.count_head.Statement.{statement}
 use Rattle.text_count.proofs.count_head.Tie as tie
 
-digit-count-requires : tie.Need-digit-count-requires
-digit-count-requires c κs = search needs
-
-digit-count-requires-2 : tie.Need-digit-count-requires-2
-digit-count-requires-2 c κs = search needs
-
-add-digits : tie.Need-add-digits
-add-digits c = search needs
-
-digit-count-requires-3 : tie.Need-digit-count-requires-3
-digit-count-requires-3 c κs = search needs
-
-add-digits-2 : tie.Need-add-digits-2
-add-digits-2 c = search needs
-
-add-advance : tie.Need-add-advance
-add-advance c = search needs
-
-advance-requires : tie.Need-advance-requires
-advance-requires c κs = search needs
-
 returns : tie.Need-returns
 returns c =
     let h = c .before .before .before .before .args .h in
@@ -37,11 +16,11 @@ pub count-head-spec : {M : Type 1} → statement M
 count-head-spec =
     tie.close
     (tie.spec
-    digit-count-requires
-    digit-count-requires-2
-    add-digits
-    digit-count-requires-3
-    add-digits-2
-    add-advance
-    advance-requires
+    (λ c κs. search needs)
+    (λ c κs. search needs)
+    (λ c. search needs)
+    (λ c κs. search needs)
+    (λ c. search needs)
+    (λ c. search needs)
+    (λ c κs. search needs)
     returns)

@@ -12,33 +12,6 @@ use borrow.Author.Needs.{needs}
 use Rattle.text_count.proofs.count_row.Statement.{statement}
 use Rattle.text_count.proofs.count_row.Tie as tie
 
-number-length-requires : tie.Need-number-length-requires
-number-length-requires c κs = search needs
-
-number-length-requires-2 : tie.Need-number-length-requires-2
-number-length-requires-2 c κs = search needs
-
-add-range : tie.Need-add-range
-add-range c = search needs
-
-add-advance : tie.Need-add-advance
-add-advance c = search needs
-
-advance-requires : tie.Need-advance-requires
-advance-requires c κs = search needs
-
-cast-count-runs : tie.Need-cast-count-runs
-cast-count-runs c = search needs
-
-cast-count-runs-2 : tie.Need-cast-count-runs-2
-cast-count-runs-2 c = search needs
-
-count-runs-requires : tie.Need-count-runs-requires
-count-runs-requires c κs = search needs
-
-advance-requires-2 : tie.Need-advance-requires-2
-advance-requires-2 c κs = search needs
-
 returns : tie.Need-returns
 returns c =
     let runs = c .before in
@@ -56,13 +29,13 @@ pub count-row-spec : {M : Type 1} → statement M
 count-row-spec =
     tie.close
     (tie.spec
-    number-length-requires
-    number-length-requires-2
-    add-range
-    add-advance
-    advance-requires
-    cast-count-runs
-    cast-count-runs-2
-    count-runs-requires
-    advance-requires-2
+    (λ c κs. search needs)
+    (λ c κs. search needs)
+    (λ c. search needs)
+    (λ c. search needs)
+    (λ c κs. search needs)
+    (λ c. search needs)
+    (λ c. search needs)
+    (λ c κs. search needs)
+    (λ c κs. search needs)
     returns)

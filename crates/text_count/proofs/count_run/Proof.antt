@@ -8,21 +8,6 @@ use borrow.Author.Needs.{needs}
 use Rattle.text_count.proofs.count_run.Statement.{statement}
 use Rattle.text_count.proofs.count_run.Tie as tie
 
-digit-count-requires : tie.Need-digit-count-requires
-digit-count-requires c κs = search needs
-
-digit-count-requires-2 : tie.Need-digit-count-requires-2
-digit-count-requires-2 c κs = search needs
-
-add-advance : tie.Need-add-advance
-add-advance c = search needs
-
-add-advance-2 : tie.Need-add-advance-2
-add-advance-2 c = search needs
-
-advance-requires : tie.Need-advance-requires
-advance-requires c κs = search needs
-
 returns : tie.Need-returns
 returns c =
     let s = c .before .before .before .args in
@@ -32,9 +17,9 @@ pub count-run-spec : {M : Type 1} → statement M
 count-run-spec =
     tie.close
     (tie.spec
-    digit-count-requires
-    digit-count-requires-2
-    add-advance
-    add-advance-2
-    advance-requires
+    (λ c κs. search needs)
+    (λ c κs. search needs)
+    (λ c. search needs)
+    (λ c. search needs)
+    (λ c κs. search needs)
     returns)

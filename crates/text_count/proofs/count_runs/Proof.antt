@@ -12,20 +12,11 @@ Inv-loop limit at left right first runs n to₀ i₀ to i = Runs limit at first 
 abbrev μ-loop : tie.MeasureT-loop
 μ-loop limit at left right first runs n to₀ i₀ to i = n - i
 
-part-length-requires : tie.Need-part-length-requires Inv-loop μ-loop
-part-length-requires c κs = search needs
-
-advance-requires : tie.Need-advance-requires Inv-loop μ-loop
-advance-requires c κs = search needs
-
 loop-holds : tie.Need-loop-holds Inv-loop μ-loop
 loop-holds c = runs-start _ _ _ _ _ _ _ _ (c .before .part-length .ensures) (c .advance .ensures)
 
 add-count-run : tie.Need-add-count-run Inv-loop μ-loop
 add-count-run c = omega (arith, c .before .before .loop .inv .room)
-
-mul-count-run : tie.Need-mul-count-run Inv-loop μ-loop
-mul-count-run c = omega arith
 
 shared-slice-read-count-run : tie.Need-shared-slice-read-count-run Inv-loop μ-loop
 shared-slice-read-count-run c = omega (arith, c .before .before .before .loop .inv .room)
@@ -33,20 +24,8 @@ shared-slice-read-count-run c = omega (arith, c .before .before .before .loop .i
 add-count-run-2 : tie.Need-add-count-run-2 Inv-loop μ-loop
 add-count-run-2 c = omega (arith, c .before .before .before .loop .inv .room)
 
-mul-count-run-2 : tie.Need-mul-count-run-2 Inv-loop μ-loop
-mul-count-run-2 c = omega arith
-
 shared-slice-read-count-run-2 : tie.Need-shared-slice-read-count-run-2 Inv-loop μ-loop
 shared-slice-read-count-run-2 c = omega (arith, c .before .before .before .before .loop .inv .room)
-
-count-run-requires : tie.Need-count-run-requires Inv-loop μ-loop
-count-run-requires c κs = search needs
-
-add-i : tie.Need-add-i Inv-loop μ-loop
-add-i c = omega arith
-
-loop-less : tie.Need-loop-less Inv-loop μ-loop
-loop-less c = omega arith
 
 loop-again : tie.Need-loop-again Inv-loop μ-loop
 loop-again c = let e = c .before .before .before .before in runs-turn (e .before .loop .inv) (e .loop-test .taken) (c .count-run .ensures)
@@ -63,18 +42,18 @@ count-runs-spec =
     (tie.spec
     Inv-loop
     μ-loop
-    part-length-requires
-    advance-requires
+    (λ c κs. search needs)
+    (λ c κs. search needs)
     loop-holds
     add-count-run
-    mul-count-run
+    (λ c. omega arith)
     shared-slice-read-count-run
     add-count-run-2
-    mul-count-run-2
+    (λ c. omega arith)
     shared-slice-read-count-run-2
-    count-run-requires
-    add-i
-    loop-less
+    (λ c κs. search needs)
+    (λ c. omega arith)
+    (λ c. omega arith)
     loop-again
     returns
     returns-2)

@@ -20,50 +20,17 @@ abbrev μ-loop : tie.MeasureT-loop
 loop-holds : tie.Need-loop-holds Inv-loop μ-loop
 loop-holds c = let s = c .before .before .before in sofar-start (s .args .p) _ _ _ _ (s .pre)
 
-shared-slice-read-line-step : tie.Need-shared-slice-read-line-step Inv-loop μ-loop
-shared-slice-read-line-step c = omega arith
-
 line-step-requires : tie.Need-line-step-requires Inv-loop μ-loop
 line-step-requires c κs = c .before .before .loop .inv .good
-
-enum-known-n : tie.Need-enum-known-n Inv-loop μ-loop
-enum-known-n c = search needs
-
-add-i : tie.Need-add-i Inv-loop μ-loop
-add-i c = omega arith
-
-loop-less : tie.Need-loop-less Inv-loop μ-loop
-loop-less c = omega arith
 
 loop-again : tie.Need-loop-again Inv-loop μ-loop
 loop-again c = let a = c .before .before .before in let l = a .before .before .before in sofar-to (l .loop .inv) (a .before .before .loop-test .taken) (c .before .n .given .0 .0) (sym (a .line-step .ensures) ∙ c .before .n .given .1)
 
-enum-known-n-2 : tie.Need-enum-known-n-2 Inv-loop μ-loop
-enum-known-n-2 c = search needs
-
-number-place-requires : tie.Need-number-place-requires Inv-loop μ-loop
-number-place-requires c κs = search needs
-
-put-number-requires : tie.Need-put-number-requires Inv-loop μ-loop
-put-number-requires c κs = search needs
-
-in-series-requires : tie.Need-in-series-requires Inv-loop μ-loop
-in-series-requires c κs = search needs
-
 kept-requires : tie.Need-kept-requires Inv-loop μ-loop
 kept-requires c κs = let l = c .before .before .before .before .before .before .before .before .before .before .before .before in omega (arith, l .loop .inv .first, l .before .before .before .before .pre .room, c .before .before .before .before .before .before .before .before .before .before .before .loop-test .taken)
 
-in-query-requires : tie.Need-in-query-requires Inv-loop μ-loop
-in-query-requires c κs = search needs
-
 kept-requires-2 : tie.Need-kept-requires-2 Inv-loop μ-loop
 kept-requires-2 c κs = let k = c .before .before .before in let l = k .before .before .before .before .before .before .before .before .before .before .before .before .before in omega (arith, l .loop .inv .second, l .before .before .before .before .pre .room, k .before .before .before .before .before .before .before .before .before .before .before .before .loop-test .taken)
-
-add-i-2 : tie.Need-add-i-2 Inv-loop μ-loop
-add-i-2 c = omega arith
-
-loop-less-2 : tie.Need-loop-less-2 Inv-loop μ-loop
-loop-less-2 c = omega arith
 
 loop-again-2 : tie.Need-loop-again-2 Inv-loop μ-loop
 loop-again-2 c =
@@ -86,24 +53,6 @@ loop-again-2 c =
     rw (e1, e2, e3, e4, e5)
     (sofar-value (l .loop .inv) (a .before .before .loop-test .taken) (n .n2 .given .0 .0) (n .n2 .given .0 .1 .0) z (sym (a .line-step .ensures) ∙ n .n2 .given .1))
 
-enum-known-n-3 : tie.Need-enum-known-n-3 Inv-loop μ-loop
-enum-known-n-3 c = search needs
-
-kind-place-requires : tie.Need-kind-place-requires Inv-loop μ-loop
-kind-place-requires c κs = search needs
-
-kind-number-requires : tie.Need-kind-number-requires Inv-loop μ-loop
-kind-number-requires c κs = search needs
-
-put-number-requires-2 : tie.Need-put-number-requires-2 Inv-loop μ-loop
-put-number-requires-2 c κs = search needs
-
-add-i-3 : tie.Need-add-i-3 Inv-loop μ-loop
-add-i-3 c = omega arith
-
-loop-less-3 : tie.Need-loop-less-3 Inv-loop μ-loop
-loop-less-3 c = omega arith
-
 loop-again-3 : tie.Need-loop-again-3 Inv-loop μ-loop
 loop-again-3 c =
     let pn = c .before in
@@ -114,9 +63,6 @@ loop-again-3 c =
     let l = a .before .before .before in
     let e1 = rw (kp .kind-place .ensures, toZ-ofZ w64 (kn .kind-number .result) (search needs), kn .kind-number .ensures) at (pn .put-number2 .ensures) in
     rw e1 (sofar-ended (l .loop .inv) (a .before .before .loop-test .taken) (n .n3 .given .0 .0) (n .n3 .given .0 .1 .0) (sym (a .line-step .ensures) ∙ n .n3 .given .1))
-
-enum-told : tie.Need-enum-told Inv-loop μ-loop
-enum-told c = search needs
 
 add-t36 : tie.Need-add-t36 Inv-loop μ-loop
 add-t36 c = let l = c .before .before .before .before .before in omega (arith, l .before .before .before .before .pre .room, c .before .before .before .before .loop-test .taken)
@@ -163,30 +109,30 @@ feed-spec =
     Inv-loop
     μ-loop
     loop-holds
-    shared-slice-read-line-step
+    (λ c. omega arith)
     line-step-requires
-    enum-known-n
-    add-i
-    loop-less
+    (λ c. search needs)
+    (λ c. omega arith)
+    (λ c. omega arith)
     loop-again
-    enum-known-n-2
-    number-place-requires
-    put-number-requires
-    in-series-requires
+    (λ c. search needs)
+    (λ c κs. search needs)
+    (λ c κs. search needs)
+    (λ c κs. search needs)
     kept-requires
-    in-query-requires
+    (λ c κs. search needs)
     kept-requires-2
-    add-i-2
-    loop-less-2
+    (λ c. omega arith)
+    (λ c. omega arith)
     loop-again-2
-    enum-known-n-3
-    kind-place-requires
-    kind-number-requires
-    put-number-requires-2
-    add-i-3
-    loop-less-3
+    (λ c. search needs)
+    (λ c κs. search needs)
+    (λ c κs. search needs)
+    (λ c κs. search needs)
+    (λ c. omega arith)
+    (λ c. omega arith)
     loop-again-3
-    enum-told
+    (λ c. search needs)
     add-t36
     same-length
     same-length-2

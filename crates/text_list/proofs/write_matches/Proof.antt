@@ -14,38 +14,14 @@ Inv-loop buf₀ at count offsets distances n to₀ i₀ buf to i = Matches buf�
 abbrev μ-loop : tie.MeasureT-loop
 μ-loop buf₀ at count offsets distances n to₀ i₀ buf to i = n - i
 
-part-length-requires : tie.Need-part-length-requires Inv-loop μ-loop
-part-length-requires c κs = search needs
-
-slice-aggregate-put-word : tie.Need-slice-aggregate-put-word Inv-loop μ-loop
-slice-aggregate-put-word c = search needs
-
-put-word-requires : tie.Need-put-word-requires Inv-loop μ-loop
-put-word-requires c κs = search needs
-
 loop-holds : tie.Need-loop-holds Inv-loop μ-loop
 loop-holds c = matches-start _ _ _ _ _ _ _ _ (c .before .before .before .before .before .part-length .ensures) (put-stays (c .before .before .put-word .ensures))
-
-mul-write-match : tie.Need-mul-write-match Inv-loop μ-loop
-mul-write-match c = omega arith
 
 shared-slice-read-write-match : tie.Need-shared-slice-read-write-match Inv-loop μ-loop
 shared-slice-read-write-match c = omega (arith, c .before .before .before .loop .inv .room)
 
-mul-write-match-2 : tie.Need-mul-write-match-2 Inv-loop μ-loop
-mul-write-match-2 c = omega arith
-
 shared-slice-read-write-match-2 : tie.Need-shared-slice-read-write-match-2 Inv-loop μ-loop
 shared-slice-read-write-match-2 c = omega (arith, c .before .before .before .before .loop .inv .room)
-
-write-match-requires : tie.Need-write-match-requires Inv-loop μ-loop
-write-match-requires c κs = search needs
-
-add-i : tie.Need-add-i Inv-loop μ-loop
-add-i c = omega arith
-
-loop-less : tie.Need-loop-less Inv-loop μ-loop
-loop-less c = omega arith
 
 loop-again : tie.Need-loop-again Inv-loop μ-loop
 loop-again c = let t = c .before .before .before .before .before .before in matches-turn (t .before .loop .inv) (t .loop-test .taken) (c .before .before .write-match .ensures)
@@ -62,17 +38,17 @@ write-matches-spec =
     (tie.spec
     Inv-loop
     μ-loop
-    part-length-requires
-    slice-aggregate-put-word
-    put-word-requires
+    (λ c κs. search needs)
+    (λ c. search needs)
+    (λ c κs. search needs)
     loop-holds
-    mul-write-match
+    (λ c. omega arith)
     shared-slice-read-write-match
-    mul-write-match-2
+    (λ c. omega arith)
     shared-slice-read-write-match-2
-    write-match-requires
-    add-i
-    loop-less
+    (λ c κs. search needs)
+    (λ c. omega arith)
+    (λ c. omega arith)
     loop-again
     same-length
     returns)

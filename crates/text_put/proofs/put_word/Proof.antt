@@ -13,23 +13,8 @@ Inv-loop buf₀ at word to₀ i₀ buf to i = Put buf₀ at (take i word) buf to
 abbrev μ-loop : tie.MeasureT-loop
 μ-loop buf₀ at word to₀ i₀ buf to i = length word - i
 
-capped-requires : tie.Need-capped-requires Inv-loop μ-loop
-capped-requires c κs = search needs
-
 loop-holds : tie.Need-loop-holds Inv-loop μ-loop
 loop-holds c = (put-none (c .before .before .before .args .buf .now) (c .before .before .before .args .at) _ (c .capped .ensures), omega arith)
-
-shared-slice-read-put-byte : tie.Need-shared-slice-read-put-byte Inv-loop μ-loop
-shared-slice-read-put-byte c = omega arith
-
-put-byte-requires : tie.Need-put-byte-requires Inv-loop μ-loop
-put-byte-requires c κs = search needs
-
-add-i : tie.Need-add-i Inv-loop μ-loop
-add-i c = omega arith
-
-loop-less : tie.Need-loop-less Inv-loop μ-loop
-loop-less c = omega arith
 
 loop-again : tie.Need-loop-again Inv-loop μ-loop
 loop-again c = let l = c .before .before .before .before .before .before in (put-turn (l .before .before .before .before .args .word .now) (l .loop .i) (c .before .before .before .before .before .loop-test .taken) (l .loop .inv .0) (c .before .before .put-byte .ensures), omega arith)
@@ -46,12 +31,12 @@ put-word-spec =
     (tie.spec
     Inv-loop
     μ-loop
-    capped-requires
+    (λ c κs. search needs)
     loop-holds
-    shared-slice-read-put-byte
-    put-byte-requires
-    add-i
-    loop-less
+    (λ c. omega arith)
+    (λ c κs. search needs)
+    (λ c. omega arith)
+    (λ c. omega arith)
     loop-again
     same-length
     returns)

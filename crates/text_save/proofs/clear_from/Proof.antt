@@ -15,9 +15,6 @@ abbrev μ-loop : tie.MeasureT-loop
 loop-holds : tie.Need-loop-holds Inv-loop μ-loop
 loop-holds c = clearing-starts (c .args .text .now) (c .args .from)
 
-slice-write-text : tie.Need-slice-write-text Inv-loop μ-loop
-slice-write-text c = omega arith
-
 add-i : tie.Need-add-i Inv-loop μ-loop
 add-i c = omega (arith, clearing-length (c .before .loop .inv))
 
@@ -40,7 +37,7 @@ clear-from-spec =
     Inv-loop
     μ-loop
     loop-holds
-    slice-write-text
+    (λ c. omega arith)
     add-i
     loop-less
     loop-again

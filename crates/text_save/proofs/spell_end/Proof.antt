@@ -4,22 +4,10 @@ use borrow.Author.Needs.{needs}
 use Rattle.text_save.proofs.spell_end.Statement.{statement}
 use Rattle.text_save.proofs.spell_end.Tie as tie
 
-write-end-requires : tie.Need-write-end-requires
-write-end-requires c κs = search needs
-
-clear-from-requires : tie.Need-clear-from-requires
-clear-from-requires c κs = search needs
-
-same-length : tie.Need-same-length
-same-length c = search needs
-
 returns : tie.Need-returns
 returns c =
     let w = c .before .before .before .before .before .before in
     ended-stored (w .before .before .if1 .taken) (w .write-end .ensures) (c .before .before .clear-from .ensures)
-
-count-end-requires : tie.Need-count-end-requires
-count-end-requires c κs = search needs
 
 returns-2 : tie.Need-returns-2
 returns-2 c = ended-only (c .before .if1 .left) (c .count-end .ensures)
@@ -28,9 +16,9 @@ pub spell-end-spec : {M : Type 1} → statement M
 spell-end-spec =
     tie.close
     (tie.spec
-    write-end-requires
-    clear-from-requires
-    same-length
+    (λ c κs. search needs)
+    (λ c κs. search needs)
+    (λ c. search needs)
     returns
-    count-end-requires
+    (λ c κs. search needs)
     returns-2)

@@ -11,39 +11,6 @@ use borrow.Author.Needs.{needs}
 use Rattle.text_write.proofs.write_row.Statement.{statement}
 use Rattle.text_write.proofs.write_row.Tie as tie
 
-slice-aggregate-put-word : tie.Need-slice-aggregate-put-word
-slice-aggregate-put-word c = search needs
-
-put-word-requires : tie.Need-put-word-requires
-put-word-requires c κs = search needs
-
-write-i32-requires : tie.Need-write-i32-requires
-write-i32-requires c κs = search needs
-
-slice-aggregate-put-word-2 : tie.Need-slice-aggregate-put-word-2
-slice-aggregate-put-word-2 c = search needs
-
-put-word-requires-2 : tie.Need-put-word-requires-2
-put-word-requires-2 c κs = search needs
-
-write-i32-requires-2 : tie.Need-write-i32-requires-2
-write-i32-requires-2 c κs = search needs
-
-cast-write-runs : tie.Need-cast-write-runs
-cast-write-runs c = search needs
-
-cast-write-runs-2 : tie.Need-cast-write-runs-2
-cast-write-runs-2 c = search needs
-
-write-runs-requires : tie.Need-write-runs-requires
-write-runs-requires c κs = search needs
-
-slice-aggregate-put-word-3 : tie.Need-slice-aggregate-put-word-3
-slice-aggregate-put-word-3 c = search needs
-
-put-word-requires-3 : tie.Need-put-word-requires-3
-put-word-requires-3 c κs = search needs
-
 returns : tie.Need-returns
 unfolding rowText runsText spell bytes
 returns c =
@@ -68,16 +35,16 @@ pub write-row-spec : {M : Type 1} → statement M
 write-row-spec =
     tie.close
     (tie.spec
-    slice-aggregate-put-word
-    put-word-requires
-    write-i32-requires
-    slice-aggregate-put-word-2
-    put-word-requires-2
-    write-i32-requires-2
-    cast-write-runs
-    cast-write-runs-2
-    write-runs-requires
-    slice-aggregate-put-word-3
-    put-word-requires-3
+    (λ c. search needs)
+    (λ c κs. search needs)
+    (λ c κs. search needs)
+    (λ c. search needs)
+    (λ c κs. search needs)
+    (λ c κs. search needs)
+    (λ c. search needs)
+    (λ c. search needs)
+    (λ c κs. search needs)
+    (λ c. search needs)
+    (λ c κs. search needs)
     same-length
     returns)

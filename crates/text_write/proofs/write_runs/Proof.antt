@@ -14,23 +14,11 @@ Inv-loop buf₀ at left right first runs n to₀ i₀ buf to i = Runs buf₀ to�
 abbrev μ-loop : tie.MeasureT-loop
 μ-loop buf₀ at left right first runs n to₀ i₀ buf to i = n - i
 
-part-length-requires : tie.Need-part-length-requires Inv-loop μ-loop
-part-length-requires c κs = search needs
-
-slice-aggregate-put-word : tie.Need-slice-aggregate-put-word Inv-loop μ-loop
-slice-aggregate-put-word c = search needs
-
-put-word-requires : tie.Need-put-word-requires Inv-loop μ-loop
-put-word-requires c κs = search needs
-
 loop-holds : tie.Need-loop-holds Inv-loop μ-loop
 loop-holds c = runs-start _ _ _ _ _ _ _ _ _ (c .before .before .before .before .before .part-length .ensures) (put-stays (c .before .before .put-word .ensures))
 
 add-write-run : tie.Need-add-write-run Inv-loop μ-loop
 add-write-run c = omega (arith, c .before .before .loop .inv .room)
-
-mul-write-run : tie.Need-mul-write-run Inv-loop μ-loop
-mul-write-run c = omega arith
 
 shared-slice-read-write-run : tie.Need-shared-slice-read-write-run Inv-loop μ-loop
 shared-slice-read-write-run c = omega (arith, c .before .before .before .loop .inv .room)
@@ -38,20 +26,8 @@ shared-slice-read-write-run c = omega (arith, c .before .before .before .loop .i
 add-write-run-2 : tie.Need-add-write-run-2 Inv-loop μ-loop
 add-write-run-2 c = omega (arith, c .before .before .before .loop .inv .room)
 
-mul-write-run-2 : tie.Need-mul-write-run-2 Inv-loop μ-loop
-mul-write-run-2 c = omega arith
-
 shared-slice-read-write-run-2 : tie.Need-shared-slice-read-write-run-2 Inv-loop μ-loop
 shared-slice-read-write-run-2 c = omega (arith, c .before .before .before .before .loop .inv .room)
-
-write-run-requires : tie.Need-write-run-requires Inv-loop μ-loop
-write-run-requires c κs = search needs
-
-add-i : tie.Need-add-i Inv-loop μ-loop
-add-i c = omega arith
-
-loop-less : tie.Need-loop-less Inv-loop μ-loop
-loop-less c = omega arith
 
 loop-again : tie.Need-loop-again Inv-loop μ-loop
 loop-again c = runs-turn (c .before .before .before .before .before .before .before .loop .inv) (c .before .before .before .before .before .before .loop-test .taken) (c .before .before .write-run .ensures)
@@ -68,19 +44,19 @@ write-runs-spec =
     (tie.spec
     Inv-loop
     μ-loop
-    part-length-requires
-    slice-aggregate-put-word
-    put-word-requires
+    (λ c κs. search needs)
+    (λ c. search needs)
+    (λ c κs. search needs)
     loop-holds
     add-write-run
-    mul-write-run
+    (λ c. omega arith)
     shared-slice-read-write-run
     add-write-run-2
-    mul-write-run-2
+    (λ c. omega arith)
     shared-slice-read-write-run-2
-    write-run-requires
-    add-i
-    loop-less
+    (λ c κs. search needs)
+    (λ c. omega arith)
+    (λ c. omega arith)
     loop-again
     same-length
     returns)
