@@ -18,9 +18,13 @@ use Rattle.text_numbers.specs.declared.Whole.the-variants.{Value, Partia
 abbrev pub within : ℕ → ℕ → ℕ → Bool
 within lo hi b = cond (ltb b lo) false (ltb b (suc hi))
 
--- a digit behind the number m that has at most 17 of them
+-- b is a digit that may stand behind the number m, which has at most 17 of them
+abbrev pub fitsBehind : ℕ → ℕ → Bool
+fitsBehind m b = cond (within 48 57 b) (ltb m 100000000000000000) false
+
+-- a digit behind the number m
 abbrev pub grown : (ℕ → Numeral) → ℕ → ℕ → Taken
-grown f m b = cond (within 48 57 b) (cond (ltb m 100000000000000000) (More (f (10 * m + (b - 48)))) Stop) Stop
+grown f m b = cond (fitsBehind m b) (More (f (10 * m + (b - 48)))) Stop
 
 -- the first digit, not 0
 abbrev pub first : (ℕ → Numeral) → ℕ → Taken
@@ -62,6 +66,12 @@ within-yes lo hi b h k = rw (le-ltb b lo h) (lt-ltb b (suc hi) (omega arith))
 pub within-false : (lo hi b : ℕ) → ((lo ≤ b) × (b ≤ hi) → ⊥) → within lo hi b ≡ false
 within-false lo hi b h = on-flag (within lo hi b) (λ e. absurd (h (within-true lo hi b e))) (λ e. e)
 
+pub behind-true : (m b : ℕ) → fitsBehind m b ≡ true → (48 ≤ b) × (b ≤ 57) × (m < 100000000000000000)
+behind-true m b e =
+    on-flag (within 48 57 b)
+    (λ t. let d = within-true 48 57 b t in (d .0, d .1, ltb-true m 100000000000000000 (rw t at e)))
+    (λ f. false-true (rw f at e))
+
 -- ---- a number of at most 18 digits stays one
 
 stop-more : {A : Type 0} {n : Numeral} → Stop ≡ More n → A
@@ -79,10 +89,8 @@ module _ (f : ℕ → Numeral) (good : (m : ℕ) → m < 10 ^ 18 → NumGood (f 
 
   grown-good : (m b : ℕ) (n : Numeral) → grown f m b ≡ More n → NumGood n
   grown-good m b n e =
-      on-flag (within 48 57 b)
-      (λ t. on-flag (ltb m 100000000000000000)
-      (λ u. rw (← more-same (rw (t, u) at e)) (good (10 * m + (b - 48)) (omega (arith, within-true 48 57 b t .1, ltb-true m 100000000000000000 u))))
-      (λ u. stop-more (rw (t, u) at e)))
+      on-flag (fitsBehind m b)
+      (λ t. rw (← more-same (rw t at e)) (good (10 * m + (b - 48)) (omega (arith, behind-true m b t .1, behind-true m b t .2))))
       (λ t. stop-more (rw t at e))
 
 pub good-step : (s : Numeral) (b : ℕ) (n : Numeral) → numStep s b ≡ More n → NumGood n

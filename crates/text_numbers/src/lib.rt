@@ -1,7 +1,9 @@
 // What every text is read by: a byte of a word, and a number byte by byte, of at most 18 digits, with no leading zero and no -0.
 ghost use mathlib.Core.Path.{_≡_};
+ghost use mathlib.Core.Bool.{true};
+ghost use Prim.Native.Nat.{_+_, _-_, _*_};
 ghost use lib.ListN.{getD};
-ghost use Rattle.text_numbers.specs.Number.{numStep, whole, NumGood};
+ghost use Rattle.text_numbers.specs.Number.{within, fitsBehind, numStep, whole, NumGood};
 
 // A number as far as it has been read: nothing, a '-', a 0, digits, a '-' and digits.
 pub enum Numeral {
@@ -27,6 +29,34 @@ pub enum Whole {
 // The least number of 18 digits: no digit may follow one of them.
 const LONGEST: u64 = 100000000000000000;
 
+// The byte is a digit, and not below `least`.
+fn digit_from(least: u8, b: u8) -> bool
+    ensures { λ r. ⌜ r ≡ within least 57 b ⌝ }
+{
+    if b < least {
+        return false;
+    }
+    b < 58
+}
+
+// The digit b may stand behind the number m: 18 digits are the most.
+fn digit_behind(m: u64, b: u8) -> bool
+    ensures { λ r. ⌜ r ≡ fitsBehind m b ⌝ }
+{
+    if digit_from(48, b) {
+        return m < LONGEST;
+    }
+    false
+}
+
+// The number m with the digit b behind it.
+fn with_digit(m: u64, b: u8) -> u64
+    requires { ⌜ fitsBehind m b ≡ true ⌝ }
+    ensures { λ r. ⌜ r ≡ 10 * m + (b - 48) ⌝ }
+{
+    10 * m + ((b - 48) as u64)
+}
+
 // What the byte b does to the number n.
 pub fn number_step(n: Numeral, b: u8) -> Taken
     ensures { λ r. ⌜ r ≡ numStep n b ⌝ }
@@ -39,43 +69,27 @@ pub fn number_step(n: Numeral, b: u8) -> Taken
             if b == 48 {
                 return Taken::More(Numeral::Zero);
             }
-            if b < 49 {
-                return Taken::Stop;
-            }
-            if b < 58 {
+            if digit_from(49, b) {
                 return Taken::More(Numeral::Plus((b - 48) as u64));
             }
             Taken::Stop
         }
         Numeral::Sign => {
-            if b < 49 {
-                return Taken::Stop;
-            }
-            if b < 58 {
+            if digit_from(49, b) {
                 return Taken::More(Numeral::Less((b - 48) as u64));
             }
             Taken::Stop
         }
         Numeral::Zero => Taken::Stop,
         Numeral::Plus(m) => {
-            if b < 48 {
-                return Taken::Stop;
-            }
-            if b < 58 {
-                if m < LONGEST {
-                    return Taken::More(Numeral::Plus(10 * m + ((b - 48) as u64)));
-                }
+            if digit_behind(m, b) {
+                return Taken::More(Numeral::Plus(with_digit(m, b)));
             }
             Taken::Stop
         }
         Numeral::Less(m) => {
-            if b < 48 {
-                return Taken::Stop;
-            }
-            if b < 58 {
-                if m < LONGEST {
-                    return Taken::More(Numeral::Less(10 * m + ((b - 48) as u64)));
-                }
+            if digit_behind(m, b) {
+                return Taken::More(Numeral::Less(with_digit(m, b)));
             }
             Taken::Stop
         }

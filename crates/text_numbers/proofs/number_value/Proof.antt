@@ -12,23 +12,8 @@ use borrow.Author.Needs.{needs}
 use Rattle.text_numbers.proofs.number_value.Statement.{statement}
 use Rattle.text_numbers.proofs.number_value.Tie as tie
 
-enum-told : tie.Need-enum-told
-enum-told c = search needs
-
-enum-told-2 : tie.Need-enum-told-2
-enum-told-2 c = search needs
-
-enum-told-3 : tie.Need-enum-told-3
-enum-told-3 c = search needs
-
-enum-known-n : tie.Need-enum-known-n
-enum-known-n c = search needs
-
 cast-t5 : tie.Need-cast-t5
 cast-t5 c = let g = rw (c .before .n .given .1) at (c .before .before .before .pre) in omega (zmach, g)
-
-enum-known-n-2 : tie.Need-enum-known-n-2
-enum-known-n-2 c = search needs
 
 cast-t6 : tie.Need-cast-t6
 cast-t6 c = let g = rw (c .before .n2 .given .1) at (c .before .before .before .pre) in omega (zmach, g)
@@ -60,12 +45,12 @@ pub number-value-spec : {M : Type 1} → statement M
 number-value-spec =
     tie.close
     (tie.spec
-    enum-told
-    enum-told-2
-    enum-told-3
-    enum-known-n
+    (λ c. search needs)
+    (λ c. search needs)
+    (λ c. search needs)
+    (λ c. search needs)
     cast-t5
-    enum-known-n-2
+    (λ c. search needs)
     cast-t6
     sub-t7
     returns

@@ -1,0 +1,7 @@
+-- `text_numbers::digit_from` meets its contract. Assumes nothing.
+use borrow.Author.Tests.{lt-ltb, le-ltb}
+use Rattle.text_numbers.proofs.digit_from.Statement.{statement}
+use Rattle.text_numbers.proofs.digit_from.Tie as tie
+
+pub digit-from-spec : {M : Type 1} → statement M
+digit-from-spec = tie.close (tie.spec (λ c. rw (lt-ltb _ _ (c .if1 .taken))) (λ c. rw (le-ltb _ _ (c .if1 .left))))
