@@ -7,9 +7,9 @@ use native.Mathlib.Decide.{decLt}
 use native.Mathlib.Omega.{arith}
 use lib.Dec.{leb, ltb}
 use lib.ListN.{length}
-use lib.IntN.{ℤ}
+use lib.IntN.{ℤ, pos, _-ℤ_}
 use Rattle.meaning_numbers.specs.Sum.{Σℕ}
-use Rattle.meaning_numbers.proofs.Rep.{Rep, rep-by}
+use Rattle.meaning_numbers.proofs.Rep.{Rep, rep-by, rep-eq, rep-sub, rep-pos}
 use Rattle.meaning_numbers.proofs.Sum.{Σℕ-le}
 use Rattle.meaning_numbers.proofs.Slide.{Σℕ-slide}
 use Rattle.meaning_curves.specs.Curve.{at, stretch, windowSum, windowCount}
@@ -46,6 +46,10 @@ windowsOf s w = windowCount (length s) w
 abbrev pub placeFrom : List ℤ → ℕ → ℕ → ℕ → Place
 placeFrom s w e j = record { offset = j; level = level s w e j }
 
+-- the sum of a window that is placed
+abbrev pub sumAt : ℕ → ℕ → Place → ℤ
+sumAt w e at = pos (at .level) -ℤ pos (10000 * w + e)
+
 -- every number below n has its value between the two
 pub record Bounds (lv : ℕ → ℕ) (n least greatest : ℕ) : Type 0 where
   pub bound : (j : ℕ) → j < n → (least ≤ lv j) × (lv j ≤ greatest)
@@ -75,6 +79,10 @@ level-le {s} {w} {e} j h = omega (arith, Σℕ-le w 20000 (λ k. raised (stretch
 
 pub level-small : {s : List ℤ} {w e : ℕ} (j : ℕ) → Lent s w e → level s w e j ≤ 6120000
 level-small j h = omega (arith, level-le j h, h .most, h .small)
+
+-- a placed window's sum is the window's
+pub sum-is : {s : List ℤ} {w e : ℕ} (at : Place) → Lent s w e → at .level ≡ level s w e (at .offset) → sumAt w e at ≡ windowSum s w (at .offset)
+sum-is {s} {w} {e} at h l = rep-eq (rep-sub (rep-pos (at .level)) (rep-pos (10000 * w + e))) (level-is (at .offset) h) (omega (arith, l))
 
 -- one value comes in, one goes out
 pub level-next : (s : List ℤ) (w e j : ℕ) → level s w e (j + 1) + raised (at s j) ≡ level s w e j + raised (at s (j + w))

@@ -1,6 +1,7 @@
 // Passes over the windows of a series, by runs: the windows of a run have sums in one range, and no row number is computed inside it. Sums are raised, so that nothing is signed here.
 use numbers::greater;
 use numbers::lesser;
+use numbers::lower;
 use numbers::quotient;
 use numbers::raise;
 use values::raised_sum;
@@ -12,7 +13,7 @@ ghost use lib.Signed.{_≤ℤ_};
 ghost use Rattle.meaning_curves.specs.Curve.{at};
 ghost use Rattle.meaning_curves.proofs.Values.{AllIn};
 ghost use Rattle.numbers.specs.Raised.{raised};
-ghost use Rattle.filing.specs.Levels.{level, placeFrom, rowOf, Lent, windowsOf, within, Bounds};
+ghost use Rattle.filing.specs.Levels.{level, placeFrom, sumAt, rowOf, Lent, windowsOf, within, Bounds};
 ghost use Rattle.filing.specs.Ends.{raisedEnd};
 ghost use Rattle.filing.specs.Change.{Stop, NextRow};
 ghost use Rattle.filing.specs.Marks.{flagged, lit, met, Flags, Cleared};
@@ -77,6 +78,15 @@ pub fn first_place(s: &[i32], w: usize, e: u64) -> Place
         offset: 0,
         level: first_level(s, w, e),
     }
+}
+
+// The sum of a window, from its raised sum.
+pub fn sum_of(w: usize, e: u64, at: Place) -> i32
+    requires { ⌜ (w ≤ 256) × (e ≤ 1000000) × (at .level ≤ 1000000000) ⌝ }
+    ensures { λ r. ⌜ r ≡ sumAt w e at ⌝ }
+{
+    let level = at.level;
+    lower(level, 10000 * (w as u64) + e)
 }
 
 // An end of a range raised by a bias; 0 where that is negative.

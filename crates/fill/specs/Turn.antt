@@ -15,7 +15,7 @@ use Rattle.meaning_rows.specs.declared.Row.{Row}
 use Rattle.meaning_rows.specs.Range.{inside}
 use Rattle.meaning_rows.proofs.Cursors.{fileRight}
 use Rattle.filing.specs.declared.Place.{Place}
-use Rattle.filing.specs.Levels.{level, placeFrom, Lent, windowsOf, level-is}
+use Rattle.filing.specs.Levels.{level, placeFrom, Lent, windowsOf, level-is, level-small}
 use Rattle.filing.specs.Ends.{raisedEnd, within-is}
 use Rattle.filing.specs.Change.{Change, Stop}
 use Rattle.parts.specs.Part.{written, PartRoom}
@@ -51,6 +51,10 @@ pub record Turned (s : List ℤ) (w e from : ℕ) (r : Row) (left right : List �
 -- the first window
 pub first-at : {s : List ℤ} {w e : ℕ} {at : Place} → Lent s w e → at ≡ placeFrom s w e 0 → At s w e at × (at .offset ≡ 0)
 first-at h q = rw q (record { lent = h; below = omega arith; sum = refl }, refl)
+
+-- what `sum_of` asks of a window
+pub sum-asked : {s : List ℤ} {w e : ℕ} {at : Place} → At s w e at → (w ≤ 256) × (e ≤ 1000000) × (at .level ≤ 1000000000)
+sum-asked {at = at} h = (h .lent .most, h .lent .small, omega (arith, h .sum, level-small (at .offset) (h .lent)))
 
 -- a change of one test is a change of another that agrees with it
 pub change-same : {p q : ℕ → Bool} {from n r : ℕ} → ((j : ℕ) → p j ≡ q j) → Change p from n r → Change q from n r

@@ -2,24 +2,14 @@
 use filing::Place;
 use filing::next_out;
 use filing::raise_end;
+use filing::sum_of;
 use layout::find_record;
 use meaning_rows::Row;
-use numbers::lower;
 use parts::file_run;
-ghost use mathlib.Core.Path.{_≡_};
 ghost use mathlib.Core.Bool.{Bool};
 ghost use Prim.Native.Nat.{ℕ, _+_, _*_, _<_};
-ghost use Rattle.meaning_curves.specs.Curve.{windowSum};
-ghost use Rattle.fill.specs.Turn.{At, TurnAsked, Turned};
+ghost use Rattle.fill.specs.Turn.{TurnAsked, Turned};
 ghost use Rattle.fill.specs.Pass.{Passable, Passed};
-
-// The sum of a window, from its raised sum.
-pub fn sum_at(s: &[i32], w: usize, e: u64, at: Place) -> i32
-    requires { ⌜ At (now s) w e at ⌝ }
-    ensures { λ r. ⌜ r ≡ windowSum (now (s .entry)) w (at .offset) ⌝ }
-{
-    lower(at.level, 10000 * (w as u64) + e)
-}
 
 // The run of windows with sums in the range of row `r` that begins at `at` is filed as the next run of the row; where it ends.
 pub fn file_turn(
@@ -61,7 +51,7 @@ pub fn fill_parts(
     let windows = s.len() + 1 - w;
     let mut at = from;
     while at.offset < windows {
-        let sum = sum_at(s, w, e, at);
+        let sum = sum_of(w, e, at);
         let r = find_record(rows, count, sum);
         let next = file_turn(s, w, e, at, r, left, right);
         at = next;

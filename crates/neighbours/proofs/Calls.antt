@@ -41,7 +41,7 @@ use Rattle.meaning_rows.proofs.Row.Laws as T′
 use Rattle.records.proofs.Walk.{calls-kept, calls-plain}
 use Rattle.records.proofs.Rows.{Rs, Own, low, Good}
 use Rattle.filing.specs.declared.Place.{Place}
-use Rattle.filing.specs.Levels.{level, Lent, windowsOf, placeFrom}
+use Rattle.filing.specs.Levels.{level, Lent, windowsOf, placeFrom, sumAt}
 use Rattle.filing.specs.Change.{Stop}
 use Rattle.filing.proofs.Place as P
 use Rattle.filing.proofs.Place.Laws as P′
@@ -50,10 +50,10 @@ use Rattle.layout.proofs.find_row as find
 use Rattle.layout.proofs.find_row.Symbol.{name as #layout·find-row}
 use Rattle.filing.specs.Ends.{raisedEnd}
 use Rattle.neighbours.specs.Ranges.{LimitedRow, placeIn, found-place}
-use Rattle.neighbours.specs.Places.{sumAt, nameFor, nameIn, Nameable}
+use Rattle.neighbours.specs.Places.{nameFor, nameIn, Nameable}
 use Rattle.records.proofs.Told.{calls-told-kept}
-use Rattle.neighbours.proofs.sum_of as sum-fn
-use Rattle.neighbours.proofs.sum_of.Symbol.{name as #neighbours·sum-of}
+use Rattle.filing.proofs.sum_of as sum-fn
+use Rattle.filing.proofs.sum_of.Symbol.{name as #filing·sum-of}
 use Rattle.neighbours.proofs.name_of as name-fn
 use Rattle.neighbours.proofs.name_of.Symbol.{name as #neighbours·name-of}
 use Rattle.neighbours.proofs.name_at as at-fn
@@ -146,9 +146,9 @@ module _ {M : Type 1} (𝓤 : URA M) (H : Heap 𝓤) (A : Atoms 𝓤) (mem : Mem
         owned ! usize (Is usize) (uint-makes 𝓤 H A W w64) e _ (refl, ge) $ fjoin ! $ owned ! usize (Is usize) (uint-makes 𝓤 H A W w64) w _ (refl, gw) $ fjoin ! $ move ! (1 ∷ 0 ∷ []) $ fjoin ! $ done !
 
 module _ {M : Type 1} {𝓤 : URA M} {H : Heap 𝓤} {A : Atoms 𝓤} {K : Type 0} {W : Given 𝓤 H A} {Γ : List (Item 𝓤)} {E : Env 𝓤 H} {C : Calls 𝓤 H} {Λ : Loops 𝓤 H} {o : Post 𝓤 H} {d : Spot} {rest : Body} {xs : List Operand} where
-  pub calls-sum : K → FmC 𝓤 H (W .laws) C → (mem : Memory → SProp 𝓤) (run : Routine → Fun 𝓤) → Triple 𝓤 (C #neighbours·sum-of) (SumOf 𝓤 H A mem run) → (w e : ℕ) (p : Place) → w < 2 ^ 64 → e < 2 ^ 64 → IsPlace p → (w ≤ 256) × (e ≤ 1000000) × (p .level ≤ 1000000000)
+  pub calls-sum : K → FmC 𝓤 H (W .laws) C → (mem : Memory → SProp 𝓤) (run : Routine → Fun 𝓤) → Triple 𝓤 (C #filing·sum-of) (SumOf 𝓤 H A mem run) → (w e : ℕ) (p : Place) → w < 2 ^ 64 → e < 2 ^ 64 → IsPlace p → (w ≤ 256) × (e ≤ 1000000) × (p .level ≤ 1000000000)
       → Opds K W (raw (SumOf 𝓤 H A mem run .pre (to-sum 𝓤 H A mem run w e p)) ∷ Γ) E xs (vint w64 w ∷ vint w64 e ∷ low-place p ∷ [])
-      → (mag (sumAt w e p) < 2 ^ 31 → Seq K W Γ (lands C Λ E d (vint w32 (ofZ w32 (sumAt w e p))) rest o)) → Seq K W Γ (runs C Λ E (seq (call #neighbours·sum-of xs d) rest) o)
+      → (mag (sumAt w e p) < 2 ^ 31 → Seq K W Γ (lands C Λ E d (vint w32 (ofZ w32 (sumAt w e p))) rest o)) → Seq K W Γ (runs C Λ E (seq (call #filing·sum-of xs d) rest) o)
   calls-sum t fm mem run met w e p gw ge gp y os k =
       calls-plain t fm sum-fn.signature (sum-fn.spec 𝓤 H A mem run) met (to-sum 𝓤 H A mem run w e p) (asks-sum 𝓤 H A mem run W w e p gw ge gp y) (sumAt w e p) (λ z. vint w32 (ofZ w32 z)) (sint-tells w32)
       (λ z. exE 𝓤 _ (λ ws. snd∗ 𝓤 (sem 𝓤 H A (lasts sum-fn.ended tt (w, (e, (p, tt))) ws)) (fact 𝓤 (z ≡ sumAt w e p)))) os (λ is. k (is .1))

@@ -5,10 +5,9 @@ use mathlib.Core.List.{List}
 use Prim.Native.Nat.{ℕ, zero, suc, _+_, _-_, _*_, _<_, _≤_}
 use native.Mathlib.Omega.{arith}
 use lib.Dec.{ltb}
-use lib.IntN.{ℤ, pos, _-ℤ_}
+use lib.IntN.{ℤ}
 use lib.ListN.{length, getD, set, length-set}
 use borrow.Author.Tests.{lt-ltb, ltb-true, ltb-false}
-use Rattle.meaning_numbers.proofs.Rep.{rep-pos, rep-sub, rep-eq}
 use Rattle.meaning_numbers.proofs.Tests.{by-test}
 use Rattle.meaning_curves.specs.Curve.{windowSum, windowCount}
 use Rattle.meaning_rows.specs.declared.Row.{Row}
@@ -16,7 +15,7 @@ use Rattle.meaning_rows.specs.Runs.{runCount}
 use Rattle.meaning_rows.proofs.Cursors.{fileRight, length-file}
 use Rattle.records.specs.Records.{zeroRow}
 use Rattle.filing.specs.declared.Place.{Place}
-use Rattle.filing.specs.Levels.{level, Lent, windowsOf, level-is, level-small, placeFrom}
+use Rattle.filing.specs.Levels.{level, Lent, windowsOf, level-is, level-small, placeFrom, sumAt, sum-is}
 use Rattle.filing.specs.Change.{Stop, RowRun}
 use Rattle.tally.specs.Tally.{isRow}
 use Rattle.parts.specs.Part.{written, PartRoom}
@@ -26,10 +25,6 @@ use Rattle.merge.specs.Merging.{partAt}
 use Rattle.filing.specs.Ends.{raisedEnd}
 use Rattle.neighbours.specs.Ranges.{LimitedRow, placeIn, rowIn, RangeRows, range-climbs, stop-run}
 use Rattle.neighbours.specs.Naming.{Naming, naming-start, naming-more, naming-written, naming-room, naming-run, naming-end}
-
--- the sum of a window
-abbrev pub sumAt : ℕ → ℕ → Place → ℤ
-sumAt w e at = pos (at .level) -ℤ pos (10000 * w + e)
 
 -- the name of row i, where window j is one of those of len values
 unfoldable pub nameFor : ℕ → ℕ → ℕ → ℕ → ℕ
@@ -59,9 +54,6 @@ pub record Unnamed (s : List ℤ) (w e : ℕ) (rows : List Row) (count : ℕ) (l
   pub zeros : (x : ℕ) → getD right x 0 ≡ 0
 
 -- ---- laws
-
-sum-is : {s : List ℤ} {w e : ℕ} (at : Place) → Lent s w e → at .level ≡ level s w e (at .offset) → sumAt w e at ≡ windowSum s w (at .offset)
-sum-is {s} {w} {e} at h l = rep-eq (rep-sub (rep-pos (at .level)) (rep-pos (10000 * w + e))) (level-is (at .offset) h) (omega (arith, l))
 
 module _ (s : List ℤ) (w e : ℕ) (rows : List Row) (count : ℕ) where
   abbrev n : ℕ

@@ -4,9 +4,9 @@ use filing::Place;
 use filing::first_place;
 use filing::next_out;
 use filing::raise_end;
+use filing::sum_of;
 use layout::find_row;
 use meaning_rows::Row;
-use numbers::lower;
 use parts::file_entry;
 use records::row_at;
 ghost use mathlib.Core.Path.{_≡_};
@@ -18,7 +18,7 @@ ghost use Rattle.filing.specs.Change.{Stop};
 ghost use Rattle.merge.specs.Names.{NamedRow};
 ghost use Rattle.merge.specs.Merging.{partAt};
 ghost use Rattle.neighbours.specs.Ranges.{LimitedRow, rowIn};
-ghost use Rattle.neighbours.specs.Places.{sumAt, nameFor, nameIn, Nameable, Unnamed};
+ghost use Rattle.neighbours.specs.Places.{nameFor, nameIn, Nameable, Unnamed};
 
 // From a window on, the first whose sum is not in the row's range, or the number of windows.
 pub fn run_end(s: &[i32], w: usize, e: u64, at: Place, r: Row) -> Place
@@ -31,15 +31,6 @@ pub fn run_end(s: &[i32], w: usize, e: u64, at: Place, r: Row) -> Place
     let lo = raise_end(low, bias);
     let hi = raise_end(up, bias);
     next_out(s, w, e, at, lo, hi)
-}
-
-// The sum of a window, from its raised sum.
-pub fn sum_of(w: usize, e: u64, at: Place) -> i32
-    requires { ⌜ (w ≤ 256) × (e ≤ 1000000) × (at .level ≤ 1000000000) ⌝ }
-    ensures { λ r. ⌜ r ≡ sumAt w e at ⌝ }
-{
-    let level = at.level;
-    lower(level, 10000 * (w as u64) + e)
 }
 
 // The name of row `i` where there is a window, of `len` values, and else of none.

@@ -1,4 +1,4 @@
--- `fill::fill_parts` meets its contract: a walk of its MIR, by hand. Each turn of the loop calls `sum_at`, `find_record` for the row of the window, and `file_turn`, for which the two run columns are lent again. All that the proof knows of the three is that they meet their contracts.
+-- `fill::fill_parts` meets its contract: a walk of its MIR, by hand. Each turn of the loop calls `sum_of`, `find_record` for the row of the window, and `file_turn`, for which the two run columns are lent again. All that the proof knows of the three is that they meet their contracts.
 -- The invariant is `Going`, the measure how many windows are left; a turn is `going-next` of specs/Pass.antt, over plain variables.
 -- Assumes nothing.
 use mathlib.Core.Path.{_≡_, refl, sym, subst}
@@ -61,10 +61,10 @@ use Rattle.layout.proofs.find_record.Symbol.{name as #find-record}
 use Rattle.layout.proofs.find_record.Met as find-thm
 use Rattle.fill.specs.Turn.{Turned, TurnAsked}
 use Rattle.fill.specs.Pass.{Passable, Passed, Going, rowed-climbs, rowed-reached, going-starts, going-ends, going-asks, going-nears, going-next}
-use Rattle.fill.proofs.Calls.{low-place, SumAt, FileTurn, calls-sum-at, calls-file-turn}
-use Rattle.fill.proofs.sum_at.Symbol as sum-def
-use Rattle.fill.proofs.sum_at.Symbol.{name as #sum-at}
-use Rattle.fill.proofs.sum_at.Met as sum-thm
+use Rattle.fill.proofs.Calls.{low-place, SumOf, FileTurn, calls-sum-of, calls-file-turn}
+use Rattle.filing.proofs.sum_of.Symbol as sum-def
+use Rattle.filing.proofs.sum_of.Symbol.{name as #sum-of}
+use Rattle.filing.proofs.sum_of.Met as sum-thm
 use Rattle.fill.proofs.file_turn.Symbol as turn-def
 use Rattle.fill.proofs.file_turn.Symbol.{name as #file-turn}
 use Rattle.fill.proofs.file_turn.Met as turn-thm
@@ -136,7 +136,7 @@ module _ {M : Type 1} (𝓤 : URA M) (H : Heap 𝓤) (A : Atoms 𝓤) (W : Given
   row-typed : (r : Row) → Good r → Tr (hasTy T′.mir (low r)) × WT (low r)
   row-typed r g = LL.lawful T.the-type T′.the-laws 𝓤 H A W .typed r _ g .0
 
-  module _ (𝓣 : Tables 𝓤 H) (fm : FmC 𝓤 H (W .laws) (𝓣 .C)) (known-sum : Triple 𝓤 (𝓣 .C #sum-at) (SumAt 𝓤 H A mem run)) (known-find : Triple 𝓤 (𝓣 .C #find-record) (FindRecord 𝓤 H A mem run)) (known-turn : Triple 𝓤 (𝓣 .C #file-turn) (FileTurn 𝓤 H A mem run))
+  module _ (𝓣 : Tables 𝓤 H) (fm : FmC 𝓤 H (W .laws) (𝓣 .C)) (known-sum : Triple 𝓤 (𝓣 .C #sum-of) (SumOf 𝓤 H A mem run)) (known-find : Triple 𝓤 (𝓣 .C #find-record) (FindRecord 𝓤 H A mem run)) (known-turn : Triple 𝓤 (𝓣 .C #file-turn) (FileTurn 𝓤 H A mem run))
       (gs : Room i32 (length (xs .now))) (gw : w < 2 ^ 64) (ge : e < 2 ^ 64) (ga : Room T.the-row (length (xa .now))) (gc : n < 2 ^ 64) (gp : Is Pl.the-row from₀ (low-place from₀ ∷ [])) (gl : Room u32 (length (xl .now))) (gr : Room u32 (length (xr .now))) (h : Asked) where
     abbrev State : Type 0
     State = Place × (List ℕ × List ℕ)
@@ -211,7 +211,7 @@ module _ {M : Type 1} (𝓤 : URA M) (H : Heap 𝓤) (A : Atoms 𝓤) (W : Given
           (λ test. let l : σ .0 .offset < windowsOf (xs .now) w = ltb-true (σ .0 .offset) (windowsOf (xs .now) w) test in
           rewrite ! 16 (λ (t : Bool). ‵ (fat fullShare tyBool l₁₆ 0 (vbool t))) test refl $
           stays ! (load ! (from ! (stop !)) (look ! 16 refl)) $
-          calls-sum-at ! fm mem run known-sum κs qs xs w e (σ .0) gw ge (facts .1) (facts .0 .place) (and-then ! (load ! (from ! (stop !)) (look ! 46 refl)) (and-then ! (load ! (from ! (stop !)) (look ! 44 refl)) (and-then ! (load ! (from ! (stop !)) (look ! 42 refl)) (and-then ! (load ! (from ! (stop !)) (look ! 28 refl)) (no-more !))))) (λ z is gz.
+          calls-sum-of ! fm mem run known-sum (xs .now) w e (σ .0) gw ge (facts .1) (facts .0 .place) (and-then ! (load ! (from ! (stop !)) (look ! 45 refl)) (and-then ! (load ! (from ! (stop !)) (look ! 43 refl)) (and-then ! (load ! (from ! (stop !)) (look ! 29 refl)) (no-more !)))) (λ z is gz.
           land ! (from ! (stop !)) (init ! 26 refl (tt, ofZ-fits w32 z (record { sfits = gz }))) $
           move ! (6 ∷ 7 ∷ []) $
           calls-find-record ! fm mem run known-find κa qa xa n z (asks-row σ facts l z is) gc gz (and-then ! (load ! (from ! (stop !)) (look ! 40 refl)) (and-then ! (load ! (from ! (stop !)) (look ! 38 refl)) (and-then ! (load ! (from ! (stop !)) (look ! 26 refl)) (no-more !)))) (λ r found good.
@@ -298,7 +298,7 @@ module _ {M : Type 1} (𝓤 : URA M) (H : Heap 𝓤) (A : Atoms 𝓤) (W : Given
     walk : ent 𝓤 (onEntry 𝓤 H A f.signature (κs, (κa, (κl, (κr, tt)))) (qs, (qa, (ql, (qr, tt)))) (xs, (w, (e, (xa, (n, (from₀, (xl, (xr, tt)))))))) at) (WpFn 𝓤 H (𝓣 .C) (𝓣 .Λ) code.function passed Post)
     walk = via 𝓤 (⋆ 𝓤 H A Had) (at-entry 𝓤 H A f.signature (κs, (κa, (κl, (κr, tt)))) (qs, (qa, (ql, (qr, tt)))) (xs, (w, (e, (xa, (n, (from₀, (xl, (xr, tt)))))))) at) (qed W Had ∵ enter ! (𝓣 .C) (𝓣 .Λ) code.function passed Post $ alloc1 ! (λ l₀. alloc1 ! (λ l₁. alloc1 ! (λ l₂. alloc1 ! (λ l₃. alloc1 ! (λ l₄. alloc1 ! (λ l₅. alloc1 ! (λ l₆. alloc1 ! (λ l₇. alloc1 ! (λ l₈. alloc1 ! (λ l₉. alloc1 ! (λ l₁₀. alloc1 ! (λ l₁₁. alloc1 ! (λ l₁₂. alloc1 ! (λ l₁₃. alloc1 ! (λ l₁₄. alloc1 ! (λ l₁₅. alloc1 ! (λ l₁₆. alloc1 ! (λ l₁₇. alloc1 ! (λ l₁₈. alloc1 ! (λ l₁₉. alloc1 ! (λ l₂₀. alloc0 ! $ passes-in l₀ l₁ l₂ l₃ l₄ l₅ l₆ l₇ l₈ l₉ l₁₀ l₁₁ l₁₂ l₁₃ l₁₄ l₁₅ l₁₆ l₁₇ l₁₈ l₁₉ l₂₀))))))))))))))))))))))
 
-module _ {M : Type 1} (𝓤 : URA M) (H : Heap 𝓤) (A : Atoms 𝓤) (W : Given 𝓤 H A) (mem : Memory → SProp 𝓤) (run : Routine → Fun 𝓤) (𝓣 : Tables 𝓤 H) (known-sum : Triple 𝓤 (𝓣 .C #sum-at) (SumAt 𝓤 H A mem run)) (known-find : Triple 𝓤 (𝓣 .C #find-record) (FindRecord 𝓤 H A mem run)) (known-turn : Triple 𝓤 (𝓣 .C #file-turn) (FileTurn 𝓤 H A mem run)) where
+module _ {M : Type 1} (𝓤 : URA M) (H : Heap 𝓤) (A : Atoms 𝓤) (W : Given 𝓤 H A) (mem : Memory → SProp 𝓤) (run : Routine → Fun 𝓤) (𝓣 : Tables 𝓤 H) (known-sum : Triple 𝓤 (𝓣 .C #sum-of) (SumOf 𝓤 H A mem run)) (known-find : Triple 𝓤 (𝓣 .C #find-record) (FindRecord 𝓤 H A mem run)) (known-turn : Triple 𝓤 (𝓣 .C #file-turn) (FileTurn 𝓤 H A mem run)) where
   meets : Meets 𝓤 H A f.signature (WpFn 𝓤 H (𝓣 .C) (𝓣 .Λ) code.function) (f.spec 𝓤 H A mem run)
   meets = walk-through 𝓤 H A f.ended stayed W (goes-dropped 𝓤 H A W 4 (shrSlice 0 tt (λ _. i32)) yes (λ κs x f. refl), (goes-dropped 𝓤 H A W 4 (plain (λ _. usize)) yes (λ κs x f. refl), (goes-dropped 𝓤 H A W 4 (plain (λ _. usize)) yes (λ κs x f. refl), (goes-dropped 𝓤 H A W 4 (shrSlice 1 tt (λ _. T.the-row)) yes (λ κs x f. refl), (goes-dropped 𝓤 H A W 4 (plain (λ _. usize)) yes (λ κs x f. refl), (goes-dropped 𝓤 H A W 4 (plain (λ _. Pl.the-row)) yes (λ κs x f. refl), (goes-slice 𝓤 H A W 4 2 tt (plain (λ _. u32)), (goes-slice 𝓤 H A W 4 3 tt (plain (λ _. u32)), tt)))))))) (f.clauses 𝓤 H A mem run) 𝓣 code.function
       (λ κs. (slice-vals, (uint-vals w64, (uint-vals w64, (slice-vals, (uint-vals w64, (LL.vals Pl.the-type Pl′.the-laws, (slice-vals, (slice-vals, tt)))))))))
@@ -312,6 +312,6 @@ fill-parts-spec 𝓤 H 𝓜 𝓖 𝓡 =
     entered 𝓤 H (tripleOf 𝓤 H (𝓖 .A) f.signature (f.spec 𝓤 H (𝓖 .A) (𝓜 .mem) (𝓡 .run)))
     (tables 𝓤 H 𝓜 𝓡 code.env .C) (tables 𝓤 H 𝓜 𝓡 code.env .Λ) #fill-parts code.function (code.unfolded 𝓤 H 𝓜 𝓡)
     (meets 𝓤 H (𝓖 .A) (givenOf 𝓤 H 𝓜 𝓖) (𝓜 .mem) (𝓡 .run) (tablesOf 𝓤 H 𝓜 (tables 𝓤 H 𝓜 𝓡 code.env))
-    (cited 𝓤 H (SumAt 𝓤 H (𝓖 .A) (𝓜 .mem) (𝓡 .run)) 𝓜 𝓡 code.env #sum-at sum-def.routine code.calls-fill·sum-at (sum-thm.met 𝓤 H 𝓜 𝓖 𝓡))
+    (cited 𝓤 H (SumOf 𝓤 H (𝓖 .A) (𝓜 .mem) (𝓡 .run)) 𝓜 𝓡 code.env #sum-of sum-def.routine code.calls-filing·sum-of (sum-thm.met 𝓤 H 𝓜 𝓖 𝓡))
     (cited 𝓤 H (FindRecord 𝓤 H (𝓖 .A) (𝓜 .mem) (𝓡 .run)) 𝓜 𝓡 code.env #find-record find-def.routine code.calls-layout·find-record (find-thm.met 𝓤 H 𝓜 𝓖 𝓡))
     (cited 𝓤 H (FileTurn 𝓤 H (𝓖 .A) (𝓜 .mem) (𝓡 .run)) 𝓜 𝓡 code.env #file-turn turn-def.routine code.calls-fill·file-turn (turn-thm.met 𝓤 H 𝓜 𝓖 𝓡)))

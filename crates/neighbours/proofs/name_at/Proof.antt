@@ -45,11 +45,12 @@ use Rattle.layout.proofs.find_row.Symbol as find-def
 use Rattle.layout.proofs.find_row.Symbol.{name as #layout·find-row}
 use Rattle.layout.proofs.find_row.Met as find-thm
 use Rattle.neighbours.specs.Ranges.{placeIn, first-le, endsBy}
-use Rattle.neighbours.specs.Places.{sumAt, nameIn, Nameable}
+use Rattle.filing.specs.Levels.{sumAt}
+use Rattle.neighbours.specs.Places.{nameIn, Nameable}
 use Rattle.neighbours.proofs.Calls.{SumOf, FindRow, NameOf, low-place, IsPlace, calls-sum, calls-find, calls-name}
-use Rattle.neighbours.proofs.sum_of.Symbol as sum-def
-use Rattle.neighbours.proofs.sum_of.Symbol.{name as #neighbours·sum-of}
-use Rattle.neighbours.proofs.sum_of.Met as sum-thm
+use Rattle.filing.proofs.sum_of.Symbol as sum-def
+use Rattle.filing.proofs.sum_of.Symbol.{name as #filing·sum-of}
+use Rattle.filing.proofs.sum_of.Met as sum-thm
 use Rattle.neighbours.proofs.name_of.Symbol as name-def
 use Rattle.neighbours.proofs.name_of.Symbol.{name as #neighbours·name-of}
 use Rattle.neighbours.proofs.name_of.Met as name-thm
@@ -94,7 +95,7 @@ module _ {M : Type 1} (𝓤 : URA M) (H : Heap 𝓤) (A : Atoms 𝓤) (W : Given
       nothing ! $ move ! (1 ∷ 0 ∷ []) $ join ! $ frame ! $ nothing ! $ nothing ! $ fjoin ! $ nothing ! $ fjoin ! $ nothing ! $ fjoin ! $ nothing ! $ fjoin ! $ nothing ! $ fjoin ! $ nothing ! $ fjoin ! $
       frame ! $ owned ! usize (Is usize) (uint-makes 𝓤 H A W w64) k _ (refl, g) $ done !
 
-  module _ (𝓣 : Tables 𝓤 H) (fm : FmC 𝓤 H (W .laws) (𝓣 .C)) (known-sum : Triple 𝓤 (𝓣 .C #neighbours·sum-of) (SumOf 𝓤 H A mem run)) (known-find : Triple 𝓤 (𝓣 .C #layout·find-row) (FindRow 𝓤 H A mem run)) (known-name : Triple 𝓤 (𝓣 .C #neighbours·name-of) (NameOf 𝓤 H A mem run)) where
+  module _ (𝓣 : Tables 𝓤 H) (fm : FmC 𝓤 H (W .laws) (𝓣 .C)) (known-sum : Triple 𝓤 (𝓣 .C #filing·sum-of) (SumOf 𝓤 H A mem run)) (known-find : Triple 𝓤 (𝓣 .C #layout·find-row) (FindRow 𝓤 H A mem run)) (known-name : Triple 𝓤 (𝓣 .C #neighbours·name-of) (NameOf 𝓤 H A mem run)) where
     walk : Room T.the-row (length (now x)) → n < 2 ^ 64 → l < 2 ^ 64 → w < 2 ^ 64 → e < 2 ^ 64 → IsPlace p → Nameable (now x) n w e p
         → ent 𝓤 (onEntry 𝓤 H A f.signature (κ, tt) (q, tt) (x, (n, (l, (w, (e, (p, tt)))))) at) (WpFn 𝓤 H (𝓣 .C) (𝓣 .Λ) code.function args Post)
     walk gr gn gl gw ge gp y =
@@ -127,7 +128,7 @@ module _ {M : Type 1} (𝓤 : URA M) (H : Heap 𝓤) (A : Atoms 𝓤) (W : Given
         lose ! 18 refl refl $ lose ! 16 refl refl $ lose ! 14 refl refl $ lose ! 12 refl refl $ lose ! 10 refl refl $ lose ! 8 refl refl $ lose ! 6 refl refl $ lose ! 4 refl refl $ lose ! 2 refl refl $ free0 ! $
         keep ! (0 ∷ []) $ by ! (exits gv)))))))))))))
 
-module _ {M : Type 1} (𝓤 : URA M) (H : Heap 𝓤) (A : Atoms 𝓤) (W : Given 𝓤 H A) (mem : Memory → SProp 𝓤) (run : Routine → Fun 𝓤) (𝓣 : Tables 𝓤 H) (known-sum : Triple 𝓤 (𝓣 .C #neighbours·sum-of) (SumOf 𝓤 H A mem run)) (known-find : Triple 𝓤 (𝓣 .C #layout·find-row) (FindRow 𝓤 H A mem run)) (known-name : Triple 𝓤 (𝓣 .C #neighbours·name-of) (NameOf 𝓤 H A mem run)) where
+module _ {M : Type 1} (𝓤 : URA M) (H : Heap 𝓤) (A : Atoms 𝓤) (W : Given 𝓤 H A) (mem : Memory → SProp 𝓤) (run : Routine → Fun 𝓤) (𝓣 : Tables 𝓤 H) (known-sum : Triple 𝓤 (𝓣 .C #filing·sum-of) (SumOf 𝓤 H A mem run)) (known-find : Triple 𝓤 (𝓣 .C #layout·find-row) (FindRow 𝓤 H A mem run)) (known-name : Triple 𝓤 (𝓣 .C #neighbours·name-of) (NameOf 𝓤 H A mem run)) where
   meets : Meets 𝓤 H A f.signature (WpFn 𝓤 H (𝓣 .C) (𝓣 .Λ) code.function) (f.spec 𝓤 H A mem run)
   meets = walk-through 𝓤 H A f.ended stayed W (goes-dropped 𝓤 H A W 1 (shrSlice 0 tt (λ _. T.the-row)) yes (λ κs x f. refl), (goes-dropped 𝓤 H A W 1 (plain (λ _. usize)) yes (λ κs x f. refl), (goes-dropped 𝓤 H A W 1 (plain (λ _. usize)) yes (λ κs x f. refl), (goes-dropped 𝓤 H A W 1 (plain (λ _. usize)) yes (λ κs x f. refl), (goes-dropped 𝓤 H A W 1 (plain (λ _. usize)) yes (λ κs x f. refl), (goes-dropped 𝓤 H A W 1 (plain (λ _. P.the-row)) yes (λ κs x f. refl), tt)))))) (f.clauses 𝓤 H A mem run) 𝓣 code.function
       (λ κs. (slice-vals, (uint-vals w64, (uint-vals w64, (uint-vals w64, (uint-vals w64, (LL.vals P.the-type P′.the-laws, tt)))))))
@@ -141,6 +142,6 @@ name-at-spec 𝓤 H 𝓜 𝓖 𝓡 =
     entered 𝓤 H (tripleOf 𝓤 H (𝓖 .A) f.signature (f.spec 𝓤 H (𝓖 .A) (𝓜 .mem) (𝓡 .run)))
     (tables 𝓤 H 𝓜 𝓡 code.env .C) (tables 𝓤 H 𝓜 𝓡 code.env .Λ) #neighbours·name-at code.function (code.unfolded 𝓤 H 𝓜 𝓡)
     (meets 𝓤 H (𝓖 .A) (givenOf 𝓤 H 𝓜 𝓖) (𝓜 .mem) (𝓡 .run) (tablesOf 𝓤 H 𝓜 (tables 𝓤 H 𝓜 𝓡 code.env))
-    (cited 𝓤 H (SumOf 𝓤 H (𝓖 .A) (𝓜 .mem) (𝓡 .run)) 𝓜 𝓡 code.env #neighbours·sum-of sum-def.routine code.calls-neighbours·sum-of (sum-thm.met 𝓤 H 𝓜 𝓖 𝓡))
+    (cited 𝓤 H (SumOf 𝓤 H (𝓖 .A) (𝓜 .mem) (𝓡 .run)) 𝓜 𝓡 code.env #filing·sum-of sum-def.routine code.calls-filing·sum-of (sum-thm.met 𝓤 H 𝓜 𝓖 𝓡))
     (cited 𝓤 H (FindRow 𝓤 H (𝓖 .A) (𝓜 .mem) (𝓡 .run)) 𝓜 𝓡 code.env #layout·find-row find-def.routine code.calls-layout·find-row (find-thm.met 𝓤 H 𝓜 𝓖 𝓡))
     (cited 𝓤 H (NameOf 𝓤 H (𝓖 .A) (𝓜 .mem) (𝓡 .run)) 𝓜 𝓡 code.env #neighbours·name-of name-def.routine code.calls-neighbours·name-of (name-thm.met 𝓤 H 𝓜 𝓖 𝓡)))
