@@ -1,14 +1,14 @@
 -- What the entry answers and leaves in the buffers is what is meant (`load-right`): by what the text comes to, and of a text that can be read by the head, the rows and the room. Assumes nothing.
 use mathlib.Core.Path.{_≡_, refl, sym, ap, _∙_}
 use mathlib.Core.Bool.{Bool, true, false}
-use mathlib.Core.List.{List, []}
+use mathlib.Core.List.{List, [], _++_, append-nil}
 use mathlib.Core.Option.{Option, none, some}
 use Prim.Native.Nat.{ℕ, zero, suc, _+_, _-_, _≤_}
 use native.Mathlib.Omega.{arith}
 use lib.Dec.{ltb}
 use lib.IntN.{natAbs}
-use lib.ListN.{length, drop, replicate, length-replicate, length-map}
-use lib.Seq.{sets, sets-eq}
+use lib.ListN.{length, take, drop, replicate, length-replicate, length-map}
+use lib.Seq.{sets, sets-eq, take-length}
 use borrow.Author.Tests.{ltb-false, ne-eqb}
 use Rattle.meaning_rows.specs.declared.Head.{Head}
 use Rattle.meaning_rows.specs.declared.Row.{Row}
@@ -37,19 +37,26 @@ use Rattle.text_load.specs.declared.Plan.{Plan}
 use Rattle.text_load.specs.Plan.{refusedPlan, fitPlan, planScanned, planFor, planAnswer, textRuns, heldLefts, heldRights, columnAfter, Loads}
 use Rattle.text_load.proofs.Planned.{on-verdict}
 
+-- the row records, those from a place on made records of zeros
+abbrev pub zerosFrom : ℕ → List Row → List Row
+zerosFrom n rows = take n rows ++ replicate (length rows - n) zeroRow
+
+none-zeros : (rows : List Row) → zerosFrom (length rows) rows ≡ rows
+none-zeros rows = let e : length rows - length rows ≡ 0 = omega arith in rw (e, take-length rows) (append-nil rows)
+
 -- the entry, by its plan
 record Outcome (t : List ℕ) (b : IndexBuffers) (p : Plan) : Type 0 where
   answer : planAnswer p ≡ loadAnswer t b
-  rows : stored t (p .to) (b .rows) ≡ loadAfter t b .rows
+  rows : stored t (p .rows) (zerosFrom (p .from) (b .rows)) ≡ loadAfter t b .rows
   left : columnAfter (p .number) (heldLefts (textRuns t)) (b .left) ≡ loadAfter t b .left
   right : columnAfter (p .number) (heldRights (textRuns t)) (b .right) ≡ loadAfter t b .right
 
 -- a refusal alters nothing
-refused : (t : List ℕ) (b : IndexBuffers) (n place : ℕ) → (n ≡ 0 → ⊥) → loadRefusal t b ≡ some (n, place) → Outcome t b (refusedPlan n place)
+refused : (t : List ℕ) (b : IndexBuffers) (n place : ℕ) → (n ≡ 0 → ⊥) → loadRefusal t b ≡ some (n, place) → Outcome t b (refusedPlan n place (length (b .rows)))
 unfolding planAnswer loadAnswer loadAfter columnAfter
 refused t b n place h e = record {
   answer = rw (e, ne-eqb n 0 h, loadAnswer) refl;
-  rows = stored-none t (b .rows) ∙ rw (e, loadAfter) refl;
+  rows = stored-none t (zerosFrom (length (b .rows)) (b .rows)) ∙ none-zeros (b .rows) ∙ rw (e, loadAfter) refl;
   left = rw (e, ne-eqb n 0 h, loadAfter) refl;
   right = rw (e, ne-eqb n 0 h, loadAfter) refl;
 }
@@ -98,7 +105,7 @@ module _ (t : List ℕ) (b : IndexBuffers) (v : Value indexForm) (e : readText i
   -- everything is good: the index is loaded
   module _ (head : headGood (lent h [] [] []) ≡ true) (good : c .good ≡ true) (rows-room : ltb (length (b .rows)) (c .rows) ≡ false) (runs-room : ltb (runRoom b) (c .runs) ≡ false) where
     abbrev p : Plan
-    p = record { number = 0; place = 0; head = h; rows = c .rows; runs = c .runs; to = length (b .rows) }
+    p = record { number = 0; place = 0; head = h; rows = c .rows; runs = c .runs; from = c .rows }
 
     counts : (c .rows ≡ length (X .rows)) × (c .runs ≡ length (X .runs))
     counts = rows-counted v head good
@@ -124,9 +131,9 @@ module _ (t : List ℕ) (b : IndexBuffers) (v : Value indexForm) (e : readText i
     runs-fit : length (X .runs) ≤ runRoom b
     runs-fit = omega (arith, ltb-false (runRoom b) (c .runs) runs-room, counts .1)
 
-    rows-right : stored t (length (b .rows)) (b .rows) ≡ filled zeroRow (X .rows) (b .rows)
+    rows-right : stored t (c .rows) (zerosFrom (c .rows) (b .rows)) ≡ filled zeroRow (X .rows) (b .rows)
     unfolding filled indexSaid
-    rows-right = rows-filled t v e head good (b .rows) rows-fit
+    rows-right = rows-filled t v e head good (c .rows) (b .rows) (counts .0) rows-fit
 
     left-right : sets (replicate (length (b .left)) 0) 0 (heldLefts (X .runs)) ≡ filled 0 (lefts (X .runs)) (b .left)
     left-right = ap (sets (replicate (length (b .left)) 0) 0) (runs-held v head good .0) ∙ column (lefts (X .runs)) (b .left) (omega (arith, length-map (X .runs) (λ (x : Entry). natAbs (x .0)), runs-fit))
@@ -171,29 +178,34 @@ outcome t b =
     (λ q e. rw e (refused t b 12 (lineOf t q) (λ w. omega arith) (unread t b q e)))
 
 -- no more records are filled than are lent
-pub plan-to : (t : List ℕ) (rows runs : ℕ) → planFor t rows runs .to ≤ rows
+pub record Inside (p : Plan) (room : ℕ) : Type 0 where
+  pub rows : p .rows ≤ room
+  pub from : p .from ≤ room
+
+pub plan-inside : (t : List ℕ) (rows runs : ℕ) → Inside (planFor t rows runs) rows
 unfolding planScanned fitPlan
-plan-to t rows runs =
+plan-inside t rows runs =
     on-verdict (readText indexForm t)
     (λ v e.
     let c = rowsFrom (headHeld v) noRows (v .1 .1 .1) in
+    let none : (n place : ℕ) → Inside (refusedPlan n place rows) rows = λ n place. record { rows = omega arith; from = omega arith } in
     rw e
     (on-flag (headGood (lent (headHeld v) [] [] []))
     (λ x. on-flag (c .good)
-    (λ y. on-flag (ltb rows (c .rows)) (λ z. rw (x, y, z) (omega arith)) (λ z. on-flag (ltb runs (c .runs)) (λ w. rw (x, y, z, w) (omega arith)) (λ w. rw (x, y, z, w) (omega arith))))
-    (λ y. rw (x, y) (omega arith)))
-    (λ x. rw x (omega arith))))
-    (λ q e. rw e (omega arith))
+    (λ y. on-flag (ltb rows (c .rows)) (λ z. rw (x, y, z) (none 23 0)) (λ z. on-flag (ltb runs (c .runs)) (λ w. rw (x, y, z, w) (none 23 0)) (λ w. let l = ltb-false rows (c .rows) z in rw (x, y, z, w) (record { rows = l; from = l }))))
+    (λ y. rw (x, y) (none 20 (c .rows))))
+    (λ x. rw x (none 20 0))))
+    (λ q e. rw e (record { rows = omega arith; from = omega arith }))
 
 -- the entry keeps its promise
-pub load-right : (t : List ℕ) (rows rows' : List Row) (left right left' right' : List ℕ) (p : Plan) (a : Loaded) → Loads t (length rows) left right p left' right' → rows' ≡ stored t (p .to) rows → a ≡ planAnswer p
+pub load-right : (t : List ℕ) (rows rows' : List Row) (left right left' right' : List ℕ) (p : Plan) (a : Loaded) → Loads t (length rows) left right p left' right' → rows' ≡ stored t (p .rows) (zerosFrom (p .from) rows) → a ≡ planAnswer p
     → LoadKept t (record { rows = rows; left = left; right = right }) a (record { rows = rows'; left = left'; right = right' })
 load-right t rows rows' left right left' right' p a l r s =
     let b : IndexBuffers = record { rows = rows; left = left; right = right } in
     let o = outcome t b in
     let q = l .planned in
     load-kept t b a (record { rows = rows'; left = left'; right = right' }) (s ∙ ap planAnswer q ∙ o .answer)
-    (same-buffers (loadAfter t b) rows' left' right' (r ∙ ap (λ (x : Plan). stored t (x .to) rows) q ∙ o .rows) (l .lefts ∙ ap (λ (x : Plan). columnAfter (x .number) (heldLefts (textRuns t)) left) q ∙ o .left) (l .rights ∙ ap (λ (x : Plan). columnAfter (x .number) (heldRights (textRuns t)) right) q ∙ o .right))
+    (same-buffers (loadAfter t b) rows' left' right' (r ∙ ap (λ (x : Plan). stored t (x .rows) (zerosFrom (x .from) rows)) q ∙ o .rows) (l .lefts ∙ ap (λ (x : Plan). columnAfter (x .number) (heldLefts (textRuns t)) left) q ∙ o .left) (l .rights ∙ ap (λ (x : Plan). columnAfter (x .number) (heldRights (textRuns t)) right) q ∙ o .right))
   where
     same-buffers : (x : IndexBuffers) (rows : List Row) (left right : List ℕ) → rows ≡ x .rows → left ≡ x .left → right ≡ x .right → record { rows = rows; left = left; right = right } ≡ x
     same-buffers x rows left right e f g = λ i. record { rows = e i; left = f i; right = g i }

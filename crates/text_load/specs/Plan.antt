@@ -21,20 +21,21 @@ use Rattle.text_load.specs.declared.Plan.{Plan}
 abbrev pub noHead : Head
 noHead = record { window = 0; width = 0; windows = 0 }
 
-abbrev pub refusedPlan : ℕ → ℕ → Plan
-refusedPlan n place = record { number = n; place = place; head = noHead; rows = 0; runs = 0; to = 0 }
+-- where so many row records are lent, none is altered
+abbrev pub refusedPlan : ℕ → ℕ → ℕ → Plan
+refusedPlan n place rows = record { number = n; place = place; head = noHead; rows = 0; runs = 0; from = rows }
 
 -- a text that can be read, where there is room for so many rows and runs
 unfoldable pub fitPlan : Head → Rows → ℕ → ℕ → Plan
 fitPlan h c rows runs =
     cond (headGood (lent h [] [] []))
     (cond (c .good)
-    (cond (ltb rows (c .rows)) (refusedPlan 23 0) (cond (ltb runs (c .runs)) (refusedPlan 23 0) (record { number = 0; place = 0; head = h; rows = c .rows; runs = c .runs; to = rows })))
-    (refusedPlan 20 (c .rows)))
-    (refusedPlan 20 0)
+    (cond (ltb rows (c .rows)) (refusedPlan 23 0 rows) (cond (ltb runs (c .runs)) (refusedPlan 23 0 rows) (record { number = 0; place = 0; head = h; rows = c .rows; runs = c .runs; from = c .rows })))
+    (refusedPlan 20 (c .rows) rows))
+    (refusedPlan 20 0 rows)
 
 unfoldable pub planScanned : List ℕ → ℕ → ℕ → Scanned → Plan
-planScanned t rows runs (Scanned.Bad p) = refusedPlan 12 (lineOf t p)
+planScanned t rows runs (Scanned.Bad p) = refusedPlan 12 (lineOf t p) rows
 planScanned t rows runs (Scanned.Fine h c) = fitPlan h c rows runs
 
 abbrev pub planFor : List ℕ → ℕ → ℕ → Plan

@@ -1,9 +1,10 @@
-// Reading an index text into lent buffers (01, Text and program): a pass that judges the text, and where nothing refuses a pass that puts its runs into the run buffer and one that puts its rows into the row records. A refusal alters nothing.
+// Reading an index text into lent buffers (01, Text and program): a pass that judges the text, and where nothing refuses a pass that puts its runs into the run buffer and one that puts its rows into the row records. What is not used of the buffers is made 0 at once. A refusal alters nothing.
 use judge::head_good;
 use judge::lesser;
 use meaning_entries::Loaded;
 use meaning_rows::Head;
 use meaning_rows::Row;
+use records::clear_rows;
 use text_event::Event;
 use text_event::next_event;
 use text_index::Place;
@@ -23,18 +24,19 @@ ghost use Rattle.meaning_entries.specs.Demand2.{LoadKept};
 ghost use Rattle.text_load.specs.Runs.{isLeft, isRight, FilledRuns};
 ghost use Rattle.text_load.specs.Plan.{refusedPlan, fitPlan, planFor, Loads, planAnswer};
 
-// What is known before anything is stored: the refusal, of number 0 where there is none; else the head, how many rows and runs there are, and how many row records are to be filled.
+// What is known before anything is stored: the refusal, of number 0 where there is none; else the head, and how many rows and runs there are; and from where on the row records become records of zeros.
 pub struct Plan {
     pub number: u32,
     pub place: usize,
     pub head: Head,
     pub rows: usize,
     pub runs: usize,
-    pub to: usize,
+    pub from: usize,
 }
 
-fn refuse(number: u32, place: usize) -> Plan
-    ensures { λ p. ⌜ p ≡ refusedPlan number place ⌝ }
+// Where so many row records are lent, none is altered.
+fn refuse(number: u32, place: usize, rows: usize) -> Plan
+    ensures { λ p. ⌜ p ≡ refusedPlan number place rows ⌝ }
 {
     let head = Head {
         window: 0,
@@ -47,7 +49,7 @@ fn refuse(number: u32, place: usize) -> Plan
         head,
         rows: 0,
         runs: 0,
-        to: 0,
+        from: rows,
     }
 }
 
@@ -56,16 +58,16 @@ fn plan_fine(head: Head, c: Rows, rows: usize, runs: usize) -> Plan
     ensures { λ p. ⌜ p ≡ fitPlan head c rows runs ⌝ }
 {
     if !head_good(head) {
-        return refuse(20, 0);
+        return refuse(20, 0, rows);
     }
     if !c.good {
-        return refuse(20, c.rows);
+        return refuse(20, c.rows, rows);
     }
     if rows < c.rows {
-        return refuse(23, 0);
+        return refuse(23, 0, rows);
     }
     if runs < c.runs {
-        return refuse(23, 0);
+        return refuse(23, 0, rows);
     }
     Plan {
         number: 0,
@@ -73,7 +75,7 @@ fn plan_fine(head: Head, c: Rows, rows: usize, runs: usize) -> Plan
         head,
         rows: c.rows,
         runs: c.runs,
-        to: rows,
+        from: c.rows,
     }
 }
 
@@ -82,7 +84,7 @@ pub fn make_plan(text: &[u8], rows: usize, runs: usize) -> Plan
     ensures { λ p. ⌜ p ≡ planFor (now (text .entry)) rows runs ⌝ }
 {
     match scan(text) {
-        Scanned::Bad(at) => refuse(12, bad_line(text, at)),
+        Scanned::Bad(at) => refuse(12, bad_line(text, at), rows),
         Scanned::Fine(head, c) => plan_fine(head, c, rows, runs),
     }
 }
@@ -236,6 +238,7 @@ pub fn read(text: &[u8], rows: &mut [Row], left: &mut [u32], right: &mut [u32]) 
     ensures { λ a. ⌜ LoadKept (now (text .entry)) (record { rows = now (rows .entry); left = now (left .entry); right = now (right .entry) }) a (record { rows = now (rows .exit); left = now (left .exit); right = now (right .exit) }) ⌝ }
 {
     let p = load_runs(text, rows.len(), left, right);
-    fill_rows(text, p.to, rows);
+    clear_rows(rows, p.from);
+    fill_rows(text, p.rows, rows);
     answer(p)
 }

@@ -8,7 +8,7 @@ use Prim.Native.Nat.{ℕ, zero, suc, _+_, _-_, _<_, _≤_, min}
 use native.Mathlib.Decide.{decLe}
 use native.Mathlib.Omega.{arith}
 use lib.IntN.{ℤ}
-use lib.ListN.{length, getD, drop, replicate, length-replicate, length-append, length-map, length-drop, List·getD-eq-default}
+use lib.ListN.{length, getD, take, drop, replicate, length-replicate, length-append, length-map, length-take, length-drop, List·getD-eq-default}
 use lib.Seq.{drop-append-seam, drop-drop, getD-set-same, getD-set-other, ext-getD}
 use Rattle.meaning_rows.specs.declared.Head.{Head}
 use Rattle.meaning_rows.specs.declared.Row.{Row}
@@ -386,9 +386,22 @@ module _ (t : List ℕ) (v : Value indexForm) (readable : readText indexForm t �
       | no f ↦ let e : k ≡ n = omega arith in rw e (getD-set-same (stored t n rows) n (lineAt t (suc n) .row) zeroRow (omega (arith, length-stored t n rows, l)) ∙ row-at n)
     ]
 
-    -- all of the lent records are filled: those of the text first, and zeros
-    pub rows-filled : (rows : List Row) → length recs ≤ length rows → stored t (length rows) rows ≡ recs ++ replicate (length rows - length recs) zeroRow
-    rows-filled rows h =
-        let n = length rows - length recs in
-        ext-getD zeroRow (stored t (length rows) rows) (recs ++ replicate n zeroRow) (omega (arith, length-stored t (length rows) rows, length-append recs (replicate n zeroRow), length-replicate n zeroRow, h))
-        (λ k b. stored-at (length rows) k rows (omega (arith, b, length-stored t (length rows) rows)) (omega arith) ∙ sym (zeros-behind recs n k))
+    -- the records behind those that are filled stay
+    stored-behind : (n k : ℕ) (rows : List Row) → n ≤ k → getD (stored t n rows) k zeroRow ≡ getD rows k zeroRow
+    unfolding stored
+    stored-behind zero k rows h = refl
+    stored-behind (suc n) k rows h = getD-set-other (stored t n rows) n k (lineAt t (suc n) .row) zeroRow (λ e. omega (arith, e)) ∙ stored-behind n k rows (omega arith)
+
+    -- the records of the text are filled in, where those behind them were made records of zeros
+    pub rows-filled : (n : ℕ) (rows : List Row) → n ≡ length recs → length recs ≤ length rows → stored t n (take n rows ++ replicate (length rows - n) zeroRow) ≡ recs ++ replicate (length rows - length recs) zeroRow
+    rows-filled n rows e h =
+        let m = length rows - length recs in
+        let z = take n rows ++ replicate (length rows - n) zeroRow in
+        let long : length z ≡ length rows = omega (arith, length-append (take n rows) (replicate (length rows - n) zeroRow), length-take n rows, length-replicate (length rows - n) zeroRow, e, h) in
+        ext-getD zeroRow (stored t n z) (recs ++ replicate m zeroRow) (omega (arith, length-stored t n z, long, length-append recs (replicate m zeroRow), length-replicate m zeroRow, h))
+        (λ k b. elim (decLe (suc k) n) [
+          | yes l ↦ stored-at n k z l (omega (arith, long, e, h)) ∙ sym (zeros-behind recs m k)
+          | no f ↦
+              stored-behind n k z (omega arith) ∙ zeros-behind (take n rows) (length rows - n) k ∙ List·getD-eq-default (take n rows) zeroRow (omega (arith, length-take n rows))
+              ∙ sym (zeros-behind recs m k ∙ List·getD-eq-default recs zeroRow (omega (arith, e)))
+        ])
