@@ -1,11 +1,13 @@
--- The steps by which a run is read, each by one byte, and the run put together of them (`run-from`). Assumes nothing.
-use mathlib.Core.Path.{_≡_, refl, ap, _∙_}
-use Prim.Native.Nat.{ℕ, _+_, _*_, _-_, _<_, _≤_}
+-- The steps by which runs and the beginnings of rows are read, each by one byte, and what is put together of them (`body-told`, `plain-told`, `first-told`, `range-told`). Assumes nothing.
+use mathlib.Core.Path.{_≡_, refl}
+use mathlib.Core.Bool.{true, false}
+use Prim.Native.Nat.{ℕ, zero, suc, _+_, _*_, _-_, _/_, _%_, _<_, _≤_, _^_}
 use mathlib.Core.List.{List}
 use native.Mathlib.Decide.{decLt}
+use native.Mathlib.Numerals.{add-one}
 use native.Mathlib.Omega.{arith}
 use borrow.Author.Tests.{lt-ltb, ne-eqb}
-use lib.IntN.{ℤ, pos}
+use lib.IntN.{ℤ, pos, negℤ}
 use lib.ListN.{length, getD, List·getD-eq-default}
 use Rattle.meaning_text.specs.Bytes.{bytes}
 use Rattle.text_numbers.specs.declared.Numeral.{Numeral}
@@ -15,9 +17,9 @@ use Rattle.text_index.specs.declared.Place.{Place}
 use Rattle.text_index.specs.declared.State.{State}
 use Rattle.text_index.specs.declared.Moved.{Moved}
 use Rattle.text_index.specs.Step.{word, behind, turnAfter, pick, reach, closes, wordStep, turnStep, endStep, numberStep, indexStep}
-use Rattle.text_event.specs.declared.Natural.{Natural}
-use Rattle.text_event.specs.declared.Quick.{Quick}
-use Rattle.text_event.specs.Event.{Quiet, still, more, ValueAt, inRun, atRuns, NaturalAt, NumberAt, RightAt, RunIn, QuickAt}
+use Rattle.text_event.specs.declared.Signed.{Signed}
+use Rattle.text_event.specs.declared.Range.{Range}
+use Rattle.text_event.specs.Event.{Quiet, still, more, ValueAt, ClosedAt, RunAt, RowAt, inRun, atRuns, atFirst, atRows, inRange, DigitsAt, NumberAt, leftOf, rightOf, lengthOf, PlainAt, BodyAt, Blank, PlusAt, LessAt, Opens, Ends}
 
 -- a byte that is not 0 lies in the text
 pub byte-inside : (text : List ℕ) (k : ℕ) → 0 < getD text k 0 → k < length text
@@ -28,10 +30,22 @@ pub first-digit : (p : Place) (b : ℕ) → 49 ≤ b → b ≤ 57 → indexStep 
 unfolding indexStep numberStep numStep
 first-digit p b h k = rw (ne-eqb b 45 (λ e. omega (arith, h, e)), ne-eqb b 48 (λ e. omega (arith, h, e)), within-yes 49 57 b h k) refl
 
+pub first-less : (p : Place) (b : ℕ) → 49 ≤ b → b ≤ 57 → indexStep (State.At p Numeral.Sign) b ≡ Moved.To (State.At p (Numeral.Less (b - 48)))
+unfolding indexStep numberStep numStep
+first-less p b h k = rw (within-yes 49 57 b h k) refl
+
 -- one more
 pub next-digit : (p : Place) (m b : ℕ) → 48 ≤ b → b ≤ 57 → m < 100000000000000000 → indexStep (State.At p (Numeral.Plus m)) b ≡ Moved.To (State.At p (Numeral.Plus (10 * m + (b - 48))))
 unfolding indexStep numberStep numStep
 next-digit p m b h k l = rw (within-yes 48 57 b h k, lt-ltb m 100000000000000000 l) refl
+
+pub next-less : (p : Place) (m b : ℕ) → 48 ≤ b → b ≤ 57 → m < 100000000000000000 → indexStep (State.At p (Numeral.Less m)) b ≡ Moved.To (State.At p (Numeral.Less (10 * m + (b - 48))))
+unfolding indexStep numberStep numStep
+next-less p m b h k l = rw (within-yes 48 57 b h k, lt-ltb m 100000000000000000 l) refl
+
+sign : (p : Place) → indexStep (State.At p Numeral.Start) 45 ≡ Moved.To (State.At p Numeral.Sign)
+unfolding indexStep numberStep numStep
+sign p = refl
 
 pub run-space : indexStep atRuns 32 ≡ Moved.To (State.In Word.Run 1)
 unfolding indexStep turnStep pick reach word bytes behind
@@ -49,6 +63,42 @@ pub right-ends : (k : ℕ) → indexStep (State.At Place.Right (Numeral.Plus k))
 unfolding indexStep numberStep numStep whole endStep pick turnAfter reach word bytes behind
 right-ends k = refl
 
+low-blank : Blank Place.Low inRange
+unfolding indexStep numberStep numStep whole endStep pick turnAfter reach word bytes behind
+low-blank = record { plus = λ k. refl; less = λ k. refl }
+
+up-blank : Blank Place.Up atFirst
+unfolding indexStep numberStep numStep whole endStep pick turnAfter reach word bytes behind
+up-blank = record { plus = λ k. refl; less = λ k. refl }
+
+row-bracket : indexStep atRows 40 ≡ Moved.To (State.In Word.Row 1)
+unfolding indexStep turnStep pick reach word bytes behind
+row-bracket = refl
+
+row-r : indexStep (State.In Word.Row 1) 114 ≡ Moved.To (State.In Word.Row 2)
+unfolding indexStep wordStep reach word bytes behind closes
+row-r = refl
+
+row-o : indexStep (State.In Word.Row 2) 111 ≡ Moved.To (State.In Word.Row 3)
+unfolding indexStep wordStep reach word bytes behind closes
+row-o = refl
+
+row-w : indexStep (State.In Word.Row 3) 119 ≡ Moved.To (State.In Word.Row 4)
+unfolding indexStep wordStep reach word bytes behind closes
+row-w = refl
+
+row-space : indexStep (State.In Word.Row 4) 32 ≡ Moved.To (State.At Place.Low Numeral.Start)
+unfolding indexStep wordStep reach word bytes behind closes
+row-space = refl
+
+row-end : indexStep atRuns 41 ≡ Moved.To (State.In Word.RowEnd 1)
+unfolding indexStep turnStep pick reach word bytes behind
+row-end = refl
+
+row-line : indexStep (State.In Word.RowEnd 1) 10 ≡ Moved.Closed atRows
+unfolding indexStep wordStep reach word bytes behind closes
+row-line = refl
+
 -- ---- a byte before others
 
 quiet-before : {text : List ℕ} {s m n : State} {i j : ℕ} → i < length text → indexStep s (getD text i 0) ≡ Moved.To m → Quiet text m (i + 1) n j → Quiet text s i n j
@@ -58,26 +108,124 @@ quiet-before h e (more q k f) = more (quiet-before h e q) k f
 value-before : {text : List ℕ} {s m n : State} {p : Place} {z : ℤ} {i j : ℕ} → i < length text → indexStep s (getD text i 0) ≡ Moved.To m → ValueAt text m (i + 1) n p z j → ValueAt text s i n p z j
 value-before h e v = record { last = v .last; place = v .place; quiet = quiet-before h e (v .quiet); inside = v .inside; ends = v .ends; next = v .next }
 
--- ---- the parts
+-- ---- numbers
 
-pub natural-from : (text : List ℕ) (i b : ℕ) (r : Natural) → b ≡ getD text i 0 → 49 ≤ b → b ≤ 57 → NaturalAt text (Numeral.Plus (b - 48)) (i + 1) r → NaturalAt text Numeral.Start i r
-natural-from text i b (Natural.Read m j) e h k n = (n .0, λ p. quiet-before {m = State.At p (Numeral.Plus (b - 48))} (byte-inside text i (omega (arith, e, h))) (rw (← e) (first-digit p b h k)) (n .1 p))
-natural-from text i b Natural.None e h k n = tt
+pub still-here : {text : List ℕ} {s : State} {i : ℕ} → Quiet text s i s (i + 0)
+still-here {text} {s} {i} = let e : i + 0 ≡ i = omega arith in rw e still
 
-pub number-from : (text : List ℕ) (b i m k : ℕ) → 0 < b → getD text k 0 ≡ b → NaturalAt text Numeral.Start i (Natural.Read m k) → NumberAt text b i (Natural.Read m (k + 1))
-number-from text b i m k h e n = (n .0, λ p s f. record { last = State.At p (Numeral.Plus m); place = k; quiet = n .1 p; inside = byte-inside text k (omega (arith, e, h)); ends = rw e (f m); next = refl })
+pub more-here : {text : List ℕ} {s n m : State} {i : ℕ} (k : ℕ) → Quiet text s i n (i + k) → i + k < length text → indexStep n (getD text (i + k) 0) ≡ Moved.To m → Quiet text s i m (i + (k + 1))
+more-here {text} {s} {n} {m} {i} k q h e = let z : i + (k + 1) ≡ i + k + 1 = omega arith in rw z (more q h e)
 
-pub right-from : (text : List ℕ) (l i r k : ℕ) → NumberAt text 41 i (Natural.Read r k) → RightAt text l i (Quick.Run l r k)
-right-from text l i r k n = (refl, n .0, n .1 Place.Right atRuns right-ends)
+-- above all numbers of k digits behind a first one
+abbrev pub top : ℕ → ℕ
+top zero = 10
+top (suc k) = 10 * top k
 
-pub run-from : (text : List ℕ) (i l k : ℕ) (q : Quick) → getD text i 0 ≡ 32 → getD text (i + 1) 0 ≡ 40 → NumberAt text 32 (i + 2) (Natural.Read l k) → RightAt text l k q → RunIn text i q
-run-from text i l k Quick.None e f n r = tt
-run-from text i l k (Quick.Run a b j) e f n r =
-    let z : i + 2 ≡ i + 1 + 1 = omega arith in
-    let v : ValueAt text (State.At Place.Left Numeral.Start) (i + 1 + 1) inRun Place.Left (pos l) k = rw z at (n .1 Place.Left inRun left-ends) in
-    let w : ValueAt text atRuns i inRun Place.Left (pos l) k = value-before {m = State.In Word.Run 1} (byte-inside text i (omega (arith, e))) (rw e run-space) (value-before {m = State.At Place.Left Numeral.Start} (byte-inside text (i + 1) (omega (arith, f))) (rw f run-bracket) v) in
-    rw (r .0) (n .0, r .1, record { middle = k; left = w; right = r .2 })
+pub top-more : (k : ℕ) → top (k + 1) ≡ 10 * top k
+top-more k = rw (add-one k) refl
 
-pub quick-from : (text : List ℕ) (s : State) (i : ℕ) (q : Quick) → s ≡ atRuns → RunIn text i q → QuickAt text s i q
-quick-from text s i (Quick.Run l r j) e h = (e, h .0, h .1, h .2)
-quick-from text s i Quick.None e h = tt
+top-add : (j k : ℕ) → top k ≤ top (j + k)
+top-add zero k = let e : 0 + k ≡ k = omega arith in rw e (omega arith)
+top-add (suc j) k = let e : suc j + k ≡ suc (j + k) = omega arith in rw e (omega (arith, top-add j k))
+
+pub top-most : (k : ℕ) → k ≤ 7 → top k ≤ 10 ^ 8
+top-most k h = let e : 7 - k + k ≡ 7 = omega arith in let l : top k ≤ top 7 = rw e at (top-add (7 - k) k) in omega (arith, l)
+
+pub digits-told : (text : List ℕ) (i first m k : ℕ) → m < top k → k ≤ 7 → ((p : Place) → Quiet text (State.At p (Numeral.Plus first)) i (State.At p (Numeral.Plus m)) (i + k)) → ((p : Place) → Quiet text (State.At p (Numeral.Less first)) i (State.At p (Numeral.Less m)) (i + k)) → DigitsAt text i first (16 * m + k)
+digits-told text i first m k h l plus less =
+    let a : (16 * m + k) / 16 ≡ m = omega arith in
+    let b : (16 * m + k) % 16 ≡ k = omega arith in
+    record { small = omega (arith, a, h, top-most k l); short = omega (arith, b, l); plus = λ p. rw (a, b) (plus p); less = λ p. rw (a, b) (less p) }
+
+pub number-told : (text : List ℕ) (i b q : ℕ) → i < length text → b ≡ getD text i 0 → 49 ≤ b → b ≤ 57 → DigitsAt text (i + 1) (b - 48) q → NumberAt text i (q + 1)
+number-told text i b q l e h k d =
+    let x : (q + 1) / 16 ≡ q / 16 = omega (arith, d .short) in
+    let y : (q + 1) % 16 ≡ q % 16 + 1 = omega (arith, d .short) in
+    let z : i + (q % 16 + 1) ≡ i + 1 + q % 16 = omega arith in
+    record {
+      small = omega (arith, x, d .small);
+      short = omega (arith, y, d .short);
+      plus = λ p. rw (x, y, z) (quiet-before {m = State.At p (Numeral.Plus (b - 48))} l (rw (← e) (first-digit p b h k)) (d .plus p));
+      less = λ p. rw (x, y, z) (quiet-before {m = State.At p (Numeral.Less (b - 48))} l (rw (← e) (first-less p b h k)) (d .less p));
+    }
+
+-- ---- runs
+
+pub body-told : (text : List ℕ) (i a b : ℕ) → i + 18 ≤ length text → NumberAt text i a → getD text (i + a % 16) 0 ≡ 32 → NumberAt text (i + a % 16 + 1) b → getD text (i + (a % 16 + b % 16 + 1)) 0 ≡ 41
+    → BodyAt text i (((a / 16) * 134217728 + b / 16) * 32 + (a % 16 + b % 16 + 1 + 1))
+body-told text i a b room x e y f =
+    let q = ((a / 16) * 134217728 + b / 16) * 32 + (a % 16 + b % 16 + 1 + 1) in
+    let l : leftOf q ≡ a / 16 = omega (arith, x .short, y .short, y .small) in
+    let r : rightOf q ≡ b / 16 = omega (arith, x .short, y .short, y .small) in
+    let n : lengthOf q ≡ a % 16 + b % 16 + 1 + 1 = omega (arith, x .short, y .short) in
+    let u : i + (a % 16 + b % 16 + 1) ≡ i + a % 16 + 1 + b % 16 = omega arith in
+    let v : i + (a % 16 + b % 16 + 1 + 1) ≡ i + a % 16 + 1 + b % 16 + 1 = omega arith in
+    let w : RunAt text (State.At Place.Left Numeral.Start) i (pos (a / 16)) (pos (b / 16)) (i + a % 16 + 1 + b % 16 + 1) = record {
+      middle = i + a % 16 + 1;
+      left = record { last = State.At Place.Left (Numeral.Plus (a / 16)); place = i + a % 16; quiet = x .plus Place.Left; inside = omega (arith, x .short, room); ends = rw e (left-ends (a / 16)); next = refl };
+      right = record { last = State.At Place.Right (Numeral.Plus (b / 16)); place = i + a % 16 + 1 + b % 16; quiet = y .plus Place.Right; inside = omega (arith, x .short, y .short, room); ends = rw (← u, f) (right-ends (b / 16)); next = refl };
+    } in
+    record { plain = record { small = omega (arith, x .small, y .small, x .short, y .short); short = omega (arith, n, x .short, y .short); run = rw (l, r, n, v) w }; least = omega (arith, n, x .short, y .short); tiny = omega (arith, x .small, y .small, x .short, y .short) }
+
+-- a byte in front of a run
+run-before : (text : List ℕ) (s m : State) (i : ℕ) (l r : ℤ) (j : ℕ) → i < length text → indexStep s (getD text i 0) ≡ Moved.To m → RunAt text m (i + 1) l r j → RunAt text s i l r j
+run-before text s m i l r j h e v = record { middle = v .middle; left = value-before {m = m} h e (v .left); right = v .right }
+
+pub first-told : (text : List ℕ) (i q : ℕ) → i < length text → getD text i 0 ≡ 40 → BodyAt text (i + 1) q → PlainAt text atFirst i (q + 1)
+first-told text i q h e b =
+    let l : leftOf (q + 1) ≡ leftOf q = omega (arith, b .least) in
+    let r : rightOf (q + 1) ≡ rightOf q = omega (arith, b .least) in
+    let n : lengthOf (q + 1) ≡ lengthOf q + 1 = omega (arith, b .least) in
+    let z : i + (lengthOf q + 1) ≡ i + 1 + lengthOf q = omega arith in
+    record { small = omega (arith, b .tiny); short = omega (arith, n, b .least); run = rw (l, r, n, z) (run-before text atFirst (State.At Place.Left Numeral.Start) i _ _ _ h (rw e run-bracket) (b .plain .run)) }
+
+pub plain-told : (text : List ℕ) (i q : ℕ) → i + 1 < length text → getD text i 0 ≡ 32 → getD text (i + 1) 0 ≡ 40 → BodyAt text (i + 2) q → PlainAt text atRuns i (q + 2)
+plain-told text i q h e f b =
+    let l : leftOf (q + 2) ≡ leftOf q = omega (arith, b .least) in
+    let r : rightOf (q + 2) ≡ rightOf q = omega (arith, b .least) in
+    let n : lengthOf (q + 2) ≡ lengthOf q + 2 = omega (arith, b .least) in
+    let z : i + (lengthOf q + 2) ≡ i + 1 + 1 + lengthOf q = omega arith in
+    let y : i + 2 ≡ i + 1 + 1 = omega arith in
+    let v : RunAt text (State.At Place.Left Numeral.Start) (i + 1 + 1) (pos (leftOf q)) (pos (rightOf q)) (i + 1 + 1 + lengthOf q) = rw y at (b .plain .run) in
+    record { small = omega (arith, b .tiny); short = omega (arith, n, b .least); run = rw (l, r, n, z) (run-before text atRuns (State.In Word.Run 1) i _ _ _ (omega arith) (rw e run-space) (run-before text (State.In Word.Run 1) (State.At Place.Left Numeral.Start) (i + 1) _ _ _ h (rw f run-bracket) v)) }
+
+-- ---- the beginnings of rows
+
+pub plus-told : (text : List ℕ) (i q : ℕ) → i + q % 16 < length text → getD text (i + q % 16) 0 ≡ 32 → NumberAt text i q → PlusAt text i (Signed.Read (pos (q / 16)) (i + q % 16 + 1))
+plus-told text i q h e x = (omega (arith, x .short), λ p n b. record { last = State.At p (Numeral.Plus (q / 16)); place = i + q % 16; quiet = x .plus p; inside = h; ends = rw e (b .plus (q / 16)); next = refl })
+
+pub less-told : (text : List ℕ) (i q : ℕ) → i + q % 16 < length text → getD text (i + q % 16) 0 ≡ 32 → NumberAt text i q → LessAt text i (Signed.Read (negℤ (pos (q / 16))) (i + q % 16 + 1))
+less-told text i q h e x = (omega (arith, x .short), λ p n b. record { last = State.At p (Numeral.Less (q / 16)); place = i + q % 16; quiet = x .less p; inside = h; ends = rw e (b .less (q / 16)); next = refl })
+
+pub sign-told : (text : List ℕ) (i : ℕ) (r : Signed) → i < length text → getD text i 0 ≡ 45 → LessAt text (i + 1) r → PlusAt text i r
+sign-told text i (Signed.Read z j) h e x = (omega (arith, x .0), λ p n b. value-before {m = State.At p Numeral.Sign} h (rw e (sign p)) (x .1 p n b))
+sign-told text i Signed.None h e x = tt
+
+pub range-told : (text : List ℕ) (i : ℕ) (low up : ℤ) (j k : ℕ) → Opens text i → PlusAt text (i + 5) (Signed.Read low j) → PlusAt text j (Signed.Read up k) → RowAt text i low up k
+range-told text i low up j k o x y =
+    let z : i + 5 ≡ i + 1 + 1 + 1 + 1 + 1 = omega arith in
+    let b : getD text (i + 1 + 1) 0 ≡ 111 = let e : i + 1 + 1 ≡ i + 2 = omega arith in rw e (o .third) in
+    let c : getD text (i + 1 + 1 + 1) 0 ≡ 119 = let e : i + 1 + 1 + 1 ≡ i + 3 = omega arith in rw e (o .fourth) in
+    let d : getD text (i + 1 + 1 + 1 + 1) 0 ≡ 32 = let e : i + 1 + 1 + 1 + 1 ≡ i + 4 = omega arith in rw e (o .fifth) in
+    let v : ValueAt text (State.At Place.Low Numeral.Start) (i + 1 + 1 + 1 + 1 + 1) inRange Place.Low low j = rw z at (x .1 Place.Low inRange low-blank) in
+    record {
+      middle = j;
+      lower =
+          value-before {m = State.In Word.Row 1} (omega (arith, o .room)) (rw (o .first) row-bracket)
+          (value-before {m = State.In Word.Row 2} (omega (arith, o .room)) (rw (o .second) row-r)
+          (value-before {m = State.In Word.Row 3} (omega (arith, o .room)) (rw b row-o)
+          (value-before {m = State.In Word.Row 4} (omega (arith, o .room)) (rw c row-w)
+          (value-before {m = State.At Place.Low Numeral.Start} (omega (arith, o .room)) (rw d row-space) v))));
+      upper = y .1 Place.Up atFirst up-blank;
+    }
+
+-- a row's end
+pub ends-told : (text : List ℕ) (i : ℕ) → Ends text i → ClosedAt text atRuns i atRows (i + 2)
+ends-told text i x = record {
+  last = State.In Word.RowEnd 1;
+  place = i + 1;
+  quiet = more {m = State.In Word.RowEnd 1} still (byte-inside text i (omega (arith, x .first))) (rw (x .first) row-end);
+  inside = byte-inside text (i + 1) (omega (arith, x .second));
+  ends = rw (x .second) row-line;
+  next = omega arith;
+}

@@ -1,19 +1,20 @@
--- What comes next in an index text, by the steps of its automaton: bytes that say nothing (`Quiet`), then one that ends a number or a row, that is refused, or the text's end. A run is two numbers. What every such step keeps, an event keeps (`quiet-keeps`, `value-keeps`, `run-keeps`). Assumes nothing.
+-- What comes next in an index text, by the steps of its automaton: bytes that say nothing (`Quiet`), then one that ends a number or a row, that is refused, or the text's end. A run is two numbers, a row's beginning two and a run. What every such step keeps, an event keeps (`quiet-keeps`, `value-keeps`, `run-keeps`, `row-keeps`, `runs-keeps`). Assumes nothing.
 use mathlib.Core.Path.{_≡_, refl, sym}
 use mathlib.Core.List.{List}
-use Prim.Native.Nat.{ℕ, _+_, _<_, _≤_, _^_}
+use Prim.Native.Nat.{ℕ, _+_, _/_, _%_, _<_, _≤_, _^_}
 use native.Mathlib.Omega.{arith}
-use lib.IntN.{ℤ, pos}
+use lib.IntN.{ℤ, pos, negℤ}
 use lib.ListN.{length, getD}
 use Rattle.text_numbers.specs.declared.Numeral.{Numeral}
+use Rattle.text_index.specs.declared.Word.{Word}
 use Rattle.text_index.specs.declared.Place.{Place}
 use Rattle.text_index.specs.declared.Turn.{Turn}
 use Rattle.text_index.specs.declared.State.{State}
 use Rattle.text_index.specs.declared.Moved.{Moved}
 use Rattle.text_index.specs.Step.{indexStep, GoodState}
 use Rattle.text_index.specs.View.{step-good}
-use Rattle.text_event.specs.declared.Natural.{Natural}
-use Rattle.text_event.specs.declared.Quick.{Quick}
+use Rattle.text_event.specs.declared.Signed.{Signed}
+use Rattle.text_event.specs.declared.Range.{Range}
 use Rattle.text_event.specs.declared.Event.{Event}
 
 -- from a state at a place to another over bytes that say nothing
@@ -47,42 +48,119 @@ inRun = State.At Place.Right Numeral.Start
 abbrev pub atRuns : State
 atRuns = State.Before Turn.Runs
 
+-- behind the blank in front of a row's first run
+abbrev pub atFirst : State
+atFirst = State.In Word.Run 1
+
+-- where a row may begin
+abbrev pub atRows : State
+atRows = State.Before Turn.Rows
+
+-- between the two ends of a row's range
+abbrev pub inRange : State
+inRange = State.At Place.Up Numeral.Start
+
 -- a run ends before place j
-pub record RunAt (text : List ℕ) (i : ℕ) (l r : ℤ) (j : ℕ) : Type 0 where
+pub record RunAt (text : List ℕ) (s : State) (i : ℕ) (l r : ℤ) (j : ℕ) : Type 0 where
   pub middle : ℕ
-  pub left : ValueAt text atRuns i inRun Place.Left l middle
+  pub left : ValueAt text s i inRun Place.Left l middle
   pub right : ValueAt text inRun middle atRuns Place.Right r j
 
+-- a row's range ends before place j, and a run comes
+pub record RowAt (text : List ℕ) (i : ℕ) (low up : ℤ) (j : ℕ) : Type 0 where
+  pub middle : ℕ
+  pub lower : ValueAt text atRows i inRange Place.Low low middle
+  pub upper : ValueAt text inRange middle atFirst Place.Up up j
+
+-- a row's range and its first run
+pub record OpenAt (text : List ℕ) (i : ℕ) (low up l r : ℤ) (j : ℕ) : Type 0 where
+  pub behind : ℕ
+  pub row : RowAt text i low up behind
+  pub run : RunAt text atFirst behind l r j
+
+-- runs one after the other, from a place to another, and what they tell
+pub data RunsFrom {T : Type 0} (tell : Place → ℤ → T → T) (text : List ℕ) (t : T) (i : ℕ) : T → ℕ → Type 0 where
+  none : RunsFrom tell text t i t i
+  one : {u : T} {j l r k : ℕ} → RunsFrom tell text t i u j → RunAt text atRuns j (pos l) (pos r) k → RunsFrom tell text t i (tell Place.Right (pos r) (tell Place.Left (pos l) u)) k
+
 abbrev pub EventAt : List ℕ → State → ℕ → Event → Type 0
-EventAt text s i (Event.Run l r j) = (s ≡ atRuns) × RunAt text i l r j
+EventAt text s i (Event.Row low up l r j) = (s ≡ atRows) × OpenAt text i low up (pos l) (pos r) j
+EventAt text s i (Event.Run l r j) = (s ≡ atRuns) × RunAt text atRuns i (pos l) (pos r) j
 EventAt text s i (Event.Value n p z j) = ValueAt text s i n p z j
 EventAt text s i (Event.Closed n j) = ClosedAt text s i n j
 EventAt text s i (Event.Refuse n j) = Quiet text s i n j × (j < length text) × (indexStep n (getD text j 0) ≡ Moved.Refuse)
 EventAt text s i (Event.End n j) = Quiet text s i n j × (length text ≤ j)
 
--- ---- the parts of a run
+-- ---- the parts of a run, and of a row's beginning, told as one number
 
--- a number that has been read so far goes on to one of at most ten digits
-abbrev pub NaturalAt : List ℕ → Numeral → ℕ → Natural → Type 0
-NaturalAt text n i (Natural.Read m j) = (m < 10 ^ 10) × ((p : Place) → Quiet text (State.At p n) i (State.At p (Numeral.Plus m)) j)
-NaturalAt text n i Natural.None = Unit {0}
+-- digits behind a number that has been read so far
+pub record DigitsAt (text : List ℕ) (i m q : ℕ) : Type 0 where
+  pub small : q / 16 < 10 ^ 8
+  pub short : q % 16 ≤ 7
+  pub plus : (p : Place) → Quiet text (State.At p (Numeral.Plus m)) i (State.At p (Numeral.Plus (q / 16))) (i + q % 16)
+  pub less : (p : Place) → Quiet text (State.At p (Numeral.Less m)) i (State.At p (Numeral.Less (q / 16))) (i + q % 16)
 
--- a number with a byte behind it, wherever that byte ends a number
-abbrev pub NumberAt : List ℕ → ℕ → ℕ → Natural → Type 0
-NumberAt text b i (Natural.Read m j) = (m < 10 ^ 10) × ((p : Place) (n : State) → ((k : ℕ) → indexStep (State.At p (Numeral.Plus k)) b ≡ Moved.Value n p (pos k)) → ValueAt text (State.At p Numeral.Start) i n p (pos m) j)
-NumberAt text b i Natural.None = Unit {0}
+-- a number of at most eight digits
+pub record NumberAt (text : List ℕ) (i q : ℕ) : Type 0 where
+  pub small : q / 16 < 10 ^ 8
+  pub short : q % 16 ≤ 8
+  pub plus : (p : Place) → Quiet text (State.At p Numeral.Start) i (State.At p (Numeral.Plus (q / 16))) (i + q % 16)
+  pub less : (p : Place) → Quiet text (State.At p Numeral.Sign) i (State.At p (Numeral.Less (q / 16))) (i + q % 16)
 
-abbrev pub RightAt : List ℕ → ℕ → ℕ → Quick → Type 0
-RightAt text l i (Quick.Run k r j) = (k ≡ l) × (r < 10 ^ 10) × ValueAt text inRun i atRuns Place.Right (pos r) j
-RightAt text l i Quick.None = Unit {0}
+-- the ends of a run and how many bytes it has
+abbrev pub leftOf : ℕ → ℕ
+leftOf q = q / 4294967296
 
-abbrev pub RunIn : List ℕ → ℕ → Quick → Type 0
-RunIn text i (Quick.Run l r j) = (l < 10 ^ 10) × (r < 10 ^ 10) × RunAt text i (pos l) (pos r) j
-RunIn text i Quick.None = Unit {0}
+abbrev pub rightOf : ℕ → ℕ
+rightOf q = q / 32 % 134217728
 
-abbrev pub QuickAt : List ℕ → State → ℕ → Quick → Type 0
-QuickAt text s i (Quick.Run l r j) = (s ≡ atRuns) × (l < 10 ^ 10) × (r < 10 ^ 10) × RunAt text i (pos l) (pos r) j
-QuickAt text s i Quick.None = Unit {0}
+abbrev pub lengthOf : ℕ → ℕ
+lengthOf q = q % 32
+
+-- a run from a state on
+pub record PlainAt (text : List ℕ) (s : State) (i q : ℕ) : Type 0 where
+  pub small : q < 2 ^ 60
+  pub short : lengthOf q ≤ 20
+  pub run : RunAt text s i (pos (leftOf q)) (pos (rightOf q)) (i + lengthOf q)
+
+-- a run behind its bracket
+pub record BodyAt (text : List ℕ) (i q : ℕ) : Type 0 where
+  pub plain : PlainAt text (State.At Place.Left Numeral.Start) i q
+  pub least : lengthOf q ≤ 18
+  pub tiny : q < 2 ^ 59
+
+-- where a blank behind a number leads
+pub record Blank (p : Place) (n : State) : Type 0 where
+  pub plus : (k : ℕ) → indexStep (State.At p (Numeral.Plus k)) 32 ≡ Moved.Value n p (pos k)
+  pub less : (k : ℕ) → indexStep (State.At p (Numeral.Less k)) 32 ≡ Moved.Value n p (negℤ (pos k))
+
+-- a number with a blank behind it
+abbrev pub PlusAt : List ℕ → ℕ → Signed → Type 0
+PlusAt text i (Signed.Read z j) = (j ≤ i + 10) × ((p : Place) (n : State) → Blank p n → ValueAt text (State.At p Numeral.Start) i n p z j)
+PlusAt text i Signed.None = Unit {0}
+
+-- behind its sign
+abbrev pub LessAt : List ℕ → ℕ → Signed → Type 0
+LessAt text i (Signed.Read z j) = (j ≤ i + 9) × ((p : Place) (n : State) → Blank p n → ValueAt text (State.At p Numeral.Sign) i n p z j)
+LessAt text i Signed.None = Unit {0}
+
+-- `(row ` and twenty bytes
+pub record Opens (text : List ℕ) (i : ℕ) : Type 0 where
+  pub room : i + 25 ≤ length text
+  pub first : getD text i 0 ≡ 40
+  pub second : getD text (i + 1) 0 ≡ 114
+  pub third : getD text (i + 2) 0 ≡ 111
+  pub fourth : getD text (i + 3) 0 ≡ 119
+  pub fifth : getD text (i + 4) 0 ≡ 32
+
+abbrev pub RangeAt : List ℕ → ℕ → Range → Type 0
+RangeAt text i (Range.Read low up j) = RowAt text i low up j
+RangeAt text i Range.None = Unit {0}
+
+-- the bytes that end a row
+pub record Ends (text : List ℕ) (i : ℕ) : Type 0 where
+  pub first : getD text i 0 ≡ 41
+  pub second : getD text (i + 1) 0 ≡ 10
 
 -- ---- what an event keeps
 
@@ -96,8 +174,16 @@ module _ {T : Type 0} (tell : Place → ℤ → T → T) (text : List ℕ) (P : 
   pub value-keeps : {s : State} {i : ℕ} {n : State} {p : Place} {z : ℤ} {j : ℕ} (t : T) → ValueAt text s i n p z j → P s t i → P n (tell p z t) j
   value-keeps {s} {i} {n} {p} {z} {j} t v k = rw (v .next) (value (v .last) t (v .place) (quiet-keeps t (v .quiet) k) (v .inside) n p z (v .ends))
 
-  pub run-keeps : {i : ℕ} {l r : ℤ} {j : ℕ} (t : T) → RunAt text i l r j → P atRuns t i → P atRuns (tell Place.Right r (tell Place.Left l t)) j
-  run-keeps {i} {l} {r} {j} t v k = value-keeps (tell Place.Left l t) (v .right) (value-keeps t (v .left) k)
+  pub run-keeps : {s : State} {i : ℕ} {l r : ℤ} {j : ℕ} (t : T) → RunAt text s i l r j → P s t i → P atRuns (tell Place.Right r (tell Place.Left l t)) j
+  run-keeps {s} {i} {l} {r} {j} t v k = value-keeps (tell Place.Left l t) (v .right) (value-keeps t (v .left) k)
+
+  pub row-keeps : {i : ℕ} {low up l r : ℤ} {j : ℕ} (t : T) → OpenAt text i low up l r j → P atRows t i → P atRuns (tell Place.Right r (tell Place.Left l (tell Place.Up up (tell Place.Low low t)))) j
+  row-keeps {i} {low} {up} {l} {r} {j} t v k =
+      run-keeps (tell Place.Up up (tell Place.Low low t)) (v .run) (value-keeps (tell Place.Low low t) (v .row .upper) (value-keeps t (v .row .lower) k))
+
+  pub runs-keeps : {t u : T} {i j : ℕ} → RunsFrom tell text t i u j → P atRuns t i → P atRuns u j
+  runs-keeps none k = k
+  runs-keeps (one {u} m v) k = run-keeps u v (runs-keeps m k)
 
 -- ---- places go up
 
@@ -108,8 +194,15 @@ quiet-up (more q h e) = omega (arith, quiet-up q)
 pub value-up : {text : List ℕ} {s : State} {i : ℕ} {n : State} {p : Place} {z : ℤ} {j : ℕ} → ValueAt text s i n p z j → (i < j) × (j ≤ length text)
 value-up v = (omega (arith, quiet-up (v .quiet), v .next), omega (arith, v .inside, v .next))
 
-pub run-up : {text : List ℕ} {i : ℕ} {l r : ℤ} {j : ℕ} → RunAt text i l r j → (i < j) × (j ≤ length text)
+pub run-up : {text : List ℕ} {s : State} {i : ℕ} {l r : ℤ} {j : ℕ} → RunAt text s i l r j → (i < j) × (j ≤ length text)
 run-up v = let a = value-up (v .left) in let b = value-up (v .right) in (omega (arith, a .0, b .0), b .1)
+
+pub runs-up : {T : Type 0} {tell : Place → ℤ → T → T} {text : List ℕ} {t u : T} {i j : ℕ} → RunsFrom tell text t i u j → i ≤ length text → (i ≤ j) × (j ≤ length text)
+runs-up none h = (omega arith, h)
+runs-up (one m v) h = let a = runs-up m h in let b = run-up v in (omega (arith, a .0, b .0), b .1)
+
+pub row-up : {text : List ℕ} {i : ℕ} {low up l r : ℤ} {j : ℕ} → OpenAt text i low up l r j → (i < j) × (j ≤ length text)
+row-up v = let a = value-up (v .row .lower) in let b = value-up (v .row .upper) in let d = run-up (v .run) in (omega (arith, a .0, b .0, d .0), d .1)
 
 pub closed-up : {text : List ℕ} {s : State} {i : ℕ} {n : State} {j : ℕ} → ClosedAt text s i n j → (i < j) × (j ≤ length text)
 closed-up v = (omega (arith, quiet-up (v .quiet), v .next), omega (arith, v .inside, v .next))

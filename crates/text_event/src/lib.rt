@@ -1,130 +1,272 @@
-// What comes next in an index text: a loop over a text takes a number, a row's end or a whole run at a time, and the bytes between them are read here. A run of two small numbers, of which a text has the most, is read without the automaton's states.
+// What comes next in an index text: a loop over a text takes a number, a row's end, a run or a row's beginning at a time, and the bytes between them are read here. Runs of two small numbers, of which a text has the most, and the beginnings of rows are read without the automaton's states.
+// Small numbers are told as one number, so that nothing goes through memory for each run: a natural number as 16 times its value and its length, a run as its ends and its length (`leftOf`, `rightOf`, `lengthOf`). 0 is none.
 use text_index::Moved;
 use text_index::Place;
 use text_index::State;
 use text_index::Turn;
 use text_index::index_step;
 use text_numbers::letter;
-ghost use Prim.Native.Nat.{_<_, _^_};
-ghost use Rattle.text_numbers.specs.declared.Numeral.{Numeral};
+ghost use mathlib.Core.Path.{_≡_};
+ghost use mathlib.Core.Bool.{true};
+ghost use Prim.Native.Nat.{_+_, _<_, _≤_, _^_};
+ghost use lib.IntN.{pos, negℤ};
+ghost use lib.ListN.{length};
 ghost use Rattle.text_index.specs.Step.{GoodState};
-ghost use Rattle.text_event.specs.Event.{NaturalAt, NumberAt, RightAt, RunIn, QuickAt, EventAt};
+ghost use Rattle.text_event.specs.Event.{leftOf, rightOf, lengthOf, DigitsAt, NumberAt, BodyAt, PlainAt, atRuns, atFirst, atRows, PlusAt, LessAt, RangeAt, Opens, Ends, EventAt};
 
-// A number without a sign, and the place behind it; none where no such number stands.
-pub enum Natural {
-    Read(u64, usize),
+// A number with a blank behind it, and the place behind that; none where none stands.
+pub enum Signed {
+    Read(i64, usize),
     None,
 }
 
-// A run, its two ends and the place behind it; none where no such run stands.
-pub enum Quick {
-    Run(u64, u64, usize),
+// The beginning of a row up to its first run, the ends of its range and the place behind it; none where none stands.
+pub enum Range {
+    Read(i64, i64, usize),
     None,
 }
 
-// What comes next: a run; a number that ended; a row that ended, each with the place behind it; a byte that no text could have; the text's end.
+// What comes next: a row's range and its first run; a run; a number that ended; a row that ended, each with the place behind it; a byte that no text could have; the text's end.
 pub enum Event {
-    Run(i64, i64, usize),
+    Row(i64, i64, u32, u32, usize),
+    Run(u32, u32, usize),
     Value(State, Place, i64, usize),
     Closed(State, usize),
     Refuse(State, usize),
     End(State, usize),
 }
 
-// The digits from a place on, behind the number that they go on with; no more than ten in all.
-fn digits(text: &[u8], at: usize, number: u64) -> Natural
-    requires { ⌜ number < 10 ^ 10 ⌝ }
-    ensures { λ r. ⌜ NaturalAt (now (text .entry)) (Numeral.Plus number) at r ⌝ }
+// At most seven digits behind a first one.
+fn digits(text: &[u8], at: usize, first: u64) -> u64
+    requires { ⌜ (first < 10) × (at + 7 ≤ length (now text)) ⌝ }
+    ensures { λ q. ⌜ DigitsAt (now (text .entry)) at first q ⌝ }
 {
-    let mut m = number;
-    let mut i = at;
-    while i < text.len() {
-        let b = text[i];
+    let mut m = first;
+    let mut k: usize = 0;
+    while k < 7 {
+        let b = text[at + k];
         if b < 48 {
-            return Natural::Read(m, i);
+            return 16 * m + (k as u64);
         }
         if 57 < b {
-            return Natural::Read(m, i);
-        }
-        if 1000000000 <= m {
-            return Natural::Read(m, i);
+            return 16 * m + (k as u64);
         }
         m = 10 * m + ((b - 48) as u64);
-        i += 1;
+        k += 1;
     }
-    Natural::Read(m, i)
+    16 * m + (k as u64)
 }
 
-// A number that begins with one of the digits 1 to 9.
-fn natural_at(text: &[u8], at: usize) -> Natural
-    ensures { λ r. ⌜ NaturalAt (now (text .entry)) Numeral.Start at r ⌝ }
+// A number of at most eight digits that begins with one of 1 to 9.
+fn number_at(text: &[u8], at: usize) -> u64
+    requires { ⌜ at + 8 ≤ length (now text) ⌝ }
+    ensures { λ q. ⌜ (0 < q → NumberAt (now (text .entry)) at q) ⌝ }
 {
-    let b = letter(text, at);
+    let b = text[at];
     if b < 49 {
-        return Natural::None;
+        return 0;
     }
     if 57 < b {
-        return Natural::None;
+        return 0;
     }
-    digits(text, at + 1, (b - 48) as u64)
+    digits(text, at + 1, (b - 48) as u64) + 1
 }
 
-// The same with a byte behind it.
-fn number_before(text: &[u8], at: usize, byte: u8) -> Natural
-    requires { ⌜ 0 < byte ⌝ }
-    ensures { λ r. ⌜ NumberAt (now (text .entry)) byte at r ⌝ }
+// A run behind its bracket.
+fn run_body(text: &[u8], at: usize) -> u64
+    requires { ⌜ at + 18 ≤ length (now text) ⌝ }
+    ensures { λ q. ⌜ (0 < q → BodyAt (now (text .entry)) at q) ⌝ }
 {
-    match natural_at(text, at) {
-        Natural::Read(m, k) => {
-            if letter(text, k) == byte {
-                return Natural::Read(m, k + 1);
-            }
-            Natural::None
-        }
-        Natural::None => Natural::None,
+    let a = number_at(text, at);
+    if a == 0 {
+        return 0;
     }
+    let m = a % 16;
+    if text[at + (m as usize)] != 32 {
+        return 0;
+    }
+    let b = number_at(text, at + (m as usize) + 1);
+    if b == 0 {
+        return 0;
+    }
+    let n = m + b % 16 + 1;
+    if text[at + (n as usize)] != 41 {
+        return 0;
+    }
+    ((a / 16) * 134217728 + b / 16) * 32 + (n + 1)
 }
 
-// The right end of a run and what ends it.
-fn run_end(text: &[u8], l: u64, at: usize) -> Quick
-    ensures { λ r. ⌜ RightAt (now (text .entry)) l at r ⌝ }
+// There are twenty bytes from a place on, as many as a run can have here.
+fn roomy(text: &[u8], at: usize) -> bool
+    ensures { λ r. ⌜ (r ≡ true → at + 20 ≤ length (now (text .entry))) ⌝ }
 {
-    match number_before(text, at, 41) {
-        Natural::Read(r, k) => Quick::Run(l, r, k),
-        Natural::None => Quick::None,
+    if text.len() < 20 {
+        return false;
     }
-}
-
-// A run.
-fn run_at(text: &[u8], at: usize) -> Quick
-    ensures { λ r. ⌜ RunIn (now (text .entry)) at r ⌝ }
-{
-    if letter(text, at) != 32 {
-        return Quick::None;
-    }
-    if letter(text, at + 1) != 40 {
-        return Quick::None;
-    }
-    match number_before(text, at + 2, 32) {
-        Natural::Read(l, k) => run_end(text, l, k),
-        Natural::None => Quick::None,
-    }
+    at <= text.len() - 20
 }
 
 // A run, where one may stand.
-fn quick_run(text: &[u8], s: State, at: usize) -> Quick
-    ensures { λ r. ⌜ QuickAt (now (text .entry)) s at r ⌝ }
+pub fn plain_run(text: &[u8], at: usize) -> u64
+    ensures { λ q. ⌜ (0 < q → PlainAt (now (text .entry)) atRuns at q) ⌝ }
 {
-    match s {
-        State::In(_, _) => Quick::None,
-        State::At(_, _) => Quick::None,
-        State::Before(t) => match t {
-            Turn::One(_) => Quick::None,
-            Turn::Rows => Quick::None,
-            Turn::Runs => run_at(text, at),
-        },
-        State::Done => Quick::None,
+    if !roomy(text, at) {
+        return 0;
     }
+    if text[at] != 32 {
+        return 0;
+    }
+    if text[at + 1] != 40 {
+        return 0;
+    }
+    let q = run_body(text, at + 2);
+    if q == 0 {
+        return 0;
+    }
+    q + 2
+}
+
+// The first run of a row, behind its blank.
+fn first_run(text: &[u8], at: usize) -> u64
+    ensures { λ q. ⌜ (0 < q → PlainAt (now (text .entry)) atFirst at q) ⌝ }
+{
+    if !roomy(text, at) {
+        return 0;
+    }
+    if text[at] != 40 {
+        return 0;
+    }
+    let q = run_body(text, at + 1);
+    if q == 0 {
+        return 0;
+    }
+    q + 1
+}
+
+pub fn run_left(q: u64) -> u32
+    ensures { λ l. ⌜ l ≡ leftOf q ⌝ }
+{
+    (q / 4294967296) as u32
+}
+
+pub fn run_right(q: u64) -> u32
+    ensures { λ r. ⌜ r ≡ rightOf q ⌝ }
+{
+    (q / 32 % 134217728) as u32
+}
+
+pub fn run_length(q: u64) -> usize
+    ensures { λ n. ⌜ n ≡ lengthOf q ⌝ }
+{
+    (q % 32) as usize
+}
+
+fn positive(m: u64) -> i64
+    requires { ⌜ m < 10 ^ 8 ⌝ }
+    ensures { λ z. ⌜ z ≡ pos m ⌝ }
+{
+    m as i64
+}
+
+fn negative(m: u64) -> i64
+    requires { ⌜ m < 10 ^ 8 ⌝ }
+    ensures { λ z. ⌜ z ≡ negℤ (pos m) ⌝ }
+{
+    0 - (m as i64)
+}
+
+// A number without a sign, and a blank.
+fn plus_at(text: &[u8], at: usize) -> Signed
+    requires { ⌜ at + 9 ≤ length (now text) ⌝ }
+    ensures { λ r. ⌜ PlusAt (now (text .entry)) at r ⌝ }
+{
+    let q = number_at(text, at);
+    if q == 0 {
+        return Signed::None;
+    }
+    let j = at + ((q % 16) as usize);
+    if text[j] != 32 {
+        return Signed::None;
+    }
+    Signed::Read(positive(q / 16), j + 1)
+}
+
+// A number behind its sign, and a blank.
+fn less_at(text: &[u8], at: usize) -> Signed
+    requires { ⌜ at + 9 ≤ length (now text) ⌝ }
+    ensures { λ r. ⌜ LessAt (now (text .entry)) at r ⌝ }
+{
+    let q = number_at(text, at);
+    if q == 0 {
+        return Signed::None;
+    }
+    let j = at + ((q % 16) as usize);
+    if text[j] != 32 {
+        return Signed::None;
+    }
+    Signed::Read(negative(q / 16), j + 1)
+}
+
+// A number with or without a sign, and a blank.
+fn signed_at(text: &[u8], at: usize) -> Signed
+    requires { ⌜ at + 10 ≤ length (now text) ⌝ }
+    ensures { λ r. ⌜ PlusAt (now (text .entry)) at r ⌝ }
+{
+    if text[at] == 45 {
+        return less_at(text, at + 1);
+    }
+    plus_at(text, at)
+}
+
+// The bytes from a place on are `(row `, and twenty and more come behind them.
+fn opens(text: &[u8], at: usize) -> bool
+    ensures { λ r. ⌜ (r ≡ true → Opens (now (text .entry)) at) ⌝ }
+{
+    if text.len() < 25 {
+        return false;
+    }
+    if text.len() - 25 < at {
+        return false;
+    }
+    if text[at] != 40 {
+        return false;
+    }
+    if text[at + 1] != 114 {
+        return false;
+    }
+    if text[at + 2] != 111 {
+        return false;
+    }
+    if text[at + 3] != 119 {
+        return false;
+    }
+    text[at + 4] == 32
+}
+
+// The beginning of a row.
+fn range_at(text: &[u8], at: usize) -> Range
+    ensures { λ r. ⌜ RangeAt (now (text .entry)) at r ⌝ }
+{
+    if !opens(text, at) {
+        return Range::None;
+    }
+    match signed_at(text, at + 5) {
+        Signed::Read(low, j) => match signed_at(text, j) {
+            Signed::Read(up, k) => Range::Read(low, up, k),
+            Signed::None => Range::None,
+        },
+        Signed::None => Range::None,
+    }
+}
+
+// The bytes from a place on end a row.
+fn ends(text: &[u8], at: usize) -> bool
+    ensures { λ r. ⌜ (r ≡ true → Ends (now (text .entry)) at) ⌝ }
+{
+    if letter(text, at) != 41 {
+        return false;
+    }
+    letter(text, at + 1) == 10
 }
 
 // Reads on byte by byte.
@@ -154,13 +296,49 @@ fn byte_event(text: &[u8], s: State, at: usize) -> Event
     Event::End(n, i)
 }
 
+// Reads on where a row may begin.
+fn rows_event(text: &[u8], at: usize) -> Event
+    ensures { λ r. ⌜ EventAt (now (text .entry)) atRows at r ⌝ }
+{
+    match range_at(text, at) {
+        Range::Read(low, up, j) => {
+            let q = first_run(text, j);
+            if q == 0 {
+                return byte_event(text, State::Before(Turn::Rows), at);
+            }
+            Event::Row(low, up, run_left(q), run_right(q), j + run_length(q))
+        }
+        Range::None => byte_event(text, State::Before(Turn::Rows), at),
+    }
+}
+
+// Reads on where a run may stand.
+fn runs_event(text: &[u8], at: usize) -> Event
+    ensures { λ r. ⌜ EventAt (now (text .entry)) atRuns at r ⌝ }
+{
+    let q = plain_run(text, at);
+    if q != 0 {
+        return Event::Run(run_left(q), run_right(q), at + run_length(q));
+    }
+    if ends(text, at) {
+        return Event::Closed(State::Before(Turn::Rows), at + 2);
+    }
+    byte_event(text, State::Before(Turn::Runs), at)
+}
+
 // Reads on.
 pub fn next_event(text: &[u8], s: State, at: usize) -> Event
     requires { ⌜ GoodState s ⌝ }
     ensures { λ r. ⌜ EventAt (now (text .entry)) s at r ⌝ }
 {
-    match quick_run(text, s, at) {
-        Quick::Run(l, r, k) => Event::Run(l as i64, r as i64, k),
-        Quick::None => byte_event(text, s, at),
+    match s {
+        State::In(_, _) => byte_event(text, s, at),
+        State::At(_, _) => byte_event(text, s, at),
+        State::Before(t) => match t {
+            Turn::One(_) => byte_event(text, s, at),
+            Turn::Rows => rows_event(text, at),
+            Turn::Runs => runs_event(text, at),
+        },
+        State::Done => byte_event(text, s, at),
     }
 }

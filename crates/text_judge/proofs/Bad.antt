@@ -40,7 +40,7 @@ of-both e f = rw (e, f) refl
 
 -- ---- numbers
 
-held-pos : (n : ℕ) → n ≤ 4294967295 → held (pos n) ≡ n
+pub held-pos : (n : ℕ) → n ≤ 4294967295 → held (pos n) ≡ n
 unfolding held
 held-pos n h = rw (le-ltb n 0 (omega arith), le-ltb 4294967295 n h) refl
 

@@ -2,7 +2,7 @@
 use mathlib.Core.Path.{_≡_}
 use mathlib.Core.List.{List}
 use Prim.Native.Nat.{ℕ, _+_, _<_, _≤_}
-use lib.IntN.{ℤ}
+use lib.IntN.{ℤ, pos}
 use lib.ListN.{length, getD}
 use Rattle.meaning_text.specs.Read.{unfit}
 use Rattle.meaning_text.proofs.Automaton.{atEnd}
@@ -12,9 +12,9 @@ use Rattle.text_index.specs.declared.Moved.{Moved}
 use Rattle.text_index.specs.Step.{indexStep}
 use Rattle.text_index.specs.View.{keptAt, endOf, Whole, Kept, kept-to, kept-value, kept-closed, kept-refuse, kept-end}
 use Rattle.text_event.specs.declared.Event.{Event}
-use Rattle.text_event.specs.Event.{Quiet, EventAt, quiet-keeps, value-keeps, run-keeps}
+use Rattle.text_event.specs.Event.{Quiet, RunAt, RunsFrom, EventAt, atRuns, quiet-keeps, value-keeps, run-keeps, row-keeps, runs-keeps}
 use Rattle.text_judge.specs.declared.Tally.{Tally}
-use Rattle.text_judge.specs.Tally.{startTally, tellTally, shutTally, Fits}
+use Rattle.text_judge.specs.Tally.{startTally, tellTally, shutTally, toldRun, Fits}
 use Rattle.text_judge.proofs.Seen.{same-fits, tell-fits, shut-fits}
 
 module _ (text : List ℕ) where
@@ -27,12 +27,23 @@ module _ (text : List ℕ) where
   value : (s : State) (t : Tally) (i : ℕ) → Scanning s t i → i < length text → (n : State) (p : Place) (z : ℤ) → indexStep s (getD text i 0) ≡ Moved.Value n p z → Scanning n (tellTally p z t) (i + 1)
   value s t i r h n p z e = (kept-value tellTally shutTally startTally text s t i (r .0) h n p z e, tell-fits p z t i (r .1))
 
+  -- runs one after the other
+  pub scan-runs : {t u : Tally} {i j : ℕ} → RunsFrom tellTally text t i u j → Scanning atRuns t i → Scanning atRuns u j
+  scan-runs = runs-keeps tellTally text Scanning to value
+
+  -- the counts stay small over a run
+  pub run-fits : {t : Tally} {i l z j : ℕ} → RunAt text atRuns i (pos l) (pos z) j → Fits t i → Fits (toldRun l z t) j
+  run-fits {t} v f = run-keeps tellTally text (λ (s : State) (u : Tally) (k : ℕ). Fits u k) (λ s u k g h n e. same-fits u k g) (λ s u k g h n p z e. tell-fits p z u k g) t v f
+
   module _ {s : State} {t : Tally} {i : ℕ} (r : Scanning s t i) where
     quiet : {n : State} {j : ℕ} → Quiet text s i n j → Scanning n t j
     quiet q = quiet-keeps tellTally text Scanning to value t q r
 
-    pub scan-run : (l z : ℤ) (j : ℕ) → EventAt text s i (Event.Run l z j) → Scanning s (tellTally Place.Right z (tellTally Place.Left l t)) j
-    scan-run l z j e = rw (e .0) (run-keeps tellTally text Scanning to value t (e .1) (rw (e .0) at r))
+    pub scan-run : {u : Tally} (l z j : ℕ) → EventAt text s i (Event.Run l z j) → u ≡ toldRun l z t → Scanning atRuns u j
+    scan-run l z j e told = rw told (run-keeps tellTally text Scanning to value t (e .1) (rw (e .0) at r))
+
+    pub scan-row : {u : Tally} (low up : ℤ) (l z j : ℕ) → EventAt text s i (Event.Row low up l z j) → u ≡ toldRun l z (tellTally Place.Up up (tellTally Place.Low low t)) → Scanning atRuns u j
+    scan-row low up l z j e told = rw told (row-keeps tellTally text Scanning to value t (e .1) (rw (e .0) at r))
 
     pub scan-value : (n : State) (p : Place) (z : ℤ) (j : ℕ) → EventAt text s i (Event.Value n p z j) → Scanning n (tellTally p z t) j
     scan-value n p z j e = value-keeps tellTally text Scanning to value t e r

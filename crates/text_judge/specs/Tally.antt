@@ -95,6 +95,10 @@ shutTally t = record {
   row = record { low = t .row .low; up = t .row .up; left = t .row .left; runs = noRuns };
 }
 
+-- a run
+abbrev pub toldRun : ℕ → ℕ → Tally → Tally
+toldRun l r t = tellTally Place.Right (pos r) (tellTally Place.Left (pos l) t)
+
 -- after i bytes the counts are at most i
 pub record Fits (t : Tally) (i : ℕ) : Type 0 where
   pub sound : Sound (t .row .runs)

@@ -6,7 +6,9 @@ ghost use Rattle.meaning_text.specs.Texts.{indexForm};
 ghost use Rattle.meaning_text.proofs.Automaton.{atEnd};
 ghost use Rattle.text_index.specs.declared.Place.{Place};
 ghost use Rattle.text_index.specs.View.{keptAt};
-ghost use Rattle.text_judge.specs.Tally.{held, noRuns, runNext, Sound, noRows, rowNext, tellTally, shutTally, Fits, startTally, scanned, keptScanned};
+ghost use Rattle.text_event.specs.Event.{RunsFrom};
+ghost use Rattle.text_judge.specs.Tally.{held, noRuns, runNext, Sound, noRows, rowNext, tellTally, shutTally, toldRun, Fits, startTally, scanned, keptScanned};
+ghost use lib.ListN.{length};
 use judge::range_good;
 use judge::run_good;
 use judge::total_good;
@@ -14,9 +16,14 @@ use meaning_rows::Head;
 use meaning_rows::Row;
 use text_event::Event;
 use text_event::next_event;
+use text_event::plain_run;
+use text_event::run_left;
+use text_event::run_length;
+use text_event::run_right;
 use text_feed::narrow;
 use text_index::Place;
 use text_index::State;
+use text_index::Turn;
 use text_index::Word;
 
 // The runs of a row so far: how many, that they are good, the least left end that the next may have, and their lengths added up.
@@ -49,6 +56,12 @@ pub struct Tally {
     pub head: Head,
     pub rows: Rows,
     pub row: Open,
+}
+
+// What is known of a text up to a place.
+pub struct Told {
+    pub tally: Tally,
+    pub at: usize,
 }
 
 // A text cannot be read from a place on; or what its head and rows come to.
@@ -235,12 +248,51 @@ pub fn tell(t: Tally, p: Place, z: i64) -> Tally
 }
 
 // What a run says.
-pub fn tell_run(t: Tally, l: i64, r: i64) -> Tally
+pub fn tell_run(t: Tally, l: u32, r: u32) -> Tally
     requires { ⌜ Sound (t .row .runs) ⌝ }
     requires { ⌜ t .row .runs .count < 2 ^ 63 ⌝ }
-    ensures { λ n. ⌜ n ≡ tellTally Place.Right r (tellTally Place.Left l t) ⌝ }
+    ensures { λ n. ⌜ n ≡ toldRun l r t ⌝ }
 {
-    tell(tell(t, Place::Left, l), Place::Right, r)
+    let head = t.head;
+    let rows = t.rows;
+    let o = t.row;
+    let runs = o.runs;
+    Tally {
+        head,
+        rows,
+        row: Open {
+            low: o.low,
+            up: o.up,
+            left: l,
+            runs: more_run(head.windows, runs, l, r),
+        },
+    }
+}
+
+// What a row's range and its first run say.
+pub fn tell_row(t: Tally, low: i64, up: i64, l: u32, r: u32) -> Tally
+    requires { ⌜ Sound (t .row .runs) ⌝ }
+    requires { ⌜ t .row .runs .count < 2 ^ 63 ⌝ }
+    ensures { λ n. ⌜ n ≡ toldRun l r (tellTally Place.Up up (tellTally Place.Low low t)) ⌝ }
+{
+    tell_run(tell(tell(t, Place::Low, low), Place::Up, up), l, r)
+}
+
+// What the runs from a place on say, as far as they are small.
+pub fn tell_runs(text: &[u8], t: Tally, at: usize) -> Told
+    requires { ⌜ Fits t at × (at ≤ length (now text)) ⌝ }
+    ensures { λ r. ⌜ RunsFrom tellTally (now (text .entry)) t at (r .tally) (r .at) ⌝ }
+{
+    let mut tally = t;
+    let mut i = at;
+    loop {
+        let q = plain_run(text, i);
+        if q == 0 {
+            return Told { tally, at: i };
+        }
+        tally = tell_run(tally, run_left(q), run_right(q));
+        i += run_length(q);
+    }
 }
 
 // What a row's end says.
@@ -307,9 +359,16 @@ pub fn scan(text: &[u8]) -> Scanned
     let mut i = 0;
     loop {
         match next_event(text, s, i) {
+            Event::Row(low, up, l, r, at) => {
+                let w = tell_runs(text, tell_row(t, low, up, l, r), at);
+                s = State::Before(Turn::Runs);
+                t = w.tally;
+                i = w.at;
+            }
             Event::Run(l, r, at) => {
-                t = tell_run(t, l, r);
-                i = at;
+                let w = tell_runs(text, tell_run(t, l, r), at);
+                t = w.tally;
+                i = w.at;
             }
             Event::Value(n, p, z, at) => {
                 s = n;

@@ -2,9 +2,9 @@
 use mathlib.Core.Path.{_≡_, refl, sym, ap, _∙_}
 use mathlib.Core.Bool.{Bool, true, false, cond}
 use mathlib.Core.List.{List, [], _∷_, _++_, map, append-assoc, append-nil}
-use Prim.Native.Nat.{ℕ, _+_, _<_, _≤_}
+use Prim.Native.Nat.{ℕ, _+_, _<_, _≤_, _^_}
 use native.Mathlib.Omega.{arith}
-use lib.IntN.{ℤ}
+use lib.IntN.{ℤ, pos}
 use lib.ListN.{length, getD, set, length-append, length-map, length-set}
 use lib.Seq.{sets}
 use Rattle.meaning_rows.specs.Index.{Entry, RangeRow, allRuns}
@@ -21,11 +21,12 @@ use Rattle.text_index.specs.Follow.{start, Said, nothingSaid, told, closed, val
 use Rattle.text_index.specs.Order.{placePart, Order}
 use Rattle.text_index.specs.View.{keptAt, endOf, Whole, text-viewed, Kept, kept-start, kept-to, kept-value, kept-closed, kept-refuse, kept-end}
 use Rattle.text_event.specs.declared.Event.{Event}
-use Rattle.text_event.specs.Event.{Quiet, EventAt, quiet-keeps, value-keeps, run-keeps}
+use Rattle.text_event.specs.Event.{Quiet, RunsFrom, EventAt, atRuns, quiet-keeps, value-keeps, run-keeps, row-keeps, runs-keeps}
 use Rattle.text_judge.specs.Tally.{held}
+use Rattle.text_judge.proofs.Bad.{held-pos}
 use Rattle.text_judge.proofs.Prefix.{map-append}
 use Rattle.text_load.specs.Plan.{heldLefts, heldRights}
-use Rattle.text_load.specs.Runs.{isLeft, isRight, Columns, tellColumns, shutColumns, startColumns, FilledRuns}
+use Rattle.text_load.specs.Runs.{isLeft, isRight, Columns, tellColumns, runStored, shutColumns, startColumns, FilledRuns}
 
 runs-append : (a b : List RangeRow) → allRuns (a ++ b) ≡ allRuns a ++ allRuns b
 unfolding allRuns
@@ -125,6 +126,11 @@ pub record Filling (text left₀ right₀ left right : List ℕ) (s : State) (l 
 pub filling-start : (text left right : List ℕ) → Filling text left right left right (start .state) 0 0 0
 filling-start text left right = record { kept = kept-start tellColumns shutColumns (startColumns left right) text; count = omega arith; left-long = refl; right-long = refl }
 
+-- a run of numbers that are held as they are
+pub run-stored : (a b : ℕ) (t : Columns) → a < 2 ^ 32 → b < 2 ^ 32 → tellColumns Place.Right (pos b) (tellColumns Place.Left (pos a) t) ≡ runStored a b (t .count) (t .lefts) (t .rights)
+unfolding tellColumns
+run-stored a b t h g = rw (held-pos a (omega arith), held-pos b (omega arith)) refl
+
 set-long : (t : Bool) (l : List ℕ) (k x : ℕ) → length (cond t (set l k x) l) ≡ length l
 set-long true l k x = length-set l k x
 set-long false l k x = refl
@@ -138,7 +144,7 @@ module _ (text left₀ right₀ : List ℕ) where
   at-start = startColumns left₀ right₀
 
   -- the same, of columns
-  abbrev Fill : State → Columns → ℕ → Type 0
+  abbrev pub Fill : State → Columns → ℕ → Type 0
   Fill s t i = Filling text left₀ right₀ (t .lefts) (t .rights) s (t .left) (t .count) i
 
   to : (s : State) (t : Columns) (i : ℕ) → Fill s t i → i < length text → (n : State) → indexStep s (getD text i 0) ≡ Moved.To n → Fill n t (i + 1)
@@ -153,6 +159,10 @@ module _ (text left₀ right₀ : List ℕ) where
     right-long = set-long (isRight p) (t .rights) (t .count) (held z) ∙ r .right-long;
   }
 
+  -- runs one after the other
+  pub filling-runs : {t u : Columns} {i j : ℕ} → RunsFrom tellColumns text t i u j → Fill atRuns t i → Fill atRuns u j
+  filling-runs = runs-keeps tellColumns text Fill to value-to
+
   module _ {left right : List ℕ} {s : State} {l k i : ℕ} (r : Filling text left₀ right₀ left right s l k i) where
     abbrev here : Columns
     here = record { left = l; count = k; lefts = left; rights = right }
@@ -160,9 +170,13 @@ module _ (text left₀ right₀ : List ℕ) where
     quiet : {n : State} {j : ℕ} → Quiet text s i n j → Fill n here j
     quiet q = quiet-keeps tellColumns text Fill to value-to here q r
 
-    pub filling-run : (a b : ℤ) (j : ℕ) → EventAt text s i (Event.Run a b j) → Filling text left₀ right₀ (set left k (held a)) (set right k (held b)) s (held a) (k + 1) j
+    pub filling-run : (a b j : ℕ) → a < 2 ^ 32 → b < 2 ^ 32 → EventAt text s i (Event.Run a b j) → Fill atRuns (runStored a b k left right) j
     unfolding tellColumns
-    filling-run a b j e = rw (e .0) (run-keeps tellColumns text Fill to value-to here (e .1) (rw (e .0) at r))
+    filling-run a b j h g e = rw (held-pos a (omega arith), held-pos b (omega arith)) at (run-keeps tellColumns text Fill to value-to here (e .1) (rw (e .0) at r))
+
+    pub filling-row : (low up : ℤ) (a b j : ℕ) → a < 2 ^ 32 → b < 2 ^ 32 → EventAt text s i (Event.Row low up a b j) → Fill atRuns (runStored a b k left right) j
+    unfolding tellColumns
+    filling-row low up a b j h g e = rw (held-pos a (omega arith), held-pos b (omega arith)) at (row-keeps tellColumns text Fill to value-to here (e .1) (rw (e .0) at r))
 
     pub filling-value : (n : State) (p : Place) (z : ℤ) (j : ℕ) → EventAt text s i (Event.Value n p z j)
         → Filling text left₀ right₀ (cond (isRight p) (set left k l) left) (cond (isRight p) (set right k (held z)) right) n (cond (isLeft p) (held z) l) (cond (isRight p) (k + 1) k) j

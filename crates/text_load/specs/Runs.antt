@@ -51,6 +51,10 @@ tellColumns p z t = record {
 abbrev pub shutColumns : Columns → Columns
 shutColumns t = t
 
+-- a run is stored at place k, behind the others
+abbrev pub runStored : ℕ → ℕ → ℕ → List ℕ → List ℕ → Columns
+runStored l r k lefts rights = record { left = l; count = k + 1; lefts = set lefts k l; rights = set rights k r }
+
 abbrev pub startColumns : List ℕ → List ℕ → Columns
 startColumns left right = record { left = 0; count = 0; lefts = left; rights = right }
 

@@ -7,8 +7,13 @@ use meaning_rows::Row;
 use records::clear_rows;
 use text_event::Event;
 use text_event::next_event;
+use text_event::plain_run;
+use text_event::run_left;
+use text_event::run_length;
+use text_event::run_right;
 use text_index::Place;
 use text_index::State;
+use text_index::Turn;
 use text_index::Word;
 use text_judge::Rows;
 use text_judge::Scanned;
@@ -18,10 +23,11 @@ use text_reader::bad_line;
 use text_rows::fill_rows;
 ghost use mathlib.Core.Path.{_≡_};
 ghost use mathlib.Core.Bool.{cond};
-ghost use Prim.Native.Nat.{_+_, _<_, _^_};
+ghost use Prim.Native.Nat.{_+_, _<_, _≤_, _^_};
 ghost use lib.ListN.{length, set, replicate};
 ghost use Rattle.meaning_entries.specs.Demand2.{LoadKept};
-ghost use Rattle.text_load.specs.Runs.{isLeft, isRight, FilledRuns};
+ghost use Rattle.text_event.specs.Event.{RunsFrom};
+ghost use Rattle.text_load.specs.Runs.{isLeft, isRight, tellColumns, runStored, FilledRuns};
 ghost use Rattle.text_load.specs.Plan.{refusedPlan, fitPlan, planFor, Loads, planAnswer};
 
 // What is known before anything is stored: the refusal, of number 0 where there is none; else the head, and how many rows and runs there are; and from where on the row records become records of zeros.
@@ -32,6 +38,13 @@ pub struct Plan {
     pub rows: usize,
     pub runs: usize,
     pub from: usize,
+}
+
+// The left end of the last run that is stored, how many there are, and the place behind it in the text.
+pub struct Stored {
+    pub left: u32,
+    pub count: usize,
+    pub at: usize,
 }
 
 // Where so many row records are lent, none is altered.
@@ -148,6 +161,41 @@ fn pick_if(wanted: bool, x: u32, y: u32) -> u32
     if wanted { x } else { y }
 }
 
+// A run is put at place k, and behind it the runs from a place of the text on, as far as they are small.
+fn put_runs(
+    text: &[u8],
+    at: usize,
+    k: usize,
+    l: u32,
+    r: u32,
+    left: &mut [u32],
+    right: &mut [u32],
+) -> Stored
+    requires { ⌜ (k < at) × (at ≤ length (now text)) ⌝ }
+    ensures { λ w. ⌜ RunsFrom tellColumns (now (text .entry)) (runStored l r k (now (left .entry)) (now (right .entry))) at (record { left = w .left; count = w .count; lefts = now (left .exit); rights = now (right .exit) }) (w .at) ⌝ }
+{
+    put(left, k, l);
+    put(right, k, r);
+    let mut last = l;
+    let mut n = k + 1;
+    let mut i = at;
+    loop {
+        let q = plain_run(text, i);
+        if q == 0 {
+            return Stored {
+                left: last,
+                count: n,
+                at: i,
+            };
+        }
+        last = run_left(q);
+        put(left, n, last);
+        put(right, n, run_right(q));
+        n += 1;
+        i += run_length(q);
+    }
+}
+
 // The runs of a text, one after the other.
 pub fn fill_runs(text: &[u8], left: &mut [u32], right: &mut [u32])
     ensures { λ _. ⌜ FilledRuns (now (text .entry)) (now (left .entry)) (now (right .entry)) (now (left .exit)) (now (right .exit)) ⌝ }
@@ -158,12 +206,18 @@ pub fn fill_runs(text: &[u8], left: &mut [u32], right: &mut [u32])
     let mut i: usize = 0;
     loop {
         match next_event(text, s, i) {
+            Event::Row(_, _, a, b, at) => {
+                let w = put_runs(text, at, k, a, b, left, right);
+                s = State::Before(Turn::Runs);
+                l = w.left;
+                k = w.count;
+                i = w.at;
+            }
             Event::Run(a, b, at) => {
-                l = hold(a);
-                put(left, k, l);
-                put(right, k, hold(b));
-                k += 1;
-                i = at;
+                let w = put_runs(text, at, k, a, b, left, right);
+                l = w.left;
+                k = w.count;
+                i = w.at;
             }
             Event::Value(n, p, z, at) => {
                 let x = hold(z);

@@ -15,9 +15,9 @@ use Rattle.text_index.specs.Step.{indexStep, GoodState}
 use Rattle.text_index.specs.Follow.{index-good}
 use Rattle.text_index.specs.View.{step-good}
 use Rattle.text_event.specs.declared.Event.{Event}
-use Rattle.text_event.specs.Event.{Quiet, EventAt, quiet-keeps, value-keeps, run-keeps}
+use Rattle.text_event.specs.Event.{Quiet, RunsFrom, EventAt, atRuns, quiet-keeps, value-keeps, run-keeps, row-keeps, runs-keeps}
 use Rattle.text_judge.specs.declared.Tally.{Tally}
-use Rattle.text_judge.specs.Tally.{tellTally, shutTally, Fits}
+use Rattle.text_judge.specs.Tally.{tellTally, shutTally, toldRun, Fits}
 use Rattle.text_judge.proofs.Seen.{start-fits, same-fits, tell-fits, shut-fits}
 use Rattle.text_rows.specs.declared.Line.{Line}
 use Rattle.text_rows.specs.Line.{rowMade, lineEnd, lineFrom, nextLine, lineAt, stored, Ready}
@@ -77,12 +77,19 @@ module _ (text : List ℕ) (s₀ : State) (t₀ : Tally) (i₀ : ℕ) where
   unfolding lineFrom
   going-end s t i r h = rw (drop-of-length-le text h) at (r .same)
 
+  -- runs one after the other
+  pub line-runs : {t u : Tally} {i j : ℕ} → RunsFrom tellTally text t i u j → Going atRuns t i → Going atRuns u j
+  line-runs = runs-keeps tellTally text Going going-to going-value
+
   module _ {s : State} {t : Tally} {i : ℕ} (r : Going s t i) where
     quiet : {n : State} {j : ℕ} → Quiet text s i n j → Going n t j
     quiet q = quiet-keeps tellTally text Going going-to going-value t q r
 
-    pub line-run : (l z : ℤ) (j : ℕ) → EventAt text s i (Event.Run l z j) → Going s (tellTally Place.Right z (tellTally Place.Left l t)) j
-    line-run l z j e = rw (e .0) (run-keeps tellTally text Going going-to going-value t (e .1) (rw (e .0) at r))
+    pub line-run : {u : Tally} (l z j : ℕ) → EventAt text s i (Event.Run l z j) → u ≡ toldRun l z t → Going atRuns u j
+    line-run l z j e told = rw told (run-keeps tellTally text Going going-to going-value t (e .1) (rw (e .0) at r))
+
+    pub line-row : {u : Tally} (low up : ℤ) (l z j : ℕ) → EventAt text s i (Event.Row low up l z j) → u ≡ toldRun l z (tellTally Place.Up up (tellTally Place.Low low t)) → Going atRuns u j
+    line-row low up l z j e told = rw told (row-keeps tellTally text Going going-to going-value t (e .1) (rw (e .0) at r))
 
     pub line-value : (n : State) (p : Place) (z : ℤ) (j : ℕ) → EventAt text s i (Event.Value n p z j) → Going n (tellTally p z t) j
     line-value n p z j e = value-keeps tellTally text Going going-to going-value t e r

@@ -4,12 +4,15 @@ use meaning_rows::Row;
 use text_event::Event;
 use text_event::next_event;
 use text_index::State;
+use text_index::Turn;
 use text_index::Word;
 use text_judge::Tally;
 use text_judge::no_tally;
 use text_judge::shut;
 use text_judge::tell;
+use text_judge::tell_row;
 use text_judge::tell_run;
+use text_judge::tell_runs;
 use text_reader::Reader;
 use text_reader::reader_of;
 ghost use mathlib.Core.Path.{_≡_};
@@ -86,9 +89,16 @@ fn row_from(text: &[u8], at: usize, s: State, t: Tally) -> Line
     let mut i = at;
     loop {
         match next_event(text, state, i) {
+            Event::Row(low, up, l, r, j) => {
+                let w = tell_runs(text, tell_row(tally, low, up, l, r), j);
+                state = State::Before(Turn::Runs);
+                tally = w.tally;
+                i = w.at;
+            }
             Event::Run(l, r, j) => {
-                tally = tell_run(tally, l, r);
-                i = j;
+                let w = tell_runs(text, tell_run(tally, l, r), j);
+                tally = w.tally;
+                i = w.at;
             }
             Event::Value(n, q, z, j) => {
                 state = n;

@@ -1,60 +1,76 @@
--- `text_event::digits` meets its contract. The invariant: the digits so far say nothing and are those of a number of at most ten digits. The measure is what is left of the text. Assumes nothing.
-use mathlib.Core.Path.{_≡_}
-use Prim.Native.Nat.{_-_, _<_, _≤_, _^_}
+-- `text_event::digits` meets its contract. The invariant: the digits so far say nothing, and their number is below the bound for so many (`top`). The measure is how many may still come. Assumes nothing.
+use Prim.Native.Nat.{_+_, _-_, _<_, _≤_}
 use native.Mathlib.Omega.{arith}
 use borrow.Author.Needs.{needs}
 use lib.ListN.{length}
 use Rattle.text_numbers.specs.declared.Numeral.{Numeral}
 use Rattle.text_index.specs.declared.Place.{Place}
 use Rattle.text_index.specs.declared.State.{State}
-use Rattle.text_event.specs.Event.{Quiet, still, more}
-use Rattle.text_event.proofs.Steps.{next-digit}
+use Rattle.text_event.specs.Event.{Quiet}
+use Rattle.text_event.proofs.Steps.{still-here, more-here, next-digit, next-less, top, top-more, top-most, digits-told}
 use Rattle.text_event.proofs.digits.Statement.{statement}
 use Rattle.text_event.proofs.digits.Tie as tie
 
 abbrev Inv-loop : tie.InvT-loop
-Inv-loop text at number m₀ i₀ m i = (m < 10 ^ 10) × ((p : Place) → Quiet text (State.At p (Numeral.Plus number)) at (State.At p (Numeral.Plus m)) i)
+Inv-loop text at first m₀ k₀ m k =
+    (k ≤ 7) × (m < top k) × ((p : Place) → Quiet text (State.At p (Numeral.Plus first)) at (State.At p (Numeral.Plus m)) (at + k)) × ((p : Place) → Quiet text (State.At p (Numeral.Less first)) at (State.At p (Numeral.Less m)) (at + k))
 
 abbrev μ-loop : tie.MeasureT-loop
-μ-loop text at number m₀ i₀ m i = length text - i
+μ-loop text at first m₀ k₀ m k = 7 - k
 
 loop-holds : tie.Need-loop-holds Inv-loop μ-loop
-loop-holds c = (c .pre, λ p. still)
+loop-holds c = (omega arith, c .pre .0, λ p. still-here, λ p. still-here)
+
+add-b : tie.Need-add-b Inv-loop μ-loop
+add-b c = search needs
 
 shared-slice-read-b : tie.Need-shared-slice-read-b Inv-loop μ-loop
-shared-slice-read-b c = omega arith
+shared-slice-read-b c = search needs
+
+mul-result : tie.Need-mul-result Inv-loop μ-loop
+mul-result c = let l = c .before .before .before in omega (arith, l .loop .inv .0, l .loop .inv .1, top-most (l .loop .k) (l .loop .inv .0))
+
+add-result : tie.Need-add-result Inv-loop μ-loop
+add-result c = let l = c .before .before .before in omega (arith, l .loop .inv .0, l .loop .inv .1, top-most (l .loop .k) (l .loop .inv .0))
 
 returns : tie.Need-returns Inv-loop μ-loop
-returns c = c .before .before .before .loop .inv
+returns c = let l = c .before .before .before in digits-told _ _ _ _ _ (l .loop .inv .1) (l .loop .inv .0) (l .loop .inv .2) (l .loop .inv .3)
+
+mul-result-2 : tie.Need-mul-result-2 Inv-loop μ-loop
+mul-result-2 c = let l = c .before .before .before .before in omega (arith, l .loop .inv .0, l .loop .inv .1, top-most (l .loop .k) (l .loop .inv .0))
+
+add-result-2 : tie.Need-add-result-2 Inv-loop μ-loop
+add-result-2 c = let l = c .before .before .before .before in omega (arith, l .loop .inv .0, l .loop .inv .1, top-most (l .loop .k) (l .loop .inv .0))
 
 returns-2 : tie.Need-returns-2 Inv-loop μ-loop
-returns-2 c = c .before .before .before .before .loop .inv
-
-returns-3 : tie.Need-returns-3 Inv-loop μ-loop
-returns-3 c = c .before .before .before .before .before .loop .inv
+returns-2 c = let l = c .before .before .before .before in digits-told _ _ _ _ _ (l .loop .inv .1) (l .loop .inv .0) (l .loop .inv .2) (l .loop .inv .3)
 
 mul-m : tie.Need-mul-m Inv-loop μ-loop
-mul-m c = omega arith
+mul-m c = let l = c .before .before .before .before in omega (arith, l .loop .inv .0, l .loop .inv .1, top-most (l .loop .k) (l .loop .inv .0))
 
 cast-m : tie.Need-cast-m Inv-loop μ-loop
 cast-m c = search needs
 
 add-m : tie.Need-add-m Inv-loop μ-loop
-add-m c = omega (arith, c .if3 .left, c .before .if2 .left)
+add-m c = let l = c .before .before .before .before in omega (arith, l .loop .inv .0, l .loop .inv .1, top-most (l .loop .k) (l .loop .inv .0), c .if2 .left)
 
-add-i : tie.Need-add-i Inv-loop μ-loop
-add-i c = omega arith
+add-k : tie.Need-add-k Inv-loop μ-loop
+add-k c = search needs
 
 loop-less : tie.Need-loop-less Inv-loop μ-loop
-loop-less c = omega arith
+loop-less c = search needs
 
 loop-again : tie.Need-loop-again Inv-loop μ-loop
-loop-again c =
-    let l = c .before .before .before .before .before in
-    (omega (arith, c .if3 .left, c .before .if2 .left), λ p. more (l .loop .inv .1 p) (c .before .before .before .before .loop-test .taken) (next-digit p (l .loop .m) _ (c .before .before .if1 .left) (c .before .if2 .left) (omega (arith, c .if3 .left))))
+loop-again c = let l = c .before .before .before .before in let h : l .before .args .at + l .loop .k < length (l .before .args .text .now) = omega (arith, l .before .pre .1, c .before .before .before .loop-test .taken) in let n : l .loop .m < 100000000000000000 = omega (arith, l .loop .inv .0, l .loop .inv .1, top-most (l .loop .k) (l .loop .inv .0)) in (omega (arith, c .before .before .before .loop-test .taken), omega (arith, top-more (l .loop .k), l .loop .inv .1, c .before .if1 .left, c .if2 .left), λ p. more-here (l .loop .k) (l .loop .inv .2 p) h (next-digit p (l .loop .m) _ (c .before .if1 .left) (c .if2 .left) n), λ p. more-here (l .loop .k) (l .loop .inv .3 p) h (next-less p (l .loop .m) _ (c .before .if1 .left) (c .if2 .left) n))
 
-returns-4 : tie.Need-returns-4 Inv-loop μ-loop
-returns-4 c = c .before .loop .inv
+mul-result-3 : tie.Need-mul-result-3 Inv-loop μ-loop
+mul-result-3 c = let l = c .before in omega (arith, l .loop .inv .0, l .loop .inv .1, top-most (l .loop .k) (l .loop .inv .0))
+
+add-result-3 : tie.Need-add-result-3 Inv-loop μ-loop
+add-result-3 c = let l = c .before in omega (arith, l .loop .inv .0, l .loop .inv .1, top-most (l .loop .k) (l .loop .inv .0))
+
+returns-3 : tie.Need-returns-3 Inv-loop μ-loop
+returns-3 c = let l = c .before in digits-told _ _ _ _ _ (l .loop .inv .1) (l .loop .inv .0) (l .loop .inv .2) (l .loop .inv .3)
 
 pub digits-spec : {M : Type 1} → statement M
 digits-spec =
@@ -63,14 +79,20 @@ digits-spec =
     Inv-loop
     μ-loop
     loop-holds
+    add-b
     shared-slice-read-b
+    mul-result
+    add-result
     returns
+    mul-result-2
+    add-result-2
     returns-2
-    returns-3
     mul-m
     cast-m
     add-m
-    add-i
+    add-k
     loop-less
     loop-again
-    returns-4)
+    mul-result-3
+    add-result-3
+    returns-3)

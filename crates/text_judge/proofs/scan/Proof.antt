@@ -2,18 +2,26 @@
 use mathlib.Core.Path.{_≡_, sym, ap, _∙_}
 use Prim.Native.Nat.{_-_}
 use native.Mathlib.Omega.{arith}
-use borrow.Author.Needs.{needs}
 use lib.ListN.{length}
 use mir.Syntax.{w64}
 use mir.Val.{toZ, ofZ}
 use mir.ValLaws.{toZ-ofZ}
 use Rattle.text_index.specs.View.{kept-start}
-use Rattle.text_event.specs.Event.{run-up, value-up, closed-up}
+use Rattle.text_event.specs.Event.{row-up, runs-up, run-up, value-up, closed-up}
 use Rattle.text_judge.specs.Tally.{startTally, tellTally, shutTally, keptScanned}
 use Rattle.text_judge.proofs.Seen.{text-scanned, start-fits}
-use Rattle.text_judge.proofs.Events.{Scanning, scan-run, scan-value, scan-closed, scan-refuse, scan-stop}
+use Rattle.text_judge.proofs.Events.{Scanning, scan-runs, scan-run, scan-row, scan-value, scan-closed, scan-refuse, scan-stop}
+use borrow.Author.Needs.{needs}
 use Rattle.text_judge.proofs.scan.Statement.{statement}
 use Rattle.text_judge.proofs.scan.Tie as tie
+use Rattle.text_event.proofs.next_event.Reads as next-event-reads
+use Rattle.text_judge.proofs.no_tally.Reads as no-tally-reads
+use Rattle.text_judge.proofs.scan_end.Reads as scan-end-reads
+use Rattle.text_judge.proofs.shut.Reads as shut-reads
+use Rattle.text_judge.proofs.tell.Reads as tell-reads
+use Rattle.text_judge.proofs.tell_row.Reads as tell-row-reads
+use Rattle.text_judge.proofs.tell_run.Reads as tell-run-reads
+use Rattle.text_judge.proofs.tell_runs.Reads as tell-runs-reads
 
 abbrev Inv-loop : tie.InvT-loop
 Inv-loop text s₀ t₀ i₀ s t i = Scanning text s t i
@@ -30,28 +38,69 @@ loop-holds c = rw (c .no-tally .ensures) (kept-start tellTally shutTally startTa
 next-event-requires : tie.Need-next-event-requires Inv-loop μ-loop
 next-event-requires c κs = c .loop .inv .0 .good
 
+enum-known-low : tie.Need-enum-known-low Inv-loop μ-loop
+enum-known-low c = search needs
+
+tell-row-requires : tie.Need-tell-row-requires Inv-loop μ-loop
+tell-row-requires c κs = let l = c .before .before .before .before in (l .loop .inv .1 .sound, omega (arith, l .loop .inv .1 .runs, l .loop .inv .0 .inside, l .before .before .before .good))
+
+tell-runs-requires : tie.Need-tell-runs-requires Inv-loop μ-loop
+tell-runs-requires c κs =
+    let n = c .before .before in
+    let a = n .before .before in
+    let low = n .low .given .0 .0 in
+    let high = n .low .given .0 .1 .0 in
+    let e : toZ w64 (ofZ w64 low) ≡ low = toZ-ofZ w64 low (search (needs, c .before .known-told .given)) in
+    let f : toZ w64 (ofZ w64 high) ≡ high = toZ-ofZ w64 high (search (needs, c .before .known-told .given)) in
+    let y = scan-row _ (a .before .loop .inv) low high _ _ _ (rw (n .low .given .1) at (a .next-event .ensures)) (rw (e, f) at (c .tell-row .ensures)) in
+    (y .1, y .0 .inside)
+
+loop-less : tie.Need-loop-less Inv-loop μ-loop
+loop-less c =
+    let n = c .before .before .before .before in
+    let u = row-up ((rw (n .low .given .1) at (n .before .before .next-event .ensures)) .1) in
+    let v = runs-up (c .before .tell-runs .ensures) (u .1) in
+    omega (arith, u .0, u .1, v .0, v .1)
+
+loop-again : tie.Need-loop-again Inv-loop μ-loop
+loop-again c =
+    let n = c .before .before .before .before in
+    let a = n .before .before in
+    let low = n .low .given .0 .0 in
+    let high = n .low .given .0 .1 .0 in
+    let e : toZ w64 (ofZ w64 low) ≡ low = toZ-ofZ w64 low (search (needs, c .before .before .before .known-told .given)) in
+    let f : toZ w64 (ofZ w64 high) ≡ high = toZ-ofZ w64 high (search (needs, c .before .before .before .known-told .given)) in
+    let y = scan-row _ (a .before .loop .inv) low high _ _ _ (rw (n .low .given .1) at (a .next-event .ensures)) (rw (e, f) at (c .before .before .tell-row .ensures)) in
+    scan-runs _ (c .before .tell-runs .ensures) y
+
 enum-known-l : tie.Need-enum-known-l Inv-loop μ-loop
 enum-known-l c = search needs
 
 tell-run-requires : tie.Need-tell-run-requires Inv-loop μ-loop
 tell-run-requires c κs = let l = c .before .before .before .before in (l .loop .inv .1 .sound, omega (arith, l .loop .inv .1 .runs, l .loop .inv .0 .inside, l .before .before .before .good))
 
-loop-less : tie.Need-loop-less Inv-loop μ-loop
-loop-less c =
+tell-runs-requires-2 : tie.Need-tell-runs-requires-2 Inv-loop μ-loop
+tell-runs-requires-2 c κs =
     let n = c .before .before in
     let a = n .before .before in
-    let u = run-up ((rw (n .l .given .1) at (a .next-event .ensures)) .1) in
-    omega (arith, u .0, u .1)
+    let v = rw (n .l .given .1) at (a .next-event .ensures) in
+    let y = scan-run _ (a .before .loop .inv) _ _ _ v (c .tell-run .ensures) in
+    (y .1, y .0 .inside)
 
-loop-again : tie.Need-loop-again Inv-loop μ-loop
-loop-again c =
-    let n = c .before .before in
+loop-less-2 : tie.Need-loop-less-2 Inv-loop μ-loop
+loop-less-2 c =
+    let n = c .before .before .before .before in
+    let u = run-up ((rw (n .l .given .1) at (n .before .before .next-event .ensures)) .1) in
+    let v = runs-up (c .before .tell-runs2 .ensures) (u .1) in
+    omega (arith, u .0, u .1, v .0, v .1)
+
+loop-again-2 : tie.Need-loop-again-2 Inv-loop μ-loop
+loop-again-2 c =
+    let n = c .before .before .before .before in
     let a = n .before .before in
-    let l = n .l .given .0 .0 in
-    let r = n .l .given .0 .1 .0 in
-    let e : toZ w64 (ofZ w64 l) ≡ l = toZ-ofZ w64 l (search (needs, c .before .known-told .given)) in
-    let f : toZ w64 (ofZ w64 r) ≡ r = toZ-ofZ w64 r (search (needs, c .before .known-told .given)) in
-    rw (rw (e, f) at (c .tell-run .ensures)) (scan-run _ (a .before .loop .inv) l r _ (rw (n .l .given .1) at (a .next-event .ensures)))
+    let v = rw (n .l .given .1) at (a .next-event .ensures) in
+    let y = scan-run _ (a .before .loop .inv) _ _ _ v (c .before .before .tell-run .ensures) in
+    rw (v .0) (scan-runs _ (c .before .tell-runs2 .ensures) y)
 
 enum-known-n : tie.Need-enum-known-n Inv-loop μ-loop
 enum-known-n c = search needs
@@ -59,19 +108,19 @@ enum-known-n c = search needs
 tell-requires : tie.Need-tell-requires Inv-loop μ-loop
 tell-requires c κs = let l = c .before .before .before .before in (l .loop .inv .1 .sound, omega (arith, l .loop .inv .1 .runs, l .loop .inv .0 .inside, l .before .before .before .good))
 
-loop-less-2 : tie.Need-loop-less-2 Inv-loop μ-loop
-loop-less-2 c =
+loop-less-3 : tie.Need-loop-less-3 Inv-loop μ-loop
+loop-less-3 c =
     let n = c .before .before in
     let a = n .before .before in
     let u = value-up (rw (n .n .given .1) at (a .next-event .ensures)) in
     omega (arith, u .0, u .1)
 
-loop-again-2 : tie.Need-loop-again-2 Inv-loop μ-loop
-loop-again-2 c =
+loop-again-3 : tie.Need-loop-again-3 Inv-loop μ-loop
+loop-again-3 c =
     let n = c .before .before in
     let a = n .before .before in
     let z = n .n .given .0 .1 .1 .0 in
-    let e : toZ w64 (ofZ w64 z) ≡ z = toZ-ofZ w64 z (search (needs, c .before .known-told2 .given)) in
+    let e : toZ w64 (ofZ w64 z) ≡ z = toZ-ofZ w64 z (search (needs, c .before .known-told3 .given)) in
     rw (rw e at (c .tell .ensures)) (scan-value _ (a .before .loop .inv) (n .n .given .0 .0) (n .n .given .0 .1 .0) z _ (rw (n .n .given .1) at (a .next-event .ensures)))
 
 enum-known-n-2 : tie.Need-enum-known-n-2 Inv-loop μ-loop
@@ -82,15 +131,15 @@ shut-requires c κs =
     let l = c .before .before .before .before in
     (omega (arith, l .loop .inv .1 .rows, l .loop .inv .0 .inside, l .before .before .before .good), omega (arith, l .loop .inv .1 .runs, l .loop .inv .0 .inside, l .before .before .before .good))
 
-loop-less-3 : tie.Need-loop-less-3 Inv-loop μ-loop
-loop-less-3 c =
+loop-less-4 : tie.Need-loop-less-4 Inv-loop μ-loop
+loop-less-4 c =
     let n = c .before .before in
     let a = n .before .before in
     let u = closed-up (rw (n .n2 .given .1) at (a .next-event .ensures)) in
     omega (arith, u .0, u .1)
 
-loop-again-3 : tie.Need-loop-again-3 Inv-loop μ-loop
-loop-again-3 c =
+loop-again-4 : tie.Need-loop-again-4 Inv-loop μ-loop
+loop-again-4 c =
     let n = c .before .before in
     let a = n .before .before in
     rw (c .shut .ensures) (scan-closed _ (a .before .loop .inv) (n .n2 .given .0 .0) _ (rw (n .n2 .given .1) at (a .next-event .ensures)))
@@ -125,18 +174,24 @@ scan-spec =
     no-tally-requires
     loop-holds
     next-event-requires
-    enum-known-l
-    tell-run-requires
+    enum-known-low
+    tell-row-requires
+    tell-runs-requires
     loop-less
     loop-again
-    enum-known-n
-    tell-requires
+    enum-known-l
+    tell-run-requires
+    tell-runs-requires-2
     loop-less-2
     loop-again-2
-    enum-known-n-2
-    shut-requires
+    enum-known-n
+    tell-requires
     loop-less-3
     loop-again-3
+    enum-known-n-2
+    shut-requires
+    loop-less-4
+    loop-again-4
     enum-known-at
     returns
     enum-known-n-3

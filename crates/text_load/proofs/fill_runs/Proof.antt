@@ -2,15 +2,23 @@
 use mathlib.Core.Path.{_≡_}
 use Prim.Native.Nat.{_-_}
 use native.Mathlib.Omega.{arith}
-use borrow.Author.Needs.{needs}
 use lib.ListN.{length}
 use mir.Syntax.{w64}
 use mir.Val.{toZ, ofZ}
 use mir.ValLaws.{toZ-ofZ}
-use Rattle.text_event.specs.Event.{run-up, value-up, closed-up}
-use Rattle.text_load.proofs.Columns.{Filling, filling-start, filling-run, filling-value, filling-closed, filling-refuse, filling-end}
+use Rattle.text_event.specs.Event.{row-up, run-up, runs-up, value-up, closed-up}
+use Rattle.text_load.proofs.Columns.{Filling, filling-start, filling-run, filling-row, filling-runs, filling-value, filling-closed, filling-refuse, filling-end}
+use borrow.Author.Needs.{needs}
 use Rattle.text_load.proofs.fill_runs.Statement.{statement}
 use Rattle.text_load.proofs.fill_runs.Tie as tie
+use Rattle.text_event.proofs.next_event.Reads as next-event-reads
+use Rattle.text_judge.proofs.hold.Reads as hold-reads
+use Rattle.text_load.proofs.count_if.Reads as count-if-reads
+use Rattle.text_load.proofs.is_left.Reads as is-left-reads
+use Rattle.text_load.proofs.is_right.Reads as is-right-reads
+use Rattle.text_load.proofs.pick_if.Reads as pick-if-reads
+use Rattle.text_load.proofs.put_if.Reads as put-if-reads
+use Rattle.text_load.proofs.put_runs.Reads as put-runs-reads
 
 abbrev Inv-loop : tie.InvT-loop
 Inv-loop text left₀ right₀ s₀ l₀ k₀ i₀ left right s l k i = Filling text left₀ right₀ left right s l k i
@@ -27,49 +35,48 @@ next-event-requires c κs = c .loop .inv .kept .good
 enum-known-a : tie.Need-enum-known-a Inv-loop μ-loop
 enum-known-a c = search needs
 
-hold-requires : tie.Need-hold-requires Inv-loop μ-loop
-hold-requires c κs = search needs
-
-put-requires : tie.Need-put-requires Inv-loop μ-loop
-put-requires c κs = search needs
-
-hold-requires-2 : tie.Need-hold-requires-2 Inv-loop μ-loop
-hold-requires-2 c κs = search needs
-
-put-requires-2 : tie.Need-put-requires-2 Inv-loop μ-loop
-put-requires-2 c κs = search needs
-
-add-k : tie.Need-add-k Inv-loop μ-loop
-add-k c = let l = c .before .before .before .before .before .before .before .before .before .before .before .before .before .before in omega (arith, l .loop .inv .count, l .loop .inv .kept .inside, l .before .before .before .before .good)
+put-runs-requires : tie.Need-put-runs-requires Inv-loop μ-loop
+put-runs-requires c κs = let n = c .before .before .before in let l = n .before .before .before in let u = row-up ((rw (n .a .given .1) at (n .before .before .next-event .ensures)) .1) in (omega (arith, u .0, l .loop .inv .count), u .1)
 
 loop-less : tie.Need-loop-less Inv-loop μ-loop
 loop-less c =
-    let n = c .before .before .before .before .before .before .before .before .before .before .before in
-    let u = run-up ((rw (n .a .given .1) at (n .before .before .next-event .ensures)) .1) in
-    omega (arith, u .0, u .1)
+    let n = c .before .before .before .before .before .before .before .before in
+    let u = row-up ((rw (n .a .given .1) at (n .before .before .next-event .ensures)) .1) in
+    let v = runs-up (c .before .before .before .before .put-runs .ensures) (u .1) in
+    omega (arith, u .0, u .1, v .0, v .1)
 
 loop-again : tie.Need-loop-again Inv-loop μ-loop
 loop-again c =
-    let p2 = c .before .before in
-    let h2 = p2 .before in
-    let p1 = h2 .before .before .before .before in
-    let h1 = p1 .before .before in
-    let n = h1 .before .before in
-    let a = n .before .before in
-    let x = n .a .given .0 .0 in
-    let y = n .a .given .0 .1 .0 in
-    let e : toZ w64 (ofZ w64 x) ≡ x = toZ-ofZ w64 x (search (needs, h1 .before .known-told .given)) in
-    let f : toZ w64 (ofZ w64 y) ≡ y = toZ-ofZ w64 y (search (needs, h1 .before .known-told .given)) in
-    let d = rw e at (h1 .hold .ensures) in
-    let e1 = rw d at (p1 .put .ensures) in
-    let e2 = rw (h2 .hold2 .ensures, f) at (p2 .put2 .ensures) in
-    rw (e1, e2, d) (filling-run _ _ _ (a .before .loop .inv) x y _ (rw (n .a .given .1) at (a .next-event .ensures)))
+    let n = c .before .before .before .before .before .before .before .before in
+    let m = n .before .before in
+    let v = rw (n .a .given .1) at (m .next-event .ensures) in
+    filling-runs _ _ _ (c .before .before .before .before .put-runs .ensures) (filling-row _ _ _ (m .before .loop .inv) _ _ _ _ _ (search (needs, c .before .before .before .before .before .before .before .known-told .given)) (search (needs, c .before .before .before .before .before .before .before .known-told .given)) v)
+
+enum-known-a-2 : tie.Need-enum-known-a-2 Inv-loop μ-loop
+enum-known-a-2 c = search needs
+
+put-runs-requires-2 : tie.Need-put-runs-requires-2 Inv-loop μ-loop
+put-runs-requires-2 c κs = let n = c .before .before .before in let l = n .before .before .before in let u = run-up ((rw (n .a2 .given .1) at (n .before .before .next-event .ensures)) .1) in (omega (arith, u .0, l .loop .inv .count), u .1)
+
+loop-less-2 : tie.Need-loop-less-2 Inv-loop μ-loop
+loop-less-2 c =
+    let n = c .before .before .before .before .before .before .before .before in
+    let u = run-up ((rw (n .a2 .given .1) at (n .before .before .next-event .ensures)) .1) in
+    let v = runs-up (c .before .before .before .before .put-runs2 .ensures) (u .1) in
+    omega (arith, u .0, u .1, v .0, v .1)
+
+loop-again-2 : tie.Need-loop-again-2 Inv-loop μ-loop
+loop-again-2 c =
+    let n = c .before .before .before .before .before .before .before .before in
+    let m = n .before .before in
+    let v = rw (n .a2 .given .1) at (m .next-event .ensures) in
+    rw (v .0) (filling-runs _ _ _ (c .before .before .before .before .put-runs2 .ensures) (filling-run _ _ _ (m .before .loop .inv) _ _ _ (search (needs, c .before .before .before .before .before .before .before .known-told2 .given)) (search (needs, c .before .before .before .before .before .before .before .known-told2 .given)) v))
 
 enum-known-n : tie.Need-enum-known-n Inv-loop μ-loop
 enum-known-n c = search needs
 
-hold-requires-3 : tie.Need-hold-requires-3 Inv-loop μ-loop
-hold-requires-3 c κs = search needs
+hold-requires : tie.Need-hold-requires Inv-loop μ-loop
+hold-requires c κs = search needs
 
 is-right-requires : tie.Need-is-right-requires Inv-loop μ-loop
 is-right-requires c κs = search needs
@@ -89,8 +96,8 @@ is-left-requires c κs = search needs
 pick-if-requires : tie.Need-pick-if-requires Inv-loop μ-loop
 pick-if-requires c κs = search needs
 
-loop-less-2 : tie.Need-loop-less-2 Inv-loop μ-loop
-loop-less-2 c =
+loop-less-3 : tie.Need-loop-less-3 Inv-loop μ-loop
+loop-less-3 c =
     let il = c .before in
     let ci = il .before in
     let p2 = ci .before .before .before in
@@ -99,8 +106,8 @@ loop-less-2 c =
     let u = value-up (rw (n .n .given .1) at (n .before .before .next-event .ensures)) in
     omega (arith, u .0, u .1)
 
-loop-again-2 : tie.Need-loop-again-2 Inv-loop μ-loop
-loop-again-2 c =
+loop-again-3 : tie.Need-loop-again-3 Inv-loop μ-loop
+loop-again-3 c =
     let il = c .before in
     let ci = il .before in
     let p2 = ci .before .before .before in
@@ -110,24 +117,24 @@ loop-again-2 c =
     let n = ho .before .before in
     let a = n .before .before in
     let z = n .n .given .0 .1 .1 .0 in
-    let e : toZ w64 (ofZ w64 z) ≡ z = toZ-ofZ w64 z (search (needs, ho .before .known-told2 .given)) in
+    let e : toZ w64 (ofZ w64 z) ≡ z = toZ-ofZ w64 z (search (needs, ho .before .known-told3 .given)) in
     let e1 = rw (ir .is-right .ensures) at (p1 .put-if .ensures) in
-    let e2 = rw (ir .is-right .ensures, ho .hold3 .ensures, e) at (p2 .put-if2 .ensures) in
+    let e2 = rw (ir .is-right .ensures, ho .hold .ensures, e) at (p2 .put-if2 .ensures) in
     let e3 = rw (ir .is-right .ensures) at (ci .count-if .ensures) in
-    let e4 = rw (il .is-left .ensures, ho .hold3 .ensures, e) at (c .pick-if .ensures) in
+    let e4 = rw (il .is-left .ensures, ho .hold .ensures, e) at (c .pick-if .ensures) in
     rw (e1, e2, e3, e4) (filling-value _ _ _ (a .before .loop .inv) (n .n .given .0 .0) (n .n .given .0 .1 .0) z _ (rw (n .n .given .1) at (a .next-event .ensures)))
 
 enum-known-n-2 : tie.Need-enum-known-n-2 Inv-loop μ-loop
 enum-known-n-2 c = search needs
 
-loop-less-3 : tie.Need-loop-less-3 Inv-loop μ-loop
-loop-less-3 c =
+loop-less-4 : tie.Need-loop-less-4 Inv-loop μ-loop
+loop-less-4 c =
     let n = c .before in
     let u = closed-up (rw (n .n2 .given .1) at (n .before .before .next-event .ensures)) in
     omega (arith, u .0, u .1)
 
-loop-again-3 : tie.Need-loop-again-3 Inv-loop μ-loop
-loop-again-3 c =
+loop-again-4 : tie.Need-loop-again-4 Inv-loop μ-loop
+loop-again-4 c =
     let n = c .before in
     let a = n .before .before in
     filling-closed _ _ _ (a .before .loop .inv) (n .n2 .given .0 .0) _ (rw (n .n2 .given .1) at (a .next-event .ensures))
@@ -165,26 +172,26 @@ fill-runs-spec =
     loop-holds
     next-event-requires
     enum-known-a
-    hold-requires
-    put-requires
-    hold-requires-2
-    put-requires-2
-    add-k
+    put-runs-requires
     loop-less
     loop-again
+    enum-known-a-2
+    put-runs-requires-2
+    loop-less-2
+    loop-again-2
     enum-known-n
-    hold-requires-3
+    hold-requires
     is-right-requires
     put-if-requires
     put-if-requires-2
     count-if-requires
     is-left-requires
     pick-if-requires
-    loop-less-2
-    loop-again-2
-    enum-known-n-2
     loop-less-3
     loop-again-3
+    enum-known-n-2
+    loop-less-4
+    loop-again-4
     enum-told
     same-length
     same-length-2

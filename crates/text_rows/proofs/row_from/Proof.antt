@@ -2,15 +2,23 @@
 use mathlib.Core.Path.{_≡_, _∙_}
 use Prim.Native.Nat.{_-_}
 use native.Mathlib.Omega.{arith}
-use borrow.Author.Needs.{needs}
 use lib.ListN.{length}
 use mir.Syntax.{w64}
 use mir.Val.{toZ, ofZ}
 use mir.ValLaws.{toZ-ofZ}
-use Rattle.text_event.specs.Event.{run-up, value-up}
-use Rattle.text_rows.proofs.Turn.{Going, going-start, line-run, line-value, line-closed, line-refuse, line-stop}
+use Rattle.text_event.specs.Event.{row-up, runs-up, run-up, value-up}
+use Rattle.text_rows.proofs.Turn.{Going, going-start, line-run, line-row, line-runs, line-value, line-closed, line-refuse, line-stop}
+use borrow.Author.Needs.{needs}
 use Rattle.text_rows.proofs.row_from.Statement.{statement}
 use Rattle.text_rows.proofs.row_from.Tie as tie
+use Rattle.text_event.proofs.next_event.Reads as next-event-reads
+use Rattle.text_judge.proofs.shut.Reads as shut-reads
+use Rattle.text_judge.proofs.tell.Reads as tell-reads
+use Rattle.text_judge.proofs.tell_row.Reads as tell-row-reads
+use Rattle.text_judge.proofs.tell_run.Reads as tell-run-reads
+use Rattle.text_judge.proofs.tell_runs.Reads as tell-runs-reads
+use Rattle.text_rows.proofs.line_end.Reads as line-end-reads
+use Rattle.text_rows.proofs.make_row.Reads as make-row-reads
 
 abbrev Inv-loop : tie.InvT-loop
 Inv-loop text at s₀ t₀ i₀ s t i = Going text s₀ t₀ i₀ s t i
@@ -24,27 +32,69 @@ loop-holds c = let s = c .before in going-start (s .args .text .now) (s .args .s
 next-event-requires : tie.Need-next-event-requires Inv-loop μ-loop
 next-event-requires c κs = c .loop .inv .good
 
+enum-known-low : tie.Need-enum-known-low Inv-loop μ-loop
+enum-known-low c = search needs
+
+tell-row-requires : tie.Need-tell-row-requires Inv-loop μ-loop
+tell-row-requires c κs = let l = c .before .before .before .before in (l .loop .inv .fits .sound, omega (arith, l .loop .inv .fits .runs, l .loop .inv .inside, l .before .before .good))
+
+tell-runs-requires : tie.Need-tell-runs-requires Inv-loop μ-loop
+tell-runs-requires c κs =
+    let n = c .before .before in
+    let a = n .before .before in
+    let low = n .low .given .0 .0 in
+    let high = n .low .given .0 .1 .0 in
+    let e : toZ w64 (ofZ w64 low) ≡ low = toZ-ofZ w64 low (search (needs, c .before .known-told .given)) in
+    let f : toZ w64 (ofZ w64 high) ≡ high = toZ-ofZ w64 high (search (needs, c .before .known-told .given)) in
+    let y = line-row _ _ _ _ (a .before .loop .inv) low high _ _ _ (rw (n .low .given .1) at (a .next-event .ensures)) (rw (e, f) at (c .tell-row .ensures)) in
+    (y .fits, y .inside)
+
+loop-less : tie.Need-loop-less Inv-loop μ-loop
+loop-less c =
+    let n = c .before .before .before .before in
+    let u = row-up ((rw (n .low .given .1) at (n .before .before .next-event .ensures)) .1) in
+    let v = runs-up (c .before .tell-runs .ensures) (u .1) in
+    omega (arith, u .0, u .1, v .0, v .1)
+
+loop-again : tie.Need-loop-again Inv-loop μ-loop
+loop-again c =
+    let n = c .before .before .before .before in
+    let a = n .before .before in
+    let low = n .low .given .0 .0 in
+    let high = n .low .given .0 .1 .0 in
+    let e : toZ w64 (ofZ w64 low) ≡ low = toZ-ofZ w64 low (search (needs, c .before .before .before .known-told .given)) in
+    let f : toZ w64 (ofZ w64 high) ≡ high = toZ-ofZ w64 high (search (needs, c .before .before .before .known-told .given)) in
+    let y = line-row _ _ _ _ (a .before .loop .inv) low high _ _ _ (rw (n .low .given .1) at (a .next-event .ensures)) (rw (e, f) at (c .before .before .tell-row .ensures)) in
+    line-runs _ _ _ _ (c .before .tell-runs .ensures) y
+
 enum-known-l : tie.Need-enum-known-l Inv-loop μ-loop
 enum-known-l c = search needs
 
 tell-run-requires : tie.Need-tell-run-requires Inv-loop μ-loop
 tell-run-requires c κs = let l = c .before .before .before .before in (l .loop .inv .fits .sound, omega (arith, l .loop .inv .fits .runs, l .loop .inv .inside, l .before .before .good))
 
-loop-less : tie.Need-loop-less Inv-loop μ-loop
-loop-less c =
-    let n = c .before .before in
-    let u = run-up ((rw (n .l .given .1) at (n .before .before .next-event .ensures)) .1) in
-    omega (arith, u .0, u .1)
-
-loop-again : tie.Need-loop-again Inv-loop μ-loop
-loop-again c =
+tell-runs-requires-2 : tie.Need-tell-runs-requires-2 Inv-loop μ-loop
+tell-runs-requires-2 c κs =
     let n = c .before .before in
     let a = n .before .before in
-    let l = n .l .given .0 .0 in
-    let r = n .l .given .0 .1 .0 in
-    let e : toZ w64 (ofZ w64 l) ≡ l = toZ-ofZ w64 l (search (needs, c .before .known-told .given)) in
-    let f : toZ w64 (ofZ w64 r) ≡ r = toZ-ofZ w64 r (search (needs, c .before .known-told .given)) in
-    rw (rw (e, f) at (c .tell-run .ensures)) (line-run _ _ _ _ (a .before .loop .inv) l r _ (rw (n .l .given .1) at (a .next-event .ensures)))
+    let v = rw (n .l .given .1) at (a .next-event .ensures) in
+    let y = line-run _ _ _ _ (a .before .loop .inv) _ _ _ v (c .tell-run .ensures) in
+    (y .fits, y .inside)
+
+loop-less-2 : tie.Need-loop-less-2 Inv-loop μ-loop
+loop-less-2 c =
+    let n = c .before .before .before .before in
+    let u = run-up ((rw (n .l .given .1) at (n .before .before .next-event .ensures)) .1) in
+    let v = runs-up (c .before .tell-runs2 .ensures) (u .1) in
+    omega (arith, u .0, u .1, v .0, v .1)
+
+loop-again-2 : tie.Need-loop-again-2 Inv-loop μ-loop
+loop-again-2 c =
+    let n = c .before .before .before .before in
+    let a = n .before .before in
+    let v = rw (n .l .given .1) at (a .next-event .ensures) in
+    let y = line-run _ _ _ _ (a .before .loop .inv) _ _ _ v (c .before .before .tell-run .ensures) in
+    rw (v .0) (line-runs _ _ _ _ (c .before .tell-runs2 .ensures) y)
 
 enum-known-n : tie.Need-enum-known-n Inv-loop μ-loop
 enum-known-n c = search needs
@@ -52,18 +102,18 @@ enum-known-n c = search needs
 tell-requires : tie.Need-tell-requires Inv-loop μ-loop
 tell-requires c κs = let l = c .before .before .before .before in (l .loop .inv .fits .sound, omega (arith, l .loop .inv .fits .runs, l .loop .inv .inside, l .before .before .good))
 
-loop-less-2 : tie.Need-loop-less-2 Inv-loop μ-loop
-loop-less-2 c =
+loop-less-3 : tie.Need-loop-less-3 Inv-loop μ-loop
+loop-less-3 c =
     let n = c .before .before in
     let u = value-up (rw (n .n .given .1) at (n .before .before .next-event .ensures)) in
     omega (arith, u .0, u .1)
 
-loop-again-2 : tie.Need-loop-again-2 Inv-loop μ-loop
-loop-again-2 c =
+loop-again-3 : tie.Need-loop-again-3 Inv-loop μ-loop
+loop-again-3 c =
     let n = c .before .before in
     let a = n .before .before in
     let z = n .n .given .0 .1 .1 .0 in
-    let e : toZ w64 (ofZ w64 z) ≡ z = toZ-ofZ w64 z (search (needs, c .before .known-told2 .given)) in
+    let e : toZ w64 (ofZ w64 z) ≡ z = toZ-ofZ w64 z (search (needs, c .before .known-told3 .given)) in
     rw (rw e at (c .tell .ensures)) (line-value _ _ _ _ (a .before .loop .inv) (n .n .given .0 .0) (n .n .given .0 .1 .0) z _ (rw (n .n .given .1) at (a .next-event .ensures)))
 
 enum-known-n-2 : tie.Need-enum-known-n-2 Inv-loop μ-loop
@@ -116,14 +166,20 @@ row-from-spec =
     μ-loop
     loop-holds
     next-event-requires
-    enum-known-l
-    tell-run-requires
+    enum-known-low
+    tell-row-requires
+    tell-runs-requires
     loop-less
     loop-again
-    enum-known-n
-    tell-requires
+    enum-known-l
+    tell-run-requires
+    tell-runs-requires-2
     loop-less-2
     loop-again-2
+    enum-known-n
+    tell-requires
+    loop-less-3
+    loop-again-3
     enum-known-n-2
     make-row-requires
     shut-requires

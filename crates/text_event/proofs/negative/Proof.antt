@@ -1,0 +1,22 @@
+-- `text_event::negative` meets its contract. Assumes nothing.
+use native.Mathlib.Omega.{arith}
+use lib.IntN.{pos}
+use mir.Syntax.{w64}
+use mir.Val.{toZ}
+use Rattle.meaning_numbers.proofs.Rep.{z-sub, z-neg}
+use Rattle.meaning_numbers.proofs.Machine.{zmach, z-cast}
+use borrow.Author.Needs.{needs}
+use Rattle.text_event.proofs.negative.Statement.{statement}
+use Rattle.text_event.proofs.negative.Tie as tie
+
+cast-result : tie.Need-cast-result
+cast-result c = search needs
+
+sub-result : tie.Need-sub-result
+sub-result c = let m = c .args .m in omega (zmach, c .pre, z-cast m (omega (arith, c .pre)), z-sub (pos 0) (toZ w64 m))
+
+returns : tie.Need-returns
+returns c = let m = c .args .m in let f = sub-result c in omega (zmach, c .pre, z-cast m (omega (arith, c .pre)), z-sub (pos 0) (toZ w64 m), z-neg (pos m))
+
+pub negative-spec : {M : Type 1} → statement M
+negative-spec = tie.close (tie.spec cast-result sub-result returns)

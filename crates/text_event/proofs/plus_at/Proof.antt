@@ -1,0 +1,53 @@
+-- `text_event::plus_at` meets its contract: a number, and a blank. Assumes nothing.
+use native.Mathlib.Omega.{arith}
+use mathlib.Core.Path.{_≡_}
+use mir.Syntax.{w64}
+use mir.Val.{toZ, ofZ}
+use mir.ValLaws.{toZ-ofZ}
+use Rattle.meaning_numbers.proofs.Machine.{zmach}
+use Rattle.text_event.proofs.Steps.{plus-told}
+use borrow.Author.Needs.{needs}
+use Rattle.text_event.proofs.plus_at.Statement.{statement}
+use Rattle.text_event.proofs.plus_at.Tie as tie
+use Rattle.text_event.proofs.number_at.Reads as number-at-reads
+use Rattle.text_event.proofs.positive.Reads as positive-reads
+
+number-at-requires : tie.Need-number-at-requires
+number-at-requires c κs = search needs
+
+returns : tie.Need-returns
+returns c = search needs
+
+add-j : tie.Need-add-j
+add-j c = search needs
+
+shared-slice-read-if2 : tie.Need-shared-slice-read-if2
+shared-slice-read-if2 c = let x = c .before .before .number-at .ensures (omega (arith, c .before .if1 .left)) in omega (arith, x .short, c .before .before .before .before .pre)
+
+returns-2 : tie.Need-returns-2
+returns-2 c = search needs
+
+positive-requires : tie.Need-positive-requires
+positive-requires c κs = let x = c .before .before .before .number-at .ensures (omega (arith, c .before .before .if1 .left)) in x .small
+
+add-t7 : tie.Need-add-t7
+add-t7 c = search needs
+
+returns-3 : tie.Need-returns-3
+returns-3 c =
+    let x = c .before .before .before .before .number-at .ensures (omega (arith, c .before .before .before .if1 .left)) in
+    let e : toZ w64 (ofZ w64 (c .positive .result)) ≡ c .positive .result = toZ-ofZ w64 (c .positive .result) (omega (zmach, c .positive .ensures, x .small)) in
+    rw (e, c .positive .ensures) (plus-told _ _ _ (omega (arith, x .short, c .before .before .before .before .before .before .pre)) (c .before .if2 .left) x)
+
+pub plus-at-spec : {M : Type 1} → statement M
+plus-at-spec =
+    tie.close
+    (tie.spec
+    number-at-requires
+    returns
+    add-j
+    shared-slice-read-if2
+    returns-2
+    positive-requires
+    add-t7
+    returns-3)

@@ -1,0 +1,33 @@
+-- `text_judge::tell_row` meets its contract: the numbers one after the other. Assumes nothing.
+use mathlib.Core.Path.{ap, _∙_}
+use native.Mathlib.Omega.{arith}
+use mir.Syntax.{w64}
+use mir.ValLaws.{toZ-ofZ}
+use Rattle.text_index.specs.declared.Place.{Place}
+use Rattle.text_judge.specs.Tally.{tellTally, toldRun}
+use borrow.Author.Needs.{needs}
+use Rattle.text_judge.proofs.tell_row.Statement.{statement}
+use Rattle.text_judge.proofs.tell_row.Tie as tie
+use Rattle.text_judge.proofs.tell.Reads as tell-reads
+use Rattle.text_judge.proofs.tell_run.Reads as tell-run-reads
+
+tell-requires : tie.Need-tell-requires
+tell-requires c κs = search needs
+
+tell-requires-2 : tie.Need-tell-requires-2
+unfolding tellTally
+tell-requires-2 c κs = rw (c .tell .ensures) (c .before .pre .0, c .before .pre .1)
+
+tell-run-requires : tie.Need-tell-run-requires
+unfolding tellTally
+tell-run-requires c κs = rw (c .tell2 .ensures) (record { total = omega arith; least = omega arith }, omega arith)
+
+returns : tie.Need-returns
+returns c =
+    let s = c .before .before .before in
+    let e = toZ-ofZ w64 (s .args .low) (s .fits .low) in
+    let f = toZ-ofZ w64 (s .args .up) (s .fits .up) in
+    c .tell-run .ensures ∙ ap (toldRun (s .args .l) (s .args .r)) ((rw f at (c .before .tell2 .ensures)) ∙ ap (tellTally Place.Up (s .args .up)) (rw e at (c .before .before .tell .ensures)))
+
+pub tell-row-spec : {M : Type 1} → statement M
+tell-row-spec = tie.close (tie.spec tell-requires tell-requires-2 tell-run-requires returns)

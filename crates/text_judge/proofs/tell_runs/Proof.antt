@@ -1,0 +1,72 @@
+-- `text_judge::tell_runs` meets its contract. The invariant: the runs so far say what is known (`RunsFrom`), and the counts are small. The measure is what is left of the text. Assumes nothing.
+use Prim.Native.Nat.{_-_, _≤_}
+use native.Mathlib.Omega.{arith}
+use lib.ListN.{length}
+use Rattle.text_event.specs.Event.{RunsFrom, none, one, run-up}
+use Rattle.text_judge.specs.Tally.{tellTally, Fits}
+use Rattle.text_judge.proofs.Events.{run-fits}
+use borrow.Author.Needs.{needs}
+use Rattle.text_judge.proofs.tell_runs.Statement.{statement}
+use Rattle.text_judge.proofs.tell_runs.Tie as tie
+use Rattle.text_event.proofs.plain_run.Reads as plain-run-reads
+use Rattle.text_event.proofs.run_left.Reads as run-left-reads
+use Rattle.text_event.proofs.run_length.Reads as run-length-reads
+use Rattle.text_event.proofs.run_right.Reads as run-right-reads
+use Rattle.text_judge.proofs.tell_run.Reads as tell-run-reads
+
+abbrev Inv-loop : tie.InvT-loop
+Inv-loop text at tally₀ i₀ tally i = Fits tally i × (i ≤ length text) × RunsFrom tellTally text tally₀ i₀ tally i
+
+abbrev μ-loop : tie.MeasureT-loop
+μ-loop text at tally₀ i₀ tally i = length text - i
+
+loop-holds : tie.Need-loop-holds Inv-loop μ-loop
+loop-holds c = (c .before .pre .0, c .before .pre .1, none)
+
+plain-run-requires : tie.Need-plain-run-requires Inv-loop μ-loop
+plain-run-requires c κs = search needs
+
+returns : tie.Need-returns Inv-loop μ-loop
+returns c = c .before .before .loop .inv .2
+
+run-left-requires : tie.Need-run-left-requires Inv-loop μ-loop
+run-left-requires c κs = search needs
+
+run-right-requires : tie.Need-run-right-requires Inv-loop μ-loop
+run-right-requires c κs = search needs
+
+tell-run-requires : tie.Need-tell-run-requires Inv-loop μ-loop
+tell-run-requires c κs = let l = c .before .before .before .before in (l .loop .inv .0 .sound, omega (arith, l .loop .inv .0 .runs, l .loop .inv .1, l .before .before .good))
+
+run-length-requires : tie.Need-run-length-requires Inv-loop μ-loop
+run-length-requires c κs = search needs
+
+add-i : tie.Need-add-i Inv-loop μ-loop
+add-i c = let p = c .before .before .before .before .before .plain-run .ensures (omega (arith, c .before .before .before .before .if1 .left)) in omega (arith, run-up (p .run) .1, c .run-length .ensures, c .before .before .before .before .before .before .before .before .good)
+
+loop-less : tie.Need-loop-less Inv-loop μ-loop
+loop-less c = let p = c .before .before .before .before .before .plain-run .ensures (omega (arith, c .before .before .before .before .if1 .left)) in omega (arith, run-up (p .run) .0, run-up (p .run) .1, c .run-length .ensures)
+
+loop-again : tie.Need-loop-again Inv-loop μ-loop
+loop-again c =
+    let l = c .before .before .before .before .before .before in
+    let p = c .before .before .before .before .before .plain-run .ensures (omega (arith, c .before .before .before .before .if1 .left)) in
+    rw (c .before .tell-run .ensures, c .before .before .before .run-left .ensures, c .before .before .run-right .ensures, c .run-length .ensures)
+    (run-fits _ (p .run) (l .loop .inv .0), run-up (p .run) .1, one (l .loop .inv .2) (p .run))
+
+pub tell-runs-spec : {M : Type 1} → statement M
+tell-runs-spec =
+    tie.close
+    (tie.spec
+    Inv-loop
+    μ-loop
+    loop-holds
+    plain-run-requires
+    returns
+    run-left-requires
+    run-right-requires
+    tell-run-requires
+    run-length-requires
+    add-i
+    loop-less
+    loop-again)
