@@ -1,18 +1,20 @@
 -- Judging a row's runs, one run at a time: `scan-next` for a good run, `scan-bad` for a bad one, `scan-end` where none is left. `part-next` has the first run of a part of the run buffer. Assumes nothing.
-use mathlib.Core.Path.{_≡_, refl, sym}
-use mathlib.Core.Bool.{Bool, true, false, _&&_, false≢true}
+use mathlib.Core.Path.{_≡_, refl, sym, _∙_, ap}
+use mathlib.Core.Bool.{Bool, true, false, cond, _&&_, _||_, false≢true}
 use mathlib.Core.List.{List, [], _∷_}
 use Prim.Native.Nat.{ℕ, zero, suc, _+_, _-_, _<_, _≤_, min}
 use native.Mathlib.Omega.{arith}
 use lib.Dec.{leb, ltb}
 use lib.IntN.{ℤ, pos}
 use lib.ListN.{length, getD, take, drop}
-use borrow.Author.Tests.{leb-true, ltb-true}
+use borrow.Author.Tests.{leb-true, ltb-true, ltb-false, le-leb, lt-leb}
 pub use Rattle.meaning_numbers.proofs.Tests.{both}
+use Rattle.meaning_numbers.proofs.Tests.{by-test, of-both}
 pub use Rattle.meaning_rows.proofs.Grown.{length-entries}
 use Rattle.meaning_rows.specs.Index.{Entry, entries}
 use Rattle.meaning_rows.specs.Judge.{runsGood, runLengths}
 use Rattle.judge.specs.State.{untold, scan}
+use Rattle.judge.specs.declared.Lengths.{Lengths}
 
 -- ---- a part of the run buffer
 
@@ -81,3 +83,50 @@ module _ (windows least total l r : ℕ) (rest : List Entry) where
 pub scan-end : (windows least : ℤ) (total : ℕ) → scan windows least total [] ≡ record { good = true; total = total }
 unfolding scan runsGood runLengths
 scan-end windows least total = let n : total + 0 ≡ total = omega arith in rw n refl
+
+-- ---- runs of which only the last is held to the windows
+
+-- what is told of runs, where the last before them ends below `least`
+abbrev pub inside : ℕ → ℕ → Lengths → Lengths
+inside windows least t = cond (leb least (windows + 1)) t untold
+
+cond-same : (b : Bool) (t : Lengths) → cond b t t ≡ t
+cond-same true t = refl
+cond-same false t = refl
+
+stray : (windows least l r : ℕ) → (ltb l least || ltb r l) ≡ true → runGood windows least l r ≡ false
+stray windows least l r e =
+    by-test
+    (ltb l least)
+    (λ p. let n = lt-leb least l (ltb-true l least p) in rw n refl)
+    (λ p. let q : ltb r l ≡ true = rw p at e in let n = lt-leb l r (ltb-true r l q) in rw (le-leb least l (ltb-false l least p), n) refl)
+
+neither-is : (a b : Bool) → (a || b) ≡ false → (a ≡ false) × (b ≡ false)
+neither-is true b e = absurd (false≢true (sym e))
+neither-is false b e = (refl, e)
+
+-- a run that stands above those before
+pub record Follows (least l r : ℕ) : Type 0 where
+  pub below : least ≤ l
+  pub order : l ≤ r
+
+pub follows : (least l r : ℕ) → (ltb l least || ltb r l) ≡ false → Follows least l r
+follows least l r e = let p = neither-is (ltb l least) (ltb r l) e in record { below = ltb-false l least (p .0); order = ltb-false r l (p .1) }
+
+module _ (windows least total l r : ℕ) (rest : List Entry) where
+  pub inside-bad : (ltb l least || ltb r l) ≡ true → inside windows least (scan (pos windows) (pos least) total ((pos l, pos r) ∷ rest)) ≡ untold
+  inside-bad e = let n = scan-bad windows least total l r rest (stray windows least l r e) in ap (inside windows least) n ∙ cond-same (leb least (windows + 1)) untold
+
+  pub inside-next : Follows least l r
+      → inside windows (r + 2) (scan (pos windows) (pos (r + 2)) (total + (r + 1 - l)) rest) ≡ inside windows least (scan (pos windows) (pos least) total ((pos l, pos r) ∷ rest))
+  inside-next f =
+      let h = f .below in let k = f .order in
+      by-test
+      (ltb r windows)
+      (λ e. let i = ltb-true r windows e in
+      let n = scan-next windows least total l r rest (of-both (le-leb least l h) (of-both (le-leb l r k) e)) in
+      rw (le-leb (r + 2) (windows + 1) (omega arith), le-leb least (windows + 1) (omega arith), n) refl)
+      (λ e. let i = ltb-false r windows e in
+      let n = scan-bad windows least total l r rest (rw (le-leb least l h, le-leb l r k, e) refl) in
+      let o : inside windows (r + 2) (scan (pos windows) (pos (r + 2)) (total + (r + 1 - l)) rest) ≡ untold = rw (lt-leb (r + 2) (windows + 1) (omega arith)) refl in
+      o ∙ sym (ap (inside windows least) n ∙ cond-same (leb least (windows + 1)) untold))

@@ -5,6 +5,7 @@ ghost use mathlib.Core.List.{[]};
 ghost use Prim.Native.Nat.{_+_, _-_, _≤_, min};
 ghost use lib.Dec.{leb, ltb};
 ghost use lib.IntN.{pos, natAbs};
+ghost use lib.Signed.{leZ, ltZ};
 ghost use lib.ListN.{length, take, drop};
 ghost use Rattle.meaning_numbers.specs.Quotient.{multiple};
 ghost use Rattle.meaning_curves.specs.Limits.{endIn};
@@ -61,6 +62,18 @@ pub fn is_multiple(d: u32, z: i32) -> bool
     if d == 0 { m == 0 } else { m % d == 0 }
 }
 
+// Whether both are multiples of d. One that lies d above another needs no division.
+pub fn are_multiples(d: u32, low: i32, up: i32) -> bool
+    ensures { λ b. ⌜ b ≡ (multiple d low && multiple d up) ⌝ }
+{
+    let first = is_multiple(d, low);
+    if low as i64 + d as i64 == up as i64 {
+        first
+    } else {
+        first & is_multiple(d, up)
+    }
+}
+
 // An end of a range lies inside its limits.
 pub fn end_in(z: i32) -> bool
     ensures { λ b. ⌜ b ≡ endIn z ⌝ }
@@ -88,15 +101,20 @@ pub fn judge_head(head: Head) -> State
     }
 }
 
+// The ends of a range lie inside their limits, in order, and not below `least`.
+pub fn ends_good(least: i32, low: i32, up: i32) -> bool
+    ensures { λ b. ⌜ b ≡ (ltZ low up && (endIn low && (endIn up && leZ least low))) ⌝ }
+{
+    (low < up) & (end_in(low) & (end_in(up) & (least <= low)))
+}
+
 // A row's range, after rows that end at `least`.
 pub fn range_good(head: Head, least: i32, r: Row) -> bool
     ensures { λ b. ⌜ b ≡ rangeGood (lent head [] [] []) least r ⌝ }
 {
-    let d = head.width;
     let low = r.low;
     let up = r.up;
-    let ends = end_in(low) & (end_in(up) & (least <= low));
-    (low < up) & (is_multiple(d, low) & (is_multiple(d, up) & ends))
+    are_multiples(head.width, low, up) & ends_good(least, low, up)
 }
 
 // A row's part of a run buffer of `size` entries, after rows whose runs end at `first`.
@@ -122,7 +140,7 @@ pub fn run_good(windows: u64, least: u64, l: u64, r: u64) -> bool
     (least <= l) & ((l <= r) & (r < windows))
 }
 
-// The runs of one row, in the run buffer from `from` up to and not with `to`.
+// The runs of one row, in the run buffer from `from` up to and not with `to`. As each lies above the one before, only the last is held to the windows.
 pub fn judge_runs(left: &[u32], right: &[u32], from: usize, to: usize, windows: u32) -> Lengths
     requires { ⌜ (from ≤ to) × (to ≤ length (now left)) × (to ≤ length (now right)) ⌝ }
     ensures { λ t. ⌜ t ≡ scan (pos windows) (pos 0) 0 (take (to - from) (drop from (entries (now (left .entry)) (now (right .entry))))) ⌝ }
@@ -133,7 +151,7 @@ pub fn judge_runs(left: &[u32], right: &[u32], from: usize, to: usize, windows: 
     while i < to {
         let l = left[i] as u64;
         let r = right[i] as u64;
-        if !run_good(windows as u64, least, l, r) {
+        if (l < least) | (r < l) {
             return Lengths {
                 good: false,
                 total: 0,
@@ -143,9 +161,16 @@ pub fn judge_runs(left: &[u32], right: &[u32], from: usize, to: usize, windows: 
         least = r + 2;
         i += 1;
     }
-    Lengths {
-        good: true,
-        total: total as usize,
+    if least <= windows as u64 + 1 {
+        Lengths {
+            good: true,
+            total: total as usize,
+        }
+    } else {
+        Lengths {
+            good: false,
+            total: 0,
+        }
     }
 }
 

@@ -1,38 +1,37 @@
--- `judge::range_good` meets its contract: its tests are those of the definition, on numbers that the machine reads back as they are. Assumes nothing.
+-- `judge::range_good` meets its contract: its tests are those of the definition in another order, on numbers that the machine reads back as they are. Assumes nothing.
+use mathlib.Core.Path.{_≡_, refl, _∙_}
+use mathlib.Core.Bool.{Bool, true, false, _&&_}
 use mir.Syntax.{w32}
 use mir.ValLaws.{toZ-ofZ}
 use Rattle.meaning_rows.specs.Judge.{rangeGood}
+use lib.Signed.{leZ, ltZ}
+use Rattle.meaning_numbers.specs.Quotient.{multiple}
+use Rattle.meaning_curves.specs.Limits.{endIn}
 use borrow.Author.Needs.{needs}
 use Rattle.judge.proofs.range_good.Statement.{statement}
 use Rattle.judge.proofs.range_good.Tie as tie
 
-end-in-requires : tie.Need-end-in-requires
-end-in-requires c κs = search needs
+are-multiples-requires : tie.Need-are-multiples-requires
+are-multiples-requires c κs = search needs
 
-end-in-requires-2 : tie.Need-end-in-requires-2
-end-in-requires-2 c κs = search needs
+ends-good-requires : tie.Need-ends-good-requires
+ends-good-requires c κs = search needs
 
-is-multiple-requires : tie.Need-is-multiple-requires
-is-multiple-requires c κs = search needs
-
-is-multiple-requires-2 : tie.Need-is-multiple-requires-2
-is-multiple-requires-2 c κs = search needs
+sorted : (m n o e : Bool) → ((m && n) && (o && e)) ≡ (o && (m && (n && e)))
+sorted true true o e = refl
+sorted true false true e = refl
+sorted true false false e = refl
+sorted false n true e = refl
+sorted false n false e = refl
 
 returns : tie.Need-returns
 unfolding rangeGood
 returns c =
-    let s = c .before .before .before .before .before .before in
-    let l = toZ-ofZ w32 (s .args .r .low) (record { sfits = c .before .before .before .before .struct-told2 .given .0 .1 }) in
-    let u = toZ-ofZ w32 (s .args .r .up) (record { sfits = c .before .before .before .before .struct-told2 .given .1 .0 .1 }) in
+    let s = c .before .before .before .before in
+    let l = toZ-ofZ w32 (s .args .r .low) (record { sfits = c .before .before .struct-told2 .given .0 .1 }) in
+    let u = toZ-ofZ w32 (s .args .r .up) (record { sfits = c .before .before .struct-told2 .given .1 .0 .1 }) in
     let b = toZ-ofZ w32 (s .args .least) (s .fits .least) in
-    cc (l, u, b, c .is-multiple2 .ensures, c .before .is-multiple .ensures, c .before .before .end-in2 .ensures, c .before .before .before .end-in .ensures)
+    cc (l, u, b, c .before .are-multiples .ensures, c .ends-good .ensures, sorted (multiple (s .args .head .width) (s .args .r .low)) (multiple (s .args .head .width) (s .args .r .up)) (ltZ (s .args .r .low) (s .args .r .up)) (endIn (s .args .r .low) && (endIn (s .args .r .up) && leZ (s .args .least) (s .args .r .low))))
 
 pub range-good-spec : {M : Type 1} → statement M
-range-good-spec =
-    tie.close
-    (tie.spec
-    end-in-requires
-    end-in-requires-2
-    is-multiple-requires
-    is-multiple-requires-2
-    returns)
+range-good-spec = tie.close (tie.spec are-multiples-requires ends-good-requires returns)
