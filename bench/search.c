@@ -1,4 +1,5 @@
 // Runs the proved search, the same search in plain C and a scan without index in plain C on the same input, in turn, compares what they list, and prints the least time of some runs of each and the ratios. The indexes are built by the plain C.
+// With an argument: normalised warped queries through many indexes and limits instead, the proved search against the scan alone, and where its lead is largest.
 #include <stdint.h>
 #include <stdio.h>
 #include <string.h>
@@ -34,11 +35,11 @@ static u64 any(void) {
 }
 static i32 in_limits(int v) { return v > 10000 ? 10000 : v < -10000 ? -10000 : v; }
 
-enum { N = 1 << 20, W = 64, ROOM = N - W + 1, LIST = 4096 };
+enum { N = 1 << 20, W = 64, ROOM = N - W + 1, WIDE = N, LIST = 4096 };
 typedef struct { u32 first[ROOM], last[ROOM]; u16 scratch[ROOM]; u32 offsets[LIST]; u64 distances[LIST]; } Lists;
 static i32 s[N], q[1024];
-static Row rows[ROOM];
-static u32 left[ROOM], right[ROOM];
+static Row rows[WIDE];
+static u32 left[WIDE], right[WIDE];
 static Lists mine, plain;
 static u32 offsets[LIST];
 static u64 distances[LIST];
@@ -113,12 +114,72 @@ static void races(u32 d, u32 g, size_t most) {
                 }
 }
 
-int main(void) {
-    int v = 0;
-    for (int i = 0; i < N; i++) s[i] = v = in_limits(v + (int)(any() % 201) - 100);
-    races(4096, 0, 1024);
-    races(16, 80, 256);
+static void walk(double memory, int step) {
+    double v = 0;
+    for (int i = 0; i < N; i++) s[i] = v = in_limits(v * memory + step * ((int)(any() % 201) - 100));
+}
+
+// how many times as fast as the scan the search is
+static double lead(size_t count, Head head, size_t m, Asked asked) {
+    static u32 first[WIDE], last[WIDE];
+    static u16 scratch[WIDE];
+    size_t runs = rows[count - 1].first + rows[count - 1].runs;
+    double ra = 1e9, sa = 1e9;
+    Answer x = {9, 0, 0};
+    Counts z = {0, 0};
+    for (int k = 0; k < 3; k++) {
+        double t0 = now();
+        x = index_search(s, N, head, rows, count, left, runs, right, runs, asked, q, m, first, head.windows, last, head.windows, scratch, head.windows, mine.offsets, LIST, mine.distances, LIST);
+        double t1 = now();
+        plain_scan(s, N, asked, q, m, offsets, distances, LIST, &z);
+        ra = least(ra, t1 - t0);
+        sa = least(sa, now() - t1);
+    }
+    if (x.kind > 2 || x.second != z.matches || memcmp(mine.offsets, offsets, sizeof offsets) || memcmp(mine.distances, distances, sizeof distances)) different++;
+    return sa / ra;
+}
+
+// the same query under 18 limits, of which none lists much
+static double best_lead(size_t count, Head head, size_t m) {
+    static const u32 shifts[] = {50, 200, 1000}, tenths[] = {3, 10, 40};
+    double best = 0;
+    for (int k = 0; k < 18; k++) {
+        for (size_t i = 0; i < m; i++) q[i] = in_limits(s[N / 2 + i] + (int)(any() % 11) - 5);
+        Asked asked = {1, m / 20, tenths[k % 3] * m / 10, 11 + k / 9, shifts[k / 3 % 3]};
+        double f = lead(count, head, m, asked);
+        if (f > best) best = f;
+    }
+    return best;
+}
+
+static void sweep(void) {
+    static const struct { const char *name; double memory; int step; } series[] = {{"a random walk", 1, 1}, {"a walk that returns", 0.999, 1}, {"a steep walk", 1, 5}};
+    double best = 0;
+    for (int k = 0; k < 3; k++) {
+        walk(series[k].memory, series[k].step);
+        for (u32 w = 32; w <= 256; w *= 2) {
+            Head head = {w, 64 * w, N - w + 1};
+            size_t count = plain_build(s, N, w, head.width, 0, rows, head.windows, left, right);
+            double a = best_lead(count, head, 256), b = best_lead(count, head, 1024);
+            printf("%-20s w=%-3u d=%-5u  largest lead over the scan  %5.2f at m=256  %5.2f at m=1024\n", series[k].name, w, head.width, a, b);
+            fflush(stdout);
+            if (a > best) best = a;
+            if (b > best) best = b;
+        }
+    }
+    printf("largest of 432: %.2f times as fast as the scan\n", best);
+}
+
+int main(int argc, char **argv) {
+    (void)argv;
+    if (argc > 1) {
+        sweep();
+    } else {
+        walk(1, 1);
+        races(4096, 0, 1024);
+        races(16, 80, 256);
+        printf("%d goals missed (at most 1.3 of C, at most 1.5 of the scan, selective warped searches at most 1/5 of the scan)\n", missed);
+    }
     puts(different ? "DIFFERENT answers" : "all answers and buffers are the same");
-    printf("%d goals missed (at most 1.3 of C, at most 1.5 of the scan, selective warped searches at most 1/5 of the scan)\n", missed);
     return different != 0;
 }
