@@ -7,7 +7,7 @@ ghost use Rattle.meaning_text.proofs.Automaton.{atEnd};
 ghost use Rattle.text_index.specs.declared.Place.{Place};
 ghost use Rattle.text_index.specs.View.{keptAt};
 ghost use Rattle.text_event.specs.Event.{RunsFrom};
-ghost use Rattle.text_judge.specs.Tally.{held, noRuns, runNext, Sound, noRows, rowNext, tellTally, shutTally, toldRun, Fits, startTally, scanned, keptScanned};
+ghost use Rattle.text_judge.specs.Tally.{held, noRuns, runNext, Sound, noRows, rowNext, withHead, withOpen, tellTally, shutTally, toldRun, Fits, startTally, scanned, keptScanned};
 ghost use lib.ListN.{length};
 use judge::range_good;
 use judge::run_good;
@@ -166,6 +166,33 @@ pub fn close_row(head: Head, s: Rows, o: Open) -> Rows
     }
 }
 
+fn with_head(t: Tally, window: u32, width: u32, windows: u32) -> Tally
+    ensures { λ n. ⌜ n ≡ withHead (record { window = window; width = width; windows = windows }) t ⌝ }
+{
+    let rows = t.rows;
+    let row = t.row;
+    let head = Head {
+        window,
+        width,
+        windows,
+    };
+    Tally { head, rows, row }
+}
+
+fn with_row(t: Tally, low: i32, up: i32, left: u32, runs: Runs) -> Tally
+    ensures { λ n. ⌜ n ≡ withOpen (record { low = low; up = up; left = left; runs = runs }) t ⌝ }
+{
+    let head = t.head;
+    let rows = t.rows;
+    let row = Open {
+        low,
+        up,
+        left,
+        runs,
+    };
+    Tally { head, rows, row }
+}
+
 // What a number says.
 pub fn tell(t: Tally, p: Place, z: i64) -> Tally
     requires { ⌜ Sound (t .row .runs) ⌝ }
@@ -173,77 +200,19 @@ pub fn tell(t: Tally, p: Place, z: i64) -> Tally
     ensures { λ n. ⌜ n ≡ tellTally p z t ⌝ }
 {
     let h = t.head;
-    let rows = t.rows;
     let o = t.row;
     let runs = o.runs;
     match p {
-        Place::Window => Tally {
-            head: Head {
-                window: hold(z),
-                width: h.width,
-                windows: h.windows,
-            },
-            rows,
-            row: o,
-        },
-        Place::Width => Tally {
-            head: Head {
-                window: h.window,
-                width: hold(z),
-                windows: h.windows,
-            },
-            rows,
-            row: o,
-        },
-        Place::Windows => Tally {
-            head: Head {
-                window: h.window,
-                width: h.width,
-                windows: hold(z),
-            },
-            rows,
-            row: o,
-        },
-        Place::Low => Tally {
-            head: h,
-            rows,
-            row: Open {
-                low: narrow(z),
-                up: o.up,
-                left: o.left,
-                runs,
-            },
-        },
-        Place::Up => Tally {
-            head: h,
-            rows,
-            row: Open {
-                low: o.low,
-                up: narrow(z),
-                left: o.left,
-                runs: no_runs(),
-            },
-        },
-        Place::Left => Tally {
-            head: h,
-            rows,
-            row: Open {
-                low: o.low,
-                up: o.up,
-                left: hold(z),
-                runs,
-            },
-        },
-        Place::Right => Tally {
-            head: h,
-            rows,
-            row: Open {
-                low: o.low,
-                up: o.up,
-                left: o.left,
-                runs: more_run(h.windows, runs, o.left, hold(z)),
-            },
-        },
+        Place::Window => with_head(t, hold(z), h.width, h.windows),
+        Place::Width => with_head(t, h.window, hold(z), h.windows),
+        Place::Windows => with_head(t, h.window, h.width, hold(z)),
+        Place::Low => with_row(t, narrow(z), o.up, o.left, runs),
+        Place::Up => with_row(t, o.low, narrow(z), o.left, no_runs()),
+        Place::Left => with_row(t, o.low, o.up, hold(z), runs),
+        Place::Right => {
+            let more = more_run(h.windows, runs, o.left, hold(z));
+            with_row(t, o.low, o.up, o.left, more)
+        }
     }
 }
 
@@ -253,20 +222,10 @@ pub fn tell_run(t: Tally, l: u32, r: u32) -> Tally
     requires { ⌜ t .row .runs .count < 2 ^ 63 ⌝ }
     ensures { λ n. ⌜ n ≡ toldRun l r t ⌝ }
 {
-    let head = t.head;
-    let rows = t.rows;
     let o = t.row;
     let runs = o.runs;
-    Tally {
-        head,
-        rows,
-        row: Open {
-            low: o.low,
-            up: o.up,
-            left: l,
-            runs: more_run(head.windows, runs, l, r),
-        },
-    }
+    let more = more_run(t.head.windows, runs, l, r);
+    with_row(t, o.low, o.up, l, more)
 }
 
 // What a row's range and its first run say.
