@@ -12,7 +12,7 @@ ghost use Rattle.meaning_curves.specs.Limits.{endIn};
 ghost use Rattle.meaning_rows.specs.Index.{lent, entries};
 ghost use Rattle.meaning_rows.specs.Judge.{headGood, rangeGood};
 ghost use Rattle.judge.specs.Judged.{judgedOf};
-ghost use Rattle.judge.specs.State.{start, room, fits, scan, moved, after, next, verdictOf};
+ghost use Rattle.judge.specs.State.{start, room, fits, scan, after, next, verdictOf};
 use meaning_rows::Head;
 use meaning_rows::Row;
 use records::row_at;

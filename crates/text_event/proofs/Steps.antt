@@ -1,6 +1,5 @@
 -- The steps by which runs and the beginnings of rows are read, each by one byte, and what is put together of them (`body-told`, `plain-told`, `first-told`, `range-told`). Assumes nothing.
 use mathlib.Core.Path.{_≡_, refl}
-use mathlib.Core.Bool.{true, false}
 use Prim.Native.Nat.{ℕ, zero, suc, _+_, _*_, _-_, _/_, _%_, _<_, _≤_, _^_}
 use mathlib.Core.List.{List}
 use native.Mathlib.Decide.{decLt}
@@ -18,7 +17,6 @@ use Rattle.text_index.specs.declared.State.{State}
 use Rattle.text_index.specs.declared.Moved.{Moved}
 use Rattle.text_index.specs.Step.{word, behind, turnAfter, pick, reach, closes, wordStep, turnStep, endStep, numberStep, indexStep}
 use Rattle.text_event.specs.declared.Signed.{Signed}
-use Rattle.text_event.specs.declared.Range.{Range}
 use Rattle.text_event.specs.Event.{Quiet, still, more, ValueAt, ClosedAt, RunAt, RowAt, inRun, atRuns, atFirst, atRows, inRange, DigitsAt, NumberAt, leftOf, rightOf, lengthOf, PlainAt, BodyAt, Blank, PlusAt, LessAt, Opens, Ends}
 
 -- a byte that is not 0 lies in the text

@@ -1,5 +1,5 @@
 -- What comes next in an index text, by the steps of its automaton: bytes that say nothing (`Quiet`), then one that ends a number or a row, that is refused, or the text's end. A run is two numbers, a row's beginning two and a run. What every such step keeps, an event keeps (`quiet-keeps`, `value-keeps`, `run-keeps`, `row-keeps`, `runs-keeps`). Assumes nothing.
-use mathlib.Core.Path.{_≡_, refl, sym}
+use mathlib.Core.Path.{_≡_}
 use mathlib.Core.List.{List}
 use Prim.Native.Nat.{ℕ, _+_, _/_, _%_, _<_, _≤_, _^_}
 use native.Mathlib.Omega.{arith}
@@ -11,8 +11,7 @@ use Rattle.text_index.specs.declared.Place.{Place}
 use Rattle.text_index.specs.declared.Turn.{Turn}
 use Rattle.text_index.specs.declared.State.{State}
 use Rattle.text_index.specs.declared.Moved.{Moved}
-use Rattle.text_index.specs.Step.{indexStep, GoodState}
-use Rattle.text_index.specs.View.{step-good}
+use Rattle.text_index.specs.Step.{indexStep}
 use Rattle.text_event.specs.declared.Signed.{Signed}
 use Rattle.text_event.specs.declared.Range.{Range}
 use Rattle.text_event.specs.declared.Event.{Event}

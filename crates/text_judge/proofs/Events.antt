@@ -1,7 +1,7 @@
 -- What an event does to the loop that judges a text: what is left of the text comes to what the text comes to, and no count is above the bytes read (`Scanning`). Assumes nothing.
 use mathlib.Core.Path.{_≡_}
 use mathlib.Core.List.{List}
-use Prim.Native.Nat.{ℕ, _+_, _<_, _≤_}
+use Prim.Native.Nat.{ℕ, _+_, _<_}
 use lib.IntN.{ℤ, pos}
 use lib.ListN.{length, getD}
 use Rattle.meaning_text.specs.Read.{unfit}

@@ -1,7 +1,7 @@
 -- `judge::judge_runs` meets its contract. The loop's invariant: judging the runs that are left, from where the last run ended, gives what is to be returned, unless the last run ends outside the windows; and the lengths so far total at most what is passed, so that no sum wraps.
 -- The measure is how many runs are left. Assumes nothing.
 use mathlib.Core.Path.{_≡_, refl, sym, _∙_, ap}
-use mathlib.Core.Bool.{true, false}
+use mathlib.Core.Bool.{true}
 use Prim.Native.Nat.{ℕ, _+_, _-_, _<_, _≤_}
 use mathlib.Core.List.{List, [], _∷_}
 use native.Mathlib.Omega.{arith}

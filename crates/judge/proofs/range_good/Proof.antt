@@ -1,5 +1,5 @@
 -- `judge::range_good` meets its contract: its tests are those of the definition in another order, on numbers that the machine reads back as they are. Assumes nothing.
-use mathlib.Core.Path.{_≡_, refl, _∙_}
+use mathlib.Core.Path.{_≡_, refl}
 use mathlib.Core.Bool.{Bool, true, false, _&&_}
 use mir.Syntax.{w32}
 use mir.ValLaws.{toZ-ofZ}

@@ -7,7 +7,6 @@ use Rattle.text_event.proofs.Steps.{byte-inside}
 use borrow.Author.Needs.{needs}
 use Rattle.text_event.proofs.ends.Statement.{statement}
 use Rattle.text_event.proofs.ends.Tie as tie
-use Rattle.text_numbers.proofs.letter.Reads as letter-reads
 
 letter-requires : tie.Need-letter-requires
 letter-requires c κs = search needs

@@ -12,8 +12,6 @@ use Rattle.text_event.proofs.Steps.{less-told}
 use borrow.Author.Needs.{needs}
 use Rattle.text_event.proofs.less_at.Statement.{statement}
 use Rattle.text_event.proofs.less_at.Tie as tie
-use Rattle.text_event.proofs.negative.Reads as negative-reads
-use Rattle.text_event.proofs.number_at.Reads as number-at-reads
 
 number-at-requires : tie.Need-number-at-requires
 number-at-requires c κs = search needs

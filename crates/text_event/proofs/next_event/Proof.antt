@@ -5,9 +5,6 @@ use Rattle.text_index.specs.declared.State.{State}
 use borrow.Author.Needs.{needs}
 use Rattle.text_event.proofs.next_event.Statement.{statement}
 use Rattle.text_event.proofs.next_event.Tie as tie
-use Rattle.text_event.proofs.byte_event.Reads as byte-event-reads
-use Rattle.text_event.proofs.rows_event.Reads as rows-event-reads
-use Rattle.text_event.proofs.runs_event.Reads as runs-event-reads
 
 enum-told : tie.Need-enum-told
 enum-told c = search needs

@@ -5,7 +5,6 @@ use Rattle.text_event.proofs.Steps.{number-told}
 use borrow.Author.Needs.{needs}
 use Rattle.text_event.proofs.number_at.Statement.{statement}
 use Rattle.text_event.proofs.number_at.Tie as tie
-use Rattle.text_event.proofs.digits.Reads as digits-reads
 
 shared-slice-read-b : tie.Need-shared-slice-read-b
 shared-slice-read-b c = search needs

@@ -5,8 +5,6 @@ use Rattle.text_event.proofs.Steps.{plain-told}
 use borrow.Author.Needs.{needs}
 use Rattle.text_event.proofs.plain_run.Statement.{statement}
 use Rattle.text_event.proofs.plain_run.Tie as tie
-use Rattle.text_event.proofs.roomy.Reads as roomy-reads
-use Rattle.text_event.proofs.run_body.Reads as run-body-reads
 
 roomy-requires : tie.Need-roomy-requires
 roomy-requires c κs = search needs

@@ -9,8 +9,6 @@ use Rattle.text_event.proofs.Steps.{plus-told}
 use borrow.Author.Needs.{needs}
 use Rattle.text_event.proofs.plus_at.Statement.{statement}
 use Rattle.text_event.proofs.plus_at.Tie as tie
-use Rattle.text_event.proofs.number_at.Reads as number-at-reads
-use Rattle.text_event.proofs.positive.Reads as positive-reads
 
 number-at-requires : tie.Need-number-at-requires
 number-at-requires c κs = search needs

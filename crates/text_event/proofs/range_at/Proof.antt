@@ -9,8 +9,6 @@ use Rattle.text_event.proofs.Steps.{range-told}
 use borrow.Author.Needs.{needs}
 use Rattle.text_event.proofs.range_at.Statement.{statement}
 use Rattle.text_event.proofs.range_at.Tie as tie
-use Rattle.text_event.proofs.opens.Reads as opens-reads
-use Rattle.text_event.proofs.signed_at.Reads as signed-at-reads
 
 opens-requires : tie.Need-opens-requires
 opens-requires c κs = search needs

@@ -8,12 +8,6 @@ use Rattle.text_event.specs.Event.{run-up}
 use borrow.Author.Needs.{needs}
 use Rattle.text_event.proofs.rows_event.Statement.{statement}
 use Rattle.text_event.proofs.rows_event.Tie as tie
-use Rattle.text_event.proofs.byte_event.Reads as byte-event-reads
-use Rattle.text_event.proofs.first_run.Reads as first-run-reads
-use Rattle.text_event.proofs.range_at.Reads as range-at-reads
-use Rattle.text_event.proofs.run_left.Reads as run-left-reads
-use Rattle.text_event.proofs.run_length.Reads as run-length-reads
-use Rattle.text_event.proofs.run_right.Reads as run-right-reads
 
 range-at-requires : tie.Need-range-at-requires
 range-at-requires c κs = search needs

@@ -4,7 +4,6 @@ use Rattle.text_event.proofs.Steps.{body-told}
 use borrow.Author.Needs.{needs}
 use Rattle.text_event.proofs.run_body.Statement.{statement}
 use Rattle.text_event.proofs.run_body.Tie as tie
-use Rattle.text_event.proofs.number_at.Reads as number-at-reads
 
 number-at-requires : tie.Need-number-at-requires
 number-at-requires c κs = search needs

@@ -7,12 +7,6 @@ use Rattle.text_event.proofs.Steps.{byte-inside, ends-told}
 use borrow.Author.Needs.{needs}
 use Rattle.text_event.proofs.runs_event.Statement.{statement}
 use Rattle.text_event.proofs.runs_event.Tie as tie
-use Rattle.text_event.proofs.byte_event.Reads as byte-event-reads
-use Rattle.text_event.proofs.ends.Reads as ends-reads
-use Rattle.text_event.proofs.plain_run.Reads as plain-run-reads
-use Rattle.text_event.proofs.run_left.Reads as run-left-reads
-use Rattle.text_event.proofs.run_length.Reads as run-length-reads
-use Rattle.text_event.proofs.run_right.Reads as run-right-reads
 
 plain-run-requires : tie.Need-plain-run-requires
 plain-run-requires c κs = search needs

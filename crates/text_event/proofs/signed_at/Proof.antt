@@ -4,8 +4,6 @@ use Rattle.text_event.proofs.Steps.{sign-told}
 use borrow.Author.Needs.{needs}
 use Rattle.text_event.proofs.signed_at.Statement.{statement}
 use Rattle.text_event.proofs.signed_at.Tie as tie
-use Rattle.text_event.proofs.less_at.Reads as less-at-reads
-use Rattle.text_event.proofs.plus_at.Reads as plus-at-reads
 
 shared-slice-read-if1 : tie.Need-shared-slice-read-if1
 shared-slice-read-if1 c = search needs

@@ -14,14 +14,6 @@ use Rattle.text_judge.proofs.Events.{Scanning, scan-runs, scan-run, sca
 use borrow.Author.Needs.{needs}
 use Rattle.text_judge.proofs.scan.Statement.{statement}
 use Rattle.text_judge.proofs.scan.Tie as tie
-use Rattle.text_event.proofs.next_event.Reads as next-event-reads
-use Rattle.text_judge.proofs.no_tally.Reads as no-tally-reads
-use Rattle.text_judge.proofs.scan_end.Reads as scan-end-reads
-use Rattle.text_judge.proofs.shut.Reads as shut-reads
-use Rattle.text_judge.proofs.tell.Reads as tell-reads
-use Rattle.text_judge.proofs.tell_row.Reads as tell-row-reads
-use Rattle.text_judge.proofs.tell_run.Reads as tell-run-reads
-use Rattle.text_judge.proofs.tell_runs.Reads as tell-runs-reads
 
 abbrev Inv-loop : tie.InvT-loop
 Inv-loop text s₀ t₀ i₀ s t i = Scanning text s t i

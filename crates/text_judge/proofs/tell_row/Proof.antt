@@ -8,8 +8,6 @@ use Rattle.text_judge.specs.Tally.{tellTally, toldRun}
 use borrow.Author.Needs.{needs}
 use Rattle.text_judge.proofs.tell_row.Statement.{statement}
 use Rattle.text_judge.proofs.tell_row.Tie as tie
-use Rattle.text_judge.proofs.tell.Reads as tell-reads
-use Rattle.text_judge.proofs.tell_run.Reads as tell-run-reads
 
 tell-requires : tie.Need-tell-requires
 tell-requires c κs = search needs

@@ -8,11 +8,6 @@ use Rattle.text_judge.proofs.Events.{run-fits}
 use borrow.Author.Needs.{needs}
 use Rattle.text_judge.proofs.tell_runs.Statement.{statement}
 use Rattle.text_judge.proofs.tell_runs.Tie as tie
-use Rattle.text_event.proofs.plain_run.Reads as plain-run-reads
-use Rattle.text_event.proofs.run_left.Reads as run-left-reads
-use Rattle.text_event.proofs.run_length.Reads as run-length-reads
-use Rattle.text_event.proofs.run_right.Reads as run-right-reads
-use Rattle.text_judge.proofs.tell_run.Reads as tell-run-reads
 
 abbrev Inv-loop : tie.InvT-loop
 Inv-loop text at tally₀ i₀ tally i = Fits tally i × (i ≤ length text) × RunsFrom tellTally text tally₀ i₀ tally i

@@ -11,14 +11,6 @@ use Rattle.text_load.proofs.Columns.{Filling, filling-start, filling-ru
 use borrow.Author.Needs.{needs}
 use Rattle.text_load.proofs.fill_runs.Statement.{statement}
 use Rattle.text_load.proofs.fill_runs.Tie as tie
-use Rattle.text_event.proofs.next_event.Reads as next-event-reads
-use Rattle.text_judge.proofs.hold.Reads as hold-reads
-use Rattle.text_load.proofs.count_if.Reads as count-if-reads
-use Rattle.text_load.proofs.is_left.Reads as is-left-reads
-use Rattle.text_load.proofs.is_right.Reads as is-right-reads
-use Rattle.text_load.proofs.pick_if.Reads as pick-if-reads
-use Rattle.text_load.proofs.put_if.Reads as put-if-reads
-use Rattle.text_load.proofs.put_runs.Reads as put-runs-reads
 
 abbrev Inv-loop : tie.InvT-loop
 Inv-loop text left₀ right₀ s₀ l₀ k₀ i₀ left right s l k i = Filling text left₀ right₀ left right s l k i

@@ -9,11 +9,6 @@ use Rattle.text_load.proofs.Columns.{run-stored}
 use borrow.Author.Needs.{needs}
 use Rattle.text_load.proofs.put_runs.Statement.{statement}
 use Rattle.text_load.proofs.put_runs.Tie as tie
-use Rattle.text_event.proofs.plain_run.Reads as plain-run-reads
-use Rattle.text_event.proofs.run_left.Reads as run-left-reads
-use Rattle.text_event.proofs.run_length.Reads as run-length-reads
-use Rattle.text_event.proofs.run_right.Reads as run-right-reads
-use Rattle.text_load.proofs.put.Reads as put-reads
 
 abbrev Inv-loop : tie.InvT-loop
 Inv-loop text at k l r left₀ right₀ last₀ n₀ i₀ left right last n i =

@@ -11,14 +11,6 @@ use Rattle.text_rows.proofs.Turn.{Going, going-start, line-run, line-ro
 use borrow.Author.Needs.{needs}
 use Rattle.text_rows.proofs.row_from.Statement.{statement}
 use Rattle.text_rows.proofs.row_from.Tie as tie
-use Rattle.text_event.proofs.next_event.Reads as next-event-reads
-use Rattle.text_judge.proofs.shut.Reads as shut-reads
-use Rattle.text_judge.proofs.tell.Reads as tell-reads
-use Rattle.text_judge.proofs.tell_row.Reads as tell-row-reads
-use Rattle.text_judge.proofs.tell_run.Reads as tell-run-reads
-use Rattle.text_judge.proofs.tell_runs.Reads as tell-runs-reads
-use Rattle.text_rows.proofs.line_end.Reads as line-end-reads
-use Rattle.text_rows.proofs.make_row.Reads as make-row-reads
 
 abbrev Inv-loop : tie.InvT-loop
 Inv-loop text at s₀ t₀ i₀ s t i = Going text s₀ t₀ i₀ s t i
