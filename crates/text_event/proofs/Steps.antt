@@ -17,7 +17,7 @@ use Rattle.text_index.specs.declared.State.{State}
 use Rattle.text_index.specs.declared.Moved.{Moved}
 use Rattle.text_index.specs.Step.{word, behind, turnAfter, pick, reach, closes, wordStep, turnStep, endStep, numberStep, indexStep}
 use Rattle.text_event.specs.declared.Signed.{Signed}
-use Rattle.text_event.specs.Event.{Quiet, still, more, ValueAt, ClosedAt, RunAt, RowAt, inRun, atRuns, atFirst, atRows, inRange, DigitsAt, NumberAt, leftOf, rightOf, lengthOf, PlainAt, BodyAt, Blank, PlusAt, LessAt, Opens, Ends}
+use Rattle.text_event.specs.Event.{Quiet, still, more, ValueAt, ClosedAt, RunAt, RowAt, inRun, atRuns, atFirst, atRows, inRange, DigitsAt, NumberAt, leftOf, rightOf, lengthOf, PlainAt, BodyAt, Blank, BlankAt, SignedAt, Opens, Ends}
 
 -- a byte that is not 0 lies in the text
 pub byte-inside : (text : List ℕ) (k : ℕ) → 0 < getD text k 0 → k < length text
@@ -189,17 +189,20 @@ plain-told text i q h e f b =
 
 -- ---- the beginnings of rows
 
-pub plus-told : (text : List ℕ) (i q : ℕ) → i + q % 16 < length text → getD text (i + q % 16) 0 ≡ 32 → NumberAt text i q → PlusAt text i (Signed.Read (pos (q / 16)) (i + q % 16 + 1))
-plus-told text i q h e x = (omega (arith, x .short), λ p n b. record { last = State.At p (Numeral.Plus (q / 16)); place = i + q % 16; quiet = x .plus p; inside = h; ends = rw e (b .plus (q / 16)); next = refl })
+pub plus-told : (text : List ℕ) (i q : ℕ) → BlankAt text i q → SignedAt text i (Signed.Read (pos (q / 16)) (i + q % 16 + 1))
+plus-told text i q x =
+    let y = x .number in
+    (omega (arith, y .short), λ p n b. record { last = State.At p (Numeral.Plus (q / 16)); place = i + q % 16; quiet = y .plus p; inside = x .inside; ends = rw (x .blank) (b .plus (q / 16)); next = refl })
 
-pub less-told : (text : List ℕ) (i q : ℕ) → i + q % 16 < length text → getD text (i + q % 16) 0 ≡ 32 → NumberAt text i q → LessAt text i (Signed.Read (negℤ (pos (q / 16))) (i + q % 16 + 1))
-less-told text i q h e x = (omega (arith, x .short), λ p n b. record { last = State.At p (Numeral.Less (q / 16)); place = i + q % 16; quiet = x .less p; inside = h; ends = rw e (b .less (q / 16)); next = refl })
+pub less-told : (text : List ℕ) (i q : ℕ) → i < length text → getD text i 0 ≡ 45 → BlankAt text (i + 1) q → SignedAt text i (Signed.Read (negℤ (pos (q / 16))) (i + 1 + q % 16 + 1))
+less-told text i q h e x =
+    let y = x .number in (
+      omega (arith, y .short),
+      λ p n b. value-before {m = State.At p Numeral.Sign} h (rw e (sign p))
+          (record { last = State.At p (Numeral.Less (q / 16)); place = i + 1 + q % 16; quiet = y .less p; inside = x .inside; ends = rw (x .blank) (b .less (q / 16)); next = refl }),
+    )
 
-pub sign-told : (text : List ℕ) (i : ℕ) (r : Signed) → i < length text → getD text i 0 ≡ 45 → LessAt text (i + 1) r → PlusAt text i r
-sign-told text i (Signed.Read z j) h e x = (omega (arith, x .0), λ p n b. value-before {m = State.At p Numeral.Sign} h (rw e (sign p)) (x .1 p n b))
-sign-told text i Signed.None h e x = tt
-
-pub range-told : (text : List ℕ) (i : ℕ) (low up : ℤ) (j k : ℕ) → Opens text i → PlusAt text (i + 5) (Signed.Read low j) → PlusAt text j (Signed.Read up k) → RowAt text i low up k
+pub range-told : (text : List ℕ) (i : ℕ) (low up : ℤ) (j k : ℕ) → Opens text i → SignedAt text (i + 5) (Signed.Read low j) → SignedAt text j (Signed.Read up k) → RowAt text i low up k
 range-told text i low up j k o x y =
     let z : i + 5 ≡ i + 1 + 1 + 1 + 1 + 1 = omega arith in
     let b : getD text (i + 1 + 1) 0 ≡ 111 = let e : i + 1 + 1 ≡ i + 2 = omega arith in rw e (o .third) in

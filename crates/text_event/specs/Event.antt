@@ -134,14 +134,15 @@ pub record Blank (p : Place) (n : State) : Type 0 where
   pub less : (k : ℕ) → indexStep (State.At p (Numeral.Less k)) 32 ≡ Moved.Value n p (negℤ (pos k))
 
 -- a number with a blank behind it
-abbrev pub PlusAt : List ℕ → ℕ → Signed → Type 0
-PlusAt text i (Signed.Read z j) = (j ≤ i + 10) × ((p : Place) (n : State) → Blank p n → ValueAt text (State.At p Numeral.Start) i n p z j)
-PlusAt text i Signed.None = Unit {0}
+pub record BlankAt (text : List ℕ) (i q : ℕ) : Type 0 where
+  pub number : NumberAt text i q
+  pub inside : i + q % 16 < length text
+  pub blank : getD text (i + q % 16) 0 ≡ 32
 
--- behind its sign
-abbrev pub LessAt : List ℕ → ℕ → Signed → Type 0
-LessAt text i (Signed.Read z j) = (j ≤ i + 9) × ((p : Place) (n : State) → Blank p n → ValueAt text (State.At p Numeral.Sign) i n p z j)
-LessAt text i Signed.None = Unit {0}
+-- the same with or without a sign
+abbrev pub SignedAt : List ℕ → ℕ → Signed → Type 0
+SignedAt text i (Signed.Read z j) = (j ≤ i + 10) × ((p : Place) (n : State) → Blank p n → ValueAt text (State.At p Numeral.Start) i n p z j)
+SignedAt text i Signed.None = Unit {0}
 
 -- `(row ` and twenty bytes
 pub record Opens (text : List ℕ) (i : ℕ) : Type 0 where

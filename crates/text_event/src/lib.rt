@@ -12,7 +12,7 @@ ghost use Prim.Native.Nat.{_+_, _<_, _≤_, _^_};
 ghost use lib.IntN.{pos, negℤ};
 ghost use lib.ListN.{length};
 ghost use Rattle.text_index.specs.Step.{GoodState};
-ghost use Rattle.text_event.specs.Event.{leftOf, rightOf, lengthOf, DigitsAt, NumberAt, BodyAt, PlainAt, atRuns, atFirst, atRows, PlusAt, LessAt, RangeAt, Opens, Ends, EventAt};
+ghost use Rattle.text_event.specs.Event.{leftOf, rightOf, lengthOf, DigitsAt, NumberAt, BodyAt, PlainAt, atRuns, atFirst, atRows, BlankAt, SignedAt, RangeAt, Opens, Ends, EventAt};
 
 // A number with a blank behind it, and the place behind that; none where none stands.
 pub enum Signed {
@@ -175,47 +175,38 @@ fn negative(m: u64) -> i64
     0 - (m as i64)
 }
 
-// A number without a sign, and a blank.
-fn plus_at(text: &[u8], at: usize) -> Signed
+// A number with a blank behind it.
+fn number_and_blank(text: &[u8], at: usize) -> u64
     requires { ⌜ at + 9 ≤ length (now text) ⌝ }
-    ensures { λ r. ⌜ PlusAt (now (text .entry)) at r ⌝ }
+    ensures { λ q. ⌜ (0 < q → BlankAt (now (text .entry)) at q) ⌝ }
 {
     let q = number_at(text, at);
     if q == 0 {
-        return Signed::None;
+        return 0;
     }
-    let j = at + ((q % 16) as usize);
-    if text[j] != 32 {
-        return Signed::None;
+    if text[at + ((q % 16) as usize)] != 32 {
+        return 0;
     }
-    Signed::Read(positive(q / 16), j + 1)
-}
-
-// A number behind its sign, and a blank.
-fn less_at(text: &[u8], at: usize) -> Signed
-    requires { ⌜ at + 9 ≤ length (now text) ⌝ }
-    ensures { λ r. ⌜ LessAt (now (text .entry)) at r ⌝ }
-{
-    let q = number_at(text, at);
-    if q == 0 {
-        return Signed::None;
-    }
-    let j = at + ((q % 16) as usize);
-    if text[j] != 32 {
-        return Signed::None;
-    }
-    Signed::Read(negative(q / 16), j + 1)
+    q
 }
 
 // A number with or without a sign, and a blank.
 fn signed_at(text: &[u8], at: usize) -> Signed
     requires { ⌜ at + 10 ≤ length (now text) ⌝ }
-    ensures { λ r. ⌜ PlusAt (now (text .entry)) at r ⌝ }
+    ensures { λ r. ⌜ SignedAt (now (text .entry)) at r ⌝ }
 {
     if text[at] == 45 {
-        return less_at(text, at + 1);
+        let q = number_and_blank(text, at + 1);
+        if q == 0 {
+            return Signed::None;
+        }
+        return Signed::Read(negative(q / 16), at + 1 + ((q % 16) as usize) + 1);
     }
-    plus_at(text, at)
+    let q = number_and_blank(text, at);
+    if q == 0 {
+        return Signed::None;
+    }
+    Signed::Read(positive(q / 16), at + ((q % 16) as usize) + 1)
 }
 
 // The bytes from a place on are `(row `, and twenty and more come behind them.

@@ -1,35 +1,54 @@
 -- `text_event::signed_at` meets its contract. By its first byte. Assumes nothing.
+use mathlib.Core.Path.{_≡_}
+use Prim.Native.Nat.{_/_}
 use native.Mathlib.Omega.{arith}
-use Rattle.text_event.proofs.Steps.{sign-told}
+use lib.IntN.{pos}
+use mir.Syntax.{w64}
+use mir.Val.{toZ, ofZ}
+use mir.ValLaws.{toZ-ofZ}
+use Rattle.meaning_numbers.proofs.Machine.{zmach}
+use Rattle.meaning_numbers.proofs.Rep.{z-neg}
+use Rattle.text_event.proofs.Steps.{plus-told, less-told}
 use borrow.Author.Needs.{needs}
 use Rattle.text_event.proofs.signed_at.Statement.{statement}
 use Rattle.text_event.proofs.signed_at.Tie as tie
 
-shared-slice-read-if1 : tie.Need-shared-slice-read-if1
-shared-slice-read-if1 c = search needs
-
-add-less-at : tie.Need-add-less-at
-add-less-at c = search needs
-
-less-at-requires : tie.Need-less-at-requires
-less-at-requires c κs = search needs
-
-returns : tie.Need-returns
-returns c = sign-told _ _ (c .less-at .result) (omega (arith, c .before .before .before .before .pre)) (c .before .if1 .taken) (c .less-at .ensures)
-
-plus-at-requires : tie.Need-plus-at-requires
-plus-at-requires c κs = search needs
+negative-requires : tie.Need-negative-requires
+negative-requires c κs = let x = c .before .number-and-blank .ensures (omega (arith, c .if2 .left)) in x .number .small
 
 returns-2 : tie.Need-returns-2
-returns-2 c = search needs
+returns-2 c =
+    let n = c .before .before in let s = n .before .before .before .before in
+    let x = n .number-and-blank .ensures (omega (arith, c .before .if2 .left)) in
+    let e : toZ w64 (ofZ w64 (c .negative .result)) ≡ c .negative .result = toZ-ofZ w64 (c .negative .result) (omega (zmach, c .negative .ensures, x .number .small, z-neg (pos (n .number-and-blank .result / 16)))) in
+    rw (e, c .negative .ensures) (less-told _ _ _ (omega (arith, s .pre)) (n .before .if1 .taken) x)
+
+positive-requires : tie.Need-positive-requires
+positive-requires c κs = let x = c .before .number-and-blank2 .ensures (omega (arith, c .if3 .left)) in x .number .small
+
+returns-4 : tie.Need-returns-4
+returns-4 c =
+    let n = c .before .before in
+    let x = n .number-and-blank2 .ensures (omega (arith, c .before .if3 .left)) in
+    let e : toZ w64 (ofZ w64 (c .positive .result)) ≡ c .positive .result = toZ-ofZ w64 (c .positive .result) (omega (zmach, c .positive .ensures, x .number .small)) in
+    rw (e, c .positive .ensures) (plus-told _ _ _ x)
 
 pub signed-at-spec : {M : Type 1} → statement M
 signed-at-spec =
     tie.close
     (tie.spec
-    shared-slice-read-if1
-    add-less-at
-    less-at-requires
-    returns
-    plus-at-requires
-    returns-2)
+    (λ c. search needs)
+    (λ c. search needs)
+    (λ c κs. search needs)
+    (λ c. search needs)
+    negative-requires
+    (λ c. search needs)
+    (λ c. search needs)
+    (λ c. search needs)
+    returns-2
+    (λ c κs. search needs)
+    (λ c. search needs)
+    positive-requires
+    (λ c. search needs)
+    (λ c. search needs)
+    returns-4)
