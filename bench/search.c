@@ -44,6 +44,7 @@ static Lists mine, plain;
 static u32 offsets[LIST];
 static u64 distances[LIST];
 static int different, missed;
+static double spent; // what every search writes and reads takes so long
 
 static double least(double a, double b) { return a < b ? a : b; }
 
@@ -70,7 +71,7 @@ static void race(const char *name, size_t count, Head head, size_t m, Asked aske
     int slow = ra > 1.3 * ca || ra > 1.5 * sa || (selective && asked.band && 5 * ra > sa);
     if (!same) different++;
     if (slow) missed++;
-    printf("%-19s m=%-4zu %-13s of C %5.2f  of the scan 1/%-6.2f %8.2f / %8.2f / %8.2f ms  %7zu candidates %6zu matches%s%s\n", name, m, selective ? "selective" : "not selective", ra / ca, sa / ra, ra * 1e3, ca * 1e3, sa * 1e3,
+    printf("%-19s m=%-4zu %-13s of C %5.2f  of the scan 1/%-5.2f (floor 1/%-5.2f) %8.2f / %8.2f / %8.2f ms  %7zu candidates %6zu matches%s%s\n", name, m, selective ? "selective" : "not selective", ra / ca, sa / ra, sa / spent, ra * 1e3, ca * 1e3, sa * 1e3,
            x.first, x.second, slow ? "  MISSED" : "", same ? "" : "  DIFFERENT");
     fflush(stdout);
 }
@@ -92,6 +93,7 @@ static void floor_of(size_t count) {
         fa = least(fa, now() - t0);
     }
     (void)seen;
+    spent = fa;
     printf("buffers written once, series and index read once %8.2f ms\n", fa * 1e3);
 }
 
