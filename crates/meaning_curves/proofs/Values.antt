@@ -20,7 +20,7 @@ use Rattle.meaning_numbers.proofs.Between.{Between, within-yes, yes-within}
 use Rattle.meaning_curves.specs.Limits.{valueIn, firstOutside}
 use Rattle.meaning_curves.specs.Curve.{at, stretch}
 use Rattle.meaning_curves.specs.Straight.{cost}
-use Rattle.meaning_curves.proofs.Limits.{values-in}
+use Rattle.meaning_curves.proofs.Limits.{values-in, in-values}
 
 abbrev pub InLimits : ℤ → Type 0
 InLimits x = Between (negsuc 9999) x (pos 10000)
@@ -53,6 +53,9 @@ no-value x e = subst (λ (t : Bool). T (not t)) (sym e) tt
 -- no value is outside exactly where all are in
 pub none-outside : (s : List ℤ) → firstOutside s ≡ none → AllIn s
 none-outside s e = record { at = λ k. within-yes (negsuc 9999) (pos 10000) (at s k) (values-in s e k) }
+
+pub outside-none : {s : List ℤ} → AllIn s → firstOutside s ≡ none
+outside-none {s} h = in-values s (λ j l. yes-within (h .at j))
 
 -- ---- sizes
 

@@ -6,10 +6,13 @@ use native.Mathlib.Omega.{arith}
 use native.Mathlib.Decide.{decLe}
 use lib.IntN.{ℤ}
 use lib.Signed.{_≤ℤ_, ≤ℤ-refl}
+use Rattle.meaning_numbers.specs.Sum.{Σℤ}
 use Rattle.meaning_numbers.proofs.Rep.{≤ℤ-trans}
+use Rattle.meaning_numbers.proofs.Sum.{Σℤ-same}
 use Rattle.meaning_numbers.proofs.Order.{minℤ-le, maxℤ-le, minℤ-one, maxℤ-one}
 use Rattle.meaning_curves.specs.Warp.{Near}
 use Rattle.meaning_filter.specs.Envelope.{leastOf, greatestOf, reachOf, lower, upper}
+use Rattle.meaning_filter.specs.Range.{lowerSum, upperSum}
 
 -- L and U enclose, at each place i, every value of q within b places that exists
 pub record Envelope (q : ℕ → ℤ) (m b : ℕ) (L U : ℕ → ℤ) : Type 0 where
@@ -81,3 +84,12 @@ lower-straight q m i h = let o = lower-one q m 0 i h in let e : o .0 ≡ i = ome
 
 pub upper-straight : (q : ℕ → ℤ) (m i : ℕ) → i < m → upper q m 0 i ≡ q i
 upper-straight q m i h = let o = upper-one q m 0 i h in let e : o .0 ≡ i = omega (arith, o .2) in rw e at (o .3)
+
+-- and the sums over a part are the sum of the part
+pub lower-sum : (q : ℕ → ℤ) (m p w : ℕ) → p + w ≤ m → lowerSum q m 0 p w ≡ Σℤ w (λ k. q (p + k))
+unfolding lowerSum
+lower-sum q m p w h = Σℤ-same w (λ k. lower q m 0 (p + k)) (λ k. q (p + k)) (λ k l. lower-straight q m (p + k) (omega arith))
+
+pub upper-sum : (q : ℕ → ℤ) (m p w : ℕ) → p + w ≤ m → upperSum q m 0 p w ≡ Σℤ w (λ k. q (p + k))
+unfolding upperSum
+upper-sum q m p w h = Σℤ-same w (λ k. upper q m 0 (p + k)) (λ k. q (p + k)) (λ k l. upper-straight q m (p + k) (omega arith))

@@ -5,9 +5,17 @@ use Prim.Native.Nat.{ℕ, zero, suc, _+_, _-_, _*_, _<_, _≤_}
 use native.Mathlib.Omega.{arith}
 use native.Mathlib.Numerals.{add-one}
 use native.Mathlib.Nat.{le-step, add-suc}
-use lib.IntN.{ℤ, pos, _-ℤ_, _*ℤ_}
+use lib.IntN.{ℤ, pos, _+ℤ_, _-ℤ_, _*ℤ_}
 use Rattle.meaning_numbers.specs.Sum.{Σℤ, Σℕ}
 use Rattle.meaning_numbers.proofs.Rep.{Rep, up, dn, rep-self, rep-pos, rep-add, rep-sub, rep-mul, rep-eq}
+
+pub Σℤ-none : (f : ℕ → ℤ) → Σℤ 0 f ≡ pos 0
+unfolding Σℤ
+Σℤ-none f = refl
+
+pub Σℤ-more : (n : ℕ) (f : ℕ → ℤ) → Σℤ (n + 1) f ≡ Σℤ n f +ℤ f n
+unfolding Σℤ
+Σℤ-more n f = rw (add-one n)
 
 pub Σℕ-none : (f : ℕ → ℕ) → Σℕ 0 f ≡ 0
 unfolding Σℕ

@@ -1,7 +1,7 @@
 -- Row k holds exactly its sums, negative ones too: a sum lies in the range of its row number (`row-holds`) and in no other row's (`row-only`), by the two inequalities of the quotient rounded down.
 -- A range test is read as its two orders both ways (`inside-yes`, `is-inside`), and two ranges with nothing between them join (`inside-join`). Assumes nothing.
 use mathlib.Core.Path.{_≡_, refl, ap}
-use mathlib.Core.Bool.{Bool, true, false, _||_, and-false}
+use mathlib.Core.Bool.{Bool, true, false, _&&_, _||_, and-false}
 use Prim.Native.Nat.{ℕ, zero, suc, _+_, _*_, _/_, _%_, _<_, _≤_}
 use native.Mathlib.Omega.{arith}
 use native.Mathlib.Nat.{div-mul-le-self, lt-div-mul-add, div-add-mod', mul-mod-left}
@@ -53,6 +53,12 @@ inside-join a b c d z ab bc cd gap =
     (λ f. let l : c ≤ℤ z = ltZ-false f in by-test (ltZ z d)
     (λ t. let m : z <ℤ d = ltZ-true t in rw (inside-above a b z k, inside-yes c d z l m, inside-yes a d z h m))
     (λ g. let m : d ≤ℤ z = ltZ-false g in rw (inside-above a b z k, inside-above c d z m, inside-above a d z m))))
+
+pub inside-apart : (a b c d z : ℤ) → b ≤ℤ c → (inside a b z && inside c d z) ≡ false
+inside-apart a b c d z bc =
+    by-test (ltZ z b)
+    (λ t. let h : z <ℤ b = ltZ-true t in let k : z <ℤ c = omega zarith in rw (inside-below c d z k) (and-false (inside a b z)))
+    (λ f. rw (inside-above a b z (ltZ-false f)))
 
 -- ---- row numbers
 

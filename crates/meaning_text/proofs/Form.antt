@@ -16,7 +16,7 @@ use Rattle.meaning_text.specs.Bytes.{bytes}
 use Rattle.meaning_text.specs.Number.{spellℤ, Read, got, bad, isDigit}
 use Rattle.meaning_text.specs.Form.{Form, number, oneOf, lead, trail, both, many, Value, spellOne, spellMany, spell, end, Spellable, readWord, thenRead, wordStarts, starts, readOne, read}
 use Rattle.meaning_text.specs.Read.{Viable}
-use Rattle.meaning_text.proofs.Reading.{on-flag, false-true, and-true, like, NotNext, Begun, begun, begun-before, begun-as, begun-not, Reader, Refused, Outcome, refused-here, outcome-as, theWord, word-back, word-read, both-read, many-read, many-back}
+use Rattle.meaning_text.proofs.Reading.{on-flag, false-true, and-true, like, NotNext, Begun, begun, begun-before, begun-as, begun-not, Reader, Taken, Refused, Outcome, refused-here, outcome-as, theWord, word-back, word-read, both-read, many-read, many-back}
 use Rattle.meaning_text.proofs.Number.{leading, is-digit, digit-is, read-spelled, number-read}
 
 -- ---- where the next byte decides
@@ -271,6 +271,12 @@ spelled-read (many f) d v g t h =
     many-back (starts f) (theForm f) (form-read f (s .0)) (λ v g. firm-begun f (s .0) (s .1) v) (follows f) (spelled-read f (s .0)) (λ b e. clear-first (follows f) f b (s .2) e) v g t (n .1) (n .0)
 
 -- ---- nothing else is read, and where a refusal comes
+
+pub read-spelled-only : (f : Form) → decided f ≡ true → (t : List ℕ) (v : Value f) (u : List ℕ) → read f t ≡ got v u → Spellable f v × (t ≡ spell f v ++ u)
+read-spelled-only f d t v u e = let k : Taken (theForm f) t v u = rw e at (form-read f d t) in (k .good, k .parts)
+
+pub read-refused : (f : Form) → decided f ≡ true → (t u : List ℕ) → read f t ≡ bad u → Refused (theForm f) t u
+read-refused f d t u e = rw e at (form-read f d t)
 
 pub refused-viable : (f : Form) (t u : List ℕ) (k : Refused (theForm f) t u) → Viable f (k .before)
 refused-viable f t u k = (k .after, k .value, k .good, k .begins)

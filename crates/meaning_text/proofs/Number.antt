@@ -12,7 +12,7 @@ use lib.IntN.{ℤ, pos, negsuc, negℤ}
 use borrow.Author.Tests.{ltb-true, ltb-false, lt-ltb, le-ltb, leb-true, le-leb, eqb-true, ne-eqb}
 use Rattle.meaning_text.specs.Number.{digits, spellℕ, spellℤ, Short, Read, got, bad, isDigit, readDigits, readPositive, withSign, readℤ}
 use Rattle.meaning_text.specs.Form.{readWord, thenRead}
-use Rattle.meaning_text.proofs.Reading.{on-flag, and-true, Alike, like, NotNext, Reader, Refused, Outcome, refused-here, outcome-as, theWord, word-read, both-read}
+use Rattle.meaning_text.proofs.Reading.{on-flag, and-true, Alike, like, NotNext, Reader, Taken, Refused, Outcome, refused-here, outcome-as, theWord, word-read, both-read}
 
 -- ---- digits
 
@@ -221,3 +221,9 @@ number-read (b ∷ t) =
     (outcome-as (theWord (48 ∷ []) (pos 0)) theNumber (λ v h. rw h (omega arith, sym (spell-one 0 (omega arith)))) (48 ∷ t)
     (like (λ s. readℤ s ≡ readWord (48 ∷ []) (pos 0) s) (λ r. refl)) (got (pos 0) t) (word-read (48 ∷ []) (pos 0) (48 ∷ t))))
     (λ f. rw (read-plain b e f t) (signed [] pos (λ n g. (g .1, refl)) (b ∷ t) (like (λ s. readℤ s ≡ signThen [] pos s) (λ r. read-plain b e f r)))))
+
+pub read-spelled-only : (t : List ℕ) (z : ℤ) (u : List ℕ) → readℤ t ≡ got z u → Short z × (t ≡ spellℤ z ++ u)
+read-spelled-only t z u e = let k : Taken theNumber t z u = rw e at (number-read t) in (k .good, k .parts)
+
+pub read-refused : (t u : List ℕ) → readℤ t ≡ bad u → Refused theNumber t u
+read-refused t u e = rw e at (number-read t)
