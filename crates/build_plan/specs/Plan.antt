@@ -61,7 +61,7 @@ pub record NumbersPlanned (n w d g rows left right : ℕ) (p : Plan) : Type 0 wh
   pub goes : p .number ≡ 0 → Goes n w d g rows left right p
 
 pub record Planned (s : List ℤ) (w d g rows left right : ℕ) (p : Plan) : Type 0 where
-  pub refusal : refusalOf p ≡ firstRefusal (lengthOutside mostValues s ∷ valueOutside s ∷ numbersTable (length s) w d g rows left right)
+  pub refusal : refusalOf p ≡ firstRefusal (lengthOutside mostValues (length s) ∷ valueOutside s ∷ numbersTable (length s) w d g rows left right)
   pub goes : p .number ≡ 0 → AllIn s × (length s ≤ 1048576) × Goes (length s) w d g rows left right p
 
 -- ---- laws
@@ -169,6 +169,6 @@ module _ (s : List ℤ) (w d g rows left right : ℕ) {p : Plan} where
       nowhere (some m) q = let z : _≡_ {A = ℕ} 0 1 = cc in absurd (omega arith)
 
 -- the table of the entry
-pub table-is : (s : List ℤ) (w d g : ℕ) (b : IndexBuffers) → buildTable (lentBuild s w d g) b ≡ lengthOutside mostValues s ∷ valueOutside s ∷ numbersTable (length s) w d g (length (b .rows)) (length (b .left)) (length (b .right))
+pub table-is : (s : List ℤ) (w d g : ℕ) (b : IndexBuffers) → buildTable (lentBuild s w d g) b ≡ lengthOutside mostValues (length s) ∷ valueOutside s ∷ numbersTable (length s) w d g (length (b .rows)) (length (b .left)) (length (b .right))
 unfolding buildTable windowOutside widthOutside mergeOutside bufferShort
 table-is s w d g b = refl

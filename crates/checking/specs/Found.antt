@@ -27,7 +27,7 @@ use Rattle.checking.specs.Listed.{length-pairs}
 
 -- what is looked for
 abbrev pub asked : Kind → List ℤ → List ℤ → Limits → Question
-asked kind s q l = record { series = s; kind = kind; query = q; limits = l }
+asked kind s q l = record { series = s; query = q; ask = record { kind = kind; limits = l } }
 
 -- what was made of the query once, and sizes
 pub record Prepared (kind : Kind) (s q : List ℤ) (l : Limits) (curve low high : List ℤ) (p A : ℕ) : Type 0 where

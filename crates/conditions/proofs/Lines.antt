@@ -13,7 +13,7 @@ use Rattle.meaning_rows.specs.Index.{Index}
 use Rattle.meaning_rows.specs.Judge.{firstBadRow}
 use Rattle.meaning_entries.specs.Refusal.{lengthOutside, valueOutside, illFormed, windowsOf, fewerWindows, moreWindows, bufferShort}
 
-pub long-place : (s : List ℤ) (t : Bool) → lengthIn mostValues (length s) ≡ t → lengthOutside mostValues s .place ≡ cond (not t) (some 0) none
+pub long-place : (s : List ℤ) (t : Bool) → lengthIn mostValues (length s) ≡ t → lengthOutside mostValues (length s) .place ≡ cond (not t) (some 0) none
 unfolding lengthOutside
 long-place s t e = rw e refl
 
@@ -25,11 +25,11 @@ pub formed-place : (x : Index) (o : Option ℕ) → firstBadRow x ≡ o → illF
 unfolding illFormed
 formed-place x o e = e
 
-pub fewer-place : (x : Index) (s : List ℤ) (t : Bool) → ltZ (x .windows) (windowsOf x s) ≡ t → fewerWindows x s .place ≡ cond t (some 0) none
+pub fewer-place : (x : Index) (s : List ℤ) (t : Bool) → ltZ (x .windows) (windowsOf x (length s)) ≡ t → fewerWindows x (length s) .place ≡ cond t (some 0) none
 unfolding fewerWindows
 fewer-place x s t e = rw e refl
 
-pub more-place : (x : Index) (s : List ℤ) (t : Bool) → ltZ (windowsOf x s) (x .windows) ≡ t → moreWindows x s .place ≡ cond t (some 0) none
+pub more-place : (x : Index) (s : List ℤ) (t : Bool) → ltZ (windowsOf x (length s)) (x .windows) ≡ t → moreWindows x (length s) .place ≡ cond t (some 0) none
 unfolding moreWindows
 more-place x s t e = rw e refl
 

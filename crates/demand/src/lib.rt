@@ -2,8 +2,7 @@
 use audit::audit;
 use meaning_entries::Audited;
 use meaning_entries::Found;
-use meaning_filter::Kind;
-use meaning_filter::Limits;
+use meaning_filter::Ask;
 use meaning_rows::Head;
 use meaning_rows::Row;
 use search::search;
@@ -96,9 +95,8 @@ pub fn demand(
     rows2: &[Row],
     left2: &[u32],
     right2: &[u32],
-    kind: Kind,
+    ask: Ask,
     query: &[i32],
-    l: Limits,
     first1: &mut [u32],
     last1: &mut [u32],
     scratch1: &mut [u16],
@@ -110,7 +108,7 @@ pub fn demand(
     offsets2: &mut [u32],
     distances2: &mut [u64],
 ) -> Both
-    ensures { λ a. ⌜ Demand3Kept (lentSearch (now (series .entry)) head1 (now (rows1 .entry)) (now (left1 .entry)) (now (right1 .entry)) kind (now (query .entry)) l) (lent head2 (now (rows2 .entry)) (now (left2 .entry)) (now (right2 .entry))) (buffers (now (first1 .entry)) (now (last1 .entry)) (now (scratch1 .entry)) (now (offsets1 .entry)) (now (distances1 .entry))) (buffers (now (first2 .entry)) (now (last2 .entry)) (now (scratch2 .entry)) (now (offsets2 .entry)) (now (distances2 .entry))) a (buffers (now (first1 .exit)) (now (last1 .exit)) (now (scratch1 .exit)) (now (offsets1 .exit)) (now (distances1 .exit))) (buffers (now (first2 .exit)) (now (last2 .exit)) (now (scratch2 .exit)) (now (offsets2 .exit)) (now (distances2 .exit))) ⌝ }
+    ensures { λ a. ⌜ Demand3Kept (lentSearch (now (series .entry)) head1 (now (rows1 .entry)) (now (left1 .entry)) (now (right1 .entry)) ask (now (query .entry))) (lent head2 (now (rows2 .entry)) (now (left2 .entry)) (now (right2 .entry))) (buffers (now (first1 .entry)) (now (last1 .entry)) (now (scratch1 .entry)) (now (offsets1 .entry)) (now (distances1 .entry))) (buffers (now (first2 .entry)) (now (last2 .entry)) (now (scratch2 .entry)) (now (offsets2 .entry)) (now (distances2 .entry))) a (buffers (now (first1 .exit)) (now (last1 .exit)) (now (scratch1 .exit)) (now (offsets1 .exit)) (now (distances1 .exit))) (buffers (now (first2 .exit)) (now (last2 .exit)) (now (scratch2 .exit)) (now (offsets2 .exit)) (now (distances2 .exit))) ⌝ }
 {
     let one = audit(series, head1, rows1, left1, right1);
     let two = audit(series, head2, rows2, left2, right2);
@@ -120,9 +118,8 @@ pub fn demand(
         rows1,
         left1,
         right1,
-        kind,
+        ask,
         query,
-        l,
         first1,
         last1,
         scratch1,
@@ -135,9 +132,8 @@ pub fn demand(
         rows2,
         left2,
         right2,
-        kind,
+        ask,
         query,
-        l,
         first2,
         last2,
         scratch2,

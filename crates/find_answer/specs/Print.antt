@@ -28,15 +28,15 @@ use Rattle.meaning_text.specs.Texts.{indexText, foundText}
 use Rattle.meaning_entries.specs.declared.Built.{Built}
 use Rattle.meaning_entries.specs.declared.Found.{Found}
 use Rattle.meaning_entries.specs.Demand3.{pairs}
-use Rattle.meaning_entries.specs.Refusal.{atZero, lengthOutside, windowOutside, queryBelowWindow, thresholdOutside, illFormed, windowsOf, fewerWindows, moreWindows, bufferShort, listShort}
+use Rattle.meaning_entries.specs.Refusal.{atZero, lengthOutside, illFormed, windowsOf, bufferShort}
 use Rattle.meaning_entries.specs.Buffers.{IndexBuffers, filled, zeroRow, lefts, rights, indexIn}
 use Rattle.meaning_entries.specs.Answers.{headOf}
 use Rattle.meaning_entries.specs.Build.{BuildCall, lentBuild, buildTable, buildRefusal, buildIndex, buildAnswer, buildAfter}
 use Rattle.meaning_entries.specs.Write.{writeTable, writeRefusal}
-use Rattle.meaning_entries.specs.Search.{SearchCall, SearchBuffers, lentSearch, searchTable, searchRefusal, searchAnswer, searchMatches, searchCandidates, question}
-use Rattle.meaning_entries.specs.Program.{programIndex, printed}
+use Rattle.meaning_entries.specs.Search.{SearchCall, SearchBuffers, lentAsk, lentSearch, searchPlan, searchTable, searchRefusal, searchAnswer, searchMatches, searchCandidates, question}
+use Rattle.meaning_entries.specs.Program.{callLines, programIndex, printed}
 use Rattle.meaning_entries.specs.Demand2.{BuildKept, SearchKept}
-use Rattle.meaning_entries.proofs.Refusal.{Passed, end, more, passed-is, passed-at, not-if, query-some, scale-some}
+use Rattle.meaning_entries.proofs.Refusal.{Passed, end, more, passed-is, openLines, passed-line, passed-behind, not-if, query-some, scale-some}
 use Rattle.meaning_entries.proofs.Made.{build-passes, build-most}
 use Rattle.meaning_entries.proofs.Passes as Audit
 use Rattle.meaning_entries.proofs.Listed.{listed-is}
@@ -44,7 +44,6 @@ use Rattle.meaning_filter.proofs.Matches.{all-found}
 use Rattle.build.specs.Filled.{buffers as indexBuffers}
 use Rattle.find_plan.specs.declared.Asked.{Asked}
 use Rattle.find_plan.specs.Tables.{callOf}
-use Rattle.find_plan.specs.Says.{callLines}
 use Rattle.text_put.specs.Put.{Put, put-room, put-length}
 use Rattle.find_answer.specs.Sizes.{index-size, all-size}
 
@@ -87,20 +86,20 @@ module _ (s q : List ℤ) (a : Asked) (free : Passed (callLines (callOf s q a)))
   x = buildIndex c
 
   length-is : T (lengthIn mostProgramValues (length s))
-  unfolding callLines callOf lengthOutside
-  length-is = not-not (lengthIn mostProgramValues (length s)) (not-if 1 (not (lengthIn mostProgramValues (length s))) (passed-at free 0))
+  unfolding openLines callLines callOf
+  length-is = not-not (lengthIn mostProgramValues (length s)) (not-if 1 (not (lengthIn mostProgramValues (length s))) (passed-line free 1))
 
   pub few : length s ≤ 4096
   few = omega (zarith, within-yes (pos 1) (pos 4096) (pos (length s)) length-is .high)
 
-  long-in : lengthOutside mostValues s .place ≡ none
+  long-in : lengthOutside mostValues (length s) .place ≡ none
   unfolding lengthOutside
   long-in = let b = within-yes (pos 1) (pos 4096) (pos (length s)) length-is in passes-if 1 (not (lengthIn mostValues (length s))) (yes-not-not (lengthIn mostValues (length s)) (yes-within (record { low = b .low; high = omega (zarith, b .high) })))
 
   window-in : (1 ≤ w) × (w ≤ length s)
-  unfolding callLines callOf windowOutside
+  unfolding openLines callLines callOf
   window-in =
-      let t = neither (not (windowIn (pos w))) (ltZ (pos (length s)) (pos w)) (not-if 3 (not (windowIn (pos w)) || ltZ (pos (length s)) (pos w)) (passed-at free 3)) in
+      let t = neither (not (windowIn (pos w))) (ltZ (pos (length s)) (pos w)) (not-if 3 (not (windowIn (pos w)) || ltZ (pos (length s)) (pos w)) (passed-line free 3)) in
       let b = within-yes (pos 1) (pos 256) (pos w) (not-not (windowIn (pos w)) (t .0)) in
       (omega (zarith, b .low), omega (arith, ltb-no (length s) w (is-false (ltb (length s) w) (t .1))))
     where
@@ -116,8 +115,8 @@ module _ (s q : List ℤ) (a : Asked) (free : Passed (callLines (callOf s q a)))
 
     -- its build is not refused
     pub build-free : buildRefusal c b ≡ none
-    unfolding buildTable callLines callOf
-    build-free = passed-is (more long-in (more (passed-at free 1) (more (passed-at free 3) (more (passed-at free 4) (more (passed-at free 5)
+    unfolding openLines buildTable callLines callOf
+    build-free = passed-is (more long-in (more (passed-line free 2) (more (passed-line free 3) (more (passed-line free 4) (more (passed-line free 5)
         (more (enough (length rows) (windowCount (length s) w) (omega (arith, r, windows-few))) (more (enough (min (length left) (length right)) (windowCount (length s) w) (omega (arith, l, k, windows-few))) end)))))))
 
     is-passed-x : Audit.Passed x s
@@ -156,32 +155,23 @@ module _ (s q : List ℤ) (a : Asked) (free : Passed (callLines (callOf s q a)))
   -- ---- its search
 
   abbrev pub d : SearchCall
-  d = record {
-    series = s;
-    index = x;
-    kind = a .kind;
-    query = q;
-    band = pos (a .limits .band);
-    threshold = pos (a .limits .threshold);
-    scale = pos (a .limits .scale);
-    shift = pos (a .limits .shift);
-  }
+  d = record { series = s; index = x; query = q; ask = lentAsk (a .ask) }
 
   -- the search through what is lent is that through what was built
-  pub search-is : lentSearch s (headOf x) (x .rows) (lefts (x .runs)) (rights (x .runs)) (a .kind) q (a .limits) ≡ d
-  search-is = ap (λ (y : Index). record { series = s; index = y; kind = a .kind; query = q; band = pos (a .limits .band); threshold = pos (a .limits .threshold); scale = pos (a .limits .scale); shift = pos (a .limits .shift) }) lent-is
+  pub search-is : lentSearch s (headOf x) (x .rows) (lefts (x .runs)) (rights (x .runs)) (a .ask) q ≡ d
+  search-is = ap (λ (y : Index). record { series = s; index = y; query = q; ask = lentAsk (a .ask) }) lent-is
 
   pub printed-is : printed (callOf s q a) ≡ indexText x ++ foundText (length (searchMatches d)) (searchCandidates d) (searchMatches d)
   unfolding printed programIndex callOf
   printed-is = refl
 
   query-some-here : 1 ≤ length q
-  unfolding callLines callOf
-  query-some-here = query-some q s (passed-at free 6)
+  unfolding openLines callLines callOf
+  query-some-here = query-some (length q) (length s) (passed-line free 6)
 
-  near : a .limits .threshold ≤ 1000000000000
-  unfolding callLines callOf thresholdOutside
-  near = let E = pos (a .limits .threshold) in omega (zarith, within-yes (pos 0) (pos 1000000000000) E (not-not (thresholdIn E) (not-if 9 (not (thresholdIn E)) (passed-at free 9))) .high)
+  near : a .ask .limits .threshold ≤ 1000000000000
+  unfolding openLines callLines callOf
+  near = let E = pos (a .ask .limits .threshold) in omega (zarith, within-yes (pos 0) (pos 1000000000000) E (not-not (thresholdIn E) (not-if 9 (not (thresholdIn E)) (passed-line free 9))) .high)
 
   candidates-few : searchCandidates d < 10 ^ 18
   unfolding candidateCount question
@@ -203,8 +193,8 @@ module _ (s q : List ℤ) (a : Asked) (free : Passed (callLines (callOf s q a)))
   passed-here = is-passed-x no-rows zeros zeros rows-long zeros-long zeros-long
 
   all-here : searchMatches d ≡ allMatches (question d)
-  unfolding callLines callOf question
-  all-here = all-found x (question d) (Audit.passes-reached x s (build-passes c (indexBuffers no-rows zeros zeros) (build-free no-rows zeros zeros rows-long zeros-long zeros-long))) (query-some q s (passed-at free 6)) (scale-some (pos (a .limits .scale)) (pos (a .limits .shift)) (passed-at free 10))
+  unfolding openLines callLines callOf question
+  all-here = all-found x (question d) (Audit.passes-reached x s (build-passes c (indexBuffers no-rows zeros zeros) (build-free no-rows zeros zeros rows-long zeros-long zeros-long))) (query-some (length q) (length s) (passed-line free 6)) (scale-some (pos (a .ask .limits .scale)) (pos (a .ask .limits .shift)) (passed-line free 10))
 
   sizes-here : (length (allMatches (question d)) ≤ 4096) × (length (foundText (length (allMatches (question d))) (searchCandidates d) (allMatches (question d))) ≤ 200000)
   unfolding question
@@ -226,7 +216,7 @@ module _ (s q : List ℤ) (a : Asked) (free : Passed (callLines (callOf s q a)))
   write-free text h = passed-is (more (none-bad x (passed-here .formed)) (more (enough (length text) (length (indexText x)) (omega (arith, h, index-few))) end))
 
   -- as many windows as the series has
-  windows-are : (windowsOf x s ≤ℤ x .windows) × (x .windows ≤ℤ windowsOf x s)
+  windows-are : (windowsOf x (length s) ≤ℤ x .windows) × (x .windows ≤ℤ windowsOf x (length s))
   unfolding buildIndex built
   windows-are =
       let h = z-add (pos (length s) -ℤ pos w) (pos 1) in
@@ -237,13 +227,13 @@ module _ (s q : List ℤ) (a : Asked) (free : Passed (callLines (callOf s q a)))
   no-lt {y} {z} h = rw (le-ltZ {a = y} {b = z} h) tt
 
   pub search-free : (before : SearchBuffers) → length (before .left) ≡ 4096 → length (before .right) ≡ 4096 → length (before .scratch) ≡ 4096 → length (before .offsets) ≡ 4096 → length (before .distances) ≡ 4096 → searchRefusal d before ≡ none
-  unfolding searchTable callLines callOf illFormed fewerWindows moreWindows listShort queryBelowWindow buildIndex built
+  unfolding openLines searchPlan searchTable callLines callOf buildIndex built
   search-free before hl hr hc ho hd =
       let n = windowCount (length s) w in
-      passed-is (more long-in (more (passed-at free 1) (more (passed-at free 2) (more (passed-at free 6) (more (passed-at free 7) (more (passed-at free 8) (more (passed-at free 9) (more (passed-at free 10) (more (passed-at free 11)
+      passed-is (more long-in (more (passed-line free 2) (more (passed-line (passed-behind free 2) 2) (more (passed-line free 6) (more (passed-line free 7) (more (passed-line free 8) (more (passed-line free 9) (more (passed-line free 10) (more (passed-line free 11)
       (more (none-bad x (passed-here .formed))
-      (more (passes-if 21 (ltZ (x .windows) (windowsOf x s)) (no-lt (windows-are .0)))
-      (more (passes-if 22 (ltZ (windowsOf x s) (x .windows)) (no-lt (windows-are .1)))
+      (more (passes-if 21 (ltZ (x .windows) (windowsOf x (length s))) (no-lt (windows-are .0)))
+      (more (passes-if 22 (ltZ (windowsOf x (length s)) (x .windows)) (no-lt (windows-are .1)))
       (more (enough (min (length (before .left)) (length (before .right))) n (omega (arith, hl, hr, windows-few)))
       (more (enough (length (before .scratch)) n (omega (arith, hc, windows-few)))
       (more (rw (le-ltb (min (length (before .offsets)) (length (before .distances))) (length (searchMatches d)) (omega (arith, ho, hd, matches-few)))) end)))))))))))))))

@@ -105,10 +105,10 @@ near Normal s q m l e =
     let b = scaleNear s q m (l .scale) in
     leb-true (normalDistance s q (l .band) m) (l .threshold) (both c d (both b (c && d) (both (not (flat s m)) (b && (c && d)) e .1) .1) .1)
 
-match-near : (z : Question) (j : ℕ) → matchesAt z j ≡ true → listed z j .1 ≤ z .limits .threshold
-match-near z j e = near (z .kind) (stretch (z .series) j) (at (z .query)) (length (z .query)) (z .limits) e
+match-near : (z : Question) (j : ℕ) → matchesAt z j ≡ true → listed z j .1 ≤ z .ask .limits .threshold
+match-near z j e = near (z .ask .kind) (stretch (z .series) j) (at (z .query)) (length (z .query)) (z .ask .limits) e
 
-small-kept : (z : Question) (k n : ℕ) → k + n ≤ 4097 → z .limits .threshold ≤ 1000000000000 → Each Small (map (listed z) (keep (matchesAt z) (numbersFrom k n))) × (length (keep (matchesAt z) (numbersFrom k n)) ≤ n)
+small-kept : (z : Question) (k n : ℕ) → k + n ≤ 4097 → z .ask .limits .threshold ≤ 1000000000000 → Each Small (map (listed z) (keep (matchesAt z) (numbersFrom k n))) × (length (keep (matchesAt z) (numbersFrom k n)) ≤ n)
 unfolding keep numbersFrom
 small-kept z k zero h t = (end, omega arith)
 small-kept z k (suc n) h t =
@@ -118,7 +118,7 @@ small-kept z k (suc n) h t =
     (λ e. rw e (r .0, omega (arith, r .1)))
 
 -- the list of all matches
-pub all-size : (z : Question) (c : ℕ) → offsetCount z ≤ 4096 → z .limits .threshold ≤ 1000000000000 → c < 10 ^ 18 → (length (allMatches z) ≤ 4096) × (length (foundText (length (allMatches z)) c (allMatches z)) ≤ 200000)
+pub all-size : (z : Question) (c : ℕ) → offsetCount z ≤ 4096 → z .ask .limits .threshold ≤ 1000000000000 → c < 10 ^ 18 → (length (allMatches z) ≤ 4096) × (length (foundText (length (allMatches z)) c (allMatches z)) ≤ 200000)
 unfolding allMatches
 all-size z c h t k =
     let r = small-kept z 0 (offsetCount z) (omega (arith, h)) t in

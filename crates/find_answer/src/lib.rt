@@ -3,8 +3,7 @@ use build_index::build;
 use meaning_entries::Built;
 use meaning_entries::Found;
 use meaning_entries::Written;
-use meaning_filter::Kind;
-use meaning_filter::Limits;
+use meaning_filter::Ask;
 use meaning_rows::Head;
 use meaning_rows::Row;
 use search::search;
@@ -76,9 +75,8 @@ pub fn search_table(
     n: usize,
     left: &[u32],
     right: &[u32],
-    kind: Kind,
+    ask: Ask,
     query: &[i32],
-    limits: Limits,
     first: &mut [u32],
     last: &mut [u32],
     scratch: &mut [u16],
@@ -86,7 +84,7 @@ pub fn search_table(
     distances: &mut [u64],
 ) -> Found
     requires { ⌜ n ≤ 4096 ⌝ }
-    ensures { λ a. ⌜ SearchKept (lentSearch (now (series .entry)) head (take n table) (now (left .entry)) (now (right .entry)) kind (now (query .entry)) limits) (buffers (now (first .entry)) (now (last .entry)) (now (scratch .entry)) (now (offsets .entry)) (now (distances .entry))) a (buffers (now (first .exit)) (now (last .exit)) (now (scratch .exit)) (now (offsets .exit)) (now (distances .exit))) ⌝ }
+    ensures { λ a. ⌜ SearchKept (lentSearch (now (series .entry)) head (take n table) (now (left .entry)) (now (right .entry)) ask (now (query .entry))) (buffers (now (first .entry)) (now (last .entry)) (now (scratch .entry)) (now (offsets .entry)) (now (distances .entry))) a (buffers (now (first .exit)) (now (last .exit)) (now (scratch .exit)) (now (offsets .exit)) (now (distances .exit))) ⌝ }
 {
     search(
         series,
@@ -94,9 +92,8 @@ pub fn search_table(
         &table[..n],
         left,
         right,
-        kind,
+        ask,
         query,
-        limits,
         first,
         last,
         scratch,
@@ -145,14 +142,13 @@ pub fn list_matches(
     n: usize,
     left: &[u32],
     right: &[u32],
-    kind: Kind,
+    ask: Ask,
     query: &[i32],
-    limits: Limits,
     text: &mut [u8],
     at: usize,
 ) -> usize
     requires { ⌜ n ≤ 4096 ⌝ }
-    ensures { λ r. ⌜ Listed (lentSearch (now (series .entry)) head (take n table) (now (left .entry)) (now (right .entry)) kind (now (query .entry)) limits) (now (text .entry)) at (now (text .exit)) r ⌝ }
+    ensures { λ r. ⌜ Listed (lentSearch (now (series .entry)) head (take n table) (now (left .entry)) (now (right .entry)) ask (now (query .entry))) (now (text .entry)) at (now (text .exit)) r ⌝ }
 {
     let mut first = [0u32; 4096];
     let mut last = [0u32; 4096];
@@ -166,9 +162,8 @@ pub fn list_matches(
         n,
         left,
         right,
-        kind,
+        ask,
         query,
-        limits,
         &mut first,
         &mut last,
         &mut scratch,

@@ -22,9 +22,11 @@ use Rattle.meaning_text.specs.Read.{readText, fine, unfit, lineOf}
 use Rattle.meaning_text.specs.Texts.{programForm, kindSaid}
 use Rattle.meaning_text.proofs.Automaton.{Fed, going, failed}
 use Rattle.meaning_text.proofs.Reading.{on-flag}
-use Rattle.meaning_entries.specs.Refusal.{Condition, firstRefusal, lengthOutside, valueOutside, windowOutside, widthOutside, mergeOutside, queryLengthOutside, queryBelowWindow, bandOutside, thresholdOutside, scaleOrShiftOutside, flatQuery, badLine, unreadable}
-use Rattle.meaning_entries.specs.Program.{ProgramCall, programSaid, textProgram, programTable}
-use Rattle.meaning_entries.proofs.Refusal.{Passed, end, more, judged, First, first-is, first-left, first-right, passed-at, not-if}
+use Rattle.meaning_entries.specs.Refusal.{Condition, firstRefusal, valueOutside, flatQuery, badLine, unreadable}
+use Rattle.meaning_entries.specs.Build.{widthLines}
+use Rattle.meaning_entries.specs.Search.{valueLines, limitLines}
+use Rattle.meaning_entries.specs.Program.{ProgramCall, programSaid, textProgram, callLines, programTable}
+use Rattle.meaning_entries.proofs.Refusal.{Passed, end, more, judged, First, first-is, first-left, first-right, passed-both, openLines, passed-line, not-if}
 use Rattle.conditions.specs.Refusal.{refusalOf, asRefusal, place-is, place-none}
 use Rattle.text_lines.specs.declared.State.{State}
 use Rattle.text_lines.specs.Follow.{Said, Reading, programStart, programValue, program-comes, acceptState}
@@ -87,25 +89,8 @@ same-end a b x y f = by-first (judged a)
 
 -- ---- the call that the lines say
 
--- the lines of the program's table, over a call
-unfoldable pub callLines : ProgramCall → List Condition
-callLines c =
-    lengthOutside mostProgramValues (c .series)
-    ∷ valueOutside (c .series)
-    ∷ valueOutside (c .query)
-    ∷ windowOutside (c .window) (c .series)
-    ∷ widthOutside (c .width)
-    ∷ mergeOutside (c .merge)
-    ∷ queryLengthOutside (c .query) (c .series)
-    ∷ queryBelowWindow (c .query) (c .window)
-    ∷ bandOutside (c .query) (c .band)
-    ∷ thresholdOutside (c .threshold)
-    ∷ scaleOrShiftOutside (c .scale) (c .shift)
-    ∷ flatQuery (c .kind) (c .query)
-    ∷ []
-
 pub table-is : (t : List ℕ) → programTable t ≡ unreadable programForm 0 t ∷ callLines (textProgram t)
-unfolding programTable callLines
+unfolding programTable
 table-is t = refl
 
 kind-is : (b : Bool) → kindOf (cond b (pos 1) (pos 0)) ≡ kindSaid b
@@ -116,13 +101,13 @@ module _ {kept asked : List ℤ} {g : Said} {numbers : List ℤ} {v q : Values} 
   abbrev said : ProgramCall
   said = programSaid (programValue g)
 
-  values-are : valuesTable v q ≡ lengthOutside mostProgramValues (g .series) ∷ valueOutside (g .series) ∷ valueOutside (g .query) ∷ []
-  unfolding valuesTable lengthOutside valueOutside
+  values-are : valuesTable v q ≡ valueLines mostProgramValues (g .series) (g .query)
+  unfolding valuesTable valueOutside
   values-are = rw (out-is (h .first), out-is (h .second), h .first .count)
 
   numbers-are : numbersTable (v .count) (q .count) (numbersAt numbers)
-      ≡ windowOutside (g .window) (g .series) ∷ widthOutside (g .width) ∷ mergeOutside (g .merge) ∷ queryLengthOutside (g .query) (g .series) ∷ queryBelowWindow (g .query) (g .window) ∷ bandOutside (g .query) (g .band) ∷ thresholdOutside (g .threshold) ∷ scaleOrShiftOutside (g .scale) (g .shift) ∷ []
-  unfolding numbersTable numbersAt windowOutside widthOutside mergeOutside queryLengthOutside queryBelowWindow bandOutside thresholdOutside scaleOrShiftOutside
+      ≡ widthLines (length (g .series)) (g .window) (g .width) (g .merge) ++ limitLines (length (g .series)) (length (g .query)) (g .window) (programSaid (programValue g) .ask)
+  unfolding numbersTable numbersAt programSaid
   numbers-are = rw (h .first .count, h .second .count, h .alone)
 
   raw-is : kindOf (numbersAt numbers .raw) ≡ kindSaid (g .raw)
@@ -211,14 +196,14 @@ module _ (kept asked : List ℤ) (t : List ℕ) (r : Input) (numbers series quer
 -- ---- what is asked
 
 pub passed-limited : (n m : ℕ) (x : Numbers) → Passed (numbersTable n m x) → Limited x
-unfolding numbersTable
+unfolding openLines numbersTable
 passed-limited n m x h =
-    let w = within-yes (pos 1) (pos 256) (x .window) (not-not (windowIn (x .window)) (neither (not (windowIn (x .window))) (ltZ (pos n) (x .window)) (not-if 3 (not (windowIn (x .window)) || ltZ (pos n) (x .window)) (passed-at h 0)) .0)) in
-    let d = within-yes (pos 1) (pos 1000000) (x .width) (not-not (widthIn (x .width)) (not-if 4 (not (widthIn (x .width))) (passed-at h 1))) in
-    let g = within-yes (pos 0) (pos 100) (x .merge) (not-not (mergeIn (x .merge)) (not-if 5 (not (mergeIn (x .merge))) (passed-at h 2))) in
-    let b = within-yes (pos 0) (pos m -ℤ pos 1) (x .band) (not-not (bandIn m (x .band)) (not-if 8 (not (bandIn m (x .band))) (passed-at h 5))) in
-    let e = within-yes (pos 0) (pos 1000000000000) (x .threshold) (not-not (thresholdIn (x .threshold)) (not-if 9 (not (thresholdIn (x .threshold))) (passed-at h 6))) in
-    let t = neither (not (scaleIn (x .scale))) (not (shiftIn (x .shift))) (not-if 10 (not (scaleIn (x .scale)) || not (shiftIn (x .shift))) (passed-at h 7)) in
+    let w = within-yes (pos 1) (pos 256) (x .window) (not-not (windowIn (x .window)) (neither (not (windowIn (x .window))) (ltZ (pos n) (x .window)) (not-if 3 (not (windowIn (x .window)) || ltZ (pos n) (x .window)) (passed-line h 3)) .0)) in
+    let d = within-yes (pos 1) (pos 1000000) (x .width) (not-not (widthIn (x .width)) (not-if 4 (not (widthIn (x .width))) (passed-line h 4))) in
+    let g = within-yes (pos 0) (pos 100) (x .merge) (not-not (mergeIn (x .merge)) (not-if 5 (not (mergeIn (x .merge))) (passed-line h 5))) in
+    let b = within-yes (pos 0) (pos m -ℤ pos 1) (x .band) (not-not (bandIn m (x .band)) (not-if 8 (not (bandIn m (x .band))) (passed-line h 8))) in
+    let e = within-yes (pos 0) (pos 1000000000000) (x .threshold) (not-not (thresholdIn (x .threshold)) (not-if 9 (not (thresholdIn (x .threshold))) (passed-line h 9))) in
+    let t = neither (not (scaleIn (x .scale))) (not (shiftIn (x .shift))) (not-if 10 (not (scaleIn (x .scale)) || not (shiftIn (x .shift))) (passed-line h 10)) in
     let a = within-yes (pos 10) (pos 100) (x .scale) (not-not (scaleIn (x .scale)) (t .0)) in
     let i = within-yes (pos 0) (pos 20000) (x .shift) (not-not (shiftIn (x .shift)) (t .1)) in
     let q = query-few n m x h in
@@ -245,11 +230,10 @@ pub record Given (kept asked : List ℤ) (t : List ℕ) (p : Progress) (numbers 
 
 passed-parts : (v q : Values) (x : Numbers) (query : List ℤ) → Passed (callTable v q x query) → Passed (valuesTable v q) × Passed (numbersTable (v .count) (q .count) x)
 unfolding callTable
-passed-parts v q x query h = let k = split (valuesTable v q) (numbersTable (v .count) (q .count) x ++ (flatQuery (kindOf (x .raw)) (take (q .count) query) ∷ [])) h in (k .0, split (numbersTable (v .count) (q .count) x) (flatQuery (kindOf (x .raw)) (take (q .count) query) ∷ []) (k .1) .0)
-  where
-    split : (a b : List Condition) → Passed (a ++ b) → Passed a × Passed b
-    split [] b h = (end, h)
-    split (c ∷ a) b (more e h) = let k = split a b h in (more e (k .0), k .1)
+passed-parts v q x query h =
+    let rest = flatQuery (kindOf (x .raw)) (take (q .count) query) ∷ [] in
+    let k = passed-both (valuesTable v q) (numbersTable (v .count) (q .count) x ++ rest) h in
+    (k .0, passed-both (numbersTable (v .count) (q .count) x) rest (k .1) .0)
 
 -- what the lines say, in the types of the code
 said-is : (g : Said) (numbers s q : List ℤ) → numbers ≡ numbersOf g → s ≡ g .series → q ≡ g .query → Limited (numbersAt numbers) → programSaid (programValue g) ≡ callOf s q (askedOf (numbersAt numbers))
@@ -261,18 +245,20 @@ said-is g numbers s q e a b h =
       width = natural (g .width) (x .width) i;
       merge = natural (g .merge) (x .merge) i;
       series = g .series;
-      kind = kind-is (g .raw) i;
-      band = natural (g .band) (x .band) i;
-      threshold = natural (g .threshold) (x .threshold) i;
-      scale = natural (g .scale) (x .scale) i;
-      shift = natural (g .shift) (x .shift) i;
       query = g .query;
+      ask = record {
+        kind = kind-is (g .raw) i;
+        band = natural (g .band) (x .band) i;
+        threshold = natural (g .threshold) (x .threshold) i;
+        scale = natural (g .scale) (x .scale) i;
+        shift = natural (g .shift) (x .shift) i;
+      };
     }))
 
 pub asked-is : (kept asked : List ℤ) (t : List ℕ) (p : Progress) (line : ℕ) (numbers series query : List ℤ) → Stands kept asked t (Input.Going p line) numbers series query → 4096 ≤ length kept → 1024 ≤ length asked
     → Passed (endTable (Input.Going p line) numbers query) → Given kept asked t p numbers series query
-unfolding Stands endTable
-asked-is kept asked t p line numbers series query (s, l) long room h = by-test (isDone (p .state)) done (λ d. let k = rw d at (passed-at h 0) in let z : _≡_ {A = ℕ} 0 1 = cc in absurd (omega arith))
+unfolding Stands endTable openLines
+asked-is kept asked t p line numbers series query (s, l) long room h = by-test (isDone (p .state)) done (λ d. let k = rw d at (passed-line h 12) in let z : _≡_ {A = ℕ} 0 1 = cc in absurd (omega arith))
   where
     done : isDone (p .state) ≡ true → Given kept asked t p numbers series query
     done d =

@@ -1,5 +1,5 @@
 -- The program's refusals in order, over what was kept of its lines: counts of values, how many stand before the first outside, the single numbers, the kept query. Assumes nothing.
-use mathlib.Core.Bool.{Bool, true, false, not, cond, _||_}
+use mathlib.Core.Bool.{Bool, true, false, cond}
 use mathlib.Core.List.{List, [], _∷_, _++_}
 use mathlib.Core.Option.{Option, none, some}
 use mathlib.Core.Path.{_≡_}
@@ -8,11 +8,13 @@ use lib.Dec.{ltb}
 use lib.IntN.{ℤ, pos, natAbs}
 use lib.ListN.{length, getD, take}
 use lib.Signed.{ltZ, _≤ℤ_}
-use Rattle.meaning_curves.specs.Limits.{mostProgramValues, lengthIn, windowIn, widthIn, mergeIn, queryLengthIn, bandIn, thresholdIn, scaleIn, shiftIn}
+use Rattle.meaning_curves.specs.Limits.{mostProgramValues}
 use Rattle.meaning_curves.proofs.Values.{AllIn}
 use Rattle.meaning_filter.specs.declared.Kind.{Kind}
 use Rattle.meaning_text.specs.Texts.{kindSaid}
-use Rattle.meaning_entries.specs.Refusal.{Condition, atPlace, atZero, flatQuery}
+use Rattle.meaning_entries.specs.Refusal.{Condition, atPlace, lengthOutside, flatQuery}
+use Rattle.meaning_entries.specs.Build.{widthLines}
+use Rattle.meaning_entries.specs.Search.{Asking, lentAsk, plainAsk, limitLines}
 use Rattle.meaning_entries.specs.Program.{ProgramCall}
 use Rattle.text_lines.specs.declared.State.{State}
 use Rattle.text_feed.specs.declared.Values.{Values}
@@ -37,26 +39,21 @@ numbersAt l = record {
 abbrev pub kindOf : ℤ → Kind
 kindOf z = kindSaid (ltZ (pos 0) z)
 
+-- what they ask of the search
+abbrev pub asksOf : Numbers → Asking
+asksOf x = record { kind = kindOf (x .raw); band = x .band; threshold = x .threshold; scale = x .scale; shift = x .shift }
+
 -- the place of the first value outside its limits
 abbrev pub firstOut : Values → Option ℕ
 firstOut v = cond (ltb (v .inside) (v .count)) (some (v .inside)) none
 
 -- 1 and 2
 unfoldable pub valuesTable : Values → Values → List Condition
-valuesTable v q = atZero 1 (not (lengthIn mostProgramValues (v .count))) ∷ atPlace 2 (firstOut v) ∷ atPlace 2 (firstOut q) ∷ []
+valuesTable v q = lengthOutside mostProgramValues (v .count) ∷ atPlace 2 (firstOut v) ∷ atPlace 2 (firstOut q) ∷ []
 
 -- 3 to 10, for a series of n values and a query of m
 unfoldable pub numbersTable : ℕ → ℕ → Numbers → List Condition
-numbersTable n m x =
-    atZero 3 (not (windowIn (x .window)) || ltZ (pos n) (x .window))
-    ∷ atZero 4 (not (widthIn (x .width)))
-    ∷ atZero 5 (not (mergeIn (x .merge)))
-    ∷ atZero 6 (not (queryLengthIn m) || ltb n m)
-    ∷ atZero 7 (ltZ (pos m) (x .window))
-    ∷ atZero 8 (not (bandIn m (x .band)))
-    ∷ atZero 9 (not (thresholdIn (x .threshold)))
-    ∷ atZero 10 (not (scaleIn (x .scale)) || not (shiftIn (x .shift)))
-    ∷ []
+numbersTable n m x = widthLines n (x .window) (x .width) (x .merge) ++ limitLines n m (x .window) (asksOf x)
 
 -- 1 to 11
 unfoldable pub callTable : Values → Values → Numbers → List ℤ → List Condition
@@ -108,8 +105,7 @@ askedOf x = record {
   window = natAbs (x .window);
   width = natAbs (x .width);
   merge = natAbs (x .merge);
-  kind = kindOf (x .raw);
-  limits = record { band = natAbs (x .band); threshold = natAbs (x .threshold); scale = natAbs (x .scale); shift = natAbs (x .shift) };
+  ask = plainAsk (asksOf x);
 }
 
 -- the call of the program
@@ -119,10 +115,6 @@ callOf s q a = record {
   width = pos (a .width);
   merge = pos (a .merge);
   series = s;
-  kind = a .kind;
-  band = pos (a .limits .band);
-  threshold = pos (a .limits .threshold);
-  scale = pos (a .limits .scale);
-  shift = pos (a .limits .shift);
   query = q;
+  ask = lentAsk (a .ask);
 }

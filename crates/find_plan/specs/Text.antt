@@ -18,8 +18,8 @@ use Rattle.meaning_numbers.proofs.Tests.{by-test, not-not, neither}
 use Rattle.meaning_numbers.proofs.Between.{within-yes}
 use Rattle.meaning_numbers.specs.Order.{within}
 use Rattle.meaning_curves.specs.Limits.{mostProgramValues, lengthIn, queryLengthIn}
-use Rattle.meaning_entries.specs.Refusal.{Condition, atPlace}
-use Rattle.meaning_entries.proofs.Refusal.{Passed, passed-at, not-if, lacks}
+use Rattle.meaning_entries.specs.Refusal.{Condition, atPlace, lengthOutside}
+use Rattle.meaning_entries.proofs.Refusal.{Passed, openLines, passed-line, passed-behind, not-if, lacks}
 use Rattle.conditions.specs.declared.Refusal.{Refusal}
 use Rattle.conditions.specs.Refusal.{refusalOf, refuseIf, unrefused, none-is, line-is, place-is, place-none}
 use Rattle.text_feed.specs.declared.Values.{Values}
@@ -52,7 +52,7 @@ module _ (v q : Values) where
   lines = atPlace 2 (firstOut v) ∷ atPlace 2 (firstOut q) ∷ []
 
   first-line : (t : Bool) → few ≡ t → refusalOf (valuesTable v q) ≡ refuseIf (not t) 1 (refusalOf lines)
-  unfolding valuesTable lines within
+  unfolding valuesTable lengthOutside lines within
   first-line t e = line-is 1 (not (lengthIn mostProgramValues (v .count))) lines ∙ rw e
 
   pub length-refused : not few ≡ true → record { number = 1; place = 0 } ≡ refusalOf (valuesTable v q)
@@ -80,31 +80,31 @@ module _ (v q : Values) where
 -- ---- the end of the input, as the code goes
 
 pub values-lack : (v q : Values) → T (lacks 0 (valuesTable v q))
-unfolding lacks valuesTable
+unfolding openLines lacks valuesTable
 values-lack v q = tt
 
 pub numbers-lack : (n m : ℕ) (x : Numbers) → T (lacks 0 (numbersTable n m x))
-unfolding lacks numbersTable
+unfolding openLines lacks numbersTable
 numbers-lack n m x = tt
 
 -- what is known where values and numbers pass
 pub series-few : (v q : Values) → Passed (valuesTable v q) → v .count ≤ 4096
-unfolding valuesTable
+unfolding openLines valuesTable
 series-few v q h =
-    omega (zarith, within-yes (pos 1) (pos 4096) (pos (v .count)) (not-not (lengthIn mostProgramValues (v .count)) (not-if 1 (not (lengthIn mostProgramValues (v .count))) (passed-at h 0))) .high)
+    omega (zarith, within-yes (pos 1) (pos 4096) (pos (v .count)) (not-not (lengthIn mostProgramValues (v .count)) (not-if 1 (not (lengthIn mostProgramValues (v .count))) (passed-line h 1))) .high)
 
 pub series-in : (v q : Values) → Passed (valuesTable v q) → firstOut v ≡ none
-unfolding valuesTable
-series-in v q h = passed-at h 1
+unfolding openLines valuesTable
+series-in v q h = passed-line h 2
 
 pub query-in : (v q : Values) → Passed (valuesTable v q) → firstOut q ≡ none
-unfolding valuesTable
-query-in v q h = passed-at h 2
+unfolding openLines valuesTable
+query-in v q h = passed-line (passed-behind h 2) 2
 
 pub query-few : (n m : ℕ) (x : Numbers) → Passed (numbersTable n m x) → m ≤ 1024
-unfolding numbersTable
+unfolding openLines numbersTable
 query-few n m x h =
-    let t = neither (not (queryLengthIn m)) (ltb n m) (not-if 6 (not (queryLengthIn m) || ltb n m) (passed-at h 3)) in
+    let t = neither (not (queryLengthIn m)) (ltb n m) (not-if 6 (not (queryLengthIn m) || ltb n m) (passed-line h 6)) in
     omega (zarith, within-yes (pos 1) (pos 1024) (pos m) (not-not (queryLengthIn m) (t .0)) .high)
 
 module _ {r : Input} (numbers query : List ℤ) where

@@ -2,6 +2,7 @@
 use conditions::Refusal;
 use conditions::query_length_outside;
 use conditions::refuse_if;
+use meaning_filter::Ask;
 use meaning_filter::Kind;
 use meaning_filter::Limits;
 use numbers::minus;
@@ -259,13 +260,12 @@ pub fn refuse(r: Input, numbers: &[i64], query: &[i32]) -> Refusal
     }
 }
 
-// What a program that is not refused asks: a build, and a search by these limits.
+// What a program that is not refused asks: a build, and a search.
 pub struct Asked {
     pub window: u32,
     pub width: u32,
     pub merge: u32,
-    pub kind: Kind,
-    pub limits: Limits,
+    pub ask: Ask,
 }
 
 // A number that fits.
@@ -296,11 +296,11 @@ pub fn asked_of(x: Numbers) -> Asked
         shift: held(x.shift),
     };
     let kind = kind_of(x.raw);
+    let ask = Ask { kind, limits };
     Asked {
         window: held(x.window),
         width: held(x.width),
         merge: held(x.merge),
-        kind,
-        limits,
+        ask,
     }
 }

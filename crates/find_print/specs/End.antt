@@ -8,9 +8,9 @@ use lib.IntN.{ℤ}
 use lib.ListN.{length, take, drop}
 use lib.Seq.{take-append-seam}
 use Rattle.meaning_text.specs.Texts.{refusedText}
-use Rattle.meaning_entries.specs.Refusal.{Condition, unreadable, lengthOutside, valueOutside, windowOutside, widthOutside, mergeOutside, queryLengthOutside, queryBelowWindow, bandOutside, thresholdOutside, scaleOrShiftOutside, flatQuery}
-use Rattle.meaning_entries.specs.Program.{ProgramCall, programTable, printed, program}
-use Rattle.meaning_entries.proofs.Refusal.{Passed, more, passed-is, passed-at, lacks}
+use Rattle.meaning_entries.specs.Refusal.{Condition}
+use Rattle.meaning_entries.specs.Program.{ProgramCall, callLines, programTable, printed, program}
+use Rattle.meaning_entries.proofs.Refusal.{Passed, more, passed-is, openLines, passed-line, lacks}
 use Rattle.conditions.specs.declared.Refusal.{Refusal}
 use Rattle.conditions.specs.Refusal.{refusalOf, passes, refuses}
 use Rattle.text_put.specs.Put.{Put, put-room, put-length}
@@ -18,7 +18,7 @@ use Rattle.text_feed.specs.declared.Progress.{Progress}
 use Rattle.find_plan.specs.declared.Input.{Input}
 use Rattle.find_plan.specs.Input.{Stands}
 use Rattle.find_plan.specs.Tables.{numbersAt, endTable, SoundEnd, askedOf, callOf, valuesTable, numbersTable, callTable}
-use Rattle.find_plan.specs.Says.{stands-sound, end-is, Given, asked-is, callLines, table-is}
+use Rattle.find_plan.specs.Says.{stands-sound, end-is, Given, asked-is, table-is}
 use Rattle.find_answer.specs.Sizes.{refused-size}
 use Rattle.find_answer.specs.Finish.{Prints, Reached, Finishes}
 
@@ -54,12 +54,12 @@ refused-end r numbers series query w old new to e f n p long put =
 -- ---- nothing refuses
 
 end-lacks : (r : Input) (numbers query : List ℤ) → T (lacks 0 (endTable r numbers query))
-unfolding lacks endTable callTable valuesTable numbersTable flatQuery
+unfolding openLines lacks endTable callTable valuesTable numbersTable
 end-lacks (Input.Failed line) numbers query = tt
 end-lacks (Input.Going p line) numbers query = tt
 
 program-lacks : (t : List ℕ) → T (lacks 0 (programTable t))
-unfolding lacks programTable unreadable lengthOutside valueOutside windowOutside widthOutside mergeOutside queryLengthOutside queryBelowWindow bandOutside thresholdOutside scaleOrShiftOutside flatQuery
+unfolding openLines lacks callLines programTable
 program-lacks t = tt
 
 tail : {c : Condition} {l : List Condition} → Passed (c ∷ l) → Passed l
@@ -70,8 +70,8 @@ module _ (r : Input) (numbers series query : List ℤ) (w : Refusal) (e : w ≡ 
   free = passes (endTable r numbers query) (end-lacks r numbers query) e z
 
   pub not-failed : {line : ℕ} {B : Type 0} → r ≡ Input.Failed line → B
-  unfolding endTable
-  not-failed {line} g = let k = passed-at (rw (g, endTable) at free) 0 in let o : _≡_ {A = ℕ} 0 1 = cc in absurd (omega arith)
+  unfolding openLines endTable
+  not-failed {line} g = let k = passed-line (rw (g, endTable) at free) 12 in let o : _≡_ {A = ℕ} 0 1 = cc in absurd (omega arith)
 
   module _ {p : Progress} {line : ℕ} (g : r ≡ Input.Going p line) where
     module _ (kept asked : List ℤ) (t : List ℕ) (long : length kept ≡ 4096) (short : length asked ≡ 1024) (s : Stands kept asked t r numbers series query) where

@@ -17,28 +17,26 @@ use Rattle.meaning_rows.specs.Index.{Index, lent}
 use Rattle.meaning_text.specs.Texts.{indexText, foundText}
 use Rattle.meaning_entries.specs.declared.Built.{Built}
 use Rattle.meaning_entries.specs.declared.Written.{Written}
-use Rattle.meaning_entries.specs.Refusal.{windowOutside}
 use Rattle.meaning_entries.specs.Answers.{headOf, writtenCount}
 use Rattle.meaning_entries.specs.Build.{lentBuild}
 use Rattle.meaning_entries.specs.Write.{writeCount, writeAfter}
 use Rattle.meaning_entries.specs.Search.{SearchCall, lentSearch, searchMatches, searchCandidates}
-use Rattle.meaning_entries.specs.Program.{printed}
+use Rattle.meaning_entries.specs.Program.{callLines, printed}
 use Rattle.meaning_entries.specs.Demand2.{BuildKept, WriteKept}
-use Rattle.meaning_entries.proofs.Refusal.{Passed, passed-at, not-if}
+use Rattle.meaning_entries.proofs.Refusal.{Passed, openLines, passed-line, not-if}
 use Rattle.meaning_entries.proofs.Made.{build-most}
 use Rattle.build.specs.Filled.{buffers}
 use Rattle.find_plan.specs.declared.Asked.{Asked}
 use Rattle.find_plan.specs.Tables.{callOf}
-use Rattle.find_plan.specs.Says.{callLines}
 use Rattle.find_answer.specs.Print.{x, few, build-free, stands, lent-is, d, search-is, printed-is, found-few, index-few, write-free, search-free, put-behind}
 use Rattle.find_answer.specs.Finish.{Listed, Prints}
 
 module _ (s q : List ℤ) (a : Asked) (free : Passed (callLines (callOf s q a))) where
   window-some : 1 ≤ a .window
-  unfolding callLines callOf windowOutside
+  unfolding openLines callLines callOf
   window-some =
       let w = pos (a .window) in
-      let t = neither (not (windowIn w)) (ltZ (pos (length s)) w) (not-if 3 (not (windowIn w) || ltZ (pos (length s)) w) (passed-at free 3)) in
+      let t = neither (not (windowIn w)) (ltZ (pos (length s)) w) (not-if 3 (not (windowIn w) || ltZ (pos (length s)) w) (passed-line free 3)) in
       omega (zarith, within-yes (pos 1) (pos 256) w (not-not (windowIn w) (t .0)) .low)
 
   abbrev y : Index
@@ -75,11 +73,11 @@ module _ (s q : List ℤ) (a : Asked) (free : Passed (callLines (callOf s q a)))
       lent-here : lent head (take n rows′) (take m left′) (take m right′) ≡ y
       lent-here = let st = stands s q a free rows left right r l k h in rw (head-is, rows-are, runs-are, st .table, st .first, st .last) (lent-is s q a free)
 
-      search-here : lentSearch s head (take n rows′) (take m left′) (take m right′) (a .kind) q (a .limits) ≡ d s q a free
+      search-here : lentSearch s head (take n rows′) (take m left′) (take m right′) (a .ask) q ≡ d s q a free
       search-here = let st = stands s q a free rows left right r l k h in rw (head-is, rows-are, runs-are, st .table, st .first, st .last) (search-is s q a free)
 
       pub prints : (old mid new : List ℕ) (written : Written) (to : ℕ) → length old ≡ 1048576 → WriteKept (lent head (take n rows′) (take m left′) (take m right′)) old written mid
-          → Listed (lentSearch s head (take n rows′) (take m left′) (take m right′) (a .kind) q (a .limits)) mid (writtenCount written) new to → Prints (printed (callOf s q a)) new to
+          → Listed (lentSearch s head (take n rows′) (take m left′) (take m right′) (a .ask) q) mid (writtenCount written) new to → Prints (printed (callOf s q a)) new to
       unfolding writeCount writeAfter
       prints old mid new written to long wrote listed =
           let g = subst (λ (i : Index). WriteKept i old written mid) lent-here wrote in

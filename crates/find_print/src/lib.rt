@@ -13,10 +13,9 @@ use meaning_rows::Row;
 use text_list::write_refused;
 ghost use mathlib.Core.Path.{_≡_};
 ghost use lib.ListN.{length};
-ghost use Rattle.meaning_entries.specs.Program.{printed};
+ghost use Rattle.meaning_entries.specs.Program.{callLines, printed};
 ghost use Rattle.meaning_entries.proofs.Refusal.{Passed};
 ghost use Rattle.find_plan.specs.Tables.{callOf};
-ghost use Rattle.find_plan.specs.Says.{callLines};
 ghost use Rattle.find_answer.specs.Finish.{Prints, Finishes};
 ghost use Rattle.find_print.specs.End.{Held};
 
@@ -51,8 +50,7 @@ pub fn print_answer(series: &[i32], query: &[i32], a: Asked, text: &mut [u8]) ->
         } => 0,
         Built::Index { head, rows, runs } => {
             let at = length_of(write_table(head, table, rows, &left[..runs], &right[..runs], text));
-            let kind = a.kind;
-            let limits = a.limits;
+            let ask = a.ask;
             list_matches(
                 series,
                 head,
@@ -60,9 +58,8 @@ pub fn print_answer(series: &[i32], query: &[i32], a: Asked, text: &mut [u8]) ->
                 rows,
                 &left[..runs],
                 &right[..runs],
-                kind,
+                ask,
                 query,
-                limits,
                 text,
                 at,
             )

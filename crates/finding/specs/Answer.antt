@@ -11,9 +11,15 @@ use Rattle.meaning_curves.specs.Curve.{at, spread}
 use Rattle.meaning_curves.proofs.Values.{AllIn}
 use Rattle.meaning_filter.specs.declared.Kind.{Kind}
 use Rattle.meaning_filter.specs.declared.Limits.{Limits}
+use Rattle.meaning_filter.specs.declared.Ask.{Ask}
+use Rattle.meaning_filter.specs.Matches.{Question}
 use Rattle.meaning_entries.specs.declared.Found.{Found}
 use Rattle.meaning_entries.specs.Buffers.{pairRoom}
 use Rattle.checking.specs.Listed.{ListFilled}
+
+-- what is looked for
+abbrev pub wanted : Ask → List ℤ → List ℤ → Question
+wanted ask s q = record { series = s; query = q; ask = ask }
 
 -- a series and a query within their limits
 pub record Limited (kind : Kind) (s q : List ℤ) (l : Limits) : Type 0 where

@@ -10,25 +10,24 @@ use lib.ListN.{length}
 use Rattle.meaning_rows.specs.declared.Row.{Row}
 use Rattle.meaning_rows.specs.declared.Head.{Head}
 use Rattle.meaning_rows.specs.Index.{Index}
-use Rattle.meaning_filter.specs.declared.Kind.{Kind}
-use Rattle.meaning_filter.specs.declared.Limits.{Limits}
+use Rattle.meaning_filter.specs.declared.Ask.{Ask}
 use Rattle.meaning_filter.specs.Matches.{candidateRuns}
 use Rattle.meaning_entries.specs.declared.Found.{Found}
 use Rattle.meaning_entries.specs.Refusal.{firstRefusal}
-use Rattle.meaning_entries.specs.Search.{SearchCall, SearchBuffers, lentSearch, question, listRoom, searchMatches, searchCandidates, searchAnswer, searchAfter, lookedAfter}
+use Rattle.meaning_entries.specs.Search.{SearchCall, SearchBuffers, lentSearch, question, listRoom, searchMatches, searchCandidates, searchPlan, searchAnswer, searchAfter, lookedAfter}
 use Rattle.meaning_entries.specs.Demand2.{SearchKept}
 use Rattle.meaning_entries.proofs.Demand2.{search-kept}
-use Rattle.meaning_entries.proofs.Looked.{planTable, plan-all, plan-full}
+use Rattle.meaning_entries.proofs.Looked.{plan-all, plan-full}
 use Rattle.search_plan.specs.Allowed.{Allowed, thePlan, goes-on}
 use Rattle.checking.specs.Members.{members}
-use Rattle.checking.specs.Found.{asked, lentRuns, found, found-among}
+use Rattle.checking.specs.Found.{lentRuns, found, found-among}
 use Rattle.checking.specs.Candidates.{runs-first, list-after}
-use Rattle.finding.specs.Answer.{Limited, answerOf, Answers, answer-all, answer-full}
+use Rattle.finding.specs.Answer.{wanted, Limited, answerOf, Answers, answer-all, answer-full}
 
-pub limited : {s : List ℤ} {h : Head} {x : Index} {kind : Kind} {q : List ℤ} {l : Limits} {candidates scratch : ℕ} → Allowed s h x kind q l candidates scratch → Limited kind s q l
+pub limited : {s : List ℤ} {h : Head} {x : Index} {ask : Ask} {q : List ℤ} {candidates scratch : ℕ} → Allowed s h x ask q candidates scratch → Limited (ask .kind) s q (ask .limits)
 limited a = record { long = a .long; some = a .some; few = a .few; values = a .values; query = a .query; scale = a .scale-high; not-flat = a .not-flat }
 
-module _ (c : SearchCall) (b : SearchBuffers) (free : firstRefusal (planTable c b) ≡ none) where
+module _ (c : SearchCall) (b : SearchBuffers) (free : firstRefusal (searchPlan c b) ≡ none) where
   abbrev M : ℕ
   M = length (searchMatches c)
 
@@ -59,15 +58,15 @@ module _ (c : SearchCall) (b : SearchBuffers) (free : firstRefusal (planTable c 
 
 -- ---- over a lent index
 
-module _ (s : List ℤ) (h : Head) (rows : List Row) (left right : List ℕ) (kind : Kind) (q : List ℤ) (l : Limits) (b : SearchBuffers) where
+module _ (s : List ℤ) (h : Head) (rows : List Row) (left right : List ℕ) (ask : Ask) (q : List ℤ) (b : SearchBuffers) where
   abbrev call : SearchCall
-  call = lentSearch s h rows left right kind q l
+  call = lentSearch s h rows left right ask q
 
   abbrev runs : List (ℕ × ℕ)
   runs = candidateRuns (call .index) (question call)
 
   -- the question is that of the code
-  asked-is : question call ≡ asked kind s q l
+  asked-is : question call ≡ wanted ask s q
   unfolding question
   asked-is = refl
 
@@ -77,11 +76,11 @@ module _ (s : List ℤ) (h : Head) (rows : List Row) (left right : List ℕ) (ki
     unfolding lookedAfter
     same-runs = rw (e, f, g) (runs-first runs (b .left) (b .right))
 
-    meant : found (asked kind s q l) (members (lentRuns lefts rights k)) ≡ searchMatches call
+    meant : found (wanted ask s q) (members (lentRuns lefts rights k)) ≡ searchMatches call
     meant = rw (same-runs, ← asked-is) (found-among (call .index) (question call))
 
     -- and what is found of them is what the search means
-    pub search-ends : {r : Found} {scratch offsets distances : List ℕ} {candidates : ℕ} → thePlan s h rows left right kind q l b .number ≡ 0 → scratch ≡ lookedAfter call b .scratch → candidates ≡ searchCandidates call
-        → Answers (found (asked kind s q l) (members (lentRuns lefts rights k))) candidates r (b .offsets) (b .distances) offsets distances
+    pub search-ends : {r : Found} {scratch offsets distances : List ℕ} {candidates : ℕ} → thePlan s h rows left right ask q b .number ≡ 0 → scratch ≡ lookedAfter call b .scratch → candidates ≡ searchCandidates call
+        → Answers (found (wanted ask s q) (members (lentRuns lefts rights k))) candidates r (b .offsets) (b .distances) offsets distances
         → SearchKept call b r (record { left = lefts; right = rights; scratch = scratch; offsets = offsets; distances = distances })
-    search-ends z i j a = search-done call b (goes-on s h rows left right kind q l b z) e f i (rw (meant, j) at a)
+    search-ends z i j a = search-done call b (goes-on s h rows left right ask q b z) e f i (rw (meant, j) at a)

@@ -2,6 +2,7 @@
 use checking::check_runs;
 use distance_query::prepare;
 use meaning_entries::Found;
+use meaning_filter::Ask;
 use meaning_filter::Kind;
 use meaning_filter::Limits;
 use numbers::lesser;
@@ -12,7 +13,7 @@ ghost use Rattle.meaning_filter.specs.Matches.{offsetCount};
 ghost use Rattle.checking.specs.Members.{members};
 ghost use Rattle.checking.specs.Listed.{ListFilled};
 ghost use Rattle.checking.specs.Found.{asked, RunsLent, found, lentRuns};
-ghost use Rattle.finding.specs.Answer.{Limited, answerOf, Answers};
+ghost use Rattle.finding.specs.Answer.{wanted, Limited, answerOf, Answers};
 
 // What a search that looked answers: all matches are listed, or the list is full.
 pub fn answer(candidates: usize, matches: usize, offsets: usize, distances: usize) -> Found
@@ -73,10 +74,9 @@ pub fn check_prepared(
 
 // The matches among the offsets of the candidates' runs, listed as far as there is room, with what a search answers that has so many candidates.
 pub fn find_matches(
-    kind: Kind,
+    ask: Ask,
     s: &[i32],
     q: &[i32],
-    l: Limits,
     left: &[u32],
     right: &[u32],
     runs: usize,
@@ -84,10 +84,12 @@ pub fn find_matches(
     offsets: &mut [u32],
     distances: &mut [u64],
 ) -> Found
-    requires { ⌜ Limited kind (now s) (now q) l ⌝ }
-    requires { ⌜ RunsLent (offsetCount (asked kind (now s) (now q) l)) (now left) (now right) runs ⌝ }
-    ensures { λ r. ⌜ Answers (found (asked kind (now (s .entry)) (now (q .entry)) l) (members (lentRuns (now (left .entry)) (now (right .entry)) runs))) candidates r (now (offsets .entry)) (now (distances .entry)) (now (offsets .exit)) (now (distances .exit)) ⌝ }
+    requires { ⌜ Limited (ask .kind) (now s) (now q) (ask .limits) ⌝ }
+    requires { ⌜ RunsLent (offsetCount (wanted ask (now s) (now q))) (now left) (now right) runs ⌝ }
+    ensures { λ r. ⌜ Answers (found (wanted ask (now (s .entry)) (now (q .entry))) (members (lentRuns (now (left .entry)) (now (right .entry)) runs))) candidates r (now (offsets .entry)) (now (distances .entry)) (now (offsets .exit)) (now (distances .exit)) ⌝ }
 {
+    let kind = ask.kind;
+    let l = ask.limits;
     let mut curve: [i32; 1024] = [0; 1024];
     let mut low: [i32; 1024] = [0; 1024];
     let mut high: [i32; 1024] = [0; 1024];

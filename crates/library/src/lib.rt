@@ -10,6 +10,7 @@ pub use meaning_entries::Extended;
 pub use meaning_entries::Found;
 pub use meaning_entries::Loaded;
 pub use meaning_entries::Written;
+pub use meaning_filter::Ask;
 pub use meaning_filter::Kind;
 pub use meaning_filter::Limits;
 pub use meaning_rows::Head;

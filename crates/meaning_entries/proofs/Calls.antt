@@ -115,12 +115,8 @@ searchIn : List ℤ → Index → Kind → List ℤ → ℤ → SearchCall
 searchIn s x kind q E = record {
   series = s;
   index = x;
-  kind = kind;
   query = q;
-  band = pos 0;
-  threshold = E;
-  scale = pos 10;
-  shift = pos 0;
+  ask = record { kind = kind; band = pos 0; threshold = E; scale = pos 10; shift = pos 0 };
 }
 
 -- the same in the worked series

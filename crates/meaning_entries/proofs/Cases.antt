@@ -32,9 +32,8 @@ samePair x y = eqb (x .0) (y .0) && eqb (x .1) (y .1)
 above : Question
 above = record {
   series = pos 1 ∷ pos 2 ∷ pos 4 ∷ pos 3 ∷ pos 1 ∷ [];
-  kind = Raw;
   query = pos 2 ∷ pos 4 ∷ [];
-  limits = record { band = 0; threshold = 4; scale = 10; shift = 0 };
+  ask = record { kind = Raw; limits = record { band = 0; threshold = 4; scale = 10; shift = 0 } };
 }
 
 starred : List Bool

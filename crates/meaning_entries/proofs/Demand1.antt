@@ -12,7 +12,7 @@ use Rattle.meaning_curves.specs.Limits.{mostValues}
 use Rattle.meaning_rows.specs.Index.{Index}
 use Rattle.meaning_rows.specs.Audit.{firstWrong, missing}
 use Rattle.meaning_text.specs.Texts.{refusedText}
-use Rattle.meaning_entries.specs.Refusal.{Condition, firstRefusal, lengthOutside, valueOutside, queryLengthOutside, queryBelowWindow, bandOutside, thresholdOutside, scaleOrShiftOutside, flatQuery, illFormed, fewerWindows, moreWindows, bufferShort, listShort}
+use Rattle.meaning_entries.specs.Refusal.{Condition, firstRefusal, listShort}
 use Rattle.meaning_entries.specs.Buffers.{IndexBuffers}
 use Rattle.meaning_entries.specs.Answers.{builtRefusal, extendedRefusal, auditedRefusal, writtenRefusal, loadedRefusal, foundRefusal}
 use Rattle.meaning_entries.specs.Build.{BuildCall, buildTable, buildAnswer}
@@ -20,11 +20,11 @@ use Rattle.meaning_entries.specs.Extend.{ExtendCall, extendTable, extend
 use Rattle.meaning_entries.specs.Audit.{AuditCall, auditTable, complete, audited, auditAnswer}
 use Rattle.meaning_entries.specs.Write.{writeTable, writeAnswer}
 use Rattle.meaning_entries.specs.Load.{loadTable, loadAnswer}
-use Rattle.meaning_entries.specs.Search.{SearchCall, SearchBuffers, listRoom, searchMatches, searchTable, searchRefused, searchAnswer}
+use Rattle.meaning_entries.specs.Search.{SearchCall, SearchBuffers, listRoom, searchMatches, searchPlan, searchTable, searchRefused, searchAnswer}
 use Rattle.meaning_entries.specs.AuditText.{auditTextTable, textCall, auditTextAnswer, auditText}
 use Rattle.meaning_entries.specs.Program.{programTable, program}
 use Rattle.meaning_entries.specs.Demand1.{BuildRefuses, ExtendRefuses, AuditRefuses, WriteRefuses, LoadRefuses, SearchRefuses, AuditTextRefuses, ProgramRefuses}
-use Rattle.meaning_entries.proofs.Refusal.{First, here, later, is-first}
+use Rattle.meaning_entries.proofs.Refusal.{openLines, First, here, later, is-first}
 use Rattle.meaning_entries.proofs.Pack.{audit-text-back}
 
 build-by : (c : BuildCall) (b : IndexBuffers) (o : Option (ℕ × ℕ)) → firstRefusal (buildTable c b) ≡ o → builtRefusal (buildAnswer c b) ≡ o
@@ -124,7 +124,7 @@ list-zero room found p i e = by (ltb room found) e
     by false h = let z : _≡_ {A = ℕ} 0 1 = cc in absurd (omega arith)
 
 search-zero : (c : SearchCall) (b : SearchBuffers) {n p : ℕ} → First (searchTable c b) n p → n ≡ 24 → p ≡ 0
-unfolding searchTable lengthOutside valueOutside queryLengthOutside queryBelowWindow bandOutside thresholdOutside scaleOrShiftOutside flatQuery illFormed fewerWindows moreWindows bufferShort others last
+unfolding openLines searchPlan searchTable others last
 search-zero c b f = zero-first _ _ tt (list-zero (listRoom b) (length (searchMatches c))) f
 
 -- what a refused search answers

@@ -6,19 +6,19 @@ use Prim.Native.Nat.{ℕ}
 use lib.ListN.{length}
 use Rattle.meaning_filter.specs.Matches.{allMatches, Exactly}
 use Rattle.meaning_filter.proofs.Matches.{all-found, all-exactly}
-use Rattle.meaning_entries.specs.Search.{SearchCall, question, searchTable}
+use Rattle.meaning_entries.specs.Search.{SearchCall, question, searchPlan, searchTable}
 use Rattle.meaning_entries.specs.Demand3.{Searched, through, Demand3}
-use Rattle.meaning_entries.proofs.Refusal.{is-passed, passed-at, query-some, scale-some}
+use Rattle.meaning_entries.proofs.Refusal.{is-passed, openLines, passed-line, query-some, scale-some}
 use Rattle.meaning_entries.proofs.Listed.{answered, listed-is}
 use Rattle.meaning_entries.proofs.Passes.{passes-reached}
 
 -- one search: its list is all matches, and its count is how many
 all-listed : (c : SearchCall) (n : ℕ) (l : List (ℕ × ℕ)) → Searched c n l → (l ≡ allMatches (question c)) × (n ≡ length (allMatches (question c)))
-unfolding question searchTable
+unfolding openLines question searchPlan searchTable
 all-listed c n l s =
     let a = answered c (s .before) (s .kept .answered) in
     let t = is-passed (searchTable c (s .before)) (a .passed) in
-    let f = all-found (c .index) (question c) (passes-reached (c .index) (c .series) (s .passes)) (query-some (c .query) (c .series) (passed-at t 3)) (scale-some (c .scale) (c .shift) (passed-at t 7)) in
+    let f = all-found (c .index) (question c) (passes-reached (c .index) (c .series) (s .passes)) (query-some (length (c .query)) (length (c .series)) (passed-line t 6)) (scale-some (c .ask .scale) (c .ask .shift) (passed-line t 10)) in
     (s .listed ∙ listed-is c (s .before) (s .after) (s .kept) ∙ f, a .counted ∙ ap length f)
 
 pub demand3 : Demand3

@@ -12,17 +12,17 @@ use Rattle.meaning_entries.specs.declared.Found.{Found}
 use Rattle.meaning_entries.specs.Refusal.{firstRefusal}
 use Rattle.meaning_entries.specs.Buffers.{filled}
 use Rattle.meaning_entries.specs.Audit.{Passes}
-use Rattle.meaning_entries.specs.Search.{SearchCall, SearchBuffers, question, listRoom, searchMatches, searchCandidates, searchAnswer, lookedAfter}
+use Rattle.meaning_entries.specs.Search.{SearchCall, SearchBuffers, question, listRoom, searchMatches, searchCandidates, searchPlan, searchAnswer, lookedAfter}
 use Rattle.meaning_entries.specs.Demand2.{SearchKept}
 use Rattle.meaning_entries.specs.Demand3.{pairs}
-use Rattle.meaning_entries.proofs.Refusal.{is-passed, passed-at, query-some, scale-some}
-use Rattle.meaning_entries.proofs.Looked.{planTable, plan-refused, plan-all, plan-full}
+use Rattle.meaning_entries.proofs.Refusal.{is-passed, openLines, passed-line, query-some, scale-some}
+use Rattle.meaning_entries.proofs.Looked.{plan-refused, plan-all, plan-full}
 use Rattle.meaning_entries.proofs.Listed.{pairs-back}
 use Rattle.meaning_entries.proofs.Passes.{passes-reached}
 
 -- 24: nothing refuses before the search looks, the counts are those meant, and there are more matches than the list holds
 pub record FullAnswered (c : SearchCall) (b : SearchBuffers) (candidates count : ℕ) : Type 0 where
-  pub unrefused : firstRefusal (planTable c b) ≡ none
+  pub unrefused : firstRefusal (searchPlan c b) ≡ none
   pub looked : candidates ≡ searchCandidates c
   pub counted : count ≡ length (searchMatches c)
   pub short : listRoom b < length (searchMatches c)
@@ -34,7 +34,7 @@ not-all : {a n k p : ℕ} {B : Type 0} → Found.Full a n ≡ Found.All k p → 
 not-all e = let z : _≡_ {A = ℕ} 0 1 = cc in absurd (omega arith)
 
 module _ (c : SearchCall) (b : SearchBuffers) {a n : ℕ} (h : Found.Full a n ≡ searchAnswer c b) where
-  answered-by : (o : Option (ℕ × ℕ)) → firstRefusal (planTable c b) ≡ o → FullAnswered c b a n
+  answered-by : (o : Option (ℕ × ℕ)) → firstRefusal (searchPlan c b) ≡ o → FullAnswered c b a n
   answered-by (some r) e = other-answer (h ∙ plan-refused c b {n = r .0} {p = r .1} e .0)
   answered-by none e = elim (decLe (length (searchMatches c)) (listRoom b)) [
     | yes l ↦ not-all (h ∙ plan-all c b e l .0)
@@ -45,7 +45,7 @@ module _ (c : SearchCall) (b : SearchBuffers) {a n : ℕ} (h : Found.Full a n �
   ]
 
   pub full-answered : FullAnswered c b a n
-  full-answered = answered-by (firstRefusal (planTable c b)) refl
+  full-answered = answered-by (firstRefusal (searchPlan c b)) refl
 
 module _ (c : SearchCall) (before after : SearchBuffers) {a n : ℕ} (k : SearchKept c before (Found.Full a n) after) where
   f : FullAnswered c before a n
@@ -62,10 +62,10 @@ module _ (c : SearchCall) (before after : SearchBuffers) {a n : ℕ} (k : Search
   -- through an index that passes the audit
   module _ (p : Passes (c .index) (c .series)) where
     all : searchMatches c ≡ allMatches (question c)
-    unfolding question planTable
+    unfolding openLines question searchPlan
     all =
-        let t = is-passed (planTable c before) (f .unrefused) in
-        all-found (c .index) (question c) (passes-reached (c .index) (c .series) p) (query-some (c .query) (c .series) (passed-at t 3)) (scale-some (c .scale) (c .shift) (passed-at t 7))
+        let t = is-passed (searchPlan c before) (f .unrefused) in
+        all-found (c .index) (question c) (passes-reached (c .index) (c .series) p) (query-some (length (c .query)) (length (c .series)) (passed-line t 6)) (scale-some (c .ask .scale) (c .ask .shift) (passed-line t 10))
 
     pub full-all : (take (listRoom before) (pairs (after .offsets) (after .distances)) ≡ take (listRoom before) (allMatches (question c))) × (n ≡ length (allMatches (question c)))
     full-all = (full-listed ∙ ap (take (listRoom before)) all, f .counted ∙ ap length all)

@@ -9,12 +9,12 @@ use lib.Dec.{eqb, ltb, nltb→le}
 use lib.ListN.{length, take}
 use lib.Seq.{take-all}
 use Rattle.meaning_entries.specs.declared.Found.{Found}
-use Rattle.meaning_entries.specs.Refusal.{firstRefusal, listShort}
+use Rattle.meaning_entries.specs.Refusal.{firstRefusal}
 use Rattle.meaning_entries.specs.Buffers.{filled}
-use Rattle.meaning_entries.specs.Search.{SearchCall, SearchBuffers, listRoom, searchMatches, searchCandidates, searchTable, looked, searchRefused, searchAnswer, lookedAfter, searchAfter}
+use Rattle.meaning_entries.specs.Search.{SearchCall, SearchBuffers, listRoom, searchMatches, searchCandidates, searchPlan, searchTable, looked, searchRefused, searchAnswer, lookedAfter, searchAfter}
 use Rattle.meaning_entries.specs.Demand2.{SearchKept}
 use Rattle.meaning_entries.specs.Demand3.{pairs}
-use Rattle.meaning_entries.proofs.Refusal.{is-passed, passed-at, not-if}
+use Rattle.meaning_entries.proofs.Refusal.{is-passed, openLines, passed-line, not-if}
 
 -- the first entries of two columns with anything behind them are the pairs that they were made of
 pub pairs-back : (l : List (ℕ × ℕ)) (a b : List ℕ) → take (length l) (pairs (map (λ x. x .0) l ++ a) (map (λ x. x .1) l ++ b)) ≡ l
@@ -50,8 +50,8 @@ looked-after c b e = rw (e, searchAfter)
 
 -- the list holds all matches
 pub room : (c : SearchCall) (b : SearchBuffers) → firstRefusal (searchTable c b) ≡ none → length (searchMatches c) ≤ listRoom b
-unfolding searchTable listShort
-room c b e = nltb→le (listRoom b) (length (searchMatches c)) (not-if 24 (ltb (listRoom b) (length (searchMatches c))) (passed-at (is-passed (searchTable c b) e) 14))
+unfolding openLines searchPlan searchTable
+room c b e = nltb→le (listRoom b) (length (searchMatches c)) (not-if 24 (ltb (listRoom b) (length (searchMatches c))) (passed-line (is-passed (searchTable c b) e) 24))
 
 -- the first entries of the list's buffer are the matches
 pub listed-is : (c : SearchCall) (before after : SearchBuffers) {a n : ℕ} → SearchKept c before (Found.All a n) after → take n (pairs (after .offsets) (after .distances)) ≡ searchMatches c

@@ -1,49 +1,24 @@
--- The table of a search is what is known before it looks (`planTable`), and whether the list holds all matches, which is known only at its end. Where the first part refuses, that is the answer and no buffer is altered (`plan-refused`);
+-- The table of a search is what is known before it looks (`searchPlan`), and whether the list holds all matches, which is known only at its end. Where the first part refuses, that is the answer and no buffer is altered (`plan-refused`);
 -- else the buffers are those of a search that looked, and the answer is by the number of matches (`plan-all`, `plan-full`). Assumes nothing.
-use mathlib.Core.Path.{_≡_, refl, ap, _∙_}
+use mathlib.Core.Path.{_≡_, _∙_}
 use mathlib.Core.Bool.{false}
-use mathlib.Core.List.{List, [], _∷_, _++_}
+use mathlib.Core.List.{[], _∷_}
 use mathlib.Core.Option.{none, some}
 use Prim.Native.Nat.{ℕ, _<_, _≤_}
 use lib.Dec.{T, eqb}
 use lib.ListN.{length}
 use borrow.Author.Tests.{lt-ltb, le-ltb}
-use Rattle.meaning_curves.specs.Limits.{mostValues}
 use Rattle.meaning_entries.specs.declared.Found.{Found}
-use Rattle.meaning_entries.specs.Refusal.{Condition, firstRefusal, lengthOutside, valueOutside, queryLengthOutside, queryBelowWindow, bandOutside, thresholdOutside, scaleOrShiftOutside, flatQuery, illFormed, fewerWindows, moreWindows, bufferShort, listShort}
-use Rattle.meaning_entries.specs.Buffers.{pairRoom}
-use Rattle.meaning_entries.specs.Search.{SearchCall, SearchBuffers, searchWindows, listRoom, searchMatches, searchCandidates, searchTable, searchRefusal, looked, searchRefused, searchAnswer, lookedAfter, searchAfter}
-use Rattle.meaning_entries.proofs.Refusal.{First, here, more, end, passed-is, first-is, is-passed, is-first, lacks, first-left, first-right, first-lacks}
+use Rattle.meaning_entries.specs.Refusal.{Condition, firstRefusal, listShort}
+use Rattle.meaning_entries.specs.Search.{SearchCall, SearchBuffers, listRoom, searchMatches, searchCandidates, searchPlan, searchTable, searchRefusal, looked, searchRefused, searchAnswer, lookedAfter, searchAfter}
+use Rattle.meaning_entries.proofs.Refusal.{openLines, First, here, more, end, passed-is, first-is, is-passed, is-first, lacks, first-left, first-right, first-lacks}
 
--- every refusal of a search but 24
-unfoldable pub planTable : SearchCall → SearchBuffers → List Condition
-planTable c b =
-    lengthOutside mostValues (c .series)
-    ∷ valueOutside (c .series)
-    ∷ valueOutside (c .query)
-    ∷ queryLengthOutside (c .query) (c .series)
-    ∷ queryBelowWindow (c .query) (c .index .window)
-    ∷ bandOutside (c .query) (c .band)
-    ∷ thresholdOutside (c .threshold)
-    ∷ scaleOrShiftOutside (c .scale) (c .shift)
-    ∷ flatQuery (c .kind) (c .query)
-    ∷ illFormed (c .index)
-    ∷ fewerWindows (c .index) (c .series)
-    ∷ moreWindows (c .index) (c .series)
-    ∷ bufferShort (pairRoom (b .left) (b .right)) (searchWindows c)
-    ∷ bufferShort (length (b .scratch)) (searchWindows c)
-    ∷ []
-
--- and 24
-abbrev pub lastLine : SearchCall → SearchBuffers → Condition
+-- 24
+abbrev lastLine : SearchCall → SearchBuffers → Condition
 lastLine c b = listShort (listRoom b) (length (searchMatches c))
 
-pub plan-then-last : (c : SearchCall) (b : SearchBuffers) → searchTable c b ≡ planTable c b ++ (lastLine c b ∷ [])
-unfolding searchTable planTable
-plan-then-last c b = refl
-
-not-24 : (c : SearchCall) (b : SearchBuffers) → T (lacks 24 (planTable c b))
-unfolding planTable lacks lengthOutside valueOutside queryLengthOutside queryBelowWindow bandOutside thresholdOutside scaleOrShiftOutside flatQuery illFormed fewerWindows moreWindows bufferShort
+not-24 : (c : SearchCall) (b : SearchBuffers) → T (lacks 24 (searchPlan c b))
+unfolding openLines searchPlan lacks
 not-24 c b = tt
 
 -- the last line, by the number of matches
@@ -57,12 +32,13 @@ list-short room found h = first-is (here (rw (lt-ltb room found h)))
 
 module _ (c : SearchCall) (b : SearchBuffers) where
   -- refused before it looks
-  module _ {n p : ℕ} (e : firstRefusal (planTable c b) ≡ some (n, p)) where
-    f : First (planTable c b) n p
-    f = is-first (planTable c b) n p e
+  module _ {n p : ℕ} (e : firstRefusal (searchPlan c b) ≡ some (n, p)) where
+    f : First (searchPlan c b) n p
+    f = is-first (searchPlan c b) n p e
 
     pub plan-refusal : searchRefusal c b ≡ some (n, p)
-    plan-refusal = ap firstRefusal (plan-then-last c b) ∙ first-is (first-left (lastLine c b ∷ []) f)
+    unfolding searchTable
+    plan-refusal = first-is (first-left (lastLine c b ∷ []) f)
 
     other : eqb n 24 ≡ false
     other = first-lacks 24 (not-24 c b) f
@@ -72,9 +48,10 @@ module _ (c : SearchCall) (b : SearchBuffers) where
     plan-refused = (rw (plan-refusal, searchAnswer) (rw (other, searchRefused)), rw (plan-refusal, searchAfter) (rw other))
 
   -- not refused before it looks
-  module _ (e : firstRefusal (planTable c b) ≡ none) where
+  module _ (e : firstRefusal (searchPlan c b) ≡ none) where
     last-decides : searchRefusal c b ≡ firstRefusal (lastLine c b ∷ [])
-    last-decides = ap firstRefusal (plan-then-last c b) ∙ first-right (lastLine c b ∷ []) (is-passed (planTable c b) e)
+    unfolding searchTable
+    last-decides = first-right (lastLine c b ∷ []) (is-passed (searchPlan c b) e)
 
     pub plan-all : length (searchMatches c) ≤ listRoom b → (searchAnswer c b ≡ Found.All (searchCandidates c) (length (searchMatches c))) × (searchAfter c b ≡ lookedAfter c b)
     unfolding searchAnswer searchAfter looked

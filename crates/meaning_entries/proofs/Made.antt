@@ -22,14 +22,14 @@ use Rattle.meaning_rows.proofs.Extend.{Extendable, extended-well-formed, extend
 use Rattle.meaning_filter.specs.Matches.{allMatches}
 use Rattle.meaning_filter.proofs.Candidates.{filed-reached}
 use Rattle.meaning_filter.proofs.Matches.{all-found}
-use Rattle.meaning_entries.specs.Refusal.{atZero, firstRefusal, lengthOutside, valueOutside, windowOutside, widthOutside, queryLengthOutside, scaleOrShiftOutside, illFormed, windowsOf, moreWindows}
+use Rattle.meaning_entries.specs.Refusal.{atZero, firstRefusal, windowsOf}
 use Rattle.meaning_entries.specs.Buffers.{IndexBuffers}
 use Rattle.meaning_entries.specs.Audit.{Passes}
 use Rattle.meaning_entries.specs.Build.{BuildCall, buildTable, buildRefusal, buildIndex, buildWindows}
 use Rattle.meaning_entries.specs.Search.{question, searchMatches}
-use Rattle.meaning_entries.specs.Program.{textProgram, programTable, programIndex, programSearch}
+use Rattle.meaning_entries.specs.Program.{textProgram, callLines, programTable, programIndex, programSearch}
 use Rattle.meaning_entries.specs.Extend.{ExtendCall, extendTable, extendRefusal, extendIndex, extendWindows}
-use Rattle.meaning_entries.proofs.Refusal.{is-passed, passed-at, not-if, query-some, scale-some}
+use Rattle.meaning_entries.proofs.Refusal.{is-passed, openLines, passed-line, not-if, query-some, scale-some}
 use Rattle.meaning_entries.proofs.Passes.{Passed, passed, passes}
 
 -- a test that does not refuse where its failing would
@@ -64,16 +64,16 @@ unfolding built
 built-passed s w d g k = record { formed = built-well-formed s w d g k; windows = omega (arith, k .long); filed = built-filed s w d g k }
 
 build-long : (c : BuildCall) (b : IndexBuffers) → buildRefusal c b ≡ none → T (lengthIn mostValues (length (c .series)))
-unfolding buildTable lengthOutside
-build-long c b e = holds 1 (lengthIn mostValues (length (c .series))) (passed-at (is-passed (buildTable c b) e) 0)
+unfolding openLines buildTable
+build-long c b e = holds 1 (lengthIn mostValues (length (c .series))) (passed-line (is-passed (buildTable c b) e) 1)
 
 buildable : (c : BuildCall) (b : IndexBuffers) → buildRefusal c b ≡ none → Buildable (c .series) (natAbs (c .window)) (natAbs (c .width))
-unfolding buildTable valueOutside windowOutside widthOutside
+unfolding openLines buildTable
 buildable c b e =
     let t = is-passed (buildTable c b) e in
     let s = c .series in
-    limits-buildable s (c .window) (c .width) (length-in mostValues (length s) (build-long c b e)) (passed-at t 1)
-    (not-if 3 (not (windowIn (c .window)) || ltZ (pos (length s)) (c .window)) (passed-at t 2)) (holds 4 (widthIn (c .width)) (passed-at t 3))
+    limits-buildable s (c .window) (c .width) (length-in mostValues (length s) (build-long c b e)) (passed-line t 2)
+    (not-if 3 (not (windowIn (c .window)) || ltZ (pos (length s)) (c .window)) (passed-line t 3)) (holds 4 (widthIn (c .width)) (passed-line t 4))
 
 pub build-passes : (c : BuildCall) (b : IndexBuffers) → buildRefusal c b ≡ none → Passes (buildIndex c) (c .series)
 unfolding buildIndex
@@ -89,26 +89,26 @@ build-most c b e = built-most (c .series) (natAbs (c .window)) (natAbs (c .width
 
 module _ (c : ExtendCall) (b : IndexBuffers) (e : extendRefusal c b ≡ none) where
   extend-formed : WellFormed (c .index)
-  unfolding extendTable illFormed
-  extend-formed = well-formed (c .index) (passed-at (is-passed (extendTable c b) e) 2)
+  unfolding openLines extendTable
+  extend-formed = well-formed (c .index) (passed-line (is-passed (extendTable c b) e) 20)
 
   extend-long : T (lengthIn mostValues (length (c .series)))
-  unfolding extendTable lengthOutside
-  extend-long = holds 1 (lengthIn mostValues (length (c .series))) (passed-at (is-passed (extendTable c b) e) 0)
+  unfolding openLines extendTable
+  extend-long = holds 1 (lengthIn mostValues (length (c .series))) (passed-line (is-passed (extendTable c b) e) 1)
 
   extendable : Extendable (c .index) (c .series)
-  unfolding extendTable valueOutside moreWindows
+  unfolding openLines extendTable
   extendable =
       let t = is-passed (extendTable c b) e in
       let x = c .index in
       let s = c .series in
-      let n : x .windows ≤ℤ windowsOf x s = ltZ-no {a = windowsOf x s} {b = x .windows} (not-if 22 (ltZ (windowsOf x s) (x .windows)) (passed-at t 3)) in
+      let n : x .windows ≤ℤ windowsOf x (length s) = ltZ-no {a = windowsOf x (length s)} {b = x .windows} (not-if 22 (ltZ (windowsOf x (length s)) (x .windows)) (passed-line t 22)) in
       let p : x .window ≡ pos (natAbs (x .window)) = extend-formed .head .window .is in
       let q : x .windows ≡ pos (natAbs (x .windows)) = extend-formed .head .windows .is in
       record {
         longer = omega (zarith, z-add (pos (length s) -ℤ x .window) (pos 1), z-sub (pos (length s)) (x .window));
         short = length-in mostValues (length s) extend-long;
-        values = passed-at t 1;
+        values = passed-line t 2;
       }
 
   pub extend-passes : Passes (c .index) (take (natAbs (c .index .windows) + natAbs (c .index .window) - 1) (c .series)) → Passes (extendIndex c) (c .series)
@@ -129,21 +129,21 @@ module _ (c : ExtendCall) (b : IndexBuffers) (e : extendRefusal c b ≡ none) wh
 -- ---- the search program
 
 program-buildable : (t : List ℕ) → firstRefusal (programTable t) ≡ none → let c = textProgram t in Buildable (c .series) (natAbs (c .window)) (natAbs (c .width))
-unfolding programTable lengthOutside valueOutside windowOutside widthOutside
+unfolding openLines callLines programTable
 program-buildable t e =
     let c = textProgram t in
     let p = is-passed (programTable t) e in
-    let n = length-in mostProgramValues (length (c .series)) (holds 1 (lengthIn mostProgramValues (length (c .series))) (passed-at p 1)) in
-    limits-buildable (c .series) (c .window) (c .width) (omega arith) (passed-at p 2)
-    (not-if 3 (not (windowIn (c .window)) || ltZ (pos (length (c .series))) (c .window)) (passed-at p 4)) (holds 4 (widthIn (c .width)) (passed-at p 5))
+    let n = length-in mostProgramValues (length (c .series)) (holds 1 (lengthIn mostProgramValues (length (c .series))) (passed-line p 1)) in
+    limits-buildable (c .series) (c .window) (c .width) (omega arith) (passed-line p 2)
+    (not-if 3 (not (windowIn (c .window)) || ltZ (pos (length (c .series))) (c .window)) (passed-line p 3)) (holds 4 (widthIn (c .width)) (passed-line p 4))
 
 -- what it lists, where it does not refuse, is all matches
 pub program-all : (t : List ℕ) → firstRefusal (programTable t) ≡ none → let x = programSearch (textProgram t) in searchMatches x ≡ allMatches (question x)
-unfolding programIndex buildIndex question programTable queryLengthOutside scaleOrShiftOutside
+unfolding openLines programIndex buildIndex question callLines programTable
 program-all t e =
     let c = textProgram t in
     let x = programSearch c in
     let p = is-passed (programTable t) e in
     let y = built-passed (c .series) (natAbs (c .window)) (natAbs (c .width)) (natAbs (c .merge)) (program-buildable t e) in
     all-found (x .index) (question x) (filed-reached (x .index) (c .series) (y .filed) (y .windows))
-    (query-some (c .query) (c .series) (passed-at p 7)) (scale-some (c .scale) (c .shift) (passed-at p 11))
+    (query-some (length (c .query)) (length (c .series)) (passed-line p 6)) (scale-some (c .ask .scale) (c .ask .shift) (passed-line p 10))

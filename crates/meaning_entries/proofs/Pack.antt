@@ -16,12 +16,12 @@ use Rattle.meaning_rows.specs.Audit.{firstWrong, missing}
 use Rattle.meaning_rows.proofs.Judge.{well-formed, row-at, stands-below}
 use Rattle.meaning_rows.proofs.Audit.{first-wrong}
 use Rattle.meaning_entries.specs.declared.Audited.{Audited}
-use Rattle.meaning_entries.specs.Refusal.{Condition, firstRefusal, lengthOutside, valueOutside, unreadable, illFormed, fewerWindows, moreWindows}
+use Rattle.meaning_entries.specs.Refusal.{Condition, firstRefusal}
 use Rattle.meaning_entries.specs.Buffers.{zeroRow}
 use Rattle.meaning_entries.specs.Audit.{AuditCall, auditTable, complete, audited}
 use Rattle.meaning_entries.specs.Load.{textIndex}
 use Rattle.meaning_entries.specs.AuditText.{textCall, auditTextTable, auditTextAnswer, packRefusal, pack, unpackBy, unpack, auditText}
-use Rattle.meaning_entries.proofs.Refusal.{First, here, later, is-passed, is-first, passed-at}
+use Rattle.meaning_entries.proofs.Refusal.{First, here, later, is-passed, is-first, openLines, passed-line}
 
 -- an offset is below the most windows, and every number of a refusal below 32
 abbrev pub Packable : Audited → Type 0
@@ -70,7 +70,7 @@ first-passes P t (here {c} {l} e) = two-tests (P (c .number)) (numbers-pass P l)
 first-passes P t (later {c} {l} e f) = first-passes P (two-tests (P (c .number)) (numbers-pass P l) t .1) f
 
 small-number : (x s : List ℕ) {n p : ℕ} → firstRefusal (auditTextTable x s) ≡ some (n, p) → n < 32
-unfolding numbers-pass auditTextTable auditTable unreadable lengthOutside valueOutside illFormed fewerWindows moreWindows
+unfolding openLines numbers-pass auditTextTable auditTable
 small-number x s {n} {p} e = ltb→lt n 32 (first-passes (λ k. ltb k 32) tt (is-first (auditTextTable x s) n p e))
 
 wrong-offset : (x : Index) (s : List ℤ) (k j : ℕ) → firstBadRow x ≡ none → firstWrong x s ≡ some (k, j) → j < mostValues
@@ -90,8 +90,8 @@ audited-packable c none h e = rw (e, audited) (complete-packable (missing (c .in
 audited-packable c (some r) h e = rw (e, audited) (wrong-offset (c .index) (c .series) (r .0) (r .1) h e)
 
 formed : (x s : List ℕ) → firstRefusal (auditTextTable x s) ≡ none → firstBadRow (textIndex x) ≡ none
-unfolding auditTextTable auditTable illFormed
-formed x s e = passed-at (is-passed (auditTextTable x s) e) 4
+unfolding openLines auditTextTable auditTable
+formed x s e = passed-line (is-passed (auditTextTable x s) e) 20
 
 packable-by : (x s : List ℕ) (o : Option (ℕ × ℕ)) → firstRefusal (auditTextTable x s) ≡ o → Packable (auditTextAnswer x s)
 unfolding auditTextAnswer

@@ -22,7 +22,7 @@ use Rattle.meaning_filter.proofs.Candidates.{Reached, filed-reached}
 use Rattle.meaning_entries.specs.declared.Audited.{Audited}
 use Rattle.meaning_entries.specs.Refusal.{atZero, firstRefusal, lengthOutside, valueOutside, illFormed, windowsOf, fewerWindows, moreWindows}
 use Rattle.meaning_entries.specs.Audit.{AuditCall, auditTable, complete, audited, auditAnswer, Passes}
-use Rattle.meaning_entries.proofs.Refusal.{end, more, passed-is, is-passed, passed-at, not-if}
+use Rattle.meaning_entries.proofs.Refusal.{end, more, passed-is, is-passed, openLines, passed-line, not-if}
 
 -- yes is said where nothing refuses, nothing is filed wrongly and nothing is missing
 record Yes (c : AuditCall) : Type 0 where
@@ -52,24 +52,24 @@ pub record Passed (x : Index) (s : List ℤ) : Type 0 where
   pub filed : Filed x s
 
 -- as many windows as the series has
-pub same-windows : (x : Index) (s : List ℤ) → WellFormed x → windowsOf x s ≤ℤ x .windows → x .windows ≤ℤ windowsOf x s → natAbs (x .windows) + natAbs (x .window) ≡ length s + 1
+pub same-windows : (x : Index) (s : List ℤ) → WellFormed x → windowsOf x (length s) ≤ℤ x .windows → x .windows ≤ℤ windowsOf x (length s) → natAbs (x .windows) + natAbs (x .window) ≡ length s + 1
 same-windows x s g h k =
     let w : x .window ≡ pos (natAbs (x .window)) = g .head .window .is in
     let n : x .windows ≡ pos (natAbs (x .windows)) = g .head .windows .is in
     omega (zarith, z-add (pos (length s) -ℤ x .window) (pos 1), z-sub (pos (length s)) (x .window))
 
 pub passed : (x : Index) (s : List ℤ) → Passes x s → Passed x s
-unfolding auditTable illFormed fewerWindows moreWindows
+unfolding openLines auditTable
 passed x s p =
     let c : AuditCall = record { series = s; index = x } in
     let y = yes-free c (firstRefusal (auditTable mostValues c)) refl p in
     let t = is-passed (auditTable mostValues c) (y .free) in
-    let g = well-formed x (passed-at t 2) in
+    let g = well-formed x (passed-line t 20) in
     record {
       formed = g;
       windows = same-windows x s g
-          (ltZ-no {a = x .windows} {b = windowsOf x s} (not-if 21 (ltZ (x .windows) (windowsOf x s)) (passed-at t 3)))
-          (ltZ-no {a = windowsOf x s} {b = x .windows} (not-if 22 (ltZ (windowsOf x s) (x .windows)) (passed-at t 4)));
+          (ltZ-no {a = x .windows} {b = windowsOf x (length s)} (not-if 21 (ltZ (x .windows) (windowsOf x (length s))) (passed-line t 21)))
+          (ltZ-no {a = windowsOf x (length s)} {b = x .windows} (not-if 22 (ltZ (windowsOf x (length s)) (x .windows)) (passed-line t 22)));
       filed = audit-yes x s g (y .right) (y .full);
     }
 
@@ -105,6 +105,6 @@ passes x s long values p =
     yes-said c
     (passed-is (more (not-applies 1 (not (lengthIn mostValues (length s))) (yes-not-not (lengthIn mostValues (length s)) long))
     (more values (more (none-bad x (p .formed))
-    (more (not-applies 21 (ltZ (x .windows) (windowsOf x s)) (no-lt {a = x .windows} {b = windowsOf x s} (omega (zarith, a, b))))
-    (more (not-applies 22 (ltZ (windowsOf x s) (x .windows)) (no-lt {a = windowsOf x s} {b = x .windows} (omega (zarith, a, b)))) end))))))
+    (more (not-applies 21 (ltZ (x .windows) (windowsOf x (length s))) (no-lt {a = x .windows} {b = windowsOf x (length s)} (omega (zarith, a, b))))
+    (more (not-applies 22 (ltZ (windowsOf x (length s)) (x .windows)) (no-lt {a = windowsOf x (length s)} {b = x .windows} (omega (zarith, a, b)))) end))))))
     (f .0) (f .1)

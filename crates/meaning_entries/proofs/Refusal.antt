@@ -1,6 +1,6 @@
 -- The tables of refusals are total and exclusive: a call is refused by exactly one line, the first that applies, or by none, and then no line applies. A table in two parts is refused by the first part or else by the second (`first-left`, `first-right`). By induction on the table. Assumes nothing.
 use mathlib.Core.Path.{_≡_, refl, sym, _∙_, ap, subst₂}
-use mathlib.Core.Bool.{Bool, true, false, not, _&&_, _||_}
+use mathlib.Core.Bool.{Bool, true, false, not, cond, _&&_, _||_}
 use mathlib.Core.List.{List, [], _∷_, _++_}
 use mathlib.Core.Logic.{_⊎_, inl, inr}
 use mathlib.Core.Option.{Option, none, some}
@@ -8,13 +8,12 @@ use Prim.Native.Nat.{ℕ, zero, suc, _<_}
 use native.Mathlib.Omega.{arith}
 use lib.Dec.{T, eqb, ltb}
 use lib.IntN.{ℤ, pos, natAbs}
-use lib.ListN.{length, getD}
 use Rattle.meaning_numbers.proofs.Rep.{zarith}
 use Rattle.meaning_numbers.proofs.Machine.{z-abs}
 use Rattle.meaning_numbers.proofs.Tests.{is-false, two-tests, not-not, neither}
 use Rattle.meaning_numbers.proofs.Between.{within-yes}
 use Rattle.meaning_curves.specs.Limits.{queryLengthIn, scaleIn, shiftIn}
-use Rattle.meaning_entries.specs.Refusal.{Condition, firstRefusal, atZero, queryLengthOutside, scaleOrShiftOutside}
+use Rattle.meaning_entries.specs.Refusal.{Condition, firstRefusal, atZero, lengthOutside, valueOutside, windowOutside, widthOutside, mergeOutside, queryLengthOutside, queryBelowWindow, bandOutside, thresholdOutside, scaleOrShiftOutside, flatQuery, unreadable, illFormed, fewerWindows, moreWindows, bufferShort, listShort}
 
 -- no line applies
 pub data Passed : List Condition → Type 0 where
@@ -92,6 +91,16 @@ pub first-right : {a : List Condition} (b : List Condition) → Passed a → fir
 first-right b end = refl
 first-right b (more {c} {l} e h) = first-no c (l ++ b) e ∙ first-right b h
 
+-- the first line that has the number n
+unfoldable pub numbered : ℕ → List Condition → Condition
+numbered n [] = record { number = n; place = none }
+numbered n (c ∷ l) = cond (eqb (c .number) n) c (numbered n l)
+
+-- the lines behind it
+unfoldable pub behind : ℕ → List Condition → List Condition
+behind n [] = []
+behind n (c ∷ l) = cond (eqb (c .number) n) l (behind n l)
+
 -- no line has the number n
 unfoldable pub lacks : ℕ → List Condition → Bool
 lacks n [] = true
@@ -102,17 +111,36 @@ unfolding lacks
 first-lacks k t (here {c} {l} e) = is-false (eqb (c .number) k) (two-tests (not (eqb (c .number) k)) (lacks k l) t .0)
 first-lacks k t (later {c} {l} e f) = first-lacks k (two-tests (not (eqb (c .number) k)) (lacks k l) t .1) f
 
--- ---- a line of a table that passed, by its place
+-- a table in two parts passes where both do
+pub passed-both : (a b : List Condition) → Passed (a ++ b) → Passed a × Passed b
+passed-both [] b h = (end, h)
+passed-both (c ∷ a) b (more e h) = let k = passed-both a b h in (more e (k .0), k .1)
 
-pub free : Condition
-free = record { number = 0; place = none }
+-- ---- a line of a table that passed, by its number
 
-pub passed-at : {l : List Condition} → Passed l → (k : ℕ) → getD l k free .place ≡ none
-unfolding free
-passed-at end zero = refl
-passed-at end (suc k) = refl
-passed-at (more e h) zero = e
-passed-at (more e h) (suc k) = passed-at h k
+-- every line's number, which stays shut until it is named: a proof that cites a line by its number says `unfolding openLines`
+unfoldable pub openLines : Unit {0}
+unfolding numbered behind lengthOutside valueOutside windowOutside widthOutside mergeOutside queryLengthOutside queryBelowWindow bandOutside thresholdOutside scaleOrShiftOutside flatQuery unreadable illFormed fewerWindows moreWindows bufferShort listShort
+openLines = tt
+
+one-of : (t : Bool) (c d : Condition) → c .place ≡ none → d .place ≡ none → cond t c d .place ≡ none
+one-of true c d e f = e
+one-of false c d e f = f
+
+pub passed-line : {l : List Condition} → Passed l → (n : ℕ) → numbered n l .place ≡ none
+unfolding numbered
+passed-line end n = refl
+passed-line (more {c} {l} e h) n = one-of (eqb (c .number) n) c (numbered n l) e (passed-line h n)
+
+either : (t : Bool) (l m : List Condition) → Passed l → Passed m → Passed (cond t l m)
+either true l m h k = h
+either false l m h k = k
+
+-- the second of two lines with a number is the first behind the first
+pub passed-behind : {l : List Condition} → Passed l → (n : ℕ) → Passed (behind n l)
+unfolding behind
+passed-behind end n = end
+passed-behind (more {c} {l} e h) n = either (eqb (c .number) n) l (behind n l) h (passed-behind h n)
 
 -- a condition whose place is 0 and that does not apply: its test fails
 pub not-if : (n : ℕ) (t : Bool) → atZero n t .place ≡ none → T (not t)
@@ -121,11 +149,11 @@ not-if n false e = tt
 
 -- ---- a query and a scale limit that are not refused
 
-pub query-some : (q s : List ℤ) → queryLengthOutside q s .place ≡ none → 0 < length q
+pub query-some : (m n : ℕ) → queryLengthOutside m n .place ≡ none → 0 < m
 unfolding queryLengthOutside
-query-some q s e =
-    let t = neither (not (queryLengthIn (length q))) (ltb (length s) (length q)) (not-if 6 (not (queryLengthIn (length q)) || ltb (length s) (length q)) e) in
-    let w = within-yes (pos 1) (pos 1024) (pos (length q)) (not-not (queryLengthIn (length q)) (t .0)) in
+query-some m n e =
+    let t = neither (not (queryLengthIn m)) (ltb n m) (not-if 6 (not (queryLengthIn m) || ltb n m) e) in
+    let w = within-yes (pos 1) (pos 1024) (pos m) (not-not (queryLengthIn m) (t .0)) in
     omega (zarith, w .low)
 
 pub scale-some : (a h : ℤ) → scaleOrShiftOutside a h .place ≡ none → 0 < natAbs a

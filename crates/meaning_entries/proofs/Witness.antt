@@ -21,12 +21,8 @@ search : ℕ → Kind → ℤ → ℤ → ℤ → SearchCall
 search g kind band threshold shift = record {
   series = series;
   index = built series 2 2 g;
-  kind = kind;
   query = pos 2 ∷ pos 4 ∷ [];
-  band = band;
-  threshold = threshold;
-  scale = pos 20;
-  shift = shift;
+  ask = record { kind = kind; band = band; threshold = threshold; scale = pos 20; shift = shift };
 }
 
 room : SearchBuffers

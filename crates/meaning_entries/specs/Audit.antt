@@ -4,6 +4,7 @@ use mathlib.Core.List.{List, [], _∷_}
 use mathlib.Core.Option.{Option, none, some}
 use Prim.Native.Nat.{ℕ, zero, suc}
 use lib.IntN.{ℤ}
+use lib.ListN.{length}
 use Rattle.meaning_curves.specs.Limits.{mostValues}
 use Rattle.meaning_rows.specs.declared.Row.{Row}
 use Rattle.meaning_rows.specs.declared.Head.{Head}
@@ -24,11 +25,11 @@ lentAudit series head rows left right = record { series = series; index = lent h
 -- the refusals, in order; `most` is the most values that the call takes
 unfoldable pub auditTable : ℕ → AuditCall → List Condition
 auditTable most c =
-    lengthOutside most (c .series)
+    lengthOutside most (length (c .series))
     ∷ valueOutside (c .series)
     ∷ illFormed (c .index)
-    ∷ fewerWindows (c .index) (c .series)
-    ∷ moreWindows (c .index) (c .series)
+    ∷ fewerWindows (c .index) (length (c .series))
+    ∷ moreWindows (c .index) (length (c .series))
     ∷ []
 
 -- where none is filed wrongly: yes, or how many windows stand nowhere

@@ -1,5 +1,5 @@
 -- The entry build. Assumes nothing.
-use mathlib.Core.List.{List, [], _∷_}
+use mathlib.Core.List.{List, [], _∷_, _++_}
 use mathlib.Core.Option.{Option, none, some}
 use Prim.Native.Nat.{ℕ}
 use lib.IntN.{ℤ, pos, natAbs}
@@ -29,17 +29,19 @@ lentBuild series w d g = record { series = series; window = pos w; width = pos d
 abbrev pub buildWindows : BuildCall → ℕ
 buildWindows c = windowCount (length (c .series)) (natAbs (c .window))
 
+-- 3 to 5: w, d and g, for a series of n values
+abbrev pub widthLines : ℕ → ℤ → ℤ → ℤ → List Condition
+widthLines n w d g = windowOutside w n ∷ widthOutside d ∷ mergeOutside g ∷ []
+
 -- the refusals, in order
 unfoldable pub buildTable : BuildCall → IndexBuffers → List Condition
 buildTable c b =
-    lengthOutside mostValues (c .series)
+    lengthOutside mostValues (length (c .series))
     ∷ valueOutside (c .series)
-    ∷ windowOutside (c .window) (c .series)
-    ∷ widthOutside (c .width)
-    ∷ mergeOutside (c .merge)
-    ∷ bufferShort (length (b .rows)) (buildWindows c)
+    ∷ (widthLines (length (c .series)) (c .window) (c .width) (c .merge)
+    ++ (bufferShort (length (b .rows)) (buildWindows c)
     ∷ bufferShort (runRoom b) (buildWindows c)
-    ∷ []
+    ∷ []))
 
 abbrev pub buildRefusal : BuildCall → IndexBuffers → Option (ℕ × ℕ)
 buildRefusal c b = firstRefusal (buildTable c b)

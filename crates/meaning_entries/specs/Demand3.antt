@@ -28,16 +28,7 @@ pub record Searched (c : SearchCall) (count : ℕ) (list : List (ℕ × ℕ)) : 
 
 -- the same search through another index
 abbrev pub through : Index → SearchCall → SearchCall
-through x c = record {
-  series = c .series;
-  index = x;
-  kind = c .kind;
-  query = c .query;
-  band = c .band;
-  threshold = c .threshold;
-  scale = c .scale;
-  shift = c .shift;
-}
+through x c = record { series = c .series; index = x; query = c .query; ask = c .ask }
 
 -- what both searches list: the same, and that is exactly all matches
 pub record SameMatches (c : SearchCall) (count₁ count₂ : ℕ) (list₁ list₂ : List (ℕ × ℕ)) : Type 0 where

@@ -31,10 +31,10 @@ extendWindows c = windowCount (length (c .series)) (natAbs (c .index .window))
 -- the refusals, in order
 unfoldable pub extendTable : ExtendCall → IndexBuffers → List Condition
 extendTable c b =
-    lengthOutside mostValues (c .series)
+    lengthOutside mostValues (length (c .series))
     ∷ valueOutside (c .series)
     ∷ illFormed (c .index)
-    ∷ moreWindows (c .index) (c .series)
+    ∷ moreWindows (c .index) (length (c .series))
     ∷ bufferShort (length (b .rows)) (extendWindows c)
     ∷ bufferShort (runRoom b) (extendWindows c)
     ∷ []

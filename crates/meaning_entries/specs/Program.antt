@@ -6,14 +6,13 @@ use lib.IntN.{ℤ, pos}
 use lib.ListN.{length}
 use Rattle.meaning_curves.specs.Limits.{mostProgramValues}
 use Rattle.meaning_rows.specs.Index.{Index}
-use Rattle.meaning_filter.specs.declared.Kind.{Kind}
 use Rattle.meaning_filter.specs.declared.Kind.the-variants.{Raw}
 use Rattle.meaning_text.specs.Form.{Value}
 use Rattle.meaning_text.specs.Read.{fine, unfit, readText}
 use Rattle.meaning_text.specs.Texts.{programForm, kindSaid, indexText, foundText, refusedText}
-use Rattle.meaning_entries.specs.Refusal.{Condition, firstRefusal, lengthOutside, valueOutside, windowOutside, widthOutside, mergeOutside, queryLengthOutside, queryBelowWindow, bandOutside, thresholdOutside, scaleOrShiftOutside, flatQuery, unreadable}
-use Rattle.meaning_entries.specs.Build.{buildIndex}
-use Rattle.meaning_entries.specs.Search.{SearchCall, searchCandidates, searchMatches}
+use Rattle.meaning_entries.specs.Refusal.{Condition, firstRefusal, flatQuery, unreadable}
+use Rattle.meaning_entries.specs.Build.{widthLines, buildIndex}
+use Rattle.meaning_entries.specs.Search.{Asking, SearchCall, valueLines, limitLines, searchCandidates, searchMatches}
 
 -- what the five lines say
 pub record ProgramCall : Type 0 where
@@ -21,12 +20,8 @@ pub record ProgramCall : Type 0 where
   pub width : ℤ
   pub merge : ℤ
   pub series : List ℤ
-  pub kind : Kind
-  pub band : ℤ
-  pub threshold : ℤ
-  pub scale : ℤ
-  pub shift : ℤ
   pub query : List ℤ
+  pub ask : Asking
 
 unfoldable pub programSaid : Value programForm → ProgramCall
 programSaid v =
@@ -36,12 +31,8 @@ programSaid v =
       width = v .1 .0;
       merge = v .1 .1 .0;
       series = v .1 .1 .1 .0;
-      kind = kindSaid (find .0);
-      band = find .1 .0;
-      threshold = find .1 .1 .0;
-      scale = find .1 .1 .1 .0;
-      shift = find .1 .1 .1 .1 .0;
       query = find .1 .1 .1 .1 .1;
+      ask = record { kind = kindSaid (find .0); band = find .1 .0; threshold = find .1 .1 .0; scale = find .1 .1 .1 .0; shift = find .1 .1 .1 .1 .0 };
     }
 
 -- the call that a text gives; of a text that cannot be read nothing is asked
@@ -53,33 +44,23 @@ textProgram t = elim (readText programForm t) [
     width = pos 0;
     merge = pos 0;
     series = [];
-    kind = Raw;
-    band = pos 0;
-    threshold = pos 0;
-    scale = pos 0;
-    shift = pos 0;
     query = [];
+    ask = record { kind = Raw; band = pos 0; threshold = pos 0; scale = pos 0; shift = pos 0 };
   }
 ]
 
+-- what refuses the call that a text gives, in order: build and search together
+unfoldable pub callLines : ProgramCall → List Condition
+callLines c =
+    let n = length (c .series) in
+    valueLines mostProgramValues (c .series) (c .query)
+    ++ (widthLines n (c .window) (c .width) (c .merge)
+    ++ (limitLines n (length (c .query)) (c .window) (c .ask)
+    ++ (flatQuery (c .ask .kind) (c .query) ∷ [])))
+
 -- the refusals, in order
 unfoldable pub programTable : List ℕ → List Condition
-programTable t =
-    let c = textProgram t in
-    unreadable programForm 0 t
-    ∷ lengthOutside mostProgramValues (c .series)
-    ∷ valueOutside (c .series)
-    ∷ valueOutside (c .query)
-    ∷ windowOutside (c .window) (c .series)
-    ∷ widthOutside (c .width)
-    ∷ mergeOutside (c .merge)
-    ∷ queryLengthOutside (c .query) (c .series)
-    ∷ queryBelowWindow (c .query) (c .window)
-    ∷ bandOutside (c .query) (c .band)
-    ∷ thresholdOutside (c .threshold)
-    ∷ scaleOrShiftOutside (c .scale) (c .shift)
-    ∷ flatQuery (c .kind) (c .query)
-    ∷ []
+programTable t = unreadable programForm 0 t ∷ callLines (textProgram t)
 
 -- the index that the program builds
 unfoldable pub programIndex : ProgramCall → Index
@@ -87,16 +68,7 @@ programIndex c = buildIndex (record { series = c .series; window = c .window; wi
 
 -- the search through it
 abbrev pub programSearch : ProgramCall → SearchCall
-programSearch c = record {
-  series = c .series;
-  index = programIndex c;
-  kind = c .kind;
-  query = c .query;
-  band = c .band;
-  threshold = c .threshold;
-  scale = c .scale;
-  shift = c .shift;
-}
+programSearch c = record { series = c .series; index = programIndex c; query = c .query; ask = c .ask }
 
 -- it prints the index, then the list
 unfoldable pub printed : ProgramCall → List ℕ

@@ -1,10 +1,10 @@
 -- The conditions under which a call is refused (01, 'Refused for the input', 'Refused for the state'), each with its number and the place that it gives.
--- An entry's table is a list of them in order, and the call is refused by the first that applies. Assumes nothing.
-use mathlib.Core.Bool.{Bool, false, not, cond, _||_}
+-- An entry's table is a list of them in the order of their numbers (`order`), and the call is refused by the first that applies. Assumes nothing.
+use mathlib.Core.Bool.{Bool, true, false, not, cond, _||_}
 use mathlib.Core.List.{List, [], _∷_}
 use mathlib.Core.Option.{Option, none, some}
 use Prim.Native.Nat.{ℕ, _+_}
-use lib.Dec.{ltb}
+use lib.Dec.{eqb, ltb}
 use lib.IntN.{ℤ, pos, _+ℤ_, _-ℤ_}
 use lib.ListN.{length}
 use lib.Signed.{ltZ}
@@ -28,6 +28,16 @@ unfoldable pub firstRefusal : List Condition → Option (ℕ × ℕ)
 firstRefusal [] = none
 firstRefusal (c ∷ l) = elim (c .place) [ some p ↦ some (c .number, p) | none ↦ firstRefusal l ]
 
+-- the order in which the numbers are judged: texts are read first, then the lowest number wins
+unfoldable pub order : List ℕ
+order = 12 ∷ 1 ∷ 2 ∷ 3 ∷ 4 ∷ 5 ∷ 6 ∷ 7 ∷ 8 ∷ 9 ∷ 10 ∷ 11 ∷ 20 ∷ 21 ∷ 22 ∷ 23 ∷ 24 ∷ []
+
+-- the numbers of a table stand in an order: none is missing from it, and they never go back (law of every table: proofs/Tables)
+unfoldable pub follows : List ℕ → List Condition → Bool
+follows o [] = true
+follows [] (c ∷ l) = false
+follows (n ∷ o) (c ∷ l) = cond (eqb n (c .number)) (follows (n ∷ o) l) (follows o (c ∷ l))
+
 -- a condition with a place of its own
 abbrev pub atPlace : ℕ → Option ℕ → Condition
 atPlace n p = record { number = n; place = p }
@@ -37,16 +47,16 @@ abbrev pub atZero : ℕ → Bool → Condition
 atZero n t = record { number = n; place = cond t (some 0) none }
 
 -- 1: n outside its limit
-unfoldable pub lengthOutside : ℕ → List ℤ → Condition
-lengthOutside most s = atZero 1 (not (lengthIn most (length s)))
+unfoldable pub lengthOutside : ℕ → ℕ → Condition
+lengthOutside most n = atZero 1 (not (lengthIn most n))
 
 -- 2: value outside; its place
 unfoldable pub valueOutside : List ℤ → Condition
 valueOutside s = atPlace 2 (firstOutside s)
 
 -- 3: w outside, or above n
-unfoldable pub windowOutside : ℤ → List ℤ → Condition
-windowOutside w s = atZero 3 (not (windowIn w) || ltZ (pos (length s)) w)
+unfoldable pub windowOutside : ℤ → ℕ → Condition
+windowOutside w n = atZero 3 (not (windowIn w) || ltZ (pos n) w)
 
 -- 4: d outside
 unfoldable pub widthOutside : ℤ → Condition
@@ -57,16 +67,16 @@ unfoldable pub mergeOutside : ℤ → Condition
 mergeOutside g = atZero 5 (not (mergeIn g))
 
 -- 6: m outside, or above n
-unfoldable pub queryLengthOutside : List ℤ → List ℤ → Condition
-queryLengthOutside q s = atZero 6 (not (queryLengthIn (length q)) || ltb (length s) (length q))
+unfoldable pub queryLengthOutside : ℕ → ℕ → Condition
+queryLengthOutside m n = atZero 6 (not (queryLengthIn m) || ltb n m)
 
 -- 7: m below w
-unfoldable pub queryBelowWindow : List ℤ → ℤ → Condition
-queryBelowWindow q w = atZero 7 (ltZ (pos (length q)) w)
+unfoldable pub queryBelowWindow : ℕ → ℤ → Condition
+queryBelowWindow m w = atZero 7 (ltZ (pos m) w)
 
 -- 8: b outside
-unfoldable pub bandOutside : List ℤ → ℤ → Condition
-bandOutside q b = atZero 8 (not (bandIn (length q) b))
+unfoldable pub bandOutside : ℕ → ℤ → Condition
+bandOutside m b = atZero 8 (not (bandIn m b))
 
 -- 9: E outside
 unfoldable pub thresholdOutside : ℤ → Condition
@@ -97,17 +107,17 @@ unreadable f before t = atPlace 12 (badLine f before t)
 unfoldable pub illFormed : Index → Condition
 illFormed x = atPlace 20 (firstBadRow x)
 
--- how many windows the series has at the index's window length; below 1 where w is above n
-abbrev pub windowsOf : Index → List ℤ → ℤ
-windowsOf x s = pos (length s) -ℤ x .window +ℤ pos 1
+-- how many windows a series of n values has at the index's window length; below 1 where w is above n
+abbrev pub windowsOf : Index → ℕ → ℤ
+windowsOf x n = pos n -ℤ x .window +ℤ pos 1
 
 -- 21: fewer windows than the series
-unfoldable pub fewerWindows : Index → List ℤ → Condition
-fewerWindows x s = atZero 21 (ltZ (x .windows) (windowsOf x s))
+unfoldable pub fewerWindows : Index → ℕ → Condition
+fewerWindows x n = atZero 21 (ltZ (x .windows) (windowsOf x n))
 
 -- 22: more windows than the series
-unfoldable pub moreWindows : Index → List ℤ → Condition
-moreWindows x s = atZero 22 (ltZ (windowsOf x s) (x .windows))
+unfoldable pub moreWindows : Index → ℕ → Condition
+moreWindows x n = atZero 22 (ltZ (windowsOf x n) (x .windows))
 
 -- 23: a buffer too short, one that holds `room` entries where `needed` are
 unfoldable pub bufferShort : ℕ → ℕ → Condition

@@ -1,6 +1,6 @@
 -- The entry search: one series, one index, one query of either kind, straight or warped. Assumes nothing.
 use mathlib.Core.Bool.{Bool, true, false}
-use mathlib.Core.List.{List, [], _∷_, map}
+use mathlib.Core.List.{List, [], _∷_, _++_, map}
 use mathlib.Core.Option.{Option, none, some}
 use Prim.Native.Nat.{ℕ}
 use lib.Dec.{eqb}
@@ -13,34 +13,43 @@ use Rattle.meaning_rows.specs.declared.Head.{Head}
 use Rattle.meaning_rows.specs.Index.{Index, lent}
 use Rattle.meaning_filter.specs.declared.Kind.{Kind}
 use Rattle.meaning_filter.specs.declared.Limits.{Limits}
+use Rattle.meaning_filter.specs.declared.Ask.{Ask}
 use Rattle.meaning_filter.specs.Matches.{Question, candidateRuns, candidateCount, matchList}
 use Rattle.meaning_entries.specs.declared.Found.{Found}
 use Rattle.meaning_entries.specs.Refusal.{Condition, firstRefusal, lengthOutside, valueOutside, queryLengthOutside, queryBelowWindow, bandOutside, thresholdOutside, scaleOrShiftOutside, flatQuery, illFormed, fewerWindows, moreWindows, bufferShort, listShort}
 use Rattle.meaning_entries.specs.Buffers.{filled, pairRoom}
 
--- band b, threshold E, scale limit a, shift limit h are whole numbers, as a text may have any
-pub record SearchCall : Type 0 where
-  pub series : List ℤ
-  pub index : Index
+-- what is asked beside the query. Band b, threshold E, scale limit a, shift limit h are whole numbers, as a text may have any
+pub record Asking : Type 0 where
   pub kind : Kind
-  pub query : List ℤ
   pub band : ℤ
   pub threshold : ℤ
   pub scale : ℤ
   pub shift : ℤ
 
--- the call over a lent index, with limits of the code
-abbrev pub lentSearch : List ℤ → Head → List Row → List ℕ → List ℕ → Kind → List ℤ → Limits → SearchCall
-lentSearch series head rows left right kind query l = record {
-  series = series;
-  index = lent head rows left right;
-  kind = kind;
-  query = query;
-  band = pos (l .band);
-  threshold = pos (l .threshold);
-  scale = pos (l .scale);
-  shift = pos (l .shift);
+-- what the code is asked
+abbrev pub lentAsk : Ask → Asking
+lentAsk a = record {
+  kind = a .kind;
+  band = pos (a .limits .band);
+  threshold = pos (a .limits .threshold);
+  scale = pos (a .limits .scale);
+  shift = pos (a .limits .shift);
 }
+
+-- and back, of what is within its limits
+abbrev pub plainAsk : Asking → Ask
+plainAsk a = record { kind = a .kind; limits = record { band = natAbs (a .band); threshold = natAbs (a .threshold); scale = natAbs (a .scale); shift = natAbs (a .shift) } }
+
+pub record SearchCall : Type 0 where
+  pub series : List ℤ
+  pub index : Index
+  pub query : List ℤ
+  pub ask : Asking
+
+-- the call over a lent index
+abbrev pub lentSearch : List ℤ → Head → List Row → List ℕ → List ℕ → Ask → List ℤ → SearchCall
+lentSearch series head rows left right ask query = record { series = series; index = lent head rows left right; query = query; ask = lentAsk ask }
 
 -- candidate buffer, scratch, and the list
 pub record SearchBuffers : Type 0 where
@@ -52,16 +61,7 @@ pub record SearchBuffers : Type 0 where
 
 -- what a call within its limits asks
 unfoldable pub question : SearchCall → Question
-question c = record {
-  series = c .series;
-  kind = c .kind;
-  query = c .query;
-  limits = record { band = natAbs (c .band); threshold = natAbs (c .threshold); scale = natAbs (c .scale); shift = natAbs (c .shift) };
-}
-
--- how many windows the series has
-abbrev pub searchWindows : SearchCall → ℕ
-searchWindows c = windowCount (length (c .series)) (natAbs (c .index .window))
+question c = record { series = c .series; query = c .query; ask = plainAsk (c .ask) }
 
 -- the matches that the search lists
 abbrev pub searchMatches : SearchCall → List (ℕ × ℕ)
@@ -71,25 +71,44 @@ searchMatches c = matchList (c .index) (question c)
 abbrev pub listRoom : SearchBuffers → ℕ
 listRoom b = pairRoom (b .offsets) (b .distances)
 
--- the refusals, in order
-unfoldable pub searchTable : SearchCall → SearchBuffers → List Condition
-searchTable c b =
-    lengthOutside mostValues (c .series)
-    ∷ valueOutside (c .series)
-    ∷ valueOutside (c .query)
-    ∷ queryLengthOutside (c .query) (c .series)
-    ∷ queryBelowWindow (c .query) (c .index .window)
-    ∷ bandOutside (c .query) (c .band)
-    ∷ thresholdOutside (c .threshold)
-    ∷ scaleOrShiftOutside (c .scale) (c .shift)
-    ∷ flatQuery (c .kind) (c .query)
-    ∷ illFormed (c .index)
-    ∷ fewerWindows (c .index) (c .series)
-    ∷ moreWindows (c .index) (c .series)
-    ∷ bufferShort (pairRoom (b .left) (b .right)) (searchWindows c)
-    ∷ bufferShort (length (b .scratch)) (searchWindows c)
-    ∷ listShort (listRoom b) (length (searchMatches c))
+-- ---- the refusals
+
+-- 1 and 2: the series, of at most so many values, then the query
+abbrev pub valueLines : ℕ → List ℤ → List ℤ → List Condition
+valueLines most s q = lengthOutside most (length s) ∷ valueOutside s ∷ valueOutside q ∷ []
+
+-- 6 to 10: m, for a series of n values and windows of w, and the limits
+abbrev pub limitLines : ℕ → ℕ → ℤ → Asking → List Condition
+limitLines n m w a =
+    queryLengthOutside m n
+    ∷ queryBelowWindow m w
+    ∷ bandOutside m (a .band)
+    ∷ thresholdOutside (a .threshold)
+    ∷ scaleOrShiftOutside (a .scale) (a .shift)
     ∷ []
+
+-- 21 to 23: the index's windows for a series of n values, and room for candidates and scratch
+abbrev pub windowLines : ℕ → Index → ℕ → ℕ → List Condition
+windowLines n x candidates scratch =
+    fewerWindows x n
+    ∷ moreWindows x n
+    ∷ bufferShort candidates (windowCount n (natAbs (x .window)))
+    ∷ bufferShort scratch (windowCount n (natAbs (x .window)))
+    ∷ []
+
+-- what refuses before the search looks, in order
+unfoldable pub searchPlan : SearchCall → SearchBuffers → List Condition
+searchPlan c b =
+    let n = length (c .series) in
+    valueLines mostValues (c .series) (c .query)
+    ++ (limitLines n (length (c .query)) (c .index .window) (c .ask)
+    ++ (flatQuery (c .ask .kind) (c .query)
+    ∷ illFormed (c .index)
+    ∷ windowLines n (c .index) (pairRoom (b .left) (b .right)) (length (b .scratch))))
+
+-- the refusals, in order: whether the list holds all matches is known only at the end
+unfoldable pub searchTable : SearchCall → SearchBuffers → List Condition
+searchTable c b = searchPlan c b ++ (listShort (listRoom b) (length (searchMatches c)) ∷ [])
 
 abbrev pub searchRefusal : SearchCall → SearchBuffers → Option (ℕ × ℕ)
 searchRefusal c b = firstRefusal (searchTable c b)

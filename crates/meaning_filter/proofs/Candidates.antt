@@ -79,16 +79,16 @@ part-sum : (s : List ℤ) (j p w : ℕ) → Σℤ w (λ k. stretch s j (p + k)) 
 unfolding windowSum
 part-sum s j p w = Σℤ-same w (λ k. stretch s j (p + k)) (stretch s (j + p)) (λ k l. let e : j + (p + k) ≡ j + p + k = omega arith in rw e)
 
-pub kept-candidate : (x : Index) (z : Question) (j : ℕ) → Reached x (z .series) → 0 < queryLength z → 0 < z .limits .scale → j < offsetCount z → T (matchesAt z j) → T (candidateAt x z j)
+pub kept-candidate : (x : Index) (z : Question) (j : ℕ) → Reached x (z .series) → 0 < queryLength z → 0 < z .ask .limits .scale → j < offsetCount z → T (matchesAt z j) → T (candidateAt x z j)
 unfolding candidateAt ranges
 kept-candidate x z j filed long one there t =
     let w = natAbs (x .window) in
     let m = queryLength z in
     let s = z .series in
-    let range = rangeOf (z .kind) (at (z .query)) m (z .limits) w in
+    let range = rangeOf (z .ask .kind) (at (z .query)) m (z .ask .limits) w in
     let e : j + 0 * w ≡ j = omega arith in
     rw e at (all-admitted x range j 0 (m / w) (λ i l.
     let fits = part-fits m w i (omega arith) in
     filed-admits x (range i) (windowSum s w (j + i * w)) (j + i * w)
-    (rw (part-sum s j (i * w) w) at (kept (z .kind) (stretch s j) (at (z .query)) m (z .limits) w i long one fits t))
+    (rw (part-sum s j (i * w) w) at (kept (z .ask .kind) (stretch s j) (at (z .query)) m (z .ask .limits) w i long one fits t))
     (filed .at (j + i * w) (omega arith))))

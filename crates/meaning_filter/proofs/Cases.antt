@@ -28,7 +28,7 @@ worked = pos 1 ∷ pos 2 ∷ pos 4 ∷ pos 3 ∷ pos 1 ∷ []
 
 -- a straight query with threshold E, scale limit 20 tenths and shift limit 1
 ask : Kind → List ℤ → ℕ → List ℤ → Question
-ask kind q E s = record { series = s; kind = kind; query = q; limits = record { band = 0; threshold = E; scale = 20; shift = 1 } }
+ask kind q E s = record { series = s; query = q; ask = record { kind = kind; limits = record { band = 0; threshold = E; scale = 20; shift = 1 } } }
 
 three : List ℤ
 three = pos 0 ∷ pos 3 ∷ pos 1 ∷ []

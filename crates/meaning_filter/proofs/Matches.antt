@@ -14,7 +14,7 @@ use Rattle.meaning_rows.specs.Index.{Index}
 use Rattle.meaning_filter.specs.Matches.{Question, queryLength, offsetCount, matchesAt, listed, candidateAt, allMatches, matchList, Upward, done, next, Exactly}
 use Rattle.meaning_filter.proofs.Candidates.{Reached, kept-candidate}
 
-pub all-found : (x : Index) (z : Question) → Reached x (z .series) → 0 < queryLength z → 0 < z .limits .scale → matchList x z ≡ allMatches z
+pub all-found : (x : Index) (z : Question) → Reached x (z .series) → 0 < queryLength z → 0 < z .ask .limits .scale → matchList x z ≡ allMatches z
 unfolding matchList allMatches
 all-found x z filed long one =
     rw (keep-twice (matchesAt z) (candidateAt x z) 0 (offsetCount z) (λ j l. kept-candidate x z j filed long one (omega arith)))

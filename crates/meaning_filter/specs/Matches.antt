@@ -15,15 +15,15 @@ use Rattle.meaning_rows.specs.Runs.{runs}
 use Rattle.meaning_filter.specs.declared.Kind.{Kind}
 use Rattle.meaning_filter.specs.declared.Kind.the-variants.{Raw, Normal}
 use Rattle.meaning_filter.specs.declared.Limits.{Limits}
+use Rattle.meaning_filter.specs.declared.Ask.{Ask}
 use Rattle.meaning_filter.specs.Range.{ranges}
 use Rattle.meaning_filter.specs.Candidates.{candidate}
 
--- what is looked for in a series: a query of a kind, within limits
+-- what is looked for in a series: a query, and what is asked beside it
 pub record Question : Type 0 where
   pub series : List ℤ
-  pub kind : Kind
   pub query : List ℤ
-  pub limits : Limits
+  pub ask : Ask
 
 -- m
 abbrev pub queryLength : Question → ℕ
@@ -45,11 +45,11 @@ distanceTo Normal s q m l = normalDistance s q (l .band) m
 
 -- the stretch of offset j matches
 abbrev pub matchesAt : Question → ℕ → Bool
-matchesAt z j = matches (z .kind) (stretch (z .series) j) (at (z .query)) (queryLength z) (z .limits)
+matchesAt z j = matches (z .ask .kind) (stretch (z .series) j) (at (z .query)) (queryLength z) (z .ask .limits)
 
 -- an entry of the list: an offset and its distance
 abbrev pub listed : Question → ℕ → ℕ × ℕ
-listed z j = (j, distanceTo (z .kind) (stretch (z .series) j) (at (z .query)) (queryLength z) (z .limits))
+listed z j = (j, distanceTo (z .ask .kind) (stretch (z .series) j) (at (z .query)) (queryLength z) (z .ask .limits))
 
 -- all matches, ascending, with no index
 unfoldable pub allMatches : Question → List (ℕ × ℕ)
@@ -70,7 +70,7 @@ pub record Exactly (z : Question) (l : List (ℕ × ℕ)) : Type 0 where
 
 -- offset j is a candidate
 unfoldable pub candidateAt : Index → Question → ℕ → Bool
-candidateAt x z = candidate x (ranges (z .kind) (at (z .query)) (queryLength z) (z .limits) (natAbs (x .window)))
+candidateAt x z = candidate x (ranges (z .ask .kind) (at (z .query)) (queryLength z) (z .ask .limits) (natAbs (x .window)))
 
 -- the candidates as joined runs, and how many they are
 unfoldable pub candidateRuns : Index → Question → List (ℕ × ℕ)

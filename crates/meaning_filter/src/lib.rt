@@ -1,4 +1,4 @@
-// What a search is asked for: the kind of query and its limits. specs/ has the meanings, proofs/ what they imply.
+// What a search is asked for beside its query: the kind of query and its limits. specs/ has the meanings, proofs/ what they imply.
 
 // A query's kind.
 pub enum Kind {
@@ -12,6 +12,12 @@ pub struct Limits {
     pub threshold: u64,
     pub scale: u32,
     pub shift: u32,
+}
+
+// What is asked of a search beside its query.
+pub struct Ask {
+    pub kind: Kind,
+    pub limits: Limits,
 }
 
 // A crate has one function at least.

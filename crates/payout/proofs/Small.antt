@@ -35,7 +35,7 @@ use Rattle.meaning_entries.specs.Buffers.{zeroRow}
 use Rattle.meaning_entries.specs.Audit.{AuditCall, auditTable, complete, audited}
 use Rattle.meaning_entries.specs.Load.{textIndex}
 use Rattle.meaning_entries.specs.AuditText.{packRefusal, pack, auditTextAnswer}
-use Rattle.meaning_entries.proofs.Refusal.{First, here, later, is-passed, is-first, passed-at}
+use Rattle.meaning_entries.proofs.Refusal.{First, here, later, is-passed, is-first, openLines, passed-line}
 use Rattle.text_feed.specs.Keep.{leading, leading-outside}
 use Rattle.payout.proofs.Texts.{refused-by, index-unread, line-unread, table-is, outside, none-refuses}
 
@@ -144,7 +144,7 @@ module _ (c : AuditCall) where
   abbrev table : List Condition
   table = auditTable mostProgramValues c
 
-  long-line : SmallLine (lengthOutside mostProgramValues (c .series))
+  long-line : SmallLine (lengthOutside mostProgramValues (length (c .series)))
   unfolding lengthOutside
   long-line = (omega arith, zero-place (not (lengthIn mostProgramValues (length (c .series)))))
 
@@ -156,13 +156,13 @@ module _ (c : AuditCall) where
   unfolding illFormed
   formed-line = (omega arith, λ p e. bad-row-few (c .index) p e)
 
-  fewer-line : SmallLine (fewerWindows (c .index) (c .series))
+  fewer-line : SmallLine (fewerWindows (c .index) (length (c .series)))
   unfolding fewerWindows
-  fewer-line = (omega arith, zero-place (ltZ (c .index .windows) (windowsOf (c .index) (c .series))))
+  fewer-line = (omega arith, zero-place (ltZ (c .index .windows) (windowsOf (c .index) (length (c .series)))))
 
-  more-line : SmallLine (moreWindows (c .index) (c .series))
+  more-line : SmallLine (moreWindows (c .index) (length (c .series)))
   unfolding moreWindows
-  more-line = (omega arith, zero-place (ltZ (windowsOf (c .index) (c .series)) (c .index .windows)))
+  more-line = (omega arith, zero-place (ltZ (windowsOf (c .index) (length (c .series))) (c .index .windows)))
 
   lines : length (c .series) ≤ mostProgramValues → All SmallLine table
   unfolding All auditTable
@@ -194,8 +194,8 @@ module _ (x s : List ℕ) (few : length x < 2 ^ 63) where
     call = record { series = w; index = textIndex x }
 
     formed : firstRefusal (auditTable mostProgramValues call) ≡ none → firstBadRow (textIndex x) ≡ none
-    unfolding auditTable illFormed
-    formed e = passed-at (is-passed (auditTable mostProgramValues call) e) 2
+    unfolding openLines auditTable
+    formed e = passed-line (is-passed (auditTable mostProgramValues call) e) 20
 
     by-length : (t : Bool) → lengthIn mostProgramValues (length w) ≡ t → (o : Option (ℕ × ℕ)) → firstRefusal (auditTable mostProgramValues call) ≡ o → pack (auditTextAnswer x s) < 2 ^ 64
     unfolding pack

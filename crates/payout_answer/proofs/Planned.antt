@@ -84,7 +84,7 @@ module _ (series : List ℤ) (v : Value indexForm) where
   abbrev had : ℤ
   had = pos n -ℤ pos (h .window) +ℤ pos 1
 
-  long-place : (t : Bool) → lengthIn mostValues n ≡ t → lengthOutside mostValues series .place ≡ cond (not t) (some 0) none
+  long-place : (t : Bool) → lengthIn mostValues n ≡ t → lengthOutside mostValues (length series) .place ≡ cond (not t) (some 0) none
   unfolding lengthOutside
   long-place t e = rw e refl
 
@@ -96,11 +96,11 @@ module _ (series : List ℤ) (v : Value indexForm) where
   unfolding illFormed
   formed-place = refl
 
-  fewer-place : HeadIs v → (t : Bool) → ltZ (pos (h .windows)) had ≡ t → fewerWindows X series .place ≡ cond t (some 0) none
+  fewer-place : HeadIs v → (t : Bool) → ltZ (pos (h .windows)) had ≡ t → fewerWindows X (length series) .place ≡ cond t (some 0) none
   unfolding fewerWindows indexSaid
   fewer-place i t e = rw (i .windows, i .window, e) refl
 
-  more-place : HeadIs v → (t : Bool) → ltZ had (pos (h .windows)) ≡ t → moreWindows X series .place ≡ cond t (some 0) none
+  more-place : HeadIs v → (t : Bool) → ltZ had (pos (h .windows)) ≡ t → moreWindows X (length series) .place ≡ cond t (some 0) none
   unfolding moreWindows indexSaid
   more-place i t e = rw (i .windows, i .window, e) refl
 

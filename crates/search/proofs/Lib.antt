@@ -1,5 +1,6 @@
--- What a search that looks has of its parts, calls of its parts in a walk, and of the entry by crates above.
+-- What the halves of a search have of their parts, calls of the parts in a walk, and of the entry by crates above.
 pub mod Looks
-pub mod LookCalls
+pub mod GatherCalls
+pub mod FindCalls
 pub mod EntryCalls
 pub mod SearchCall

@@ -1,11 +1,14 @@
--- A search that nothing refuses before it looks: what its parts ask for is had (`put-asked`, `meet-asked`, `look-asked`), and what they promise is the promise of the search (`look-kept`). Assumes nothing.
-use mathlib.Core.Path.{_≡_, ap, _∙_}
-use mathlib.Core.Bool.{Bool}
+-- Finding candidates, where nothing refuses the search before it looks: what its parts ask for is had (`put-asked`, `meet-asked`, `hand-asked`), and what they promise is the promise of finding (`gathered`); where a plan refuses, so is that (`halted`).
+-- The search after it: checking has what it asks for (`finish-asked`), and both promises are the promise of the search (`both-kept`). Assumes nothing.
+use mathlib.Core.Path.{_≡_, refl, sym, ap, _∙_}
+use mathlib.Core.Bool.{Bool, true, false}
 use mathlib.Core.List.{List, [], map}
 use Prim.Native.Nat.{ℕ, zero, suc, _+_, _-_, _*_, _/_, _<_, _≤_}
 use native.Mathlib.Omega.{arith}
 use native.Mathlib.Nat.{div-le-self, div-mul-le-self}
 use lib.Dec.{eqb}
+use borrow.Author.Tests.{eqb-true, eqb-false}
+use Rattle.meaning_numbers.proofs.Tests.{by-test}
 use lib.IntN.{ℤ}
 use lib.ListN.{length, getD, length-replicate}
 use Rattle.meaning_numbers.specs.Sum.{count}
@@ -16,14 +19,13 @@ use Rattle.meaning_rows.specs.declared.Head.{Head}
 use Rattle.meaning_rows.specs.Index.{Index, lent, entries}
 use Rattle.meaning_rows.specs.Runs.{runs}
 use Rattle.meaning_rows.proofs.Runs.{runs-cong}
-use Rattle.meaning_filter.specs.declared.Kind.{Kind}
-use Rattle.meaning_filter.specs.declared.Limits.{Limits}
+use Rattle.meaning_filter.specs.declared.Ask.{Ask}
 use Rattle.meaning_filter.specs.Range.{rangeOf, ranges}
 use Rattle.meaning_filter.specs.Candidates.{admits}
-use Rattle.meaning_filter.specs.Matches.{candidateAt, candidateRuns, candidateCount}
+use Rattle.meaning_filter.specs.Matches.{offsetCount, candidateAt, candidateRuns, candidateCount}
 use Rattle.meaning_entries.specs.declared.Found.{Found}
 use Rattle.meaning_entries.specs.Buffers.{filled, pairRoom}
-use Rattle.meaning_entries.specs.Search.{SearchCall, SearchBuffers, lentSearch, question, lookedAfter}
+use Rattle.meaning_entries.specs.Search.{SearchCall, SearchBuffers, lentSearch, question, searchPlan, searchCandidates, lookedAfter}
 use Rattle.meaning_entries.specs.Demand2.{SearchKept}
 use Rattle.judge.proofs.Scan.{length-entries}
 use Rattle.candidates.specs.Leading.{leading, Counted}
@@ -36,9 +38,13 @@ use Rattle.filter.proofs.Spanned.{span-admits, span-inside, span-few, clamp-adm
 use Rattle.spans.specs.Held.{RangesReady, RangesHeld, raised-most, lowered}
 use Rattle.spans.specs.Met.{spanAt, MeetReady, AllMet}
 use Rattle.spans.specs.Raised.{stretchHit, counted-all}
-use Rattle.search_plan.specs.Allowed.{Allowed, thePlan, allowed}
+use Rattle.search_plan.specs.Allowed.{Allowed, thePlan, plan-is, goes-on, allowed}
+use Rattle.conditions.specs.declared.Refusal.{Refusal}
+use Rattle.conditions.specs.Refusal.{refusalOf, asRefusal}
 use Rattle.finding.specs.Search.{limited, search-ends}
-use Rattle.search.specs.Looked.{LookReady, Looked}
+use Rattle.search.specs.declared.Sought.{Sought}
+use Rattle.search.specs.Refused.{buffers, refused-kept}
+use Rattle.search.specs.Sought.{stopped, HandReady, HandedOut, SoughtKept, FinishReady, Finished, runs-lent}
 
 length-cleared : (l : List ℕ) → length (filled 0 [] l) ≡ length l
 unfolding filled
@@ -61,7 +67,7 @@ parts-le m w n a b c = by (m / w) (div-mul-le-self m w)
     by zero h = omega arith
     by (suc k) h = omega (arith, more k w a)
 
-module _ (s : List ℤ) (h : Head) (rows : List Row) (left right : List ℕ) (kind : Kind) (q : List ℤ) (l : Limits) (b : SearchBuffers) (z : thePlan s h rows left right kind q l b .number ≡ 0) where
+module _ (s : List ℤ) (h : Head) (rows : List Row) (left right : List ℕ) (ask : Ask) (q : List ℤ) (b : SearchBuffers) (z : thePlan s h rows left right ask q b .number ≡ 0) where
   abbrev m : ℕ
   m = length q
 
@@ -78,18 +84,18 @@ module _ (s : List ℤ) (h : Head) (rows : List Row) (left right : List ℕ) (ki
   x = lent h rows left right
 
   abbrev call : SearchCall
-  call = lentSearch s h rows left right kind q l
+  call = lentSearch s h rows left right ask q
 
   abbrev range : ℕ → ℤ × ℤ
-  range = rangeOf kind (at q) m l w
+  range = rangeOf (ask .kind) (at q) m (ask .limits) w
 
-  a : Allowed s h x kind q l (pairRoom (b .left) (b .right)) (length (b .scratch))
-  a = allowed s h rows left right kind q l b z
+  a : Allowed s h x ask q (pairRoom (b .left) (b .right)) (length (b .scratch))
+  a = allowed s h rows left right ask q b z
 
   window-in : (1 ≤ w) × (w ≤ 256)
   window-in = (a .formed .head .window .least, a .formed .head .window .most)
 
-  pub put-asked : RangesReady kind q l w (b .left) (b .right)
+  pub put-asked : RangesReady (ask .kind) q (ask .limits) w (b .left) (b .right)
   put-asked =
       let k = parts-le m w (length s) (window-in .0) (a .window) (a .inside) in
       record {
@@ -103,7 +109,7 @@ module _ (s : List ℤ) (h : Head) (rows : List Row) (left right : List ℕ) (ki
         last-room = omega (arith, k, a .candidates-fit);
       }
 
-  module _ {first₁ last₁ : List ℕ} (held : RangesHeld kind q l w (b .left) (b .right) first₁ last₁) where
+  module _ {first₁ last₁ : List ℕ} (held : RangesHeld (ask .kind) q (ask .limits) w (b .left) (b .right) first₁ last₁) where
     pub meet-asked : MeetReady rows p first₁ last₁
     meet-asked = record {
       climbs = climbs x (a .formed);
@@ -132,9 +138,10 @@ module _ (s : List ℤ) (h : Head) (rows : List Row) (left right : List ℕ) (ki
       inside : (i : ℕ) → i < p → getD last₂ i 0 ≤ length (entries left right)
       inside i k = rw (to-is i k) (span-inside x (a .formed) (clampOf (range i .0)) (clampOf (range i .1)))
 
-      pub look-asked : LookReady s w left right kind q l first₂ last₂ (b .scratch)
-      look-asked = record {
-        limited = limited a;
+      pub hand-asked : HandReady s h left right q first₂ last₂ (b .scratch)
+      hand-asked = record {
+        long = a .long;
+        some = a .some;
         inside = a .inside;
         window = window-in .0;
         window-most = window-in .1;
@@ -156,11 +163,11 @@ module _ (s : List ℤ) (h : Head) (rows : List Row) (left right : List ℕ) (ki
       hit-is : (i j : ℕ) → i < p → stretchHit left right first₂ last₂ w i j ≡ admits x (range i) (j + i * w)
       hit-is i j k = rw (from-is i k, to-is i k) (span-admits x (a .formed) (clampOf (range i .0)) (clampOf (range i .1)) (j + i * w) ∙ clamp-admits x (a .formed) (range i) (j + i * w))
 
-      module _ {r : Found} {left′ right′ scratch offsets distances : List ℕ} (e : Looked s w left right kind q l (record { left = first₂; right = last₂; scratch = b .scratch; offsets = b .offsets; distances = b .distances }) r (record { left = left′; right = right′; scratch = scratch; offsets = offsets; distances = distances })) where
+      module _ {t : Sought} {left′ right′ scratch : List ℕ} (e : HandedOut s h left right q first₂ last₂ (b .scratch) t left′ right′ scratch) where
         counted : Counted x range n p (e .counts)
         counted = counted-all x range (stretchHit left right first₂ last₂ w) n p (e .counts) hit-is (e .counted)
 
-        found : FoundAll x range p n first₂ last₂ left′ right′ (e .runs) (e .candidates)
+        found : FoundAll x range p n first₂ last₂ left′ right′ (t .runs) (t .candidates)
         found = found-all x range p n (e .counts) counted (e .handed)
 
         abbrev lead : ℕ → Bool
@@ -186,6 +193,79 @@ module _ (s : List ℤ) (h : Head) (rows : List Row) (left right : List ℕ) (ki
         unfolding lookedAfter
         right-is = found .right-is ∙ ap (λ (y : List (ℕ × ℕ)). filled 0 (map (λ t. t .1) y) last₂) runs-are ∙ filled-same _ last₂ (b .right) (all .last-long ∙ held .last-long)
 
-        pub look-kept : SearchKept call b r (record { left = left′; right = right′; scratch = scratch; offsets = offsets; distances = distances })
+        -- nothing refuses
+        unrefused : t .refusal ≡ refusalOf (searchPlan call b)
+        unfolding asRefusal
+        unrefused = e .unrefused ∙ sym (ap asRefusal (goes-on s h rows left right ask q b z))
+
+        pub counted-so : (t .runs ≡ length (candidateRuns x (question call))) × (t .candidates ≡ searchCandidates call)
+        counted-so = (found .count-is ∙ ap length runs-are, found .found-is ∙ count-is)
+
+        pub cleared-so : scratch ≡ lookedAfter call b .scratch
         unfolding lookedAfter
-        look-kept = search-ends s h rows left right kind q l b left-is right-is (found .count-is ∙ ap length runs-are) z (e .cleared) (found .found-is ∙ count-is) (e .answered)
+        cleared-so = e .cleared
+
+-- ---- finding, by the candidate buffer and the scratch
+
+module _ (s : List ℤ) (h : Head) (rows : List Row) (left right : List ℕ) (ask : Ask) (q : List ℤ) (first last scratch : List ℕ) where
+  abbrev B : SearchBuffers
+  B = buffers first last scratch [] []
+
+  abbrev C : SearchCall
+  C = lentSearch s h rows left right ask q
+
+  module _ (z : thePlan s h rows left right ask q B .number ≡ 0) {first₁ last₁ : List ℕ} (held : RangesHeld (ask .kind) q (ask .limits) (h .window) first last first₁ last₁)
+      {first₂ last₂ : List ℕ} (all : AllMet rows (length q / h .window) first₁ last₁ first₂ last₂) where
+    pub gathered : {t : Sought} {first′ last′ scratch′ : List ℕ} → HandedOut s h left right q first₂ last₂ scratch t first′ last′ scratch′ → SoughtKept C first last scratch t first′ last′ scratch′
+    gathered {t} e = record {
+      judged = unrefused s h rows left right ask q B z held all e;
+      stays = λ f. absurd (f (ap (λ (r : Refusal). r .number) (e .unrefused)));
+      counted = λ _. counted-so s h rows left right ask q B z held all e;
+      handed = λ _. (left-is s h rows left right ask q B z held all e, right-is s h rows left right ask q B z held all e, cleared-so s h rows left right ask q B z held all e);
+    }
+
+  -- a plan refuses
+  pub halted : (thePlan s h rows left right ask q B .number ≡ 0 → ⊥) → SoughtKept C first last scratch (stopped (thePlan s h rows left right ask q B)) first last scratch
+  halted f = record {
+    judged = plan-is s h rows left right ask q B;
+    stays = λ _. (refl, refl, refl);
+    counted = λ e. absurd (f e);
+    handed = λ e. absurd (f e);
+  }
+
+-- ---- checking after it
+
+module _ (s : List ℤ) (h : Head) (rows : List Row) (left right : List ℕ) (ask : Ask) (q : List ℤ) (b : SearchBuffers) where
+  abbrev here : SearchCall
+  here = lentSearch s h rows left right ask q
+
+  module _ {t : Sought} {first last scratch : List ℕ} (k : SoughtKept here (b .left) (b .right) (b .scratch) t first last scratch) where
+    same-plan : t .refusal ≡ thePlan s h rows left right ask q b
+    unfolding searchPlan
+    same-plan = k .judged ∙ sym (plan-is s h rows left right ask q b)
+
+    free : t .refusal .number ≡ 0 → thePlan s h rows left right ask q b .number ≡ 0
+    free e = sym (ap (λ (r : Refusal). r .number) same-plan) ∙ e
+
+    pub finish-asked : t .refusal .number ≡ 0 → FinishReady ask s q t first last
+    unfolding lookedAfter candidateRuns question
+    finish-asked e = record {
+      limited = limited (allowed s h rows left right ask q b (free e));
+      lent = rw (k .handed e .0, k .handed e .1, k .counted e .0) (runs-lent (candidateAt (here .index) (question here)) (offsetCount (question here)) (b .left) (b .right));
+    }
+
+    pub both-kept : {answer : Found} {first′ last′ offsets distances : List ℕ} → Finished ask s q t first last (b .offsets) (b .distances) answer first′ last′ offsets distances
+        → SearchKept here b answer (record { left = first′; right = last′; scratch = scratch; offsets = offsets; distances = distances })
+    unfolding lookedAfter
+    both-kept {answer} {first′} {last′} {offsets} {distances} f = rw (f .first-same, f .last-same) (by-test (eqb (t .refusal .number) 0) goes stops)
+      where
+        goes : eqb (t .refusal .number) 0 ≡ true → SearchKept here b answer (record { left = first; right = last; scratch = scratch; offsets = offsets; distances = distances })
+        goes g =
+            let e = eqb-true (t .refusal .number) 0 g in
+            search-ends s h rows left right ask q b (k .handed e .0) (k .handed e .1) (k .counted e .0) (free e) (k .handed e .2) (k .counted e .1) (f .answered e)
+
+        stops : eqb (t .refusal .number) 0 ≡ false → SearchKept here b answer (record { left = first; right = last; scratch = scratch; offsets = offsets; distances = distances })
+        stops g =
+            let n = eqb-false (t .refusal .number) 0 g in
+            let r = refused-kept s h rows left right ask q b (λ o. n (ap (λ (x : Refusal). x .number) same-plan ∙ o)) in
+            rw (k .stays n .0, k .stays n .1, k .stays n .2, f .refused n .0, f .refused n .1, f .refused n .2, same-plan) r

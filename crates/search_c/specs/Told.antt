@@ -5,6 +5,7 @@ use Prim.Native.Nat.{ℕ}
 use lib.Dec.{eqb}
 use Rattle.meaning_filter.specs.declared.Kind.{Kind}
 use Rattle.meaning_filter.specs.declared.Limits.{Limits}
+use Rattle.meaning_filter.specs.declared.Ask.{Ask}
 use Rattle.meaning_entries.specs.declared.Found.{Found}
 use Rattle.meaning_entries.specs.Search.{SearchCall, SearchBuffers, searchAnswer, searchAfter}
 use Rattle.search_c.specs.declared.Asked.{Asked}
@@ -16,6 +17,9 @@ kindOf a = elim (eqb (a .kind) 0) [ true ↦ Kind.Raw | false ↦ Kind.Normal ]
 
 abbrev pub limitsOf : Asked → Limits
 limitsOf a = record { band = a .band; threshold = a .threshold; scale = a .scale; shift = a .shift }
+
+abbrev pub askOf : Asked → Ask
+askOf a = record { kind = kindOf a; limits = limitsOf a }
 
 abbrev pub numbersOf : ℕ → ℕ → ℕ → Answer
 numbersOf kind first second = record { kind = kind; first = first; second = second }

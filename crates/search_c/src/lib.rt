@@ -1,8 +1,9 @@
 // The entry that searches for C: for the comparison under tests/ and the measurements under bench/, and for nothing else. It takes what the entry takes, the kind and the limits as a struct of numbers, calls it, and tells its answer as one.
 ghost use mathlib.Core.Path.{_≡_};
 ghost use Rattle.meaning_entries.specs.Search.{lentSearch};
-ghost use Rattle.search_c.specs.Told.{kindOf, limitsOf, numbersOf, toldFound, SearchTold};
+ghost use Rattle.search_c.specs.Told.{kindOf, limitsOf, askOf, numbersOf, toldFound, SearchTold};
 use meaning_entries::Found;
+use meaning_filter::Ask;
 use meaning_filter::Kind;
 use meaning_filter::Limits;
 use meaning_rows::Head;
@@ -49,6 +50,15 @@ fn limits_of(asked: Asked) -> Limits
     }
 }
 
+// What is asked for.
+fn ask_of(asked: Asked) -> Ask
+    ensures { λ a. ⌜ a ≡ askOf asked ⌝ }
+{
+    let kind = kind_of(asked);
+    let limits = limits_of(asked);
+    Ask { kind, limits }
+}
+
 // A kind and two numbers.
 fn numbers(kind: u32, first: usize, second: usize) -> Answer
     ensures { λ a. ⌜ a ≡ numbersOf kind first second ⌝ }
@@ -93,19 +103,17 @@ pub extern "C" fn index_search(
     offsets: &mut [u32],
     distances: &mut [u64],
 ) -> Answer
-    ensures { λ t. ⌜ SearchTold (lentSearch (now (series .entry)) head (now (rows .entry)) (now (left .entry)) (now (right .entry)) (kindOf asked) (now (query .entry)) (limitsOf asked)) (record { left = now (first .entry); right = now (last .entry); scratch = now (scratch .entry); offsets = now (offsets .entry); distances = now (distances .entry) }) t (record { left = now (first .exit); right = now (last .exit); scratch = now (scratch .exit); offsets = now (offsets .exit); distances = now (distances .exit) }) ⌝ }
+    ensures { λ t. ⌜ SearchTold (lentSearch (now (series .entry)) head (now (rows .entry)) (now (left .entry)) (now (right .entry)) (askOf asked) (now (query .entry))) (record { left = now (first .entry); right = now (last .entry); scratch = now (scratch .entry); offsets = now (offsets .entry); distances = now (distances .entry) }) t (record { left = now (first .exit); right = now (last .exit); scratch = now (scratch .exit); offsets = now (offsets .exit); distances = now (distances .exit) }) ⌝ }
 {
-    let kind = kind_of(asked);
-    let l = limits_of(asked);
+    let ask = ask_of(asked);
     let a = search(
         series,
         head,
         rows,
         left,
         right,
-        kind,
+        ask,
         query,
-        l,
         first,
         last,
         scratch,

@@ -19,9 +19,9 @@ use Rattle.meaning_curves.proofs.Values.{AllIn, none-outside}
 use Rattle.meaning_curves.specs.Limits.{mostValues, lengthIn, firstOutside, queryLengthIn}
 use Rattle.meaning_rows.specs.declared.Head.{Head}
 use Rattle.meaning_filter.specs.declared.Kind.{Kind}
-use Rattle.meaning_filter.specs.declared.Limits.{Limits}
-use Rattle.meaning_entries.specs.Refusal.{atPlace, lengthOutside, valueOutside, queryLengthOutside, queryBelowWindow, bandOutside, thresholdOutside, scaleOrShiftOutside, flatQuery, normalFlat}
-use Rattle.meaning_entries.proofs.Refusal.{Passed, passed-at, not-if, lacks}
+use Rattle.meaning_filter.specs.declared.Ask.{Ask}
+use Rattle.meaning_entries.specs.Refusal.{atPlace, lengthOutside, valueOutside, normalFlat}
+use Rattle.meaning_entries.proofs.Refusal.{Passed, openLines, passed-line, passed-behind, not-if, lacks}
 use Rattle.values.specs.declared.Place.the-variants.{At, Nowhere}
 use Rattle.values.specs.Place.{placed}
 use Rattle.judge.specs.declared.Judged.{Judged}
@@ -50,16 +50,16 @@ value-none s e = by (firstOutside s) refl
 -- ---- no number of these tables is 0
 
 pub values-lack : (s q : List ℤ) → T (lacks 0 (valuesTable s q))
-unfolding lacks valuesTable lengthOutside valueOutside
+unfolding openLines lacks valuesTable
 values-lack s q = tt
 
-pub numbers-lack : (s q : List ℤ) (w : ℕ) (l : Limits) → T (lacks 0 (numbersTable s q w l))
-unfolding lacks numbersTable queryLengthOutside queryBelowWindow bandOutside thresholdOutside scaleOrShiftOutside
-numbers-lack s q w l = tt
+pub numbers-lack : (s q : List ℤ) (w : ℕ) (a : Ask) → T (lacks 0 (numbersTable s q w a))
+unfolding openLines lacks numbersTable
+numbers-lack s q w a = tt
 
-pub input-lacks : (s q : List ℤ) (kind : Kind) (w : ℕ) (l : Limits) → T (lacks 0 (inputTable s q kind w l))
-unfolding lacks inputTable valuesTable numbersTable lengthOutside valueOutside queryLengthOutside queryBelowWindow bandOutside thresholdOutside scaleOrShiftOutside flatQuery
-input-lacks s q kind w l = tt
+pub input-lacks : (s q : List ℤ) (w : ℕ) (a : Ask) → T (lacks 0 (inputTable s q w a))
+unfolding openLines lacks inputTable valuesTable numbersTable
+input-lacks s q w a = tt
 
 -- ---- parts of the table
 
@@ -73,7 +73,7 @@ unfolding valuesTable lengthOutside
 long-passes s q e f = f ∙ sym (line-is 1 (not (lengthIn mostValues (length s))) (valueOutside s ∷ valueOutside q ∷ []) ∙ rw e)
 
 pub one-lacks : (s : List ℤ) → T (lacks 0 (valueOutside s ∷ []))
-unfolding lacks valueOutside
+unfolding openLines lacks
 one-lacks s = tt
 
 -- ---- what judging said
@@ -90,13 +90,13 @@ fine-passes s h j candidates scratch total e f = f ∙ sym (place-none (atPlace 
 -- ---- what is known where values and numbers pass
 
 pub values-in : (s q : List ℤ) → Passed (valuesTable s q) → AllIn s × AllIn q
-unfolding valuesTable valueOutside
-values-in s q h = (none-outside s (passed-at h 1), none-outside q (passed-at h 2))
+unfolding openLines valuesTable
+values-in s q h = (none-outside s (passed-line h 2), none-outside q (passed-line (passed-behind h 2) 2))
 
-pub query-few : (s q : List ℤ) (w : ℕ) (l : Limits) → Passed (numbersTable s q w l) → length q ≤ 1024
-unfolding numbersTable queryLengthOutside
-query-few s q w l h =
-    let t = neither (not (queryLengthIn (length q))) (ltb (length s) (length q)) (not-if 6 (not (queryLengthIn (length q)) || ltb (length s) (length q)) (passed-at h 0)) in
+pub query-few : (s q : List ℤ) (w : ℕ) (a : Ask) → Passed (numbersTable s q w a) → length q ≤ 1024
+unfolding openLines numbersTable
+query-few s q w a h =
+    let t = neither (not (queryLengthIn (length q))) (ltb (length s) (length q)) (not-if 6 (not (queryLengthIn (length q)) || ltb (length s) (length q)) (passed-line h 6)) in
     omega (zarith, within-yes (pos 1) (pos 1024) (pos (length q)) (not-not (queryLengthIn (length q)) (t .0)) .high)
 
 -- ---- a query that is flat

@@ -11,8 +11,8 @@ use conditions::scale_or_shift_outside;
 use conditions::threshold_outside;
 use conditions::too_short;
 use judge::Judged;
+use meaning_filter::Ask;
 use meaning_filter::Kind;
-use meaning_filter::Limits;
 use meaning_rows::Head;
 use numbers::lesser;
 use values::Place;
@@ -64,13 +64,14 @@ pub fn refuse_values(s: &[i32], q: &[i32]) -> Refusal
 }
 
 // The length of the query, and the limits.
-pub fn refuse_numbers(s: &[i32], q: &[i32], w: u32, l: Limits) -> Refusal
-    ensures { λ r. ⌜ r ≡ refusalOf (numbersTable (now (s .entry)) (now (q .entry)) w l) ⌝ }
+pub fn refuse_numbers(s: &[i32], q: &[i32], w: u32, ask: Ask) -> Refusal
+    ensures { λ r. ⌜ r ≡ refusalOf (numbersTable (now (s .entry)) (now (q .entry)) w ask) ⌝ }
 {
     let none = Refusal {
         number: 0,
         place: 0,
     };
+    let l = ask.limits;
     let m = q.len();
     let scale = refuse_if(scale_or_shift_outside(l.scale, l.shift), 10, none);
     let threshold = refuse_if(threshold_outside(l.threshold), 9, scale);
@@ -101,14 +102,14 @@ pub fn normal_flat(kind: Kind, q: &[i32]) -> bool
 }
 
 // Everything about the input.
-pub fn refuse_input(s: &[i32], q: &[i32], kind: Kind, w: u32, l: Limits) -> Refusal
-    ensures { λ r. ⌜ r ≡ refusalOf (inputTable (now (s .entry)) (now (q .entry)) kind w l) ⌝ }
+pub fn refuse_input(s: &[i32], q: &[i32], w: u32, ask: Ask) -> Refusal
+    ensures { λ r. ⌜ r ≡ refusalOf (inputTable (now (s .entry)) (now (q .entry)) w ask) ⌝ }
 {
     let values = refuse_values(s, q);
     if values.number != 0 {
         return values;
     }
-    let numbers = refuse_numbers(s, q, w, l);
+    let numbers = refuse_numbers(s, q, w, ask);
     if numbers.number != 0 {
         return numbers;
     }
@@ -116,6 +117,7 @@ pub fn refuse_input(s: &[i32], q: &[i32], kind: Kind, w: u32, l: Limits) -> Refu
         number: 0,
         place: 0,
     };
+    let kind = ask.kind;
     refuse_if(normal_flat(kind, q), 11, none)
 }
 
@@ -154,17 +156,16 @@ pub fn plan_search(
     s: &[i32],
     head: Head,
     j: Judged,
-    kind: Kind,
+    ask: Ask,
     q: &[i32],
-    l: Limits,
     left: usize,
     right: usize,
     scratch: usize,
 ) -> Refusal
-    ensures { λ r. ⌜ r ≡ planOf (now (s .entry)) head j kind (now (q .entry)) l (min left right) scratch ⌝ }
+    ensures { λ r. ⌜ r ≡ planOf (now (s .entry)) head j ask (now (q .entry)) (min left right) scratch ⌝ }
 {
     let w = head.window;
-    let input = refuse_input(s, q, kind, w, l);
+    let input = refuse_input(s, q, w, ask);
     if input.number != 0 {
         return input;
     }

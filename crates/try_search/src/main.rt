@@ -1,6 +1,7 @@
 // Runs the vectors of its standard input (tests/model/search_vectors.rs writes them: the paper's cases, then answers of the model) through the entry that searches, and says of each group how many agree.
 use find_answer::search_table;
 use meaning_entries::Found;
+use meaning_filter::Ask;
 use meaning_filter::Kind;
 use meaning_filter::Limits;
 use meaning_rows::Head;
@@ -233,7 +234,8 @@ fn search_lent(
     let rows = get_rows(nums, p.rows);
     let n = get_length(nums, p.rows, 256) / 4;
     let kind = get_kind(nums, p.kind);
-    let l = get_limits(nums, p.limits);
+    let limits = get_limits(nums, p.limits);
+    let ask = Ask { kind, limits };
     let a = search_table(
         series,
         head,
@@ -241,9 +243,8 @@ fn search_lent(
         n,
         left,
         right,
-        kind,
+        ask,
         query,
-        l,
         first,
         last,
         scratch,

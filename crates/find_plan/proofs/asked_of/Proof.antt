@@ -40,8 +40,7 @@ returns c =
       window = window i;
       width = width i;
       merge = merge i;
-      kind = kind i;
-      limits = record { band = band i; threshold = threshold i; scale = scale i; shift = shift i };
+      ask = record { kind = kind i; limits = record { band = band i; threshold = threshold i; scale = scale i; shift = shift i } };
     }
 
 pub asked-of-spec : {M : Type 1} → statement M

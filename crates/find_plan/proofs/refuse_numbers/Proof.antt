@@ -2,12 +2,9 @@
 use borrow.Author.Needs.{needs}
 use Rattle.conditions.specs.Refusal.{none-is, line-before}
 use Rattle.find_plan.specs.Tables.{numbersTable}
-use Rattle.meaning_curves.specs.Limits.{widthIn, mergeIn, queryLengthIn, bandIn, thresholdIn, scaleIn, shiftIn}
-use Rattle.meaning_entries.specs.Refusal.{atZero}
-use lib.Dec.{ltb}
-use lib.IntN.{pos}
-use lib.Signed.{ltZ}
-use mathlib.Core.Bool.{not, _||_}
+use Rattle.meaning_entries.specs.Refusal.{widthOutside, mergeOutside, queryLengthOutside, queryBelowWindow, bandOutside, thresholdOutside, scaleOrShiftOutside}
+use Rattle.meaning_entries.proofs.Refusal.{openLines}
+use mathlib.Core.Bool.{_||_}
 use mathlib.Core.List.{[], _∷_}
 use mathlib.Core.Path.{sym}
 use mir.Syntax.{w64}
@@ -22,7 +19,7 @@ above-requires-2 : tie.Need-above-requires-2
 above-requires-2 c κs = c .before .before .before .before .before .before .before .before .before .before .before .before .before .before .before .before .before .before .before .before .before .before .before .before .before .pre .0
 
 returns : tie.Need-returns
-unfolding numbersTable
+unfolding openLines numbersTable
 returns c =
     let n = c .before .before .before .before .before .before .before .before .before .before .before .before .before .before .before .before .before .before .before .before .before .before .before .before .before .before .before .args .n in
     let m = c .before .before .before .before .before .before .before .before .before .before .before .before .before .before .before .before .before .before .before .before .before .before .before .before .before .before .before .args .m in
@@ -36,13 +33,13 @@ returns c =
     let is-outside5 = (rw (toZ-ofZ w64 (c .before .before .before .before .before .before .before .before .before .before .before .before .before .before .before .before .before .before .before .before .before .before .before .before .before .before .before .args .x .width) (record { sfits = c .before .before .before .before .before .before .before .struct-told7 .given .1 .0 .1 })) at (c .before .before .before .before .before .before .outside5 .ensures)) in
     let is-outside6 = (rw (toZ-ofZ w64 (c .before .before .before .before .before .before .before .before .before .before .before .before .before .before .before .before .before .before .before .before .before .before .before .before .before .before .before .args .x .window) (record { sfits = c .before .before .before .before .struct-told8 .given .0 .1 })) at (c .before .before .before .outside6 .ensures)) in
     let is-above2 = (rw (toZ-ofZ w64 (c .before .before .before .before .before .before .before .before .before .before .before .before .before .before .before .before .before .before .before .before .before .before .before .before .before .before .before .args .x .window) (record { sfits = c .before .before .struct-told9 .given .0 .1 })) at (c .before .above2 .ensures)) in
-    let ten = atZero 10 (not (scaleIn (x .scale)) || not (shiftIn (x .shift))) ∷ [] in
-    let nine = atZero 9 (not (thresholdIn (x .threshold))) ∷ ten in
-    let eight = atZero 8 (not (bandIn m (x .band))) ∷ nine in
-    let seven = atZero 7 (ltZ (pos m) (x .window)) ∷ eight in
-    let six = atZero 6 (not (queryLengthIn m) || ltb n m) ∷ seven in
-    let five = atZero 5 (not (mergeIn (x .merge))) ∷ six in
-    let four = atZero 4 (not (widthIn (x .width))) ∷ five in
+    let ten = scaleOrShiftOutside (x .scale) (x .shift) ∷ [] in
+    let nine = thresholdOutside (x .threshold) ∷ ten in
+    let eight = bandOutside m (x .band) ∷ nine in
+    let seven = queryBelowWindow m (x .window) ∷ eight in
+    let six = queryLengthOutside m n ∷ seven in
+    let five = mergeOutside (x .merge) ∷ six in
+    let four = widthOutside (x .width) ∷ five in
     (line-before 3 _ four (line-before 4 _ five (line-before 5 _ six (line-before 6 _ seven (line-before 7 _ eight (line-before 8 _ nine (line-before 9 _ ten (line-before 10 _ [] (sym none-is) (λ i. is-outside i || is-outside2 i) (c .before .before .before .before .before .before .before .before .before .before .before .before .before .before .before .before .before .before .before .before .before .before .refuse-if .ensures)) is-outside3 (c .before .before .before .before .before .before .before .before .before .before .before .before .before .before .before .before .before .before .before .refuse-if2 .ensures)) is-band-outside (c .before .before .before .before .before .before .before .before .before .before .before .before .before .before .before .before .refuse-if3 .ensures)) is-above (c .before .before .before .before .before .before .before .before .before .before .before .before .before .refuse-if4 .ensures)) (c .before .before .before .before .before .before .before .before .before .before .before .before .query-length-outside .ensures) (c .before .before .before .before .before .before .before .before .before .before .before .refuse-if5 .ensures)) is-outside4 (c .before .before .before .before .before .before .before .before .refuse-if6 .ensures)) is-outside5 (c .before .before .before .before .before .refuse-if7 .ensures)) (λ i. is-outside6 i || is-above2 i) (c .refuse-if8 .ensures))
 
 pub refuse-numbers-spec : {M : Type 1} → statement M

@@ -7,7 +7,7 @@ use Rattle.finding.proofs.find_matches.Tie as tie
 
 check-prepared-requires : tie.Need-check-prepared-requires
 check-prepared-requires c κs =
-    let p = c .before .before .before .before .before .before .before .before .before .pre in
+    let p = c .before .before .before .before .before .before .before .before .before .before .pre in
     let few = p .0 .few in
     (p .0, (p .1, (front-long _ _ few, front-long _ _ few, front-long _ _ few)))
 

@@ -13,7 +13,7 @@ use Rattle.search_plan.proofs.plan_search.Tie as tie
 -- the parts of the table
 module _ (o : tie.Start) where
   abbrev input : List Condition
-  input = inputTable (o .args .s .now) (o .args .q .now) (o .args .kind) (o .args .head .window) (o .args .l)
+  input = inputTable (o .args .s .now) (o .args .q .now) (o .args .head .window) (o .args .ask)
 
   abbrev state : ℕ → List Condition
   state candidates = stateTable (o .args .s .now) (o .args .head) (o .args .j) candidates (o .args .scratch)
@@ -29,7 +29,7 @@ returns-2 c =
     let v = e .before .before in
     let o = v .before in
     let a = o .args in
-    part-passes (state o (min (a .left) (a .right))) (passes (input o) (input-lacks (a .s .now) (a .q .now) (a .kind) (a .head .window) (a .l)) (v .refuse-input .ensures) (e .if1 .left))
+    part-passes (state o (min (a .left) (a .right))) (passes (input o) (input-lacks (a .s .now) (a .q .now) (a .head .window) (a .ask)) (v .refuse-input .ensures) (e .if1 .left))
     (c .refuse-state .ensures ∙ ap (λ (n : ℕ). refusalOf (state o n)) (c .before .lesser .ensures))
 
 pub plan-search-spec : {M : Type 1} → statement M

@@ -16,10 +16,10 @@ module _ (o : tie.Start) where
   one = valuesTable (o .args .s .now) (o .args .q .now)
 
   abbrev two : List Condition
-  two = numbersTable (o .args .s .now) (o .args .q .now) (o .args .w) (o .args .l)
+  two = numbersTable (o .args .s .now) (o .args .q .now) (o .args .w) (o .args .ask)
 
   abbrev three : List Condition
-  three = flatQuery (o .args .kind) (o .args .q .now) ∷ []
+  three = flatQuery (o .args .ask .kind) (o .args .q .now) ∷ []
 
 returns : tie.Need-returns
 unfolding inputTable
@@ -44,13 +44,13 @@ second : (c : tie.Else2) → Passed (two (c .before .before .before .before .bef
 second c =
     let n = c .before .before in
     let o = n .before .before .before .before in
-    passes (two o) (numbers-lack (o .args .s .now) (o .args .q .now) (o .args .w) (o .args .l)) (n .refuse-numbers .ensures) (c .if2 .left)
+    passes (two o) (numbers-lack (o .args .s .now) (o .args .q .now) (o .args .w) (o .args .ask)) (n .refuse-numbers .ensures) (c .if2 .left)
 
 normal-flat-requires : tie.Need-normal-flat-requires
 normal-flat-requires c κs =
     let n = c .before .before in
     let a = n .before .before .before .before .args in
-    (values-in (a .s .now) (a .q .now) (first (n .before)) .1, query-few (a .s .now) (a .q .now) (a .w) (a .l) (second c))
+    (values-in (a .s .now) (a .q .now) (first (n .before)) .1, query-few (a .s .now) (a .q .now) (a .w) (a .ask) (second c))
 
 returns-3 : tie.Need-returns-3
 unfolding inputTable flatQuery
@@ -59,7 +59,7 @@ returns-3 c =
     let n = e .before .before in
     let o = n .before .before .before .before in
     part-passes (two o ++ three o) (first (n .before))
-    (part-passes (three o) (second e) (line-before 11 (normalFlat (o .args .kind) (o .args .q .now)) [] (sym none-is) (c .before .normal-flat .ensures) (c .refuse-if .ensures)))
+    (part-passes (three o) (second e) (line-before 11 (normalFlat (o .args .ask .kind) (o .args .q .now)) [] (sym none-is) (c .before .normal-flat .ensures) (c .refuse-if .ensures)))
 
 pub refuse-input-spec : {M : Type 1} → statement M
 refuse-input-spec =

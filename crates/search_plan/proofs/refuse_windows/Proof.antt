@@ -21,7 +21,7 @@ returns c =
     let n = windowCount (length (a .s .now)) (a .head .window) in
     let last = bufferShort (a .scratch) n ∷ [] in
     let room = bufferShort (a .candidates) n ∷ last in
-    let above = moreWindows (lent (a .head) [] [] []) (a .s .now) ∷ room in
+    let above = moreWindows (lent (a .head) [] [] []) (length (a .s .now)) ∷ room in
     line-before 21 _ above (line-before 22 _ room (line-before 23 _ last (line-before 23 _ [] (sym none-is) (counts .before .too-short .ensures) (counts .refuse-if .ensures))
     (runs .before .too-short2 .ensures) (runs .refuse-if2 .ensures)) (many .before .more .ensures) (many .refuse-if3 .ensures)) (c .before .fewer .ensures) (c .refuse-if4 .ensures)
 
