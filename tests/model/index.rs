@@ -189,6 +189,9 @@ pub fn search(x: &Index, s: &[i32], z: &Question) -> Found {
 
 // ---- refusals, each table in the order of its numbers
 
+/// A refusal's number, and its place where it applies.
+pub type Conditions = Vec<(u32, Option<usize>)>;
+
 fn first(conditions: &[(u32, Option<usize>)]) -> Option<Refusal> {
     conditions.iter().find_map(|&(n, p)| p.map(|p| (n, p)))
 }
@@ -201,47 +204,53 @@ fn wide(s: &[i32]) -> Vec<i64> { s.iter().map(|&v| v as i64).collect() }
 
 const MOST: usize = 1 << 20;
 
-pub fn build_refusal(s: &[i64], most: usize, w: i64, d: i64, g: i64, room: usize) -> Option<Refusal> {
+pub fn build_conditions(s: &[i64], most: usize, w: i64, d: i64, g: i64, room: usize) -> Conditions {
     let n = s.len();
-    first(&[
+    vec![
         (1, at_zero(n < 1 || n > most)),
         (2, outside(s)),
         (3, at_zero(w < 1 || w > 256 || w > n as i64)),
         (4, at_zero(!(1..=1_000_000).contains(&d))),
         (5, at_zero(!(0..=100).contains(&g))),
         (23, at_zero((room as i64) < n as i64 - w + 1)),
-    ])
+    ]
 }
+
+pub fn build_refusal(s: &[i64], most: usize, w: i64, d: i64, g: i64, room: usize) -> Option<Refusal> { first(&build_conditions(s, most, w, d, g, room)) }
 
 /// How the windows of an index stand to those of a series.
 fn windows(x: &Index, n: usize) -> std::cmp::Ordering { x.windows.cmp(&(n as i64 - x.window + 1)) }
 
-pub fn extend_refusal(x: &Index, s: &[i32], room: usize) -> Option<Refusal> {
+pub fn extend_conditions(x: &Index, s: &[i32], room: usize) -> Conditions {
     let n = s.len();
-    first(&[
+    vec![
         (1, at_zero(n < 1 || n > MOST)),
         (2, outside(&wide(s))),
         (20, bad_row(x)),
         (22, at_zero(windows(x, n).is_gt())),
         (23, at_zero((room as i64) < n as i64 - x.window + 1)),
-    ])
+    ]
 }
 
-pub fn audit_refusal(x: &Index, s: &[i64], most: usize) -> Option<Refusal> {
+pub fn extend_refusal(x: &Index, s: &[i32], room: usize) -> Option<Refusal> { first(&extend_conditions(x, s, room)) }
+
+pub fn audit_conditions(x: &Index, s: &[i64], most: usize) -> Conditions {
     let n = s.len();
-    first(&[
+    vec![
         (1, at_zero(n < 1 || n > most)),
         (2, outside(s)),
         (20, bad_row(x)),
         (21, at_zero(windows(x, n).is_lt())),
         (22, at_zero(windows(x, n).is_gt())),
-    ])
+    ]
 }
+
+pub fn audit_refusal(x: &Index, s: &[i64], most: usize) -> Option<Refusal> { first(&audit_conditions(x, s, most)) }
 
 fn flat(q: &[i64]) -> bool { q.iter().all(|&v| v == q[0]) }
 
 /// 6 to 11: what is asked of a query, its band and its limits, beside the window length.
-fn query_conditions(n: usize, q: &[i64], normal: bool, w: i64, band: i64, threshold: i64, scale: i64, shift: i64) -> Vec<(u32, Option<usize>)> {
+fn query_conditions(n: usize, q: &[i64], normal: bool, w: i64, band: i64, threshold: i64, scale: i64, shift: i64) -> Conditions {
     let m = q.len();
     vec![
         (6, at_zero(m < 1 || m > 1024 || m > n)),
@@ -254,7 +263,7 @@ fn query_conditions(n: usize, q: &[i64], normal: bool, w: i64, band: i64, thresh
 }
 
 /// All but 24.
-pub fn search_refusal(x: &Index, s: &[i32], z: &Question, candidates: usize, scratch: usize) -> Option<Refusal> {
+pub fn search_conditions(x: &Index, s: &[i32], z: &Question, candidates: usize, scratch: usize) -> Conditions {
     let (n, q) = (s.len(), wide(z.query));
     let mut table = vec![(1, at_zero(n < 1 || n > MOST)), (2, outside(&wide(s))), (2, outside(&q))];
     table.extend(query_conditions(n, &q, z.normal, x.window, z.band, z.threshold, z.scale, z.shift));
@@ -264,8 +273,10 @@ pub fn search_refusal(x: &Index, s: &[i32], z: &Question, candidates: usize, scr
         (22, at_zero(windows(x, n).is_gt())),
         (23, at_zero((candidates.min(scratch) as i64) < n as i64 - x.window + 1)),
     ]);
-    first(&table)
+    table
 }
+
+pub fn search_refusal(x: &Index, s: &[i32], z: &Question, candidates: usize, scratch: usize) -> Option<Refusal> { first(&search_conditions(x, s, z, candidates, scratch)) }
 
 /// The search program's build and search, judged together.
 pub fn program_refusal(c: &crate::texts::Call) -> Option<Refusal> {

@@ -1,5 +1,7 @@
 // Compares the model with the compiled entries over lent records, through the static library of `index_c`, and with the plain C that they are raced against: index_compare [TURNS].
 #![allow(dead_code)]
+mod answers;
+mod entries;
 mod index;
 mod lent;
 mod model;
@@ -10,33 +12,12 @@ use model::*;
 use std::time::Instant;
 
 unsafe extern "C" {
-    fn index_audit(series: *const i32, n: usize, head: Head, rows: *const Row, count: usize, left: *const u32, lefts: usize, right: *const u32, rights: usize) -> Answer;
-    fn index_build(
-        series: *const i32, n: usize, w: u32, d: u32, g: u32, rows: *mut Row, count: usize, left: *mut u32, lefts: usize, right: *mut u32, rights: usize,
-    ) -> Answer;
-    fn index_extend(
-        series: *const i32, n: usize, head: Head, from: *const Row, count0: usize, left0: *const u32, lefts0: usize, right0: *const u32, rights0: usize,
-        rows: *mut Row, count: usize, left: *mut u32, lefts: usize, right: *mut u32, rights: usize,
-    ) -> Answer;
     fn plain_build(s: *const i32, n: usize, w: usize, d: u32, g: u32, rows: *mut Row, room: usize, left: *mut u32, right: *mut u32) -> usize;
     fn plain_extend(
         s: *const i32, n: usize, w: usize, d: u32, old: usize, rows0: *const Row, count0: usize, left0: *const u32, right0: *const u32,
         rows: *mut Row, room: usize, left: *mut u32, right: *mut u32,
     ) -> usize;
     fn plain_audit(s: *const i32, n: usize, w: usize, d: u32, windows: u32, rows: *const Row, count: usize, left: *const u32, right: *const u32, room: usize) -> i32;
-}
-
-/// What the model leaves of a build or an extension in buffers of these lengths: refused, they stay; else they hold the index and zeros.
-fn left_in(b: &Buffers, made: Result<Index, Refusal>) -> (Answer, Buffers) {
-    match made {
-        Err((number, place)) => (numbers(3, number as usize, place), b.clone()),
-        Ok(x) => {
-            let rooms = [b.rows.len(), b.left.len(), b.right.len()];
-            let mut after = Buffers::of(&x, rooms.into_iter().max().unwrap());
-            after.cut(rooms);
-            (Answer { kind: 0, head: Lent::of(&x).head, first: x.rows.len(), second: x.runs.len() }, after)
-        }
-    }
 }
 
 /// How often an entry that makes an index was not refused, and each refusal.
@@ -70,25 +51,10 @@ impl Test {
         }
     }
 
-    /// What the model answers.
-    fn audited(&mut self, s: &[i32], x: &Index) -> Answer {
-        let wide: Vec<i64> = s.iter().map(|&v| v as i64).collect();
-        if let Some((number, place)) = audit_refusal(x, &wide, 1 << 20) {
-            self.refused[number as usize] += 1;
-            return numbers(3, number as usize, place);
-        }
-        let told = match audit(x, s) {
-            Audited::Yes => numbers(0, 0, 0),
-            Audited::Wrong(k, j) => numbers(1, k, j),
-            Audited::Missing(n) => numbers(2, n, 0),
-        };
-        self.said[told.kind as usize] += 1;
-        told
-    }
-
     fn audit(&mut self, s: &[i32], x: &Lent) {
-        let right = self.audited(s, &x.index());
-        let told = unsafe { index_audit(s.as_ptr(), s.len(), x.head, x.rows.as_ptr(), x.rows.len(), x.left.as_ptr(), x.left.len(), x.right.as_ptr(), x.right.len()) };
+        let right = answers::audit(s, x);
+        if right.kind == 3 { self.refused[right.first] += 1 } else { self.said[right.kind as usize] += 1 }
+        let told = entries::audit(s, x);
         self.say(told == right, "audit", || format!("{s:?} {x:?}: {told:?}, the model {right:?}"));
         if x.suits(s.len()) { self.plain_audit(s, x, right) }
     }
@@ -102,26 +68,19 @@ impl Test {
 
     fn build(&mut self, s: &[i32], w: u32, d: u32, g: u32, rooms: [usize; 3]) {
         let mut b = self.rubbish(rooms);
-        let wide: Vec<i64> = s.iter().map(|&v| v as i64).collect();
-        let refused = build_refusal(&wide, 1 << 20, w as i64, d as i64, g as i64, rooms.into_iter().min().unwrap());
-        let (answer, after) = left_in(&b, refused.map_or_else(|| Ok(build(s, w as usize, d as i64, g as i64)), Err));
+        let mut after = b.clone();
+        let answer = answers::build(s, w, d, g, &mut after);
         self.built.add(&answer);
-        let told = unsafe { index_build(s.as_ptr(), s.len(), w, d, g, b.rows.as_mut_ptr(), b.rows.len(), b.left.as_mut_ptr(), b.left.len(), b.right.as_mut_ptr(), b.right.len()) };
+        let told = entries::build(s, w, d, g, &mut b);
         self.say(told == answer && b == after, "build", || format!("{s:?} {w} {d} {g} {rooms:?}: {told:?}, the model {answer:?}"));
     }
 
     fn extend(&mut self, s: &[i32], x: &Lent, rooms: [usize; 3]) {
         let mut b = self.rubbish(rooms);
-        let old = x.index();
-        let refused = extend_refusal(&old, s, rooms.into_iter().min().unwrap());
-        let (answer, after) = left_in(&b, refused.map_or_else(|| Ok(extend(&old, s)), Err));
+        let mut after = b.clone();
+        let answer = answers::extend(s, x, &mut after);
         self.extended.add(&answer);
-        let told = unsafe {
-            index_extend(
-                s.as_ptr(), s.len(), x.head, x.rows.as_ptr(), x.rows.len(), x.left.as_ptr(), x.left.len(), x.right.as_ptr(), x.right.len(),
-                b.rows.as_mut_ptr(), b.rows.len(), b.left.as_mut_ptr(), b.left.len(), b.right.as_mut_ptr(), b.right.len(),
-            )
-        };
+        let told = entries::extend(s, x, &mut b);
         self.say(told == answer && b == after, "extend", || format!("{s:?} {x:?} {rooms:?}: {told:?}, the model {answer:?}"));
         if answer.kind == 0 { self.plain_extend(s, x) }
     }

@@ -111,15 +111,6 @@ impl Lines {
     fn extend_refused(&mut self, s: &[i32], x: &Lent, rooms: [usize; 2], number: usize, place: usize) { assert_eq!(self.extend(s, x, rooms).1, [3, number, place], "{x:?}") }
 }
 
-fn lent(head: [u32; 3], rows: &[[i32; 4]], runs: &[(u32, u32)]) -> Lent {
-    Lent {
-        head: Head { window: head[0], width: head[1], windows: head[2] },
-        rows: rows.iter().map(|r| Row { low: r[0], up: r[1], first: r[2] as u32, runs: r[3] as u32 }).collect(),
-        left: runs.iter().map(|e| e.0).collect(),
-        right: runs.iter().map(|e| e.1).collect(),
-    }
-}
-
 fn paper_builds(l: &mut Lines) {
     let s = [1, 2, 4, 3, 1];
     l.build_says(&s, 2, 2, 80, 5, [0, 2, 2], &[[2, 4, 0, 1], [4, 8, 1, 1]]);

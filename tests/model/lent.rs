@@ -22,6 +22,37 @@ pub struct Lent { pub head: Head, pub rows: Vec<Row>, pub left: Vec<u32>, pub ri
 #[derive(Clone, PartialEq, Eq, Debug)]
 pub struct Buffers { pub rows: Vec<Row>, pub left: Vec<u32>, pub right: Vec<u32> }
 
+/// The kind and the limits, as a search is asked for them: kind 0 is raw, any other normalised.
+#[repr(C)]
+#[derive(Clone, Copy, PartialEq, Eq, Debug)]
+pub struct Asked { pub kind: u32, pub band: u32, pub threshold: u64, pub scale: u32, pub shift: u32 }
+
+/// A search's answer as it is told to C: 0 and both counts, 1 and both counts where the list is full, 3 and the refusal's number and place.
+#[repr(C)]
+#[derive(Clone, Copy, PartialEq, Eq, Debug)]
+pub struct Searched { pub kind: u32, pub first: usize, pub second: usize }
+
+/// The five lent buffers of a search.
+#[derive(Clone, PartialEq, Eq, Debug)]
+pub struct Lists { pub first: Vec<u32>, pub last: Vec<u32>, pub scratch: Vec<u16>, pub offsets: Vec<u32>, pub distances: Vec<u64> }
+
+impl Lists {
+    pub fn of_rubbish(r: &mut Numbers, rooms: [usize; 5]) -> Lists {
+        Lists {
+            first: (0..rooms[0]).map(|_| r.next() as u32).collect(),
+            last: (0..rooms[1]).map(|_| r.next() as u32).collect(),
+            scratch: (0..rooms[2]).map(|_| r.next() as u16).collect(),
+            offsets: (0..rooms[3]).map(|_| r.next() as u32).collect(),
+            distances: (0..rooms[4]).map(|_| r.next()).collect(),
+        }
+    }
+
+    /// Sevens in each: so many entries of candidates, of scratch and of the list.
+    pub fn of_sevens([candidates, scratch, list]: [usize; 3]) -> Lists {
+        Lists { first: vec![7; candidates], last: vec![7; candidates], scratch: vec![7; scratch], offsets: vec![7; list], distances: vec![7; list] }
+    }
+}
+
 fn row_of(r: &AnyRow) -> Row { Row { low: r.low as i32, up: r.up as i32, first: r.first as u32, runs: r.runs as u32 } }
 
 impl Buffers {
@@ -33,6 +64,11 @@ impl Buffers {
         b.left.resize(room, 0);
         b.right.resize(room, 0);
         b
+    }
+
+    /// Sevens in each: so many row records and run entries.
+    pub fn of_sevens(rows: usize, runs: usize) -> Buffers {
+        Buffers { rows: vec![Row { low: 7, up: 7, first: 7, runs: 7 }; rows], left: vec![7; runs], right: vec![7; runs] }
     }
 
     /// The three to lengths of their own.
@@ -79,6 +115,16 @@ pub fn damaged_series(r: &mut Numbers, s: &[i32]) -> Vec<i32> {
         _ => s[k] = r.from_to(-10_000, 10_000) as i32,
     }
     s
+}
+
+/// An index as it is written by hand.
+pub fn lent(head: [u32; 3], rows: &[[i32; 4]], runs: &[(u32, u32)]) -> Lent {
+    Lent {
+        head: Head { window: head[0], width: head[1], windows: head[2] },
+        rows: rows.iter().map(|r| Row { low: r[0], up: r[1], first: r[2] as u32, runs: r[3] as u32 }).collect(),
+        left: runs.iter().map(|e| e.0).collect(),
+        right: runs.iter().map(|e| e.1).collect(),
+    }
 }
 
 impl Lent {

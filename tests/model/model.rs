@@ -173,3 +173,10 @@ pub fn query(r: &mut Numbers, s: &[i32], m: usize) -> Vec<i32> {
         }
     }
 }
+
+/// The threshold that takes in about half of the stretches.
+pub fn middle(s: &[i32], q: &[i32], normal: bool, b: usize) -> u64 {
+    let mut d: Vec<u64> = s.windows(q.len()).filter_map(|t| if !normal { Some(distance(t, q, b) as u64) } else { Some(distance(&normalised(t)?, &normalised(q)?, b) as u64) }).collect();
+    d.sort();
+    d.get(d.len() / 2).copied().unwrap_or(0).min(1_000_000_000_000)
+}

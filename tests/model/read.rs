@@ -1,23 +1,18 @@
 // Compares the entry read, through the static library of `text_c`, with the model: every truncation of the worked texts, then texts of random indexes spoiled byte by byte, number by number and line by line, into buffers short and long and full of rubbish: read [TURNS].
 #![allow(dead_code)]
+mod answers;
+mod entries;
 mod index;
 mod lent;
 mod model;
 mod spoil;
 mod texts;
-use index::{Row, bad_row, build};
-use lent::{Answer, Buffers, Lent, any_numbers, any_series, numbers};
+use index::{bad_row, build};
+use lent::{Buffers, Lent, any_numbers, any_series};
 use model::Numbers;
 use spoil::spoiled;
 use std::time::Instant;
-use texts::{read_index, write_index};
-
-unsafe extern "C" {
-    fn text_read(text: *const u8, size: usize, rows: *mut Row, count: usize, left: *mut u32, lefts: usize, right: *mut u32, rights: usize) -> Answer;
-}
-
-/// The refusal's number and place.
-fn refused(number: usize, place: usize) -> Answer { numbers(3, number, place) }
+use texts::write_index;
 
 const WORKED: [&str; 4] = [
     "(index (window 2) (width 2) (windows 4)\n(row 2 4 (0 0))\n(row 4 8 (1 3))\n)\n",
@@ -29,30 +24,13 @@ const WORKED: [&str; 4] = [
 struct Test { r: Numbers, inputs: u64, wrong: u64, loaded: u64, refused: [u64; 24] }
 
 impl Test {
-    /// What the model answers, and leaves in the buffers.
-    fn expected(&mut self, text: &[u8], before: &Buffers) -> (Answer, Buffers) {
-        let no = match read_index(text) {
-            Err(line) => refused(12, line),
-            Ok(x) => match bad_row(&x) {
-                Some(row) => refused(20, row),
-                None if before.rows.len() < x.rows.len() || before.left.len().min(before.right.len()) < x.runs.len() => refused(23, 0),
-                None => {
-                    self.loaded += 1;
-                    let mut after = Buffers::of(&x, before.rows.len().max(before.left.len()).max(before.right.len()));
-                    after.cut([before.rows.len(), before.left.len(), before.right.len()]);
-                    return (Answer { kind: 0, head: Lent::of(&x).head, first: x.rows.len(), second: x.runs.len() }, after);
-                }
-            },
-        };
-        self.refused[no.first] += 1;
-        (no, before.clone())
-    }
-
     fn read(&mut self, text: &[u8], rooms: [usize; 3]) {
         let mut b = Buffers::of_rubbish(&mut self.r, rooms.into_iter().max().unwrap());
         b.cut(rooms);
-        let (answer, after) = self.expected(text, &b);
-        let told = unsafe { text_read(text.as_ptr(), text.len(), b.rows.as_mut_ptr(), b.rows.len(), b.left.as_mut_ptr(), b.left.len(), b.right.as_mut_ptr(), b.right.len()) };
+        let mut after = b.clone();
+        let answer = answers::read(text, &mut after);
+        if answer.kind == 3 { self.refused[answer.first] += 1 } else { self.loaded += 1 }
+        let told = entries::read(text, &mut b);
         self.inputs += 1;
         if told != answer || b != after {
             self.wrong += 1;

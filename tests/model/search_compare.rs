@@ -1,5 +1,7 @@
 // Compares the model with the compiled entry that searches, through the static library of `search_c`, and with the plain C that it is raced against: search_compare [TURNS].
 #![allow(dead_code)]
+mod answers;
+mod entries;
 mod index;
 mod lent;
 mod model;
@@ -9,61 +11,16 @@ use lent::*;
 use model::*;
 use std::time::Instant;
 
-/// The kind and the limits, as C asks for them.
-#[repr(C)]
-#[derive(Clone, Copy, Debug)]
-struct Asked { kind: u32, band: u32, threshold: u64, scale: u32, shift: u32 }
-
-/// An answer as it is told to C.
-#[repr(C)]
-#[derive(Clone, Copy, PartialEq, Eq, Debug)]
-struct Answer { kind: u32, first: usize, second: usize }
-
 #[repr(C)]
 #[derive(Clone, Copy, PartialEq, Eq, Debug, Default)]
 struct Counts { candidates: u64, matches: u64 }
 
 unsafe extern "C" {
-    fn index_search(
-        series: *const i32, n: usize, head: Head, rows: *const Row, count: usize, left: *const u32, lefts: usize, right: *const u32, rights: usize, asked: Asked, query: *const i32, m: usize,
-        first: *mut u32, firsts: usize, last: *mut u32, lasts: usize, scratch: *mut u16, counts: usize, offsets: *mut u32, entries: usize, distances: *mut u64, sizes: usize,
-    ) -> Answer;
     fn plain_search(
         series: *const i32, n: usize, head: Head, rows: *const Row, count: usize, left: *const u32, right: *const u32, runs: usize, asked: Asked, query: *const i32, m: usize,
         first: *mut u32, last: *mut u32, scratch: *mut u16, offsets: *mut u32, distances: *mut u64, room: u64, found: *mut Counts,
     ) -> i32;
     fn plain_scan(series: *const i32, n: usize, asked: Asked, query: *const i32, m: usize, offsets: *mut u32, distances: *mut u64, room: u64, found: *mut Counts) -> i32;
-}
-
-/// The five lent buffers of a search.
-#[derive(Clone, PartialEq, Eq, Debug)]
-struct Lists { first: Vec<u32>, last: Vec<u32>, scratch: Vec<u16>, offsets: Vec<u32>, distances: Vec<u64> }
-
-impl Lists {
-    fn of_rubbish(r: &mut Numbers, rooms: [usize; 5]) -> Lists {
-        Lists {
-            first: (0..rooms[0]).map(|_| r.next() as u32).collect(),
-            last: (0..rooms[1]).map(|_| r.next() as u32).collect(),
-            scratch: (0..rooms[2]).map(|_| r.next() as u16).collect(),
-            offsets: (0..rooms[3]).map(|_| r.next() as u32).collect(),
-            distances: (0..rooms[4]).map(|_| r.next()).collect(),
-        }
-    }
-
-    /// What a search that looked leaves: candidates as joined runs, matches as far as the list holds them, and zeros.
-    fn after(&self, f: &Found) -> Lists {
-        let runs = runs_of(&f.candidates.iter().copied().collect());
-        let room = self.offsets.len().min(self.distances.len());
-        let list = &f.matches[..room.min(f.matches.len())];
-        fn filled<T: Copy + Default>(room: usize, with: Vec<T>) -> Vec<T> { let mut v = with; v.resize(room, T::default()); v }
-        Lists {
-            first: filled(self.first.len(), runs.iter().map(|r| r.0 as u32).collect()),
-            last: filled(self.last.len(), runs.iter().map(|r| r.1 as u32).collect()),
-            scratch: vec![0; self.scratch.len()],
-            offsets: filled(self.offsets.len(), list.iter().map(|e| e.0 as u32).collect()),
-            distances: filled(self.distances.len(), list.iter().map(|e| e.1).collect()),
-        }
-    }
 }
 
 struct Test {
@@ -91,40 +48,29 @@ impl Test {
         }
     }
 
-    /// What the model answers, and what it leaves in the buffers.
-    fn found(&mut self, s: &[i32], x: &Index, z: &Question, before: &Lists) -> (Answer, Lists) {
-        if let Some((number, place)) = search_refusal(x, s, z, before.first.len().min(before.last.len()), before.scratch.len()) {
-            self.refused[number as usize] += 1;
-            return (Answer { kind: 3, first: number as usize, second: place }, before.clone());
-        }
-        let f = search(x, s, z);
-        let full = f.matches.len() > before.offsets.len().min(before.distances.len());
-        self.looked[2 * z.normal as usize + (z.band > 0) as usize] += 1;
-        self.matched += (!f.matches.is_empty()) as u64;
-        self.matches += f.matches.len() as u64;
-        self.full += full as u64;
-        (Answer { kind: full as u32, first: f.candidates.len(), second: f.matches.len() }, before.after(&f))
+    /// What came of a search, counted.
+    fn count(&mut self, answer: Searched, a: Asked) {
+        if answer.kind == 3 { self.refused[answer.first] += 1; return }
+        self.looked[2 * (a.kind != 0) as usize + (a.band > 0) as usize] += 1;
+        self.matched += (answer.second > 0) as u64;
+        self.matches += answer.second as u64;
+        self.full += answer.kind as u64;
     }
 
     /// One search into buffers full of rubbish; what stands in the list where it was not refused.
     fn search(&mut self, s: &[i32], x: &Lent, a: Asked, q: &[i32], rooms: [usize; 5]) -> Option<Vec<(u32, u64)>> {
-        let before = Lists::of_rubbish(&mut self.r, rooms);
-        let z = Question { normal: a.kind != 0, query: q, band: a.band as i64, threshold: a.threshold.min(i64::MAX as u64) as i64, scale: a.scale as i64, shift: a.shift as i64 };
-        let (answer, after) = self.found(s, &x.index(), &z, &before);
-        let mut b = before.clone();
-        let told = unsafe {
-            index_search(
-                s.as_ptr(), s.len(), x.head, x.rows.as_ptr(), x.rows.len(), x.left.as_ptr(), x.left.len(), x.right.as_ptr(), x.right.len(), a, q.as_ptr(), q.len(),
-                b.first.as_mut_ptr(), b.first.len(), b.last.as_mut_ptr(), b.last.len(), b.scratch.as_mut_ptr(), b.scratch.len(), b.offsets.as_mut_ptr(), b.offsets.len(), b.distances.as_mut_ptr(), b.distances.len(),
-            )
-        };
+        let mut b = Lists::of_rubbish(&mut self.r, rooms);
+        let mut after = b.clone();
+        let answer = answers::search(s, x, a, q, &mut after);
+        self.count(answer, a);
+        let told = entries::search(s, x, a, q, &mut b);
         self.say(told == answer && b == after, "search", || format!("{s:?} {x:?} {a:?} {q:?} {rooms:?}: {told:?} {b:?}, the model {answer:?} {after:?}"));
         if answer.kind == 0 && self.r.below(2) == 0 { self.plain(s, x, a, q, &after, answer) }
         (answer.kind == 0).then(|| b.offsets.iter().copied().zip(b.distances.iter().copied()).take(answer.second).collect())
     }
 
     /// The plain C, where the list has room; its list is as long as the shorter of the two slices.
-    fn plain(&mut self, s: &[i32], x: &Lent, a: Asked, q: &[i32], after: &Lists, answer: Answer) {
+    fn plain(&mut self, s: &[i32], x: &Lent, a: Asked, q: &[i32], after: &Lists, answer: Searched) {
         let windows = x.head.windows as usize;
         let room = after.offsets.len().min(after.distances.len());
         let mut b = Lists::of_rubbish(&mut self.r, [windows, windows, windows, room, room]);

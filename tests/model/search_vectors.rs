@@ -43,16 +43,10 @@ fn told(a: &Asked) {
 
 /// The paper's cases: these answers are its own, not the model's.
 fn cases() {
-    let index = |window, width, windows, rows: &[(i32, i32, u32, u32)], runs: &[(u32, u32)]| Lent {
-        head: Head { window, width, windows },
-        rows: rows.iter().map(|&(low, up, first, runs)| Row { low, up, first, runs }).collect(),
-        left: runs.iter().map(|r| r.0).collect(),
-        right: runs.iter().map(|r| r.1).collect(),
-    };
     let raw = |query, threshold| Question { normal: false, query, band: 0, threshold, scale: 10, shift: 0 };
     let s = [1, 2, 4, 3, 1];
-    let merged = index(2, 2, 4, &[(2, 4, 0, 1), (4, 8, 1, 1)], &[(0, 0), (1, 3)]);
-    let apart = index(2, 2, 4, &[(2, 4, 0, 1), (4, 6, 1, 1), (6, 8, 2, 1)], &[(0, 0), (3, 3), (1, 2)]);
+    let merged = lent([2, 2, 4], &[[2, 4, 0, 1], [4, 8, 1, 1]], &[(0, 0), (1, 3)]);
+    let apart = lent([2, 2, 4], &[[2, 4, 0, 1], [4, 6, 1, 1], [6, 8, 2, 1]], &[(0, 0), (3, 3), (1, 2)]);
     let all = [4, 4, 4, 3, 3];
     line(&Asked { s: &s, x: &merged, z: raw(&[2, 4], 5), rooms: all }, [0, 4, 3], [&[0], &[3], &[], &[0, 1, 2], &[5, 0, 5]]);
     line(&Asked { s: &s, x: &merged, z: raw(&[2, 4], 4), rooms: all }, [0, 3, 1], [&[1], &[3], &[], &[1], &[0]]);
@@ -64,19 +58,12 @@ fn cases() {
     line(&Asked { s: &s, x: &merged, z: Question { scale: 9, ..raw(&[2, 4], 5) }, rooms: all }, [3, 10, 0], [&[]; 5]);
     line(&Asked { s: &s, x: &merged, z: Question { normal: true, ..raw(&[5, 5], 5) }, rooms: all }, [3, 11, 0], [&[]; 5]);
     let near = Question { normal: true, query: &[0, 1], band: 0, threshold: 0, scale: 20, shift: 1 };
-    let one = index(2, 2, 1, &[(2, 4, 0, 1)], &[(0, 0)]);
+    let one = lent([2, 2, 1], &[[2, 4, 0, 1]], &[(0, 0)]);
     line(&Asked { s: &[0, 2], x: &one, z: Question { ..near }, rooms: [1; 5] }, [0, 1, 1], [&[0], &[0], &[], &[0], &[0]]);
     line(&Asked { s: &[0, 3], x: &one, z: near, rooms: [1; 5] }, [0, 1, 0], [&[0], &[0], &[], &[], &[]]);
     let ones = [1; 257];
-    line(&Asked { s: &ones[..256], x: &index(256, 1000, 1, &[(0, 1000, 0, 1)], &[(0, 0)]), z: raw(&ones[..256], 0), rooms: [1; 5] }, [0, 1, 1], [&[0], &[0], &[], &[0], &[0]]);
-    line(&Asked { s: &ones, x: &index(257, 1000, 1, &[(0, 1000, 0, 1)], &[(0, 0)]), z: raw(&ones, 0), rooms: [1; 5] }, [3, 20, 0], [&[]; 5]);
-}
-
-/// The threshold that takes in about half of the stretches.
-fn middle(s: &[i32], q: &[i32], normal: bool, b: usize) -> u64 {
-    let mut d: Vec<u64> = s.windows(q.len()).filter_map(|t| if !normal { Some(distance(t, q, b) as u64) } else { Some(distance(&normalised(t)?, &normalised(q)?, b) as u64) }).collect();
-    d.sort();
-    d.get(d.len() / 2).copied().unwrap_or(0).min(1_000_000_000_000)
+    line(&Asked { s: &ones[..256], x: &lent([256, 1000, 1], &[[0, 1000, 0, 1]], &[(0, 0)]), z: raw(&ones[..256], 0), rooms: [1; 5] }, [0, 1, 1], [&[0], &[0], &[], &[0], &[0]]);
+    line(&Asked { s: &ones, x: &lent([257, 1000, 1], &[[0, 1000, 0, 1]], &[(0, 0)]), z: raw(&ones, 0), rooms: [1; 5] }, [3, 20, 0], [&[]; 5]);
 }
 
 /// A vector of a group: 2 to 5 the four kinds, 6 short lists, 7 short buffers, 8 wrong indexes, 9 ill-formed ones, 10 numbers and values past their limits.

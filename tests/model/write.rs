@@ -1,18 +1,16 @@
 // Compares the entry write, through the static library of `text_c`, with the model: random indexes, a third of them ill formed, buffers short and long and full of rubbish.
 #![allow(dead_code)]
+mod answers;
+mod entries;
 mod index;
 mod lent;
 mod model;
 mod texts;
 use index::{Row, bad_row};
-use lent::{Answer, Head, Lent, numbers};
+use lent::{Head, Lent};
 use model::Numbers;
 use std::time::Instant;
 use texts::write_index;
-
-unsafe extern "C" {
-    fn text_write(head: Head, rows: *const Row, count: usize, left: *const u32, lefts: usize, right: *const u32, rights: usize, text: *mut u8, size: usize) -> Answer;
-}
 
 /// A well-formed index.
 fn good(r: &mut Numbers) -> Lent {
@@ -79,18 +77,13 @@ fn main() {
     for k in 0..turns {
         let mut x = good(&mut r);
         while k % 3 == 0 && bad_row(&x.index()).is_none() { x = spoiled(&mut r, x) }
-        let judged = bad_row(&x.index());
-        let full = if judged.is_none() { write_index(&x.index()) } else { String::new() };
-        let long = if judged.is_none() { full.len() } else { 200 };
+        let long = if bad_row(&x.index()).is_none() { write_index(&x.index()).len() } else { 200 };
         let size = match r.below(6) { 0 => long, 1 => long.saturating_sub(1), 2 => long + 1, 3 => r.below(long as u64 + 1) as usize, 4 => 0, _ => long + r.below(300) as usize };
-        let before: Vec<u8> = (0..size).map(|_| r.next() as u8).collect();
-        let (expected, after) = match judged {
-            Some(row) => { bad += 1; (numbers(3, 20, row), before.clone()) }
-            None if full.len() > size => { short += 1; (numbers(3, 23, 0), before.clone()) }
-            None => { written += 1; let mut a = full.into_bytes(); a.resize(size, 0); (numbers(0, long, 0), a) }
-        };
-        let mut text = before;
-        let answer = unsafe { text_write(x.head, x.rows.as_ptr(), x.rows.len(), x.left.as_ptr(), x.left.len(), x.right.as_ptr(), x.right.len(), text.as_mut_ptr(), size) };
+        let mut text: Vec<u8> = (0..size).map(|_| r.next() as u8).collect();
+        let mut after = text.clone();
+        let expected = answers::write(&x, &mut after);
+        match (expected.kind, expected.first) { (3, 20) => bad += 1, (3, _) => short += 1, _ => written += 1 }
+        let answer = entries::write(&x, &mut text);
         if answer != expected || text != after {
             wrong += 1;
             if wrong <= 5 { println!("DIFFERENT: answer {answer:?} expected {expected:?} size {size} {x:?}") }
