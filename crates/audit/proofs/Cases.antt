@@ -1,40 +1,40 @@
--- The plan and the answer, case by case. Assumes nothing.
-use mathlib.Core.Path.{_≡_, refl}
-use mathlib.Core.Bool.{Bool, true, false}
-use mathlib.Core.List.{List}
-use mathlib.Core.Option.{Option, none, some}
-use Prim.Native.Nat.{ℕ, zero, suc, _-_}
-use native.Mathlib.Omega.{arith}
-use lib.Dec.{eqb}
-use lib.IntN.{ℤ, pos, _+ℤ_, _-ℤ_}
+-- What the audit answers, by its plan: where the plan's refusal is that of a call, the answer is that call's (`stopped`, `went-wrong`, `went-right`), and where nothing refuses its lines say what they test. Assumes nothing.
+use mathlib.Core.Path.{_≡_, refl, sym, ap, _∙_}
+use mathlib.Core.Bool.{true, false}
+use mathlib.Core.Option.{none, some}
+use Prim.Native.Nat.{ℕ, zero, suc, _+_}
+use lib.Dec.{T}
+use lib.IntN.{natAbs}
 use lib.ListN.{length}
-use lib.Signed.{ltZ}
 use borrow.Author.Tests.{eq-eqb, ne-eqb}
-use Rattle.meaning_curves.specs.Limits.{mostValues, lengthIn, firstOutside}
-use Rattle.meaning_rows.specs.declared.Head.{Head}
+use Rattle.meaning_curves.specs.Limits.{mostValues}
+use Rattle.meaning_curves.proofs.Values.{AllIn}
+use Rattle.meaning_rows.specs.Audit.{firstWrong, missing}
+use Rattle.meaning_rows.proofs.Judge.{WellFormed}
 use Rattle.meaning_entries.specs.declared.Audited.{Audited}
-use Rattle.meaning_entries.specs.Audit.{complete}
-use Rattle.judge.specs.declared.Judged.{Judged}
-use Rattle.values.specs.declared.Place.the-variants.{At, Nowhere}
-use Rattle.values.specs.Place.{placed}
+use Rattle.meaning_entries.specs.Refusal.{firstRefusal}
+use Rattle.meaning_entries.specs.Audit.{AuditCall, auditTable, complete, audited, auditAnswer}
+use Rattle.meaning_entries.proofs.Refusal.{Passed, passed-is, openLines, passed-line, lacks}
+use Rattle.meaning_entries.proofs.Lines.{values-line, formed-line, fewer-line, more-line}
+use Rattle.meaning_entries.proofs.Passes.{same-windows}
+use Rattle.conditions.specs.Refusal.{refusalOf, passes, refuses}
 use Rattle.audit.specs.declared.Plan.{Plan}
 use Rattle.audit.specs.declared.State.{State}
-use Rattle.audit.specs.Plan.{refusedBy, sized, judgedPlan, valuedPlan, planOf, answerOf}
-
--- ---- the answer
+use Rattle.audit.specs.State.{found}
+use Rattle.audit.specs.Plan.{answerOf}
 
 module _ (p : Plan) (s : State) where
-  pub answer-refused : (p .number ≡ 0 → ⊥) → Audited.Refused (p .number) (p .place) ≡ answerOf p s
+  pub answer-refused : (p .refusal .number ≡ 0 → ⊥) → Audited.Refused (p .refusal .number) (p .refusal .place) ≡ answerOf p s
   unfolding answerOf
-  answer-refused f = rw (ne-eqb (p .number) 0 f) refl
+  answer-refused f = rw (ne-eqb (p .refusal .number) 0 f) refl
 
-  pub answer-wrong : p .number ≡ 0 → s .go ≡ false → Audited.Wrong (s .row) (s .offset) ≡ answerOf p s
+  pub answer-wrong : p .refusal .number ≡ 0 → s .go ≡ false → Audited.Wrong (s .row) (s .offset) ≡ answerOf p s
   unfolding answerOf
-  answer-wrong e g = rw (eq-eqb (p .number) 0 e, g) refl
+  answer-wrong e g = rw (eq-eqb (p .refusal .number) 0 e, g) refl
 
-  pub answer-complete : p .number ≡ 0 → s .go ≡ true → complete (p .lacking) ≡ answerOf p s
+  pub answer-complete : p .refusal .number ≡ 0 → s .go ≡ true → complete (p .lacking) ≡ answerOf p s
   unfolding answerOf
-  answer-complete e g = rw (eq-eqb (p .number) 0 e, g) refl
+  answer-complete e g = rw (eq-eqb (p .refusal .number) 0 e, g) refl
 
 pub none-lacking : (n : ℕ) → n ≡ 0 → Audited.Yes ≡ complete n
 unfolding complete
@@ -45,52 +45,40 @@ unfolding complete
 some-lacking zero f = absurd (f refl)
 some-lacking (suc n) f = refl
 
--- ---- the plan
+-- a plan whose refusal is that of a call
+module _ (c : AuditCall) (p : Plan) (is : p .refusal ≡ refusalOf (auditTable mostValues c)) where
+  pub stopped : (s : State) → (p .refusal .number ≡ 0 → ⊥) → answerOf p s ≡ auditAnswer c
+  unfolding auditAnswer
+  stopped s f = sym (answer-refused p s f) ∙ rw (auditAnswer, refuses (auditTable mostValues c) is f) refl
 
-module _ (h : Head) (n total : ℕ) where
-  abbrev Fewer : Bool
-  Fewer = ltZ (pos (h .windows)) (pos n -ℤ pos (h .window) +ℤ pos 1)
+  never-0 : T (lacks 0 (auditTable mostValues c))
+  unfolding openLines auditTable lacks
+  never-0 = tt
 
-  abbrev More : Bool
-  More = ltZ (pos n -ℤ pos (h .window) +ℤ pos 1) (pos (h .windows))
+  -- that refuses nothing
+  module _ (z : p .refusal .number ≡ 0) where
+    t : Passed (auditTable mostValues c)
+    t = passes (auditTable mostValues c) never-0 is z
 
-  pub sized-fewer : Fewer ≡ true → refusedBy 21 0 ≡ sized h n total
-  unfolding sized
-  sized-fewer e = rw e refl
+    unrefused : firstRefusal (auditTable mostValues c) ≡ none
+    unrefused = passed-is t
 
-  pub sized-more : Fewer ≡ false → More ≡ true → refusedBy 22 0 ≡ sized h n total
-  unfolding sized
-  sized-more e f = rw (e, f) refl
+    pub values-in : AllIn (c .series)
+    unfolding openLines auditTable
+    values-in = values-line (c .series) (passed-line t 2)
 
-  pub sized-fits : Fewer ≡ false → More ≡ false → (k : ℕ) → k ≡ h .windows - total → record { number = 0; place = 0; lacking = k } ≡ sized h n total
-  unfolding sized
-  sized-fits e f k g = rw (e, f, g) refl
+    pub formed : WellFormed (c .index)
+    unfolding openLines auditTable
+    formed = formed-line (c .index) (passed-line t 20)
 
-module _ (s : List ℤ) (h : Head) (j : Judged) where
-  pub plan-long : lengthIn mostValues (length s) ≡ false → refusedBy 1 0 ≡ planOf s h j
-  unfolding planOf
-  plan-long e = rw e refl
+    pub fits : natAbs (c .index .windows) + natAbs (c .index .window) ≡ length (c .series) + 1
+    unfolding openLines auditTable
+    fits = let n = length (c .series) in same-windows (c .index) (c .series) formed (fewer-line (c .index) n (passed-line t 21)) (more-line (c .index) n (passed-line t 22))
 
-  pub plan-outside : lengthIn mostValues (length s) ≡ true → (k : ℕ) → At k ≡ placed (firstOutside s) → refusedBy 2 k ≡ planOf s h j
-  unfolding planOf valuedPlan
-  plan-outside e k p = rw e (by (firstOutside s) p)
-    where
-      by : (o : Option ℕ) → At k ≡ placed o → refusedBy 2 k ≡ valuedPlan o (judgedPlan h (length s) j)
-      by none q = let z : _≡_ {A = ℕ} 0 1 = cc in absurd (omega arith)
-      by (some m) q = let z : k ≡ m = cc in rw z refl
+    pub went-wrong : (k j : ℕ) → firstWrong (c .index) (c .series) ≡ some (k, j) → answerOf p (found (some (k, j))) ≡ auditAnswer c
+    unfolding auditAnswer audited found
+    went-wrong k j e = sym (answer-wrong p (found (some (k, j))) z refl) ∙ rw (auditAnswer, unrefused) (rw (audited, e) refl)
 
-  pub plan-inside : lengthIn mostValues (length s) ≡ true → Nowhere ≡ placed (firstOutside s) → judgedPlan h (length s) j ≡ planOf s h j
-  unfolding planOf valuedPlan
-  plan-inside e p = rw e (by (firstOutside s) p)
-    where
-      by : (o : Option ℕ) → Nowhere ≡ placed o → judgedPlan h (length s) j ≡ valuedPlan o (judgedPlan h (length s) j)
-      by none q = refl
-      by (some m) q = let z : _≡_ {A = ℕ} 0 1 = cc in absurd (omega arith)
-
-pub judged-fine : (h : Head) (n total : ℕ) (j : Judged) → j ≡ Judged.Fine total → sized h n total ≡ judgedPlan h n j
-unfolding judgedPlan
-judged-fine h n total j e = rw e refl
-
-pub judged-bad : (h : Head) (n row : ℕ) (j : Judged) → j ≡ Judged.Bad row → refusedBy 20 row ≡ judgedPlan h n j
-unfolding judgedPlan
-judged-bad h n row j e = rw e refl
+    pub went-right : (s : State) → s .go ≡ true → firstWrong (c .index) (c .series) ≡ none → p .lacking ≡ missing (c .index) → answerOf p s ≡ auditAnswer c
+    unfolding auditAnswer audited
+    went-right s g e m = sym (answer-complete p s z g) ∙ ap complete m ∙ rw (auditAnswer, unrefused) (rw (audited, e) refl)

@@ -1,45 +1,36 @@
--- What the audit knows before it looks at the rows: the refusal, or how many windows the runs leave; how it begins, and what it answers where it ends. Assumes nothing.
+-- What the audit knows before it looks at the rows: what refuses it, and how many windows the runs leave; how it begins, and what it answers where it ends. Assumes nothing.
 use mathlib.Core.Bool.{cond}
-use mathlib.Core.List.{List}
-use mathlib.Core.Option.{Option, none, some}
+use mathlib.Core.List.{List, [], _∷_, _++_}
 use Prim.Native.Nat.{ℕ, _-_}
 use lib.Dec.{eqb}
-use lib.IntN.{ℤ, pos, _+ℤ_, _-ℤ_}
+use lib.IntN.{ℤ}
 use lib.ListN.{length}
-use lib.Signed.{ltZ}
-use Rattle.meaning_curves.specs.Limits.{mostValues, lengthIn, firstOutside}
+use Rattle.meaning_curves.specs.Limits.{mostValues}
 use Rattle.meaning_rows.specs.declared.Head.{Head}
+use Rattle.meaning_rows.specs.Index.{lent}
 use Rattle.meaning_entries.specs.declared.Audited.{Audited}
+use Rattle.meaning_entries.specs.Refusal.{Condition, seriesLines, countLines}
 use Rattle.meaning_entries.specs.Audit.{complete}
 use Rattle.judge.specs.declared.Judged.{Judged}
+use Rattle.conditions.specs.Refusal.{refusalOf, judgedLine}
 use Rattle.audit.specs.declared.Plan.{Plan}
 use Rattle.audit.specs.declared.State.{State}
 
-abbrev pub refusedBy : ℕ → ℕ → Plan
-refusedBy n p = record { number = n; place = p; lacking = 0 }
+-- the refusals, over what code has: the index is told by its head and by what judging said of it
+unfoldable pub tableOf : List ℤ → Head → Judged → List Condition
+tableOf s h j = seriesLines mostValues s ++ (judgedLine j ∷ countLines (length s) (lent h [] [] []))
 
--- by the number of windows, of an index whose run lengths total `total` and a series of n values
-unfoldable pub sized : Head → ℕ → ℕ → Plan
-sized h n total =
-    cond (ltZ (pos (h .windows)) (pos n -ℤ pos (h .window) +ℤ pos 1)) (refusedBy 21 0)
-    (cond (ltZ (pos n -ℤ pos (h .window) +ℤ pos 1) (pos (h .windows))) (refusedBy 22 0) (record { number = 0; place = 0; lacking = h .windows - total }))
-
--- by what judging said
-unfoldable pub judgedPlan : Head → ℕ → Judged → Plan
-judgedPlan h n (Judged.Fine total) = sized h n total
-judgedPlan h n (Judged.Bad row) = refusedBy 20 row
-
--- by the first value outside
-unfoldable pub valuedPlan : Option ℕ → Plan → Plan
-valuedPlan none p = p
-valuedPlan (some k) p = refusedBy 2 k
+-- how many windows the runs leave
+abbrev pub leftOver : Head → Judged → ℕ
+leftOver h (Judged.Fine total) = h .windows - total
+leftOver h (Judged.Bad row) = 0
 
 unfoldable pub planOf : List ℤ → Head → Judged → Plan
-planOf s h j = cond (lengthIn mostValues (length s)) (valuedPlan (firstOutside s) (judgedPlan h (length s) j)) (refusedBy 1 0)
+planOf s h j = record { refusal = refusalOf (tableOf s h j); lacking = leftOver h j }
 
 -- the audit goes on where nothing refuses
 abbrev pub began : Plan → State
-began p = record { go = eqb (p .number) 0; row = 0; offset = 0 }
+began p = record { go = eqb (p .refusal .number) 0; row = 0; offset = 0 }
 
 unfoldable pub answerOf : Plan → State → Audited
-answerOf p s = cond (eqb (p .number) 0) (cond (s .go) (complete (p .lacking)) (Audited.Wrong (s .row) (s .offset))) (Audited.Refused (p .number) (p .place))
+answerOf p s = cond (eqb (p .refusal .number) 0) (cond (s .go) (complete (p .lacking)) (Audited.Wrong (s .row) (s .offset))) (Audited.Refused (p .refusal .number) (p .refusal .place))

@@ -9,10 +9,15 @@ ghost use Rattle.meaning_rows.specs.Range.{inside};
 ghost use Rattle.meaning_entries.specs.Audit.{lentAudit};
 ghost use Rattle.meaning_entries.specs.Demand2.{AuditKept};
 ghost use Rattle.audit.specs.State.{Ready, chunked};
-ghost use Rattle.audit.specs.Plan.{planOf, sized, began, answerOf};
+ghost use Rattle.conditions.specs.Refusal.{refusalOf};
+ghost use Rattle.audit.specs.Plan.{tableOf, leftOver, planOf, began, answerOf};
+use conditions::Refusal;
 use conditions::fewer;
-use conditions::length_in;
 use conditions::more;
+use conditions::refuse_if;
+use conditions::refuse_judged;
+use conditions::refuse_series;
+use conditions::unrefused;
 use judge::Judged;
 use judge::judge;
 use meaning_entries::Audited;
@@ -20,8 +25,6 @@ use meaning_rows::Head;
 use meaning_rows::Row;
 use numbers::minus;
 use records::chunk_at;
-use values::Place;
-use values::first_outside;
 use values::window_sum;
 
 // What is known after some rows: that the audit goes on, or else the row and offset filed wrongly.
@@ -31,10 +34,9 @@ pub struct State {
     pub offset: usize,
 }
 
-// What is known before the rows are audited: the refusal, of number 0 where there is none, and how many windows the runs leave.
+// What is known before the rows are audited: what refuses, and how many windows the runs leave.
 pub struct Plan {
-    pub number: u32,
-    pub place: usize,
+    pub refusal: Refusal,
     pub lacking: usize,
 }
 
@@ -133,60 +135,35 @@ pub fn audit_chunk(
     }
 }
 
-// The plan for a well-formed index, whose run lengths total `total`.
-pub fn plan_windows(head: Head, n: usize, total: usize) -> Plan
-    ensures { λ p. ⌜ p ≡ sized head n total ⌝ }
+// What refuses an audit, by its series and by what judging said of the index.
+pub fn refuse_audit(series: &[i32], head: Head, j: Judged) -> Refusal
+    ensures { λ r. ⌜ r ≡ refusalOf (tableOf (now (series .entry)) head j) ⌝ }
 {
-    let windows = head.windows;
+    let n = series.len();
     let w = head.window;
-    if fewer(windows, w, n) {
-        return Plan {
-            number: 21,
-            place: 0,
-            lacking: 0,
-        };
-    }
-    if more(windows, w, n) {
-        return Plan {
-            number: 22,
-            place: 0,
-            lacking: 0,
-        };
-    }
-    Plan {
-        number: 0,
-        place: 0,
-        lacking: minus(windows as usize, total),
+    let windows = head.windows;
+    let many = refuse_if(more(windows, w, n), 22, unrefused());
+    let few = refuse_if(fewer(windows, w, n), 21, many);
+    refuse_series(series, refuse_judged(j, few))
+}
+
+// How many windows the runs leave, by what judging said.
+pub fn left_over(head: Head, j: Judged) -> usize
+    ensures { λ n. ⌜ n ≡ leftOver head j ⌝ }
+{
+    match j {
+        Judged::Fine { total } => minus(head.windows as usize, total),
+        Judged::Bad { row: _ } => 0,
     }
 }
 
-// The plan, of the values and of what judging said.
+// The plan of an audit.
 pub fn make_plan(series: &[i32], head: Head, j: Judged) -> Plan
     ensures { λ p. ⌜ p ≡ planOf (now (series .entry)) head j ⌝ }
 {
-    let n = series.len();
-    if !length_in(n) {
-        return Plan {
-            number: 1,
-            place: 0,
-            lacking: 0,
-        };
-    }
-    match first_outside(series) {
-        Place::At(k) => Plan {
-            number: 2,
-            place: k,
-            lacking: 0,
-        },
-        Place::Nowhere => match j {
-            Judged::Fine { total } => plan_windows(head, n, total),
-            Judged::Bad { row } => Plan {
-                number: 20,
-                place: row,
-                lacking: 0,
-            },
-        },
-    }
+    let refusal = refuse_audit(series, head, j);
+    let lacking = left_over(head, j);
+    Plan { refusal, lacking }
 }
 
 // The audit goes on where nothing refuses.
@@ -194,7 +171,7 @@ pub fn begin(p: Plan) -> State
     ensures { λ s. ⌜ s ≡ began p ⌝ }
 {
     State {
-        go: p.number == 0,
+        go: p.refusal.number == 0,
         row: 0,
         offset: 0,
     }
@@ -204,10 +181,10 @@ pub fn begin(p: Plan) -> State
 pub fn answer(p: Plan, s: State) -> Audited
     ensures { λ a. ⌜ a ≡ answerOf p s ⌝ }
 {
-    if p.number != 0 {
+    if p.refusal.number != 0 {
         return Audited::Refused {
-            number: p.number,
-            place: p.place,
+            number: p.refusal.number,
+            place: p.refusal.place,
         };
     }
     if !s.go {

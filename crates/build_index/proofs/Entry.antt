@@ -89,7 +89,7 @@ module _ {M : Type 1} (𝓤 : URA M) (H : Heap 𝓤) (A : Atoms 𝓤) (mem : Mem
     abbrev pub to-build-planned : ℕ → GName → ℕ → GName → ℕ → GName → BuildPlanned .Ghost
     to-build-planned νa δa νl δl νr δr = (((κs, ((νa ∷ []), ((νl ∷ []), ((νr ∷ []), tt)))), (qs, (fullShare, (fullShare, (fullShare, tt)))), tt, (vs, (w, (wide, (merge, (plan, ((record { ptr = (ba, oa); name = δa; now = ya }), ((record { ptr = (bl, ol); name = δl; now = yl }), ((record { ptr = (br, or); name = δr; now = yr }), tt)))))))), (sliceVal (vs .ptr) (length (vs .now)) ∷ [], (vint w32 w ∷ [], (vint w32 wide ∷ [], (vint w32 merge ∷ [], (low-plan plan ∷ [], (sliceVal (ba, oa) ma ∷ [], (sliceVal (bl, ol) ml ∷ [], (sliceVal (br, or) mr ∷ [], tt))))))))), tt)
 
-    asks-build-planned : (W : Given 𝓤 H A) (g-w : w < 2 ^ 32) (g-wide : wide < 2 ^ 32) (g-merge : merge < 2 ^ 32) (g-plan : Is Pn.the-row plan (low-plan plan ∷ [])) (asked : ((PlannedFor (vs .now) w wide merge (buffers ya yl yr) plan) × (plan .number ≡ 0))) (νa : ℕ) (δa : GName) (νl : ℕ) (δl : GName) (νr : ℕ) (δr : GName) → ent 𝓤 (⋆ 𝓤 H A (‵ (flft κs qs) ∷ ‵ (flft (νa ∷ []) fullShare) ∷ ‵ (flft (νl ∷ []) fullShare) ∷ ‵ (flft (νr ∷ []) fullShare) ∷ ‵ (ShrSlice (named 0) κs i32 .own vs (sliceVal (vs .ptr) (length (vs .now)) ∷ [])) ∷ ‵ (Own T.the-row ba oa ma (named 0) (νa ∷ []) δa ya) ∷ ‵ (Own u32 bl ol ml (named 0) (νl ∷ []) δl yl) ∷ ‵ (Own u32 br or mr (named 0) (νr ∷ []) δr yr) ∷ [])) (BuildPlanned .pre (to-build-planned νa δa νl δl νr δr))
+    asks-build-planned : (W : Given 𝓤 H A) (g-w : w < 2 ^ 32) (g-wide : wide < 2 ^ 32) (g-merge : merge < 2 ^ 32) (g-plan : Is Pn.the-row plan (low-plan plan ∷ [])) (asked : ((PlannedFor (vs .now) w wide merge (buffers ya yl yr) plan) × (plan .refusal .number ≡ 0))) (νa : ℕ) (δa : GName) (νl : ℕ) (δl : GName) (νr : ℕ) (δr : GName) → ent 𝓤 (⋆ 𝓤 H A (‵ (flft κs qs) ∷ ‵ (flft (νa ∷ []) fullShare) ∷ ‵ (flft (νl ∷ []) fullShare) ∷ ‵ (flft (νr ∷ []) fullShare) ∷ ‵ (ShrSlice (named 0) κs i32 .own vs (sliceVal (vs .ptr) (length (vs .now)) ∷ [])) ∷ ‵ (Own T.the-row ba oa ma (named 0) (νa ∷ []) δa ya) ∷ ‵ (Own u32 bl ol ml (named 0) (νl ∷ []) δl yl) ∷ ‵ (Own u32 br or mr (named 0) (νr ∷ []) δr yr) ∷ [])) (BuildPlanned .pre (to-build-planned νa δa νl δl νr δr))
     asks-build-planned W g-w g-wide g-merge g-plan asked νa δa νl δl νr δr = qed W (‵ (flft κs qs) ∷ ‵ (flft (νa ∷ []) fullShare) ∷ ‵ (flft (νl ∷ []) fullShare) ∷ ‵ (flft (νr ∷ []) fullShare) ∷ ‵ (ShrSlice (named 0) κs i32 .own vs (sliceVal (vs .ptr) (length (vs .now)) ∷ [])) ∷ ‵ (Own T.the-row ba oa ma (named 0) (νa ∷ []) δa ya) ∷ ‵ (Own u32 bl ol ml (named 0) (νl ∷ []) δl yl) ∷ ‵ (Own u32 br or mr (named 0) (νr ∷ []) δr yr) ∷ []) ∵
         says ! asked $ nothing ! $ move ! (4 ∷ 0 ∷ []) $ join ! $ move ! (3 ∷ 0 ∷ []) $ join ! $ move ! (2 ∷ 0 ∷ []) $ join ! $ move ! (1 ∷ 0 ∷ []) $ join ! $ frame ! $ nothing ! $ move ! (4 ∷ 0 ∷ []) $ fjoin ! $ move ! (3 ∷ 0 ∷ []) $ fjoin ! $ move ! (2 ∷ 0 ∷ []) $ fjoin ! $ owned ! Pn.the-row (Is Pn.the-row) (LL.makes Pn.the-type Pn′.the-plain 𝓤 H A) plan _ g-plan $ fjoin ! $ owned ! u32 (Is u32) (uint-makes 𝓤 H A W w32) merge _ (refl, g-merge) $ fjoin ! $ owned ! u32 (Is u32) (uint-makes 𝓤 H A W w32) wide _ (refl, g-wide) $ fjoin ! $ owned ! u32 (Is u32) (uint-makes 𝓤 H A W w32) w _ (refl, g-w) $ fjoin ! $ move ! (1 ∷ 0 ∷ []) $ fjoin ! $ done !
 
@@ -110,7 +110,7 @@ module _ {M : Type 1} {𝓤 : URA M} {H : Heap 𝓤} {A : Atoms 𝓤} {K : Type 
   calls-refuse t fm mem run met plan g-plan os k =
       calls-free t fm refuse.ended (refuse.clauses 𝓤 H A mem run) met (to-refuse 𝓤 H A mem run plan) (asks-refuse 𝓤 H A mem run plan W g-plan) (λ r ls. r ≡ refusedAs plan) (λ r ls. id⊢ 𝓤 _) low-built (EL.tells Bu.the-type Bu′.the-laws) os (λ r ls. k r)
 
-  pub calls-build-planned : K → FmC 𝓤 H (W .laws) C → (mem : Memory → SProp 𝓤) (run : Routine → Fun 𝓤) → Triple 𝓤 (C #build-planned) (BuildPlanned 𝓤 H A mem run) → (κs : Lft) (qs : Share) (vs : RefT (List ℤ)) (κa : Lft) (qa : Share) (ba oa ma : ℕ) (γa : GName) (ya : List Row) (κl : Lft) (ql : Share) (bl ol ml : ℕ) (γl : GName) (yl : List ℕ) (κr : Lft) (qr : Share) (br or mr : ℕ) (γr : GName) (yr : List ℕ) (w : ℕ) (wide : ℕ) (merge : ℕ) (plan : Plan) → length ya ≡ ma → Room T.the-row ma → length yl ≡ ml → Room u32 ml → length yr ≡ mr → Room u32 mr → w < 2 ^ 32 → wide < 2 ^ 32 → merge < 2 ^ 32 → Is Pn.the-row plan (low-plan plan ∷ []) → ((PlannedFor (vs .now) w wide merge (buffers ya yl yr) plan) × (plan .number ≡ 0))
+  pub calls-build-planned : K → FmC 𝓤 H (W .laws) C → (mem : Memory → SProp 𝓤) (run : Routine → Fun 𝓤) → Triple 𝓤 (C #build-planned) (BuildPlanned 𝓤 H A mem run) → (κs : Lft) (qs : Share) (vs : RefT (List ℤ)) (κa : Lft) (qa : Share) (ba oa ma : ℕ) (γa : GName) (ya : List Row) (κl : Lft) (ql : Share) (bl ol ml : ℕ) (γl : GName) (yl : List ℕ) (κr : Lft) (qr : Share) (br or mr : ℕ) (γr : GName) (yr : List ℕ) (w : ℕ) (wide : ℕ) (merge : ℕ) (plan : Plan) → length ya ≡ ma → Room T.the-row ma → length yl ≡ ml → Room u32 ml → length yr ≡ mr → Room u32 mr → w < 2 ^ 32 → wide < 2 ^ 32 → merge < 2 ^ 32 → Is Pn.the-row plan (low-plan plan ∷ []) → ((PlannedFor (vs .now) w wide merge (buffers ya yl yr) plan) × (plan .refusal .number ≡ 0))
       → ((νa : ℕ) (δa : GName) (νl : ℕ) (δl : GName) (νr : ℕ) (δr : GName) → Opds K W (raw (BuildPlanned 𝓤 H A mem run .pre (to-build-planned 𝓤 H A mem run κs qs vs κa qa ba oa ma γa ya κl ql bl ol ml γl yl κr qr br or mr γr yr w wide merge plan νa δa νl δl νr δr)) ∷ ‵ (ShrSlice (named 0) κs i32 .own vs (sliceVal (vs .ptr) (length (vs .now)) ∷ [])) ∷ ‵ (LentAgain T.the-row κa (νa ∷ []) qa γa ba oa δa ya) ∷ ‵ (LentAgain u32 κl (νl ∷ []) ql γl bl ol δl yl) ∷ ‵ (LentAgain u32 κr (νr ∷ []) qr γr br or δr yr) ∷ Γ) E xs (sliceVal (vs .ptr) (length (vs .now)) ∷ vint w32 w ∷ vint w32 wide ∷ vint w32 merge ∷ low-plan plan ∷ sliceVal (ba, oa) ma ∷ sliceVal (bl, ol) ml ∷ sliceVal (br, or) mr ∷ []))
       → ((r : Built) (za : List Row) (zl : List ℕ) (zr : List ℕ) → BuildKept (lentBuild (vs .now) w wide merge) (buffers ya yl yr) r (buffers za zl zr) → Is Bu.the-row r (low-built r ∷ []) → length za ≡ length ya → length zl ≡ length yl → length zr ≡ length yr → Seq K W (‵ (flft κs qs) ∷ ‵ (ShrSlice (named 0) κs i32 .own vs (sliceVal (vs .ptr) (length (vs .now)) ∷ [])) ∷ ‵ (flft κa qa) ∷ ‵ (Own T.the-row ba oa ma (named 0) κa γa za) ∷ ‵ (flft κl ql) ∷ ‵ (Own u32 bl ol ml (named 0) κl γl zl) ∷ ‵ (flft κr qr) ∷ ‵ (Own u32 br or mr (named 0) κr γr zr) ∷ Γ) (lands C Λ E d (low-built r) rest p))
       → Seq K W (‵ (flft κs qs) ∷ ‵ (ShrSlice (named 0) κs i32 .own vs (sliceVal (vs .ptr) (length (vs .now)) ∷ [])) ∷ ‵ (flft κa qa) ∷ ‵ (Own T.the-row ba oa ma (named 0) κa γa ya) ∷ ‵ (flft κl ql) ∷ ‵ (Own u32 bl ol ml (named 0) κl γl yl) ∷ ‵ (flft κr qr) ∷ ‵ (Own u32 br or mr (named 0) κr γr yr) ∷ Γ) (runs C Λ E (seq (call #build-planned xs d) rest) p)

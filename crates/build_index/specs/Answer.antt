@@ -7,7 +7,6 @@ use Prim.Native.Nat.{ℕ, _+_, _-_, _*_, _<_, _≤_}
 use native.Mathlib.Omega.{arith}
 use lib.IntN.{ℤ}
 use lib.ListN.{length, getD, replicate, length-append, length-map}
-use borrow.Author.Tests.{ne-eqb, eq-eqb}
 use Rattle.meaning_numbers.specs.Place.{any}
 use Rattle.meaning_numbers.proofs.Tests.{clash}
 use Rattle.meaning_curves.specs.Curve.{windowSum, windowCount}
@@ -17,10 +16,10 @@ use Rattle.meaning_rows.specs.Build.{SetRow, withRuns, built, builtRows}
 use Rattle.meaning_rows.proofs.Build.{mergedRows, covered, built-covers}
 use Rattle.meaning_rows.proofs.Laid.{length-records}
 use Rattle.meaning_entries.specs.declared.Built.{Built}
-use Rattle.meaning_entries.specs.Refusal.{firstRefusal}
-use Rattle.meaning_entries.specs.Buffers.{IndexBuffers, filled, indexIn}
-use Rattle.meaning_entries.specs.Build.{lentBuild, buildRefusal, buildIndex, buildAnswer, buildAfter}
+use Rattle.meaning_entries.specs.Buffers.{IndexBuffers, filled, runRoom, indexIn}
+use Rattle.meaning_entries.specs.Build.{lentBuild, buildTable, buildRefusal, buildIndex, buildAnswer, buildAfter}
 use Rattle.meaning_entries.specs.Demand2.{BuildKept}
+use Rattle.meaning_entries.proofs.Refusal.{Passed, passed-is}
 use Rattle.meaning_entries.proofs.Demand2.{build-kept}
 use Rattle.records.specs.Records.{zeroRow}
 use Rattle.filing.specs.Levels.{Lent, windowsOf}
@@ -28,10 +27,11 @@ use Rattle.build.specs.Rowed.{noRow}
 use Rattle.build.specs.Filled.{Holds, last-part}
 use Rattle.lay.specs.Laid.{LayAsked}
 use Rattle.build_plan.specs.declared.Plan.{Plan}
-use Rattle.build_plan.specs.Plan.{refusalOf, Goes, Planned, table-is}
+use Rattle.conditions.specs.Refusal.{refusalOf, passes, refuses}
+use Rattle.build_plan.specs.Plan.{Lifts, Planned, Goes, never-0, goes}
 
 abbrev pub refusedAs : Plan → Built
-refusedAs p = Built.Refused (p .number) (p .place)
+refusedAs p = Built.Refused (p .refusal .number) (p .refusal .place)
 
 -- the answer with the head of w, d and so many windows, n rows, and as many runs as the parts up to that of the last row r have
 abbrev pub indexAs : ℕ → ℕ → ℕ → ℕ → Row → Built
@@ -49,41 +49,50 @@ some-row z [] h = clash h refl
 some-row z (r ∷ l) h = omega arith
 
 module _ (s : List ℤ) (w d g : ℕ) (b : IndexBuffers) (p : Plan) (h : PlannedFor s w d g b p) where
-  refusal-is : refusalOf p ≡ buildRefusal (lentBuild s w d g) b
-  refusal-is = h .refusal ∙ ap firstRefusal (sym (table-is s w d g b))
+  refusal-is : p .refusal ≡ refusalOf (buildTable (lentBuild s w d g) b)
+  unfolding buildTable
+  refusal-is = h .refusal
 
   -- a refused call leaves the buffers as they were
-  pub refused-kept : (p .number ≡ 0 → ⊥) → BuildKept (lentBuild s w d g) b (refusedAs p) b
+  pub refused-kept : (p .refusal .number ≡ 0 → ⊥) → BuildKept (lentBuild s w d g) b (refusedAs p) b
   unfolding buildAnswer buildAfter
   refused-kept f =
-      let e : buildRefusal (lentBuild s w d g) b ≡ some (p .number, p .place) = sym refusal-is ∙ rw (ne-eqb (p .number) 0 f) refl in
+      let e = refuses (buildTable (lentBuild s w d g) b) refusal-is f in
       build-kept (lentBuild s w d g) b (refusedAs p) b (rw (buildAnswer, e) refl) (rw (buildAfter, e) refl)
 
-  module _ (z : p .number ≡ 0) where
-    not-refused : buildRefusal (lentBuild s w d g) b ≡ none
-    not-refused = sym refusal-is ∙ rw (eq-eqb (p .number) 0 z) refl
+  module _ (z : p .refusal .number ≡ 0) where
+    t : Passed (buildTable (lentBuild s w d g) b)
+    unfolding buildTable
+    t = passes (buildTable (lentBuild s w d g) b) (never-0 s w d g (length (b .rows)) (runRoom b)) refusal-is z
 
-    abbrev go : Goes (length s) w d g (length (b .rows)) (length (b .left)) (length (b .right)) p
-    go = h .goes z .2
+    not-refused : buildRefusal (lentBuild s w d g) b ≡ none
+    not-refused = passed-is t
+
+    go : Goes s w d g (length (b .rows)) (runRoom b)
+    unfolding buildTable
+    go = goes s w d g (length (b .rows)) (runRoom b) t
+
+    abbrev lifts : Lifts w d p
+    lifts = h .lifts z
 
     pub plan-lent : Lent s w (p .extra)
-    plan-lent = record { all = h .goes z .0; some = go .some; most = go .most; fits = go .fits; long = h .goes z .1; small = go .lifts .small }
+    plan-lent = record { all = go .values; some = go .some; most = go .most; fits = go .fits; long = go .long; small = lifts .small }
 
     pub plan-window : p .window ≡ w
-    plan-window = go .lifts .window
+    plan-window = lifts .window
 
     pub plan-width : p .width ≡ d
-    plan-width = go .lifts .width
+    plan-width = lifts .width
 
     -- what the answer asks
     pub plan-sizes : (w ≤ length s) × (length s ≤ 1048576)
-    plan-sizes = (go .fits, h .goes z .1)
+    plan-sizes = (go .fits, go .long)
 
     -- what the build asks
     pub plan-lays : (LayAsked s (p .window) (p .extra) (p .width) (b .left) (b .right)) × (p .bias ≡ 10000 * p .window + p .extra) × (windowsOf s (p .window) ≤ length (b .rows)) × (g ≤ 100)
-    plan-lays = rw (go .lifts .window, go .lifts .width) (
-      record { lent = plan-lent; least = go .least-width; most = go .most-width; rows = go .lifts .rows; bias = sym (go .lifts .is) ∙ go .lifts .multiple; in-left = go .in-left; in-right = go .in-right },
-      go .lifts .is,
+    plan-lays = rw (lifts .window, lifts .width) (
+      record { lent = plan-lent; least = go .least-width; most = go .most-width; rows = lifts .rows; bias = sym (lifts .is) ∙ lifts .multiple; in-left = omega (arith, go .in-runs); in-right = omega (arith, go .in-runs) },
+      lifts .is,
       go .in-rows,
       go .most-merge,
     )

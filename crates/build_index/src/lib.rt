@@ -20,8 +20,8 @@ pub fn refuse(p: Plan) -> Built
     ensures { λ b. ⌜ b ≡ refusedAs p ⌝ }
 {
     Built::Refused {
-        number: p.number,
-        place: p.place,
+        number: p.refusal.number,
+        place: p.refusal.place,
     }
 }
 
@@ -68,7 +68,7 @@ pub fn build_planned(
     left: &mut [u32],
     right: &mut [u32],
 ) -> Built
-    requires { ⌜ (PlannedFor (now series) w d g (buffers (now rows) (now left) (now right)) p) × (p .number ≡ 0) ⌝ }
+    requires { ⌜ (PlannedFor (now series) w d g (buffers (now rows) (now left) (now right)) p) × (p .refusal .number ≡ 0) ⌝ }
     ensures { λ b. ⌜ BuildKept (lentBuild (now (series .entry)) w d g) (buffers (now (rows .entry)) (now (left .entry)) (now (right .entry))) b (buffers (now (rows .exit)) (now (left .exit)) (now (right .exit))) ⌝ }
 {
     let m = widened(g);
@@ -101,7 +101,7 @@ pub fn build(
     ensures { λ b. ⌜ BuildKept (lentBuild (now (series .entry)) w d g) (buffers (now (rows .entry)) (now (left .entry)) (now (right .entry))) b (buffers (now (rows .exit)) (now (left .exit)) (now (right .exit))) ⌝ }
 {
     let p = make_plan(series, w, d, g, rows.len(), left.len(), right.len());
-    if p.number != 0 {
+    if p.refusal.number != 0 {
         return refuse(p);
     }
     build_planned(series, w, d, g, p, rows, left, right)

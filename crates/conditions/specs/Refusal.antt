@@ -1,14 +1,21 @@
--- What refuses a call, as code has it, by a table of conditions (`refusalOf`): a line of it (`line-is`, `line-before`), what it says (`passes`, `refuses`), and its parts (`part-refuses`, `part-passes`). Assumes nothing.
+-- What refuses a call, as code has it, by a table of conditions (`refusalOf`): a line of it (`line-before`, `place-before`), what it says (`passes`, `refuses`), and its parts (`part-refuses`, `part-passes`). Assumes nothing.
 use mathlib.Core.Path.{_≡_, refl, sym, ap, _∙_}
-use mathlib.Core.Bool.{Bool, true, false, cond}
+use mathlib.Core.Bool.{Bool, true, false, not, cond}
 use mathlib.Core.List.{List, [], _∷_, _++_}
 use mathlib.Core.Option.{Option, none, some}
 use Prim.Native.Nat.{ℕ}
 use lib.Dec.{T}
+use lib.IntN.{ℤ}
+use lib.ListN.{length}
 use borrow.Author.Tests.{eq-eqb}
 use Rattle.meaning_numbers.proofs.Tests.{clash}
-use Rattle.meaning_entries.specs.Refusal.{Condition, firstRefusal, atZero}
+use Rattle.meaning_curves.specs.Limits.{mostValues, lengthIn, firstOutside}
+use Rattle.meaning_rows.specs.Index.{Index}
+use Rattle.meaning_rows.specs.Judge.{firstBadRow}
+use Rattle.meaning_entries.specs.Refusal.{Condition, firstRefusal, atZero, atPlace, lengthOutside, valueOutside, illFormed, seriesLines}
 use Rattle.meaning_entries.proofs.Refusal.{Passed, is-passed, is-first, first-is, lacks, first-left, first-right, first-lacks}
+use Rattle.judge.specs.declared.Judged.{Judged}
+use Rattle.judge.specs.Judged.{badRow}
 use Rattle.conditions.specs.declared.Refusal.{Refusal}
 
 -- nothing refuses
@@ -26,6 +33,15 @@ refusalOf l = asRefusal (firstRefusal l)
 -- by a test, or else by what comes after it
 abbrev pub refuseIf : Bool → ℕ → Refusal → Refusal
 refuseIf t n r = cond t (record { number = n; place = 0 }) r
+
+-- by a line that has a place of its own, or else by what comes after it
+unfoldable pub refuseAt : ℕ → Option ℕ → Refusal → Refusal
+refuseAt n none r = r
+refuseAt n (some p) r = record { number = n; place = p }
+
+-- 20, by what judging said
+abbrev pub judgedLine : Judged → Condition
+judgedLine j = atPlace 20 (badRow j)
 
 -- ---- laws
 
@@ -47,9 +63,26 @@ pub place-none : (c : Condition) (l : List Condition) → c .place ≡ none → 
 unfolding firstRefusal
 place-none c l e = rw (e, firstRefusal)
 
+pub place-before : {r r′ : Refusal} (c : Condition) (l : List Condition) → r ≡ refusalOf l → r′ ≡ refuseAt (c .number) (c .place) r → r′ ≡ refusalOf (c ∷ l)
+unfolding refuseAt
+place-before {r} {r′} c l e f = by (c .place) refl
+  where
+    by : (o : Option ℕ) → c .place ≡ o → r′ ≡ refusalOf (c ∷ l)
+    by none h = f ∙ ap (λ (o : Option ℕ). refuseAt (c .number) o r) h ∙ e ∙ sym (place-none c l h)
+    by (some p) h = f ∙ ap (λ (o : Option ℕ). refuseAt (c .number) o r) h ∙ sym (place-is c l h)
+
 -- a test before what a table says
 pub line-before : (n : ℕ) {r r′ : Refusal} {b : Bool} (t : Bool) (l : List Condition) → r ≡ refusalOf l → b ≡ t → r′ ≡ refuseIf b n r → r′ ≡ refusalOf (atZero n t ∷ l)
 line-before n t l e f g = cc (e, f, g, line-is n t l)
+
+-- the length of a series, and its values, before what a table says
+pub series-before : {r r′ : Refusal} (s : List ℤ) (l : List Condition) → r ≡ refusalOf l → r′ ≡ refuseIf (not (lengthIn mostValues (length s))) 1 (refuseAt 2 (firstOutside s) r) → r′ ≡ refusalOf (seriesLines mostValues s ++ l)
+unfolding lengthOutside valueOutside
+series-before s l e f = line-before 1 {b = not (lengthIn mostValues (length s))} _ (valueOutside s ∷ l) (place-before (valueOutside s) l e refl) refl f
+
+pub judged-line : (x : Index) (j : Judged) → badRow j ≡ firstBadRow x → judgedLine j ≡ illFormed x
+unfolding illFormed
+judged-line x j e = ap (atPlace 20) e
 
 -- number 0 is that nothing refuses, in a table that has no such number
 pub passes : {r : Refusal} (l : List Condition) → T (lacks 0 l) → r ≡ refusalOf l → r .number ≡ 0 → Passed l

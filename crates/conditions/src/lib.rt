@@ -1,17 +1,34 @@
 // The conditions under which a call is refused, a function each, and the first of them that applies (01, 'Refused for the input' and 'Refused for the state').
+use judge::Judged;
+use values::Place;
+use values::first_outside;
 ghost use mathlib.Core.Path.{_≡_};
 ghost use mathlib.Core.Bool.{not, _||_};
+ghost use mathlib.Core.List.{[]};
 ghost use Prim.Native.Nat.{_+_, _-_};
 ghost use lib.Dec.{ltb};
 ghost use lib.IntN.{pos, _+ℤ_, _-ℤ_};
+ghost use lib.ListN.{length};
 ghost use lib.Signed.{ltZ};
-ghost use Rattle.meaning_curves.specs.Limits.{mostValues, lengthIn, queryLengthIn, bandIn, thresholdIn, scaleIn, shiftIn};
-ghost use Rattle.conditions.specs.Refusal.{refuseIf};
+ghost use Rattle.meaning_curves.specs.Limits.{mostValues, lengthIn, windowIn, widthIn, mergeIn, queryLengthIn, bandIn, thresholdIn, scaleIn, shiftIn, firstOutside};
+ghost use Rattle.meaning_entries.specs.Refusal.{roomLines};
+ghost use Rattle.judge.specs.Judged.{badRow};
+ghost use Rattle.conditions.specs.Refusal.{refusalOf, refuseIf, refuseAt};
 
 // What refuses a call: a number of the tables and its place; number 0 where nothing does.
 pub struct Refusal {
     pub number: u32,
     pub place: usize,
+}
+
+// Nothing refuses.
+pub fn unrefused() -> Refusal
+    ensures { λ r. ⌜ r ≡ refusalOf [] ⌝ }
+{
+    Refusal {
+        number: 0,
+        place: 0,
+    }
 }
 
 // Refused by `number` at place 0 where a test passes, else by what comes after it.
@@ -28,11 +45,58 @@ pub fn refuse_if(t: bool, number: u32, after: Refusal) -> Refusal
     }
 }
 
-// The length of a series is in its limits.
-pub fn length_in(n: usize) -> bool
-    ensures { λ b. ⌜ b ≡ lengthIn mostValues n ⌝ }
+// The length of a series is in its limits, where the call takes so many values at most.
+pub fn length_in(most: usize, n: usize) -> bool
+    ensures { λ b. ⌜ b ≡ lengthIn most n ⌝ }
 {
-    (1 <= n) & (n <= 1048576)
+    (1 <= n) & (n <= most)
+}
+
+// The first value outside its limits, or else what comes after it.
+pub fn refuse_value(s: &[i32], after: Refusal) -> Refusal
+    ensures { λ r. ⌜ r ≡ refuseAt 2 (firstOutside (now (s .entry))) after ⌝ }
+{
+    match first_outside(s) {
+        Place::At(k) => Refusal {
+            number: 2,
+            place: k,
+        },
+        Place::Nowhere => after,
+    }
+}
+
+// The length of a series, then its values, or else what comes after them.
+pub fn refuse_series(s: &[i32], after: Refusal) -> Refusal
+    ensures { λ r. ⌜ r ≡ refuseIf (not (lengthIn mostValues (length (now (s .entry))))) 1 (refuseAt 2 (firstOutside (now (s .entry))) after) ⌝ }
+{
+    if length_in(1048576, s.len()) {
+        return refuse_value(s, after);
+    }
+    Refusal {
+        number: 1,
+        place: 0,
+    }
+}
+
+// A window length is outside its limits, or above that of the series.
+pub fn window_outside(w: u32, n: usize) -> bool
+    ensures { λ b. ⌜ b ≡ (not (windowIn (pos w)) || ltZ (pos n) (pos w)) ⌝ }
+{
+    !((1 <= w) & (w <= 256)) | (n < w as usize)
+}
+
+// A row width is outside its limits.
+pub fn width_outside(d: u32) -> bool
+    ensures { λ b. ⌜ b ≡ not (widthIn (pos d)) ⌝ }
+{
+    !((1 <= d) & (d <= 1000000))
+}
+
+// A merge percentage is outside its limits.
+pub fn merge_outside(g: u32) -> bool
+    ensures { λ b. ⌜ b ≡ not (mergeIn (pos g)) ⌝ }
+{
+    !(g <= 100)
 }
 
 // The length of a query is outside its limits, or above that of the series.
@@ -92,4 +156,25 @@ pub fn too_short(room: usize, w: u32, n: usize) -> bool
 {
     let size = w as usize;
     if size <= n { room <= n - size } else { false }
+}
+
+// The first bad row of an index, 0 for the head, or else what comes after it.
+pub fn refuse_judged(j: Judged, after: Refusal) -> Refusal
+    ensures { λ r. ⌜ r ≡ refuseAt 20 (badRow j) after ⌝ }
+{
+    match j {
+        Judged::Fine { total: _ } => after,
+        Judged::Bad { row } => Refusal {
+            number: 20,
+            place: row,
+        },
+    }
+}
+
+// Two buffers hold fewer entries than a series of n values has windows.
+pub fn refuse_room(one: usize, other: usize, w: u32, n: usize) -> Refusal
+    ensures { λ r. ⌜ r ≡ refusalOf (roomLines one (n + 1 - w) other (n + 1 - w)) ⌝ }
+{
+    let second = refuse_if(too_short(other, w, n), 23, unrefused());
+    refuse_if(too_short(one, w, n), 23, second)
 }

@@ -50,10 +50,10 @@ use Rattle.judge.proofs.Calls.{low-head, low-judged}
 use Rattle.judge.proofs.lesser as less
 use Rattle.judge.proofs.lesser.Symbol.{name as #lesser}
 use Rattle.build.specs.Filled.{buffers}
-use Rattle.extend_plan.specs.declared.Plan.{Plan}
+use Rattle.conditions.specs.declared.Refusal.{Refusal}
 use Rattle.extend_plan.specs.Plan.{planOf}
-use Rattle.extend_plan.proofs.Plan as Pn
-use Rattle.extend_plan.proofs.Plan.Laws as Pn′
+use Rattle.conditions.proofs.Refusal as Rf
+use Rattle.conditions.proofs.Refusal.Laws as Rf′
 use Rattle.extend_plan.proofs.Planned.{thePlan}
 use Rattle.extend_plan.proofs.make_plan as make
 use Rattle.extend_plan.proofs.make_plan.Symbol.{name as #make-plan}
@@ -65,8 +65,8 @@ use Rattle.extend_index.proofs.extend_planned as goes
 use Rattle.extend_index.proofs.extend_planned.Symbol.{name as #extend-planned}
 
 -- a plan's machine value
-abbrev pub low-plan : Plan → Val
-low-plan = LL.val Pn.the-type Pn′.the-laws
+abbrev pub low-plan : Refusal → Val
+low-plan = LL.val Rf.the-type Rf′.the-laws
 
 -- the contracts that the walk cites, what each is called at, and what it asks
 module _ {M : Type 1} (𝓤 : URA M) (H : Heap 𝓤) (A : Atoms 𝓤) (mem : Memory → SProp 𝓤) (run : Routine → Fun 𝓤) where
@@ -95,13 +95,13 @@ module _ {M : Type 1} (𝓤 : URA M) (H : Heap 𝓤) (A : Atoms 𝓤) (mem : Mem
   abbrev pub Refuse : Contract 𝓤
   Refuse = tripleOf 𝓤 H A refuse.signature (refuse.spec 𝓤 H A mem run)
 
-  module _ (plan : Plan) where
+  module _ (plan : Refusal) where
     abbrev pub to-refuse : Refuse .Ghost
     to-refuse = ((tt, tt, tt, (plan, tt), (low-plan plan ∷ [], tt)), tt)
 
-    asks-refuse : (W : Given 𝓤 H A) (g-plan : Is Pn.the-row plan (low-plan plan ∷ [])) → ent 𝓤 (⋆ 𝓤 H A ([])) (Refuse .pre (to-refuse))
+    asks-refuse : (W : Given 𝓤 H A) (g-plan : Is Rf.the-row plan (low-plan plan ∷ [])) → ent 𝓤 (⋆ 𝓤 H A ([])) (Refuse .pre (to-refuse))
     asks-refuse W g-plan = qed W ([]) ∵
-        nothing ! $ nothing ! $ owned ! Pn.the-row (Is Pn.the-row) (LL.makes Pn.the-type Pn′.the-plain 𝓤 H A) plan _ g-plan $ fjoin ! $ move ! (1 ∷ 0 ∷ []) $ join ! $ frame ! $ done !
+        nothing ! $ nothing ! $ owned ! Rf.the-row (Is Rf.the-row) (LL.makes Rf.the-type Rf′.the-plain 𝓤 H A) plan _ g-plan $ fjoin ! $ move ! (1 ∷ 0 ∷ []) $ join ! $ frame ! $ done !
 
   abbrev pub ExtendPlanned : Contract 𝓤
   ExtendPlanned = tripleOf 𝓤 H A goes.signature (goes.spec 𝓤 H A mem run)
@@ -124,14 +124,14 @@ module _ {M : Type 1} {𝓤 : URA M} {H : Heap 𝓤} {A : Atoms 𝓤} {K : Type 
 
   pub calls-make-plan : K → FmC 𝓤 H (W .laws) C → (mem : Memory → SProp 𝓤) (run : Routine → Fun 𝓤) → Triple 𝓤 (C #make-plan) (MakePlan 𝓤 H A mem run) → (κs : Lft) (qs : Share) (vs : RefT (List ℤ)) (head : Head) (judged : Judged) (records : ℕ) (room : ℕ) → Is Hd.the-row head (low-head head ∷ []) → Is J.the-row judged (low-judged judged ∷ []) → records < 2 ^ 64 → room < 2 ^ 64
       → (Opds K W (raw (MakePlan 𝓤 H A mem run .pre (to-make-plan 𝓤 H A mem run κs qs vs head judged records room)) ∷ ‵ (ShrSlice (named 0) κs i32 .own vs (sliceVal (vs .ptr) (length (vs .now)) ∷ [])) ∷ Γ) E xs (sliceVal (vs .ptr) (length (vs .now)) ∷ low-head head ∷ low-judged judged ∷ vint w64 records ∷ vint w64 room ∷ []))
-      → ((r : Plan) → (r ≡ planOf (vs .now) head judged records room) → Is Pn.the-row r (low-plan r ∷ []) → Seq K W (‵ (flft κs qs) ∷ ‵ (ShrSlice (named 0) κs i32 .own vs (sliceVal (vs .ptr) (length (vs .now)) ∷ [])) ∷ Γ) (lands C Λ E d (low-plan r) rest p))
+      → ((r : Refusal) → (r ≡ planOf (vs .now) head judged records room) → Is Rf.the-row r (low-plan r ∷ []) → Seq K W (‵ (flft κs qs) ∷ ‵ (ShrSlice (named 0) κs i32 .own vs (sliceVal (vs .ptr) (length (vs .now)) ∷ [])) ∷ Γ) (lands C Λ E d (low-plan r) rest p))
       → Seq K W (‵ (flft κs qs) ∷ ‵ (ShrSlice (named 0) κs i32 .own vs (sliceVal (vs .ptr) (length (vs .now)) ∷ [])) ∷ Γ) (runs C Λ E (seq (call #make-plan xs d) rest) p)
   calls-make-plan t fm mem run met κs qs vs head judged records room g-head g-judged g-records g-room os k =
       move t (1 ∷ []) $ twin t i32 (named 0) κs vs $
-      move t (2 ∷ 0 ∷ 1 ∷ []) $ group t 2 $ calls-ended t fm make.ended (make.clauses 𝓤 H A mem run) met (to-make-plan 𝓤 H A mem run κs qs vs head judged records room) (asks-make-plan 𝓤 H A mem run κs qs vs head judged records room W g-head g-judged g-records g-room) (λ r ls. r ≡ planOf (vs .now) head judged records room) (λ r ls. id⊢ 𝓤 _) low-plan (LL.tells Pn.the-type Pn′.the-laws) os (λ r ls said is.
+      move t (2 ∷ 0 ∷ 1 ∷ []) $ group t 2 $ calls-ended t fm make.ended (make.clauses 𝓤 H A mem run) met (to-make-plan 𝓤 H A mem run κs qs vs head judged records room) (asks-make-plan 𝓤 H A mem run κs qs vs head judged records room W g-head g-judged g-records g-room) (λ r ls. r ≡ planOf (vs .now) head judged records room) (λ r ls. id⊢ 𝓤 _) low-plan (LL.tells Rf.the-type Rf′.the-laws) os (λ r ls said is.
       k r said is)
 
-  pub calls-refuse : K → FmC 𝓤 H (W .laws) C → (mem : Memory → SProp 𝓤) (run : Routine → Fun 𝓤) → Triple 𝓤 (C #refuse) (Refuse 𝓤 H A mem run) → (plan : Plan) → Is Pn.the-row plan (low-plan plan ∷ [])
+  pub calls-refuse : K → FmC 𝓤 H (W .laws) C → (mem : Memory → SProp 𝓤) (run : Routine → Fun 𝓤) → Triple 𝓤 (C #refuse) (Refuse 𝓤 H A mem run) → (plan : Refusal) → Is Rf.the-row plan (low-plan plan ∷ [])
       → (Opds K W (raw (Refuse 𝓤 H A mem run .pre (to-refuse 𝓤 H A mem run plan)) ∷ Γ) E xs (low-plan plan ∷ []))
       → ((r : Extended) → (r ≡ refusedAs plan) → Is Ex.the-row r (low-extended r ∷ []) → Seq K W (Γ) (lands C Λ E d (low-extended r) rest p))
       → Seq K W (Γ) (runs C Λ E (seq (call #refuse xs d) rest) p)

@@ -21,14 +21,14 @@ use Rattle.meaning_entries.specs.Demand2.{ExtendKept}
 use Rattle.meaning_entries.proofs.Demand2.{extend-kept}
 use Rattle.records.specs.Records.{zeroRow}
 use Rattle.build.specs.Filled.{last-part}
-use Rattle.extend_plan.specs.declared.Plan.{Plan}
-use Rattle.extend_plan.proofs.Planned.{thePlan, Sound, Planned, stops, goes, planned}
+use Rattle.conditions.specs.declared.Refusal.{Refusal}
+use Rattle.extend_plan.proofs.Planned.{thePlan, stopped, goes-on, Sound, sound}
 use Rattle.extend.specs.Rowed.{rows-are}
 use Rattle.extend.specs.Finished.{HoldsExtended}
 use Rattle.extend.specs.Whole.{PassesAsked}
 use Rattle.extend_index.specs.declared.Lift.{Lift}
 
-abbrev pub refusedAs : Plan → Extended
+abbrev pub refusedAs : Refusal → Extended
 refusedAs p = Extended.Refused (p .number) (p .place)
 
 -- the answer with the old head and so many windows, n rows, and as many runs as the parts up to that of the last row r have
@@ -53,30 +53,22 @@ module _ (s : List ℤ) (h : Head) (from : List Row) (lefts rights : List ℕ) (
   abbrev call : ExtendCall
   call = lentExtend s h from lefts rights
 
-  abbrev plan : Plan
+  abbrev plan : Refusal
   plan = thePlan s h from lefts rights b
-
-  stopped : Planned s h from lefts rights b → (plan .number ≡ 0 → ⊥) → extendRefusal call b ≡ some (plan .number, plan .place)
-  stopped (stops k q e f r) z = r ∙ (λ i. some (sym e i .number, sym e i .place))
-  stopped (goes e r o) z = absurd (z (ap (λ (p : Plan). p .number) e))
 
   -- a refused call leaves the buffers as they were
   pub refused-kept : (plan .number ≡ 0 → ⊥) → ExtendKept call b (refusedAs plan) b
   unfolding extendAnswer extendAfter
   refused-kept f =
-      let e = stopped (planned s h from lefts rights b) f in
+      let e = stopped s h from lefts rights b f in
       extend-kept call b (refusedAs plan) b (rw (extendAnswer, e) refl) (rw (extendAfter, e) refl)
-
-  going : Planned s h from lefts rights b → plan .number ≡ 0 → (extendRefusal call b ≡ none) × Sound s h from lefts rights b
-  going (stops k q e f r) z = absurd (f (sym (ap (λ (p : Plan). p .number) e) ∙ z))
-  going (goes e r o) z = (r, o)
 
   module _ (z : plan .number ≡ 0) where
     not-refused : extendRefusal call b ≡ none
-    not-refused = going (planned s h from lefts rights b) z .0
+    not-refused = goes-on s h from lefts rights b z
 
     so : Sound s h from lefts rights b
-    so = going (planned s h from lefts rights b) z .1
+    so = sound s h from lefts rights b z
 
     -- what raising asks
     pub lift-asked : (h .window ≤ 256) × ((1 ≤ h .width) × (h .width ≤ 1000000))

@@ -1,6 +1,6 @@
 // The entry that extends an index: refused, or the extended index in the lent buffers.
+use conditions::Refusal;
 use extend::extend_passes;
-use extend_plan::Plan;
 use extend_plan::make_plan;
 use judge::judge;
 use judge::lesser;
@@ -30,7 +30,7 @@ pub struct Lift {
 }
 
 // The answer of a refused call.
-pub fn refuse(p: Plan) -> Extended
+pub fn refuse(p: Refusal) -> Extended
     ensures { λ a. ⌜ a ≡ refusedAs p ⌝ }
 {
     Extended::Refused {

@@ -1,3 +1,2 @@
 -- The plan is the refusal that the meanings say.
-pub mod Cases
 pub mod Planned

@@ -1,42 +1,39 @@
 -- What the program prints where nothing refuses it: its build and its search are not refused either (`build-free`, `search-free`), what is built stands in the buffers (`lent-is`), and its texts have room. Assumes nothing.
 use mathlib.Core.Path.{_≡_, refl, sym, ap, _∙_, subst}
-use mathlib.Core.Bool.{Bool, true, false, not, _||_}
 use mathlib.Core.List.{List, [], _∷_, _++_, map}
-use mathlib.Core.Option.{none, some}
+use mathlib.Core.Option.{none}
 use Prim.Native.Nat.{ℕ, _+_, _-_, _<_, _≤_, _^_, min}
 use native.Mathlib.Omega.{arith}
-use lib.Dec.{T, ltb}
 use lib.IntN.{ℤ, pos, natAbs, _-ℤ_}
 use lib.ListN.{length, take, drop, replicate, length-append, length-map, length-replicate}
 use lib.Seq.{take-append-seam}
-use lib.Signed.{ltZ, _≤ℤ_}
-use borrow.Author.Tests.{le-ltb, ltb-false}
+use lib.Signed.{_≤ℤ_}
+use borrow.Author.Tests.{le-ltb}
 use Rattle.meaning_numbers.proofs.Rep.{zarith, z-add, z-sub}
-use Rattle.meaning_numbers.proofs.Machine.{le-ltZ}
-use Rattle.meaning_numbers.proofs.Tests.{is-false, not-not, neither, yes-not-not}
 use Rattle.meaning_numbers.proofs.Count.{count-le}
-use Rattle.meaning_numbers.proofs.Between.{within-yes, yes-within}
-use Rattle.meaning_curves.specs.Limits.{mostValues, mostProgramValues, lengthIn, windowIn, thresholdIn}
+use Rattle.meaning_numbers.proofs.Between.{yes-within}
+use Rattle.meaning_curves.specs.Limits.{mostValues, mostProgramValues}
 use Rattle.meaning_curves.specs.Curve.{windowCount, windowSum}
 use Rattle.meaning_rows.specs.declared.Row.{Row}
 use Rattle.meaning_rows.specs.Runs.{runs}
 use Rattle.meaning_rows.specs.Index.{Index, Entry, entries, lent, allRuns}
 use Rattle.meaning_rows.specs.Build.{SetRow, entry, withRuns, builtRows, merged, filed, built}
-use Rattle.meaning_rows.proofs.Judge.{none-bad}
+use Rattle.meaning_rows.proofs.Judge.{Natural, none-bad}
 use Rattle.meaning_filter.specs.Matches.{allMatches, candidateAt, candidateCount}
 use Rattle.meaning_text.specs.Texts.{indexText, foundText}
 use Rattle.meaning_entries.specs.declared.Built.{Built}
 use Rattle.meaning_entries.specs.declared.Found.{Found}
 use Rattle.meaning_entries.specs.Demand3.{pairs}
-use Rattle.meaning_entries.specs.Refusal.{atZero, lengthOutside, illFormed, windowsOf, bufferShort}
+use Rattle.meaning_entries.specs.Refusal.{Condition, valueOutside, flatQuery, illFormed, windowsOf, bufferShort, seriesLines}
 use Rattle.meaning_entries.specs.Buffers.{IndexBuffers, filled, zeroRow, lefts, rights, indexIn}
 use Rattle.meaning_entries.specs.Answers.{headOf}
-use Rattle.meaning_entries.specs.Build.{BuildCall, lentBuild, buildTable, buildRefusal, buildIndex, buildAnswer, buildAfter}
+use Rattle.meaning_entries.specs.Build.{BuildCall, lentBuild, widthLines, buildTable, buildRefusal, buildIndex, buildAnswer, buildAfter}
 use Rattle.meaning_entries.specs.Write.{writeTable, writeRefusal}
-use Rattle.meaning_entries.specs.Search.{SearchCall, SearchBuffers, lentAsk, lentSearch, searchPlan, searchTable, searchRefusal, searchAnswer, searchMatches, searchCandidates, question}
+use Rattle.meaning_entries.specs.Search.{SearchCall, SearchBuffers, lentAsk, lentSearch, valueLines, limitLines, searchPlan, searchTable, searchRefusal, searchAnswer, searchMatches, searchCandidates, question}
 use Rattle.meaning_entries.specs.Program.{callLines, programIndex, printed}
 use Rattle.meaning_entries.specs.Demand2.{BuildKept, SearchKept}
-use Rattle.meaning_entries.proofs.Refusal.{Passed, end, more, passed-is, openLines, passed-line, passed-behind, not-if, query-some, scale-some}
+use Rattle.meaning_entries.proofs.Refusal.{Passed, end, more, passed-is, passed-both, passed-join, openLines, passed-line, passed-behind}
+use Rattle.meaning_entries.proofs.Lines.{long-line, window-line, query-line, threshold-line, scale-line, series-passes, count-passes, room-passes}
 use Rattle.meaning_entries.proofs.Made.{build-passes, build-most}
 use Rattle.meaning_entries.proofs.Passes as Audit
 use Rattle.meaning_entries.proofs.Listed.{listed-is}
@@ -48,10 +45,6 @@ use Rattle.text_put.specs.Put.{Put, put-room, put-length}
 use Rattle.find_answer.specs.Sizes.{index-size, all-size}
 
 -- a line that does not apply
-passes-if : (n : ℕ) (t : Bool) → T (not t) → atZero n t .place ≡ none
-passes-if n true h = absurd h
-passes-if n false h = refl
-
 enough : (room need : ℕ) → need ≤ room → bufferShort room need .place ≡ none
 unfolding bufferShort
 enough room need h = rw (le-ltb room need h)
@@ -85,26 +78,40 @@ module _ (s q : List ℤ) (a : Asked) (free : Passed (callLines (callOf s q a)))
   abbrev pub x : Index
   x = buildIndex c
 
-  length-is : T (lengthIn mostProgramValues (length s))
+  length-in : Natural 1 mostProgramValues (pos (length s))
   unfolding openLines callLines callOf
-  length-is = not-not (lengthIn mostProgramValues (length s)) (not-if 1 (not (lengthIn mostProgramValues (length s))) (passed-line free 1))
+  length-in = long-line mostProgramValues (length s) (passed-line free 1)
 
   pub few : length s ≤ 4096
-  few = omega (zarith, within-yes (pos 1) (pos 4096) (pos (length s)) length-is .high)
+  few = length-in .most
 
-  long-in : lengthOutside mostValues (length s) .place ≡ none
-  unfolding lengthOutside
-  long-in = let b = within-yes (pos 1) (pos 4096) (pos (length s)) length-is in passes-if 1 (not (lengthIn mostValues (length s))) (yes-not-not (lengthIn mostValues (length s)) (yes-within (record { low = b .low; high = omega (zarith, b .high) })))
+  -- the parts of the call's lines that the build and the search have too
+  series-part : Passed (seriesLines mostValues s)
+  unfolding openLines callLines callOf
+  series-part = series-passes mostValues s (yes-within (record { low = omega (zarith, length-in .least); high = omega (zarith, few) })) (passed-line free 2)
+
+  abbrev widths : List Condition
+  widths = widthLines (length s) (pos w) (pos (a .width)) (pos (a .merge))
+
+  abbrev limits : List Condition
+  limits = limitLines (length s) (length q) (pos w) (lentAsk (a .ask))
+
+  abbrev rest : List Condition
+  rest = limits ++ (flatQuery (a .ask .kind) q ∷ [])
+
+  number-parts : Passed widths × Passed rest
+  unfolding callLines callOf
+  number-parts = passed-both widths rest (passed-both (valueLines mostProgramValues s q) (widths ++ rest) free .1)
+
+  width-part : Passed widths
+  width-part = number-parts .0
+
+  limit-part : Passed limits
+  limit-part = passed-both limits (flatQuery (a .ask .kind) q ∷ []) (number-parts .1) .0
 
   window-in : (1 ≤ w) × (w ≤ length s)
-  unfolding openLines callLines callOf
-  window-in =
-      let t = neither (not (windowIn (pos w))) (ltZ (pos (length s)) (pos w)) (not-if 3 (not (windowIn (pos w)) || ltZ (pos (length s)) (pos w)) (passed-line free 3)) in
-      let b = within-yes (pos 1) (pos 256) (pos w) (not-not (windowIn (pos w)) (t .0)) in
-      (omega (zarith, b .low), omega (arith, ltb-no (length s) w (is-false (ltb (length s) w) (t .1))))
-    where
-      ltb-no : (m n : ℕ) → ltb m n ≡ false → n ≤ m
-      ltb-no m n e = ltb-false m n e
+  unfolding openLines
+  window-in = let t = window-line (pos w) (length s) (passed-line width-part 3) in (t .0 .least, omega (zarith, t .1))
 
   windows-few : windowCount (length s) w ≤ 4096
   windows-few = omega (arith, few, window-in .0)
@@ -115,9 +122,8 @@ module _ (s q : List ℤ) (a : Asked) (free : Passed (callLines (callOf s q a)))
 
     -- its build is not refused
     pub build-free : buildRefusal c b ≡ none
-    unfolding openLines buildTable callLines callOf
-    build-free = passed-is (more long-in (more (passed-line free 2) (more (passed-line free 3) (more (passed-line free 4) (more (passed-line free 5)
-        (more (enough (length rows) (windowCount (length s) w) (omega (arith, r, windows-few))) (more (enough (min (length left) (length right)) (windowCount (length s) w) (omega (arith, l, k, windows-few))) end)))))))
+    unfolding buildTable
+    build-free = passed-is (passed-join series-part (passed-join width-part (room-passes (omega (arith, r, windows-few)) (omega (arith, l, k, windows-few)))))
 
     is-passed-x : Audit.Passed x s
     is-passed-x = Audit.passed x s (build-passes c b build-free)
@@ -167,11 +173,11 @@ module _ (s q : List ℤ) (a : Asked) (free : Passed (callLines (callOf s q a)))
 
   query-some-here : 1 ≤ length q
   unfolding openLines callLines callOf
-  query-some-here = query-some (length q) (length s) (passed-line free 6)
+  query-some-here = query-line (length q) (length s) (passed-line limit-part 6) .0 .least
 
   near : a .ask .limits .threshold ≤ 1000000000000
   unfolding openLines callLines callOf
-  near = let E = pos (a .ask .limits .threshold) in omega (zarith, within-yes (pos 0) (pos 1000000000000) E (not-not (thresholdIn E) (not-if 9 (not (thresholdIn E)) (passed-line free 9))) .high)
+  near = threshold-line (pos (a .ask .limits .threshold)) (passed-line limit-part 9) .most
 
   candidates-few : searchCandidates d < 10 ^ 18
   unfolding candidateCount question
@@ -194,7 +200,7 @@ module _ (s q : List ℤ) (a : Asked) (free : Passed (callLines (callOf s q a)))
 
   all-here : searchMatches d ≡ allMatches (question d)
   unfolding openLines callLines callOf question
-  all-here = all-found x (question d) (Audit.passes-reached x s (build-passes c (indexBuffers no-rows zeros zeros) (build-free no-rows zeros zeros rows-long zeros-long zeros-long))) (query-some (length q) (length s) (passed-line free 6)) (scale-some (pos (a .ask .limits .scale)) (pos (a .ask .limits .shift)) (passed-line free 10))
+  all-here = all-found x (question d) (Audit.passes-reached x s (build-passes c (indexBuffers no-rows zeros zeros) (build-free no-rows zeros zeros rows-long zeros-long zeros-long))) query-some-here (omega (arith, scale-line (pos (a .ask .limits .scale)) (pos (a .ask .limits .shift)) (passed-line limit-part 10) .0 .least))
 
   sizes-here : (length (allMatches (question d)) ≤ 4096) × (length (foundText (length (allMatches (question d))) (searchCandidates d) (allMatches (question d))) ≤ 200000)
   unfolding question
@@ -223,20 +229,15 @@ module _ (s q : List ℤ) (a : Asked) (free : Passed (callLines (callOf s q a)))
       let k = z-sub (pos (length s)) (pos w) in
       (omega (zarith, h, k, window-in .1), omega (zarith, h, k, window-in .1))
 
-  no-lt : {y z : ℤ} → z ≤ℤ y → T (not (ltZ y z))
-  no-lt {y} {z} h = rw (le-ltZ {a = y} {b = z} h) tt
-
   pub search-free : (before : SearchBuffers) → length (before .left) ≡ 4096 → length (before .right) ≡ 4096 → length (before .scratch) ≡ 4096 → length (before .offsets) ≡ 4096 → length (before .distances) ≡ 4096 → searchRefusal d before ≡ none
   unfolding openLines searchPlan searchTable callLines callOf buildIndex built
   search-free before hl hr hc ho hd =
+      let value-part = passed-join series-part (more {c = valueOutside q} (passed-line (passed-behind free 2) 2) end) in
+      let count-part = count-passes (length s) x (windows-are .0) (windows-are .1) in
       let n = windowCount (length s) w in
-      passed-is (more long-in (more (passed-line free 2) (more (passed-line (passed-behind free 2) 2) (more (passed-line free 6) (more (passed-line free 7) (more (passed-line free 8) (more (passed-line free 9) (more (passed-line free 10) (more (passed-line free 11)
-      (more (none-bad x (passed-here .formed))
-      (more (passes-if 21 (ltZ (x .windows) (windowsOf x (length s))) (no-lt (windows-are .0)))
-      (more (passes-if 22 (ltZ (windowsOf x (length s)) (x .windows)) (no-lt (windows-are .1)))
-      (more (enough (min (length (before .left)) (length (before .right))) n (omega (arith, hl, hr, windows-few)))
-      (more (enough (length (before .scratch)) n (omega (arith, hc, windows-few)))
-      (more (rw (le-ltb (min (length (before .offsets)) (length (before .distances))) (length (searchMatches d)) (omega (arith, ho, hd, matches-few)))) end)))))))))))))))
+      let room-part = room-passes {one = min (length (before .left)) (length (before .right))} {needed = n} {other = length (before .scratch)} {wanted = n} (omega (arith, hl, hr, windows-few)) (omega (arith, hc, windows-few)) in
+      passed-is (passed-join (passed-join value-part (passed-join limit-part (more (passed-line free 11) (more (none-bad x (passed-here .formed)) (passed-join count-part room-part)))))
+      (more (rw (le-ltb (min (length (before .offsets)) (length (before .distances))) (length (searchMatches d)) (omega (arith, ho, hd, matches-few)))) end))
 
 -- ---- the list behind the index text
 

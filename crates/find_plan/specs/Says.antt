@@ -1,32 +1,32 @@
 -- What the table over what was kept says of the text (`end-is`), and what is asked where nothing refuses (`asked-is`). Assumes nothing.
 use mathlib.Core.Path.{_≡_, refl, sym, ap, _∙_, subst}
-use mathlib.Core.Bool.{Bool, true, false, not, cond, _||_}
+use mathlib.Core.Bool.{Bool, true, false, cond}
 use mathlib.Core.List.{List, [], _∷_, _++_, map}
-use mathlib.Core.Logic.{_⊎_, inl, inr}
 use mathlib.Core.Option.{none, some}
 use Prim.Native.Nat.{ℕ, _+_, _≤_}
 use native.Mathlib.Omega.{arith}
 use lib.Dec.{ltb}
-use lib.IntN.{ℤ, pos, negsuc, natAbs, _-ℤ_}
+use lib.IntN.{ℤ, pos, negsuc, natAbs}
 use lib.ListN.{length, take, drop}
-use lib.Seq.{sets, sets-eq, length-sets, take-append-seam}
-use lib.Signed.{ltZ, _≤ℤ_}
+use lib.Seq.{sets-eq, length-sets, take-append-seam}
+use lib.Signed.{_≤ℤ_}
 use borrow.Author.Tests.{ltb-false}
 use Rattle.meaning_numbers.proofs.Rep.{zarith, z-sub}
 use Rattle.meaning_numbers.proofs.Machine.{le-ltZ}
-use Rattle.meaning_numbers.proofs.Tests.{by-test, not-not, neither}
-use Rattle.meaning_numbers.proofs.Between.{within-yes}
-use Rattle.meaning_curves.specs.Limits.{mostProgramValues, valueIn, firstOutside, windowIn, widthIn, mergeIn, bandIn, thresholdIn, scaleIn, shiftIn}
+use Rattle.meaning_numbers.proofs.Tests.{by-test}
+use Rattle.meaning_curves.specs.Limits.{mostProgramValues, valueIn, firstOutside}
 use Rattle.meaning_curves.proofs.Values.{yes-value, none-outside}
+use Rattle.meaning_rows.proofs.Judge.{Natural}
 use Rattle.meaning_text.specs.Read.{readText, fine, unfit, lineOf}
 use Rattle.meaning_text.specs.Texts.{programForm, kindSaid}
 use Rattle.meaning_text.proofs.Automaton.{Fed, going, failed}
 use Rattle.meaning_text.proofs.Reading.{on-flag}
-use Rattle.meaning_entries.specs.Refusal.{Condition, firstRefusal, valueOutside, flatQuery, badLine, unreadable}
+use Rattle.meaning_entries.specs.Refusal.{Condition, valueOutside, flatQuery, badLine, unreadable}
 use Rattle.meaning_entries.specs.Build.{widthLines}
 use Rattle.meaning_entries.specs.Search.{valueLines, limitLines}
 use Rattle.meaning_entries.specs.Program.{ProgramCall, programSaid, textProgram, callLines, programTable}
-use Rattle.meaning_entries.proofs.Refusal.{Passed, end, more, judged, First, first-is, first-left, first-right, passed-both, openLines, passed-line, not-if}
+use Rattle.meaning_entries.proofs.Refusal.{Passed, more, same-behind, passed-both, openLines, passed-line}
+use Rattle.meaning_entries.proofs.Lines.{window-line, width-line, merge-line, band-line, threshold-line, scale-line}
 use Rattle.conditions.specs.Refusal.{refusalOf, asRefusal, place-is, place-none}
 use Rattle.text_lines.specs.declared.State.{State}
 use Rattle.text_lines.specs.Follow.{Said, Reading, programStart, programValue, program-comes, acceptState}
@@ -74,19 +74,6 @@ module _ {base vs : List ℤ} {v : Values} {buf : List ℤ} (k : Kept base vs v 
   unfolding stored
   long-kept = ap length (k .lies) ∙ length-sets base 0 (map clamp vs)
 
--- ---- two tables that end differently
-
-same-end : (a b x y : List Condition) → (Passed a → Passed b → x ≡ y) → firstRefusal (a ++ (b ++ x)) ≡ firstRefusal (a ++ (b ++ y))
-same-end a b x y f = by-first (judged a)
-  where
-    by-second : Passed a → Passed b ⊎ ((n : ℕ) × (p : ℕ) × First b n p) → firstRefusal (a ++ (b ++ x)) ≡ firstRefusal (a ++ (b ++ y))
-    by-second h (inl k) = ap (λ (l : List Condition). firstRefusal (a ++ (b ++ l))) (f h k)
-    by-second h (inr k) = first-right (b ++ x) h ∙ first-is (first-left x (k .2)) ∙ sym (first-right (b ++ y) h ∙ first-is (first-left y (k .2)))
-
-    by-first : Passed a ⊎ ((n : ℕ) × (p : ℕ) × First a n p) → firstRefusal (a ++ (b ++ x)) ≡ firstRefusal (a ++ (b ++ y))
-    by-first (inl h) = by-second h (judged b)
-    by-first (inr h) = first-is (first-left (b ++ x) (h .2)) ∙ sym (first-is (first-left (b ++ y) (h .2)))
-
 -- ---- the call that the lines say
 
 pub table-is : (t : List ℕ) → programTable t ≡ unreadable programForm 0 t ∷ callLines (textProgram t)
@@ -121,8 +108,12 @@ module _ {kept asked : List ℤ} {g : Said} {numbers : List ℤ} {v q : Values} 
 
     pub call-is : refusalOf (callTable v q (numbersAt numbers) query) ≡ refusalOf (callLines said)
     unfolding callTable callLines programSaid
-    call-is = ap asRefusal (same-end (valuesTable v q) (numbersTable (v .count) (q .count) (numbersAt numbers)) (flatQuery (kindOf (numbersAt numbers .raw)) (take (q .count) query) ∷ []) (flatQuery (kindSaid (g .raw)) (g .query) ∷ [])
-        (λ a b. rw (query-is a b, raw-is)) ∙ rw (values-are, numbers-are))
+    call-is =
+        let one = valuesTable v q in
+        let two = numbersTable (v .count) (q .count) (numbersAt numbers) in
+        let kept = flatQuery (kindOf (numbersAt numbers .raw)) (take (q .count) query) ∷ [] in
+        let meant = flatQuery (kindSaid (g .raw)) (g .query) ∷ [] in
+        ap asRefusal (same-behind one (two ++ kept) (two ++ meant) (λ a. same-behind two kept meant (λ b. rw (query-is a b, raw-is))) ∙ rw (values-are, numbers-are))
 
 -- ---- the text
 
@@ -195,26 +186,26 @@ module _ (kept asked : List ℤ) (t : List ℕ) (r : Input) (numbers series quer
 
 -- ---- what is asked
 
+upto : {low k : ℕ} {z : ℤ} → Natural low k z → Upto k z
+upto n = record { least = omega (zarith, n .is); most = omega (zarith, n .is, n .most) }
+
 pub passed-limited : (n m : ℕ) (x : Numbers) → Passed (numbersTable n m x) → Limited x
 unfolding openLines numbersTable
 passed-limited n m x h =
-    let w = within-yes (pos 1) (pos 256) (x .window) (not-not (windowIn (x .window)) (neither (not (windowIn (x .window))) (ltZ (pos n) (x .window)) (not-if 3 (not (windowIn (x .window)) || ltZ (pos n) (x .window)) (passed-line h 3)) .0)) in
-    let d = within-yes (pos 1) (pos 1000000) (x .width) (not-not (widthIn (x .width)) (not-if 4 (not (widthIn (x .width))) (passed-line h 4))) in
-    let g = within-yes (pos 0) (pos 100) (x .merge) (not-not (mergeIn (x .merge)) (not-if 5 (not (mergeIn (x .merge))) (passed-line h 5))) in
-    let b = within-yes (pos 0) (pos m -ℤ pos 1) (x .band) (not-not (bandIn m (x .band)) (not-if 8 (not (bandIn m (x .band))) (passed-line h 8))) in
-    let e = within-yes (pos 0) (pos 1000000000000) (x .threshold) (not-not (thresholdIn (x .threshold)) (not-if 9 (not (thresholdIn (x .threshold))) (passed-line h 9))) in
-    let t = neither (not (scaleIn (x .scale))) (not (shiftIn (x .shift))) (not-if 10 (not (scaleIn (x .scale)) || not (shiftIn (x .shift))) (passed-line h 10)) in
-    let a = within-yes (pos 10) (pos 100) (x .scale) (not-not (scaleIn (x .scale)) (t .0)) in
-    let i = within-yes (pos 0) (pos 20000) (x .shift) (not-not (shiftIn (x .shift)) (t .1)) in
-    let q = query-few n m x h in
+    let w = window-line (x .window) n (passed-line h 3) .0 in
+    let d = width-line (x .width) (passed-line h 4) in
+    let g = merge-line (x .merge) (passed-line h 5) in
+    let b = band-line m (x .band) (passed-line h 8) in
+    let e = threshold-line (x .threshold) (passed-line h 9) in
+    let t = scale-line (x .scale) (x .shift) (passed-line h 10) in
     record {
-      window = record { least = omega (zarith, w .low); most = w .high };
-      width = record { least = omega (zarith, d .low); most = d .high };
-      merge = record { least = g .low; most = g .high };
-      band = record { least = b .low; most = omega (zarith, b .high, z-sub (pos m) (pos 1), q) };
-      threshold = record { least = e .low; most = e .high };
-      scale = record { least = omega (zarith, a .low); most = a .high };
-      shift = record { least = i .low; most = i .high };
+      window = upto w;
+      width = upto d;
+      merge = upto g;
+      band = record { least = b .low; most = omega (zarith, b .high, z-sub (pos m) (pos 1), query-few n m x h) };
+      threshold = upto e;
+      scale = upto (t .0);
+      shift = upto (t .1);
     }
 
 natural : {k : ℕ} (z : ℤ) → Upto k z → pos (natAbs z) ≡ z

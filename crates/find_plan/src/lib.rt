@@ -1,7 +1,9 @@
 // What the search program knows of its input, read in pieces, and what refuses it at the end: a text that cannot be read, then build and search judged together as one call (01, 'Text and program').
 use conditions::Refusal;
+use conditions::length_in;
 use conditions::query_length_outside;
 use conditions::refuse_if;
+use conditions::unrefused;
 use meaning_filter::Ask;
 use meaning_filter::Kind;
 use meaning_filter::Limits;
@@ -23,9 +25,9 @@ ghost use lib.Signed.{_≤ℤ_, ltZ};
 ghost use Rattle.meaning_numbers.specs.Order.{within};
 ghost use Rattle.meaning_curves.specs.Limits.{bandIn};
 ghost use Rattle.meaning_text.specs.Read.{lineOf};
-ghost use Rattle.conditions.specs.Refusal.{refusalOf};
+ghost use Rattle.conditions.specs.Refusal.{refusalOf, refuseAt};
 ghost use Rattle.find_plan.specs.Input.{start, Open, ReadOn};
-ghost use Rattle.find_plan.specs.Tables.{numbersAt, kindOf, valuesTable, numbersTable, callTable, endTable, askedOf, isDone, Sound, SoundEnd, Limited};
+ghost use Rattle.find_plan.specs.Tables.{numbersAt, kindOf, firstOut, valuesTable, numbersTable, callTable, endTable, askedOf, isDone, Sound, SoundEnd, Limited};
 
 // How far the input has been read, and the line that it stands in; or the line of its first bad byte.
 pub enum Input {
@@ -151,33 +153,25 @@ fn band_outside(m: usize, band: i64) -> bool
     outside(0, most, band)
 }
 
-// The length of the series, then its values, then those of the query.
-pub fn refuse_values(v: Values, q: Values) -> Refusal
-    ensures { λ r. ⌜ r ≡ refusalOf (valuesTable v q) ⌝ }
+// The first value outside its limits, or else what comes after it.
+fn refuse_value(v: Values, after: Refusal) -> Refusal
+    ensures { λ r. ⌜ r ≡ refuseAt 2 (firstOut v) after ⌝ }
 {
-    let n = v.count;
-    if !((1 <= n) & (n <= 4096)) {
-        return Refusal {
-            number: 1,
-            place: 0,
-        };
-    }
-    if v.inside < n {
+    if v.inside < v.count {
         return Refusal {
             number: 2,
             place: v.inside,
         };
     }
-    if q.inside < q.count {
-        return Refusal {
-            number: 2,
-            place: q.inside,
-        };
-    }
-    Refusal {
-        number: 0,
-        place: 0,
-    }
+    after
+}
+
+// The length of the series, then its values, then those of the query.
+pub fn refuse_values(v: Values, q: Values) -> Refusal
+    ensures { λ r. ⌜ r ≡ refusalOf (valuesTable v q) ⌝ }
+{
+    let values = refuse_value(v, refuse_value(q, unrefused()));
+    refuse_if(!length_in(4096, v.count), 1, values)
 }
 
 // The single numbers, for a series of n values and a query of m.
@@ -185,14 +179,10 @@ pub fn refuse_numbers(n: usize, m: usize, x: Numbers) -> Refusal
     requires { ⌜ (n < 2 ^ 63) × (m < 2 ^ 63) ⌝ }
     ensures { λ r. ⌜ r ≡ refusalOf (numbersTable n m x) ⌝ }
 {
-    let none = Refusal {
-        number: 0,
-        place: 0,
-    };
     let scale = refuse_if(
         outside(10, 100, x.scale) | outside(0, 20000, x.shift),
         10,
-        none,
+        unrefused(),
     );
     let threshold = refuse_if(outside(0, 1000000000000, x.threshold), 9, scale);
     let band = refuse_if(band_outside(m, x.band), 8, threshold);
@@ -217,11 +207,7 @@ pub fn refuse_call(v: Values, q: Values, x: Numbers, query: &[i32]) -> Refusal
     if numbers.number != 0 {
         return numbers;
     }
-    let none = Refusal {
-        number: 0,
-        place: 0,
-    };
-    refuse_if(normal_flat(kind_of(x.raw), &query[..m]), 11, none)
+    refuse_if(normal_flat(kind_of(x.raw), &query[..m]), 11, unrefused())
 }
 
 fn is_done(s: State) -> bool

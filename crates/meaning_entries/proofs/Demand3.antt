@@ -3,12 +3,14 @@
 use mathlib.Core.Path.{_≡_, sym, ap, subst, _∙_}
 use mathlib.Core.List.{List}
 use Prim.Native.Nat.{ℕ}
+use native.Mathlib.Omega.{arith}
 use lib.ListN.{length}
 use Rattle.meaning_filter.specs.Matches.{allMatches, Exactly}
 use Rattle.meaning_filter.proofs.Matches.{all-found, all-exactly}
 use Rattle.meaning_entries.specs.Search.{SearchCall, question, searchPlan, searchTable}
 use Rattle.meaning_entries.specs.Demand3.{Searched, through, Demand3}
-use Rattle.meaning_entries.proofs.Refusal.{is-passed, openLines, passed-line, query-some, scale-some}
+use Rattle.meaning_entries.proofs.Refusal.{is-passed, openLines, passed-line}
+use Rattle.meaning_entries.proofs.Lines.{query-line, scale-line}
 use Rattle.meaning_entries.proofs.Listed.{answered, listed-is}
 use Rattle.meaning_entries.proofs.Passes.{passes-reached}
 
@@ -18,7 +20,7 @@ unfolding openLines question searchPlan searchTable
 all-listed c n l s =
     let a = answered c (s .before) (s .kept .answered) in
     let t = is-passed (searchTable c (s .before)) (a .passed) in
-    let f = all-found (c .index) (question c) (passes-reached (c .index) (c .series) (s .passes)) (query-some (length (c .query)) (length (c .series)) (passed-line t 6)) (scale-some (c .ask .scale) (c .ask .shift) (passed-line t 10)) in
+    let f = all-found (c .index) (question c) (passes-reached (c .index) (c .series) (s .passes)) (query-line (length (c .query)) (length (c .series)) (passed-line t 6) .0 .least) (omega (arith, scale-line (c .ask .scale) (c .ask .shift) (passed-line t 10) .0 .least)) in
     (s .listed ∙ listed-is c (s .before) (s .after) (s .kept) ∙ f, a .counted ∙ ap length f)
 
 pub demand3 : Demand3

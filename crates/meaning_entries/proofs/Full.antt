@@ -15,7 +15,8 @@ use Rattle.meaning_entries.specs.Audit.{Passes}
 use Rattle.meaning_entries.specs.Search.{SearchCall, SearchBuffers, question, listRoom, searchMatches, searchCandidates, searchPlan, searchAnswer, lookedAfter}
 use Rattle.meaning_entries.specs.Demand2.{SearchKept}
 use Rattle.meaning_entries.specs.Demand3.{pairs}
-use Rattle.meaning_entries.proofs.Refusal.{is-passed, openLines, passed-line, query-some, scale-some}
+use Rattle.meaning_entries.proofs.Refusal.{is-passed, openLines, passed-line}
+use Rattle.meaning_entries.proofs.Lines.{query-line, scale-line}
 use Rattle.meaning_entries.proofs.Looked.{plan-refused, plan-all, plan-full}
 use Rattle.meaning_entries.proofs.Listed.{pairs-back}
 use Rattle.meaning_entries.proofs.Passes.{passes-reached}
@@ -65,7 +66,7 @@ module _ (c : SearchCall) (before after : SearchBuffers) {a n : ℕ} (k : Search
     unfolding openLines question searchPlan
     all =
         let t = is-passed (searchPlan c before) (f .unrefused) in
-        all-found (c .index) (question c) (passes-reached (c .index) (c .series) p) (query-some (length (c .query)) (length (c .series)) (passed-line t 6)) (scale-some (c .ask .scale) (c .ask .shift) (passed-line t 10))
+        all-found (c .index) (question c) (passes-reached (c .index) (c .series) p) (query-line (length (c .query)) (length (c .series)) (passed-line t 6) .0 .least) (omega (arith, scale-line (c .ask .scale) (c .ask .shift) (passed-line t 10) .0 .least))
 
     pub full-all : (take (listRoom before) (pairs (after .offsets) (after .distances)) ≡ take (listRoom before) (allMatches (question c))) × (n ≡ length (allMatches (question c)))
     full-all = (full-listed ∙ ap (take (listRoom before)) all, f .counted ∙ ap length all)

@@ -1,6 +1,7 @@
 -- What the definitions imply, by subject.
 pub mod Open
 pub mod Refusal
+pub mod Lines
 pub mod Tables
 pub mod Looked
 pub mod Demand1

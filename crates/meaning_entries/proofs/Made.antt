@@ -1,7 +1,7 @@
 -- What a build that is not refused makes passes against its series (`build-passes`); so does what an extension makes of an index that passes against the part of the series that it has windows for (`extend-passes`). Each has at most as many rows and runs as windows.
 -- So what the search program lists is all matches (`program-all`). Assumes nothing.
-use mathlib.Core.Path.{_≡_, subst}
-use mathlib.Core.Bool.{Bool, true, not, _||_}
+use mathlib.Core.Path.{_≡_, refl}
+use mathlib.Core.Bool.{Bool, not}
 use mathlib.Core.List.{List}
 use mathlib.Core.Option.{none}
 use Prim.Native.Nat.{ℕ, _+_, _-_, _≤_}
@@ -9,27 +9,26 @@ use native.Mathlib.Omega.{arith}
 use lib.Dec.{T}
 use lib.IntN.{ℤ, pos, natAbs, _-ℤ_}
 use lib.ListN.{length, take}
-use lib.Signed.{_≤ℤ_, ltZ, ltZ-no}
 use Rattle.meaning_numbers.proofs.Rep.{zarith, z-add, z-sub}
-use Rattle.meaning_numbers.proofs.Tests.{is-true, not-not, neither}
-use Rattle.meaning_numbers.proofs.Between.{within-yes}
-use Rattle.meaning_curves.specs.Limits.{mostValues, mostProgramValues, lengthIn, windowIn, widthIn, firstOutside}
+use Rattle.meaning_numbers.proofs.Tests.{not-not}
+use Rattle.meaning_curves.specs.Limits.{mostValues, mostProgramValues, lengthIn, firstOutside}
 use Rattle.meaning_rows.specs.Build.{built}
 use Rattle.meaning_rows.specs.Extend.{extended}
-use Rattle.meaning_rows.proofs.Judge.{between, WellFormed, well-formed}
+use Rattle.meaning_rows.proofs.Judge.{is-within, WellFormed}
 use Rattle.meaning_rows.proofs.BuiltPasses.{Buildable, built-well-formed, built-filed, built-most}
 use Rattle.meaning_rows.proofs.Extend.{Extendable, extended-well-formed, extended-filed, extended-most}
 use Rattle.meaning_filter.specs.Matches.{allMatches}
 use Rattle.meaning_filter.proofs.Candidates.{filed-reached}
 use Rattle.meaning_filter.proofs.Matches.{all-found}
-use Rattle.meaning_entries.specs.Refusal.{atZero, firstRefusal, windowsOf}
+use Rattle.meaning_entries.specs.Refusal.{atZero, firstRefusal, windowOutside, widthOutside}
 use Rattle.meaning_entries.specs.Buffers.{IndexBuffers}
 use Rattle.meaning_entries.specs.Audit.{Passes}
 use Rattle.meaning_entries.specs.Build.{BuildCall, buildTable, buildRefusal, buildIndex, buildWindows}
 use Rattle.meaning_entries.specs.Search.{question, searchMatches}
 use Rattle.meaning_entries.specs.Program.{textProgram, callLines, programTable, programIndex, programSearch}
 use Rattle.meaning_entries.specs.Extend.{ExtendCall, extendTable, extendRefusal, extendIndex, extendWindows}
-use Rattle.meaning_entries.proofs.Refusal.{is-passed, openLines, passed-line, not-if, query-some, scale-some}
+use Rattle.meaning_entries.proofs.Refusal.{is-passed, openLines, passed-line, not-if}
+use Rattle.meaning_entries.proofs.Lines.{long-line, window-line, width-line, formed-line, more-line, query-line, scale-line}
 use Rattle.meaning_entries.proofs.Passes.{Passed, passed, passes}
 
 -- a test that does not refuse where its failing would
@@ -39,24 +38,17 @@ holds n t e = not-not t (not-if n (not t) e)
 -- ---- a build
 
 -- numbers in their limits, as their lines of a table say
-limits-buildable : (s : List ℤ) (w d : ℤ) → length s ≤ mostValues → firstOutside s ≡ none → T (not (not (windowIn w) || ltZ (pos (length s)) w)) → T (widthIn d) → Buildable s (natAbs w) (natAbs d)
+limits-buildable : (s : List ℤ) (w d : ℤ) → length s ≤ mostValues → firstOutside s ≡ none → windowOutside w (length s) .place ≡ none → widthOutside d .place ≡ none → Buildable s (natAbs w) (natAbs d)
 limits-buildable s w d short values t u =
-    let v = neither (not (windowIn w)) (ltZ (pos (length s)) w) t in
-    let i = is-true (windowIn w) (not-not (windowIn w) (v .0)) in
-    let j = is-true (widthIn d) u in
-    let p : w ≡ pos (natAbs w) = between 1 256 w i .is in
-    let q : d ≡ pos (natAbs d) = between 1 1000000 d j .is in
-    let n : w ≤ℤ pos (length s) = ltZ-no {a = pos (length s)} {b = w} (v .1) in
+    let i = window-line w (length s) t in
+    let j = width-line d u in
     record {
-      window = subst (λ (z : ℤ). windowIn z ≡ true) p i;
-      width = subst (λ (z : ℤ). widthIn z ≡ true) q j;
-      long = omega zarith;
+      window = is-within 1 256 (pos (natAbs w)) (record { is = refl; least = i .0 .least; most = i .0 .most });
+      width = is-within 1 1000000 (pos (natAbs d)) (record { is = refl; least = j .least; most = j .most });
+      long = omega (zarith, i .0 .is, i .1);
       short = short;
       values = values;
     }
-
-length-in : (most n : ℕ) → T (lengthIn most n) → n ≤ most
-length-in most n t = let l = within-yes (pos 1) (pos most) (pos n) t in omega (zarith, l .high)
 
 -- what is built of them
 built-passed : (s : List ℤ) (w d g : ℕ) → Buildable s w d → Passed (built s w d g) s
@@ -72,8 +64,7 @@ unfolding openLines buildTable
 buildable c b e =
     let t = is-passed (buildTable c b) e in
     let s = c .series in
-    limits-buildable s (c .window) (c .width) (length-in mostValues (length s) (build-long c b e)) (passed-line t 2)
-    (not-if 3 (not (windowIn (c .window)) || ltZ (pos (length s)) (c .window)) (passed-line t 3)) (holds 4 (widthIn (c .width)) (passed-line t 4))
+    limits-buildable s (c .window) (c .width) (long-line mostValues (length s) (passed-line t 1) .most) (passed-line t 2) (passed-line t 3) (passed-line t 4)
 
 pub build-passes : (c : BuildCall) (b : IndexBuffers) → buildRefusal c b ≡ none → Passes (buildIndex c) (c .series)
 unfolding buildIndex
@@ -88,26 +79,26 @@ build-most c b e = built-most (c .series) (natAbs (c .window)) (natAbs (c .width
 -- ---- an extension
 
 module _ (c : ExtendCall) (b : IndexBuffers) (e : extendRefusal c b ≡ none) where
-  extend-formed : WellFormed (c .index)
+  pub extend-formed : WellFormed (c .index)
   unfolding openLines extendTable
-  extend-formed = well-formed (c .index) (passed-line (is-passed (extendTable c b) e) 20)
+  extend-formed = formed-line (c .index) (passed-line (is-passed (extendTable c b) e) 20)
 
   extend-long : T (lengthIn mostValues (length (c .series)))
   unfolding openLines extendTable
   extend-long = holds 1 (lengthIn mostValues (length (c .series))) (passed-line (is-passed (extendTable c b) e) 1)
 
-  extendable : Extendable (c .index) (c .series)
+  pub extendable : Extendable (c .index) (c .series)
   unfolding openLines extendTable
   extendable =
       let t = is-passed (extendTable c b) e in
       let x = c .index in
       let s = c .series in
-      let n : x .windows ≤ℤ windowsOf x (length s) = ltZ-no {a = windowsOf x (length s)} {b = x .windows} (not-if 22 (ltZ (windowsOf x (length s)) (x .windows)) (passed-line t 22)) in
+      let n = more-line x (length s) (passed-line t 22) in
       let p : x .window ≡ pos (natAbs (x .window)) = extend-formed .head .window .is in
       let q : x .windows ≡ pos (natAbs (x .windows)) = extend-formed .head .windows .is in
       record {
         longer = omega (zarith, z-add (pos (length s) -ℤ x .window) (pos 1), z-sub (pos (length s)) (x .window));
-        short = length-in mostValues (length s) extend-long;
+        short = long-line mostValues (length s) (passed-line t 1) .most;
         values = passed-line t 2;
       }
 
@@ -133,9 +124,7 @@ unfolding openLines callLines programTable
 program-buildable t e =
     let c = textProgram t in
     let p = is-passed (programTable t) e in
-    let n = length-in mostProgramValues (length (c .series)) (holds 1 (lengthIn mostProgramValues (length (c .series))) (passed-line p 1)) in
-    limits-buildable (c .series) (c .window) (c .width) (omega arith) (passed-line p 2)
-    (not-if 3 (not (windowIn (c .window)) || ltZ (pos (length (c .series))) (c .window)) (passed-line p 3)) (holds 4 (widthIn (c .width)) (passed-line p 4))
+    limits-buildable (c .series) (c .window) (c .width) (omega (arith, long-line mostProgramValues (length (c .series)) (passed-line p 1) .most)) (passed-line p 2) (passed-line p 3) (passed-line p 4)
 
 -- what it lists, where it does not refuse, is all matches
 pub program-all : (t : List ℕ) → firstRefusal (programTable t) ≡ none → let x = programSearch (textProgram t) in searchMatches x ≡ allMatches (question x)
@@ -146,4 +135,4 @@ program-all t e =
     let p = is-passed (programTable t) e in
     let y = built-passed (c .series) (natAbs (c .window)) (natAbs (c .width)) (natAbs (c .merge)) (program-buildable t e) in
     all-found (x .index) (question x) (filed-reached (x .index) (c .series) (y .filed) (y .windows))
-    (query-some (length (c .query)) (length (c .series)) (passed-line p 6)) (scale-some (c .ask .scale) (c .ask .shift) (passed-line p 10))
+    (query-line (length (c .query)) (length (c .series)) (passed-line p 6) .0 .least) (omega (arith, scale-line (c .ask .scale) (c .ask .shift) (passed-line p 10) .0 .least))

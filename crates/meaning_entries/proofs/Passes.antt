@@ -1,6 +1,5 @@
 -- What it says that an index passes against a series (`passed`): it is well formed, it has n - w + 1 windows, and each stands in the row that holds its sum and in no other; and back (`passes`). So every window can be reached by the filter (`passes-reached`), and on a yes the run lengths total the windows (`passes-total`). Assumes nothing.
 use mathlib.Core.Path.{_≡_, refl}
-use mathlib.Core.Bool.{Bool, true, false, not}
 use mathlib.Core.List.{List}
 use mathlib.Core.Option.{Option, none, some}
 use Prim.Native.Nat.{ℕ, zero, suc, _+_}
@@ -8,21 +7,20 @@ use native.Mathlib.Omega.{arith}
 use lib.Dec.{T}
 use lib.IntN.{ℤ, pos, natAbs, _-ℤ_}
 use lib.ListN.{length}
-use lib.Signed.{_≤ℤ_, ltZ, ltZ-no}
+use lib.Signed.{_≤ℤ_}
 use Rattle.meaning_numbers.proofs.Rep.{zarith, z-add, z-sub}
-use Rattle.meaning_numbers.proofs.Machine.{le-ltZ}
-use Rattle.meaning_numbers.proofs.Tests.{yes-not-not}
 use Rattle.meaning_curves.specs.Limits.{mostValues, lengthIn, firstOutside}
 use Rattle.meaning_rows.specs.Index.{Index}
 use Rattle.meaning_rows.specs.Audit.{firstWrong, missing}
 use Rattle.meaning_rows.specs.Judge.{lengthTotal}
-use Rattle.meaning_rows.proofs.Judge.{WellFormed, well-formed, none-bad}
+use Rattle.meaning_rows.proofs.Judge.{WellFormed, none-bad}
 use Rattle.meaning_rows.proofs.Audit.{Filed, audit-yes, filed-passes, yes-total}
 use Rattle.meaning_filter.proofs.Candidates.{Reached, filed-reached}
 use Rattle.meaning_entries.specs.declared.Audited.{Audited}
-use Rattle.meaning_entries.specs.Refusal.{atZero, firstRefusal, lengthOutside, valueOutside, illFormed, windowsOf, fewerWindows, moreWindows}
+use Rattle.meaning_entries.specs.Refusal.{firstRefusal, illFormed, windowsOf}
 use Rattle.meaning_entries.specs.Audit.{AuditCall, auditTable, complete, audited, auditAnswer, Passes}
-use Rattle.meaning_entries.proofs.Refusal.{end, more, passed-is, is-passed, openLines, passed-line, not-if}
+use Rattle.meaning_entries.proofs.Refusal.{more, passed-is, passed-join, is-passed, openLines, passed-line}
+use Rattle.meaning_entries.proofs.Lines.{formed-line, fewer-line, more-line, series-passes, count-passes}
 
 -- yes is said where nothing refuses, nothing is filed wrongly and nothing is missing
 record Yes (c : AuditCall) : Type 0 where
@@ -64,12 +62,10 @@ passed x s p =
     let c : AuditCall = record { series = s; index = x } in
     let y = yes-free c (firstRefusal (auditTable mostValues c)) refl p in
     let t = is-passed (auditTable mostValues c) (y .free) in
-    let g = well-formed x (passed-line t 20) in
+    let g = formed-line x (passed-line t 20) in
     record {
       formed = g;
-      windows = same-windows x s g
-          (ltZ-no {a = x .windows} {b = windowsOf x (length s)} (not-if 21 (ltZ (x .windows) (windowsOf x (length s))) (passed-line t 21)))
-          (ltZ-no {a = windowsOf x (length s)} {b = x .windows} (not-if 22 (ltZ (windowsOf x (length s)) (x .windows)) (passed-line t 22)));
+      windows = same-windows x s g (fewer-line x (length s) (passed-line t 21)) (more-line x (length s) (passed-line t 22));
       filed = audit-yes x s g (y .right) (y .full);
     }
 
@@ -81,19 +77,12 @@ passes-total x s p = let y = passed x s p in yes-total x s (y .formed) (y .filed
 
 -- ---- and back
 
-no-lt : {a b : ℤ} → b ≤ℤ a → T (not (ltZ a b))
-no-lt {a} {b} h = rw (le-ltZ {a = a} {b = b} h) tt
-
-not-applies : (n : ℕ) (t : Bool) → T (not t) → atZero n t .place ≡ none
-not-applies n true h = absurd h
-not-applies n false h = refl
-
 yes-said : (c : AuditCall) → firstRefusal (auditTable mostValues c) ≡ none → firstWrong (c .index) (c .series) ≡ none → missing (c .index) ≡ 0 → auditAnswer c ≡ Audited.Yes
 unfolding auditAnswer audited complete
 yes-said c free right full = rw (free, auditAnswer) (rw (right, audited) (rw full refl))
 
 pub passes : (x : Index) (s : List ℤ) → T (lengthIn mostValues (length s)) → firstOutside s ≡ none → Passed x s → Passes x s
-unfolding auditTable lengthOutside valueOutside illFormed fewerWindows moreWindows
+unfolding auditTable illFormed
 passes x s long values p =
     let c : AuditCall = record { series = s; index = x } in
     let f = filed-passes x s (p .formed) (p .filed) in
@@ -103,8 +92,5 @@ passes x s long values p =
     let a = z-add (pos (length s) -ℤ x .window) (pos 1) in
     let b = z-sub (pos (length s)) (x .window) in
     yes-said c
-    (passed-is (more (not-applies 1 (not (lengthIn mostValues (length s))) (yes-not-not (lengthIn mostValues (length s)) long))
-    (more values (more (none-bad x (p .formed))
-    (more (not-applies 21 (ltZ (x .windows) (windowsOf x (length s))) (no-lt {a = x .windows} {b = windowsOf x (length s)} (omega (zarith, a, b))))
-    (more (not-applies 22 (ltZ (windowsOf x (length s)) (x .windows)) (no-lt {a = windowsOf x (length s)} {b = x .windows} (omega (zarith, a, b)))) end))))))
+    (passed-is (passed-join (series-passes mostValues s long values) (more (none-bad x (p .formed)) (count-passes (length s) x (omega (zarith, a, b)) (omega (zarith, a, b))))))
     (f .0) (f .1)

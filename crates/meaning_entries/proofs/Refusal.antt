@@ -1,18 +1,13 @@
 -- The tables of refusals are total and exclusive: a call is refused by exactly one line, the first that applies, or by none, and then no line applies. A table in two parts is refused by the first part or else by the second (`first-left`, `first-right`). By induction on the table. Assumes nothing.
 use mathlib.Core.Path.{_≡_, refl, sym, _∙_, ap, subst₂}
-use mathlib.Core.Bool.{Bool, true, false, not, cond, _&&_, _||_}
+use mathlib.Core.Bool.{Bool, true, false, not, cond, _&&_}
 use mathlib.Core.List.{List, [], _∷_, _++_}
 use mathlib.Core.Logic.{_⊎_, inl, inr}
 use mathlib.Core.Option.{Option, none, some}
-use Prim.Native.Nat.{ℕ, zero, suc, _<_}
+use Prim.Native.Nat.{ℕ}
 use native.Mathlib.Omega.{arith}
-use lib.Dec.{T, eqb, ltb}
-use lib.IntN.{ℤ, pos, natAbs}
-use Rattle.meaning_numbers.proofs.Rep.{zarith}
-use Rattle.meaning_numbers.proofs.Machine.{z-abs}
-use Rattle.meaning_numbers.proofs.Tests.{is-false, two-tests, not-not, neither}
-use Rattle.meaning_numbers.proofs.Between.{within-yes}
-use Rattle.meaning_curves.specs.Limits.{queryLengthIn, scaleIn, shiftIn}
+use lib.Dec.{T, eqb}
+use Rattle.meaning_numbers.proofs.Tests.{is-false, two-tests}
 use Rattle.meaning_entries.specs.Refusal.{Condition, firstRefusal, atZero, lengthOutside, valueOutside, windowOutside, widthOutside, mergeOutside, queryLengthOutside, queryBelowWindow, bandOutside, thresholdOutside, scaleOrShiftOutside, flatQuery, unreadable, illFormed, fewerWindows, moreWindows, bufferShort, listShort}
 
 -- no line applies
@@ -116,6 +111,18 @@ pub passed-both : (a b : List Condition) → Passed (a ++ b) → Passed a × Pas
 passed-both [] b h = (end, h)
 passed-both (c ∷ a) b (more e h) = let k = passed-both a b h in (more e (k .0), k .1)
 
+pub passed-join : {a b : List Condition} → Passed a → Passed b → Passed (a ++ b)
+passed-join end k = k
+passed-join (more e h) k = more e (passed-join h k)
+
+-- two tables that refuse the same behind a part that both have
+pub same-behind : (a x y : List Condition) → (Passed a → firstRefusal x ≡ firstRefusal y) → firstRefusal (a ++ x) ≡ firstRefusal (a ++ y)
+same-behind a x y f = by (judged a)
+  where
+    by : Passed a ⊎ ((n : ℕ) × (p : ℕ) × First a n p) → firstRefusal (a ++ x) ≡ firstRefusal (a ++ y)
+    by (inl h) = first-right x h ∙ f h ∙ sym (first-right y h)
+    by (inr h) = first-is (first-left x (h .2)) ∙ sym (first-is (first-left y (h .2)))
+
 -- ---- a line of a table that passed, by its number
 
 -- every line's number, which stays shut until it is named: a proof that cites a line by its number says `unfolding openLines`
@@ -146,19 +153,3 @@ passed-behind (more {c} {l} e h) n = either (eqb (c .number) n) l (behind n l) h
 pub not-if : (n : ℕ) (t : Bool) → atZero n t .place ≡ none → T (not t)
 not-if n true e = none-some (sym e)
 not-if n false e = tt
-
--- ---- a query and a scale limit that are not refused
-
-pub query-some : (m n : ℕ) → queryLengthOutside m n .place ≡ none → 0 < m
-unfolding queryLengthOutside
-query-some m n e =
-    let t = neither (not (queryLengthIn m)) (ltb n m) (not-if 6 (not (queryLengthIn m) || ltb n m) e) in
-    let w = within-yes (pos 1) (pos 1024) (pos m) (not-not (queryLengthIn m) (t .0)) in
-    omega (zarith, w .low)
-
-pub scale-some : (a h : ℤ) → scaleOrShiftOutside a h .place ≡ none → 0 < natAbs a
-unfolding scaleOrShiftOutside
-scale-some a h e =
-    let t = neither (not (scaleIn a)) (not (shiftIn h)) (not-if 10 (not (scaleIn a) || not (shiftIn h)) e) in
-    let w = within-yes (pos 10) (pos 100) a (not-not (scaleIn a) (t .0)) in
-    omega (zarith, w .low, z-abs a)

@@ -1,6 +1,6 @@
 -- The entry audit, and what it is for an index to pass against a series. Assumes nothing.
 use mathlib.Core.Path.{_≡_}
-use mathlib.Core.List.{List, [], _∷_}
+use mathlib.Core.List.{List, _∷_, _++_}
 use mathlib.Core.Option.{Option, none, some}
 use Prim.Native.Nat.{ℕ, zero, suc}
 use lib.IntN.{ℤ}
@@ -11,7 +11,7 @@ use Rattle.meaning_rows.specs.declared.Head.{Head}
 use Rattle.meaning_rows.specs.Index.{Index, lent}
 use Rattle.meaning_rows.specs.Audit.{firstWrong, missing}
 use Rattle.meaning_entries.specs.declared.Audited.{Audited}
-use Rattle.meaning_entries.specs.Refusal.{Condition, firstRefusal, lengthOutside, valueOutside, illFormed, fewerWindows, moreWindows}
+use Rattle.meaning_entries.specs.Refusal.{Condition, firstRefusal, illFormed, seriesLines, countLines}
 
 -- the series, and the index that is to have its windows
 pub record AuditCall : Type 0 where
@@ -25,12 +25,9 @@ lentAudit series head rows left right = record { series = series; index = lent h
 -- the refusals, in order; `most` is the most values that the call takes
 unfoldable pub auditTable : ℕ → AuditCall → List Condition
 auditTable most c =
-    lengthOutside most (length (c .series))
-    ∷ valueOutside (c .series)
-    ∷ illFormed (c .index)
-    ∷ fewerWindows (c .index) (length (c .series))
-    ∷ moreWindows (c .index) (length (c .series))
-    ∷ []
+    seriesLines most (c .series)
+    ++ (illFormed (c .index)
+    ∷ countLines (length (c .series)) (c .index))
 
 -- where none is filed wrongly: yes, or how many windows stand nowhere
 unfoldable pub complete : ℕ → Audited

@@ -10,7 +10,7 @@ use Rattle.meaning_rows.specs.declared.Head.{Head}
 use Rattle.meaning_rows.specs.Index.{Index}
 use Rattle.meaning_rows.specs.Build.{built}
 use Rattle.meaning_entries.specs.declared.Built.{Built}
-use Rattle.meaning_entries.specs.Refusal.{Condition, firstRefusal, lengthOutside, valueOutside, windowOutside, widthOutside, mergeOutside, bufferShort}
+use Rattle.meaning_entries.specs.Refusal.{Condition, firstRefusal, windowOutside, widthOutside, mergeOutside, seriesLines, roomLines}
 use Rattle.meaning_entries.specs.Buffers.{IndexBuffers, runRoom, indexIn}
 use Rattle.meaning_entries.specs.Answers.{headOf}
 
@@ -33,15 +33,15 @@ buildWindows c = windowCount (length (c .series)) (natAbs (c .window))
 abbrev pub widthLines : ℕ → ℤ → ℤ → ℤ → List Condition
 widthLines n w d g = windowOutside w n ∷ widthOutside d ∷ mergeOutside g ∷ []
 
--- the refusals, in order
+-- the refusals, in order, where so many rows and runs have room
+abbrev pub buildLines : BuildCall → ℕ → ℕ → List Condition
+buildLines c rows runs =
+    seriesLines mostValues (c .series)
+    ++ (widthLines (length (c .series)) (c .window) (c .width) (c .merge)
+    ++ roomLines rows (buildWindows c) runs (buildWindows c))
+
 unfoldable pub buildTable : BuildCall → IndexBuffers → List Condition
-buildTable c b =
-    lengthOutside mostValues (length (c .series))
-    ∷ valueOutside (c .series)
-    ∷ (widthLines (length (c .series)) (c .window) (c .width) (c .merge)
-    ++ (bufferShort (length (b .rows)) (buildWindows c)
-    ∷ bufferShort (runRoom b) (buildWindows c)
-    ∷ []))
+buildTable c b = buildLines c (length (b .rows)) (runRoom b)
 
 abbrev pub buildRefusal : BuildCall → IndexBuffers → Option (ℕ × ℕ)
 buildRefusal c b = firstRefusal (buildTable c b)

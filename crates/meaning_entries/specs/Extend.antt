@@ -1,5 +1,5 @@
 -- The entry extend: the old index is lent, the result goes to fresh buffers. Assumes nothing.
-use mathlib.Core.List.{List, [], _∷_}
+use mathlib.Core.List.{List, _∷_, _++_}
 use mathlib.Core.Option.{Option, none, some}
 use Prim.Native.Nat.{ℕ}
 use lib.IntN.{ℤ, natAbs}
@@ -11,7 +11,7 @@ use Rattle.meaning_rows.specs.declared.Head.{Head}
 use Rattle.meaning_rows.specs.Index.{Index, lent}
 use Rattle.meaning_rows.specs.Extend.{extended}
 use Rattle.meaning_entries.specs.declared.Extended.{Extended}
-use Rattle.meaning_entries.specs.Refusal.{Condition, firstRefusal, lengthOutside, valueOutside, illFormed, moreWindows, bufferShort}
+use Rattle.meaning_entries.specs.Refusal.{Condition, firstRefusal, illFormed, moreWindows, seriesLines, roomLines}
 use Rattle.meaning_entries.specs.Buffers.{IndexBuffers, runRoom, indexIn}
 use Rattle.meaning_entries.specs.Answers.{headOf}
 
@@ -28,16 +28,16 @@ lentExtend series head rows left right = record { series = series; index = lent 
 abbrev pub extendWindows : ExtendCall → ℕ
 extendWindows c = windowCount (length (c .series)) (natAbs (c .index .window))
 
+-- 22 and 23: the old index's windows for a series of n values, and room for so many rows and runs
+abbrev pub growLines : ℕ → Index → ℕ → ℕ → List Condition
+growLines n x rows runs = let windows = windowCount n (natAbs (x .window)) in moreWindows x n ∷ roomLines rows windows runs windows
+
 -- the refusals, in order
 unfoldable pub extendTable : ExtendCall → IndexBuffers → List Condition
 extendTable c b =
-    lengthOutside mostValues (length (c .series))
-    ∷ valueOutside (c .series)
-    ∷ illFormed (c .index)
-    ∷ moreWindows (c .index) (length (c .series))
-    ∷ bufferShort (length (b .rows)) (extendWindows c)
-    ∷ bufferShort (runRoom b) (extendWindows c)
-    ∷ []
+    seriesLines mostValues (c .series)
+    ++ (illFormed (c .index)
+    ∷ growLines (length (c .series)) (c .index) (length (b .rows)) (runRoom b))
 
 abbrev pub extendRefusal : ExtendCall → IndexBuffers → Option (ℕ × ℕ)
 extendRefusal c b = firstRefusal (extendTable c b)

@@ -9,7 +9,7 @@ use Rattle.meaning_rows.specs.Index.{Index}
 use Rattle.meaning_text.specs.Read.{fine, unfit, readText}
 use Rattle.meaning_text.specs.Texts.{indexForm, indexSaid}
 use Rattle.meaning_entries.specs.declared.Loaded.{Loaded}
-use Rattle.meaning_entries.specs.Refusal.{Condition, firstRefusal, unreadable, illFormed, bufferShort}
+use Rattle.meaning_entries.specs.Refusal.{Condition, firstRefusal, unreadable, illFormed, roomLines}
 use Rattle.meaning_entries.specs.Buffers.{IndexBuffers, runRoom, indexIn}
 use Rattle.meaning_entries.specs.Answers.{headOf}
 
@@ -20,14 +20,15 @@ textIndex t = elim (readText indexForm t) [
   | unfit p ↦ record { window = pos 0; width = pos 0; windows = pos 0; rows = []; runs = [] }
 ]
 
--- the refusals, in order
-unfoldable pub loadTable : List ℕ → IndexBuffers → List Condition
-loadTable t b =
+-- the refusals, in order, where so many rows and runs have room
+abbrev pub loadLines : List ℕ → ℕ → ℕ → List Condition
+loadLines t rows runs =
     unreadable indexForm 0 t
     ∷ illFormed (textIndex t)
-    ∷ bufferShort (length (b .rows)) (length (textIndex t .rows))
-    ∷ bufferShort (runRoom b) (length (textIndex t .runs))
-    ∷ []
+    ∷ roomLines rows (length (textIndex t .rows)) runs (length (textIndex t .runs))
+
+unfoldable pub loadTable : List ℕ → IndexBuffers → List Condition
+loadTable t b = loadLines t (length (b .rows)) (runRoom b)
 
 abbrev pub loadRefusal : List ℕ → IndexBuffers → Option (ℕ × ℕ)
 loadRefusal t b = firstRefusal (loadTable t b)

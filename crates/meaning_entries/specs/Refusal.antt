@@ -126,3 +126,17 @@ bufferShort room needed = atZero 23 (ltb room needed)
 -- 24: more matches than the list holds, one that holds `room` entries where `found` are
 unfoldable pub listShort : ℕ → ℕ → Condition
 listShort room found = atZero 24 (ltb room found)
+
+-- ---- lines that several tables have
+
+-- 1 and 2: a series, of at most so many values
+abbrev pub seriesLines : ℕ → List ℤ → List Condition
+seriesLines most s = lengthOutside most (length s) ∷ valueOutside s ∷ []
+
+-- 21 and 22: the index's windows, for a series of n values
+abbrev pub countLines : ℕ → Index → List Condition
+countLines n x = fewerWindows x n ∷ moreWindows x n ∷ []
+
+-- 23: two buffers
+abbrev pub roomLines : ℕ → ℕ → ℕ → ℕ → List Condition
+roomLines one needed other wanted = bufferShort one needed ∷ bufferShort other wanted ∷ []

@@ -16,7 +16,7 @@ use Rattle.meaning_filter.specs.declared.Limits.{Limits}
 use Rattle.meaning_filter.specs.declared.Ask.{Ask}
 use Rattle.meaning_filter.specs.Matches.{Question, candidateRuns, candidateCount, matchList}
 use Rattle.meaning_entries.specs.declared.Found.{Found}
-use Rattle.meaning_entries.specs.Refusal.{Condition, firstRefusal, lengthOutside, valueOutside, queryLengthOutside, queryBelowWindow, bandOutside, thresholdOutside, scaleOrShiftOutside, flatQuery, illFormed, fewerWindows, moreWindows, bufferShort, listShort}
+use Rattle.meaning_entries.specs.Refusal.{Condition, firstRefusal, lengthOutside, valueOutside, queryLengthOutside, queryBelowWindow, bandOutside, thresholdOutside, scaleOrShiftOutside, flatQuery, illFormed, listShort, countLines, roomLines}
 use Rattle.meaning_entries.specs.Buffers.{filled, pairRoom}
 
 -- what is asked beside the query. Band b, threshold E, scale limit a, shift limit h are whole numbers, as a text may have any
@@ -89,12 +89,7 @@ limitLines n m w a =
 
 -- 21 to 23: the index's windows for a series of n values, and room for candidates and scratch
 abbrev pub windowLines : ℕ → Index → ℕ → ℕ → List Condition
-windowLines n x candidates scratch =
-    fewerWindows x n
-    ∷ moreWindows x n
-    ∷ bufferShort candidates (windowCount n (natAbs (x .window)))
-    ∷ bufferShort scratch (windowCount n (natAbs (x .window)))
-    ∷ []
+windowLines n x candidates scratch = let windows = windowCount n (natAbs (x .window)) in countLines n x ++ roomLines candidates windows scratch windows
 
 -- what refuses before the search looks, in order
 unfoldable pub searchPlan : SearchCall → SearchBuffers → List Condition

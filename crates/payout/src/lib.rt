@@ -2,7 +2,6 @@
 ghost use mathlib.Core.Path.{_≡_};
 ghost use Prim.Native.Nat.{_+_, _*_, _<_, _≤_, _^_};
 ghost use lib.ListN.{length};
-ghost use Rattle.meaning_curves.specs.Limits.{mostProgramValues, lengthIn};
 ghost use Rattle.meaning_text.specs.Bytes.{newlines};
 ghost use Rattle.meaning_text.specs.Read.{readText};
 ghost use Rattle.meaning_text.specs.Texts.{indexForm};
@@ -12,6 +11,7 @@ ghost use Rattle.meaning_entries.specs.Demand2.{AuditTextKept};
 ghost use Rattle.text_judge.specs.declared.Scanned.{Scanned};
 ghost use Rattle.text_judge.specs.Tally.{scanned};
 ghost use Rattle.payout.specs.Counted.{countedAnswer};
+use conditions::length_in;
 use meaning_entries::Audited;
 use meaning_rows::Head;
 use payout_answer::audit_series;
@@ -21,13 +21,6 @@ use text_judge::Rows;
 use text_judge::Scanned;
 use text_judge::scan;
 use text_reader::bad_line;
-
-// The length of a series is in the limits of the program.
-fn length_fits(n: usize) -> bool
-    ensures { λ b. ⌜ b ≡ lengthIn mostProgramValues n ⌝ }
-{
-    (1 <= n) & (n <= 4096)
-}
 
 // How many newlines a text has.
 fn newline_count(text: &[u8]) -> usize
@@ -42,7 +35,7 @@ fn audit_values(index: &[u8], head: Head, c: Rows, values: &[i32], n: usize) -> 
     requires { ⌜ 4096 ≤ length (now values) ⌝ }
     ensures { λ a. ⌜ a ≡ countedAnswer (textIndex (now (index .entry))) (now (values .entry)) n ⌝ }
 {
-    if !length_fits(n) {
+    if !length_in(4096, n) {
         return Audited::Refused {
             number: 1,
             place: 0,

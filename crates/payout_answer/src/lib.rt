@@ -6,29 +6,14 @@ ghost use Rattle.meaning_entries.specs.Load.{textIndex};
 ghost use Rattle.meaning_entries.specs.Audit.{auditAnswer};
 ghost use Rattle.text_judge.specs.declared.Scanned.{Scanned};
 ghost use Rattle.text_judge.specs.Tally.{scanned};
-ghost use Rattle.payout_answer.specs.Judged.{judgedRows};
 use audit::answer;
 use audit::begin;
 use audit::make_plan;
-use judge::Judged;
-use judge::head_good;
 use meaning_entries::Audited;
 use meaning_rows::Head;
 use payout_walk::walk_rows;
 use text_judge::Rows;
-
-// What judging a text said: the first bad row, 0 for the head, or how many windows stand in runs.
-fn judged_rows(head: Head, c: Rows) -> Judged
-    ensures { λ j. ⌜ j ≡ judgedRows head c ⌝ }
-{
-    if !head_good(head) {
-        return Judged::Bad { row: 0 };
-    }
-    if !c.good {
-        return Judged::Bad { row: c.rows };
-    }
-    Judged::Fine { total: c.taken }
-}
+use text_judge::judged_rows;
 
 // The audit of the index of a text, whose head and rows came to these, against a series.
 pub fn audit_series(index: &[u8], head: Head, c: Rows, series: &[i32]) -> Audited
@@ -36,7 +21,7 @@ pub fn audit_series(index: &[u8], head: Head, c: Rows, series: &[i32]) -> Audite
     ensures { λ a. ⌜ a ≡ auditAnswer (record { series = now (series .entry); index = textIndex (now (index .entry)) }) ⌝ }
 {
     let p = make_plan(series, head, judged_rows(head, c));
-    if p.number != 0 {
+    if p.refusal.number != 0 {
         return answer(p, begin(p));
     }
     let s = walk_rows(index, series, head);

@@ -3,77 +3,47 @@ use conditions::Refusal;
 use conditions::band_outside;
 use conditions::below_window;
 use conditions::fewer;
-use conditions::length_in;
 use conditions::more;
 use conditions::query_length_outside;
 use conditions::refuse_if;
+use conditions::refuse_judged;
+use conditions::refuse_room;
+use conditions::refuse_series;
+use conditions::refuse_value;
 use conditions::scale_or_shift_outside;
 use conditions::threshold_outside;
-use conditions::too_short;
+use conditions::unrefused;
 use judge::Judged;
 use meaning_filter::Ask;
 use meaning_filter::Kind;
 use meaning_rows::Head;
 use numbers::lesser;
-use values::Place;
-use values::first_outside;
 use values::spread_of;
 use values::sums_at;
 ghost use mathlib.Core.Path.{_≡_};
-ghost use mathlib.Core.List.{[], _∷_};
 ghost use Prim.Native.Nat.{_≤_, min};
 ghost use lib.ListN.{length};
 ghost use Rattle.meaning_curves.specs.Curve.{at};
 ghost use Rattle.meaning_curves.specs.Normal.{flat};
 ghost use Rattle.meaning_curves.proofs.Values.{AllIn};
-ghost use Rattle.meaning_entries.specs.Refusal.{valueOutside, normalFlat};
+ghost use Rattle.meaning_entries.specs.Refusal.{normalFlat};
 ghost use Rattle.conditions.specs.Refusal.{refusalOf};
 ghost use Rattle.search_plan.specs.Tables.{valuesTable, numbersTable, inputTable, windowsTable, stateTable, planOf};
-
-// The first value outside its limits.
-pub fn refuse_value(s: &[i32]) -> Refusal
-    ensures { λ r. ⌜ r ≡ refusalOf (valueOutside (now (s .entry)) ∷ []) ⌝ }
-{
-    match first_outside(s) {
-        Place::At(k) => Refusal {
-            number: 2,
-            place: k,
-        },
-        Place::Nowhere => Refusal {
-            number: 0,
-            place: 0,
-        },
-    }
-}
 
 // The length of the series, then its values, then those of the query.
 pub fn refuse_values(s: &[i32], q: &[i32]) -> Refusal
     ensures { λ r. ⌜ r ≡ refusalOf (valuesTable (now (s .entry)) (now (q .entry))) ⌝ }
 {
-    if !length_in(s.len()) {
-        return Refusal {
-            number: 1,
-            place: 0,
-        };
-    }
-    let r = refuse_value(s);
-    if r.number != 0 {
-        return r;
-    }
-    refuse_value(q)
+    refuse_series(s, refuse_value(q, unrefused()))
 }
 
 // The length of the query, and the limits.
 pub fn refuse_numbers(s: &[i32], q: &[i32], w: u32, ask: Ask) -> Refusal
     ensures { λ r. ⌜ r ≡ refusalOf (numbersTable (now (s .entry)) (now (q .entry)) w ask) ⌝ }
 {
-    let none = Refusal {
-        number: 0,
-        place: 0,
-    };
     let l = ask.limits;
     let m = q.len();
-    let scale = refuse_if(scale_or_shift_outside(l.scale, l.shift), 10, none);
+    let scale = refuse_if(scale_or_shift_outside(l.scale, l.shift), 10, unrefused());
     let threshold = refuse_if(threshold_outside(l.threshold), 9, scale);
     let band = refuse_if(band_outside(m, l.band), 8, threshold);
     let window = refuse_if(below_window(m, w), 7, band);
@@ -113,28 +83,19 @@ pub fn refuse_input(s: &[i32], q: &[i32], w: u32, ask: Ask) -> Refusal
     if numbers.number != 0 {
         return numbers;
     }
-    let none = Refusal {
-        number: 0,
-        place: 0,
-    };
     let kind = ask.kind;
-    refuse_if(normal_flat(kind, q), 11, none)
+    refuse_if(normal_flat(kind, q), 11, unrefused())
 }
 
 // The windows of a well-formed index against the series, and the room of candidates and scratch.
 pub fn refuse_windows(s: &[i32], head: Head, candidates: usize, scratch: usize) -> Refusal
     ensures { λ r. ⌜ r ≡ refusalOf (windowsTable (now (s .entry)) head candidates scratch) ⌝ }
 {
-    let none = Refusal {
-        number: 0,
-        place: 0,
-    };
     let n = s.len();
     let w = head.window;
     let windows = head.windows;
-    let counts = refuse_if(too_short(scratch, w, n), 23, none);
-    let runs = refuse_if(too_short(candidates, w, n), 23, counts);
-    let many = refuse_if(more(windows, w, n), 22, runs);
+    let room = refuse_room(candidates, scratch, w, n);
+    let many = refuse_if(more(windows, w, n), 22, room);
     refuse_if(fewer(windows, w, n), 21, many)
 }
 
@@ -142,13 +103,7 @@ pub fn refuse_windows(s: &[i32], head: Head, candidates: usize, scratch: usize) 
 pub fn refuse_state(s: &[i32], head: Head, j: Judged, candidates: usize, scratch: usize) -> Refusal
     ensures { λ r. ⌜ r ≡ refusalOf (stateTable (now (s .entry)) head j candidates scratch) ⌝ }
 {
-    match j {
-        Judged::Bad { row } => Refusal {
-            number: 20,
-            place: row,
-        },
-        Judged::Fine { total } => refuse_windows(s, head, candidates, scratch),
-    }
+    refuse_judged(j, refuse_windows(s, head, candidates, scratch))
 }
 
 // The plan of a search: what refuses it before it looks. The candidate buffer is two slices of `left` and `right` entries.

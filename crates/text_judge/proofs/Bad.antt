@@ -23,10 +23,12 @@ use Rattle.meaning_rows.proofs.Laid.{Lays, laid, length-records}
 use Rattle.meaning_text.specs.Form.{Value}
 use Rattle.meaning_text.specs.Texts.{indexForm, rowForm, rowSaid, indexSaid}
 use Rattle.meaning_text.proofs.Reading.{on-flag}
+use Rattle.judge.specs.Judged.{badRow}
 use Rattle.judge.proofs.Scan.{both, runGood, good-run}
 use Rattle.text_feed.specs.Keep.{clamp}
 use Rattle.text_judge.specs.declared.Runs.{Runs}
 use Rattle.text_judge.specs.declared.Rows.{Rows}
+use Rattle.text_judge.specs.Judged.{judgedRows}
 use Rattle.text_judge.specs.Tally.{held, noRuns, runNext, runsFrom, noRows, rowFits, rowNext, rowsFrom, headHeld}
 
 -- two tests that pass in the same cases
@@ -391,6 +393,16 @@ module _ (v : Value indexForm) where
       (on-flag (headGood (lent h [] [] []))
       (λ e. let i = head-is e in rw e (ap (badRowFrom X 0 lowestEnd 0 0) rows-are ∙ found h X (width-is i) (windows-is i) (omega (arith, i .most)) (v .1 .1 .1) noRows refl rows-lay))
       (λ e. rw e refl))
+
+  -- what judging the text said is the first bad row
+  pub rows-judged : badRow (judgedRows h c) ≡ firstBadRow X
+  unfolding judgedRows badRow
+  rows-judged = on-flag (headGood (lent h [] [] [])) (λ e. on-flag (c .good) (λ g. rw (e, g) (sym (text-bad ∙ rw (e, g) refl))) (λ g. rw (e, g) (sym (text-bad ∙ rw (e, g) refl)))) (λ e. rw e (sym (text-bad ∙ rw e refl)))
+
+  pub rows-good : firstBadRow X ≡ none → (headGood (lent h [] [] []) ≡ true) × (c .good ≡ true)
+  rows-good n = on-flag (headGood (lent h [] [] []))
+      (λ e. on-flag (c .good) (λ g. (e, g)) (λ g. let q : some (c .rows) ≡ none = sym (text-bad ∙ rw (e, g) refl) ∙ n in let z : _≡_ {A = ℕ} 0 1 = cc in absurd (omega arith)))
+      (λ e. let q : some 0 ≡ none = sym (text-bad ∙ rw e refl) ∙ n in let z : _≡_ {A = ℕ} 0 1 = cc in absurd (omega arith))
 
   -- where the rows are good they are all counted, and their runs
   pub rows-counted : headGood (lent h [] [] []) ≡ true → c .good ≡ true → (c .rows ≡ length (X .rows)) × (c .runs ≡ length (X .runs))

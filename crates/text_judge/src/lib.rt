@@ -8,7 +8,10 @@ ghost use Rattle.text_index.specs.declared.Place.{Place};
 ghost use Rattle.text_index.specs.View.{keptAt};
 ghost use Rattle.text_event.specs.Event.{RunsFrom};
 ghost use Rattle.text_judge.specs.Tally.{held, noRuns, runNext, Sound, noRows, rowNext, withHead, withOpen, tellTally, shutTally, toldRun, Fits, startTally, scanned, keptScanned};
+ghost use Rattle.text_judge.specs.Judged.{judgedRows};
 ghost use lib.ListN.{length};
+use judge::Judged;
+use judge::head_good;
 use judge::range_good;
 use judge::run_good;
 use judge::total_good;
@@ -347,4 +350,17 @@ pub fn scan(text: &[u8]) -> Scanned
             }
         }
     }
+}
+
+// What judging a text said: the first bad row, 0 for the head, or how many windows stand in runs.
+pub fn judged_rows(head: Head, c: Rows) -> Judged
+    ensures { λ j. ⌜ j ≡ judgedRows head c ⌝ }
+{
+    if !head_good(head) {
+        return Judged::Bad { row: 0 };
+    }
+    if !c.good {
+        return Judged::Bad { row: c.rows };
+    }
+    Judged::Fine { total: c.taken }
 }

@@ -18,7 +18,7 @@ pub on-verdict : {A B : Type 0} (x : Verdict A) → ((a : A) → x ≡ fine a �
 on-verdict (fine a) f g = f a refl
 on-verdict (unfit p) f g = g p refl
 
-pub readable : (t : List ℕ) (rows runs : ℕ) → planFor t rows runs .number ≡ 0 → (v : Value indexForm) × (readText indexForm t ≡ fine v)
+pub readable : (t : List ℕ) (rows runs : ℕ) → planFor t rows runs .refusal .number ≡ 0 → (v : Value indexForm) × (readText indexForm t ≡ fine v)
 unfolding planScanned
 readable t rows runs h =
     on-verdict (readText indexForm t)
@@ -31,11 +31,11 @@ unfolding columnAfter
 column-stays n new old h = rw (ne-eqb n 0 h) refl
 
 -- a buffer that was cleared and filled
-module _ (t left right : List ℕ) (p : Plan) (rows runs : ℕ) (e : p ≡ planFor t rows runs) (h : p .number ≡ 0) (z w left' right' : List ℕ) (a : z ≡ replicate (length left) 0) (b : w ≡ replicate (length right) 0) (f : FilledRuns t z w left' right') where
-  pub column-filled : (left' ≡ columnAfter (p .number) (heldLefts (textRuns t)) left) × (right' ≡ columnAfter (p .number) (heldRights (textRuns t)) right)
+module _ (t left right : List ℕ) (p : Plan) (rows runs : ℕ) (e : p ≡ planFor t rows runs) (h : p .refusal .number ≡ 0) (z w left' right' : List ℕ) (a : z ≡ replicate (length left) 0) (b : w ≡ replicate (length right) 0) (f : FilledRuns t z w left' right') where
+  pub column-filled : (left' ≡ columnAfter (p .refusal .number) (heldLefts (textRuns t)) left) × (right' ≡ columnAfter (p .refusal .number) (heldRights (textRuns t)) right)
   unfolding columnAfter FilledRuns
   column-filled =
-      let v = readable t rows runs (sym (ap (λ (q : Plan). q .number) e) ∙ h) in
+      let v = readable t rows runs (sym (ap (λ (q : Plan). q .refusal .number) e) ∙ h) in
       let g = f (v .0) (v .1) in
       let r : textRuns t ≡ indexSaid (v .0) .runs = ap (λ (x : Index). x .runs) (text-fine t (v .0) (v .1)) in
-      rw (eq-eqb (p .number) 0 h, r, ← a, ← b) (g .0, g .1)
+      rw (eq-eqb (p .refusal .number) 0 h, r, ← a, ← b) (g .0, g .1)

@@ -1,5 +1,8 @@
 // Reading an index text into lent buffers (01, Text and program): a pass that judges the text, and where nothing refuses a pass that puts its runs into the run buffer and one that puts its rows into the row records. What is not used of the buffers is made 0 at once. A refusal alters nothing.
-use judge::head_good;
+use conditions::Refusal;
+use conditions::refuse_if;
+use conditions::refuse_judged;
+use conditions::unrefused;
 use judge::lesser;
 use meaning_entries::Loaded;
 use meaning_rows::Head;
@@ -18,6 +21,7 @@ use text_index::Word;
 use text_judge::Rows;
 use text_judge::Scanned;
 use text_judge::hold;
+use text_judge::judged_rows;
 use text_judge::scan;
 use text_reader::bad_line;
 use text_rows::fill_rows;
@@ -26,14 +30,14 @@ ghost use mathlib.Core.Bool.{cond};
 ghost use Prim.Native.Nat.{_+_, _<_, _≤_, _^_};
 ghost use lib.ListN.{length, set, replicate};
 ghost use Rattle.meaning_entries.specs.Demand2.{LoadKept};
+ghost use Rattle.conditions.specs.Refusal.{refusalOf};
 ghost use Rattle.text_event.specs.Event.{RunsFrom};
 ghost use Rattle.text_load.specs.Runs.{isLeft, isRight, tellColumns, runStored, FilledRuns};
-ghost use Rattle.text_load.specs.Plan.{refusedPlan, fitPlan, planFor, Loads, planAnswer};
+ghost use Rattle.text_load.specs.Plan.{refusedPlan, rowsTable, fitPlan, planFor, Loads, planAnswer};
 
-// What is known before anything is stored: the refusal, of number 0 where there is none; else the head, and how many rows and runs there are; and from where on the row records become records of zeros.
+// What is known before anything is stored: what refuses; else the head, and how many rows and runs there are; and from where on the row records become records of zeros.
 pub struct Plan {
-    pub number: u32,
-    pub place: usize,
+    pub refusal: Refusal,
     pub head: Head,
     pub rows: usize,
     pub runs: usize,
@@ -48,8 +52,8 @@ pub struct Stored {
 }
 
 // Where so many row records are lent, none is altered.
-fn refuse(number: u32, place: usize, rows: usize) -> Plan
-    ensures { λ p. ⌜ p ≡ refusedPlan number place rows ⌝ }
+fn refused(refusal: Refusal, rows: usize) -> Plan
+    ensures { λ p. ⌜ p ≡ refusedPlan refusal rows ⌝ }
 {
     let head = Head {
         window: 0,
@@ -57,8 +61,7 @@ fn refuse(number: u32, place: usize, rows: usize) -> Plan
         windows: 0,
     };
     Plan {
-        number,
-        place,
+        refusal,
         head,
         rows: 0,
         runs: 0,
@@ -66,25 +69,25 @@ fn refuse(number: u32, place: usize, rows: usize) -> Plan
     }
 }
 
-// The plan for a text that can be read, where there is room for so many rows and runs.
+// What refuses a text that can be read, where there is room for so many rows and runs.
+fn refuse_rows(head: Head, c: Rows, rows: usize, runs: usize) -> Refusal
+    ensures { λ r. ⌜ r ≡ refusalOf (rowsTable head c rows runs) ⌝ }
+{
+    let second = refuse_if(runs < c.runs, 23, unrefused());
+    let first = refuse_if(rows < c.rows, 23, second);
+    refuse_judged(judged_rows(head, c), first)
+}
+
+// The plan for such a text.
 fn plan_fine(head: Head, c: Rows, rows: usize, runs: usize) -> Plan
     ensures { λ p. ⌜ p ≡ fitPlan head c rows runs ⌝ }
 {
-    if !head_good(head) {
-        return refuse(20, 0, rows);
-    }
-    if !c.good {
-        return refuse(20, c.rows, rows);
-    }
-    if rows < c.rows {
-        return refuse(23, 0, rows);
-    }
-    if runs < c.runs {
-        return refuse(23, 0, rows);
+    let refusal = refuse_rows(head, c, rows, runs);
+    if refusal.number != 0 {
+        return refused(refusal, rows);
     }
     Plan {
-        number: 0,
-        place: 0,
+        refusal,
         head,
         rows: c.rows,
         runs: c.runs,
@@ -97,7 +100,13 @@ pub fn make_plan(text: &[u8], rows: usize, runs: usize) -> Plan
     ensures { λ p. ⌜ p ≡ planFor (now (text .entry)) rows runs ⌝ }
 {
     match scan(text) {
-        Scanned::Bad(at) => refuse(12, bad_line(text, at), rows),
+        Scanned::Bad(at) => {
+            let refusal = Refusal {
+                number: 12,
+                place: bad_line(text, at),
+            };
+            refused(refusal, rows)
+        }
         Scanned::Fine(head, c) => plan_fine(head, c, rows, runs),
     }
 }
@@ -260,7 +269,7 @@ pub fn load_runs(text: &[u8], rows: usize, left: &mut [u32], right: &mut [u32]) 
 {
     let room = lesser(left.len(), right.len());
     let p = make_plan(text, rows, room);
-    if p.number != 0 {
+    if p.refusal.number != 0 {
         return p;
     }
     clear(left);
@@ -274,10 +283,10 @@ pub fn answer(p: Plan) -> Loaded
     ensures { λ a. ⌜ a ≡ planAnswer p ⌝ }
 {
     let head = p.head;
-    if p.number != 0 {
+    if p.refusal.number != 0 {
         return Loaded::Refused {
-            number: p.number,
-            place: p.place,
+            number: p.refusal.number,
+            place: p.refusal.place,
         };
     }
     Loaded::Index {

@@ -1,27 +1,30 @@
 -- The entry keeps its promise: what it answers, and what it leaves in the text, by the first refusal. Assumes nothing.
-use mathlib.Core.Path.{_≡_, refl, _∙_}
+use mathlib.Core.Path.{_≡_, refl, sym, ap, _∙_}
 use mathlib.Core.Bool.{true, false}
 use mathlib.Core.List.{List, _++_}
-use mathlib.Core.Option.{Option, none, some}
-use Prim.Native.Nat.{ℕ, suc, _+_, _<_, _≤_, min}
-use native.Mathlib.Decide.{decLe}
+use mathlib.Core.Option.{none, some}
+use Prim.Native.Nat.{ℕ, suc, _+_, _≤_, min}
 use native.Mathlib.Omega.{arith}
-use lib.ListN.{length, take, drop}
+use lib.Dec.{T, eqb, ltb}
+use lib.ListN.{length, drop}
 use lib.Seq.{sets, sets-eq, length-sets, take-append-le, take-length}
-use borrow.Author.Tests.{lt-ltb, le-ltb, le-leb, lt-leb}
+use borrow.Author.Tests.{lt-ltb, le-ltb, ltb-true, ltb-false, eqb-true, eqb-false}
+use Rattle.meaning_numbers.proofs.Tests.{by-test}
 use Rattle.meaning_rows.specs.Index.{Index}
-use Rattle.meaning_rows.specs.Judge.{firstBadRow, lengthTotal}
 use Rattle.meaning_text.specs.Texts.{indexText}
 use Rattle.meaning_entries.specs.declared.Written.{Written}
-use Rattle.meaning_entries.specs.Refusal.{firstRefusal, illFormed, bufferShort}
+use Rattle.meaning_entries.specs.Refusal.{bufferShort}
 use Rattle.meaning_entries.specs.Buffers.{filled}
 use Rattle.meaning_entries.specs.Write.{writeTable, writeRefusal, writeAnswer, writeAfter}
 use Rattle.meaning_entries.specs.Demand2.{WriteKept}
+use Rattle.meaning_entries.proofs.Refusal.{passed-is, openLines, passed-line, lacks}
+use Rattle.meaning_entries.proofs.Lines.{room-line}
 use Rattle.meaning_entries.proofs.Demand2.{write-kept}
 use Rattle.judge.specs.declared.Judged.{Judged}
-use Rattle.judge.specs.Judged.{judgedOf, outcome}
+use Rattle.judge.specs.Judged.{judgedOf, bad-row}
+use Rattle.conditions.specs.Refusal.{refusalOf, judged-line, passes, refuses}
 use Rattle.text_save.specs.Spell.{Ended, cleared}
-use Rattle.text_save.specs.Answer.{answerOf, isRefused}
+use Rattle.text_save.specs.Answer.{tableOf, answerOf, isRefused}
 
 -- an answer, and why
 data Because (x : Index) (text : List ℕ) : Written → Type 0 where
@@ -29,28 +32,31 @@ data Because (x : Index) (text : List ℕ) : Written → Type 0 where
   fits : writeRefusal x text ≡ none → length (indexText x) ≤ length text → Because x text (Written.Text (length (indexText x)))
 
 module _ (x : Index) (text : List ℕ) (n : ℕ) (counted : n ≡ min (length (indexText x)) (suc (length text))) where
-  bad : (k : ℕ) → firstBadRow x ≡ some k → writeRefusal x text ≡ some (20, k)
-  unfolding writeTable firstRefusal illFormed
-  bad k e = rw (e, firstRefusal)
+  table-is : tableOf (judgedOf x) n (length text) ≡ writeTable x text
+  unfolding tableOf writeTable bufferShort
+  table-is = rw (judged-line x (judgedOf x) (bad-row x), same) refl
+    where
+      same : ltb (length text) n ≡ ltb (length text) (length (indexText x))
+      same = by-test (ltb (length text) n)
+          (λ t. t ∙ sym (lt-ltb (length text) (length (indexText x)) (omega (arith, ltb-true (length text) n t))))
+          (λ f. f ∙ sym (le-ltb (length text) (length (indexText x)) (omega (arith, ltb-false (length text) n f))))
 
-  short : firstBadRow x ≡ none → length text < length (indexText x) → writeRefusal x text ≡ some (23, 0)
-  unfolding writeTable firstRefusal illFormed bufferShort
-  short e h = rw (e, firstRefusal, lt-ltb (length text) (length (indexText x)) h)
-
-  passed : firstBadRow x ≡ none → length (indexText x) ≤ length text → writeRefusal x text ≡ none
-  unfolding writeTable firstRefusal illFormed bufferShort
-  passed e h = rw (e, firstRefusal, le-ltb (length text) (length (indexText x)) h)
+  never-0 : T (lacks 0 (writeTable x text))
+  unfolding openLines writeTable lacks
+  never-0 = tt
 
   because : Because x text (answerOf (judgedOf x) n (length text))
-  unfolding judgedOf outcome answerOf
-  because = by (firstBadRow x) refl
-    where
-      by : (o : Option ℕ) → firstBadRow x ≡ o → Because x text (answerOf (outcome o (lengthTotal x (x .rows))) n (length text))
-      by (some k) e = refused 20 k (bad k e)
-      by none e = elim (decLe (length (indexText x)) (length text)) [
-        | yes h ↦ let is : n ≡ length (indexText x) = omega arith in rw (le-leb n (length text) (omega arith), is) (fits (passed e h) h)
-        | no f ↦ rw (lt-leb n (length text) (omega arith)) (refused 23 0 (short e (omega arith)))
-      ]
+  unfolding answerOf openLines writeTable
+  because =
+      let r = refusalOf (tableOf (judgedOf x) n (length text)) in
+      let is : r ≡ refusalOf (writeTable x text) = ap refusalOf table-is in
+      by-test (eqb (r .number) 0)
+      (λ t.
+      let p = passes (writeTable x text) never-0 is (eqb-true (r .number) 0 t) in
+      let h = room-line (length text) (length (indexText x)) (passed-line p 23) in
+      let m : n ≡ length (indexText x) = omega (arith, h, counted) in
+      rw (t, m) (fits (passed-is p) h))
+      (λ f. rw f (refused (r .number) (r .place) (refuses (writeTable x text) is (eqb-false (r .number) 0 f))))
 
 answered : {x : Index} {text : List ℕ} {a : Written} → Because x text a → a ≡ writeAnswer x text
 unfolding writeAnswer

@@ -1,4 +1,8 @@
 // The entry write: a lent index becomes an index text. The text is counted first, then written by the same loop over the row records.
+use conditions::Refusal;
+use conditions::refuse_if;
+use conditions::refuse_judged;
+use conditions::unrefused;
 use judge::Judged;
 use judge::judge;
 use meaning_entries::Written;
@@ -20,7 +24,8 @@ ghost use Rattle.meaning_text.specs.Texts.{indexText};
 ghost use Rattle.meaning_entries.specs.Demand2.{WriteKept};
 ghost use Rattle.text_write.specs.Write.{headText, endText, rowText};
 ghost use Rattle.text_save.specs.Spell.{Spelled, Ended, cleared};
-ghost use Rattle.text_save.specs.Answer.{answerOf, isRefused};
+ghost use Rattle.conditions.specs.Refusal.{refusalOf};
+ghost use Rattle.text_save.specs.Answer.{tableOf, answerOf, isRefused};
 
 // The head at the front of the text: stored, or only counted.
 pub fn spell_head(text: &mut [u8], store: bool, h: Head) -> usize
@@ -93,26 +98,25 @@ pub fn spell_index(
     spell_end(text, store, to)
 }
 
-// What is answered, where the text has n bytes, counted to one past the buffer's size.
+// What refuses a text of n bytes, counted to one past the buffer's size, by what judging said of its index.
+pub fn refuse_write(j: Judged, n: usize, size: usize) -> Refusal
+    ensures { λ r. ⌜ r ≡ refusalOf (tableOf j n size) ⌝ }
+{
+    refuse_judged(j, refuse_if(size < n, 23, unrefused()))
+}
+
+// What is answered.
 pub fn answer(j: Judged, n: usize, size: usize) -> Written
     ensures { λ a. ⌜ a ≡ answerOf j n size ⌝ }
 {
-    match j {
-        Judged::Fine { total: _ } => {
-            if n <= size {
-                Written::Text { length: n }
-            } else {
-                Written::Refused {
-                    number: 23,
-                    place: 0,
-                }
-            }
-        }
-        Judged::Bad { row } => Written::Refused {
-            number: 20,
-            place: row,
-        },
+    let r = refuse_write(j, n, size);
+    if r.number != 0 {
+        return Written::Refused {
+            number: r.number,
+            place: r.place,
+        };
     }
+    Written::Text { length: n }
 }
 
 pub fn is_refused(a: Written) -> bool

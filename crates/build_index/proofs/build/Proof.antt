@@ -104,8 +104,8 @@ module _ {M : Type 1} (𝓤 : URA M) (H : Heap 𝓤) (A : Atoms 𝓤) (W : Given
 
   module _ (𝓣 : Tables 𝓤 H) (fm : FmC 𝓤 H (W .laws) (𝓣 .C)) (known-make : Triple 𝓤 (𝓣 .C #make-plan) (MakePlan 𝓤 H A mem run)) (known-planned : Triple 𝓤 (𝓣 .C #build-planned) (BuildPlanned 𝓤 H A mem run)) (known-refuse : Triple 𝓤 (𝓣 .C #refuse) (Refuse 𝓤 H A mem run))
       (g-s : Room i32 (length (xs .now))) (g-w : w < 2 ^ 32) (g-d : d < 2 ^ 32) (g-g : g < 2 ^ 32) (g-a : Room T.the-row (length (xa .now))) (g-l : Room u32 (length (xl .now))) (g-r : Room u32 (length (xr .now))) where
-    refused-so : (p : Plan) → Planned (xs .now) w d g (length (xa .now)) (length (xl .now)) (length (xr .now)) p → eqb (p .number) 0 ≡ false → (t : Built) → t ≡ refusedAs p → BuildKept (lentBuild (xs .now) w d g) (buffers (xa .now) (xl .now) (xr .now)) t (buffers (xa .now) (xl .now) (xr .now))
-    refused-so p h e t q = rw q (refused-kept (xs .now) w d g (buffers (xa .now) (xl .now) (xr .now)) p h (eqb-false (p .number) 0 e))
+    refused-so : (p : Plan) → Planned (xs .now) w d g (length (xa .now)) (length (xl .now)) (length (xr .now)) p → eqb (p .refusal .number) 0 ≡ false → (t : Built) → t ≡ refusedAs p → BuildKept (lentBuild (xs .now) w d g) (buffers (xa .now) (xl .now) (xr .now)) t (buffers (xa .now) (xl .now) (xr .now))
+    refused-so p h e t q = rw q (refused-kept (xs .now) w d g (buffers (xa .now) (xl .now) (xr .now)) p h (eqb-false (p .refusal .number) 0 e))
 
     module _ (l₀ l₁ l₂ l₃ l₄ l₅ l₆ l₇ l₈ l₉ l₁₀ l₁₁ l₁₂ l₁₃ l₁₄ l₁₅ l₁₆ l₁₇ l₁₈ : ℕ) where
       abbrev En : Env 𝓤 H
@@ -125,7 +125,7 @@ module _ {M : Type 1} (𝓤 : URA M) (H : Heap 𝓤) (A : Atoms 𝓤) (W : Given
           ∷ ‵ (fat fullShare half l₃ 0 (vint w32 d)) ∷ ‵ (fdies half l₃) ∷ ‵ (fat fullShare half l₂ 0 (vint w32 w)) ∷ ‵ (fdies half l₂)
           ∷ ‵ (fat fullShare (sliceTy (tyRef (named 0) imm half)) l₁ 0 (sliceVal (xs .ptr) (length (xs .now)))) ∷ ‵ (fdies (sliceTy (tyRef (named 0) imm half)) l₁) ∷ Γ
 
-      go-4 : (p : Plan) (planned : Planned (xs .now) w d g (length (xa .now)) (length (xl .now)) (length (xr .now)) p) (g-p : Is Pn.the-row p (low-plan p ∷ [])) (yes′ : eqb (p .number) 0 ≡ true) (t : Built) (za : List Row) (zl : List ℕ) (zr : List ℕ) (kept : BuildKept (lentBuild (xs .now) w d g) (buffers (xa .now) (xl .now) (xr .now)) t (buffers za zl zr)) (g-t : Is Bu.the-row t (low-built t ∷ [])) (long-a : length za ≡ length (xa .now)) (long-l : length zl ≡ length (xl .now)) (long-r : length zr ≡ length (xr .now)) → Sq W (‵ (flft κs qs) ∷ ‵ (ShrSlice (named 0) κs i32 .own xs (sliceVal (xs .ptr) (length (xs .now)) ∷ [])) ∷ ‵ (flft κa qa) ∷ ‵ (Lends.Own T.the-row (xa .ptr .0) (xa .ptr .1) (length (xa .now)) (named 0) κa (xa .name) za)
+      go-4 : (p : Plan) (planned : Planned (xs .now) w d g (length (xa .now)) (length (xl .now)) (length (xr .now)) p) (g-p : Is Pn.the-row p (low-plan p ∷ [])) (yes′ : eqb (p .refusal .number) 0 ≡ true) (t : Built) (za : List Row) (zl : List ℕ) (zr : List ℕ) (kept : BuildKept (lentBuild (xs .now) w d g) (buffers (xa .now) (xl .now) (xr .now)) t (buffers za zl zr)) (g-t : Is Bu.the-row t (low-built t ∷ [])) (long-a : length za ≡ length (xa .now)) (long-l : length zl ≡ length (xl .now)) (long-r : length zr ≡ length (xr .now)) → Sq W (‵ (flft κs qs) ∷ ‵ (ShrSlice (named 0) κs i32 .own xs (sliceVal (xs .ptr) (length (xs .now)) ∷ [])) ∷ ‵ (flft κa qa) ∷ ‵ (Lends.Own T.the-row (xa .ptr .0) (xa .ptr .1) (length (xa .now)) (named 0) κa (xa .name) za)
           ∷ ‵ (flft κl ql) ∷ ‵ (Lends.Own u32 (xl .ptr .0) (xl .ptr .1) (length (xl .now)) (named 0) κl (xl .name) zl) ∷ ‵ (flft κr qr) ∷ ‵ (Lends.Own u32 (xr .ptr .0) (xr .ptr .1) (length (xr .now)) (named 0) κr (xr .name) zr) ∷ Idle (‵ (fat fullShare word l₁₁ 0 (vint w64 (length (xr .now)))) ∷ ‵ (fdies word l₁₁) ∷ ‵ (fat fullShare word l₁₀ 0 (vint w64 (length (xl .now)))) ∷ ‵ (fdies word l₁₀)
           ∷ ‵ (fat fullShare word l₉ 0 (vint w64 (length (xa .now)))) ∷ ‵ (fdies word l₉) ∷ ‵ (fat fullShare Pn′.mir l₈ 0 (low-plan p)) ∷ ‵ (fdies Pn′.mir l₈) ∷ Passed (‵ (fat fullShare Bu′.mir l₀ 0 (low-built t)) ∷ ‵ (fdies Bu′.mir l₀) ∷ []))) (runs (𝓣 .C) (𝓣 .Λ) En mir.t-14 (atRet En Post))
       go-4 p planned g-p yes′ t za zl zr kept g-t long-a long-l long-r =
@@ -134,7 +134,7 @@ module _ {M : Type 1} (𝓤 : URA M) (H : Heap 𝓤) (A : Atoms 𝓤) (W : Given
           keep ! (0 ∷ 2 ∷ 4 ∷ 6 ∷ 3 ∷ 5 ∷ 7 ∷ []) $
           by ! (exits za long-a zl long-l zr long-r t g-t kept)
 
-      go-3 : (p : Plan) (planned : Planned (xs .now) w d g (length (xa .now)) (length (xl .now)) (length (xr .now)) p) (g-p : Is Pn.the-row p (low-plan p ∷ [])) (yes′ : eqb (p .number) 0 ≡ true) → Sq W (‵ (flft κs qs) ∷ ‵ (ShrSlice (named 0) κs i32 .own xs (sliceVal (xs .ptr) (length (xs .now)) ∷ [])) ∷ ‵ (flft κa qa) ∷ ‵ (Lends.Own T.the-row (xa .ptr .0) (xa .ptr .1) (length (xa .now)) (named 0) κa (xa .name) (xa .now))
+      go-3 : (p : Plan) (planned : Planned (xs .now) w d g (length (xa .now)) (length (xl .now)) (length (xr .now)) p) (g-p : Is Pn.the-row p (low-plan p ∷ [])) (yes′ : eqb (p .refusal .number) 0 ≡ true) → Sq W (‵ (flft κs qs) ∷ ‵ (ShrSlice (named 0) κs i32 .own xs (sliceVal (xs .ptr) (length (xs .now)) ∷ [])) ∷ ‵ (flft κa qa) ∷ ‵ (Lends.Own T.the-row (xa .ptr .0) (xa .ptr .1) (length (xa .now)) (named 0) κa (xa .name) (xa .now))
           ∷ ‵ (flft κl ql) ∷ ‵ (Lends.Own u32 (xl .ptr .0) (xl .ptr .1) (length (xl .now)) (named 0) κl (xl .name) (xl .now)) ∷ ‵ (flft κr qr) ∷ ‵ (Lends.Own u32 (xr .ptr .0) (xr .ptr .1) (length (xr .now)) (named 0) κr (xr .name) (xr .now)) ∷ Idle (‵ (fat fullShare word l₁₁ 0 (vint w64 (length (xr .now)))) ∷ ‵ (fdies word l₁₁) ∷ ‵ (fat fullShare word l₁₀ 0 (vint w64 (length (xl .now)))) ∷ ‵ (fdies word l₁₀)
           ∷ ‵ (fat fullShare word l₉ 0 (vint w64 (length (xa .now)))) ∷ ‵ (fdies word l₉) ∷ ‵ (fat fullShare Pn′.mir l₈ 0 (low-plan p)) ∷ ‵ (fdies Pn′.mir l₈) ∷ Passed (‵ (froom Bu′.mir l₀ 0) ∷ ‵ (fdies Bu′.mir l₀) ∷ []))) (runs (𝓣 .C) (𝓣 .Λ) En mir.t-7 (atRet En Post))
       go-3 p planned g-p yes′ =
@@ -144,7 +144,7 @@ module _ {M : Type 1} (𝓤 : URA M) (H : Heap 𝓤) (A : Atoms 𝓤) (W : Given
           assigns ! (agg ! (and-then ! (load ! (from ! (stop !)) (look ! 14 refl)) (and-then ! (load ! (from ! (fld ! refl (stop !))) (look-in ! 32 (sub ! 1 refl (whole !)))) (no-more !)))) (from ! (stop !)) (init ! 12 refl (tt, (tt, (record { fits = g-l .0 }, tt)))) $
           assigns ! (addr ! (from ! (fld ! refl (hop ! (look-in ! 30 (sub ! 0 refl (whole !))) (stop !))))) (from ! (stop !)) (init ! 10 refl (tt, tt)) $
           assigns ! (agg ! (and-then ! (load ! (from ! (stop !)) (look ! 10 refl)) (and-then ! (load ! (from ! (fld ! refl (stop !))) (look-in ! 30 (sub ! 1 refl (whole !)))) (no-more !)))) (from ! (stop !)) (init ! 8 refl (tt, (tt, (record { fits = g-r .0 }, tt)))) $
-          calls-build-planned ! fm mem run known-planned κs qs xs κa qa (xa .ptr .0) (xa .ptr .1) (length (xa .now)) (xa .name) (xa .now) κl ql (xl .ptr .0) (xl .ptr .1) (length (xl .now)) (xl .name) (xl .now) κr qr (xr .ptr .0) (xr .ptr .1) (length (xr .now)) (xr .name) (xr .now) w d g p refl g-a refl g-l refl g-r g-w g-d g-g g-p (planned, eqb-true (p .number) 0 yes′) (λ νa δa νl δl νr δr. (and-then ! (load ! (from ! (stop !)) (look ! 39 refl)) (and-then ! (load ! (from ! (stop !)) (look ! 37 refl)) (and-then ! (load ! (from ! (stop !)) (look ! 35 refl)) (and-then ! (load ! (from ! (stop !)) (look ! 33 refl)) (and-then ! (load ! (from ! (stop !)) (look ! 25 refl)) (and-then ! (load ! (from ! (stop !)) (look ! 13 refl)) (and-then ! (load ! (from ! (stop !)) (look ! 9 refl)) (and-then ! (load ! (from ! (stop !)) (look ! 5 refl)) (no-more !)))))))))) (λ t za zl zr kept g-t long-a long-l long-r.
+          calls-build-planned ! fm mem run known-planned κs qs xs κa qa (xa .ptr .0) (xa .ptr .1) (length (xa .now)) (xa .name) (xa .now) κl ql (xl .ptr .0) (xl .ptr .1) (length (xl .now)) (xl .name) (xl .now) κr qr (xr .ptr .0) (xr .ptr .1) (length (xr .now)) (xr .name) (xr .now) w d g p refl g-a refl g-l refl g-r g-w g-d g-g g-p (planned, eqb-true (p .refusal .number) 0 yes′) (λ νa δa νl δl νr δr. (and-then ! (load ! (from ! (stop !)) (look ! 39 refl)) (and-then ! (load ! (from ! (stop !)) (look ! 37 refl)) (and-then ! (load ! (from ! (stop !)) (look ! 35 refl)) (and-then ! (load ! (from ! (stop !)) (look ! 33 refl)) (and-then ! (load ! (from ! (stop !)) (look ! 25 refl)) (and-then ! (load ! (from ! (stop !)) (look ! 13 refl)) (and-then ! (load ! (from ! (stop !)) (look ! 9 refl)) (and-then ! (load ! (from ! (stop !)) (look ! 5 refl)) (no-more !)))))))))) (λ t za zl zr kept g-t long-a long-l long-r.
           land ! (from ! (stop !)) (init ! 44 refl (EL.lawful Bu.the-type Bu′.the-laws 𝓤 H A W tt .typed t _ g-t .0)) $
           forget ! 18 refl $ forget ! 16 refl $ forget ! 14 refl $ forget ! 12 refl $ forget ! 10 refl $ forget ! 8 refl $
           go-4 p planned g-p yes′ t za zl zr kept g-t long-a long-l long-r)
@@ -153,8 +153,8 @@ module _ {M : Type 1} (𝓤 : URA M) (H : Heap 𝓤) (A : Atoms 𝓤) (W : Given
           ∷ ‵ (flft κl ql) ∷ ‵ (Lends.Own u32 (xl .ptr .0) (xl .ptr .1) (length (xl .now)) (named 0) κl (xl .name) (xl .now)) ∷ ‵ (flft κr qr) ∷ ‵ (Lends.Own u32 (xr .ptr .0) (xr .ptr .1) (length (xr .now)) (named 0) κr (xr .name) (xr .now)) ∷ Idle (‵ (fat fullShare word l₁₁ 0 (vint w64 (length (xr .now)))) ∷ ‵ (fdies word l₁₁) ∷ ‵ (fat fullShare word l₁₀ 0 (vint w64 (length (xl .now)))) ∷ ‵ (fdies word l₁₀)
           ∷ ‵ (fat fullShare word l₉ 0 (vint w64 (length (xa .now)))) ∷ ‵ (fdies word l₉) ∷ ‵ (fat fullShare Pn′.mir l₈ 0 (low-plan p)) ∷ ‵ (fdies Pn′.mir l₈) ∷ Passed (‵ (froom Bu′.mir l₀ 0) ∷ ‵ (fdies Bu′.mir l₀) ∷ []))) (runs (𝓣 .C) (𝓣 .Λ) En mir.t-5 (atRet En Post))
       go-2 p planned g-p =
-          assigns ! (bin ! (load ! (from ! (fld ! refl (stop !))) (look-in ! 28 (sub ! 0 refl (whole !)))) (lit ! tt) tt) (from ! (stop !)) (init ! 20 refl (tt, tt)) $
-          by-bool (eqb (p .number) 0)
+          assigns ! (bin ! (load ! (from ! (fld ! refl (fld ! refl (stop !)))) (look-in ! 28 (sub ! 0 refl (sub ! 0 refl (whole !))))) (lit ! tt) tt) (from ! (stop !)) (init ! 20 refl (tt, tt)) $
+          by-bool (eqb (p .refusal .number) 0)
           (λ yes′. rewrite ! 20 (λ (t : Bool). ‵ (fat fullShare tyBool l₁₂ 0 (vbool (not t)))) yes′ refl $ passes-by ! (load ! (from ! (stop !)) (look ! 20 refl)) $
           forget ! 20 refl $
           go-3 p planned g-p yes′)

@@ -113,7 +113,7 @@ module _ {M : Type 1} (𝓤 : URA M) (H : Heap 𝓤) (A : Atoms 𝓤) (W : Given
       nothing ! $ move ! (4 ∷ 0 ∷ []) $ join ! $ move ! (3 ∷ 0 ∷ []) $ join ! $ move ! (2 ∷ 0 ∷ []) $ join ! $ move ! (1 ∷ 0 ∷ []) $ join ! $ frame ! $ nothing ! $ move ! (3 ∷ 0 ∷ []) $ fjoin ! $ move ! (2 ∷ 0 ∷ []) $ fjoin ! $ move ! (1 ∷ 0 ∷ []) $ fjoin ! $ nothing ! $ fjoin ! $ nothing ! $ fjoin ! $ nothing ! $ fjoin ! $ nothing ! $ fjoin ! $ nothing ! $ fjoin ! $ frame ! $ owned ! Bu.the-row (Is Bu.the-row) (EL.makes Bu.the-type Bu′.the-plain 𝓤 H A) t _ g-t $ done !
 
   module _ (𝓣 : Tables 𝓤 H) (fm : FmC 𝓤 H (W .laws) (𝓣 .C)) (known-wider : Triple 𝓤 (𝓣 .C #widened) (Widened 𝓤 H A mem run)) (known-rows : Triple 𝓤 (𝓣 .C #build-rows) (BuildRows 𝓤 H A mem run)) (known-before : Triple 𝓤 (𝓣 .C #place-before) (PlaceBefore 𝓤 H A mem run)) (known-row : Triple 𝓤 (𝓣 .C #row-at) (RowAt 𝓤 H A mem run)) (known-answer : Triple 𝓤 (𝓣 .C #answer) (Answer 𝓤 H A mem run))
-      (g-s : Room i32 (length (xs .now))) (g-w : w < 2 ^ 32) (g-d : d < 2 ^ 32) (g-g : g < 2 ^ 32) (g-p : Is Pn.the-row p (low-plan p ∷ [])) (g-a : Room T.the-row (length (xa .now))) (g-l : Room u32 (length (xl .now))) (g-r : Room u32 (length (xr .now))) (asked : (PlannedFor (xs .now) w d g (buffers (xa .now) (xl .now) (xr .now)) p) × (p .number ≡ 0)) where
+      (g-s : Room i32 (length (xs .now))) (g-w : w < 2 ^ 32) (g-d : d < 2 ^ 32) (g-g : g < 2 ^ 32) (g-p : Is Pn.the-row p (low-plan p ∷ [])) (g-a : Room T.the-row (length (xa .now))) (g-l : Room u32 (length (xl .now))) (g-r : Room u32 (length (xr .now))) (asked : (PlannedFor (xs .now) w d g (buffers (xa .now) (xl .now) (xr .now)) p) × (p .refusal .number ≡ 0)) where
     lays : (m : ℕ) → m ≡ g → (LayAsked (xs .now) (p .window) (p .extra) (p .width) (xl .now) (xr .now)) × (p .bias ≡ 10000 * p .window + p .extra) × (windowsOf (xs .now) (p .window) ≤ length (xa .now)) × (m ≤ 100)
     lays m is-m = rw is-m (plan-lays (xs .now) w d g (buffers (xa .now) (xl .now) (xr .now)) p (asked .0) (asked .1))
 
@@ -199,7 +199,7 @@ module _ {M : Type 1} (𝓤 : URA M) (H : Heap 𝓤) (A : Atoms 𝓤) (W : Given
           assigns ! (agg ! (and-then ! (load ! (from ! (stop !)) (look ! 18 refl)) (and-then ! (load ! (from ! (fld ! refl (stop !))) (look-in ! 34 (sub ! 1 refl (whole !)))) (no-more !)))) (from ! (stop !)) (init ! 16 refl (tt, (tt, (record { fits = g-l .0 }, tt)))) $
           assigns ! (addr ! (from ! (fld ! refl (hop ! (look-in ! 32 (sub ! 0 refl (whole !))) (stop !))))) (from ! (stop !)) (init ! 14 refl (tt, tt)) $
           assigns ! (agg ! (and-then ! (load ! (from ! (stop !)) (look ! 14 refl)) (and-then ! (load ! (from ! (fld ! refl (stop !))) (look-in ! 32 (sub ! 1 refl (whole !)))) (no-more !)))) (from ! (stop !)) (init ! 12 refl (tt, (tt, (record { fits = g-r .0 }, tt)))) $
-          calls-build-rows ! fm mem run known-rows κs qs xs κa qa (xa .ptr .0) (xa .ptr .1) (length (xa .now)) (xa .name) (xa .now) κl ql (xl .ptr .0) (xl .ptr .1) (length (xl .now)) (xl .name) (xl .now) κr qr (xr .ptr .0) (xr .ptr .1) (length (xr .now)) (xr .name) (xr .now) (p .window) (p .extra) (p .width) (p .bias) m refl g-a refl g-l refl g-r (g-p .1 .1 .1 .1 .0 .1) (g-p .1 .1 .1 .1 .1 .1 .0 .1) (g-p .1 .1 .1 .1 .1 .0 .1) (g-p .1 .1 .1 .1 .1 .1 .1 .0 .1) g-m (lays m is-m) (λ νa δa νl δl νr δr. (and-then ! (load ! (from ! (stop !)) (look ! 43 refl)) (and-then ! (load ! (from ! (fld ! refl (stop !))) (look-in ! 35 (sub ! 2 refl (whole !)))) (and-then ! (load ! (from ! (fld ! refl (stop !))) (look-in ! 35 (sub ! 4 refl (whole !)))) (and-then ! (load ! (from ! (fld ! refl (stop !))) (look-in ! 35 (sub ! 3 refl (whole !)))) (and-then ! (load ! (from ! (fld ! refl (stop !))) (look-in ! 35 (sub ! 5 refl (whole !)))) (and-then ! (load ! (from ! (stop !)) (look ! 27 refl)) (and-then ! (load ! (from ! (stop !)) (look ! 17 refl)) (and-then ! (load ! (from ! (stop !)) (look ! 13 refl)) (and-then ! (load ! (from ! (stop !)) (look ! 9 refl)) (no-more !))))))))))) (λ n za zl zr made g-n long-a long-l long-r.
+          calls-build-rows ! fm mem run known-rows κs qs xs κa qa (xa .ptr .0) (xa .ptr .1) (length (xa .now)) (xa .name) (xa .now) κl ql (xl .ptr .0) (xl .ptr .1) (length (xl .now)) (xl .name) (xl .now) κr qr (xr .ptr .0) (xr .ptr .1) (length (xr .now)) (xr .name) (xr .now) (p .window) (p .extra) (p .width) (p .bias) m refl g-a refl g-l refl g-r (g-p .1 .1 .1 .0 .1) (g-p .1 .1 .1 .1 .1 .0 .1) (g-p .1 .1 .1 .1 .0 .1) (g-p .1 .1 .1 .1 .1 .1 .0 .1) g-m (lays m is-m) (λ νa δa νl δl νr δr. (and-then ! (load ! (from ! (stop !)) (look ! 43 refl)) (and-then ! (load ! (from ! (fld ! refl (stop !))) (look-in ! 35 (sub ! 1 refl (whole !)))) (and-then ! (load ! (from ! (fld ! refl (stop !))) (look-in ! 35 (sub ! 3 refl (whole !)))) (and-then ! (load ! (from ! (fld ! refl (stop !))) (look-in ! 35 (sub ! 2 refl (whole !)))) (and-then ! (load ! (from ! (fld ! refl (stop !))) (look-in ! 35 (sub ! 4 refl (whole !)))) (and-then ! (load ! (from ! (stop !)) (look ! 27 refl)) (and-then ! (load ! (from ! (stop !)) (look ! 17 refl)) (and-then ! (load ! (from ! (stop !)) (look ! 13 refl)) (and-then ! (load ! (from ! (stop !)) (look ! 9 refl)) (no-more !))))))))))) (λ n za zl zr made g-n long-a long-l long-r.
           land ! (from ! (stop !)) (init ! 28 refl (tt, record { fits = g-n })) $
           forget ! 22 refl $ forget ! 20 refl $ forget ! 18 refl $ forget ! 16 refl $ forget ! 14 refl $ forget ! 12 refl $
           go-3 m is-m g-m n za zl zr made g-n long-a long-l long-r)

@@ -1,38 +1,40 @@
--- `build_plan::make_plan` meets its contract, case by case. Assumes nothing.
+-- `build_plan::make_plan` meets its contract: refused, or the bias by the row width. Assumes nothing.
 use borrow.Author.Needs.{needs}
-use borrow.Author.Tests.{not-true, not-false}
-use mathlib.Core.Path.{_≡_, sym, _∙_}
-use mathlib.Core.Bool.{true}
-use lib.ListN.{length}
-use Rattle.meaning_curves.specs.Limits.{mostValues, lengthIn}
-use Rattle.meaning_rows.proofs.Judge.{between}
-use Rattle.build_plan.specs.Plan.{planned-long, planned-outside, planned-inside}
+use mathlib.Core.Path.{_≡_, refl, ap, _∙_}
+use Prim.Native.Nat.{ℕ, min}
+use native.Mathlib.Omega.{arith}
+use Rattle.meaning_entries.specs.Build.{lentBuild, buildLines}
+use Rattle.conditions.specs.Refusal.{refusalOf, passes}
+use Rattle.build_plan.specs.Plan.{Goes, never-0, goes}
 use Rattle.build_plan.proofs.make_plan.Statement.{statement}
 use Rattle.build_plan.proofs.make_plan.Tie as tie
 
--- the length is in its limits where it was not refused
-in-length : (c : tie.Else1) → lengthIn mostValues (length (c .before .before .args .series .now)) ≡ true
-in-length c = sym (c .before .length-in .ensures) ∙ not-false (c .before .length-in .result) (c .if1 .left)
+-- what refuses
+module _ (c : tie.After-refuse-build) where
+  abbrev o : tie.Start
+  o = c .before .before
+
+  told : c .refuse-build .result ≡ refusalOf (buildLines (lentBuild (o .args .series .now) (o .args .w) (o .args .d) (o .args .g)) (o .args .rows) (min (o .args .left) (o .args .right)))
+  told = c .refuse-build .ensures ∙ ap (λ (n : ℕ). refusalOf (buildLines (lentBuild (o .args .series .now) (o .args .w) (o .args .d) (o .args .g)) (o .args .rows) n)) (c .before .lesser .ensures)
+
+  in-limits : c .refuse-build .result .number ≡ 0 → Goes (o .args .series .now) (o .args .w) (o .args .d) (o .args .g) (o .args .rows) (min (o .args .left) (o .args .right))
+  in-limits z = let a = o .args in goes (a .series .now) (a .w) (a .d) (a .g) (a .rows) _ (passes _ (never-0 (a .series .now) (a .w) (a .d) (a .g) (a .rows) _) told z)
 
 returns : tie.Need-returns
-returns c = let t = c .before .before in let a = t .before .args in planned-long (a .series .now) (a .w) (a .d) (a .g) (a .rows) (a .left) (a .right) (sym (t .length-in .ensures) ∙ not-true (t .length-in .result) (c .before .if1 .taken)) (c .refused .ensures)
+returns c = record { refusal = told (c .before .before); lifts = λ z. absurd (c .if1 .taken z) }
 
-plan-numbers-requires : tie.Need-plan-numbers-requires
-plan-numbers-requires c κs = between 1 1048576 _ (in-length (c .before .before .before)) .most
+raised-rows-requires : tie.Need-raised-rows-requires
+raised-rows-requires c κs = let g = in-limits (c .before .before) (c .if1 .left) in (g .most, (g .least-width, g .most-width))
 
 returns-2 : tie.Need-returns-2
 returns-2 c =
-    let k = c .before .before in
-    let f = k .before .before in
-    let a = f .before .before .before .args in
-    planned-outside (a .series .now) (a .w) (a .d) (a .g) (a .rows) (a .left) (a .right) (in-length (f .before)) (k .k .given .0 .0) (sym (k .k .given .1) ∙ f .first-outside .ensures) (c .refused2 .ensures)
-
-returns-3 : tie.Need-returns-3
-returns-3 c =
-    let t = c .before in
-    let f = t .before .before in
-    let a = f .before .before .before .args in
-    planned-inside (a .series .now) (a .w) (a .d) (a .g) (a .rows) (a .left) (a .right) (in-length (f .before)) (sym (t .enum-told .given .1) ∙ f .first-outside .ensures) (c .plan-numbers .ensures)
+    let r = c .raised-rows in
+    let e = c .before in
+    let g = in-limits (e .before .before) (e .if1 .left) in
+    record {
+      refusal = told (e .before .before);
+      lifts = λ z. record { window = refl; width = refl; rows = r .result; multiple = refl; is = omega (arith, r .ensures); small = omega (arith, r .ensures, g .most-width) };
+    }
 
 pub make-plan-spec : {M : Type 1} → statement M
 make-plan-spec =
@@ -41,10 +43,8 @@ make-plan-spec =
     (λ c κs. search needs)
     (λ c κs. search needs)
     returns
-    (λ c κs. search needs)
+    raised-rows-requires
     (λ c. search needs)
-    (λ c κs. search needs)
     (λ c. search needs)
-    plan-numbers-requires
-    returns-2
-    returns-3)
+    (λ c. search needs)
+    returns-2)

@@ -70,10 +70,10 @@ use Rattle.judge.proofs.judge.Met as judge-thm
 use Rattle.judge.proofs.lesser.Symbol as less-def
 use Rattle.judge.proofs.lesser.Symbol.{name as #lesser}
 use Rattle.judge.proofs.lesser.Met as less-thm
-use Rattle.extend_plan.specs.declared.Plan.{Plan}
+use Rattle.conditions.specs.declared.Refusal.{Refusal}
 use Rattle.extend_plan.specs.Plan.{planOf}
-use Rattle.extend_plan.proofs.Plan as Pn
-use Rattle.extend_plan.proofs.Plan.Laws as Pn′
+use Rattle.conditions.proofs.Refusal as Rf
+use Rattle.conditions.proofs.Refusal.Laws as Rf′
 use Rattle.extend_plan.proofs.make_plan.Symbol as make-def
 use Rattle.extend_plan.proofs.make_plan.Symbol.{name as #make-plan}
 use Rattle.extend_plan.proofs.make_plan.Met as make-thm
@@ -120,20 +120,20 @@ module _ {M : Type 1} (𝓤 : URA M) (H : Heap 𝓤) (A : Atoms 𝓤) (W : Given
 
   module _ (𝓣 : Tables 𝓤 H) (fm : FmC 𝓤 H (W .laws) (𝓣 .C)) (known-judge : Triple 𝓤 (𝓣 .C #judge) (JudgeAll 𝓤 H A mem run)) (known-less : Triple 𝓤 (𝓣 .C #lesser) (Lesser 𝓤 H A mem run)) (known-make : Triple 𝓤 (𝓣 .C #make-plan) (MakePlan 𝓤 H A mem run)) (known-goes : Triple 𝓤 (𝓣 .C #extend-planned) (ExtendPlanned 𝓤 H A mem run)) (known-refuse : Triple 𝓤 (𝓣 .C #refuse) (Refuse 𝓤 H A mem run))
       (g-s : Room i32 (length (xs .now))) (g-head : Is Hd.the-row head (low-head head ∷ [])) (g-f : Room T.the-row (length (xf .now))) (g-c : Room u32 (length (xc .now))) (g-h : Room u32 (length (xh .now))) (g-a : Room T.the-row (length (xa .now))) (g-l : Room u32 (length (xl .now))) (g-r : Room u32 (length (xr .now))) where
-    plan-here : (j : Judged) → j ≡ judgedOf (lent head (xf .now) (xc .now) (xh .now)) → (m : ℕ) → m ≡ min (length (xl .now)) (length (xr .now)) → (p : Plan) → p ≡ planOf (xs .now) head j (length (xa .now)) m → p ≡ thePlan (xs .now) head (xf .now) (xc .now) (xh .now) (buffers (xa .now) (xl .now) (xr .now))
+    plan-here : (j : Judged) → j ≡ judgedOf (lent head (xf .now) (xc .now) (xh .now)) → (m : ℕ) → m ≡ min (length (xl .now)) (length (xr .now)) → (p : Refusal) → p ≡ planOf (xs .now) head j (length (xa .now)) m → p ≡ thePlan (xs .now) head (xf .now) (xc .now) (xh .now) (buffers (xa .now) (xl .now) (xr .now))
     plan-here j e m o p q = q ∙ (λ i. planOf (xs .now) head (e i) (length (xa .now)) (o i))
 
-    refused-so : (j : Judged) → j ≡ judgedOf (lent head (xf .now) (xc .now) (xh .now)) → (m : ℕ) → m ≡ min (length (xl .now)) (length (xr .now)) → (p : Plan) → p ≡ planOf (xs .now) head j (length (xa .now)) m → eqb (p .number) 0 ≡ false → (t : Extended) → t ≡ refusedAs p → ExtendKept (lentExtend (xs .now) head (xf .now) (xc .now) (xh .now)) (buffers (xa .now) (xl .now) (xr .now)) t (buffers (xa .now) (xl .now) (xr .now))
+    refused-so : (j : Judged) → j ≡ judgedOf (lent head (xf .now) (xc .now) (xh .now)) → (m : ℕ) → m ≡ min (length (xl .now)) (length (xr .now)) → (p : Refusal) → p ≡ planOf (xs .now) head j (length (xa .now)) m → eqb (p .number) 0 ≡ false → (t : Extended) → t ≡ refusedAs p → ExtendKept (lentExtend (xs .now) head (xf .now) (xc .now) (xh .now)) (buffers (xa .now) (xl .now) (xr .now)) t (buffers (xa .now) (xl .now) (xr .now))
     refused-so j e m o p q f t r =
         let h = plan-here j e m o p q in
-        subst (λ (v : Extended). ExtendKept (lentExtend (xs .now) head (xf .now) (xc .now) (xh .now)) (buffers (xa .now) (xl .now) (xr .now)) v (buffers (xa .now) (xl .now) (xr .now))) (sym (r ∙ ap refusedAs h)) (refused-kept (xs .now) head (xf .now) (xc .now) (xh .now) (buffers (xa .now) (xl .now) (xr .now)) (λ z. eqb-false (p .number) 0 f (ap (λ (v : Plan). v .number) h ∙ z)))
+        subst (λ (v : Extended). ExtendKept (lentExtend (xs .now) head (xf .now) (xc .now) (xh .now)) (buffers (xa .now) (xl .now) (xr .now)) v (buffers (xa .now) (xl .now) (xr .now))) (sym (r ∙ ap refusedAs h)) (refused-kept (xs .now) head (xf .now) (xc .now) (xh .now) (buffers (xa .now) (xl .now) (xr .now)) (λ z. eqb-false (p .number) 0 f (ap (λ (v : Refusal). v .number) h ∙ z)))
 
-    goes-on : (j : Judged) → j ≡ judgedOf (lent head (xf .now) (xc .now) (xh .now)) → (m : ℕ) → m ≡ min (length (xl .now)) (length (xr .now)) → (p : Plan) → p ≡ planOf (xs .now) head j (length (xa .now)) m → eqb (p .number) 0 ≡ true → thePlan (xs .now) head (xf .now) (xc .now) (xh .now) (buffers (xa .now) (xl .now) (xr .now)) .number ≡ 0
-    goes-on j e m o p q f = sym (ap (λ (v : Plan). v .number) (plan-here j e m o p q)) ∙ eqb-true (p .number) 0 f
+    goes-on : (j : Judged) → j ≡ judgedOf (lent head (xf .now) (xc .now) (xh .now)) → (m : ℕ) → m ≡ min (length (xl .now)) (length (xr .now)) → (p : Refusal) → p ≡ planOf (xs .now) head j (length (xa .now)) m → eqb (p .number) 0 ≡ true → thePlan (xs .now) head (xf .now) (xc .now) (xh .now) (buffers (xa .now) (xl .now) (xr .now)) .number ≡ 0
+    goes-on j e m o p q f = sym (ap (λ (v : Refusal). v .number) (plan-here j e m o p q)) ∙ eqb-true (p .number) 0 f
 
     module _ (l₀ l₁ l₂ l₃ l₄ l₅ l₆ l₇ l₈ l₉ l₁₀ l₁₁ l₁₂ l₁₃ l₁₄ l₁₅ l₁₆ l₁₇ l₁₈ l₁₉ l₂₀ : ℕ) where
       abbrev En : Env 𝓤 H
-      En = (Ex′.mir, l₀) ∷ ((sliceTy (tyRef (named 0) imm half)), l₁) ∷ (Hd′.mir, l₂) ∷ ((sliceTy (tyRef (named 1) imm record-type)), l₃) ∷ ((sliceTy (tyRef (named 2) imm half)), l₄) ∷ ((sliceTy (tyRef (named 3) imm half)), l₅) ∷ ((sliceTy (tyRef (named 4) mut record-type)), l₆) ∷ ((sliceTy (tyRef (named 5) mut half)), l₇) ∷ ((sliceTy (tyRef (named 6) mut half)), l₈) ∷ (J′.mir, l₉) ∷ (word, l₁₀) ∷ (Pn′.mir, l₁₁) ∷ (word, l₁₂) ∷ (word, l₁₃) ∷ (tyBool, l₁₄) ∷ ((tyRef erased mut record-type), l₁₅) ∷ ((sliceTy (tyRef erased mut record-type)), l₁₆) ∷ ((tyRef erased mut half), l₁₇) ∷ ((sliceTy (tyRef erased mut half)), l₁₈) ∷ ((tyRef erased mut half), l₁₉) ∷ ((sliceTy (tyRef erased mut half)), l₂₀) ∷ []
+      En = (Ex′.mir, l₀) ∷ ((sliceTy (tyRef (named 0) imm half)), l₁) ∷ (Hd′.mir, l₂) ∷ ((sliceTy (tyRef (named 1) imm record-type)), l₃) ∷ ((sliceTy (tyRef (named 2) imm half)), l₄) ∷ ((sliceTy (tyRef (named 3) imm half)), l₅) ∷ ((sliceTy (tyRef (named 4) mut record-type)), l₆) ∷ ((sliceTy (tyRef (named 5) mut half)), l₇) ∷ ((sliceTy (tyRef (named 6) mut half)), l₈) ∷ (J′.mir, l₉) ∷ (word, l₁₀) ∷ (Rf′.mir, l₁₁) ∷ (word, l₁₂) ∷ (word, l₁₃) ∷ (tyBool, l₁₄) ∷ ((tyRef erased mut record-type), l₁₅) ∷ ((sliceTy (tyRef erased mut record-type)), l₁₆) ∷ ((tyRef erased mut half), l₁₇) ∷ ((sliceTy (tyRef erased mut half)), l₁₈) ∷ ((tyRef erased mut half), l₁₉) ∷ ((sliceTy (tyRef erased mut half)), l₂₀) ∷ []
 
       -- what is had between two calls: what the slices own, and the locals, by those that change
       abbrev Held : Item 𝓤 → Item 𝓤 → Item 𝓤 → Item 𝓤 → Item 𝓤 → Item 𝓤 → Item 𝓤 → Item 𝓤 → Item 𝓤 → List (Item 𝓤)
@@ -145,21 +145,21 @@ module _ {M : Type 1} (𝓤 : URA M) (H : Heap 𝓤) (A : Atoms 𝓤) (W : Given
           ∷ ‵ (froom (tyRef erased mut half) l₁₇ 0) ∷ ‵ (fdies (tyRef erased mut half) l₁₇) ∷ ‵ (froom (sliceTy (tyRef erased mut record-type)) l₁₆ 0) ∷ ‵ (fdies (sliceTy (tyRef erased mut record-type)) l₁₆)
           ∷ ‵ (froom (tyRef erased mut record-type) l₁₅ 0) ∷ ‵ (fdies (tyRef erased mut record-type) l₁₅) ∷ ‵ (froom tyBool l₁₄ 0) ∷ ‵ (fdies tyBool l₁₄)
           ∷ i₄ ∷ ‵ (fdies word l₁₃) ∷ i₅ ∷ ‵ (fdies word l₁₂)
-          ∷ i₆ ∷ ‵ (fdies Pn′.mir l₁₁) ∷ i₇ ∷ ‵ (fdies word l₁₀)
+          ∷ i₆ ∷ ‵ (fdies Rf′.mir l₁₁) ∷ i₇ ∷ ‵ (fdies word l₁₀)
           ∷ i₈ ∷ ‵ (fdies J′.mir l₉) ∷ ‵ (fat fullShare (sliceTy (tyRef (named 6) mut half)) l₈ 0 (sliceVal (xr .ptr) (length (xr .now)))) ∷ ‵ (fdies (sliceTy (tyRef (named 6) mut half)) l₈)
           ∷ ‵ (fat fullShare (sliceTy (tyRef (named 5) mut half)) l₇ 0 (sliceVal (xl .ptr) (length (xl .now)))) ∷ ‵ (fdies (sliceTy (tyRef (named 5) mut half)) l₇) ∷ ‵ (fat fullShare (sliceTy (tyRef (named 4) mut record-type)) l₆ 0 (sliceVal (xa .ptr) (length (xa .now)))) ∷ ‵ (fdies (sliceTy (tyRef (named 4) mut record-type)) l₆)
           ∷ ‵ (fat fullShare (sliceTy (tyRef (named 3) imm half)) l₅ 0 (sliceVal (xh .ptr) (length (xh .now)))) ∷ ‵ (fdies (sliceTy (tyRef (named 3) imm half)) l₅) ∷ ‵ (fat fullShare (sliceTy (tyRef (named 2) imm half)) l₄ 0 (sliceVal (xc .ptr) (length (xc .now)))) ∷ ‵ (fdies (sliceTy (tyRef (named 2) imm half)) l₄)
           ∷ ‵ (fat fullShare (sliceTy (tyRef (named 1) imm record-type)) l₃ 0 (sliceVal (xf .ptr) (length (xf .now)))) ∷ ‵ (fdies (sliceTy (tyRef (named 1) imm record-type)) l₃) ∷ ‵ (fat fullShare Hd′.mir l₂ 0 (low-head head)) ∷ ‵ (fdies Hd′.mir l₂)
           ∷ ‵ (fat fullShare (sliceTy (tyRef (named 0) imm half)) l₁ 0 (sliceVal (xs .ptr) (length (xs .now)))) ∷ ‵ (fdies (sliceTy (tyRef (named 0) imm half)) l₁) ∷ i₉ ∷ ‵ (fdies Ex′.mir l₀) ∷ []
 
-      go-6 : (j : Judged) (is-j : j ≡ judgedOf (lent head (xf .now) (xc .now) (xh .now))) (g-j : Is J.the-row j (low-judged j ∷ [])) (m : ℕ) (is-m : m ≡ min (length (xl .now)) (length (xr .now))) (g-m : m < 2 ^ 64) (p : Plan) (is-p : p ≡ planOf (xs .now) head j (length (xa .now)) m) (g-p : Is Pn.the-row p (low-plan p ∷ [])) (yes′ : eqb (p .number) 0 ≡ true) (t : Extended) (za : List Row) (zl : List ℕ) (zr : List ℕ) (kept : ExtendKept (lentExtend (xs .now) head (xf .now) (xc .now) (xh .now)) (buffers (xa .now) (xl .now) (xr .now)) t (buffers za zl zr)) (g-t : Is Ex.the-row t (low-extended t ∷ [])) (long-a : length za ≡ length (xa .now)) (long-l : length zl ≡ length (xl .now)) (long-r : length zr ≡ length (xr .now)) → Sq W (Held (‵ (Lends.Own T.the-row (xa .ptr .0) (xa .ptr .1) (length (xa .now)) (named 0) κa (xa .name) za)) (‵ (Lends.Own u32 (xl .ptr .0) (xl .ptr .1) (length (xl .now)) (named 0) κl (xl .name) zl)) (‵ (Lends.Own u32 (xr .ptr .0) (xr .ptr .1) (length (xr .now)) (named 0) κr (xr .name) zr)) (‵ (fat fullShare word l₁₃ 0 (vint w64 (length (xr .now))))) (‵ (fat fullShare word l₁₂ 0 (vint w64 (length (xa .now))))) (‵ (fat fullShare Pn′.mir l₁₁ 0 (low-plan p))) (‵ (fat fullShare word l₁₀ 0 (vint w64 m))) (‵ (fat fullShare J′.mir l₉ 0 (low-judged j))) (‵ (fat fullShare Ex′.mir l₀ 0 (low-extended t)))) (runs (𝓣 .C) (𝓣 .Λ) En mir.t-16 (atRet En Post))
+      go-6 : (j : Judged) (is-j : j ≡ judgedOf (lent head (xf .now) (xc .now) (xh .now))) (g-j : Is J.the-row j (low-judged j ∷ [])) (m : ℕ) (is-m : m ≡ min (length (xl .now)) (length (xr .now))) (g-m : m < 2 ^ 64) (p : Refusal) (is-p : p ≡ planOf (xs .now) head j (length (xa .now)) m) (g-p : Is Rf.the-row p (low-plan p ∷ [])) (yes′ : eqb (p .number) 0 ≡ true) (t : Extended) (za : List Row) (zl : List ℕ) (zr : List ℕ) (kept : ExtendKept (lentExtend (xs .now) head (xf .now) (xc .now) (xh .now)) (buffers (xa .now) (xl .now) (xr .now)) t (buffers za zl zr)) (g-t : Is Ex.the-row t (low-extended t ∷ [])) (long-a : length za ≡ length (xa .now)) (long-l : length zl ≡ length (xl .now)) (long-r : length zr ≡ length (xr .now)) → Sq W (Held (‵ (Lends.Own T.the-row (xa .ptr .0) (xa .ptr .1) (length (xa .now)) (named 0) κa (xa .name) za)) (‵ (Lends.Own u32 (xl .ptr .0) (xl .ptr .1) (length (xl .now)) (named 0) κl (xl .name) zl)) (‵ (Lends.Own u32 (xr .ptr .0) (xr .ptr .1) (length (xr .now)) (named 0) κr (xr .name) zr)) (‵ (fat fullShare word l₁₃ 0 (vint w64 (length (xr .now))))) (‵ (fat fullShare word l₁₂ 0 (vint w64 (length (xa .now))))) (‵ (fat fullShare Rf′.mir l₁₁ 0 (low-plan p))) (‵ (fat fullShare word l₁₀ 0 (vint w64 m))) (‵ (fat fullShare J′.mir l₉ 0 (low-judged j))) (‵ (fat fullShare Ex′.mir l₀ 0 (low-extended t)))) (runs (𝓣 .C) (𝓣 .Λ) En mir.t-16 (atRet En Post))
       go-6 j is-j g-j m is-m g-m p is-p g-p yes′ t za zl zr kept g-t long-a long-l long-r =
           returns ! (look ! 54 refl) $
           lose ! 54 refl refl $ lose ! 52 refl refl $ lose ! 50 refl refl $ lose ! 48 refl refl $ lose ! 46 refl refl $ lose ! 44 refl refl $ lose ! 42 refl refl $ lose ! 40 refl refl $ lose ! 38 refl refl $ lose ! 36 refl refl $ lose ! 34 refl refl $ lose ! 32 refl refl $ lose ! 30 refl refl $ lose ! 28 refl refl $ lose-room ! 26 refl refl $ lose-room ! 24 refl refl $ lose-room ! 22 refl refl $ lose-room ! 20 refl refl $ lose-room ! 18 refl refl $ lose-room ! 16 refl refl $ lose-room ! 14 refl refl $ free0 ! $
           keep ! (0 ∷ 2 ∷ 4 ∷ 6 ∷ 8 ∷ 10 ∷ 12 ∷ 9 ∷ 11 ∷ 13 ∷ []) $
           by ! (exits za long-a zl long-l zr long-r t g-t kept)
 
-      go-5 : (j : Judged) (is-j : j ≡ judgedOf (lent head (xf .now) (xc .now) (xh .now))) (g-j : Is J.the-row j (low-judged j ∷ [])) (m : ℕ) (is-m : m ≡ min (length (xl .now)) (length (xr .now))) (g-m : m < 2 ^ 64) (p : Plan) (is-p : p ≡ planOf (xs .now) head j (length (xa .now)) m) (g-p : Is Pn.the-row p (low-plan p ∷ [])) (yes′ : eqb (p .number) 0 ≡ true) → Sq W (Held (‵ (Lends.Own T.the-row (xa .ptr .0) (xa .ptr .1) (length (xa .now)) (named 0) κa (xa .name) (xa .now))) (‵ (Lends.Own u32 (xl .ptr .0) (xl .ptr .1) (length (xl .now)) (named 0) κl (xl .name) (xl .now))) (‵ (Lends.Own u32 (xr .ptr .0) (xr .ptr .1) (length (xr .now)) (named 0) κr (xr .name) (xr .now))) (‵ (fat fullShare word l₁₃ 0 (vint w64 (length (xr .now))))) (‵ (fat fullShare word l₁₂ 0 (vint w64 (length (xa .now))))) (‵ (fat fullShare Pn′.mir l₁₁ 0 (low-plan p))) (‵ (fat fullShare word l₁₀ 0 (vint w64 m))) (‵ (fat fullShare J′.mir l₉ 0 (low-judged j))) (‵ (froom Ex′.mir l₀ 0))) (runs (𝓣 .C) (𝓣 .Λ) En mir.t-9 (atRet En Post))
+      go-5 : (j : Judged) (is-j : j ≡ judgedOf (lent head (xf .now) (xc .now) (xh .now))) (g-j : Is J.the-row j (low-judged j ∷ [])) (m : ℕ) (is-m : m ≡ min (length (xl .now)) (length (xr .now))) (g-m : m < 2 ^ 64) (p : Refusal) (is-p : p ≡ planOf (xs .now) head j (length (xa .now)) m) (g-p : Is Rf.the-row p (low-plan p ∷ [])) (yes′ : eqb (p .number) 0 ≡ true) → Sq W (Held (‵ (Lends.Own T.the-row (xa .ptr .0) (xa .ptr .1) (length (xa .now)) (named 0) κa (xa .name) (xa .now))) (‵ (Lends.Own u32 (xl .ptr .0) (xl .ptr .1) (length (xl .now)) (named 0) κl (xl .name) (xl .now))) (‵ (Lends.Own u32 (xr .ptr .0) (xr .ptr .1) (length (xr .now)) (named 0) κr (xr .name) (xr .now))) (‵ (fat fullShare word l₁₃ 0 (vint w64 (length (xr .now))))) (‵ (fat fullShare word l₁₂ 0 (vint w64 (length (xa .now))))) (‵ (fat fullShare Rf′.mir l₁₁ 0 (low-plan p))) (‵ (fat fullShare word l₁₀ 0 (vint w64 m))) (‵ (fat fullShare J′.mir l₉ 0 (low-judged j))) (‵ (froom Ex′.mir l₀ 0))) (runs (𝓣 .C) (𝓣 .Λ) En mir.t-9 (atRet En Post))
       go-5 j is-j g-j m is-m g-m p is-p g-p yes′ =
           assigns ! (addr ! (from ! (fld ! refl (hop ! (look-in ! 42 (sub ! 0 refl (whole !))) (stop !))))) (from ! (stop !)) (init ! 24 refl (tt, tt)) $
           assigns ! (agg ! (and-then ! (load ! (from ! (stop !)) (look ! 24 refl)) (and-then ! (load ! (from ! (fld ! refl (stop !))) (look-in ! 42 (sub ! 1 refl (whole !)))) (no-more !)))) (from ! (stop !)) (init ! 22 refl (tt, (tt, (record { fits = g-a .0 }, tt)))) $
@@ -172,7 +172,7 @@ module _ {M : Type 1} (𝓤 : URA M) (H : Heap 𝓤) (A : Atoms 𝓤) (W : Given
           forget ! 24 refl $ forget ! 22 refl $ forget ! 20 refl $ forget ! 18 refl $ forget ! 16 refl $ forget ! 14 refl $
           go-6 j is-j g-j m is-m g-m p is-p g-p yes′ t za zl zr kept g-t long-a long-l long-r)
 
-      go-4 : (j : Judged) (is-j : j ≡ judgedOf (lent head (xf .now) (xc .now) (xh .now))) (g-j : Is J.the-row j (low-judged j ∷ [])) (m : ℕ) (is-m : m ≡ min (length (xl .now)) (length (xr .now))) (g-m : m < 2 ^ 64) (p : Plan) (is-p : p ≡ planOf (xs .now) head j (length (xa .now)) m) (g-p : Is Pn.the-row p (low-plan p ∷ [])) → Sq W (Held (‵ (Lends.Own T.the-row (xa .ptr .0) (xa .ptr .1) (length (xa .now)) (named 0) κa (xa .name) (xa .now))) (‵ (Lends.Own u32 (xl .ptr .0) (xl .ptr .1) (length (xl .now)) (named 0) κl (xl .name) (xl .now))) (‵ (Lends.Own u32 (xr .ptr .0) (xr .ptr .1) (length (xr .now)) (named 0) κr (xr .name) (xr .now))) (‵ (fat fullShare word l₁₃ 0 (vint w64 (length (xr .now))))) (‵ (fat fullShare word l₁₂ 0 (vint w64 (length (xa .now))))) (‵ (fat fullShare Pn′.mir l₁₁ 0 (low-plan p))) (‵ (fat fullShare word l₁₀ 0 (vint w64 m))) (‵ (fat fullShare J′.mir l₉ 0 (low-judged j))) (‵ (froom Ex′.mir l₀ 0))) (runs (𝓣 .C) (𝓣 .Λ) En mir.t-7 (atRet En Post))
+      go-4 : (j : Judged) (is-j : j ≡ judgedOf (lent head (xf .now) (xc .now) (xh .now))) (g-j : Is J.the-row j (low-judged j ∷ [])) (m : ℕ) (is-m : m ≡ min (length (xl .now)) (length (xr .now))) (g-m : m < 2 ^ 64) (p : Refusal) (is-p : p ≡ planOf (xs .now) head j (length (xa .now)) m) (g-p : Is Rf.the-row p (low-plan p ∷ [])) → Sq W (Held (‵ (Lends.Own T.the-row (xa .ptr .0) (xa .ptr .1) (length (xa .now)) (named 0) κa (xa .name) (xa .now))) (‵ (Lends.Own u32 (xl .ptr .0) (xl .ptr .1) (length (xl .now)) (named 0) κl (xl .name) (xl .now))) (‵ (Lends.Own u32 (xr .ptr .0) (xr .ptr .1) (length (xr .now)) (named 0) κr (xr .name) (xr .now))) (‵ (fat fullShare word l₁₃ 0 (vint w64 (length (xr .now))))) (‵ (fat fullShare word l₁₂ 0 (vint w64 (length (xa .now))))) (‵ (fat fullShare Rf′.mir l₁₁ 0 (low-plan p))) (‵ (fat fullShare word l₁₀ 0 (vint w64 m))) (‵ (fat fullShare J′.mir l₉ 0 (low-judged j))) (‵ (froom Ex′.mir l₀ 0))) (runs (𝓣 .C) (𝓣 .Λ) En mir.t-7 (atRet En Post))
       go-4 j is-j g-j m is-m g-m p is-p g-p =
           assigns ! (bin ! (load ! (from ! (fld ! refl (stop !))) (look-in ! 32 (sub ! 0 refl (whole !)))) (lit ! tt) tt) (from ! (stop !)) (init ! 26 refl (tt, tt)) $
           by-bool (eqb (p .number) 0)
@@ -187,14 +187,14 @@ module _ {M : Type 1} (𝓤 : URA M) (H : Heap 𝓤) (A : Atoms 𝓤) (W : Given
           keep ! (0 ∷ 2 ∷ 4 ∷ 6 ∷ 8 ∷ 10 ∷ 12 ∷ 9 ∷ 11 ∷ 13 ∷ []) $
           by ! (exits (xa .now) refl (xl .now) refl (xr .now) refl t g-t (refused-so j is-j m is-m p is-p no′ t is-t))))
 
-      go-3 : (j : Judged) (is-j : j ≡ judgedOf (lent head (xf .now) (xc .now) (xh .now))) (g-j : Is J.the-row j (low-judged j ∷ [])) (m : ℕ) (is-m : m ≡ min (length (xl .now)) (length (xr .now))) (g-m : m < 2 ^ 64) → Sq W (Held (‵ (Lends.Own T.the-row (xa .ptr .0) (xa .ptr .1) (length (xa .now)) (named 0) κa (xa .name) (xa .now))) (‵ (Lends.Own u32 (xl .ptr .0) (xl .ptr .1) (length (xl .now)) (named 0) κl (xl .name) (xl .now))) (‵ (Lends.Own u32 (xr .ptr .0) (xr .ptr .1) (length (xr .now)) (named 0) κr (xr .name) (xr .now))) (‵ (fat fullShare word l₁₃ 0 (vint w64 (length (xr .now))))) (‵ (fat fullShare word l₁₂ 0 (vint w64 (length (xl .now))))) (‵ (froom Pn′.mir l₁₁ 0)) (‵ (fat fullShare word l₁₀ 0 (vint w64 m))) (‵ (fat fullShare J′.mir l₉ 0 (low-judged j))) (‵ (froom Ex′.mir l₀ 0))) (runs (𝓣 .C) (𝓣 .Λ) En mir.t-5 (atRet En Post))
+      go-3 : (j : Judged) (is-j : j ≡ judgedOf (lent head (xf .now) (xc .now) (xh .now))) (g-j : Is J.the-row j (low-judged j ∷ [])) (m : ℕ) (is-m : m ≡ min (length (xl .now)) (length (xr .now))) (g-m : m < 2 ^ 64) → Sq W (Held (‵ (Lends.Own T.the-row (xa .ptr .0) (xa .ptr .1) (length (xa .now)) (named 0) κa (xa .name) (xa .now))) (‵ (Lends.Own u32 (xl .ptr .0) (xl .ptr .1) (length (xl .now)) (named 0) κl (xl .name) (xl .now))) (‵ (Lends.Own u32 (xr .ptr .0) (xr .ptr .1) (length (xr .now)) (named 0) κr (xr .name) (xr .now))) (‵ (fat fullShare word l₁₃ 0 (vint w64 (length (xr .now))))) (‵ (fat fullShare word l₁₂ 0 (vint w64 (length (xl .now))))) (‵ (froom Rf′.mir l₁₁ 0)) (‵ (fat fullShare word l₁₀ 0 (vint w64 m))) (‵ (fat fullShare J′.mir l₉ 0 (low-judged j))) (‵ (froom Ex′.mir l₀ 0))) (runs (𝓣 .C) (𝓣 .Λ) En mir.t-5 (atRet En Post))
       go-3 j is-j g-j m is-m g-m =
           assigns ! (of-opd ! (load ! (from ! (fld ! refl (stop !))) (look-in ! 42 (sub ! 1 refl (whole !))))) (from ! (stop !)) (store ! 30 refl (tt, record { fits = g-a .0 })) $
           calls-make-plan ! fm mem run known-make κs qs xs head j (length (xa .now)) m g-head g-j (g-a .0) g-m (and-then ! (load ! (from ! (stop !)) (look ! 52 refl)) (and-then ! (load ! (from ! (stop !)) (look ! 50 refl)) (and-then ! (load ! (from ! (stop !)) (look ! 36 refl)) (and-then ! (load ! (from ! (stop !)) (look ! 30 refl)) (and-then ! (load ! (from ! (stop !)) (look ! 34 refl)) (no-more !)))))) (λ p is-p g-p.
-          land ! (from ! (stop !)) (init ! 32 refl (LL.lawful Pn.the-type Pn′.the-laws 𝓤 H A W .typed p _ g-p .0)) $
+          land ! (from ! (stop !)) (init ! 32 refl (LL.lawful Rf.the-type Rf′.the-laws 𝓤 H A W .typed p _ g-p .0)) $
           go-4 j is-j g-j m is-m g-m p is-p g-p)
 
-      go-2 : (j : Judged) (is-j : j ≡ judgedOf (lent head (xf .now) (xc .now) (xh .now))) (g-j : Is J.the-row j (low-judged j ∷ [])) → Sq W (Held (‵ (Lends.Own T.the-row (xa .ptr .0) (xa .ptr .1) (length (xa .now)) (named 0) κa (xa .name) (xa .now))) (‵ (Lends.Own u32 (xl .ptr .0) (xl .ptr .1) (length (xl .now)) (named 0) κl (xl .name) (xl .now))) (‵ (Lends.Own u32 (xr .ptr .0) (xr .ptr .1) (length (xr .now)) (named 0) κr (xr .name) (xr .now))) (‵ (froom word l₁₃ 0)) (‵ (froom word l₁₂ 0)) (‵ (froom Pn′.mir l₁₁ 0)) (‵ (froom word l₁₀ 0)) (‵ (fat fullShare J′.mir l₉ 0 (low-judged j))) (‵ (froom Ex′.mir l₀ 0))) (runs (𝓣 .C) (𝓣 .Λ) En mir.t-2 (atRet En Post))
+      go-2 : (j : Judged) (is-j : j ≡ judgedOf (lent head (xf .now) (xc .now) (xh .now))) (g-j : Is J.the-row j (low-judged j ∷ [])) → Sq W (Held (‵ (Lends.Own T.the-row (xa .ptr .0) (xa .ptr .1) (length (xa .now)) (named 0) κa (xa .name) (xa .now))) (‵ (Lends.Own u32 (xl .ptr .0) (xl .ptr .1) (length (xl .now)) (named 0) κl (xl .name) (xl .now))) (‵ (Lends.Own u32 (xr .ptr .0) (xr .ptr .1) (length (xr .now)) (named 0) κr (xr .name) (xr .now))) (‵ (froom word l₁₃ 0)) (‵ (froom word l₁₂ 0)) (‵ (froom Rf′.mir l₁₁ 0)) (‵ (froom word l₁₀ 0)) (‵ (fat fullShare J′.mir l₉ 0 (low-judged j))) (‵ (froom Ex′.mir l₀ 0))) (runs (𝓣 .C) (𝓣 .Λ) En mir.t-2 (atRet En Post))
       go-2 j is-j g-j =
           assigns ! (of-opd ! (load ! (from ! (fld ! refl (stop !))) (look-in ! 40 (sub ! 1 refl (whole !))))) (from ! (stop !)) (init ! 30 refl (tt, record { fits = g-l .0 })) $
           assigns ! (of-opd ! (load ! (from ! (fld ! refl (stop !))) (look-in ! 38 (sub ! 1 refl (whole !))))) (from ! (stop !)) (init ! 28 refl (tt, record { fits = g-r .0 })) $
@@ -202,7 +202,7 @@ module _ {M : Type 1} (𝓤 : URA M) (H : Heap 𝓤) (A : Atoms 𝓤) (W : Given
           land ! (from ! (stop !)) (init ! 34 refl (tt, record { fits = g-m })) $
           go-3 j is-j g-j m is-m g-m)
 
-      go-1 : Sq W (Held (‵ (Lends.Own T.the-row (xa .ptr .0) (xa .ptr .1) (length (xa .now)) (named 0) κa (xa .name) (xa .now))) (‵ (Lends.Own u32 (xl .ptr .0) (xl .ptr .1) (length (xl .now)) (named 0) κl (xl .name) (xl .now))) (‵ (Lends.Own u32 (xr .ptr .0) (xr .ptr .1) (length (xr .now)) (named 0) κr (xr .name) (xr .now))) (‵ (froom word l₁₃ 0)) (‵ (froom word l₁₂ 0)) (‵ (froom Pn′.mir l₁₁ 0)) (‵ (froom word l₁₀ 0)) (‵ (froom J′.mir l₉ 0)) (‵ (froom Ex′.mir l₀ 0))) (runs (𝓣 .C) (𝓣 .Λ) En mir.t-1 (atRet En Post))
+      go-1 : Sq W (Held (‵ (Lends.Own T.the-row (xa .ptr .0) (xa .ptr .1) (length (xa .now)) (named 0) κa (xa .name) (xa .now))) (‵ (Lends.Own u32 (xl .ptr .0) (xl .ptr .1) (length (xl .now)) (named 0) κl (xl .name) (xl .now))) (‵ (Lends.Own u32 (xr .ptr .0) (xr .ptr .1) (length (xr .now)) (named 0) κr (xr .name) (xr .now))) (‵ (froom word l₁₃ 0)) (‵ (froom word l₁₂ 0)) (‵ (froom Rf′.mir l₁₁ 0)) (‵ (froom word l₁₀ 0)) (‵ (froom J′.mir l₉ 0)) (‵ (froom Ex′.mir l₀ 0))) (runs (𝓣 .C) (𝓣 .Λ) En mir.t-1 (atRet En Post))
       go-1 =
           nothing ! $
           move ! (7 ∷ 0 ∷ []) $

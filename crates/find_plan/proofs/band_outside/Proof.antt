@@ -3,7 +3,7 @@ use borrow.Author.Needs.{needs}
 use Rattle.find_plan.specs.Text.{cast-is}
 use Rattle.meaning_numbers.proofs.Machine.{zmach}
 use Rattle.meaning_numbers.proofs.Rep.{z-sub}
-use lib.IntN.{ℤ, pos, _-ℤ_}
+use lib.IntN.{pos, _-ℤ_}
 use mathlib.Core.Path.{_∙_}
 use mir.Syntax.{w64}
 use mir.Val.{SFits}

@@ -1,14 +1,14 @@
 -- `find_plan::refuse_call` meets its contract, one part of the table after the other. Assumes nothing.
 use borrow.Author.Needs.{needs}
 use Prim.Native.Nat.{_≤_}
-use Rattle.conditions.specs.Refusal.{none-is, line-before, passes, part-refuses, part-passes}
+use Rattle.conditions.specs.Refusal.{line-before, passes, part-refuses, part-passes}
 use Rattle.find_plan.specs.Tables.{kindOf, valuesTable, numbersTable, callTable}
 use Rattle.find_plan.specs.Text.{values-lack, numbers-lack, series-few, query-in, query-few}
 use Rattle.meaning_entries.proofs.Refusal.{Passed}
 use Rattle.meaning_entries.specs.Refusal.{Condition, flatQuery, normalFlat}
 use lib.ListN.{length, take, length-take}
 use mathlib.Core.List.{List, [], _∷_, _++_}
-use mathlib.Core.Path.{sym, _∙_}
+use mathlib.Core.Path.{_∙_}
 use mir.Syntax.{w64}
 use mir.ValLaws.{toZ-ofZ}
 use native.Mathlib.Omega.{arith}
@@ -64,13 +64,13 @@ normal-flat-requires c κs =
 returns-3 : tie.Need-returns-3
 unfolding callTable flatQuery
 returns-3 c =
-    let e = c .before .before .before .before .before in
+    let e = c .before .before .before .before .before .before in
     let n = e .before .before in
     let o = n .before .before .before .before in
-    let told = c .before .before .before .before in
-    let kind = rw (toZ-ofZ w64 (o .args .x .raw) (record { sfits = told .struct-told .given .1 .1 .1 .1 .1 .1 .1 .0 .1 })) at (c .before .before .before .kind-of .ensures) in
+    let told = c .before .before .before .before .before in
+    let kind = rw (toZ-ofZ w64 (o .args .x .raw) (record { sfits = told .struct-told .given .1 .1 .1 .1 .1 .1 .1 .0 .1 })) at (c .before .before .before .before .kind-of .ensures) in
     part-passes (two o ++ three o) (first (n .before))
-    (part-passes (three o) (second e) (line-before 11 (normalFlat (kindOf (o .args .x .raw)) (take (o .args .q .count) (o .args .query .now))) [] (sym none-is) (c .before .normal-flat .ensures ∙ rw kind) (c .refuse-if .ensures)))
+    (part-passes (three o) (second e) (line-before 11 (normalFlat (kindOf (o .args .x .raw)) (take (o .args .q .count) (o .args .query .now))) _ (c .before .unrefused .ensures) (c .before .before .normal-flat .ensures ∙ rw kind) (c .refuse-if .ensures)))
 
 pub refuse-call-spec : {M : Type 1} → statement M
 refuse-call-spec =
@@ -83,5 +83,6 @@ refuse-call-spec =
     (λ c κs. search needs)
     slice-aggregate-normal-flat
     normal-flat-requires
+    (λ c κs. search needs)
     (λ c κs. search needs)
     returns-3)

@@ -2,7 +2,7 @@
 use mathlib.Core.Path.{_≡_, sym, ap, _∙_}
 use Rattle.audit.specs.declared.Plan.{Plan}
 use Rattle.audit.specs.Plan.{planOf, answerOf}
-use Rattle.payout_answer.specs.Judged.{judgedRows}
+use Rattle.text_judge.specs.Judged.{judgedRows}
 use Rattle.payout_answer.proofs.Planned.{stopped-right, goes-sized, walked-right}
 use borrow.Author.Needs.{needs}
 use Rattle.payout_answer.proofs.audit_series.Statement.{statement}
@@ -19,8 +19,8 @@ module _ (m : tie.After-make-plan) where
   made : m .make-plan .result ≡ plan
   made = m .make-plan .ensures ∙ ap (planOf (o .args .series .now) (o .args .head)) (m .before .judged-rows .ensures)
 
-  number-zero : m .make-plan .result .number ≡ 0 → plan .number ≡ 0
-  number-zero e = sym (ap (λ (u : Plan). u .number) made) ∙ e
+  number-zero : m .make-plan .result .refusal .number ≡ 0 → plan .refusal .number ≡ 0
+  number-zero e = sym (ap (λ (u : Plan). u .refusal .number) made) ∙ e
 
 returns : tie.Need-returns
 returns c =
@@ -28,7 +28,7 @@ returns c =
     let m = t .before .before in
     let a = o m .args in
     c .answer .ensures ∙ ap (λ (u : Plan). answerOf u (c .before .begin .result)) (made m)
-    ∙ stopped-right (a .index .now) (a .series .now) (a .head) (a .c) (o m .pre) (c .before .begin .result) (λ z. t .if1 .taken (ap (λ (u : Plan). u .number) (made m) ∙ z))
+    ∙ stopped-right (a .index .now) (a .series .now) (a .head) (a .c) (o m .pre) (c .before .begin .result) (λ z. t .if1 .taken (ap (λ (u : Plan). u .refusal .number) (made m) ∙ z))
 
 walk-rows-requires : tie.Need-walk-rows-requires
 walk-rows-requires c κs =

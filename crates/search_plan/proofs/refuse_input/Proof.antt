@@ -1,10 +1,9 @@
 -- `search_plan::refuse_input` meets its contract, one part of the table after the other. Assumes nothing.
 use borrow.Author.Needs.{needs}
-use mathlib.Core.Path.{sym}
 use mathlib.Core.List.{List, [], _∷_, _++_}
-use Rattle.meaning_entries.specs.Refusal.{Condition, flatQuery, normalFlat}
+use Rattle.meaning_entries.specs.Refusal.{Condition, flatQuery}
 use Rattle.meaning_entries.proofs.Refusal.{Passed}
-use Rattle.conditions.specs.Refusal.{none-is, line-before, passes, part-refuses, part-passes}
+use Rattle.conditions.specs.Refusal.{line-before, passes, part-refuses, part-passes}
 use Rattle.search_plan.specs.Tables.{valuesTable, numbersTable, inputTable}
 use Rattle.search_plan.specs.Cases.{values-lack, numbers-lack, values-in, query-few}
 use Rattle.search_plan.proofs.refuse_input.Statement.{statement}
@@ -55,11 +54,11 @@ normal-flat-requires c κs =
 returns-3 : tie.Need-returns-3
 unfolding inputTable flatQuery
 returns-3 c =
-    let e = c .before .before in
+    let e = c .before .before .before in
     let n = e .before .before in
     let o = n .before .before .before .before in
     part-passes (two o ++ three o) (first (n .before))
-    (part-passes (three o) (second e) (line-before 11 (normalFlat (o .args .ask .kind) (o .args .q .now)) [] (sym none-is) (c .before .normal-flat .ensures) (c .refuse-if .ensures)))
+    (part-passes (three o) (second e) (line-before 11 _ _ (c .before .unrefused .ensures) (c .before .before .normal-flat .ensures) (c .refuse-if .ensures)))
 
 pub refuse-input-spec : {M : Type 1} → statement M
 refuse-input-spec =
@@ -70,5 +69,6 @@ refuse-input-spec =
     (λ c κs. search needs)
     returns-2
     normal-flat-requires
+    (λ c κs. search needs)
     (λ c κs. search needs)
     returns-3)

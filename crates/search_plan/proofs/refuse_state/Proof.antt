@@ -1,24 +1,13 @@
--- `search_plan::refuse_state` meets its contract, by what judging said. Assumes nothing.
+-- `search_plan::refuse_state` meets its contract: what judging said, then the windows (`place-before`). Assumes nothing.
 use borrow.Author.Needs.{needs}
-use Rattle.search_plan.specs.Cases.{bad-refused, fine-passes}
+use Rattle.conditions.specs.Refusal.{judgedLine, place-before}
+use Rattle.search_plan.specs.Tables.{stateTable}
 use Rattle.search_plan.proofs.refuse_state.Statement.{statement}
 use Rattle.search_plan.proofs.refuse_state.Tie as tie
 
 returns : tie.Need-returns
-returns c = let a = c .before .before .before .args in bad-refused (a .s .now) (a .head) (a .j) (a .candidates) (a .scratch) (c .before .j .given .0 .0) (c .before .j .given .1)
-
-returns-2 : tie.Need-returns-2
-returns-2 c =
-    let t = c .before .before in
-    let a = t .before .before .args in
-    fine-passes (a .s .now) (a .head) (a .j) (a .candidates) (a .scratch) (t .j2 .given .0 .0) (t .j2 .given .1) (c .refuse-windows .ensures)
+unfolding stateTable
+returns c = place-before (judgedLine (c .before .before .args .j)) _ (c .before .refuse-windows .ensures) (c .refuse-judged .ensures)
 
 pub refuse-state-spec : {M : Type 1} → statement M
-refuse-state-spec =
-    tie.close
-    (tie.spec
-    (λ c. search needs)
-    (λ c. search needs)
-    (λ c κs. search needs)
-    returns
-    returns-2)
+refuse-state-spec = tie.close (tie.spec (λ c κs. search needs) (λ c κs. search needs) returns)

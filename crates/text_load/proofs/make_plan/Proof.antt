@@ -14,8 +14,8 @@ enum-known-at c = search needs
 bad-line-requires : tie.Need-bad-line-requires
 bad-line-requires c κs = search needs
 
-refuse-requires : tie.Need-refuse-requires
-refuse-requires c κs = search needs
+refused-requires : tie.Need-refused-requires
+refused-requires c κs = search needs
 
 enum-known-head : tie.Need-enum-known-head
 enum-known-head c = search needs
@@ -25,7 +25,7 @@ plan-fine-requires c κs = search needs
 
 returns : tie.Need-returns
 unfolding planScanned
-returns c = let l = c .before in let a = l .before .before in let s = a .before .before in let b = s .before .before in let e = sym (s .scan .ensures) ∙ a .at .given .1 in c .refuse .ensures ∙ (rw (l .bad-line .ensures) refl) ∙ sym (ap (planScanned (b .args .text .now) (b .args .rows) (b .args .runs)) e)
+returns c = let l = c .before in let a = l .before .before in let s = a .before .before in let b = s .before .before in let e = sym (s .scan .ensures) ∙ a .at .given .1 in c .refused .ensures ∙ (rw (l .bad-line .ensures) refl) ∙ sym (ap (planScanned (b .args .text .now) (b .args .rows) (b .args .runs)) e)
 
 returns-2 : tie.Need-returns-2
 unfolding planScanned
@@ -38,7 +38,7 @@ make-plan-spec =
     scan-requires
     enum-known-at
     bad-line-requires
-    refuse-requires
+    refused-requires
     enum-known-head
     plan-fine-requires
     returns

@@ -1,57 +1,31 @@
--- `text_load::plan_fine` meets its contract. By its tests, in the order of the definition. Assumes nothing.
-use mathlib.Core.Path.{refl, sym, _∙_}
-use borrow.Author.Tests.{not-true, not-false, lt-ltb, le-ltb}
-use Rattle.text_load.specs.Plan.{fitPlan}
+-- `text_load::plan_fine` meets its contract, by what refuses. Assumes nothing.
 use borrow.Author.Needs.{needs}
+use borrow.Author.Tests.{eq-eqb, ne-eqb}
+use mathlib.Core.Path.{_≡_, refl, ap, _∙_}
+use Prim.Native.Nat.{ℕ}
+use Rattle.meaning_rows.specs.declared.Head.{Head}
+use Rattle.conditions.specs.declared.Refusal.{Refusal}
+use Rattle.text_judge.specs.declared.Rows.{Rows}
+use Rattle.text_load.specs.Plan.{refusedPlan, planBy, fitPlan}
 use Rattle.text_load.proofs.plan_fine.Statement.{statement}
 use Rattle.text_load.proofs.plan_fine.Tie as tie
 
-head-good-requires : tie.Need-head-good-requires
-head-good-requires c κs = search needs
+-- the plan, by the refusal that the code has
+by : (c : tie.After-refuse-rows) → let a = c .before .args in planBy (c .refuse-rows .result) (a .head) (a .c) (a .rows) ≡ fitPlan (a .head) (a .c) (a .rows) (a .runs)
+unfolding fitPlan
+by c = let a = c .before .args in ap (λ (r : Refusal). planBy r (a .head) (a .c) (a .rows)) (c .refuse-rows .ensures)
 
-refuse-requires : tie.Need-refuse-requires
-refuse-requires c κs = search needs
+refused-by : (r : Refusal) (h : Head) (c : Rows) (rows : ℕ) → (r .number ≡ 0 → ⊥) → refusedPlan r rows ≡ planBy r h c rows
+refused-by r h c rows f = rw (ne-eqb (r .number) 0 f) refl
+
+free-by : (r : Refusal) (h : Head) (c : Rows) (rows : ℕ) → r .number ≡ 0 → record { refusal = r; head = h; rows = c .rows; runs = c .runs; from = c .rows } ≡ planBy r h c rows
+free-by r h c rows z = rw (eq-eqb (r .number) 0 z) refl
 
 returns : tie.Need-returns
-unfolding fitPlan
-returns c = let h = c .before .before in let e = sym (h .head-good .ensures) ∙ not-true (h .head-good .result) (c .before .if1 .taken) in rw e (c .refuse .ensures)
-
-refuse-requires-2 : tie.Need-refuse-requires-2
-refuse-requires-2 c κs = search needs
+returns c = let r = c .before .before .before in let a = r .before .args in c .refused .ensures ∙ refused-by (r .refuse-rows .result) (a .head) (a .c) (a .rows) (c .before .if1 .taken) ∙ by r
 
 returns-2 : tie.Need-returns-2
-unfolding fitPlan
-returns-2 c = let h = c .before .before .before .before in let e = sym (h .head-good .ensures) ∙ not-false (h .head-good .result) (c .before .before .before .if1 .left) in let g = not-true (h .before .args .c .good) (c .before .if2 .taken) in rw (e, g) (c .refuse2 .ensures)
-
-refuse-requires-3 : tie.Need-refuse-requires-3
-refuse-requires-3 c κs = search needs
-
-returns-3 : tie.Need-returns-3
-unfolding fitPlan
-returns-3 c = let a = c .before in let b = a .before .before in let d = b .before .before in let h = d .before in let e = sym (h .head-good .ensures) ∙ not-false (h .head-good .result) (d .if1 .left) in let g = not-false (h .before .args .c .good) (b .if2 .left) in rw (e, g, lt-ltb _ _ (a .if3 .taken)) (c .refuse3 .ensures)
-
-refuse-requires-4 : tie.Need-refuse-requires-4
-refuse-requires-4 c κs = search needs
-
-returns-4 : tie.Need-returns-4
-unfolding fitPlan
-returns-4 c = let z = c .before in let a = z .before .before in let b = a .before .before in let d = b .before .before in let h = d .before in let e = sym (h .head-good .ensures) ∙ not-false (h .head-good .result) (d .if1 .left) in let g = not-false (h .before .args .c .good) (b .if2 .left) in rw (e, g, le-ltb _ _ (a .if3 .left), lt-ltb _ _ (z .if4 .taken)) (c .refuse4 .ensures)
-
-returns-5 : tie.Need-returns-5
-unfolding fitPlan
-returns-5 c = let z = c in let a = z .before .before in let b = a .before .before in let d = b .before .before in let h = d .before in let e = sym (h .head-good .ensures) ∙ not-false (h .head-good .result) (d .if1 .left) in let g = not-false (h .before .args .c .good) (b .if2 .left) in rw (e, g, le-ltb _ _ (a .if3 .left), le-ltb _ _ (z .if4 .left)) refl
+returns-2 c = let r = c .before .before in let a = r .before .args in free-by (r .refuse-rows .result) (a .head) (a .c) (a .rows) (c .if1 .left) ∙ by r
 
 pub plan-fine-spec : {M : Type 1} → statement M
-plan-fine-spec =
-    tie.close
-    (tie.spec
-    head-good-requires
-    refuse-requires
-    returns
-    refuse-requires-2
-    returns-2
-    refuse-requires-3
-    returns-3
-    refuse-requires-4
-    returns-4
-    returns-5)
+plan-fine-spec = tie.close (tie.spec (λ c κs. search needs) (λ c κs. search needs) returns returns-2)

@@ -250,14 +250,14 @@ module _ {M : Type 1} (𝓤 : URA M) (H : Heap 𝓤) (A : Atoms 𝓤) (W : Given
         assigns ! (agg ! (and-then ! (load ! (from ! (stop !)) (look ! 14 refl)) (and-then ! (load ! (from ! (fld ! refl (stop !))) (look-in ! 34 (sub ! 1 refl (whole !)))) (no-more !)))) (from ! (stop !)) (init ! 12 refl (tt, (tt, (record { fits = rm-r .0 }, tt)))) $
         move ! (7 ∷ 6 ∷ []) $
         -- [t1; rows; t3; t2; t0; right; left; text; _15; ..; _0]
-        calls-clear-rows ! fm mem run known-clear (κs .1 .0) (qs .1 .0) (xr .ptr .0) (xr .ptr .1) (length (xr .now)) (xr .name) (xr .now) (r .from) refl rm-r (small (inside r loads .from)) (inside r loads .from) (λ νa δa. (and-then ! (load ! (from ! (stop !)) (look ! 12 refl)) (and-then ! (load ! (from ! (fld ! refl (stop !))) (look-in ! 28 (sub ! 5 refl (whole !)))) (no-more !)))) (λ za is-a long-a.
+        calls-clear-rows ! fm mem run known-clear (κs .1 .0) (qs .1 .0) (xr .ptr .0) (xr .ptr .1) (length (xr .now)) (xr .name) (xr .now) (r .from) refl rm-r (small (inside r loads .from)) (inside r loads .from) (λ νa δa. (and-then ! (load ! (from ! (stop !)) (look ! 12 refl)) (and-then ! (load ! (from ! (fld ! refl (stop !))) (look-in ! 28 (sub ! 4 refl (whole !)))) (no-more !)))) (λ za is-a long-a.
         land ! (from ! (stop !)) (init ! 16 refl (tt, tt)) $
         assigns ! (addr ! (from ! (fld ! refl (hop ! (look-in ! 34 (sub ! 0 refl (whole !))) (stop !))))) (from ! (stop !)) (init ! 10 refl (tt, tt)) $
         assigns ! (agg ! (and-then ! (load ! (from ! (stop !)) (look ! 10 refl)) (and-then ! (load ! (from ! (fld ! refl (stop !))) (look-in ! 34 (sub ! 1 refl (whole !)))) (no-more !)))) (from ! (stop !)) (init ! 8 refl (tt, (tt, (record { fits = rm-r .0 }, tt)))) $
         move ! (4 ∷ 0 ∷ 7 ∷ 1 ∷ []) $
         group ! 4 $ use1 W (raw (FillRows 𝓤 H A mem run .pre (to-fill (r .rows) za))) (asks-fill (r .rows) za (small (inside r loads .rows)) (omega (arith, inside r loads .rows, long-a))) $
         -- [pre; t3; t2; right; left; _15; ..; _0]
-        calls-at ! fm (FillRows 𝓤 H A mem run) known-fill (to-fill (r .rows) za) (and-then ! (load ! (from ! (stop !)) (look ! 33 refl)) (and-then ! (load ! (from ! (fld ! refl (stop !))) (look-in ! 25 (sub ! 3 refl (whole !)))) (and-then ! (load ! (from ! (stop !)) (look ! 5 refl)) (no-more !)))) (λ w′.
+        calls-at ! fm (FillRows 𝓤 H A mem run) known-fill (to-fill (r .rows) za) (and-then ! (load ! (from ! (stop !)) (look ! 33 refl)) (and-then ! (load ! (from ! (fld ! refl (stop !))) (look-in ! 25 (sub ! 2 refl (whole !)))) (and-then ! (load ! (from ! (stop !)) (look ! 5 refl)) (no-more !)))) (λ w′.
         use1 W (later (some (λ (u : Unit {0}). ((t0 ⊛ t1 ⊛ ‵ ftrue) ⊛ ‵ (Nothing .own u (w′ ∷ []))) ⊛ raw (ensured 𝓤 H A fill-rows.ended (fill-rows.clauses 𝓤 H A mem run) (κs .0, (κs .1 .0, tt)) (xt, (r .rows, (cleared za, tt))) tt u)))) (id⊢ 𝓤 _) $ await ! tt $ pick ! (λ u. split ! $
         move ! (1 ∷ []) $
         use1 W (some (λ (zs : Unit {0} × (Unit {0} × (List Row × Unit {0}))). ‵ (lasts fill-rows.ended (κs .0, (κs .1 .0, tt)) (xt, (r .rows, (cleared za, tt))) zs) ⊛ raw (fact 𝓤 (zs .1 .1 .0 ≡ stored (xt .now) (r .rows) za)))) (id⊢ 𝓤 _) $ pick ! (λ zs. split ! $

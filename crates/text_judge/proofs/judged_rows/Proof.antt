@@ -1,10 +1,10 @@
--- `payout_answer::judged_rows` meets its contract. By its tests, in the order of the definition. Assumes nothing.
+-- `text_judge::judged_rows` meets its contract. By its tests, in the order of the definition. Assumes nothing.
 use mathlib.Core.Path.{refl, sym, _∙_}
 use borrow.Author.Tests.{not-true, not-false}
-use Rattle.payout_answer.specs.Judged.{judgedRows}
+use Rattle.text_judge.specs.Judged.{judgedRows}
 use borrow.Author.Needs.{needs}
-use Rattle.payout_answer.proofs.judged_rows.Statement.{statement}
-use Rattle.payout_answer.proofs.judged_rows.Tie as tie
+use Rattle.text_judge.proofs.judged_rows.Statement.{statement}
+use Rattle.text_judge.proofs.judged_rows.Tie as tie
 
 head-good-requires : tie.Need-head-good-requires
 head-good-requires c κs = search needs

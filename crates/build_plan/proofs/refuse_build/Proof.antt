@@ -1,0 +1,30 @@
+-- `build_plan::refuse_build` meets its contract: each test is a line of the table. Assumes nothing.
+use borrow.Author.Needs.{needs}
+use Rattle.meaning_entries.specs.Refusal.{windowOutside, widthOutside, mergeOutside}
+use Rattle.conditions.specs.Refusal.{line-before, series-before}
+use Rattle.build_plan.proofs.refuse_build.Statement.{statement}
+use Rattle.build_plan.proofs.refuse_build.Tie as tie
+
+returns : tie.Need-returns
+unfolding windowOutside widthOutside mergeOutside
+returns c =
+    let window = c .before in
+    let width = window .before .before in
+    let merge = width .before .before in
+    let room = merge .before .before in
+    series-before (room .before .args .series .now) _ (line-before 3 _ _ (line-before 4 _ _ (line-before 5 _ _ (room .refuse-room .ensures) (merge .before .merge-outside .ensures) (merge .refuse-if .ensures))
+    (width .before .width-outside .ensures) (width .refuse-if2 .ensures)) (window .before .window-outside .ensures) (window .refuse-if3 .ensures)) (c .refuse-series .ensures)
+
+pub refuse-build-spec : {M : Type 1} → statement M
+refuse-build-spec =
+    tie.close
+    (tie.spec
+    (λ c κs. search needs)
+    (λ c κs. search needs)
+    (λ c κs. search needs)
+    (λ c κs. search needs)
+    (λ c κs. search needs)
+    (λ c κs. search needs)
+    (λ c κs. search needs)
+    (λ c κs. search needs)
+    returns)

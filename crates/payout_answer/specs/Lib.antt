@@ -1,2 +1,0 @@
--- What judging an index text said, as the audit is planned by it (`Judged`).
-pub mod Judged
