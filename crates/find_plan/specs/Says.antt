@@ -21,11 +21,11 @@ use Rattle.meaning_text.specs.Read.{readText, fine, unfit, lineOf}
 use Rattle.meaning_text.specs.Texts.{programForm, kindSaid}
 use Rattle.meaning_text.proofs.Automaton.{Fed, going, failed}
 use Rattle.meaning_text.proofs.Reading.{on-flag}
-use Rattle.meaning_entries.specs.Refusal.{Condition, valueOutside, flatQuery, badLine, unreadable}
+use Rattle.meaning_entries.specs.Refusal.{valueOutside, flatQuery, badLine, unreadable}
 use Rattle.meaning_entries.specs.Build.{widthLines}
 use Rattle.meaning_entries.specs.Search.{valueLines, limitLines}
 use Rattle.meaning_entries.specs.Program.{ProgramCall, programSaid, textProgram, callLines, programTable}
-use Rattle.meaning_entries.proofs.Refusal.{Passed, more, same-behind, passed-both, openLines, passed-line}
+use Rattle.meaning_entries.proofs.Refusal.{Passed, same-behind, passed-both, openLines, passed-line, passed-behind}
 use Rattle.meaning_entries.proofs.Lines.{window-line, width-line, merge-line, band-line, threshold-line, scale-line}
 use Rattle.conditions.specs.Refusal.{refusalOf, asRefusal, place-is, place-none}
 use Rattle.text_lines.specs.declared.State.{State}
@@ -256,7 +256,7 @@ asked-is kept asked t p line numbers series query (s, l) long room h = by-test (
         let w = program-done kept asked t numbers series query p (is-done (p .state) d) s in
         let g = w .0 in
         let o = w .2 in
-        let k = passed-parts (p .series) (p .query) (numbersAt numbers) query (tail h) in
+        let k = passed-parts (p .series) (p .query) (numbersAt numbers) query (passed-behind h 12) in
         let few = series-few (p .series) (p .query) (k .0) in
         let short = query-few (p .series .count) (p .query .count) (numbersAt numbers) (k .1) in
         let lim = passed-limited (p .series .count) (p .query .count) (numbersAt numbers) (k .1) in
@@ -268,6 +268,3 @@ asked-is kept asked t p line numbers series query (s, l) long room h = by-test (
           short = short;
           call = text-said t g (w .1) ∙ said-is g numbers _ _ (o .alone) values curve lim;
         }
-      where
-        tail : {c : Condition} {l : List Condition} → Passed (c ∷ l) → Passed l
-        tail (more e h) = h

@@ -1,6 +1,6 @@
 -- The end of the input: what refuses is printed (`refused-end`), and where nothing does, what was read is what the program was asked (`call-free`), and what it prints then is what document 01 says (`printed-end`). Assumes nothing.
 use mathlib.Core.Path.{_≡_, sym, ap, _∙_, subst}
-use mathlib.Core.List.{List, _∷_}
+use mathlib.Core.List.{List}
 use Prim.Native.Nat.{ℕ, _+_, _<_, _≤_, _^_}
 use native.Mathlib.Omega.{arith}
 use lib.Dec.{T}
@@ -8,9 +8,8 @@ use lib.IntN.{ℤ}
 use lib.ListN.{length, take, drop}
 use lib.Seq.{take-append-seam}
 use Rattle.meaning_text.specs.Texts.{refusedText}
-use Rattle.meaning_entries.specs.Refusal.{Condition}
 use Rattle.meaning_entries.specs.Program.{ProgramCall, callLines, programTable, printed, program}
-use Rattle.meaning_entries.proofs.Refusal.{Passed, more, passed-is, openLines, passed-line, lacks}
+use Rattle.meaning_entries.proofs.Refusal.{Passed, passed-is, openLines, passed-line, lacks, passed-behind}
 use Rattle.conditions.specs.declared.Refusal.{Refusal}
 use Rattle.conditions.specs.Refusal.{refusalOf, passes, refuses}
 use Rattle.text_put.specs.Put.{Put, put-room, put-length}
@@ -18,7 +17,7 @@ use Rattle.text_feed.specs.declared.Progress.{Progress}
 use Rattle.find_plan.specs.declared.Input.{Input}
 use Rattle.find_plan.specs.Input.{Stands}
 use Rattle.find_plan.specs.Tables.{numbersAt, endTable, SoundEnd, askedOf, callOf, valuesTable, numbersTable, callTable}
-use Rattle.find_plan.specs.Says.{stands-sound, end-is, Given, asked-is, table-is}
+use Rattle.find_plan.specs.Says.{stands-sound, end-is, Given, asked-is}
 use Rattle.find_answer.specs.Sizes.{refused-size}
 use Rattle.find_answer.specs.Finish.{Prints, Reached, Finishes}
 
@@ -62,9 +61,6 @@ program-lacks : (t : List ℕ) → T (lacks 0 (programTable t))
 unfolding openLines lacks callLines programTable
 program-lacks t = tt
 
-tail : {c : Condition} {l : List Condition} → Passed (c ∷ l) → Passed l
-tail (more e h) = h
-
 module _ (r : Input) (numbers series query : List ℤ) (w : Refusal) (e : w ≡ refusalOf (endTable r numbers query)) (z : w .number ≡ 0) where
   free : Passed (endTable r numbers query)
   free = passes (endTable r numbers query) (end-lacks r numbers query) e z
@@ -85,9 +81,10 @@ module _ (r : Input) (numbers series query : List ℤ) (w : Refusal) (e : w ≡ 
     given-here h = given (h .kept) (h .asked) (h .text) (h .long) (h .short) (h .stands)
 
     pub call-free : Reached r numbers series query → Passed (callLines (callOf (take (p .series .count) series) (take (p .query .count) query) (askedOf (numbersAt numbers))))
+    unfolding openLines programTable
     call-free h =
         let f = program-free (h .kept) (h .asked) (h .text) (h .long) (h .short) (h .stands) in
-        subst (λ (c : ProgramCall). Passed (callLines c)) (given-here h .call) (tail (subst Passed (table-is (h .text)) f))
+        subst (λ (c : ProgramCall). Passed (callLines c)) (given-here h .call) (passed-behind f 12)
 
     pub printed-end : (new : List ℕ) (to : ℕ) → Prints (printed (callOf (take (p .series .count) series) (take (p .query .count) query) (askedOf (numbersAt numbers)))) new to → Finishes r numbers series query new to
     unfolding program
