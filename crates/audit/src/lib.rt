@@ -2,6 +2,7 @@
 ghost use mathlib.Core.Path.{_≡_};
 ghost use mathlib.Core.Bool.{true};
 ghost use Prim.Native.Nat.{_+_, _-_, _<_};
+ghost use Rattle.meaning_curves.specs.Limits.{longestWindow};
 ghost use Rattle.meaning_curves.specs.Curve.{windowSum};
 ghost use Rattle.meaning_curves.proofs.Values.{AllIn};
 ghost use lib.ListN.{length};
@@ -50,7 +51,7 @@ pub fn holds(low: i32, up: i32, sum: i32) -> bool
 // The sum of a window's values but the last.
 pub fn part_sum(s: &[i32], rest: usize, j: usize) -> i32
     requires { ⌜ j + rest < length (now s) ⌝ }
-    requires { ⌜ rest < 256 ⌝ }
+    requires { ⌜ rest < longestWindow ⌝ }
     requires { ⌜ AllIn (now s) ⌝ }
     ensures { λ r. ⌜ r ≡ windowSum (now (s .entry)) rest j ⌝ }
 {
@@ -62,7 +63,7 @@ pub fn part_sum(s: &[i32], rest: usize, j: usize) -> i32
 // The sum of a window, of the sum of its values but the last: that one comes in.
 pub fn value_in(s: &[i32], rest: usize, j: usize, part: i32) -> i32
     requires { ⌜ j + rest < length (now s) ⌝ }
-    requires { ⌜ rest < 256 ⌝ }
+    requires { ⌜ rest < longestWindow ⌝ }
     requires { ⌜ AllIn (now s) ⌝ }
     requires { ⌜ part ≡ windowSum (now s) rest j ⌝ }
     ensures { λ r. ⌜ r ≡ windowSum (now (s .entry)) (rest + 1) j ⌝ }
@@ -74,7 +75,7 @@ pub fn value_in(s: &[i32], rest: usize, j: usize, part: i32) -> i32
 // The sum of the next window's values but the last: the first of this window goes out.
 pub fn value_out(s: &[i32], rest: usize, j: usize, sum: i32) -> i32
     requires { ⌜ j + rest < length (now s) ⌝ }
-    requires { ⌜ rest < 256 ⌝ }
+    requires { ⌜ rest < longestWindow ⌝ }
     requires { ⌜ AllIn (now s) ⌝ }
     requires { ⌜ sum ≡ windowSum (now s) (rest + 1) j ⌝ }
     ensures { λ r. ⌜ r ≡ windowSum (now (s .entry)) rest (j + 1) ⌝ }

@@ -7,6 +7,7 @@ use meaning_rows::Row;
 use merging::merge_packed;
 use records::clear_rows;
 ghost use mathlib.Core.Path.{_≡_};
+ghost use Rattle.meaning_curves.specs.Limits.{greatestValue, greatestMerge};
 ghost use Rattle.filing.specs.Levels.{windowsOf};
 ghost use Prim.Native.Nat.{ℕ, _+_, _*_, _≤_};
 ghost use lib.ListN.{length};
@@ -68,7 +69,7 @@ pub fn build_rows(
     left: &mut [u32],
     right: &mut [u32],
 ) -> usize
-    requires { ⌜ (LayAsked (now s) w e d (now left) (now right)) × (bias ≡ 10000 * w + e) × (windowsOf (now s) w ≤ length (now rows)) × (g ≤ 100) ⌝ }
+    requires { ⌜ (LayAsked (now s) w e d (now left) (now right)) × (bias ≡ greatestValue * w + e) × (windowsOf (now s) w ≤ length (now rows)) × (g ≤ greatestMerge) ⌝ }
     ensures { λ k. ⌜ (k ≡ length (built (now (s .entry)) w d g .rows))
         × Holds d g (now (s .entry)) w (buffers (now (rows .entry)) (now (left .entry)) (now (right .entry))) (buffers (now (rows .exit)) (now (left .exit)) (now (right .exit))) ⌝ }
 {

@@ -9,6 +9,7 @@ use records::row_at;
 ghost use mathlib.Core.Path.{_≡_};
 ghost use Prim.Native.Nat.{_+_, _-_, _≤_};
 ghost use lib.ListN.{length};
+ghost use Rattle.meaning_curves.specs.Limits.{mostValues};
 ghost use Rattle.meaning_curves.specs.Curve.{windowCount};
 ghost use Rattle.meaning_entries.specs.Build.{lentBuild};
 ghost use Rattle.meaning_entries.specs.Demand2.{BuildKept};
@@ -35,7 +36,7 @@ pub fn place_before(n: usize) -> usize
 
 // The answer of a call that built `n` rows, the last of which is `r`.
 pub fn answer(series: &[i32], w: u32, d: u32, n: usize, r: Row) -> Built
-    requires { ⌜ (w ≤ length (now series)) × (length (now series) ≤ 1048576) ⌝ }
+    requires { ⌜ (w ≤ length (now series)) × (length (now series) ≤ mostValues) ⌝ }
     ensures { λ b. ⌜ b ≡ indexAs (windowCount (length (now (series .entry))) w) w d n r ⌝ }
 {
     let windows = series.len() + 1 - w as usize;

@@ -7,6 +7,7 @@ use conditions::refuse_series;
 use conditions::width_outside;
 use conditions::window_outside;
 use judge::lesser;
+use numbers::RAISE;
 use pack::raised_rows;
 ghost use mathlib.Core.Path.{_≡_};
 ghost use Rattle.meaning_entries.specs.Build.{lentBuild, buildLines};
@@ -63,7 +64,7 @@ pub fn make_plan(
         refusal,
         window: w as usize,
         width: wide,
-        extra: bias - 10000 * long,
+        extra: bias - RAISE * long,
         bias: bias,
     }
 }

@@ -6,6 +6,7 @@ ghost use mathlib.Core.List.{[], _++_};
 ghost use Prim.Native.Nat.{_+_, _-_, _<_, _≤_, min};
 ghost use lib.ListN.{length, take, drop, replicate};
 ghost use Rattle.meaning_numbers.specs.Sum.{bit, count};
+ghost use Rattle.meaning_curves.specs.Limits.{mostValues};
 ghost use Rattle.meaning_rows.specs.Index.{entries};
 ghost use Rattle.meaning_rows.proofs.Columns.{putLeft, putRight};
 ghost use Rattle.meaning_entries.specs.Buffers.{filled};
@@ -172,7 +173,7 @@ pub fn write_runs(
     left: &mut [u32],
     right: &mut [u32],
 ) -> Found
-    requires { ⌜ (offsets ≤ length (now scratch)) × (offsets ≤ length (now left)) × (offsets ≤ length (now right)) × (offsets ≤ 1048576) ⌝ }
+    requires { ⌜ (offsets ≤ length (now scratch)) × (offsets ≤ length (now left)) × (offsets ≤ length (now right)) × (offsets ≤ mostValues) ⌝ }
     ensures { λ r. ⌜ Columns (stood (now (scratch .entry)) p) offsets (now (left .entry)) (now (right .entry)) (now (left .exit)) (now (right .exit)) (r .runs) (r .candidates) ⌝ }
 {
     let mut out = Found {
@@ -219,7 +220,7 @@ pub fn collect(
     left: &mut [u32],
     right: &mut [u32],
 ) -> Found
-    requires { ⌜ (offsets ≤ length (now scratch)) × (offsets ≤ length (now left)) × (offsets ≤ length (now right)) × (offsets ≤ 1048576) ⌝ }
+    requires { ⌜ (offsets ≤ length (now scratch)) × (offsets ≤ length (now left)) × (offsets ≤ length (now right)) × (offsets ≤ mostValues) ⌝ }
     ensures { λ r. ⌜ Handed (stood (now (scratch .entry)) p) offsets (now (left .entry)) (now (right .entry)) (now (left .exit)) (now (right .exit)) (r .runs) (r .candidates) × (now (scratch .exit) ≡ filled 0 [] (now (scratch .entry))) ⌝ }
 {
     let found = write_runs(scratch, p, offsets, left, right);

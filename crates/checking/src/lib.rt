@@ -2,6 +2,7 @@
 use distance::match_at;
 use distance_compare::Match;
 use distance_query::Query;
+use meaning_curves::LONGEST_QUERY;
 use meaning_filter::Kind;
 use meaning_filter::Limits;
 use numbers::lesser;
@@ -13,6 +14,7 @@ ghost use mathlib.Core.List.{[], _∷_};
 ghost use Prim.Native.Nat.{_+_, _-_, _<_, _≤_};
 ghost use lib.ListN.{length, take};
 ghost use Rattle.meaning_numbers.specs.Place.{numbersFrom};
+ghost use Rattle.meaning_curves.specs.Limits.{mostValues, longestQuery};
 ghost use Rattle.meaning_curves.proofs.Values.{AllIn};
 ghost use Rattle.meaning_filter.specs.declared.Kind.{Kind};
 ghost use Rattle.meaning_filter.specs.Matches.{offsetCount};
@@ -23,7 +25,7 @@ ghost use Rattle.checking.specs.Found.{asked, Prepared, RunsLent, SumsFo
 
 // The sums of the stretch at a run's start.
 pub fn first_sums(kind: Kind, s: &[i32], from: usize, m: usize) -> Sums
-    requires { ⌜ (from + m ≤ length (now s)) × (m ≤ 1024) × AllIn (now s) ⌝ }
+    requires { ⌜ (from + m ≤ length (now s)) × (m ≤ longestQuery) × AllIn (now s) ⌝ }
     ensures { λ r. ⌜ SumsFor kind (now (s .entry)) from m (r .values) (r .squares) ⌝ }
 {
     match kind {
@@ -37,7 +39,7 @@ pub fn first_sums(kind: Kind, s: &[i32], from: usize, m: usize) -> Sums
 
 // The sums of the next stretch; past the last one they stay.
 pub fn slide_sums(kind: Kind, s: &[i32], from: usize, m: usize, t: Sums) -> Sums
-    requires { ⌜ (from + m ≤ length (now s)) × (m ≤ 1024) × AllIn (now s) ⌝ }
+    requires { ⌜ (from + m ≤ length (now s)) × (m ≤ longestQuery) × AllIn (now s) ⌝ }
     requires { ⌜ SumsFor kind (now s) from m (t .values) (t .squares) ⌝ }
     ensures { λ r. ⌜ SumsFor kind (now (s .entry)) (from + 1) m (r .values) (r .squares) ⌝ }
 {
@@ -55,7 +57,7 @@ pub fn slide_sums(kind: Kind, s: &[i32], from: usize, m: usize, t: Sums) -> Sums
 
 // An entry behind the first `k`, where both slices have room.
 pub fn put_entry(j: usize, distance: u64, k: usize, offsets: &mut [u32], distances: &mut [u64])
-    requires { ⌜ (j ≤ 1048576) ⌝ }
+    requires { ⌜ (j ≤ mostValues) ⌝ }
     ensures { λ _. ⌜ Listed ((j, distance) ∷ []) k (k + 1) (now (offsets .entry)) (now (distances .entry)) (now (offsets .exit)) (now (distances .exit)) ⌝ }
 {
     if k < offsets.len() {
@@ -74,7 +76,7 @@ pub fn list_match(
     offsets: &mut [u32],
     distances: &mut [u64],
 ) -> usize
-    requires { ⌜ (j ≤ 1048576) × (k ≤ 1048576) ⌝ }
+    requires { ⌜ (j ≤ mostValues) × (k ≤ mostValues) ⌝ }
     ensures { λ r. ⌜ Listed (entriesOf j tested) k r (now (offsets .entry)) (now (distances .entry)) (now (offsets .exit)) (now (distances .exit)) ⌝ }
 {
     match tested {
@@ -214,8 +216,8 @@ pub fn check_runs(
     requires { ⌜ RunsLent (offsetCount (asked kind (now s) (now q) l)) (now left) (now right) runs ⌝ }
     ensures { λ r. ⌜ ListFilled (found (asked kind (now (s .entry)) (now (q .entry)) l) (members (lentRuns (now (left .entry)) (now (right .entry)) runs))) r (now (offsets .entry)) (now (distances .entry)) (now (offsets .exit)) (now (distances .exit)) ⌝ }
 {
-    let mut room: [i32; 1024] = [0; 1024];
-    let mut row: [u64; 1025] = [0; 1025];
+    let mut room: [i32; LONGEST_QUERY] = [0; LONGEST_QUERY];
+    let mut row: [u64; LONGEST_QUERY + 1] = [0; LONGEST_QUERY + 1];
     let m = q.len();
     let n = check_each(
         kind,

@@ -1,5 +1,14 @@
 // The conditions under which a call is refused, a function each, and the first of them that applies (01, 'Refused for the input' and 'Refused for the state').
 use judge::Judged;
+use meaning_curves::GREATEST_MERGE;
+use meaning_curves::GREATEST_SCALE;
+use meaning_curves::GREATEST_SHIFT;
+use meaning_curves::GREATEST_THRESHOLD;
+use meaning_curves::LEAST_SCALE;
+use meaning_curves::LONGEST_QUERY;
+use meaning_curves::LONGEST_WINDOW;
+use meaning_curves::MOST_VALUES;
+use meaning_curves::WIDEST_ROW;
 use values::Place;
 use values::first_outside;
 ghost use mathlib.Core.Path.{_≡_};
@@ -69,7 +78,7 @@ pub fn refuse_value(s: &[i32], after: Refusal) -> Refusal
 pub fn refuse_series(s: &[i32], after: Refusal) -> Refusal
     ensures { λ r. ⌜ r ≡ refuseIf (not (lengthIn mostValues (length (now (s .entry))))) 1 (refuseAt 2 (firstOutside (now (s .entry))) after) ⌝ }
 {
-    if length_in(1048576, s.len()) {
+    if length_in(MOST_VALUES, s.len()) {
         return refuse_value(s, after);
     }
     Refusal {
@@ -82,28 +91,28 @@ pub fn refuse_series(s: &[i32], after: Refusal) -> Refusal
 pub fn window_outside(w: u32, n: usize) -> bool
     ensures { λ b. ⌜ b ≡ (not (windowIn (pos w)) || ltZ (pos n) (pos w)) ⌝ }
 {
-    !((1 <= w) & (w <= 256)) | (n < w as usize)
+    !((1 <= w) & (w <= LONGEST_WINDOW)) | (n < w as usize)
 }
 
 // A row width is outside its limits.
 pub fn width_outside(d: u32) -> bool
     ensures { λ b. ⌜ b ≡ not (widthIn (pos d)) ⌝ }
 {
-    !((1 <= d) & (d <= 1000000))
+    !((1 <= d) & (d <= WIDEST_ROW))
 }
 
 // A merge percentage is outside its limits.
 pub fn merge_outside(g: u32) -> bool
     ensures { λ b. ⌜ b ≡ not (mergeIn (pos g)) ⌝ }
 {
-    !(g <= 100)
+    !(g <= GREATEST_MERGE)
 }
 
 // The length of a query is outside its limits, or above that of the series.
 pub fn query_length_outside(m: usize, n: usize) -> bool
     ensures { λ b. ⌜ b ≡ (not (queryLengthIn m) || ltb n m) ⌝ }
 {
-    !((1 <= m) & (m <= 1024)) | (n < m)
+    !((1 <= m) & (m <= LONGEST_QUERY)) | (n < m)
 }
 
 // A query is shorter than a window.
@@ -124,14 +133,14 @@ pub fn band_outside(m: usize, band: u32) -> bool
 pub fn threshold_outside(threshold: u64) -> bool
     ensures { λ b. ⌜ b ≡ not (thresholdIn (pos threshold)) ⌝ }
 {
-    !(threshold <= 1000000000000)
+    !(threshold <= GREATEST_THRESHOLD)
 }
 
 // A scale limit or a shift limit is outside its limits.
 pub fn scale_or_shift_outside(scale: u32, shift: u32) -> bool
     ensures { λ b. ⌜ b ≡ (not (scaleIn (pos scale)) || not (shiftIn (pos shift))) ⌝ }
 {
-    !((10 <= scale) & (scale <= 100)) | !(shift <= 20000)
+    !((LEAST_SCALE <= scale) & (scale <= GREATEST_SCALE)) | !(shift <= GREATEST_SHIFT)
 }
 
 // An index of so many windows has fewer than a series of n values.

@@ -10,6 +10,7 @@ use values::Sums;
 use values::spread_of;
 ghost use mathlib.Core.Path.{_≡_};
 ghost use Prim.Native.Nat.{_+_, _<_, _≤_};
+ghost use Rattle.meaning_curves.specs.Limits.{longestQuery, greatestScale};
 ghost use Rattle.meaning_curves.specs.Curve.{at, stretch};
 ghost use Rattle.meaning_curves.proofs.Values.{AllIn};
 ghost use Rattle.meaning_filter.specs.declared.Kind.{Kind};
@@ -22,7 +23,7 @@ ghost use Rattle.distance.specs.Alike.{Alike, Says};
 pub fn alike(a: u64, p: u64, query: Query, m: usize, l: Limits) -> bool
     requires { ⌜ a ≤ 419430400000000 ⌝ }
     requires { ⌜ query .spread ≤ 419430400000000 ⌝ }
-    requires { ⌜ (m ≤ 1024) × (l .scale ≤ 100) ⌝ }
+    requires { ⌜ (m ≤ longestQuery) × (l .scale ≤ greatestScale) ⌝ }
     ensures { λ r. ⌜ Says r (Alike a p (query .spread) (query .values) m (l .scale) (l .shift)) ⌝ }
 {
     if a == 0 {
@@ -55,9 +56,9 @@ pub fn match_normal(
     row: &mut [u64],
 ) -> Match
     requires { do ⌜ from + (← ⟦q.len()⟧) ≤ (← ⟦s.len()⟧) ⌝ }
-    requires { do ⌜ (0 < (← ⟦q.len()⟧)) × ((← ⟦q.len()⟧) ≤ 1024) ⌝ }
+    requires { do ⌜ (0 < (← ⟦q.len()⟧)) × ((← ⟦q.len()⟧) ≤ longestQuery) ⌝ }
     requires { do ⌜ ((← ⟦room.len()⟧) ≡ (← ⟦q.len()⟧)) × ((← ⟦q.len()⟧) < (← ⟦row.len()⟧)) ⌝ }
-    requires { ⌜ AllIn (now s) × AllIn (now q) × (l .scale ≤ 100) ⌝ }
+    requires { ⌜ AllIn (now s) × AllIn (now q) × (l .scale ≤ greatestScale) ⌝ }
     requires { do ⌜ AreSums (now s) from (← ⟦q.len()⟧) (t .values) (t .squares) ⌝ }
     requires { ⌜ Ready Kind.Normal (now q) (l .band) (now curve) (now low) (now high) (query .values) (query .spread) ⌝ }
     ensures { λ r. do ⌜ r ≡ matched Kind.Normal (stretch (now (s .entry)) from) (at (now (q .entry))) (← ⟦q.len()⟧ .entry) l ⌝ }
@@ -89,9 +90,9 @@ pub fn match_at(
     row: &mut [u64],
 ) -> Match
     requires { do ⌜ from + (← ⟦q.len()⟧) ≤ (← ⟦s.len()⟧) ⌝ }
-    requires { do ⌜ (0 < (← ⟦q.len()⟧)) × ((← ⟦q.len()⟧) ≤ 1024) ⌝ }
+    requires { do ⌜ (0 < (← ⟦q.len()⟧)) × ((← ⟦q.len()⟧) ≤ longestQuery) ⌝ }
     requires { do ⌜ ((← ⟦room.len()⟧) ≡ (← ⟦q.len()⟧)) × ((← ⟦q.len()⟧) < (← ⟦row.len()⟧)) ⌝ }
-    requires { ⌜ AllIn (now s) × AllIn (now q) × (l .scale ≤ 100) ⌝ }
+    requires { ⌜ AllIn (now s) × AllIn (now q) × (l .scale ≤ greatestScale) ⌝ }
     requires { do ⌜ (kind ≡ Kind.Normal → AreSums (now s) from (← ⟦q.len()⟧) (t .values) (t .squares)) ⌝ }
     requires { ⌜ Ready kind (now q) (l .band) (now curve) (now low) (now high) (query .values) (query .spread) ⌝ }
     ensures { λ r. do ⌜ r ≡ matched kind (stretch (now (s .entry)) from) (at (now (q .entry))) (← ⟦q.len()⟧ .entry) l ⌝ }

@@ -2,6 +2,7 @@
 ghost use mathlib.Core.Path.{_≡_};
 ghost use Prim.Native.Nat.{_+_, _<_, _≤_};
 ghost use Rattle.meaning_numbers.specs.Sum.{Σℕ, square};
+ghost use Rattle.meaning_curves.specs.Limits.{longestQuery};
 ghost use Rattle.meaning_curves.specs.Curve.{at, stretch};
 ghost use Rattle.meaning_curves.proofs.Values.{InLimits, AllIn};
 ghost use Rattle.meaning_filter.proofs.Bound.{excess, apart};
@@ -53,7 +54,7 @@ pub fn envelope_part(s: &[i32], from: usize, low: &[i32], high: &[i32], p: usize
     requires { do ⌜ from + (p + n) ≤ (← ⟦s.len()⟧) ⌝ }
     requires { do ⌜ p + n ≤ (← ⟦low.len()⟧) ⌝ }
     requires { do ⌜ p + n ≤ (← ⟦high.len()⟧) ⌝ }
-    requires { ⌜ n ≤ 1024 ⌝ }
+    requires { ⌜ n ≤ longestQuery ⌝ }
     requires { ⌜ AllIn (now s) × AllIn (now low) × AllIn (now high) ⌝ }
     ensures { λ r. ⌜ r ≡ Σℕ n (λ k. apart (stretch (now (s .entry)) from) (at (now (low .entry))) (at (now (high .entry))) (p + k)) ⌝ }
 {
@@ -70,7 +71,7 @@ pub fn envelope_part(s: &[i32], from: usize, low: &[i32], high: &[i32], p: usize
 pub fn envelope_bound(s: &[i32], from: usize, low: &[i32], high: &[i32], limit: u64) -> u64
     requires { do ⌜ from + (← ⟦low.len()⟧) ≤ (← ⟦s.len()⟧) ⌝ }
     requires { do ⌜ (← ⟦low.len()⟧) ≡ (← ⟦high.len()⟧) ⌝ }
-    requires { do ⌜ (← ⟦low.len()⟧) ≤ 1024 ⌝ }
+    requires { do ⌜ (← ⟦low.len()⟧) ≤ longestQuery ⌝ }
     requires { ⌜ AllIn (now s) × AllIn (now low) × AllIn (now high) ⌝ }
     ensures { λ r. do ⌜ Within (Σℕ (← ⟦low.len()⟧ .entry) (apart (stretch (now (s .entry)) from) (at (now (low .entry))) (at (now (high .entry))))) limit r ⌝ }
 {

@@ -9,6 +9,9 @@ use distance_query::Query;
 use distance_query::prepare;
 use distance_straight::straight;
 use distance_warped::warped_in;
+use meaning_curves::GREATEST_SCALE;
+use meaning_curves::LONGEST_QUERY;
+use meaning_curves::LONGEST_WINDOW;
 use meaning_filter::Kind;
 use meaning_filter::Limits;
 use numbers::root;
@@ -24,6 +27,7 @@ use values::window_sum;
 ghost use mathlib.Core.Path.{_≡_};
 ghost use mathlib.Core.Bool.{true};
 ghost use Prim.Native.Nat.{_+_, _<_, _≤_};
+ghost use Rattle.meaning_curves.specs.Limits.{longestWindow, longestQuery, greatestScale};
 ghost use Rattle.meaning_curves.specs.Curve.{at, stretch, spread, windowSum};
 ghost use Rattle.meaning_curves.proofs.Values.{AllIn};
 ghost use Rattle.meaning_filter.specs.declared.Kind.{Kind};
@@ -31,6 +35,9 @@ ghost use Rattle.values.specs.Sums.{AreSums};
 ghost use Rattle.distance_envelope.specs.Envelope.{Envelopes};
 ghost use Rattle.distance_query.specs.Ready.{Ready};
 ghost use Rattle.distance_c.specs.Fits.{Fits};
+
+// The longest window, as an index.
+const WINDOW: usize = LONGEST_WINDOW as usize;
 
 // Whether each value is in its limits.
 fn all_in(s: &[i32]) -> bool
@@ -49,7 +56,7 @@ fn fits(s: &[i32], m: usize, room: usize) -> bool
     if m == 0 {
         return false;
     }
-    if 1024 < m {
+    if LONGEST_QUERY < m {
         return false;
     }
     if s.len() < m {
@@ -131,7 +138,7 @@ fn each_warped(
 {
     let n = s.len();
     let m = q.len();
-    let mut row: [u64; 1025] = [0; 1025];
+    let mut row: [u64; LONGEST_QUERY + 1] = [0; LONGEST_QUERY + 1];
     let mut at: usize = 0;
     while at <= n - m {
         out[at] = warped_in(s, at, q, low, high, b, limit, &mut row);
@@ -189,7 +196,7 @@ pub extern "C" fn curve_envelopes(q: &[i32], b: usize, low: &mut [i32], high: &m
 // The normalised values of a stretch that is not flat.
 fn normal_values(s: &[i32], from: usize, t: Sums, a: u64, room: &mut [i32])
     requires { do ⌜ from + (← ⟦room.len()⟧) ≤ (← ⟦s.len()⟧) ⌝ }
-    requires { do ⌜ (← ⟦room.len()⟧) ≤ 1024 ⌝ }
+    requires { do ⌜ (← ⟦room.len()⟧) ≤ longestQuery ⌝ }
     requires { ⌜ AllIn (now s) ⌝ }
     requires { do ⌜ AreSums (now s) from (← ⟦room.len()⟧) (t .values) (t .squares) ⌝ }
     requires { do ⌜ a ≡ spread (stretch (now s) from) (← ⟦room.len()⟧) ⌝ }
@@ -202,7 +209,7 @@ fn normal_values(s: &[i32], from: usize, t: Sums, a: u64, room: &mut [i32])
 // The sums of the next stretch, where there is one.
 fn sums_after(s: &[i32], from: usize, m: usize, t: Sums) -> Sums
     requires { do ⌜ from + m ≤ (← ⟦s.len()⟧) ⌝ }
-    requires { ⌜ m ≤ 1024 ⌝ }
+    requires { ⌜ m ≤ longestQuery ⌝ }
     requires { ⌜ AllIn (now s) ⌝ }
     requires { ⌜ AreSums (now s) from m (t .values) (t .squares) ⌝ }
     ensures { λ r. do ⌜ (from + m < (← ⟦s.len()⟧ .entry) → AreSums (now (s .entry)) (from + 1) m (r .values) (r .squares)) ⌝ }
@@ -244,7 +251,7 @@ fn kind_of(n: u32) -> Kind {
 
 // Whether a query can be prepared: a normalised one may not be flat.
 fn can_prepare(kind: Kind, q: &[i32]) -> bool
-    requires { do ⌜ (← ⟦q.len()⟧) ≤ 1024 ⌝ }
+    requires { do ⌜ (← ⟦q.len()⟧) ≤ longestQuery ⌝ }
     requires { ⌜ AllIn (now q) ⌝ }
     ensures { λ r. do ⌜ (r ≡ true → kind ≡ Kind.Normal → 0 < spread (at (now (q .entry))) (← ⟦q.len()⟧ .entry)) ⌝ }
 {
@@ -286,7 +293,7 @@ fn each_match(
 ) -> usize
     requires { do ⌜ Fits (now s) (← ⟦q.len()⟧) (← ⟦out.len()⟧) ⌝ }
     requires { do ⌜ ((← ⟦room.len()⟧) ≡ (← ⟦q.len()⟧)) × ((← ⟦q.len()⟧) < (← ⟦row.len()⟧)) ⌝ }
-    requires { ⌜ AllIn (now q) × (l .scale ≤ 100) ⌝ }
+    requires { ⌜ AllIn (now q) × (l .scale ≤ greatestScale) ⌝ }
     requires { ⌜ Ready kind (now q) (l .band) (now curve) (now low) (now high) (query .values) (query .spread) ⌝ }
 {
     let n = s.len();
@@ -335,7 +342,7 @@ pub extern "C" fn curve_matches(
     if row.len() <= m {
         return 0;
     }
-    if 100 < scale {
+    if GREATEST_SCALE < scale {
         return 0;
     }
     if !fits(s, m, out.len()) {
@@ -361,7 +368,7 @@ pub extern "C" fn curve_matches(
 // The sum of the next window, where there is one.
 fn window_after(s: &[i32], w: usize, at: usize, sum: i32) -> i32
     requires { do ⌜ at + w ≤ (← ⟦s.len()⟧) ⌝ }
-    requires { ⌜ w ≤ 256 ⌝ }
+    requires { ⌜ w ≤ longestWindow ⌝ }
     requires { ⌜ AllIn (now s) ⌝ }
     requires { ⌜ sum ≡ windowSum (now s) w at ⌝ }
     ensures { λ r. do ⌜ (at + w < (← ⟦s.len()⟧ .entry) → r ≡ windowSum (now (s .entry)) w (at + 1)) ⌝ }
@@ -392,7 +399,7 @@ pub extern "C" fn curve_windows(
     rows: &mut [i32],
 ) -> usize {
     let n = s.len();
-    if 256 < w {
+    if WINDOW < w {
         return 0;
     }
     if rows.len() != sums.len() {

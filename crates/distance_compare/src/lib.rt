@@ -7,6 +7,7 @@ use distance_warped::warped_in;
 use values::Sums;
 ghost use mathlib.Core.Path.{_≡_};
 ghost use Prim.Native.Nat.{_+_, _<_, _≤_};
+ghost use Rattle.meaning_curves.specs.Limits.{longestQuery};
 ghost use Rattle.meaning_curves.specs.Curve.{at, stretch};
 ghost use Rattle.meaning_curves.specs.Normal.{normalised};
 ghost use Rattle.meaning_curves.specs.Match.{distance};
@@ -44,7 +45,7 @@ pub fn compare(
     row: &mut [u64],
 ) -> Match
     requires { do ⌜ from + (← ⟦curve.len()⟧) ≤ (← ⟦s.len()⟧) ⌝ }
-    requires { do ⌜ (0 < (← ⟦curve.len()⟧)) × ((← ⟦curve.len()⟧) ≤ 1024) × ((← ⟦curve.len()⟧) < (← ⟦row.len()⟧)) ⌝ }
+    requires { do ⌜ (0 < (← ⟦curve.len()⟧)) × ((← ⟦curve.len()⟧) ≤ longestQuery) × ((← ⟦curve.len()⟧) < (← ⟦row.len()⟧)) ⌝ }
     requires { ⌜ AllIn (now s) × AllIn (now curve) ⌝ }
     requires { do ⌜ Envelopes (now curve) (← ⟦curve.len()⟧) b (now low) (now high) ⌝ }
     ensures { λ r. do ⌜ r ≡ nearness (distance (stretch (now (s .entry)) from) (at (now (curve .entry))) b (← ⟦curve.len()⟧ .entry)) threshold ⌝ }

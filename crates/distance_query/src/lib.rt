@@ -9,6 +9,7 @@ use values::spread_of;
 use values::sums_at;
 ghost use mathlib.Core.Path.{_≡_};
 ghost use Prim.Native.Nat.{_<_, _≤_};
+ghost use Rattle.meaning_curves.specs.Limits.{longestQuery};
 ghost use Rattle.meaning_curves.specs.Curve.{at, stretch, spread};
 ghost use Rattle.meaning_curves.proofs.Values.{AllIn};
 ghost use Rattle.meaning_filter.specs.declared.Kind.{Kind};
@@ -24,7 +25,7 @@ pub struct Query {
 // The curve of a query: its values, or its normalised values, of its sums and its spread.
 pub fn curve_of(kind: Kind, q: &[i32], t: Sums, a: u64, out: &mut [i32])
     requires { do ⌜ (← ⟦out.len()⟧) ≡ (← ⟦q.len()⟧) ⌝ }
-    requires { do ⌜ (← ⟦q.len()⟧) ≤ 1024 ⌝ }
+    requires { do ⌜ (← ⟦q.len()⟧) ≤ longestQuery ⌝ }
     requires { ⌜ AllIn (now q) ⌝ }
     requires { do ⌜ AreSums (now q) 0 (← ⟦q.len()⟧) (t .values) (t .squares) ⌝ }
     requires { do ⌜ a ≡ spread (stretch (now q) 0) (← ⟦q.len()⟧) ⌝ }
@@ -46,7 +47,7 @@ pub fn prepare(
     low: &mut [i32],
     high: &mut [i32],
 ) -> Query
-    requires { do ⌜ (← ⟦q.len()⟧) ≤ 1024 ⌝ }
+    requires { do ⌜ (← ⟦q.len()⟧) ≤ longestQuery ⌝ }
     requires { do ⌜ ((← ⟦curve.len()⟧) ≡ (← ⟦q.len()⟧)) × ((← ⟦low.len()⟧) ≡ (← ⟦q.len()⟧)) ⌝ }
     requires { do ⌜ (← ⟦high.len()⟧) ≡ (← ⟦q.len()⟧) ⌝ }
     requires { ⌜ AllIn (now q) ⌝ }

@@ -3,6 +3,7 @@ use numbers::squared;
 ghost use mathlib.Core.Path.{_≡_};
 ghost use Prim.Native.Nat.{_+_, _≤_};
 ghost use Rattle.meaning_numbers.specs.Sum.{Σℕ};
+ghost use Rattle.meaning_curves.specs.Limits.{longestQuery};
 ghost use Rattle.meaning_curves.specs.Curve.{at, stretch};
 ghost use Rattle.meaning_curves.specs.Straight.{cost, straight};
 ghost use Rattle.meaning_curves.proofs.Values.{AllIn};
@@ -12,7 +13,7 @@ ghost use Rattle.numbers.specs.Within.{Within};
 pub fn part(s: &[i32], from: usize, q: &[i32], p: usize, n: usize) -> u64
     requires { do ⌜ from + (p + n) ≤ (← ⟦s.len()⟧) ⌝ }
     requires { do ⌜ p + n ≤ (← ⟦q.len()⟧) ⌝ }
-    requires { ⌜ n ≤ 1024 ⌝ }
+    requires { ⌜ n ≤ longestQuery ⌝ }
     requires { ⌜ AllIn (now s) ⌝ }
     requires { ⌜ AllIn (now q) ⌝ }
     ensures { λ r. ⌜ r ≡ Σℕ n (λ k. cost (stretch (now (s .entry)) from (p + k)) (at (now (q .entry)) (p + k))) ⌝ }
@@ -32,7 +33,7 @@ pub fn part(s: &[i32], from: usize, q: &[i32], p: usize, n: usize) -> u64
 // The sum of the squared differences of `q` and the stretch of `s` that starts at `from`, where it is at most `limit`; else some number above `limit`.
 pub fn straight(s: &[i32], from: usize, q: &[i32], limit: u64) -> u64
     requires { do ⌜ from + (← ⟦q.len()⟧) ≤ (← ⟦s.len()⟧) ⌝ }
-    requires { do ⌜ (← ⟦q.len()⟧) ≤ 1024 ⌝ }
+    requires { do ⌜ (← ⟦q.len()⟧) ≤ longestQuery ⌝ }
     requires { ⌜ AllIn (now s) ⌝ }
     requires { ⌜ AllIn (now q) ⌝ }
     ensures { λ r. do ⌜ Within (straight (stretch (now (s .entry)) from) (at (now (q .entry))) (← ⟦q.len()⟧ .entry)) limit r ⌝ }

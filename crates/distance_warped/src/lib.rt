@@ -8,6 +8,7 @@ ghost use mathlib.Core.Path.{_≡_};
 ghost use Prim.Native.Nat.{ℕ, _+_, _-_, _<_, _≤_, min};
 ghost use lib.ListN.{getD};
 ghost use Rattle.meaning_numbers.specs.Sum.{Σℕ};
+ghost use Rattle.meaning_curves.specs.Limits.{longestQuery};
 ghost use Rattle.meaning_curves.specs.Curve.{at, stretch};
 ghost use Rattle.meaning_curves.specs.Straight.{cost};
 ghost use Rattle.meaning_curves.specs.Table.{warped};
@@ -51,7 +52,7 @@ pub fn clear_row(row: &mut [u64], m: usize)
 // The first row of the table.
 pub fn first_row(s: &[i32], from: usize, q: &[i32], b: usize, row: &mut [u64])
     requires { do ⌜ from + (← ⟦q.len()⟧) ≤ (← ⟦s.len()⟧) ⌝ }
-    requires { do ⌜ (0 < (← ⟦q.len()⟧)) × ((← ⟦q.len()⟧) ≤ 1024) × ((← ⟦q.len()⟧) < (← ⟦row.len()⟧)) ⌝ }
+    requires { do ⌜ (0 < (← ⟦q.len()⟧)) × ((← ⟦q.len()⟧) ≤ longestQuery) × ((← ⟦q.len()⟧) < (← ⟦row.len()⟧)) ⌝ }
     requires { ⌜ AllIn (now s) × AllIn (now q) ⌝ }
     ensures { λ r. do ⌜ RowIs (cells (stretch (now (s .entry)) from) (at (now (q .entry))) b 0) (← ⟦q.len()⟧ .entry) (now (row .exit)) ⌝ }
 {
@@ -72,7 +73,7 @@ pub fn first_row(s: &[i32], from: usize, q: &[i32], b: usize, row: &mut [u64])
 // Row `i + 1` of the table in the place of row `i`. A number that is at most each of its cells.
 pub fn next_row(s: &[i32], from: usize, q: &[i32], b: usize, i: usize, row: &mut [u64]) -> u64
     requires { do ⌜ from + (← ⟦q.len()⟧) ≤ (← ⟦s.len()⟧) ⌝ }
-    requires { do ⌜ (i + 1 < (← ⟦q.len()⟧)) × ((← ⟦q.len()⟧) ≤ 1024) × ((← ⟦q.len()⟧) < (← ⟦row.len()⟧)) ⌝ }
+    requires { do ⌜ (i + 1 < (← ⟦q.len()⟧)) × ((← ⟦q.len()⟧) ≤ longestQuery) × ((← ⟦q.len()⟧) < (← ⟦row.len()⟧)) ⌝ }
     requires { ⌜ AllIn (now s) × AllIn (now q) ⌝ }
     requires { do ⌜ RowIs (cells (stretch (now s) from) (at (now q)) b i) (← ⟦q.len()⟧) (now row) ⌝ }
     ensures { λ r. do ⌜ RowIs (cells (stretch (now (s .entry)) from) (at (now (q .entry))) b (i + 1)) (← ⟦q.len()⟧ .entry) (now (row .exit)) ⌝ }
@@ -113,7 +114,7 @@ pub fn table_within(
     row: &mut [u64],
 ) -> u64
     requires { do ⌜ from + (← ⟦q.len()⟧) ≤ (← ⟦s.len()⟧) ⌝ }
-    requires { do ⌜ (0 < (← ⟦q.len()⟧)) × ((← ⟦q.len()⟧) ≤ 1024) × ((← ⟦q.len()⟧) < (← ⟦row.len()⟧)) ⌝ }
+    requires { do ⌜ (0 < (← ⟦q.len()⟧)) × ((← ⟦q.len()⟧) ≤ longestQuery) × ((← ⟦q.len()⟧) < (← ⟦row.len()⟧)) ⌝ }
     requires { ⌜ AllIn (now s) × AllIn (now q) ⌝ }
     requires { do ⌜ Envelopes (now q) (← ⟦q.len()⟧) b (now low) (now high) ⌝ }
     requires { do ⌜ bound ≡ Σℕ (← ⟦q.len()⟧) (apart (stretch (now s) from) (at (now low)) (at (now high))) ⌝ }
@@ -147,7 +148,7 @@ pub fn warped_in(
     row: &mut [u64],
 ) -> u64
     requires { do ⌜ from + (← ⟦q.len()⟧) ≤ (← ⟦s.len()⟧) ⌝ }
-    requires { do ⌜ (0 < (← ⟦q.len()⟧)) × ((← ⟦q.len()⟧) ≤ 1024) × ((← ⟦q.len()⟧) < (← ⟦row.len()⟧)) ⌝ }
+    requires { do ⌜ (0 < (← ⟦q.len()⟧)) × ((← ⟦q.len()⟧) ≤ longestQuery) × ((← ⟦q.len()⟧) < (← ⟦row.len()⟧)) ⌝ }
     requires { ⌜ AllIn (now s) × AllIn (now q) ⌝ }
     requires { do ⌜ Envelopes (now q) (← ⟦q.len()⟧) b (now low) (now high) ⌝ }
     ensures { λ r. do ⌜ Within (warped (stretch (now (s .entry)) from) (at (now (q .entry))) b (← ⟦q.len()⟧ .entry)) limit r ⌝ }

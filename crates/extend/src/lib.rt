@@ -16,12 +16,14 @@ use filing::slide;
 use fill::fill_parts;
 use lay::clear_runs;
 use meaning_rows::Row;
+use numbers::RAISE;
 use pack::sum_up;
 use records::clear_rows;
 use records::row_at;
 ghost use mathlib.Core.Path.{_≡_};
 ghost use Prim.Native.Nat.{_+_, _-_, _*_, _<_, _≤_};
 ghost use lib.ListN.{length};
+ghost use Rattle.meaning_curves.specs.Limits.{greatestValue, widestRow};
 ghost use Rattle.meaning_rows.specs.Index.{Index};
 ghost use Rattle.meaning_rows.specs.Extend.{extended};
 ghost use Rattle.filing.specs.Levels.{level, Lent, windowsOf};
@@ -50,7 +52,7 @@ pub fn list_by(
 ) -> usize
     requires { ⌜ Lent (now s) w e ⌝ }
     requires { ⌜ old ≤ windowsOf (now s) w ⌝ }
-    requires { ⌜ (1 ≤ d) × (d ≤ 1000000) ⌝ }
+    requires { ⌜ (1 ≤ d) × (d ≤ widestRow) ⌝ }
     requires { ⌜ length (newTable (now s) old w e d) ≤ length (now out) ⌝ }
     ensures { λ r. ⌜ Appended (newTable (now (s .entry)) old w e d) 0 r (now (out .entry)) (now (out .exit)) ⌝ }
 {
@@ -60,7 +62,7 @@ pub fn list_by(
 
 // The same, with flags of its own.
 pub fn list_numbers(s: &[i32], old: usize, w: usize, e: u64, d: u64, out: &mut [u32]) -> usize
-    requires { ⌜ (Lent (now s) w e) × (old ≤ windowsOf (now s) w) × ((1 ≤ d) × (d ≤ 1000000)) × (length (newTable (now s) old w e d) ≤ length (now out)) ⌝ }
+    requires { ⌜ (Lent (now s) w e) × (old ≤ windowsOf (now s) w) × ((1 ≤ d) × (d ≤ widestRow)) × (length (newTable (now s) old w e d) ≤ length (now out)) ⌝ }
     ensures { λ r. ⌜ Appended (newTable (now (s .entry)) old w e d) 0 r (now (out .entry)) (now (out .exit)) ⌝ }
 {
     list_by([0; 262144], s, old, w, e, d, out)
@@ -156,7 +158,7 @@ pub fn join_first(
     ensures { λ t. ⌜ JoinedAt (now (s .entry)) w e old (joinsOf (now (s .entry)) w old r (now (olds .entry))) q r (now (right .entry)) t (now (right .exit)) ⌝ }
 {
     let at = place_at(s, w, e, old);
-    let bias = 10000 * (w as u64) + e;
+    let bias = RAISE * (w as u64) + e;
     let low = raise_end(q.low, bias);
     let up = raise_end(q.up, bias);
     let joins = last_ends(r, olds, first_new(s, w, old));
@@ -257,7 +259,7 @@ pub fn extend_passes(
     left: &mut [u32],
     right: &mut [u32],
 ) -> usize
-    requires { ⌜ (PassesAsked (now s) w e d base old (now from) (now lefts) (now rights) (now rows) (now left) (now right)) × (bias ≡ 10000 * w + e) ⌝ }
+    requires { ⌜ (PassesAsked (now s) w e d base old (now from) (now lefts) (now rights) (now rows) (now left) (now right)) × (bias ≡ greatestValue * w + e) ⌝ }
     ensures { λ n. ⌜ (n ≡ length (extended (indexOf w d old (now (from .entry)) (now (lefts .entry)) (now (rights .entry))) (now (s .entry)) .rows))
         × HoldsExtended (indexOf w d old (now (from .entry)) (now (lefts .entry)) (now (rights .entry))) (now (s .entry)) (buffers (now (rows .entry)) (now (left .entry)) (now (right .entry))) (buffers (now (rows .exit)) (now (left .exit)) (now (right .exit))) ⌝ }
 {

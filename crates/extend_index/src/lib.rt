@@ -7,11 +7,13 @@ use judge::lesser;
 use meaning_entries::Extended;
 use meaning_rows::Head;
 use meaning_rows::Row;
+use numbers::RAISE;
 use pack::raised_rows;
 use records::row_at;
 ghost use mathlib.Core.Path.{_≡_};
 ghost use Prim.Native.Nat.{_-_, _≤_};
 ghost use lib.ListN.{length};
+ghost use Rattle.meaning_curves.specs.Limits.{mostValues, longestWindow, widestRow};
 ghost use Rattle.meaning_curves.specs.Curve.{windowCount};
 ghost use Rattle.meaning_entries.specs.Extend.{lentExtend};
 ghost use Rattle.meaning_entries.specs.Demand2.{ExtendKept};
@@ -41,7 +43,7 @@ pub fn refuse(p: Refusal) -> Extended
 
 // The numbers of a head of window length `w`, row width `d` and `old` windows, and what sums are raised by.
 pub fn lift_of(w: u32, d: u32, old: u32) -> Lift
-    requires { ⌜ (w ≤ 256) × ((1 ≤ d) × (d ≤ 1000000)) ⌝ }
+    requires { ⌜ (w ≤ longestWindow) × ((1 ≤ d) × (d ≤ widestRow)) ⌝ }
     ensures { λ l. ⌜ Lifts w d old l ⌝ }
 {
     let wide = d as u64;
@@ -53,7 +55,7 @@ pub fn lift_of(w: u32, d: u32, old: u32) -> Lift
         old: old as usize,
         width: wide,
         base: base,
-        extra: bias - 10000 * long,
+        extra: bias - RAISE * long,
         bias: bias,
     }
 }
@@ -67,7 +69,7 @@ pub fn last_place(n: usize) -> usize
 
 // The answer of a call that left `n` rows, where `r` is the last, or the record of zeros.
 pub fn answer(series: &[i32], head: Head, n: usize, r: Row) -> Extended
-    requires { ⌜ (head .window ≤ length (now series)) × (length (now series) ≤ 1048576) ⌝ }
+    requires { ⌜ (head .window ≤ length (now series)) × (length (now series) ≤ mostValues) ⌝ }
     ensures { λ a. ⌜ a ≡ indexAs (windowCount (length (now (series .entry))) (head .window)) head n r ⌝ }
 {
     let windows = series.len() + 1 - head.window as usize;

@@ -6,6 +6,7 @@ ghost use mathlib.Core.Path.{_≡_};
 ghost use mathlib.Core.Bool.{true};
 ghost use Prim.Native.Nat.{_+_, _-_, _<_, _≤_};
 ghost use lib.ListN.{length, getD};
+ghost use Rattle.meaning_curves.specs.Limits.{widestRow};
 ghost use Rattle.filing.specs.Levels.{Lent, windowsOf};
 ghost use Rattle.filing.specs.Picked.{Appended};
 ghost use Rattle.extend_new.specs.New.{newTable, lessJoin};
@@ -23,7 +24,7 @@ pub fn list_new(
 ) -> usize
     requires { ⌜ Lent (now s) w e ⌝ }
     requires { ⌜ old ≤ windowsOf (now s) w ⌝ }
-    requires { ⌜ (1 ≤ d) × (d ≤ 1000000) ⌝ }
+    requires { ⌜ (1 ≤ d) × (d ≤ widestRow) ⌝ }
     requires { ⌜ (1 ≤ length (now flags)) × (length (now flags) ≤ 1000000) ⌝ }
     requires { ⌜ length (newTable (now s) old w e d) ≤ length (now out) ⌝ }
     ensures { λ r. ⌜ Appended (newTable (now (s .entry)) old w e d) 0 r (now (out .entry)) (now (out .exit)) ⌝ }

@@ -1,4 +1,5 @@
 // Passes over the windows of a series, by runs: the windows of a run have sums in one range, and no row number is computed inside it. Sums are raised, so that nothing is signed here.
+use numbers::RAISE;
 use numbers::greater;
 use numbers::lesser;
 use numbers::lower;
@@ -10,6 +11,7 @@ ghost use Prim.Native.Nat.{ℕ, _+_, _-_, _*_, _/_, _<_, _≤_};
 ghost use lib.IntN.{pos, negsuc};
 ghost use lib.ListN.{length, getD};
 ghost use lib.Signed.{_≤ℤ_};
+ghost use Rattle.meaning_curves.specs.Limits.{mostValues, longestWindow, widestRow};
 ghost use Rattle.meaning_curves.specs.Curve.{at};
 ghost use Rattle.meaning_curves.proofs.Values.{AllIn};
 ghost use Rattle.numbers.specs.Raised.{raised};
@@ -35,14 +37,14 @@ pub fn value_at(s: &[i32], i: usize) -> u64
         let x = s[i];
         raise(x)
     } else {
-        10000
+        RAISE
     }
 }
 
 // The raised sum of the next window.
 pub fn slide(s: &[i32], w: usize, e: u64, j: usize, n: u64) -> u64
     requires { ⌜ Lent (now s) w e ⌝ }
-    requires { ⌜ j ≤ 1048576 ⌝ }
+    requires { ⌜ j ≤ mostValues ⌝ }
     requires { ⌜ n ≡ level (now s) w e j ⌝ }
     ensures { λ r. ⌜ r ≡ level (now (s .entry)) w e (j + 1) ⌝ }
 {
@@ -82,11 +84,11 @@ pub fn first_place(s: &[i32], w: usize, e: u64) -> Place
 
 // The sum of a window, from its raised sum.
 pub fn sum_of(w: usize, e: u64, at: Place) -> i32
-    requires { ⌜ (w ≤ 256) × (e ≤ 1000000) × (at .level ≤ 1000000000) ⌝ }
+    requires { ⌜ (w ≤ longestWindow) × (e ≤ widestRow) × (at .level ≤ 1000000000) ⌝ }
     ensures { λ r. ⌜ r ≡ sumAt w e at ⌝ }
 {
     let level = at.level;
-    lower(level, 10000 * (w as u64) + e)
+    lower(level, RAISE * (w as u64) + e)
 }
 
 // An end of a range raised by a bias; 0 where that is negative.
@@ -163,7 +165,7 @@ pub fn next_out(s: &[i32], w: usize, e: u64, from: Place, lo: u64, hi: u64) -> P
 // The raised row number of a raised sum. Every row number is made here.
 pub fn row_of_level(n: u64, d: u64) -> u64
     requires { ⌜ n ≤ 6120000 ⌝ }
-    requires { ⌜ d ≤ 1000000 ⌝ }
+    requires { ⌜ d ≤ widestRow ⌝ }
     ensures { λ k. ⌜ k ≡ n / d ⌝ }
 {
     quotient(n as u32, d as u32) as u64
@@ -172,7 +174,7 @@ pub fn row_of_level(n: u64, d: u64) -> u64
 // From a window on, whose row number is `k`, the first whose row number is another, or the number of windows.
 pub fn next_row(s: &[i32], w: usize, e: u64, d: u64, k: u64, from: Place) -> Place
     requires { ⌜ Lent (now s) w e ⌝ }
-    requires { ⌜ (1 ≤ d) × (d ≤ 1000000) ⌝ }
+    requires { ⌜ (1 ≤ d) × (d ≤ widestRow) ⌝ }
     requires { ⌜ from .offset < windowsOf (now s) w ⌝ }
     requires { ⌜ (from .level ≡ level (now s) w e (from .offset)) × (k ≡ rowOf (level (now s) w e) d (from .offset)) ⌝ }
     ensures { λ r. ⌜ NextRow (level (now (s .entry)) w e) d (windowsOf (now (s .entry)) w) (from .offset) (r .offset) (r .level) ⌝ }
@@ -196,7 +198,7 @@ pub fn set_flag(flags: &mut [u8], base: u64, k: u64)
 // The flags of the row numbers that windows have are set; they begin at `base`.
 pub fn mark(s: &[i32], w: usize, e: u64, d: u64, base: u64, flags: &mut [u8])
     requires { ⌜ Lent (now s) w e ⌝ }
-    requires { ⌜ (1 ≤ d) × (d ≤ 1000000) ⌝ }
+    requires { ⌜ (1 ≤ d) × (d ≤ widestRow) ⌝ }
     requires { ⌜ ((x : ℕ) → x < length (now flags) → getD (now flags) x 0 ≡ 0) ⌝ }
     ensures { λ _. ⌜ Flags (rowOf (level (now (s .entry)) w e) d) (windowsOf (now (s .entry)) w) base (now (flags .exit)) ⌝ }
     ensures { λ _. ⌜ length (now (flags .exit)) ≡ length (now (flags .entry)) ⌝ }
@@ -266,7 +268,7 @@ pub fn list_chunk(
     k: usize,
 ) -> usize
     requires { ⌜ Lent (now s) w e ⌝ }
-    requires { ⌜ (1 ≤ d) × (d ≤ 1000000) ⌝ }
+    requires { ⌜ (1 ≤ d) × (d ≤ widestRow) ⌝ }
     requires { ⌜ base + length (now flags) ≤ 4294967296 ⌝ }
     requires { ⌜ k + length (picked (met (rowOf (level (now s) w e) d) (windowsOf (now s) w)) base (length (now flags))) ≤ length (now out) ⌝ }
     ensures { λ r. ⌜ Appended (picked (met (rowOf (level (now (s .entry)) w e) d) (windowsOf (now (s .entry)) w)) base (length (now (flags .entry)))) k r (now (out .entry)) (now (out .exit)) ⌝ }
@@ -309,7 +311,7 @@ pub fn level_ends(s: &[i32], w: usize, e: u64) -> Ends
 // The row numbers of the windows, ascending, each once, written to the front of `out`; how many there are. What the flags hold does not matter.
 pub fn list_rows(s: &[i32], w: usize, e: u64, d: u64, flags: &mut [u8], out: &mut [u32]) -> usize
     requires { ⌜ Lent (now s) w e ⌝ }
-    requires { ⌜ (1 ≤ d) × (d ≤ 1000000) ⌝ }
+    requires { ⌜ (1 ≤ d) × (d ≤ widestRow) ⌝ }
     requires { ⌜ (1 ≤ length (now flags)) × (length (now flags) ≤ 1000000) ⌝ }
     requires { ⌜ length (table (now s) w e d) ≤ length (now out) ⌝ }
     ensures { λ r. ⌜ Appended (table (now (s .entry)) w e d) 0 r (now (out .entry)) (now (out .exit)) ⌝ }

@@ -5,6 +5,7 @@ use filing::raise_end;
 use filing::sum_of;
 use layout::find_record;
 use meaning_rows::Row;
+use numbers::RAISE;
 use parts::file_run;
 ghost use mathlib.Core.Bool.{Bool};
 ghost use Prim.Native.Nat.{ℕ, _+_, _*_, _<_};
@@ -25,7 +26,7 @@ pub fn file_turn(
     ensures { λ t. ⌜ Turned (now (s .entry)) w e (at .offset) r (now (left .entry)) (now (right .entry)) t (now (left .exit)) (now (right .exit)) ⌝ }
 {
     let from = at.offset;
-    let bias = 10000 * (w as u64) + e;
+    let bias = RAISE * (w as u64) + e;
     let lo = raise_end(r.low, bias);
     let hi = raise_end(r.up, bias);
     let next = next_out(s, w, e, at, lo, hi);

@@ -5,6 +5,8 @@ use find_plan::read_piece;
 use find_print::finish;
 use libc::STDIN_FILENO;
 use libc::STDOUT_FILENO;
+use meaning_curves::LONGEST_QUERY;
+use meaning_curves::MOST_PROGRAM_VALUES;
 ghost use Prim.Native.Nat.{_≤_};
 ghost use lib.ListN.{length};
 ghost use Rattle.find_plan.specs.Input.{Open};
@@ -66,8 +68,8 @@ fn print_first(text: &[u8], n: usize)
 
 fn main() {
     let mut numbers = [0i64, 0, 0, 0, 0, 0, 0, 1];
-    let mut series = [0i32; 4096];
-    let mut query = [0i32; 1024];
+    let mut series = [0i32; MOST_PROGRAM_VALUES];
+    let mut query = [0i32; LONGEST_QUERY];
     let r = read_all(begin(), &mut numbers, &mut series, &mut query);
     let mut text = text_buffer();
     let n = finish(r, &numbers, &series, &query, &mut text);

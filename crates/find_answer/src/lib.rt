@@ -1,5 +1,6 @@
 // Build, writing and search over row records by value, and the list of matches as text: what the search program prints is put together from these (01, 'Text and program').
 use build_index::build;
+use meaning_curves::MOST_PROGRAM_VALUES;
 use meaning_entries::Built;
 use meaning_entries::Found;
 use meaning_entries::Written;
@@ -12,6 +13,7 @@ use text_save::write;
 ghost use mathlib.Core.Path.{_≡_};
 ghost use Prim.Native.Nat.{_≤_};
 ghost use lib.ListN.{take};
+ghost use Rattle.meaning_curves.specs.Limits.{mostProgramValues};
 ghost use Rattle.meaning_rows.specs.Index.{lent};
 ghost use Rattle.meaning_entries.specs.Build.{lentBuild};
 ghost use Rattle.meaning_entries.specs.Search.{lentSearch};
@@ -25,11 +27,11 @@ ghost use Rattle.find_answer.specs.Finish.{Listed};
 
 // Row records by value, and what the build that made them answered.
 pub struct Table {
-    pub rows: [Row; 4096],
+    pub rows: [Row; MOST_PROGRAM_VALUES],
     pub answer: Built,
 }
 
-pub fn table_of(rows: [Row; 4096], answer: Built) -> Table
+pub fn table_of(rows: [Row; MOST_PROGRAM_VALUES], answer: Built) -> Table
     ensures { λ t. ⌜ t ≡ tableOf rows answer ⌝ }
 {
     Table { rows, answer }
@@ -41,7 +43,7 @@ pub fn build_table(
     w: u32,
     d: u32,
     g: u32,
-    rows: [Row; 4096],
+    rows: [Row; MOST_PROGRAM_VALUES],
     left: &mut [u32],
     right: &mut [u32],
 ) -> Table
@@ -55,13 +57,13 @@ pub fn build_table(
 // The text of the index of the first n records of a table.
 pub fn write_table(
     head: Head,
-    table: [Row; 4096],
+    table: [Row; MOST_PROGRAM_VALUES],
     n: usize,
     left: &[u32],
     right: &[u32],
     text: &mut [u8],
 ) -> Written
-    requires { ⌜ n ≤ 4096 ⌝ }
+    requires { ⌜ n ≤ mostProgramValues ⌝ }
     ensures { λ a. ⌜ WriteKept (lent head (take n table) (now (left .entry)) (now (right .entry))) (now (text .entry)) a (now (text .exit)) ⌝ }
 {
     write(head, &table[..n], left, right, text)
@@ -71,7 +73,7 @@ pub fn write_table(
 pub fn search_table(
     series: &[i32],
     head: Head,
-    table: [Row; 4096],
+    table: [Row; MOST_PROGRAM_VALUES],
     n: usize,
     left: &[u32],
     right: &[u32],
@@ -83,7 +85,7 @@ pub fn search_table(
     offsets: &mut [u32],
     distances: &mut [u64],
 ) -> Found
-    requires { ⌜ n ≤ 4096 ⌝ }
+    requires { ⌜ n ≤ mostProgramValues ⌝ }
     ensures { λ a. ⌜ SearchKept (lentSearch (now (series .entry)) head (take n table) (now (left .entry)) (now (right .entry)) ask (now (query .entry))) (buffers (now (first .entry)) (now (last .entry)) (now (scratch .entry)) (now (offsets .entry)) (now (distances .entry))) a (buffers (now (first .exit)) (now (last .exit)) (now (scratch .exit)) (now (offsets .exit)) (now (distances .exit))) ⌝ }
 {
     search(
@@ -138,7 +140,7 @@ pub fn put_found(text: &mut [u8], at: usize, a: Found, offsets: &[u32], distance
 pub fn list_matches(
     series: &[i32],
     head: Head,
-    table: [Row; 4096],
+    table: [Row; MOST_PROGRAM_VALUES],
     n: usize,
     left: &[u32],
     right: &[u32],
@@ -147,14 +149,14 @@ pub fn list_matches(
     text: &mut [u8],
     at: usize,
 ) -> usize
-    requires { ⌜ n ≤ 4096 ⌝ }
+    requires { ⌜ n ≤ mostProgramValues ⌝ }
     ensures { λ r. ⌜ Listed (lentSearch (now (series .entry)) head (take n table) (now (left .entry)) (now (right .entry)) ask (now (query .entry))) (now (text .entry)) at (now (text .exit)) r ⌝ }
 {
-    let mut first = [0u32; 4096];
-    let mut last = [0u32; 4096];
-    let mut scratch = [0u16; 4096];
-    let mut offsets = [0u32; 4096];
-    let mut distances = [0u64; 4096];
+    let mut first = [0u32; MOST_PROGRAM_VALUES];
+    let mut last = [0u32; MOST_PROGRAM_VALUES];
+    let mut scratch = [0u16; MOST_PROGRAM_VALUES];
+    let mut offsets = [0u32; MOST_PROGRAM_VALUES];
+    let mut distances = [0u64; MOST_PROGRAM_VALUES];
     let a = search_table(
         series,
         head,

@@ -4,6 +4,14 @@ use conditions::length_in;
 use conditions::query_length_outside;
 use conditions::refuse_if;
 use conditions::unrefused;
+use meaning_curves::GREATEST_MERGE;
+use meaning_curves::GREATEST_SCALE;
+use meaning_curves::GREATEST_SHIFT;
+use meaning_curves::GREATEST_THRESHOLD;
+use meaning_curves::LEAST_SCALE;
+use meaning_curves::LONGEST_WINDOW;
+use meaning_curves::MOST_PROGRAM_VALUES;
+use meaning_curves::WIDEST_ROW;
 use meaning_filter::Ask;
 use meaning_filter::Kind;
 use meaning_filter::Limits;
@@ -28,6 +36,21 @@ ghost use Rattle.meaning_text.specs.Read.{lineOf};
 ghost use Rattle.conditions.specs.Refusal.{refusalOf, refuseAt};
 ghost use Rattle.find_plan.specs.Input.{start, Open, ReadOn};
 ghost use Rattle.find_plan.specs.Tables.{numbersAt, kindOf, firstOut, valuesTable, numbersTable, callTable, endTable, askedOf, isDone, Sound, SoundEnd, Limited};
+
+// The limits of the program's numbers, as a text has them.
+const WINDOW: i64 = LONGEST_WINDOW as i64;
+
+const WIDTH: i64 = WIDEST_ROW as i64;
+
+const MERGE: i64 = GREATEST_MERGE as i64;
+
+const THRESHOLD: i64 = GREATEST_THRESHOLD as i64;
+
+const NARROW: i64 = LEAST_SCALE as i64;
+
+const SCALE: i64 = GREATEST_SCALE as i64;
+
+const SHIFT: i64 = GREATEST_SHIFT as i64;
 
 // How far the input has been read, and the line that it stands in; or the line of its first bad byte.
 pub enum Input {
@@ -171,7 +194,7 @@ pub fn refuse_values(v: Values, q: Values) -> Refusal
     ensures { λ r. ⌜ r ≡ refusalOf (valuesTable v q) ⌝ }
 {
     let values = refuse_value(v, refuse_value(q, unrefused()));
-    refuse_if(!length_in(4096, v.count), 1, values)
+    refuse_if(!length_in(MOST_PROGRAM_VALUES, v.count), 1, values)
 }
 
 // The single numbers, for a series of n values and a query of m.
@@ -180,17 +203,17 @@ pub fn refuse_numbers(n: usize, m: usize, x: Numbers) -> Refusal
     ensures { λ r. ⌜ r ≡ refusalOf (numbersTable n m x) ⌝ }
 {
     let scale = refuse_if(
-        outside(10, 100, x.scale) | outside(0, 20000, x.shift),
+        outside(NARROW, SCALE, x.scale) | outside(0, SHIFT, x.shift),
         10,
         unrefused(),
     );
-    let threshold = refuse_if(outside(0, 1000000000000, x.threshold), 9, scale);
+    let threshold = refuse_if(outside(0, THRESHOLD, x.threshold), 9, scale);
     let band = refuse_if(band_outside(m, x.band), 8, threshold);
     let below = refuse_if(above(m, x.window), 7, band);
     let query = refuse_if(query_length_outside(m, n), 6, below);
-    let merge = refuse_if(outside(0, 100, x.merge), 5, query);
-    let width = refuse_if(outside(1, 1000000, x.width), 4, merge);
-    refuse_if(outside(1, 256, x.window) | above(n, x.window), 3, width)
+    let merge = refuse_if(outside(0, MERGE, x.merge), 5, query);
+    let width = refuse_if(outside(1, WIDTH, x.width), 4, merge);
+    refuse_if(outside(1, WINDOW, x.window) | above(n, x.window), 3, width)
 }
 
 // The call that a text gives.

@@ -8,6 +8,7 @@ use find_plan::Input;
 use find_plan::asked_of;
 use find_plan::numbers_of;
 use find_plan::refuse;
+use meaning_curves::MOST_PROGRAM_VALUES;
 use meaning_entries::Built;
 use meaning_rows::Row;
 use text_list::write_refused;
@@ -29,9 +30,9 @@ pub fn print_answer(series: &[i32], query: &[i32], a: Asked, text: &mut [u8]) ->
         up: 0,
         first: 0,
         runs: 0,
-    }; 4096];
-    let mut left = [0u32; 4096];
-    let mut right = [0u32; 4096];
+    }; MOST_PROGRAM_VALUES];
+    let mut left = [0u32; MOST_PROGRAM_VALUES];
+    let mut right = [0u32; MOST_PROGRAM_VALUES];
     let made = build_table(
         series,
         a.window,

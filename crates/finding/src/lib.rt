@@ -1,6 +1,7 @@
 // The end of a search that looks: the query is prepared, every candidate is checked, and the answer is by the room of the list.
 use checking::check_runs;
 use distance_query::prepare;
+use meaning_curves::LONGEST_QUERY;
 use meaning_entries::Found;
 use meaning_filter::Ask;
 use meaning_filter::Kind;
@@ -90,9 +91,9 @@ pub fn find_matches(
 {
     let kind = ask.kind;
     let l = ask.limits;
-    let mut curve: [i32; 1024] = [0; 1024];
-    let mut low: [i32; 1024] = [0; 1024];
-    let mut high: [i32; 1024] = [0; 1024];
+    let mut curve: [i32; LONGEST_QUERY] = [0; LONGEST_QUERY];
+    let mut low: [i32; LONGEST_QUERY] = [0; LONGEST_QUERY];
+    let mut high: [i32; LONGEST_QUERY] = [0; LONGEST_QUERY];
     let m = q.len();
     let entries = offsets.len();
     let sizes = distances.len();

@@ -13,9 +13,17 @@ ghost use Rattle.meaning_rows.specs.Index.{lent, entries};
 ghost use Rattle.meaning_rows.specs.Judge.{headGood, rangeGood};
 ghost use Rattle.judge.specs.Judged.{judgedOf};
 ghost use Rattle.judge.specs.State.{start, room, fits, scan, after, next, verdictOf};
+use meaning_curves::HIGHEST_END;
+use meaning_curves::LONGEST_WINDOW;
+use meaning_curves::LOWEST_END;
+use meaning_curves::MOST_VALUES;
+use meaning_curves::WIDEST_ROW;
 use meaning_rows::Head;
 use meaning_rows::Row;
 use records::row_at;
+
+// The most windows of an index.
+const WINDOWS: u32 = MOST_VALUES as u32;
 
 // What is known after some rows: that they are good, where the last one's range ends, where its runs end in the run buffer, and what the run lengths total.
 pub struct State {
@@ -78,7 +86,7 @@ pub fn are_multiples(d: u32, low: i32, up: i32) -> bool
 pub fn end_in(z: i32) -> bool
     ensures { λ b. ⌜ b ≡ endIn z ⌝ }
 {
-    (-4000000 <= z) & (z <= 4000000)
+    (LOWEST_END <= z) & (z <= HIGHEST_END)
 }
 
 pub fn head_good(head: Head) -> bool
@@ -87,7 +95,8 @@ pub fn head_good(head: Head) -> bool
     let w = head.window;
     let d = head.width;
     let n = head.windows;
-    ((1 <= w) & (w <= 256)) & (((1 <= d) & (d <= 1000000)) & ((1 <= n) & (n <= 1048576)))
+    ((1 <= w) & (w <= LONGEST_WINDOW))
+        & (((1 <= d) & (d <= WIDEST_ROW)) & ((1 <= n) & (n <= WINDOWS)))
 }
 
 pub fn judge_head(head: Head) -> State
@@ -95,7 +104,7 @@ pub fn judge_head(head: Head) -> State
 {
     State {
         good: head_good(head),
-        least: -4000000,
+        least: LOWEST_END,
         first: 0,
         taken: 0,
     }

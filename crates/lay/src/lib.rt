@@ -7,6 +7,7 @@ use tally::plan;
 ghost use mathlib.Core.Path.{_≡_};
 ghost use Prim.Native.Nat.{_+_, _*_, _≤_};
 ghost use lib.ListN.{length};
+ghost use Rattle.meaning_curves.specs.Limits.{greatestValue};
 ghost use Rattle.meaning_curves.specs.Curve.{windowSum};
 ghost use Rattle.meaning_rows.specs.Build.{filed};
 ghost use Rattle.filing.specs.Levels.{windowsOf};
@@ -59,7 +60,7 @@ pub fn lay_rows(
     left: &mut [u32],
     right: &mut [u32],
 ) -> usize
-    requires { ⌜ (LayAsked (now s) w e d (now left) (now right)) × (bias ≡ 10000 * w + e) × (windowsOf (now s) w ≤ length (now rows)) ⌝ }
+    requires { ⌜ (LayAsked (now s) w e d (now left) (now right)) × (bias ≡ greatestValue * w + e) × (windowsOf (now s) w ≤ length (now rows)) ⌝ }
     ensures { λ n. ⌜ PackedAs (windowsOf (now (s .entry)) w) (filed (windowSum (now (s .entry)) w) d (windowsOf (now (s .entry)) w)) (now (rows .exit)) n ⌝ }
 {
     let n = lay_out(s, w, e, d, left, right);

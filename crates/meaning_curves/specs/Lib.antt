@@ -1,5 +1,6 @@
 -- Series, stretches, distances and matches, as document 01 has them.
 pub mod Limits
+pub mod Constants
 pub mod Curve
 pub mod Straight
 pub mod Warp

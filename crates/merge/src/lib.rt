@@ -5,6 +5,7 @@ ghost use mathlib.Core.Path.{_≡_};
 ghost use Prim.Native.Nat.{_+_, _≤_};
 ghost use lib.ListN.{length};
 ghost use Rattle.meaning_numbers.specs.Sum.{count};
+ghost use Rattle.meaning_curves.specs.Limits.{greatestMerge};
 ghost use Rattle.merge.specs.Names.{namesOf};
 ghost use Rattle.meaning_rows.specs.Build.{merged};
 ghost use Rattle.merge.specs.Group.{touching, firstGroup, nextGroup, Joinable};
@@ -100,7 +101,7 @@ pub fn first_group(r: Row) -> Group
 
 // The rows packed in the first `n` records are merged, once upward, in place; how many there are then. Their parts have the names of their neighbours.
 pub fn merge_rows(rows: &mut [Row], n: usize, left: &[u32], right: &[u32], g: u64) -> usize
-    requires { ⌜ Mergeable (now rows) n (now left) (now right) × (g ≤ 100) ⌝ }
+    requires { ⌜ Mergeable (now rows) n (now left) (now right) × (g ≤ greatestMerge) ⌝ }
     ensures { λ k. ⌜ ((t : Rows) → Ready t (now (rows .entry)) n (now (left .entry)) (now (right .entry)) → PackedAs (t .windows) (merged g (t .windows) (t .list)) (now (rows .exit)) k) ⌝ }
 {
     let start = rows[0];

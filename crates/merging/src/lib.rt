@@ -4,6 +4,7 @@ use merge::merge_rows;
 use neighbours::name_neighbours;
 ghost use mathlib.Core.List.{List};
 ghost use Prim.Native.Nat.{_≤_};
+ghost use Rattle.meaning_curves.specs.Limits.{greatestMerge};
 ghost use Rattle.meaning_curves.specs.Curve.{windowSum};
 ghost use Rattle.meaning_rows.specs.Build.{SetRow, merged};
 ghost use Rattle.filing.specs.Levels.{windowsOf};
@@ -22,7 +23,7 @@ pub fn merge_packed(
     left: &mut [u32],
     right: &mut [u32],
 ) -> usize
-    requires { ⌜ Standing (now s) w e (now rows) n (now left) (now right) × (g ≤ 100) ⌝ }
+    requires { ⌜ Standing (now s) w e (now rows) n (now left) (now right) × (g ≤ greatestMerge) ⌝ }
     ensures { λ k. ⌜ ((l : List SetRow) → Sound (windowSum (now (s .entry)) w) (windowsOf (now (s .entry)) w) l → PackedAs (windowsOf (now (s .entry)) w) l (now (rows .entry)) n → PackedAs (windowsOf (now (s .entry)) w) (merged g (windowsOf (now (s .entry)) w) l) (now (rows .exit)) k) ⌝ }
 {
     name_neighbours(s, w, e, rows, n, left, right);

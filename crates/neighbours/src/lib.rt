@@ -7,10 +7,12 @@ use filing::raise_end;
 use filing::sum_of;
 use layout::find_row;
 use meaning_rows::Row;
+use numbers::RAISE;
 use parts::file_entry;
 use records::row_at;
 ghost use mathlib.Core.Path.{_≡_};
 ghost use Prim.Native.Nat.{ℕ, _+_, _*_, _<_, _≤_};
+ghost use Rattle.meaning_curves.specs.Limits.{mostValues, greatestValue, longestWindow};
 ghost use Rattle.meaning_curves.specs.Curve.{windowSum};
 ghost use Rattle.filing.specs.Levels.{level, Lent, windowsOf};
 ghost use Rattle.filing.specs.Ends.{raisedEnd};
@@ -23,9 +25,9 @@ ghost use Rattle.neighbours.specs.Places.{nameFor, nameIn, Nameable, Unn
 // From a window on, the first whose sum is not in the row's range, or the number of windows.
 pub fn run_end(s: &[i32], w: usize, e: u64, at: Place, r: Row) -> Place
     requires { ⌜ Lent (now s) w e × (at .offset ≤ windowsOf (now s) w) × (at .level ≡ level (now s) w e (at .offset)) × LimitedRow r ⌝ }
-    ensures { λ t. ⌜ Stop (level (now (s .entry)) w e) (windowsOf (now (s .entry)) w) (raisedEnd (10000 * w + e) (r .low)) (raisedEnd (10000 * w + e) (r .up)) (at .offset) (t .offset) (t .level) ⌝ }
+    ensures { λ t. ⌜ Stop (level (now (s .entry)) w e) (windowsOf (now (s .entry)) w) (raisedEnd (greatestValue * w + e) (r .low)) (raisedEnd (greatestValue * w + e) (r .up)) (at .offset) (t .offset) (t .level) ⌝ }
 {
-    let bias = 10000 * (w as u64) + e;
+    let bias = RAISE * (w as u64) + e;
     let low = r.low;
     let up = r.up;
     let lo = raise_end(low, bias);
@@ -35,7 +37,7 @@ pub fn run_end(s: &[i32], w: usize, e: u64, at: Place, r: Row) -> Place
 
 // The name of row `i` where there is a window, of `len` values, and else of none.
 pub fn name_of(len: usize, w: usize, at: Place, i: usize) -> usize
-    requires { ⌜ (1 ≤ w) × (w ≤ 256) × (at .offset ≤ 1048576) × (i ≤ 4294967294) ⌝ }
+    requires { ⌜ (1 ≤ w) × (w ≤ longestWindow) × (at .offset ≤ mostValues) × (i ≤ 4294967294) ⌝ }
     ensures { λ r. ⌜ r ≡ nameFor len w (at .offset) i ⌝ }
 {
     let j = at.offset;

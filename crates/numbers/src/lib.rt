@@ -1,4 +1,6 @@
 // Leaf arithmetic: whole roots, row numbers, and the few functions that own signed numbers.
+use meaning_curves::GREATEST_VALUE;
+use meaning_curves::LEAST_VALUE;
 ghost use mathlib.Core.Path.{_≡_};
 ghost use Prim.Native.Nat.{_+_, _-_, _*_, _/_, _<_, _≤_, min, max};
 ghost use lib.IntN.{pos, _-ℤ_, natAbs};
@@ -9,6 +11,9 @@ ghost use Rattle.meaning_curves.specs.Straight.{cost};
 ghost use Rattle.meaning_curves.proofs.Values.{InLimits};
 ghost use Rattle.meaning_rows.specs.Range.{rowNumber};
 ghost use Rattle.numbers.specs.Raised.{raised};
+
+// What a value is raised by.
+pub const RAISE: u64 = GREATEST_VALUE as u64;
 
 // The whole square root: it lies from `r` to below `r + width`, and each turn halves the width.
 pub fn root(y: u64) -> u64
@@ -54,10 +59,10 @@ pub fn row_number(sum: i32, width: u32) -> i32
 pub fn in_limits(x: i32) -> bool
     ensures { λ r. ⌜ r ≡ valueIn x ⌝ }
 {
-    if x < -10000 {
+    if x < LEAST_VALUE {
         return false;
     }
-    if 10000 < x {
+    if GREATEST_VALUE < x {
         return false;
     }
     true
@@ -68,7 +73,7 @@ pub fn raise(x: i32) -> u64
     requires { ⌜ InLimits x ⌝ }
     ensures { λ r. ⌜ r ≡ raised x ⌝ }
 {
-    (x + 10000) as u64
+    (x + GREATEST_VALUE) as u64
 }
 
 // A sum lowered by a bias.

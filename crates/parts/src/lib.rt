@@ -3,6 +3,7 @@ use meaning_rows::Row;
 ghost use mathlib.Core.Path.{_≡_};
 ghost use Prim.Native.Nat.{_+_, _-_, _<_, _≤_};
 ghost use lib.ListN.{set};
+ghost use Rattle.meaning_curves.specs.Limits.{mostValues};
 ghost use Rattle.meaning_rows.proofs.Cursors.{fileRight};
 ghost use Rattle.parts.specs.Part.{written, PartRoom};
 
@@ -24,7 +25,7 @@ pub fn file_entry(r: Row, x: usize, y: usize, left: &mut [u32], right: &mut [u32
 
 // The run of the windows from `from` up to and not with `next` is filed as the next run of the row.
 pub fn file_run(r: Row, from: usize, next: usize, left: &mut [u32], right: &mut [u32])
-    requires { ⌜ (from < next) × (next ≤ 1048576) ⌝ }
+    requires { ⌜ (from < next) × (next ≤ mostValues) ⌝ }
     requires { ⌜ PartRoom r (now left) (now right) ⌝ }
     ensures { λ _. ⌜ now (left .exit) ≡ set (now (left .entry)) (r .first + written r (now (right .entry))) from ⌝ }
     ensures { λ _. ⌜ now (right .exit) ≡ fileRight (now (right .entry)) (r .first) (r .runs) (written r (now (right .entry))) (next - 1) ⌝ }

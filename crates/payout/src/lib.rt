@@ -2,6 +2,7 @@
 ghost use mathlib.Core.Path.{_≡_};
 ghost use Prim.Native.Nat.{_+_, _*_, _<_, _≤_, _^_};
 ghost use lib.ListN.{length};
+ghost use Rattle.meaning_curves.specs.Limits.{mostValues, mostProgramValues};
 ghost use Rattle.meaning_text.specs.Bytes.{newlines};
 ghost use Rattle.meaning_text.specs.Read.{readText};
 ghost use Rattle.meaning_text.specs.Texts.{indexForm};
@@ -12,6 +13,8 @@ ghost use Rattle.text_judge.specs.declared.Scanned.{Scanned};
 ghost use Rattle.text_judge.specs.Tally.{scanned};
 ghost use Rattle.payout.specs.Counted.{countedAnswer};
 use conditions::length_in;
+use meaning_curves::MOST_PROGRAM_VALUES;
+use meaning_curves::MOST_VALUES;
 use meaning_entries::Audited;
 use meaning_rows::Head;
 use payout_answer::audit_series;
@@ -21,6 +24,9 @@ use text_judge::Rows;
 use text_judge::Scanned;
 use text_judge::scan;
 use text_reader::bad_line;
+
+// What a row counts in the number of a window filed wrongly.
+const VALUES: u64 = MOST_VALUES as u64;
 
 // How many newlines a text has.
 fn newline_count(text: &[u8]) -> usize
@@ -32,10 +38,10 @@ fn newline_count(text: &[u8]) -> usize
 // Both texts can be read, and the series has n values, of which the first 4,096 stand in the buffer.
 fn audit_values(index: &[u8], head: Head, c: Rows, values: &[i32], n: usize) -> Audited
     requires { ⌜ Scanned.Fine head c ≡ scanned (readText indexForm (now index)) ⌝ }
-    requires { ⌜ 4096 ≤ length (now values) ⌝ }
+    requires { ⌜ mostProgramValues ≤ length (now values) ⌝ }
     ensures { λ a. ⌜ a ≡ countedAnswer (textIndex (now (index .entry))) (now (values .entry)) n ⌝ }
 {
-    if !length_in(4096, n) {
+    if !length_in(MOST_PROGRAM_VALUES, n) {
         return Audited::Refused {
             number: 1,
             place: 0,
@@ -49,7 +55,7 @@ fn audit_line(index: &[u8], head: Head, c: Rows, line: &[u8]) -> Audited
     requires { ⌜ Scanned.Fine head c ≡ scanned (readText indexForm (now index)) ⌝ }
     ensures { λ a. ⌜ a ≡ auditTextAnswer (now (index .entry)) (now (line .entry)) ⌝ }
 {
-    let mut values: [i32; 4096] = [0; 4096];
+    let mut values: [i32; MOST_PROGRAM_VALUES] = [0; MOST_PROGRAM_VALUES];
     match read_line(line, &mut values) {
         Line::Bad(at) => Audited::Refused {
             number: 12,
@@ -74,10 +80,10 @@ fn audit_pair(index: &[u8], line: &[u8]) -> Audited
 
 // The number of a row and an offset filed wrongly.
 fn wrong_number(row: usize, offset: usize) -> u64
-    requires { ⌜ 8 * (1048576 * row + offset) + 1 < 2 ^ 64 ⌝ }
-    ensures { λ n. ⌜ n ≡ 8 * (1048576 * row + offset) + 1 ⌝ }
+    requires { ⌜ 8 * (mostValues * row + offset) + 1 < 2 ^ 64 ⌝ }
+    ensures { λ n. ⌜ n ≡ 8 * (mostValues * row + offset) + 1 ⌝ }
 {
-    8 * (1048576 * (row as u64) + offset as u64) + 1
+    8 * (VALUES * (row as u64) + offset as u64) + 1
 }
 
 // The number of windows that stand nowhere.

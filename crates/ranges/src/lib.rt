@@ -2,6 +2,7 @@
 use distance_query::Query;
 use meaning_filter::Kind;
 use meaning_filter::Limits;
+use numbers::RAISE;
 use numbers::root;
 use values::window_sum;
 ghost use mathlib.Core.Path.{_≡_};
@@ -11,6 +12,7 @@ ghost use lib.ListN.{length};
 ghost use Rattle.meaning_numbers.specs.Order.{minℤ, maxℤ};
 ghost use Rattle.meaning_numbers.specs.Quotient.{floorℤ, ceilℤ};
 ghost use Rattle.meaning_numbers.specs.Root.{root};
+ghost use Rattle.meaning_curves.specs.Limits.{greatestValue, longestWindow, greatestThreshold, greatestScale};
 ghost use Rattle.meaning_curves.proofs.Values.{AllIn};
 ghost use Rattle.meaning_filter.specs.Range.{lowScale, highScale};
 ghost use Rattle.meaning_filter.specs.declared.Kind.{Kind};
@@ -95,7 +97,7 @@ pub fn times(x: i64, y: i64) -> i64
 
 // The frame of a raw query.
 pub fn raw_frame(w: u64, l: Limits) -> Frame
-    requires { ⌜ (w ≤ 256) × (l .threshold ≤ 1000000000000) ⌝ }
+    requires { ⌜ (w ≤ longestWindow) × (l .threshold ≤ greatestThreshold) ⌝ }
     ensures { λ r. ⌜ r ≡ rawFrame l w ⌝ }
 {
     Frame {
@@ -110,7 +112,7 @@ pub fn raw_frame(w: u64, l: Limits) -> Frame
 
 // The scale by which a stretch may be smaller, of the query's spread and the scale limit.
 pub fn low_scale(spread: u64, a: u64) -> i64
-    requires { ⌜ (spread ≤ 419430400000000) × (1 ≤ a) × (a ≤ 100) ⌝ }
+    requires { ⌜ (spread ≤ 419430400000000) × (1 ≤ a) × (a ≤ greatestScale) ⌝ }
     ensures { λ r. ⌜ r ≡ pos (lowScale spread a) ⌝ }
 {
     root(100 * spread / (a * a)) as i64
@@ -118,7 +120,7 @@ pub fn low_scale(spread: u64, a: u64) -> i64
 
 // The scale by which it may be larger.
 pub fn high_scale(spread: u64, a: u64) -> i64
-    requires { ⌜ (spread ≤ 419430400000000) × (a ≤ 100) ⌝ }
+    requires { ⌜ (spread ≤ 419430400000000) × (a ≤ greatestScale) ⌝ }
     ensures { λ r. ⌜ r ≡ pos (highScale spread a) ⌝ }
 {
     (root(a * a * spread / 100) + 1) as i64
@@ -127,10 +129,10 @@ pub fn high_scale(spread: u64, a: u64) -> i64
 // The frame of a normalised query of `m` values, of its raised sum and its spread.
 pub fn normal_frame(m: u64, w: u64, l: Limits, q: Query) -> Frame
     requires { ⌜ QueryIn m w l (q .values) (q .spread) ⌝ }
-    ensures { λ r. ⌜ r ≡ normalFrame (q .spread) (pos (q .values) -ℤ pos (10000 * m)) m l w ⌝ }
+    ensures { λ r. ⌜ r ≡ normalFrame (q .spread) (pos (q .values) -ℤ pos (greatestValue * m)) m l w ⌝ }
 {
     let a = l.scale as u64;
-    let total = minus(q.values as i64, (10000 * m) as i64);
+    let total = minus(q.values as i64, (RAISE * m) as i64);
     let most = (m * l.shift as u64) as i64;
     let factor = (100 * w) as i64;
     Frame {
@@ -146,7 +148,7 @@ pub fn normal_frame(m: u64, w: u64, l: Limits, q: Query) -> Frame
 // What the ranges of a query share.
 pub fn frame_of(kind: Kind, m: u64, w: u64, l: Limits, q: Query) -> Frame
     requires { ⌜ QueryIn m w l (q .values) (q .spread) ⌝ }
-    ensures { λ r. ⌜ r ≡ frameOf kind (q .spread) (pos (q .values) -ℤ pos (10000 * m)) m l w ⌝ }
+    ensures { λ r. ⌜ r ≡ frameOf kind (q .spread) (pos (q .values) -ℤ pos (greatestValue * m)) m l w ⌝ }
 {
     match kind {
         Kind::Raw => raw_frame(w, l),
@@ -193,7 +195,7 @@ pub fn high_end(f: Frame, sum: i64) -> i64
 
 // The range of part `i`, of the envelopes.
 pub fn part_range(f: Frame, low: &[i32], high: &[i32], w: usize, i: usize) -> Range
-    requires { ⌜ FrameIn f × (i * w + w ≤ length (now low)) × (i * w + w ≤ length (now high)) × (w ≤ 256) × AllIn (now low) × AllIn (now high) ⌝ }
+    requires { ⌜ FrameIn f × (i * w + w ≤ length (now low)) × (i * w + w ≤ length (now high)) × (w ≤ longestWindow) × AllIn (now low) × AllIn (now high) ⌝ }
     ensures { λ r. ⌜ r ≡ rangeAt f (now (low .entry)) (now (high .entry)) w i ⌝ }
 {
     let from = i * w;

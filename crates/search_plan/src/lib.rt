@@ -23,6 +23,7 @@ use values::sums_at;
 ghost use mathlib.Core.Path.{_≡_};
 ghost use Prim.Native.Nat.{_≤_, min};
 ghost use lib.ListN.{length};
+ghost use Rattle.meaning_curves.specs.Limits.{longestQuery};
 ghost use Rattle.meaning_curves.specs.Curve.{at};
 ghost use Rattle.meaning_curves.specs.Normal.{flat};
 ghost use Rattle.meaning_curves.proofs.Values.{AllIn};
@@ -52,7 +53,7 @@ pub fn refuse_numbers(s: &[i32], q: &[i32], w: u32, ask: Ask) -> Refusal
 
 // A query is flat.
 pub fn is_flat(q: &[i32]) -> bool
-    requires { ⌜ AllIn (now q) × (length (now q) ≤ 1024) ⌝ }
+    requires { ⌜ AllIn (now q) × (length (now q) ≤ longestQuery) ⌝ }
     ensures { λ b. ⌜ b ≡ flat (at (now (q .entry))) (length (now (q .entry))) ⌝ }
 {
     let m = q.len();
@@ -62,7 +63,7 @@ pub fn is_flat(q: &[i32]) -> bool
 
 // A normalised query is flat.
 pub fn normal_flat(kind: Kind, q: &[i32]) -> bool
-    requires { ⌜ AllIn (now q) × (length (now q) ≤ 1024) ⌝ }
+    requires { ⌜ AllIn (now q) × (length (now q) ≤ longestQuery) ⌝ }
     ensures { λ b. ⌜ b ≡ normalFlat kind (now (q .entry)) ⌝ }
 {
     match kind {

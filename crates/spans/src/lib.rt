@@ -4,6 +4,7 @@ use distance_query::prepare;
 use filter::Span;
 use filter::clamp;
 use filter::met_span;
+use meaning_curves::LONGEST_QUERY;
 use meaning_filter::Kind;
 use meaning_filter::Limits;
 use meaning_rows::Row;
@@ -17,6 +18,7 @@ ghost use Prim.Native.Nat.{_<_, _≤_};
 ghost use lib.IntN.{pos, negsuc, natAbs, _+ℤ_};
 ghost use Rattle.meaning_numbers.proofs.Between.{Between};
 ghost use lib.ListN.{length};
+ghost use Rattle.meaning_curves.specs.Limits.{mostValues};
 ghost use Rattle.filter.specs.Parts.{partRange};
 ghost use Rattle.spans.specs.Held.{raisedEnd, lowEnds, highEnds, Held, EndsReady, Stored, RangesReady, RangesHeld, EndsAt, heldRange};
 ghost use Rattle.spans.specs.Met.{MeetReady, AllMet};
@@ -99,9 +101,9 @@ pub fn put_ranges(kind: Kind, q: &[i32], l: Limits, w: u32, first: &mut [u32], l
     requires { ⌜ RangesReady kind (now q) l w (now first) (now last) ⌝ }
     ensures { λ _. ⌜ RangesHeld kind (now (q .entry)) l w (now (first .entry)) (now (last .entry)) (now (first .exit)) (now (last .exit)) ⌝ }
 {
-    let mut curve: [i32; 1024] = [0; 1024];
-    let mut low: [i32; 1024] = [0; 1024];
-    let mut high: [i32; 1024] = [0; 1024];
+    let mut curve: [i32; LONGEST_QUERY] = [0; LONGEST_QUERY];
+    let mut low: [i32; LONGEST_QUERY] = [0; LONGEST_QUERY];
+    let mut high: [i32; LONGEST_QUERY] = [0; LONGEST_QUERY];
     let m = q.len();
     put_prepared(
         kind,
@@ -131,7 +133,7 @@ pub fn range_at(first: &[u32], last: &[u32], i: usize) -> Range
 
 // The stretch of part `i` stored as its entry.
 pub fn put_span(first: &mut [u32], last: &mut [u32], i: usize, s: Span)
-    requires { ⌜ (i < length (now first)) × (i < length (now last)) × (s .from ≤ 1048576) × (s .to ≤ 1048576) ⌝ }
+    requires { ⌜ (i < length (now first)) × (i < length (now last)) × (s .from ≤ mostValues) × (s .to ≤ mostValues) ⌝ }
     ensures { λ _. ⌜ Stored i (s .from) (s .to) (now (first .entry)) (now (last .entry)) (now (first .exit)) (now (last .exit)) ⌝ }
 {
     let from = s.from as u32;

@@ -9,6 +9,7 @@ ghost use Prim.Native.Nat.{ℕ, _+_, _-_, _<_, _≤_};
 ghost use lib.Dec.{leb};
 ghost use lib.ListN.{length, getD, take};
 ghost use Rattle.meaning_numbers.specs.Sum.{bit};
+ghost use Rattle.meaning_curves.specs.Limits.{widestRow};
 ghost use Rattle.filing.specs.Levels.{level, rowOf, Lent, windowsOf};
 ghost use Rattle.filing.specs.Picked.{Appended};
 ghost use Rattle.filing.specs.Table.{table};
@@ -63,7 +64,7 @@ pub fn count_runs(
     counts: &mut [u32],
 )
     requires { ⌜ Lent (now s) w e ⌝ }
-    requires { ⌜ (1 ≤ d) × (d ≤ 1000000) ⌝ }
+    requires { ⌜ (1 ≤ d) × (d ≤ widestRow) ⌝ }
     requires { ⌜ (count ≡ length (table (now s) w e d)) × (take count (now numbers) ≡ table (now s) w e d) × (count ≤ length (now numbers)) × (count ≤ length (now counts)) ⌝ }
     requires { ⌜ ((x : ℕ) → getD (now counts) x 0 ≡ 0) ⌝ }
     ensures { λ _. ⌜ Counted (rowOf (level (now (s .entry)) w e) d) (windowsOf (now (s .entry)) w) (table (now (s .entry)) w e d) (now (counts .exit)) ⌝ }
@@ -102,7 +103,7 @@ pub fn plan(
     counts: &mut [u32],
 ) -> usize
     requires { ⌜ Lent (now s) w e ⌝ }
-    requires { ⌜ (1 ≤ d) × (d ≤ 1000000) ⌝ }
+    requires { ⌜ (1 ≤ d) × (d ≤ widestRow) ⌝ }
     requires { ⌜ (1 ≤ length (now flags)) × (length (now flags) ≤ 1000000) ⌝ }
     requires { ⌜ (length (table (now s) w e d) ≤ length (now numbers)) × (length (table (now s) w e d) ≤ length (now counts)) ⌝ }
     ensures { λ r. ⌜ Appended (table (now (s .entry)) w e d) 0 r (now (numbers .entry)) (now (numbers .exit)) ⌝ }

@@ -1,4 +1,6 @@
 // The series line and the program's lines from a text that comes in pieces of any size: values are kept as far as there is room, clamped to 32 bits, and the rest is counted.
+use meaning_curves::GREATEST_VALUE;
+use meaning_curves::LEAST_VALUE;
 use text_lines::Moved;
 use text_lines::Place;
 use text_lines::State;
@@ -14,6 +16,11 @@ ghost use Rattle.meaning_curves.specs.Limits.{valueIn};
 ghost use Rattle.text_lines.specs.Follow.{Said};
 ghost use Rattle.text_feed.specs.Keep.{clamp, valuesMore, ofSeries, ofQuery, placeOf, wordPlace, wordNumber};
 ghost use Rattle.text_feed.specs.Feed.{Ready, GoodFeeding, Comes};
+
+// The limits of a value as a number of a text.
+const LEAST: i64 = LEAST_VALUE as i64;
+
+const GREATEST: i64 = GREATEST_VALUE as i64;
 
 // The values of a series or a query: how many were read, and how many of them stand before the first that is outside its limits.
 pub struct Values {
@@ -60,10 +67,10 @@ fn store(out: &mut [i32], k: usize, z: i64)
 fn in_limits(z: i64) -> bool
     ensures { λ r. ⌜ r ≡ valueIn z ⌝ }
 {
-    if z < -10000 {
+    if z < LEAST {
         return false;
     }
-    z <= 10000
+    z <= GREATEST
 }
 
 // One value more.

@@ -15,6 +15,7 @@ use judge::head_good;
 use judge::range_good;
 use judge::run_good;
 use judge::total_good;
+use meaning_curves::LOWEST_END;
 use meaning_rows::Head;
 use meaning_rows::Row;
 use text_event::Event;
@@ -104,7 +105,7 @@ pub fn no_rows() -> Rows
         good: true,
         rows: 0,
         runs: 0,
-        least: -4000000,
+        least: LOWEST_END,
         taken: 0,
     }
 }

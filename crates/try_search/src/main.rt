@@ -1,5 +1,6 @@
 // Runs the vectors of its standard input (tests/model/search_vectors.rs writes them: the paper's cases, then answers of the model) through the entry that searches, and says of each group how many agree.
 use find_answer::search_table;
+use meaning_curves::MOST_PROGRAM_VALUES;
 use meaning_entries::Found;
 use meaning_filter::Ask;
 use meaning_filter::Kind;
@@ -54,13 +55,13 @@ fn get_row(nums: &[u64], at: usize) -> Row {
 }
 
 // The first 64 rows of a list of four numbers each.
-fn get_rows(nums: &[u64], at: usize) -> [Row; 4096] {
+fn get_rows(nums: &[u64], at: usize) -> [Row; MOST_PROGRAM_VALUES] {
     let mut rows = [Row {
         low: 0,
         up: 0,
         first: 0,
         runs: 0,
-    }; 4096];
+    }; MOST_PROGRAM_VALUES];
     let mut k: usize = 0;
     while k < 64 {
         rows[k] = get_row(nums, plus(plus(at, 1), k * 4));

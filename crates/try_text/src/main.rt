@@ -1,5 +1,6 @@
 // Reads the index texts of its standard input, parted by '#', and every truncation of each; writes what each comes to, then the index of the whole text as it is written back, and what comes of too little room. tests/model/tried.rs has what it must write.
 use find_answer::write_table;
+use meaning_curves::MOST_PROGRAM_VALUES;
 use meaning_entries::Loaded;
 use meaning_entries::Written;
 use meaning_rows::Head;
@@ -25,13 +26,13 @@ fn show(word: &[u8], first: u64, second: u64) {
 // ---- writing back
 
 // The first three rows of a text, as row records; zeros where it has fewer.
-fn first_rows(text: &[u8]) -> [Row; 4096] {
+fn first_rows(text: &[u8]) -> [Row; MOST_PROGRAM_VALUES] {
     let mut rows = [Row {
         low: 0,
         up: 0,
         first: 0,
         runs: 0,
-    }; 4096];
+    }; MOST_PROGRAM_VALUES];
     let a = next_line(text, no_line());
     let b = next_line(text, a);
     let c = next_line(text, b);

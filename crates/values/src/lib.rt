@@ -1,4 +1,5 @@
 // What is asked of a slice of values before any distance: whether each is in its limits, sums of windows, and sums and spread of a stretch. Sums slide along neighbouring places.
+use numbers::RAISE;
 use numbers::in_limits;
 use numbers::lower;
 use numbers::raise;
@@ -7,7 +8,7 @@ ghost use mathlib.Core.Bool.{not};
 ghost use Prim.Native.Nat.{_+_, _<_, _≤_};
 ghost use lib.ListN.{length};
 ghost use Rattle.meaning_numbers.specs.Sum.{Σℕ, count};
-ghost use Rattle.meaning_curves.specs.Limits.{valueIn, firstOutside};
+ghost use Rattle.meaning_curves.specs.Limits.{valueIn, firstOutside, longestWindow, longestQuery};
 ghost use Rattle.meaning_curves.specs.Curve.{stretch, windowSum, spread};
 ghost use Rattle.meaning_curves.proofs.Values.{AllIn};
 ghost use Rattle.numbers.specs.Raised.{raised};
@@ -24,7 +25,7 @@ pub enum Place {
 // How many of the `n` values from `from` on are outside their limits.
 pub fn count_outside(s: &[i32], from: usize, n: usize) -> u32
     requires { do ⌜ from + n ≤ (← ⟦s.len()⟧) ⌝ }
-    requires { ⌜ n ≤ 1024 ⌝ }
+    requires { ⌜ n ≤ longestQuery ⌝ }
     ensures { λ r. ⌜ r ≡ count (λ k. not (valueIn (stretch (now (s .entry)) from k))) n ⌝ }
 {
     let mut found: u32 = 0;
@@ -70,7 +71,7 @@ pub fn first_outside(s: &[i32]) -> Place
 // The sum of the raised values of the stretch of `m` values that starts at `from`.
 pub fn raised_sum(s: &[i32], from: usize, m: usize) -> u64
     requires { do ⌜ from + m ≤ (← ⟦s.len()⟧) ⌝ }
-    requires { ⌜ m ≤ 1024 ⌝ }
+    requires { ⌜ m ≤ longestQuery ⌝ }
     requires { ⌜ AllIn (now s) ⌝ }
     ensures { λ r. ⌜ r ≡ Σℕ m (λ k. raised (stretch (now (s .entry)) from k)) ⌝ }
 {
@@ -87,19 +88,19 @@ pub fn raised_sum(s: &[i32], from: usize, m: usize) -> u64
 // The sum of window `j`, of length `w`.
 pub fn window_sum(s: &[i32], w: usize, j: usize) -> i32
     requires { do ⌜ j + w ≤ (← ⟦s.len()⟧) ⌝ }
-    requires { ⌜ w ≤ 256 ⌝ }
+    requires { ⌜ w ≤ longestWindow ⌝ }
     requires { ⌜ AllIn (now s) ⌝ }
     ensures { λ r. ⌜ r ≡ windowSum (now (s .entry)) w j ⌝ }
 {
     let sum = raised_sum(s, j, w);
-    let bias = 10000 * (w as u64);
+    let bias = RAISE * (w as u64);
     lower(sum, bias)
 }
 
 // The sum of the next window.
 pub fn next_window(s: &[i32], w: usize, j: usize, sum: i32) -> i32
     requires { do ⌜ j + w < (← ⟦s.len()⟧) ⌝ }
-    requires { ⌜ w ≤ 256 ⌝ }
+    requires { ⌜ w ≤ longestWindow ⌝ }
     requires { ⌜ AllIn (now s) ⌝ }
     requires { ⌜ sum ≡ windowSum (now s) w j ⌝ }
     ensures { λ r. ⌜ r ≡ windowSum (now (s .entry)) w (j + 1) ⌝ }
@@ -118,7 +119,7 @@ pub struct Sums {
 // The sums of the stretch of `m` values that starts at `from`.
 pub fn sums_at(s: &[i32], from: usize, m: usize) -> Sums
     requires { do ⌜ from + m ≤ (← ⟦s.len()⟧) ⌝ }
-    requires { ⌜ m ≤ 1024 ⌝ }
+    requires { ⌜ m ≤ longestQuery ⌝ }
     requires { ⌜ AllIn (now s) ⌝ }
     ensures { λ r. ⌜ AreSums (now (s .entry)) from m (r .values) (r .squares) ⌝ }
 {
@@ -141,7 +142,7 @@ pub fn sums_at(s: &[i32], from: usize, m: usize) -> Sums
 // The sums of the next stretch.
 pub fn next_sums(s: &[i32], from: usize, m: usize, t: Sums) -> Sums
     requires { do ⌜ from + m + 1 ≤ (← ⟦s.len()⟧) ⌝ }
-    requires { ⌜ m ≤ 1024 ⌝ }
+    requires { ⌜ m ≤ longestQuery ⌝ }
     requires { ⌜ AllIn (now s) ⌝ }
     requires { ⌜ AreSums (now s) from m (t .values) (t .squares) ⌝ }
     ensures { λ r. ⌜ AreSums (now (s .entry)) (from + 1) m (r .values) (r .squares) ⌝ }
@@ -158,7 +159,7 @@ pub fn next_sums(s: &[i32], from: usize, m: usize, t: Sums) -> Sums
 
 // The spread of a stretch of `m` values, of its sums.
 pub fn spread_of(s: &[i32], from: usize, m: usize, t: Sums) -> u64
-    requires { ⌜ m ≤ 1024 ⌝ }
+    requires { ⌜ m ≤ longestQuery ⌝ }
     requires { ⌜ AllIn (now s) ⌝ }
     requires { ⌜ AreSums (now s) from m (t .values) (t .squares) ⌝ }
     ensures { λ r. ⌜ r ≡ spread (stretch (now (s .entry)) from) m ⌝ }

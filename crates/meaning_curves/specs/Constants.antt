@@ -1,0 +1,22 @@
+-- The constants of the code (src/lib.rt) are the limits (`meant`). Assumes nothing.
+use lib.IntN.{pos}
+use Rattle.meaning_curves.specs.declared.Constants.{Constants}
+use Rattle.meaning_curves.specs.Limits.{mostValues, mostProgramValues, leastValue, greatestValue, longestWindow, widestRow, greatestMerge, longestQuery, greatestThreshold, leastScale, greatestScale, greatestShift, lowestEnd, highestEnd}
+
+abbrev pub meant : Constants
+meant = record {
+  values = mostValues;
+  program = mostProgramValues;
+  low = leastValue;
+  high = pos greatestValue;
+  window = longestWindow;
+  width = widestRow;
+  merge = greatestMerge;
+  query = longestQuery;
+  threshold = greatestThreshold;
+  least = leastScale;
+  scale = greatestScale;
+  shift = greatestShift;
+  bottom = lowestEnd;
+  top = pos highestEnd;
+}
