@@ -46,7 +46,7 @@ use Rattle.meaning_entries.proofs.Built as Bu
 use Rattle.meaning_entries.proofs.Built.Laws as Bu′
 use Rattle.meaning_entries.proofs.Audited as Au
 use Rattle.meaning_entries.proofs.Audited.Laws as Au′
-use Rattle.build_index.proofs.Calls.{low-built}
+use Rattle.build_index.proofs.BuildCall.{low-built}
 use Rattle.records.proofs.Lends.{Own, SharedAgain, unshare, twin}
 use Rattle.audit.proofs.AuditCall as Auditing
 use Rattle.audit.proofs.AuditCall.{low-head, low-audited, Audit, to-audit}

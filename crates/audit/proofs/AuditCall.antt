@@ -1,6 +1,5 @@
 -- A call of `audit` in a walk of a crate above, as one step.
 --     calls-audit          tokens and owns of the slices are at the head, and are given up. The tokens come back
---     calls-audit-kept     token and own of each slice are at the head, and stay there
 -- Assumes `Given`, and that the table of calls is monotone under a frame, as every `Tables` is.
 use Prim.Native.Nat.{ℕ}
 use mathlib.Core.List.{List, [], _∷_}
@@ -37,7 +36,6 @@ use Rattle.meaning_entries.proofs.Audited as Au
 use Rattle.meaning_entries.proofs.Audited.Laws as Au′
 use Rattle.meaning_entries.specs.Audit.{lentAudit}
 use Rattle.meaning_entries.specs.Demand2.{AuditKept}
-use Rattle.records.proofs.Lends.{twin}
 use Rattle.records.proofs.Told.{calls-ended}
 pub use Rattle.judge.proofs.Calls.{low-head}
 pub use Rattle.audit.proofs.Calls.{low-audited}
@@ -65,16 +63,3 @@ module _ {M : Type 1} {𝓤 : URA M} {H : Heap 𝓤} {A : Atoms 𝓤} {K : Type 
   calls-audit t fm mem run met κs qs vs κa qa va κu qu vu κv qv vv head g-head os k =
       group t 8 $ calls-ended t fm audit.ended (audit.clauses 𝓤 H A mem run) met (to-audit 𝓤 H A mem run κs qs vs κa qa va κu qu vu κv qv vv head) (asks-audit 𝓤 H A mem run κs qs vs κa qa va κu qu vu κv qv vv head W g-head)
       (λ r ls. AuditKept (lentAudit (vs .now) head (va .now) (vu .now) (vv .now)) r) (λ r ls. id⊢ 𝓤 _) low-audited (EL.tells Au.the-type Au′.the-laws) os (λ r ls. k r)
-
-module _ {M : Type 1} {𝓤 : URA M} {H : Heap 𝓤} {A : Atoms 𝓤} {K : Type 0} {W : Given 𝓤 H A} {Γ : List (Item 𝓤)} {E : Env 𝓤 H} {C : Calls 𝓤 H} {Λ : Loops 𝓤 H} {p : Post 𝓤 H} {d : Place} {rest : Body} {xs : List Operand} where
-  pub calls-audit-kept : K → FmC 𝓤 H (W .laws) C → (mem : Memory → SProp 𝓤) (run : Routine → Fun 𝓤) → Triple 𝓤 (C #audit) (Audit 𝓤 H A mem run) → (κs : Lft) (qs : Share) (vs : RefT (List ℤ)) (κa : Lft) (qa : Share) (va : RefT (List Row)) (κu : Lft) (qu : Share) (vu : RefT (List ℕ)) (κv : Lft) (qv : Share) (vv : RefT (List ℕ)) (head : Head) → Is Hd.the-row head (low-head head ∷ [])
-      → (Opds K W (raw (Audit 𝓤 H A mem run .pre (to-audit 𝓤 H A mem run κs qs vs κa qa va κu qu vu κv qv vv head)) ∷ ‵ (ShrSlice (named 0) κs i32 .own vs (sliceVal (vs .ptr) (length (vs .now)) ∷ [])) ∷ ‵ (ShrSlice (named 0) κa T.the-row .own va (sliceVal (va .ptr) (length (va .now)) ∷ [])) ∷ ‵ (ShrSlice (named 0) κu u32 .own vu (sliceVal (vu .ptr) (length (vu .now)) ∷ [])) ∷ ‵ (ShrSlice (named 0) κv u32 .own vv (sliceVal (vv .ptr) (length (vv .now)) ∷ [])) ∷ Γ) E xs (sliceVal (vs .ptr) (length (vs .now)) ∷ low-head head ∷ sliceVal (va .ptr) (length (va .now)) ∷ sliceVal (vu .ptr) (length (vu .now)) ∷ sliceVal (vv .ptr) (length (vv .now)) ∷ []))
-      → ((r : Audited) → AuditKept (lentAudit (vs .now) head (va .now) (vu .now) (vv .now)) r → Is Au.the-row r (low-audited r ∷ []) → Seq K W (‵ (flft κs qs) ∷ ‵ (ShrSlice (named 0) κs i32 .own vs (sliceVal (vs .ptr) (length (vs .now)) ∷ [])) ∷ ‵ (flft κa qa) ∷ ‵ (ShrSlice (named 0) κa T.the-row .own va (sliceVal (va .ptr) (length (va .now)) ∷ [])) ∷ ‵ (flft κu qu) ∷ ‵ (ShrSlice (named 0) κu u32 .own vu (sliceVal (vu .ptr) (length (vu .now)) ∷ [])) ∷ ‵ (flft κv qv) ∷ ‵ (ShrSlice (named 0) κv u32 .own vv (sliceVal (vv .ptr) (length (vv .now)) ∷ [])) ∷ Γ) (lands C Λ E d (low-audited r) rest p))
-      → Seq K W (‵ (flft κs qs) ∷ ‵ (ShrSlice (named 0) κs i32 .own vs (sliceVal (vs .ptr) (length (vs .now)) ∷ [])) ∷ ‵ (flft κa qa) ∷ ‵ (ShrSlice (named 0) κa T.the-row .own va (sliceVal (va .ptr) (length (va .now)) ∷ [])) ∷ ‵ (flft κu qu) ∷ ‵ (ShrSlice (named 0) κu u32 .own vu (sliceVal (vu .ptr) (length (vu .now)) ∷ [])) ∷ ‵ (flft κv qv) ∷ ‵ (ShrSlice (named 0) κv u32 .own vv (sliceVal (vv .ptr) (length (vv .now)) ∷ [])) ∷ Γ) (runs C Λ E (seq (call #audit xs d) rest) p)
-  calls-audit-kept t fm mem run met κs qs vs κa qa va κu qu vu κv qv vv head g-head os k =
-      move t (1 ∷ []) $ twin t i32 (named 0) κs vs $
-      move t (4 ∷ []) $ twin t T.the-row (named 0) κa va $
-      move t (7 ∷ []) $ twin t u32 (named 0) κu vu $
-      move t (10 ∷ []) $ twin t u32 (named 0) κv vv $
-      move t (8 ∷ 9 ∷ 10 ∷ 11 ∷ 6 ∷ 4 ∷ 2 ∷ 0 ∷ 7 ∷ 5 ∷ 3 ∷ 1 ∷ []) $ calls-audit t fm mem run met κs qs vs κa qa va κu qu vu κv qv vv head g-head os (λ r said is.
-      move t (0 ∷ 4 ∷ 1 ∷ 5 ∷ 2 ∷ 6 ∷ 3 ∷ 7 ∷ []) $ k r said is)

@@ -1,4 +1,2 @@
--- Calls of the parts of a build in a walk.
-pub mod Calls
-pub mod Merge
-pub mod Passes
+-- What the stages of a build ask of those before them.
+pub mod Stages

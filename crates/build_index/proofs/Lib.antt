@@ -1,4 +1,3 @@
--- Calls of the parts of the entry in a walk, and of the entry by crates above.
-pub mod Calls
-pub mod Entry
+-- What the plan of the entry gives, and a call of the entry in a walk of a crate above.
+pub mod Stages
 pub mod BuildCall

@@ -1,3 +1,2 @@
--- What the entries' promises and demand 3 of the meanings come to; the calls of `demand` in its walk.
+-- Demand 3 of the code from the promises of its parts.
 pub mod Kept
-pub mod Calls

@@ -1,4 +1,2 @@
--- Calls of the parts of an extension in a walk.
-pub mod Calls
-pub mod Passes
-pub mod Shell
+-- What the passes of an extension ask of those before them.
+pub mod Stages

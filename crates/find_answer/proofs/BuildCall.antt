@@ -39,7 +39,7 @@ use Rattle.records.proofs.Again.{LentAgain}
 use Rattle.records.proofs.Lends.{Own, lend, comes, twin}
 use Rattle.records.proofs.Told.{calls-free}
 use Rattle.build.specs.Filled.{buffers}
-use Rattle.build_index.proofs.Calls.{low-built}
+use Rattle.build_index.proofs.BuildCall.{low-built}
 use Rattle.build_index.proofs.BuildCall as Building
 use Rattle.build_index.proofs.BuildCall.{Build, to-build}
 use Rattle.build_index.proofs.build.Symbol.{name as #build}

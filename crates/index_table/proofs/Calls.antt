@@ -50,8 +50,8 @@ use Rattle.meaning_entries.proofs.Audited as Au
 use Rattle.records.proofs.RowKit.{row-makes}
 use Rattle.records.proofs.Rows.{chunk}
 use Rattle.build.specs.Filled.{buffers}
-use Rattle.build_index.proofs.Calls.{low-built}
-use Rattle.extend_index.proofs.Calls.{low-extended}
+use Rattle.build_index.proofs.BuildCall.{low-built}
+use Rattle.extend_index.proofs.ExtendCall.{low-extended}
 use Rattle.records.proofs.Again.{LentAgain}
 use Rattle.records.proofs.Lends.{Own, SharedAgain, lend, unshare, comes, twin}
 use Rattle.extend_index.proofs.ExtendCall as Extending

@@ -1,2 +1,2 @@
--- Calls of the parts of `lay_rows` in a walk.
-pub mod Calls
+-- What the parts of `lay_rows` ask and give.
+pub mod Packs

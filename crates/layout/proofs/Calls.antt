@@ -1,4 +1,4 @@
--- Calls of the covered functions of a binary search, and of the search itself, each as one step of a walk: the context stays as it was.
+-- Calls of the covered functions of a binary search, and of `find_record`, each as one step of a walk: the context stays as it was.
 -- Assumes `Given`, and that the table of calls is monotone under a frame, as every `Tables` is.
 use mathlib.Core.Path.{_≡_, refl}
 use Prim.Native.Nat.{ℕ, _<_, _≤_, _^_}
@@ -32,7 +32,7 @@ use denote.Triple.Spec.{tripleOf}
 use denote.Triple.Statement.{Contract, Triple}
 use denote.Triple.Walked.{says}
 use Rattle.meaning_rows.specs.declared.Row.{Row}
-use Rattle.layout.specs.Search.{midOf, nextLo, nextHi, Climbs, Found, Reached, FoundRow}
+use Rattle.layout.specs.Search.{midOf, nextLo, nextHi, Climbs, Reached, FoundRow}
 use Rattle.records.proofs.Walk.{calls-plain}
 use Rattle.records.proofs.Told.{calls-told-kept}
 use Rattle.records.proofs.Rows.{Rs, Own, low, Good}
@@ -44,8 +44,6 @@ use Rattle.layout.proofs.next_lo as lo
 use Rattle.layout.proofs.next_lo.Symbol.{name as #next-lo}
 use Rattle.layout.proofs.next_hi as hi
 use Rattle.layout.proofs.next_hi.Symbol.{name as #next-hi}
-use Rattle.layout.proofs.find_row as find
-use Rattle.layout.proofs.find_row.Symbol.{name as #find-row}
 use Rattle.layout.proofs.find_record as found
 use Rattle.layout.proofs.find_record.Symbol.{name as #find-record}
 
@@ -60,15 +58,8 @@ module _ {M : Type 1} (𝓤 : URA M) (H : Heap 𝓤) (A : Atoms 𝓤) (mem : Mem
   abbrev pub NextHi : Contract 𝓤
   NextHi = tripleOf 𝓤 H A hi.signature (hi.spec 𝓤 H A mem run)
 
-  abbrev pub FindRow : Contract 𝓤
-  FindRow = tripleOf 𝓤 H A find.signature (find.spec 𝓤 H A mem run)
-
   abbrev pub FindRecord : Contract 𝓤
   FindRecord = tripleOf 𝓤 H A found.signature (found.spec 𝓤 H A mem run)
-
-  -- what each is called at
-  abbrev pub to-find : Lft → Share → Rs → ℕ → ℤ → FindRow .Ghost
-  to-find κ q x n z = (((κ, tt), (q, tt), tt, (x, (n, (z, tt))), (slice-vals x, (vint w64 n ∷ [], (vint w32 (ofZ w32 z) ∷ [], tt)))), tt)
 
   abbrev pub to-found : Lft → Share → Rs → ℕ → ℤ → FindRecord .Ghost
   to-found κ q x n z = (((κ, tt), (q, tt), tt, (x, (n, (z, tt))), (slice-vals x, (vint w64 n ∷ [], (vint w32 (ofZ w32 z) ∷ [], tt)))), tt)
@@ -83,10 +74,6 @@ module _ {M : Type 1} (𝓤 : URA M) (H : Heap 𝓤) (A : Atoms 𝓤) (mem : Mem
   to-next-hi a m r z = ((tt, tt, tt, (a, (m, (r, (z, tt)))), (vint w64 a ∷ [], (vint w64 m ∷ [], (low r ∷ [], (vint w32 (ofZ w32 z) ∷ [], tt))))), tt)
 
   module _ (W : Given 𝓤 H A) where
-    asks-find : (κ : Lft) (q : Share) (x : Rs) (n : ℕ) (z : ℤ) → Climbs (now x) n → n < 2 ^ 64 → mag z < 2 ^ 31 → ent 𝓤 (sep 𝓤 (A .lft κ q) (sem 𝓤 H A (Own κ x))) (FindRow .pre (to-find κ q x n z))
-    asks-find κ q x n z l g e = qed W (‵ (flft κ q) ∷ ‵ (Own κ x) ∷ []) ∵ says ! l $ nothing ! $ move ! (1 ∷ 0 ∷ []) $ join ! $ frame ! $ frame ! $ nothing ! $
-        owned ! i32 (Is i32) (sint-makes 𝓤 H A W w32) z _ (refl, e) $ fjoin ! $ owned ! usize (Is usize) (uint-makes 𝓤 H A W w64) n _ (refl, g) $ fjoin ! $ done !
-
     asks-found : (κ : Lft) (q : Share) (x : Rs) (n : ℕ) (z : ℤ) → Climbs (now x) n × Reached (now x) n z → n < 2 ^ 64 → mag z < 2 ^ 31 → ent 𝓤 (sep 𝓤 (A .lft κ q) (sem 𝓤 H A (Own κ x))) (FindRecord .pre (to-found κ q x n z))
     asks-found κ q x n z l g e = qed W (‵ (flft κ q) ∷ ‵ (Own κ x) ∷ []) ∵ says ! l $ nothing ! $ move ! (1 ∷ 0 ∷ []) $ join ! $ frame ! $ frame ! $ nothing ! $
         owned ! i32 (Is i32) (sint-makes 𝓤 H A W w32) z _ (refl, e) $ fjoin ! $ owned ! usize (Is usize) (uint-makes 𝓤 H A W w64) n _ (refl, g) $ fjoin ! $ done !
@@ -128,15 +115,6 @@ module _ {M : Type 1} {𝓤 : URA M} {H : Heap 𝓤} {A : Atoms 𝓤} {K : Type 
   calls-next-hi t fm mem run met a m r z f h g e os k =
       calls-plain t fm hi.signature (hi.spec 𝓤 H A mem run) met (to-next-hi 𝓤 H A mem run a m r z) (asks-next-hi 𝓤 H A mem run W a m r z f h g e) (nextHi a m r z) (vint w64) (uint-tells w64)
       (λ n. exE 𝓤 _ (λ ws. snd∗ 𝓤 (sem 𝓤 H A (lasts hi.ended tt (a, (m, (r, (z, tt)))) ws)) (fact 𝓤 (n ≡ nextHi a m r z)))) os (λ is. k (is .1))
-
-  pub calls-find-row : K → FmC 𝓤 H (W .laws) C → (mem : Memory → SProp 𝓤) (run : Routine → Fun 𝓤) → Triple 𝓤 (C #find-row) (FindRow 𝓤 H A mem run) → (κ : Lft) (q : Share) (x : Rs) (n : ℕ) (z : ℤ) → Climbs (now x) n → n < 2 ^ 64 → mag z < 2 ^ 31
-      → Opds K W (raw (FindRow 𝓤 H A mem run .pre (to-find 𝓤 H A mem run κ q x n z)) ∷ ‵ (Own κ x) ∷ Γ) E xs (sliceVal (ptr x) (length (now x)) ∷ vint w64 n ∷ vint w32 (ofZ w32 z) ∷ [])
-      → ((k : ℕ) → Found (now x) n z k → k < 2 ^ 64 → Seq K W (‵ (flft κ q) ∷ ‵ (Own κ x) ∷ Γ) (lands C Λ E d (vint w64 k) rest p))
-      → Seq K W (‵ (flft κ q) ∷ ‵ (Own κ x) ∷ Γ) (runs C Λ E (seq (call #find-row xs d) rest) p)
-  calls-find-row t fm mem run met κ q x n z l g e os next =
-      calls-told-kept t fm find.signature (find.spec 𝓤 H A mem run) met (to-find 𝓤 H A mem run κ q x n z) (‵ (flft κ q)) (‵ (Own κ x)) (shr-slice-copy 𝓤 H A W (named 0) κ T.the-row .twice x (slice-vals x))
-      (asks-find 𝓤 H A mem run W κ q x n z l g e) (fst∗ 𝓤 (A .lft κ q) (emp 𝓤)) (Found (now x) n z) (vint w64) (uint-tells w64)
-      (λ r. exE 𝓤 _ (λ ws. snd∗ 𝓤 (sem 𝓤 H A (lasts find.ended (κ, tt) (x, (n, (z, tt))) ws)) (fact 𝓤 (Found (now x) n z r)))) os (λ k f is. next k f (is .1))
 
   pub calls-find-record : K → FmC 𝓤 H (W .laws) C → (mem : Memory → SProp 𝓤) (run : Routine → Fun 𝓤) → Triple 𝓤 (C #find-record) (FindRecord 𝓤 H A mem run) → (κ : Lft) (q : Share) (x : Rs) (n : ℕ) (z : ℤ) → Climbs (now x) n × Reached (now x) n z → n < 2 ^ 64 → mag z < 2 ^ 31
       → Opds K W (raw (FindRecord 𝓤 H A mem run .pre (to-found 𝓤 H A mem run κ q x n z)) ∷ ‵ (Own κ x) ∷ Γ) E xs (sliceVal (ptr x) (length (now x)) ∷ vint w64 n ∷ vint w32 (ofZ w32 z) ∷ [])

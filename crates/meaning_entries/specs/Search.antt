@@ -16,7 +16,7 @@ use Rattle.meaning_filter.specs.declared.Limits.{Limits}
 use Rattle.meaning_filter.specs.declared.Ask.{Ask}
 use Rattle.meaning_filter.specs.Matches.{Question, candidateRuns, candidateCount, matchList}
 use Rattle.meaning_entries.specs.declared.Found.{Found}
-use Rattle.meaning_entries.specs.Refusal.{Condition, firstRefusal, lengthOutside, valueOutside, queryLengthOutside, queryBelowWindow, bandOutside, thresholdOutside, scaleOrShiftOutside, flatQuery, illFormed, listShort, countLines, roomLines}
+use Rattle.meaning_entries.specs.Refusal.{Condition, firstRefusal, valueOutside, queryLengthOutside, queryBelowWindow, bandOutside, thresholdOutside, scaleOrShiftOutside, flatQuery, illFormed, listShort, seriesLines, countLines, roomLines}
 use Rattle.meaning_entries.specs.Buffers.{filled, pairRoom}
 
 -- what is asked beside the query. Band b, threshold E, scale limit a, shift limit h are whole numbers, as a text may have any
@@ -75,7 +75,7 @@ listRoom b = pairRoom (b .offsets) (b .distances)
 
 -- 1 and 2: the series, of at most so many values, then the query
 abbrev pub valueLines : ℕ → List ℤ → List ℤ → List Condition
-valueLines most s q = lengthOutside most (length s) ∷ valueOutside s ∷ valueOutside q ∷ []
+valueLines most s q = seriesLines most s ++ (valueOutside q ∷ [])
 
 -- 6 to 10: m, for a series of n values and windows of w, and the limits
 abbrev pub limitLines : ℕ → ℕ → ℤ → Asking → List Condition

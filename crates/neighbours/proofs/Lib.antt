@@ -1,3 +1,4 @@
--- Calls of a walk.
+-- Calls of a walk, and what naming a row asks.
 pub mod Calls
+pub mod Named
 pub mod FileCall

@@ -1,7 +1,8 @@
--- The kit for walks over lent records, generic (Walk, Told, Elem, Lends, Again, LocalMut, Lent, Prefix), of `Row` (RowKit, Rows, Writes) and of the two run slices (Slices), and the laws of chunks.
+-- The kit for walks over lent records, generic (Walk, Told, Elem, Lends, Again, LocalMut, Lent, Prefix, Passing, Prelude), of `Row` (RowKit, Rows, Writes) and of the two run slices (Slices), and the laws of chunks.
 pub mod Walk
 pub mod Elem
 pub mod Again
+mod Beside
 pub mod Lends
 pub mod LocalMut
 pub mod Lent
@@ -12,3 +13,5 @@ pub mod Slices
 pub mod Told
 pub mod Writes
 pub mod Chunk
+pub mod Passing
+pub mod Prelude

@@ -43,7 +43,7 @@ module _ {M : Type 1} (𝓤 : URA M) (H : Heap 𝓤) (A : Atoms 𝓤) where
   tokens (suc n) κs qs = via 𝓤 (sep 𝓤 (A .lft (κs .0) (qs .0)) (⋆ 𝓤 H A (Tokens n (κs .1) (qs .1)))) (monoR 𝓤 (A .lft (κs .0) (qs .0)) (tokens n (κs .1) (qs .1))) (push 𝓤 H A (‵ (flft (κs .0) (qs .0))) (Tokens n (κs .1) (qs .1)))
 
   -- what is said of a parameter's last value, where anything is
-  abbrev End : {D : Type 0} (e : Exit D) (x : D) → Last e x → List (Item 𝓤) → List (Item 𝓤)
+  abbrev pub End : {D : Type 0} (e : Exit D) (x : D) → Last e x → List (Item 𝓤) → List (Item 𝓤)
   End unchanged x w Γ = Γ
   End (leaves L l S s) x w Γ = ‵ (l x w) ∷ Γ
 

@@ -1,13 +1,13 @@
 -- Finding candidates, where nothing refuses the search before it looks: what its parts ask for is had (`put-asked`, `meet-asked`, `hand-asked`), and what they promise is the promise of finding (`gathered`); where a plan refuses, so is that (`halted`).
 -- The search after it: checking has what it asks for (`finish-asked`), and both promises are the promise of the search (`both-kept`). Assumes nothing.
 use mathlib.Core.Path.{_≡_, refl, sym, ap, _∙_}
-use mathlib.Core.Bool.{Bool, true, false}
+use mathlib.Core.Bool.{Bool, true, false, not}
 use mathlib.Core.List.{List, [], map}
-use Prim.Native.Nat.{ℕ, zero, suc, _+_, _-_, _*_, _/_, _<_, _≤_}
+use Prim.Native.Nat.{ℕ, zero, suc, _+_, _-_, _*_, _/_, _<_, _≤_, min}
 use native.Mathlib.Omega.{arith}
 use native.Mathlib.Nat.{div-le-self, div-mul-le-self}
 use lib.Dec.{eqb}
-use borrow.Author.Tests.{eqb-true, eqb-false}
+use borrow.Author.Tests.{eqb-true, eqb-false, not-true, not-false}
 use Rattle.meaning_numbers.proofs.Tests.{by-test}
 use lib.IntN.{ℤ}
 use lib.ListN.{length, getD, length-replicate}
@@ -27,6 +27,8 @@ use Rattle.meaning_entries.specs.declared.Found.{Found}
 use Rattle.meaning_entries.specs.Buffers.{filled, pairRoom}
 use Rattle.meaning_entries.specs.Search.{SearchCall, SearchBuffers, lentSearch, question, searchPlan, searchCandidates, lookedAfter}
 use Rattle.meaning_entries.specs.Demand2.{SearchKept}
+use Rattle.judge.specs.declared.Judged.{Judged}
+use Rattle.judge.specs.Judged.{judgedOf}
 use Rattle.judge.proofs.Scan.{length-entries}
 use Rattle.candidates.specs.Leading.{leading, Counted}
 use Rattle.candidates.proofs.Leading.{leading-all}
@@ -38,6 +40,7 @@ use Rattle.filter.proofs.Spanned.{span-admits, span-inside, span-few, clamp-adm
 use Rattle.spans.specs.Held.{RangesReady, RangesHeld, raised-most, lowered}
 use Rattle.spans.specs.Met.{spanAt, MeetReady, AllMet}
 use Rattle.spans.specs.Raised.{stretchHit, counted-all}
+use Rattle.search_plan.specs.Tables.{planOf}
 use Rattle.search_plan.specs.Allowed.{Allowed, thePlan, plan-is, goes-on, allowed}
 use Rattle.conditions.specs.declared.Refusal.{Refusal}
 use Rattle.conditions.specs.Refusal.{refusalOf, asRefusal}
@@ -220,6 +223,7 @@ module _ (s : List ℤ) (h : Head) (rows : List Row) (left right : List ℕ) (as
     gathered {t} e = record {
       judged = unrefused s h rows left right ask q B z held all e;
       stays = λ f. absurd (f (ap (λ (r : Refusal). r .number) (e .unrefused)));
+      uncounted = λ f. absurd (f (ap (λ (r : Refusal). r .number) (e .unrefused)));
       counted = λ _. counted-so s h rows left right ask q B z held all e;
       handed = λ _. (left-is s h rows left right ask q B z held all e, right-is s h rows left right ask q B z held all e, cleared-so s h rows left right ask q B z held all e);
     }
@@ -229,9 +233,20 @@ module _ (s : List ℤ) (h : Head) (rows : List Row) (left right : List ℕ) (as
   halted f = record {
     judged = plan-is s h rows left right ask q B;
     stays = λ _. (refl, refl, refl);
+    uncounted = λ _. (refl, refl);
     counted = λ e. absurd (f e);
     handed = λ e. absurd (f e);
   }
+
+module _ (s : List ℤ) (h : Head) (rows : List Row) (left right : List ℕ) (ask : Ask) (q : List ℤ) (first last scratch : List ℕ) {j : Judged} {p : Refusal} (judged : j ≡ judgedOf (lent h rows left right)) (planned : p ≡ planOf s h j ask q (min (length first) (length last)) (length scratch)) where
+  plan-here : p ≡ thePlan s h rows left right ask q (buffers first last scratch [] [])
+  plan-here = planned ∙ ap (λ (i : Judged). planOf s h i ask q (min (length first) (length last)) (length scratch)) judged
+
+  pub halts : not (eqb (p .number) 0) ≡ true → {t : Sought} → t ≡ stopped p → SoughtKept (lentSearch s h rows left right ask q) first last scratch t first last scratch
+  halts f e = rw (e, plan-here) (halted s h rows left right ask q first last scratch (λ z. eqb-false (p .number) 0 (not-true (eqb (p .number) 0) f) (ap (λ (r : Refusal). r .number) plan-here ∙ z)))
+
+  pub goes : not (eqb (p .number) 0) ≡ false → thePlan s h rows left right ask q (buffers first last scratch [] []) .number ≡ 0
+  goes f = sym (ap (λ (r : Refusal). r .number) plan-here) ∙ eqb-true (p .number) 0 (not-false (eqb (p .number) 0) f)
 
 -- ---- checking after it
 

@@ -47,9 +47,17 @@ use Rattle.records.proofs.Lends.{Own, lend, back}
 use Rattle.meaning_entries.specs.Search.{lentSearch}
 use Rattle.meaning_entries.specs.Demand2.{SearchKept}
 use Rattle.search.specs.Refused.{buffers}
-use Rattle.search.proofs.EntryCalls.{low-head, low-ask, low-found}
 use Rattle.search.proofs.search as searching
 use Rattle.search.proofs.search.Symbol.{name as #search}
+
+abbrev pub low-head : Head → Val
+low-head = LL.val Hd.the-type Hd′.the-laws
+
+abbrev pub low-ask : Ask → Val
+low-ask = LL.val Ak.the-type Ak′.the-laws
+
+abbrev pub low-found : Found → Val
+low-found = EL.val Fd.the-type Fd′.the-laws
 
 -- the contract, what it is called at, and what it asks
 module _ {M : Type 1} (𝓤 : URA M) (H : Heap 𝓤) (A : Atoms 𝓤) (mem : Memory → SProp 𝓤) (run : Routine → Fun 𝓤) where

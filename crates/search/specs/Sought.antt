@@ -6,6 +6,7 @@ use Prim.Native.Nat.{ℕ, _+_, _-_, _/_, _≤_}
 use native.Mathlib.Omega.{arith}
 use lib.IntN.{ℤ}
 use lib.ListN.{length, replicate, length-map, length-append}
+use Rattle.meaning_curves.specs.Limits.{mostValues, longestWindow}
 use Rattle.meaning_rows.specs.declared.Head.{Head}
 use Rattle.meaning_rows.specs.Runs.{runs}
 use Rattle.meaning_rows.proofs.Runs.{runs-apart}
@@ -37,6 +38,7 @@ unstopped k n = record { refusal = record { number = 0; place = 0 }; runs = k; c
 pub record SoughtKept (c : SearchCall) (left right scratch : List ℕ) (t : Sought) (left′ right′ scratch′ : List ℕ) : Type 0 where
   pub judged : t .refusal ≡ refusalOf (searchPlan c (buffers left right scratch [] []))
   pub stays : (t .refusal .number ≡ 0 → ⊥) → (left′ ≡ left) × (right′ ≡ right) × (scratch′ ≡ scratch)
+  pub uncounted : (t .refusal .number ≡ 0 → ⊥) → (t .runs ≡ 0) × (t .candidates ≡ 0)
   pub counted : t .refusal .number ≡ 0 → (t .runs ≡ length (candidateRuns (c .index) (question c))) × (t .candidates ≡ searchCandidates c)
   pub handed : t .refusal .number ≡ 0 → (left′ ≡ lookedAfter c (buffers left right scratch [] []) .left) × (right′ ≡ lookedAfter c (buffers left right scratch [] []) .right) × (scratch′ ≡ lookedAfter c (buffers left right scratch [] []) .scratch)
 
@@ -55,11 +57,11 @@ pub record Finished (ask : Ask) (s q : List ℤ) (t : Sought) (first last offset
 -- ---- the last step of finding
 
 pub record HandReady (s : List ℤ) (h : Head) (left right : List ℕ) (q : List ℤ) (first last scratch : List ℕ) : Type 0 where
-  pub long : length s ≤ 1048576
+  pub long : length s ≤ mostValues
   pub some : 1 ≤ length q
   pub inside : length q ≤ length s
   pub window : 1 ≤ h .window
-  pub window-most : h .window ≤ 256
+  pub window-most : h .window ≤ longestWindow
   pub stretches : StretchesReady left right first last (h .window) (length q / h .window) (length s + 1 - length q) (filled 0 [] scratch)
   pub room : length s + 1 - length q ≤ length scratch
   pub first-room : length s + 1 - length q ≤ length first

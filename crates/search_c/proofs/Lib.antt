@@ -1,2 +1,2 @@
--- What the walk of the search for C needs beside `index_c`'s.
-pub mod Passing
+-- What a told search keeps.
+pub mod Kept

@@ -1,5 +1,5 @@
 -- What the entry answers and leaves in the buffers is what is meant (`load-right`): by what the text comes to, and of a text that can be read by the head, the rows and the room. Assumes nothing.
-use mathlib.Core.Path.{_≡_, refl, sym, ap, _∙_}
+use mathlib.Core.Path.{_≡_, refl, sym, ap, _∙_, subst}
 use mathlib.Core.Bool.{true}
 use mathlib.Core.List.{List, [], _∷_, _++_, append-nil}
 use mathlib.Core.Option.{none}
@@ -219,3 +219,6 @@ load-right t rows rows' left right left' right' p a l r s =
   where
     same-buffers : (x : IndexBuffers) (rows : List Row) (left right : List ℕ) → rows ≡ x .rows → left ≡ x .left → right ≡ x .right → record { rows = rows; left = left; right = right } ≡ x
     same-buffers x rows left right e f g = λ i. record { rows = e i; left = f i; right = g i }
+
+pub loads-inside : {t : List ℕ} {rows : ℕ} {left right left' right' : List ℕ} {p : Plan} → Loads t rows left right p left' right' → Inside p rows
+loads-inside {t} {rows} l = subst (λ (q : Plan). Inside q rows) (sym (l .planned)) (plan-inside t rows _)

@@ -70,7 +70,7 @@ use Rattle.assured.specs.Assured.{headIn, bothOf, BuildAssured}
 use Rattle.assured.specs.Standing.{in-room, assured}
 use Rattle.assured.proofs.Assured as As
 use Rattle.assured.proofs.Assured.Laws as As′
-use Rattle.build_index.proofs.Calls.{low-built}
+use Rattle.build_index.proofs.BuildCall.{low-built}
 use Rattle.build_index.proofs.BuildCall.{Build, calls-build-lent}
 use Rattle.assured.proofs.Calls.{low-assured, HeadIn, RowsIn, RunsIn, Both, calls-head-in, calls-rows-in, calls-runs-in, calls-audit, calls-both}
 use Rattle.assured.proofs.head_in.Symbol as head-in-def

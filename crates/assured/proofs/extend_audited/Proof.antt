@@ -60,7 +60,7 @@ use Rattle.meaning_entries.proofs.Extended.Laws as Ex′
 use Rattle.meaning_entries.proofs.Audited as Au
 use Rattle.meaning_entries.proofs.Audited.Laws as Au′
 use Rattle.build.specs.Filled.{buffers}
-use Rattle.extend_index.proofs.Calls.{low-extended}
+use Rattle.extend_index.proofs.ExtendCall.{low-extended}
 use Rattle.audit.proofs.AuditCall.{low-head, low-audited, Audit}
 use Rattle.extend_index.proofs.ExtendCall.{Extend, calls-extend-lent}
 use Rattle.assured.specs.declared.Grown.{Grown}
@@ -74,7 +74,7 @@ use Rattle.assured.specs.Assured.{headIn, asBuilt, bothGrown, ExtendAssu
 use Rattle.assured.specs.StandingExtended.{in-room, assured}
 use Rattle.assured.proofs.Grown as Gr
 use Rattle.assured.proofs.Grown.Laws as Gr′
-use Rattle.build_index.proofs.Calls.{low-built}
+use Rattle.build_index.proofs.BuildCall.{low-built}
 use Rattle.assured.proofs.Calls.{HeadIn, RowsIn, RunsIn, calls-head-in, calls-rows-in, calls-runs-in, calls-audit}
 use Rattle.assured.proofs.CallsExtended.{low-grown, AsBuilt, BothGrown, calls-as-built, calls-both-grown}
 use Rattle.assured.proofs.as_built.Symbol as as-built-def

@@ -62,11 +62,10 @@ use Rattle.meaning_entries.proofs.Found.Laws as Fd′
 use Rattle.records.proofs.Lent.{lends-local, back-local}
 use Rattle.records.proofs.Prefix.{prefix}
 use Rattle.search.specs.Refused.{buffers}
-use Rattle.search.proofs.EntryCalls.{low-head, low-ask, low-found}
 use Rattle.search.proofs.search.Symbol as entry-def
 use Rattle.search.proofs.search.Symbol.{name as #search}
 use Rattle.search.proofs.search.Met as entry-thm
-use Rattle.search.proofs.SearchCall.{Searches, calls-search}
+use Rattle.search.proofs.SearchCall.{low-head, low-ask, low-found, Searches, calls-search}
 use Rattle.find_answer.proofs.search_table.Key.{name as #self}
 use Rattle.find_answer.proofs.search_table as f
 use Rattle.find_answer.proofs.search_table.Statement as stated

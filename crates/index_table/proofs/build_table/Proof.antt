@@ -56,7 +56,7 @@ use Rattle.meaning_entries.proofs.Built.Laws as Bu′
 use Rattle.records.proofs.RowKit.{half, record-type, row-makes}
 use Rattle.records.proofs.Rows.{chunk}
 use Rattle.build.specs.Filled.{buffers}
-use Rattle.build_index.proofs.Calls.{low-built}
+use Rattle.build_index.proofs.BuildCall.{low-built}
 use Rattle.build_index.proofs.BuildCall.{Build, calls-build-lent}
 use Rattle.build_index.proofs.build.Symbol as build-def
 use Rattle.build_index.proofs.build.Symbol.{name as #build}

@@ -62,7 +62,7 @@ use Rattle.records.proofs.RowKit.{word, half, record-type, row-makes}
 use Rattle.records.proofs.Rows.{chunk}
 use Rattle.build.specs.Filled.{buffers}
 use Rattle.audit.proofs.AuditCall.{low-head}
-use Rattle.extend_index.proofs.Calls.{low-extended}
+use Rattle.extend_index.proofs.ExtendCall.{low-extended}
 use Rattle.extend_index.proofs.extend.Symbol as extend-def
 use Rattle.extend_index.proofs.extend.Symbol.{name as #extend}
 use Rattle.extend_index.proofs.extend.Met as extend-thm

@@ -1,2 +1,0 @@
--- Calls of a walk.
-pub mod Calls
