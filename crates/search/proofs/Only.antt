@@ -23,16 +23,22 @@ module _ (c : SearchCall) (left right scratch : List ℕ) {t u : Sought} {left�
       let z = eqb-true (t .refusal .number) 0 yes in
       let y = number ∙ z in
       let runs = k .counted z .0 ∙ sym (l .counted y .0) in
-      let candidates = k .counted z .1 ∙ sym (l .counted y .1) in
-      (λ i. record { refusal = same i; runs = runs i; candidates = candidates i },
-      k .handed z .0 ∙ sym (l .handed y .0), k .handed z .1 ∙ sym (l .handed y .1), k .handed z .2 ∙ sym (l .handed y .2)))
+      let candidates = k .counted z .1 ∙ sym (l .counted y .1) in (
+        λ i. record { refusal = same i; runs = runs i; candidates = candidates i },
+        k .handed z .0 ∙ sym (l .handed y .0),
+        k .handed z .1 ∙ sym (l .handed y .1),
+        k .handed z .2 ∙ sym (l .handed y .2),
+      ))
       (λ no.
       let z = eqb-false (t .refusal .number) 0 no in
       let y : u .refusal .number ≡ 0 → ⊥ = λ e. z (sym number ∙ e) in
       let runs = k .uncounted z .0 ∙ sym (l .uncounted y .0) in
-      let candidates = k .uncounted z .1 ∙ sym (l .uncounted y .1) in
-      (λ i. record { refusal = same i; runs = runs i; candidates = candidates i },
-      k .stays z .0 ∙ sym (l .stays y .0), k .stays z .1 ∙ sym (l .stays y .1), k .stays z .2 ∙ sym (l .stays y .2)))
+      let candidates = k .uncounted z .1 ∙ sym (l .uncounted y .1) in (
+        λ i. record { refusal = same i; runs = runs i; candidates = candidates i },
+        k .stays z .0 ∙ sym (l .stays y .0),
+        k .stays z .1 ∙ sym (l .stays y .1),
+        k .stays z .2 ∙ sym (l .stays y .2),
+      ))
 
 module _ (ask : Ask) (s q : List ℤ) (t : Sought) (first last offsets distances : List ℕ) {a b : Found} {first′ last′ offsets′ distances′ first″ last″ offsets″ distances″ : List ℕ} where
   pub finished-only : Finished ask s q t first last offsets distances a first′ last′ offsets′ distances′ → Finished ask s q t first last offsets distances b first″ last″ offsets″ distances″
