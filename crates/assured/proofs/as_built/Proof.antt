@@ -5,12 +5,6 @@ use Rattle.assured.specs.Assured.{asBuilt}
 use Rattle.assured.proofs.as_built.Statement.{statement}
 use Rattle.assured.proofs.as_built.Tie as tie
 
-enum-known-x : tie.Need-enum-known-x
-enum-known-x c = search needs
-
-enum-known-x-2 : tie.Need-enum-known-x-2
-enum-known-x-2 c = search needs
-
 returns : tie.Need-returns
 returns c = sym (ap asBuilt (c .before .x .given .1))
 
@@ -18,4 +12,4 @@ returns-2 : tie.Need-returns-2
 returns-2 c = sym (ap asBuilt (c .before .x2 .given .1))
 
 pub as-built-spec : {M : Type 1} → statement M
-as-built-spec = tie.close (tie.spec enum-known-x enum-known-x-2 returns returns-2)
+as-built-spec = tie.close (tie.spec (λ c. search needs) (λ c. search needs) returns returns-2)

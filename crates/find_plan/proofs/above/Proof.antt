@@ -6,11 +6,8 @@ use mir.ValLaws.{toZ-ofZ}
 use Rattle.find_plan.proofs.above.Statement.{statement}
 use Rattle.find_plan.proofs.above.Tie as tie
 
-cast-result : tie.Need-cast-result
-cast-result c = search needs
-
 returns : tie.Need-returns
 returns c = rw (toZ-ofZ w64 (c .args .z) (c .fits .z), cast-is (c .args .n) (c .pre))
 
 pub above-spec : {M : Type 1} → statement M
-above-spec = tie.close (tie.spec cast-result returns)
+above-spec = tie.close (tie.spec (λ c. search needs) returns)

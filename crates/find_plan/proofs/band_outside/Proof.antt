@@ -11,17 +11,11 @@ use mir.ValLaws.{toZ-ofZ}
 use Rattle.find_plan.proofs.band_outside.Statement.{statement}
 use Rattle.find_plan.proofs.band_outside.Tie as tie
 
-cast-most : tie.Need-cast-most
-cast-most c = search needs
-
 sub-most : tie.Need-sub-most
 sub-most c = rw (cast-is (c .args .m) (c .pre)) (omega (zmach, z-sub (pos (c .args .m)) (pos 1)))
-
-outside-requires : tie.Need-outside-requires
-outside-requires c κs = search needs
 
 returns : tie.Need-returns
 returns c = let a = c .before .args in let f : SFits w64 (pos (a .m) -ℤ pos 1) = omega (zmach, z-sub (pos (a .m)) (pos 1)) in c .outside .ensures ∙ rw (toZ-ofZ w64 (a .band) (c .before .fits .band), cast-is (a .m) (c .before .pre), toZ-ofZ w64 (pos (a .m) -ℤ pos 1) f)
 
 pub band-outside-spec : {M : Type 1} → statement M
-band-outside-spec = tie.close (tie.spec cast-most sub-most outside-requires returns)
+band-outside-spec = tie.close (tie.spec (λ c. search needs) sub-most (λ c κs. search needs) returns)

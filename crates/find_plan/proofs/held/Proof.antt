@@ -11,8 +11,5 @@ use Rattle.find_plan.proofs.held.Tie as tie
 cast-result : tie.Need-cast-result
 cast-result c = let z = c .args .z in let h : pos 0 ≤ℤ z = c .pre .0 in let k : z ≤ℤ pos 4294967295 = c .pre .1 in rw (toZ-ofZ w64 z (c .fits .z)) (omega (zmach, z-abs z))
 
-returns : tie.Need-returns
-returns c = search needs
-
 pub held-spec : {M : Type 1} → statement M
-held-spec = tie.close (tie.spec cast-result returns)
+held-spec = tie.close (tie.spec cast-result (λ c. search needs))

@@ -11,8 +11,5 @@ use Rattle.find_plan.proofs.held_long.Tie as tie
 cast-result : tie.Need-cast-result
 cast-result c = let z = c .args .z in let h : pos 0 ≤ℤ z = c .pre in rw (toZ-ofZ w64 z (c .fits .z)) (omega (zmach, z-abs z, z-fits (c .fits .z)))
 
-returns : tie.Need-returns
-returns c = search needs
-
 pub held-long-spec : {M : Type 1} → statement M
-held-long-spec = tie.close (tie.spec cast-result returns)
+held-long-spec = tie.close (tie.spec cast-result (λ c. search needs))

@@ -12,18 +12,6 @@ use borrow.Author.Needs.{needs}
 use Rattle.judge.proofs.after_row.Statement.{statement}
 use Rattle.judge.proofs.after_row.Tie as tie
 
-total-good-requires : tie.Need-total-good-requires
-total-good-requires c κs = search needs
-
-cast-t10 : tie.Need-cast-t10
-cast-t10 c = search needs
-
-cast-t11 : tie.Need-cast-t11
-cast-t11 c = search needs
-
-add-t12 : tie.Need-add-t12
-add-t12 c = search needs
-
 add-t13 : tie.Need-add-t13
 add-t13 c =
     let g = c .before .before .before in
@@ -47,4 +35,4 @@ returns-2 c =
 
 pub after-row-spec : {M : Type 1} → statement M
 after-row-spec =
-    tie.close (tie.spec total-good-requires cast-t10 cast-t11 add-t12 add-t13 returns returns-2)
+    tie.close (tie.spec (λ c κs. search needs) (λ c. search needs) (λ c. search needs) (λ c. search needs) add-t13 returns returns-2)

@@ -41,14 +41,8 @@ reached low up d f g h e =
     let r : ofZ w64 (low +ℤ pos d) ≡ ofZ w64 up = rw (toZ-ofZ w32 low f, toZ-ofZ w32 up g, toZ-ofZ w64 low (wide f), toZ-pos w64 d (omega arith)) at e in
     sym (toZ-ofZ w64 (low +ℤ pos d) (wide-sum d f h)) ∙ ap (toZ w64) r ∙ toZ-ofZ w64 up (wide g)
 
-is-multiple-requires : tie.Need-is-multiple-requires
-is-multiple-requires c κs = search needs
-
 cast-if1 : tie.Need-cast-if1
 cast-if1 c = let s = c .before in rw (toZ-ofZ w32 (s .args .low) (s .fits .low)) (wide (s .fits .low))
-
-cast-if1-2 : tie.Need-cast-if1-2
-cast-if1-2 c = search needs
 
 add-if1 : tie.Need-add-if1
 add-if1 c = let s = c .before in
@@ -56,9 +50,6 @@ add-if1 c = let s = c .before in
 
 cast-if1-3 : tie.Need-cast-if1-3
 cast-if1-3 c = let s = c .before in rw (toZ-ofZ w32 (s .args .up) (s .fits .up)) (wide (s .fits .up))
-
-is-multiple-requires-2 : tie.Need-is-multiple-requires-2
-is-multiple-requires-2 c κs = search needs
 
 returns : tie.Need-returns
 returns c =
@@ -72,4 +63,4 @@ returns-2 c =
     cc (toZ-ofZ w32 (s .args .low) (s .fits .low), toZ-ofZ w32 (s .args .up) (s .fits .up), c .before .before .is-multiple .ensures, c .is-multiple2 .ensures)
 
 pub are-multiples-spec : {M : Type 1} → statement M
-are-multiples-spec = tie.close (tie.spec is-multiple-requires cast-if1 cast-if1-2 add-if1 cast-if1-3 is-multiple-requires-2 returns returns-2)
+are-multiples-spec = tie.close (tie.spec (λ c κs. search needs) cast-if1 (λ c. search needs) add-if1 cast-if1-3 (λ c κs. search needs) returns returns-2)

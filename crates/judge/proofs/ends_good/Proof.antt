@@ -5,12 +5,6 @@ use borrow.Author.Needs.{needs}
 use Rattle.judge.proofs.ends_good.Statement.{statement}
 use Rattle.judge.proofs.ends_good.Tie as tie
 
-end-in-requires : tie.Need-end-in-requires
-end-in-requires c κs = search needs
-
-end-in-requires-2 : tie.Need-end-in-requires-2
-end-in-requires-2 c κs = search needs
-
 returns : tie.Need-returns
 returns c =
     let s = c .before .before in
@@ -20,4 +14,4 @@ returns c =
     cc (l, u, b, c .end-in2 .ensures, c .before .end-in .ensures)
 
 pub ends-good-spec : {M : Type 1} → statement M
-ends-good-spec = tie.close (tie.spec end-in-requires end-in-requires-2 returns)
+ends-good-spec = tie.close (tie.spec (λ c κs. search needs) (λ c κs. search needs) returns)

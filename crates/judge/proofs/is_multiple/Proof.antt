@@ -11,12 +11,6 @@ use borrow.Author.Needs.{needs}
 use Rattle.judge.proofs.is_multiple.Statement.{statement}
 use Rattle.judge.proofs.is_multiple.Tie as tie
 
-magnitude-requires : tie.Need-magnitude-requires
-magnitude-requires c κs = search needs
-
-rem-result : tie.Need-rem-result
-rem-result c = search needs
-
 returns : tie.Need-returns
 unfolding multiple
 returns c =
@@ -28,4 +22,4 @@ unfolding multiple
 returns-2 c = ap (λ (n : ℕ). eqb (n % c .before .before .args .d) 0) (c .before .magnitude .ensures ∙ ap natAbs (toZ-ofZ w32 (c .before .before .args .z) (c .before .before .fits .z)))
 
 pub is-multiple-spec : {M : Type 1} → statement M
-is-multiple-spec = tie.close (tie.spec magnitude-requires rem-result returns returns-2)
+is-multiple-spec = tie.close (tie.spec (λ c κs. search needs) (λ c. search needs) returns returns-2)

@@ -6,11 +6,8 @@ use borrow.Author.Needs.{needs}
 use Rattle.judge.proofs.judge_head.Statement.{statement}
 use Rattle.judge.proofs.judge_head.Tie as tie
 
-head-good-requires : tie.Need-head-good-requires
-head-good-requires c κs = search needs
-
 returns : tie.Need-returns
 returns c = ap (λ (t : Bool). record { good = t; least = lowestEnd; first = 0; taken = 0 }) (c .head-good .ensures)
 
 pub judge-head-spec : {M : Type 1} → statement M
-judge-head-spec = tie.close (tie.spec head-good-requires returns)
+judge-head-spec = tie.close (tie.spec (λ c κs. search needs) returns)

@@ -35,31 +35,13 @@ inside c =
     let f = fits-room (index s) (s .args .s) (s .args .r) (sym (fit (c .before)) ∙ not-false (c .before .row-fits .result) (c .if1 .left)) in
     omega (arith, f .1, length-entries (s .args .left .now) (s .args .right .now))
 
-lesser-requires : tie.Need-lesser-requires
-lesser-requires c κs = search needs
-
-row-fits-requires : tie.Need-row-fits-requires
-row-fits-requires c κs = search needs
-
 returns : tie.Need-returns
 returns c =
     let s = c .before .before .before .before .before in
     sym (next-bad (index s) (s .args .s) (s .args .r) (sym (fit (c .before)) ∙ not-true (c .before .row-fits .result) (c .if1 .taken)))
 
-cast-from : tie.Need-cast-from
-cast-from c = search needs
-
-cast-to : tie.Need-cast-to
-cast-to c = search needs
-
-add-to : tie.Need-add-to
-add-to c = search needs
-
 judge-runs-requires : tie.Need-judge-runs-requires
 judge-runs-requires c κs = let h = inside (c .before .before) in (omega arith, omega arith, omega arith)
-
-after-row-requires : tie.Need-after-row-requires
-after-row-requires c κs = search needs
 
 returns-2 : tie.Need-returns-2
 returns-2 c =
@@ -76,12 +58,12 @@ pub judge-row-spec : {M : Type 1} → statement M
 judge-row-spec =
     tie.close
     (tie.spec
-    lesser-requires
-    row-fits-requires
+    (λ c κs. search needs)
+    (λ c κs. search needs)
     returns
-    cast-from
-    cast-to
-    add-to
+    (λ c. search needs)
+    (λ c. search needs)
+    (λ c. search needs)
     judge-runs-requires
-    after-row-requires
+    (λ c κs. search needs)
     returns-2)

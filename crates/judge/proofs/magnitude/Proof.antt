@@ -51,8 +51,5 @@ returns c =
     let s = c .before in let h = limits (s .fits .z) in let f : SFits w32 (Z s +ℤ pos 1) = add-y c in let g : SFits w32 (pos 0 -ℤ Y s) = sub-y c in
     omega (zmach32, z-add (Z s) (pos 1), z-sub (pos 0) (Y s), z-abs (X s), z-abs (s .args .z))
 
-returns-2 : tie.Need-returns-2
-returns-2 c = search needs
-
 pub magnitude-spec : {M : Type 1} → statement M
-magnitude-spec = tie.close (tie.spec add-y sub-y cast-result add-result cast-result-2 returns returns-2)
+magnitude-spec = tie.close (tie.spec add-y sub-y cast-result add-result cast-result-2 returns (λ c. search needs))

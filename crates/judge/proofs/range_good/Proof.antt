@@ -11,12 +11,6 @@ use borrow.Author.Needs.{needs}
 use Rattle.judge.proofs.range_good.Statement.{statement}
 use Rattle.judge.proofs.range_good.Tie as tie
 
-are-multiples-requires : tie.Need-are-multiples-requires
-are-multiples-requires c κs = search needs
-
-ends-good-requires : tie.Need-ends-good-requires
-ends-good-requires c κs = search needs
-
 sorted : (m n o e : Bool) → ((m && n) && (o && e)) ≡ (o && (m && (n && e)))
 sorted true true o e = refl
 sorted true false true e = refl
@@ -34,4 +28,4 @@ returns c =
     cc (l, u, b, c .before .are-multiples .ensures, c .ends-good .ensures, sorted (multiple (s .args .head .width) (s .args .r .low)) (multiple (s .args .head .width) (s .args .r .up)) (ltZ (s .args .r .low) (s .args .r .up)) (endIn (s .args .r .low) && (endIn (s .args .r .up) && leZ (s .args .least) (s .args .r .low))))
 
 pub range-good-spec : {M : Type 1} → statement M
-range-good-spec = tie.close (tie.spec are-multiples-requires ends-good-requires returns)
+range-good-spec = tie.close (tie.spec (λ c κs. search needs) (λ c κs. search needs) returns)

@@ -5,12 +5,6 @@ use borrow.Author.Needs.{needs}
 use Rattle.judge.proofs.row_fits.Statement.{statement}
 use Rattle.judge.proofs.row_fits.Tie as tie
 
-range-good-requires : tie.Need-range-good-requires
-range-good-requires c κs = search needs
-
-part-good-requires : tie.Need-part-good-requires
-part-good-requires c κs = search needs
-
 returns : tie.Need-returns
 returns c =
     let s = c .before .before .before .before in
@@ -18,4 +12,4 @@ returns c =
     cc (l, c .before .part-good .ensures, c .before .before .range-good .ensures)
 
 pub row-fits-spec : {M : Type 1} → statement M
-row-fits-spec = tie.close (tie.spec range-good-requires part-good-requires returns)
+row-fits-spec = tie.close (tie.spec (λ c κs. search needs) (λ c κs. search needs) returns)

@@ -10,9 +10,6 @@ use borrow.Author.Needs.{needs}
 use Rattle.payout.proofs.audit_text.Statement.{statement}
 use Rattle.payout.proofs.audit_text.Tie as tie
 
-audit-pair-requires : tie.Need-audit-pair-requires
-audit-pair-requires c κs = search needs
-
 number-of-requires : tie.Need-number-of-requires
 number-of-requires c κs = let s = c .before .before .before in subst (λ (a : Audited). pack a < 2 ^ 64) (sym (c .audit-pair .ensures)) (number-small (s .args .index .now) (s .args .series .now) (omega (arith, s .good)))
 
@@ -21,4 +18,4 @@ unfolding auditText
 returns c = let p = c .before in let s = p .before .before .before in audit-text-kept (s .args .index .now) (s .args .series .now) _ (c .number-of .ensures ∙ ap pack (p .audit-pair .ensures))
 
 pub audit-text-spec : {M : Type 1} → statement M
-audit-text-spec = tie.close (tie.spec audit-pair-requires number-of-requires returns)
+audit-text-spec = tie.close (tie.spec (λ c κs. search needs) number-of-requires returns)

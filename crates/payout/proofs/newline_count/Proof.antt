@@ -9,9 +9,6 @@ use borrow.Author.Needs.{needs}
 use Rattle.payout.proofs.newline_count.Statement.{statement}
 use Rattle.payout.proofs.newline_count.Tie as tie
 
-bad-line-requires : tie.Need-bad-line-requires
-bad-line-requires c κs = search needs
-
 sub-result : tie.Need-sub-result
 sub-result c = let t = c .before .before .args .text .now in omega (arith, c .bad-line .ensures, line-counts t (length t))
 
@@ -19,4 +16,4 @@ returns : tie.Need-returns
 returns c = let t = c .before .before .args .text .now in ap (λ (n : ℕ). n - 1) (c .bad-line .ensures) ∙ last-line t
 
 pub newline-count-spec : {M : Type 1} → statement M
-newline-count-spec = tie.close (tie.spec bad-line-requires sub-result returns)
+newline-count-spec = tie.close (tie.spec (λ c κs. search needs) sub-result returns)

@@ -5,12 +5,9 @@ use borrow.Author.Needs.{needs}
 use Rattle.text_count.proofs.count_end.Statement.{statement}
 use Rattle.text_count.proofs.count_end.Tie as tie
 
-advance-requires : tie.Need-advance-requires
-advance-requires c κs = search needs
-
 returns : tie.Need-returns
 unfolding endText bytes
 returns c = record { ends = c .advance .ensures }
 
 pub count-end-spec : {M : Type 1} → statement M
-count-end-spec = tie.close (tie.spec advance-requires returns)
+count-end-spec = tie.close (tie.spec (λ c κs. search needs) returns)

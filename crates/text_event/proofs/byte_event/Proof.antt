@@ -29,9 +29,6 @@ shared-slice-read-index-step c = omega arith
 index-step-requires : tie.Need-index-step-requires Inv-loop μ-loop
 index-step-requires c κs = c .before .before .loop .inv .0
 
-enum-known-m : tie.Need-enum-known-m Inv-loop μ-loop
-enum-known-m c = search needs
-
 add-i : tie.Need-add-i Inv-loop μ-loop
 add-i c = omega arith
 
@@ -45,9 +42,6 @@ loop-again c =
     let e = sym (a .index-step .ensures) ∙ c .before .m .given .1 in
     (step-good (l .loop .n) _ (Moved.To (c .before .m .given .0 .0)) (l .loop .inv .0) e, more (l .loop .inv .1) (a .before .before .loop-test .taken) e)
 
-enum-known-m-2 : tie.Need-enum-known-m-2 Inv-loop μ-loop
-enum-known-m-2 c = search needs
-
 add-t16 : tie.Need-add-t16 Inv-loop μ-loop
 add-t16 c = omega arith
 
@@ -60,9 +54,6 @@ returns c =
     let e : toZ w64 (ofZ w64 z) ≡ z = toZ-ofZ w64 z (search (needs, c .known-told2 .given)) in
     rw e (record { last = l .loop .n; place = l .loop .i; quiet = l .loop .inv .1; inside = a .before .before .loop-test .taken; ends = sym (a .index-step .ensures) ∙ n .m2 .given .1; next = refl })
 
-enum-known-m-3 : tie.Need-enum-known-m-3 Inv-loop μ-loop
-enum-known-m-3 c = search needs
-
 add-t17 : tie.Need-add-t17 Inv-loop μ-loop
 add-t17 c = omega arith
 
@@ -72,9 +63,6 @@ returns-2 c =
     let a = n .before .before in
     let l = a .before .before .before in
     record { last = l .loop .n; place = l .loop .i; quiet = l .loop .inv .1; inside = a .before .before .loop-test .taken; ends = sym (a .index-step .ensures) ∙ n .m3 .given .1; next = refl }
-
-enum-told : tie.Need-enum-told Inv-loop μ-loop
-enum-told c = search needs
 
 returns-3 : tie.Need-returns-3 Inv-loop μ-loop
 returns-3 c = let a = c .before .before in let l = a .before .before .before in (l .loop .inv .1, a .before .before .loop-test .taken, sym (a .index-step .ensures) ∙ c .enum-told .given .1)
@@ -91,16 +79,16 @@ byte-event-spec =
     loop-holds
     shared-slice-read-index-step
     index-step-requires
-    enum-known-m
+    (λ c. search needs)
     add-i
     loop-less
     loop-again
-    enum-known-m-2
+    (λ c. search needs)
     add-t16
     returns
-    enum-known-m-3
+    (λ c. search needs)
     add-t17
     returns-2
-    enum-told
+    (λ c. search needs)
     returns-3
     returns-4)

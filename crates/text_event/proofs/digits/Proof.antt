@@ -21,12 +21,6 @@ abbrev μ-loop : tie.MeasureT-loop
 loop-holds : tie.Need-loop-holds Inv-loop μ-loop
 loop-holds c = (omega arith, c .pre .0, λ p. still-here, λ p. still-here)
 
-add-b : tie.Need-add-b Inv-loop μ-loop
-add-b c = search needs
-
-shared-slice-read-b : tie.Need-shared-slice-read-b Inv-loop μ-loop
-shared-slice-read-b c = search needs
-
 mul-result : tie.Need-mul-result Inv-loop μ-loop
 mul-result c = let l = c .before .before .before in omega (arith, l .loop .inv .0, l .loop .inv .1, top-most (l .loop .k) (l .loop .inv .0))
 
@@ -48,17 +42,8 @@ returns-2 c = let l = c .before .before .before .before in digits-told _ _ _ _ _
 mul-m : tie.Need-mul-m Inv-loop μ-loop
 mul-m c = let l = c .before .before .before .before in omega (arith, l .loop .inv .0, l .loop .inv .1, top-most (l .loop .k) (l .loop .inv .0))
 
-cast-m : tie.Need-cast-m Inv-loop μ-loop
-cast-m c = search needs
-
 add-m : tie.Need-add-m Inv-loop μ-loop
 add-m c = let l = c .before .before .before .before in omega (arith, l .loop .inv .0, l .loop .inv .1, top-most (l .loop .k) (l .loop .inv .0), c .if2 .left)
-
-add-k : tie.Need-add-k Inv-loop μ-loop
-add-k c = search needs
-
-loop-less : tie.Need-loop-less Inv-loop μ-loop
-loop-less c = search needs
 
 loop-again : tie.Need-loop-again Inv-loop μ-loop
 loop-again c = let l = c .before .before .before .before in let h : l .before .args .at + l .loop .k < length (l .before .args .text .now) = omega (arith, l .before .pre .1, c .before .before .before .loop-test .taken) in let n : l .loop .m < 100000000000000000 = omega (arith, l .loop .inv .0, l .loop .inv .1, top-most (l .loop .k) (l .loop .inv .0)) in (omega (arith, c .before .before .before .loop-test .taken), omega (arith, top-more (l .loop .k), l .loop .inv .1, c .before .if1 .left, c .if2 .left), λ p. more-here (l .loop .k) (l .loop .inv .2 p) h (next-digit p (l .loop .m) _ (c .before .if1 .left) (c .if2 .left) n), λ p. more-here (l .loop .k) (l .loop .inv .3 p) h (next-less p (l .loop .m) _ (c .before .if1 .left) (c .if2 .left) n))
@@ -79,8 +64,8 @@ digits-spec =
     Inv-loop
     μ-loop
     loop-holds
-    add-b
-    shared-slice-read-b
+    (λ c. search needs)
+    (λ c. search needs)
     mul-result
     add-result
     returns
@@ -88,10 +73,10 @@ digits-spec =
     add-result-2
     returns-2
     mul-m
-    cast-m
+    (λ c. search needs)
     add-m
-    add-k
-    loop-less
+    (λ c. search needs)
+    (λ c. search needs)
     loop-again
     mul-result-3
     add-result-3

@@ -9,9 +9,6 @@ use borrow.Author.Needs.{needs}
 use Rattle.text_event.proofs.negative.Statement.{statement}
 use Rattle.text_event.proofs.negative.Tie as tie
 
-cast-result : tie.Need-cast-result
-cast-result c = search needs
-
 sub-result : tie.Need-sub-result
 sub-result c = let m = c .args .m in omega (zmach, c .pre, z-cast m (omega (arith, c .pre)), z-sub (pos 0) (toZ w64 m))
 
@@ -19,4 +16,4 @@ returns : tie.Need-returns
 returns c = let m = c .args .m in let f = sub-result c in omega (zmach, c .pre, z-cast m (omega (arith, c .pre)), z-sub (pos 0) (toZ w64 m), z-neg (pos m))
 
 pub negative-spec : {M : Type 1} → statement M
-negative-spec = tie.close (tie.spec cast-result sub-result returns)
+negative-spec = tie.close (tie.spec (λ c. search needs) sub-result returns)

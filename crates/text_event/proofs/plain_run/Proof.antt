@@ -6,9 +6,6 @@ use borrow.Author.Needs.{needs}
 use Rattle.text_event.proofs.plain_run.Statement.{statement}
 use Rattle.text_event.proofs.plain_run.Tie as tie
 
-roomy-requires : tie.Need-roomy-requires
-roomy-requires c κs = search needs
-
 returns : tie.Need-returns
 returns c = λ h. absurd (omega (arith, h))
 
@@ -46,7 +43,7 @@ pub plain-run-spec : {M : Type 1} → statement M
 plain-run-spec =
     tie.close
     (tie.spec
-    roomy-requires
+    (λ c κs. search needs)
     returns
     shared-slice-read-if2
     returns-2

@@ -6,11 +6,8 @@ use borrow.Author.Needs.{needs}
 use Rattle.text_event.proofs.positive.Statement.{statement}
 use Rattle.text_event.proofs.positive.Tie as tie
 
-cast-result : tie.Need-cast-result
-cast-result c = search needs
-
 returns : tie.Need-returns
 returns c = toZ-pos w64 (c .args .m) (omega (arith, c .pre))
 
 pub positive-spec : {M : Type 1} → statement M
-positive-spec = tie.close (tie.spec cast-result returns)
+positive-spec = tie.close (tie.spec (λ c. search needs) returns)

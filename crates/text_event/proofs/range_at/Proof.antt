@@ -10,32 +10,14 @@ use borrow.Author.Needs.{needs}
 use Rattle.text_event.proofs.range_at.Statement.{statement}
 use Rattle.text_event.proofs.range_at.Tie as tie
 
-opens-requires : tie.Need-opens-requires
-opens-requires c κs = search needs
-
-returns : tie.Need-returns
-returns c = search needs
-
 add-signed-at : tie.Need-add-signed-at
 add-signed-at c = omega (arith, c .before .opens .ensures (not-false (c .before .opens .result) (c .if1 .left)) .room, c .before .before .before .good)
 
 signed-at-requires : tie.Need-signed-at-requires
 signed-at-requires c κs = omega (arith, c .before .opens .ensures (not-false (c .before .opens .result) (c .if1 .left)) .room)
 
-enum-known-low : tie.Need-enum-known-low
-enum-known-low c = search needs
-
 signed-at-requires-2 : tie.Need-signed-at-requires-2
 signed-at-requires-2 c κs = let x = rw (c .before .low .given .1) at (c .before .before .before .signed-at .ensures) in omega (arith, x .0, c .before .before .before .before .before .opens .ensures (not-false (c .before .before .before .before .before .opens .result) (c .before .before .before .before .if1 .left)) .room)
-
-enum-known-up : tie.Need-enum-known-up
-enum-known-up c = search needs
-
-enum-told : tie.Need-enum-told
-enum-told c = search needs
-
-enum-told-2 : tie.Need-enum-told-2
-enum-told-2 c = search needs
 
 returns-2 : tie.Need-returns-2
 returns-2 c =
@@ -48,25 +30,19 @@ returns-2 c =
     let f : toZ w64 (ofZ w64 high) ≡ high = toZ-ofZ w64 high (search (needs, c .known-told2 .given)) in
     rw (e, f) (range-told _ _ low high _ _ (c .before .before .before .before .before .before .before .before .before .opens .ensures (not-false (c .before .before .before .before .before .before .before .before .before .opens .result) (c .before .before .before .before .before .before .before .before .if1 .left))) x y)
 
-returns-3 : tie.Need-returns-3
-returns-3 c = search needs
-
-returns-4 : tie.Need-returns-4
-returns-4 c = search needs
-
 pub range-at-spec : {M : Type 1} → statement M
 range-at-spec =
     tie.close
     (tie.spec
-    opens-requires
-    returns
+    (λ c κs. search needs)
+    (λ c. search needs)
     add-signed-at
     signed-at-requires
-    enum-known-low
+    (λ c. search needs)
     signed-at-requires-2
-    enum-known-up
-    enum-told
-    enum-told-2
+    (λ c. search needs)
+    (λ c. search needs)
+    (λ c. search needs)
     returns-2
-    returns-3
-    returns-4)
+    (λ c. search needs)
+    (λ c. search needs))

@@ -11,11 +11,8 @@ use Rattle.text_event.proofs.roomy.Tie as tie
 returns : tie.Need-returns
 returns c = λ e. absurd (false≢true e)
 
-sub-result : tie.Need-sub-result
-sub-result c = search needs
-
 returns-2 : tie.Need-returns-2
 returns-2 c = λ e. omega (arith, c .if1 .left, leb-true (c .before .args .at) (length (c .before .args .text .now) - 20) e)
 
 pub roomy-spec : {M : Type 1} → statement M
-roomy-spec = tie.close (tie.spec returns sub-result returns-2)
+roomy-spec = tie.close (tie.spec returns (λ c. search needs) returns-2)

@@ -9,38 +9,8 @@ use borrow.Author.Needs.{needs}
 use Rattle.text_event.proofs.rows_event.Statement.{statement}
 use Rattle.text_event.proofs.rows_event.Tie as tie
 
-range-at-requires : tie.Need-range-at-requires
-range-at-requires c κs = search needs
-
-enum-known-low : tie.Need-enum-known-low
-enum-known-low c = search needs
-
-first-run-requires : tie.Need-first-run-requires
-first-run-requires c κs = search needs
-
-byte-event-requires : tie.Need-byte-event-requires
-byte-event-requires c κs = search needs
-
-returns : tie.Need-returns
-returns c = search needs
-
-run-left-requires : tie.Need-run-left-requires
-run-left-requires c κs = search needs
-
-run-right-requires : tie.Need-run-right-requires
-run-right-requires c κs = search needs
-
-run-length-requires : tie.Need-run-length-requires
-run-length-requires c κs = search needs
-
 add-t15 : tie.Need-add-t15
 add-t15 c = let p = c .before .before .before .before .first-run .ensures (omega (arith, c .before .before .before .if1 .left)) in omega (arith, run-up (p .run) .1, c .run-length .ensures, c .before .before .before .before .before .before .before .before .before .before .good)
-
-enum-told : tie.Need-enum-told
-enum-told c = search needs
-
-byte-event-requires-2 : tie.Need-byte-event-requires-2
-byte-event-requires-2 c κs = search needs
 
 returns-2 : tie.Need-returns-2
 returns-2 c =
@@ -53,23 +23,20 @@ returns-2 c =
     let f : toZ w64 (ofZ w64 high) ≡ high = toZ-ofZ w64 high (search (needs, c .before .before .before .before .before .known-told .given)) in
     rw (e, f, c .before .before .run-left .ensures, c .before .run-right .ensures, c .run-length .ensures) (refl, record { behind = _; row = x; run = p .run })
 
-returns-3 : tie.Need-returns-3
-returns-3 c = search needs
-
 pub rows-event-spec : {M : Type 1} → statement M
 rows-event-spec =
     tie.close
     (tie.spec
-    range-at-requires
-    enum-known-low
-    first-run-requires
-    byte-event-requires
-    returns
-    run-left-requires
-    run-right-requires
-    run-length-requires
+    (λ c κs. search needs)
+    (λ c. search needs)
+    (λ c κs. search needs)
+    (λ c κs. search needs)
+    (λ c. search needs)
+    (λ c κs. search needs)
+    (λ c κs. search needs)
+    (λ c κs. search needs)
     add-t15
-    enum-told
-    byte-event-requires-2
+    (λ c. search needs)
+    (λ c κs. search needs)
     returns-2
-    returns-3)
+    (λ c. search needs))

@@ -5,41 +5,17 @@ use borrow.Author.Needs.{needs}
 use Rattle.text_event.proofs.run_body.Statement.{statement}
 use Rattle.text_event.proofs.run_body.Tie as tie
 
-number-at-requires : tie.Need-number-at-requires
-number-at-requires c κs = search needs
-
 returns : tie.Need-returns
 returns c = λ h. absurd (omega (arith, h))
 
-add-if2 : tie.Need-add-if2
-add-if2 c = search needs
-
-shared-slice-read-if2 : tie.Need-shared-slice-read-if2
-shared-slice-read-if2 c = search needs
-
 returns-2 : tie.Need-returns-2
 returns-2 c = λ h. absurd (omega (arith, h))
-
-add-number-at : tie.Need-add-number-at
-add-number-at c = search needs
-
-add-number-at-2 : tie.Need-add-number-at-2
-add-number-at-2 c = search needs
 
 number-at-requires-2 : tie.Need-number-at-requires-2
 number-at-requires-2 c κs = let x = c .before .before .before .number-at .ensures (omega (arith, c .before .before .if1 .left)) in omega (arith, x .short, c .before .before .before .before .before .pre)
 
 returns-3 : tie.Need-returns-3
 returns-3 c = λ h. absurd (omega (arith, h))
-
-add-n : tie.Need-add-n
-add-n c = search needs
-
-add-n-2 : tie.Need-add-n-2
-add-n-2 c = search needs
-
-add-if4 : tie.Need-add-if4
-add-if4 c = search needs
 
 shared-slice-read-if4 : tie.Need-shared-slice-read-if4
 shared-slice-read-if4 c = let x = c .before .before .before .before .before .before .number-at .ensures (omega (arith, c .before .before .before .before .before .if1 .left)) in let y = c .before .before .number-at2 .ensures (omega (arith, c .before .if3 .left)) in omega (arith, x .short, y .short, c .before .before .before .before .before .before .before .before .pre)
@@ -56,9 +32,6 @@ add-result c = let x = c .before .before .before .before .before .before .before
 mul-result-2 : tie.Need-mul-result-2
 mul-result-2 c = let x = c .before .before .before .before .before .before .before .number-at .ensures (omega (arith, c .before .before .before .before .before .before .if1 .left)) in let y = c .before .before .before .number-at2 .ensures (omega (arith, c .before .before .if3 .left)) in omega (arith, x .small, y .small, x .short, y .short)
 
-add-result-2 : tie.Need-add-result-2
-add-result-2 c = search needs
-
 add-result-3 : tie.Need-add-result-3
 add-result-3 c = let x = c .before .before .before .before .before .before .before .number-at .ensures (omega (arith, c .before .before .before .before .before .before .if1 .left)) in let y = c .before .before .before .number-at2 .ensures (omega (arith, c .before .before .if3 .left)) in omega (arith, x .small, y .small, x .short, y .short)
 
@@ -69,23 +42,23 @@ pub run-body-spec : {M : Type 1} → statement M
 run-body-spec =
     tie.close
     (tie.spec
-    number-at-requires
+    (λ c κs. search needs)
     returns
-    add-if2
-    shared-slice-read-if2
+    (λ c. search needs)
+    (λ c. search needs)
     returns-2
-    add-number-at
-    add-number-at-2
+    (λ c. search needs)
+    (λ c. search needs)
     number-at-requires-2
     returns-3
-    add-n
-    add-n-2
-    add-if4
+    (λ c. search needs)
+    (λ c. search needs)
+    (λ c. search needs)
     shared-slice-read-if4
     returns-4
     mul-result
     add-result
     mul-result-2
-    add-result-2
+    (λ c. search needs)
     add-result-3
     returns-5)

@@ -8,26 +8,11 @@ use borrow.Author.Needs.{needs}
 use Rattle.text_event.proofs.runs_event.Statement.{statement}
 use Rattle.text_event.proofs.runs_event.Tie as tie
 
-plain-run-requires : tie.Need-plain-run-requires
-plain-run-requires c κs = search needs
-
-run-left-requires : tie.Need-run-left-requires
-run-left-requires c κs = search needs
-
-run-right-requires : tie.Need-run-right-requires
-run-right-requires c κs = search needs
-
-run-length-requires : tie.Need-run-length-requires
-run-length-requires c κs = search needs
-
 add-t8 : tie.Need-add-t8
 add-t8 c = let p = c .before .before .before .before .plain-run .ensures (omega (arith, c .before .before .before .if1 .taken)) in omega (arith, run-up (p .run) .1, c .run-length .ensures, c .before .before .before .before .before .before .good)
 
 returns : tie.Need-returns
 returns c = let p = c .before .before .before .before .plain-run .ensures (omega (arith, c .before .before .before .if1 .taken)) in rw (c .before .before .run-left .ensures, c .before .run-right .ensures, c .run-length .ensures) (refl, p .run)
-
-ends-requires : tie.Need-ends-requires
-ends-requires c κs = search needs
 
 add-t12 : tie.Need-add-t12
 add-t12 c = let s = c .before .before .before .before .before in omega (arith, byte-inside (s .args .text .now) (s .args .at + 1) (omega (arith, c .before .ends .ensures (c .if2 .taken) .second)), s .good)
@@ -35,24 +20,18 @@ add-t12 c = let s = c .before .before .before .before .before in omega (arith, b
 returns-2 : tie.Need-returns-2
 returns-2 c = ends-told _ _ (c .before .ends .ensures (c .if2 .taken))
 
-byte-event-requires : tie.Need-byte-event-requires
-byte-event-requires c κs = search needs
-
-returns-3 : tie.Need-returns-3
-returns-3 c = search needs
-
 pub runs-event-spec : {M : Type 1} → statement M
 runs-event-spec =
     tie.close
     (tie.spec
-    plain-run-requires
-    run-left-requires
-    run-right-requires
-    run-length-requires
+    (λ c κs. search needs)
+    (λ c κs. search needs)
+    (λ c κs. search needs)
+    (λ c κs. search needs)
     add-t8
     returns
-    ends-requires
+    (λ c κs. search needs)
     add-t12
     returns-2
-    byte-event-requires
-    returns-3)
+    (λ c κs. search needs)
+    (λ c. search needs))

@@ -9,28 +9,13 @@ use borrow.Author.Needs.{needs}
 use Rattle.text_feed.proofs.counted.Statement.{statement}
 use Rattle.text_feed.proofs.counted.Tie as tie
 
-in-limits-requires : tie.Need-in-limits-requires
-in-limits-requires c κs = search needs
-
-add-t7 : tie.Need-add-t7
-add-t7 c = search needs
-
-add-t8 : tie.Need-add-t8
-add-t8 c = search needs
-
 returns : tie.Need-returns
 unfolding valuesMore
 returns c = let a = c .before in let z = a .before .before .args .z in let e : toZ w64 (ofZ w64 z) ≡ z = toZ-ofZ w64 z (a .before .before .fits .z) in simp (eq-eqb _ _ (a .before .if1 .taken), sym (rw e at (a .in-limits .ensures)) ∙ c .if2 .taken)
 
-add-t9 : tie.Need-add-t9
-add-t9 c = search needs
-
 returns-2 : tie.Need-returns-2
 unfolding valuesMore
 returns-2 c = let a = c .before in let z = a .before .before .args .z in let e : toZ w64 (ofZ w64 z) ≡ z = toZ-ofZ w64 z (a .before .before .fits .z) in simp (eq-eqb _ _ (a .before .if1 .taken), sym (rw e at (a .in-limits .ensures)) ∙ c .if2 .left)
-
-add-t10 : tie.Need-add-t10
-add-t10 c = search needs
 
 returns-3 : tie.Need-returns-3
 unfolding valuesMore
@@ -39,4 +24,4 @@ returns-3 c = simp (ne-eqb _ _ (c .if1 .left))
 pub counted-spec : {M : Type 1} → statement M
 counted-spec =
     tie.close
-    (tie.spec in-limits-requires add-t7 add-t8 returns add-t9 returns-2 add-t10 returns-3)
+    (tie.spec (λ c κs. search needs) (λ c. search needs) (λ c. search needs) returns (λ c. search needs) returns-2 (λ c. search needs) returns-3)

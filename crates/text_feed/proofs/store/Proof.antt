@@ -10,18 +10,6 @@ use borrow.Author.Needs.{needs}
 use Rattle.text_feed.proofs.store.Statement.{statement}
 use Rattle.text_feed.proofs.store.Tie as tie
 
-narrow-requires : tie.Need-narrow-requires
-narrow-requires c κs = search needs
-
-mul-t7 : tie.Need-mul-t7
-mul-t7 c = search needs
-
-slice-set-from-out : tie.Need-slice-set-from-out
-slice-set-from-out c = search needs
-
-same-length : tie.Need-same-length
-same-length c = search needs
-
 returns : tie.Need-returns
 returns c = let s = c .before .before in ap (set (s .args .out .now) (s .args .k)) (toZ-ofZ w32 (c .narrow .result) (record { sfits = c .narrow .ok }) ∙ c .narrow .ensures ∙ ap clamp (toZ-ofZ w64 (s .args .z) (s .fits .z)))
 
@@ -30,4 +18,4 @@ returns-2 c = sym (set-out (c .before .args .out .now) (c .before .args .k) (cla
 
 pub store-spec : {M : Type 1} → statement M
 store-spec =
-    tie.close (tie.spec narrow-requires mul-t7 slice-set-from-out same-length returns returns-2)
+    tie.close (tie.spec (λ c κs. search needs) (λ c. search needs) (λ c. search needs) (λ c. search needs) returns returns-2)

@@ -18,21 +18,6 @@ use Rattle.text_judge.proofs.close_row.Tie as tie
 last : (a b c d e : Bool) → (a && (b && (c && (d && e)))) ≡ true → e ≡ true
 last a b c d e h = both d e (both c (d && e) (both b (c && (d && e)) (both a (b && (c && (d && e))) h .1) .1) .1) .1
 
-range-good-requires : tie.Need-range-good-requires
-range-good-requires c κs = search needs
-
-cast-total-good : tie.Need-cast-total-good
-cast-total-good c = search needs
-
-total-good-requires : tie.Need-total-good-requires
-total-good-requires c κs = search needs
-
-add-t17 : tie.Need-add-t17
-add-t17 c = search needs
-
-add-t18 : tie.Need-add-t18
-add-t18 c = search needs
-
 add-t19 : tie.Need-add-t19
 add-t19 c = let t = c .before .before .before in let g = t .before .before .before in let s = g .before .before .before .before .before .before in let f = last (s .args .s .good) (g .before .before .range-good .result) (leb 1 (s .args .o .runs .count)) (s .args .o .runs .good) (g .total-good .result) (t .if1 .taken) in record { fits = omega (arith, leb-true (s .args .s .taken + s .args .o .runs .total) (s .args .head .windows) (sym (g .total-good .ensures) ∙ f), g .before .struct-known .given) }
 
@@ -48,11 +33,11 @@ pub close-row-spec : {M : Type 1} → statement M
 close-row-spec =
     tie.close
     (tie.spec
-    range-good-requires
-    cast-total-good
-    total-good-requires
-    add-t17
-    add-t18
+    (λ c κs. search needs)
+    (λ c. search needs)
+    (λ c κs. search needs)
+    (λ c. search needs)
+    (λ c. search needs)
     add-t19
     returns
     returns-2)

@@ -6,9 +6,6 @@ use borrow.Author.Needs.{needs}
 use Rattle.text_judge.proofs.judged_rows.Statement.{statement}
 use Rattle.text_judge.proofs.judged_rows.Tie as tie
 
-head-good-requires : tie.Need-head-good-requires
-head-good-requires c κs = search needs
-
 returns : tie.Need-returns
 unfolding judgedRows
 returns c = let h = c .before in let e = sym (h .head-good .ensures) ∙ not-true (h .head-good .result) (c .if1 .taken) in rw e refl
@@ -30,4 +27,4 @@ returns-3 c =
     rw (e, not-false (h .before .args .c .good) (c .if2 .left)) refl
 
 pub judged-rows-spec : {M : Type 1} → statement M
-judged-rows-spec = tie.close (tie.spec head-good-requires returns returns-2 returns-3)
+judged-rows-spec = tie.close (tie.spec (λ c κs. search needs) returns returns-2 returns-3)

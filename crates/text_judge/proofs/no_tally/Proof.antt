@@ -4,14 +4,8 @@ use borrow.Author.Needs.{needs}
 use Rattle.text_judge.proofs.no_tally.Statement.{statement}
 use Rattle.text_judge.proofs.no_tally.Tie as tie
 
-no-rows-requires : tie.Need-no-rows-requires
-no-rows-requires c κs = search needs
-
-no-runs-requires : tie.Need-no-runs-requires
-no-runs-requires c κs = search needs
-
 returns : tie.Need-returns
 returns c = rw (c .before .no-rows .ensures, c .no-runs .ensures) refl
 
 pub no-tally-spec : {M : Type 1} → statement M
-no-tally-spec = tie.close (tie.spec no-rows-requires no-runs-requires returns)
+no-tally-spec = tie.close (tie.spec (λ c κs. search needs) (λ c κs. search needs) returns)

@@ -21,17 +21,11 @@ Inv-loop text s₀ t₀ i₀ s t i = Scanning text s t i
 abbrev μ-loop : tie.MeasureT-loop
 μ-loop text s₀ t₀ i₀ s t i = length text - i
 
-no-tally-requires : tie.Need-no-tally-requires Inv-loop μ-loop
-no-tally-requires c κs = search needs
-
 loop-holds : tie.Need-loop-holds Inv-loop μ-loop
 loop-holds c = rw (c .no-tally .ensures) (kept-start tellTally shutTally startTally _, start-fits)
 
 next-event-requires : tie.Need-next-event-requires Inv-loop μ-loop
 next-event-requires c κs = c .loop .inv .0 .good
-
-enum-known-low : tie.Need-enum-known-low Inv-loop μ-loop
-enum-known-low c = search needs
 
 tell-row-requires : tie.Need-tell-row-requires Inv-loop μ-loop
 tell-row-requires c κs = let l = c .before .before .before .before in (l .loop .inv .1 .sound, omega (arith, l .loop .inv .1 .runs, l .loop .inv .0 .inside, l .before .before .before .good))
@@ -65,9 +59,6 @@ loop-again c =
     let y = scan-row _ (a .before .loop .inv) low high _ _ _ (rw (n .low .given .1) at (a .next-event .ensures)) (rw (e, f) at (c .before .before .tell-row .ensures)) in
     scan-runs _ (c .before .tell-runs .ensures) y
 
-enum-known-l : tie.Need-enum-known-l Inv-loop μ-loop
-enum-known-l c = search needs
-
 tell-run-requires : tie.Need-tell-run-requires Inv-loop μ-loop
 tell-run-requires c κs = let l = c .before .before .before .before in (l .loop .inv .1 .sound, omega (arith, l .loop .inv .1 .runs, l .loop .inv .0 .inside, l .before .before .before .good))
 
@@ -94,9 +85,6 @@ loop-again-2 c =
     let y = scan-run _ (a .before .loop .inv) _ _ _ v (c .before .before .tell-run .ensures) in
     rw (v .0) (scan-runs _ (c .before .tell-runs2 .ensures) y)
 
-enum-known-n : tie.Need-enum-known-n Inv-loop μ-loop
-enum-known-n c = search needs
-
 tell-requires : tie.Need-tell-requires Inv-loop μ-loop
 tell-requires c κs = let l = c .before .before .before .before in (l .loop .inv .1 .sound, omega (arith, l .loop .inv .1 .runs, l .loop .inv .0 .inside, l .before .before .before .good))
 
@@ -114,9 +102,6 @@ loop-again-3 c =
     let z = n .n .given .0 .1 .1 .0 in
     let e : toZ w64 (ofZ w64 z) ≡ z = toZ-ofZ w64 z (search (needs, c .before .known-told3 .given)) in
     rw (rw e at (c .tell .ensures)) (scan-value _ (a .before .loop .inv) (n .n .given .0 .0) (n .n .given .0 .1 .0) z _ (rw (n .n .given .1) at (a .next-event .ensures)))
-
-enum-known-n-2 : tie.Need-enum-known-n-2 Inv-loop μ-loop
-enum-known-n-2 c = search needs
 
 shut-requires : tie.Need-shut-requires Inv-loop μ-loop
 shut-requires c κs =
@@ -136,20 +121,11 @@ loop-again-4 c =
     let a = n .before .before in
     rw (c .shut .ensures) (scan-closed _ (a .before .loop .inv) (n .n2 .given .0 .0) _ (rw (n .n2 .given .1) at (a .next-event .ensures)))
 
-enum-known-at : tie.Need-enum-known-at Inv-loop μ-loop
-enum-known-at c = search needs
-
 returns : tie.Need-returns Inv-loop μ-loop
 returns c =
     let n = c .before in
     let a = n .before .before in
     sym (ap keptScanned (scan-refuse _ (a .before .loop .inv) (n .at .given .0 .0) _ (rw (n .at .given .1) at (a .next-event .ensures)))) ∙ text-scanned _
-
-enum-known-n-3 : tie.Need-enum-known-n-3 Inv-loop μ-loop
-enum-known-n-3 c = search needs
-
-scan-end-requires : tie.Need-scan-end-requires Inv-loop μ-loop
-scan-end-requires c κs = search needs
 
 returns-2 : tie.Need-returns-2 Inv-loop μ-loop
 returns-2 c =
@@ -163,29 +139,29 @@ scan-spec =
     (tie.spec
     Inv-loop
     μ-loop
-    no-tally-requires
+    (λ c κs. search needs)
     loop-holds
     next-event-requires
-    enum-known-low
+    (λ c. search needs)
     tell-row-requires
     tell-runs-requires
     loop-less
     loop-again
-    enum-known-l
+    (λ c. search needs)
     tell-run-requires
     tell-runs-requires-2
     loop-less-2
     loop-again-2
-    enum-known-n
+    (λ c. search needs)
     tell-requires
     loop-less-3
     loop-again-3
-    enum-known-n-2
+    (λ c. search needs)
     shut-requires
     loop-less-4
     loop-again-4
-    enum-known-at
+    (λ c. search needs)
     returns
-    enum-known-n-3
-    scan-end-requires
+    (λ c. search needs)
+    (λ c κs. search needs)
     returns-2)

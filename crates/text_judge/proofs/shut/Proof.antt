@@ -7,15 +7,9 @@ use borrow.Author.Needs.{needs}
 use Rattle.text_judge.proofs.shut.Statement.{statement}
 use Rattle.text_judge.proofs.shut.Tie as tie
 
-close-row-requires : tie.Need-close-row-requires
-close-row-requires c κs = search needs
-
-no-runs-requires : tie.Need-no-runs-requires
-no-runs-requires c κs = search needs
-
 returns : tie.Need-returns
 unfolding shutTally
 returns c = let m = c .before in let n = m .before in let s = n .before .before .before .before in let l = toZ-ofZ w32 (s .args .t .row .low) (record { sfits = c .struct-told .given .0 .1 }) in let u = toZ-ofZ w32 (s .args .t .row .up) (record { sfits = c .struct-told .given .1 .0 .1 }) in rw (u, l, n .close-row .ensures, m .no-runs .ensures) refl
 
 pub shut-spec : {M : Type 1} → statement M
-shut-spec = tie.close (tie.spec close-row-requires no-runs-requires returns)
+shut-spec = tie.close (tie.spec (λ c κs. search needs) (λ c κs. search needs) returns)

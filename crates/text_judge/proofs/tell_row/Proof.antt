@@ -9,9 +9,6 @@ use borrow.Author.Needs.{needs}
 use Rattle.text_judge.proofs.tell_row.Statement.{statement}
 use Rattle.text_judge.proofs.tell_row.Tie as tie
 
-tell-requires : tie.Need-tell-requires
-tell-requires c κs = search needs
-
 tell-requires-2 : tie.Need-tell-requires-2
 unfolding tellTally
 tell-requires-2 c κs = rw (c .tell .ensures) (c .before .pre .0, c .before .pre .1)
@@ -28,4 +25,4 @@ returns c =
     c .tell-run .ensures ∙ ap (toldRun (s .args .l) (s .args .r)) ((rw f at (c .before .tell2 .ensures)) ∙ ap (tellTally Place.Up (s .args .up)) (rw e at (c .before .before .tell .ensures)))
 
 pub tell-row-spec : {M : Type 1} → statement M
-tell-row-spec = tie.close (tie.spec tell-requires tell-requires-2 tell-run-requires returns)
+tell-row-spec = tie.close (tie.spec (λ c κs. search needs) tell-requires-2 tell-run-requires returns)

@@ -18,23 +18,11 @@ abbrev μ-loop : tie.MeasureT-loop
 loop-holds : tie.Need-loop-holds Inv-loop μ-loop
 loop-holds c = (c .before .pre .0, c .before .pre .1, none)
 
-plain-run-requires : tie.Need-plain-run-requires Inv-loop μ-loop
-plain-run-requires c κs = search needs
-
 returns : tie.Need-returns Inv-loop μ-loop
 returns c = c .before .before .loop .inv .2
 
-run-left-requires : tie.Need-run-left-requires Inv-loop μ-loop
-run-left-requires c κs = search needs
-
-run-right-requires : tie.Need-run-right-requires Inv-loop μ-loop
-run-right-requires c κs = search needs
-
 tell-run-requires : tie.Need-tell-run-requires Inv-loop μ-loop
 tell-run-requires c κs = let l = c .before .before .before .before in (l .loop .inv .0 .sound, omega (arith, l .loop .inv .0 .runs, l .loop .inv .1, l .before .before .good))
-
-run-length-requires : tie.Need-run-length-requires Inv-loop μ-loop
-run-length-requires c κs = search needs
 
 add-i : tie.Need-add-i Inv-loop μ-loop
 add-i c = let p = c .before .before .before .before .before .plain-run .ensures (omega (arith, c .before .before .before .before .if1 .left)) in omega (arith, run-up (p .run) .1, c .run-length .ensures, c .before .before .before .before .before .before .before .before .good)
@@ -56,12 +44,12 @@ tell-runs-spec =
     Inv-loop
     μ-loop
     loop-holds
-    plain-run-requires
+    (λ c κs. search needs)
     returns
-    run-left-requires
-    run-right-requires
+    (λ c κs. search needs)
+    (λ c κs. search needs)
     tell-run-requires
-    run-length-requires
+    (λ c κs. search needs)
     add-i
     loop-less
     loop-again)

@@ -4,14 +4,8 @@ use borrow.Author.Needs.{needs}
 use Rattle.text_load.proofs.count_if.Statement.{statement}
 use Rattle.text_load.proofs.count_if.Tie as tie
 
-add-result : tie.Need-add-result
-add-result c = search needs
-
 returns : tie.Need-returns
 returns c = rw (c .if1 .taken) refl
 
-returns-2 : tie.Need-returns-2
-returns-2 c = search needs
-
 pub count-if-spec : {M : Type 1} → statement M
-count-if-spec = tie.close (tie.spec add-result returns returns-2)
+count-if-spec = tie.close (tie.spec (λ c. search needs) returns (λ c. search needs))

@@ -24,9 +24,6 @@ loop-holds c = filling-start _ _ _
 next-event-requires : tie.Need-next-event-requires Inv-loop μ-loop
 next-event-requires c κs = c .loop .inv .kept .good
 
-enum-known-a : tie.Need-enum-known-a Inv-loop μ-loop
-enum-known-a c = search needs
-
 put-runs-requires : tie.Need-put-runs-requires Inv-loop μ-loop
 put-runs-requires c κs = let n = c .before .before .before in let l = n .before .before .before in let u = row-up ((rw (n .a .given .1) at (n .before .before .next-event .ensures)) .1) in (omega (arith, u .0, l .loop .inv .count), u .1)
 
@@ -43,9 +40,6 @@ loop-again c =
     let m = n .before .before in
     let v = rw (n .a .given .1) at (m .next-event .ensures) in
     filling-runs _ _ _ (c .before .before .before .before .put-runs .ensures) (filling-row _ _ _ (m .before .loop .inv) _ _ _ _ _ (search (needs, c .before .before .before .before .before .before .before .known-told .given)) (search (needs, c .before .before .before .before .before .before .before .known-told .given)) v)
-
-enum-known-a-2 : tie.Need-enum-known-a-2 Inv-loop μ-loop
-enum-known-a-2 c = search needs
 
 put-runs-requires-2 : tie.Need-put-runs-requires-2 Inv-loop μ-loop
 put-runs-requires-2 c κs = let n = c .before .before .before in let l = n .before .before .before in let u = run-up ((rw (n .a2 .given .1) at (n .before .before .next-event .ensures)) .1) in (omega (arith, u .0, l .loop .inv .count), u .1)
@@ -64,29 +58,8 @@ loop-again-2 c =
     let v = rw (n .a2 .given .1) at (m .next-event .ensures) in
     rw (v .0) (filling-runs _ _ _ (c .before .before .before .before .put-runs2 .ensures) (filling-run _ _ _ (m .before .loop .inv) _ _ _ (search (needs, c .before .before .before .before .before .before .before .known-told2 .given)) (search (needs, c .before .before .before .before .before .before .before .known-told2 .given)) v))
 
-enum-known-n : tie.Need-enum-known-n Inv-loop μ-loop
-enum-known-n c = search needs
-
-hold-requires : tie.Need-hold-requires Inv-loop μ-loop
-hold-requires c κs = search needs
-
-is-right-requires : tie.Need-is-right-requires Inv-loop μ-loop
-is-right-requires c κs = search needs
-
-put-if-requires : tie.Need-put-if-requires Inv-loop μ-loop
-put-if-requires c κs = search needs
-
-put-if-requires-2 : tie.Need-put-if-requires-2 Inv-loop μ-loop
-put-if-requires-2 c κs = search needs
-
 count-if-requires : tie.Need-count-if-requires Inv-loop μ-loop
 count-if-requires c κs = let p2 = c .before .before in let p1 = p2 .before .before .before .before in let n = p1 .before .before .before .before .before in let l = n .before .before .before in omega (arith, l .loop .inv .count, l .loop .inv .kept .inside, l .before .before .before .before .good)
-
-is-left-requires : tie.Need-is-left-requires Inv-loop μ-loop
-is-left-requires c κs = search needs
-
-pick-if-requires : tie.Need-pick-if-requires Inv-loop μ-loop
-pick-if-requires c κs = search needs
 
 loop-less-3 : tie.Need-loop-less-3 Inv-loop μ-loop
 loop-less-3 c =
@@ -116,9 +89,6 @@ loop-again-3 c =
     let e4 = rw (il .is-left .ensures, ho .hold .ensures, e) at (c .pick-if .ensures) in
     rw (e1, e2, e3, e4) (filling-value _ _ _ (a .before .loop .inv) (n .n .given .0 .0) (n .n .given .0 .1 .0) z _ (rw (n .n .given .1) at (a .next-event .ensures)))
 
-enum-known-n-2 : tie.Need-enum-known-n-2 Inv-loop μ-loop
-enum-known-n-2 c = search needs
-
 loop-less-4 : tie.Need-loop-less-4 Inv-loop μ-loop
 loop-less-4 c =
     let n = c .before in
@@ -131,9 +101,6 @@ loop-again-4 c =
     let a = n .before .before in
     filling-closed _ _ _ (a .before .loop .inv) (n .n2 .given .0 .0) _ (rw (n .n2 .given .1) at (a .next-event .ensures))
 
-enum-told : tie.Need-enum-told Inv-loop μ-loop
-enum-told c = search needs
-
 same-length : tie.Need-same-length Inv-loop μ-loop
 same-length c = c .before .before .before .loop .inv .left-long
 
@@ -142,9 +109,6 @@ same-length-2 c = c .before .before .before .loop .inv .right-long
 
 returns : tie.Need-returns Inv-loop μ-loop
 returns c = let a = c .before .before in filling-refuse _ _ _ (a .before .loop .inv) (c .enum-told .given .0 .0) _ (rw (c .enum-told .given .1) at (a .next-event .ensures))
-
-enum-told-2 : tie.Need-enum-told-2 Inv-loop μ-loop
-enum-told-2 c = search needs
 
 same-length-3 : tie.Need-same-length-3 Inv-loop μ-loop
 same-length-3 c = c .before .before .before .loop .inv .left-long
@@ -163,32 +127,32 @@ fill-runs-spec =
     μ-loop
     loop-holds
     next-event-requires
-    enum-known-a
+    (λ c. search needs)
     put-runs-requires
     loop-less
     loop-again
-    enum-known-a-2
+    (λ c. search needs)
     put-runs-requires-2
     loop-less-2
     loop-again-2
-    enum-known-n
-    hold-requires
-    is-right-requires
-    put-if-requires
-    put-if-requires-2
+    (λ c. search needs)
+    (λ c κs. search needs)
+    (λ c κs. search needs)
+    (λ c κs. search needs)
+    (λ c κs. search needs)
     count-if-requires
-    is-left-requires
-    pick-if-requires
+    (λ c κs. search needs)
+    (λ c κs. search needs)
     loop-less-3
     loop-again-3
-    enum-known-n-2
+    (λ c. search needs)
     loop-less-4
     loop-again-4
-    enum-told
+    (λ c. search needs)
     same-length
     same-length-2
     returns
-    enum-told-2
+    (λ c. search needs)
     same-length-3
     same-length-4
     returns-2)

@@ -6,29 +6,8 @@ use borrow.Author.Needs.{needs}
 use Rattle.text_load.proofs.load_runs.Statement.{statement}
 use Rattle.text_load.proofs.load_runs.Tie as tie
 
-lesser-requires : tie.Need-lesser-requires
-lesser-requires c κs = search needs
-
-make-plan-requires : tie.Need-make-plan-requires
-make-plan-requires c κs = search needs
-
 returns : tie.Need-returns
 returns c = let m = c .before .before in let l = m .before in let s = l .before .before .before .before in record { planned = m .make-plan .ensures ∙ ap (planFor (s .args .text .now) (s .args .rows)) (l .lesser .ensures); lefts = column-stays _ _ _ (c .if1 .taken); rights = column-stays _ _ _ (c .if1 .taken) }
-
-clear-requires : tie.Need-clear-requires
-clear-requires c κs = search needs
-
-clear-requires-2 : tie.Need-clear-requires-2
-clear-requires-2 c κs = search needs
-
-fill-runs-requires : tie.Need-fill-runs-requires
-fill-runs-requires c κs = search needs
-
-same-length : tie.Need-same-length
-same-length c = search needs
-
-same-length-2 : tie.Need-same-length-2
-same-length-2 c = search needs
 
 returns-2 : tie.Need-returns-2
 returns-2 c = let f = c .before .before .before .before in let c2 = f .before .before .before .before .before in let c1 = c2 .before .before .before .before in let el = c1 .before .before in let m = el .before .before in let l = m .before in let s = l .before .before .before .before in let e = m .make-plan .ensures ∙ ap (planFor (s .args .text .now) (s .args .rows)) (l .lesser .ensures) in let q = column-filled (s .args .text .now) (s .args .left .now) (s .args .right .now) (m .make-plan .result) _ _ e (el .if1 .left) _ _ _ _ (c1 .clear .ensures) (c2 .clear2 .ensures) (f .fill-runs .ensures) in record { planned = e; lefts = q .0; rights = q .1 }
@@ -37,12 +16,12 @@ pub load-runs-spec : {M : Type 1} → statement M
 load-runs-spec =
     tie.close
     (tie.spec
-    lesser-requires
-    make-plan-requires
+    (λ c κs. search needs)
+    (λ c κs. search needs)
     returns
-    clear-requires
-    clear-requires-2
-    fill-runs-requires
-    same-length
-    same-length-2
+    (λ c κs. search needs)
+    (λ c κs. search needs)
+    (λ c κs. search needs)
+    (λ c. search needs)
+    (λ c. search needs)
     returns-2)

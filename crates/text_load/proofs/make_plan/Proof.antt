@@ -5,24 +5,6 @@ use borrow.Author.Needs.{needs}
 use Rattle.text_load.proofs.make_plan.Statement.{statement}
 use Rattle.text_load.proofs.make_plan.Tie as tie
 
-scan-requires : tie.Need-scan-requires
-scan-requires c κs = search needs
-
-enum-known-at : tie.Need-enum-known-at
-enum-known-at c = search needs
-
-bad-line-requires : tie.Need-bad-line-requires
-bad-line-requires c κs = search needs
-
-refused-requires : tie.Need-refused-requires
-refused-requires c κs = search needs
-
-enum-known-head : tie.Need-enum-known-head
-enum-known-head c = search needs
-
-plan-fine-requires : tie.Need-plan-fine-requires
-plan-fine-requires c κs = search needs
-
 returns : tie.Need-returns
 unfolding planScanned
 returns c = let l = c .before in let a = l .before .before in let s = a .before .before in let b = s .before .before in let e = sym (s .scan .ensures) ∙ a .at .given .1 in c .refused .ensures ∙ (rw (l .bad-line .ensures) refl) ∙ sym (ap (planScanned (b .args .text .now) (b .args .rows) (b .args .runs)) e)
@@ -35,11 +17,11 @@ pub make-plan-spec : {M : Type 1} → statement M
 make-plan-spec =
     tie.close
     (tie.spec
-    scan-requires
-    enum-known-at
-    bad-line-requires
-    refused-requires
-    enum-known-head
-    plan-fine-requires
+    (λ c κs. search needs)
+    (λ c. search needs)
+    (λ c κs. search needs)
+    (λ c κs. search needs)
+    (λ c. search needs)
+    (λ c κs. search needs)
     returns
     returns-2)

@@ -17,20 +17,11 @@ Inv-loop text at k l r left₀ right₀ last₀ n₀ i₀ left right last n i =
 abbrev μ-loop : tie.MeasureT-loop
 μ-loop text at k l r left₀ right₀ last₀ n₀ i₀ left right last n i = length text - i
 
-put-requires : tie.Need-put-requires Inv-loop μ-loop
-put-requires c κs = search needs
-
-put-requires-2 : tie.Need-put-requires-2 Inv-loop μ-loop
-put-requires-2 c κs = search needs
-
 add-n : tie.Need-add-n Inv-loop μ-loop
 add-n c = let s = c .before .before .before .before .before .before .before .before .before .before .before in omega (arith, s .pre .0, s .pre .1, s .good)
 
 loop-holds : tie.Need-loop-holds Inv-loop μ-loop
 loop-holds c = let s = c .before .before .before .before .before .before .before .before .before .before .before in (omega (arith, s .pre .0), s .pre .1, none, refl, refl)
-
-plain-run-requires : tie.Need-plain-run-requires Inv-loop μ-loop
-plain-run-requires c κs = search needs
 
 same-length : tie.Need-same-length Inv-loop μ-loop
 same-length c = c .before .before .loop .inv .3 ∙ ap length (c .before .before .before .before .before .before .before .before .before .put .ensures) ∙ simp length-set
@@ -41,23 +32,8 @@ same-length-2 c = c .before .before .loop .inv .4 ∙ ap length (c .before .befo
 returns : tie.Need-returns Inv-loop μ-loop
 returns c = rw (c .before .before .before .before .before .before .before .before .before .put .ensures, c .before .before .before .before .before .put2 .ensures) at (c .before .before .loop .inv .2)
 
-run-left-requires : tie.Need-run-left-requires Inv-loop μ-loop
-run-left-requires c κs = search needs
-
-put-requires-3 : tie.Need-put-requires-3 Inv-loop μ-loop
-put-requires-3 c κs = search needs
-
-run-right-requires : tie.Need-run-right-requires Inv-loop μ-loop
-run-right-requires c κs = search needs
-
-put-requires-4 : tie.Need-put-requires-4 Inv-loop μ-loop
-put-requires-4 c κs = search needs
-
 add-n-2 : tie.Need-add-n-2 Inv-loop μ-loop
 add-n-2 c = let p = c .before .before .before .before .before .before .before .before .before .before .before .plain-run .ensures (omega (arith, c .before .before .before .before .before .before .before .before .before .before .if1 .left)) in let l = c .before .before .before .before .before .before .before .before .before .before .before .before in omega (arith, run-up (p .run) .0, run-up (p .run) .1, l .loop .inv .0, c .before .before .before .before .before .before .before .before .before .before .before .before .before .before .before .before .before .before .before .before .before .before .before .before .good)
-
-run-length-requires : tie.Need-run-length-requires Inv-loop μ-loop
-run-length-requires c κs = search needs
 
 add-i : tie.Need-add-i Inv-loop μ-loop
 add-i c = let p = c .before .before .before .before .before .before .before .before .before .before .before .before .plain-run .ensures (omega (arith, c .before .before .before .before .before .before .before .before .before .before .before .if1 .left)) in omega (arith, run-up (p .run) .1, c .run-length .ensures, c .before .before .before .before .before .before .before .before .before .before .before .before .before .before .before .before .before .before .before .before .before .before .before .before .before .good)
@@ -85,20 +61,20 @@ put-runs-spec =
     (tie.spec
     Inv-loop
     μ-loop
-    put-requires
-    put-requires-2
+    (λ c κs. search needs)
+    (λ c κs. search needs)
     add-n
     loop-holds
-    plain-run-requires
+    (λ c κs. search needs)
     same-length
     same-length-2
     returns
-    run-left-requires
-    put-requires-3
-    run-right-requires
-    put-requires-4
+    (λ c κs. search needs)
+    (λ c κs. search needs)
+    (λ c κs. search needs)
+    (λ c κs. search needs)
     add-n-2
-    run-length-requires
+    (λ c κs. search needs)
     add-i
     loop-less
     loop-again)

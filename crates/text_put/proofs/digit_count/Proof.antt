@@ -6,9 +6,6 @@ use borrow.Author.Needs.{needs}
 use Rattle.text_put.proofs.digit_count.Statement.{statement}
 use Rattle.text_put.proofs.digit_count.Tie as tie
 
-few-digits-requires : tie.Need-few-digits-requires
-few-digits-requires c κs = search needs
-
 returns : tie.Need-returns
 returns c = (c .few-digits .ensures, omega (arith, c .few-digits .ensures, length-most 4 (c .before .before .args .n) (omega arith)))
 
@@ -25,4 +22,4 @@ returns-2 c =
     (omega (arith, c .few-digits2 .ensures, e), omega (arith, c .few-digits2 .ensures, e, length-most 9 n (omega (arith, c .before .before .fits .n))))
 
 pub digit-count-spec : {M : Type 1} → statement M
-digit-count-spec = tie.close (tie.spec few-digits-requires returns few-digits-requires-2 add-result returns-2)
+digit-count-spec = tie.close (tie.spec (λ c κs. search needs) returns few-digits-requires-2 add-result returns-2)

@@ -22,9 +22,6 @@ wide s = rw (toZ-ofZ w32 (s .args .x) (s .fits .x)) (toZ-ofZ w64 (s .args .x) (s
 cast-magnitude : tie.Need-cast-magnitude
 cast-magnitude c = rw (toZ-ofZ w32 (c .args .x) (c .fits .x)) (sfits-wide (c .fits .x))
 
-magnitude-requires : tie.Need-magnitude-requires
-magnitude-requires c κs = search needs
-
 abs : (m : tie.After-magnitude) → m .magnitude .result ≡ natAbs (m .before .args .x)
 abs m = m .magnitude .ensures ∙ ap natAbs (wide (m .before))
 
@@ -34,9 +31,6 @@ small m = omega (arith, abs m, abs-small (m .before .fits .x))
 
 cast-digit-count : tie.Need-cast-digit-count
 cast-digit-count c = omega (arith, small c)
-
-digit-count-requires : tie.Need-digit-count-requires
-digit-count-requires c κs = search needs
 
 add-result : tie.Need-add-result
 add-result c = omega (arith, c .before .digit-count .ensures .1)
@@ -57,4 +51,4 @@ returns-2 c =
     (c .before .digit-count .ensures .0 ∙ ap (λ (k : ℕ). length (spellℕ k)) (abs m) ∙ sym (ap length (spell-plus x h)), omega (arith, c .before .digit-count .ensures .1))
 
 pub number-length-spec : {M : Type 1} → statement M
-number-length-spec = tie.close (tie.spec cast-magnitude magnitude-requires cast-digit-count digit-count-requires add-result returns returns-2)
+number-length-spec = tie.close (tie.spec cast-magnitude (λ c κs. search needs) cast-digit-count (λ c κs. search needs) add-result returns returns-2)

@@ -11,12 +11,6 @@ use Rattle.text_put.proofs.write_i32.Tie as tie
 cast-write-number : tie.Need-cast-write-number
 cast-write-number c = let s = c .before .before in rw (toZ-ofZ w32 (s .args .x) (s .fits .x)) (sfits-wide (s .fits .x))
 
-write-number-requires : tie.Need-write-number-requires
-write-number-requires c κs = search needs
-
-same-length : tie.Need-same-length
-same-length c = search needs
-
 returns : tie.Need-returns
 returns c =
     let s = c .before .before .before .before .before in
@@ -25,4 +19,4 @@ returns c =
     rw e at (c .before .before .write-number .ensures)
 
 pub write-i32-spec : {M : Type 1} → statement M
-write-i32-spec = tie.close (tie.spec cast-write-number write-number-requires same-length returns)
+write-i32-spec = tie.close (tie.spec cast-write-number (λ c κs. search needs) (λ c. search needs) returns)

@@ -9,15 +9,6 @@ use borrow.Author.Needs.{needs}
 use Rattle.text_put.proofs.write_u32.Statement.{statement}
 use Rattle.text_put.proofs.write_u32.Tie as tie
 
-cast-write-number : tie.Need-cast-write-number
-cast-write-number c = search needs
-
-write-number-requires : tie.Need-write-number-requires
-write-number-requires c κs = search needs
-
-same-length : tie.Need-same-length
-same-length c = search needs
-
 returns : tie.Need-returns
 returns c =
     let s = c .before .before .before .before .before in
@@ -25,4 +16,4 @@ returns c =
     rw (sym e) (c .before .before .write-number .ensures)
 
 pub write-u32-spec : {M : Type 1} → statement M
-write-u32-spec = tie.close (tie.spec cast-write-number write-number-requires same-length returns)
+write-u32-spec = tie.close (tie.spec (λ c. search needs) (λ c κs. search needs) (λ c. search needs) returns)

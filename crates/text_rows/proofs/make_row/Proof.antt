@@ -7,15 +7,9 @@ use borrow.Author.Needs.{needs}
 use Rattle.text_rows.proofs.make_row.Statement.{statement}
 use Rattle.text_rows.proofs.make_row.Tie as tie
 
-short-requires : tie.Need-short-requires
-short-requires c κs = search needs
-
-short-requires-2 : tie.Need-short-requires-2
-short-requires-2 c κs = search needs
-
 returns : tie.Need-returns
 unfolding rowMade
 returns c = let a = c .before in let s = a .before .before .before .before .before in let l = toZ-ofZ w32 (s .args .t .row .low) (record { sfits = c .struct-told .given .0 .1 }) in let u = toZ-ofZ w32 (s .args .t .row .up) (record { sfits = c .struct-told .given .1 .0 .1 }) in rw (l, u, a .short2 .ensures, a .before .short .ensures) refl
 
 pub make-row-spec : {M : Type 1} → statement M
-make-row-spec = tie.close (tie.spec short-requires short-requires-2 returns)
+make-row-spec = tie.close (tie.spec (λ c κs. search needs) (λ c κs. search needs) returns)

@@ -24,9 +24,6 @@ loop-holds c = let s = c .before in going-start (s .args .text .now) (s .args .s
 next-event-requires : tie.Need-next-event-requires Inv-loop μ-loop
 next-event-requires c κs = c .loop .inv .good
 
-enum-known-low : tie.Need-enum-known-low Inv-loop μ-loop
-enum-known-low c = search needs
-
 tell-row-requires : tie.Need-tell-row-requires Inv-loop μ-loop
 tell-row-requires c κs = let l = c .before .before .before .before in (l .loop .inv .fits .sound, omega (arith, l .loop .inv .fits .runs, l .loop .inv .inside, l .before .before .good))
 
@@ -59,9 +56,6 @@ loop-again c =
     let y = line-row _ _ _ _ (a .before .loop .inv) low high _ _ _ (rw (n .low .given .1) at (a .next-event .ensures)) (rw (e, f) at (c .before .before .tell-row .ensures)) in
     line-runs _ _ _ _ (c .before .tell-runs .ensures) y
 
-enum-known-l : tie.Need-enum-known-l Inv-loop μ-loop
-enum-known-l c = search needs
-
 tell-run-requires : tie.Need-tell-run-requires Inv-loop μ-loop
 tell-run-requires c κs = let l = c .before .before .before .before in (l .loop .inv .fits .sound, omega (arith, l .loop .inv .fits .runs, l .loop .inv .inside, l .before .before .good))
 
@@ -88,9 +82,6 @@ loop-again-2 c =
     let y = line-run _ _ _ _ (a .before .loop .inv) _ _ _ v (c .before .before .tell-run .ensures) in
     rw (v .0) (line-runs _ _ _ _ (c .before .tell-runs2 .ensures) y)
 
-enum-known-n : tie.Need-enum-known-n Inv-loop μ-loop
-enum-known-n c = search needs
-
 tell-requires : tie.Need-tell-requires Inv-loop μ-loop
 tell-requires c κs = let l = c .before .before .before .before in (l .loop .inv .fits .sound, omega (arith, l .loop .inv .fits .runs, l .loop .inv .inside, l .before .before .good))
 
@@ -108,12 +99,6 @@ loop-again-3 c =
     let e : toZ w64 (ofZ w64 z) ≡ z = toZ-ofZ w64 z (search (needs, c .before .known-told3 .given)) in
     rw (rw e at (c .tell .ensures)) (line-value _ _ _ _ (a .before .loop .inv) (n .n .given .0 .0) (n .n .given .0 .1 .0) z _ (rw (n .n .given .1) at (a .next-event .ensures)))
 
-enum-known-n-2 : tie.Need-enum-known-n-2 Inv-loop μ-loop
-enum-known-n-2 c = search needs
-
-make-row-requires : tie.Need-make-row-requires Inv-loop μ-loop
-make-row-requires c κs = search needs
-
 shut-requires : tie.Need-shut-requires Inv-loop μ-loop
 shut-requires c κs =
     let l = c .before .before .before .before .before in
@@ -126,23 +111,11 @@ returns c =
     let a = n .before .before in
     rw (c .shut .ensures, m .make-row .ensures) (line-closed _ _ _ _ (a .before .loop .inv) (n .n2 .given .0 .0) _ (rw (n .n2 .given .1) at (a .next-event .ensures)))
 
-enum-known-n-3 : tie.Need-enum-known-n-3 Inv-loop μ-loop
-enum-known-n-3 c = search needs
-
-line-end-requires : tie.Need-line-end-requires Inv-loop μ-loop
-line-end-requires c κs = search needs
-
 returns-2 : tie.Need-returns-2 Inv-loop μ-loop
 returns-2 c =
     let n = c .before .before in
     let a = n .before .before in
     c .line-end .ensures ∙ line-refuse _ _ _ _ (a .before .loop .inv) (n .n3 .given .0 .0) _ (rw (n .n3 .given .1) at (a .next-event .ensures))
-
-enum-known-n-4 : tie.Need-enum-known-n-4 Inv-loop μ-loop
-enum-known-n-4 c = search needs
-
-line-end-requires-2 : tie.Need-line-end-requires-2 Inv-loop μ-loop
-line-end-requires-2 c κs = search needs
 
 returns-3 : tie.Need-returns-3 Inv-loop μ-loop
 returns-3 c =
@@ -158,27 +131,27 @@ row-from-spec =
     μ-loop
     loop-holds
     next-event-requires
-    enum-known-low
+    (λ c. search needs)
     tell-row-requires
     tell-runs-requires
     loop-less
     loop-again
-    enum-known-l
+    (λ c. search needs)
     tell-run-requires
     tell-runs-requires-2
     loop-less-2
     loop-again-2
-    enum-known-n
+    (λ c. search needs)
     tell-requires
     loop-less-3
     loop-again-3
-    enum-known-n-2
-    make-row-requires
+    (λ c. search needs)
+    (λ c κs. search needs)
     shut-requires
     returns
-    enum-known-n-3
-    line-end-requires
+    (λ c. search needs)
+    (λ c κs. search needs)
     returns-2
-    enum-known-n-4
-    line-end-requires-2
+    (λ c. search needs)
+    (λ c κs. search needs)
     returns-3)

@@ -4,21 +4,12 @@ use borrow.Author.Needs.{needs}
 use Rattle.text_save.proofs.spell_head.Statement.{statement}
 use Rattle.text_save.proofs.spell_head.Tie as tie
 
-write-head-requires : tie.Need-write-head-requires
-write-head-requires c κs = search needs
-
-same-length : tie.Need-same-length
-same-length c = search needs
-
 returns : tie.Need-returns
 returns c = spelled-stored (c .before .before .before .before .if1 .taken) (c .before .before .write-head .ensures)
-
-count-head-requires : tie.Need-count-head-requires
-count-head-requires c κs = search needs
 
 returns-2 : tie.Need-returns-2
 returns-2 c = spelled-only (c .before .if1 .left) (c .count-head .ensures)
 
 pub spell-head-spec : {M : Type 1} → statement M
 spell-head-spec =
-    tie.close (tie.spec write-head-requires same-length returns count-head-requires returns-2)
+    tie.close (tie.spec (λ c κs. search needs) (λ c. search needs) returns (λ c κs. search needs) returns-2)

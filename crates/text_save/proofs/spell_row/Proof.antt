@@ -4,21 +4,12 @@ use borrow.Author.Needs.{needs}
 use Rattle.text_save.proofs.spell_row.Statement.{statement}
 use Rattle.text_save.proofs.spell_row.Tie as tie
 
-write-row-requires : tie.Need-write-row-requires
-write-row-requires c κs = search needs
-
-same-length : tie.Need-same-length
-same-length c = search needs
-
 returns : tie.Need-returns
 returns c = spelled-stored (c .before .before .before .before .if1 .taken) (c .before .before .write-row .ensures)
-
-count-row-requires : tie.Need-count-row-requires
-count-row-requires c κs = search needs
 
 returns-2 : tie.Need-returns-2
 returns-2 c = spelled-only (c .before .if1 .left) (c .count-row .ensures)
 
 pub spell-row-spec : {M : Type 1} → statement M
 spell-row-spec =
-    tie.close (tie.spec write-row-requires same-length returns count-row-requires returns-2)
+    tie.close (tie.spec (λ c κs. search needs) (λ c. search needs) returns (λ c κs. search needs) returns-2)

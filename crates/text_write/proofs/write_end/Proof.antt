@@ -5,19 +5,10 @@ use borrow.Author.Needs.{needs}
 use Rattle.text_write.proofs.write_end.Statement.{statement}
 use Rattle.text_write.proofs.write_end.Tie as tie
 
-slice-aggregate-put-word : tie.Need-slice-aggregate-put-word
-slice-aggregate-put-word c = search needs
-
-put-word-requires : tie.Need-put-word-requires
-put-word-requires c κs = search needs
-
-same-length : tie.Need-same-length
-same-length c = search needs
-
 returns : tie.Need-returns
 unfolding endText bytes
 returns c = c .before .before .put-word .ensures
 
 pub write-end-spec : {M : Type 1} → statement M
 write-end-spec =
-    tie.close (tie.spec slice-aggregate-put-word put-word-requires same-length returns)
+    tie.close (tie.spec (λ c. search needs) (λ c κs. search needs) (λ c. search needs) returns)
