@@ -8,6 +8,7 @@ use distance_c::curve_straight;
 use distance_c::curve_warped;
 use distance_c::curve_windows;
 use vectors::get;
+use vectors::get_length;
 use vectors::get_natural;
 use vectors::get_small;
 use vectors::get_values;
@@ -15,17 +16,6 @@ use vectors::plus;
 use vectors::read_numbers;
 use vectors::value;
 ghost use Prim.Native.Nat.{_≤_};
-
-// A length, of at most 32.
-fn get_length(nums: &[u64], at: usize) -> usize
-    ensures { λ r. ⌜ r ≤ 32 ⌝ }
-{
-    let x = get_natural(nums, at);
-    if 32 < x {
-        return 0;
-    }
-    x as usize
-}
 
 // ---- comparing
 
@@ -42,7 +32,7 @@ fn agree(got: &[u64], k: usize, nums: &[u64], at: usize, e: u64) -> bool {
     if got.len() < k {
         return false;
     }
-    if get_length(nums, at) != k {
+    if get_length(nums, at, 32) != k {
         return false;
     }
     let mut j: usize = 0;
@@ -152,7 +142,7 @@ fn try_normal(s: &[i32], nums: &[u64], at: usize, room: &mut [i32]) -> bool {
     if got[0] == 0 {
         return get_natural(nums, at) == 0;
     }
-    if get_length(nums, at) != room.len() {
+    if get_length(nums, at, 32) != room.len() {
         return false;
     }
     agree_values(room, nums, plus(at, 1))
@@ -348,10 +338,10 @@ fn in_rooms(nums: &[u64], at: usize, test: u64, s: &[i32], q: &[i32], n: usize, 
 // The vector at a place.
 fn one_turn(nums: &[u64], t: Turn, test: u64) -> Turn {
     let from = t.at;
-    let n = get_length(nums, plus(from, 1));
+    let n = get_length(nums, plus(from, 1), 32);
     let p = plus(from, 2);
     let second = plus(p, n);
-    let m = get_length(nums, second);
+    let m = get_length(nums, second, 32);
     let r = plus(second, 1);
     let last = plus(r, m);
     let mut s = [0i32; 32];
@@ -359,7 +349,7 @@ fn one_turn(nums: &[u64], t: Turn, test: u64) -> Turn {
     get_values(nums, p, &mut s);
     get_values(nums, r, &mut q);
     let good = in_rooms(nums, last, test, &s, &q, n, m);
-    let answers = get_length(nums, plus(last, 4));
+    let answers = get_length(nums, plus(last, 4), 32);
     let one = good as u64;
     Turn {
         at: plus(plus(last, 5), answers),

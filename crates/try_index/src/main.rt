@@ -8,51 +8,23 @@ use meaning_entries::Built;
 use meaning_entries::Extended;
 use meaning_rows::Head;
 use meaning_rows::Row;
-use vectors::get;
+use vectors::get_head;
+use vectors::get_length;
 use vectors::get_natural;
+use vectors::get_numbers;
+use vectors::get_row;
 use vectors::get_small;
 use vectors::get_values;
 use vectors::plus;
 use vectors::read_numbers;
-use vectors::value;
 ghost use Prim.Native.Nat.{_≤_};
 
 // ---- parts of a vector
-
-// A length, of at most `most`.
-fn get_length(nums: &[u64], at: usize, most: usize) -> usize
-    ensures { λ r. ⌜ r ≤ most ⌝ }
-{
-    let x = get_natural(nums, at) as usize;
-    if most < x {
-        return 0;
-    }
-    x
-}
-
-// Numbers from the place `from` on, as many as `out` holds.
-fn get_numbers(nums: &[u64], from: usize, out: &mut [u32]) {
-    let mut k: usize = 0;
-    while k < out.len() {
-        let at = plus(from, k);
-        out[k] = get_small(nums, at);
-        k += 1;
-    }
-}
 
 // The place of row `k`, of rows of four numbers.
 fn row_place(at: usize, k: usize) -> usize {
     let two = plus(k, k);
     plus(at, plus(two, two))
-}
-
-fn get_row(nums: &[u64], at: usize) -> Row {
-    Row {
-        low: value(get(nums, at)),
-        up: value(get(nums, plus(at, 1))),
-        first: get_small(nums, plus(at, 2)),
-        runs: get_small(nums, plus(at, 3)),
-    }
 }
 
 fn get_rows(nums: &[u64], at: usize) -> [Row; 64] {
@@ -68,14 +40,6 @@ fn get_rows(nums: &[u64], at: usize) -> [Row; 64] {
         k += 1;
     }
     rows
-}
-
-fn get_head(nums: &[u64], at: usize) -> Head {
-    Head {
-        window: get_small(nums, at),
-        width: get_small(nums, plus(at, 1)),
-        windows: get_small(nums, plus(at, 2)),
-    }
 }
 
 // Where a lent index stands: its head, how many rows, the entries of the two columns of its run buffer and their lengths, and what follows.

@@ -5,53 +5,22 @@ use meaning_entries::Found;
 use meaning_filter::Ask;
 use meaning_filter::Kind;
 use meaning_filter::Limits;
-use meaning_rows::Head;
 use meaning_rows::Row;
-use vectors::get;
+use vectors::get_head;
+use vectors::get_length;
 use vectors::get_natural;
+use vectors::get_numbers;
+use vectors::get_row;
 use vectors::get_small;
 use vectors::get_values;
 use vectors::plus;
 use vectors::read_numbers;
-use vectors::value;
-ghost use Prim.Native.Nat.{_≤_};
 
 // ---- parts of a vector: a list is how many entries it has, and these
-
-// How many entries a list has, of at most `most`.
-fn get_length(nums: &[u64], at: usize, most: usize) -> usize
-    ensures { λ r. ⌜ r ≤ most ⌝ }
-{
-    let x = get_natural(nums, at) as usize;
-    if most < x {
-        return 0;
-    }
-    x
-}
 
 // The place behind a list.
 fn behind(nums: &[u64], at: usize) -> usize {
     plus(plus(at, 1), get_natural(nums, at) as usize)
-}
-
-// The entries of a list of numbers, as many as `out` holds.
-fn get_numbers(nums: &[u64], at: usize, out: &mut [u32]) {
-    let from = plus(at, 1);
-    let mut k: usize = 0;
-    while k < out.len() {
-        let place = plus(from, k);
-        out[k] = get_small(nums, place);
-        k += 1;
-    }
-}
-
-fn get_row(nums: &[u64], at: usize) -> Row {
-    Row {
-        low: value(get(nums, at)),
-        up: value(get(nums, plus(at, 1))),
-        first: get_small(nums, plus(at, 2)),
-        runs: get_small(nums, plus(at, 3)),
-    }
 }
 
 // The first 64 rows of a list of four numbers each.
@@ -68,14 +37,6 @@ fn get_rows(nums: &[u64], at: usize) -> [Row; MOST_PROGRAM_VALUES] {
         k += 1;
     }
     rows
-}
-
-fn get_head(nums: &[u64], at: usize) -> Head {
-    Head {
-        window: get_small(nums, at),
-        width: get_small(nums, plus(at, 1)),
-        windows: get_small(nums, plus(at, 2)),
-    }
 }
 
 fn get_kind(nums: &[u64], at: usize) -> Kind {
@@ -308,8 +269,8 @@ fn with_runs(
     let rights = get_length(nums, p.right, 300);
     let mut left = [0u32; 300];
     let mut right = [0u32; 300];
-    get_numbers(nums, p.left, &mut left);
-    get_numbers(nums, p.right, &mut right);
+    get_numbers(nums, plus(p.left, 1), &mut left);
+    get_numbers(nums, plus(p.right, 1), &mut right);
     with_query(
         nums,
         p,

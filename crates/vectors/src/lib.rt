@@ -1,4 +1,7 @@
 // Vectors for the programs that try cases: a text of whole numbers, read into numbers raised by 10^18, and taken out again. A place past the end has 0.
+use meaning_rows::Head;
+use meaning_rows::Row;
+ghost use Prim.Native.Nat.{_≤_};
 
 // A number with one more digit; what is no digit makes it 0.
 pub fn with_digit(x: u64, c: u8) -> u64 {
@@ -101,6 +104,17 @@ pub fn value(x: u64) -> i32 {
     numbers::lower(v, 500000000)
 }
 
+// A length, of at most `most`.
+pub fn get_length(nums: &[u64], at: usize, most: usize) -> usize
+    ensures { λ r. ⌜ r ≤ most ⌝ }
+{
+    let x = get_natural(nums, at) as usize;
+    if most < x {
+        return 0;
+    }
+    x
+}
+
 // Values from the place `from` on, as many as `out` holds.
 pub fn get_values(nums: &[u64], from: usize, out: &mut [i32]) {
     let mut k: usize = 0;
@@ -109,5 +123,32 @@ pub fn get_values(nums: &[u64], from: usize, out: &mut [i32]) {
         let x = get(nums, at);
         out[k] = value(x);
         k += 1;
+    }
+}
+
+// Numbers from the place `from` on, as many as `out` holds.
+pub fn get_numbers(nums: &[u64], from: usize, out: &mut [u32]) {
+    let mut k: usize = 0;
+    while k < out.len() {
+        let at = plus(from, k);
+        out[k] = get_small(nums, at);
+        k += 1;
+    }
+}
+
+pub fn get_head(nums: &[u64], at: usize) -> Head {
+    Head {
+        window: get_small(nums, at),
+        width: get_small(nums, plus(at, 1)),
+        windows: get_small(nums, plus(at, 2)),
+    }
+}
+
+pub fn get_row(nums: &[u64], at: usize) -> Row {
+    Row {
+        low: value(get(nums, at)),
+        up: value(get(nums, plus(at, 1))),
+        first: get_small(nums, plus(at, 2)),
+        runs: get_small(nums, plus(at, 3)),
     }
 }

@@ -1,11 +1,11 @@
--- `try_index::get_numbers` meets its contract. Assumes nothing.
+-- `vectors::get_numbers` meets its contract. Assumes nothing.
 use borrow.Author.Needs.{needs}
 use mathlib.Core.Path.{_≡_}
 use Prim.Native.Nat.{_-_, _≤_}
 use native.Mathlib.Omega.{arith}
 use lib.ListN.{length, length-set}
-use Rattle.try_index.proofs.get_numbers.Statement.{statement}
-use Rattle.try_index.proofs.get_numbers.Tie as tie
+use Rattle.vectors.proofs.get_numbers.Statement.{statement}
+use Rattle.vectors.proofs.get_numbers.Tie as tie
 
 abbrev Inv-loop : tie.InvT-loop
 Inv-loop nums from out₀ k₀ out k = (k ≤ length out) × (length out ≡ length out₀)
