@@ -199,7 +199,7 @@ module _ (s : List ℤ) (h : Head) (rows : List Row) (left right : List ℕ) (as
         -- nothing refuses
         unrefused : t .refusal ≡ refusalOf (searchPlan call b)
         unfolding asRefusal
-        unrefused = e .unrefused ∙ sym (ap asRefusal (goes-on s h rows left right ask q b z))
+        unrefused = e .goes-on ∙ sym (ap asRefusal (goes-on s h rows left right ask q b z))
 
         pub counted-so : (t .runs ≡ length (candidateRuns x (question call))) × (t .candidates ≡ searchCandidates call)
         counted-so = (found .count-is ∙ ap length runs-are, found .found-is ∙ count-is)
@@ -222,8 +222,8 @@ module _ (s : List ℤ) (h : Head) (rows : List Row) (left right : List ℕ) (as
     pub gathered : {t : Sought} {first′ last′ scratch′ : List ℕ} → HandedOut s h left right q first₂ last₂ scratch t first′ last′ scratch′ → SoughtKept C first last scratch t first′ last′ scratch′
     gathered {t} e = record {
       judged = unrefused s h rows left right ask q B z held all e;
-      stays = λ f. absurd (f (ap (λ (r : Refusal). r .number) (e .unrefused)));
-      uncounted = λ f. absurd (f (ap (λ (r : Refusal). r .number) (e .unrefused)));
+      stays = λ f. absurd (f (ap (λ (r : Refusal). r .number) (e .goes-on)));
+      uncounted = λ f. absurd (f (ap (λ (r : Refusal). r .number) (e .goes-on)));
       counted = λ _. counted-so s h rows left right ask q B z held all e;
       handed = λ _. (left-is s h rows left right ask q B z held all e, right-is s h rows left right ask q B z held all e, cleared-so s h rows left right ask q B z held all e);
     }
@@ -269,10 +269,10 @@ module _ (s : List ℤ) (h : Head) (rows : List Row) (left right : List ℕ) (as
       lent = rw (k .handed e .0, k .handed e .1, k .counted e .0) (runs-lent (candidateAt (here .index) (question here)) (offsetCount (question here)) (b .left) (b .right));
     }
 
-    pub both-kept : {answer : Found} {first′ last′ offsets distances : List ℕ} → Finished ask s q t first last (b .offsets) (b .distances) answer first′ last′ offsets distances
-        → SearchKept here b answer (record { left = first′; right = last′; scratch = scratch; offsets = offsets; distances = distances })
+    pub both-kept : {answer : Found} {offsets distances : List ℕ} → Finished ask s q t first last (b .offsets) (b .distances) answer offsets distances
+        → SearchKept here b answer (record { left = first; right = last; scratch = scratch; offsets = offsets; distances = distances })
     unfolding lookedAfter
-    both-kept {answer} {first′} {last′} {offsets} {distances} f = rw (f .first-same, f .last-same) (by-test (eqb (t .refusal .number) 0) goes stops)
+    both-kept {answer} {offsets} {distances} f = by-test (eqb (t .refusal .number) 0) goes stops
       where
         goes : eqb (t .refusal .number) 0 ≡ true → SearchKept here b answer (record { left = first; right = last; scratch = scratch; offsets = offsets; distances = distances })
         goes g =

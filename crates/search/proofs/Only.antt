@@ -40,18 +40,16 @@ module _ (c : SearchCall) (left right scratch : List ℕ) {t u : Sought} {left�
         k .stays z .2 ∙ sym (l .stays y .2),
       ))
 
-module _ (ask : Ask) (s q : List ℤ) (t : Sought) (first last offsets distances : List ℕ) {a b : Found} {first′ last′ offsets′ distances′ first″ last″ offsets″ distances″ : List ℕ} where
-  pub finished-only : Finished ask s q t first last offsets distances a first′ last′ offsets′ distances′ → Finished ask s q t first last offsets distances b first″ last″ offsets″ distances″
-      → (a ≡ b) × (first′ ≡ first″) × (last′ ≡ last″) × (offsets′ ≡ offsets″) × (distances′ ≡ distances″)
+module _ (ask : Ask) (s q : List ℤ) (t : Sought) (first last offsets distances : List ℕ) {a b : Found} {offsets′ distances′ offsets″ distances″ : List ℕ} where
+  pub finished-only : Finished ask s q t first last offsets distances a offsets′ distances′ → Finished ask s q t first last offsets distances b offsets″ distances″
+      → (a ≡ b) × (offsets′ ≡ offsets″) × (distances′ ≡ distances″)
   finished-only k l =
-      let firsts = k .first-same ∙ sym (l .first-same) in
-      let lasts = k .last-same ∙ sym (l .last-same) in
       by-test (eqb (t .refusal .number) 0)
       (λ yes.
       let x = k .answered (eqb-true (t .refusal .number) 0 yes) in
       let y = l .answered (eqb-true (t .refusal .number) 0 yes) in
-      (x .answered ∙ sym (y .answered), firsts, lasts, x .list .offsets-are ∙ sym (y .list .offsets-are), x .list .distances-are ∙ sym (y .list .distances-are)))
+      (x .answered ∙ sym (y .answered), x .list .offsets-are ∙ sym (y .list .offsets-are), x .list .distances-are ∙ sym (y .list .distances-are)))
       (λ no.
       let x = k .refused (eqb-false (t .refusal .number) 0 no) in
       let y = l .refused (eqb-false (t .refusal .number) 0 no) in
-      (x .0 ∙ sym (y .0), firsts, lasts, x .1 ∙ sym (y .1), x .2 ∙ sym (y .2)))
+      (x .0 ∙ sym (y .0), x .1 ∙ sym (y .1), x .2 ∙ sym (y .2)))

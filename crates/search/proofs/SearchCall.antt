@@ -32,7 +32,6 @@ use denote.Triple.Call.{calls-at}
 use denote.Triple.Clauses.{ensured, lasts}
 use Rattle.meaning_rows.specs.declared.Row.{Row}
 use Rattle.meaning_rows.specs.declared.Head.{Head}
-use Rattle.meaning_rows.specs.Index.{lent}
 use Rattle.meaning_rows.proofs.Row as T
 use Rattle.meaning_rows.proofs.Head as Hd
 use Rattle.meaning_rows.proofs.Head.Laws as Hd′

@@ -16,7 +16,7 @@ use Rattle.meaning_entries.specs.declared.Found.{Found}
 use Rattle.meaning_entries.specs.Buffers.{filled}
 use Rattle.meaning_entries.specs.Search.{SearchCall, question, searchPlan, searchCandidates, lookedAfter}
 use Rattle.conditions.specs.declared.Refusal.{Refusal}
-use Rattle.conditions.specs.Refusal.{refusalOf}
+use Rattle.conditions.specs.Refusal.{refusalOf, unrefused}
 use Rattle.candidates.specs.Handed.{stood, Handed}
 use Rattle.checking.specs.Members.{members}
 use Rattle.checking.specs.Found.{RunsLent, lentRuns, found}
@@ -32,7 +32,7 @@ stopped r = record { refusal = r; runs = 0; candidates = 0 }
 
 -- nothing refuses
 abbrev pub unstopped : ℕ → ℕ → Sought
-unstopped k n = record { refusal = record { number = 0; place = 0 }; runs = k; candidates = n }
+unstopped k n = record { refusal = unrefused; runs = k; candidates = n }
 
 -- finding the candidates of a search, by the candidate buffer and the scratch before and after; the list is not needed
 pub record SoughtKept (c : SearchCall) (left right scratch : List ℕ) (t : Sought) (left′ right′ scratch′ : List ℕ) : Type 0 where
@@ -48,11 +48,9 @@ pub record FinishReady (ask : Ask) (s q : List ℤ) (t : Sought) (first last : L
   pub lent : RunsLent (offsetCount (wanted ask s q)) first last (t .runs)
 
 -- checking them: a refusal is answered and alters nothing; else the matches among them are listed
-pub record Finished (ask : Ask) (s q : List ℤ) (t : Sought) (first last offsets distances : List ℕ) (answer : Found) (first′ last′ offsets′ distances′ : List ℕ) : Type 0 where
+pub record Finished (ask : Ask) (s q : List ℤ) (t : Sought) (first last offsets distances : List ℕ) (answer : Found) (offsets′ distances′ : List ℕ) : Type 0 where
   pub refused : (t .refusal .number ≡ 0 → ⊥) → (answer ≡ refusedAs (t .refusal)) × (offsets′ ≡ offsets) × (distances′ ≡ distances)
   pub answered : t .refusal .number ≡ 0 → Answers (found (wanted ask s q) (members (lentRuns first last (t .runs)))) (t .candidates) answer offsets distances offsets′ distances′
-  pub first-same : first′ ≡ first
-  pub last-same : last′ ≡ last
 
 -- ---- the last step of finding
 
@@ -69,7 +67,7 @@ pub record HandReady (s : List ℤ) (h : Head) (left right : List ℕ) (q : List
 
 pub record HandedOut (s : List ℤ) (h : Head) (left right : List ℕ) (q : List ℤ) (first last scratch : List ℕ) (t : Sought) (first′ last′ scratch′ : List ℕ) : Type 0 where
   pub counts : List ℕ
-  pub unrefused : t .refusal ≡ record { number = 0; place = 0 }
+  pub goes-on : t .refusal ≡ unrefused
   pub counted : CountedBy (stretchHit left right first last (h .window)) (length s + 1 - length q) (length q / h .window) counts
   pub handed : Handed (stood counts (length q / h .window)) (length s + 1 - length q) first last first′ last′ (t .runs) (t .candidates)
   pub cleared : scratch′ ≡ filled 0 [] scratch

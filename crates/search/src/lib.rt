@@ -173,13 +173,13 @@ pub fn finish(
     ask: Ask,
     series: &[i32],
     query: &[i32],
-    first: &mut [u32],
-    last: &mut [u32],
+    first: &[u32],
+    last: &[u32],
     offsets: &mut [u32],
     distances: &mut [u64],
 ) -> Found
     requires { ⌜ (sought .refusal .number ≡ 0 → FinishReady ask (now series) (now query) sought (now first) (now last)) ⌝ }
-    ensures { λ a. ⌜ Finished ask (now (series .entry)) (now (query .entry)) sought (now (first .entry)) (now (last .entry)) (now (offsets .entry)) (now (distances .entry)) a (now (first .exit)) (now (last .exit)) (now (offsets .exit)) (now (distances .exit)) ⌝ }
+    ensures { λ a. ⌜ Finished ask (now (series .entry)) (now (query .entry)) sought (now (first .entry)) (now (last .entry)) (now (offsets .entry)) (now (distances .entry)) a (now (offsets .exit)) (now (distances .exit)) ⌝ }
 {
     let r = sought.refusal;
     if r.number != 0 {

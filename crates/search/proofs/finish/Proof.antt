@@ -8,19 +8,15 @@ returns : tie.Need-returns
 returns c = record {
   refused = λ _. (c .refuse .ensures, refl, refl);
   answered = λ e. absurd (c .before .if1 .taken e);
-  first-same = refl;
-  last-same = refl;
 }
 
 find-matches-requires : tie.Need-find-matches-requires
-find-matches-requires c κs = let p = c .before .before .before .before .before .before .before .before .before .before .before .pre (c .before .before .before .before .if1 .left) in (p .limited, p .lent)
+find-matches-requires c κs = let p = c .before .before .before .before .before .before .before .before .before .pre (c .before .before .if1 .left) in (p .limited, p .lent)
 
 returns-2 : tie.Need-returns-2
 returns-2 c = record {
-  refused = λ f. absurd (f (c .before .before .before .before .before .before .before .before .before .if1 .left));
+  refused = λ f. absurd (f (c .before .before .before .before .before .before .before .if1 .left));
   answered = λ _. c .before .before .before .before .find-matches .ensures;
-  first-same = refl;
-  last-same = refl;
 }
 
 pub finish-spec : {M : Type 1} → statement M
@@ -30,8 +26,6 @@ finish-spec =
     (λ c κs. search needs)
     returns
     find-matches-requires
-    (λ c. search needs)
-    (λ c. search needs)
     (λ c. search needs)
     (λ c. search needs)
     returns-2)

@@ -24,7 +24,7 @@ returns c =
     let told = c .tell-sought .ensures in
     record {
       counts = raised .raise-stretches .last .0;
-      unrefused = ap (λ (t : Sought). t .refusal) told;
+      goes-on = ap (λ (t : Sought). t .refusal) told;
       counted = raised .raise-stretches .ensures;
       handed = rw told (collected .collect .ensures .0);
       cleared = collected .collect .ensures .1 ∙ cleared-same _ _ (search needs);
