@@ -19,6 +19,28 @@ whole() {
     [ -z "$missing" ] || { echo "$missing" | sort -u; return 1; }
 }
 
+# requested KIND: the folders of this kind (program, audit, extend) in tests/vectors/requests.
+requested() {
+    for folder in tests/vectors/requests/*/"$1"; do
+        [ ! -d "$folder" ] || echo "$folder"
+    done
+}
+
+# known: one of the tests takes something of each folder of tests/vectors/requests, and all that stands in it but README.md. Says what none takes.
+known() {
+    [ -e tests/vectors/requests ] || return 0
+    unknown=$(
+        name='[^/.][^/]*' # what `*` finds
+        find tests/vectors/requests -mindepth 1 -printf '%y %P\n' |
+            grep -Evx "f ($name/)?README\.md|d $name|f $name/calls\.txt|d $name/(program|audit|extend)|f $name/(program|extend)/$name\.(in|out)|f $name/audit/$name\.(index|series|out)" |
+            sed 's|^. |unknown: tests/vectors/requests/|'
+        find tests/vectors/requests -mindepth 1 -maxdepth 1 -type d | while read -r folder; do
+            ls "$folder" | grep -Eqx 'calls\.txt|program|audit|extend' || echo "no vectors: $folder"
+        done
+    )
+    [ -z "$unknown" ] || { echo "$unknown"; return 1; }
+}
+
 # calls_folders: the folders of cases of calls, those of tests/vectors/calls and those of tests/vectors/requests that have any.
 calls_folders() {
     echo tests/vectors/calls/*

@@ -77,8 +77,8 @@ impl<'a> Lines<'a> {
         let bad = |why| Err(Bad { line: number, why });
         if self.done() { return bad(format!("`{word}` is missing: the file ends")) }
         if !self.next_is(word) { return bad(format!("`{word}` is missing: the line begins with `{}`", shown(&String::from_utf8_lossy(self.next_word())))) }
-        let Ok(text) = str::from_utf8(self.lines[self.at]) else { return bad("a byte is no letter".into()) };
         self.at += 1;
+        let Ok(text) = str::from_utf8(self.lines[number - 1]) else { return bad("a byte is no letter".into()) };
         let mut items = text.split(' ');
         items.next();
         Ok(Line { number, text, items })
