@@ -9,6 +9,7 @@ pub mod Shift
 pub mod Kept
 pub mod Candidates
 pub mod Matches
+pub mod Only
 pub mod Handed
 pub mod Open
 pub mod Lost

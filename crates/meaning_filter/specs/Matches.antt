@@ -60,7 +60,7 @@ pub data Upward : ℕ → List (ℕ × ℕ) → Type 0 where
   done : {k : ℕ} → Upward k []
   next : {k : ℕ} {e : ℕ × ℕ} {l : List (ℕ × ℕ)} → k ≤ e .0 → Upward (suc (e .0)) l → Upward k (e ∷ l)
 
--- a list is exactly all matches: ascending, each once; an entry is an offset whose stretch matches, with its distance; and every such offset stands in it
+-- a list is exactly all matches: ascending, each once; an entry is an offset whose stretch matches, with its distance; and every such offset stands in it (law: `exactly-only`, there is one such list)
 pub record Exactly (z : Question) (l : List (ℕ × ℕ)) : Type 0 where
   pub ascending : Upward 0 l
   pub only : (e : ℕ × ℕ) → Mem e l → (e .0 < offsetCount z) × T (matchesAt z (e .0)) × (e ≡ listed z (e .0))
