@@ -16,16 +16,17 @@ use Rattle.meaning_entries.specs.declared.Written.{Written}
 use Rattle.meaning_entries.specs.declared.Loaded.{Loaded}
 use Rattle.meaning_entries.specs.declared.Found.{Found}
 use Rattle.meaning_entries.specs.Buffers.{IndexBuffers}
-use Rattle.meaning_entries.specs.Answers.{builtRefusal, builtHead, builtCounts, extendedRefusal, extendedHead, extendedCounts, auditedRefusal, wrongPlace, writtenRefusal, writtenCount, loadedRefusal, loadedHead, loadedCounts, foundRefusal, foundCounts}
+use Rattle.meaning_entries.specs.Answers.{builtRefusal, builtHead, builtCounts, extendedRefusal, extendedHead, extendedCounts, auditedRefusal, wrongPlace, missingCount, writtenRefusal, writtenCount, loadedRefusal, loadedHead, loadedCounts, foundRefusal, foundCounts}
 use Rattle.meaning_entries.specs.Build.{BuildCall, buildRefusal, buildAnswer, buildHead, buildCounts, buildAfter}
 use Rattle.meaning_entries.specs.Extend.{ExtendCall, extendRefusal, extendAnswer, extendHead, extendCounts, extendAfter}
-use Rattle.meaning_entries.specs.Audit.{AuditCall, auditTable, complete, audited, auditAnswer, auditWrong}
+use Rattle.meaning_entries.specs.Audit.{AuditCall, auditTable, complete, audited, auditAnswer, wrongIn, missingIn}
 use Rattle.meaning_entries.specs.Write.{writeRefusal, writeAnswer, writeCount, writeAfter}
 use Rattle.meaning_entries.specs.Load.{loadRefusal, loadAnswer, loadHead, loadCounts, loadAfter}
 use Rattle.meaning_entries.specs.Search.{SearchCall, SearchBuffers, searchRefusal, looked, searchRefused, searchAnswer, searchCounts, searchAfter}
-use Rattle.meaning_entries.specs.AuditText.{unpack, auditText}
+use Rattle.meaning_entries.specs.AuditText.{auditTextTable, textCall, auditTextAnswer, unpack, auditText}
 use Rattle.meaning_entries.specs.Demand2.{BuildKept, ExtendKept, AuditKept, WriteKept, LoadKept, SearchKept, AuditTextKept}
 use Rattle.meaning_entries.proofs.Demand1.{build-refuses, extend-refuses, audit-refuses, write-refuses, load-refuses, search-refuses, audit-text-refuses}
+use Rattle.meaning_entries.proofs.Pack.{audit-text-back}
 
 build-by : (c : BuildCall) (b : IndexBuffers) (o : Option (ℕ × ℕ)) → buildRefusal c b ≡ o → builtCounts (buildAnswer c b) ≡ buildCounts c b
 unfolding buildAnswer buildCounts
@@ -95,21 +96,47 @@ unfolding complete
 complete-right zero = refl
 complete-right (suc n) = refl
 
+complete-counts : (n : ℕ) → missingCount (complete n) ≡ n
+unfolding complete
+complete-counts zero = refl
+complete-counts (suc n) = refl
+
 audited-wrong : (c : AuditCall) (o : Option (ℕ × ℕ)) → firstWrong (c .index) (c .series) ≡ o → wrongPlace (audited c) ≡ o
 unfolding audited
 audited-wrong c none e = rw (e, audited) (complete-right (missing (c .index)))
 audited-wrong c (some x) e = rw (e, audited)
 
-audit-wrong : (c : AuditCall) (o : Option (ℕ × ℕ)) → firstRefusal (auditTable mostValues c) ≡ o → wrongPlace (auditAnswer c) ≡ auditWrong c
-unfolding auditAnswer auditWrong
-audit-wrong c none e = rw (e, auditAnswer, auditWrong) (audited-wrong c (firstWrong (c .index) (c .series)) refl)
-audit-wrong c (some r) e = rw (e, auditAnswer, auditWrong)
+audited-counts : (c : AuditCall) (o : Option (ℕ × ℕ)) → firstWrong (c .index) (c .series) ≡ o → missingCount (audited c) ≡ missingIn none c
+unfolding audited missingIn
+audited-counts c none e = rw (e, audited, missingIn) (complete-counts (missing (c .index)))
+audited-counts c (some x) e = rw (e, audited, missingIn)
+
+-- what an audit says, refused or not
+abbrev says : Option (ℕ × ℕ) → AuditCall → Audited
+says o c = elim o [ some r ↦ Audited.Refused (r .0) (r .1) | none ↦ audited c ]
+
+says-wrong : (o : Option (ℕ × ℕ)) (c : AuditCall) → wrongPlace (says o c) ≡ wrongIn o c
+unfolding wrongIn
+says-wrong none c = audited-wrong c (firstWrong (c .index) (c .series)) refl
+says-wrong (some r) c = refl
+
+says-counts : (o : Option (ℕ × ℕ)) (c : AuditCall) → missingCount (says o c) ≡ missingIn o c
+unfolding missingIn
+says-counts none c = audited-counts c (firstWrong (c .index) (c .series)) refl
+says-counts (some r) c = refl
 
 pub audit-kept : (c : AuditCall) (a : Audited) → a ≡ auditAnswer c → AuditKept c a
-audit-kept c a h = record { answered = h; refused = ap auditedRefusal h ∙ audit-refuses c .same; wrong = ap wrongPlace h ∙ audit-wrong c (firstRefusal (auditTable mostValues c)) refl }
+unfolding auditAnswer
+audit-kept c a h =
+    let o = firstRefusal (auditTable mostValues c) in
+    record { answered = h; refused = ap auditedRefusal h ∙ audit-refuses c .same; wrong = ap wrongPlace h ∙ says-wrong o c; counted = ap missingCount h ∙ says-counts o c }
 
 pub audit-text-kept : (x s : List ℕ) (a : ℕ) → a ≡ auditText x s → AuditTextKept x s a
-audit-text-kept x s a h = record { answered = h; refused = ap (λ (n : ℕ). auditedRefusal (unpack n)) h ∙ audit-text-refuses x s .same }
+unfolding auditTextAnswer
+audit-text-kept x s a h =
+    let o = firstRefusal (auditTextTable x s) in
+    let told : unpack a ≡ auditTextAnswer x s = ap unpack h ∙ audit-text-back x s in
+    record { answered = h; refused = ap (λ (n : ℕ). auditedRefusal (unpack n)) h ∙ audit-text-refuses x s .same; wrong = ap wrongPlace told ∙ says-wrong o (textCall x s); counted = ap missingCount told ∙ says-counts o (textCall x s) }
 
 write-by : (x : Index) (t : List ℕ) (o : Option (ℕ × ℕ)) → writeRefusal x t ≡ o → writtenCount (writeAnswer x t) ≡ writeCount x t
 unfolding writeAnswer writeCount

@@ -33,7 +33,7 @@ auditedRefusal (Audited.Missing count) = none
 auditedRefusal (Audited.Refused n p) = some (n, p)
 
 abbrev pub writtenRefusal : Written → Option (ℕ × ℕ)
-writtenRefusal (Written.Text length) = none
+writtenRefusal (Written.Text bytes) = none
 writtenRefusal (Written.Refused n p) = some (n, p)
 
 abbrev pub loadedRefusal : Loaded → Option (ℕ × ℕ)
@@ -87,7 +87,7 @@ loadedCounts (Loaded.Refused n p) = (0, 0)
 
 -- how many bytes the text has
 abbrev pub writtenCount : Written → ℕ
-writtenCount (Written.Text length) = length
+writtenCount (Written.Text bytes) = bytes
 writtenCount (Written.Refused n p) = 0
 
 -- how many windows stand nowhere

@@ -41,9 +41,15 @@ audited c = elim (firstWrong (c .index) (c .series)) [ some x ↦ Audited.Wrong 
 unfoldable pub auditAnswer : AuditCall → Audited
 auditAnswer c = elim (firstRefusal (auditTable mostValues c)) [ some r ↦ Audited.Refused (r .0) (r .1) | none ↦ audited c ]
 
--- the first row and offset filed wrongly, of an audit that is not refused
-unfoldable pub auditWrong : AuditCall → Option (ℕ × ℕ)
-auditWrong c = elim (firstRefusal (auditTable mostValues c)) [ some r ↦ none | none ↦ firstWrong (c .index) (c .series) ]
+-- the first row and offset filed wrongly, of an audit that nothing refuses
+unfoldable pub wrongIn : Option (ℕ × ℕ) → AuditCall → Option (ℕ × ℕ)
+wrongIn (some r) c = none
+wrongIn none c = firstWrong (c .index) (c .series)
+
+-- how many windows stand nowhere, of an audit that nothing refuses and that finds none filed wrongly; else 0
+unfoldable pub missingIn : Option (ℕ × ℕ) → AuditCall → ℕ
+missingIn (some r) c = 0
+missingIn none c = elim (firstWrong (c .index) (c .series)) [ some x ↦ 0 | none ↦ missing (c .index) ]
 
 -- 01, Rows: an index passes against a series exactly if the audit of the two, over lent rows, is not refused and says yes; here of any index, lent ones among them (law: `passed`)
 abbrev pub Passes : Index → List ℤ → Type 0

@@ -13,14 +13,14 @@ use Rattle.meaning_entries.specs.declared.Loaded.{Loaded}
 use Rattle.meaning_entries.specs.declared.Found.{Found}
 use Rattle.meaning_entries.specs.Refusal.{firstRefusal}
 use Rattle.meaning_entries.specs.Buffers.{IndexBuffers}
-use Rattle.meaning_entries.specs.Answers.{builtRefusal, builtHead, builtCounts, extendedRefusal, extendedHead, extendedCounts, auditedRefusal, wrongPlace, writtenRefusal, writtenCount, loadedRefusal, loadedHead, loadedCounts, foundRefusal, foundCounts}
+use Rattle.meaning_entries.specs.Answers.{builtRefusal, builtHead, builtCounts, extendedRefusal, extendedHead, extendedCounts, auditedRefusal, wrongPlace, missingCount, writtenRefusal, writtenCount, loadedRefusal, loadedHead, loadedCounts, foundRefusal, foundCounts}
 use Rattle.meaning_entries.specs.Build.{BuildCall, buildRefusal, buildAnswer, buildHead, buildCounts, buildAfter}
 use Rattle.meaning_entries.specs.Extend.{ExtendCall, extendRefusal, extendAnswer, extendHead, extendCounts, extendAfter}
-use Rattle.meaning_entries.specs.Audit.{AuditCall, auditTable, auditAnswer, auditWrong}
+use Rattle.meaning_entries.specs.Audit.{AuditCall, auditTable, auditAnswer, wrongIn, missingIn}
 use Rattle.meaning_entries.specs.Write.{writeRefusal, writeAnswer, writeCount, writeAfter}
 use Rattle.meaning_entries.specs.Load.{loadRefusal, loadAnswer, loadHead, loadCounts, loadAfter}
 use Rattle.meaning_entries.specs.Search.{SearchCall, SearchBuffers, searchRefusal, searchAnswer, searchCounts, searchAfter}
-use Rattle.meaning_entries.specs.AuditText.{auditTextTable, auditText, unpack}
+use Rattle.meaning_entries.specs.AuditText.{auditTextTable, textCall, auditText, unpack}
 use Rattle.meaning_entries.specs.Program.{program}
 
 pub record BuildKept (c : BuildCall) (before : IndexBuffers) (answer : Built) (after : IndexBuffers) : Type 0 where
@@ -44,7 +44,8 @@ pub record ExtendKept (c : ExtendCall) (before : IndexBuffers) (answer : Extende
 pub record AuditKept (c : AuditCall) (answer : Audited) : Type 0 where
   pub answered : answer ≡ auditAnswer c
   pub refused : auditedRefusal answer ≡ firstRefusal (auditTable mostValues c)
-  pub wrong : wrongPlace answer ≡ auditWrong c
+  pub wrong : wrongPlace answer ≡ wrongIn (firstRefusal (auditTable mostValues c)) c
+  pub counted : missingCount answer ≡ missingIn (firstRefusal (auditTable mostValues c)) c
 
 pub record WriteKept (x : Index) (before : List ℕ) (answer : Written) (after : List ℕ) : Type 0 where
   pub answered : answer ≡ writeAnswer x before
@@ -75,6 +76,8 @@ pub record SearchKept (c : SearchCall) (before : SearchBuffers) (answer : Found)
 pub record AuditTextKept (index series : List ℕ) (answer : ℕ) : Type 0 where
   pub answered : answer ≡ auditText index series
   pub refused : auditedRefusal (unpack answer) ≡ firstRefusal (auditTextTable index series)
+  pub wrong : wrongPlace (unpack answer) ≡ wrongIn (firstRefusal (auditTextTable index series)) (textCall index series)
+  pub counted : missingCount (unpack answer) ≡ missingIn (firstRefusal (auditTextTable index series)) (textCall index series)
 
 -- what the search program prints
 pub record ProgramKept (input output : List ℕ) : Type 0 where
