@@ -22,7 +22,7 @@ use Rattle.meaning_entries.specs.Write.{writeTable, writeAnswer}
 use Rattle.meaning_entries.specs.Load.{loadTable, loadAnswer}
 use Rattle.meaning_entries.specs.Search.{SearchCall, SearchBuffers, listRoom, searchMatches, searchPlan, searchTable, searchRefused, searchAnswer}
 use Rattle.meaning_entries.specs.AuditText.{auditTextTable, textCall, auditTextAnswer, auditText}
-use Rattle.meaning_entries.specs.Program.{programTable, program}
+use Rattle.meaning_entries.specs.Program.{textProgram, programTable, printed, program}
 use Rattle.meaning_entries.specs.Demand1.{BuildRefuses, ExtendRefuses, AuditRefuses, WriteRefuses, LoadRefuses, SearchRefuses, AuditTextRefuses, ProgramRefuses}
 use Rattle.meaning_entries.proofs.Refusal.{openLines, First, here, later, is-first}
 use Rattle.meaning_entries.proofs.Pack.{audit-text-back}
@@ -151,5 +151,9 @@ program-by : (t : List ℕ) (n p : ℕ) → firstRefusal (programTable t) ≡ so
 unfolding program
 program-by t n p e = rw (e, program)
 
+program-free : (t : List ℕ) → firstRefusal (programTable t) ≡ none → program t ≡ printed (textProgram t)
+unfolding program
+program-free t e = rw (e, program)
+
 pub program-refuses : (t : List ℕ) → ProgramRefuses t (program t)
-program-refuses t = program-by t
+program-refuses t = record { refused = program-by t; free = program-free t }

@@ -6,6 +6,7 @@ pub mod Tables
 pub mod Looked
 pub mod Demand1
 pub mod Demand2
+pub mod Only
 pub mod Listed
 pub mod Pack
 pub mod Passes

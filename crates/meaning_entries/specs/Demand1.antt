@@ -1,7 +1,7 @@
 -- Demand 1: an entry refuses by the conditions of its table and by no others, for every input. (That it takes every input and ends is what a proved function without `requires` does.) Assumes nothing.
 use mathlib.Core.Path.{_≡_}
 use mathlib.Core.List.{List}
-use mathlib.Core.Option.{Option, some}
+use mathlib.Core.Option.{Option, none, some}
 use Prim.Native.Nat.{ℕ}
 use Rattle.meaning_rows.specs.Index.{Index}
 use Rattle.meaning_text.specs.Texts.{refusedText}
@@ -22,7 +22,7 @@ use Rattle.meaning_entries.specs.Write.{writeTable}
 use Rattle.meaning_entries.specs.Load.{loadTable}
 use Rattle.meaning_entries.specs.Search.{SearchCall, SearchBuffers, searchTable}
 use Rattle.meaning_entries.specs.AuditText.{auditTextTable, unpack}
-use Rattle.meaning_entries.specs.Program.{programTable}
+use Rattle.meaning_entries.specs.Program.{textProgram, programTable, printed}
 
 -- what an answer refuses by, if it does, is the first line of the table that applies, with its number and place; if none applies it does not refuse
 pub record Refuses (table : List Condition) (refusal : Option (ℕ × ℕ)) : Type 0 where
@@ -50,6 +50,7 @@ SearchRefuses c before answer = Refuses (searchTable c before) (foundRefusal ans
 abbrev pub AuditTextRefuses : List ℕ → List ℕ → ℕ → Type 0
 AuditTextRefuses index series answer = Refuses (auditTextTable index series) (auditedRefusal (unpack answer))
 
--- the search program prints its refusal
-abbrev pub ProgramRefuses : List ℕ → List ℕ → Type 0
-ProgramRefuses input output = (n p : ℕ) → firstRefusal (programTable input) ≡ some (n, p) → output ≡ refusedText n p
+-- the search program prints its refusal; where nothing refuses, the index and the list (law: `program-refuses-only`)
+pub record ProgramRefuses (input output : List ℕ) : Type 0 where
+  pub refused : (n p : ℕ) → firstRefusal (programTable input) ≡ some (n, p) → output ≡ refusedText n p
+  pub free : firstRefusal (programTable input) ≡ none → output ≡ printed (textProgram input)
