@@ -11,6 +11,7 @@ use Rattle.meaning_rows.specs.declared.Head.{Head}
 use Rattle.meaning_rows.specs.Index.{Index, lent}
 use Rattle.meaning_filter.specs.declared.Kind.{Kind}
 use Rattle.meaning_filter.specs.declared.Kind.the-variants.{Raw, Normal}
+use Rattle.meaning_filter.specs.declared.Ask.{Ask}
 use Rattle.meaning_text.specs.Bytes.{bytes}
 use Rattle.meaning_text.specs.Form.{spell}
 use Rattle.meaning_text.specs.Texts.{seriesForm}
@@ -21,12 +22,12 @@ use Rattle.meaning_entries.specs.declared.Written.{Written}
 use Rattle.meaning_entries.specs.declared.Loaded.{Loaded}
 use Rattle.meaning_entries.specs.declared.Found.{Found}
 use Rattle.meaning_entries.specs.Buffers.{IndexBuffers}
-use Rattle.meaning_entries.specs.Build.{BuildCall, buildAnswer, buildAfter}
-use Rattle.meaning_entries.specs.Extend.{extendAnswer, extendAfter}
-use Rattle.meaning_entries.specs.Audit.{auditAnswer}
+use Rattle.meaning_entries.specs.Build.{BuildCall, lentBuild, buildAnswer, buildAfter}
+use Rattle.meaning_entries.specs.Extend.{ExtendCall, lentExtend, extendAnswer, extendAfter}
+use Rattle.meaning_entries.specs.Audit.{lentAudit, auditAnswer}
 use Rattle.meaning_entries.specs.Write.{writeAnswer, writeAfter}
 use Rattle.meaning_entries.specs.Load.{loadAnswer, loadAfter}
-use Rattle.meaning_entries.specs.Search.{SearchCall, SearchBuffers, searchAnswer, searchAfter}
+use Rattle.meaning_entries.specs.Search.{SearchCall, SearchBuffers, lentSearch, searchAnswer, searchAfter}
 use Rattle.meaning_entries.specs.AuditText.{auditTextAnswer, auditText, pack, unpack}
 use Rattle.meaning_entries.specs.Program.{program}
 
@@ -51,7 +52,7 @@ loaded (Loaded.Index h rows runs) = head h ++ (rows ∷ runs ∷ [])
 loaded (Loaded.Refused n p) = n ∷ p ∷ []
 
 written : Written → List ℕ
-written (Written.Text length) = length ∷ []
+written (Written.Text bytes) = bytes ∷ []
 written (Written.Refused n p) = n ∷ p ∷ []
 
 audited : Audited → List ℕ
@@ -110,6 +111,10 @@ builds : BuildCall → IndexBuffers → List ℕ → List ℕ → Bool
 unfolding same built indexBuffers
 builds c b answer after = same (built (buildAnswer c b)) answer && same (indexBuffers (buildAfter c b)) after
 
+extends : ExtendCall → IndexBuffers → List ℕ → List ℕ → Bool
+unfolding same grown indexBuffers
+extends c b answer after = same (grown (extendAnswer c b)) answer && same (indexBuffers (extendAfter c b)) after
+
 -- a straight search with a = 10, h = 0
 searchIn : List ℤ → Index → Kind → List ℤ → ℤ → SearchCall
 searchIn s x kind q E = record {
@@ -150,8 +155,16 @@ packs a = same (audited (unpack (pack a))) (audited a)
 other : List Row → List ℕ → List ℕ → Index
 other rows left right = lent (record { window = 2; width = 2; windows = 4 }) rows left right
 
+-- w = 2, d = 3, so many windows
+apart : ℕ → Head
+apart windows = record { window = 2; width = 3; windows = windows }
+
+-- b = 1, E = 0, a = 20, h = 2
+asks : Kind → Ask
+asks kind = record { kind = kind; limits = record { band = 1; threshold = 0; scale = 20; shift = 2 } }
+
 unfoldable pub calls : List Bool
-unfolding worked workedIndex row build builds searchIn searchFor lists finds audits packs other sevens same grown loaded written
+unfolding worked workedIndex row build builds extends searchIn searchFor lists finds audited audits packs other apart asks sevens same grown loaded written
 calls =
     -- build: success, unused entries 0, also past the shorter slice; refused, nothing altered
     builds (build worked (pos 2) (pos 2) (pos 80)) (sevens 4 4 5) (2 ∷ 2 ∷ 4 ∷ 2 ∷ 2 ∷ [])
@@ -165,8 +178,7 @@ calls =
     ∷ builds (build (pos 1 ∷ pos 10001 ∷ []) (pos 6) (pos 0) (pos 101)) (sevens 0 0 0) (2 ∷ 1 ∷ []) []
     ∷ builds (build [] (pos 6) (pos 0) (pos 101)) (sevens 0 0 0) (1 ∷ 0 ∷ []) []
     -- extend: equal window counts give a copy
-    ∷ same (grown (extendAnswer (record { series = worked; index = workedIndex }) (sevens 4 4 4))) (2 ∷ 2 ∷ 4 ∷ 2 ∷ 2 ∷ [])
-    ∷ same (indexBuffers (extendAfter (record { series = worked; index = workedIndex }) (sevens 4 4 4)))
+    ∷ extends (record { series = worked; index = workedIndex }) (sevens 4 4 4) (2 ∷ 2 ∷ 4 ∷ 2 ∷ 2 ∷ [])
     (2 ∷ 4 ∷ 0 ∷ 1 ∷ 4 ∷ 8 ∷ 1 ∷ 1 ∷ 0 ∷ 0 ∷ 0 ∷ 0 ∷ 0 ∷ 0 ∷ 0 ∷ 0 ∷ 0 ∷ 1 ∷ 0 ∷ 0 ∷ 0 ∷ 3 ∷ 0 ∷ 0 ∷ [])
     ∷ same (grown (extendAnswer (record { series = pos 1 ∷ pos 2 ∷ []; index = workedIndex }) (sevens 0 0 0))) (22 ∷ 0 ∷ [])
     ∷ same (grown (extendAnswer (record { series = worked; index = workedIndex }) (sevens 4 3 4))) (23 ∷ 0 ∷ [])
@@ -214,6 +226,21 @@ calls =
     ∷ finds (searchFor (lent (record { window = 0; width = 2; windows = 4 }) [] [] []) Raw (pos 2 ∷ pos 4 ∷ []) (pos 0)) (lists 0 0 0) (20 ∷ 0 ∷ []) []
     ∷ finds (searchFor workedIndex Normal (pos 5 ∷ pos 5 ∷ []) (pos 0)) (lists 0 0 0) (11 ∷ 0 ∷ []) []
     ∷ finds (searchFor workedIndex Raw [] (pos 0)) (lists 0 0 0) (6 ∷ 0 ∷ []) []
+    -- each slice of a pair too short by itself; scratch holds windows, and not offsets, where m is above w
+    ∷ builds (build worked (pos 2) (pos 2) (pos 80)) (sevens 4 3 4) (23 ∷ 0 ∷ []) (replicate 23 7)
+    ∷ extends (record { series = worked; index = workedIndex }) (sevens 4 4 3) (23 ∷ 0 ∷ []) (replicate 23 7)
+    ∷ same (loaded (loadAnswer (bytes "(index (window 2) (width 2) (windows 4)\n(row 2 4 (0 0))\n(row 4 8 (1 3))\n)\n") (sevens 2 1 2))) (23 ∷ 0 ∷ [])
+    ∷ finds (searchFor workedIndex Raw (pos 2 ∷ pos 4 ∷ []) (pos 5)) (record { left = replicate 4 7; right = replicate 3 7; scratch = replicate 4 7; offsets = []; distances = [] }) (23 ∷ 0 ∷ []) (replicate 11 7)
+    ∷ finds (searchFor workedIndex Raw (pos 2 ∷ pos 4 ∷ []) (pos 5)) (record { left = replicate 3 7; right = replicate 4 7; scratch = replicate 4 7; offsets = []; distances = [] }) (23 ∷ 0 ∷ []) (replicate 11 7)
+    ∷ finds (searchIn (pos 1 ∷ pos 2 ∷ []) (lent (record { window = 1; width = 1; windows = 2 }) (row (pos 1) (pos 2) 0 1 ∷ row (pos 2) (pos 3) 1 1 ∷ []) (0 ∷ 1 ∷ []) (0 ∷ 1 ∷ [])) Raw (pos 1 ∷ pos 2 ∷ []) (pos 0)) (lists 2 1 1) (23 ∷ 0 ∷ []) (replicate 7 7)
+    -- lent calls: w and d, both columns, b and E, a and h are apart
+    ∷ builds (lentBuild worked 2 3 0) (sevens 4 4 4) (2 ∷ 3 ∷ 4 ∷ 2 ∷ 3 ∷ [])
+    (3 ∷ 6 ∷ 0 ∷ 2 ∷ 6 ∷ 9 ∷ 2 ∷ 1 ∷ 0 ∷ 0 ∷ 0 ∷ 0 ∷ 0 ∷ 0 ∷ 0 ∷ 0 ∷ 0 ∷ 3 ∷ 1 ∷ 0 ∷ 0 ∷ 3 ∷ 2 ∷ 0 ∷ [])
+    ∷ extends (lentExtend (worked ++ (pos 1 ∷ [])) (apart 4) (row (pos 3) (pos 6) 0 2 ∷ row (pos 6) (pos 9) 2 1 ∷ []) (0 ∷ 3 ∷ 1 ∷ []) (0 ∷ 3 ∷ 2 ∷ [])) (sevens 5 5 5) (2 ∷ 3 ∷ 5 ∷ 3 ∷ 4 ∷ [])
+    (0 ∷ 3 ∷ 0 ∷ 1 ∷ 3 ∷ 6 ∷ 1 ∷ 2 ∷ 6 ∷ 9 ∷ 3 ∷ 1 ∷ 0 ∷ 0 ∷ 0 ∷ 0 ∷ 0 ∷ 0 ∷ 0 ∷ 0 ∷ 4 ∷ 0 ∷ 3 ∷ 1 ∷ 0 ∷ 4 ∷ 0 ∷ 3 ∷ 2 ∷ 0 ∷ [])
+    ∷ same (audited (auditAnswer (lentAudit worked (apart 4) (row (pos 3) (pos 6) 0 2 ∷ row (pos 6) (pos 9) 2 1 ∷ []) (0 ∷ 3 ∷ 1 ∷ []) (0 ∷ 3 ∷ 2 ∷ [])))) []
+    ∷ finds (lentSearch (pos 0 ∷ pos 2 ∷ pos 0 ∷ []) (apart 2) (row (pos 0) (pos 3) 0 1 ∷ []) (0 ∷ []) (1 ∷ []) (asks Normal) (pos 0 ∷ pos 1 ∷ [])) (lists 2 2 1) (0 ∷ 2 ∷ 1 ∷ []) (0 ∷ 0 ∷ 1 ∷ 0 ∷ 0 ∷ 0 ∷ 0 ∷ 0 ∷ [])
+    ∷ finds (lentSearch (pos 0 ∷ pos 2 ∷ pos 0 ∷ []) (apart 2) (row (pos 0) (pos 3) 0 1 ∷ []) (0 ∷ []) (1 ∷ []) (asks Raw) (pos 0 ∷ pos 1 ∷ [])) (lists 2 2 1) (0 ∷ 2 ∷ 0 ∷ []) (0 ∷ 0 ∷ 1 ∷ 0 ∷ 0 ∷ 0 ∷ 0 ∷ 0 ∷ [])
     -- the audit of two texts takes 4,096 values and no more; the index is of another series
     ∷ same (audited (auditTextAnswer (bytes "(index (window 1) (width 1) (windows 1)\n)\n") (spell seriesForm (replicate 4096 (pos 0))))) (3 ∷ 21 ∷ 0 ∷ [])
     ∷ same (audited (auditTextAnswer (bytes "(index (window 1) (width 1) (windows 1)\n)\n") (spell seriesForm (replicate 4097 (pos 0))))) (3 ∷ 1 ∷ 0 ∷ [])

@@ -64,4 +64,10 @@ edges =
     "(refused 10 0)\n" ∷
     prints "(window 1)\n(width 1)\n(merge 0)\n(series 0)\n(find raw 0 0 10 20001 (query 0))\n"
     "(refused 10 0)\n" ∷
+    -- the low end of a normalised range, with X one lower, would admit one
+    prints "(window 1)\n(width 1)\n(merge 0)\n(series 0 1 3)\n(find normal 0 5 13 0 (query 0 1 4))\n"
+    "(index (window 1) (width 1) (windows 3)\n(row 0 1 (0 0))\n(row 1 2 (1 1))\n(row 3 4 (2 2))\n)\n(found 0 (candidates 0)\n)\n" ∷
+    -- and one lower itself
+    prints "(window 1)\n(width 1)\n(merge 0)\n(series -1 1)\n(find normal 0 0 10 0 (query 0 1))\n"
+    "(index (window 1) (width 1) (windows 2)\n(row -1 0 (0 0))\n(row 1 2 (1 1))\n)\n(found 0 (candidates 0)\n)\n" ∷
     []

@@ -1,51 +1,82 @@
--- Demand 3 is not empty: searches that it speaks of exist. Of the worked series, through the indexes built with g = 80 and g = 0, a raw straight search and a normalised warped one. By computation. Assumes nothing.
-use mathlib.Core.Path.{refl}
+-- Demand 3 is not empty: searches that it speaks of exist. Of the worked series, all four queries, each through two indexes with other w, d and g. By computation. Assumes nothing.
+use mathlib.Core.Path.{_≡_, refl}
 use mathlib.Core.List.{List, [], _∷_}
 use Prim.Native.Nat.{ℕ}
 use lib.IntN.{ℤ, pos}
-use lib.ListN.{replicate}
+use lib.ListN.{replicate, take}
+use Rattle.meaning_rows.specs.Index.{Index}
 use Rattle.meaning_rows.specs.Build.{built}
 use Rattle.meaning_filter.specs.declared.Kind.{Kind}
 use Rattle.meaning_filter.specs.declared.Kind.the-variants.{Raw, Normal}
 use Rattle.meaning_entries.specs.declared.Found.{Found}
-use Rattle.meaning_entries.specs.Search.{SearchCall, SearchBuffers, searchAfter}
-use Rattle.meaning_entries.specs.Demand3.{Searched}
+use Rattle.meaning_entries.specs.Audit.{Passes}
+use Rattle.meaning_entries.specs.Search.{SearchCall, SearchBuffers, searchAnswer, searchAfter}
+use Rattle.meaning_entries.specs.Demand3.{pairs, Searched}
 use Rattle.meaning_entries.proofs.Open.{openEntries}
 use Rattle.meaning_entries.proofs.Demand2.{search-kept}
 
 series : List ℤ
 series = pos 1 ∷ pos 2 ∷ pos 4 ∷ pos 3 ∷ pos 1 ∷ []
 
--- a search through the index built with merge percentage g
-search : ℕ → Kind → ℤ → ℤ → ℤ → SearchCall
-search g kind band threshold shift = record {
+-- w, d and g are 2, 2 and 80
+merged : Index
+unfolding series
+merged = built series 2 2 80
+
+-- w, d and g are 1, 1 and 0
+single : Index
+unfolding series
+single = built series 1 1 0
+
+search : Index → Kind → ℤ → ℤ → ℤ → SearchCall
+search x kind band threshold shift = record {
   series = series;
-  index = built series 2 2 g;
+  index = x;
   query = pos 2 ∷ pos 4 ∷ [];
   ask = record { kind = kind; band = band; threshold = threshold; scale = pos 20; shift = shift };
 }
 
 room : SearchBuffers
-room = record { left = replicate 4 7; right = replicate 4 7; scratch = replicate 4 7; offsets = replicate 4 7; distances = replicate 4 7 }
+room = record { left = replicate 5 7; right = replicate 5 7; scratch = replicate 5 7; offsets = replicate 4 7; distances = replicate 4 7 }
 
 unfoldable openWitness : Unit {0}
-unfolding openEntries series search room
+unfolding openEntries series merged single search room
 openWitness = tt
 
-raw : Searched (search 80 Raw (pos 0) (pos 5) (pos 0)) 3 ((0, 5) ∷ (1, 0) ∷ (2, 5) ∷ [])
-unfolding openWitness
-raw =
-    let c = search 80 Raw (pos 0) (pos 5) (pos 0) in
-    record { passes = refl; before = room; after = searchAfter c room; candidates = 4; kept = search-kept c room (Found.All 4 3) (searchAfter c room) refl refl; listed = refl }
+-- a search with the list's first entries, by what it computes to
+searched : (c : SearchCall) (candidates count : ℕ) (list : List (ℕ × ℕ)) → Passes (c .index) (c .series) → Found.All candidates count ≡ searchAnswer c room →
+    list ≡ take count (pairs (searchAfter c room .offsets) (searchAfter c room .distances)) → Searched c count list
+searched c candidates count list p e l =
+    record { passes = p; before = room; after = searchAfter c room; candidates = candidates; kept = search-kept c room (Found.All candidates count) (searchAfter c room) e refl; listed = l }
 
-raw-again : Searched (search 0 Raw (pos 0) (pos 5) (pos 0)) 3 ((0, 5) ∷ (1, 0) ∷ (2, 5) ∷ [])
+raw-straight : Searched (search merged Raw (pos 0) (pos 5) (pos 0)) 3 ((0, 5) ∷ (1, 0) ∷ (2, 5) ∷ [])
 unfolding openWitness
-raw-again =
-    let c = search 0 Raw (pos 0) (pos 5) (pos 0) in
-    record { passes = refl; before = room; after = searchAfter c room; candidates = 4; kept = search-kept c room (Found.All 4 3) (searchAfter c room) refl refl; listed = refl }
+raw-straight = searched _ 4 3 _ refl refl refl
 
-normal : Searched (search 80 Normal (pos 1) (pos 0) (pos 2)) 2 ((0, 0) ∷ (1, 0) ∷ [])
+raw-straight-again : Searched (search single Raw (pos 0) (pos 5) (pos 0)) 3 ((0, 5) ∷ (1, 0) ∷ (2, 5) ∷ [])
 unfolding openWitness
-normal =
-    let c = search 80 Normal (pos 1) (pos 0) (pos 2) in
-    record { passes = refl; before = room; after = searchAfter c room; candidates = 4; kept = search-kept c room (Found.All 4 2) (searchAfter c room) refl refl; listed = refl }
+raw-straight-again = searched _ 3 3 _ refl refl refl
+
+raw-warped : Searched (search merged Raw (pos 1) (pos 4) (pos 0)) 1 ((1, 0) ∷ [])
+unfolding openWitness
+raw-warped = searched _ 4 1 _ refl refl refl
+
+raw-warped-again : Searched (search single Raw (pos 1) (pos 4) (pos 0)) 1 ((1, 0) ∷ [])
+unfolding openWitness
+raw-warped-again = searched _ 4 1 _ refl refl refl
+
+normal-straight : Searched (search merged Normal (pos 0) (pos 0) (pos 2)) 2 ((0, 0) ∷ (1, 0) ∷ [])
+unfolding openWitness
+normal-straight = searched _ 4 2 _ refl refl refl
+
+normal-straight-again : Searched (search single Normal (pos 0) (pos 0) (pos 2)) 2 ((0, 0) ∷ (1, 0) ∷ [])
+unfolding openWitness
+normal-straight-again = searched _ 3 2 _ refl refl refl
+
+normal-warped : Searched (search merged Normal (pos 1) (pos 0) (pos 2)) 2 ((0, 0) ∷ (1, 0) ∷ [])
+unfolding openWitness
+normal-warped = searched _ 4 2 _ refl refl refl
+
+normal-warped-again : Searched (search single Normal (pos 1) (pos 0) (pos 2)) 2 ((0, 0) ∷ (1, 0) ∷ [])
+unfolding openWitness
+normal-warped-again = searched _ 4 2 _ refl refl refl

@@ -25,7 +25,7 @@ pub record LoadTold (text : List ℕ) (before : IndexBuffers) (answer : Answer) 
 
 -- 0: the text's length; 3: the refusal's number and place
 unfoldable pub toldWritten : Written → Answer
-toldWritten (Written.Text length) = numbersOf 0 length 0
+toldWritten (Written.Text bytes) = numbersOf 0 bytes 0
 toldWritten (Written.Refused number place) = numbersOf 3 number place
 
 -- the answer of a writing is told, and the text is as it leaves it
