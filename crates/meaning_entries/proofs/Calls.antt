@@ -111,9 +111,9 @@ builds : BuildCall → IndexBuffers → List ℕ → List ℕ → Bool
 unfolding same built indexBuffers
 builds c b answer after = same (built (buildAnswer c b)) answer && same (indexBuffers (buildAfter c b)) after
 
-extends : ExtendCall → IndexBuffers → List ℕ → List ℕ → Bool
+grows : ExtendCall → IndexBuffers → List ℕ → List ℕ → Bool
 unfolding same grown indexBuffers
-extends c b answer after = same (grown (extendAnswer c b)) answer && same (indexBuffers (extendAfter c b)) after
+grows c b answer after = same (grown (extendAnswer c b)) answer && same (indexBuffers (extendAfter c b)) after
 
 -- a straight search with a = 10, h = 0
 searchIn : List ℤ → Index → Kind → List ℤ → ℤ → SearchCall
@@ -164,7 +164,7 @@ asks : Kind → Ask
 asks kind = record { kind = kind; limits = record { band = 1; threshold = 0; scale = 20; shift = 2 } }
 
 unfoldable pub calls : List Bool
-unfolding worked workedIndex row build builds extends searchIn searchFor lists finds audited audits packs other apart asks sevens same grown loaded written
+unfolding worked workedIndex row build builds grows searchIn searchFor lists finds audited audits packs other apart asks sevens same grown loaded written
 calls =
     -- build: success, unused entries 0, also past the shorter slice; refused, nothing altered
     builds (build worked (pos 2) (pos 2) (pos 80)) (sevens 4 4 5) (2 ∷ 2 ∷ 4 ∷ 2 ∷ 2 ∷ [])
@@ -178,7 +178,7 @@ calls =
     ∷ builds (build (pos 1 ∷ pos 10001 ∷ []) (pos 6) (pos 0) (pos 101)) (sevens 0 0 0) (2 ∷ 1 ∷ []) []
     ∷ builds (build [] (pos 6) (pos 0) (pos 101)) (sevens 0 0 0) (1 ∷ 0 ∷ []) []
     -- extend: equal window counts give a copy
-    ∷ extends (record { series = worked; index = workedIndex }) (sevens 4 4 4) (2 ∷ 2 ∷ 4 ∷ 2 ∷ 2 ∷ [])
+    ∷ grows (record { series = worked; index = workedIndex }) (sevens 4 4 4) (2 ∷ 2 ∷ 4 ∷ 2 ∷ 2 ∷ [])
     (2 ∷ 4 ∷ 0 ∷ 1 ∷ 4 ∷ 8 ∷ 1 ∷ 1 ∷ 0 ∷ 0 ∷ 0 ∷ 0 ∷ 0 ∷ 0 ∷ 0 ∷ 0 ∷ 0 ∷ 1 ∷ 0 ∷ 0 ∷ 0 ∷ 3 ∷ 0 ∷ 0 ∷ [])
     ∷ same (grown (extendAnswer (record { series = pos 1 ∷ pos 2 ∷ []; index = workedIndex }) (sevens 0 0 0))) (22 ∷ 0 ∷ [])
     ∷ same (grown (extendAnswer (record { series = worked; index = workedIndex }) (sevens 4 3 4))) (23 ∷ 0 ∷ [])
@@ -228,7 +228,7 @@ calls =
     ∷ finds (searchFor workedIndex Raw [] (pos 0)) (lists 0 0 0) (6 ∷ 0 ∷ []) []
     -- each slice of a pair too short by itself; scratch holds windows, and not offsets, where m is above w
     ∷ builds (build worked (pos 2) (pos 2) (pos 80)) (sevens 4 3 4) (23 ∷ 0 ∷ []) (replicate 23 7)
-    ∷ extends (record { series = worked; index = workedIndex }) (sevens 4 4 3) (23 ∷ 0 ∷ []) (replicate 23 7)
+    ∷ grows (record { series = worked; index = workedIndex }) (sevens 4 4 3) (23 ∷ 0 ∷ []) (replicate 23 7)
     ∷ same (loaded (loadAnswer (bytes "(index (window 2) (width 2) (windows 4)\n(row 2 4 (0 0))\n(row 4 8 (1 3))\n)\n") (sevens 2 1 2))) (23 ∷ 0 ∷ [])
     ∷ finds (searchFor workedIndex Raw (pos 2 ∷ pos 4 ∷ []) (pos 5)) (record { left = replicate 4 7; right = replicate 3 7; scratch = replicate 4 7; offsets = []; distances = [] }) (23 ∷ 0 ∷ []) (replicate 11 7)
     ∷ finds (searchFor workedIndex Raw (pos 2 ∷ pos 4 ∷ []) (pos 5)) (record { left = replicate 3 7; right = replicate 4 7; scratch = replicate 4 7; offsets = []; distances = [] }) (23 ∷ 0 ∷ []) (replicate 11 7)
@@ -236,7 +236,7 @@ calls =
     -- lent calls: w and d, both columns, b and E, a and h are apart
     ∷ builds (lentBuild worked 2 3 0) (sevens 4 4 4) (2 ∷ 3 ∷ 4 ∷ 2 ∷ 3 ∷ [])
     (3 ∷ 6 ∷ 0 ∷ 2 ∷ 6 ∷ 9 ∷ 2 ∷ 1 ∷ 0 ∷ 0 ∷ 0 ∷ 0 ∷ 0 ∷ 0 ∷ 0 ∷ 0 ∷ 0 ∷ 3 ∷ 1 ∷ 0 ∷ 0 ∷ 3 ∷ 2 ∷ 0 ∷ [])
-    ∷ extends (lentExtend (worked ++ (pos 1 ∷ [])) (apart 4) (row (pos 3) (pos 6) 0 2 ∷ row (pos 6) (pos 9) 2 1 ∷ []) (0 ∷ 3 ∷ 1 ∷ []) (0 ∷ 3 ∷ 2 ∷ [])) (sevens 5 5 5) (2 ∷ 3 ∷ 5 ∷ 3 ∷ 4 ∷ [])
+    ∷ grows (lentExtend (worked ++ (pos 1 ∷ [])) (apart 4) (row (pos 3) (pos 6) 0 2 ∷ row (pos 6) (pos 9) 2 1 ∷ []) (0 ∷ 3 ∷ 1 ∷ []) (0 ∷ 3 ∷ 2 ∷ [])) (sevens 5 5 5) (2 ∷ 3 ∷ 5 ∷ 3 ∷ 4 ∷ [])
     (0 ∷ 3 ∷ 0 ∷ 1 ∷ 3 ∷ 6 ∷ 1 ∷ 2 ∷ 6 ∷ 9 ∷ 3 ∷ 1 ∷ 0 ∷ 0 ∷ 0 ∷ 0 ∷ 0 ∷ 0 ∷ 0 ∷ 0 ∷ 4 ∷ 0 ∷ 3 ∷ 1 ∷ 0 ∷ 4 ∷ 0 ∷ 3 ∷ 2 ∷ 0 ∷ [])
     ∷ same (audited (auditAnswer (lentAudit worked (apart 4) (row (pos 3) (pos 6) 0 2 ∷ row (pos 6) (pos 9) 2 1 ∷ []) (0 ∷ 3 ∷ 1 ∷ []) (0 ∷ 3 ∷ 2 ∷ [])))) []
     ∷ finds (lentSearch (pos 0 ∷ pos 2 ∷ pos 0 ∷ []) (apart 2) (row (pos 0) (pos 3) 0 1 ∷ []) (0 ∷ []) (1 ∷ []) (asks Normal) (pos 0 ∷ pos 1 ∷ [])) (lists 2 2 1) (0 ∷ 2 ∷ 1 ∷ []) (0 ∷ 0 ∷ 1 ∷ 0 ∷ 0 ∷ 0 ∷ 0 ∷ 0 ∷ [])

@@ -64,6 +64,18 @@ edges =
     "(refused 10 0)\n" ∷
     prints "(window 1)\n(width 1)\n(merge 0)\n(series 0)\n(find raw 0 0 10 20001 (query 0))\n"
     "(refused 10 0)\n" ∷
+    -- a run that begins below 0
+    audits "(index (window 2) (width 2) (windows 4)\n(row 2 4 (-1 0))\n(row 4 8 (1 3))\n)\n" "(series 1 2 4 3 1)\n" "(refused 20 0)\n" ∷
+    -- a row without runs: an unreadable series line and a bad value come first
+    audits "(index (window 2) (width 2) (windows 4)\n(row 2 4)\n)\n" "(series 1 2 4 3 1)" "(refused 12 4)\n" ∷
+    audits "(index (window 2) (width 2) (windows 4)\n(row 2 4)\n)\n" "(series 1 10001 4 3 1)\n" "(refused 2 1)\n" ∷
+    -- two offsets filed wrongly: the first is told
+    audits "(index (window 1) (width 1) (windows 3)\n(row 0 1 (0 1))\n(row 1 2 (2 2))\n)\n" "(series 0 5 5)\n" "(wrong 0 1)\n" ∷
+    -- normalised values one hundredth apart: E = 1 admits, E = 0 does not
+    prints "(window 3)\n(width 1)\n(merge 0)\n(series 0 1 12)\n(find normal 0 1 100 1 (query 0 1 13))\n"
+    "(index (window 3) (width 1) (windows 1)\n(row 13 14 (0 0))\n)\n(found 1 (candidates 1)\n(at 0 1)\n)\n" ∷
+    prints "(window 3)\n(width 1)\n(merge 0)\n(series 0 1 12)\n(find normal 0 0 100 1 (query 0 1 13))\n"
+    "(index (window 3) (width 1) (windows 1)\n(row 13 14 (0 0))\n)\n(found 0 (candidates 1)\n)\n" ∷
     -- the low end of a normalised range, with X one lower, would admit one
     prints "(window 1)\n(width 1)\n(merge 0)\n(series 0 1 3)\n(find normal 0 5 13 0 (query 0 1 4))\n"
     "(index (window 1) (width 1) (windows 3)\n(row 0 1 (0 0))\n(row 1 2 (1 1))\n(row 3 4 (2 2))\n)\n(found 0 (candidates 0)\n)\n" ∷
