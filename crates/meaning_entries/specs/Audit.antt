@@ -51,6 +51,13 @@ unfoldable pub missingIn : Option (ℕ × ℕ) → AuditCall → ℕ
 missingIn (some r) c = 0
 missingIn none c = elim (firstWrong (c .index) (c .series)) [ some x ↦ 0 | none ↦ missing (c .index) ]
 
+-- both of the entry
+abbrev pub auditWrong : AuditCall → Option (ℕ × ℕ)
+auditWrong c = wrongIn (firstRefusal (auditTable mostValues c)) c
+
+abbrev pub auditMissing : AuditCall → ℕ
+auditMissing c = missingIn (firstRefusal (auditTable mostValues c)) c
+
 -- 01, Rows: an index passes against a series exactly if the audit of the two, over lent rows, is not refused and says yes; here of any index, lent ones among them (law: `passed`)
 abbrev pub Passes : Index → List ℤ → Type 0
 Passes x s = auditAnswer (record { series = s; index = x }) ≡ Audited.Yes

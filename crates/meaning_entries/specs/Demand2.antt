@@ -16,7 +16,7 @@ use Rattle.meaning_entries.specs.Buffers.{IndexBuffers}
 use Rattle.meaning_entries.specs.Answers.{builtRefusal, builtHead, builtCounts, extendedRefusal, extendedHead, extendedCounts, auditedRefusal, wrongPlace, missingCount, writtenRefusal, writtenCount, loadedRefusal, loadedHead, loadedCounts, foundRefusal, foundCounts}
 use Rattle.meaning_entries.specs.Build.{BuildCall, buildRefusal, buildAnswer, buildHead, buildCounts, buildAfter}
 use Rattle.meaning_entries.specs.Extend.{ExtendCall, extendRefusal, extendAnswer, extendHead, extendCounts, extendAfter}
-use Rattle.meaning_entries.specs.Audit.{AuditCall, auditTable, auditAnswer, wrongIn, missingIn}
+use Rattle.meaning_entries.specs.Audit.{AuditCall, auditTable, auditAnswer, wrongIn, missingIn, auditWrong, auditMissing}
 use Rattle.meaning_entries.specs.Write.{writeRefusal, writeAnswer, writeCount, writeAfter}
 use Rattle.meaning_entries.specs.Load.{loadRefusal, loadAnswer, loadHead, loadCounts, loadAfter}
 use Rattle.meaning_entries.specs.Search.{SearchCall, SearchBuffers, searchRefusal, searchAnswer, searchCounts, searchAfter}
@@ -44,8 +44,8 @@ pub record ExtendKept (c : ExtendCall) (before : IndexBuffers) (answer : Extende
 pub record AuditKept (c : AuditCall) (answer : Audited) : Type 0 where
   pub answered : answer ≡ auditAnswer c
   pub refused : auditedRefusal answer ≡ firstRefusal (auditTable mostValues c)
-  pub wrong : wrongPlace answer ≡ wrongIn (firstRefusal (auditTable mostValues c)) c
-  pub counted : missingCount answer ≡ missingIn (firstRefusal (auditTable mostValues c)) c
+  pub wrong : wrongPlace answer ≡ auditWrong c
+  pub counted : missingCount answer ≡ auditMissing c
 
 pub record WriteKept (x : Index) (before : List ℕ) (answer : Written) (after : List ℕ) : Type 0 where
   pub answered : answer ≡ writeAnswer x before
