@@ -6,11 +6,13 @@ use mathlib.Core.Option.{none}
 use Prim.Native.Nat.{ℕ}
 use lib.ListN.{take}
 use Rattle.meaning_rows.specs.Index.{Index}
-use Rattle.meaning_entries.specs.Audit.{Passes}
+use Rattle.meaning_entries.specs.declared.Both.{Both}
+use Rattle.meaning_entries.specs.Answers.{bothRefusal, bothWrong, bothMissing, bothCounts, bothFound}
+use Rattle.meaning_entries.specs.Audit.{auditAnswer, Passes}
 use Rattle.meaning_entries.specs.Search.{SearchCall, SearchBuffers, searchRefusal, searchAnswer}
 use Rattle.meaning_entries.specs.Demand2.{SearchKept}
 use Rattle.meaning_entries.specs.Demand3.{pairs, through, SameMatches}
-use Rattle.demand.specs.declared.Both.{Both}
+use Rattle.meaning_entries.specs.Told.{auditOf, demandRefusal, demandWrong, demandMissing, demandCounts, demandFound}
 
 -- the first entries of a list buffer
 abbrev pub entries : ℕ → SearchBuffers → List (ℕ × ℕ)
@@ -27,11 +29,17 @@ pub record BothListed (c : SearchCall) (answer : Both) (after₁ after₂ : Sear
 pub record Demand3Kept (c : SearchCall) (x : Index) (before₁ before₂ : SearchBuffers) (answer : Both) (after₁ after₂ : SearchBuffers) : Type 0 where
   -- where both audits say yes and neither search is refused
   pub listed : Passes (c .index) (c .series) → Passes x (c .series) → searchRefusal c before₁ ≡ none → searchRefusal (through x c) before₂ ≡ none → BothListed c answer after₁ after₂
-  -- where not, the first that fails is named: the audits, then the searches
-  pub first-audit : (Passes (c .index) (c .series) → ⊥) → answer ≡ Both.FirstAudit
-  pub second-audit : Passes (c .index) (c .series) → (Passes x (c .series) → ⊥) → answer ≡ Both.SecondAudit
-  pub first-search : Passes (c .index) (c .series) → Passes x (c .series) → (searchRefusal c before₁ ≡ none → ⊥) → answer ≡ Both.FirstSearch
-  pub second-search : Passes (c .index) (c .series) → Passes x (c .series) → searchRefusal c before₁ ≡ none → (searchRefusal (through x c) before₂ ≡ none → ⊥) → answer ≡ Both.SecondSearch
+  -- where not, the first that fails is told, with all that it answered: the audits, then the searches
+  pub first-audit : (Passes (c .index) (c .series) → ⊥) → answer ≡ Both.FirstAudit (auditAnswer (auditOf c))
+  pub second-audit : Passes (c .index) (c .series) → (Passes x (c .series) → ⊥) → answer ≡ Both.SecondAudit (auditAnswer (auditOf (through x c)))
+  pub first-search : Passes (c .index) (c .series) → Passes x (c .series) → (searchRefusal c before₁ ≡ none → ⊥) → answer ≡ Both.FirstSearch (searchAnswer c before₁)
+  pub second-search : Passes (c .index) (c .series) → Passes x (c .series) → searchRefusal c before₁ ≡ none → (searchRefusal (through x c) before₂ ≡ none → ⊥) → answer ≡ Both.SecondSearch (searchAnswer (through x c) before₂)
+  -- this paper's number and place, wrong row and offset, windows that stand nowhere, matches of both lists, and true counts of 24
+  pub refused : bothRefusal answer ≡ demandRefusal c x before₁ before₂
+  pub wrong : bothWrong answer ≡ demandWrong c x before₁ before₂
+  pub missing : bothMissing answer ≡ demandMissing c x before₁ before₂
+  pub counted : bothCounts answer ≡ demandCounts c x before₁ before₂
+  pub found : bothFound answer ≡ demandFound c x before₁ before₂
   -- in any case all buffers are as each search leaves them
   pub first : SearchKept c before₁ (searchAnswer c before₁) after₁
   pub second : SearchKept (through x c) before₂ (searchAnswer (through x c) before₂) after₂

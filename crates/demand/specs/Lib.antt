@@ -1,3 +1,2 @@
 -- What the contracts of demand 3 of the code cite.
-pub mod Told
 pub mod Both

@@ -1,6 +1,7 @@
 // Demand 3 of the code (01, Candidates): one series audited against two lent indexes, and searched for one query through both.
 use audit::audit;
 use meaning_entries::Audited;
+use meaning_entries::Both;
 use meaning_entries::Found;
 use meaning_filter::Ask;
 use meaning_rows::Head;
@@ -9,18 +10,9 @@ use search::search;
 ghost use mathlib.Core.Path.{_≡_};
 ghost use Rattle.meaning_rows.specs.Index.{lent};
 ghost use Rattle.meaning_entries.specs.Search.{lentSearch};
+ghost use Rattle.meaning_entries.specs.Told.{yes, toldSecond, toldFound, told};
 ghost use Rattle.search.specs.Refused.{buffers};
 ghost use Rattle.demand.specs.Both.{Demand3Kept};
-ghost use Rattle.demand.specs.Told.{yes, toldSecond, toldFound, told};
-
-// Both searches listed their matches, so many; or else what stood first in the way: an audit that did not say yes, a search that was refused.
-pub enum Both {
-    Listed { first: usize, second: usize },
-    FirstAudit,
-    SecondAudit,
-    FirstSearch,
-    SecondSearch,
-}
 
 // An audit says yes.
 fn says_yes(a: Audited) -> bool
@@ -49,8 +41,8 @@ fn tell_second(count: usize, second: Found) -> Both
         Found::Full {
             candidates,
             matches,
-        } => Both::SecondSearch,
-        Found::Refused { number, place } => Both::SecondSearch,
+        } => Both::SecondSearch { found: second },
+        Found::Refused { number, place } => Both::SecondSearch { found: second },
     }
 }
 
@@ -66,8 +58,8 @@ fn tell_found(first: Found, second: Found) -> Both
         Found::Full {
             candidates,
             matches,
-        } => Both::FirstSearch,
-        Found::Refused { number, place } => Both::FirstSearch,
+        } => Both::FirstSearch { found: first },
+        Found::Refused { number, place } => Both::FirstSearch { found: first },
     }
 }
 
@@ -76,10 +68,10 @@ fn tell(one: Audited, two: Audited, first: Found, second: Found) -> Both
     ensures { λ b. ⌜ b ≡ told one two first second ⌝ }
 {
     if !says_yes(one) {
-        return Both::FirstAudit;
+        return Both::FirstAudit { audited: one };
     }
     if !says_yes(two) {
-        return Both::SecondAudit;
+        return Both::SecondAudit { audited: two };
     }
     tell_found(first, second)
 }

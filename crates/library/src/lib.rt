@@ -1,10 +1,10 @@
 // The library under one roof: the entries of document 01, and the types that they take and answer with.
 pub use audit::audit;
 pub use build_index::build;
-pub use demand::Both;
 pub use demand::demand;
 pub use extend_index::extend;
 pub use meaning_entries::Audited;
+pub use meaning_entries::Both;
 pub use meaning_entries::Built;
 pub use meaning_entries::Extended;
 pub use meaning_entries::Found;

@@ -21,6 +21,7 @@ use Rattle.meaning_entries.specs.declared.Audited.{Audited}
 use Rattle.meaning_entries.specs.declared.Written.{Written}
 use Rattle.meaning_entries.specs.declared.Loaded.{Loaded}
 use Rattle.meaning_entries.specs.declared.Found.{Found}
+use Rattle.meaning_entries.specs.declared.Both.{Both}
 use Rattle.meaning_entries.specs.Buffers.{IndexBuffers}
 use Rattle.meaning_entries.specs.Build.{BuildCall, lentBuild, buildAnswer, buildAfter}
 use Rattle.meaning_entries.specs.Extend.{ExtendCall, lentExtend, extendAnswer, extendAfter}
@@ -28,6 +29,7 @@ use Rattle.meaning_entries.specs.Audit.{lentAudit, auditAnswer}
 use Rattle.meaning_entries.specs.Write.{writeAnswer, writeAfter}
 use Rattle.meaning_entries.specs.Load.{loadAnswer, loadAfter}
 use Rattle.meaning_entries.specs.Search.{SearchCall, SearchBuffers, lentSearch, searchAnswer, searchAfter}
+use Rattle.meaning_entries.specs.Told.{demandAnswer}
 use Rattle.meaning_entries.specs.AuditText.{auditTextAnswer, auditText, pack, unpack}
 use Rattle.meaning_entries.specs.Program.{program}
 
@@ -65,6 +67,14 @@ found : Found → List ℕ
 found (Found.All candidates matches) = 0 ∷ candidates ∷ matches ∷ []
 found (Found.Full candidates matches) = 24 ∷ candidates ∷ matches ∷ []
 found (Found.Refused n p) = n ∷ p ∷ []
+
+both : Both → List ℕ
+unfolding audited found
+both (Both.Listed first second) = first ∷ second ∷ []
+both (Both.FirstAudit a) = 101 ∷ audited a
+both (Both.SecondAudit a) = 102 ∷ audited a
+both (Both.FirstSearch f) = 103 ∷ found f
+both (Both.SecondSearch f) = 104 ∷ found f
 
 -- a row by the sizes of its ends, its first and its runs
 records : List Row → List ℕ
@@ -147,6 +157,11 @@ audits : List ℤ → Index → List ℕ → Bool
 unfolding same audited
 audits s x answer = same (audited (auditAnswer (record { series = s; index = x }))) answer
 
+-- the query 4 3 with E = 0 in the worked series, through both indexes
+demands : Index → Index → SearchBuffers → SearchBuffers → List ℕ → Bool
+unfolding same both searchFor
+demands x y b₁ b₂ answer = same (both (demandAnswer (searchFor x Raw (pos 4 ∷ pos 3 ∷ []) (pos 0)) y b₁ b₂)) answer
+
 packs : Audited → Bool
 unfolding same audited
 packs a = same (audited (unpack (pack a))) (audited a)
@@ -163,8 +178,18 @@ apart windows = record { window = 2; width = 3; windows = windows }
 asks : Kind → Ask
 asks kind = record { kind = kind; limits = record { band = 1; threshold = 0; scale = 20; shift = 2 } }
 
+-- the index of the worked series at g = 0
+unmerged : Index
+unfolding row other
+unmerged = other (row (pos 2) (pos 4) 0 1 ∷ row (pos 4) (pos 6) 1 1 ∷ row (pos 6) (pos 8) 2 1 ∷ []) (0 ∷ 3 ∷ 1 ∷ []) (0 ∷ 3 ∷ 2 ∷ [])
+
+-- windows 1 to 3 stand in the row of window 0
+misfiled : Index
+unfolding row other
+misfiled = other (row (pos 2) (pos 4) 0 1 ∷ []) (0 ∷ []) (3 ∷ [])
+
 unfoldable pub calls : List Bool
-unfolding worked workedIndex row build builds grows searchIn searchFor lists finds audited audits packs other apart asks sevens same grown loaded written
+unfolding worked workedIndex row build builds grows searchIn searchFor lists finds audited audits demands packs other unmerged misfiled apart asks sevens same grown loaded written
 calls =
     -- build: success, unused entries 0, also past the shorter slice; refused, nothing altered
     builds (build worked (pos 2) (pos 2) (pos 80)) (sevens 4 4 5) (2 ∷ 2 ∷ 4 ∷ 2 ∷ 2 ∷ [])
@@ -241,6 +266,14 @@ calls =
     ∷ same (audited (auditAnswer (lentAudit worked (apart 4) (row (pos 3) (pos 6) 0 2 ∷ row (pos 6) (pos 9) 2 1 ∷ []) (0 ∷ 3 ∷ 1 ∷ []) (0 ∷ 3 ∷ 2 ∷ [])))) []
     ∷ finds (lentSearch (pos 0 ∷ pos 2 ∷ pos 0 ∷ []) (apart 2) (row (pos 0) (pos 3) 0 1 ∷ []) (0 ∷ []) (1 ∷ []) (asks Normal) (pos 0 ∷ pos 1 ∷ [])) (lists 2 2 1) (0 ∷ 2 ∷ 1 ∷ []) (0 ∷ 0 ∷ 1 ∷ 0 ∷ 0 ∷ 0 ∷ 0 ∷ 0 ∷ [])
     ∷ finds (lentSearch (pos 0 ∷ pos 2 ∷ pos 0 ∷ []) (apart 2) (row (pos 0) (pos 3) 0 1 ∷ []) (0 ∷ []) (1 ∷ []) (asks Raw) (pos 0 ∷ pos 1 ∷ [])) (lists 2 2 1) (0 ∷ 2 ∷ 0 ∷ []) (0 ∷ 0 ∷ 1 ∷ 0 ∷ 0 ∷ 0 ∷ 0 ∷ 0 ∷ [])
+    -- two audits and two searches: both list; the first audit, the second, the first search and the second in the way, each before those behind it
+    ∷ demands workedIndex unmerged (lists 4 4 4) (lists 4 4 1) (1 ∷ 1 ∷ [])
+    ∷ demands misfiled (other [] [] []) (lists 0 0 0) (lists 0 0 0) (101 ∷ 1 ∷ 0 ∷ 1 ∷ [])
+    ∷ demands workedIndex (other [] [] []) (lists 0 0 0) (lists 0 0 0) (102 ∷ 2 ∷ 4 ∷ [])
+    ∷ demands workedIndex (other (row (pos 2) (pos 2) 0 1 ∷ []) (0 ∷ []) (0 ∷ [])) (lists 0 0 0) (lists 0 0 0) (102 ∷ 3 ∷ 20 ∷ 0 ∷ [])
+    ∷ demands workedIndex unmerged (lists 4 4 0) (lists 0 0 0) (103 ∷ 24 ∷ 3 ∷ 1 ∷ [])
+    ∷ demands workedIndex unmerged (lists 4 4 1) (lists 3 4 1) (104 ∷ 23 ∷ 0 ∷ [])
+    ∷ demands workedIndex unmerged (lists 4 4 1) (lists 4 4 0) (104 ∷ 24 ∷ 2 ∷ 1 ∷ [])
     -- the audit of two texts takes 4,096 values and no more; the index is of another series
     ∷ same (audited (auditTextAnswer (bytes "(index (window 1) (width 1) (windows 1)\n)\n") (spell seriesForm (replicate 4096 (pos 0))))) (3 ∷ 21 ∷ 0 ∷ [])
     ∷ same (audited (auditTextAnswer (bytes "(index (window 1) (width 1) (windows 1)\n)\n") (spell seriesForm (replicate 4097 (pos 0))))) (3 ∷ 1 ∷ 0 ∷ [])

@@ -12,6 +12,7 @@ pub mod Pack
 pub mod Passes
 pub mod Full
 pub mod Demand3
+pub mod Told
 pub mod Witness
 pub mod Made
 pub mod Again

@@ -11,6 +11,7 @@ use Rattle.meaning_entries.specs.declared.Audited.{Audited}
 use Rattle.meaning_entries.specs.declared.Written.{Written}
 use Rattle.meaning_entries.specs.declared.Loaded.{Loaded}
 use Rattle.meaning_entries.specs.declared.Found.{Found}
+use Rattle.meaning_entries.specs.declared.Both.{Both}
 
 -- the head of an index that is well formed
 abbrev pub headOf : Index → Head
@@ -46,6 +47,14 @@ foundRefusal (Found.All candidates matches) = none
 foundRefusal (Found.Full candidates matches) = some (24, 0)
 foundRefusal (Found.Refused n p) = some (n, p)
 
+-- of the audit or search that stood in the way
+abbrev pub bothRefusal : Both → Option (ℕ × ℕ)
+bothRefusal (Both.Listed first second) = none
+bothRefusal (Both.FirstAudit a) = auditedRefusal a
+bothRefusal (Both.SecondAudit a) = auditedRefusal a
+bothRefusal (Both.FirstSearch f) = foundRefusal f
+bothRefusal (Both.SecondSearch f) = foundRefusal f
+
 -- ---- values
 
 -- the head of the index that stands in the buffers
@@ -67,6 +76,14 @@ wrongPlace Audited.Yes = none
 wrongPlace (Audited.Wrong row offset) = some (row, offset)
 wrongPlace (Audited.Missing count) = none
 wrongPlace (Audited.Refused n p) = none
+
+-- of the audit that stood in the way
+abbrev pub bothWrong : Both → Option (ℕ × ℕ)
+bothWrong (Both.Listed first second) = none
+bothWrong (Both.FirstAudit a) = wrongPlace a
+bothWrong (Both.SecondAudit a) = wrongPlace a
+bothWrong (Both.FirstSearch f) = none
+bothWrong (Both.SecondSearch f) = none
 
 -- ---- counts
 
@@ -102,3 +119,27 @@ abbrev pub foundCounts : Found → ℕ × ℕ
 foundCounts (Found.All candidates matches) = (candidates, matches)
 foundCounts (Found.Full candidates matches) = (candidates, matches)
 foundCounts (Found.Refused n p) = (0, 0)
+
+-- how many windows stand nowhere, of the audit that stood in the way
+abbrev pub bothMissing : Both → ℕ
+bothMissing (Both.Listed first second) = 0
+bothMissing (Both.FirstAudit a) = missingCount a
+bothMissing (Both.SecondAudit a) = missingCount a
+bothMissing (Both.FirstSearch f) = 0
+bothMissing (Both.SecondSearch f) = 0
+
+-- how many matches each of two lists has
+abbrev pub bothCounts : Both → ℕ × ℕ
+bothCounts (Both.Listed first second) = (first, second)
+bothCounts (Both.FirstAudit a) = (0, 0)
+bothCounts (Both.SecondAudit a) = (0, 0)
+bothCounts (Both.FirstSearch f) = (0, 0)
+bothCounts (Both.SecondSearch f) = (0, 0)
+
+-- how many candidates and matches, of the search that stood in the way
+abbrev pub bothFound : Both → ℕ × ℕ
+bothFound (Both.Listed first second) = (0, 0)
+bothFound (Both.FirstAudit a) = (0, 0)
+bothFound (Both.SecondAudit a) = (0, 0)
+bothFound (Both.FirstSearch f) = foundCounts f
+bothFound (Both.SecondSearch f) = foundCounts f

@@ -61,5 +61,14 @@ pub enum Found {
     Refused { number: u32, place: usize },
 }
 
+// Of two audits and two searches: both searches listed their matches, so many; or what stood first in the way answered, an audit that did not say yes or a search that was refused.
+pub enum Both {
+    Listed { first: usize, second: usize },
+    FirstAudit { audited: Audited },
+    SecondAudit { audited: Audited },
+    FirstSearch { found: Found },
+    SecondSearch { found: Found },
+}
+
 // A crate has one function at least.
 pub fn nothing() {}

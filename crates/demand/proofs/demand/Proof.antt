@@ -22,9 +22,9 @@ use Rattle.meaning_filter.proofs.Ask.Laws as Askᴸ
 use Rattle.meaning_entries.specs.declared.Audited.{Audited}
 use Rattle.meaning_entries.proofs.Audited as Auditedᵀ
 use Rattle.meaning_entries.proofs.Audited.Laws as Auditedᴸ
-use Rattle.demand.specs.declared.Both.{Both}
-use Rattle.demand.proofs.Both as Bothᵀ
-use Rattle.demand.proofs.Both.Laws as Bothᴸ
+use Rattle.meaning_entries.specs.declared.Both.{Both}
+use Rattle.meaning_entries.proofs.Both as Bothᵀ
+use Rattle.meaning_entries.proofs.Both.Laws as Bothᴸ
 use Rattle.meaning_entries.specs.declared.Found.{Found}
 use Rattle.meaning_entries.proofs.Found as Foundᵀ
 use Rattle.meaning_entries.proofs.Found.Laws as Foundᴸ

@@ -5,17 +5,17 @@ use mathlib.Core.Path.{_≡_, refl, sym, _∙_}
 use mathlib.Core.Bool.{true, false}
 use Rattle.meaning_entries.specs.declared.Audited.{Audited}
 use Rattle.meaning_entries.specs.declared.Found.{Found}
-use Rattle.demand.specs.declared.Both.{Both}
-use Rattle.demand.specs.Told.{yes, toldFound, told}
+use Rattle.meaning_entries.specs.declared.Both.{Both}
+use Rattle.meaning_entries.specs.Told.{yes, toldFound, told}
 use Rattle.demand.proofs.tell.Statement.{statement}
 use Rattle.demand.proofs.tell.Tie as tie
 
 module _ (one two : Audited) (first second : Found) where
-  first-no : yes one ≡ false → Both.FirstAudit ≡ told one two first second
+  first-no : yes one ≡ false → Both.FirstAudit one ≡ told one two first second
   unfolding told
   first-no e = rw e refl
 
-  second-no : yes one ≡ true → yes two ≡ false → Both.SecondAudit ≡ told one two first second
+  second-no : yes one ≡ true → yes two ≡ false → Both.SecondAudit two ≡ told one two first second
   unfolding told
   second-no e f = rw (e, f) refl
 
