@@ -45,7 +45,8 @@ module _ (c : SearchCall) (x : Index) (b₁ b₂ : SearchBuffers) (answer : Both
       (λ n. k .first-audit n ∙ sym (first-audit c x b₁ b₂ n))
 
   pub demand3-only : (answer ≡ demandAnswer c x b₁ b₂) × (after₁ ≡ searchAfter c b₁) × (after₂ ≡ searchAfter (through x c) b₂)
-  demand3-only =
-      (answer-only,
-      λ i. record { left = k .first .left i; right = k .first .right i; scratch = k .first .scratch i; offsets = k .first .offsets i; distances = k .first .distances i },
-      λ i. record { left = k .second .left i; right = k .second .right i; scratch = k .second .scratch i; offsets = k .second .offsets i; distances = k .second .distances i })
+  demand3-only = (
+    answer-only,
+    λ i. record { left = k .first .left i; right = k .first .right i; scratch = k .first .scratch i; offsets = k .first .offsets i; distances = k .first .distances i },
+    λ i. record { left = k .second .left i; right = k .second .right i; scratch = k .second .scratch i; offsets = k .second .offsets i; distances = k .second .distances i },
+  )

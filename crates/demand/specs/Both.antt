@@ -1,29 +1,23 @@
 -- Demand 3 of the code: one series, two lent indexes, one query and its limits. Both indexes are audited against the series, and the series is searched through both, each search with buffers of its own.
 -- `Demand3Kept` says what is answered, and what stands in all buffers at the end. 24 (a list too short) is a refusal. Assumes nothing.
 use mathlib.Core.Path.{_≡_}
-use mathlib.Core.List.{List}
 use mathlib.Core.Option.{none}
 use Prim.Native.Nat.{ℕ}
-use lib.ListN.{take}
 use Rattle.meaning_rows.specs.Index.{Index}
 use Rattle.meaning_entries.specs.declared.Both.{Both}
 use Rattle.meaning_entries.specs.Answers.{bothRefusal, bothWrong, bothMissing, bothCounts, bothFound}
 use Rattle.meaning_entries.specs.Audit.{auditAnswer, Passes}
 use Rattle.meaning_entries.specs.Search.{SearchCall, SearchBuffers, searchRefusal, searchAnswer}
 use Rattle.meaning_entries.specs.Demand2.{SearchKept}
-use Rattle.meaning_entries.specs.Demand3.{pairs, through, SameMatches}
+use Rattle.meaning_entries.specs.Demand3.{listIn, through, SameMatches}
 use Rattle.meaning_entries.specs.Told.{auditOf, demandRefusal, demandWrong, demandMissing, demandCounts, demandFound}
-
--- the first entries of a list buffer
-abbrev pub entries : ℕ → SearchBuffers → List (ℕ × ℕ)
-entries count b = take count (pairs (b .offsets) (b .distances))
 
 -- the answer has both counts; counts and lists are the same, and each list is exactly all matches
 pub record BothListed (c : SearchCall) (answer : Both) (after₁ after₂ : SearchBuffers) : Type 0 where
   pub count₁ : ℕ
   pub count₂ : ℕ
   pub answered : answer ≡ Both.Listed count₁ count₂
-  pub same : SameMatches c count₁ count₂ (entries count₁ after₁) (entries count₂ after₂)
+  pub same : SameMatches c count₁ count₂ (listIn count₁ after₁) (listIn count₂ after₂)
 
 -- `c` is the first search, `through x c` the same search through the other index
 pub record Demand3Kept (c : SearchCall) (x : Index) (before₁ before₂ : SearchBuffers) (answer : Both) (after₁ after₂ : SearchBuffers) : Type 0 where

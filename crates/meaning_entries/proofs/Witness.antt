@@ -3,7 +3,7 @@ use mathlib.Core.Path.{_≡_, refl}
 use mathlib.Core.List.{List, [], _∷_}
 use Prim.Native.Nat.{ℕ}
 use lib.IntN.{ℤ, pos}
-use lib.ListN.{replicate, take}
+use lib.ListN.{replicate}
 use Rattle.meaning_rows.specs.Index.{Index}
 use Rattle.meaning_rows.specs.Build.{built}
 use Rattle.meaning_filter.specs.declared.Kind.{Kind}
@@ -11,7 +11,7 @@ use Rattle.meaning_filter.specs.declared.Kind.the-variants.{Raw, Normal}
 use Rattle.meaning_entries.specs.declared.Found.{Found}
 use Rattle.meaning_entries.specs.Audit.{Passes}
 use Rattle.meaning_entries.specs.Search.{SearchCall, SearchBuffers, searchAnswer, searchAfter}
-use Rattle.meaning_entries.specs.Demand3.{pairs, Searched}
+use Rattle.meaning_entries.specs.Demand3.{listIn, Searched}
 use Rattle.meaning_entries.proofs.Open.{openEntries}
 use Rattle.meaning_entries.proofs.Demand2.{search-kept}
 
@@ -45,7 +45,7 @@ openWitness = tt
 
 -- a search with the list's first entries, by what it computes to
 searched : (c : SearchCall) (candidates count : ℕ) (list : List (ℕ × ℕ)) → Passes (c .index) (c .series) → Found.All candidates count ≡ searchAnswer c room →
-    list ≡ take count (pairs (searchAfter c room .offsets) (searchAfter c room .distances)) → Searched c count list
+    list ≡ listIn count (searchAfter c room) → Searched c count list
 searched c candidates count list p e l =
     record { passes = p; before = room; after = searchAfter c room; candidates = candidates; kept = search-kept c room (Found.All candidates count) (searchAfter c room) e refl; listed = l }
 

@@ -17,6 +17,10 @@ pairs [] ds = []
 pairs (o ∷ os) [] = []
 pairs (o ∷ os) (d ∷ ds) = (o, d) ∷ pairs os ds
 
+-- the list: so many first entries of its buffer
+abbrev pub listIn : ℕ → SearchBuffers → List (ℕ × ℕ)
+listIn count b = take count (pairs (b .offsets) (b .distances))
+
 -- a search that kept its promise, through an index that passes the audit, and listed `count` matches
 pub record Searched (c : SearchCall) (count : ℕ) (list : List (ℕ × ℕ)) : Type 0 where
   pub passes : Passes (c .index) (c .series)
@@ -24,7 +28,7 @@ pub record Searched (c : SearchCall) (count : ℕ) (list : List (ℕ × ℕ)) : 
   pub after : SearchBuffers
   pub candidates : ℕ
   pub kept : SearchKept c before (Found.All candidates count) after
-  pub listed : list ≡ take count (pairs (after .offsets) (after .distances))
+  pub listed : list ≡ listIn count after
 
 -- the same search through another index
 abbrev pub through : Index → SearchCall → SearchCall
