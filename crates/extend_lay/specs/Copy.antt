@@ -1,17 +1,18 @@
 -- One column of the old run buffer copied to the parts of the rows: what a turn writes, and the column after some rows. Assumes nothing.
 use mathlib.Core.Path.{_≡_, refl, sym, ap, _∙_}
 use mathlib.Core.Bool.{cond}
-use mathlib.Core.List.{List, [], _++_, append-nil}
+use mathlib.Core.List.{List, _++_}
 use Prim.Native.Nat.{ℕ, zero, suc, _+_, _-_, _<_, _≤_}
 use native.Mathlib.Numerals.{add-one}
 use native.Mathlib.Omega.{arith}
 use lib.Dec.{ltb}
-use lib.ListN.{length, getD, set, take, drop, length-set, length-append, length-drop, drop-of-length-le}
-use lib.Seq.{paste, paste-suc, length-paste, length-take-le, take-all}
+use lib.ListN.{length, getD, set, take, drop, length-set, length-append, length-drop}
+use lib.Seq.{paste, paste-suc, length-paste, length-take-le}
 use lib.Signed.{leZ}
 use Rattle.meaning_numbers.proofs.Tests.{by-test}
 use Rattle.meaning_rows.specs.declared.Row.{Row}
 use Rattle.records.specs.Records.{zeroRow}
+use Rattle.parts.specs.Lent.{lentFrom, backAt, lent-is, back-is}
 use Rattle.extend_rows.specs.Turn.{endRow}
 
 -- how many old runs a row has, where o is the next old row
@@ -68,14 +69,9 @@ length-written n size numbers part h k = by-test (ltb n size)
     (λ t. rw t (length-set (paste part 0 numbers n) (size - 1) n ∙ length-paste part 0 numbers n (omega arith) h))
     (λ f. rw f (length-paste part 0 numbers n (omega arith) h))
 
--- the rest of a column, lent and put back
-pub rest-back : (n size a b : ℕ) (from to last : List ℕ) → last ≡ written n size (take (length from - a) (drop a from)) (take (length to - b) (drop b to))
-    → take b to ++ (last ++ drop (length to - b) (drop b to)) ≡ take b to ++ written n size (drop a from) (drop b to)
-rest-back n size a b from to last e =
-    let f : take (length from - a) (drop a from) ≡ drop a from = take-all (length from - a) (drop a from) (omega (arith, length-drop a from)) in
-    let t : take (length to - b) (drop b to) ≡ drop b to = take-all (length to - b) (drop b to) (omega (arith, length-drop b to)) in
-    let none : drop (length to - b) (drop b to) ≡ [] = drop-of-length-le (drop b to) {i = length to - b} (omega (arith, length-drop b to)) in
-    ap (λ (l : List ℕ). take b to ++ l) (ap (λ (l : List ℕ). last ++ l) none ∙ append-nil last ∙ e ∙ rw (f, t))
+-- the part of a row, lent to its writer and put back
+pub part-back : (n size a b : ℕ) (from to last : List ℕ) → last ≡ written n size (lentFrom a from) (lentFrom b to) → backAt b to last ≡ take b to ++ written n size (drop a from) (drop b to)
+part-back n size a b from to last e = back-is b to last ∙ ap (λ (l : List ℕ). take b to ++ l) (e ∙ rw (lent-is a from, lent-is b to))
 
 pub length-copied : (o r : Row) (from to : List ℕ) → CopyRoom o r (length from) (length to) → length (partCopied o r from to) ≡ length to
 unfolding partCopied

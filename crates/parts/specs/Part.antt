@@ -4,7 +4,17 @@ use Prim.Native.Nat.{ℕ, _+_, _-_, _<_, _≤_}
 use lib.ListN.{length, getD}
 use Rattle.meaning_rows.specs.declared.Row.{Row}
 
--- how many runs of a part that is not full are written
+-- how many of the n entries of a part that is not full are written, where the part is lent from its first entry on
+abbrev pub filled : ℕ → List ℕ → ℕ
+filled n part = getD part (n - 1) 0
+
+-- the part lies in what is lent and is not full
+pub record EntryRoom (n : ℕ) (left right : List ℕ) : Type 0 where
+  pub in-left : n ≤ length left
+  pub in-right : n ≤ length right
+  pub more : filled n right < n
+
+-- how many runs of a row's part that is not full are written
 abbrev pub written : Row → List ℕ → ℕ
 written r right = getD right (r .first + r .runs - 1) 0
 

@@ -1,6 +1,6 @@
 -- `extend_lay::copy_part` meets its contract: the row's part of the column is lent to its writer. Assumes nothing.
 use borrow.Author.Needs.{needs}
-use Rattle.extend_lay.specs.Copy.{partSize, partCopied, rest-back}
+use Rattle.extend_lay.specs.Copy.{partSize, partCopied, part-back}
 use Rattle.extend_lay.proofs.copy_part.Statement.{statement}
 use Rattle.extend_lay.proofs.copy_part.Tie as tie
 
@@ -10,7 +10,7 @@ returns c =
     let w = c .before .before in
     let p = w .before .before .before .before .before .before in
     let a = p .before .before .before .args in
-    rest-back (partSize (a .o) (a .r)) (a .r .runs) (a .o .first) (a .r .first) (a .from .now) (a .to .now) _ (rw (p .part-size .ensures) at (w .write-part .ensures))
+    part-back (partSize (a .o) (a .r)) (a .r .runs) (a .o .first) (a .r .first) (a .from .now) (a .to .now) _ (rw (p .part-size .ensures) at (w .write-part .ensures))
 
 pub copy-part-spec : {M : Type 1} → statement M
 copy-part-spec =

@@ -1,23 +1,21 @@
--- `parts::file_entry` meets its contract. Assumes nothing.
+-- `parts::file_entry` meets its contract: the row's part of both columns is lent to its writer. Assumes nothing.
 use borrow.Author.Needs.{needs}
-use borrow.Author.Tests.{lt-ltb, le-ltb}
-use mathlib.Core.Path.{refl}
-use native.Mathlib.Omega.{arith}
-use lib.ListN.{length-set}
-use Rattle.meaning_rows.proofs.Cursors.{fileRight}
+use Rattle.parts.specs.Lent.{entry-room, left-back, right-back}
 use Rattle.parts.proofs.file_entry.Statement.{statement}
 use Rattle.parts.proofs.file_entry.Tie as tie
 
-slice-write-right-2 : tie.Need-slice-write-right-2
-slice-write-right-2 c = let o = c .before .before .before .before in simp length-set (omega (arith, o .pre .2 .in-right, o .pre .2 .more))
+write-entry-requires : tie.Need-write-entry-requires
+write-entry-requires c κs =
+    let o = c .before .before .before .before .before in
+    let a = o .args in
+    (o .pre .0, o .pre .1, entry-room (a .r) (a .left .now) (a .right .now) (o .pre .2))
 
 returns : tie.Need-returns
-unfolding fileRight
-returns c = (refl, rw (lt-ltb _ _ (c .if1 .taken)))
-
-returns-2 : tie.Need-returns-2
-unfolding fileRight
-returns-2 c = (refl, rw (le-ltb _ _ (c .if1 .left)))
+returns c =
+    let w = c .before .before .before .before in
+    let o = w .before .before .before .before .before .before in
+    let a = o .args in
+    (left-back (a .r) (a .left .now) (a .right .now) (o .pre .2) (a .x) _ (w .write-entry .ensures .0), right-back (a .r) (a .left .now) (a .right .now) (o .pre .2) (a .y) _ (w .write-entry .ensures .1))
 
 pub file-entry-spec : {M : Type 1} → statement M
 file-entry-spec =
@@ -32,20 +30,7 @@ file-entry-spec =
     (λ c. search needs)
     (λ c. search needs)
     (λ c. search needs)
+    write-entry-requires
     (λ c. search needs)
     (λ c. search needs)
-    (λ c. search needs)
-    (λ c. search needs)
-    (λ c. search needs)
-    (λ c. search needs)
-    (λ c. search needs)
-    (λ c. search needs)
-    (λ c. search needs)
-    (λ c. search needs)
-    slice-write-right-2
-    (λ c. search needs)
-    (λ c. search needs)
-    returns
-    (λ c. search needs)
-    (λ c. search needs)
-    returns-2)
+    returns)
