@@ -258,6 +258,10 @@ module _ (x : Index) (s : List ℤ) (g : WellFormed x) (long : Extendable x s) w
       pub long-both : (length oldLeft ≡ length left₀) × (length right′ ≡ length right₀)
       long-both = (long-left, by-test joins (λ v. same-long v ∙ long-right) (λ f. ap length (h .stays f .1) ∙ long-right))
 
+    -- the part of a row begins in the column
+    pub row-begins : (i : ℕ) → i < size → getD rows i zeroRow .first ≤ length oldRight
+    row-begins i l = omega (arith, laid .fits i l, room-right, long-right)
+
     -- what joining asks
     pub joinable : (e : ℕ) {place : Place} → At s w e place → place .offset ≡ old → {i : ℕ} {joins : Bool} → Joins i joins → {lo hi spot : ℕ}
         → (joins ≡ true → lo ≡ raisedEnd (10000 * w + e) (getD rows i zeroRow .low)) → (joins ≡ true → hi ≡ raisedEnd (10000 * w + e) (getD rows i zeroRow .up))

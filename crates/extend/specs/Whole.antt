@@ -38,7 +38,7 @@ use Rattle.extend.specs.Steps.{joinsOf, SumAsked, spotOf, JoinAsked, Joi
 use Rattle.extend.specs.Woven.{row-is, rows-long}
 use Rattle.extend.specs.Counts.{listable, countable, row-fits, joins, sum-asked, matches, row-in, old-size}
 use Rattle.extend.specs.Laid.{lay-asked, laid-front, laid-rows, laid-long}
-use Rattle.extend.specs.Joined.{Joins, copies-left, copies-right, joinable, passable, past-both, long-both}
+use Rattle.extend.specs.Joined.{Joins, copies-left, copies-right, row-begins, joinable, passable, past-both, long-both}
 use Rattle.extend.specs.Finished.{HoldsExtended, finished}
 use Rattle.extend.specs.Rowed.{rows-are, first-at, extended-rowed}
 use Rattle.extend.specs.Shell.{WovenAs, WeaveAsked}
@@ -199,11 +199,18 @@ module _ {s : List ℤ} {w e d b old : ℕ} {from : List Row} {lefts rights : Li
             | no f ↦ rw (past-row (omega arith)) (record { least = omega zarith; order = omega zarith; most = omega zarith })
           ]
 
+          part-begins : new-row .first ≤ length right₄
+          part-begins = elim (decLt i size) [
+            | yes l ↦ rw (k .right-is) (row-begins x s (h .formed) (h .longer) lefts rights refl rows₂ fits₂ front (k .l) (k .r) in-l in-r i l)
+            | no f ↦ rw (past-row (omega arith)) (omega arith)
+          ]
+
           pub join-asked : JoinAsked s w e old J new-row row (length right₄)
           join-asked = record {
             lent = h .lent;
             below = h .longer .longer;
             small = small-row;
+            begins = part-begins;
             can = λ p a b. rw (k .right-is) (joinable x s (h .formed) (h .longer) lefts rights refl rows₂ fits₂ front (k .l) (k .r) in-l in-r e a b joined (λ t. refl) (λ t. refl) spot-is);
           }
 

@@ -34,7 +34,7 @@ ghost use Rattle.build.specs.Filled.{buffers};
 ghost use Rattle.extend_count.specs.Rank.{rank};
 ghost use Rattle.extend_count.specs.Count.{Countable, Counted};
 ghost use Rattle.extend_new.specs.New.{newTable, lessJoin};
-ghost use Rattle.extend.specs.Steps.{firstNew, joinsOf, spotOf, SumAsked, JoinAsked, JoinedAt};
+ghost use Rattle.extend.specs.Steps.{firstNew, joinsOf, SumAsked, JoinAsked, JoinedAt};
 ghost use Rattle.extend.specs.Passes.{CountAsked, CountedAs, LayAsked, LaidBy, CopyAsked, CopiedAs};
 ghost use Rattle.extend.specs.Shell.{WeaveAsked, WovenAs};
 ghost use Rattle.extend.specs.Finished.{HoldsExtended};
@@ -135,15 +135,15 @@ pub fn place_at(s: &[i32], w: usize, e: u64, j: usize) -> Place
     }
 }
 
-// Where the last old run of a row stands, in the row's new part: `q` is the row with that part, `r` the row with its old runs.
-pub fn spot_of(q: Row, r: Row) -> usize
-    ensures { λ n. ⌜ n ≡ spotOf q r ⌝ }
+// Where the last old run of a row stands in the row's part; 0 if it has none.
+pub fn spot_of(r: Row) -> usize
+    ensures { λ n. ⌜ n ≡ r .runs - 1 ⌝ }
 {
-    let end = q.first as usize + r.runs as usize;
-    if end == 0 { 0 } else { end - 1 }
+    let runs = r.runs as usize;
+    if runs == 0 { 0 } else { runs - 1 }
 }
 
-// The first new run joined, if it goes on from the last old run of its row; where the next run begins.
+// The first new run joined, if it goes on from the last old run of its row; where the next run begins. `q` is the row with its new part, which is lent to its writer, `r` the row with its old runs.
 pub fn join_first(
     s: &[i32],
     w: usize,
@@ -162,7 +162,9 @@ pub fn join_first(
     let low = raise_end(q.low, bias);
     let up = raise_end(q.up, bias);
     let joins = last_ends(r, olds, first_new(s, w, old));
-    join_run(s, w, e, at, joins, low, up, spot_of(q, r), right)
+    let spot = spot_of(r);
+    let first = q.first as usize;
+    join_run(s, w, e, at, joins, low, up, spot, &mut right[first..])
 }
 
 // The rows of the extension woven into `rows`, not laid out yet, and zeros behind them; how many there are. The ghost value is the old index.

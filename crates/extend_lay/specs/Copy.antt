@@ -12,7 +12,7 @@ use lib.Signed.{leZ}
 use Rattle.meaning_numbers.proofs.Tests.{by-test}
 use Rattle.meaning_rows.specs.declared.Row.{Row}
 use Rattle.records.specs.Records.{zeroRow}
-use Rattle.parts.specs.Lent.{lentFrom, backAt, lent-is, back-is}
+use Rattle.parts.specs.Lent.{lentFrom, backAt, lent-is, back-made}
 use Rattle.extend_rows.specs.Turn.{endRow}
 
 -- how many old runs a row has, where o is the next old row
@@ -71,7 +71,7 @@ length-written n size numbers part h k = by-test (ltb n size)
 
 -- the part of a row, lent to its writer and put back
 pub part-back : (n size a b : ℕ) (from to last : List ℕ) → last ≡ written n size (lentFrom a from) (lentFrom b to) → backAt b to last ≡ take b to ++ written n size (drop a from) (drop b to)
-part-back n size a b from to last e = back-is b to last ∙ ap (λ (l : List ℕ). take b to ++ l) (e ∙ rw (lent-is a from, lent-is b to))
+part-back n size a b from to last e = back-made b to last (written n size (drop a from)) (e ∙ rw (lent-is a from))
 
 pub length-copied : (o r : Row) (from to : List ℕ) → CopyRoom o r (length from) (length to) → length (partCopied o r from to) ≡ length to
 unfolding partCopied

@@ -46,7 +46,7 @@ pub fn take_join(joins: bool, i: usize, counts: &mut [u32])
     }
 }
 
-// Where the first new run joins an old one, that run's right end, at `spot`, goes on to the end of the new one; where the next run begins.
+// Where the first new run joins an old one, that run's right end, at `spot` of the row's part, goes on to the end of the new one; where the next run begins.
 pub fn join_run(
     s: &[i32],
     w: usize,

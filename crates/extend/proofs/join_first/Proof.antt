@@ -14,7 +14,7 @@ use Rattle.meaning_rows.specs.declared.Row.{Row}
 use Rattle.meaning_rows.proofs.Grown.{lastEnds}
 use Rattle.filing.specs.Ends.{raisedEnd}
 use Rattle.fill.specs.Turn.{Small}
-use Rattle.extend.specs.Steps.{joinsOf, joinable-as, joined-as}
+use Rattle.extend.specs.Steps.{joinsOf, joinable-as, joined-as, joins-some, joinable-lent, joined-back}
 use Rattle.extend.proofs.join_first.Statement.{statement}
 use Rattle.extend.proofs.join_first.Tie as tie
 
@@ -59,18 +59,21 @@ module _ (c : tie.After-spot-of) where
 
 join-run-requires : tie.Need-join-run-requires
 join-run-requires c κs =
-    let p = c .before in
-    (o p .pre .1 .lent, joinable-as (joins-is p) (low-is p) (up-is p) (p .spot-of .ensures) (o p .pre .1 .can (placed p .place-at .result) (placed p .place-at .ensures .0) (placed p .place-at .ensures .1)))
+    let p = c .before .before in
+    let a = o p .args in
+    let able = o p .pre .1 .can (placed p .place-at .result) (placed p .place-at .ensures .0) (placed p .place-at .ensures .1) in
+    (o p .pre .1 .lent, joinable-as (joins-is p) (low-is p) (up-is p) (p .spot-of .ensures) (joinable-lent (a .q) (a .r) (a .right .now) (joins-some (a .s .now) (a .w) (a .old) (a .r) (a .olds .now)) able))
 
 returns : tie.Need-returns
 returns c =
     let j = c .before .before in
-    let p = j .before .before in
+    let p = j .before .before .before in
+    let a = o p .args in
     record {
       place = placed p .place-at .result;
       start = placed p .place-at .ensures .0;
       begins = placed p .place-at .ensures .1;
-      run = joined-as (joins-is p) (low-is p) (up-is p) (p .spot-of .ensures) (j .join-run .ensures);
+      run = joined-back (a .q) (a .r) (a .right .now) (joins-some (a .s .now) (a .w) (a .old) (a .r) (a .olds .now)) (j .join-run .result) _ (joined-as (joins-is p) (low-is p) (up-is p) (p .spot-of .ensures) (j .join-run .ensures));
     }
 
 pub join-first-spec : {M : Type 1} → statement M
@@ -85,6 +88,11 @@ join-first-spec =
     (λ c κs. let q = c .before .before .before .before .before .before .before .pre .1 in q .lent .fits)
     (λ c κs. search needs)
     (λ c κs. search needs)
+    (λ c. search needs)
+    (λ c. search needs)
+    (λ c. search needs)
+    (λ c. omega (arith, o (c .before) .pre .1 .begins))
+    (λ c. search needs)
     join-run-requires
     (λ c. search needs)
     returns)
