@@ -1,2 +1,3 @@
--- The steps of the automaton by which a run is read.
+-- A word that stands in a text, and the steps of the automaton by which a run is read.
+pub mod Words
 pub mod Steps

@@ -2,12 +2,11 @@
 use mathlib.Core.Path.{_≡_, refl}
 use Prim.Native.Nat.{ℕ, zero, suc, _+_, _*_, _-_, _/_, _%_, _<_, _≤_, _^_}
 use mathlib.Core.List.{List}
-use native.Mathlib.Decide.{decLt}
 use native.Mathlib.Numerals.{add-one}
 use native.Mathlib.Omega.{arith}
-use borrow.Author.Tests.{lt-ltb, ne-eqb}
+use borrow.Author.Tests.{lt-ltb, eq-eqb, ne-eqb}
 use lib.IntN.{ℤ, pos, negℤ}
-use lib.ListN.{length, getD, List·getD-eq-default}
+use lib.ListN.{length, getD}
 use Rattle.meaning_text.specs.Bytes.{bytes}
 use Rattle.text_numbers.specs.declared.Numeral.{Numeral}
 use Rattle.text_numbers.specs.Number.{numStep, whole, within-yes}
@@ -17,11 +16,8 @@ use Rattle.text_index.specs.declared.State.{State}
 use Rattle.text_index.specs.declared.Moved.{Moved}
 use Rattle.text_index.specs.Step.{word, behind, turnAfter, pick, reach, closes, wordStep, turnStep, endStep, numberStep, indexStep}
 use Rattle.text_event.specs.declared.Signed.{Signed}
-use Rattle.text_event.specs.Event.{Quiet, still, more, ValueAt, ClosedAt, RunAt, RowAt, inRun, atRuns, atFirst, atRows, inRange, DigitsAt, NumberAt, leftOf, rightOf, lengthOf, PlainAt, BodyAt, Blank, BlankAt, SignedAt, Opens, Ends}
-
--- a byte that is not 0 lies in the text
-pub byte-inside : (text : List ℕ) (k : ℕ) → 0 < getD text k 0 → k < length text
-byte-inside text k h = elim (decLt k (length text)) [ yes l ↦ l | no n ↦ let e : getD text k 0 ≡ 0 = List·getD-eq-default text 0 {n = k} (omega arith) in absurd (omega (arith, h, e)) ]
+use Rattle.text_event.specs.Event.{Quiet, still, more, ValueAt, ClosedAt, RunAt, RowAt, inRun, atRuns, atFirst, atRows, inRange, DigitsAt, NumberAt, leftOf, rightOf, lengthOf, PlainAt, BodyAt, Blank, BlankAt, SignedAt, Stands, Opens, Ends}
+use Rattle.text_event.proofs.Words.{stands-byte}
 
 -- the first digit, not 0
 pub first-digit : (p : Place) (b : ℕ) → 49 ≤ b → b ≤ 57 → indexStep (State.At p Numeral.Start) b ≡ Moved.To (State.At p (Numeral.Plus (b - 48)))
@@ -45,19 +41,19 @@ sign : (p : Place) → indexStep (State.At p Numeral.Start) 45 ≡ Moved.To (Sta
 unfolding indexStep numberStep numStep
 sign p = refl
 
-pub run-space : indexStep atRuns 32 ≡ Moved.To (State.In Word.Run 1)
+pub run-space : indexStep atRuns (getD (bytes " (") 0 0) ≡ Moved.To (State.In Word.Run 1)
 unfolding indexStep turnStep pick reach word bytes behind
 run-space = refl
 
-pub run-bracket : indexStep (State.In Word.Run 1) 40 ≡ Moved.To (State.At Place.Left Numeral.Start)
+pub run-bracket : indexStep atFirst (getD (bytes "(") 0 0) ≡ Moved.To (State.At Place.Left Numeral.Start)
 unfolding indexStep wordStep reach word bytes behind closes
 run-bracket = refl
 
-pub left-ends : (k : ℕ) → indexStep (State.At Place.Left (Numeral.Plus k)) 32 ≡ Moved.Value inRun Place.Left (pos k)
+pub left-ends : (k : ℕ) → indexStep (State.At Place.Left (Numeral.Plus k)) (getD (bytes " ") 0 0) ≡ Moved.Value inRun Place.Left (pos k)
 unfolding indexStep numberStep numStep whole endStep pick turnAfter reach word bytes behind
 left-ends k = refl
 
-pub right-ends : (k : ℕ) → indexStep (State.At Place.Right (Numeral.Plus k)) 41 ≡ Moved.Value atRuns Place.Right (pos k)
+pub right-ends : (k : ℕ) → indexStep (State.At Place.Right (Numeral.Plus k)) (getD (bytes ")") 0 0) ≡ Moved.Value atRuns Place.Right (pos k)
 unfolding indexStep numberStep numStep whole endStep pick turnAfter reach word bytes behind
 right-ends k = refl
 
@@ -69,33 +65,25 @@ up-blank : Blank Place.Up atFirst
 unfolding indexStep numberStep numStep whole endStep pick turnAfter reach word bytes behind
 up-blank = record { plus = λ k. refl; less = λ k. refl }
 
-row-bracket : indexStep atRows 40 ≡ Moved.To (State.In Word.Row 1)
+row-first : indexStep atRows (getD (bytes "(row ") 0 0) ≡ Moved.To (State.In Word.Row 1)
 unfolding indexStep turnStep pick reach word bytes behind
-row-bracket = refl
+row-first = refl
 
-row-r : indexStep (State.In Word.Row 1) 114 ≡ Moved.To (State.In Word.Row 2)
+row-more : (k : ℕ) → k < 4 → indexStep (State.In Word.Row k) (getD (bytes "(row ") k 0) ≡ Moved.To (State.In Word.Row (k + 1))
+unfolding indexStep wordStep reach word bytes closes
+row-more k h = rw (eq-eqb (getD (bytes "(row ") k 0) (getD (bytes "(row ") k 0) refl, lt-ltb (k + 1) 5 (omega (arith, h))) refl
+
+row-last : indexStep (State.In Word.Row 4) (getD (bytes "(row ") 4 0) ≡ Moved.To (State.At Place.Low Numeral.Start)
 unfolding indexStep wordStep reach word bytes behind closes
-row-r = refl
+row-last = refl
 
-row-o : indexStep (State.In Word.Row 2) 111 ≡ Moved.To (State.In Word.Row 3)
-unfolding indexStep wordStep reach word bytes behind closes
-row-o = refl
-
-row-w : indexStep (State.In Word.Row 3) 119 ≡ Moved.To (State.In Word.Row 4)
-unfolding indexStep wordStep reach word bytes behind closes
-row-w = refl
-
-row-space : indexStep (State.In Word.Row 4) 32 ≡ Moved.To (State.At Place.Low Numeral.Start)
-unfolding indexStep wordStep reach word bytes behind closes
-row-space = refl
-
-row-end : indexStep atRuns 41 ≡ Moved.To (State.In Word.RowEnd 1)
+end-first : indexStep atRuns (getD (bytes ")\n") 0 0) ≡ Moved.To (State.In Word.RowEnd 1)
 unfolding indexStep turnStep pick reach word bytes behind
-row-end = refl
+end-first = refl
 
-row-line : indexStep (State.In Word.RowEnd 1) 10 ≡ Moved.Closed atRows
+end-last : indexStep (State.In Word.RowEnd 1) (getD (bytes ")\n") 1 0) ≡ Moved.Closed atRows
 unfolding indexStep wordStep reach word bytes behind closes
-row-line = refl
+end-last = refl
 
 -- ---- a byte before others
 
@@ -149,19 +137,21 @@ number-told text i b q l e h k d =
 
 -- ---- runs
 
-pub body-told : (text : List ℕ) (i a b : ℕ) → i + 18 ≤ length text → NumberAt text i a → getD text (i + a % 16) 0 ≡ 32 → NumberAt text (i + a % 16 + 1) b → getD text (i + (a % 16 + b % 16 + 1)) 0 ≡ 41
+pub body-told : (text : List ℕ) (i a b : ℕ) → NumberAt text i a → Stands text (i + a % 16) (bytes " ") → NumberAt text (i + a % 16 + 1) b → Stands text (i + (a % 16 + b % 16 + 1)) (bytes ")")
     → BodyAt text i (((a / 16) * 134217728 + b / 16) * 32 + (a % 16 + b % 16 + 1 + 1))
-body-told text i a b room x e y f =
+unfolding bytes
+body-told text i a b x e y f =
     let q = ((a / 16) * 134217728 + b / 16) * 32 + (a % 16 + b % 16 + 1 + 1) in
     let l : leftOf q ≡ a / 16 = omega (arith, x .short, y .short, y .small) in
     let r : rightOf q ≡ b / 16 = omega (arith, x .short, y .short, y .small) in
     let n : lengthOf q ≡ a % 16 + b % 16 + 1 + 1 = omega (arith, x .short, y .short) in
-    let u : i + (a % 16 + b % 16 + 1) ≡ i + a % 16 + 1 + b % 16 = omega arith in
+    let c = stands-byte e 0 (i + a % 16) (omega arith) (omega arith) in
+    let d = stands-byte f 0 (i + a % 16 + 1 + b % 16) (omega arith) (omega arith) in
     let v : i + (a % 16 + b % 16 + 1 + 1) ≡ i + a % 16 + 1 + b % 16 + 1 = omega arith in
     let w : RunAt text (State.At Place.Left Numeral.Start) i (pos (a / 16)) (pos (b / 16)) (i + a % 16 + 1 + b % 16 + 1) = record {
       middle = i + a % 16 + 1;
-      left = record { last = State.At Place.Left (Numeral.Plus (a / 16)); place = i + a % 16; quiet = x .plus Place.Left; inside = omega (arith, x .short, room); ends = rw e (left-ends (a / 16)); next = refl };
-      right = record { last = State.At Place.Right (Numeral.Plus (b / 16)); place = i + a % 16 + 1 + b % 16; quiet = y .plus Place.Right; inside = omega (arith, x .short, y .short, room); ends = rw (← u, f) (right-ends (b / 16)); next = refl };
+      left = record { last = State.At Place.Left (Numeral.Plus (a / 16)); place = i + a % 16; quiet = x .plus Place.Left; inside = c .0; ends = rw (c .1) (left-ends (a / 16)); next = refl };
+      right = record { last = State.At Place.Right (Numeral.Plus (b / 16)); place = i + a % 16 + 1 + b % 16; quiet = y .plus Place.Right; inside = d .0; ends = rw (d .1) (right-ends (b / 16)); next = refl };
     } in
     record { plain = record { small = omega (arith, x .small, y .small, x .short, y .short); short = omega (arith, n, x .short, y .short); run = rw (l, r, n, v) w }; least = omega (arith, n, x .short, y .short); tiny = omega (arith, x .small, y .small, x .short, y .short) }
 
@@ -169,64 +159,73 @@ body-told text i a b room x e y f =
 run-before : (text : List ℕ) (s m : State) (i : ℕ) (l r : ℤ) (j : ℕ) → i < length text → indexStep s (getD text i 0) ≡ Moved.To m → RunAt text m (i + 1) l r j → RunAt text s i l r j
 run-before text s m i l r j h e v = record { middle = v .middle; left = value-before {m = m} h e (v .left); right = v .right }
 
-pub first-told : (text : List ℕ) (i q : ℕ) → i < length text → getD text i 0 ≡ 40 → BodyAt text (i + 1) q → PlainAt text atFirst i (q + 1)
-first-told text i q h e b =
+pub first-told : (text : List ℕ) (i q : ℕ) → Stands text i (bytes "(") → BodyAt text (i + 1) q → PlainAt text atFirst i (q + 1)
+unfolding bytes
+first-told text i q e b =
+    let c = stands-byte e 0 i (omega arith) (omega arith) in
     let l : leftOf (q + 1) ≡ leftOf q = omega (arith, b .least) in
     let r : rightOf (q + 1) ≡ rightOf q = omega (arith, b .least) in
     let n : lengthOf (q + 1) ≡ lengthOf q + 1 = omega (arith, b .least) in
     let z : i + (lengthOf q + 1) ≡ i + 1 + lengthOf q = omega arith in
-    record { small = omega (arith, b .tiny); short = omega (arith, n, b .least); run = rw (l, r, n, z) (run-before text atFirst (State.At Place.Left Numeral.Start) i _ _ _ h (rw e run-bracket) (b .plain .run)) }
+    record { small = omega (arith, b .tiny); short = omega (arith, n, b .least); run = rw (l, r, n, z) (run-before text atFirst (State.At Place.Left Numeral.Start) i _ _ _ (c .0) (rw (c .1) run-bracket) (b .plain .run)) }
 
-pub plain-told : (text : List ℕ) (i q : ℕ) → i + 1 < length text → getD text i 0 ≡ 32 → getD text (i + 1) 0 ≡ 40 → BodyAt text (i + 2) q → PlainAt text atRuns i (q + 2)
-plain-told text i q h e f b =
+pub plain-told : (text : List ℕ) (i q : ℕ) → Stands text i (bytes " (") → BodyAt text (i + 2) q → PlainAt text atRuns i (q + 2)
+unfolding bytes
+plain-told text i q e b =
+    let c = stands-byte e 0 i (omega arith) (omega arith) in
+    let d = stands-byte e 1 (i + 1) (omega arith) (omega arith) in
     let l : leftOf (q + 2) ≡ leftOf q = omega (arith, b .least) in
     let r : rightOf (q + 2) ≡ rightOf q = omega (arith, b .least) in
     let n : lengthOf (q + 2) ≡ lengthOf q + 2 = omega (arith, b .least) in
     let z : i + (lengthOf q + 2) ≡ i + 1 + 1 + lengthOf q = omega arith in
     let y : i + 2 ≡ i + 1 + 1 = omega arith in
     let v : RunAt text (State.At Place.Left Numeral.Start) (i + 1 + 1) (pos (leftOf q)) (pos (rightOf q)) (i + 1 + 1 + lengthOf q) = rw y at (b .plain .run) in
-    record { small = omega (arith, b .tiny); short = omega (arith, n, b .least); run = rw (l, r, n, z) (run-before text atRuns (State.In Word.Run 1) i _ _ _ (omega arith) (rw e run-space) (run-before text (State.In Word.Run 1) (State.At Place.Left Numeral.Start) (i + 1) _ _ _ h (rw f run-bracket) v)) }
+    record { small = omega (arith, b .tiny); short = omega (arith, n, b .least); run = rw (l, r, n, z) (run-before text atRuns atFirst i _ _ _ (c .0) (rw (c .1) run-space) (run-before text atFirst (State.At Place.Left Numeral.Start) (i + 1) _ _ _ (d .0) (rw (d .1) run-bracket) v)) }
 
 -- ---- the beginnings of rows
 
 pub plus-told : (text : List ℕ) (i q : ℕ) → BlankAt text i q → SignedAt text i (Signed.Read (pos (q / 16)) (i + q % 16 + 1))
+unfolding bytes
 plus-told text i q x =
     let y = x .number in
-    (omega (arith, y .short), λ p n b. record { last = State.At p (Numeral.Plus (q / 16)); place = i + q % 16; quiet = y .plus p; inside = x .inside; ends = rw (x .blank) (b .plus (q / 16)); next = refl })
+    let c = stands-byte (x .blank) 0 (i + q % 16) (omega arith) (omega arith) in
+    (omega (arith, y .short), λ p n b. record { last = State.At p (Numeral.Plus (q / 16)); place = i + q % 16; quiet = y .plus p; inside = c .0; ends = rw (c .1) (b .plus (q / 16)); next = refl })
 
 pub less-told : (text : List ℕ) (i q : ℕ) → i < length text → getD text i 0 ≡ 45 → BlankAt text (i + 1) q → SignedAt text i (Signed.Read (negℤ (pos (q / 16))) (i + 1 + q % 16 + 1))
+unfolding bytes
 less-told text i q h e x =
-    let y = x .number in (
+    let y = x .number in
+    let c = stands-byte (x .blank) 0 (i + 1 + q % 16) (omega arith) (omega arith) in (
       omega (arith, y .short),
       λ p n b. value-before {m = State.At p Numeral.Sign} h (rw e (sign p))
-          (record { last = State.At p (Numeral.Less (q / 16)); place = i + 1 + q % 16; quiet = y .less p; inside = x .inside; ends = rw (x .blank) (b .less (q / 16)); next = refl }),
+          (record { last = State.At p (Numeral.Less (q / 16)); place = i + 1 + q % 16; quiet = y .less p; inside = c .0; ends = rw (c .1) (b .less (q / 16)); next = refl }),
     )
 
 pub range-told : (text : List ℕ) (i : ℕ) (low up : ℤ) (j k : ℕ) → Opens text i → SignedAt text (i + 5) (Signed.Read low j) → SignedAt text j (Signed.Read up k) → RowAt text i low up k
+unfolding bytes
 range-told text i low up j k o x y =
     let z : i + 5 ≡ i + 1 + 1 + 1 + 1 + 1 = omega arith in
-    let b : getD text (i + 1 + 1) 0 ≡ 111 = let e : i + 1 + 1 ≡ i + 2 = omega arith in rw e (o .third) in
-    let c : getD text (i + 1 + 1 + 1) 0 ≡ 119 = let e : i + 1 + 1 + 1 ≡ i + 3 = omega arith in rw e (o .fourth) in
-    let d : getD text (i + 1 + 1 + 1 + 1) 0 ≡ 32 = let e : i + 1 + 1 + 1 + 1 ≡ i + 4 = omega arith in rw e (o .fifth) in
+    let a = stands-byte (o .word) 0 i (omega arith) (omega arith) in
+    let b = stands-byte (o .word) 1 (i + 1) (omega arith) (omega arith) in
+    let c = stands-byte (o .word) 2 (i + 1 + 1) (omega arith) (omega arith) in
+    let d = stands-byte (o .word) 3 (i + 1 + 1 + 1) (omega arith) (omega arith) in
+    let e = stands-byte (o .word) 4 (i + 1 + 1 + 1 + 1) (omega arith) (omega arith) in
     let v : ValueAt text (State.At Place.Low Numeral.Start) (i + 1 + 1 + 1 + 1 + 1) inRange Place.Low low j = rw z at (x .1 Place.Low inRange low-blank) in
     record {
       middle = j;
       lower =
-          value-before {m = State.In Word.Row 1} (omega (arith, o .room)) (rw (o .first) row-bracket)
-          (value-before {m = State.In Word.Row 2} (omega (arith, o .room)) (rw (o .second) row-r)
-          (value-before {m = State.In Word.Row 3} (omega (arith, o .room)) (rw b row-o)
-          (value-before {m = State.In Word.Row 4} (omega (arith, o .room)) (rw c row-w)
-          (value-before {m = State.At Place.Low Numeral.Start} (omega (arith, o .room)) (rw d row-space) v))));
+          value-before {m = State.In Word.Row 1} (a .0) (rw (a .1) row-first)
+          (value-before {m = State.In Word.Row 2} (b .0) (rw (b .1) (row-more 1 (omega arith)))
+          (value-before {m = State.In Word.Row 3} (c .0) (rw (c .1) (row-more 2 (omega arith)))
+          (value-before {m = State.In Word.Row 4} (d .0) (rw (d .1) (row-more 3 (omega arith)))
+          (value-before {m = State.At Place.Low Numeral.Start} (e .0) (rw (e .1) row-last) v))));
       upper = y .1 Place.Up atFirst up-blank;
     }
 
 -- a row's end
 pub ends-told : (text : List ℕ) (i : ℕ) → Ends text i → ClosedAt text atRuns i atRows (i + 2)
-ends-told text i x = record {
-  last = State.In Word.RowEnd 1;
-  place = i + 1;
-  quiet = more {m = State.In Word.RowEnd 1} still (byte-inside text i (omega (arith, x .first))) (rw (x .first) row-end);
-  inside = byte-inside text (i + 1) (omega (arith, x .second));
-  ends = rw (x .second) row-line;
-  next = omega arith;
-}
+unfolding bytes
+ends-told text i x =
+    let a = stands-byte x 0 i (omega arith) (omega arith) in
+    let b = stands-byte x 1 (i + 1) (omega arith) (omega arith) in
+    record { last = State.In Word.RowEnd 1; place = i + 1; quiet = more {m = State.In Word.RowEnd 1} still (a .0) (rw (a .1) end-first); inside = b .0; ends = rw (b .1) end-last; next = omega arith }

@@ -4,7 +4,8 @@ use mathlib.Core.List.{List}
 use Prim.Native.Nat.{ℕ, _+_, _/_, _%_, _<_, _≤_, _^_}
 use native.Mathlib.Omega.{arith}
 use lib.IntN.{ℤ, pos, negℤ}
-use lib.ListN.{length, getD}
+use lib.ListN.{length, getD, take, drop}
+use Rattle.meaning_text.specs.Bytes.{bytes}
 use Rattle.text_numbers.specs.declared.Numeral.{Numeral}
 use Rattle.text_index.specs.declared.Word.{Word}
 use Rattle.text_index.specs.declared.Place.{Place}
@@ -90,6 +91,21 @@ EventAt text s i (Event.Closed n j) = ClosedAt text s i n j
 EventAt text s i (Event.Refuse n j) = Quiet text s i n j × (j < length text) × (indexStep n (getD text j 0) ≡ Moved.Refuse)
 EventAt text s i (Event.End n j) = Quiet text s i n j × (length text ≤ j)
 
+-- ---- fixed words
+
+-- the bytes from place i on begin with the word
+pub record Stands (text : List ℕ) (i : ℕ) (word : List ℕ) : Type 0 where
+  pub begins : take (length word) (drop i text) ≡ word
+
+-- the bytes that end a row
+abbrev pub Ends : List ℕ → ℕ → Type 0
+Ends text i = Stands text i (bytes ")\n")
+
+-- `(row ` and twenty bytes
+pub record Opens (text : List ℕ) (i : ℕ) : Type 0 where
+  pub word : Stands text i (bytes "(row ")
+  pub room : i + 25 ≤ length text
+
 -- ---- the parts of a run, and of a row's beginning, told as one number
 
 -- digits behind a number that has been read so far
@@ -130,37 +146,22 @@ pub record BodyAt (text : List ℕ) (i q : ℕ) : Type 0 where
 
 -- where a blank behind a number leads
 pub record Blank (p : Place) (n : State) : Type 0 where
-  pub plus : (k : ℕ) → indexStep (State.At p (Numeral.Plus k)) 32 ≡ Moved.Value n p (pos k)
-  pub less : (k : ℕ) → indexStep (State.At p (Numeral.Less k)) 32 ≡ Moved.Value n p (negℤ (pos k))
+  pub plus : (k : ℕ) → indexStep (State.At p (Numeral.Plus k)) (getD (bytes " ") 0 0) ≡ Moved.Value n p (pos k)
+  pub less : (k : ℕ) → indexStep (State.At p (Numeral.Less k)) (getD (bytes " ") 0 0) ≡ Moved.Value n p (negℤ (pos k))
 
 -- a number with a blank behind it
 pub record BlankAt (text : List ℕ) (i q : ℕ) : Type 0 where
   pub number : NumberAt text i q
-  pub inside : i + q % 16 < length text
-  pub blank : getD text (i + q % 16) 0 ≡ 32
+  pub blank : Stands text (i + q % 16) (bytes " ")
 
 -- the same with or without a sign
 abbrev pub SignedAt : List ℕ → ℕ → Signed → Type 0
 SignedAt text i (Signed.Read z j) = (j ≤ i + 10) × ((p : Place) (n : State) → Blank p n → ValueAt text (State.At p Numeral.Start) i n p z j)
 SignedAt text i Signed.None = Unit {0}
 
--- `(row ` and twenty bytes
-pub record Opens (text : List ℕ) (i : ℕ) : Type 0 where
-  pub room : i + 25 ≤ length text
-  pub first : getD text i 0 ≡ 40
-  pub second : getD text (i + 1) 0 ≡ 114
-  pub third : getD text (i + 2) 0 ≡ 111
-  pub fourth : getD text (i + 3) 0 ≡ 119
-  pub fifth : getD text (i + 4) 0 ≡ 32
-
 abbrev pub RangeAt : List ℕ → ℕ → Range → Type 0
 RangeAt text i (Range.Read low up j) = RowAt text i low up j
 RangeAt text i Range.None = Unit {0}
-
--- the bytes that end a row
-pub record Ends (text : List ℕ) (i : ℕ) : Type 0 where
-  pub first : getD text i 0 ≡ 41
-  pub second : getD text (i + 1) 0 ≡ 10
 
 -- ---- what an event keeps
 

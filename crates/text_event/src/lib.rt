@@ -5,14 +5,13 @@ use text_index::Place;
 use text_index::State;
 use text_index::Turn;
 use text_index::index_step;
-use text_numbers::letter;
 ghost use mathlib.Core.Path.{_≡_};
 ghost use mathlib.Core.Bool.{true};
 ghost use Prim.Native.Nat.{_+_, _<_, _≤_, _^_};
 ghost use lib.IntN.{pos, negℤ};
 ghost use lib.ListN.{length};
 ghost use Rattle.text_index.specs.Step.{GoodState};
-ghost use Rattle.text_event.specs.Event.{leftOf, rightOf, lengthOf, DigitsAt, NumberAt, BodyAt, PlainAt, atRuns, atFirst, atRows, BlankAt, SignedAt, RangeAt, Opens, Ends, EventAt};
+ghost use Rattle.text_event.specs.Event.{leftOf, rightOf, lengthOf, DigitsAt, NumberAt, BodyAt, PlainAt, atRuns, atFirst, atRows, Stands, BlankAt, SignedAt, RangeAt, Opens, Ends, EventAt};
 
 // A number with a blank behind it, and the place behind that; none where none stands.
 pub enum Signed {
@@ -72,6 +71,21 @@ fn number_at(text: &[u8], at: usize) -> u64
     digits(text, at + 1, (b - 48) as u64) + 1
 }
 
+// The word stands in the text from a place on.
+fn stands(text: &[u8], at: usize, word: &[u8]) -> bool
+    requires { ⌜ at + length (now word) ≤ length (now text) ⌝ }
+    ensures { λ r. ⌜ (r ≡ true → Stands (now (text .entry)) at (now (word .entry))) × (Stands (now (text .entry)) at (now (word .entry)) → r ≡ true) ⌝ }
+{
+    let mut k = 0;
+    while k < word.len() {
+        if text[at + k] != word[k] {
+            return false;
+        }
+        k += 1;
+    }
+    true
+}
+
 // A run behind its bracket.
 fn run_body(text: &[u8], at: usize) -> u64
     requires { ⌜ at + 18 ≤ length (now text) ⌝ }
@@ -82,7 +96,7 @@ fn run_body(text: &[u8], at: usize) -> u64
         return 0;
     }
     let m = a % 16;
-    if text[at + (m as usize)] != 32 {
+    if !stands(text, at + (m as usize), b" ") {
         return 0;
     }
     let b = number_at(text, at + (m as usize) + 1);
@@ -90,33 +104,30 @@ fn run_body(text: &[u8], at: usize) -> u64
         return 0;
     }
     let n = m + b % 16 + 1;
-    if text[at + (n as usize)] != 41 {
+    if !stands(text, at + (n as usize), b")") {
         return 0;
     }
     ((a / 16) * 134217728 + b / 16) * 32 + (n + 1)
 }
 
-// There are twenty bytes from a place on, as many as a run can have here.
-fn roomy(text: &[u8], at: usize) -> bool
-    ensures { λ r. ⌜ (r ≡ true → at + 20 ≤ length (now (text .entry))) ⌝ }
+// There are n bytes from a place on.
+fn roomy(text: &[u8], at: usize, n: usize) -> bool
+    ensures { λ r. ⌜ (r ≡ true → at + n ≤ length (now (text .entry))) ⌝ }
 {
-    if text.len() < 20 {
+    if text.len() < n {
         return false;
     }
-    at <= text.len() - 20
+    at <= text.len() - n
 }
 
-// A run, where one may stand.
+// A run, where one may stand; twenty bytes are the most that it can have here.
 pub fn plain_run(text: &[u8], at: usize) -> u64
     ensures { λ q. ⌜ (0 < q → PlainAt (now (text .entry)) atRuns at q) ⌝ }
 {
-    if !roomy(text, at) {
+    if !roomy(text, at, 20) {
         return 0;
     }
-    if text[at] != 32 {
-        return 0;
-    }
-    if text[at + 1] != 40 {
+    if !stands(text, at, b" (") {
         return 0;
     }
     let q = run_body(text, at + 2);
@@ -130,10 +141,10 @@ pub fn plain_run(text: &[u8], at: usize) -> u64
 fn first_run(text: &[u8], at: usize) -> u64
     ensures { λ q. ⌜ (0 < q → PlainAt (now (text .entry)) atFirst at q) ⌝ }
 {
-    if !roomy(text, at) {
+    if !roomy(text, at, 20) {
         return 0;
     }
-    if text[at] != 40 {
+    if !stands(text, at, b"(") {
         return 0;
     }
     let q = run_body(text, at + 1);
@@ -184,7 +195,7 @@ fn number_and_blank(text: &[u8], at: usize) -> u64
     if q == 0 {
         return 0;
     }
-    if text[at + ((q % 16) as usize)] != 32 {
+    if !stands(text, at + ((q % 16) as usize), b" ") {
         return 0;
     }
     q
@@ -213,25 +224,10 @@ fn signed_at(text: &[u8], at: usize) -> Signed
 fn opens(text: &[u8], at: usize) -> bool
     ensures { λ r. ⌜ (r ≡ true → Opens (now (text .entry)) at) ⌝ }
 {
-    if text.len() < 25 {
+    if !roomy(text, at, 25) {
         return false;
     }
-    if text.len() - 25 < at {
-        return false;
-    }
-    if text[at] != 40 {
-        return false;
-    }
-    if text[at + 1] != 114 {
-        return false;
-    }
-    if text[at + 2] != 111 {
-        return false;
-    }
-    if text[at + 3] != 119 {
-        return false;
-    }
-    text[at + 4] == 32
+    stands(text, at, b"(row ")
 }
 
 // The beginning of a row.
@@ -254,10 +250,10 @@ fn range_at(text: &[u8], at: usize) -> Range
 fn ends(text: &[u8], at: usize) -> bool
     ensures { λ r. ⌜ (r ≡ true → Ends (now (text .entry)) at) ⌝ }
 {
-    if letter(text, at) != 41 {
+    if !roomy(text, at, 2) {
         return false;
     }
-    letter(text, at + 1) == 10
+    stands(text, at, b")\n")
 }
 
 // Reads on byte by byte.

@@ -12,7 +12,7 @@ returns : tie.Need-returns
 returns c = λ e. absurd (false≢true e)
 
 returns-2 : tie.Need-returns-2
-returns-2 c = λ e. omega (arith, c .if1 .left, leb-true (c .before .args .at) (length (c .before .args .text .now) - 20) e)
+returns-2 c = λ e. omega (arith, c .if1 .left, leb-true (c .before .args .at) (length (c .before .args .text .now) - c .before .args .n) e)
 
 pub roomy-spec : {M : Type 1} → statement M
 roomy-spec = tie.close (tie.spec returns (λ c. search needs) returns-2)

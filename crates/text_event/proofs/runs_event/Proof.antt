@@ -2,8 +2,8 @@
 use mathlib.Core.Path.{refl}
 use Prim.Native.Nat.{_+_}
 use native.Mathlib.Omega.{arith}
-use Rattle.text_event.specs.Event.{run-up}
-use Rattle.text_event.proofs.Steps.{byte-inside, ends-told}
+use Rattle.text_event.specs.Event.{run-up, closed-up}
+use Rattle.text_event.proofs.Steps.{ends-told}
 use borrow.Author.Needs.{needs}
 use Rattle.text_event.proofs.runs_event.Statement.{statement}
 use Rattle.text_event.proofs.runs_event.Tie as tie
@@ -15,7 +15,7 @@ returns : tie.Need-returns
 returns c = let p = c .before .before .before .before .plain-run .ensures (omega (arith, c .before .before .before .if1 .taken)) in rw (c .before .before .run-left .ensures, c .before .run-right .ensures, c .run-length .ensures) (refl, p .run)
 
 add-t12 : tie.Need-add-t12
-add-t12 c = let s = c .before .before .before .before .before in omega (arith, byte-inside (s .args .text .now) (s .args .at + 1) (omega (arith, c .before .ends .ensures (c .if2 .taken) .second)), s .good)
+add-t12 c = omega (arith, closed-up (ends-told _ _ (c .before .ends .ensures (c .if2 .taken))) .1, c .before .before .before .before .before .good)
 
 returns-2 : tie.Need-returns-2
 returns-2 c = ends-told _ _ (c .before .ends .ensures (c .if2 .taken))
