@@ -1,5 +1,5 @@
 -- `Demand3Kept` follows from what the two entries promise (`AuditKept`, `SearchKept`) and from demand 3 of the meanings, and from nothing else. Assumes nothing.
-use mathlib.Core.Path.{_≡_, refl, sym, _∙_, ap, subst}
+use mathlib.Core.Path.{_≡_, refl, sym, subst}
 use mathlib.Core.Option.{none}
 use lib.ListN.{length}
 use Rattle.meaning_rows.specs.Index.{Index}
