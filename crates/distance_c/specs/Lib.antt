@@ -1,2 +1,4 @@
--- What is tested once of an input.
+-- What is tested once of an input, and what each function for C leaves.
 pub mod Fits
+pub mod Outcome
+pub mod Told

@@ -1,4 +1,4 @@
-// The leaf code for C: for the comparison under tests/ and the measurements under bench/, and for nothing else. Lengths and limits are tested once, so no `requires` is left that C could break; what is promised is only that nothing undefined is done. What the numbers are is promised by the functions called.
+// The leaf code for C: for the comparison under tests/ and the measurements under bench/, and for nothing else. Lengths and limits are tested once, so no `requires` is left that C could break. What each function tells and leaves is said in specs/Told.antt: of an input that the tests refuse, nothing is written.
 use distance::match_at;
 use distance_bound::envelope_bound;
 use distance_compare::Match;
@@ -25,23 +25,26 @@ use values::spread_of;
 use values::sums_at;
 use values::window_sum;
 ghost use mathlib.Core.Path.{_≡_};
-ghost use mathlib.Core.Bool.{true};
 ghost use Prim.Native.Nat.{_+_, _<_, _≤_};
-ghost use Rattle.meaning_curves.specs.Limits.{longestWindow, longestQuery, greatestScale};
-ghost use Rattle.meaning_curves.specs.Curve.{at, stretch, spread, windowSum};
+ghost use lib.ListN.{length};
+ghost use Rattle.meaning_numbers.specs.Root.{root};
+ghost use Rattle.meaning_curves.specs.Limits.{longestWindow, longestQuery, greatestScale, firstOutside};
+ghost use Rattle.meaning_curves.specs.Curve.{stretch, spread, windowSum};
 ghost use Rattle.meaning_curves.proofs.Values.{AllIn};
-ghost use Rattle.meaning_filter.specs.declared.Kind.{Kind};
 ghost use Rattle.values.specs.Sums.{AreSums};
 ghost use Rattle.distance_envelope.specs.Envelope.{Envelopes};
 ghost use Rattle.distance_query.specs.Ready.{Ready};
+ghost use Rattle.distance.specs.Alike.{Says};
 ghost use Rattle.distance_c.specs.Fits.{Fits};
+ghost use Rattle.distance_c.specs.Outcome.{Written};
+ghost use Rattle.distance_c.specs.Told.{placeOr, stretches, StraightTold, BoundTold, WarpedAt, WarpedTold, EnvelopesTold, NormalRoom, NormalTold, kindOf, CanPrepare, wrapped, MatchAt, MatchesTold, WindowsTold};
 
 // The longest window, as an index.
 const WINDOW: usize = LONGEST_WINDOW as usize;
 
 // Whether each value is in its limits.
 fn all_in(s: &[i32]) -> bool
-    ensures { λ r. ⌜ (r ≡ true → AllIn (now (s .entry))) ⌝ }
+    ensures { λ r. ⌜ Says r (AllIn (now (s .entry))) ⌝ }
 {
     match first_outside(s) {
         Place::At(_) => false,
@@ -51,7 +54,7 @@ fn all_in(s: &[i32]) -> bool
 
 // Whether `s` has stretches of `m` values, there is room for a number for each, and each value is in its limits.
 fn fits(s: &[i32], m: usize, room: usize) -> bool
-    ensures { λ r. ⌜ (r ≡ true → Fits (now (s .entry)) m room) ⌝ }
+    ensures { λ r. ⌜ Says r (Fits (now (s .entry)) m room) ⌝ }
 {
     if m == 0 {
         return false;
@@ -69,13 +72,17 @@ fn fits(s: &[i32], m: usize, room: usize) -> bool
 }
 
 #[no_mangle]
-pub extern "C" fn curve_root(y: u64) -> u64 {
+pub extern "C" fn curve_root(y: u64) -> u64
+    ensures { λ r. ⌜ r ≡ root y ⌝ }
+{
     root(y)
 }
 
 // The straight distance of `q` from each stretch of `s`, where it is at most `limit`, else some number above it. How many were written; 0 where the input is refused.
 #[no_mangle]
-pub extern "C" fn curve_straight(s: &[i32], q: &[i32], limit: u64, out: &mut [u64]) -> usize {
+pub extern "C" fn curve_straight(s: &[i32], q: &[i32], limit: u64, out: &mut [u64]) -> usize
+    ensures { λ r. ⌜ StraightTold (now (s .entry)) (now (q .entry)) limit (now (out .entry)) r (now (out .exit)) ⌝ }
+{
     let n = s.len();
     let m = q.len();
     if !fits(s, m, out.len()) {
@@ -100,7 +107,9 @@ pub extern "C" fn curve_bound(
     high: &[i32],
     limit: u64,
     out: &mut [u64],
-) -> usize {
+) -> usize
+    ensures { λ r. ⌜ BoundTold (now (s .entry)) (now (low .entry)) (now (high .entry)) limit (now (out .entry)) r (now (out .exit)) ⌝ }
+{
     let n = s.len();
     let m = low.len();
     if high.len() != m {
@@ -135,6 +144,7 @@ fn each_warped(
 ) -> usize
     requires { do ⌜ Fits (now s) (← ⟦q.len()⟧) (← ⟦out.len()⟧) ⌝ }
     requires { do ⌜ AllIn (now q) × Envelopes (now q) (← ⟦q.len()⟧) b (now low) (now high) ⌝ }
+    ensures { λ r. ⌜ (r ≡ stretches (now (s .entry)) (length (now (q .entry)))) × Written 0 (WarpedAt (now (s .entry)) (now (q .entry)) b limit) (stretches (now (s .entry)) (length (now (q .entry)))) (now (out .entry)) (now (out .exit)) ⌝ }
 {
     let n = s.len();
     let m = q.len();
@@ -147,7 +157,7 @@ fn each_warped(
     at
 }
 
-// The warped distance of `q` from each stretch of `s`, likewise. `low` and `high` are as long as `q`.
+// The warped distance of `q` from each stretch of `s`, likewise. `low` and `high` are as long as `q`, and are left with its envelopes.
 #[no_mangle]
 pub extern "C" fn curve_warped(
     s: &[i32],
@@ -157,7 +167,9 @@ pub extern "C" fn curve_warped(
     low: &mut [i32],
     high: &mut [i32],
     out: &mut [u64],
-) -> usize {
+) -> usize
+    ensures { λ r. ⌜ WarpedTold (now (s .entry)) (now (q .entry)) b limit (now (low .entry)) (now (high .entry)) (now (out .entry)) r (now (low .exit)) (now (high .exit)) (now (out .exit)) ⌝ }
+{
     let m = q.len();
     if low.len() != m {
         return 0;
@@ -178,7 +190,9 @@ pub extern "C" fn curve_warped(
 
 // Both envelopes of `q` at the band `b`. Whether they were written.
 #[no_mangle]
-pub extern "C" fn curve_envelopes(q: &[i32], b: usize, low: &mut [i32], high: &mut [i32]) -> bool {
+pub extern "C" fn curve_envelopes(q: &[i32], b: usize, low: &mut [i32], high: &mut [i32]) -> bool
+    ensures { λ r. ⌜ EnvelopesTold (now (q .entry)) b (now (low .entry)) (now (high .entry)) r (now (low .exit)) (now (high .exit)) ⌝ }
+{
     if low.len() != q.len() {
         return false;
     }
@@ -200,6 +214,7 @@ fn normal_values(s: &[i32], from: usize, t: Sums, a: u64, room: &mut [i32])
     requires { ⌜ AllIn (now s) ⌝ }
     requires { do ⌜ AreSums (now s) from (← ⟦room.len()⟧) (t .values) (t .squares) ⌝ }
     requires { do ⌜ a ≡ spread (stretch (now s) from) (← ⟦room.len()⟧) ⌝ }
+    ensures { λ r. ⌜ NormalRoom (now (s .entry)) (length (now (room .entry))) from (now (room .entry)) (now (room .exit)) ⌝ }
 {
     if 0 < a {
         normalise(s, from, t, a, room);
@@ -223,7 +238,9 @@ fn sums_after(s: &[i32], from: usize, m: usize, t: Sums) -> Sums
 
 // The spread of each stretch of `s` that is as long as `room`, with the normalised values of the last one that is not flat in `room`. How many spreads were written.
 #[no_mangle]
-pub extern "C" fn curve_normal(s: &[i32], room: &mut [i32], out: &mut [u64]) -> usize {
+pub extern "C" fn curve_normal(s: &[i32], room: &mut [i32], out: &mut [u64]) -> usize
+    ensures { λ r. ⌜ NormalTold (now (s .entry)) (now (room .entry)) (now (out .entry)) r (now (room .exit)) (now (out .exit)) ⌝ }
+{
     let n = s.len();
     let m = room.len();
     if !fits(s, m, out.len()) {
@@ -242,7 +259,9 @@ pub extern "C" fn curve_normal(s: &[i32], room: &mut [i32], out: &mut [u64]) -> 
 }
 
 // A kind by its number: 0 is raw.
-fn kind_of(n: u32) -> Kind {
+fn kind_of(n: u32) -> Kind
+    ensures { λ r. ⌜ r ≡ kindOf n ⌝ }
+{
     if n == 0 {
         return Kind::Raw;
     }
@@ -253,7 +272,7 @@ fn kind_of(n: u32) -> Kind {
 fn can_prepare(kind: Kind, q: &[i32]) -> bool
     requires { do ⌜ (← ⟦q.len()⟧) ≤ longestQuery ⌝ }
     requires { ⌜ AllIn (now q) ⌝ }
-    ensures { λ r. do ⌜ (r ≡ true → kind ≡ Kind.Normal → 0 < spread (at (now (q .entry))) (← ⟦q.len()⟧ .entry)) ⌝ }
+    ensures { λ r. ⌜ Says r (CanPrepare kind (now (q .entry))) ⌝ }
 {
     match kind {
         Kind::Raw => true,
@@ -270,7 +289,9 @@ fn can_prepare(kind: Kind, q: &[i32]) -> bool
 }
 
 // The distance and 1, or 0 for no match.
-fn told(found: Match) -> u64 {
+fn told(found: Match) -> u64
+    ensures { λ r. ⌜ r ≡ wrapped found ⌝ }
+{
     match found {
         Match::Yes { distance } => std::num::wrapping_add_u64(distance, 1),
         Match::No => 0,
@@ -295,6 +316,7 @@ fn each_match(
     requires { do ⌜ ((← ⟦room.len()⟧) ≡ (← ⟦q.len()⟧)) × ((← ⟦q.len()⟧) < (← ⟦row.len()⟧)) ⌝ }
     requires { ⌜ AllIn (now q) × (l .scale ≤ greatestScale) ⌝ }
     requires { ⌜ Ready kind (now q) (l .band) (now curve) (now low) (now high) (query .values) (query .spread) ⌝ }
+    ensures { λ r. ⌜ (r ≡ stretches (now (s .entry)) (length (now (q .entry)))) × Written 0 (MatchAt kind (now (s .entry)) (now (q .entry)) l) (stretches (now (s .entry)) (length (now (q .entry)))) (now (out .entry)) (now (out .exit)) ⌝ }
 {
     let n = s.len();
     let m = q.len();
@@ -309,7 +331,7 @@ fn each_match(
     at
 }
 
-// For each stretch of `s` the distance and 1 where it matches `q`, else 0. How many were written; 0 where the input is refused. `curve`, `low`, `high` and `room` are as long as `q`, `row` is longer.
+// For each stretch of `s` the distance and 1 where it matches `q`, else 0. How many were written; 0 where the input is refused. `curve`, `low`, `high` and `room` are as long as `q`, `row` is longer: the first three are left with the curve compared and its envelopes; what `room` and `row` hold is free.
 #[no_mangle]
 pub extern "C" fn curve_matches(
     kind: u32,
@@ -325,7 +347,9 @@ pub extern "C" fn curve_matches(
     room: &mut [i32],
     row: &mut [u64],
     out: &mut [u64],
-) -> usize {
+) -> usize
+    ensures { λ r. ⌜ MatchesTold (kindOf kind) (now (s .entry)) (now (q .entry)) (record { band = b; threshold = threshold; scale = scale; shift = shift }) (record { curve = now (curve .entry); low = now (low .entry); high = now (high .entry); room = now (room .entry); row = now (row .entry); out = now (out .entry) }) r (record { curve = now (curve .exit); low = now (low .exit); high = now (high .exit); room = now (room .exit); row = now (row .exit); out = now (out .exit) }) ⌝ }
+{
     let m = q.len();
     if curve.len() != m {
         return 0;
@@ -382,7 +406,9 @@ fn window_after(s: &[i32], w: usize, at: usize, sum: i32) -> i32
 
 // The place of the first value outside its limits, or how many values there are.
 #[no_mangle]
-pub extern "C" fn curve_outside(s: &[i32]) -> usize {
+pub extern "C" fn curve_outside(s: &[i32]) -> usize
+    ensures { λ r. ⌜ r ≡ placeOr (length (now (s .entry))) (firstOutside (now (s .entry))) ⌝ }
+{
     match first_outside(s) {
         Place::At(k) => k,
         Place::Nowhere => s.len(),
@@ -397,7 +423,9 @@ pub extern "C" fn curve_windows(
     d: u32,
     sums: &mut [i32],
     rows: &mut [i32],
-) -> usize {
+) -> usize
+    ensures { λ r. ⌜ WindowsTold (now (s .entry)) w d (now (sums .entry)) (now (rows .entry)) r (now (sums .exit)) (now (rows .exit)) ⌝ }
+{
     let n = s.len();
     if WINDOW < w {
         return 0;

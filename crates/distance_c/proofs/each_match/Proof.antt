@@ -1,11 +1,15 @@
--- `distance_c::each_match` meets its contract. Assumes nothing.
+-- `distance_c::each_match` meets its contract. The invariant: the answers so far are written. Assumes nothing.
 use borrow.Author.Needs.{needs}
-use mathlib.Core.Path.{_≡_, _∙_}
+use mathlib.Core.Path.{_≡_, ap, _∙_}
 use Prim.Native.Nat.{_+_, _-_, _≤_, _<_}
 use native.Mathlib.Omega.{arith}
-use lib.ListN.{length, length-set}
+use lib.ListN.{length}
 use Rattle.meaning_curves.proofs.Values.{AllIn}
 use Rattle.distance_c.specs.Fits.{Fits}
+use Rattle.distance_c.specs.Outcome.{Written}
+use Rattle.distance_c.specs.Told.{MatchAt, wrapped}
+use Rattle.distance_c.proofs.Laws.{written-none, written-more, written-all}
+use Rattle.distance_c.proofs.Matches.{told-wrapped}
 use Rattle.values.specs.Sums.{AreSums}
 use Rattle.distance_query.specs.Ready.{Ready}
 use Rattle.distance_c.proofs.each_match.Statement.{statement}
@@ -13,8 +17,8 @@ use Rattle.distance_c.proofs.each_match.Tie as tie
 
 abbrev Inv-loop : tie.InvT-loop
 Inv-loop kind s q query curve low high l room₀ row₀ out₀ n m t₀ at₀ room row out t at =
-    Fits s m (length out₀) × (n ≡ length s) × (m ≡ length q) × (at ≤ n - m + 1) × ((length room ≡ m) × (length room ≡ length room₀)) × ((m < length row) × (length row ≡ length row₀))
-    × (length out ≡ length out₀) × (at ≤ n - m → AreSums s at m (t .values) (t .squares)) × (AllIn q × (l .scale ≤ 100)) × Ready kind q (l .band) curve low high (query .values) (query .spread) × (n ≤ 18446744073709551615)
+    Fits s (length q) (length out₀) × (n ≡ length s) × (m ≡ length q) × (at ≤ n - m + 1) × ((length room ≡ m) × (length room ≡ length room₀)) × ((m < length row) × (length row ≡ length row₀))
+    × Written 0 (MatchAt kind s q l) at out₀ out × (at ≤ n - m → AreSums s at m (t .values) (t .squares)) × (AllIn q × (l .scale ≤ 100)) × Ready kind q (l .band) curve low high (query .values) (query .spread) × (n ≤ 18446744073709551615)
 
 abbrev μ-loop : tie.MeasureT-loop
 μ-loop kind s q query curve low high l room₀ row₀ out₀ n m t₀ at₀ room row out t at = n - m + 1 - at
@@ -31,7 +35,7 @@ loop-holds c =
       omega arith,
       (p .1 .0 .0, omega arith),
       (p .1 .0 .1, omega arith),
-      omega arith,
+      written-none _,
       λ l. c .sums-at .ensures,
       p .1 .1 .0,
       p .1 .1 .1,
@@ -50,19 +54,24 @@ sums-after-requires c κs =
 loop-again : tie.Need-loop-again Inv-loop μ-loop
 loop-again c =
     let i = c .before .before .before .before .before .before .before .before .before .loop .inv in
-    let k = c .before .before .before .before .before .match-at .kept in (
+    let f = c .before .before .before .before .before .match-at in
+    let t = c .before .told in
+    let k = f .kept in (
       i .0,
       omega arith,
       omega arith,
       omega arith,
       (k .1 .1 .1 .1 .1 .1 .1 .1 .1 .1 .0 ∙ i .4 .0, k .1 .1 .1 .1 .1 .1 .1 .1 .1 .1 .0 ∙ i .4 .1),
       (omega (arith, k .1 .1 .1 .1 .1 .1 .1 .1 .1 .1 .1 .0, i .5 .0), k .1 .1 .1 .1 .1 .1 .1 .1 .1 .1 .1 .0 ∙ i .5 .1),
-      simp length-set (i .6),
+      written-more _ (i .6) (omega (arith, i .0 .enough)) (t .ensures ∙ ap wrapped (f .ensures) ∙ told-wrapped _ _ (i .0 .inside) (i .0 .some) (i .0 .short) _ (i .9 .curve-is)),
       λ l. c .sums-after .ensures (omega (arith, i .0 .long)),
       i .8,
       i .9,
       i .10,
     )
+
+returns : tie.Need-returns Inv-loop μ-loop
+returns c = let i = c .before .loop .inv in (omega (arith, i .0 .long), written-all (omega (arith, i .0 .long)) (i .6))
 
 pub each-match-spec : {M : Type 1} → statement M
 each-match-spec =
@@ -76,12 +85,12 @@ each-match-spec =
     match-at-requires
     (λ c κs. search needs)
     (λ c. omega arith)
-    (λ c. let i = c .before .before .before .before .before .before .before .before .loop .inv in omega (arith, i .0 .enough))
+    (λ c. let i = c .before .before .before .before .before .before .before .before .loop .inv in omega (arith, i .0 .enough, i .6 .long))
     sums-after-requires
     (λ c. let i = c .before .before .before .before .before .before .before .before .before .loop .inv in omega (arith, i .0 .some, i .0 .long, i .10))
     (λ c. omega arith)
     loop-again
     (λ c. c .before .loop .inv .4 .1)
     (λ c. c .before .loop .inv .5 .1)
-    (λ c. c .before .loop .inv .6)
-    (λ c. search needs))
+    (λ c. c .before .loop .inv .6 .long)
+    returns)
