@@ -1,2 +1,3 @@
--- What the contracts of the lines for C cite.
+-- What the contracts of the lines for C cite: a piece more (`Piece`), and what is told of the whole text (`Told`).
+pub mod Told
 pub mod Piece

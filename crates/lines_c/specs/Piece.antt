@@ -1,14 +1,27 @@
--- A text of which some bytes have been read, and one more piece. Assumes nothing.
+-- A text of which some bytes have been read (`Stands`), and one more piece (`Fed`). Assumes nothing.
 use mathlib.Core.Path.{_≡_}
+use mathlib.Core.Bool.{Bool, true, false}
 use mathlib.Core.List.{List}
-use Prim.Native.Nat.{ℕ, _≤_}
-use native.Mathlib.Omega.{arith}
+use Prim.Native.Nat.{ℕ, _-_, _≤_}
 use lib.IntN.{ℤ}
-use lib.ListN.{length}
+use lib.ListN.{length, take, drop}
+use Rattle.meaning_text.proofs.Automaton.{going, feed}
 use Rattle.text_lines.specs.Step.{GoodState}
+use Rattle.text_lines.specs.Follow.{Said, nothingSaid, Reading, step, programStart, seriesStart}
 use Rattle.text_feed.specs.declared.Progress.{Progress}
 use Rattle.text_feed.specs.declared.Feeding.{Feeding}
-use Rattle.text_feed.specs.Feed.{GoodFeeding}
+use Rattle.text_feed.specs.Keep.{numbersOf}
+use Rattle.text_feed.specs.Feed.{GoodFeeding, Shows, Comes as Takes}
+use Rattle.text_feed.specs.Whole.{noValues}
+
+-- where the program's lines begin, and a series line
+abbrev pub startOf : Bool → Reading
+startOf true = programStart
+startOf false = seriesStart
+
+-- nothing has been read
+abbrev pub begun : Bool → Progress
+begun program = record { state = startOf program .state; at = 0; series = noValues; query = noValues }
 
 -- p stands in a text of n bytes, and no count is above the bytes read
 pub record Stands (n : ℕ) (p : Progress) : Type 0 where
@@ -17,17 +30,14 @@ pub record Stands (n : ℕ) (p : Progress) : Type 0 where
   pub query : p .query .count ≤ p .at
   pub inside : p .at ≤ n
 
-abbrev pub GoesOn : ℕ → Feeding → Type 0
-GoesOn n (Feeding.Going p) = Stands n p
-GoesOn n (Feeding.Failed m) = Unit {0}
+-- the answer shows what a text comes to, where the buffers were these at first
+pub record Comes (program : Bool) (text : List ℕ) (numbers series query : List ℤ) (r : Feeding) (numbers' series' query' : List ℤ) : Type 0 where
+  pub shows : numbers ≡ numbersOf nothingSaid → Shows series query r (feed step (going (startOf program) 0) text) numbers' series' query'
 
--- the next piece can be read, and the buffers have their lengths
-pub record Fed (n : ℕ) (r : Feeding) (numbers series query numbers' series' query' : List ℤ) : Type 0 where
-  pub good : GoesOn n r
+-- the bytes to `end` were read, and the buffers have their lengths
+pub record Fed (text : List ℕ) (end : ℕ) (p : Progress) (r : Feeding) (numbers series query numbers' series' query' : List ℤ) : Type 0 where
+  pub good : GoodFeeding end r
   pub alone : length numbers' ≡ length numbers
   pub first : length series' ≡ length series
   pub second : length query' ≡ length query
-
-pub goes-on : (n end : ℕ) (r : Feeding) → GoodFeeding end r → end ≤ n → GoesOn n r
-goes-on n end (Feeding.Going p) g h = record { good = g .0; series = g .1; query = g .2; inside = omega (arith, g .3, h) }
-goes-on n end (Feeding.Failed m) g h = tt
+  pub comes : (g : Said) (kept asked : List ℤ) → Takes p g kept asked (take (end - p .at) (drop (p .at) text)) numbers series query r numbers' series' query'

@@ -1,13 +1,25 @@
 -- `lines_c::piece` meets its contract: the piece ends inside the text. Assumes nothing.
+use borrow.Author.Needs.{needs}
+use mathlib.Core.Path.{subst}
+use Prim.Native.Nat.{ℕ}
 use native.Mathlib.Omega.{arith}
 use lib.ListN.{length-take, length-drop}
-use Rattle.lines_c.specs.Piece.{goes-on}
-use borrow.Author.Needs.{needs}
+use Rattle.text_feed.specs.Feed.{GoodFeeding}
 use Rattle.lines_c.proofs.piece.Statement.{statement}
 use Rattle.lines_c.proofs.piece.Tie as tie
 
 returns : tie.Need-returns
-returns c = record { good = let s = c .before .before .before .before .before .before .before .before .before .before in goes-on _ _ (c .before .before .before .feed .result) (c .before .before .before .feed .ensures .0) (simp (length-take, length-drop) (omega (arith, s .pre .inside))); alone = search needs; first = search needs; second = search needs }
+returns c =
+    let f = c .before .before .before in
+    let e = f .before .before .before .before .before in
+    let s = e .before .before in
+    record {
+      good = subst (λ (n : ℕ). GoodFeeding n (f .feed .result)) (simp (length-take, length-drop) (omega (arith, e .piece-end .ensures, s .pre .inside))) (f .feed .ensures .0);
+      alone = search needs;
+      first = search needs;
+      second = search needs;
+      comes = λ g kept asked. rw (e .piece-end .ensures) at (f .feed .ensures .1 g kept asked);
+    }
 
 pub piece-spec : {M : Type 1} → statement M
 piece-spec =
