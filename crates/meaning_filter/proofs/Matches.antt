@@ -3,15 +3,20 @@
 use mathlib.Core.Path.{_≡_, refl, sym, subst}
 use mathlib.Core.Bool.{Bool}
 use mathlib.Core.List.{List, map}
-use Prim.Native.Nat.{ℕ, zero, suc, _<_}
+use Prim.Native.Nat.{ℕ, zero, suc, _<_, _≤_}
 use native.Mathlib.Omega.{arith}
 use lib.Dec.{T}
 use Rattle.meaning_numbers.specs.Place.{keep, numbersFrom}
 use Rattle.meaning_numbers.proofs.Tests.{by-test}
 use Rattle.meaning_numbers.proofs.Member.{map-mem, mem-map, numbers-mem, mem-numbers}
 use Rattle.meaning_numbers.proofs.Keep.{keep-twice, kept-mem, mem-kept}
+use lib.IntN.{ℤ}
+use Rattle.meaning_curves.proofs.Match.{raw-yes, normal-yes}
 use Rattle.meaning_rows.specs.Index.{Index}
-use Rattle.meaning_filter.specs.Matches.{Question, queryLength, offsetCount, matchesAt, listed, candidateAt, allMatches, matchList, Upward, done, next, Exactly}
+use Rattle.meaning_filter.specs.declared.Kind.{Kind}
+use Rattle.meaning_filter.specs.declared.Kind.the-variants.{Raw, Normal}
+use Rattle.meaning_filter.specs.declared.Limits.{Limits}
+use Rattle.meaning_filter.specs.Matches.{Question, matches, distanceTo, queryLength, offsetCount, matchesAt, listed, candidateAt, allMatches, matchList, Upward, done, next, Exactly}
 use Rattle.meaning_filter.proofs.Candidates.{Reached, kept-candidate}
 
 pub all-found : (x : Index) (z : Question) → Reached x (z .series) → 0 < queryLength z → 0 < z .ask .limits .scale → matchList x z ≡ allMatches z
@@ -42,3 +47,9 @@ all-exactly z = record {
       subst (λ (x : ℕ × ℕ). (x .0 < offsetCount z) × T (matchesAt z (x .0)) × (x ≡ listed z (x .0))) (sym (i .same)) (omega (arith, b .1), k .1, refl);
   every = λ j h t. mem-map (listed z) (mem-kept (matchesAt z) (mem-numbers 0 (offsetCount z) j (omega arith) (omega arith)) t);
 }
+
+-- the distance of a match is at most E
+pub listed-within : (k : Kind) (s q : ℕ → ℤ) (m : ℕ) (l : Limits) → T (matches k s q m l) → distanceTo k s q m l ≤ l .threshold
+unfolding matches distanceTo
+listed-within Raw s q m l t = raw-yes s q m (l .band) (l .threshold) t .near
+listed-within Normal s q m l t = normal-yes s q m (l .band) (l .threshold) (l .scale) (l .shift) t .near

@@ -38,7 +38,7 @@ unfoldable pub matches : Kind → (s q : ℕ → ℤ) → ℕ → Limits → Boo
 matches Raw s q m l = rawMatch s q m (l .band) (l .threshold)
 matches Normal s q m l = normalMatch s q m (l .band) (l .threshold) (l .scale) (l .shift)
 
--- its distance
+-- its distance (law: `listed-within`, that of a match is at most E)
 unfoldable pub distanceTo : Kind → (s q : ℕ → ℤ) → ℕ → Limits → ℕ
 distanceTo Raw s q m l = distance s q (l .band) m
 distanceTo Normal s q m l = normalDistance s q (l .band) m
