@@ -1,6 +1,7 @@
 -- Rows of the table of cases that are calls over lent buffers: the answer, and every buffer afterwards. Answers and buffers are compared as lists of numbers. Assumes nothing.
 use mathlib.Core.Bool.{Bool, _&&_}
 use mathlib.Core.List.{List, [], _∷_, _++_}
+use mathlib.Core.Option.{Option, none, some}
 use Prim.Native.Nat.{ℕ}
 use lib.Dec.{eqb}
 use lib.IntN.{ℤ, pos, negsuc, natAbs}
@@ -23,6 +24,7 @@ use Rattle.meaning_entries.specs.declared.Loaded.{Loaded}
 use Rattle.meaning_entries.specs.declared.Found.{Found}
 use Rattle.meaning_entries.specs.declared.Both.{Both}
 use Rattle.meaning_entries.specs.Buffers.{IndexBuffers}
+use Rattle.meaning_entries.specs.Answers.{builtCounts, extendedCounts, loadedCounts, foundCounts, bothRefusal, bothWrong, bothMissing, bothCounts, bothFound}
 use Rattle.meaning_entries.specs.Build.{BuildCall, lentBuild, buildAnswer, buildAfter}
 use Rattle.meaning_entries.specs.Extend.{ExtendCall, lentExtend, extendAnswer, extendAfter}
 use Rattle.meaning_entries.specs.Audit.{lentAudit, auditAnswer}
@@ -75,6 +77,18 @@ both (Both.FirstAudit a) = 101 ∷ audited a
 both (Both.SecondAudit a) = 102 ∷ audited a
 both (Both.FirstSearch f) = 103 ∷ found f
 both (Both.SecondSearch f) = 104 ∷ found f
+
+-- this paper's numbers of an answer: number and place, wrong row and offset, windows that stand nowhere, matches of both lists, counts of a search
+pair : ℕ × ℕ → List ℕ
+pair p = p .0 ∷ p .1 ∷ []
+
+place : Option (ℕ × ℕ) → List ℕ
+place none = []
+place (some r) = r .0 ∷ r .1 ∷ []
+
+numbers : Both → List ℕ
+unfolding pair place
+numbers b = place (bothRefusal b) ++ (place (bothWrong b) ++ (bothMissing b ∷ (pair (bothCounts b) ++ pair (bothFound b))))
 
 -- a row by the sizes of its ends, its first and its runs
 records : List Row → List ℕ
@@ -189,7 +203,7 @@ unfolding row other
 misfiled = other (row (pos 2) (pos 4) 0 1 ∷ []) (0 ∷ []) (3 ∷ [])
 
 unfoldable pub calls : List Bool
-unfolding worked workedIndex row build builds grows searchIn searchFor lists finds audited audits demands packs other unmerged misfiled apart asks sevens same grown loaded written
+unfolding worked workedIndex row build builds grows searchIn searchFor lists finds audited audits demands packs other unmerged misfiled apart asks sevens same grown loaded written pair place numbers
 calls =
     -- build: success, unused entries 0, also past the shorter slice; refused, nothing altered
     builds (build worked (pos 2) (pos 2) (pos 80)) (sevens 4 4 5) (2 ∷ 2 ∷ 4 ∷ 2 ∷ 2 ∷ [])
@@ -274,6 +288,17 @@ calls =
     ∷ demands workedIndex unmerged (lists 4 4 0) (lists 0 0 0) (103 ∷ 24 ∷ 3 ∷ 1 ∷ [])
     ∷ demands workedIndex unmerged (lists 4 4 1) (lists 3 4 1) (104 ∷ 23 ∷ 0 ∷ [])
     ∷ demands workedIndex unmerged (lists 4 4 1) (lists 4 4 0) (104 ∷ 24 ∷ 2 ∷ 1 ∷ [])
+    -- this paper's numbers of each kind of answer
+    ∷ same (numbers (Both.Listed 1 2)) (0 ∷ 1 ∷ 2 ∷ 0 ∷ 0 ∷ [])
+    ∷ same (numbers (Both.FirstAudit (Audited.Wrong 1 2))) (1 ∷ 2 ∷ 0 ∷ 0 ∷ 0 ∷ 0 ∷ 0 ∷ [])
+    ∷ same (numbers (Both.SecondAudit (Audited.Missing 3))) (3 ∷ 0 ∷ 0 ∷ 0 ∷ 0 ∷ [])
+    ∷ same (numbers (Both.SecondAudit (Audited.Refused 20 1))) (20 ∷ 1 ∷ 0 ∷ 0 ∷ 0 ∷ 0 ∷ 0 ∷ [])
+    ∷ same (numbers (Both.FirstSearch (Found.Full 3 2))) (24 ∷ 0 ∷ 0 ∷ 0 ∷ 0 ∷ 3 ∷ 2 ∷ [])
+    ∷ same (numbers (Both.SecondSearch (Found.Refused 23 0))) (23 ∷ 0 ∷ 0 ∷ 0 ∷ 0 ∷ 0 ∷ 0 ∷ [])
+    ∷ same (pair (builtCounts (Built.Index (apart 4) 2 3))) (2 ∷ 3 ∷ [])
+    ∷ same (pair (extendedCounts (Extended.Index (apart 4) 2 3))) (2 ∷ 3 ∷ [])
+    ∷ same (pair (loadedCounts (Loaded.Index (apart 4) 2 3))) (2 ∷ 3 ∷ [])
+    ∷ same (pair (foundCounts (Found.All 4 3))) (4 ∷ 3 ∷ [])
     -- the audit of two texts takes 4,096 values and no more; the index is of another series
     ∷ same (audited (auditTextAnswer (bytes "(index (window 1) (width 1) (windows 1)\n)\n") (spell seriesForm (replicate 4096 (pos 0))))) (3 ∷ 21 ∷ 0 ∷ [])
     ∷ same (audited (auditTextAnswer (bytes "(index (window 1) (width 1) (windows 1)\n)\n") (spell seriesForm (replicate 4097 (pos 0))))) (3 ∷ 1 ∷ 0 ∷ [])

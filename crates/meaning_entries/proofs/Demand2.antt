@@ -129,14 +129,14 @@ pub audit-kept : (c : AuditCall) (a : Audited) → a ≡ auditAnswer c → Audit
 unfolding auditAnswer
 audit-kept c a h =
     let o = firstRefusal (auditTable mostValues c) in
-    record { answered = h; refused = ap auditedRefusal h ∙ audit-refuses c .same; wrong = ap wrongPlace h ∙ says-wrong o c; counted = ap missingCount h ∙ says-counts o c }
+    record { answered = h; refused = ap auditedRefusal h ∙ audit-refuses c .same; wrong = ap wrongPlace h ∙ says-wrong o c; missing = ap missingCount h ∙ says-counts o c }
 
 pub audit-text-kept : (x s : List ℕ) (a : ℕ) → a ≡ auditText x s → AuditTextKept x s a
 unfolding auditTextAnswer
 audit-text-kept x s a h =
     let o = firstRefusal (auditTextTable x s) in
     let told : unpack a ≡ auditTextAnswer x s = ap unpack h ∙ audit-text-back x s in
-    record { answered = h; refused = ap (λ (n : ℕ). auditedRefusal (unpack n)) h ∙ audit-text-refuses x s .same; wrong = ap wrongPlace told ∙ says-wrong o (textCall x s); counted = ap missingCount told ∙ says-counts o (textCall x s) }
+    record { answered = h; refused = ap (λ (n : ℕ). auditedRefusal (unpack n)) h ∙ audit-text-refuses x s .same; wrong = ap wrongPlace told ∙ says-wrong o (textCall x s); missing = ap missingCount told ∙ says-counts o (textCall x s) }
 
 write-by : (x : Index) (t : List ℕ) (o : Option (ℕ × ℕ)) → writeRefusal x t ≡ o → writtenCount (writeAnswer x t) ≡ writeCount x t
 unfolding writeAnswer writeCount

@@ -3,6 +3,8 @@ use mathlib.Core.Path.{_≡_, refl, sym, ap, _∙_}
 use mathlib.Core.List.{List}
 use mathlib.Core.Option.{Option, none, some}
 use Prim.Native.Nat.{ℕ}
+use lib.IntN.{ℤ, pos}
+use Rattle.meaning_filter.specs.declared.Ask.{Ask}
 use Rattle.meaning_rows.specs.Index.{Index}
 use Rattle.meaning_entries.specs.declared.Built.{Built}
 use Rattle.meaning_entries.specs.declared.Extended.{Extended}
@@ -12,12 +14,12 @@ use Rattle.meaning_entries.specs.declared.Loaded.{Loaded}
 use Rattle.meaning_entries.specs.declared.Found.{Found}
 use Rattle.meaning_entries.specs.Refusal.{firstRefusal}
 use Rattle.meaning_entries.specs.Buffers.{IndexBuffers}
-use Rattle.meaning_entries.specs.Build.{BuildCall, buildAnswer, buildAfter}
+use Rattle.meaning_entries.specs.Build.{BuildCall, lentBuild, buildAnswer, buildAfter}
 use Rattle.meaning_entries.specs.Extend.{ExtendCall, extendAnswer, extendAfter}
 use Rattle.meaning_entries.specs.Audit.{AuditCall, auditAnswer}
 use Rattle.meaning_entries.specs.Write.{writeAnswer, writeAfter}
 use Rattle.meaning_entries.specs.Load.{loadAnswer, loadAfter}
-use Rattle.meaning_entries.specs.Search.{SearchCall, SearchBuffers, searchAnswer, searchAfter}
+use Rattle.meaning_entries.specs.Search.{SearchCall, SearchBuffers, lentAsk, plainAsk, searchAnswer, searchAfter}
 use Rattle.meaning_entries.specs.AuditText.{auditTextAnswer, auditText, unpack}
 use Rattle.meaning_entries.specs.Program.{programTable, program}
 use Rattle.meaning_entries.specs.Demand1.{ProgramRefuses}
@@ -56,3 +58,11 @@ program-refuses-only {t} {out} k = by (firstRefusal (programTable t)) refl
     by : (o : Option (ℕ × ℕ)) → firstRefusal (programTable t) ≡ o → out ≡ program t
     by none e = k .free e ∙ sym (program-refuses t .free e)
     by (some r) e = k .refused (r .0) (r .1) e ∙ sym (program-refuses t .refused (r .0) (r .1) e)
+
+-- what the code is asked, and back: nothing of it is lost
+pub plain-lent : (a : Ask) → plainAsk (lentAsk a) ≡ a
+plain-lent a = refl
+
+-- the call of a build has the numbers that it is made of
+pub lent-build : (s : List ℤ) (w d g : ℕ) → (lentBuild s w d g .window ≡ pos w) × (lentBuild s w d g .width ≡ pos d) × (lentBuild s w d g .merge ≡ pos g)
+lent-build s w d g = (refl, refl, refl)

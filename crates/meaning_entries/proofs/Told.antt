@@ -120,7 +120,7 @@ module _ (c : SearchCall) (x : Index) (b₁ b₂ : SearchBuffers) where
   demand-wrong = demand-by bothWrong ∙ rw (audit (auditOf c) .wrong, audit (auditOf (through x c)) .wrong) refl
 
   pub demand-missing : bothMissing (demandAnswer c x b₁ b₂) ≡ demandMissing c x b₁ b₂
-  demand-missing = demand-by bothMissing ∙ rw (audit (auditOf c) .counted, audit (auditOf (through x c)) .counted) refl
+  demand-missing = demand-by bothMissing ∙ rw (audit (auditOf c) .missing, audit (auditOf (through x c)) .missing) refl
 
   pub demand-counts : bothCounts (demandAnswer c x b₁ b₂) ≡ demandCounts c x b₁ b₂
   demand-counts = demand-by bothCounts

@@ -2,7 +2,6 @@
 use mathlib.Core.Option.{Option, none, some}
 use Prim.Native.Nat.{ℕ}
 use lib.IntN.{natAbs}
-use lib.ListN.{length}
 use Rattle.meaning_rows.specs.declared.Head.{Head}
 use Rattle.meaning_rows.specs.Index.{Index}
 use Rattle.meaning_entries.specs.declared.Built.{Built}

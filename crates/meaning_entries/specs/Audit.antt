@@ -51,7 +51,7 @@ unfoldable pub missingIn : Option (ℕ × ℕ) → AuditCall → ℕ
 missingIn (some r) c = 0
 missingIn none c = elim (firstWrong (c .index) (c .series)) [ some x ↦ 0 | none ↦ missing (c .index) ]
 
--- both of the entry
+-- the same of the entry `audit`, by its own table; the audit of two texts has another
 abbrev pub auditWrong : AuditCall → Option (ℕ × ℕ)
 auditWrong c = wrongIn (firstRefusal (auditTable mostValues c)) c
 

@@ -45,7 +45,7 @@ pub record AuditKept (c : AuditCall) (answer : Audited) : Type 0 where
   pub answered : answer ≡ auditAnswer c
   pub refused : auditedRefusal answer ≡ firstRefusal (auditTable mostValues c)
   pub wrong : wrongPlace answer ≡ auditWrong c
-  pub counted : missingCount answer ≡ auditMissing c
+  pub missing : missingCount answer ≡ auditMissing c
 
 pub record WriteKept (x : Index) (before : List ℕ) (answer : Written) (after : List ℕ) : Type 0 where
   pub answered : answer ≡ writeAnswer x before
@@ -77,7 +77,7 @@ pub record AuditTextKept (index series : List ℕ) (answer : ℕ) : Type 0 where
   pub answered : answer ≡ auditText index series
   pub refused : auditedRefusal (unpack answer) ≡ firstRefusal (auditTextTable index series)
   pub wrong : wrongPlace (unpack answer) ≡ wrongIn (firstRefusal (auditTextTable index series)) (textCall index series)
-  pub counted : missingCount (unpack answer) ≡ missingIn (firstRefusal (auditTextTable index series)) (textCall index series)
+  pub missing : missingCount (unpack answer) ≡ missingIn (firstRefusal (auditTextTable index series)) (textCall index series)
 
 -- what the search program prints
 pub record ProgramKept (input output : List ℕ) : Type 0 where
