@@ -5,12 +5,12 @@ ghost use Prim.Native.Nat.{_+_, _-_, _<_, _≤_};
 ghost use lib.ListN.{set};
 ghost use Rattle.meaning_curves.specs.Limits.{mostValues};
 ghost use Rattle.meaning_rows.proofs.Cursors.{fileRight};
-ghost use Rattle.parts.specs.Part.{filled, EntryRoom, written, PartRoom};
+ghost use Rattle.parts.specs.Part.{writtenIn, EntryRoom, written, PartRoom};
 
 // The entry `x`, `y` is written as the next of a part of `runs` entries, which is lent from its first entry on.
 pub fn write_entry(runs: u32, x: usize, y: usize, left: &mut [u32], right: &mut [u32])
     requires { ⌜ (x ≤ 4294967295) × (y ≤ 4294967295) × EntryRoom runs (now left) (now right) ⌝ }
-    ensures { λ _. ⌜ (now (left .exit) ≡ set (now (left .entry)) (filled runs (now (right .entry))) x) × (now (right .exit) ≡ fileRight (now (right .entry)) 0 runs (filled runs (now (right .entry))) y) ⌝ }
+    ensures { λ _. ⌜ (now (left .exit) ≡ set (now (left .entry)) (writtenIn runs (now (right .entry))) x) × (now (right .exit) ≡ fileRight (now (right .entry)) 0 runs (writtenIn runs (now (right .entry))) y) ⌝ }
 {
     let size = runs as usize;
     let t = right[size - 1] as usize;

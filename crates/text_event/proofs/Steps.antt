@@ -16,7 +16,7 @@ use Rattle.text_index.specs.declared.State.{State}
 use Rattle.text_index.specs.declared.Moved.{Moved}
 use Rattle.text_index.specs.Step.{word, behind, turnAfter, pick, reach, closes, wordStep, turnStep, endStep, numberStep, indexStep}
 use Rattle.text_event.specs.declared.Signed.{Signed}
-use Rattle.text_event.specs.Event.{Quiet, still, more, ValueAt, ClosedAt, RunAt, RowAt, inRun, atRuns, atFirst, atRows, inRange, DigitsAt, NumberAt, leftOf, rightOf, lengthOf, PlainAt, BodyAt, Blank, BlankAt, SignedAt, Stands, Opens, Ends}
+use Rattle.text_event.specs.Event.{Quiet, still, more, ValueAt, ClosedAt, RunAt, RowAt, inRun, atRuns, atFirst, atRows, inRange, DigitsAt, NumberAt, leftOf, rightOf, lengthOf, PlainAt, BodyAt, Blank, BlankAt, SignedAt, WordAt, Opens, Ends}
 use Rattle.text_event.proofs.Words.{stands-byte}
 
 -- the first digit, not 0
@@ -137,7 +137,7 @@ number-told text i b q l e h k d =
 
 -- ---- runs
 
-pub body-told : (text : List ℕ) (i a b : ℕ) → NumberAt text i a → Stands text (i + a % 16) (bytes " ") → NumberAt text (i + a % 16 + 1) b → Stands text (i + (a % 16 + b % 16 + 1)) (bytes ")")
+pub body-told : (text : List ℕ) (i a b : ℕ) → NumberAt text i a → WordAt text (i + a % 16) (bytes " ") → NumberAt text (i + a % 16 + 1) b → WordAt text (i + (a % 16 + b % 16 + 1)) (bytes ")")
     → BodyAt text i (((a / 16) * 134217728 + b / 16) * 32 + (a % 16 + b % 16 + 1 + 1))
 unfolding bytes
 body-told text i a b x e y f =
@@ -159,7 +159,7 @@ body-told text i a b x e y f =
 run-before : (text : List ℕ) (s m : State) (i : ℕ) (l r : ℤ) (j : ℕ) → i < length text → indexStep s (getD text i 0) ≡ Moved.To m → RunAt text m (i + 1) l r j → RunAt text s i l r j
 run-before text s m i l r j h e v = record { middle = v .middle; left = value-before {m = m} h e (v .left); right = v .right }
 
-pub first-told : (text : List ℕ) (i q : ℕ) → Stands text i (bytes "(") → BodyAt text (i + 1) q → PlainAt text atFirst i (q + 1)
+pub first-told : (text : List ℕ) (i q : ℕ) → WordAt text i (bytes "(") → BodyAt text (i + 1) q → PlainAt text atFirst i (q + 1)
 unfolding bytes
 first-told text i q e b =
     let c = stands-byte e 0 i (omega arith) (omega arith) in
@@ -169,7 +169,7 @@ first-told text i q e b =
     let z : i + (lengthOf q + 1) ≡ i + 1 + lengthOf q = omega arith in
     record { small = omega (arith, b .tiny); short = omega (arith, n, b .least); run = rw (l, r, n, z) (run-before text atFirst (State.At Place.Left Numeral.Start) i _ _ _ (c .0) (rw (c .1) run-bracket) (b .plain .run)) }
 
-pub plain-told : (text : List ℕ) (i q : ℕ) → Stands text i (bytes " (") → BodyAt text (i + 2) q → PlainAt text atRuns i (q + 2)
+pub plain-told : (text : List ℕ) (i q : ℕ) → WordAt text i (bytes " (") → BodyAt text (i + 2) q → PlainAt text atRuns i (q + 2)
 unfolding bytes
 plain-told text i q e b =
     let c = stands-byte e 0 i (omega arith) (omega arith) in

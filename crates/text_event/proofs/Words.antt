@@ -6,19 +6,19 @@ use native.Mathlib.Decide.{decLt}
 use native.Mathlib.Omega.{arith}
 use lib.ListN.{length, getD, take, drop, length-take, length-drop}
 use lib.Seq.{getD-take, getD-drop, ext-getD}
-use Rattle.text_event.specs.Event.{Stands}
+use Rattle.text_event.specs.Event.{WordAt}
 
 byte-here : (text : List ℕ) (i n k : ℕ) → k < n → getD (take n (drop i text)) k 0 ≡ getD text (i + k) 0
 byte-here text i n k h = getD-take n (drop i text) k 0 h ∙ getD-drop i text k 0
 
 -- place j has byte k of the word
-pub stands-byte : {text word : List ℕ} {i : ℕ} → Stands text i word → (k j : ℕ) → k < length word → j ≡ i + k → (j < length text) × (getD text j 0 ≡ getD word k 0)
+pub stands-byte : {text word : List ℕ} {i : ℕ} → WordAt text i word → (k j : ℕ) → k < length word → j ≡ i + k → (j < length text) × (getD text j 0 ≡ getD word k 0)
 stands-byte {text} {word} {i} s k j h e =
     let n = ap (λ (l : List ℕ). length l) (s .begins) in
     (omega (arith, n, length-take (length word) (drop i text), length-drop i text, h, e), rw e (sym (byte-here text i (length word) k h) ∙ ap (λ (l : List ℕ). getD l k 0) (s .begins)))
 
 -- all bytes of the word are there
-pub stands-all : (text word : List ℕ) (i : ℕ) → i + length word ≤ length text → ((k : ℕ) → k < length word → getD text (i + k) 0 ≡ getD word k 0) → Stands text i word
+pub stands-all : (text word : List ℕ) (i : ℕ) → i + length word ≤ length text → ((k : ℕ) → k < length word → getD text (i + k) 0 ≡ getD word k 0) → WordAt text i word
 stands-all text word i room same =
     let n : length (take (length word) (drop i text)) ≡ length word = omega (arith, room, length-take (length word) (drop i text), length-drop i text) in
     record { begins = ext-getD 0 (take (length word) (drop i text)) word n (λ k h. let l : k < length word = omega (arith, h, n) in byte-here text i (length word) k l ∙ same k l) }

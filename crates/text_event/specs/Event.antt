@@ -94,16 +94,16 @@ EventAt text s i (Event.End n j) = Quiet text s i n j × (length text ≤ j)
 -- ---- fixed words
 
 -- the bytes from place i on begin with the word
-pub record Stands (text : List ℕ) (i : ℕ) (word : List ℕ) : Type 0 where
+pub record WordAt (text : List ℕ) (i : ℕ) (word : List ℕ) : Type 0 where
   pub begins : take (length word) (drop i text) ≡ word
 
 -- the bytes that end a row
 abbrev pub Ends : List ℕ → ℕ → Type 0
-Ends text i = Stands text i (bytes ")\n")
+Ends text i = WordAt text i (bytes ")\n")
 
 -- `(row ` and twenty bytes
 pub record Opens (text : List ℕ) (i : ℕ) : Type 0 where
-  pub word : Stands text i (bytes "(row ")
+  pub word : WordAt text i (bytes "(row ")
   pub room : i + 25 ≤ length text
 
 -- ---- the parts of a run, and of a row's beginning, told as one number
@@ -144,15 +144,19 @@ pub record BodyAt (text : List ℕ) (i q : ℕ) : Type 0 where
   pub least : lengthOf q ≤ 18
   pub tiny : q < 2 ^ 59
 
+-- the byte of a blank
+abbrev pub blank : ℕ
+blank = getD (bytes " ") 0 0
+
 -- where a blank behind a number leads
 pub record Blank (p : Place) (n : State) : Type 0 where
-  pub plus : (k : ℕ) → indexStep (State.At p (Numeral.Plus k)) (getD (bytes " ") 0 0) ≡ Moved.Value n p (pos k)
-  pub less : (k : ℕ) → indexStep (State.At p (Numeral.Less k)) (getD (bytes " ") 0 0) ≡ Moved.Value n p (negℤ (pos k))
+  pub plus : (k : ℕ) → indexStep (State.At p (Numeral.Plus k)) blank ≡ Moved.Value n p (pos k)
+  pub less : (k : ℕ) → indexStep (State.At p (Numeral.Less k)) blank ≡ Moved.Value n p (negℤ (pos k))
 
 -- a number with a blank behind it
 pub record BlankAt (text : List ℕ) (i q : ℕ) : Type 0 where
   pub number : NumberAt text i q
-  pub blank : Stands text (i + q % 16) (bytes " ")
+  pub blank : WordAt text (i + q % 16) (bytes " ")
 
 -- the same with or without a sign
 abbrev pub SignedAt : List ℕ → ℕ → Signed → Type 0

@@ -11,7 +11,7 @@ ghost use Prim.Native.Nat.{_+_, _<_, _≤_, _^_};
 ghost use lib.IntN.{pos, negℤ};
 ghost use lib.ListN.{length};
 ghost use Rattle.text_index.specs.Step.{GoodState};
-ghost use Rattle.text_event.specs.Event.{leftOf, rightOf, lengthOf, DigitsAt, NumberAt, BodyAt, PlainAt, atRuns, atFirst, atRows, Stands, BlankAt, SignedAt, RangeAt, Opens, Ends, EventAt};
+ghost use Rattle.text_event.specs.Event.{leftOf, rightOf, lengthOf, DigitsAt, NumberAt, BodyAt, PlainAt, atRuns, atFirst, atRows, WordAt, BlankAt, SignedAt, RangeAt, Opens, Ends, EventAt};
 
 // A number with a blank behind it, and the place behind that; none where none stands.
 pub enum Signed {
@@ -74,7 +74,7 @@ fn number_at(text: &[u8], at: usize) -> u64
 // The word stands in the text from a place on.
 fn stands(text: &[u8], at: usize, word: &[u8]) -> bool
     requires { ⌜ at + length (now word) ≤ length (now text) ⌝ }
-    ensures { λ r. ⌜ (r ≡ true → Stands (now (text .entry)) at (now (word .entry))) × (Stands (now (text .entry)) at (now (word .entry)) → r ≡ true) ⌝ }
+    ensures { λ r. ⌜ (r ≡ true → WordAt (now (text .entry)) at (now (word .entry))) × (WordAt (now (text .entry)) at (now (word .entry)) → r ≡ true) ⌝ }
 {
     let mut k = 0;
     while k < word.len() {

@@ -6,7 +6,7 @@ use native.Mathlib.Omega.{arith}
 use native.Mathlib.Nat.{zero-add}
 use lib.ListN.{length-set}
 use Rattle.meaning_rows.proofs.Cursors.{fileRight}
-use Rattle.parts.specs.Part.{filled}
+use Rattle.parts.specs.Part.{writtenIn}
 use Rattle.parts.proofs.write_entry.Statement.{statement}
 use Rattle.parts.proofs.write_entry.Tie as tie
 
@@ -15,11 +15,11 @@ slice-write-right-2 c = let o = c .before .before in simp length-set (omega (ari
 
 returns : tie.Need-returns
 unfolding fileRight
-returns c = let a = c .before .before .args in (refl, rw (lt-ltb _ _ (c .if1 .taken), zero-add (filled (a .runs) (a .right .now)), zero-add (a .runs)))
+returns c = let a = c .before .before .args in (refl, rw (lt-ltb _ _ (c .if1 .taken), zero-add (writtenIn (a .runs) (a .right .now)), zero-add (a .runs)))
 
 returns-2 : tie.Need-returns-2
 unfolding fileRight
-returns-2 c = let a = c .before .before .args in (refl, rw (le-ltb _ _ (c .if1 .left), zero-add (filled (a .runs) (a .right .now))))
+returns-2 c = let a = c .before .before .args in (refl, rw (le-ltb _ _ (c .if1 .left), zero-add (writtenIn (a .runs) (a .right .now))))
 
 pub write-entry-spec : {M : Type 1} → statement M
 write-entry-spec =

@@ -1,6 +1,5 @@
 -- `text_event::runs_event` meets its contract: a run, a row's end, or what comes byte by byte. Assumes nothing.
 use mathlib.Core.Path.{refl}
-use Prim.Native.Nat.{_+_}
 use native.Mathlib.Omega.{arith}
 use Rattle.text_event.specs.Event.{run-up, closed-up}
 use Rattle.text_event.proofs.Steps.{ends-told}
