@@ -1,6 +1,6 @@
 -- The input as the program reads it, piece by piece: some text has been read, and n bytes more can be. Assumes nothing.
 use mathlib.Core.Path.{_≡_}
-use mathlib.Core.List.{List, [], _∷_, _++_}
+use mathlib.Core.List.{List, [], _++_}
 use Prim.Native.Nat.{ℕ, _+_, _<_, _≤_, _^_}
 use native.Mathlib.Omega.{arith}
 use lib.IntN.{ℤ}
@@ -48,30 +48,31 @@ starts n kept asked h l s = record { kept = kept; asked = asked; text = []; stan
 pub ends : (n : ℕ) (r : Input) (numbers series query : List ℤ) → ReadTo n r numbers series query → Reached r numbers series query
 ends n r numbers series query k = record { kept = k .kept; asked = k .asked; text = k .text; stands = k .stands; opened = open-less r n 0 (omega arith) (k .opened); long = k .long; short = k .short }
 
--- a piece that has a byte and fits the buffer was read on
-pub record Took (r : Input) (numbers series query : List ℤ) (x : Input) (numbers' series' query' : List ℤ) : Type 0 where
+-- the piece was read on; there may be more exactly where it has a byte
+abbrev pub StepFrom : List ℕ → Input → List ℤ → List ℤ → List ℤ → Step → List ℤ → List ℤ → List ℤ → Type 0
+StepFrom piece r numbers series query (Step.More x) numbers' series' query' = (0 < length piece) × ReadOn piece r numbers series query x numbers' series' query'
+StepFrom piece r numbers series query (Step.Over x) numbers' series' query' = (length piece ≡ 0) × ReadOn piece r numbers series query x numbers' series' query'
+
+-- a step by some piece that fits the buffer
+pub record Stepped (r : Input) (numbers series query : List ℤ) (s : Step) (numbers' series' query' : List ℤ) : Type 0 where
   pub piece : List ℕ
-  pub some : 0 < length piece
   pub most : length piece ≤ 65536
-  pub reads : ReadOn piece r numbers series query x numbers' series' query'
+  pub from : StepFrom piece r numbers series query s numbers' series' query'
 
--- there may be more only where a byte was taken; the input is over only where none was
-abbrev pub StepFrom : Input → List ℤ → List ℤ → List ℤ → Step → List ℤ → List ℤ → List ℤ → Type 0
-StepFrom r numbers series query (Step.More x) numbers' series' query' = Took r numbers series query x numbers' series' query'
-StepFrom r numbers series query (Step.Over x) numbers' series' query' = ReadOn [] r numbers series query x numbers' series' query'
+pub stepped : (piece : List ℕ) {r : Input} {numbers series query : List ℤ} {s : Step} {numbers' series' query' : List ℤ} → length piece ≤ 65536 → StepFrom piece r numbers series query s numbers' series' query' → Stepped r numbers series query s numbers' series' query'
+stepped piece h f = record { piece = piece; most = h; from = f }
 
-pub took : (piece : List ℕ) {r : Input} {numbers series query : List ℤ} {x : Input} {numbers' series' query' : List ℤ} → 0 < length piece → length piece ≤ 65536
-    → ReadOn piece r numbers series query x numbers' series' query' → Took r numbers series query x numbers' series' query'
-took piece h g k = record { piece = piece; some = h; most = g; reads = k }
+-- what a step leaves
+abbrev pub inputOf : Step → Input
+inputOf (Step.More x) = x
+inputOf (Step.Over x) = x
 
--- a piece without a byte
-pub over : (piece : List ℕ) {r : Input} {numbers series query : List ℤ} {x : Input} {numbers' series' query' : List ℤ} → length piece ≡ 0
-    → ReadOn piece r numbers series query x numbers' series' query' → ReadOn [] r numbers series query x numbers' series' query'
-over [] e k = k
-over (b ∷ l) e k = absurd (omega (arith, e))
-
-pub took-goes : {r : Input} {numbers series query : List ℤ} {x : Input} {numbers' series' query' : List ℤ} → Took r numbers series query x numbers' series' query' → Goes r numbers series query x numbers' series' query'
-took-goes {r} {numbers} {series} {query} {x} {numbers'} {series'} {query'} k = goes (k .piece) r numbers series query x numbers' series' query' (k .most) (k .reads)
+pub step-goes : {r : Input} {numbers series query : List ℤ} {s : Step} {x : Input} {numbers' series' query' : List ℤ} → inputOf s ≡ x → Stepped r numbers series query s numbers' series' query' → Goes r numbers series query x numbers' series' query'
+step-goes {r} {numbers} {series} {query} {s} {x} {numbers'} {series'} {query'} e k = by s e (k .from)
+  where
+    by : (t : Step) → inputOf t ≡ x → StepFrom (k .piece) r numbers series query t numbers' series' query' → Goes r numbers series query x numbers' series' query'
+    by (Step.More y) e f = goes (k .piece) r numbers series query x numbers' series' query' (k .most) (rw e at (f .1))
+    by (Step.Over y) e f = goes (k .piece) r numbers series query x numbers' series' query' (k .most) (rw e at (f .1))
 
 pub read-less : (n m : ℕ) (r : Input) (numbers series query : List ℤ) → m ≤ n → ReadTo n r numbers series query → ReadTo m r numbers series query
 read-less n m r numbers series query h k = record { kept = k .kept; asked = k .asked; text = k .text; stands = k .stands; opened = open-less r n m h (k .opened); long = k .long; short = k .short }

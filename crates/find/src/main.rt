@@ -8,9 +8,9 @@ use libc::STDOUT_FILENO;
 use meaning_curves::LONGEST_QUERY;
 use meaning_curves::MOST_PROGRAM_VALUES;
 ghost use Prim.Native.Nat.{_≤_};
-ghost use lib.ListN.{length};
+ghost use lib.ListN.{length, take};
 ghost use Rattle.find_plan.specs.Input.{Open};
-ghost use Rattle.find.specs.Reading.{StepFrom, ReadTo};
+ghost use Rattle.find.specs.Reading.{StepFrom, Stepped, ReadTo};
 
 // There may be more to read, or the input is over.
 enum Step {
@@ -18,19 +18,34 @@ enum Step {
     Over(Input),
 }
 
-// Reads the next piece of standard input; a read that fails ends the input.
-fn read_on(r: Input, numbers: &mut [i64], series: &mut [i32], query: &mut [i32]) -> Step
-    requires { ⌜ Open r 65536 ⌝ }
-    ensures { λ s. ⌜ StepFrom r (now (numbers .entry)) (now (series .entry)) (now (query .entry)) s (now (numbers .exit)) (now (series .exit)) (now (query .exit)) ⌝ }
+// The first `n` bytes of a buffer, which a read filled so far, are read on. The input is over where there is none.
+fn take_read(
+    r: Input,
+    buf: &[u8],
+    n: usize,
+    numbers: &mut [i64],
+    series: &mut [i32],
+    query: &mut [i32],
+) -> Step
+    requires { ⌜ Open r 65536 × (n ≤ length (now buf)) × (n ≤ 65536) ⌝ }
+    ensures { λ s. ⌜ StepFrom (take n (now (buf .entry))) r (now (numbers .entry)) (now (series .entry)) (now (query .entry)) s (now (numbers .exit)) (now (series .exit)) (now (query .exit)) ⌝ }
 {
-    let mut buf = io::large_buffer();
-    let got = libc::read(STDIN_FILENO, &mut buf);
-    let n = io::count(got, &buf);
     let x = read_piece(r, &buf[..n], numbers, series, query);
     if n == 0 {
         return Step::Over(x);
     }
     Step::More(x)
+}
+
+// Reads the next piece of standard input; a read that fails brings none.
+fn read_on(r: Input, numbers: &mut [i64], series: &mut [i32], query: &mut [i32]) -> Step
+    requires { ⌜ Open r 65536 ⌝ }
+    ensures { λ s. ⌜ Stepped r (now (numbers .entry)) (now (series .entry)) (now (query .entry)) s (now (numbers .exit)) (now (series .exit)) (now (query .exit)) ⌝ }
+{
+    let mut buf = io::large_buffer();
+    let got = libc::read(STDIN_FILENO, &mut buf);
+    let n = io::count(got, &buf);
+    take_read(r, &buf, n, numbers, series, query)
 }
 
 // Reads all of standard input, in as many pieces as no run uses up.

@@ -1,10 +1,9 @@
 -- `find::read_all` meets its contract. The invariant: some text has been read, and as many bytes more can be as the turns that are left bring. The measure is the turns that are left. Assumes nothing.
 use Prim.Native.Nat.{_*_, _-_}
-use Rattle.find.specs.Reading.{ReadTo, open-less, goes, took-goes, read-less}
+use Rattle.find.specs.Reading.{ReadTo, inputOf, open-less, step-goes, read-less}
 use borrow.Author.Needs.{needs}
 use lib.ListN.{length}
-use mathlib.Core.List.{[]}
-use mathlib.Core.Path.{_≡_, refl, _∙_}
+use mathlib.Core.Path.{_≡_, refl, ap, _∙_}
 use native.Mathlib.Omega.{arith}
 use Rattle.find.proofs.read_all.Statement.{statement}
 use Rattle.find.proofs.read_all.Tie as tie
@@ -26,8 +25,7 @@ loop-again c =
     let l = c .before .before .before .before .before .before .before .before .before .before .before in
     let s = c .before .before .before .before .before .before in
     let n = l .loop .turns - 1 in
-    let e = rw (c .before .y .given .1) at (s .read-on .ensures) in
-    let k = took-goes e (65536 * n) (read-less (65536 * l .loop .turns) _ _ _ _ _ (omega arith) (l .loop .inv .0)) in
+    let k = step-goes (ap inputOf (c .before .y .given .1)) (s .read-on .ensures) (65536 * n) (read-less (65536 * l .loop .turns) _ _ _ _ _ (omega arith) (l .loop .inv .0)) in
     (k, s .read-on .kept .1 .0 ∙ l .loop .inv .1, s .read-on .kept .1 .1 .0 ∙ l .loop .inv .2, s .read-on .kept .1 .1 .1 .0 ∙ l .loop .inv .3)
 
 same-length : tie.Need-same-length Inv-loop μ-loop
@@ -43,8 +41,7 @@ returns : tie.Need-returns Inv-loop μ-loop
 returns c =
     let l = c .before .before .before .before .before .before .before .before .before .before .before in
     let s = c .before .before .before .before .before .before in
-    let e = rw (c .before .y2 .given .1) at (s .read-on .ensures) in
-    goes [] _ _ _ _ _ _ _ _ (omega arith) e 0 (read-less (65536 * l .loop .turns) _ _ _ _ _ (omega arith) (l .loop .inv .0))
+    step-goes (ap inputOf (c .before .y2 .given .1)) (s .read-on .ensures) 0 (read-less (65536 * l .loop .turns) _ _ _ _ _ (omega arith) (l .loop .inv .0))
 
 same-length-4 : tie.Need-same-length-4 Inv-loop μ-loop
 same-length-4 c = c .before .loop .inv .1
