@@ -1,10 +1,5 @@
 // Runs the proved functions and the plain C ones on the same input, in turn, compares what they write, and prints the least time of 15 runs of each and the ratio.
-#include <stdint.h>
-#include <stdio.h>
-#include <string.h>
-#include <time.h>
-typedef int32_t i32;
-typedef uint64_t u64;
+#include "race.h"
 
 #define DECLARE(P)                                                                                                       \
     size_t P##_straight(const i32 *, size_t, const i32 *, size_t, u64, u64 *, size_t);                                   \
@@ -17,23 +12,7 @@ DECLARE(plain)
 _Bool curve_envelopes(const i32 *, size_t, size_t, i32 *, size_t, i32 *, size_t);
 void plain_envelopes(const i32 *, size_t, size_t, i32 *, i32 *);
 
-static double now(void) {
-    struct timespec t;
-    clock_gettime(CLOCK_THREAD_CPUTIME_ID, &t); // time of this thread alone: other work on the machine disturbs less
-    return t.tv_sec + 1e-9 * t.tv_nsec;
-}
-
-static u64 state = 88172645463325252ull;
-static u64 any(void) {
-    state ^= state << 13;
-    state ^= state >> 7;
-    state ^= state << 17;
-    return state;
-}
-static i32 in_limits(int v) { return v > 10000 ? 10000 : v < -10000 ? -10000 : v; }
-
 #define N 100000
-#define REPS 15 // each of a few ms
 static i32 s[N], q[1024], low[1024], high[1024], v1[1024], v2[1024], w1[1024], w2[1024];
 static u64 o1[N], o2[N];
 static u64 r1, r2;

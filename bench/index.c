@@ -1,13 +1,5 @@
 // Runs the proved entries over lent records and the plain C on the same input, in turn, compares what they answer, and prints the least time of 15 runs of each, the ratio, and how many passes of memset over the buffers the proved entry's time is. The indexes are built by the plain C.
-#include <stdint.h>
-#include <stdio.h>
-#include <string.h>
-#include <time.h>
-typedef int32_t i32;
-typedef uint32_t u32;
-typedef uint64_t u64;
-typedef struct { i32 low, up; u32 first, runs; } Row;
-typedef struct { u32 window, width, windows; } Head;
+#include "race.h"
 typedef struct { u32 kind; Head head; size_t first, second; } Answer;
 
 Answer index_audit(const i32 *, size_t, Head, const Row *, size_t, const u32 *, size_t, const u32 *, size_t);
@@ -18,22 +10,7 @@ size_t plain_extend(const i32 *, size_t, size_t, u32, size_t, const Row *, size_
 int plain_judge(const i32 *, size_t, u32, u32, const Row *, size_t, const u32 *, const u32 *, size_t, u64 *);
 int plain_audit(const i32 *, size_t, size_t, u32, u32, const Row *, size_t, const u32 *, const u32 *, size_t);
 
-static double now(void) {
-    struct timespec t;
-    clock_gettime(CLOCK_THREAD_CPUTIME_ID, &t); // time of this thread alone: other work on the machine disturbs less
-    return t.tv_sec + 1e-9 * t.tv_nsec;
-}
-
-static u64 state = 88172645463325252ull;
-static u64 any(void) {
-    state ^= state << 13;
-    state ^= state >> 7;
-    state ^= state << 17;
-    return state;
-}
-static i32 in_limits(int v) { return v > 10000 ? 10000 : v < -10000 ? -10000 : v; }
-
-enum { N = 1 << 20, W = 64, ROOM = N - W + 1, REPS = 15 };
+enum { N = 1 << 20, W = 64, ROOM = N - W + 1 };
 static i32 s[N];
 static Row rows[ROOM];
 static u32 left[ROOM], right[ROOM];
@@ -71,7 +48,9 @@ static void race_audit(const char *name, u32 d, u32 g) {
     int y = 9;
     for (int k = 0; k < REPS; k++) {
         double t0 = now();
+        START;
         x = index_audit(s, N, head, rows, count, left, runs, right, runs).kind;
+        STOP;
         double t1 = now();
         y = plain_audit(s, N, W, d, ROOM, rows, count, left, right, runs);
         double t2 = now();
@@ -85,9 +64,11 @@ static void race_build(const char *name, u32 d, u32 g) {
     double ra = 1e9, ca = 1e9;
     Answer x = {9, {0, 0, 0}, 0, 0};
     size_t y = 0;
-    for (int k = 0; k < 5; k++) {
+    for (int k = 0; k < (REPS + 2) / 3; k++) {
         double t0 = now();
+        START;
         x = index_build(s, N, W, d, g, rows2, ROOM, left2, ROOM, right2, ROOM);
+        STOP;
         double t1 = now();
         y = plain_build(s, N, W, d, g, rows, ROOM, left, right);
         double t2 = now();
@@ -108,7 +89,9 @@ static void race_extend(const char *name, u32 d, u32 g) {
     Answer x = {9, {0, 0, 0}, 0, 0};
     for (int k = 0; k < REPS; k++) {
         double t0 = now();
+        START;
         x = index_extend(s, N, head, old_rows, count, old_left, runs, old_right, runs, rows2, ROOM, left2, ROOM, right2, ROOM);
+        STOP;
         double t1 = now();
         u64 total;
         if (plain_judge(s, N, d, old, old_rows, count, old_left, old_right, runs, &total)) different++;

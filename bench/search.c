@@ -1,15 +1,6 @@
 // Runs the proved search, the same search in plain C and a scan without index in plain C on the same input, in turn, compares what they list, and prints the least time of some runs of each and the ratios. The indexes are built by the plain C.
 // With an argument: normalised warped queries through many indexes and limits instead, the proved search against the scan alone, and where its lead is largest.
-#include <stdint.h>
-#include <stdio.h>
-#include <string.h>
-#include <time.h>
-typedef int32_t i32;
-typedef uint16_t u16;
-typedef uint32_t u32;
-typedef uint64_t u64;
-typedef struct { i32 low, up; u32 first, runs; } Row;
-typedef struct { u32 window, width, windows; } Head;
+#include "race.h"
 typedef struct { u32 kind, band; u64 threshold; u32 scale, shift; } Asked;
 typedef struct { u32 kind; size_t first, second; } Answer;
 typedef struct { u64 candidates, matches; } Counts;
@@ -19,21 +10,6 @@ Answer index_search(const i32 *, size_t, Head, const Row *, size_t, const u32 *,
 int plain_search(const i32 *, size_t, Head, const Row *, size_t, const u32 *, const u32 *, size_t, Asked, const i32 *, size_t, u32 *, u32 *, u16 *, u32 *, u64 *, u64, Counts *);
 int plain_scan(const i32 *, size_t, Asked, const i32 *, size_t, u32 *, u64 *, u64, Counts *);
 size_t plain_build(const i32 *, size_t, size_t, u32, u32, Row *, size_t, u32 *, u32 *);
-
-static double now(void) {
-    struct timespec t;
-    clock_gettime(CLOCK_THREAD_CPUTIME_ID, &t); // time of this thread alone: other work on the machine disturbs less
-    return t.tv_sec + 1e-9 * t.tv_nsec;
-}
-
-static u64 state = 88172645463325252ull;
-static u64 any(void) {
-    state ^= state << 13;
-    state ^= state >> 7;
-    state ^= state << 17;
-    return state;
-}
-static i32 in_limits(int v) { return v > 10000 ? 10000 : v < -10000 ? -10000 : v; }
 
 enum { N = 1 << 20, W = 64, ROOM = N - W + 1, WIDE = N, LIST = 4096 };
 typedef struct { u32 first[ROOM], last[ROOM]; u16 scratch[ROOM]; u32 offsets[LIST]; u64 distances[LIST]; } Lists;
@@ -54,9 +30,11 @@ static void race(const char *name, size_t count, Head head, size_t m, Asked aske
     double ra = 1e9, ca = 1e9, sa = 1e9, all = 0;
     Answer x = {9, 0, 0};
     Counts y = {0, 0}, z = {0, 0};
-    for (int k = 0; k < 15 && (k < 2 || all < 3); k++) {
+    for (int k = 0; k < REPS && (k < 2 || all < 3); k++) {
         double t0 = now();
+        START;
         x = index_search(s, N, head, rows, count, left, runs, right, runs, asked, q, m, mine.first, ROOM, mine.last, ROOM, mine.scratch, ROOM, mine.offsets, LIST, mine.distances, LIST);
+        STOP;
         double t1 = now();
         plain_search(s, N, head, rows, count, left, right, runs, asked, q, m, plain.first, plain.last, plain.scratch, plain.offsets, plain.distances, LIST, &y);
         double t2 = now();

@@ -1,14 +1,5 @@
 // Writes an index of a million runs by the proved entry and by plain C, in turn, compares what they write, and prints the least time of 15 runs of each; then the same for reading texts of a million runs, in few rows and in many.
-#include <stdint.h>
-#include <stdio.h>
-#include <string.h>
-#include <time.h>
-typedef int32_t i32;
-typedef uint32_t u32;
-typedef uint8_t u8;
-
-typedef struct { i32 low, up; u32 first, runs; } Row;
-typedef struct { u32 window, width, windows; } Head;
+#include "race.h"
 typedef struct { u32 kind; Head head; size_t first, second; } Answer;
 
 #define DECLARE(P) \
@@ -25,12 +16,6 @@ static u32 left[RUNS], right[RUNS];
 static u8 a[SIZE], b[SIZE];
 static u8 text[2 * SIZE];
 static struct { Row rows[RUNS]; u32 left[RUNS], right[RUNS]; } c, d;
-
-static double now(void) {
-    struct timespec t;
-    clock_gettime(CLOCK_THREAD_CPUTIME_ID, &t);
-    return t.tv_sec + 1e-9 * t.tv_nsec;
-}
 
 // A text of RUNS runs in so many rows, each window a run of its own; its length.
 static size_t spell(u32 rows) {
@@ -50,9 +35,11 @@ static int read_race(u32 rows) {
     Answer x, y;
     memset(&x, 0, sizeof x), memset(&y, 0, sizeof y);
     memset(&c, 1, sizeof c), memset(&d, 2, sizeof d);
-    for (int k = 0; k < 15; k++) {
+    for (int k = 0; k < REPS; k++) {
         double t0 = now();
+        START;
         x = text_read(text, n, c.rows, RUNS, c.left, RUNS, c.right, RUNS);
+        STOP;
         double t1 = now();
         y = plain_read(text, n, d.rows, RUNS, d.left, RUNS, d.right, RUNS);
         double t2 = now();
@@ -75,9 +62,11 @@ int main(void) {
     Head h = {1, 1, RUNS};
     Answer x, y;
     memset(&x, 0, sizeof x), memset(&y, 0, sizeof y);
-    for (int k = 0; k < 15; k++) {
+    for (int k = 0; k < REPS; k++) {
         double t0 = now();
+        START;
         x = text_write(h, rows, ROWS, left, RUNS, right, RUNS, a, SIZE);
+        STOP;
         double t1 = now();
         y = plain_write(h, rows, ROWS, left, RUNS, right, RUNS, b, SIZE);
         double t2 = now();
