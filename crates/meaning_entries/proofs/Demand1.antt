@@ -147,11 +147,11 @@ search-refuses c b = record { same = search-by c b (firstRefusal (searchTable c 
 
 -- ---- the search program
 
-program-by : (t : List ℕ) (n p : ℕ) → firstRefusal (programTable t) ≡ some (n, p) → program t ≡ refusedText n p
+pub program-by : (t : List ℕ) (n p : ℕ) → firstRefusal (programTable t) ≡ some (n, p) → program t ≡ refusedText n p
 unfolding program
 program-by t n p e = rw (e, program)
 
-program-free : (t : List ℕ) → firstRefusal (programTable t) ≡ none → program t ≡ printed (textProgram t)
+pub program-free : (t : List ℕ) → firstRefusal (programTable t) ≡ none → program t ≡ printed (textProgram t)
 unfolding program
 program-free t e = rw (e, program)
 

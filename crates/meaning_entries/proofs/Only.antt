@@ -24,7 +24,7 @@ use Rattle.meaning_entries.specs.AuditText.{auditTextAnswer, auditText, 
 use Rattle.meaning_entries.specs.Program.{programTable, program}
 use Rattle.meaning_entries.specs.Demand1.{ProgramRefuses}
 use Rattle.meaning_entries.specs.Demand2.{BuildKept, ExtendKept, AuditKept, WriteKept, LoadKept, SearchKept, AuditTextKept, ProgramKept}
-use Rattle.meaning_entries.proofs.Demand1.{program-refuses}
+use Rattle.meaning_entries.proofs.Demand1.{program-by, program-free}
 use Rattle.meaning_entries.proofs.Pack.{audit-text-back}
 
 pub build-only : {c : BuildCall} {b : IndexBuffers} {a : Built} {after : IndexBuffers} → BuildKept c b a after → (a ≡ buildAnswer c b) × (after ≡ buildAfter c b)
@@ -56,8 +56,8 @@ pub program-refuses-only : {t out : List ℕ} → ProgramRefuses t out → out �
 program-refuses-only {t} {out} k = by (firstRefusal (programTable t)) refl
   where
     by : (o : Option (ℕ × ℕ)) → firstRefusal (programTable t) ≡ o → out ≡ program t
-    by none e = k .free e ∙ sym (program-refuses t .free e)
-    by (some r) e = k .refused (r .0) (r .1) e ∙ sym (program-refuses t .refused (r .0) (r .1) e)
+    by none e = k .free e ∙ sym (program-free t e)
+    by (some r) e = k .refused (r .0) (r .1) e ∙ sym (program-by t (r .0) (r .1) e)
 
 -- what the code is asked, and back: nothing of it is lost
 pub plain-lent : (a : Ask) → plainAsk (lentAsk a) ≡ a
