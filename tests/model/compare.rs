@@ -1,4 +1,4 @@
-// Compares the model with the compiled Rattle, through the static library of `distance_c`.
+// Compares the model with the compiled Rattle, through the static library of `try_c_distance`.
 #[path = "model.rs"]
 mod model;
 use model::*;

@@ -1,4 +1,4 @@
-// The compiled entries as C calls them, through the static libraries of `index_c`, `search_c` and `text_c`. A program that uses some of them needs the libraries of these alone.
+// The compiled entries as C calls them, through the static libraries of `try_c_index`, `try_c_search` and `try_c_text`. A program that uses some of them needs the libraries of these alone.
 use crate::index::Row;
 use crate::lent::{Answer, Asked, Buffers, Head, Lent, Lists, Searched};
 

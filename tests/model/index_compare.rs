@@ -1,4 +1,4 @@
-// Compares the model with the compiled entries over lent records, through the static library of `index_c`, and with the plain C that they are raced against: index_compare [TURNS].
+// Compares the model with the compiled entries over lent records, through the static library of `try_c_index`, and with the plain C that they are raced against: index_compare [TURNS].
 #![allow(dead_code)]
 mod answers;
 mod entries;

@@ -1,4 +1,4 @@
-// Compares the program's lines and the series line as they are read in pieces, through the static library of `lines_c`, with the model: the worked lines and their truncations, then random lines spoiled byte by byte, number by number and line by line, in pieces of random sizes, into buffers short and long (of the eight numbers at most eight: place 8 is where a number goes that is none of them): lines [TURNS].
+// Compares the program's lines and the series line as they are read in pieces, through the static library of `try_c_lines`, with the model: the worked lines and their truncations, then random lines spoiled byte by byte, number by number and line by line, in pieces of random sizes, into buffers short and long (of the eight numbers at most eight: place 8 is where a number goes that is none of them): lines [TURNS].
 #![allow(dead_code)]
 mod index;
 mod model;

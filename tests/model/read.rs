@@ -1,4 +1,4 @@
-// Compares the entry read, through the static library of `text_c`, with the model: every truncation of the worked texts, then texts of random indexes spoiled byte by byte, number by number and line by line, into buffers short and long and full of rubbish: read [TURNS].
+// Compares the entry read, through the static library of `try_c_text`, with the model: every truncation of the worked texts, then texts of random indexes spoiled byte by byte, number by number and line by line, into buffers short and long and full of rubbish: read [TURNS].
 #![allow(dead_code)]
 mod answers;
 mod entries;

@@ -1,4 +1,4 @@
-// Compares the model with the compiled entry that searches, through the static library of `search_c`, and with the plain C that it is raced against: search_compare [TURNS].
+// Compares the model with the compiled entry that searches, through the static library of `try_c_search`, and with the plain C that it is raced against: search_compare [TURNS].
 #![allow(dead_code)]
 mod answers;
 mod entries;

@@ -1,4 +1,4 @@
-// Compares the entry write, through the static library of `text_c`, with the model: random indexes, a third of them ill formed, buffers short and long and full of rubbish.
+// Compares the entry write, through the static library of `try_c_text`, with the model: random indexes, a third of them ill formed, buffers short and long and full of rubbish.
 #![allow(dead_code)]
 mod answers;
 mod entries;

@@ -46,17 +46,17 @@ use Rattle.meaning_entries.proofs.Built as Bu
 use Rattle.meaning_entries.proofs.Built.Laws as Bu′
 use Rattle.meaning_entries.proofs.Audited as Au
 use Rattle.meaning_entries.proofs.Audited.Laws as Au′
-use Rattle.build_index.proofs.BuildCall.{low-built}
-use Rattle.records.proofs.Lends.{Own, SharedAgain, unshare, twin}
-use Rattle.audit.proofs.AuditCall as Auditing
-use Rattle.audit.proofs.AuditCall.{low-head, low-audited, Audit, to-audit}
-use Rattle.audit.proofs.audit.Symbol.{name as #audit}
+use Rattle.entry_build.proofs.BuildCall.{low-built}
+use Rattle.rows_records.proofs.Lends.{Own, SharedAgain, unshare, twin}
+use Rattle.entry_audit.proofs.AuditCall as Auditing
+use Rattle.entry_audit.proofs.AuditCall.{low-head, low-audited, Audit, to-audit}
+use Rattle.entry_audit.proofs.audit.Symbol.{name as #audit}
 use Rattle.assured.specs.declared.Assured.{Assured}
 use Rattle.assured.specs.Assured.{headIn, bothOf}
 use Rattle.assured.proofs.Assured as As
 use Rattle.assured.proofs.Assured.Laws as As′
-use Rattle.records.proofs.Prefix.{first}
-use Rattle.records.proofs.Told.{calls-free}
+use Rattle.rows_records.proofs.Prefix.{first}
+use Rattle.rows_records.proofs.Told.{calls-free}
 use Rattle.assured.proofs.head_in as head
 use Rattle.assured.proofs.head_in.Symbol.{name as #head-in}
 use Rattle.assured.proofs.rows_in as rows

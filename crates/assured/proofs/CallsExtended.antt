@@ -29,14 +29,14 @@ use Rattle.meaning_entries.proofs.Extended as Ex
 use Rattle.meaning_entries.proofs.Extended.Laws as Ex′
 use Rattle.meaning_entries.proofs.Audited as Au
 use Rattle.meaning_entries.proofs.Audited.Laws as Au′
-use Rattle.extend_index.proofs.ExtendCall.{low-extended}
-use Rattle.audit.proofs.AuditCall.{low-audited}
+use Rattle.entry_extend.proofs.ExtendCall.{low-extended}
+use Rattle.entry_audit.proofs.AuditCall.{low-audited}
 use Rattle.assured.specs.declared.Grown.{Grown}
-use Rattle.records.proofs.Told.{calls-free}
+use Rattle.rows_records.proofs.Told.{calls-free}
 use Rattle.assured.specs.Assured.{asBuilt, bothGrown}
 use Rattle.assured.proofs.Grown as Gr
 use Rattle.assured.proofs.Grown.Laws as Gr′
-use Rattle.build_index.proofs.BuildCall.{low-built}
+use Rattle.entry_build.proofs.BuildCall.{low-built}
 use Rattle.assured.proofs.as_built as as-of
 use Rattle.assured.proofs.as_built.Symbol.{name as #as-built}
 use Rattle.assured.proofs.both_grown as both

@@ -1,7 +1,7 @@
 // An index built or extended, and then audited as it stands in the buffers: the audit says yes, whoever doubts it.
-use audit::audit;
-use build_index::build;
-use extend_index::extend;
+use entry_audit::audit;
+use entry_build::build;
+use entry_extend::extend;
 use meaning_entries::Audited;
 use meaning_entries::Built;
 use meaning_entries::Extended;
@@ -10,7 +10,7 @@ use meaning_rows::Row;
 ghost use mathlib.Core.Path.{_≡_};
 ghost use Rattle.meaning_entries.specs.Build.{lentBuild};
 ghost use Rattle.meaning_entries.specs.Extend.{lentExtend};
-ghost use Rattle.build.specs.Filled.{buffers};
+ghost use Rattle.build_passes.specs.Filled.{buffers};
 ghost use Rattle.meaning_entries.specs.Answers.{builtCounts};
 ghost use Rattle.assured.specs.Assured.{noHead, headIn, bothOf, asBuilt, bothGrown, BuildAssured, ExtendAssured};
 

@@ -12,7 +12,7 @@ use Rattle.meaning_curves.proofs.Values.{AllIn}
 use Rattle.meaning_entries.specs.Build.{lentBuild, buildLines}
 use Rattle.meaning_entries.proofs.Refusal.{Passed, openLines, passed-line, passed-behind, lacks}
 use Rattle.meaning_entries.proofs.Lines.{long-line, values-line, window-line, width-line, merge-line, room-line}
-use Rattle.conditions.specs.Refusal.{refusalOf}
+use Rattle.refusals.specs.Refusal.{refusalOf}
 use Rattle.build_plan.specs.declared.Plan.{Plan}
 
 -- window length and row width, and sums of windows raised by a multiple of the width

@@ -1,17 +1,17 @@
 // What refuses a build, and by how much it raises sums where nothing does.
-use conditions::Refusal;
-use conditions::merge_outside;
-use conditions::refuse_if;
-use conditions::refuse_room;
-use conditions::refuse_series;
-use conditions::width_outside;
-use conditions::window_outside;
-use judge::lesser;
+use refusals::Refusal;
+use refusals::merge_outside;
+use refusals::refuse_if;
+use refusals::refuse_room;
+use refusals::refuse_series;
+use refusals::width_outside;
+use refusals::window_outside;
+use rows_judge::lesser;
 use numbers::RAISE;
-use pack::raised_rows;
+use rows_pack::raised_rows;
 ghost use mathlib.Core.Path.{_≡_};
 ghost use Rattle.meaning_entries.specs.Build.{lentBuild, buildLines};
-ghost use Rattle.conditions.specs.Refusal.{refusalOf};
+ghost use Rattle.refusals.specs.Refusal.{refusalOf};
 ghost use Rattle.build_plan.specs.Plan.{Planned};
 
 // What refuses the call; where nothing does, window length and row width, and what sums are raised by: `extra` beside 10,000 for each value, `bias` in all.

@@ -26,8 +26,8 @@ use denote.Triple.Clauses.{lasts}
 use denote.Triple.Spec.{tripleOf}
 use denote.Triple.Statement.{Contract, Triple}
 use denote.Triple.Walked.{says}
-use Rattle.records.proofs.Walk.{calls-plain}
-use Rattle.filing.specs.Ends.{raisedEnd}
+use Rattle.rows_records.proofs.Walk.{calls-plain}
+use Rattle.sums_slide.specs.Ends.{raisedEnd}
 use Rattle.extend_count.specs.Listed.{EndRoom}
 use Rattle.extend_count.proofs.raised_end as end
 use Rattle.extend_count.proofs.raised_end.Symbol.{name as #raised-end}

@@ -15,10 +15,10 @@ use Rattle.meaning_rows.specs.Runs.{before, runCount}
 use Rattle.meaning_rows.proofs.Runs.{before-none, before-more}
 use Rattle.meaning_rows.proofs.Parts.{stay-runs}
 use Rattle.meaning_rows.proofs.Columns.{runCount-none}
-use Rattle.filing.specs.Levels.{level, Lent, windowsOf, within}
-use Rattle.filing.specs.Change.{Stop, RowRun}
-use Rattle.tally.specs.Tally.{isRow, Fresh, run-mine, run-other}
-use Rattle.pack.specs.Packed.{startOf}
+use Rattle.sums_slide.specs.Levels.{level, Lent, windowsOf, within}
+use Rattle.sums_slide.specs.Change.{Stop, RowRun}
+use Rattle.sums_count.specs.Tally.{isRow, Fresh, run-mine, run-other}
+use Rattle.rows_pack.specs.Packed.{startOf}
 use Rattle.extend_count.specs.Rank.{rank, Climbing, rank-is, rank-under, rank-over}
 
 -- the row of window j, by rank; below `old` none

@@ -31,10 +31,10 @@ use Rattle.meaning_rows.proofs.Judge.{WellFormed, rangeOf}
 use Rattle.meaning_rows.proofs.Extend.{Extendable, grown-new}
 use Rattle.meaning_rows.proofs.Woven.{wovenRows, woven-ascends, woven-covers}
 use Rattle.meaning_rows.proofs.Grown.{onward, onward-count, lastEnds, Begun, begun-woven, old-count, joins-old}
-use Rattle.records.specs.Records.{zeroRow}
-use Rattle.filing.specs.Levels.{level, level-is, Lent}
-use Rattle.tally.specs.Tally.{isRow}
-use Rattle.filing.specs.Ends.{raisedEnd, raised-le, raised-gt, raised-mono}
+use Rattle.rows_records.specs.Records.{zeroRow}
+use Rattle.sums_slide.specs.Levels.{level, level-is, Lent}
+use Rattle.sums_count.specs.Tally.{isRow}
+use Rattle.sums_slide.specs.Ends.{raisedEnd, raised-le, raised-gt, raised-mono}
 use Rattle.extend_count.specs.Rank.{rank, Climbing, rank-is}
 use Rattle.extend_count.specs.Count.{rowFrom, Counted, row-new, row-old}
 

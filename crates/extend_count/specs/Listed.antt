@@ -10,8 +10,8 @@ use lib.ListN.{length, getD, set, length-set}
 use lib.Seq.{getD-set-same, getD-set-other}
 use lib.Signed.{_≤ℤ_}
 use Rattle.meaning_rows.specs.declared.Row.{Row}
-use Rattle.records.specs.Records.{zeroRow}
-use Rattle.filing.specs.Ends.{raisedEnd}
+use Rattle.rows_records.specs.Records.{zeroRow}
+use Rattle.sums_slide.specs.Ends.{raisedEnd}
 
 -- the first n numbers
 unfoldable pub listed : (ℕ → ℕ) → ℕ → List ℕ → List ℕ

@@ -1,16 +1,16 @@
 // The runs of each row of an extension counted in one covered pass over the new windows: beside the raised upper ends of the rows, which ascend, stand the counts.
-use filing::Place;
-use filing::next_out;
-use filing::raise_end;
+use sums_slide::Place;
+use sums_slide::next_out;
+use sums_slide::raise_end;
 use meaning_rows::Row;
-use pack::start_of;
-use records::row_at;
+use rows_pack::start_of;
+use rows_records::row_at;
 use values::raised_sum;
 ghost use mathlib.Core.Path.{_≡_};
 ghost use Prim.Native.Nat.{_+_, _-_, _<_, _≤_};
 ghost use lib.ListN.{length};
-ghost use Rattle.filing.specs.Levels.{level, Lent, windowsOf};
-ghost use Rattle.filing.specs.Ends.{raisedEnd};
+ghost use Rattle.sums_slide.specs.Levels.{level, Lent, windowsOf};
+ghost use Rattle.sums_slide.specs.Ends.{raisedEnd};
 ghost use Rattle.meaning_rows.proofs.Grown.{lastEnds};
 ghost use Rattle.extend_count.specs.Listed.{listed, endOf, sizeOf, EndRoom, Listable};
 ghost use Rattle.extend_count.specs.Rank.{rank, Climbing};

@@ -17,9 +17,9 @@ use Rattle.meaning_rows.proofs.Runs.{runCount-more, before-more, before-some}
 use Rattle.meaning_rows.proofs.Columns.{putLeft, putRight, runCount-mono}
 use Rattle.meaning_rows.proofs.Parts.{Laid, Parts, stay-runs}
 use Rattle.meaning_rows.proofs.Cursors.{Cursors}
-use Rattle.filing.specs.declared.Place.{Place}
-use Rattle.filing.specs.Levels.{level, windowsOf, within}
-use Rattle.filing.specs.Change.{Stop}
+use Rattle.sums_slide.specs.declared.Place.{Place}
+use Rattle.sums_slide.specs.Levels.{level, windowsOf, within}
+use Rattle.sums_slide.specs.Change.{Stop}
 use Rattle.extend_new.specs.Turn.{parts-turn}
 
 -- where the first new run joins, its window is in the range and the spot in the buffer

@@ -14,9 +14,9 @@ use Rattle.meaning_numbers.proofs.Sum.{Σℤ-same}
 use Rattle.meaning_numbers.proofs.Tests.{by-test}
 use Rattle.meaning_curves.specs.Curve.{at, stretch, windowSum}
 use Rattle.meaning_rows.specs.Build.{rowNumbers}
-use Rattle.filing.specs.Levels.{Lent, windowsOf}
-use Rattle.filing.specs.Table.{table}
-use Rattle.tally.specs.Numbers.{lowered, table-numbers}
+use Rattle.sums_slide.specs.Levels.{Lent, windowsOf}
+use Rattle.sums_slide.specs.Table.{table}
+use Rattle.sums_count.specs.Numbers.{lowered, table-numbers}
 
 unfoldable pub newTable : List ℤ → ℕ → ℕ → ℕ → ℕ → List ℕ
 newTable s old w e d = cond (ltb old (windowsOf s w)) (table (drop old s) w e d) []

@@ -1,14 +1,14 @@
 // The new windows of an extension: their row numbers, and the first new run where it joins the last old run of its row.
-use filing::Place;
-use filing::list_rows;
-use filing::next_out;
+use sums_slide::Place;
+use sums_slide::list_rows;
+use sums_slide::next_out;
 ghost use mathlib.Core.Path.{_≡_};
 ghost use mathlib.Core.Bool.{true};
 ghost use Prim.Native.Nat.{_+_, _-_, _<_, _≤_};
 ghost use lib.ListN.{length, getD};
 ghost use Rattle.meaning_curves.specs.Limits.{widestRow};
-ghost use Rattle.filing.specs.Levels.{Lent, windowsOf};
-ghost use Rattle.filing.specs.Picked.{Appended};
+ghost use Rattle.sums_slide.specs.Levels.{Lent, windowsOf};
+ghost use Rattle.sums_slide.specs.Picked.{Appended};
 ghost use Rattle.extend_new.specs.New.{newTable, lessJoin};
 ghost use Rattle.extend_new.specs.Join.{Joinable, JoinedRun};
 

@@ -17,9 +17,9 @@ use Rattle.meaning_entries.specs.Extend.{ExtendCall, lentExtend, extendWindows,
 use Rattle.meaning_entries.proofs.Refusal.{Passed, passed-is, openLines, passed-line, passed-behind, lacks}
 use Rattle.meaning_entries.proofs.Lines.{room-line}
 use Rattle.meaning_entries.proofs.Made.{extend-formed, extendable}
-use Rattle.judge.specs.Judged.{judgedOf, bad-row}
-use Rattle.conditions.specs.declared.Refusal.{Refusal}
-use Rattle.conditions.specs.Refusal.{refusalOf, judged-line, passes, refuses}
+use Rattle.rows_judge.specs.Judged.{judgedOf, bad-row}
+use Rattle.refusals.specs.declared.Refusal.{Refusal}
+use Rattle.refusals.specs.Refusal.{refusalOf, judged-line, passes, refuses}
 use Rattle.extend_plan.specs.Plan.{planOf}
 
 module _ (series : List ℤ) (h : Head) (rows : List Row) (left right : List ℕ) (b : IndexBuffers) where

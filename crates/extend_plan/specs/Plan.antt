@@ -8,9 +8,9 @@ use Rattle.meaning_rows.specs.declared.Head.{Head}
 use Rattle.meaning_rows.specs.Index.{lent}
 use Rattle.meaning_entries.specs.Refusal.{seriesLines}
 use Rattle.meaning_entries.specs.Extend.{growLines}
-use Rattle.judge.specs.declared.Judged.{Judged}
-use Rattle.conditions.specs.declared.Refusal.{Refusal}
-use Rattle.conditions.specs.Refusal.{refusalOf, judgedLine}
+use Rattle.rows_judge.specs.declared.Judged.{Judged}
+use Rattle.refusals.specs.declared.Refusal.{Refusal}
+use Rattle.refusals.specs.Refusal.{refusalOf, judgedLine}
 
 unfoldable pub planOf : List ℤ → Head → Judged → ℕ → ℕ → Refusal
 planOf s h j rows runs = refusalOf (seriesLines mostValues s ++ (judgedLine j ∷ growLines (length s) (lent h [] [] []) rows runs))

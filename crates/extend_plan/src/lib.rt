@@ -1,13 +1,13 @@
 // What refuses an extension, by its series, by what judging said of the index and by how many entries the buffers hold.
 ghost use mathlib.Core.Path.{_≡_};
 ghost use Rattle.extend_plan.specs.Plan.{planOf};
-use conditions::Refusal;
-use conditions::more;
-use conditions::refuse_if;
-use conditions::refuse_judged;
-use conditions::refuse_room;
-use conditions::refuse_series;
-use judge::Judged;
+use refusals::Refusal;
+use refusals::more;
+use refusals::refuse_if;
+use refusals::refuse_judged;
+use refusals::refuse_room;
+use refusals::refuse_series;
+use rows_judge::Judged;
 use meaning_rows::Head;
 
 // The plan of an extension.

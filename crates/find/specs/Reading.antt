@@ -7,9 +7,9 @@ use lib.IntN.{ℤ}
 use lib.ListN.{length}
 use Rattle.text_lines.specs.Follow.{nothingSaid}
 use Rattle.text_feed.specs.Keep.{numbersOf}
-use Rattle.find_plan.specs.declared.Input.{Input}
-use Rattle.find_plan.specs.Input.{start, Stands, Open, ReadOn, start-stands, start-open}
-use Rattle.find_answer.specs.Finish.{Reached}
+use Rattle.program_input.specs.declared.Input.{Input}
+use Rattle.program_input.specs.Input.{start, Stands, Open, ReadOn, start-stands, start-open}
+use Rattle.program_answer.specs.Finish.{Reached}
 use Rattle.find.specs.declared.Step.{Step}
 
 pub record ReadTo (n : ℕ) (r : Input) (numbers series query : List ℤ) : Type 0 where

@@ -1,8 +1,8 @@
 // The library under one roof: the entries of document 01, and the types that they take and answer with.
-pub use audit::audit;
-pub use build_index::build;
+pub use entry_audit::audit;
+pub use entry_build::build;
 pub use demand::demand;
-pub use extend_index::extend;
+pub use entry_extend::extend;
 pub use meaning_entries::Audited;
 pub use meaning_entries::Both;
 pub use meaning_entries::Built;
@@ -15,6 +15,6 @@ pub use meaning_filter::Kind;
 pub use meaning_filter::Limits;
 pub use meaning_rows::Head;
 pub use meaning_rows::Row;
-pub use search::search;
-pub use text_load::read;
-pub use text_save::write;
+pub use entry_search::search;
+pub use entry_read::read;
+pub use entry_write::write;

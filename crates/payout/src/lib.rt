@@ -12,7 +12,7 @@ ghost use Rattle.meaning_entries.specs.Demand2.{AuditTextKept};
 ghost use Rattle.text_judge.specs.declared.Scanned.{Scanned};
 ghost use Rattle.text_judge.specs.Tally.{scanned};
 ghost use Rattle.payout.specs.Counted.{countedAnswer};
-use conditions::length_in;
+use refusals::length_in;
 use meaning_curves::MOST_PROGRAM_VALUES;
 use meaning_curves::MOST_VALUES;
 use meaning_entries::Audited;

@@ -23,13 +23,13 @@ use Rattle.meaning_entries.specs.Audit.{AuditCall, auditTable, auditAnswer}
 use Rattle.meaning_entries.specs.Load.{textIndex}
 use Rattle.meaning_entries.proofs.Again.{text-fine}
 use Rattle.meaning_entries.proofs.Refusal.{Passed, openLines, passed-line, same-behind}
-use Rattle.judge.specs.declared.Judged.{Judged}
-use Rattle.audit.specs.declared.Plan.{Plan}
-use Rattle.audit.specs.declared.State.{State}
-use Rattle.audit.specs.State.{found}
-use Rattle.conditions.specs.Refusal.{refusalOf, asRefusal, judgedLine, judged-line}
-use Rattle.audit.specs.Plan.{tableOf, planOf, answerOf}
-use Rattle.audit.proofs.Cases.{stopped, values-in, formed, fits, went-wrong, went-right}
+use Rattle.rows_judge.specs.declared.Judged.{Judged}
+use Rattle.entry_audit.specs.declared.Plan.{Plan}
+use Rattle.entry_audit.specs.declared.State.{State}
+use Rattle.entry_audit.specs.State.{found}
+use Rattle.refusals.specs.Refusal.{refusalOf, asRefusal, judgedLine, judged-line}
+use Rattle.entry_audit.specs.Plan.{tableOf, planOf, answerOf}
+use Rattle.entry_audit.proofs.Cases.{stopped, values-in, formed, fits, went-wrong, went-right}
 use Rattle.text_judge.specs.declared.Rows.{Rows}
 use Rattle.text_judge.specs.declared.Scanned.{Scanned}
 use Rattle.text_judge.specs.Tally.{noRows, rowsFrom, headHeld, scanned}

@@ -24,10 +24,10 @@ use Rattle.meaning_rows.proofs.Judge.{GoodRow, WellFormed, well-formed, each-ro
 use Rattle.meaning_rows.proofs.Laid.{Lays, laid}
 use Rattle.meaning_text.specs.Form.{Value}
 use Rattle.meaning_text.specs.Texts.{indexForm, rowForm, rowSaid, indexSaid}
-use Rattle.records.specs.Records.{zeroRow}
-use Rattle.audit.specs.declared.State.{State}
-use Rattle.audit.specs.State.{found, wrongOf, chunked}
-use Rattle.audit.proofs.Chunks.{orElse}
+use Rattle.rows_records.specs.Records.{zeroRow}
+use Rattle.entry_audit.specs.declared.State.{State}
+use Rattle.entry_audit.specs.State.{found, wrongOf, chunked}
+use Rattle.entry_audit.proofs.Chunks.{orElse}
 use Rattle.text_feed.specs.Keep.{clamp}
 use Rattle.text_judge.specs.Tally.{held, noRows, rowsFrom, headHeld}
 use Rattle.text_judge.proofs.Bad.{held-nat, HeadIs, head-is, text-bad}

@@ -12,8 +12,8 @@ use borrow.Author.Tests.{leb-true}
 use Rattle.meaning_numbers.proofs.Tests.{both}
 use Rattle.meaning_rows.specs.declared.Row.{Row}
 use Rattle.meaning_rows.specs.declared.Head.{Head}
-use Rattle.records.specs.Records.{zeroRow}
-use Rattle.audit.specs.State.{Reads, Ready, chunked}
+use Rattle.rows_records.specs.Records.{zeroRow}
+use Rattle.entry_audit.specs.State.{Reads, Ready, chunked}
 use Rattle.payout_walk.specs.declared.Walk.{Walk}
 use Rattle.payout_walk.specs.Walk.{Sized, oneRun, afterRun}
 

@@ -15,8 +15,8 @@ use Rattle.meaning_text.specs.Read.{Verdict, fine, unfit, readText}
 use Rattle.meaning_text.specs.Texts.{indexForm, rowForm}
 use Rattle.meaning_text.proofs.Automaton.{going, feed, feed-one, feed-none, atEnd, verdictOf}
 use Rattle.meaning_text.proofs.Reading.{on-flag}
-use Rattle.audit.specs.declared.State.{State}
-use Rattle.audit.specs.State.{chunked}
+use Rattle.entry_audit.specs.declared.State.{State}
+use Rattle.entry_audit.specs.State.{chunked}
 use Rattle.text_feed.specs.Keep.{clamp}
 use Rattle.text_index.specs.declared.Place.{Place}
 use Rattle.text_index.specs.declared.Moved.{Moved}

@@ -13,9 +13,9 @@ use Rattle.meaning_rows.specs.Index.{Entry}
 use Rattle.meaning_text.specs.Form.{Value}
 use Rattle.meaning_text.specs.Read.{fine, readText}
 use Rattle.meaning_text.specs.Texts.{indexForm, rowForm}
-use Rattle.records.specs.Records.{zeroRow}
-use Rattle.audit.specs.declared.State.{State}
-use Rattle.audit.specs.State.{chunked}
+use Rattle.rows_records.specs.Records.{zeroRow}
+use Rattle.entry_audit.specs.declared.State.{State}
+use Rattle.entry_audit.specs.State.{chunked}
 use Rattle.text_feed.specs.Keep.{clamp}
 use Rattle.text_index.specs.declared.Place.{Place}
 use Rattle.text_judge.specs.Tally.{held}

@@ -23,8 +23,8 @@ use Rattle.meaning_rows.proofs.Laid.{Lays, laid, length-records}
 use Rattle.meaning_text.specs.Form.{Value}
 use Rattle.meaning_text.specs.Texts.{indexForm, rowForm, rowSaid, indexSaid}
 use Rattle.meaning_text.proofs.Reading.{on-flag}
-use Rattle.judge.specs.Judged.{badRow}
-use Rattle.judge.proofs.Scan.{both, runGood, good-run}
+use Rattle.rows_judge.specs.Judged.{badRow}
+use Rattle.rows_judge.proofs.Scan.{both, runGood, good-run}
 use Rattle.text_feed.specs.Keep.{clamp}
 use Rattle.text_judge.specs.declared.Runs.{Runs}
 use Rattle.text_judge.specs.declared.Rows.{Rows}

@@ -15,7 +15,7 @@ use Rattle.meaning_rows.specs.Judge.{headGood, runsGood, rangeGood}
 use Rattle.meaning_text.specs.Form.{Value}
 use Rattle.meaning_text.specs.Texts.{indexForm, rowForm, rowSaid, indexSaid}
 use Rattle.meaning_text.proofs.Reading.{on-flag}
-use Rattle.judge.proofs.Scan.{both, runGood, good-run}
+use Rattle.rows_judge.proofs.Scan.{both, runGood, good-run}
 use Rattle.text_feed.specs.Keep.{clamp}
 use Rattle.text_judge.specs.declared.Runs.{Runs}
 use Rattle.text_judge.specs.declared.Rows.{Rows}

@@ -14,7 +14,7 @@ use Rattle.meaning_text.specs.Read.{Verdict, fine, unfit, readText}
 use Rattle.meaning_text.specs.Texts.{indexForm, rowForm}
 use Rattle.meaning_text.proofs.Automaton.{verdictOf}
 use Rattle.meaning_text.proofs.Reading.{on-flag}
-use Rattle.judge.proofs.Scan.{both, runGood, good-run}
+use Rattle.rows_judge.proofs.Scan.{both, runGood, good-run}
 use Rattle.text_feed.specs.Keep.{clamp}
 use Rattle.text_index.specs.declared.Place.{Place}
 use Rattle.text_index.specs.Follow.{Said, told, closed, value}

@@ -4,7 +4,7 @@ use mathlib.Core.List.{[]}
 use Rattle.meaning_rows.specs.declared.Head.{Head}
 use Rattle.meaning_rows.specs.Index.{lent}
 use Rattle.meaning_rows.specs.Judge.{headGood}
-use Rattle.judge.specs.declared.Judged.{Judged}
+use Rattle.rows_judge.specs.declared.Judged.{Judged}
 use Rattle.text_judge.specs.declared.Rows.{Rows}
 
 -- the first bad row, 0 for the head; else the run lengths added up

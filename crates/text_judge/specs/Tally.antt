@@ -12,7 +12,7 @@ use Rattle.meaning_rows.specs.Judge.{rangeGood}
 use Rattle.meaning_text.specs.Form.{Value}
 use Rattle.meaning_text.specs.Read.{Verdict, fine, unfit}
 use Rattle.meaning_text.specs.Texts.{indexForm, rowForm}
-use Rattle.judge.proofs.Scan.{runGood}
+use Rattle.rows_judge.proofs.Scan.{runGood}
 use Rattle.text_feed.specs.Keep.{clamp}
 use Rattle.text_index.specs.declared.Place.{Place}
 use Rattle.text_judge.specs.declared.Runs.{Runs}

@@ -29,8 +29,8 @@ use denote.Triple.Statement.{Contract, Triple}
 use denote.Triple.Walked.{says}
 use Rattle.meaning_rows.proofs.Row as T
 use Rattle.meaning_rows.proofs.Row.Laws as T′
-use Rattle.records.proofs.Walk.{calls-kept, calls-plain}
-use Rattle.records.proofs.Rows.{low, Good}
+use Rattle.rows_records.proofs.Walk.{calls-kept, calls-plain}
+use Rattle.rows_records.proofs.Rows.{low, Good}
 use Rattle.text_rows.specs.declared.Line.{Line}
 use Rattle.text_rows.specs.Line.{noLine, nextLine, Ready}
 use Rattle.text_rows.proofs.Line as L

@@ -25,7 +25,7 @@ use denote.Slice.{sliceTy, sliceVal}
 use denote.Struct.Laws as LL
 use denote.Enum.Laws as EL
 use Rattle.meaning_rows.proofs.Row.Laws as T′
-use Rattle.records.proofs.Rows.{low}
+use Rattle.rows_records.proofs.Rows.{low}
 use Rattle.text_index.specs.declared.State.{State}
 use Rattle.text_index.proofs.State as S
 use Rattle.text_index.proofs.State.Laws as S′

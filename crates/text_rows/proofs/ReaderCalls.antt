@@ -31,7 +31,7 @@ use denote.Triple.Clauses.{lasts}
 use denote.Triple.Spec.{tripleOf}
 use denote.Triple.Statement.{Contract, Triple}
 use denote.Triple.Walked.{says}
-use Rattle.records.proofs.Walk.{calls-kept}
+use Rattle.rows_records.proofs.Walk.{calls-kept}
 use Rattle.text_index.specs.declared.State.{State}
 use Rattle.text_index.proofs.State as S
 use Rattle.text_index.proofs.State.Laws as S′

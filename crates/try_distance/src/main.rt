@@ -1,20 +1,20 @@
 // Runs the vectors of its standard input (tests/model/vectors.rs writes them: the paper's cases, then answers of the model) and says of each group how many agree.
-use distance_c::curve_bound;
-use distance_c::curve_envelopes;
-use distance_c::curve_matches;
-use distance_c::curve_normal;
-use distance_c::curve_root;
-use distance_c::curve_straight;
-use distance_c::curve_warped;
-use distance_c::curve_windows;
-use vectors::get;
-use vectors::get_length;
-use vectors::get_natural;
-use vectors::get_small;
-use vectors::get_values;
-use vectors::plus;
-use vectors::read_numbers;
-use vectors::value;
+use try_c_distance::curve_bound;
+use try_c_distance::curve_envelopes;
+use try_c_distance::curve_matches;
+use try_c_distance::curve_normal;
+use try_c_distance::curve_root;
+use try_c_distance::curve_straight;
+use try_c_distance::curve_warped;
+use try_c_distance::curve_windows;
+use try_vectors::get;
+use try_vectors::get_length;
+use try_vectors::get_natural;
+use try_vectors::get_small;
+use try_vectors::get_values;
+use try_vectors::plus;
+use try_vectors::read_numbers;
+use try_vectors::value;
 ghost use Prim.Native.Nat.{_≤_};
 
 // ---- comparing

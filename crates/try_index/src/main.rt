@@ -1,22 +1,22 @@
 // Runs the vectors of its standard input (tests/model/index_vectors.rs writes them: the paper's cases, and answers of the model) through the entries over lent records, and says of each group how many agree.
-use index_table::audit_table;
-use index_table::build_table;
-use index_table::extend_table;
-use judge::lesser;
+use try_table::audit_table;
+use try_table::build_table;
+use try_table::extend_table;
+use rows_judge::lesser;
 use meaning_entries::Audited;
 use meaning_entries::Built;
 use meaning_entries::Extended;
 use meaning_rows::Head;
 use meaning_rows::Row;
-use vectors::get_head;
-use vectors::get_length;
-use vectors::get_natural;
-use vectors::get_numbers;
-use vectors::get_row;
-use vectors::get_small;
-use vectors::get_values;
-use vectors::plus;
-use vectors::read_numbers;
+use try_vectors::get_head;
+use try_vectors::get_length;
+use try_vectors::get_natural;
+use try_vectors::get_numbers;
+use try_vectors::get_row;
+use try_vectors::get_small;
+use try_vectors::get_values;
+use try_vectors::plus;
+use try_vectors::read_numbers;
 ghost use Prim.Native.Nat.{_≤_};
 
 // ---- parts of a vector

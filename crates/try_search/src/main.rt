@@ -1,20 +1,20 @@
 // Runs the vectors of its standard input (tests/model/search_vectors.rs writes them: the paper's cases, then answers of the model) through the entry that searches, and says of each group how many agree.
-use find_answer::search_table;
+use program_answer::search_table;
 use meaning_curves::MOST_PROGRAM_VALUES;
 use meaning_entries::Found;
 use meaning_filter::Ask;
 use meaning_filter::Kind;
 use meaning_filter::Limits;
 use meaning_rows::Row;
-use vectors::get_head;
-use vectors::get_length;
-use vectors::get_natural;
-use vectors::get_numbers;
-use vectors::get_row;
-use vectors::get_small;
-use vectors::get_values;
-use vectors::plus;
-use vectors::read_numbers;
+use try_vectors::get_head;
+use try_vectors::get_length;
+use try_vectors::get_natural;
+use try_vectors::get_numbers;
+use try_vectors::get_row;
+use try_vectors::get_small;
+use try_vectors::get_values;
+use try_vectors::plus;
+use try_vectors::read_numbers;
 
 // ---- parts of a vector: a list is how many entries it has, and these
 

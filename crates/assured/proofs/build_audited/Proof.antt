@@ -37,9 +37,9 @@ use denote.Triple.Walked.{says, Stays, stay-dropped, stay-slice, walkOf, goes-dr
 use denote.Exit.{yes}
 use Rattle.meaning_rows.specs.declared.Row.{Row}
 use Rattle.meaning_rows.proofs.Row as T
-use Rattle.records.proofs.Walk.{lose, lose-room, AtEntry, at-entry, walk-through}
-use Rattle.records.proofs.Lends as Lends
-use Rattle.records.proofs.RowKit.{word, half, record-type}
+use Rattle.rows_records.proofs.Walk.{lose, lose-room, AtEntry, at-entry, walk-through}
+use Rattle.rows_records.proofs.Lends as Lends
+use Rattle.rows_records.proofs.RowKit.{word, half, record-type}
 use lib.ListN.{take, length-take}
 use base.Logic.{emp, via, fst∗}
 use denote.Struct.Laws as LL
@@ -57,21 +57,21 @@ use Rattle.meaning_entries.proofs.Built as Bu
 use Rattle.meaning_entries.proofs.Built.Laws as Bu′
 use Rattle.meaning_entries.proofs.Audited as Au
 use Rattle.meaning_entries.proofs.Audited.Laws as Au′
-use Rattle.build.specs.Filled.{buffers}
-use Rattle.build_index.proofs.build.Symbol as build-def
-use Rattle.build_index.proofs.build.Symbol.{name as #build}
-use Rattle.build_index.proofs.build.Met as build-thm
-use Rattle.audit.proofs.audit.Symbol as audit-def
-use Rattle.audit.proofs.audit.Symbol.{name as #audit}
-use Rattle.audit.proofs.audit.Met as audit-thm
-use Rattle.audit.proofs.AuditCall.{low-head, low-audited, Audit}
+use Rattle.build_passes.specs.Filled.{buffers}
+use Rattle.entry_build.proofs.build.Symbol as build-def
+use Rattle.entry_build.proofs.build.Symbol.{name as #build}
+use Rattle.entry_build.proofs.build.Met as build-thm
+use Rattle.entry_audit.proofs.audit.Symbol as audit-def
+use Rattle.entry_audit.proofs.audit.Symbol.{name as #audit}
+use Rattle.entry_audit.proofs.audit.Met as audit-thm
+use Rattle.entry_audit.proofs.AuditCall.{low-head, low-audited, Audit}
 use Rattle.assured.specs.declared.Assured.{Assured}
 use Rattle.assured.specs.Assured.{headIn, bothOf, BuildAssured}
 use Rattle.assured.specs.Standing.{in-room, assured}
 use Rattle.assured.proofs.Assured as As
 use Rattle.assured.proofs.Assured.Laws as As′
-use Rattle.build_index.proofs.BuildCall.{low-built}
-use Rattle.build_index.proofs.BuildCall.{Build, calls-build-lent}
+use Rattle.entry_build.proofs.BuildCall.{low-built}
+use Rattle.entry_build.proofs.BuildCall.{Build, calls-build-lent}
 use Rattle.assured.proofs.Calls.{low-assured, HeadIn, RowsIn, RunsIn, Both, calls-head-in, calls-rows-in, calls-runs-in, calls-audit, calls-both}
 use Rattle.assured.proofs.head_in.Symbol as head-in-def
 use Rattle.assured.proofs.head_in.Symbol.{name as #head-in}
@@ -263,9 +263,9 @@ build-audited-spec 𝓤 H 𝓜 𝓖 𝓡 =
     entered 𝓤 H (tripleOf 𝓤 H (𝓖 .A) f.signature (f.spec 𝓤 H (𝓖 .A) (𝓜 .mem) (𝓡 .run)))
     (tables 𝓤 H 𝓜 𝓡 code.env .C) (tables 𝓤 H 𝓜 𝓡 code.env .Λ) #self code.function (code.unfolded 𝓤 H 𝓜 𝓡)
     (meets 𝓤 H (𝓖 .A) (givenOf 𝓤 H 𝓜 𝓖) (𝓜 .mem) (𝓡 .run) (tablesOf 𝓤 H 𝓜 (tables 𝓤 H 𝓜 𝓡 code.env))
-    (cited 𝓤 H (Build 𝓤 H (𝓖 .A) (𝓜 .mem) (𝓡 .run)) 𝓜 𝓡 code.env #build build-def.routine code.calls-build-index·build (build-thm.met 𝓤 H 𝓜 𝓖 𝓡))
+    (cited 𝓤 H (Build 𝓤 H (𝓖 .A) (𝓜 .mem) (𝓡 .run)) 𝓜 𝓡 code.env #build build-def.routine code.calls-entry-build·build (build-thm.met 𝓤 H 𝓜 𝓖 𝓡))
     (cited 𝓤 H (HeadIn 𝓤 H (𝓖 .A) (𝓜 .mem) (𝓡 .run)) 𝓜 𝓡 code.env #head-in head-in-def.routine code.calls-assured·head-in (head-in-thm.met 𝓤 H 𝓜 𝓖 𝓡))
     (cited 𝓤 H (RowsIn 𝓤 H (𝓖 .A) (𝓜 .mem) (𝓡 .run)) 𝓜 𝓡 code.env #rows-in rows-in-def.routine code.calls-assured·rows-in (rows-in-thm.met 𝓤 H 𝓜 𝓖 𝓡))
     (cited 𝓤 H (RunsIn 𝓤 H (𝓖 .A) (𝓜 .mem) (𝓡 .run)) 𝓜 𝓡 code.env #runs-in runs-in-def.routine code.calls-assured·runs-in (runs-in-thm.met 𝓤 H 𝓜 𝓖 𝓡))
-    (cited 𝓤 H (Audit 𝓤 H (𝓖 .A) (𝓜 .mem) (𝓡 .run)) 𝓜 𝓡 code.env #audit audit-def.routine code.calls-audit·audit (audit-thm.met 𝓤 H 𝓜 𝓖 𝓡))
+    (cited 𝓤 H (Audit 𝓤 H (𝓖 .A) (𝓜 .mem) (𝓡 .run)) 𝓜 𝓡 code.env #audit audit-def.routine code.calls-entry-audit·audit (audit-thm.met 𝓤 H 𝓜 𝓖 𝓡))
     (cited 𝓤 H (Both 𝓤 H (𝓖 .A) (𝓜 .mem) (𝓡 .run)) 𝓜 𝓡 code.env #both both-def.routine code.calls-assured·both (both-thm.met 𝓤 H 𝓜 𝓖 𝓡)))

@@ -36,9 +36,9 @@ use denote.Triple.Walked.{says, Stays, stay-dropped, stay-slice, walkOf, goes-dr
 use denote.Exit.{yes}
 use Rattle.meaning_rows.specs.declared.Row.{Row}
 use Rattle.meaning_rows.proofs.Row as T
-use Rattle.records.proofs.Walk.{lose, lose-room, AtEntry, at-entry, walk-through}
-use Rattle.records.proofs.Lends as Lends
-use Rattle.records.proofs.RowKit.{word, half, record-type}
+use Rattle.rows_records.proofs.Walk.{lose, lose-room, AtEntry, at-entry, walk-through}
+use Rattle.rows_records.proofs.Lends as Lends
+use Rattle.rows_records.proofs.RowKit.{word, half, record-type}
 use lib.ListN.{take, length-take}
 use base.Logic.{emp, via, fst∗}
 use denote.Struct.Laws as LL
@@ -59,22 +59,22 @@ use Rattle.meaning_entries.proofs.Extended as Ex
 use Rattle.meaning_entries.proofs.Extended.Laws as Ex′
 use Rattle.meaning_entries.proofs.Audited as Au
 use Rattle.meaning_entries.proofs.Audited.Laws as Au′
-use Rattle.build.specs.Filled.{buffers}
-use Rattle.extend_index.proofs.ExtendCall.{low-extended}
-use Rattle.audit.proofs.AuditCall.{low-head, low-audited, Audit}
-use Rattle.extend_index.proofs.ExtendCall.{Extend, calls-extend-lent}
+use Rattle.build_passes.specs.Filled.{buffers}
+use Rattle.entry_extend.proofs.ExtendCall.{low-extended}
+use Rattle.entry_audit.proofs.AuditCall.{low-head, low-audited, Audit}
+use Rattle.entry_extend.proofs.ExtendCall.{Extend, calls-extend-lent}
 use Rattle.assured.specs.declared.Grown.{Grown}
-use Rattle.extend_index.proofs.extend.Symbol as extend-def
-use Rattle.extend_index.proofs.extend.Symbol.{name as #extend}
-use Rattle.extend_index.proofs.extend.Met as extend-thm
-use Rattle.audit.proofs.audit.Symbol as audit-def
-use Rattle.audit.proofs.audit.Symbol.{name as #audit}
-use Rattle.audit.proofs.audit.Met as audit-thm
+use Rattle.entry_extend.proofs.extend.Symbol as extend-def
+use Rattle.entry_extend.proofs.extend.Symbol.{name as #extend}
+use Rattle.entry_extend.proofs.extend.Met as extend-thm
+use Rattle.entry_audit.proofs.audit.Symbol as audit-def
+use Rattle.entry_audit.proofs.audit.Symbol.{name as #audit}
+use Rattle.entry_audit.proofs.audit.Met as audit-thm
 use Rattle.assured.specs.Assured.{headIn, asBuilt, bothGrown, ExtendAssured}
 use Rattle.assured.specs.StandingExtended.{in-room, assured}
 use Rattle.assured.proofs.Grown as Gr
 use Rattle.assured.proofs.Grown.Laws as Gr′
-use Rattle.build_index.proofs.BuildCall.{low-built}
+use Rattle.entry_build.proofs.BuildCall.{low-built}
 use Rattle.assured.proofs.Calls.{HeadIn, RowsIn, RunsIn, calls-head-in, calls-rows-in, calls-runs-in, calls-audit}
 use Rattle.assured.proofs.CallsExtended.{low-grown, AsBuilt, BothGrown, calls-as-built, calls-both-grown}
 use Rattle.assured.proofs.as_built.Symbol as as-built-def
@@ -301,10 +301,10 @@ extend-audited-spec 𝓤 H 𝓜 𝓖 𝓡 =
     entered 𝓤 H (tripleOf 𝓤 H (𝓖 .A) f.signature (f.spec 𝓤 H (𝓖 .A) (𝓜 .mem) (𝓡 .run)))
     (tables 𝓤 H 𝓜 𝓡 code.env .C) (tables 𝓤 H 𝓜 𝓡 code.env .Λ) #self code.function (code.unfolded 𝓤 H 𝓜 𝓡)
     (meets 𝓤 H (𝓖 .A) (givenOf 𝓤 H 𝓜 𝓖) (𝓜 .mem) (𝓡 .run) (tablesOf 𝓤 H 𝓜 (tables 𝓤 H 𝓜 𝓡 code.env))
-    (cited 𝓤 H (Extend 𝓤 H (𝓖 .A) (𝓜 .mem) (𝓡 .run)) 𝓜 𝓡 code.env #extend extend-def.routine code.calls-extend-index·extend (extend-thm.met 𝓤 H 𝓜 𝓖 𝓡))
+    (cited 𝓤 H (Extend 𝓤 H (𝓖 .A) (𝓜 .mem) (𝓡 .run)) 𝓜 𝓡 code.env #extend extend-def.routine code.calls-entry-extend·extend (extend-thm.met 𝓤 H 𝓜 𝓖 𝓡))
     (cited 𝓤 H (AsBuilt 𝓤 H (𝓖 .A) (𝓜 .mem) (𝓡 .run)) 𝓜 𝓡 code.env #as-built as-built-def.routine code.calls-assured·as-built (as-built-thm.met 𝓤 H 𝓜 𝓖 𝓡))
     (cited 𝓤 H (HeadIn 𝓤 H (𝓖 .A) (𝓜 .mem) (𝓡 .run)) 𝓜 𝓡 code.env #head-in head-in-def.routine code.calls-assured·head-in (head-in-thm.met 𝓤 H 𝓜 𝓖 𝓡))
     (cited 𝓤 H (RowsIn 𝓤 H (𝓖 .A) (𝓜 .mem) (𝓡 .run)) 𝓜 𝓡 code.env #rows-in rows-in-def.routine code.calls-assured·rows-in (rows-in-thm.met 𝓤 H 𝓜 𝓖 𝓡))
     (cited 𝓤 H (RunsIn 𝓤 H (𝓖 .A) (𝓜 .mem) (𝓡 .run)) 𝓜 𝓡 code.env #runs-in runs-in-def.routine code.calls-assured·runs-in (runs-in-thm.met 𝓤 H 𝓜 𝓖 𝓡))
-    (cited 𝓤 H (Audit 𝓤 H (𝓖 .A) (𝓜 .mem) (𝓡 .run)) 𝓜 𝓡 code.env #audit audit-def.routine code.calls-audit·audit (audit-thm.met 𝓤 H 𝓜 𝓖 𝓡))
+    (cited 𝓤 H (Audit 𝓤 H (𝓖 .A) (𝓜 .mem) (𝓡 .run)) 𝓜 𝓡 code.env #audit audit-def.routine code.calls-entry-audit·audit (audit-thm.met 𝓤 H 𝓜 𝓖 𝓡))
     (cited 𝓤 H (BothGrown 𝓤 H (𝓖 .A) (𝓜 .mem) (𝓡 .run)) 𝓜 𝓡 code.env #both-grown both-grown-def.routine code.calls-assured·both-grown (both-grown-thm.met 𝓤 H 𝓜 𝓖 𝓡)))

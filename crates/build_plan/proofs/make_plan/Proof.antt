@@ -4,7 +4,7 @@ use mathlib.Core.Path.{_≡_, refl, ap, _∙_}
 use Prim.Native.Nat.{ℕ, min}
 use native.Mathlib.Omega.{arith}
 use Rattle.meaning_entries.specs.Build.{lentBuild, buildLines}
-use Rattle.conditions.specs.Refusal.{refusalOf, passes}
+use Rattle.refusals.specs.Refusal.{refusalOf, passes}
 use Rattle.build_plan.specs.Plan.{Goes, never-0, goes}
 use Rattle.build_plan.proofs.make_plan.Statement.{statement}
 use Rattle.build_plan.proofs.make_plan.Tie as tie

@@ -2,7 +2,7 @@
 -- Both indexes are audited, the series is searched through both, and what they come to is told.
 -- | use Rattle.meaning_rows.specs.Index.{lent}
 -- | use Rattle.meaning_entries.specs.Search.{lentSearch}
--- | use Rattle.search.specs.Refused.{buffers}
+-- | use Rattle.entry_search.specs.Refused.{buffers}
 -- | use Rattle.demand.proofs.Kept.{demand3-kept}
 -- | one, audit1 = audit
 -- | two, audit2 = audit
@@ -10,11 +10,11 @@
 -- | found2, kept2 = search
 -- | t, told = tell
 -- | ends: rw told (demand3-kept (lentSearch (now series) head1 (now rows1) (now left1) (now right1) ask (now query)) (lent head2 (now rows2) (now left2) (now right2)) (buffers (now first1) (now last1) (now scratch1) (now offsets1) (now distances1)) (buffers (now first2) (now last2) (now scratch2) (now offsets2) (now distances2)) (buffers last.first1 last.last1 last.scratch1 last.offsets1 last.distances1) (buffers last.first2 last.last2 last.scratch2 last.offsets2 last.distances2) one two found1 found2 audit1 audit2 kept1 kept2)
-use Rattle.records.proofs.Prelude.{refl, ℕ, List, [], _∷_, ℤ, length, URA, fullShare, named, Val, SProp, ent, emp, id⊢, via, fst∗, Memory, Routine, Heap, WpFn, Tables, Atoms, Lfts, Shares, Fun, factI, givenOf, tables, Given, Item, ⋆, _$_, _∵_, !, qed, by, move, keep, whole, sub, agg, look, init, stop, from, and-then, no-more, land, returns, enter, alloc1, alloc0, params1, pass1, pass0, FmC, fmOf, Is, i32, u64, u32, u16, RefT, ptr, now, name, sliceVal, Room, slice-vals, shr-slice-tells, mut-slice-tells, Meets, tripleOf, entered, cited, AtEntry, Data, struct, enum, Lent, value, kept, lends, token, viewed, lent-at, holds, empty, tidy, frees-all, calls-with, leaves-with, meets-with, loc, part, start, put-at}
+use Rattle.rows_records.proofs.Prelude.{refl, ℕ, List, [], _∷_, ℤ, length, URA, fullShare, named, Val, SProp, ent, emp, id⊢, via, fst∗, Memory, Routine, Heap, WpFn, Tables, Atoms, Lfts, Shares, Fun, factI, givenOf, tables, Given, Item, ⋆, _$_, _∵_, !, qed, by, move, keep, whole, sub, agg, look, init, stop, from, and-then, no-more, land, returns, enter, alloc1, alloc0, params1, pass1, pass0, FmC, fmOf, Is, i32, u64, u32, u16, RefT, ptr, now, name, sliceVal, Room, slice-vals, shr-slice-tells, mut-slice-tells, Meets, tripleOf, entered, cited, AtEntry, Data, struct, enum, Lent, value, kept, lends, token, viewed, lent-at, holds, empty, tidy, frees-all, calls-with, leaves-with, meets-with, loc, part, start, put-at}
 use contract.Running.{tablesOf}
 use Rattle.meaning_rows.specs.Index.{lent}
 use Rattle.meaning_entries.specs.Search.{lentSearch}
-use Rattle.search.specs.Refused.{buffers}
+use Rattle.entry_search.specs.Refused.{buffers}
 use Rattle.demand.proofs.Kept.{demand3-kept}
 use Rattle.meaning_filter.specs.declared.Ask.{Ask}
 use Rattle.meaning_filter.proofs.Ask as Askᵀ
@@ -33,14 +33,14 @@ use Rattle.meaning_rows.proofs.Head as Headᵀ
 use Rattle.meaning_rows.proofs.Head.Laws as Headᴸ
 use Rattle.meaning_rows.specs.declared.Row.{Row}
 use Rattle.meaning_rows.proofs.Row as Rowᵀ
-use Rattle.audit.proofs.audit as audit
-use Rattle.audit.proofs.audit.Symbol as audit-def
-use Rattle.audit.proofs.audit.Symbol.{name as #audit}
-use Rattle.audit.proofs.audit.Met as audit-thm
-use Rattle.search.proofs.search as search
-use Rattle.search.proofs.search.Symbol as search-def
-use Rattle.search.proofs.search.Symbol.{name as #search}
-use Rattle.search.proofs.search.Met as search-thm
+use Rattle.entry_audit.proofs.audit as audit
+use Rattle.entry_audit.proofs.audit.Symbol as audit-def
+use Rattle.entry_audit.proofs.audit.Symbol.{name as #audit}
+use Rattle.entry_audit.proofs.audit.Met as audit-thm
+use Rattle.entry_search.proofs.search as search
+use Rattle.entry_search.proofs.search.Symbol as search-def
+use Rattle.entry_search.proofs.search.Symbol.{name as #search}
+use Rattle.entry_search.proofs.search.Met as search-thm
 use Rattle.demand.proofs.tell as tell
 use Rattle.demand.proofs.tell.Symbol as tell-def
 use Rattle.demand.proofs.tell.Symbol.{name as #tell}
@@ -221,6 +221,6 @@ demand-spec 𝓤 H 𝓜 𝓖 𝓡 =
     entered 𝓤 H (tripleOf 𝓤 H (𝓖 .A) f.signature (f.spec 𝓤 H (𝓖 .A) (𝓜 .mem) (𝓡 .run)))
     (tables 𝓤 H 𝓜 𝓡 code.env .C) (tables 𝓤 H 𝓜 𝓡 code.env .Λ) #self code.function (code.unfolded 𝓤 H 𝓜 𝓡)
     (meets 𝓤 H (𝓖 .A) (givenOf 𝓤 H 𝓜 𝓖) (𝓜 .mem) (𝓡 .run) (tablesOf 𝓤 H 𝓜 (tables 𝓤 H 𝓜 𝓡 code.env)) (fmOf 𝓤 H (givenOf 𝓤 H 𝓜 𝓖 .laws) (tablesOf 𝓤 H 𝓜 (tables 𝓤 H 𝓜 𝓡 code.env)))
-    (cited 𝓤 H (tripleOf 𝓤 H (𝓖 .A) audit.signature (audit.spec 𝓤 H (𝓖 .A) (𝓜 .mem) (𝓡 .run))) 𝓜 𝓡 code.env #audit audit-def.routine code.calls-audit·audit (audit-thm.met 𝓤 H 𝓜 𝓖 𝓡))
-    (cited 𝓤 H (tripleOf 𝓤 H (𝓖 .A) search.signature (search.spec 𝓤 H (𝓖 .A) (𝓜 .mem) (𝓡 .run))) 𝓜 𝓡 code.env #search search-def.routine code.calls-search·search (search-thm.met 𝓤 H 𝓜 𝓖 𝓡))
+    (cited 𝓤 H (tripleOf 𝓤 H (𝓖 .A) audit.signature (audit.spec 𝓤 H (𝓖 .A) (𝓜 .mem) (𝓡 .run))) 𝓜 𝓡 code.env #audit audit-def.routine code.calls-entry-audit·audit (audit-thm.met 𝓤 H 𝓜 𝓖 𝓡))
+    (cited 𝓤 H (tripleOf 𝓤 H (𝓖 .A) search.signature (search.spec 𝓤 H (𝓖 .A) (𝓜 .mem) (𝓡 .run))) 𝓜 𝓡 code.env #search search-def.routine code.calls-entry-search·search (search-thm.met 𝓤 H 𝓜 𝓖 𝓡))
     (cited 𝓤 H (tripleOf 𝓤 H (𝓖 .A) tell.signature (tell.spec 𝓤 H (𝓖 .A) (𝓜 .mem) (𝓡 .run))) 𝓜 𝓡 code.env #tell tell-def.routine code.calls-demand·tell (tell-thm.met 𝓤 H 𝓜 𝓖 𝓡)))

@@ -4,10 +4,10 @@ use Prim.Native.Nat.{ℕ, _-_, _≤_, _<_}
 use native.Mathlib.Omega.{arith}
 use lib.ListN.{length, getD}
 use Rattle.meaning_rows.proofs.Runs.{runs-le}
-use Rattle.filing.specs.Levels.{level, windowsOf}
-use Rattle.filing.specs.Change.{RowRun}
-use Rattle.tally.specs.Tally.{isRow, Fresh, fresh-next}
-use Rattle.pack.specs.Packed.{startOf}
+use Rattle.sums_slide.specs.Levels.{level, windowsOf}
+use Rattle.sums_slide.specs.Change.{RowRun}
+use Rattle.sums_count.specs.Tally.{isRow, Fresh, fresh-next}
+use Rattle.rows_pack.specs.Packed.{startOf}
 use Rattle.extend_count.specs.Rank.{rank}
 use Rattle.extend_count.specs.Count.{rowFrom, Counted, row-new, counted-starts, fresh-old, next-run, counted-turn}
 use Rattle.extend_count.proofs.count_new.Statement.{statement}

@@ -3,7 +3,7 @@ use borrow.Author.Needs.{needs}
 use mathlib.Core.Path.{_≡_, ap}
 use Prim.Native.Nat.{ℕ, _+_}
 use native.Mathlib.Omega.{arith}
-use Rattle.filing.specs.Levels.{level, level-small}
+use Rattle.sums_slide.specs.Levels.{level, level-small}
 use Rattle.extend_count.proofs.level_at.Statement.{statement}
 use Rattle.extend_count.proofs.level_at.Tie as tie
 

@@ -45,16 +45,16 @@ use borrow.Author.Tests.{ltb-true, ltb-false}
 use Rattle.meaning_rows.specs.declared.Row.{Row}
 use Rattle.meaning_rows.proofs.Row as T
 use Rattle.meaning_rows.proofs.Row.Laws as T′
-use Rattle.records.specs.Records.{zeroRow}
-use Rattle.records.proofs.Elem.{store-elem}
-use Rattle.records.proofs.RowKit.{word, half, u32-elem, typed, row-up, row-runs, held}
-use Rattle.records.proofs.Rows.{Rs, Own, RowAt, calls-row-at}
-use Rattle.records.proofs.Walk.{by-bool, loops-by, walk-through}
+use Rattle.rows_records.specs.Records.{zeroRow}
+use Rattle.rows_records.proofs.Elem.{store-elem}
+use Rattle.rows_records.proofs.RowKit.{word, half, u32-elem, typed, row-up, row-runs, held}
+use Rattle.rows_records.proofs.Rows.{Rs, Own, RowAt, calls-row-at}
+use Rattle.rows_records.proofs.Walk.{by-bool, loops-by, walk-through}
 use Rattle.extend_count.specs.Listed.{listed, endOf, sizeOf, Listable, listed-none, listed-more, length-listed}
 use Rattle.extend_count.proofs.Calls.{RaisedEnd, calls-raised-end}
-use Rattle.records.proofs.row_at.Symbol as row-def
-use Rattle.records.proofs.row_at.Symbol.{name as #row-at}
-use Rattle.records.proofs.row_at.Met as row-thm
+use Rattle.rows_records.proofs.row_at.Symbol as row-def
+use Rattle.rows_records.proofs.row_at.Symbol.{name as #row-at}
+use Rattle.rows_records.proofs.row_at.Met as row-thm
 use Rattle.extend_count.proofs.raised_end.Symbol as end-def
 use Rattle.extend_count.proofs.raised_end.Symbol.{name as #raised-end}
 use Rattle.extend_count.proofs.raised_end.Met as end-thm
@@ -268,5 +268,5 @@ list-ends-spec 𝓤 H 𝓜 𝓖 𝓡 =
     entered 𝓤 H (tripleOf 𝓤 H (𝓖 .A) f.signature (f.spec 𝓤 H (𝓖 .A) (𝓜 .mem) (𝓡 .run)))
     (tables 𝓤 H 𝓜 𝓡 code.env .C) (tables 𝓤 H 𝓜 𝓡 code.env .Λ) #list-ends code.function (code.unfolded 𝓤 H 𝓜 𝓡)
     (meets 𝓤 H (𝓖 .A) (givenOf 𝓤 H 𝓜 𝓖) (𝓜 .mem) (𝓡 .run) (tablesOf 𝓤 H 𝓜 (tables 𝓤 H 𝓜 𝓡 code.env))
-    (cited 𝓤 H (RowAt 𝓤 H (𝓖 .A) (𝓜 .mem) (𝓡 .run)) 𝓜 𝓡 code.env #row-at row-def.routine code.calls-records·row-at (row-thm.met 𝓤 H 𝓜 𝓖 𝓡))
+    (cited 𝓤 H (RowAt 𝓤 H (𝓖 .A) (𝓜 .mem) (𝓡 .run)) 𝓜 𝓡 code.env #row-at row-def.routine code.calls-rows-records·row-at (row-thm.met 𝓤 H 𝓜 𝓖 𝓡))
     (cited 𝓤 H (RaisedEnd 𝓤 H (𝓖 .A) (𝓜 .mem) (𝓡 .run)) 𝓜 𝓡 code.env #raised-end end-def.routine code.calls-extend-count·raised-end (end-thm.met 𝓤 H 𝓜 𝓖 𝓡)))

@@ -5,7 +5,7 @@ use mir.Syntax.{w32}
 use mir.Val.{toZ, ofZ}
 use mir.ValLaws.{toZ-ofZ}
 use Rattle.meaning_numbers.proofs.Rep.{zarith, z-sub}
-use Rattle.filing.specs.Ends.{raisedEnd}
+use Rattle.sums_slide.specs.Ends.{raisedEnd}
 use Rattle.extend_count.proofs.raised_end.Statement.{statement}
 use Rattle.extend_count.proofs.raised_end.Tie as tie
 

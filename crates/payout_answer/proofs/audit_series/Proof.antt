@@ -1,7 +1,7 @@
 -- `payout_answer::audit_series` meets its contract: the answer by the plan, and where nothing refuses by the walk over the rows. Assumes nothing.
 use mathlib.Core.Path.{_≡_, sym, ap, _∙_}
-use Rattle.audit.specs.declared.Plan.{Plan}
-use Rattle.audit.specs.Plan.{planOf, answerOf}
+use Rattle.entry_audit.specs.declared.Plan.{Plan}
+use Rattle.entry_audit.specs.Plan.{planOf, answerOf}
 use Rattle.text_judge.specs.Judged.{judgedRows}
 use Rattle.payout_answer.proofs.Planned.{stopped-right, goes-sized, walked-right}
 use borrow.Author.Needs.{needs}

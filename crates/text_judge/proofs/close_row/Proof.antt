@@ -8,7 +8,7 @@ use Prim.Native.Nat.{_+_}
 use mir.Syntax.{w32}
 use mir.ValLaws.{toZ-ofZ}
 use borrow.Author.Tests.{leb-true}
-use Rattle.judge.proofs.Scan.{both}
+use Rattle.rows_judge.proofs.Scan.{both}
 use Rattle.text_judge.specs.Tally.{rowNext}
 use borrow.Author.Needs.{needs}
 use Rattle.text_judge.proofs.close_row.Statement.{statement}

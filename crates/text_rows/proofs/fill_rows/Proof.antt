@@ -51,8 +51,8 @@ use borrow.Author.Tests.{lt-ltb, le-ltb}
 use Rattle.meaning_rows.specs.declared.Row.{Row}
 use Rattle.meaning_rows.proofs.Row as T
 use Rattle.meaning_rows.proofs.Row.Laws as T′
-use Rattle.records.proofs.Elem.{store-elem}
-use Rattle.records.proofs.RowKit.{fits-16, typed, row-elem, row-makes, held}
+use Rattle.rows_records.proofs.Elem.{store-elem}
+use Rattle.rows_records.proofs.RowKit.{fits-16, typed, row-elem, row-makes, held}
 use Rattle.text_rows.specs.declared.Line.{Line}
 use Rattle.text_rows.specs.Line.{noLine, nextLine, lineAt, stored}
 use Rattle.text_rows.proofs.Turn.{line-ready, stored-none, stored-more, length-stored}

@@ -32,7 +32,7 @@ use denote.Triple.Statement.{Triple}
 use denote.Triple.Table.{entered, cited}
 use denote.Triple.Walked.{says, needs, Stays, stay-dropped, walkOf, goes-dropped, Walks, ends-at, walked, walk-meets}
 use denote.Exit.{yes}
-use Rattle.records.proofs.Walk.{lose}
+use Rattle.rows_records.proofs.Walk.{lose}
 use Rattle.text_reader.proofs.Reader as R
 use Rattle.text_reader.proofs.Reader.Laws as R′
 use Rattle.text_reader.proofs.reader_of.Symbol as reader-of-def

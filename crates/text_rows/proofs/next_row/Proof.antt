@@ -35,7 +35,7 @@ use denote.Triple.Statement.{Triple}
 use denote.Triple.Table.{entered, cited}
 use denote.Triple.Walked.{says, needs, Stays, stay-dropped, walkOf, goes-dropped, Walks, ends-at, walked, walk-meets}
 use denote.Exit.{yes}
-use Rattle.records.proofs.Walk.{lose}
+use Rattle.rows_records.proofs.Walk.{lose}
 use Rattle.text_index.specs.declared.State.{State}
 use Rattle.text_index.proofs.State as S
 use Rattle.text_index.proofs.State.Laws as S′

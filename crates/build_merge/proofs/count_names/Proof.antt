@@ -1,0 +1,63 @@
+-- `build_merge::count_names` meets its contract. The invariant: k of the first t names are in the range. Assumes nothing.
+use mathlib.Core.Path.{_≡_, sym, ap, _∙_}
+use Prim.Native.Nat.{ℕ, _+_, _-_, _≤_}
+use native.Mathlib.Omega.{arith}
+use borrow.Author.Needs.{needs}
+use Rattle.meaning_numbers.specs.Sum.{count}
+use Rattle.meaning_numbers.proofs.Count.{count-none, count-more, bit-true, bit-false}
+use Rattle.build_merge.specs.Names.{namesOf}
+use Rattle.build_merge.proofs.count_names.Statement.{statement}
+use Rattle.build_merge.proofs.count_names.Tie as tie
+
+abbrev Inv-loop : tie.InvT-loop
+Inv-loop names first n lo hi k₀ t₀ k t = (k ≤ t) × (t ≤ n) × (k ≡ count (namesOf names first lo hi) t)
+
+abbrev μ-loop : tie.MeasureT-loop
+μ-loop names first n lo hi k₀ t₀ k t = n - t
+
+loop-holds : tie.Need-loop-holds Inv-loop μ-loop
+loop-holds c = (omega arith, omega arith, sym (count-none _))
+
+loop-again : tie.Need-loop-again Inv-loop μ-loop
+unfolding namesOf
+loop-again c =
+    let l = c .before .before .before .before in
+    let a = l .before .before .args in
+    let p = namesOf (a .names .now) (a .first) (a .lo) (a .hi) in
+    (omega arith, omega arith, ap (λ (x : ℕ). x + 1) (l .loop .inv .2) ∙ sym (count-more p (l .loop .t) ∙ ap (λ (x : ℕ). count p (l .loop .t) + x) (bit-true (sym (c .before .in-range .ensures) ∙ c .if1 .taken))))
+
+loop-again-2 : tie.Need-loop-again-2 Inv-loop μ-loop
+unfolding namesOf
+loop-again-2 c =
+    let l = c .before .before .before .before in
+    let a = l .before .before .args in
+    let p = namesOf (a .names .now) (a .first) (a .lo) (a .hi) in
+    (omega arith, omega arith, omega (arith, l .loop .inv .2, count-more p (l .loop .t), bit-false (sym (c .before .in-range .ensures) ∙ c .if1 .left)))
+
+returns : tie.Need-returns Inv-loop μ-loop
+returns c =
+    let l = c .before in
+    let a = l .before .before .args in
+    let e : l .loop .t ≡ a .n = omega (arith, c .loop-test .left, l .loop .inv .1) in
+    (rw e at (l .loop .inv .2), omega arith)
+
+pub count-names-spec : {M : Type 1} → statement M
+count-names-spec =
+    tie.close
+    (tie.spec
+    Inv-loop
+    μ-loop
+    loop-holds
+    (λ c. search needs)
+    (λ c. search needs)
+    (λ c. search needs)
+    (λ c. omega (arith, c .shared-slice-known2 .given (c .before .before .before .before .args .first + c .before .before .loop .t)))
+    (λ c κs. search needs)
+    (λ c. omega arith)
+    (λ c. omega arith)
+    (λ c. omega arith)
+    loop-again
+    (λ c. omega arith)
+    (λ c. omega arith)
+    loop-again-2
+    returns)

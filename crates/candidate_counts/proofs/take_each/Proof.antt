@@ -1,0 +1,67 @@
+-- `candidate_counts::take_each` meets its contract. The invariant: the offsets passed are taken in (`taking-next`). Assumes nothing.
+use mathlib.Core.Path.{_≡_, refl}
+use mathlib.Core.Bool.{Bool, not, _&&_}
+use Prim.Native.Nat.{_+_, _-_, _<_, _≤_}
+use native.Mathlib.Omega.{arith}
+use lib.ListN.{length}
+use Rattle.meaning_numbers.proofs.Count.{flag-bit, bit-le}
+use Rattle.candidate_counts.specs.Handed.{stood}
+use Rattle.candidate_counts.proofs.Take.{Taking, taking-starts, taking-next}
+use Rattle.candidate_counts.proofs.take_each.Statement.{statement}
+use Rattle.candidate_counts.proofs.take_each.Tie as tie
+
+abbrev Inv-loop : tie.InvT-loop
+Inv-loop scratch p from n left₀ right₀ k₀ found₀ prev₀ i₀ left right k found prev i = (i ≤ n) × Taking (stood scratch p) from i k₀ found₀ prev₀ k found prev left₀ right₀ left right
+
+abbrev μ-loop : tie.MeasureT-loop
+μ-loop scratch p from n left₀ right₀ k₀ found₀ prev₀ i₀ left right k found prev i = n - i
+
+abbrev start : tie.At-loop Inv-loop μ-loop → tie.Start Inv-loop μ-loop
+start l = l .before .before .before .before
+
+abbrev here : tie.At-loop Inv-loop μ-loop → Bool
+here l = stood (start l .args .scratch .now) (start l .args .p) (start l .args .from + l .loop .i)
+
+inside : (c : tie.In-loop Inv-loop μ-loop) → start (c .before) .args .from + c .before .loop .i < length (start (c .before) .args .scratch .now)
+inside c = omega (arith, c .loop-test .taken, start (c .before) .pre .in-scratch)
+
+put-requires : tie.Need-put-requires Inv-loop μ-loop
+put-requires c κs =
+    let u = c .before .before .before in
+    let l = u .before in
+    let r = start l .pre in
+    let t = l .loop .inv .1 in
+    let b = bit-le (here l && not (l .loop .prev)) in
+    let h = u .loop-test .taken in
+    (omega (arith, h, r .short), (omega (arith, h, b, t .few, r .few, r .in-left, t .long-left), omega (arith, h, b, t .few, r .few, r .in-right, t .long-right), t .begun))
+
+loop-again : tie.Need-loop-again Inv-loop μ-loop
+loop-again c =
+    let o = c .before .before .before .before in
+    let u = o .before .before .before .before in
+    let l = u .before in
+    let e = o .put .ensures in
+    (omega (arith, u .loop-test .taken), rw (flag-bit (here l)) (taking-next (l .loop .inv .1) refl (e .0) (e .1 .0) (e .1 .1)))
+
+pub take-each-spec : {M : Type 1} → statement M
+take-each-spec =
+    tie.close
+    (tie.spec
+    Inv-loop
+    μ-loop
+    (λ c. let a = c .before .before .before in (omega arith, taking-starts _ _ _ _ _ _ _ (a .pre .begun)))
+    (λ c. omega (arith, inside c))
+    (λ c. omega (arith, inside c))
+    (λ c. inside (c .before))
+    put-requires
+    (λ c. tt)
+    (λ c.
+    let u = c .before .before .before .before .before .before .before .before in
+    let l = u .before in
+    omega (arith, flag-bit (here l), bit-le (here l), l .loop .inv .1 .fewer, start l .pre .fewer, u .loop-test .taken, start l .pre .short))
+    (λ c. omega (arith, inside (c .before .before .before .before .before .before .before .before)))
+    (λ c. omega (arith, c .before .before .before .before .before .before .before .before .loop-test .taken))
+    loop-again
+    (λ c. c .before .loop .inv .1 .long-left)
+    (λ c. c .before .loop .inv .1 .long-right)
+    (λ c. let e : c .before .loop .i ≡ start (c .before) .args .n = omega (arith, c .loop-test .left, c .before .loop .inv .0) in rw e at (c .before .loop .inv .1 .took)))

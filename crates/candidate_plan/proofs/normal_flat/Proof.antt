@@ -1,0 +1,21 @@
+-- `candidate_plan::normal_flat` meets its contract, by the kind. Assumes nothing.
+use borrow.Author.Needs.{needs}
+use Rattle.candidate_plan.specs.Cases.{raw-flat, normal-is-flat}
+use Rattle.candidate_plan.proofs.normal_flat.Statement.{statement}
+use Rattle.candidate_plan.proofs.normal_flat.Tie as tie
+
+returns : tie.Need-returns
+returns c = raw-flat (c .before .before .args .q .now) (c .enum-told .given .1)
+
+returns-2 : tie.Need-returns-2
+returns-2 c = normal-is-flat (c .before .before .before .args .q .now) (c .before .enum-told2 .given .1) (c .is-flat .ensures)
+
+pub normal-flat-spec : {M : Type 1} → statement M
+normal-flat-spec =
+    tie.close
+    (tie.spec
+    (λ c. search needs)
+    (λ c. search needs)
+    (λ c κs. search needs)
+    returns
+    returns-2)

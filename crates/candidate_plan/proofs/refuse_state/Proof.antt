@@ -1,0 +1,13 @@
+-- `candidate_plan::refuse_state` meets its contract: what judging said, then the windows (`place-before`). Assumes nothing.
+use borrow.Author.Needs.{needs}
+use Rattle.refusals.specs.Refusal.{judgedLine, place-before}
+use Rattle.candidate_plan.specs.Tables.{stateTable}
+use Rattle.candidate_plan.proofs.refuse_state.Statement.{statement}
+use Rattle.candidate_plan.proofs.refuse_state.Tie as tie
+
+returns : tie.Need-returns
+unfolding stateTable
+returns c = place-before (judgedLine (c .before .before .args .j)) _ (c .before .refuse-windows .ensures) (c .refuse-judged .ensures)
+
+pub refuse-state-spec : {M : Type 1} → statement M
+refuse-state-spec = tie.close (tie.spec (λ c κs. search needs) (λ c κs. search needs) returns)

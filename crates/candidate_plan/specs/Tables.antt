@@ -1,0 +1,38 @@
+-- The refusals of a search but 24, in order, over what code has: the index is told by its head and by what judging said of it. Assumes nothing.
+use mathlib.Core.List.{List, [], _∷_, _++_}
+use Prim.Native.Nat.{ℕ}
+use lib.IntN.{ℤ, pos}
+use lib.ListN.{length}
+use Rattle.meaning_curves.specs.Limits.{mostValues}
+use Rattle.meaning_rows.specs.declared.Head.{Head}
+use Rattle.meaning_rows.specs.Index.{lent}
+use Rattle.meaning_filter.specs.declared.Ask.{Ask}
+use Rattle.meaning_entries.specs.Refusal.{Condition, flatQuery}
+use Rattle.meaning_entries.specs.Search.{lentAsk, valueLines, limitLines, windowLines}
+use Rattle.rows_judge.specs.declared.Judged.{Judged}
+use Rattle.refusals.specs.declared.Refusal.{Refusal}
+use Rattle.refusals.specs.Refusal.{refusalOf, judgedLine}
+
+-- 1 and 2
+unfoldable pub valuesTable : List ℤ → List ℤ → List Condition
+valuesTable s q = valueLines mostValues s q
+
+-- 6 to 10
+unfoldable pub numbersTable : List ℤ → List ℤ → ℕ → Ask → List Condition
+numbersTable s q w a = limitLines (length s) (length q) (pos w) (lentAsk a)
+
+-- 1 to 11
+unfoldable pub inputTable : List ℤ → List ℤ → ℕ → Ask → List Condition
+inputTable s q w a = valuesTable s q ++ (numbersTable s q w a ++ (flatQuery (a .kind) q ∷ []))
+
+-- 21 to 23
+unfoldable pub windowsTable : List ℤ → Head → ℕ → ℕ → List Condition
+windowsTable s h candidates scratch = windowLines (length s) (lent h [] [] []) candidates scratch
+
+-- 20 to 23
+unfoldable pub stateTable : List ℤ → Head → Judged → ℕ → ℕ → List Condition
+stateTable s h j candidates scratch = judgedLine j ∷ windowsTable s h candidates scratch
+
+-- the plan: what refuses before the search looks
+unfoldable pub planOf : List ℤ → Head → Judged → Ask → List ℤ → ℕ → ℕ → Refusal
+planOf s h j a q candidates scratch = refusalOf (inputTable s q (h .window) a ++ stateTable s h j candidates scratch)

@@ -1,0 +1,130 @@
+// What refuses a search before it looks: every refusal but 24, in order (01, 'Refused for the input' and 'Refused for the state').
+use refusals::Refusal;
+use refusals::band_outside;
+use refusals::below_window;
+use refusals::fewer;
+use refusals::more;
+use refusals::query_length_outside;
+use refusals::refuse_if;
+use refusals::refuse_judged;
+use refusals::refuse_room;
+use refusals::refuse_series;
+use refusals::refuse_value;
+use refusals::scale_or_shift_outside;
+use refusals::threshold_outside;
+use refusals::unrefused;
+use rows_judge::Judged;
+use meaning_filter::Ask;
+use meaning_filter::Kind;
+use meaning_rows::Head;
+use numbers::lesser;
+use values::spread_of;
+use values::sums_at;
+ghost use mathlib.Core.Path.{_≡_};
+ghost use Prim.Native.Nat.{_≤_, min};
+ghost use lib.ListN.{length};
+ghost use Rattle.meaning_curves.specs.Limits.{longestQuery};
+ghost use Rattle.meaning_curves.specs.Curve.{at};
+ghost use Rattle.meaning_curves.specs.Normal.{flat};
+ghost use Rattle.meaning_curves.proofs.Values.{AllIn};
+ghost use Rattle.meaning_entries.specs.Refusal.{normalFlat};
+ghost use Rattle.refusals.specs.Refusal.{refusalOf};
+ghost use Rattle.candidate_plan.specs.Tables.{valuesTable, numbersTable, inputTable, windowsTable, stateTable, planOf};
+
+// The length of the series, then its values, then those of the query.
+pub fn refuse_values(s: &[i32], q: &[i32]) -> Refusal
+    ensures { λ r. ⌜ r ≡ refusalOf (valuesTable (now (s .entry)) (now (q .entry))) ⌝ }
+{
+    refuse_series(s, refuse_value(q, unrefused()))
+}
+
+// The length of the query, and the limits.
+pub fn refuse_numbers(s: &[i32], q: &[i32], w: u32, ask: Ask) -> Refusal
+    ensures { λ r. ⌜ r ≡ refusalOf (numbersTable (now (s .entry)) (now (q .entry)) w ask) ⌝ }
+{
+    let l = ask.limits;
+    let m = q.len();
+    let scale = refuse_if(scale_or_shift_outside(l.scale, l.shift), 10, unrefused());
+    let threshold = refuse_if(threshold_outside(l.threshold), 9, scale);
+    let band = refuse_if(band_outside(m, l.band), 8, threshold);
+    let window = refuse_if(below_window(m, w), 7, band);
+    refuse_if(query_length_outside(m, s.len()), 6, window)
+}
+
+// A query is flat.
+pub fn is_flat(q: &[i32]) -> bool
+    requires { ⌜ AllIn (now q) × (length (now q) ≤ longestQuery) ⌝ }
+    ensures { λ b. ⌜ b ≡ flat (at (now (q .entry))) (length (now (q .entry))) ⌝ }
+{
+    let m = q.len();
+    let t = sums_at(q, 0, m);
+    spread_of(q, 0, m, t) == 0
+}
+
+// A normalised query is flat.
+pub fn normal_flat(kind: Kind, q: &[i32]) -> bool
+    requires { ⌜ AllIn (now q) × (length (now q) ≤ longestQuery) ⌝ }
+    ensures { λ b. ⌜ b ≡ normalFlat kind (now (q .entry)) ⌝ }
+{
+    match kind {
+        Kind::Raw => false,
+        Kind::Normal => is_flat(q),
+    }
+}
+
+// Everything about the input.
+pub fn refuse_input(s: &[i32], q: &[i32], w: u32, ask: Ask) -> Refusal
+    ensures { λ r. ⌜ r ≡ refusalOf (inputTable (now (s .entry)) (now (q .entry)) w ask) ⌝ }
+{
+    let values = refuse_values(s, q);
+    if values.number != 0 {
+        return values;
+    }
+    let numbers = refuse_numbers(s, q, w, ask);
+    if numbers.number != 0 {
+        return numbers;
+    }
+    let kind = ask.kind;
+    refuse_if(normal_flat(kind, q), 11, unrefused())
+}
+
+// The windows of a well-formed index against the series, and the room of candidates and scratch.
+pub fn refuse_windows(s: &[i32], head: Head, candidates: usize, scratch: usize) -> Refusal
+    ensures { λ r. ⌜ r ≡ refusalOf (windowsTable (now (s .entry)) head candidates scratch) ⌝ }
+{
+    let n = s.len();
+    let w = head.window;
+    let windows = head.windows;
+    let room = refuse_room(candidates, scratch, w, n);
+    let many = refuse_if(more(windows, w, n), 22, room);
+    refuse_if(fewer(windows, w, n), 21, many)
+}
+
+// Everything about the state, by what judging said of the index.
+pub fn refuse_state(s: &[i32], head: Head, j: Judged, candidates: usize, scratch: usize) -> Refusal
+    ensures { λ r. ⌜ r ≡ refusalOf (stateTable (now (s .entry)) head j candidates scratch) ⌝ }
+{
+    refuse_judged(j, refuse_windows(s, head, candidates, scratch))
+}
+
+// The plan of a search: what refuses it before it looks. The candidate buffer is two slices of `left` and `right` entries.
+pub fn plan_search(
+    s: &[i32],
+    head: Head,
+    j: Judged,
+    ask: Ask,
+    q: &[i32],
+    left: usize,
+    right: usize,
+    scratch: usize,
+) -> Refusal
+    ensures { λ r. ⌜ r ≡ planOf (now (s .entry)) head j ask (now (q .entry)) (min left right) scratch ⌝ }
+{
+    let w = head.window;
+    let input = refuse_input(s, q, w, ask);
+    if input.number != 0 {
+        return input;
+    }
+    let candidates = lesser(left as u64, right as u64) as usize;
+    refuse_state(s, head, j, candidates, scratch)
+}

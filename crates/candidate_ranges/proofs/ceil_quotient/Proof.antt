@@ -1,0 +1,37 @@
+-- `candidate_ranges::ceil_quotient` meets its contract: 0 less the floor of 0 less the number. Assumes nothing.
+use borrow.Author.Needs.{needs}
+use mathlib.Core.Path.{_≡_, _∙_, ap}
+use native.Mathlib.Omega.{arith}
+use lib.IntN.{ℤ, negℤ}
+use mir.Syntax.{w64}
+use mir.Val.{toZ, ofZ}
+use mir.ValLaws.{toZ-ofZ}
+use Rattle.meaning_numbers.specs.Quotient.{floorℤ, ceilℤ}
+use Rattle.candidate_ranges.specs.Small.{Small, small-neg, small-floor, small-fits, small-back, zero-less}
+use Rattle.candidate_ranges.proofs.ceil_quotient.Statement.{statement}
+use Rattle.candidate_ranges.proofs.ceil_quotient.Tie as tie
+
+sub-floor-quotient : tie.Need-sub-floor-quotient
+sub-floor-quotient c = rw (toZ-ofZ w64 (c .args .z) (c .fits .z), zero-less (c .args .z)) (small-fits (omega arith) (small-neg (c .args .z) (c .pre .1)))
+
+module _ (c : tie.After-floor-quotient) where
+  abbrev z : ℤ
+  z = c .before .args .z
+
+  told : c .floor-quotient .result ≡ floorℤ (negℤ z) (c .before .args .d)
+  told = c .floor-quotient .ensures ∙ rw (toZ-ofZ w64 z (c .before .fits .z), zero-less z, small-back (negℤ z) (omega arith) (small-neg z (c .before .pre .1)))
+
+  small : Small 4611686018427387904 (c .floor-quotient .result)
+  small = rw told (small-floor (negℤ z) (c .before .args .d) (small-neg z (c .before .pre .1)))
+
+sub-result : tie.Need-sub-result
+sub-result c = rw (small-back (c .floor-quotient .result) (omega arith) (small c), zero-less (c .floor-quotient .result)) (small-fits (omega arith) (small-neg (c .floor-quotient .result) (small c)))
+
+returns : tie.Need-returns
+unfolding ceilℤ
+returns c =
+    let r = c .floor-quotient .result in
+    rw (small-back r (omega arith) (small c), zero-less r, small-back (negℤ r) (omega arith) (small-neg r (small c))) (ap negℤ (told c))
+
+pub ceil-quotient-spec : {M : Type 1} → statement M
+ceil-quotient-spec = tie.close (tie.spec sub-floor-quotient (λ c κs. search needs) sub-result returns)

@@ -1,0 +1,27 @@
+-- `candidate_ranges::high_end` meets its contract: what is divided is small, so what the callees say of the machine's bits they say of the numbers (`dividend-back`). Assumes nothing.
+use borrow.Author.Needs.{needs}
+use mathlib.Core.Path.{_∙_}
+use mathlib.Core.Bool.{false}
+use lib.IntN.{_+ℤ_}
+use mir.Syntax.{w64}
+use mir.ValLaws.{toZ-ofZ}
+use Rattle.candidate_ranges.specs.Small.{small-add}
+use Rattle.candidate_ranges.specs.Frame.{highEnd}
+use Rattle.candidate_ranges.proofs.Sizes.{operands, asks-dividend, dividend-back}
+use Rattle.candidate_ranges.proofs.high_end.Statement.{statement}
+use Rattle.candidate_ranges.proofs.high_end.Tie as tie
+
+dividend-requires : tie.Need-dividend-requires
+dividend-requires c κs = let o = c .before .before .before in let i = o .pre .0 in asks-dividend _+ℤ_ i (o .pre .1) (i .rise) (small-add _ _ (o .pre .1) (i .reach)) (c .before .plus .ensures)
+
+returns : tie.Need-returns
+unfolding highEnd
+returns c =
+    let u = c .before .before .before in
+    let o = u .before .before in
+    let i = o .pre .0 in
+    toZ-ofZ w64 (c .floor-quotient .result) (record { sfits = c .floor-quotient .ok }) ∙ c .floor-quotient .ensures
+    ∙ rw (dividend-back _+ℤ_ i (o .pre .1) (i .rise) (small-add _ _ (o .pre .1) (i .reach)) (u .plus .ensures) false (c .before .dividend .ensures))
+
+pub high-end-spec : {M : Type 1} → statement M
+high-end-spec = tie.close (tie.spec (λ c κs. let o = c .before in operands (o .pre .1) (o .pre .0 .reach)) dividend-requires (λ c κs. search needs) returns)

@@ -1,0 +1,25 @@
+-- `candidate_ranges::high_scale` meets its contract. Assumes nothing.
+use borrow.Author.Needs.{needs}
+use native.Mathlib.Omega.{arith}
+use Prim.Native.Nat.{_+_, _≤_}
+use Rattle.candidate_ranges.specs.Small.{small-pos, small-fits, cast-back}
+use Rattle.candidate_ranges.proofs.Sizes.{square-le, scaled-le, high-scale-le}
+use Rattle.candidate_ranges.proofs.high_scale.Statement.{statement}
+use Rattle.candidate_ranges.proofs.high_scale.Tie as tie
+
+small : (c : tie.After-root) → c .root .result + 1 ≤ 204800001
+small c = let o = c .before in omega (arith, c .root .ensures, high-scale-le (o .args .spread) (o .args .a) (o .pre .0) (o .pre .1))
+
+returns : tie.Need-returns
+returns c = rw (cast-back {n = 204800001} (c .root .result + 1) (omega arith) (small c), c .root .ensures)
+
+pub high-scale-spec : {M : Type 1} → statement M
+high-scale-spec =
+    tie.close
+    (tie.spec
+    (λ c. omega (arith, square-le (c .args .a) (c .pre .1)))
+    (λ c. omega (arith, scaled-le (c .args .spread) (c .args .a) (c .pre .0) (c .pre .1)))
+    (λ c κs. search needs)
+    (λ c. omega (arith, small c))
+    (λ c. small-fits {n = 204800001} (omega arith) (small-pos 204800001 (c .root .result + 1) (small c)))
+    returns)

@@ -1,0 +1,23 @@
+-- `candidate_ranges::raw_frame` meets its contract. Assumes nothing.
+use borrow.Author.Needs.{needs}
+use native.Mathlib.Omega.{arith}
+use Prim.Native.Nat.{_≤_}
+use Rattle.candidate_ranges.specs.Small.{small-pos, small-fits, cast-back}
+use Rattle.candidate_ranges.proofs.Sizes.{product-le, reach-le}
+use Rattle.candidate_ranges.proofs.raw_frame.Statement.{statement}
+use Rattle.candidate_ranges.proofs.raw_frame.Tie as tie
+
+reach : (c : tie.After-root) → c .root .result ≤ 16000000
+reach c = let o = c .before .before in omega (arith, c .root .ensures, reach-le (o .args .w) (o .args .l .threshold) (o .pre .0) (o .pre .1))
+
+returns : tie.Need-returns
+returns c = rw (cast-back {n = 16000000} (c .root .result) (omega arith) (reach c), c .root .ensures)
+
+pub raw-frame-spec : {M : Type 1} → statement M
+raw-frame-spec =
+    tie.close
+    (tie.spec
+    (λ c. omega (arith, product-le (c .before .args .w) (c .before .args .l .threshold) (c .before .pre .0) (c .before .pre .1)))
+    (λ c κs. search needs)
+    (λ c. small-fits {n = 16000000} (omega arith) (small-pos 16000000 (c .root .result) (reach c)))
+    returns)

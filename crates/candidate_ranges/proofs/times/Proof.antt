@@ -1,0 +1,18 @@
+-- `candidate_ranges::times` meets its contract: the numbers are small. Assumes nothing.
+use native.Mathlib.Omega.{arith}
+use mir.Syntax.{w64}
+use mir.ValLaws.{toZ-ofZ}
+use Rattle.candidate_ranges.specs.Small.{small-mul, small-fits, small-back}
+use Rattle.candidate_ranges.proofs.times.Statement.{statement}
+use Rattle.candidate_ranges.proofs.times.Tie as tie
+
+mul-result : tie.Need-mul-result
+mul-result c = let a = c .args in rw (toZ-ofZ w64 (a .x) (c .fits .x), toZ-ofZ w64 (a .y) (c .fits .y)) (small-fits (omega arith) (small-mul (a .x) (a .y) (c .pre .0) (c .pre .1)))
+
+returns : tie.Need-returns
+returns c =
+    let a = c .args in
+    rw (toZ-ofZ w64 (a .x) (c .fits .x), toZ-ofZ w64 (a .y) (c .fits .y)) (small-back _ (omega arith) (small-mul (a .x) (a .y) (c .pre .0) (c .pre .1)))
+
+pub times-spec : {M : Type 1} → statement M
+times-spec = tie.close (tie.spec mul-result returns)

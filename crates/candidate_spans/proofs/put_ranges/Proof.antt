@@ -1,0 +1,28 @@
+-- `candidate_spans::put_ranges` meets its contract. Assumes nothing.
+use borrow.Author.Needs.{needs}
+use Rattle.check_list.specs.Turn.{front-long}
+use Rattle.candidate_spans.proofs.put_ranges.Statement.{statement}
+use Rattle.candidate_spans.proofs.put_ranges.Tie as tie
+
+put-prepared-requires : tie.Need-put-prepared-requires
+put-prepared-requires c κs =
+    let p = c .before .before .before .before .before .before .before .pre in
+    (p, (front-long _ _ (p .few), front-long _ _ (p .few), front-long _ _ (p .few)))
+
+pub put-ranges-spec : {M : Type 1} → statement M
+put-ranges-spec =
+    tie.close
+    (tie.spec
+    (λ c. search needs)
+    (λ c. search needs)
+    (λ c. search needs)
+    (λ c. search needs)
+    (λ c. search needs)
+    (λ c. search needs)
+    (λ c. search needs)
+    (λ c. search needs)
+    (λ c. search needs)
+    put-prepared-requires
+    (λ c. search needs)
+    (λ c. search needs)
+    (λ c. search needs))

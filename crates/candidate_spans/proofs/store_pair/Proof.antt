@@ -1,0 +1,20 @@
+-- `candidate_spans::store_pair` meets its contract (`stored`). Assumes nothing.
+use borrow.Author.Needs.{needs}
+use Rattle.candidate_spans.specs.Held.{stored}
+use Rattle.candidate_spans.proofs.store_pair.Statement.{statement}
+use Rattle.candidate_spans.proofs.store_pair.Tie as tie
+
+returns : tie.Need-returns
+returns c = let o = c in stored (o .args .i) (o .args .a) (o .args .b) (o .args .first .now) (o .args .last .now) (o .pre .0) (o .pre .1)
+
+pub store-pair-spec : {M : Type 1} → statement M
+store-pair-spec =
+    tie.close
+    (tie.spec
+    (λ c. search needs)
+    (λ c. search needs)
+    (λ c. search needs)
+    (λ c. search needs)
+    (λ c. search needs)
+    (λ c. search needs)
+    returns)

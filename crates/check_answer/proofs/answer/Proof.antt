@@ -1,0 +1,22 @@
+-- `check_answer::answer` meets its contract (`answer-all`, `answer-full`). Assumes nothing.
+use borrow.Author.Needs.{needs}
+use mathlib.Core.Path.{ap, _∙_}
+use native.Mathlib.Omega.{arith}
+use Rattle.check_answer.specs.Answer.{answerOf, answer-all, answer-full}
+use Rattle.check_answer.proofs.answer.Statement.{statement}
+use Rattle.check_answer.proofs.answer.Tie as tie
+
+returns : tie.Need-returns
+returns c =
+    let l = c .before in
+    let a = l .before .args in
+    answer-all (a .candidates) (a .matches) (l .lesser .result) (omega (arith, c .if1 .taken)) ∙ ap (answerOf (a .candidates) (a .matches)) (l .lesser .ensures)
+
+returns-2 : tie.Need-returns-2
+returns-2 c =
+    let l = c .before in
+    let a = l .before .args in
+    answer-full (a .candidates) (a .matches) (l .lesser .result) (omega (arith, c .if1 .left)) ∙ ap (answerOf (a .candidates) (a .matches)) (l .lesser .ensures)
+
+pub answer-spec : {M : Type 1} → statement M
+answer-spec = tie.close (tie.spec (λ c κs. search needs) returns returns-2)

@@ -1,0 +1,34 @@
+-- `check_answer::find_matches` meets its contract (`answers`). Assumes nothing.
+use borrow.Author.Needs.{needs}
+use Rattle.check_list.specs.Turn.{front-long}
+use Rattle.check_answer.specs.Answer.{answers}
+use Rattle.check_answer.proofs.find_matches.Statement.{statement}
+use Rattle.check_answer.proofs.find_matches.Tie as tie
+
+check-prepared-requires : tie.Need-check-prepared-requires
+check-prepared-requires c κs =
+    let p = c .before .before .before .before .before .before .before .before .before .before .pre in
+    let few = p .0 .few in
+    (p .0, (p .1, (front-long _ _ few, front-long _ _ few, front-long _ _ few)))
+
+returns : tie.Need-returns
+returns c = answers (c .before .before .before .before .before .before .before .before .check-prepared .ensures) (c .answer .ensures)
+
+pub find-matches-spec : {M : Type 1} → statement M
+find-matches-spec =
+    tie.close
+    (tie.spec
+    (λ c. search needs)
+    (λ c. search needs)
+    (λ c. search needs)
+    (λ c. search needs)
+    (λ c. search needs)
+    (λ c. search needs)
+    (λ c. search needs)
+    (λ c. search needs)
+    (λ c. search needs)
+    check-prepared-requires
+    (λ c κs. search needs)
+    (λ c. search needs)
+    (λ c. search needs)
+    returns)

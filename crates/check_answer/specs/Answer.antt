@@ -1,0 +1,58 @@
+-- What a search that looked answers, by the room of its list (`answerOf`), and how the list stands then (`Answers`). Assumes nothing.
+use mathlib.Core.Path.{_≡_, refl, ap, _∙_}
+use mathlib.Core.Bool.{cond}
+use mathlib.Core.List.{List}
+use Prim.Native.Nat.{ℕ, _<_, _≤_}
+use lib.Dec.{leb}
+use lib.IntN.{ℤ}
+use lib.ListN.{length}
+use borrow.Author.Tests.{le-leb, lt-leb}
+use Rattle.meaning_curves.specs.Curve.{at, spread}
+use Rattle.meaning_curves.proofs.Values.{AllIn}
+use Rattle.meaning_filter.specs.declared.Kind.{Kind}
+use Rattle.meaning_filter.specs.declared.Limits.{Limits}
+use Rattle.meaning_filter.specs.declared.Ask.{Ask}
+use Rattle.meaning_filter.specs.Matches.{Question}
+use Rattle.meaning_entries.specs.declared.Found.{Found}
+use Rattle.meaning_entries.specs.Buffers.{pairRoom}
+use Rattle.check_list.specs.Listed.{ListFilled}
+
+-- what is looked for
+abbrev pub wanted : Ask → List ℤ → List ℤ → Question
+wanted ask s q = record { series = s; query = q; ask = ask }
+
+-- a series and a query within their limits
+pub record Limited (kind : Kind) (s q : List ℤ) (l : Limits) : Type 0 where
+  pub long : length s ≤ 1048576
+  pub some : 0 < length q
+  pub few : length q ≤ 1024
+  pub values : AllIn s
+  pub query : AllIn q
+  pub scale : l .scale ≤ 100
+  pub not-flat : kind ≡ Kind.Normal → 0 < spread (at q) (length q)
+
+-- all matches, or as many as there is room for
+unfoldable pub answerOf : ℕ → ℕ → ℕ → Found
+answerOf candidates matches room = cond (leb matches room) (Found.All candidates matches) (Found.Full candidates matches)
+
+-- l is listed as far as there is room, with 0 behind it, and that is answered
+pub record Answers (l : List (ℕ × ℕ)) (candidates : ℕ) (answer : Found) (offsets distances offsets′ distances′ : List ℕ) : Type 0 where
+  pub answered : answer ≡ answerOf candidates (length l) (pairRoom offsets distances)
+  pub list : ListFilled l (length l) offsets distances offsets′ distances′
+
+-- ---- laws
+
+pub answer-all : (candidates matches room : ℕ) → matches ≤ room → Found.All candidates matches ≡ answerOf candidates matches room
+unfolding answerOf
+answer-all candidates matches room h = rw (le-leb matches room h)
+
+pub answer-full : (candidates matches room : ℕ) → room < matches → Found.Full candidates matches ≡ answerOf candidates matches room
+unfolding answerOf
+answer-full candidates matches room h = rw (lt-leb matches room h)
+
+-- so many matches are counted
+pub answers : {l : List (ℕ × ℕ)} {candidates n : ℕ} {r : Found} {o d o′ d′ : List ℕ} → ListFilled l n o d o′ d′ → r ≡ answerOf candidates n (pairRoom o d) → Answers l candidates r o d o′ d′
+answers {l} {candidates} {o = o} {d} f e = record {
+  answered = e ∙ ap (λ (n : ℕ). answerOf candidates n (pairRoom o d)) (f .count);
+  list = record { count = refl; offsets-are = f .offsets-are; distances-are = f .distances-are };
+}

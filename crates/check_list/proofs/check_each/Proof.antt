@@ -1,0 +1,75 @@
+-- `check_list::check_each` meets its contract. The invariant is `RunsSoFar`, and that the room keeps its length; the measure is how many runs are left. Assumes nothing.
+use borrow.Author.Needs.{needs}
+use mathlib.Core.Path.{_≡_, refl, _∙_}
+use Prim.Native.Nat.{_-_, _<_}
+use native.Mathlib.Omega.{arith}
+use lib.ListN.{length}
+use Rattle.check_list.specs.Found.{asked}
+use Rattle.check_list.specs.Turn.{RunsSoFar, run-inside, runs-start, runs-next, runs-end}
+use Rattle.check_list.proofs.check_each.Statement.{statement}
+use Rattle.check_list.proofs.check_each.Tie as tie
+
+abbrev Inv-loop : tie.InvT-loop
+Inv-loop kind s q query curve low high l left right runs room₀ row₀ offsets₀ distances₀ n₀ i₀ room row offsets distances n i =
+    (length room ≡ length room₀) × (length row ≡ length row₀) × RunsSoFar (asked kind s q l) left right runs offsets₀ distances₀ offsets distances n i
+
+abbrev μ-loop : tie.MeasureT-loop
+μ-loop kind s q query curve low high l left right runs room₀ row₀ offsets₀ distances₀ n₀ i₀ room row offsets distances n i = runs - i
+
+loop-holds : tie.Need-loop-holds Inv-loop μ-loop
+loop-holds c =
+    let a = c .before .before .before .before .before .args in
+    (refl, refl, runs-start (asked (a .kind) (a .s .now) (a .q .now) (a .l)) (a .left .now) (a .right .now) (a .runs) (a .offsets .now) (a .distances .now))
+
+-- the run at which the loop stands is lent
+module _ (c : tie.In-loop Inv-loop μ-loop) where
+  abbrev o : tie.Start Inv-loop μ-loop
+  o = c .before .before .before .before .before .before .before
+
+  has-left : c .before .loop .i < length (o .args .left .now)
+  has-left = omega (arith, c .loop-test .taken, o .pre .1 .1 .in-left)
+
+  has-right : c .before .loop .i < length (o .args .right .now)
+  has-right = omega (arith, c .loop-test .taken, o .pre .1 .1 .in-right)
+
+check-run-requires : tie.Need-check-run-requires Inv-loop μ-loop
+check-run-requires c κs =
+    let t = c .before .before .before .before .before .before in
+    let v = t .before .loop .inv in
+    let p = o t .pre in
+    let h = run-inside (p .1 .1) (t .before .loop .i) (t .loop-test .taken) in
+    (p .0, ((v .0 ∙ p .1 .0 .0, omega (arith, v .1, p .1 .0 .1)), (v .2 .few (t .loop-test .taken), omega (arith, h .0), omega (arith, h .0, h .1))))
+
+loop-again : tie.Need-loop-again Inv-loop μ-loop
+loop-again c =
+    let r = c .before .before .before .before .before .before .before in
+    let t = r .before .before .before .before .before .before .before in
+    let v = t .before .loop .inv in
+    let p = o t .pre in (
+      c .before .before .before .before .before .before .room .given ∙ v .0,
+      c .before .before .before .before .before .row .given ∙ v .1,
+      runs-next (p .1 .1) (t .loop-test .taken) (v .2) (r .check-run .ensures),
+    )
+
+pub check-each-spec : {M : Type 1} → statement M
+check-each-spec =
+    tie.close
+    (tie.spec
+    Inv-loop
+    μ-loop
+    loop-holds
+    (λ c. omega (arith, has-left c))
+    (λ c. has-left (c .before))
+    (λ c. omega (arith, c .shared-slice-known3 .given (c .before .before .loop .i)))
+    (λ c. omega (arith, has-right (c .before)))
+    (λ c. has-right (c .before .before))
+    (λ c. omega (arith, c .shared-slice-known4 .given (c .before .before .before .loop .i)))
+    check-run-requires
+    (λ c. search needs)
+    (λ c. search needs)
+    loop-again
+    (λ c. c .before .loop .inv .0)
+    (λ c. c .before .loop .inv .1)
+    (λ c. c .before .loop .inv .2 .so-far .as-many-offsets)
+    (λ c. c .before .loop .inv .2 .so-far .as-many-distances)
+    (λ c. runs-end (c .loop-test .left) (c .before .loop .inv .2)))

@@ -1,0 +1,36 @@
+-- `check_list::check_runs` meets its contract: the list is filled (`list-filled`). Assumes nothing.
+use borrow.Author.Needs.{needs}
+use native.Mathlib.Omega.{arith}
+use Rattle.check_list.specs.Listed.{list-filled}
+use Rattle.check_list.specs.Turn.{front-long}
+use Rattle.check_list.proofs.check_runs.Statement.{statement}
+use Rattle.check_list.proofs.check_runs.Tie as tie
+
+check-each-requires : tie.Need-check-each-requires
+check-each-requires c κs =
+    let p = c .before .before .before .before .before .before .before .before .pre in
+    (p .0, ((front-long _ _ (p .0 .few), omega (arith, p .0 .few)), p .1))
+
+returns : tie.Need-returns
+returns c =
+    let o = c .before .before .before .before .before .before in
+    let m = o .before .before in
+    let e = m .before .before .before .before .before .before .before .before in
+    list-filled (e .check-each .ensures) (m .lesser2 .ensures) (m .before .lesser .ensures) (o .clear-offsets .ensures) (c .before .before .clear-distances .ensures)
+
+pub check-runs-spec : {M : Type 1} → statement M
+check-runs-spec =
+    tie.close
+    (tie.spec
+    (λ c. search needs)
+    (λ c. search needs)
+    (λ c. search needs)
+    (λ c. search needs)
+    check-each-requires
+    (λ c κs. search needs)
+    (λ c κs. search needs)
+    (λ c κs. search needs)
+    (λ c κs. search needs)
+    (λ c. search needs)
+    (λ c. search needs)
+    returns)

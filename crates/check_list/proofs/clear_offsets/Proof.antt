@@ -1,0 +1,28 @@
+-- `check_list::clear_offsets` meets its contract. The invariant is `Clearing`; the measure is how many entries are left. Assumes nothing.
+use Prim.Native.Nat.{_-_}
+use native.Mathlib.Omega.{arith}
+use lib.ListN.{length}
+use Rattle.check_list.specs.Clear.{Clearing, clearing-starts, clearing-next, clearing-ends}
+use Rattle.check_list.proofs.clear_offsets.Statement.{statement}
+use Rattle.check_list.proofs.clear_offsets.Tie as tie
+
+abbrev Inv-loop : tie.InvT-loop
+Inv-loop old from i₀ new i = Clearing from i old new
+
+abbrev μ-loop : tie.MeasureT-loop
+μ-loop old from i₀ new i = length old - i
+
+pub clear-offsets-spec : {M : Type 1} → statement M
+clear-offsets-spec =
+    tie.close
+    (tie.spec
+    Inv-loop
+    μ-loop
+    (λ c. clearing-starts (c .args .from) (c .args .offsets .now))
+    (λ c. omega arith)
+    (λ c. omega arith)
+    (λ c. omega arith)
+    (λ c. omega (arith, c .before .loop .inv .long))
+    (λ c. clearing-next (c .loop-test .taken) (c .before .loop .inv))
+    (λ c. c .before .loop .inv .long)
+    (λ c. clearing-ends (c .loop-test .left) (c .before .loop .inv)))

@@ -1,0 +1,15 @@
+-- `check_list::first_sums` meets its contract: a raw query asks for no sums (`raw-sums`). Assumes nothing.
+use borrow.Author.Needs.{needs}
+use Rattle.check_list.specs.Found.{raw-sums}
+use Rattle.check_list.proofs.first_sums.Statement.{statement}
+use Rattle.check_list.proofs.first_sums.Tie as tie
+
+pub first-sums-spec : {M : Type 1} → statement M
+first-sums-spec =
+    tie.close
+    (tie.spec
+    (λ c. search needs)
+    (λ c. search needs)
+    (λ c κs. search needs)
+    (λ c. raw-sums (c .enum-told .given .1))
+    (λ c. search needs))

@@ -1,0 +1,28 @@
+-- `check_list::list_match` meets its contract, by what the test says. Assumes nothing.
+use borrow.Author.Needs.{needs}
+use Rattle.check_list.specs.Found.{no-entries, one-entry}
+use Rattle.check_list.specs.Listed.{list-none}
+use Rattle.check_list.proofs.list_match.Statement.{statement}
+use Rattle.check_list.proofs.list_match.Tie as tie
+
+returns : tie.Need-returns
+returns c = let a = c .before .before .before .before .args in rw (no-entries (a .j) (c .enum-told .given .1)) (list-none (a .k) (a .offsets .now) (a .distances .now))
+
+returns-2 : tie.Need-returns-2
+returns-2 c =
+    let p = c .before .before .before .before in
+    let a = p .before .before .before .before .before .before .before .before .args in
+    rw (one-entry (a .j) (p .before .before .before .before .tested .given .1)) (p .put-entry .ensures)
+
+pub list-match-spec : {M : Type 1} → statement M
+list-match-spec =
+    tie.close
+    (tie.spec
+    (λ c. search needs)
+    (λ c. search needs)
+    (λ c κs. search needs)
+    (λ c. search needs)
+    returns
+    (λ c. search needs)
+    (λ c. search needs)
+    returns-2)

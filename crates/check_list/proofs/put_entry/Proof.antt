@@ -1,0 +1,30 @@
+-- `check_list::put_entry` meets its contract (`list-put`, `list-full`). Assumes nothing.
+use borrow.Author.Needs.{needs}
+use native.Mathlib.Omega.{arith}
+use Rattle.check_list.specs.Listed.{list-put, list-full}
+use Rattle.check_list.proofs.put_entry.Statement.{statement}
+use Rattle.check_list.proofs.put_entry.Tie as tie
+
+returns : tie.Need-returns
+returns c = let a = c .before .before .args in list-put (a .k) (a .j) (a .distance) (a .offsets .now) (a .distances .now) (c .before .if1 .taken) (c .if2 .taken)
+
+returns-2 : tie.Need-returns-2
+returns-2 c = let a = c .before .before .args in list-full (a .k) (a .j) (a .distance) (a .offsets .now) (a .distances .now) (omega (arith, c .if2 .left))
+
+returns-3 : tie.Need-returns-3
+returns-3 c = let a = c .before .args in list-full (a .k) (a .j) (a .distance) (a .offsets .now) (a .distances .now) (omega (arith, c .if1 .left))
+
+pub put-entry-spec : {M : Type 1} → statement M
+put-entry-spec =
+    tie.close
+    (tie.spec
+    (λ c. search needs)
+    (λ c. search needs)
+    (λ c. search needs)
+    (λ c. search needs)
+    (λ c. search needs)
+    (λ c. search needs)
+    (λ c. search needs)
+    returns
+    returns-2
+    returns-3)

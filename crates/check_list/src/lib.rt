@@ -1,0 +1,244 @@
+// The candidates of a search, tested run by run: a match is listed while there is room, and counted where there is none. Sums slide along a run.
+use distance_match::match_at;
+use distance_compare::Match;
+use distance_query::Query;
+use meaning_curves::LONGEST_QUERY;
+use meaning_filter::Kind;
+use meaning_filter::Limits;
+use numbers::lesser;
+use values::Sums;
+use values::next_sums;
+use values::sums_at;
+ghost use mathlib.Core.Path.{_≡_};
+ghost use mathlib.Core.List.{[], _∷_};
+ghost use Prim.Native.Nat.{_+_, _-_, _<_, _≤_};
+ghost use lib.ListN.{length, take};
+ghost use Rattle.meaning_numbers.specs.Place.{numbersFrom};
+ghost use Rattle.meaning_curves.specs.Limits.{mostValues, longestQuery};
+ghost use Rattle.meaning_curves.proofs.Values.{AllIn};
+ghost use Rattle.meaning_filter.specs.declared.Kind.{Kind};
+ghost use Rattle.meaning_filter.specs.Matches.{offsetCount};
+ghost use Rattle.meaning_entries.specs.Buffers.{filled};
+ghost use Rattle.check_list.specs.Members.{members};
+ghost use Rattle.check_list.specs.Listed.{Listed, ListFilled};
+ghost use Rattle.check_list.specs.Found.{asked, Prepared, RunsLent, SumsFor, found, lentRuns, entriesOf};
+
+// The sums of the stretch at a run's start.
+pub fn first_sums(kind: Kind, s: &[i32], from: usize, m: usize) -> Sums
+    requires { ⌜ (from + m ≤ length (now s)) × (m ≤ longestQuery) × AllIn (now s) ⌝ }
+    ensures { λ r. ⌜ SumsFor kind (now (s .entry)) from m (r .values) (r .squares) ⌝ }
+{
+    match kind {
+        Kind::Raw => Sums {
+            values: 0,
+            squares: 0,
+        },
+        Kind::Normal => sums_at(s, from, m),
+    }
+}
+
+// The sums of the next stretch; past the last one they stay.
+pub fn slide_sums(kind: Kind, s: &[i32], from: usize, m: usize, t: Sums) -> Sums
+    requires { ⌜ (from + m ≤ length (now s)) × (m ≤ longestQuery) × AllIn (now s) ⌝ }
+    requires { ⌜ SumsFor kind (now s) from m (t .values) (t .squares) ⌝ }
+    ensures { λ r. ⌜ SumsFor kind (now (s .entry)) (from + 1) m (r .values) (r .squares) ⌝ }
+{
+    match kind {
+        Kind::Raw => t,
+        Kind::Normal => {
+            if from + m < s.len() {
+                next_sums(s, from, m, t)
+            } else {
+                t
+            }
+        }
+    }
+}
+
+// An entry behind the first `k`, where both slices have room.
+pub fn put_entry(j: usize, distance: u64, k: usize, offsets: &mut [u32], distances: &mut [u64])
+    requires { ⌜ (j ≤ mostValues) ⌝ }
+    ensures { λ _. ⌜ Listed ((j, distance) ∷ []) k (k + 1) (now (offsets .entry)) (now (distances .entry)) (now (offsets .exit)) (now (distances .exit)) ⌝ }
+{
+    if k < offsets.len() {
+        if k < distances.len() {
+            offsets[k] = j as u32;
+            distances[k] = distance;
+        }
+    }
+}
+
+// What the match test says of offset `j`, listed behind the first `k` entries; how many matches there are then.
+pub fn list_match(
+    tested: Match,
+    j: usize,
+    k: usize,
+    offsets: &mut [u32],
+    distances: &mut [u64],
+) -> usize
+    requires { ⌜ (j ≤ mostValues) × (k ≤ mostValues) ⌝ }
+    ensures { λ r. ⌜ Listed (entriesOf j tested) k r (now (offsets .entry)) (now (distances .entry)) (now (offsets .exit)) (now (distances .exit)) ⌝ }
+{
+    match tested {
+        Match::No => k,
+        Match::Yes { distance } => {
+            put_entry(j, distance, k, offsets, distances);
+            k + 1
+        }
+    }
+}
+
+// The offsets of a run tested one by one, its matches listed behind the first `k` entries; how many matches there are then. `room` and `row` are room for normalised values and for a row of the table.
+pub fn check_run(
+    kind: Kind,
+    s: &[i32],
+    q: &[i32],
+    query: Query,
+    curve: &[i32],
+    low: &[i32],
+    high: &[i32],
+    l: Limits,
+    from: usize,
+    last: usize,
+    room: &mut [i32],
+    row: &mut [u64],
+    offsets: &mut [u32],
+    distances: &mut [u64],
+    k: usize,
+) -> usize
+    requires { ⌜ Prepared kind (now s) (now q) l (now curve) (now low) (now high) (query .values) (query .spread) ⌝ }
+    requires { ⌜ (length (now room) ≡ length (now q)) × (length (now q) < length (now row)) ⌝ }
+    requires { ⌜ (k ≤ from) × (from ≤ last) × (last + length (now q) ≤ length (now s)) ⌝ }
+    ensures { λ r. ⌜ Listed (found (asked kind (now (s .entry)) (now (q .entry)) l) (numbersFrom from (last + 1 - from))) k r (now (offsets .entry)) (now (distances .entry)) (now (offsets .exit)) (now (distances .exit)) ⌝ }
+{
+    let m = q.len();
+    let mut t = first_sums(kind, s, from, m);
+    let mut n = k;
+    let mut j = from;
+    while j <= last {
+        let tested = match_at(kind, s, j, t, q, query, curve, low, high, l, room, row);
+        n = list_match(tested, j, n, offsets, distances);
+        t = slide_sums(kind, s, j, m, t);
+        j += 1;
+    }
+    n
+}
+
+// The first `runs` runs of two slices, one after the other, their matches listed from the first entry on; how many matches there are.
+pub fn check_each(
+    kind: Kind,
+    s: &[i32],
+    q: &[i32],
+    query: Query,
+    curve: &[i32],
+    low: &[i32],
+    high: &[i32],
+    l: Limits,
+    left: &[u32],
+    right: &[u32],
+    runs: usize,
+    room: &mut [i32],
+    row: &mut [u64],
+    offsets: &mut [u32],
+    distances: &mut [u64],
+) -> usize
+    requires { ⌜ Prepared kind (now s) (now q) l (now curve) (now low) (now high) (query .values) (query .spread) ⌝ }
+    requires { ⌜ (length (now room) ≡ length (now q)) × (length (now q) < length (now row)) ⌝ }
+    requires { ⌜ RunsLent (offsetCount (asked kind (now s) (now q) l)) (now left) (now right) runs ⌝ }
+    ensures { λ r. ⌜ Listed (found (asked kind (now (s .entry)) (now (q .entry)) l) (members (lentRuns (now (left .entry)) (now (right .entry)) runs))) 0 r (now (offsets .entry)) (now (distances .entry)) (now (offsets .exit)) (now (distances .exit)) ⌝ }
+{
+    let mut n: usize = 0;
+    let mut i: usize = 0;
+    while i < runs {
+        let from = left[i] as usize;
+        let last = right[i] as usize;
+        n = check_run(
+            kind,
+            s,
+            q,
+            query,
+            curve,
+            low,
+            high,
+            l,
+            from,
+            last,
+            room,
+            row,
+            offsets,
+            distances,
+            n,
+        );
+        i += 1;
+    }
+    n
+}
+
+// Every offset from a place on is made 0.
+pub fn clear_offsets(offsets: &mut [u32], from: usize)
+    ensures { λ _. ⌜ now (offsets .exit) ≡ filled 0 (take from (now (offsets .entry))) (now (offsets .entry)) ⌝ }
+{
+    let mut i = from;
+    while i < offsets.len() {
+        offsets[i] = 0;
+        i += 1;
+    }
+}
+
+// Every distance from a place on is made 0.
+pub fn clear_distances(distances: &mut [u64], from: usize)
+    ensures { λ _. ⌜ now (distances .exit) ≡ filled 0 (take from (now (distances .entry))) (now (distances .entry)) ⌝ }
+{
+    let mut i = from;
+    while i < distances.len() {
+        distances[i] = 0;
+        i += 1;
+    }
+}
+
+// Every candidate is tested: the matches among the runs' offsets are listed as far as there is room, and what lies behind them is made 0; how many matches there are.
+pub fn check_runs(
+    kind: Kind,
+    s: &[i32],
+    q: &[i32],
+    query: Query,
+    curve: &[i32],
+    low: &[i32],
+    high: &[i32],
+    l: Limits,
+    left: &[u32],
+    right: &[u32],
+    runs: usize,
+    offsets: &mut [u32],
+    distances: &mut [u64],
+) -> usize
+    requires { ⌜ Prepared kind (now s) (now q) l (now curve) (now low) (now high) (query .values) (query .spread) ⌝ }
+    requires { ⌜ RunsLent (offsetCount (asked kind (now s) (now q) l)) (now left) (now right) runs ⌝ }
+    ensures { λ r. ⌜ ListFilled (found (asked kind (now (s .entry)) (now (q .entry)) l) (members (lentRuns (now (left .entry)) (now (right .entry)) runs))) r (now (offsets .entry)) (now (distances .entry)) (now (offsets .exit)) (now (distances .exit)) ⌝ }
+{
+    let mut room: [i32; LONGEST_QUERY] = [0; LONGEST_QUERY];
+    let mut row: [u64; LONGEST_QUERY + 1] = [0; LONGEST_QUERY + 1];
+    let m = q.len();
+    let n = check_each(
+        kind,
+        s,
+        q,
+        query,
+        curve,
+        low,
+        high,
+        l,
+        left,
+        right,
+        runs,
+        &mut room[0..m],
+        &mut row,
+        offsets,
+        distances,
+    );
+    let room_for = lesser(offsets.len() as u64, distances.len() as u64);
+    let end = lesser(n as u64, room_for) as usize;
+    clear_offsets(offsets, end);
+    clear_distances(distances, end);
+    n
+}

@@ -1,0 +1,155 @@
+-- The loop over the chunks of an audit. `Auditing` is its invariant: where the audit goes on, nothing refuses and what is filed wrongly first from here on is what is filed wrongly first; where it does not, the answer is had. How it starts, moves, stops and ends. Assumes nothing.
+use mathlib.Core.Path.{_≡_, refl, sym, ap, subst, _∙_}
+use mathlib.Core.Bool.{true, false}
+use mathlib.Core.List.{List}
+use mathlib.Core.Option.{Option, none, some}
+use Prim.Native.Nat.{ℕ, _+_, _-_, _<_, _≤_, _^_}
+use native.Mathlib.Omega.{arith}
+use lib.IntN.{ℤ}
+use lib.ListN.{length, drop, drop-of-length-le}
+use borrow.Author.Tests.{eqb-true, eqb-false}
+use Rattle.meaning_numbers.proofs.Tests.{by-test, clash}
+use Rattle.meaning_curves.specs.Limits.{mostValues}
+use Rattle.meaning_rows.specs.declared.Row.{Row}
+use Rattle.meaning_rows.specs.declared.Head.{Head}
+use Rattle.meaning_rows.specs.Index.{Index, lent}
+use Rattle.meaning_rows.specs.Judge.{lengthTotal}
+use Rattle.meaning_rows.specs.Audit.{firstWrong, wrongFrom}
+use Rattle.meaning_rows.proofs.Judge.{WellFormed, none-bad}
+use Rattle.meaning_rows.proofs.Audit.{missing-are}
+use Rattle.meaning_entries.specs.Refusal.{Condition, fewerWindows, moreWindows}
+use Rattle.meaning_entries.specs.Audit.{AuditCall, lentAudit, auditTable, auditAnswer}
+use Rattle.rows_records.specs.Records.{chunkOf}
+use Rattle.rows_records.proofs.Chunk.{chunk-length}
+use Rattle.refusals.specs.Refusal.{refusalOf, judged-line}
+use Rattle.rows_judge.specs.Judged.{outcome, judgedOf, bad-row}
+use Rattle.rows_judge.proofs.Outcome.{judged-by}
+use Rattle.entry_audit.specs.declared.Plan.{Plan}
+use Rattle.entry_audit.specs.declared.State.{State}
+use Rattle.entry_audit.specs.State.{found, Ready, wrongOf, chunked}
+use Rattle.entry_audit.specs.Plan.{tableOf, leftOver, planOf, began, answerOf}
+use Rattle.entry_audit.proofs.Cases.{stopped, values-in, formed, fits, went-wrong, went-right}
+use Rattle.entry_audit.proofs.Chunks.{orElse, chunk-then, same-wrong, chunk-reads}
+
+module _ (series : List ℤ) (h : Head) (rows : List Row) (left right : List ℕ) where
+  abbrev X : Index
+  X = lent h rows left right
+
+  abbrev call : AuditCall
+  call = lentAudit series h rows left right
+
+  abbrev table : List Condition
+  table = auditTable mostValues call
+
+  abbrev pub thePlan : Plan
+  thePlan = planOf series h (judgedOf X)
+
+  plan-is : thePlan .refusal ≡ refusalOf (auditTable mostValues call)
+  unfolding planOf tableOf auditTable fewerWindows moreWindows
+  plan-is = rw (judged-line X (judgedOf X) (bad-row X)) refl
+
+  -- ---- the invariant
+
+  record Going (from : ℕ) : Type 0 where
+    free : thePlan .refusal .number ≡ 0
+    left-over : wrongOf series (h .window) left right from (drop from rows) ≡ firstWrong X series
+
+  pub record Auditing (s : State) (from : ℕ) : Type 0 where
+    on : s .go ≡ true → Going from
+    off : s .go ≡ false → answerOf thePlan s ≡ auditAnswer call
+
+  pub auditing-starts : Auditing (began thePlan) 0
+  auditing-starts = record {
+    on = λ t. record { free = eqb-true (thePlan .refusal .number) 0 t; left-over = same-wrong series h rows left right };
+    off = λ f. stopped call thePlan plan-is (began thePlan) (eqb-false (thePlan .refusal .number) 0 f);
+  }
+
+  pub auditing-ready : (s : State) (from : ℕ) → from + 64 < 2 ^ 64 → Auditing s from → s .go ≡ true → Ready series h left right (chunkOf rows from) from
+  auditing-ready s from l a t =
+      let z = a .on t .free in
+      let f = formed call thePlan plan-is z in
+      let w = f .head .window in
+      record {
+        values = values-in call thePlan plan-is z;
+        least = w .least;
+        window = w .most;
+        far = l;
+        size = chunk-length rows from;
+        rows = λ k b. chunk-reads series h rows left right (fits call thePlan plan-is z) f from k b;
+      }
+
+  -- the state after the chunk that begins at a place
+  abbrev pub afterChunk : State → ℕ → State
+  afterChunk s from = chunked series h left right s from (chunkOf rows from)
+
+  chunk-on : (s : State) (from : ℕ) → s .go ≡ true → afterChunk s from ≡ found (wrongOf series (h .window) left right from (chunkOf rows from))
+  unfolding chunked
+  chunk-on s from e = rw e refl
+
+  chunk-off : (s : State) (from : ℕ) → s .go ≡ false → afterChunk s from ≡ s
+  unfolding chunked
+  chunk-off s from e = rw e refl
+
+  found-go : (o : Option (ℕ × ℕ)) → found o .go ≡ true → o ≡ none
+  unfolding found
+  found-go none e = refl
+  found-go (some p) e = clash e refl
+
+  found-off : (o : Option (ℕ × ℕ)) → found o .go ≡ false → (k j : ℕ) × (o ≡ some (k, j))
+  unfolding found
+  found-off none e = clash refl e
+  found-off (some p) e = (p .0, p .1, refl)
+
+  none-then : (a b c : Option (ℕ × ℕ)) → orElse a b ≡ c → a ≡ none → b ≡ c
+  unfolding orElse
+  none-then a b c e f = let g : orElse none b ≡ c = subst (λ (u : Option (ℕ × ℕ)). orElse u b ≡ c) f e in g
+
+  some-then : (a b c : Option (ℕ × ℕ)) (p : ℕ × ℕ) → orElse a b ≡ c → a ≡ some p → some p ≡ c
+  unfolding orElse
+  some-then a b c p e f = let g : orElse (some p) b ≡ c = subst (λ (u : Option (ℕ × ℕ)). orElse u b ≡ c) f e in g
+
+  abbrev here-wrong : ℕ → Option (ℕ × ℕ)
+  here-wrong from = wrongOf series (h .window) left right from (chunkOf rows from)
+
+  abbrev left-wrong : ℕ → Option (ℕ × ℕ)
+  left-wrong from = wrongOf series (h .window) left right from (drop from rows)
+
+  pub auditing-next : (s : State) (from : ℕ) → afterChunk s from .go ≡ true → Auditing s from → Auditing (afterChunk s from) (from + 64)
+  auditing-next s from t a = by-test (s .go)
+      (λ e.
+      let n = found-go (here-wrong from) (sym (ap (λ (u : State). u .go) (chunk-on s from e)) ∙ t) in
+      let g = a .on e in
+      record {
+        on = λ u. record {
+          free = g .free;
+          left-over = none-then (here-wrong from) (left-wrong (from + 64)) (firstWrong X series) (chunk-then series (h .window) left right rows from ∙ g .left-over) n;
+        };
+        off = λ f. clash t f;
+      })
+      (λ f. clash t (ap (λ (u : State). u .go) (chunk-off s from f) ∙ f))
+
+  pub auditing-stops : (s : State) (from : ℕ) → afterChunk s from .go ≡ false → Auditing s from → answerOf thePlan (afterChunk s from) ≡ auditAnswer call
+  auditing-stops s from t a = by-test (s .go)
+      (λ e.
+      let g = a .on e in
+      let w = found-off (here-wrong from) (sym (ap (λ (u : State). u .go) (chunk-on s from e)) ∙ t) in
+      let first = sym (some-then (here-wrong from) (left-wrong (from + 64)) (firstWrong X series) (w .0, w .1) (chunk-then series (h .window) left right rows from ∙ g .left-over) (w .2)) in
+      ap (answerOf thePlan) (chunk-on s from e ∙ ap found (w .2)) ∙ went-wrong call thePlan plan-is (g .free) (w .0) (w .1) first)
+      (λ f. ap (answerOf thePlan) (chunk-off s from f) ∙ a .off f)
+
+  lacking-is : WellFormed X → thePlan .lacking ≡ h .windows - lengthTotal X rows
+  unfolding planOf outcome
+  lacking-is f = ap (leftOver h) (judged-by X none (none-bad X f))
+
+  none-after : (from : ℕ) → length rows ≤ from → left-wrong from ≡ none
+  unfolding wrongFrom
+  none-after from l = rw (drop-of-length-le rows l) refl
+
+  pub auditing-ends : (s : State) (from : ℕ) → length rows ≤ from → Auditing s from → answerOf thePlan s ≡ auditAnswer call
+  auditing-ends s from l a = by-test (s .go)
+      (λ e.
+      let g = a .on e in
+      let r : firstWrong X series ≡ none = sym (g .left-over) ∙ none-after from l in
+      let f = formed call thePlan plan-is (g .free) in
+      went-right call thePlan plan-is (g .free) s e r (lacking-is f ∙ omega (arith, missing-are X series f r)))
+      (λ f. a .off f)

@@ -1,0 +1,12 @@
+-- `entry_audit::holds` meets its contract: its two tests are those of the definition. Assumes nothing.
+use Rattle.meaning_rows.specs.Range.{inside}
+use borrow.Author.Needs.{needs}
+use Rattle.entry_audit.proofs.holds.Statement.{statement}
+use Rattle.entry_audit.proofs.holds.Tie as tie
+
+returns : tie.Need-returns
+unfolding inside
+returns c = search needs
+
+pub holds-spec : {M : Type 1} → statement M
+holds-spec = tie.close (tie.spec returns)

@@ -1,0 +1,12 @@
+-- `entry_audit::left_over` meets its contract, by what judging said. Assumes nothing.
+use borrow.Author.Needs.{needs}
+use mathlib.Core.Path.{sym, ap, _∙_}
+use Rattle.entry_audit.specs.Plan.{leftOver}
+use Rattle.entry_audit.proofs.left_over.Statement.{statement}
+use Rattle.entry_audit.proofs.left_over.Tie as tie
+
+returns : tie.Need-returns
+returns c = let j = c .before .before .before in c .minus .ensures ∙ sym (ap (leftOver (j .before .before .args .head)) (j .j .given .1))
+
+pub left-over-spec : {M : Type 1} → statement M
+left-over-spec = tie.close (tie.spec (λ c. search needs) (λ c. search needs) (λ c κs. search needs) (λ c. search needs) returns (λ c. search needs))

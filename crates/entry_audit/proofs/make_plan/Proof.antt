@@ -1,0 +1,12 @@
+-- `entry_audit::make_plan` meets its contract. Assumes nothing.
+use borrow.Author.Needs.{needs}
+use Rattle.entry_audit.specs.Plan.{planOf}
+use Rattle.entry_audit.proofs.make_plan.Statement.{statement}
+use Rattle.entry_audit.proofs.make_plan.Tie as tie
+
+returns : tie.Need-returns
+unfolding planOf
+returns c = λ i. record { refusal = c .before .refuse-audit .ensures i; lacking = c .left-over .ensures i }
+
+pub make-plan-spec : {M : Type 1} → statement M
+make-plan-spec = tie.close (tie.spec (λ c κs. search needs) (λ c κs. search needs) returns)

@@ -1,0 +1,28 @@
+-- `entry_audit::part_sum` meets its contract (`but-last`); nothing wraps, as no window's sum is large (`out-fits`). Assumes nothing.
+use borrow.Author.Needs.{needs}
+use mathlib.Core.Path.{_≡_, _∙_}
+use Prim.Native.Nat.{_+_}
+use native.Mathlib.Omega.{arith}
+use mir.Syntax.{w32}
+use mir.Val.{toZ, ofZ}
+use mir.ValLaws.{toZ-ofZ}
+use Rattle.meaning_curves.specs.Curve.{windowSum}
+use Rattle.values.specs.Window.{out-fits, out-sum, but-last}
+use Rattle.entry_audit.proofs.part_sum.Statement.{statement}
+use Rattle.entry_audit.proofs.part_sum.Tie as tie
+
+module _ (c : tie.After-x) where
+  abbrev o : tie.Start
+  o = c .before .before
+
+  sum-is : toZ w32 (ofZ w32 (c .before .window-sum .result)) ≡ windowSum (o .args .s .now) (o .args .rest + 1) (o .args .j)
+  sum-is = toZ-ofZ w32 (c .before .window-sum .result) (record { sfits = c .before .window-sum .ok }) ∙ c .before .window-sum .ensures
+
+sub-result : tie.Need-sub-result
+sub-result c = let a = o c .args in out-fits (a .rest + 1) (a .j) (o c .pre .1 .1) (omega arith) (sum-is c) (a .j + a .rest)
+
+returns : tie.Need-returns
+returns c = let a = o c .args in out-sum (a .rest + 1) (a .j) (o c .pre .1 .1) (omega arith) (sum-is c) (a .j + a .rest) ∙ but-last (a .s .now) (a .rest) (a .j)
+
+pub part-sum-spec : {M : Type 1} → statement M
+part-sum-spec = tie.close (tie.spec (λ c. search needs) (λ c κs. search needs) (λ c. search needs) (λ c. search needs) (λ c. search needs) sub-result returns)

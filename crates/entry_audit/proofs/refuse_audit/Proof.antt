@@ -1,0 +1,29 @@
+-- `entry_audit::refuse_audit` meets its contract: each test is a line of the table. Assumes nothing.
+use borrow.Author.Needs.{needs}
+use Rattle.meaning_entries.specs.Refusal.{fewerWindows, moreWindows}
+use Rattle.refusals.specs.Refusal.{judgedLine, line-before, place-before, series-before}
+use Rattle.entry_audit.specs.Plan.{tableOf}
+use Rattle.entry_audit.proofs.refuse_audit.Statement.{statement}
+use Rattle.entry_audit.proofs.refuse_audit.Tie as tie
+
+returns : tie.Need-returns
+unfolding tableOf fewerWindows moreWindows
+returns c =
+    let few = c .before .before in
+    let many = few .before .before in
+    let a = many .before .before .before .args in
+    series-before (a .series .now) _ (place-before (judgedLine (a .j)) _ (line-before 21 _ _ (line-before 22 _ _ (many .before .unrefused .ensures) (many .before .before .more .ensures) (many .refuse-if .ensures))
+    (few .before .fewer .ensures) (few .refuse-if2 .ensures)) (c .before .refuse-judged .ensures)) (c .refuse-series .ensures)
+
+pub refuse-audit-spec : {M : Type 1} → statement M
+refuse-audit-spec =
+    tie.close
+    (tie.spec
+    (λ c κs. search needs)
+    (λ c κs. search needs)
+    (λ c κs. search needs)
+    (λ c κs. search needs)
+    (λ c κs. search needs)
+    (λ c κs. search needs)
+    (λ c κs. search needs)
+    returns)

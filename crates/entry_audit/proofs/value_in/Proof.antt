@@ -1,0 +1,25 @@
+-- `entry_audit::value_in` meets its contract (`window-last`); nothing wraps, as no window's sum is large (`in-fits`). Assumes nothing.
+use borrow.Author.Needs.{needs}
+use mathlib.Core.Path.{_≡_, _∙_}
+use Prim.Native.Nat.{_+_}
+use native.Mathlib.Omega.{arith}
+use mir.Syntax.{w32}
+use mir.Val.{toZ, ofZ}
+use mir.ValLaws.{toZ-ofZ}
+use Rattle.meaning_curves.specs.Curve.{windowSum}
+use Rattle.values.specs.Window.{in-fits, in-sum, window-last}
+use Rattle.entry_audit.proofs.value_in.Statement.{statement}
+use Rattle.entry_audit.proofs.value_in.Tie as tie
+
+module _ (c : tie.After-x) where
+  abbrev o : tie.Start
+  o = c .before
+
+  sum-is : toZ w32 (ofZ w32 (o .args .part)) ≡ windowSum (o .args .s .now) (o .args .rest) (o .args .j)
+  sum-is = toZ-ofZ w32 (o .args .part) (o .fits .part) ∙ o .pre .1 .1 .1
+
+returns : tie.Need-returns
+returns c = let a = o c .args in in-sum (a .rest) (a .j) (o c .pre .1 .1 .0) (omega arith) (sum-is c) (a .j + a .rest) ∙ window-last (a .s .now) (a .rest) (a .j)
+
+pub value-in-spec : {M : Type 1} → statement M
+value-in-spec = tie.close (tie.spec (λ c. search needs) (λ c. search needs) (λ c. search needs) (λ c. let a = o c .args in in-fits (a .rest) (a .j) (o c .pre .1 .1 .0) (omega arith) (sum-is c) (a .j + a .rest)) returns)

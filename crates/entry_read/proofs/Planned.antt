@@ -1,0 +1,41 @@
+-- A plan of number 0 is one for a text that can be read, and the columns of the run buffer by the plan's number. Assumes nothing.
+use mathlib.Core.Path.{_≡_, refl, sym, ap, _∙_}
+use mathlib.Core.List.{List}
+use Prim.Native.Nat.{ℕ}
+use native.Mathlib.Omega.{arith}
+use lib.ListN.{length, replicate}
+use borrow.Author.Tests.{eq-eqb, ne-eqb}
+use Rattle.meaning_rows.specs.Index.{Index}
+use Rattle.meaning_text.specs.Form.{Value}
+use Rattle.meaning_text.specs.Read.{Verdict, fine, unfit, readText}
+use Rattle.meaning_text.specs.Texts.{indexForm, indexSaid}
+use Rattle.meaning_entries.proofs.Again.{text-fine}
+use Rattle.entry_read.specs.declared.Plan.{Plan}
+use Rattle.entry_read.specs.Plan.{planScanned, planFor, textRuns, heldLefts, heldRights, columnAfter}
+use Rattle.entry_read.specs.Runs.{FilledRuns}
+
+pub on-verdict : {A B : Type 0} (x : Verdict A) → ((a : A) → x ≡ fine a → B) → ((p : ℕ) → x ≡ unfit p → B) → B
+on-verdict (fine a) f g = f a refl
+on-verdict (unfit p) f g = g p refl
+
+pub readable : (t : List ℕ) (rows runs : ℕ) → planFor t rows runs .refusal .number ≡ 0 → (v : Value indexForm) × (readText indexForm t ≡ fine v)
+unfolding planScanned
+readable t rows runs h =
+    on-verdict (readText indexForm t)
+    (λ v e. (v, e))
+    (λ p e. let q : 12 ≡ 0 = rw e at h in absurd (omega arith))
+
+-- a refusal alters nothing
+pub column-stays : (n : ℕ) (new old : List ℕ) → (n ≡ 0 → ⊥) → old ≡ columnAfter n new old
+unfolding columnAfter
+column-stays n new old h = rw (ne-eqb n 0 h) refl
+
+-- a buffer that was cleared and filled
+module _ (t left right : List ℕ) (p : Plan) (rows runs : ℕ) (e : p ≡ planFor t rows runs) (h : p .refusal .number ≡ 0) (z w left' right' : List ℕ) (a : z ≡ replicate (length left) 0) (b : w ≡ replicate (length right) 0) (f : FilledRuns t z w left' right') where
+  pub column-filled : (left' ≡ columnAfter (p .refusal .number) (heldLefts (textRuns t)) left) × (right' ≡ columnAfter (p .refusal .number) (heldRights (textRuns t)) right)
+  unfolding columnAfter FilledRuns
+  column-filled =
+      let v = readable t rows runs (sym (ap (λ (q : Plan). q .refusal .number) e) ∙ h) in
+      let g = f (v .0) (v .1) in
+      let r : textRuns t ≡ indexSaid (v .0) .runs = ap (λ (x : Index). x .runs) (text-fine t (v .0) (v .1)) in
+      rw (eq-eqb (p .refusal .number) 0 h, r, ← a, ← b) (g .0, g .1)

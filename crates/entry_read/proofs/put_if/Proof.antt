@@ -1,0 +1,10 @@
+-- `entry_read::put_if` meets its contract. By the test. Assumes nothing.
+use borrow.Author.Needs.{needs}
+use Rattle.entry_read.proofs.put_if.Statement.{statement}
+use Rattle.entry_read.proofs.put_if.Tie as tie
+
+returns : tie.Need-returns
+returns c = rw (c .before .before .before .before .if1 .taken) (c .before .before .put .ensures)
+
+pub put-if-spec : {M : Type 1} → statement M
+put-if-spec = tie.close (tie.spec (λ c κs. search needs) (λ c. search needs) returns (λ c. search needs))

@@ -1,0 +1,80 @@
+-- `entry_read::put_runs` meets its contract. The invariant: the columns are what the runs so far make of those at the beginning (`RunsFrom`). The measure is what is left of the text. Assumes nothing.
+use mathlib.Core.Path.{_≡_, refl, ap, _∙_}
+use Prim.Native.Nat.{_-_, _≤_}
+use native.Mathlib.Omega.{arith}
+use lib.ListN.{length, length-set}
+use Rattle.text_event.specs.Event.{RunsFrom, none, one, leftOf, rightOf, run-up}
+use Rattle.entry_read.specs.Runs.{Columns, tellColumns}
+use Rattle.entry_read.proofs.Columns.{run-stored}
+use borrow.Author.Needs.{needs}
+use Rattle.entry_read.proofs.put_runs.Statement.{statement}
+use Rattle.entry_read.proofs.put_runs.Tie as tie
+
+abbrev Inv-loop : tie.InvT-loop
+Inv-loop text at k l r left₀ right₀ last₀ n₀ i₀ left right last n i =
+    (n ≤ i) × (i ≤ length text) × RunsFrom tellColumns text (record { left = last₀; count = n₀; lefts = left₀; rights = right₀ }) i₀ (record { left = last; count = n; lefts = left; rights = right }) i × (length left ≡ length left₀) × (length right ≡ length right₀)
+
+abbrev μ-loop : tie.MeasureT-loop
+μ-loop text at k l r left₀ right₀ last₀ n₀ i₀ left right last n i = length text - i
+
+add-n : tie.Need-add-n Inv-loop μ-loop
+add-n c = let s = c .before .before .before .before .before .before .before .before .before .before .before in omega (arith, s .pre .0, s .pre .1, s .good)
+
+loop-holds : tie.Need-loop-holds Inv-loop μ-loop
+loop-holds c = let s = c .before .before .before .before .before .before .before .before .before .before .before in (omega (arith, s .pre .0), s .pre .1, none, refl, refl)
+
+same-length : tie.Need-same-length Inv-loop μ-loop
+same-length c = c .before .before .loop .inv .3 ∙ ap length (c .before .before .before .before .before .before .before .before .before .put .ensures) ∙ simp length-set
+
+same-length-2 : tie.Need-same-length-2 Inv-loop μ-loop
+same-length-2 c = c .before .before .loop .inv .4 ∙ ap length (c .before .before .before .before .before .put2 .ensures) ∙ simp length-set
+
+returns : tie.Need-returns Inv-loop μ-loop
+returns c = rw (c .before .before .before .before .before .before .before .before .before .put .ensures, c .before .before .before .before .before .put2 .ensures) at (c .before .before .loop .inv .2)
+
+add-n-2 : tie.Need-add-n-2 Inv-loop μ-loop
+add-n-2 c = let p = c .before .before .before .before .before .before .before .before .before .before .before .plain-run .ensures (omega (arith, c .before .before .before .before .before .before .before .before .before .before .if1 .left)) in let l = c .before .before .before .before .before .before .before .before .before .before .before .before in omega (arith, run-up (p .run) .0, run-up (p .run) .1, l .loop .inv .0, c .before .before .before .before .before .before .before .before .before .before .before .before .before .before .before .before .before .before .before .before .before .before .before .before .good)
+
+add-i : tie.Need-add-i Inv-loop μ-loop
+add-i c = let p = c .before .before .before .before .before .before .before .before .before .before .before .before .plain-run .ensures (omega (arith, c .before .before .before .before .before .before .before .before .before .before .before .if1 .left)) in omega (arith, run-up (p .run) .1, c .run-length .ensures, c .before .before .before .before .before .before .before .before .before .before .before .before .before .before .before .before .before .before .before .before .before .before .before .before .before .good)
+
+loop-less : tie.Need-loop-less Inv-loop μ-loop
+loop-less c = let p = c .before .before .before .before .before .before .before .before .before .before .before .before .plain-run .ensures (omega (arith, c .before .before .before .before .before .before .before .before .before .before .before .if1 .left)) in omega (arith, run-up (p .run) .0, run-up (p .run) .1, c .run-length .ensures)
+
+loop-again : tie.Need-loop-again Inv-loop μ-loop
+loop-again c =
+    let p3 = c .before .before .before .before .before .before .before .before in
+    let p4 = c .before .before .before in
+    let n = c .before .before .before .before .before .before .before .before .before .before in
+    let l = c .before .before .before .before .before .before .before .before .before .before .before .before .before in
+    let q = c .before .before .before .before .before .before .before .before .before .before .before .before .plain-run .result in
+    let p = c .before .before .before .before .before .before .before .before .before .before .before .before .plain-run .ensures (omega (arith, c .before .before .before .before .before .before .before .before .before .before .before .if1 .left)) in
+    let e1 = rw (n .run-left .ensures) at (p3 .put3 .ensures) in
+    let e2 = rw (p4 .before .run-right .ensures) at (p4 .put4 .ensures) in
+    let t : Columns = record { left = l .loop .last; count = l .loop .n; lefts = l .loop .left; rights = l .loop .right } in
+    rw (e1, e2, n .run-left .ensures, c .run-length .ensures)
+    (omega (arith, run-up (p .run) .0, l .loop .inv .0), run-up (p .run) .1, rw (run-stored (leftOf q) (rightOf q) t (omega (arith, p .small)) (omega arith)) at (one (l .loop .inv .2) (p .run)), length-set (l .loop .left) (l .loop .n) (leftOf q) ∙ l .loop .inv .3, length-set (l .loop .right) (l .loop .n) (rightOf q) ∙ l .loop .inv .4)
+
+pub put-runs-spec : {M : Type 1} → statement M
+put-runs-spec =
+    tie.close
+    (tie.spec
+    Inv-loop
+    μ-loop
+    (λ c κs. search needs)
+    (λ c κs. search needs)
+    add-n
+    loop-holds
+    (λ c κs. search needs)
+    same-length
+    same-length-2
+    returns
+    (λ c κs. search needs)
+    (λ c κs. search needs)
+    (λ c κs. search needs)
+    (λ c κs. search needs)
+    add-n-2
+    (λ c κs. search needs)
+    add-i
+    loop-less
+    loop-again)

@@ -1,0 +1,21 @@
+-- `entry_read::refuse_rows` meets its contract: each test is a line of the table. Assumes nothing.
+use borrow.Author.Needs.{needs}
+use mathlib.Core.Path.{refl}
+use lib.Dec.{ltb}
+use Rattle.meaning_entries.specs.Refusal.{bufferShort}
+use Rattle.refusals.specs.Refusal.{judgedLine, line-before, place-before}
+use Rattle.entry_read.specs.Plan.{rowsTable}
+use Rattle.entry_read.proofs.refuse_rows.Statement.{statement}
+use Rattle.entry_read.proofs.refuse_rows.Tie as tie
+
+returns : tie.Need-returns
+unfolding rowsTable bufferShort
+returns c =
+    let first = c .before .before in
+    let second = first .before .before in
+    let a = second .before .before .before .args in
+    place-before (judgedLine _) _ (line-before 23 {b = ltb (a .rows) (a .c .rows)} _ _ (line-before 23 {b = ltb (a .runs) (a .c .runs)} _ _ (second .before .unrefused .ensures) refl (second .refuse-if .ensures))
+    refl (first .refuse-if2 .ensures)) (rw (c .before .judged-rows .ensures) at (c .refuse-judged .ensures))
+
+pub refuse-rows-spec : {M : Type 1} → statement M
+refuse-rows-spec = tie.close (tie.spec (λ c κs. search needs) (λ c κs. search needs) (λ c κs. search needs) (λ c κs. search needs) (λ c κs. search needs) returns)

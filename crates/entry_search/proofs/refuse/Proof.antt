@@ -1,0 +1,12 @@
+-- `entry_search::refuse` meets its contract. Assumes nothing.
+use mathlib.Core.Path.{refl}
+use Rattle.entry_search.specs.Refused.{refusedAs}
+use Rattle.entry_search.proofs.refuse.Statement.{statement}
+use Rattle.entry_search.proofs.refuse.Tie as tie
+
+returns : tie.Need-returns
+unfolding refusedAs
+returns c = refl
+
+pub refuse-spec : {M : Type 1} → statement M
+refuse-spec = tie.close (tie.spec returns)

@@ -1,0 +1,16 @@
+-- `entry_write::is_refused` meets its contract. By cases. Assumes nothing.
+use Rattle.entry_write.specs.Answer.{isRefused}
+use borrow.Author.Needs.{needs}
+use Rattle.entry_write.proofs.is_refused.Statement.{statement}
+use Rattle.entry_write.proofs.is_refused.Tie as tie
+
+returns : tie.Need-returns
+unfolding isRefused
+returns c = rw (c .enum-told .given .1)
+
+returns-2 : tie.Need-returns-2
+unfolding isRefused
+returns-2 c = rw (c .enum-told2 .given .1)
+
+pub is-refused-spec : {M : Type 1} → statement M
+is-refused-spec = tie.close (tie.spec (λ c. search needs) (λ c. search needs) returns returns-2)

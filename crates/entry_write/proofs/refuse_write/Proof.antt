@@ -1,0 +1,19 @@
+-- `entry_write::refuse_write` meets its contract: each test is a line of the table. Assumes nothing.
+use borrow.Author.Needs.{needs}
+use mathlib.Core.Path.{refl}
+use lib.Dec.{ltb}
+use Rattle.meaning_entries.specs.Refusal.{bufferShort}
+use Rattle.refusals.specs.Refusal.{judgedLine, line-before, place-before}
+use Rattle.entry_write.specs.Answer.{tableOf}
+use Rattle.entry_write.proofs.refuse_write.Statement.{statement}
+use Rattle.entry_write.proofs.refuse_write.Tie as tie
+
+returns : tie.Need-returns
+unfolding tableOf bufferShort
+returns c =
+    let short = c .before in
+    let a = short .before .before .args in
+    place-before (judgedLine (a .j)) _ (line-before 23 {b = ltb (a .size) (a .n)} _ _ (short .before .unrefused .ensures) refl (short .refuse-if .ensures)) (c .refuse-judged .ensures)
+
+pub refuse-write-spec : {M : Type 1} → statement M
+refuse-write-spec = tie.close (tie.spec (λ c κs. search needs) (λ c κs. search needs) (λ c κs. search needs) returns)

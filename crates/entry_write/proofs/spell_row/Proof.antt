@@ -1,0 +1,15 @@
+-- `entry_write::spell_row` meets its contract. By the flag: written, or counted. Assumes nothing.
+use Rattle.entry_write.specs.Spell.{spelled-stored, spelled-only}
+use borrow.Author.Needs.{needs}
+use Rattle.entry_write.proofs.spell_row.Statement.{statement}
+use Rattle.entry_write.proofs.spell_row.Tie as tie
+
+returns : tie.Need-returns
+returns c = spelled-stored (c .before .before .before .before .if1 .taken) (c .before .before .write-row .ensures)
+
+returns-2 : tie.Need-returns-2
+returns-2 c = spelled-only (c .before .if1 .left) (c .count-row .ensures)
+
+pub spell-row-spec : {M : Type 1} → statement M
+spell-row-spec =
+    tie.close (tie.spec (λ c κs. search needs) (λ c. search needs) returns (λ c κs. search needs) returns-2)

@@ -1,0 +1,34 @@
+-- `extend_parts::copy_part` meets its contract: the row's part of the column is lent to its writer. Assumes nothing.
+use borrow.Author.Needs.{needs}
+use Rattle.extend_parts.specs.Copy.{partSize, partCopied, part-back}
+use Rattle.extend_parts.proofs.copy_part.Statement.{statement}
+use Rattle.extend_parts.proofs.copy_part.Tie as tie
+
+returns : tie.Need-returns
+unfolding partCopied
+returns c =
+    let w = c .before .before in
+    let p = w .before .before .before .before .before .before in
+    let a = p .before .before .before .args in
+    part-back (partSize (a .o) (a .r)) (a .r .runs) (a .o .first) (a .r .first) (a .from .now) (a .to .now) _ (rw (p .part-size .ensures) at (w .write-part .ensures))
+
+pub copy-part-spec : {M : Type 1} → statement M
+copy-part-spec =
+    tie.close
+    (tie.spec
+    (λ c κs. search needs)
+    (λ c. search needs)
+    (λ c. search needs)
+    (λ c. search needs)
+    (λ c. search needs)
+    (λ c. search needs)
+    (λ c. search needs)
+    (λ c. search needs)
+    (λ c. search needs)
+    (λ c. search needs)
+    (λ c. search needs)
+    (λ c. search needs)
+    (λ c. search needs)
+    (λ c κs. search needs)
+    (λ c. search needs)
+    returns)

@@ -1,0 +1,19 @@
+-- `extend_parts::with_part` meets its contract. Assumes nothing.
+use borrow.Author.Needs.{needs}
+use Prim.Native.Nat.{_-_}
+use lib.ListN.{getD}
+use mir.Syntax.{w32}
+use mir.ValLaws.{toZ-ofZ}
+use Rattle.extend_parts.proofs.with_part.Statement.{statement}
+use Rattle.extend_parts.proofs.with_part.Tie as tie
+
+returns : tie.Need-returns
+returns c =
+    let o = c .before .before .before .before in
+    let low = toZ-ofZ w32 (o .args .r .low) (record { sfits = c .struct-told .given .0 .1 }) in
+    let up = toZ-ofZ w32 (o .args .r .up) (record { sfits = c .struct-told .given .1 .0 .1 }) in
+    let first = c .before .before .start-of .ensures in
+    λ k. record { low = low k; up = up k; first = first k; runs = getD (o .args .ends .now) (o .args .i) 0 - first k }
+
+pub with-part-spec : {M : Type 1} → statement M
+with-part-spec = tie.close (tie.spec (λ c κs. search needs) (λ c. search needs) (λ c. search needs) (λ c. search needs) returns)

@@ -1,0 +1,76 @@
+-- `extend_parts::write_part` meets its contract. The invariant: the first numbers are copied (`paste-suc`). Assumes nothing.
+use mathlib.Core.Path.{_≡_, ap, _∙_}
+use Prim.Native.Nat.{ℕ, _-_, _≤_}
+use native.Mathlib.Omega.{arith}
+use mathlib.Core.List.{List}
+use lib.ListN.{length, getD, set, length-set}
+use lib.Seq.{paste, paste-zero, length-paste}
+use borrow.Author.Tests.{lt-ltb, le-ltb}
+use Rattle.extend_parts.specs.Copy.{written, paste-more}
+use Rattle.extend_parts.proofs.write_part.Statement.{statement}
+use Rattle.extend_parts.proofs.write_part.Tie as tie
+
+abbrev Inv-loop : tie.InvT-loop
+Inv-loop numbers n size part₀ t₀ part t = (t ≤ n) × (part ≡ paste part₀ 0 numbers t)
+
+abbrev μ-loop : tie.MeasureT-loop
+μ-loop numbers n size part₀ t₀ part t = n - t
+
+loop-again : tie.Need-loop-again Inv-loop μ-loop
+loop-again c =
+    let l = c .before .before in
+    let a = l .before .args in
+    let p = l .before .pre in
+    let t = l .loop .t in (
+      omega (arith, c .before .loop-test .taken),
+      ap (λ (m : List ℕ). set m t (getD (a .numbers .now) t 0)) (l .loop .inv .1)
+          ∙ paste-more (a .part .now) (a .numbers .now) t (omega (arith, c .before .loop-test .taken, p .1, p .2)) (omega (arith, c .before .loop-test .taken, p .0)),
+    )
+
+-- where all are copied
+module _ (c : tie.After-loop Inv-loop μ-loop) where
+  abbrev o : tie.Start Inv-loop μ-loop
+  o = c .before .before
+
+  all : c .before .loop .part ≡ paste (o .args .part .now) 0 (o .args .numbers .now) (o .args .n)
+  all = let e : c .before .loop .t ≡ o .args .n = omega (arith, c .before .loop .inv .0, c .loop-test .left) in rw e at (c .before .loop .inv .1)
+
+  long : length (c .before .loop .part) ≡ length (o .args .part .now)
+  long = ap length all ∙ length-paste (o .args .part .now) 0 (o .args .numbers .now) (o .args .n) (omega (arith, o .pre .1, o .pre .2)) (o .pre .0)
+
+returns : tie.Need-returns Inv-loop μ-loop
+unfolding written
+returns c = let a = o (c .before) .args in rw (lt-ltb (a .n) (a .size) (c .if1 .taken)) (ap (λ (m : List ℕ). set m (a .size - 1) (a .n)) (all (c .before)))
+
+returns-2 : tie.Need-returns-2 Inv-loop μ-loop
+unfolding written
+returns-2 c = let a = o (c .before) .args in rw (le-ltb (a .n) (a .size) (c .if1 .left)) (all (c .before))
+
+still : (c : tie.At-loop Inv-loop μ-loop) → length (c .loop .part) ≡ length (c .before .args .part .now)
+still c =
+    let a = c .before .args in
+    let p = c .before .pre in
+    ap length (c .loop .inv .1) ∙ length-paste (a .part .now) 0 (a .numbers .now) (c .loop .t) (omega (arith, c .loop .inv .0, p .1, p .2)) (omega (arith, c .loop .inv .0, p .0))
+
+pub write-part-spec : {M : Type 1} → statement M
+write-part-spec =
+    tie.close
+    (tie.spec
+    Inv-loop
+    μ-loop
+    (λ c. (omega arith, paste-zero (c .args .part .now) 0 (c .args .numbers .now)))
+    (λ c. omega (arith, c .loop-test .taken, c .before .before .pre .0))
+    (λ c. omega (arith, c .before .loop-test .taken, c .before .before .before .pre .0))
+    (λ c. omega (arith, c .before .loop-test .taken, c .before .before .before .pre .0))
+    (λ c. omega (arith, c .before .loop-test .taken, still (c .before .before), c .before .before .before .pre .1, c .before .before .before .pre .2))
+    (λ c. omega (arith, c .before .loop-test .taken))
+    (λ c. omega (arith, c .before .loop-test .taken))
+    loop-again
+    (λ c. omega (arith, o (c .before) .pre .3))
+    (λ c. omega (arith, c .if1 .taken))
+    (λ c. omega (arith, o (c .before) .pre .2))
+    (λ c. omega (arith, c .if1 .taken, long (c .before), o (c .before) .pre .2))
+    (λ c. length-set (c .before .before .loop .part) (o (c .before) .args .size - 1) (o (c .before) .args .n) ∙ long (c .before))
+    returns
+    (λ c. long (c .before))
+    returns-2)

@@ -1,0 +1,32 @@
+-- `extend_weave::made_after` meets its contract: its tests are those of the definition. Assumes nothing.
+use mathlib.Core.Path.{_≡_, sym, _∙_}
+use native.Mathlib.Omega.{arith}
+use lib.Signed.{leZ, ltZ}
+use mir.Syntax.{w32}
+use mir.Val.{toZ, ofZ}
+use mir.ValLaws.{toZ-ofZ}
+use Rattle.extend_weave.specs.Turn.{madeAfter}
+use Rattle.extend_weave.proofs.made_after.Statement.{statement}
+use Rattle.extend_weave.proofs.made_after.Tie as tie
+
+-- the tests on the machine's numbers are the tests
+least : (c : tie.After-struct-told) → leZ (toZ w32 (ofZ w32 (c .before .args .r .low))) (toZ w32 (ofZ w32 (c .before .args .low))) ≡ leZ (c .before .args .r .low) (c .before .args .low)
+least c = rw (toZ-ofZ w32 (c .before .args .r .low) (record { sfits = c .struct-told .given .0 .1 }), toZ-ofZ w32 (c .before .args .low) (c .before .fits .low))
+
+upper : (c : tie.After-struct-told) → ltZ (toZ w32 (ofZ w32 (c .before .args .low))) (toZ w32 (ofZ w32 (c .before .args .r .up))) ≡ ltZ (c .before .args .low) (c .before .args .r .up)
+upper c = rw (toZ-ofZ w32 (c .before .args .r .up) (record { sfits = c .struct-told .given .1 .0 .1 }), toZ-ofZ w32 (c .before .args .low) (c .before .fits .low))
+
+returns : tie.Need-returns
+unfolding madeAfter
+returns c = rw (sym (least (c .before .before .before)) ∙ c .before .if1 .taken, sym (upper (c .before .before .before)) ∙ c .if2 .taken)
+
+returns-2 : tie.Need-returns-2
+unfolding madeAfter
+returns-2 c = rw (sym (least (c .before .before .before)) ∙ c .before .if1 .taken, sym (upper (c .before .before .before)) ∙ c .if2 .left)
+
+returns-3 : tie.Need-returns-3
+unfolding madeAfter
+returns-3 c = rw (sym (least (c .before .before)) ∙ c .if1 .left)
+
+pub made-after-spec : {M : Type 1} → statement M
+made-after-spec = tie.close (tie.spec (λ c. omega arith) (λ c. omega arith) returns returns-2 returns-3)

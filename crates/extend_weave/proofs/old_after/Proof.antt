@@ -1,0 +1,25 @@
+-- `extend_weave::old_after` meets its contract: its test is that of the definition. Assumes nothing.
+use mathlib.Core.Path.{_≡_, sym, _∙_}
+use native.Mathlib.Omega.{arith}
+use lib.Signed.{leZ}
+use mir.Syntax.{w32}
+use mir.Val.{toZ, ofZ}
+use mir.ValLaws.{toZ-ofZ}
+use Rattle.extend_weave.specs.Turn.{oldAfter}
+use Rattle.extend_weave.proofs.old_after.Statement.{statement}
+use Rattle.extend_weave.proofs.old_after.Tie as tie
+
+-- the test on the machine's numbers is the test
+back : (c : tie.After-struct-told) → leZ (toZ w32 (ofZ w32 (c .before .args .r .up))) (toZ w32 (ofZ w32 (c .before .args .low))) ≡ leZ (c .before .args .r .up) (c .before .args .low)
+back c = rw (toZ-ofZ w32 (c .before .args .r .up) (record { sfits = c .struct-told .given .1 .0 .1 }), toZ-ofZ w32 (c .before .args .low) (c .before .fits .low))
+
+returns : tie.Need-returns
+unfolding oldAfter
+returns c = rw (sym (back (c .before)) ∙ c .if1 .taken)
+
+returns-2 : tie.Need-returns-2
+unfolding oldAfter
+returns-2 c = rw (sym (back (c .before)) ∙ c .if1 .left)
+
+pub old-after-spec : {M : Type 1} → statement M
+old-after-spec = tie.close (tie.spec (λ c. omega arith) returns returns-2)

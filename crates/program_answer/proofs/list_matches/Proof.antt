@@ -1,0 +1,28 @@
+-- `program_answer::list_matches` meets its contract: the list of a search that is not refused (`list-put`). Assumes nothing.
+use borrow.Author.Needs.{needs}
+use Prim.Native.Nat.{ℕ}
+use Rattle.program_answer.specs.Print.{list-put}
+use lib.ListN.{length-replicate}
+use Rattle.program_answer.proofs.list_matches.Statement.{statement}
+use Rattle.program_answer.proofs.list_matches.Tie as tie
+
+returns : tie.Need-returns
+returns c =
+    let z = length-replicate {A = ℕ} 4096 0 in
+    λ f. list-put _ _ _ _ _ _ _ _ (c .before .before .before .before .before .before .before .before .before .before .before .search-table .ensures) (f _ z z z z z) (c .before .before .put-found .ensures)
+
+pub list-matches-spec : {M : Type 1} → statement M
+list-matches-spec =
+    tie.close
+    (tie.spec
+    (λ c. search needs)
+    (λ c. search needs)
+    (λ c. search needs)
+    (λ c. search needs)
+    (λ c. search needs)
+    (λ c κs. search needs)
+    (λ c. search needs)
+    (λ c. search needs)
+    (λ c κs. search needs)
+    (λ c. search needs)
+    returns)

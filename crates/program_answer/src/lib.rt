@@ -1,0 +1,176 @@
+// Build, writing and search over row records by value, and the list of matches as text: what the search program prints is put together from these (01, 'Text and program').
+use entry_build::build;
+use meaning_curves::MOST_PROGRAM_VALUES;
+use meaning_entries::Built;
+use meaning_entries::Found;
+use meaning_entries::Written;
+use meaning_filter::Ask;
+use meaning_rows::Head;
+use meaning_rows::Row;
+use entry_search::search;
+use text_list::write_found;
+use entry_write::write;
+ghost use mathlib.Core.Path.{_≡_};
+ghost use Prim.Native.Nat.{_≤_};
+ghost use lib.ListN.{take};
+ghost use Rattle.meaning_curves.specs.Limits.{mostProgramValues};
+ghost use Rattle.meaning_rows.specs.Index.{lent};
+ghost use Rattle.meaning_entries.specs.Build.{lentBuild};
+ghost use Rattle.meaning_entries.specs.Search.{lentSearch};
+ghost use Rattle.meaning_entries.specs.Demand2.{BuildKept, WriteKept, SearchKept};
+ghost use Rattle.build_passes.specs.Filled.{buffers as indexBuffers};
+ghost use Rattle.entry_search.specs.Refused.{buffers};
+ghost use Rattle.meaning_entries.specs.Answers.{writtenCount};
+ghost use Rattle.program_answer.specs.Table.{tableOf};
+ghost use Rattle.program_answer.specs.Print.{FoundPut};
+ghost use Rattle.program_answer.specs.Finish.{Listed};
+
+// Row records by value, and what the build that made them answered.
+pub struct Table {
+    pub rows: [Row; MOST_PROGRAM_VALUES],
+    pub answer: Built,
+}
+
+pub fn table_of(rows: [Row; MOST_PROGRAM_VALUES], answer: Built) -> Table
+    ensures { λ t. ⌜ t ≡ tableOf rows answer ⌝ }
+{
+    Table { rows, answer }
+}
+
+// The build, into row records by value.
+pub fn build_table(
+    series: &[i32],
+    w: u32,
+    d: u32,
+    g: u32,
+    rows: [Row; MOST_PROGRAM_VALUES],
+    left: &mut [u32],
+    right: &mut [u32],
+) -> Table
+    ensures { λ t. ⌜ BuildKept (lentBuild (now (series .entry)) w d g) (indexBuffers rows (now (left .entry)) (now (right .entry))) (t .answer) (indexBuffers (t .rows) (now (left .exit)) (now (right .exit))) ⌝ }
+{
+    let mut table = rows;
+    let answer = build(series, w, d, g, &mut table, left, right);
+    table_of(table, answer)
+}
+
+// The text of the index of the first n records of a table.
+pub fn write_table(
+    head: Head,
+    table: [Row; MOST_PROGRAM_VALUES],
+    n: usize,
+    left: &[u32],
+    right: &[u32],
+    text: &mut [u8],
+) -> Written
+    requires { ⌜ n ≤ mostProgramValues ⌝ }
+    ensures { λ a. ⌜ WriteKept (lent head (take n table) (now (left .entry)) (now (right .entry))) (now (text .entry)) a (now (text .exit)) ⌝ }
+{
+    write(head, &table[..n], left, right, text)
+}
+
+// The search through that index.
+pub fn search_table(
+    series: &[i32],
+    head: Head,
+    table: [Row; MOST_PROGRAM_VALUES],
+    n: usize,
+    left: &[u32],
+    right: &[u32],
+    ask: Ask,
+    query: &[i32],
+    first: &mut [u32],
+    last: &mut [u32],
+    scratch: &mut [u16],
+    offsets: &mut [u32],
+    distances: &mut [u64],
+) -> Found
+    requires { ⌜ n ≤ mostProgramValues ⌝ }
+    ensures { λ a. ⌜ SearchKept (lentSearch (now (series .entry)) head (take n table) (now (left .entry)) (now (right .entry)) ask (now (query .entry))) (buffers (now (first .entry)) (now (last .entry)) (now (scratch .entry)) (now (offsets .entry)) (now (distances .entry))) a (buffers (now (first .exit)) (now (last .exit)) (now (scratch .exit)) (now (offsets .exit)) (now (distances .exit))) ⌝ }
+{
+    search(
+        series,
+        head,
+        &table[..n],
+        left,
+        right,
+        ask,
+        query,
+        first,
+        last,
+        scratch,
+        offsets,
+        distances,
+    )
+}
+
+pub fn length_of(a: Written) -> usize
+    ensures { λ n. ⌜ n ≡ writtenCount a ⌝ }
+{
+    match a {
+        Written::Text { length } => length,
+        Written::Refused {
+            number: _,
+            place: _,
+        } => 0,
+    }
+}
+
+// The list behind the index text.
+pub fn put_found(text: &mut [u8], at: usize, a: Found, offsets: &[u32], distances: &[u64]) -> usize
+    ensures { λ r. ⌜ FoundPut a (now (text .entry)) at (now (offsets .entry)) (now (distances .entry)) (now (text .exit)) r ⌝ }
+{
+    match a {
+        Found::All {
+            candidates,
+            matches,
+        } => write_found(text, at, matches, candidates, offsets, distances),
+        Found::Full {
+            candidates: _,
+            matches: _,
+        } => at,
+        Found::Refused {
+            number: _,
+            place: _,
+        } => at,
+    }
+}
+
+// The search and its list, behind the index text.
+pub fn list_matches(
+    series: &[i32],
+    head: Head,
+    table: [Row; MOST_PROGRAM_VALUES],
+    n: usize,
+    left: &[u32],
+    right: &[u32],
+    ask: Ask,
+    query: &[i32],
+    text: &mut [u8],
+    at: usize,
+) -> usize
+    requires { ⌜ n ≤ mostProgramValues ⌝ }
+    ensures { λ r. ⌜ Listed (lentSearch (now (series .entry)) head (take n table) (now (left .entry)) (now (right .entry)) ask (now (query .entry))) (now (text .entry)) at (now (text .exit)) r ⌝ }
+{
+    let mut first = [0u32; MOST_PROGRAM_VALUES];
+    let mut last = [0u32; MOST_PROGRAM_VALUES];
+    let mut scratch = [0u16; MOST_PROGRAM_VALUES];
+    let mut offsets = [0u32; MOST_PROGRAM_VALUES];
+    let mut distances = [0u64; MOST_PROGRAM_VALUES];
+    let a = search_table(
+        series,
+        head,
+        table,
+        n,
+        left,
+        right,
+        ask,
+        query,
+        &mut first,
+        &mut last,
+        &mut scratch,
+        &mut offsets,
+        &mut distances,
+    );
+    put_found(text, at, a, &offsets, &distances)
+}

@@ -1,0 +1,13 @@
+-- `program_input::above` meets its contract. Assumes nothing.
+use borrow.Author.Needs.{needs}
+use Rattle.program_input.specs.Text.{cast-is}
+use mir.Syntax.{w64}
+use mir.ValLaws.{toZ-ofZ}
+use Rattle.program_input.proofs.above.Statement.{statement}
+use Rattle.program_input.proofs.above.Tie as tie
+
+returns : tie.Need-returns
+returns c = rw (toZ-ofZ w64 (c .args .z) (c .fits .z), cast-is (c .args .n) (c .pre))
+
+pub above-spec : {M : Type 1} → statement M
+above-spec = tie.close (tie.spec (λ c. search needs) returns)

@@ -1,0 +1,15 @@
+-- `program_input::held` meets its contract. Assumes nothing.
+use borrow.Author.Needs.{needs}
+use Rattle.meaning_numbers.proofs.Machine.{zmach, z-abs}
+use lib.IntN.{pos}
+use lib.Signed.{_≤ℤ_}
+use mir.Syntax.{w64}
+use mir.ValLaws.{toZ-ofZ}
+use Rattle.program_input.proofs.held.Statement.{statement}
+use Rattle.program_input.proofs.held.Tie as tie
+
+cast-result : tie.Need-cast-result
+cast-result c = let z = c .args .z in let h : pos 0 ≤ℤ z = c .pre .0 in let k : z ≤ℤ pos 4294967295 = c .pre .1 in rw (toZ-ofZ w64 z (c .fits .z)) (omega (zmach, z-abs z))
+
+pub held-spec : {M : Type 1} → statement M
+held-spec = tie.close (tie.spec cast-result (λ c. search needs))

@@ -1,0 +1,15 @@
+-- `program_input::held_long` meets its contract. Assumes nothing.
+use borrow.Author.Needs.{needs}
+use Rattle.meaning_numbers.proofs.Machine.{zmach, z-abs, z-fits}
+use lib.IntN.{pos}
+use lib.Signed.{_≤ℤ_}
+use mir.Syntax.{w64}
+use mir.ValLaws.{toZ-ofZ}
+use Rattle.program_input.proofs.held_long.Statement.{statement}
+use Rattle.program_input.proofs.held_long.Tie as tie
+
+cast-result : tie.Need-cast-result
+cast-result c = let z = c .args .z in let h : pos 0 ≤ℤ z = c .pre in rw (toZ-ofZ w64 z (c .fits .z)) (omega (zmach, z-abs z, z-fits (c .fits .z)))
+
+pub held-long-spec : {M : Type 1} → statement M
+held-long-spec = tie.close (tie.spec cast-result (λ c. search needs))

@@ -1,0 +1,12 @@
+-- `program_input::line_in` meets its contract. Assumes nothing.
+use borrow.Author.Needs.{needs}
+use Rattle.program_input.specs.Input.{line-most}
+use native.Mathlib.Omega.{arith}
+use Rattle.program_input.proofs.line_in.Statement.{statement}
+use Rattle.program_input.proofs.line_in.Tie as tie
+
+add-result : tie.Need-add-result
+add-result c = let s = c .before .before in omega (arith, line-most (s .args .piece .now) (s .args .k), c .line-at .ensures, s .pre .0, s .pre .1)
+
+pub line-in-spec : {M : Type 1} → statement M
+line-in-spec = tie.close (tie.spec (λ c κs. search needs) (λ c. search needs) add-result (λ c. search needs))

@@ -1,0 +1,23 @@
+-- `program_input::numbers_of` meets its contract: each number is read at its place. Assumes nothing.
+use borrow.Author.Needs.{needs}
+use Rattle.program_input.specs.Tables.{numbersAt}
+use Rattle.program_input.proofs.numbers_of.Statement.{statement}
+use Rattle.program_input.proofs.numbers_of.Tie as tie
+
+returns : tie.Need-returns
+unfolding numbersAt
+returns c = search needs
+
+pub numbers-of-spec : {M : Type 1} → statement M
+numbers-of-spec =
+    tie.close
+    (tie.spec
+    (λ c. search needs)
+    (λ c. search needs)
+    (λ c. search needs)
+    (λ c. search needs)
+    (λ c. search needs)
+    (λ c. search needs)
+    (λ c. search needs)
+    (λ c. search needs)
+    returns)

@@ -1,0 +1,22 @@
+-- `program_input::outside` meets its contract, by the two tests. Assumes nothing.
+use Rattle.program_input.specs.Text.{not-le}
+use Rattle.meaning_numbers.proofs.Machine.{zmach}
+use Rattle.meaning_numbers.specs.Order.{within}
+use Rattle.text_feed.specs.Keep.{gt-leZ, le-leZ}
+use lib.IntN.{ℤ}
+use lib.Signed.{_≤ℤ_, _<ℤ_}
+use mir.Syntax.{w64}
+use mir.ValLaws.{toZ-ofZ}
+use Rattle.program_input.proofs.outside.Statement.{statement}
+use Rattle.program_input.proofs.outside.Tie as tie
+
+returns : tie.Need-returns
+unfolding within
+returns c = let a = c .before .args in let z = a .z in let l = a .low in let h : z <ℤ l = omega zmach in rw (gt-leZ h)
+
+returns-2 : tie.Need-returns-2
+unfolding within
+returns-2 c = let a = c .before .args in let z = a .z in let l = a .low in let h : l ≤ℤ z = omega zmach in rw (toZ-ofZ w64 z (c .before .fits .z), toZ-ofZ w64 (a .high) (c .before .fits .high), le-leZ h) (not-le z (a .high))
+
+pub outside-spec : {M : Type 1} → statement M
+outside-spec = tie.close (tie.spec returns returns-2)

@@ -1,0 +1,88 @@
+-- `program_input::refuse_call` meets its contract, one part of the table after the other. Assumes nothing.
+use borrow.Author.Needs.{needs}
+use Prim.Native.Nat.{_≤_}
+use Rattle.refusals.specs.Refusal.{line-before, passes, part-refuses, part-passes}
+use Rattle.program_input.specs.Tables.{kindOf, valuesTable, numbersTable, callTable}
+use Rattle.program_input.specs.Text.{values-lack, numbers-lack, series-few, query-in, query-few}
+use Rattle.meaning_entries.proofs.Refusal.{Passed}
+use Rattle.meaning_entries.specs.Refusal.{Condition, flatQuery, normalFlat}
+use lib.ListN.{length, take, length-take}
+use mathlib.Core.List.{List, [], _∷_, _++_}
+use mathlib.Core.Path.{_∙_}
+use mir.Syntax.{w64}
+use mir.ValLaws.{toZ-ofZ}
+use native.Mathlib.Omega.{arith}
+use Rattle.program_input.proofs.refuse_call.Statement.{statement}
+use Rattle.program_input.proofs.refuse_call.Tie as tie
+
+-- the parts of the table
+module _ (o : tie.Start) where
+  abbrev one : List Condition
+  one = valuesTable (o .args .v) (o .args .q)
+
+  abbrev two : List Condition
+  two = numbersTable (o .args .v .count) (o .args .q .count) (o .args .x)
+
+  abbrev three : List Condition
+  three = flatQuery (kindOf (o .args .x .raw)) (take (o .args .q .count) (o .args .query .now)) ∷ []
+
+-- the values pass
+first : (c : tie.Else1) → Passed (one (c .before .before .before))
+first c = let v = c .before .before in passes (one (v .before)) (values-lack (v .before .args .v) (v .before .args .q)) (v .refuse-values .ensures) (c .if1 .left)
+
+-- the numbers pass
+second : (c : tie.Else2) → Passed (two (c .before .before .before .before .before .before))
+second c =
+    let n = c .before .before in
+    let o = n .before .before .before .before in
+    passes (two o) (numbers-lack (o .args .v .count) (o .args .q .count) (o .args .x)) (n .refuse-numbers .ensures) (c .if2 .left)
+
+-- so the query is short enough
+short : (c : tie.Else2) → c .before .before .before .before .before .before .args .q .count ≤ 1024
+short c = let o = c .before .before .before .before .before .before in query-few (o .args .v .count) (o .args .q .count) (o .args .x) (second c)
+
+returns : tie.Need-returns
+unfolding callTable
+returns c = let v = c .before .before in let o = v .before in part-refuses (one o) (two o ++ three o) (v .refuse-values .ensures) (c .if1 .taken)
+
+refuse-numbers-requires : tie.Need-refuse-numbers-requires
+refuse-numbers-requires c κs = let o = c .before .before .before in (omega (arith, series-few (o .args .v) (o .args .q) (first c)), o .pre .few)
+
+returns-2 : tie.Need-returns-2
+unfolding callTable
+returns-2 c = let n = c .before .before in let o = n .before .before .before .before in part-passes (two o ++ three o) (first (n .before)) (part-refuses (two o) (three o) (n .refuse-numbers .ensures) (c .if2 .taken))
+
+slice-aggregate-normal-flat : tie.Need-slice-aggregate-normal-flat
+slice-aggregate-normal-flat c = let e = c .before .before .before in let o = e .before .before .before .before .before .before in let h : o .args .q .count ≤ length (o .args .query .now) = omega (arith, short e, o .pre .long) in simp length-take (omega (arith, h))
+
+normal-flat-requires : tie.Need-normal-flat-requires
+normal-flat-requires c κs =
+    let e = c .before .before .before in
+    let o = e .before .before .before .before .before .before in
+    (o .pre .inside (query-in (o .args .v) (o .args .q) (first (e .before .before .before))) (short e), simp length-take (omega (arith, short e)))
+
+returns-3 : tie.Need-returns-3
+unfolding callTable flatQuery
+returns-3 c =
+    let e = c .before .before .before .before .before .before in
+    let n = e .before .before in
+    let o = n .before .before .before .before in
+    let told = c .before .before .before .before .before in
+    let kind = rw (toZ-ofZ w64 (o .args .x .raw) (record { sfits = told .struct-told .given .1 .1 .1 .1 .1 .1 .1 .0 .1 })) at (c .before .before .before .before .kind-of .ensures) in
+    part-passes (two o ++ three o) (first (n .before))
+    (part-passes (three o) (second e) (line-before 11 (normalFlat (kindOf (o .args .x .raw)) (take (o .args .q .count) (o .args .query .now))) _ (c .before .unrefused .ensures) (c .before .before .normal-flat .ensures ∙ rw kind) (c .refuse-if .ensures)))
+
+pub refuse-call-spec : {M : Type 1} → statement M
+refuse-call-spec =
+    tie.close
+    (tie.spec
+    (λ c κs. search needs)
+    returns
+    refuse-numbers-requires
+    returns-2
+    (λ c κs. search needs)
+    slice-aggregate-normal-flat
+    normal-flat-requires
+    (λ c κs. search needs)
+    (λ c κs. search needs)
+    returns-3)

@@ -1,0 +1,17 @@
+-- `program_input::refuse_value` meets its contract, by its test. Assumes nothing.
+use borrow.Author.Tests.{lt-ltb, le-ltb}
+use mathlib.Core.Path.{refl}
+use Rattle.refusals.specs.Refusal.{refuseAt}
+use Rattle.program_input.proofs.refuse_value.Statement.{statement}
+use Rattle.program_input.proofs.refuse_value.Tie as tie
+
+returns : tie.Need-returns
+unfolding refuseAt
+returns c = rw (lt-ltb _ _ (c .if1 .taken)) refl
+
+returns-2 : tie.Need-returns-2
+unfolding refuseAt
+returns-2 c = rw (le-ltb _ _ (c .if1 .left)) refl
+
+pub refuse-value-spec : {M : Type 1} → statement M
+refuse-value-spec = tie.close (tie.spec returns returns-2)

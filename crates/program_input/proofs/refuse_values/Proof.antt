@@ -1,0 +1,21 @@
+-- `program_input::refuse_values` meets its contract: each test is a line of the table. Assumes nothing.
+use borrow.Author.Needs.{needs}
+use mathlib.Core.Path.{ap}
+use mathlib.Core.Bool.{not}
+use Rattle.meaning_entries.specs.Refusal.{atPlace, lengthOutside}
+use Rattle.refusals.specs.Refusal.{line-before, place-before}
+use Rattle.program_input.specs.Tables.{firstOut, valuesTable}
+use Rattle.program_input.proofs.refuse_values.Statement.{statement}
+use Rattle.program_input.proofs.refuse_values.Tie as tie
+
+returns : tie.Need-returns
+unfolding valuesTable lengthOutside
+returns c =
+    let series = c .before .before in
+    let query = series .before in
+    let a = query .before .before .args in
+    line-before 1 _ _ (place-before (atPlace 2 (firstOut (a .v))) _ (place-before (atPlace 2 (firstOut (a .q))) _ (query .before .unrefused .ensures) (query .refuse-value .ensures)) (series .refuse-value2 .ensures))
+    (ap not (c .before .length-in .ensures)) (c .refuse-if .ensures)
+
+pub refuse-values-spec : {M : Type 1} → statement M
+refuse-values-spec = tie.close (tie.spec (λ c κs. search needs) (λ c κs. search needs) (λ c κs. search needs) (λ c κs. search needs) (λ c κs. search needs) returns)

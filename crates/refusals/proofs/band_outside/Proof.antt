@@ -1,0 +1,10 @@
+-- `refusals::band_outside` meets its contract (`band-is`). Assumes nothing.
+use Rattle.refusals.proofs.Tests.{band-is}
+use Rattle.refusals.proofs.band_outside.Statement.{statement}
+use Rattle.refusals.proofs.band_outside.Tie as tie
+
+returns : tie.Need-returns
+returns c = band-is (c .args .m) (c .args .band)
+
+pub band-outside-spec : {M : Type 1} → statement M
+band-outside-spec = tie.close (tie.spec returns)

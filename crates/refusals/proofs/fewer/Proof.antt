@@ -1,0 +1,11 @@
+-- `refusals::fewer` meets its contract (`fewer-is`). Assumes nothing.
+use borrow.Author.Needs.{needs}
+use Rattle.refusals.proofs.Tests.{fewer-is}
+use Rattle.refusals.proofs.fewer.Statement.{statement}
+use Rattle.refusals.proofs.fewer.Tie as tie
+
+returns : tie.Need-returns
+returns c = fewer-is (c .args .windows) (c .args .w) (c .args .n)
+
+pub fewer-spec : {M : Type 1} → statement M
+fewer-spec = tie.close (tie.spec (λ c. search needs) returns)

@@ -1,0 +1,12 @@
+-- `refusals::merge_outside` meets its contract (`from-zero`). Assumes nothing.
+use mathlib.Core.Path.{ap}
+use mathlib.Core.Bool.{not}
+use Rattle.refusals.proofs.Tests.{from-zero}
+use Rattle.refusals.proofs.merge_outside.Statement.{statement}
+use Rattle.refusals.proofs.merge_outside.Tie as tie
+
+returns : tie.Need-returns
+returns c = ap not (from-zero 100 (c .args .g))
+
+pub merge-outside-spec : {M : Type 1} → statement M
+merge-outside-spec = tie.close (tie.spec returns)

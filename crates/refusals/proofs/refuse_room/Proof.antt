@@ -1,0 +1,15 @@
+-- `refusals::refuse_room` meets its contract: each test is a line of the table (`line-before`). Assumes nothing.
+use borrow.Author.Needs.{needs}
+use Rattle.meaning_entries.specs.Refusal.{bufferShort}
+use Rattle.refusals.specs.Refusal.{line-before}
+use Rattle.refusals.proofs.refuse_room.Statement.{statement}
+use Rattle.refusals.proofs.refuse_room.Tie as tie
+
+returns : tie.Need-returns
+unfolding bufferShort
+returns c =
+    let second = c .before .before in
+    line-before 23 _ _ (line-before 23 _ _ (second .before .unrefused .ensures) (second .before .before .too-short .ensures) (second .refuse-if .ensures)) (c .before .too-short2 .ensures) (c .refuse-if2 .ensures)
+
+pub refuse-room-spec : {M : Type 1} → statement M
+refuse-room-spec = tie.close (tie.spec (λ c κs. search needs) (λ c κs. search needs) (λ c κs. search needs) (λ c κs. search needs) (λ c κs. search needs) returns)

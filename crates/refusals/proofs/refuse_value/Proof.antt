@@ -1,0 +1,45 @@
+-- `refusals::refuse_value` meets its contract, by the first value outside. Assumes nothing.
+use borrow.Author.Needs.{needs}
+use mathlib.Core.Path.{_≡_, refl, sym, ap, _∙_}
+use mathlib.Core.Option.{Option, none, some}
+use Prim.Native.Nat.{ℕ}
+use Rattle.meaning_curves.specs.Limits.{firstOutside}
+use Rattle.values.specs.declared.Place.{Place}
+use Rattle.values.specs.declared.Place.the-variants.{At, Nowhere}
+use Rattle.values.specs.Place.{placed}
+use Rattle.refusals.specs.Refusal.{refuseAt}
+use Rattle.refusals.proofs.refuse_value.Statement.{statement}
+use Rattle.refusals.proofs.refuse_value.Tie as tie
+
+-- the place that code tells
+abbrev unplaced : Place → Option ℕ
+unplaced (At k) = some k
+unplaced Nowhere = none
+
+told : (o : Option ℕ) → unplaced (placed o) ≡ o
+told none = refl
+told (some k) = refl
+
+returns : tie.Need-returns
+unfolding refuseAt
+returns c =
+    let f = c .before .before .before in
+    let a = f .before .args in
+    ap (λ (o : Option ℕ). refuseAt 2 o (a .after)) (ap unplaced (sym (c .before .k .given .1) ∙ f .first-outside .ensures) ∙ told (firstOutside (a .s .now)))
+
+returns-2 : tie.Need-returns-2
+unfolding refuseAt
+returns-2 c =
+    let f = c .before .before in
+    let a = f .before .args in
+    ap (λ (o : Option ℕ). refuseAt 2 o (a .after)) (ap unplaced (sym (c .enum-told .given .1) ∙ f .first-outside .ensures) ∙ told (firstOutside (a .s .now)))
+
+pub refuse-value-spec : {M : Type 1} → statement M
+refuse-value-spec =
+    tie.close
+    (tie.spec
+    (λ c κs. search needs)
+    (λ c. search needs)
+    (λ c. search needs)
+    returns
+    returns-2)

@@ -1,0 +1,12 @@
+-- `refusals::threshold_outside` meets its contract (`from-zero`). Assumes nothing.
+use mathlib.Core.Path.{ap}
+use mathlib.Core.Bool.{not}
+use Rattle.refusals.proofs.Tests.{from-zero}
+use Rattle.refusals.proofs.threshold_outside.Statement.{statement}
+use Rattle.refusals.proofs.threshold_outside.Tie as tie
+
+returns : tie.Need-returns
+returns c = ap not (from-zero 1000000000000 (c .args .threshold))
+
+pub threshold-outside-spec : {M : Type 1} → statement M
+threshold-outside-spec = tie.close (tie.spec returns)

@@ -1,0 +1,11 @@
+-- `refusals::unrefused` meets its contract (`none-is`). Assumes nothing.
+use mathlib.Core.Path.{sym}
+use Rattle.refusals.specs.Refusal.{none-is}
+use Rattle.refusals.proofs.unrefused.Statement.{statement}
+use Rattle.refusals.proofs.unrefused.Tie as tie
+
+returns : tie.Need-returns
+returns c = sym none-is
+
+pub unrefused-spec : {M : Type 1} → statement M
+unrefused-spec = tie.close (tie.spec returns)

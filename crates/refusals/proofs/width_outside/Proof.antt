@@ -1,0 +1,12 @@
+-- `refusals::width_outside` meets its contract: its tests are those of the definition. Assumes nothing.
+use borrow.Author.Needs.{needs}
+use Rattle.meaning_numbers.specs.Order.{within}
+use Rattle.refusals.proofs.width_outside.Statement.{statement}
+use Rattle.refusals.proofs.width_outside.Tie as tie
+
+returns : tie.Need-returns
+unfolding within
+returns c = search needs
+
+pub width-outside-spec : {M : Type 1} → statement M
+width-outside-spec = tie.close (tie.spec returns)

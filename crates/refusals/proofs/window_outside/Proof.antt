@@ -1,0 +1,12 @@
+-- `refusals::window_outside` meets its contract: its tests are those of the definition. Assumes nothing.
+use borrow.Author.Needs.{needs}
+use Rattle.meaning_numbers.specs.Order.{within}
+use Rattle.refusals.proofs.window_outside.Statement.{statement}
+use Rattle.refusals.proofs.window_outside.Tie as tie
+
+returns : tie.Need-returns
+unfolding within
+returns c = search needs
+
+pub window-outside-spec : {M : Type 1} → statement M
+window-outside-spec = tie.close (tie.spec returns)

@@ -1,0 +1,22 @@
+-- `rows_find::next_lo` meets its contract. Assumes nothing.
+use mathlib.Core.Path.{_≡_, sym, _∙_}
+use native.Mathlib.Omega.{arith}
+use lib.Signed.{leZ}
+use mir.Syntax.{w32}
+use mir.Val.{toZ, ofZ}
+use mir.ValLaws.{toZ-ofZ}
+use Rattle.rows_find.proofs.next_lo.Statement.{statement}
+use Rattle.rows_find.proofs.next_lo.Tie as tie
+
+-- the test on the machine's numbers is the test
+back : (c : tie.After-struct-told) → leZ (toZ w32 (ofZ w32 (c .before .args .r .up))) (toZ w32 (ofZ w32 (c .before .args .sum))) ≡ leZ (c .before .args .r .up) (c .before .args .sum)
+back c = rw (toZ-ofZ w32 (c .before .args .r .up) (record { sfits = c .struct-told .given .1 .0 .1 }), toZ-ofZ w32 (c .before .args .sum) (c .before .fits .sum))
+
+returns : tie.Need-returns
+returns c = rw (sym (back (c .before)) ∙ c .if1 .taken)
+
+returns-2 : tie.Need-returns-2
+returns-2 c = rw (sym (back (c .before)) ∙ c .if1 .left)
+
+pub next-lo-spec : {M : Type 1} → statement M
+next-lo-spec = tie.close (tie.spec (λ c. omega arith) returns returns-2)

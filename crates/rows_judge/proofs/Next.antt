@@ -1,0 +1,49 @@
+-- One row more: a row that does not fit ends in the failed state (`next-bad`), and one that fits is judged by its runs (`next-fits`). Assumes nothing.
+use mathlib.Core.Path.{_≡_, refl, _∙_, ap}
+use mathlib.Core.Bool.{Bool, true, false, cond, _&&_}
+use Prim.Native.Nat.{ℕ, _+_, _≤_}
+use native.Mathlib.Omega.{arith}
+use lib.Dec.{leb, eqb}
+use lib.IntN.{pos, natAbs}
+use lib.ListN.{length}
+use borrow.Author.Tests.{leb-true, eqb-true}
+use Rattle.meaning_rows.specs.declared.Row.{Row}
+use Rattle.meaning_rows.specs.Index.{Index, runsOf}
+use Rattle.meaning_rows.specs.Judge.{runsGood, runLengths, rangeGood, partGood, rowGood}
+use Rattle.rows_judge.specs.declared.State.{State}
+use Rattle.rows_judge.specs.State.{failed, moved, untold, scan, after, next}
+use Rattle.meaning_numbers.proofs.Tests.{both}
+use Rattle.rows_judge.proofs.Scan.{all-four, not-all}
+
+module _ (x : Index) (s : State) (r : Row) where
+  -- everything of a row but its runs
+  abbrev pub fitting : Bool
+  fitting = s .good && (rangeGood x (s .least) r && partGood x (s .first) r)
+
+  -- a row that fits has its runs inside the run buffer, and they begin where the row before ends
+  pub fits-room : fitting ≡ true → (r .first ≡ s .first) × (r .first + r .runs ≤ length (x .runs))
+  unfolding partGood
+  fits-room e =
+      let a = both (s .good) (rangeGood x (s .least) r && partGood x (s .first) r) e in
+      let b = both (rangeGood x (s .least) r) (partGood x (s .first) r) (a .1) in
+      let c = both (leb 1 (r .runs)) (eqb (r .first) (s .first) && leb (r .first + r .runs) (length (x .runs))) (b .1) in
+      let d = both (eqb (r .first) (s .first)) (leb (r .first + r .runs) (length (x .runs))) (c .1) in
+      (eqb-true (r .first) (s .first) (d .0), leb-true (r .first + r .runs) (length (x .runs)) (d .1))
+
+  pub next-bad : fitting ≡ false → next x s r ≡ failed
+  unfolding next rowGood
+  next-bad e =
+      ap (λ (t : Bool). cond t (moved s r (runLengths (runsOf x r))) failed)
+      (not-all (s .good) (rangeGood x (s .least) r) (partGood x (s .first) r) (runsGood (x .windows) (pos 0) (runsOf x r) && leb (s .taken + runLengths (runsOf x r)) (natAbs (x .windows))) e)
+
+  -- the run lengths count only where the runs are good
+  by-runs : (t : Bool) (l w : ℕ) → cond (t && leb (s .taken + l) w) (moved s r l) failed ≡ after w s r (cond t (record { good = true; total = 0 + l }) untold)
+  by-runs true l w = let e : 0 + l ≡ l = omega arith in rw e refl
+  by-runs false l w = refl
+
+  pub next-fits : fitting ≡ true → next x s r ≡ after (natAbs (x .windows)) s r (scan (x .windows) (pos 0) 0 (runsOf x r))
+  unfolding next rowGood scan
+  next-fits e =
+      ap (λ (t : Bool). cond t (moved s r (runLengths (runsOf x r))) failed)
+      (all-four (s .good) (rangeGood x (s .least) r) (partGood x (s .first) r) (runsGood (x .windows) (pos 0) (runsOf x r) && leb (s .taken + runLengths (runsOf x r)) (natAbs (x .windows))) e)
+      ∙ by-runs (runsGood (x .windows) (pos 0) (runsOf x r)) (runLengths (runsOf x r)) (natAbs (x .windows))

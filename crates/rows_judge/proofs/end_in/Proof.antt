@@ -1,0 +1,12 @@
+-- `rows_judge::end_in` meets its contract: its two tests are those of the definition. Assumes nothing.
+use Rattle.meaning_numbers.specs.Order.{within}
+use borrow.Author.Needs.{needs}
+use Rattle.rows_judge.proofs.end_in.Statement.{statement}
+use Rattle.rows_judge.proofs.end_in.Tie as tie
+
+returns : tie.Need-returns
+unfolding within
+returns c = search needs
+
+pub end-in-spec : {M : Type 1} → statement M
+end-in-spec = tie.close (tie.spec returns)

@@ -1,0 +1,17 @@
+-- `rows_judge::ends_good` meets its contract: its tests are those that it states, on numbers that the machine reads back as they are. Assumes nothing.
+use mir.Syntax.{w32}
+use mir.ValLaws.{toZ-ofZ}
+use borrow.Author.Needs.{needs}
+use Rattle.rows_judge.proofs.ends_good.Statement.{statement}
+use Rattle.rows_judge.proofs.ends_good.Tie as tie
+
+returns : tie.Need-returns
+returns c =
+    let s = c .before .before in
+    let l = toZ-ofZ w32 (s .args .low) (s .fits .low) in
+    let u = toZ-ofZ w32 (s .args .up) (s .fits .up) in
+    let b = toZ-ofZ w32 (s .args .least) (s .fits .least) in
+    cc (l, u, b, c .end-in2 .ensures, c .before .end-in .ensures)
+
+pub ends-good-spec : {M : Type 1} → statement M
+ends-good-spec = tie.close (tie.spec (λ c κs. search needs) (λ c κs. search needs) returns)

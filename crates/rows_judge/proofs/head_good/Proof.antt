@@ -1,0 +1,13 @@
+-- `rows_judge::head_good` meets its contract: its tests are those of the definition. Assumes nothing.
+use Rattle.meaning_numbers.specs.Order.{within}
+use Rattle.meaning_rows.specs.Judge.{headGood}
+use borrow.Author.Needs.{needs}
+use Rattle.rows_judge.proofs.head_good.Statement.{statement}
+use Rattle.rows_judge.proofs.head_good.Tie as tie
+
+returns : tie.Need-returns
+unfolding within headGood
+returns c = search needs
+
+pub head-good-spec : {M : Type 1} → statement M
+head-good-spec = tie.close (tie.spec returns)

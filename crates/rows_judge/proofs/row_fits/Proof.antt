@@ -1,0 +1,15 @@
+-- `rows_judge::row_fits` meets its contract. Assumes nothing.
+use mir.Syntax.{w32}
+use mir.ValLaws.{toZ-ofZ}
+use borrow.Author.Needs.{needs}
+use Rattle.rows_judge.proofs.row_fits.Statement.{statement}
+use Rattle.rows_judge.proofs.row_fits.Tie as tie
+
+returns : tie.Need-returns
+returns c =
+    let s = c .before .before .before .before in
+    let l = toZ-ofZ w32 (s .args .s .least) (record { sfits = c .before .before .before .struct-told .given .1 .0 .1 }) in
+    cc (l, c .before .part-good .ensures, c .before .before .range-good .ensures)
+
+pub row-fits-spec : {M : Type 1} → statement M
+row-fits-spec = tie.close (tie.spec (λ c κs. search needs) (λ c κs. search needs) returns)

@@ -1,0 +1,25 @@
+-- `rows_judge::total_good` meets its contract. Assumes nothing.
+use mathlib.Core.Path.{_≡_, sym}
+use Prim.Native.Nat.{ℕ, _+_, _-_, _≤_}
+use native.Mathlib.Decide.{decLe}
+use native.Mathlib.Omega.{arith}
+use lib.Dec.{leb}
+use borrow.Author.Tests.{le-leb, lt-leb}
+use Rattle.rows_judge.proofs.total_good.Statement.{statement}
+use Rattle.rows_judge.proofs.total_good.Tie as tie
+
+-- what is left over
+left : (n a t : ℕ) → a ≤ n → leb t (n - a) ≡ leb (a + t) n
+left n a t h = elim (decLe t (n - a)) [
+  | yes l ↦ rw (le-leb t (n - a) l) (sym (le-leb (a + t) n (omega arith)))
+  | no f ↦ rw (lt-leb t (n - a) (omega arith)) (sym (lt-leb (a + t) n (omega arith)))
+]
+
+returns : tie.Need-returns
+returns c = left (c .before .args .windows) (c .before .args .taken) (c .before .args .total) (omega arith)
+
+returns-2 : tie.Need-returns-2
+returns-2 c = sym (lt-leb (c .before .args .taken + c .before .args .total) (c .before .args .windows) (omega arith))
+
+pub total-good-spec : {M : Type 1} → statement M
+total-good-spec = tie.close (tie.spec returns returns-2)

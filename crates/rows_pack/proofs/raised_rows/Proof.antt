@@ -1,0 +1,19 @@
+-- `rows_pack::raised_rows` meets its contract, by the two inequalities of a quotient. Assumes nothing.
+use borrow.Author.Needs.{needs}
+use Prim.Native.Nat.{_+_, _-_, _*_}
+use native.Mathlib.Omega.{arith}
+use native.Mathlib.Nat.{div-mul-le-self, lt-div-mul-add}
+use Rattle.rows_pack.proofs.raised_rows.Statement.{statement}
+use Rattle.rows_pack.proofs.raised_rows.Tie as tie
+
+returns : tie.Need-returns
+returns c =
+    let o = c .before in
+    let d = o .args .d in
+    let x = 10000 * o .args .w + (d - 1) in
+    let low = div-mul-le-self x d in
+    let high = lt-div-mul-add {a = x} {b = d} (o .pre .1 .0) in
+    rw (c .quotient .ensures) (omega (arith, low, high, o .pre .1 .0), omega (arith, low))
+
+pub raised-rows-spec : {M : Type 1} → statement M
+raised-rows-spec = tie.close (tie.spec (λ c. search needs) (λ c. search needs) (λ c. search needs) (λ c. search needs) (λ c. search needs) (λ c κs. search needs) (λ c. search needs) returns)

@@ -1,0 +1,56 @@
+-- `rows_pack::sum_up` meets its contract. The invariant: the counts passed are sums, and the sum so far is theirs (`summed-more`). Assumes nothing.
+use mathlib.Core.Path.{_≡_, sym, _∙_}
+use Prim.Native.Nat.{ℕ, _+_, _-_, _≤_, _<_}
+use native.Mathlib.Omega.{arith}
+use lib.ListN.{length, getD}
+use Rattle.meaning_numbers.proofs.Sum.{Σℕ-none, Σℕ-more, Σℕ-fewer}
+use Rattle.rows_pack.specs.Packed.{total, Summed, summed-start, summed-more}
+use Rattle.rows_pack.proofs.sum_up.Statement.{statement}
+use Rattle.rows_pack.proofs.sum_up.Tie as tie
+
+abbrev Inv-loop : tie.InvT-loop
+Inv-loop counts₀ n sum₀ i₀ counts sum i = (i ≤ n) × (sum ≡ total counts₀ i) × Summed i counts₀ counts
+
+abbrev μ-loop : tie.MeasureT-loop
+μ-loop counts₀ n sum₀ i₀ counts sum i = n - i
+
+-- the sum with the next count
+module _ (c : tie.In-loop Inv-loop μ-loop) where
+  next : c .before .loop .sum + getD (c .before .loop .counts) (c .before .loop .i) 0 ≡ total (c .before .before .args .counts .now) (c .before .loop .i) + getD (c .before .before .args .counts .now) (c .before .loop .i) 0
+  next = let v = c .before .loop .inv in omega (arith, v .1, v .2 .rest (c .before .loop .i) (omega arith))
+
+  small : c .before .loop .sum + getD (c .before .loop .counts) (c .before .loop .i) 0 ≤ 4294967295
+  small =
+      let o = c .before .before in
+      let f : ℕ → ℕ = λ k. getD (o .args .counts .now) k 0 in
+      omega (arith, next, Σℕ-more (c .before .loop .i) f, Σℕ-fewer (c .before .loop .i + 1) (o .args .n) f (omega (arith, c .loop-test .taken)), o .pre .1)
+
+  room : c .before .loop .i < length (c .before .loop .counts)
+  room = omega (arith, c .before .loop .inv .2 .long, c .loop-test .taken, c .before .before .pre .0)
+
+loop-again : tie.Need-loop-again Inv-loop μ-loop
+loop-again c =
+    let l = c .before .before in
+    let o = l .before in (
+      omega (arith, c .before .loop-test .taken),
+      next (c .before) ∙ sym (Σℕ-more (l .loop .i) (λ k. getD (o .args .counts .now) k 0)),
+      summed-more (l .loop .sum + getD (l .loop .counts) (l .loop .i) 0) (l .loop .inv .2) (room (c .before)) (next (c .before)),
+    )
+
+pub sum-up-spec : {M : Type 1} → statement M
+sum-up-spec =
+    tie.close
+    (tie.spec
+    Inv-loop
+    μ-loop
+    (λ c. (omega arith, sym (Σℕ-none (λ k. getD (c .args .counts .now) k 0)), summed-start (c .args .counts .now)))
+    (λ c. omega (arith, room c))
+    (λ c. room (c .before))
+    (λ c. omega (arith, small (c .before)))
+    (λ c. omega (arith, room (c .before)))
+    (λ c. room (c .before))
+    (λ c. omega (arith, room (c .before)))
+    (λ c. omega (arith, c .before .loop-test .taken))
+    loop-again
+    (λ c. c .before .loop .inv .2 .long)
+    (λ c. let e : c .before .loop .i ≡ c .before .before .args .n = omega (arith, c .loop-test .left) in rw e at (c .before .loop .inv .2)))

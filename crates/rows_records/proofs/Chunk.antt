@@ -1,0 +1,67 @@
+-- A chunk of records, entry by entry: `chunk-at` says that entry k is record `from + k` of those lent, the record of zeros past the end, and `chunk-length` that there are 64.
+-- From what `copied` has at each place. Assumes nothing.
+use mathlib.Core.Path.{_≡_, refl, sym, _∙_}
+use mathlib.Core.List.{List}
+use Prim.Native.Nat.{ℕ, zero, suc, _+_, _-_, _<_, _≤_}
+use native.Mathlib.Numerals.{add-one}
+use native.Mathlib.Decide.{decLe}
+use native.Mathlib.Omega.{arith}
+use lib.ListN.{length, getD, set, replicate, length-set, length-replicate, getD-replicate, List·getD-eq-default}
+use lib.Seq.{getD-set-same, getD-set-other, ext-getD}
+use Rattle.meaning_rows.specs.declared.Row.{Row}
+use Rattle.rows_records.specs.Records.{zeroRow, copied, countFrom, chunkOf}
+
+module _ (rows : List Row) (from : ℕ) where
+  pub copied-none : (out : List Row) → copied rows from 0 out ≡ out
+  unfolding copied
+  copied-none out = refl
+
+  pub copied-more : (n : ℕ) (out : List Row) → copied rows from (n + 1) out ≡ set (copied rows from n out) n (getD rows (from + n) zeroRow)
+  unfolding copied
+  copied-more n out = rw (add-one n) refl
+
+  pub length-copied : (n : ℕ) (out : List Row) → length (copied rows from n out) ≡ length out
+  unfolding copied
+  length-copied zero out = refl
+  length-copied (suc n) out = length-set (copied rows from n out) n (getD rows (from + n) zeroRow) ∙ length-copied n out
+
+  pub copied-at : (n k : ℕ) (out : List Row) → k < n → n ≤ length out → getD (copied rows from n out) k zeroRow ≡ getD rows (from + k) zeroRow
+  unfolding copied
+  copied-at zero k out h l = absurd (omega arith)
+  copied-at (suc n) k out h l = elim (decLe (suc k) n) [
+    | yes m ↦ getD-set-other (copied rows from n out) n k (getD rows (from + n) zeroRow) zeroRow (λ e. omega (arith, e, m)) ∙ copied-at n k out m (omega arith)
+    | no f ↦ let e : k ≡ n = omega arith in rw e (getD-set-same (copied rows from n out) n (getD rows (from + n) zeroRow) zeroRow (omega (arith, length-copied n out)))
+  ]
+
+  pub copied-past : (n k : ℕ) (out : List Row) → n ≤ k → getD (copied rows from n out) k zeroRow ≡ getD out k zeroRow
+  unfolding copied
+  copied-past zero k out h = refl
+  copied-past (suc n) k out h = getD-set-other (copied rows from n out) n k (getD rows (from + n) zeroRow) zeroRow (λ e. omega (arith, e, h)) ∙ copied-past n k out (omega arith)
+
+  pub chunk-length : length (chunkOf rows from) ≡ 64
+  unfolding chunkOf
+  chunk-length = length-copied 64 (replicate 64 zeroRow)
+
+  pub chunk-at : (k : ℕ) → k < 64 → getD (chunkOf rows from) k zeroRow ≡ getD rows (from + k) zeroRow
+  unfolding chunkOf
+  chunk-at k h = copied-at 64 k (replicate 64 zeroRow) h (omega (arith, length-replicate 64 zeroRow))
+
+  -- ---- the code copies only what is there
+
+  -- how many records of 64 are there: all 64, or as many as are left
+  pub record CountIs (n : ℕ) : Type 0 where
+    pub most : n ≤ 64
+    pub left : n ≤ length rows - from
+    pub all : n < 64 → length rows ≤ from + n
+
+  pub count-is : CountIs (countFrom (length rows) from 64)
+  count-is = record { most = omega arith; left = omega arith; all = λ f. omega arith }
+
+  pub chunk-copied : (n : ℕ) → CountIs n → copied rows from n (replicate 64 zeroRow) ≡ chunkOf rows from
+  chunk-copied n c =
+      ext-getD zeroRow (copied rows from n (replicate 64 zeroRow)) (chunkOf rows from) (length-copied n (replicate 64 zeroRow) ∙ length-replicate 64 zeroRow ∙ sym chunk-length)
+      (λ k h. let b : k < 64 = omega (arith, h, length-copied n (replicate 64 zeroRow), length-replicate 64 zeroRow) in elim (decLe (suc k) n) [
+        | yes m ↦ copied-at n k (replicate 64 zeroRow) m (omega (arith, c .most, length-replicate 64 zeroRow)) ∙ sym (chunk-at k b)
+        | no f ↦ copied-past n k (replicate 64 zeroRow) (omega arith) ∙ getD-replicate 64 k zeroRow zeroRow b
+            ∙ sym (chunk-at k b ∙ List·getD-eq-default rows zeroRow (omega (arith, c .all (omega arith))))
+      ])

@@ -1,0 +1,133 @@
+-- `sums_count::count_runs` meets its contract. The invariant: the runs of the windows passed are counted, and the next window begins a run (`counted-run`, `fresh-next`). Assumes nothing.
+use mathlib.Core.Path.{_≡_, refl, sym, ap, _∙_}
+use Prim.Native.Nat.{ℕ, _+_, _-_, _/_, _≤_, _<_}
+use native.Mathlib.Omega.{arith}
+use lib.ListN.{length, getD, length-set}
+use Rattle.meaning_rows.proofs.Runs.{runs-le}
+use Rattle.sums_slide.specs.Levels.{level, rowOf, windowsOf, level-small}
+use Rattle.sums_slide.specs.Table.{table}
+use Rattle.sums_count.specs.Tally.{isRow, Fresh, Counted, fresh-start, fresh-next, counted-start, counted-run}
+use Rattle.sums_count.specs.Rows.{table-rises, table-has, front-at, front-rising, front-has}
+use Rattle.sums_count.proofs.count_runs.Statement.{statement}
+use Rattle.sums_count.proofs.count_runs.Tie as tie
+
+abbrev Inv-loop : tie.InvT-loop
+Inv-loop s w e d numbers count counts₀ windows j₀ n₀ counts j n =
+    (j ≤ windows) × (n ≡ level s w e j) × Fresh (rowOf (level s w e) d) windows j × Counted (rowOf (level s w e) d) j (table s w e d) counts × (length counts ≡ length counts₀)
+
+abbrev μ-loop : tie.MeasureT-loop
+μ-loop s w e d numbers count counts₀ windows j₀ n₀ counts j n = windows - j
+
+loop-holds : tie.Need-loop-holds Inv-loop μ-loop
+loop-holds c =
+    let o = c .before .before .before in
+    (omega arith, c .first-level .ensures, fresh-start _ _, counted-start _ _ (o .args .counts .now) (o .pre .1 .1 .1), refl)
+
+-- the row number of the window at hand
+module _ (c : tie.After-row-of-level Inv-loop μ-loop) where
+  abbrev l : tie.At-loop Inv-loop μ-loop
+  l = c .before .before
+
+  abbrev o : tie.Start Inv-loop μ-loop
+  o = l .before .before .before .before
+
+  number : c .row-of-level .result ≡ rowOf (level (o .args .s .now) (o .args .w) (o .args .e)) (o .args .d) (l .loop .j)
+  unfolding rowOf
+  number = c .row-of-level .ensures ∙ ap (λ (n : ℕ). n / o .args .d) (l .loop .inv .1)
+
+row-of-level-requires : tie.Need-row-of-level-requires Inv-loop μ-loop
+row-of-level-requires c κs =
+    let l = c .before in
+    let o = l .before .before .before .before in
+    (omega (arith, l .loop .inv .1, level-small (l .loop .j) (o .pre .0)), o .pre .1 .0 .1)
+
+find-number-requires : tie.Need-find-number-requires Inv-loop μ-loop
+find-number-requires c κs =
+    let a = o c .args in
+    let p = o c .pre .1 .1 .0 in (
+      p .2,
+      (
+        front-rising (a .numbers .now) (table (a .s .now) (a .w) (a .e) (a .d)) (a .count) (p .1) (p .0) (table-rises (a .s .now) (a .w) (a .e) (a .d)),
+        rw (number c) (front-has (a .numbers .now) (table (a .s .now) (a .w) (a .e) (a .d)) (a .count) (p .1) (p .0) (table-has (a .d) (o c .pre .0) (l c .loop .j) (c .before .loop-test .taken))),
+      ),
+    )
+
+-- the row's place in the table
+module _ (c : tie.After-find-number Inv-loop μ-loop) where
+  abbrev r : tie.After-row-of-level Inv-loop μ-loop
+  r = c .before
+
+  below : c .find-number .result < length (table (o r .args .s .now) (o r .args .w) (o r .args .e) (o r .args .d))
+  below = omega (arith, c .find-number .ensures .0, o r .pre .1 .1 .0 .0)
+
+  in-counts : c .find-number .result < length (l r .loop .counts)
+  in-counts = omega (arith, c .find-number .ensures .0, o r .pre .1 .1 .0 .3, l r .loop .inv .4)
+
+  is-row : getD (table (o r .args .s .now) (o r .args .w) (o r .args .e) (o r .args .d)) (c .find-number .result) 0 ≡ rowOf (level (o r .args .s .now) (o r .args .w) (o r .args .e)) (o r .args .d) (l r .loop .j)
+  is-row =
+      let a = o r .args in
+      let p = o r .pre .1 .1 .0 in
+      sym (front-at (a .numbers .now) (table (a .s .now) (a .w) (a .e) (a .d)) (a .count) (p .1) (p .0) (c .find-number .result) (c .find-number .ensures .0))
+      ∙ c .find-number .ensures .1 ∙ number r
+
+  few : getD (l r .loop .counts) (c .find-number .result) 0 ≤ 1048577
+  few =
+      let a = o r .args in
+      let row = rowOf (level (a .s .now) (a .w) (a .e)) (a .d) in
+      omega (
+        arith,
+        l r .loop .inv .3 .count (c .find-number .result) below,
+        runs-le (isRow row (getD (table (a .s .now) (a .w) (a .e) (a .d)) (c .find-number .result) 0)) (l r .loop .j),
+        l r .loop .inv .0,
+        o r .pre .0 .long,
+      )
+
+next-row-requires : tie.Need-next-row-requires Inv-loop μ-loop
+next-row-requires c κs =
+    let k = c .before .before in
+    (o k .pre .0, (o k .pre .1 .0, (k .before .loop-test .taken, (l k .loop .inv .1, number k))))
+
+loop-again : tie.Need-loop-again Inv-loop μ-loop
+loop-again c =
+    let f = c .before .before in
+    let k = f .before in
+    let v = l k .loop .inv in
+    let n = c .next-row .ensures in
+    let a = o k .args in
+    let i = f .find-number .result in (
+      n .run .below,
+      n .sum,
+      fresh-next _ _ (l k .loop .j) (c .next-row .result .offset) (n .run),
+      counted-run _ _ (l k .loop .j) (c .next-row .result .offset) (n .run) (v .2) (table-rises (a .s .now) (a .w) (a .e) (a .d)) i (below f) (in-counts f) (is-row f) (v .3),
+      length-set (l k .loop .counts) i (getD (l k .loop .counts) i 0 + 1) ∙ v .4,
+    )
+
+returns : tie.Need-returns Inv-loop μ-loop
+returns c =
+    let l = c .before in
+    let a = l .before .before .before .before .args in
+    let e : l .loop .j ≡ windowsOf (a .s .now) (a .w) = omega (arith, c .loop-test .left, l .loop .inv .0) in
+    rw e at (l .loop .inv .3)
+
+pub count-runs-spec : {M : Type 1} → statement M
+count-runs-spec =
+    tie.close
+    (tie.spec
+    Inv-loop
+    μ-loop
+    (λ c. omega (arith, c .before .before .pre .0 .long))
+    (λ c. omega (arith, c .before .before .pre .0 .fits))
+    (λ c κs. c .before .before .pre .0)
+    loop-holds
+    row-of-level-requires
+    find-number-requires
+    (λ c. omega (arith, in-counts c))
+    (λ c. in-counts (c .before))
+    (λ c. omega (arith, few (c .before)))
+    (λ c. omega (arith, in-counts (c .before)))
+    (λ c. in-counts (c .before))
+    next-row-requires
+    (λ c. omega (arith, c .next-row .ensures .run .ahead, c .next-row .ensures .run .below))
+    loop-again
+    (λ c. c .before .loop .inv .4)
+    returns)

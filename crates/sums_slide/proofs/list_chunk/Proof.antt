@@ -1,0 +1,40 @@
+-- `sums_slide::list_chunk` meets its contract: the flags of all windows tell the numbers that are met (`lit-picked`). Assumes nothing.
+use borrow.Author.Needs.{needs}
+use mathlib.Core.Path.{_≡_, sym, _∙_}
+use Prim.Native.Nat.{ℕ}
+use native.Mathlib.Omega.{arith}
+use lib.ListN.{length}
+use mathlib.Core.List.{List}
+use Rattle.sums_slide.specs.Levels.{level, rowOf, windowsOf}
+use Rattle.sums_slide.specs.Marks.{met, lit, lit-picked}
+use Rattle.sums_slide.specs.Picked.{picked}
+use Rattle.sums_slide.proofs.list_chunk.Statement.{statement}
+use Rattle.sums_slide.proofs.list_chunk.Tie as tie
+
+module _ (c : tie.After-collect-arg2) where
+  abbrev o : tie.Start
+  o = c .before .before .before .before .before .before .before .before .before .before .before .before
+
+  abbrev m : List ℕ
+  m = c .before .before .before .before .mark .last .1 .1 .1 .1 .1 .0
+
+  long : length m ≡ length (o .args .flags .now)
+  long = c .before .before .before .before .mark .ensures .1 ∙ c .before .before .before .before .before .before .before .before .clear-flags .ensures .long
+
+  same : picked (lit m (o .args .base)) (o .args .base) (length m)
+      ≡ picked (met (rowOf (level (o .args .s .now) (o .args .w) (o .args .e)) (o .args .d)) (windowsOf (o .args .s .now) (o .args .w))) (o .args .base) (length (o .args .flags .now))
+  same = lit-picked _ _ (o .args .base) (length (o .args .flags .now)) m (c .before .before .before .before .mark .ensures .0) long
+
+mark-requires : tie.Need-mark-requires
+mark-requires c κs = let o = c .before .before .before .before .before .before .before in (o .pre .0, (o .pre .1 .0, c .before .before .before .clear-flags .ensures .zero))
+
+collect-requires : tie.Need-collect-requires
+collect-requires c κs = (omega (arith, long c, o c .pre .1 .1 .0), rw (same c) (o c .pre .1 .1 .1))
+
+returns : tie.Need-returns
+returns c = let q = c .before .before .before in (rw (sym (same q)) (c .before .before .collect .ensures), long q)
+
+pub list-chunk-spec : {M : Type 1} → statement M
+list-chunk-spec =
+    tie.close
+    (tie.spec (λ c κs. search needs) mark-requires collect-requires (λ c. long (c .before .before .before)) (λ c. c .before .before .collect .ensures .long) returns)

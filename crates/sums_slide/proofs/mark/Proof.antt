@@ -1,0 +1,86 @@
+-- `sums_slide::mark` meets its contract. The invariant: the flags tell the row numbers of the windows passed (`flags-run`). Assumes nothing.
+use borrow.Author.Needs.{needs}
+use mathlib.Core.Path.{_≡_, refl, ap, _∙_}
+use Prim.Native.Nat.{ℕ, _-_, _/_, _≤_}
+use native.Mathlib.Omega.{arith}
+use lib.ListN.{length}
+use Rattle.sums_slide.specs.Levels.{level, rowOf, windowsOf, level-small}
+use Rattle.sums_slide.specs.Marks.{Flags, flags-start, flags-run, length-flagged}
+use Rattle.sums_slide.proofs.mark.Statement.{statement}
+use Rattle.sums_slide.proofs.mark.Tie as tie
+
+abbrev Inv-loop : tie.InvT-loop
+Inv-loop s w e d base flags₀ windows j₀ n₀ flags j n =
+    (j ≤ windows) × (n ≡ level s w e j) × Flags (rowOf (level s w e) d) j base flags × (length flags ≡ length flags₀)
+
+abbrev μ-loop : tie.MeasureT-loop
+μ-loop s w e d base flags₀ windows j₀ n₀ flags j n = windows - j
+
+loop-holds : tie.Need-loop-holds Inv-loop μ-loop
+loop-holds c =
+    let o = c .before .before in
+    (omega arith, c .first-level .ensures, flags-start _ (o .args .base) (o .args .flags .now) (o .pre .1 .1), refl)
+
+-- the row number of the window at hand
+module _ (c : tie.After-row-of-level Inv-loop μ-loop) where
+  abbrev l : tie.At-loop Inv-loop μ-loop
+  l = c .before .before
+
+  abbrev o : tie.Start Inv-loop μ-loop
+  o = l .before .before .before
+
+  is-row : c .row-of-level .result ≡ rowOf (level (o .args .s .now) (o .args .w) (o .args .e)) (o .args .d) (l .loop .j)
+  unfolding rowOf
+  is-row = c .row-of-level .ensures ∙ ap (λ (n : ℕ). n / o .args .d) (l .loop .inv .1)
+
+row-of-level-requires : tie.Need-row-of-level-requires Inv-loop μ-loop
+row-of-level-requires c κs =
+    let l = c .before in
+    let o = l .before .before .before in
+    (omega (arith, l .loop .inv .1, level-small (l .loop .j) (o .pre .0)), o .pre .1 .0 .1)
+
+next-row-requires : tie.Need-next-row-requires Inv-loop μ-loop
+next-row-requires c κs =
+    let r = c .before .before .before .before in
+    (o r .pre .0, (o r .pre .1 .0, (r .before .loop-test .taken, (l r .loop .inv .1, is-row r))))
+
+loop-less : tie.Need-loop-less Inv-loop μ-loop
+loop-less c = omega (arith, c .next-row .ensures .run .ahead, c .next-row .ensures .run .below)
+
+loop-again : tie.Need-loop-again Inv-loop μ-loop
+loop-again c =
+    let k = c .before .before .before .before .before in
+    let a = o k .args in
+    let v = l k .loop .inv in
+    let r = c .next-row .ensures in
+    let e = c .before .before .before .set-flag .ensures in (
+      r .run .below,
+      r .sum,
+      rw (e, is-row k) (flags-run _ _ (l k .loop .j) (c .next-row .result .offset) (r .run) (a .base) (l k .loop .flags) (v .2)),
+      ap length e ∙ length-flagged (l k .loop .flags) (a .base) _ ∙ v .3,
+    )
+
+returns : tie.Need-returns Inv-loop μ-loop
+returns c =
+    let l = c .before in
+    let a = l .before .before .before .args in
+    let e : l .loop .j ≡ windowsOf (a .s .now) (a .w) = omega (arith, c .loop-test .left, l .loop .inv .0) in
+    (rw e at (l .loop .inv .2), l .loop .inv .3)
+
+pub mark-spec : {M : Type 1} → statement M
+mark-spec =
+    tie.close
+    (tie.spec
+    Inv-loop
+    μ-loop
+    (λ c. omega (arith, c .before .pre .0 .long))
+    (λ c. omega (arith, c .before .pre .0 .fits))
+    (λ c κs. c .before .pre .0)
+    loop-holds
+    row-of-level-requires
+    (λ c κs. search needs)
+    next-row-requires
+    loop-less
+    loop-again
+    (λ c. c .before .loop .inv .3)
+    returns)

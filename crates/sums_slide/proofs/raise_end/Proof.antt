@@ -1,0 +1,37 @@
+-- `sums_slide::raise_end` meets its contract. Assumes nothing.
+use native.Mathlib.Omega.{arith}
+use lib.IntN.{ℤ, _+ℤ_}
+use mir.Syntax.{w32}
+use mir.Val.{SFits, toZ, ofZ}
+use Rattle.meaning_numbers.proofs.Rep.{z-add}
+use Rattle.meaning_numbers.proofs.Machine.{zmach32, z-cast32, z-abs}
+use Rattle.sums_slide.proofs.raise_end.Statement.{statement}
+use Rattle.sums_slide.proofs.raise_end.Tie as tie
+
+-- the two numbers as the machine reads them
+abbrev x : tie.Start → ℤ
+x c = toZ w32 (ofZ w32 (c .args .x))
+
+abbrev k : tie.Start → ℤ
+k c = toZ w32 (c .args .bias)
+
+add-t : tie.Need-add-t
+add-t c = omega (zmach32, z-cast32 (c .args .bias) (omega arith), z-add (x c) (k c))
+
+cast-result : tie.Need-cast-result
+cast-result c =
+    let s = c .before in let f : SFits w32 (x s +ℤ k s) = add-t s in
+    omega (zmach32, z-cast32 (s .args .bias) (omega arith), z-add (x s) (k s), z-abs (toZ w32 (ofZ w32 (x s +ℤ k s))))
+
+returns : tie.Need-returns
+returns c =
+    let s = c .before in let f : SFits w32 (x s +ℤ k s) = add-t s in
+    omega (zmach32, z-cast32 (s .args .bias) (omega arith), z-add (x s) (k s))
+
+returns-2 : tie.Need-returns-2
+returns-2 c =
+    let s = c .before in let f : SFits w32 (x s +ℤ k s) = add-t s in
+    omega (zmach32, z-cast32 (s .args .bias) (omega arith), z-add (x s) (k s), z-abs (toZ w32 (ofZ w32 (x s +ℤ k s))))
+
+pub raise-end-spec : {M : Type 1} → statement M
+raise-end-spec = tie.close (tie.spec (λ c. omega arith) add-t cast-result returns returns-2)

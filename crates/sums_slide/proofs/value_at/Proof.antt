@@ -1,0 +1,22 @@
+-- `sums_slide::value_at` meets its contract; past the end of the series stands 0. Assumes nothing.
+use borrow.Author.Needs.{needs}
+use mathlib.Core.Path.{_∙_}
+use Prim.Native.Nat.{_≤_}
+use native.Mathlib.Omega.{arith}
+use lib.ListN.{length, List·getD-eq-default}
+use lib.IntN.{pos}
+use Rattle.numbers.specs.Back.{in-arg, raised-back}
+use Rattle.sums_slide.proofs.value_at.Statement.{statement}
+use Rattle.sums_slide.proofs.value_at.Tie as tie
+
+returns : tie.Need-returns
+returns c = let o = c .before .before .before in c .raise .ensures ∙ raised-back (o .pre .at (o .args .i))
+
+returns-2 : tie.Need-returns-2
+returns-2 c =
+    let h : length (c .before .args .s .now) ≤ c .before .args .i = omega arith in
+    rw (List·getD-eq-default (c .before .args .s .now) (pos 0) h)
+
+pub value-at-spec : {M : Type 1} → statement M
+value-at-spec =
+    tie.close (tie.spec (λ c. search needs) (λ c. search needs) (λ c κs. in-arg (c .before .before .pre .at _)) returns returns-2)

@@ -1,0 +1,17 @@
+-- `try_c_distance::all_in` meets its contract. Assumes nothing.
+use borrow.Author.Needs.{needs}
+use mathlib.Core.Path.{sym, _∙_}
+use Rattle.meaning_curves.proofs.Values.{none-outside, outside-none}
+use Rattle.distance_match.specs.Alike.{says-yes, says-no}
+use Rattle.try_c_distance.proofs.Answers.{none-placed, some-placed}
+use Rattle.try_c_distance.proofs.all_in.Statement.{statement}
+use Rattle.try_c_distance.proofs.all_in.Tie as tie
+
+returns : tie.Need-returns
+returns c = says-no (λ h. some-placed (outside-none h) (sym (c .before .before .first-outside .ensures) ∙ c .enum-told .given .1))
+
+returns-2 : tie.Need-returns-2
+returns-2 c = says-yes (none-outside _ (none-placed _ (sym (c .before .before .first-outside .ensures) ∙ c .enum-told2 .given .1)))
+
+pub all-in-spec : {M : Type 1} → statement M
+all-in-spec = tie.close (tie.spec (λ c κs. search needs) (λ c. search needs) (λ c. search needs) returns returns-2)

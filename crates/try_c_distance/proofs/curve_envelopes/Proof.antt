@@ -1,0 +1,29 @@
+-- `try_c_distance::curve_envelopes` meets its contract. Assumes nothing.
+use borrow.Author.Needs.{needs}
+use borrow.Author.Tests.{not-true, not-false}
+use mathlib.Core.Path.{refl}
+use native.Mathlib.Omega.{arith}
+use Rattle.try_c_distance.proofs.Laws.{outcome-yes, outcome-no}
+use Rattle.try_c_distance.proofs.curve_envelopes.Statement.{statement}
+use Rattle.try_c_distance.proofs.curve_envelopes.Tie as tie
+
+returns-4 : tie.Need-returns-4
+returns-4 c =
+    let upper = c .before in
+    let lower = upper .before .before .before in
+    let e = lower .before .before in
+    outcome-yes (omega (arith, e .before .before .before .if1 .left), omega (arith, e .before .before .if2 .left), e .before .all-in .ensures .yes (not-false _ (e .if3 .left))) refl (record { below = lower .lower-envelope .ensures; above = upper .upper-envelope .ensures })
+
+pub curve-envelopes-spec : {M : Type 1} → statement M
+curve-envelopes-spec =
+    tie.close
+    (tie.spec
+    (λ c. outcome-no (λ a. c .if1 .taken (a .0)) refl (refl, refl))
+    (λ c. outcome-no (λ a. c .if2 .taken (a .1)) refl (refl, refl))
+    (λ c κs. search needs)
+    (λ c. outcome-no (λ a. c .before .all-in .ensures .no (not-true _ (c .if3 .taken)) (a .2)) refl (refl, refl))
+    (λ c κs. omega arith)
+    (λ c κs. omega arith)
+    (λ c. search needs)
+    (λ c. search needs)
+    returns-4)

@@ -1,0 +1,88 @@
+-- `try_c_distance::curve_normal` meets its contract. The invariant: the spreads so far are written, and room holds the last normalised values. Assumes nothing.
+use borrow.Author.Needs.{needs}
+use borrow.Author.Tests.{not-true, not-false}
+use mathlib.Core.Path.{_≡_, refl, _∙_}
+use Prim.Native.Nat.{_+_, _-_, _≤_}
+use native.Mathlib.Omega.{arith}
+use lib.ListN.{length}
+use Rattle.values.specs.Sums.{AreSums}
+use Rattle.try_c_distance.specs.Fits.{Fits}
+use Rattle.try_c_distance.specs.Outcome.{Written}
+use Rattle.try_c_distance.specs.Told.{LastNormal, SpreadAt}
+use Rattle.try_c_distance.proofs.Laws.{written-none, written-more, written-all, outcome-yes, outcome-no, normal-none, normal-next, normal-all}
+use Rattle.try_c_distance.proofs.curve_normal.Statement.{statement}
+use Rattle.try_c_distance.proofs.curve_normal.Tie as tie
+
+abbrev Inv-loop : tie.InvT-loop
+Inv-loop s room₀ out₀ n m t₀ at₀ room out t at =
+    Fits s (length room₀) (length out₀) × (n ≡ length s) × (m ≡ length room₀) × (at ≤ n - m + 1) × (length room ≡ length room₀)
+    × (at ≤ n - m → AreSums s at m (t .values) (t .squares)) × LastNormal s (length room₀) at room₀ room × Written 0 (SpreadAt s (length room₀)) at out₀ out
+
+abbrev μ-loop : tie.MeasureT-loop
+μ-loop s room₀ out₀ n m t₀ at₀ room out t at = n - m + 1 - at
+
+loop-holds : tie.Need-loop-holds Inv-loop μ-loop
+loop-holds c = (
+  c .before .before .fits2 .ensures .yes (not-false _ (c .before .if1 .left)),
+  omega arith,
+  omega arith,
+  omega arith,
+  omega arith,
+  λ l. c .sums-at .ensures,
+  normal-none _ _ _,
+  written-none _,
+)
+
+spread-of-requires : tie.Need-spread-of-requires Inv-loop μ-loop
+spread-of-requires c κs = let i = c .before .loop .inv in (i .0 .short, (i .0 .inside, i .5 (omega arith)))
+
+normal-values-requires : tie.Need-normal-values-requires Inv-loop μ-loop
+normal-values-requires c κs =
+    let i = c .before .before .before .loop .inv in
+    rw (i .4) (omega (arith, i .0 .long), (i .0 .short, (i .0 .inside, (i .5 (omega arith), c .before .spread-of .ensures))))
+
+sums-after-requires : tie.Need-sums-after-requires Inv-loop μ-loop
+sums-after-requires c κs =
+    let i = c .before .before .before .before .before .loop .inv in (omega (arith, i .0 .long), (i .0 .short, (i .0 .inside, i .5 (omega arith))))
+
+loop-again : tie.Need-loop-again Inv-loop μ-loop
+loop-again c =
+    let i = c .before .before .before .before .before .before .loop .inv in
+    let v = c .before .before .normal-values in (
+      i .0,
+      omega arith,
+      omega arith,
+      omega arith,
+      v .kept .1 .1 .1 .1 .0 ∙ i .4,
+      λ l. c .sums-after .ensures (omega (arith, i .0 .long)),
+      normal-next (i .6) (rw (i .4) at (v .ensures)),
+      written-more _ (i .7) (omega (arith, i .0 .enough)) (c .before .before .before .before .spread-of .ensures),
+    )
+
+returns-2 : tie.Need-returns-2 Inv-loop μ-loop
+returns-2 c =
+    let i = c .before .loop .inv in
+    outcome-yes (i .0) (omega (arith, i .0 .long)) (normal-all (omega (arith, i .0 .long)) (i .6), written-all (omega (arith, i .0 .long)) (i .7))
+
+pub curve-normal-spec : {M : Type 1} → statement M
+curve-normal-spec =
+    tie.close
+    (tie.spec
+    Inv-loop
+    μ-loop
+    (λ c κs. search needs)
+    (λ c. outcome-no (c .before .fits2 .ensures .no (not-true _ (c .if1 .taken))) refl (refl, refl))
+    (λ c κs. let f = c .before .fits2 .ensures .yes (not-false _ (c .if1 .left)) in (omega (arith, f .long), (f .short, f .inside)))
+    loop-holds
+    (λ c. omega (arith, c .loop .inv .0 .long))
+    spread-of-requires
+    normal-values-requires
+    (λ c. omega arith)
+    (λ c. let i = c .before .before .before .before .before .loop .inv in omega (arith, i .0 .enough, i .7 .long))
+    sums-after-requires
+    (λ c. omega arith)
+    (λ c. omega arith)
+    loop-again
+    (λ c. c .before .loop .inv .4)
+    (λ c. c .before .loop .inv .7 .long)
+    returns-2)

@@ -1,0 +1,62 @@
+-- `try_c_distance::curve_straight` meets its contract: what `straight` requires was tested. The invariant: the numbers so far are written. Assumes nothing.
+use borrow.Author.Needs.{needs}
+use borrow.Author.Tests.{not-true, not-false}
+use mathlib.Core.Path.{_≡_, refl}
+use Prim.Native.Nat.{_+_, _-_, _≤_}
+use native.Mathlib.Omega.{arith}
+use lib.ListN.{length}
+use Rattle.meaning_curves.proofs.Values.{AllIn}
+use Rattle.try_c_distance.specs.Fits.{Fits}
+use Rattle.try_c_distance.specs.Outcome.{Written}
+use Rattle.try_c_distance.specs.Told.{StraightAt}
+use Rattle.try_c_distance.proofs.Laws.{written-none, written-more, written-all, outcome-yes, outcome-no}
+use Rattle.try_c_distance.proofs.curve_straight.Statement.{statement}
+use Rattle.try_c_distance.proofs.curve_straight.Tie as tie
+
+abbrev Inv-loop : tie.InvT-loop
+Inv-loop s q limit out₀ n m at₀ out at = Fits s (length q) (length out₀) × AllIn q × (n ≡ length s) × (m ≡ length q) × (at ≤ n - m + 1) × Written 0 (StraightAt s q limit) at out₀ out
+
+abbrev μ-loop : tie.MeasureT-loop
+μ-loop s q limit out₀ n m at₀ out at = n - m + 1 - at
+
+loop-holds : tie.Need-loop-holds Inv-loop μ-loop
+loop-holds c = (
+  c .before .before .before .fits2 .ensures .yes (not-false _ (c .before .before .if1 .left)),
+  c .before .all-in .ensures .yes (not-false _ (c .if2 .left)),
+  omega arith,
+  omega arith,
+  omega arith,
+  written-none _,
+)
+
+straight-requires : tie.Need-straight-requires Inv-loop μ-loop
+straight-requires c κs = let i = c .before .loop .inv in (omega (arith, i .0 .long), (i .0 .short, (i .0 .inside, i .1)))
+
+loop-again : tie.Need-loop-again Inv-loop μ-loop
+loop-again c =
+    let i = c .before .before .loop .inv in
+    (i .0, i .1, omega arith, omega arith, omega arith, written-more _ (i .5) (omega (arith, i .0 .enough)) (c .straight .ensures))
+
+returns-3 : tie.Need-returns-3 Inv-loop μ-loop
+returns-3 c = let i = c .before .loop .inv in outcome-yes (i .0, i .1) (omega (arith, i .0 .long)) (written-all (omega (arith, i .0 .long)) (i .5))
+
+pub curve-straight-spec : {M : Type 1} → statement M
+curve-straight-spec =
+    tie.close
+    (tie.spec
+    Inv-loop
+    μ-loop
+    (λ c κs. search needs)
+    (λ c. outcome-no (λ a. c .before .fits2 .ensures .no (not-true _ (c .if1 .taken)) (a .0)) refl refl)
+    (λ c κs. search needs)
+    (λ c. outcome-no (λ a. c .before .all-in .ensures .no (not-true _ (c .if2 .taken)) (a .1)) refl refl)
+    loop-holds
+    (λ c. omega (arith, c .loop .inv .0 .long))
+    straight-requires
+    (λ c. omega arith)
+    (λ c. let i = c .before .before .loop .inv in omega (arith, i .0 .enough, i .5 .long))
+    (λ c. omega arith)
+    (λ c. omega arith)
+    loop-again
+    (λ c. c .before .loop .inv .5 .long)
+    returns-3)

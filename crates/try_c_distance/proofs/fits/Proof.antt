@@ -1,0 +1,24 @@
+-- `try_c_distance::fits` meets its contract. Assumes nothing.
+use borrow.Author.Needs.{needs}
+use native.Mathlib.Omega.{arith}
+use Rattle.distance_match.specs.Alike.{says-no}
+use Rattle.try_c_distance.proofs.fits.Statement.{statement}
+use Rattle.try_c_distance.proofs.fits.Tie as tie
+
+returns-5 : tie.Need-returns-5
+returns-5 c = let a = c .all-in .ensures in record {
+  yes = λ e. record { some = omega arith; short = omega arith; long = omega arith; enough = omega arith; inside = a .yes e };
+  no = λ e f. a .no e (f .inside);
+}
+
+pub fits-spec : {M : Type 1} → statement M
+fits-spec =
+    tie.close
+    (tie.spec
+    (λ c. says-no (λ f. omega (arith, f .some)))
+    (λ c. says-no (λ f. omega (arith, f .short)))
+    (λ c. says-no (λ f. omega (arith, f .long)))
+    (λ c. search needs)
+    (λ c. says-no (λ f. omega (arith, f .enough)))
+    (λ c κs. search needs)
+    returns-5)

@@ -1,0 +1,10 @@
+-- `try_c_search::ask_of` meets its contract: the kind and the limits. Assumes nothing.
+use borrow.Author.Needs.{needs}
+use Rattle.try_c_search.proofs.ask_of.Statement.{statement}
+use Rattle.try_c_search.proofs.ask_of.Tie as tie
+
+returns : tie.Need-returns
+returns c = λ i. record { kind = c .before .kind-of .ensures i; limits = c .limits-of .ensures i }
+
+pub ask-of-spec : {M : Type 1} → statement M
+ask-of-spec = tie.close (tie.spec (λ c κs. search needs) (λ c κs. search needs) returns)

@@ -1,0 +1,31 @@
+-- `try_vectors::get_numbers` meets its contract. Assumes nothing.
+use borrow.Author.Needs.{needs}
+use mathlib.Core.Path.{_≡_}
+use Prim.Native.Nat.{_-_, _≤_}
+use native.Mathlib.Omega.{arith}
+use lib.ListN.{length, length-set}
+use Rattle.try_vectors.proofs.get_numbers.Statement.{statement}
+use Rattle.try_vectors.proofs.get_numbers.Tie as tie
+
+abbrev Inv-loop : tie.InvT-loop
+Inv-loop nums from out₀ k₀ out k = (k ≤ length out) × (length out ≡ length out₀)
+
+abbrev μ-loop : tie.MeasureT-loop
+μ-loop nums from out₀ k₀ out k = length out - k
+
+pub get-numbers-spec : {M : Type 1} → statement M
+get-numbers-spec =
+    tie.close
+    (tie.spec
+    Inv-loop
+    μ-loop
+    (λ c. (omega arith, omega arith))
+    (λ c κs. search needs)
+    (λ c κs. search needs)
+    (λ c. omega arith)
+    (λ c. omega arith)
+    (λ c. omega arith)
+    (λ c. simp length-set (omega arith))
+    (λ c. (simp length-set (omega arith), simp length-set (omega arith)))
+    (λ c. omega arith)
+    (λ c. search needs))
