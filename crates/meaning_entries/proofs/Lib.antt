@@ -15,6 +15,7 @@ pub mod Demand3
 pub mod Told
 pub mod Witness
 pub mod Made
+pub mod Standing
 pub mod Again
 pub mod Row
 pub mod Calls

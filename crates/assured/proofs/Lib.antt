@@ -1,3 +1,0 @@
--- Calls in the walks of `build_audited` and `extend_audited`.
-pub mod Calls
-pub mod CallsExtended
