@@ -1,4 +1,5 @@
 // What refuses a search before it looks: every refusal but 24, in order (01, 'Refused for the input' and 'Refused for the state').
+use refusals::normal_flat;
 use refusals::Refusal;
 use refusals::band_outside;
 use refusals::below_window;
@@ -15,19 +16,10 @@ use refusals::threshold_outside;
 use refusals::unrefused;
 use rows_judge::Judged;
 use meaning_filter::Ask;
-use meaning_filter::Kind;
 use meaning_rows::Head;
 use numbers::lesser;
-use values::spread_of;
-use values::sums_at;
 ghost use mathlib.Core.Path.{_≡_};
-ghost use Prim.Native.Nat.{_≤_, min};
-ghost use lib.ListN.{length};
-ghost use Rattle.meaning_curves.specs.Limits.{longestQuery};
-ghost use Rattle.meaning_curves.specs.Curve.{at};
-ghost use Rattle.meaning_curves.specs.Normal.{flat};
-ghost use Rattle.meaning_curves.proofs.Values.{AllIn};
-ghost use Rattle.meaning_entries.specs.Refusal.{normalFlat};
+ghost use Prim.Native.Nat.{min};
 ghost use Rattle.refusals.specs.Refusal.{refusalOf};
 ghost use Rattle.candidate_plan.specs.Tables.{valuesTable, numbersTable, inputTable, windowsTable, stateTable, planOf};
 
@@ -49,27 +41,6 @@ pub fn refuse_numbers(s: &[i32], q: &[i32], w: u32, ask: Ask) -> Refusal
     let band = refuse_if(band_outside(m, l.band), 8, threshold);
     let window = refuse_if(below_window(m, w), 7, band);
     refuse_if(query_length_outside(m, s.len()), 6, window)
-}
-
-// A query is flat.
-pub fn is_flat(q: &[i32]) -> bool
-    requires { ⌜ AllIn (now q) × (length (now q) ≤ longestQuery) ⌝ }
-    ensures { λ b. ⌜ b ≡ flat (at (now (q .entry))) (length (now (q .entry))) ⌝ }
-{
-    let m = q.len();
-    let t = sums_at(q, 0, m);
-    spread_of(q, 0, m, t) == 0
-}
-
-// A normalised query is flat.
-pub fn normal_flat(kind: Kind, q: &[i32]) -> bool
-    requires { ⌜ AllIn (now q) × (length (now q) ≤ longestQuery) ⌝ }
-    ensures { λ b. ⌜ b ≡ normalFlat kind (now (q .entry)) ⌝ }
-{
-    match kind {
-        Kind::Raw => false,
-        Kind::Normal => is_flat(q),
-    }
 }
 
 // Everything about the input.

@@ -15,7 +15,7 @@ use Rattle.meaning_filter.specs.declared.Limits.{Limits}
 use Rattle.meaning_filter.specs.Range.{lowScale, highScale}
 use Rattle.distance_envelope.specs.Best.{pick}
 use Rattle.candidate_ranges.specs.declared.Frame.{Frame}
-use Rattle.candidate_ranges.specs.Small.{Small, small-pos, small-more, small-add, small-sub, small-mul, small-pick, small-back, arg-back}
+use Rattle.numbers.specs.Small.{Small, small-pos, small-more, small-add, small-sub, small-mul, small-pick, small-back, arg-back}
 use Rattle.candidate_ranges.specs.Frame.{frameOf, FrameIn, QueryIn}
 
 root-le : (y k : ℕ) → y ≤ k * k → root y ≤ k

@@ -12,7 +12,7 @@ use Rattle.meaning_filter.specs.declared.Limits.{Limits}
 use Rattle.meaning_filter.specs.Range.{lowScale, highScale}
 use Rattle.candidate_ranges.specs.declared.Frame.{Frame}
 use Rattle.candidate_ranges.specs.declared.Range.{Range}
-use Rattle.candidate_ranges.specs.Small.{Small}
+use Rattle.numbers.specs.Small.{Small}
 
 -- of a raw query: r, and nothing scaled or shifted
 abbrev pub rawFrame : Limits → ℕ → Frame

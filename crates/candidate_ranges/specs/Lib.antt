@@ -1,3 +1,2 @@
 -- What the contracts of ranges cite.
-pub mod Small
 pub mod Frame

@@ -1,4 +1,11 @@
 // The range of sums that a part of a query admits (01, Candidates). What does not depend on the part is made once (`Frame`); a part then asks for the sums of the two envelopes over its places.
+use numbers::times;
+use numbers::minus;
+use numbers::plus;
+use numbers::ceil_quotient;
+use numbers::floor_quotient;
+use numbers::greater_of;
+use numbers::lesser_of;
 use distance_query::Query;
 use meaning_filter::Kind;
 use meaning_filter::Limits;
@@ -6,18 +13,16 @@ use numbers::RAISE;
 use numbers::root;
 use values::window_sum;
 ghost use mathlib.Core.Path.{_≡_};
-ghost use Prim.Native.Nat.{_+_, _-_, _*_, _/_, _<_, _≤_};
+ghost use Prim.Native.Nat.{_+_, _-_, _*_, _/_, _≤_};
 ghost use lib.IntN.{pos, _+ℤ_, _-ℤ_, _*ℤ_};
 ghost use lib.ListN.{length};
-ghost use Rattle.meaning_numbers.specs.Order.{minℤ, maxℤ};
-ghost use Rattle.meaning_numbers.specs.Quotient.{floorℤ, ceilℤ};
 ghost use Rattle.meaning_numbers.specs.Root.{root};
 ghost use Rattle.meaning_curves.specs.Limits.{greatestValue, longestWindow, greatestThreshold, greatestScale};
 ghost use Rattle.meaning_curves.proofs.Values.{AllIn};
 ghost use Rattle.meaning_filter.specs.Range.{lowScale, highScale};
 ghost use Rattle.meaning_filter.specs.declared.Kind.{Kind};
 ghost use Rattle.distance_envelope.specs.Best.{pick};
-ghost use Rattle.candidate_ranges.specs.Small.{Small};
+ghost use Rattle.numbers.specs.Small.{Small};
 ghost use Rattle.candidate_ranges.specs.Frame.{rawFrame, normalFrame, frameOf, lowEnd, highEnd, rangeAt, FrameIn, QueryIn};
 
 // What a query's ranges share: how far a sum may lie outside the envelopes, the two scales, what is added at the lower and at the upper end, and the divisor.
@@ -34,65 +39,6 @@ pub struct Frame {
 pub struct Range {
     pub low: i64,
     pub high: i64,
-}
-
-pub fn lesser_of(x: i64, y: i64) -> i64
-    ensures { λ r. ⌜ r ≡ minℤ x y ⌝ }
-{
-    if x < y { x } else { y }
-}
-
-pub fn greater_of(x: i64, y: i64) -> i64
-    ensures { λ r. ⌜ r ≡ maxℤ x y ⌝ }
-{
-    if x < y { y } else { x }
-}
-
-// The quotient, rounded down for negative numbers too.
-pub fn floor_quotient(z: i64, d: u64) -> i64
-    requires { ⌜ 0 < d ⌝ }
-    ensures { λ r. ⌜ r ≡ floorℤ z d ⌝ }
-{
-    if z < 0 {
-        let n = (-1 - z) as u64;
-        let k = (n / d) as i64;
-        return -1 - k;
-    }
-    let n = z as u64;
-    (n / d) as i64
-}
-
-// The quotient, rounded up for negative numbers too.
-pub fn ceil_quotient(z: i64, d: u64) -> i64
-    requires { ⌜ (0 < d) × Small 4611686018427387904 z ⌝ }
-    ensures { λ r. ⌜ r ≡ ceilℤ z d ⌝ }
-{
-    let f = floor_quotient(0 - z, d);
-    0 - f
-}
-
-// The sum of two numbers.
-pub fn plus(x: i64, y: i64) -> i64
-    requires { ⌜ Small 4000000000000000 x × Small 4000000000000000 y ⌝ }
-    ensures { λ r. ⌜ r ≡ x +ℤ y ⌝ }
-{
-    x + y
-}
-
-// The difference of two numbers.
-pub fn minus(x: i64, y: i64) -> i64
-    requires { ⌜ Small 4000000000000000 x × Small 4000000000000000 y ⌝ }
-    ensures { λ r. ⌜ r ≡ x -ℤ y ⌝ }
-{
-    x - y
-}
-
-// The product of two numbers.
-pub fn times(x: i64, y: i64) -> i64
-    requires { ⌜ Small 40000000 x × Small 300000000 y ⌝ }
-    ensures { λ r. ⌜ r ≡ x *ℤ y ⌝ }
-{
-    x * y
 }
 
 // The frame of a raw query.

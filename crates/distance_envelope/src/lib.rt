@@ -1,7 +1,7 @@
 // The envelopes of a query within a band, by passes that double how far each value reaches: first ahead, then back. Some 2 × log2(b) passes over the query, in place.
 use numbers::greater_value;
 use numbers::lesser_value;
-use numbers::minus;
+use numbers::monus;
 use values::copy_values;
 ghost use mathlib.Core.Path.{_≡_};
 ghost use Prim.Native.Nat.{_+_, _-_, _<_, min};
@@ -34,7 +34,7 @@ pub fn pass_ahead(out: &mut [i32], d: usize, low: bool)
     ensures { λ r. ⌜ PassAhead low d (now (out .entry)) (now (out .exit)) ⌝ }
 {
     let m = out.len();
-    let end = minus(m, d);
+    let end = monus(m, d);
     let mut i: usize = 0;
     while i < end {
         let x = out[i];

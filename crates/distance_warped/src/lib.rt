@@ -2,7 +2,7 @@
 use distance_bound::envelope_bound;
 use distance_bound::excess_at;
 use numbers::lesser;
-use numbers::minus;
+use numbers::monus;
 use numbers::squared;
 ghost use mathlib.Core.Path.{_≡_};
 ghost use Prim.Native.Nat.{ℕ, _+_, _-_, _<_, _≤_, min};
@@ -82,7 +82,7 @@ pub fn next_row(s: &[i32], from: usize, q: &[i32], b: usize, i: usize, row: &mut
     let m = q.len();
     let k = i + 1;
     let x = s[from + k];
-    let lo = minus(k, b);
+    let lo = monus(k, b);
     let hi = band_high(k, b, m);
     let mut corner = row[lo];
     row[lo] = 819200000000;

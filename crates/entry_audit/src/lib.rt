@@ -24,7 +24,7 @@ use rows_judge::judge;
 use meaning_entries::Audited;
 use meaning_rows::Head;
 use meaning_rows::Row;
-use numbers::minus;
+use numbers::monus;
 use rows_records::chunk_at;
 use values::window_sum;
 
@@ -153,7 +153,7 @@ pub fn left_over(head: Head, j: Judged) -> usize
     ensures { λ n. ⌜ n ≡ leftOver head j ⌝ }
 {
     match j {
-        Judged::Fine { total } => minus(head.windows as usize, total),
+        Judged::Fine { total } => monus(head.windows as usize, total),
         Judged::Bad { row: _ } => 0,
     }
 }

@@ -4,3 +4,4 @@ pub mod Raised
 pub mod Back
 pub mod Within
 pub mod Blocks
+pub mod Small

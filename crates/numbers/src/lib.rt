@@ -3,7 +3,7 @@ use meaning_curves::GREATEST_VALUE;
 use meaning_curves::LEAST_VALUE;
 ghost use mathlib.Core.Path.{_≡_};
 ghost use Prim.Native.Nat.{_+_, _-_, _*_, _/_, _<_, _≤_, min, max};
-ghost use lib.IntN.{pos, _-ℤ_, natAbs};
+ghost use lib.IntN.{pos, _-ℤ_, natAbs, _+ℤ_, _*ℤ_};
 ghost use Rattle.meaning_numbers.specs.Root.{root};
 ghost use Rattle.meaning_numbers.specs.Order.{minℤ, maxℤ};
 ghost use Rattle.meaning_curves.specs.Limits.{valueIn};
@@ -11,6 +11,8 @@ ghost use Rattle.meaning_curves.specs.Straight.{cost};
 ghost use Rattle.meaning_curves.proofs.Values.{InLimits};
 ghost use Rattle.meaning_rows.specs.Range.{rowNumber};
 ghost use Rattle.numbers.specs.Raised.{raised};
+ghost use Rattle.meaning_numbers.specs.Quotient.{floorℤ, ceilℤ};
+ghost use Rattle.numbers.specs.Small.{Small};
 
 // What a value is raised by.
 pub const RAISE: u64 = GREATEST_VALUE as u64;
@@ -113,7 +115,7 @@ pub fn difference(a: u64, b: u64) -> u64
 }
 
 // The difference, 0 where it would be negative.
-pub fn minus(a: usize, b: usize) -> usize
+pub fn monus(a: usize, b: usize) -> usize
     ensures { λ r. ⌜ r ≡ a - b ⌝ }
 {
     if a < b { 0 } else { a - b }
@@ -141,4 +143,75 @@ pub fn greater_value(x: i32, y: i32) -> i32
     ensures { λ r. ⌜ r ≡ maxℤ x y ⌝ }
 {
     if x < y { y } else { x }
+}
+
+// A number without its sign.
+pub fn magnitude(z: i32) -> u32
+    ensures { λ n. ⌜ n ≡ natAbs z ⌝ }
+{
+    if z < 0 {
+        let y = 0 - (z + 1);
+        (y as u32) + 1
+    } else {
+        z as u32
+    }
+}
+
+pub fn lesser_of(x: i64, y: i64) -> i64
+    ensures { λ r. ⌜ r ≡ minℤ x y ⌝ }
+{
+    if x < y { x } else { y }
+}
+
+pub fn greater_of(x: i64, y: i64) -> i64
+    ensures { λ r. ⌜ r ≡ maxℤ x y ⌝ }
+{
+    if x < y { y } else { x }
+}
+
+// The quotient, rounded down for negative numbers too.
+pub fn floor_quotient(z: i64, d: u64) -> i64
+    requires { ⌜ 0 < d ⌝ }
+    ensures { λ r. ⌜ r ≡ floorℤ z d ⌝ }
+{
+    if z < 0 {
+        let n = (-1 - z) as u64;
+        let k = (n / d) as i64;
+        return -1 - k;
+    }
+    let n = z as u64;
+    (n / d) as i64
+}
+
+// The quotient, rounded up for negative numbers too.
+pub fn ceil_quotient(z: i64, d: u64) -> i64
+    requires { ⌜ (0 < d) × Small 4611686018427387904 z ⌝ }
+    ensures { λ r. ⌜ r ≡ ceilℤ z d ⌝ }
+{
+    let f = floor_quotient(0 - z, d);
+    0 - f
+}
+
+// The sum of two numbers.
+pub fn plus(x: i64, y: i64) -> i64
+    requires { ⌜ Small 4000000000000000 x × Small 4000000000000000 y ⌝ }
+    ensures { λ r. ⌜ r ≡ x +ℤ y ⌝ }
+{
+    x + y
+}
+
+// The difference of two numbers.
+pub fn minus(x: i64, y: i64) -> i64
+    requires { ⌜ Small 4000000000000000 x × Small 4000000000000000 y ⌝ }
+    ensures { λ r. ⌜ r ≡ x -ℤ y ⌝ }
+{
+    x - y
+}
+
+// The product of two numbers.
+pub fn times(x: i64, y: i64) -> i64
+    requires { ⌜ Small 40000000 x × Small 300000000 y ⌝ }
+    ensures { λ r. ⌜ r ≡ x *ℤ y ⌝ }
+{
+    x * y
 }

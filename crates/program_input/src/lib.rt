@@ -15,8 +15,8 @@ use meaning_curves::WIDEST_ROW;
 use meaning_filter::Ask;
 use meaning_filter::Kind;
 use meaning_filter::Limits;
-use numbers::minus;
-use candidate_plan::normal_flat;
+use numbers::monus;
+use refusals::normal_flat;
 use text_feed::Feeding;
 use text_feed::Progress;
 use text_feed::Values;
@@ -106,7 +106,7 @@ pub fn read_piece(
                     Input::Going(n, next)
                 }
                 Feeding::Failed(k) => {
-                    let bad = line_in(line, piece, minus(k, at));
+                    let bad = line_in(line, piece, monus(k, at));
                     Input::Failed(bad)
                 }
             }

@@ -1,4 +1,7 @@
 // The conditions under which a call is refused, a function each, and the first of them that applies (01, 'Refused for the input' and 'Refused for the state').
+use meaning_filter::Kind;
+use values::sums_at;
+use values::spread_of;
 use rows_judge::Judged;
 use meaning_curves::GREATEST_MERGE;
 use meaning_curves::GREATEST_SCALE;
@@ -14,15 +17,18 @@ use values::first_outside;
 ghost use mathlib.Core.Path.{_≡_};
 ghost use mathlib.Core.Bool.{not, _||_};
 ghost use mathlib.Core.List.{[]};
-ghost use Prim.Native.Nat.{_+_, _-_};
+ghost use Prim.Native.Nat.{_+_, _-_, _≤_};
 ghost use lib.Dec.{ltb};
 ghost use lib.IntN.{pos, _+ℤ_, _-ℤ_};
 ghost use lib.ListN.{length};
 ghost use lib.Signed.{ltZ};
-ghost use Rattle.meaning_curves.specs.Limits.{mostValues, lengthIn, windowIn, widthIn, mergeIn, queryLengthIn, bandIn, thresholdIn, scaleIn, shiftIn, firstOutside};
-ghost use Rattle.meaning_entries.specs.Refusal.{roomLines};
+ghost use Rattle.meaning_curves.specs.Limits.{mostValues, lengthIn, windowIn, widthIn, mergeIn, queryLengthIn, bandIn, thresholdIn, scaleIn, shiftIn, firstOutside, longestQuery};
+ghost use Rattle.meaning_entries.specs.Refusal.{roomLines, normalFlat};
 ghost use Rattle.rows_judge.specs.Judged.{badRow};
 ghost use Rattle.refusals.specs.Refusal.{refusalOf, refuseIf, refuseAt};
+ghost use Rattle.meaning_curves.specs.Curve.{at};
+ghost use Rattle.meaning_curves.specs.Normal.{flat};
+ghost use Rattle.meaning_curves.proofs.Values.{AllIn};
 
 // What refuses a call: a number of the tables and its place; number 0 where nothing does.
 pub struct Refusal {
@@ -186,4 +192,25 @@ pub fn refuse_room(one: usize, other: usize, w: u32, n: usize) -> Refusal
 {
     let second = refuse_if(too_short(other, w, n), 23, unrefused());
     refuse_if(too_short(one, w, n), 23, second)
+}
+
+// A query is flat.
+pub fn is_flat(q: &[i32]) -> bool
+    requires { ⌜ AllIn (now q) × (length (now q) ≤ longestQuery) ⌝ }
+    ensures { λ b. ⌜ b ≡ flat (at (now (q .entry))) (length (now (q .entry))) ⌝ }
+{
+    let m = q.len();
+    let t = sums_at(q, 0, m);
+    spread_of(q, 0, m, t) == 0
+}
+
+// A normalised query is flat.
+pub fn normal_flat(kind: Kind, q: &[i32]) -> bool
+    requires { ⌜ AllIn (now q) × (length (now q) ≤ longestQuery) ⌝ }
+    ensures { λ b. ⌜ b ≡ normalFlat kind (now (q .entry)) ⌝ }
+{
+    match kind {
+        Kind::Raw => false,
+        Kind::Normal => is_flat(q),
+    }
 }

@@ -1,10 +1,11 @@
 // Judging a lent index: whether it is well formed, and else the first bad row (01, Rows). The head is judged first. Any content may be lent, and no sum wraps.
+use numbers::magnitude;
 ghost use mathlib.Core.Path.{_≡_};
 ghost use mathlib.Core.Bool.{_&&_};
 ghost use mathlib.Core.List.{[]};
 ghost use Prim.Native.Nat.{_+_, _-_, _≤_, min};
 ghost use lib.Dec.{leb, ltb};
-ghost use lib.IntN.{pos, natAbs};
+ghost use lib.IntN.{pos};
 ghost use lib.Signed.{leZ, ltZ};
 ghost use lib.ListN.{length, take, drop};
 ghost use Rattle.meaning_numbers.specs.Quotient.{multiple};
@@ -43,18 +44,6 @@ pub struct Lengths {
 pub enum Judged {
     Fine { total: usize },
     Bad { row: usize },
-}
-
-// A number without its sign.
-pub fn magnitude(z: i32) -> u32
-    ensures { λ n. ⌜ n ≡ natAbs z ⌝ }
-{
-    if z < 0 {
-        let y = 0 - (z + 1);
-        (y as u32) + 1
-    } else {
-        z as u32
-    }
 }
 
 pub fn lesser(a: usize, b: usize) -> usize

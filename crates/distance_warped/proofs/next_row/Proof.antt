@@ -29,7 +29,7 @@ loop-holds c =
     let Q = at (o .args .q .now) in
     let i = o .args .i in
     let b = o .args .b in
-    let e : c .before .before .minus .result ≡ i + 1 - b = omega arith in
+    let e : c .before .before .monus .result ≡ i + 1 - b = omega arith in
     let r = o .pre .1 .1 .1 in
     (omega arith, omega arith, refl, simp length-set (omega arith), rw e (row-start S Q b i _ _ (omega arith) (omega arith) r), r .at _ (omega arith), rw e (sym (low-new S Q b i (i + 1 - b) (omega arith))), λ n l u. absurd (omega arith))
 

@@ -20,7 +20,7 @@ returns-2 : tie.Need-returns-2
 returns-2 c = let a = c .before .before .before .before .before .before .before .before .before .before .before .before .before .before .before .args in read-going (a .piece .now) (a .numbers .now) (a .series .now) (a .query .now) _ _ _ (c .before .before .before .before .before .before .before .before .before .before .before .before .r2 .given .1) (c .before .before .before .before .before .before .before .feed .ensures .0) (c .before .before .before .before .before .before .before .feed .ensures .1) (c .before .before .n .given .1) (c .line-in .ensures)
 
 returns-3 : tie.Need-returns-3
-returns-3 c = let a = c .before .before .before .before .before .before .before .before .before .before .before .before .before .before .before .before .args in read-failed (a .piece .now) (a .numbers .now) (a .series .now) (a .query .now) _ _ _ (c .before .before .before .before .before .before .before .before .before .before .before .before .before .r2 .given .1) (c .before .before .before .before .before .before .before .before .feed .ensures .0) (c .before .before .before .before .before .before .before .before .feed .ensures .1) (c .before .before .before .k .given .1) (rw (c .before .minus .ensures) at (c .line-in2 .ensures))
+returns-3 c = let a = c .before .before .before .before .before .before .before .before .before .before .before .before .before .before .before .before .args in read-failed (a .piece .now) (a .numbers .now) (a .series .now) (a .query .now) _ _ _ (c .before .before .before .before .before .before .before .before .before .before .before .before .before .r2 .given .1) (c .before .before .before .before .before .before .before .before .feed .ensures .0) (c .before .before .before .before .before .before .before .before .feed .ensures .1) (c .before .before .before .k .given .1) (rw (c .before .monus .ensures) at (c .line-in2 .ensures))
 
 pub read-piece-spec : {M : Type 1} → statement M
 read-piece-spec =

@@ -1,10 +1,10 @@
--- `candidate_ranges::plus` meets its contract: the numbers are small. Assumes nothing.
+-- `numbers::plus` meets its contract: the numbers are small. Assumes nothing.
 use native.Mathlib.Omega.{arith}
 use mir.Syntax.{w64}
 use mir.ValLaws.{toZ-ofZ}
-use Rattle.candidate_ranges.specs.Small.{small-add, small-fits, small-back}
-use Rattle.candidate_ranges.proofs.plus.Statement.{statement}
-use Rattle.candidate_ranges.proofs.plus.Tie as tie
+use Rattle.numbers.specs.Small.{small-add, small-fits, small-back}
+use Rattle.numbers.proofs.plus.Statement.{statement}
+use Rattle.numbers.proofs.plus.Tie as tie
 
 add-result : tie.Need-add-result
 add-result c = let a = c .args in rw (toZ-ofZ w64 (a .x) (c .fits .x), toZ-ofZ w64 (a .y) (c .fits .y)) (small-fits (omega arith) (small-add (a .x) (a .y) (c .pre .0) (c .pre .1)))

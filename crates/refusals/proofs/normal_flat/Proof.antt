@@ -1,8 +1,8 @@
--- `candidate_plan::normal_flat` meets its contract, by the kind. Assumes nothing.
+-- `refusals::normal_flat` meets its contract, by the kind. Assumes nothing.
 use borrow.Author.Needs.{needs}
 use Rattle.candidate_plan.specs.Cases.{raw-flat, normal-is-flat}
-use Rattle.candidate_plan.proofs.normal_flat.Statement.{statement}
-use Rattle.candidate_plan.proofs.normal_flat.Tie as tie
+use Rattle.refusals.proofs.normal_flat.Statement.{statement}
+use Rattle.refusals.proofs.normal_flat.Tie as tie
 
 returns : tie.Need-returns
 returns c = raw-flat (c .before .before .args .q .now) (c .enum-told .given .1)

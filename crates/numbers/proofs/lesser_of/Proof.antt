@@ -1,8 +1,8 @@
--- `candidate_ranges::lesser_of` meets its contract, by the flag of its test. Assumes nothing.
+-- `numbers::lesser_of` meets its contract, by the flag of its test. Assumes nothing.
 use mir.Syntax.{w64}
 use Rattle.numbers.specs.Back.{lesser-first, lesser-second}
-use Rattle.candidate_ranges.proofs.lesser_of.Statement.{statement}
-use Rattle.candidate_ranges.proofs.lesser_of.Tie as tie
+use Rattle.numbers.proofs.lesser_of.Statement.{statement}
+use Rattle.numbers.proofs.lesser_of.Tie as tie
 
 pub lesser-of-spec : {M : Type 1} → statement M
 lesser-of-spec = tie.close (tie.spec (λ c. let f = c .before .fits in lesser-first w64 (f .x) (f .y) (c .if1 .taken)) (λ c. let f = c .before .fits in lesser-second w64 (f .x) (f .y) (c .if1 .left)))

@@ -1,4 +1,4 @@
--- `candidate_ranges::ceil_quotient` meets its contract: 0 less the floor of 0 less the number. Assumes nothing.
+-- `numbers::ceil_quotient` meets its contract: 0 less the floor of 0 less the number. Assumes nothing.
 use borrow.Author.Needs.{needs}
 use mathlib.Core.Path.{_≡_, _∙_, ap}
 use native.Mathlib.Omega.{arith}
@@ -7,9 +7,9 @@ use mir.Syntax.{w64}
 use mir.Val.{toZ, ofZ}
 use mir.ValLaws.{toZ-ofZ}
 use Rattle.meaning_numbers.specs.Quotient.{floorℤ, ceilℤ}
-use Rattle.candidate_ranges.specs.Small.{Small, small-neg, small-floor, small-fits, small-back, zero-less}
-use Rattle.candidate_ranges.proofs.ceil_quotient.Statement.{statement}
-use Rattle.candidate_ranges.proofs.ceil_quotient.Tie as tie
+use Rattle.numbers.specs.Small.{Small, small-neg, small-floor, small-fits, small-back, zero-less}
+use Rattle.numbers.proofs.ceil_quotient.Statement.{statement}
+use Rattle.numbers.proofs.ceil_quotient.Tie as tie
 
 sub-floor-quotient : tie.Need-sub-floor-quotient
 sub-floor-quotient c = rw (toZ-ofZ w64 (c .args .z) (c .fits .z), zero-less (c .args .z)) (small-fits (omega arith) (small-neg (c .args .z) (c .pre .1)))

@@ -1,8 +1,8 @@
--- `candidate_plan::is_flat` meets its contract (`flat-is`). Assumes nothing.
+-- `refusals::is_flat` meets its contract (`flat-is`). Assumes nothing.
 use borrow.Author.Needs.{needs}
 use Rattle.candidate_plan.specs.Cases.{flat-is}
-use Rattle.candidate_plan.proofs.is_flat.Statement.{statement}
-use Rattle.candidate_plan.proofs.is_flat.Tie as tie
+use Rattle.refusals.proofs.is_flat.Statement.{statement}
+use Rattle.refusals.proofs.is_flat.Tie as tie
 
 returns : tie.Need-returns
 returns c = flat-is (c .before .before .args .q .now) (c .spread-of .result) (c .spread-of .ensures)

@@ -1,4 +1,4 @@
--- `candidate_ranges::floor_quotient` meets its contract: of a negative z the number -1 - z is not negative, and its quotient is -1 less the floor of z's. Assumes nothing.
+-- `numbers::floor_quotient` meets its contract: of a negative z the number -1 - z is not negative, and its quotient is -1 less the floor of z's. Assumes nothing.
 use borrow.Author.Needs.{needs}
 use mathlib.Core.Path.{_≡_}
 use Prim.Native.Nat.{_/_, _<_, _^_}
@@ -9,8 +9,8 @@ use mir.Val.{toZ, ofZ}
 use Rattle.meaning_numbers.proofs.Rep.{z-sub}
 use Rattle.meaning_numbers.proofs.Machine.{zmach, z-abs, z-cast, z-fits}
 use Rattle.numbers.specs.Row.{row-up, row-down}
-use Rattle.candidate_ranges.proofs.floor_quotient.Statement.{statement}
-use Rattle.candidate_ranges.proofs.floor_quotient.Tie as tie
+use Rattle.numbers.proofs.floor_quotient.Statement.{statement}
+use Rattle.numbers.proofs.floor_quotient.Tie as tie
 
 -- the number, and -1 less it, as the machine reads them
 abbrev z : tie.Start → ℤ

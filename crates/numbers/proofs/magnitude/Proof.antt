@@ -1,4 +1,4 @@
--- `rows_judge::magnitude` meets its contract. Of a negative number one less is turned, so that the least i32 is no exception. Assumes nothing.
+-- `numbers::magnitude` meets its contract. Of a negative number one less is turned, so that the least i32 is no exception. Assumes nothing.
 use borrow.Author.Needs.{needs}
 use native.Mathlib.Omega.{arith}
 use Prim.Native.Nat.{_<_, _≤_, _^_}
@@ -7,8 +7,8 @@ use mir.Syntax.{w32}
 use mir.Val.{SFits, toZ, ofZ}
 use Rattle.meaning_numbers.proofs.Rep.{up, dn, z-add, z-sub}
 use Rattle.meaning_numbers.proofs.Machine.{zmach32, z-abs}
-use Rattle.rows_judge.proofs.magnitude.Statement.{statement}
-use Rattle.rows_judge.proofs.magnitude.Tie as tie
+use Rattle.numbers.proofs.magnitude.Statement.{statement}
+use Rattle.numbers.proofs.magnitude.Tie as tie
 
 -- the limits of a number that fits
 limits : {z : ℤ} → SFits w32 z → (up z < 2 ^ 31) × (dn z ≤ 2 ^ 31)
