@@ -1,12 +1,12 @@
 // The pass that fills all parts: every run of windows filed in the part of its row, whatever ranges the rows have.
+use build_parts::file_run;
+use meaning_rows::Row;
+use numbers::RAISE;
+use rows_find::find_record;
 use sums_slide::Place;
 use sums_slide::next_out;
 use sums_slide::raise_end;
 use sums_slide::sum_of;
-use rows_find::find_record;
-use meaning_rows::Row;
-use numbers::RAISE;
-use build_parts::file_run;
 ghost use mathlib.Core.Bool.{Bool};
 ghost use Prim.Native.Nat.{ℕ, _+_, _*_, _<_};
 ghost use Rattle.build_fill.specs.Turn.{TurnAsked, Turned};

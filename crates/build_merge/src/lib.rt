@@ -1,6 +1,6 @@
 // Rows merged by counts alone: each run of a row has the names of the rows before and after it as its entry, so the runs of a union are counted without offsets.
-use sums_slide::in_range;
 use meaning_rows::Row;
+use sums_slide::in_range;
 ghost use mathlib.Core.Path.{_≡_};
 ghost use Prim.Native.Nat.{_+_, _≤_};
 ghost use lib.ListN.{length};

@@ -1,7 +1,7 @@
 // Merging as one step of a build: the neighbours of all runs are named in the parts of their rows, and the rows merged by the names.
-use meaning_rows::Row;
 use build_merge::merge_rows;
 use build_names::name_neighbours;
+use meaning_rows::Row;
 ghost use mathlib.Core.List.{List};
 ghost use Prim.Native.Nat.{_≤_};
 ghost use Rattle.meaning_curves.specs.Limits.{greatestMerge};

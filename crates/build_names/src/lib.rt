@@ -1,15 +1,15 @@
 // The rows before and after each run named, in one pass over the runs of a series: as its entry in the part of its row a run gets the name of the row of the window before it and that of the window
 // after it. A row's name is one more than its place, and 0 names none.
+use build_parts::file_entry;
+use meaning_rows::Row;
+use numbers::RAISE;
+use rows_find::find_row;
+use rows_records::row_at;
 use sums_slide::Place;
 use sums_slide::first_place;
 use sums_slide::next_out;
 use sums_slide::raise_end;
 use sums_slide::sum_of;
-use rows_find::find_row;
-use meaning_rows::Row;
-use numbers::RAISE;
-use build_parts::file_entry;
-use rows_records::row_at;
 ghost use mathlib.Core.Path.{_≡_};
 ghost use Prim.Native.Nat.{ℕ, _+_, _*_, _<_, _≤_};
 ghost use Rattle.meaning_curves.specs.Limits.{mostValues, greatestValue, longestWindow};

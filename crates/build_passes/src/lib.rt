@@ -1,11 +1,11 @@
 // An index built of a series: its rows laid out, merged, and their parts filled.
-use sums_slide::first_place;
 use build_fill::fill_parts;
 use build_lay::clear_runs;
 use build_lay::lay_rows;
-use meaning_rows::Row;
 use build_merging::merge_packed;
+use meaning_rows::Row;
 use rows_records::clear_rows;
+use sums_slide::first_place;
 ghost use mathlib.Core.Path.{_≡_};
 ghost use Rattle.meaning_curves.specs.Limits.{greatestValue, greatestMerge};
 ghost use Rattle.sums_slide.specs.Levels.{windowsOf};

@@ -1,4 +1,5 @@
 // What refuses a build, and by how much it raises sums where nothing does.
+use numbers::RAISE;
 use refusals::Refusal;
 use refusals::merge_outside;
 use refusals::refuse_if;
@@ -7,7 +8,6 @@ use refusals::refuse_series;
 use refusals::width_outside;
 use refusals::window_outside;
 use rows_judge::lesser;
-use numbers::RAISE;
 use rows_pack::raised_rows;
 ghost use mathlib.Core.Path.{_≡_};
 ghost use Rattle.meaning_entries.specs.Build.{lentBuild, buildLines};

@@ -1,7 +1,8 @@
 // The rows that a part's range meets. The runs of neighbouring rows stand side by side, so the rows that a range meets have one stretch of the run buffer.
-use rows_find::find_row;
-use meaning_rows::Row;
 use candidate_ranges::Range;
+use meaning_rows::Row;
+use numbers::place_before;
+use rows_find::find_row;
 use rows_records::row_or;
 ghost use mathlib.Core.Path.{_≡_};
 ghost use Prim.Native.Nat.{_-_, _≤_};
@@ -27,13 +28,6 @@ pub fn clamp(z: i64) -> i32
         return 4000001;
     }
     z as i32
-}
-
-// The place before `k`, or 0.
-pub fn before(k: usize) -> usize
-    ensures { λ r. ⌜ r ≡ k - 1 ⌝ }
-{
-    if k == 0 { 0 } else { k - 1 }
 }
 
 // Where the runs of the first `k` rows end, of the row before row `k`.
@@ -92,7 +86,7 @@ pub fn met_span(rows: &[Row], range: Range) -> Span
     let b = find_row(rows, n, high);
     let none = zero_row();
     let first = row_or(rows, a, none);
-    let last = row_or(rows, before(b), none);
+    let last = row_or(rows, place_before(b), none);
     let edge = row_or(rows, b, none);
     span_of(n, a, b, first, last, edge, high)
 }

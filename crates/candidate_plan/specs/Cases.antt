@@ -1,19 +1,11 @@
 -- The plan, case by case, as its code goes. Assumes nothing.
-use mathlib.Core.Path.{_≡_, refl, ap, _∙_}
-use mathlib.Core.Bool.{Bool, false}
 use mathlib.Core.List.{List}
 use Prim.Native.Nat.{ℕ, _≤_}
-use native.Mathlib.Nat.{zero-add}
-use lib.Dec.{T, eqb}
+use lib.Dec.{T}
 use lib.IntN.{ℤ}
 use lib.ListN.{length}
-use Rattle.meaning_curves.specs.Curve.{at, stretch, spread}
-use Rattle.meaning_curves.specs.Normal.{flat}
-use Rattle.meaning_curves.proofs.Same.{spread-same}
 use Rattle.meaning_curves.proofs.Values.{AllIn}
-use Rattle.meaning_filter.specs.declared.Kind.{Kind}
 use Rattle.meaning_filter.specs.declared.Ask.{Ask}
-use Rattle.meaning_entries.specs.Refusal.{normalFlat}
 use Rattle.meaning_entries.proofs.Refusal.{Passed, openLines, passed-line, passed-behind, lacks}
 use Rattle.meaning_entries.proofs.Lines.{values-line, query-line}
 use Rattle.candidate_plan.specs.Tables.{valuesTable, numbersTable, inputTable}
@@ -43,14 +35,3 @@ unfolding openLines numbersTable
 query-few s q w a h = query-line (length q) (length s) (passed-line h 6) .0 .most
 
 -- ---- a query that is flat
-
-pub flat-is : (q : List ℤ) (a : ℕ) → a ≡ spread (stretch q 0) (length q) → eqb a 0 ≡ flat (at q) (length q)
-flat-is q a e = ap (λ (n : ℕ). eqb n 0) (e ∙ spread-same (record { at = λ k l. rw zero-add refl }))
-
-pub raw-flat : {kind : Kind} (q : List ℤ) → kind ≡ Kind.Raw → false ≡ normalFlat kind q
-unfolding normalFlat
-raw-flat q e = rw e
-
-pub normal-is-flat : {kind : Kind} {b : Bool} (q : List ℤ) → kind ≡ Kind.Normal → b ≡ flat (at q) (length q) → b ≡ normalFlat kind q
-unfolding normalFlat
-normal-is-flat q e f = rw e f

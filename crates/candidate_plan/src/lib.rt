@@ -1,10 +1,13 @@
 // What refuses a search before it looks: every refusal but 24, in order (01, 'Refused for the input' and 'Refused for the state').
-use refusals::normal_flat;
+use meaning_filter::Ask;
+use meaning_rows::Head;
+use numbers::lesser;
 use refusals::Refusal;
 use refusals::band_outside;
 use refusals::below_window;
 use refusals::fewer;
 use refusals::more;
+use refusals::normal_flat;
 use refusals::query_length_outside;
 use refusals::refuse_if;
 use refusals::refuse_judged;
@@ -15,9 +18,6 @@ use refusals::scale_or_shift_outside;
 use refusals::threshold_outside;
 use refusals::unrefused;
 use rows_judge::Judged;
-use meaning_filter::Ask;
-use meaning_rows::Head;
-use numbers::lesser;
 ghost use mathlib.Core.Path.{_≡_};
 ghost use Prim.Native.Nat.{min};
 ghost use Rattle.refusals.specs.Refusal.{refusalOf};

@@ -1,6 +1,6 @@
 -- The sizes of a frame's numbers, within the limits of a query: all products fit 64 bits (`frame-in`). Assumes nothing.
 use mathlib.Core.Path.{_≡_}
-use mathlib.Core.Bool.{Bool}
+use mathlib.Core.Bool.{Bool, true, false}
 use Prim.Native.Nat.{ℕ, _+_, _*_, _/_, _≤_}
 use native.Mathlib.Omega.{arith}
 use native.Mathlib.Nat.{mul-le-mul, div-le-self}
@@ -15,8 +15,13 @@ use Rattle.meaning_filter.specs.declared.Limits.{Limits}
 use Rattle.meaning_filter.specs.Range.{lowScale, highScale}
 use Rattle.distance_envelope.specs.Best.{pick}
 use Rattle.candidate_ranges.specs.declared.Frame.{Frame}
-use Rattle.numbers.specs.Small.{Small, small-pos, small-more, small-add, small-sub, small-mul, small-pick, small-back, arg-back}
+use Rattle.numbers.specs.Small.{Small}
+use Rattle.numbers.proofs.Small.{small-pos, small-more, small-add, small-sub, small-mul, small-back, arg-back, small-max, small-min}
 use Rattle.candidate_ranges.specs.Frame.{frameOf, FrameIn, QueryIn}
+
+pub small-pick : {n : ℕ} (low : Bool) (x y : ℤ) → Small n x → Small n y → Small n (pick low x y)
+small-pick true = small-min
+small-pick false = small-max
 
 root-le : (y k : ℕ) → y ≤ k * k → root y ≤ k
 root-le y k h = le-of-sq-le {x = root y} {r = k} (omega (arith, root-is y .low))

@@ -1,16 +1,16 @@
 // The range of sums that a part of a query admits (01, Candidates). What does not depend on the part is made once (`Frame`); a part then asks for the sums of the two envelopes over its places.
-use numbers::times;
-use numbers::minus;
-use numbers::plus;
-use numbers::ceil_quotient;
-use numbers::floor_quotient;
-use numbers::greater_of;
-use numbers::lesser_of;
 use distance_query::Query;
 use meaning_filter::Kind;
 use meaning_filter::Limits;
 use numbers::RAISE;
+use numbers::ceil_quotient;
+use numbers::floor_quotient;
+use numbers::greater_of;
+use numbers::lesser_of;
+use numbers::minus;
+use numbers::plus;
 use numbers::root;
+use numbers::times;
 use values::window_sum;
 ghost use mathlib.Core.Path.{_≡_};
 ghost use Prim.Native.Nat.{_+_, _-_, _*_, _/_, _≤_};

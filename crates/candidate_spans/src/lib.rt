@@ -1,18 +1,18 @@
 // The stretches of runs that the parts of a query meet, held in the candidate buffer until candidates are handed out: entry i is that of part i.
 use candidate_counts::raise_runs;
-use distance_query::prepare;
 use candidate_filter::Span;
 use candidate_filter::clamp;
 use candidate_filter::met_span;
+use candidate_ranges::Frame;
+use candidate_ranges::Range;
+use candidate_ranges::frame_of;
+use candidate_ranges::part_range;
+use distance_query::prepare;
 use meaning_curves::LONGEST_QUERY;
 use meaning_filter::Kind;
 use meaning_filter::Limits;
 use meaning_rows::Row;
 use numbers::lower;
-use candidate_ranges::Frame;
-use candidate_ranges::Range;
-use candidate_ranges::frame_of;
-use candidate_ranges::part_range;
 ghost use mathlib.Core.Path.{_≡_};
 ghost use Prim.Native.Nat.{_<_, _≤_};
 ghost use lib.IntN.{pos, negsuc, natAbs, _+ℤ_};

@@ -1,12 +1,12 @@
 // Demand 3 of the code (01, Candidates): one series audited against two lent indexes, and searched for one query through both.
 use entry_audit::audit;
+use entry_search::search;
 use meaning_entries::Audited;
 use meaning_entries::Both;
 use meaning_entries::Found;
 use meaning_filter::Ask;
 use meaning_rows::Head;
 use meaning_rows::Row;
-use entry_search::search;
 ghost use mathlib.Core.Path.{_≡_};
 ghost use Rattle.meaning_rows.specs.Index.{lent};
 ghost use Rattle.meaning_entries.specs.Search.{lentSearch};

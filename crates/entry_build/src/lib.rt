@@ -5,6 +5,7 @@ use build_plan::make_plan;
 use meaning_entries::Built;
 use meaning_rows::Head;
 use meaning_rows::Row;
+use numbers::place_before;
 use rows_records::row_at;
 ghost use mathlib.Core.Path.{_≡_};
 ghost use Prim.Native.Nat.{_+_, _-_, _≤_};
@@ -24,14 +25,6 @@ pub fn refuse(p: Plan) -> Built
         number: p.refusal.number,
         place: p.refusal.place,
     }
-}
-
-// The place before `n`.
-pub fn place_before(n: usize) -> usize
-    requires { ⌜ 1 ≤ n ⌝ }
-    ensures { λ k. ⌜ k ≡ n - 1 ⌝ }
-{
-    n - 1
 }
 
 // The answer of a call that built `n` rows, the last of which is `r`.

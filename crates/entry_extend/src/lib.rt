@@ -1,13 +1,14 @@
 // The entry that extends an index: refused, or the extended index in the lent buffers.
-use refusals::Refusal;
 use extend_passes::extend_passes;
 use extend_plan::make_plan;
-use rows_judge::judge;
-use rows_judge::lesser;
 use meaning_entries::Extended;
 use meaning_rows::Head;
 use meaning_rows::Row;
 use numbers::RAISE;
+use numbers::place_before;
+use refusals::Refusal;
+use rows_judge::judge;
+use rows_judge::lesser;
 use rows_pack::raised_rows;
 use rows_records::row_at;
 ghost use mathlib.Core.Path.{_≡_};
@@ -60,13 +61,6 @@ pub fn lift_of(w: u32, d: u32, old: u32) -> Lift
     }
 }
 
-// The place of the last of `n` rows; 0 if there is none.
-pub fn last_place(n: usize) -> usize
-    ensures { λ k. ⌜ k ≡ n - 1 ⌝ }
-{
-    if n == 0 { 0 } else { n - 1 }
-}
-
 // The answer of a call that left `n` rows, where `r` is the last, or the record of zeros.
 pub fn answer(series: &[i32], head: Head, n: usize, r: Row) -> Extended
     requires { ⌜ (head .window ≤ length (now series)) × (length (now series) ≤ mostValues) ⌝ }
@@ -114,7 +108,7 @@ pub fn extend_planned(
         left,
         right,
     );
-    let k = last_place(n);
+    let k = place_before(n);
     let r = row_at(rows, k);
     answer(series, head, n, r)
 }

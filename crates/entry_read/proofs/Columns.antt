@@ -22,7 +22,7 @@ use Rattle.text_index.specs.Order.{placePart, Order}
 use Rattle.text_index.specs.View.{keptAt, endOf, Whole, text-viewed, Kept, kept-start, kept-to, kept-value, kept-closed, kept-refuse, kept-end}
 use Rattle.text_event.specs.declared.Event.{Event}
 use Rattle.text_event.specs.Event.{Quiet, RunsFrom, EventAt, atRuns, quiet-keeps, value-keeps, run-keeps, row-keeps, runs-keeps}
-use Rattle.text_judge.specs.Tally.{held}
+use Rattle.numbers.specs.Narrow.{held}
 use Rattle.text_judge.proofs.Bad.{held-pos}
 use Rattle.text_judge.proofs.Prefix.{map-append}
 use Rattle.entry_read.specs.Plan.{heldLefts, heldRights}

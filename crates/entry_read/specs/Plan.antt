@@ -18,7 +18,8 @@ use Rattle.refusals.specs.Refusal.{refusalOf, judgedLine}
 use Rattle.text_judge.specs.declared.Rows.{Rows}
 use Rattle.text_judge.specs.declared.Scanned.{Scanned}
 use Rattle.text_judge.specs.Judged.{judgedRows}
-use Rattle.text_judge.specs.Tally.{held, scanned}
+use Rattle.text_judge.specs.Tally.{scanned}
+use Rattle.numbers.specs.Narrow.{held}
 use Rattle.entry_read.specs.declared.Plan.{Plan}
 
 abbrev pub noHead : Head

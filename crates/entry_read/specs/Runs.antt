@@ -10,7 +10,7 @@ use Rattle.meaning_text.specs.Form.{Value}
 use Rattle.meaning_text.specs.Read.{fine, readText}
 use Rattle.meaning_text.specs.Texts.{indexForm, indexSaid}
 use Rattle.text_index.specs.declared.Place.{Place}
-use Rattle.text_judge.specs.Tally.{held}
+use Rattle.numbers.specs.Narrow.{held}
 use Rattle.entry_read.specs.Plan.{heldLefts, heldRights}
 
 abbrev pub isLeft : Place → Bool

@@ -1,12 +1,13 @@
 // Reading an index text into lent buffers (01, Text and program): a pass that judges the text, and where nothing refuses a pass that puts its runs into the run buffer and one that puts its rows into the row records. What is not used of the buffers is made 0 at once. A refusal alters nothing.
+use meaning_entries::Loaded;
+use meaning_rows::Head;
+use meaning_rows::Row;
+use numbers::hold;
+use numbers::lesser;
 use refusals::Refusal;
 use refusals::refuse_if;
 use refusals::refuse_judged;
 use refusals::unrefused;
-use rows_judge::lesser;
-use meaning_entries::Loaded;
-use meaning_rows::Head;
-use meaning_rows::Row;
 use rows_records::clear_rows;
 use text_event::Event;
 use text_event::next_event;
@@ -20,7 +21,6 @@ use text_index::Turn;
 use text_index::Word;
 use text_judge::Rows;
 use text_judge::Scanned;
-use text_judge::hold;
 use text_judge::judged_rows;
 use text_judge::scan;
 use text_reader::bad_line;
@@ -267,7 +267,7 @@ fn clear(out: &mut [u32])
 pub fn load_runs(text: &[u8], rows: usize, left: &mut [u32], right: &mut [u32]) -> Plan
     ensures { λ p. ⌜ Loads (now (text .entry)) rows (now (left .entry)) (now (right .entry)) p (now (left .exit)) (now (right .exit)) ⌝ }
 {
-    let room = lesser(left.len(), right.len());
+    let room = lesser(left.len() as u64, right.len() as u64) as usize;
     let p = make_plan(text, rows, room);
     if p.refusal.number != 0 {
         return p;

@@ -1,17 +1,17 @@
 // The search of a series through a lent index (01, Candidates), in two halves: finding the candidates, which needs the rows, and checking them, which needs none.
 use candidate_counts::clear_scratch;
 use candidate_counts::collect;
-use refusals::Refusal;
-use check_answer::find_matches;
-use rows_judge::judge;
-use meaning_entries::Found;
-use meaning_filter::Ask;
-use meaning_rows::Head;
-use meaning_rows::Row;
 use candidate_plan::plan_search;
 use candidate_spans::meet_parts;
 use candidate_spans::put_ranges;
 use candidate_spans::raise_stretches;
+use check_answer::find_matches;
+use meaning_entries::Found;
+use meaning_filter::Ask;
+use meaning_rows::Head;
+use meaning_rows::Row;
+use refusals::Refusal;
+use rows_judge::judge;
 ghost use mathlib.Core.Path.{_≡_};
 ghost use mathlib.Core.List.{[]};
 ghost use Prim.Native.Nat.{_/_};

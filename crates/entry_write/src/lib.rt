@@ -1,13 +1,13 @@
 // The entry write: a lent index becomes an index text. The text is counted first, then written by the same loop over the row records.
+use meaning_entries::Written;
+use meaning_rows::Head;
+use meaning_rows::Row;
 use refusals::Refusal;
 use refusals::refuse_if;
 use refusals::refuse_judged;
 use refusals::unrefused;
 use rows_judge::Judged;
 use rows_judge::judge;
-use meaning_entries::Written;
-use meaning_rows::Head;
-use meaning_rows::Row;
 use rows_records::row_at;
 use text_count::count_end;
 use text_count::count_head;

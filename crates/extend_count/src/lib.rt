@@ -1,10 +1,10 @@
 // The runs of each row of an extension counted in one covered pass over the new windows: beside the raised upper ends of the rows, which ascend, stand the counts.
-use sums_slide::Place;
-use sums_slide::next_out;
-use sums_slide::raise_end;
 use meaning_rows::Row;
 use rows_pack::start_of;
 use rows_records::row_at;
+use sums_slide::Place;
+use sums_slide::next_out;
+use sums_slide::raise_end;
 use values::raised_sum;
 ghost use mathlib.Core.Path.{_≡_};
 ghost use Prim.Native.Nat.{_+_, _-_, _<_, _≤_};

@@ -1,12 +1,12 @@
 // The search program: standard input to standard output. No contract can say what is read or written, so all that matters is promised by the functions on bytes that it calls.
-use program_input::Input;
-use program_input::begin;
-use program_input::read_piece;
-use program_print::finish;
 use libc::STDIN_FILENO;
 use libc::STDOUT_FILENO;
 use meaning_curves::LONGEST_QUERY;
 use meaning_curves::MOST_PROGRAM_VALUES;
+use program_input::Input;
+use program_input::begin;
+use program_input::read_piece;
+use program_print::finish;
 ghost use Prim.Native.Nat.{_≤_};
 ghost use lib.ListN.{length, take};
 ghost use Rattle.program_input.specs.Input.{Open};

@@ -1,8 +1,11 @@
 // The library under one roof: the entries of document 01, and the types that they take and answer with.
+pub use demand::demand;
 pub use entry_audit::audit;
 pub use entry_build::build;
-pub use demand::demand;
 pub use entry_extend::extend;
+pub use entry_read::read;
+pub use entry_search::search;
+pub use entry_write::write;
 pub use meaning_entries::Audited;
 pub use meaning_entries::Both;
 pub use meaning_entries::Built;
@@ -15,6 +18,3 @@ pub use meaning_filter::Kind;
 pub use meaning_filter::Limits;
 pub use meaning_rows::Head;
 pub use meaning_rows::Row;
-pub use entry_search::search;
-pub use entry_read::read;
-pub use entry_write::write;

@@ -5,3 +5,4 @@ pub mod Back
 pub mod Within
 pub mod Blocks
 pub mod Small
+pub mod Narrow

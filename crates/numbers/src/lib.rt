@@ -13,6 +13,7 @@ ghost use Rattle.meaning_rows.specs.Range.{rowNumber};
 ghost use Rattle.numbers.specs.Raised.{raised};
 ghost use Rattle.meaning_numbers.specs.Quotient.{floorℤ, ceilℤ};
 ghost use Rattle.numbers.specs.Small.{Small};
+ghost use Rattle.numbers.specs.Narrow.{clamp, held};
 
 // What a value is raised by.
 pub const RAISE: u64 = GREATEST_VALUE as u64;
@@ -214,4 +215,37 @@ pub fn times(x: i64, y: i64) -> i64
     ensures { λ r. ⌜ r ≡ x *ℤ y ⌝ }
 {
     x * y
+}
+
+// The nearest value that an i32 holds.
+pub fn narrow(z: i64) -> i32
+    ensures { λ r. ⌜ r ≡ clamp z ⌝ }
+{
+    if z < -2147483648 {
+        return -2147483648;
+    }
+    if 2147483647 < z {
+        return 2147483647;
+    }
+    z as i32
+}
+
+// A number as a u32 holds it; one that it does not hold becomes the greatest, which is outside every limit.
+pub fn hold(z: i64) -> u32
+    ensures { λ r. ⌜ r ≡ held z ⌝ }
+{
+    if z < 0 {
+        return 4294967295;
+    }
+    if 4294967295 < z {
+        return 4294967295;
+    }
+    z as u32
+}
+
+// The place before `k`, or 0.
+pub fn place_before(k: usize) -> usize
+    ensures { λ r. ⌜ r ≡ k - 1 ⌝ }
+{
+    if k == 0 { 0 } else { k - 1 }
 }

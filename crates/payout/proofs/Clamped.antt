@@ -18,7 +18,7 @@ use Rattle.meaning_text.proofs.Reading.{on-flag}
 use Rattle.meaning_entries.specs.declared.Audited.{Audited}
 use Rattle.meaning_entries.specs.Refusal.{firstRefusal, lengthOutside, valueOutside}
 use Rattle.meaning_entries.specs.Audit.{auditTable, auditAnswer}
-use Rattle.text_feed.specs.Keep.{clamp}
+use Rattle.numbers.specs.Narrow.{clamp}
 
 in-clamp : (z : ℤ) → valueIn z ≡ true → clamp z ≡ z
 in-clamp z e =

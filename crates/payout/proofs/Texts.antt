@@ -19,7 +19,8 @@ use Rattle.meaning_entries.specs.Refusal.{firstRefusal, badLine, unreadable, le
 use Rattle.meaning_entries.specs.Audit.{AuditCall, auditTable, audited, auditAnswer}
 use Rattle.meaning_entries.specs.Load.{textIndex}
 use Rattle.meaning_entries.specs.AuditText.{textSeries, auditTextTable, auditTextAnswer}
-use Rattle.text_feed.specs.Keep.{clamp, stored}
+use Rattle.text_feed.specs.Keep.{stored}
+use Rattle.numbers.specs.Narrow.{clamp}
 use Rattle.payout.specs.Counted.{countedAnswer}
 use Rattle.payout.proofs.Clamped.{clamped-answer}
 

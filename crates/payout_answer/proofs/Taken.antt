@@ -12,7 +12,7 @@ use Rattle.meaning_rows.proofs.Laid.{Lays, laid}
 use Rattle.meaning_text.specs.Form.{Value}
 use Rattle.meaning_text.specs.Texts.{indexForm, rowForm, rowSaid, indexSaid}
 use Rattle.meaning_text.proofs.Reading.{on-flag}
-use Rattle.text_feed.specs.Keep.{clamp}
+use Rattle.numbers.specs.Narrow.{clamp}
 use Rattle.text_judge.specs.declared.Runs.{Runs}
 use Rattle.text_judge.specs.declared.Rows.{Rows}
 use Rattle.text_judge.specs.Tally.{noRows, rowFits, rowNext, rowsFrom, headHeld}

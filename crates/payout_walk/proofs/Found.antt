@@ -28,8 +28,9 @@ use Rattle.rows_records.specs.Records.{zeroRow}
 use Rattle.entry_audit.specs.declared.State.{State}
 use Rattle.entry_audit.specs.State.{found, wrongOf, chunked}
 use Rattle.entry_audit.proofs.Chunks.{orElse}
-use Rattle.text_feed.specs.Keep.{clamp}
-use Rattle.text_judge.specs.Tally.{held, noRows, rowsFrom, headHeld}
+use Rattle.numbers.specs.Narrow.{clamp}
+use Rattle.text_judge.specs.Tally.{noRows, rowsFrom, headHeld}
+use Rattle.numbers.specs.Narrow.{held}
 use Rattle.text_judge.proofs.Bad.{held-nat, HeadIs, head-is, text-bad}
 use Rattle.text_judge.proofs.Prefix.{row-placed}
 use Rattle.payout_walk.specs.Walk.{goesOn, oneRun, afterRun, runsWalked, rowsWalked}

@@ -17,7 +17,7 @@ use Rattle.meaning_text.proofs.Automaton.{going, feed, feed-one, feed-none, atE
 use Rattle.meaning_text.proofs.Reading.{on-flag}
 use Rattle.entry_audit.specs.declared.State.{State}
 use Rattle.entry_audit.specs.State.{chunked}
-use Rattle.text_feed.specs.Keep.{clamp}
+use Rattle.numbers.specs.Narrow.{clamp}
 use Rattle.text_index.specs.declared.Place.{Place}
 use Rattle.text_index.specs.declared.Moved.{Moved}
 use Rattle.text_index.specs.declared.State.{State as Reached}
@@ -25,7 +25,7 @@ use Rattle.text_index.specs.Step.{indexStep}
 use Rattle.text_index.specs.Follow.{Said, nothingSaid, told, closed, value}
 use Rattle.text_index.specs.Order.{placePart, Order}
 use Rattle.text_index.specs.View.{Seen, seen, keptAt, endOf, movedTo, keep, Whole, text-viewed, Kept, kept-end, kept-refuse}
-use Rattle.text_judge.specs.Tally.{held}
+use Rattle.numbers.specs.Narrow.{held}
 use Rattle.payout_walk.specs.declared.Walk.{Walk}
 use Rattle.payout_walk.specs.Walk.{goesOn, startWalk, afterRun, tellWalk, shutWalk, runsWalked, rowsWalked, Walked}
 

@@ -16,9 +16,9 @@ use Rattle.meaning_text.specs.Texts.{indexForm, rowForm}
 use Rattle.rows_records.specs.Records.{zeroRow}
 use Rattle.entry_audit.specs.declared.State.{State}
 use Rattle.entry_audit.specs.State.{chunked}
-use Rattle.text_feed.specs.Keep.{clamp}
+use Rattle.numbers.specs.Narrow.{clamp}
 use Rattle.text_index.specs.declared.Place.{Place}
-use Rattle.text_judge.specs.Tally.{held}
+use Rattle.numbers.specs.Narrow.{held}
 use Rattle.payout_walk.specs.declared.Walk.{Walk}
 
 -- every value is in its limits, and so is the window length

@@ -7,13 +7,13 @@ ghost use Rattle.payout_walk.specs.Walk.{Sized, startWalk, afterRun, tel
 use entry_audit::audit_chunk;
 use meaning_rows::Head;
 use meaning_rows::Row;
-use text_feed::narrow;
+use numbers::hold;
+use numbers::narrow;
 use text_index::Moved;
 use text_index::Place;
 use text_index::State;
 use text_index::Word;
 use text_index::index_step;
-use text_judge::hold;
 
 // What is known of a text so far: the range of the row that is open, the left end of the run that is open, how many rows are closed, and what is filed wrongly first.
 pub struct Walk {

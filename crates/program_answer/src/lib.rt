@@ -1,5 +1,7 @@
 // Build, writing and search over row records by value, and the list of matches as text: what the search program prints is put together from these (01, 'Text and program').
 use entry_build::build;
+use entry_search::search;
+use entry_write::write;
 use meaning_curves::MOST_PROGRAM_VALUES;
 use meaning_entries::Built;
 use meaning_entries::Found;
@@ -7,9 +9,7 @@ use meaning_entries::Written;
 use meaning_filter::Ask;
 use meaning_rows::Head;
 use meaning_rows::Row;
-use entry_search::search;
 use text_list::write_found;
-use entry_write::write;
 ghost use mathlib.Core.Path.{_≡_};
 ghost use Prim.Native.Nat.{_≤_};
 ghost use lib.ListN.{take};

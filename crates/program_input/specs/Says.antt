@@ -33,7 +33,8 @@ use Rattle.text_lines.specs.Follow.{Said, Reading, programStart, programValue, 
 use Rattle.text_feed.specs.declared.Values.{Values}
 use Rattle.text_feed.specs.declared.Progress.{Progress}
 use Rattle.text_feed.specs.declared.Feeding.{Feeding}
-use Rattle.text_feed.specs.Keep.{clamp, stored, leading, leading-outside, numbersOf, Kept, Holds}
+use Rattle.text_feed.specs.Keep.{stored, leading, leading-outside, numbersOf, Kept, Holds}
+use Rattle.numbers.specs.Narrow.{clamp}
 use Rattle.text_feed.specs.Feed.{Shows}
 use Rattle.text_feed.specs.Whole.{text-short, program-failed, program-done}
 use Rattle.program_input.specs.declared.Input.{Input}

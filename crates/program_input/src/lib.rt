@@ -1,9 +1,4 @@
 // What the search program knows of its input, read in pieces, and what refuses it at the end: a text that cannot be read, then build and search judged together as one call (01, 'Text and program').
-use refusals::Refusal;
-use refusals::length_in;
-use refusals::query_length_outside;
-use refusals::refuse_if;
-use refusals::unrefused;
 use meaning_curves::GREATEST_MERGE;
 use meaning_curves::GREATEST_SCALE;
 use meaning_curves::GREATEST_SHIFT;
@@ -16,7 +11,12 @@ use meaning_filter::Ask;
 use meaning_filter::Kind;
 use meaning_filter::Limits;
 use numbers::monus;
+use refusals::Refusal;
+use refusals::length_in;
 use refusals::normal_flat;
+use refusals::query_length_outside;
+use refusals::refuse_if;
+use refusals::unrefused;
 use text_feed::Feeding;
 use text_feed::Progress;
 use text_feed::Values;

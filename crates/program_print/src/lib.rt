@@ -1,4 +1,7 @@
 // What the search program prints at the end of its input: a refusal, or the index and then the list (01, 'Text and program').
+use meaning_curves::MOST_PROGRAM_VALUES;
+use meaning_entries::Built;
+use meaning_rows::Row;
 use program_answer::build_table;
 use program_answer::length_of;
 use program_answer::list_matches;
@@ -8,9 +11,6 @@ use program_input::Input;
 use program_input::asked_of;
 use program_input::numbers_of;
 use program_input::refuse;
-use meaning_curves::MOST_PROGRAM_VALUES;
-use meaning_entries::Built;
-use meaning_rows::Row;
 use text_list::write_refused;
 ghost use mathlib.Core.Path.{_≡_};
 ghost use lib.ListN.{length};

@@ -1,8 +1,4 @@
 // The conditions under which a call is refused, a function each, and the first of them that applies (01, 'Refused for the input' and 'Refused for the state').
-use meaning_filter::Kind;
-use values::sums_at;
-use values::spread_of;
-use rows_judge::Judged;
 use meaning_curves::GREATEST_MERGE;
 use meaning_curves::GREATEST_SCALE;
 use meaning_curves::GREATEST_SHIFT;
@@ -12,8 +8,12 @@ use meaning_curves::LONGEST_QUERY;
 use meaning_curves::LONGEST_WINDOW;
 use meaning_curves::MOST_VALUES;
 use meaning_curves::WIDEST_ROW;
+use meaning_filter::Kind;
+use rows_judge::Judged;
 use values::Place;
 use values::first_outside;
+use values::spread_of;
+use values::sums_at;
 ghost use mathlib.Core.Path.{_≡_};
 ghost use mathlib.Core.Bool.{not, _||_};
 ghost use mathlib.Core.List.{[]};

@@ -1,4 +1,5 @@
 // Judging a lent index: whether it is well formed, and else the first bad row (01, Rows). The head is judged first. Any content may be lent, and no sum wraps.
+use numbers::lesser;
 use numbers::magnitude;
 ghost use mathlib.Core.Path.{_≡_};
 ghost use mathlib.Core.Bool.{_&&_};
@@ -44,12 +45,6 @@ pub struct Lengths {
 pub enum Judged {
     Fine { total: usize },
     Bad { row: usize },
-}
-
-pub fn lesser(a: usize, b: usize) -> usize
-    ensures { λ n. ⌜ n ≡ min a b ⌝ }
-{
-    if a < b { a } else { b }
 }
 
 pub fn is_multiple(d: u32, z: i32) -> bool
@@ -209,7 +204,7 @@ pub fn after_row(windows: u32, s: State, r: Row, t: Lengths) -> State
 pub fn judge_row(head: Head, s: State, r: Row, left: &[u32], right: &[u32]) -> State
     ensures { λ n. ⌜ n ≡ next (lent head [] (now (left .entry)) (now (right .entry))) s r ⌝ }
 {
-    let size = lesser(left.len(), right.len());
+    let size = lesser(left.len() as u64, right.len() as u64) as usize;
     if !row_fits(head, s, r, size) {
         return State {
             good: false,

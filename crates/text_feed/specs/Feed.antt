@@ -17,7 +17,8 @@ use Rattle.text_lines.specs.Follow.{Said, nothingSaid, told, named, Reading, at
 use Rattle.text_feed.specs.declared.Values.{Values}
 use Rattle.text_feed.specs.declared.Progress.{Progress}
 use Rattle.text_feed.specs.declared.Feeding.{Feeding}
-use Rattle.text_feed.specs.Keep.{clamp, valuesMore, placeOf, ofSeries, ofQuery, wordPlace, wordNumber, Holds, holds-told, holds-named}
+use Rattle.text_feed.specs.Keep.{valuesMore, placeOf, ofSeries, ofQuery, wordPlace, wordNumber, Holds, holds-told, holds-named}
+use Rattle.numbers.specs.Narrow.{clamp}
 
 -- n bytes more fit
 pub record Ready (p : Progress) (n : ℕ) : Type 0 where

@@ -6,10 +6,10 @@ use mathlib.Core.Option.{none, some}
 use Prim.Native.Nat.{ℕ, suc, _+_}
 use native.Mathlib.Omega.{arith}
 use lib.Dec.{eqb, ltb}
-use lib.IntN.{ℤ, pos, negsuc}
+use lib.IntN.{ℤ, pos}
 use lib.ListN.{length, set, length-append, length-map}
 use lib.Seq.{sets}
-use lib.Signed.{ltZ, leZ, _<ℤ_, _≤ℤ_, clashℤ}
+use lib.Signed.{leZ, _<ℤ_, _≤ℤ_, clashℤ}
 use borrow.Author.Tests.{eq-eqb, ne-eqb, eqb-true, eqb-false, ltb-true, ltb-false, lt-ltb, le-ltb}
 use Rattle.meaning_curves.specs.Limits.{valueIn, firstOutside}
 use Rattle.meaning_numbers.specs.Place.{placeFrom}
@@ -21,10 +21,7 @@ use Rattle.text_lines.specs.declared.Word.{Word}
 use Rattle.text_lines.specs.declared.Place.{Place}
 use Rattle.text_lines.specs.Follow.{Said, told, named}
 use Rattle.text_feed.specs.declared.Values.{Values}
-
--- the nearest number that an i32 holds
-abbrev pub clamp : ℤ → ℤ
-clamp z = cond (ltZ z (negsuc 2147483647)) (negsuc 2147483647) (cond (ltZ (pos 2147483647) z) (pos 2147483647) z)
+use Rattle.numbers.specs.Narrow.{clamp}
 
 -- the values in a buffer, from its first place on, as far as it has room
 unfoldable pub stored : List ℤ → List ℤ → List ℤ

@@ -1,6 +1,7 @@
 // The series line and the program's lines from a text that comes in pieces of any size: values are kept as far as there is room, clamped to 32 bits, and the rest is counted.
 use meaning_curves::GREATEST_VALUE;
 use meaning_curves::LEAST_VALUE;
+use numbers::narrow;
 use text_lines::Moved;
 use text_lines::Place;
 use text_lines::State;
@@ -14,7 +15,8 @@ ghost use lib.IntN.{ℤ};
 ghost use lib.ListN.{length, set};
 ghost use Rattle.meaning_curves.specs.Limits.{valueIn};
 ghost use Rattle.text_lines.specs.Follow.{Said};
-ghost use Rattle.text_feed.specs.Keep.{clamp, valuesMore, ofSeries, ofQuery, placeOf, wordPlace, wordNumber};
+ghost use Rattle.text_feed.specs.Keep.{valuesMore, ofSeries, ofQuery, placeOf, wordPlace, wordNumber};
+ghost use Rattle.numbers.specs.Narrow.{clamp};
 ghost use Rattle.text_feed.specs.Feed.{Ready, GoodFeeding, Comes};
 
 // The limits of a value as a number of a text.
@@ -40,19 +42,6 @@ pub struct Progress {
 pub enum Feeding {
     Going(Progress),
     Failed(usize),
-}
-
-// The nearest value that an i32 holds.
-pub fn narrow(z: i64) -> i32
-    ensures { λ r. ⌜ r ≡ clamp z ⌝ }
-{
-    if z < -2147483648 {
-        return -2147483648;
-    }
-    if 2147483647 < z {
-        return 2147483647;
-    }
-    z as i32
 }
 
 // The value at its place, where the buffer has it.

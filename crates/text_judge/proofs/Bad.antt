@@ -25,11 +25,12 @@ use Rattle.meaning_text.specs.Texts.{indexForm, rowForm, rowSaid, indexSaid}
 use Rattle.meaning_text.proofs.Reading.{on-flag}
 use Rattle.rows_judge.specs.Judged.{badRow}
 use Rattle.rows_judge.proofs.Scan.{both, runGood, good-run}
-use Rattle.text_feed.specs.Keep.{clamp}
+use Rattle.numbers.specs.Narrow.{clamp}
 use Rattle.text_judge.specs.declared.Runs.{Runs}
 use Rattle.text_judge.specs.declared.Rows.{Rows}
 use Rattle.text_judge.specs.Judged.{judgedRows}
-use Rattle.text_judge.specs.Tally.{held, noRuns, runNext, runsFrom, noRows, rowFits, rowNext, rowsFrom, headHeld}
+use Rattle.text_judge.specs.Tally.{noRuns, runNext, runsFrom, noRows, rowFits, rowNext, rowsFrom, headHeld}
+use Rattle.numbers.specs.Narrow.{held}
 
 -- two tests that pass in the same cases
 same-flag : (a b : Bool) → (a ≡ true → b ≡ true) → (b ≡ true → a ≡ true) → a ≡ b

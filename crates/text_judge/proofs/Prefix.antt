@@ -16,10 +16,11 @@ use Rattle.meaning_text.specs.Form.{Value}
 use Rattle.meaning_text.specs.Texts.{indexForm, rowForm, rowSaid, indexSaid}
 use Rattle.meaning_text.proofs.Reading.{on-flag}
 use Rattle.rows_judge.proofs.Scan.{both, runGood, good-run}
-use Rattle.text_feed.specs.Keep.{clamp}
+use Rattle.numbers.specs.Narrow.{clamp}
 use Rattle.text_judge.specs.declared.Runs.{Runs}
 use Rattle.text_judge.specs.declared.Rows.{Rows}
-use Rattle.text_judge.specs.Tally.{held, noRuns, runNext, runsFrom, noRows, rowFits, rowNext, rowsFrom, headHeld}
+use Rattle.text_judge.specs.Tally.{noRuns, runNext, runsFrom, noRows, rowFits, rowNext, rowsFrom, headHeld}
+use Rattle.numbers.specs.Narrow.{held}
 use Rattle.text_judge.proofs.Bad.{held-nat, entryGood, good-entry, three, runs-bad, runs-count, runs-are, clamp-end, range-ends, rows-stop, NextIs, next-is, next-off, counted, HeadIs, head-is, width-is, windows-is}
 
 pub map-append : {A B : Type 0} (f : A → B) (a b : List A) → map f (a ++ b) ≡ map f a ++ map f b

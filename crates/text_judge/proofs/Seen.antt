@@ -15,7 +15,7 @@ use Rattle.meaning_text.specs.Texts.{indexForm, rowForm}
 use Rattle.meaning_text.proofs.Automaton.{verdictOf}
 use Rattle.meaning_text.proofs.Reading.{on-flag}
 use Rattle.rows_judge.proofs.Scan.{both, runGood, good-run}
-use Rattle.text_feed.specs.Keep.{clamp}
+use Rattle.numbers.specs.Narrow.{clamp}
 use Rattle.text_index.specs.declared.Place.{Place}
 use Rattle.text_index.specs.Follow.{Said, told, closed, value}
 use Rattle.text_index.specs.Order.{placePart, Order}
@@ -24,7 +24,8 @@ use Rattle.text_judge.specs.declared.Runs.{Runs}
 use Rattle.text_judge.specs.declared.Rows.{Rows}
 use Rattle.text_judge.specs.declared.Tally.{Tally}
 use Rattle.text_judge.specs.declared.Scanned.{Scanned}
-use Rattle.text_judge.specs.Tally.{held, noRuns, runNext, runsFrom, Sound, noRows, rowNext, rowsFrom, startTally, tellTally, shutTally, Fits, headHeld, scannedText, scanned, keptScanned}
+use Rattle.text_judge.specs.Tally.{noRuns, runNext, runsFrom, Sound, noRows, rowNext, rowsFrom, startTally, tellTally, shutTally, Fits, headHeld, scannedText, scanned, keptScanned}
+use Rattle.numbers.specs.Narrow.{held}
 
 -- ---- one more at the end
 

@@ -3,8 +3,7 @@ use mathlib.Core.Bool.{Bool, true, false, cond, _&&_}
 use mathlib.Core.List.{List, [], _∷_}
 use Prim.Native.Nat.{ℕ, _+_, _-_, _≤_}
 use lib.Dec.{leb}
-use lib.IntN.{ℤ, pos, natAbs}
-use lib.Signed.{ltZ}
+use lib.IntN.{ℤ, pos}
 use Rattle.meaning_curves.specs.Limits.{lowestEnd}
 use Rattle.meaning_rows.specs.declared.Head.{Head}
 use Rattle.meaning_rows.specs.Index.{Entry, lent}
@@ -13,17 +12,13 @@ use Rattle.meaning_text.specs.Form.{Value}
 use Rattle.meaning_text.specs.Read.{Verdict, fine, unfit}
 use Rattle.meaning_text.specs.Texts.{indexForm, rowForm}
 use Rattle.rows_judge.proofs.Scan.{runGood}
-use Rattle.text_feed.specs.Keep.{clamp}
+use Rattle.numbers.specs.Narrow.{clamp, held}
 use Rattle.text_index.specs.declared.Place.{Place}
 use Rattle.text_judge.specs.declared.Runs.{Runs}
 use Rattle.text_judge.specs.declared.Open.{Open}
 use Rattle.text_judge.specs.declared.Rows.{Rows}
 use Rattle.text_judge.specs.declared.Tally.{Tally}
 use Rattle.text_judge.specs.declared.Scanned.{Scanned}
-
--- a number as a u32 holds it; one that it does not hold becomes the greatest
-unfoldable pub held : ℤ → ℕ
-held z = cond (ltZ z (pos 0)) 4294967295 (cond (ltZ (pos 4294967295) z) 4294967295 (natAbs z))
 
 -- ---- runs
 

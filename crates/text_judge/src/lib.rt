@@ -1,4 +1,5 @@
 // Judging an index text in one pass over its bytes, whatever its length: whether it can be read, how many rows and runs it has, and the first bad row of its index (01, Rows). Nothing is kept of a row that is closed but where it ended.
+use numbers::hold;
 ghost use mathlib.Core.Path.{_≡_};
 ghost use Prim.Native.Nat.{_+_, _<_, _≤_, _^_};
 ghost use Rattle.meaning_text.specs.Read.{readText};
@@ -7,24 +8,24 @@ ghost use Rattle.meaning_text.proofs.Automaton.{atEnd};
 ghost use Rattle.text_index.specs.declared.Place.{Place};
 ghost use Rattle.text_index.specs.View.{keptAt};
 ghost use Rattle.text_event.specs.Event.{RunsFrom};
-ghost use Rattle.text_judge.specs.Tally.{held, noRuns, runNext, Sound, noRows, rowNext, withHead, withOpen, tellTally, shutTally, toldRun, Fits, startTally, scanned, keptScanned};
+ghost use Rattle.text_judge.specs.Tally.{noRuns, runNext, Sound, noRows, rowNext, withHead, withOpen, tellTally, shutTally, toldRun, Fits, startTally, scanned, keptScanned};
 ghost use Rattle.text_judge.specs.Judged.{judgedRows};
 ghost use lib.ListN.{length};
+use meaning_curves::LOWEST_END;
+use meaning_rows::Head;
+use meaning_rows::Row;
+use numbers::narrow;
 use rows_judge::Judged;
 use rows_judge::head_good;
 use rows_judge::range_good;
 use rows_judge::run_good;
 use rows_judge::total_good;
-use meaning_curves::LOWEST_END;
-use meaning_rows::Head;
-use meaning_rows::Row;
 use text_event::Event;
 use text_event::next_event;
 use text_event::plain_run;
 use text_event::run_left;
 use text_event::run_length;
 use text_event::run_right;
-use text_feed::narrow;
 use text_index::Place;
 use text_index::State;
 use text_index::Turn;
@@ -72,19 +73,6 @@ pub struct Told {
 pub enum Scanned {
     Bad(usize),
     Fine(Head, Rows),
-}
-
-// A number as a u32 holds it; one that it does not hold becomes the greatest, which is outside every limit.
-pub fn hold(z: i64) -> u32
-    ensures { λ r. ⌜ r ≡ held z ⌝ }
-{
-    if z < 0 {
-        return 4294967295;
-    }
-    if 4294967295 < z {
-        return 4294967295;
-    }
-    z as u32
 }
 
 pub fn no_runs() -> Runs

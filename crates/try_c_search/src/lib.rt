@@ -2,13 +2,13 @@
 ghost use mathlib.Core.Path.{_≡_};
 ghost use Rattle.meaning_entries.specs.Search.{lentSearch};
 ghost use Rattle.try_c_search.specs.Told.{kindOf, limitsOf, askOf, numbersOf, toldFound, SearchTold};
+use entry_search::search;
 use meaning_entries::Found;
 use meaning_filter::Ask;
 use meaning_filter::Kind;
 use meaning_filter::Limits;
 use meaning_rows::Head;
 use meaning_rows::Row;
-use entry_search::search;
 
 // What a search is asked for beside its query: the kind, 0 for raw and any other number for normalised; band, threshold, scale limit in tenths, shift limit.
 #[repr(C)]

@@ -1,13 +1,13 @@
 // The writing and reading of index texts for C: for the comparison under tests/ and the measurements under bench/, and for nothing else. Each takes what the entry takes, calls it, and tells its answer as a struct of numbers.
-use try_c_index::Answer;
-use try_c_index::index_told;
-use try_c_index::numbers;
+use entry_read::read;
+use entry_write::write;
 use meaning_entries::Loaded;
 use meaning_entries::Written;
 use meaning_rows::Head;
 use meaning_rows::Row;
-use entry_read::read;
-use entry_write::write;
+use try_c_index::Answer;
+use try_c_index::index_told;
+use try_c_index::numbers;
 ghost use mathlib.Core.Path.{_≡_};
 ghost use Rattle.meaning_rows.specs.Index.{lent};
 ghost use Rattle.try_c_text.specs.Told.{toldLoaded, LoadTold, toldWritten, WriteTold};

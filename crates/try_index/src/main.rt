@@ -1,13 +1,13 @@
 // Runs the vectors of its standard input (tests/model/index_vectors.rs writes them: the paper's cases, and answers of the model) through the entries over lent records, and says of each group how many agree.
-use try_table::audit_table;
-use try_table::build_table;
-use try_table::extend_table;
-use rows_judge::lesser;
 use meaning_entries::Audited;
 use meaning_entries::Built;
 use meaning_entries::Extended;
 use meaning_rows::Head;
 use meaning_rows::Row;
+use numbers::lesser;
+use try_table::audit_table;
+use try_table::build_table;
+use try_table::extend_table;
 use try_vectors::get_head;
 use try_vectors::get_length;
 use try_vectors::get_natural;
@@ -110,7 +110,7 @@ fn same_row(r: Row, want: Row) -> bool {
 fn agree_rows(rows: [Row; 64], nums: &[u64], at: usize, count: usize) -> bool {
     let mut k: usize = 0;
     while k < 64 {
-        let want = get_row(nums, row_place(at, lesser(k, count)));
+        let want = get_row(nums, row_place(at, lesser(k as u64, count as u64) as usize));
         let r = rows[k];
         if !same_row(r, want) {
             return false;

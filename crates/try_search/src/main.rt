@@ -1,11 +1,11 @@
 // Runs the vectors of its standard input (tests/model/search_vectors.rs writes them: the paper's cases, then answers of the model) through the entry that searches, and says of each group how many agree.
-use program_answer::search_table;
 use meaning_curves::MOST_PROGRAM_VALUES;
 use meaning_entries::Found;
 use meaning_filter::Ask;
 use meaning_filter::Kind;
 use meaning_filter::Limits;
 use meaning_rows::Row;
+use program_answer::search_table;
 use try_vectors::get_head;
 use try_vectors::get_length;
 use try_vectors::get_natural;

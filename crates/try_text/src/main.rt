@@ -1,12 +1,12 @@
 // Reads the index texts of its standard input, parted by '#', and every truncation of each; writes what each comes to, then the index of the whole text as it is written back, and what comes of too little room. tests/model/tried.rs has what it must write.
-use program_answer::write_table;
+use entry_read::answer;
+use entry_read::load_runs;
 use meaning_curves::MOST_PROGRAM_VALUES;
 use meaning_entries::Loaded;
 use meaning_entries::Written;
 use meaning_rows::Head;
 use meaning_rows::Row;
-use entry_read::answer;
-use entry_read::load_runs;
+use program_answer::write_table;
 use text_rows::line_row;
 use text_rows::next_line;
 use text_rows::no_line;

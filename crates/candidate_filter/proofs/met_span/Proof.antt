@@ -8,7 +8,7 @@
 -- | b, b-found = find_row: asked
 -- | none, none-is = zero_row
 -- | first, first-is = row_or
--- | k, k-is = before
+-- | k, k-is = place_before
 -- | end, end-is = row_or
 -- | edge, edge-is = row_or
 -- | t, told = span_of
@@ -43,10 +43,10 @@ use Rattle.rows_records.proofs.row_or as row-or
 use Rattle.rows_records.proofs.row_or.Symbol as row-or-def
 use Rattle.rows_records.proofs.row_or.Symbol.{name as #row-or}
 use Rattle.rows_records.proofs.row_or.Met as row-or-thm
-use Rattle.candidate_filter.proofs.before as before
-use Rattle.candidate_filter.proofs.before.Symbol as before-def
-use Rattle.candidate_filter.proofs.before.Symbol.{name as #before}
-use Rattle.candidate_filter.proofs.before.Met as before-thm
+use Rattle.numbers.proofs.before as before
+use Rattle.numbers.proofs.before.Symbol as before-def
+use Rattle.numbers.proofs.before.Symbol.{name as #before}
+use Rattle.numbers.proofs.before.Met as before-thm
 use Rattle.candidate_filter.proofs.span_of as span-of
 use Rattle.candidate_filter.proofs.span_of.Symbol as span-of-def
 use Rattle.candidate_filter.proofs.span_of.Symbol.{name as #span-of}
@@ -158,5 +158,5 @@ met-span-spec 𝓤 H 𝓜 𝓖 𝓡 =
     (cited 𝓤 H (tripleOf 𝓤 H (𝓖 .A) find-row.signature (find-row.spec 𝓤 H (𝓖 .A) (𝓜 .mem) (𝓡 .run))) 𝓜 𝓡 code.env #find-row find-row-def.routine code.calls-rows-find·find-row (find-row-thm.met 𝓤 H 𝓜 𝓖 𝓡))
     (cited 𝓤 H (tripleOf 𝓤 H (𝓖 .A) zero-row.signature (zero-row.spec 𝓤 H (𝓖 .A) (𝓜 .mem) (𝓡 .run))) 𝓜 𝓡 code.env #zero-row zero-row-def.routine code.calls-candidate-filter·zero-row (zero-row-thm.met 𝓤 H 𝓜 𝓖 𝓡))
     (cited 𝓤 H (tripleOf 𝓤 H (𝓖 .A) row-or.signature (row-or.spec 𝓤 H (𝓖 .A) (𝓜 .mem) (𝓡 .run))) 𝓜 𝓡 code.env #row-or row-or-def.routine code.calls-rows-records·row-or (row-or-thm.met 𝓤 H 𝓜 𝓖 𝓡))
-    (cited 𝓤 H (tripleOf 𝓤 H (𝓖 .A) before.signature (before.spec 𝓤 H (𝓖 .A) (𝓜 .mem) (𝓡 .run))) 𝓜 𝓡 code.env #before before-def.routine code.calls-candidate-filter·before (before-thm.met 𝓤 H 𝓜 𝓖 𝓡))
+    (cited 𝓤 H (tripleOf 𝓤 H (𝓖 .A) before.signature (before.spec 𝓤 H (𝓖 .A) (𝓜 .mem) (𝓡 .run))) 𝓜 𝓡 code.env #before before-def.routine code.calls-numbers·before (before-thm.met 𝓤 H 𝓜 𝓖 𝓡))
     (cited 𝓤 H (tripleOf 𝓤 H (𝓖 .A) span-of.signature (span-of.spec 𝓤 H (𝓖 .A) (𝓜 .mem) (𝓡 .run))) 𝓜 𝓡 code.env #span-of span-of-def.routine code.calls-candidate-filter·span-of (span-of-thm.met 𝓤 H 𝓜 𝓖 𝓡)))

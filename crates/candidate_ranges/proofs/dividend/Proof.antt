@@ -7,7 +7,9 @@ use mir.Syntax.{w64}
 use mir.Val.{toZ, ofZ}
 use mir.ValLaws.{toZ-ofZ}
 use Rattle.distance_envelope.specs.Best.{pick}
-use Rattle.numbers.specs.Small.{Small, small-more, small-pick, small-back, arg-back}
+use Rattle.numbers.specs.Small.{Small}
+use Rattle.numbers.proofs.Small.{small-more, small-back, arg-back}
+use Rattle.candidate_ranges.proofs.Sizes.{small-pick}
 use Rattle.candidate_ranges.proofs.Sizes.{scaled-small}
 use Rattle.candidate_ranges.proofs.dividend.Statement.{statement}
 use Rattle.candidate_ranges.proofs.dividend.Tie as tie

@@ -5,7 +5,7 @@ use mathlib.Core.Bool.{false}
 use lib.IntN.{_+ℤ_}
 use mir.Syntax.{w64}
 use mir.ValLaws.{toZ-ofZ}
-use Rattle.numbers.specs.Small.{small-add}
+use Rattle.numbers.proofs.Small.{small-add}
 use Rattle.candidate_ranges.specs.Frame.{highEnd}
 use Rattle.candidate_ranges.proofs.Sizes.{operands, asks-dividend, dividend-back}
 use Rattle.candidate_ranges.proofs.high_end.Statement.{statement}

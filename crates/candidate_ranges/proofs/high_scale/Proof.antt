@@ -2,7 +2,7 @@
 use borrow.Author.Needs.{needs}
 use native.Mathlib.Omega.{arith}
 use Prim.Native.Nat.{_+_, _≤_}
-use Rattle.numbers.specs.Small.{small-pos, small-fits, cast-back}
+use Rattle.numbers.proofs.Small.{small-pos, small-fits, cast-back}
 use Rattle.candidate_ranges.proofs.Sizes.{square-le, scaled-le, high-scale-le}
 use Rattle.candidate_ranges.proofs.high_scale.Statement.{statement}
 use Rattle.candidate_ranges.proofs.high_scale.Tie as tie

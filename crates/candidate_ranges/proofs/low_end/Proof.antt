@@ -5,7 +5,7 @@ use native.Mathlib.Omega.{arith}
 use lib.IntN.{_-ℤ_}
 use mir.Syntax.{w64}
 use mir.ValLaws.{toZ-ofZ}
-use Rattle.numbers.specs.Small.{small-more, arg-back, small-sub}
+use Rattle.numbers.proofs.Small.{small-more, arg-back, small-sub}
 use Rattle.candidate_ranges.specs.Frame.{lowEnd}
 use Rattle.candidate_ranges.proofs.Sizes.{operands, asks-dividend, dividend-small, dividend-back}
 use Rattle.candidate_ranges.proofs.low_end.Statement.{statement}

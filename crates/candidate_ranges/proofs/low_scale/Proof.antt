@@ -3,7 +3,7 @@ use borrow.Author.Needs.{needs}
 use native.Mathlib.Omega.{arith}
 use native.Mathlib.Nat.{mul-pos}
 use Prim.Native.Nat.{_≤_}
-use Rattle.numbers.specs.Small.{small-pos, small-fits, cast-back}
+use Rattle.numbers.proofs.Small.{small-pos, small-fits, cast-back}
 use Rattle.candidate_ranges.proofs.Sizes.{square-le, low-scale-le}
 use Rattle.candidate_ranges.proofs.low_scale.Statement.{statement}
 use Rattle.candidate_ranges.proofs.low_scale.Tie as tie

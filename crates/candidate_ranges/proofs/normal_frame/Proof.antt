@@ -7,7 +7,8 @@ use lib.IntN.{ℤ, pos, _+ℤ_, _-ℤ_, _*ℤ_}
 use mir.Syntax.{w64}
 use mir.Val.{toZ, ofZ}
 use mir.ValLaws.{toZ-ofZ}
-use Rattle.numbers.specs.Small.{Small, small-pos, small-more, small-fits, small-back, arg-back, cast-back, cast-small}
+use Rattle.numbers.specs.Small.{Small}
+use Rattle.numbers.proofs.Small.{small-pos, small-more, small-fits, small-back, arg-back, cast-back, cast-small}
 use Rattle.candidate_ranges.proofs.Sizes.{product-le, reach-le, most-le, total-small, below-small, above-small}
 use Rattle.candidate_ranges.proofs.normal_frame.Statement.{statement}
 use Rattle.candidate_ranges.proofs.normal_frame.Tie as tie

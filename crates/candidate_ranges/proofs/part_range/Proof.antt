@@ -11,7 +11,8 @@ use mir.ValLaws.{toZ-ofZ}
 use Rattle.meaning_curves.specs.Curve.{windowSum}
 use Rattle.meaning_curves.proofs.Values.{AllIn}
 use Rattle.values.specs.Window.{window-small}
-use Rattle.numbers.specs.Small.{Small, one-side, small-more, small-fits, small-back}
+use Rattle.numbers.specs.Small.{Small}
+use Rattle.numbers.proofs.Small.{one-side, small-more, small-fits, small-back}
 use Rattle.candidate_ranges.proofs.part_range.Statement.{statement}
 use Rattle.candidate_ranges.proofs.part_range.Tie as tie
 

@@ -2,7 +2,7 @@
 use borrow.Author.Needs.{needs}
 use native.Mathlib.Omega.{arith}
 use Prim.Native.Nat.{_≤_}
-use Rattle.numbers.specs.Small.{small-pos, small-fits, cast-back}
+use Rattle.numbers.proofs.Small.{small-pos, small-fits, cast-back}
 use Rattle.candidate_ranges.proofs.Sizes.{product-le, reach-le}
 use Rattle.candidate_ranges.proofs.raw_frame.Statement.{statement}
 use Rattle.candidate_ranges.proofs.raw_frame.Tie as tie

@@ -8,7 +8,8 @@ use lib.ListN.{getD}
 use mir.Syntax.{w32}
 use mir.Val.{toZ, ofZ}
 use mir.ValLaws.{toZ-ofZ}
-use Rattle.numbers.specs.Small.{Small, small-pos, small-sub, small-more, small-fits, small-back}
+use Rattle.numbers.specs.Small.{Small}
+use Rattle.numbers.proofs.Small.{small-pos, small-sub, small-more, small-fits, small-back}
 use Rattle.candidate_spans.proofs.range_at.Statement.{statement}
 use Rattle.candidate_spans.proofs.range_at.Tie as tie
 

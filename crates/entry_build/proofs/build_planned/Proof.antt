@@ -9,7 +9,7 @@
 -- | let HERE = (now series) w d g (buffers (now rows) (now left) (now right)) p (asked .0) (asked .1)
 -- | m, wide = widened
 -- | n, made = build_rows: rw wide (plan-lays $HERE)
--- | k, before = place_before: some-rows $HERE (many $HERE wide made)
+-- | k, before = place_before
 -- | r, last-is = row_at: rw before (last-in $HERE (many $HERE wide made) (held $HERE wide made))
 -- | t, answered = answer: plan-sizes $HERE
 -- | ends: rw answered (built-kept $HERE (many $HERE wide made) (held $HERE wide made) (last-is ∙ ap (λ (x : ℕ). getD last.rows x zeroRow) before))

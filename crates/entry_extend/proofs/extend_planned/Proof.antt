@@ -10,7 +10,7 @@
 -- | let MADE = (made-so $HERE lifted made)
 -- | u, lifted = lift_of: lift-asked $HERE asked
 -- | n, made = extend_passes: passes-asked $HERE asked lifted
--- | k, before = last_place
+-- | k, before = place_before
 -- | r, last-is = row_at: rw before (last-in $HERE asked ($MADE .0) ($MADE .1))
 -- | t, answered = answer: sizes $HERE asked
 -- | ends: rw answered (extended-kept $HERE asked ($MADE .0) ($MADE .1) (last-is ∙ ap (λ (x : ℕ). getD last.rows x zeroRow) before))

@@ -7,7 +7,8 @@ use mir.Syntax.{w64}
 use mir.Val.{toZ, ofZ}
 use mir.ValLaws.{toZ-ofZ}
 use Rattle.meaning_numbers.specs.Quotient.{floorℤ, ceilℤ}
-use Rattle.numbers.specs.Small.{Small, small-neg, small-floor, small-fits, small-back, zero-less}
+use Rattle.numbers.specs.Small.{Small}
+use Rattle.numbers.proofs.Small.{small-neg, small-floor, small-fits, small-back, zero-less}
 use Rattle.numbers.proofs.ceil_quotient.Statement.{statement}
 use Rattle.numbers.proofs.ceil_quotient.Tie as tie
 

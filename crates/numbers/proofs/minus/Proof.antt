@@ -2,7 +2,7 @@
 use native.Mathlib.Omega.{arith}
 use mir.Syntax.{w64}
 use mir.ValLaws.{toZ-ofZ}
-use Rattle.numbers.specs.Small.{small-sub, small-fits, small-back}
+use Rattle.numbers.proofs.Small.{small-sub, small-fits, small-back}
 use Rattle.numbers.proofs.minus.Statement.{statement}
 use Rattle.numbers.proofs.minus.Tie as tie
 

@@ -1,6 +1,6 @@
 -- `refusals::is_flat` meets its contract (`flat-is`). Assumes nothing.
 use borrow.Author.Needs.{needs}
-use Rattle.candidate_plan.specs.Cases.{flat-is}
+use Rattle.refusals.proofs.Flat.{flat-is}
 use Rattle.refusals.proofs.is_flat.Statement.{statement}
 use Rattle.refusals.proofs.is_flat.Tie as tie
 

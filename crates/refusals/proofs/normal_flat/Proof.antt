@@ -1,6 +1,6 @@
 -- `refusals::normal_flat` meets its contract, by the kind. Assumes nothing.
 use borrow.Author.Needs.{needs}
-use Rattle.candidate_plan.specs.Cases.{raw-flat, normal-is-flat}
+use Rattle.refusals.proofs.Flat.{raw-flat, normal-is-flat}
 use Rattle.refusals.proofs.normal_flat.Statement.{statement}
 use Rattle.refusals.proofs.normal_flat.Tie as tie
 

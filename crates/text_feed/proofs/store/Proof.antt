@@ -5,7 +5,7 @@ use mir.Val.{toZ, ofZ}
 use mir.ValLaws.{toZ-ofZ}
 use lib.ListN.{set}
 use lib.Seq.{set-out}
-use Rattle.text_feed.specs.Keep.{clamp}
+use Rattle.numbers.specs.Narrow.{clamp}
 use borrow.Author.Needs.{needs}
 use Rattle.text_feed.proofs.store.Statement.{statement}
 use Rattle.text_feed.proofs.store.Tie as tie

@@ -1,12 +1,12 @@
--- `text_judge::hold` meets its contract. By the two tests. Assumes nothing.
+-- `numbers::hold` meets its contract. By the two tests. Assumes nothing.
 use lib.IntN.{pos}
 use lib.Signed.{_≤ℤ_, _<ℤ_}
 use mir.Syntax.{w64}
 use mir.ValLaws.{toZ-ofZ}
 use Rattle.meaning_numbers.proofs.Machine.{zmach, lt-ltZ, le-ltZ, z-abs}
-use Rattle.text_judge.specs.Tally.{held}
-use Rattle.text_judge.proofs.hold.Statement.{statement}
-use Rattle.text_judge.proofs.hold.Tie as tie
+use Rattle.numbers.specs.Narrow.{held}
+use Rattle.numbers.proofs.hold.Statement.{statement}
+use Rattle.numbers.proofs.hold.Tie as tie
 
 returns : tie.Need-returns
 unfolding held

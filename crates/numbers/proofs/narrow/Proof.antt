@@ -1,12 +1,12 @@
--- `text_feed::narrow` meets its contract. By the two tests. Assumes nothing.
+-- `numbers::narrow` meets its contract. By the two tests. Assumes nothing.
 use lib.IntN.{pos, negsuc}
 use lib.Signed.{_≤ℤ_, _<ℤ_}
 use mir.Syntax.{w32, w64}
 use mir.Val.{toZ, ofZ, SFits}
 use mir.ValLaws.{toZ-ofZ}
 use Rattle.meaning_numbers.proofs.Machine.{zmach, lt-ltZ, le-ltZ, to-sfits32}
-use Rattle.text_feed.proofs.narrow.Statement.{statement}
-use Rattle.text_feed.proofs.narrow.Tie as tie
+use Rattle.numbers.proofs.narrow.Statement.{statement}
+use Rattle.numbers.proofs.narrow.Tie as tie
 
 returns : tie.Need-returns
 returns c = let z = c .before .args .z in let h : z <ℤ negsuc 2147483647 = omega zmach in rw (lt-ltZ h)

@@ -1,0 +1,2 @@
+-- Laws of numbers.
+pub mod Small
