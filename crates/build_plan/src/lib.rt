@@ -7,7 +7,7 @@ use refusals::refuse_room;
 use refusals::refuse_series;
 use refusals::width_outside;
 use refusals::window_outside;
-use rows_judge::lesser;
+use numbers::shorter;
 use rows_pack::raised_rows;
 ghost use mathlib.Core.Path.{_≡_};
 ghost use Rattle.meaning_entries.specs.Build.{lentBuild, buildLines};
@@ -47,7 +47,7 @@ pub fn make_plan(
 ) -> Plan
     ensures { λ p. ⌜ Planned (now (series .entry)) w d g rows left right p ⌝ }
 {
-    let refusal = refuse_build(series, w, d, g, rows, lesser(left, right));
+    let refusal = refuse_build(series, w, d, g, rows, shorter(left, right));
     if refusal.number != 0 {
         return Plan {
             refusal,

@@ -1,5 +1,5 @@
 // The scratch count of a search: a place for each offset, which holds how many leading parts of the query the offset has met; and the candidates handed out of it as joined runs.
-use rows_judge::lesser;
+use numbers::shorter;
 ghost use mathlib.Core.Path.{_≡_};
 ghost use mathlib.Core.Bool.{true, not, _&&_};
 ghost use mathlib.Core.List.{[], _++_};
@@ -42,7 +42,7 @@ pub fn clip(x: usize, shift: usize, offsets: usize) -> usize
     if x < shift {
         return 0;
     }
-    lesser(x - shift, offsets)
+    shorter(x - shift, offsets)
 }
 
 // The offsets whose windows, `shift` further on, stand in the runs from `from` up to and not with `to` are raised.

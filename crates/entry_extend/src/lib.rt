@@ -8,7 +8,7 @@ use numbers::RAISE;
 use numbers::place_before;
 use refusals::Refusal;
 use rows_judge::judge;
-use rows_judge::lesser;
+use numbers::shorter;
 use rows_pack::raised_rows;
 use rows_records::row_at;
 ghost use mathlib.Core.Path.{_≡_};
@@ -127,7 +127,7 @@ pub fn extend(
     ensures { λ a. ⌜ ExtendKept (lentExtend (now (series .entry)) head (now (from .entry)) (now (lefts .entry)) (now (rights .entry))) (buffers (now (rows .entry)) (now (left .entry)) (now (right .entry))) a (buffers (now (rows .exit)) (now (left .exit)) (now (right .exit))) ⌝ }
 {
     let j = judge(head, from, lefts, rights);
-    let runs = lesser(left.len(), right.len());
+    let runs = shorter(left.len(), right.len());
     let p = make_plan(series, head, j, rows.len(), runs);
     if p.number != 0 {
         return refuse(p);

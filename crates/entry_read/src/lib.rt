@@ -3,7 +3,7 @@ use meaning_entries::Loaded;
 use meaning_rows::Head;
 use meaning_rows::Row;
 use numbers::hold;
-use numbers::lesser;
+use numbers::shorter;
 use refusals::Refusal;
 use refusals::refuse_if;
 use refusals::refuse_judged;
@@ -267,7 +267,7 @@ fn clear(out: &mut [u32])
 pub fn load_runs(text: &[u8], rows: usize, left: &mut [u32], right: &mut [u32]) -> Plan
     ensures { λ p. ⌜ Loads (now (text .entry)) rows (now (left .entry)) (now (right .entry)) p (now (left .exit)) (now (right .exit)) ⌝ }
 {
-    let room = lesser(left.len() as u64, right.len() as u64) as usize;
+    let room = shorter(left.len(), right.len());
     let p = make_plan(text, rows, room);
     if p.refusal.number != 0 {
         return p;

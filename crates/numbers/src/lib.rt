@@ -249,3 +249,10 @@ pub fn place_before(k: usize) -> usize
 {
     if k == 0 { 0 } else { k - 1 }
 }
+
+// The lesser of two lengths.
+pub fn shorter(a: usize, b: usize) -> usize
+    ensures { λ n. ⌜ n ≡ min a b ⌝ }
+{
+    if a < b { a } else { b }
+}

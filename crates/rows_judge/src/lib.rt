@@ -1,5 +1,5 @@
 // Judging a lent index: whether it is well formed, and else the first bad row (01, Rows). The head is judged first. Any content may be lent, and no sum wraps.
-use numbers::lesser;
+use numbers::shorter;
 use numbers::magnitude;
 ghost use mathlib.Core.Path.{_≡_};
 ghost use mathlib.Core.Bool.{_&&_};
@@ -204,7 +204,7 @@ pub fn after_row(windows: u32, s: State, r: Row, t: Lengths) -> State
 pub fn judge_row(head: Head, s: State, r: Row, left: &[u32], right: &[u32]) -> State
     ensures { λ n. ⌜ n ≡ next (lent head [] (now (left .entry)) (now (right .entry))) s r ⌝ }
 {
-    let size = lesser(left.len() as u64, right.len() as u64) as usize;
+    let size = shorter(left.len(), right.len());
     if !row_fits(head, s, r, size) {
         return State {
             good: false,

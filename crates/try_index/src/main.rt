@@ -4,7 +4,7 @@ use meaning_entries::Built;
 use meaning_entries::Extended;
 use meaning_rows::Head;
 use meaning_rows::Row;
-use numbers::lesser;
+use numbers::shorter;
 use try_table::audit_table;
 use try_table::build_table;
 use try_table::extend_table;
@@ -110,7 +110,7 @@ fn same_row(r: Row, want: Row) -> bool {
 fn agree_rows(rows: [Row; 64], nums: &[u64], at: usize, count: usize) -> bool {
     let mut k: usize = 0;
     while k < 64 {
-        let want = get_row(nums, row_place(at, lesser(k as u64, count as u64) as usize));
+        let want = get_row(nums, row_place(at, shorter(k, count)));
         let r = rows[k];
         if !same_row(r, want) {
             return false;

@@ -15,7 +15,7 @@ module _ (c : tie.After-refuse-build) where
   o = c .before .before
 
   told : c .refuse-build .result ≡ refusalOf (buildLines (lentBuild (o .args .series .now) (o .args .w) (o .args .d) (o .args .g)) (o .args .rows) (min (o .args .left) (o .args .right)))
-  told = c .refuse-build .ensures ∙ ap (λ (n : ℕ). refusalOf (buildLines (lentBuild (o .args .series .now) (o .args .w) (o .args .d) (o .args .g)) (o .args .rows) n)) (c .before .lesser .ensures)
+  told = c .refuse-build .ensures ∙ ap (λ (n : ℕ). refusalOf (buildLines (lentBuild (o .args .series .now) (o .args .w) (o .args .d) (o .args .g)) (o .args .rows) n)) (c .before .shorter .ensures)
 
   in-limits : c .refuse-build .result .number ≡ 0 → Goes (o .args .series .now) (o .args .w) (o .args .d) (o .args .g) (o .args .rows) (min (o .args .left) (o .args .right))
   in-limits z = let a = o .args in goes (a .series .now) (a .w) (a .d) (a .g) (a .rows) _ (passes _ (never-0 (a .series .now) (a .w) (a .d) (a .g) (a .rows) _) told z)

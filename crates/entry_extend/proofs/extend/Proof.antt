@@ -5,7 +5,7 @@
 -- | use Rattle.build_passes.specs.Filled.{buffers}
 -- | let HERE = (now series) head (now from′) (now lefts) (now rights) (buffers (now rows) (now left) (now right))
 -- | j, judged = judge
--- | m, least = lesser
+-- | m, least = shorter
 -- | p, planned = make_plan
 -- | if refused:
 -- |   t, stopped = refuse

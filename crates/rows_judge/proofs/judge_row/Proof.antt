@@ -25,7 +25,7 @@ fit : (c : tie.After-row-fits) → let s = c .before .before .before .before in 
 unfolding rangeGood partGood
 fit c =
     let s = c .before .before .before .before in
-    let e : c .before .lesser .result ≡ length (entries (s .args .left .now) (s .args .right .now)) = c .before .lesser .ensures ∙ sym (length-entries (s .args .left .now) (s .args .right .now)) in
+    let e : c .before .shorter .result ≡ length (entries (s .args .left .now) (s .args .right .now)) = c .before .shorter .ensures ∙ sym (length-entries (s .args .left .now) (s .args .right .now)) in
     c .row-fits .ensures ∙ ap (λ (n : ℕ). s .args .s .good && (rangeGood (index s) (s .args .s .least) (s .args .r) && room n (s .args .s .first) (s .args .r))) e
 
 -- where it fits, its runs lie inside the run buffer
