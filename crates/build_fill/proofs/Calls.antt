@@ -39,7 +39,8 @@ use Rattle.meaning_rows.specs.declared.Row.{Row}
 use Rattle.meaning_rows.proofs.Row as T
 use Rattle.meaning_rows.proofs.Row.Laws as T′
 use Rattle.sums_slide.specs.declared.Place.{Place as Spot}
-use Rattle.sums_slide.specs.Levels.{sumAt, sum-is}
+use Rattle.sums_slide.specs.Levels.{sumAt}
+use Rattle.sums_slide.proofs.Levels.{sum-is}
 use Rattle.sums_slide.proofs.sum_of as sum
 use Rattle.sums_slide.proofs.sum_of.Symbol.{name as #sum-of}
 use Rattle.sums_slide.proofs.Place as Pl
@@ -49,7 +50,8 @@ use Rattle.rows_records.proofs.Again.{LentAgain}
 use Rattle.rows_records.proofs.Lends.{Own, lend, comes, twin}
 use Rattle.rows_records.proofs.Told.{calls-ended}
 use Rattle.rows_records.proofs.Walk.{calls-plain}
-use Rattle.build_fill.specs.Turn.{At, TurnAsked, Turned, sum-asked}
+use Rattle.build_fill.specs.Turn.{At, TurnAsked, Turned}
+use Rattle.build_fill.proofs.Turn.{sum-asked}
 use Rattle.build_fill.proofs.file_turn as turn
 use Rattle.build_fill.proofs.file_turn.Symbol.{name as #file-turn}
 

@@ -1,3 +1,2 @@
 -- What the contract of merging cites.
 pub mod Standing
-pub mod Filed

@@ -2,3 +2,7 @@
 pub mod Calls
 pub mod Named
 pub mod FileCall
+pub mod Naming
+pub mod Packed
+pub mod Places
+pub mod Ranges

@@ -1,4 +1,3 @@
 -- What is said of a row's part of the run buffer.
 pub mod Part
-pub mod Lent
 pub mod Filling

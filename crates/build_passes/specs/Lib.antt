@@ -1,3 +1,2 @@
 -- What the contracts of build cite.
-pub mod Rowed
 pub mod Filled

@@ -1,5 +1,6 @@
 // What refuses a build, and by how much it raises sums where nothing does.
 use numbers::RAISE;
+use numbers::shorter;
 use refusals::Refusal;
 use refusals::merge_outside;
 use refusals::refuse_if;
@@ -7,7 +8,6 @@ use refusals::refuse_room;
 use refusals::refuse_series;
 use refusals::width_outside;
 use refusals::window_outside;
-use numbers::shorter;
 use rows_pack::raised_rows;
 ghost use mathlib.Core.Path.{_≡_};
 ghost use Rattle.meaning_entries.specs.Build.{lentBuild, buildLines};

@@ -13,7 +13,7 @@ use Rattle.meaning_numbers.proofs.Tests.{by-test}
 use Rattle.meaning_rows.specs.Index.{Index}
 use Rattle.meaning_filter.specs.Candidates.{admits, candidate}
 use Rattle.candidate_counts.specs.Raise.{bump}
-use Rattle.candidate_counts.specs.Leading.{leading}
+use Rattle.candidate_counts.proofs.LeadingLaws.{leading}
 
 -- a part's turn at a count that is at most its number
 turn : (a : Bool) (i n : ℕ) → n ≤ i → eqb (bump a i n) (suc i) ≡ (eqb n i && a)

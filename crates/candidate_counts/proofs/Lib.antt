@@ -4,3 +4,4 @@ pub mod Leading
 pub mod Clear
 pub mod Handed
 pub mod Take
+pub mod LeadingLaws

@@ -1,5 +1,4 @@
 -- What the contracts of candidates cite.
 pub mod Raise
-pub mod Leading
 pub mod Handed
 pub mod Take

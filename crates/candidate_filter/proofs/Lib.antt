@@ -6,3 +6,4 @@ pub mod Spanned
 pub mod Calls
 pub mod PartCalls
 pub mod Meaning
+pub mod Parts

@@ -1,4 +1,3 @@
 -- What the contracts of the plan cite, and what follows of it.
 pub mod Tables
-pub mod Cases
 pub mod Allowed

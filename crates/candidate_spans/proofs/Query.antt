@@ -11,14 +11,15 @@ use Rattle.meaning_filter.specs.declared.Kind.{Kind}
 use Rattle.meaning_filter.specs.declared.Limits.{Limits}
 use Rattle.meaning_filter.specs.Range.{rangeOf}
 use Rattle.distance_query.specs.Ready.{Ready}
-use Rattle.distance_envelope.specs.Envelope.{low-in, high-in}
+use Rattle.distance_envelope.proofs.EnvelopeLaws.{low-in, high-in}
 use Rattle.candidate_ranges.specs.declared.Frame.{Frame}
 use Rattle.candidate_ranges.specs.Frame.{frameOf, QueryIn}
 use Rattle.candidate_ranges.proofs.Fits.{query-in}
 use Rattle.candidate_ranges.proofs.Sizes.{frame-in}
 use Rattle.candidate_ranges.proofs.Ends.{range-is}
 use Rattle.candidate_filter.specs.Parts.{partRange}
-use Rattle.candidate_spans.specs.Held.{Held, lowEnds, highEnds, EndsReady, RangesReady, RangesHeld, held-same}
+use Rattle.candidate_spans.specs.Held.{Held, lowEnds, highEnds, EndsReady, RangesReady, RangesHeld}
+use Rattle.candidate_spans.proofs.Held.{held-same}
 
 -- the part of a query that part i is
 part-inside : (m w i : ℕ) → i < m / w → i * w + w ≤ m

@@ -1,3 +1,2 @@
 -- What the contracts of finding cite, and how a search ends.
 pub mod Answer
-pub mod Search

@@ -1,4 +1,3 @@
 -- What a match test answers, and the tests that ask for no value.
 pub mod Matched
 pub mod Alike
-pub mod Shift

@@ -12,21 +12,24 @@ use Rattle.meaning_text.specs.Form.{Value}
 use Rattle.meaning_text.specs.Read.{Verdict, fine, unfit, readText}
 use Rattle.meaning_text.specs.Texts.{indexForm, rowSaid, indexSaid}
 use Rattle.meaning_text.proofs.Automaton.{verdictOf, atEnd}
-use Rattle.text_put.specs.Put.{sets-append}
+use Rattle.text_put.proofs.Put.{sets-append}
 use Rattle.text_index.specs.declared.Place.{Place}
 use Rattle.text_index.specs.declared.State.{State}
 use Rattle.text_index.specs.declared.Moved.{Moved}
 use Rattle.text_index.specs.Step.{indexStep}
-use Rattle.text_index.specs.Follow.{start, Said, nothingSaid, told, closed, value}
-use Rattle.text_index.specs.Order.{placePart, Order}
-use Rattle.text_index.specs.View.{keptAt, endOf, Whole, text-viewed, Kept, kept-start, kept-to, kept-value, kept-closed, kept-refuse, kept-end}
+use Rattle.text_index.proofs.Follow.{start, Said, nothingSaid, told, closed, value}
+use Rattle.text_index.proofs.Order.{placePart, Order}
+use Rattle.text_index.specs.View.{keptAt}
+use Rattle.text_index.proofs.View.{endOf, Whole, text-viewed, Kept, kept-start, kept-to, kept-value, kept-closed, kept-refuse, kept-end}
 use Rattle.text_event.specs.declared.Event.{Event}
-use Rattle.text_event.specs.Event.{Quiet, RunsFrom, EventAt, atRuns, quiet-keeps, value-keeps, run-keeps, row-keeps, runs-keeps}
+use Rattle.text_event.specs.Event.{Quiet, RunsFrom, EventAt, atRuns}
+use Rattle.text_event.proofs.EventLaws.{quiet-keeps, value-keeps, run-keeps, row-keeps, runs-keeps}
 use Rattle.numbers.specs.Narrow.{held}
 use Rattle.text_judge.proofs.Bad.{held-pos}
 use Rattle.text_judge.proofs.Prefix.{map-append}
 use Rattle.entry_read.specs.Plan.{heldLefts, heldRights}
-use Rattle.entry_read.specs.Runs.{isLeft, isRight, Columns, tellColumns, runStored, shutColumns, startColumns, FilledRuns}
+use Rattle.entry_read.specs.Runs.{isLeft, isRight, Columns, tellColumns, runStored, FilledRuns}
+use Rattle.entry_read.proofs.Runs.{shutColumns, startColumns}
 
 runs-append : (a b : List RangeRow) → allRuns (a ++ b) ≡ allRuns a ++ allRuns b
 unfolding allRuns

@@ -29,7 +29,8 @@ use Rattle.meaning_entries.proofs.Lines.{room-line}
 use Rattle.meaning_entries.proofs.Demand2.{load-kept}
 use Rattle.meaning_entries.proofs.Again.{text-fine}
 use Rattle.refusals.specs.declared.Refusal.{Refusal}
-use Rattle.refusals.specs.Refusal.{refusalOf, asRefusal, judgedLine, place-is, place-none, judged-line, passes, refuses}
+use Rattle.refusals.specs.Refusal.{refusalOf, asRefusal, judgedLine, judged-line, passes, refuses}
+use Rattle.refusals.proofs.RefusalLaws.{place-is, place-none}
 use Rattle.text_judge.specs.declared.Rows.{Rows}
 use Rattle.text_judge.specs.Judged.{judgedRows}
 use Rattle.text_judge.specs.Tally.{noRows, rowsFrom, headHeld}

@@ -3,3 +3,4 @@ pub mod Columns
 pub mod Zeros
 pub mod Planned
 pub mod Kept
+pub mod Runs

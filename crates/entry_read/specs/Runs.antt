@@ -47,16 +47,9 @@ tellColumns p z t = record {
   rights = cond (isRight p) (set (t .rights) (t .count) (held z)) (t .rights);
 }
 
--- a row's end
-abbrev pub shutColumns : Columns → Columns
-shutColumns t = t
-
 -- a run is stored at place k, behind the others
 abbrev pub runStored : ℕ → ℕ → ℕ → List ℕ → List ℕ → Columns
 runStored l r k lefts rights = record { left = l; count = k + 1; lefts = set lefts k l; rights = set rights k r }
-
-abbrev pub startColumns : List ℕ → List ℕ → Columns
-startColumns left right = record { left = 0; count = 0; lefts = left; rights = right }
 
 -- of a text that can be read, the runs stand in the buffer as far as it has room
 unfoldable pub FilledRuns : List ℕ → List ℕ → List ℕ → List ℕ → List ℕ → Type 0

@@ -30,24 +30,28 @@ use Rattle.meaning_entries.specs.Demand2.{SearchKept}
 use Rattle.rows_judge.specs.declared.Judged.{Judged}
 use Rattle.rows_judge.specs.Judged.{judgedOf}
 use Rattle.rows_judge.proofs.Scan.{length-entries}
-use Rattle.candidate_counts.specs.Leading.{leading, Counted}
+use Rattle.candidate_counts.proofs.LeadingLaws.{leading, Counted}
 use Rattle.candidate_counts.proofs.Leading.{leading-all}
 use Rattle.candidate_filter.specs.declared.Span.{Span}
 use Rattle.candidate_filter.specs.Met.{clampOf, metSpan}
-use Rattle.candidate_filter.specs.Parts.{FoundAll}
+use Rattle.candidate_filter.proofs.Parts.{FoundAll}
 use Rattle.candidate_filter.proofs.Meaning.{cleared-zeros, found-all}
 use Rattle.candidate_filter.proofs.Spanned.{span-admits, span-inside, span-few, clamp-admits, climbs}
-use Rattle.candidate_spans.specs.Held.{RangesReady, RangesHeld, raised-most, lowered}
+use Rattle.candidate_spans.specs.Held.{RangesReady, RangesHeld}
+use Rattle.candidate_spans.proofs.Held.{raised-most, lowered}
 use Rattle.candidate_spans.specs.Met.{spanAt, MeetReady, AllMet}
-use Rattle.candidate_spans.specs.Raised.{stretchHit, counted-all}
+use Rattle.candidate_spans.specs.Raised.{stretchHit}
+use Rattle.candidate_spans.proofs.Raised.{counted-all}
 use Rattle.candidate_plan.specs.Tables.{planOf}
 use Rattle.candidate_plan.specs.Allowed.{Allowed, thePlan, plan-is, goes-on, allowed}
 use Rattle.refusals.specs.declared.Refusal.{Refusal}
 use Rattle.refusals.specs.Refusal.{refusalOf, asRefusal}
-use Rattle.check_answer.specs.Search.{limited, search-ends}
+use Rattle.check_answer.proofs.Search.{limited, search-ends}
 use Rattle.entry_search.specs.declared.Sought.{Sought}
-use Rattle.entry_search.specs.Refused.{buffers, refused-kept}
-use Rattle.entry_search.specs.Sought.{stopped, HandReady, HandedOut, SoughtKept, FinishReady, Finished, runs-lent}
+use Rattle.entry_search.specs.Refused.{buffers}
+use Rattle.entry_search.proofs.Refused.{refused-kept}
+use Rattle.entry_search.specs.Sought.{stopped, HandReady, HandedOut, SoughtKept, FinishReady, Finished}
+use Rattle.entry_search.proofs.SoughtLaws.{runs-lent}
 
 length-cleared : (l : List ℕ) → length (filled 0 [] l) ≡ length l
 unfolding filled

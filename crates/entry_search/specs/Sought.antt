@@ -1,15 +1,12 @@
 -- The two halves of a search by what is promised of them. Finding candidates (`SoughtKept`): the plan's refusal, or the candidates as the search leaves them. Checking them (`Finished`). And the last step of finding, over what its code has: the stretches of runs of the query's parts (`HandReady`, `HandedOut`). Assumes nothing.
 use mathlib.Core.Path.{_≡_}
-use mathlib.Core.Bool.{Bool}
-use mathlib.Core.List.{List, [], map}
+use mathlib.Core.List.{List, []}
 use Prim.Native.Nat.{ℕ, _+_, _-_, _/_, _≤_}
-use native.Mathlib.Omega.{arith}
 use lib.IntN.{ℤ}
-use lib.ListN.{length, replicate, length-map, length-append}
+use lib.ListN.{length}
 use Rattle.meaning_curves.specs.Limits.{mostValues, longestWindow}
 use Rattle.meaning_rows.specs.declared.Head.{Head}
 use Rattle.meaning_rows.specs.Runs.{runs}
-use Rattle.meaning_rows.proofs.Runs.{runs-apart}
 use Rattle.meaning_filter.specs.declared.Ask.{Ask}
 use Rattle.meaning_filter.specs.Matches.{offsetCount, candidateRuns}
 use Rattle.meaning_entries.specs.declared.Found.{Found}
@@ -20,7 +17,6 @@ use Rattle.refusals.specs.Refusal.{refusalOf, unrefused}
 use Rattle.candidate_counts.specs.Handed.{stood, Handed}
 use Rattle.check_list.specs.Members.{members}
 use Rattle.check_list.specs.Found.{RunsLent, lentRuns, found}
-use Rattle.check_list.specs.Candidates.{runs-first}
 use Rattle.check_answer.specs.Answer.{wanted, Limited, Answers}
 use Rattle.candidate_spans.specs.Raised.{CountedBy, stretchHit, StretchesReady}
 use Rattle.entry_search.specs.declared.Sought.{Sought}
@@ -71,19 +67,3 @@ pub record HandedOut (s : List ℤ) (h : Head) (left right : List ℕ) (q : List
   pub counted : CountedBy (stretchHit left right first last (h .window)) (length s + 1 - length q) (length q / h .window) counts
   pub handed : Handed (stood counts (length q / h .window)) (length s + 1 - length q) first last first′ last′ (t .runs) (t .candidates)
   pub cleared : scratch′ ≡ filled 0 [] scratch
-
--- ---- laws
-
-filled-long : (l a : List ℕ) → length l ≤ length (filled 0 l a)
-unfolding filled
-filled-long l a = omega (arith, length-append l (replicate (length a - length l) 0))
-
--- runs that are handed out are lent to be checked
-pub runs-lent : (set : ℕ → Bool) (n : ℕ) (left right : List ℕ) → RunsLent n (filled 0 (map (λ x. x .0) (runs set n)) left) (filled 0 (map (λ x. x .1) (runs set n)) right) (length (runs set n))
-runs-lent set n left right =
-    let r = runs set n in
-    record {
-      in-left = omega (arith, filled-long (map (λ x. x .0) r) left, length-map r (λ x. x .0));
-      in-right = omega (arith, filled-long (map (λ x. x .1) r) right, length-map r (λ x. x .1));
-      apart = rw (runs-first r left right) (runs-apart set n);
-    }

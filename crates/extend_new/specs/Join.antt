@@ -7,11 +7,11 @@ use native.Mathlib.Omega.{arith}
 use native.Mathlib.Decide.{decLt}
 use lib.Dec.{eqb}
 use lib.IntN.{ℤ}
-use lib.ListN.{length, getD, set, length-set}
+use lib.ListN.{length, set, length-set}
 use lib.Seq.{set-set, getD-set-other}
 use borrow.Author.Tests.{eqb-true, eqb-false}
 use Rattle.meaning_numbers.specs.Sum.{bit}
-use Rattle.meaning_numbers.proofs.Tests.{by-test, clash}
+use Rattle.meaning_numbers.proofs.Tests.{by-test}
 use Rattle.meaning_rows.specs.Runs.{before, runCount}
 use Rattle.meaning_rows.proofs.Runs.{runCount-more, before-more, before-some}
 use Rattle.meaning_rows.proofs.Columns.{putLeft, putRight, runCount-mono}
@@ -35,15 +35,6 @@ pub record JoinedRun (s : List ℤ) (w e : ℕ) (at : Place) (joins : Bool) (low
   pub stop : joins ≡ true → Stop (level s w e) (windowsOf s w) low up (at .offset) (t .offset) (t .level)
   pub ahead : joins ≡ true → at .offset < t .offset
   pub wrote : joins ≡ true → after ≡ set before spot (t .offset - 1)
-
--- ---- laws
-
--- a run that its first window's sum is in ends after it
-pub stop-ahead : {lv : ℕ → ℕ} {n low up from r z : ℕ} → from < n → within low up (lv from) ≡ true → Stop lv n low up from r z → from < r
-stop-ahead {lv} {n} {low} {up} {from} {r} {z} l t h = elim (decLt from r) [
-  | yes a ↦ a
-  | no f ↦ let e : r ≡ from = omega (arith, h .change .above) in clash t (rw e at (h .change .other (omega arith)))
-]
 
 -- a run that goes on has no new beginning
 goes-on : (p : ℕ → Bool) (from m : ℕ) → before p from ≡ true → ((j : ℕ) → from ≤ j → j < from + m → p j ≡ true) → runCount p (from + m) ≡ runCount p from

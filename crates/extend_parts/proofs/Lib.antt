@@ -1,2 +1,8 @@
 -- Calls of the covered functions, as steps of a walk.
 pub mod Calls
+pub mod Columns
+pub mod Copy
+pub mod Lay
+pub mod OldRuns
+pub mod Passed
+pub mod Records

@@ -11,12 +11,13 @@ use Rattle.sums_slide.specs.declared.Place.{Place}
 use Rattle.rows_records.specs.Records.{zeroRow}
 use Rattle.build_passes.specs.Filled.{buffers}
 use Rattle.build_fill.specs.Pass.{Passable, Passed}
-use Rattle.extend_parts.specs.OldRuns.{rowHas}
+use Rattle.extend_parts.proofs.OldRuns.{rowHas}
 use Rattle.extend_passes.specs.Steps.{joinsOf, JoinAsked, JoinedAt}
 use Rattle.extend_passes.specs.Passes.{CountAsked, CountedAs, LayAsked, LaidBy, CopyAsked, CopiedAs}
 use Rattle.extend_passes.specs.Shell.{madeRows, WovenAs}
 use Rattle.extend_passes.specs.Finished.{HoldsExtended}
-use Rattle.extend_passes.specs.Whole.{indexOf, PassesAsked, count-asked, first-in, lays-asked, copies-asked, old-fits, join-asked, fill-asked, extended-held, rows-counted}
+use Rattle.extend_passes.specs.Whole.{indexOf, PassesAsked}
+use Rattle.extend_passes.proofs.Whole.{count-asked, first-in, lays-asked, copies-asked, old-fits, join-asked, fill-asked, extended-held, rows-counted}
 
 module _ {s : List ℤ} {w e d base bias old : ℕ} {from : List Row} {lefts rights : List ℕ} {rows : List Row} {left right : List ℕ} (asked : PassesAsked s w e d base old from lefts rights rows left right × (bias ≡ 10000 * w + e)) where
   -- the windows that each row has

@@ -36,7 +36,8 @@ use Rattle.meaning_entries.specs.Audit.{AuditCall, auditTable, complete, audite
 use Rattle.meaning_entries.specs.Load.{textIndex}
 use Rattle.meaning_entries.specs.AuditText.{packRefusal, pack, auditTextAnswer}
 use Rattle.meaning_entries.proofs.Refusal.{First, here, later, is-passed, is-first, openLines, passed-line}
-use Rattle.text_feed.specs.Keep.{leading, leading-outside}
+use Rattle.text_feed.specs.Keep.{leading}
+use Rattle.text_feed.proofs.Keep.{leading-outside}
 use Rattle.payout.proofs.Texts.{refused-by, index-unread, line-unread, table-is, outside, none-refuses}
 
 -- ---- a series line is one line

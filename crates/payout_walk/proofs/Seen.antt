@@ -22,9 +22,10 @@ use Rattle.text_index.specs.declared.Place.{Place}
 use Rattle.text_index.specs.declared.Moved.{Moved}
 use Rattle.text_index.specs.declared.State.{State as Reached}
 use Rattle.text_index.specs.Step.{indexStep}
-use Rattle.text_index.specs.Follow.{Said, nothingSaid, told, closed, value}
-use Rattle.text_index.specs.Order.{placePart, Order}
-use Rattle.text_index.specs.View.{Seen, seen, keptAt, endOf, movedTo, keep, Whole, text-viewed, Kept, kept-end, kept-refuse}
+use Rattle.text_index.proofs.Follow.{Said, nothingSaid, told, closed, value}
+use Rattle.text_index.proofs.Order.{placePart, Order}
+use Rattle.text_index.specs.View.{keptAt}
+use Rattle.text_index.proofs.View.{Seen, seen, endOf, movedTo, keep, Whole, text-viewed, Kept, kept-end, kept-refuse}
 use Rattle.numbers.specs.Narrow.{held}
 use Rattle.payout_walk.specs.declared.Walk.{Walk}
 use Rattle.payout_walk.specs.Walk.{goesOn, startWalk, afterRun, tellWalk, shutWalk, runsWalked, rowsWalked, Walked}

@@ -1,5 +1,4 @@
 -- Row records by value (`Table`), the sizes of the program's texts (`Sizes`), what is printed where nothing refuses (`Print`), and at the end of the input (`Finish`).
 pub mod Table
-pub mod Sizes
 pub mod Print
 pub mod Finish

@@ -1,3 +1,2 @@
 -- What is printed where nothing refuses (`Whole`), and at the end of the input (`End`).
-pub mod Whole
 pub mod End

@@ -1,6 +1,6 @@
 // Judging a lent index: whether it is well formed, and else the first bad row (01, Rows). The head is judged first. Any content may be lent, and no sum wraps.
-use numbers::shorter;
 use numbers::magnitude;
+use numbers::shorter;
 ghost use mathlib.Core.Path.{_≡_};
 ghost use mathlib.Core.Bool.{_&&_};
 ghost use mathlib.Core.List.{[]};

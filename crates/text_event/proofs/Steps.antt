@@ -9,7 +9,8 @@ use lib.IntN.{ℤ, pos, negℤ}
 use lib.ListN.{length, getD}
 use Rattle.meaning_text.specs.Bytes.{bytes}
 use Rattle.text_numbers.specs.declared.Numeral.{Numeral}
-use Rattle.text_numbers.specs.Number.{numStep, whole, within-yes}
+use Rattle.text_numbers.specs.Number.{numStep, whole}
+use Rattle.text_numbers.proofs.Number.{within-yes}
 use Rattle.text_index.specs.declared.Word.{Word}
 use Rattle.text_index.specs.declared.Place.{Place}
 use Rattle.text_index.specs.declared.State.{State}

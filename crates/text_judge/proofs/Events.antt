@@ -10,9 +10,11 @@ use Rattle.text_index.specs.declared.Place.{Place}
 use Rattle.text_index.specs.declared.State.{State}
 use Rattle.text_index.specs.declared.Moved.{Moved}
 use Rattle.text_index.specs.Step.{indexStep}
-use Rattle.text_index.specs.View.{keptAt, endOf, Whole, Kept, kept-to, kept-value, kept-closed, kept-refuse, kept-end}
+use Rattle.text_index.specs.View.{keptAt}
+use Rattle.text_index.proofs.View.{endOf, Whole, Kept, kept-to, kept-value, kept-closed, kept-refuse, kept-end}
 use Rattle.text_event.specs.declared.Event.{Event}
-use Rattle.text_event.specs.Event.{Quiet, RunAt, RunsFrom, EventAt, atRuns, quiet-keeps, value-keeps, run-keeps, row-keeps, runs-keeps}
+use Rattle.text_event.specs.Event.{Quiet, RunAt, RunsFrom, EventAt, atRuns}
+use Rattle.text_event.proofs.EventLaws.{quiet-keeps, value-keeps, run-keeps, row-keeps, runs-keeps}
 use Rattle.text_judge.specs.declared.Tally.{Tally}
 use Rattle.text_judge.specs.Tally.{startTally, tellTally, shutTally, toldRun, Fits}
 use Rattle.text_judge.proofs.Seen.{same-fits, tell-fits, shut-fits}

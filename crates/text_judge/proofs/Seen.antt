@@ -17,9 +17,9 @@ use Rattle.meaning_text.proofs.Reading.{on-flag}
 use Rattle.rows_judge.proofs.Scan.{both, runGood, good-run}
 use Rattle.numbers.specs.Narrow.{clamp}
 use Rattle.text_index.specs.declared.Place.{Place}
-use Rattle.text_index.specs.Follow.{Said, told, closed, value}
-use Rattle.text_index.specs.Order.{placePart, Order}
-use Rattle.text_index.specs.View.{endOf, Whole, text-viewed}
+use Rattle.text_index.proofs.Follow.{Said, told, closed, value}
+use Rattle.text_index.proofs.Order.{placePart, Order}
+use Rattle.text_index.proofs.View.{endOf, Whole, text-viewed}
 use Rattle.text_judge.specs.declared.Runs.{Runs}
 use Rattle.text_judge.specs.declared.Rows.{Rows}
 use Rattle.text_judge.specs.declared.Tally.{Tally}

@@ -23,8 +23,8 @@ use Rattle.text_index.specs.declared.Place.{Place}
 use Rattle.text_index.specs.declared.State.{State}
 use Rattle.text_index.specs.declared.Moved.{Moved}
 use Rattle.text_index.specs.Step.{indexStep, GoodState}
-use Rattle.text_index.specs.Follow.{Said, nothingSaid, told, closed, value, Reading, at, moved, step, accept, acceptState, start, stays, index-comes, some-same, none-some}
-use Rattle.text_index.specs.Order.{placePart, statePart, Order, order-step, order-value}
+use Rattle.text_index.proofs.Follow.{Said, nothingSaid, told, closed, value, Reading, at, moved, step, accept, acceptState, start, stays, index-comes, some-same, none-some}
+use Rattle.text_index.proofs.Order.{placePart, statePart, Order, order-step, order-value}
 use Rattle.numbers.specs.Narrow.{clamp}
 use Rattle.text_judge.specs.declared.Tally.{Tally}
 use Rattle.text_judge.specs.Tally.{noRuns, runsFrom, noRows, rowsFrom, headHeld}

@@ -12,10 +12,11 @@ use Rattle.text_index.specs.declared.Place.{Place}
 use Rattle.text_index.specs.declared.State.{State}
 use Rattle.text_index.specs.declared.Moved.{Moved}
 use Rattle.text_index.specs.Step.{indexStep, GoodState}
-use Rattle.text_index.specs.Follow.{index-good}
-use Rattle.text_index.specs.View.{step-good}
+use Rattle.text_index.proofs.Follow.{index-good}
+use Rattle.text_index.proofs.View.{step-good}
 use Rattle.text_event.specs.declared.Event.{Event}
-use Rattle.text_event.specs.Event.{Quiet, RunsFrom, EventAt, atRuns, quiet-keeps, value-keeps, run-keeps, row-keeps, runs-keeps}
+use Rattle.text_event.specs.Event.{Quiet, RunsFrom, EventAt, atRuns}
+use Rattle.text_event.proofs.EventLaws.{quiet-keeps, value-keeps, run-keeps, row-keeps, runs-keeps}
 use Rattle.text_judge.specs.declared.Tally.{Tally}
 use Rattle.text_judge.specs.Tally.{tellTally, shutTally, toldRun, Fits}
 use Rattle.text_judge.proofs.Seen.{start-fits, same-fits, tell-fits, shut-fits}

@@ -60,7 +60,8 @@ use Rattle.rows_find.proofs.find_record.Symbol as find-def
 use Rattle.rows_find.proofs.find_record.Symbol.{name as #find-record}
 use Rattle.rows_find.proofs.find_record.Met as find-thm
 use Rattle.build_fill.specs.Turn.{Turned, TurnAsked}
-use Rattle.build_fill.specs.Pass.{Passable, Passed, Going, rowed-climbs, rowed-reached, going-starts, going-ends, going-asks, going-nears, going-next}
+use Rattle.build_fill.specs.Pass.{Passable, Passed}
+use Rattle.build_fill.proofs.Pass.{Going, rowed-climbs, rowed-reached, going-starts, going-ends, going-asks, going-nears, going-next}
 use Rattle.build_fill.proofs.Calls.{low-place, SumOf, FileTurn, calls-sum-of, calls-file-turn}
 use Rattle.sums_slide.proofs.sum_of.Symbol as sum-def
 use Rattle.sums_slide.proofs.sum_of.Symbol.{name as #sum-of}

@@ -55,7 +55,8 @@ use Rattle.rows_records.proofs.Walk.{loops-by, by-bool, lose, lose-room, walk-t
 use Rattle.build_merge.specs.declared.Group.{Group}
 use Rattle.build_merge.specs.Group.{firstGroup, nextGroup, Joinable}
 use Rattle.rows_pack.specs.PackedAs.{PackedAs}
-use Rattle.build_merge.specs.Merging.{Rows, Ready, Mergeable, Merging, merging-start, merging-turn, merging-place, merging-joinable, merging-end}
+use Rattle.build_merge.specs.Merging.{Rows, Ready, Mergeable}
+use Rattle.build_merge.proofs.Merging.{Merging, merging-start, merging-turn, merging-place, merging-joinable, merging-end}
 use Rattle.build_merge.proofs.Group as G
 use Rattle.build_merge.proofs.Group.Laws as G′
 use Rattle.rows_records.proofs.Slices.{Toks, Owns}

@@ -66,7 +66,8 @@ use Rattle.build_merge.specs.Names.{NamedRow}
 use Rattle.build_merge.specs.Merging.{partAt}
 use Rattle.sums_slide.specs.Ends.{raisedEnd}
 use Rattle.build_names.specs.Ranges.{rowIn}
-use Rattle.build_names.specs.Places.{nameIn, Nameable, Unnamed, Underway, nameable, underway-start, underway-end, underway-turn, turn-place, turn-end, turn-next, turn-asks, turn-nearer}
+use Rattle.build_names.specs.Places.{nameIn, Nameable, Unnamed}
+use Rattle.build_names.proofs.Places.{Underway, nameable, underway-start, underway-end, underway-turn, turn-place, turn-end, turn-next, turn-asks, turn-nearer}
 use Rattle.build_names.proofs.Calls.{OwnZ, low-place, IsPlace, FirstPlace, NameAt, RunEnd, calls-first, calls-name-at, calls-run-end}
 use Rattle.build_names.proofs.FileCall.{FileEntry, Left, Right, calls-file}
 use Rattle.sums_slide.proofs.first_place.Symbol as first-def

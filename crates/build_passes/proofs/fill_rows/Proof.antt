@@ -3,9 +3,9 @@
 -- | use Rattle.meaning_curves.specs.Curve.{windowSum}
 -- | use Rattle.meaning_rows.proofs.Build.{mergedRows}
 -- | use Rattle.sums_slide.specs.Levels.{windowsOf}
--- | use Rattle.build_passes.specs.Rowed.{tests}
--- | use Rattle.build_fill.specs.Turn.{first-at}
--- | use Rattle.build_passes.specs.Filled.{starts, finished}
+-- | use Rattle.build_passes.proofs.Rowed.{tests}
+-- | use Rattle.build_fill.proofs.Turn.{first-at}
+-- | use Rattle.build_passes.proofs.Filled.{starts, finished}
 -- | let HAS = (tests (mergedRows (windowSum (now s) w) (p .0) (p .1) (windowsOf (now s) w)))
 -- | u, rows-are = clear_rows: asked .packed .within
 -- | v, cleared = clear_runs
@@ -17,9 +17,10 @@ use contract.Running.{tablesOf}
 use Rattle.meaning_curves.specs.Curve.{windowSum}
 use Rattle.meaning_rows.proofs.Build.{mergedRows}
 use Rattle.sums_slide.specs.Levels.{windowsOf}
-use Rattle.build_passes.specs.Rowed.{tests}
-use Rattle.build_fill.specs.Turn.{first-at}
-use Rattle.build_passes.specs.Filled.{starts, finished, Fillable}
+use Rattle.build_passes.proofs.Rowed.{tests}
+use Rattle.build_fill.proofs.Turn.{first-at}
+use Rattle.build_passes.specs.Filled.{Fillable}
+use Rattle.build_passes.proofs.Filled.{starts, finished}
 use Rattle.sums_slide.specs.declared.Place.{Place}
 use Rattle.sums_slide.proofs.Place as Placeᵀ
 use Rattle.sums_slide.proofs.Place.Laws as Placeᴸ

@@ -5,7 +5,7 @@ use Prim.Native.Nat.{ℕ, min}
 use native.Mathlib.Omega.{arith}
 use Rattle.meaning_entries.specs.Build.{lentBuild, buildLines}
 use Rattle.refusals.specs.Refusal.{refusalOf, passes}
-use Rattle.build_plan.specs.Plan.{Goes, never-0, goes}
+use Rattle.build_plan.proofs.PlanLaws.{Goes, never-0, goes}
 use Rattle.build_plan.proofs.make_plan.Statement.{statement}
 use Rattle.build_plan.proofs.make_plan.Tie as tie
 

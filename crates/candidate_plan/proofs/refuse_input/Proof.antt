@@ -3,9 +3,10 @@ use borrow.Author.Needs.{needs}
 use mathlib.Core.List.{List, [], _∷_, _++_}
 use Rattle.meaning_entries.specs.Refusal.{Condition, flatQuery}
 use Rattle.meaning_entries.proofs.Refusal.{Passed}
-use Rattle.refusals.specs.Refusal.{line-before, passes, part-refuses, part-passes}
+use Rattle.refusals.specs.Refusal.{passes}
+use Rattle.refusals.proofs.RefusalLaws.{line-before, part-refuses, part-passes}
 use Rattle.candidate_plan.specs.Tables.{valuesTable, numbersTable, inputTable}
-use Rattle.candidate_plan.specs.Cases.{values-lack, numbers-lack, values-in, query-few}
+use Rattle.candidate_plan.proofs.Cases.{values-lack, numbers-lack, values-in, query-few}
 use Rattle.candidate_plan.proofs.refuse_input.Statement.{statement}
 use Rattle.candidate_plan.proofs.refuse_input.Tie as tie
 

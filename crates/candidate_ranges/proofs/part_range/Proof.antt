@@ -10,7 +10,7 @@ use mir.Val.{toZ, ofZ}
 use mir.ValLaws.{toZ-ofZ}
 use Rattle.meaning_curves.specs.Curve.{windowSum}
 use Rattle.meaning_curves.proofs.Values.{AllIn}
-use Rattle.values.specs.Window.{window-small}
+use Rattle.values.proofs.Window.{window-small}
 use Rattle.numbers.specs.Small.{Small}
 use Rattle.numbers.proofs.Small.{one-side, small-more, small-fits, small-back}
 use Rattle.candidate_ranges.proofs.part_range.Statement.{statement}

@@ -55,7 +55,8 @@ use Rattle.candidate_filter.proofs.met_span.Symbol as met-def
 use Rattle.candidate_filter.proofs.met_span.Symbol.{name as #met-span}
 use Rattle.candidate_filter.proofs.met_span.Met as met-thm
 use Rattle.candidate_spans.specs.Held.{heldRange, Stored}
-use Rattle.candidate_spans.specs.Met.{spanOf, MeetReady, AllMet, Meeting, meeting-starts, meeting-ends, meeting-asks, meeting-stores, meeting-next}
+use Rattle.candidate_spans.specs.Met.{spanOf, MeetReady, AllMet}
+use Rattle.candidate_spans.proofs.Met.{Meeting, meeting-starts, meeting-ends, meeting-asks, meeting-stores, meeting-next}
 use Rattle.candidate_spans.proofs.Calls.{RangeAt, PutSpan, calls-range-at, calls-put-span}
 use Rattle.candidate_spans.proofs.range_at.Symbol as range-def
 use Rattle.candidate_spans.proofs.range_at.Symbol.{name as #range-at}

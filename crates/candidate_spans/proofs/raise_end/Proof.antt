@@ -7,7 +7,8 @@ use mir.Val.{toZ, ofZ}
 use mir.ValLaws.{toZ-ofZ}
 use Rattle.meaning_numbers.proofs.Between.{Between}
 use Rattle.candidate_filter.specs.Met.{clampOf}
-use Rattle.candidate_spans.specs.Held.{raisedEnd, clamp-in}
+use Rattle.candidate_spans.specs.Held.{raisedEnd}
+use Rattle.candidate_spans.proofs.Held.{clamp-in}
 use Rattle.candidate_spans.proofs.raise_end.Statement.{statement}
 use Rattle.candidate_spans.proofs.raise_end.Tie as tie
 

@@ -4,7 +4,8 @@ use Prim.Native.Nat.{_-_, _*_, _<_, _≤_}
 use native.Mathlib.Omega.{arith}
 use native.Mathlib.Nat.{mul-le-mul}
 use lib.ListN.{length}
-use Rattle.candidate_spans.specs.Raised.{CountedBy, stretchHit, by-starts, by-next}
+use Rattle.candidate_spans.specs.Raised.{CountedBy, stretchHit}
+use Rattle.candidate_spans.proofs.Raised.{by-starts, by-next}
 use Rattle.candidate_spans.proofs.raise_stretches.Statement.{statement}
 use Rattle.candidate_spans.proofs.raise_stretches.Tie as tie
 

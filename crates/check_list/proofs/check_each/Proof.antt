@@ -5,7 +5,7 @@ use Prim.Native.Nat.{_-_, _<_}
 use native.Mathlib.Omega.{arith}
 use lib.ListN.{length}
 use Rattle.check_list.specs.Found.{asked}
-use Rattle.check_list.specs.Turn.{RunsSoFar, run-inside, runs-start, runs-next, runs-end}
+use Rattle.check_list.proofs.Turn.{RunsSoFar, run-inside, runs-start, runs-next, runs-end}
 use Rattle.check_list.proofs.check_each.Statement.{statement}
 use Rattle.check_list.proofs.check_each.Tie as tie
 

@@ -2,7 +2,7 @@
 use Prim.Native.Nat.{_-_}
 use native.Mathlib.Omega.{arith}
 use lib.ListN.{length}
-use Rattle.check_list.specs.Clear.{Clearing, clearing-starts, clearing-next, clearing-ends}
+use Rattle.check_list.proofs.Clear.{Clearing, clearing-starts, clearing-next, clearing-ends}
 use Rattle.check_list.proofs.clear_distances.Statement.{statement}
 use Rattle.check_list.proofs.clear_distances.Tie as tie
 

@@ -7,7 +7,7 @@ use Rattle.meaning_numbers.specs.Sum.{Σℕ}
 use Rattle.meaning_curves.specs.Curve.{at, stretch}
 use Rattle.meaning_filter.proofs.Bound.{apart}
 use Rattle.meaning_filter.proofs.Apart.{aparts-le}
-use Rattle.numbers.specs.Blocks.{Made, made-none, made-more, made-left, made-whole}
+use Rattle.numbers.proofs.Blocks.{Made, made-none, made-more, made-left, made-whole}
 use Rattle.distance_bound.proofs.envelope_bound.Statement.{statement}
 use Rattle.distance_bound.proofs.envelope_bound.Tie as tie
 

@@ -7,7 +7,8 @@ use lib.ListN.{length}
 use lib.IntN.{ℤ}
 use Rattle.meaning_curves.specs.Curve.{at, stretch}
 use Rattle.meaning_curves.proofs.Straight.{distance-is}
-use Rattle.distance_compare.specs.Answer.{nearness, within-answer, straight-distance}
+use Rattle.distance_compare.specs.Answer.{nearness}
+use Rattle.distance_compare.proofs.Answer.{within-answer, straight-distance}
 use Rattle.distance_compare.proofs.compare.Statement.{statement}
 use Rattle.distance_compare.proofs.compare.Tie as tie
 

@@ -12,12 +12,13 @@ use Rattle.meaning_curves.specs.Normal.{normalised}
 use Rattle.meaning_curves.specs.Match.{distance}
 use Rattle.meaning_curves.proofs.Same.{distance-same}
 use Rattle.meaning_filter.proofs.Bound.{apart}
-use Rattle.numbers.specs.Within.{within-above}
-use Rattle.distance_envelope.specs.Envelope.{low-in, high-in}
-use Rattle.distance_warped.specs.Rest.{bound-le}
-use Rattle.distance_normal.specs.Stretch.{normalised-in}
-use Rattle.distance_compare.specs.Answer.{nearness, no-answer}
-use Rattle.distance_compare.specs.Room.{normal-room, same-self}
+use Rattle.numbers.proofs.Within.{within-above}
+use Rattle.distance_envelope.proofs.EnvelopeLaws.{low-in, high-in}
+use Rattle.distance_warped.proofs.Rest.{bound-le}
+use Rattle.distance_normal.proofs.Stretch.{normalised-in}
+use Rattle.distance_compare.specs.Answer.{nearness}
+use Rattle.distance_compare.proofs.Answer.{no-answer}
+use Rattle.distance_compare.proofs.Room.{normal-room, same-self}
 use Rattle.distance_compare.specs.Within.{NormalWithin}
 use Rattle.distance_compare.proofs.compare_normal.Statement.{statement}
 use Rattle.distance_compare.proofs.compare_normal.Tie as tie

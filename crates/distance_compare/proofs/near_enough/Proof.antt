@@ -1,5 +1,5 @@
 -- `distance_compare::near_enough` meets its contract. Assumes nothing.
-use Rattle.distance_compare.specs.Answer.{yes-answer, no-answer}
+use Rattle.distance_compare.proofs.Answer.{yes-answer, no-answer}
 use Rattle.distance_compare.proofs.near_enough.Statement.{statement}
 use Rattle.distance_compare.proofs.near_enough.Tie as tie
 

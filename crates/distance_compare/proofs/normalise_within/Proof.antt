@@ -10,10 +10,10 @@ use Rattle.meaning_curves.specs.Curve.{at, stretch, spread}
 use Rattle.meaning_curves.specs.Normal.{normalised}
 use Rattle.meaning_curves.proofs.Values.{AllIn}
 use Rattle.meaning_filter.proofs.Bound.{apart}
-use Rattle.numbers.specs.Blocks.{Made, made-none, made-left, made-whole}
+use Rattle.numbers.proofs.Blocks.{Made, made-none, made-left, made-whole}
 use Rattle.distance_normal.specs.Normal.{IsFactor}
 use Rattle.distance_normal.specs.Stretch.{NormalReady, NormalPart}
-use Rattle.distance_compare.specs.Within.{NormalTo, normal-next, normal-all, made-in, part-more}
+use Rattle.distance_compare.proofs.Within.{NormalTo, normal-next, normal-all, made-in, part-more}
 use Rattle.distance_compare.proofs.normalise_within.Statement.{statement}
 use Rattle.distance_compare.proofs.normalise_within.Tie as tie
 

@@ -9,7 +9,7 @@ use mir.Val.{toZ, ofZ}
 use mir.ValLaws.{toZ-ofZ}
 use Rattle.meaning_curves.specs.Curve.{at}
 use Rattle.distance_envelope.specs.Best.{pick}
-use Rattle.distance_envelope.specs.Pass.{AheadTo, ahead-start, ahead-next, ahead-end}
+use Rattle.distance_envelope.proofs.Pass.{AheadTo, ahead-start, ahead-next, ahead-end}
 use Rattle.distance_envelope.proofs.pass_ahead.Statement.{statement}
 use Rattle.distance_envelope.proofs.pass_ahead.Tie as tie
 

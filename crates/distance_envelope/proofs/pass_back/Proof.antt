@@ -9,7 +9,7 @@ use mir.Val.{toZ, ofZ}
 use mir.ValLaws.{toZ-ofZ}
 use Rattle.meaning_curves.specs.Curve.{at}
 use Rattle.distance_envelope.specs.Best.{pick}
-use Rattle.distance_envelope.specs.Pass.{BackTo, back-start, back-next, back-end}
+use Rattle.distance_envelope.proofs.Pass.{BackTo, back-start, back-next, back-end}
 use Rattle.distance_envelope.proofs.pass_back.Statement.{statement}
 use Rattle.distance_envelope.proofs.pass_back.Tie as tie
 

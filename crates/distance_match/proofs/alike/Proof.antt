@@ -6,7 +6,7 @@ use native.Mathlib.Nat.{mul-le-mul}
 use native.Mathlib.Omega.{arith}
 use lib.Dec.{leb, leb→le, nleb→lt}
 use Rattle.meaning_numbers.proofs.Root.{sq-le}
-use Rattle.distance_match.specs.Alike.{says-no, says-flag}
+use Rattle.distance_match.proofs.AlikeLaws.{says-no, says-flag}
 use Rattle.distance_match.proofs.alike.Statement.{statement}
 use Rattle.distance_match.proofs.alike.Tie as tie
 

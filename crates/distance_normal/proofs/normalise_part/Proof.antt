@@ -12,10 +12,10 @@ use mir.Val.{toZ, ofZ}
 use mir.ValLaws.{toZ-ofZ}
 use Rattle.meaning_curves.specs.Curve.{stretch}
 use Rattle.meaning_curves.specs.Normal.{normalised}
-use Rattle.numbers.specs.Back.{in-arg, raised-back}
+use Rattle.numbers.proofs.Back.{in-arg, raised-back}
 use Rattle.numbers.specs.Raised.{raised, raised-le}
-use Rattle.values.specs.Sums.{sums-le, spread-bound, centred-raised}
-use Rattle.distance_normal.specs.Normal.{normalised-is}
+use Rattle.values.proofs.SumsLaws.{sums-le, spread-bound, centred-raised}
+use Rattle.distance_normal.proofs.Normal.{normalised-is}
 use Rattle.distance_normal.specs.Stretch.{NormalPart}
 use Rattle.distance_normal.proofs.normalise_part.Statement.{statement}
 use Rattle.distance_normal.proofs.normalise_part.Tie as tie

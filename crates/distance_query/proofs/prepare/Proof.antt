@@ -3,7 +3,7 @@ use borrow.Author.Needs.{needs}
 use mathlib.Core.Path.{_∙_}
 use lib.ListN.{length}
 use Rattle.meaning_curves.proofs.Same.{spread-same}
-use Rattle.distance_query.specs.Ready.{from-start}
+use Rattle.distance_query.proofs.Ready.{from-start}
 use Rattle.distance_query.proofs.prepare.Statement.{statement}
 use Rattle.distance_query.proofs.prepare.Tie as tie
 

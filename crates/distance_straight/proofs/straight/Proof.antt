@@ -7,7 +7,7 @@ use Rattle.meaning_numbers.specs.Sum.{Σℕ}
 use Rattle.meaning_curves.specs.Curve.{at, stretch}
 use Rattle.meaning_curves.specs.Straight.{cost, straight}
 use Rattle.meaning_curves.proofs.Values.{costs-le}
-use Rattle.numbers.specs.Blocks.{Made, made-none, made-more, made-left, made-whole}
+use Rattle.numbers.proofs.Blocks.{Made, made-none, made-more, made-left, made-whole}
 use Rattle.distance_straight.proofs.straight.Statement.{statement}
 use Rattle.distance_straight.proofs.straight.Tie as tie
 

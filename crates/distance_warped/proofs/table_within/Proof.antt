@@ -10,10 +10,10 @@ use Rattle.meaning_curves.specs.Curve.{at, stretch}
 use Rattle.meaning_curves.specs.Table.{warped}
 use Rattle.meaning_curves.proofs.Values.{AllIn, cost-le}
 use Rattle.meaning_filter.proofs.Bound.{apart}
-use Rattle.numbers.specs.Within.{whole, left-early}
-use Rattle.distance_envelope.specs.Envelope.{low-in, high-in}
+use Rattle.numbers.proofs.Within.{whole, left-early}
+use Rattle.distance_envelope.proofs.EnvelopeLaws.{low-in, high-in}
 use Rattle.distance_warped.specs.Rows.{big, cells, RowIs, LeastOf, cell-le, last-cell}
-use Rattle.distance_warped.specs.Rest.{rest-least, whole-le}
+use Rattle.distance_warped.proofs.Rest.{rest-least, whole-le}
 use Rattle.distance_warped.proofs.table_within.Statement.{statement}
 use Rattle.distance_warped.proofs.table_within.Tie as tie
 

@@ -7,7 +7,7 @@ use mir.Syntax.{w32}
 use mir.Val.{toZ, ofZ}
 use mir.ValLaws.{toZ-ofZ}
 use Rattle.meaning_curves.specs.Curve.{windowSum}
-use Rattle.values.specs.Window.{out-fits, out-sum, but-last}
+use Rattle.values.proofs.Window.{out-fits, out-sum, but-last}
 use Rattle.entry_audit.proofs.part_sum.Statement.{statement}
 use Rattle.entry_audit.proofs.part_sum.Tie as tie
 

@@ -7,7 +7,7 @@ use mir.Syntax.{w32}
 use mir.Val.{toZ, ofZ}
 use mir.ValLaws.{toZ-ofZ}
 use Rattle.meaning_curves.specs.Curve.{windowSum}
-use Rattle.values.specs.Window.{out-fits, out-sum, but-first}
+use Rattle.values.proofs.Window.{out-fits, out-sum, but-first}
 use Rattle.entry_audit.proofs.value_out.Statement.{statement}
 use Rattle.entry_audit.proofs.value_out.Tie as tie
 

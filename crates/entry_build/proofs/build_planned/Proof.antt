@@ -5,7 +5,7 @@
 -- | use lib.ListN.{getD}
 -- | use Rattle.rows_records.specs.Records.{zeroRow}
 -- | use Rattle.build_passes.specs.Filled.{buffers}
--- | use Rattle.entry_build.specs.Answer.{plan-sizes, plan-lays, some-rows, last-in, built-kept}
+-- | use Rattle.entry_build.proofs.AnswerLaws.{plan-sizes, plan-lays, some-rows, last-in, built-kept}
 -- | let HERE = (now series) w d g (buffers (now rows) (now left) (now right)) p (asked .0) (asked .1)
 -- | m, wide = widened
 -- | n, made = build_rows: rw wide (plan-lays $HERE)
@@ -20,7 +20,8 @@ use lib.ListN.{getD}
 use Rattle.entry_build.proofs.Stages.{many, held}
 use Rattle.rows_records.specs.Records.{zeroRow}
 use Rattle.build_passes.specs.Filled.{buffers}
-use Rattle.entry_build.specs.Answer.{plan-sizes, plan-lays, some-rows, last-in, built-kept, PlannedFor}
+use Rattle.entry_build.specs.Answer.{PlannedFor}
+use Rattle.entry_build.proofs.AnswerLaws.{plan-sizes, plan-lays, some-rows, last-in, built-kept}
 use Rattle.meaning_entries.specs.declared.Built.{Built}
 use Rattle.meaning_entries.proofs.Built as Builtᵀ
 use Rattle.meaning_entries.proofs.Built.Laws as Builtᴸ

@@ -5,7 +5,7 @@
 -- | use lib.ListN.{getD}
 -- | use Rattle.build_passes.specs.Filled.{buffers}
 -- | use Rattle.rows_records.specs.Records.{zeroRow}
--- | use Rattle.entry_extend.specs.Answer.{lift-asked, sizes, passes-asked, last-in, extended-kept}
+-- | use Rattle.entry_extend.proofs.AnswerLaws.{lift-asked, sizes, passes-asked, last-in, extended-kept}
 -- | let HERE = (now series) head (now from′) (now lefts) (now rights) (buffers (now rows) (now left) (now right))
 -- | let MADE = (made-so $HERE lifted made)
 -- | u, lifted = lift_of: lift-asked $HERE asked
@@ -21,7 +21,7 @@ use lib.ListN.{getD}
 use Rattle.entry_extend.proofs.Stages.{made-so}
 use Rattle.build_passes.specs.Filled.{buffers}
 use Rattle.rows_records.specs.Records.{zeroRow}
-use Rattle.entry_extend.specs.Answer.{lift-asked, sizes, passes-asked, last-in, extended-kept}
+use Rattle.entry_extend.proofs.AnswerLaws.{lift-asked, sizes, passes-asked, last-in, extended-kept}
 use Rattle.meaning_entries.specs.declared.Extended.{Extended}
 use Rattle.meaning_entries.proofs.Extended as Extendedᵀ
 use Rattle.meaning_entries.proofs.Extended.Laws as Extendedᴸ

@@ -6,7 +6,7 @@ use lib.ListN.{length}
 use mir.Syntax.{w64}
 use mir.Val.{toZ, ofZ}
 use mir.ValLaws.{toZ-ofZ}
-use Rattle.text_event.specs.Event.{row-up, run-up, runs-up, value-up, closed-up}
+use Rattle.text_event.proofs.EventLaws.{row-up, run-up, runs-up, value-up, closed-up}
 use Rattle.entry_read.proofs.Columns.{Filling, filling-start, filling-run, filling-row, filling-runs, filling-value, filling-closed, filling-refuse, filling-end}
 use borrow.Author.Needs.{needs}
 use Rattle.entry_read.proofs.fill_runs.Statement.{statement}

@@ -2,7 +2,7 @@
 use Prim.Native.Nat.{_-_}
 use native.Mathlib.Omega.{arith}
 use lib.ListN.{length, length-set}
-use Rattle.entry_write.specs.Spell.{Clearing, clearing-starts, clearing-turn, clearing-length, clearing-ends}
+use Rattle.entry_write.proofs.Spell.{Clearing, clearing-starts, clearing-turn, clearing-length, clearing-ends}
 use Rattle.entry_write.proofs.clear_from.Statement.{statement}
 use Rattle.entry_write.proofs.clear_from.Tie as tie
 

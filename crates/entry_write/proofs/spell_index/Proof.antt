@@ -58,7 +58,8 @@ use Rattle.rows_records.proofs.row_at.Symbol.{name as #row-at}
 use Rattle.rows_records.proofs.row_at.Met as at-thm
 use Rattle.rows_records.proofs.RowKit.{word}
 use Rattle.rows_judge.proofs.Calls.{Ns, low-head, IsHead}
-use Rattle.entry_write.specs.Spell.{Ended, Spelling, spelling-starts, spelling-turn, spelling-ends}
+use Rattle.entry_write.specs.Spell.{Ended}
+use Rattle.entry_write.proofs.Spell.{Spelling, spelling-starts, spelling-turn, spelling-ends}
 use Rattle.rows_judge.proofs.JudgeCall.{Toks, Owns}
 use Rattle.entry_write.proofs.Calls.{SpellHead, SpellRow, SpellEnd, calls-head, calls-row, calls-end}
 use Rattle.entry_write.proofs.spell_head.Symbol as head-def

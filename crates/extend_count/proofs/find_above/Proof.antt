@@ -3,7 +3,8 @@ use mathlib.Core.Path.{sym}
 use Prim.Native.Nat.{ℕ, _+_, _-_, _/_, _≤_, _<_}
 use native.Mathlib.Omega.{arith}
 use lib.ListN.{getD}
-use Rattle.extend_count.specs.Rank.{rank, rank-is}
+use Rattle.extend_count.specs.Rank.{rank}
+use Rattle.extend_count.proofs.Rank.{rank-is}
 use Rattle.extend_count.proofs.find_above.Statement.{statement}
 use Rattle.extend_count.proofs.find_above.Tie as tie
 

@@ -50,7 +50,8 @@ use Rattle.rows_records.proofs.Elem.{store-elem}
 use Rattle.rows_records.proofs.RowKit.{word, half, u32-elem, typed, row-up, row-runs, held}
 use Rattle.rows_records.proofs.Rows.{Rs, Own, RowAt, calls-row-at}
 use Rattle.rows_records.proofs.Walk.{by-bool, loops-by, walk-through}
-use Rattle.extend_count.specs.Listed.{listed, endOf, sizeOf, Listable, listed-none, listed-more, length-listed}
+use Rattle.extend_count.specs.Listed.{listed, endOf, sizeOf, Listable}
+use Rattle.extend_count.proofs.Listed.{listed-none, listed-more, length-listed}
 use Rattle.extend_count.proofs.Calls.{RaisedEnd, calls-raised-end}
 use Rattle.rows_records.proofs.row_at.Symbol as row-def
 use Rattle.rows_records.proofs.row_at.Symbol.{name as #row-at}

@@ -6,7 +6,7 @@ use mathlib.Core.Bool.{true}
 use Prim.Native.Nat.{_<_}
 use native.Mathlib.Omega.{arith}
 use Rattle.meaning_numbers.proofs.Tests.{clash}
-use Rattle.extend_new.specs.Join.{stop-ahead}
+use Rattle.extend_new.proofs.Join.{stop-ahead}
 use Rattle.extend_new.proofs.join_run.Statement.{statement}
 use Rattle.extend_new.proofs.join_run.Tie as tie
 

@@ -54,7 +54,8 @@ use Rattle.rows_records.proofs.Rows.{Rs, Own as Rows, Good, low, RowAt, RowOr, 
 use Rattle.rows_records.proofs.Walk.{by-bool, loops-by, walk-through}
 use Rattle.extend_weave.specs.Turn.{endRow}
 use Rattle.extend_weave.proofs.Calls.{EndRow, calls-end-row}
-use Rattle.extend_parts.specs.Copy.{partCopied, nextOld, passedTo, columnTo, CopyRoom, Copyable, column-none, column-more, passed-none, passed-more, length-column, length-copied}
+use Rattle.extend_parts.specs.Copy.{partCopied, nextOld, passedTo, columnTo, CopyRoom, Copyable}
+use Rattle.extend_parts.proofs.Copy.{column-none, column-more, passed-none, passed-more, length-column, length-copied}
 use Rattle.extend_parts.proofs.Calls.{Ns, Owned, OldPassed, calls-old-passed}
 use Rattle.rows_records.proofs.row_at.Symbol as at-def
 use Rattle.rows_records.proofs.row_at.Symbol.{name as #row-at}

@@ -50,7 +50,8 @@ use Rattle.rows_records.proofs.Elem.{knows, look-elem, store-elem}
 use Rattle.rows_records.proofs.RowKit.{word, half, fits-16, typed, row-elem, row-makes, held}
 use Rattle.rows_records.proofs.Rows.{Rs}
 use Rattle.rows_records.proofs.Walk.{by-bool, loops-by, walk-through}
-use Rattle.extend_parts.specs.Lay.{withPart, laidTo, EndsRoom, laid-none, laid-more, length-laid}
+use Rattle.extend_parts.specs.Lay.{withPart, laidTo, EndsRoom}
+use Rattle.extend_parts.proofs.Lay.{laid-none, laid-more, length-laid}
 use Rattle.extend_parts.proofs.Calls.{Ns, Owned, WithPart, calls-with-part}
 use Rattle.extend_parts.proofs.with_part.Symbol as part-def
 use Rattle.extend_parts.proofs.with_part.Symbol.{name as #with-part}

@@ -6,7 +6,8 @@ use mathlib.Core.List.{List}
 use lib.ListN.{length, getD, set, length-set}
 use lib.Seq.{paste, paste-zero, length-paste}
 use borrow.Author.Tests.{lt-ltb, le-ltb}
-use Rattle.extend_parts.specs.Copy.{written, paste-more}
+use Rattle.extend_parts.specs.Copy.{written}
+use Rattle.extend_parts.proofs.Copy.{paste-more}
 use Rattle.extend_parts.proofs.write_part.Statement.{statement}
 use Rattle.extend_parts.proofs.write_part.Tie as tie
 

@@ -3,7 +3,8 @@
 -- | use mathlib.Core.Path.{subst}
 -- | use Rattle.extend_passes.proofs.Stages.{has, counts, in-rows, lays, copies, joins, fills, extends}
 -- | use mathlib.Core.Path.{subst}
--- | use Rattle.extend_passes.specs.Whole.{indexOf, weave-asked}
+-- | use Rattle.extend_passes.specs.Whole.{indexOf}
+-- | use Rattle.extend_passes.proofs.Whole.{weave-asked}
 -- | n, woven = weave_new at (indexOf w d old (now from′) (now lefts) (now rights)): weave-asked (asked .0)
 -- | i, counted = count_rows: counts asked woven long.left@weave_new
 -- | row, row-is = row_at: in-rows asked woven long.left@weave_new counted
@@ -17,7 +18,8 @@ use Rattle.rows_records.proofs.Prelude.{_≡_, refl, _∙_, sym, ℕ, _+_, _*_,
 use contract.Running.{tablesOf}
 use mathlib.Core.Path.{subst}
 use Rattle.extend_passes.proofs.Stages.{has, counts, in-rows, lays, copies, joins, fills, extends}
-use Rattle.extend_passes.specs.Whole.{indexOf, weave-asked, PassesAsked}
+use Rattle.extend_passes.specs.Whole.{indexOf, PassesAsked}
+use Rattle.extend_passes.proofs.Whole.{weave-asked}
 use Rattle.sums_slide.specs.declared.Place.{Place}
 use Rattle.sums_slide.proofs.Place as Placeᵀ
 use Rattle.sums_slide.proofs.Place.Laws as Placeᴸ

@@ -14,7 +14,8 @@ use Rattle.meaning_rows.specs.declared.Row.{Row}
 use Rattle.meaning_rows.proofs.Grown.{lastEnds}
 use Rattle.sums_slide.specs.Ends.{raisedEnd}
 use Rattle.build_fill.specs.Turn.{Small}
-use Rattle.extend_passes.specs.Steps.{joinsOf, joinable-as, joined-as, joins-some, joinable-lent, joined-back}
+use Rattle.extend_passes.specs.Steps.{joinsOf}
+use Rattle.extend_passes.proofs.Steps.{joinable-as, joined-as, joins-some, joinable-lent, joined-back}
 use Rattle.extend_passes.proofs.join_first.Statement.{statement}
 use Rattle.extend_passes.proofs.join_first.Tie as tie
 

@@ -9,7 +9,8 @@ use lib.ListN.{length}
 use Rattle.meaning_rows.proofs.Grown.{lastEnds}
 use Rattle.rows_pack.specs.Packed.{total, Summed}
 use Rattle.extend_new.specs.New.{lessJoin}
-use Rattle.extend_passes.specs.Steps.{joinsOf, less-long}
+use Rattle.extend_passes.specs.Steps.{joinsOf}
+use Rattle.extend_passes.proofs.Steps.{less-long}
 use Rattle.extend_passes.proofs.sum_joined.Statement.{statement}
 use Rattle.extend_passes.proofs.sum_joined.Tie as tie
 

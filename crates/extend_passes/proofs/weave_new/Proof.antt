@@ -1,13 +1,14 @@
 -- Written by tools/walk from the plan in the lines marked |. Change those, and run `tools/walk extend_passes weave_new`.
 -- The row numbers of the new windows are listed, old rows and new ones woven, and the records past them cleared.
--- | use Rattle.extend_passes.specs.Shell.{lists, weaves, clears, woven-as}
+-- | use Rattle.extend_passes.proofs.Shell.{lists, weaves, clears, woven-as}
 -- | k, listed = list_numbers: lists asked
 -- | n, made = weave_rows: weaves asked listed
 -- | u, rows-are = clear_rows: clears asked listed made
 -- | ends: woven-as asked listed made rows-are
 use Rattle.rows_records.proofs.Prelude.{refl, ℕ, List, [], _∷_, ℤ, length, URA, fullShare, named, w64, Val, SProp, ent, emp, id⊢, Memory, Routine, Heap, WpFn, Tables, Atoms, Lfts, Shares, Fun, factI, givenOf, tables, Given, Item, ⋆, _$_, _∵_, !, qed, by, move, keep, whole, sub, agg, look, init, stop, from, of-opd, and-then, no-more, land, returns, enter, alloc1, alloc0, params1, pass1, pass0, FmC, fmOf, Is, i32, u32, RefT, ptr, now, name, sliceVal, Room, slice-vals, shr-slice-tells, mut-slice-tells, Meets, tripleOf, entered, cited, needs, AtEntry, uint, nothing, Lent, value, kept, lends, shares, token, viewed, lent-at, holds, empty, tidy, frees-all, calls-with, leaves-with, meets-with, loc, part, start, put-at}
 use contract.Running.{tablesOf}
-use Rattle.extend_passes.specs.Shell.{lists, weaves, clears, woven-as, WeaveAsked}
+use Rattle.extend_passes.specs.Shell.{WeaveAsked}
+use Rattle.extend_passes.proofs.Shell.{lists, weaves, clears, woven-as}
 use Rattle.meaning_rows.specs.declared.Row.{Row}
 use Rattle.meaning_rows.proofs.Row as Rowᵀ
 use Rattle.extend_passes.proofs.list_numbers as list-numbers

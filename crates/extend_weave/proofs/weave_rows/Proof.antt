@@ -53,7 +53,8 @@ use Rattle.rows_records.proofs.RowKit.{word, half, fits-16, typed, row-elem, ro
 use Rattle.rows_records.proofs.Rows.{Rs, Own, Good, low, RowOr, calls-row-or}
 use Rattle.rows_records.proofs.Walk.{by-bool, loops-by, walk-through}
 use Rattle.extend_weave.specs.Turn.{endRow, lowAt, chosenOf, oldAfter, numberAfter, madeAfter, Cell}
-use Rattle.extend_weave.specs.Weave.{Weavable, Weaving, Made, weaving-cell, weaving-starts, weaving-ends, weaving-room, weaving-turn, weaving-falls}
+use Rattle.extend_weave.specs.Weave.{Weavable, Made}
+use Rattle.extend_weave.proofs.Weave.{Weaving, weaving-cell, weaving-starts, weaving-ends, weaving-room, weaving-turn, weaving-falls}
 use Rattle.extend_weave.proofs.Calls.{Ns, Owned, EndRow, LowAt, Chosen, OldAfter, NumberAfter, MadeAfter, calls-end-row, calls-low-at, calls-chosen, calls-old-after, calls-number-after, calls-made-after}
 use Rattle.rows_records.proofs.row_or.Symbol as row-def
 use Rattle.rows_records.proofs.row_or.Symbol.{name as #row-or}

@@ -2,7 +2,7 @@
 use native.Mathlib.Omega.{arith}
 use lib.IntN.{ℤ, pos}
 use lib.ListN.{length-replicate}
-use Rattle.find.specs.Reading.{starts, ends}
+use Rattle.find.proofs.Reading.{starts, ends}
 use borrow.Author.Needs.{needs}
 use Rattle.find.proofs.main.Statement.{statement}
 use Rattle.find.proofs.main.Tie as tie

@@ -8,7 +8,7 @@ use mir.Syntax.{w64}
 use mir.Val.{toZ, ofZ}
 use Rattle.meaning_numbers.proofs.Rep.{z-sub}
 use Rattle.meaning_numbers.proofs.Machine.{zmach, z-abs, z-cast, z-fits}
-use Rattle.numbers.specs.Row.{row-up, row-down}
+use Rattle.numbers.proofs.Row.{row-up, row-down}
 use Rattle.numbers.proofs.floor_quotient.Statement.{statement}
 use Rattle.numbers.proofs.floor_quotient.Tie as tie
 

@@ -5,7 +5,7 @@ use Prim.Native.Nat.{_*_, _≤_}
 use lib.IntN.{_-ℤ_, natAbs}
 use native.Mathlib.Omega.{arith}
 use Rattle.meaning_curves.proofs.Values.{cost-le}
-use Rattle.numbers.specs.Back.{in-back, in-arg}
+use Rattle.numbers.proofs.Back.{in-back, in-arg}
 use Rattle.numbers.proofs.squared.Statement.{statement}
 use Rattle.numbers.proofs.squared.Tie as tie
 

@@ -1,9 +1,10 @@
 -- `program_input::refuse_call` meets its contract, one part of the table after the other. Assumes nothing.
 use borrow.Author.Needs.{needs}
 use Prim.Native.Nat.{_≤_}
-use Rattle.refusals.specs.Refusal.{line-before, passes, part-refuses, part-passes}
+use Rattle.refusals.specs.Refusal.{passes}
+use Rattle.refusals.proofs.RefusalLaws.{line-before, part-refuses, part-passes}
 use Rattle.program_input.specs.Tables.{kindOf, valuesTable, numbersTable, callTable}
-use Rattle.program_input.specs.Text.{values-lack, numbers-lack, series-few, query-in, query-few}
+use Rattle.program_input.proofs.Text.{values-lack, numbers-lack, series-few, query-in, query-few}
 use Rattle.meaning_entries.proofs.Refusal.{Passed}
 use Rattle.meaning_entries.specs.Refusal.{Condition, flatQuery, normalFlat}
 use lib.ListN.{length, take, length-take}

@@ -2,7 +2,7 @@
 use borrow.Author.Needs.{needs}
 use Prim.Native.Nat.{ℕ}
 use Rattle.meaning_entries.specs.Buffers.{zeroRow}
-use Rattle.program_print.specs.Whole.{not-refused, rows-few, runs-few, prints}
+use Rattle.program_print.proofs.Whole.{not-refused, rows-few, runs-few, prints}
 use lib.ListN.{length-take, length-replicate}
 use native.Mathlib.Omega.{arith}
 use Rattle.program_print.proofs.print_answer.Statement.{statement}

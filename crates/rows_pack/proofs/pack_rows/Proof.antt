@@ -56,7 +56,8 @@ use Rattle.meaning_rows.proofs.Row as T
 use Rattle.meaning_rows.proofs.Row.Laws as T′
 use Rattle.rows_records.proofs.Elem.{store-elem}
 use Rattle.rows_records.proofs.RowKit.{word, half, IsRow, fits-16, typed, row-elem, row-makes, held}
-use Rattle.rows_pack.specs.Packed.{rowFrom, RowRoom, Packable, packed, packed-none, packed-more, length-packed}
+use Rattle.rows_pack.specs.Packed.{rowFrom, RowRoom, Packable, packed}
+use Rattle.rows_pack.proofs.Packed.{packed-none, packed-more, length-packed}
 use Rattle.rows_pack.proofs.row_from as row-from
 use Rattle.rows_pack.proofs.row_from.Symbol as row-from-def
 use Rattle.rows_pack.proofs.row_from.Symbol.{name as #rows-pack·row-from}

@@ -4,7 +4,7 @@ use Prim.Native.Nat.{ℕ, _-_, _≤_, _<_}
 use native.Mathlib.Omega.{arith}
 use native.Mathlib.Decide.{decLt}
 use lib.ListN.{length, getD, length-set, List·getD-eq-default}
-use Rattle.sums_slide.specs.Marks.{clear-more}
+use Rattle.sums_slide.proofs.Marks.{clear-more}
 use Rattle.sums_count.proofs.clear_numbers.Statement.{statement}
 use Rattle.sums_count.proofs.clear_numbers.Tie as tie
 

@@ -2,7 +2,7 @@
 use mathlib.Core.Path.{_≡_}
 use Prim.Native.Nat.{_*_, _/_, _≤_}
 use native.Mathlib.Omega.{arith}
-use Rattle.sums_count.specs.Tally.{Sought, half-or-none, sought-half}
+use Rattle.sums_count.proofs.Tally.{Sought, half-or-none, sought-half}
 use Rattle.sums_count.proofs.find_number.Statement.{statement}
 use Rattle.sums_count.proofs.find_number.Tie as tie
 

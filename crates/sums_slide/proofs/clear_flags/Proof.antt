@@ -3,7 +3,7 @@ use mathlib.Core.Path.{_≡_, refl, _∙_}
 use Prim.Native.Nat.{ℕ, _-_, _≤_, _<_}
 use native.Mathlib.Omega.{arith}
 use lib.ListN.{length, getD, length-set}
-use Rattle.sums_slide.specs.Marks.{clear-more}
+use Rattle.sums_slide.proofs.Marks.{clear-more}
 use Rattle.sums_slide.proofs.clear_flags.Statement.{statement}
 use Rattle.sums_slide.proofs.clear_flags.Tie as tie
 

@@ -6,7 +6,8 @@ use native.Mathlib.Omega.{arith}
 use lib.ListN.{length}
 use mathlib.Core.List.{List}
 use Rattle.sums_slide.specs.Levels.{level, rowOf, windowsOf}
-use Rattle.sums_slide.specs.Marks.{met, lit, lit-picked}
+use Rattle.sums_slide.specs.Marks.{met, lit}
+use Rattle.sums_slide.proofs.Marks.{lit-picked}
 use Rattle.sums_slide.specs.Picked.{picked}
 use Rattle.sums_slide.proofs.list_chunk.Statement.{statement}
 use Rattle.sums_slide.proofs.list_chunk.Tie as tie

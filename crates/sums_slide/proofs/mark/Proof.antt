@@ -5,7 +5,8 @@ use Prim.Native.Nat.{ℕ, _-_, _/_, _≤_}
 use native.Mathlib.Omega.{arith}
 use lib.ListN.{length}
 use Rattle.sums_slide.specs.Levels.{level, rowOf, windowsOf, level-small}
-use Rattle.sums_slide.specs.Marks.{Flags, flags-start, flags-run, length-flagged}
+use Rattle.sums_slide.specs.Marks.{Flags}
+use Rattle.sums_slide.proofs.Marks.{flags-start, flags-run, length-flagged}
 use Rattle.sums_slide.proofs.mark.Statement.{statement}
 use Rattle.sums_slide.proofs.mark.Tie as tie
 

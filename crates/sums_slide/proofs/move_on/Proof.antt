@@ -5,8 +5,9 @@ use Prim.Native.Nat.{_+_}
 use native.Mathlib.Omega.{arith}
 use Rattle.meaning_curves.specs.Curve.{at}
 use Rattle.numbers.specs.Raised.{raised, raised-le}
-use Rattle.numbers.specs.Back.{in-arg, raised-back}
-use Rattle.sums_slide.specs.Levels.{level, level-next, level-small}
+use Rattle.numbers.proofs.Back.{in-arg, raised-back}
+use Rattle.sums_slide.specs.Levels.{level, level-small}
+use Rattle.sums_slide.proofs.Levels.{level-next}
 use Rattle.sums_slide.proofs.move_on.Statement.{statement}
 use Rattle.sums_slide.proofs.move_on.Tie as tie
 

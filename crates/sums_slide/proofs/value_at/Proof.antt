@@ -5,7 +5,7 @@ use Prim.Native.Nat.{_≤_}
 use native.Mathlib.Omega.{arith}
 use lib.ListN.{length, List·getD-eq-default}
 use lib.IntN.{pos}
-use Rattle.numbers.specs.Back.{in-arg, raised-back}
+use Rattle.numbers.proofs.Back.{in-arg, raised-back}
 use Rattle.sums_slide.proofs.value_at.Statement.{statement}
 use Rattle.sums_slide.proofs.value_at.Tie as tie
 

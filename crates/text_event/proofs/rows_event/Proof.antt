@@ -4,7 +4,7 @@ use mathlib.Core.Path.{_≡_, refl}
 use mir.Syntax.{w64}
 use mir.Val.{toZ, ofZ}
 use mir.ValLaws.{toZ-ofZ}
-use Rattle.text_event.specs.Event.{run-up}
+use Rattle.text_event.proofs.EventLaws.{run-up}
 use borrow.Author.Needs.{needs}
 use Rattle.text_event.proofs.rows_event.Statement.{statement}
 use Rattle.text_event.proofs.rows_event.Tie as tie

@@ -7,7 +7,7 @@ use lib.ListN.{length}
 use mir.Syntax.{w64}
 use mir.Val.{toZ, ofZ}
 use mir.ValLaws.{toZ-ofZ}
-use Rattle.text_feed.specs.Feed.{Sofar, sofar-start, sofar-to, sofar-value, sofar-ended, sofar-refuse, comes-failed, comes-going}
+use Rattle.text_feed.proofs.FeedLaws.{Sofar, sofar-start, sofar-to, sofar-value, sofar-ended, sofar-refuse, comes-failed, comes-going}
 use Rattle.text_feed.proofs.feed.Statement.{statement}
 use Rattle.text_feed.proofs.feed.Tie as tie
 

@@ -6,7 +6,7 @@ use mir.Val.{toZ, ofZ}
 use mir.ValLaws.{toZ-ofZ}
 use Rattle.meaning_numbers.specs.Order.{within}
 use Rattle.meaning_numbers.proofs.Machine.{zmach}
-use Rattle.text_feed.specs.Keep.{gt-leZ, le-leZ}
+use Rattle.text_feed.proofs.Keep.{gt-leZ, le-leZ}
 use Rattle.text_feed.proofs.in_limits.Statement.{statement}
 use Rattle.text_feed.proofs.in_limits.Tie as tie
 

@@ -2,7 +2,8 @@
 use Prim.Native.Nat.{_-_, _≤_}
 use native.Mathlib.Omega.{arith}
 use lib.ListN.{length}
-use Rattle.text_event.specs.Event.{RunsFrom, none, one, run-up}
+use Rattle.text_event.specs.Event.{RunsFrom, none, one}
+use Rattle.text_event.proofs.EventLaws.{run-up}
 use Rattle.text_judge.specs.Tally.{tellTally, Fits}
 use Rattle.text_judge.proofs.Events.{run-fits}
 use borrow.Author.Needs.{needs}

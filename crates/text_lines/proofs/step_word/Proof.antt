@@ -2,7 +2,8 @@
 use mathlib.Core.Path.{sym, _∙_}
 use native.Mathlib.Omega.{arith}
 use borrow.Author.Tests.{lt-ltb, le-ltb}
-use Rattle.text_lines.specs.Step.{wordStep, word-short}
+use Rattle.text_lines.specs.Step.{wordStep}
+use Rattle.text_lines.proofs.Step.{word-short}
 use borrow.Author.Needs.{needs}
 use Rattle.text_lines.proofs.step_word.Statement.{statement}
 use Rattle.text_lines.proofs.step_word.Tie as tie

@@ -2,8 +2,8 @@
 use lib.ListN.{take}
 use Rattle.meaning_text.specs.Bytes.{bytes}
 use Rattle.meaning_entries.specs.Demand3.{pairs}
-use Rattle.text_put.specs.Put.{put-then}
-use Rattle.text_list.specs.Found.{found-parts}
+use Rattle.text_put.proofs.Put.{put-then}
+use Rattle.text_list.proofs.Found.{found-parts}
 use borrow.Author.Needs.{needs}
 use Rattle.text_list.proofs.write_found.Statement.{statement}
 use Rattle.text_list.proofs.write_found.Tie as tie

@@ -10,7 +10,7 @@ use mir.Val.{toZ, ofZ}
 use mir.ValLaws.{toZ-ofZ}
 use Rattle.meaning_numbers.proofs.Machine.{zmach32}
 use Rattle.meaning_text.specs.Number.{spellℕ}
-use Rattle.text_put.specs.Digits.{sfits-wide, abs-small, spell-minus, spell-plus}
+use Rattle.text_put.proofs.Digits.{sfits-wide, abs-small, spell-minus, spell-plus}
 use borrow.Author.Needs.{needs}
 use Rattle.text_put.proofs.number_length.Statement.{statement}
 use Rattle.text_put.proofs.number_length.Tie as tie

@@ -3,7 +3,7 @@ use mathlib.Core.Path.{_≡_}
 use mir.Syntax.{w32, w64}
 use mir.Val.{toZ, ofZ}
 use mir.ValLaws.{toZ-ofZ}
-use Rattle.text_put.specs.Digits.{sfits-wide}
+use Rattle.text_put.proofs.Digits.{sfits-wide}
 use borrow.Author.Needs.{needs}
 use Rattle.text_put.proofs.write_i32.Statement.{statement}
 use Rattle.text_put.proofs.write_i32.Tie as tie

@@ -5,8 +5,8 @@ use lib.Signed.{_≤ℤ_, _<ℤ_}
 use mir.Syntax.{w64}
 use mir.Val.{toZ, ofZ}
 use Rattle.meaning_numbers.proofs.Machine.{zmach, z-abs}
-use Rattle.text_put.specs.Digits.{spell-minus, spell-plus}
-use Rattle.text_put.specs.Put.{put-then}
+use Rattle.text_put.proofs.Digits.{spell-minus, spell-plus}
+use Rattle.text_put.proofs.Put.{put-then}
 use borrow.Author.Needs.{needs}
 use Rattle.text_put.proofs.write_number.Statement.{statement}
 use Rattle.text_put.proofs.write_number.Tie as tie

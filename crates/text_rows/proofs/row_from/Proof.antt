@@ -6,7 +6,7 @@ use lib.ListN.{length}
 use mir.Syntax.{w64}
 use mir.Val.{toZ, ofZ}
 use mir.ValLaws.{toZ-ofZ}
-use Rattle.text_event.specs.Event.{row-up, runs-up, run-up, value-up}
+use Rattle.text_event.proofs.EventLaws.{row-up, runs-up, run-up, value-up}
 use Rattle.text_rows.proofs.Turn.{Going, going-start, line-run, line-row, line-runs, line-value, line-closed, line-refuse, line-stop}
 use borrow.Author.Needs.{needs}
 use Rattle.text_rows.proofs.row_from.Statement.{statement}

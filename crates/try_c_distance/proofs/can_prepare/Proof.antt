@@ -4,8 +4,8 @@ use mathlib.Core.Path.{sym, _∙_}
 use native.Mathlib.Omega.{arith}
 use lib.ListN.{length}
 use Rattle.meaning_curves.proofs.Same.{spread-same}
-use Rattle.distance_query.specs.Ready.{from-start}
-use Rattle.distance_match.specs.Alike.{says-yes, says-no}
+use Rattle.distance_query.proofs.Ready.{from-start}
+use Rattle.distance_match.proofs.AlikeLaws.{says-yes, says-no}
 use Rattle.try_c_distance.proofs.Answers.{raw-normal}
 use Rattle.try_c_distance.proofs.can_prepare.Statement.{statement}
 use Rattle.try_c_distance.proofs.can_prepare.Tie as tie

@@ -5,7 +5,8 @@ use Prim.Native.Nat.{_-_}
 use native.Mathlib.Omega.{arith}
 use lib.ListN.{length, take}
 use Rattle.text_feed.specs.declared.Feeding.{Feeding}
-use Rattle.try_c_lines.specs.Piece.{Stands, Comes}
+use Rattle.try_c_lines.specs.Piece.{Stands}
+use Rattle.try_c_lines.proofs.PieceLaws.{Comes}
 use Rattle.try_c_lines.proofs.Laws.{begins, goes-on, fails, ends, told}
 use Rattle.try_c_lines.proofs.lines_read.Statement.{statement}
 use Rattle.try_c_lines.proofs.lines_read.Tie as tie

@@ -9,7 +9,7 @@ use mir.ValLaws.{toZ-ofZ}
 use Rattle.meaning_numbers.proofs.Sum.{Σℕ-le}
 use Rattle.meaning_curves.specs.Curve.{stretch}
 use Rattle.numbers.specs.Raised.{raised, raised-le}
-use Rattle.values.specs.Window.{window-raised}
+use Rattle.values.proofs.Window.{window-raised}
 use Rattle.values.proofs.window_sum.Statement.{statement}
 use Rattle.values.proofs.window_sum.Tie as tie
 

@@ -1,0 +1,7 @@
+-- Laws of check_list.
+pub mod Candidates
+pub mod Clear
+pub mod Found
+pub mod Listed
+pub mod Members
+pub mod Turn

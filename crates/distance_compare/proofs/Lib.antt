@@ -1,0 +1,4 @@
+-- Laws of distance_compare.
+pub mod Answer
+pub mod Room
+pub mod Within
