@@ -38,13 +38,13 @@ use Rattle.meaning_curves.specs.Curve.{windowSum}
 use Rattle.meaning_rows.specs.declared.Row.{Row}
 use Rattle.meaning_rows.proofs.Row as T
 use Rattle.meaning_rows.proofs.Row.Laws as T′
-use Rattle.sums_slide.specs.declared.Place.{Place as Spot}
+use Rattle.sums_slide.specs.declared.Window.{Window as Spot}
 use Rattle.sums_slide.specs.Levels.{sumAt}
 use Rattle.sums_slide.proofs.Levels.{sum-is}
 use Rattle.sums_slide.proofs.sum_of as sum
 use Rattle.sums_slide.proofs.sum_of.Symbol.{name as #sum-of}
-use Rattle.sums_slide.proofs.Place as Pl
-use Rattle.sums_slide.proofs.Place.Laws as Pl′
+use Rattle.sums_slide.proofs.Window as Pl
+use Rattle.sums_slide.proofs.Window.Laws as Pl′
 use Rattle.rows_records.proofs.Rows.{low}
 use Rattle.rows_records.proofs.Again.{LentAgain}
 use Rattle.rows_records.proofs.Lends.{Own, lend, comes, twin}

@@ -1,4 +1,4 @@
--- The pass over the windows: rows as records with ranges and parts (`Rowed`), what holds where a turn begins (`Going`), and a turn over plain variables. Assumes nothing.
+-- The pass over the windows: rows as records with ranges and parts (`Rowed`), what holds where a turn begins (`Going`), and a turn over plain variables.
 use mathlib.Core.Path.{_≡_, sym, ap, _∙_, subst}
 use mathlib.Core.Bool.{Bool, true, false}
 use mathlib.Core.List.{List}
@@ -16,7 +16,7 @@ use Rattle.meaning_rows.specs.Runs.{runCount}
 use Rattle.meaning_rows.proofs.Range.{is-inside, inside-below, inside-above}
 use Rattle.meaning_rows.proofs.Cursors.{fileRight}
 use Rattle.rows_records.specs.Records.{zeroRow}
-use Rattle.sums_slide.specs.declared.Place.{Place}
+use Rattle.sums_slide.specs.declared.Window.{Window}
 use Rattle.sums_slide.specs.Levels.{windowsOf}
 use Rattle.sums_slide.specs.Change.{Change}
 use Rattle.rows_find.specs.Search.{Climbs, Reached, FoundRow}
@@ -24,7 +24,7 @@ use Rattle.build_parts.specs.Part.{written}
 use Rattle.build_parts.specs.Filling.{partStart, parts-laid, Filling, RunOf, some-left, cursor-is, filling-run}
 use Rattle.build_fill.specs.Turn.{At, TurnAsked, Turned}
 use Rattle.build_fill.proofs.Turn.{change-held}
-use Rattle.build_fill.specs.Pass.{Rowed, Passable, Passed}
+use Rattle.build_fill.specs.Pass.{Rowed, Passable, PassMade}
 
 module _ {P : ℕ → ℕ → Bool} {sum : ℕ → ℤ} {from windows : ℕ} {rows : List Row} {n : ℕ} (h : Rowed P sum from windows rows n) where
   pub rowed-climbs : Climbs rows n
@@ -79,12 +79,12 @@ module _ {P : ℕ → ℕ → Bool} {sum : ℕ → ℤ} {from windows : ℕ} {ro
             let p : top k ≤ℤ low i = h .apart k i y l in inside-above (low k) (top k) (sum j) (omega (zarith, in-i .0))
       ]
 
-module _ {P : ℕ → ℕ → Bool} {s : List ℤ} {w e : ℕ} {from : Place} {rows : List Row} {n : ℕ} {left₀ right₀ : List ℕ} (h : Passable P s w e from rows n left₀ right₀) where
+module _ {P : ℕ → ℕ → Bool} {s : List ℤ} {w e : ℕ} {from : Window} {rows : List Row} {n : ℕ} {left₀ right₀ : List ℕ} (h : Passable P s w e from rows n left₀ right₀) where
   abbrev W : ℕ
   W = windowsOf s w
 
   -- where a turn begins
-  pub record Going (at : Place) (left right : List ℕ) : Type 0 where
+  pub record Going (at : Window) (left right : List ℕ) : Type 0 where
     pub place : At s w e at
     pub after : from .offset ≤ at .offset
     pub filling : Filling n W P left₀ right₀ (at .offset) left right
@@ -92,10 +92,10 @@ module _ {P : ℕ → ℕ → Bool} {s : List ℤ} {w e : ℕ} {from : Place} {r
   pub going-starts : Going from left₀ right₀
   going-starts = record { place = h .place; after = omega arith; filling = h .filling }
 
-  pub going-ends : (at : Place) (left right : List ℕ) → Going at left right → W ≤ at .offset → Passed P s w n left₀ right₀ left right
+  pub going-ends : (at : Window) (left right : List ℕ) → Going at left right → W ≤ at .offset → PassMade P s w n left₀ right₀ left right
   going-ends at left right g l = let e : at .offset ≡ W = omega (arith, g .place .below) in subst (λ (j : ℕ). Filling n W P left₀ right₀ j left right) e (g .filling)
 
-  module _ (at : Place) (left right : List ℕ) (g : Going at left right) (less : at .offset < W) {r : Row} (f : FoundRow rows n (windowSum s w (at .offset)) r) where
+  module _ (at : Window) (left right : List ℕ) (g : Going at left right) (less : at .offset < W) {r : Row} (f : FoundRow rows n (windowSum s w (at .offset)) r) where
     abbrev i : ℕ
     i = f .place
 
@@ -145,10 +145,10 @@ module _ {P : ℕ → ℕ → Bool} {s : List ℤ} {w e : ℕ} {from : Place} {r
           };
         }
 
-    pub going-nears : {t : Place} {left′ right′ : List ℕ} → Turned s w e j r left right t left′ right′ → j < t .offset
+    pub going-nears : {t : Window} {left′ right′ : List ℕ} → Turned s w e j r left right t left′ right′ → j < t .offset
     going-nears v = change-held less (found-holds (h .rowed) j (g .after) less f) (v .change)
 
-    pub going-next : {t : Place} {left′ right′ : List ℕ} → Turned s w e j r left right t left′ right′ → Going t left′ right′
+    pub going-next : {t : Window} {left′ right′ : List ℕ} → Turned s w e j r left right t left′ right′ → Going t left′ right′
     going-next {t} {left′} {right′} v =
         let o : RunOf n W P left₀ right₀ i j (t .offset) = run-of (t .offset) (v .change) in
         let b : r .first + written r right ≡ partStart n W P i + runCount (P i) j = omega (arith, first-is, written-is) in

@@ -1,4 +1,4 @@
--- A turn of the pass: one run of windows with sums in the range of a row, filed in the row's part. Assumes nothing.
+-- A turn of the pass: one run of windows with sums in the range of a row, filed in the row's part.
 use mathlib.Core.Path.{_≡_, refl, sym, _∙_}
 use mathlib.Core.Bool.{Bool, true}
 use mathlib.Core.List.{List}
@@ -9,7 +9,7 @@ use lib.IntN.{ℤ}
 use Rattle.meaning_numbers.proofs.Tests.{clash}
 use Rattle.meaning_curves.specs.Curve.{windowSum}
 use Rattle.meaning_rows.specs.Range.{inside}
-use Rattle.sums_slide.specs.declared.Place.{Place}
+use Rattle.sums_slide.specs.declared.Window.{Window}
 use Rattle.sums_slide.specs.Levels.{level, placeFrom, Lent, windowsOf, level-small}
 use Rattle.sums_slide.proofs.Levels.{level-is}
 use Rattle.sums_slide.specs.Ends.{raisedEnd}
@@ -18,11 +18,11 @@ use Rattle.sums_slide.specs.Change.{Change, Stop}
 use Rattle.build_fill.specs.Turn.{At}
 
 -- the first window
-pub first-at : {s : List ℤ} {w e : ℕ} {at : Place} → Lent s w e → at ≡ placeFrom s w e 0 → At s w e at × (at .offset ≡ 0)
+pub first-at : {s : List ℤ} {w e : ℕ} {at : Window} → Lent s w e → at ≡ placeFrom s w e 0 → At s w e at × (at .offset ≡ 0)
 first-at h q = rw q (record { lent = h; below = omega arith; sum = refl }, refl)
 
 -- what `sum_of` asks of a window
-pub sum-asked : {s : List ℤ} {w e : ℕ} {at : Place} → At s w e at → (w ≤ 256) × (e ≤ 1000000) × (at .level ≤ 1000000000)
+pub sum-asked : {s : List ℤ} {w e : ℕ} {at : Window} → At s w e at → (w ≤ 256) × (e ≤ 1000000) × (at .level ≤ 1000000000)
 sum-asked {at = at} h = (h .lent .most, h .lent .small, omega (arith, h .sum, level-small (at .offset) (h .lent)))
 
 -- a change of one test is a change of another that agrees with it

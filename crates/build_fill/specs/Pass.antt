@@ -1,4 +1,4 @@
--- The pass over the windows: rows as records with ranges and parts (`Rowed`), what holds where a turn begins, and a turn over plain variables. Assumes nothing.
+-- The pass over the windows: rows as records with ranges and parts (`Rowed`), what holds where a turn begins, and a turn over plain variables.
 use mathlib.Core.Path.{_≡_}
 use mathlib.Core.Bool.{Bool, true}
 use mathlib.Core.List.{List}
@@ -11,7 +11,7 @@ use Rattle.meaning_rows.specs.declared.Row.{Row}
 use Rattle.meaning_rows.specs.Range.{inside}
 use Rattle.meaning_rows.specs.Runs.{runCount}
 use Rattle.rows_records.specs.Records.{zeroRow}
-use Rattle.sums_slide.specs.declared.Place.{Place}
+use Rattle.sums_slide.specs.declared.Window.{Window}
 use Rattle.sums_slide.specs.Levels.{windowsOf}
 use Rattle.build_parts.specs.Filling.{partStart, Filling}
 use Rattle.build_fill.specs.Turn.{Small, At}
@@ -33,11 +33,11 @@ pub record Rowed (P : ℕ → ℕ → Bool) (sum : ℕ → ℤ) (from windows : 
   pub runs : (i : ℕ) → i < n → getD rows i zeroRow .runs ≡ runCount (P i) windows
 
 -- the pass can begin at a place, with what stands in the buffers
-pub record Passable (P : ℕ → ℕ → Bool) (s : List ℤ) (w e : ℕ) (from : Place) (rows : List Row) (n : ℕ) (left right : List ℕ) : Type 0 where
+pub record Passable (P : ℕ → ℕ → Bool) (s : List ℤ) (w e : ℕ) (from : Window) (rows : List Row) (n : ℕ) (left right : List ℕ) : Type 0 where
   pub place : At s w e from
   pub rowed : Rowed P (windowSum s w) (from .offset) (windowsOf s w) rows n
   pub filling : Filling n (windowsOf s w) P left right (from .offset) left right
 
 -- every window is filed
-abbrev pub Passed : (ℕ → ℕ → Bool) → List ℤ → ℕ → ℕ → List ℕ → List ℕ → List ℕ → List ℕ → Type 0
-Passed P s w n left right left′ right′ = Filling n (windowsOf s w) P left right (windowsOf s w) left′ right′
+abbrev pub PassMade : (ℕ → ℕ → Bool) → List ℤ → ℕ → ℕ → List ℕ → List ℕ → List ℕ → List ℕ → Type 0
+PassMade P s w n left right left′ right′ = Filling n (windowsOf s w) P left right (windowsOf s w) left′ right′

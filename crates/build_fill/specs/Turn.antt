@@ -1,4 +1,4 @@
--- A turn of the pass: one run of windows with sums in the range of a row, filed in the row's part. Assumes nothing.
+-- A turn of the pass: one run of windows with sums in the range of a row, filed in the row's part.
 use mathlib.Core.Path.{_≡_}
 use mathlib.Core.Bool.{true}
 use mathlib.Core.List.{List}
@@ -11,7 +11,7 @@ use Rattle.meaning_curves.specs.Curve.{windowSum}
 use Rattle.meaning_rows.specs.declared.Row.{Row}
 use Rattle.meaning_rows.specs.Range.{inside}
 use Rattle.meaning_rows.proofs.Cursors.{fileRight}
-use Rattle.sums_slide.specs.declared.Place.{Place}
+use Rattle.sums_slide.specs.declared.Window.{Window}
 use Rattle.sums_slide.specs.Levels.{level, Lent, windowsOf}
 use Rattle.sums_slide.specs.Change.{Change}
 use Rattle.build_parts.specs.Part.{written, PartRoom}
@@ -23,12 +23,12 @@ pub record Small (r : Row) : Type 0 where
   pub most : r .up ≤ℤ pos 1000000000
 
 -- a window with its raised sum
-pub record At (s : List ℤ) (w e : ℕ) (at : Place) : Type 0 where
+pub record At (s : List ℤ) (w e : ℕ) (at : Window) : Type 0 where
   pub lent : Lent s w e
   pub below : at .offset ≤ windowsOf s w
   pub sum : at .level ≡ level s w e (at .offset)
 
-pub record TurnAsked (s : List ℤ) (w e : ℕ) (at : Place) (r : Row) (left right : List ℕ) : Type 0 where
+pub record TurnAsked (s : List ℤ) (w e : ℕ) (at : Window) (r : Row) (left right : List ℕ) : Type 0 where
   pub place : At s w e at
   pub below : at .offset < windowsOf s w
   pub held : inside (r .low) (r .up) (windowSum s w (at .offset)) ≡ true
@@ -36,7 +36,7 @@ pub record TurnAsked (s : List ℤ) (w e : ℕ) (at : Place) (r : Row) (left rig
   pub room : PartRoom r left right
 
 -- the run that begins at `from` ends at t, and is filed
-pub record Turned (s : List ℤ) (w e from : ℕ) (r : Row) (left right : List ℕ) (t : Place) (left′ right′ : List ℕ) : Type 0 where
+pub record Turned (s : List ℤ) (w e from : ℕ) (r : Row) (left right : List ℕ) (t : Window) (left′ right′ : List ℕ) : Type 0 where
   pub change : Change (λ j. inside (r .low) (r .up) (windowSum s w j)) from (windowsOf s w) (t .offset)
   pub sum : t .level ≡ level s w e (t .offset)
   pub left-is : left′ ≡ set left (r .first + written r right) from

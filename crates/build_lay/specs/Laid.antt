@@ -1,4 +1,4 @@
--- The rows of a series laid out: their numbers and where their parts end, and what is packed of these. Assumes nothing.
+-- The rows of a series laid out: their numbers and where their parts end, and what is packed of these.
 use mathlib.Core.Path.{_≡_}
 use mathlib.Core.List.{List}
 use Prim.Native.Nat.{ℕ, _+_, _*_, _≤_}

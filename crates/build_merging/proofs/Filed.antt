@@ -1,4 +1,4 @@
--- The packed rows of a series can be merged (`filed-standing`). Assumes nothing.
+-- The packed rows of a series can be merged (`filed-standing`).
 use mathlib.Core.Path.{_≡_}
 use mathlib.Core.List.{List}
 use Prim.Native.Nat.{ℕ, _<_, _≤_}

@@ -37,11 +37,11 @@ use Rattle.meaning_rows.proofs.Row as T
 use Rattle.meaning_rows.proofs.Row.Laws as T′
 use Rattle.rows_records.proofs.Walk.{calls-kept}
 use Rattle.rows_records.proofs.Rows.{Rs, Own, low, Good}
-use Rattle.sums_slide.specs.declared.Place.{Place}
+use Rattle.sums_slide.specs.declared.Window.{Window}
 use Rattle.sums_slide.specs.Levels.{level, Lent, windowsOf, placeFrom}
 use Rattle.sums_slide.specs.Change.{Stop}
-use Rattle.sums_slide.proofs.Place as P
-use Rattle.sums_slide.proofs.Place.Laws as P′
+use Rattle.sums_slide.proofs.Window as P
+use Rattle.sums_slide.proofs.Window.Laws as P′
 use Rattle.sums_slide.specs.Ends.{raisedEnd}
 use Rattle.build_names.specs.Ranges.{LimitedRow}
 use Rattle.build_names.specs.Places.{nameIn, Nameable}
@@ -59,10 +59,10 @@ Zs = RefT (List ℤ)
 abbrev pub OwnZ : Lft → Zs → Fml
 OwnZ κ x = ShrSlice (named 0) κ i32 .own x (slice-vals x)
 
-abbrev pub low-place : Place → Val
+abbrev pub low-place : Window → Val
 low-place = LL.val P.the-type P′.the-laws
 
-abbrev pub IsPlace : Place → Type 0
+abbrev pub IsPlace : Window → Type 0
 IsPlace p = Is P.the-row p (low-place p ∷ [])
 
 module _ {M : Type 1} (𝓤 : URA M) (H : Heap 𝓤) (A : Atoms 𝓤) (mem : Memory → SProp 𝓤) (run : Routine → Fun 𝓤) where
@@ -75,17 +75,17 @@ module _ {M : Type 1} (𝓤 : URA M) (H : Heap 𝓤) (A : Atoms 𝓤) (mem : Mem
   abbrev pub RunEnd : Contract 𝓤
   RunEnd = tripleOf 𝓤 H A end-fn.signature (end-fn.spec 𝓤 H A mem run)
 
-  abbrev pub to-name-at : Lft → Share → Rs → ℕ → ℕ → ℕ → ℕ → Place → NameAt .Ghost
+  abbrev pub to-name-at : Lft → Share → Rs → ℕ → ℕ → ℕ → ℕ → Window → NameAt .Ghost
   to-name-at κ q x n l w e p = (((κ, tt), (q, tt), tt, (x, (n, (l, (w, (e, (p, tt)))))), (slice-vals x, (vint w64 n ∷ [], (vint w64 l ∷ [], (vint w64 w ∷ [], (vint w64 e ∷ [], (low-place p ∷ [], tt))))))), tt)
 
   abbrev pub to-first : Lft → Share → Zs → ℕ → ℕ → FirstPlace .Ghost
   to-first κ q s w e = (((κ, tt), (q, tt), tt, (s, (w, (e, tt))), (slice-vals s, (vint w64 w ∷ [], (vint w64 e ∷ [], tt)))), tt)
 
-  abbrev pub to-run-end : Lft → Share → Zs → ℕ → ℕ → Place → Row → RunEnd .Ghost
+  abbrev pub to-run-end : Lft → Share → Zs → ℕ → ℕ → Window → Row → RunEnd .Ghost
   to-run-end κ q s w e p r = (((κ, tt), (q, tt), tt, (s, (w, (e, (p, (r, tt))))), (slice-vals s, (vint w64 w ∷ [], (vint w64 e ∷ [], (low-place p ∷ [], (low r ∷ [], tt)))))), tt)
 
   module _ (W : Given 𝓤 H A) where
-    asks-name-at : (κ : Lft) (q : Share) (x : Rs) (n l w e : ℕ) (p : Place) → n < 2 ^ 64 → l < 2 ^ 64 → w < 2 ^ 64 → e < 2 ^ 64 → IsPlace p → Nameable (now x) n w e p
+    asks-name-at : (κ : Lft) (q : Share) (x : Rs) (n l w e : ℕ) (p : Window) → n < 2 ^ 64 → l < 2 ^ 64 → w < 2 ^ 64 → e < 2 ^ 64 → IsPlace p → Nameable (now x) n w e p
         → ent 𝓤 (sep 𝓤 (A .lft κ q) (sem 𝓤 H A (Own κ x))) (NameAt .pre (to-name-at κ q x n l w e p))
     asks-name-at κ q x n l w e p gn gl gw ge gp y = qed W (‵ (flft κ q) ∷ ‵ (Own κ x) ∷ []) ∵ says ! y $ nothing ! $ move ! (1 ∷ 0 ∷ []) $ join ! $ frame ! $ nothing ! $
         owned ! P.the-row (Is P.the-row) (LL.makes P.the-type P′.the-plain 𝓤 H A) p _ gp $ fjoin ! $
@@ -96,7 +96,7 @@ module _ {M : Type 1} (𝓤 : URA M) (H : Heap 𝓤) (A : Atoms 𝓤) (mem : Mem
     asks-first κ q s w e gw ge y = qed W (‵ (flft κ q) ∷ ‵ (OwnZ κ s) ∷ []) ∵ says ! y $ nothing ! $ move ! (1 ∷ 0 ∷ []) $ join ! $ frame ! $ nothing ! $
         owned ! usize (Is usize) (uint-makes 𝓤 H A W w64) e _ (refl, ge) $ fjoin ! $ owned ! usize (Is usize) (uint-makes 𝓤 H A W w64) w _ (refl, gw) $ fjoin ! $ move ! (1 ∷ 0 ∷ []) $ fjoin ! $ done !
 
-    asks-run-end : (κ : Lft) (q : Share) (s : Zs) (w e : ℕ) (p : Place) (r : Row) → w < 2 ^ 64 → e < 2 ^ 64 → IsPlace p → Good r
+    asks-run-end : (κ : Lft) (q : Share) (s : Zs) (w e : ℕ) (p : Window) (r : Row) → w < 2 ^ 64 → e < 2 ^ 64 → IsPlace p → Good r
         → Lent (now s) w e × (p .offset ≤ windowsOf (now s) w) × (p .level ≡ level (now s) w e (p .offset)) × LimitedRow r
         → ent 𝓤 (sep 𝓤 (A .lft κ q) (sem 𝓤 H A (OwnZ κ s))) (RunEnd .pre (to-run-end κ q s w e p r))
     asks-run-end κ q s w e p r gw ge gp gr y = qed W (‵ (flft κ q) ∷ ‵ (OwnZ κ s) ∷ []) ∵ says ! y $ nothing ! $ move ! (1 ∷ 0 ∷ []) $ join ! $ frame ! $ nothing ! $
@@ -104,7 +104,7 @@ module _ {M : Type 1} (𝓤 : URA M) (H : Heap 𝓤) (A : Atoms 𝓤) (mem : Mem
         owned ! usize (Is usize) (uint-makes 𝓤 H A W w64) e _ (refl, ge) $ fjoin ! $ owned ! usize (Is usize) (uint-makes 𝓤 H A W w64) w _ (refl, gw) $ fjoin ! $ move ! (1 ∷ 0 ∷ []) $ fjoin ! $ done !
 
 module _ {M : Type 1} {𝓤 : URA M} {H : Heap 𝓤} {A : Atoms 𝓤} {K : Type 0} {W : Given 𝓤 H A} {Γ : List (Item 𝓤)} {E : Env 𝓤 H} {C : Calls 𝓤 H} {Λ : Loops 𝓤 H} {o : Post 𝓤 H} {d : Spot} {rest : Body} {xs : List Operand} where
-  pub calls-name-at : K → FmC 𝓤 H (W .laws) C → (mem : Memory → SProp 𝓤) (run : Routine → Fun 𝓤) → Triple 𝓤 (C #build-names·name-at) (NameAt 𝓤 H A mem run) → (κ : Lft) (q : Share) (x : Rs) (n l w e : ℕ) (p : Place)
+  pub calls-name-at : K → FmC 𝓤 H (W .laws) C → (mem : Memory → SProp 𝓤) (run : Routine → Fun 𝓤) → Triple 𝓤 (C #build-names·name-at) (NameAt 𝓤 H A mem run) → (κ : Lft) (q : Share) (x : Rs) (n l w e : ℕ) (p : Window)
       → n < 2 ^ 64 → l < 2 ^ 64 → w < 2 ^ 64 → e < 2 ^ 64 → IsPlace p → Nameable (now x) n w e p
       → Opds K W (raw (NameAt 𝓤 H A mem run .pre (to-name-at 𝓤 H A mem run κ q x n l w e p)) ∷ ‵ (Own κ x) ∷ Γ) E xs (sliceVal (ptr x) (length (now x)) ∷ vint w64 n ∷ vint w64 l ∷ vint w64 w ∷ vint w64 e ∷ low-place p ∷ [])
       → ((v : ℕ) → v ≡ nameIn (now x) n l w e p → v < 2 ^ 64 → Seq K W (‵ (flft κ q) ∷ ‵ (Own κ x) ∷ Γ) (lands C Λ E d (vint w64 v) rest o))
@@ -116,7 +116,7 @@ module _ {M : Type 1} {𝓤 : URA M} {H : Heap 𝓤} {A : Atoms 𝓤} {K : Type 
 
   pub calls-first : K → FmC 𝓤 H (W .laws) C → (mem : Memory → SProp 𝓤) (run : Routine → Fun 𝓤) → Triple 𝓤 (C #sums-slide·first-place) (FirstPlace 𝓤 H A mem run) → (κ : Lft) (q : Share) (s : Zs) (w e : ℕ) → w < 2 ^ 64 → e < 2 ^ 64 → Lent (now s) w e
       → Opds K W (raw (FirstPlace 𝓤 H A mem run .pre (to-first 𝓤 H A mem run κ q s w e)) ∷ ‵ (OwnZ κ s) ∷ Γ) E xs (sliceVal (ptr s) (length (now s)) ∷ vint w64 w ∷ vint w64 e ∷ [])
-      → ((p : Place) → p ≡ placeFrom (now s) w e 0 → IsPlace p → Seq K W (‵ (flft κ q) ∷ ‵ (OwnZ κ s) ∷ Γ) (lands C Λ E d (low-place p) rest o))
+      → ((p : Window) → p ≡ placeFrom (now s) w e 0 → IsPlace p → Seq K W (‵ (flft κ q) ∷ ‵ (OwnZ κ s) ∷ Γ) (lands C Λ E d (low-place p) rest o))
       → Seq K W (‵ (flft κ q) ∷ ‵ (OwnZ κ s) ∷ Γ) (runs C Λ E (seq (call #sums-slide·first-place xs d) rest) o)
   calls-first t fm mem run met κ q s w e gw ge y os k =
       calls-kept t fm first-fn.signature (first-fn.spec 𝓤 H A mem run) met (to-first 𝓤 H A mem run κ q s w e) (‵ (flft κ q)) (‵ (OwnZ κ s)) (shr-slice-copy 𝓤 H A W (named 0) κ i32 .twice s (slice-vals s))
@@ -124,10 +124,10 @@ module _ {M : Type 1} {𝓤 : URA M} {H : Heap 𝓤} {A : Atoms 𝓤} {K : Type 
       (λ r. exE 𝓤 _ (λ ws. snd∗ 𝓤 (sem 𝓤 H A (lasts first-fn.ended (κ, tt) (s, (w, (e, tt))) ws)) (fact 𝓤 (r ≡ placeFrom (now s) w e 0)))) os (k (placeFrom (now s) w e 0) refl)
 
   -- where the run ends
-  pub calls-run-end : K → FmC 𝓤 H (W .laws) C → (mem : Memory → SProp 𝓤) (run : Routine → Fun 𝓤) → Triple 𝓤 (C #build-names·run-end) (RunEnd 𝓤 H A mem run) → (κ : Lft) (q : Share) (s : Zs) (w e : ℕ) (p : Place) (r : Row) → w < 2 ^ 64 → e < 2 ^ 64 → IsPlace p → Good r
+  pub calls-run-end : K → FmC 𝓤 H (W .laws) C → (mem : Memory → SProp 𝓤) (run : Routine → Fun 𝓤) → Triple 𝓤 (C #build-names·run-end) (RunEnd 𝓤 H A mem run) → (κ : Lft) (q : Share) (s : Zs) (w e : ℕ) (p : Window) (r : Row) → w < 2 ^ 64 → e < 2 ^ 64 → IsPlace p → Good r
       → Lent (now s) w e × (p .offset ≤ windowsOf (now s) w) × (p .level ≡ level (now s) w e (p .offset)) × LimitedRow r
       → Opds K W (raw (RunEnd 𝓤 H A mem run .pre (to-run-end 𝓤 H A mem run κ q s w e p r)) ∷ ‵ (OwnZ κ s) ∷ Γ) E xs (sliceVal (ptr s) (length (now s)) ∷ vint w64 w ∷ vint w64 e ∷ low-place p ∷ low r ∷ [])
-      → ((v : Place) → Stop (level (now s) w e) (windowsOf (now s) w) (raisedEnd (10000 * w + e) (r .low)) (raisedEnd (10000 * w + e) (r .up)) (p .offset) (v .offset) (v .level) → IsPlace v → Seq K W (‵ (flft κ q) ∷ ‵ (OwnZ κ s) ∷ Γ) (lands C Λ E d (low-place v) rest o))
+      → ((v : Window) → Stop (level (now s) w e) (windowsOf (now s) w) (raisedEnd (10000 * w + e) (r .low)) (raisedEnd (10000 * w + e) (r .up)) (p .offset) (v .offset) (v .level) → IsPlace v → Seq K W (‵ (flft κ q) ∷ ‵ (OwnZ κ s) ∷ Γ) (lands C Λ E d (low-place v) rest o))
       → Seq K W (‵ (flft κ q) ∷ ‵ (OwnZ κ s) ∷ Γ) (runs C Λ E (seq (call #build-names·run-end xs d) rest) o)
   calls-run-end t fm mem run met κ q s w e p r gw ge gp gr y os k =
       calls-told-kept t fm end-fn.signature (end-fn.spec 𝓤 H A mem run) met (to-run-end 𝓤 H A mem run κ q s w e p r) (‵ (flft κ q)) (‵ (OwnZ κ s)) (shr-slice-copy 𝓤 H A W (named 0) κ i32 .twice s (slice-vals s))

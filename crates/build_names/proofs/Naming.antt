@@ -1,4 +1,4 @@
--- The pass that names the neighbours of all runs, by runs: what holds after the windows below j (`Naming`), how it begins, a turn, which names the neighbours of one run in the part of its row (`naming-run`), and the end (`naming-end`). Assumes nothing.
+-- The pass that names the neighbours of all runs, by runs: what holds after the windows below j (`Naming`), how it begins, a turn, which names the neighbours of one run in the part of its row (`naming-run`), and the end (`naming-end`).
 use mathlib.Core.Path.{_≡_, sym, _∙_}
 use mathlib.Core.Bool.{true, false}
 use mathlib.Core.List.{List}

@@ -1,4 +1,4 @@
--- Windows by place and raised sum, their names, and what holds on the way of the pass that names neighbours (`Underway`). Assumes nothing.
+-- Windows by place and raised sum, their names, and what holds on the way of the pass that names neighbours (`Underway`).
 use mathlib.Core.Path.{_≡_, refl, sym, ap, _∙_, subst}
 use mathlib.Core.List.{List}
 use Prim.Native.Nat.{ℕ, zero, suc, _+_, _-_, _*_, _<_, _≤_}
@@ -13,7 +13,7 @@ use Rattle.meaning_rows.specs.declared.Row.{Row}
 use Rattle.meaning_rows.specs.Runs.{runCount}
 use Rattle.meaning_rows.proofs.Cursors.{fileRight, length-file}
 use Rattle.rows_records.specs.Records.{zeroRow}
-use Rattle.sums_slide.specs.declared.Place.{Place}
+use Rattle.sums_slide.specs.declared.Window.{Window}
 use Rattle.sums_slide.specs.Levels.{level, Lent, windowsOf, level-small, placeFrom}
 use Rattle.sums_slide.proofs.Levels.{level-is, sum-is}
 use Rattle.sums_slide.specs.Change.{Stop, RowRun}
@@ -34,10 +34,10 @@ module _ (s : List ℤ) (w e : ℕ) (rows : List Row) (count : ℕ) where
   abbrev row : ℕ → ℕ
   row = rowIn rows count (windowSum s w)
 
-  abbrev named : Place → ℕ
+  abbrev named : Window → ℕ
   named at = nameIn rows count (length s) w e at
 
-  named-is : (at : Place) → Lent s w e → at .level ≡ level s w e (at .offset) → named at ≡ nameAt row n (at .offset)
+  named-is : (at : Window) → Lent s w e → at .level ≡ level s w e (at .offset) → named at ≡ nameAt row n (at .offset)
   unfolding nameFor nameAt rowIn
   named-is at h l = rw (sum-is at h l)
 
@@ -58,7 +58,7 @@ module _ (s : List ℤ) (w e : ℕ) (rows : List Row) (count : ℕ) where
     small-before (suc j) = small-name j
 
     -- where a window begins a run, with the names before and at it
-    pub record Underway (at : Place) (before name : ℕ) (left right : List ℕ) : Type 0 where
+    pub record Underway (at : Window) (before name : ℕ) (left right : List ℕ) : Type 0 where
       pub naming : Naming row n count (at .offset) left right
       pub below : at .offset ≤ n
       pub level-is : at .level ≡ level s w e (at .offset)
@@ -67,7 +67,7 @@ module _ (s : List ℤ) (w e : ℕ) (rows : List Row) (count : ℕ) where
       pub long-left : length left ≡ length left₀
       pub long-right : length right ≡ length right₀
 
-    pub nameable : (at : Place) → at .offset ≤ n → at .level ≡ level s w e (at .offset) → Nameable rows count w e at
+    pub nameable : (at : Window) → at .offset ≤ n → at .level ≡ level s w e (at .offset) → Nameable rows count w e at
     nameable at b l = record {
       climbs = range-climbs (windowSum s w) n rows count (u .ranges .ranged);
       some = u .lent .some;
@@ -78,7 +78,7 @@ module _ (s : List ℤ) (w e : ℕ) (rows : List Row) (count : ℕ) where
       few = u .few;
     }
 
-    pub underway-start : (at : Place) → at ≡ placeFrom s w e 0 → Underway at 0 (named at) left₀ right₀
+    pub underway-start : (at : Window) → at ≡ placeFrom s w e 0 → Underway at 0 (named at) left₀ right₀
     unfolding nameBefore
     underway-start at q = rw q (record {
       naming = naming-start row n count left₀ right₀ (u .zeros) (u .in-left) (u .in-right);
@@ -90,7 +90,7 @@ module _ (s : List ℤ) (w e : ℕ) (rows : List Row) (count : ℕ) where
       long-right = refl;
     })
 
-    module _ (at : Place) (before name : ℕ) (left right : List ℕ) (z : Underway at before name left right) where
+    module _ (at : Window) (before name : ℕ) (left right : List ℕ) (z : Underway at before name left right) where
       abbrev j : ℕ
       j = at .offset
 
@@ -132,7 +132,7 @@ module _ (s : List ℤ) (w e : ℕ) (rows : List Row) (count : ℕ) where
         pub turn-end : Lent s w e × (at .offset ≤ windowsOf s w) × (at .level ≡ level s w e (at .offset)) × LimitedRow here
         turn-end = (u .lent, z .below, z .level-is, rw here-is (u .ranges .ranged .limited (row j) home))
 
-        module _ (next : Place) (stop : Stop (level s w e) n (raisedEnd (10000 * w + e) (here .low)) (raisedEnd (10000 * w + e) (here .up)) (at .offset) (next .offset) (next .level)) where
+        module _ (next : Window) (stop : Stop (level s w e) n (raisedEnd (10000 * w + e) (here .low)) (raisedEnd (10000 * w + e) (here .up)) (at .offset) (next .offset) (next .level)) where
           run : RowRun row n j (next .offset)
           run = stop-run (windowSum s w) (level s w e) (10000 * w + e) n rows count (u .ranges .ranged) (λ k. level-is k (u .lent)) j (next .offset) (next .level) less (rw place-is at stop)
 

@@ -1,5 +1,5 @@
 -- Rows of a build that stand packed in records: their ranges hold the windows, so the rows can be named and, with the names in their parts, merged. The rows of a build are so
--- before merging and after it, so what is merged stands packed again as rows by ranges. Assumes nothing.
+-- before merging and after it, so what is merged stands packed again as rows by ranges.
 use mathlib.Core.Path.{_≡_}
 use mathlib.Core.Bool.{true}
 use mathlib.Core.List.{List, map}

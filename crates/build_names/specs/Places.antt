@@ -1,4 +1,4 @@
--- Windows by place and raised sum, their names, and what holds on the way of the pass that names neighbours. Assumes nothing.
+-- Windows by place and raised sum, their names, and what holds on the way of the pass that names neighbours.
 use mathlib.Core.Path.{_≡_}
 use mathlib.Core.Bool.{cond}
 use mathlib.Core.List.{List}
@@ -8,7 +8,7 @@ use lib.IntN.{ℤ}
 use lib.ListN.{length, getD}
 use Rattle.meaning_curves.specs.Curve.{windowSum, windowCount}
 use Rattle.meaning_rows.specs.declared.Row.{Row}
-use Rattle.sums_slide.specs.declared.Place.{Place}
+use Rattle.sums_slide.specs.declared.Window.{Window}
 use Rattle.sums_slide.specs.Levels.{level, Lent, windowsOf, level-small, sumAt}
 use Rattle.rows_find.specs.Search.{Climbs}
 use Rattle.build_merge.specs.Merging.{partAt}
@@ -19,11 +19,11 @@ unfoldable pub nameFor : ℕ → ℕ → ℕ → ℕ → ℕ
 nameFor len w j i = cond (ltb j (windowCount len w)) (i + 1) 0
 
 -- the name of a window's row among the first `count`
-abbrev pub nameIn : List Row → ℕ → ℕ → ℕ → ℕ → Place → ℕ
+abbrev pub nameIn : List Row → ℕ → ℕ → ℕ → ℕ → Window → ℕ
 nameIn rows count len w e at = nameFor len w (at .offset) (placeIn rows count (sumAt w e at))
 
 -- a window's row can be named
-pub record Nameable (rows : List Row) (count w e : ℕ) (at : Place) : Type 0 where
+pub record Nameable (rows : List Row) (count w e : ℕ) (at : Window) : Type 0 where
   pub climbs : Climbs rows count
   pub some : 1 ≤ w
   pub most : w ≤ 256

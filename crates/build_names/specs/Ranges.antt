@@ -1,5 +1,5 @@
 -- Rows as ranges of lent records: the row of a window is the first whose upper end is above the window's sum (`rowIn`). Where the ranges ascend and hold every window, row i holds exactly the windows
--- whose row is i, and a run of raised sums in its range is a run of its windows. Assumes nothing.
+-- whose row is i, and a run of raised sums in its range is a run of its windows.
 use mathlib.Core.Path.{_≡_}
 use mathlib.Core.Bool.{Bool, cond}
 use mathlib.Core.List.{List}

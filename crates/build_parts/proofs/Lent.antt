@@ -1,4 +1,4 @@
--- A column from some place on, lent to a writer and put back: what is written into it is written into the column that much further on. Assumes nothing.
+-- A column from some place on, lent to a writer and put back: what is written into it is written into the column that much further on.
 use mathlib.Core.Path.{_≡_, sym, ap, _∙_}
 use mathlib.Core.List.{List, [], _++_, append-nil}
 use Prim.Native.Nat.{ℕ, _+_, _-_}

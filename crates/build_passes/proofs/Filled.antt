@@ -1,4 +1,4 @@
--- What stands in the buffers once the parts of a build's rows are filled is its index (`finished`). Assumes nothing.
+-- What stands in the buffers once the parts of a build's rows are filled is its index (`finished`).
 use mathlib.Core.Path.{_≡_, refl, sym, ap, _∙_}
 use mathlib.Core.List.{List, [], _∷_, _++_, map}
 use Prim.Native.Nat.{ℕ, zero, suc, _+_, _-_, _<_, _≤_}
@@ -20,13 +20,13 @@ use Rattle.meaning_rows.proofs.Laid.{length-records}
 use Rattle.meaning_rows.proofs.LaidAt.{records-at, runs-total, column-at}
 use Rattle.meaning_entries.specs.Buffers.{IndexBuffers, filled, indexIn, lefts, rights}
 use Rattle.rows_records.specs.Records.{zeroRow}
-use Rattle.sums_slide.specs.declared.Place.{Place}
+use Rattle.sums_slide.specs.declared.Window.{Window}
 use Rattle.sums_slide.specs.Levels.{windowsOf}
 use Rattle.rows_pack.specs.PackedAs.{PackedAs}
 use Rattle.build_lay.specs.Laid.{Cleared}
 use Rattle.build_parts.specs.Filling.{partStart, partsTotal, filling-start}
 use Rattle.build_fill.specs.Turn.{At}
-use Rattle.build_fill.specs.Pass.{Passable, Passed}
+use Rattle.build_fill.specs.Pass.{Passable, PassMade}
 use Rattle.build_passes.proofs.Rowed.{noRow, tests, built-rowed}
 use Rattle.build_passes.specs.Filled.{Fillable, buffers, Holds}
 
@@ -113,7 +113,7 @@ module _ {d g : ℕ} {s : List ℤ} {w e : ℕ} {rows : List Row} {n : ℕ} {lef
 
   module _ {left right : List ℕ} (cl : Cleared left₀ left) (cr : Cleared right₀ right) where
     -- the pass can begin
-    pub starts : {p : Place} → At s w e p → p .offset ≡ 0 → Passable (tests l) s w e p cleared n left right
+    pub starts : {p : Window} → At s w e p → p .offset ≡ 0 → Passable (tests l) s w e p cleared n left right
     starts {p} a z = record {
       place = a;
       rowed = rw z (built-rowed d g (h .least) (h .most) (h .lent) cleared-packed);
@@ -121,7 +121,7 @@ module _ {d g : ℕ} {s : List ℤ} {w e : ℕ} {rows : List Row} {n : ℕ} {lef
     }
 
     -- and where it ends
-    module _ {left′ right′ : List ℕ} (f : Passed (tests l) s w n left right left′ right′) where
+    module _ {left′ right′ : List ℕ} (f : PassMade (tests l) s w n left right left′ right′) where
       start-is : (i : ℕ) → Σℕ i (λ y. length (withRuns W (getD l y noRow) .runs)) ≡ partStart n W (tests l) i
       start-is i = Σℕ-same i (λ y. length (withRuns W (getD l y noRow) .runs)) (λ y. runCount (tests l y) W) (λ y b. size-is y)
 

@@ -1,4 +1,4 @@
--- Rows that tile the sums, packed as records, are rows that the pass can fill (`packed-rowed`). Assumes nothing.
+-- Rows that tile the sums, packed as records, are rows that the pass can fill (`packed-rowed`).
 use mathlib.Core.Path.{_≡_, refl, sym, ap, _∙_}
 use mathlib.Core.Bool.{Bool, true, false}
 use mathlib.Core.List.{List, [], _∷_}

@@ -1,4 +1,4 @@
--- What stands in the buffers once the parts of a build's rows are filled is its index. Assumes nothing.
+-- What stands in the buffers once the parts of a build's rows are filled is its index.
 use mathlib.Core.Path.{_≡_}
 use mathlib.Core.List.{List}
 use Prim.Native.Nat.{ℕ, _≤_}

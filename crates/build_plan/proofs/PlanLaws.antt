@@ -1,4 +1,4 @@
--- The plan of a build: what refuses it, or by how much it raises sums. Where nothing refuses it, its numbers are in their limits and its buffers have room (`goes`). Assumes nothing.
+-- The plan of a build: what refuses it, or by how much it raises sums. Where nothing refuses it, its numbers are in their limits and its buffers have room (`goes`).
 use mathlib.Core.List.{List}
 use Prim.Native.Nat.{ℕ, _≤_}
 use lib.Dec.{T}
@@ -9,7 +9,7 @@ use Rattle.meaning_curves.specs.Limits.{mostValues}
 use Rattle.meaning_curves.specs.Curve.{windowCount}
 use Rattle.meaning_curves.proofs.Values.{AllIn}
 use Rattle.meaning_entries.specs.Build.{lentBuild, buildLines}
-use Rattle.meaning_entries.proofs.Refusal.{Passed, openLines, passed-line, passed-behind, lacks}
+use Rattle.meaning_entries.proofs.Refusal.{AllPass, openLines, passed-line, passed-behind, lacks}
 use Rattle.meaning_entries.proofs.Lines.{long-line, values-line, window-line, width-line, merge-line, room-line}
 
 -- numbers in their limits, and room
@@ -30,7 +30,7 @@ module _ (s : List ℤ) (w d g rows runs : ℕ) where
   unfolding openLines lacks
   never-0 = tt
 
-  pub goes : Passed (buildLines (lentBuild s w d g) rows runs) → Goes s w d g rows runs
+  pub goes : AllPass (buildLines (lentBuild s w d g) rows runs) → Goes s w d g rows runs
   unfolding openLines
   goes t =
       let window = window-line (pos w) (length s) (passed-line t 3) in

@@ -1,4 +1,4 @@
--- A buffer cleared from a place on, entry by entry (`clear-starts`, `clear-more`, `clear-ends`). Assumes nothing.
+-- A buffer cleared from a place on, entry by entry (`clear-starts`, `clear-more`, `clear-ends`).
 use mathlib.Core.Path.{_≡_, sym, _∙_}
 use mathlib.Core.List.{List, [], _∷_, _++_, append-assoc, append-nil}
 use Prim.Native.Nat.{ℕ, _+_, _-_, _<_, _≤_}

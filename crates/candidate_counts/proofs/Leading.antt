@@ -1,4 +1,4 @@
--- What the scratch count tells: it is the number of parts exactly at the candidates (`leading-all`). Assumes nothing.
+-- What the scratch count tells: it is the number of parts exactly at the candidates (`leading-all`).
 use mathlib.Core.Path.{_≡_, refl, sym, _∙_, ap}
 use mathlib.Core.Bool.{Bool, true, false, _&&_, and-true, and-false, and-assoc}
 use mathlib.Core.List.{map}

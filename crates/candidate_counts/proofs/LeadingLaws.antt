@@ -1,4 +1,4 @@
--- How many leading parts an offset meets, of the first so many: what the scratch count holds (01, Candidates). An offset that stands in two rows of a wrong index counts once. Assumes nothing.
+-- How many leading parts an offset meets, of the first so many: what the scratch count holds (01, Candidates). An offset that stands in two rows of a wrong index counts once.
 use mathlib.Core.Path.{_≡_}
 use mathlib.Core.Bool.{cond}
 use mathlib.Core.List.{List}

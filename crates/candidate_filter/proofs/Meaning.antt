@@ -1,4 +1,4 @@
--- What a search has of the scratch count: cleared, it is 0 everywhere; and where all parts raised it, what is handed out are the offsets that meet all of them (`found-all`). Assumes nothing.
+-- What a search has of the scratch count: cleared, it is 0 everywhere; and where all parts raised it, what is handed out are the offsets that meet all of them (`found-all`).
 use mathlib.Core.Path.{_≡_, ap, _∙_}
 use mathlib.Core.List.{List, [], map}
 use Prim.Native.Nat.{ℕ, _-_, _<_}

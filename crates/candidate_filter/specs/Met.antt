@@ -1,4 +1,4 @@
--- The stretch of the run buffer that has the runs of the rows which a range meets, as code finds it. Assumes nothing.
+-- The stretch of the run buffer that has the runs of the rows which a range meets, as code finds it.
 use mathlib.Core.Bool.{cond}
 use mathlib.Core.List.{List, [], _∷_}
 use Prim.Native.Nat.{ℕ, suc, _+_, _-_}

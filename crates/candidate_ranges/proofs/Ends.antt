@@ -1,4 +1,4 @@
--- The ends of a part's range, as code makes them of a frame and the envelopes' sums, are the range of document 01 (`range-is`). Assumes nothing.
+-- The ends of a part's range, as code makes them of a frame and the envelopes' sums, are the range of document 01 (`range-is`).
 use mathlib.Core.Path.{_≡_, ap, _∙_}
 use mathlib.Core.List.{List}
 use Prim.Native.Nat.{ℕ, _+_, _*_, _≤_}

@@ -1,4 +1,4 @@
--- A query that was made ready, within its limits, has the sizes that a frame is made from (`query-in`). Assumes nothing.
+-- A query that was made ready, within its limits, has the sizes that a frame is made from (`query-in`).
 use mathlib.Core.Path.{refl}
 use mathlib.Core.List.{List}
 use Prim.Native.Nat.{ℕ, _≤_}

@@ -1,4 +1,4 @@
--- The sizes of a frame's numbers, within the limits of a query: all products fit 64 bits (`frame-in`). Assumes nothing.
+-- The sizes of a frame's numbers, within the limits of a query: all products fit 64 bits (`frame-in`).
 use mathlib.Core.Path.{_≡_}
 use mathlib.Core.Bool.{Bool, true, false}
 use Prim.Native.Nat.{ℕ, _+_, _*_, _/_, _≤_}

@@ -1,4 +1,4 @@
--- What the candidate buffer holds while the parts of a query are asked: two numbers of each part as an entry (`Held`). First they are the ends of the part's range, clamped and raised, then the stretch of runs that the range meets. Assumes nothing.
+-- What the candidate buffer holds while the parts of a query are asked: two numbers of each part as an entry (`PartsHeld`). First they are the ends of the part's range, clamped and raised, then the stretch of runs that the range meets.
 use mathlib.Core.Path.{_≡_, ap, _∙_}
 use mathlib.Core.List.{List}
 use Prim.Native.Nat.{ℕ, suc, _+_, _*_, _<_, _≤_}
@@ -15,7 +15,7 @@ use Rattle.meaning_numbers.proofs.Between.{Between}
 use Rattle.meaning_numbers.proofs.Tests.{by-test}
 use Rattle.candidate_ranges.specs.declared.Frame.{Frame}
 use Rattle.candidate_filter.specs.Met.{clampOf}
-use Rattle.candidate_spans.specs.Held.{raisedEnd, lowEnds, highEnds, Held, Stored, EndsReady}
+use Rattle.candidate_spans.specs.Held.{raisedEnd, lowEnds, highEnds, PartsHeld, Stored, EndsReady}
 
 -- a clamped end lies in its limits
 pub clamp-in : (z : ℤ) → Between (negsuc 4000000) (clampOf z) (pos 4000001)
@@ -50,12 +50,12 @@ stored i a b first last h k = record {
   last-else = λ j n. getD-set-other last i j b 0 n;
 }
 
-pub none-held : (f g : ℕ → ℕ) (k : ℕ) (first last : List ℕ) → Held f g k k first last
+pub none-held : (f g : ℕ → ℕ) (k : ℕ) (first last : List ℕ) → PartsHeld f g k k first last
 none-held f g k first last = record { first-at = λ i a b. absurd (omega arith); last-at = λ i a b. absurd (omega arith) }
 
 module _ {i a b : ℕ} {first last first′ last′ : List ℕ} (s : Stored i a b first last first′ last′) where
   -- one entry more, behind those before it
-  pub held-next : {f g : ℕ → ℕ} → Held f g 0 i first last → a ≡ f i → b ≡ g i → Held f g 0 (i + 1) first′ last′
+  pub held-next : {f g : ℕ → ℕ} → PartsHeld f g 0 i first last → a ≡ f i → b ≡ g i → PartsHeld f g 0 (i + 1) first′ last′
   held-next {f} {g} h e e′ = record {
     first-at = λ j l u. elim (decLt j i) [
       | yes y ↦ s .first-else j (λ o. omega arith) ∙ h .first-at j l y
@@ -68,14 +68,14 @@ module _ {i a b : ℕ} {first last first′ last′ : List ℕ} (s : Stored i a 
   }
 
   -- those behind it stay
-  pub held-rest : {f g : ℕ → ℕ} {n : ℕ} → Held f g i n first last → Held f g (i + 1) n first′ last′
+  pub held-rest : {f g : ℕ → ℕ} {n : ℕ} → PartsHeld f g i n first last → PartsHeld f g (i + 1) n first′ last′
   held-rest h = record {
     first-at = λ j l u. s .first-else j (λ o. omega arith) ∙ h .first-at j (omega arith) u;
     last-at = λ j l u. s .last-else j (λ o. omega arith) ∙ h .last-at j (omega arith) u;
   }
 
 -- ranges that agree have the same ends
-pub held-same : {r s : ℕ → ℤ × ℤ} {n : ℕ} {first last : List ℕ} → ((i : ℕ) → i < n → r i ≡ s i) → Held (lowEnds r) (highEnds r) 0 n first last → Held (lowEnds s) (highEnds s) 0 n first last
+pub held-same : {r s : ℕ → ℤ × ℤ} {n : ℕ} {first last : List ℕ} → ((i : ℕ) → i < n → r i ≡ s i) → PartsHeld (lowEnds r) (highEnds r) 0 n first last → PartsHeld (lowEnds s) (highEnds s) 0 n first last
 held-same e h = record {
   first-at = λ i l u. h .first-at i l u ∙ ap (λ (t : ℤ × ℤ). raisedEnd (t .0)) (e i u);
   last-at = λ i l u. h .last-at i l u ∙ ap (λ (t : ℤ × ℤ). raisedEnd (t .1)) (e i u);

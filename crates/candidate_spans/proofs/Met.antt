@@ -1,4 +1,4 @@
--- Each entry of the candidate buffer replaced by the stretch of runs that its range meets (`AllMet`). A turn of the loop is `meeting-next`, over plain variables. Assumes nothing.
+-- Each entry of the candidate buffer replaced by the stretch of runs that its range meets (`AllMet`). A turn of the loop is `meeting-next`, over plain variables.
 use mathlib.Core.Path.{_≡_, refl, ap, _∙_, subst}
 use mathlib.Core.List.{List}
 use Prim.Native.Nat.{ℕ, _+_, _<_, _≤_}
@@ -7,7 +7,7 @@ use lib.ListN.{length, getD}
 use Rattle.meaning_rows.specs.declared.Row.{Row}
 use Rattle.candidate_filter.specs.declared.Span.{Span}
 use Rattle.candidate_filter.specs.Met.{clampOf}
-use Rattle.candidate_spans.specs.Held.{Held, Stored, EndsAt, heldRange}
+use Rattle.candidate_spans.specs.Held.{PartsHeld, Stored, EndsAt, heldRange}
 use Rattle.candidate_spans.proofs.Held.{none-held, held-next, held-rest}
 use Rattle.candidate_spans.specs.Met.{spanAt, MeetReady, AllMet}
 
@@ -15,7 +15,7 @@ use Rattle.candidate_spans.specs.Met.{spanAt, MeetReady, AllMet}
 
 pub record Meeting (rows : List Row) (parts : ℕ) (first last : List ℕ) (i : ℕ) (first′ last′ : List ℕ) : Type 0 where
   pub met : AllMet rows i first last first′ last′
-  pub rest : Held (λ j. getD first j 0) (λ j. getD last j 0) i parts first′ last′
+  pub rest : PartsHeld (λ j. getD first j 0) (λ j. getD last j 0) i parts first′ last′
   pub inside : i ≤ parts
 
 pub meeting-starts : (rows : List Row) (parts : ℕ) (first last : List ℕ) → Meeting rows parts first last 0 first last

@@ -1,4 +1,4 @@
--- What the candidate buffer holds while the parts of a query are asked: two numbers of each part as an entry (`Held`). First they are the ends of the part's range, clamped and raised, then the stretch of runs that the range meets. Assumes nothing.
+-- What the candidate buffer holds while the parts of a query are asked: two numbers of each part as an entry (`PartsHeld`). First they are the ends of the part's range, clamped and raised, then the stretch of runs that the range meets.
 use mathlib.Core.Path.{_≡_}
 use mathlib.Core.List.{List}
 use Prim.Native.Nat.{ℕ, _*_, _/_, _<_, _≤_}
@@ -27,7 +27,7 @@ abbrev pub highEnds : (ℕ → ℤ × ℤ) → ℕ → ℕ
 highEnds range i = raisedEnd (range i .1)
 
 -- the entries from k up to n of two columns are those of f and g
-pub record Held (f g : ℕ → ℕ) (k n : ℕ) (first last : List ℕ) : Type 0 where
+pub record PartsHeld (f g : ℕ → ℕ) (k n : ℕ) (first last : List ℕ) : Type 0 where
   pub first-at : (i : ℕ) → k ≤ i → i < n → getD first i 0 ≡ f i
   pub last-at : (i : ℕ) → k ≤ i → i < n → getD last i 0 ≡ g i
 
@@ -65,7 +65,7 @@ pub record RangesReady (kind : Kind) (q : List ℤ) (l : Limits) (w : ℕ) (firs
 
 -- the ranges of a query's parts, in columns as long as before
 pub record RangesHeld (kind : Kind) (q : List ℤ) (l : Limits) (w : ℕ) (first last first′ last′ : List ℕ) : Type 0 where
-  pub held : Held (lowEnds (rangeOf kind (at q) (length q) l w)) (highEnds (rangeOf kind (at q) (length q) l w)) 0 (length q / w) first′ last′
+  pub held : PartsHeld (lowEnds (rangeOf kind (at q) (length q) l w)) (highEnds (rangeOf kind (at q) (length q) l w)) 0 (length q / w) first′ last′
   pub first-long : length first′ ≡ length first
   pub last-long : length last′ ≡ length last
 

@@ -1,4 +1,4 @@
--- Each entry of the candidate buffer replaced by the stretch of runs that its range meets (`AllMet`). A turn of the loop is `meeting-next`, over plain variables. Assumes nothing.
+-- Each entry of the candidate buffer replaced by the stretch of runs that its range meets (`AllMet`). A turn of the loop is `meeting-next`, over plain variables.
 use mathlib.Core.Path.{_≡_}
 use mathlib.Core.List.{List}
 use Prim.Native.Nat.{ℕ, _<_, _≤_}
@@ -9,7 +9,7 @@ use Rattle.rows_find.specs.Search.{Climbs}
 use Rattle.candidate_ranges.specs.declared.Range.{Range}
 use Rattle.candidate_filter.specs.declared.Span.{Span}
 use Rattle.candidate_filter.specs.Met.{clampOf, metSpan}
-use Rattle.candidate_spans.specs.Held.{Held, EndsAt, heldRange}
+use Rattle.candidate_spans.specs.Held.{PartsHeld, EndsAt, heldRange}
 
 -- the stretch that a range meets
 abbrev pub spanOf : List Row → Range → Span
@@ -26,6 +26,6 @@ pub record MeetReady (rows : List Row) (parts : ℕ) (first last : List ℕ) : T
   pub ends : (i : ℕ) → i < parts → EndsAt first last i
 
 pub record AllMet (rows : List Row) (parts : ℕ) (first last first′ last′ : List ℕ) : Type 0 where
-  pub held : Held (λ i. spanAt rows first last i .from) (λ i. spanAt rows first last i .to) 0 parts first′ last′
+  pub held : PartsHeld (λ i. spanAt rows first last i .from) (λ i. spanAt rows first last i .to) 0 parts first′ last′
   pub first-long : length first′ ≡ length first
   pub last-long : length last′ ≡ length last

@@ -20,7 +20,7 @@ ghost use Rattle.meaning_numbers.proofs.Between.{Between};
 ghost use lib.ListN.{length};
 ghost use Rattle.meaning_curves.specs.Limits.{mostValues};
 ghost use Rattle.candidate_filter.specs.Parts.{partRange};
-ghost use Rattle.candidate_spans.specs.Held.{raisedEnd, lowEnds, highEnds, Held, EndsReady, Stored, RangesReady, RangesHeld, EndsAt, heldRange};
+ghost use Rattle.candidate_spans.specs.Held.{raisedEnd, lowEnds, highEnds, PartsHeld, EndsReady, Stored, RangesReady, RangesHeld, EndsAt, heldRange};
 ghost use Rattle.candidate_spans.specs.Met.{MeetReady, AllMet};
 ghost use Rattle.candidate_spans.specs.Raised.{StretchesReady, stretchHit, CountedBy};
 
@@ -59,7 +59,7 @@ pub fn put_ends(
     last: &mut [u32],
 )
     requires { ⌜ EndsReady f (now low) (now high) w parts (now first) (now last) ⌝ }
-    ensures { λ _. ⌜ Held (lowEnds (partRange f (now (low .entry)) (now (high .entry)) w)) (highEnds (partRange f (now (low .entry)) (now (high .entry)) w)) 0 parts (now (first .exit)) (now (last .exit)) × (length (now (first .exit)) ≡ length (now (first .entry))) × (length (now (last .exit)) ≡ length (now (last .entry))) ⌝ }
+    ensures { λ _. ⌜ PartsHeld (lowEnds (partRange f (now (low .entry)) (now (high .entry)) w)) (highEnds (partRange f (now (low .entry)) (now (high .entry)) w)) 0 parts (now (first .exit)) (now (last .exit)) × (length (now (first .exit)) ≡ length (now (first .entry))) × (length (now (last .exit)) ≡ length (now (last .entry))) ⌝ }
 {
     let mut i: usize = 0;
     while i < parts {

@@ -1,4 +1,4 @@
--- How a search that looks ends: it is within its limits (`limited`), and where the candidates stand as they should, what is found is what the search means (`search-done`). `search-ends` says it of a lent index, for the entry. Assumes nothing.
+-- How a search that looks ends: it is within its limits (`limited`), and where the candidates stand as they should, what is found is what the search means (`search-done`). `search-ends` says it of a lent index, for the entry.
 use mathlib.Core.Path.{_≡_, refl, sym, _∙_}
 use mathlib.Core.List.{List}
 use mathlib.Core.Option.{none}

@@ -1,4 +1,4 @@
--- What a search that looked answers, by the room of its list (`answerOf`), and how the list stands then (`Answers`). Assumes nothing.
+-- What a search that looked answers, by the room of its list (`answerOf`), and how the list stands then (`Answers`).
 use mathlib.Core.Path.{_≡_}
 use mathlib.Core.Bool.{cond}
 use mathlib.Core.List.{List}

@@ -1,4 +1,4 @@
--- Checking the candidates of a search: their runs stand first in the candidate buffer (`runs-first`), and the list of its matches is the one that stands in the buffers afterwards (`list-after`). Assumes nothing.
+-- Checking the candidates of a search: their runs stand first in the candidate buffer (`runs-first`), and the list of its matches is the one that stands in the buffers afterwards (`list-after`).
 use mathlib.Core.Path.{_≡_}
 use mathlib.Core.List.{List, map}
 use Prim.Native.Nat.{ℕ}

@@ -1,4 +1,4 @@
--- A buffer whose entries from a place on are made 0, one by one (`Clearing`): where none is left it is filled behind its first entries (`clearing-ends`). Assumes nothing.
+-- A buffer whose entries from a place on are made 0, one by one (`Clearing`): where none is left it is filled behind its first entries (`clearing-ends`).
 use mathlib.Core.Path.{_≡_, refl, sym, ap, _∙_}
 use mathlib.Core.List.{List, _++_}
 use Prim.Native.Nat.{ℕ, _+_, _-_, _<_, _≤_}

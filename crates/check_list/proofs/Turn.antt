@@ -1,4 +1,4 @@
--- The turns of the loops over the offsets of a run (`RunSoFar`) and over the runs (`RunsSoFar`): what is known as each starts, moves on and ends. Assumes nothing.
+-- The turns of the loops over the offsets of a run (`RunSoFar`) and over the runs (`RunsSoFar`): what is known as each starts, moves on and ends.
 use mathlib.Core.Path.{_≡_, _∙_}
 use mathlib.Core.List.{List, [], _∷_}
 use Prim.Native.Nat.{ℕ, zero, suc, _+_, _-_, _<_, _≤_}

@@ -1,4 +1,4 @@
--- The matches among some offsets, as entries of the list (`found`): those of the candidates' runs are the list that a search means. What checking asks for (`Prepared`), and the sums that slide (`SumsFor`). Assumes nothing.
+-- The matches among some offsets, as entries of the list (`found`): those of the candidates' runs are the list that a search means. What checking asks for (`Prepared`), and the sums that slide (`SumsFor`).
 use mathlib.Core.Path.{_≡_}
 use mathlib.Core.List.{List, [], _∷_, map}
 use Prim.Native.Nat.{ℕ, _+_, _<_, _≤_}

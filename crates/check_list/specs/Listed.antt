@@ -1,4 +1,4 @@
--- The list of a search as it grows: entries are appended while the two slices have room, and counted on where they have none (`Listed`). One stretch behind another is one stretch. Where unused entries are 0 behind it, the list is filled. Assumes nothing.
+-- The list of a search as it grows: entries are appended while the two slices have room, and counted on where they have none (`Listed`). One stretch behind another is one stretch. Where unused entries are 0 behind it, the list is filled.
 use mathlib.Core.Path.{_≡_}
 use mathlib.Core.List.{List, _++_, map}
 use Prim.Native.Nat.{ℕ, _+_}

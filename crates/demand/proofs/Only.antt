@@ -1,4 +1,4 @@
--- The promise of demand 3 leaves one outcome: one answer, and one content of every buffer. Assumes nothing.
+-- The promise of demand 3 leaves one outcome: one answer, and one content of every buffer.
 use mathlib.Core.Path.{_≡_, refl, sym, _∙_, ap}
 use mathlib.Core.Bool.{false≢true}
 use mathlib.Core.Option.{Option, none, some, Option·some-ne-none}

@@ -1,5 +1,5 @@
 -- Demand 3 of the code: one series, two lent indexes, one query and its limits. Both indexes are audited against the series, and the series is searched through both, each search with buffers of its own.
--- `Demand3Kept` says what is answered, and what stands in all buffers at the end. 24 (a list too short) is a refusal. Assumes nothing.
+-- `Demand3Kept` says what is answered, and what stands in all buffers at the end. 24 (a list too short) is a refusal.
 use mathlib.Core.Path.{_≡_}
 use mathlib.Core.Option.{none}
 use Prim.Native.Nat.{ℕ}

@@ -1,4 +1,4 @@
--- What a value lies outside a range, of values that are passed on: the machine's bits read back are the values. Assumes nothing.
+-- What a value lies outside a range, of values that are passed on: the machine's bits read back are the values.
 use mathlib.Core.Path.{_≡_, refl}
 use lib.IntN.{ℤ}
 use mir.Syntax.{w32}

@@ -1,4 +1,4 @@
--- Normalised values in room that is lent are those of the stretch. Assumes nothing.
+-- Normalised values in room that is lent are those of the stretch.
 use mathlib.Core.Path.{refl}
 use mathlib.Core.List.{List}
 use Prim.Native.Nat.{ℕ}

@@ -1,4 +1,4 @@
--- A distance within a threshold, as an answer. One that was left early answers the same as the whole one. Assumes nothing.
+-- A distance within a threshold, as an answer. One that was left early answers the same as the whole one.
 use mathlib.Core.Bool.{Bool, true, false}
 use Prim.Native.Nat.{ℕ}
 use lib.Dec.{leb}

@@ -1,4 +1,4 @@
--- Normalised values made block by block, as far as their envelope bound stays within a limit. The first so many are made; a block more adds its part of the bound. Assumes nothing.
+-- Normalised values made block by block, as far as their envelope bound stays within a limit. The first so many are made; a block more adds its part of the bound.
 use mathlib.Core.List.{List}
 use Prim.Native.Nat.{ℕ, _≤_}
 use lib.IntN.{ℤ}

@@ -1,4 +1,4 @@
--- Raised sums differ as the sums do (`shift-raised`), and a spread is not large (`spread-limit`). Assumes nothing.
+-- Raised sums differ as the sums do (`shift-raised`), and a spread is not large (`spread-limit`).
 use mathlib.Core.Path.{_≡_, sym, ap}
 use mathlib.Core.List.{List}
 use Prim.Native.Nat.{ℕ, _*_, _≤_}

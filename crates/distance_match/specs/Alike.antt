@@ -1,4 +1,4 @@
--- The tests of a normalised query that ask for no value: flat, scale and shift, over the numbers that code has (`Alike`). They are those of the meaning, so where they fail the stretch does not match, and where they pass the distance decides. Assumes nothing.
+-- The tests of a normalised query that ask for no value: flat, scale and shift, over the numbers that code has (`Alike`). They are those of the meaning, so where they fail the stretch does not match, and where they pass the distance decides.
 use mathlib.Core.Path.{_≡_}
 use mathlib.Core.Bool.{Bool, true, false}
 use Prim.Native.Nat.{ℕ, _*_, _<_, _≤_}

@@ -1,4 +1,4 @@
--- What a match test answers, by the meaning: the distance of a stretch that matches (`matched`). Assumes nothing.
+-- What a match test answers, by the meaning: the distance of a stretch that matches (`matched`).
 use Prim.Native.Nat.{ℕ}
 use lib.IntN.{ℤ}
 use Rattle.meaning_filter.specs.declared.Kind.{Kind}

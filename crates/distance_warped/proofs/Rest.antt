@@ -1,4 +1,4 @@
--- The envelope bound beside the table: all of it is at most the distance (`bound-le`), and so is the least number of a row with the bound of the rows after it (`rest-least`), since a path to the end passes every row. Assumes nothing.
+-- The envelope bound beside the table: all of it is at most the distance (`bound-le`), and so is the least number of a row with the bound of the rows after it (`rest-least`), since a path to the end passes every row.
 use mathlib.Core.Path.{_≡_, refl, ap}
 use mathlib.Core.List.{List}
 use Prim.Native.Nat.{ℕ, suc, _+_, _-_, _*_, _<_, _≤_}

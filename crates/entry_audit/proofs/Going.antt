@@ -1,4 +1,4 @@
--- The loop over the chunks of an audit. `Auditing` is its invariant: where the audit goes on, nothing refuses and what is filed wrongly first from here on is what is filed wrongly first; where it does not, the answer is had. How it starts, moves, stops and ends. Assumes nothing.
+-- The loop over the chunks of an audit. `Auditing` is its invariant: where the audit goes on, nothing refuses and what is filed wrongly first from here on is what is filed wrongly first; where it does not, the answer is had. How it starts, moves, stops and ends.
 use mathlib.Core.Path.{_≡_, refl, sym, ap, subst, _∙_}
 use mathlib.Core.Bool.{true, false}
 use mathlib.Core.List.{List}
@@ -24,9 +24,9 @@ use Rattle.rows_records.proofs.Chunk.{chunk-length}
 use Rattle.refusals.specs.Refusal.{refusalOf, judged-line}
 use Rattle.rows_judge.specs.Judged.{outcome, judgedOf, bad-row}
 use Rattle.rows_judge.proofs.Outcome.{judged-by}
-use Rattle.entry_audit.specs.declared.Plan.{Plan}
-use Rattle.entry_audit.specs.declared.State.{State}
-use Rattle.entry_audit.specs.State.{found, Ready, wrongOf, chunked}
+use Rattle.entry_audit.specs.declared.AuditPlan.{AuditPlan}
+use Rattle.entry_audit.specs.declared.Auditing.{Auditing}
+use Rattle.entry_audit.specs.Auditing.{found, Ready, wrongOf, chunked}
 use Rattle.entry_audit.specs.Plan.{tableOf, leftOver, planOf, began, answerOf}
 use Rattle.entry_audit.proofs.Cases.{stopped, values-in, formed, fits, went-wrong, went-right}
 use Rattle.entry_audit.proofs.Chunks.{orElse, chunk-then, same-wrong, chunk-reads}
@@ -41,7 +41,7 @@ module _ (series : List ℤ) (h : Head) (rows : List Row) (left right : List ℕ
   abbrev table : List Condition
   table = auditTable mostValues call
 
-  abbrev pub thePlan : Plan
+  abbrev pub thePlan : AuditPlan
   thePlan = planOf series h (judgedOf X)
 
   plan-is : thePlan .refusal ≡ refusalOf (auditTable mostValues call)
@@ -54,7 +54,7 @@ module _ (series : List ℤ) (h : Head) (rows : List Row) (left right : List ℕ
     free : thePlan .refusal .number ≡ 0
     left-over : wrongOf series (h .window) left right from (drop from rows) ≡ firstWrong X series
 
-  pub record Auditing (s : State) (from : ℕ) : Type 0 where
+  pub record Auditing (s : Auditing) (from : ℕ) : Type 0 where
     on : s .go ≡ true → Going from
     off : s .go ≡ false → answerOf thePlan s ≡ auditAnswer call
 
@@ -64,7 +64,7 @@ module _ (series : List ℤ) (h : Head) (rows : List Row) (left right : List ℕ
     off = λ f. stopped call thePlan plan-is (began thePlan) (eqb-false (thePlan .refusal .number) 0 f);
   }
 
-  pub auditing-ready : (s : State) (from : ℕ) → from + 64 < 2 ^ 64 → Auditing s from → s .go ≡ true → Ready series h left right (chunkOf rows from) from
+  pub auditing-ready : (s : Auditing) (from : ℕ) → from + 64 < 2 ^ 64 → Auditing s from → s .go ≡ true → Ready series h left right (chunkOf rows from) from
   auditing-ready s from l a t =
       let z = a .on t .free in
       let f = formed call thePlan plan-is z in
@@ -79,14 +79,14 @@ module _ (series : List ℤ) (h : Head) (rows : List Row) (left right : List ℕ
       }
 
   -- the state after the chunk that begins at a place
-  abbrev pub afterChunk : State → ℕ → State
+  abbrev pub afterChunk : Auditing → ℕ → Auditing
   afterChunk s from = chunked series h left right s from (chunkOf rows from)
 
-  chunk-on : (s : State) (from : ℕ) → s .go ≡ true → afterChunk s from ≡ found (wrongOf series (h .window) left right from (chunkOf rows from))
+  chunk-on : (s : Auditing) (from : ℕ) → s .go ≡ true → afterChunk s from ≡ found (wrongOf series (h .window) left right from (chunkOf rows from))
   unfolding chunked
   chunk-on s from e = rw e refl
 
-  chunk-off : (s : State) (from : ℕ) → s .go ≡ false → afterChunk s from ≡ s
+  chunk-off : (s : Auditing) (from : ℕ) → s .go ≡ false → afterChunk s from ≡ s
   unfolding chunked
   chunk-off s from e = rw e refl
 
@@ -114,10 +114,10 @@ module _ (series : List ℤ) (h : Head) (rows : List Row) (left right : List ℕ
   abbrev left-wrong : ℕ → Option (ℕ × ℕ)
   left-wrong from = wrongOf series (h .window) left right from (drop from rows)
 
-  pub auditing-next : (s : State) (from : ℕ) → afterChunk s from .go ≡ true → Auditing s from → Auditing (afterChunk s from) (from + 64)
+  pub auditing-next : (s : Auditing) (from : ℕ) → afterChunk s from .go ≡ true → Auditing s from → Auditing (afterChunk s from) (from + 64)
   auditing-next s from t a = by-test (s .go)
       (λ e.
-      let n = found-go (here-wrong from) (sym (ap (λ (u : State). u .go) (chunk-on s from e)) ∙ t) in
+      let n = found-go (here-wrong from) (sym (ap (λ (u : Auditing). u .go) (chunk-on s from e)) ∙ t) in
       let g = a .on e in
       record {
         on = λ u. record {
@@ -126,13 +126,13 @@ module _ (series : List ℤ) (h : Head) (rows : List Row) (left right : List ℕ
         };
         off = λ f. clash t f;
       })
-      (λ f. clash t (ap (λ (u : State). u .go) (chunk-off s from f) ∙ f))
+      (λ f. clash t (ap (λ (u : Auditing). u .go) (chunk-off s from f) ∙ f))
 
-  pub auditing-stops : (s : State) (from : ℕ) → afterChunk s from .go ≡ false → Auditing s from → answerOf thePlan (afterChunk s from) ≡ auditAnswer call
+  pub auditing-stops : (s : Auditing) (from : ℕ) → afterChunk s from .go ≡ false → Auditing s from → answerOf thePlan (afterChunk s from) ≡ auditAnswer call
   auditing-stops s from t a = by-test (s .go)
       (λ e.
       let g = a .on e in
-      let w = found-off (here-wrong from) (sym (ap (λ (u : State). u .go) (chunk-on s from e)) ∙ t) in
+      let w = found-off (here-wrong from) (sym (ap (λ (u : Auditing). u .go) (chunk-on s from e)) ∙ t) in
       let first = sym (some-then (here-wrong from) (left-wrong (from + 64)) (firstWrong X series) (w .0, w .1) (chunk-then series (h .window) left right rows from ∙ g .left-over) (w .2)) in
       ap (answerOf thePlan) (chunk-on s from e ∙ ap found (w .2)) ∙ went-wrong call thePlan plan-is (g .free) (w .0) (w .1) first)
       (λ f. ap (answerOf thePlan) (chunk-off s from f) ∙ a .off f)
@@ -145,7 +145,7 @@ module _ (series : List ℤ) (h : Head) (rows : List Row) (left right : List ℕ
   unfolding wrongFrom
   none-after from l = rw (drop-of-length-le rows l) refl
 
-  pub auditing-ends : (s : State) (from : ℕ) → length rows ≤ from → Auditing s from → answerOf thePlan s ≡ auditAnswer call
+  pub auditing-ends : (s : Auditing) (from : ℕ) → length rows ≤ from → Auditing s from → answerOf thePlan s ≡ auditAnswer call
   auditing-ends s from l a = by-test (s .go)
       (λ e.
       let g = a .on e in

@@ -1,3 +1,3 @@
 -- What the contracts of the audit cite.
-pub mod State
-pub mod Plan
+pub mod Auditing
+pub mod AuditPlan

@@ -1,4 +1,4 @@
--- What a build answers, and that it keeps its promise (`refused-kept`, `built-kept`). Assumes nothing.
+-- What a build answers, and that it keeps its promise (`refused-kept`, `built-kept`).
 use mathlib.Core.Path.{_≡_, refl, sym, ap, _∙_}
 use mathlib.Core.Bool.{true}
 use mathlib.Core.List.{List, [], _∷_, _++_, map}
@@ -19,7 +19,7 @@ use Rattle.meaning_entries.specs.declared.Built.{Built}
 use Rattle.meaning_entries.specs.Buffers.{IndexBuffers, filled, runRoom, indexIn}
 use Rattle.meaning_entries.specs.Build.{lentBuild, buildTable, buildRefusal, buildIndex, buildAnswer, buildAfter}
 use Rattle.meaning_entries.specs.Demand2.{BuildKept}
-use Rattle.meaning_entries.proofs.Refusal.{Passed, passed-is}
+use Rattle.meaning_entries.proofs.Refusal.{AllPass, passed-is}
 use Rattle.meaning_entries.proofs.Demand2.{build-kept}
 use Rattle.rows_records.specs.Records.{zeroRow}
 use Rattle.sums_slide.specs.Levels.{Lent, windowsOf}
@@ -27,7 +27,7 @@ use Rattle.build_passes.proofs.Rowed.{noRow}
 use Rattle.build_passes.specs.Filled.{Holds}
 use Rattle.build_passes.proofs.Filled.{last-part}
 use Rattle.build_lay.specs.Laid.{LayAsked}
-use Rattle.build_plan.specs.declared.Plan.{Plan}
+use Rattle.build_plan.specs.declared.BuildPlan.{BuildPlan}
 use Rattle.refusals.specs.Refusal.{refusalOf, passes, refuses}
 use Rattle.build_plan.specs.Plan.{Lifts}
 use Rattle.build_plan.proofs.PlanLaws.{Goes, never-0, goes}
@@ -38,7 +38,7 @@ unfolding any
 some-row z [] h = clash h refl
 some-row z (r ∷ l) h = omega arith
 
-module _ (s : List ℤ) (w d g : ℕ) (b : IndexBuffers) (p : Plan) (h : PlannedFor s w d g b p) where
+module _ (s : List ℤ) (w d g : ℕ) (b : IndexBuffers) (p : BuildPlan) (h : PlannedFor s w d g b p) where
   refusal-is : p .refusal ≡ refusalOf (buildTable (lentBuild s w d g) b)
   unfolding buildTable
   refusal-is = h .refusal
@@ -51,7 +51,7 @@ module _ (s : List ℤ) (w d g : ℕ) (b : IndexBuffers) (p : Plan) (h : Planned
       build-kept (lentBuild s w d g) b (refusedAs p) b (rw (buildAnswer, e) refl) (rw (buildAfter, e) refl)
 
   module _ (z : p .refusal .number ≡ 0) where
-    t : Passed (buildTable (lentBuild s w d g) b)
+    t : AllPass (buildTable (lentBuild s w d g) b)
     unfolding buildTable
     t = passes (buildTable (lentBuild s w d g) b) (never-0 s w d g (length (b .rows)) (runRoom b)) refusal-is z
 

@@ -1,4 +1,4 @@
--- What a build answers, and that it keeps its promise. Assumes nothing.
+-- What a build answers, and that it keeps its promise.
 use mathlib.Core.List.{List}
 use Prim.Native.Nat.{ℕ, _+_}
 use lib.IntN.{ℤ}
@@ -7,10 +7,10 @@ use Rattle.meaning_rows.specs.declared.Row.{Row}
 use Rattle.meaning_rows.specs.Index.{Index}
 use Rattle.meaning_entries.specs.declared.Built.{Built}
 use Rattle.meaning_entries.specs.Buffers.{IndexBuffers}
-use Rattle.build_plan.specs.declared.Plan.{Plan}
+use Rattle.build_plan.specs.declared.BuildPlan.{BuildPlan}
 use Rattle.build_plan.specs.Plan.{Planned}
 
-abbrev pub refusedAs : Plan → Built
+abbrev pub refusedAs : BuildPlan → Built
 refusedAs p = Built.Refused (p .refusal .number) (p .refusal .place)
 
 -- the answer with the head of w, d and so many windows, n rows, and as many runs as the parts up to that of the last row r have
@@ -18,5 +18,5 @@ abbrev pub indexAs : ℕ → ℕ → ℕ → ℕ → Row → Built
 indexAs windows w d n r = Built.Index (record { window = w; width = d; windows = windows }) n (r .first + r .runs)
 
 -- the plan of a call with these buffers
-abbrev pub PlannedFor : List ℤ → ℕ → ℕ → ℕ → IndexBuffers → Plan → Type 0
+abbrev pub PlannedFor : List ℤ → ℕ → ℕ → ℕ → IndexBuffers → BuildPlan → Type 0
 PlannedFor s w d g b p = Planned s w d g (length (b .rows)) (length (b .left)) (length (b .right)) p

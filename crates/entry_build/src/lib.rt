@@ -1,6 +1,6 @@
 // The entry that builds an index: refused, or the index in the lent buffers.
 use build_passes::build_rows;
-use build_plan::Plan;
+use build_plan::BuildPlan;
 use build_plan::make_plan;
 use meaning_entries::Built;
 use meaning_rows::Head;
@@ -18,7 +18,7 @@ ghost use Rattle.build_passes.specs.Filled.{buffers};
 ghost use Rattle.entry_build.specs.Answer.{refusedAs, indexAs, PlannedFor};
 
 // The answer of a refused call.
-pub fn refuse(p: Plan) -> Built
+pub fn refuse(p: BuildPlan) -> Built
     ensures { λ b. ⌜ b ≡ refusedAs p ⌝ }
 {
     Built::Refused {
@@ -57,7 +57,7 @@ pub fn build_planned(
     w: u32,
     d: u32,
     g: u32,
-    p: Plan,
+    p: BuildPlan,
     rows: &mut [Row],
     left: &mut [u32],
     right: &mut [u32],

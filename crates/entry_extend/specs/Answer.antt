@@ -1,4 +1,4 @@
--- What an extension answers, and that it keeps its promise. Assumes nothing.
+-- What an extension answers, and that it keeps its promise.
 use mathlib.Core.Path.{_≡_}
 use Prim.Native.Nat.{ℕ, _+_, _*_, _≤_}
 use Rattle.meaning_rows.specs.declared.Row.{Row}

@@ -1,4 +1,4 @@
--- A buffer that is made 0 place by place. Assumes nothing.
+-- A buffer that is made 0 place by place.
 use mathlib.Core.Path.{_≡_, sym, _∙_}
 use mathlib.Core.List.{List}
 use Prim.Native.Nat.{ℕ, suc, _+_, _<_, _≤_}

@@ -1,5 +1,5 @@
 -- Finding candidates, where nothing refuses the search before it looks: what its parts ask for is had (`put-asked`, `meet-asked`, `hand-asked`), and what they promise is the promise of finding (`gathered`); where a plan refuses, so is that (`halted`).
--- The search after it: checking has what it asks for (`finish-asked`), and both promises are the promise of the search (`both-kept`). Assumes nothing.
+-- The search after it: checking has what it asks for (`finish-asked`), and both promises are the promise of the search (`both-kept`).
 use mathlib.Core.Path.{_≡_, refl, sym, ap, _∙_}
 use mathlib.Core.Bool.{Bool, true, false, not}
 use mathlib.Core.List.{List, [], map}

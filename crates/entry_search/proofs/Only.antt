@@ -1,4 +1,4 @@
--- The promises of the two halves of a search leave one outcome each: what is told, and what stands in every buffer. Assumes nothing.
+-- The promises of the two halves of a search leave one outcome each: what is told, and what stands in every buffer.
 use mathlib.Core.Path.{_≡_, _∙_, sym, ap}
 use mathlib.Core.List.{List}
 use Prim.Native.Nat.{ℕ}

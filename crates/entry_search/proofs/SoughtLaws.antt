@@ -1,4 +1,4 @@
--- The two halves of a search by what is promised of them. Finding candidates (`SoughtKept`): the plan's refusal, or the candidates as the search leaves them. Checking them (`Finished`). And the last step of finding, over what its code has: the stretches of runs of the query's parts (`HandReady`, `HandedOut`). Assumes nothing.
+-- The two halves of a search by what is promised of them. Finding candidates (`SoughtKept`): the plan's refusal, or the candidates as the search leaves them. Checking them (`Finished`). And the last step of finding, over what its code has: the stretches of runs of the query's parts (`HandReady`, `HandedOut`).
 use mathlib.Core.Bool.{Bool}
 use mathlib.Core.List.{List, map}
 use Prim.Native.Nat.{ℕ, _-_, _≤_}

@@ -1,4 +1,4 @@
--- A text spelled into a buffer: stored from a place on as far as there is room, or only counted, and then nothing is altered. Assumes nothing.
+-- A text spelled into a buffer: stored from a place on as far as there is room, or only counted, and then nothing is altered.
 use mathlib.Core.Path.{_≡_}
 use mathlib.Core.Bool.{Bool, cond}
 use mathlib.Core.List.{List, _++_}

@@ -1,4 +1,4 @@
--- Counting the runs of new windows in their rows, by rank. Assumes nothing.
+-- Counting the runs of new windows in their rows, by rank.
 use mathlib.Core.Path.{_≡_, refl, sym, ap, _∙_, subst}
 use mathlib.Core.Bool.{true, false}
 use mathlib.Core.List.{List}

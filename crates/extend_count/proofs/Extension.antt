@@ -1,4 +1,4 @@
--- The counts of an extension are right: counting by rank, from each row's old runs on, gives the runs of the extension's rows, but for the first new run where it joins an old one (`counts-are`). Assumes nothing.
+-- The counts of an extension are right: counting by rank, from each row's old runs on, gives the runs of the extension's rows, but for the first new run where it joins an old one (`counts-are`).
 use mathlib.Core.Path.{_≡_, refl, sym, ap, _∙_, subst}
 use mathlib.Core.Bool.{Bool, true, false, _&&_, and-false, and-true}
 use mathlib.Core.List.{List, [], _∷_, map}

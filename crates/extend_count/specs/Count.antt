@@ -1,4 +1,4 @@
--- Counting the runs of new windows in their rows, by rank. Assumes nothing.
+-- Counting the runs of new windows in their rows, by rank.
 use mathlib.Core.Path.{_≡_}
 use mathlib.Core.Bool.{cond}
 use mathlib.Core.List.{List}

@@ -1,4 +1,4 @@
--- The rank of a number among ascending ends: how many are at most it. It is the place of the first end above it. Assumes nothing.
+-- The rank of a number among ascending ends: how many are at most it. It is the place of the first end above it.
 use mathlib.Core.List.{List}
 use Prim.Native.Nat.{ℕ, _<_, _≤_}
 use lib.Dec.{leb}

@@ -1,4 +1,4 @@
--- The table of the row numbers of the windows from `old` on: lowered, it is the list of their row numbers. Assumes nothing.
+-- The table of the row numbers of the windows from `old` on: lowered, it is the list of their row numbers.
 use mathlib.Core.Bool.{Bool, cond}
 use mathlib.Core.List.{List, []}
 use Prim.Native.Nat.{ℕ, _-_}

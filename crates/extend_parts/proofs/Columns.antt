@@ -1,4 +1,4 @@
--- A column after the old runs are copied: each row's part begins with the numbers that stand in its old row's part (`column-front`), and while it is not full ends with how many they are (`column-cursor`). Assumes nothing.
+-- A column after the old runs are copied: each row's part begins with the numbers that stand in its old row's part (`column-front`), and while it is not full ends with how many they are (`column-cursor`).
 use mathlib.Core.Path.{_≡_, refl, sym, ap, _∙_}
 use mathlib.Core.List.{List, _++_}
 use Prim.Native.Nat.{ℕ, zero, suc, _+_, _-_, _<_, _≤_}

@@ -4,5 +4,5 @@ pub mod Columns
 pub mod Copy
 pub mod Lay
 pub mod OldRuns
-pub mod Passed
+pub mod OldPassed
 pub mod Records

@@ -1,5 +1,5 @@
 -- After both columns of the old run buffer are copied, each row's part holds the runs of its offsets below the old window count, and while it is not full its last right end has their number (`old-parts`, `old-cursors`). So the filling of the new
--- windows can go on from there. Assumes nothing.
+-- windows can go on from there.
 use mathlib.Core.Path.{_≡_, refl, sym, ap, _∙_, subst}
 use mathlib.Core.Bool.{Bool}
 use mathlib.Core.List.{List, [], _∷_}
@@ -34,7 +34,7 @@ use Rattle.meaning_rows.proofs.Grown.{Begun, begun-woven, old-runs, old-count, 
 use Rattle.rows_records.specs.Records.{zeroRow}
 use Rattle.extend_weave.specs.Turn.{endLow, endRow}
 use Rattle.extend_parts.specs.Copy.{partSize, nextOld, passedTo, columnTo, Copyable}
-use Rattle.extend_parts.proofs.Passed.{PassedRow, own, new, passed-in, passed-row, passed-size}
+use Rattle.extend_parts.proofs.OldPassed.{PassedRow, own, new, passed-in, passed-row, passed-size}
 use Rattle.extend_parts.proofs.Columns.{column-front, column-cursor}
 
 end-below : (d : ℕ) (z : ℤ) → GoodEnd d z → z <ℤ endLow

@@ -1,4 +1,4 @@
--- Rows whose ranges and run counts are those of rows with their runs, laid out by the sums of the counts, are the records of these rows (`laid-records`). Assumes nothing.
+-- Rows whose ranges and run counts are those of rows with their runs, laid out by the sums of the counts, are the records of these rows (`laid-records`).
 use mathlib.Core.Path.{_≡_, sym, _∙_}
 use mathlib.Core.List.{List, [], _∷_}
 use Prim.Native.Nat.{ℕ, zero, suc, _+_, _-_, _<_, _≤_}

@@ -1,4 +1,4 @@
--- One column of the old run buffer copied to the parts of the rows: what a turn writes, and the column after some rows. Assumes nothing.
+-- One column of the old run buffer copied to the parts of the rows: what a turn writes, and the column after some rows.
 use mathlib.Core.Bool.{cond}
 use mathlib.Core.List.{List, _++_}
 use Prim.Native.Nat.{ℕ, zero, suc, _+_, _-_, _<_, _≤_}

@@ -1,4 +1,4 @@
--- The runs of the extension's rows counted: what the counting asks (`countable`), whether the first new run joins (`joins`), and that the counts, less one where it does, are those of the extension's rows (`matches`). Assumes nothing.
+-- The runs of the extension's rows counted: what the counting asks (`countable`), whether the first new run joins (`joins`), and that the counts, less one where it does, are those of the extension's rows (`matches`).
 use mathlib.Core.Path.{_≡_, refl, sym, ap, _∙_}
 use mathlib.Core.Bool.{Bool, true, false, and-false}
 use mathlib.Core.List.{List, [], _∷_, map}

@@ -1,4 +1,4 @@
--- What stands in the buffers once all windows are filed is the extended index (`finished`). Assumes nothing.
+-- What stands in the buffers once all windows are filed is the extended index (`finished`).
 use mathlib.Core.Path.{_≡_, sym, ap, _∙_}
 use mathlib.Core.Bool.{Bool}
 use mathlib.Core.List.{List, map}
@@ -19,7 +19,7 @@ use Rattle.meaning_rows.proofs.LaidAt.{column-at}
 use Rattle.meaning_entries.specs.Buffers.{filled, indexIn, lefts, rights}
 use Rattle.rows_records.specs.Records.{zeroRow}
 use Rattle.build_parts.specs.Filling.{partsTotal}
-use Rattle.build_fill.specs.Pass.{Passed}
+use Rattle.build_fill.specs.Pass.{PassMade}
 use Rattle.build_passes.specs.Filled.{buffers}
 use Rattle.build_passes.proofs.Filled.{filled-is, lefts-entry, rights-entry}
 use Rattle.extend_parts.proofs.OldRuns.{rowHas}
@@ -54,7 +54,7 @@ module _ (x : Index) (s : List ℤ) (g : WellFormed x) (long : Extendable x s) w
   total = partsTotal size n P
 
   module _ (rows₀ : List Row) (left₀ right₀ : List ℕ) (in-left : n ≤ length left₀) (in-right : n ≤ length right₀) {left right left′ right′ : List ℕ} (bl : Behind total left₀ left) (br : Behind total right₀ right)
-      (f : Passed P s w size left right left′ right′) where
+      (f : PassMade P s w size left right left′ right′) where
     left-is : left′ ≡ filled 0 (lefts (allRuns (map G made))) left₀
     unfolding withRuns
     left-is =

@@ -1,4 +1,4 @@
--- Where the old runs are copied and the first new run is joined, the pass can begin (`passable`). Assumes nothing.
+-- Where the old runs are copied and the first new run is joined, the pass can begin (`passable`).
 use mathlib.Core.Path.{_≡_, refl, sym, ap, _∙_, subst}
 use mathlib.Core.Bool.{Bool, true, false}
 use mathlib.Core.List.{List, map}
@@ -22,7 +22,7 @@ use Rattle.meaning_rows.proofs.Woven.{wovenRows, grownRuns}
 use Rattle.meaning_rows.proofs.Parts.{Parts}
 use Rattle.meaning_rows.proofs.Cursors.{Cursors}
 use Rattle.rows_records.specs.Records.{zeroRow}
-use Rattle.sums_slide.specs.declared.Place.{Place}
+use Rattle.sums_slide.specs.declared.Window.{Window}
 use Rattle.sums_slide.proofs.Levels.{level-is}
 use Rattle.sums_slide.specs.Change.{Change}
 use Rattle.build_parts.specs.Filling.{partStart, partsTotal, parts-laid}
@@ -144,9 +144,9 @@ module _ (x : Index) (s : List ℤ) (g : WellFormed x) (long : Extendable x s) w
     rowed : Rowed P sum old n rows size
     rowed = extended-rowed x s g long rows fits front
 
-    module _ (e : ℕ) {place : Place} (start : At s w e place) (begins : place .offset ≡ old) {i : ℕ} {joins : Bool} (j : Joins i joins) {lo hi spot : ℕ}
+    module _ (e : ℕ) {place : Window} (start : At s w e place) (begins : place .offset ≡ old) {i : ℕ} {joins : Bool} (j : Joins i joins) {lo hi spot : ℕ}
         (low : joins ≡ true → lo ≡ raisedEnd (10000 * w + e) (getD rows i zeroRow .low)) (high : joins ≡ true → hi ≡ raisedEnd (10000 * w + e) (getD rows i zeroRow .up))
-        (where-is : joins ≡ true → spot ≡ partStart size n P i + runCount (P i) old - 1) {t : Place} {right′ : List ℕ} (h : JoinedRun s w e place joins lo hi spot oldRight t right′) where
+        (where-is : joins ≡ true → spot ≡ partStart size n P i + runCount (P i) old - 1) {t : Window} {right′ : List ℕ} (h : JoinedRun s w e place joins lo hi spot oldRight t right′) where
       -- nothing joins
       passable-fresh : joins ≡ false → Passable P s w e t rows size oldLeft right′
       passable-fresh f =
@@ -267,7 +267,7 @@ module _ (x : Index) (s : List ℤ) (g : WellFormed x) (long : Extendable x s) w
     row-begins i l = omega (arith, laid .fits i l, room-right, long-right)
 
     -- what joining asks
-    pub joinable : (e : ℕ) {place : Place} → At s w e place → place .offset ≡ old → {i : ℕ} {joins : Bool} → Joins i joins → {lo hi spot : ℕ}
+    pub joinable : (e : ℕ) {place : Window} → At s w e place → place .offset ≡ old → {i : ℕ} {joins : Bool} → Joins i joins → {lo hi spot : ℕ}
         → (joins ≡ true → lo ≡ raisedEnd (10000 * w + e) (getD rows i zeroRow .low)) → (joins ≡ true → hi ≡ raisedEnd (10000 * w + e) (getD rows i zeroRow .up))
         → (joins ≡ true → spot ≡ partStart size n P i + runCount (P i) old - 1) → Joinable s w e place joins lo hi spot (length oldRight)
     joinable e {place} start begins {i} {joins} j low high where-is = record {

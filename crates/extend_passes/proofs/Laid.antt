@@ -1,4 +1,4 @@
--- The records of the extension's rows, laid out by the sums of their counts (`laid-front`, `laid-rows`). Assumes nothing.
+-- The records of the extension's rows, laid out by the sums of their counts (`laid-front`, `laid-rows`).
 use mathlib.Core.Path.{_≡_, refl, sym, ap, _∙_, subst}
 use mathlib.Core.List.{List, _++_, map}
 use Prim.Native.Nat.{ℕ, zero, suc, _+_, _-_, _<_, _≤_}

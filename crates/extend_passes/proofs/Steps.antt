@@ -1,4 +1,4 @@
--- What the covered steps of an extension ask and leave. Assumes nothing.
+-- What the covered steps of an extension ask and leave.
 use mathlib.Core.Path.{_≡_, refl, ap, _∙_}
 use mathlib.Core.Bool.{Bool, true}
 use mathlib.Core.List.{List}
@@ -11,7 +11,7 @@ use borrow.Author.Tests.{leb-true}
 use Rattle.meaning_numbers.proofs.Tests.{by-test, clash}
 use Rattle.meaning_rows.specs.declared.Row.{Row}
 use Rattle.meaning_rows.proofs.Grown.{lastEnds}
-use Rattle.sums_slide.specs.declared.Place.{Place}
+use Rattle.sums_slide.specs.declared.Window.{Window}
 use Rattle.build_parts.proofs.Lent.{lentFrom, backAt, lent-is, back-same, back-set}
 use Rattle.extend_new.specs.New.{lessJoin}
 use Rattle.extend_new.specs.Join.{Joinable, JoinedRun}
@@ -22,10 +22,10 @@ unfolding lessJoin
 less-long joins i counts = by-test joins (λ t. rw t (length-set counts i (getD counts i 0 - 1))) (λ f. rw f refl)
 
 -- of equal numbers
-pub joinable-as : {s : List ℤ} {w e : ℕ} {p : Place} {b b′ : Bool} {lo lo′ hi hi′ spot spot′ size : ℕ} → b ≡ b′ → lo ≡ lo′ → hi ≡ hi′ → spot ≡ spot′ → Joinable s w e p b′ lo′ hi′ spot′ size → Joinable s w e p b lo hi spot size
+pub joinable-as : {s : List ℤ} {w e : ℕ} {p : Window} {b b′ : Bool} {lo lo′ hi hi′ spot spot′ size : ℕ} → b ≡ b′ → lo ≡ lo′ → hi ≡ hi′ → spot ≡ spot′ → Joinable s w e p b′ lo′ hi′ spot′ size → Joinable s w e p b lo hi spot size
 joinable-as a c d f h = rw (a, c, d, f) h
 
-pub joined-as : {s : List ℤ} {w e : ℕ} {p t : Place} {b b′ : Bool} {lo lo′ hi hi′ spot spot′ : ℕ} {before after : List ℕ} → b ≡ b′ → lo ≡ lo′ → hi ≡ hi′ → spot ≡ spot′ → JoinedRun s w e p b lo hi spot before t after → JoinedRun s w e p b′ lo′ hi′ spot′ before t after
+pub joined-as : {s : List ℤ} {w e : ℕ} {p t : Window} {b b′ : Bool} {lo lo′ hi hi′ spot spot′ : ℕ} {before after : List ℕ} → b ≡ b′ → lo ≡ lo′ → hi ≡ hi′ → spot ≡ spot′ → JoinedRun s w e p b lo hi spot before t after → JoinedRun s w e p b′ lo′ hi′ spot′ before t after
 joined-as a c d f h = rw (← a, ← c, ← d, ← f) h
 
 -- a row that is joined has a run
@@ -34,7 +34,7 @@ unfolding joinsOf lastEnds
 joins-some s w old r right h = by-test (leb 1 (r .runs)) (λ t. leb-true 1 (r .runs) t) (λ f. clash h (rw f))
 
 -- the row's part, lent and put back
-module _ {s : List ℤ} {w e : ℕ} {p : Place} {joins : Bool} {lo hi : ℕ} (q r : Row) (right : List ℕ) (some : joins ≡ true → 1 ≤ r .runs) where
+module _ {s : List ℤ} {w e : ℕ} {p : Window} {joins : Bool} {lo hi : ℕ} (q r : Row) (right : List ℕ) (some : joins ≡ true → 1 ≤ r .runs) where
   pub joinable-lent : Joinable s w e p joins lo hi (spotOf q r) (length right) → Joinable s w e p joins lo hi (r .runs - 1) (length (lentFrom (q .first) right))
   joinable-lent h = record {
     begins = h .begins;
@@ -43,7 +43,7 @@ module _ {s : List ℤ} {w e : ℕ} {p : Place} {joins : Bool} {lo hi : ℕ} (q 
     fits = λ t. omega (arith, h .fits t, some t, ap length (lent-is (q .first) right), length-drop (q .first) right);
   }
 
-  pub joined-back : (t : Place) (last : List ℕ) → JoinedRun s w e p joins lo hi (r .runs - 1) (lentFrom (q .first) right) t last → JoinedRun s w e p joins lo hi (spotOf q r) right t (backAt (q .first) right last)
+  pub joined-back : (t : Window) (last : List ℕ) → JoinedRun s w e p joins lo hi (r .runs - 1) (lentFrom (q .first) right) t last → JoinedRun s w e p joins lo hi (spotOf q r) right t (backAt (q .first) right last)
   joined-back t last h = record {
     stays = λ f. (h .stays f .0, back-same (q .first) right last (h .stays f .1));
     stop = h .stop;

@@ -1,4 +1,4 @@
--- The passes of an extension, one after the other: what each asks follows from what those before it left, and at the end the buffers hold the extended index (`extended-held`). Assumes nothing.
+-- The passes of an extension, one after the other: what each asks follows from what those before it left, and at the end the buffers hold the extended index (`extended-held`).
 use mathlib.Core.Path.{_≡_, refl, sym, ap, _∙_, subst}
 use mathlib.Core.Bool.{Bool, true}
 use mathlib.Core.List.{List, map}
@@ -17,12 +17,12 @@ use Rattle.meaning_entries.specs.Buffers.{filled}
 use Rattle.rows_records.specs.Records.{zeroRow}
 use Rattle.meaning_numbers.proofs.Rep.{zarith}
 use Rattle.meaning_rows.specs.Runs.{runCount}
-use Rattle.sums_slide.specs.declared.Place.{Place}
+use Rattle.sums_slide.specs.declared.Window.{Window}
 use Rattle.sums_slide.specs.Levels.{windowsOf}
 use Rattle.build_parts.specs.Filling.{partStart, partsTotal}
 use Rattle.sums_slide.specs.Ends.{raisedEnd}
 use Rattle.build_fill.specs.Turn.{Small}
-use Rattle.build_fill.specs.Pass.{Passable, Passed}
+use Rattle.build_fill.specs.Pass.{Passable, PassMade}
 use Rattle.build_passes.specs.Filled.{buffers}
 use Rattle.extend_weave.proofs.Weave.{getD-past}
 use Rattle.extend_parts.proofs.Lay.{laid-past}
@@ -200,7 +200,7 @@ module _ {s : List ℤ} {w e d b old : ℕ} {from : List Row} {lefts rights : Li
             can = λ p a b. rw (k .right-is) (joinable x s (h .formed) (h .longer) lefts rights refl rows₂ fits₂ front (k .l) (k .r) in-l in-r e a b joined (λ t. refl) (λ t. refl) spot-is);
           }
 
-          module _ (t : Place) (right₅ : List ℕ) (j : JoinedAt s w e old J new-row row right₄ t right₅) where
+          module _ (t : Window) (right₅ : List ℕ) (j : JoinedAt s w e old J new-row row right₄ t right₅) where
             run : JoinedRun s w e (j .place) J (raisedEnd (10000 * w + e) (new-row .low)) (raisedEnd (10000 * w + e) (new-row .up)) (spotOf new-row row) (columnTo from rights rows₂ size (k .r)) t right₅
             run = subst (λ (l : List ℕ). JoinedRun s w e (j .place) J (raisedEnd (10000 * w + e) (new-row .low)) (raisedEnd (10000 * w + e) (new-row .up)) (spotOf new-row row) l t right₅) (k .right-is) (j .run)
 
@@ -215,7 +215,7 @@ module _ {s : List ℤ} {w e d b old : ℕ} {from : List Row} {lefts rights : Li
             zeros z l = past-both x s (h .formed) (h .longer) lefts rights refl rows₂ fits₂ front (k .l) (k .r) in-l in-r e (j .start) (j .begins) joined (λ q. refl) (λ q. refl) spot-is run z l
 
             -- and where it ends, the buffers hold the extended index
-            pub extended-held : (left₆ right₆ : List ℕ) → Passed P s w size left₄ right₅ left₆ right₆ → HoldsExtended x s (buffers rows left right) (buffers rows₂ left₆ right₆)
+            pub extended-held : (left₆ right₆ : List ℕ) → PassMade P s w size left₄ right₅ left₆ right₆ → HoldsExtended x s (buffers rows left right) (buffers rows₂ left₆ right₆)
             extended-held left₆ right₆ f = finished x s (h .formed) (h .longer) rows left right (h .in-left) (h .in-right)
                 (record { long = ap length (k .left-is) ∙ long-columns .0 ∙ k .cleared .0 .long ∙ long-l; zero = λ z l. ap (λ (m : List ℕ). getD m z 0) (k .left-is) ∙ zeros z l .0 ∙ k .cleared .0 .zero z })
                 (record { long = long-columns .1 ∙ k .cleared .1 .long ∙ long-r; zero = λ z l. zeros z l .1 ∙ k .cleared .1 .zero z }) f laid-are

@@ -1,4 +1,4 @@
--- The row numbers of the new windows can be woven among the old rows (`weavable`), and the records made and cleared are the rows of the extension (`woven-rows`, `row-is`). Assumes nothing.
+-- The row numbers of the new windows can be woven among the old rows (`weavable`), and the records made and cleared are the rows of the extension (`woven-rows`, `row-is`).
 use mathlib.Core.Path.{_≡_, refl, sym, ap, _∙_}
 use mathlib.Core.List.{List, _++_, map}
 use Prim.Native.Nat.{ℕ, zero, suc, _+_, _-_, _*_, _<_, _≤_}

@@ -1,4 +1,4 @@
--- What stands in the buffers once all windows are filed is the extended index. Assumes nothing.
+-- What stands in the buffers once all windows are filed is the extended index.
 use mathlib.Core.Path.{_≡_}
 use mathlib.Core.List.{List}
 use lib.IntN.{ℤ}

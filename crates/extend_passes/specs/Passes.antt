@@ -1,4 +1,4 @@
--- What the walked steps between the passes ask and leave, step by step. Assumes nothing.
+-- What the walked steps between the passes ask and leave, step by step.
 use mathlib.Core.Path.{_≡_}
 use mathlib.Core.List.{List}
 use Prim.Native.Nat.{ℕ, _+_, _<_, _≤_}

@@ -1,4 +1,4 @@
--- What the covered steps of an extension ask and leave. Assumes nothing.
+-- What the covered steps of an extension ask and leave.
 use mathlib.Core.Path.{_≡_}
 use mathlib.Core.Bool.{Bool, true, cond}
 use mathlib.Core.List.{List}
@@ -8,7 +8,7 @@ use lib.IntN.{ℤ}
 use lib.ListN.{length, getD}
 use Rattle.meaning_rows.specs.declared.Row.{Row}
 use Rattle.meaning_rows.proofs.Grown.{lastEnds}
-use Rattle.sums_slide.specs.declared.Place.{Place}
+use Rattle.sums_slide.specs.declared.Window.{Window}
 use Rattle.sums_slide.specs.Levels.{Lent, windowsOf}
 use Rattle.rows_pack.specs.Packed.{total}
 use Rattle.sums_slide.specs.Ends.{raisedEnd}
@@ -40,11 +40,11 @@ pub record JoinAsked (s : List ℤ) (w e old : ℕ) (joins : Bool) (q r : Row) (
   pub below : old ≤ windowsOf s w
   pub small : Small q
   pub begins : q .first ≤ size
-  pub can : (p : Place) → At s w e p → p .offset ≡ old → Joinable s w e p joins (raisedEnd (10000 * w + e) (q .low)) (raisedEnd (10000 * w + e) (q .up)) (spotOf q r) size
+  pub can : (p : Window) → At s w e p → p .offset ≡ old → Joinable s w e p joins (raisedEnd (10000 * w + e) (q .low)) (raisedEnd (10000 * w + e) (q .up)) (spotOf q r) size
 
 -- the first new run is joined
-pub record JoinedAt (s : List ℤ) (w e old : ℕ) (joins : Bool) (q r : Row) (before : List ℕ) (t : Place) (after : List ℕ) : Type 0 where
-  pub place : Place
+pub record JoinedAt (s : List ℤ) (w e old : ℕ) (joins : Bool) (q r : Row) (before : List ℕ) (t : Window) (after : List ℕ) : Type 0 where
+  pub place : Window
   pub start : At s w e place
   pub begins : place .offset ≡ old
   pub run : JoinedRun s w e place joins (raisedEnd (10000 * w + e) (q .low)) (raisedEnd (10000 * w + e) (q .up)) (spotOf q r) before t after

@@ -1,4 +1,4 @@
--- The passes of an extension, one after the other: what each asks follows from what those before it left, and at the end the buffers hold the extended index. Assumes nothing.
+-- The passes of an extension, one after the other: what each asks follows from what those before it left, and at the end the buffers hold the extended index.
 use mathlib.Core.Path.{_≡_}
 use mathlib.Core.List.{List}
 use Prim.Native.Nat.{ℕ, _+_, _*_, _≤_}

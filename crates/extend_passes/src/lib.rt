@@ -17,7 +17,7 @@ use numbers::RAISE;
 use rows_pack::sum_up;
 use rows_records::clear_rows;
 use rows_records::row_at;
-use sums_slide::Place;
+use sums_slide::Window;
 use sums_slide::raise_end;
 use sums_slide::slide;
 ghost use mathlib.Core.Path.{_≡_};
@@ -117,18 +117,18 @@ pub fn sum_joined(
 }
 
 // Window `j` with its raised sum; `j` may be the number of windows.
-pub fn place_at(s: &[i32], w: usize, e: u64, j: usize) -> Place
+pub fn place_at(s: &[i32], w: usize, e: u64, j: usize) -> Window
     requires { ⌜ Lent (now s) w e ⌝ }
     requires { ⌜ j ≤ windowsOf (now s) w ⌝ }
     ensures { λ p. ⌜ At (now (s .entry)) w e p × (p .offset ≡ j) ⌝ }
 {
     if j < s.len() + 1 - w {
-        Place {
+        Window {
             offset: j,
             level: level_at(s, w, e, j),
         }
     } else {
-        Place {
+        Window {
             offset: j,
             level: slide(s, w, e, j - 1, level_at(s, w, e, j - 1)),
         }
@@ -153,7 +153,7 @@ pub fn join_first(
     r: Row,
     olds: &[u32],
     right: &mut [u32],
-) -> Place
+) -> Window
     requires { ⌜ (r .first + r .runs ≤ length (now olds)) × (JoinAsked (now s) w e old (joinsOf (now s) w old r (now olds)) q r (length (now right))) ⌝ }
     ensures { λ t. ⌜ JoinedAt (now (s .entry)) w e old (joinsOf (now (s .entry)) w old r (now (olds .entry))) q r (now (right .entry)) t (now (right .exit)) ⌝ }
 {

@@ -1,4 +1,4 @@
--- The walk over old rows and row numbers: what it is given, what it has made after some turns, how it begins, a turn and its end. Assumes nothing.
+-- The walk over old rows and row numbers: what it is given, what it has made after some turns, how it begins, a turn and its end.
 use mathlib.Core.Path.{_≡_}
 use mathlib.Core.List.{List, map}
 use Prim.Native.Nat.{ℕ, _≤_}

@@ -1,4 +1,4 @@
--- A value in its limits, and every value of a list: by place, with a default that lies in the limits, so that no length is asked. What two such values are apart is at most 20,000, and its square at most 400,000,000. Assumes nothing.
+-- A value in its limits, and every value of a list: by place, with a default that lies in the limits, so that no length is asked. What two such values are apart is at most 20,000, and its square at most 400,000,000.
 use mathlib.Core.Path.{_≡_, sym, subst}
 use mathlib.Core.Bool.{Bool, true, false, not}
 use mathlib.Core.Logic.{⊎-elim}

@@ -1,4 +1,4 @@
--- Rows of the table of cases that are calls over lent buffers: the answer, and every buffer afterwards. Answers and buffers are compared as lists of numbers. Assumes nothing.
+-- Rows of the table of cases that are calls over lent buffers: the answer, and every buffer afterwards. Answers and buffers are compared as lists of numbers.
 use mathlib.Core.Bool.{Bool, _&&_}
 use mathlib.Core.List.{List, [], _∷_, _++_}
 use mathlib.Core.Option.{Option, none, some}

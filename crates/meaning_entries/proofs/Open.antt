@@ -1,4 +1,4 @@
--- Every definition of this crate that stays shut until it is named, and those below, under one name: a proof that computes a case says `unfolding openEntries`. Assumes nothing.
+-- Every definition of this crate that stays shut until it is named, and those below, under one name: a proof that computes a case says `unfolding openEntries`.
 use Rattle.meaning_text.proofs.Open.{openText}
 use Rattle.meaning_entries.specs.Refusal.{firstRefusal, lengthOutside, valueOutside, windowOutside, widthOutside, mergeOutside, queryLengthOutside, queryBelowWindow, bandOutside, thresholdOutside, scaleOrShiftOutside, normalFlat, flatQuery, illFormed, fewerWindows, moreWindows, bufferShort, badLine, unreadable, listShort}
 use Rattle.meaning_entries.specs.Buffers.{filled, indexIn}

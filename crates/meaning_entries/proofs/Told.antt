@@ -1,4 +1,4 @@
--- Two audits and two searches as one call: what is answered by what each audit and each search means (`demand-by`), case by case too, and that this paper's number, place, values and counts of the answer are those that are meant. By cases on the audits and on the refusals. Assumes nothing.
+-- Two audits and two searches as one call: what is answered by what each audit and each search means (`demand-by`), case by case too, and that this paper's number, place, values and counts of the answer are those that are meant. By cases on the audits and on the refusals.
 use mathlib.Core.Path.{_≡_, refl, sym, ap, _∙_}
 use mathlib.Core.Bool.{Bool, true, false, cond}
 use mathlib.Core.Option.{Option, none, some, Option·some-ne-none}

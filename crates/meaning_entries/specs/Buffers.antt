@@ -1,4 +1,4 @@
--- Lent buffers, and what stands in them afterwards: the written entries first, 0 in every unused one (01, after the tables of refusals). Assumes nothing.
+-- Lent buffers, and what stands in them afterwards: the written entries first, 0 in every unused one (01, after the tables of refusals).
 use mathlib.Core.List.{List, _++_, map}
 use Prim.Native.Nat.{ℕ, _-_, min}
 use lib.IntN.{pos, natAbs}

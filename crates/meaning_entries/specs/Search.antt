@@ -1,4 +1,4 @@
--- The entry search: one series, one index, one query of either kind, straight or warped. Assumes nothing.
+-- The entry search: one series, one index, one query of either kind, straight or warped.
 use mathlib.Core.Bool.{Bool, true, false}
 use mathlib.Core.List.{List, [], _∷_, _++_, map}
 use mathlib.Core.Option.{Option, none, some}

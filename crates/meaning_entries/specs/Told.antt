@@ -1,5 +1,5 @@
 -- Demand 3 as one call: a series audited against two indexes, and searched for one query through both, each search with buffers of its own. `c` is the first search, `through x c` the same through the other index.
--- What is answered, in the order in which it is looked at: both audits, then both searches. An audit that does not say yes, or a search that is refused, by 24 too, stands in the way, and the first that does is told. Assumes nothing.
+-- What is answered, in the order in which it is looked at: both audits, then both searches. An audit that does not say yes, or a search that is refused, by 24 too, stands in the way, and the first that does is told.
 use mathlib.Core.Bool.{Bool, true, false, cond}
 use mathlib.Core.Option.{Option, none, some}
 use Prim.Native.Nat.{ℕ}

@@ -1,4 +1,4 @@
--- Every match is a candidate, in an index that files each window of the series in a row that holds its sum (`kept-candidate`). The sum of a part of the stretch is that of a window of the series, it lies in the part's range (`kept`), and so the row that holds it is met (`row-met`). Assumes nothing.
+-- Every match is a candidate, in an index that files each window of the series in a row that holds its sum (`kept-candidate`). The sum of a part of the stretch is that of a window of the series, it lies in the part's range (`kept`), and so the row that holds it is met (`row-met`).
 use mathlib.Core.Path.{_≡_, sym, subst}
 use mathlib.Core.Bool.{Bool, _&&_}
 use mathlib.Core.List.{List, map}

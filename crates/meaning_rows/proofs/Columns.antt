@@ -1,4 +1,4 @@
--- The run buffer's two columns as a loop writes them: what one more offset does to `lefts (runs p n)` and `rights (runs p n)` in front of what was there. Assumes nothing.
+-- The run buffer's two columns as a loop writes them: what one more offset does to `lefts (runs p n)` and `rights (runs p n)` in front of what was there.
 use mathlib.Core.Path.{_≡_, refl, sym, ap, _∙_}
 use mathlib.Core.Bool.{Bool, true, false, not, _&&_}
 use mathlib.Core.List.{List, [], _∷_, _++_}

@@ -1,4 +1,4 @@
--- A value that is passed on or stored is the machine's bits read back. In the limits that is the value, so what a callee says of the bits it says of the value. Assumes nothing.
+-- A value that is passed on or stored is the machine's bits read back. In the limits that is the value, so what a callee says of the bits it says of the value.
 use mathlib.Core.Path.{_≡_, refl, sym, _∙_}
 use mathlib.Core.Bool.{Bool, true, false}
 use Prim.Native.Nat.{_+_, _<_, _≤_}

@@ -1,4 +1,4 @@
--- A sum that a loop makes in blocks, each at most `most` a term: so much of it is made (`Made`), a block more (`made-more`), and the two ways out (`made-left`, `made-whole`). Assumes nothing.
+-- A sum that a loop makes in blocks, each at most `most` a term: so much of it is made (`Made`), a block more (`made-more`), and the two ways out (`made-left`, `made-whole`).
 use mathlib.Core.Path.{_≡_, sym}
 use Prim.Native.Nat.{ℕ, _+_, _*_, _<_, _≤_}
 use native.Mathlib.Omega.{arith}

@@ -1,4 +1,4 @@
--- The row of a sum, told by the quotient of a natural number: of the sum, or of -1 less the sum where that is negative. Assumes nothing.
+-- The row of a sum, told by the quotient of a natural number: of the sum, or of -1 less the sum where that is negative.
 use mathlib.Core.Path.{_≡_, refl}
 use Prim.Native.Nat.{ℕ, _/_}
 use lib.IntN.{ℤ, pos, negsuc}

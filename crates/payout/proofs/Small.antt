@@ -1,4 +1,4 @@
--- The number of an answer fits 64 bits (`number-small`): a line of an index text has at least 8 bytes but the last, a series line is one line, and rows and offsets are no more than windows. Assumes nothing.
+-- The number of an answer fits 64 bits (`number-small`): a line of an index text has at least 8 bytes but the last, a series line is one line, and rows and offsets are no more than windows.
 use mathlib.Core.Path.{_≡_, refl, sym, ap, _∙_}
 use mathlib.Core.Bool.{Bool, true, false, not, cond}
 use mathlib.Core.List.{List, [], _∷_, _++_, append-nil}

@@ -1,4 +1,4 @@
--- A series line fed in one piece comes to what the form says of it (`line-going`, `line-failed`). Assumes nothing.
+-- A series line fed in one piece comes to what the form says of it (`line-going`, `line-failed`).
 use mathlib.Core.Path.{_≡_, refl, sym, ap, _∙_}
 use mathlib.Core.List.{List, [], _∷_}
 use Prim.Native.Nat.{ℕ, _<_, _^_}

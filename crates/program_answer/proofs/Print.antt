@@ -1,4 +1,4 @@
--- What the program prints where nothing refuses it: its build and its search are not refused either (`build-free`, `search-free`), what is built stands in the buffers (`lent-is`), and its texts have room. Assumes nothing.
+-- What the program prints where nothing refuses it: its build and its search are not refused either (`build-free`, `search-free`), what is built stands in the buffers (`lent-is`), and its texts have room.
 use mathlib.Core.Path.{_≡_, refl, sym, ap, _∙_, subst}
 use mathlib.Core.List.{List, [], _∷_, _++_, map}
 use mathlib.Core.Option.{none}
@@ -31,7 +31,7 @@ use Rattle.meaning_entries.specs.Write.{writeTable, writeRefusal}
 use Rattle.meaning_entries.specs.Search.{SearchCall, SearchBuffers, lentAsk, lentSearch, valueLines, limitLines, searchPlan, searchTable, searchRefusal, searchAnswer, searchMatches, searchCandidates, question}
 use Rattle.meaning_entries.specs.Program.{callLines, programIndex, printed}
 use Rattle.meaning_entries.specs.Demand2.{BuildKept, SearchKept}
-use Rattle.meaning_entries.proofs.Refusal.{Passed, end, more, passed-is, passed-both, passed-join, openLines, passed-line, passed-behind}
+use Rattle.meaning_entries.proofs.Refusal.{AllPass, end, more, passed-is, passed-both, passed-join, openLines, passed-line, passed-behind}
 use Rattle.meaning_entries.proofs.Lines.{long-line, window-line, query-line, threshold-line, scale-line, series-passes, count-passes, room-passes}
 use Rattle.meaning_entries.proofs.Made.{build-passes, build-most}
 use Rattle.meaning_entries.proofs.Passes as Audit
@@ -69,7 +69,7 @@ columns-rows n (r ∷ l) = columns-both (withRuns n r .runs) (allRuns (map (with
 
 -- ---- a program that nothing refuses
 
-module _ (s q : List ℤ) (a : Asked) (free : Passed (callLines (callOf s q a))) where
+module _ (s q : List ℤ) (a : Asked) (free : AllPass (callLines (callOf s q a))) where
   abbrev w : ℕ
   w = a .window
 
@@ -87,7 +87,7 @@ module _ (s q : List ℤ) (a : Asked) (free : Passed (callLines (callOf s q a)))
   few = length-in .most
 
   -- the parts of the call's lines that the build and the search have too
-  series-part : Passed (seriesLines mostValues s)
+  series-part : AllPass (seriesLines mostValues s)
   unfolding openLines callLines callOf
   series-part = series-passes mostValues s (yes-within (record { low = omega (zarith, length-in .least); high = omega (zarith, few) })) (passed-line free 2)
 
@@ -100,14 +100,14 @@ module _ (s q : List ℤ) (a : Asked) (free : Passed (callLines (callOf s q a)))
   abbrev rest : List Condition
   rest = limits ++ (flatQuery (a .ask .kind) q ∷ [])
 
-  number-parts : Passed widths × Passed rest
+  number-parts : AllPass widths × AllPass rest
   unfolding callLines callOf
   number-parts = passed-both widths rest (passed-both (valueLines mostProgramValues s q) (widths ++ rest) free .1)
 
-  width-part : Passed widths
+  width-part : AllPass widths
   width-part = number-parts .0
 
-  limit-part : Passed limits
+  limit-part : AllPass limits
   limit-part = passed-both limits (flatQuery (a .ask .kind) q ∷ []) (number-parts .1) .0
 
   window-in : (1 ≤ w) × (w ≤ length s)

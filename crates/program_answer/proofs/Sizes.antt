@@ -1,4 +1,4 @@
--- How long the program's texts are at most, so that a buffer of 1,048,576 bytes holds them. Assumes nothing.
+-- How long the program's texts are at most, so that a buffer of 1,048,576 bytes holds them.
 use mathlib.Core.Path.{_≡_, ap, subst}
 use mathlib.Core.Bool.{true, not, _&&_}
 use mathlib.Core.List.{List, [], _∷_, map}

@@ -1,4 +1,4 @@
--- What the program prints where nothing refuses it: its build and its search are not refused either, what is built stands in the buffers, and its texts have room. Assumes nothing.
+-- What the program prints where nothing refuses it: its build and its search are not refused either, what is built stands in the buffers, and its texts have room.
 use mathlib.Core.List.{List}
 use Prim.Native.Nat.{ℕ}
 use lib.ListN.{take}

@@ -1,4 +1,4 @@
--- What the table over what was kept says of the text (`end-is`), and what is asked where nothing refuses (`asked-is`). Assumes nothing.
+-- What the table over what was kept says of the text (`end-is`), and what is asked where nothing refuses (`asked-is`).
 use mathlib.Core.Path.{_≡_, refl, sym, ap, _∙_, subst}
 use mathlib.Core.Bool.{Bool, true, false, cond}
 use mathlib.Core.List.{List, [], _∷_, _++_, map}
@@ -25,7 +25,7 @@ use Rattle.meaning_entries.specs.Refusal.{valueOutside, flatQuery, badLine, unr
 use Rattle.meaning_entries.specs.Build.{widthLines}
 use Rattle.meaning_entries.specs.Search.{valueLines, limitLines}
 use Rattle.meaning_entries.specs.Program.{ProgramCall, programSaid, textProgram, callLines, programTable}
-use Rattle.meaning_entries.proofs.Refusal.{Passed, same-behind, passed-both, openLines, passed-line, passed-behind}
+use Rattle.meaning_entries.proofs.Refusal.{AllPass, same-behind, passed-both, openLines, passed-line, passed-behind}
 use Rattle.meaning_entries.proofs.Lines.{window-line, width-line, merge-line, band-line, threshold-line, scale-line}
 use Rattle.refusals.specs.Refusal.{refusalOf, asRefusal}
 use Rattle.refusals.proofs.RefusalLaws.{place-is, place-none}
@@ -108,7 +108,7 @@ module _ {kept asked : List ℤ} {g : Said} {numbers : List ℤ} {v q : Values} 
 
   module _ (room : 1024 ≤ length asked) where
     -- the query, where values and numbers pass
-    query-is : Passed (valuesTable v q) → Passed (numbersTable (v .count) (q .count) (numbersAt numbers)) → take (q .count) query ≡ g .query
+    query-is : AllPass (valuesTable v q) → AllPass (numbersTable (v .count) (q .count) (numbersAt numbers)) → take (q .count) query ≡ g .query
     query-is a b = all-kept (h .second) (query-in v q a) (omega (arith, query-few (v .count) (q .count) (numbersAt numbers) b, room))
 
     pub call-is : refusalOf (callTable v q (numbersAt numbers) query) ≡ refusalOf (callLines said)
@@ -194,7 +194,7 @@ module _ (kept asked : List ℤ) (t : List ℕ) (r : Input) (numbers series quer
 upto : {low k : ℕ} {z : ℤ} → Natural low k z → Upto k z
 upto n = record { least = omega (zarith, n .is); most = omega (zarith, n .is, n .most) }
 
-pub passed-limited : (n m : ℕ) (x : Numbers) → Passed (numbersTable n m x) → Limited x
+pub passed-limited : (n m : ℕ) (x : Numbers) → AllPass (numbersTable n m x) → Limited x
 unfolding openLines numbersTable
 passed-limited n m x h =
     let w = window-line (x .window) n (passed-line h 3) .0 in
@@ -224,7 +224,7 @@ pub record Given (kept asked : List ℤ) (t : List ℕ) (p : Progress) (numbers 
   pub short : p .query .count ≤ 1024
   pub call : textProgram t ≡ callOf (take (p .series .count) series) (take (p .query .count) query) (askedOf (numbersAt numbers))
 
-passed-parts : (v q : Values) (x : Numbers) (query : List ℤ) → Passed (callTable v q x query) → Passed (valuesTable v q) × Passed (numbersTable (v .count) (q .count) x)
+passed-parts : (v q : Values) (x : Numbers) (query : List ℤ) → AllPass (callTable v q x query) → AllPass (valuesTable v q) × AllPass (numbersTable (v .count) (q .count) x)
 unfolding callTable
 passed-parts v q x query h =
     let rest = flatQuery (kindOf (x .raw)) (take (q .count) query) ∷ [] in
@@ -252,7 +252,7 @@ said-is g numbers s q e a b h =
     }))
 
 pub asked-is : (kept asked : List ℤ) (t : List ℕ) (p : Progress) (line : ℕ) (numbers series query : List ℤ) → Stands kept asked t (Input.Going p line) numbers series query → 4096 ≤ length kept → 1024 ≤ length asked
-    → Passed (endTable (Input.Going p line) numbers query) → Given kept asked t p numbers series query
+    → AllPass (endTable (Input.Going p line) numbers query) → Given kept asked t p numbers series query
 unfolding Stands endTable openLines
 asked-is kept asked t p line numbers series query (s, l) long room h = by-test (isDone (p .state)) done (λ d. let k = rw d at (passed-line h 12) in let z : _≡_ {A = ℕ} 0 1 = cc in absurd (omega arith))
   where

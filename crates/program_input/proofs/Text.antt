@@ -1,4 +1,4 @@
--- What the table over what was kept says of the text. Assumes nothing.
+-- What the table over what was kept says of the text.
 use mathlib.Core.Path.{_≡_, refl, sym, ap, _∙_}
 use mathlib.Core.Bool.{true, false, not, cond}
 use mathlib.Core.Option.{none, some}
@@ -16,7 +16,7 @@ use Rattle.meaning_numbers.proofs.Rep.{up, dn}
 use Rattle.meaning_numbers.proofs.Tests.{by-test}
 use Rattle.meaning_curves.specs.Limits.{mostProgramValues}
 use Rattle.meaning_entries.specs.Refusal.{Condition, atPlace}
-use Rattle.meaning_entries.proofs.Refusal.{Passed, openLines, passed-line, passed-behind, lacks}
+use Rattle.meaning_entries.proofs.Refusal.{AllPass, openLines, passed-line, passed-behind, lacks}
 use Rattle.meaning_entries.proofs.Lines.{long-line, query-line}
 use Rattle.refusals.specs.declared.Refusal.{Refusal}
 use Rattle.refusals.specs.Refusal.{refusalOf}
@@ -51,19 +51,19 @@ unfolding openLines lacks numbersTable
 numbers-lack n m x = tt
 
 -- what is known where values and numbers pass
-pub series-few : (v q : Values) → Passed (valuesTable v q) → v .count ≤ 4096
+pub series-few : (v q : Values) → AllPass (valuesTable v q) → v .count ≤ 4096
 unfolding openLines valuesTable
 series-few v q h = long-line mostProgramValues (v .count) (passed-line h 1) .most
 
-pub series-in : (v q : Values) → Passed (valuesTable v q) → firstOut v ≡ none
+pub series-in : (v q : Values) → AllPass (valuesTable v q) → firstOut v ≡ none
 unfolding openLines valuesTable
 series-in v q h = passed-line h 2
 
-pub query-in : (v q : Values) → Passed (valuesTable v q) → firstOut q ≡ none
+pub query-in : (v q : Values) → AllPass (valuesTable v q) → firstOut q ≡ none
 unfolding openLines valuesTable
 query-in v q h = passed-line (passed-behind h 2) 2
 
-pub query-few : (n m : ℕ) (x : Numbers) → Passed (numbersTable n m x) → m ≤ 1024
+pub query-few : (n m : ℕ) (x : Numbers) → AllPass (numbersTable n m x) → m ≤ 1024
 unfolding openLines numbersTable
 query-few n m x h = query-line m n (passed-line h 6) .0 .most
 

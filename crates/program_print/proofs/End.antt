@@ -1,4 +1,4 @@
--- The end of the input: what refuses is printed (`refused-end`), and where nothing does, what was read is what the program was asked (`call-free`), and what it prints then is what document 01 says (`printed-end`). Assumes nothing.
+-- The end of the input: what refuses is printed (`refused-end`), and where nothing does, what was read is what the program was asked (`call-free`), and what it prints then is what document 01 says (`printed-end`).
 use mathlib.Core.Path.{_≡_, sym, ap, _∙_, subst}
 use mathlib.Core.List.{List}
 use Prim.Native.Nat.{ℕ, _+_, _<_, _^_}
@@ -9,7 +9,7 @@ use lib.ListN.{length, take, drop}
 use lib.Seq.{take-append-seam}
 use Rattle.meaning_text.specs.Texts.{refusedText}
 use Rattle.meaning_entries.specs.Program.{ProgramCall, callLines, programTable, printed, program}
-use Rattle.meaning_entries.proofs.Refusal.{Passed, passed-is, openLines, passed-line, lacks, passed-behind}
+use Rattle.meaning_entries.proofs.Refusal.{AllPass, passed-is, openLines, passed-line, lacks, passed-behind}
 use Rattle.refusals.specs.declared.Refusal.{Refusal}
 use Rattle.refusals.specs.Refusal.{refusalOf, passes, refuses}
 use Rattle.text_put.specs.Put.{Put}
@@ -56,7 +56,7 @@ unfolding openLines lacks callLines programTable
 program-lacks t = tt
 
 module _ (r : Input) (numbers series query : List ℤ) (w : Refusal) (e : w ≡ refusalOf (endTable r numbers query)) (z : w .number ≡ 0) where
-  free : Passed (endTable r numbers query)
+  free : AllPass (endTable r numbers query)
   free = passes (endTable r numbers query) (end-lacks r numbers query) e z
 
   pub not-failed : {line : ℕ} {B : Type 0} → r ≡ Input.Failed line → B
@@ -66,19 +66,19 @@ module _ (r : Input) (numbers series query : List ℤ) (w : Refusal) (e : w ≡ 
   module _ {p : Progress} {line : ℕ} (g : r ≡ Input.Going p line) where
     module _ (kept asked : List ℤ) (t : List ℕ) (long : length kept ≡ 4096) (short : length asked ≡ 1024) (s : Stands kept asked t r numbers series query) where
       given : Given kept asked t p numbers series query
-      given = asked-is kept asked t p line numbers series query (subst (λ (i : Input). Stands kept asked t i numbers series query) g s) (omega (arith, long)) (omega (arith, short)) (subst (λ (i : Input). Passed (endTable i numbers query)) g free)
+      given = asked-is kept asked t p line numbers series query (subst (λ (i : Input). Stands kept asked t i numbers series query) g s) (omega (arith, long)) (omega (arith, short)) (subst (λ (i : Input). AllPass (endTable i numbers query)) g free)
 
-      program-free : Passed (programTable t)
+      program-free : AllPass (programTable t)
       program-free = passes (programTable t) (program-lacks t) (e ∙ end-is kept asked t r numbers series query s (omega (arith, short))) z
 
     pub given-here : (h : Reached r numbers series query) → Given (h .kept) (h .asked) (h .text) p numbers series query
     given-here h = given (h .kept) (h .asked) (h .text) (h .long) (h .short) (h .stands)
 
-    pub call-free : Reached r numbers series query → Passed (callLines (callOf (take (p .series .count) series) (take (p .query .count) query) (askedOf (numbersAt numbers))))
+    pub call-free : Reached r numbers series query → AllPass (callLines (callOf (take (p .series .count) series) (take (p .query .count) query) (askedOf (numbersAt numbers))))
     unfolding openLines programTable
     call-free h =
         let f = program-free (h .kept) (h .asked) (h .text) (h .long) (h .short) (h .stands) in
-        subst (λ (c : ProgramCall). Passed (callLines c)) (given-here h .call) (passed-behind f 12)
+        subst (λ (c : ProgramCall). AllPass (callLines c)) (given-here h .call) (passed-behind f 12)
 
     pub printed-end : (new : List ℕ) (to : ℕ) → Prints (printed (callOf (take (p .series .count) series) (take (p .query .count) query) (askedOf (numbersAt numbers)))) new to → Finishes r numbers series query new to
     unfolding program

@@ -1,4 +1,4 @@
--- The index and the list in the text buffer, where nothing refuses the program (`prints`). Assumes nothing.
+-- The index and the list in the text buffer, where nothing refuses the program (`prints`).
 use mathlib.Core.Path.{_≡_, sym, _∙_, subst}
 use mathlib.Core.Bool.{not, _||_}
 use mathlib.Core.List.{List}
@@ -23,7 +23,7 @@ use Rattle.meaning_entries.specs.Write.{writeCount, writeAfter}
 use Rattle.meaning_entries.specs.Search.{SearchCall, lentSearch, searchMatches, searchCandidates}
 use Rattle.meaning_entries.specs.Program.{callLines, printed}
 use Rattle.meaning_entries.specs.Demand2.{BuildKept, WriteKept}
-use Rattle.meaning_entries.proofs.Refusal.{Passed, openLines, passed-line, not-if}
+use Rattle.meaning_entries.proofs.Refusal.{AllPass, openLines, passed-line, not-if}
 use Rattle.meaning_entries.proofs.Made.{build-most}
 use Rattle.build_passes.specs.Filled.{buffers}
 use Rattle.program_input.specs.declared.Asked.{Asked}
@@ -31,7 +31,7 @@ use Rattle.program_input.specs.Tables.{callOf}
 use Rattle.program_answer.proofs.Print.{x, few, build-free, stands, lent-is, d, search-is, printed-is, found-few, index-few, write-free, search-free, put-behind}
 use Rattle.program_answer.specs.Finish.{Listed, Prints}
 
-module _ (s q : List ℤ) (a : Asked) (free : Passed (callLines (callOf s q a))) where
+module _ (s q : List ℤ) (a : Asked) (free : AllPass (callLines (callOf s q a))) where
   window-some : 1 ≤ a .window
   unfolding openLines callLines callOf
   window-some =

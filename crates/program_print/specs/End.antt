@@ -1,4 +1,4 @@
--- The end of the input: what refuses is printed, and where nothing does, what was read is what the program was asked, and what it prints then is what document 01 says. Assumes nothing.
+-- The end of the input: what refuses is printed, and where nothing does, what was read is what the program was asked, and what it prints then is what document 01 says.
 use mathlib.Core.List.{List}
 use Prim.Native.Nat.{_≤_}
 use lib.IntN.{ℤ}
@@ -7,7 +7,7 @@ use Rattle.program_input.specs.declared.Input.{Input}
 use Rattle.program_answer.specs.Finish.{Reached}
 
 -- some text has been read, into buffers for all values that the program takes
-pub record Held (r : Input) (numbers series query : List ℤ) : Type 0 where
+pub record InputHeld (r : Input) (numbers series query : List ℤ) : Type 0 where
   pub reached : Reached r numbers series query
   pub numbers-long : 8 ≤ length numbers
   pub series-long : 4096 ≤ length series

@@ -1,4 +1,4 @@
--- What refuses a call, as code has it, by a table of conditions (`refusalOf`): a line of it (`line-before`, `place-before`), what it says (`passes`, `refuses`), and its parts (`part-refuses`, `part-passes`). Assumes nothing.
+-- What refuses a call, as code has it, by a table of conditions (`refusalOf`): a line of it (`line-before`, `place-before`), what it says (`passes`, `refuses`), and its parts (`part-refuses`, `part-passes`).
 use mathlib.Core.Path.{_≡_, refl, sym, ap, _∙_}
 use mathlib.Core.Bool.{Bool, true, false, not}
 use mathlib.Core.List.{List, [], _∷_, _++_}
@@ -8,7 +8,7 @@ use lib.IntN.{ℤ}
 use lib.ListN.{length}
 use Rattle.meaning_curves.specs.Limits.{mostValues, lengthIn, firstOutside}
 use Rattle.meaning_entries.specs.Refusal.{Condition, firstRefusal, atZero, lengthOutside, valueOutside, seriesLines}
-use Rattle.meaning_entries.proofs.Refusal.{Passed, is-first, first-is, first-left, first-right}
+use Rattle.meaning_entries.proofs.Refusal.{AllPass, is-first, first-is, first-left, first-right}
 use Rattle.refusals.specs.declared.Refusal.{Refusal}
 use Rattle.refusals.specs.Refusal.{unrefused, asRefusal, refusalOf, refuseIf, refuseAt, refuses}
 
@@ -54,5 +54,5 @@ part-refuses {r} a b e f =
     e ∙ ap asRefusal (h ∙ sym (first-is (first-left b (is-first a (r .number) (r .place) h))))
 
 -- or it does not
-pub part-passes : {r : Refusal} {a : List Condition} (b : List Condition) → Passed a → r ≡ refusalOf b → r ≡ refusalOf (a ++ b)
+pub part-passes : {r : Refusal} {a : List Condition} (b : List Condition) → AllPass a → r ≡ refusalOf b → r ≡ refusalOf (a ++ b)
 part-passes b h e = e ∙ sym (ap asRefusal (first-right b h))

@@ -1,4 +1,4 @@
--- What refuses a call, as code has it, by a table of conditions (`refusalOf`): a line of it, what it says (`passes`, `refuses`), and its parts. Assumes nothing.
+-- What refuses a call, as code has it, by a table of conditions (`refusalOf`): a line of it, what it says (`passes`, `refuses`), and its parts.
 use mathlib.Core.Path.{_≡_, refl, sym, ap, _∙_}
 use mathlib.Core.Bool.{Bool, cond}
 use mathlib.Core.List.{List}
@@ -10,7 +10,7 @@ use Rattle.meaning_numbers.proofs.Tests.{clash}
 use Rattle.meaning_rows.specs.Index.{Index}
 use Rattle.meaning_rows.specs.Judge.{firstBadRow}
 use Rattle.meaning_entries.specs.Refusal.{Condition, firstRefusal, atPlace, illFormed}
-use Rattle.meaning_entries.proofs.Refusal.{Passed, is-passed, is-first, lacks, first-lacks}
+use Rattle.meaning_entries.proofs.Refusal.{AllPass, is-passed, is-first, lacks, first-lacks}
 use Rattle.rows_judge.specs.declared.Judged.{Judged}
 use Rattle.rows_judge.specs.Judged.{badRow}
 use Rattle.refusals.specs.declared.Refusal.{Refusal}
@@ -45,11 +45,11 @@ unfolding illFormed
 judged-line x j e = ap (atPlace 20) e
 
 -- number 0 is that nothing refuses, in a table that has no such number
-pub passes : {r : Refusal} (l : List Condition) → T (lacks 0 l) → r ≡ refusalOf l → r .number ≡ 0 → Passed l
+pub passes : {r : Refusal} (l : List Condition) → T (lacks 0 l) → r ≡ refusalOf l → r .number ≡ 0 → AllPass l
 unfolding asRefusal
 passes {r} l t e z = by (firstRefusal l) refl
   where
-    by : (o : Option (ℕ × ℕ)) → firstRefusal l ≡ o → Passed l
+    by : (o : Option (ℕ × ℕ)) → firstRefusal l ≡ o → AllPass l
     by none h = is-passed l h
     by (some x) h =
         clash (eq-eqb (x .0) 0 (sym (ap (λ (y : Option (ℕ × ℕ)). asRefusal y .number) h) ∙ sym (ap (λ (y : Refusal). y .number) e) ∙ z)) (first-lacks 0 t (is-first l (x .0) (x .1) h))

@@ -1,4 +1,4 @@
--- A binary search over plain variables: the invariant, its start, a turn and its end. Assumes nothing.
+-- A binary search over plain variables: the invariant, its start, a turn and its end.
 use mathlib.Core.Path.{_≡_}
 use Prim.Native.Nat.{ℕ, _+_, _-_, _<_, _≤_}
 use native.Mathlib.Omega.{arith}

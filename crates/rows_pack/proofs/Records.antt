@@ -1,4 +1,4 @@
--- What is packed out of the table of a series and the sums of its counts is the records of its build without merging (`built-records`), in front of what was there. Assumes nothing.
+-- What is packed out of the table of a series and the sums of its counts is the records of its build without merging (`built-records`), in front of what was there.
 use mathlib.Core.Path.{_≡_, refl, sym, ap, _∙_}
 use mathlib.Core.List.{List, [], _∷_, _++_, map, List·Memᴰ as Mem}
 use Prim.Native.Nat.{ℕ, zero, suc, _+_, _-_, _*_, _/_, _<_, _≤_}

@@ -1,5 +1,5 @@
 -- A chunk of records, entry by entry: `chunk-at` says that entry k is record `from + k` of those lent, the record of zeros past the end, and `chunk-length` that there are 64.
--- From what `copied` has at each place. Assumes nothing.
+-- From what `copied` has at each place.
 use mathlib.Core.Path.{_≡_, refl, sym, _∙_}
 use mathlib.Core.List.{List}
 use Prim.Native.Nat.{ℕ, zero, suc, _+_, _-_, _<_, _≤_}

@@ -1,4 +1,4 @@
--- The record of zeros, and the records that a chunk holds. Assumes nothing.
+-- The record of zeros, and the records that a chunk holds.
 use mathlib.Core.List.{List}
 use Prim.Native.Nat.{ℕ, zero, suc, _+_, _-_, min}
 use lib.IntN.{pos}

@@ -1,4 +1,4 @@
--- The table of a series rises (`table-rises`), and has the row number of each window (`table-has`). Assumes nothing.
+-- The table of a series rises (`table-rises`), and has the row number of each window (`table-has`).
 use mathlib.Core.Path.{_≡_, refl, sym, ap, _∙_}
 use mathlib.Core.Bool.{Bool, true}
 use mathlib.Core.List.{List, [], _∷_, _++_}

@@ -1,4 +1,4 @@
--- The table of a series, lowered, is the list of its row numbers, and a row's runs are those of the windows that have its number. Assumes nothing.
+-- The table of a series, lowered, is the list of its row numbers, and a row's runs are those of the windows that have its number.
 use Prim.Native.Nat.{ℕ}
 use lib.IntN.{ℤ, pos, _-ℤ_}
 

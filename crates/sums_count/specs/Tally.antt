@@ -1,4 +1,4 @@
--- Rising tables, and the runs of each row counted. A turn of the pass takes a whole run in. Assumes nothing.
+-- Rising tables, and the runs of each row counted. A turn of the pass takes a whole run in.
 use mathlib.Core.Path.{_≡_}
 use mathlib.Core.Bool.{Bool}
 use mathlib.Core.List.{List}

@@ -1,4 +1,4 @@
--- Raised sums: each value of a window raised by 10,000, and e more for the window. They are the windows' sums (`level-is`), and move by one window (`level-next`). Assumes nothing.
+-- Raised sums: each value of a window raised by 10,000, and e more for the window. They are the windows' sums (`level-is`), and move by one window (`level-next`).
 use mathlib.Core.Path.{_≡_, refl}
 use mathlib.Core.List.{List}
 use Prim.Native.Nat.{ℕ, _+_, _*_, min, max}
@@ -11,7 +11,7 @@ use Rattle.meaning_numbers.proofs.Slide.{Σℕ-slide}
 use Rattle.meaning_curves.specs.Curve.{at, stretch, windowSum}
 use Rattle.numbers.specs.Raised.{raised}
 use Rattle.values.proofs.SumsLaws.{sum-raised}
-use Rattle.sums_slide.specs.declared.Place.{Place}
+use Rattle.sums_slide.specs.declared.Window.{Window}
 use Rattle.sums_slide.specs.Levels.{level, Lent, sumAt, Bounds}
 
 -- one number is both ends
@@ -32,7 +32,7 @@ unfolding level windowSum
 level-is {s} {w} {e} j h = rep-by (sum-raised j w (h .all)) (omega arith)
 
 -- a placed window's sum is the window's
-pub sum-is : {s : List ℤ} {w e : ℕ} (at : Place) → Lent s w e → at .level ≡ level s w e (at .offset) → sumAt w e at ≡ windowSum s w (at .offset)
+pub sum-is : {s : List ℤ} {w e : ℕ} (at : Window) → Lent s w e → at .level ≡ level s w e (at .offset) → sumAt w e at ≡ windowSum s w (at .offset)
 sum-is {s} {w} {e} at h l = rep-eq (rep-sub (rep-pos (at .level)) (rep-pos (10000 * w + e))) (level-is (at .offset) h) (omega (arith, l))
 
 -- one value comes in, one goes out

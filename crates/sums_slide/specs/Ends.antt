@@ -1,4 +1,4 @@
--- Ends of ranges raised by a bias, 0 where that is negative: a raised range holds a raised sum exactly if the range holds the sum; so for one end. Assumes nothing.
+-- Ends of ranges raised by a bias, 0 where that is negative: a raised range holds a raised sum exactly if the range holds the sum; so for one end.
 use Prim.Native.Nat.{ℕ, _+_, _-_}
 use lib.IntN.{ℤ}
 use Rattle.meaning_numbers.proofs.Rep.{up, dn}

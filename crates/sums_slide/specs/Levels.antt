@@ -1,4 +1,4 @@
--- Raised sums: each value of a window raised by 10,000, and e more for the window. They are the windows' sums, and move by one window. Assumes nothing.
+-- Raised sums: each value of a window raised by 10,000, and e more for the window. They are the windows' sums, and move by one window.
 use mathlib.Core.Bool.{Bool, _&&_}
 use mathlib.Core.List.{List}
 use Prim.Native.Nat.{ℕ, _+_, _*_, _/_, _<_, _≤_}
@@ -11,7 +11,7 @@ use Rattle.meaning_numbers.proofs.Sum.{Σℕ-le}
 use Rattle.meaning_curves.specs.Curve.{at, stretch, windowCount}
 use Rattle.meaning_curves.proofs.Values.{AllIn}
 use Rattle.numbers.specs.Raised.{raised, raised-le}
-use Rattle.sums_slide.specs.declared.Place.{Place}
+use Rattle.sums_slide.specs.declared.Window.{Window}
 
 -- the raised sum of window j
 unfoldable pub level : List ℤ → ℕ → ℕ → ℕ → ℕ
@@ -38,11 +38,11 @@ abbrev pub windowsOf : List ℤ → ℕ → ℕ
 windowsOf s w = windowCount (length s) w
 
 -- window j, with its raised sum
-abbrev pub placeFrom : List ℤ → ℕ → ℕ → ℕ → Place
+abbrev pub placeFrom : List ℤ → ℕ → ℕ → ℕ → Window
 placeFrom s w e j = record { offset = j; level = level s w e j }
 
 -- the sum of a window that is placed
-abbrev pub sumAt : ℕ → ℕ → Place → ℤ
+abbrev pub sumAt : ℕ → ℕ → Window → ℤ
 sumAt w e at = pos (at .level) -ℤ pos (10000 * w + e)
 
 -- every number below n has its value between the two

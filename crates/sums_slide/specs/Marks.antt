@@ -1,4 +1,4 @@
--- Flags for the row numbers that windows have, over raised row numbers. Assumes nothing.
+-- Flags for the row numbers that windows have, over raised row numbers.
 use mathlib.Core.Path.{_≡_}
 use mathlib.Core.Bool.{Bool, false, not, cond, _||_}
 use mathlib.Core.List.{List}

@@ -1,4 +1,4 @@
--- The numbers from one on that pass a test, ascending. Assumes nothing.
+-- The numbers from one on that pass a test, ascending.
 use mathlib.Core.Path.{_≡_}
 use mathlib.Core.Bool.{Bool, cond}
 use mathlib.Core.List.{List, [], _∷_, _++_}

@@ -1,4 +1,4 @@
--- The table of the row numbers that windows have, ascending, over raised row numbers. A pass makes it from the least number to the greatest. Assumes nothing.
+-- The table of the row numbers that windows have, ascending, over raised row numbers. A pass makes it from the least number to the greatest.
 use mathlib.Core.List.{List}
 use Prim.Native.Nat.{ℕ}
 use lib.IntN.{ℤ}

@@ -1,4 +1,4 @@
--- Texts counted: the place behind a text that begins at a place, or one past a limit. The parts of an index text, by the lengths of their numbers. Assumes nothing.
+-- Texts counted: the place behind a text that begins at a place, or one past a limit. The parts of an index text, by the lengths of their numbers.
 use mathlib.Core.Path.{_≡_}
 use mathlib.Core.List.{List}
 use Prim.Native.Nat.{ℕ, suc, _+_, min}

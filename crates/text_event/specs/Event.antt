@@ -1,4 +1,4 @@
--- What comes next in an index text, by the steps of its automaton: bytes that say nothing (`Quiet`), then one that ends a number or a row, that is refused, or the text's end. A run is two numbers, a row's beginning two and a run. What every such step keeps, an event keeps. Assumes nothing.
+-- What comes next in an index text, by the steps of its automaton: bytes that say nothing (`Quiet`), then one that ends a number or a row, that is refused, or the text's end. A run is two numbers, a row's beginning two and a run. What every such step keeps, an event keeps.
 use mathlib.Core.Path.{_≡_}
 use mathlib.Core.List.{List}
 use Prim.Native.Nat.{ℕ, _+_, _/_, _%_, _<_, _≤_, _^_}
@@ -7,7 +7,7 @@ use lib.ListN.{length, getD, take, drop}
 use Rattle.meaning_text.specs.Bytes.{bytes}
 use Rattle.text_numbers.specs.declared.Numeral.{Numeral}
 use Rattle.text_index.specs.declared.Word.{Word}
-use Rattle.text_index.specs.declared.Place.{Place}
+use Rattle.text_index.specs.declared.Field.{Field}
 use Rattle.text_index.specs.declared.Turn.{Turn}
 use Rattle.text_index.specs.declared.State.{State}
 use Rattle.text_index.specs.declared.Moved.{Moved}
@@ -22,7 +22,7 @@ pub data Quiet (text : List ℕ) (s : State) (i : ℕ) : State → ℕ → Type 
   more : {n m : State} {j : ℕ} → Quiet text s i n j → j < length text → indexStep n (getD text j 0) ≡ Moved.To m → Quiet text s i m (j + 1)
 
 -- a number ends before place j, and the text stands at n there
-pub record ValueAt (text : List ℕ) (s : State) (i : ℕ) (n : State) (p : Place) (z : ℤ) (j : ℕ) : Type 0 where
+pub record ValueAt (text : List ℕ) (s : State) (i : ℕ) (n : State) (p : Field) (z : ℤ) (j : ℕ) : Type 0 where
   pub last : State
   pub place : ℕ
   pub quiet : Quiet text s i last place
@@ -41,7 +41,7 @@ pub record ClosedAt (text : List ℕ) (s : State) (i : ℕ) (n : State) (j : ℕ
 
 -- between the two numbers of a run
 abbrev pub inRun : State
-inRun = State.At Place.Right Numeral.Start
+inRun = State.At Field.Right Numeral.Start
 
 -- where a run may stand
 abbrev pub atRuns : State
@@ -57,19 +57,19 @@ atRows = State.Before Turn.Rows
 
 -- between the two ends of a row's range
 abbrev pub inRange : State
-inRange = State.At Place.Up Numeral.Start
+inRange = State.At Field.Up Numeral.Start
 
 -- a run ends before place j
 pub record RunAt (text : List ℕ) (s : State) (i : ℕ) (l r : ℤ) (j : ℕ) : Type 0 where
   pub middle : ℕ
-  pub left : ValueAt text s i inRun Place.Left l middle
-  pub right : ValueAt text inRun middle atRuns Place.Right r j
+  pub left : ValueAt text s i inRun Field.Left l middle
+  pub right : ValueAt text inRun middle atRuns Field.Right r j
 
 -- a row's range ends before place j, and a run comes
 pub record RowAt (text : List ℕ) (i : ℕ) (low up : ℤ) (j : ℕ) : Type 0 where
   pub middle : ℕ
-  pub lower : ValueAt text atRows i inRange Place.Low low middle
-  pub upper : ValueAt text inRange middle atFirst Place.Up up j
+  pub lower : ValueAt text atRows i inRange Field.Low low middle
+  pub upper : ValueAt text inRange middle atFirst Field.Up up j
 
 -- a row's range and its first run
 pub record OpenAt (text : List ℕ) (i : ℕ) (low up l r : ℤ) (j : ℕ) : Type 0 where
@@ -78,9 +78,9 @@ pub record OpenAt (text : List ℕ) (i : ℕ) (low up l r : ℤ) (j : ℕ) : Typ
   pub run : RunAt text atFirst behind l r j
 
 -- runs one after the other, from a place to another, and what they tell
-pub data RunsFrom {T : Type 0} (tell : Place → ℤ → T → T) (text : List ℕ) (t : T) (i : ℕ) : T → ℕ → Type 0 where
+pub data RunsFrom {T : Type 0} (tell : Field → ℤ → T → T) (text : List ℕ) (t : T) (i : ℕ) : T → ℕ → Type 0 where
   none : RunsFrom tell text t i t i
-  one : {u : T} {j l r k : ℕ} → RunsFrom tell text t i u j → RunAt text atRuns j (pos l) (pos r) k → RunsFrom tell text t i (tell Place.Right (pos r) (tell Place.Left (pos l) u)) k
+  one : {u : T} {j l r k : ℕ} → RunsFrom tell text t i u j → RunAt text atRuns j (pos l) (pos r) k → RunsFrom tell text t i (tell Field.Right (pos r) (tell Field.Left (pos l) u)) k
 
 abbrev pub EventAt : List ℕ → State → ℕ → Event → Type 0
 EventAt text s i (Event.Row low up l r j) = (s ≡ atRows) × OpenAt text i low up (pos l) (pos r) j
@@ -111,15 +111,15 @@ pub record Opens (text : List ℕ) (i : ℕ) : Type 0 where
 pub record DigitsAt (text : List ℕ) (i m q : ℕ) : Type 0 where
   pub small : q / 16 < 10 ^ 8
   pub short : q % 16 ≤ 7
-  pub plus : (p : Place) → Quiet text (State.At p (Numeral.Plus m)) i (State.At p (Numeral.Plus (q / 16))) (i + q % 16)
-  pub less : (p : Place) → Quiet text (State.At p (Numeral.Less m)) i (State.At p (Numeral.Less (q / 16))) (i + q % 16)
+  pub plus : (p : Field) → Quiet text (State.At p (Numeral.Plus m)) i (State.At p (Numeral.Plus (q / 16))) (i + q % 16)
+  pub less : (p : Field) → Quiet text (State.At p (Numeral.Less m)) i (State.At p (Numeral.Less (q / 16))) (i + q % 16)
 
 -- a number of at most eight digits
 pub record NumberAt (text : List ℕ) (i q : ℕ) : Type 0 where
   pub small : q / 16 < 10 ^ 8
   pub short : q % 16 ≤ 8
-  pub plus : (p : Place) → Quiet text (State.At p Numeral.Start) i (State.At p (Numeral.Plus (q / 16))) (i + q % 16)
-  pub less : (p : Place) → Quiet text (State.At p Numeral.Sign) i (State.At p (Numeral.Less (q / 16))) (i + q % 16)
+  pub plus : (p : Field) → Quiet text (State.At p Numeral.Start) i (State.At p (Numeral.Plus (q / 16))) (i + q % 16)
+  pub less : (p : Field) → Quiet text (State.At p Numeral.Sign) i (State.At p (Numeral.Less (q / 16))) (i + q % 16)
 
 -- the ends of a run and how many bytes it has
 abbrev pub leftOf : ℕ → ℕ
@@ -139,7 +139,7 @@ pub record PlainAt (text : List ℕ) (s : State) (i q : ℕ) : Type 0 where
 
 -- a run behind its bracket
 pub record BodyAt (text : List ℕ) (i q : ℕ) : Type 0 where
-  pub plain : PlainAt text (State.At Place.Left Numeral.Start) i q
+  pub plain : PlainAt text (State.At Field.Left Numeral.Start) i q
   pub least : lengthOf q ≤ 18
   pub tiny : q < 2 ^ 59
 
@@ -148,7 +148,7 @@ abbrev pub blank : ℕ
 blank = getD (bytes " ") 0 0
 
 -- where a blank behind a number leads
-pub record Blank (p : Place) (n : State) : Type 0 where
+pub record Blank (p : Field) (n : State) : Type 0 where
   pub plus : (k : ℕ) → indexStep (State.At p (Numeral.Plus k)) blank ≡ Moved.Value n p (pos k)
   pub less : (k : ℕ) → indexStep (State.At p (Numeral.Less k)) blank ≡ Moved.Value n p (negℤ (pos k))
 
@@ -159,7 +159,7 @@ pub record BlankAt (text : List ℕ) (i q : ℕ) : Type 0 where
 
 -- the same with or without a sign
 abbrev pub SignedAt : List ℕ → ℕ → Signed → Type 0
-SignedAt text i (Signed.Read z j) = (j ≤ i + 10) × ((p : Place) (n : State) → Blank p n → ValueAt text (State.At p Numeral.Start) i n p z j)
+SignedAt text i (Signed.Read z j) = (j ≤ i + 10) × ((p : Field) (n : State) → Blank p n → ValueAt text (State.At p Numeral.Start) i n p z j)
 SignedAt text i Signed.None = Unit {0}
 
 abbrev pub RangeAt : List ℕ → ℕ → Range → Type 0

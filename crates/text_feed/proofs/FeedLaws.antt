@@ -1,4 +1,4 @@
--- What a piece of the text does: where what was kept holds what had been said, it comes to what the automaton comes to. Assumes nothing.
+-- What a piece of the text does: where what was kept holds what had been said, it comes to what the automaton comes to.
 use mathlib.Core.Path.{_≡_, refl, ap, _∙_}
 use mathlib.Core.Bool.{Bool, true, false, cond}
 use mathlib.Core.List.{List}
@@ -9,7 +9,7 @@ use lib.IntN.{ℤ}
 use lib.ListN.{length, getD, drop, set, length-set}
 use Rattle.meaning_text.proofs.Automaton.{going, failed, feed, feed-turn, feed-refuse, feed-end}
 use Rattle.text_lines.specs.declared.Word.{Word}
-use Rattle.text_lines.specs.declared.Place.{Place}
+use Rattle.text_lines.specs.declared.Field.{Field}
 use Rattle.text_lines.specs.declared.State.{State}
 use Rattle.text_lines.specs.declared.Moved.{Moved}
 use Rattle.text_lines.specs.Step.{lineStep, GoodState}
@@ -87,7 +87,7 @@ module _ {piece : List ℕ} {numbers₀ series₀ query₀ : List ℤ} {s₀ : S
     comes = λ g kept asked o. let c = r .comes g kept asked o in (c .0, c .1, turn g (c .0) m (c .0) (by (Moved.To m) (c .0) e) (c .2));
   }
 
-  pub sofar-value : (m : State) (p : Place) (z : ℤ) → lineStep s (getD piece i 0) ≡ Moved.Value m p z
+  pub sofar-value : (m : State) (p : Field) (z : ℤ) → lineStep s (getD piece i 0) ≡ Moved.Value m p z
       → Sofar piece numbers₀ series₀ query₀ s₀ v₀ q₀ start (set numbers (placeOf p) z) (cond (ofSeries p) (set series (v .count) (clamp z)) series) (cond (ofQuery p) (set query (q .count) (clamp z)) query) m (cond (ofSeries p) (valuesMore v z) v) (cond (ofQuery p) (valuesMore q z) q) (i + 1)
   sofar-value m p z e = record {
     good = stay m nothingSaid (told p z nothingSaid) (by (Moved.Value m p z) nothingSaid e);

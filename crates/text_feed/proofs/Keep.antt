@@ -1,4 +1,4 @@
--- What is kept of the lines: the single numbers at eight places, and of the values of the series and of the query as many as there is room for, clamped to 32 bits, with their count and with how many stand before the first outside its limits. Assumes nothing.
+-- What is kept of the lines: the single numbers at eight places, and of the values of the series and of the query as many as there is room for, clamped to 32 bits, with their count and with how many stand before the first outside its limits.
 use mathlib.Core.Path.{_≡_, refl, sym, ap, _∙_}
 use mathlib.Core.Bool.{true, false, cond, not}
 use mathlib.Core.List.{List, [], _∷_, _++_, map}
@@ -18,7 +18,7 @@ use Rattle.meaning_numbers.proofs.Machine.{leZ-true, f-gt}
 use Rattle.meaning_text.proofs.Reading.{on-flag}
 use Rattle.text_put.proofs.Put.{sets-append}
 use Rattle.text_lines.specs.declared.Word.{Word}
-use Rattle.text_lines.specs.declared.Place.{Place}
+use Rattle.text_lines.specs.declared.Field.{Field}
 use Rattle.text_lines.specs.Follow.{Said, told, named}
 use Rattle.text_feed.specs.declared.Values.{Values}
 use Rattle.numbers.specs.Narrow.{clamp}
@@ -72,19 +72,19 @@ unfolding leading stored
 kept-none base = record { count = refl; inside = refl; lies = refl }
 
 -- a number
-pub holds-told : (kept asked : List ℤ) (g : Said) (numbers : List ℤ) (v w : Values) (series query : List ℤ) (p : Place) (z : ℤ) → Holds kept asked g numbers v w series query
+pub holds-told : (kept asked : List ℤ) (g : Said) (numbers : List ℤ) (v w : Values) (series query : List ℤ) (p : Field) (z : ℤ) → Holds kept asked g numbers v w series query
     → Holds kept asked (told p z g) (set numbers (placeOf p) z) (cond (ofSeries p) (valuesMore v z) v) (cond (ofQuery p) (valuesMore w z) w)
     (cond (ofSeries p) (set series (v .count) (clamp z)) series) (cond (ofQuery p) (set query (w .count) (clamp z)) query)
-holds-told kept asked g numbers v w series query Place.Window z h = record { alone = rw (h .alone); first = h .first; second = h .second }
-holds-told kept asked g numbers v w series query Place.Width z h = record { alone = rw (h .alone); first = h .first; second = h .second }
-holds-told kept asked g numbers v w series query Place.Merge z h = record { alone = rw (h .alone); first = h .first; second = h .second }
-holds-told kept asked g numbers v w series query Place.Item z h = record { alone = rw (h .alone); first = kept-more kept (g .series) v series z (h .first); second = h .second }
-holds-told kept asked g numbers v w series query Place.Band z h = record { alone = rw (h .alone); first = h .first; second = h .second }
-holds-told kept asked g numbers v w series query Place.Threshold z h = record { alone = rw (h .alone); first = h .first; second = h .second }
-holds-told kept asked g numbers v w series query Place.Scale z h = record { alone = rw (h .alone); first = h .first; second = h .second }
-holds-told kept asked g numbers v w series query Place.Shift z h = record { alone = rw (h .alone); first = h .first; second = h .second }
-holds-told kept asked g numbers v w series query Place.Asked z h = record { alone = rw (h .alone); first = h .first; second = kept-more asked (g .query) w query z (h .second) }
-holds-told kept asked g numbers v w series query Place.Entry z h = record { alone = rw (h .alone); first = kept-more kept (g .series) v series z (h .first); second = h .second }
+holds-told kept asked g numbers v w series query Field.Window z h = record { alone = rw (h .alone); first = h .first; second = h .second }
+holds-told kept asked g numbers v w series query Field.Width z h = record { alone = rw (h .alone); first = h .first; second = h .second }
+holds-told kept asked g numbers v w series query Field.Merge z h = record { alone = rw (h .alone); first = h .first; second = h .second }
+holds-told kept asked g numbers v w series query Field.Item z h = record { alone = rw (h .alone); first = kept-more kept (g .series) v series z (h .first); second = h .second }
+holds-told kept asked g numbers v w series query Field.Band z h = record { alone = rw (h .alone); first = h .first; second = h .second }
+holds-told kept asked g numbers v w series query Field.Threshold z h = record { alone = rw (h .alone); first = h .first; second = h .second }
+holds-told kept asked g numbers v w series query Field.Scale z h = record { alone = rw (h .alone); first = h .first; second = h .second }
+holds-told kept asked g numbers v w series query Field.Shift z h = record { alone = rw (h .alone); first = h .first; second = h .second }
+holds-told kept asked g numbers v w series query Field.Asked z h = record { alone = rw (h .alone); first = h .first; second = kept-more asked (g .query) w query z (h .second) }
+holds-told kept asked g numbers v w series query Field.Entry z h = record { alone = rw (h .alone); first = kept-more kept (g .series) v series z (h .first); second = h .second }
 
 -- a word
 pub holds-named : (kept asked : List ℤ) (g : Said) (numbers : List ℤ) (v w : Values) (series query : List ℤ) (n : Word) → Holds kept asked g numbers v w series query

@@ -1,4 +1,4 @@
--- What a piece of the text does: where what was kept holds what had been said, it comes to what the automaton comes to. Assumes nothing.
+-- What a piece of the text does: where what was kept holds what had been said, it comes to what the automaton comes to.
 use mathlib.Core.Path.{_≡_}
 use mathlib.Core.List.{List}
 use Prim.Native.Nat.{ℕ, _+_, _<_, _≤_, _^_}

@@ -1,4 +1,4 @@
--- What is kept of the lines: the single numbers at eight places, and of the values of the series and of the query as many as there is room for, clamped to 32 bits, with their count and with how many stand before the first outside its limits. Assumes nothing.
+-- What is kept of the lines: the single numbers at eight places, and of the values of the series and of the query as many as there is room for, clamped to 32 bits, with their count and with how many stand before the first outside its limits.
 use mathlib.Core.Path.{_≡_}
 use mathlib.Core.Bool.{Bool, true, false, cond}
 use mathlib.Core.List.{List, [], _∷_, map}
@@ -9,7 +9,7 @@ use lib.ListN.{length}
 use lib.Seq.{sets}
 use Rattle.meaning_curves.specs.Limits.{valueIn}
 use Rattle.text_lines.specs.declared.Word.{Word}
-use Rattle.text_lines.specs.declared.Place.{Place}
+use Rattle.text_lines.specs.declared.Field.{Field}
 use Rattle.text_lines.specs.Follow.{Said}
 use Rattle.text_feed.specs.declared.Values.{Values}
 use Rattle.numbers.specs.Narrow.{clamp}
@@ -28,41 +28,41 @@ unfoldable pub valuesMore : Values → ℤ → Values
 valuesMore v z = record { count = v .count + 1; inside = cond (eqb (v .inside) (v .count)) (cond (valueIn z) (v .count + 1) (v .inside)) (v .inside) }
 
 -- the places of the single numbers
-abbrev pub placeOf : Place → ℕ
-placeOf Place.Window = 0
-placeOf Place.Width = 1
-placeOf Place.Merge = 2
-placeOf Place.Item = 8
-placeOf Place.Band = 3
-placeOf Place.Threshold = 4
-placeOf Place.Scale = 5
-placeOf Place.Shift = 6
-placeOf Place.Asked = 8
-placeOf Place.Entry = 8
+abbrev pub placeOf : Field → ℕ
+placeOf Field.Window = 0
+placeOf Field.Width = 1
+placeOf Field.Merge = 2
+placeOf Field.Item = 8
+placeOf Field.Band = 3
+placeOf Field.Threshold = 4
+placeOf Field.Scale = 5
+placeOf Field.Shift = 6
+placeOf Field.Asked = 8
+placeOf Field.Entry = 8
 
-abbrev pub ofSeries : Place → Bool
-ofSeries Place.Window = false
-ofSeries Place.Width = false
-ofSeries Place.Merge = false
-ofSeries Place.Item = true
-ofSeries Place.Band = false
-ofSeries Place.Threshold = false
-ofSeries Place.Scale = false
-ofSeries Place.Shift = false
-ofSeries Place.Asked = false
-ofSeries Place.Entry = true
+abbrev pub ofSeries : Field → Bool
+ofSeries Field.Window = false
+ofSeries Field.Width = false
+ofSeries Field.Merge = false
+ofSeries Field.Item = true
+ofSeries Field.Band = false
+ofSeries Field.Threshold = false
+ofSeries Field.Scale = false
+ofSeries Field.Shift = false
+ofSeries Field.Asked = false
+ofSeries Field.Entry = true
 
-abbrev pub ofQuery : Place → Bool
-ofQuery Place.Window = false
-ofQuery Place.Width = false
-ofQuery Place.Merge = false
-ofQuery Place.Item = false
-ofQuery Place.Band = false
-ofQuery Place.Threshold = false
-ofQuery Place.Scale = false
-ofQuery Place.Shift = false
-ofQuery Place.Asked = true
-ofQuery Place.Entry = false
+abbrev pub ofQuery : Field → Bool
+ofQuery Field.Window = false
+ofQuery Field.Width = false
+ofQuery Field.Merge = false
+ofQuery Field.Item = false
+ofQuery Field.Band = false
+ofQuery Field.Threshold = false
+ofQuery Field.Scale = false
+ofQuery Field.Shift = false
+ofQuery Field.Asked = true
+ofQuery Field.Entry = false
 
 abbrev pub wordPlace : Word → ℕ
 wordPlace Word.Window = 8

@@ -1,4 +1,4 @@
--- The automaton of the index text follows `indexForm`: each state with what has been said so far has a reader for the rest of the text, and a byte takes it to the next. So the bytes of a text come to what `readText` says. Assumes nothing.
+-- The automaton of the index text follows `indexForm`: each state with what has been said so far has a reader for the rest of the text, and a byte takes it to the next. So the bytes of a text come to what `readText` says.
 use mathlib.Core.Path.{_≡_, refl, sym, ap, _∙_}
 use mathlib.Core.Bool.{false, cond}
 use mathlib.Core.List.{List, [], _∷_, _++_, append-assoc, append-nil}
@@ -24,7 +24,7 @@ use Rattle.text_numbers.specs.Number.{numStep, whole}
 use Rattle.text_numbers.proofs.Number.{good-step, on-taken, on-whole}
 use Rattle.text_numbers.proofs.Onward.{numberThen, number-more, number-stop, number-then}
 use Rattle.text_index.specs.declared.Word.{Word}
-use Rattle.text_index.specs.declared.Place.{Place}
+use Rattle.text_index.specs.declared.Field.{Field}
 use Rattle.text_index.specs.declared.Turn.{Turn}
 use Rattle.text_index.specs.declared.State.{State}
 use Rattle.text_index.specs.declared.Reached.{Reached}
@@ -49,14 +49,14 @@ abbrev pub nothingSaid : Said
 nothingSaid = record { window = pos 0; width = pos 0; windows = pos 0; rows = []; low = pos 0; up = pos 0; runs = []; left = pos 0 }
 
 -- a number
-abbrev pub told : Place → ℤ → Said → Said
-told Place.Window z g = record { window = z; width = g .width; windows = g .windows; rows = g .rows; low = g .low; up = g .up; runs = g .runs; left = g .left }
-told Place.Width z g = record { window = g .window; width = z; windows = g .windows; rows = g .rows; low = g .low; up = g .up; runs = g .runs; left = g .left }
-told Place.Windows z g = record { window = g .window; width = g .width; windows = z; rows = g .rows; low = g .low; up = g .up; runs = g .runs; left = g .left }
-told Place.Low z g = record { window = g .window; width = g .width; windows = g .windows; rows = g .rows; low = z; up = g .up; runs = g .runs; left = g .left }
-told Place.Up z g = record { window = g .window; width = g .width; windows = g .windows; rows = g .rows; low = g .low; up = z; runs = []; left = g .left }
-told Place.Left z g = record { window = g .window; width = g .width; windows = g .windows; rows = g .rows; low = g .low; up = g .up; runs = g .runs; left = z }
-told Place.Right z g = record { window = g .window; width = g .width; windows = g .windows; rows = g .rows; low = g .low; up = g .up; runs = g .runs ++ ((g .left, z) ∷ []); left = g .left }
+abbrev pub told : Field → ℤ → Said → Said
+told Field.Window z g = record { window = z; width = g .width; windows = g .windows; rows = g .rows; low = g .low; up = g .up; runs = g .runs; left = g .left }
+told Field.Width z g = record { window = g .window; width = z; windows = g .windows; rows = g .rows; low = g .low; up = g .up; runs = g .runs; left = g .left }
+told Field.Windows z g = record { window = g .window; width = g .width; windows = z; rows = g .rows; low = g .low; up = g .up; runs = g .runs; left = g .left }
+told Field.Low z g = record { window = g .window; width = g .width; windows = g .windows; rows = g .rows; low = z; up = g .up; runs = g .runs; left = g .left }
+told Field.Up z g = record { window = g .window; width = g .width; windows = g .windows; rows = g .rows; low = g .low; up = z; runs = []; left = g .left }
+told Field.Left z g = record { window = g .window; width = g .width; windows = g .windows; rows = g .rows; low = g .low; up = g .up; runs = g .runs; left = z }
+told Field.Right z g = record { window = g .window; width = g .width; windows = g .windows; rows = g .rows; low = g .low; up = g .up; runs = g .runs ++ ((g .left, z) ∷ []); left = g .left }
 
 -- a row's end
 abbrev pub closed : Said → Said
@@ -116,43 +116,43 @@ afterWindows : Said → Rest V'
 afterWindows g = wordThen (word Word.Head) (restRows g)
 
 afterWidth : Said → Rest V'
-afterWidth g = wordThen (word Word.Windows) (numberThen Numeral.Start (λ z. afterWindows (told Place.Windows z g)))
+afterWidth g = wordThen (word Word.Windows) (numberThen Numeral.Start (λ z. afterWindows (told Field.Windows z g)))
 
 afterWindow : Said → Rest V'
-afterWindow g = wordThen (word Word.Width) (numberThen Numeral.Start (λ z. afterWidth (told Place.Width z g)))
+afterWindow g = wordThen (word Word.Width) (numberThen Numeral.Start (λ z. afterWidth (told Field.Width z g)))
 
 afterLow : Said → Rest V'
-afterLow g = wordThen (word Word.Up) (numberThen Numeral.Start (λ z. restRuns (told Place.Up z g)))
+afterLow g = wordThen (word Word.Up) (numberThen Numeral.Start (λ z. restRuns (told Field.Up z g)))
 
 afterRight : Said → Rest V'
 afterRight g = wordThen (word Word.RunEnd) (restRuns g)
 
 afterLeft : Said → Rest V'
-afterLeft g = wordThen (word Word.Right) (numberThen Numeral.Start (λ z. afterRight (told Place.Right z g)))
+afterLeft g = wordThen (word Word.Right) (numberThen Numeral.Start (λ z. afterRight (told Field.Right z g)))
 
 -- behind a number
-unfoldable after : Place → Said → Rest V'
-after Place.Window = afterWindow
-after Place.Width = afterWidth
-after Place.Windows = afterWindows
-after Place.Low = afterLow
-after Place.Up = restRuns
-after Place.Left = afterLeft
-after Place.Right = afterRight
+unfoldable after : Field → Said → Rest V'
+after Field.Window = afterWindow
+after Field.Width = afterWidth
+after Field.Windows = afterWindows
+after Field.Low = afterLow
+after Field.Up = restRuns
+after Field.Left = afterLeft
+after Field.Right = afterRight
 
-abbrev fromNumber : Place → Numeral → Said → Rest V'
+abbrev fromNumber : Field → Numeral → Said → Rest V'
 fromNumber p n g = numberThen n (λ z. after p (told p z g))
 
 -- behind a word
 unfoldable behindThen : Word → Said → Rest V'
-behindThen Word.Window g = fromNumber Place.Window Numeral.Start g
-behindThen Word.Width g = fromNumber Place.Width Numeral.Start g
-behindThen Word.Windows g = fromNumber Place.Windows Numeral.Start g
+behindThen Word.Window g = fromNumber Field.Window Numeral.Start g
+behindThen Word.Width g = fromNumber Field.Width Numeral.Start g
+behindThen Word.Windows g = fromNumber Field.Windows Numeral.Start g
 behindThen Word.Head g = restRows g
-behindThen Word.Row g = fromNumber Place.Low Numeral.Start g
-behindThen Word.Up g = fromNumber Place.Up Numeral.Start g
-behindThen Word.Run g = fromNumber Place.Left Numeral.Start g
-behindThen Word.Right g = fromNumber Place.Right Numeral.Start g
+behindThen Word.Row g = fromNumber Field.Low Numeral.Start g
+behindThen Word.Up g = fromNumber Field.Up Numeral.Start g
+behindThen Word.Run g = fromNumber Field.Left Numeral.Start g
+behindThen Word.Right g = fromNumber Field.Right Numeral.Start g
 behindThen Word.RunEnd g = restRuns g
 behindThen Word.RowEnd g = restRows (closed g)
 behindThen Word.End g = λ t. got (value g) t
@@ -318,15 +318,15 @@ turn-ends Turn.Rows g = many-ends rowForm refl (λ v. begun refl) _ ∙ word-sho
 turn-ends Turn.Runs g = many-ends runForm refl (λ v. begun refl) _ ∙ word-short (word Word.RowEnd) _ 0 (word-long Word.RowEnd)
 
 -- behind a number comes its turn
-after-turn : (p : Place) (g : Said) → after p g ≡ restTurn (turnAfter p) g
+after-turn : (p : Field) (g : Said) → after p g ≡ restTurn (turnAfter p) g
 unfolding after turnAfter afterWindow afterWidth afterWindows afterLow afterLeft afterRight behindThen
-after-turn Place.Window g = refl
-after-turn Place.Width g = refl
-after-turn Place.Windows g = refl
-after-turn Place.Low g = refl
-after-turn Place.Up g = refl
-after-turn Place.Left g = refl
-after-turn Place.Right g = refl
+after-turn Field.Window g = refl
+after-turn Field.Width g = refl
+after-turn Field.Windows g = refl
+after-turn Field.Low g = refl
+after-turn Field.Up g = refl
+after-turn Field.Left g = refl
+after-turn Field.Right g = refl
 
 -- ---- every state
 

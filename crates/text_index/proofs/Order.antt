@@ -1,4 +1,4 @@
--- Where a text stands tells what has not been said yet: no row and no run before the head's end, and no run between two rows. Assumes nothing.
+-- Where a text stands tells what has not been said yet: no row and no run before the head's end, and no run between two rows.
 use mathlib.Core.Path.{_≡_, refl}
 use mathlib.Core.Bool.{cond}
 use mathlib.Core.List.{[]}
@@ -14,7 +14,7 @@ use Rattle.meaning_text.proofs.Reading.{on-flag}
 use Rattle.text_numbers.specs.Number.{numStep, whole}
 use Rattle.text_numbers.proofs.Number.{on-taken, on-whole}
 use Rattle.text_index.specs.declared.Word.{Word}
-use Rattle.text_index.specs.declared.Place.{Place}
+use Rattle.text_index.specs.declared.Field.{Field}
 use Rattle.text_index.specs.declared.Turn.{Turn}
 use Rattle.text_index.specs.declared.State.{State}
 use Rattle.text_index.specs.declared.Reached.{Reached}
@@ -42,14 +42,14 @@ wordPart Word.RunEnd = within
 wordPart Word.RowEnd = within
 wordPart Word.End = between
 
-abbrev pub placePart : Place → Part
-placePart Place.Window = heading
-placePart Place.Width = heading
-placePart Place.Windows = heading
-placePart Place.Low = between
-placePart Place.Up = between
-placePart Place.Left = within
-placePart Place.Right = within
+abbrev pub placePart : Field → Part
+placePart Field.Window = heading
+placePart Field.Width = heading
+placePart Field.Windows = heading
+placePart Field.Low = between
+placePart Field.Up = between
+placePart Field.Left = within
+placePart Field.Right = within
 
 abbrev pub turnPart : Turn → Part
 turnPart (Turn.One w) = wordPart w
@@ -70,16 +70,16 @@ Order within g = Unit {0}
 
 -- ---- what a byte did
 
-to-value : {A : Type 0} {s n : State} {p : Place} {z : ℤ} → Moved.To s ≡ Moved.Value n p z → A
+to-value : {A : Type 0} {s n : State} {p : Field} {z : ℤ} → Moved.To s ≡ Moved.Value n p z → A
 to-value e = let z : _≡_ {A = ℕ} 0 1 = cc in absurd (omega arith)
 
-no-value : {A : Type 0} {s n : State} {p : Place} {z : ℤ} → Moved.Closed s ≡ Moved.Value n p z → A
+no-value : {A : Type 0} {s n : State} {p : Field} {z : ℤ} → Moved.Closed s ≡ Moved.Value n p z → A
 no-value e = let z : _≡_ {A = ℕ} 0 1 = cc in absurd (omega arith)
 
-refuse-value : {A : Type 0} {n : State} {p : Place} {z : ℤ} → Moved.Refuse ≡ Moved.Value n p z → A
+refuse-value : {A : Type 0} {n : State} {p : Field} {z : ℤ} → Moved.Refuse ≡ Moved.Value n p z → A
 refuse-value e = let z : _≡_ {A = ℕ} 0 1 = cc in absurd (omega arith)
 
-value-place : {s n : State} {q p : Place} {y z : ℤ} → Moved.Value s q y ≡ Moved.Value n p z → q ≡ p
+value-place : {s n : State} {q p : Field} {y z : ℤ} → Moved.Value s q y ≡ Moved.Value n p z → q ≡ p
 value-place e = cc
 
 -- ---- words
@@ -116,15 +116,15 @@ order-pick Turn.Runs b g o = on-flag (eqb b 32) (λ e. rw e tt) (λ e. rw e tt)
 turn-order : (t : Turn) (b : ℕ) (g : Said) (n : State) → reach (pick t b) 0 b ≡ Reached.There n → Order (turnPart t) g → Order (statePart n) g
 turn-order t b g n e o = let w = pick t b in rw (not-first w) at (reach-order w 0 b (word-long w) g n e (order-pick t b g o))
 
-order-told : (p : Place) (z : ℤ) (g : Said) → Order (placePart p) g → Order (turnPart (turnAfter p)) (told p z g)
+order-told : (p : Field) (z : ℤ) (g : Said) → Order (placePart p) g → Order (turnPart (turnAfter p)) (told p z g)
 unfolding turnAfter
-order-told Place.Window z g o = o
-order-told Place.Width z g o = o
-order-told Place.Windows z g o = o
-order-told Place.Low z g o = o
-order-told Place.Up z g o = tt
-order-told Place.Left z g o = tt
-order-told Place.Right z g o = tt
+order-told Field.Window z g o = o
+order-told Field.Width z g o = o
+order-told Field.Windows z g o = o
+order-told Field.Low z g o = o
+order-told Field.Up z g o = tt
+order-told Field.Left z g o = tt
+order-told Field.Right z g o = tt
 
 -- ---- a byte
 
@@ -158,7 +158,7 @@ unfolding step
 order-step x b n h o e = order-by (x .state) (x .said) b n h o e
 
 -- a number stands in its own part
-pub order-value : (s : State) (b : ℕ) (n : State) (p : Place) (z : ℤ) (g : Said) → indexStep s b ≡ Moved.Value n p z → Order (statePart s) g → Order (placePart p) g
+pub order-value : (s : State) (b : ℕ) (n : State) (p : Field) (z : ℤ) (g : Said) → indexStep s b ≡ Moved.Value n p z → Order (statePart s) g → Order (placePart p) g
 unfolding indexStep wordStep turnStep endStep numberStep
 order-value (State.In w k) b n p z g e o =
     on-reached (reach w k b)

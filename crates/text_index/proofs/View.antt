@@ -1,4 +1,4 @@
--- What a loop over an index text keeps of what is said: any view of it that a number and a row's end move in the same way comes to the view of what the text says (`text-viewed`). Assumes nothing.
+-- What a loop over an index text keeps of what is said: any view of it that a number and a row's end move in the same way comes to the view of what the text says (`text-viewed`).
 use mathlib.Core.Path.{_≡_, refl, ap, _∙_}
 use mathlib.Core.List.{List, [], _∷_}
 use mathlib.Core.Option.{Option, none, some}
@@ -10,7 +10,7 @@ use Rattle.meaning_text.specs.Form.{Value}
 use Rattle.meaning_text.specs.Read.{Verdict, fine, unfit, readText}
 use Rattle.meaning_text.specs.Texts.{indexForm}
 use Rattle.meaning_text.proofs.Automaton.{Fed, going, failed, feed, feed-failed, feed-turn, feed-refuse, feed-end, on-option, atEnd, judged, verdictOf}
-use Rattle.text_index.specs.declared.Place.{Place}
+use Rattle.text_index.specs.declared.Field.{Field}
 use Rattle.text_index.specs.declared.State.{State}
 use Rattle.text_index.specs.declared.Moved.{Moved}
 use Rattle.text_index.specs.Step.{indexStep, GoodState}
@@ -43,7 +43,7 @@ fed-ordered (b ∷ l) x p h o =
     (λ n e. rw e (fed-ordered l n (suc p) (stays x b n h e) (order-step x b n h o e)))
     (λ e. rw (e, feed-failed step l p) tt)
 
-module _ {T : Type 0} (tell : Place → ℤ → T → T) (shut : T → T) where
+module _ {T : Type 0} (tell : Field → ℤ → T → T) (shut : T → T) where
   abbrev pub movedTo : Moved → T → Option (Seen T)
   movedTo (Moved.To s) t = some (seen s t)
   movedTo (Moved.Value s p z) t = some (seen s (tell p z t))
@@ -53,7 +53,7 @@ module _ {T : Type 0} (tell : Place → ℤ → T → T) (shut : T → T) where
   unfoldable pub keep : Seen T → ℕ → Option (Seen T)
   keep x b = movedTo (indexStep (x .state) b) (x .kept)
 
-  module _ (view : Said → T) (tells : (p : Place) (z : ℤ) (g : Said) → Order (placePart p) g → view (told p z g) ≡ tell p z (view g)) (shuts : (g : Said) → view (closed g) ≡ shut (view g)) where
+  module _ (view : Said → T) (tells : (p : Field) (z : ℤ) (g : Said) → Order (placePart p) g → view (told p z g) ≡ tell p z (view g)) (shuts : (g : Said) → view (closed g) ≡ shut (view g)) where
     abbrev seenOf : Reading → Seen T
     seenOf x = seen (x .state) (view (x .said))
 
@@ -114,7 +114,7 @@ step-good s b (Moved.Value n p z) h e = stays (at s nothingSaid) b (at n (told p
 step-good s b (Moved.Closed n) h e = stays (at s nothingSaid) b (at n (closed nothingSaid)) h (ap (λ (m : Moved). moved m nothingSaid) e)
 step-good s b Moved.Refuse h e = tt
 
-module _ {T : Type 0} (tell : Place → ℤ → T → T) (shut : T → T) (t₀ : T) (text : List ℕ) where
+module _ {T : Type 0} (tell : Field → ℤ → T → T) (shut : T → T) (t₀ : T) (text : List ℕ) where
   -- what a text comes to
   abbrev pub Whole : Fed (Seen T)
   Whole = feed (keep tell shut) (going (seen (start .state) t₀) 0) text
@@ -142,7 +142,7 @@ module _ {T : Type 0} (tell : Place → ℤ → T → T) (shut : T → T) (t₀ 
     pub kept-to : (n : State) → indexStep s (getD text i 0) ≡ Moved.To n → Kept n t (i + 1)
     kept-to n e = kept-on (Moved.To n) n t e (step-good s (getD text i 0) (Moved.To n) (r .good) e) refl
 
-    pub kept-value : (n : State) (p : Place) (z : ℤ) → indexStep s (getD text i 0) ≡ Moved.Value n p z → Kept n (tell p z t) (i + 1)
+    pub kept-value : (n : State) (p : Field) (z : ℤ) → indexStep s (getD text i 0) ≡ Moved.Value n p z → Kept n (tell p z t) (i + 1)
     kept-value n p z e = kept-on (Moved.Value n p z) n (tell p z t) e (step-good s (getD text i 0) (Moved.Value n p z) (r .good) e) refl
 
     pub kept-closed : (n : State) → indexStep s (getD text i 0) ≡ Moved.Closed n → Kept n (shut t) (i + 1)

@@ -1,4 +1,4 @@
--- What a loop over an index text keeps of what is said: any view of it that a number and a row's end move in the same way comes to the view of what the text says. Assumes nothing.
+-- What a loop over an index text keeps of what is said: any view of it that a number and a row's end move in the same way comes to the view of what the text says.
 use mathlib.Core.Option.{Option, none, some}
 use Rattle.text_index.specs.declared.State.{State}
 

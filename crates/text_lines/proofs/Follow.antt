@@ -1,4 +1,4 @@
--- The automaton of the lines follows `seriesForm` and `programForm`, each from its own start: each state with what has been said so far has a reader for the rest of the text, and a byte takes it to the next. So the bytes of a text come to what `readText` says. Assumes nothing.
+-- The automaton of the lines follows `seriesForm` and `programForm`, each from its own start: each state with what has been said so far has a reader for the rest of the text, and a byte takes it to the next. So the bytes of a text come to what `readText` says.
 use mathlib.Core.Path.{_≡_, refl, sym, ap, _∙_}
 use mathlib.Core.Bool.{true, false, cond}
 use mathlib.Core.List.{List, [], _∷_, append-assoc, append-nil}
@@ -24,7 +24,7 @@ use Rattle.text_numbers.specs.Number.{numStep, whole}
 use Rattle.text_numbers.proofs.Number.{good-step, on-taken, on-whole}
 use Rattle.text_numbers.proofs.Onward.{numberThen, number-more, number-stop, number-then}
 use Rattle.text_lines.specs.declared.Word.{Word}
-use Rattle.text_lines.specs.declared.Place.{Place}
+use Rattle.text_lines.specs.declared.Field.{Field}
 use Rattle.text_lines.specs.declared.Turn.{Turn}
 use Rattle.text_lines.specs.declared.State.{State}
 use Rattle.text_lines.specs.declared.Reached.{Reached}
@@ -56,16 +56,16 @@ module _ {A : Type 0} (fin : Said → A) where
   afterShift g = wordThen (word Word.Query) (restQuery g)
 
   afterScale : Said → Rest A
-  afterScale g = wordThen (word (Word.Space Place.Shift)) (numberThen Numeral.Start (λ z. afterShift (told Place.Shift z g)))
+  afterScale g = wordThen (word (Word.Space Field.Shift)) (numberThen Numeral.Start (λ z. afterShift (told Field.Shift z g)))
 
   afterThreshold : Said → Rest A
-  afterThreshold g = wordThen (word (Word.Space Place.Scale)) (numberThen Numeral.Start (λ z. afterScale (told Place.Scale z g)))
+  afterThreshold g = wordThen (word (Word.Space Field.Scale)) (numberThen Numeral.Start (λ z. afterScale (told Field.Scale z g)))
 
   afterBand : Said → Rest A
-  afterBand g = wordThen (word (Word.Space Place.Threshold)) (numberThen Numeral.Start (λ z. afterThreshold (told Place.Threshold z g)))
+  afterBand g = wordThen (word (Word.Space Field.Threshold)) (numberThen Numeral.Start (λ z. afterThreshold (told Field.Threshold z g)))
 
   afterKind : Said → Rest A
-  afterKind g = wordThen (word (Word.Space Place.Band)) (numberThen Numeral.Start (λ z. afterBand (told Place.Band z g)))
+  afterKind g = wordThen (word (Word.Space Field.Band)) (numberThen Numeral.Start (λ z. afterBand (told Field.Band z g)))
 
   unfoldable restKind : Said → Rest A
   restKind g = readThen (oneOf "raw" "normal") (λ r. afterKind (kindSaid r g))
@@ -77,35 +77,35 @@ module _ {A : Type 0} (fin : Said → A) where
   afterMerge g = wordThen (word Word.Series) (restSeries g)
 
   afterWidth : Said → Rest A
-  afterWidth g = wordThen (word Word.Merge) (numberThen Numeral.Start (λ z. afterMerge (told Place.Merge z g)))
+  afterWidth g = wordThen (word Word.Merge) (numberThen Numeral.Start (λ z. afterMerge (told Field.Merge z g)))
 
   afterWindow : Said → Rest A
-  afterWindow g = wordThen (word Word.Width) (numberThen Numeral.Start (λ z. afterWidth (told Place.Width z g)))
+  afterWindow g = wordThen (word Word.Width) (numberThen Numeral.Start (λ z. afterWidth (told Field.Width z g)))
 
   unfoldable restLine : Said → Rest A
   restLine g = readThen valuesForm (λ l. wordThen (word Word.LineEnd) (λ t. got (fin (seriesMore g l)) t))
 
   -- behind a number
-  unfoldable after : Place → Said → Rest A
-  after Place.Window = afterWindow
-  after Place.Width = afterWidth
-  after Place.Merge = afterMerge
-  after Place.Item = restSeries
-  after Place.Band = afterBand
-  after Place.Threshold = afterThreshold
-  after Place.Scale = afterScale
-  after Place.Shift = afterShift
-  after Place.Asked = restQuery
-  after Place.Entry = restLine
+  unfoldable after : Field → Said → Rest A
+  after Field.Window = afterWindow
+  after Field.Width = afterWidth
+  after Field.Merge = afterMerge
+  after Field.Item = restSeries
+  after Field.Band = afterBand
+  after Field.Threshold = afterThreshold
+  after Field.Scale = afterScale
+  after Field.Shift = afterShift
+  after Field.Asked = restQuery
+  after Field.Entry = restLine
 
-  abbrev fromNumber : Place → Numeral → Said → Rest A
+  abbrev fromNumber : Field → Numeral → Said → Rest A
   fromNumber p n g = numberThen n (λ z. after p (told p z g))
 
   -- behind a word
   unfoldable behindThen : Word → Said → Rest A
-  behindThen Word.Window g = fromNumber Place.Window Numeral.Start g
-  behindThen Word.Width g = fromNumber Place.Width Numeral.Start g
-  behindThen Word.Merge g = fromNumber Place.Merge Numeral.Start g
+  behindThen Word.Window g = fromNumber Field.Window Numeral.Start g
+  behindThen Word.Width g = fromNumber Field.Width Numeral.Start g
+  behindThen Word.Merge g = fromNumber Field.Merge Numeral.Start g
   behindThen Word.Series g = restSeries g
   behindThen Word.Find g = restKind g
   behindThen Word.Raw g = afterKind (kindSaid true g)
@@ -288,18 +288,18 @@ module _ {A : Type 0} (fin : Said → A) where
   turn-ends Turn.Line g = values-end _ ∙ word-short (word Word.LineEnd) _ 0 (word-long Word.LineEnd)
 
   -- behind a number comes its turn
-  after-turn : (p : Place) (g : Said) → after fin p g ≡ restTurn fin (turnAfter p) g
+  after-turn : (p : Field) (g : Said) → after fin p g ≡ restTurn fin (turnAfter p) g
   unfolding after turnAfter afterWindow afterWidth afterMerge afterBand afterThreshold afterScale afterShift behindThen
-  after-turn Place.Window g = refl
-  after-turn Place.Width g = refl
-  after-turn Place.Merge g = refl
-  after-turn Place.Item g = refl
-  after-turn Place.Band g = refl
-  after-turn Place.Threshold g = refl
-  after-turn Place.Scale g = refl
-  after-turn Place.Shift g = refl
-  after-turn Place.Asked g = refl
-  after-turn Place.Entry g = refl
+  after-turn Field.Window g = refl
+  after-turn Field.Width g = refl
+  after-turn Field.Merge g = refl
+  after-turn Field.Item g = refl
+  after-turn Field.Band g = refl
+  after-turn Field.Threshold g = refl
+  after-turn Field.Scale g = refl
+  after-turn Field.Shift g = refl
+  after-turn Field.Asked g = refl
+  after-turn Field.Entry g = refl
 
   -- a byte that is taken
   record Goes (s : State) (g : Said) (b : ℕ) (n : Reading) : Type 0 where

@@ -1,4 +1,4 @@
--- The automaton of the lines follows `seriesForm` and `programForm`, each from its own start: each state with what has been said so far has a reader for the rest of the text, and a byte takes it to the next. So the bytes of a text come to what `readText` says. Assumes nothing.
+-- The automaton of the lines follows `seriesForm` and `programForm`, each from its own start: each state with what has been said so far has a reader for the rest of the text, and a byte takes it to the next. So the bytes of a text come to what `readText` says.
 use mathlib.Core.Bool.{Bool, true, false}
 use mathlib.Core.List.{List, [], _∷_, _++_}
 use mathlib.Core.Option.{Option, none, some}
@@ -7,7 +7,7 @@ use lib.IntN.{ℤ, pos}
 use Rattle.meaning_text.specs.Form.{Value}
 use Rattle.meaning_text.specs.Texts.{seriesForm, programForm}
 use Rattle.text_lines.specs.declared.Word.{Word}
-use Rattle.text_lines.specs.declared.Place.{Place}
+use Rattle.text_lines.specs.declared.Field.{Field}
 use Rattle.text_lines.specs.declared.State.{State}
 use Rattle.text_lines.specs.declared.Moved.{Moved}
 use Rattle.text_lines.specs.Step.{lineStep}
@@ -37,17 +37,17 @@ abbrev pub queryMore : Said → List ℤ → Said
 queryMore g l = record { window = g .window; width = g .width; merge = g .merge; series = g .series; raw = g .raw; band = g .band; threshold = g .threshold; scale = g .scale; shift = g .shift; query = g .query ++ l }
 
 -- a number
-abbrev pub told : Place → ℤ → Said → Said
-told Place.Window z g = record { window = z; width = g .width; merge = g .merge; series = g .series; raw = g .raw; band = g .band; threshold = g .threshold; scale = g .scale; shift = g .shift; query = g .query }
-told Place.Width z g = record { window = g .window; width = z; merge = g .merge; series = g .series; raw = g .raw; band = g .band; threshold = g .threshold; scale = g .scale; shift = g .shift; query = g .query }
-told Place.Merge z g = record { window = g .window; width = g .width; merge = z; series = g .series; raw = g .raw; band = g .band; threshold = g .threshold; scale = g .scale; shift = g .shift; query = g .query }
-told Place.Item z g = seriesMore g (z ∷ [])
-told Place.Band z g = record { window = g .window; width = g .width; merge = g .merge; series = g .series; raw = g .raw; band = z; threshold = g .threshold; scale = g .scale; shift = g .shift; query = g .query }
-told Place.Threshold z g = record { window = g .window; width = g .width; merge = g .merge; series = g .series; raw = g .raw; band = g .band; threshold = z; scale = g .scale; shift = g .shift; query = g .query }
-told Place.Scale z g = record { window = g .window; width = g .width; merge = g .merge; series = g .series; raw = g .raw; band = g .band; threshold = g .threshold; scale = z; shift = g .shift; query = g .query }
-told Place.Shift z g = record { window = g .window; width = g .width; merge = g .merge; series = g .series; raw = g .raw; band = g .band; threshold = g .threshold; scale = g .scale; shift = z; query = g .query }
-told Place.Asked z g = queryMore g (z ∷ [])
-told Place.Entry z g = seriesMore g (z ∷ [])
+abbrev pub told : Field → ℤ → Said → Said
+told Field.Window z g = record { window = z; width = g .width; merge = g .merge; series = g .series; raw = g .raw; band = g .band; threshold = g .threshold; scale = g .scale; shift = g .shift; query = g .query }
+told Field.Width z g = record { window = g .window; width = z; merge = g .merge; series = g .series; raw = g .raw; band = g .band; threshold = g .threshold; scale = g .scale; shift = g .shift; query = g .query }
+told Field.Merge z g = record { window = g .window; width = g .width; merge = z; series = g .series; raw = g .raw; band = g .band; threshold = g .threshold; scale = g .scale; shift = g .shift; query = g .query }
+told Field.Item z g = seriesMore g (z ∷ [])
+told Field.Band z g = record { window = g .window; width = g .width; merge = g .merge; series = g .series; raw = g .raw; band = z; threshold = g .threshold; scale = g .scale; shift = g .shift; query = g .query }
+told Field.Threshold z g = record { window = g .window; width = g .width; merge = g .merge; series = g .series; raw = g .raw; band = g .band; threshold = z; scale = g .scale; shift = g .shift; query = g .query }
+told Field.Scale z g = record { window = g .window; width = g .width; merge = g .merge; series = g .series; raw = g .raw; band = g .band; threshold = g .threshold; scale = z; shift = g .shift; query = g .query }
+told Field.Shift z g = record { window = g .window; width = g .width; merge = g .merge; series = g .series; raw = g .raw; band = g .band; threshold = g .threshold; scale = g .scale; shift = z; query = g .query }
+told Field.Asked z g = queryMore g (z ∷ [])
+told Field.Entry z g = seriesMore g (z ∷ [])
 
 -- a kind
 abbrev pub kindSaid : Bool → Said → Said

@@ -1,4 +1,4 @@
--- The text of a list of matches, as the code writes it: one match after the other, out of two slices. Assumes nothing.
+-- The text of a list of matches, as the code writes it: one match after the other, out of two slices.
 use mathlib.Core.List.{List}
 use Prim.Native.Nat.{ℕ}
 use lib.IntN.{pos}

@@ -1,4 +1,4 @@
--- A number, and then on from there: read byte by byte it comes to what `readℤ` says. Assumes nothing.
+-- A number, and then on from there: read byte by byte it comes to what `readℤ` says.
 use mathlib.Core.Path.{_≡_, refl, sym, _∙_, fun-ext}
 use mathlib.Core.List.{List, [], _∷_}
 use mathlib.Core.Bool.{true, false, _&&_}

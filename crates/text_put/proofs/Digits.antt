@@ -1,4 +1,4 @@
--- The digits of a number, as the code writes them: those of a tenth of it and the last, and a '-' before those of a negative one. Assumes nothing.
+-- The digits of a number, as the code writes them: those of a tenth of it and the last, and a '-' before those of a negative one.
 use mathlib.Core.Path.{_≡_, refl, sym, ap, _∙_}
 use mathlib.Core.List.{[], _∷_, _++_}
 use Prim.Native.Nat.{ℕ, zero, suc, _+_, _*_, _/_, _%_, _<_, _≤_, _^_}

@@ -1,4 +1,4 @@
--- An event of the loop that reads on to the end of a row: what is left of the text comes to the same line (`Going`). A line that has been read can be read on (`next-ready`). Assumes nothing.
+-- An event of the loop that reads on to the end of a row: what is left of the text comes to the same line (`Going`). A line that has been read can be read on (`next-ready`).
 use mathlib.Core.Path.{_≡_, refl, sym, ap, _∙_, subst}
 use mathlib.Core.List.{List, [], _∷_}
 use Prim.Native.Nat.{ℕ, zero, suc, _+_, _<_, _≤_}
@@ -8,7 +8,7 @@ use lib.IntN.{ℤ}
 use lib.ListN.{length, getD, set, drop, length-set, drop-of-length-le, length-drop}
 use lib.Seq.{drop-cons}
 use Rattle.meaning_rows.specs.declared.Row.{Row}
-use Rattle.text_index.specs.declared.Place.{Place}
+use Rattle.text_index.specs.declared.Field.{Field}
 use Rattle.text_index.specs.declared.State.{State}
 use Rattle.text_index.specs.declared.Moved.{Moved}
 use Rattle.text_index.specs.Step.{indexStep, GoodState}
@@ -65,7 +65,7 @@ module _ (text : List ℕ) (s₀ : State) (t₀ : Tally) (i₀ : ℕ) where
     going-to : (n : State) → indexStep s (getD text i 0) ≡ Moved.To n → Going n t (i + 1)
     going-to n e = next (Moved.To n) n t e (step-good s (getD text i 0) (Moved.To n) (r .good) e) (same-fits t i (r .fits)) refl
 
-    going-value : (n : State) (q : Place) (z : ℤ) → indexStep s (getD text i 0) ≡ Moved.Value n q z → Going n (tellTally q z t) (i + 1)
+    going-value : (n : State) (q : Field) (z : ℤ) → indexStep s (getD text i 0) ≡ Moved.Value n q z → Going n (tellTally q z t) (i + 1)
     going-value n q z e = next (Moved.Value n q z) n (tellTally q z t) e (step-good s (getD text i 0) (Moved.Value n q z) (r .good) e) (tell-fits q z t i (r .fits)) refl
 
     going-closed : (n : State) → indexStep s (getD text i 0) ≡ Moved.Closed n → record { state = n; at = i + 1; tally = shutTally t; row = rowMade t } ≡ whole
@@ -89,10 +89,10 @@ module _ (text : List ℕ) (s₀ : State) (t₀ : Tally) (i₀ : ℕ) where
     pub line-run : {u : Tally} (l z j : ℕ) → EventAt text s i (Event.Run l z j) → u ≡ toldRun l z t → Going atRuns u j
     line-run l z j e told = rw told (run-keeps tellTally text Going going-to going-value t (e .1) (rw (e .0) at r))
 
-    pub line-row : {u : Tally} (low up : ℤ) (l z j : ℕ) → EventAt text s i (Event.Row low up l z j) → u ≡ toldRun l z (tellTally Place.Up up (tellTally Place.Low low t)) → Going atRuns u j
+    pub line-row : {u : Tally} (low up : ℤ) (l z j : ℕ) → EventAt text s i (Event.Row low up l z j) → u ≡ toldRun l z (tellTally Field.Up up (tellTally Field.Low low t)) → Going atRuns u j
     line-row low up l z j e told = rw told (row-keeps tellTally text Going going-to going-value t (e .1) (rw (e .0) at r))
 
-    pub line-value : (n : State) (p : Place) (z : ℤ) (j : ℕ) → EventAt text s i (Event.Value n p z j) → Going n (tellTally p z t) j
+    pub line-value : (n : State) (p : Field) (z : ℤ) (j : ℕ) → EventAt text s i (Event.Value n p z j) → Going n (tellTally p z t) j
     line-value n p z j e = value-keeps tellTally text Going going-to going-value t e r
 
     pub line-closed : (n : State) (j : ℕ) → EventAt text s i (Event.Closed n j) → record { state = n; at = j; tally = shutTally t; row = rowMade t } ≡ whole

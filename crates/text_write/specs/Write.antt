@@ -1,4 +1,4 @@
--- The parts of an index text: its head, its rows one after the other, its end; together they are the text of the index. Assumes nothing.
+-- The parts of an index text: its head, its rows one after the other, its end; together they are the text of the index.
 use mathlib.Core.List.{List, _++_}
 use Prim.Native.Nat.{ℕ}
 use lib.IntN.{ℤ}

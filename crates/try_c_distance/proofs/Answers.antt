@@ -1,4 +1,4 @@
--- Answers taken apart: a place that was found or not (`place-at`, `place-none`), kinds by number (`kind-normal`). Assumes nothing.
+-- Answers taken apart: a place that was found or not (`place-at`, `place-none`), kinds by number (`kind-normal`).
 use mathlib.Core.Path.{_≡_, refl, sym, subst, _∙_}
 use mathlib.Core.Bool.{Bool, true, false}
 use mathlib.Core.Option.{Option, none, some}

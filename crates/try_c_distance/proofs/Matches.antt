@@ -1,4 +1,4 @@
--- A match is told as it is: its distance is small (`distance-small`), so that one more does not wrap (`told-wrapped`). Assumes nothing.
+-- A match is told as it is: its distance is small (`distance-small`), so that one more does not wrap (`told-wrapped`).
 use mathlib.Core.Path.{_≡_, refl, sym, subst}
 use mathlib.Core.Bool.{Bool, true, false}
 use mathlib.Core.List.{List}

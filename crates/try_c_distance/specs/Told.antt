@@ -1,4 +1,4 @@
--- What each function for C tells and leaves, by the meanings: for each, what is asked of its input, the answer, what it does then, and what is kept otherwise. Assumes nothing.
+-- What each function for C tells and leaves, by the meanings: for each, what is asked of its input, the answer, what it does then, and what is kept otherwise.
 use mathlib.Core.Path.{_≡_}
 use mathlib.Core.Bool.{Bool, true, false}
 use mathlib.Core.List.{List}

@@ -1,4 +1,4 @@
--- Pieces one behind another come to what the text to there comes to (`begins`, `goes-on`, `fails`, `ends`), and what a whole text comes to is what is told (`told`). Assumes nothing.
+-- Pieces one behind another come to what the text to there comes to (`begins`, `goes-on`, `fails`, `ends`), and what a whole text comes to is what is told (`told`).
 use mathlib.Core.Path.{_≡_, refl, sym, ap, subst, _∙_}
 use mathlib.Core.Bool.{Bool, true, false}
 use mathlib.Core.List.{List}

@@ -1,4 +1,4 @@
--- The sum of a window: from the sum of its raised values (`window-raised`), how large it gets (`window-small`), from the window before (`window-next`), and with its last or its first value apart (`window-last`, `but-last`, `but-first`). Assumes nothing.
+-- The sum of a window: from the sum of its raised values (`window-raised`), how large it gets (`window-small`), from the window before (`window-next`), and with its last or its first value apart (`window-last`, `but-last`, `but-first`).
 use mathlib.Core.Path.{_≡_}
 use mathlib.Core.List.{List}
 use Prim.Native.Nat.{ℕ, suc, _+_, _*_, _≤_}

@@ -1,4 +1,4 @@
--- `build_fill::file_turn` meets its contract. Assumes nothing.
+-- `build_fill::file_turn` meets its contract.
 use borrow.Author.Needs.{needs}
 use mathlib.Core.Path.{_≡_, ap, _∙_}
 use Prim.Native.Nat.{_+_, _*_}

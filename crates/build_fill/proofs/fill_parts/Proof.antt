@@ -1,6 +1,5 @@
 -- `build_fill::fill_parts` meets its contract: a walk of its MIR, by hand. Each turn of the loop calls `sum_of`, `find_record` for the row of the window, and `file_turn`, for which the two run columns are lent again. All that the proof knows of the three is that they meet their contracts.
 -- The invariant is `Going`, the measure how many windows are left; a turn is `going-next` of specs/Pass.antt, over plain variables.
--- Assumes nothing.
 use mathlib.Core.Path.{_≡_, refl, sym, subst}
 use Prim.Native.Nat.{ℕ, _+_, _-_, _<_, _≤_, _^_}
 use native.Mathlib.Omega.{arith}
@@ -46,9 +45,9 @@ use Rattle.meaning_curves.specs.Curve.{windowSum}
 use Rattle.meaning_rows.specs.declared.Row.{Row}
 use Rattle.meaning_rows.proofs.Row as T
 use Rattle.meaning_rows.proofs.Row.Laws as T′
-use Rattle.sums_slide.specs.declared.Place.{Place}
-use Rattle.sums_slide.proofs.Place as Pl
-use Rattle.sums_slide.proofs.Place.Laws as Pl′
+use Rattle.sums_slide.specs.declared.Window.{Window}
+use Rattle.sums_slide.proofs.Window as Pl
+use Rattle.sums_slide.proofs.Window.Laws as Pl′
 use Rattle.sums_slide.specs.Levels.{windowsOf}
 use Rattle.rows_records.proofs.Walk.{by-bool, lose, lose-room, loops-by, AtEntry, at-entry, walk-through}
 use Rattle.rows_records.proofs.Lends as Lends
@@ -60,7 +59,7 @@ use Rattle.rows_find.proofs.find_record.Symbol as find-def
 use Rattle.rows_find.proofs.find_record.Symbol.{name as #find-record}
 use Rattle.rows_find.proofs.find_record.Met as find-thm
 use Rattle.build_fill.specs.Turn.{Turned, TurnAsked}
-use Rattle.build_fill.specs.Pass.{Passable, Passed}
+use Rattle.build_fill.specs.Pass.{Passable, PassMade}
 use Rattle.build_fill.proofs.Pass.{Going, rowed-climbs, rowed-reached, going-starts, going-ends, going-asks, going-nears, going-next}
 use Rattle.build_fill.proofs.Calls.{low-place, SumOf, FileTurn, calls-sum-of, calls-file-turn}
 use Rattle.sums_slide.proofs.sum_of.Symbol as sum-def
@@ -98,7 +97,7 @@ part = sliceTy (tyRef erased mut half)
 below : (n k j : ℕ) → k < j → k < n → n - j < n - k
 below n k j l m = omega arith
 
-module _ {M : Type 1} (𝓤 : URA M) (H : Heap 𝓤) (A : Atoms 𝓤) (W : Given 𝓤 H A) (mem : Memory → SProp 𝓤) (run : Routine → Fun 𝓤) (κs κa κl κr : Lft) (qs qa ql qr : Share) (xs : RefT (List ℤ)) (w e : ℕ) (xa : Rs) (n : ℕ) (from₀ : Place) (xl xr : RefT (List ℕ)) (test₀ : ℕ → ℕ → Bool) where
+module _ {M : Type 1} (𝓤 : URA M) (H : Heap 𝓤) (A : Atoms 𝓤) (W : Given 𝓤 H A) (mem : Memory → SProp 𝓤) (run : Routine → Fun 𝓤) (κs κa κl κr : Lft) (qs qa ql qr : Share) (xs : RefT (List ℤ)) (w e : ℕ) (xa : Rs) (n : ℕ) (from₀ : Window) (xl xr : RefT (List ℕ)) (test₀ : ℕ → ℕ → Bool) where
   -- what a column owns at a list
   abbrev OwnL : List ℕ → Fml
   OwnL l = Lends.Own u32 (xl .ptr .0) (xl .ptr .1) (length (xl .now)) (named 0) κl (xl .name) l
@@ -125,13 +124,13 @@ module _ {M : Type 1} (𝓤 : URA M) (H : Heap 𝓤) (A : Atoms 𝓤) (W : Given
   abbrev Post : Val → SProp 𝓤
   Post = walkOf 𝓤 H A f.ended stayed (f.clauses 𝓤 H A mem run) .post bound
 
-  exits : (zl zr : List ℕ) → Passed test₀ (xs .now) w n (xl .now) (xr .now) zl zr → ent 𝓤 (⋆ 𝓤 H A (‵ (flft κs qs) ∷ ‵ (flft κa qa) ∷ ‵ (flft κl ql) ∷ ‵ (flft κr qr) ∷ ‵ (OwnL zl) ∷ ‵ (OwnR zr) ∷ [])) (Post vunit)
+  exits : (zl zr : List ℕ) → PassMade test₀ (xs .now) w n (xl .now) (xr .now) zl zr → ent 𝓤 (⋆ 𝓤 H A (‵ (flft κs qs) ∷ ‵ (flft κa qa) ∷ ‵ (flft κl ql) ∷ ‵ (flft κr qr) ∷ ‵ (OwnL zl) ∷ ‵ (OwnR zr) ∷ [])) (Post vunit)
   exits zl zr done′ =
       qed W (‵ (flft κs qs) ∷ ‵ (flft κa qa) ∷ ‵ (flft κl ql) ∷ ‵ (flft κr qr) ∷ ‵ (OwnL zl) ∷ ‵ (OwnR zr) ∷ []) ∵
       suffices ! _ (ends-at 𝓤 H A f.ended stayed (f.clauses 𝓤 H A mem run) W bound vunit tt (tt, (tt, (tt, (tt, (tt, (tt, (zl, (zr, tt)))))))) (tt, (tt, (tt, (tt, (tt, (tt, (done′ .long-left, (done′ .long-right, tt))))))))) $ says ! done′ $
       nothing ! $ move ! (4 ∷ 0 ∷ []) $ join ! $ move ! (3 ∷ 0 ∷ []) $ join ! $ move ! (2 ∷ 0 ∷ []) $ join ! $ move ! (1 ∷ 0 ∷ []) $ join ! $ frame ! $ nothing ! $ move ! (2 ∷ 0 ∷ []) $ fjoin ! $ move ! (1 ∷ 0 ∷ []) $ fjoin ! $ nothing ! $ fjoin ! $ nothing ! $ fjoin ! $ nothing ! $ fjoin ! $ nothing ! $ fjoin ! $ nothing ! $ fjoin ! $ nothing ! $ fjoin ! $ frame ! $ feqI ! (List Val) (vunit ∷ []) (vunit ∷ []) refl $ done !
 
-  place-typed : (p : Place) → Is Pl.the-row p (low-place p ∷ []) → Tr (hasTy Pl′.mir (low-place p)) × WT (low-place p)
+  place-typed : (p : Window) → Is Pl.the-row p (low-place p ∷ []) → Tr (hasTy Pl′.mir (low-place p)) × WT (low-place p)
   place-typed p g = LL.lawful Pl.the-type Pl′.the-laws 𝓤 H A W .typed p _ g .0
 
   row-typed : (r : Row) → Good r → Tr (hasTy T′.mir (low r)) × WT (low r)
@@ -140,7 +139,7 @@ module _ {M : Type 1} (𝓤 : URA M) (H : Heap 𝓤) (A : Atoms 𝓤) (W : Given
   module _ (𝓣 : Tables 𝓤 H) (fm : FmC 𝓤 H (W .laws) (𝓣 .C)) (known-sum : Triple 𝓤 (𝓣 .C #sum-of) (SumOf 𝓤 H A mem run)) (known-find : Triple 𝓤 (𝓣 .C #find-record) (FindRecord 𝓤 H A mem run)) (known-turn : Triple 𝓤 (𝓣 .C #file-turn) (FileTurn 𝓤 H A mem run))
       (gs : Room i32 (length (xs .now))) (gw : w < 2 ^ 64) (ge : e < 2 ^ 64) (ga : Room T.the-row (length (xa .now))) (gc : n < 2 ^ 64) (gp : Is Pl.the-row from₀ (low-place from₀ ∷ [])) (gl : Room u32 (length (xl .now))) (gr : Room u32 (length (xr .now))) (h : Asked) where
     abbrev State : Type 0
-    State = Place × (List ℕ × List ℕ)
+    State = Window × (List ℕ × List ℕ)
 
     abbrev Facts : State → Type 0
     Facts σ = Going h (σ .0) (σ .1 .0) (σ .1 .1) × Is Pl.the-row (σ .0) (low-place (σ .0) ∷ [])
@@ -169,14 +168,14 @@ module _ {M : Type 1} (𝓤 : URA M) (H : Heap 𝓤) (A : Atoms 𝓤) (W : Given
         asks-turn : TurnAsked (xs .now) w e (σ .0) r (σ .1 .0) (σ .1 .1)
         asks-turn = going-asks h (σ .0) (σ .1 .0) (σ .1 .1) (facts .0) l found′
 
-        module _ (next : Place) (zl zr : List ℕ) (turned : Turned (xs .now) w e (σ .0 .offset) r (σ .1 .0) (σ .1 .1) next zl zr) where
+        module _ (next : Window) (zl zr : List ℕ) (turned : Turned (xs .now) w e (σ .0 .offset) r (σ .1 .0) (σ .1 .1) next zl zr) where
           turn-nears : windowsOf (xs .now) w - next .offset < windowsOf (xs .now) w - σ .0 .offset
           turn-nears = below (windowsOf (xs .now) w) (σ .0 .offset) (next .offset) (going-nears h (σ .0) (σ .1 .0) (σ .1 .1) (facts .0) l found′ turned) l
 
           turn-next : Going h next zl zr
           turn-next = going-next h (σ .0) (σ .1 .0) (σ .1 .1) (facts .0) l found′ turned
 
-    ends : (σ : State) → Facts σ → ltb (σ .0 .offset) (windowsOf (xs .now) w) ≡ false → Passed test₀ (xs .now) w n (xl .now) (xr .now) (σ .1 .0) (σ .1 .1)
+    ends : (σ : State) → Facts σ → ltb (σ .0 .offset) (windowsOf (xs .now) w) ≡ false → PassMade test₀ (xs .now) w n (xl .now) (xr .now) (σ .1 .0) (σ .1 .1)
     ends σ facts t = going-ends h (σ .0) (σ .1 .0) (σ .1 .1) (facts .0) (ltb-false (σ .0 .offset) (windowsOf (xs .now) w) t)
 
     module _ (l₀ l₁ l₂ l₃ l₄ l₅ l₆ l₇ l₈ l₉ l₁₀ l₁₁ l₁₂ l₁₃ l₁₄ l₁₅ l₁₆ l₁₇ l₁₈ l₁₉ l₂₀ : ℕ) where

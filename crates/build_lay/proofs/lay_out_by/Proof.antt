@@ -1,4 +1,4 @@
--- `build_lay::lay_out_by` meets its contract. Assumes nothing.
+-- `build_lay::lay_out_by` meets its contract.
 use borrow.Author.Needs.{needs}
 use mathlib.Core.Path.{_≡_, ap}
 use mathlib.Core.List.{List}

@@ -1,6 +1,5 @@
 -- `build_merge::merge_rows` meets its contract: a walk of its MIR, by hand. The borrow of the records is opened once, before the loop, and closed once, after it. A turn reads the record at i, calls a covered
 -- function that gives the group after it, and stores the group's record at its place. What is known before a turn is `Merging`, for whatever rows stand packed.
--- Assumes nothing.
 use mathlib.Core.Path.{_≡_, refl, _∙_, subst}
 use mathlib.Core.Bool.{Bool}
 use Prim.Native.Nat.{ℕ, _<_, _≤_, _^_, _+_, _-_}

@@ -1,5 +1,5 @@
 -- `build_names::name_neighbours` meets its contract: a walk of its MIR, by hand. A turn reads the record of the run's row, finds the run's end and the name of the row behind it, and lends both columns to the
--- covered function that files the entry. What is known before a turn is `Underway`. Assumes nothing.
+-- covered function that files the entry. What is known before a turn is `Underway`.
 use mathlib.Core.Path.{_≡_, refl}
 use mathlib.Core.Bool.{Bool, true, false}
 use Prim.Native.Nat.{ℕ, _<_, _≤_, _^_, _+_, _-_, _*_}
@@ -53,11 +53,11 @@ use Rattle.rows_records.proofs.row_at.Symbol as row-def
 use Rattle.rows_records.proofs.row_at.Symbol.{name as #rows-records·row-at}
 use Rattle.rows_records.proofs.row_at.Met as row-thm
 use Rattle.rows_records.proofs.RowKit.{word}
-use Rattle.sums_slide.specs.declared.Place.{Place}
+use Rattle.sums_slide.specs.declared.Window.{Window}
 use Rattle.sums_slide.specs.Levels.{level, windowsOf, placeFrom}
 use Rattle.sums_slide.specs.Change.{Stop}
-use Rattle.sums_slide.proofs.Place as P
-use Rattle.sums_slide.proofs.Place.Laws as P′
+use Rattle.sums_slide.proofs.Window as P
+use Rattle.sums_slide.proofs.Window.Laws as P′
 use Rattle.build_parts.specs.Part.{written, PartRoom}
 use Rattle.build_parts.proofs.file_entry.Symbol as file-def
 use Rattle.build_parts.proofs.file_entry.Symbol.{name as #build-parts·file-entry}
@@ -110,7 +110,7 @@ refTy = tyRef erased mut (tyInt w32)
 
 -- the window, the names before and at it, the two columns
 abbrev State : Type 0
-State = Place × ℕ × ℕ × List ℕ × List ℕ
+State = Window × ℕ × ℕ × List ℕ × List ℕ
 
 module _ (ss : List ℤ) (w e : ℕ) (rows : List Row) (n : ℕ) (ls ks : List ℕ) (asked : Unnamed ss w e rows n ls ks) where
   pub record Facts (s : State) : Type 0 where
@@ -122,7 +122,7 @@ module _ (ss : List ℤ) (w e : ℕ) (rows : List Row) (n : ℕ) (ls ks : List �
   abbrev here : State → Row
   here s = getD rows (s .2 - 1) zeroRow
 
-  abbrev Stops : State → Place → Type 0
+  abbrev Stops : State → Window → Type 0
   Stops s next = Stop (level ss w e) (windowsOf ss w) (raisedEnd (10000 * w + e) (here s .low)) (raisedEnd (10000 * w + e) (here s .up)) (s .0 .offset) (next .offset) (next .level)
 
   abbrev measure : State → ℕ
@@ -131,14 +131,14 @@ module _ (ss : List ℤ) (w e : ℕ) (rows : List Row) (n : ℕ) (ls ks : List �
   place-fits : (s : State) → Facts s → s .2 - 1 < 2 ^ 64
   place-fits s f = omega (arith, f .name-fits)
 
-  first-nameable : (p : Place) → p ≡ placeFrom ss w e 0 → Nameable rows n w e p
+  first-nameable : (p : Window) → p ≡ placeFrom ss w e 0 → Nameable rows n w e p
   first-nameable p q = rw q (nameable ss w e rows n ls ks asked (placeFrom ss w e 0) (omega arith) refl)
 
   module _ (s : State) (f : Facts s) where
     ended : s .2 ≤ 0 → (i : ℕ) → i < n → NamedRow (rowIn rows n (windowSum ss w)) (windowsOf ss w) i (partAt (rowIn rows n (windowSum ss w)) (windowsOf ss w) i) (s .3) (s .4)
     ended none = underway-end ss w e rows n ls ks asked (s .0) (s .1) (s .2) (s .3) (s .4) (f .way) (omega arith)
 
-    module _ (some : s .2 ≡ 0 → ⊥) (next : Place) (stop : Stops s next) where
+    module _ (some : s .2 ≡ 0 → ⊥) (next : Window) (stop : Stops s next) where
       nearer : measure (next, s .2, 0, ls, ks) < measure s
       nearer = turn-nearer ss w e rows n ls ks asked (s .0) (s .1) (s .2) (s .3) (s .4) (f .way) some next stop
 
@@ -154,7 +154,7 @@ module _ (ss : List ℤ) (w e : ℕ) (rows : List Row) (n : ℕ) (ls ks : List �
         name-fits = ga;
       }
 
-  started : (p : Place) → p ≡ placeFrom ss w e 0 → IsPlace p → (name : ℕ) → name ≡ nameIn rows n (length ss) w e p → name < 2 ^ 64 → Facts (p, 0, name, ls, ks)
+  started : (p : Window) → p ≡ placeFrom ss w e 0 → IsPlace p → (name : ℕ) → name ≡ nameIn rows n (length ss) w e p → name < 2 ^ 64 → Facts (p, 0, name, ls, ks)
   started p is gp name q gv = record { way = rw q (underway-start ss w e rows n ls ks asked p is); good = gp; before-fits = lit< tt; name-fits = gv }
 
 module _ {M : Type 1} (𝓤 : URA M) (H : Heap 𝓤) (A : Atoms 𝓤) (W : Given 𝓤 H A) (mem : Memory → SProp 𝓤) (run : Routine → Fun 𝓤) (κs : Lfts 4) (qs : Shares 4) (xs : RefT (List ℤ)) (w e : ℕ) (xr : RefT (List Row)) (n : ℕ) (xl xk : RefT (List ℕ)) where
@@ -288,7 +288,7 @@ module _ {M : Type 1} (𝓤 : URA M) (H : Heap 𝓤) (A : Atoms 𝓤) (W : Given
       each : (s : State) → Known s → (X : SProp 𝓤) → ((s′ : State) → μ s′ < μ s → Known s′ → ent 𝓤 (⋆ 𝓤 H A (At s′)) X) → ent 𝓤 (⋆ 𝓤 H A (At s)) (Wp 𝓤 H (𝓣 .C) (𝓣 .Λ) En mir′.turn-1 (afterTurn 𝓤 H X After))
       each s f X k = by-bool (ltb 0 (s .2)) (goes-on s f X k) (leaves s f X)
 
-      loops : (p : Place) → p ≡ placeFrom (xs .now) w e 0 → IsPlace p → (name : ℕ) → name ≡ nameIn (xr .now) n (length (xs .now)) w e p → name < 2 ^ 64 → ent 𝓤 (⋆ 𝓤 H A (At (p, 0, name, xl .now, xk .now))) (Wp 𝓤 H (𝓣 .C) (𝓣 .Λ) En (loop mir′.turn-1) After)
+      loops : (p : Window) → p ≡ placeFrom (xs .now) w e 0 → IsPlace p → (name : ℕ) → name ≡ nameIn (xr .now) n (length (xs .now)) w e p → name < 2 ^ 64 → ent 𝓤 (⋆ 𝓤 H A (At (p, 0, name, xl .now, xk .now))) (Wp 𝓤 H (𝓣 .C) (𝓣 .Λ) En (loop mir′.turn-1) After)
       loops p is gp name q gv = loops-by 𝓤 H A W 𝓣 En mir′.turn-1 After μ Known At each (p, 0, name, xl .now, xk .now) (started (xs .now) w e (xr .now) n (xl .now) (xk .now) asked p is gp name q gv)
 
       -- where the body begins, with what is owned apart

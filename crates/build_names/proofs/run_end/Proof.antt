@@ -1,4 +1,4 @@
--- `build_names::run_end` meets its contract: the ends of the range are read back as they were passed. Assumes nothing.
+-- `build_names::run_end` meets its contract: the ends of the range are read back as they were passed.
 use borrow.Author.Needs.{needs}
 use mathlib.Core.Path.{_≡_, sym, subst}
 use Prim.Native.Nat.{_<_, _^_}

@@ -1,4 +1,4 @@
--- `build_plan::make_plan` meets its contract: refused, or the bias by the row width. Assumes nothing.
+-- `build_plan::make_plan` meets its contract: refused, or the bias by the row width.
 use borrow.Author.Needs.{needs}
 use mathlib.Core.Path.{_≡_, refl, ap, _∙_}
 use Prim.Native.Nat.{ℕ, min}

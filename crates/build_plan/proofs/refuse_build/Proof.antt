@@ -1,4 +1,4 @@
--- `build_plan::refuse_build` meets its contract: each test is a line of the table. Assumes nothing.
+-- `build_plan::refuse_build` meets its contract: each test is a line of the table.
 use borrow.Author.Needs.{needs}
 use Rattle.meaning_entries.specs.Refusal.{windowOutside, widthOutside, mergeOutside}
 use Rattle.refusals.proofs.RefusalLaws.{line-before, series-before}

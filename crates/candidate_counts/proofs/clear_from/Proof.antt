@@ -1,4 +1,4 @@
--- `candidate_counts::clear_from` meets its contract (`clear-more`). Assumes nothing.
+-- `candidate_counts::clear_from` meets its contract (`clear-more`).
 use mathlib.Core.Path.{_≡_, _∙_, ap}
 use Prim.Native.Nat.{ℕ, _-_, _<_, _≤_}
 use native.Mathlib.Omega.{arith}

@@ -1,4 +1,4 @@
--- `candidate_counts::collect` meets its contract: the runs written, cleared behind (`handed`). Assumes nothing.
+-- `candidate_counts::collect` meets its contract: the runs written, cleared behind (`handed`).
 use borrow.Author.Needs.{needs}
 use native.Mathlib.Omega.{arith}
 use Rattle.candidate_counts.proofs.Handed.{left-room, right-room, handed}

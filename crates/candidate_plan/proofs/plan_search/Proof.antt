@@ -1,4 +1,4 @@
--- `candidate_plan::plan_search` meets its contract: the input, then the state. Assumes nothing.
+-- `candidate_plan::plan_search` meets its contract: the input, then the state.
 use borrow.Author.Needs.{needs}
 use mathlib.Core.Path.{ap, _∙_}
 use mathlib.Core.List.{List}

@@ -1,4 +1,4 @@
--- `candidate_plan::refuse_state` meets its contract: what judging said, then the windows (`place-before`). Assumes nothing.
+-- `candidate_plan::refuse_state` meets its contract: what judging said, then the windows (`place-before`).
 use borrow.Author.Needs.{needs}
 use Rattle.refusals.specs.Refusal.{judgedLine}
 use Rattle.refusals.proofs.RefusalLaws.{place-before}

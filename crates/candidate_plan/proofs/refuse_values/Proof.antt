@@ -1,4 +1,4 @@
--- `candidate_plan::refuse_values` meets its contract: the series, then the query (`series-before`, `place-before`). Assumes nothing.
+-- `candidate_plan::refuse_values` meets its contract: the series, then the query (`series-before`, `place-before`).
 use borrow.Author.Needs.{needs}
 use Rattle.meaning_entries.specs.Refusal.{valueOutside}
 use Rattle.refusals.proofs.RefusalLaws.{place-before, series-before}

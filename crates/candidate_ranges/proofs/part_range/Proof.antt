@@ -1,4 +1,4 @@
--- `candidate_ranges::part_range` meets its contract: the sums of w values are small. Assumes nothing.
+-- `candidate_ranges::part_range` meets its contract: the sums of w values are small.
 use borrow.Author.Needs.{needs}
 use mathlib.Core.Path.{_≡_, _∙_, sym, subst}
 use mathlib.Core.List.{List}

@@ -1,5 +1,5 @@
 -- `candidate_spans::meet_parts` meets its contract: a walk of its MIR, by hand. Each turn of the loop calls `range_at`, to which the two columns are lent to be read, `met_span`, and `put_span`, for which they are lent again. All that the proof knows of the three is that they meet their contracts.
--- The invariant is `Meeting`, the measure how many parts are left; a turn is `meeting-next` of specs/Met.antt, over plain variables. Assumes nothing.
+-- The invariant is `Meeting`, the measure how many parts are left; a turn is `meeting-next` of specs/Met.antt, over plain variables.
 use mathlib.Core.Path.{_≡_, refl, sym, subst}
 use Prim.Native.Nat.{ℕ, _+_, _-_, _<_, _≤_, _^_}
 use native.Mathlib.Omega.{arith}

@@ -1,4 +1,4 @@
--- `candidate_spans::put_ranges` meets its contract. Assumes nothing.
+-- `candidate_spans::put_ranges` meets its contract.
 use borrow.Author.Needs.{needs}
 use Rattle.check_list.proofs.Turn.{front-long}
 use Rattle.candidate_spans.proofs.put_ranges.Statement.{statement}

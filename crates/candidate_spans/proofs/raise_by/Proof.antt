@@ -1,4 +1,4 @@
--- `candidate_spans::raise_by` meets its contract. Assumes nothing.
+-- `candidate_spans::raise_by` meets its contract.
 use lib.IntN.{ℤ, pos, _+ℤ_}
 use mir.Syntax.{w32}
 use mir.Val.{toZ, ofZ}

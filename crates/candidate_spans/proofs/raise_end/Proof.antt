@@ -1,4 +1,4 @@
--- `candidate_spans::raise_end` meets its contract (`clamp-in`). Assumes nothing.
+-- `candidate_spans::raise_end` meets its contract (`clamp-in`).
 use borrow.Author.Needs.{needs}
 use mathlib.Core.Path.{_≡_, sym, ap, _∙_, subst}
 use lib.IntN.{ℤ, pos, negsuc, natAbs, _+ℤ_}

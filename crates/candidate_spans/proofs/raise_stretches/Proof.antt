@@ -1,4 +1,4 @@
--- `candidate_spans::raise_stretches` meets its contract. The invariant is `CountedBy` over the parts passed (`by-next`); the measure is how many parts are left. Assumes nothing.
+-- `candidate_spans::raise_stretches` meets its contract. The invariant is `CountedBy` over the parts passed (`by-next`); the measure is how many parts are left.
 use mathlib.Core.Path.{_≡_, refl, _∙_}
 use Prim.Native.Nat.{_-_, _*_, _<_, _≤_}
 use native.Mathlib.Omega.{arith}

@@ -1,4 +1,4 @@
--- `candidate_spans::range_at` meets its contract. Assumes nothing.
+-- `candidate_spans::range_at` meets its contract.
 use borrow.Author.Needs.{needs}
 use mathlib.Core.Path.{_≡_, sym, _∙_, subst}
 use Prim.Native.Nat.{ℕ, _≤_}

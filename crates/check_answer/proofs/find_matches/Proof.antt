@@ -1,4 +1,4 @@
--- `check_answer::find_matches` meets its contract (`answers`). Assumes nothing.
+-- `check_answer::find_matches` meets its contract (`answers`).
 use borrow.Author.Needs.{needs}
 use Rattle.check_list.proofs.Turn.{front-long}
 use Rattle.check_answer.proofs.AnswerLaws.{answers}

@@ -1,4 +1,4 @@
--- `check_list::check_each` meets its contract. The invariant is `RunsSoFar`, and that the room keeps its length; the measure is how many runs are left. Assumes nothing.
+-- `check_list::check_each` meets its contract. The invariant is `RunsSoFar`, and that the room keeps its length; the measure is how many runs are left.
 use borrow.Author.Needs.{needs}
 use mathlib.Core.Path.{_≡_, refl, _∙_}
 use Prim.Native.Nat.{_-_, _<_}

@@ -1,4 +1,4 @@
--- `check_list::check_run` meets its contract. The invariant is `RunSoFar`, and that the room keeps its length; the measure is how many offsets are left. Assumes nothing.
+-- `check_list::check_run` meets its contract. The invariant is `RunSoFar`, and that the room keeps its length; the measure is how many offsets are left.
 use mathlib.Core.Path.{_≡_, refl, _∙_}
 use Prim.Native.Nat.{ℕ, _+_, _-_, _≤_}
 use native.Mathlib.Omega.{arith}

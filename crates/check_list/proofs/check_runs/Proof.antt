@@ -1,4 +1,4 @@
--- `check_list::check_runs` meets its contract: the list is filled (`list-filled`). Assumes nothing.
+-- `check_list::check_runs` meets its contract: the list is filled (`list-filled`).
 use borrow.Author.Needs.{needs}
 use native.Mathlib.Omega.{arith}
 use Rattle.check_list.proofs.Listed.{list-filled}

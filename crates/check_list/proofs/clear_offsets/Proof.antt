@@ -1,4 +1,4 @@
--- `check_list::clear_offsets` meets its contract. The invariant is `Clearing`; the measure is how many entries are left. Assumes nothing.
+-- `check_list::clear_offsets` meets its contract. The invariant is `Clearing`; the measure is how many entries are left.
 use Prim.Native.Nat.{_-_}
 use native.Mathlib.Omega.{arith}
 use lib.ListN.{length}

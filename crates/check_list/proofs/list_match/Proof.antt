@@ -1,4 +1,4 @@
--- `check_list::list_match` meets its contract, by what the test says. Assumes nothing.
+-- `check_list::list_match` meets its contract, by what the test says.
 use borrow.Author.Needs.{needs}
 use Rattle.check_list.proofs.Found.{no-entries, one-entry}
 use Rattle.check_list.proofs.Listed.{list-none}

@@ -1,4 +1,4 @@
--- `check_list::put_entry` meets its contract (`list-put`, `list-full`). Assumes nothing.
+-- `check_list::put_entry` meets its contract (`list-put`, `list-full`).
 use borrow.Author.Needs.{needs}
 use native.Mathlib.Omega.{arith}
 use Rattle.check_list.proofs.Listed.{list-put, list-full}

@@ -1,4 +1,4 @@
--- `demand::says_yes` meets its contract, case by case. Assumes nothing.
+-- `demand::says_yes` meets its contract, case by case.
 use borrow.Author.Needs.{needs}
 use mathlib.Core.Path.{sym, ap}
 use Rattle.meaning_entries.specs.Told.{yes}

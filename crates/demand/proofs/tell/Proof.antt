@@ -1,4 +1,4 @@
--- `demand::tell` meets its contract: its tests are those of the definition. Assumes nothing.
+-- `demand::tell` meets its contract: its tests are those of the definition.
 use borrow.Author.Needs.{needs}
 use borrow.Author.Tests.{not-true, not-false}
 use mathlib.Core.Path.{_≡_, refl, sym, _∙_}

@@ -1,4 +1,4 @@
--- `distance_bound::excess_at` meets its contract. Assumes nothing.
+-- `distance_bound::excess_at` meets its contract.
 use mathlib.Core.Path.{_∙_, ap}
 use native.Mathlib.Omega.{arith}
 use Rattle.meaning_numbers.specs.Sum.{square}

@@ -1,4 +1,4 @@
--- `distance_bound::outside_squared` meets its contract. Assumes nothing.
+-- `distance_bound::outside_squared` meets its contract.
 use borrow.Author.Needs.{needs}
 use mathlib.Core.Path.{_≡_, refl, _∙_}
 use Prim.Native.Nat.{_*_, _≤_}

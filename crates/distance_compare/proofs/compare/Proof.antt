@@ -1,4 +1,4 @@
--- `distance_compare::compare` meets its contract: the straight distance is the distance at band 0, and the warped one at any band. Assumes nothing.
+-- `distance_compare::compare` meets its contract: the straight distance is the distance at band 0, and the warped one at any band.
 use borrow.Author.Needs.{needs}
 use mathlib.Core.Path.{_∙_, ap, sym}
 use Prim.Native.Nat.{ℕ}

@@ -1,4 +1,4 @@
--- `distance_compare::compare_normal` meets its contract: what the envelope bound passes, the distance passes (`bound-le`); else what stands in the room are the normalised values, and the distance asks for no others (`distance-same`). Assumes nothing.
+-- `distance_compare::compare_normal` meets its contract: what the envelope bound passes, the distance passes (`bound-le`); else what stands in the room are the normalised values, and the distance asks for no others (`distance-same`).
 use borrow.Author.Needs.{needs}
 use mathlib.Core.Path.{_∙_, ap}
 use mathlib.Core.List.{List}

@@ -1,4 +1,4 @@
--- `distance_compare::near_enough` meets its contract. Assumes nothing.
+-- `distance_compare::near_enough` meets its contract.
 use Rattle.distance_compare.proofs.Answer.{yes-answer, no-answer}
 use Rattle.distance_compare.proofs.near_enough.Statement.{statement}
 use Rattle.distance_compare.proofs.near_enough.Tie as tie

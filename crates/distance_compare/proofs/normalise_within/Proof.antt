@@ -1,4 +1,4 @@
--- `distance_compare::normalise_within` meets its contract. The invariant: so many values are normalised, and so much of their bound is made. A block adds its part (`part-more`); left early, the total is a part of the bound. Assumes nothing.
+-- `distance_compare::normalise_within` meets its contract. The invariant: so many values are normalised, and so much of their bound is made. A block adds its part (`part-more`); left early, the total is a part of the bound.
 use mathlib.Core.Path.{_≡_, refl, sym, _∙_}
 use mathlib.Core.List.{List}
 use Prim.Native.Nat.{ℕ, _+_, _-_, _<_, _≤_}

@@ -1,4 +1,4 @@
--- `distance_envelope::pass_ahead` meets its contract. The invariant: the pass is made as far as place i (`AheadTo`). Assumes nothing.
+-- `distance_envelope::pass_ahead` meets its contract. The invariant: the pass is made as far as place i (`AheadTo`).
 use borrow.Author.Needs.{needs}
 use mathlib.Core.Path.{_≡_, refl, _∙_}
 use Prim.Native.Nat.{_+_, _-_, _≤_}

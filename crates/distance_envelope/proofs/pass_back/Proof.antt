@@ -1,4 +1,4 @@
--- `distance_envelope::pass_back` meets its contract. The invariant: the pass is made from the end as far as place i (`BackTo`). Assumes nothing.
+-- `distance_envelope::pass_back` meets its contract. The invariant: the pass is made from the end as far as place i (`BackTo`).
 use borrow.Author.Needs.{needs}
 use mathlib.Core.Path.{_≡_, refl, _∙_}
 use Prim.Native.Nat.{_-_, _≤_, min}

@@ -1,4 +1,4 @@
--- `distance_envelope::reach_ahead` meets its contract. The invariant: each value is the best of n places ahead and itself (`Ahead`). Assumes nothing.
+-- `distance_envelope::reach_ahead` meets its contract. The invariant: each value is the best of n places ahead and itself (`Ahead`).
 use borrow.Author.Needs.{needs}
 use mathlib.Core.Path.{_≡_}
 use Prim.Native.Nat.{_-_, _≤_}

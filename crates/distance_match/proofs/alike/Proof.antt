@@ -1,4 +1,4 @@
--- `distance_match::alike` meets its contract: one test for each fact of `Alike`. Assumes nothing.
+-- `distance_match::alike` meets its contract: one test for each fact of `Alike`.
 use borrow.Author.Needs.{needs}
 use mathlib.Core.Path.{sym}
 use Prim.Native.Nat.{ℕ, _*_, _≤_}

@@ -1,4 +1,4 @@
--- `distance_match::match_at` meets its contract, by the kind: of a raw query the distance decides (`raw-matched`). Assumes nothing.
+-- `distance_match::match_at` meets its contract, by the kind: of a raw query the distance decides (`raw-matched`).
 use borrow.Author.Needs.{needs}
 use mathlib.Core.Path.{_≡_, _∙_, ap}
 use Prim.Native.Nat.{ℕ}

@@ -1,4 +1,4 @@
--- `distance_match::match_normal` meets its contract: where a cheap test fails the stretch does not match (`unlike-matched`), else the distance decides (`alike-matched`). Assumes nothing.
+-- `distance_match::match_normal` meets its contract: where a cheap test fails the stretch does not match (`unlike-matched`), else the distance decides (`alike-matched`).
 use borrow.Author.Needs.{needs}
 use borrow.Author.Tests.{not-true, not-false}
 use mathlib.Core.Path.{_≡_, _∙_, ap}

@@ -1,4 +1,4 @@
--- `distance_normal::cut_of` meets its contract: the estimate or one more (`estimate`, `cut-flag`). Assumes nothing.
+-- `distance_normal::cut_of` meets its contract: the estimate or one more (`estimate`, `cut-flag`).
 use borrow.Author.Needs.{needs}
 use Prim.Native.Nat.{ℕ, _+_, _*_, _/_}
 use native.Mathlib.Omega.{arith}

@@ -1,4 +1,4 @@
--- `distance_normal::normal_of` meets its contract. Assumes nothing.
+-- `distance_normal::normal_of` meets its contract.
 use borrow.Author.Needs.{needs}
 use mathlib.Core.Path.{_≡_, _∙_}
 use mathlib.Core.Logic.{⊎-elim}

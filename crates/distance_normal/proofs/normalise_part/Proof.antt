@@ -1,4 +1,4 @@
--- `distance_normal::normalise_part` meets its contract. The invariant: the values so far are normalised, and those before stay. Assumes nothing.
+-- `distance_normal::normalise_part` meets its contract. The invariant: the values so far are normalised, and those before stay.
 use borrow.Author.Count.{below-more}
 use mathlib.Core.Path.{_≡_, refl, _∙_, sym}
 use Prim.Native.Nat.{ℕ, _+_, _*_, _-_, _≤_, _<_}

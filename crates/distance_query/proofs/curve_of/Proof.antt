@@ -1,4 +1,4 @@
--- `distance_query::curve_of` meets its contract, by the kind. Assumes nothing.
+-- `distance_query::curve_of` meets its contract, by the kind.
 use borrow.Author.Needs.{needs}
 use mathlib.Core.Path.{_≡_}
 use native.Mathlib.Omega.{arith}

@@ -1,4 +1,4 @@
--- `distance_query::prepare` meets its contract: what its callees made, over the query's length. Assumes nothing.
+-- `distance_query::prepare` meets its contract: what its callees made, over the query's length.
 use borrow.Author.Needs.{needs}
 use mathlib.Core.Path.{_∙_}
 use lib.ListN.{length}

@@ -1,4 +1,4 @@
--- `distance_straight::part` meets its contract. The invariant: the sum so far. Assumes nothing.
+-- `distance_straight::part` meets its contract. The invariant: the sum so far.
 use mathlib.Core.Path.{_≡_, _∙_}
 use Prim.Native.Nat.{ℕ, _+_, _*_, _-_, _≤_}
 use native.Mathlib.Omega.{arith}

@@ -1,4 +1,4 @@
--- `distance_straight::straight` meets its contract. The invariant: so much of the sum is made. A block adds its part; left early, the total is a part of the distance (`Made`). Assumes nothing.
+-- `distance_straight::straight` meets its contract. The invariant: so much of the sum is made. A block adds its part; left early, the total is a part of the distance (`Made`).
 use mathlib.Core.Path.{_≡_}
 use Prim.Native.Nat.{ℕ, _+_, _*_, _-_, _≤_}
 use native.Mathlib.Omega.{arith}

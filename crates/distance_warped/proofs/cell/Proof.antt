@@ -1,4 +1,4 @@
--- `distance_warped::cell` meets its contract. Assumes nothing.
+-- `distance_warped::cell` meets its contract.
 use borrow.Author.Needs.{needs}
 use native.Mathlib.Omega.{arith}
 use Rattle.meaning_curves.proofs.Values.{cost-le}

@@ -1,4 +1,4 @@
--- `distance_warped::first_row` meets its contract. The invariant: the row is made as far as cell j (`Halfway`). Assumes nothing.
+-- `distance_warped::first_row` meets its contract. The invariant: the row is made as far as cell j (`Halfway`).
 use mathlib.Core.Path.{_≡_, refl, _∙_, sym}
 use Prim.Native.Nat.{ℕ, _+_, _*_, _-_, _≤_, _<_}
 use native.Mathlib.Omega.{arith}

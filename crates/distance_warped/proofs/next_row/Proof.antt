@@ -1,4 +1,4 @@
--- `distance_warped::next_row` meets its contract. The invariant: the row is made as far as cell j (`Halfway`), with the two numbers before it and the least number so far. Assumes nothing.
+-- `distance_warped::next_row` meets its contract. The invariant: the row is made as far as cell j (`Halfway`), with the two numbers before it and the least number so far.
 use borrow.Author.Needs.{needs}
 use mathlib.Core.Path.{_≡_, refl, _∙_, sym}
 use Prim.Native.Nat.{ℕ, _+_, _-_, _≤_, _<_}

@@ -1,4 +1,4 @@
--- `distance_warped::table_within` meets its contract. The invariant: `row` is row i of the table, and `rest` the envelope bound of the rows after it. Left early, the least number of a row with the bound of the rows after it is at most the distance (`rest-least`). Assumes nothing.
+-- `distance_warped::table_within` meets its contract. The invariant: `row` is row i of the table, and `rest` the envelope bound of the rows after it. Left early, the least number of a row with the bound of the rows after it is at most the distance (`rest-least`).
 use mathlib.Core.Path.{_≡_, refl, _∙_}
 use Prim.Native.Nat.{ℕ, _+_, _*_, _-_, _^_, _≤_, _<_}
 use native.Mathlib.Omega.{arith}

@@ -1,4 +1,4 @@
--- `distance_warped::warped_in` meets its contract: what the envelope bound passes, the distance passes (`bound-le`). Assumes nothing.
+-- `distance_warped::warped_in` meets its contract: what the envelope bound passes, the distance passes (`bound-le`).
 use borrow.Author.Needs.{needs}
 use Prim.Native.Nat.{ℕ, _≤_}
 use native.Mathlib.Omega.{arith}

@@ -1,5 +1,5 @@
 -- `entry_audit::audit` meets its contract: a walk of its MIR, by hand. The index is judged, the plan is made, and each turn of the loop calls `chunk_at` for a chunk of records and `audit_chunk` on it, and leaves the loop where the audit does not go on. All that the proof knows of these is that they meet their contracts.
--- The invariant is `Auditing`. The measure is how many records are left. Assumes nothing.
+-- The invariant is `Auditing`. The measure is how many records are left.
 use mathlib.Core.Path.{_≡_, refl, sym, subst, _∙_, ap}
 use Prim.Native.Nat.{ℕ, _+_, _-_, _*_, _<_, _^_}
 use native.Mathlib.Omega.{arith}
@@ -67,13 +67,13 @@ use Rattle.rows_judge.proofs.JudgeCall.{JudgeAll, calls-judge}
 use Rattle.rows_judge.proofs.judge.Symbol as judge-def
 use Rattle.rows_judge.proofs.judge.Symbol.{name as #rows-judge·judge}
 use Rattle.rows_judge.proofs.judge.Met as judge-thm
-use Rattle.entry_audit.specs.declared.State.{State}
-use Rattle.entry_audit.specs.declared.Plan.{Plan}
+use Rattle.entry_audit.specs.declared.Auditing.{Auditing}
+use Rattle.entry_audit.specs.declared.AuditPlan.{AuditPlan}
 use Rattle.entry_audit.specs.Plan.{planOf, began, answerOf}
-use Rattle.entry_audit.proofs.State as S
-use Rattle.entry_audit.proofs.State.Laws as S′
-use Rattle.entry_audit.proofs.Plan as P
-use Rattle.entry_audit.proofs.Plan.Laws as P′
+use Rattle.entry_audit.proofs.Auditing as S
+use Rattle.entry_audit.proofs.Auditing.Laws as S′
+use Rattle.entry_audit.proofs.AuditPlan as P
+use Rattle.entry_audit.proofs.AuditPlan.Laws as P′
 use Rattle.entry_audit.proofs.Going.{thePlan, Auditing, afterChunk, auditing-starts, auditing-ready, auditing-next, auditing-stops, auditing-ends}
 use Rattle.entry_audit.proofs.Calls.{Zs, OwnZ, low-state, IsState, low-plan, IsPlan, low-audited, IsAudited, IsChunk, MakePlan, Begin, AuditChunk, Answer, calls-plan, calls-begin, calls-chunk, calls-answer}
 use Rattle.entry_audit.proofs.make_plan.Symbol as plan-def
@@ -127,7 +127,7 @@ module _ {M : Type 1} (𝓤 : URA M) (H : Heap 𝓤) (A : Atoms 𝓤) (W : Given
   abbrev audited : AuditCall
   audited = lentAudit (now z) h ys (now u) (now w)
 
-  abbrev planned : Plan
+  abbrev planned : AuditPlan
   planned = thePlan (now z) h ys (now u) (now w)
 
   abbrev Tk : Item 𝓤
@@ -164,10 +164,10 @@ module _ {M : Type 1} (𝓤 : URA M) (H : Heap 𝓤) (A : Atoms 𝓤) (W : Given
       nothing ! $ nothing ! $ fjoin ! $ nothing ! $ fjoin ! $ nothing ! $ fjoin ! $ nothing ! $ fjoin ! $ nothing ! $ fjoin ! $ frame ! $
       owned ! Au.the-row (Is Au.the-row) (EL.makes Au.the-type Au′.the-plain 𝓤 H A) a _ g $ done !
 
-  plan-typed : (y : Plan) → IsPlan y → Tr (hasTy P′.mir (low-plan y)) × WT (low-plan y)
+  plan-typed : (y : AuditPlan) → IsPlan y → Tr (hasTy P′.mir (low-plan y)) × WT (low-plan y)
   plan-typed y g = LL.lawful P.the-type P′.the-laws 𝓤 H A W .typed y _ g .0
 
-  state-typed : (s : State) → IsState s → Tr (hasTy S′.mir (low-state s)) × WT (low-state s)
+  state-typed : (s : Auditing) → IsState s → Tr (hasTy S′.mir (low-state s)) × WT (low-state s)
   state-typed s g = LL.lawful S.the-type S′.the-laws 𝓤 H A W .typed s _ g .0
 
   audited-typed : (a : Audited) → IsAudited a → Tr (hasTy Au′.mir (low-audited a)) × WT (low-audited a)
@@ -183,9 +183,9 @@ module _ {M : Type 1} (𝓤 : URA M) (H : Heap 𝓤) (A : Atoms 𝓤) (W : Given
       abbrev En : Env 𝓤 H
       En = (Au′.mir, l₀) ∷ (slice-series, l₁) ∷ (Hd′.mir, l₂) ∷ (slice, l₃) ∷ (slice-left, l₄) ∷ (slice-right, l₅) ∷ (J′.mir, l₆) ∷ (P′.mir, l₇) ∷ (S′.mir, l₈) ∷ (word, l₉) ∷ (rows64, l₁₀) ∷ (word, l₁₁) ∷ (tyBool, l₁₂) ∷ []
 
-      module _ (j : Judged) (y : Plan) (gy : IsPlan y) (is : y ≡ planned) where
+      module _ (j : Judged) (y : AuditPlan) (gy : IsPlan y) (is : y ≡ planned) where
         -- where a turn begins, with a state and at record k: the tokens and what the slices own, and the locals, the last first
-        abbrev At : State × ℕ → List (Item 𝓤)
+        abbrev At : Auditing × ℕ → List (Item 𝓤)
         At σ = ‵ (flft κ q) ∷ ‵ (Own κ x) ∷ ‵ (flft κ₀ q₀) ∷ ‵ (OwnZ κ₀ z) ∷ Tk ∷ Ow
             ∷ ‵ (froom tyBool l₁₂ 0) ∷ ‵ (fdies tyBool l₁₂) ∷ ‵ (froom word l₁₁ 0) ∷ ‵ (fdies word l₁₁) ∷ ‵ (froom rows64 l₁₀ 0) ∷ ‵ (fdies rows64 l₁₀)
             ∷ ‵ (fat fullShare word l₉ 0 (vint w64 (σ .1))) ∷ ‵ (fdies word l₉) ∷ ‵ (fat fullShare S′.mir l₈ 0 (low-state (σ .0))) ∷ ‵ (fdies S′.mir l₈) ∷ ‵ (fat fullShare P′.mir l₇ 0 (low-plan y)) ∷ ‵ (fdies P′.mir l₇)
@@ -193,25 +193,25 @@ module _ {M : Type 1} (𝓤 : URA M) (H : Heap 𝓤) (A : Atoms 𝓤) (W : Given
             ∷ ‵ (fat fullShare slice-left l₄ 0 (sliceVal (ptr u) (length (now u)))) ∷ ‵ (fdies slice-left l₄) ∷ ‵ (fat fullShare slice l₃ 0 (sliceVal (ptr x) (length ys))) ∷ ‵ (fdies slice l₃) ∷ ‵ (fat fullShare Hd′.mir l₂ 0 (low-head h)) ∷ ‵ (fdies Hd′.mir l₂)
             ∷ ‵ (fat fullShare slice-series l₁ 0 (sliceVal (ptr z) (length (now z)))) ∷ ‵ (fdies slice-series l₁) ∷ ‵ (froom Au′.mir l₀ 0) ∷ ‵ (fdies Au′.mir l₀) ∷ []
 
-        abbrev Facts : State × ℕ → Type 0
+        abbrev Facts : Auditing × ℕ → Type 0
         Facts σ = (σ .1 < 2 ^ 64) × (IsState (σ .0) × Auditing (now z) h ys (now u) (now w) (σ .0) (σ .1))
 
-        abbrev μ : State × ℕ → ℕ
+        abbrev μ : Auditing × ℕ → ℕ
         μ σ = length ys + 64 - σ .1
 
         -- the state after the chunk
-        abbrev after : State × ℕ → State
+        abbrev after : Auditing × ℕ → Auditing
         after σ = afterChunk (now z) h ys (now u) (now w) (σ .0) (σ .1)
 
         -- when the loop is left, the rest of the body runs
         abbrev Left : Out → SProp 𝓤
         Left = afterBlock 𝓤 H (afterSeq 𝓤 H (Wp 𝓤 H (𝓣 .C) (𝓣 .Λ) En mir.t-6 (atReturn 𝓤 H En Post)) (atReturn 𝓤 H En Post))
 
-        answered : (s : State) → answerOf planned s ≡ auditAnswer audited → answerOf y s ≡ auditAnswer audited
-        answered s e = ap (λ (p : Plan). answerOf p s) is ∙ e
+        answered : (s : Auditing) → answerOf planned s ≡ auditAnswer audited → answerOf y s ≡ auditAnswer audited
+        answered s e = ap (λ (p : AuditPlan). answerOf p s) is ∙ e
 
         -- a turn: the audit goes on, and the next turn follows; or it does not, and the loop is left; or no record is left, and the loop is left too
-        each : (σ : State × ℕ) → Facts σ → (X : SProp 𝓤) → ((σ′ : State × ℕ) → μ σ′ < μ σ → Facts σ′ → ent 𝓤 (⋆ 𝓤 H A (At σ′)) X) → ent 𝓤 (⋆ 𝓤 H A (At σ)) (Wp 𝓤 H (𝓣 .C) (𝓣 .Λ) En mir.turn-1 (afterTurn 𝓤 H X Left))
+        each : (σ : Auditing × ℕ) → Facts σ → (X : SProp 𝓤) → ((σ′ : Auditing × ℕ) → μ σ′ < μ σ → Facts σ′ → ent 𝓤 (⋆ 𝓤 H A (At σ′)) X) → ent 𝓤 (⋆ 𝓤 H A (At σ)) (Wp 𝓤 H (𝓣 .C) (𝓣 .Λ) En mir.turn-1 (afterTurn 𝓤 H X Left))
         unfolding afterTurn
         each σ facts X k =
             qed W (At σ) ∵ exec ! (𝓣 .C) (𝓣 .Λ) En mir.turn-1 (anyQ (afterTurn 𝓤 H X Left)) $
@@ -255,7 +255,7 @@ module _ {M : Type 1} (𝓤 : URA M) (H : Heap 𝓤) (A : Atoms 𝓤) (W : Given
             keep ! (2 ∷ 0 ∷ 4 ∷ []) $
             by ! (exits (answerOf y (σ .0)) ga (answered (σ .0) (auditing-ends (now z) h ys (now u) (now w) (σ .0) (σ .1) (ltb-false (σ .1) (length ys) test) (facts .1 .1))))))
 
-        loops : (s : State) → IsState s → Auditing (now z) h ys (now u) (now w) s 0 → ent 𝓤 (⋆ 𝓤 H A (At (s, 0))) (Wp 𝓤 H (𝓣 .C) (𝓣 .Λ) En (loop mir.turn-1) Left)
+        loops : (s : Auditing) → IsState s → Auditing (now z) h ys (now u) (now w) s 0 → ent 𝓤 (⋆ 𝓤 H A (At (s, 0))) (Wp 𝓤 H (𝓣 .C) (𝓣 .Λ) En (loop mir.turn-1) Left)
         loops s gs a = loops-by 𝓤 H A W 𝓣 En mir.turn-1 Left μ Facts At each (s, 0) (lit< tt, (gs, a))
 
       -- where the body begins, with the parameters passed
@@ -286,8 +286,8 @@ module _ {M : Type 1} (𝓤 : URA M) (H : Heap 𝓤) (A : Atoms 𝓤) (W : Given
           move ! (2 ∷ 3 ∷ 0 ∷ 1 ∷ 4 ∷ 5 ∷ []) $
           by ! (loops j y gy (ey ∙ ap (planOf (now z) h) ej) s gs (starts j y s (ey ∙ ap (planOf (now z) h) ej) es)))))
         where
-          starts : (j : Judged) (y : Plan) (s : State) → y ≡ planned → s ≡ began y → Auditing (now z) h ys (now u) (now w) s 0
-          starts j y s is es = subst (λ (t : State). Auditing (now z) h ys (now u) (now w) t 0) (sym (es ∙ ap began is)) (auditing-starts (now z) h ys (now u) (now w))
+          starts : (j : Judged) (y : AuditPlan) (s : Auditing) → y ≡ planned → s ≡ began y → Auditing (now z) h ys (now u) (now w) s 0
+          starts j y s is es = subst (λ (t : Auditing). Auditing (now z) h ys (now u) (now w) t 0) (sym (es ∙ ap began is)) (auditing-starts (now z) h ys (now u) (now w))
 
       -- the locals are allocated
       abbrev At-entry : List (Item 𝓤)

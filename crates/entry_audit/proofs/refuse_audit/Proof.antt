@@ -1,4 +1,4 @@
--- `entry_audit::refuse_audit` meets its contract: each test is a line of the table. Assumes nothing.
+-- `entry_audit::refuse_audit` meets its contract: each test is a line of the table.
 use borrow.Author.Needs.{needs}
 use Rattle.meaning_entries.specs.Refusal.{fewerWindows, moreWindows}
 use Rattle.refusals.specs.Refusal.{judgedLine}

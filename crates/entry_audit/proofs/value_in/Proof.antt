@@ -1,4 +1,4 @@
--- `entry_audit::value_in` meets its contract (`window-last`); nothing wraps, as no window's sum is large (`in-fits`). Assumes nothing.
+-- `entry_audit::value_in` meets its contract (`window-last`); nothing wraps, as no window's sum is large (`in-fits`).
 use borrow.Author.Needs.{needs}
 use mathlib.Core.Path.{_≡_, _∙_}
 use Prim.Native.Nat.{_+_}

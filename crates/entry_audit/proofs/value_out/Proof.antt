@@ -1,4 +1,4 @@
--- `entry_audit::value_out` meets its contract (`but-first`); nothing wraps, as no window's sum is large (`out-fits`). Assumes nothing.
+-- `entry_audit::value_out` meets its contract (`but-first`); nothing wraps, as no window's sum is large (`out-fits`).
 use borrow.Author.Needs.{needs}
 use mathlib.Core.Path.{_≡_, _∙_}
 use Prim.Native.Nat.{_+_}

@@ -1,4 +1,4 @@
--- `entry_read::clear` meets its contract. The invariant: the entries up to i are 0. The measure is what is left of the buffer. Assumes nothing.
+-- `entry_read::clear` meets its contract. The invariant: the entries up to i are 0. The measure is what is left of the buffer.
 use mathlib.Core.Path.{_≡_, refl, _∙_}
 use Prim.Native.Nat.{_-_}
 use native.Mathlib.Omega.{arith}

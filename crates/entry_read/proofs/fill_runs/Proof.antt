@@ -1,4 +1,4 @@
--- `entry_read::fill_runs` meets its contract. The invariant: the columns after i bytes are a view of what has been said (`Filling`). The measure is what is left of the text. Assumes nothing.
+-- `entry_read::fill_runs` meets its contract. The invariant: the columns after i bytes are a view of what has been said (`Filling`). The measure is what is left of the text.
 use mathlib.Core.Path.{_≡_}
 use Prim.Native.Nat.{_-_}
 use native.Mathlib.Omega.{arith}

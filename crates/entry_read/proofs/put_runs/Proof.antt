@@ -1,4 +1,4 @@
--- `entry_read::put_runs` meets its contract. The invariant: the columns are what the runs so far make of those at the beginning (`RunsFrom`). The measure is what is left of the text. Assumes nothing.
+-- `entry_read::put_runs` meets its contract. The invariant: the columns are what the runs so far make of those at the beginning (`RunsFrom`). The measure is what is left of the text.
 use mathlib.Core.Path.{_≡_, refl, ap, _∙_}
 use Prim.Native.Nat.{_-_, _≤_}
 use native.Mathlib.Omega.{arith}

@@ -1,4 +1,4 @@
--- `entry_read::refuse_rows` meets its contract: each test is a line of the table. Assumes nothing.
+-- `entry_read::refuse_rows` meets its contract: each test is a line of the table.
 use borrow.Author.Needs.{needs}
 use mathlib.Core.Path.{refl}
 use lib.Dec.{ltb}

@@ -1,4 +1,4 @@
--- `entry_search::hand_out` meets its contract: the counts are raised, and the candidates collected. Assumes nothing.
+-- `entry_search::hand_out` meets its contract: the counts are raised, and the candidates collected.
 use borrow.Author.Needs.{needs}
 use native.Mathlib.Omega.{arith}
 use mathlib.Core.Path.{_≡_, ap, _∙_}

@@ -1,4 +1,4 @@
--- `entry_write::clear_from` meets its contract. The invariant: zeros stand from the place up to i (`Clearing`). Assumes nothing.
+-- `entry_write::clear_from` meets its contract. The invariant: zeros stand from the place up to i (`Clearing`).
 use Prim.Native.Nat.{_-_}
 use native.Mathlib.Omega.{arith}
 use lib.ListN.{length, length-set}

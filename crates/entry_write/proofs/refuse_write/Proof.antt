@@ -1,4 +1,4 @@
--- `entry_write::refuse_write` meets its contract: each test is a line of the table. Assumes nothing.
+-- `entry_write::refuse_write` meets its contract: each test is a line of the table.
 use borrow.Author.Needs.{needs}
 use mathlib.Core.Path.{refl}
 use lib.Dec.{ltb}

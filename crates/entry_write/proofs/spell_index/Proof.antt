@@ -1,6 +1,5 @@
 -- `entry_write::spell_index` meets its contract: a walk of its MIR, by hand. The head is spelled, each turn of the loop calls `row_at` for a record and `spell_row` on it, then the end is spelled; the text is lent again for each. All that the proof knows of the four is that they meet their contracts.
 -- The invariant is `Spelling`, the measure how many records are left.
--- Assumes nothing.
 use mathlib.Core.Path.{_≡_, refl, _∙_}
 use Prim.Native.Nat.{ℕ, _+_, _-_, _<_, _^_}
 use native.Mathlib.Omega.{arith}

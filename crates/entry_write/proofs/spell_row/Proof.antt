@@ -1,4 +1,4 @@
--- `entry_write::spell_row` meets its contract. By the flag: written, or counted. Assumes nothing.
+-- `entry_write::spell_row` meets its contract. By the flag: written, or counted.
 use Rattle.entry_write.proofs.Spell.{spelled-stored, spelled-only}
 use borrow.Author.Needs.{needs}
 use Rattle.entry_write.proofs.spell_row.Statement.{statement}

@@ -1,4 +1,4 @@
--- `extend_count::count_new` meets its contract. The invariant: the runs of the windows passed are counted, and the next window begins a run (`counted-turn`, `fresh-next`). Assumes nothing.
+-- `extend_count::count_new` meets its contract. The invariant: the runs of the windows passed are counted, and the next window begins a run (`counted-turn`, `fresh-next`).
 use mathlib.Core.Path.{_≡_, sym, ap, _∙_, subst}
 use Prim.Native.Nat.{ℕ, _-_, _≤_, _<_}
 use native.Mathlib.Omega.{arith}

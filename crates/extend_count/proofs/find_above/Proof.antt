@@ -1,4 +1,4 @@
--- `extend_count::find_above` meets its contract. The invariant: the ends before lo are at most the number, and those from hi on are above it. Assumes nothing.
+-- `extend_count::find_above` meets its contract. The invariant: the ends before lo are at most the number, and those from hi on are above it.
 use mathlib.Core.Path.{sym}
 use Prim.Native.Nat.{ℕ, _+_, _-_, _/_, _≤_, _<_}
 use native.Mathlib.Omega.{arith}

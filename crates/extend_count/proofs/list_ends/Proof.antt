@@ -1,6 +1,5 @@
 -- `extend_count::list_ends` meets its contract: a walk of its MIR, by hand. A turn reads a record, and stores its raised upper end and its number of runs.
 -- The borrows of the two slices are opened once, before the loop, and closed once, after it. The lists after i turns are functions of i.
--- Assumes nothing.
 use mathlib.Core.Path.{_≡_, refl, sym, ap}
 use mathlib.Core.Bool.{Bool, false}
 use Prim.Native.Nat.{ℕ, _<_, _≤_, _^_, _+_, _-_, _*_}

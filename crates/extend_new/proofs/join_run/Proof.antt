@@ -1,4 +1,4 @@
--- `extend_new::join_run` meets its contract: the window's sum is in the range, so the run ends after it. Assumes nothing.
+-- `extend_new::join_run` meets its contract: the window's sum is in the range, so the run ends after it.
 use borrow.Author.Needs.{needs}
 use borrow.Author.Tests.{not-true, not-false}
 use mathlib.Core.Path.{_≡_, refl}

@@ -1,4 +1,4 @@
--- `extend_new::list_new` meets its contract: the new windows are those of the rest of the series, which is lent as a part. Assumes nothing.
+-- `extend_new::list_new` meets its contract: the new windows are those of the rest of the series, which is lent as a part.
 use borrow.Author.Needs.{needs}
 use borrow.Author.Tests.{lt-ltb, le-ltb}
 use Rattle.sums_slide.specs.Levels.{windowsOf}

@@ -1,6 +1,5 @@
 -- `extend_parts::copy_column` meets its contract: a walk of its MIR, by hand. A turn reads a row and the next old row, and lends the column again to `copy_part`, which writes the row's part. All that the proof knows of the callees is that they meet their contracts.
 -- The column after i turns is a function of i, and so is the number of old rows passed.
--- Assumes nothing.
 use mathlib.Core.Path.{_≡_, refl, sym, ap, subst}
 use mathlib.Core.Bool.{Bool, false}
 use Prim.Native.Nat.{ℕ, _<_, _≤_, _^_, _+_, _-_, _*_}

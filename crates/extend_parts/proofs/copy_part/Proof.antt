@@ -1,4 +1,4 @@
--- `extend_parts::copy_part` meets its contract: the row's part of the column is lent to its writer. Assumes nothing.
+-- `extend_parts::copy_part` meets its contract: the row's part of the column is lent to its writer.
 use borrow.Author.Needs.{needs}
 use Rattle.extend_parts.specs.Copy.{partSize, partCopied}
 use Rattle.extend_parts.proofs.Copy.{part-back}

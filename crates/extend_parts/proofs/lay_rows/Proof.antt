@@ -1,6 +1,5 @@
 -- `extend_parts::lay_rows` meets its contract: a walk of its MIR, by hand. A turn reads a record, and stores it with its part.
 -- The borrow of the records is opened once, before the loop, and closed once, after it. The records after i turns are a function of i.
--- Assumes nothing.
 use mathlib.Core.Path.{_≡_, refl, sym, ap}
 use mathlib.Core.Bool.{Bool, false}
 use Prim.Native.Nat.{ℕ, _<_, _≤_, _^_, _+_, _-_}

@@ -1,4 +1,4 @@
--- `extend_parts::write_part` meets its contract. The invariant: the first numbers are copied (`paste-suc`). Assumes nothing.
+-- `extend_parts::write_part` meets its contract. The invariant: the first numbers are copied (`paste-suc`).
 use mathlib.Core.Path.{_≡_, ap, _∙_}
 use Prim.Native.Nat.{ℕ, _-_, _≤_}
 use native.Mathlib.Omega.{arith}

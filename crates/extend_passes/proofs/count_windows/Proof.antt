@@ -1,4 +1,4 @@
--- `extend_passes::count_windows` meets its contract. Assumes nothing.
+-- `extend_passes::count_windows` meets its contract.
 use borrow.Author.Needs.{needs}
 use mathlib.Core.Path.{refl, ap, _∙_}
 use native.Mathlib.Omega.{arith}

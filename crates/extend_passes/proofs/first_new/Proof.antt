@@ -1,4 +1,4 @@
--- `extend_passes::first_new` meets its contract. Assumes nothing.
+-- `extend_passes::first_new` meets its contract.
 use borrow.Author.Needs.{needs}
 use borrow.Author.Tests.{lt-ltb, le-ltb}
 use Rattle.sums_slide.specs.Levels.{windowsOf}

@@ -1,4 +1,4 @@
--- `extend_passes::join_first` meets its contract. Assumes nothing.
+-- `extend_passes::join_first` meets its contract.
 use borrow.Author.Needs.{needs}
 use mathlib.Core.Path.{_≡_, ap, _∙_}
 use Prim.Native.Nat.{ℕ, _+_, _*_}

@@ -1,4 +1,4 @@
--- `extend_passes::list_by` meets its contract. Assumes nothing.
+-- `extend_passes::list_by` meets its contract.
 use borrow.Author.Needs.{needs}
 use mathlib.Core.Path.{_≡_}
 use native.Mathlib.Omega.{arith}

@@ -1,4 +1,4 @@
--- `extend_passes::place_at` meets its contract: past the last window the sum slides on from it. Assumes nothing.
+-- `extend_passes::place_at` meets its contract: past the last window the sum slides on from it.
 use borrow.Author.Needs.{needs}
 use mathlib.Core.Path.{_≡_, refl, ap, _∙_}
 use Prim.Native.Nat.{_+_, _-_}

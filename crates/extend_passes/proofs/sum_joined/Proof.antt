@@ -1,4 +1,4 @@
--- `extend_passes::sum_joined` meets its contract. Assumes nothing.
+-- `extend_passes::sum_joined` meets its contract.
 use borrow.Author.Needs.{needs}
 use mathlib.Core.Path.{_≡_, sym, ap, _∙_, subst}
 use mathlib.Core.Bool.{Bool}

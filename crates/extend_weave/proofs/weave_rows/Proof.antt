@@ -1,6 +1,5 @@
 -- `extend_weave::weave_rows` meets its contract: a walk of its MIR, by hand. A turn reads the next old row and the next number's range, stores the record that is chosen, and moves on; the branches are in the covered functions.
 -- The borrow of the records is opened once, before the loop, and closed once, after it. The invariant is `Weaving` and the measure how many old rows and numbers are left; a turn is `weaving-turn` of specs/Weave.antt, over plain variables.
--- Assumes nothing.
 use mathlib.Core.Path.{_≡_, refl}
 use mathlib.Core.Bool.{Bool}
 use Prim.Native.Nat.{ℕ, _<_, _≤_, _^_, _+_, _-_, _*_}

@@ -1,4 +1,4 @@
--- `find::main` meets its contract: it is safe, and each function that it calls is given what it asks (`starts`, `ends`). Assumes nothing.
+-- `find::main` meets its contract: it is safe, and each function that it calls is given what it asks (`starts`, `ends`).
 use native.Mathlib.Omega.{arith}
 use lib.IntN.{ℤ, pos}
 use lib.ListN.{length-replicate}

@@ -1,4 +1,4 @@
--- `find::read_all` meets its contract. The invariant: some text has been read, and as many bytes more can be as the turns that are left bring. The measure is the turns that are left. Assumes nothing.
+-- `find::read_all` meets its contract. The invariant: some text has been read, and as many bytes more can be as the turns that are left bring. The measure is the turns that are left.
 use Prim.Native.Nat.{_*_, _-_}
 use Rattle.find.specs.Reading.{ReadTo}
 use Rattle.find.proofs.Reading.{inputOf, open-less, step-goes, read-less}

@@ -1,4 +1,4 @@
--- `find::read_on` meets its contract: a step by the piece that the read brought. Assumes nothing.
+-- `find::read_on` meets its contract: a step by the piece that the read brought.
 use borrow.Author.Needs.{needs}
 use native.Mathlib.Omega.{arith}
 use Rattle.find.proofs.Reading.{stepped}

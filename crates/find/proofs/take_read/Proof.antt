@@ -1,4 +1,4 @@
--- `find::take_read` meets its contract: the piece has a byte, or none. Assumes nothing.
+-- `find::take_read` meets its contract: the piece has a byte, or none.
 use borrow.Author.Needs.{needs}
 use native.Mathlib.Omega.{arith}
 use lib.ListN.{length-take}

@@ -1,4 +1,4 @@
--- `numbers::floor_quotient` meets its contract: of a negative z the number -1 - z is not negative, and its quotient is -1 less the floor of z's. Assumes nothing.
+-- `numbers::floor_quotient` meets its contract: of a negative z the number -1 - z is not negative, and its quotient is -1 less the floor of z's.
 use borrow.Author.Needs.{needs}
 use mathlib.Core.Path.{_≡_}
 use Prim.Native.Nat.{_/_, _<_, _^_}

@@ -1,4 +1,4 @@
--- `numbers::row_number` meets its contract: of a negative sum z the number -1 - z is not negative, and its quotient is -1 less the row's number. Assumes nothing.
+-- `numbers::row_number` meets its contract: of a negative sum z the number -1 - z is not negative, and its quotient is -1 less the row's number.
 use borrow.Author.Needs.{needs}
 use mathlib.Core.Path.{_≡_, sym}
 use Prim.Native.Nat.{_<_}

@@ -1,4 +1,4 @@
--- `payout_walk::walk_rows` meets its contract. The invariant: what is left of the text comes to what the text comes to (`Kept`), and no more rows are closed than bytes were read. The measure is what is left of the text. Assumes nothing.
+-- `payout_walk::walk_rows` meets its contract. The invariant: what is left of the text comes to what the text comes to (`Kept`), and no more rows are closed than bytes were read. The measure is what is left of the text.
 use mathlib.Core.Path.{_≡_, sym, _∙_}
 use mathlib.Core.List.{List}
 use Prim.Native.Nat.{_+_, _-_, _≤_}

@@ -1,5 +1,4 @@
 -- `program_answer::build_table` meets its contract: a walk of its MIR, by hand. The table is lent as a `&mut [Row]` to `build`, taken back, and handed out with what `build` answered.
--- Assumes nothing.
 use mathlib.Core.Path.{_≡_, refl, sym, _∙_, subst}
 use Prim.Native.Nat.{ℕ, _<_, _^_}
 use mathlib.Core.List.{List, [], _∷_}

@@ -1,4 +1,4 @@
--- `program_answer::list_matches` meets its contract: the list of a search that is not refused (`list-put`). Assumes nothing.
+-- `program_answer::list_matches` meets its contract: the list of a search that is not refused (`list-put`).
 use borrow.Author.Needs.{needs}
 use Prim.Native.Nat.{ℕ}
 use Rattle.program_answer.proofs.Print.{list-put}

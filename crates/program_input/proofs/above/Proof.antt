@@ -1,4 +1,4 @@
--- `program_input::above` meets its contract. Assumes nothing.
+-- `program_input::above` meets its contract.
 use borrow.Author.Needs.{needs}
 use Rattle.program_input.proofs.Text.{cast-is}
 use mir.Syntax.{w64}

@@ -1,4 +1,4 @@
--- `program_input::band_outside` meets its contract. Assumes nothing.
+-- `program_input::band_outside` meets its contract.
 use borrow.Author.Needs.{needs}
 use Rattle.program_input.proofs.Text.{cast-is}
 use Rattle.meaning_numbers.proofs.Machine.{zmach}

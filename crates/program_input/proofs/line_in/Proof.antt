@@ -1,4 +1,4 @@
--- `program_input::line_in` meets its contract. Assumes nothing.
+-- `program_input::line_in` meets its contract.
 use borrow.Author.Needs.{needs}
 use Rattle.program_input.proofs.InputLaws.{line-most}
 use native.Mathlib.Omega.{arith}

@@ -1,4 +1,4 @@
--- `program_input::outside` meets its contract, by the two tests. Assumes nothing.
+-- `program_input::outside` meets its contract, by the two tests.
 use Rattle.program_input.proofs.Text.{not-le}
 use Rattle.meaning_numbers.proofs.Machine.{zmach}
 use Rattle.meaning_numbers.specs.Order.{within}

@@ -1,4 +1,4 @@
--- `program_input::refuse_values` meets its contract: each test is a line of the table. Assumes nothing.
+-- `program_input::refuse_values` meets its contract: each test is a line of the table.
 use borrow.Author.Needs.{needs}
 use mathlib.Core.Path.{ap}
 use mathlib.Core.Bool.{not}

@@ -1,4 +1,4 @@
--- `program_print::print_answer` meets its contract: the build, its text and the list behind it (`prints`). Assumes nothing.
+-- `program_print::print_answer` meets its contract: the build, its text and the list behind it (`prints`).
 use borrow.Author.Needs.{needs}
 use Prim.Native.Nat.{ℕ}
 use Rattle.meaning_entries.specs.Buffers.{zeroRow}

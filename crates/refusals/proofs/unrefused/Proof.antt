@@ -1,4 +1,4 @@
--- `refusals::unrefused` meets its contract (`none-is`). Assumes nothing.
+-- `refusals::unrefused` meets its contract (`none-is`).
 use mathlib.Core.Path.{sym}
 use Rattle.refusals.proofs.RefusalLaws.{none-is}
 use Rattle.refusals.proofs.unrefused.Statement.{statement}

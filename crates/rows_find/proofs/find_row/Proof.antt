@@ -1,6 +1,5 @@
 -- `rows_find::find_row` meets its contract: a walk of its MIR, by hand. Each turn of the loop calls `middle`, `row_at` for a record, and `next_lo` and `next_hi` on it, which have the branches. All that the proof knows of the four is that they meet their contracts.
 -- The invariant is `Between`, the measure how far apart the two ends are; a turn is `turn` and `falls` of proofs/Search.antt, over plain variables.
--- Assumes nothing.
 use mathlib.Core.Path.{refl}
 use Prim.Native.Nat.{ℕ, _*_, _-_, _<_, _≤_, _^_}
 use native.Mathlib.Omega.{arith}

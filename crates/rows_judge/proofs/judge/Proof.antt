@@ -1,6 +1,6 @@
 -- `rows_judge::judge` meets its contract: a walk of its MIR, by hand. Each turn of the loop calls `row_at` for a record and `judge_row` on it, and leaves the loop where the state is no longer good. All that the proof knows of the two is that they meet their contracts.
 -- The invariant: judging the records that are left, from the state so far, gives the outcome. The measure is how many records are left.
--- Assumes nothing.
+--
 use mathlib.Core.Path.{_≡_, refl, _∙_, ap}
 use Prim.Native.Nat.{ℕ, zero, suc, zero-le, _+_, _-_, _<_, _≤_, _^_}
 use native.Mathlib.Nat.{add-zero, add-suc}
@@ -55,12 +55,12 @@ use Rattle.rows_records.proofs.Rows.{Rs, Own, Good, low, RowAt, calls-row-at}
 use Rattle.rows_records.proofs.row_at.Symbol as row-def
 use Rattle.rows_records.proofs.row_at.Symbol.{name as #rows-records·row-at}
 use Rattle.rows_records.proofs.row_at.Met as row-thm
-use Rattle.rows_judge.specs.declared.State.{State}
+use Rattle.rows_judge.specs.declared.RowsJudged.{RowsJudged}
 use Rattle.rows_judge.specs.declared.Judged.{Judged}
 use Rattle.rows_judge.specs.Judged.{judgedOf}
-use Rattle.rows_judge.specs.State.{start, verdictOf}
-use Rattle.rows_judge.proofs.State as S
-use Rattle.rows_judge.proofs.State.Laws as S′
+use Rattle.rows_judge.specs.Judging.{start, verdictOf}
+use Rattle.rows_judge.proofs.RowsJudged as S
+use Rattle.rows_judge.proofs.RowsJudged.Laws as S′
 use Rattle.rows_judge.proofs.Judged as J
 use Rattle.rows_judge.proofs.Judged.Laws as J′
 use Rattle.rows_judge.proofs.Outcome.{judgedFrom, nextAt, Judging, judging-starts, judging-next, judging-stops, judging-ends}
@@ -148,13 +148,13 @@ module _ {M : Type 1} (𝓤 : URA M) (H : Heap 𝓤) (A : Atoms 𝓤) (W : Given
       nothing ! $ nothing ! $ fjoin ! $ nothing ! $ fjoin ! $ nothing ! $ fjoin ! $ nothing ! $ fjoin ! $ frame ! $
       owned ! J.the-row (Is J.the-row) (EL.makes J.the-type J′.the-plain 𝓤 H A) j _ g $ done !
 
-  starts : (s : State) → s ≡ start (lent h [] [] []) → Judging h ys (now u) (now w) s 0
-  starts s e = ap (λ (s : State). judgedFrom (lent h ys (now u) (now w)) 0 s ys) e ∙ judging-starts h ys (now u) (now w)
+  starts : (s : RowsJudged) → s ≡ start (lent h [] [] []) → Judging h ys (now u) (now w) s 0
+  starts s e = ap (λ (s : RowsJudged). judgedFrom (lent h ys (now u) (now w)) 0 s ys) e ∙ judging-starts h ys (now u) (now w)
 
   row-typed : (r : Row) → Good r → Tr (hasTy T′.mir (low r)) × WT (low r)
   row-typed r g = LL.lawful T.the-type T′.the-laws 𝓤 H A W .typed r _ g .0
 
-  state-typed : (s : State) → IsState s → Tr (hasTy S′.mir (low-state s)) × WT (low-state s)
+  state-typed : (s : RowsJudged) → IsState s → Tr (hasTy S′.mir (low-state s)) × WT (low-state s)
   state-typed s g = LL.lawful S.the-type S′.the-laws 𝓤 H A W .typed s _ g .0
 
   module _ (𝓣 : Tables 𝓤 H) (fm : FmC 𝓤 H (W .laws) (𝓣 .C)) (known-head : Triple 𝓤 (𝓣 .C #rows-judge·judge-head) (JudgeHead 𝓤 H A mem run)) (known-row : Triple 𝓤 (𝓣 .C #rows-records·row-at) (RowAt 𝓤 H A mem run)) (known-judge : Triple 𝓤 (𝓣 .C #rows-judge·judge-row) (JudgeRow 𝓤 H A mem run)) (known-verdict : Triple 𝓤 (𝓣 .C #rows-judge·verdict) (Verdict 𝓤 H A mem run))
@@ -164,21 +164,21 @@ module _ {M : Type 1} (𝓤 : URA M) (H : Heap 𝓤) (A : Atoms 𝓤) (W : Given
       En = (J′.mir, l₀) ∷ (Hd′.mir, l₁) ∷ (slice, l₂) ∷ (slice-left, l₃) ∷ (slice-right, l₄) ∷ (S′.mir, l₅) ∷ (word, l₆) ∷ (word, l₇) ∷ (tyBool, l₈) ∷ (T′.mir, l₉) ∷ []
 
       -- where a turn begins, with a state and at record k: the token; what rows owns; the run slices' tokens; what they own; and the locals, the last first
-      abbrev At : State × ℕ → List (Item 𝓤)
+      abbrev At : RowsJudged × ℕ → List (Item 𝓤)
       At σ = ‵ (flft κ q) ∷ ‵ (Own κ x) ∷ Tk ∷ Ow
           ∷ ‵ (froom T′.mir l₉ 0) ∷ ‵ (fdies T′.mir l₉) ∷ ‵ (froom tyBool l₈ 0) ∷ ‵ (fdies tyBool l₈) ∷ ‵ (froom word l₇ 0) ∷ ‵ (fdies word l₇)
           ∷ ‵ (fat fullShare word l₆ 0 (vint w64 (σ .1))) ∷ ‵ (fdies word l₆) ∷ ‵ (fat fullShare S′.mir l₅ 0 (low-state (σ .0))) ∷ ‵ (fdies S′.mir l₅) ∷ ‵ (fat fullShare slice-right l₄ 0 (sliceVal (ptr w) (length (now w)))) ∷ ‵ (fdies slice-right l₄)
           ∷ ‵ (fat fullShare slice-left l₃ 0 (sliceVal (ptr u) (length (now u)))) ∷ ‵ (fdies slice-left l₃) ∷ ‵ (fat fullShare slice l₂ 0 (sliceVal (ptr x) (length ys))) ∷ ‵ (fdies slice l₂) ∷ ‵ (fat fullShare Hd′.mir l₁ 0 (low-head h)) ∷ ‵ (fdies Hd′.mir l₁)
           ∷ ‵ (froom J′.mir l₀ 0) ∷ ‵ (fdies J′.mir l₀) ∷ []
 
-      abbrev Facts : State × ℕ → Type 0
+      abbrev Facts : RowsJudged × ℕ → Type 0
       Facts σ = (σ .1 ≤ length ys) × (IsState (σ .0) × Judging h ys (now u) (now w) (σ .0) (σ .1))
 
-      abbrev μ : State × ℕ → ℕ
+      abbrev μ : RowsJudged × ℕ → ℕ
       μ σ = length ys - σ .1
 
       -- the state after the record
-      abbrev after : State × ℕ → State
+      abbrev after : RowsJudged × ℕ → RowsJudged
       after σ = nextAt h ys (now u) (now w) (σ .0) (σ .1)
 
       -- when the loop is left, the rest of the body runs
@@ -186,7 +186,7 @@ module _ {M : Type 1} (𝓤 : URA M) (H : Heap 𝓤) (A : Atoms 𝓤) (W : Given
       Left = afterBlock 𝓤 H (afterSeq 𝓤 H (Wp 𝓤 H (𝓣 .C) (𝓣 .Λ) En mir.t-4 (atReturn 𝓤 H En Post)) (atReturn 𝓤 H En Post))
 
       -- a turn: the record is good, and the next turn follows; or it is bad, and the loop is left; or no record is left, and the loop is left too
-      each : (σ : State × ℕ) → Facts σ → (X : SProp 𝓤) → ((σ′ : State × ℕ) → μ σ′ < μ σ → Facts σ′ → ent 𝓤 (⋆ 𝓤 H A (At σ′)) X) → ent 𝓤 (⋆ 𝓤 H A (At σ)) (Wp 𝓤 H (𝓣 .C) (𝓣 .Λ) En mir.turn-1 (afterTurn 𝓤 H X Left))
+      each : (σ : RowsJudged × ℕ) → Facts σ → (X : SProp 𝓤) → ((σ′ : RowsJudged × ℕ) → μ σ′ < μ σ → Facts σ′ → ent 𝓤 (⋆ 𝓤 H A (At σ′)) X) → ent 𝓤 (⋆ 𝓤 H A (At σ)) (Wp 𝓤 H (𝓣 .C) (𝓣 .Λ) En mir.turn-1 (afterTurn 𝓤 H X Left))
       unfolding afterTurn
       each σ facts X k =
           qed W (At σ) ∵ exec ! (𝓣 .C) (𝓣 .Λ) En mir.turn-1 (anyQ (afterTurn 𝓤 H X Left)) $
@@ -230,7 +230,7 @@ module _ {M : Type 1} (𝓤 : URA M) (H : Heap 𝓤) (A : Atoms 𝓤) (W : Given
           keep ! (0 ∷ 2 ∷ []) $
           by ! (exits (verdictOf (σ .0) (σ .1)) gj (judging-ends h ys (now u) (now w) (σ .0) (σ .1) (ltb-false (σ .1) (length ys) test) (facts .1 .1)))))
 
-      loops : (s : State) → IsState s → Judging h ys (now u) (now w) s 0 → ent 𝓤 (⋆ 𝓤 H A (At (s, 0))) (Wp 𝓤 H (𝓣 .C) (𝓣 .Λ) En (loop mir.turn-1) Left)
+      loops : (s : RowsJudged) → IsState s → Judging h ys (now u) (now w) s 0 → ent 𝓤 (⋆ 𝓤 H A (At (s, 0))) (Wp 𝓤 H (𝓣 .C) (𝓣 .Λ) En (loop mir.turn-1) Left)
       loops s gs j = loops-by 𝓤 H A W 𝓣 En mir.turn-1 Left μ Facts At each (s, 0) (zero-le, (gs, j))
 
       -- where the body begins, with the parameters passed

@@ -1,6 +1,5 @@
 -- `rows_pack::pack_rows` meets its contract: a walk of its MIR, by hand, with a loop that calls a covered function. A turn passes the two shared slices on, and stores the record that comes back.
 -- All the borrows are opened once, before the loop, and closed once, after it. The lists after i turns are functions of i, so the loop's invariant says which lists are there and no more.
--- Assumes nothing.
 use mathlib.Core.Path.{_≡_, refl, sym, _∙_, ap, subst}
 use mathlib.Core.Logic.{⊎-elim}
 use mathlib.Core.Bool.{Bool}

@@ -1,4 +1,4 @@
--- `rows_pack::sum_up` meets its contract. The invariant: the counts passed are sums, and the sum so far is theirs (`summed-more`). Assumes nothing.
+-- `rows_pack::sum_up` meets its contract. The invariant: the counts passed are sums, and the sum so far is theirs (`summed-more`).
 use mathlib.Core.Path.{_≡_, sym, _∙_}
 use Prim.Native.Nat.{ℕ, _+_, _-_, _≤_, _<_}
 use native.Mathlib.Omega.{arith}

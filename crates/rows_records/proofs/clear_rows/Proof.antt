@@ -2,7 +2,6 @@
 --     cleared      the list after the turns up to i: a function of i, so the loop's invariant says which list is there and no more
 --     Upto, At     the loop's variant, i with the bounds that the invariant gives, and what is had at i
 --     goes-on, leaves      a turn that stores one record; the turn that leaves the loop, with the rest of the body
--- Assumes nothing.
 use mathlib.Core.Path.{_≡_, refl, sym, _∙_, ap, subst}
 use mathlib.Core.Logic.{⊎-elim}
 use mathlib.Core.Bool.{Bool}

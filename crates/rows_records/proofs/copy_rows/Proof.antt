@@ -1,6 +1,5 @@
 -- `rows_records::copy_rows` meets its contract: a walk of its MIR, by hand, with a loop. A turn reads one record of the shared slice, and stores it.
 -- All the borrows are opened once, before the loop, and closed once, after it. The lists after i turns are functions of i, so the loop's invariant says which lists are there and no more.
--- Assumes nothing.
 use mathlib.Core.Path.{_≡_, refl, sym, ap, subst}
 use mathlib.Core.Logic.{⊎-elim}
 use mathlib.Core.Bool.{Bool}

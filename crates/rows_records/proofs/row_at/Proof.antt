@@ -1,6 +1,5 @@
 -- `rows_records::row_at` meets its contract: a walk of its MIR, by hand. The place of `rows[i]` is i * 16 past the slice's pointer. The slice is looked into, record i is taken out of it, read whole, and put back.
 -- The code has no check of the bound: it is the contract's to ask. That i * 16 does not wrap follows from the slice's room.
--- Assumes nothing.
 use mathlib.Core.Path.{refl, sym}
 use Prim.Native.Nat.{ℕ, _<_, _*_, _^_}
 use mathlib.Core.List.{List, [], _∷_}

@@ -1,4 +1,4 @@
--- `sums_count::count_runs` meets its contract. The invariant: the runs of the windows passed are counted, and the next window begins a run (`counted-run`, `fresh-next`). Assumes nothing.
+-- `sums_count::count_runs` meets its contract. The invariant: the runs of the windows passed are counted, and the next window begins a run (`counted-run`, `fresh-next`).
 use mathlib.Core.Path.{_≡_, refl, sym, ap, _∙_}
 use Prim.Native.Nat.{ℕ, _+_, _-_, _/_, _≤_, _<_}
 use native.Mathlib.Omega.{arith}

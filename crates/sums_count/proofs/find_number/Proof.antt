@@ -1,4 +1,4 @@
--- `sums_count::find_number` meets its contract. The invariant: wherever the number stands, it is one of the places left (`sought-half`). Assumes nothing.
+-- `sums_count::find_number` meets its contract. The invariant: wherever the number stands, it is one of the places left (`sought-half`).
 use mathlib.Core.Path.{_≡_}
 use Prim.Native.Nat.{_*_, _/_, _≤_}
 use native.Mathlib.Omega.{arith}

@@ -1,4 +1,4 @@
--- `sums_slide::clear_flags` meets its contract. Assumes nothing.
+-- `sums_slide::clear_flags` meets its contract.
 use mathlib.Core.Path.{_≡_, refl, _∙_}
 use Prim.Native.Nat.{ℕ, _-_, _≤_, _<_}
 use native.Mathlib.Omega.{arith}

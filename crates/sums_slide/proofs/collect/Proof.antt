@@ -1,4 +1,4 @@
--- `sums_slide::collect` meets its contract. The invariant: the numbers passed whose flags are set stand behind the first k (`collect-yes`, `collect-no`). Assumes nothing.
+-- `sums_slide::collect` meets its contract. The invariant: the numbers passed whose flags are set stand behind the first k (`collect-yes`, `collect-no`).
 use mathlib.Core.Path.{_≡_}
 use Prim.Native.Nat.{_-_, _≤_}
 use native.Mathlib.Omega.{arith}

@@ -1,4 +1,4 @@
--- `sums_slide::first_level` meets its contract. Assumes nothing.
+-- `sums_slide::first_level` meets its contract.
 use native.Mathlib.Omega.{arith}
 use Rattle.sums_slide.specs.Levels.{level-small}
 use Rattle.sums_slide.proofs.Levels.{level-first}

@@ -1,4 +1,4 @@
--- `sums_slide::last_out` meets its contract (`stop-here`, `stop-one`). Assumes nothing.
+-- `sums_slide::last_out` meets its contract (`stop-here`, `stop-one`).
 use borrow.Author.Needs.{needs}
 use borrow.Author.Tests.{not-true, not-false}
 use mathlib.Core.Path.{_≡_, sym, ap, _∙_}

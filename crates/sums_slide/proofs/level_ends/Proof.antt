@@ -1,4 +1,4 @@
--- `sums_slide::level_ends` meets its contract. The invariant: both ends of the windows passed (`bounds-more`). Assumes nothing.
+-- `sums_slide::level_ends` meets its contract. The invariant: both ends of the windows passed (`bounds-more`).
 use borrow.Author.Needs.{needs}
 use mathlib.Core.Path.{_≡_}
 use Prim.Native.Nat.{_+_, _-_, _≤_}

@@ -1,4 +1,4 @@
--- `sums_slide::list_chunk` meets its contract: the flags of all windows tell the numbers that are met (`lit-picked`). Assumes nothing.
+-- `sums_slide::list_chunk` meets its contract: the flags of all windows tell the numbers that are met (`lit-picked`).
 use borrow.Author.Needs.{needs}
 use mathlib.Core.Path.{_≡_, sym, _∙_}
 use Prim.Native.Nat.{ℕ}

@@ -1,4 +1,4 @@
--- `sums_slide::list_rows` meets its contract. The invariant: the row numbers below the next chunk's first are listed. Assumes nothing.
+-- `sums_slide::list_rows` meets its contract. The invariant: the row numbers below the next chunk's first are listed.
 use mathlib.Core.Path.{_≡_, refl, _∙_}
 use Prim.Native.Nat.{_+_, _-_, _≤_}
 use native.Mathlib.Omega.{arith}

@@ -1,4 +1,4 @@
--- `sums_slide::mark` meets its contract. The invariant: the flags tell the row numbers of the windows passed (`flags-run`). Assumes nothing.
+-- `sums_slide::mark` meets its contract. The invariant: the flags tell the row numbers of the windows passed (`flags-run`).
 use borrow.Author.Needs.{needs}
 use mathlib.Core.Path.{_≡_, refl, ap, _∙_}
 use Prim.Native.Nat.{ℕ, _-_, _/_, _≤_}

@@ -1,4 +1,4 @@
--- `sums_slide::move_on` meets its contract (`level-next`). Assumes nothing.
+-- `sums_slide::move_on` meets its contract (`level-next`).
 use borrow.Author.Needs.{needs}
 use mathlib.Core.Path.{_≡_, _∙_}
 use Prim.Native.Nat.{_+_}

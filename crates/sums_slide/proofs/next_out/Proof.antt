@@ -1,4 +1,4 @@
--- `sums_slide::next_out` meets its contract. The invariant: every window passed is in the range. Assumes nothing.
+-- `sums_slide::next_out` meets its contract. The invariant: every window passed is in the range.
 use borrow.Author.Needs.{needs}
 use borrow.Author.Tests.{not-true, not-false}
 use borrow.Author.Count.{below-more}

@@ -1,4 +1,4 @@
--- `sums_slide::next_row` meets its contract (`next-row`). Assumes nothing.
+-- `sums_slide::next_row` meets its contract (`next-row`).
 use Prim.Native.Nat.{_*_, _≤_}
 use native.Mathlib.Omega.{arith}
 use native.Mathlib.Nat.{div-mul-le-self}

@@ -1,4 +1,4 @@
--- `sums_slide::slide` meets its contract (`level-next`). Assumes nothing.
+-- `sums_slide::slide` meets its contract (`level-next`).
 use mathlib.Core.Path.{_≡_}
 use Prim.Native.Nat.{_+_}
 use native.Mathlib.Omega.{arith}

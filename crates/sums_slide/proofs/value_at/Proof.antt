@@ -1,4 +1,4 @@
--- `sums_slide::value_at` meets its contract; past the end of the series stands 0. Assumes nothing.
+-- `sums_slide::value_at` meets its contract; past the end of the series stands 0.
 use borrow.Author.Needs.{needs}
 use mathlib.Core.Path.{_∙_}
 use Prim.Native.Nat.{_≤_}

@@ -1,4 +1,4 @@
--- `text_count::count_head` meets its contract. Assumes nothing.
+-- `text_count::count_head` meets its contract.
 use native.Mathlib.Omega.{arith}
 use lib.IntN.{pos}
 use Rattle.text_write.specs.Write.{headText}

@@ -1,4 +1,4 @@
--- `text_count::count_row` meets its contract. Its range, its runs and its end, one after the other. Assumes nothing.
+-- `text_count::count_row` meets its contract. Its range, its runs and its end, one after the other.
 use mathlib.Core.Path.{_≡_, ap}
 use native.Mathlib.Omega.{arith}
 use lib.IntN.{ℤ}

@@ -1,4 +1,4 @@
--- `text_count::count_run` meets its contract. Assumes nothing.
+-- `text_count::count_run` meets its contract.
 use native.Mathlib.Omega.{arith}
 use Rattle.text_count.proofs.Count.{counted-is, run-length}
 use lib.IntN.{pos}

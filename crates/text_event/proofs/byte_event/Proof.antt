@@ -1,4 +1,4 @@
--- `text_event::byte_event` meets its contract. The invariant: the bytes so far say nothing. The measure is what is left of the text. Assumes nothing.
+-- `text_event::byte_event` meets its contract. The invariant: the bytes so far say nothing. The measure is what is left of the text.
 use mathlib.Core.Path.{_≡_, refl, sym, _∙_}
 use Prim.Native.Nat.{_-_}
 use native.Mathlib.Omega.{arith}

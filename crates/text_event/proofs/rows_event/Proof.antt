@@ -1,4 +1,4 @@
--- `text_event::rows_event` meets its contract: a range and a run, or what comes byte by byte. Assumes nothing.
+-- `text_event::rows_event` meets its contract: a range and a run, or what comes byte by byte.
 use native.Mathlib.Omega.{arith}
 use mathlib.Core.Path.{_≡_, refl}
 use mir.Syntax.{w64}

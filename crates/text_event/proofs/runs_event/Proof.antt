@@ -1,4 +1,4 @@
--- `text_event::runs_event` meets its contract: a run, a row's end, or what comes byte by byte. Assumes nothing.
+-- `text_event::runs_event` meets its contract: a run, a row's end, or what comes byte by byte.
 use mathlib.Core.Path.{refl}
 use native.Mathlib.Omega.{arith}
 use Rattle.text_event.proofs.EventLaws.{run-up, closed-up}

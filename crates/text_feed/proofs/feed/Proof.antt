@@ -1,4 +1,4 @@
--- `text_feed::feed` meets its contract. The invariant: what is kept after i bytes holds what the automaton has been told (`Sofar`). The measure is what is left of the piece. Assumes nothing.
+-- `text_feed::feed` meets its contract. The invariant: what is kept after i bytes holds what the automaton has been told (`Sofar`). The measure is what is left of the piece.
 use mathlib.Core.Path.{_≡_, sym, _∙_}
 use Prim.Native.Nat.{_-_}
 use native.Mathlib.Omega.{arith}

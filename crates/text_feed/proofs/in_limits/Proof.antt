@@ -1,4 +1,4 @@
--- `text_feed::in_limits` meets its contract. By the two tests. Assumes nothing.
+-- `text_feed::in_limits` meets its contract. By the two tests.
 use lib.IntN.{negsuc}
 use lib.Signed.{_≤ℤ_, _<ℤ_}
 use mir.Syntax.{w64}

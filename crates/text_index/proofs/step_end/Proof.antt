@@ -1,4 +1,4 @@
--- `text_index::step_end` meets its contract. The word that the byte picks behind the number is tried. Assumes nothing.
+-- `text_index::step_end` meets its contract. The word that the byte picks behind the number is tried.
 use mathlib.Core.Path.{_≡_, sym, _∙_}
 use mir.Syntax.{w64}
 use mir.Val.{toZ, ofZ}

@@ -1,4 +1,4 @@
--- `text_judge::scan` meets its contract. The invariant: what is left of the text comes to what the text comes to, and no count is above the bytes read (`Scanning`). The measure is what is left of the text. Assumes nothing.
+-- `text_judge::scan` meets its contract. The invariant: what is left of the text comes to what the text comes to, and no count is above the bytes read (`Scanning`). The measure is what is left of the text.
 use mathlib.Core.Path.{_≡_, sym, ap, _∙_}
 use Prim.Native.Nat.{_-_}
 use native.Mathlib.Omega.{arith}

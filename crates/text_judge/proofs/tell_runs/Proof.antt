@@ -1,4 +1,4 @@
--- `text_judge::tell_runs` meets its contract. The invariant: the runs so far say what is known (`RunsFrom`), and the counts are small. The measure is what is left of the text. Assumes nothing.
+-- `text_judge::tell_runs` meets its contract. The invariant: the runs so far say what is known (`RunsFrom`), and the counts are small. The measure is what is left of the text.
 use Prim.Native.Nat.{_-_, _≤_}
 use native.Mathlib.Omega.{arith}
 use lib.ListN.{length}

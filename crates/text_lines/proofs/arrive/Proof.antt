@@ -1,4 +1,4 @@
--- `text_lines::arrive` meets its contract. By the two tests. Assumes nothing.
+-- `text_lines::arrive` meets its contract. By the two tests.
 use mathlib.Core.Path.{sym, _∙_}
 use native.Mathlib.Omega.{arith}
 use borrow.Author.Tests.{eq-eqb, ne-eqb, lt-ltb, le-ltb}

@@ -1,4 +1,4 @@
--- `text_lines::step_word` meets its contract. By where the byte leads, and whether it is the last of the word. Assumes nothing.
+-- `text_lines::step_word` meets its contract. By where the byte leads, and whether it is the last of the word.
 use mathlib.Core.Path.{sym, _∙_}
 use native.Mathlib.Omega.{arith}
 use borrow.Author.Tests.{lt-ltb, le-ltb}

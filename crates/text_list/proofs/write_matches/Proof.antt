@@ -1,4 +1,4 @@
--- `text_list::write_matches` meets its contract. The invariant: the first i matches stand in the buffer (`Matches`). Assumes nothing.
+-- `text_list::write_matches` meets its contract. The invariant: the first i matches stand in the buffer (`Matches`).
 use mathlib.Core.Path.{_∙_}
 use Prim.Native.Nat.{_-_}
 use native.Mathlib.Omega.{arith}

@@ -1,4 +1,4 @@
--- `text_numbers::number_step` meets its contract. By the state of the number and the byte. Assumes nothing.
+-- `text_numbers::number_step` meets its contract. By the state of the number and the byte.
 use mathlib.Core.Path.{sym, _∙_}
 use native.Mathlib.Omega.{arith}
 use borrow.Author.Tests.{eq-eqb, ne-eqb}

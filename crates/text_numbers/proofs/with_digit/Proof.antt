@@ -1,4 +1,4 @@
--- `text_numbers::with_digit` meets its contract: a number of at most 18 digits fits. Assumes nothing.
+-- `text_numbers::with_digit` meets its contract: a number of at most 18 digits fits.
 use native.Mathlib.Omega.{arith}
 use borrow.Author.Needs.{needs}
 use Rattle.text_numbers.proofs.Number.{behind-true}

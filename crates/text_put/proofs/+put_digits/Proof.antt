@@ -1,4 +1,4 @@
--- `text_put::put_digits` meets its contract: one digit, or those of a tenth and the last. The measure is the number. Assumes nothing.
+-- `text_put::put_digits` meets its contract: one digit, or those of a tenth and the last. The measure is the number.
 use mathlib.Core.Path.{_∙_}
 use native.Mathlib.Omega.{arith}
 use borrow.Author.Needs.{needs}

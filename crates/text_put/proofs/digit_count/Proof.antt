@@ -1,4 +1,4 @@
--- `text_put::digit_count` meets its contract: five digits are taken off at once. Assumes nothing.
+-- `text_put::digit_count` meets its contract: five digits are taken off at once.
 use Prim.Native.Nat.{_/_}
 use native.Mathlib.Omega.{arith}
 use Rattle.text_put.proofs.Digits.{length-five, length-most}

@@ -1,4 +1,4 @@
--- `text_put::few_digits` meets its contract: each test is against the next power of ten. Assumes nothing.
+-- `text_put::few_digits` meets its contract: each test is against the next power of ten.
 use native.Mathlib.Omega.{arith}
 use Rattle.text_put.proofs.Digits.{length-one, length-between}
 use Rattle.text_put.proofs.few_digits.Statement.{statement}

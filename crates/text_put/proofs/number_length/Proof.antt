@@ -1,4 +1,4 @@
--- `text_put::number_length` meets its contract: the digits, and the sign of a number below 0. Assumes nothing.
+-- `text_put::number_length` meets its contract: the digits, and the sign of a number below 0.
 use mathlib.Core.Path.{_≡_, sym, ap, _∙_}
 use Prim.Native.Nat.{ℕ, _≤_}
 use native.Mathlib.Omega.{arith}

@@ -1,4 +1,4 @@
--- `text_put::put_byte` meets its contract. There is room, or there is none. Assumes nothing.
+-- `text_put::put_byte` meets its contract. There is room, or there is none.
 use Rattle.text_put.proofs.Put.{put-out}
 use borrow.Author.Needs.{needs}
 use Rattle.text_put.proofs.put_byte.Statement.{statement}

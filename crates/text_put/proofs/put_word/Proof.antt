@@ -1,4 +1,4 @@
--- `text_put::put_word` meets its contract. The invariant: the first i bytes of the word stand in the buffer. Assumes nothing.
+-- `text_put::put_word` meets its contract. The invariant: the first i bytes of the word stand in the buffer.
 use Prim.Native.Nat.{_-_, _≤_}
 use native.Mathlib.Omega.{arith}
 use borrow.Author.Needs.{needs}

@@ -1,4 +1,4 @@
--- `text_put::write_i32` meets its contract. A number of 32 bits is read as itself. Assumes nothing.
+-- `text_put::write_i32` meets its contract. A number of 32 bits is read as itself.
 use mathlib.Core.Path.{_≡_}
 use mir.Syntax.{w32, w64}
 use mir.Val.{toZ, ofZ}

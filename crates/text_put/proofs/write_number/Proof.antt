@@ -1,4 +1,4 @@
--- `text_put::write_number` meets its contract. By the sign: a minus and the digits, or the digits. Assumes nothing.
+-- `text_put::write_number` meets its contract. By the sign: a minus and the digits, or the digits.
 use mathlib.Core.Path.{_≡_}
 use lib.IntN.{pos, natAbs}
 use lib.Signed.{_≤ℤ_, _<ℤ_}

@@ -1,6 +1,5 @@
 -- `text_rows::fill_rows` meets its contract: a walk of its MIR, by hand, with a loop. A turn reads on to the next line, which is a function of the number of turns, and stores its row.
 -- The borrow of the records is opened once, before the loop, and closed once, after it.
--- Assumes nothing.
 use mathlib.Core.Path.{_≡_, refl, sym, _∙_, ap, subst}
 use mathlib.Core.Logic.{⊎-elim}
 use mathlib.Core.Bool.{Bool}

@@ -1,4 +1,4 @@
--- `text_rows::row_from` meets its contract. The invariant: what is left of the text comes to the same line (`Going`). The measure is what is left of the text. Assumes nothing.
+-- `text_rows::row_from` meets its contract. The invariant: what is left of the text comes to the same line (`Going`). The measure is what is left of the text.
 use mathlib.Core.Path.{_≡_, _∙_}
 use Prim.Native.Nat.{_-_}
 use native.Mathlib.Omega.{arith}

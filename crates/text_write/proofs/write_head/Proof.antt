@@ -1,4 +1,4 @@
--- `text_write::write_head` meets its contract. Words and numbers in order. Assumes nothing.
+-- `text_write::write_head` meets its contract. Words and numbers in order.
 use Rattle.meaning_text.specs.Bytes.{bytes}
 use Rattle.text_put.proofs.Put.{put-then}
 use Rattle.text_write.specs.Write.{headText}

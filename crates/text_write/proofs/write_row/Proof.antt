@@ -1,4 +1,4 @@
--- `text_write::write_row` meets its contract. Words, numbers and runs in order, put together as they are spelled. Assumes nothing.
+-- `text_write::write_row` meets its contract. Words, numbers and runs in order, put together as they are spelled.
 use Rattle.meaning_text.specs.Bytes.{bytes}
 use Rattle.meaning_text.specs.Form.{spell}
 use Rattle.text_put.proofs.Put.{put-then, put-length}

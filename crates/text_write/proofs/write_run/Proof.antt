@@ -1,4 +1,4 @@
--- `text_write::write_run` meets its contract. Words and numbers in order, put together as they are spelled. Assumes nothing.
+-- `text_write::write_run` meets its contract. Words and numbers in order, put together as they are spelled.
 use Rattle.meaning_text.specs.Bytes.{bytes}
 use Rattle.meaning_text.specs.Form.{spell}
 use Rattle.text_put.proofs.Put.{put-then}

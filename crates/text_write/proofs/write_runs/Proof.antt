@@ -1,4 +1,4 @@
--- `text_write::write_runs` meets its contract. The invariant: the first i runs of the part stand in the buffer (`Runs`). Assumes nothing.
+-- `text_write::write_runs` meets its contract. The invariant: the first i runs of the part stand in the buffer (`Runs`).
 use mathlib.Core.Path.{_∙_}
 use Prim.Native.Nat.{_-_}
 use native.Mathlib.Omega.{arith}

@@ -1,4 +1,4 @@
--- `try_c_distance::all_in` meets its contract. Assumes nothing.
+-- `try_c_distance::all_in` meets its contract.
 use borrow.Author.Needs.{needs}
 use mathlib.Core.Path.{sym, _∙_}
 use Rattle.meaning_curves.proofs.Values.{none-outside, outside-none}

@@ -1,4 +1,4 @@
--- `try_c_distance::can_prepare` meets its contract. Assumes nothing.
+-- `try_c_distance::can_prepare` meets its contract.
 use borrow.Author.Needs.{needs}
 use mathlib.Core.Path.{sym, _∙_}
 use native.Mathlib.Omega.{arith}

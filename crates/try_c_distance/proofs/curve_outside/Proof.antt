@@ -1,4 +1,4 @@
--- `try_c_distance::curve_outside` meets its contract. Assumes nothing.
+-- `try_c_distance::curve_outside` meets its contract.
 use borrow.Author.Needs.{needs}
 use mathlib.Core.Path.{sym, _∙_}
 use lib.ListN.{length}

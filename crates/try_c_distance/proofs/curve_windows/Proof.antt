@@ -1,4 +1,4 @@
--- `try_c_distance::curve_windows` meets its contract. The invariant: the sums and rows so far are written, and the next sum is at hand. Assumes nothing.
+-- `try_c_distance::curve_windows` meets its contract. The invariant: the sums and rows so far are written, and the next sum is at hand.
 use borrow.Author.Needs.{needs}
 use borrow.Author.Tests.{not-true, not-false}
 use mathlib.Core.Path.{_≡_, refl, ap, _∙_}

@@ -1,4 +1,4 @@
--- `try_c_distance::each_match` meets its contract. The invariant: the answers so far are written. Assumes nothing.
+-- `try_c_distance::each_match` meets its contract. The invariant: the answers so far are written.
 use borrow.Author.Needs.{needs}
 use mathlib.Core.Path.{_≡_, ap, _∙_}
 use Prim.Native.Nat.{_+_, _-_, _≤_, _<_}

@@ -1,4 +1,4 @@
--- `try_c_distance::fits` meets its contract. Assumes nothing.
+-- `try_c_distance::fits` meets its contract.
 use borrow.Author.Needs.{needs}
 use native.Mathlib.Omega.{arith}
 use Rattle.distance_match.proofs.AlikeLaws.{says-no}

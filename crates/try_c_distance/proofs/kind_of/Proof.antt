@@ -1,4 +1,4 @@
--- `try_c_distance::kind_of` meets its contract. Assumes nothing.
+-- `try_c_distance::kind_of` meets its contract.
 use borrow.Author.Needs.{needs}
 use Rattle.try_c_distance.proofs.Answers.{kind-normal}
 use Rattle.try_c_distance.proofs.kind_of.Statement.{statement}

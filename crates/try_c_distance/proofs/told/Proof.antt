@@ -1,4 +1,4 @@
--- `try_c_distance::told` meets its contract. Assumes nothing.
+-- `try_c_distance::told` meets its contract.
 use borrow.Author.Needs.{needs}
 use Rattle.try_c_distance.proofs.told.Statement.{statement}
 use Rattle.try_c_distance.proofs.told.Tie as tie

@@ -1,4 +1,4 @@
--- `try_c_distance::window_after` meets its contract. Assumes nothing.
+-- `try_c_distance::window_after` meets its contract.
 use borrow.Author.Needs.{needs}
 use native.Mathlib.Omega.{arith}
 use Rattle.try_c_distance.proofs.window_after.Statement.{statement}

@@ -1,4 +1,4 @@
--- `try_c_lines::lines_read` meets its contract. The invariant: the text has been read up to a place inside it, and what is kept is what it comes to. Assumes nothing.
+-- `try_c_lines::lines_read` meets its contract. The invariant: the text has been read up to a place inside it, and what is kept is what it comes to.
 use borrow.Author.Needs.{needs}
 use mathlib.Core.Path.{_≡_, refl, _∙_}
 use Prim.Native.Nat.{_-_}

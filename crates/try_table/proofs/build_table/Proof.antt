@@ -1,5 +1,4 @@
 -- `try_table::build_table` meets its contract: a walk of its MIR, by hand. The table is lent whole to the build, and handed out. All that the proof knows of the callees is that they meet their contracts.
--- Assumes nothing.
 use mathlib.Core.Path.{_≡_, refl, _∙_}
 use Prim.Native.Nat.{ℕ, _<_, _^_}
 use mathlib.Core.List.{List, [], _∷_}

@@ -1,5 +1,4 @@
 -- `try_table::extend_table` meets its contract: a walk of its MIR, by hand. The first records of one table and the whole of another are lent to the extension, and the latter is handed out. All that the proof knows of the callees is that they meet their contracts.
--- Assumes nothing.
 use mathlib.Core.Path.{_≡_, refl, sym, _∙_}
 use Prim.Native.Nat.{ℕ, _<_, _≤_, _^_}
 use native.Mathlib.Omega.{arith}

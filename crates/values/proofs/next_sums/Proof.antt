@@ -1,4 +1,4 @@
--- `values::next_sums` meets its contract (`slide-values`, `slide-squares`). Assumes nothing.
+-- `values::next_sums` meets its contract (`slide-values`, `slide-squares`).
 use borrow.Author.Needs.{needs}
 use mathlib.Core.Path.{_≡_, _∙_, sym}
 use Prim.Native.Nat.{_+_, _*_, _≤_}

@@ -1,4 +1,4 @@
--- `values::next_window` meets its contract (`moved-on`); nothing wraps, as no window's sum is large (`out-fits`). Assumes nothing.
+-- `values::next_window` meets its contract (`moved-on`); nothing wraps, as no window's sum is large (`out-fits`).
 use borrow.Author.Needs.{needs}
 use mathlib.Core.Path.{_≡_, _∙_}
 use Prim.Native.Nat.{_+_, _≤_}

@@ -1,4 +1,4 @@
--- `values::raised_sum` meets its contract. The invariant: the sum so far. Assumes nothing.
+-- `values::raised_sum` meets its contract. The invariant: the sum so far.
 use mathlib.Core.Path.{_≡_, _∙_}
 use Prim.Native.Nat.{_*_, _-_, _≤_}
 use native.Mathlib.Omega.{arith}

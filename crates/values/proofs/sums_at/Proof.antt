@@ -1,4 +1,4 @@
--- `values::sums_at` meets its contract. The invariant: both sums so far. Assumes nothing.
+-- `values::sums_at` meets its contract. The invariant: both sums so far.
 use mathlib.Core.Path.{_≡_, _∙_}
 use Prim.Native.Nat.{_*_, _-_, _≤_}
 use native.Mathlib.Omega.{arith}

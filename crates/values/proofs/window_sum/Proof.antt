@@ -1,4 +1,4 @@
--- `values::window_sum` meets its contract: the raised sum less the bias (`window-raised`). Assumes nothing.
+-- `values::window_sum` meets its contract: the raised sum less the bias (`window-raised`).
 use borrow.Author.Needs.{needs}
 use mathlib.Core.Path.{_∙_, ap}
 use Prim.Native.Nat.{ℕ, _*_}

@@ -1,5 +1,4 @@
 -- The rows that the walk over old rows and row numbers makes, met again beside the old rows: each row is the next old row, or a new row below it (`passed-row`). So the old row that the copying holds beside a row is the row's own, if it has old runs.
--- Assumes nothing.
 use mathlib.Core.Path.{_≡_, refl, sym, ap, _∙_, subst}
 use mathlib.Core.List.{List, [], _∷_, map, List·Memᴰ as Mem, List·Memᴰ·cases-cons as cases}
 use mathlib.Core.Logic.{⊎-elim}
