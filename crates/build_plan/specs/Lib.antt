@@ -1,2 +1,2 @@
 -- What the contracts of build_plan cite.
-pub mod BuildPlan
+pub mod Plan

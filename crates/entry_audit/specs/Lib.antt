@@ -1,3 +1,3 @@
 -- What the contracts of the audit cite.
 pub mod Auditing
-pub mod AuditPlan
+pub mod Plan
