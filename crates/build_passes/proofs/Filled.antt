@@ -1,4 +1,4 @@
--- What stands in the buffers once the parts of a build's rows are filled is its index (`finished`).
+-- What stands in the indexBuffers once the parts of a build's rows are filled is its index (`finished`).
 use mathlib.Core.Path.{_≡_, refl, sym, ap, _∙_}
 use mathlib.Core.List.{List, [], _∷_, _++_, map}
 use Prim.Native.Nat.{ℕ, zero, suc, _+_, _-_, _<_, _≤_}
@@ -28,7 +28,8 @@ use Rattle.build_parts.specs.Filling.{partStart, partsTotal, filling-start}
 use Rattle.build_fill.specs.Turn.{At}
 use Rattle.build_fill.specs.Pass.{Passable, PassMade}
 use Rattle.build_passes.proofs.Rowed.{noRow, tests, built-rowed}
-use Rattle.build_passes.specs.Filled.{Fillable, buffers, Holds}
+use Rattle.build_passes.specs.Filled.{Fillable, Holds}
+use Rattle.meaning_entries.specs.Buffers.{indexBuffers}
 
 zeros : {A : Type 0} (a : A) (n x : ℕ) → getD (replicate n a) x a ≡ a
 zeros a zero x = refl
@@ -150,13 +151,13 @@ module _ {d g : ℕ} {s : List ℤ} {w e : ℕ} {rows : List Row} {n : ℕ} {lef
           let long : n ≡ length a = h .packed .many ∙ sym (length-records 0 (map (withRuns W) l) ∙ length-map l (withRuns W)) in
           ap (λ (m : List Row). m ++ replicate (length rows - n) zeroRow) (h .packed .front) ∙ ap (λ (x : ℕ). a ++ replicate (length rows - x) zeroRow) long
 
-      pub finished : Holds d g s w (buffers rows left₀ right₀) (buffers cleared left′ right′)
+      pub finished : Holds d g s w (indexBuffers rows left₀ right₀) (indexBuffers cleared left′ right′)
       unfolding indexIn built builtRows
       finished = λ i. record { rows = rows-is i; left = left-is i; right = right-is i }
 
--- only how long the buffers were matters
+-- only how long the indexBuffers were matters
 pub holds-same : (d g : ℕ) (s : List ℤ) (w : ℕ) {new : IndexBuffers} (rows rows₀ : List Row) (left left₀ right right₀ : List ℕ) → length rows ≡ length rows₀ → length left ≡ length left₀ → length right ≡ length right₀
-    → Holds d g s w (buffers rows left right) new → Holds d g s w (buffers rows₀ left₀ right₀) new
+    → Holds d g s w (indexBuffers rows left right) new → Holds d g s w (indexBuffers rows₀ left₀ right₀) new
 unfolding indexIn filled
 holds-same d g s w rows rows₀ left left₀ right right₀ a b c h =
     let x = built s w d g in

@@ -30,10 +30,6 @@ MergeAsked d g s w e rows n left right = Fillable d 0 s w e rows n left right ×
 abbrev pub MergedAs : ℕ → ℕ → List ℤ → ℕ → List Row → ℕ → Type 0
 MergedAs d g s w rows k = PackedAs (windowsOf s w) (mergedRows (windowSum s w) d g (windowsOf s w)) rows k
 
--- row and run buffers
-abbrev pub buffers : List Row → List ℕ → List ℕ → IndexBuffers
-buffers rows left right = record { rows = rows; left = left; right = right }
-
--- the buffers hold the index of the series
+-- the indexBuffers hold the index of the series
 abbrev pub Holds : ℕ → ℕ → List ℤ → ℕ → IndexBuffers → IndexBuffers → Type 0
 Holds d g s w old new = new ≡ indexIn (built s w d g) old

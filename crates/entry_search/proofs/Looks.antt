@@ -48,7 +48,7 @@ use Rattle.refusals.specs.declared.Refusal.{Refusal}
 use Rattle.refusals.specs.Refusal.{refusalOf, asRefusal}
 use Rattle.check_answer.proofs.Search.{limited, search-ends}
 use Rattle.entry_search.specs.declared.Sought.{Sought}
-use Rattle.entry_search.specs.Refused.{buffers}
+use Rattle.meaning_entries.specs.Search.{searchBuffers}
 use Rattle.entry_search.proofs.Refused.{refused-kept}
 use Rattle.entry_search.specs.Sought.{stopped, HandReady, HandedOut, SoughtKept, FinishReady, Finished}
 use Rattle.entry_search.proofs.SoughtLaws.{runs-lent}
@@ -216,7 +216,7 @@ module _ (s : List ℤ) (h : Head) (rows : List Row) (left right : List ℕ) (as
 
 module _ (s : List ℤ) (h : Head) (rows : List Row) (left right : List ℕ) (ask : Ask) (q : List ℤ) (first last scratch : List ℕ) where
   abbrev B : SearchBuffers
-  B = buffers first last scratch [] []
+  B = searchBuffers first last scratch [] []
 
   abbrev C : SearchCall
   C = lentSearch s h rows left right ask q
@@ -243,13 +243,13 @@ module _ (s : List ℤ) (h : Head) (rows : List Row) (left right : List ℕ) (as
   }
 
 module _ (s : List ℤ) (h : Head) (rows : List Row) (left right : List ℕ) (ask : Ask) (q : List ℤ) (first last scratch : List ℕ) {j : Judged} {p : Refusal} (judged : j ≡ judgedOf (lent h rows left right)) (planned : p ≡ planOf s h j ask q (min (length first) (length last)) (length scratch)) where
-  plan-here : p ≡ thePlan s h rows left right ask q (buffers first last scratch [] [])
+  plan-here : p ≡ thePlan s h rows left right ask q (searchBuffers first last scratch [] [])
   plan-here = planned ∙ ap (λ (i : Judged). planOf s h i ask q (min (length first) (length last)) (length scratch)) judged
 
   pub halts : not (eqb (p .number) 0) ≡ true → {t : Sought} → t ≡ stopped p → SoughtKept (lentSearch s h rows left right ask q) first last scratch t first last scratch
   halts f e = rw (e, plan-here) (halted s h rows left right ask q first last scratch (λ z. eqb-false (p .number) 0 (not-true (eqb (p .number) 0) f) (ap (λ (r : Refusal). r .number) plan-here ∙ z)))
 
-  pub goes : not (eqb (p .number) 0) ≡ false → thePlan s h rows left right ask q (buffers first last scratch [] []) .number ≡ 0
+  pub goes : not (eqb (p .number) 0) ≡ false → thePlan s h rows left right ask q (searchBuffers first last scratch [] []) .number ≡ 0
   goes f = sym (ap (λ (r : Refusal). r .number) plan-here) ∙ eqb-true (p .number) 0 (not-false (eqb (p .number) 0) f)
 
 -- ---- checking after it

@@ -20,7 +20,8 @@ use Rattle.check_list.specs.Found.{RunsLent, lentRuns, found}
 use Rattle.check_answer.specs.Answer.{wanted, Limited, Answers}
 use Rattle.candidate_spans.specs.Raised.{CountedBy, stretchHit, StretchesReady}
 use Rattle.entry_search.specs.declared.Sought.{Sought}
-use Rattle.entry_search.specs.Refused.{refusedAs, buffers}
+use Rattle.entry_search.specs.Refused.{refusedAs}
+use Rattle.meaning_entries.specs.Search.{searchBuffers}
 
 -- a plan refuses
 abbrev pub stopped : Refusal → Sought
@@ -32,11 +33,11 @@ unstopped k n = record { refusal = unrefused; runs = k; candidates = n }
 
 -- finding the candidates of a search, by the candidate buffer and the scratch before and after; the list is not needed
 pub record SoughtKept (c : SearchCall) (left right scratch : List ℕ) (t : Sought) (left′ right′ scratch′ : List ℕ) : Type 0 where
-  pub judged : t .refusal ≡ refusalOf (searchPlan c (buffers left right scratch [] []))
+  pub judged : t .refusal ≡ refusalOf (searchPlan c (searchBuffers left right scratch [] []))
   pub stays : (t .refusal .number ≡ 0 → ⊥) → (left′ ≡ left) × (right′ ≡ right) × (scratch′ ≡ scratch)
   pub uncounted : (t .refusal .number ≡ 0 → ⊥) → (t .runs ≡ 0) × (t .candidates ≡ 0)
   pub counted : t .refusal .number ≡ 0 → (t .runs ≡ length (candidateRuns (c .index) (question c))) × (t .candidates ≡ searchCandidates c)
-  pub handed : t .refusal .number ≡ 0 → (left′ ≡ lookedAfter c (buffers left right scratch [] []) .left) × (right′ ≡ lookedAfter c (buffers left right scratch [] []) .right) × (scratch′ ≡ lookedAfter c (buffers left right scratch [] []) .scratch)
+  pub handed : t .refusal .number ≡ 0 → (left′ ≡ lookedAfter c (searchBuffers left right scratch [] []) .left) × (right′ ≡ lookedAfter c (searchBuffers left right scratch [] []) .right) × (scratch′ ≡ lookedAfter c (searchBuffers left right scratch [] []) .scratch)
 
 -- what checking them asks for
 pub record FinishReady (ask : Ask) (s q : List ℤ) (t : Sought) (first last : List ℕ) : Type 0 where

@@ -20,7 +20,8 @@ ghost use Rattle.meaning_entries.specs.Search.{lentSearch};
 ghost use Rattle.meaning_entries.specs.Demand2.{SearchKept};
 ghost use Rattle.candidate_plan.specs.Allowed.{thePlan};
 ghost use Rattle.candidate_spans.specs.Held.{RangesReady, RangesHeld};
-ghost use Rattle.entry_search.specs.Refused.{refusedAs, buffers};
+ghost use Rattle.entry_search.specs.Refused.{refusedAs};
+ghost use Rattle.meaning_entries.specs.Search.{searchBuffers};
 ghost use Rattle.entry_search.specs.Sought.{stopped, unstopped, HandReady, HandedOut, SoughtKept, FinishReady, Finished};
 
 // The ranges of a query's parts put into the candidate buffer; how many parts there are.
@@ -116,7 +117,7 @@ pub fn gather(
     last: &mut [u32],
     scratch: &mut [u16],
 ) -> Sought
-    requires { ⌜ thePlan (now series) head (now rows) (now left) (now right) ask (now query) (buffers (now first) (now last) (now scratch) [] []) .number ≡ 0 ⌝ }
+    requires { ⌜ thePlan (now series) head (now rows) (now left) (now right) ask (now query) (searchBuffers (now first) (now last) (now scratch) [] []) .number ≡ 0 ⌝ }
     ensures { λ t. ⌜ SoughtKept (lentSearch (now (series .entry)) head (now (rows .entry)) (now (left .entry)) (now (right .entry)) ask (now (query .entry))) (now (first .entry)) (now (last .entry)) (now (scratch .entry)) t (now (first .exit)) (now (last .exit)) (now (scratch .exit)) ⌝ }
 {
     let parts = put_parts(ask, query, head, first, last);
@@ -213,7 +214,7 @@ pub fn search(
     offsets: &mut [u32],
     distances: &mut [u64],
 ) -> Found
-    ensures { λ a. ⌜ SearchKept (lentSearch (now (series .entry)) head (now (rows .entry)) (now (left .entry)) (now (right .entry)) ask (now (query .entry))) (buffers (now (first .entry)) (now (last .entry)) (now (scratch .entry)) (now (offsets .entry)) (now (distances .entry))) a (buffers (now (first .exit)) (now (last .exit)) (now (scratch .exit)) (now (offsets .exit)) (now (distances .exit))) ⌝ }
+    ensures { λ a. ⌜ SearchKept (lentSearch (now (series .entry)) head (now (rows .entry)) (now (left .entry)) (now (right .entry)) ask (now (query .entry))) (searchBuffers (now (first .entry)) (now (last .entry)) (now (scratch .entry)) (now (offsets .entry)) (now (distances .entry))) a (searchBuffers (now (first .exit)) (now (last .exit)) (now (scratch .exit)) (now (offsets .exit)) (now (distances .exit))) ⌝ }
 {
     let sought = find_candidates(
         series,

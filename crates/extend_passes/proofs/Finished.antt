@@ -1,4 +1,4 @@
--- What stands in the buffers once all windows are filed is the extended index (`finished`).
+-- What stands in the indexBuffers once all windows are filed is the extended index (`finished`).
 use mathlib.Core.Path.{_≡_, sym, ap, _∙_}
 use mathlib.Core.Bool.{Bool}
 use mathlib.Core.List.{List, map}
@@ -20,7 +20,7 @@ use Rattle.meaning_entries.specs.Buffers.{filled, indexIn, lefts, rights}
 use Rattle.rows_records.specs.Records.{zeroRow}
 use Rattle.build_parts.specs.Filling.{partsTotal}
 use Rattle.build_fill.specs.Pass.{PassMade}
-use Rattle.build_passes.specs.Filled.{buffers}
+use Rattle.meaning_entries.specs.Buffers.{indexBuffers}
 use Rattle.build_passes.proofs.Filled.{filled-is, lefts-entry, rights-entry}
 use Rattle.extend_parts.proofs.OldRuns.{rowHas}
 use Rattle.extend_passes.proofs.Rowed.{rows-are, size-is, start-is, total-is, total-most}
@@ -75,7 +75,7 @@ module _ (x : Index) (s : List ℤ) (g : WellFormed x) (long : Extendable x s) w
         (λ i u a c. rw (start-is x s g long i, rights-entry (runs (P i) n)) (f .parts .right-is i u a (omega (arith, size-is x s g long i)))) y (omega (arith, m)))
         (λ y b. f .past-right y (omega (arith, m, t)) ∙ br .zero y (omega (arith, m, t)))
 
-    pub finished : {rows : List Row} → rows ≡ filled zeroRow (records 0 (map G made)) rows₀ → HoldsExtended x s (buffers rows₀ left₀ right₀) (buffers rows left′ right′)
+    pub finished : {rows : List Row} → rows ≡ filled zeroRow (records 0 (map G made)) rows₀ → HoldsExtended x s (indexBuffers rows₀ left₀ right₀) (indexBuffers rows left′ right′)
     unfolding indexIn extended
     finished {rows} e =
         let q = sym (rows-are x s g long) in

@@ -9,7 +9,7 @@ use Rattle.meaning_rows.specs.declared.Row.{Row}
 use Rattle.meaning_rows.specs.Extend.{extended}
 use Rattle.sums_slide.specs.declared.Window.{Window}
 use Rattle.rows_records.specs.Records.{zeroRow}
-use Rattle.build_passes.specs.Filled.{buffers}
+use Rattle.meaning_entries.specs.Buffers.{indexBuffers}
 use Rattle.build_fill.specs.Pass.{Passable, PassMade}
 use Rattle.extend_parts.proofs.OldRuns.{rowHas}
 use Rattle.extend_passes.specs.Steps.{joinsOf, JoinAsked, JoinedAt}
@@ -65,5 +65,5 @@ module _ {s : List ℤ} {w e d base bias old : ℕ} {from : List Row} {lefts rig
                   pub fills : Passable has s w e t za n kl jr
                   fills = rw (woven .0) (fill-asked (asked .0) ul long-ul ua n woven i vl vr counted′ za laid′ wl vr long-wl long-vr kl kr copied′ t jr joined′)
 
-                  pub extends : {zl zr : List ℕ} → PassMade has s w n kl jr zl zr → (n ≡ length (extended (indexOf w d old from lefts rights) s .rows)) × HoldsExtended (indexOf w d old from lefts rights) s (buffers rows left right) (buffers za zl zr)
+                  pub extends : {zl zr : List ℕ} → PassMade has s w n kl jr zl zr → (n ≡ length (extended (indexOf w d old from lefts rights) s .rows)) × HoldsExtended (indexOf w d old from lefts rights) s (indexBuffers rows left right) (indexBuffers za zl zr)
                   extends {zl} {zr} p = (rows-counted (asked .0) woven, extended-held (asked .0) ul long-ul ua n woven i vl vr counted′ za laid′ wl vr long-wl long-vr kl kr copied′ t jr joined′ zl zr (subst (λ (m : ℕ). PassMade has s w m kl jr zl zr) (woven .0) p))

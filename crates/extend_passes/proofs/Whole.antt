@@ -1,4 +1,4 @@
--- The passes of an extension, one after the other: what each asks follows from what those before it left, and at the end the buffers hold the extended index (`extended-held`).
+-- The passes of an extension, one after the other: what each asks follows from what those before it left, and at the end the indexBuffers hold the extended index (`extended-held`).
 use mathlib.Core.Path.{_≡_, refl, sym, ap, _∙_, subst}
 use mathlib.Core.Bool.{Bool, true}
 use mathlib.Core.List.{List, map}
@@ -23,7 +23,7 @@ use Rattle.build_parts.specs.Filling.{partStart, partsTotal}
 use Rattle.sums_slide.specs.Ends.{raisedEnd}
 use Rattle.build_fill.specs.Turn.{Small}
 use Rattle.build_fill.specs.Pass.{Passable, PassMade}
-use Rattle.build_passes.specs.Filled.{buffers}
+use Rattle.meaning_entries.specs.Buffers.{indexBuffers}
 use Rattle.extend_weave.proofs.Weave.{getD-past}
 use Rattle.extend_parts.proofs.Lay.{laid-past}
 use Rattle.extend_parts.specs.Copy.{columnTo}
@@ -214,8 +214,8 @@ module _ {s : List ℤ} {w e d b old : ℕ} {from : List Row} {lefts rights : Li
             zeros : (z : ℕ) → partsTotal size n P ≤ z → (getD (columnTo from lefts rows₂ size (k .l)) z 0 ≡ getD (k .l) z 0) × (getD right₅ z 0 ≡ getD (k .r) z 0)
             zeros z l = past-both x s (h .formed) (h .longer) lefts rights refl rows₂ fits₂ front (k .l) (k .r) in-l in-r e (j .start) (j .begins) joined (λ q. refl) (λ q. refl) spot-is run z l
 
-            -- and where it ends, the buffers hold the extended index
-            pub extended-held : (left₆ right₆ : List ℕ) → PassMade P s w size left₄ right₅ left₆ right₆ → HoldsExtended x s (buffers rows left right) (buffers rows₂ left₆ right₆)
+            -- and where it ends, the indexBuffers hold the extended index
+            pub extended-held : (left₆ right₆ : List ℕ) → PassMade P s w size left₄ right₅ left₆ right₆ → HoldsExtended x s (indexBuffers rows left right) (indexBuffers rows₂ left₆ right₆)
             extended-held left₆ right₆ f = finished x s (h .formed) (h .longer) rows left right (h .in-left) (h .in-right)
                 (record { long = ap length (k .left-is) ∙ long-columns .0 ∙ k .cleared .0 .long ∙ long-l; zero = λ z l. ap (λ (m : List ℕ). getD m z 0) (k .left-is) ∙ zeros z l .0 ∙ k .cleared .0 .zero z })
                 (record { long = long-columns .1 ∙ k .cleared .1 .long ∙ long-r; zero = λ z l. zeros z l .1 ∙ k .cleared .1 .zero z }) f laid-are

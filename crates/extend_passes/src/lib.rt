@@ -30,7 +30,7 @@ ghost use Rattle.sums_slide.specs.Levels.{level, Lent, windowsOf};
 ghost use Rattle.sums_slide.specs.Picked.{Appended};
 ghost use Rattle.rows_pack.specs.Packed.{Summed};
 ghost use Rattle.build_fill.specs.Turn.{At};
-ghost use Rattle.build_passes.specs.Filled.{buffers};
+ghost use Rattle.meaning_entries.specs.Buffers.{indexBuffers};
 ghost use Rattle.extend_count.specs.Rank.{rank};
 ghost use Rattle.extend_count.specs.Count.{Countable, Counted};
 ghost use Rattle.extend_new.specs.New.{newTable, lessJoin};
@@ -263,7 +263,7 @@ pub fn extend_passes(
 ) -> usize
     requires { ⌜ (PassesAsked (now s) w e d base old (now from) (now lefts) (now rights) (now rows) (now left) (now right)) × (bias ≡ greatestValue * w + e) ⌝ }
     ensures { λ n. ⌜ (n ≡ length (extended (indexOf w d old (now (from .entry)) (now (lefts .entry)) (now (rights .entry))) (now (s .entry)) .rows))
-        × HoldsExtended (indexOf w d old (now (from .entry)) (now (lefts .entry)) (now (rights .entry))) (now (s .entry)) (buffers (now (rows .entry)) (now (left .entry)) (now (right .entry))) (buffers (now (rows .exit)) (now (left .exit)) (now (right .exit))) ⌝ }
+        × HoldsExtended (indexOf w d old (now (from .entry)) (now (lefts .entry)) (now (rights .entry))) (now (s .entry)) (indexBuffers (now (rows .entry)) (now (left .entry)) (now (right .entry))) (indexBuffers (now (rows .exit)) (now (left .exit)) (now (right .exit))) ⌝ }
 {
     let n = weave_new(s, w, e, d, base, old, from, rows, left);
     let i = count_rows(s, w, e, bias, old, rows, n, left, right);

@@ -23,6 +23,9 @@ pub record IndexBuffers : Type 0 where
   pub left : List ℕ
   pub right : List ℕ
 
+abbrev pub indexBuffers : List Row → List ℕ → List ℕ → IndexBuffers
+indexBuffers rows left right = record { rows = rows; left = left; right = right }
+
 abbrev pub runRoom : IndexBuffers → ℕ
 runRoom b = pairRoom (b .left) (b .right)
 

@@ -59,6 +59,9 @@ pub record SearchBuffers : Type 0 where
   pub offsets : List ℕ
   pub distances : List ℕ
 
+abbrev pub searchBuffers : List ℕ → List ℕ → List ℕ → List ℕ → List ℕ → SearchBuffers
+searchBuffers left right scratch offsets distances = record { left = left; right = right; scratch = scratch; offsets = offsets; distances = distances }
+
 -- what a call within its limits asks
 unfoldable pub question : SearchCall → Question
 question c = record { series = c .series; query = c .query; ask = plainAsk (c .ask) }

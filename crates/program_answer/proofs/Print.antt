@@ -37,7 +37,7 @@ use Rattle.meaning_entries.proofs.Made.{build-passes, build-most}
 use Rattle.meaning_entries.proofs.Passes as Audit
 use Rattle.meaning_entries.proofs.Listed.{listed-is}
 use Rattle.meaning_filter.proofs.Matches.{all-found}
-use Rattle.build_passes.specs.Filled.{buffers as indexBuffers}
+use Rattle.meaning_entries.specs.Buffers.{indexBuffers}
 use Rattle.program_input.specs.declared.Asked.{Asked}
 use Rattle.program_input.specs.Tables.{callOf}
 use Rattle.text_put.specs.Put.{Put}

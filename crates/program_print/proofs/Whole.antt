@@ -25,7 +25,7 @@ use Rattle.meaning_entries.specs.Program.{callLines, printed}
 use Rattle.meaning_entries.specs.Demand2.{BuildKept, WriteKept}
 use Rattle.meaning_entries.proofs.Refusal.{AllPass, openLines, passed-line, not-if}
 use Rattle.meaning_entries.proofs.Made.{build-most}
-use Rattle.build_passes.specs.Filled.{buffers}
+use Rattle.meaning_entries.specs.Buffers.{indexBuffers}
 use Rattle.program_input.specs.declared.Asked.{Asked}
 use Rattle.program_input.specs.Tables.{callOf}
 use Rattle.program_answer.proofs.Print.{x, few, build-free, stands, lent-is, d, search-is, printed-is, found-few, index-few, write-free, search-free, put-behind}
@@ -43,7 +43,7 @@ module _ (s q : List ℤ) (a : Asked) (free : AllPass (callLines (callOf s q a))
   y = x s q a free
 
   module _ (rows : List Row) (left right : List ℕ) (r : length rows ≡ 4096) (l : length left ≡ 4096) (k : length right ≡ 4096) (answer : Built) (rows′ : List Row) (left′ right′ : List ℕ)
-      (h : BuildKept (lentBuild s (a .window) (a .width) (a .merge)) (buffers rows left right) answer (buffers rows′ left′ right′)) where
+      (h : BuildKept (lentBuild s (a .window) (a .width) (a .merge)) (indexBuffers rows left right) answer (indexBuffers rows′ left′ right′)) where
     answered : answer ≡ Built.Index (headOf y) (length (y .rows)) (length (y .runs))
     answered = stands s q a free rows left right r l k h .answered
 
@@ -65,10 +65,10 @@ module _ (s q : List ℤ) (a : Asked) (free : AllPass (callLines (callOf s q a))
       runs-are = let g = index-same in cc
 
       pub rows-few : n ≤ 4096
-      rows-few = omega (arith, rows-are, build-most (lentBuild s (a .window) (a .width) (a .merge)) (buffers rows left right) (build-free s q a free rows left right r l k) .0, few s q a free, window-some)
+      rows-few = omega (arith, rows-are, build-most (lentBuild s (a .window) (a .width) (a .merge)) (indexBuffers rows left right) (build-free s q a free rows left right r l k) .0, few s q a free, window-some)
 
       pub runs-few : m ≤ 4096
-      runs-few = omega (arith, runs-are, build-most (lentBuild s (a .window) (a .width) (a .merge)) (buffers rows left right) (build-free s q a free rows left right r l k) .1, few s q a free, window-some)
+      runs-few = omega (arith, runs-are, build-most (lentBuild s (a .window) (a .width) (a .merge)) (indexBuffers rows left right) (build-free s q a free rows left right r l k) .1, few s q a free, window-some)
 
       lent-here : lent head (take n rows′) (take m left′) (take m right′) ≡ y
       lent-here = let st = stands s q a free rows left right r l k h in rw (head-is, rows-are, runs-are, st .table, st .first, st .last) (lent-is s q a free)

@@ -1,9 +1,9 @@
 -- Written by tools/walk from the plan in the lines marked |. Change those, and run `tools/walk entry_build build`.
--- A plan that refuses leaves the buffers as they were; else the index is built.
--- | use Rattle.build_passes.specs.Filled.{buffers}
+-- A plan that refuses leaves the indexBuffers as they were; else the index is built.
+-- | use Rattle.meaning_entries.specs.Buffers.{indexBuffers}
 -- | use Rattle.entry_build.proofs.Stages.{halts, goes}
--- | use Rattle.build_passes.specs.Filled.{buffers}
--- | let CALL = (now series) w d g (buffers (now rows) (now left) (now right)) p planned
+-- | use Rattle.meaning_entries.specs.Buffers.{indexBuffers}
+-- | let CALL = (now series) w d g (indexBuffers (now rows) (now left) (now right)) p planned
 -- | p, planned = make_plan
 -- | if refused:
 -- |   t, stopped = refuse
@@ -14,7 +14,7 @@ use Rattle.rows_records.proofs.Prelude.{refl, Bool, not, ℕ, List, [], _∷_, 
 use contract.Running.{tablesOf}
 use types.Run.{load, fld}
 use types.Part.{look-in}
-use Rattle.build_passes.specs.Filled.{buffers}
+use Rattle.meaning_entries.specs.Buffers.{indexBuffers}
 use Rattle.entry_build.proofs.Stages.{halts, goes}
 use Rattle.meaning_entries.specs.declared.Built.{Built}
 use Rattle.meaning_entries.proofs.Built as Builtᵀ
@@ -110,7 +110,7 @@ module _ {M : Type 1} (𝓤 : URA M) (H : Heap 𝓤) (A : Atoms 𝓤) (W : Given
         returns-within ! Post refl (look ! 8 refl) $
         frees-all ! (token 𝓤 H A series° ∷ viewed 𝓤 H A series° ∷ token 𝓤 H A rows° ∷ lent-at 𝓤 H A rows° (now rows) ∷ token 𝓤 H A left° ∷ lent-at 𝓤 H A left° (now left) ∷ token 𝓤 H A right° ∷ lent-at 𝓤 H A right° (now right) ∷ []) (holds _ ∷ holds _ ∷ holds _ ∷ holds _ ∷ holds _ ∷ holds _ ∷ holds _ ∷ holds _ ∷ holds _ ∷ holds _ ∷ holds _ ∷ holds _ ∷ holds _ ∷ empty ∷ empty ∷ empty ∷ empty ∷ empty ∷ empty ∷ []) tt $
         keep ! (0 ∷ 1 ∷ 2 ∷ 3 ∷ 4 ∷ 5 ∷ 6 ∷ 7 ∷ []) $
-        by ! (leaves-with 𝓤 H A W f.ended (f.clauses 𝓤 H A mem run) bound (kept series° ∷ lends rows° (now rows) refl ∷ lends left° (now left) refl ∷ lends right° (now right) refl ∷ []) ((Builtᴰ 𝓤 H A W) .val t) t (tt, (tt, (tt, (tt, ((now rows), ((now left), ((now right), tt))))))) refl refl ((Builtᴰ 𝓤 H A W) .makes t _ is₂) (factI 𝓤 _ (emp 𝓤) (halts (now series) w d g (buffers (now rows) (now left) (now right)) p planned refused stopped)))))
+        by ! (leaves-with 𝓤 H A W f.ended (f.clauses 𝓤 H A mem run) bound (kept series° ∷ lends rows° (now rows) refl ∷ lends left° (now left) refl ∷ lends right° (now right) refl ∷ []) ((Builtᴰ 𝓤 H A W) .val t) t (tt, (tt, (tt, (tt, ((now rows), ((now left), ((now right), tt))))))) refl refl ((Builtᴰ 𝓤 H A W) .makes t _ is₂) (factI 𝓤 _ (emp 𝓤) (halts (now series) w d g (indexBuffers (now rows) (now left) (now right)) p planned refused stopped)))))
         (λ no-refused. rewrite ! 32 (λ (t : Bool). ‵ (fat fullShare tyBool l₁₂ 0 (vbool t))) no-refused refl $ passes-by ! (loc ! 32 refl) $
         put-at ! 34 (start ! 18 refl (sub ! 0 refl (whole !))) refl (tt, tt) $
         put-at ! 36 (agg ! (and-then ! (loc ! 34 refl) (and-then ! (part ! 18 refl (sub ! 1 refl (whole !))) (no-more !)))) refl (tt, (tt, (record { fits = g-rows .0 }, tt))) $
@@ -120,7 +120,7 @@ module _ {M : Type 1} (𝓤 : URA M) (H : Heap 𝓤) (A : Atoms 𝓤) (W : Given
         put-at ! 44 (agg ! (and-then ! (loc ! 42 refl) (and-then ! (part ! 22 refl (sub ! 1 refl (whole !))) (no-more !)))) refl (tt, (tt, (record { fits = g-right .0 }, tt))) $
         move ! (0 ∷ 1 ∷ 2 ∷ 3 ∷ 4 ∷ 5 ∷ 6 ∷ 7 ∷ []) $
         calls-with ! fm build-planned.ended (build-planned.clauses 𝓤 H A mem run) known-build-planned (kept series° ∷ value (uint 𝓤 H A W w32) w g-w ∷ value (uint 𝓤 H A W w32) d g-d ∷ value (uint 𝓤 H A W w32) g g-g ∷ value (BuildPlanᴰ 𝓤 H A W) p is₁ ∷ lends rows° (now rows) refl ∷ lends left° (now left) refl ∷ lends right° (now right) refl ∷ [])
-        (λ fs. (((κs .0, (fs .0 .0 ∷ [], (fs .1 .0 .0 ∷ [], (fs .1 .1 .0 .0 ∷ [], tt)))), (qs .0, (fullShare, (fullShare, (fullShare, tt)))), tt, (series, (w, (d, (g, (p, (record { ptr = rows .ptr; name = fs .0 .1; now = (now rows) }, (record { ptr = left .ptr; name = fs .1 .0 .1; now = (now left) }, (record { ptr = right .ptr; name = fs .1 .1 .0 .1; now = (now right) }, tt)))))))), (slice-vals series, ((uint 𝓤 H A W w32) .val w ∷ [], ((uint 𝓤 H A W w32) .val d ∷ [], ((uint 𝓤 H A W w32) .val g ∷ [], ((BuildPlanᴰ 𝓤 H A W) .val p ∷ [], (slice-vals rows, (slice-vals left, (slice-vals right, tt))))))))), tt)) (λ fs. refl) (λ fs. refl) (λ fs ls. ls) (λ fs ls. refl) (λ fs. factI 𝓤 _ (emp 𝓤) ((planned, goes (now series) w d g (buffers (now rows) (now left) (now right)) p planned no-refused))) (λ fs r ls. id⊢ 𝓤 _) (λ fs. (Builtᴰ 𝓤 H A W) .val) (λ fs. (Builtᴰ 𝓤 H A W) .tells) (λ fs. (and-then ! (loc ! 4 refl) (and-then ! (loc ! 6 refl) (and-then ! (loc ! 8 refl) (and-then ! (loc ! 10 refl) (and-then ! (loc ! 18 refl) (and-then ! (loc ! 30 refl) (and-then ! (loc ! 34 refl) (and-then ! (loc ! 38 refl) (no-more !)))))))))) (λ fs t ls₃ done-so is₃ fits₃.
+        (λ fs. (((κs .0, (fs .0 .0 ∷ [], (fs .1 .0 .0 ∷ [], (fs .1 .1 .0 .0 ∷ [], tt)))), (qs .0, (fullShare, (fullShare, (fullShare, tt)))), tt, (series, (w, (d, (g, (p, (record { ptr = rows .ptr; name = fs .0 .1; now = (now rows) }, (record { ptr = left .ptr; name = fs .1 .0 .1; now = (now left) }, (record { ptr = right .ptr; name = fs .1 .1 .0 .1; now = (now right) }, tt)))))))), (slice-vals series, ((uint 𝓤 H A W w32) .val w ∷ [], ((uint 𝓤 H A W w32) .val d ∷ [], ((uint 𝓤 H A W w32) .val g ∷ [], ((BuildPlanᴰ 𝓤 H A W) .val p ∷ [], (slice-vals rows, (slice-vals left, (slice-vals right, tt))))))))), tt)) (λ fs. refl) (λ fs. refl) (λ fs ls. ls) (λ fs ls. refl) (λ fs. factI 𝓤 _ (emp 𝓤) ((planned, goes (now series) w d g (indexBuffers (now rows) (now left) (now right)) p planned no-refused))) (λ fs r ls. id⊢ 𝓤 _) (λ fs. (Builtᴰ 𝓤 H A W) .val) (λ fs. (Builtᴰ 𝓤 H A W) .tells) (λ fs. (and-then ! (loc ! 4 refl) (and-then ! (loc ! 6 refl) (and-then ! (loc ! 8 refl) (and-then ! (loc ! 10 refl) (and-then ! (loc ! 18 refl) (and-then ! (loc ! 30 refl) (and-then ! (loc ! 34 refl) (and-then ! (loc ! 38 refl) (no-more !)))))))))) (λ fs t ls₃ done-so is₃ fits₃.
         land ! (from ! (stop !)) (init ! 8 refl ((Builtᴰ 𝓤 H A W) .lawful .typed t _ is₃ .0)) $
         tidy ! (token 𝓤 H A series° ∷ viewed 𝓤 H A series° ∷ token 𝓤 H A rows° ∷ lent-at 𝓤 H A rows° (ls₃ .1 .1 .1 .1 .1 .0) ∷ token 𝓤 H A left° ∷ lent-at 𝓤 H A left° (ls₃ .1 .1 .1 .1 .1 .1 .0) ∷ token 𝓤 H A right° ∷ lent-at 𝓤 H A right° (ls₃ .1 .1 .1 .1 .1 .1 .1 .0) ∷ []) (holds _ ∷ holds _ ∷ holds _ ∷ holds _ ∷ holds _ ∷ holds _ ∷ holds _ ∷ holds _ ∷ holds _ ∷ holds _ ∷ holds _ ∷ holds _ ∷ holds _ ∷ holds _ ∷ holds _ ∷ holds _ ∷ holds _ ∷ holds _ ∷ holds _ ∷ []) refl $
         returns ! (look ! 8 refl) $

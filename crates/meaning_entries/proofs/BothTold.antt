@@ -13,7 +13,7 @@ use Rattle.meaning_entries.specs.Audit.{AuditCall, auditAnswer, Passes}
 use Rattle.meaning_entries.specs.Search.{SearchCall, SearchBuffers, searchMatches, searchCandidates, searchRefusal, searchAnswer, searchAfter}
 use Rattle.meaning_entries.specs.Demand2.{AuditKept, SearchKept}
 use Rattle.meaning_entries.specs.Demand3.{through}
-use Rattle.meaning_entries.specs.Told.{yes, toldSecond, toldFound, told, auditOf, demandAnswer, inTurn, demandRefusal, demandWrong, demandMissing, demandCounts, demandFound}
+use Rattle.meaning_entries.specs.Both.{yes, toldSecond, toldFound, told, auditOf, demandAnswer, inTurn, demandRefusal, demandWrong, demandMissing, demandCounts, demandFound}
 use Rattle.meaning_entries.proofs.Demand2.{audit-kept, search-kept}
 
 -- an audit that does not say yes

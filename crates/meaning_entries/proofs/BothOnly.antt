@@ -4,15 +4,15 @@ use mathlib.Core.Bool.{false≢true}
 use mathlib.Core.Option.{Option, none, some, Option·some-ne-none}
 use Prim.Native.Nat.{ℕ}
 use Rattle.meaning_rows.specs.Index.{Index}
 use Rattle.meaning_entries.specs.declared.Audited.{Audited}
 use Rattle.meaning_entries.specs.declared.Both.{Both}
 use Rattle.meaning_entries.specs.Answers.{bothCounts}
 use Rattle.meaning_entries.specs.Audit.{auditAnswer, Passes}
 use Rattle.meaning_entries.specs.Search.{SearchCall, SearchBuffers, searchRefusal, searchAfter}
 use Rattle.meaning_entries.specs.Demand3.{through}
-use Rattle.meaning_entries.specs.Told.{yes, auditOf, demandAnswer}
-use Rattle.meaning_entries.proofs.Told.{first-audit, second-audit, first-search, second-search, both-listed, demand-counts}
-use Rattle.demand.specs.Both.{Demand3Kept}
+use Rattle.meaning_entries.specs.Both.{yes, auditOf, demandAnswer}
+use Rattle.meaning_entries.proofs.BothTold.{first-audit, second-audit, first-search, second-search, both-listed, demand-counts}
+use Rattle.meaning_entries.specs.Both.{Demand3Kept}
 
 -- whether an audit says yes, and whether a search is refused, is known
 by-audit : {P : Type 0} (a : Audited) → (a ≡ Audited.Yes → P) → ((a ≡ Audited.Yes → ⊥) → P) → P

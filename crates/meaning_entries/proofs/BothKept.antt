@@ -3,17 +3,17 @@ use mathlib.Core.Path.{_≡_, refl, sym, subst}
 use mathlib.Core.Option.{none}
 use lib.ListN.{length}
 use Rattle.meaning_rows.specs.Index.{Index}
 use Rattle.meaning_entries.specs.declared.Audited.{Audited}
 use Rattle.meaning_entries.specs.declared.Found.{Found}
 use Rattle.meaning_entries.specs.declared.Both.{Both}
 use Rattle.meaning_entries.specs.Audit.{Passes}
 use Rattle.meaning_entries.specs.Search.{SearchCall, SearchBuffers, searchMatches, searchCandidates, searchRefusal, searchAnswer}
 use Rattle.meaning_entries.specs.Demand2.{AuditKept, SearchKept}
 use Rattle.meaning_entries.specs.Demand3.{through}
-use Rattle.meaning_entries.specs.Told.{told, auditOf, demandAnswer}
+use Rattle.meaning_entries.specs.Both.{told, auditOf, demandAnswer}
 use Rattle.meaning_entries.proofs.Demand3.{demand3}
-use Rattle.meaning_entries.proofs.Told.{all-told, first-audit, second-audit, first-search, second-search, both-listed, demand-refusal, demand-wrong, demand-missing, demand-counts, demand-found}
-use Rattle.demand.specs.Both.{BothListed, Demand3Kept}
+use Rattle.meaning_entries.proofs.BothTold.{all-told, first-audit, second-audit, first-search, second-search, both-listed, demand-refusal, demand-wrong, demand-missing, demand-counts, demand-found}
+use Rattle.meaning_entries.specs.Both.{BothListed, Demand3Kept}
 
 module _ (c : SearchCall) (x : Index) (before₁ before₂ after₁ after₂ : SearchBuffers) where
   -- the answer that is meant keeps the promise

@@ -10,9 +10,12 @@ use Rattle.meaning_entries.specs.declared.Audited.{Audited}
 use Rattle.meaning_entries.specs.declared.Found.{Found}
 use Rattle.meaning_entries.specs.declared.Both.{Both}
 use Rattle.meaning_entries.specs.Refusal.{firstRefusal}
-use Rattle.meaning_entries.specs.Audit.{AuditCall, auditTable, auditAnswer, auditWrong, auditMissing}
+use Rattle.meaning_entries.specs.Audit.{AuditCall, auditTable, auditAnswer, auditWrong, auditMissing, Passes}
 use Rattle.meaning_entries.specs.Search.{SearchCall, SearchBuffers, searchMatches, searchRefusal, searchAnswer, searchCounts}
-use Rattle.meaning_entries.specs.Demand3.{through}
+use Rattle.meaning_entries.specs.Demand3.{through, listIn, SameMatches}
+use mathlib.Core.Path.{_≡_}
+use Rattle.meaning_entries.specs.Answers.{bothRefusal, bothWrong, bothMissing, bothCounts, bothFound}
+use Rattle.meaning_entries.specs.Demand2.{SearchKept}
 
 unfoldable pub yes : Audited → Bool
 yes Audited.Yes = true
@@ -71,3 +74,31 @@ demandCounts c x b₁ b₂ = inTurn c x b₁ b₂ (0, 0) (0, 0) (0, 0) (0, 0) (l
 -- how many candidates and matches of a search that is refused: 0, but 24 gives both true counts
 abbrev pub demandFound : SearchCall → Index → SearchBuffers → SearchBuffers → ℕ × ℕ
 demandFound c x b₁ b₂ = inTurn c x b₁ b₂ (0, 0) (0, 0) (searchCounts c b₁) (searchCounts (through x c) b₂) (0, 0)
+
+-- ---- the promise
+
+-- the answer has both counts; counts and lists are the same, and each list is exactly all matches
+pub record BothListed (c : SearchCall) (answer : Both) (after₁ after₂ : SearchBuffers) : Type 0 where
+  pub count₁ : ℕ
+  pub count₂ : ℕ
+  pub answered : answer ≡ Both.Listed count₁ count₂
+  pub same : SameMatches c count₁ count₂ (listIn count₁ after₁) (listIn count₂ after₂)
+
+-- `c` is the first search, `through x c` the same search through the other index
+pub record Demand3Kept (c : SearchCall) (x : Index) (before₁ before₂ : SearchBuffers) (answer : Both) (after₁ after₂ : SearchBuffers) : Type 0 where
+  -- where both audits say yes and neither search is refused
+  pub listed : Passes (c .index) (c .series) → Passes x (c .series) → searchRefusal c before₁ ≡ none → searchRefusal (through x c) before₂ ≡ none → BothListed c answer after₁ after₂
+  -- where not, the first that fails is told, with all that it answered: the audits, then the searches
+  pub first-audit : (Passes (c .index) (c .series) → ⊥) → answer ≡ Both.FirstAudit (auditAnswer (auditOf c))
+  pub second-audit : Passes (c .index) (c .series) → (Passes x (c .series) → ⊥) → answer ≡ Both.SecondAudit (auditAnswer (auditOf (through x c)))
+  pub first-search : Passes (c .index) (c .series) → Passes x (c .series) → (searchRefusal c before₁ ≡ none → ⊥) → answer ≡ Both.FirstSearch (searchAnswer c before₁)
+  pub second-search : Passes (c .index) (c .series) → Passes x (c .series) → searchRefusal c before₁ ≡ none → (searchRefusal (through x c) before₂ ≡ none → ⊥) → answer ≡ Both.SecondSearch (searchAnswer (through x c) before₂)
+  -- this paper's number and place, wrong row and offset, windows that stand nowhere, matches of both lists, and true counts of 24
+  pub refused : bothRefusal answer ≡ demandRefusal c x before₁ before₂
+  pub wrong : bothWrong answer ≡ demandWrong c x before₁ before₂
+  pub missing : bothMissing answer ≡ demandMissing c x before₁ before₂
+  pub counted : bothCounts answer ≡ demandCounts c x before₁ before₂
+  pub found : bothFound answer ≡ demandFound c x before₁ before₂
+  -- in any case all buffers are as each search leaves them
+  pub first : SearchKept c before₁ (searchAnswer c before₁) after₁
+  pub second : SearchKept (through x c) before₂ (searchAnswer (through x c) before₂) after₂
