@@ -52,12 +52,12 @@ use Rattle.rows_judge.specs.declared.Judged.{Judged}
 use Rattle.rows_judge.proofs.Judged as J
 use Rattle.rows_judge.proofs.Judged.Laws as J′
 use Rattle.rows_judge.proofs.Calls.{low-head, IsHead, low-judged, IsJudged}
-use Rattle.entry_audit.specs.declared.Auditing.{Auditing}
+use Rattle.entry_audit.specs.declared.RowsAudited.{RowsAudited}
 use Rattle.entry_audit.specs.declared.AuditPlan.{AuditPlan}
 use Rattle.entry_audit.specs.Auditing.{Ready, chunked}
 use Rattle.entry_audit.specs.Plan.{planOf, began, answerOf}
-use Rattle.entry_audit.proofs.Auditing as S
-use Rattle.entry_audit.proofs.Auditing.Laws as S′
+use Rattle.entry_audit.proofs.RowsAudited as S
+use Rattle.entry_audit.proofs.RowsAudited.Laws as S′
 use Rattle.entry_audit.proofs.AuditPlan as P
 use Rattle.entry_audit.proofs.AuditPlan.Laws as P′
 use Rattle.entry_audit.proofs.make_plan as plan
@@ -76,10 +76,10 @@ abbrev pub OwnZ : Lft → Zs → Fml
 OwnZ κ x = ShrSlice (named 0) κ i32 .own x (slice-vals x)
 
 -- machine values, and what is known of values that are owned
-abbrev pub low-state : Auditing → Val
+abbrev pub low-state : RowsAudited → Val
 low-state = LL.val S.the-type S′.the-laws
 
-abbrev pub IsState : Auditing → Type 0
+abbrev pub IsState : RowsAudited → Type 0
 IsState s = Is S.the-row s (low-state s ∷ [])
 
 abbrev pub low-plan : AuditPlan → Val
@@ -114,7 +114,7 @@ module _ {M : Type 1} (𝓤 : URA M) (H : Heap 𝓤) (A : Atoms 𝓤) (mem : Mem
   abbrev pub to-begin : AuditPlan → Begin .Ghost
   to-begin p = ((tt, tt, tt, (p, tt), (low-plan p ∷ [], tt)), tt)
 
-  abbrev pub to-answer : AuditPlan → Auditing → Answer .Ghost
+  abbrev pub to-answer : AuditPlan → RowsAudited → Answer .Ghost
   to-answer p s = ((tt, tt, tt, (p, (s, tt)), (low-plan p ∷ [], (low-state s ∷ [], tt))), tt)
 
   abbrev pub to-plan : Lft → Share → Zs → Head → Judged → MakePlan .Ghost
@@ -124,7 +124,7 @@ module _ {M : Type 1} (𝓤 : URA M) (H : Heap 𝓤) (A : Atoms 𝓤) (mem : Mem
     asks-begin : (p : AuditPlan) → IsPlan p → ent 𝓤 (emp 𝓤) (Begin .pre (to-begin p))
     asks-begin p g = qed W [] ∵ nothing ! $ nothing ! $ nothing ! $ owned ! P.the-row (Is P.the-row) (LL.makes P.the-type P′.the-plain 𝓤 H A) p _ g $ fjoin ! $ move ! (1 ∷ 0 ∷ []) $ join ! $ frame ! $ done !
 
-    asks-answer : (p : AuditPlan) (s : Auditing) → IsPlan p → IsState s → ent 𝓤 (emp 𝓤) (Answer .pre (to-answer p s))
+    asks-answer : (p : AuditPlan) (s : RowsAudited) → IsPlan p → IsState s → ent 𝓤 (emp 𝓤) (Answer .pre (to-answer p s))
     asks-answer p s g f = qed W [] ∵ nothing ! $ nothing ! $ nothing ! $ owned ! S.the-row (Is S.the-row) (LL.makes S.the-type S′.the-plain 𝓤 H A) s _ f $ fjoin ! $
         owned ! P.the-row (Is P.the-row) (LL.makes P.the-type P′.the-plain 𝓤 H A) p _ g $ fjoin ! $ move ! (1 ∷ 0 ∷ []) $ join ! $ frame ! $ done !
 
@@ -135,10 +135,10 @@ module _ {M : Type 1} (𝓤 : URA M) (H : Heap 𝓤) (A : Atoms 𝓤) (mem : Mem
         move ! (2 ∷ 0 ∷ []) $ fjoin ! $ move ! (1 ∷ 0 ∷ []) $ join ! $ frame ! $ done !
 
     module _ (κ₂ κ₃ : Lft) (q₂ q₃ : Share) (u w : Ns) where
-      abbrev pub to-chunk : Lft → Share → List Row → ℕ → Auditing → Zs → Head → AuditChunk .Ghost
+      abbrev pub to-chunk : Lft → Share → List Row → ℕ → RowsAudited → Zs → Head → AuditChunk .Ghost
       to-chunk κ q l from s z h = (((κ, (κ₂, (κ₃, tt))), (q, (q₂, (q₃, tt))), tt, (l, (from, (s, (z, (h, (u, (w, tt))))))), (chunk l ∷ [], (vint w64 from ∷ [], (low-state s ∷ [], (slice-vals z, (low-head h ∷ [], (slice-vals u, (slice-vals w, tt)))))))), tt)
 
-      asks-chunk : (κ : Lft) (q : Share) (l : List Row) (from : ℕ) (s : Auditing) (z : Zs) (h : Head) → IsChunk l → from < 2 ^ 64 → IsState s → IsHead h
+      asks-chunk : (κ : Lft) (q : Share) (l : List Row) (from : ℕ) (s : RowsAudited) (z : Zs) (h : Head) → IsChunk l → from < 2 ^ 64 → IsState s → IsHead h
           → (s .go ≡ true → Ready (now z) h (now u) (now w) l from)
           → ent 𝓤 (sep 𝓤 (mean 𝓤 H A (‵ (flft κ q) ⊛ Toks 𝓤 κ₂ κ₃ q₂ q₃)) (mean 𝓤 H A (‵ (OwnZ κ z) ⊛ Owns 𝓤 κ₂ κ₃ u w))) (AuditChunk .pre (to-chunk κ q l from s z h))
       asks-chunk κ q l from s z h gl gf gs gh y = qed W ((‵ (flft κ q) ⊛ Toks 𝓤 κ₂ κ₃ q₂ q₃) ∷ (‵ (OwnZ κ z) ⊛ Owns 𝓤 κ₂ κ₃ u w) ∷ []) ∵ says ! y $ move ! (1 ∷ []) $ split ! $ move ! (1 ∷ []) $ split ! $ nothing ! $ move ! (2 ∷ 0 ∷ []) $ fjoin ! $ move ! (1 ∷ 0 ∷ []) $ fjoin ! $
@@ -151,12 +151,12 @@ module _ {M : Type 1} (𝓤 : URA M) (H : Heap 𝓤) (A : Atoms 𝓤) (mem : Mem
 module _ {M : Type 1} {𝓤 : URA M} {H : Heap 𝓤} {A : Atoms 𝓤} {K : Type 0} {W : Given 𝓤 H A} {Γ : List (Item 𝓤)} {E : Env 𝓤 H} {C : Calls 𝓤 H} {Λ : Loops 𝓤 H} {p : Post 𝓤 H} {d : Place} {rest : Body} {xs : List Operand} where
   pub calls-begin : K → FmC 𝓤 H (W .laws) C → (mem : Memory → SProp 𝓤) (run : Routine → Fun 𝓤) → Triple 𝓤 (C #entry-audit·begin) (Begin 𝓤 H A mem run) → (y : AuditPlan) → IsPlan y
       → Opds K W (raw (Begin 𝓤 H A mem run .pre (to-begin 𝓤 H A mem run y)) ∷ Γ) E xs (low-plan y ∷ [])
-      → ((s : Auditing) → s ≡ began y → IsState s → Seq K W Γ (lands C Λ E d (low-state s) rest p)) → Seq K W Γ (runs C Λ E (seq (call #entry-audit·begin xs d) rest) p)
+      → ((s : RowsAudited) → s ≡ began y → IsState s → Seq K W Γ (lands C Λ E d (low-state s) rest p)) → Seq K W Γ (runs C Λ E (seq (call #entry-audit·begin xs d) rest) p)
   calls-begin t fm mem run met y g os k =
       calls-plain t fm begin.signature (begin.spec 𝓤 H A mem run) met (to-begin 𝓤 H A mem run y) (asks-begin 𝓤 H A mem run W y g) (began y) low-state (LL.tells S.the-type S′.the-laws)
       (λ r. exE 𝓤 _ (λ ws. snd∗ 𝓤 (sem 𝓤 H A (lasts begin.ended tt (y, tt) ws)) (fact 𝓤 (r ≡ began y)))) os (k (began y) refl)
 
-  pub calls-answer : K → FmC 𝓤 H (W .laws) C → (mem : Memory → SProp 𝓤) (run : Routine → Fun 𝓤) → Triple 𝓤 (C #entry-audit·answer) (Answer 𝓤 H A mem run) → (y : AuditPlan) (s : Auditing) → IsPlan y → IsState s
+  pub calls-answer : K → FmC 𝓤 H (W .laws) C → (mem : Memory → SProp 𝓤) (run : Routine → Fun 𝓤) → Triple 𝓤 (C #entry-audit·answer) (Answer 𝓤 H A mem run) → (y : AuditPlan) (s : RowsAudited) → IsPlan y → IsState s
       → Opds K W (raw (Answer 𝓤 H A mem run .pre (to-answer 𝓤 H A mem run y s)) ∷ Γ) E xs (low-plan y ∷ low-state s ∷ [])
       → (IsAudited (answerOf y s) → Seq K W Γ (lands C Λ E d (low-audited (answerOf y s)) rest p)) → Seq K W Γ (runs C Λ E (seq (call #entry-audit·answer xs d) rest) p)
   calls-answer t fm mem run met y s g f os next =
@@ -173,7 +173,7 @@ module _ {M : Type 1} {𝓤 : URA M} {H : Heap 𝓤} {A : Atoms 𝓤} {K : Type 
       (λ r. exE 𝓤 _ (λ ws. snd∗ 𝓤 (sem 𝓤 H A (lasts plan.ended (κ, tt) (z, (h, (j, tt))) ws)) (fact 𝓤 (r ≡ planOf (now z) h j)))) os (k (planOf (now z) h j) refl)
 
   module _ (κ₂ κ₃ : Lft) (q₂ q₃ : Share) (u w : Ns) where
-    pub calls-chunk : K → FmC 𝓤 H (W .laws) C → (mem : Memory → SProp 𝓤) (run : Routine → Fun 𝓤) → Triple 𝓤 (C #entry-audit·audit-chunk) (AuditChunk 𝓤 H A mem run) → (κ : Lft) (q : Share) (l : List Row) (from : ℕ) (s : Auditing) (z : Zs) (h : Head)
+    pub calls-chunk : K → FmC 𝓤 H (W .laws) C → (mem : Memory → SProp 𝓤) (run : Routine → Fun 𝓤) → Triple 𝓤 (C #entry-audit·audit-chunk) (AuditChunk 𝓤 H A mem run) → (κ : Lft) (q : Share) (l : List Row) (from : ℕ) (s : RowsAudited) (z : Zs) (h : Head)
         → IsChunk l → from < 2 ^ 64 → IsState s → IsHead h → (s .go ≡ true → Ready (now z) h (now u) (now w) l from)
         → Opds K W (raw (AuditChunk 𝓤 H A mem run .pre (to-chunk 𝓤 H A mem run W κ₂ κ₃ q₂ q₃ u w κ q l from s z h)) ∷ (‵ (OwnZ κ z) ⊛ Owns 𝓤 κ₂ κ₃ u w) ∷ Γ) E xs (chunk l ∷ vint w64 from ∷ low-state s ∷ sliceVal (ptr z) (length (now z)) ∷ low-head h ∷ sliceVal (ptr u) (length (now u)) ∷ sliceVal (ptr w) (length (now w)) ∷ [])
         → (IsState (chunked (now z) h (now u) (now w) s from l)

@@ -19,11 +19,11 @@ use Rattle.meaning_entries.proofs.Lines.{values-line, formed-line, fewer-line, 
 use Rattle.meaning_entries.proofs.Passes.{same-windows}
 use Rattle.refusals.specs.Refusal.{refusalOf, passes, refuses}
 use Rattle.entry_audit.specs.declared.AuditPlan.{AuditPlan}
-use Rattle.entry_audit.specs.declared.Auditing.{Auditing}
+use Rattle.entry_audit.specs.declared.RowsAudited.{RowsAudited}
 use Rattle.entry_audit.specs.Auditing.{found}
 use Rattle.entry_audit.specs.Plan.{answerOf}
 
-module _ (p : AuditPlan) (s : Auditing) where
+module _ (p : AuditPlan) (s : RowsAudited) where
   pub answer-refused : (p .refusal .number ≡ 0 → ⊥) → Audited.Refused (p .refusal .number) (p .refusal .place) ≡ answerOf p s
   unfolding answerOf
   answer-refused f = rw (ne-eqb (p .refusal .number) 0 f) refl
@@ -47,7 +47,7 @@ some-lacking (suc n) f = refl
 
 -- a plan whose refusal is that of a call
 module _ (c : AuditCall) (p : AuditPlan) (is : p .refusal ≡ refusalOf (auditTable mostValues c)) where
-  pub stopped : (s : Auditing) → (p .refusal .number ≡ 0 → ⊥) → answerOf p s ≡ auditAnswer c
+  pub stopped : (s : RowsAudited) → (p .refusal .number ≡ 0 → ⊥) → answerOf p s ≡ auditAnswer c
   unfolding auditAnswer
   stopped s f = sym (answer-refused p s f) ∙ rw (auditAnswer, refuses (auditTable mostValues c) is f) refl
 
@@ -79,6 +79,6 @@ module _ (c : AuditCall) (p : AuditPlan) (is : p .refusal ≡ refusalOf (auditTa
     unfolding auditAnswer audited found
     went-wrong k j e = sym (answer-wrong p (found (some (k, j))) z refl) ∙ rw (auditAnswer, unrefused) (rw (audited, e) refl)
 
-    pub went-right : (s : Auditing) → s .go ≡ true → firstWrong (c .index) (c .series) ≡ none → p .lacking ≡ missing (c .index) → answerOf p s ≡ auditAnswer c
+    pub went-right : (s : RowsAudited) → s .go ≡ true → firstWrong (c .index) (c .series) ≡ none → p .lacking ≡ missing (c .index) → answerOf p s ≡ auditAnswer c
     unfolding auditAnswer audited
     went-right s g e m = sym (answer-complete p s z g) ∙ ap complete m ∙ rw (auditAnswer, unrefused) (rw (audited, e) refl)

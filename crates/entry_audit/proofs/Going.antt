@@ -25,7 +25,7 @@ use Rattle.refusals.specs.Refusal.{refusalOf, judged-line}
 use Rattle.rows_judge.specs.Judged.{outcome, judgedOf, bad-row}
 use Rattle.rows_judge.proofs.Outcome.{judged-by}
 use Rattle.entry_audit.specs.declared.AuditPlan.{AuditPlan}
-use Rattle.entry_audit.specs.declared.Auditing.{Auditing}
+use Rattle.entry_audit.specs.declared.RowsAudited.{RowsAudited}
 use Rattle.entry_audit.specs.Auditing.{found, Ready, wrongOf, chunked}
 use Rattle.entry_audit.specs.Plan.{tableOf, leftOver, planOf, began, answerOf}
 use Rattle.entry_audit.proofs.Cases.{stopped, values-in, formed, fits, went-wrong, went-right}
@@ -54,7 +54,7 @@ module _ (series : List ℤ) (h : Head) (rows : List Row) (left right : List ℕ
     free : thePlan .refusal .number ≡ 0
     left-over : wrongOf series (h .window) left right from (drop from rows) ≡ firstWrong X series
 
-  pub record Auditing (s : Auditing) (from : ℕ) : Type 0 where
+  pub record Auditing (s : RowsAudited) (from : ℕ) : Type 0 where
     on : s .go ≡ true → Going from
     off : s .go ≡ false → answerOf thePlan s ≡ auditAnswer call
 
@@ -64,7 +64,7 @@ module _ (series : List ℤ) (h : Head) (rows : List Row) (left right : List ℕ
     off = λ f. stopped call thePlan plan-is (began thePlan) (eqb-false (thePlan .refusal .number) 0 f);
   }
 
-  pub auditing-ready : (s : Auditing) (from : ℕ) → from + 64 < 2 ^ 64 → Auditing s from → s .go ≡ true → Ready series h left right (chunkOf rows from) from
+  pub auditing-ready : (s : RowsAudited) (from : ℕ) → from + 64 < 2 ^ 64 → Auditing s from → s .go ≡ true → Ready series h left right (chunkOf rows from) from
   auditing-ready s from l a t =
       let z = a .on t .free in
       let f = formed call thePlan plan-is z in
@@ -79,14 +79,14 @@ module _ (series : List ℤ) (h : Head) (rows : List Row) (left right : List ℕ
       }
 
   -- the state after the chunk that begins at a place
-  abbrev pub afterChunk : Auditing → ℕ → Auditing
+  abbrev pub afterChunk : RowsAudited → ℕ → RowsAudited
   afterChunk s from = chunked series h left right s from (chunkOf rows from)
 
-  chunk-on : (s : Auditing) (from : ℕ) → s .go ≡ true → afterChunk s from ≡ found (wrongOf series (h .window) left right from (chunkOf rows from))
+  chunk-on : (s : RowsAudited) (from : ℕ) → s .go ≡ true → afterChunk s from ≡ found (wrongOf series (h .window) left right from (chunkOf rows from))
   unfolding chunked
   chunk-on s from e = rw e refl
 
-  chunk-off : (s : Auditing) (from : ℕ) → s .go ≡ false → afterChunk s from ≡ s
+  chunk-off : (s : RowsAudited) (from : ℕ) → s .go ≡ false → afterChunk s from ≡ s
   unfolding chunked
   chunk-off s from e = rw e refl
 
@@ -114,10 +114,10 @@ module _ (series : List ℤ) (h : Head) (rows : List Row) (left right : List ℕ
   abbrev left-wrong : ℕ → Option (ℕ × ℕ)
   left-wrong from = wrongOf series (h .window) left right from (drop from rows)
 
-  pub auditing-next : (s : Auditing) (from : ℕ) → afterChunk s from .go ≡ true → Auditing s from → Auditing (afterChunk s from) (from + 64)
+  pub auditing-next : (s : RowsAudited) (from : ℕ) → afterChunk s from .go ≡ true → Auditing s from → Auditing (afterChunk s from) (from + 64)
   auditing-next s from t a = by-test (s .go)
       (λ e.
-      let n = found-go (here-wrong from) (sym (ap (λ (u : Auditing). u .go) (chunk-on s from e)) ∙ t) in
+      let n = found-go (here-wrong from) (sym (ap (λ (u : RowsAudited). u .go) (chunk-on s from e)) ∙ t) in
       let g = a .on e in
       record {
         on = λ u. record {
@@ -126,13 +126,13 @@ module _ (series : List ℤ) (h : Head) (rows : List Row) (left right : List ℕ
         };
         off = λ f. clash t f;
       })
-      (λ f. clash t (ap (λ (u : Auditing). u .go) (chunk-off s from f) ∙ f))
+      (λ f. clash t (ap (λ (u : RowsAudited). u .go) (chunk-off s from f) ∙ f))
 
-  pub auditing-stops : (s : Auditing) (from : ℕ) → afterChunk s from .go ≡ false → Auditing s from → answerOf thePlan (afterChunk s from) ≡ auditAnswer call
+  pub auditing-stops : (s : RowsAudited) (from : ℕ) → afterChunk s from .go ≡ false → Auditing s from → answerOf thePlan (afterChunk s from) ≡ auditAnswer call
   auditing-stops s from t a = by-test (s .go)
       (λ e.
       let g = a .on e in
-      let w = found-off (here-wrong from) (sym (ap (λ (u : Auditing). u .go) (chunk-on s from e)) ∙ t) in
+      let w = found-off (here-wrong from) (sym (ap (λ (u : RowsAudited). u .go) (chunk-on s from e)) ∙ t) in
       let first = sym (some-then (here-wrong from) (left-wrong (from + 64)) (firstWrong X series) (w .0, w .1) (chunk-then series (h .window) left right rows from ∙ g .left-over) (w .2)) in
       ap (answerOf thePlan) (chunk-on s from e ∙ ap found (w .2)) ∙ went-wrong call thePlan plan-is (g .free) (w .0) (w .1) first)
       (λ f. ap (answerOf thePlan) (chunk-off s from f) ∙ a .off f)
@@ -145,7 +145,7 @@ module _ (series : List ℤ) (h : Head) (rows : List Row) (left right : List ℕ
   unfolding wrongFrom
   none-after from l = rw (drop-of-length-le rows l) refl
 
-  pub auditing-ends : (s : Auditing) (from : ℕ) → length rows ≤ from → Auditing s from → answerOf thePlan s ≡ auditAnswer call
+  pub auditing-ends : (s : RowsAudited) (from : ℕ) → length rows ≤ from → Auditing s from → answerOf thePlan s ≡ auditAnswer call
   auditing-ends s from l a = by-test (s .go)
       (λ e.
       let g = a .on e in

@@ -17,7 +17,7 @@ use Rattle.meaning_rows.specs.Audit.{offsets, wrongIn, wrongFrom}
 use Rattle.rows_records.specs.Records.{zeroRow}
 use Rattle.rows_records.proofs.Walk.{drop-next}
 use Rattle.rows_judge.proofs.Scan.{part, part-next, part-none}
-use Rattle.entry_audit.specs.declared.Auditing.{Auditing}
+use Rattle.entry_audit.specs.declared.RowsAudited.{RowsAudited}
 use Rattle.entry_audit.specs.Auditing.{found, wrongOf, chunked}
 
 -- nothing is filed wrongly so far
@@ -88,7 +88,7 @@ module _ (series : List ℤ) (w : ℕ) (left right : List ℕ) where
 
 -- ---- the state after a chunk
 
-module _ (series : List ℤ) (h : Head) (left right : List ℕ) (s : Auditing) (from : ℕ) (chunk : List Row) where
+module _ (series : List ℤ) (h : Head) (left right : List ℕ) (s : RowsAudited) (from : ℕ) (chunk : List Row) where
   pub chunk-off : s .go ≡ false → s ≡ chunked series h left right s from chunk
   unfolding chunked
   chunk-off e = sym (ap (λ (t : Bool). cond t (found (wrongOf series (h .window) left right from chunk)) s) e)

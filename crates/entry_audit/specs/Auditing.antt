@@ -13,10 +13,10 @@ use Rattle.meaning_rows.specs.declared.Head.{Head}
 use Rattle.meaning_rows.specs.Index.{Index, entries}
 use Rattle.meaning_rows.specs.Audit.{wrongFrom}
 use Rattle.rows_records.specs.Records.{zeroRow}
-use Rattle.entry_audit.specs.declared.Auditing.{Auditing}
+use Rattle.entry_audit.specs.declared.RowsAudited.{RowsAudited}
 
 -- the state, by what is filed wrongly first
-unfoldable pub found : Option (ℕ × ℕ) → Auditing
+unfoldable pub found : Option (ℕ × ℕ) → RowsAudited
 found none = record { go = true; row = 0; offset = 0 }
 found (some p) = record { go = false; row = p .0; offset = p .1 }
 
@@ -44,5 +44,5 @@ abbrev pub wrongOf : List ℤ → ℕ → List ℕ → List ℕ → ℕ → List
 wrongOf series w left right from l = wrongFrom (onlyRuns left right) (windowSum series w) from l
 
 -- after the rows of a chunk; an audit that does not go on stays as it is
-unfoldable pub chunked : List ℤ → Head → List ℕ → List ℕ → Auditing → ℕ → List Row → Auditing
+unfoldable pub chunked : List ℤ → Head → List ℕ → List ℕ → RowsAudited → ℕ → List Row → RowsAudited
 chunked series h left right s from l = cond (s .go) (found (wrongOf series (h .window) left right from l)) s

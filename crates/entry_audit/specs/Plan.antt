@@ -14,7 +14,7 @@ use Rattle.meaning_entries.specs.Audit.{complete}
 use Rattle.rows_judge.specs.declared.Judged.{Judged}
 use Rattle.refusals.specs.Refusal.{refusalOf, judgedLine}
 use Rattle.entry_audit.specs.declared.AuditPlan.{AuditPlan}
-use Rattle.entry_audit.specs.declared.Auditing.{Auditing}
+use Rattle.entry_audit.specs.declared.RowsAudited.{RowsAudited}
 
 -- the refusals, over what code has: the index is told by its head and by what judging said of it
 unfoldable pub tableOf : List ℤ → Head → Judged → List Condition
@@ -29,8 +29,8 @@ unfoldable pub planOf : List ℤ → Head → Judged → AuditPlan
 planOf s h j = record { refusal = refusalOf (tableOf s h j); lacking = leftOver h j }
 
 -- the audit goes on where nothing refuses
-abbrev pub began : AuditPlan → Auditing
+abbrev pub began : AuditPlan → RowsAudited
 began p = record { go = eqb (p .refusal .number) 0; row = 0; offset = 0 }
 
-unfoldable pub answerOf : AuditPlan → Auditing → Audited
+unfoldable pub answerOf : AuditPlan → RowsAudited → Audited
 answerOf p s = cond (eqb (p .refusal .number) 0) (cond (s .go) (complete (p .lacking)) (Audited.Wrong (s .row) (s .offset))) (Audited.Refused (p .refusal .number) (p .refusal .place))

@@ -29,7 +29,7 @@ use rows_records::chunk_at;
 use values::window_sum;
 
 // What is known after some rows: that the audit goes on, or else the row and offset filed wrongly.
-pub struct Auditing {
+pub struct RowsAudited {
     pub go: bool,
     pub row: usize,
     pub offset: usize,
@@ -88,12 +88,12 @@ pub fn value_out(s: &[i32], rest: usize, j: usize, sum: i32) -> i32
 pub fn audit_chunk(
     chunk: [Row; 64],
     from: usize,
-    s: Auditing,
+    s: RowsAudited,
     series: &[i32],
     head: Head,
     left: &[u32],
     right: &[u32],
-) -> Auditing
+) -> RowsAudited
     requires { ⌜ (s .go ≡ true → Ready (now series) head (now left) (now right) chunk from) ⌝ }
     ensures { λ n. ⌜ n ≡ chunked (now (series .entry)) head (now (left .entry)) (now (right .entry)) s from chunk ⌝ }
 {
@@ -129,7 +129,7 @@ pub fn audit_chunk(
         }
         k += 1;
     }
-    Auditing {
+    RowsAudited {
         go: go,
         row: row,
         offset: offset,
@@ -168,10 +168,10 @@ pub fn make_plan(series: &[i32], head: Head, j: Judged) -> AuditPlan
 }
 
 // The audit goes on where nothing refuses.
-pub fn begin(p: AuditPlan) -> Auditing
+pub fn begin(p: AuditPlan) -> RowsAudited
     ensures { λ s. ⌜ s ≡ began p ⌝ }
 {
-    Auditing {
+    RowsAudited {
         go: p.refusal.number == 0,
         row: 0,
         offset: 0,
@@ -179,7 +179,7 @@ pub fn begin(p: AuditPlan) -> Auditing
 }
 
 // What is answered, where the audit of the rows ended in s.
-pub fn answer(p: AuditPlan, s: Auditing) -> Audited
+pub fn answer(p: AuditPlan, s: RowsAudited) -> Audited
     ensures { λ a. ⌜ a ≡ answerOf p s ⌝ }
 {
     if p.refusal.number != 0 {

@@ -25,7 +25,7 @@ use Rattle.meaning_entries.proofs.Again.{text-fine}
 use Rattle.meaning_entries.proofs.Refusal.{AllPass, openLines, passed-line, same-behind}
 use Rattle.rows_judge.specs.declared.Judged.{Judged}
 use Rattle.entry_audit.specs.declared.AuditPlan.{AuditPlan}
-use Rattle.entry_audit.specs.declared.Auditing.{Auditing}
+use Rattle.entry_audit.specs.declared.RowsAudited.{RowsAudited}
 use Rattle.entry_audit.specs.Auditing.{found}
 use Rattle.refusals.specs.Refusal.{refusalOf, asRefusal, judgedLine, judged-line}
 use Rattle.entry_audit.specs.Plan.{tableOf, planOf, answerOf}
@@ -69,7 +69,7 @@ module _ (series : List ℤ) (v : Value indexForm) where
   unfolding planOf tableOf auditTable
   plan-is = ap asRefusal (same-behind (seriesLines mostValues series ++ (judgedLine j ∷ [])) (countLines (length series) (lent h [] [] [])) (countLines (length series) X) (λ t. ap firstRefusal (same-counts t))) ∙ rw (judged-line X j (rows-judged v)) refl
 
-  pub stopped-by : (s : Auditing) → (thePlan .refusal .number ≡ 0 → ⊥) → answerOf thePlan s ≡ auditAnswer call
+  pub stopped-by : (s : RowsAudited) → (thePlan .refusal .number ≡ 0 → ⊥) → answerOf thePlan s ≡ auditAnswer call
   stopped-by s f = stopped call thePlan plan-is s f
 
   module _ (z : thePlan .refusal .number ≡ 0) where
@@ -93,7 +93,7 @@ module _ (series : List ℤ) (v : Value indexForm) where
     went none e = went-right call thePlan plan-is z (found none) refl e (lacking-is e)
     went (some w) e = went-wrong call thePlan plan-is z (w .0) (w .1) e
 
-    pub walked-by : (t : List ℕ) (s : Auditing) → readText indexForm t ≡ fine v → Walked series h t s → answerOf thePlan s ≡ auditAnswer call
+    pub walked-by : (t : List ℕ) (s : RowsAudited) → readText indexForm t ≡ fine v → Walked series h t s → answerOf thePlan s ≡ auditAnswer call
     unfolding Walked indexSaid
     walked-by t s r w =
         let i = head-is v (good .0) in
@@ -135,13 +135,13 @@ module _ (t : List ℕ) (series : List ℤ) (h : Head) (c : Rows) (came : Scanne
   number-is : plan .refusal .number ≡ 0 → planOf series (headHeld v) (judgedRows (headHeld v) (rowsFrom (headHeld v) noRows (v .1 .1 .1))) .refusal .number ≡ 0
   number-is z = sym (ap (λ (u : AuditPlan). u .refusal .number) same-plan) ∙ z
 
-  pub stopped-right : (s : Auditing) → (plan .refusal .number ≡ 0 → ⊥) → answerOf plan s ≡ answered
+  pub stopped-right : (s : RowsAudited) → (plan .refusal .number ≡ 0 → ⊥) → answerOf plan s ≡ answered
   stopped-right s z = ap (λ (u : AuditPlan). answerOf u s) same-plan ∙ stopped-by series v s (λ e. z (ap (λ (u : AuditPlan). u .refusal .number) same-plan ∙ e)) ∙ same-answer
 
   pub goes-sized : plan .refusal .number ≡ 0 → Sized series h
   goes-sized z = subst (Sized series) (sym (told .head)) (sized-by series v (number-is z))
 
-  pub walked-right : (s : Auditing) → plan .refusal .number ≡ 0 → Walked series h t s → answerOf plan s ≡ answered
+  pub walked-right : (s : RowsAudited) → plan .refusal .number ≡ 0 → Walked series h t s → answerOf plan s ≡ answered
   walked-right s z w =
       ap (λ (u : AuditPlan). answerOf u s) same-plan
       ∙ walked-by series v (number-is z) t s (told .read) (subst (λ (u : Head). Walked series u t s) (told .head) w)

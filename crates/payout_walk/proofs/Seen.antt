@@ -15,7 +15,7 @@ use Rattle.meaning_text.specs.Read.{Verdict, fine, unfit, readText}
 use Rattle.meaning_text.specs.Texts.{indexForm, rowForm}
 use Rattle.meaning_text.proofs.Automaton.{going, feed, feed-one, feed-none, atEnd, verdictOf}
 use Rattle.meaning_text.proofs.Reading.{on-flag}
-use Rattle.entry_audit.specs.declared.Auditing.{Auditing}
+use Rattle.entry_audit.specs.declared.RowsAudited.{RowsAudited}
 use Rattle.entry_audit.specs.Auditing.{chunked}
 use Rattle.numbers.specs.Narrow.{clamp}
 use Rattle.text_index.specs.declared.Field.{Field}
@@ -33,13 +33,13 @@ use Rattle.payout_walk.specs.Walk.{goesOn, startWalk, afterRun, tellWalk
 module _ (series : List ℤ) (h : Head) where
   -- ---- one more at the end
 
-  runs-more : (k : ℕ) (low up : ℤ) (s : Auditing) (l : List Entry) (e : Entry)
+  runs-more : (k : ℕ) (low up : ℤ) (s : RowsAudited) (l : List Entry) (e : Entry)
       → runsWalked series h k low up s (l ++ (e ∷ [])) ≡ afterRun series h (record { low = low; up = up; left = held (e .0); rows = k; found = runsWalked series h k low up s l }) (held (e .1))
   unfolding runsWalked
   runs-more k low up s [] e = refl
   runs-more k low up s (x ∷ l) e = runs-more k low up (afterRun series h (record { low = low; up = up; left = held (x .0); rows = k; found = s }) (held (x .1))) l e
 
-  rows-more : (k : ℕ) (s : Auditing) (l : List (Value rowForm)) (r : Value rowForm)
+  rows-more : (k : ℕ) (s : RowsAudited) (l : List (Value rowForm)) (r : Value rowForm)
       → rowsWalked series h k s (l ++ (r ∷ [])) ≡ runsWalked series h (k + length l) (clamp (r .0)) (clamp (r .1 .0)) (rowsWalked series h k s l) (r .1 .1)
   unfolding rowsWalked
   rows-more k s [] r = let e : k + 0 ≡ k = omega arith in rw e refl
@@ -75,10 +75,10 @@ module _ (series : List ℤ) (h : Head) where
       let e : 0 + length (g .rows) ≡ length (g .rows) = omega arith in
       rw (rows-more 0 goesOn (g .rows) r, length-append (g .rows) (r ∷ []), e) refl
 
-  abbrev outOf : Walk → Auditing
+  abbrev outOf : Walk → RowsAudited
   outOf t = t .found
 
-  abbrev say : Value indexForm → Auditing
+  abbrev say : Value indexForm → RowsAudited
   say v = rowsWalked series h 0 goesOn (v .1 .1 .1)
 
   ended : (g : Said) → g .runs ≡ [] → outOf (walkOf g) ≡ say (value g)
@@ -109,7 +109,7 @@ module _ (series : List ℤ) (h : Head) where
   unfolding Walked
   walked-by t x e v r = fine-same (sym (ap (verdictOf outOf) e) ∙ text-walked t ∙ ap (verdictOf say) r)
 
-  pub walked-none : (t : List ℕ) (p : ℕ) (s : Auditing) → WalkedTo t ≡ unfit p → Walked series h t s
+  pub walked-none : (t : List ℕ) (p : ℕ) (s : RowsAudited) → WalkedTo t ≡ unfit p → Walked series h t s
   unfolding Walked
   walked-none t p s e v r = unfit-fine (sym (ap (verdictOf outOf) e) ∙ text-walked t ∙ ap (verdictOf say) r)
 
@@ -142,7 +142,7 @@ module _ (series : List ℤ) (h : Head) where
   tell-stays Field.Right z t e = run-stays t (held z) e
 
   -- what was found, at the end
-  abbrev Ends : Auditing → Verdict Walk → Type 0
+  abbrev Ends : RowsAudited → Verdict Walk → Type 0
   Ends s (fine x) = x .found ≡ s
   Ends s (unfit p) = Unit {0}
 
@@ -160,8 +160,8 @@ module _ (series : List ℤ) (h : Head) where
     where
       to : Stays l (suc i) → (x : Seen Walk) → keep (tellWalk series h) shutWalk (seen s t) b ≡ some x → x .kept .found ≡ t .found → Ends (t .found) (endOf (feed (keep (tellWalk series h) shutWalk) (going (seen s t) i) (b ∷ l)))
       to ih x k f =
-          let g : x .kept .found .go ≡ false = ap (λ (u : Auditing). u .go) f ∙ e in
-          rw (feed-one (keep (tellWalk series h) shutWalk) (seen s t) x b l i k) (subst (λ (u : Auditing). Ends u (endOf (feed (keep (tellWalk series h) shutWalk) (going x (suc i)) l))) f (ih x g))
+          let g : x .kept .found .go ≡ false = ap (λ (u : RowsAudited). u .go) f ∙ e in
+          rw (feed-one (keep (tellWalk series h) shutWalk) (seen s t) x b l i k) (subst (λ (u : RowsAudited). Ends u (endOf (feed (keep (tellWalk series h) shutWalk) (going x (suc i)) l))) f (ih x g))
 
       by : Stays l (suc i) → (m : Moved) → indexStep s b ≡ m → Ends (t .found) (endOf (feed (keep (tellWalk series h) shutWalk) (going (seen s t) i) (b ∷ l)))
       by ih (Moved.To n) f = to ih (seen n t) (ap (λ (m : Moved). movedTo (tellWalk series h) shutWalk m t) f) refl

@@ -14,7 +14,7 @@ use Rattle.meaning_text.specs.Form.{Value}
 use Rattle.meaning_text.specs.Read.{fine, readText}
 use Rattle.meaning_text.specs.Texts.{indexForm, rowForm}
 use Rattle.rows_records.specs.Records.{zeroRow}
-use Rattle.entry_audit.specs.declared.Auditing.{Auditing}
+use Rattle.entry_audit.specs.declared.RowsAudited.{RowsAudited}
 use Rattle.entry_audit.specs.Auditing.{chunked}
 use Rattle.numbers.specs.Narrow.{clamp}
 use Rattle.text_index.specs.declared.Field.{Field}
@@ -28,7 +28,7 @@ pub record Sized (series : List ℤ) (h : Head) : Type 0 where
   pub window : h .window ≤ 256
 
 -- nothing is filed wrongly so far
-abbrev pub goesOn : Auditing
+abbrev pub goesOn : RowsAudited
 goesOn = record { go = true; row = 0; offset = 0 }
 
 abbrev pub startWalk : Walk
@@ -39,7 +39,7 @@ unfoldable pub oneRun : ℤ → ℤ → List Row
 oneRun low up = set (replicate 64 zeroRow) 0 (record { low = low; up = up; first = 0; runs = 1 })
 
 -- after the run that ends at r; a run whose windows do not lie in the series says nothing
-unfoldable pub afterRun : List ℤ → Head → Walk → ℕ → Auditing
+unfoldable pub afterRun : List ℤ → Head → Walk → ℕ → RowsAudited
 afterRun series h t r =
     cond (leb (t .left) r && leb (r + h .window) (length series)) (chunked series h (t .left ∷ []) (r ∷ []) (t .found) (t .rows) (oneRun (t .low) (t .up))) (t .found)
 
@@ -60,15 +60,15 @@ shutWalk t = record { low = t .low; up = t .up; left = t .left; rows = t .rows +
 -- ---- what a text comes to
 
 -- the runs of row k, one after the other
-unfoldable pub runsWalked : List ℤ → Head → ℕ → ℤ → ℤ → Auditing → List Entry → Auditing
+unfoldable pub runsWalked : List ℤ → Head → ℕ → ℤ → ℤ → RowsAudited → List Entry → RowsAudited
 runsWalked series h k low up s [] = s
 runsWalked series h k low up s (e ∷ l) = runsWalked series h k low up (afterRun series h (record { low = low; up = up; left = held (e .0); rows = k; found = s }) (held (e .1))) l
 
 -- rows, counted on from k
-unfoldable pub rowsWalked : List ℤ → Head → ℕ → Auditing → List (Value rowForm) → Auditing
+unfoldable pub rowsWalked : List ℤ → Head → ℕ → RowsAudited → List (Value rowForm) → RowsAudited
 rowsWalked series h k s [] = s
 rowsWalked series h k s (r ∷ l) = rowsWalked series h (suc k) (runsWalked series h k (clamp (r .0)) (clamp (r .1 .0)) s (r .1 .1)) l
 
 -- the rows of a text that can be read
-unfoldable pub Walked : List ℤ → Head → List ℕ → Auditing → Type 0
+unfoldable pub Walked : List ℤ → Head → List ℕ → RowsAudited → Type 0
 Walked series h t s = (v : Value indexForm) → readText indexForm t ≡ fine v → s ≡ rowsWalked series h 0 goesOn (v .1 .1 .1)

@@ -4,7 +4,7 @@ ghost use mathlib.Core.Bool.{_&&_};
 ghost use Prim.Native.Nat.{_+_, _<_, _^_};
 ghost use lib.Dec.{leb};
 ghost use Rattle.payout_walk.specs.Walk.{Sized, startWalk, afterRun, tellWalk, shutWalk, Walked};
-use entry_audit::Auditing;
+use entry_audit::RowsAudited;
 use entry_audit::audit_chunk;
 use meaning_rows::Head;
 use meaning_rows::Row;
@@ -22,7 +22,7 @@ pub struct Walk {
     pub up: i32,
     pub left: u32,
     pub rows: usize,
-    pub found: Auditing,
+    pub found: RowsAudited,
 }
 
 pub fn no_walk() -> Walk
@@ -33,7 +33,7 @@ pub fn no_walk() -> Walk
         up: 0,
         left: 0,
         rows: 0,
-        found: Auditing {
+        found: RowsAudited {
             go: true,
             row: 0,
             offset: 0,
@@ -50,7 +50,7 @@ fn run_reads(l: usize, r: usize, w: usize, n: usize) -> bool
 }
 
 // What is filed wrongly first, after the run that ends at r.
-pub fn audit_run(series: &[i32], head: Head, t: Walk, r: u32) -> Auditing
+pub fn audit_run(series: &[i32], head: Head, t: Walk, r: u32) -> RowsAudited
     requires { ⌜ Sized (now series) head ⌝ }
     requires { ⌜ t .rows < 2 ^ 63 ⌝ }
     ensures { λ s. ⌜ s ≡ afterRun (now (series .entry)) head t r ⌝ }
@@ -134,7 +134,7 @@ pub fn shut(t: Walk) -> Walk
 }
 
 // The rows of a whole text.
-pub fn walk_rows(text: &[u8], series: &[i32], head: Head) -> Auditing
+pub fn walk_rows(text: &[u8], series: &[i32], head: Head) -> RowsAudited
     requires { ⌜ Sized (now series) head ⌝ }
     ensures { λ s. ⌜ Walked (now (series .entry)) head (now (text .entry)) s ⌝ }
 {

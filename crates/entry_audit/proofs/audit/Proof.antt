@@ -67,11 +67,11 @@ use Rattle.rows_judge.proofs.JudgeCall.{JudgeAll, calls-judge}
 use Rattle.rows_judge.proofs.judge.Symbol as judge-def
 use Rattle.rows_judge.proofs.judge.Symbol.{name as #rows-judge·judge}
 use Rattle.rows_judge.proofs.judge.Met as judge-thm
-use Rattle.entry_audit.specs.declared.Auditing.{Auditing}
+use Rattle.entry_audit.specs.declared.RowsAudited.{RowsAudited}
 use Rattle.entry_audit.specs.declared.AuditPlan.{AuditPlan}
 use Rattle.entry_audit.specs.Plan.{planOf, began, answerOf}
-use Rattle.entry_audit.proofs.Auditing as S
-use Rattle.entry_audit.proofs.Auditing.Laws as S′
+use Rattle.entry_audit.proofs.RowsAudited as S
+use Rattle.entry_audit.proofs.RowsAudited.Laws as S′
 use Rattle.entry_audit.proofs.AuditPlan as P
 use Rattle.entry_audit.proofs.AuditPlan.Laws as P′
 use Rattle.entry_audit.proofs.Going.{thePlan, Auditing, afterChunk, auditing-starts, auditing-ready, auditing-next, auditing-stops, auditing-ends}
@@ -167,7 +167,7 @@ module _ {M : Type 1} (𝓤 : URA M) (H : Heap 𝓤) (A : Atoms 𝓤) (W : Given
   plan-typed : (y : AuditPlan) → IsPlan y → Tr (hasTy P′.mir (low-plan y)) × WT (low-plan y)
   plan-typed y g = LL.lawful P.the-type P′.the-laws 𝓤 H A W .typed y _ g .0
 
-  state-typed : (s : Auditing) → IsState s → Tr (hasTy S′.mir (low-state s)) × WT (low-state s)
+  state-typed : (s : RowsAudited) → IsState s → Tr (hasTy S′.mir (low-state s)) × WT (low-state s)
   state-typed s g = LL.lawful S.the-type S′.the-laws 𝓤 H A W .typed s _ g .0
 
   audited-typed : (a : Audited) → IsAudited a → Tr (hasTy Au′.mir (low-audited a)) × WT (low-audited a)
@@ -185,7 +185,7 @@ module _ {M : Type 1} (𝓤 : URA M) (H : Heap 𝓤) (A : Atoms 𝓤) (W : Given
 
       module _ (j : Judged) (y : AuditPlan) (gy : IsPlan y) (is : y ≡ planned) where
         -- where a turn begins, with a state and at record k: the tokens and what the slices own, and the locals, the last first
-        abbrev At : Auditing × ℕ → List (Item 𝓤)
+        abbrev At : RowsAudited × ℕ → List (Item 𝓤)
         At σ = ‵ (flft κ q) ∷ ‵ (Own κ x) ∷ ‵ (flft κ₀ q₀) ∷ ‵ (OwnZ κ₀ z) ∷ Tk ∷ Ow
             ∷ ‵ (froom tyBool l₁₂ 0) ∷ ‵ (fdies tyBool l₁₂) ∷ ‵ (froom word l₁₁ 0) ∷ ‵ (fdies word l₁₁) ∷ ‵ (froom rows64 l₁₀ 0) ∷ ‵ (fdies rows64 l₁₀)
             ∷ ‵ (fat fullShare word l₉ 0 (vint w64 (σ .1))) ∷ ‵ (fdies word l₉) ∷ ‵ (fat fullShare S′.mir l₈ 0 (low-state (σ .0))) ∷ ‵ (fdies S′.mir l₈) ∷ ‵ (fat fullShare P′.mir l₇ 0 (low-plan y)) ∷ ‵ (fdies P′.mir l₇)
@@ -193,25 +193,25 @@ module _ {M : Type 1} (𝓤 : URA M) (H : Heap 𝓤) (A : Atoms 𝓤) (W : Given
             ∷ ‵ (fat fullShare slice-left l₄ 0 (sliceVal (ptr u) (length (now u)))) ∷ ‵ (fdies slice-left l₄) ∷ ‵ (fat fullShare slice l₃ 0 (sliceVal (ptr x) (length ys))) ∷ ‵ (fdies slice l₃) ∷ ‵ (fat fullShare Hd′.mir l₂ 0 (low-head h)) ∷ ‵ (fdies Hd′.mir l₂)
             ∷ ‵ (fat fullShare slice-series l₁ 0 (sliceVal (ptr z) (length (now z)))) ∷ ‵ (fdies slice-series l₁) ∷ ‵ (froom Au′.mir l₀ 0) ∷ ‵ (fdies Au′.mir l₀) ∷ []
 
-        abbrev Facts : Auditing × ℕ → Type 0
+        abbrev Facts : RowsAudited × ℕ → Type 0
         Facts σ = (σ .1 < 2 ^ 64) × (IsState (σ .0) × Auditing (now z) h ys (now u) (now w) (σ .0) (σ .1))
 
-        abbrev μ : Auditing × ℕ → ℕ
+        abbrev μ : RowsAudited × ℕ → ℕ
         μ σ = length ys + 64 - σ .1
 
         -- the state after the chunk
-        abbrev after : Auditing × ℕ → Auditing
+        abbrev after : RowsAudited × ℕ → RowsAudited
         after σ = afterChunk (now z) h ys (now u) (now w) (σ .0) (σ .1)
 
         -- when the loop is left, the rest of the body runs
         abbrev Left : Out → SProp 𝓤
         Left = afterBlock 𝓤 H (afterSeq 𝓤 H (Wp 𝓤 H (𝓣 .C) (𝓣 .Λ) En mir.t-6 (atReturn 𝓤 H En Post)) (atReturn 𝓤 H En Post))
 
-        answered : (s : Auditing) → answerOf planned s ≡ auditAnswer audited → answerOf y s ≡ auditAnswer audited
+        answered : (s : RowsAudited) → answerOf planned s ≡ auditAnswer audited → answerOf y s ≡ auditAnswer audited
         answered s e = ap (λ (p : AuditPlan). answerOf p s) is ∙ e
 
         -- a turn: the audit goes on, and the next turn follows; or it does not, and the loop is left; or no record is left, and the loop is left too
-        each : (σ : Auditing × ℕ) → Facts σ → (X : SProp 𝓤) → ((σ′ : Auditing × ℕ) → μ σ′ < μ σ → Facts σ′ → ent 𝓤 (⋆ 𝓤 H A (At σ′)) X) → ent 𝓤 (⋆ 𝓤 H A (At σ)) (Wp 𝓤 H (𝓣 .C) (𝓣 .Λ) En mir.turn-1 (afterTurn 𝓤 H X Left))
+        each : (σ : RowsAudited × ℕ) → Facts σ → (X : SProp 𝓤) → ((σ′ : RowsAudited × ℕ) → μ σ′ < μ σ → Facts σ′ → ent 𝓤 (⋆ 𝓤 H A (At σ′)) X) → ent 𝓤 (⋆ 𝓤 H A (At σ)) (Wp 𝓤 H (𝓣 .C) (𝓣 .Λ) En mir.turn-1 (afterTurn 𝓤 H X Left))
         unfolding afterTurn
         each σ facts X k =
             qed W (At σ) ∵ exec ! (𝓣 .C) (𝓣 .Λ) En mir.turn-1 (anyQ (afterTurn 𝓤 H X Left)) $
@@ -255,7 +255,7 @@ module _ {M : Type 1} (𝓤 : URA M) (H : Heap 𝓤) (A : Atoms 𝓤) (W : Given
             keep ! (2 ∷ 0 ∷ 4 ∷ []) $
             by ! (exits (answerOf y (σ .0)) ga (answered (σ .0) (auditing-ends (now z) h ys (now u) (now w) (σ .0) (σ .1) (ltb-false (σ .1) (length ys) test) (facts .1 .1))))))
 
-        loops : (s : Auditing) → IsState s → Auditing (now z) h ys (now u) (now w) s 0 → ent 𝓤 (⋆ 𝓤 H A (At (s, 0))) (Wp 𝓤 H (𝓣 .C) (𝓣 .Λ) En (loop mir.turn-1) Left)
+        loops : (s : RowsAudited) → IsState s → Auditing (now z) h ys (now u) (now w) s 0 → ent 𝓤 (⋆ 𝓤 H A (At (s, 0))) (Wp 𝓤 H (𝓣 .C) (𝓣 .Λ) En (loop mir.turn-1) Left)
         loops s gs a = loops-by 𝓤 H A W 𝓣 En mir.turn-1 Left μ Facts At each (s, 0) (lit< tt, (gs, a))
 
       -- where the body begins, with the parameters passed
@@ -286,8 +286,8 @@ module _ {M : Type 1} (𝓤 : URA M) (H : Heap 𝓤) (A : Atoms 𝓤) (W : Given
           move ! (2 ∷ 3 ∷ 0 ∷ 1 ∷ 4 ∷ 5 ∷ []) $
           by ! (loops j y gy (ey ∙ ap (planOf (now z) h) ej) s gs (starts j y s (ey ∙ ap (planOf (now z) h) ej) es)))))
         where
-          starts : (j : Judged) (y : AuditPlan) (s : Auditing) → y ≡ planned → s ≡ began y → Auditing (now z) h ys (now u) (now w) s 0
-          starts j y s is es = subst (λ (t : Auditing). Auditing (now z) h ys (now u) (now w) t 0) (sym (es ∙ ap began is)) (auditing-starts (now z) h ys (now u) (now w))
+          starts : (j : Judged) (y : AuditPlan) (s : RowsAudited) → y ≡ planned → s ≡ began y → Auditing (now z) h ys (now u) (now w) s 0
+          starts j y s is es = subst (λ (t : RowsAudited). Auditing (now z) h ys (now u) (now w) t 0) (sym (es ∙ ap began is)) (auditing-starts (now z) h ys (now u) (now w))
 
       -- the locals are allocated
       abbrev At-entry : List (Item 𝓤)

@@ -19,15 +19,15 @@ use Rattle.meaning_entries.proofs.Found.Laws as Foundᴸ
 use Rattle.meaning_rows.specs.declared.Head.{Head}
 use Rattle.meaning_rows.proofs.Head as Headᵀ
 use Rattle.meaning_rows.proofs.Head.Laws as Headᴸ
-use Rattle.entry_search.specs.declared.Sought.{Sought}
-use Rattle.entry_search.proofs.Sought as Soughtᵀ
-use Rattle.entry_search.proofs.Sought.Laws as Soughtᴸ
+use Rattle.candidate_find.specs.declared.Sought.{Sought}
+use Rattle.candidate_find.proofs.Sought as Soughtᵀ
+use Rattle.candidate_find.proofs.Sought.Laws as Soughtᴸ
 use Rattle.meaning_rows.specs.declared.Row.{Row}
 use Rattle.meaning_rows.proofs.Row as Rowᵀ
-use Rattle.entry_search.proofs.find_candidates as find-candidates
-use Rattle.entry_search.proofs.find_candidates.Symbol as find-candidates-def
-use Rattle.entry_search.proofs.find_candidates.Symbol.{name as #find-candidates}
-use Rattle.entry_search.proofs.find_candidates.Met as find-candidates-thm
+use Rattle.candidate_find.proofs.find_candidates as find-candidates
+use Rattle.candidate_find.proofs.find_candidates.Symbol as find-candidates-def
+use Rattle.candidate_find.proofs.find_candidates.Symbol.{name as #find-candidates}
+use Rattle.candidate_find.proofs.find_candidates.Met as find-candidates-thm
 use Rattle.entry_search.proofs.finish as finish
 use Rattle.entry_search.proofs.finish.Symbol as finish-def
 use Rattle.entry_search.proofs.finish.Symbol.{name as #finish}
@@ -152,5 +152,5 @@ search-spec 𝓤 H 𝓜 𝓖 𝓡 =
     entered 𝓤 H (tripleOf 𝓤 H (𝓖 .A) f.signature (f.spec 𝓤 H (𝓖 .A) (𝓜 .mem) (𝓡 .run)))
     (tables 𝓤 H 𝓜 𝓡 code.env .C) (tables 𝓤 H 𝓜 𝓡 code.env .Λ) #self code.function (code.unfolded 𝓤 H 𝓜 𝓡)
     (meets 𝓤 H (𝓖 .A) (givenOf 𝓤 H 𝓜 𝓖) (𝓜 .mem) (𝓡 .run) (tablesOf 𝓤 H 𝓜 (tables 𝓤 H 𝓜 𝓡 code.env)) (fmOf 𝓤 H (givenOf 𝓤 H 𝓜 𝓖 .laws) (tablesOf 𝓤 H 𝓜 (tables 𝓤 H 𝓜 𝓡 code.env)))
-    (cited 𝓤 H (tripleOf 𝓤 H (𝓖 .A) find-candidates.signature (find-candidates.spec 𝓤 H (𝓖 .A) (𝓜 .mem) (𝓡 .run))) 𝓜 𝓡 code.env #find-candidates find-candidates-def.routine code.calls-entry-search·find-candidates (find-candidates-thm.met 𝓤 H 𝓜 𝓖 𝓡))
+    (cited 𝓤 H (tripleOf 𝓤 H (𝓖 .A) find-candidates.signature (find-candidates.spec 𝓤 H (𝓖 .A) (𝓜 .mem) (𝓡 .run))) 𝓜 𝓡 code.env #find-candidates find-candidates-def.routine code.calls-candidate-find·find-candidates (find-candidates-thm.met 𝓤 H 𝓜 𝓖 𝓡))
     (cited 𝓤 H (tripleOf 𝓤 H (𝓖 .A) finish.signature (finish.spec 𝓤 H (𝓖 .A) (𝓜 .mem) (𝓡 .run))) 𝓜 𝓡 code.env #finish finish-def.routine code.calls-entry-search·finish (finish-thm.met 𝓤 H 𝓜 𝓖 𝓡)))

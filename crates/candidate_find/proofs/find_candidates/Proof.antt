@@ -1,6 +1,6 @@
 -- Written by tools/walk from the plan in the lines marked |. Change those, and run `tools/walk entry_search find_candidates`.
 -- A plan that refuses leaves the buffers as they were; else the candidates are gathered.
--- | use Rattle.entry_search.proofs.Looks.{halts, goes}
+-- | use Rattle.candidate_find.proofs.Looks.{halts, goes}
 -- | let HERE = (now series) head (now rows) (now left) (now right) ask (now query) (now first) (now last) (now scratch)
 -- | j, judged = judge
 -- | p, planned = plan_search
@@ -11,7 +11,7 @@
 -- | ends: found
 use Rattle.rows_records.proofs.Prelude.{refl, Bool, not, ℕ, List, [], _∷_, ℤ, eqb, length, URA, fullShare, named, w64, tyBool, Val, vbool, SProp, ent, emp, id⊢, via, fst∗, fat, Memory, Routine, Heap, WpFn, Tables, Atoms, Lfts, Shares, Fun, factI, givenOf, tables, Given, Item, ‵, ⋆, _$_, _∵_, !, qed, by, move, keep, rewrite, whole, sub, agg, look, init, stop, from, lit, bin, of-opd, and-then, no-more, land, returns, returns-within, enter, alloc1, alloc0, params1, pass1, pass0, FmC, fmOf, Is, i32, u32, u16, RefT, ptr, now, name, sliceVal, Room, slice-vals, shr-slice-tells, mut-slice-tells, Meets, tripleOf, entered, cited, AtEntry, by-bool, goes-in, passes-by, Data, uint, struct, enum, Lent, value, kept, lends, token, viewed, lent-at, holds, empty, tidy, frees-all, calls-with, leaves-with, meets-with, loc, part, start, put-at}
 use contract.Running.{tablesOf}
-use Rattle.entry_search.proofs.Looks.{halts, goes}
+use Rattle.candidate_find.proofs.Looks.{halts, goes}
 use Rattle.meaning_filter.specs.declared.Ask.{Ask}
 use Rattle.meaning_filter.proofs.Ask as Askᵀ
 use Rattle.meaning_filter.proofs.Ask.Laws as Askᴸ
@@ -24,9 +24,9 @@ use Rattle.rows_judge.proofs.Judged.Laws as Judgedᴸ
 use Rattle.refusals.specs.declared.Refusal.{Refusal}
 use Rattle.refusals.proofs.Refusal as Refusalᵀ
 use Rattle.refusals.proofs.Refusal.Laws as Refusalᴸ
-use Rattle.entry_search.specs.declared.Sought.{Sought}
-use Rattle.entry_search.proofs.Sought as Soughtᵀ
-use Rattle.entry_search.proofs.Sought.Laws as Soughtᴸ
+use Rattle.candidate_find.specs.declared.Sought.{Sought}
+use Rattle.candidate_find.proofs.Sought as Soughtᵀ
+use Rattle.candidate_find.proofs.Sought.Laws as Soughtᴸ
 use Rattle.meaning_rows.specs.declared.Row.{Row}
 use Rattle.meaning_rows.proofs.Row as Rowᵀ
 use Rattle.rows_judge.proofs.judge as judge
@@ -37,18 +37,18 @@ use Rattle.candidate_plan.proofs.plan_search as plan-search
 use Rattle.candidate_plan.proofs.plan_search.Symbol as plan-search-def
 use Rattle.candidate_plan.proofs.plan_search.Symbol.{name as #plan-search}
 use Rattle.candidate_plan.proofs.plan_search.Met as plan-search-thm
-use Rattle.entry_search.proofs.stop as stop
-use Rattle.entry_search.proofs.stop.Symbol as stop-def
-use Rattle.entry_search.proofs.stop.Symbol.{name as #stop}
-use Rattle.entry_search.proofs.stop.Met as stop-thm
-use Rattle.entry_search.proofs.gather as gather
-use Rattle.entry_search.proofs.gather.Symbol as gather-def
-use Rattle.entry_search.proofs.gather.Symbol.{name as #gather}
-use Rattle.entry_search.proofs.gather.Met as gather-thm
-use Rattle.entry_search.proofs.find_candidates.Key.{name as #self}
-use Rattle.entry_search.proofs.find_candidates as f
-use Rattle.entry_search.proofs.find_candidates.Statement as stated
-use Rattle.entry_search.proofs.find_candidates.Code as code
+use Rattle.candidate_find.proofs.stop as stop
+use Rattle.candidate_find.proofs.stop.Symbol as stop-def
+use Rattle.candidate_find.proofs.stop.Symbol.{name as #stop}
+use Rattle.candidate_find.proofs.stop.Met as stop-thm
+use Rattle.candidate_find.proofs.gather as gather
+use Rattle.candidate_find.proofs.gather.Symbol as gather-def
+use Rattle.candidate_find.proofs.gather.Symbol.{name as #gather}
+use Rattle.candidate_find.proofs.gather.Met as gather-thm
+use Rattle.candidate_find.proofs.find_candidates.Key.{name as #self}
+use Rattle.candidate_find.proofs.find_candidates as f
+use Rattle.candidate_find.proofs.find_candidates.Statement as stated
+use Rattle.candidate_find.proofs.find_candidates.Code as code
 
 abbrev Askᴰ : {M : Type 1} (𝓤 : URA M) (H : Heap 𝓤) (A : Atoms 𝓤) → Given 𝓤 H A → Data 𝓤 H A
 Askᴰ 𝓤 H A W = struct 𝓤 H A W Askᵀ.the-type Askᴸ.the-laws Askᴸ.the-plain
@@ -173,5 +173,5 @@ find-candidates-spec 𝓤 H 𝓜 𝓖 𝓡 =
     (meets 𝓤 H (𝓖 .A) (givenOf 𝓤 H 𝓜 𝓖) (𝓜 .mem) (𝓡 .run) (tablesOf 𝓤 H 𝓜 (tables 𝓤 H 𝓜 𝓡 code.env)) (fmOf 𝓤 H (givenOf 𝓤 H 𝓜 𝓖 .laws) (tablesOf 𝓤 H 𝓜 (tables 𝓤 H 𝓜 𝓡 code.env)))
     (cited 𝓤 H (tripleOf 𝓤 H (𝓖 .A) judge.signature (judge.spec 𝓤 H (𝓖 .A) (𝓜 .mem) (𝓡 .run))) 𝓜 𝓡 code.env #judge judge-def.routine code.calls-rows-judge·judge (judge-thm.met 𝓤 H 𝓜 𝓖 𝓡))
     (cited 𝓤 H (tripleOf 𝓤 H (𝓖 .A) plan-search.signature (plan-search.spec 𝓤 H (𝓖 .A) (𝓜 .mem) (𝓡 .run))) 𝓜 𝓡 code.env #plan-search plan-search-def.routine code.calls-candidate-plan·plan-search (plan-search-thm.met 𝓤 H 𝓜 𝓖 𝓡))
-    (cited 𝓤 H (tripleOf 𝓤 H (𝓖 .A) stop.signature (stop.spec 𝓤 H (𝓖 .A) (𝓜 .mem) (𝓡 .run))) 𝓜 𝓡 code.env #stop stop-def.routine code.calls-entry-search·stop (stop-thm.met 𝓤 H 𝓜 𝓖 𝓡))
-    (cited 𝓤 H (tripleOf 𝓤 H (𝓖 .A) gather.signature (gather.spec 𝓤 H (𝓖 .A) (𝓜 .mem) (𝓡 .run))) 𝓜 𝓡 code.env #gather gather-def.routine code.calls-entry-search·gather (gather-thm.met 𝓤 H 𝓜 𝓖 𝓡)))
+    (cited 𝓤 H (tripleOf 𝓤 H (𝓖 .A) stop.signature (stop.spec 𝓤 H (𝓖 .A) (𝓜 .mem) (𝓡 .run))) 𝓜 𝓡 code.env #stop stop-def.routine code.calls-candidate-find·stop (stop-thm.met 𝓤 H 𝓜 𝓖 𝓡))
+    (cited 𝓤 H (tripleOf 𝓤 H (𝓖 .A) gather.signature (gather.spec 𝓤 H (𝓖 .A) (𝓜 .mem) (𝓡 .run))) 𝓜 𝓡 code.env #gather gather-def.routine code.calls-candidate-find·gather (gather-thm.met 𝓤 H 𝓜 𝓖 𝓡)))

@@ -1,6 +1,6 @@
 -- Written by tools/walk from the plan in the lines marked |. Change those, and run `tools/walk entry_search gather`.
 -- The ranges of the parts are put into the candidate buffer, each is replaced by the stretch of runs that it meets, and the candidates are handed out.
--- | use Rattle.entry_search.proofs.Looks.{put-asked, meet-asked, hand-asked, gathered}
+-- | use Rattle.candidate_find.proofs.Looks.{put-asked, meet-asked, hand-asked, gathered}
 -- | let CALL = (now series) head (now rows) (now left) (now right) ask (now query)
 -- | let HERE = $CALL (searchBuffers (now first) (now last) (now scratch) [] [])
 -- | p, put = put_parts: put-asked $HERE asked
@@ -9,34 +9,34 @@
 -- | ends: gathered $CALL (now first) (now last) (now scratch) asked (put .0) (rw (put .1) at met) handed
 use Rattle.rows_records.proofs.Prelude.{_≡_, refl, ℕ, List, [], _∷_, ℤ, length, URA, fullShare, named, w64, Val, SProp, ent, emp, id⊢, Memory, Routine, Heap, WpFn, Tables, Atoms, Lfts, Shares, Fun, factI, givenOf, tables, Given, Item, ⋆, _$_, _∵_, !, qed, by, move, keep, whole, sub, agg, look, init, stop, from, and-then, no-more, land, returns, enter, alloc1, alloc0, params1, pass1, pass0, FmC, fmOf, Is, i32, u32, u16, RefT, ptr, now, name, sliceVal, Room, slice-vals, shr-slice-tells, mut-slice-tells, Meets, tripleOf, entered, cited, needs, AtEntry, Data, uint, nothing, struct, Lent, value, kept, lends, token, viewed, lent-at, holds, empty, tidy, frees-all, calls-with, leaves-with, meets-with, loc, part, start, put-at}
 use contract.Running.{tablesOf}
-use Rattle.entry_search.proofs.Looks.{put-asked, meet-asked, hand-asked, gathered}
+use Rattle.candidate_find.proofs.Looks.{put-asked, meet-asked, hand-asked, gathered}
 use Rattle.meaning_filter.specs.declared.Ask.{Ask}
 use Rattle.meaning_filter.proofs.Ask as Askᵀ
 use Rattle.meaning_filter.proofs.Ask.Laws as Askᴸ
 use Rattle.meaning_rows.specs.declared.Head.{Head}
 use Rattle.meaning_rows.proofs.Head as Headᵀ
 use Rattle.meaning_rows.proofs.Head.Laws as Headᴸ
-use Rattle.entry_search.specs.declared.Sought.{Sought}
-use Rattle.entry_search.proofs.Sought as Soughtᵀ
-use Rattle.entry_search.proofs.Sought.Laws as Soughtᴸ
+use Rattle.candidate_find.specs.declared.Sought.{Sought}
+use Rattle.candidate_find.proofs.Sought as Soughtᵀ
+use Rattle.candidate_find.proofs.Sought.Laws as Soughtᴸ
 use Rattle.meaning_rows.specs.declared.Row.{Row}
 use Rattle.meaning_rows.proofs.Row as Rowᵀ
-use Rattle.entry_search.proofs.put_parts as put-parts
-use Rattle.entry_search.proofs.put_parts.Symbol as put-parts-def
-use Rattle.entry_search.proofs.put_parts.Symbol.{name as #put-parts}
-use Rattle.entry_search.proofs.put_parts.Met as put-parts-thm
+use Rattle.candidate_find.proofs.put_parts as put-parts
+use Rattle.candidate_find.proofs.put_parts.Symbol as put-parts-def
+use Rattle.candidate_find.proofs.put_parts.Symbol.{name as #put-parts}
+use Rattle.candidate_find.proofs.put_parts.Met as put-parts-thm
 use Rattle.candidate_spans.proofs.meet_parts as meet-parts
 use Rattle.candidate_spans.proofs.meet_parts.Symbol as meet-parts-def
 use Rattle.candidate_spans.proofs.meet_parts.Symbol.{name as #meet-parts}
 use Rattle.candidate_spans.proofs.meet_parts.Met as meet-parts-thm
-use Rattle.entry_search.proofs.hand_out as hand-out
-use Rattle.entry_search.proofs.hand_out.Symbol as hand-out-def
-use Rattle.entry_search.proofs.hand_out.Symbol.{name as #hand-out}
-use Rattle.entry_search.proofs.hand_out.Met as hand-out-thm
-use Rattle.entry_search.proofs.gather.Key.{name as #self}
-use Rattle.entry_search.proofs.gather as f
-use Rattle.entry_search.proofs.gather.Statement as stated
-use Rattle.entry_search.proofs.gather.Code as code
+use Rattle.candidate_find.proofs.hand_out as hand-out
+use Rattle.candidate_find.proofs.hand_out.Symbol as hand-out-def
+use Rattle.candidate_find.proofs.hand_out.Symbol.{name as #hand-out}
+use Rattle.candidate_find.proofs.hand_out.Met as hand-out-thm
+use Rattle.candidate_find.proofs.gather.Key.{name as #self}
+use Rattle.candidate_find.proofs.gather as f
+use Rattle.candidate_find.proofs.gather.Statement as stated
+use Rattle.candidate_find.proofs.gather.Code as code
 use Rattle.candidate_plan.specs.Allowed.{thePlan}
 use Rattle.meaning_entries.specs.Search.{searchBuffers}
 
@@ -149,6 +149,6 @@ gather-spec 𝓤 H 𝓜 𝓖 𝓡 =
     entered 𝓤 H (tripleOf 𝓤 H (𝓖 .A) f.signature (f.spec 𝓤 H (𝓖 .A) (𝓜 .mem) (𝓡 .run)))
     (tables 𝓤 H 𝓜 𝓡 code.env .C) (tables 𝓤 H 𝓜 𝓡 code.env .Λ) #self code.function (code.unfolded 𝓤 H 𝓜 𝓡)
     (meets 𝓤 H (𝓖 .A) (givenOf 𝓤 H 𝓜 𝓖) (𝓜 .mem) (𝓡 .run) (tablesOf 𝓤 H 𝓜 (tables 𝓤 H 𝓜 𝓡 code.env)) (fmOf 𝓤 H (givenOf 𝓤 H 𝓜 𝓖 .laws) (tablesOf 𝓤 H 𝓜 (tables 𝓤 H 𝓜 𝓡 code.env)))
-    (cited 𝓤 H (tripleOf 𝓤 H (𝓖 .A) put-parts.signature (put-parts.spec 𝓤 H (𝓖 .A) (𝓜 .mem) (𝓡 .run))) 𝓜 𝓡 code.env #put-parts put-parts-def.routine code.calls-entry-search·put-parts (put-parts-thm.met 𝓤 H 𝓜 𝓖 𝓡))
+    (cited 𝓤 H (tripleOf 𝓤 H (𝓖 .A) put-parts.signature (put-parts.spec 𝓤 H (𝓖 .A) (𝓜 .mem) (𝓡 .run))) 𝓜 𝓡 code.env #put-parts put-parts-def.routine code.calls-candidate-find·put-parts (put-parts-thm.met 𝓤 H 𝓜 𝓖 𝓡))
     (cited 𝓤 H (tripleOf 𝓤 H (𝓖 .A) meet-parts.signature (meet-parts.spec 𝓤 H (𝓖 .A) (𝓜 .mem) (𝓡 .run))) 𝓜 𝓡 code.env #meet-parts meet-parts-def.routine code.calls-candidate-spans·meet-parts (meet-parts-thm.met 𝓤 H 𝓜 𝓖 𝓡))
-    (cited 𝓤 H (tripleOf 𝓤 H (𝓖 .A) hand-out.signature (hand-out.spec 𝓤 H (𝓖 .A) (𝓜 .mem) (𝓡 .run))) 𝓜 𝓡 code.env #hand-out hand-out-def.routine code.calls-entry-search·hand-out (hand-out-thm.met 𝓤 H 𝓜 𝓖 𝓡)))
+    (cited 𝓤 H (tripleOf 𝓤 H (𝓖 .A) hand-out.signature (hand-out.spec 𝓤 H (𝓖 .A) (𝓜 .mem) (𝓡 .run))) 𝓜 𝓡 code.env #hand-out hand-out-def.routine code.calls-candidate-find·hand-out (hand-out-thm.met 𝓤 H 𝓜 𝓖 𝓡)))

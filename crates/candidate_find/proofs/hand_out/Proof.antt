@@ -1,12 +1,12 @@
--- `entry_search::hand_out` meets its contract: the counts are raised, and the candidates collected.
+-- `candidate_find::hand_out` meets its contract: the counts are raised, and the candidates collected.
 use borrow.Author.Needs.{needs}
 use native.Mathlib.Omega.{arith}
 use mathlib.Core.Path.{_≡_, ap, _∙_}
 use lib.ListN.{length}
 use Rattle.candidate_filter.proofs.Meaning.{cleared-same}
-use Rattle.entry_search.specs.declared.Sought.{Sought}
-use Rattle.entry_search.proofs.hand_out.Statement.{statement}
-use Rattle.entry_search.proofs.hand_out.Tie as tie
+use Rattle.candidate_find.specs.declared.Sought.{Sought}
+use Rattle.candidate_find.proofs.hand_out.Statement.{statement}
+use Rattle.candidate_find.proofs.hand_out.Tie as tie
 
 raise-stretches-requires : tie.Need-raise-stretches-requires
 raise-stretches-requires c κs = rw (c .before .before .before .before .before .clear-scratch .ensures) (c .before .before .before .before .before .before .before .before .before .before .before .before .before .pre .stretches)
