@@ -25,6 +25,7 @@ use Rattle.build_parts.specs.Filling.{partStart, parts-laid, Filling, RunOf, so
 use Rattle.build_fill.specs.Turn.{At, TurnAsked, Turned}
 use Rattle.build_fill.proofs.Turn.{change-held}
 use Rattle.build_fill.specs.Pass.{Rowed, Passable, PassMade}
+pub use Rattle.build_parts.proofs.Lent.{lentFrom, backAt, lent-is, back-same, back-set}
 
 module _ {P : ℕ → ℕ → Bool} {sum : ℕ → ℤ} {from windows : ℕ} {rows : List Row} {n : ℕ} (h : Rowed P sum from windows rows n) where
   pub rowed-climbs : Climbs rows n

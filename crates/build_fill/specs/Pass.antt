@@ -13,8 +13,9 @@ use Rattle.meaning_rows.specs.Runs.{runCount}
 use Rattle.rows_records.specs.Records.{zeroRow}
 use Rattle.sums_slide.specs.declared.Window.{Window}
 use Rattle.sums_slide.specs.Levels.{windowsOf}
-use Rattle.build_parts.specs.Filling.{partStart, Filling}
+use Rattle.build_parts.specs.Filling.{Filling}
 use Rattle.build_fill.specs.Turn.{Small, At}
+pub use Rattle.build_parts.specs.Filling.{partStart, partsTotal, filling-start, parts-laid}
 
 -- window j stands in row `at`
 pub record Home (P : ℕ → ℕ → Bool) (n j : ℕ) : Type 0 where

@@ -1,12 +1,11 @@
 -- What stands in the indexBuffers once the parts of a build's rows are filled is its index (`finished`).
-use mathlib.Core.Path.{_≡_, refl, sym, ap, _∙_}
+use mathlib.Core.Path.{_≡_, sym, ap, _∙_}
 use mathlib.Core.List.{List, [], _∷_, _++_, map}
-use Prim.Native.Nat.{ℕ, zero, suc, _+_, _-_, _<_, _≤_}
+use Prim.Native.Nat.{ℕ, zero, _+_, _-_, _<_, _≤_}
 use native.Mathlib.Omega.{arith}
-use native.Mathlib.Decide.{decLt}
 use lib.IntN.{ℤ, natAbs}
-use lib.ListN.{length, getD, take, replicate, length-append, length-map, length-replicate, List·getD-append}
-use lib.Seq.{ext-getD, getD-append-add, take-append-seam}
+use lib.ListN.{length, getD, take, replicate, length-append, length-map, List·getD-append}
+use lib.Seq.{take-append-seam}
 use Rattle.meaning_numbers.specs.Sum.{Σℕ}
 use Rattle.meaning_numbers.proofs.Sum.{Σℕ-same, Σℕ-more}
 use Rattle.meaning_curves.specs.Curve.{windowSum}
@@ -18,23 +17,18 @@ use Rattle.meaning_rows.proofs.Build.{mergedRows, built-runs}
 use Rattle.meaning_rows.proofs.Columns as Columns
 use Rattle.meaning_rows.proofs.Laid.{length-records}
 use Rattle.meaning_rows.proofs.LaidAt.{records-at, runs-total, column-at}
-use Rattle.meaning_entries.specs.Buffers.{IndexBuffers, filled, indexIn, lefts, rights}
+use Rattle.meaning_entries.specs.Buffers.{IndexBuffers, filled, indexIn, lefts, rights, indexBuffers}
 use Rattle.rows_records.specs.Records.{zeroRow}
 use Rattle.sums_slide.specs.declared.Window.{Window}
 use Rattle.sums_slide.specs.Levels.{windowsOf}
 use Rattle.rows_pack.specs.PackedAs.{PackedAs}
 use Rattle.build_lay.specs.Laid.{Cleared}
-use Rattle.build_parts.specs.Filling.{partStart, partsTotal, filling-start}
+use Rattle.build_fill.specs.Pass.{partStart, partsTotal, filling-start}
 use Rattle.build_fill.specs.Turn.{At}
 use Rattle.build_fill.specs.Pass.{Passable, PassMade}
 use Rattle.build_passes.proofs.Rowed.{noRow, tests, built-rowed}
 use Rattle.build_passes.specs.Filled.{Fillable, Holds}
-use Rattle.meaning_entries.specs.Buffers.{indexBuffers}
-
-zeros : {A : Type 0} (a : A) (n x : ℕ) → getD (replicate n a) x a ≡ a
-zeros a zero x = refl
-zeros a (suc n) zero = refl
-zeros a (suc n) (suc x) = zeros a n x
+use Rattle.meaning_entries.proofs.Filled.{filled-is, lefts-entry, rights-entry, zeros}
 
 -- where no row is laid out, a record of zeros stands first
 no-part : {X : Type 0} (G : X → RangeRow) (old : List Row) → let r = getD (filled zeroRow (records 0 (map G [])) old) 0 zeroRow in r .first + r .runs ≡ length (allRuns (map G []))
@@ -53,28 +47,6 @@ last-part o G (x ∷ l) old =
     let c : length t - 1 + 1 ≡ length t = omega arith in
     let r = List·getD-append made (replicate (length old - length made) zeroRow) zeroRow (length t - 1) (omega (arith, i, length-records 0 (map G t), length-map t G)) ∙ records-at o G zeroRow 0 t (length t - 1) i in
     omega (arith, ap (λ (q : Row). q .first) r, ap (λ (q : Row). q .runs) r, Σℕ-more (length t - 1) f, ap (λ (y : ℕ). Σℕ y f) c, runs-total o G t)
-
--- a buffer that is 0 behind the new entries
-pub filled-is : (new old col : List ℕ) → length col ≡ length old → length new ≤ length old → ((x : ℕ) → x < length new → getD col x 0 ≡ getD new x 0) → ((x : ℕ) → length new ≤ x → getD col x 0 ≡ 0) → col ≡ filled 0 new old
-unfolding filled
-filled-is new old col long fits front past =
-    let rest : List ℕ = replicate (length old - length new) 0 in
-    ext-getD 0 col (new ++ rest) (omega (arith, length-append new rest, length-replicate {A = ℕ} (length old - length new) 0))
-    (λ x l. elim (decLt x (length new)) [
-      | yes b ↦ front x b ∙ sym (List·getD-append new rest 0 x b)
-      | no f ↦ let q : length new + (x - length new) ≡ x = omega arith in
-          past x (omega arith) ∙ sym (zeros 0 (length old - length new) (x - length new)) ∙ sym (getD-append-add new rest (x - length new) 0) ∙ ap (λ (z : ℕ). getD (new ++ rest) z 0) q
-    ])
-
-pub lefts-entry : (l : List (ℕ × ℕ)) → lefts (map entry l) ≡ Columns.lefts l
-unfolding Columns.lefts
-lefts-entry [] = refl
-lefts-entry (x ∷ l) = ap (λ (m : List ℕ). x .0 ∷ m) (lefts-entry l)
-
-pub rights-entry : (l : List (ℕ × ℕ)) → rights (map entry l) ≡ Columns.rights l
-unfolding Columns.rights
-rights-entry [] = refl
-rights-entry (x ∷ l) = ap (λ (m : List ℕ). x .1 ∷ m) (rights-entry l)
 
 module _ {d g : ℕ} {s : List ℤ} {w e : ℕ} {rows : List Row} {n : ℕ} {left₀ right₀ : List ℕ} (h : Fillable d g s w e rows n left₀ right₀) where
   abbrev W : ℕ

@@ -26,7 +26,7 @@ use Rattle.rows_records.specs.Records.{zeroRow}
 use Rattle.sums_slide.specs.Levels.{Lent, windowsOf, level-small}
 use Rattle.sums_slide.proofs.Levels.{level-is}
 use Rattle.rows_pack.specs.PackedAs.{PackedAs}
-use Rattle.build_parts.specs.Filling.{partStart}
+use Rattle.build_fill.specs.Pass.{partStart}
 use Rattle.build_fill.specs.Pass.{Rowed}
 
 -- a row with no windows

@@ -7,3 +7,4 @@ pub mod Calls
 pub mod PartCalls
 pub mod Meaning
 pub mod Parts
+pub mod Stored

@@ -9,6 +9,7 @@ use lib.Signed.{leZ, ltZ}
 use Rattle.meaning_rows.specs.declared.Row.{Row}
 use Rattle.rows_records.specs.Records.{zeroRow}
 use Rattle.candidate_filter.specs.declared.Span.{Span}
+pub use Rattle.rows_find.specs.Search.{Climbs}
 
 -- an end of a range, from -4,000,001 to 4,000,001: one outside the limits of row ends
 unfoldable pub clampOf : ℤ → ℤ

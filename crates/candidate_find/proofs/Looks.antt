@@ -9,9 +9,9 @@ use lib.Dec.{eqb}
 use borrow.Author.Tests.{eqb-true, eqb-false, not-true, not-false}
 use lib.IntN.{ℤ}
 use lib.ListN.{length, getD, length-replicate}
-use Rattle.meaning_numbers.specs.Sum.{count}
-use Rattle.meaning_numbers.proofs.Count.{count-cong}
-use Rattle.meaning_curves.specs.Curve.{at}
+use Rattle.meaning_filter.proofs.Candidates.{count}
+use Rattle.meaning_filter.proofs.Candidates.{count-cong}
+use Rattle.candidate_spans.specs.Held.{at}
 use Rattle.meaning_rows.specs.declared.Row.{Row}
 use Rattle.meaning_rows.specs.declared.Head.{Head}
 use Rattle.meaning_rows.specs.Index.{Index, lent, entries}
@@ -34,7 +34,7 @@ use Rattle.candidate_filter.proofs.Parts.{FoundAll}
 use Rattle.candidate_filter.proofs.Meaning.{cleared-zeros, found-all}
 use Rattle.candidate_filter.proofs.Spanned.{span-admits, span-inside, span-few, clamp-admits, climbs}
 use Rattle.candidate_spans.specs.Held.{RangesReady, RangesHeld}
-use Rattle.candidate_spans.proofs.Held.{raised-most, lowered}
+use Rattle.candidate_filter.proofs.Stored.{raised-most, lowered}
 use Rattle.candidate_spans.specs.Met.{spanAt, MeetReady, AllMet}
 use Rattle.candidate_spans.specs.Raised.{stretchHit}
 use Rattle.candidate_spans.proofs.Raised.{counted-all}

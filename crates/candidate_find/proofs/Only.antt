@@ -4,7 +4,7 @@ use mathlib.Core.List.{List}
 use Prim.Native.Nat.{ℕ}
 use lib.Dec.{eqb}
 use borrow.Author.Tests.{eqb-true, eqb-false}
-use Rattle.meaning_numbers.proofs.Tests.{by-test}
+use Rattle.meaning_filter.proofs.Candidates.{by-test}
 use Rattle.meaning_entries.specs.Search.{SearchCall}
 use Rattle.refusals.specs.declared.Refusal.{Refusal}
 use Rattle.candidate_find.specs.declared.Sought.{Sought}

@@ -4,7 +4,7 @@ use mathlib.Core.List.{List, []}
 use Prim.Native.Nat.{ℕ, _+_, _-_, _/_, _≤_}
 use lib.IntN.{ℤ}
 use lib.ListN.{length}
-use Rattle.meaning_curves.specs.Limits.{mostValues, longestWindow}
+use Rattle.candidate_plan.specs.Allowed.{mostValues, longestWindow}
 use Rattle.meaning_rows.specs.declared.Head.{Head}
 use Rattle.meaning_rows.specs.Runs.{runs}
 use Rattle.meaning_filter.specs.Matches.{candidateRuns}

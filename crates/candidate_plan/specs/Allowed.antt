@@ -10,7 +10,6 @@ use lib.IntN.{ℤ, pos}
 use lib.ListN.{length}
 use Rattle.meaning_numbers.proofs.Rep.{zarith, z-sub}
 use Rattle.meaning_numbers.proofs.Tests.{clash}
-use Rattle.meaning_curves.specs.Limits.{mostValues}
 use Rattle.meaning_curves.specs.Curve.{at, spread}
 use Rattle.meaning_curves.specs.Normal.{flat}
 use Rattle.meaning_curves.proofs.Values.{AllIn}
@@ -33,6 +32,7 @@ use Rattle.rows_judge.specs.Judged.{judgedOf, bad-row}
 use Rattle.refusals.specs.declared.Refusal.{Refusal}
 use Rattle.refusals.specs.Refusal.{refusalOf, judged-line, passes, refuses}
 use Rattle.candidate_plan.specs.Tables.{valuesTable, numbersTable, inputTable, windowsTable, stateTable, planOf}
+pub use Rattle.meaning_curves.specs.Limits.{mostValues, longestWindow}
 
 -- a search within all limits, over an index that is well formed and has the windows of the series, with room for candidates and scratch
 pub record Allowed (s : List ℤ) (h : Head) (x : Index) (ask : Ask) (q : List ℤ) (candidates scratch : ℕ) : Type 0 where

@@ -38,9 +38,10 @@ use Rattle.candidate_filter.specs.declared.Span.{Span}
 use Rattle.candidate_filter.proofs.Span as Sp
 use Rattle.candidate_filter.proofs.Span.Laws as Sp′
 use Rattle.candidate_filter.proofs.Calls.{low-span, low-range}
-use Rattle.candidate_spans.specs.Held.{EndsAt, heldRange, Stored}
-use Rattle.candidate_spans.proofs.range_at as rng
-use Rattle.candidate_spans.proofs.range_at.Symbol.{name as #range-at}
+use Rattle.candidate_spans.specs.Held.{Stored}
+use Rattle.candidate_filter.specs.Stored.{EndsAt, heldRange}
+use Rattle.candidate_filter.proofs.range_at as rng
+use Rattle.candidate_filter.proofs.range_at.Symbol.{name as #range-at}
 use Rattle.candidate_spans.proofs.put_span as put
 use Rattle.candidate_spans.proofs.put_span.Symbol.{name as #put-span}
 

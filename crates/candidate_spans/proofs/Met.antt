@@ -7,7 +7,8 @@ use lib.ListN.{length, getD}
 use Rattle.meaning_rows.specs.declared.Row.{Row}
 use Rattle.candidate_filter.specs.declared.Span.{Span}
 use Rattle.candidate_filter.specs.Met.{clampOf}
-use Rattle.candidate_spans.specs.Held.{PartsHeld, Stored, EndsAt, heldRange}
+use Rattle.candidate_spans.specs.Held.{PartsHeld, Stored}
+use Rattle.candidate_filter.specs.Stored.{EndsAt, heldRange}
 use Rattle.candidate_spans.proofs.Held.{none-held, held-next, held-rest}
 use Rattle.candidate_spans.specs.Met.{spanAt, MeetReady, AllMet}
 

@@ -11,7 +11,7 @@ use Rattle.meaning_filter.specs.declared.Kind.{Kind}
 use Rattle.meaning_filter.specs.declared.Limits.{Limits}
 use Rattle.meaning_filter.specs.Range.{rangeOf}
 use Rattle.distance_query.specs.Ready.{Ready}
-use Rattle.distance_envelope.proofs.EnvelopeLaws.{low-in, high-in}
+use Rattle.candidate_ranges.proofs.Sizes.{low-in, high-in}
 use Rattle.candidate_ranges.specs.declared.Frame.{Frame}
 use Rattle.candidate_ranges.specs.Frame.{frameOf, QueryIn}
 use Rattle.candidate_ranges.proofs.Fits.{query-in}

@@ -2,22 +2,18 @@
 use mathlib.Core.Path.{_≡_}
 use mathlib.Core.List.{List}
 use Prim.Native.Nat.{ℕ, _*_, _/_, _<_, _≤_}
-use lib.IntN.{ℤ, pos, natAbs, _+ℤ_, _-ℤ_}
+use lib.IntN.{ℤ}
 use lib.ListN.{length, getD}
 use Rattle.meaning_curves.proofs.Values.{AllIn}
-use Rattle.meaning_curves.specs.Curve.{at, spread}
+use Rattle.meaning_curves.specs.Curve.{spread}
 use Rattle.meaning_filter.specs.declared.Kind.{Kind}
 use Rattle.meaning_filter.specs.declared.Limits.{Limits}
 use Rattle.meaning_filter.specs.Range.{rangeOf}
 use Rattle.candidate_ranges.specs.declared.Frame.{Frame}
-use Rattle.candidate_ranges.specs.declared.Range.{Range}
 use Rattle.candidate_ranges.proofs.Fits.{LimitsIn}
 use Rattle.candidate_ranges.specs.Frame.{FrameIn}
-use Rattle.candidate_filter.specs.Met.{clampOf}
-
--- an end of a range, clamped and raised to a natural number
-unfoldable pub raisedEnd : ℤ → ℕ
-raisedEnd z = natAbs (clampOf z +ℤ pos 4000001)
+use Rattle.candidate_filter.specs.Stored.{raisedEnd}
+pub use Rattle.meaning_curves.specs.Curve.{at}
 
 -- the ends of each part's range
 abbrev pub lowEnds : (ℕ → ℤ × ℤ) → ℕ → ℕ
@@ -68,13 +64,3 @@ pub record RangesHeld (kind : Kind) (q : List ℤ) (l : Limits) (w : ℕ) (first
   pub held : PartsHeld (lowEnds (rangeOf kind (at q) (length q) l w)) (highEnds (rangeOf kind (at q) (length q) l w)) 0 (length q / w) first′ last′
   pub first-long : length first′ ≡ length first
   pub last-long : length last′ ≡ length last
-
--- entry i holds the raised ends of a range
-pub record EndsAt (first last : List ℕ) (i : ℕ) : Type 0 where
-  pub in-first : i < length first
-  pub in-last : i < length last
-  pub first-most : getD first i 0 ≤ 8000002
-  pub last-most : getD last i 0 ≤ 8000002
-
-abbrev pub heldRange : List ℕ → List ℕ → ℕ → Range
-heldRange first last i = record { low = pos (getD first i 0) -ℤ pos 4000001; high = pos (getD last i 0) -ℤ pos 4000001 }

@@ -4,7 +4,7 @@ use mathlib.Core.List.{List, [], _∷_}
 use Prim.Native.Nat.{ℕ, zero, suc, _+_, _-_, _<_, _≤_}
 use native.Mathlib.Omega.{arith}
 use lib.IntN.{ℤ}
-use lib.ListN.{length, getD, take, length-take}
+use lib.ListN.{length, getD, length-take}
 use lib.Seq.{getD-take}
 use Rattle.meaning_numbers.specs.Place.{numbersFrom}
 use Rattle.meaning_curves.specs.Curve.{at, stretch}
@@ -53,11 +53,6 @@ module _ {kind : Kind} {s q : List ℤ} {l : Limits} {from last k : ℕ} {offset
   pub run-ends : {offsets distances : List ℕ} {p w n j : ℕ} → last < j → RunSoFar kind s q l from last k offsets₀ distances₀ offsets distances p w n j
       → Listed (found (asked kind s q l) (numbersFrom from (last + 1 - from))) k n offsets₀ distances₀ offsets distances
   run-ends {j = j} h r = let e : j ≡ last + 1 = omega (arith, r .most) in rw e at (r .so-far)
-
--- ---- room for as many values as a query has
-
-pub front-long : (n : ℕ) (l : List ℤ) → n ≤ length l → length (take (n - 0) l) ≡ n
-front-long n l h = omega (arith, length-take (n - 0) l)
 
 -- ---- the runs, by their place
 

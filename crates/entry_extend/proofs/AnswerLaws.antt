@@ -23,7 +23,7 @@ use Rattle.rows_records.specs.Records.{zeroRow}
 use Rattle.build_passes.proofs.Filled.{last-part}
 use Rattle.refusals.specs.declared.Refusal.{Refusal}
 use Rattle.extend_plan.proofs.Planned.{thePlan, stopped, goes-on, Sound, sound}
-use Rattle.extend_passes.proofs.Rowed.{rows-are}
+use Rattle.extend_runs.proofs.Rowed.{rows-are}
 use Rattle.extend_passes.specs.Finished.{HoldsExtended}
 use Rattle.extend_passes.specs.Whole.{PassesAsked}
 use Rattle.entry_extend.specs.declared.Lift.{Lift}

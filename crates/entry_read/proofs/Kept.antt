@@ -17,7 +17,7 @@ use Rattle.meaning_rows.specs.Judge.{headGood, firstBadRow}
 use Rattle.meaning_text.specs.Form.{Value}
 use Rattle.meaning_text.specs.Read.{fine, unfit, readText, lineOf}
 use Rattle.meaning_text.specs.Texts.{indexForm, indexSaid}
-use Rattle.meaning_numbers.proofs.Tests.{by-test}
+use Rattle.meaning_text.proofs.Reading.{by-test}
 use Rattle.meaning_entries.specs.declared.Loaded.{Loaded}
 use Rattle.meaning_entries.specs.Refusal.{firstRefusal, badLine, unreadable, roomLines}
 use Rattle.meaning_entries.specs.Buffers.{filled, zeroRow, IndexBuffers, runRoom, lefts, rights, indexIn}

@@ -8,8 +8,8 @@ use lib.IntN.{ℤ}
 use lib.ListN.{length, getD}
 use Rattle.meaning_rows.specs.Runs.{before, runCount}
 use Rattle.sums_slide.specs.Levels.{level, Lent, windowsOf}
-use Rattle.sums_count.specs.Tally.{isRow}
 use Rattle.extend_count.specs.Rank.{rank, Climbing}
+unfoldable pub use Rattle.sums_count.specs.Tally.{isRow}
 
 -- the row of window j, by rank; below `old` none
 unfoldable pub rowFrom : List ℤ → ℕ → ℕ → ℕ → List ℕ → ℕ → ℕ → ℕ

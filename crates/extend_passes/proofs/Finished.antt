@@ -18,12 +18,12 @@ use Rattle.meaning_rows.proofs.Woven.{wovenRows, grownRuns}
 use Rattle.meaning_rows.proofs.LaidAt.{column-at}
 use Rattle.meaning_entries.specs.Buffers.{filled, indexIn, lefts, rights}
 use Rattle.rows_records.specs.Records.{zeroRow}
-use Rattle.build_parts.specs.Filling.{partsTotal}
+use Rattle.build_fill.specs.Pass.{partsTotal}
 use Rattle.build_fill.specs.Pass.{PassMade}
 use Rattle.meaning_entries.specs.Buffers.{indexBuffers}
-use Rattle.build_passes.proofs.Filled.{filled-is, lefts-entry, rights-entry}
+use Rattle.meaning_entries.proofs.Filled.{filled-is, lefts-entry, rights-entry}
 use Rattle.extend_parts.proofs.OldRuns.{rowHas}
-use Rattle.extend_passes.proofs.Rowed.{rows-are, size-is, start-is, total-is, total-most}
+use Rattle.extend_runs.proofs.Rowed.{rows-are, size-is, start-is, total-is, total-most}
 use Rattle.extend_passes.specs.Finished.{HoldsExtended}
 
 -- a column that is 0 behind all parts, as long as another

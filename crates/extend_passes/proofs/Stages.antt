@@ -12,9 +12,11 @@ use Rattle.rows_records.specs.Records.{zeroRow}
 use Rattle.meaning_entries.specs.Buffers.{indexBuffers}
 use Rattle.build_fill.specs.Pass.{Passable, PassMade}
 use Rattle.extend_parts.proofs.OldRuns.{rowHas}
-use Rattle.extend_passes.specs.Steps.{joinsOf, JoinAsked, JoinedAt}
-use Rattle.extend_passes.specs.Passes.{CountAsked, CountedAs, LayAsked, LaidBy, CopyAsked, CopiedAs}
-use Rattle.extend_passes.specs.Shell.{madeRows, WovenAs}
+use Rattle.extend_runs.specs.Joining.{JoinAsked, JoinedAt}
+use Rattle.extend_rows.specs.Steps.{joinsOf}
+use Rattle.extend_runs.specs.Copied.{CopyAsked, CopiedAs}
+use Rattle.extend_rows.specs.Passes.{CountAsked, CountedAs, LayAsked, LaidBy}
+use Rattle.extend_rows.specs.Shell.{madeRows, WovenAs}
 use Rattle.extend_passes.specs.Finished.{HoldsExtended}
 use Rattle.extend_passes.specs.Whole.{indexOf, PassesAsked}
 use Rattle.extend_passes.proofs.Whole.{count-asked, first-in, lays-asked, copies-asked, old-fits, join-asked, fill-asked, extended-held, rows-counted}

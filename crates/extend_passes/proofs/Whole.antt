@@ -19,29 +19,31 @@ use Rattle.meaning_numbers.proofs.Rep.{zarith}
 use Rattle.meaning_rows.specs.Runs.{runCount}
 use Rattle.sums_slide.specs.declared.Window.{Window}
 use Rattle.sums_slide.specs.Levels.{windowsOf}
-use Rattle.build_parts.specs.Filling.{partStart, partsTotal}
+use Rattle.build_fill.specs.Pass.{partStart, partsTotal}
 use Rattle.sums_slide.specs.Ends.{raisedEnd}
 use Rattle.build_fill.specs.Turn.{Small}
 use Rattle.build_fill.specs.Pass.{Passable, PassMade}
 use Rattle.meaning_entries.specs.Buffers.{indexBuffers}
-use Rattle.extend_weave.proofs.Weave.{getD-past}
+use Rattle.meaning_rows.proofs.Columns.{getD-past}
 use Rattle.extend_parts.proofs.Lay.{laid-past}
 use Rattle.extend_parts.specs.Copy.{columnTo}
 use Rattle.extend_parts.proofs.OldRuns.{rowHas}
-use Rattle.extend_new.specs.Join.{JoinedRun}
-use Rattle.extend_count.specs.Listed.{listed, endOf, sizeOf}
-use Rattle.extend_new.specs.New.{lessJoin}
+use Rattle.extend_runs.specs.Joining.{JoinedRun}
+use Rattle.extend_rows.specs.Passes.{listed, endOf, sizeOf}
+use Rattle.extend_rows.specs.Passes.{lessJoin}
 use Rattle.extend_parts.proofs.Records.{Matches}
-use Rattle.extend_passes.specs.Steps.{joinsOf, SumAsked, spotOf, JoinAsked, JoinedAt}
-use Rattle.extend_passes.proofs.Woven.{row-is, rows-long}
-use Rattle.extend_passes.proofs.Counts.{listable, countable, row-fits, joins, sum-asked, matches, row-in, old-size}
-use Rattle.extend_passes.proofs.Laid.{lay-asked, laid-front, laid-rows, laid-long}
-use Rattle.extend_passes.proofs.Joined.{Joins, copies-left, copies-right, row-begins, joinable, passable, past-both, long-both}
+use Rattle.extend_runs.specs.Joining.{spotOf, JoinAsked, JoinedAt}
+use Rattle.extend_rows.specs.Steps.{joinsOf, SumAsked}
+use Rattle.extend_rows.proofs.Shell.{row-is, rows-long}
+use Rattle.extend_runs.proofs.Counts.{listable, countable, row-fits, joins, sum-asked, matches, row-in, old-size}
+use Rattle.extend_rows.proofs.Laid.{lay-asked, laid-front, laid-rows, laid-long}
+use Rattle.extend_runs.proofs.Joined.{Joins, copies-left, copies-right, row-begins, joinable, passable, past-both, long-both}
 use Rattle.extend_passes.specs.Finished.{HoldsExtended}
 use Rattle.extend_passes.proofs.Finished.{finished}
-use Rattle.extend_passes.proofs.Rowed.{rows-are, first-at, extended-rowed}
-use Rattle.extend_passes.specs.Shell.{WovenAs, WeaveAsked}
-use Rattle.extend_passes.specs.Passes.{CountAsked, CountedAs, LayAsked, LaidBy, CopyAsked, CopiedAs}
+use Rattle.extend_runs.proofs.Rowed.{rows-are, first-at, extended-rowed}
+use Rattle.extend_rows.specs.Shell.{WovenAs, WeaveAsked}
+use Rattle.extend_runs.specs.Copied.{CopyAsked, CopiedAs}
+use Rattle.extend_rows.specs.Passes.{CountAsked, CountedAs, LayAsked, LaidBy}
 use Rattle.extend_passes.specs.Whole.{indexOf, PassesAsked}
 
 module _ {s : List ℤ} {w e d b old : ℕ} {from : List Row} {lefts rights : List ℕ} {rows : List Row} {left right : List ℕ} (h : PassesAsked s w e d b old from lefts rights rows left right) where

@@ -1,3 +1,4 @@
 -- Calls of the covered functions, as steps of a walk.
 pub mod Calls
 pub mod Weave
+pub mod Woven

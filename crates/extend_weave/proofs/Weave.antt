@@ -26,6 +26,7 @@ use Rattle.sums_count.specs.Numbers.{lowered}
 use Rattle.sums_count.proofs.Numbers.{rising-sorted}
 use Rattle.extend_weave.specs.Turn.{endLow, endRow, lowAt, chosenOf, oldAfter, numberAfter, madeAfter, Cell}
 use Rattle.extend_weave.specs.Weave.{numbersOf, Weavable, Made}
+use Rattle.meaning_rows.proofs.Columns.{getD-past}
 
 -- after some turns: a old rows and b numbers are passed, k records are made
 pub record Weaving (old : List Row) (numbers : List ℕ) (count d base : ℕ) (before : List Row) (a b k : ℕ) (rows : List Row) : Type 0 where
@@ -51,11 +52,6 @@ unfolding All
 all-at P o [] i a h = absurd (omega arith)
 all-at P o (r ∷ l) zero a h = a .0
 all-at P o (r ∷ l) (suc i) a h = all-at P o l i (a .1) (omega arith)
-
-pub getD-past : (o : Row) (l : List Row) (i : ℕ) → length l ≤ i → getD l i o ≡ o
-getD-past o [] i h = refl
-getD-past o (r ∷ l) zero h = absurd (omega arith)
-getD-past o (r ∷ l) (suc i) h = getD-past o l i (omega arith)
 
 wides : (a : ℤ) (l : List Row) → Ascending a (map rangeOf l) → All (λ r. r .low <ℤ r .up) l
 unfolding Ascending All

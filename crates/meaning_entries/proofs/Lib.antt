@@ -24,3 +24,4 @@ pub mod Vectors
 pub mod Cases
 pub mod BothKept
 pub mod BothOnly
+pub mod Filled

@@ -16,10 +16,11 @@ use Rattle.meaning_numbers.proofs.Between.{Between, within-yes}
 use Rattle.meaning_curves.specs.Limits.{lengthIn, windowIn, widthIn, mergeIn, queryLengthIn, bandIn, thresholdIn, scaleIn, shiftIn, firstOutside}
 use Rattle.meaning_curves.proofs.Values.{AllIn, none-outside}
 use Rattle.meaning_rows.specs.Index.{Index}
-use Rattle.meaning_rows.proofs.Judge.{Natural, between, WellFormed, well-formed}
+use Rattle.meaning_rows.proofs.Judge.{between, WellFormed, well-formed}
 use Rattle.meaning_filter.specs.declared.Kind.{Kind}
 use Rattle.meaning_entries.specs.Refusal.{atZero, lengthOutside, valueOutside, windowOutside, widthOutside, mergeOutside, queryLengthOutside, queryBelowWindow, bandOutside, thresholdOutside, scaleOrShiftOutside, normalFlat, flatQuery, illFormed, windowsOf, fewerWindows, moreWindows, bufferShort, seriesLines, countLines, roomLines}
 use Rattle.meaning_entries.proofs.Refusal.{AllPass, end, more, not-if}
+pub use Rattle.meaning_rows.proofs.Judge.{Natural}
 
 -- limits that are not passed
 inside : (low high : ℕ) (z : ℤ) → T (not (not (within (pos low) (pos high) z))) → Natural low high z

@@ -25,6 +25,9 @@ use Rattle.meaning_filter.specs.Range.{rangeOf, ranges}
 use Rattle.meaning_filter.specs.Candidates.{met, admits, candidate}
 use Rattle.meaning_filter.specs.Matches.{Question, queryLength, offsetCount, matchesAt, candidateAt}
 use Rattle.meaning_filter.proofs.Kept.{kept}
+unfoldable pub use Rattle.meaning_numbers.specs.Sum.{count}
+pub use Rattle.meaning_numbers.proofs.Count.{count-cong}
+pub use Rattle.meaning_numbers.proofs.Tests.{by-test}
 
 -- window j stands in some row of the index that holds the sum z
 abbrev pub filedAt : Index → ℤ → ℕ → Bool

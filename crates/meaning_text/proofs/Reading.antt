@@ -10,6 +10,7 @@ use lib.ListN.{length, length-append}
 use borrow.Author.Tests.{eqb-true, eq-eqb}
 use Rattle.meaning_text.specs.Number.{Read, got, bad}
 use Rattle.meaning_text.specs.Form.{spellMany, Each, end, more, readWord, thenRead, readMany}
+pub use Rattle.meaning_numbers.proofs.Tests.{by-test}
 
 -- a test is taken apart with what it says
 pub on-flag : (t : Bool) {A : Type 0} → (t ≡ true → A) → (t ≡ false → A) → A

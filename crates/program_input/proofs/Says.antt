@@ -16,7 +16,7 @@ use Rattle.meaning_numbers.proofs.Machine.{le-ltZ}
 use Rattle.meaning_numbers.proofs.Tests.{by-test}
 use Rattle.meaning_curves.specs.Limits.{mostProgramValues, valueIn, firstOutside}
 use Rattle.meaning_curves.proofs.Values.{yes-value, none-outside}
-use Rattle.meaning_rows.proofs.Judge.{Natural}
+use Rattle.meaning_entries.proofs.Lines.{Natural}
 use Rattle.meaning_text.specs.Read.{readText, fine, unfit, lineOf}
 use Rattle.meaning_text.specs.Texts.{programForm, kindSaid}
 use Rattle.meaning_text.proofs.Automaton.{Fed, going, failed}

@@ -78,7 +78,7 @@ text-said : (x : Verdict (Value indexForm)) → said (verdictOf scannedText x) �
 text-said (fine v) = refl
 text-said (unfit p) = refl
 
-pub start-is : tallyOf (Rattle.text_index.specs.Follow.nothingSaid) ≡ startTally
+pub start-is : tallyOf (Rattle.text_index.proofs.Follow.nothingSaid) ≡ startTally
 unfolding held runsFrom rowsFrom
 start-is = refl
 

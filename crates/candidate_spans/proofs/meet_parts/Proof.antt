@@ -54,13 +54,14 @@ use Rattle.candidate_filter.proofs.PartCalls.{MetSpan, calls-met}
 use Rattle.candidate_filter.proofs.met_span.Symbol as met-def
 use Rattle.candidate_filter.proofs.met_span.Symbol.{name as #met-span}
 use Rattle.candidate_filter.proofs.met_span.Met as met-thm
-use Rattle.candidate_spans.specs.Held.{heldRange, Stored}
+use Rattle.candidate_spans.specs.Held.{Stored}
+use Rattle.candidate_filter.specs.Stored.{heldRange}
 use Rattle.candidate_spans.specs.Met.{spanOf, MeetReady, AllMet}
 use Rattle.candidate_spans.proofs.Met.{Meeting, meeting-starts, meeting-ends, meeting-asks, meeting-stores, meeting-next}
 use Rattle.candidate_spans.proofs.Calls.{RangeAt, PutSpan, calls-range-at, calls-put-span}
-use Rattle.candidate_spans.proofs.range_at.Symbol as range-def
-use Rattle.candidate_spans.proofs.range_at.Symbol.{name as #range-at}
-use Rattle.candidate_spans.proofs.range_at.Met as range-thm
+use Rattle.candidate_filter.proofs.range_at.Symbol as range-def
+use Rattle.candidate_filter.proofs.range_at.Symbol.{name as #range-at}
+use Rattle.candidate_filter.proofs.range_at.Met as range-thm
 use Rattle.candidate_spans.proofs.put_span.Symbol as put-def
 use Rattle.candidate_spans.proofs.put_span.Symbol.{name as #put-span}
 use Rattle.candidate_spans.proofs.put_span.Met as put-thm
@@ -336,6 +337,6 @@ meet-parts-spec 𝓤 H 𝓜 𝓖 𝓡 =
     entered 𝓤 H (tripleOf 𝓤 H (𝓖 .A) f.signature (f.spec 𝓤 H (𝓖 .A) (𝓜 .mem) (𝓡 .run)))
     (tables 𝓤 H 𝓜 𝓡 code.env .C) (tables 𝓤 H 𝓜 𝓡 code.env .Λ) #meet-parts code.function (code.unfolded 𝓤 H 𝓜 𝓡)
     (meets 𝓤 H (𝓖 .A) (givenOf 𝓤 H 𝓜 𝓖) (𝓜 .mem) (𝓡 .run) (tablesOf 𝓤 H 𝓜 (tables 𝓤 H 𝓜 𝓡 code.env))
-    (cited 𝓤 H (RangeAt 𝓤 H (𝓖 .A) (𝓜 .mem) (𝓡 .run)) 𝓜 𝓡 code.env #range-at range-def.routine code.calls-candidate-spans·range-at (range-thm.met 𝓤 H 𝓜 𝓖 𝓡))
+    (cited 𝓤 H (RangeAt 𝓤 H (𝓖 .A) (𝓜 .mem) (𝓡 .run)) 𝓜 𝓡 code.env #range-at range-def.routine code.calls-candidate-filter·range-at (range-thm.met 𝓤 H 𝓜 𝓖 𝓡))
     (cited 𝓤 H (MetSpan 𝓤 H (𝓖 .A) (𝓜 .mem) (𝓡 .run)) 𝓜 𝓡 code.env #met-span met-def.routine code.calls-candidate-filter·met-span (met-thm.met 𝓤 H 𝓜 𝓖 𝓡))
     (cited 𝓤 H (PutSpan 𝓤 H (𝓖 .A) (𝓜 .mem) (𝓡 .run)) 𝓜 𝓡 code.env #put-span put-def.routine code.calls-candidate-spans·put-span (put-thm.met 𝓤 H 𝓜 𝓖 𝓡)))

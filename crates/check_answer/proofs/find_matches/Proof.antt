@@ -1,6 +1,6 @@
 -- `check_answer::find_matches` meets its contract (`answers`).
 use borrow.Author.Needs.{needs}
-use Rattle.check_list.proofs.Turn.{front-long}
+use Rattle.meaning_curves.proofs.Values.{front-long}
 use Rattle.check_answer.proofs.AnswerLaws.{answers}
 use Rattle.check_answer.proofs.find_matches.Statement.{statement}
 use Rattle.check_answer.proofs.find_matches.Tie as tie

@@ -2,7 +2,7 @@
 use borrow.Author.Needs.{needs}
 use native.Mathlib.Omega.{arith}
 use Rattle.check_list.proofs.Listed.{list-filled}
-use Rattle.check_list.proofs.Turn.{front-long}
+use Rattle.meaning_curves.proofs.Values.{front-long}
 use Rattle.check_list.proofs.check_runs.Statement.{statement}
 use Rattle.check_list.proofs.check_runs.Tie as tie
 

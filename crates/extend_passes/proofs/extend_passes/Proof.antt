@@ -26,30 +26,30 @@ use Rattle.sums_slide.proofs.Window.Laws as Windowᴸ
 use Rattle.meaning_rows.specs.declared.Row.{Row}
 use Rattle.meaning_rows.proofs.Row as Rowᵀ
 use Rattle.meaning_rows.proofs.Row.Laws as Rowᴸ
-use Rattle.extend_passes.proofs.weave_new as weave-new
-use Rattle.extend_passes.proofs.weave_new.Symbol as weave-new-def
-use Rattle.extend_passes.proofs.weave_new.Symbol.{name as #weave-new}
-use Rattle.extend_passes.proofs.weave_new.Met as weave-new-thm
-use Rattle.extend_passes.proofs.count_rows as count-rows
-use Rattle.extend_passes.proofs.count_rows.Symbol as count-rows-def
-use Rattle.extend_passes.proofs.count_rows.Symbol.{name as #count-rows}
-use Rattle.extend_passes.proofs.count_rows.Met as count-rows-thm
+use Rattle.extend_rows.proofs.weave_new as weave-new
+use Rattle.extend_rows.proofs.weave_new.Symbol as weave-new-def
+use Rattle.extend_rows.proofs.weave_new.Symbol.{name as #weave-new}
+use Rattle.extend_rows.proofs.weave_new.Met as weave-new-thm
+use Rattle.extend_rows.proofs.count_rows as count-rows
+use Rattle.extend_rows.proofs.count_rows.Symbol as count-rows-def
+use Rattle.extend_rows.proofs.count_rows.Symbol.{name as #count-rows}
+use Rattle.extend_rows.proofs.count_rows.Met as count-rows-thm
 use Rattle.rows_records.proofs.row_at as row-at
 use Rattle.rows_records.proofs.row_at.Symbol as row-at-def
 use Rattle.rows_records.proofs.row_at.Symbol.{name as #row-at}
 use Rattle.rows_records.proofs.row_at.Met as row-at-thm
-use Rattle.extend_passes.proofs.lay_joined as lay-joined
-use Rattle.extend_passes.proofs.lay_joined.Symbol as lay-joined-def
-use Rattle.extend_passes.proofs.lay_joined.Symbol.{name as #lay-joined}
-use Rattle.extend_passes.proofs.lay_joined.Met as lay-joined-thm
-use Rattle.extend_passes.proofs.copy_runs as copy-runs
-use Rattle.extend_passes.proofs.copy_runs.Symbol as copy-runs-def
-use Rattle.extend_passes.proofs.copy_runs.Symbol.{name as #copy-runs}
-use Rattle.extend_passes.proofs.copy_runs.Met as copy-runs-thm
-use Rattle.extend_passes.proofs.join_first as join-first
-use Rattle.extend_passes.proofs.join_first.Symbol as join-first-def
-use Rattle.extend_passes.proofs.join_first.Symbol.{name as #join-first}
-use Rattle.extend_passes.proofs.join_first.Met as join-first-thm
+use Rattle.extend_rows.proofs.lay_joined as lay-joined
+use Rattle.extend_rows.proofs.lay_joined.Symbol as lay-joined-def
+use Rattle.extend_rows.proofs.lay_joined.Symbol.{name as #lay-joined}
+use Rattle.extend_rows.proofs.lay_joined.Met as lay-joined-thm
+use Rattle.extend_runs.proofs.copy_runs as copy-runs
+use Rattle.extend_runs.proofs.copy_runs.Symbol as copy-runs-def
+use Rattle.extend_runs.proofs.copy_runs.Symbol.{name as #copy-runs}
+use Rattle.extend_runs.proofs.copy_runs.Met as copy-runs-thm
+use Rattle.extend_runs.proofs.join_first as join-first
+use Rattle.extend_runs.proofs.join_first.Symbol as join-first-def
+use Rattle.extend_runs.proofs.join_first.Symbol.{name as #join-first}
+use Rattle.extend_runs.proofs.join_first.Met as join-first-thm
 use Rattle.build_fill.proofs.fill_parts as fill-parts
 use Rattle.build_fill.proofs.fill_parts.Symbol as fill-parts-def
 use Rattle.build_fill.proofs.fill_parts.Symbol.{name as #fill-parts}
@@ -210,10 +210,10 @@ extend-passes-spec 𝓤 H 𝓜 𝓖 𝓡 =
     entered 𝓤 H (tripleOf 𝓤 H (𝓖 .A) f.signature (f.spec 𝓤 H (𝓖 .A) (𝓜 .mem) (𝓡 .run)))
     (tables 𝓤 H 𝓜 𝓡 code.env .C) (tables 𝓤 H 𝓜 𝓡 code.env .Λ) #self code.function (code.unfolded 𝓤 H 𝓜 𝓡)
     (meets 𝓤 H (𝓖 .A) (givenOf 𝓤 H 𝓜 𝓖) (𝓜 .mem) (𝓡 .run) (tablesOf 𝓤 H 𝓜 (tables 𝓤 H 𝓜 𝓡 code.env)) (fmOf 𝓤 H (givenOf 𝓤 H 𝓜 𝓖 .laws) (tablesOf 𝓤 H 𝓜 (tables 𝓤 H 𝓜 𝓡 code.env)))
-    (cited 𝓤 H (tripleOf 𝓤 H (𝓖 .A) weave-new.signature (weave-new.spec 𝓤 H (𝓖 .A) (𝓜 .mem) (𝓡 .run))) 𝓜 𝓡 code.env #weave-new weave-new-def.routine code.calls-extend-passes·weave-new (weave-new-thm.met 𝓤 H 𝓜 𝓖 𝓡))
-    (cited 𝓤 H (tripleOf 𝓤 H (𝓖 .A) count-rows.signature (count-rows.spec 𝓤 H (𝓖 .A) (𝓜 .mem) (𝓡 .run))) 𝓜 𝓡 code.env #count-rows count-rows-def.routine code.calls-extend-passes·count-rows (count-rows-thm.met 𝓤 H 𝓜 𝓖 𝓡))
+    (cited 𝓤 H (tripleOf 𝓤 H (𝓖 .A) weave-new.signature (weave-new.spec 𝓤 H (𝓖 .A) (𝓜 .mem) (𝓡 .run))) 𝓜 𝓡 code.env #weave-new weave-new-def.routine code.calls-extend-rows·weave-new (weave-new-thm.met 𝓤 H 𝓜 𝓖 𝓡))
+    (cited 𝓤 H (tripleOf 𝓤 H (𝓖 .A) count-rows.signature (count-rows.spec 𝓤 H (𝓖 .A) (𝓜 .mem) (𝓡 .run))) 𝓜 𝓡 code.env #count-rows count-rows-def.routine code.calls-extend-rows·count-rows (count-rows-thm.met 𝓤 H 𝓜 𝓖 𝓡))
     (cited 𝓤 H (tripleOf 𝓤 H (𝓖 .A) row-at.signature (row-at.spec 𝓤 H (𝓖 .A) (𝓜 .mem) (𝓡 .run))) 𝓜 𝓡 code.env #row-at row-at-def.routine code.calls-rows-records·row-at (row-at-thm.met 𝓤 H 𝓜 𝓖 𝓡))
-    (cited 𝓤 H (tripleOf 𝓤 H (𝓖 .A) lay-joined.signature (lay-joined.spec 𝓤 H (𝓖 .A) (𝓜 .mem) (𝓡 .run))) 𝓜 𝓡 code.env #lay-joined lay-joined-def.routine code.calls-extend-passes·lay-joined (lay-joined-thm.met 𝓤 H 𝓜 𝓖 𝓡))
-    (cited 𝓤 H (tripleOf 𝓤 H (𝓖 .A) copy-runs.signature (copy-runs.spec 𝓤 H (𝓖 .A) (𝓜 .mem) (𝓡 .run))) 𝓜 𝓡 code.env #copy-runs copy-runs-def.routine code.calls-extend-passes·copy-runs (copy-runs-thm.met 𝓤 H 𝓜 𝓖 𝓡))
-    (cited 𝓤 H (tripleOf 𝓤 H (𝓖 .A) join-first.signature (join-first.spec 𝓤 H (𝓖 .A) (𝓜 .mem) (𝓡 .run))) 𝓜 𝓡 code.env #join-first join-first-def.routine code.calls-extend-passes·join-first (join-first-thm.met 𝓤 H 𝓜 𝓖 𝓡))
+    (cited 𝓤 H (tripleOf 𝓤 H (𝓖 .A) lay-joined.signature (lay-joined.spec 𝓤 H (𝓖 .A) (𝓜 .mem) (𝓡 .run))) 𝓜 𝓡 code.env #lay-joined lay-joined-def.routine code.calls-extend-rows·lay-joined (lay-joined-thm.met 𝓤 H 𝓜 𝓖 𝓡))
+    (cited 𝓤 H (tripleOf 𝓤 H (𝓖 .A) copy-runs.signature (copy-runs.spec 𝓤 H (𝓖 .A) (𝓜 .mem) (𝓡 .run))) 𝓜 𝓡 code.env #copy-runs copy-runs-def.routine code.calls-extend-runs·copy-runs (copy-runs-thm.met 𝓤 H 𝓜 𝓖 𝓡))
+    (cited 𝓤 H (tripleOf 𝓤 H (𝓖 .A) join-first.signature (join-first.spec 𝓤 H (𝓖 .A) (𝓜 .mem) (𝓡 .run))) 𝓜 𝓡 code.env #join-first join-first-def.routine code.calls-extend-runs·join-first (join-first-thm.met 𝓤 H 𝓜 𝓖 𝓡))
     (cited 𝓤 H (tripleOf 𝓤 H (𝓖 .A) fill-parts.signature (fill-parts.spec 𝓤 H (𝓖 .A) (𝓜 .mem) (𝓡 .run))) 𝓜 𝓡 code.env #fill-parts fill-parts-def.routine code.calls-build-fill·fill-parts (fill-parts-thm.met 𝓤 H 𝓜 𝓖 𝓡)))
