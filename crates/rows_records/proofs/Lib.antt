@@ -3,6 +3,7 @@ pub mod Walk
 pub mod Elem
 pub mod Again
 mod Beside
+mod Clear
 pub mod Lends
 pub mod LocalMut
 pub mod Lent
@@ -14,4 +15,5 @@ pub mod Told
 pub mod Writes
 pub mod Chunk
 pub mod Passing
+pub mod Turns
 pub mod Prelude
