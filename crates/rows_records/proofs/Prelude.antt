@@ -32,4 +32,4 @@ pub use denote.Triple.Table.{entered, cited}
 pub use denote.Triple.Walked.{needs}
 pub use Rattle.rows_records.proofs.Walk.{AtEntry, by-bool, goes-in, passes-by}
 pub use Rattle.rows_records.proofs.Passing.{Data, uint, sint, boolean, nothing, struct, enum, Lent, Arg, value, kept, lends, shares, token, viewed, lent-at, holds, empty, tidy, frees-all, calls-with, leaves-with, meets-with, loc, part, start, put-at}
-pub use Rattle.rows_records.proofs.Turns.{loops, reads-lent, reads-shared, writes-lent, offset-fits, sub-fits, next-fits, next-upto, nearer, upto-end, set-long, array}
+pub use Rattle.rows_records.proofs.Turns.{loops, reads-lent, reads-shared, writes-lent, offset-fits, sub-fits, next-fits, next-upto, nearer, nearer-to, upto-end, set-long, array}

@@ -2,7 +2,7 @@
 --     loops            a `while` and what follows it, over states s of any type: Δ s is what is had of slices and cs s what the locals hold before a turn, F s what is known, and μ s falls with each turn
 --     reads-lent, reads-shared     an element of a `&κ mut [T]`, or of a `&κ [T]`, is read into an empty local through the pointer in another one.        writes-lent    an element is written
 --     offset-fits      the byte offset of an element fits a usize.     sub-fits     a difference fits where the greater number does.      set-long     a list with an element written is as long.     array     an array by value, as plain data
---     next-fits, next-upto, nearer, upto-end       of a count i that goes up to n
+--     next-fits, next-upto, nearer, nearer-to, upto-end       of a count i that goes up to n
 -- The token and what is had of the slice are at the head, and stay there.
 -- Assumes `Given`.
 use mathlib.Core.Path.{_≡_, refl, sym, _∙_, subst}
@@ -56,6 +56,9 @@ next-upto i n less = omega (arith, less)
 
 pub nearer : (i n : ℕ) → i < n → n - (i + 1) < n - i
 nearer i n less = omega (arith, less)
+
+pub nearer-to : (i j n : ℕ) → i < j → i < n → n - j < n - i
+nearer-to i j n further less = omega (arith, further, less)
 
 pub upto-end : (i n : ℕ) → i ≤ n → n ≤ i → i ≡ n
 upto-end i n most past = omega (arith, most, past)
