@@ -1,3 +1,2 @@
--- Calls of the pass's parts in a walk.
-pub mod Calls
+-- That the count of windows fits.
 mod Fits

@@ -1,3 +1,2 @@
--- Calls of the covered functions of merging in a walk.
-pub mod Calls
+-- A turn of merging over plain variables.
 mod Turn

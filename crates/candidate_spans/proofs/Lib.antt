@@ -1,3 +1,2 @@
--- Laws of spans, and calls of a walk.
+-- Laws of spans.
 pub mod Query
-pub mod Calls

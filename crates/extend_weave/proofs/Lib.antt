@@ -1,3 +1,2 @@
--- Calls of the covered functions, as steps of a walk.
-pub mod Calls
+-- That the counts of a weave fit.
 pub mod Fits

@@ -134,10 +134,6 @@ module _ (h : Head) (rows : List Row) (left right : List ℕ) where
   abbrev X : Index
   X = lent h rows left right
 
-  -- the state after record k
-  abbrev nextAt : State → ℕ → State
-  nextAt s k = next (lent h [] left right) s (getD rows k zeroRow)
-
   -- what is left to judge gives the outcome
   pub record Judging (s : State) (k : ℕ) : Type 0 where
     pub upto : k ≤ length rows

@@ -1,4 +1,4 @@
--- The kit for walks over lent records, generic (Walk, Told, Elem, Lends, Again, LocalMut, Lent, Prefix, Passing, Prelude), of `Row` (RowKit, Rows, Writes) and of the two run slices (Slices), and the laws of chunks.
+-- The kit for walks over lent records, generic (Walk, Told, Elem, Lends, Again, LocalMut, Lent, Prefix, Passing, Turns, Prelude), of `Row` (RowKit, Rows, Writes) and of the two run slices (Slices), and the laws of chunks.
 pub mod Walk
 pub mod Elem
 pub mod Again

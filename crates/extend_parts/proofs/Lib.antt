@@ -1,2 +1,0 @@
--- Calls of the covered functions, as steps of a walk.
-pub mod Calls
