@@ -1,5 +1,4 @@
 -- Calls of the covered functions, as steps of a walk.
-pub mod Calls
 pub mod Columns
 pub mod Copy
 pub mod Lay

@@ -1,13 +1,15 @@
--- RowsJudged row after row ends in what the meanings say: `judged` has it for all rows of an index. `RowsJudged` is the invariant of the loop over lent records, with how it starts, moves, stops and ends.
+-- Judging row after row ends in what the meanings say: `judged` has it for all rows of an index. `Judging` is the invariant of the loop over lent records, with how it starts, moves, stops and ends.
 use mathlib.Core.Path.{_≡_, refl, sym, _∙_, ap}
-use mathlib.Core.Bool.{Bool, true, false, cond, _&&_}
+use mathlib.Core.Bool.{Bool, true, false, cond, not, _&&_}
 use mathlib.Core.List.{List, [], _∷_}
 use mathlib.Core.Option.{Option, some}
-use Prim.Native.Nat.{ℕ, suc, _+_, _<_, _≤_}
+use Prim.Native.Nat.{ℕ, suc, zero-le, _+_, _<_, _≤_}
+use native.Mathlib.Numerals.{add-one}
 use native.Mathlib.Omega.{arith}
 use lib.Dec.{leb}
 use lib.IntN.{ℤ, pos, natAbs}
 use lib.ListN.{length, getD, drop, drop-of-length-le}
+use borrow.Author.Tests.{not-true, not-false}
 use Rattle.meaning_numbers.proofs.Tests.{by-test, both}
 use Rattle.meaning_rows.specs.declared.Row.{Row}
 use Rattle.meaning_rows.specs.declared.Head.{Head}
@@ -132,33 +134,34 @@ module _ (h : Head) (rows : List Row) (left right : List ℕ) where
   abbrev X : Index
   X = lent h rows left right
 
-  -- the state after record k, as the code has it
-  abbrev pub nextAt : RowsJudged → ℕ → RowsJudged
-  nextAt s k = next (lent h [] left right) s (getD rows k zeroRow)
-
   -- what is left to judge gives the outcome
-  abbrev pub Judging : RowsJudged → ℕ → Type 0
-  Judging s k = judgedFrom X k s (drop k rows) ≡ judgedOf X
+  pub record Judging (s : RowsJudged) (k : ℕ) : Type 0 where
+    pub upto : k ≤ length rows
+    pub gives : judgedFrom X k s (drop k rows) ≡ judgedOf X
 
-  first-left : (s : RowsJudged) (k : ℕ) → k < length rows → Judging s k → judgedFrom X k s (getD rows k zeroRow ∷ drop (suc k) rows) ≡ judgedOf X
-  first-left s k l j = ap (judgedFrom X k s) (sym (drop-next rows k zeroRow l)) ∙ j
+  pub judging-starts : {s : RowsJudged} → s ≡ start (lent h [] [] []) → Judging s 0
+  judging-starts {s} e = record { upto = zero-le; gives = ap (λ (s : RowsJudged). judgedFrom X 0 s rows) (e ∙ same-start h rows left right) ∙ judged X }
 
-  pub judging-starts : Judging (start (lent h [] [] [])) 0
-  judging-starts = ap (λ (s : RowsJudged). judgedFrom X 0 s rows) (same-start h rows left right) ∙ judged X
+  -- where t is the state after record k, r
+  module _ {s t : RowsJudged} {k : ℕ} {r : Row} (j : Judging s k) (is-r : r ≡ getD rows k zeroRow) (is-t : t ≡ next (lent h [] left right) s r) (l : k < length rows) where
+    as-next : t ≡ next X s (getD rows k zeroRow)
+    as-next = is-t ∙ ap (next (lent h [] left right) s) is-r ∙ same-next h rows left right s (getD rows k zeroRow)
 
-  pub judging-next : (s : RowsJudged) (k : ℕ) → k < length rows → nextAt s k .good ≡ true → Judging s k → Judging (nextAt s k) (suc k)
-  judging-next s k l e j =
-      let n = same-next h rows left right s (getD rows k zeroRow) in
-      ap (λ (u : RowsJudged). judgedFrom X (suc k) u (drop (suc k) rows)) n
-      ∙ turn-on X k s (getD rows k zeroRow) (drop (suc k) rows) (ap (λ (u : RowsJudged). u .good) (sym n) ∙ e) ∙ first-left s k l j
+    first-left : judgedFrom X k s (getD rows k zeroRow ∷ drop (suc k) rows) ≡ judgedOf X
+    first-left = ap (judgedFrom X k s) (sym (drop-next rows k zeroRow l)) ∙ j .gives
 
-  pub judging-stops : (s : RowsJudged) (k : ℕ) → k < length rows → nextAt s k .good ≡ false → Judging s k → verdictOf (nextAt s k) k ≡ judgedOf X
-  judging-stops s k l e j =
-      let n = same-next h rows left right s (getD rows k zeroRow) in
-      ap (λ (u : RowsJudged). verdictOf u k) n ∙ turn-off X k s (getD rows k zeroRow) (drop (suc k) rows) (ap (λ (u : RowsJudged). u .good) (sym n) ∙ e) ∙ first-left s k l j
+    pub judging-next : not (t .good) ≡ false → Judging t (k + 1)
+    judging-next e = record {
+      upto = omega (arith, l);
+      gives = rw (add-one k) (ap (λ (u : RowsJudged). judgedFrom X (suc k) u (drop (suc k) rows)) as-next
+          ∙ turn-on X k s (getD rows k zeroRow) (drop (suc k) rows) (ap (λ (u : RowsJudged). u .good) (sym as-next) ∙ not-false (t .good) e) ∙ first-left);
+    }
 
-  pub judging-ends : (s : RowsJudged) (k : ℕ) → length rows ≤ k → Judging s k → verdictOf s k ≡ judgedOf X
-  judging-ends s k l j = turn-none X k s ∙ ap (judgedFrom X k s) (sym (drop-of-length-le rows l)) ∙ j
+    pub judging-stops : not (t .good) ≡ true → verdictOf t k ≡ judgedOf X
+    judging-stops e = ap (λ (u : RowsJudged). verdictOf u k) as-next ∙ turn-off X k s (getD rows k zeroRow) (drop (suc k) rows) (ap (λ (u : RowsJudged). u .good) (sym as-next) ∙ not-true (t .good) e) ∙ first-left
+
+  pub judging-ends : {s : RowsJudged} {k : ℕ} → Judging s k → length rows ≤ k → verdictOf s k ≡ judgedOf X
+  judging-ends {s} {k} j l = turn-none X k s ∙ ap (judgedFrom X k s) (sym (drop-of-length-le rows l)) ∙ j .gives
 
 -- ---- the judgement, by the first bad row
 

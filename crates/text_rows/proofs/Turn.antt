@@ -21,7 +21,7 @@ use Rattle.text_judge.specs.declared.Tally.{Tally}
 use Rattle.text_judge.specs.Tally.{tellTally, shutTally, toldRun, Fits}
 use Rattle.text_judge.proofs.Seen.{start-fits, same-fits, tell-fits, shut-fits}
 use Rattle.text_rows.specs.declared.Line.{Line}
-use Rattle.text_rows.specs.Line.{rowMade, lineEnd, lineFrom, nextLine, lineAt, stored, Ready}
+use Rattle.text_rows.specs.Line.{rowMade, lineEnd, lineFrom, noLine, nextLine, lineAt, stored, Ready}
 
 -- what a byte does
 abbrev lineMoved : Moved → State → Tally → ℕ → List ℕ → Line
@@ -136,8 +136,16 @@ pub stored-none : (text : List ℕ) (rows : List Row) → stored text 0 rows ≡
 unfolding stored
 stored-none text rows = refl
 
-pub stored-more : (text : List ℕ) (n : ℕ) (rows : List Row) → stored text (n + 1) rows ≡ set (stored text n rows) n (lineAt text (suc n) .row)
-unfolding stored
+pub line-none : (text : List ℕ) → noLine ≡ lineAt text 0
+unfolding lineAt
+line-none text = refl
+
+pub line-more : (text : List ℕ) (k : ℕ) → nextLine text (lineAt text k) ≡ lineAt text (k + 1)
+unfolding lineAt
+line-more text k = rw (add-one k) refl
+
+pub stored-more : (text : List ℕ) (n : ℕ) (rows : List Row) → stored text (n + 1) rows ≡ set (stored text n rows) n (nextLine text (lineAt text n) .row)
+unfolding stored lineAt
 stored-more text n rows = rw (add-one n) refl
 
 pub length-stored : (text : List ℕ) (n : ℕ) (rows : List Row) → length (stored text n rows) ≡ length rows
