@@ -1,2 +1,2 @@
--- What the contract of merging cites.
+-- What the contracts of build_merging cite.
 pub mod Standing

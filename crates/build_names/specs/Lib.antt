@@ -1,4 +1,4 @@
--- What the contracts of neighbours cite.
+-- What the contracts of build_names cite.
 pub mod Ranges
 pub mod Places
 pub mod Packed

@@ -1,2 +1,2 @@
--- What the contracts of build cite.
+-- What the contracts of build_passes cite.
 pub mod Filled

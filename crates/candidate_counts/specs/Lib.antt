@@ -1,4 +1,4 @@
--- What the contracts of candidates cite.
+-- What the contracts of candidate_counts cite.
 pub mod Raise
 pub mod Handed
 pub mod Take

@@ -15,8 +15,8 @@ use Rattle.meaning_filter.specs.declared.Kind.{Kind}
 use Rattle.meaning_filter.specs.declared.Limits.{Limits}
 use Rattle.meaning_filter.specs.Matches.{Question, distanceTo, matchesAt, listed, offsetCount, candidateAt, candidateRuns, matchList}
 use Rattle.meaning_entries.specs.Demand3.{pairs}
-use Rattle.distance_compare.specs.declared.Match.{Match}
-use Rattle.distance_compare.specs.Answer.{answer}
+use Rattle.distance_within.specs.declared.Match.{Match}
+use Rattle.distance_within.specs.Answer.{answer}
 use Rattle.distance_match.specs.Matched.{matched}
 use Rattle.check_list.specs.Members.{between, members}
 use Rattle.check_list.proofs.Members.{numbers-end, keep-append, keep-length, length-numbers, members-append, kept-members}

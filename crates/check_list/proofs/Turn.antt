@@ -13,7 +13,7 @@ use Rattle.meaning_filter.specs.declared.Kind.{Kind}
 use Rattle.meaning_filter.specs.declared.Limits.{Limits}
 use Rattle.meaning_filter.specs.Matches.{Question}
 use Rattle.meaning_entries.specs.Demand3.{pairs}
-use Rattle.distance_compare.specs.declared.Match.{Match}
+use Rattle.distance_within.specs.declared.Match.{Match}
 use Rattle.distance_match.specs.Matched.{matched}
 use Rattle.check_list.specs.Members.{members}
 use Rattle.check_list.specs.Listed.{Listed}

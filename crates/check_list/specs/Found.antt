@@ -13,7 +13,7 @@ use Rattle.meaning_rows.proofs.Runs.{Apart}
 use Rattle.meaning_entries.specs.Demand3.{pairs}
 use Rattle.values.specs.Sums.{AreSums}
 use Rattle.distance_query.specs.Ready.{Ready}
-use Rattle.distance_compare.specs.declared.Match.{Match}
+use Rattle.distance_within.specs.declared.Match.{Match}
 
 -- what is looked for
 abbrev pub asked : Kind → List ℤ → List ℤ → Limits → Question

@@ -14,9 +14,9 @@ use Rattle.meaning_curves.proofs.Match.{normal-yes}
 use Rattle.meaning_filter.specs.declared.Kind.the-variants.{Normal}
 use Rattle.meaning_filter.specs.declared.Limits.{Limits}
 use Rattle.meaning_filter.specs.Matches.{matches, distanceTo}
-use Rattle.distance_compare.specs.declared.Match.the-variants.{No}
-use Rattle.distance_compare.specs.Answer.{nearness}
-use Rattle.distance_compare.proofs.Answer.{leb-yes}
+use Rattle.distance_within.specs.declared.Match.the-variants.{No}
+use Rattle.distance_within.specs.Answer.{nearness}
+use Rattle.distance_within.proofs.Answer.{leb-yes}
 use Rattle.distance_match.specs.Matched.{matched}
 use Rattle.distance_match.specs.Alike.{Alike, Says}
 

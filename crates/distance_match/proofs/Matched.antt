@@ -6,7 +6,7 @@ use Rattle.meaning_curves.specs.Match.{distance, rawMatch}
 use Rattle.meaning_filter.specs.declared.Kind.the-variants.{Raw}
 use Rattle.meaning_filter.specs.declared.Limits.{Limits}
 use Rattle.meaning_filter.specs.Matches.{matches, distanceTo}
-use Rattle.distance_compare.specs.Answer.{nearness}
+use Rattle.distance_within.specs.Answer.{nearness}
 use Rattle.distance_match.specs.Matched.{matched}
 
 -- of a raw query the distance decides

@@ -4,8 +4,8 @@ use lib.IntN.{ℤ}
 use Rattle.meaning_filter.specs.declared.Kind.{Kind}
 use Rattle.meaning_filter.specs.declared.Limits.{Limits}
 use Rattle.meaning_filter.specs.Matches.{matches, distanceTo}
-use Rattle.distance_compare.specs.declared.Match.{Match}
-use Rattle.distance_compare.specs.Answer.{answer}
+use Rattle.distance_within.specs.declared.Match.{Match}
+use Rattle.distance_within.specs.Answer.{answer}
 
 -- whether the stretch s matches the query q, both of m values, and its distance
 unfoldable pub matched : Kind → (s q : ℕ → ℤ) → ℕ → Limits → Match

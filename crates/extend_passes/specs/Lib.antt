@@ -1,3 +1,3 @@
--- What the contracts of extend cite.
+-- What the contracts of extend_passes cite.
 pub mod Finished
 pub mod Whole

@@ -1,4 +1,4 @@
--- What the contracts of numbers cite, and what callers know of values that are passed on.
+-- What the contracts of numbers cite.
 pub mod Raised
 pub mod Within
 pub mod Small

@@ -1,3 +1,3 @@
--- What the contracts of pack cite.
+-- What the contracts of rows_pack cite.
 pub mod Packed
 pub mod PackedAs

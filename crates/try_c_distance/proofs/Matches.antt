@@ -21,7 +21,7 @@ use Rattle.meaning_filter.specs.declared.Limits.{Limits}
 use Rattle.meaning_filter.specs.Matches.{matches, distanceTo}
 use Rattle.distance_normal.proofs.Stretch.{value-in}
 use Rattle.distance_query.specs.Ready.{IsCurve, curveOf}
-use Rattle.distance_compare.specs.Answer.{answer}
+use Rattle.distance_within.specs.Answer.{answer}
 use Rattle.distance_match.specs.Matched.{matched}
 use Rattle.try_c_distance.specs.Told.{toldMatch, wrapped, MatchBuffers, MatchesTold}
 

@@ -21,8 +21,8 @@ use Rattle.numbers.specs.Within.{Within}
 use Rattle.distance_normal.specs.Stretch.{Normalised}
 use Rattle.distance_envelope.specs.Envelope.{Envelopes}
 use Rattle.distance_query.specs.Ready.{IsCurve}
-use Rattle.distance_compare.specs.declared.Match.{Match}
-use Rattle.distance_compare.specs.declared.Match.the-variants.{Yes, No}
+use Rattle.distance_within.specs.declared.Match.{Match}
+use Rattle.distance_within.specs.declared.Match.the-variants.{Yes, No}
 use Rattle.distance_match.specs.Matched.{matched}
 use Rattle.try_c_distance.specs.Fits.{Fits}
 use Rattle.try_c_distance.specs.Outcome.{Written, Outcome}

@@ -1,6 +1,6 @@
 // The leaf code for C: for the comparison under tests/ and the measurements under bench/, and for nothing else. Lengths and limits are tested once, so no `requires` is left that C could break. What each function tells and leaves is said in specs/Told.antt: of an input that the tests refuse, nothing is written.
 use distance_bound::envelope_bound;
-use distance_compare::Match;
+use distance_within::Match;
 use distance_envelope::lower_envelope;
 use distance_envelope::upper_envelope;
 use distance_match::match_at;

@@ -8,9 +8,9 @@ use Rattle.meaning_curves.specs.Curve.{at, stretch}
 use Rattle.meaning_curves.proofs.Same.{distance-same}
 use Rattle.meaning_filter.specs.declared.Kind.the-variants.{Raw, Normal}
 use Rattle.distance_query.specs.Ready.{Ready}
-use Rattle.distance_compare.specs.Answer.{nearness}
+use Rattle.distance_within.specs.Answer.{nearness}
 use Rattle.distance_match.proofs.Matched.{raw-matched}
-use Rattle.distance_compare.proofs.Room.{same-self}
+use Rattle.distance_within.proofs.Room.{same-self}
 use Rattle.distance_match.proofs.Shift.{of-kind}
 use Rattle.distance_match.proofs.match_at.Statement.{statement}
 use Rattle.distance_match.proofs.match_at.Tie as tie

@@ -9,9 +9,9 @@ use Rattle.meaning_curves.specs.Curve.{at, stretch, total, spread}
 use Rattle.meaning_curves.specs.Normal.{normalised}
 use Rattle.meaning_curves.proofs.Same.{distance-same}
 use Rattle.values.proofs.SumsLaws.{spread-bound}
-use Rattle.distance_compare.specs.Answer.{nearness}
+use Rattle.distance_within.specs.Answer.{nearness}
 use Rattle.distance_match.proofs.AlikeLaws.{alike-matched, unlike-matched}
-use Rattle.distance_compare.proofs.Room.{same-self}
+use Rattle.distance_within.proofs.Room.{same-self}
 use Rattle.distance_match.proofs.Shift.{shift-raised, spread-limit}
 use Rattle.distance_match.proofs.match_normal.Statement.{statement}
 use Rattle.distance_match.proofs.match_normal.Tie as tie

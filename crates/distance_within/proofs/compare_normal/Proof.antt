@@ -1,4 +1,4 @@
--- `distance_compare::compare_normal` meets its contract: what the envelope bound passes, the distance passes (`bound-le`); else what stands in the room are the normalised values, and the distance asks for no others (`distance-same`).
+-- `distance_within::compare_normal` meets its contract: what the envelope bound passes, the distance passes (`bound-le`); else what stands in the room are the normalised values, and the distance asks for no others (`distance-same`).
 use borrow.Author.Needs.{needs}
 use mathlib.Core.Path.{_∙_, ap}
 use mathlib.Core.List.{List}
@@ -16,12 +16,12 @@ use Rattle.numbers.proofs.Within.{within-above}
 use Rattle.distance_envelope.proofs.EnvelopeLaws.{low-in, high-in}
 use Rattle.distance_warped.proofs.Rest.{bound-le}
 use Rattle.distance_normal.proofs.Stretch.{normalised-in}
-use Rattle.distance_compare.specs.Answer.{nearness}
-use Rattle.distance_compare.proofs.Answer.{no-answer}
-use Rattle.distance_compare.proofs.Room.{normal-room, same-self}
-use Rattle.distance_compare.specs.Within.{NormalWithin}
-use Rattle.distance_compare.proofs.compare_normal.Statement.{statement}
-use Rattle.distance_compare.proofs.compare_normal.Tie as tie
+use Rattle.distance_within.specs.Answer.{nearness}
+use Rattle.distance_within.proofs.Answer.{no-answer}
+use Rattle.distance_within.proofs.Room.{normal-room, same-self}
+use Rattle.distance_within.specs.Within.{NormalWithin}
+use Rattle.distance_within.proofs.compare_normal.Statement.{statement}
+use Rattle.distance_within.proofs.compare_normal.Tie as tie
 
 normalise-within-requires : tie.Need-normalise-within-requires
 normalise-within-requires c κs =

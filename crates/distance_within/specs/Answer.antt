@@ -2,8 +2,8 @@
 use mathlib.Core.Bool.{Bool, true, false}
 use Prim.Native.Nat.{ℕ}
 use lib.Dec.{leb}
-use Rattle.distance_compare.specs.declared.Match.{Match}
-use Rattle.distance_compare.specs.declared.Match.the-variants.{Yes, No}
+use Rattle.distance_within.specs.declared.Match.{Match}
+use Rattle.distance_within.specs.declared.Match.the-variants.{Yes, No}
 
 abbrev pub answer : Bool → ℕ → Match
 answer true d = Yes d

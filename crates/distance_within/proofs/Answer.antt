@@ -11,8 +11,8 @@ use Rattle.meaning_numbers.proofs.Tests.{is-true, is-false, decided}
 use Rattle.meaning_curves.specs.Straight.{straight}
 use Rattle.meaning_curves.specs.Match.{distance}
 use Rattle.numbers.specs.Within.{Within}
-use Rattle.distance_compare.specs.declared.Match.the-variants.{Yes, No}
-use Rattle.distance_compare.specs.Answer.{nearness}
+use Rattle.distance_within.specs.declared.Match.the-variants.{Yes, No}
+use Rattle.distance_within.specs.Answer.{nearness}
 
 -- ---- tests of numbers
 

@@ -1,4 +1,4 @@
--- `distance_compare::normalise_within` meets its contract. The invariant: so many values are normalised, and so much of their bound is made. A block adds its part (`part-more`); left early, the total is a part of the bound.
+-- `distance_within::normalise_within` meets its contract. The invariant: so many values are normalised, and so much of their bound is made. A block adds its part (`part-more`); left early, the total is a part of the bound.
 use mathlib.Core.Path.{_≡_, refl, sym, _∙_}
 use mathlib.Core.List.{List}
 use Prim.Native.Nat.{ℕ, _+_, _-_, _<_, _≤_}
@@ -13,9 +13,9 @@ use Rattle.meaning_filter.proofs.Bound.{apart}
 use Rattle.numbers.proofs.Blocks.{Made, made-none, made-left, made-whole}
 use Rattle.distance_normal.specs.Normal.{IsFactor}
 use Rattle.distance_normal.specs.Stretch.{NormalReady, NormalPart}
-use Rattle.distance_compare.proofs.Within.{NormalTo, normal-next, normal-all, made-in, part-more}
-use Rattle.distance_compare.proofs.normalise_within.Statement.{statement}
-use Rattle.distance_compare.proofs.normalise_within.Tie as tie
+use Rattle.distance_within.proofs.Within.{NormalTo, normal-next, normal-all, made-in, part-more}
+use Rattle.distance_within.proofs.normalise_within.Statement.{statement}
+use Rattle.distance_within.proofs.normalise_within.Tie as tie
 
 abbrev Inv-loop : tie.InvT-loop
 Inv-loop s from t a low high limit out₀ m f total₀ i₀ out total i = (i ≤ m) × NormalTo (stretch s from) m i out × Made (apart (normalised (stretch s from) m) (at low) (at high)) 400000000 i total

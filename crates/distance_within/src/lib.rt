@@ -14,8 +14,8 @@ ghost use Rattle.meaning_curves.specs.Match.{distance};
 ghost use Rattle.meaning_curves.proofs.Values.{AllIn};
 ghost use Rattle.distance_normal.specs.Stretch.{NormalReady};
 ghost use Rattle.distance_envelope.specs.Envelope.{Envelopes};
-ghost use Rattle.distance_compare.specs.Answer.{nearness};
-ghost use Rattle.distance_compare.specs.Within.{NormalWithin};
+ghost use Rattle.distance_within.specs.Answer.{nearness};
+ghost use Rattle.distance_within.specs.Within.{NormalWithin};
 
 // Whether a stretch matches, and its distance.
 pub enum Match {

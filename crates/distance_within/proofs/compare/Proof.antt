@@ -1,4 +1,4 @@
--- `distance_compare::compare` meets its contract: the straight distance is the distance at band 0, and the warped one at any band.
+-- `distance_within::compare` meets its contract: the straight distance is the distance at band 0, and the warped one at any band.
 use borrow.Author.Needs.{needs}
 use mathlib.Core.Path.{_∙_, ap, sym}
 use Prim.Native.Nat.{ℕ}
@@ -7,10 +7,10 @@ use lib.ListN.{length}
 use lib.IntN.{ℤ}
 use Rattle.meaning_curves.specs.Curve.{at, stretch}
 use Rattle.meaning_curves.proofs.Straight.{distance-is}
-use Rattle.distance_compare.specs.Answer.{nearness}
-use Rattle.distance_compare.proofs.Answer.{within-answer, straight-distance}
-use Rattle.distance_compare.proofs.compare.Statement.{statement}
-use Rattle.distance_compare.proofs.compare.Tie as tie
+use Rattle.distance_within.specs.Answer.{nearness}
+use Rattle.distance_within.proofs.Answer.{within-answer, straight-distance}
+use Rattle.distance_within.proofs.compare.Statement.{statement}
+use Rattle.distance_within.proofs.compare.Tie as tie
 
 -- the stretch and the curve
 module _ (o : tie.Start) where
