@@ -14,6 +14,7 @@ use Rattle.values.specs.Copy.{Copied}
 use Rattle.distance_normal.specs.Stretch.{Normalised}
 use Rattle.distance_normal.proofs.Stretch.{normalised-in}
 use Rattle.distance_query.specs.Ready.{IsCurve}
+pub use Rattle.distance_normal.proofs.Stretch.{value-in}
 
 -- ---- a stretch from the first place on is the list itself
 

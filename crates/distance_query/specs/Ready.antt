@@ -12,7 +12,7 @@ use Rattle.meaning_curves.proofs.Same.{Same}
 use Rattle.meaning_filter.specs.declared.Kind.{Kind}
 use Rattle.meaning_filter.specs.declared.Kind.the-variants.{Raw, Normal}
 use Rattle.numbers.specs.Raised.{raised}
-use Rattle.distance_envelope.specs.Envelope.{Envelopes}
+pub use Rattle.distance_envelope.specs.Envelope.{Envelopes}
 
 -- the curve that stretches are compared with: the query, or its normalised values
 abbrev pub curveOf : Kind → (ℕ → ℤ) → ℕ → ℕ → ℤ

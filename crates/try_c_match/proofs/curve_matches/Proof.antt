@@ -1,12 +1,12 @@
--- `try_c_distance::curve_matches` meets its contract: what its callees require was tested.
+-- `try_c_match::curve_matches` meets its contract: what its callees require was tested.
 use borrow.Author.Needs.{needs}
 use borrow.Author.Tests.{not-true, not-false}
 use mathlib.Core.Path.{refl}
 use native.Mathlib.Omega.{arith}
 use Rattle.try_c_distance.proofs.Laws.{outcome-yes, outcome-no}
-use Rattle.try_c_distance.proofs.Matches.{of-kind}
-use Rattle.try_c_distance.proofs.curve_matches.Statement.{statement}
-use Rattle.try_c_distance.proofs.curve_matches.Tie as tie
+use Rattle.try_c_match.proofs.Matches.{of-kind}
+use Rattle.try_c_match.proofs.curve_matches.Statement.{statement}
+use Rattle.try_c_match.proofs.curve_matches.Tie as tie
 
 can-prepare-requires : tie.Need-can-prepare-requires
 can-prepare-requires c κs =

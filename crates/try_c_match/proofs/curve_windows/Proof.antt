@@ -1,4 +1,4 @@
--- `try_c_distance::curve_windows` meets its contract. The invariant: the sums and rows so far are written, and the next sum is at hand.
+-- `try_c_match::curve_windows` meets its contract. The invariant: the sums and rows so far are written, and the next sum is at hand.
 use borrow.Author.Needs.{needs}
 use borrow.Author.Tests.{not-true, not-false}
 use mathlib.Core.Path.{_≡_, refl, ap, _∙_}
@@ -11,12 +11,12 @@ use mir.Val.{toZ}
 use mir.ValLaws.{toZ-ofZ}
 use Rattle.meaning_curves.specs.Curve.{windowSum}
 use Rattle.meaning_rows.specs.Range.{rowNumber}
 use Rattle.try_c_distance.specs.Fits.{Fits}
 use Rattle.try_c_distance.specs.Outcome.{Written}
-use Rattle.try_c_distance.specs.Told.{SumAt, RowAt}
+use Rattle.try_c_match.specs.Told.{SumAt, RowAt}
 use Rattle.try_c_distance.proofs.Laws.{written-none, written-more, written-all, outcome-yes, outcome-no}
-use Rattle.try_c_distance.proofs.curve_windows.Statement.{statement}
-use Rattle.try_c_distance.proofs.curve_windows.Tie as tie
+use Rattle.try_c_match.proofs.curve_windows.Statement.{statement}
+use Rattle.try_c_match.proofs.curve_windows.Tie as tie
 
 abbrev Inv-loop : tie.InvT-loop
 Inv-loop s w d sums₀ rows₀ n sum₀ at₀ sums rows sum at =

@@ -19,11 +19,11 @@ use Rattle.meaning_filter.specs.declared.Kind.{Kind}
 use Rattle.meaning_filter.specs.declared.Kind.the-variants.{Raw, Normal}
 use Rattle.meaning_filter.specs.declared.Limits.{Limits}
 use Rattle.meaning_filter.specs.Matches.{matches, distanceTo}
-use Rattle.distance_normal.proofs.Stretch.{value-in}
+use Rattle.distance_query.proofs.Ready.{value-in}
 use Rattle.distance_query.specs.Ready.{IsCurve, curveOf}
 use Rattle.distance_within.specs.Answer.{answer}
 use Rattle.distance_match.specs.Matched.{matched}
-use Rattle.try_c_distance.specs.Told.{toldMatch, wrapped, MatchBuffers, MatchesTold}
+use Rattle.try_c_match.specs.Told.{toldMatch, wrapped, MatchBuffers, MatchesTold}
 
 -- a distance of curves whose values are in their limits
 distance-small : (s q : ℕ → ℤ) (b m : ℕ) → 0 < m → m ≤ 1024 → ((x : ℕ) → x < m → InLimits (s x)) → ((y : ℕ) → y < m → InLimits (q y)) → distance s q b m ≤ 819200000000

@@ -1,11 +1,11 @@
--- `try_c_distance::curve_outside` meets its contract.
+-- `try_c_match::curve_outside` meets its contract.
 use borrow.Author.Needs.{needs}
 use mathlib.Core.Path.{sym, _∙_}
 use lib.ListN.{length}
 use Rattle.meaning_curves.specs.Limits.{firstOutside}
-use Rattle.try_c_distance.proofs.Answers.{place-at, place-none}
-use Rattle.try_c_distance.proofs.curve_outside.Statement.{statement}
-use Rattle.try_c_distance.proofs.curve_outside.Tie as tie
+use Rattle.try_c_match.proofs.Answers.{place-at, place-none}
+use Rattle.try_c_match.proofs.curve_outside.Statement.{statement}
+use Rattle.try_c_match.proofs.curve_outside.Tie as tie
 
 returns : tie.Need-returns
 returns c = let s = c .before .before .before .before .args .s .now in place-at (length s) (firstOutside s) (sym (c .before .before .before .first-outside .ensures) ∙ c .before .k .given .1)

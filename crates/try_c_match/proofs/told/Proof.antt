@@ -1,7 +1,7 @@
--- `try_c_distance::told` meets its contract.
+-- `try_c_match::told` meets its contract.
 use borrow.Author.Needs.{needs}
-use Rattle.try_c_distance.proofs.told.Statement.{statement}
-use Rattle.try_c_distance.proofs.told.Tie as tie
+use Rattle.try_c_match.proofs.told.Statement.{statement}
+use Rattle.try_c_match.proofs.told.Tie as tie
 
 returns : tie.Need-returns
 returns c = rw (c .before .before .found .given .1) (c .wrapping-add-u64 .ensures)
