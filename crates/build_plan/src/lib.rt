@@ -8,7 +8,7 @@ use refusals::refuse_room;
 use refusals::refuse_series;
 use refusals::width_outside;
 use refusals::window_outside;
-use rows_pack::raised_rows;
+use sums_slide::raised_rows;
 ghost use mathlib.Core.Path.{_≡_};
 ghost use Rattle.meaning_entries.specs.Build.{lentBuild, buildLines};
 ghost use Rattle.refusals.specs.Refusal.{refusalOf};

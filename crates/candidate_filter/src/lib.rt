@@ -104,7 +104,7 @@ pub fn raise_by(x: i32) -> u32
 }
 
 // An end of a range, clamped and raised.
-pub fn raise_end(z: i64) -> u32
+pub fn raise_clamped(z: i64) -> u32
     ensures { λ r. ⌜ r ≡ raisedEnd z ⌝ }
 {
     raise_by(clamp(z))

@@ -2,7 +2,7 @@
 use candidate_counts::raise_runs;
 use candidate_filter::Span;
 use candidate_filter::met_span;
-use candidate_filter::raise_end;
+use candidate_filter::raise_clamped;
 use candidate_filter::range_at;
 use candidate_ranges::Frame;
 use candidate_ranges::frame_of;
@@ -46,8 +46,8 @@ pub fn put_ends(
     let mut i: usize = 0;
     while i < parts {
         let range = part_range(f, low, high, w, i);
-        let a = raise_end(range.low);
-        let b = raise_end(range.high);
+        let a = raise_clamped(range.low);
+        let b = raise_clamped(range.high);
         store_pair(first, last, i, a, b);
         i += 1;
     }

@@ -1,23 +1,10 @@
 // Row records packed out of the table of row numbers and the ends of the rows' parts: a thin walked loop over a covered function that makes one record by value.
 use meaning_rows::Row;
-use numbers::RAISE;
 use numbers::lower;
-use numbers::quotient;
 ghost use mathlib.Core.Path.{_≡_};
 ghost use Prim.Native.Nat.{_+_, _-_, _*_, _<_, _≤_};
 ghost use lib.ListN.{length};
-ghost use Rattle.meaning_curves.specs.Limits.{greatestValue, longestWindow, widestRow};
 ghost use Rattle.rows_pack.specs.Packed.{total, Summed, startOf, rowFrom, RowRoom, packed, Packable};
-
-// By how many rows row numbers are raised: so many that no window of `w` values has a row number below it.
-pub fn raised_rows(w: u64, d: u64) -> u64
-    requires { ⌜ w ≤ longestWindow ⌝ }
-    requires { ⌜ (1 ≤ d) × (d ≤ widestRow) ⌝ }
-    ensures { λ r. ⌜ (greatestValue * w ≤ r * d) × (r * d ≤ greatestValue * w + (d - 1)) ⌝ }
-{
-    let most = RAISE * w + (d - 1);
-    quotient(most as u32, d as u32) as u64
-}
 
 // Each count is made the sum of the counts up to it: where its row's part ends.
 pub fn sum_up(counts: &mut [u32], n: usize)

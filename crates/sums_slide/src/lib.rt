@@ -11,7 +11,7 @@ ghost use Prim.Native.Nat.{ℕ, _+_, _-_, _*_, _/_, _<_, _≤_};
 ghost use lib.IntN.{pos, negsuc};
 ghost use lib.ListN.{length, getD};
 ghost use lib.Signed.{_≤ℤ_};
-ghost use Rattle.meaning_curves.specs.Limits.{mostValues, longestWindow, widestRow};
+ghost use Rattle.meaning_curves.specs.Limits.{mostValues, longestWindow, widestRow, greatestValue};
 ghost use Rattle.meaning_curves.specs.Curve.{at};
 ghost use Rattle.meaning_curves.proofs.Values.{AllIn};
 ghost use Rattle.numbers.specs.Raised.{raised};
@@ -326,4 +326,14 @@ pub fn list_rows(s: &[i32], w: usize, e: u64, d: u64, flags: &mut [u8], out: &mu
         base += size;
     }
     k
+}
+
+// By how many rows row numbers are raised: so many that no window of `w` values has a row number below it.
+pub fn raised_rows(w: u64, d: u64) -> u64
+    requires { ⌜ w ≤ longestWindow ⌝ }
+    requires { ⌜ (1 ≤ d) × (d ≤ widestRow) ⌝ }
+    ensures { λ r. ⌜ (greatestValue * w ≤ r * d) × (r * d ≤ greatestValue * w + (d - 1)) ⌝ }
+{
+    let most = RAISE * w + (d - 1);
+    quotient(most as u32, d as u32) as u64
 }

@@ -43,8 +43,8 @@ loop-again c =
     let l = c .before .before .before .before .before .before .before .before .before .before .before .before .before in
     let v = l .loop .inv in
     let r = c .before .before .before .before .before .before .before .before .before .before .before .part-range in
-    let low = c .before .before .before .before .before .before .before .before .before .raise-end .ensures ∙ ap raisedEnd (toZ-ofZ w64 (r .result .low) (search needs) ∙ ap (λ (y : Range). y .low) (r .ensures)) in
-    let high = c .before .before .before .before .before .before .before .raise-end2 .ensures ∙ ap raisedEnd (toZ-ofZ w64 (r .result .high) (search needs) ∙ ap (λ (y : Range). y .high) (r .ensures)) in
+    let low = c .before .before .before .before .before .before .before .before .before .raise-clamped .ensures ∙ ap raisedEnd (toZ-ofZ w64 (r .result .low) (search needs) ∙ ap (λ (y : Range). y .low) (r .ensures)) in
+    let high = c .before .before .before .before .before .before .before .raise-clamped2 .ensures ∙ ap raisedEnd (toZ-ofZ w64 (r .result .high) (search needs) ∙ ap (λ (y : Range). y .high) (r .ensures)) in
     (held-next s (v .0) low high, s .first-long ∙ v .1, s .last-long ∙ v .2, omega (arith, c .before .before .before .before .before .before .before .before .before .before .before .before .loop-test .taken))
 
 returns : tie.Need-returns Inv-loop μ-loop

@@ -1,10 +1,10 @@
--- `rows_pack::raised_rows` meets its contract, by the two inequalities of a quotient.
+-- `sums_slide::raised_rows` meets its contract, by the two inequalities of a quotient.
 use borrow.Author.Needs.{needs}
 use Prim.Native.Nat.{_+_, _-_, _*_}
 use native.Mathlib.Omega.{arith}
 use native.Mathlib.Nat.{div-mul-le-self, lt-div-mul-add}
-use Rattle.rows_pack.proofs.raised_rows.Statement.{statement}
-use Rattle.rows_pack.proofs.raised_rows.Tie as tie
+use Rattle.sums_slide.proofs.raised_rows.Statement.{statement}
+use Rattle.sums_slide.proofs.raised_rows.Tie as tie
 
 returns : tie.Need-returns
 returns c =

@@ -1,4 +1,4 @@
--- `candidate_filter::raise_end` meets its contract (`clamp-in`).
+-- `candidate_filter::raise_clamped` meets its contract (`clamp-in`).
 use borrow.Author.Needs.{needs}
 use mathlib.Core.Path.{_≡_, sym, ap, _∙_, subst}
 use lib.IntN.{ℤ, pos, negsuc, natAbs, _+ℤ_}
@@ -9,8 +9,8 @@ use Rattle.meaning_numbers.proofs.Between.{Between}
 use Rattle.candidate_filter.specs.Met.{clampOf}
 use Rattle.candidate_filter.specs.Stored.{raisedEnd}
 use Rattle.candidate_filter.proofs.Stored.{clamp-in}
-use Rattle.candidate_filter.proofs.raise_end.Statement.{statement}
-use Rattle.candidate_filter.proofs.raise_end.Tie as tie
+use Rattle.candidate_filter.proofs.raise_clamped.Statement.{statement}
+use Rattle.candidate_filter.proofs.raise_clamped.Tie as tie
 
 -- the clamped end, passed on
 passed : (c : tie.After-clamp) → toZ w32 (ofZ w32 (c .clamp .result)) ≡ clampOf (c .before .args .z)
@@ -23,5 +23,5 @@ returns : tie.Need-returns
 unfolding raisedEnd
 returns c = c .raise-by .ensures ∙ ap (λ (y : ℤ). natAbs (y +ℤ pos 4000001)) (passed (c .before))
 
-pub raise-end-spec : {M : Type 1} → statement M
-raise-end-spec = tie.close (tie.spec (λ c κs. search needs) raise-by-requires returns)
+pub raise-clamped-spec : {M : Type 1} → statement M
+raise-clamped-spec = tie.close (tie.spec (λ c κs. search needs) raise-by-requires returns)
