@@ -64,8 +64,8 @@ same-end from i to j h k = by-test (leb from j)
     (λ t. let l = leb-true from j t in by-test (ltb j to) (λ b. rw (t, b, lt-ltb j i (omega (arith, ltb-true j to b)))) (λ g. rw (t, g, le-ltb j i (omega (arith, ltb-false j to g)))))
     (λ f. rw f)
 
-pub raise-clampeds : (part from i to : ℕ) (old new : List ℕ) → to ≤ i → i ≤ max from to → Raised part (between from i) old new → Raised part (between from to) old new
-raise-clampeds part from i to old new h k = raised-cong part (between from i) (between from to) old new (λ j. same-end from i to j h k)
+pub raise-ends : (part from i to : ℕ) (old new : List ℕ) → to ≤ i → i ≤ max from to → Raised part (between from i) old new → Raised part (between from to) old new
+raise-ends part from i to old new h k = raised-cong part (between from i) (between from to) old new (λ j. same-end from i to j h k)
 
 -- ---- a turn over runs
 

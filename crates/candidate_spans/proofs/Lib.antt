@@ -1,5 +1,5 @@
 -- Laws of spans.
 pub mod Query
 pub mod Held
-pub mod Met
+pub mod MetLaws
 pub mod Raised

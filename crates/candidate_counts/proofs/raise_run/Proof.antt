@@ -3,7 +3,7 @@ use Prim.Native.Nat.{_-_, _<_, _≤_, max}
 use native.Mathlib.Omega.{arith}
 use lib.ListN.{length}
 use Rattle.candidate_counts.specs.Raise.{between, Raised}
-use Rattle.candidate_counts.proofs.Raise.{raise-starts, raise-more, raise-clampeds}
+use Rattle.candidate_counts.proofs.Raise.{raise-starts, raise-more, raise-ends}
 use Rattle.candidate_counts.proofs.raise_run.Statement.{statement}
 use Rattle.candidate_counts.proofs.raise_run.Tie as tie
 
@@ -29,7 +29,7 @@ returns : tie.Need-returns Inv-loop μ-loop
 returns c =
     let l = c .before in
     let a = l .before .before .args in
-    raise-clampeds (a .part) (a .from) (l .loop .j) (a .to) (a .scratch .now) (l .loop .scratch) (c .loop-test .left) (l .loop .inv .1) (l .loop .inv .2)
+    raise-ends (a .part) (a .from) (l .loop .j) (a .to) (a .scratch .now) (l .loop .scratch) (c .loop-test .left) (l .loop .inv .1) (l .loop .inv .2)
 
 pub raise-run-spec : {M : Type 1} → statement M
 raise-run-spec =

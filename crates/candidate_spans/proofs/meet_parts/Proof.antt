@@ -1,7 +1,7 @@
 -- Written by tools/walk from the plan in the lines marked |. Change those, and run `tools/walk candidate_spans meet_parts`.
 -- A turn reads an entry's range, finds the stretch of runs that it meets, and stores the stretch in the entry's place.
 -- | use borrow.Author.Tests.{ltb-true, ltb-false}
--- | use Rattle.candidate_spans.proofs.Met.{Meeting, meeting-starts, meeting-ends, meeting-asks, meeting-stores, meeting-next}
+-- | use Rattle.candidate_spans.proofs.MetLaws.{Meeting, meeting-starts, meeting-ends, meeting-asks, meeting-stores, meeting-next}
 -- | let less = (ltb-true i parts inside)
 -- | while inside:
 -- |   keeps: Meeting (now rows) parts (now first) (now last) i last.first last.last
@@ -18,7 +18,7 @@ use Rattle.rows_records.proofs.Prelude.{_≡_, refl, Bool, ℕ, _+_, _-_, List,
 use contract.Running.{tablesOf}
 use borrow.Author.Tests.{ltb-true, ltb-false}
 use Rattle.candidate_spans.specs.Met.{MeetReady}
-use Rattle.candidate_spans.proofs.Met.{Meeting, meeting-starts, meeting-ends, meeting-asks, meeting-stores, meeting-next}
+use Rattle.candidate_spans.proofs.MetLaws.{Meeting, meeting-starts, meeting-ends, meeting-asks, meeting-stores, meeting-next}
 use Rattle.candidate_ranges.specs.declared.Range.{Range}
 use Rattle.candidate_ranges.proofs.Range as Rangeᵀ
 use Rattle.candidate_ranges.proofs.Range.Laws as Rangeᴸ
