@@ -3,7 +3,7 @@ use borrow.Author.Needs.{needs}
 use borrow.Author.Tests.{not-true, not-false}
 use mathlib.Core.Path.{refl}
 use native.Mathlib.Omega.{arith}
-use Rattle.try_c_distance.proofs.LawsLaws.{outcome-yes, outcome-no}
+use Rattle.try_c_distance.proofs.Laws.{outcome-yes, outcome-no}
 use Rattle.try_c_distance.proofs.curve_envelopes.Statement.{statement}
 use Rattle.try_c_distance.proofs.curve_envelopes.Tie as tie
 

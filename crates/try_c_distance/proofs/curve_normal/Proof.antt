@@ -9,7 +9,7 @@ use Rattle.values.specs.Sums.{AreSums}
 use Rattle.try_c_distance.specs.Fits.{Fits}
 use Rattle.try_c_distance.specs.Outcome.{Written}
 use Rattle.try_c_distance.specs.Told.{LastNormal, SpreadAt}
-use Rattle.try_c_distance.proofs.LawsLaws.{written-none, written-more, written-all, outcome-yes, outcome-no, normal-none, normal-next, normal-all}
+use Rattle.try_c_distance.proofs.Laws.{written-none, written-more, written-all, outcome-yes, outcome-no, normal-none, normal-next, normal-all}
 use Rattle.try_c_distance.proofs.curve_normal.Statement.{statement}
 use Rattle.try_c_distance.proofs.curve_normal.Tie as tie
 

@@ -9,7 +9,7 @@ use Rattle.meaning_curves.proofs.Values.{AllIn}
 use Rattle.try_c_distance.specs.Fits.{Fits}
 use Rattle.try_c_distance.specs.Outcome.{Written}
 use Rattle.try_c_distance.specs.Told.{StraightAt}
-use Rattle.try_c_distance.proofs.LawsLaws.{written-none, written-more, written-all, outcome-yes, outcome-no}
+use Rattle.try_c_distance.proofs.Laws.{written-none, written-more, written-all, outcome-yes, outcome-no}
 use Rattle.try_c_distance.proofs.curve_straight.Statement.{statement}
 use Rattle.try_c_distance.proofs.curve_straight.Tie as tie
 

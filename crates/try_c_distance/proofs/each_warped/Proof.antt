@@ -8,7 +8,7 @@ use Rattle.distance_envelope.specs.Envelope.{Envelopes}
 use Rattle.try_c_distance.specs.Fits.{Fits}
 use Rattle.try_c_distance.specs.Outcome.{Written}
 use Rattle.try_c_distance.specs.Told.{WarpedAt}
-use Rattle.try_c_distance.proofs.LawsLaws.{written-none, written-more, written-all}
+use Rattle.try_c_distance.proofs.Laws.{written-none, written-more, written-all}
 use Rattle.try_c_distance.proofs.each_warped.Statement.{statement}
 use Rattle.try_c_distance.proofs.each_warped.Tie as tie
 

@@ -7,7 +7,7 @@ use lib.ListN.{length, take}
 use Rattle.text_feed.specs.declared.Feeding.{Feeding}
 use Rattle.try_c_lines.specs.Piece.{Stands}
 use Rattle.try_c_lines.proofs.PieceLaws.{Comes}
-use Rattle.try_c_lines.proofs.LawsLaws.{begins, goes-on, fails, ends, told}
+use Rattle.try_c_lines.proofs.Laws.{begins, goes-on, fails, ends, told}
 use Rattle.try_c_lines.proofs.lines_read.Statement.{statement}
 use Rattle.try_c_lines.proofs.lines_read.Tie as tie
 

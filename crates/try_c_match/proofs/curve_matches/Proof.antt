@@ -3,7 +3,7 @@ use borrow.Author.Needs.{needs}
 use borrow.Author.Tests.{not-true, not-false}
 use mathlib.Core.Path.{refl}
 use native.Mathlib.Omega.{arith}
-use Rattle.try_c_distance.proofs.LawsLaws.{outcome-yes, outcome-no}
+use Rattle.try_c_distance.proofs.Laws.{outcome-yes, outcome-no}
 use Rattle.try_c_match.proofs.Matches.{of-kind}
 use Rattle.try_c_match.proofs.curve_matches.Statement.{statement}
 use Rattle.try_c_match.proofs.curve_matches.Tie as tie

@@ -14,7 +14,7 @@ use Rattle.meaning_rows.specs.Range.{rowNumber}
 use Rattle.try_c_distance.specs.Fits.{Fits}
 use Rattle.try_c_distance.specs.Outcome.{Written}
 use Rattle.try_c_match.specs.Told.{SumAt, RowAt}
-use Rattle.try_c_distance.proofs.LawsLaws.{written-none, written-more, written-all, outcome-yes, outcome-no}
+use Rattle.try_c_distance.proofs.Laws.{written-none, written-more, written-all, outcome-yes, outcome-no}
 use Rattle.try_c_match.proofs.curve_windows.Statement.{statement}
 use Rattle.try_c_match.proofs.curve_windows.Tie as tie
 

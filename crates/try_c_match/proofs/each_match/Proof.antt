@@ -8,7 +8,7 @@ use Rattle.meaning_curves.proofs.Values.{AllIn}
 use Rattle.try_c_distance.specs.Fits.{Fits}
 use Rattle.try_c_distance.specs.Outcome.{Written}
 use Rattle.try_c_match.specs.Told.{MatchAt, wrapped}
-use Rattle.try_c_distance.proofs.LawsLaws.{written-none, written-more, written-all}
+use Rattle.try_c_distance.proofs.Laws.{written-none, written-more, written-all}
 use Rattle.try_c_match.proofs.Matches.{told-wrapped}
 use Rattle.values.specs.Sums.{AreSums}
 use Rattle.distance_query.specs.Ready.{Ready}
