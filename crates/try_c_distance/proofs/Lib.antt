@@ -1,4 +1,3 @@
 -- What the proofs of the functions for C share.
-mod Laws
-mod Answers
-mod Matches
+pub mod Laws
+pub mod Answers
