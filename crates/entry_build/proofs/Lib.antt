@@ -1,3 +1,2 @@
--- What the plan of the entry gives, and a call of the entry in a walk of a crate above.
+-- What the plan of the entry gives.
 pub mod Stages
-pub mod BuildCall

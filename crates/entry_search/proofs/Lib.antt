@@ -1,4 +1,3 @@
--- What the halves of a search have of their parts, that their promises leave one outcome, and a call of the entry in a walk of a crate above.
+-- What the halves of a search have of their parts, and that their promises leave one outcome.
 pub mod Looks
 pub mod Only
-pub mod SearchCall

@@ -1,5 +1,4 @@
--- The calls that lend a text again, those of the two walks, what the entry keeps, and the call of the entry by crates above.
+-- The calls that lend a text again, those of the walk, and what the entry keeps.
 pub mod LentCall
 pub mod Calls
 pub mod Kept
-pub mod WriteCall

@@ -4,7 +4,6 @@
 --     calls-row-at     a call of `row_at`: the token and what the slice owns are at the head, and stay there. The result is record k, written out
 --     calls-row-or     a call of `row_or`, likewise, with the record that stands past the end
 --     calls-chunk-at   a call of `chunk_at`, likewise. `chunk` is a chunk's machine value
---     calls-count      a call of `count_from`: the context stays as it was
 -- Assumes `Given`, and that the table of calls is monotone under a frame, as every `Tables` is.
 use mathlib.Core.Path.{_≡_, refl}
 use Prim.Native.Nat.{ℕ, _<_, _^_}
@@ -25,7 +24,7 @@ use types.Kit.{Given, Item, ‵, raw, Post, lands, runs, Seq, _$_, _∵_, !, qed
 use types.Run.{Opds}
 use denote.Laws.{Is}
 use denote.Builtin.{usize}
-use denote.Plain.{uint-makes, uint-tells}
+use denote.Plain.{uint-makes}
 use denote.Array.{Array, array-vals, array-tells}
 use denote.Ref.{RefT, ptr, now}
 use denote.Slice.{sliceVal, ShrSlice, slice-vals, shr-slice-copy}
@@ -38,16 +37,14 @@ use denote.Triple.Walked.{says}
 use Rattle.meaning_rows.specs.declared.Row.{Row}
 use Rattle.meaning_rows.proofs.Row as T
 use Rattle.meaning_rows.proofs.Row.Laws as T′
-use Rattle.rows_records.specs.Records.{zeroRow, countFrom, chunkOf}
-use Rattle.rows_records.proofs.Walk.{calls-kept, calls-plain}
+use Rattle.rows_records.specs.Records.{zeroRow, chunkOf}
+use Rattle.rows_records.proofs.Walk.{calls-kept}
 use Rattle.rows_records.proofs.row_at as row
 use Rattle.rows_records.proofs.row_at.Symbol.{name as #rows-records·row-at}
 use Rattle.rows_records.proofs.row_or as or
 use Rattle.rows_records.proofs.row_or.Symbol.{name as #rows-records·row-or}
 use Rattle.rows_records.proofs.chunk_at as chunk-at
 use Rattle.rows_records.proofs.chunk_at.Symbol.{name as #rows-records·chunk-at}
-use Rattle.rows_records.proofs.count_from as count
-use Rattle.rows_records.proofs.count_from.Symbol.{name as #rows-records·count-from}
 
 abbrev pub Rs : Type 0
 Rs = RefT (List Row)
@@ -78,9 +75,6 @@ module _ {M : Type 1} (𝓤 : URA M) (H : Heap 𝓤) (A : Atoms 𝓤) (mem : Mem
   abbrev pub ChunkAt : Contract 𝓤
   ChunkAt = tripleOf 𝓤 H A chunk-at.signature (chunk-at.spec 𝓤 H A mem run)
 
-  abbrev pub CountFrom : Contract 𝓤
-  CountFrom = tripleOf 𝓤 H A count.signature (count.spec 𝓤 H A mem run)
-
   -- what each is called at
   abbrev pub to-row-at : Lft → Share → Rs → ℕ → RowAt .Ghost
   to-row-at κ q x k = (((κ, tt), (q, tt), tt, (x, (k, tt)), (slice-vals x, (vint w64 k ∷ [], tt))), tt)
@@ -90,9 +84,6 @@ module _ {M : Type 1} (𝓤 : URA M) (H : Heap 𝓤) (A : Atoms 𝓤) (mem : Mem
 
   abbrev pub to-chunk-at : Lft → Share → Rs → ℕ → ChunkAt .Ghost
   to-chunk-at κ q x k = (((κ, tt), (q, tt), tt, (x, (k, tt)), (slice-vals x, (vint w64 k ∷ [], tt))), tt)
-
-  abbrev pub to-count : ℕ → ℕ → ℕ → CountFrom .Ghost
-  to-count a b c = ((tt, tt, tt, (a, (b, (c, tt))), (vint w64 a ∷ [], (vint w64 b ∷ [], (vint w64 c ∷ [], tt)))), tt)
 
   module _ (W : Given 𝓤 H A) where
     asks-row-at : (κ : Lft) (q : Share) (x : Rs) (k : ℕ) → k < length (now x) → k < 2 ^ 64 → ent 𝓤 (sep 𝓤 (A .lft κ q) (sem 𝓤 H A (Own κ x))) (RowAt .pre (to-row-at κ q x k))
@@ -106,10 +97,6 @@ module _ {M : Type 1} (𝓤 : URA M) (H : Heap 𝓤) (A : Atoms 𝓤) (mem : Mem
     asks-chunk-at : (κ : Lft) (q : Share) (x : Rs) (k : ℕ) → k < 2 ^ 64 → ent 𝓤 (sep 𝓤 (A .lft κ q) (sem 𝓤 H A (Own κ x))) (ChunkAt .pre (to-chunk-at κ q x k))
     asks-chunk-at κ q x k g = qed W (‵ (flft κ q) ∷ ‵ (Own κ x) ∷ []) ∵ nothing ! $ move ! (1 ∷ 0 ∷ []) $ join ! $ nothing ! $ owned ! usize (Is usize) (uint-makes 𝓤 H A W w64) k _ (refl, g) $ fjoin ! $
         move ! (2 ∷ 0 ∷ []) $ fjoin ! $ move ! (1 ∷ 0 ∷ []) $ join ! $ frame ! $ done !
-
-    asks-count : (a b c : ℕ) → a < 2 ^ 64 → b < 2 ^ 64 → c < 2 ^ 64 → ent 𝓤 (emp 𝓤) (CountFrom .pre (to-count a b c))
-    asks-count a b c f g h = qed W [] ∵ nothing ! $ nothing ! $ nothing ! $ owned ! usize (Is usize) (uint-makes 𝓤 H A W w64) c _ (refl, h) $ fjoin ! $
-        owned ! usize (Is usize) (uint-makes 𝓤 H A W w64) b _ (refl, g) $ fjoin ! $ owned ! usize (Is usize) (uint-makes 𝓤 H A W w64) a _ (refl, f) $ fjoin ! $ move ! (1 ∷ 0 ∷ []) $ join ! $ frame ! $ done !
 
 module _ {M : Type 1} {𝓤 : URA M} {H : Heap 𝓤} {A : Atoms 𝓤} {K : Type 0} {W : Given 𝓤 H A} {Γ : List (Item 𝓤)} {E : Env 𝓤 H} {C : Calls 𝓤 H} {Λ : Loops 𝓤 H} {p : Post 𝓤 H} {d : Place} {rest : Body} {xs : List Operand} where
   pub calls-row-at : K → FmC 𝓤 H (W .laws) C → (mem : Memory → SProp 𝓤) (run : Routine → Fun 𝓤) → Triple 𝓤 (C #rows-records·row-at) (RowAt 𝓤 H A mem run) → (κ : Lft) (q : Share) (x : Rs) (k : ℕ) → k < length (now x) → k < 2 ^ 64
@@ -138,10 +125,3 @@ module _ {M : Type 1} {𝓤 : URA M} {H : Heap 𝓤} {A : Atoms 𝓤} {K : Type 
       calls-kept t fm chunk-at.signature (chunk-at.spec 𝓤 H A mem run) met (to-chunk-at 𝓤 H A mem run κ q x k) (‵ (flft κ q)) (‵ (Own κ x)) (shr-slice-copy 𝓤 H A W (named 0) κ T.the-row .twice x (slice-vals x))
       (asks-chunk-at 𝓤 H A mem run W κ q x k g) (fst∗ 𝓤 (A .lft κ q) (emp 𝓤)) (chunkOf (now x) k) chunk (array-tells T.the-row (LL.vals T.the-type T′.the-laws) (LL.tells T.the-type T′.the-laws) 64)
       (λ r. exE 𝓤 _ (λ ws. snd∗ 𝓤 (sem 𝓤 H A (lasts chunk-at.ended (κ, tt) (x, (k, tt)) ws)) (fact 𝓤 (r ≡ chunkOf (now x) k)))) os next
-
-  pub calls-count : K → FmC 𝓤 H (W .laws) C → (mem : Memory → SProp 𝓤) (run : Routine → Fun 𝓤) → Triple 𝓤 (C #rows-records·count-from) (CountFrom 𝓤 H A mem run) → (a b c : ℕ) → a < 2 ^ 64 → b < 2 ^ 64 → c < 2 ^ 64
-      → Opds K W (raw (CountFrom 𝓤 H A mem run .pre (to-count 𝓤 H A mem run a b c)) ∷ Γ) E xs (vint w64 a ∷ vint w64 b ∷ vint w64 c ∷ [])
-      → (countFrom a b c < 2 ^ 64 → Seq K W Γ (lands C Λ E d (vint w64 (countFrom a b c)) rest p)) → Seq K W Γ (runs C Λ E (seq (call #rows-records·count-from xs d) rest) p)
-  calls-count t fm mem run met a b c f g h os next =
-      calls-plain t fm count.signature (count.spec 𝓤 H A mem run) met (to-count 𝓤 H A mem run a b c) (asks-count 𝓤 H A mem run W a b c f g h) (countFrom a b c) (vint w64) (uint-tells w64)
-      (λ n. exE 𝓤 _ (λ ws. snd∗ 𝓤 (sem 𝓤 H A (lasts count.ended tt (a, (b, (c, tt))) ws)) (fact 𝓤 (n ≡ countFrom a b c)))) os (λ is. next (is .1))

@@ -1,7 +1,6 @@
 -- Calls in a walk by hand, whatever the callee's `ensures` says. Nothing here names a type or a function. A crate above says `use Rattle.rows_records.proofs.Told.{..}`.
 --     calls-ensured    the result is some r, its machine value written out. What stands at the head gives the callee's `pre`, and the tokens come back there, beside what the callee ensures
 --     calls-ended      the same where the `ensures` says the fact Q of the result and of the last values ls: Q is known, and what is left of each `&mut` stands at the head (`Ends`), then the tokens (`Tokens`), each as an entry of its own
---     calls-free       the same where the callee's `pre` is had for nothing, as of numbers and structs of numbers
 --     calls-told       the same where nothing is asked of last values: Q is known of the result, and the tokens come back as one entry
 --     calls-told-kept  the same where the callee takes slices, `&[T]`, and plain data: the lifetimes' tokens, as one entry, and what the slices own, as one entry, are at the head, and stay there
 -- Assumes `Given`, and that the table of calls is monotone under a frame, as every `Tables` is.
@@ -18,7 +17,7 @@ use ghost.Atoms.{Atoms, sem}
 use contract.Lifetimes.{Lfts, Shares, toks}
 use contract.Monad.{fact}
 use sound.WpLaws.{FmC}
-use types.Kit.{Given, Item, mean, ‵, raw, _⊛_, ⋆, push, ++⊢, some, later, Post, lands, runs, Seq, _$_, cut, use0, use1, use2, split, move, pick, await}
+use types.Kit.{Given, Item, mean, ‵, raw, _⊛_, ⋆, push, ++⊢, some, later, Post, lands, runs, Seq, _$_, cut, use1, use2, split, move, pick, await}
 use types.Run.{Opds}
 use denote.Laws.{Is, Tells, shows}
 use denote.Exit.{Exit, unchanged, leaves, Last, left}
@@ -93,16 +92,6 @@ module _ {M : Type 1} {𝓤 : URA M} {H : Heap 𝓤} {A : Atoms 𝓤} {K : Type 
       pick t (λ ls. split t $ move t (1 ∷ []) $ use1 W (raw (fact 𝓤 (Q r ls))) (says r ls) $ heard t (Q r ls) (λ said.
       cut (‵ (lasts T (y .0 .0) (y .0 .3) ls) ∷ raw (alive 𝓤 H A (T .signature) (y .0 .0) (y .0 .1)) ∷ []) (Ends 𝓤 H A (y .0 .0) (T .signature .params) (T .kept) (y .0 .3) ls ++ Tokens 𝓤 H A (T .signature .lifetimes) (y .0 .0) (y .0 .1)) Γ
       (both 𝓤 H A T (y .0 .0) (y .0 .1) (y .0 .3) ls) $ k r ls said is)))
-
-  pub calls-free : K → FmC 𝓤 H (W .laws) C → (T : Ended) (c : Clauses 𝓤 T) → Triple 𝓤 (C f) (tripleOf 𝓤 H A (T .signature) (closing 𝓤 H A T c)) → (y : tripleOf 𝓤 H A (T .signature) (closing 𝓤 H A T c) .Ghost)
-      → ent 𝓤 (emp 𝓤) (tripleOf 𝓤 H A (T .signature) (closing 𝓤 H A T c) .pre y) → (Q : Res (T .signature) (y .0 .0) → Lasts T (y .0 .0) (y .0 .3) → Type 0)
-      → ((r : Res (T .signature) (y .0 .0)) (ls : Lasts T (y .0 .0) (y .0 .3)) → ent 𝓤 (c (y .0 .0) (y .0 .3) .ensures (y .1) r (atExit T (y .0 .0) (y .0 .3) ls)) (fact 𝓤 (Q r ls)))
-      → (val : Res (T .signature) (y .0 .0) → Val) → Tells (typeAt (T .signature .result) (y .0 .0)) (Is (typeAt (T .signature .result) (y .0 .0))) (λ r. val r ∷ [])
-      → Opds K W (raw (tripleOf 𝓤 H A (T .signature) (closing 𝓤 H A T c) .pre y) ∷ Γ) E xs (tripleOf 𝓤 H A (T .signature) (closing 𝓤 H A T c) .args y)
-      → ((r : Res (T .signature) (y .0 .0)) (ls : Lasts T (y .0 .0) (y .0 .3)) → Q r ls → Is (typeAt (T .signature .result) (y .0 .0)) r (val r ∷ [])
-      → Seq K W ((Ends 𝓤 H A (y .0 .0) (T .signature .params) (T .kept) (y .0 .3) ls ++ Tokens 𝓤 H A (T .signature .lifetimes) (y .0 .0) (y .0 .1)) ++ Γ) (lands C Λ E d (val r) rest q))
-      → Seq K W Γ (runs C Λ E (seq (call f xs d) rest) q)
-  calls-free t fm T c met y asks Q says val tl os k = use0 W (raw (tripleOf 𝓤 H A (T .signature) (closing 𝓤 H A T c) .pre y)) asks $ calls-ended t fm T c met y (id⊢ 𝓤 _) Q says val tl os k
 
   pub calls-told : K → FmC 𝓤 H (W .laws) C → (S : Signature) (s : Spec 𝓤 S) → Triple 𝓤 (C f) (tripleOf 𝓤 H A S s) → (y : tripleOf 𝓤 H A S s .Ghost)
       → (Q : Res S (y .0 .0) → Type 0) (val : Res S (y .0 .0) → Val) → Tells (typeAt (S .result) (y .0 .0)) (Is (typeAt (S .result) (y .0 .0))) (λ r. val r ∷ [])

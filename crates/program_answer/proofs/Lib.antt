@@ -1,3 +1,0 @@
--- Calls of the entries in a walk.
-pub mod Literal
-pub mod BuildCall
