@@ -1,7 +1,6 @@
--- What auditing implies, the calls of the loop over lent records, and of the entry by crates above.
+-- What auditing implies, and the calls of the loop over lent records.
 pub mod Turn
 pub mod Cases
 pub mod Chunks
 pub mod Going
 pub mod Calls
-pub mod AuditCall

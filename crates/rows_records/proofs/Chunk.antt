@@ -68,8 +68,8 @@ module _ (rows : List Row) (from : ℕ) where
     pub left : n ≤ length rows - from
     pub all : n < 64 → length rows ≤ from + n
 
-  pub count-is : CountIs (countFrom (length rows) from 64)
-  count-is = record { most = omega arith; left = omega arith; all = λ f. omega arith }
+  pub count-is : {n : ℕ} → n ≡ countFrom (length rows) from 64 → CountIs n
+  count-is e = record { most = rw e (omega arith); left = rw e (omega arith); all = rw e (λ f. omega arith) }
 
   pub chunk-copied : (n : ℕ) → CountIs n → copied rows from n (replicate 64 zeroRow) ≡ chunkOf rows from
   chunk-copied n c =

@@ -5,15 +5,13 @@ pub mod Again
 mod Beside
 mod Clear
 pub mod Lends
-pub mod LocalMut
-pub mod Lent
-pub mod Prefix
 pub mod RowKit
 pub mod Rows
 pub mod Slices
 pub mod Told
-pub mod Writes
 pub mod Chunk
 pub mod Passing
 pub mod Turns
 pub mod Prelude
+pub mod Arrays
+pub mod Holding

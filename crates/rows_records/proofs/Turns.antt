@@ -1,7 +1,7 @@
 -- Loops and elements of slices in a walk, as `tools/walk` writes it. Nothing here names a type or a function. A crate above says `use Rattle.rows_records.proofs.Turns.{..}`.
 --     loops            a `while` and what follows it, over states s of any type: Δ s is what is had of slices and cs s what the locals hold before a turn, F s what is known, and μ s falls with each turn
 --     reads-lent, reads-shared     an element of a `&κ mut [T]`, or of a `&κ [T]`, is read into an empty local through the pointer in another one.        writes-lent    an element is written
---     offset-fits      the byte offset of an element fits a usize.     sub-fits     a difference fits where the greater number does.      set-long     a list with an element written is as long.     array     an array by value, as plain data
+--     offset-fits      the byte offset of an element fits a usize.     sub-fits     a difference fits where the greater number does.      set-long     a list with an element written is as long.
 --     next-fits, next-upto, nearer, nearer-to, upto-end       of a count i that goes up to n
 -- The token and what is had of the slice are at the head, and stay there.
 -- Assumes `Given`.
@@ -27,12 +27,10 @@ use denote.RattleType.{RattleType}
 use denote.Shadow.{pureL, pureI}
 use denote.Laws.{Is, Copy, shows}
 use denote.Memory.{cellAt, mem}
-use denote.Array.{Array, array-vals, array-tells, array-makes, array-lawful}
 use denote.Ref.{RefT, ptr, now, name}
 use denote.Slice.{sliceVal, MutSlice, ShrSlice, Room, at-slice, heres, codedHoleys, slice-vals, shr-slice-copy}
 use denote.Lend.{Held}
 use denote.Index.{row, opens-slice, closes-slice, looks-slice, shuts-slice}
-use denote.Steps.{only}
 use Rattle.rows_records.proofs.Elem.{Elem, knows, look-elem, store-elem}
 use Rattle.rows_records.proofs.Lends.{Own}
 use Rattle.rows_records.proofs.Passing.{Data, Cell, Cells}
@@ -152,13 +150,3 @@ module _ {M : Type 1} {𝓤 : URA M} {H : Heap 𝓤} {A : Atoms 𝓤} {K : Type 
       opens (D .row) x l t tt long $
       assigns t (of-opd t u) (from t (hop t (look t (suc (suc (suc (suc n)))) at-ptr) (stop t))) (store-elem t (elem 𝓤 H A D cell) (D .makes) 0 l i y (x .ptr .0) (x .ptr .1) (subst (λ (c : ℕ). i < c) (sym long) below) typed is refl) $
       closes (D .row) x l t tt (set l i y) (length-set l i y) long room $ k)
-
--- ---- arrays by value
-abbrev pub array : {M : Type 1} (𝓤 : URA M) (H : Heap 𝓤) (A : Atoms 𝓤) → Given 𝓤 H A → Data 𝓤 H A → ℕ → Data 𝓤 H A
-array 𝓤 H A W D n = record {
-  row = Array (D .row) n;
-  val = λ xs. only (array-vals (λ x. D .val x ∷ []) xs);
-  tells = array-tells (D .row) (λ x. D .val x ∷ []) (D .tells) n;
-  makes = array-makes 𝓤 H A W (D .row) (D .makes) n;
-  lawful = array-lawful 𝓤 H A W (D .row) (D .lawful) n;
-}

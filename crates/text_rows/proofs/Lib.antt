@@ -1,6 +1,5 @@
--- What reading a text row by row implies: a turn of the loop over its bytes (`Turn`).
+-- What reading a text row by row implies: a turn of the loop over its bytes (`Turn`), and a reader at the end of a line (`Onward`).
 pub mod Turn
 pub mod Calls
-pub mod Fields
-pub mod ReaderCalls
+mod Onward
 pub mod Filled
