@@ -3,4 +3,3 @@ pub mod Turn
 pub mod Cases
 pub mod Chunks
 pub mod Going
-pub mod Calls

@@ -2,5 +2,3 @@
 pub mod Scan
 pub mod Next
 pub mod Outcome
-pub mod Calls
-pub mod JudgeCall

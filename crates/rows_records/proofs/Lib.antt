@@ -1,13 +1,10 @@
--- The kit for walks over lent records, generic (Walk, Told, Elem, Lends, Again, LocalMut, Lent, Prefix, Passing, Turns, Prelude), of `Row` (RowKit, Rows, Writes) and of the two run slices (Slices), and the laws of chunks.
+-- The kit for walks: what tools/walk writes is made of it (Prelude passes on its names). Elements, loops, local arrays and structs that hold a slice; and the laws of chunks and of clearing.
 pub mod Walk
 pub mod Elem
 pub mod Again
 mod Beside
 mod Clear
 pub mod Lends
-pub mod RowKit
-pub mod Rows
-pub mod Slices
 pub mod Told
 pub mod Chunk
 pub mod Passing

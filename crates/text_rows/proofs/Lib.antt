@@ -1,5 +1,4 @@
 -- What reading a text row by row implies: a turn of the loop over its bytes (`Turn`), and a reader at the end of a line (`Onward`).
 pub mod Turn
-pub mod Calls
 mod Onward
 pub mod Filled
