@@ -1,6 +1,5 @@
 -- What the definitions of specs/ imply.
 pub mod Raise
 pub mod Leading
-pub mod Clear
 pub mod Handed
 pub mod Take

@@ -1,7 +1,6 @@
 -- What the contracts of checking cite: the members of runs, the list as it grows, and the matches among some offsets.
 pub mod Members
 pub mod Listed
-pub mod Clear
 pub mod Found
 pub mod Turn
 pub mod Candidates

@@ -1,5 +1,4 @@
 -- What reading an index text implies: its runs in the run buffer (`Columns`).
 pub mod Columns
-pub mod Zeros
 pub mod Planned
 pub mod Kept

@@ -1,11 +1,11 @@
 // The search of a series through a lent index (01, Candidates), in two halves: finding the candidates, which needs the rows, and checking them, which needs none.
-use candidate_counts::clear_scratch;
 use candidate_counts::collect;
 use candidate_plan::plan_search;
 use candidate_spans::meet_parts;
 use candidate_spans::put_ranges;
 use candidate_spans::raise_stretches;
 use check_answer::find_matches;
+use clear::clear_u16;
 use meaning_entries::Found;
 use meaning_filter::Ask;
 use meaning_rows::Head;
@@ -87,7 +87,7 @@ pub fn hand_out(
     let m = query.len();
     let parts = m / w;
     let n = series.len() + 1 - m;
-    clear_scratch(scratch);
+    clear_u16(scratch, 0);
     raise_stretches(scratch, left, right, first, last, w, parts, n);
     let c = collect(scratch, parts as u16, n, first, last);
     tell_sought(c.runs, c.candidates)

@@ -35,18 +35,18 @@ use Rattle.rows_find.proofs.find_row as find-row
 use Rattle.rows_find.proofs.find_row.Symbol as find-row-def
 use Rattle.rows_find.proofs.find_row.Symbol.{name as #find-row}
 use Rattle.rows_find.proofs.find_row.Met as find-row-thm
-use Rattle.candidate_filter.proofs.zero_row as zero-row
-use Rattle.candidate_filter.proofs.zero_row.Symbol as zero-row-def
-use Rattle.candidate_filter.proofs.zero_row.Symbol.{name as #zero-row}
-use Rattle.candidate_filter.proofs.zero_row.Met as zero-row-thm
+use Rattle.rows_records.proofs.zero_row as zero-row
+use Rattle.rows_records.proofs.zero_row.Symbol as zero-row-def
+use Rattle.rows_records.proofs.zero_row.Symbol.{name as #zero-row}
+use Rattle.rows_records.proofs.zero_row.Met as zero-row-thm
 use Rattle.rows_records.proofs.row_or as row-or
 use Rattle.rows_records.proofs.row_or.Symbol as row-or-def
 use Rattle.rows_records.proofs.row_or.Symbol.{name as #row-or}
 use Rattle.rows_records.proofs.row_or.Met as row-or-thm
-use Rattle.numbers.proofs.before as before
-use Rattle.numbers.proofs.before.Symbol as before-def
-use Rattle.numbers.proofs.before.Symbol.{name as #before}
-use Rattle.numbers.proofs.before.Met as before-thm
+use Rattle.numbers.proofs.place_before as place-before
+use Rattle.numbers.proofs.place_before.Symbol as place-before-def
+use Rattle.numbers.proofs.place_before.Symbol.{name as #place-before}
+use Rattle.numbers.proofs.place_before.Met as place-before-thm
 use Rattle.candidate_filter.proofs.span_of as span-of
 use Rattle.candidate_filter.proofs.span_of.Symbol as span-of-def
 use Rattle.candidate_filter.proofs.span_of.Symbol.{name as #span-of}
@@ -66,7 +66,7 @@ Rowᴰ 𝓤 H A W = struct 𝓤 H A W Rowᵀ.the-type Rowᴸ.the-laws Rowᴸ.the
 abbrev Spanᴰ : {M : Type 1} (𝓤 : URA M) (H : Heap 𝓤) (A : Atoms 𝓤) → Given 𝓤 H A → Data 𝓤 H A
 Spanᴰ 𝓤 H A W = struct 𝓤 H A W Spanᵀ.the-type Spanᴸ.the-laws Spanᴸ.the-plain
 
-module _ {M : Type 1} (𝓤 : URA M) (H : Heap 𝓤) (A : Atoms 𝓤) (W : Given 𝓤 H A) (mem : Memory → SProp 𝓤) (run : Routine → Fun 𝓤) (𝓣 : Tables 𝓤 H) (fm : FmC 𝓤 H (W .laws) (𝓣 .C)) (known-clamp : Meets 𝓤 H A clamp.signature (𝓣 .C #clamp) (clamp.spec 𝓤 H A mem run)) (known-find-row : Meets 𝓤 H A find-row.signature (𝓣 .C #find-row) (find-row.spec 𝓤 H A mem run)) (known-zero-row : Meets 𝓤 H A zero-row.signature (𝓣 .C #zero-row) (zero-row.spec 𝓤 H A mem run)) (known-row-or : Meets 𝓤 H A row-or.signature (𝓣 .C #row-or) (row-or.spec 𝓤 H A mem run)) (known-before : Meets 𝓤 H A before.signature (𝓣 .C #before) (before.spec 𝓤 H A mem run)) (known-span-of : Meets 𝓤 H A span-of.signature (𝓣 .C #span-of) (span-of.spec 𝓤 H A mem run)) where
+module _ {M : Type 1} (𝓤 : URA M) (H : Heap 𝓤) (A : Atoms 𝓤) (W : Given 𝓤 H A) (mem : Memory → SProp 𝓤) (run : Routine → Fun 𝓤) (𝓣 : Tables 𝓤 H) (fm : FmC 𝓤 H (W .laws) (𝓣 .C)) (known-clamp : Meets 𝓤 H A clamp.signature (𝓣 .C #clamp) (clamp.spec 𝓤 H A mem run)) (known-find-row : Meets 𝓤 H A find-row.signature (𝓣 .C #find-row) (find-row.spec 𝓤 H A mem run)) (known-zero-row : Meets 𝓤 H A zero-row.signature (𝓣 .C #zero-row) (zero-row.spec 𝓤 H A mem run)) (known-row-or : Meets 𝓤 H A row-or.signature (𝓣 .C #row-or) (row-or.spec 𝓤 H A mem run)) (known-place-before : Meets 𝓤 H A place-before.signature (𝓣 .C #place-before) (place-before.spec 𝓤 H A mem run)) (known-span-of : Meets 𝓤 H A span-of.signature (𝓣 .C #span-of) (span-of.spec 𝓤 H A mem run)) where
   module _ (κs : Lfts 1) (qs : Shares 1) (rows : RefT (List Row)) (range : Range)
       (g-rows : Room Rowᵀ.the-row (length (now rows))) (g-range : Is ((Rangeᴰ 𝓤 H A W) .row) range ((Rangeᴰ 𝓤 H A W) .val range ∷ [])) (asked : Climbs (now rows) (length (now rows))) where
     abbrev rows° : Lent
@@ -120,7 +120,7 @@ module _ {M : Type 1} (𝓤 : URA M) (H : Heap 𝓤) (A : Atoms 𝓤) (W : Given
         (λ fs. (((κs .0, tt), (qs .0, tt), tt, (rows, (a, (none, tt))), (slice-vals rows, ((uint 𝓤 H A W w64) .val a ∷ [], ((Rowᴰ 𝓤 H A W) .val none ∷ [], tt)))), tt)) (λ fs. refl) (λ fs. refl) (λ fs ls. ls) (λ fs ls. refl) (λ fs. id⊢ 𝓤 _) (λ fs r ls. id⊢ 𝓤 _) (λ fs. (Rowᴰ 𝓤 H A W) .val) (λ fs. (Rowᴰ 𝓤 H A W) .tells) (λ fs. (and-then ! (loc ! 4 refl) (and-then ! (loc ! 14 refl) (and-then ! (loc ! 18 refl) (no-more !))))) (λ fs first ls₆ first-is is₆ fits₆.
         land ! (from ! (stop !)) (init ! 20 refl ((Rowᴰ 𝓤 H A W) .lawful .typed first _ is₆ .0)) $
         tidy ! (token 𝓤 H A rows° ∷ viewed 𝓤 H A rows° ∷ []) (empty ∷ holds _ ∷ holds _ ∷ holds _ ∷ holds _ ∷ holds _ ∷ holds _ ∷ holds _ ∷ holds _ ∷ holds _ ∷ empty ∷ empty ∷ empty ∷ []) refl $
-        calls-with ! fm before.ended (before.clauses 𝓤 H A mem run) known-before (value (uint 𝓤 H A W w64) b is₄ ∷ [])
+        calls-with ! fm place-before.ended (place-before.clauses 𝓤 H A mem run) known-place-before (value (uint 𝓤 H A W w64) b is₄ ∷ [])
         (λ fs. ((tt, tt, tt, (b, tt), ((uint 𝓤 H A W w64) .val b ∷ [], tt)), tt)) (λ fs. refl) (λ fs. refl) (λ fs ls. ls) (λ fs ls. refl) (λ fs. id⊢ 𝓤 _) (λ fs r ls. id⊢ 𝓤 _) (λ fs. (uint 𝓤 H A W w64) .val) (λ fs. (uint 𝓤 H A W w64) .tells) (λ fs. (and-then ! (loc ! 18 refl) (no-more !))) (λ fs k ls₇ k-is is₇ fits₇.
         land ! (from ! (stop !)) (init ! 26 refl ((uint 𝓤 H A W w64) .lawful .typed k _ is₇ .0)) $
         tidy ! (token 𝓤 H A rows° ∷ viewed 𝓤 H A rows° ∷ []) (empty ∷ holds _ ∷ holds _ ∷ holds _ ∷ holds _ ∷ holds _ ∷ holds _ ∷ holds _ ∷ holds _ ∷ holds _ ∷ empty ∷ empty ∷ holds _ ∷ []) refl $
@@ -156,7 +156,7 @@ met-span-spec 𝓤 H 𝓜 𝓖 𝓡 =
     (meets 𝓤 H (𝓖 .A) (givenOf 𝓤 H 𝓜 𝓖) (𝓜 .mem) (𝓡 .run) (tablesOf 𝓤 H 𝓜 (tables 𝓤 H 𝓜 𝓡 code.env)) (fmOf 𝓤 H (givenOf 𝓤 H 𝓜 𝓖 .laws) (tablesOf 𝓤 H 𝓜 (tables 𝓤 H 𝓜 𝓡 code.env)))
     (cited 𝓤 H (tripleOf 𝓤 H (𝓖 .A) clamp.signature (clamp.spec 𝓤 H (𝓖 .A) (𝓜 .mem) (𝓡 .run))) 𝓜 𝓡 code.env #clamp clamp-def.routine code.calls-candidate-filter·clamp (clamp-thm.met 𝓤 H 𝓜 𝓖 𝓡))
     (cited 𝓤 H (tripleOf 𝓤 H (𝓖 .A) find-row.signature (find-row.spec 𝓤 H (𝓖 .A) (𝓜 .mem) (𝓡 .run))) 𝓜 𝓡 code.env #find-row find-row-def.routine code.calls-rows-find·find-row (find-row-thm.met 𝓤 H 𝓜 𝓖 𝓡))
-    (cited 𝓤 H (tripleOf 𝓤 H (𝓖 .A) zero-row.signature (zero-row.spec 𝓤 H (𝓖 .A) (𝓜 .mem) (𝓡 .run))) 𝓜 𝓡 code.env #zero-row zero-row-def.routine code.calls-candidate-filter·zero-row (zero-row-thm.met 𝓤 H 𝓜 𝓖 𝓡))
+    (cited 𝓤 H (tripleOf 𝓤 H (𝓖 .A) zero-row.signature (zero-row.spec 𝓤 H (𝓖 .A) (𝓜 .mem) (𝓡 .run))) 𝓜 𝓡 code.env #zero-row zero-row-def.routine code.calls-rows-records·zero-row (zero-row-thm.met 𝓤 H 𝓜 𝓖 𝓡))
     (cited 𝓤 H (tripleOf 𝓤 H (𝓖 .A) row-or.signature (row-or.spec 𝓤 H (𝓖 .A) (𝓜 .mem) (𝓡 .run))) 𝓜 𝓡 code.env #row-or row-or-def.routine code.calls-rows-records·row-or (row-or-thm.met 𝓤 H 𝓜 𝓖 𝓡))
-    (cited 𝓤 H (tripleOf 𝓤 H (𝓖 .A) before.signature (before.spec 𝓤 H (𝓖 .A) (𝓜 .mem) (𝓡 .run))) 𝓜 𝓡 code.env #before before-def.routine code.calls-numbers·before (before-thm.met 𝓤 H 𝓜 𝓖 𝓡))
+    (cited 𝓤 H (tripleOf 𝓤 H (𝓖 .A) place-before.signature (place-before.spec 𝓤 H (𝓖 .A) (𝓜 .mem) (𝓡 .run))) 𝓜 𝓡 code.env #place-before place-before-def.routine code.calls-numbers·place-before (place-before-thm.met 𝓤 H 𝓜 𝓖 𝓡))
     (cited 𝓤 H (tripleOf 𝓤 H (𝓖 .A) span-of.signature (span-of.spec 𝓤 H (𝓖 .A) (𝓜 .mem) (𝓡 .run))) 𝓜 𝓡 code.env #span-of span-of-def.routine code.calls-candidate-filter·span-of (span-of-thm.met 𝓤 H 𝓜 𝓖 𝓡)))

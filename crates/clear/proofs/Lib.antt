@@ -1,0 +1,2 @@
+-- What clearing implies.
+pub mod Clear
