@@ -1,4 +1,4 @@
-// Compares the model with the compiled Rattle, through the static library of `try_c_distance`.
+// Compares the model with the compiled Rattle, through the static libraries of `try_c_distance` and `try_c_match`.
 #[path = "model.rs"]
 mod model;
 use model::*;

@@ -1,2 +1,4 @@
--- Calls of the pass's parts in a walk.
-pub mod Calls
+-- That the count of windows fits.
+mod Fits
+pub mod Pass
+pub mod Turn

@@ -1,3 +1,3 @@
--- What the contracts of fill cite.
+-- What the contracts of build_fill cite.
 pub mod Turn
 pub mod Pass

@@ -1,23 +1,19 @@
--- A turn of the pass: one run of windows with sums in the range of a row, filed in the row's part. Assumes nothing.
-use mathlib.Core.Path.{_≡_, refl, sym, _∙_}
-use mathlib.Core.Bool.{Bool, true}
+-- A turn of the pass: one run of windows with sums in the range of a row, filed in the row's part.
+use mathlib.Core.Path.{_≡_}
+use mathlib.Core.Bool.{true}
 use mathlib.Core.List.{List}
-use Prim.Native.Nat.{ℕ, _+_, _-_, _*_, _<_, _≤_}
-use native.Mathlib.Omega.{arith}
-use native.Mathlib.Decide.{decLt}
+use Prim.Native.Nat.{ℕ, _+_, _-_, _<_, _≤_}
 use lib.IntN.{ℤ, pos, negsuc}
 use lib.ListN.{set}
 use lib.Signed.{_≤ℤ_}
 use Rattle.meaning_numbers.proofs.Rep.{up}
-use Rattle.meaning_numbers.proofs.Tests.{clash}
 use Rattle.meaning_curves.specs.Curve.{windowSum}
 use Rattle.meaning_rows.specs.declared.Row.{Row}
 use Rattle.meaning_rows.specs.Range.{inside}
 use Rattle.meaning_rows.proofs.Cursors.{fileRight}
-use Rattle.sums_slide.specs.declared.Place.{Place}
-use Rattle.sums_slide.specs.Levels.{level, placeFrom, Lent, windowsOf, level-is, level-small}
-use Rattle.sums_slide.specs.Ends.{raisedEnd, within-is}
-use Rattle.sums_slide.specs.Change.{Change, Stop}
+use Rattle.sums_slide.specs.declared.Window.{Window}
+use Rattle.sums_slide.specs.Levels.{level, Lent, windowsOf}
+use Rattle.sums_slide.specs.Change.{Change}
 use Rattle.build_parts.specs.Part.{written, PartRoom}
 
 -- both ends are far from what 32 bits hold
@@ -27,12 +23,12 @@ pub record Small (r : Row) : Type 0 where
   pub most : r .up ≤ℤ pos 1000000000
 
 -- a window with its raised sum
-pub record At (s : List ℤ) (w e : ℕ) (at : Place) : Type 0 where
+pub record At (s : List ℤ) (w e : ℕ) (at : Window) : Type 0 where
   pub lent : Lent s w e
   pub below : at .offset ≤ windowsOf s w
   pub sum : at .level ≡ level s w e (at .offset)
 
-pub record TurnAsked (s : List ℤ) (w e : ℕ) (at : Place) (r : Row) (left right : List ℕ) : Type 0 where
+pub record TurnAsked (s : List ℤ) (w e : ℕ) (at : Window) (r : Row) (left right : List ℕ) : Type 0 where
   pub place : At s w e at
   pub below : at .offset < windowsOf s w
   pub held : inside (r .low) (r .up) (windowSum s w (at .offset)) ≡ true
@@ -40,31 +36,8 @@ pub record TurnAsked (s : List ℤ) (w e : ℕ) (at : Place) (r : Row) (left rig
   pub room : PartRoom r left right
 
 -- the run that begins at `from` ends at t, and is filed
-pub record Turned (s : List ℤ) (w e from : ℕ) (r : Row) (left right : List ℕ) (t : Place) (left′ right′ : List ℕ) : Type 0 where
+pub record Turned (s : List ℤ) (w e from : ℕ) (r : Row) (left right : List ℕ) (t : Window) (left′ right′ : List ℕ) : Type 0 where
   pub change : Change (λ j. inside (r .low) (r .up) (windowSum s w j)) from (windowsOf s w) (t .offset)
   pub sum : t .level ≡ level s w e (t .offset)
   pub left-is : left′ ≡ set left (r .first + written r right) from
   pub right-is : right′ ≡ fileRight right (r .first) (r .runs) (written r right) (t .offset - 1)
-
--- ---- laws
-
--- the first window
-pub first-at : {s : List ℤ} {w e : ℕ} {at : Place} → Lent s w e → at ≡ placeFrom s w e 0 → At s w e at × (at .offset ≡ 0)
-first-at h q = rw q (record { lent = h; below = omega arith; sum = refl }, refl)
-
--- what `sum_of` asks of a window
-pub sum-asked : {s : List ℤ} {w e : ℕ} {at : Place} → At s w e at → (w ≤ 256) × (e ≤ 1000000) × (at .level ≤ 1000000000)
-sum-asked {at = at} h = (h .lent .most, h .lent .small, omega (arith, h .sum, level-small (at .offset) (h .lent)))
-
--- a change of one test is a change of another that agrees with it
-pub change-same : {p q : ℕ → Bool} {from n r : ℕ} → ((j : ℕ) → p j ≡ q j) → Change p from n r → Change q from n r
-change-same h c = record { above = c .above; below = c .below; same = λ j a b. sym (h j) ∙ c .same j a b; other = λ l. sym (h _) ∙ c .other l }
-
--- the end of the windows whose raised sums are in the raised range of a row is that of those whose sums are in its range
-pub stop-held : {s : List ℤ} {w e from r z lo hi : ℕ} (low high : ℤ) → Lent s w e → lo ≡ raisedEnd (10000 * w + e) low → hi ≡ raisedEnd (10000 * w + e) high
-    → Stop (level s w e) (windowsOf s w) lo hi from r z → Change (λ j. inside low high (windowSum s w j)) from (windowsOf s w) r
-stop-held low high h p q t = change-same (λ j. rw (p, q) (within-is low high (level-is j h))) (t .change)
-
--- where the first passes, the change comes later
-pub change-held : {p : ℕ → Bool} {from n r : ℕ} → from < n → p from ≡ true → Change p from n r → from < r
-change-held {p} {from} {n} {r} l t c = elim (decLt from r) [ yes m ↦ m | no f ↦ let e : r ≡ from = omega (arith, c .above) in clash t (rw e at (c .other (omega arith))) ]

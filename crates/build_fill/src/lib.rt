@@ -3,25 +3,25 @@ use build_parts::file_run;
 use meaning_rows::Row;
 use numbers::RAISE;
 use rows_find::find_record;
-use sums_slide::Place;
+use sums_slide::Window;
 use sums_slide::next_out;
 use sums_slide::raise_end;
 use sums_slide::sum_of;
 ghost use mathlib.Core.Bool.{Bool};
 ghost use Prim.Native.Nat.{ℕ, _+_, _*_, _<_};
 ghost use Rattle.build_fill.specs.Turn.{TurnAsked, Turned};
-ghost use Rattle.build_fill.specs.Pass.{Passable, Passed};
+ghost use Rattle.build_fill.specs.Pass.{Passable, PassMade};
 
 // The run of windows with sums in the range of row `r` that begins at `at` is filed as the next run of the row; where it ends.
 pub fn file_turn(
     s: &[i32],
     w: usize,
     e: u64,
-    at: Place,
+    at: Window,
     r: Row,
     left: &mut [u32],
     right: &mut [u32],
-) -> Place
+) -> Window
     requires { ⌜ TurnAsked (now s) w e at r (now left) (now right) ⌝ }
     ensures { λ t. ⌜ Turned (now (s .entry)) w e (at .offset) r (now (left .entry)) (now (right .entry)) t (now (left .exit)) (now (right .exit)) ⌝ }
 {
@@ -41,13 +41,13 @@ pub fn fill_parts(
     e: u64,
     rows: &[Row],
     count: usize,
-    from: Place,
+    from: Window,
     left: &mut [u32],
     right: &mut [u32],
 )
     ghost { ℕ → ℕ → Bool }
     requires { λ p. ⌜ Passable p (now s) w e from (now rows) count (now left) (now right) ⌝ }
-    ensures { λ p _. ⌜ Passed p (now (s .entry)) w count (now (left .entry)) (now (right .entry)) (now (left .exit)) (now (right .exit)) ⌝ }
+    ensures { λ p _. ⌜ PassMade p (now (s .entry)) w count (now (left .entry)) (now (right .entry)) (now (left .exit)) (now (right .exit)) ⌝ }
 {
     let windows = s.len() + 1 - w;
     let mut at = from;

@@ -11,7 +11,8 @@ use Rattle.meaning_rows.specs.Build.{filed}
 use Rattle.sums_slide.specs.Levels.{windowsOf}
 use Rattle.rows_pack.specs.Packed.{Packable, packed}
 use Rattle.rows_pack.specs.PackedAs.{PackedAs}
-use Rattle.build_lay.specs.Laid.{LayAsked, LaidOut, rows-fit, laid-packable, laid-packed}
+use Rattle.build_lay.specs.Laid.{LayAsked, LaidOut}
+use Rattle.build_lay.proofs.Laid.{rows-fit, laid-packable, laid-packed}
 
 module _ {s : List ℤ} {w e d bias : ℕ} {left right : List ℕ} (rows : List Row) (asked : LayAsked s w e d left right × (bias ≡ 10000 * w + e) × (windowsOf s w ≤ length rows)) {n : ℕ} {l r : List ℕ} (laid : LaidOut s w e d n l r) where
   fits-rows : n ≤ length rows

@@ -1,2 +1,2 @@
--- What the contracts of lay cite.
+-- What the contracts of build_lay cite.
 pub mod Laid

@@ -1,2 +1,4 @@
--- Calls of the covered functions of merging in a walk.
-pub mod Calls
+-- A turn of merging over plain variables.
+mod Turn
+pub mod Merging
+pub mod Names

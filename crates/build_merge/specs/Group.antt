@@ -1,4 +1,4 @@
--- The group of rows on the way, and the group after one row more: the row is taken in, or begins the next group (`nextGroup`). Assumes nothing.
+-- The group of rows on the way, and the group after one row more: the row is taken in, or begins the next group (`nextGroup`).
 use mathlib.Core.Bool.{cond}
 use mathlib.Core.List.{List}
 use Prim.Native.Nat.{ℕ, _+_, _-_, _*_, _<_, _≤_}

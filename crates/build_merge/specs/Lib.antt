@@ -1,4 +1,4 @@
--- What the contracts of merge cite.
+-- What the contracts of build_merge cite.
 pub mod Names
 pub mod Group
 pub mod Merging

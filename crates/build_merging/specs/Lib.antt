@@ -1,3 +1,2 @@
--- What the contract of merging cites.
+-- What the contracts of build_merging cite.
 pub mod Standing
-pub mod Filed

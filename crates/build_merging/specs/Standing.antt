@@ -1,20 +1,15 @@
--- Rows of a series that stand packed, with empty parts long enough for all runs: they can be named, and then merged (`standing-ready`). Assumes nothing.
+-- Rows of a series that stand packed, with empty parts long enough for all runs: they can be named, and then merged.
 use mathlib.Core.Path.{_≡_}
 use mathlib.Core.List.{List}
-use Prim.Native.Nat.{ℕ, _<_, _≤_}
-use native.Mathlib.Omega.{arith}
+use Prim.Native.Nat.{ℕ, _≤_}
 use lib.IntN.{ℤ}
 use lib.ListN.{length, getD}
 use Rattle.meaning_curves.specs.Curve.{windowSum}
 use Rattle.meaning_rows.specs.declared.Row.{Row}
 use Rattle.meaning_rows.specs.Build.{SetRow}
 use Rattle.sums_slide.specs.Levels.{Lent, windowsOf}
-use Rattle.build_merge.specs.Names.{NamedRow}
 use Rattle.rows_pack.specs.PackedAs.{PackedAs}
-use Rattle.build_merge.specs.Merging.{Rows, Ready, Mergeable, partAt}
-use Rattle.build_names.specs.Ranges.{rowIn}
-use Rattle.build_names.specs.Places.{Unnamed}
-use Rattle.build_names.specs.Packed.{Sound, packed-unnamed, packed-ready}
+use Rattle.build_names.specs.Packed.{Sound}
 
 pub record Standing (s : List ℤ) (w e : ℕ) (rows : List Row) (count : ℕ) (left right : List ℕ) : Type 0 where
   pub lent : Lent s w e
@@ -24,24 +19,3 @@ pub record Standing (s : List ℤ) (w e : ℕ) (rows : List Row) (count : ℕ) (
   pub in-left : windowsOf s w ≤ length left
   pub in-right : windowsOf s w ≤ length right
   pub zeros : (x : ℕ) → getD right x 0 ≡ 0
-
--- ---- laws
-
--- the parts have the names
-abbrev pub Named : List ℤ → ℕ → List Row → ℕ → List ℕ → List ℕ → Type 0
-Named s w rows count left right = (i : ℕ) → i < count → NamedRow (rowIn rows count (windowSum s w)) (windowsOf s w) i (partAt (rowIn rows count (windowSum s w)) (windowsOf s w) i) left right
-
-module _ (s : List ℤ) (w e : ℕ) (rows : List Row) (count : ℕ) (left₀ right₀ : List ℕ) (z : Standing s w e rows count left₀ right₀) where
-  pub standing-unnamed : Unnamed s w e rows count left₀ right₀
-  standing-unnamed = packed-unnamed s w e (z .lent) (z .list) rows count (z .sound) (z .packed) left₀ right₀ (z .in-left) (z .in-right) (z .zeros)
-
-  module _ (left right : List ℕ) (el : length left ≡ length left₀) (er : length right ≡ length right₀) (names : Named s w rows count left right) where
-    -- whatever rows stand packed
-    abbrev pub rowsOf : List SetRow → Rows
-    rowsOf l = record { windows = windowsOf s w; list = l; row = rowIn rows count (windowSum s w) }
-
-    pub standing-ready : (l : List SetRow) → Sound (windowSum s w) (windowsOf s w) l → PackedAs (windowsOf s w) l rows count → Ready (rowsOf l) rows count left right
-    standing-ready l g p = packed-ready s w e (z .lent) l rows count g p left right (omega (arith, z .in-left, el)) (omega (arith, z .in-right, er)) names
-
-    pub standing-mergeable : Mergeable rows count left right
-    standing-mergeable = record { some = rowsOf (z .list); ready = standing-ready (z .list) (z .sound) (z .packed) }

@@ -1,4 +1,7 @@
--- Calls of a walk, and what naming a row asks.
-pub mod Calls
+-- A turn of naming over plain variables, and what naming a row asks.
+mod Turn
 pub mod Named
-pub mod FileCall
+pub mod Naming
+pub mod Packed
+pub mod Places
+pub mod Ranges

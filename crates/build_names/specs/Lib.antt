@@ -1,5 +1,4 @@
--- What the contracts of neighbours cite.
+-- What the contracts of build_names cite.
 pub mod Ranges
-pub mod Naming
 pub mod Places
 pub mod Packed

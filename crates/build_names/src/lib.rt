@@ -5,7 +5,7 @@ use meaning_rows::Row;
 use numbers::RAISE;
 use rows_find::find_row;
 use rows_records::row_at;
-use sums_slide::Place;
+use sums_slide::Window;
 use sums_slide::first_place;
 use sums_slide::next_out;
 use sums_slide::raise_end;
@@ -23,7 +23,7 @@ ghost use Rattle.build_names.specs.Ranges.{LimitedRow, rowIn};
 ghost use Rattle.build_names.specs.Places.{nameFor, nameIn, Nameable, Unnamed};
 
 // From a window on, the first whose sum is not in the row's range, or the number of windows.
-pub fn run_end(s: &[i32], w: usize, e: u64, at: Place, r: Row) -> Place
+pub fn run_end(s: &[i32], w: usize, e: u64, at: Window, r: Row) -> Window
     requires { ⌜ Lent (now s) w e × (at .offset ≤ windowsOf (now s) w) × (at .level ≡ level (now s) w e (at .offset)) × LimitedRow r ⌝ }
     ensures { λ t. ⌜ Stop (level (now (s .entry)) w e) (windowsOf (now (s .entry)) w) (raisedEnd (greatestValue * w + e) (r .low)) (raisedEnd (greatestValue * w + e) (r .up)) (at .offset) (t .offset) (t .level) ⌝ }
 {
@@ -36,7 +36,7 @@ pub fn run_end(s: &[i32], w: usize, e: u64, at: Place, r: Row) -> Place
 }
 
 // The name of row `i` where there is a window, of `len` values, and else of none.
-pub fn name_of(len: usize, w: usize, at: Place, i: usize) -> usize
+pub fn name_of(len: usize, w: usize, at: Window, i: usize) -> usize
     requires { ⌜ (1 ≤ w) × (w ≤ longestWindow) × (at .offset ≤ mostValues) × (i ≤ 4294967294) ⌝ }
     ensures { λ r. ⌜ r ≡ nameFor len w (at .offset) i ⌝ }
 {
@@ -45,7 +45,7 @@ pub fn name_of(len: usize, w: usize, at: Place, i: usize) -> usize
 }
 
 // The name of the row of a window among the first `count` rows; of none past the last window.
-pub fn name_at(rows: &[Row], count: usize, len: usize, w: usize, e: u64, at: Place) -> usize
+pub fn name_at(rows: &[Row], count: usize, len: usize, w: usize, e: u64, at: Window) -> usize
     requires { ⌜ Nameable (now rows) count w e at ⌝ }
     ensures { λ r. ⌜ r ≡ nameIn (now (rows .entry)) count len w e at ⌝ }
 {

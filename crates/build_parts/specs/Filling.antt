@@ -1,5 +1,5 @@
 -- The pass that fills all parts, by runs: what holds after the windows below j (`Filling`), how it begins, and a turn, which files one run in the part of its row (`filling-run`).
--- Row i has the windows that pass its test P i; its part begins at the sum of the parts before. Entries behind all parts stay. Assumes nothing.
+-- Row i has the windows that pass its test P i; its part begins at the sum of the parts before. Entries behind all parts stay.
 use mathlib.Core.Path.{_≡_, refl, sym, ap, _∙_}
 use mathlib.Core.Bool.{Bool, true, false}
 use mathlib.Core.List.{List}

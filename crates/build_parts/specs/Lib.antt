@@ -1,4 +1,3 @@
--- What is said of a row's part of the run buffer.
+-- What the contracts of build_parts cite.
 pub mod Part
-pub mod Lent
 pub mod Filling

@@ -1,4 +1,4 @@
--- A row's part of the run buffer: how many of its runs are written, and that there is room for one more. Assumes nothing.
+-- A row's part of the run buffer: how many of its runs are written, and that there is room for one more.
 use mathlib.Core.List.{List}
 use Prim.Native.Nat.{ℕ, _+_, _-_, _<_, _≤_}
 use lib.ListN.{length, getD}

@@ -15,9 +15,10 @@ use Rattle.meaning_rows.proofs.Build.{merged-none}
 use Rattle.sums_slide.specs.Levels.{windowsOf}
 use Rattle.rows_pack.specs.PackedAs.{PackedAs}
 use Rattle.build_lay.specs.Laid.{Cleared, LayAsked}
-use Rattle.build_names.specs.Packed.{Sound, filed-sound}
+use Rattle.build_names.specs.Packed.{Sound}
+use Rattle.build_names.proofs.Packed.{filed-sound}
 use Rattle.build_merging.specs.Standing.{Standing}
-use Rattle.build_merging.specs.Filed.{filed-standing}
+use Rattle.build_merging.proofs.Filed.{filed-standing}
 use Rattle.build_passes.specs.Filled.{Fillable, MergedAs}
 
 -- the rows of a series before merging

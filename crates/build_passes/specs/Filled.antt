@@ -1,33 +1,17 @@
--- What stands in the buffers once the parts of a build's rows are filled is its index (`finished`). Assumes nothing.
-use mathlib.Core.Path.{_≡_, refl, sym, ap, _∙_}
-use mathlib.Core.List.{List, [], _∷_, _++_, map}
-use Prim.Native.Nat.{ℕ, zero, suc, _+_, _-_, _<_, _≤_}
-use native.Mathlib.Omega.{arith}
-use native.Mathlib.Decide.{decLt}
-use lib.IntN.{ℤ, natAbs}
-use lib.ListN.{length, getD, take, replicate, length-append, length-map, length-replicate, List·getD-append}
-use lib.Seq.{ext-getD, getD-append-add, take-append-seam}
-use Rattle.meaning_numbers.specs.Sum.{Σℕ}
-use Rattle.meaning_numbers.proofs.Sum.{Σℕ-same, Σℕ-more}
+-- What stands in the buffers once the parts of a build's rows are filled is its index.
+use mathlib.Core.Path.{_≡_}
+use mathlib.Core.List.{List}
+use Prim.Native.Nat.{ℕ, _≤_}
+use lib.IntN.{ℤ}
+use lib.ListN.{length}
 use Rattle.meaning_curves.specs.Curve.{windowSum}
 use Rattle.meaning_rows.specs.declared.Row.{Row}
-use Rattle.meaning_rows.specs.Runs.{runs, runCount}
-use Rattle.meaning_rows.specs.Index.{RangeRow, records, allRuns}
-use Rattle.meaning_rows.specs.Build.{SetRow, entry, withRuns, builtRows, built}
-use Rattle.meaning_rows.proofs.Build.{mergedRows, built-runs}
+use Rattle.meaning_rows.specs.Build.{built}
+use Rattle.meaning_rows.proofs.Build.{mergedRows}
 use Rattle.meaning_rows.proofs.Columns as Columns
-use Rattle.meaning_rows.proofs.Laid.{length-records}
-use Rattle.meaning_rows.proofs.LaidAt.{records-at, runs-total, column-at}
-use Rattle.meaning_entries.specs.Buffers.{IndexBuffers, filled, indexIn, lefts, rights}
-use Rattle.rows_records.specs.Records.{zeroRow}
-use Rattle.sums_slide.specs.declared.Place.{Place}
+use Rattle.meaning_entries.specs.Buffers.{IndexBuffers, indexIn}
 use Rattle.sums_slide.specs.Levels.{Lent, windowsOf}
 use Rattle.rows_pack.specs.PackedAs.{PackedAs}
-use Rattle.build_lay.specs.Laid.{Cleared}
-use Rattle.build_parts.specs.Filling.{partStart, partsTotal, filling-start}
-use Rattle.build_fill.specs.Turn.{At}
-use Rattle.build_fill.specs.Pass.{Passable, Passed}
-use Rattle.build_passes.specs.Rowed.{noRow, tests, built-rowed}
 
 -- the rows of a build of row width d and merge percentage g are packed in `rows`, and there is room for their runs
 pub record Fillable (d g : ℕ) (s : List ℤ) (w e : ℕ) (rows : List Row) (n : ℕ) (left right : List ℕ) : Type 0 where
@@ -46,153 +30,6 @@ MergeAsked d g s w e rows n left right = Fillable d 0 s w e rows n left right ×
 abbrev pub MergedAs : ℕ → ℕ → List ℤ → ℕ → List Row → ℕ → Type 0
 MergedAs d g s w rows k = PackedAs (windowsOf s w) (mergedRows (windowSum s w) d g (windowsOf s w)) rows k
 
--- row and run buffers
-abbrev pub buffers : List Row → List ℕ → List ℕ → IndexBuffers
-buffers rows left right = record { rows = rows; left = left; right = right }
-
--- the buffers hold the index of the series
+-- the indexBuffers hold the index of the series
 abbrev pub Holds : ℕ → ℕ → List ℤ → ℕ → IndexBuffers → IndexBuffers → Type 0
 Holds d g s w old new = new ≡ indexIn (built s w d g) old
-
--- ---- laws
-
-zeros : {A : Type 0} (a : A) (n x : ℕ) → getD (replicate n a) x a ≡ a
-zeros a zero x = refl
-zeros a (suc n) zero = refl
-zeros a (suc n) (suc x) = zeros a n x
-
--- where no row is laid out, a record of zeros stands first
-no-part : {X : Type 0} (G : X → RangeRow) (old : List Row) → let r = getD (filled zeroRow (records 0 (map G [])) old) 0 zeroRow in r .first + r .runs ≡ length (allRuns (map G []))
-unfolding filled records allRuns
-no-part G old = ap (λ (r : Row). r .first + r .runs) (zeros zeroRow (length old - 0) 0)
-
--- of rows laid out in a buffer, the part of the last ends where all parts end
-pub last-part : {X : Type 0} (o : X) (G : X → RangeRow) (t : List X) (old : List Row) → let r = getD (filled zeroRow (records 0 (map G t)) old) (length t - 1) zeroRow in r .first + r .runs ≡ length (allRuns (map G t))
-unfolding filled
-last-part o G [] old = no-part G old
-last-part o G (x ∷ l) old =
-    let t = x ∷ l in
-    let made = records 0 (map G t) in
-    let i : length t - 1 < length t = omega arith in
-    let f : ℕ → ℕ = λ y. length (G (getD t y o) .runs) in
-    let c : length t - 1 + 1 ≡ length t = omega arith in
-    let r = List·getD-append made (replicate (length old - length made) zeroRow) zeroRow (length t - 1) (omega (arith, i, length-records 0 (map G t), length-map t G)) ∙ records-at o G zeroRow 0 t (length t - 1) i in
-    omega (arith, ap (λ (q : Row). q .first) r, ap (λ (q : Row). q .runs) r, Σℕ-more (length t - 1) f, ap (λ (y : ℕ). Σℕ y f) c, runs-total o G t)
-
--- a buffer that is 0 behind the new entries
-pub filled-is : (new old col : List ℕ) → length col ≡ length old → length new ≤ length old → ((x : ℕ) → x < length new → getD col x 0 ≡ getD new x 0) → ((x : ℕ) → length new ≤ x → getD col x 0 ≡ 0) → col ≡ filled 0 new old
-unfolding filled
-filled-is new old col long fits front past =
-    let rest : List ℕ = replicate (length old - length new) 0 in
-    ext-getD 0 col (new ++ rest) (omega (arith, length-append new rest, length-replicate {A = ℕ} (length old - length new) 0))
-    (λ x l. elim (decLt x (length new)) [
-      | yes b ↦ front x b ∙ sym (List·getD-append new rest 0 x b)
-      | no f ↦ let q : length new + (x - length new) ≡ x = omega arith in
-          past x (omega arith) ∙ sym (zeros 0 (length old - length new) (x - length new)) ∙ sym (getD-append-add new rest (x - length new) 0) ∙ ap (λ (z : ℕ). getD (new ++ rest) z 0) q
-    ])
-
-pub lefts-entry : (l : List (ℕ × ℕ)) → lefts (map entry l) ≡ Columns.lefts l
-unfolding Columns.lefts
-lefts-entry [] = refl
-lefts-entry (x ∷ l) = ap (λ (m : List ℕ). x .0 ∷ m) (lefts-entry l)
-
-pub rights-entry : (l : List (ℕ × ℕ)) → rights (map entry l) ≡ Columns.rights l
-unfolding Columns.rights
-rights-entry [] = refl
-rights-entry (x ∷ l) = ap (λ (m : List ℕ). x .1 ∷ m) (rights-entry l)
-
-module _ {d g : ℕ} {s : List ℤ} {w e : ℕ} {rows : List Row} {n : ℕ} {left₀ right₀ : List ℕ} (h : Fillable d g s w e rows n left₀ right₀) where
-  abbrev W : ℕ
-  W = windowsOf s w
-
-  abbrev l : List SetRow
-  l = mergedRows (windowSum s w) d g W
-
-  size-is : (i : ℕ) → length (withRuns W (getD l i noRow) .runs) ≡ runCount (tests l i) W
-  unfolding withRuns
-  size-is i = length-map (runs (tests l i) W) entry
-
-  total-is : length (allRuns (map (withRuns W) l)) ≡ partsTotal n W (tests l)
-  total-is =
-      runs-total noRow (withRuns W) l ∙ Σℕ-same (length l) (λ y. length (withRuns W (getD l y noRow) .runs)) (λ y. runCount (tests l y) W) (λ y b. size-is y)
-      ∙ ap (λ (x : ℕ). Σℕ x (λ y. runCount (tests l y) W)) (sym (h .packed .many))
-
-  total-fits : partsTotal n W (tests l) ≤ W
-  unfolding builtRows
-  total-fits = omega (arith, total-is, built-runs (windowSum s w) d W (h .least) g)
-
-  -- the records behind the rows made 0
-  abbrev cleared : List Row
-  cleared = take n rows ++ replicate (length rows - n) zeroRow
-
-  front-long : length (take n rows) ≡ n
-  front-long = ap length (h .packed .front) ∙ length-records 0 (map (withRuns W) l) ∙ length-map l (withRuns W) ∙ sym (h .packed .many)
-
-  cleared-packed : PackedAs W l cleared n
-  cleared-packed =
-      let rest : List Row = replicate (length rows - n) zeroRow in
-      record {
-        many = h .packed .many;
-        within = omega (arith, front-long, length-append (take n rows) rest);
-        front = ap (λ (x : ℕ). take x cleared) (sym front-long) ∙ take-append-seam (take n rows) rest ∙ h .packed .front;
-      }
-
-  module _ {left right : List ℕ} (cl : Cleared left₀ left) (cr : Cleared right₀ right) where
-    -- the pass can begin
-    pub starts : {p : Place} → At s w e p → p .offset ≡ 0 → Passable (tests l) s w e p cleared n left right
-    starts {p} a z = record {
-      place = a;
-      rowed = rw z (built-rowed d g (h .least) (h .most) (h .lent) cleared-packed);
-      filling = rw z (filling-start n W (tests l) left right (cr .zero) (omega (arith, total-fits, cl .long, h .in-left)) (omega (arith, total-fits, cr .long, h .in-right)));
-    }
-
-    -- and where it ends
-    module _ {left′ right′ : List ℕ} (f : Passed (tests l) s w n left right left′ right′) where
-      start-is : (i : ℕ) → Σℕ i (λ y. length (withRuns W (getD l y noRow) .runs)) ≡ partStart n W (tests l) i
-      start-is i = Σℕ-same i (λ y. length (withRuns W (getD l y noRow) .runs)) (λ y. runCount (tests l y) W) (λ y b. size-is y)
-
-      left-is : left′ ≡ filled 0 (lefts (allRuns (map (withRuns W) l))) left₀
-      unfolding withRuns
-      left-is =
-          let m = length-map (allRuns (map (withRuns W) l)) (λ e. natAbs (e .0)) in
-          filled-is (lefts (allRuns (map (withRuns W) l))) left₀ left′ (f .long-left ∙ cl .long) (omega (arith, m, total-is, total-fits, h .in-left))
-          (λ x b. column-at noRow (withRuns W) (λ e. natAbs (e .0)) left′ l
-          (λ i u a c. rw (start-is i, lefts-entry (runs (tests l i) W)) (f .parts .left-is i u (omega (arith, h .packed .many)) (omega (arith, size-is i)))) x (omega (arith, m)))
-          (λ x b. f .past-left x (omega (arith, m, total-is)) ∙ cl .zero x)
-
-      right-is : right′ ≡ filled 0 (rights (allRuns (map (withRuns W) l))) right₀
-      unfolding withRuns
-      right-is =
-          let m = length-map (allRuns (map (withRuns W) l)) (λ e. natAbs (e .1)) in
-          filled-is (rights (allRuns (map (withRuns W) l))) right₀ right′ (f .long-right ∙ cr .long) (omega (arith, m, total-is, total-fits, h .in-right))
-          (λ x b. column-at noRow (withRuns W) (λ e. natAbs (e .1)) right′ l
-          (λ i u a c. rw (start-is i, rights-entry (runs (tests l i) W)) (f .parts .right-is i u (omega (arith, h .packed .many)) (omega (arith, size-is i)))) x (omega (arith, m)))
-          (λ x b. f .past-right x (omega (arith, m, total-is)) ∙ cr .zero x)
-
-      rows-is : cleared ≡ filled zeroRow (records 0 (map (withRuns W) l)) rows
-      unfolding filled
-      rows-is =
-          let a = records 0 (map (withRuns W) l) in
-          let long : n ≡ length a = h .packed .many ∙ sym (length-records 0 (map (withRuns W) l) ∙ length-map l (withRuns W)) in
-          ap (λ (m : List Row). m ++ replicate (length rows - n) zeroRow) (h .packed .front) ∙ ap (λ (x : ℕ). a ++ replicate (length rows - x) zeroRow) long
-
-      pub finished : Holds d g s w (buffers rows left₀ right₀) (buffers cleared left′ right′)
-      unfolding indexIn built builtRows
-      finished = λ i. record { rows = rows-is i; left = left-is i; right = right-is i }
-
--- only how long the buffers were matters
-pub holds-same : (d g : ℕ) (s : List ℤ) (w : ℕ) {new : IndexBuffers} (rows rows₀ : List Row) (left left₀ right right₀ : List ℕ) → length rows ≡ length rows₀ → length left ≡ length left₀ → length right ≡ length right₀
-    → Holds d g s w (buffers rows left right) new → Holds d g s w (buffers rows₀ left₀ right₀) new
-unfolding indexIn filled
-holds-same d g s w rows rows₀ left left₀ right right₀ a b c h =
-    let x = built s w d g in
-    h ∙ (λ i. record {
-      rows = x .rows ++ replicate (a i - length (x .rows)) zeroRow;
-      left = lefts (x .runs) ++ replicate (b i - length (lefts (x .runs))) 0;
-      right = rights (x .runs) ++ replicate (c i - length (rights (x .runs))) 0;
-    })
-
--- the rows of a build, counted
-pub rows-counted : {n : ℕ} (d g : ℕ) (s : List ℤ) (w : ℕ) → n ≡ length (mergedRows (windowSum s w) d g (windowsOf s w)) → n ≡ length (built s w d g .rows)
-unfolding built builtRows
-rows-counted {n} d g s w e = let l = mergedRows (windowSum s w) d g (windowsOf s w) in e ∙ sym (length-records 0 (map (withRuns (windowsOf s w)) l) ∙ length-map l (withRuns (windowsOf s w)))

@@ -1,3 +1,2 @@
--- What the contracts of build cite.
-pub mod Rowed
+-- What the contracts of build_passes cite.
 pub mod Filled

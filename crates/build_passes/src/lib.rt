@@ -13,9 +13,10 @@ ghost use Prim.Native.Nat.{ℕ, _+_, _*_, _≤_};
 ghost use lib.ListN.{length};
 ghost use Rattle.meaning_rows.specs.Build.{built};
 ghost use Rattle.build_lay.specs.Laid.{LayAsked};
-ghost use Rattle.build_passes.specs.Filled.{Fillable, MergeAsked, MergedAs, buffers, Holds};
+ghost use Rattle.build_passes.specs.Filled.{Fillable, MergeAsked, MergedAs, Holds};
+ghost use Rattle.meaning_entries.specs.Buffers.{indexBuffers};
 
-// The parts of the first `n` records are filled, and what is not used of the buffers is made 0. The ghost value has the row width and the merge percentage of the build whose rows are packed.
+// The parts of the first `n` records are filled, and what is not used of the indexBuffers is made 0. The ghost value has the row width and the merge percentage of the build whose rows are packed.
 pub fn fill_rows(
     s: &[i32],
     w: usize,
@@ -27,7 +28,7 @@ pub fn fill_rows(
 )
     ghost { ℕ × ℕ }
     requires { λ p. ⌜ Fillable (p .0) (p .1) (now s) w e (now rows) n (now left) (now right) ⌝ }
-    ensures { λ p _. ⌜ Holds (p .0) (p .1) (now (s .entry)) w (buffers (now (rows .entry)) (now (left .entry)) (now (right .entry))) (buffers (now (rows .exit)) (now (left .exit)) (now (right .exit))) ⌝ }
+    ensures { λ p _. ⌜ Holds (p .0) (p .1) (now (s .entry)) w (indexBuffers (now (rows .entry)) (now (left .entry)) (now (right .entry))) (indexBuffers (now (rows .exit)) (now (left .exit)) (now (right .exit))) ⌝ }
 {
     clear_rows(rows, n);
     clear_runs(left, right);
@@ -71,7 +72,7 @@ pub fn build_rows(
 ) -> usize
     requires { ⌜ (LayAsked (now s) w e d (now left) (now right)) × (bias ≡ greatestValue * w + e) × (windowsOf (now s) w ≤ length (now rows)) × (g ≤ greatestMerge) ⌝ }
     ensures { λ k. ⌜ (k ≡ length (built (now (s .entry)) w d g .rows))
-        × Holds d g (now (s .entry)) w (buffers (now (rows .entry)) (now (left .entry)) (now (right .entry))) (buffers (now (rows .exit)) (now (left .exit)) (now (right .exit))) ⌝ }
+        × Holds d g (now (s .entry)) w (indexBuffers (now (rows .entry)) (now (left .entry)) (now (right .entry))) (indexBuffers (now (rows .exit)) (now (left .exit)) (now (right .exit))) ⌝ }
 {
     let n = lay_rows(s, w, e, d, bias, rows, left, right);
     let k = merge_some(s, w, e, g, rows, n, left, right);

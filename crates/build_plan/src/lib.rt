@@ -1,5 +1,6 @@
 // What refuses a build, and by how much it raises sums where nothing does.
 use numbers::RAISE;
+use numbers::shorter;
 use refusals::Refusal;
 use refusals::merge_outside;
 use refusals::refuse_if;
@@ -7,7 +8,6 @@ use refusals::refuse_room;
 use refusals::refuse_series;
 use refusals::width_outside;
 use refusals::window_outside;
-use numbers::shorter;
 use rows_pack::raised_rows;
 ghost use mathlib.Core.Path.{_≡_};
 ghost use Rattle.meaning_entries.specs.Build.{lentBuild, buildLines};
@@ -15,7 +15,7 @@ ghost use Rattle.refusals.specs.Refusal.{refusalOf};
 ghost use Rattle.build_plan.specs.Plan.{Planned};
 
 // What refuses the call; where nothing does, window length and row width, and what sums are raised by: `extra` beside 10,000 for each value, `bias` in all.
-pub struct Plan {
+pub struct BuildPlan {
     pub refusal: Refusal,
     pub window: usize,
     pub width: u64,
@@ -44,12 +44,12 @@ pub fn make_plan(
     rows: usize,
     left: usize,
     right: usize,
-) -> Plan
+) -> BuildPlan
     ensures { λ p. ⌜ Planned (now (series .entry)) w d g rows left right p ⌝ }
 {
     let refusal = refuse_build(series, w, d, g, rows, shorter(left, right));
     if refusal.number != 0 {
-        return Plan {
+        return BuildPlan {
             refusal,
             window: 0,
             width: 0,
@@ -60,7 +60,7 @@ pub fn make_plan(
     let wide = d as u64;
     let long = w as u64;
     let bias = raised_rows(long, wide) * wide;
-    Plan {
+    BuildPlan {
         refusal,
         window: w as usize,
         width: wide,

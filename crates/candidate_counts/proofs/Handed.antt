@@ -1,4 +1,4 @@
--- Runs at the front of two columns, cleared behind, are as they are handed out (`handed`). Assumes nothing.
+-- Runs at the front of two columns, cleared behind, are as they are handed out (`handed`).
 use mathlib.Core.Path.{_≡_, refl, sym, ap, _∙_}
 use mathlib.Core.Bool.{Bool}
 use mathlib.Core.List.{List, [], _∷_, _++_, map}

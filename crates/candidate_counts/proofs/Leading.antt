@@ -1,4 +1,4 @@
--- What the scratch count tells: it is the number of parts exactly at the candidates (`leading-all`). Assumes nothing.
+-- What the scratch count tells: it is the number of parts exactly at the candidates (`leading-all`).
 use mathlib.Core.Path.{_≡_, refl, sym, _∙_, ap}
 use mathlib.Core.Bool.{Bool, true, false, _&&_, and-true, and-false, and-assoc}
 use mathlib.Core.List.{map}
@@ -13,7 +13,7 @@ use Rattle.meaning_numbers.proofs.Tests.{by-test}
 use Rattle.meaning_rows.specs.Index.{Index}
 use Rattle.meaning_filter.specs.Candidates.{admits, candidate}
 use Rattle.candidate_counts.specs.Raise.{bump}
-use Rattle.candidate_counts.specs.Leading.{leading}
+use Rattle.candidate_counts.proofs.LeadingLaws.{leading}
 
 -- a part's turn at a count that is at most its number
 turn : (a : Bool) (i n : ℕ) → n ≤ i → eqb (bump a i n) (suc i) ≡ (eqb n i && a)

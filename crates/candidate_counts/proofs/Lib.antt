@@ -3,3 +3,4 @@ pub mod Raise
 pub mod Leading
 pub mod Handed
 pub mod Take
+pub mod LeadingLaws

@@ -1,4 +1,4 @@
--- Counts raised place by place and run by run: raised twice by one part is raised once by either (`bump-twice`); a turn over places (`raise-more`) and over runs (`going-next`). Assumes nothing.
+-- Counts raised place by place and run by run: raised twice by one part is raised once by either (`bump-twice`); a turn over places (`raise-more`) and over runs (`going-next`).
 use mathlib.Core.Path.{_≡_, refl, sym, _∙_}
 use mathlib.Core.Bool.{Bool, true, false, _&&_, _||_, and-false}
 use mathlib.Core.List.{List, [], _∷_}

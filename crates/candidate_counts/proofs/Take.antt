@@ -1,4 +1,4 @@
--- Offsets taken in one by one (`taking-next`), or passed over where none is in the set (`took-none`). Assumes nothing.
+-- Offsets taken in one by one (`taking-next`), or passed over where none is in the set (`took-none`).
 use mathlib.Core.Path.{_≡_, refl, sym, ap, _∙_}
 use mathlib.Core.Bool.{Bool, true, false, not, _&&_}
 use mathlib.Core.List.{List}

@@ -1,4 +1,4 @@
--- The candidates as they are handed out: joined runs at the front of a buffer of two slices, and how many runs and offsets they are (01, Candidates). Assumes nothing.
+-- The candidates as they are handed out: joined runs at the front of a buffer of two slices, and how many runs and offsets they are (01, Candidates).
 use mathlib.Core.Path.{_≡_}
 use mathlib.Core.Bool.{Bool}
 use mathlib.Core.List.{List, map, _++_}

@@ -1,5 +1,4 @@
--- What the contracts of candidates cite.
+-- What the contracts of candidate_counts cite.
 pub mod Raise
-pub mod Leading
 pub mod Handed
 pub mod Take

@@ -1,4 +1,4 @@
--- What a part does to the scratch count: each place that is hit and stands at the part's number is raised by one, and no other. Assumes nothing.
+-- What a part does to the scratch count: each place that is hit and stands at the part's number is raised by one, and no other.
 use mathlib.Core.Path.{_≡_}
 use mathlib.Core.Bool.{Bool, cond, _&&_}
 use mathlib.Core.List.{List}

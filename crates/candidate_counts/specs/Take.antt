@@ -1,4 +1,4 @@
--- Some offsets taken in behind what was handed out: a stretch of the loop that writes the runs. Assumes nothing.
+-- Some offsets taken in behind what was handed out: a stretch of the loop that writes the runs.
 use mathlib.Core.Path.{_≡_}
 use mathlib.Core.Bool.{Bool}
 use mathlib.Core.List.{List}

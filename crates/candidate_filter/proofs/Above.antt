@@ -1,4 +1,4 @@
--- The first row whose upper end is above a number: what a search finds is that place (`found-above`); every row before it ends at or below the number (`above-before`), and that row ends above it (`above-at`). Assumes nothing.
+-- The first row whose upper end is above a number: what a search finds is that place (`found-above`); every row before it ends at or below the number (`above-before`), and that row ends above it (`above-at`).
 use mathlib.Core.Path.{_≡_}
 use mathlib.Core.Bool.{true, false}
 use mathlib.Core.List.{List, [], _∷_}

@@ -1,4 +1,4 @@
--- A clamped end stands to every row end as it did (`clamp-le`, `clamp-lt`). Assumes nothing.
+-- A clamped end stands to every row end as it did (`clamp-le`, `clamp-lt`).
 use mathlib.Core.Path.{_≡_}
 use mathlib.Core.Bool.{true, false}
 use lib.IntN.{ℤ, pos, negsuc}

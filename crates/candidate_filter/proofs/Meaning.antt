@@ -1,4 +1,4 @@
--- What a search has of the scratch count: cleared, it is 0 everywhere; and where all parts raised it, what is handed out are the offsets that meet all of them (`found-all`). Assumes nothing.
+-- What a search has of the scratch count: cleared, it is 0 everywhere; and where all parts raised it, what is handed out are the offsets that meet all of them (`found-all`).
 use mathlib.Core.Path.{_≡_, ap, _∙_}
 use mathlib.Core.List.{List, [], map}
 use Prim.Native.Nat.{ℕ, _-_, _<_}
@@ -12,9 +12,9 @@ use Rattle.meaning_numbers.proofs.Count.{count-cong}
 use Rattle.meaning_rows.specs.Index.{Index}
 use Rattle.meaning_rows.proofs.Runs.{runs-cong}
 use Rattle.meaning_entries.specs.Buffers.{filled}
-use Rattle.candidate_counts.specs.Leading.{leading, Counted}
+use Rattle.candidate_counts.proofs.LeadingLaws.{leading, Counted}
 use Rattle.candidate_counts.specs.Handed.{stood, Handed}
-use Rattle.candidate_filter.specs.Parts.{FoundAll}
+use Rattle.candidate_filter.proofs.Parts.{FoundAll}
 
 -- counts that were cleared
 pub cleared-zeros : (l : List ℕ) (j : ℕ) → getD (filled 0 [] l) j 0 ≡ 0

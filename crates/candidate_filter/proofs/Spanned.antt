@@ -1,5 +1,5 @@
 -- The stretch of runs that code finds has exactly the offsets that the range admits (`span-admits`), and lies inside the run buffer (`span-inside`, `span-few`), where the index is well formed.
--- The rows met are those from row a up to row e: they begin after the rows that end at or below the range, and end before those that begin above it. Their runs stand side by side. Assumes nothing.
+-- The rows met are those from row a up to row e: they begin after the rows that end at or below the range, and end before those that begin above it. Their runs stand side by side.
 use mathlib.Core.Path.{_≡_, refl, sym, ap, _∙_, subst}
 use mathlib.Core.Bool.{Bool, true, false, cond, _&&_, false≢true}
 use mathlib.Core.List.{List, [], _∷_}

@@ -1,3 +1,4 @@
--- What the contracts of filter cite.
+-- What the contracts of candidate_filter cite.
 pub mod Met
 pub mod Parts
+pub mod Stored

@@ -1,4 +1,4 @@
--- The stretch of the run buffer that has the runs of the rows which a range meets, as code finds it. Assumes nothing.
+-- The stretch of the run buffer that has the runs of the rows which a range meets, as code finds it.
 use mathlib.Core.Bool.{cond}
 use mathlib.Core.List.{List, [], _∷_}
 use Prim.Native.Nat.{ℕ, suc, _+_, _-_}
@@ -9,6 +9,7 @@ use lib.Signed.{leZ, ltZ}
 use Rattle.meaning_rows.specs.declared.Row.{Row}
 use Rattle.rows_records.specs.Records.{zeroRow}
 use Rattle.candidate_filter.specs.declared.Span.{Span}
+pub use Rattle.rows_find.specs.Search.{Climbs}
 
 -- an end of a range, from -4,000,001 to 4,000,001: one outside the limits of row ends
 unfoldable pub clampOf : ℤ → ℤ

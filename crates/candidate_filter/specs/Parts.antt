@@ -1,18 +1,10 @@
--- The range of each part of a query, and the offsets that meet all parts handed out. Assumes nothing.
+-- The range of each part of a query, and the offsets that meet all parts handed out.
 use mathlib.Core.List.{List}
 use Prim.Native.Nat.{ℕ}
-use lib.Dec.{eqb}
 use lib.IntN.{ℤ}
-use Rattle.meaning_rows.specs.Index.{Index}
-use Rattle.candidate_counts.specs.Leading.{leading}
-use Rattle.candidate_counts.specs.Handed.{Handed}
 use Rattle.candidate_ranges.specs.declared.Frame.{Frame}
 use Rattle.candidate_ranges.specs.Frame.{rangeAt}
 
 -- the ends of the range of part i, of the envelopes
 abbrev pub partRange : Frame → List ℤ → List ℤ → ℕ → ℕ → ℤ × ℤ
 partRange f low high w i = (rangeAt f low high w i .low, rangeAt f low high w i .high)
-
--- the offsets that meet all parts, handed out
-abbrev pub FoundAll : Index → (ℕ → ℤ × ℤ) → ℕ → ℕ → List ℕ → List ℕ → List ℕ → List ℕ → ℕ → ℕ → Type 0
-FoundAll x range parts offsets first last first′ last′ k found = Handed (λ j. eqb (leading x range parts j) parts) offsets first last first′ last′ k found

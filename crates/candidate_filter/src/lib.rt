@@ -1,6 +1,7 @@
 // The rows that a part's range meets. The runs of neighbouring rows stand side by side, so the rows that a range meets have one stretch of the run buffer.
 use candidate_ranges::Range;
 use meaning_rows::Row;
+use numbers::lower;
 use numbers::place_before;
 use rows_find::find_row;
 use rows_records::row_or;
@@ -10,6 +11,9 @@ ghost use Prim.Native.Nat.{_-_, _≤_};
 ghost use lib.ListN.{length};
 ghost use Rattle.rows_find.specs.Search.{Climbs};
 ghost use Rattle.candidate_filter.specs.Met.{clampOf, endOf, reachedRuns, spanOf, metSpan};
+ghost use lib.IntN.{pos, negsuc, natAbs, _+ℤ_};
+ghost use Rattle.meaning_numbers.proofs.Between.{Between};
+ghost use Rattle.candidate_filter.specs.Stored.{raisedEnd, EndsAt, heldRange};
 
 // A stretch of the run buffer: the entries from `from` up to and not with `to`.
 pub struct Span {
@@ -77,4 +81,32 @@ pub fn met_span(rows: &[Row], range: Range) -> Span
     let last = row_or(rows, place_before(b), none);
     let edge = row_or(rows, b, none);
     span_of(n, a, b, first, last, edge, high)
+}
+
+// A clamped end, raised to an unsigned number.
+pub fn raise_by(x: i32) -> u32
+    requires { ⌜ Between (negsuc 4000000) x (pos 4000001) ⌝ }
+    ensures { λ r. ⌜ r ≡ natAbs (x +ℤ pos 4000001) ⌝ }
+{
+    (x + 4000001) as u32
+}
+
+// An end of a range, clamped and raised.
+pub fn raise_end(z: i64) -> u32
+    ensures { λ r. ⌜ r ≡ raisedEnd z ⌝ }
+{
+    raise_by(clamp(z))
+}
+
+// The range of part `i`, as it was clamped.
+pub fn range_at(first: &[u32], last: &[u32], i: usize) -> Range
+    requires { ⌜ EndsAt (now first) (now last) i ⌝ }
+    ensures { λ r. ⌜ r ≡ heldRange (now (first .entry)) (now (last .entry)) i ⌝ }
+{
+    let a = first[i] as u64;
+    let b = last[i] as u64;
+    Range {
+        low: lower(a, 4000001) as i64,
+        high: lower(b, 4000001) as i64,
+    }
 }

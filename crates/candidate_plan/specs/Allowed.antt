@@ -1,4 +1,4 @@
--- The plan over a lent index is the refusal of the search before it looks (`plan-is`). Where it refuses, that is the answer, and no buffer is altered (`plan-stops`). Where it does not, the call is within all limits (`allowed`), and what is left to decide is whether the list holds all matches (`goes-on`). Assumes nothing.
+-- The plan over a lent index is the refusal of the search before it looks (`plan-is`). Where it refuses, that is the answer, and no buffer is altered (`plan-stops`). Where it does not, the call is within all limits (`allowed`), and what is left to decide is whether the list holds all matches (`goes-on`).
 use mathlib.Core.Path.{_≡_, refl, subst}
 use mathlib.Core.Bool.{false}
 use mathlib.Core.List.{List}
@@ -10,7 +10,6 @@ use lib.IntN.{ℤ, pos}
 use lib.ListN.{length}
 use Rattle.meaning_numbers.proofs.Rep.{zarith, z-sub}
 use Rattle.meaning_numbers.proofs.Tests.{clash}
-use Rattle.meaning_curves.specs.Limits.{mostValues}
 use Rattle.meaning_curves.specs.Curve.{at, spread}
 use Rattle.meaning_curves.specs.Normal.{flat}
 use Rattle.meaning_curves.proofs.Values.{AllIn}
@@ -25,7 +24,7 @@ use Rattle.meaning_entries.specs.declared.Found.{Found}
 use Rattle.meaning_entries.specs.Refusal.{firstRefusal, normalFlat, fewerWindows, moreWindows}
 use Rattle.meaning_entries.specs.Buffers.{pairRoom}
 use Rattle.meaning_entries.specs.Search.{SearchCall, SearchBuffers, lentSearch, searchPlan, searchAnswer, searchAfter}
-use Rattle.meaning_entries.proofs.Refusal.{Passed, passed-is, openLines, passed-line, passed-behind, lacks}
+use Rattle.meaning_entries.proofs.Refusal.{AllPass, passed-is, openLines, passed-line, passed-behind, lacks}
 use Rattle.meaning_entries.proofs.Lines.{long-line, values-line, query-line, below-line, band-line, threshold-line, scale-line, flat-line, formed-line, fewer-line, more-line, room-line}
 use Rattle.meaning_entries.proofs.Looked.{plan-refused}
 use Rattle.meaning_entries.proofs.Passes.{same-windows}
@@ -33,6 +32,7 @@ use Rattle.rows_judge.specs.Judged.{judgedOf, bad-row}
 use Rattle.refusals.specs.declared.Refusal.{Refusal}
 use Rattle.refusals.specs.Refusal.{refusalOf, judged-line, passes, refuses}
 use Rattle.candidate_plan.specs.Tables.{valuesTable, numbersTable, inputTable, windowsTable, stateTable, planOf}
+pub use Rattle.meaning_curves.specs.Limits.{mostValues, longestWindow}
 
 -- a search within all limits, over an index that is well formed and has the windows of the series, with room for candidates and scratch
 pub record Allowed (s : List ℤ) (h : Head) (x : Index) (ask : Ask) (q : List ℤ) (candidates scratch : ℕ) : Type 0 where
@@ -87,7 +87,7 @@ module _ (s : List ℤ) (h : Head) (rows : List Row) (left right : List ℕ) (as
   plan-stops f = plan-refused call b (refuses (searchPlan call b) plan-is f)
 
   module _ (z : thePlan .number ≡ 0) where
-    t : Passed (searchPlan call b)
+    t : AllPass (searchPlan call b)
     t = passes (searchPlan call b) never-0 plan-is z
 
     pub goes-on : firstRefusal (searchPlan call b) ≡ none

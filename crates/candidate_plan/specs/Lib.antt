@@ -1,4 +1,3 @@
--- What the contracts of the plan cite, and what follows of it.
+-- What the contracts of candidate_plan cite.
 pub mod Tables
-pub mod Cases
 pub mod Allowed

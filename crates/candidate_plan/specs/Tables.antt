@@ -1,4 +1,4 @@
--- The refusals of a search but 24, in order, over what code has: the index is told by its head and by what judging said of it. Assumes nothing.
+-- The refusals of a search but 24, in order, over what code has: the index is told by its head and by what judging said of it.
 use mathlib.Core.List.{List, [], _∷_, _++_}
 use Prim.Native.Nat.{ℕ}
 use lib.IntN.{ℤ, pos}

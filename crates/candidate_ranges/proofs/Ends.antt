@@ -1,4 +1,4 @@
--- The ends of a part's range, as code makes them of a frame and the envelopes' sums, are the range of document 01 (`range-is`). Assumes nothing.
+-- The ends of a part's range, as code makes them of a frame and the envelopes' sums, are the range of document 01 (`range-is`).
 use mathlib.Core.Path.{_≡_, ap, _∙_}
 use mathlib.Core.List.{List}
 use Prim.Native.Nat.{ℕ, _+_, _*_, _≤_}
@@ -20,8 +20,9 @@ use Rattle.meaning_filter.specs.declared.Kind.{Kind}
 use Rattle.meaning_filter.specs.declared.Kind.the-variants.{Raw, Normal}
 use Rattle.meaning_filter.specs.declared.Limits.{Limits}
 use Rattle.meaning_filter.specs.Range.{lowerSum, upperSum, rawLow, rawHigh, normalLow, normalHigh, rangeOf}
-use Rattle.values.specs.Sums.{sum-raised}
-use Rattle.distance_query.specs.Ready.{Ready, curveOf, from-start}
+use Rattle.values.proofs.SumsLaws.{sum-raised}
+use Rattle.distance_query.specs.Ready.{Ready, curveOf}
+use Rattle.distance_query.proofs.Ready.{from-start}
 use Rattle.candidate_ranges.specs.Frame.{rawFrame, normalFrame, frameOf, lowEnd, highEnd}
 use Rattle.candidate_ranges.proofs.Same.{low-sum, high-sum}
 

@@ -1,4 +1,4 @@
--- A query that was made ready, within its limits, has the sizes that a frame is made from (`query-in`). Assumes nothing.
+-- A query that was made ready, within its limits, has the sizes that a frame is made from (`query-in`).
 use mathlib.Core.Path.{refl}
 use mathlib.Core.List.{List}
 use Prim.Native.Nat.{ℕ, _≤_}
@@ -12,8 +12,10 @@ use Rattle.meaning_curves.proofs.Same.{spread-same}
 use Rattle.meaning_filter.specs.declared.Kind.{Kind}
 use Rattle.meaning_filter.specs.declared.Limits.{Limits}
 use Rattle.numbers.specs.Raised.{raised}
-use Rattle.values.specs.Sums.{AreSums, sums-le, spread-bound}
-use Rattle.distance_query.specs.Ready.{Ready, from-start}
+use Rattle.values.specs.Sums.{AreSums}
+use Rattle.values.proofs.SumsLaws.{sums-le, spread-bound}
+use Rattle.distance_query.specs.Ready.{Ready}
+use Rattle.distance_query.proofs.Ready.{from-start}
 use Rattle.candidate_ranges.specs.Frame.{QueryIn}
 
 -- the limits of a search, as far as ranges ask for them

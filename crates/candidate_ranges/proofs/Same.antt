@@ -1,4 +1,4 @@
--- Envelopes of m values ask for those values alone: curves that agree below m have the same (`lower-same`, `upper-same`), and so the same sums over a part. Assumes nothing.
+-- Envelopes of m values ask for those values alone: curves that agree below m have the same (`lower-same`, `upper-same`), and so the same sums over a part.
 use mathlib.Core.Path.{_≡_, _∙_}
 use mathlib.Core.List.{List}
 use Prim.Native.Nat.{ℕ, zero, suc, _+_, _-_, _<_, _≤_}

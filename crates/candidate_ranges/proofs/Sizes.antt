@@ -1,4 +1,4 @@
--- The sizes of a frame's numbers, within the limits of a query: all products fit 64 bits (`frame-in`). Assumes nothing.
+-- The sizes of a frame's numbers, within the limits of a query: all products fit 64 bits (`frame-in`).
 use mathlib.Core.Path.{_≡_}
 use mathlib.Core.Bool.{Bool, true, false}
 use Prim.Native.Nat.{ℕ, _+_, _*_, _/_, _≤_}
@@ -18,6 +18,7 @@ use Rattle.candidate_ranges.specs.declared.Frame.{Frame}
 use Rattle.numbers.specs.Small.{Small}
 use Rattle.numbers.proofs.Small.{small-pos, small-more, small-add, small-sub, small-mul, small-back, arg-back, small-max, small-min}
 use Rattle.candidate_ranges.specs.Frame.{frameOf, FrameIn, QueryIn}
+pub use Rattle.distance_envelope.proofs.EnvelopeLaws.{low-in, high-in}
 
 pub small-pick : {n : ℕ} (low : Bool) (x y : ℤ) → Small n x → Small n y → Small n (pick low x y)
 small-pick true = small-min

@@ -1,4 +1,4 @@
--- The ranges of a query's parts as code makes them: what they share (`frameOf`), and the two ends of a part's range from the sums of the envelopes (`lowEnd`, `highEnd`). Assumes nothing.
+-- The ranges of a query's parts as code makes them: what they share (`frameOf`), and the two ends of a part's range from the sums of the envelopes (`lowEnd`, `highEnd`).
 use mathlib.Core.List.{List}
 use Prim.Native.Nat.{ℕ, _+_, _*_, _≤_}
 use lib.IntN.{ℤ, pos, _+ℤ_, _-ℤ_, _*ℤ_}

@@ -1,2 +1,2 @@
--- What the contracts of ranges cite.
+-- What the contracts of candidate_ranges cite.
 pub mod Frame

@@ -1,3 +1,5 @@
--- Laws of spans, and calls of a walk.
+-- Laws of spans.
 pub mod Query
-pub mod Calls
+pub mod Held
+pub mod Met
+pub mod Raised

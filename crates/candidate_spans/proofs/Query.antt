@@ -1,4 +1,4 @@
--- A query that is prepared: what the ends of its parts ask for is had (`query-ready`, `ends-ready`), and what is held of them are the ranges of document 01 (`ranges-held`). Assumes nothing.
+-- A query that is prepared: what the ends of its parts ask for is had (`query-ready`, `ends-ready`), and what is held of them are the ranges of document 01 (`ranges-held`).
 use mathlib.Core.Path.{_≡_}
 use mathlib.Core.List.{List}
 use Prim.Native.Nat.{ℕ, suc, _+_, _*_, _/_, _<_, _≤_}
@@ -11,14 +11,15 @@ use Rattle.meaning_filter.specs.declared.Kind.{Kind}
 use Rattle.meaning_filter.specs.declared.Limits.{Limits}
 use Rattle.meaning_filter.specs.Range.{rangeOf}
 use Rattle.distance_query.specs.Ready.{Ready}
-use Rattle.distance_envelope.specs.Envelope.{low-in, high-in}
+use Rattle.candidate_ranges.proofs.Sizes.{low-in, high-in}
 use Rattle.candidate_ranges.specs.declared.Frame.{Frame}
 use Rattle.candidate_ranges.specs.Frame.{frameOf, QueryIn}
 use Rattle.candidate_ranges.proofs.Fits.{query-in}
 use Rattle.candidate_ranges.proofs.Sizes.{frame-in}
 use Rattle.candidate_ranges.proofs.Ends.{range-is}
 use Rattle.candidate_filter.specs.Parts.{partRange}
-use Rattle.candidate_spans.specs.Held.{Held, lowEnds, highEnds, EndsReady, RangesReady, RangesHeld, held-same}
+use Rattle.candidate_spans.specs.Held.{PartsHeld, lowEnds, highEnds, EndsReady, RangesReady, RangesHeld}
+use Rattle.candidate_spans.proofs.Held.{held-same}
 
 -- the part of a query that part i is
 part-inside : (m w i : ℕ) → i < m / w → i * w + w ≤ m
@@ -48,6 +49,6 @@ module _ {kind : Kind} {q : List ℤ} {l : Limits} {w : ℕ} {first last : List 
     same : (i : ℕ) → i < m / w → partRange f low high w i ≡ rangeOf kind (at q) m l w i
     same i h = rw is (range-is l w i (r .values) e (part-inside m w i h))
 
-    pub ranges-held : {first′ last′ : List ℕ} → Held (lowEnds (partRange f low high w)) (highEnds (partRange f low high w)) 0 (m / w) first′ last′ → length first′ ≡ length first → length last′ ≡ length last
+    pub ranges-held : {first′ last′ : List ℕ} → PartsHeld (lowEnds (partRange f low high w)) (highEnds (partRange f low high w)) 0 (m / w) first′ last′ → length first′ ≡ length first → length last′ ≡ length last
         → RangesHeld kind q l w first last first′ last′
     ranges-held h a b = record { held = held-same same h; first-long = a; last-long = b }

@@ -1,4 +1,4 @@
--- What the contracts of spans cite.
+-- What the contracts of candidate_spans cite.
 pub mod Held
 pub mod Met
 pub mod Raised

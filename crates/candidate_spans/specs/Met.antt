@@ -1,16 +1,16 @@
--- Each entry of the candidate buffer replaced by the stretch of runs that its range meets (`AllMet`). A turn of the loop is `meeting-next`, over plain variables. Assumes nothing.
-use mathlib.Core.Path.{_≡_, refl, ap, _∙_, subst}
+-- Each entry of the candidate buffer replaced by the stretch of runs that its range meets (`AllMet`). A turn of the loop is `meeting-next`, over plain variables.
+use mathlib.Core.Path.{_≡_}
 use mathlib.Core.List.{List}
-use Prim.Native.Nat.{ℕ, _+_, _<_, _≤_}
-use native.Mathlib.Omega.{arith}
+use Prim.Native.Nat.{ℕ, _<_, _≤_}
 use lib.IntN.{ℤ}
-use lib.ListN.{length, getD}
+use lib.ListN.{length}
 use Rattle.meaning_rows.specs.declared.Row.{Row}
-use Rattle.rows_find.specs.Search.{Climbs}
+use Rattle.candidate_filter.specs.Met.{Climbs}
 use Rattle.candidate_ranges.specs.declared.Range.{Range}
 use Rattle.candidate_filter.specs.declared.Span.{Span}
 use Rattle.candidate_filter.specs.Met.{clampOf, metSpan}
-use Rattle.candidate_spans.specs.Held.{Held, Stored, EndsAt, heldRange, none-held, held-next, held-rest}
+use Rattle.candidate_spans.specs.Held.{PartsHeld}
+use Rattle.candidate_filter.specs.Stored.{EndsAt, heldRange}
 
 -- the stretch that a range meets
 abbrev pub spanOf : List Row → Range → Span
@@ -27,58 +27,6 @@ pub record MeetReady (rows : List Row) (parts : ℕ) (first last : List ℕ) : T
   pub ends : (i : ℕ) → i < parts → EndsAt first last i
 
 pub record AllMet (rows : List Row) (parts : ℕ) (first last first′ last′ : List ℕ) : Type 0 where
-  pub held : Held (λ i. spanAt rows first last i .from) (λ i. spanAt rows first last i .to) 0 parts first′ last′
+  pub held : PartsHeld (λ i. spanAt rows first last i .from) (λ i. spanAt rows first last i .to) 0 parts first′ last′
   pub first-long : length first′ ≡ length first
   pub last-long : length last′ ≡ length last
-
--- ---- the loop, at part i
-
-pub record Meeting (rows : List Row) (parts : ℕ) (first last : List ℕ) (i : ℕ) (first′ last′ : List ℕ) : Type 0 where
-  pub met : AllMet rows i first last first′ last′
-  pub rest : Held (λ j. getD first j 0) (λ j. getD last j 0) i parts first′ last′
-  pub inside : i ≤ parts
-
-pub meeting-starts : (rows : List Row) (parts : ℕ) (first last : List ℕ) → Meeting rows parts first last 0 first last
-meeting-starts rows parts first last = record {
-  met = record { held = none-held _ _ 0 first last; first-long = refl; last-long = refl };
-  rest = record { first-at = λ j l u. refl; last-at = λ j l u. refl };
-  inside = omega arith;
-}
-
-module _ {rows : List Row} {parts : ℕ} {first last : List ℕ} (r : MeetReady rows parts first last) {i : ℕ} {a b : List ℕ} (m : Meeting rows parts first last i a b) where
-  pub meeting-ends : i ≡ parts → AllMet rows parts first last a b
-  meeting-ends e = subst (λ (k : ℕ). AllMet rows k first last a b) e (m .met)
-
-  module _ (l : i < parts) where
-    same-first : getD a i 0 ≡ getD first i 0
-    same-first = m .rest .first-at i (omega arith) l
-
-    same-last : getD b i 0 ≡ getD last i 0
-    same-last = m .rest .last-at i (omega arith) l
-
-    pub meeting-asks : EndsAt a b i
-    meeting-asks =
-        let e = r .ends i l in
-        record {
-          in-first = omega (arith, e .in-first, m .met .first-long);
-          in-last = omega (arith, e .in-last, m .met .last-long);
-          first-most = omega (arith, e .first-most, same-first);
-          last-most = omega (arith, e .last-most, same-last);
-        }
-
-    same-span : spanAt rows a b i ≡ spanAt rows first last i
-    same-span = rw (same-first, same-last)
-
-    pub meeting-stores : let s = spanAt rows a b i in (i < length a) × (i < length b) × (s .from ≤ 1048576) × (s .to ≤ 1048576)
-    meeting-stores = let y = heldRange a b i in let f = r .few (clampOf (y .low)) (clampOf (y .high)) in (meeting-asks .in-first, meeting-asks .in-last, f .0, f .1)
-
-    pub meeting-next : {a′ b′ : List ℕ} → Stored i (spanAt rows a b i .from) (spanAt rows a b i .to) a b a′ b′ → Meeting rows parts first last (i + 1) a′ b′
-    meeting-next s = record {
-      met = record {
-        held = held-next s (m .met .held) (ap (λ (t : Span). t .from) same-span) (ap (λ (t : Span). t .to) same-span);
-        first-long = s .first-long ∙ m .met .first-long;
-        last-long = s .last-long ∙ m .met .last-long;
-      };
-      rest = held-rest s (m .rest);
-      inside = omega arith;
-    }

@@ -1,10 +1,10 @@
 // The stretches of runs that the parts of a query meet, held in the candidate buffer until candidates are handed out: entry i is that of part i.
 use candidate_counts::raise_runs;
 use candidate_filter::Span;
-use candidate_filter::clamp;
 use candidate_filter::met_span;
+use candidate_filter::raise_end;
+use candidate_filter::range_at;
 use candidate_ranges::Frame;
-use candidate_ranges::Range;
 use candidate_ranges::frame_of;
 use candidate_ranges::part_range;
 use distance_query::prepare;
@@ -12,32 +12,14 @@ use meaning_curves::LONGEST_QUERY;
 use meaning_filter::Kind;
 use meaning_filter::Limits;
 use meaning_rows::Row;
-use numbers::lower;
 ghost use mathlib.Core.Path.{_≡_};
 ghost use Prim.Native.Nat.{_<_, _≤_};
-ghost use lib.IntN.{pos, negsuc, natAbs, _+ℤ_};
-ghost use Rattle.meaning_numbers.proofs.Between.{Between};
 ghost use lib.ListN.{length};
 ghost use Rattle.meaning_curves.specs.Limits.{mostValues};
 ghost use Rattle.candidate_filter.specs.Parts.{partRange};
-ghost use Rattle.candidate_spans.specs.Held.{raisedEnd, lowEnds, highEnds, Held, EndsReady, Stored, RangesReady, RangesHeld, EndsAt, heldRange};
+ghost use Rattle.candidate_spans.specs.Held.{lowEnds, highEnds, PartsHeld, EndsReady, Stored, RangesReady, RangesHeld};
 ghost use Rattle.candidate_spans.specs.Met.{MeetReady, AllMet};
 ghost use Rattle.candidate_spans.specs.Raised.{StretchesReady, stretchHit, CountedBy};
-
-// A clamped end, raised to an unsigned number.
-pub fn raise_by(x: i32) -> u32
-    requires { ⌜ Between (negsuc 4000000) x (pos 4000001) ⌝ }
-    ensures { λ r. ⌜ r ≡ natAbs (x +ℤ pos 4000001) ⌝ }
-{
-    (x + 4000001) as u32
-}
-
-// An end of a range, clamped and raised.
-pub fn raise_end(z: i64) -> u32
-    ensures { λ r. ⌜ r ≡ raisedEnd z ⌝ }
-{
-    raise_by(clamp(z))
-}
 
 // Two numbers stored as entry `i` of two columns.
 pub fn store_pair(first: &mut [u32], last: &mut [u32], i: usize, a: u32, b: u32)
@@ -59,7 +41,7 @@ pub fn put_ends(
     last: &mut [u32],
 )
     requires { ⌜ EndsReady f (now low) (now high) w parts (now first) (now last) ⌝ }
-    ensures { λ _. ⌜ Held (lowEnds (partRange f (now (low .entry)) (now (high .entry)) w)) (highEnds (partRange f (now (low .entry)) (now (high .entry)) w)) 0 parts (now (first .exit)) (now (last .exit)) × (length (now (first .exit)) ≡ length (now (first .entry))) × (length (now (last .exit)) ≡ length (now (last .entry))) ⌝ }
+    ensures { λ _. ⌜ PartsHeld (lowEnds (partRange f (now (low .entry)) (now (high .entry)) w)) (highEnds (partRange f (now (low .entry)) (now (high .entry)) w)) 0 parts (now (first .exit)) (now (last .exit)) × (length (now (first .exit)) ≡ length (now (first .entry))) × (length (now (last .exit)) ≡ length (now (last .entry))) ⌝ }
 {
     let mut i: usize = 0;
     while i < parts {
@@ -116,19 +98,6 @@ pub fn put_ranges(kind: Kind, q: &[i32], l: Limits, w: u32, first: &mut [u32], l
         first,
         last,
     );
-}
-
-// The range of part `i`, as it was clamped.
-pub fn range_at(first: &[u32], last: &[u32], i: usize) -> Range
-    requires { ⌜ EndsAt (now first) (now last) i ⌝ }
-    ensures { λ r. ⌜ r ≡ heldRange (now (first .entry)) (now (last .entry)) i ⌝ }
-{
-    let a = first[i] as u64;
-    let b = last[i] as u64;
-    Range {
-        low: lower(a, 4000001) as i64,
-        high: lower(b, 4000001) as i64,
-    }
 }
 
 // The stretch of part `i` stored as its entry.

@@ -1,12 +1,11 @@
--- What a search that looked answers, by the room of its list (`answerOf`), and how the list stands then (`Answers`). Assumes nothing.
-use mathlib.Core.Path.{_≡_, refl, ap, _∙_}
+-- What a search that looked answers, by the room of its list (`answerOf`), and how the list stands then (`Answers`).
+use mathlib.Core.Path.{_≡_}
 use mathlib.Core.Bool.{cond}
 use mathlib.Core.List.{List}
 use Prim.Native.Nat.{ℕ, _<_, _≤_}
 use lib.Dec.{leb}
 use lib.IntN.{ℤ}
 use lib.ListN.{length}
-use borrow.Author.Tests.{le-leb, lt-leb}
 use Rattle.meaning_curves.specs.Curve.{at, spread}
 use Rattle.meaning_curves.proofs.Values.{AllIn}
 use Rattle.meaning_filter.specs.declared.Kind.{Kind}
@@ -39,20 +38,3 @@ answerOf candidates matches room = cond (leb matches room) (Found.All candidates
 pub record Answers (l : List (ℕ × ℕ)) (candidates : ℕ) (answer : Found) (offsets distances offsets′ distances′ : List ℕ) : Type 0 where
   pub answered : answer ≡ answerOf candidates (length l) (pairRoom offsets distances)
   pub list : ListFilled l (length l) offsets distances offsets′ distances′
-
--- ---- laws
-
-pub answer-all : (candidates matches room : ℕ) → matches ≤ room → Found.All candidates matches ≡ answerOf candidates matches room
-unfolding answerOf
-answer-all candidates matches room h = rw (le-leb matches room h)
-
-pub answer-full : (candidates matches room : ℕ) → room < matches → Found.Full candidates matches ≡ answerOf candidates matches room
-unfolding answerOf
-answer-full candidates matches room h = rw (lt-leb matches room h)
-
--- so many matches are counted
-pub answers : {l : List (ℕ × ℕ)} {candidates n : ℕ} {r : Found} {o d o′ d′ : List ℕ} → ListFilled l n o d o′ d′ → r ≡ answerOf candidates n (pairRoom o d) → Answers l candidates r o d o′ d′
-answers {l} {candidates} {o = o} {d} f e = record {
-  answered = e ∙ ap (λ (n : ℕ). answerOf candidates n (pairRoom o d)) (f .count);
-  list = record { count = refl; offsets-are = f .offsets-are; distances-are = f .distances-are };
-}

@@ -1,3 +1,2 @@
--- What the contracts of finding cite, and how a search ends.
+-- What the contracts of check_answer cite.
 pub mod Answer
-pub mod Search

@@ -1,29 +1,19 @@
--- The matches among some offsets, as entries of the list (`found`): those of the candidates' runs are the list that a search means (`found-among`). What checking asks for (`Prepared`), and the sums that slide (`SumsFor`). Assumes nothing.
-use mathlib.Core.Path.{_≡_, refl, sym, ap}
-use mathlib.Core.Bool.{Bool, true, false, cond}
-use mathlib.Core.List.{List, [], _∷_, _++_, map, append-nil}
-use Prim.Native.Nat.{ℕ, zero, suc, _+_, _-_, _<_, _≤_}
-use native.Mathlib.Omega.{arith}
-use native.Mathlib.Numerals.{add-one}
+-- The matches among some offsets, as entries of the list (`found`): those of the candidates' runs are the list that a search means. What checking asks for (`Prepared`), and the sums that slide (`SumsFor`).
+use mathlib.Core.Path.{_≡_}
+use mathlib.Core.List.{List, [], _∷_, map}
+use Prim.Native.Nat.{ℕ, _+_, _<_, _≤_}
 use lib.IntN.{ℤ}
-use lib.ListN.{length, length-map, getD, take}
-use lib.Seq.{take-suc}
-use Rattle.meaning_numbers.specs.Place.{keep, numbersFrom}
-use Rattle.meaning_curves.specs.Curve.{at, stretch}
+use lib.ListN.{length, take}
+use Rattle.meaning_numbers.specs.Place.{keep}
 use Rattle.meaning_curves.proofs.Values.{AllIn}
-use Rattle.meaning_rows.specs.Index.{Index}
 use Rattle.meaning_filter.specs.declared.Kind.{Kind}
 use Rattle.meaning_filter.specs.declared.Limits.{Limits}
-use Rattle.meaning_filter.specs.Matches.{Question, distanceTo, matchesAt, listed, offsetCount, candidateAt, candidateRuns, matchList}
+use Rattle.meaning_filter.specs.Matches.{Question, matchesAt, listed}
 use Rattle.meaning_rows.proofs.Runs.{Apart}
 use Rattle.meaning_entries.specs.Demand3.{pairs}
 use Rattle.values.specs.Sums.{AreSums}
 use Rattle.distance_query.specs.Ready.{Ready}
-use Rattle.distance_compare.specs.declared.Match.{Match}
-use Rattle.distance_compare.specs.Answer.{answer}
-use Rattle.distance_match.specs.Matched.{matched}
-use Rattle.check_list.specs.Members.{between, members, numbers-end, keep-append, keep-length, length-numbers, members-append, kept-members}
-use Rattle.check_list.specs.Listed.{length-pairs}
+use Rattle.distance_within.specs.declared.Match.{Match}
 
 -- what is looked for
 abbrev pub asked : Kind → List ℤ → List ℤ → Limits → Question
@@ -61,88 +51,3 @@ pub record RunsLent (n : ℕ) (left right : List ℕ) (runs : ℕ) : Type 0 wher
 unfoldable pub entriesOf : ℕ → Match → List (ℕ × ℕ)
 entriesOf j (Match.Yes d) = (j, d) ∷ []
 entriesOf j Match.No = []
-
--- ---- laws
-
--- a raw query asks for no sums
-pub raw-sums : {kind : Kind} {s : List ℤ} {from m p w : ℕ} → kind ≡ Kind.Raw → SumsFor kind s from m p w
-raw-sums e n h = let z : _≡_ {A = ℕ} 0 1 = cc in absurd (omega arith)
-
-pub found-among : (x : Index) (z : Question) → found z (members (candidateRuns x z)) ≡ matchList x z
-unfolding found matchList candidateRuns
-found-among x z = rw (sym (kept-members (candidateAt x z) (offsetCount z)))
-
-map-append : {A B : Type 0} (f : A → B) (l m : List A) → map f (l ++ m) ≡ map f l ++ map f m
-map-append f [] m = refl
-map-append {B = B} f (x ∷ l) m = ap (λ (t : List B). f x ∷ t) (map-append f l m)
-
-pub found-on : (z : Question) (l m : List ℕ) → found z (l ++ m) ≡ found z l ++ found z m
-unfolding found
-found-on z l m = rw (keep-append (matchesAt z) l m) (map-append (listed z) (keep (matchesAt z) l) (keep (matchesAt z) m))
-
-pub found-few : (z : Question) (k n : ℕ) → length (found z (numbersFrom k n)) ≤ n
-unfolding found
-found-few z k n = omega (arith, length-map (keep (matchesAt z) (numbersFrom k n)) (listed z), keep-length (matchesAt z) (numbersFrom k n), length-numbers k n)
-
-entries-answer : (t : Bool) (j d : ℕ) (f : ℕ → ℕ × ℕ) → f j ≡ (j, d) → entriesOf j (answer t d) ≡ map f (cond t (j ∷ []) [])
-unfolding entriesOf
-entries-answer true j d f e = rw e
-entries-answer false j d f e = refl
-
--- one offset
-pub found-one : (kind : Kind) (s q : List ℤ) (l : Limits) (j : ℕ) → entriesOf j (matched kind (stretch s j) (at q) (length q) l) ≡ found (asked kind s q l) (j ∷ [])
-unfolding found keep matched
-found-one kind s q l j = entries-answer (matchesAt (asked kind s q l) j) j (distanceTo kind (stretch s j) (at q) (length q) l) (listed (asked kind s q l)) refl
-
-pub entries-few : (j : ℕ) (m : Match) → length (entriesOf j m) ≤ 1
-unfolding entriesOf
-entries-few j (Match.Yes d) = omega arith
-entries-few j Match.No = omega arith
-
-pub no-entries : {m : Match} (j : ℕ) → m ≡ Match.No → entriesOf j m ≡ []
-unfolding entriesOf
-no-entries j e = rw e
-
-pub one-entry : {m : Match} {d : ℕ} (j : ℕ) → m ≡ Match.Yes d → entriesOf j m ≡ (j, d) ∷ []
-unfolding entriesOf
-one-entry j e = rw e
-
--- ---- a turn of the loop over the offsets of a run
-
-pub run-none : (z : Question) (from : ℕ) → found z (numbersFrom from (from - from)) ≡ []
-unfolding found keep numbersFrom
-run-none z from = let e : from - from ≡ 0 = omega arith in rw e
-
-pub run-more : (kind : Kind) (s q : List ℤ) (l : Limits) (from j : ℕ) → from ≤ j
-    → found (asked kind s q l) (numbersFrom from (j + 1 - from)) ≡ found (asked kind s q l) (numbersFrom from (j - from)) ++ entriesOf j (matched kind (stretch s j) (at q) (length q) l)
-run-more kind s q l from j h =
-    let z = asked kind s q l in
-    let e : j + 1 - from ≡ suc (j - from) = omega arith in
-    let f : from + (j - from) ≡ j = omega arith in
-    rw (e, numbers-end from (j - from), f, found-on z (numbersFrom from (j - from)) (j ∷ []), found-one kind s q l j)
-
--- ---- a turn of the loop over the runs
-
-pub getD-pairs : (a b : List ℕ) (i : ℕ) → i < length a → i < length b → getD (pairs a b) i (0, 0) ≡ (getD a i 0, getD b i 0)
-unfolding pairs
-getD-pairs [] b i g h = absurd (omega arith)
-getD-pairs (x ∷ a) [] i g h = absurd (omega arith)
-getD-pairs (x ∷ a) (y ∷ b) zero g h = refl
-getD-pairs (x ∷ a) (y ∷ b) (suc i) g h = getD-pairs a b i (omega arith) (omega arith)
-
-pub runs-none : (z : Question) (left right : List ℕ) → found z (members (lentRuns left right 0)) ≡ []
-unfolding found keep members
-runs-none z left right = refl
-
--- the members of one run more
-one-run : (z : Question) (l : List (ℕ × ℕ)) (x : ℕ × ℕ) → found z (members (l ++ (x ∷ []))) ≡ found z (members l) ++ found z (between x)
-unfolding members
-one-run z l x = rw (members-append l (x ∷ []), append-nil) (found-on z (members l) (between x))
-
-pub runs-more : (z : Question) (left right : List ℕ) (i : ℕ) → i < length left → i < length right
-    → found z (members (lentRuns left right (i + 1)))
-    ≡ found z (members (lentRuns left right i)) ++ found z (numbersFrom (getD left i 0) (getD right i 0 + 1 - getD left i 0))
-runs-more z left right i g h =
-    let P = pairs left right in
-    rw (add-one i, take-suc P i (0, 0) (omega (arith, length-pairs left right)), getD-pairs left right i g h)
-    (one-run z (take i P) (getD left i 0, getD right i 0))

@@ -1,6 +1,4 @@
--- What the contracts of checking cite: the members of runs, the list as it grows, and the matches among some offsets.
+-- What the contracts of check_list cite.
 pub mod Members
 pub mod Listed
 pub mod Found
-pub mod Turn
-pub mod Candidates

@@ -1,15 +1,7 @@
--- The offsets of runs, ascending (`members`). Those of a set's runs are the offsets that are kept by its test (`kept-members`). By induction on the number of offsets, one offset taken in at a time. Assumes nothing.
-use mathlib.Core.Path.{_≡_, refl, sym, ap, _∙_}
-use mathlib.Core.Bool.{Bool, true, false, cond}
-use mathlib.Core.List.{List, [], _∷_, _++_, append-nil, append-assoc}
-use Prim.Native.Nat.{ℕ, zero, suc, _+_, _-_, _≤_}
-use native.Mathlib.Omega.{arith}
-use native.Mathlib.Nat.{zero-add}
-use lib.ListN.{length}
-use Rattle.meaning_numbers.specs.Place.{keep, numbersFrom}
-use Rattle.meaning_numbers.proofs.Tests.{by-test}
-use Rattle.meaning_rows.specs.Runs.{before, reach, takeIn, runs}
-use Rattle.meaning_rows.proofs.Runs.{Apart, Next, runs-apart, runs-next}
+-- The offsets of runs, ascending (`members`). Those of a set's runs are the offsets that are kept by its test. By induction on the number of offsets, one offset taken in at a time.
+use mathlib.Core.List.{List, [], _∷_, _++_}
+use Prim.Native.Nat.{ℕ, _+_, _-_}
+use Rattle.meaning_numbers.specs.Place.{numbersFrom}
 
 -- the offsets of a run
 abbrev pub between : ℕ × ℕ → List ℕ
@@ -19,68 +11,3 @@ between x = numbersFrom (x .0) (x .1 + 1 - x .0)
 unfoldable pub members : List (ℕ × ℕ) → List ℕ
 members [] = []
 members (x ∷ l) = between x ++ members l
-
--- ---- numbers, one more at the end
-
-pub numbers-end : (k n : ℕ) → numbersFrom k (suc n) ≡ numbersFrom k n ++ ((k + n) ∷ [])
-unfolding numbersFrom
-numbers-end k zero = let e : k + 0 ≡ k = omega arith in rw e
-numbers-end k (suc n) = let e : k + suc n ≡ suc k + n = omega arith in rw e (ap (λ (l : List ℕ). k ∷ l) (numbers-end (suc k) n))
-
-pub length-numbers : (k n : ℕ) → length (numbersFrom k n) ≡ n
-unfolding numbersFrom
-length-numbers k zero = refl
-length-numbers k (suc n) = ap suc (length-numbers (suc k) n)
-
--- ---- what is kept of two lists, one after the other
-
-pub keep-append : {A : Type 0} (p : A → Bool) (l m : List A) → keep p (l ++ m) ≡ keep p l ++ keep p m
-unfolding keep
-keep-append p [] m = refl
-keep-append p (x ∷ l) m = by-test (p x) (λ t. rw (t, keep-append p l m)) (λ t. rw (t, keep-append p l m))
-
-pub keep-length : {A : Type 0} (p : A → Bool) (l : List A) → length (keep p l) ≤ length l
-unfolding keep
-keep-length p [] = omega arith
-keep-length p (x ∷ l) = by-test (p x) (λ t. rw t (omega (arith, keep-length p l))) (λ t. rw t (omega (arith, keep-length p l)))
-
--- ---- members
-
-pub members-append : (l m : List (ℕ × ℕ)) → members (l ++ m) ≡ members l ++ members m
-unfolding members
-members-append [] m = refl
-members-append (x ∷ l) m = rw (members-append l m) (sym (append-assoc (between x) (members l) (members m)))
-
-point : (n : ℕ) → between (n, n) ≡ n ∷ []
-unfolding numbersFrom
-point n = let e : n + 1 - n ≡ 1 = omega arith in rw e
-
--- a run that reaches on
-longer : (l r n : ℕ) → l ≤ r → r + 1 ≡ n → between (l, n) ≡ between (l, r) ++ (n ∷ [])
-longer l r n h e =
-    let f : n + 1 - l ≡ suc (r + 1 - l) = omega arith in
-    let g : l + (r + 1 - l) ≡ n = omega arith in
-    rw f (numbers-end l (r + 1 - l) ∙ rw g)
-
-members-reach : (n a : ℕ) (l : List (ℕ × ℕ)) → Apart n a l → Next true l n → members (reach l n) ≡ members l ++ (n ∷ [])
-unfolding members reach Apart Next
-members-reach n a [] p h = absurd h
-members-reach n a (x ∷ []) p h = rw (longer (x .0) (x .1) n (p .1) h, append-nil (between x ++ (n ∷ [])), append-nil (between x)) refl
-members-reach n a (x ∷ y ∷ l) p h = rw (members-reach n (x .1 + 2) (y ∷ l) (p .3) h) (sym (append-assoc (between x) (members (y ∷ l)) (n ∷ [])))
-
-members-takeIn : (a b : Bool) (l : List (ℕ × ℕ)) (n : ℕ) → Apart n 0 l → Next b l n → members (takeIn a b l n) ≡ members l ++ cond a (n ∷ []) []
-unfolding takeIn members
-members-takeIn false b l n p h = sym (append-nil (members l))
-members-takeIn true false l n p h = members-append l ((n, n) ∷ []) ∙ ap (λ (k : List ℕ). members l ++ k) (append-nil (between (n, n)) ∙ point n)
-members-takeIn true true l n p h = members-reach n 0 l p h
-
-kept-one : (p : ℕ → Bool) (n : ℕ) → keep p (n ∷ []) ≡ cond (p n) (n ∷ []) []
-unfolding keep
-kept-one p n = refl
-
-pub kept-members : (p : ℕ → Bool) (n : ℕ) → keep p (numbersFrom 0 n) ≡ members (runs p n)
-unfolding keep numbersFrom runs members
-kept-members p zero = refl
-kept-members p (suc n) =
-    ap (keep p) (numbers-end 0 n) ∙ keep-append p (numbersFrom 0 n) ((0 + n) ∷ []) ∙ rw (zero-add n, kept-one p n, kept-members p n)
-    (sym (members-takeIn (p n) (before p n) (runs p n) n (runs-apart p n) (runs-next p n)))

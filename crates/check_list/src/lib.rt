@@ -1,9 +1,9 @@
 // The candidates of a search, tested run by run: a match is listed while there is room, and counted where there is none. Sums slide along a run.
 use clear::clear_u32;
 use clear::clear_u64;
-use distance_compare::Match;
 use distance_match::match_at;
 use distance_query::Query;
+use distance_within::Match;
 use meaning_curves::LONGEST_QUERY;
 use meaning_filter::Kind;
 use meaning_filter::Limits;

@@ -1,4 +1,4 @@
--- A buffer cleared from a place on: entry by entry (`Clearing`), and what it holds then. Assumes nothing.
+-- A buffer cleared from a place on: entry by entry (`Clearing`), and what it holds then.
 use mathlib.Core.Path.{_≡_, refl, _∙_}
 use mathlib.Core.List.{List, [], _∷_, _++_, append-nil}
 use Prim.Native.Nat.{ℕ, suc, _+_, _-_, _<_, _≤_}

@@ -1,4 +1,4 @@
--- A buffer cleared from a place on. Assumes nothing.
+-- A buffer cleared from a place on.
 use mathlib.Core.List.{List, _++_}
 use Prim.Native.Nat.{ℕ, _-_}
 use lib.ListN.{length, take, replicate}

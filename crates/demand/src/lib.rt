@@ -10,9 +10,9 @@ use meaning_rows::Row;
 ghost use mathlib.Core.Path.{_≡_};
 ghost use Rattle.meaning_rows.specs.Index.{lent};
 ghost use Rattle.meaning_entries.specs.Search.{lentSearch};
-ghost use Rattle.meaning_entries.specs.Told.{yes, toldSecond, toldFound, told};
-ghost use Rattle.entry_search.specs.Refused.{buffers};
-ghost use Rattle.demand.specs.Both.{Demand3Kept};
+ghost use Rattle.meaning_entries.specs.Both.{yes, toldSecond, toldFound, told};
+ghost use Rattle.meaning_entries.specs.Search.{searchBuffers};
+ghost use Rattle.meaning_entries.specs.Both.{Demand3Kept};
 
 // An audit says yes.
 fn says_yes(a: Audited) -> bool
@@ -100,7 +100,7 @@ pub fn demand(
     offsets2: &mut [u32],
     distances2: &mut [u64],
 ) -> Both
-    ensures { λ a. ⌜ Demand3Kept (lentSearch (now (series .entry)) head1 (now (rows1 .entry)) (now (left1 .entry)) (now (right1 .entry)) ask (now (query .entry))) (lent head2 (now (rows2 .entry)) (now (left2 .entry)) (now (right2 .entry))) (buffers (now (first1 .entry)) (now (last1 .entry)) (now (scratch1 .entry)) (now (offsets1 .entry)) (now (distances1 .entry))) (buffers (now (first2 .entry)) (now (last2 .entry)) (now (scratch2 .entry)) (now (offsets2 .entry)) (now (distances2 .entry))) a (buffers (now (first1 .exit)) (now (last1 .exit)) (now (scratch1 .exit)) (now (offsets1 .exit)) (now (distances1 .exit))) (buffers (now (first2 .exit)) (now (last2 .exit)) (now (scratch2 .exit)) (now (offsets2 .exit)) (now (distances2 .exit))) ⌝ }
+    ensures { λ a. ⌜ Demand3Kept (lentSearch (now (series .entry)) head1 (now (rows1 .entry)) (now (left1 .entry)) (now (right1 .entry)) ask (now (query .entry))) (lent head2 (now (rows2 .entry)) (now (left2 .entry)) (now (right2 .entry))) (searchBuffers (now (first1 .entry)) (now (last1 .entry)) (now (scratch1 .entry)) (now (offsets1 .entry)) (now (distances1 .entry))) (searchBuffers (now (first2 .entry)) (now (last2 .entry)) (now (scratch2 .entry)) (now (offsets2 .entry)) (now (distances2 .entry))) a (searchBuffers (now (first1 .exit)) (now (last1 .exit)) (now (scratch1 .exit)) (now (offsets1 .exit)) (now (distances1 .exit))) (searchBuffers (now (first2 .exit)) (now (last2 .exit)) (now (scratch2 .exit)) (now (offsets2 .exit)) (now (distances2 .exit))) ⌝ }
 {
     let one = audit(series, head1, rows1, left1, right1);
     let two = audit(series, head2, rows2, left2, right2);

@@ -1,14 +1,11 @@
--- An envelope as it stands in a list, and the two envelopes of a curve, which are in the limits of values where the curve is. Assumes nothing.
+-- An envelope as it stands in a list, and the two envelopes of a curve, which are in the limits of values where the curve is.
 use mathlib.Core.Path.{_≡_}
 use mathlib.Core.List.{List}
 use Prim.Native.Nat.{ℕ, _<_}
-use native.Mathlib.Omega.{arith}
 use lib.IntN.{ℤ}
 use lib.ListN.{length}
 use Rattle.meaning_curves.specs.Curve.{at}
-use Rattle.meaning_curves.proofs.Values.{AllIn, all-in}
 use Rattle.meaning_filter.specs.Envelope.{lower, upper}
-use Rattle.meaning_filter.proofs.Envelope.{lower-one, upper-one}
 
 pub record IsEnvelope (f : ℕ → ℤ) (m : ℕ) (out : List ℤ) : Type 0 where
   pub long : length out ≡ m
@@ -18,11 +15,3 @@ pub record IsEnvelope (f : ℕ → ℤ) (m : ℕ) (out : List ℤ) : Type 0 wher
 pub record Envelopes (curve : List ℤ) (m b : ℕ) (low high : List ℤ) : Type 0 where
   pub below : IsEnvelope (lower (at curve) m b) m low
   pub above : IsEnvelope (upper (at curve) m b) m high
-
-pub low-in : {curve low high : List ℤ} {m b : ℕ} → AllIn curve → Envelopes curve m b low high → AllIn low
-low-in {curve} {low} {m = m} {b} h e =
-    all-in low (λ k l. let i : k < m = omega (arith, e .below .long) in let o = lower-one (at curve) m b k i in rw (e .below .at k i, o .3) (h .at (o .0)))
-
-pub high-in : {curve low high : List ℤ} {m b : ℕ} → AllIn curve → Envelopes curve m b low high → AllIn high
-high-in {curve} {high = high} {m} {b} h e =
-    all-in high (λ k l. let i : k < m = omega (arith, e .above .long) in let o = upper-one (at curve) m b k i in rw (e .above .at k i, o .3) (h .at (o .0)))

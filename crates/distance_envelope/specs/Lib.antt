@@ -1,4 +1,4 @@
--- An envelope as it stands in a list, and how it is made.
+-- What the contracts of distance_envelope cite.
 pub mod Envelope
 pub mod Best
 pub mod Pass

@@ -1,18 +1,12 @@
--- What the passes over a list do: each value becomes the pick of itself and the one d places ahead, or back, where there is one (`PassAhead`, `PassBack`). After passes that add up to n each value is the best of the n places ahead, or back, and itself (`Ahead`, `Back`). Assumes nothing.
-use borrow.Author.Count.{below-more}
-use mathlib.Core.Path.{_≡_, _∙_, refl}
+-- What the passes over a list do: each value becomes the pick of itself and the one d places ahead, or back, where there is one (`PassAhead`, `PassBack`). After passes that add up to n each value is the best of the n places ahead, or back, and itself (`Ahead`, `Back`).
+use mathlib.Core.Path.{_≡_}
 use mathlib.Core.Bool.{Bool}
 use mathlib.Core.List.{List}
-use Prim.Native.Nat.{ℕ, suc, _+_, _-_, _<_, _≤_, min}
-use native.Mathlib.Omega.{arith}
-use native.Mathlib.Decide.{decLe}
-use lib.IntN.{ℤ, pos}
-use lib.ListN.{length, set, length-set}
-use lib.Seq.{getD-set-same, getD-set-other}
+use Prim.Native.Nat.{ℕ, _+_, _-_, _<_, _≤_, min}
+use lib.IntN.{ℤ}
+use lib.ListN.{length}
 use Rattle.meaning_curves.specs.Curve.{at}
-use Rattle.values.specs.Copy.{Copied}
-use Rattle.distance_envelope.specs.Best.{pick, edge, Best, best-one, best-same, best-of, ahead-more, ahead-kept, back-more, back-kept, best-through, best-edge}
-use Rattle.distance_envelope.specs.Envelope.{IsEnvelope}
+use Rattle.distance_envelope.specs.Best.{pick, Best}
 
 -- ---- one pass
 
@@ -35,83 +29,3 @@ pub record Ahead (t : Bool) (n : ℕ) (old new : List ℤ) : Type 0 where
 pub record Back (t : Bool) (n : ℕ) (old new : List ℤ) : Type 0 where
   pub long : length new ≡ length old
   pub best : (i : ℕ) → i < length old → Best t (at old) (i - n) i (at new i)
-
-pub ahead-none : (t : Bool) (l : List ℤ) → Ahead t 0 l l
-ahead-none t l = record { long = refl; best = λ i h. best-one t (at l) refl (omega arith) }
-
-pub back-none : (t : Bool) (l : List ℤ) → Back t 0 l l
-back-none t l = record { long = refl; best = λ i h. best-one t (at l) (omega arith) refl }
-
-pub ahead-pass : {t : Bool} {n d : ℕ} {old mid new : List ℤ} → Ahead t n old mid → PassAhead t d mid new → d ≤ n + 1 → Ahead t (n + d) old new
-ahead-pass {t} {n} {d} {old} {mid} a p far = record {
-  long = p .long ∙ a .long;
-  best = λ i h. elim (decLe (suc (i + d)) (length old)) [
-    | yes k ↦ best-same (p .moved i (omega (arith, a .long))) (ahead-more (length old) n d far (a .best) i k)
-    | no f ↦ best-same (p .kept i (omega (arith, a .long))) (ahead-kept (length old) n d far (a .best) i h (omega arith))
-  ];
-}
-
-pub back-pass : {t : Bool} {n d : ℕ} {old mid new : List ℤ} → Back t n old mid → PassBack t d mid new → d ≤ n + 1 → Back t (n + d) old new
-back-pass {t} {n} {d} {old} {mid} a p far = record {
-  long = p .long ∙ a .long;
-  best = λ i h. elim (decLe d i) [
-    | yes k ↦ best-same (p .moved i (omega (arith, a .long)) k) (back-more (length old) n d far (a .best) i h k)
-    | no f ↦ best-same (p .kept i (omega (arith, a .long)) (omega arith)) (back-kept (length old) n d far (a .best) i h (omega arith))
-  ];
-}
-
--- ---- a copy, then ahead, then back
-
-pub passes-edge : {t : Bool} {b : ℕ} {q copy mid new : List ℤ} → Copied q copy → Ahead t b copy mid → Back t b mid new → IsEnvelope (edge t (at q) (length q) b) (length q) new
-passes-edge {t} {b} {q} {copy} {mid} c a k = record {
-  long = k .long ∙ a .long ∙ c .long;
-  at = λ i h.
-      best-edge t (at q) (length q) b i h
-      (best-through (length q) b i (λ j l. best-of (c .at) (rw (c .long) at (a .best j (omega (arith, c .long)))) (omega arith)) h (k .best i (omega (arith, a .long, c .long))));
-}
-
--- ---- a pass that is half made
-
-pub record AheadTo (t : Bool) (d i : ℕ) (old now : List ℤ) : Type 0 where
-  pub long : length now ≡ length old
-  pub done : (k : ℕ) → k < i → at now k ≡ pick t (at old k) (at old (k + d))
-  pub rest : (k : ℕ) → i ≤ k → at now k ≡ at old k
-
-pub ahead-start : (t : Bool) (d : ℕ) (l : List ℤ) → AheadTo t d 0 l l
-ahead-start t d l = record { long = refl; done = λ k h. absurd (omega arith); rest = λ k h. refl }
-
-pub ahead-next : {t : Bool} {d i : ℕ} {old now : List ℤ} (v : ℤ) → AheadTo t d i old now → i < length now → v ≡ pick t (at now i) (at now (i + d)) → AheadTo t d (i + 1) old (set now i v)
-ahead-next {t} {d} {i} {old} {now} v h room e = record {
-  long = length-set now i v ∙ h .long;
-  done = below-more _ i (λ k l. getD-set-other now i k v (pos 0) (λ s. omega arith) ∙ h .done k l)
-      (getD-set-same now i v (pos 0) room ∙ e ∙ rw (h .rest i (omega arith), h .rest (i + d) (omega arith)) refl);
-  rest = λ k l. getD-set-other now i k v (pos 0) (λ s. omega arith) ∙ h .rest k (omega arith);
-}
-
-pub ahead-end : {t : Bool} {d i : ℕ} {old now : List ℤ} → AheadTo t d i old now → i ≡ length old - d → PassAhead t d old now
-ahead-end h e = record { long = h .long; moved = λ k l. h .done k (omega arith); kept = λ k l. h .rest k (omega arith) }
-
-pub record BackTo (t : Bool) (d i : ℕ) (old now : List ℤ) : Type 0 where
-  pub long : length now ≡ length old
-  pub done : (k : ℕ) → i ≤ k → k < length old → at now k ≡ pick t (at old (k - d)) (at old k)
-  pub rest : (k : ℕ) → k < i → at now k ≡ at old k
-
-pub back-start : (t : Bool) (d : ℕ) (l : List ℤ) → BackTo t d (length l) l l
-back-start t d l = record { long = refl; done = λ k h u. absurd (omega arith); rest = λ k h. refl }
-
-pub back-next : {t : Bool} {d i : ℕ} {old now : List ℤ} (v : ℤ) → BackTo t d i old now → 0 < i → i ≤ length now → v ≡ pick t (at now (i - 1 - d)) (at now (i - 1)) → BackTo t d (i - 1) old (set now (i - 1) v)
-back-next {t} {d} {i} {old} {now} v h some room e = record {
-  long = length-set now (i - 1) v ∙ h .long;
-  done = λ k l u. elim (decLe i k) [
-    | yes g ↦ getD-set-other now (i - 1) k v (pos 0) (λ s. omega arith) ∙ h .done k g u
-    | no f ↦ let s : k ≡ i - 1 = omega arith in rw s (getD-set-same now (i - 1) v (pos 0) (omega arith) ∙ e ∙ rw (h .rest (i - 1) (omega arith), h .rest (i - 1 - d) (omega arith)) refl)
-  ];
-  rest = λ k l. getD-set-other now (i - 1) k v (pos 0) (λ s. omega arith) ∙ h .rest k (omega arith);
-}
-
-pub back-end : {t : Bool} {d i : ℕ} {old now : List ℤ} → BackTo t d i old now → i ≡ min d (length old) → PassBack t d old now
-back-end {t} {d} {i} {old} h e = record {
-  long = h .long;
-  moved = λ k l u. h .done k (omega arith) l;
-  kept = λ k l u. h .rest k (omega arith);
-}

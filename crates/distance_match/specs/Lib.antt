@@ -1,4 +1,3 @@
--- What a match test answers, and the tests that ask for no value.
+-- What the contracts of distance_match cite.
 pub mod Matched
 pub mod Alike
-pub mod Shift

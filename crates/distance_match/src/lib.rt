@@ -1,8 +1,8 @@
 // Whether a stretch matches a query: cheap tests first, then the envelope bound, then the distance.
-use distance_compare::Match;
-use distance_compare::compare;
-use distance_compare::compare_normal;
 use distance_query::Query;
+use distance_within::Match;
+use distance_within::compare;
+use distance_within::compare_normal;
 use meaning_filter::Kind;
 use meaning_filter::Limits;
 use numbers::difference;

@@ -1,3 +1,3 @@
--- A normalised value by one multiplication and one test, and the normalised values of a stretch.
+-- What the contracts of distance_normal cite.
 pub mod Normal
 pub mod Stretch

@@ -1,2 +1,2 @@
--- What is made of a query once.
+-- What the contracts of distance_query cite.
 pub mod Ready

@@ -1,1 +1,1 @@
--- The contracts cite the meanings.
+-- What the contracts of distance_straight cite.

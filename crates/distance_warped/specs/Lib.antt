@@ -1,3 +1,2 @@
--- The row of the table that code keeps, and the envelope bound beside it.
+-- What the contracts of distance_warped cite.
 pub mod Rows
-pub mod Rest

@@ -1,4 +1,4 @@
--- The table of the warped distance by rows, as code keeps one: cell j stands at place j + 1, and `big` at place 0 and wherever the band has no cell. With that, each cell is made from three numbers by one rule, at the band's edge too (`next-cell`, `first-cell`). Assumes nothing.
+-- The table of the warped distance by rows, as code keeps one: cell j stands at place j + 1, and `big` at place 0 and wherever the band has no cell. With that, each cell is made from three numbers by one rule, at the band's edge too (`next-cell`, `first-cell`).
 use mathlib.Core.Path.{_≡_, refl, sym, _∙_}
 use mathlib.Core.List.{List}
 use mathlib.Core.Option.{Option}
@@ -11,7 +11,7 @@ use lib.ListN.{length, getD, set}
 use lib.Seq.{getD-set-same, getD-set-other}
 use lib.IntN.{ℤ}
 use Rattle.meaning_curves.specs.Straight.{cost}
-use Rattle.meaning_curves.specs.Warp.{Near, WarpPath, start, first, second}
+use Rattle.meaning_curves.specs.Warp.{Near, WarpPath, first, second}
 use Rattle.meaning_curves.specs.Table.{warped}
 use Rattle.meaning_curves.proofs.Table.{All, missing, there, Under, under, attained, least-total}
 use Rattle.meaning_curves.proofs.Grid.{grid, coded, path-near, path-small, grid-start, grid-out, grid-top, grid-side, grid-inner, grid-distance}
@@ -45,15 +45,6 @@ pub record LeastOf (f : ℕ → ℕ) (b i m r : ℕ) : Type 0 where
 pub record Halfway (f g : ℕ → ℕ) (j m : ℕ) (row : List ℕ) : Type 0 where
   pub done : (k : ℕ) → k ≤ j → getD row k 0 ≡ before big g k
   pub rest : (k : ℕ) → j < k → k ≤ m → getD row k 0 ≡ before big f k
-
-pub halfway-more : {f g : ℕ → ℕ} {j m : ℕ} {row : List ℕ} (v : ℕ) → Halfway f g j m row → j + 1 < length row → v ≡ g j → Halfway f g (j + 1) m (set row (j + 1) v)
-halfway-more {f} {g} {j} {m} {row} v h long e = record {
-  done = λ k l. elim (decLe k j) [
-    | yes u ↦ getD-set-other row (j + 1) k v 0 (λ e. omega arith) ∙ h .done k u
-    | no n ↦ let same : k ≡ j + 1 = omega arith in rw same (getD-set-same row (j + 1) v 0 long ∙ e ∙ sym (before-more big g j))
-  ];
-  rest = λ k l u. getD-set-other row (j + 1) k v 0 (λ e. omega arith) ∙ h .rest k (omega arith) u;
-}
 
 before-big : (k : ℕ) → before big (λ _. big) k ≡ big
 unfolding before

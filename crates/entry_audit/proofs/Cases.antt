@@ -1,4 +1,4 @@
--- What the audit answers, by its plan: where the plan's refusal is that of a call, the answer is that call's (`stopped`, `went-wrong`, `went-right`), and where nothing refuses its lines say what they test. Assumes nothing.
+-- What the audit answers, by its plan: where the plan's refusal is that of a call, the answer is that call's (`stopped`, `went-wrong`, `went-right`), and where nothing refuses its lines say what they test.
 use mathlib.Core.Path.{_≡_, refl, sym, ap, _∙_}
 use mathlib.Core.Bool.{true, false}
 use mathlib.Core.Option.{none, some}
@@ -14,16 +14,16 @@ use Rattle.meaning_rows.proofs.Judge.{WellFormed}
 use Rattle.meaning_entries.specs.declared.Audited.{Audited}
 use Rattle.meaning_entries.specs.Refusal.{firstRefusal}
 use Rattle.meaning_entries.specs.Audit.{AuditCall, auditTable, complete, audited, auditAnswer}
-use Rattle.meaning_entries.proofs.Refusal.{Passed, passed-is, openLines, passed-line, lacks}
+use Rattle.meaning_entries.proofs.Refusal.{AllPass, passed-is, openLines, passed-line, lacks}
 use Rattle.meaning_entries.proofs.Lines.{values-line, formed-line, fewer-line, more-line}
 use Rattle.meaning_entries.proofs.Passes.{same-windows}
 use Rattle.refusals.specs.Refusal.{refusalOf, passes, refuses}
-use Rattle.entry_audit.specs.declared.Plan.{Plan}
-use Rattle.entry_audit.specs.declared.State.{State}
-use Rattle.entry_audit.specs.State.{found}
+use Rattle.entry_audit.specs.declared.AuditPlan.{AuditPlan}
+use Rattle.entry_audit.specs.declared.RowsAudited.{RowsAudited}
+use Rattle.entry_audit.specs.Auditing.{found}
 use Rattle.entry_audit.specs.Plan.{answerOf}
 
-module _ (p : Plan) (s : State) where
+module _ (p : AuditPlan) (s : RowsAudited) where
   pub answer-refused : (p .refusal .number ≡ 0 → ⊥) → Audited.Refused (p .refusal .number) (p .refusal .place) ≡ answerOf p s
   unfolding answerOf
   answer-refused f = rw (ne-eqb (p .refusal .number) 0 f) refl
@@ -46,8 +46,8 @@ some-lacking zero f = absurd (f refl)
 some-lacking (suc n) f = refl
 
 -- a plan whose refusal is that of a call
-module _ (c : AuditCall) (p : Plan) (is : p .refusal ≡ refusalOf (auditTable mostValues c)) where
-  pub stopped : (s : State) → (p .refusal .number ≡ 0 → ⊥) → answerOf p s ≡ auditAnswer c
+module _ (c : AuditCall) (p : AuditPlan) (is : p .refusal ≡ refusalOf (auditTable mostValues c)) where
+  pub stopped : (s : RowsAudited) → (p .refusal .number ≡ 0 → ⊥) → answerOf p s ≡ auditAnswer c
   unfolding auditAnswer
   stopped s f = sym (answer-refused p s f) ∙ rw (auditAnswer, refuses (auditTable mostValues c) is f) refl
 
@@ -57,7 +57,7 @@ module _ (c : AuditCall) (p : Plan) (is : p .refusal ≡ refusalOf (auditTable m
 
   -- that refuses nothing
   module _ (z : p .refusal .number ≡ 0) where
-    t : Passed (auditTable mostValues c)
+    t : AllPass (auditTable mostValues c)
     t = passes (auditTable mostValues c) never-0 is z
 
     unrefused : firstRefusal (auditTable mostValues c) ≡ none
@@ -79,6 +79,6 @@ module _ (c : AuditCall) (p : Plan) (is : p .refusal ≡ refusalOf (auditTable m
     unfolding auditAnswer audited found
     went-wrong k j e = sym (answer-wrong p (found (some (k, j))) z refl) ∙ rw (auditAnswer, unrefused) (rw (audited, e) refl)
 
-    pub went-right : (s : State) → s .go ≡ true → firstWrong (c .index) (c .series) ≡ none → p .lacking ≡ missing (c .index) → answerOf p s ≡ auditAnswer c
+    pub went-right : (s : RowsAudited) → s .go ≡ true → firstWrong (c .index) (c .series) ≡ none → p .lacking ≡ missing (c .index) → answerOf p s ≡ auditAnswer c
     unfolding auditAnswer audited
     went-right s g e m = sym (answer-complete p s z g) ∙ ap complete m ∙ rw (auditAnswer, unrefused) (rw (audited, e) refl)

@@ -1,4 +1,4 @@
--- The rows of an index, chunk by chunk: what is filed wrongly first from a place on is that of the chunk, or else of what comes after (`chunk-then`). Every row of a well-formed index can be read (`good-reads`), and so can what a chunk holds (`chunk-reads`). Assumes nothing.
+-- The rows of an index, chunk by chunk: what is filed wrongly first from a place on is that of the chunk, or else of what comes after (`chunk-then`). Every row of a well-formed index can be read (`good-reads`), and so can what a chunk holds (`chunk-reads`).
 use mathlib.Core.Path.{_≡_, refl, sym, ap, subst, _∙_}
 use mathlib.Core.Bool.{true, _&&_}
 use mathlib.Core.List.{List, [], _∷_}
@@ -24,7 +24,7 @@ use Rattle.rows_records.proofs.Walk.{drop-next}
 use Rattle.rows_records.proofs.Chunk.{chunk-at, chunk-length}
 use Rattle.meaning_rows.proofs.Grown.{length-entries}
 use Rattle.rows_judge.proofs.Scan.{part, part-next}
-use Rattle.entry_audit.specs.State.{Reads, onlyRuns, wrongOf}
+use Rattle.entry_audit.specs.Auditing.{Reads, onlyRuns, wrongOf}
 
 -- ---- a chunk, and what comes after
 

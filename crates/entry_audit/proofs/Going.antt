@@ -1,13 +1,13 @@
--- The loop over the chunks of an audit. `Auditing` is its invariant: where the audit goes on, nothing refuses and what is filed wrongly first from here on is what is filed wrongly first; where it does not, the answer is had. How it starts, moves, stops and ends. Assumes nothing.
+-- The loop over the chunks of an audit. `Auditing` is its invariant: where the audit goes on, nothing refuses and what is filed wrongly first from here on is what is filed wrongly first; where it does not, the answer is had. How it starts, moves, stops and ends.
 use mathlib.Core.Path.{_≡_, refl, sym, ap, subst, _∙_}
-use mathlib.Core.Bool.{true, false}
+use mathlib.Core.Bool.{true, false, not}
 use mathlib.Core.List.{List}
 use mathlib.Core.Option.{Option, none, some}
-use Prim.Native.Nat.{ℕ, _+_, _-_, _<_, _≤_, _^_}
+use Prim.Native.Nat.{ℕ, _+_, _-_, _<_, _≤_, _*_, _^_}
 use native.Mathlib.Omega.{arith}
 use lib.IntN.{ℤ}
 use lib.ListN.{length, drop, drop-of-length-le}
-use borrow.Author.Tests.{eqb-true, eqb-false}
+use borrow.Author.Tests.{eqb-true, eqb-false, not-true, not-false}
 use Rattle.meaning_numbers.proofs.Tests.{by-test, clash}
 use Rattle.meaning_curves.specs.Limits.{mostValues}
 use Rattle.meaning_rows.specs.declared.Row.{Row}
@@ -19,14 +19,17 @@ use Rattle.meaning_rows.proofs.Judge.{WellFormed, none-bad}
 use Rattle.meaning_rows.proofs.Audit.{missing-are}
 use Rattle.meaning_entries.specs.Refusal.{Condition, fewerWindows, moreWindows}
 use Rattle.meaning_entries.specs.Audit.{AuditCall, lentAudit, auditTable, auditAnswer}
+use Rattle.meaning_entries.specs.declared.Audited.{Audited}
+use Rattle.meaning_entries.specs.Demand2.{AuditKept}
+use Rattle.meaning_entries.proofs.Demand2.{audit-kept}
 use Rattle.rows_records.specs.Records.{chunkOf}
 use Rattle.rows_records.proofs.Chunk.{chunk-length}
 use Rattle.refusals.specs.Refusal.{refusalOf, judged-line}
 use Rattle.rows_judge.specs.Judged.{outcome, judgedOf, bad-row}
 use Rattle.rows_judge.proofs.Outcome.{judged-by}
-use Rattle.entry_audit.specs.declared.Plan.{Plan}
-use Rattle.entry_audit.specs.declared.State.{State}
-use Rattle.entry_audit.specs.State.{found, Ready, wrongOf, chunked}
+use Rattle.entry_audit.specs.declared.AuditPlan.{AuditPlan}
+use Rattle.entry_audit.specs.declared.RowsAudited.{RowsAudited}
+use Rattle.entry_audit.specs.Auditing.{found, Ready, wrongOf, chunked}
 use Rattle.entry_audit.specs.Plan.{tableOf, leftOver, planOf, began, answerOf}
 use Rattle.entry_audit.proofs.Cases.{stopped, values-in, formed, fits, went-wrong, went-right}
 use Rattle.entry_audit.proofs.Chunks.{orElse, chunk-then, same-wrong, chunk-reads}
@@ -41,7 +44,7 @@ module _ (series : List ℤ) (h : Head) (rows : List Row) (left right : List ℕ
   abbrev table : List Condition
   table = auditTable mostValues call
 
-  abbrev pub thePlan : Plan
+  abbrev pub thePlan : AuditPlan
   thePlan = planOf series h (judgedOf X)
 
   plan-is : thePlan .refusal ≡ refusalOf (auditTable mostValues call)
@@ -54,18 +57,18 @@ module _ (series : List ℤ) (h : Head) (rows : List Row) (left right : List ℕ
     free : thePlan .refusal .number ≡ 0
     left-over : wrongOf series (h .window) left right from (drop from rows) ≡ firstWrong X series
 
-  pub record Auditing (s : State) (from : ℕ) : Type 0 where
+  pub record Auditing (s : RowsAudited) (from : ℕ) : Type 0 where
     on : s .go ≡ true → Going from
     off : s .go ≡ false → answerOf thePlan s ≡ auditAnswer call
 
-  pub auditing-starts : Auditing (began thePlan) 0
-  auditing-starts = record {
+  starts-at : Auditing (began thePlan) 0
+  starts-at = record {
     on = λ t. record { free = eqb-true (thePlan .refusal .number) 0 t; left-over = same-wrong series h rows left right };
     off = λ f. stopped call thePlan plan-is (began thePlan) (eqb-false (thePlan .refusal .number) 0 f);
   }
 
-  pub auditing-ready : (s : State) (from : ℕ) → from + 64 < 2 ^ 64 → Auditing s from → s .go ≡ true → Ready series h left right (chunkOf rows from) from
-  auditing-ready s from l a t =
+  ready-at : (s : RowsAudited) (from : ℕ) → from + 64 < 2 ^ 64 → Auditing s from → s .go ≡ true → Ready series h left right (chunkOf rows from) from
+  ready-at s from l a t =
       let z = a .on t .free in
       let f = formed call thePlan plan-is z in
       let w = f .head .window in
@@ -79,14 +82,14 @@ module _ (series : List ℤ) (h : Head) (rows : List Row) (left right : List ℕ
       }
 
   -- the state after the chunk that begins at a place
-  abbrev pub afterChunk : State → ℕ → State
+  abbrev afterChunk : RowsAudited → ℕ → RowsAudited
   afterChunk s from = chunked series h left right s from (chunkOf rows from)
 
-  chunk-on : (s : State) (from : ℕ) → s .go ≡ true → afterChunk s from ≡ found (wrongOf series (h .window) left right from (chunkOf rows from))
+  chunk-on : (s : RowsAudited) (from : ℕ) → s .go ≡ true → afterChunk s from ≡ found (wrongOf series (h .window) left right from (chunkOf rows from))
   unfolding chunked
   chunk-on s from e = rw e refl
 
-  chunk-off : (s : State) (from : ℕ) → s .go ≡ false → afterChunk s from ≡ s
+  chunk-off : (s : RowsAudited) (from : ℕ) → s .go ≡ false → afterChunk s from ≡ s
   unfolding chunked
   chunk-off s from e = rw e refl
 
@@ -114,10 +117,10 @@ module _ (series : List ℤ) (h : Head) (rows : List Row) (left right : List ℕ
   abbrev left-wrong : ℕ → Option (ℕ × ℕ)
   left-wrong from = wrongOf series (h .window) left right from (drop from rows)
 
-  pub auditing-next : (s : State) (from : ℕ) → afterChunk s from .go ≡ true → Auditing s from → Auditing (afterChunk s from) (from + 64)
-  auditing-next s from t a = by-test (s .go)
+  next-at : (s : RowsAudited) (from : ℕ) → afterChunk s from .go ≡ true → Auditing s from → Auditing (afterChunk s from) (from + 64)
+  next-at s from t a = by-test (s .go)
       (λ e.
-      let n = found-go (here-wrong from) (sym (ap (λ (u : State). u .go) (chunk-on s from e)) ∙ t) in
+      let n = found-go (here-wrong from) (sym (ap (λ (u : RowsAudited). u .go) (chunk-on s from e)) ∙ t) in
       let g = a .on e in
       record {
         on = λ u. record {
@@ -126,13 +129,13 @@ module _ (series : List ℤ) (h : Head) (rows : List Row) (left right : List ℕ
         };
         off = λ f. clash t f;
       })
-      (λ f. clash t (ap (λ (u : State). u .go) (chunk-off s from f) ∙ f))
+      (λ f. clash t (ap (λ (u : RowsAudited). u .go) (chunk-off s from f) ∙ f))
 
-  pub auditing-stops : (s : State) (from : ℕ) → afterChunk s from .go ≡ false → Auditing s from → answerOf thePlan (afterChunk s from) ≡ auditAnswer call
-  auditing-stops s from t a = by-test (s .go)
+  stops-at : (s : RowsAudited) (from : ℕ) → afterChunk s from .go ≡ false → Auditing s from → answerOf thePlan (afterChunk s from) ≡ auditAnswer call
+  stops-at s from t a = by-test (s .go)
       (λ e.
       let g = a .on e in
-      let w = found-off (here-wrong from) (sym (ap (λ (u : State). u .go) (chunk-on s from e)) ∙ t) in
+      let w = found-off (here-wrong from) (sym (ap (λ (u : RowsAudited). u .go) (chunk-on s from e)) ∙ t) in
       let first = sym (some-then (here-wrong from) (left-wrong (from + 64)) (firstWrong X series) (w .0, w .1) (chunk-then series (h .window) left right rows from ∙ g .left-over) (w .2)) in
       ap (answerOf thePlan) (chunk-on s from e ∙ ap found (w .2)) ∙ went-wrong call thePlan plan-is (g .free) (w .0) (w .1) first)
       (λ f. ap (answerOf thePlan) (chunk-off s from f) ∙ a .off f)
@@ -145,11 +148,40 @@ module _ (series : List ℤ) (h : Head) (rows : List Row) (left right : List ℕ
   unfolding wrongFrom
   none-after from l = rw (drop-of-length-le rows l) refl
 
-  pub auditing-ends : (s : State) (from : ℕ) → length rows ≤ from → Auditing s from → answerOf thePlan s ≡ auditAnswer call
-  auditing-ends s from l a = by-test (s .go)
+  pub auditing-ends : {s : RowsAudited} {from : ℕ} → Auditing s from → length rows ≤ from → answerOf thePlan s ≡ auditAnswer call
+  auditing-ends {s} {from} a l = by-test (s .go)
       (λ e.
       let g = a .on e in
       let r : firstWrong X series ≡ none = sym (g .left-over) ∙ none-after from l in
       let f = formed call thePlan plan-is (g .free) in
       went-right call thePlan plan-is (g .free) s e r (lacking-is f ∙ omega (arith, missing-are X series f r)))
       (λ f. a .off f)
+
+  -- ---- as the code has it
+
+  pub auditing-starts : {p : AuditPlan} {s : RowsAudited} → p ≡ thePlan → s ≡ began p → Auditing s 0
+  auditing-starts is-p is-s = rw (is-s, is-p) starts-at
+
+  pub answers : {p : AuditPlan} (s : RowsAudited) {a : Audited} → p ≡ thePlan → a ≡ answerOf p s → answerOf thePlan s ≡ auditAnswer call → AuditKept call a
+  answers {p} s {a} is-p is-a e = audit-kept call a (is-a ∙ ap (λ (p : AuditPlan). answerOf p s) is-p ∙ e)
+
+  pub chunk-fits : (from : ℕ) → from < length rows → length rows * 16 < 2 ^ 63 → from + 64 < 2 ^ 64
+  chunk-fits from less room = omega (arith, less, room)
+
+  -- the next chunk begins at most 64 records past the end
+  pub chunk-nearer : (from : ℕ) → from < length rows → length rows + 64 - (from + 64) < length rows + 64 - from
+  chunk-nearer from less = omega (arith, less)
+
+  module _ {s : RowsAudited} {from : ℕ} {c : List Row} (a : Auditing s from) (is-c : c ≡ chunkOf rows from) where
+    pub auditing-ready : from + 64 < 2 ^ 64 → s .go ≡ true → Ready series h left right c from
+    auditing-ready = rw is-c (λ far t. ready-at s from far a t)
+
+    module _ {t : RowsAudited} (is-t : t ≡ chunked series h left right s from c) where
+      is-after : t ≡ afterChunk s from
+      is-after = is-t ∙ ap (chunked series h left right s from) is-c
+
+      pub auditing-next : not (t .go) ≡ false → Auditing t (from + 64)
+      auditing-next e = rw is-after (next-at s from (ap (λ (u : RowsAudited). u .go) (sym is-after) ∙ not-false (t .go) e) a)
+
+      pub auditing-stops : not (t .go) ≡ true → answerOf thePlan t ≡ auditAnswer call
+      auditing-stops e = ap (answerOf thePlan) is-after ∙ stops-at s from (ap (λ (u : RowsAudited). u .go) (sym is-after) ∙ not-true (t .go) e) a

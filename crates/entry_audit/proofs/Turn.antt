@@ -1,5 +1,5 @@
 -- The turns of the loops over a chunk's rows, their runs and the offsets of a run: what is filed wrongly first among what is left. A row begins (`row-begins`) and ends (`row-ends`), a run begins (`run-begins`) and ends (`run-ends`),
--- an offset is filed right (`filed-right`) or wrongly (`filed-wrong`), and where no row is left none is (`none-left`). Assumes nothing.
+-- an offset is filed right (`filed-right`) or wrongly (`filed-wrong`), and where no row is left none is (`none-left`).
 use mathlib.Core.Path.{_≡_, refl, sym, ap, _∙_}
 use mathlib.Core.Bool.{Bool, true, false, cond}
 use mathlib.Core.List.{List, [], _∷_, _++_}
@@ -17,8 +17,8 @@ use Rattle.meaning_rows.specs.Audit.{offsets, wrongIn, wrongFrom}
 use Rattle.rows_records.specs.Records.{zeroRow}
 use Rattle.rows_records.proofs.Walk.{drop-next}
 use Rattle.rows_judge.proofs.Scan.{part, part-next, part-none}
-use Rattle.entry_audit.specs.declared.State.{State}
-use Rattle.entry_audit.specs.State.{found, wrongOf, chunked}
+use Rattle.entry_audit.specs.declared.RowsAudited.{RowsAudited}
+use Rattle.entry_audit.specs.Auditing.{found, wrongOf, chunked}
 
 -- nothing is filed wrongly so far
 pub record Still (go : Bool) (row offset : ℕ) : Type 0 where
@@ -88,7 +88,7 @@ module _ (series : List ℤ) (w : ℕ) (left right : List ℕ) where
 
 -- ---- the state after a chunk
 
-module _ (series : List ℤ) (h : Head) (left right : List ℕ) (s : State) (from : ℕ) (chunk : List Row) where
+module _ (series : List ℤ) (h : Head) (left right : List ℕ) (s : RowsAudited) (from : ℕ) (chunk : List Row) where
   pub chunk-off : s .go ≡ false → s ≡ chunked series h left right s from chunk
   unfolding chunked
   chunk-off e = sym (ap (λ (t : Bool). cond t (found (wrongOf series (h .window) left right from chunk)) s) e)

@@ -1,3 +1,3 @@
--- What the contracts of the audit cite.
-pub mod State
+-- What the contracts of entry_audit cite.
+pub mod Auditing
 pub mod Plan

@@ -1,4 +1,4 @@
--- What the audit knows before it looks at the rows: what refuses it, and how many windows the runs leave; how it begins, and what it answers where it ends. Assumes nothing.
+-- What the audit knows before it looks at the rows: what refuses it, and how many windows the runs leave; how it begins, and what it answers where it ends.
 use mathlib.Core.Bool.{cond}
 use mathlib.Core.List.{List, [], _∷_, _++_}
 use Prim.Native.Nat.{ℕ, _-_}
@@ -13,8 +13,8 @@ use Rattle.meaning_entries.specs.Refusal.{Condition, seriesLines, countLines}
 use Rattle.meaning_entries.specs.Audit.{complete}
 use Rattle.rows_judge.specs.declared.Judged.{Judged}
 use Rattle.refusals.specs.Refusal.{refusalOf, judgedLine}
-use Rattle.entry_audit.specs.declared.Plan.{Plan}
-use Rattle.entry_audit.specs.declared.State.{State}
+use Rattle.entry_audit.specs.declared.AuditPlan.{AuditPlan}
+use Rattle.entry_audit.specs.declared.RowsAudited.{RowsAudited}
 
 -- the refusals, over what code has: the index is told by its head and by what judging said of it
 unfoldable pub tableOf : List ℤ → Head → Judged → List Condition
@@ -25,12 +25,12 @@ abbrev pub leftOver : Head → Judged → ℕ
 leftOver h (Judged.Fine total) = h .windows - total
 leftOver h (Judged.Bad row) = 0
 
-unfoldable pub planOf : List ℤ → Head → Judged → Plan
+unfoldable pub planOf : List ℤ → Head → Judged → AuditPlan
 planOf s h j = record { refusal = refusalOf (tableOf s h j); lacking = leftOver h j }
 
 -- the audit goes on where nothing refuses
-abbrev pub began : Plan → State
+abbrev pub began : AuditPlan → RowsAudited
 began p = record { go = eqb (p .refusal .number) 0; row = 0; offset = 0 }
 
-unfoldable pub answerOf : Plan → State → Audited
+unfoldable pub answerOf : AuditPlan → RowsAudited → Audited
 answerOf p s = cond (eqb (p .refusal .number) 0) (cond (s .go) (complete (p .lacking)) (Audited.Wrong (s .row) (s .offset))) (Audited.Refused (p .refusal .number) (p .refusal .place))

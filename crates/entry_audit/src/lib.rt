@@ -9,7 +9,7 @@ ghost use lib.ListN.{length};
 ghost use Rattle.meaning_rows.specs.Range.{inside};
 ghost use Rattle.meaning_entries.specs.Audit.{lentAudit};
 ghost use Rattle.meaning_entries.specs.Demand2.{AuditKept};
-ghost use Rattle.entry_audit.specs.State.{Ready, chunked};
+ghost use Rattle.entry_audit.specs.Auditing.{Ready, chunked};
 ghost use Rattle.refusals.specs.Refusal.{refusalOf};
 ghost use Rattle.entry_audit.specs.Plan.{tableOf, leftOver, planOf, began, answerOf};
 use meaning_entries::Audited;
@@ -29,14 +29,14 @@ use rows_records::chunk_at;
 use values::window_sum;
 
 // What is known after some rows: that the audit goes on, or else the row and offset filed wrongly.
-pub struct State {
+pub struct RowsAudited {
     pub go: bool,
     pub row: usize,
     pub offset: usize,
 }
 
 // What is known before the rows are audited: what refuses, and how many windows the runs leave.
-pub struct Plan {
+pub struct AuditPlan {
     pub refusal: Refusal,
     pub lacking: usize,
 }
@@ -88,12 +88,12 @@ pub fn value_out(s: &[i32], rest: usize, j: usize, sum: i32) -> i32
 pub fn audit_chunk(
     chunk: [Row; 64],
     from: usize,
-    s: State,
+    s: RowsAudited,
     series: &[i32],
     head: Head,
     left: &[u32],
     right: &[u32],
-) -> State
+) -> RowsAudited
     requires { ⌜ (s .go ≡ true → Ready (now series) head (now left) (now right) chunk from) ⌝ }
     ensures { λ n. ⌜ n ≡ chunked (now (series .entry)) head (now (left .entry)) (now (right .entry)) s from chunk ⌝ }
 {
@@ -129,7 +129,7 @@ pub fn audit_chunk(
         }
         k += 1;
     }
-    State {
+    RowsAudited {
         go: go,
         row: row,
         offset: offset,
@@ -159,19 +159,19 @@ pub fn left_over(head: Head, j: Judged) -> usize
 }
 
 // The plan of an audit.
-pub fn make_plan(series: &[i32], head: Head, j: Judged) -> Plan
+pub fn make_plan(series: &[i32], head: Head, j: Judged) -> AuditPlan
     ensures { λ p. ⌜ p ≡ planOf (now (series .entry)) head j ⌝ }
 {
     let refusal = refuse_audit(series, head, j);
     let lacking = left_over(head, j);
-    Plan { refusal, lacking }
+    AuditPlan { refusal, lacking }
 }
 
 // The audit goes on where nothing refuses.
-pub fn begin(p: Plan) -> State
+pub fn begin(p: AuditPlan) -> RowsAudited
     ensures { λ s. ⌜ s ≡ began p ⌝ }
 {
-    State {
+    RowsAudited {
         go: p.refusal.number == 0,
         row: 0,
         offset: 0,
@@ -179,7 +179,7 @@ pub fn begin(p: Plan) -> State
 }
 
 // What is answered, where the audit of the rows ended in s.
-pub fn answer(p: Plan, s: State) -> Audited
+pub fn answer(p: AuditPlan, s: RowsAudited) -> Audited
     ensures { λ a. ⌜ a ≡ answerOf p s ⌝ }
 {
     if p.refusal.number != 0 {

@@ -1,3 +1,4 @@
 -- What the plan of the entry gives, and a call of the entry in a walk of a crate above.
 pub mod Stages
 pub mod BuildCall
+pub mod AnswerLaws

@@ -13,10 +13,11 @@ use Rattle.meaning_entries.specs.Buffers.{IndexBuffers, indexIn}
 use Rattle.meaning_entries.specs.Build.{lentBuild}
 use Rattle.meaning_entries.specs.Demand2.{BuildKept}
 use Rattle.build_passes.specs.Filled.{Holds}
-use Rattle.build_plan.specs.declared.Plan.{Plan}
-use Rattle.entry_build.specs.Answer.{refusedAs, PlannedFor, refused-kept, plan-window, plan-width}
+use Rattle.build_plan.specs.declared.BuildPlan.{BuildPlan}
+use Rattle.entry_build.specs.Answer.{refusedAs, PlannedFor}
+use Rattle.entry_build.proofs.AnswerLaws.{refused-kept, plan-window, plan-width}
 
-module _ (s : List ℤ) (w d g : ℕ) (b : IndexBuffers) (p : Plan) (h : PlannedFor s w d g b p) where
+module _ (s : List ℤ) (w d g : ℕ) (b : IndexBuffers) (p : BuildPlan) (h : PlannedFor s w d g b p) where
   pub halts : not (eqb (p .refusal .number) 0) ≡ true → {t : Built} → t ≡ refusedAs p → BuildKept (lentBuild s w d g) b t b
   halts f e = rw e (refused-kept s w d g b p h (eqb-false (p .refusal .number) 0 (not-true (eqb (p .refusal .number) 0) f)))
 

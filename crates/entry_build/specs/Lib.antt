@@ -1,2 +1,2 @@
--- What the contracts of build_index cite.
+-- What the contracts of entry_build cite.
 pub mod Answer

@@ -1,6 +1,6 @@
-// The entry that builds an index: refused, or the index in the lent buffers.
+// The entry that builds an index: refused, or the index in the lent indexBuffers.
 use build_passes::build_rows;
-use build_plan::Plan;
+use build_plan::BuildPlan;
 use build_plan::make_plan;
 use meaning_entries::Built;
 use meaning_rows::Head;
@@ -14,11 +14,11 @@ ghost use Rattle.meaning_curves.specs.Limits.{mostValues};
 ghost use Rattle.meaning_curves.specs.Curve.{windowCount};
 ghost use Rattle.meaning_entries.specs.Build.{lentBuild};
 ghost use Rattle.meaning_entries.specs.Demand2.{BuildKept};
-ghost use Rattle.build_passes.specs.Filled.{buffers};
+ghost use Rattle.meaning_entries.specs.Buffers.{indexBuffers};
 ghost use Rattle.entry_build.specs.Answer.{refusedAs, indexAs, PlannedFor};
 
 // The answer of a refused call.
-pub fn refuse(p: Plan) -> Built
+pub fn refuse(p: BuildPlan) -> Built
     ensures { λ b. ⌜ b ≡ refusedAs p ⌝ }
 {
     Built::Refused {
@@ -57,13 +57,13 @@ pub fn build_planned(
     w: u32,
     d: u32,
     g: u32,
-    p: Plan,
+    p: BuildPlan,
     rows: &mut [Row],
     left: &mut [u32],
     right: &mut [u32],
 ) -> Built
-    requires { ⌜ (PlannedFor (now series) w d g (buffers (now rows) (now left) (now right)) p) × (p .refusal .number ≡ 0) ⌝ }
-    ensures { λ b. ⌜ BuildKept (lentBuild (now (series .entry)) w d g) (buffers (now (rows .entry)) (now (left .entry)) (now (right .entry))) b (buffers (now (rows .exit)) (now (left .exit)) (now (right .exit))) ⌝ }
+    requires { ⌜ (PlannedFor (now series) w d g (indexBuffers (now rows) (now left) (now right)) p) × (p .refusal .number ≡ 0) ⌝ }
+    ensures { λ b. ⌜ BuildKept (lentBuild (now (series .entry)) w d g) (indexBuffers (now (rows .entry)) (now (left .entry)) (now (right .entry))) b (indexBuffers (now (rows .exit)) (now (left .exit)) (now (right .exit))) ⌝ }
 {
     let m = widened(g);
     let n = build_rows(
@@ -92,7 +92,7 @@ pub fn build(
     left: &mut [u32],
     right: &mut [u32],
 ) -> Built
-    ensures { λ b. ⌜ BuildKept (lentBuild (now (series .entry)) w d g) (buffers (now (rows .entry)) (now (left .entry)) (now (right .entry))) b (buffers (now (rows .exit)) (now (left .exit)) (now (right .exit))) ⌝ }
+    ensures { λ b. ⌜ BuildKept (lentBuild (now (series .entry)) w d g) (indexBuffers (now (rows .entry)) (now (left .entry)) (now (right .entry))) b (indexBuffers (now (rows .exit)) (now (left .exit)) (now (right .exit))) ⌝ }
 {
     let p = make_plan(series, w, d, g, rows.len(), left.len(), right.len());
     if p.refusal.number != 0 {

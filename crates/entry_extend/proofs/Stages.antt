@@ -23,7 +23,8 @@ use Rattle.extend_passes.specs.Finished.{HoldsExtended}
 use Rattle.extend_plan.specs.Plan.{planOf}
 use Rattle.extend_plan.proofs.Planned.{thePlan}
 use Rattle.entry_extend.specs.declared.Lift.{Lift}
-use Rattle.entry_extend.specs.Answer.{refusedAs, Lifts, refused-kept}
+use Rattle.entry_extend.specs.Answer.{refusedAs, Lifts}
+use Rattle.entry_extend.proofs.AnswerLaws.{refused-kept}
 
 module _ (s : List ℤ) (h : Head) (from : List Row) (lefts rights : List ℕ) (b : IndexBuffers) {j : Judged} {m : ℕ} {p : Refusal} (judged : j ≡ judgedOf (lent h from lefts rights)) (least : m ≡ min (length (b .left)) (length (b .right))) (planned : p ≡ planOf s h j (length (b .rows)) m) where
   plan-here : p ≡ thePlan s h from lefts rights b

@@ -1,2 +1,2 @@
--- What the contracts of the entry cite.
+-- What the contracts of entry_extend cite.
 pub mod Answer

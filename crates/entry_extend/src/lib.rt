@@ -1,4 +1,4 @@
-// The entry that extends an index: refused, or the extended index in the lent buffers.
+// The entry that extends an index: refused, or the extended index in the lent indexBuffers.
 use extend_passes::extend_passes;
 use extend_plan::make_plan;
 use meaning_entries::Extended;
@@ -6,9 +6,9 @@ use meaning_rows::Head;
 use meaning_rows::Row;
 use numbers::RAISE;
 use numbers::place_before;
+use numbers::shorter;
 use refusals::Refusal;
 use rows_judge::judge;
-use numbers::shorter;
 use rows_pack::raised_rows;
 use rows_records::row_at;
 ghost use mathlib.Core.Path.{_≡_};
@@ -18,7 +18,7 @@ ghost use Rattle.meaning_curves.specs.Limits.{mostValues, longestWindow, widest
 ghost use Rattle.meaning_curves.specs.Curve.{windowCount};
 ghost use Rattle.meaning_entries.specs.Extend.{lentExtend};
 ghost use Rattle.meaning_entries.specs.Demand2.{ExtendKept};
-ghost use Rattle.build_passes.specs.Filled.{buffers};
+ghost use Rattle.meaning_entries.specs.Buffers.{indexBuffers};
 ghost use Rattle.extend_plan.proofs.Planned.{thePlan};
 ghost use Rattle.entry_extend.specs.Answer.{refusedAs, indexAs, Lifts};
 
@@ -89,8 +89,8 @@ pub fn extend_planned(
     left: &mut [u32],
     right: &mut [u32],
 ) -> Extended
-    requires { ⌜ thePlan (now series) head (now from) (now lefts) (now rights) (buffers (now rows) (now left) (now right)) .number ≡ 0 ⌝ }
-    ensures { λ a. ⌜ ExtendKept (lentExtend (now (series .entry)) head (now (from .entry)) (now (lefts .entry)) (now (rights .entry))) (buffers (now (rows .entry)) (now (left .entry)) (now (right .entry))) a (buffers (now (rows .exit)) (now (left .exit)) (now (right .exit))) ⌝ }
+    requires { ⌜ thePlan (now series) head (now from) (now lefts) (now rights) (indexBuffers (now rows) (now left) (now right)) .number ≡ 0 ⌝ }
+    ensures { λ a. ⌜ ExtendKept (lentExtend (now (series .entry)) head (now (from .entry)) (now (lefts .entry)) (now (rights .entry))) (indexBuffers (now (rows .entry)) (now (left .entry)) (now (right .entry))) a (indexBuffers (now (rows .exit)) (now (left .exit)) (now (right .exit))) ⌝ }
 {
     let l = lift_of(head.window, head.width, head.windows);
     let n = extend_passes(
@@ -113,7 +113,7 @@ pub fn extend_planned(
     answer(series, head, n, r)
 }
 
-// The extension of a lent index over the whole of a longer series, into fresh buffers.
+// The extension of a lent index over the whole of a longer series, into fresh indexBuffers.
 pub fn extend(
     series: &[i32],
     head: Head,
@@ -124,7 +124,7 @@ pub fn extend(
     left: &mut [u32],
     right: &mut [u32],
 ) -> Extended
-    ensures { λ a. ⌜ ExtendKept (lentExtend (now (series .entry)) head (now (from .entry)) (now (lefts .entry)) (now (rights .entry))) (buffers (now (rows .entry)) (now (left .entry)) (now (right .entry))) a (buffers (now (rows .exit)) (now (left .exit)) (now (right .exit))) ⌝ }
+    ensures { λ a. ⌜ ExtendKept (lentExtend (now (series .entry)) head (now (from .entry)) (now (lefts .entry)) (now (rights .entry))) (indexBuffers (now (rows .entry)) (now (left .entry)) (now (right .entry))) a (indexBuffers (now (rows .exit)) (now (left .exit)) (now (right .exit))) ⌝ }
 {
     let j = judge(head, from, lefts, rights);
     let runs = shorter(left.len(), right.len());

@@ -1,4 +1,4 @@
--- The columns of the run buffer are a view of what has been said, so that a pass over a text leaves the text's own runs there (`text-columns`). Assumes nothing.
+-- The columns of the run buffer are a view of what has been said, so that a pass over a text leaves the text's own runs there (`text-columns`).
 use mathlib.Core.Path.{_≡_, refl, sym, ap, _∙_}
 use mathlib.Core.Bool.{Bool, true, false, cond}
 use mathlib.Core.List.{List, [], _∷_, _++_, map, append-assoc, append-nil}
@@ -12,21 +12,24 @@ use Rattle.meaning_text.specs.Form.{Value}
 use Rattle.meaning_text.specs.Read.{Verdict, fine, unfit, readText}
 use Rattle.meaning_text.specs.Texts.{indexForm, rowSaid, indexSaid}
 use Rattle.meaning_text.proofs.Automaton.{verdictOf, atEnd}
-use Rattle.text_put.specs.Put.{sets-append}
-use Rattle.text_index.specs.declared.Place.{Place}
+use Rattle.text_put.proofs.Put.{sets-append}
+use Rattle.text_index.specs.declared.Field.{Field}
 use Rattle.text_index.specs.declared.State.{State}
 use Rattle.text_index.specs.declared.Moved.{Moved}
 use Rattle.text_index.specs.Step.{indexStep}
-use Rattle.text_index.specs.Follow.{start, Said, nothingSaid, told, closed, value}
-use Rattle.text_index.specs.Order.{placePart, Order}
-use Rattle.text_index.specs.View.{keptAt, endOf, Whole, text-viewed, Kept, kept-start, kept-to, kept-value, kept-closed, kept-refuse, kept-end}
+use Rattle.text_index.proofs.Follow.{start, Said, nothingSaid, told, closed, value}
+use Rattle.text_index.proofs.Order.{placePart, Order}
+use Rattle.text_index.specs.View.{keptAt}
+use Rattle.text_index.proofs.View.{endOf, Whole, text-viewed, Kept, kept-start, kept-to, kept-value, kept-closed, kept-refuse, kept-end}
 use Rattle.text_event.specs.declared.Event.{Event}
-use Rattle.text_event.specs.Event.{Quiet, RunsFrom, EventAt, atRuns, quiet-keeps, value-keeps, run-keeps, row-keeps, runs-keeps}
+use Rattle.text_event.specs.Event.{Quiet, RunsFrom, EventAt, atRuns}
+use Rattle.text_event.proofs.EventLaws.{quiet-keeps, value-keeps, run-keeps, row-keeps, runs-keeps}
 use Rattle.numbers.specs.Narrow.{held}
 use Rattle.text_judge.proofs.Bad.{held-pos}
 use Rattle.text_judge.proofs.Prefix.{map-append}
 use Rattle.entry_read.specs.Plan.{heldLefts, heldRights}
-use Rattle.entry_read.specs.Runs.{isLeft, isRight, Columns, tellColumns, runStored, shutColumns, startColumns, FilledRuns}
+use Rattle.entry_read.specs.Runs.{isLeft, isRight, Columns, tellColumns, runStored, FilledRuns}
+use Rattle.entry_read.proofs.Runs.{shutColumns, startColumns}
 
 runs-append : (a b : List RangeRow) → allRuns (a ++ b) ≡ allRuns a ++ allRuns b
 unfolding allRuns
@@ -47,15 +50,15 @@ module _ (left right : List ℕ) where
   abbrev columnsOf : Said → Columns
   columnsOf g = record { left = held (g .left); count = length (entriesOf g); lefts = sets left 0 (heldLefts (entriesOf g)); rights = sets right 0 (heldRights (entriesOf g)) }
 
-  tells : (p : Place) (z : ℤ) (g : Said) → Order (placePart p) g → columnsOf (told p z g) ≡ tellColumns p z (columnsOf g)
+  tells : (p : Field) (z : ℤ) (g : Said) → Order (placePart p) g → columnsOf (told p z g) ≡ tellColumns p z (columnsOf g)
   unfolding tellColumns
-  tells Place.Window z g o = refl
-  tells Place.Width z g o = refl
-  tells Place.Windows z g o = refl
-  tells Place.Low z g o = refl
-  tells Place.Up z g o = rw o refl
-  tells Place.Left z g o = refl
-  tells Place.Right z g o =
+  tells Field.Window z g o = refl
+  tells Field.Width z g o = refl
+  tells Field.Windows z g o = refl
+  tells Field.Low z g o = refl
+  tells Field.Up z g o = rw o refl
+  tells Field.Left z g o = refl
+  tells Field.Right z g o =
       let a : allRuns (map rowSaid (g .rows)) ++ (g .runs ++ ((g .left, z) ∷ [])) ≡ entriesOf g ++ ((g .left, z) ∷ []) = sym (append-assoc (allRuns (map rowSaid (g .rows))) (g .runs) ((g .left, z) ∷ [])) in
       rw (a, length-append (entriesOf g) ((g .left, z) ∷ []), column-more (λ e. held (e .0)) left (entriesOf g) (g .left, z), column-more (λ e. held (e .1)) right (entriesOf g) (g .left, z)) refl
 
@@ -87,16 +90,16 @@ module _ (left right : List ℕ) where
   start-is = refl
 
   -- what a pass over a text comes to
-  abbrev Passed : List ℕ → Verdict Columns
-  Passed t = endOf (Whole tellColumns shutColumns (startColumns left right) t)
+  abbrev ReadTo : List ℕ → Verdict Columns
+  ReadTo t = endOf (Whole tellColumns shutColumns (startColumns left right) t)
 
-  text-columns : (t : List ℕ) → verdictOf outOf (Passed t) ≡ verdictOf say (readText indexForm t)
+  text-columns : (t : List ℕ) → verdictOf outOf (ReadTo t) ≡ verdictOf say (readText indexForm t)
   text-columns t =
       ap (λ (x : Columns). verdictOf outOf (endOf (Whole tellColumns shutColumns x t))) (sym start-is)
       ∙ text-viewed tellColumns shutColumns columnsOf tells shuts outOf say ended t
 
   -- a pass that ended with what is kept
-  pub filled-by : (t : List ℕ) (x : Columns) → Passed t ≡ fine x → FilledRuns t left right (x .lefts) (x .rights)
+  pub filled-by : (t : List ℕ) (x : Columns) → ReadTo t ≡ fine x → FilledRuns t left right (x .lefts) (x .rights)
   unfolding FilledRuns
   filled-by t x e v h =
       let q : fine (outOf x) ≡ fine (say v) = sym (ap (verdictOf outOf) e) ∙ text-columns t ∙ ap (verdictOf say) h in
@@ -107,7 +110,7 @@ module _ (left right : List ℕ) where
       fine-same e = cc
 
   -- a pass over a text that cannot be read
-  pub filled-none : (t : List ℕ) (p : ℕ) (left' right' : List ℕ) → Passed t ≡ unfit p → FilledRuns t left right left' right'
+  pub filled-none : (t : List ℕ) (p : ℕ) (left' right' : List ℕ) → ReadTo t ≡ unfit p → FilledRuns t left right left' right'
   unfolding FilledRuns
   filled-none t p left' right' e v h = clash (sym (ap (verdictOf outOf) e) ∙ text-columns t ∙ ap (verdictOf say) h)
     where
@@ -127,7 +130,7 @@ pub filling-start : (text left right : List ℕ) → Filling text left right lef
 filling-start text left right = record { kept = kept-start tellColumns shutColumns (startColumns left right) text; count = omega arith; left-long = refl; right-long = refl }
 
 -- a run of numbers that are held as they are
-pub run-stored : (a b : ℕ) (t : Columns) → a < 2 ^ 32 → b < 2 ^ 32 → tellColumns Place.Right (pos b) (tellColumns Place.Left (pos a) t) ≡ runStored a b (t .count) (t .lefts) (t .rights)
+pub run-stored : (a b : ℕ) (t : Columns) → a < 2 ^ 32 → b < 2 ^ 32 → tellColumns Field.Right (pos b) (tellColumns Field.Left (pos a) t) ≡ runStored a b (t .count) (t .lefts) (t .rights)
 unfolding tellColumns
 run-stored a b t h g = rw (held-pos a (omega arith), held-pos b (omega arith)) refl
 
@@ -150,7 +153,7 @@ module _ (text left₀ right₀ : List ℕ) where
   to : (s : State) (t : Columns) (i : ℕ) → Fill s t i → i < length text → (n : State) → indexStep s (getD text i 0) ≡ Moved.To n → Fill n t (i + 1)
   to s t i r h n e = record { kept = kept-to tellColumns shutColumns at-start text s t i (r .kept) h n e; count = omega (arith, r .count); left-long = r .left-long; right-long = r .right-long }
 
-  value-to : (s : State) (t : Columns) (i : ℕ) → Fill s t i → i < length text → (n : State) (p : Place) (z : ℤ) → indexStep s (getD text i 0) ≡ Moved.Value n p z → Fill n (tellColumns p z t) (i + 1)
+  value-to : (s : State) (t : Columns) (i : ℕ) → Fill s t i → i < length text → (n : State) (p : Field) (z : ℤ) → indexStep s (getD text i 0) ≡ Moved.Value n p z → Fill n (tellColumns p z t) (i + 1)
   unfolding tellColumns
   value-to s t i r h n p z e = record {
     kept = kept-value tellColumns shutColumns at-start text s t i (r .kept) h n p z e;
@@ -178,7 +181,7 @@ module _ (text left₀ right₀ : List ℕ) where
     unfolding tellColumns
     filling-row low up a b j h g e = rw (held-pos a (omega arith), held-pos b (omega arith)) at (row-keeps tellColumns text Fill to value-to here (e .1) (rw (e .0) at r))
 
-    pub filling-value : (n : State) (p : Place) (z : ℤ) (j : ℕ) → EventAt text s i (Event.Value n p z j)
+    pub filling-value : (n : State) (p : Field) (z : ℤ) (j : ℕ) → EventAt text s i (Event.Value n p z j)
         → Filling text left₀ right₀ (cond (isRight p) (set left k l) left) (cond (isRight p) (set right k (held z)) right) n (cond (isLeft p) (held z) l) (cond (isRight p) (k + 1) k) j
     unfolding tellColumns
     filling-value n p z j e = value-keeps tellColumns text Fill to value-to here e r
@@ -194,7 +197,7 @@ module _ (text left₀ right₀ : List ℕ) where
     pub filling-end : (n : State) (j : ℕ) → EventAt text s i (Event.End n j) → FilledRuns text left₀ right₀ left right
     filling-end n j e = by-state n (kept-end tellColumns shutColumns at-start text n here j (quiet (e .0) .kept) (e .1))
       where
-        by-state : (q : State) → Passed left₀ right₀ text ≡ atEnd (keptAt q here) j → FilledRuns text left₀ right₀ left right
+        by-state : (q : State) → ReadTo left₀ right₀ text ≡ atEnd (keptAt q here) j → FilledRuns text left₀ right₀ left right
         by-state (State.In w m) d = filled-none left₀ right₀ text j left right d
         by-state (State.At p m) d = filled-none left₀ right₀ text j left right d
         by-state (State.Before t) d = filled-none left₀ right₀ text j left right d

@@ -1,4 +1,4 @@
--- What the entry answers and leaves in the buffers is what is meant (`load-right`): by what the text comes to, and of a text that can be read by the head, the rows and the room. Assumes nothing.
+-- What the entry answers and leaves in the buffers is what is meant (`load-right`): by what the text comes to, and of a text that can be read by the head, the rows and the room.
 use mathlib.Core.Path.{_≡_, refl, sym, ap, _∙_, subst}
 use mathlib.Core.Bool.{true}
 use mathlib.Core.List.{List, [], _∷_, _++_, append-nil}
@@ -17,19 +17,20 @@ use Rattle.meaning_rows.specs.Judge.{headGood, firstBadRow}
 use Rattle.meaning_text.specs.Form.{Value}
 use Rattle.meaning_text.specs.Read.{fine, unfit, readText, lineOf}
 use Rattle.meaning_text.specs.Texts.{indexForm, indexSaid}
-use Rattle.meaning_numbers.proofs.Tests.{by-test}
+use Rattle.meaning_text.proofs.Reading.{by-test}
 use Rattle.meaning_entries.specs.declared.Loaded.{Loaded}
 use Rattle.meaning_entries.specs.Refusal.{firstRefusal, badLine, unreadable, roomLines}
 use Rattle.meaning_entries.specs.Buffers.{filled, IndexBuffers, runRoom, lefts, rights, indexIn}
 use Rattle.meaning_entries.specs.Answers.{headOf}
 use Rattle.meaning_entries.specs.Load.{textIndex, loadTable, loadRefusal, loadAnswer, loadAfter}
 use Rattle.meaning_entries.specs.Demand2.{LoadKept}
-use Rattle.meaning_entries.proofs.Refusal.{Passed, passed-is, openLines, passed-line, passed-behind, lacks, same-behind}
+use Rattle.meaning_entries.proofs.Refusal.{AllPass, passed-is, openLines, passed-line, passed-behind, lacks, same-behind}
 use Rattle.meaning_entries.proofs.Lines.{room-line}
 use Rattle.meaning_entries.proofs.Demand2.{load-kept}
 use Rattle.meaning_entries.proofs.Again.{text-fine}
 use Rattle.refusals.specs.declared.Refusal.{Refusal}
-use Rattle.refusals.specs.Refusal.{refusalOf, asRefusal, judgedLine, place-is, place-none, judged-line, passes, refuses}
+use Rattle.refusals.specs.Refusal.{refusalOf, asRefusal, judgedLine, judged-line, passes, refuses}
+use Rattle.refusals.proofs.RefusalLaws.{place-is, place-none}
 use Rattle.text_judge.specs.declared.Rows.{Rows}
 use Rattle.text_judge.specs.Judged.{judgedRows}
 use Rattle.text_judge.specs.Tally.{noRows, rowsFrom, headHeld}
@@ -38,7 +39,7 @@ use Rattle.text_judge.proofs.Prefix.{runs-held}
 use Rattle.text_rows.specs.Line.{stored}
 use Rattle.text_rows.proofs.Turn.{stored-none}
 use Rattle.text_rows.proofs.Filled.{rows-filled}
-use Rattle.entry_read.specs.declared.Plan.{Plan}
+use Rattle.entry_read.specs.declared.ReadPlan.{ReadPlan}
 use Rattle.entry_read.specs.Plan.{refusedPlan, rowsTable, fitPlan, planScanned, planFor, planAnswer, textRuns, heldLefts, heldRights, columnAfter, Loads}
 use Rattle.entry_read.proofs.Planned.{on-verdict}
 
@@ -50,7 +51,7 @@ none-zeros : (rows : List Row) → zerosFrom (length rows) rows ≡ rows
 none-zeros rows = let e : length rows - length rows ≡ 0 = omega arith in rw (e, take-length rows) (append-nil rows)
 
 -- the entry, by its plan
-record Outcome (t : List ℕ) (b : IndexBuffers) (p : Plan) : Type 0 where
+record Outcome (t : List ℕ) (b : IndexBuffers) (p : ReadPlan) : Type 0 where
   answer : planAnswer p ≡ loadAnswer t b
   rows : stored t (p .rows) (zerosFrom (p .from) (b .rows)) ≡ loadAfter t b .rows
   left : columnAfter (p .refusal .number) (heldLefts (textRuns t)) (b .left) ≡ loadAfter t b .left
@@ -104,7 +105,7 @@ module _ (t : List ℕ) (b : IndexBuffers) (v : Value indexForm) (e : readText i
   can-read = rw (e, badLine) refl
 
   -- where no row is bad the counts are those of the index
-  same-room : Passed (judgedLine (judgedRows h c) ∷ []) → roomLines (length (b .rows)) (c .rows) (runRoom b) (c .runs) ≡ roomLines (length (b .rows)) (length (X .rows)) (runRoom b) (length (X .runs))
+  same-room : AllPass (judgedLine (judgedRows h c) ∷ []) → roomLines (length (b .rows)) (c .rows) (runRoom b) (c .runs) ≡ roomLines (length (b .rows)) (length (X .rows)) (runRoom b) (length (X .runs))
   unfolding openLines
   same-room p =
       let g = rows-good v (sym (rows-judged v) ∙ passed-line p 20) in
@@ -121,10 +122,10 @@ module _ (t : List ℕ) (b : IndexBuffers) (v : Value indexForm) (e : readText i
 
   -- everything is good: the index is loaded
   module _ (z : r .number ≡ 0) where
-    abbrev p : Plan
+    abbrev p : ReadPlan
     p = record { refusal = r; head = h; rows = c .rows; runs = c .runs; from = c .rows }
 
-    passed : Passed (loadTable t b)
+    passed : AllPass (loadTable t b)
     passed = passes (loadTable t b) never-0 refusal-is z
 
     none-refuses : loadRefusal t b ≡ none
@@ -188,7 +189,7 @@ outcome t b =
     (λ q e. rw e (refused t b (record { number = 12; place = lineOf t q }) (λ w. omega arith) (unread t b q e)))
 
 -- no more records are filled than are lent
-pub record Inside (p : Plan) (room : ℕ) : Type 0 where
+pub record Inside (p : ReadPlan) (room : ℕ) : Type 0 where
   pub rows : p .rows ≤ room
   pub from : p .from ≤ room
 
@@ -208,17 +209,17 @@ plan-inside t rows runs =
     (λ q e. rw e (record { rows = omega arith; from = omega arith }))
 
 -- the entry keeps its promise
-pub load-right : (t : List ℕ) (rows rows' : List Row) (left right left' right' : List ℕ) (p : Plan) (a : Loaded) → Loads t (length rows) left right p left' right' → rows' ≡ stored t (p .rows) (zerosFrom (p .from) rows) → a ≡ planAnswer p
+pub load-right : (t : List ℕ) (rows rows' : List Row) (left right left' right' : List ℕ) (p : ReadPlan) (a : Loaded) → Loads t (length rows) left right p left' right' → rows' ≡ stored t (p .rows) (zerosFrom (p .from) rows) → a ≡ planAnswer p
     → LoadKept t (record { rows = rows; left = left; right = right }) a (record { rows = rows'; left = left'; right = right' })
 load-right t rows rows' left right left' right' p a l r s =
     let b : IndexBuffers = record { rows = rows; left = left; right = right } in
     let o = outcome t b in
     let q = l .planned in
     load-kept t b a (record { rows = rows'; left = left'; right = right' }) (s ∙ ap planAnswer q ∙ o .answer)
-    (same-buffers (loadAfter t b) rows' left' right' (r ∙ ap (λ (x : Plan). stored t (x .rows) (zerosFrom (x .from) rows)) q ∙ o .rows) (l .lefts ∙ ap (λ (x : Plan). columnAfter (x .refusal .number) (heldLefts (textRuns t)) left) q ∙ o .left) (l .rights ∙ ap (λ (x : Plan). columnAfter (x .refusal .number) (heldRights (textRuns t)) right) q ∙ o .right))
+    (same-buffers (loadAfter t b) rows' left' right' (r ∙ ap (λ (x : ReadPlan). stored t (x .rows) (zerosFrom (x .from) rows)) q ∙ o .rows) (l .lefts ∙ ap (λ (x : ReadPlan). columnAfter (x .refusal .number) (heldLefts (textRuns t)) left) q ∙ o .left) (l .rights ∙ ap (λ (x : ReadPlan). columnAfter (x .refusal .number) (heldRights (textRuns t)) right) q ∙ o .right))
   where
     same-buffers : (x : IndexBuffers) (rows : List Row) (left right : List ℕ) → rows ≡ x .rows → left ≡ x .left → right ≡ x .right → record { rows = rows; left = left; right = right } ≡ x
     same-buffers x rows left right e f g = λ i. record { rows = e i; left = f i; right = g i }
 
-pub loads-inside : {t : List ℕ} {rows : ℕ} {left right left' right' : List ℕ} {p : Plan} → Loads t rows left right p left' right' → Inside p rows
-loads-inside {t} {rows} l = subst (λ (q : Plan). Inside q rows) (sym (l .planned)) (plan-inside t rows _)
+pub loads-inside : {t : List ℕ} {rows : ℕ} {left right left' right' : List ℕ} {p : ReadPlan} → Loads t rows left right p left' right' → Inside p rows
+loads-inside {t} {rows} l = subst (λ (q : ReadPlan). Inside q rows) (sym (l .planned)) (plan-inside t rows _)

@@ -2,3 +2,4 @@
 pub mod Columns
 pub mod Planned
 pub mod Kept
+pub mod Runs

@@ -1,4 +1,4 @@
--- A plan of number 0 is one for a text that can be read, and the columns of the run buffer by the plan's number. Assumes nothing.
+-- A plan of number 0 is one for a text that can be read, and the columns of the run buffer by the plan's number.
 use mathlib.Core.Path.{_≡_, refl, sym, ap, _∙_}
 use mathlib.Core.List.{List}
 use Prim.Native.Nat.{ℕ}
@@ -10,7 +10,7 @@ use Rattle.meaning_text.specs.Form.{Value}
 use Rattle.meaning_text.specs.Read.{Verdict, fine, unfit, readText}
 use Rattle.meaning_text.specs.Texts.{indexForm, indexSaid}
 use Rattle.meaning_entries.proofs.Again.{text-fine}
-use Rattle.entry_read.specs.declared.Plan.{Plan}
+use Rattle.entry_read.specs.declared.ReadPlan.{ReadPlan}
 use Rattle.entry_read.specs.Plan.{planScanned, planFor, textRuns, heldLefts, heldRights, columnAfter}
 use Rattle.entry_read.specs.Runs.{FilledRuns}
 
@@ -31,11 +31,11 @@ unfolding columnAfter
 column-stays n new old h = rw (ne-eqb n 0 h) refl
 
 -- a buffer that was cleared and filled
-module _ (t left right : List ℕ) (p : Plan) (rows runs : ℕ) (e : p ≡ planFor t rows runs) (h : p .refusal .number ≡ 0) (z w left' right' : List ℕ) (a : z ≡ replicate (length left) 0) (b : w ≡ replicate (length right) 0) (f : FilledRuns t z w left' right') where
+module _ (t left right : List ℕ) (p : ReadPlan) (rows runs : ℕ) (e : p ≡ planFor t rows runs) (h : p .refusal .number ≡ 0) (z w left' right' : List ℕ) (a : z ≡ replicate (length left) 0) (b : w ≡ replicate (length right) 0) (f : FilledRuns t z w left' right') where
   pub column-filled : (left' ≡ columnAfter (p .refusal .number) (heldLefts (textRuns t)) left) × (right' ≡ columnAfter (p .refusal .number) (heldRights (textRuns t)) right)
   unfolding columnAfter FilledRuns
   column-filled =
-      let v = readable t rows runs (sym (ap (λ (q : Plan). q .refusal .number) e) ∙ h) in
+      let v = readable t rows runs (sym (ap (λ (q : ReadPlan). q .refusal .number) e) ∙ h) in
       let g = f (v .0) (v .1) in
       let r : textRuns t ≡ indexSaid (v .0) .runs = ap (λ (x : Index). x .runs) (text-fine t (v .0) (v .1)) in
       rw (eq-eqb (p .refusal .number) 0 h, r, ← a, ← b) (g .0, g .1)

@@ -1,3 +1,3 @@
--- Reading an index text: what is planned (`Plan`), and its runs in the run buffer (`Runs`).
+-- What the contracts of entry_read cite.
 pub mod Plan
 pub mod Runs

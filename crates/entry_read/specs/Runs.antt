@@ -1,4 +1,4 @@
--- The runs of an index text in the run buffer, as a pass over its bytes stores them. Assumes nothing.
+-- The runs of an index text in the run buffer, as a pass over its bytes stores them.
 use mathlib.Core.Path.{_≡_}
 use mathlib.Core.Bool.{Bool, true, false, cond}
 use mathlib.Core.List.{List}
@@ -9,27 +9,27 @@ use lib.Seq.{sets}
 use Rattle.meaning_text.specs.Form.{Value}
 use Rattle.meaning_text.specs.Read.{fine, readText}
 use Rattle.meaning_text.specs.Texts.{indexForm, indexSaid}
-use Rattle.text_index.specs.declared.Place.{Place}
+use Rattle.text_index.specs.declared.Field.{Field}
 use Rattle.numbers.specs.Narrow.{held}
 use Rattle.entry_read.specs.Plan.{heldLefts, heldRights}
 
-abbrev pub isLeft : Place → Bool
-isLeft Place.Window = false
-isLeft Place.Width = false
-isLeft Place.Windows = false
-isLeft Place.Low = false
-isLeft Place.Up = false
-isLeft Place.Left = true
-isLeft Place.Right = false
+abbrev pub isLeft : Field → Bool
+isLeft Field.Window = false
+isLeft Field.Width = false
+isLeft Field.Windows = false
+isLeft Field.Low = false
+isLeft Field.Up = false
+isLeft Field.Left = true
+isLeft Field.Right = false
 
-abbrev pub isRight : Place → Bool
-isRight Place.Window = false
-isRight Place.Width = false
-isRight Place.Windows = false
-isRight Place.Low = false
-isRight Place.Up = false
-isRight Place.Left = false
-isRight Place.Right = true
+abbrev pub isRight : Field → Bool
+isRight Field.Window = false
+isRight Field.Width = false
+isRight Field.Windows = false
+isRight Field.Low = false
+isRight Field.Up = false
+isRight Field.Left = false
+isRight Field.Right = true
 
 -- the left end of the run that is open, how many runs there are, and the two columns
 pub record Columns : Type 0 where
@@ -39,7 +39,7 @@ pub record Columns : Type 0 where
   pub rights : List ℕ
 
 -- a number
-unfoldable pub tellColumns : Place → ℤ → Columns → Columns
+unfoldable pub tellColumns : Field → ℤ → Columns → Columns
 tellColumns p z t = record {
   left = cond (isLeft p) (held z) (t .left);
   count = cond (isRight p) (t .count + 1) (t .count);
@@ -47,16 +47,9 @@ tellColumns p z t = record {
   rights = cond (isRight p) (set (t .rights) (t .count) (held z)) (t .rights);
 }
 
--- a row's end
-abbrev pub shutColumns : Columns → Columns
-shutColumns t = t
-
 -- a run is stored at place k, behind the others
 abbrev pub runStored : ℕ → ℕ → ℕ → List ℕ → List ℕ → Columns
 runStored l r k lefts rights = record { left = l; count = k + 1; lefts = set lefts k l; rights = set rights k r }
-
-abbrev pub startColumns : List ℕ → List ℕ → Columns
-startColumns left right = record { left = 0; count = 0; lefts = left; rights = right }
 
 -- of a text that can be read, the runs stand in the buffer as far as it has room
 unfoldable pub FilledRuns : List ℕ → List ℕ → List ℕ → List ℕ → List ℕ → Type 0

@@ -16,7 +16,7 @@ use text_event::plain_run;
 use text_event::run_left;
 use text_event::run_length;
 use text_event::run_right;
-use text_index::Place;
+use text_index::Field;
 use text_index::State;
 use text_index::Turn;
 use text_index::Word;
@@ -37,7 +37,7 @@ ghost use Rattle.entry_read.specs.Runs.{isLeft, isRight, tellColumns, ru
 ghost use Rattle.entry_read.specs.Plan.{refusedPlan, rowsTable, fitPlan, planFor, Loads, planAnswer};
 
 // What is known before anything is stored: what refuses; else the head, and how many rows and runs there are; and from where on the row records become records of zeros.
-pub struct Plan {
+pub struct ReadPlan {
     pub refusal: Refusal,
     pub head: Head,
     pub rows: usize,
@@ -53,7 +53,7 @@ pub struct Stored {
 }
 
 // Where so many row records are lent, none is altered.
-fn refused(refusal: Refusal, rows: usize) -> Plan
+fn refused(refusal: Refusal, rows: usize) -> ReadPlan
     ensures { λ p. ⌜ p ≡ refusedPlan refusal rows ⌝ }
 {
     let head = Head {
@@ -61,7 +61,7 @@ fn refused(refusal: Refusal, rows: usize) -> Plan
         width: 0,
         windows: 0,
     };
-    Plan {
+    ReadPlan {
         refusal,
         head,
         rows: 0,
@@ -80,14 +80,14 @@ fn refuse_rows(head: Head, c: Rows, rows: usize, runs: usize) -> Refusal
 }
 
 // The plan for such a text.
-fn plan_fine(head: Head, c: Rows, rows: usize, runs: usize) -> Plan
+fn plan_fine(head: Head, c: Rows, rows: usize, runs: usize) -> ReadPlan
     ensures { λ p. ⌜ p ≡ fitPlan head c rows runs ⌝ }
 {
     let refusal = refuse_rows(head, c, rows, runs);
     if refusal.number != 0 {
         return refused(refusal, rows);
     }
-    Plan {
+    ReadPlan {
         refusal,
         head,
         rows: c.rows,
@@ -97,7 +97,7 @@ fn plan_fine(head: Head, c: Rows, rows: usize, runs: usize) -> Plan
 }
 
 // The plan for a text.
-pub fn make_plan(text: &[u8], rows: usize, runs: usize) -> Plan
+pub fn make_plan(text: &[u8], rows: usize, runs: usize) -> ReadPlan
     ensures { λ p. ⌜ p ≡ planFor (now (text .entry)) rows runs ⌝ }
 {
     match scan(text) {
@@ -112,31 +112,31 @@ pub fn make_plan(text: &[u8], rows: usize, runs: usize) -> Plan
     }
 }
 
-fn is_left(p: Place) -> bool
+fn is_left(p: Field) -> bool
     ensures { λ b. ⌜ b ≡ isLeft p ⌝ }
 {
     match p {
-        Place::Window => false,
-        Place::Width => false,
-        Place::Windows => false,
-        Place::Low => false,
-        Place::Up => false,
-        Place::Left => true,
-        Place::Right => false,
+        Field::Window => false,
+        Field::Width => false,
+        Field::Windows => false,
+        Field::Low => false,
+        Field::Up => false,
+        Field::Left => true,
+        Field::Right => false,
     }
 }
 
-fn is_right(p: Place) -> bool
+fn is_right(p: Field) -> bool
     ensures { λ b. ⌜ b ≡ isRight p ⌝ }
 {
     match p {
-        Place::Window => false,
-        Place::Width => false,
-        Place::Windows => false,
-        Place::Low => false,
-        Place::Up => false,
-        Place::Left => false,
-        Place::Right => true,
+        Field::Window => false,
+        Field::Width => false,
+        Field::Windows => false,
+        Field::Low => false,
+        Field::Up => false,
+        Field::Left => false,
+        Field::Right => true,
     }
 }
 
@@ -254,7 +254,7 @@ pub fn fill_runs(text: &[u8], left: &mut [u32], right: &mut [u32])
 }
 
 // The plan for a text, and where nothing refuses its runs in the run buffer.
-pub fn load_runs(text: &[u8], rows: usize, left: &mut [u32], right: &mut [u32]) -> Plan
+pub fn load_runs(text: &[u8], rows: usize, left: &mut [u32], right: &mut [u32]) -> ReadPlan
     ensures { λ p. ⌜ Loads (now (text .entry)) rows (now (left .entry)) (now (right .entry)) p (now (left .exit)) (now (right .exit)) ⌝ }
 {
     let room = shorter(left.len(), right.len());
@@ -269,7 +269,7 @@ pub fn load_runs(text: &[u8], rows: usize, left: &mut [u32], right: &mut [u32]) 
 }
 
 // What is answered.
-pub fn answer(p: Plan) -> Loaded
+pub fn answer(p: ReadPlan) -> Loaded
     ensures { λ a. ⌜ a ≡ planAnswer p ⌝ }
 {
     let head = p.head;

@@ -2,3 +2,5 @@
 pub mod Looks
 pub mod Only
 pub mod SearchCall
+pub mod Refused
+pub mod SoughtLaws

@@ -45,7 +45,7 @@ use Rattle.rows_records.proofs.Again.{LentAgain}
 use Rattle.rows_records.proofs.Lends.{Own, lend, back}
 use Rattle.meaning_entries.specs.Search.{lentSearch}
 use Rattle.meaning_entries.specs.Demand2.{SearchKept}
-use Rattle.entry_search.specs.Refused.{buffers}
+use Rattle.meaning_entries.specs.Search.{searchBuffers}
 use Rattle.entry_search.proofs.search as searching
 use Rattle.entry_search.proofs.search.Symbol.{name as #search}
 
@@ -74,7 +74,7 @@ module _ {M : Type 1} (𝓤 : URA M) (H : Heap 𝓤) (A : Atoms 𝓤) (mem : Mem
 module _ {M : Type 1} {𝓤 : URA M} {H : Heap 𝓤} {A : Atoms 𝓤} {K : Type 0} {W : Given 𝓤 H A} {Γ : List (Item 𝓤)} {E : Env 𝓤 H} {C : Calls 𝓤 H} {Λ : Loops 𝓤 H} {p : Post 𝓤 H} {d : Place} {rest : Body} {xs : List Operand} where
   pub calls-search : K → FmC 𝓤 H (W .laws) C → (mem : Memory → SProp 𝓤) (run : Routine → Fun 𝓤) → Triple 𝓤 (C #search) (Searches 𝓤 H A mem run) → (κs : Lft) (qs : Share) (vs : RefT (List ℤ)) (κa : Lft) (qa : Share) (va : RefT (List Row)) (κu : Lft) (qu : Share) (vu : RefT (List ℕ)) (κv : Lft) (qv : Share) (vv : RefT (List ℕ)) (κq : Lft) (qq : Share) (vq : RefT (List ℤ)) (κl : Lft) (ql : Share) (bl ol ml : ℕ) (γl : GName) (yl : List ℕ) (κr : Lft) (qr : Share) (br or mr : ℕ) (γr : GName) (yr : List ℕ) (κc : Lft) (qc : Share) (bc oc mc : ℕ) (γc : GName) (yc : List ℕ) (κo : Lft) (qo : Share) (bo oo mo : ℕ) (γo : GName) (yo : List ℕ) (κd : Lft) (qd : Share) (bd od md : ℕ) (γd : GName) (yd : List ℕ) (head : Head) (ask : Ask) → length yl ≡ ml → Room u32 ml → length yr ≡ mr → Room u32 mr → length yc ≡ mc → Room u16 mc → length yo ≡ mo → Room u32 mo → length yd ≡ md → Room u64 md → Is Hd.the-row head (low-head head ∷ []) → Is Ak.the-row ask (low-ask ask ∷ [])
       → ((νl : ℕ) (δl : GName) (νr : ℕ) (δr : GName) (νc : ℕ) (δc : GName) (νo : ℕ) (δo : GName) (νd : ℕ) (δd : GName) → Opds K W (raw (Searches 𝓤 H A mem run .pre (to-search 𝓤 H A mem run κs qs vs κa qa va κu qu vu κv qv vv κq qq vq κl ql bl ol ml γl yl κr qr br or mr γr yr κc qc bc oc mc γc yc κo qo bo oo mo γo yo κd qd bd od md γd yd head ask νl δl νr δr νc δc νo δo νd δd)) ∷ ‵ (ShrSlice (named 0) κs i32 .own vs (sliceVal (vs .ptr) (length (vs .now)) ∷ [])) ∷ ‵ (ShrSlice (named 0) κa T.the-row .own va (sliceVal (va .ptr) (length (va .now)) ∷ [])) ∷ ‵ (ShrSlice (named 0) κu u32 .own vu (sliceVal (vu .ptr) (length (vu .now)) ∷ [])) ∷ ‵ (ShrSlice (named 0) κv u32 .own vv (sliceVal (vv .ptr) (length (vv .now)) ∷ [])) ∷ ‵ (ShrSlice (named 0) κq i32 .own vq (sliceVal (vq .ptr) (length (vq .now)) ∷ [])) ∷ ‵ (LentAgain u32 κl (νl ∷ []) ql γl bl ol δl yl) ∷ ‵ (LentAgain u32 κr (νr ∷ []) qr γr br or δr yr) ∷ ‵ (LentAgain u16 κc (νc ∷ []) qc γc bc oc δc yc) ∷ ‵ (LentAgain u32 κo (νo ∷ []) qo γo bo oo δo yo) ∷ ‵ (LentAgain u64 κd (νd ∷ []) qd γd bd od δd yd) ∷ Γ) E xs (sliceVal (vs .ptr) (length (vs .now)) ∷ low-head head ∷ sliceVal (va .ptr) (length (va .now)) ∷ sliceVal (vu .ptr) (length (vu .now)) ∷ sliceVal (vv .ptr) (length (vv .now)) ∷ low-ask ask ∷ sliceVal (vq .ptr) (length (vq .now)) ∷ sliceVal (bl, ol) ml ∷ sliceVal (br, or) mr ∷ sliceVal (bc, oc) mc ∷ sliceVal (bo, oo) mo ∷ sliceVal (bd, od) md ∷ []))
-      → ((r : Found) (zl : List ℕ) (zr : List ℕ) (zc : List ℕ) (zo : List ℕ) (zd : List ℕ) → SearchKept (lentSearch (vs .now) head (va .now) (vu .now) (vv .now) ask (vq .now)) (buffers yl yr yc yo yd) r (buffers zl zr zc zo zd) → Is Fd.the-row r (low-found r ∷ []) → length zl ≡ length yl → length zr ≡ length yr → length zc ≡ length yc → length zo ≡ length yo → length zd ≡ length yd → Seq K W (‵ (flft κs qs) ∷ ‵ (ShrSlice (named 0) κs i32 .own vs (sliceVal (vs .ptr) (length (vs .now)) ∷ [])) ∷ ‵ (flft κa qa) ∷ ‵ (ShrSlice (named 0) κa T.the-row .own va (sliceVal (va .ptr) (length (va .now)) ∷ [])) ∷ ‵ (flft κu qu) ∷ ‵ (ShrSlice (named 0) κu u32 .own vu (sliceVal (vu .ptr) (length (vu .now)) ∷ [])) ∷ ‵ (flft κv qv) ∷ ‵ (ShrSlice (named 0) κv u32 .own vv (sliceVal (vv .ptr) (length (vv .now)) ∷ [])) ∷ ‵ (flft κq qq) ∷ ‵ (ShrSlice (named 0) κq i32 .own vq (sliceVal (vq .ptr) (length (vq .now)) ∷ [])) ∷ ‵ (flft κl ql) ∷ ‵ (Own u32 bl ol ml (named 0) κl γl zl) ∷ ‵ (flft κr qr) ∷ ‵ (Own u32 br or mr (named 0) κr γr zr) ∷ ‵ (flft κc qc) ∷ ‵ (Own u16 bc oc mc (named 0) κc γc zc) ∷ ‵ (flft κo qo) ∷ ‵ (Own u32 bo oo mo (named 0) κo γo zo) ∷ ‵ (flft κd qd) ∷ ‵ (Own u64 bd od md (named 0) κd γd zd) ∷ Γ) (lands C Λ E d (low-found r) rest p))
+      → ((r : Found) (zl : List ℕ) (zr : List ℕ) (zc : List ℕ) (zo : List ℕ) (zd : List ℕ) → SearchKept (lentSearch (vs .now) head (va .now) (vu .now) (vv .now) ask (vq .now)) (searchBuffers yl yr yc yo yd) r (searchBuffers zl zr zc zo zd) → Is Fd.the-row r (low-found r ∷ []) → length zl ≡ length yl → length zr ≡ length yr → length zc ≡ length yc → length zo ≡ length yo → length zd ≡ length yd → Seq K W (‵ (flft κs qs) ∷ ‵ (ShrSlice (named 0) κs i32 .own vs (sliceVal (vs .ptr) (length (vs .now)) ∷ [])) ∷ ‵ (flft κa qa) ∷ ‵ (ShrSlice (named 0) κa T.the-row .own va (sliceVal (va .ptr) (length (va .now)) ∷ [])) ∷ ‵ (flft κu qu) ∷ ‵ (ShrSlice (named 0) κu u32 .own vu (sliceVal (vu .ptr) (length (vu .now)) ∷ [])) ∷ ‵ (flft κv qv) ∷ ‵ (ShrSlice (named 0) κv u32 .own vv (sliceVal (vv .ptr) (length (vv .now)) ∷ [])) ∷ ‵ (flft κq qq) ∷ ‵ (ShrSlice (named 0) κq i32 .own vq (sliceVal (vq .ptr) (length (vq .now)) ∷ [])) ∷ ‵ (flft κl ql) ∷ ‵ (Own u32 bl ol ml (named 0) κl γl zl) ∷ ‵ (flft κr qr) ∷ ‵ (Own u32 br or mr (named 0) κr γr zr) ∷ ‵ (flft κc qc) ∷ ‵ (Own u16 bc oc mc (named 0) κc γc zc) ∷ ‵ (flft κo qo) ∷ ‵ (Own u32 bo oo mo (named 0) κo γo zo) ∷ ‵ (flft κd qd) ∷ ‵ (Own u64 bd od md (named 0) κd γd zd) ∷ Γ) (lands C Λ E d (low-found r) rest p))
       → Seq K W (‵ (flft κs qs) ∷ ‵ (ShrSlice (named 0) κs i32 .own vs (sliceVal (vs .ptr) (length (vs .now)) ∷ [])) ∷ ‵ (flft κa qa) ∷ ‵ (ShrSlice (named 0) κa T.the-row .own va (sliceVal (va .ptr) (length (va .now)) ∷ [])) ∷ ‵ (flft κu qu) ∷ ‵ (ShrSlice (named 0) κu u32 .own vu (sliceVal (vu .ptr) (length (vu .now)) ∷ [])) ∷ ‵ (flft κv qv) ∷ ‵ (ShrSlice (named 0) κv u32 .own vv (sliceVal (vv .ptr) (length (vv .now)) ∷ [])) ∷ ‵ (flft κq qq) ∷ ‵ (ShrSlice (named 0) κq i32 .own vq (sliceVal (vq .ptr) (length (vq .now)) ∷ [])) ∷ ‵ (flft κl ql) ∷ ‵ (Own u32 bl ol ml (named 0) κl γl yl) ∷ ‵ (flft κr qr) ∷ ‵ (Own u32 br or mr (named 0) κr γr yr) ∷ ‵ (flft κc qc) ∷ ‵ (Own u16 bc oc mc (named 0) κc γc yc) ∷ ‵ (flft κo qo) ∷ ‵ (Own u32 bo oo mo (named 0) κo γo yo) ∷ ‵ (flft κd qd) ∷ ‵ (Own u64 bd od md (named 0) κd γd yd) ∷ Γ) (runs C Λ E (seq (call #search xs d) rest) p)
   calls-search t fm mem run met κs qs vs κa qa va κu qu vu κv qv vv κq qq vq κl ql bl ol ml γl yl κr qr br or mr γr yr κc qc bc oc mc γc yc κo qo bo oo mo γo yo κd qd bd od md γd yd head ask el rooml er roomr ec roomc eo roomo ed roomd g-head g-ask os k =
       move t (11 ∷ 10 ∷ []) $
@@ -106,9 +106,9 @@ module _ {M : Type 1} {𝓤 : URA M} {H : Heap 𝓤} {A : Atoms 𝓤} {K : Type 
       group t 20 $ use1 W (raw (Searches 𝓤 H A mem run .pre (to-search 𝓤 H A mem run κs qs vs κa qa va κu qu vu κv qv vv κq qq vq κl ql bl ol ml γl yl κr qr br or mr γr yr κc qc bc oc mc γc yc κo qo bo oo mo γo yo κd qd bd od md γd yd head ask νl δl νr δr νc δc νo δo νd δd))) (asks-search 𝓤 H A mem run κs qs vs κa qa va κu qu vu κv qv vv κq qq vq κl ql bl ol ml γl yl κr qr br or mr γr yr κc qc bc oc mc γc yc κo qo bo oo mo γo yo κd qd bd od md γd yd head ask W g-head g-ask νl δl νr δr νc δc νo δo νd δd) $
       calls-at t fm (Searches 𝓤 H A mem run) met (to-search 𝓤 H A mem run κs qs vs κa qa va κu qu vu κv qv vv κq qq vq κl ql bl ol ml γl yl κr qr br or mr γr yr κc qc bc oc mc γc yc κo qo bo oo mo γo yo κd qd bd od md γd yd head ask νl δl νr δr νc δc νo δo νd δd) (os νl δl νr δr νc δc νo δo νd δd) (λ u. use1 W (later (some (λ (r : Found). ((‵ (flft κs qs) ⊛ ‵ (flft κa qa) ⊛ ‵ (flft κu qu) ⊛ ‵ (flft κv qv) ⊛ ‵ (flft κq qq) ⊛ ‵ (flft (νl ∷ []) fullShare) ⊛ ‵ (flft (νr ∷ []) fullShare) ⊛ ‵ (flft (νc ∷ []) fullShare) ⊛ ‵ (flft (νo ∷ []) fullShare) ⊛ ‵ (flft (νd ∷ []) fullShare) ⊛ ‵ ftrue) ⊛ ‵ (Fd.the-row .own r (u ∷ []))) ⊛ raw (ensured 𝓤 H A searching.ended (searching.clauses 𝓤 H A mem run) (κs, (κa, (κu, (κv, (κq, ((νl ∷ []), ((νr ∷ []), ((νc ∷ []), ((νo ∷ []), ((νd ∷ []), tt)))))))))) (vs, (head, (va, (vu, (vv, (ask, (vq, ((record { ptr = (bl, ol); name = δl; now = yl }), ((record { ptr = (br, or); name = δr; now = yr }), ((record { ptr = (bc, oc); name = δc; now = yc }), ((record { ptr = (bo, oo); name = δo; now = yo }), ((record { ptr = (bd, od); name = δd; now = yd }), tt)))))))))))) tt r)))) (id⊢ 𝓤 _) $ await t tt $ pick t (λ r. split t $
       move t (1 ∷ []) $
-      use1 W (some (λ (ls : (Unit {0} × (Unit {0} × (Unit {0} × (Unit {0} × (Unit {0} × (Unit {0} × (Unit {0} × (List ℕ × (List ℕ × (List ℕ × (List ℕ × (List ℕ × Unit {0}))))))))))))). ‵ (lasts searching.ended (κs, (κa, (κu, (κv, (κq, ((νl ∷ []), ((νr ∷ []), ((νc ∷ []), ((νo ∷ []), ((νd ∷ []), tt)))))))))) (vs, (head, (va, (vu, (vv, (ask, (vq, ((record { ptr = (bl, ol); name = δl; now = yl }), ((record { ptr = (br, or); name = δr; now = yr }), ((record { ptr = (bc, oc); name = δc; now = yc }), ((record { ptr = (bo, oo); name = δo; now = yo }), ((record { ptr = (bd, od); name = δd; now = yd }), tt)))))))))))) ls) ⊛ raw (fact 𝓤 (SearchKept (lentSearch (vs .now) head (va .now) (vu .now) (vv .now) ask (vq .now)) (buffers yl yr yc yo yd) r (buffers (ls .1 .1 .1 .1 .1 .1 .1 .0) (ls .1 .1 .1 .1 .1 .1 .1 .1 .0) (ls .1 .1 .1 .1 .1 .1 .1 .1 .1 .0) (ls .1 .1 .1 .1 .1 .1 .1 .1 .1 .1 .0) (ls .1 .1 .1 .1 .1 .1 .1 .1 .1 .1 .1 .0)))))) (id⊢ 𝓤 _) $ pick t (λ ls. split t $
+      use1 W (some (λ (ls : (Unit {0} × (Unit {0} × (Unit {0} × (Unit {0} × (Unit {0} × (Unit {0} × (Unit {0} × (List ℕ × (List ℕ × (List ℕ × (List ℕ × (List ℕ × Unit {0}))))))))))))). ‵ (lasts searching.ended (κs, (κa, (κu, (κv, (κq, ((νl ∷ []), ((νr ∷ []), ((νc ∷ []), ((νo ∷ []), ((νd ∷ []), tt)))))))))) (vs, (head, (va, (vu, (vv, (ask, (vq, ((record { ptr = (bl, ol); name = δl; now = yl }), ((record { ptr = (br, or); name = δr; now = yr }), ((record { ptr = (bc, oc); name = δc; now = yc }), ((record { ptr = (bo, oo); name = δo; now = yo }), ((record { ptr = (bd, od); name = δd; now = yd }), tt)))))))))))) ls) ⊛ raw (fact 𝓤 (SearchKept (lentSearch (vs .now) head (va .now) (vu .now) (vv .now) ask (vq .now)) (searchBuffers yl yr yc yo yd) r (searchBuffers (ls .1 .1 .1 .1 .1 .1 .1 .0) (ls .1 .1 .1 .1 .1 .1 .1 .1 .0) (ls .1 .1 .1 .1 .1 .1 .1 .1 .1 .0) (ls .1 .1 .1 .1 .1 .1 .1 .1 .1 .1 .0) (ls .1 .1 .1 .1 .1 .1 .1 .1 .1 .1 .1 .0)))))) (id⊢ 𝓤 _) $ pick t (λ ls. split t $
       move t (1 ∷ []) $
-      heard t (SearchKept (lentSearch (vs .now) head (va .now) (vu .now) (vv .now) ask (vq .now)) (buffers yl yr yc yo yd) r (buffers (ls .1 .1 .1 .1 .1 .1 .1 .0) (ls .1 .1 .1 .1 .1 .1 .1 .1 .0) (ls .1 .1 .1 .1 .1 .1 .1 .1 .1 .0) (ls .1 .1 .1 .1 .1 .1 .1 .1 .1 .1 .0) (ls .1 .1 .1 .1 .1 .1 .1 .1 .1 .1 .1 .0))) (λ said.
+      heard t (SearchKept (lentSearch (vs .now) head (va .now) (vu .now) (vv .now) ask (vq .now)) (searchBuffers yl yr yc yo yd) r (searchBuffers (ls .1 .1 .1 .1 .1 .1 .1 .0) (ls .1 .1 .1 .1 .1 .1 .1 .1 .0) (ls .1 .1 .1 .1 .1 .1 .1 .1 .1 .0) (ls .1 .1 .1 .1 .1 .1 .1 .1 .1 .1 .0) (ls .1 .1 .1 .1 .1 .1 .1 .1 .1 .1 .1 .0))) (λ said.
       fsplit t $
       drop t $
       fsplit t $

@@ -1,3 +1,3 @@
--- What the contracts of the search cite.
+-- What the contracts of entry_search cite.
 pub mod Refused
-pub mod Sought
+pub mod Finished

@@ -1,27 +1,6 @@
--- What a refused search answers, and the buffers of a search by their contents. Assumes nothing.
-use mathlib.Core.Path.{_≡_, sym}
-use mathlib.Core.List.{List}
-use Prim.Native.Nat.{ℕ}
-use lib.IntN.{ℤ}
-use Rattle.meaning_rows.specs.declared.Row.{Row}
-use Rattle.meaning_rows.specs.declared.Head.{Head}
-use Rattle.meaning_filter.specs.declared.Ask.{Ask}
+-- What a refused search answers, and the buffers of a search by their contents.
 use Rattle.meaning_entries.specs.declared.Found.{Found}
-use Rattle.meaning_entries.specs.Search.{SearchBuffers, lentSearch}
-use Rattle.meaning_entries.specs.Demand2.{SearchKept}
-use Rattle.meaning_entries.proofs.Demand2.{search-kept}
 use Rattle.refusals.specs.declared.Refusal.{Refusal}
-use Rattle.candidate_plan.specs.Allowed.{thePlan, plan-stops}
 
 unfoldable pub refusedAs : Refusal → Found
 refusedAs r = Found.Refused (r .number) (r .place)
-
-abbrev pub buffers : List ℕ → List ℕ → List ℕ → List ℕ → List ℕ → SearchBuffers
-buffers left right scratch offsets distances = record { left = left; right = right; scratch = scratch; offsets = offsets; distances = distances }
-
-module _ (s : List ℤ) (h : Head) (rows : List Row) (left right : List ℕ) (ask : Ask) (q : List ℤ) (b : SearchBuffers) where
-  pub refused-kept : (thePlan s h rows left right ask q b .number ≡ 0 → ⊥) → SearchKept (lentSearch s h rows left right ask q) b (refusedAs (thePlan s h rows left right ask q b)) b
-  unfolding refusedAs
-  refused-kept f =
-      let p = plan-stops s h rows left right ask q b f in
-      search-kept (lentSearch s h rows left right ask q) b (Found.Refused (thePlan s h rows left right ask q b .number) (thePlan s h rows left right ask q b .place)) b (sym (p .0)) (sym (p .1))

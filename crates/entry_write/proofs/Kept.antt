@@ -1,4 +1,4 @@
--- The entry keeps its promise: what it answers, and what it leaves in the text, by the first refusal. Assumes nothing.
+-- The entry keeps its promise: what it answers, and what it leaves in the text, by the first refusal.
 use mathlib.Core.Path.{_≡_, refl, sym, ap, _∙_}
 use mathlib.Core.Bool.{true, false}
 use mathlib.Core.List.{List, _++_}

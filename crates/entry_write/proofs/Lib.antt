@@ -3,3 +3,4 @@ pub mod LentCall
 pub mod Calls
 pub mod Kept
 pub mod WriteCall
+pub mod Spell

@@ -1,4 +1,4 @@
--- What write answers, by what judging said, the length of the text and the size of the buffer. Assumes nothing.
+-- What write answers, by what judging said, the length of the text and the size of the buffer.
 use mathlib.Core.Bool.{Bool, true, false, cond}
 use mathlib.Core.List.{List, [], _∷_}
 use Prim.Native.Nat.{ℕ}

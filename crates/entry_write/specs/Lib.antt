@@ -1,3 +1,3 @@
--- What the entry write promises of its parts.
+-- What the contracts of entry_write cite.
 pub mod Spell
 pub mod Answer

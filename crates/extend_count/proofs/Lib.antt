@@ -1,2 +1,5 @@
 -- Calls of the covered functions, as steps of a walk.
-pub mod Calls
+pub mod Count
+pub mod Extension
+pub mod Listed
+pub mod Rank

@@ -2,4 +2,3 @@
 pub mod Listed
 pub mod Rank
 pub mod Count
-pub mod Extension

@@ -2,7 +2,7 @@
 use meaning_rows::Row;
 use rows_pack::start_of;
 use rows_records::row_at;
-use sums_slide::Place;
+use sums_slide::Window;
 use sums_slide::next_out;
 use sums_slide::raise_end;
 use values::raised_sum;
@@ -94,7 +94,7 @@ pub fn count_new(
             s,
             w,
             e,
-            Place {
+            Window {
                 offset: j,
                 level: n,
             },

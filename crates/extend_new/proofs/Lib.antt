@@ -1,1 +1,3 @@
 -- No laws of their own.
+pub mod Join
+pub mod New

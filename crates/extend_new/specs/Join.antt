@@ -1,4 +1,4 @@
--- The first new run joined to the last old run of its row: what the code does, and that the parts then hold the runs up to its end (`joined-parts`, `joined-cursors`). Assumes nothing.
+-- The first new run joined to the last old run of its row: what the code does, and that the parts then hold the runs up to its end (`joined-parts`, `joined-cursors`).
 use mathlib.Core.Path.{_≡_, refl, sym, ap, _∙_}
 use mathlib.Core.Bool.{Bool, true, false, not, _&&_}
 use mathlib.Core.List.{List}
@@ -7,43 +7,34 @@ use native.Mathlib.Omega.{arith}
 use native.Mathlib.Decide.{decLt}
 use lib.Dec.{eqb}
 use lib.IntN.{ℤ}
-use lib.ListN.{length, getD, set, length-set}
+use lib.ListN.{length, set, length-set}
 use lib.Seq.{set-set, getD-set-other}
 use borrow.Author.Tests.{eqb-true, eqb-false}
 use Rattle.meaning_numbers.specs.Sum.{bit}
-use Rattle.meaning_numbers.proofs.Tests.{by-test, clash}
+use Rattle.meaning_numbers.proofs.Tests.{by-test}
 use Rattle.meaning_rows.specs.Runs.{before, runCount}
 use Rattle.meaning_rows.proofs.Runs.{runCount-more, before-more, before-some}
 use Rattle.meaning_rows.proofs.Columns.{putLeft, putRight, runCount-mono}
 use Rattle.meaning_rows.proofs.Parts.{Laid, Parts, stay-runs}
 use Rattle.meaning_rows.proofs.Cursors.{Cursors}
-use Rattle.sums_slide.specs.declared.Place.{Place}
+use Rattle.sums_slide.specs.declared.Window.{Window}
 use Rattle.sums_slide.specs.Levels.{level, windowsOf, within}
 use Rattle.sums_slide.specs.Change.{Stop}
 use Rattle.extend_new.specs.Turn.{parts-turn}
 
 -- where the first new run joins, its window is in the range and the spot in the buffer
-pub record Joinable (s : List ℤ) (w e : ℕ) (at : Place) (joins : Bool) (low up spot size : ℕ) : Type 0 where
+pub record Joinable (s : List ℤ) (w e : ℕ) (at : Window) (joins : Bool) (low up spot size : ℕ) : Type 0 where
   pub begins : joins ≡ true → at .offset < windowsOf s w
   pub sum : joins ≡ true → at .level ≡ level s w e (at .offset)
   pub holds : joins ≡ true → within low up (level s w e (at .offset)) ≡ true
   pub fits : joins ≡ true → spot < size
 
 -- the run is joined, or nothing is done
-pub record JoinedRun (s : List ℤ) (w e : ℕ) (at : Place) (joins : Bool) (low up spot : ℕ) (before : List ℕ) (t : Place) (after : List ℕ) : Type 0 where
+pub record JoinedRun (s : List ℤ) (w e : ℕ) (at : Window) (joins : Bool) (low up spot : ℕ) (before : List ℕ) (t : Window) (after : List ℕ) : Type 0 where
   pub stays : joins ≡ false → (t ≡ at) × (after ≡ before)
   pub stop : joins ≡ true → Stop (level s w e) (windowsOf s w) low up (at .offset) (t .offset) (t .level)
   pub ahead : joins ≡ true → at .offset < t .offset
   pub wrote : joins ≡ true → after ≡ set before spot (t .offset - 1)
-
--- ---- laws
-
--- a run that its first window's sum is in ends after it
-pub stop-ahead : {lv : ℕ → ℕ} {n low up from r z : ℕ} → from < n → within low up (lv from) ≡ true → Stop lv n low up from r z → from < r
-stop-ahead {lv} {n} {low} {up} {from} {r} {z} l t h = elim (decLt from r) [
-  | yes a ↦ a
-  | no f ↦ let e : r ≡ from = omega (arith, h .change .above) in clash t (rw e at (h .change .other (omega arith)))
-]
 
 -- a run that goes on has no new beginning
 goes-on : (p : ℕ → Bool) (from m : ℕ) → before p from ≡ true → ((j : ℕ) → from ≤ j → j < from + m → p j ≡ true) → runCount p (from + m) ≡ runCount p from

@@ -1,4 +1,4 @@
--- A window taken in by its row's part: the run that it goes on with reaches further, or a run begins; no other part is touched (`parts-turn`). Over plain variables. Assumes nothing.
+-- A window taken in by its row's part: the run that it goes on with reaches further, or a run begins; no other part is touched (`parts-turn`). Over plain variables.
 use mathlib.Core.Path.{_≡_, refl, sym, _∙_}
 use mathlib.Core.Bool.{Bool, true, false, not}
 use mathlib.Core.List.{List, [], _∷_, _++_}

@@ -1,5 +1,5 @@
 // The new windows of an extension: their row numbers, and the first new run where it joins the last old run of its row.
-use sums_slide::Place;
+use sums_slide::Window;
 use sums_slide::list_rows;
 use sums_slide::next_out;
 ghost use mathlib.Core.Path.{_≡_};
@@ -51,13 +51,13 @@ pub fn join_run(
     s: &[i32],
     w: usize,
     e: u64,
-    at: Place,
+    at: Window,
     joins: bool,
     low: u64,
     up: u64,
     spot: usize,
     right: &mut [u32],
-) -> Place
+) -> Window
     requires { ⌜ Lent (now s) w e ⌝ }
     requires { ⌜ Joinable (now s) w e at joins low up spot (length (now right)) ⌝ }
     ensures { λ t. ⌜ JoinedRun (now (s .entry)) w e at joins low up spot (now (right .entry)) t (now (right .exit)) ⌝ }

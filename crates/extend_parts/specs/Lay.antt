@@ -1,12 +1,7 @@
--- Row records with their parts, from the ends of the parts. Assumes nothing.
-use mathlib.Core.Path.{_≡_, refl, _∙_}
+-- Row records with their parts, from the ends of the parts.
 use mathlib.Core.List.{List}
-use Prim.Native.Nat.{ℕ, zero, suc, _+_, _-_, _<_, _≤_}
-use native.Mathlib.Numerals.{add-one}
-use native.Mathlib.Omega.{arith}
-use native.Mathlib.Decide.{decLt}
-use lib.ListN.{length, getD, set, length-set}
-use lib.Seq.{getD-set-same, getD-set-other}
+use Prim.Native.Nat.{ℕ, zero, suc, _-_, _<_, _≤_}
+use lib.ListN.{length, getD, set}
 use Rattle.meaning_rows.specs.declared.Row.{Row}
 use Rattle.rows_records.specs.Records.{zeroRow}
 use Rattle.rows_pack.specs.Packed.{startOf}
@@ -23,33 +18,3 @@ laidTo ends (suc n) rows = set (laidTo ends n rows) n (withPart (getD (laidTo en
 pub record EndsRoom (ends : List ℕ) (i : ℕ) : Type 0 where
   pub within : i < length ends
   pub order : startOf ends i ≤ getD ends i 0
-
--- ---- laws
-
-pub laid-none : (ends : List ℕ) (rows : List Row) → laidTo ends 0 rows ≡ rows
-unfolding laidTo
-laid-none ends rows = refl
-
-pub laid-more : (ends : List ℕ) (n : ℕ) (rows : List Row) → laidTo ends (n + 1) rows ≡ set (laidTo ends n rows) n (withPart (getD (laidTo ends n rows) n zeroRow) ends n)
-unfolding laidTo
-laid-more ends n rows = rw (add-one n)
-
-pub length-laid : (ends : List ℕ) (n : ℕ) (rows : List Row) → length (laidTo ends n rows) ≡ length rows
-unfolding laidTo
-length-laid ends zero rows = refl
-length-laid ends (suc n) rows = length-set (laidTo ends n rows) n (withPart (getD (laidTo ends n rows) n zeroRow) ends n) ∙ length-laid ends n rows
-
-pub laid-past : (ends : List ℕ) (n : ℕ) (rows : List Row) (i : ℕ) → n ≤ i → getD (laidTo ends n rows) i zeroRow ≡ getD rows i zeroRow
-unfolding laidTo
-laid-past ends zero rows i h = refl
-laid-past ends (suc n) rows i h = getD-set-other (laidTo ends n rows) n i (withPart (getD (laidTo ends n rows) n zeroRow) ends n) zeroRow (λ e. omega arith) ∙ laid-past ends n rows i (omega arith)
-
--- record i, where it is laid
-pub laid-at : (ends : List ℕ) (n : ℕ) (rows : List Row) → n ≤ length rows → (i : ℕ) → i < n → getD (laidTo ends n rows) i zeroRow ≡ withPart (getD rows i zeroRow) ends i
-unfolding laidTo
-laid-at ends zero rows h i l = absurd (omega arith)
-laid-at ends (suc n) rows h i l = elim (decLt i n) [
-  | yes b ↦ getD-set-other (laidTo ends n rows) n i (withPart (getD (laidTo ends n rows) n zeroRow) ends n) zeroRow (λ e. omega arith) ∙ laid-at ends n rows (omega arith) i b
-  | no f ↦ let e : i ≡ n = omega arith in
-      rw (e, getD-set-same (laidTo ends n rows) n (withPart (getD (laidTo ends n rows) n zeroRow) ends n) zeroRow (omega (arith, length-laid ends n rows)), laid-past ends n rows n (omega arith))
-]

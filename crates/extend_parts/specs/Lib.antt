@@ -1,7 +1,3 @@
--- What the contracts of extend_lay cite.
+-- What the contracts of extend_parts cite.
 pub mod Lay
 pub mod Copy
-pub mod Passed
-pub mod Records
-pub mod Columns
-pub mod OldRuns

@@ -1,2 +1,4 @@
 -- What the passes of an extension ask of those before them.
 pub mod Stages
+pub mod Finished
+pub mod Whole

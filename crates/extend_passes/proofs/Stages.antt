@@ -7,16 +7,19 @@ use lib.IntN.{ℤ}
 use lib.ListN.{length, getD}
 use Rattle.meaning_rows.specs.declared.Row.{Row}
 use Rattle.meaning_rows.specs.Extend.{extended}
-use Rattle.sums_slide.specs.declared.Place.{Place}
+use Rattle.sums_slide.specs.declared.Window.{Window}
 use Rattle.rows_records.specs.Records.{zeroRow}
-use Rattle.build_passes.specs.Filled.{buffers}
-use Rattle.build_fill.specs.Pass.{Passable, Passed}
-use Rattle.extend_parts.specs.OldRuns.{rowHas}
-use Rattle.extend_passes.specs.Steps.{joinsOf, JoinAsked, JoinedAt}
-use Rattle.extend_passes.specs.Passes.{CountAsked, CountedAs, LayAsked, LaidBy, CopyAsked, CopiedAs}
-use Rattle.extend_passes.specs.Shell.{madeRows, WovenAs}
+use Rattle.meaning_entries.specs.Buffers.{indexBuffers}
+use Rattle.build_fill.specs.Pass.{Passable, PassMade}
+use Rattle.extend_parts.proofs.OldRuns.{rowHas}
+use Rattle.extend_runs.specs.Joining.{JoinAsked, JoinedAt}
+use Rattle.extend_rows.specs.Steps.{joinsOf}
+use Rattle.extend_runs.specs.Copied.{CopyAsked, CopiedAs}
+use Rattle.extend_rows.specs.Passes.{CountAsked, CountedAs, LayAsked, LaidBy}
+use Rattle.extend_rows.specs.Shell.{madeRows, WovenAs}
 use Rattle.extend_passes.specs.Finished.{HoldsExtended}
-use Rattle.extend_passes.specs.Whole.{indexOf, PassesAsked, count-asked, first-in, lays-asked, copies-asked, old-fits, join-asked, fill-asked, extended-held, rows-counted}
+use Rattle.extend_passes.specs.Whole.{indexOf, PassesAsked}
+use Rattle.extend_passes.proofs.Whole.{count-asked, first-in, lays-asked, copies-asked, old-fits, join-asked, fill-asked, extended-held, rows-counted}
 
 module _ {s : List ℤ} {w e d base bias old : ℕ} {from : List Row} {lefts rights : List ℕ} {rows : List Row} {left right : List ℕ} (asked : PassesAsked s w e d base old from lefts rights rows left right × (bias ≡ 10000 * w + e)) where
   -- the windows that each row has
@@ -57,12 +60,12 @@ module _ {s : List ℤ} {w e d base bias old : ℕ} {from : List Row} {lefts rig
                 pub joins : (row .first + row .runs ≤ length rights) × JoinAsked s w e old (joinsOf s w old row rights) q row (length kr)
                 joins = rw (is-row, is-q) (old-fits (asked .0) ul long-ul ua n woven i vl vr counted′, join-asked (asked .0) ul long-ul ua n woven i vl vr counted′ za laid′ wl vr long-wl long-vr kl kr copied′)
 
-                module _ {t : Place} {jr : List ℕ} (joined : JoinedAt s w e old (joinsOf s w old row rights) q row kr t jr) where
+                module _ {t : Window} {jr : List ℕ} (joined : JoinedAt s w e old (joinsOf s w old row rights) q row kr t jr) where
                   joined′ : JoinedAt s w e old (joinsOf s w old (getD ua i zeroRow) rights) (getD za i zeroRow) (getD ua i zeroRow) kr t jr
                   joined′ = subst (λ (p : Row). JoinedAt s w e old (joinsOf s w old (getD ua i zeroRow) rights) p (getD ua i zeroRow) kr t jr) is-q (subst (λ (p : Row). JoinedAt s w e old (joinsOf s w old p rights) q p kr t jr) is-row joined)
 
                   pub fills : Passable has s w e t za n kl jr
                   fills = rw (woven .0) (fill-asked (asked .0) ul long-ul ua n woven i vl vr counted′ za laid′ wl vr long-wl long-vr kl kr copied′ t jr joined′)
 
-                  pub extends : {zl zr : List ℕ} → Passed has s w n kl jr zl zr → (n ≡ length (extended (indexOf w d old from lefts rights) s .rows)) × HoldsExtended (indexOf w d old from lefts rights) s (buffers rows left right) (buffers za zl zr)
-                  extends {zl} {zr} p = (rows-counted (asked .0) woven, extended-held (asked .0) ul long-ul ua n woven i vl vr counted′ za laid′ wl vr long-wl long-vr kl kr copied′ t jr joined′ zl zr (subst (λ (m : ℕ). Passed has s w m kl jr zl zr) (woven .0) p))
+                  pub extends : {zl zr : List ℕ} → PassMade has s w n kl jr zl zr → (n ≡ length (extended (indexOf w d old from lefts rights) s .rows)) × HoldsExtended (indexOf w d old from lefts rights) s (indexBuffers rows left right) (indexBuffers za zl zr)
+                  extends {zl} {zr} p = (rows-counted (asked .0) woven, extended-held (asked .0) ul long-ul ua n woven i vl vr counted′ za laid′ wl vr long-wl long-vr kl kr copied′ t jr joined′ zl zr (subst (λ (m : ℕ). PassMade has s w m kl jr zl zr) (woven .0) p))

@@ -1,11 +1,3 @@
--- What the contracts of extend cite.
-pub mod Steps
-pub mod Rowed
-pub mod Joined
+-- What the contracts of extend_passes cite.
 pub mod Finished
-pub mod Woven
-pub mod Counts
-pub mod Laid
-pub mod Shell
-pub mod Passes
 pub mod Whole

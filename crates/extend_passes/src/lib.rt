@@ -1,249 +1,20 @@
 // An index extended: the passes of an extension one after the other.
 use build_fill::fill_parts;
-use build_lay::clear_runs;
-use extend_count::count_new;
-use extend_count::find_above;
-use extend_count::last_ends;
-use extend_count::level_at;
-use extend_count::list_ends;
-use extend_new::join_run;
-use extend_new::list_new;
-use extend_new::take_join;
-use extend_parts::copy_column;
-use extend_parts::lay_rows;
-use extend_weave::weave_rows;
+use extend_rows::count_rows;
+use extend_rows::lay_joined;
+use extend_rows::weave_new;
+use extend_runs::copy_runs;
+use extend_runs::join_first;
 use meaning_rows::Row;
-use numbers::RAISE;
-use rows_pack::sum_up;
-use rows_records::clear_rows;
 use rows_records::row_at;
-use sums_slide::Place;
-use sums_slide::raise_end;
-use sums_slide::slide;
 ghost use mathlib.Core.Path.{_≡_};
-ghost use Prim.Native.Nat.{_+_, _-_, _*_, _<_, _≤_};
+ghost use Prim.Native.Nat.{_+_, _-_, _*_};
 ghost use lib.ListN.{length};
-ghost use Rattle.meaning_curves.specs.Limits.{greatestValue, widestRow};
-ghost use Rattle.meaning_rows.specs.Index.{Index};
+ghost use Rattle.meaning_curves.specs.Limits.{greatestValue};
 ghost use Rattle.meaning_rows.specs.Extend.{extended};
-ghost use Rattle.sums_slide.specs.Levels.{level, Lent, windowsOf};
-ghost use Rattle.sums_slide.specs.Picked.{Appended};
-ghost use Rattle.rows_pack.specs.Packed.{Summed};
-ghost use Rattle.build_fill.specs.Turn.{At};
-ghost use Rattle.build_passes.specs.Filled.{buffers};
-ghost use Rattle.extend_count.specs.Rank.{rank};
-ghost use Rattle.extend_count.specs.Count.{Countable, Counted};
-ghost use Rattle.extend_new.specs.New.{newTable, lessJoin};
-ghost use Rattle.extend_passes.specs.Steps.{firstNew, joinsOf, SumAsked, JoinAsked, JoinedAt};
-ghost use Rattle.extend_passes.specs.Passes.{CountAsked, CountedAs, LayAsked, LaidBy, CopyAsked, CopiedAs};
-ghost use Rattle.extend_passes.specs.Shell.{WeaveAsked, WovenAs};
+ghost use Rattle.meaning_entries.specs.Buffers.{indexBuffers};
 ghost use Rattle.extend_passes.specs.Finished.{HoldsExtended};
 ghost use Rattle.extend_passes.specs.Whole.{indexOf, PassesAsked};
-
-// The row numbers of the windows from `old` on, as `list_new` gives them. What the flags hold does not matter.
-pub fn list_by(
-    flags: [u8; 262144],
-    s: &[i32],
-    old: usize,
-    w: usize,
-    e: u64,
-    d: u64,
-    out: &mut [u32],
-) -> usize
-    requires { ⌜ Lent (now s) w e ⌝ }
-    requires { ⌜ old ≤ windowsOf (now s) w ⌝ }
-    requires { ⌜ (1 ≤ d) × (d ≤ widestRow) ⌝ }
-    requires { ⌜ length (newTable (now s) old w e d) ≤ length (now out) ⌝ }
-    ensures { λ r. ⌜ Appended (newTable (now (s .entry)) old w e d) 0 r (now (out .entry)) (now (out .exit)) ⌝ }
-{
-    let mut marks = flags;
-    list_new(s, old, w, e, d, &mut marks, out)
-}
-
-// The same, with flags of its own.
-pub fn list_numbers(s: &[i32], old: usize, w: usize, e: u64, d: u64, out: &mut [u32]) -> usize
-    requires { ⌜ (Lent (now s) w e) × (old ≤ windowsOf (now s) w) × ((1 ≤ d) × (d ≤ widestRow)) × (length (newTable (now s) old w e d) ≤ length (now out)) ⌝ }
-    ensures { λ r. ⌜ Appended (newTable (now (s .entry)) old w e d) 0 r (now (out .entry)) (now (out .exit)) ⌝ }
-{
-    list_by([0; 262144], s, old, w, e, d, out)
-}
-
-// The runs of the new windows counted; the row of the first new window, or 0 if no window is new.
-pub fn count_windows(
-    s: &[i32],
-    w: usize,
-    e: u64,
-    old: usize,
-    ups: &[u32],
-    count: usize,
-    counts: &mut [u32],
-) -> usize
-    requires { ⌜ Countable (now s) w e old (now ups) count (now counts) ⌝ }
-    ensures { λ i. ⌜ (Counted (now (s .entry)) w e old (now (ups .entry)) count (now (counts .entry)) (windowsOf (now (s .entry)) w) (now (counts .exit))) × (old < windowsOf (now (s .entry)) w → i ≡ rank (now (ups .entry)) count (level (now (s .entry)) w e old)) × (windowsOf (now (s .entry)) w ≤ old → i ≡ 0) ⌝ }
-{
-    count_new(s, w, e, old, ups, count, counts);
-    if old < s.len() + 1 - w {
-        find_above(ups, count, level_at(s, w, e, old))
-    } else {
-        0
-    }
-}
-
-// The first new window; 0 if no window is new.
-pub fn first_new(s: &[i32], w: usize, old: usize) -> usize
-    requires { ⌜ w ≤ length (now s) ⌝ }
-    ensures { λ j. ⌜ j ≡ firstNew (now (s .entry)) w old ⌝ }
-{
-    if old < s.len() + 1 - w { old } else { 0 }
-}
-
-// The counts added up, where that of row `i` is one less if the first new run joins the last old run of row `r`.
-pub fn sum_joined(
-    s: &[i32],
-    w: usize,
-    old: usize,
-    r: Row,
-    olds: &[u32],
-    i: usize,
-    counts: &mut [u32],
-    count: usize,
-)
-    requires { ⌜ (w ≤ length (now s)) × (r .first + r .runs ≤ length (now olds)) × (SumAsked (joinsOf (now s) w old r (now olds)) i (now counts) count) ⌝ }
-    ensures { λ _. ⌜ Summed count (lessJoin (joinsOf (now (s .entry)) w old r (now (olds .entry))) i (now (counts .entry))) (now (counts .exit)) ⌝ }
-{
-    let joins = last_ends(r, olds, first_new(s, w, old));
-    take_join(joins, i, counts);
-    sum_up(counts, count);
-}
-
-// Window `j` with its raised sum; `j` may be the number of windows.
-pub fn place_at(s: &[i32], w: usize, e: u64, j: usize) -> Place
-    requires { ⌜ Lent (now s) w e ⌝ }
-    requires { ⌜ j ≤ windowsOf (now s) w ⌝ }
-    ensures { λ p. ⌜ At (now (s .entry)) w e p × (p .offset ≡ j) ⌝ }
-{
-    if j < s.len() + 1 - w {
-        Place {
-            offset: j,
-            level: level_at(s, w, e, j),
-        }
-    } else {
-        Place {
-            offset: j,
-            level: slide(s, w, e, j - 1, level_at(s, w, e, j - 1)),
-        }
-    }
-}
-
-// Where the last old run of a row stands in the row's part; 0 if it has none.
-pub fn spot_of(r: Row) -> usize
-    ensures { λ n. ⌜ n ≡ r .runs - 1 ⌝ }
-{
-    let runs = r.runs as usize;
-    if runs == 0 { 0 } else { runs - 1 }
-}
-
-// The first new run joined, if it goes on from the last old run of its row; where the next run begins. `q` is the row with its new part, which is lent to its writer, `r` the row with its old runs.
-pub fn join_first(
-    s: &[i32],
-    w: usize,
-    e: u64,
-    old: usize,
-    q: Row,
-    r: Row,
-    olds: &[u32],
-    right: &mut [u32],
-) -> Place
-    requires { ⌜ (r .first + r .runs ≤ length (now olds)) × (JoinAsked (now s) w e old (joinsOf (now s) w old r (now olds)) q r (length (now right))) ⌝ }
-    ensures { λ t. ⌜ JoinedAt (now (s .entry)) w e old (joinsOf (now (s .entry)) w old r (now (olds .entry))) q r (now (right .entry)) t (now (right .exit)) ⌝ }
-{
-    let at = place_at(s, w, e, old);
-    let bias = RAISE * (w as u64) + e;
-    let low = raise_end(q.low, bias);
-    let up = raise_end(q.up, bias);
-    let joins = last_ends(r, olds, first_new(s, w, old));
-    let spot = spot_of(r);
-    let first = q.first as usize;
-    join_run(s, w, e, at, joins, low, up, spot, &mut right[first..])
-}
-
-// The rows of the extension woven into `rows`, not laid out yet, and zeros behind them; how many there are. The ghost value is the old index.
-pub fn weave_new(
-    s: &[i32],
-    w: usize,
-    e: u64,
-    d: u64,
-    base: u64,
-    old: usize,
-    from: &[Row],
-    rows: &mut [Row],
-    left: &mut [u32],
-) -> usize
-    ghost { Index }
-    requires { λ x. ⌜ WeaveAsked x (now s) w e d base old (now from) (now rows) (now left) ⌝ }
-    ensures { λ x n. ⌜ WovenAs x (now (s .entry)) (now (rows .entry)) (now (rows .exit)) n ⌝ }
-{
-    let k = list_numbers(s, old, w, e, d, left);
-    let n = weave_rows(from, left, k, d, base, rows);
-    clear_rows(rows, n);
-    n
-}
-
-// The runs of the first `n` rows counted in `left`, beside their raised upper ends in `right`; the row of the first new window.
-pub fn count_rows(
-    s: &[i32],
-    w: usize,
-    e: u64,
-    bias: u64,
-    old: usize,
-    rows: &[Row],
-    n: usize,
-    left: &mut [u32],
-    right: &mut [u32],
-) -> usize
-    requires { ⌜ CountAsked (now s) w e bias old (now rows) n (now left) (now right) ⌝ }
-    ensures { λ i. ⌜ CountedAs (now (s .entry)) w e bias old (now (rows .entry)) n (now (left .entry)) (now (right .entry)) i (now (left .exit)) (now (right .exit)) ⌝ }
-{
-    list_ends(rows, n, bias, right, left);
-    count_windows(s, w, e, old, right, n, left)
-}
-
-// The first `n` rows laid out by their counts, of which that of row `i`, which had `row` before, is one less if the first new run joins.
-pub fn lay_joined(
-    s: &[i32],
-    w: usize,
-    old: usize,
-    row: Row,
-    olds: &[u32],
-    i: usize,
-    rows: &mut [Row],
-    n: usize,
-    left: &mut [u32],
-)
-    requires { ⌜ LayAsked (now s) w old row (now olds) i (now rows) n (now left) ⌝ }
-    ensures { λ _. ⌜ LaidBy (now (s .entry)) w old row (now (olds .entry)) i (now (rows .entry)) n (now (left .entry)) (now (rows .exit)) ⌝ }
-{
-    sum_joined(s, w, old, row, olds, i, left, n);
-    lay_rows(left, n, rows);
-}
-
-// The old runs copied to the parts of the first `n` rows, in columns made 0.
-pub fn copy_runs(
-    from: &[Row],
-    lefts: &[u32],
-    rights: &[u32],
-    rows: &[Row],
-    n: usize,
-    left: &mut [u32],
-    right: &mut [u32],
-)
-    requires { ⌜ CopyAsked (now from) (now lefts) (now rights) (now rows) n (now left) (now right) ⌝ }
-    ensures { λ _. ⌜ CopiedAs (now (from .entry)) (now (lefts .entry)) (now (rights .entry)) (now (rows .entry)) n (now (left .entry)) (now (right .entry)) (now (left .exit)) (now (right .exit)) ⌝ }
-{
-    clear_runs(left, right);
-    copy_column(from, lefts, rows, n, left);
-    copy_column(from, rights, rows, n, right);
-}
 
 // The index extended over the series; how many rows it has. Sums are raised by `bias` in all, which is `base` row widths.
 pub fn extend_passes(
@@ -263,7 +34,7 @@ pub fn extend_passes(
 ) -> usize
     requires { ⌜ (PassesAsked (now s) w e d base old (now from) (now lefts) (now rights) (now rows) (now left) (now right)) × (bias ≡ greatestValue * w + e) ⌝ }
     ensures { λ n. ⌜ (n ≡ length (extended (indexOf w d old (now (from .entry)) (now (lefts .entry)) (now (rights .entry))) (now (s .entry)) .rows))
-        × HoldsExtended (indexOf w d old (now (from .entry)) (now (lefts .entry)) (now (rights .entry))) (now (s .entry)) (buffers (now (rows .entry)) (now (left .entry)) (now (right .entry))) (buffers (now (rows .exit)) (now (left .exit)) (now (right .exit))) ⌝ }
+        × HoldsExtended (indexOf w d old (now (from .entry)) (now (lefts .entry)) (now (rights .entry))) (now (s .entry)) (indexBuffers (now (rows .entry)) (now (left .entry)) (now (right .entry))) (indexBuffers (now (rows .exit)) (now (left .exit)) (now (right .exit))) ⌝ }
 {
     let n = weave_new(s, w, e, d, base, old, from, rows, left);
     let i = count_rows(s, w, e, bias, old, rows, n, left, right);

@@ -1,4 +1,4 @@
--- The plan of an extension is its refusal (`plan-is`); where it refuses nothing, the index is well formed and the series long enough, and the buffers have room (`sound`). Assumes nothing.
+-- The plan of an extension is its refusal (`plan-is`); where it refuses nothing, the index is well formed and the series long enough, and the buffers have room (`sound`).
 use mathlib.Core.Path.{_≡_, refl}
 use mathlib.Core.List.{List}
 use mathlib.Core.Option.{none, some}
@@ -14,7 +14,7 @@ use Rattle.meaning_rows.proofs.Extend.{Extendable}
 use Rattle.meaning_entries.specs.Refusal.{moreWindows}
 use Rattle.meaning_entries.specs.Buffers.{IndexBuffers, runRoom}
 use Rattle.meaning_entries.specs.Extend.{ExtendCall, lentExtend, extendWindows, extendTable, extendRefusal}
-use Rattle.meaning_entries.proofs.Refusal.{Passed, passed-is, openLines, passed-line, passed-behind, lacks}
+use Rattle.meaning_entries.proofs.Refusal.{AllPass, passed-is, openLines, passed-line, passed-behind, lacks}
 use Rattle.meaning_entries.proofs.Lines.{room-line}
 use Rattle.meaning_entries.proofs.Made.{extend-formed, extendable}
 use Rattle.rows_judge.specs.Judged.{judgedOf, bad-row}
@@ -51,7 +51,7 @@ module _ (series : List ℤ) (h : Head) (rows : List Row) (left right : List ℕ
     pub run-room : extendWindows call ≤ runRoom b
 
   module _ (z : thePlan .number ≡ 0) where
-    t : Passed (extendTable call b)
+    t : AllPass (extendTable call b)
     t = passes (extendTable call b) never-0 plan-is z
 
     pub goes-on : extendRefusal call b ≡ none

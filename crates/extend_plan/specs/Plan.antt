@@ -1,4 +1,4 @@
--- What refuses an extension (`planOf`), over what code has: the index is told by its head and by what judging said of it. Assumes nothing.
+-- What refuses an extension (`planOf`), over what code has: the index is told by its head and by what judging said of it.
 use mathlib.Core.List.{List, [], _∷_, _++_}
 use Prim.Native.Nat.{ℕ}
 use lib.IntN.{ℤ}

@@ -1,2 +1,4 @@
--- Calls of the covered functions, as steps of a walk.
-pub mod Calls
+-- That the counts of a weave fit.
+pub mod Fits
+pub mod Weave
+pub mod Woven

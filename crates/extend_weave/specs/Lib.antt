@@ -1,3 +1,3 @@
--- What the contracts of extend_rows cite.
+-- What the contracts of extend_weave cite.
 pub mod Turn
 pub mod Weave

@@ -1,4 +1,4 @@
--- A turn of the walk over old rows and row numbers, by the next old row and the low end of the next number's range. Assumes nothing.
+-- A turn of the walk over old rows and row numbers, by the next old row and the low end of the next number's range.
 use mathlib.Core.Bool.{cond}
 use mathlib.Core.List.{List}
 use Prim.Native.Nat.{ℕ, _+_, _*_, _<_, _≤_}

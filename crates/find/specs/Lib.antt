@@ -1,2 +1,2 @@
--- What the contracts of the program cite.
+-- What the contracts of find cite.
 pub mod Reading

@@ -1,4 +1,4 @@
--- Small cases of the definitions, in one table that one proof covers. Assumes nothing.
+-- Small cases of the definitions, in one table that one proof covers.
 use mathlib.Core.Bool.{Bool, false, not, _&&_}
 use mathlib.Core.List.{List, [], _∷_, map}
 use mathlib.Core.Option.{Option, none, some}

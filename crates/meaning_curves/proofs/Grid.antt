@@ -1,5 +1,5 @@
 -- The table as code keeps it: a number for each pair, `big` where there is none. Inside the band a pair always has a total before it, so an entry is the least of the three numbers before plus the cost, and outside it is `big`: no test for `big` is needed (`grid-inner`, `grid-top`, `grid-side`, `grid-out`).
--- It asks that `big` is at least every total, and a total is at most (i + j + 1) times the greatest cost (`path-small`). Assumes nothing.
+-- It asks that `big` is at least every total, and a total is at most (i + j + 1) times the greatest cost (`path-small`).
 use mathlib.Core.Path.{_≡_, refl}
 use mathlib.Core.Bool.{Bool, true, false}
 use mathlib.Core.Option.{Option, none, some}

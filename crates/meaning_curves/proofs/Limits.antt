@@ -1,4 +1,4 @@
--- The first value outside its limits: `firstOutside` answers its place exactly if it is that (`outside-is`, `is-outside`), and nothing exactly if every value is inside (`values-in`, `in-values`). From the laws of the first place. Assumes nothing.
+-- The first value outside its limits: `firstOutside` answers its place exactly if it is that (`outside-is`, `is-outside`), and nothing exactly if every value is inside (`values-in`, `in-values`). From the laws of the first place.
 use mathlib.Core.Path.{_≡_}
 use mathlib.Core.Bool.{not}
 use mathlib.Core.List.{List}

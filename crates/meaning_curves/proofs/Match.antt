@@ -1,4 +1,4 @@
--- When a stretch matches a query, as facts: the tests `rawMatch` and `normalMatch` pass exactly where they hold. Assumes nothing.
+-- When a stretch matches a query, as facts: the tests `rawMatch` and `normalMatch` pass exactly where they hold.
 use mathlib.Core.Bool.{not, _&&_}
 use Prim.Native.Nat.{ℕ, zero, suc, _*_, _<_, _≤_}
 use native.Mathlib.Omega.{arith}

@@ -1,4 +1,4 @@
--- Normalised values. `cut` is the number that `IsCut` describes (`cut-is`), by the laws of the root and of the quotient, and the only one (`cut-only`); so a normalised value is the one that document 01 describes (`normalised-is`). Assumes nothing.
+-- Normalised values. `cut` is the number that `IsCut` describes (`cut-is`), by the laws of the root and of the quotient, and the only one (`cut-only`); so a normalised value is the one that document 01 describes (`normalised-is`).
 use mathlib.Core.Path.{_≡_, refl}
 use Prim.Native.Nat.{ℕ, _+_, _*_, _/_, _<_, _≤_}
 use native.Mathlib.Omega.{arith}

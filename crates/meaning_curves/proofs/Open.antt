@@ -1,4 +1,4 @@
--- Every definition of this crate that stays shut until it is named, and those below, under one name: a proof that computes a case says `unfolding openCurves`. Assumes nothing.
+-- Every definition of this crate that stays shut until it is named, and those below, under one name: a proof that computes a case says `unfolding openCurves`.
 use Rattle.meaning_numbers.proofs.Open.{openNumbers}
 use Rattle.meaning_curves.specs.Limits.{firstOutside}
 use Rattle.meaning_curves.specs.Curve.{windowSum, spread}

@@ -1,4 +1,4 @@
--- Distances, spreads and normalised values of m values ask for those values alone: curves that agree below m have the same (`distance-same`, `spread-same`, `normalised-same`). For the warped distance, each path of the one is a path of the other (`path-same`). Assumes nothing.
+-- Distances, spreads and normalised values of m values ask for those values alone: curves that agree below m have the same (`distance-same`, `spread-same`, `normalised-same`). For the warped distance, each path of the one is a path of the other (`path-same`).
 use mathlib.Core.Path.{_≡_, sym}
 use Prim.Native.Nat.{ℕ, suc, _<_}
 use native.Mathlib.Omega.{arith}

@@ -1,5 +1,5 @@
 -- How large the numbers get, for code that computes them. The squares of the centred values sum to m × A (`centred-sum`), so each is at most m × A, and a normalised value is at most 100 times the root of m: at most 3200 where m is at most 1024 (`normal-small`).
--- The spread is at most (m × V)² where no value exceeds V (`spread-le`). Assumes nothing.
+-- The spread is at most (m × V)² where no value exceeds V (`spread-le`).
 use mathlib.Core.Path.{_≡_, refl, ap, _∙_, sym}
 use Prim.Native.Nat.{ℕ, zero, suc, _*_, _<_, _≤_}
 use native.Mathlib.Omega.{arith}

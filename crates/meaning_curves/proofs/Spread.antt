@@ -1,4 +1,4 @@
--- `spread` is the formula of document 01 over whole numbers, A = m × Σs² - T × T (`spread-is`): the difference is cut at 0 nowhere, as |Σs| ≤ Σ|s| (`sizes`) and, by Cauchy, (Σ|s|)² ≤ m × Σ|s|². Assumes nothing.
+-- `spread` is the formula of document 01 over whole numbers, A = m × Σs² - T × T (`spread-is`): the difference is cut at 0 nowhere, as |Σs| ≤ Σ|s| (`sizes`) and, by Cauchy, (Σ|s|)² ≤ m × Σ|s|².
 use mathlib.Core.Path.{_≡_, refl}
 use Prim.Native.Nat.{ℕ, zero, suc, _-_, _*_, _≤_}
 use native.Mathlib.Omega.{arith}

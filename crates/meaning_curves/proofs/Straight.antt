@@ -1,5 +1,4 @@
 -- At band 0 a path is the diagonal: its total is the sum of squared differences (`diagonal`), and there is one (`diagonal-path`). So the straight distance is the warped one at band 0 (`straight-is`), and `distance` is the warped distance at every band (`distance-is`).
--- Assumes nothing.
 use mathlib.Core.Path.{_≡_, refl, sym}
 use Prim.Native.Nat.{ℕ, zero, suc, _-_, _<_}
 use native.Mathlib.Omega.{arith}

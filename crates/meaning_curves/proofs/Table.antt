@@ -1,5 +1,5 @@
 -- The table holds the least totals. `attained`: what it holds is the total of a path (by recursion on the table). `least-total`: no path to (i, j) has a smaller one (by induction on the path).
--- Inside the band there is always a path (`in-band`), so `warped` is the warped distance (`warped-is`), and there is only one (`warped-only`). Assumes nothing.
+-- Inside the band there is always a path (`in-band`), so `warped` is the warped distance (`warped-is`), and there is only one (`warped-only`).
 use mathlib.Core.Path.{_≡_, refl}
 use mathlib.Core.Bool.{Bool, true, false}
 use mathlib.Core.Option.{Option, none, some}

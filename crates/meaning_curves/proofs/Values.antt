@@ -1,14 +1,14 @@
--- A value in its limits, and every value of a list: by place, with a default that lies in the limits, so that no length is asked. What two such values are apart is at most 20,000, and its square at most 400,000,000. Assumes nothing.
+-- A value in its limits, and every value of a list: by place, with a default that lies in the limits, so that no length is asked. What two such values are apart is at most 20,000, and its square at most 400,000,000.
 use mathlib.Core.Path.{_≡_, sym, subst}
 use mathlib.Core.Bool.{Bool, true, false, not}
 use mathlib.Core.Logic.{⊎-elim}
 use mathlib.Core.List.{List}
 use mathlib.Core.Option.{none}
-use Prim.Native.Nat.{ℕ, suc, _+_, _*_, _<_, _≤_}
+use Prim.Native.Nat.{ℕ, suc, _+_, _*_, _<_, _≤_, _-_}
 use native.Mathlib.Decide.{decLe}
 use native.Mathlib.Omega.{arith}
 use lib.Dec.{T}
-use lib.ListN.{length, List·getD-eq-default}
+use lib.ListN.{length, List·getD-eq-default, take, length-take}
 use lib.IntN.{ℤ, pos, negsuc, _-ℤ_, natAbs}
 use Rattle.meaning_numbers.specs.Sum.{Σℕ}
 use Rattle.meaning_numbers.proofs.Rep.{zarith, z-sub}
@@ -71,3 +71,6 @@ cost-le h k = omega (arith, sq-le (gap-le h k))
 -- n squared differences from place p on
 pub costs-le : {s q : List ℤ} → AllIn s → AllIn q → (from p n : ℕ) → Σℕ n (λ k. cost (stretch s from (p + k)) (at q (p + k))) ≤ 400000000 * n
 costs-le {s} {q} h i from p n = Σℕ-le n 400000000 (λ k. cost (stretch s from (p + k)) (at q (p + k))) (λ k l. cost-le (h .at (from + (p + k))) (i .at (p + k)))
+
+pub front-long : (n : ℕ) (l : List ℤ) → n ≤ length l → length (take (n - 0) l) ≡ n
+front-long n l h = omega (arith, length-take (n - 0) l)

@@ -1,4 +1,4 @@
--- The constants of the code (src/lib.rt) are the limits (`meant`). Assumes nothing.
+-- The constants of the code (src/lib.rt) are the limits (`meant`).
 use lib.IntN.{pos}
 use Rattle.meaning_curves.specs.declared.Constants.{Constants}
 use Rattle.meaning_curves.specs.Limits.{mostValues, mostProgramValues, leastValue, greatestValue, longestWindow, widestRow, greatestMerge, longestQuery, greatestThreshold, leastScale, greatestScale, greatestShift, lowestEnd, highestEnd}

@@ -1,4 +1,4 @@
--- A curve is its value at each place. A stretch or a query has m values; what stands past them is asked by nothing. Assumes nothing.
+-- A curve is its value at each place. A stretch or a query has m values; what stands past them is asked by nothing.
 use mathlib.Core.List.{List}
 use Prim.Native.Nat.{ℕ, _+_, _-_, _*_}
 use lib.IntN.{ℤ, pos, natAbs}

@@ -1,4 +1,4 @@
--- The limits of document 01, 'The product' and 'Rows': what each quantity may be by itself. Those against n and w stand with their refusals (`Refusal`), that of 18 digits with numbers (`Number`). Assumes nothing.
+-- The limits of document 01, 'The product' and 'Rows': what each quantity may be by itself. Those against n and w stand with their refusals (`Refusal`), that of 18 digits with numbers (`Number`).
 use mathlib.Core.Bool.{Bool, not}
 use mathlib.Core.List.{List}
 use mathlib.Core.Option.{Option}

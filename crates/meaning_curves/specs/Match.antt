@@ -1,4 +1,4 @@
--- The four kinds of match: raw or normalised, each straight (band 0) or warped. Assumes nothing.
+-- The four kinds of match: raw or normalised, each straight (band 0) or warped.
 use mathlib.Core.Bool.{Bool, not, _&&_}
 use Prim.Native.Nat.{ℕ, zero, suc, _*_}
 use lib.Dec.{leb}

@@ -1,4 +1,4 @@
--- Normalised values, in hundredths cut toward zero. Assumes nothing.
+-- Normalised values, in hundredths cut toward zero.
 use mathlib.Core.Bool.{Bool}
 use Prim.Native.Nat.{ℕ, _+_, _*_, _/_, _<_, _≤_}
 use lib.Dec.{eqb}

@@ -1,4 +1,4 @@
--- The straight distance. Assumes nothing.
+-- The straight distance.
 use Prim.Native.Nat.{ℕ}
 use lib.IntN.{ℤ, _-ℤ_, natAbs}
 use Rattle.meaning_numbers.specs.Sum.{Σℕ, square}

@@ -1,4 +1,4 @@
--- The table that computes the warped distance: at (i, j) the least total of the paths to that pair, or none where no path leads (laws: `attained`, `least-total`). Assumes nothing.
+-- The table that computes the warped distance: at (i, j) the least total of the paths to that pair, or none where no path leads (laws: `attained`, `least-total`).
 use mathlib.Core.Bool.{Bool, true, false, _&&_}
 use mathlib.Core.Option.{Option, none, some}
 use Prim.Native.Nat.{ℕ, zero, suc, _+_, _-_, min}

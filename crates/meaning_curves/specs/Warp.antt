@@ -1,5 +1,5 @@
 -- The warped distance by paths: 'least total of squared differences over paths from pair (0, 0) to pair (m-1, m-1), each step adding 1 to the first place,
--- the second or both, every pair (i, j) having |i - j| at most b' (01, Distances). `Table` computes it (law: `warped-is`). Assumes nothing.
+-- the second or both, every pair (i, j) having |i - j| at most b' (01, Distances). `Table` computes it (law: `warped-is`).
 use Prim.Native.Nat.{ℕ, suc, _+_, _-_, _≤_}
 use lib.IntN.{ℤ}
 use Rattle.meaning_curves.specs.Straight.{cost}

@@ -1,4 +1,4 @@
--- Reading and writing undo each other. A text that is read and written again is the same text, so only texts that a writer writes are read (`load-again`); a well-formed index has numbers that can be spelled (`spelled`), and its text gives its head, its rows and their runs back (`write-load`). Assumes nothing.
+-- Reading and writing undo each other. A text that is read and written again is the same text, so only texts that a writer writes are read (`load-again`); a well-formed index has numbers that can be spelled (`spelled`), and its text gives its head, its rows and their runs back (`write-load`).
 use mathlib.Core.Path.{_≡_, refl, sym, ap, _∙_, subst}
 use mathlib.Core.Bool.{true}
 use mathlib.Core.List.{List, [], _∷_, map}

@@ -1,4 +1,4 @@
--- Rows of the table of cases that are calls over lent buffers: the answer, and every buffer afterwards. Answers and buffers are compared as lists of numbers. Assumes nothing.
+-- Rows of the table of cases that are calls over lent buffers: the answer, and every buffer afterwards. Answers and buffers are compared as lists of numbers.
 use mathlib.Core.Bool.{Bool, _&&_}
 use mathlib.Core.List.{List, [], _∷_, _++_}
 use mathlib.Core.Option.{Option, none, some}
@@ -31,7 +31,7 @@ use Rattle.meaning_entries.specs.Audit.{lentAudit, auditAnswer}
 use Rattle.meaning_entries.specs.Write.{writeAnswer, writeAfter}
 use Rattle.meaning_entries.specs.Load.{loadAnswer, loadAfter}
 use Rattle.meaning_entries.specs.Search.{SearchCall, SearchBuffers, lentSearch, searchAnswer, searchAfter}
-use Rattle.meaning_entries.specs.Told.{demandAnswer}
+use Rattle.meaning_entries.specs.Both.{demandAnswer}
 use Rattle.meaning_entries.specs.AuditText.{auditTextAnswer, auditText, pack, unpack}
 use Rattle.meaning_entries.specs.Program.{program}
 
@@ -96,9 +96,9 @@ records [] = []
 records (r ∷ l) = natAbs (r .low) ∷ natAbs (r .up) ∷ r .first ∷ r .runs ∷ records l
 
 -- the buffers one after the other
-indexBuffers : IndexBuffers → List ℕ
+bufferNumbers : IndexBuffers → List ℕ
 unfolding records
-indexBuffers b = records (b .rows) ++ (b .left ++ b .right)
+bufferNumbers b = records (b .rows) ++ (b .left ++ b .right)
 
 searchBuffers : SearchBuffers → List ℕ
 searchBuffers b = b .left ++ (b .right ++ (b .scratch ++ (b .offsets ++ b .distances)))
@@ -132,12 +132,12 @@ build : List ℤ → ℤ → ℤ → ℤ → BuildCall
 build s w d g = record { series = s; window = w; width = d; merge = g }
 
 builds : BuildCall → IndexBuffers → List ℕ → List ℕ → Bool
-unfolding same built indexBuffers
-builds c b answer after = same (built (buildAnswer c b)) answer && same (indexBuffers (buildAfter c b)) after
+unfolding same built bufferNumbers
+builds c b answer after = same (built (buildAnswer c b)) answer && same (bufferNumbers (buildAfter c b)) after
 
 grows : ExtendCall → IndexBuffers → List ℕ → List ℕ → Bool
-unfolding same grown indexBuffers
-grows c b answer after = same (grown (extendAnswer c b)) answer && same (indexBuffers (extendAfter c b)) after
+unfolding same grown bufferNumbers
+grows c b answer after = same (grown (extendAnswer c b)) answer && same (bufferNumbers (extendAfter c b)) after
 
 -- a straight search with a = 10, h = 0
 searchIn : List ℤ → Index → Kind → List ℤ → ℤ → SearchCall
@@ -239,7 +239,7 @@ calls =
     ∷ same (writeAfter workedIndex (replicate 3 7)) (7 ∷ 7 ∷ 7 ∷ [])
     -- read: the worked index text, buffers exactly long enough, and too short
     ∷ same (loaded (loadAnswer (bytes "(index (window 2) (width 2) (windows 4)\n(row 2 4 (0 0))\n(row 4 8 (1 3))\n)\n") (sevens 2 2 2))) (2 ∷ 2 ∷ 4 ∷ 2 ∷ 2 ∷ [])
-    ∷ same (indexBuffers (loadAfter (bytes "(index (window 2) (width 2) (windows 4)\n(row 2 4 (0 0))\n(row 4 8 (1 3))\n)\n") (sevens 2 3 2)))
+    ∷ same (bufferNumbers (loadAfter (bytes "(index (window 2) (width 2) (windows 4)\n(row 2 4 (0 0))\n(row 4 8 (1 3))\n)\n") (sevens 2 3 2)))
     (2 ∷ 4 ∷ 0 ∷ 1 ∷ 4 ∷ 8 ∷ 1 ∷ 1 ∷ 0 ∷ 1 ∷ 0 ∷ 0 ∷ 3 ∷ [])
     ∷ same (loaded (loadAnswer (bytes "(index (window 2) (width 2) (windows 4)\n(row 2 4 (0 0))\n(row 4 8 (1 3))\n)\n") (sevens 1 2 2))) (23 ∷ 0 ∷ [])
     ∷ same (loaded (loadAnswer (bytes "(index (window 2) (width 2) (windows 4)\n(row 2 4 (0 0))\n(row 4 8 (1 3))\n)\n") (sevens 2 2 1))) (23 ∷ 0 ∷ [])

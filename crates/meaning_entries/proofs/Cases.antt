@@ -1,4 +1,4 @@
--- The table of cases: the starred cases of document 01 ('Worth trying'), its worked texts, calls over lent buffers, edges, and texts of files. One proof covers the table. Assumes nothing.
+-- The table of cases: the starred cases of document 01 ('Worth trying'), its worked texts, calls over lent buffers, edges, and texts of files. One proof covers the table.
 use mathlib.Core.Bool.{Bool, not, _&&_}
 use mathlib.Core.List.{List, [], _∷_, _++_, map}
 use Prim.Native.Nat.{ℕ}

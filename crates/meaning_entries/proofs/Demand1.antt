@@ -1,4 +1,4 @@
--- Demand 1 of the meanings: each entry's answer refuses by the first line of its table that applies, and by no other. By cases on that line; of a search, the one line with the number 24 has the place 0. Assumes nothing.
+-- Demand 1 of the meanings: each entry's answer refuses by the first line of its table that applies, and by no other. By cases on that line; of a search, the one line with the number 24 has the place 0.
 use mathlib.Core.Path.{_≡_, refl, sym, ap, _∙_, subst}
 use mathlib.Core.Bool.{Bool, true, false, not, cond, _&&_}
 use mathlib.Core.List.{List, [], _∷_}

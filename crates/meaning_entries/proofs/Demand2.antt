@@ -1,4 +1,4 @@
--- Demand 2 for code: an entry that gives the answer that is meant and leaves the buffers that are meant keeps its promise; number, place and counts follow from the answer. By cases on the refusal. Assumes nothing.
+-- Demand 2 for code: an entry that gives the answer that is meant and leaves the buffers that are meant keeps its promise; number, place and counts follow from the answer. By cases on the refusal.
 use mathlib.Core.Path.{_≡_, refl, ap, _∙_}
 use mathlib.Core.Bool.{Bool, true, false}
 use mathlib.Core.List.{List}

@@ -1,5 +1,5 @@
 -- Demand 3, proved as specs/Demand3.antt states it. Each of the two searches has listed the matches that it means (`listed-is`), its index lets the filter reach every window (`passes-reached`),
--- so what it means is all matches (`all-found`), which do not depend on the index. Assumes nothing.
+-- so what it means is all matches (`all-found`), which do not depend on the index.
 use mathlib.Core.Path.{_≡_, sym, ap, subst, _∙_}
 use mathlib.Core.List.{List}
 use Prim.Native.Nat.{ℕ}

@@ -1,4 +1,4 @@
--- Rows of the table of cases at the edges, each a slip that a reader found nothing else to catch. Assumes nothing.
+-- Rows of the table of cases at the edges, each a slip that a reader found nothing else to catch.
 use mathlib.Core.Bool.{Bool}
 use mathlib.Core.List.{List, [], _∷_}
 use Rattle.meaning_entries.proofs.Row.{prints, audits, extends}

@@ -1,4 +1,4 @@
--- What a search that kept its promise and answered 24 has listed: the first of the matches that it means, as many as the list holds (`full-listed`), and through an index that passes the first of all matches (`full-all`). Assumes nothing.
+-- What a search that kept its promise and answered 24 has listed: the first of the matches that it means, as many as the list holds (`full-listed`), and through an index that passes the first of all matches (`full-all`).
 use mathlib.Core.Path.{_≡_, refl, sym, ap, _∙_}
 use mathlib.Core.Option.{Option, none, some}
 use Prim.Native.Nat.{ℕ, _<_}

@@ -12,7 +12,7 @@ pub mod Pack
 pub mod Passes
 pub mod Full
 pub mod Demand3
-pub mod Told
+pub mod BothTold
 pub mod Witness
 pub mod Made
 pub mod Standing
@@ -22,3 +22,6 @@ pub mod Calls
 pub mod Edges
 pub mod Vectors
 pub mod Cases
+pub mod BothKept
+pub mod BothOnly
+pub mod Filled

@@ -1,4 +1,4 @@
--- What is known where a line of a table does not apply; and back, for lines that several tables have. Assumes nothing.
+-- What is known where a line of a table does not apply; and back, for lines that several tables have.
 use mathlib.Core.Path.{_≡_, refl, ap}
 use mathlib.Core.Bool.{Bool, false, not, _||_}
 use mathlib.Core.List.{List}
@@ -16,10 +16,11 @@ use Rattle.meaning_numbers.proofs.Between.{Between, within-yes}
 use Rattle.meaning_curves.specs.Limits.{lengthIn, windowIn, widthIn, mergeIn, queryLengthIn, bandIn, thresholdIn, scaleIn, shiftIn, firstOutside}
 use Rattle.meaning_curves.proofs.Values.{AllIn, none-outside}
 use Rattle.meaning_rows.specs.Index.{Index}
-use Rattle.meaning_rows.proofs.Judge.{Natural, between, WellFormed, well-formed}
+use Rattle.meaning_rows.proofs.Judge.{between, WellFormed, well-formed}
 use Rattle.meaning_filter.specs.declared.Kind.{Kind}
 use Rattle.meaning_entries.specs.Refusal.{atZero, lengthOutside, valueOutside, windowOutside, widthOutside, mergeOutside, queryLengthOutside, queryBelowWindow, bandOutside, thresholdOutside, scaleOrShiftOutside, normalFlat, flatQuery, illFormed, windowsOf, fewerWindows, moreWindows, bufferShort, seriesLines, countLines, roomLines}
-use Rattle.meaning_entries.proofs.Refusal.{Passed, end, more, not-if}
+use Rattle.meaning_entries.proofs.Refusal.{AllPass, end, more, not-if}
+pub use Rattle.meaning_rows.proofs.Judge.{Natural}
 
 -- limits that are not passed
 inside : (low high : ℕ) (z : ℤ) → T (not (not (within (pos low) (pos high) z))) → Natural low high z
@@ -92,14 +93,14 @@ room-line room needed e = nltb→le room needed (not-if 23 (ltb room needed) e)
 not-applies : (n : ℕ) (t : Bool) → t ≡ false → atZero n t .place ≡ none
 not-applies n t e = rw e refl
 
-pub series-passes : (most : ℕ) (s : List ℤ) → T (lengthIn most (length s)) → firstOutside s ≡ none → Passed (seriesLines most s)
+pub series-passes : (most : ℕ) (s : List ℤ) → T (lengthIn most (length s)) → firstOutside s ≡ none → AllPass (seriesLines most s)
 unfolding lengthOutside valueOutside
 series-passes most s t e = more (not-applies 1 (not (lengthIn most (length s))) (ap not (is-true (lengthIn most (length s)) t))) (more e end)
 
-pub count-passes : (n : ℕ) (x : Index) → windowsOf x n ≤ℤ x .windows → x .windows ≤ℤ windowsOf x n → Passed (countLines n x)
+pub count-passes : (n : ℕ) (x : Index) → windowsOf x n ≤ℤ x .windows → x .windows ≤ℤ windowsOf x n → AllPass (countLines n x)
 unfolding fewerWindows moreWindows
 count-passes n x h k = more (not-applies 21 (ltZ (x .windows) (windowsOf x n)) (le-ltZ h)) (more (not-applies 22 (ltZ (windowsOf x n) (x .windows)) (le-ltZ k)) end)
 
-pub room-passes : {one needed other wanted : ℕ} → needed ≤ one → wanted ≤ other → Passed (roomLines one needed other wanted)
+pub room-passes : {one needed other wanted : ℕ} → needed ≤ one → wanted ≤ other → AllPass (roomLines one needed other wanted)
 unfolding bufferShort
 room-passes {one} {needed} {other} {wanted} h k = more (not-applies 23 (ltb one needed) (le-ltb one needed h)) (more (not-applies 23 (ltb other wanted) (le-ltb other wanted k)) end)

@@ -1,4 +1,4 @@
--- What a search that kept its promise and was not refused has listed: the matches that it means, all of them (`listed-is`). The list's buffer begins with them, as many as the answer says. Assumes nothing.
+-- What a search that kept its promise and was not refused has listed: the matches that it means, all of them (`listed-is`). The list's buffer begins with them, as many as the answer says.
 use mathlib.Core.Path.{_≡_, refl, ap}
 use mathlib.Core.Bool.{Bool, true, false}
 use mathlib.Core.List.{List, [], _∷_, _++_, map}

@@ -1,5 +1,5 @@
 -- The table of a search is what is known before it looks (`searchPlan`), and whether the list holds all matches, which is known only at its end. Where the first part refuses, that is the answer and no buffer is altered (`plan-refused`);
--- else the buffers are those of a search that looked, and the answer is by the number of matches (`plan-all`, `plan-full`). Assumes nothing.
+-- else the buffers are those of a search that looked, and the answer is by the number of matches (`plan-all`, `plan-full`).
 use mathlib.Core.Path.{_≡_, _∙_}
 use mathlib.Core.Bool.{false}
 use mathlib.Core.List.{[], _∷_}

@@ -1,5 +1,5 @@
 -- What a build that is not refused makes passes against its series (`build-passes`); so does what an extension makes of an index that passes against the part of the series that it has windows for (`extend-passes`). Each has at most as many rows and runs as windows.
--- So what the search program lists is all matches (`program-all`). Assumes nothing.
+-- So what the search program lists is all matches (`program-all`).
 use mathlib.Core.Path.{_≡_, refl}
 use mathlib.Core.Bool.{Bool, not}
 use mathlib.Core.List.{List}

@@ -1,4 +1,4 @@
--- Each promise leaves one outcome: an entry that keeps it gives the answer that is meant and leaves the buffers that are meant. The converse of `Demand2`. Assumes nothing.
+-- Each promise leaves one outcome: an entry that keeps it gives the answer that is meant and leaves the buffers that are meant. The converse of `Demand2`.
 use mathlib.Core.Path.{_≡_, refl, sym, ap, _∙_}
 use mathlib.Core.List.{List}
 use mathlib.Core.Option.{Option, none, some}

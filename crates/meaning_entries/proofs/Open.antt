@@ -1,4 +1,4 @@
--- Every definition of this crate that stays shut until it is named, and those below, under one name: a proof that computes a case says `unfolding openEntries`. Assumes nothing.
+-- Every definition of this crate that stays shut until it is named, and those below, under one name: a proof that computes a case says `unfolding openEntries`.
 use Rattle.meaning_text.proofs.Open.{openText}
 use Rattle.meaning_entries.specs.Refusal.{firstRefusal, lengthOutside, valueOutside, windowOutside, widthOutside, mergeOutside, queryLengthOutside, queryBelowWindow, bandOutside, thresholdOutside, scaleOrShiftOutside, normalFlat, flatQuery, illFormed, fewerWindows, moreWindows, bufferShort, badLine, unreadable, listShort}
 use Rattle.meaning_entries.specs.Buffers.{filled, indexIn}
@@ -11,7 +11,7 @@ use Rattle.meaning_entries.specs.Search.{question, searchPlan, searchTab
 use Rattle.meaning_entries.specs.AuditText.{textSeries, auditTextTable, auditTextAnswer, packRefusal, pack, unpackBy, unpack, auditText}
 use Rattle.meaning_entries.specs.Program.{programSaid, textProgram, callLines, programTable, programIndex, printed, program}
 use Rattle.meaning_entries.specs.Demand3.{pairs}
-use Rattle.meaning_entries.specs.Told.{yes, toldSecond, toldFound, told, demandAnswer}
+use Rattle.meaning_entries.specs.Both.{yes, toldSecond, toldFound, told, demandAnswer}
 
 unfoldable pub openEntries : Unit {0}
 unfolding openText firstRefusal lengthOutside valueOutside windowOutside widthOutside mergeOutside queryLengthOutside queryBelowWindow bandOutside thresholdOutside scaleOrShiftOutside normalFlat flatQuery illFormed fewerWindows moreWindows bufferShort filled indexIn buildTable buildIndex buildAnswer buildCounts buildAfter extendTable extendIndex extendAnswer extendCounts extendAfter auditTable complete audited auditAnswer writeTable writeAnswer writeCount writeAfter badLine unreadable textIndex loadTable loadAnswer loadCounts loadAfter question listShort searchPlan searchTable looked searchRefused searchAnswer searchCounts lookedAfter searchAfter textSeries auditTextTable auditTextAnswer packRefusal pack unpackBy unpack auditText programSaid textProgram callLines programTable programIndex printed program pairs yes toldSecond toldFound told demandAnswer

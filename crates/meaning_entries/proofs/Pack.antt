@@ -1,4 +1,4 @@
--- The number of the C entry tells the answer again: `unpack` is inverse to `pack` for every answer that the audit of two texts gives (`audit-text-back`), since the numbers of refusals are below 32 and the offsets of a well-formed index below the most windows. Assumes nothing.
+-- The number of the C entry tells the answer again: `unpack` is inverse to `pack` for every answer that the audit of two texts gives (`audit-text-back`), since the numbers of refusals are below 32 and the offsets of a well-formed index below the most windows.
 use mathlib.Core.Path.{_≡_, refl, sym, ap, ap₂, _∙_, subst}
 use mathlib.Core.Bool.{Bool, true, false, _&&_}
 use mathlib.Core.List.{List, [], _∷_}

@@ -1,4 +1,4 @@
--- The tables of refusals are total and exclusive: a call is refused by exactly one line, the first that applies, or by none, and then no line applies. A table in two parts is refused by the first part or else by the second (`first-left`, `first-right`). By induction on the table. Assumes nothing.
+-- The tables of refusals are total and exclusive: a call is refused by exactly one line, the first that applies, or by none, and then no line applies. A table in two parts is refused by the first part or else by the second (`first-left`, `first-right`). By induction on the table.
 use mathlib.Core.Path.{_≡_, refl, sym, _∙_, ap, subst₂}
 use mathlib.Core.Bool.{Bool, true, false, not, cond, _&&_}
 use mathlib.Core.List.{List, [], _∷_, _++_}
@@ -11,9 +11,9 @@ use Rattle.meaning_numbers.proofs.Tests.{is-false, two-tests}
 use Rattle.meaning_entries.specs.Refusal.{Condition, firstRefusal, atZero, lengthOutside, valueOutside, windowOutside, widthOutside, mergeOutside, queryLengthOutside, queryBelowWindow, bandOutside, thresholdOutside, scaleOrShiftOutside, flatQuery, unreadable, illFormed, fewerWindows, moreWindows, bufferShort, listShort}
 
 -- no line applies
-pub data Passed : List Condition → Type 0 where
-  end : Passed []
-  more : {c : Condition} {l : List Condition} → c .place ≡ none → Passed l → Passed (c ∷ l)
+pub data AllPass : List Condition → Type 0 where
+  end : AllPass []
+  more : {c : Condition} {l : List Condition} → c .place ≡ none → AllPass l → AllPass (c ∷ l)
 
 -- the first line that applies has the number n and the place p
 pub data First : List Condition → ℕ → ℕ → Type 0 where
@@ -28,7 +28,7 @@ first-no : (c : Condition) (l : List Condition) → c .place ≡ none → firstR
 unfolding firstRefusal
 first-no c l e = rw (e, firstRefusal)
 
-pub passed-is : {l : List Condition} → Passed l → firstRefusal l ≡ none
+pub passed-is : {l : List Condition} → AllPass l → firstRefusal l ≡ none
 unfolding firstRefusal
 passed-is end = refl
 passed-is (more {c} {l} e h) = first-no c l e ∙ passed-is h
@@ -38,11 +38,11 @@ first-is (here {c} {l} {p} e) = first-yes c l p e
 first-is (later {c} {l} e h) = first-no c l e ∙ first-is h
 
 -- one of the two holds
-pub judged : (l : List Condition) → Passed l ⊎ ((n : ℕ) × (p : ℕ) × First l n p)
+pub judged : (l : List Condition) → AllPass l ⊎ ((n : ℕ) × (p : ℕ) × First l n p)
 judged [] = inl end
 judged (c ∷ l) = by (c .place) refl (judged l)
   where
-    by : (o : Option ℕ) → c .place ≡ o → Passed l ⊎ ((n : ℕ) × (p : ℕ) × First l n p) → Passed (c ∷ l) ⊎ ((n : ℕ) × (p : ℕ) × First (c ∷ l) n p)
+    by : (o : Option ℕ) → c .place ≡ o → AllPass l ⊎ ((n : ℕ) × (p : ℕ) × First l n p) → AllPass (c ∷ l) ⊎ ((n : ℕ) × (p : ℕ) × First (c ∷ l) n p)
     by (some p) e r = inr (c .number, p, here e)
     by none e (inl h) = inl (more e h)
     by none e (inr h) = inr (h .0, h .1, later e (h .2))
@@ -51,10 +51,10 @@ judged (c ∷ l) = by (c .place) refl (judged l)
 none-some : {A B : Type 0} {a : A} → none ≡ some a → B
 none-some e = let z : _≡_ {A = ℕ} 0 1 = cc in absurd (omega arith)
 
-pub is-passed : (l : List Condition) → firstRefusal l ≡ none → Passed l
+pub is-passed : (l : List Condition) → firstRefusal l ≡ none → AllPass l
 is-passed l e = by (judged l)
   where
-    by : Passed l ⊎ ((n : ℕ) × (p : ℕ) × First l n p) → Passed l
+    by : AllPass l ⊎ ((n : ℕ) × (p : ℕ) × First l n p) → AllPass l
     by (inl h) = h
     by (inr h) = none-some (sym e ∙ first-is (h .2))
 
@@ -65,12 +65,12 @@ same-refusal {r} {t} e = let q : r ≡ t = cc in (ap (λ (x : ℕ × ℕ). x .0)
 pub is-first : (l : List Condition) (n p : ℕ) → firstRefusal l ≡ some (n, p) → First l n p
 is-first l n p e = by (judged l)
   where
-    by : Passed l ⊎ ((m : ℕ) × (k : ℕ) × First l m k) → First l n p
+    by : AllPass l ⊎ ((m : ℕ) × (k : ℕ) × First l m k) → First l n p
     by (inl h) = none-some (sym (passed-is h) ∙ e)
     by (inr h) = let q = same-refusal (sym (first-is (h .2)) ∙ e) in subst₂ (First l) (q .0) (q .1) (h .2)
 
 -- a call that one line refuses no other refuses, and where none applies none refuses
-pub exclusive : {l : List Condition} {n p : ℕ} {B : Type 0} → First l n p → Passed l → B
+pub exclusive : {l : List Condition} {n p : ℕ} {B : Type 0} → First l n p → AllPass l → B
 exclusive f h = none-some (sym (passed-is h) ∙ first-is f)
 
 pub first-only : {l : List Condition} {n m p k : ℕ} → First l n p → First l m k → (n ≡ m) × (p ≡ k)
@@ -82,7 +82,7 @@ pub first-left : {a : List Condition} {n p : ℕ} (b : List Condition) → First
 first-left b (here e) = here e
 first-left b (later e f) = later e (first-left b f)
 
-pub first-right : {a : List Condition} (b : List Condition) → Passed a → firstRefusal (a ++ b) ≡ firstRefusal b
+pub first-right : {a : List Condition} (b : List Condition) → AllPass a → firstRefusal (a ++ b) ≡ firstRefusal b
 first-right b end = refl
 first-right b (more {c} {l} e h) = first-no c (l ++ b) e ∙ first-right b h
 
@@ -107,19 +107,19 @@ first-lacks k t (here {c} {l} e) = is-false (eqb (c .number) k) (two-tests (not 
 first-lacks k t (later {c} {l} e f) = first-lacks k (two-tests (not (eqb (c .number) k)) (lacks k l) t .1) f
 
 -- a table in two parts passes where both do
-pub passed-both : (a b : List Condition) → Passed (a ++ b) → Passed a × Passed b
+pub passed-both : (a b : List Condition) → AllPass (a ++ b) → AllPass a × AllPass b
 passed-both [] b h = (end, h)
 passed-both (c ∷ a) b (more e h) = let k = passed-both a b h in (more e (k .0), k .1)
 
-pub passed-join : {a b : List Condition} → Passed a → Passed b → Passed (a ++ b)
+pub passed-join : {a b : List Condition} → AllPass a → AllPass b → AllPass (a ++ b)
 passed-join end k = k
 passed-join (more e h) k = more e (passed-join h k)
 
 -- two tables that refuse the same behind a part that both have
-pub same-behind : (a x y : List Condition) → (Passed a → firstRefusal x ≡ firstRefusal y) → firstRefusal (a ++ x) ≡ firstRefusal (a ++ y)
+pub same-behind : (a x y : List Condition) → (AllPass a → firstRefusal x ≡ firstRefusal y) → firstRefusal (a ++ x) ≡ firstRefusal (a ++ y)
 same-behind a x y f = by (judged a)
   where
-    by : Passed a ⊎ ((n : ℕ) × (p : ℕ) × First a n p) → firstRefusal (a ++ x) ≡ firstRefusal (a ++ y)
+    by : AllPass a ⊎ ((n : ℕ) × (p : ℕ) × First a n p) → firstRefusal (a ++ x) ≡ firstRefusal (a ++ y)
     by (inl h) = first-right x h ∙ f h ∙ sym (first-right y h)
     by (inr h) = first-is (first-left x (h .2)) ∙ sym (first-is (first-left y (h .2)))
 
@@ -134,17 +134,17 @@ one-of : (t : Bool) (c d : Condition) → c .place ≡ none → d .place ≡ non
 one-of true c d e f = e
 one-of false c d e f = f
 
-pub passed-line : {l : List Condition} → Passed l → (n : ℕ) → numbered n l .place ≡ none
+pub passed-line : {l : List Condition} → AllPass l → (n : ℕ) → numbered n l .place ≡ none
 unfolding numbered
 passed-line end n = refl
 passed-line (more {c} {l} e h) n = one-of (eqb (c .number) n) c (numbered n l) e (passed-line h n)
 
-either : (t : Bool) (l m : List Condition) → Passed l → Passed m → Passed (cond t l m)
+either : (t : Bool) (l m : List Condition) → AllPass l → AllPass m → AllPass (cond t l m)
 either true l m h k = h
 either false l m h k = k
 
 -- the second of two lines with a number is the first behind the first
-pub passed-behind : {l : List Condition} → Passed l → (n : ℕ) → Passed (behind n l)
+pub passed-behind : {l : List Condition} → AllPass l → (n : ℕ) → AllPass (behind n l)
 unfolding behind
 passed-behind end n = end
 passed-behind (more {c} {l} e h) n = either (eqb (c .number) n) l (behind n l) h (passed-behind h n)

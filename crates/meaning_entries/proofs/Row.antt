@@ -1,4 +1,4 @@
--- Rows of the table of cases that are whole texts: what goes in, and what must come out. Assumes nothing.
+-- Rows of the table of cases that are whole texts: what goes in, and what must come out.
 use mathlib.Core.Bool.{Bool, false}
 use mathlib.Core.List.{List, _++_}
 use Prim.Native.Nat.{ℕ}

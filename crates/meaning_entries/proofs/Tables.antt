@@ -1,4 +1,4 @@
--- 01: texts are read first (12), then the lowest number that applies wins. A table's first line that applies is the first by `order`, since the lines of each table follow it. By computation. Assumes nothing.
+-- 01: texts are read first (12), then the lowest number that applies wins. A table's first line that applies is the first by `order`, since the lines of each table follow it. By computation.
 use mathlib.Core.List.{List}
 use Prim.Native.Nat.{ℕ}
 use lib.Dec.{T}

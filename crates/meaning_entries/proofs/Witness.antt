@@ -1,4 +1,4 @@
--- Demand 3 is not empty: searches that it speaks of exist. Of the worked series, all four queries, each through two indexes with other w, d and g. By computation. Assumes nothing.
+-- Demand 3 is not empty: searches that it speaks of exist. Of the worked series, all four queries, each through two indexes with other w, d and g. By computation.
 use mathlib.Core.Path.{_≡_, refl}
 use mathlib.Core.List.{List, [], _∷_}
 use Prim.Native.Nat.{ℕ}

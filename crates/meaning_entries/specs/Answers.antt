@@ -1,4 +1,4 @@
--- Document 01's number, place, counts and values for each case of each answer. A refusal gives counts 0, except 24. Assumes nothing.
+-- Document 01's number, place, counts and values for each case of each answer. A refusal gives counts 0, except 24.
 use mathlib.Core.Option.{Option, none, some}
 use Prim.Native.Nat.{ℕ}
 use lib.IntN.{natAbs}

@@ -1,4 +1,4 @@
--- The entry audit, and what it is for an index to pass against a series. Assumes nothing.
+-- The entry audit, and what it is for an index to pass against a series.
 use mathlib.Core.Path.{_≡_}
 use mathlib.Core.List.{List, _∷_, _++_}
 use mathlib.Core.Option.{Option, none, some}

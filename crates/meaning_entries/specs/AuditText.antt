@@ -1,4 +1,4 @@
--- The audit of two texts, as the payout program calls it: index text and series line as bytes, a number as the answer. Assumes nothing.
+-- The audit of two texts, as the payout program calls it: index text and series line as bytes, a number as the answer.
 use mathlib.Core.Bool.{true, false}
 use mathlib.Core.List.{List, [], _∷_}
 use mathlib.Core.Option.{none, some}

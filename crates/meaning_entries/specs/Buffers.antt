@@ -1,4 +1,4 @@
--- Lent buffers, and what stands in them afterwards: the written entries first, 0 in every unused one (01, after the tables of refusals). Assumes nothing.
+-- Lent buffers, and what stands in them afterwards: the written entries first, 0 in every unused one (01, after the tables of refusals).
 use mathlib.Core.List.{List, _++_, map}
 use Prim.Native.Nat.{ℕ, _-_, min}
 use lib.IntN.{natAbs}
@@ -19,6 +19,9 @@ pub record IndexBuffers : Type 0 where
   pub rows : List Row
   pub left : List ℕ
   pub right : List ℕ
+
+abbrev pub indexBuffers : List Row → List ℕ → List ℕ → IndexBuffers
+indexBuffers rows left right = record { rows = rows; left = left; right = right }
 
 abbrev pub runRoom : IndexBuffers → ℕ
 runRoom b = pairRoom (b .left) (b .right)

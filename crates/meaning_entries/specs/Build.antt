@@ -1,4 +1,4 @@
--- The entry build. Assumes nothing.
+-- The entry build.
 use mathlib.Core.List.{List, [], _∷_, _++_}
 use mathlib.Core.Option.{Option, none, some}
 use Prim.Native.Nat.{ℕ}

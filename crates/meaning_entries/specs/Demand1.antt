@@ -1,4 +1,4 @@
--- Demand 1: an entry refuses by the conditions of its table and by no others, for every input. (That it takes every input and ends is what a proved function without `requires` does.) Assumes nothing.
+-- Demand 1: an entry refuses by the conditions of its table and by no others, for every input. (That it takes every input and ends is what a proved function without `requires` does.)
 use mathlib.Core.Path.{_≡_}
 use mathlib.Core.List.{List}
 use mathlib.Core.Option.{Option, none, some}

@@ -1,5 +1,5 @@
 -- Demand 2: each entry keeps its promise. A record for each entry: the answer, with this paper's number, place and counts of it, and the content of every lent buffer afterwards, for every call and whatever the buffers held before.
--- Nothing is left free but how the number of the C entry is packed (`pack`), which is ours to say. Assumes nothing.
+-- Nothing is left free but how the number of the C entry is packed (`pack`), which is ours to say.
 use mathlib.Core.Path.{_≡_}
 use mathlib.Core.List.{List}
 use Prim.Native.Nat.{ℕ}

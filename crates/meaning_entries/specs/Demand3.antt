@@ -1,5 +1,5 @@
 -- Demand 3: through whichever two audited indexes, the same list, and that list is exactly all matches. One claim about both searches together and all four queries.
--- It is a claim about the meanings: a search that keeps its promise (`SearchKept`, demand 2) meets it, through whichever index passes. Assumes nothing.
+-- It is a claim about the meanings: a search that keeps its promise (`SearchKept`, demand 2) meets it, through whichever index passes.
 use mathlib.Core.Path.{_≡_}
 use mathlib.Core.List.{List, [], _∷_}
 use Prim.Native.Nat.{ℕ}

@@ -1,4 +1,4 @@
--- The entry extend: the old index is lent, the result goes to fresh buffers. Assumes nothing.
+-- The entry extend: the old index is lent, the result goes to fresh buffers.
 use mathlib.Core.List.{List, _∷_, _++_}
 use mathlib.Core.Option.{Option, none, some}
 use Prim.Native.Nat.{ℕ}

@@ -13,4 +13,4 @@ pub mod Program
 pub mod Demand1
 pub mod Demand2
 pub mod Demand3
-pub mod Told
+pub mod Both

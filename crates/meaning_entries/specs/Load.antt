@@ -1,4 +1,4 @@
--- The entry read: an index text becomes an index in lent buffers. Assumes nothing.
+-- The entry read: an index text becomes an index in lent buffers.
 use mathlib.Core.List.{List, [], _∷_}
 use mathlib.Core.Option.{Option, none, some}
 use Prim.Native.Nat.{ℕ}

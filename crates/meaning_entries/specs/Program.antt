@@ -1,4 +1,4 @@
--- The search program, from the bytes it reads to the bytes it prints. Build and search are judged together as one call, before anything is printed. Assumes nothing.
+-- The search program, from the bytes it reads to the bytes it prints. Build and search are judged together as one call, before anything is printed.
 use mathlib.Core.List.{List, [], _∷_, _++_}
 use mathlib.Core.Option.{none, some}
 use Prim.Native.Nat.{ℕ}

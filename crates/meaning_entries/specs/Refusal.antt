@@ -1,5 +1,5 @@
 -- The conditions under which a call is refused (01, 'Refused for the input', 'Refused for the state'), each with its number and the place that it gives.
--- An entry's table is a list of them in the order of their numbers (`order`), and the call is refused by the first that applies. Assumes nothing.
+-- An entry's table is a list of them in the order of their numbers (`order`), and the call is refused by the first that applies.
 use mathlib.Core.Bool.{Bool, true, false, not, cond, _||_}
 use mathlib.Core.List.{List, [], _∷_}
 use mathlib.Core.Option.{Option, none, some}

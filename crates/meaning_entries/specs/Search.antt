@@ -1,4 +1,4 @@
--- The entry search: one series, one index, one query of either kind, straight or warped. Assumes nothing.
+-- The entry search: one series, one index, one query of either kind, straight or warped.
 use mathlib.Core.Bool.{Bool, true, false}
 use mathlib.Core.List.{List, [], _∷_, _++_, map}
 use mathlib.Core.Option.{Option, none, some}
@@ -58,6 +58,9 @@ pub record SearchBuffers : Type 0 where
   pub scratch : List ℕ
   pub offsets : List ℕ
   pub distances : List ℕ
+
+abbrev pub searchBuffers : List ℕ → List ℕ → List ℕ → List ℕ → List ℕ → SearchBuffers
+searchBuffers left right scratch offsets distances = record { left = left; right = right; scratch = scratch; offsets = offsets; distances = distances }
 
 -- what a call within its limits asks
 unfoldable pub question : SearchCall → Question

@@ -1,4 +1,4 @@
--- The entry write: a lent index becomes an index text. Assumes nothing.
+-- The entry write: a lent index becomes an index text.
 use mathlib.Core.List.{List, [], _∷_}
 use mathlib.Core.Option.{Option, none, some}
 use Prim.Native.Nat.{ℕ}

@@ -1,4 +1,4 @@
--- What a value in its limits lies outside an envelope whose ends are in them: at most 20,000, its square at most 400,000,000, and so on for sums of such squares. Assumes nothing.
+-- What a value in its limits lies outside an envelope whose ends are in them: at most 20,000, its square at most 400,000,000, and so on for sums of such squares.
 use mathlib.Core.Path.{_≡_}
 use mathlib.Core.List.{List}
 use Prim.Native.Nat.{ℕ, _+_, _-_, _*_, _≤_}

@@ -1,5 +1,5 @@
 -- The envelope bound: what the values of s lie outside an envelope of q, squared and summed, is at most the total of any path within the band. By induction on the path: a step that keeps i adds something, and one that raises i adds (s(i) - q(j))², at least the square of the excess, as q(j) lies in the envelope at i.
--- So the sum over the first n places alone is at most the distance (`distance-bound`), and a path's total is at least its total on reaching a row and the squared excesses after that row (`through`): a loop may stop once either passes the threshold. Assumes nothing.
+-- So the sum over the first n places alone is at most the distance (`distance-bound`), and a path's total is at least its total on reaching a row and the squared excesses after that row (`through`): a loop may stop once either passes the threshold.
 use mathlib.Core.Path.{_≡_}
 use Prim.Native.Nat.{ℕ, suc, _+_, _-_, _<_, _≤_, max}
 use native.Mathlib.Omega.{arith}

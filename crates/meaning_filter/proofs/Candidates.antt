@@ -1,4 +1,4 @@
--- Every match is a candidate, in an index that files each window of the series in a row that holds its sum (`kept-candidate`). The sum of a part of the stretch is that of a window of the series, it lies in the part's range (`kept`), and so the row that holds it is met (`row-met`). Assumes nothing.
+-- Every match is a candidate, in an index that files each window of the series in a row that holds its sum (`kept-candidate`). The sum of a part of the stretch is that of a window of the series, it lies in the part's range (`kept`), and so the row that holds it is met (`row-met`).
 use mathlib.Core.Path.{_≡_, sym, subst}
 use mathlib.Core.Bool.{Bool, _&&_}
 use mathlib.Core.List.{List, map}
@@ -25,6 +25,9 @@ use Rattle.meaning_filter.specs.Range.{rangeOf, ranges}
 use Rattle.meaning_filter.specs.Candidates.{met, admits, candidate}
 use Rattle.meaning_filter.specs.Matches.{Question, queryLength, offsetCount, matchesAt, candidateAt}
 use Rattle.meaning_filter.proofs.Kept.{kept}
+unfoldable pub use Rattle.meaning_numbers.specs.Sum.{count}
+pub use Rattle.meaning_numbers.proofs.Count.{count-cong}
+pub use Rattle.meaning_numbers.proofs.Tests.{by-test}
 
 -- window j stands in some row of the index that holds the sum z
 abbrev pub filedAt : Index → ℤ → ℕ → Bool

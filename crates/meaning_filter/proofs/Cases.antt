@@ -1,4 +1,4 @@
--- Small cases of the definitions, in one table that one proof covers. The ends of ranges are those of an independent program. Assumes nothing.
+-- Small cases of the definitions, in one table that one proof covers. The ends of ranges are those of an independent program.
 use mathlib.Core.Bool.{Bool, _&&_}
 use mathlib.Core.List.{List, [], _∷_, map}
 use Prim.Native.Nat.{ℕ}

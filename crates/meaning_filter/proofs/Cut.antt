@@ -1,5 +1,5 @@
 -- The cut. t is the greatest number with t² × A ≤ (100 × |c|)². No root of A is needed: for any K let ρ be the root of K² × A. Then t × ρ ≤ 100 × |c| × K < (t + 1) × (ρ + 1),
--- both by comparing squares (`cut-core`), and the two signs of c give the same bounds around 100 × c × K (`cut-range`). Assumes nothing.
+-- both by comparing squares (`cut-core`), and the two signs of c give the same bounds around 100 × c × K (`cut-range`).
 use Prim.Native.Nat.{ℕ, suc, _+_, _*_, _<_, _≤_}
 use native.Mathlib.Omega.{arith}
 use native.Mathlib.Nat.{mul-le-mul-left}

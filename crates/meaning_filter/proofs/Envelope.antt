@@ -1,4 +1,4 @@
--- The envelope encloses every query value within b places that exists (`envelope`), and no tighter: each end is such a value (`lower-one`, `upper-one`), so at band 0 both are the query (`lower-straight`, `upper-straight`). By induction on the number of places. Assumes nothing.
+-- The envelope encloses every query value within b places that exists (`envelope`), and no tighter: each end is such a value (`lower-one`, `upper-one`), so at band 0 both are the query (`lower-straight`, `upper-straight`). By induction on the number of places.
 use mathlib.Core.Path.{_≡_, refl}
 use mathlib.Core.Logic.{_⊎_, inl, inr, ⊎-elim}
 use Prim.Native.Nat.{ℕ, zero, suc, _+_, _-_, _<_, _≤_}
@@ -40,22 +40,22 @@ greatest-le q k (suc n) j h l =
     ⊎-elim (λ l. ≤ℤ-trans (greatest-le q k n j h l) (m .0)) (λ e. rw e (m .1)) (last-or k n j l)
 
 -- z is the value at one of those places
-pub record Held (q : ℕ → ℤ) (k n : ℕ) (z : ℤ) : Type 0 where
+pub record Enclosed (q : ℕ → ℤ) (k n : ℕ) (z : ℤ) : Type 0 where
   pub place : ℕ
   pub from : k ≤ place
   pub to : place ≤ k + n
   pub same : z ≡ q place
 
-held-more : {q : ℕ → ℤ} {k n : ℕ} {x z : ℤ} → Held q k n x → (z ≡ x) ⊎ (z ≡ q (k + suc n)) → Held q k (suc n) z
+held-more : {q : ℕ → ℤ} {k n : ℕ} {x z : ℤ} → Enclosed q k n x → (z ≡ x) ⊎ (z ≡ q (k + suc n)) → Enclosed q k (suc n) z
 held-more {k = k} {n} h (inl e) = record { place = h .place; from = h .from; to = omega arith; same = cc }
 held-more {k = k} {n} h (inr e) = record { place = k + suc n; from = omega arith; to = omega arith; same = e }
 
-pub least-one : (q : ℕ → ℤ) (k n : ℕ) → Held q k n (leastOf q k n)
+pub least-one : (q : ℕ → ℤ) (k n : ℕ) → Enclosed q k n (leastOf q k n)
 unfolding leastOf
 least-one q k zero = record { place = k; from = omega arith; to = omega arith; same = refl }
 least-one q k (suc n) = held-more (least-one q k n) (minℤ-one (leastOf q k n) (q (k + suc n)))
 
-pub greatest-one : (q : ℕ → ℤ) (k n : ℕ) → Held q k n (greatestOf q k n)
+pub greatest-one : (q : ℕ → ℤ) (k n : ℕ) → Enclosed q k n (greatestOf q k n)
 unfolding greatestOf
 greatest-one q k zero = record { place = k; from = omega arith; to = omega arith; same = refl }
 greatest-one q k (suc n) = held-more (greatest-one q k n) (⊎-elim inr inl (maxℤ-one (greatestOf q k n) (q (k + suc n))))

@@ -1,4 +1,4 @@
--- The candidates are handed out as joined runs: ascending, not touching, below n - m + 1 (`runs-apart`); an offset stands in one of them exactly if it is a candidate (`runs-hold`); and their lengths add up to the number of candidates (`runs-count`). These are the laws of runs at the candidates. Assumes nothing.
+-- The candidates are handed out as joined runs: ascending, not touching, below n - m + 1 (`runs-apart`); an offset stands in one of them exactly if it is a candidate (`runs-hold`); and their lengths add up to the number of candidates (`runs-count`). These are the laws of runs at the candidates.
 use mathlib.Core.Path.{_≡_, _∙_}
 use mathlib.Core.Bool.{_&&_}
 use mathlib.Core.List.{map}

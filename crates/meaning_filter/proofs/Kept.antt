@@ -1,5 +1,5 @@
 -- No match is lost: the sums of a match's parts lie in the ranges. A raw match has a path of total at most E (`raw-kept`). A normalised match has one between normalised values, so the sums of its parts' normalised values lie in that range (`raw-kept` again);
--- the scale and the shift bring it to the sums themselves (`normal-kept`). `kept` says both of a query's kind. Assumes nothing.
+-- the scale and the shift bring it to the sums themselves (`normal-kept`). `kept` says both of a query's kind.
 use Prim.Native.Nat.{ℕ, _+_, _*_, _<_, _≤_}
 use native.Mathlib.Omega.{arith}
 use lib.Dec.{T}

@@ -1,4 +1,4 @@
--- Why X has - w and Y has + w: without, a match is lost. The query 0 0 1000 matches itself, and the sum of its first part, 0, lies below the lower end 4 that Q- - r gives; X = Q- - r - w gives -1. By computation. Assumes nothing.
+-- Why X has - w and Y has + w: without, a match is lost. The query 0 0 1000 matches itself, and the sum of its first part, 0, lies below the lower end 4 that Q- - r gives; X = Q- - r - w gives -1. By computation.
 use mathlib.Core.Path.{_≡_, refl}
 use mathlib.Core.List.{[], _∷_}
 use Prim.Native.Nat.{ℕ, _+_, _*_}

@@ -1,5 +1,5 @@
 -- A search through an index lists all matches, in order and with their distances (`all-found`): every match is a candidate, so looking among the candidates alone loses none.
--- All matches are exactly those (`all-exactly`): ascending, each once, and an offset stands among them exactly if its stretch matches. Assumes nothing.
+-- All matches are exactly those (`all-exactly`): ascending, each once, and an offset stands among them exactly if its stretch matches.
 use mathlib.Core.Path.{_≡_, refl, sym, subst}
 use mathlib.Core.Bool.{Bool}
 use mathlib.Core.List.{List, map}

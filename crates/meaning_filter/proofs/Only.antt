@@ -1,4 +1,4 @@
--- The plain words of demand 3 leave one list: what is exactly all matches is `allMatches` (`exactly-only`), since two upward lists with the same entries are one. Assumes nothing.
+-- The plain words of demand 3 leave one list: what is exactly all matches is `allMatches` (`exactly-only`), since two upward lists with the same entries are one.
 use mathlib.Core.Path.{_≡_, refl, sym, ap, subst, _∙_}
 use mathlib.Core.Logic.{⊎-elim}
 use mathlib.Core.List.{List, [], _∷_, List·Memᴰ as Mem, List·Memᴰ·head as here, List·Memᴰ·tail as there, List·Memᴰ·not-nil as not-nil, List·Memᴰ·cases-cons as cases}

@@ -1,4 +1,4 @@
--- Every definition of this crate that stays shut until it is named, and those below, under one name: a proof that computes a case says `unfolding openFilter`. Assumes nothing.
+-- Every definition of this crate that stays shut until it is named, and those below, under one name: a proof that computes a case says `unfolding openFilter`.
 use Rattle.meaning_rows.proofs.Open.{openRows}
 use Rattle.meaning_filter.specs.Envelope.{leastOf, greatestOf, lower, upper}
 use Rattle.meaning_filter.specs.Range.{lowerSum, upperSum, rawLow, rawHigh, normalLow, normalHigh, rangeOf, ranges}

@@ -1,5 +1,5 @@
 -- The raw range. A sum of s over a part exceeds the upper envelope's by at most the sum of the excesses there (`above-sum`), and the lower envelope's exceeds it by no more (`below-sum`).
--- The square of that sum is at most w × E (Cauchy, and a part of a sum of squares is at most the whole), so the sum is at most the root (`excess-sum`). Assumes nothing.
+-- The square of that sum is at most w × E (Cauchy, and a part of a sum of squares is at most the whole), so the sum is at most the root (`excess-sum`).
 use mathlib.Core.Path.{_≡_}
 use Prim.Native.Nat.{ℕ, zero, suc, _+_, _-_, _*_, _<_, _≤_}
 use native.Mathlib.Omega.{arith}

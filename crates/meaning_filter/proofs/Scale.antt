@@ -1,6 +1,6 @@
 -- The scale. The cut's bounds summed over w places (`sum-low`, `sum-high`): (N - w) × ρ - C ≤ 100 × K × Σc ≤ (N + w) × ρ + C.
 -- With u² ≤ A ≤ v² the root ρ of K² × A lies between K × u and K × v (`root-between`). So K × min(X × u, X × v) ≤ X × ρ ≤ (N - w) × ρ, by the sign of X, and with K = C + 1 all but C is a multiple of K: the rest C is less than one more (`cancel`).
--- `low-scale` and `high-scale` say that document 01's u and v are such numbers. Assumes nothing.
+-- `low-scale` and `high-scale` say that document 01's u and v are such numbers.
 use Prim.Native.Nat.{ℕ, zero, suc, _+_, _*_, _/_, _<_, _≤_}
 use native.Mathlib.Omega.{arith}
 use native.Mathlib.Nat.{mul-le-mul-left, mul-le-mul-right, mul-pos, le-step, le-of-mul-le-mul-right, le-div-iff-mul-le}

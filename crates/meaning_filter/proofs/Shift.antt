@@ -1,4 +1,4 @@
--- The shift: from bounds of 100 × (m × S - w × T) to a range of the part's sum S. T is within m × h of T(q), so 100 × m × S lies between numbers that the query gives, and as S is whole their quotients by 100 × m may be rounded inward. Assumes nothing.
+-- The shift: from bounds of 100 × (m × S - w × T) to a range of the part's sum S. T is within m × h of T(q), so 100 × m × S lies between numbers that the query gives, and as S is whole their quotients by 100 × m may be rounded inward.
 use Prim.Native.Nat.{ℕ, _+_, _*_, _<_, _≤_}
 use native.Mathlib.Omega.{arith}
 use native.Mathlib.Nat.{mul-le-mul-left}

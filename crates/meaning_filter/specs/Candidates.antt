@@ -1,4 +1,4 @@
--- Candidates: the offsets that the index does not rule out (01, Candidates). Assumes nothing.
+-- Candidates: the offsets that the index does not rule out (01, Candidates).
 use mathlib.Core.Bool.{Bool, true, _&&_}
 use mathlib.Core.List.{List, [], _∷_}
 use Prim.Native.Nat.{ℕ, _+_}

@@ -1,4 +1,4 @@
--- The envelope of a query: at each place the least and the greatest query value within b places that exist (01, Candidates). Assumes nothing.
+-- The envelope of a query: at each place the least and the greatest query value within b places that exist (01, Candidates).
 use Prim.Native.Nat.{ℕ, zero, suc, _+_, _-_, min}
 use lib.IntN.{ℤ}
 use Rattle.meaning_numbers.specs.Order.{minℤ, maxℤ}

@@ -1,4 +1,4 @@
--- The list of matches, with offset and distance, and what a search through an index finds (01, Candidates). Assumes nothing.
+-- The list of matches, with offset and distance, and what a search through an index finds (01, Candidates).
 use mathlib.Core.Path.{_≡_}
 use mathlib.Core.Bool.{Bool}
 use mathlib.Core.List.{List, [], _∷_, map, List·Memᴰ as Mem}

@@ -1,4 +1,4 @@
--- The range of sums that a part of the query admits (01, Candidates). Assumes nothing.
+-- The range of sums that a part of the query admits (01, Candidates).
 use mathlib.Core.List.{List, map}
 use Prim.Native.Nat.{ℕ, _+_, _*_, _/_}
 use lib.IntN.{ℤ, pos, _+ℤ_, _-ℤ_, _*ℤ_}

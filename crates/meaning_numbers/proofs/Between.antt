@@ -1,4 +1,4 @@
--- A number between two others, as facts; the test `within` passes exactly where they hold (`within-yes`, `yes-within`). Assumes nothing.
+-- A number between two others, as facts; the test `within` passes exactly where they hold (`within-yes`, `yes-within`).
 use lib.Dec.{T}
 use lib.IntN.{ℤ}
 use lib.Signed.{_≤ℤ_, leZ, leZ-yes}

@@ -1,4 +1,4 @@
--- Small cases of the definitions, in one table that one proof covers. Assumes nothing.
+-- Small cases of the definitions, in one table that one proof covers.
 use mathlib.Core.Bool.{Bool, not}
 use mathlib.Core.List.{List, [], _∷_}
 use lib.Dec.{T, eqb}

@@ -1,4 +1,4 @@
--- Which of two whole numbers is the lesser and which the greater, told by the flag of the test x < y, as code that branches on it has it. Assumes nothing.
+-- Which of two whole numbers is the lesser and which the greater, told by the flag of the test x < y, as code that branches on it has it.
 use mathlib.Core.Path.{_≡_}
 use mathlib.Core.Bool.{true, false}
 use lib.IntN.{ℤ}

@@ -1,4 +1,4 @@
--- How many of the numbers below n pass a test: a turn of a loop (`count-more`), bounds, sums of counts, none and all. Each is an induction on n. Assumes nothing.
+-- How many of the numbers below n pass a test: a turn of a loop (`count-more`), bounds, sums of counts, none and all. Each is an induction on n.
 use mathlib.Core.Path.{_≡_, refl}
 use mathlib.Core.Bool.{Bool, true, false, not, _&&_, _||_, false≢true}
 use Prim.Native.Nat.{ℕ, zero, suc, _+_, _<_, _≤_}

@@ -1,4 +1,4 @@
--- What is kept: the entries that are in the list and pass (`kept-mem`, `mem-kept`). Where each number below k + n that passes p passes c, keeping by c first changes nothing (`keep-twice`). Assumes nothing.
+-- What is kept: the entries that are in the list and pass (`kept-mem`, `mem-kept`). Where each number below k + n that passes p passes c, keeping by c first changes nothing (`keep-twice`).
 use mathlib.Core.Path.{_≡_, refl, sym, subst}
 use mathlib.Core.Logic.{⊎-elim}
 use mathlib.Core.Bool.{Bool, true, false, cond}

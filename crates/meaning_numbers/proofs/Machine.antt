@@ -1,5 +1,5 @@
 -- What a proof of signed code is asked and told, as rules of `omega`: `omega zmach` reads the flags of signed tests, reads `toZ w (ofZ w x)` as x where x is known to fit, and proves that a number fits an `i64` and that it is not negative.
--- What it does not find, the sums and sizes in the goal, is listed: `omega (zmach, z-add x y, z-abs z)`. Assumes nothing.
+-- What it does not find, the sums and sizes in the goal, is listed: `omega (zmach, z-add x y, z-abs z)`.
 use mathlib.Core.Path.{_≡_, refl, sym, subst}
 use mathlib.Core.Bool.{Bool, true, false, not}
 use Prim.Native.Nat.{ℕ, _+_, _-_, _^_, _<_, _≤_}

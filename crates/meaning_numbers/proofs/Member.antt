@@ -1,4 +1,4 @@
--- Members of lists. Where some entry passes there is one in the list that does (`any-found`), and back (`any-mem`); every entry is so (`All`); the members of a mapped list and of the numbers from k on. Assumes nothing.
+-- Members of lists. Where some entry passes there is one in the list that does (`any-found`), and back (`any-mem`); every entry is so (`All`); the members of a mapped list and of the numbers from k on.
 use mathlib.Core.Path.{_≡_, refl, sym, ap, subst}
 use mathlib.Core.Logic.{⊎-elim}
 use mathlib.Core.Bool.{Bool, true, false, _&&_, _||_, false≢true}

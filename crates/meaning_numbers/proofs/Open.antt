@@ -1,4 +1,4 @@
--- Every definition of this crate that stays shut until it is named, under one name: a proof that computes a case says `unfolding openNumbers`. Assumes nothing.
+-- Every definition of this crate that stays shut until it is named, under one name: a proof that computes a case says `unfolding openNumbers`.
 use Rattle.meaning_numbers.specs.Sum.{Σℤ, Σℕ, bit, count}
 use Rattle.meaning_numbers.specs.Root.{nextBit, rootWithin, root}
 use Rattle.meaning_numbers.specs.Quotient.{floorℤ, ceilℤ, multiple}

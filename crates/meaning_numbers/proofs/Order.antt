@@ -1,4 +1,4 @@
--- The lesser and the greater of two whole numbers are at most, and at least, both of them, and one of them. Assumes nothing.
+-- The lesser and the greater of two whole numbers are at most, and at least, both of them, and one of them.
 use mathlib.Core.Path.{_≡_, refl}
 use mathlib.Core.Bool.{Bool, true, false, cond}
 use mathlib.Core.Logic.{_⊎_, inl, inr}

@@ -1,5 +1,5 @@
 -- The first place that passes a test. `First` says what it is and `Nowhere` that there is none; `place-is` and `none-is` say that `firstPlace` answers so.
--- One or the other holds of every list (`look`), so the answer of `firstPlace` tells which (`is-place`, `is-none`). The default stands for entries past the end and is asked by nothing. Assumes nothing.
+-- One or the other holds of every list (`look`), so the answer of `firstPlace` tells which (`is-place`, `is-none`). The default stands for entries past the end and is asked by nothing.
 use mathlib.Core.Path.{_≡_, refl}
 use mathlib.Core.Bool.{Bool, not}
 use mathlib.Core.List.{List, [], _∷_}

@@ -1,4 +1,4 @@
--- `floorℤ` and `ceilℤ` are the quotients rounded down and up: each by its two inequalities (`floor-is`, `ceil-is`), and as the greatest and the least (`floor-most`, `ceil-least`). Assumes nothing.
+-- `floorℤ` and `ceilℤ` are the quotients rounded down and up: each by its two inequalities (`floor-is`, `ceil-is`), and as the greatest and the least (`floor-most`, `ceil-least`).
 use Prim.Native.Nat.{ℕ, _+_, _/_, _<_}
 use native.Mathlib.Omega.{arith}
 use native.Mathlib.Nat.{div-mul-le-self, lt-div-mul-add, lt-of-mul-lt-mul-right}

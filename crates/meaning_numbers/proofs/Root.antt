@@ -1,4 +1,4 @@
--- `root` is the whole square root (`root-is`), the greatest number whose square does not pass (`root-most`), and the only such number (`root-only`). Assumes nothing.
+-- `root` is the whole square root (`root-is`), the greatest number whose square does not pass (`root-most`), and the only such number (`root-only`).
 use mathlib.Core.Path.{_≡_}
 use mathlib.Core.Bool.{Bool, true, false, not}
 use Prim.Native.Nat.{ℕ, zero, suc, _+_, _*_, _/_, _<_, _≤_}

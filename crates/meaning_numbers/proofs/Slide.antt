@@ -1,4 +1,4 @@
--- A sum over the places from one on, moved by one place: what enters is added, what leaves is taken away (`Σℕ-slide`, `Σℤ-slide`). One term of a sum of naturals is at most the whole (`Σℕ-term`). Assumes nothing.
+-- A sum over the places from one on, moved by one place: what enters is added, what leaves is taken away (`Σℕ-slide`, `Σℤ-slide`). One term of a sum of naturals is at most the whole (`Σℕ-term`).
 use mathlib.Core.Path.{_≡_, refl}
 use Prim.Native.Nat.{ℕ, zero, suc, _+_, _<_, _≤_}
 use native.Mathlib.Omega.{arith}

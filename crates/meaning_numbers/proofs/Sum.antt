@@ -1,5 +1,5 @@
 -- Laws of sums over the indices below n, over ℤ and over ℕ, and the bridge between them (`rep-Σ`). Each lemma is an induction on the number of terms, one `omega` a step.
--- `Σℕ-split` cuts a sum in two; a part of a sum of naturals is at most the whole (`Σℕ-part`). Assumes nothing.
+-- `Σℕ-split` cuts a sum in two; a part of a sum of naturals is at most the whole (`Σℕ-part`).
 use mathlib.Core.Path.{_≡_, refl}
 use Prim.Native.Nat.{ℕ, zero, suc, _+_, _-_, _*_, _<_, _≤_}
 use native.Mathlib.Omega.{arith}

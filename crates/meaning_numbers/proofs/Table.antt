@@ -1,4 +1,4 @@
--- Cases gathered in a table: each is a test that the checker computes. One proof that the table holds covers them all, and `each` says it of each. Assumes nothing.
+-- Cases gathered in a table: each is a test that the checker computes. One proof that the table holds covers them all, and `each` says it of each.
 use mathlib.Core.Bool.{Bool, true, false, _&&_}
 use mathlib.Core.List.{List, [], _∷_}
 use Prim.Native.Nat.{ℕ, zero, suc}

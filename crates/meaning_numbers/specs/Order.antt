@@ -1,4 +1,4 @@
--- The lesser and the greater of two whole numbers, and a number between two. Assumes nothing.
+-- The lesser and the greater of two whole numbers, and a number between two.
 use mathlib.Core.Bool.{Bool, cond, _&&_}
 use lib.IntN.{ℤ}
 use lib.Signed.{leZ, ltZ}

@@ -1,4 +1,4 @@
--- Lists and the places in them, counted from 0. Assumes nothing.
+-- Lists and the places in them, counted from 0.
 use mathlib.Core.Bool.{Bool, false, cond, _||_}
 use mathlib.Core.List.{List, [], _∷_}
 use mathlib.Core.Option.{Option, none, some}

@@ -1,4 +1,4 @@
--- Quotients of whole numbers by a natural number. By 0 they mean nothing, and nothing rests on it. Assumes nothing.
+-- Quotients of whole numbers by a natural number. By 0 they mean nothing, and nothing rests on it.
 use mathlib.Core.Bool.{Bool}
 use Prim.Native.Nat.{ℕ, _/_, _%_}
 use lib.Dec.{eqb}

@@ -1,4 +1,4 @@
--- The whole square root, rounded down. `IsRoot` says what it is; `root` computes it by pairs of bits (law: `root-is`). Assumes nothing.
+-- The whole square root, rounded down. `IsRoot` says what it is; `root` computes it by pairs of bits (law: `root-is`).
 use mathlib.Core.Bool.{Bool, true, false}
 use Prim.Native.Nat.{ℕ, zero, suc, _+_, _*_, _/_, _<_, _≤_}
 use lib.Dec.{ltb}

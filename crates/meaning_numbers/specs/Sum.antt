@@ -1,4 +1,4 @@
--- Sums over the indices below n, and how many of them pass a test. Assumes nothing.
+-- Sums over the indices below n, and how many of them pass a test.
 use mathlib.Core.Bool.{Bool, true, false}
 use Prim.Native.Nat.{ℕ, zero, suc, _+_, _*_}
 use lib.IntN.{ℤ, pos, _+ℤ_}

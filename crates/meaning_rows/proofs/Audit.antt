@@ -1,5 +1,5 @@
 -- What the audit says of a well-formed index and a series. Yes (no offset filed wrongly, none missing) exactly if every window stands in a row whose range holds its sum and in no other (`audit-yes`, `filed-passes`).
--- Else the first row and offset filed wrongly, all before it filed right (`first-wrong`, `wrong-first`); else how many windows stand nowhere, all less the run lengths (`missing-are`). Assumes nothing.
+-- Else the first row and offset filed wrongly, all before it filed right (`first-wrong`, `wrong-first`); else how many windows stand nowhere, all less the run lengths (`missing-are`).
 use mathlib.Core.Path.{_≡_, refl, sym, ap, _∙_, subst}
 use mathlib.Core.Logic.{_⊎_, inl, inr, ⊎-elim}
 use mathlib.Core.Bool.{Bool, true, false, _&&_, or-true}

@@ -1,6 +1,6 @@
 -- A build's rows hold every window exactly once (`built-once`), each exactly the windows whose sums lie in its range (`built-holds`). They ascend, none is empty (`built-tiled`, `built-occupied`),
 -- and there are at most as many rows and runs as windows (`built-length`, `built-runs`). Filed rows tile the windows, with no window's sum between neighbours, and merging keeps that; so a row
--- is its range, and merging can be told by ranges alone (`built-range`). Assumes nothing.
+-- is its range, and merging can be told by ranges alone (`built-range`).
 use mathlib.Core.Path.{_≡_, refl, sym, ap, _∙_, subst}
 use mathlib.Core.Logic.{_⊎_, inl, inr, ⊎-elim}
 use mathlib.Core.Bool.{Bool, true, false, _&&_, or-true}

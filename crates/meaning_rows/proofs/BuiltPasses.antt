@@ -1,5 +1,5 @@
 -- The index that is built of a series passes against it: it is well formed, no offset is filed wrongly and no window is missing (`built-passes`), with at most as many rows and runs as windows.
--- Its rows ascend and hold each window once, by the laws of the build, and its ends are in their limits, since the window sums are. Assumes nothing.
+-- Its rows ascend and hold each window once, by the laws of the build, and its ends are in their limits, since the window sums are.
 use mathlib.Core.Path.{_≡_, refl, sym, _∙_}
 use mathlib.Core.Bool.{true}
 use mathlib.Core.List.{List}

@@ -1,4 +1,4 @@
--- The run buffer's two columns as a loop writes them: what one more offset does to `lefts (runs p n)` and `rights (runs p n)` in front of what was there. Assumes nothing.
+-- The run buffer's two columns as a loop writes them: what one more offset does to `lefts (runs p n)` and `rights (runs p n)` in front of what was there.
 use mathlib.Core.Path.{_≡_, refl, sym, ap, _∙_}
 use mathlib.Core.Bool.{Bool, true, false, not, _&&_}
 use mathlib.Core.List.{List, [], _∷_, _++_}
@@ -10,6 +10,7 @@ use lib.Seq.{drop-cons, set-at, append-snoc, set-append-left}
 use Rattle.meaning_numbers.specs.Sum.{bit}
 use Rattle.meaning_rows.specs.Runs.{before, reach, takeIn, runs, runCount}
 use Rattle.meaning_rows.proofs.Runs.{runs-none, runs-more, runCount-more, before-none, before-more, before-some}
+use Rattle.meaning_rows.specs.declared.Row.{Row}
 
 -- the two columns of runs
 unfoldable pub lefts : List (ℕ × ℕ) → List ℕ
@@ -146,3 +147,8 @@ module _ {p : ℕ → Bool} {left₀ right₀ : List ℕ} {j k : ℕ} {prev : Bo
         left-is = el ∙ rw (f .left-is, put-left here prev (runs p j) left₀ k j runs-long fits-left, runs-more p j, ← is, ← f .prev-is, ek);
         right-is = er ∙ rw (f .right-is, put-right here prev (runs p j) right₀ k j runs-long fits-right prev-le, runs-more p j, ← is, ← f .prev-is, ek);
       }
+
+pub getD-past : (o : Row) (l : List Row) (i : ℕ) → length l ≤ i → getD l i o ≡ o
+getD-past o [] i h = refl
+getD-past o (r ∷ l) zero h = absurd (omega arith)
+getD-past o (r ∷ l) (suc i) h = getD-past o l i (omega arith)

@@ -1,5 +1,5 @@
 -- Where the next run of a row is to be written: while a row's part is not full, its last entry in the right column has the number of runs written so far.
--- So a pass over the runs fills all parts with no room but the parts themselves, with the runs (`filed-run`) or with any two values of each run (`filed-as`). Assumes nothing.
+-- So a pass over the runs fills all parts with no room but the parts themselves, with the runs (`filed-run`) or with any two values of each run (`filed-as`).
 use mathlib.Core.Path.{_≡_, sym, ap, _∙_}
 use mathlib.Core.Logic.{_⊎_, inl, inr, ⊎-elim}
 use mathlib.Core.Bool.{Bool, true, false, cond}

@@ -1,6 +1,6 @@
 -- Extending a well-formed index over a longer series: old ranges are kept, with their old windows (`extended-kept`), other rows are new (`extended-only`), and each new window stands in
 -- exactly one row, which holds its sum (`extended-new`). The result is well formed (`extended-well-formed`), is filed right if the old index was (`extended-filed`), and for as many windows is
--- a copy (`extended-copy`). New rows go beside the old, whose ranges are whole numbers of row widths. Assumes nothing.
+-- a copy (`extended-copy`). New rows go beside the old, whose ranges are whole numbers of row widths.
 use mathlib.Core.Path.{_≡_, refl, sym, ap, _∙_, subst}
 use mathlib.Core.Logic.{_⊎_, inl, inr, ⊎-elim}
 use mathlib.Core.Bool.{Bool, true, false, _&&_}

@@ -1,5 +1,5 @@
 -- The runs of a row of an extension: below the old window count they are the row's old runs (`old-runs`, `left-at`, `right-at`), and below n as many as these and the runs of its new windows, less one where
--- the first new run joins the last old one (`onward-count`), which is told by the end of the last old run (`joins-old`). Assumes nothing.
+-- the first new run joins the last old one (`onward-count`), which is told by the end of the last old run (`joins-old`).
 use mathlib.Core.Path.{_≡_, refl, sym, ap, _∙_, subst}
 use mathlib.Core.Bool.{Bool, true, false, not, _&&_}
 use mathlib.Core.List.{List, [], _∷_, map}

@@ -1,5 +1,5 @@
 -- What judging an index means: `firstBadRow` is none exactly if the index is well formed, as a record of facts (`well-formed`, `none-bad`), and else the place of the first bad row (`first-bad`, `bad-first`).
--- Each test is turned into its fact and back; a well-formed index has at most as many rows as runs, and runs as windows (`rows-at-most`, `runs-at-most`). Assumes nothing.
+-- Each test is turned into its fact and back; a well-formed index has at most as many rows as runs, and runs as windows (`rows-at-most`, `runs-at-most`).
 use mathlib.Core.Path.{_≡_, refl, sym, ap, _∙_, subst}
 use mathlib.Core.Logic.{_⊎_, inl, inr, ⊎-elim}
 use mathlib.Core.Bool.{true, false, _&&_}

@@ -1,5 +1,5 @@
 -- Rows laid out and read back are the same rows (`rows-back`): each row's part of the run buffer is its runs, and begins where the row before ends (`first-laid`).
--- There are as many records as rows and as many run entries as runs (`length-records`, `length-allRuns`), and the rows of a well-formed index are laid out as they stand (`laid-again`). Assumes nothing.
+-- There are as many records as rows and as many run entries as runs (`length-records`, `length-allRuns`), and the rows of a well-formed index are laid out as they stand (`laid-again`).
 use mathlib.Core.Path.{_≡_, refl, sym, ap, _∙_, subst}
 use mathlib.Core.List.{List, [], _∷_, _++_, map, append-assoc}
 use Prim.Native.Nat.{ℕ, zero, suc, _+_, _<_, _≤_}

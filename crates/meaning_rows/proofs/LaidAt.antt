@@ -1,4 +1,4 @@
--- Rows laid out in order, by place: record i begins where the parts before end (`records-at`), all parts together are as long as their sizes added up (`runs-total`), and a column of a run buffer whose parts hold the runs of the rows has the rows' run entries in order (`column-at`). Assumes nothing.
+-- Rows laid out in order, by place: record i begins where the parts before end (`records-at`), all parts together are as long as their sizes added up (`runs-total`), and a column of a run buffer whose parts hold the runs of the rows has the rows' run entries in order (`column-at`).
 use mathlib.Core.Path.{_≡_, refl, sym, ap, _∙_}
 use mathlib.Core.List.{List, [], _∷_, _++_, map}
 use Prim.Native.Nat.{ℕ, zero, suc, _+_, _-_, _<_}

@@ -1,4 +1,4 @@
--- Merging by counts: the touching neighbours of two sets, counted over the runs of one of them, by the offset before a run and the offset after it. Assumes nothing.
+-- Merging by counts: the touching neighbours of two sets, counted over the runs of one of them, by the offset before a run and the offset after it.
 use mathlib.Core.Path.{_≡_, refl, ap}
 use mathlib.Core.Bool.{Bool, true, false, not, _&&_, _||_}
 use mathlib.Core.List.{List, [], _∷_, _++_}

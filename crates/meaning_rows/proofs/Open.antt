@@ -1,4 +1,4 @@
--- Every definition of this crate that stays shut until it is named, and those below, under one name: a proof that computes a case says `unfolding openRows`. Assumes nothing.
+-- Every definition of this crate that stays shut until it is named, and those below, under one name: a proof that computes a case says `unfolding openRows`.
 use Rattle.meaning_curves.proofs.Open.{openCurves}
 use Rattle.meaning_rows.specs.Range.{inside}
 use Rattle.meaning_rows.specs.Runs.{before, reach, takeIn, runs}

@@ -1,4 +1,4 @@
--- All rows filled in one pass, in series order: row i has the part of the run buffer from first i on. A run is one run more of its row (`run-runs`), and none of another (`stay-runs`). Over plain variables. Assumes nothing.
+-- All rows filled in one pass, in series order: row i has the part of the run buffer from first i on. A run is one run more of its row (`run-runs`), and none of another (`stay-runs`). Over plain variables.
 use mathlib.Core.Path.{_≡_, refl, ap}
 use mathlib.Core.Bool.{Bool, true, false, not, _&&_}
 use mathlib.Core.List.{List, [], _∷_, _++_}

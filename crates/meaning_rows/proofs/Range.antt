@@ -1,5 +1,5 @@
 -- Row k holds exactly its sums, negative ones too: a sum lies in the range of its row number (`row-holds`) and in no other row's (`row-only`), by the two inequalities of the quotient rounded down.
--- A range test is read as its two orders both ways (`inside-yes`, `is-inside`), and two ranges with nothing between them join (`inside-join`). Assumes nothing.
+-- A range test is read as its two orders both ways (`inside-yes`, `is-inside`), and two ranges with nothing between them join (`inside-join`).
 use mathlib.Core.Path.{_≡_, refl, ap}
 use mathlib.Core.Bool.{Bool, true, false, _&&_, _||_, and-false}
 use Prim.Native.Nat.{ℕ, zero, suc, _+_, _*_, _/_, _%_, _<_, _≤_}

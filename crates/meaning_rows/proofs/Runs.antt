@@ -1,5 +1,5 @@
 -- Runs of a set, given as a test: they have exactly its members (`runs-hold`), ascend and do not touch (`runs-apart`), and are as many as its members whose offset before is none (`runs-are`).
--- The runs of a union are those of both less the places where the two touch (`runs-of-union`). Each is an induction on the number of offsets, one offset taken in at a time. Assumes nothing.
+-- The runs of a union are those of both less the places where the two touch (`runs-of-union`). Each is an induction on the number of offsets, one offset taken in at a time.
 use mathlib.Core.Path.{_≡_, refl, sym, ap, _∙_}
 use mathlib.Core.Bool.{Bool, true, false, not, _&&_, _||_, and-true, and-false, or-false, or-assoc, false≢true}
 use mathlib.Core.List.{List, [], _∷_, _++_, map}

@@ -1,5 +1,5 @@
 -- Rows given by sets of offsets, laid out with their runs. A row has below n exactly the offsets of its set (`row-shows`, `shows-row`). Such an index is well formed if the ranges ascend and
--- their ends are good, no set is empty, and the sizes total at most the windows (`sets-well-formed`); then a window that its sets hold rightly has a home (`sets-home`). Assumes nothing.
+-- their ends are good, no set is empty, and the sizes total at most the windows (`sets-well-formed`); then a window that its sets hold rightly has a home (`sets-home`).
 use mathlib.Core.Path.{_≡_, refl, sym, ap, _∙_, subst}
 use mathlib.Core.Logic.{⊎-elim}
 use mathlib.Core.Bool.{Bool, true, _&&_}

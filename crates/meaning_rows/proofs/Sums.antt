@@ -1,5 +1,5 @@
 -- The limits of window sums: values in their limits have window sums of at most 10,000 w either way (`sum-limits`), so the ends of a sum's row are good ends of a range (`ends-good`).
--- The windows of a series and of a part from its start have the same sums (`sum-of-part`). Assumes nothing.
+-- The windows of a series and of a part from its start have the same sums (`sum-of-part`).
 use mathlib.Core.Path.{_≡_}
 use mathlib.Core.Bool.{true, not}
 use mathlib.Core.List.{List}

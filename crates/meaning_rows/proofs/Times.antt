@@ -1,5 +1,5 @@
 -- A list of sets of offsets, each given as a test: how many of them have an offset (`times`), and their sizes added up (`sizes`), which count each offset as often (`sizes-more`).
--- And of ranges: where they ascend, at most one holds a sum (`holders-are`). Assumes nothing.
+-- And of ranges: where they ascend, at most one holds a sum (`holders-are`).
 use mathlib.Core.Path.{_≡_, refl}
 use mathlib.Core.Bool.{Bool, false}
 use mathlib.Core.List.{List, [], _∷_}

@@ -1,5 +1,5 @@
 -- The rows of an extension as one ascending walk over the old rows and the row numbers of the new windows: a number whose range an old row holds is skipped, any other makes a new row, and an old row
--- is kept (`weave-inside`, `weave-new`, `weave-old`). Laid out with their runs, the records that the walk makes are the rows of the extension (`woven-extended`). Assumes nothing.
+-- is kept (`weave-inside`, `weave-new`, `weave-old`). Laid out with their runs, the records that the walk makes are the rows of the extension (`woven-extended`).
 use mathlib.Core.Path.{_≡_, refl, sym, ap, _∙_, subst}
 use mathlib.Core.Logic.{⊎-elim}
 use mathlib.Core.Bool.{Bool, true, false, cond, not}

@@ -1,4 +1,4 @@
--- The audit of a well-formed index against a series with as many windows (01, Rows). Assumes nothing.
+-- The audit of a well-formed index against a series with as many windows (01, Rows).
 use mathlib.Core.Bool.{Bool, not, cond}
 use mathlib.Core.List.{List, [], _∷_, _++_}
 use mathlib.Core.Option.{Option, none, some}

@@ -1,4 +1,4 @@
--- Building an index: file each window, drop empty rows, merge once upward (01, Rows). Assumes nothing.
+-- Building an index: file each window, drop empty rows, merge once upward (01, Rows).
 use mathlib.Core.Bool.{Bool, true, false, cond, _||_}
 use mathlib.Core.List.{List, [], _∷_, map}
 use Prim.Native.Nat.{ℕ, zero, suc, _+_, _*_}

@@ -1,5 +1,5 @@
 -- Extending a well-formed index, audited or not, over a series with at least as many windows (01, Rows). Old ranges are kept; a new window goes to the row whose range holds
--- its sum, or to a new row of width d; nothing is merged. Windows below the old count are not looked at. Assumes nothing.
+-- its sum, or to a new row of width d; nothing is merged. Windows below the old count are not looked at.
 use mathlib.Core.Bool.{Bool, cond, _&&_}
 use mathlib.Core.List.{List, [], _∷_, map}
 use Prim.Native.Nat.{ℕ, zero, suc, _+_, _-_}

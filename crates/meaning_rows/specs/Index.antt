@@ -1,4 +1,4 @@
--- The index: head, row records and run entries, as they are lent or as a text spells them. A text may have any whole numbers, so the head and the run entries are whole numbers here. Assumes nothing.
+-- The index: head, row records and run entries, as they are lent or as a text spells them. A text may have any whole numbers, so the head and the run entries are whole numbers here.
 use mathlib.Core.Bool.{Bool, _&&_}
 use mathlib.Core.List.{List, [], _∷_, _++_, map}
 use Prim.Native.Nat.{ℕ, _+_}

@@ -1,4 +1,4 @@
--- When an index is well formed, and the first bad row (01, Rows). The head is judged first; a row is judged by itself and against the rows before it. Assumes nothing.
+-- When an index is well formed, and the first bad row (01, Rows). The head is judged first; a row is judged by itself and against the rows before it.
 use mathlib.Core.Bool.{Bool, true, cond, _&&_}
 use mathlib.Core.List.{List, [], _∷_}
 use mathlib.Core.Option.{Option, none, some}

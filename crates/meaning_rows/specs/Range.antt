@@ -1,4 +1,4 @@
--- Row numbers and ranges of sums. Assumes nothing.
+-- Row numbers and ranges of sums.
 use mathlib.Core.Bool.{Bool, _&&_}
 use Prim.Native.Nat.{ℕ}
 use lib.IntN.{ℤ, pos, _+ℤ_, _*ℤ_}

@@ -1,4 +1,4 @@
--- Runs of a set of offsets below n, the set given as a test: pairs (l, r), ascending, joined where they touch (01, Rows). Assumes nothing.
+-- Runs of a set of offsets below n, the set given as a test: pairs (l, r), ascending, joined where they touch (01, Rows).
 use mathlib.Core.Bool.{Bool, true, false}
 use mathlib.Core.List.{List, [], _∷_, _++_}
 use Prim.Native.Nat.{ℕ, zero, suc}

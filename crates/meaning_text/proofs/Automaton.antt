@@ -1,4 +1,4 @@
--- Reading byte by byte, for any form: an automaton whose every state has a reader for what is left of the text (`Onward`), such that a byte takes a state to one that reads the rest alike, comes to what `readText` says, whatever the pieces in which the text comes. Assumes nothing.
+-- Reading byte by byte, for any form: an automaton whose every state has a reader for what is left of the text (`Onward`), such that a byte takes a state to one that reads the rest alike, comes to what `readText` says, whatever the pieces in which the text comes.
 use mathlib.Core.Path.{_≡_, refl, ap, _∙_}
 use mathlib.Core.List.{List, [], _∷_, _++_}
 use mathlib.Core.Option.{Option, none, some}

@@ -1,5 +1,5 @@
 -- For every form whose next byte decides (`decided`): what is spelled is read back where nothing follows that could go on, nothing else is read, and a refusal comes behind the longest beginning.
--- By induction on the form; each is put together of readers (`Reading`). Assumes nothing.
+-- By induction on the form; each is put together of readers (`Reading`).
 use mathlib.Core.Path.{_≡_, refl, sym, _∙_}
 use mathlib.Core.List.{List, [], _∷_, _++_, append-assoc}
 use mathlib.Core.Bool.{Bool, true, false, not, _&&_, _||_, or-true}

@@ -1,5 +1,5 @@
 -- Lines: newlines add up, lines count from 1 and grow with the place, and a beginning of an index text has at most one line for 8 of its bytes, but for the last line.
--- For the last: every byte pays 1 and a newline costs 8; `credit` says what a form's texts leave of a credit, whatever they say. Assumes nothing.
+-- For the last: every byte pays 1 and a newline costs 8; `credit` says what a form's texts leave of a credit, whatever they say.
 use mathlib.Core.Path.{_≡_, refl, ap, _∙_}
 use mathlib.Core.List.{List, [], _∷_, _++_}
 use mathlib.Core.Bool.{true, false, cond}

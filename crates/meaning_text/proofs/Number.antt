@@ -1,5 +1,5 @@
 -- Numbers: their digits; what is spelled is read back where no digit follows, nothing else is read, and a refusal comes behind a beginning of a spelled number.
--- By induction on the last digit, and over the digits read so far (`Reach`). Assumes nothing.
+-- By induction on the last digit, and over the digits read so far (`Reach`).
 use mathlib.Core.Path.{_≡_, refl, sym, _∙_}
 use mathlib.Core.List.{List, [], _∷_, _++_, append-assoc}
 use mathlib.Core.Bool.{true, false, _&&_}

@@ -1,4 +1,4 @@
--- Reading on: a form read, and then what is left of the text by a function of the value. So every place inside a form has its own reader for the rest, and a byte takes one such reader to the next: this is what an automaton follows (`Automaton`). Assumes nothing.
+-- Reading on: a form read, and then what is left of the text by a function of the value. So every place inside a form has its own reader for the rest, and a byte takes one such reader to the next: this is what an automaton follows (`Automaton`).
 use mathlib.Core.Path.{_≡_, refl, ap, _∙_, fun-ext}
 use mathlib.Core.List.{List, [], _∷_, _++_}
 use mathlib.Core.Bool.{Bool, true, false}

@@ -1,4 +1,4 @@
--- Every definition of this crate that stays shut until it is named, and those below, under one name: a proof that computes a case says `unfolding openText`. Assumes nothing.
+-- Every definition of this crate that stays shut until it is named, and those below, under one name: a proof that computes a case says `unfolding openText`.
 use Rattle.meaning_filter.proofs.Open.{openFilter}
 use Rattle.meaning_text.specs.Bytes.{bytes, newlines}
 use Rattle.meaning_text.specs.Number.{digits, spellℕ, spellℤ, readDigits, readPositive, withSign, readℤ}

@@ -1,5 +1,5 @@
 -- Whole texts of a form whose next byte decides: what is spelled is read back, nothing else is read, and the place of a bad byte is the length of the longest beginning that a text in the form could have.
--- A refusal does not depend on what stands behind the bad byte (`Form`), so no text in the form goes on with it. Assumes nothing.
+-- A refusal does not depend on what stands behind the bad byte (`Form`), so no text in the form goes on with it.
 use mathlib.Core.Path.{_≡_, refl, sym, ap, _∙_}
 use mathlib.Core.List.{List, [], _∷_, _++_, append-assoc, append-nil}
 use mathlib.Core.Bool.{true}

@@ -1,4 +1,4 @@
--- The forms of document 01 are decided by the next byte, so the laws of whole texts hold of each. An index text read and written again is the same text, and a well-formed index written and read again has the same rows and runs. Assumes nothing.
+-- The forms of document 01 are decided by the next byte, so the laws of whole texts hold of each. An index text read and written again is the same text, and a well-formed index written and read again has the same rows and runs.
 use mathlib.Core.Path.{_≡_, refl, sym, ap}
 use mathlib.Core.List.{List, [], _∷_, map}
 use Prim.Native.Nat.{ℕ}

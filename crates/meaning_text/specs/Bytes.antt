@@ -1,4 +1,4 @@
--- Texts are lists of bytes. Assumes nothing.
+-- Texts are lists of bytes.
 use mathlib.Core.Bool.{cond}
 use mathlib.Core.List.{List, [], _∷_}
 use Prim.Native.Char.{code}

@@ -1,4 +1,4 @@
--- A form describes texts. What can be said in it is its values; `spell` writes a value, `read` takes from a text exactly what `spell` writes. Each place of a form is decided by the next byte. Assumes nothing.
+-- A form describes texts. What can be said in it is its values; `spell` writes a value, `read` takes from a text exactly what `spell` writes. Each place of a form is decided by the next byte.
 use mathlib.Core.Bool.{Bool, true, false, _||_}
 use mathlib.Core.List.{List, [], _∷_, _++_}
 use Prim.Native.Char.{code}

@@ -1,4 +1,4 @@
--- Numbers in base ten of at most 18 digits, without leading zeros or -0. Assumes nothing.
+-- Numbers in base ten of at most 18 digits, without leading zeros or -0.
 use mathlib.Core.Bool.{Bool, true, false, _&&_}
 use mathlib.Core.List.{List, [], _∷_, _++_}
 use Prim.Native.Nat.{ℕ, zero, suc, _+_, _-_, _*_, _/_, _%_, _<_, _^_}

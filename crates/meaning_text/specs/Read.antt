@@ -1,4 +1,4 @@
--- Reading a whole text, and the first bad line. Assumes nothing.
+-- Reading a whole text, and the first bad line.
 use mathlib.Core.Path.{_≡_}
 use mathlib.Core.List.{List, [], _∷_, _++_}
 use Prim.Native.Nat.{ℕ, suc, _-_, _<_, _≤_}

@@ -1,4 +1,4 @@
--- The texts of document 01: the index text, the series line, the search program's input and its two outputs, the refusal. Assumes nothing.
+-- The texts of document 01: the index text, the series line, the search program's input and its two outputs, the refusal.
 use mathlib.Core.Bool.{Bool, true, false}
 use mathlib.Core.List.{List, map}
 use Prim.Native.Nat.{ℕ}

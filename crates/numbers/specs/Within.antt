@@ -1,24 +1,8 @@
 -- What a function that may be left early answers: the number d where it is at most the limit, and otherwise some number above the limit.
--- It is shown by its two ways out: with the whole number (`whole`), or above the limit with a part of it (`left-early`). Assumes nothing.
+-- It is shown by its two ways out: with the whole number, or above the limit with a part of it.
 use mathlib.Core.Path.{_≡_}
 use Prim.Native.Nat.{ℕ, _<_, _≤_}
-use native.Mathlib.Omega.{arith}
-use native.Mathlib.Decide.{decLe}
 
 pub record Within (d limit r : ℕ) : Type 0 where
   pub exact : d ≤ limit → r ≡ d
   pub above : limit < d → limit < r
-
-pub whole : {d limit r : ℕ} → r ≡ d → Within d limit r
-whole e = record { exact = λ h. e; above = λ h. omega arith }
-
-pub left-early : {d limit r : ℕ} → r ≤ d → limit < r → Within d limit r
-left-early h k = record { exact = λ l. absurd (omega arith); above = λ l. k }
-
--- above the limit there is no number but one that is too large
-pub within-above : {d limit r : ℕ} → Within d limit r → limit < r → limit < d
-within-above {d} {limit} w h = elim (decLe d limit) [ yes l ↦ absurd (omega (arith, w .exact l)) | no f ↦ omega arith ]
-
--- at or below the limit it is the number
-pub within-exact : {d limit r : ℕ} → Within d limit r → r ≤ limit → r ≡ d
-within-exact {d} {limit} w h = elim (decLe d limit) [ yes l ↦ w .exact l | no f ↦ absurd (omega (arith, w .above (omega arith))) ]

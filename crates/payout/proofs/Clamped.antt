@@ -1,4 +1,4 @@
--- Values clamped to 32 bits: one outside its limits stays outside and any other is itself, so an audit of clamped values answers as one of the values themselves (`clamped-answer`). Assumes nothing.
+-- Values clamped to 32 bits: one outside its limits stays outside and any other is itself, so an audit of clamped values answers as one of the values themselves (`clamped-answer`).
 use mathlib.Core.Path.{_≡_, refl, sym, ap, _∙_}
 use mathlib.Core.Bool.{Bool, true, false, not, cond}
 use mathlib.Core.List.{List, [], _∷_, map}

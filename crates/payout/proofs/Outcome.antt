@@ -1,4 +1,4 @@
--- The answer by what the code came to: the index text's first bad byte (`index-stopped`), the series line's (`line-stopped`), or how many values the line has and what stands in the buffer (`line-counted`). Assumes nothing.
+-- The answer by what the code came to: the index text's first bad byte (`index-stopped`), the series line's (`line-stopped`), or how many values the line has and what stands in the buffer (`line-counted`).
 use mathlib.Core.Path.{_≡_, refl, sym, ap, _∙_}
 use mathlib.Core.Bool.{true, false}
 use mathlib.Core.List.{List}

@@ -1,4 +1,4 @@
--- The number of an answer fits 64 bits (`number-small`): a line of an index text has at least 8 bytes but the last, a series line is one line, and rows and offsets are no more than windows. Assumes nothing.
+-- The number of an answer fits 64 bits (`number-small`): a line of an index text has at least 8 bytes but the last, a series line is one line, and rows and offsets are no more than windows.
 use mathlib.Core.Path.{_≡_, refl, sym, ap, _∙_}
 use mathlib.Core.Bool.{Bool, true, false, not, cond}
 use mathlib.Core.List.{List, [], _∷_, _++_, append-nil}
@@ -35,7 +35,8 @@ use Rattle.meaning_entries.specs.Audit.{AuditCall, auditTable, complete, audite
 use Rattle.meaning_entries.specs.Load.{textIndex}
 use Rattle.meaning_entries.specs.AuditText.{packRefusal, pack, auditTextAnswer}
 use Rattle.meaning_entries.proofs.Refusal.{First, here, later, is-passed, is-first, openLines, passed-line}
-use Rattle.text_feed.specs.Keep.{leading, leading-outside}
+use Rattle.text_feed.specs.Keep.{leading}
+use Rattle.text_feed.proofs.Keep.{leading-outside}
 use Rattle.payout.proofs.Texts.{refused-by, index-unread, line-unread, table-is, outside, none-refuses}
 
 -- ---- a series line is one line

@@ -1,4 +1,4 @@
--- The audit of two texts by what they come to: the index text cannot be read (`index-unread`); the series line cannot (`line-unread`); both can (`both-read`). Assumes nothing.
+-- The audit of two texts by what they come to: the index text cannot be read (`index-unread`); the series line cannot (`line-unread`); both can (`both-read`).
 use mathlib.Core.Path.{_≡_, refl, sym, ap, _∙_}
 use mathlib.Core.Bool.{Bool, true, false}
 use mathlib.Core.List.{List, _++_, map}

@@ -1,4 +1,4 @@
--- The audit of an index against a series of n values that stand first in a buffer; the program's limit on n decides before anything else. Assumes nothing.
+-- The audit of an index against a series of n values that stand first in a buffer; the program's limit on n decides before anything else.
 use mathlib.Core.Bool.{cond}
 use mathlib.Core.List.{List}
 use Prim.Native.Nat.{ℕ}

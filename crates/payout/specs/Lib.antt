@@ -1,2 +1,2 @@
--- The audit of the first values of a buffer (`Counted`).
+-- What the contracts of payout cite.
 pub mod Counted

@@ -1,4 +1,4 @@
--- The audit of an index text against a series: its plan's refusal is that of the table (`plan-is`); what the audit of the rows asks holds where nothing refuses (`goes-sized`), and what is answered is what the meanings say (`stopped-right`, `walked-right`). Assumes nothing.
+-- The audit of an index text against a series: its plan's refusal is that of the table (`plan-is`); what the audit of the rows asks holds where nothing refuses (`goes-sized`), and what is answered is what the meanings say (`stopped-right`, `walked-right`).
 use mathlib.Core.Path.{_≡_, refl, sym, ap, subst, _∙_}
 use mathlib.Core.Bool.{true}
 use mathlib.Core.List.{List, [], _∷_, _++_}
@@ -22,11 +22,11 @@ use Rattle.meaning_entries.specs.Refusal.{firstRefusal, seriesLines, countLines
 use Rattle.meaning_entries.specs.Audit.{AuditCall, auditTable, auditAnswer}
 use Rattle.meaning_entries.specs.Load.{textIndex}
 use Rattle.meaning_entries.proofs.Again.{text-fine}
-use Rattle.meaning_entries.proofs.Refusal.{Passed, openLines, passed-line, same-behind}
+use Rattle.meaning_entries.proofs.Refusal.{AllPass, openLines, passed-line, same-behind}
 use Rattle.rows_judge.specs.declared.Judged.{Judged}
-use Rattle.entry_audit.specs.declared.Plan.{Plan}
-use Rattle.entry_audit.specs.declared.State.{State}
-use Rattle.entry_audit.specs.State.{found}
+use Rattle.entry_audit.specs.declared.AuditPlan.{AuditPlan}
+use Rattle.entry_audit.specs.declared.RowsAudited.{RowsAudited}
+use Rattle.entry_audit.specs.Auditing.{found}
 use Rattle.refusals.specs.Refusal.{refusalOf, asRefusal, judgedLine, judged-line}
 use Rattle.entry_audit.specs.Plan.{tableOf, planOf, answerOf}
 use Rattle.entry_audit.proofs.Cases.{stopped, values-in, formed, fits, went-wrong, went-right}
@@ -55,11 +55,11 @@ module _ (series : List ℤ) (v : Value indexForm) where
   abbrev j : Judged
   j = judgedRows h c
 
-  abbrev thePlan : Plan
+  abbrev thePlan : AuditPlan
   thePlan = planOf series h j
 
   -- where no row is bad the head's windows are the index's
-  same-counts : Passed (seriesLines mostValues series ++ (judgedLine j ∷ [])) → countLines (length series) (lent h [] [] []) ≡ countLines (length series) X
+  same-counts : AllPass (seriesLines mostValues series ++ (judgedLine j ∷ [])) → countLines (length series) (lent h [] [] []) ≡ countLines (length series) X
   unfolding openLines indexSaid
   same-counts t =
       let i = head-is v (rows-good v (sym (rows-judged v) ∙ passed-line t 20) .0) in
@@ -69,7 +69,7 @@ module _ (series : List ℤ) (v : Value indexForm) where
   unfolding planOf tableOf auditTable
   plan-is = ap asRefusal (same-behind (seriesLines mostValues series ++ (judgedLine j ∷ [])) (countLines (length series) (lent h [] [] [])) (countLines (length series) X) (λ t. ap firstRefusal (same-counts t))) ∙ rw (judged-line X j (rows-judged v)) refl
 
-  pub stopped-by : (s : State) → (thePlan .refusal .number ≡ 0 → ⊥) → answerOf thePlan s ≡ auditAnswer call
+  pub stopped-by : (s : RowsAudited) → (thePlan .refusal .number ≡ 0 → ⊥) → answerOf thePlan s ≡ auditAnswer call
   stopped-by s f = stopped call thePlan plan-is s f
 
   module _ (z : thePlan .refusal .number ≡ 0) where
@@ -93,7 +93,7 @@ module _ (series : List ℤ) (v : Value indexForm) where
     went none e = went-right call thePlan plan-is z (found none) refl e (lacking-is e)
     went (some w) e = went-wrong call thePlan plan-is z (w .0) (w .1) e
 
-    pub walked-by : (t : List ℕ) (s : State) → readText indexForm t ≡ fine v → Walked series h t s → answerOf thePlan s ≡ auditAnswer call
+    pub walked-by : (t : List ℕ) (s : RowsAudited) → readText indexForm t ≡ fine v → Walked series h t s → answerOf thePlan s ≡ auditAnswer call
     unfolding Walked indexSaid
     walked-by t s r w =
         let i = head-is v (good .0) in
@@ -103,23 +103,23 @@ module _ (series : List ℤ) (v : Value indexForm) where
 -- ---- a text whose head and rows came to h and c
 
 module _ (t : List ℕ) (series : List ℤ) (h : Head) (c : Rows) (came : Scanned.Fine h c ≡ scanned (readText indexForm t)) where
-  abbrev plan : Plan
+  abbrev plan : AuditPlan
   plan = planOf series h (judgedRows h c)
 
   abbrev answered : Audited
   answered = auditAnswer (record { series = series; index = textIndex t })
 
   -- the text can be read, and its value has this head and these rows
-  record Told : Type 0 where
+  record AnswerTold : Type 0 where
     value : Value indexForm
     read : readText indexForm t ≡ fine value
     head : h ≡ headHeld value
     rows : c ≡ rowsFrom (headHeld value) noRows (value .1 .1 .1)
 
-  told : Told
+  told : AnswerTold
   told = by (readText indexForm t) refl
     where
-      by : (x : Verdict (Value indexForm)) → readText indexForm t ≡ x → Told
+      by : (x : Verdict (Value indexForm)) → readText indexForm t ≡ x → AnswerTold
       by (fine v) e = let q : Scanned.Fine h c ≡ Scanned.Fine (headHeld v) (rowsFrom (headHeld v) noRows (v .1 .1 .1)) = came ∙ ap scanned e in record { value = v; read = e; head = cc; rows = cc }
       by (unfit p) e = let q : Scanned.Fine h c ≡ Scanned.Bad p = came ∙ ap scanned e in let z : _≡_ {A = ℕ} 0 1 = cc in absurd (omega arith)
 
@@ -133,16 +133,16 @@ module _ (t : List ℕ) (series : List ℤ) (h : Head) (c : Rows) (came : Scanne
   same-answer = ap (λ (x : Index). auditAnswer (record { series = series; index = x })) (sym (text-fine t v (told .read)))
 
   number-is : plan .refusal .number ≡ 0 → planOf series (headHeld v) (judgedRows (headHeld v) (rowsFrom (headHeld v) noRows (v .1 .1 .1))) .refusal .number ≡ 0
-  number-is z = sym (ap (λ (u : Plan). u .refusal .number) same-plan) ∙ z
+  number-is z = sym (ap (λ (u : AuditPlan). u .refusal .number) same-plan) ∙ z
 
-  pub stopped-right : (s : State) → (plan .refusal .number ≡ 0 → ⊥) → answerOf plan s ≡ answered
-  stopped-right s z = ap (λ (u : Plan). answerOf u s) same-plan ∙ stopped-by series v s (λ e. z (ap (λ (u : Plan). u .refusal .number) same-plan ∙ e)) ∙ same-answer
+  pub stopped-right : (s : RowsAudited) → (plan .refusal .number ≡ 0 → ⊥) → answerOf plan s ≡ answered
+  stopped-right s z = ap (λ (u : AuditPlan). answerOf u s) same-plan ∙ stopped-by series v s (λ e. z (ap (λ (u : AuditPlan). u .refusal .number) same-plan ∙ e)) ∙ same-answer
 
   pub goes-sized : plan .refusal .number ≡ 0 → Sized series h
   goes-sized z = subst (Sized series) (sym (told .head)) (sized-by series v (number-is z))
 
-  pub walked-right : (s : State) → plan .refusal .number ≡ 0 → Walked series h t s → answerOf plan s ≡ answered
+  pub walked-right : (s : RowsAudited) → plan .refusal .number ≡ 0 → Walked series h t s → answerOf plan s ≡ answered
   walked-right s z w =
-      ap (λ (u : Plan). answerOf u s) same-plan
+      ap (λ (u : AuditPlan). answerOf u s) same-plan
       ∙ walked-by series v (number-is z) t s (told .read) (subst (λ (u : Head). Walked series u t s) (told .head) w)
       ∙ same-answer

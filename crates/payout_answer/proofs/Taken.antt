@@ -1,4 +1,4 @@
--- Where all rows of an index text are good, the run lengths that judging added up are those of its index (`rows-taken`). Assumes nothing.
+-- Where all rows of an index text are good, the run lengths that judging added up are those of its index (`rows-taken`).
 use mathlib.Core.Path.{_≡_, refl, sym, ap, subst, _∙_}
 use mathlib.Core.Bool.{true, false≢true}
 use mathlib.Core.List.{List, [], _∷_, map}

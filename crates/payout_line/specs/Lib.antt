@@ -1,2 +1,2 @@
--- What a series line comes to (`Line`).
+-- What the contracts of payout_line cite.
 pub mod Line

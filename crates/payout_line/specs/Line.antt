@@ -1,4 +1,4 @@
--- What a series line comes to: the place of its first bad byte, or how many values it has; and the values in a buffer, as far as it has room. Assumes nothing.
+-- What a series line comes to: the place of its first bad byte, or how many values it has; and the values in a buffer, as far as it has room.
 use mathlib.Core.Path.{_≡_}
 use mathlib.Core.List.{List}
 use Prim.Native.Nat.{ℕ}

@@ -1,4 +1,4 @@
--- The rows of a good index text, audited run by run, come to what is filed wrongly first in its index (`rows-found`). Assumes nothing.
+-- The rows of a good index text, audited run by run, come to what is filed wrongly first in its index (`rows-found`).
 use mathlib.Core.Path.{_≡_, refl, sym, ap, subst, _∙_}
 use mathlib.Core.Bool.{true, not, cond}
 use mathlib.Core.List.{List, [], _∷_, _++_, map, append-assoc, append-nil}
@@ -25,8 +25,8 @@ use Rattle.meaning_rows.proofs.Laid.{Lays, laid}
 use Rattle.meaning_text.specs.Form.{Value}
 use Rattle.meaning_text.specs.Texts.{indexForm, rowForm, rowSaid, indexSaid}
 use Rattle.rows_records.specs.Records.{zeroRow}
-use Rattle.entry_audit.specs.declared.State.{State}
-use Rattle.entry_audit.specs.State.{found, wrongOf, chunked}
+use Rattle.entry_audit.specs.declared.RowsAudited.{RowsAudited}
+use Rattle.entry_audit.specs.Auditing.{found, wrongOf, chunked}
 use Rattle.entry_audit.proofs.Chunks.{orElse}
 use Rattle.numbers.specs.Narrow.{clamp}
 use Rattle.text_judge.specs.Tally.{noRows, rowsFrom, headHeld}
@@ -107,7 +107,7 @@ module _ (series : List ℤ) (h : Head) where
   runs-found W a k low up o [] m s p = ap found (sym (else-none o))
   runs-found W a k low up o (x ∷ l) m s p =
       let w = wrongIn sum k (ranged low up) (numbersFrom (x .0) (x .1 + 1 - x .0)) none in
-      ap (λ (u : State). runsWalked series h k low up u (map entry l)) (run-held W k low up o (x .0) (x .1) m s (p .1) (p .2))
+      ap (λ (u : RowsAudited). runsWalked series h k low up u (map entry l)) (run-held W k low up o (x .0) (x .1) m s (p .1) (p .2))
       ∙ runs-found W (x .1 + 2) k low up (orElse o w) l m s (p .3)
       ∙ ap found (else-assoc o w (wrongIn sum k (ranged low up) (offsets (map entry l)) none)
       ∙ ap (orElse o) (sym (wrong-append sum k (ranged low up) (numbersFrom (x .0) (x .1 + 1 - x .0)) (offsets (map entry l)) none)))
@@ -161,7 +161,7 @@ module _ (series : List ℤ) (v : Value indexForm) (head : headGood (lent (headH
       let q = wrongIn w k row (offsets (runsOf X row)) none in
       let later = wrongFrom X w (suc k) (records (f + length (r .1 .1)) (map rowSaid l)) in
       let d : v .1 .1 .1 ≡ (a ++ (r ∷ [])) ++ l = e ∙ sym (append-assoc a (r ∷ []) l) in
-      ap (λ (u : State). rowsWalked series h (suc k) u l) (row-found a r l f k o e (g .0) (s .1))
+      ap (λ (u : RowsAudited). rowsWalked series h (suc k) u l) (row-found a r l f k o e (g .0) (s .1))
       ∙ rows-from (a ++ (r ∷ [])) l (f + length (r .1 .1)) (suc k) (orElse o q) d (s .2) (g .1)
       ∙ ap found (else-assoc o q later ∙ ap (orElse o) (sym (wrong-else w k row (offsets (runsOf X row)) later)))
 

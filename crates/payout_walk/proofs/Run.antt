@@ -1,4 +1,4 @@
--- A run audited as a row of one run: what the audit of a chunk asks holds (`run-ready`), and the state afterwards by the test of the run's ends. Assumes nothing.
+-- A run audited as a row of one run: what the audit of a chunk asks holds (`run-ready`), and the state afterwards by the test of the run's ends.
 use mathlib.Core.Path.{_≡_, refl, sym, subst, _∙_}
 use mathlib.Core.Bool.{Bool, true, false, _&&_}
 use mathlib.Core.List.{List, [], _∷_}
@@ -13,7 +13,7 @@ use Rattle.meaning_numbers.proofs.Tests.{both}
 use Rattle.meaning_rows.specs.declared.Row.{Row}
 use Rattle.meaning_rows.specs.declared.Head.{Head}
 use Rattle.rows_records.specs.Records.{zeroRow}
-use Rattle.entry_audit.specs.State.{Reads, Ready, chunked}
+use Rattle.entry_audit.specs.Auditing.{Reads, Ready, chunked}
 use Rattle.payout_walk.specs.declared.Walk.{Walk}
 use Rattle.payout_walk.specs.Walk.{Sized, oneRun, afterRun}
 

@@ -1,2 +1,2 @@
--- What is known of the rows of an index text after some of its bytes, and what a pass over them comes to (`Walk`).
+-- What the contracts of payout_walk cite.
 pub mod Walk

@@ -1,4 +1,4 @@
--- What is known of the rows of an index text so far, audited against a series: how a number and a row's end move it, and what the rows of a whole text come to. Assumes nothing.
+-- What is known of the rows of an index text so far, audited against a series: how a number and a row's end move it, and what the rows of a whole text come to.
 use mathlib.Core.Path.{_≡_}
 use mathlib.Core.Bool.{true, cond, _&&_}
 use mathlib.Core.List.{List, [], _∷_}
@@ -14,10 +14,10 @@ use Rattle.meaning_text.specs.Form.{Value}
 use Rattle.meaning_text.specs.Read.{fine, readText}
 use Rattle.meaning_text.specs.Texts.{indexForm, rowForm}
 use Rattle.rows_records.specs.Records.{zeroRow}
-use Rattle.entry_audit.specs.declared.State.{State}
-use Rattle.entry_audit.specs.State.{chunked}
+use Rattle.entry_audit.specs.declared.RowsAudited.{RowsAudited}
+use Rattle.entry_audit.specs.Auditing.{chunked}
 use Rattle.numbers.specs.Narrow.{clamp}
-use Rattle.text_index.specs.declared.Place.{Place}
+use Rattle.text_index.specs.declared.Field.{Field}
 use Rattle.numbers.specs.Narrow.{held}
 use Rattle.payout_walk.specs.declared.Walk.{Walk}
 
@@ -28,7 +28,7 @@ pub record Sized (series : List ℤ) (h : Head) : Type 0 where
   pub window : h .window ≤ 256
 
 -- nothing is filed wrongly so far
-abbrev pub goesOn : State
+abbrev pub goesOn : RowsAudited
 goesOn = record { go = true; row = 0; offset = 0 }
 
 abbrev pub startWalk : Walk
@@ -39,19 +39,19 @@ unfoldable pub oneRun : ℤ → ℤ → List Row
 oneRun low up = set (replicate 64 zeroRow) 0 (record { low = low; up = up; first = 0; runs = 1 })
 
 -- after the run that ends at r; a run whose windows do not lie in the series says nothing
-unfoldable pub afterRun : List ℤ → Head → Walk → ℕ → State
+unfoldable pub afterRun : List ℤ → Head → Walk → ℕ → RowsAudited
 afterRun series h t r =
     cond (leb (t .left) r && leb (r + h .window) (length series)) (chunked series h (t .left ∷ []) (r ∷ []) (t .found) (t .rows) (oneRun (t .low) (t .up))) (t .found)
 
 -- a number
-unfoldable pub tellWalk : List ℤ → Head → Place → ℤ → Walk → Walk
-tellWalk series h Place.Window z t = t
-tellWalk series h Place.Width z t = t
-tellWalk series h Place.Windows z t = t
-tellWalk series h Place.Low z t = record { low = clamp z; up = t .up; left = t .left; rows = t .rows; found = t .found }
-tellWalk series h Place.Up z t = record { low = t .low; up = clamp z; left = t .left; rows = t .rows; found = t .found }
-tellWalk series h Place.Left z t = record { low = t .low; up = t .up; left = held z; rows = t .rows; found = t .found }
-tellWalk series h Place.Right z t = record { low = t .low; up = t .up; left = t .left; rows = t .rows; found = afterRun series h t (held z) }
+unfoldable pub tellWalk : List ℤ → Head → Field → ℤ → Walk → Walk
+tellWalk series h Field.Window z t = t
+tellWalk series h Field.Width z t = t
+tellWalk series h Field.Windows z t = t
+tellWalk series h Field.Low z t = record { low = clamp z; up = t .up; left = t .left; rows = t .rows; found = t .found }
+tellWalk series h Field.Up z t = record { low = t .low; up = clamp z; left = t .left; rows = t .rows; found = t .found }
+tellWalk series h Field.Left z t = record { low = t .low; up = t .up; left = held z; rows = t .rows; found = t .found }
+tellWalk series h Field.Right z t = record { low = t .low; up = t .up; left = t .left; rows = t .rows; found = afterRun series h t (held z) }
 
 -- a row's end
 unfoldable pub shutWalk : Walk → Walk
@@ -60,15 +60,15 @@ shutWalk t = record { low = t .low; up = t .up; left = t .left; rows = t .rows +
 -- ---- what a text comes to
 
 -- the runs of row k, one after the other
-unfoldable pub runsWalked : List ℤ → Head → ℕ → ℤ → ℤ → State → List Entry → State
+unfoldable pub runsWalked : List ℤ → Head → ℕ → ℤ → ℤ → RowsAudited → List Entry → RowsAudited
 runsWalked series h k low up s [] = s
 runsWalked series h k low up s (e ∷ l) = runsWalked series h k low up (afterRun series h (record { low = low; up = up; left = held (e .0); rows = k; found = s }) (held (e .1))) l
 
 -- rows, counted on from k
-unfoldable pub rowsWalked : List ℤ → Head → ℕ → State → List (Value rowForm) → State
+unfoldable pub rowsWalked : List ℤ → Head → ℕ → RowsAudited → List (Value rowForm) → RowsAudited
 rowsWalked series h k s [] = s
 rowsWalked series h k s (r ∷ l) = rowsWalked series h (suc k) (runsWalked series h k (clamp (r .0)) (clamp (r .1 .0)) s (r .1 .1)) l
 
 -- the rows of a text that can be read
-unfoldable pub Walked : List ℤ → Head → List ℕ → State → Type 0
+unfoldable pub Walked : List ℤ → Head → List ℕ → RowsAudited → Type 0
 Walked series h t s = (v : Value indexForm) → readText indexForm t ≡ fine v → s ≡ rowsWalked series h 0 goesOn (v .1 .1 .1)

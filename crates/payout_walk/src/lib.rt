@@ -4,13 +4,14 @@ ghost use mathlib.Core.Bool.{_&&_};
 ghost use Prim.Native.Nat.{_+_, _<_, _^_};
 ghost use lib.Dec.{leb};
 ghost use Rattle.payout_walk.specs.Walk.{Sized, startWalk, afterRun, tellWalk, shutWalk, Walked};
+use entry_audit::RowsAudited;
 use entry_audit::audit_chunk;
 use meaning_rows::Head;
 use meaning_rows::Row;
 use numbers::hold;
 use numbers::narrow;
+use text_index::Field;
 use text_index::Moved;
-use text_index::Place;
 use text_index::State;
 use text_index::Word;
 use text_index::index_step;
@@ -21,7 +22,7 @@ pub struct Walk {
     pub up: i32,
     pub left: u32,
     pub rows: usize,
-    pub found: entry_audit::State,
+    pub found: RowsAudited,
 }
 
 pub fn no_walk() -> Walk
@@ -32,7 +33,7 @@ pub fn no_walk() -> Walk
         up: 0,
         left: 0,
         rows: 0,
-        found: entry_audit::State {
+        found: RowsAudited {
             go: true,
             row: 0,
             offset: 0,
@@ -49,7 +50,7 @@ fn run_reads(l: usize, r: usize, w: usize, n: usize) -> bool
 }
 
 // What is filed wrongly first, after the run that ends at r.
-pub fn audit_run(series: &[i32], head: Head, t: Walk, r: u32) -> entry_audit::State
+pub fn audit_run(series: &[i32], head: Head, t: Walk, r: u32) -> RowsAudited
     requires { ⌜ Sized (now series) head ⌝ }
     requires { ⌜ t .rows < 2 ^ 63 ⌝ }
     ensures { λ s. ⌜ s ≡ afterRun (now (series .entry)) head t r ⌝ }
@@ -77,37 +78,37 @@ pub fn audit_run(series: &[i32], head: Head, t: Walk, r: u32) -> entry_audit::St
 }
 
 // What a number says.
-pub fn tell(series: &[i32], head: Head, t: Walk, p: Place, z: i64) -> Walk
+pub fn tell(series: &[i32], head: Head, t: Walk, p: Field, z: i64) -> Walk
     requires { ⌜ Sized (now series) head × (t .rows < 2 ^ 63) ⌝ }
     ensures { λ n. ⌜ n ≡ tellWalk (now (series .entry)) head p z t ⌝ }
 {
     let found = t.found;
     match p {
-        Place::Window => t,
-        Place::Width => t,
-        Place::Windows => t,
-        Place::Low => Walk {
+        Field::Window => t,
+        Field::Width => t,
+        Field::Windows => t,
+        Field::Low => Walk {
             low: narrow(z),
             up: t.up,
             left: t.left,
             rows: t.rows,
             found,
         },
-        Place::Up => Walk {
+        Field::Up => Walk {
             low: t.low,
             up: narrow(z),
             left: t.left,
             rows: t.rows,
             found,
         },
-        Place::Left => Walk {
+        Field::Left => Walk {
             low: t.low,
             up: t.up,
             left: hold(z),
             rows: t.rows,
             found,
         },
-        Place::Right => Walk {
+        Field::Right => Walk {
             low: t.low,
             up: t.up,
             left: t.left,
@@ -133,7 +134,7 @@ pub fn shut(t: Walk) -> Walk
 }
 
 // The rows of a whole text.
-pub fn walk_rows(text: &[u8], series: &[i32], head: Head) -> entry_audit::State
+pub fn walk_rows(text: &[u8], series: &[i32], head: Head) -> RowsAudited
     requires { ⌜ Sized (now series) head ⌝ }
     ensures { λ s. ⌜ Walked (now (series .entry)) head (now (text .entry)) s ⌝ }
 {

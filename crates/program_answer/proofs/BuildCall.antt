@@ -38,7 +38,7 @@ use Rattle.meaning_entries.proofs.Built.Laws as Bu′
 use Rattle.rows_records.proofs.Again.{LentAgain}
 use Rattle.rows_records.proofs.Lends.{Own, lend, comes, twin}
 use Rattle.rows_records.proofs.Told.{calls-free}
-use Rattle.build_passes.specs.Filled.{buffers}
+use Rattle.meaning_entries.specs.Buffers.{indexBuffers}
 use Rattle.entry_build.proofs.BuildCall.{low-built}
 use Rattle.entry_build.proofs.BuildCall as Building
 use Rattle.entry_build.proofs.BuildCall.{Build, to-build}
@@ -78,7 +78,7 @@ module _ {M : Type 1} (𝓤 : URA M) (H : Heap 𝓤) (A : Atoms 𝓤) (mem : Mem
 module _ {M : Type 1} {𝓤 : URA M} {H : Heap 𝓤} {A : Atoms 𝓤} {K : Type 0} {W : Given 𝓤 H A} {Γ : List (Item 𝓤)} {E : Env 𝓤 H} {C : Calls 𝓤 H} {Λ : Loops 𝓤 H} {p : Post 𝓤 H} {d : Place} {rest : Body} {xs : List Operand} where
   pub calls-build : K → FmC 𝓤 H (W .laws) C → (mem : Memory → SProp 𝓤) (run : Routine → Fun 𝓤) → Triple 𝓤 (C #build) (Build 𝓤 H A mem run) → (κs : Lft) (qs : Share) (vs : RefT (List ℤ)) (κa : Lft) (qa : Share) (ba oa ma : ℕ) (γa : GName) (ya : List Row) (κl : Lft) (ql : Share) (bl ol ml : ℕ) (γl : GName) (yl : List ℕ) (κr : Lft) (qr : Share) (br or mr : ℕ) (γr : GName) (yr : List ℕ) (w : ℕ) (wide : ℕ) (g : ℕ) → length yl ≡ ml → Room u32 ml → length yr ≡ mr → Room u32 mr → w < 2 ^ 32 → wide < 2 ^ 32 → g < 2 ^ 32
       → ((νl : ℕ) (δl : GName) (νr : ℕ) (δr : GName) → Opds K W (raw (Build 𝓤 H A mem run .pre (to-build 𝓤 H A mem run κs qs vs κa qa ba oa ma γa ya (νl ∷ []) fullShare bl ol ml δl yl (νr ∷ []) fullShare br or mr δr yr w wide g)) ∷ ‵ (ShrSlice (named 0) κs i32 .own vs (sliceVal (vs .ptr) (length (vs .now)) ∷ [])) ∷ ‵ (LentAgain u32 κl (νl ∷ []) ql γl bl ol δl yl) ∷ ‵ (LentAgain u32 κr (νr ∷ []) qr γr br or δr yr) ∷ Γ) E xs (sliceVal (vs .ptr) (length (vs .now)) ∷ vint w32 w ∷ vint w32 wide ∷ vint w32 g ∷ sliceVal (ba, oa) ma ∷ sliceVal (bl, ol) ml ∷ sliceVal (br, or) mr ∷ []))
-      → ((r : Built) (za : List Row) (zl : List ℕ) (zr : List ℕ) → BuildKept (lentBuild (vs .now) w wide g) (buffers ya yl yr) r (buffers za zl zr) → Is Bu.the-row r (low-built r ∷ []) → length za ≡ length ya → length zl ≡ length yl → length zr ≡ length yr → Seq K W (‵ (flft κs qs) ∷ ‵ (ShrSlice (named 0) κs i32 .own vs (sliceVal (vs .ptr) (length (vs .now)) ∷ [])) ∷ ‵ (flft κa qa) ∷ ‵ (finally T.the-row γa za) ∷ ‵ (flft κl ql) ∷ ‵ (Own u32 bl ol ml (named 0) κl γl zl) ∷ ‵ (flft κr qr) ∷ ‵ (Own u32 br or mr (named 0) κr γr zr) ∷ Γ) (lands C Λ E d (low-built r) rest p))
+      → ((r : Built) (za : List Row) (zl : List ℕ) (zr : List ℕ) → BuildKept (lentBuild (vs .now) w wide g) (indexBuffers ya yl yr) r (indexBuffers za zl zr) → Is Bu.the-row r (low-built r ∷ []) → length za ≡ length ya → length zl ≡ length yl → length zr ≡ length yr → Seq K W (‵ (flft κs qs) ∷ ‵ (ShrSlice (named 0) κs i32 .own vs (sliceVal (vs .ptr) (length (vs .now)) ∷ [])) ∷ ‵ (flft κa qa) ∷ ‵ (finally T.the-row γa za) ∷ ‵ (flft κl ql) ∷ ‵ (Own u32 bl ol ml (named 0) κl γl zl) ∷ ‵ (flft κr qr) ∷ ‵ (Own u32 br or mr (named 0) κr γr zr) ∷ Γ) (lands C Λ E d (low-built r) rest p))
       → Seq K W (‵ (flft κs qs) ∷ ‵ (ShrSlice (named 0) κs i32 .own vs (sliceVal (vs .ptr) (length (vs .now)) ∷ [])) ∷ ‵ (flft κa qa) ∷ ‵ (Own T.the-row ba oa ma (named 0) κa γa ya) ∷ ‵ (flft κl ql) ∷ ‵ (Own u32 bl ol ml (named 0) κl γl yl) ∷ ‵ (flft κr qr) ∷ ‵ (Own u32 br or mr (named 0) κr γr yr) ∷ Γ) (runs C Λ E (seq (call #build xs d) rest) p)
   calls-build t fm mem run met κs qs vs κa qa ba oa ma γa ya κl ql bl ol ml γl yl κr qr br or mr γr yr w wide g el rooml er roomr g-w g-wide g-g os k =
       move t (5 ∷ 4 ∷ []) $ lend u32 bl ol ml (named 0) (named 0) κl ql γl yl el t tt (λ νl δl.

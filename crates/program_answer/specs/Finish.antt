@@ -1,4 +1,4 @@
--- What is left in the text buffer: the list (`Listed`), the index and the list (`Prints`), and at the end of the input what the program prints (`Finishes`). Assumes nothing.
+-- What is left in the text buffer: the list (`Listed`), the index and the list (`Prints`), and at the end of the input what the program prints (`Finishes`).
 use mathlib.Core.Path.{_≡_}
 use mathlib.Core.List.{List}
 use mathlib.Core.Option.{none}

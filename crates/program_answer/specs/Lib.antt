@@ -1,5 +1,4 @@
--- Row records by value (`Table`), the sizes of the program's texts (`Sizes`), what is printed where nothing refuses (`Print`), and at the end of the input (`Finish`).
+-- What the contracts of program_answer cite.
 pub mod Table
-pub mod Sizes
 pub mod Print
 pub mod Finish

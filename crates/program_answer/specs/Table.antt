@@ -1,4 +1,4 @@
--- Row records by value, with what the build that made them answered. Assumes nothing.
+-- Row records by value, with what the build that made them answered.
 use mathlib.Core.List.{List}
 use Rattle.meaning_rows.specs.declared.Row.{Row}
 use Rattle.meaning_entries.specs.declared.Built.{Built}

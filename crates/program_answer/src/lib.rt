@@ -18,8 +18,8 @@ ghost use Rattle.meaning_rows.specs.Index.{lent};
 ghost use Rattle.meaning_entries.specs.Build.{lentBuild};
 ghost use Rattle.meaning_entries.specs.Search.{lentSearch};
 ghost use Rattle.meaning_entries.specs.Demand2.{BuildKept, WriteKept, SearchKept};
-ghost use Rattle.build_passes.specs.Filled.{buffers as indexBuffers};
-ghost use Rattle.entry_search.specs.Refused.{buffers};
+ghost use Rattle.meaning_entries.specs.Buffers.{indexBuffers};
+ghost use Rattle.meaning_entries.specs.Search.{searchBuffers};
 ghost use Rattle.meaning_entries.specs.Answers.{writtenCount};
 ghost use Rattle.program_answer.specs.Table.{tableOf};
 ghost use Rattle.program_answer.specs.Print.{FoundPut};
@@ -86,7 +86,7 @@ pub fn search_table(
     distances: &mut [u64],
 ) -> Found
     requires { ⌜ n ≤ mostProgramValues ⌝ }
-    ensures { λ a. ⌜ SearchKept (lentSearch (now (series .entry)) head (take n table) (now (left .entry)) (now (right .entry)) ask (now (query .entry))) (buffers (now (first .entry)) (now (last .entry)) (now (scratch .entry)) (now (offsets .entry)) (now (distances .entry))) a (buffers (now (first .exit)) (now (last .exit)) (now (scratch .exit)) (now (offsets .exit)) (now (distances .exit))) ⌝ }
+    ensures { λ a. ⌜ SearchKept (lentSearch (now (series .entry)) head (take n table) (now (left .entry)) (now (right .entry)) ask (now (query .entry))) (searchBuffers (now (first .entry)) (now (last .entry)) (now (scratch .entry)) (now (offsets .entry)) (now (distances .entry))) a (searchBuffers (now (first .exit)) (now (last .exit)) (now (scratch .exit)) (now (offsets .exit)) (now (distances .exit))) ⌝ }
 {
     search(
         series,

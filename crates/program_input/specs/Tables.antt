@@ -1,4 +1,4 @@
--- The program's refusals in order, over what was kept of its lines: counts of values, how many stand before the first outside, the single numbers, the kept query. Assumes nothing.
+-- The program's refusals in order, over what was kept of its lines: counts of values, how many stand before the first outside, the single numbers, the kept query.
 use mathlib.Core.Bool.{Bool, true, false, cond}
 use mathlib.Core.List.{List, [], _∷_, _++_}
 use mathlib.Core.Option.{Option, none, some}

@@ -1,3 +1,2 @@
--- What is printed where nothing refuses (`Whole`), and at the end of the input (`End`).
-pub mod Whole
+-- What the contracts of program_print cite.
 pub mod End

@@ -15,14 +15,14 @@ use text_list::write_refused;
 ghost use mathlib.Core.Path.{_≡_};
 ghost use lib.ListN.{length};
 ghost use Rattle.meaning_entries.specs.Program.{callLines, printed};
-ghost use Rattle.meaning_entries.proofs.Refusal.{Passed};
+ghost use Rattle.meaning_entries.proofs.Refusal.{AllPass};
 ghost use Rattle.program_input.specs.Tables.{callOf};
 ghost use Rattle.program_answer.specs.Finish.{Prints, Finishes};
-ghost use Rattle.program_print.specs.End.{Held};
+ghost use Rattle.program_print.specs.End.{InputHeld};
 
 // The index and the list, as text.
 pub fn print_answer(series: &[i32], query: &[i32], a: Asked, text: &mut [u8]) -> usize
-    requires { ⌜ (Passed (callLines (callOf (now series) (now query) a))) × (length (now text) ≡ 1048576) ⌝ }
+    requires { ⌜ (AllPass (callLines (callOf (now series) (now query) a))) × (length (now text) ≡ 1048576) ⌝ }
     ensures { λ r. ⌜ Prints (printed (callOf (now (series .entry)) (now (query .entry)) a)) (now (text .exit)) r ⌝ }
 {
     let rows = [Row {
@@ -70,7 +70,7 @@ pub fn print_answer(series: &[i32], query: &[i32], a: Asked, text: &mut [u8]) ->
 
 // What is printed at the end of the input.
 pub fn finish(r: Input, numbers: &[i64], series: &[i32], query: &[i32], text: &mut [u8]) -> usize
-    requires { ⌜ (Held r (now numbers) (now series) (now query)) × (length (now text) ≡ 1048576) ⌝ }
+    requires { ⌜ (InputHeld r (now numbers) (now series) (now query)) × (length (now text) ≡ 1048576) ⌝ }
     ensures { λ n. ⌜ Finishes r (now (numbers .entry)) (now (series .entry)) (now (query .entry)) (now (text .exit)) n ⌝ }
 {
     let w = refuse(r, numbers, query);

@@ -1,4 +1,4 @@
--- Tests as the code makes them, without a difference that may be negative: window counts (`fewer-is`, `more-is`, `not-more`), the room of a buffer (`short-is`, `not-short`), a band (`band-is`) and limits that begin at 0 (`from-zero`). Assumes nothing.
+-- Tests as the code makes them, without a difference that may be negative: window counts (`fewer-is`, `more-is`, `not-more`), the room of a buffer (`short-is`, `not-short`), a band (`band-is`) and limits that begin at 0 (`from-zero`).
 use mathlib.Core.Path.{_≡_, sym, ap, _∙_}
 use mathlib.Core.Bool.{true, false, not}
 use mathlib.Core.Logic.{⊎-elim}

@@ -1,2 +1,2 @@
--- What the contracts of conditions cite, and what follows of it.
+-- What the contracts of refusals cite.
 pub mod Refusal

@@ -1,3 +1,2 @@
--- The search over plain variables, and calls of its parts in a walk.
+-- The search over plain variables.
 pub mod Search
-pub mod Calls

@@ -1,11 +1,11 @@
--- A binary search over plain variables: the invariant, its start, a turn and its end. Assumes nothing.
+-- A binary search over plain variables: the invariant, its start, a turn and its end.
 use mathlib.Core.Path.{_≡_}
-use Prim.Native.Nat.{ℕ, _+_, _-_, _<_, _≤_}
+use Prim.Native.Nat.{ℕ, _+_, _-_, _*_, _^_, _<_, _≤_}
 use native.Mathlib.Omega.{arith}
 use native.Mathlib.Decide.{decLt}
 use mathlib.Core.Bool.{true, false}
 use mathlib.Core.List.{List}
-use lib.ListN.{getD}
+use lib.ListN.{getD, length}
 use lib.IntN.{ℤ}
 use lib.Signed.{leZ, _≤ℤ_, _<ℤ_}
 use Rattle.meaning_numbers.proofs.Rep.{zarith}
@@ -25,10 +25,10 @@ pub record Between (rows : List Row) (n : ℕ) (sum : ℤ) (lo hi : ℕ) : Type 
 pub between-starts : (rows : List Row) (n : ℕ) (sum : ℤ) → Between rows n sum 0 n
 between-starts rows n sum = record { order = omega arith; within = omega arith; before = λ k l. absurd (omega arith); after = λ k l m. absurd (omega arith) }
 
-pub mid-below : (lo hi : ℕ) → lo < hi → midOf lo hi < hi
+mid-below : (lo hi : ℕ) → lo < hi → midOf lo hi < hi
 mid-below lo hi h = omega arith
 
-pub mid-above : (lo hi : ℕ) → lo ≤ midOf lo hi
+mid-above : (lo hi : ℕ) → lo ≤ midOf lo hi
 mid-above lo hi = omega arith
 
 module _ (rows : List Row) (n : ℕ) (sum : ℤ) (lo hi : ℕ) (asc : Climbs rows n) (b : Between rows n sum lo hi) (l : lo < hi) where
@@ -40,6 +40,12 @@ module _ (rows : List Row) (n : ℕ) (sum : ℤ) (lo hi : ℕ) (asc : Climbs row
 
   in-rows : mid < n
   in-rows = omega (arith, mid-below lo hi l, b .within)
+
+  pub mid-in : mid < length rows
+  mid-in = omega (arith, in-rows, asc .within)
+
+  pub mid-far : length rows * 16 < 2 ^ 63 → mid < 18446744073709551615
+  mid-far room = omega (arith, mid-in, room)
 
   up : leZ (r .up) sum ≡ true → Between rows n sum (mid + 1) hi
   up t = record {

@@ -1,2 +1,2 @@
--- What the contracts of layout cite.
+-- What the contracts of rows_find cite.
 pub mod Search

@@ -1,4 +1,4 @@
--- The two ends of a binary search over row records after a turn, and what the search finds. Assumes nothing.
+-- The two ends of a binary search over row records after a turn, and what the search finds.
 use mathlib.Core.Path.{_≡_}
 use Prim.Native.Nat.{ℕ, _+_, _-_, _/_, _<_, _≤_}
 use mathlib.Core.Bool.{cond}

@@ -1,4 +1,4 @@
--- One row more: a row that does not fit ends in the failed state (`next-bad`), and one that fits is judged by its runs (`next-fits`). Assumes nothing.
+-- One row more: a row that does not fit ends in the failed state (`next-bad`), and one that fits is judged by its runs (`next-fits`).
 use mathlib.Core.Path.{_≡_, refl, _∙_, ap}
 use mathlib.Core.Bool.{Bool, true, false, cond, _&&_}
 use Prim.Native.Nat.{ℕ, _+_, _≤_}
@@ -10,12 +10,12 @@ use borrow.Author.Tests.{leb-true, eqb-true}
 use Rattle.meaning_rows.specs.declared.Row.{Row}
 use Rattle.meaning_rows.specs.Index.{Index, runsOf}
 use Rattle.meaning_rows.specs.Judge.{runsGood, runLengths, rangeGood, partGood, rowGood}
-use Rattle.rows_judge.specs.declared.State.{State}
-use Rattle.rows_judge.specs.State.{failed, moved, untold, scan, after, next}
+use Rattle.rows_judge.specs.declared.RowsJudged.{RowsJudged}
+use Rattle.rows_judge.specs.Judging.{failed, moved, untold, scan, after, next}
 use Rattle.meaning_numbers.proofs.Tests.{both}
 use Rattle.rows_judge.proofs.Scan.{all-four, not-all}
 
-module _ (x : Index) (s : State) (r : Row) where
+module _ (x : Index) (s : RowsJudged) (r : Row) where
   -- everything of a row but its runs
   abbrev pub fitting : Bool
   fitting = s .good && (rangeGood x (s .least) r && partGood x (s .first) r)

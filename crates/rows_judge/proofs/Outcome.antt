@@ -1,13 +1,15 @@
--- Judging row after row ends in what the meanings say: `judged` has it for all rows of an index. `Judging` is the invariant of the loop over lent records, with how it starts, moves, stops and ends. Assumes nothing.
+-- Judging row after row ends in what the meanings say: `judged` has it for all rows of an index. `Judging` is the invariant of the loop over lent records, with how it starts, moves, stops and ends.
 use mathlib.Core.Path.{_≡_, refl, sym, _∙_, ap}
-use mathlib.Core.Bool.{Bool, true, false, cond, _&&_}
+use mathlib.Core.Bool.{Bool, true, false, cond, not, _&&_}
 use mathlib.Core.List.{List, [], _∷_}
 use mathlib.Core.Option.{Option, some}
-use Prim.Native.Nat.{ℕ, suc, _+_, _<_, _≤_}
+use Prim.Native.Nat.{ℕ, suc, zero-le, _+_, _<_, _≤_}
+use native.Mathlib.Numerals.{add-one}
 use native.Mathlib.Omega.{arith}
 use lib.Dec.{leb}
 use lib.IntN.{ℤ, pos, natAbs}
 use lib.ListN.{length, getD, drop, drop-of-length-le}
+use borrow.Author.Tests.{not-true, not-false}
 use Rattle.meaning_numbers.proofs.Tests.{by-test, both}
 use Rattle.meaning_rows.specs.declared.Row.{Row}
 use Rattle.meaning_rows.specs.declared.Head.{Head}
@@ -15,10 +17,10 @@ use Rattle.meaning_rows.specs.Index.{Index, lent, runsOf}
 use Rattle.meaning_rows.specs.Judge.{headGood, runsGood, runLengths, rangeGood, partGood, rowGood, badRowFrom, firstBadRow, lengthTotal}
 use Rattle.rows_records.specs.Records.{zeroRow}
 use Rattle.rows_records.proofs.Walk.{drop-next}
-use Rattle.rows_judge.specs.declared.State.{State}
+use Rattle.rows_judge.specs.declared.RowsJudged.{RowsJudged}
 use Rattle.rows_judge.specs.declared.Judged.{Judged}
 use Rattle.rows_judge.specs.Judged.{outcome, judgedOf}
-use Rattle.rows_judge.specs.State.{start, failed, moved, next, verdictOf}
+use Rattle.rows_judge.specs.Judging.{start, failed, moved, next, verdictOf}
 use Rattle.rows_judge.proofs.Next.{fits-room}
 
 -- ---- rows do not change how a row is judged
@@ -28,38 +30,38 @@ module _ (h : Head) (rows : List Row) (left right : List ℕ) where
   unfolding headGood
   same-start = refl
 
-  pub same-next : (s : State) (r : Row) → next (lent h [] left right) s r ≡ next (lent h rows left right) s r
+  pub same-next : (s : RowsJudged) (r : Row) → next (lent h [] left right) s r ≡ next (lent h rows left right) s r
   unfolding next rowGood rangeGood partGood
   same-next s r = refl
 
 module _ (x : Index) where
   -- the outcome, from row k on and a state
-  unfoldable pub judgedFrom : ℕ → State → List Row → Judged
+  unfoldable pub judgedFrom : ℕ → RowsJudged → List Row → Judged
   judgedFrom k s [] = verdictOf s k
   judgedFrom k s (r ∷ l) = cond (next x s r .good) (judgedFrom (suc k) (next x s r) l) (verdictOf (next x s r) k)
 
-  pub turn-on : (k : ℕ) (s : State) (r : Row) (l : List Row) → next x s r .good ≡ true → judgedFrom (suc k) (next x s r) l ≡ judgedFrom k s (r ∷ l)
+  pub turn-on : (k : ℕ) (s : RowsJudged) (r : Row) (l : List Row) → next x s r .good ≡ true → judgedFrom (suc k) (next x s r) l ≡ judgedFrom k s (r ∷ l)
   unfolding judgedFrom
   turn-on k s r l e = rw e refl
 
-  pub turn-off : (k : ℕ) (s : State) (r : Row) (l : List Row) → next x s r .good ≡ false → verdictOf (next x s r) k ≡ judgedFrom k s (r ∷ l)
+  pub turn-off : (k : ℕ) (s : RowsJudged) (r : Row) (l : List Row) → next x s r .good ≡ false → verdictOf (next x s r) k ≡ judgedFrom k s (r ∷ l)
   unfolding judgedFrom
   turn-off k s r l e = rw e refl
 
-  pub turn-none : (k : ℕ) (s : State) → verdictOf s k ≡ judgedFrom k s []
+  pub turn-none : (k : ℕ) (s : RowsJudged) → verdictOf s k ≡ judgedFrom k s []
   unfolding judgedFrom
   turn-none k s = refl
 
   -- ---- one row
 
-  abbrev tested : State → Row → Bool
+  abbrev tested : RowsJudged → Row → Bool
   tested s r = rowGood x (s .least) (s .first) (s .taken) r
 
-  next-good : (s : State) (r : Row) → s .good ≡ true → tested s r ≡ true → next x s r ≡ moved s r (runLengths (runsOf x r))
+  next-good : (s : RowsJudged) (r : Row) → s .good ≡ true → tested s r ≡ true → next x s r ≡ moved s r (runLengths (runsOf x r))
   unfolding next
   next-good s r g e = rw (g, e) refl
 
-  next-failed : (s : State) (r : Row) → tested s r ≡ false → next x s r ≡ failed
+  next-failed : (s : RowsJudged) (r : Row) → tested s r ≡ false → next x s r ≡ failed
   unfolding next
   next-failed s r e = rw e (ap (λ (t : Bool). cond t (moved s r (runLengths (runsOf x r))) failed) (none-of (s .good)))
     where
@@ -67,7 +69,7 @@ module _ (x : Index) where
       none-of true = refl
       none-of false = refl
 
-  begins : (s : State) (r : Row) → s .good ≡ true → tested s r ≡ true → r .first ≡ s .first
+  begins : (s : RowsJudged) (r : Row) → s .good ≡ true → tested s r ≡ true → r .first ≡ s .first
   unfolding rowGood
   begins s r g e =
       let a = both (rangeGood x (s .least) r) (partGood x (s .first) r && (runsGood (x .windows) (pos 0) (runsOf x r) && leb (s .taken + runLengths (runsOf x r)) (natAbs (x .windows)))) e in
@@ -76,23 +78,23 @@ module _ (x : Index) where
 
   -- ---- all rows
 
-  row-on : (k : ℕ) (s : State) (r : Row) (l : List Row) → tested s r ≡ true
+  row-on : (k : ℕ) (s : RowsJudged) (r : Row) (l : List Row) → tested s r ≡ true
       → badRowFrom x k (s .least) (s .first) (s .taken) (r ∷ l) ≡ badRowFrom x (suc k) (r .up) (s .first + r .runs) (s .taken + runLengths (runsOf x r)) l
   unfolding badRowFrom
   row-on k s r l e = rw e refl
 
-  row-off : (k : ℕ) (s : State) (r : Row) (l : List Row) → tested s r ≡ false → badRowFrom x k (s .least) (s .first) (s .taken) (r ∷ l) ≡ some k
+  row-off : (k : ℕ) (s : RowsJudged) (r : Row) (l : List Row) → tested s r ≡ false → badRowFrom x k (s .least) (s .first) (s .taken) (r ∷ l) ≡ some k
   unfolding badRowFrom
   row-off k s r l e = rw e refl
 
   abbrev found : ℕ → ℤ → ℕ → ℕ → List Row → Judged
   found k least first taken l = outcome (badRowFrom x k least first taken l) (taken + lengthTotal x l)
 
-  none-left : (k : ℕ) (s : State) → s .good ≡ true → verdictOf s k ≡ found k (s .least) (s .first) (s .taken) []
+  none-left : (k : ℕ) (s : RowsJudged) → s .good ≡ true → verdictOf s k ≡ found k (s .least) (s .first) (s .taken) []
   unfolding badRowFrom lengthTotal outcome
   none-left k s g = let e : s .taken + 0 ≡ s .taken = omega arith in rw (g, e) refl
 
-  from-state : (l : List Row) (k : ℕ) (s : State) → s .good ≡ true → judgedFrom k s l ≡ found k (s .least) (s .first) (s .taken) l
+  from-state : (l : List Row) (k : ℕ) (s : RowsJudged) → s .good ≡ true → judgedFrom k s l ≡ found k (s .least) (s .first) (s .taken) l
   unfolding lengthTotal outcome
   from-state [] k s g = sym (turn-none k s) ∙ none-left k s g
   from-state (r ∷ l) k s g = by-test (tested s r)
@@ -100,13 +102,13 @@ module _ (x : Index) where
       let n = next-good s r g t in
       let m = runLengths (runsOf x r) in
       let total : s .taken + m + lengthTotal x l ≡ s .taken + (m + lengthTotal x l) = omega arith in
-      sym (turn-on k s r l (ap (λ (u : State). u .good) n)) ∙ ap (λ (u : State). judgedFrom (suc k) u l) n ∙ from-state l (suc k) (moved s r m) refl
+      sym (turn-on k s r l (ap (λ (u : RowsJudged). u .good) n)) ∙ ap (λ (u : RowsJudged). judgedFrom (suc k) u l) n ∙ from-state l (suc k) (moved s r m) refl
       ∙ ap (λ (f : ℕ). found (suc k) (r .up) (f + r .runs) (s .taken + m) l) (begins s r g t)
       ∙ ap (outcome (badRowFrom x (suc k) (r .up) (s .first + r .runs) (s .taken + m) l)) total
       ∙ ap (λ (o : Option ℕ). outcome o (s .taken + (m + lengthTotal x l))) (sym (row-on k s r l t)))
       (λ f.
       let n = next-failed s r f in
-      sym (turn-off k s r l (ap (λ (u : State). u .good) n)) ∙ ap (λ (u : State). verdictOf u k) n
+      sym (turn-off k s r l (ap (λ (u : RowsJudged). u .good) n)) ∙ ap (λ (u : RowsJudged). verdictOf u k) n
       ∙ ap (λ (o : Option ℕ). outcome o (s .taken + (runLengths (runsOf x r) + lengthTotal x l))) (sym (row-off k s r l f)))
 
   head-failed : (r : Row) → headGood x ≡ false → next x (start x) r ≡ failed
@@ -118,7 +120,7 @@ module _ (x : Index) where
   ill [] f = sym (turn-none 0 (start x)) ∙ ap (λ (t : Bool). cond t (Judged.Fine 0) (Judged.Bad 0)) f
   ill (r ∷ l) f =
       let n : next x (start x) r ≡ failed = head-failed r f in
-      sym (turn-off 0 (start x) r l (ap (λ (u : State). u .good) n)) ∙ ap (λ (u : State). verdictOf u 0) n
+      sym (turn-off 0 (start x) r l (ap (λ (u : RowsJudged). u .good) n)) ∙ ap (λ (u : RowsJudged). verdictOf u 0) n
 
   pub judged : judgedFrom 0 (start x) (x .rows) ≡ judgedOf x
   unfolding judgedOf firstBadRow outcome
@@ -132,33 +134,34 @@ module _ (h : Head) (rows : List Row) (left right : List ℕ) where
   abbrev X : Index
   X = lent h rows left right
 
-  -- the state after record k, as the code has it
-  abbrev pub nextAt : State → ℕ → State
-  nextAt s k = next (lent h [] left right) s (getD rows k zeroRow)
-
   -- what is left to judge gives the outcome
-  abbrev pub Judging : State → ℕ → Type 0
-  Judging s k = judgedFrom X k s (drop k rows) ≡ judgedOf X
+  pub record Judging (s : RowsJudged) (k : ℕ) : Type 0 where
+    pub upto : k ≤ length rows
+    pub gives : judgedFrom X k s (drop k rows) ≡ judgedOf X
 
-  first-left : (s : State) (k : ℕ) → k < length rows → Judging s k → judgedFrom X k s (getD rows k zeroRow ∷ drop (suc k) rows) ≡ judgedOf X
-  first-left s k l j = ap (judgedFrom X k s) (sym (drop-next rows k zeroRow l)) ∙ j
+  pub judging-starts : {s : RowsJudged} → s ≡ start (lent h [] [] []) → Judging s 0
+  judging-starts {s} e = record { upto = zero-le; gives = ap (λ (s : RowsJudged). judgedFrom X 0 s rows) (e ∙ same-start h rows left right) ∙ judged X }
 
-  pub judging-starts : Judging (start (lent h [] [] [])) 0
-  judging-starts = ap (λ (s : State). judgedFrom X 0 s rows) (same-start h rows left right) ∙ judged X
+  -- where t is the state after record k, r
+  module _ {s t : RowsJudged} {k : ℕ} {r : Row} (j : Judging s k) (is-r : r ≡ getD rows k zeroRow) (is-t : t ≡ next (lent h [] left right) s r) (l : k < length rows) where
+    as-next : t ≡ next X s (getD rows k zeroRow)
+    as-next = is-t ∙ ap (next (lent h [] left right) s) is-r ∙ same-next h rows left right s (getD rows k zeroRow)
 
-  pub judging-next : (s : State) (k : ℕ) → k < length rows → nextAt s k .good ≡ true → Judging s k → Judging (nextAt s k) (suc k)
-  judging-next s k l e j =
-      let n = same-next h rows left right s (getD rows k zeroRow) in
-      ap (λ (u : State). judgedFrom X (suc k) u (drop (suc k) rows)) n
-      ∙ turn-on X k s (getD rows k zeroRow) (drop (suc k) rows) (ap (λ (u : State). u .good) (sym n) ∙ e) ∙ first-left s k l j
+    first-left : judgedFrom X k s (getD rows k zeroRow ∷ drop (suc k) rows) ≡ judgedOf X
+    first-left = ap (judgedFrom X k s) (sym (drop-next rows k zeroRow l)) ∙ j .gives
 
-  pub judging-stops : (s : State) (k : ℕ) → k < length rows → nextAt s k .good ≡ false → Judging s k → verdictOf (nextAt s k) k ≡ judgedOf X
-  judging-stops s k l e j =
-      let n = same-next h rows left right s (getD rows k zeroRow) in
-      ap (λ (u : State). verdictOf u k) n ∙ turn-off X k s (getD rows k zeroRow) (drop (suc k) rows) (ap (λ (u : State). u .good) (sym n) ∙ e) ∙ first-left s k l j
+    pub judging-next : not (t .good) ≡ false → Judging t (k + 1)
+    judging-next e = record {
+      upto = omega (arith, l);
+      gives = rw (add-one k) (ap (λ (u : RowsJudged). judgedFrom X (suc k) u (drop (suc k) rows)) as-next
+          ∙ turn-on X k s (getD rows k zeroRow) (drop (suc k) rows) (ap (λ (u : RowsJudged). u .good) (sym as-next) ∙ not-false (t .good) e) ∙ first-left);
+    }
 
-  pub judging-ends : (s : State) (k : ℕ) → length rows ≤ k → Judging s k → verdictOf s k ≡ judgedOf X
-  judging-ends s k l j = turn-none X k s ∙ ap (judgedFrom X k s) (sym (drop-of-length-le rows l)) ∙ j
+    pub judging-stops : not (t .good) ≡ true → verdictOf t k ≡ judgedOf X
+    judging-stops e = ap (λ (u : RowsJudged). verdictOf u k) as-next ∙ turn-off X k s (getD rows k zeroRow) (drop (suc k) rows) (ap (λ (u : RowsJudged). u .good) (sym as-next) ∙ not-true (t .good) e) ∙ first-left
+
+  pub judging-ends : {s : RowsJudged} {k : ℕ} → Judging s k → length rows ≤ k → verdictOf s k ≡ judgedOf X
+  judging-ends {s} {k} j l = turn-none X k s ∙ ap (judgedFrom X k s) (sym (drop-of-length-le rows l)) ∙ j .gives
 
 -- ---- the judgement, by the first bad row
 

@@ -1,4 +1,4 @@
--- Judging a row's runs, one run at a time: `scan-next` for a good run, `scan-bad` for a bad one, `scan-end` where none is left. `part-next` has the first run of a part of the run buffer. Assumes nothing.
+-- RowsJudged a row's runs, one run at a time: `scan-next` for a good run, `scan-bad` for a bad one, `scan-end` where none is left. `part-next` has the first run of a part of the run buffer.
 use mathlib.Core.Path.{_≡_, refl, sym, _∙_, ap}
 use mathlib.Core.Bool.{Bool, true, false, cond, _&&_, _||_, false≢true}
 use mathlib.Core.List.{List, [], _∷_}
@@ -13,7 +13,7 @@ use Rattle.meaning_numbers.proofs.Tests.{by-test, of-both}
 pub use Rattle.meaning_rows.proofs.Grown.{length-entries}
 use Rattle.meaning_rows.specs.Index.{Entry, entries}
 use Rattle.meaning_rows.specs.Judge.{runsGood, runLengths}
-use Rattle.rows_judge.specs.State.{untold, scan}
+use Rattle.rows_judge.specs.Judging.{untold, scan}
 use Rattle.rows_judge.specs.declared.Lengths.{Lengths}
 
 -- ---- a part of the run buffer

@@ -1,4 +1,4 @@
--- The outcome of judging an index, by the meanings: the first bad row, or that there is none, with the run lengths of all rows added up. Assumes nothing.
+-- The outcome of judging an index, by the meanings: the first bad row, or that there is none, with the run lengths of all rows added up.
 use mathlib.Core.Path.{_≡_, refl}
 use mathlib.Core.Option.{Option, none, some}
 use Prim.Native.Nat.{ℕ}

@@ -1,3 +1,3 @@
--- What judging a lent index promises, and the state that it goes by.
+-- What the contracts of rows_judge cite.
 pub mod Judged
-pub mod State
+pub mod Judging

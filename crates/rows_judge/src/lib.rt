@@ -1,6 +1,6 @@
-// Judging a lent index: whether it is well formed, and else the first bad row (01, Rows). The head is judged first. Any content may be lent, and no sum wraps.
-use numbers::shorter;
+// RowsJudged a lent index: whether it is well formed, and else the first bad row (01, Rows). The head is judged first. Any content may be lent, and no sum wraps.
 use numbers::magnitude;
+use numbers::shorter;
 ghost use mathlib.Core.Path.{_≡_};
 ghost use mathlib.Core.Bool.{_&&_};
 ghost use mathlib.Core.List.{[]};
@@ -14,7 +14,7 @@ ghost use Rattle.meaning_curves.specs.Limits.{endIn};
 ghost use Rattle.meaning_rows.specs.Index.{lent, entries};
 ghost use Rattle.meaning_rows.specs.Judge.{headGood, rangeGood};
 ghost use Rattle.rows_judge.specs.Judged.{judgedOf};
-ghost use Rattle.rows_judge.specs.State.{start, room, fits, scan, after, next, verdictOf};
+ghost use Rattle.rows_judge.specs.Judging.{start, room, fits, scan, after, next, verdictOf};
 use meaning_curves::HIGHEST_END;
 use meaning_curves::LONGEST_WINDOW;
 use meaning_curves::LOWEST_END;
@@ -28,7 +28,7 @@ use rows_records::row_at;
 const WINDOWS: u32 = MOST_VALUES as u32;
 
 // What is known after some rows: that they are good, where the last one's range ends, where its runs end in the run buffer, and what the run lengths total.
-pub struct State {
+pub struct RowsJudged {
     pub good: bool,
     pub least: i32,
     pub first: usize,
@@ -83,10 +83,10 @@ pub fn head_good(head: Head) -> bool
         & (((1 <= d) & (d <= WIDEST_ROW)) & ((1 <= n) & (n <= WINDOWS)))
 }
 
-pub fn judge_head(head: Head) -> State
+pub fn judge_head(head: Head) -> RowsJudged
     ensures { λ s. ⌜ s ≡ start (lent head [] [] []) ⌝ }
 {
-    State {
+    RowsJudged {
         good: head_good(head),
         least: LOWEST_END,
         first: 0,
@@ -120,7 +120,7 @@ pub fn part_good(size: usize, first: usize, r: Row) -> bool
 }
 
 // Everything of a row but its runs.
-pub fn row_fits(head: Head, s: State, r: Row, size: usize) -> bool
+pub fn row_fits(head: Head, s: RowsJudged, r: Row, size: usize) -> bool
     ensures { λ b. ⌜ b ≡ fits (lent head [] [] []) s r size ⌝ }
 {
     s.good & (range_good(head, s.least, r) & part_good(size, s.first, r))
@@ -179,19 +179,19 @@ pub fn total_good(windows: usize, taken: usize, total: usize) -> bool
 }
 
 // The state after a row whose runs have been judged.
-pub fn after_row(windows: u32, s: State, r: Row, t: Lengths) -> State
+pub fn after_row(windows: u32, s: RowsJudged, r: Row, t: Lengths) -> RowsJudged
     ensures { λ n. ⌜ n ≡ after windows s r t ⌝ }
 {
     let total = t.total;
     if t.good & total_good(windows as usize, s.taken, total) {
-        State {
+        RowsJudged {
             good: true,
             least: r.up,
             first: r.first as usize + r.runs as usize,
             taken: s.taken + total,
         }
     } else {
-        State {
+        RowsJudged {
             good: false,
             least: 0,
             first: 0,
@@ -201,12 +201,12 @@ pub fn after_row(windows: u32, s: State, r: Row, t: Lengths) -> State
 }
 
 // The state after one row more.
-pub fn judge_row(head: Head, s: State, r: Row, left: &[u32], right: &[u32]) -> State
+pub fn judge_row(head: Head, s: RowsJudged, r: Row, left: &[u32], right: &[u32]) -> RowsJudged
     ensures { λ n. ⌜ n ≡ next (lent head [] (now (left .entry)) (now (right .entry))) s r ⌝ }
 {
     let size = shorter(left.len(), right.len());
     if !row_fits(head, s, r, size) {
-        return State {
+        return RowsJudged {
             good: false,
             least: 0,
             first: 0,
@@ -221,7 +221,7 @@ pub fn judge_row(head: Head, s: State, r: Row, left: &[u32], right: &[u32]) -> S
 }
 
 // The outcome, where judging ended at row k.
-pub fn verdict(s: State, k: usize) -> Judged
+pub fn verdict(s: RowsJudged, k: usize) -> Judged
     ensures { λ j. ⌜ j ≡ verdictOf s k ⌝ }
 {
     if s.good {

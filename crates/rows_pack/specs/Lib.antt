@@ -1,4 +1,3 @@
--- What the contracts of pack cite.
+-- What the contracts of rows_pack cite.
 pub mod Packed
-pub mod Records
 pub mod PackedAs

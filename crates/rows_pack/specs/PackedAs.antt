@@ -1,4 +1,4 @@
--- Rows as sets of windows, packed: the first records are theirs, with their parts one after the other. Assumes nothing.
+-- Rows as sets of windows, packed: the first records are theirs, with their parts one after the other.
 use mathlib.Core.Path.{_≡_}
 use mathlib.Core.List.{List, map}
 use Prim.Native.Nat.{ℕ, _≤_}

@@ -1,5 +1,5 @@
 -- A chunk of records, entry by entry: `chunk-at` says that entry k is record `from + k` of those lent, the record of zeros past the end, and `chunk-length` that there are 64.
--- From what `copied` has at each place. Assumes nothing.
+-- From what `copied` has at each place.
 use mathlib.Core.Path.{_≡_, refl, sym, _∙_}
 use mathlib.Core.List.{List}
 use Prim.Native.Nat.{ℕ, zero, suc, _+_, _-_, _<_, _≤_}
@@ -45,6 +45,20 @@ module _ (rows : List Row) (from : ℕ) where
   pub chunk-at : (k : ℕ) → k < 64 → getD (chunkOf rows from) k zeroRow ≡ getD rows (from + k) zeroRow
   unfolding chunkOf
   chunk-at k h = copied-at 64 k (replicate 64 zeroRow) h (omega (arith, length-replicate 64 zeroRow))
+
+  -- what the loop of `copy_rows` keeps: i, and the list then
+  pub record Copying (n : ℕ) (out : List Row) (i : ℕ) (l : List Row) : Type 0 where
+    pub upto : i ≤ n
+    pub is : l ≡ copied rows from i out
+
+  pub there : (i n : ℕ) → i < n → n ≤ length rows - from → from + i < length rows
+  there i n less within = omega (arith, less, within)
+
+  pub copying-turn : {n i : ℕ} {out l : List Row} → Copying n out i l → i < n → Copying n out (i + 1) (set l i (getD rows (from + i) zeroRow))
+  copying-turn {n} {i} {out} k less = record { upto = omega (arith, less); is = rw (k .is) (sym (copied-more i out)) }
+
+  pub copying-ends : {n i : ℕ} {out l : List Row} → Copying n out i l → n ≤ i → l ≡ copied rows from n out
+  copying-ends {n} {i} {out} k end = let e : i ≡ n = omega (arith, k .upto, end) in k .is ∙ rw e refl
 
   -- ---- the code copies only what is there
 

@@ -1,8 +1,9 @@
--- The kit for walks over lent records, generic (Walk, Told, Elem, Lends, Again, LocalMut, Lent, Prefix, Passing, Prelude), of `Row` (RowKit, Rows, Writes) and of the two run slices (Slices), and the laws of chunks.
+-- The kit for walks over lent records, generic (Walk, Told, Elem, Lends, Again, LocalMut, Lent, Prefix, Passing, Turns, Prelude), of `Row` (RowKit, Rows, Writes) and of the two run slices (Slices), and the laws of chunks.
 pub mod Walk
 pub mod Elem
 pub mod Again
 mod Beside
+mod Clear
 pub mod Lends
 pub mod LocalMut
 pub mod Lent
@@ -14,4 +15,5 @@ pub mod Told
 pub mod Writes
 pub mod Chunk
 pub mod Passing
+pub mod Turns
 pub mod Prelude

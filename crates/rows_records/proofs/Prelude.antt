@@ -21,7 +21,7 @@ pub use contract.Monad.{Fun, factI}
 pub use contract.Running.{givenOf, tables}
 pub use types.Kit.{Given, Item, ‵, ⋆, _$_, _∵_, !, qed, by, move, keep, rewrite}
 pub use types.Part.{whole, sub, agg}
-pub use types.Run.{look, init, store, stop, assigns, from, lit, unit-lit, true-lit, false-lit, bin, of-opd, and-then, no-more, land, returns, returns-within, enter, alloc1, alloc0, params1, pass1, pass0}
+pub use types.Run.{look, init, store, stop, assigns, assigns-last, from, lit, unit-lit, true-lit, false-lit, bin, un, of-opd, and-then, no-more, land, returns, returns-within, stays, leaves-loop, jumps, forget, enter, alloc1, alloc0, params1, pass1, pass0}
 pub use sound.WpLaws.{FmC, fmOf}
 pub use denote.Laws.{Is}
 pub use denote.Builtin.{i32, u64, u32, u16, u8}
@@ -32,3 +32,4 @@ pub use denote.Triple.Table.{entered, cited}
 pub use denote.Triple.Walked.{needs}
 pub use Rattle.rows_records.proofs.Walk.{AtEntry, by-bool, goes-in, passes-by}
 pub use Rattle.rows_records.proofs.Passing.{Data, uint, sint, boolean, nothing, struct, enum, Lent, Arg, value, kept, lends, shares, token, viewed, lent-at, holds, empty, tidy, frees-all, calls-with, leaves-with, meets-with, loc, part, start, put-at}
+pub use Rattle.rows_records.proofs.Turns.{loops, reads-lent, reads-shared, writes-lent, offset-fits, sub-fits, next-fits, next-upto, nearer, nearer-to, upto-end, set-long, array}

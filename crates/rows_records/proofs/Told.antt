@@ -3,7 +3,6 @@
 --     calls-ended      the same where the `ensures` says the fact Q of the result and of the last values ls: Q is known, and what is left of each `&mut` stands at the head (`Ends`), then the tokens (`Tokens`), each as an entry of its own
 --     calls-free       the same where the callee's `pre` is had for nothing, as of numbers and structs of numbers
 --     calls-told       the same where nothing is asked of last values: Q is known of the result, and the tokens come back as one entry
---     calls-told-kept  the same where the callee takes slices, `&[T]`, and plain data: the lifetimes' tokens, as one entry, and what the slices own, as one entry, are at the head, and stay there
 -- Assumes `Given`, and that the table of calls is monotone under a frame, as every `Tables` is.
 use mathlib.Core.Path.{sym, ap, subst}
 use Prim.Native.Nat.{ℕ, zero, suc}
@@ -18,7 +17,7 @@ use ghost.Atoms.{Atoms, sem}
 use contract.Lifetimes.{Lfts, Shares, toks}
 use contract.Monad.{fact}
 use sound.WpLaws.{FmC}
-use types.Kit.{Given, Item, mean, ‵, raw, _⊛_, ⋆, push, ++⊢, some, later, Post, lands, runs, Seq, _$_, cut, use0, use1, use2, split, move, pick, await}
+use types.Kit.{Given, Item, mean, ‵, raw, _⊛_, ⋆, push, ++⊢, some, later, Post, lands, runs, Seq, _$_, cut, use0, use1, split, move, pick, await}
 use types.Run.{Opds}
 use denote.Laws.{Is, Tells, shows}
 use denote.Exit.{Exit, unchanged, leaves, Last, left}
@@ -112,16 +111,3 @@ module _ {M : Type 1} {𝓤 : URA M} {H : Heap 𝓤} {A : Atoms 𝓤} {K : Type 
       → Seq K W (raw (tripleOf 𝓤 H A S s .pre y) ∷ Γ) (runs C Λ E (seq (call f xs d) rest) q)
   calls-told t fm S s met y Q val tl says os k =
       calls-ensured t fm S s met y (id⊢ 𝓤 _) val tl os (λ r is. move t (1 ∷ []) $ use1 W (raw (fact 𝓤 (Q r))) (says r) $ heard t (Q r) (λ said. k r said is))
-
-module _ {M : Type 1} {𝓤 : URA M} {H : Heap 𝓤} {A : Atoms 𝓤} {K : Type 0} {W : Given 𝓤 H A} {Γ : List (Item 𝓤)} {E : Env 𝓤 H} {C : Calls 𝓤 H} {Λ : Loops 𝓤 H} {q : Post 𝓤 H} {d : Place} {rest : Body} {f : Name} {xs : List Operand} where
-  -- T has the tokens of the callee's lifetimes, and O is what its slices own. O can be had twice, and one copy is the callee's
-  pub calls-told-kept : K → FmC 𝓤 H (W .laws) C → (S : Signature) (s : Spec 𝓤 S) → Triple 𝓤 (C f) (tripleOf 𝓤 H A S s) → (y : tripleOf 𝓤 H A S s .Ghost) (T O : Item 𝓤)
-      → ent 𝓤 (mean 𝓤 H A O) (sep 𝓤 (mean 𝓤 H A O) (mean 𝓤 H A O)) → ent 𝓤 (sep 𝓤 (mean 𝓤 H A T) (mean 𝓤 H A O)) (tripleOf 𝓤 H A S s .pre y) → ent 𝓤 (alive 𝓤 H A S (y .0 .0) (y .0 .1)) (mean 𝓤 H A T)
-      → (Q : Res S (y .0 .0) → Type 0) (val : Res S (y .0 .0) → Val) → Tells (typeAt (S .result) (y .0 .0)) (Is (typeAt (S .result) (y .0 .0))) (λ r. val r ∷ [])
-      → ((r : Res S (y .0 .0)) → ent 𝓤 (s (y .0 .0) (y .0 .3) .ensures (y .1) r) (fact 𝓤 (Q r)))
-      → Opds K W (raw (tripleOf 𝓤 H A S s .pre y) ∷ O ∷ Γ) E xs (tripleOf 𝓤 H A S s .args y)
-      → ((r : Res S (y .0 .0)) → Q r → Is (typeAt (S .result) (y .0 .0)) r (val r ∷ []) → Seq K W (T ∷ O ∷ Γ) (lands C Λ E d (val r) rest q))
-      → Seq K W (T ∷ O ∷ Γ) (runs C Λ E (seq (call f xs d) rest) q)
-  calls-told-kept t fm S s met y T O twice asks back Q val tl says os k =
-      move t (1 ∷ []) $ use1 W (O ⊛ O) twice $ split t $ move t (2 ∷ 0 ∷ []) $ use2 W (raw (tripleOf 𝓤 H A S s .pre y)) asks $
-      calls-told t fm S s met y Q val tl says os (λ r e is. use1 W T back $ k r e is)

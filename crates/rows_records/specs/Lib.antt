@@ -1,2 +1,2 @@
--- What is said of lent row records.
+-- What the contracts of rows_records cite.
 pub mod Records

@@ -1,4 +1,4 @@
--- The records that a chunk holds. Assumes nothing.
+-- The records that a chunk holds.
 use mathlib.Core.List.{List}
 use Prim.Native.Nat.{ℕ, zero, suc, _+_, _-_, min}
 use lib.ListN.{getD, set, replicate}

@@ -1,4 +1,3 @@
--- What the contracts of tally cite, and what follows of rising tables and of counting.
+-- What the contracts of sums_count cite.
 pub mod Tally
-pub mod Rows
 pub mod Numbers

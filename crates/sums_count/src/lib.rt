@@ -1,6 +1,6 @@
 // The runs of each row counted in one pass over the runs of a series, beside the table of its row numbers.
 use clear::clear_u32;
-use sums_slide::Place;
+use sums_slide::Window;
 use sums_slide::first_level;
 use sums_slide::list_rows;
 use sums_slide::next_row;
@@ -71,7 +71,7 @@ pub fn count_runs(
             e,
             d,
             k,
-            Place {
+            Window {
                 offset: j,
                 level: n,
             },

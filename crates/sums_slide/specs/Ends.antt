@@ -1,33 +1,8 @@
--- Ends of ranges raised by a bias, 0 where that is negative: a raised range holds a raised sum exactly if the range holds the sum (`within-is`); so for one end (`raised-le`, `raised-gt`). Assumes nothing.
-use mathlib.Core.Path.{_≡_}
-use Prim.Native.Nat.{ℕ, _+_, _-_, _<_, _≤_}
+-- Ends of ranges raised by a bias, 0 where that is negative: a raised range holds a raised sum exactly if the range holds the sum; so for one end.
+use Prim.Native.Nat.{ℕ, _+_, _-_}
 use lib.IntN.{ℤ}
-use lib.Signed.{_≤ℤ_, _<ℤ_}
-use borrow.Author.Tests.{le-leb, lt-leb, lt-ltb, le-ltb}
-use Rattle.meaning_numbers.proofs.Rep.{Rep, up, dn, zarith}
-use Rattle.meaning_rows.specs.Range.{inside}
-use Rattle.meaning_rows.proofs.Range.{where-is, inside-yes, inside-below, inside-above}
-use Rattle.sums_slide.specs.Levels.{within}
+use Rattle.meaning_numbers.proofs.Rep.{up, dn}
 
 -- an end of a range plus a bias, and 0 where that is negative
 abbrev pub raisedEnd : ℕ → ℤ → ℕ
 raisedEnd k x = (up x + k) - dn x
-
--- ---- laws
-
--- n is the raised sum of y
-pub raised-le : (x y : ℤ) (k n : ℕ) → Rep y n k → x ≤ℤ y → raisedEnd k x ≤ n
-raised-le x y k n h l = omega zarith
-
-pub raised-gt : (x y : ℤ) (k n : ℕ) → Rep y n k → y <ℤ x → n < raisedEnd k x
-raised-gt x y k n h l = omega zarith
-
-pub raised-mono : (x y : ℤ) (k : ℕ) → x ≤ℤ y → raisedEnd k x ≤ raisedEnd k y
-raised-mono x y k l = omega zarith
-
-pub within-is : {z : ℤ} {n k : ℕ} (low high : ℤ) → Rep z n k → within (raisedEnd k low) (raisedEnd k high) n ≡ inside low high z
-unfolding within
-within-is {z} {n} {k} low high h = where-is low high z
-    (λ a. rw (lt-leb (raisedEnd k low) n (omega (zarith, h, a)), inside-below low high z a))
-    (λ a b. rw (le-leb (raisedEnd k low) n (omega (zarith, h, a)), lt-ltb n (raisedEnd k high) (omega (zarith, h, b)), inside-yes low high z a b))
-    (λ a b. rw (le-leb (raisedEnd k low) n (omega (zarith, h, a)), le-ltb n (raisedEnd k high) (omega (zarith, h, b)), inside-above low high z b))

@@ -1,22 +1,17 @@
--- Raised sums: each value of a window raised by 10,000, and e more for the window. They are the windows' sums (`level-is`), and move by one window (`level-next`). Assumes nothing.
-use mathlib.Core.Path.{_≡_, refl}
+-- Raised sums: each value of a window raised by 10,000, and e more for the window. They are the windows' sums, and move by one window.
 use mathlib.Core.Bool.{Bool, _&&_}
 use mathlib.Core.List.{List}
-use Prim.Native.Nat.{ℕ, _+_, _*_, _/_, _<_, _≤_, min, max}
-use native.Mathlib.Decide.{decLt}
+use Prim.Native.Nat.{ℕ, _+_, _*_, _/_, _<_, _≤_}
 use native.Mathlib.Omega.{arith}
 use lib.Dec.{leb, ltb}
 use lib.ListN.{length}
 use lib.IntN.{ℤ, pos, _-ℤ_}
 use Rattle.meaning_numbers.specs.Sum.{Σℕ}
-use Rattle.meaning_numbers.proofs.Rep.{Rep, rep-by, rep-eq, rep-sub, rep-pos}
 use Rattle.meaning_numbers.proofs.Sum.{Σℕ-le}
-use Rattle.meaning_numbers.proofs.Slide.{Σℕ-slide}
-use Rattle.meaning_curves.specs.Curve.{at, stretch, windowSum, windowCount}
+use Rattle.meaning_curves.specs.Curve.{at, stretch, windowCount}
 use Rattle.meaning_curves.proofs.Values.{AllIn}
 use Rattle.numbers.specs.Raised.{raised, raised-le}
-use Rattle.values.specs.Sums.{sum-raised}
-use Rattle.sums_slide.specs.declared.Place.{Place}
+use Rattle.sums_slide.specs.declared.Window.{Window}
 
 -- the raised sum of window j
 unfoldable pub level : List ℤ → ℕ → ℕ → ℕ → ℕ
@@ -43,35 +38,16 @@ abbrev pub windowsOf : List ℤ → ℕ → ℕ
 windowsOf s w = windowCount (length s) w
 
 -- window j, with its raised sum
-abbrev pub placeFrom : List ℤ → ℕ → ℕ → ℕ → Place
+abbrev pub placeFrom : List ℤ → ℕ → ℕ → ℕ → Window
 placeFrom s w e j = record { offset = j; level = level s w e j }
 
 -- the sum of a window that is placed
-abbrev pub sumAt : ℕ → ℕ → Place → ℤ
+abbrev pub sumAt : ℕ → ℕ → Window → ℤ
 sumAt w e at = pos (at .level) -ℤ pos (10000 * w + e)
 
 -- every number below n has its value between the two
 pub record Bounds (lv : ℕ → ℕ) (n least greatest : ℕ) : Type 0 where
   pub bound : (j : ℕ) → j < n → (least ≤ lv j) × (lv j ≤ greatest)
-
--- ---- laws
-
--- one number is both ends
-pub bounds-one : {lv : ℕ → ℕ} {z : ℕ} → z ≡ lv 0 → Bounds lv 1 z z
-bounds-one e = record { bound = λ j k. let i : j ≡ 0 = omega arith in rw i (omega arith, omega arith) }
-
--- one more number
-pub bounds-more : {lv : ℕ → ℕ} {n l g : ℕ} (a b z : ℕ) → Bounds lv n l g → z ≡ lv n → a ≡ min l z → b ≡ max g z → Bounds lv (n + 1) a b
-bounds-more {lv} {n} {l} {g} a b z h e p q = record {
-  bound = λ j k. elim (decLt j n) [
-    | yes m ↦ let v = h .bound j m in (omega arith, omega arith)
-    | no m ↦ let i : j ≡ n = omega arith in rw i (omega arith, omega arith)
-  ];
-}
-
-pub level-is : {s : List ℤ} {w e : ℕ} (j : ℕ) → Lent s w e → Rep (windowSum s w j) (level s w e j) (10000 * w + e)
-unfolding level windowSum
-level-is {s} {w} {e} j h = rep-by (sum-raised j w (h .all)) (omega arith)
 
 pub level-le : {s : List ℤ} {w e : ℕ} (j : ℕ) → Lent s w e → level s w e j ≤ 20000 * w + e
 unfolding level
@@ -79,16 +55,3 @@ level-le {s} {w} {e} j h = omega (arith, Σℕ-le w 20000 (λ k. raised (stretch
 
 pub level-small : {s : List ℤ} {w e : ℕ} (j : ℕ) → Lent s w e → level s w e j ≤ 6120000
 level-small j h = omega (arith, level-le j h, h .most, h .small)
-
--- a placed window's sum is the window's
-pub sum-is : {s : List ℤ} {w e : ℕ} (at : Place) → Lent s w e → at .level ≡ level s w e (at .offset) → sumAt w e at ≡ windowSum s w (at .offset)
-sum-is {s} {w} {e} at h l = rep-eq (rep-sub (rep-pos (at .level)) (rep-pos (10000 * w + e))) (level-is (at .offset) h) (omega (arith, l))
-
--- one value comes in, one goes out
-pub level-next : (s : List ℤ) (w e j : ℕ) → level s w e (j + 1) + raised (at s j) ≡ level s w e j + raised (at s (j + w))
-unfolding level
-level-next s w e j = omega (arith, Σℕ-slide (λ k. raised (at s k)) j w)
-
-pub level-first : (s : List ℤ) (w e : ℕ) → level s w e 0 ≡ Σℕ w (λ k. raised (stretch s 0 k)) + e
-unfolding level
-level-first s w e = refl

@@ -1,4 +1,4 @@
--- What the contracts of filing cite, and what follows of raised sums, marks and lists.
+-- What the contracts of sums_slide cite.
 pub mod Levels
 pub mod Ends
 pub mod Change

@@ -24,7 +24,7 @@ ghost use Rattle.sums_slide.specs.Table.{table};
 ghost use Rattle.sums_slide.specs.Picked.{picked, Appended};
 
 // A window with its raised sum.
-pub struct Place {
+pub struct Window {
     pub offset: usize,
     pub level: u64,
 }
@@ -73,18 +73,18 @@ pub fn first_level(s: &[i32], w: usize, e: u64) -> u64
 }
 
 // The first window.
-pub fn first_place(s: &[i32], w: usize, e: u64) -> Place
+pub fn first_place(s: &[i32], w: usize, e: u64) -> Window
     requires { ⌜ Lent (now s) w e ⌝ }
     ensures { λ r. ⌜ r ≡ placeFrom (now (s .entry)) w e 0 ⌝ }
 {
-    Place {
+    Window {
         offset: 0,
         level: first_level(s, w, e),
     }
 }
 
 // The sum of a window, from its raised sum.
-pub fn sum_of(w: usize, e: u64, at: Place) -> i32
+pub fn sum_of(w: usize, e: u64, at: Window) -> i32
     requires { ⌜ (w ≤ longestWindow) × (e ≤ widestRow) × (at .level ≤ 1000000000) ⌝ }
     ensures { λ r. ⌜ r ≡ sumAt w e at ⌝ }
 {
@@ -110,7 +110,7 @@ pub fn in_range(lo: u64, hi: u64, n: u64) -> bool
 }
 
 // From the last window on, or past it: the first whose raised sum is not in the raised range, or the number of windows.
-pub fn last_out(s: &[i32], w: usize, e: u64, from: Place, lo: u64, hi: u64) -> Place
+pub fn last_out(s: &[i32], w: usize, e: u64, from: Window, lo: u64, hi: u64) -> Window
     requires { ⌜ Lent (now s) w e ⌝ }
     requires { ⌜ (length (now s) ≤ from .offset + w) × (from .offset ≤ windowsOf (now s) w) ⌝ }
     requires { ⌜ from .level ≡ level (now s) w e (from .offset) ⌝ }
@@ -124,14 +124,14 @@ pub fn last_out(s: &[i32], w: usize, e: u64, from: Place, lo: u64, hi: u64) -> P
     if !in_range(lo, hi, n) {
         return from;
     }
-    Place {
+    Window {
         offset: j + 1,
         level: slide(s, w, e, j, n),
     }
 }
 
 // The first window at or after `from` whose raised sum is not in the raised range, or the number of windows.
-pub fn next_out(s: &[i32], w: usize, e: u64, from: Place, lo: u64, hi: u64) -> Place
+pub fn next_out(s: &[i32], w: usize, e: u64, from: Window, lo: u64, hi: u64) -> Window
     requires { ⌜ Lent (now s) w e ⌝ }
     requires { ⌜ from .offset ≤ windowsOf (now s) w ⌝ }
     requires { ⌜ from .level ≡ level (now s) w e (from .offset) ⌝ }
@@ -142,7 +142,7 @@ pub fn next_out(s: &[i32], w: usize, e: u64, from: Place, lo: u64, hi: u64) -> P
     let mut n = from.level;
     while j < last {
         if !in_range(lo, hi, n) {
-            return Place {
+            return Window {
                 offset: j,
                 level: n,
             };
@@ -154,7 +154,7 @@ pub fn next_out(s: &[i32], w: usize, e: u64, from: Place, lo: u64, hi: u64) -> P
         s,
         w,
         e,
-        Place {
+        Window {
             offset: j,
             level: n,
         },
@@ -173,7 +173,7 @@ pub fn row_of_level(n: u64, d: u64) -> u64
 }
 
 // From a window on, whose row number is `k`, the first whose row number is another, or the number of windows.
-pub fn next_row(s: &[i32], w: usize, e: u64, d: u64, k: u64, from: Place) -> Place
+pub fn next_row(s: &[i32], w: usize, e: u64, d: u64, k: u64, from: Window) -> Window
     requires { ⌜ Lent (now s) w e ⌝ }
     requires { ⌜ (1 ≤ d) × (d ≤ widestRow) ⌝ }
     requires { ⌜ from .offset < windowsOf (now s) w ⌝ }
@@ -216,7 +216,7 @@ pub fn mark(s: &[i32], w: usize, e: u64, d: u64, base: u64, flags: &mut [u8])
             e,
             d,
             k,
-            Place {
+            Window {
                 offset: j,
                 level: n,
             },

@@ -1,2 +1,2 @@
--- Texts counted.
+-- What the contracts of text_count cite.
 pub mod Count

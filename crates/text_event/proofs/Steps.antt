@@ -1,4 +1,4 @@
--- The steps by which runs and the beginnings of rows are read, each by one byte, and what is put together of them (`body-told`, `plain-told`, `first-told`, `range-told`). Assumes nothing.
+-- The steps by which runs and the beginnings of rows are read, each by one byte, and what is put together of them (`body-told`, `plain-told`, `first-told`, `range-told`).
 use mathlib.Core.Path.{_≡_, refl}
 use Prim.Native.Nat.{ℕ, zero, suc, _+_, _*_, _-_, _/_, _%_, _<_, _≤_, _^_}
 use mathlib.Core.List.{List}
@@ -9,9 +9,10 @@ use lib.IntN.{ℤ, pos, negℤ}
 use lib.ListN.{length, getD}
 use Rattle.meaning_text.specs.Bytes.{bytes}
 use Rattle.text_numbers.specs.declared.Numeral.{Numeral}
-use Rattle.text_numbers.specs.Number.{numStep, whole, within-yes}
+use Rattle.text_numbers.specs.Number.{numStep, whole}
+use Rattle.text_numbers.proofs.Number.{within-yes}
 use Rattle.text_index.specs.declared.Word.{Word}
-use Rattle.text_index.specs.declared.Place.{Place}
+use Rattle.text_index.specs.declared.Field.{Field}
 use Rattle.text_index.specs.declared.State.{State}
 use Rattle.text_index.specs.declared.Moved.{Moved}
 use Rattle.text_index.specs.Step.{word, behind, turnAfter, pick, reach, closes, wordStep, turnStep, endStep, numberStep, indexStep}
@@ -20,24 +21,24 @@ use Rattle.text_event.specs.Event.{Quiet, still, more, ValueAt, ClosedAt
 use Rattle.text_event.proofs.Words.{stands-byte}
 
 -- the first digit, not 0
-pub first-digit : (p : Place) (b : ℕ) → 49 ≤ b → b ≤ 57 → indexStep (State.At p Numeral.Start) b ≡ Moved.To (State.At p (Numeral.Plus (b - 48)))
+pub first-digit : (p : Field) (b : ℕ) → 49 ≤ b → b ≤ 57 → indexStep (State.At p Numeral.Start) b ≡ Moved.To (State.At p (Numeral.Plus (b - 48)))
 unfolding indexStep numberStep numStep
 first-digit p b h k = rw (ne-eqb b 45 (λ e. omega (arith, h, e)), ne-eqb b 48 (λ e. omega (arith, h, e)), within-yes 49 57 b h k) refl
 
-pub first-less : (p : Place) (b : ℕ) → 49 ≤ b → b ≤ 57 → indexStep (State.At p Numeral.Sign) b ≡ Moved.To (State.At p (Numeral.Less (b - 48)))
+pub first-less : (p : Field) (b : ℕ) → 49 ≤ b → b ≤ 57 → indexStep (State.At p Numeral.Sign) b ≡ Moved.To (State.At p (Numeral.Less (b - 48)))
 unfolding indexStep numberStep numStep
 first-less p b h k = rw (within-yes 49 57 b h k) refl
 
 -- one more
-pub next-digit : (p : Place) (m b : ℕ) → 48 ≤ b → b ≤ 57 → m < 100000000000000000 → indexStep (State.At p (Numeral.Plus m)) b ≡ Moved.To (State.At p (Numeral.Plus (10 * m + (b - 48))))
+pub next-digit : (p : Field) (m b : ℕ) → 48 ≤ b → b ≤ 57 → m < 100000000000000000 → indexStep (State.At p (Numeral.Plus m)) b ≡ Moved.To (State.At p (Numeral.Plus (10 * m + (b - 48))))
 unfolding indexStep numberStep numStep
 next-digit p m b h k l = rw (within-yes 48 57 b h k, lt-ltb m 100000000000000000 l) refl
 
-pub next-less : (p : Place) (m b : ℕ) → 48 ≤ b → b ≤ 57 → m < 100000000000000000 → indexStep (State.At p (Numeral.Less m)) b ≡ Moved.To (State.At p (Numeral.Less (10 * m + (b - 48))))
+pub next-less : (p : Field) (m b : ℕ) → 48 ≤ b → b ≤ 57 → m < 100000000000000000 → indexStep (State.At p (Numeral.Less m)) b ≡ Moved.To (State.At p (Numeral.Less (10 * m + (b - 48))))
 unfolding indexStep numberStep numStep
 next-less p m b h k l = rw (within-yes 48 57 b h k, lt-ltb m 100000000000000000 l) refl
 
-sign : (p : Place) → indexStep (State.At p Numeral.Start) 45 ≡ Moved.To (State.At p Numeral.Sign)
+sign : (p : Field) → indexStep (State.At p Numeral.Start) 45 ≡ Moved.To (State.At p Numeral.Sign)
 unfolding indexStep numberStep numStep
 sign p = refl
 
@@ -45,23 +46,23 @@ pub run-space : indexStep atRuns (getD (bytes " (") 0 0) ≡ Moved.To (State.In 
 unfolding indexStep turnStep pick reach word bytes behind
 run-space = refl
 
-pub run-bracket : indexStep atFirst (getD (bytes "(") 0 0) ≡ Moved.To (State.At Place.Left Numeral.Start)
+pub run-bracket : indexStep atFirst (getD (bytes "(") 0 0) ≡ Moved.To (State.At Field.Left Numeral.Start)
 unfolding indexStep wordStep reach word bytes behind closes
 run-bracket = refl
 
-pub left-ends : (k : ℕ) → indexStep (State.At Place.Left (Numeral.Plus k)) (getD (bytes " ") 0 0) ≡ Moved.Value inRun Place.Left (pos k)
+pub left-ends : (k : ℕ) → indexStep (State.At Field.Left (Numeral.Plus k)) (getD (bytes " ") 0 0) ≡ Moved.Value inRun Field.Left (pos k)
 unfolding indexStep numberStep numStep whole endStep pick turnAfter reach word bytes behind
 left-ends k = refl
 
-pub right-ends : (k : ℕ) → indexStep (State.At Place.Right (Numeral.Plus k)) (getD (bytes ")") 0 0) ≡ Moved.Value atRuns Place.Right (pos k)
+pub right-ends : (k : ℕ) → indexStep (State.At Field.Right (Numeral.Plus k)) (getD (bytes ")") 0 0) ≡ Moved.Value atRuns Field.Right (pos k)
 unfolding indexStep numberStep numStep whole endStep pick turnAfter reach word bytes behind
 right-ends k = refl
 
-low-blank : Blank Place.Low inRange
+low-blank : Blank Field.Low inRange
 unfolding indexStep numberStep numStep whole endStep pick turnAfter reach word bytes behind
 low-blank = record { plus = λ k. refl; less = λ k. refl }
 
-up-blank : Blank Place.Up atFirst
+up-blank : Blank Field.Up atFirst
 unfolding indexStep numberStep numStep whole endStep pick turnAfter reach word bytes behind
 up-blank = record { plus = λ k. refl; less = λ k. refl }
 
@@ -73,7 +74,7 @@ row-more : (k : ℕ) → k < 4 → indexStep (State.In Word.Row k) (getD (bytes 
 unfolding indexStep wordStep reach word bytes closes
 row-more k h = rw (eq-eqb (getD (bytes "(row ") k 0) (getD (bytes "(row ") k 0) refl, lt-ltb (k + 1) 5 (omega (arith, h))) refl
 
-row-last : indexStep (State.In Word.Row 4) (getD (bytes "(row ") 4 0) ≡ Moved.To (State.At Place.Low Numeral.Start)
+row-last : indexStep (State.In Word.Row 4) (getD (bytes "(row ") 4 0) ≡ Moved.To (State.At Field.Low Numeral.Start)
 unfolding indexStep wordStep reach word bytes behind closes
 row-last = refl
 
@@ -91,7 +92,7 @@ quiet-before : {text : List ℕ} {s m n : State} {i j : ℕ} → i < length text
 quiet-before h e still = more still h e
 quiet-before h e (more q k f) = more (quiet-before h e q) k f
 
-value-before : {text : List ℕ} {s m n : State} {p : Place} {z : ℤ} {i j : ℕ} → i < length text → indexStep s (getD text i 0) ≡ Moved.To m → ValueAt text m (i + 1) n p z j → ValueAt text s i n p z j
+value-before : {text : List ℕ} {s m n : State} {p : Field} {z : ℤ} {i j : ℕ} → i < length text → indexStep s (getD text i 0) ≡ Moved.To m → ValueAt text m (i + 1) n p z j → ValueAt text s i n p z j
 value-before h e v = record { last = v .last; place = v .place; quiet = quiet-before h e (v .quiet); inside = v .inside; ends = v .ends; next = v .next }
 
 -- ---- numbers
@@ -117,7 +118,7 @@ top-add (suc j) k = let e : suc j + k ≡ suc (j + k) = omega arith in rw e (ome
 pub top-most : (k : ℕ) → k ≤ 7 → top k ≤ 10 ^ 8
 top-most k h = let e : 7 - k + k ≡ 7 = omega arith in let l : top k ≤ top 7 = rw e at (top-add (7 - k) k) in omega (arith, l)
 
-pub digits-told : (text : List ℕ) (i first m k : ℕ) → m < top k → k ≤ 7 → ((p : Place) → Quiet text (State.At p (Numeral.Plus first)) i (State.At p (Numeral.Plus m)) (i + k)) → ((p : Place) → Quiet text (State.At p (Numeral.Less first)) i (State.At p (Numeral.Less m)) (i + k)) → DigitsAt text i first (16 * m + k)
+pub digits-told : (text : List ℕ) (i first m k : ℕ) → m < top k → k ≤ 7 → ((p : Field) → Quiet text (State.At p (Numeral.Plus first)) i (State.At p (Numeral.Plus m)) (i + k)) → ((p : Field) → Quiet text (State.At p (Numeral.Less first)) i (State.At p (Numeral.Less m)) (i + k)) → DigitsAt text i first (16 * m + k)
 digits-told text i first m k h l plus less =
     let a : (16 * m + k) / 16 ≡ m = omega arith in
     let b : (16 * m + k) % 16 ≡ k = omega arith in
@@ -148,10 +149,10 @@ body-told text i a b x e y f =
     let c = stands-byte e 0 (i + a % 16) (omega arith) (omega arith) in
     let d = stands-byte f 0 (i + a % 16 + 1 + b % 16) (omega arith) (omega arith) in
     let v : i + (a % 16 + b % 16 + 1 + 1) ≡ i + a % 16 + 1 + b % 16 + 1 = omega arith in
-    let w : RunAt text (State.At Place.Left Numeral.Start) i (pos (a / 16)) (pos (b / 16)) (i + a % 16 + 1 + b % 16 + 1) = record {
+    let w : RunAt text (State.At Field.Left Numeral.Start) i (pos (a / 16)) (pos (b / 16)) (i + a % 16 + 1 + b % 16 + 1) = record {
       middle = i + a % 16 + 1;
-      left = record { last = State.At Place.Left (Numeral.Plus (a / 16)); place = i + a % 16; quiet = x .plus Place.Left; inside = c .0; ends = rw (c .1) (left-ends (a / 16)); next = refl };
-      right = record { last = State.At Place.Right (Numeral.Plus (b / 16)); place = i + a % 16 + 1 + b % 16; quiet = y .plus Place.Right; inside = d .0; ends = rw (d .1) (right-ends (b / 16)); next = refl };
+      left = record { last = State.At Field.Left (Numeral.Plus (a / 16)); place = i + a % 16; quiet = x .plus Field.Left; inside = c .0; ends = rw (c .1) (left-ends (a / 16)); next = refl };
+      right = record { last = State.At Field.Right (Numeral.Plus (b / 16)); place = i + a % 16 + 1 + b % 16; quiet = y .plus Field.Right; inside = d .0; ends = rw (d .1) (right-ends (b / 16)); next = refl };
     } in
     record { plain = record { small = omega (arith, x .small, y .small, x .short, y .short); short = omega (arith, n, x .short, y .short); run = rw (l, r, n, v) w }; least = omega (arith, n, x .short, y .short); tiny = omega (arith, x .small, y .small, x .short, y .short) }
 
@@ -167,7 +168,7 @@ first-told text i q e b =
     let r : rightOf (q + 1) ≡ rightOf q = omega (arith, b .least) in
     let n : lengthOf (q + 1) ≡ lengthOf q + 1 = omega (arith, b .least) in
     let z : i + (lengthOf q + 1) ≡ i + 1 + lengthOf q = omega arith in
-    record { small = omega (arith, b .tiny); short = omega (arith, n, b .least); run = rw (l, r, n, z) (run-before text atFirst (State.At Place.Left Numeral.Start) i _ _ _ (c .0) (rw (c .1) run-bracket) (b .plain .run)) }
+    record { small = omega (arith, b .tiny); short = omega (arith, n, b .least); run = rw (l, r, n, z) (run-before text atFirst (State.At Field.Left Numeral.Start) i _ _ _ (c .0) (rw (c .1) run-bracket) (b .plain .run)) }
 
 pub plain-told : (text : List ℕ) (i q : ℕ) → WordAt text i (bytes " (") → BodyAt text (i + 2) q → PlainAt text atRuns i (q + 2)
 unfolding bytes
@@ -179,8 +180,8 @@ plain-told text i q e b =
     let n : lengthOf (q + 2) ≡ lengthOf q + 2 = omega (arith, b .least) in
     let z : i + (lengthOf q + 2) ≡ i + 1 + 1 + lengthOf q = omega arith in
     let y : i + 2 ≡ i + 1 + 1 = omega arith in
-    let v : RunAt text (State.At Place.Left Numeral.Start) (i + 1 + 1) (pos (leftOf q)) (pos (rightOf q)) (i + 1 + 1 + lengthOf q) = rw y at (b .plain .run) in
-    record { small = omega (arith, b .tiny); short = omega (arith, n, b .least); run = rw (l, r, n, z) (run-before text atRuns atFirst i _ _ _ (c .0) (rw (c .1) run-space) (run-before text atFirst (State.At Place.Left Numeral.Start) (i + 1) _ _ _ (d .0) (rw (d .1) run-bracket) v)) }
+    let v : RunAt text (State.At Field.Left Numeral.Start) (i + 1 + 1) (pos (leftOf q)) (pos (rightOf q)) (i + 1 + 1 + lengthOf q) = rw y at (b .plain .run) in
+    record { small = omega (arith, b .tiny); short = omega (arith, n, b .least); run = rw (l, r, n, z) (run-before text atRuns atFirst i _ _ _ (c .0) (rw (c .1) run-space) (run-before text atFirst (State.At Field.Left Numeral.Start) (i + 1) _ _ _ (d .0) (rw (d .1) run-bracket) v)) }
 
 -- ---- the beginnings of rows
 
@@ -210,7 +211,7 @@ range-told text i low up j k o x y =
     let c = stands-byte (o .word) 2 (i + 1 + 1) (omega arith) (omega arith) in
     let d = stands-byte (o .word) 3 (i + 1 + 1 + 1) (omega arith) (omega arith) in
     let e = stands-byte (o .word) 4 (i + 1 + 1 + 1 + 1) (omega arith) (omega arith) in
-    let v : ValueAt text (State.At Place.Low Numeral.Start) (i + 1 + 1 + 1 + 1 + 1) inRange Place.Low low j = rw z at (x .1 Place.Low inRange low-blank) in
+    let v : ValueAt text (State.At Field.Low Numeral.Start) (i + 1 + 1 + 1 + 1 + 1) inRange Field.Low low j = rw z at (x .1 Field.Low inRange low-blank) in
     record {
       middle = j;
       lower =
@@ -218,8 +219,8 @@ range-told text i low up j k o x y =
           (value-before {m = State.In Word.Row 2} (b .0) (rw (b .1) (row-more 1 (omega arith)))
           (value-before {m = State.In Word.Row 3} (c .0) (rw (c .1) (row-more 2 (omega arith)))
           (value-before {m = State.In Word.Row 4} (d .0) (rw (d .1) (row-more 3 (omega arith)))
-          (value-before {m = State.At Place.Low Numeral.Start} (e .0) (rw (e .1) row-last) v))));
-      upper = y .1 Place.Up atFirst up-blank;
+          (value-before {m = State.At Field.Low Numeral.Start} (e .0) (rw (e .1) row-last) v))));
+      upper = y .1 Field.Up atFirst up-blank;
     }
 
 -- a row's end

@@ -1,4 +1,4 @@
--- A word that stands in a text, byte by byte. Assumes nothing.
+-- A word that stands in a text, byte by byte.
 use mathlib.Core.Path.{_≡_, sym, ap, _∙_}
 use mathlib.Core.List.{List}
 use Prim.Native.Nat.{ℕ, _+_, _<_, _≤_}

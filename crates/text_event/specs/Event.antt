@@ -1,14 +1,13 @@
--- What comes next in an index text, by the steps of its automaton: bytes that say nothing (`Quiet`), then one that ends a number or a row, that is refused, or the text's end. A run is two numbers, a row's beginning two and a run. What every such step keeps, an event keeps (`quiet-keeps`, `value-keeps`, `run-keeps`, `row-keeps`, `runs-keeps`). Assumes nothing.
+-- What comes next in an index text, by the steps of its automaton: bytes that say nothing (`Quiet`), then one that ends a number or a row, that is refused, or the text's end. A run is two numbers, a row's beginning two and a run. What every such step keeps, an event keeps.
 use mathlib.Core.Path.{_≡_}
 use mathlib.Core.List.{List}
 use Prim.Native.Nat.{ℕ, _+_, _/_, _%_, _<_, _≤_, _^_}
-use native.Mathlib.Omega.{arith}
 use lib.IntN.{ℤ, pos, negℤ}
 use lib.ListN.{length, getD, take, drop}
 use Rattle.meaning_text.specs.Bytes.{bytes}
 use Rattle.text_numbers.specs.declared.Numeral.{Numeral}
 use Rattle.text_index.specs.declared.Word.{Word}
-use Rattle.text_index.specs.declared.Place.{Place}
+use Rattle.text_index.specs.declared.Field.{Field}
 use Rattle.text_index.specs.declared.Turn.{Turn}
 use Rattle.text_index.specs.declared.State.{State}
 use Rattle.text_index.specs.declared.Moved.{Moved}
@@ -23,7 +22,7 @@ pub data Quiet (text : List ℕ) (s : State) (i : ℕ) : State → ℕ → Type 
   more : {n m : State} {j : ℕ} → Quiet text s i n j → j < length text → indexStep n (getD text j 0) ≡ Moved.To m → Quiet text s i m (j + 1)
 
 -- a number ends before place j, and the text stands at n there
-pub record ValueAt (text : List ℕ) (s : State) (i : ℕ) (n : State) (p : Place) (z : ℤ) (j : ℕ) : Type 0 where
+pub record ValueAt (text : List ℕ) (s : State) (i : ℕ) (n : State) (p : Field) (z : ℤ) (j : ℕ) : Type 0 where
   pub last : State
   pub place : ℕ
   pub quiet : Quiet text s i last place
@@ -42,7 +41,7 @@ pub record ClosedAt (text : List ℕ) (s : State) (i : ℕ) (n : State) (j : ℕ
 
 -- between the two numbers of a run
 abbrev pub inRun : State
-inRun = State.At Place.Right Numeral.Start
+inRun = State.At Field.Right Numeral.Start
 
 -- where a run may stand
 abbrev pub atRuns : State
@@ -58,19 +57,19 @@ atRows = State.Before Turn.Rows
 
 -- between the two ends of a row's range
 abbrev pub inRange : State
-inRange = State.At Place.Up Numeral.Start
+inRange = State.At Field.Up Numeral.Start
 
 -- a run ends before place j
 pub record RunAt (text : List ℕ) (s : State) (i : ℕ) (l r : ℤ) (j : ℕ) : Type 0 where
   pub middle : ℕ
-  pub left : ValueAt text s i inRun Place.Left l middle
-  pub right : ValueAt text inRun middle atRuns Place.Right r j
+  pub left : ValueAt text s i inRun Field.Left l middle
+  pub right : ValueAt text inRun middle atRuns Field.Right r j
 
 -- a row's range ends before place j, and a run comes
 pub record RowAt (text : List ℕ) (i : ℕ) (low up : ℤ) (j : ℕ) : Type 0 where
   pub middle : ℕ
-  pub lower : ValueAt text atRows i inRange Place.Low low middle
-  pub upper : ValueAt text inRange middle atFirst Place.Up up j
+  pub lower : ValueAt text atRows i inRange Field.Low low middle
+  pub upper : ValueAt text inRange middle atFirst Field.Up up j
 
 -- a row's range and its first run
 pub record OpenAt (text : List ℕ) (i : ℕ) (low up l r : ℤ) (j : ℕ) : Type 0 where
@@ -79,9 +78,9 @@ pub record OpenAt (text : List ℕ) (i : ℕ) (low up l r : ℤ) (j : ℕ) : Typ
   pub run : RunAt text atFirst behind l r j
 
 -- runs one after the other, from a place to another, and what they tell
-pub data RunsFrom {T : Type 0} (tell : Place → ℤ → T → T) (text : List ℕ) (t : T) (i : ℕ) : T → ℕ → Type 0 where
+pub data RunsFrom {T : Type 0} (tell : Field → ℤ → T → T) (text : List ℕ) (t : T) (i : ℕ) : T → ℕ → Type 0 where
   none : RunsFrom tell text t i t i
-  one : {u : T} {j l r k : ℕ} → RunsFrom tell text t i u j → RunAt text atRuns j (pos l) (pos r) k → RunsFrom tell text t i (tell Place.Right (pos r) (tell Place.Left (pos l) u)) k
+  one : {u : T} {j l r k : ℕ} → RunsFrom tell text t i u j → RunAt text atRuns j (pos l) (pos r) k → RunsFrom tell text t i (tell Field.Right (pos r) (tell Field.Left (pos l) u)) k
 
 abbrev pub EventAt : List ℕ → State → ℕ → Event → Type 0
 EventAt text s i (Event.Row low up l r j) = (s ≡ atRows) × OpenAt text i low up (pos l) (pos r) j
@@ -112,15 +111,15 @@ pub record Opens (text : List ℕ) (i : ℕ) : Type 0 where
 pub record DigitsAt (text : List ℕ) (i m q : ℕ) : Type 0 where
   pub small : q / 16 < 10 ^ 8
   pub short : q % 16 ≤ 7
-  pub plus : (p : Place) → Quiet text (State.At p (Numeral.Plus m)) i (State.At p (Numeral.Plus (q / 16))) (i + q % 16)
-  pub less : (p : Place) → Quiet text (State.At p (Numeral.Less m)) i (State.At p (Numeral.Less (q / 16))) (i + q % 16)
+  pub plus : (p : Field) → Quiet text (State.At p (Numeral.Plus m)) i (State.At p (Numeral.Plus (q / 16))) (i + q % 16)
+  pub less : (p : Field) → Quiet text (State.At p (Numeral.Less m)) i (State.At p (Numeral.Less (q / 16))) (i + q % 16)
 
 -- a number of at most eight digits
 pub record NumberAt (text : List ℕ) (i q : ℕ) : Type 0 where
   pub small : q / 16 < 10 ^ 8
   pub short : q % 16 ≤ 8
-  pub plus : (p : Place) → Quiet text (State.At p Numeral.Start) i (State.At p (Numeral.Plus (q / 16))) (i + q % 16)
-  pub less : (p : Place) → Quiet text (State.At p Numeral.Sign) i (State.At p (Numeral.Less (q / 16))) (i + q % 16)
+  pub plus : (p : Field) → Quiet text (State.At p Numeral.Start) i (State.At p (Numeral.Plus (q / 16))) (i + q % 16)
+  pub less : (p : Field) → Quiet text (State.At p Numeral.Sign) i (State.At p (Numeral.Less (q / 16))) (i + q % 16)
 
 -- the ends of a run and how many bytes it has
 abbrev pub leftOf : ℕ → ℕ
@@ -140,7 +139,7 @@ pub record PlainAt (text : List ℕ) (s : State) (i q : ℕ) : Type 0 where
 
 -- a run behind its bracket
 pub record BodyAt (text : List ℕ) (i q : ℕ) : Type 0 where
-  pub plain : PlainAt text (State.At Place.Left Numeral.Start) i q
+  pub plain : PlainAt text (State.At Field.Left Numeral.Start) i q
   pub least : lengthOf q ≤ 18
   pub tiny : q < 2 ^ 59
 
@@ -149,7 +148,7 @@ abbrev pub blank : ℕ
 blank = getD (bytes " ") 0 0
 
 -- where a blank behind a number leads
-pub record Blank (p : Place) (n : State) : Type 0 where
+pub record Blank (p : Field) (n : State) : Type 0 where
   pub plus : (k : ℕ) → indexStep (State.At p (Numeral.Plus k)) blank ≡ Moved.Value n p (pos k)
   pub less : (k : ℕ) → indexStep (State.At p (Numeral.Less k)) blank ≡ Moved.Value n p (negℤ (pos k))
 
@@ -160,54 +159,9 @@ pub record BlankAt (text : List ℕ) (i q : ℕ) : Type 0 where
 
 -- the same with or without a sign
 abbrev pub SignedAt : List ℕ → ℕ → Signed → Type 0
-SignedAt text i (Signed.Read z j) = (j ≤ i + 10) × ((p : Place) (n : State) → Blank p n → ValueAt text (State.At p Numeral.Start) i n p z j)
+SignedAt text i (Signed.Read z j) = (j ≤ i + 10) × ((p : Field) (n : State) → Blank p n → ValueAt text (State.At p Numeral.Start) i n p z j)
 SignedAt text i Signed.None = Unit {0}
 
 abbrev pub RangeAt : List ℕ → ℕ → Range → Type 0
 RangeAt text i (Range.Read low up j) = RowAt text i low up j
 RangeAt text i Range.None = Unit {0}
-
--- ---- what an event keeps
-
-module _ {T : Type 0} (tell : Place → ℤ → T → T) (text : List ℕ) (P : State → T → ℕ → Type 0)
-    (to : (s : State) (t : T) (i : ℕ) → P s t i → i < length text → (n : State) → indexStep s (getD text i 0) ≡ Moved.To n → P n t (i + 1))
-    (value : (s : State) (t : T) (i : ℕ) → P s t i → i < length text → (n : State) (p : Place) (z : ℤ) → indexStep s (getD text i 0) ≡ Moved.Value n p z → P n (tell p z t) (i + 1)) where
-  pub quiet-keeps : {s : State} {i : ℕ} {n : State} {j : ℕ} (t : T) → Quiet text s i n j → P s t i → P n t j
-  quiet-keeps t still p = p
-  quiet-keeps t (more {n} {m} {j} q h e) p = to n t j (quiet-keeps t q p) h m e
-
-  pub value-keeps : {s : State} {i : ℕ} {n : State} {p : Place} {z : ℤ} {j : ℕ} (t : T) → ValueAt text s i n p z j → P s t i → P n (tell p z t) j
-  value-keeps {s} {i} {n} {p} {z} {j} t v k = rw (v .next) (value (v .last) t (v .place) (quiet-keeps t (v .quiet) k) (v .inside) n p z (v .ends))
-
-  pub run-keeps : {s : State} {i : ℕ} {l r : ℤ} {j : ℕ} (t : T) → RunAt text s i l r j → P s t i → P atRuns (tell Place.Right r (tell Place.Left l t)) j
-  run-keeps {s} {i} {l} {r} {j} t v k = value-keeps (tell Place.Left l t) (v .right) (value-keeps t (v .left) k)
-
-  pub row-keeps : {i : ℕ} {low up l r : ℤ} {j : ℕ} (t : T) → OpenAt text i low up l r j → P atRows t i → P atRuns (tell Place.Right r (tell Place.Left l (tell Place.Up up (tell Place.Low low t)))) j
-  row-keeps {i} {low} {up} {l} {r} {j} t v k =
-      run-keeps (tell Place.Up up (tell Place.Low low t)) (v .run) (value-keeps (tell Place.Low low t) (v .row .upper) (value-keeps t (v .row .lower) k))
-
-  pub runs-keeps : {t u : T} {i j : ℕ} → RunsFrom tell text t i u j → P atRuns t i → P atRuns u j
-  runs-keeps none k = k
-  runs-keeps (one {u} m v) k = run-keeps u v (runs-keeps m k)
-
--- ---- places go up
-
-pub quiet-up : {text : List ℕ} {s : State} {i : ℕ} {n : State} {j : ℕ} → Quiet text s i n j → i ≤ j
-quiet-up still = omega arith
-quiet-up (more q h e) = omega (arith, quiet-up q)
-
-pub value-up : {text : List ℕ} {s : State} {i : ℕ} {n : State} {p : Place} {z : ℤ} {j : ℕ} → ValueAt text s i n p z j → (i < j) × (j ≤ length text)
-value-up v = (omega (arith, quiet-up (v .quiet), v .next), omega (arith, v .inside, v .next))
-
-pub run-up : {text : List ℕ} {s : State} {i : ℕ} {l r : ℤ} {j : ℕ} → RunAt text s i l r j → (i < j) × (j ≤ length text)
-run-up v = let a = value-up (v .left) in let b = value-up (v .right) in (omega (arith, a .0, b .0), b .1)
-
-pub runs-up : {T : Type 0} {tell : Place → ℤ → T → T} {text : List ℕ} {t u : T} {i j : ℕ} → RunsFrom tell text t i u j → i ≤ length text → (i ≤ j) × (j ≤ length text)
-runs-up none h = (omega arith, h)
-runs-up (one m v) h = let a = runs-up m h in let b = run-up v in (omega (arith, a .0, b .0), b .1)
-
-pub row-up : {text : List ℕ} {i : ℕ} {low up l r : ℤ} {j : ℕ} → OpenAt text i low up l r j → (i < j) × (j ≤ length text)
-row-up v = let a = value-up (v .row .lower) in let b = value-up (v .row .upper) in let d = run-up (v .run) in (omega (arith, a .0, b .0, d .0), d .1)
-
-pub closed-up : {text : List ℕ} {s : State} {i : ℕ} {n : State} {j : ℕ} → ClosedAt text s i n j → (i < j) × (j ≤ length text)
-closed-up v = (omega (arith, quiet-up (v .quiet), v .next), omega (arith, v .inside, v .next))

@@ -1,2 +1,2 @@
--- What comes next in an index text.
+-- What the contracts of text_event cite.
 pub mod Event

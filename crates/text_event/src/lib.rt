@@ -1,7 +1,7 @@
 // What comes next in an index text: a loop over a text takes a number, a row's end, a run or a row's beginning at a time, and the bytes between them are read here. Runs of two small numbers, of which a text has the most, and the beginnings of rows are read without the automaton's states.
 // Small numbers are told as one number, so that nothing goes through memory for each run: a natural number as 16 times its value and its length, a run as its ends and its length (`leftOf`, `rightOf`, `lengthOf`). 0 is none.
+use text_index::Field;
 use text_index::Moved;
-use text_index::Place;
 use text_index::State;
 use text_index::Turn;
 use text_index::index_step;
@@ -29,7 +29,7 @@ pub enum Range {
 pub enum Event {
     Row(i64, i64, u32, u32, usize),
     Run(u32, u32, usize),
-    Value(State, Place, i64, usize),
+    Value(State, Field, i64, usize),
     Closed(State, usize),
     Refuse(State, usize),
     End(State, usize),

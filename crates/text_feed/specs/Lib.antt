@@ -1,4 +1,4 @@
--- What is kept of lines that come in pieces (`Keep`), what a piece does to it (`Feed`), and what a whole text comes to (`Whole`).
+-- What the contracts of text_feed cite.
 pub mod Keep
 pub mod Feed
 pub mod Whole

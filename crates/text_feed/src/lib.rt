@@ -2,8 +2,8 @@
 use meaning_curves::GREATEST_VALUE;
 use meaning_curves::LEAST_VALUE;
 use numbers::narrow;
+use text_lines::Field;
 use text_lines::Moved;
-use text_lines::Place;
 use text_lines::State;
 use text_lines::Word;
 use text_lines::line_step;
@@ -87,37 +87,37 @@ fn counted(v: Values, z: i64) -> Values
     }
 }
 
-fn in_series(p: Place) -> bool
+fn in_series(p: Field) -> bool
     ensures { λ r. ⌜ r ≡ ofSeries p ⌝ }
 {
     match p {
-        Place::Window => false,
-        Place::Width => false,
-        Place::Merge => false,
-        Place::Item => true,
-        Place::Band => false,
-        Place::Threshold => false,
-        Place::Scale => false,
-        Place::Shift => false,
-        Place::Asked => false,
-        Place::Entry => true,
+        Field::Window => false,
+        Field::Width => false,
+        Field::Merge => false,
+        Field::Item => true,
+        Field::Band => false,
+        Field::Threshold => false,
+        Field::Scale => false,
+        Field::Shift => false,
+        Field::Asked => false,
+        Field::Entry => true,
     }
 }
 
-fn in_query(p: Place) -> bool
+fn in_query(p: Field) -> bool
     ensures { λ r. ⌜ r ≡ ofQuery p ⌝ }
 {
     match p {
-        Place::Window => false,
-        Place::Width => false,
-        Place::Merge => false,
-        Place::Item => false,
-        Place::Band => false,
-        Place::Threshold => false,
-        Place::Scale => false,
-        Place::Shift => false,
-        Place::Asked => true,
-        Place::Entry => false,
+        Field::Window => false,
+        Field::Width => false,
+        Field::Merge => false,
+        Field::Item => false,
+        Field::Band => false,
+        Field::Threshold => false,
+        Field::Scale => false,
+        Field::Shift => false,
+        Field::Asked => true,
+        Field::Entry => false,
     }
 }
 
@@ -136,20 +136,20 @@ fn kept(v: Values, z: i64, wanted: bool, out: &mut [i32]) -> Values
 }
 
 // The place of a single number of the program's lines: window, width, merge, b, E, a, h; no place of the eight for a value of the series or the query.
-fn number_place(p: Place) -> usize
+fn number_place(p: Field) -> usize
     ensures { λ r. ⌜ r ≡ placeOf p ⌝ }
 {
     match p {
-        Place::Window => 0,
-        Place::Width => 1,
-        Place::Merge => 2,
-        Place::Item => 8,
-        Place::Band => 3,
-        Place::Threshold => 4,
-        Place::Scale => 5,
-        Place::Shift => 6,
-        Place::Asked => 8,
-        Place::Entry => 8,
+        Field::Window => 0,
+        Field::Width => 1,
+        Field::Merge => 2,
+        Field::Item => 8,
+        Field::Band => 3,
+        Field::Threshold => 4,
+        Field::Scale => 5,
+        Field::Shift => 6,
+        Field::Asked => 8,
+        Field::Entry => 8,
     }
 }
 

@@ -1,8 +1,7 @@
--- What a byte does to an index text: the words with what stands behind each, the numbers with what may come behind each, and the step of a state. Assumes nothing.
+-- What a byte does to an index text: the words with what stands behind each, the numbers with what may come behind each, and the step of a state.
 use mathlib.Core.Bool.{Bool, false, cond}
 use mathlib.Core.List.{List}
-use Prim.Native.Nat.{ℕ, _+_, _<_, _≤_}
-use native.Mathlib.Omega.{arith}
+use Prim.Native.Nat.{ℕ, _+_, _<_}
 use lib.Dec.{ltb, eqb}
 use lib.IntN.{ℤ}
 use lib.ListN.{length, getD}
@@ -12,7 +11,7 @@ use Rattle.text_numbers.specs.declared.Taken.{Taken}
 use Rattle.text_numbers.specs.declared.Whole.{Whole}
 use Rattle.text_numbers.specs.Number.{numStep, whole, NumGood}
 use Rattle.text_index.specs.declared.Word.{Word}
-use Rattle.text_index.specs.declared.Place.{Place}
+use Rattle.text_index.specs.declared.Field.{Field}
 use Rattle.text_index.specs.declared.Turn.{Turn}
 use Rattle.text_index.specs.declared.State.{State}
 use Rattle.text_index.specs.declared.Reached.{Reached}
@@ -33,27 +32,27 @@ word Word.End = bytes ")\n"
 
 -- the state behind a word
 unfoldable pub behind : Word → State
-behind Word.Window = State.At Place.Window Numeral.Start
-behind Word.Width = State.At Place.Width Numeral.Start
-behind Word.Windows = State.At Place.Windows Numeral.Start
+behind Word.Window = State.At Field.Window Numeral.Start
+behind Word.Width = State.At Field.Width Numeral.Start
+behind Word.Windows = State.At Field.Windows Numeral.Start
 behind Word.Head = State.Before Turn.Rows
-behind Word.Row = State.At Place.Low Numeral.Start
-behind Word.Up = State.At Place.Up Numeral.Start
-behind Word.Run = State.At Place.Left Numeral.Start
-behind Word.Right = State.At Place.Right Numeral.Start
+behind Word.Row = State.At Field.Low Numeral.Start
+behind Word.Up = State.At Field.Up Numeral.Start
+behind Word.Run = State.At Field.Left Numeral.Start
+behind Word.Right = State.At Field.Right Numeral.Start
 behind Word.RunEnd = State.Before Turn.Runs
 behind Word.RowEnd = State.Before Turn.Rows
 behind Word.End = State.Done
 
 -- what may come behind a number
-unfoldable pub turnAfter : Place → Turn
-turnAfter Place.Window = Turn.One Word.Width
-turnAfter Place.Width = Turn.One Word.Windows
-turnAfter Place.Windows = Turn.One Word.Head
-turnAfter Place.Low = Turn.One Word.Up
-turnAfter Place.Up = Turn.Runs
-turnAfter Place.Left = Turn.One Word.Right
-turnAfter Place.Right = Turn.One Word.RunEnd
+unfoldable pub turnAfter : Field → Turn
+turnAfter Field.Window = Turn.One Word.Width
+turnAfter Field.Width = Turn.One Word.Windows
+turnAfter Field.Windows = Turn.One Word.Head
+turnAfter Field.Low = Turn.One Word.Up
+turnAfter Field.Up = Turn.Runs
+turnAfter Field.Left = Turn.One Word.Right
+turnAfter Field.Right = Turn.One Word.RunEnd
 
 -- the only word that could begin with the byte
 unfoldable pub pick : Turn → ℕ → Word
@@ -89,7 +88,7 @@ abbrev pub turnMoved : Reached → Moved
 turnMoved (Reached.There s) = Moved.To s
 turnMoved Reached.Not = Moved.Refuse
 
-abbrev pub endMoved : Reached → Place → ℤ → Moved
+abbrev pub endMoved : Reached → Field → ℤ → Moved
 endMoved (Reached.There s) p z = Moved.Value s p z
 endMoved Reached.Not p z = Moved.Refuse
 
@@ -100,18 +99,18 @@ unfoldable pub turnStep : Turn → ℕ → Moved
 turnStep t b = turnMoved (reach (pick t b) 0 b)
 
 -- behind a number that has ended
-unfoldable pub endStep : Place → ℤ → ℕ → Moved
+unfoldable pub endStep : Field → ℤ → ℕ → Moved
 endStep p z b = endMoved (reach (pick (turnAfter p) b) 0 b) p z
 
-abbrev pub stopMoved : Place → Whole → ℕ → Moved
+abbrev pub stopMoved : Field → Whole → ℕ → Moved
 stopMoved p (Whole.Value z) b = endStep p z b
 stopMoved p Whole.Partial b = Moved.Refuse
 
-abbrev pub numberMoved : Place → Taken → Whole → ℕ → Moved
+abbrev pub numberMoved : Field → Taken → Whole → ℕ → Moved
 numberMoved p (Taken.More m) w b = Moved.To (State.At p m)
 numberMoved p Taken.Stop w b = stopMoved p w b
 
-unfoldable pub numberStep : Place → Numeral → ℕ → Moved
+unfoldable pub numberStep : Field → Numeral → ℕ → Moved
 numberStep p n b = numberMoved p (numStep n b) (whole n) b
 
 unfoldable pub indexStep : State → ℕ → Moved
@@ -126,33 +125,3 @@ GoodState (State.In w k) = k < length (word w)
 GoodState (State.At p n) = NumGood n
 GoodState (State.Before t) = Unit {0}
 GoodState State.Done = Unit {0}
-
--- ---- the sizes of the words
-
-pub word-long : (w : Word) → 0 < length (word w)
-unfolding word bytes
-word-long Word.Window = omega arith
-word-long Word.Width = omega arith
-word-long Word.Windows = omega arith
-word-long Word.Head = omega arith
-word-long Word.Row = omega arith
-word-long Word.Up = omega arith
-word-long Word.Run = omega arith
-word-long Word.Right = omega arith
-word-long Word.RunEnd = omega arith
-word-long Word.RowEnd = omega arith
-word-long Word.End = omega arith
-
-pub word-short : (w : Word) → length (word w) ≤ 15
-unfolding word bytes
-word-short Word.Window = omega arith
-word-short Word.Width = omega arith
-word-short Word.Windows = omega arith
-word-short Word.Head = omega arith
-word-short Word.Row = omega arith
-word-short Word.Up = omega arith
-word-short Word.Run = omega arith
-word-short Word.Right = omega arith
-word-short Word.RunEnd = omega arith
-word-short Word.RowEnd = omega arith
-word-short Word.End = omega arith

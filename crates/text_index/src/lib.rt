@@ -27,7 +27,7 @@ pub enum Word {
 }
 
 // The numbers.
-pub enum Place {
+pub enum Field {
     Window,
     Width,
     Windows,
@@ -47,7 +47,7 @@ pub enum Turn {
 // How far a text has been read: in a word before its byte k; in a number; between two words; at the end.
 pub enum State {
     In(Word, usize),
-    At(Place, Numeral),
+    At(Field, Numeral),
     Before(Turn),
     Done,
 }
@@ -61,7 +61,7 @@ pub enum Reached {
 // What a byte does to a text: it goes on; it ended a number; it ended a row; no text could have it there.
 pub enum Moved {
     To(State),
-    Value(State, Place, i64),
+    Value(State, Field, i64),
     Closed(State),
     Refuse,
 }
@@ -107,14 +107,14 @@ fn word_end(w: Word) -> State
     ensures { λ r. ⌜ r ≡ behind w ⌝ }
 {
     match w {
-        Word::Window => State::At(Place::Window, Numeral::Start),
-        Word::Width => State::At(Place::Width, Numeral::Start),
-        Word::Windows => State::At(Place::Windows, Numeral::Start),
+        Word::Window => State::At(Field::Window, Numeral::Start),
+        Word::Width => State::At(Field::Width, Numeral::Start),
+        Word::Windows => State::At(Field::Windows, Numeral::Start),
         Word::Head => State::Before(Turn::Rows),
-        Word::Row => State::At(Place::Low, Numeral::Start),
-        Word::Up => State::At(Place::Up, Numeral::Start),
-        Word::Run => State::At(Place::Left, Numeral::Start),
-        Word::Right => State::At(Place::Right, Numeral::Start),
+        Word::Row => State::At(Field::Low, Numeral::Start),
+        Word::Up => State::At(Field::Up, Numeral::Start),
+        Word::Run => State::At(Field::Left, Numeral::Start),
+        Word::Right => State::At(Field::Right, Numeral::Start),
         Word::RunEnd => State::Before(Turn::Runs),
         Word::RowEnd => State::Before(Turn::Rows),
         Word::End => State::Done,
@@ -122,17 +122,17 @@ fn word_end(w: Word) -> State
 }
 
 // What may come behind a number.
-fn number_end(p: Place) -> Turn
+fn number_end(p: Field) -> Turn
     ensures { λ r. ⌜ r ≡ turnAfter p ⌝ }
 {
     match p {
-        Place::Window => Turn::One(Word::Width),
-        Place::Width => Turn::One(Word::Windows),
-        Place::Windows => Turn::One(Word::Head),
-        Place::Low => Turn::One(Word::Up),
-        Place::Up => Turn::Runs,
-        Place::Left => Turn::One(Word::Right),
-        Place::Right => Turn::One(Word::RunEnd),
+        Field::Window => Turn::One(Word::Width),
+        Field::Width => Turn::One(Word::Windows),
+        Field::Windows => Turn::One(Word::Head),
+        Field::Low => Turn::One(Word::Up),
+        Field::Up => Turn::Runs,
+        Field::Left => Turn::One(Word::Right),
+        Field::Right => Turn::One(Word::RunEnd),
     }
 }
 
@@ -215,7 +215,7 @@ fn step_turn(t: Turn, b: u8) -> Moved
 }
 
 // The byte behind a number that has ended.
-fn step_end(p: Place, z: i64, b: u8) -> Moved
+fn step_end(p: Field, z: i64, b: u8) -> Moved
     ensures { λ r. ⌜ r ≡ endStep p z b ⌝ }
 {
     match arrive(picked(number_end(p), b), 0, b) {
@@ -224,7 +224,7 @@ fn step_end(p: Place, z: i64, b: u8) -> Moved
     }
 }
 
-fn step_number(p: Place, n: Numeral, b: u8) -> Moved
+fn step_number(p: Field, n: Numeral, b: u8) -> Moved
     requires { ⌜ NumGood n ⌝ }
     ensures { λ r. ⌜ r ≡ numberStep p n b ⌝ }
 {

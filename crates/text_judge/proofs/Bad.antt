@@ -1,4 +1,4 @@
--- The tally has the first bad row: numbers that the code's types do not hold become numbers outside every limit, so that a head, a run, a range and a row are judged as the meanings judge them (`text-bad`), and where the rows are good their counts are the text's (`rows-counted`). Assumes nothing.
+-- The tally has the first bad row: numbers that the code's types do not hold become numbers outside every limit, so that a head, a run, a range and a row are judged as the meanings judge them (`text-bad`), and where the rows are good their counts are the text's (`rows-counted`).
 use mathlib.Core.Path.{_≡_, refl, sym, ap, _∙_, subst}
 use mathlib.Core.Bool.{Bool, true, false, cond, _&&_, false≢true}
 use mathlib.Core.List.{List, [], _∷_, map}

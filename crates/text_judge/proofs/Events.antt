@@ -1,4 +1,4 @@
--- What an event does to the loop that judges a text: what is left of the text comes to what the text comes to, and no count is above the bytes read (`Scanning`). Assumes nothing.
+-- What an event does to the loop that judges a text: what is left of the text comes to what the text comes to, and no count is above the bytes read (`Scanning`).
 use mathlib.Core.Path.{_≡_}
 use mathlib.Core.List.{List}
 use Prim.Native.Nat.{ℕ, _+_, _<_}
@@ -6,13 +6,15 @@ use lib.IntN.{ℤ, pos}
 use lib.ListN.{length, getD}
 use Rattle.meaning_text.specs.Read.{unfit}
 use Rattle.meaning_text.proofs.Automaton.{atEnd}
-use Rattle.text_index.specs.declared.Place.{Place}
+use Rattle.text_index.specs.declared.Field.{Field}
 use Rattle.text_index.specs.declared.State.{State}
 use Rattle.text_index.specs.declared.Moved.{Moved}
 use Rattle.text_index.specs.Step.{indexStep}
-use Rattle.text_index.specs.View.{keptAt, endOf, Whole, Kept, kept-to, kept-value, kept-closed, kept-refuse, kept-end}
+use Rattle.text_index.specs.View.{keptAt}
+use Rattle.text_index.proofs.View.{endOf, Whole, Kept, kept-to, kept-value, kept-closed, kept-refuse, kept-end}
 use Rattle.text_event.specs.declared.Event.{Event}
-use Rattle.text_event.specs.Event.{Quiet, RunAt, RunsFrom, EventAt, atRuns, quiet-keeps, value-keeps, run-keeps, row-keeps, runs-keeps}
+use Rattle.text_event.specs.Event.{Quiet, RunAt, RunsFrom, EventAt, atRuns}
+use Rattle.text_event.proofs.EventLaws.{quiet-keeps, value-keeps, run-keeps, row-keeps, runs-keeps}
 use Rattle.text_judge.specs.declared.Tally.{Tally}
 use Rattle.text_judge.specs.Tally.{startTally, tellTally, shutTally, toldRun, Fits}
 use Rattle.text_judge.proofs.Seen.{same-fits, tell-fits, shut-fits}
@@ -24,7 +26,7 @@ module _ (text : List ℕ) where
   to : (s : State) (t : Tally) (i : ℕ) → Scanning s t i → i < length text → (n : State) → indexStep s (getD text i 0) ≡ Moved.To n → Scanning n t (i + 1)
   to s t i r h n e = (kept-to tellTally shutTally startTally text s t i (r .0) h n e, same-fits t i (r .1))
 
-  value : (s : State) (t : Tally) (i : ℕ) → Scanning s t i → i < length text → (n : State) (p : Place) (z : ℤ) → indexStep s (getD text i 0) ≡ Moved.Value n p z → Scanning n (tellTally p z t) (i + 1)
+  value : (s : State) (t : Tally) (i : ℕ) → Scanning s t i → i < length text → (n : State) (p : Field) (z : ℤ) → indexStep s (getD text i 0) ≡ Moved.Value n p z → Scanning n (tellTally p z t) (i + 1)
   value s t i r h n p z e = (kept-value tellTally shutTally startTally text s t i (r .0) h n p z e, tell-fits p z t i (r .1))
 
   -- runs one after the other
@@ -42,10 +44,10 @@ module _ (text : List ℕ) where
     pub scan-run : {u : Tally} (l z j : ℕ) → EventAt text s i (Event.Run l z j) → u ≡ toldRun l z t → Scanning atRuns u j
     scan-run l z j e told = rw told (run-keeps tellTally text Scanning to value t (e .1) (rw (e .0) at r))
 
-    pub scan-row : {u : Tally} (low up : ℤ) (l z j : ℕ) → EventAt text s i (Event.Row low up l z j) → u ≡ toldRun l z (tellTally Place.Up up (tellTally Place.Low low t)) → Scanning atRuns u j
+    pub scan-row : {u : Tally} (low up : ℤ) (l z j : ℕ) → EventAt text s i (Event.Row low up l z j) → u ≡ toldRun l z (tellTally Field.Up up (tellTally Field.Low low t)) → Scanning atRuns u j
     scan-row low up l z j e told = rw told (row-keeps tellTally text Scanning to value t (e .1) (rw (e .0) at r))
 
-    pub scan-value : (n : State) (p : Place) (z : ℤ) (j : ℕ) → EventAt text s i (Event.Value n p z j) → Scanning n (tellTally p z t) j
+    pub scan-value : (n : State) (p : Field) (z : ℤ) (j : ℕ) → EventAt text s i (Event.Value n p z j) → Scanning n (tellTally p z t) j
     scan-value n p z j e = value-keeps tellTally text Scanning to value t e r
 
     pub scan-closed : (n : State) (j : ℕ) → EventAt text s i (Event.Closed n j) → Scanning n (shutTally t) j

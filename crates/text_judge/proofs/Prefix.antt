@@ -1,4 +1,4 @@
--- A text whose rows are all good: each row stands where it should and its numbers are held as they are (`row-placed`), and so are the ends of all runs (`runs-held`). Assumes nothing.
+-- A text whose rows are all good: each row stands where it should and its numbers are held as they are (`row-placed`), and so are the ends of all runs (`runs-held`).
 use mathlib.Core.Path.{_≡_, refl, sym, ap, _∙_, subst}
 use mathlib.Core.Bool.{true, false, _&&_, false≢true}
 use mathlib.Core.List.{List, [], _∷_, _++_, map}

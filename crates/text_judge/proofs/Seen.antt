@@ -1,4 +1,4 @@
--- The tally is a view of what has been said, so that a pass over a text comes to the text's own head and rows (`text-scanned`); its counts stay small (`tell-fits`, `shut-fits`). Assumes nothing.
+-- The tally is a view of what has been said, so that a pass over a text comes to the text's own head and rows (`text-scanned`); its counts stay small (`tell-fits`, `shut-fits`).
 use mathlib.Core.Path.{_≡_, refl, sym, ap, _∙_}
 use mathlib.Core.Bool.{_&&_}
 use mathlib.Core.List.{List, [], _∷_, _++_}
@@ -16,10 +16,10 @@ use Rattle.meaning_text.proofs.Automaton.{verdictOf}
 use Rattle.meaning_text.proofs.Reading.{on-flag}
 use Rattle.rows_judge.proofs.Scan.{both, runGood, good-run}
 use Rattle.numbers.specs.Narrow.{clamp}
-use Rattle.text_index.specs.declared.Place.{Place}
-use Rattle.text_index.specs.Follow.{Said, told, closed, value}
-use Rattle.text_index.specs.Order.{placePart, Order}
-use Rattle.text_index.specs.View.{endOf, Whole, text-viewed}
+use Rattle.text_index.specs.declared.Field.{Field}
+use Rattle.text_index.proofs.Follow.{Said, told, closed, value}
+use Rattle.text_index.proofs.Order.{placePart, Order}
+use Rattle.text_index.proofs.View.{endOf, Whole, text-viewed}
 use Rattle.text_judge.specs.declared.Runs.{Runs}
 use Rattle.text_judge.specs.declared.Rows.{Rows}
 use Rattle.text_judge.specs.declared.Tally.{Tally}
@@ -49,15 +49,15 @@ tallyOf g = record {
   row = record { low = clamp (g .low); up = clamp (g .up); left = held (g .left); runs = runsFrom (held (g .windows)) noRuns (g .runs) };
 }
 
-pub tells : (p : Place) (z : ℤ) (g : Said) → Order (placePart p) g → tallyOf (told p z g) ≡ tellTally p z (tallyOf g)
+pub tells : (p : Field) (z : ℤ) (g : Said) → Order (placePart p) g → tallyOf (told p z g) ≡ tellTally p z (tallyOf g)
 unfolding tellTally runsFrom rowsFrom
-tells Place.Window z g o = rw (o .0, o .1) refl
-tells Place.Width z g o = rw (o .0, o .1) refl
-tells Place.Windows z g o = rw (o .0, o .1) refl
-tells Place.Low z g o = refl
-tells Place.Up z g o = refl
-tells Place.Left z g o = refl
-tells Place.Right z g o = rw (runs-more (held (g .windows)) noRuns (g .runs) (g .left, z)) refl
+tells Field.Window z g o = rw (o .0, o .1) refl
+tells Field.Width z g o = rw (o .0, o .1) refl
+tells Field.Windows z g o = rw (o .0, o .1) refl
+tells Field.Low z g o = refl
+tells Field.Up z g o = refl
+tells Field.Left z g o = refl
+tells Field.Right z g o = rw (runs-more (held (g .windows)) noRuns (g .runs) (g .left, z)) refl
 
 pub shuts : (g : Said) → tallyOf (closed g) ≡ shutTally (tallyOf g)
 unfolding shutTally runsFrom
@@ -78,7 +78,7 @@ text-said : (x : Verdict (Value indexForm)) → said (verdictOf scannedText x) �
 text-said (fine v) = refl
 text-said (unfit p) = refl
 
-pub start-is : tallyOf (Rattle.text_index.specs.Follow.nothingSaid) ≡ startTally
+pub start-is : tallyOf (Rattle.text_index.proofs.Follow.nothingSaid) ≡ startTally
 unfolding held runsFrom rowsFrom
 start-is = refl
 
@@ -120,15 +120,15 @@ start-fits = record { sound = no-sound; rows = omega arith; runs = omega arith }
 pub same-fits : (t : Tally) (i : ℕ) → Fits t i → Fits t (i + 1)
 same-fits t i f = record { sound = f .sound; rows = omega (arith, f .rows); runs = omega (arith, f .runs) }
 
-pub tell-fits : (p : Place) (z : ℤ) (t : Tally) (i : ℕ) → Fits t i → Fits (tellTally p z t) (i + 1)
+pub tell-fits : (p : Field) (z : ℤ) (t : Tally) (i : ℕ) → Fits t i → Fits (tellTally p z t) (i + 1)
 unfolding tellTally
-tell-fits Place.Window z t i f = record { sound = f .sound; rows = omega (arith, f .rows); runs = omega (arith, f .runs) }
-tell-fits Place.Width z t i f = record { sound = f .sound; rows = omega (arith, f .rows); runs = omega (arith, f .runs) }
-tell-fits Place.Windows z t i f = record { sound = f .sound; rows = omega (arith, f .rows); runs = omega (arith, f .runs) }
-tell-fits Place.Low z t i f = record { sound = f .sound; rows = omega (arith, f .rows); runs = omega (arith, f .runs) }
-tell-fits Place.Up z t i f = record { sound = no-sound; rows = omega (arith, f .rows); runs = omega (arith, f .runs) }
-tell-fits Place.Left z t i f = record { sound = f .sound; rows = omega (arith, f .rows); runs = omega (arith, f .runs) }
-tell-fits Place.Right z t i f =
+tell-fits Field.Window z t i f = record { sound = f .sound; rows = omega (arith, f .rows); runs = omega (arith, f .runs) }
+tell-fits Field.Width z t i f = record { sound = f .sound; rows = omega (arith, f .rows); runs = omega (arith, f .runs) }
+tell-fits Field.Windows z t i f = record { sound = f .sound; rows = omega (arith, f .rows); runs = omega (arith, f .runs) }
+tell-fits Field.Low z t i f = record { sound = f .sound; rows = omega (arith, f .rows); runs = omega (arith, f .runs) }
+tell-fits Field.Up z t i f = record { sound = no-sound; rows = omega (arith, f .rows); runs = omega (arith, f .runs) }
+tell-fits Field.Left z t i f = record { sound = f .sound; rows = omega (arith, f .rows); runs = omega (arith, f .runs) }
+tell-fits Field.Right z t i f =
     let n = count-next (t .head .windows) (t .row .runs) (t .row .left) (held z) in
     record { sound = sound-next (t .head .windows) (t .row .runs) (t .row .left) (held z) (held-most z) (f .sound); rows = omega (arith, f .rows); runs = omega (arith, f .runs, n) }
 

@@ -1,4 +1,4 @@
--- What judging an index text said, by the head and the rows that it came to. Assumes nothing.
+-- What judging an index text said, by the head and the rows that it came to.
 use mathlib.Core.Bool.{cond}
 use mathlib.Core.List.{[]}
 use Rattle.meaning_rows.specs.declared.Head.{Head}

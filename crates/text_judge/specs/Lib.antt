@@ -1,3 +1,3 @@
--- What is known of an index text after some of its bytes (`Tally`), and what judging it said (`Judged`).
+-- What the contracts of text_judge cite.
 pub mod Tally
 pub mod Judged

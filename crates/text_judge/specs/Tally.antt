@@ -1,4 +1,4 @@
--- What is known of an index text so far: its head, its closed rows and its open row, in numbers of the types that the code has, and how a number and a row's end move it. Assumes nothing.
+-- What is known of an index text so far: its head, its closed rows and its open row, in numbers of the types that the code has, and how a number and a row's end move it.
 use mathlib.Core.Bool.{Bool, true, false, cond, _&&_}
 use mathlib.Core.List.{List, [], _∷_}
 use Prim.Native.Nat.{ℕ, _+_, _-_, _≤_}
@@ -13,7 +13,7 @@ use Rattle.meaning_text.specs.Read.{Verdict, fine, unfit}
 use Rattle.meaning_text.specs.Texts.{indexForm, rowForm}
 use Rattle.rows_judge.proofs.Scan.{runGood}
 use Rattle.numbers.specs.Narrow.{clamp, held}
-use Rattle.text_index.specs.declared.Place.{Place}
+use Rattle.text_index.specs.declared.Field.{Field}
 use Rattle.text_judge.specs.declared.Runs.{Runs}
 use Rattle.text_judge.specs.declared.Open.{Open}
 use Rattle.text_judge.specs.declared.Rows.{Rows}
@@ -73,14 +73,14 @@ abbrev pub withOpen : Open → Tally → Tally
 withOpen o t = record { head = t .head; rows = t .rows; row = o }
 
 -- a number
-unfoldable pub tellTally : Place → ℤ → Tally → Tally
-tellTally Place.Window z t = withHead (record { window = held z; width = t .head .width; windows = t .head .windows }) t
-tellTally Place.Width z t = withHead (record { window = t .head .window; width = held z; windows = t .head .windows }) t
-tellTally Place.Windows z t = withHead (record { window = t .head .window; width = t .head .width; windows = held z }) t
-tellTally Place.Low z t = withOpen (record { low = clamp z; up = t .row .up; left = t .row .left; runs = t .row .runs }) t
-tellTally Place.Up z t = withOpen (record { low = t .row .low; up = clamp z; left = t .row .left; runs = noRuns }) t
-tellTally Place.Left z t = withOpen (record { low = t .row .low; up = t .row .up; left = held z; runs = t .row .runs }) t
-tellTally Place.Right z t = withOpen (record { low = t .row .low; up = t .row .up; left = t .row .left; runs = runNext (t .head .windows) (t .row .runs) (t .row .left) (held z) }) t
+unfoldable pub tellTally : Field → ℤ → Tally → Tally
+tellTally Field.Window z t = withHead (record { window = held z; width = t .head .width; windows = t .head .windows }) t
+tellTally Field.Width z t = withHead (record { window = t .head .window; width = held z; windows = t .head .windows }) t
+tellTally Field.Windows z t = withHead (record { window = t .head .window; width = t .head .width; windows = held z }) t
+tellTally Field.Low z t = withOpen (record { low = clamp z; up = t .row .up; left = t .row .left; runs = t .row .runs }) t
+tellTally Field.Up z t = withOpen (record { low = t .row .low; up = clamp z; left = t .row .left; runs = noRuns }) t
+tellTally Field.Left z t = withOpen (record { low = t .row .low; up = t .row .up; left = held z; runs = t .row .runs }) t
+tellTally Field.Right z t = withOpen (record { low = t .row .low; up = t .row .up; left = t .row .left; runs = runNext (t .head .windows) (t .row .runs) (t .row .left) (held z) }) t
 
 -- a row's end
 unfoldable pub shutTally : Tally → Tally
@@ -92,7 +92,7 @@ shutTally t = record {
 
 -- a run
 abbrev pub toldRun : ℕ → ℕ → Tally → Tally
-toldRun l r t = tellTally Place.Right (pos r) (tellTally Place.Left (pos l) t)
+toldRun l r t = tellTally Field.Right (pos r) (tellTally Field.Left (pos l) t)
 
 -- after i bytes the counts are at most i
 pub record Fits (t : Tally) (i : ℕ) : Type 0 where

@@ -5,7 +5,7 @@ ghost use Prim.Native.Nat.{_+_, _<_, _≤_, _^_};
 ghost use Rattle.meaning_text.specs.Read.{readText};
 ghost use Rattle.meaning_text.specs.Texts.{indexForm};
 ghost use Rattle.meaning_text.proofs.Automaton.{atEnd};
-ghost use Rattle.text_index.specs.declared.Place.{Place};
+ghost use Rattle.text_index.specs.declared.Field.{Field};
 ghost use Rattle.text_index.specs.View.{keptAt};
 ghost use Rattle.text_event.specs.Event.{RunsFrom};
 ghost use Rattle.text_judge.specs.Tally.{noRuns, runNext, Sound, noRows, rowNext, withHead, withOpen, tellTally, shutTally, toldRun, Fits, startTally, scanned, keptScanned};
@@ -26,7 +26,7 @@ use text_event::plain_run;
 use text_event::run_left;
 use text_event::run_length;
 use text_event::run_right;
-use text_index::Place;
+use text_index::Field;
 use text_index::State;
 use text_index::Turn;
 use text_index::Word;
@@ -64,7 +64,7 @@ pub struct Tally {
 }
 
 // What is known of a text up to a place.
-pub struct Told {
+pub struct TallyAt {
     pub tally: Tally,
     pub at: usize,
 }
@@ -186,7 +186,7 @@ fn with_row(t: Tally, low: i32, up: i32, left: u32, runs: Runs) -> Tally
 }
 
 // What a number says.
-pub fn tell(t: Tally, p: Place, z: i64) -> Tally
+pub fn tell(t: Tally, p: Field, z: i64) -> Tally
     requires { ⌜ Sound (t .row .runs) ⌝ }
     requires { ⌜ t .row .runs .count < 2 ^ 63 ⌝ }
     ensures { λ n. ⌜ n ≡ tellTally p z t ⌝ }
@@ -195,13 +195,13 @@ pub fn tell(t: Tally, p: Place, z: i64) -> Tally
     let o = t.row;
     let runs = o.runs;
     match p {
-        Place::Window => with_head(t, hold(z), h.width, h.windows),
-        Place::Width => with_head(t, h.window, hold(z), h.windows),
-        Place::Windows => with_head(t, h.window, h.width, hold(z)),
-        Place::Low => with_row(t, narrow(z), o.up, o.left, runs),
-        Place::Up => with_row(t, o.low, narrow(z), o.left, no_runs()),
-        Place::Left => with_row(t, o.low, o.up, hold(z), runs),
-        Place::Right => {
+        Field::Window => with_head(t, hold(z), h.width, h.windows),
+        Field::Width => with_head(t, h.window, hold(z), h.windows),
+        Field::Windows => with_head(t, h.window, h.width, hold(z)),
+        Field::Low => with_row(t, narrow(z), o.up, o.left, runs),
+        Field::Up => with_row(t, o.low, narrow(z), o.left, no_runs()),
+        Field::Left => with_row(t, o.low, o.up, hold(z), runs),
+        Field::Right => {
             let more = more_run(h.windows, runs, o.left, hold(z));
             with_row(t, o.low, o.up, o.left, more)
         }
@@ -224,13 +224,13 @@ pub fn tell_run(t: Tally, l: u32, r: u32) -> Tally
 pub fn tell_row(t: Tally, low: i64, up: i64, l: u32, r: u32) -> Tally
     requires { ⌜ Sound (t .row .runs) ⌝ }
     requires { ⌜ t .row .runs .count < 2 ^ 63 ⌝ }
-    ensures { λ n. ⌜ n ≡ toldRun l r (tellTally Place.Up up (tellTally Place.Low low t)) ⌝ }
+    ensures { λ n. ⌜ n ≡ toldRun l r (tellTally Field.Up up (tellTally Field.Low low t)) ⌝ }
 {
-    tell_run(tell(tell(t, Place::Low, low), Place::Up, up), l, r)
+    tell_run(tell(tell(t, Field::Low, low), Field::Up, up), l, r)
 }
 
 // What the runs from a place on say, as far as they are small.
-pub fn tell_runs(text: &[u8], t: Tally, at: usize) -> Told
+pub fn tell_runs(text: &[u8], t: Tally, at: usize) -> TallyAt
     requires { ⌜ Fits t at × (at ≤ length (now text)) ⌝ }
     ensures { λ r. ⌜ RunsFrom tellTally (now (text .entry)) t at (r .tally) (r .at) ⌝ }
 {
@@ -239,7 +239,7 @@ pub fn tell_runs(text: &[u8], t: Tally, at: usize) -> Told
     loop {
         let q = plain_run(text, i);
         if q == 0 {
-            return Told { tally, at: i };
+            return TallyAt { tally, at: i };
         }
         tally = tell_run(tally, run_left(q), run_right(q));
         i += run_length(q);

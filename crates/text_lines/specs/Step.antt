@@ -1,8 +1,7 @@
--- What a byte does to a series line or to the program's lines: the words with what stands behind each, the numbers with what may come behind each, and the step of a state. Assumes nothing.
+-- What a byte does to a series line or to the program's lines: the words with what stands behind each, the numbers with what may come behind each, and the step of a state.
 use mathlib.Core.Bool.{Bool, cond}
 use mathlib.Core.List.{List}
-use Prim.Native.Nat.{ℕ, _+_, _<_, _≤_}
-use native.Mathlib.Omega.{arith}
+use Prim.Native.Nat.{ℕ, _+_, _<_}
 use lib.Dec.{ltb, eqb}
 use lib.IntN.{ℤ}
 use lib.ListN.{length, getD}
@@ -12,7 +11,7 @@ use Rattle.text_numbers.specs.declared.Taken.{Taken}
 use Rattle.text_numbers.specs.declared.Whole.{Whole}
 use Rattle.text_numbers.specs.Number.{numStep, whole, NumGood}
 use Rattle.text_lines.specs.declared.Word.{Word}
-use Rattle.text_lines.specs.declared.Place.{Place}
+use Rattle.text_lines.specs.declared.Field.{Field}
 use Rattle.text_lines.specs.declared.Turn.{Turn}
 use Rattle.text_lines.specs.declared.State.{State}
 use Rattle.text_lines.specs.declared.Reached.{Reached}
@@ -34,13 +33,13 @@ word (Word.Space p) = bytes " "
 
 -- the state behind a word
 unfoldable pub behind : Word → State
-behind Word.Window = State.At Place.Window Numeral.Start
-behind Word.Width = State.At Place.Width Numeral.Start
-behind Word.Merge = State.At Place.Merge Numeral.Start
+behind Word.Window = State.At Field.Window Numeral.Start
+behind Word.Width = State.At Field.Width Numeral.Start
+behind Word.Merge = State.At Field.Merge Numeral.Start
 behind Word.Series = State.Before Turn.Series
 behind Word.Find = State.Before Turn.Kind
-behind Word.Raw = State.Before (Turn.One (Word.Space Place.Band))
-behind Word.Normal = State.Before (Turn.One (Word.Space Place.Band))
+behind Word.Raw = State.Before (Turn.One (Word.Space Field.Band))
+behind Word.Normal = State.Before (Turn.One (Word.Space Field.Band))
 behind Word.Query = State.Before Turn.Query
 behind Word.End = State.Done
 behind Word.Line = State.Before Turn.Line
@@ -48,25 +47,25 @@ behind Word.LineEnd = State.Done
 behind (Word.Space p) = State.At p Numeral.Start
 
 -- what may come behind a number
-unfoldable pub turnAfter : Place → Turn
-turnAfter Place.Window = Turn.One Word.Width
-turnAfter Place.Width = Turn.One Word.Merge
-turnAfter Place.Merge = Turn.One Word.Series
-turnAfter Place.Item = Turn.Series
-turnAfter Place.Band = Turn.One (Word.Space Place.Threshold)
-turnAfter Place.Threshold = Turn.One (Word.Space Place.Scale)
-turnAfter Place.Scale = Turn.One (Word.Space Place.Shift)
-turnAfter Place.Shift = Turn.One Word.Query
-turnAfter Place.Asked = Turn.Query
-turnAfter Place.Entry = Turn.Line
+unfoldable pub turnAfter : Field → Turn
+turnAfter Field.Window = Turn.One Word.Width
+turnAfter Field.Width = Turn.One Word.Merge
+turnAfter Field.Merge = Turn.One Word.Series
+turnAfter Field.Item = Turn.Series
+turnAfter Field.Band = Turn.One (Word.Space Field.Threshold)
+turnAfter Field.Threshold = Turn.One (Word.Space Field.Scale)
+turnAfter Field.Scale = Turn.One (Word.Space Field.Shift)
+turnAfter Field.Shift = Turn.One Word.Query
+turnAfter Field.Asked = Turn.Query
+turnAfter Field.Entry = Turn.Line
 
 -- the only word that could begin with the byte
 unfoldable pub pick : Turn → ℕ → Word
 pick (Turn.One w) b = w
-pick Turn.Series b = cond (eqb b 32) (Word.Space Place.Item) Word.Find
+pick Turn.Series b = cond (eqb b 32) (Word.Space Field.Item) Word.Find
 pick Turn.Kind b = cond (eqb b 114) Word.Raw Word.Normal
-pick Turn.Query b = cond (eqb b 32) (Word.Space Place.Asked) Word.End
-pick Turn.Line b = cond (eqb b 32) (Word.Space Place.Entry) Word.LineEnd
+pick Turn.Query b = cond (eqb b 32) (Word.Space Field.Asked) Word.End
+pick Turn.Line b = cond (eqb b 32) (Word.Space Field.Entry) Word.LineEnd
 
 -- the byte is byte k of the word, and where that leads
 unfoldable pub reach : Word → ℕ → ℕ → Reached
@@ -82,7 +81,7 @@ abbrev pub turnMoved : Reached → Moved
 turnMoved (Reached.There s) = Moved.To s
 turnMoved Reached.Not = Moved.Refuse
 
-abbrev pub endMoved : Reached → Place → ℤ → Moved
+abbrev pub endMoved : Reached → Field → ℤ → Moved
 endMoved (Reached.There s) p z = Moved.Value s p z
 endMoved Reached.Not p z = Moved.Refuse
 
@@ -93,18 +92,18 @@ unfoldable pub turnStep : Turn → ℕ → Moved
 turnStep t b = turnMoved (reach (pick t b) 0 b)
 
 -- behind a number that has ended
-unfoldable pub endStep : Place → ℤ → ℕ → Moved
+unfoldable pub endStep : Field → ℤ → ℕ → Moved
 endStep p z b = endMoved (reach (pick (turnAfter p) b) 0 b) p z
 
-abbrev pub stopMoved : Place → Whole → ℕ → Moved
+abbrev pub stopMoved : Field → Whole → ℕ → Moved
 stopMoved p (Whole.Value z) b = endStep p z b
 stopMoved p Whole.Partial b = Moved.Refuse
 
-abbrev pub numberMoved : Place → Taken → Whole → ℕ → Moved
+abbrev pub numberMoved : Field → Taken → Whole → ℕ → Moved
 numberMoved p (Taken.More m) w b = Moved.To (State.At p m)
 numberMoved p Taken.Stop w b = stopMoved p w b
 
-unfoldable pub numberStep : Place → Numeral → ℕ → Moved
+unfoldable pub numberStep : Field → Numeral → ℕ → Moved
 numberStep p n b = numberMoved p (numStep n b) (whole n) b
 
 unfoldable pub lineStep : State → ℕ → Moved
@@ -119,35 +118,3 @@ GoodState (State.In w k) = k < length (word w)
 GoodState (State.At p n) = NumGood n
 GoodState (State.Before t) = Unit {0}
 GoodState State.Done = Unit {0}
-
--- ---- the sizes of the words
-
-pub word-long : (w : Word) → 0 < length (word w)
-unfolding word bytes
-word-long Word.Window = omega arith
-word-long Word.Width = omega arith
-word-long Word.Merge = omega arith
-word-long Word.Series = omega arith
-word-long Word.Find = omega arith
-word-long Word.Raw = omega arith
-word-long Word.Normal = omega arith
-word-long Word.Query = omega arith
-word-long Word.End = omega arith
-word-long Word.Line = omega arith
-word-long Word.LineEnd = omega arith
-word-long (Word.Space p) = omega arith
-
-pub word-short : (w : Word) → length (word w) ≤ 15
-unfolding word bytes
-word-short Word.Window = omega arith
-word-short Word.Width = omega arith
-word-short Word.Merge = omega arith
-word-short Word.Series = omega arith
-word-short Word.Find = omega arith
-word-short Word.Raw = omega arith
-word-short Word.Normal = omega arith
-word-short Word.Query = omega arith
-word-short Word.End = omega arith
-word-short Word.Line = omega arith
-word-short Word.LineEnd = omega arith
-word-short (Word.Space p) = omega arith

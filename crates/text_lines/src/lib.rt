@@ -24,11 +24,11 @@ pub enum Word {
     End,
     Line,
     LineEnd,
-    Space(Place),
+    Space(Field),
 }
 
 // The numbers: the program's, with the values of its series and of its query, and the values of a series line by itself.
-pub enum Place {
+pub enum Field {
     Window,
     Width,
     Merge,
@@ -53,7 +53,7 @@ pub enum Turn {
 // How far a text has been read: in a word before its byte k; in a number; between two words; at the end.
 pub enum State {
     In(Word, usize),
-    At(Place, Numeral),
+    At(Field, Numeral),
     Before(Turn),
     Done,
 }
@@ -67,7 +67,7 @@ pub enum Reached {
 // What a byte does to a text: it goes on; it ended a number; it ended a word of more than one byte; no text could have it there.
 pub enum Moved {
     To(State),
-    Value(State, Place, i64),
+    Value(State, Field, i64),
     Ended(State, Word),
     Refuse,
 }
@@ -115,13 +115,13 @@ fn word_end(w: Word) -> State
     ensures { λ r. ⌜ r ≡ behind w ⌝ }
 {
     match w {
-        Word::Window => State::At(Place::Window, Numeral::Start),
-        Word::Width => State::At(Place::Width, Numeral::Start),
-        Word::Merge => State::At(Place::Merge, Numeral::Start),
+        Word::Window => State::At(Field::Window, Numeral::Start),
+        Word::Width => State::At(Field::Width, Numeral::Start),
+        Word::Merge => State::At(Field::Merge, Numeral::Start),
         Word::Series => State::Before(Turn::Series),
         Word::Find => State::Before(Turn::Kind),
-        Word::Raw => State::Before(Turn::One(Word::Space(Place::Band))),
-        Word::Normal => State::Before(Turn::One(Word::Space(Place::Band))),
+        Word::Raw => State::Before(Turn::One(Word::Space(Field::Band))),
+        Word::Normal => State::Before(Turn::One(Word::Space(Field::Band))),
         Word::Query => State::Before(Turn::Query),
         Word::End => State::Done,
         Word::Line => State::Before(Turn::Line),
@@ -131,20 +131,20 @@ fn word_end(w: Word) -> State
 }
 
 // What may come behind a number.
-fn number_end(p: Place) -> Turn
+fn number_end(p: Field) -> Turn
     ensures { λ r. ⌜ r ≡ turnAfter p ⌝ }
 {
     match p {
-        Place::Window => Turn::One(Word::Width),
-        Place::Width => Turn::One(Word::Merge),
-        Place::Merge => Turn::One(Word::Series),
-        Place::Item => Turn::Series,
-        Place::Band => Turn::One(Word::Space(Place::Threshold)),
-        Place::Threshold => Turn::One(Word::Space(Place::Scale)),
-        Place::Scale => Turn::One(Word::Space(Place::Shift)),
-        Place::Shift => Turn::One(Word::Query),
-        Place::Asked => Turn::Query,
-        Place::Entry => Turn::Line,
+        Field::Window => Turn::One(Word::Width),
+        Field::Width => Turn::One(Word::Merge),
+        Field::Merge => Turn::One(Word::Series),
+        Field::Item => Turn::Series,
+        Field::Band => Turn::One(Word::Space(Field::Threshold)),
+        Field::Threshold => Turn::One(Word::Space(Field::Scale)),
+        Field::Scale => Turn::One(Word::Space(Field::Shift)),
+        Field::Shift => Turn::One(Word::Query),
+        Field::Asked => Turn::Query,
+        Field::Entry => Turn::Line,
     }
 }
 
@@ -156,7 +156,7 @@ fn picked(t: Turn, b: u8) -> Word
         Turn::One(w) => w,
         Turn::Series => {
             if b == 32 {
-                return Word::Space(Place::Item);
+                return Word::Space(Field::Item);
             }
             Word::Find
         }
@@ -168,13 +168,13 @@ fn picked(t: Turn, b: u8) -> Word
         }
         Turn::Query => {
             if b == 32 {
-                return Word::Space(Place::Asked);
+                return Word::Space(Field::Asked);
             }
             Word::End
         }
         Turn::Line => {
             if b == 32 {
-                return Word::Space(Place::Entry);
+                return Word::Space(Field::Entry);
             }
             Word::LineEnd
         }
@@ -220,7 +220,7 @@ fn step_turn(t: Turn, b: u8) -> Moved
 }
 
 // The byte behind a number that has ended.
-fn step_end(p: Place, z: i64, b: u8) -> Moved
+fn step_end(p: Field, z: i64, b: u8) -> Moved
     ensures { λ r. ⌜ r ≡ endStep p z b ⌝ }
 {
     match arrive(picked(number_end(p), b), 0, b) {
@@ -229,7 +229,7 @@ fn step_end(p: Place, z: i64, b: u8) -> Moved
     }
 }
 
-fn step_number(p: Place, n: Numeral, b: u8) -> Moved
+fn step_number(p: Field, n: Numeral, b: u8) -> Moved
     requires { ⌜ NumGood n ⌝ }
     ensures { λ r. ⌜ r ≡ numberStep p n b ⌝ }
 {

@@ -1,2 +1,2 @@
--- The text of a list of matches.
+-- What the contracts of text_list cite.
 pub mod Found

@@ -1,3 +1,2 @@
--- A number read byte by byte, and that it is read as the meanings say.
+-- What the contracts of text_numbers cite.
 pub mod Number
-pub mod Onward

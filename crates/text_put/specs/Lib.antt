@@ -1,3 +1,2 @@
--- What writing bytes into a buffer leaves, and the digits of a number.
+-- What the contracts of text_put cite.
 pub mod Put
-pub mod Digits

@@ -1,72 +1,11 @@
--- Bytes written into a buffer: byte by byte from a place on, as far as there is room; the next place is counted on to one past the end, which says that there was none. Assumes nothing.
-use mathlib.Core.Path.{_≡_, refl, sym, _∙_}
-use mathlib.Core.List.{List, [], _∷_, _++_}
-use mathlib.Core.Logic.{_⊎_, inl, inr, ⊎-elim}
-use mathlib.Core.Bool.{true, false}
-use Prim.Native.Nat.{ℕ, suc, _+_, _<_, _≤_, min}
-use native.Mathlib.Omega.{arith}
-use native.Mathlib.Numerals.{add-one}
-use lib.Dec.{ltb}
-use lib.ListN.{length, take, drop, set, getD, length-append}
-use lib.Seq.{sets, length-sets, sets-eq, set-out, take-suc, take-length}
-use borrow.Author.Tests.{ltb-true, ltb-false}
+-- Bytes written into a buffer: byte by byte from a place on, as far as there is room; the next place is counted on to one past the end, which says that there was none.
+use mathlib.Core.Path.{_≡_}
+use mathlib.Core.List.{List}
+use Prim.Native.Nat.{ℕ, suc, _+_, min}
+use lib.ListN.{length}
+use lib.Seq.{sets}
 
 -- l stands in `new` from place `from` on, as far as there is room, everything else is as in `old`, and `to` is the place behind l or one past the end
 pub record Put (old : List ℕ) (from : ℕ) (l : List ℕ) (new : List ℕ) (to : ℕ) : Type 0 where
   pub holds : new ≡ sets old from l
   pub ends : to ≡ min (from + length l) (suc (length old))
-
-pub sets-append : {A : Type 0} (l m old : List A) (i : ℕ) → sets old i (l ++ m) ≡ sets (sets old i l) (i + length l) m
-sets-append [] m old i = let e : i + 0 ≡ i = omega arith in rw e
-sets-append (b ∷ l) m old i = let e : i + suc (length l) ≡ suc i + length l = omega arith in rw e (sets-append l m (set old i b) (suc i))
-
-sets-out : (l old : List ℕ) (i : ℕ) → length old ≤ i → sets old i l ≡ old
-sets-out [] old i h = refl
-sets-out (b ∷ l) old i h = rw (set-out old i b h) (sets-out l old (suc i) (omega arith))
-
-lt-or : (a b : ℕ) → (a < b) ⊎ (b ≤ a)
-lt-or a b = elim (ltb a b) as (λ t. ltb a b ≡ t → (a < b) ⊎ (b ≤ a)) [ true ↦ (λ e. inl (ltb-true a b e)) | false ↦ (λ e. inr (ltb-false a b e)) ] refl
-
-sets-capped : (l old : List ℕ) (i : ℕ) → sets old (min i (suc (length old))) l ≡ sets old i l
-sets-capped l old i =
-    ⊎-elim
-    (λ h. let e : min i (suc (length old)) ≡ i = omega arith in rw e)
-    (λ h. let e : min i (suc (length old)) ≡ suc (length old) = omega arith in rw e (sets-out l old (suc (length old)) (omega arith) ∙ sym (sets-out l old i (omega arith))))
-    (lt-or i (suc (length old)))
-
-pub put-none : (old : List ℕ) (i j : ℕ) → j ≡ min i (suc (length old)) → Put old i [] old j
-put-none old i j e = record { holds = refl; ends = omega arith }
-
-pub put-then : {a b c l m : List ℕ} {i j k : ℕ} → Put a i l b j → Put b j m c k → Put a i (l ++ m) c k
-put-then {a} {b} {c} {l} {m} {i} {j} {k} p q =
-    let len : length b ≡ length a = rw (p .holds) (length-sets a i l) in
-    let len2 : length (sets a i l) ≡ length a = length-sets a i l in
-    record {
-      holds = q .holds ∙ rw (p .holds, p .ends, ← len2) (sets-capped m (sets a i l) (i + length l)) ∙ sym (sets-append l m a i);
-      ends = q .ends ∙ rw (len, p .ends, length-append l m) (omega arith);
-    }
-
--- a byte that there is no room for
-pub put-out : (old : List ℕ) (i b : ℕ) → length old ≤ i → Put old i (b ∷ []) old (length old + 1)
-put-out old i b h = record { holds = sym (set-out old i b h); ends = omega arith }
-
--- where there was room
-pub put-room : {old l new : List ℕ} {i j : ℕ} → Put old i l new j → j ≤ length old → (j ≡ i + length l) × (new ≡ take i old ++ l ++ drop (i + length l) old)
-put-room {old} {l} {new} {i} {j} p h =
-    let e : j ≡ i + length l = omega (arith, p .ends) in
-    (e, p .holds ∙ sets-eq l old i (omega arith))
-
--- a loop's turn: one byte more of a word
-pub put-turn : {a b c : List ℕ} {i j k : ℕ} (word : List ℕ) (n : ℕ) → n < length word
-    → Put a i (take n word) b j → Put b j (getD word n 0 ∷ []) c k → Put a i (take (n + 1) word) c k
-put-turn word n h p q = rw (add-one, take-suc word n 0) (put-then p q)
-
-pub put-all : {a b : List ℕ} {i j : ℕ} (word : List ℕ) (n : ℕ) → n ≡ length word → Put a i (take n word) b j → Put a i word b j
-put-all word n e p = rw (e, take-length) at p
-
-pub put-length : {old l new : List ℕ} {i j : ℕ} → Put old i l new j → length new ≡ length old
-put-length {old} {l} {new} {i} p = rw (p .holds) (length-sets old i l)
-
--- nothing more, behind what was put
-pub put-stays : {a b l : List ℕ} {i j : ℕ} → Put a i l b j → Put b j [] b j
-put-stays p = record { holds = refl; ends = omega (arith, p .ends, put-length p) }

@@ -1,1 +1,1 @@
--- The reader of texts says what it does by the meanings.
+-- What the contracts of text_reader cite.

@@ -1,4 +1,4 @@
--- The rows that a text is read to, line by line, are the row records of its index, and past them records of zeros (`row-at`, `rows-filled`), where the index is well formed. By what has been said after each line. Assumes nothing.
+-- The rows that a text is read to, line by line, are the row records of its index, and past them records of zeros (`row-at`, `rows-filled`), where the index is well formed. By what has been said after each line.
 use mathlib.Core.Path.{_≡_, refl, sym, ap, _∙_, subst}
 use mathlib.Core.Bool.{true}
 use mathlib.Core.Logic.{_⊎_, inl, inr}
@@ -19,12 +19,12 @@ use Rattle.meaning_text.specs.Form.{Value}
 use Rattle.meaning_text.specs.Read.{fine, unfit, readText}
 use Rattle.meaning_text.specs.Texts.{indexForm, rowForm, rowSaid}
 use Rattle.meaning_text.proofs.Automaton.{going, feed, feed-one, feed-none, on-option, atEnd, judged}
-use Rattle.text_index.specs.declared.Place.{Place}
+use Rattle.text_index.specs.declared.Field.{Field}
 use Rattle.text_index.specs.declared.State.{State}
 use Rattle.text_index.specs.declared.Moved.{Moved}
 use Rattle.text_index.specs.Step.{indexStep, GoodState}
-use Rattle.text_index.specs.Follow.{Said, nothingSaid, told, closed, value, Reading, at, moved, step, accept, acceptState, start, stays, index-comes, some-same, none-some}
-use Rattle.text_index.specs.Order.{placePart, statePart, Order, order-step, order-value}
+use Rattle.text_index.proofs.Follow.{Said, nothingSaid, told, closed, value, Reading, at, moved, step, accept, acceptState, start, stays, index-comes, some-same, none-some}
+use Rattle.text_index.proofs.Order.{placePart, statePart, Order, order-step, order-value}
 use Rattle.numbers.specs.Narrow.{clamp}
 use Rattle.text_judge.specs.declared.Tally.{Tally}
 use Rattle.text_judge.specs.Tally.{noRuns, runsFrom, noRows, rowsFrom, headHeld}
@@ -55,14 +55,14 @@ value-end (State.At q n) g p v e = unfit-fine e
 value-end (State.Before t) g p v e = unfit-fine e
 value-end State.Done g p v e = fine-same e
 
-told-rows : (p : Place) (z : ℤ) (g : Said) → told p z g .rows ≡ g .rows
-told-rows Place.Window z g = refl
-told-rows Place.Width z g = refl
-told-rows Place.Windows z g = refl
-told-rows Place.Low z g = refl
-told-rows Place.Up z g = refl
-told-rows Place.Left z g = refl
-told-rows Place.Right z g = refl
+told-rows : (p : Field) (z : ℤ) (g : Said) → told p z g .rows ≡ g .rows
+told-rows Field.Window z g = refl
+told-rows Field.Width z g = refl
+told-rows Field.Windows z g = refl
+told-rows Field.Low z g = refl
+told-rows Field.Up z g = refl
+told-rows Field.Left z g = refl
+told-rows Field.Right z g = refl
 
 -- rows are only added
 record Grows (g n : Said) : Type 0 where
@@ -94,14 +94,14 @@ rows-begin (b ∷ l) x p v e =
 abbrev SameHead : Said → Said → Type 0
 SameHead g n = headHeld (value g) ≡ headHeld (value n)
 
-told-head : (p : Place) (z : ℤ) (g : Said) → Order (placePart p) g → (g .rows ≡ [] → ⊥) → SameHead g (told p z g)
-told-head Place.Window z g o h = absurd (h (o .0))
-told-head Place.Width z g o h = absurd (h (o .0))
-told-head Place.Windows z g o h = absurd (h (o .0))
-told-head Place.Low z g o h = refl
-told-head Place.Up z g o h = refl
-told-head Place.Left z g o h = refl
-told-head Place.Right z g o h = refl
+told-head : (p : Field) (z : ℤ) (g : Said) → Order (placePart p) g → (g .rows ≡ [] → ⊥) → SameHead g (told p z g)
+told-head Field.Window z g o h = absurd (h (o .0))
+told-head Field.Width z g o h = absurd (h (o .0))
+told-head Field.Windows z g o h = absurd (h (o .0))
+told-head Field.Low z g o h = refl
+told-head Field.Up z g o h = refl
+told-head Field.Left z g o h = refl
+told-head Field.Right z g o h = refl
 
 head-as : (g : Said) {n m : Reading} → n ≡ m → SameHead g (n .said) → SameHead g (m .said)
 head-as g e h = h ∙ ap (λ (x : Reading). headHeld (value (x .said))) e

@@ -1,4 +1,4 @@
--- An event of the loop that reads on to the end of a row: what is left of the text comes to the same line (`Going`). A line that has been read can be read on (`next-ready`). Assumes nothing.
+-- An event of the loop that reads on to the end of a row: what is left of the text comes to the same line (`Going`). A line that has been read can be read on (`next-ready`).
 use mathlib.Core.Path.{_≡_, refl, sym, ap, _∙_, subst}
 use mathlib.Core.List.{List, [], _∷_}
 use Prim.Native.Nat.{ℕ, zero, suc, _+_, _<_, _≤_}
@@ -8,19 +8,20 @@ use lib.IntN.{ℤ}
 use lib.ListN.{length, getD, set, drop, length-set, drop-of-length-le, length-drop}
 use lib.Seq.{drop-cons}
 use Rattle.meaning_rows.specs.declared.Row.{Row}
-use Rattle.text_index.specs.declared.Place.{Place}
+use Rattle.text_index.specs.declared.Field.{Field}
 use Rattle.text_index.specs.declared.State.{State}
 use Rattle.text_index.specs.declared.Moved.{Moved}
 use Rattle.text_index.specs.Step.{indexStep, GoodState}
-use Rattle.text_index.specs.Follow.{index-good}
-use Rattle.text_index.specs.View.{step-good}
+use Rattle.text_index.proofs.Follow.{index-good}
+use Rattle.text_index.proofs.View.{step-good}
 use Rattle.text_event.specs.declared.Event.{Event}
-use Rattle.text_event.specs.Event.{Quiet, RunsFrom, EventAt, atRuns, quiet-keeps, value-keeps, run-keeps, row-keeps, runs-keeps}
+use Rattle.text_event.specs.Event.{Quiet, RunsFrom, EventAt, atRuns}
+use Rattle.text_event.proofs.EventLaws.{quiet-keeps, value-keeps, run-keeps, row-keeps, runs-keeps}
 use Rattle.text_judge.specs.declared.Tally.{Tally}
 use Rattle.text_judge.specs.Tally.{tellTally, shutTally, toldRun, Fits}
 use Rattle.text_judge.proofs.Seen.{start-fits, same-fits, tell-fits, shut-fits}
 use Rattle.text_rows.specs.declared.Line.{Line}
-use Rattle.text_rows.specs.Line.{rowMade, lineEnd, lineFrom, nextLine, lineAt, stored, Ready}
+use Rattle.text_rows.specs.Line.{rowMade, lineEnd, lineFrom, noLine, nextLine, lineAt, stored, Ready}
 
 -- what a byte does
 abbrev lineMoved : Moved → State → Tally → ℕ → List ℕ → Line
@@ -64,7 +65,7 @@ module _ (text : List ℕ) (s₀ : State) (t₀ : Tally) (i₀ : ℕ) where
     going-to : (n : State) → indexStep s (getD text i 0) ≡ Moved.To n → Going n t (i + 1)
     going-to n e = next (Moved.To n) n t e (step-good s (getD text i 0) (Moved.To n) (r .good) e) (same-fits t i (r .fits)) refl
 
-    going-value : (n : State) (q : Place) (z : ℤ) → indexStep s (getD text i 0) ≡ Moved.Value n q z → Going n (tellTally q z t) (i + 1)
+    going-value : (n : State) (q : Field) (z : ℤ) → indexStep s (getD text i 0) ≡ Moved.Value n q z → Going n (tellTally q z t) (i + 1)
     going-value n q z e = next (Moved.Value n q z) n (tellTally q z t) e (step-good s (getD text i 0) (Moved.Value n q z) (r .good) e) (tell-fits q z t i (r .fits)) refl
 
     going-closed : (n : State) → indexStep s (getD text i 0) ≡ Moved.Closed n → record { state = n; at = i + 1; tally = shutTally t; row = rowMade t } ≡ whole
@@ -88,10 +89,10 @@ module _ (text : List ℕ) (s₀ : State) (t₀ : Tally) (i₀ : ℕ) where
     pub line-run : {u : Tally} (l z j : ℕ) → EventAt text s i (Event.Run l z j) → u ≡ toldRun l z t → Going atRuns u j
     line-run l z j e told = rw told (run-keeps tellTally text Going going-to going-value t (e .1) (rw (e .0) at r))
 
-    pub line-row : {u : Tally} (low up : ℤ) (l z j : ℕ) → EventAt text s i (Event.Row low up l z j) → u ≡ toldRun l z (tellTally Place.Up up (tellTally Place.Low low t)) → Going atRuns u j
+    pub line-row : {u : Tally} (low up : ℤ) (l z j : ℕ) → EventAt text s i (Event.Row low up l z j) → u ≡ toldRun l z (tellTally Field.Up up (tellTally Field.Low low t)) → Going atRuns u j
     line-row low up l z j e told = rw told (row-keeps tellTally text Going going-to going-value t (e .1) (rw (e .0) at r))
 
-    pub line-value : (n : State) (p : Place) (z : ℤ) (j : ℕ) → EventAt text s i (Event.Value n p z j) → Going n (tellTally p z t) j
+    pub line-value : (n : State) (p : Field) (z : ℤ) (j : ℕ) → EventAt text s i (Event.Value n p z j) → Going n (tellTally p z t) j
     line-value n p z j e = value-keeps tellTally text Going going-to going-value t e r
 
     pub line-closed : (n : State) (j : ℕ) → EventAt text s i (Event.Closed n j) → record { state = n; at = j; tally = shutTally t; row = rowMade t } ≡ whole
@@ -135,8 +136,16 @@ pub stored-none : (text : List ℕ) (rows : List Row) → stored text 0 rows ≡
 unfolding stored
 stored-none text rows = refl
 
-pub stored-more : (text : List ℕ) (n : ℕ) (rows : List Row) → stored text (n + 1) rows ≡ set (stored text n rows) n (lineAt text (suc n) .row)
-unfolding stored
+pub line-none : (text : List ℕ) → noLine ≡ lineAt text 0
+unfolding lineAt
+line-none text = refl
+
+pub line-more : (text : List ℕ) (k : ℕ) → nextLine text (lineAt text k) ≡ lineAt text (k + 1)
+unfolding lineAt
+line-more text k = rw (add-one k) refl
+
+pub stored-more : (text : List ℕ) (n : ℕ) (rows : List Row) → stored text (n + 1) rows ≡ set (stored text n rows) n (nextLine text (lineAt text n) .row)
+unfolding stored lineAt
 stored-more text n rows = rw (add-one n) refl
 
 pub length-stored : (text : List ℕ) (n : ℕ) (rows : List Row) → length (stored text n rows) ≡ length rows

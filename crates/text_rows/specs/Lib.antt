@@ -1,2 +1,2 @@
--- A text read row by row (`Line`).
+-- What the contracts of text_rows cite.
 pub mod Line

@@ -1,4 +1,4 @@
--- An index text read on to the end of its next row, as often as rows are wanted. Assumes nothing.
+-- An index text read on to the end of its next row, as often as rows are wanted.
 use mathlib.Core.List.{List, [], _∷_}
 use Prim.Native.Nat.{ℕ, zero, suc, _≤_, min}
 use lib.ListN.{set, drop}

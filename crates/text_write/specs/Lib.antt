@@ -1,2 +1,2 @@
--- The parts of an index text, as the code writes them.
+-- What the contracts of text_write cite.
 pub mod Write

@@ -1,15 +1,12 @@
--- Answers taken apart: a place that was found or not (`place-at`, `place-none`), kinds by number (`kind-normal`). Assumes nothing.
-use mathlib.Core.Path.{_≡_, refl, sym, subst, _∙_}
+-- Answers taken apart: a place that was found or not (`place-at`, `place-none`), kinds by number (`kind-normal`).
+use mathlib.Core.Path.{_≡_, refl, sym, subst}
 use mathlib.Core.Bool.{Bool, true, false}
 use mathlib.Core.Option.{Option, none, some}
-use Prim.Native.Nat.{ℕ, zero, suc}
+use Prim.Native.Nat.{ℕ}
 use lib.Dec.{T}
-use Rattle.meaning_filter.specs.declared.Kind.{Kind}
-use Rattle.meaning_filter.specs.declared.Kind.the-variants.{Raw, Normal}
 use Rattle.values.specs.declared.Place.{Place}
 use Rattle.values.specs.declared.Place.the-variants.{At, Nowhere}
 use Rattle.values.specs.Place.{placed}
-use Rattle.try_c_distance.specs.Told.{placeOr, kindOf}
 
 abbrev missing : Place → Bool
 missing (At p) = false
@@ -21,21 +18,3 @@ none-placed (some p) e = absurd (subst (λ (x : Place). T (missing x)) (sym e) t
 
 pub some-placed : {o : Option ℕ} {p : ℕ} → o ≡ none → placed o ≡ At p → ⊥
 some-placed e f = subst (λ (x : Place). T (missing x)) (rw e at f) tt
-
-pub place-at : (n : ℕ) (o : Option ℕ) {p : ℕ} → placed o ≡ At p → p ≡ placeOr n o
-place-at n none e = absurd (some-placed refl e)
-place-at n (some p) e = cc
-
-pub place-none : (n : ℕ) (o : Option ℕ) → placed o ≡ Nowhere → n ≡ placeOr n o
-place-none n o e = rw (none-placed o e)
-
-abbrev raw : Kind → Bool
-raw Raw = true
-raw Normal = false
-
-pub raw-normal : {kind : Kind} → kind ≡ Raw → kind ≡ Normal → ⊥
-raw-normal e f = subst (λ (k : Kind). T (raw k)) (sym e ∙ f) tt
-
-pub kind-normal : (n : ℕ) → (n ≡ 0 → ⊥) → Normal ≡ kindOf n
-kind-normal zero f = absurd (f refl)
-kind-normal (suc n) f = refl

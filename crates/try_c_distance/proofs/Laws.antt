@@ -1,4 +1,4 @@
--- A buffer is written entry by entry (`written-none`, `written-more`), and an outcome is one of two (`outcome-yes`, `outcome-no`). Room holds the last normalised values (`normal-next`). Assumes nothing.
+-- A buffer is written entry by entry (`written-none`, `written-more`), and an outcome is one of two (`outcome-yes`, `outcome-no`). Room holds the last normalised values (`normal-next`).
 use borrow.Author.Count.{below-none, below-more}
 use mathlib.Core.Path.{_≡_, refl, sym, subst, _∙_}
 use mathlib.Core.List.{List}

@@ -1,4 +1,4 @@
--- What is tested once of an input. Assumes nothing.
+-- What is tested once of an input.
 use mathlib.Core.List.{List}
 use Prim.Native.Nat.{ℕ, _+_, _<_, _≤_}
 use lib.IntN.{ℤ}

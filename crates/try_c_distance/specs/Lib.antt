@@ -1,4 +1,4 @@
--- What is tested once of an input, and what each function for C leaves.
+-- What the contracts of try_c_distance cite.
 pub mod Fits
 pub mod Outcome
 pub mod Told

@@ -1,4 +1,4 @@
--- What a call leaves: a buffer whose first entries are written (`Written`), and an answer that tells an input that was taken from one that was refused (`Outcome`). Assumes nothing.
+-- What a call leaves: a buffer whose first entries are written (`Written`), and an answer that tells an input that was taken from one that was refused (`Outcome`).
 use mathlib.Core.Path.{_≡_}
 use mathlib.Core.List.{List}
 use Prim.Native.Nat.{ℕ, _<_, _≤_}

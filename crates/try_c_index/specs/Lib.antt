@@ -1,2 +1,2 @@
--- What the contracts of the entries for C cite.
+-- What the contracts of try_c_index cite.
 pub mod Told

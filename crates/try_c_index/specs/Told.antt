@@ -1,4 +1,4 @@
--- Answers as C is told them: a kind, which is 3 where the call is refused, a head where the answer has one, and two numbers. Assumes nothing.
+-- Answers as C is told them: a kind, which is 3 where the call is refused, a head where the answer has one, and two numbers.
 use mathlib.Core.Path.{_≡_}
 use Prim.Native.Nat.{ℕ}
 use Rattle.meaning_rows.specs.declared.Head.{Head}

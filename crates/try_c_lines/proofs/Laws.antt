@@ -1,4 +1,4 @@
--- Pieces one behind another come to what the text to there comes to (`begins`, `goes-on`, `fails`, `ends`), and what a whole text comes to is what is told (`told`). Assumes nothing.
+-- Pieces one behind another come to what the text to there comes to (`begins`, `goes-on`, `fails`, `ends`), and what a whole text comes to is what is told (`told`).
 use mathlib.Core.Path.{_≡_, refl, sym, ap, subst, _∙_}
 use mathlib.Core.Bool.{Bool, true, false}
 use mathlib.Core.List.{List}
@@ -13,15 +13,17 @@ use Rattle.meaning_text.specs.Texts.{seriesForm, programForm}
 use Rattle.meaning_text.proofs.Automaton.{going, feed, feed-append, judged}
 use Rattle.text_lines.specs.declared.Word.{Word}
 use Rattle.text_lines.specs.declared.State.{State}
-use Rattle.text_lines.specs.Step.{word-long}
-use Rattle.text_lines.specs.Follow.{Said, Reading, step, accept, programStart, seriesStart, programValue, seriesValue, program-comes, series-comes}
+use Rattle.text_lines.proofs.Step.{word-long}
+use Rattle.text_lines.specs.Follow.{Said, Reading, step, programStart, seriesStart, programValue, seriesValue}
+use Rattle.text_lines.proofs.Follow.{accept, program-comes, series-comes}
 use Rattle.text_feed.specs.declared.Progress.{Progress}
 use Rattle.text_feed.specs.declared.Feeding.{Feeding}
-use Rattle.text_feed.specs.Keep.{kept-none}
+use Rattle.text_feed.proofs.Keep.{kept-none}
 use Rattle.text_feed.specs.Feed.{Shows, Comes as Takes}
-use Rattle.text_feed.specs.Whole.{shows-then, shows-failed, text-failed, text-done, text-short}
+use Rattle.text_feed.proofs.Whole.{shows-then, shows-failed, text-failed, text-done, text-short}
 use Rattle.try_c_lines.specs.Told.{TextTold, says, bad, LinesTold, answerTold, endTold}
-use Rattle.try_c_lines.specs.Piece.{startOf, begun, Stands, Comes, Fed as Piece}
+use Rattle.try_c_lines.specs.Piece.{startOf, begun, Stands, Fed as Piece}
+use Rattle.try_c_lines.proofs.PieceLaws.{Comes}
 
 -- ---- piece by piece
 

@@ -1,3 +1,3 @@
--- What the contracts of the lines for C cite: a piece more (`Piece`), and what is told of the whole text (`Told`).
+-- What the contracts of try_c_lines cite.
 pub mod Told
 pub mod Piece

@@ -1,17 +1,15 @@
--- A text of which some bytes have been read (`Stands`), and one more piece (`Fed`). Assumes nothing.
+-- A text of which some bytes have been read (`Stands`), and one more piece (`Fed`).
 use mathlib.Core.Path.{_≡_}
 use mathlib.Core.Bool.{Bool, true, false}
 use mathlib.Core.List.{List}
 use Prim.Native.Nat.{ℕ, _-_, _≤_}
 use lib.IntN.{ℤ}
 use lib.ListN.{length, take, drop}
-use Rattle.meaning_text.proofs.Automaton.{going, feed}
 use Rattle.text_lines.specs.Step.{GoodState}
-use Rattle.text_lines.specs.Follow.{Said, nothingSaid, Reading, step, programStart, seriesStart}
+use Rattle.text_lines.specs.Follow.{Said, Reading, programStart, seriesStart}
 use Rattle.text_feed.specs.declared.Progress.{Progress}
 use Rattle.text_feed.specs.declared.Feeding.{Feeding}
-use Rattle.text_feed.specs.Keep.{numbersOf}
-use Rattle.text_feed.specs.Feed.{GoodFeeding, Shows, Comes as Takes}
+use Rattle.text_feed.specs.Feed.{GoodFeeding, Comes as Takes}
 use Rattle.text_feed.specs.Whole.{noValues}
 
 -- where the program's lines begin, and a series line
@@ -29,10 +27,6 @@ pub record Stands (n : ℕ) (p : Progress) : Type 0 where
   pub series : p .series .count ≤ p .at
   pub query : p .query .count ≤ p .at
   pub inside : p .at ≤ n
-
--- the answer shows what a text comes to, where the buffers were these at first
-pub record Comes (program : Bool) (text : List ℕ) (numbers series query : List ℤ) (r : Feeding) (numbers' series' query' : List ℤ) : Type 0 where
-  pub shows : numbers ≡ numbersOf nothingSaid → Shows series query r (feed step (going (startOf program) 0) text) numbers' series' query'
 
 -- the bytes to `end` were read, and the buffers have their lengths
 pub record Fed (text : List ℕ) (end : ℕ) (p : Progress) (r : Feeding) (numbers series query numbers' series' query' : List ℤ) : Type 0 where

@@ -1,4 +1,4 @@
-// The program's lines and the series line read in pieces, for C: for the comparison under tests/ and for nothing else. What is told and kept is said in specs/Told.antt.
+// The program's lines and the series line read in pieces, for C: for the comparison under tests/ and for nothing else. What is told and kept is said in specs/Lines.antt.
 use text_feed::Feeding;
 use text_feed::Progress;
 use text_feed::Values;
@@ -15,7 +15,7 @@ ghost use Rattle.try_c_lines.specs.Piece.{begun, Stands, Fed};
 
 // What was read: the first bad line, 0 where there is none; how many values the series and the query have, and how many of each stand before the first that is outside its limits.
 #[repr(C)]
-pub struct Told {
+pub struct Lines {
     pub line: usize,
     pub series: usize,
     pub inside: usize,
@@ -48,10 +48,10 @@ fn begin(program: bool) -> Progress
 }
 
 // A text whose first bad byte stands at a place, or is due there.
-fn bad(text: &[u8], at: usize) -> Told
+fn bad(text: &[u8], at: usize) -> Lines
     ensures { λ r. ⌜ r ≡ badLine (lineOf (now (text .entry)) at) ⌝ }
 {
-    Told {
+    Lines {
         line: bad_line(text, at),
         series: 0,
         inside: 0,
@@ -60,12 +60,12 @@ fn bad(text: &[u8], at: usize) -> Told
     }
 }
 
-fn fine(p: Progress) -> Told
+fn fine(p: Progress) -> Lines
     ensures { λ r. ⌜ r ≡ goodTold p ⌝ }
 {
     let s = p.series;
     let q = p.query;
-    Told {
+    Lines {
         line: 0,
         series: s.count,
         inside: s.inside,
@@ -75,7 +75,7 @@ fn fine(p: Progress) -> Told
 }
 
 // The text has ended.
-fn ended(text: &[u8], p: Progress) -> Told
+fn ended(text: &[u8], p: Progress) -> Lines
     ensures { λ r. ⌜ r ≡ endTold (now (text .entry)) p (p .state) ⌝ }
 {
     let s = p.state;
@@ -87,7 +87,7 @@ fn ended(text: &[u8], p: Progress) -> Told
     }
 }
 
-fn answer(text: &[u8], f: Feeding) -> Told
+fn answer(text: &[u8], f: Feeding) -> Lines
     ensures { λ r. ⌜ r ≡ answerTold (now (text .entry)) f ⌝ }
 {
     match f {
@@ -133,7 +133,7 @@ pub extern "C" fn lines_read(
     numbers: &mut [i64],
     series: &mut [i32],
     query: &mut [i32],
-) -> Told
+) -> Lines
     ensures { λ r. ⌜ LinesTold program (now (text .entry)) (now (numbers .entry)) (now (series .entry)) (now (query .entry)) r (now (numbers .exit)) (now (series .exit)) (now (query .exit)) ⌝ }
 {
     let mut p = begin(program);

@@ -1,2 +1,2 @@
--- What the contracts of the search for C cite.
+-- What the contracts of try_c_search cite.
 pub mod Told

@@ -1,4 +1,4 @@
--- A search as C asks for it and is told its answer: a kind and numbers. Assumes nothing.
+-- A search as C asks for it and is told its answer: a kind and numbers.
 use mathlib.Core.Path.{_≡_}
 use mathlib.Core.Bool.{true, false}
 use Prim.Native.Nat.{ℕ}

@@ -1,2 +1,2 @@
--- What the contracts of the entries read and write for C cite.
+-- What the contracts of try_c_text cite.
 pub mod Told

@@ -1,4 +1,4 @@
--- The answers of a reading and of a writing as C is told them, and the buffers they leave. Assumes nothing.
+-- The answers of a reading and of a writing as C is told them, and the buffers they leave.
 use mathlib.Core.Path.{_≡_}
 use mathlib.Core.List.{List}
 use Prim.Native.Nat.{ℕ}

@@ -1,12 +1,12 @@
 // Runs the vectors of its standard input (tests/model/vectors.rs writes them: the paper's cases, then answers of the model) and says of each group how many agree.
 use try_c_distance::curve_bound;
 use try_c_distance::curve_envelopes;
-use try_c_distance::curve_matches;
 use try_c_distance::curve_normal;
-use try_c_distance::curve_root;
 use try_c_distance::curve_straight;
 use try_c_distance::curve_warped;
-use try_c_distance::curve_windows;
+use try_c_match::curve_matches;
+use try_c_match::curve_root;
+use try_c_match::curve_windows;
 use try_vectors::get;
 use try_vectors::get_length;
 use try_vectors::get_natural;

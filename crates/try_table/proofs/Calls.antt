@@ -49,7 +49,7 @@ use Rattle.meaning_entries.proofs.Extended.Laws as Ex′
 use Rattle.meaning_entries.proofs.Audited as Au
 use Rattle.rows_records.proofs.RowKit.{row-makes}
 use Rattle.rows_records.proofs.Rows.{chunk}
-use Rattle.build_passes.specs.Filled.{buffers}
+use Rattle.meaning_entries.specs.Buffers.{indexBuffers}
 use Rattle.entry_build.proofs.BuildCall.{low-built}
 use Rattle.entry_extend.proofs.ExtendCall.{low-extended}
 use Rattle.rows_records.proofs.Again.{LentAgain}
@@ -135,7 +135,7 @@ module _ {M : Type 1} {𝓤 : URA M} {H : Heap 𝓤} {A : Atoms 𝓤} {K : Type 
 
   pub calls-extend : K → FmC 𝓤 H (W .laws) C → (mem : Memory → SProp 𝓤) (run : Routine → Fun 𝓤) → Triple 𝓤 (C #extend) (Extend 𝓤 H A mem run) → (κs : Lft) (qs : Share) (vs : RefT (List ℤ)) (κf : Lft) (qf : Share) (bf of mf : ℕ) (γf : GName) (yf : List Row) (kf : ℕ) (κc : Lft) (qc : Share) (vc : RefT (List ℕ)) (κh : Lft) (qh : Share) (vh : RefT (List ℕ)) (κa : Lft) (qa : Share) (ba oa ma : ℕ) (γa : GName) (ya : List Row) (κl : Lft) (ql : Share) (bl ol ml : ℕ) (γl : GName) (yl : List ℕ) (κr : Lft) (qr : Share) (br or mr : ℕ) (γr : GName) (yr : List ℕ) (head : Head) → length yf ≡ mf → Room T.the-row mf → length ya ≡ ma → Room T.the-row ma → length yl ≡ ml → Room u32 ml → length yr ≡ mr → Room u32 mr → Is Hd.the-row head (low-head head ∷ [])
       → ((νf : ℕ) (δf : GName) (νa : ℕ) (δa : GName) (νl : ℕ) (δl : GName) (νr : ℕ) (δr : GName) → Opds K W (raw (Extend 𝓤 H A mem run .pre (to-extend 𝓤 H A mem run κs qs vs (νf ∷ []) fullShare (record { ptr = (bf, of); name = δf; now = take kf yf }) κc qc vc κh qh vh (νa ∷ []) fullShare ba oa ma δa ya (νl ∷ []) fullShare bl ol ml δl yl (νr ∷ []) fullShare br or mr δr yr head)) ∷ ‵ (ShrSlice (named 0) κs i32 .own vs (sliceVal (vs .ptr) (length (vs .now)) ∷ [])) ∷ ‵ (ShrSlice (named 0) κc u32 .own vc (sliceVal (vc .ptr) (length (vc .now)) ∷ [])) ∷ ‵ (ShrSlice (named 0) κh u32 .own vh (sliceVal (vh .ptr) (length (vh .now)) ∷ [])) ∷ ‵ (SharedAgain T.the-row bf of mf κf (νf ∷ []) qf γf yf) ∷ ‵ (LentAgain T.the-row κa (νa ∷ []) qa γa ba oa δa ya) ∷ ‵ (LentAgain u32 κl (νl ∷ []) ql γl bl ol δl yl) ∷ ‵ (LentAgain u32 κr (νr ∷ []) qr γr br or δr yr) ∷ Γ) E xs (sliceVal (vs .ptr) (length (vs .now)) ∷ low-head head ∷ sliceVal (bf, of) (length (take kf yf)) ∷ sliceVal (vc .ptr) (length (vc .now)) ∷ sliceVal (vh .ptr) (length (vh .now)) ∷ sliceVal (ba, oa) ma ∷ sliceVal (bl, ol) ml ∷ sliceVal (br, or) mr ∷ []))
-      → ((r : Extended) (za : List Row) (zl : List ℕ) (zr : List ℕ) → ExtendKept (lentExtend (vs .now) head (take kf yf) (vc .now) (vh .now)) (buffers ya yl yr) r (buffers za zl zr) → Is Ex.the-row r (low-extended r ∷ []) → length za ≡ length ya → length zl ≡ length yl → length zr ≡ length yr → Seq K W (‵ (flft κs qs) ∷ ‵ (ShrSlice (named 0) κs i32 .own vs (sliceVal (vs .ptr) (length (vs .now)) ∷ [])) ∷ ‵ (flft κf qf) ∷ ‵ (Own T.the-row bf of mf (named 0) κf γf yf) ∷ ‵ (flft κc qc) ∷ ‵ (ShrSlice (named 0) κc u32 .own vc (sliceVal (vc .ptr) (length (vc .now)) ∷ [])) ∷ ‵ (flft κh qh) ∷ ‵ (ShrSlice (named 0) κh u32 .own vh (sliceVal (vh .ptr) (length (vh .now)) ∷ [])) ∷ ‵ (flft κa qa) ∷ ‵ (Own T.the-row ba oa ma (named 0) κa γa za) ∷ ‵ (flft κl ql) ∷ ‵ (Own u32 bl ol ml (named 0) κl γl zl) ∷ ‵ (flft κr qr) ∷ ‵ (Own u32 br or mr (named 0) κr γr zr) ∷ Γ) (lands C Λ E d (low-extended r) rest p))
+      → ((r : Extended) (za : List Row) (zl : List ℕ) (zr : List ℕ) → ExtendKept (lentExtend (vs .now) head (take kf yf) (vc .now) (vh .now)) (indexBuffers ya yl yr) r (indexBuffers za zl zr) → Is Ex.the-row r (low-extended r ∷ []) → length za ≡ length ya → length zl ≡ length yl → length zr ≡ length yr → Seq K W (‵ (flft κs qs) ∷ ‵ (ShrSlice (named 0) κs i32 .own vs (sliceVal (vs .ptr) (length (vs .now)) ∷ [])) ∷ ‵ (flft κf qf) ∷ ‵ (Own T.the-row bf of mf (named 0) κf γf yf) ∷ ‵ (flft κc qc) ∷ ‵ (ShrSlice (named 0) κc u32 .own vc (sliceVal (vc .ptr) (length (vc .now)) ∷ [])) ∷ ‵ (flft κh qh) ∷ ‵ (ShrSlice (named 0) κh u32 .own vh (sliceVal (vh .ptr) (length (vh .now)) ∷ [])) ∷ ‵ (flft κa qa) ∷ ‵ (Own T.the-row ba oa ma (named 0) κa γa za) ∷ ‵ (flft κl ql) ∷ ‵ (Own u32 bl ol ml (named 0) κl γl zl) ∷ ‵ (flft κr qr) ∷ ‵ (Own u32 br or mr (named 0) κr γr zr) ∷ Γ) (lands C Λ E d (low-extended r) rest p))
       → Seq K W (‵ (flft κs qs) ∷ ‵ (ShrSlice (named 0) κs i32 .own vs (sliceVal (vs .ptr) (length (vs .now)) ∷ [])) ∷ ‵ (flft κf qf) ∷ ‵ (Own T.the-row bf of mf (named 0) κf γf yf) ∷ ‵ (flft κc qc) ∷ ‵ (ShrSlice (named 0) κc u32 .own vc (sliceVal (vc .ptr) (length (vc .now)) ∷ [])) ∷ ‵ (flft κh qh) ∷ ‵ (ShrSlice (named 0) κh u32 .own vh (sliceVal (vh .ptr) (length (vh .now)) ∷ [])) ∷ ‵ (flft κa qa) ∷ ‵ (Own T.the-row ba oa ma (named 0) κa γa ya) ∷ ‵ (flft κl ql) ∷ ‵ (Own u32 bl ol ml (named 0) κl γl yl) ∷ ‵ (flft κr qr) ∷ ‵ (Own u32 br or mr (named 0) κr γr yr) ∷ Γ) (runs C Λ E (seq (call #extend xs d) rest) p)
   calls-extend t fm mem run met κs qs vs κf qf bf of mf γf yf kf κc qc vc κh qh vh κa qa ba oa ma γa ya κl ql bl ol ml γl yl κr qr br or mr γr yr head ef roomf ea rooma el rooml er roomr g-head os k =
       move t (3 ∷ 2 ∷ []) $ first T.the-row bf of mf (named 0) (named 0) κf qf γf yf ef t tt (halved 𝓤 H A W (cStruct T.the-type T′.the-laws T′.the-copy)) kf (λ νf δf.

@@ -1,2 +1,2 @@
--- What the contracts of index_table cite.
+-- What the contracts of try_table cite.
 pub mod Table

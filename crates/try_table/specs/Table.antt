@@ -1,4 +1,4 @@
--- The table that a build or an extension writes its rows to, and what is handed out of it. Assumes nothing.
+-- The table that a build or an extension writes its rows to, and what is handed out of it.
 use mathlib.Core.List.{List}
 use Prim.Native.Nat.{ℕ}
 use lib.IntN.{pos}

@@ -14,7 +14,7 @@ ghost use Rattle.meaning_entries.specs.Build.{lentBuild};
 ghost use Rattle.meaning_entries.specs.Audit.{lentAudit};
 ghost use Rattle.meaning_entries.specs.Extend.{lentExtend};
 ghost use Rattle.meaning_entries.specs.Demand2.{BuildKept, ExtendKept, AuditKept};
-ghost use Rattle.build_passes.specs.Filled.{buffers};
+ghost use Rattle.meaning_entries.specs.Buffers.{indexBuffers};
 ghost use Rattle.try_table.specs.Table.{rubbishRows, tabledAs, extensionAs};
 
 // What a build answers, and the row buffer afterwards.
@@ -68,7 +68,7 @@ pub fn build_table(
     left: &mut [u32],
     right: &mut [u32],
 ) -> Tabled
-    ensures { λ t. ⌜ BuildKept (lentBuild (now (series .entry)) w d g) (buffers (rubbishRows w) (now (left .entry)) (now (right .entry))) (t .answer) (buffers (t .rows) (now (left .exit)) (now (right .exit))) ⌝ }
+    ensures { λ t. ⌜ BuildKept (lentBuild (now (series .entry)) w d g) (indexBuffers (rubbishRows w) (now (left .entry)) (now (right .entry))) (t .answer) (indexBuffers (t .rows) (now (left .exit)) (now (right .exit))) ⌝ }
 {
     let mut table = rubbish(w);
     let a = build(series, w, d, g, &mut table, left, right);
@@ -87,7 +87,7 @@ pub fn extend_table(
     right: &mut [u32],
 ) -> Extension
     requires { ⌜ n ≤ 64 ⌝ }
-    ensures { λ t. ⌜ ExtendKept (lentExtend (now (series .entry)) head (take n from) (now (lefts .entry)) (now (rights .entry))) (buffers (rubbishRows (head .window)) (now (left .entry)) (now (right .entry))) (t .answer) (buffers (t .rows) (now (left .exit)) (now (right .exit))) ⌝ }
+    ensures { λ t. ⌜ ExtendKept (lentExtend (now (series .entry)) head (take n from) (now (lefts .entry)) (now (rights .entry))) (indexBuffers (rubbishRows (head .window)) (now (left .entry)) (now (right .entry))) (t .answer) (indexBuffers (t .rows) (now (left .exit)) (now (right .exit))) ⌝ }
 {
     let mut table = rubbish(head.window);
     let a = extend(

@@ -1,4 +1,4 @@
--- A list that holds the values of another. Assumes nothing.
+-- A list that holds the values of another.
 use mathlib.Core.Path.{_≡_}
 use mathlib.Core.List.{List}
 use Prim.Native.Nat.{ℕ, _<_}

@@ -1,5 +1,4 @@
--- What the contracts of values cite, and what follows of sums.
+-- What the contracts of values cite.
 pub mod Place
 pub mod Sums
-pub mod Window
 pub mod Copy

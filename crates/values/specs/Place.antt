@@ -1,4 +1,4 @@
--- A place that may be missing, as code answers it; and values known to be in their limits up to a place. Assumes nothing.
+-- A place that may be missing, as code answers it; and values known to be in their limits up to a place.
 use mathlib.Core.List.{List}
 use mathlib.Core.Option.{Option, none, some}
 use Prim.Native.Nat.{ℕ, _<_}

@@ -1,4 +1,4 @@
--- `build_fill::file_turn` meets its contract. Assumes nothing.
+-- `build_fill::file_turn` meets its contract.
 use borrow.Author.Needs.{needs}
 use mathlib.Core.Path.{_≡_, ap, _∙_}
 use Prim.Native.Nat.{_+_, _*_}
@@ -13,7 +13,8 @@ use Rattle.meaning_rows.specs.Range.{inside}
 use Rattle.sums_slide.specs.Levels.{windowsOf}
 use Rattle.sums_slide.specs.Change.{Change}
 use Rattle.sums_slide.specs.Ends.{raisedEnd}
-use Rattle.build_fill.specs.Turn.{Small, stop-held, change-held}
+use Rattle.build_fill.specs.Turn.{Small}
+use Rattle.build_fill.proofs.Turn.{stop-held, change-held}
 use Rattle.build_fill.proofs.file_turn.Statement.{statement}
 use Rattle.build_fill.proofs.file_turn.Tie as tie
 

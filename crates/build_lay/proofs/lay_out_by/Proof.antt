@@ -1,4 +1,4 @@
--- `build_lay::lay_out_by` meets its contract. Assumes nothing.
+-- `build_lay::lay_out_by` meets its contract.
 use borrow.Author.Needs.{needs}
 use mathlib.Core.Path.{_≡_, ap}
 use mathlib.Core.List.{List}
@@ -7,8 +7,8 @@ use native.Mathlib.Omega.{arith}
 use lib.ListN.{length}
 use Rattle.sums_slide.specs.Table.{table}
 use Rattle.rows_pack.specs.Packed.{total}
-use Rattle.rows_pack.specs.Records.{counts-fit}
-use Rattle.build_lay.specs.Laid.{rows-fit}
+use Rattle.rows_pack.proofs.Records.{counts-fit}
+use Rattle.build_lay.proofs.Laid.{rows-fit}
 use Rattle.build_lay.proofs.lay_out_by.Statement.{statement}
 use Rattle.build_lay.proofs.lay_out_by.Tie as tie
 

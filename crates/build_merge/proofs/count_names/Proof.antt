@@ -1,4 +1,4 @@
--- `build_merge::count_names` meets its contract. The invariant: k of the first t names are in the range. Assumes nothing.
+-- `build_merge::count_names` meets its contract. The invariant: k of the first t names are in the range.
 use mathlib.Core.Path.{_≡_, sym, ap, _∙_}
 use Prim.Native.Nat.{ℕ, _+_, _-_, _≤_}
 use native.Mathlib.Omega.{arith}

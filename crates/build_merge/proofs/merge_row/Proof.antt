@@ -1,4 +1,4 @@
--- `build_merge::merge_row` meets its contract: in each branch the test on counts is the test of `nextGroup`, and what is stored in a signed field is what it was. Assumes nothing.
+-- `build_merge::merge_row` meets its contract: in each branch the test on counts is the test of `nextGroup`, and what is stored in a signed field is what it was.
 use borrow.Author.Needs.{needs}
 use borrow.Author.Tests.{lt-ltb, le-ltb}
 use mathlib.Core.Path.{_≡_}

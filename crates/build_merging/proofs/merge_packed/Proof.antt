@@ -1,12 +1,13 @@
 -- Written by tools/walk from the plan in the lines marked |. Change those, and run `tools/walk build_merging merge_packed`.
 -- The rows before and after each run are named, and the rows merged by the names.
--- | use Rattle.build_merging.specs.Standing.{standing-unnamed, rowsOf, standing-ready, standing-mergeable}
+-- | use Rattle.build_merging.proofs.Standing.{standing-unnamed, rowsOf, standing-ready, standing-mergeable}
 -- | u, names = name_neighbours: standing-unnamed (now s) w e (now rows) n (now left) (now right) (asked .0)
 -- | k, merged-so = merge_rows: (standing-mergeable (now s) w e (now rows) n (now left) (now right) (asked .0) last.left last.right long.left long.right names, asked .1)
 -- | ends: λ m sound packed. merged-so (rowsOf (now s) w e (now rows) n (now left) (now right) (asked .0) last.left last.right long.left long.right names m) (standing-ready (now s) w e (now rows) n (now left) (now right) (asked .0) last.left last.right long.left long.right names m sound packed)
 use Rattle.rows_records.proofs.Prelude.{refl, ℕ, _≤_, List, [], _∷_, ℤ, length, URA, fullShare, named, w64, Val, SProp, ent, emp, id⊢, Memory, Routine, Heap, WpFn, Tables, Atoms, Lfts, Shares, Fun, factI, givenOf, tables, Given, Item, ⋆, _$_, _∵_, !, qed, by, move, keep, whole, sub, agg, look, init, stop, from, and-then, no-more, land, returns, enter, alloc1, alloc0, params1, pass1, pass0, FmC, fmOf, Is, i32, u32, RefT, ptr, now, name, sliceVal, Room, slice-vals, shr-slice-tells, mut-slice-tells, Meets, tripleOf, entered, cited, needs, AtEntry, uint, nothing, Lent, value, kept, lends, shares, token, viewed, lent-at, holds, empty, tidy, frees-all, calls-with, leaves-with, meets-with, loc, part, start, put-at}
 use contract.Running.{tablesOf}
-use Rattle.build_merging.specs.Standing.{standing-unnamed, rowsOf, standing-ready, standing-mergeable, Standing}
+use Rattle.build_merging.specs.Standing.{Standing}
+use Rattle.build_merging.proofs.Standing.{standing-unnamed, rowsOf, standing-ready, standing-mergeable}
 use Rattle.meaning_rows.specs.declared.Row.{Row}
 use Rattle.meaning_rows.proofs.Row as Rowᵀ
 use Rattle.build_names.proofs.name_neighbours as name-neighbours

@@ -10,9 +10,9 @@ use Rattle.rows_records.proofs.Prelude.{refl, _∙_, ap, ℕ, List, [], _∷_, 
 use contract.Running.{tablesOf}
 use Rattle.build_names.specs.Places.{nameFor, Nameable}
 use Rattle.build_names.proofs.Named.{place-few, place-is}
-use Rattle.sums_slide.specs.declared.Place.{Place}
-use Rattle.sums_slide.proofs.Place as Placeᵀ
-use Rattle.sums_slide.proofs.Place.Laws as Placeᴸ
+use Rattle.sums_slide.specs.declared.Window.{Window}
+use Rattle.sums_slide.proofs.Window as Windowᵀ
+use Rattle.sums_slide.proofs.Window.Laws as Windowᴸ
 use Rattle.meaning_rows.specs.declared.Row.{Row}
 use Rattle.meaning_rows.proofs.Row as Rowᵀ
 use Rattle.sums_slide.proofs.sum_of as sum-of
@@ -32,26 +32,26 @@ use Rattle.build_names.proofs.name_at as f
 use Rattle.build_names.proofs.name_at.Statement as stated
 use Rattle.build_names.proofs.name_at.Code as code
 
-abbrev Placeᴰ : {M : Type 1} (𝓤 : URA M) (H : Heap 𝓤) (A : Atoms 𝓤) → Given 𝓤 H A → Data 𝓤 H A
-Placeᴰ 𝓤 H A W = struct 𝓤 H A W Placeᵀ.the-type Placeᴸ.the-laws Placeᴸ.the-plain
+abbrev Windowᴰ : {M : Type 1} (𝓤 : URA M) (H : Heap 𝓤) (A : Atoms 𝓤) → Given 𝓤 H A → Data 𝓤 H A
+Windowᴰ 𝓤 H A W = struct 𝓤 H A W Windowᵀ.the-type Windowᴸ.the-laws Windowᴸ.the-plain
 
 module _ {M : Type 1} (𝓤 : URA M) (H : Heap 𝓤) (A : Atoms 𝓤) (W : Given 𝓤 H A) (mem : Memory → SProp 𝓤) (run : Routine → Fun 𝓤) (𝓣 : Tables 𝓤 H) (fm : FmC 𝓤 H (W .laws) (𝓣 .C)) (known-sum-of : Meets 𝓤 H A sum-of.signature (𝓣 .C #sum-of) (sum-of.spec 𝓤 H A mem run)) (known-find-row : Meets 𝓤 H A find-row.signature (𝓣 .C #find-row) (find-row.spec 𝓤 H A mem run)) (known-name-of : Meets 𝓤 H A name-of.signature (𝓣 .C #name-of) (name-of.spec 𝓤 H A mem run)) where
-  module _ (κs : Lfts 1) (qs : Shares 1) (rows : RefT (List Row)) (count : ℕ) (len : ℕ) (w : ℕ) (e : ℕ) (at : Place)
-      (g-rows : Room Rowᵀ.the-row (length (now rows))) (g-count : Is ((uint 𝓤 H A W w64) .row) count ((uint 𝓤 H A W w64) .val count ∷ [])) (g-len : Is ((uint 𝓤 H A W w64) .row) len ((uint 𝓤 H A W w64) .val len ∷ [])) (g-w : Is ((uint 𝓤 H A W w64) .row) w ((uint 𝓤 H A W w64) .val w ∷ [])) (g-e : Is ((uint 𝓤 H A W w64) .row) e ((uint 𝓤 H A W w64) .val e ∷ [])) (g-at : Is ((Placeᴰ 𝓤 H A W) .row) at ((Placeᴰ 𝓤 H A W) .val at ∷ [])) (asked : Nameable (now rows) count w e at) where
+  module _ (κs : Lfts 1) (qs : Shares 1) (rows : RefT (List Row)) (count : ℕ) (len : ℕ) (w : ℕ) (e : ℕ) (at : Window)
+      (g-rows : Room Rowᵀ.the-row (length (now rows))) (g-count : Is ((uint 𝓤 H A W w64) .row) count ((uint 𝓤 H A W w64) .val count ∷ [])) (g-len : Is ((uint 𝓤 H A W w64) .row) len ((uint 𝓤 H A W w64) .val len ∷ [])) (g-w : Is ((uint 𝓤 H A W w64) .row) w ((uint 𝓤 H A W w64) .val w ∷ [])) (g-e : Is ((uint 𝓤 H A W w64) .row) e ((uint 𝓤 H A W w64) .val e ∷ [])) (g-at : Is ((Windowᴰ 𝓤 H A W) .row) at ((Windowᴰ 𝓤 H A W) .val at ∷ [])) (asked : Nameable (now rows) count w e at) where
     abbrev rows° : Lent
     rows° = record { row = Rowᵀ.the-row; ref = rows; lft = κs .0; share = qs .0; has-room = g-rows }
 
     abbrev bound : tripleOf 𝓤 H A f.signature (f.spec 𝓤 H A mem run) .Ghost
-    bound = ((κs, qs, tt, (rows, (count, (len, (w, (e, (at, tt)))))), (slice-vals rows, ((uint 𝓤 H A W w64) .val count ∷ [], ((uint 𝓤 H A W w64) .val len ∷ [], ((uint 𝓤 H A W w64) .val w ∷ [], ((uint 𝓤 H A W w64) .val e ∷ [], ((Placeᴰ 𝓤 H A W) .val at ∷ [], tt))))))), tt)
+    bound = ((κs, qs, tt, (rows, (count, (len, (w, (e, (at, tt)))))), (slice-vals rows, ((uint 𝓤 H A W w64) .val count ∷ [], ((uint 𝓤 H A W w64) .val len ∷ [], ((uint 𝓤 H A W w64) .val w ∷ [], ((uint 𝓤 H A W w64) .val e ∷ [], ((Windowᴰ 𝓤 H A W) .val at ∷ [], tt))))))), tt)
 
     abbrev Post : Val → SProp 𝓤
     Post = tripleOf 𝓤 H A f.signature (f.spec 𝓤 H A mem run) .post bound
 
     abbrev passed : List Val
-    passed = sliceVal (rows .ptr) (length (now rows)) ∷ (uint 𝓤 H A W w64) .val count ∷ (uint 𝓤 H A W w64) .val len ∷ (uint 𝓤 H A W w64) .val w ∷ (uint 𝓤 H A W w64) .val e ∷ (Placeᴰ 𝓤 H A W) .val at ∷ []
+    passed = sliceVal (rows .ptr) (length (now rows)) ∷ (uint 𝓤 H A W w64) .val count ∷ (uint 𝓤 H A W w64) .val len ∷ (uint 𝓤 H A W w64) .val w ∷ (uint 𝓤 H A W w64) .val e ∷ (Windowᴰ 𝓤 H A W) .val at ∷ []
 
     abbrev Entry : List (Item 𝓤)
-    Entry = AtEntry 𝓤 H A f.signature κs qs (rows, (count, (len, (w, (e, (at, tt)))))) (slice-vals rows, ((uint 𝓤 H A W w64) .val count ∷ [], ((uint 𝓤 H A W w64) .val len ∷ [], ((uint 𝓤 H A W w64) .val w ∷ [], ((uint 𝓤 H A W w64) .val e ∷ [], ((Placeᴰ 𝓤 H A W) .val at ∷ [], tt))))))
+    Entry = AtEntry 𝓤 H A f.signature κs qs (rows, (count, (len, (w, (e, (at, tt)))))) (slice-vals rows, ((uint 𝓤 H A W w64) .val count ∷ [], ((uint 𝓤 H A W w64) .val len ∷ [], ((uint 𝓤 H A W w64) .val w ∷ [], ((uint 𝓤 H A W w64) .val e ∷ [], ((Windowᴰ 𝓤 H A W) .val at ∷ [], tt))))))
 
     walk : ent 𝓤 (⋆ 𝓤 H A Entry) (WpFn 𝓤 H (𝓣 .C) (𝓣 .Λ) code.function passed Post)
     walk =
@@ -62,11 +62,11 @@ module _ {M : Type 1} (𝓤 : URA M) (H : Heap 𝓤) (A : Atoms 𝓤) (W : Given
         pass1 ! (init ! 10 refl ((uint 𝓤 H A W w64) .lawful .typed len _ g-len .0)) $
         pass1 ! (init ! 8 refl ((uint 𝓤 H A W w64) .lawful .typed w _ g-w .0)) $
         pass1 ! (init ! 6 refl ((uint 𝓤 H A W w64) .lawful .typed e _ g-e .0)) $
-        pass1 ! (init ! 4 refl ((Placeᴰ 𝓤 H A W) .lawful .typed at _ g-at .0)) $
+        pass1 ! (init ! 4 refl ((Windowᴰ 𝓤 H A W) .lawful .typed at _ g-at .0)) $
         pass0 ! $
         keep ! (18 ∷ 19 ∷ 16 ∷ 17 ∷ 14 ∷ 15 ∷ 12 ∷ 13 ∷ 10 ∷ 11 ∷ 8 ∷ 9 ∷ 6 ∷ 7 ∷ 4 ∷ 5 ∷ 2 ∷ 3 ∷ 0 ∷ 1 ∷ []) $
-        calls-with ! fm sum-of.ended (sum-of.clauses 𝓤 H A mem run) known-sum-of (value (uint 𝓤 H A W w64) w g-w ∷ value (uint 𝓤 H A W w64) e g-e ∷ value (Placeᴰ 𝓤 H A W) at g-at ∷ [])
-        (λ fs. ((tt, tt, tt, (w, (e, (at, tt))), ((uint 𝓤 H A W w64) .val w ∷ [], ((uint 𝓤 H A W w64) .val e ∷ [], ((Placeᴰ 𝓤 H A W) .val at ∷ [], tt)))), tt)) (λ fs. refl) (λ fs. refl) (λ fs ls. ls) (λ fs ls. refl) (λ fs. factI 𝓤 _ (emp 𝓤) ((asked .most, asked .small, asked .level-small))) (λ fs r ls. id⊢ 𝓤 _) (λ fs. (sint 𝓤 H A W w32) .val) (λ fs. (sint 𝓤 H A W w32) .tells) (λ fs. (and-then ! (loc ! 12 refl) (and-then ! (loc ! 14 refl) (and-then ! (loc ! 16 refl) (no-more !))))) (λ fs sum ls₁ sum-is is₁ fits₁.
+        calls-with ! fm sum-of.ended (sum-of.clauses 𝓤 H A mem run) known-sum-of (value (uint 𝓤 H A W w64) w g-w ∷ value (uint 𝓤 H A W w64) e g-e ∷ value (Windowᴰ 𝓤 H A W) at g-at ∷ [])
+        (λ fs. ((tt, tt, tt, (w, (e, (at, tt))), ((uint 𝓤 H A W w64) .val w ∷ [], ((uint 𝓤 H A W w64) .val e ∷ [], ((Windowᴰ 𝓤 H A W) .val at ∷ [], tt)))), tt)) (λ fs. refl) (λ fs. refl) (λ fs ls. ls) (λ fs ls. refl) (λ fs. factI 𝓤 _ (emp 𝓤) ((asked .most, asked .small, asked .level-small))) (λ fs r ls. id⊢ 𝓤 _) (λ fs. (sint 𝓤 H A W w32) .val) (λ fs. (sint 𝓤 H A W w32) .tells) (λ fs. (and-then ! (loc ! 12 refl) (and-then ! (loc ! 14 refl) (and-then ! (loc ! 16 refl) (no-more !))))) (λ fs sum ls₁ sum-is is₁ fits₁.
         land ! (from ! (stop !)) (init ! 16 refl ((sint 𝓤 H A W w32) .lawful .typed sum _ is₁ .0)) $
         tidy ! (token 𝓤 H A rows° ∷ viewed 𝓤 H A rows° ∷ []) (empty ∷ holds _ ∷ holds _ ∷ holds _ ∷ holds _ ∷ holds _ ∷ holds _ ∷ holds _ ∷ empty ∷ []) refl $
         move ! (0 ∷ 1 ∷ []) $
@@ -74,8 +74,8 @@ module _ {M : Type 1} (𝓤 : URA M) (H : Heap 𝓤) (A : Atoms 𝓤) (W : Given
         (λ fs. (((κs .0, tt), (qs .0, tt), tt, (rows, (count, (sum, tt))), (slice-vals rows, ((uint 𝓤 H A W w64) .val count ∷ [], ((sint 𝓤 H A W w32) .val sum ∷ [], tt)))), tt)) (λ fs. refl) (λ fs. refl) (λ fs ls. ls) (λ fs ls. refl) (λ fs. factI 𝓤 _ (emp 𝓤) (asked .climbs)) (λ fs r ls. id⊢ 𝓤 _) (λ fs. (uint 𝓤 H A W w64) .val) (λ fs. (uint 𝓤 H A W w64) .tells) (λ fs. (and-then ! (loc ! 4 refl) (and-then ! (loc ! 6 refl) (and-then ! (loc ! 16 refl) (no-more !))))) (λ fs i ls₂ found is₂ fits₂.
         land ! (from ! (stop !)) (init ! 18 refl ((uint 𝓤 H A W w64) .lawful .typed i _ is₂ .0)) $
         tidy ! (token 𝓤 H A rows° ∷ viewed 𝓤 H A rows° ∷ []) (empty ∷ holds _ ∷ holds _ ∷ holds _ ∷ holds _ ∷ holds _ ∷ holds _ ∷ holds _ ∷ holds _ ∷ []) refl $
-        calls-with ! fm name-of.ended (name-of.clauses 𝓤 H A mem run) known-name-of (value (uint 𝓤 H A W w64) len g-len ∷ value (uint 𝓤 H A W w64) w g-w ∷ value (Placeᴰ 𝓤 H A W) at g-at ∷ value (uint 𝓤 H A W w64) i is₂ ∷ [])
-        (λ fs. ((tt, tt, tt, (len, (w, (at, (i, tt)))), ((uint 𝓤 H A W w64) .val len ∷ [], ((uint 𝓤 H A W w64) .val w ∷ [], ((Placeᴰ 𝓤 H A W) .val at ∷ [], ((uint 𝓤 H A W w64) .val i ∷ [], tt))))), tt)) (λ fs. refl) (λ fs. refl) (λ fs ls. ls) (λ fs ls. refl) (λ fs. factI 𝓤 _ (emp 𝓤) ((asked .some, asked .most, asked .offset-small, place-few asked sum-is found))) (λ fs r ls. id⊢ 𝓤 _) (λ fs. (uint 𝓤 H A W w64) .val) (λ fs. (uint 𝓤 H A W w64) .tells) (λ fs. (and-then ! (loc ! 10 refl) (and-then ! (loc ! 12 refl) (and-then ! (loc ! 16 refl) (and-then ! (loc ! 20 refl) (no-more !)))))) (λ fs r ls₃ name-is is₃ fits₃.
+        calls-with ! fm name-of.ended (name-of.clauses 𝓤 H A mem run) known-name-of (value (uint 𝓤 H A W w64) len g-len ∷ value (uint 𝓤 H A W w64) w g-w ∷ value (Windowᴰ 𝓤 H A W) at g-at ∷ value (uint 𝓤 H A W w64) i is₂ ∷ [])
+        (λ fs. ((tt, tt, tt, (len, (w, (at, (i, tt)))), ((uint 𝓤 H A W w64) .val len ∷ [], ((uint 𝓤 H A W w64) .val w ∷ [], ((Windowᴰ 𝓤 H A W) .val at ∷ [], ((uint 𝓤 H A W w64) .val i ∷ [], tt))))), tt)) (λ fs. refl) (λ fs. refl) (λ fs ls. ls) (λ fs ls. refl) (λ fs. factI 𝓤 _ (emp 𝓤) ((asked .some, asked .most, asked .offset-small, place-few asked sum-is found))) (λ fs r ls. id⊢ 𝓤 _) (λ fs. (uint 𝓤 H A W w64) .val) (λ fs. (uint 𝓤 H A W w64) .tells) (λ fs. (and-then ! (loc ! 10 refl) (and-then ! (loc ! 12 refl) (and-then ! (loc ! 16 refl) (and-then ! (loc ! 20 refl) (no-more !)))))) (λ fs r ls₃ name-is is₃ fits₃.
         land ! (from ! (stop !)) (init ! 2 refl ((uint 𝓤 H A W w64) .lawful .typed r _ is₃ .0)) $
         tidy ! (token 𝓤 H A rows° ∷ viewed 𝓤 H A rows° ∷ []) (holds _ ∷ holds _ ∷ holds _ ∷ holds _ ∷ holds _ ∷ holds _ ∷ holds _ ∷ holds _ ∷ holds _ ∷ []) refl $
         returns ! (look ! 2 refl) $
@@ -84,8 +84,8 @@ module _ {M : Type 1} (𝓤 : URA M) (H : Heap 𝓤) (A : Atoms 𝓤) (W : Given
         by ! (leaves-with 𝓤 H A W f.ended (f.clauses 𝓤 H A mem run) bound (kept rows° ∷ []) ((uint 𝓤 H A W w64) .val r) r (tt, (tt, (tt, (tt, (tt, (tt, tt)))))) refl refl ((uint 𝓤 H A W w64) .makes r _ is₃) (factI 𝓤 _ (emp 𝓤) (name-is ∙ ap (nameFor len w (at .offset)) (place-is asked sum-is found))))))))))))))))
 
   meets : Meets 𝓤 H A f.signature (WpFn 𝓤 H (𝓣 .C) (𝓣 .Λ) code.function) (f.spec 𝓤 H A mem run)
-  meets = meets-with 𝓤 H A f.ended (f.clauses 𝓤 H A mem run) (WpFn 𝓤 H (𝓣 .C) (𝓣 .Λ) code.function) (λ κs. (slice-vals, ((λ x. (uint 𝓤 H A W w64) .val x ∷ []), ((λ x. (uint 𝓤 H A W w64) .val x ∷ []), ((λ x. (uint 𝓤 H A W w64) .val x ∷ []), ((λ x. (uint 𝓤 H A W w64) .val x ∷ []), ((λ x. (Placeᴰ 𝓤 H A W) .val x ∷ []), tt)))))))
-      (λ κs. (shr-slice-tells (named 0) (κs .0) Rowᵀ.the-row, ((uint 𝓤 H A W w64) .tells, ((uint 𝓤 H A W w64) .tells, ((uint 𝓤 H A W w64) .tells, ((uint 𝓤 H A W w64) .tells, ((Placeᴰ 𝓤 H A W) .tells, tt)))))))
+  meets = meets-with 𝓤 H A f.ended (f.clauses 𝓤 H A mem run) (WpFn 𝓤 H (𝓣 .C) (𝓣 .Λ) code.function) (λ κs. (slice-vals, ((λ x. (uint 𝓤 H A W w64) .val x ∷ []), ((λ x. (uint 𝓤 H A W w64) .val x ∷ []), ((λ x. (uint 𝓤 H A W w64) .val x ∷ []), ((λ x. (uint 𝓤 H A W w64) .val x ∷ []), ((λ x. (Windowᴰ 𝓤 H A W) .val x ∷ []), tt)))))))
+      (λ κs. (shr-slice-tells (named 0) (κs .0) Rowᵀ.the-row, ((uint 𝓤 H A W w64) .tells, ((uint 𝓤 H A W w64) .tells, ((uint 𝓤 H A W w64) .tells, ((uint 𝓤 H A W w64) .tells, ((Windowᴰ 𝓤 H A W) .tells, tt)))))))
       (λ κs qs bounds a g are. needs 𝓤 _ _ (walk κs qs (a .0) (a .1 .0) (a .1 .1 .0) (a .1 .1 .1 .0) (a .1 .1 .1 .1 .0) (a .1 .1 .1 .1 .1 .0) (are .0 .0 .1) (are .1 .0) (are .1 .1 .0) (are .1 .1 .1 .0) (are .1 .1 .1 .1 .0) (are .1 .1 .1 .1 .1 .0)))
 
 pub name-at-spec : {M : Type 1} → stated.statement M

@@ -1,4 +1,4 @@
--- `build_names::name_of` meets its contract: there is a window where as many values follow. Assumes nothing.
+-- `build_names::name_of` meets its contract: there is a window where as many values follow.
 use borrow.Author.Needs.{needs}
 use borrow.Author.Tests.{lt-ltb, le-ltb}
 use native.Mathlib.Omega.{arith}

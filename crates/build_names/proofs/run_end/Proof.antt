@@ -1,4 +1,4 @@
--- `build_names::run_end` meets its contract: the ends of the range are read back as they were passed. Assumes nothing.
+-- `build_names::run_end` meets its contract: the ends of the range are read back as they were passed.
 use borrow.Author.Needs.{needs}
 use mathlib.Core.Path.{_≡_, sym, subst}
 use Prim.Native.Nat.{_<_, _^_}
@@ -8,7 +8,8 @@ use lib.Signed.{mag}
 use mir.Syntax.{w32}
 use mir.Val.{toZ, ofZ}
 use mir.ValLaws.{toZ-ofZ}
-use Rattle.build_names.specs.Ranges.{Limited, limited-asks}
+use Rattle.build_names.specs.Ranges.{Limited}
+use Rattle.build_names.proofs.Ranges.{limited-asks}
 use Rattle.build_names.proofs.run_end.Statement.{statement}
 use Rattle.build_names.proofs.run_end.Tie as tie
 

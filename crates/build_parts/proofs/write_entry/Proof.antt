@@ -1,4 +1,4 @@
--- `build_parts::write_entry` meets its contract. Assumes nothing.
+-- `build_parts::write_entry` meets its contract.
 use borrow.Author.Needs.{needs}
 use borrow.Author.Tests.{lt-ltb, le-ltb}
 use mathlib.Core.Path.{refl}

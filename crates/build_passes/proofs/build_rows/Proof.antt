@@ -1,7 +1,7 @@
 -- Written by tools/walk from the plan in the lines marked |. Change those, and run `tools/walk build_passes build_rows`.
 -- The rows are laid out, merged where g is not 0, and filled.
 -- | use Rattle.build_passes.proofs.Stages.{fillable, laid-unmerged}
--- | use Rattle.build_passes.specs.Filled.{holds-same, rows-counted}
+-- | use Rattle.build_passes.proofs.Filled.{holds-same, rows-counted}
 -- | n, laid = lay_rows: (asked .0, asked .1, asked .2)
 -- | k, merged = merge_some at d: (fillable 0 (asked .0) (laid-unmerged (now s) w d laid) long.left long.right, asked .3)
 -- | u, held = fill_rows at (d, g): fillable g (asked .0) merged long.left long.right
@@ -9,7 +9,7 @@
 use Rattle.rows_records.proofs.Prelude.{_≡_, refl, ℕ, _+_, _*_, _≤_, List, [], _∷_, ℤ, length, URA, fullShare, named, w64, Val, SProp, ent, emp, id⊢, Memory, Routine, Heap, WpFn, Tables, Atoms, Lfts, Shares, Fun, factI, givenOf, tables, Given, Item, ⋆, _$_, _∵_, !, qed, by, move, keep, whole, sub, agg, look, init, stop, from, of-opd, and-then, no-more, land, returns, enter, alloc1, alloc0, params1, pass1, pass0, FmC, fmOf, Is, i32, u32, RefT, ptr, now, name, sliceVal, Room, slice-vals, shr-slice-tells, mut-slice-tells, Meets, tripleOf, entered, cited, needs, AtEntry, uint, nothing, Lent, value, kept, lends, token, viewed, lent-at, holds, empty, tidy, frees-all, calls-with, leaves-with, meets-with, loc, part, start, put-at}
 use contract.Running.{tablesOf}
 use Rattle.build_passes.proofs.Stages.{fillable, laid-unmerged}
-use Rattle.build_passes.specs.Filled.{holds-same, rows-counted}
+use Rattle.build_passes.proofs.Filled.{holds-same, rows-counted}
 use Rattle.meaning_rows.specs.declared.Row.{Row}
 use Rattle.meaning_rows.proofs.Row as Rowᵀ
 use Rattle.build_lay.proofs.lay_rows as lay-rows

@@ -3,9 +3,9 @@
 -- | use Rattle.meaning_curves.specs.Curve.{windowSum}
 -- | use Rattle.meaning_rows.proofs.Build.{mergedRows}
 -- | use Rattle.sums_slide.specs.Levels.{windowsOf}
--- | use Rattle.build_passes.specs.Rowed.{tests}
--- | use Rattle.build_fill.specs.Turn.{first-at}
--- | use Rattle.build_passes.specs.Filled.{starts, finished}
+-- | use Rattle.build_passes.proofs.Rowed.{tests}
+-- | use Rattle.build_fill.proofs.Turn.{first-at}
+-- | use Rattle.build_passes.proofs.Filled.{starts, finished}
 -- | let HAS = (tests (mergedRows (windowSum (now s) w) (p .0) (p .1) (windowsOf (now s) w)))
 -- | u, rows-are = clear_rows: asked .packed .within
 -- | v, cleared = clear_runs
@@ -17,12 +17,13 @@ use contract.Running.{tablesOf}
 use Rattle.meaning_curves.specs.Curve.{windowSum}
 use Rattle.meaning_rows.proofs.Build.{mergedRows}
 use Rattle.sums_slide.specs.Levels.{windowsOf}
-use Rattle.build_passes.specs.Rowed.{tests}
-use Rattle.build_fill.specs.Turn.{first-at}
-use Rattle.build_passes.specs.Filled.{starts, finished, Fillable}
-use Rattle.sums_slide.specs.declared.Place.{Place}
-use Rattle.sums_slide.proofs.Place as Placeᵀ
-use Rattle.sums_slide.proofs.Place.Laws as Placeᴸ
+use Rattle.build_passes.proofs.Rowed.{tests}
+use Rattle.build_fill.proofs.Turn.{first-at}
+use Rattle.build_passes.specs.Filled.{Fillable}
+use Rattle.build_passes.proofs.Filled.{starts, finished}
+use Rattle.sums_slide.specs.declared.Window.{Window}
+use Rattle.sums_slide.proofs.Window as Windowᵀ
+use Rattle.sums_slide.proofs.Window.Laws as Windowᴸ
 use Rattle.meaning_rows.specs.declared.Row.{Row}
 use Rattle.meaning_rows.proofs.Row as Rowᵀ
 use Rattle.rows_records.proofs.clear_rows as clear-rows
@@ -46,8 +47,8 @@ use Rattle.build_passes.proofs.fill_rows as f
 use Rattle.build_passes.proofs.fill_rows.Statement as stated
 use Rattle.build_passes.proofs.fill_rows.Code as code
 
-abbrev Placeᴰ : {M : Type 1} (𝓤 : URA M) (H : Heap 𝓤) (A : Atoms 𝓤) → Given 𝓤 H A → Data 𝓤 H A
-Placeᴰ 𝓤 H A W = struct 𝓤 H A W Placeᵀ.the-type Placeᴸ.the-laws Placeᴸ.the-plain
+abbrev Windowᴰ : {M : Type 1} (𝓤 : URA M) (H : Heap 𝓤) (A : Atoms 𝓤) → Given 𝓤 H A → Data 𝓤 H A
+Windowᴰ 𝓤 H A W = struct 𝓤 H A W Windowᵀ.the-type Windowᴸ.the-laws Windowᴸ.the-plain
 
 module _ {M : Type 1} (𝓤 : URA M) (H : Heap 𝓤) (A : Atoms 𝓤) (W : Given 𝓤 H A) (mem : Memory → SProp 𝓤) (run : Routine → Fun 𝓤) (𝓣 : Tables 𝓤 H) (fm : FmC 𝓤 H (W .laws) (𝓣 .C)) (known-clear-rows : Meets 𝓤 H A clear-rows.signature (𝓣 .C #clear-rows) (clear-rows.spec 𝓤 H A mem run)) (known-clear-runs : Meets 𝓤 H A clear-runs.signature (𝓣 .C #clear-runs) (clear-runs.spec 𝓤 H A mem run)) (known-first-place : Meets 𝓤 H A first-place.signature (𝓣 .C #first-place) (first-place.spec 𝓤 H A mem run)) (known-fill-parts : Meets 𝓤 H A fill-parts.signature (𝓣 .C #fill-parts) (fill-parts.spec 𝓤 H A mem run)) where
   module _ (κs : Lfts 4) (qs : Shares 4) (s : RefT (List ℤ)) (w : ℕ) (e : ℕ) (rows : RefT (List Row)) (n : ℕ) (left : RefT (List ℕ)) (right : RefT (List ℕ)) (p : ℕ × ℕ)
@@ -107,8 +108,8 @@ module _ {M : Type 1} (𝓤 : URA M) (H : Heap 𝓤) (A : Atoms 𝓤) (W : Given
         tidy ! (token 𝓤 H A left° ∷ lent-at 𝓤 H A left° (ls₂ .0) ∷ token 𝓤 H A right° ∷ lent-at 𝓤 H A right° (ls₂ .1 .0) ∷ token 𝓤 H A rows° ∷ lent-at 𝓤 H A rows° (ls₁ .0) ∷ token 𝓤 H A s° ∷ viewed 𝓤 H A s° ∷ []) (empty ∷ holds _ ∷ holds _ ∷ holds _ ∷ holds _ ∷ holds _ ∷ holds _ ∷ holds _ ∷ empty ∷ holds _ ∷ holds _ ∷ holds _ ∷ holds _ ∷ holds _ ∷ holds _ ∷ holds _ ∷ empty ∷ empty ∷ empty ∷ empty ∷ empty ∷ empty ∷ []) refl $
         move ! (6 ∷ 7 ∷ []) $
         calls-with ! fm first-place.ended (first-place.clauses 𝓤 H A mem run) known-first-place (kept s° ∷ value (uint 𝓤 H A W w64) w g-w ∷ value (uint 𝓤 H A W w64) e g-e ∷ [])
-        (λ fs. (((κs .0, tt), (qs .0, tt), tt, (s, (w, (e, tt))), (slice-vals s, ((uint 𝓤 H A W w64) .val w ∷ [], ((uint 𝓤 H A W w64) .val e ∷ [], tt)))), tt)) (λ fs. refl) (λ fs. refl) (λ fs ls. ls) (λ fs ls. refl) (λ fs. factI 𝓤 _ (emp 𝓤) (asked .lent)) (λ fs r ls. id⊢ 𝓤 _) (λ fs. (Placeᴰ 𝓤 H A W) .val) (λ fs. (Placeᴰ 𝓤 H A W) .tells) (λ fs. (and-then ! (loc ! 10 refl) (and-then ! (loc ! 12 refl) (and-then ! (loc ! 14 refl) (no-more !))))) (λ fs t ls₃ first is₃ fits₃.
-        land ! (from ! (stop !)) (init ! 24 refl ((Placeᴰ 𝓤 H A W) .lawful .typed t _ is₃ .0)) $
+        (λ fs. (((κs .0, tt), (qs .0, tt), tt, (s, (w, (e, tt))), (slice-vals s, ((uint 𝓤 H A W w64) .val w ∷ [], ((uint 𝓤 H A W w64) .val e ∷ [], tt)))), tt)) (λ fs. refl) (λ fs. refl) (λ fs ls. ls) (λ fs ls. refl) (λ fs. factI 𝓤 _ (emp 𝓤) (asked .lent)) (λ fs r ls. id⊢ 𝓤 _) (λ fs. (Windowᴰ 𝓤 H A W) .val) (λ fs. (Windowᴰ 𝓤 H A W) .tells) (λ fs. (and-then ! (loc ! 10 refl) (and-then ! (loc ! 12 refl) (and-then ! (loc ! 14 refl) (no-more !))))) (λ fs t ls₃ first is₃ fits₃.
+        land ! (from ! (stop !)) (init ! 24 refl ((Windowᴰ 𝓤 H A W) .lawful .typed t _ is₃ .0)) $
         tidy ! (token 𝓤 H A s° ∷ viewed 𝓤 H A s° ∷ token 𝓤 H A left° ∷ lent-at 𝓤 H A left° (ls₂ .0) ∷ token 𝓤 H A right° ∷ lent-at 𝓤 H A right° (ls₂ .1 .0) ∷ token 𝓤 H A rows° ∷ lent-at 𝓤 H A rows° (ls₁ .0) ∷ []) (empty ∷ holds _ ∷ holds _ ∷ holds _ ∷ holds _ ∷ holds _ ∷ holds _ ∷ holds _ ∷ holds _ ∷ holds _ ∷ holds _ ∷ holds _ ∷ holds _ ∷ holds _ ∷ holds _ ∷ holds _ ∷ empty ∷ empty ∷ empty ∷ empty ∷ empty ∷ empty ∷ []) refl $
         put-at ! 40 (start ! 16 refl (sub ! 0 refl (whole !))) refl (tt, tt) $
         put-at ! 42 (agg ! (and-then ! (loc ! 40 refl) (and-then ! (part ! 16 refl (sub ! 1 refl (whole !))) (no-more !)))) refl (tt, (tt, (record { fits = g-rows .0 }, tt))) $
@@ -117,8 +118,8 @@ module _ {M : Type 1} (𝓤 : URA M) (H : Heap 𝓤) (A : Atoms 𝓤) (W : Given
         put-at ! 48 (start ! 22 refl (sub ! 0 refl (whole !))) refl (tt, tt) $
         put-at ! 50 (agg ! (and-then ! (loc ! 48 refl) (and-then ! (part ! 22 refl (sub ! 1 refl (whole !))) (no-more !)))) refl (tt, (tt, (record { fits = g-right .0 }, tt))) $
         move ! (0 ∷ 1 ∷ 6 ∷ 7 ∷ 2 ∷ 3 ∷ 4 ∷ 5 ∷ []) $
-        calls-with ! fm fill-parts.ended (fill-parts.clauses 𝓤 H A mem run) known-fill-parts (kept s° ∷ value (uint 𝓤 H A W w64) w g-w ∷ value (uint 𝓤 H A W w64) e g-e ∷ shares rows° (ls₁ .0) (fits₁ .0) ∷ value (uint 𝓤 H A W w64) n g-n ∷ value (Placeᴰ 𝓤 H A W) t is₃ ∷ lends left° (ls₂ .0) (fits₂ .0) ∷ lends right° (ls₂ .1 .0) (fits₂ .1 .0) ∷ [])
-        (λ fs. (((κs .0, (fs .0 .0 ∷ [], (fs .1 .0 .0 ∷ [], (fs .1 .1 .0 .0 ∷ [], tt)))), (qs .0, (fullShare, (fullShare, (fullShare, tt)))), tt, (s, (w, (e, (record { ptr = rows .ptr; name = fs .0 .1; now = (ls₁ .0) }, (n, (t, (record { ptr = left .ptr; name = fs .1 .0 .1; now = (ls₂ .0) }, (record { ptr = right .ptr; name = fs .1 .1 .0 .1; now = (ls₂ .1 .0) }, tt)))))))), (slice-vals s, ((uint 𝓤 H A W w64) .val w ∷ [], ((uint 𝓤 H A W w64) .val e ∷ [], (slice-vals rows, ((uint 𝓤 H A W w64) .val n ∷ [], ((Placeᴰ 𝓤 H A W) .val t ∷ [], (slice-vals left, (slice-vals right, tt))))))))), (tests (mergedRows (windowSum (now s) w) (p .0) (p .1) (windowsOf (now s) w))))) (λ fs. refl) (λ fs. refl) (λ fs ls. ls) (λ fs ls. refl) (λ fs. factI 𝓤 _ (emp 𝓤) (rw rows-are (starts asked (cleared .0) (cleared .1) (first-at (asked .lent) first .0) (first-at (asked .lent) first .1)))) (λ fs r ls. id⊢ 𝓤 _) (λ fs. (nothing 𝓤 H A W) .val) (λ fs. (nothing 𝓤 H A W) .tells) (λ fs. (and-then ! (loc ! 4 refl) (and-then ! (loc ! 6 refl) (and-then ! (loc ! 8 refl) (and-then ! (loc ! 36 refl) (and-then ! (loc ! 12 refl) (and-then ! (loc ! 18 refl) (and-then ! (loc ! 40 refl) (and-then ! (loc ! 44 refl) (no-more !)))))))))) (λ fs x ls₄ filled is₄ fits₄.
+        calls-with ! fm fill-parts.ended (fill-parts.clauses 𝓤 H A mem run) known-fill-parts (kept s° ∷ value (uint 𝓤 H A W w64) w g-w ∷ value (uint 𝓤 H A W w64) e g-e ∷ shares rows° (ls₁ .0) (fits₁ .0) ∷ value (uint 𝓤 H A W w64) n g-n ∷ value (Windowᴰ 𝓤 H A W) t is₃ ∷ lends left° (ls₂ .0) (fits₂ .0) ∷ lends right° (ls₂ .1 .0) (fits₂ .1 .0) ∷ [])
+        (λ fs. (((κs .0, (fs .0 .0 ∷ [], (fs .1 .0 .0 ∷ [], (fs .1 .1 .0 .0 ∷ [], tt)))), (qs .0, (fullShare, (fullShare, (fullShare, tt)))), tt, (s, (w, (e, (record { ptr = rows .ptr; name = fs .0 .1; now = (ls₁ .0) }, (n, (t, (record { ptr = left .ptr; name = fs .1 .0 .1; now = (ls₂ .0) }, (record { ptr = right .ptr; name = fs .1 .1 .0 .1; now = (ls₂ .1 .0) }, tt)))))))), (slice-vals s, ((uint 𝓤 H A W w64) .val w ∷ [], ((uint 𝓤 H A W w64) .val e ∷ [], (slice-vals rows, ((uint 𝓤 H A W w64) .val n ∷ [], ((Windowᴰ 𝓤 H A W) .val t ∷ [], (slice-vals left, (slice-vals right, tt))))))))), (tests (mergedRows (windowSum (now s) w) (p .0) (p .1) (windowsOf (now s) w))))) (λ fs. refl) (λ fs. refl) (λ fs ls. ls) (λ fs ls. refl) (λ fs. factI 𝓤 _ (emp 𝓤) (rw rows-are (starts asked (cleared .0) (cleared .1) (first-at (asked .lent) first .0) (first-at (asked .lent) first .1)))) (λ fs r ls. id⊢ 𝓤 _) (λ fs. (nothing 𝓤 H A W) .val) (λ fs. (nothing 𝓤 H A W) .tells) (λ fs. (and-then ! (loc ! 4 refl) (and-then ! (loc ! 6 refl) (and-then ! (loc ! 8 refl) (and-then ! (loc ! 36 refl) (and-then ! (loc ! 12 refl) (and-then ! (loc ! 18 refl) (and-then ! (loc ! 40 refl) (and-then ! (loc ! 44 refl) (no-more !)))))))))) (λ fs x ls₄ filled is₄ fits₄.
         land ! (from ! (stop !)) (store ! 26 refl ((nothing 𝓤 H A W) .lawful .typed x _ is₄ .0)) $
         tidy ! (token 𝓤 H A s° ∷ viewed 𝓤 H A s° ∷ token 𝓤 H A rows° ∷ lent-at 𝓤 H A rows° (ls₁ .0) ∷ token 𝓤 H A left° ∷ lent-at 𝓤 H A left° (ls₄ .1 .1 .1 .1 .1 .1 .0) ∷ token 𝓤 H A right° ∷ lent-at 𝓤 H A right° (ls₄ .1 .1 .1 .1 .1 .1 .1 .0) ∷ []) (empty ∷ holds _ ∷ holds _ ∷ holds _ ∷ holds _ ∷ holds _ ∷ holds _ ∷ holds _ ∷ holds _ ∷ holds _ ∷ holds _ ∷ holds _ ∷ holds _ ∷ holds _ ∷ holds _ ∷ holds _ ∷ holds _ ∷ holds _ ∷ holds _ ∷ holds _ ∷ holds _ ∷ holds _ ∷ []) refl $
         put-at ! 8 (of-opd ! (unit-lit !)) refl ((nothing 𝓤 H A W) .lawful .typed tt _ refl .0) $

@@ -1,4 +1,4 @@
--- `candidate_counts::bumped` meets its contract. Assumes nothing.
+-- `candidate_counts::bumped` meets its contract.
 use borrow.Author.Needs.{needs}
 use borrow.Author.Tests.{eq-eqb, ne-eqb}
 use Rattle.candidate_counts.specs.Raise.{bump}

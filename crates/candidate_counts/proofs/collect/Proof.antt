@@ -1,4 +1,4 @@
--- `candidate_counts::collect` meets its contract: the runs written, cleared behind (`handed`). Assumes nothing.
+-- `candidate_counts::collect` meets its contract: the runs written, cleared behind (`handed`).
 use borrow.Author.Needs.{needs}
 use Rattle.meaning_entries.specs.Buffers.{filled}
 use Rattle.clear.specs.Clear.{clearedFrom}

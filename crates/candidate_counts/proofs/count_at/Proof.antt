@@ -1,4 +1,4 @@
--- `candidate_counts::count_at` meets its contract. The invariant: the count so far. Assumes nothing.
+-- `candidate_counts::count_at` meets its contract. The invariant: the count so far.
 use mathlib.Core.Path.{_≡_, sym}
 use mathlib.Core.Bool.{Bool}
 use Prim.Native.Nat.{ℕ, _+_, _-_, _≤_}

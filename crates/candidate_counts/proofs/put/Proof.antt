@@ -1,4 +1,4 @@
--- `candidate_counts::put` meets its contract. Assumes nothing.
+-- `candidate_counts::put` meets its contract.
 use borrow.Author.Needs.{needs}
 use borrow.Author.Tests.{not-true, not-false}
 use mathlib.Core.Path.{_≡_, refl}

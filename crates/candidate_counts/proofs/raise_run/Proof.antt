@@ -1,4 +1,4 @@
--- `candidate_counts::raise_run` meets its contract. The invariant: the places passed are raised (`raise-more`). Assumes nothing.
+-- `candidate_counts::raise_run` meets its contract. The invariant: the places passed are raised (`raise-more`).
 use Prim.Native.Nat.{_-_, _<_, _≤_, max}
 use native.Mathlib.Omega.{arith}
 use lib.ListN.{length}

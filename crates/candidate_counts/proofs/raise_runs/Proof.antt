@@ -1,4 +1,4 @@
--- `candidate_counts::raise_runs` meets its contract. The invariant: raising by the runs that are left gives what is to be had (`going-next`). Assumes nothing.
+-- `candidate_counts::raise_runs` meets its contract. The invariant: raising by the runs that are left gives what is to be had (`going-next`).
 use Prim.Native.Nat.{_-_, _<_, _+_}
 use native.Mathlib.Omega.{arith}
 use lib.ListN.{length, getD}

@@ -1,4 +1,4 @@
--- `candidate_counts::take_block` meets its contract: a block of which none stands is passed over (`took-none`). Assumes nothing.
+-- `candidate_counts::take_block` meets its contract: a block of which none stands is passed over (`took-none`).
 use borrow.Author.Needs.{needs}
 use native.Mathlib.Omega.{arith}
 use Rattle.candidate_counts.specs.Handed.{stood}

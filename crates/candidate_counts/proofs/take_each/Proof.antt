@@ -1,4 +1,4 @@
--- `candidate_counts::take_each` meets its contract. The invariant: the offsets passed are taken in (`taking-next`). Assumes nothing.
+-- `candidate_counts::take_each` meets its contract. The invariant: the offsets passed are taken in (`taking-next`).
 use mathlib.Core.Path.{_≡_, refl}
 use mathlib.Core.Bool.{Bool, not, _&&_}
 use Prim.Native.Nat.{_+_, _-_, _<_, _≤_}

@@ -1,4 +1,4 @@
--- `candidate_counts::write_runs` meets its contract. The invariant: the runs of the offsets passed stand at the front, and so many were found; a block takes it on (`Took`). Assumes nothing.
+-- `candidate_counts::write_runs` meets its contract. The invariant: the runs of the offsets passed stand at the front, and so many were found; a block takes it on (`Took`).
 use mathlib.Core.Path.{_≡_, sym, ap}
 use mathlib.Core.Bool.{Bool}
 use mathlib.Core.List.{List}

@@ -1,4 +1,4 @@
--- `candidate_filter::clamp` meets its contract, by the two tests. Assumes nothing.
+-- `candidate_filter::clamp` meets its contract, by the two tests.
 use lib.IntN.{pos, negsuc}
 use lib.Signed.{_≤ℤ_, _<ℤ_}
 use mir.Syntax.{w32, w64}

@@ -1,4 +1,4 @@
--- `candidate_filter::end_of` meets its contract. Assumes nothing.
+-- `candidate_filter::end_of` meets its contract.
 use borrow.Author.Needs.{needs}
 use mathlib.Core.Path.{refl}
 use native.Mathlib.Omega.{arith}

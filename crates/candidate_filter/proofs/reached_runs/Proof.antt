@@ -1,4 +1,4 @@
--- `candidate_filter::reached_runs` meets its contract. Assumes nothing.
+-- `candidate_filter::reached_runs` meets its contract.
 use borrow.Author.Needs.{needs}
 use mathlib.Core.Path.{_≡_, refl, sym, _∙_}
 use native.Mathlib.Omega.{arith}

@@ -1,4 +1,4 @@
--- `candidate_filter::span_of` meets its contract. Assumes nothing.
+-- `candidate_filter::span_of` meets its contract.
 use borrow.Author.Needs.{needs}
 use borrow.Author.Tests.{lt-ltb, le-ltb}
 use native.Mathlib.Omega.{arith}

@@ -1,11 +1,12 @@
--- `candidate_plan::refuse_input` meets its contract, one part of the table after the other. Assumes nothing.
+-- `candidate_plan::refuse_input` meets its contract, one part of the table after the other.
 use borrow.Author.Needs.{needs}
 use mathlib.Core.List.{List, [], _∷_, _++_}
 use Rattle.meaning_entries.specs.Refusal.{Condition, flatQuery}
-use Rattle.meaning_entries.proofs.Refusal.{Passed}
-use Rattle.refusals.specs.Refusal.{line-before, passes, part-refuses, part-passes}
+use Rattle.meaning_entries.proofs.Refusal.{AllPass}
+use Rattle.refusals.specs.Refusal.{passes}
+use Rattle.refusals.proofs.RefusalLaws.{line-before, part-refuses, part-passes}
 use Rattle.candidate_plan.specs.Tables.{valuesTable, numbersTable, inputTable}
-use Rattle.candidate_plan.specs.Cases.{values-lack, numbers-lack, values-in, query-few}
+use Rattle.candidate_plan.proofs.Cases.{values-lack, numbers-lack, values-in, query-few}
 use Rattle.candidate_plan.proofs.refuse_input.Statement.{statement}
 use Rattle.candidate_plan.proofs.refuse_input.Tie as tie
 
@@ -25,7 +26,7 @@ unfolding inputTable
 returns c = let v = c .before .before in let o = v .before in part-refuses (one o) (two o ++ three o) (v .refuse-values .ensures) (c .if1 .taken)
 
 -- the values pass
-first : (c : tie.Else1) → Passed (one (c .before .before .before))
+first : (c : tie.Else1) → AllPass (one (c .before .before .before))
 first c =
     let v = c .before .before in
     let a = v .before .args in
@@ -39,7 +40,7 @@ returns-2 c =
     part-passes (two o ++ three o) (first (n .before)) (part-refuses (two o) (three o) (n .refuse-numbers .ensures) (c .if2 .taken))
 
 -- the numbers pass
-second : (c : tie.Else2) → Passed (two (c .before .before .before .before .before .before))
+second : (c : tie.Else2) → AllPass (two (c .before .before .before .before .before .before))
 second c =
     let n = c .before .before in
     let o = n .before .before .before .before in

@@ -1,6 +1,7 @@
--- `candidate_plan::refuse_state` meets its contract: what judging said, then the windows (`place-before`). Assumes nothing.
+-- `candidate_plan::refuse_state` meets its contract: what judging said, then the windows (`place-before`).
 use borrow.Author.Needs.{needs}
-use Rattle.refusals.specs.Refusal.{judgedLine, place-before}
+use Rattle.refusals.specs.Refusal.{judgedLine}
+use Rattle.refusals.proofs.RefusalLaws.{place-before}
 use Rattle.candidate_plan.specs.Tables.{stateTable}
 use Rattle.candidate_plan.proofs.refuse_state.Statement.{statement}
 use Rattle.candidate_plan.proofs.refuse_state.Tie as tie

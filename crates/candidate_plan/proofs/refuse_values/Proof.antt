@@ -1,7 +1,7 @@
--- `candidate_plan::refuse_values` meets its contract: the series, then the query (`series-before`, `place-before`). Assumes nothing.
+-- `candidate_plan::refuse_values` meets its contract: the series, then the query (`series-before`, `place-before`).
 use borrow.Author.Needs.{needs}
 use Rattle.meaning_entries.specs.Refusal.{valueOutside}
-use Rattle.refusals.specs.Refusal.{place-before, series-before}
+use Rattle.refusals.proofs.RefusalLaws.{place-before, series-before}
 use Rattle.candidate_plan.specs.Tables.{valuesTable}
 use Rattle.candidate_plan.proofs.refuse_values.Statement.{statement}
 use Rattle.candidate_plan.proofs.refuse_values.Tie as tie

@@ -1,7 +1,7 @@
--- `candidate_plan::refuse_windows` meets its contract: each test is a line of the table (`line-before`). Assumes nothing.
+-- `candidate_plan::refuse_windows` meets its contract: each test is a line of the table (`line-before`).
 use borrow.Author.Needs.{needs}
 use Rattle.meaning_entries.specs.Refusal.{fewerWindows, moreWindows}
-use Rattle.refusals.specs.Refusal.{line-before}
+use Rattle.refusals.proofs.RefusalLaws.{line-before}
 use Rattle.candidate_plan.specs.Tables.{windowsTable}
 use Rattle.candidate_plan.proofs.refuse_windows.Statement.{statement}
 use Rattle.candidate_plan.proofs.refuse_windows.Tie as tie

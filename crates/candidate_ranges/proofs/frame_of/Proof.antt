@@ -1,4 +1,4 @@
--- `candidate_ranges::frame_of` meets its contract. Assumes nothing.
+-- `candidate_ranges::frame_of` meets its contract.
 use borrow.Author.Needs.{needs}
 use mathlib.Core.Path.{_≡_}
 use Rattle.meaning_filter.specs.declared.Kind.the-variants.{Raw, Normal}

@@ -1,4 +1,4 @@
--- `candidate_ranges::high_scale` meets its contract. Assumes nothing.
+-- `candidate_ranges::high_scale` meets its contract.
 use borrow.Author.Needs.{needs}
 use native.Mathlib.Omega.{arith}
 use Prim.Native.Nat.{_+_, _≤_}

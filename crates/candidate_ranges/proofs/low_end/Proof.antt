@@ -1,4 +1,4 @@
--- `candidate_ranges::low_end` meets its contract: what is divided is small, so what the callees say of the machine's bits they say of the numbers (`dividend-back`). Assumes nothing.
+-- `candidate_ranges::low_end` meets its contract: what is divided is small, so what the callees say of the machine's bits they say of the numbers (`dividend-back`).
 use mathlib.Core.Path.{_∙_}
 use mathlib.Core.Bool.{true}
 use native.Mathlib.Omega.{arith}

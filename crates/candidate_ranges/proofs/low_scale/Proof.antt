@@ -1,4 +1,4 @@
--- `candidate_ranges::low_scale` meets its contract. Assumes nothing.
+-- `candidate_ranges::low_scale` meets its contract.
 use borrow.Author.Needs.{needs}
 use native.Mathlib.Omega.{arith}
 use native.Mathlib.Nat.{mul-pos}

@@ -1,4 +1,4 @@
--- `candidate_ranges::normal_frame` meets its contract: each step is small, so what the callees say of the machine's bits they say of the numbers. Assumes nothing.
+-- `candidate_ranges::normal_frame` meets its contract: each step is small, so what the callees say of the machine's bits they say of the numbers.
 use borrow.Author.Needs.{needs}
 use mathlib.Core.Path.{_≡_, _∙_}
 use Prim.Native.Nat.{_+_, _*_, _≤_}

@@ -1,4 +1,4 @@
--- `candidate_ranges::part_range` meets its contract: the sums of w values are small. Assumes nothing.
+-- `candidate_ranges::part_range` meets its contract: the sums of w values are small.
 use borrow.Author.Needs.{needs}
 use mathlib.Core.Path.{_≡_, _∙_, sym, subst}
 use mathlib.Core.List.{List}
@@ -10,7 +10,7 @@ use mir.Val.{toZ, ofZ}
 use mir.ValLaws.{toZ-ofZ}
 use Rattle.meaning_curves.specs.Curve.{windowSum}
 use Rattle.meaning_curves.proofs.Values.{AllIn}
-use Rattle.values.specs.Window.{window-small}
+use Rattle.values.proofs.Window.{window-small}
 use Rattle.numbers.specs.Small.{Small}
 use Rattle.numbers.proofs.Small.{one-side, small-more, small-fits, small-back}
 use Rattle.candidate_ranges.proofs.part_range.Statement.{statement}

@@ -1,4 +1,4 @@
--- `candidate_ranges::pick_of` meets its contract, by the flag. Assumes nothing.
+-- `candidate_ranges::pick_of` meets its contract, by the flag.
 use borrow.Author.Needs.{needs}
 use mathlib.Core.Path.{refl, _∙_}
 use mir.Syntax.{w64}

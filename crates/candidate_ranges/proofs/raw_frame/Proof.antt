@@ -1,4 +1,4 @@
--- `candidate_ranges::raw_frame` meets its contract. Assumes nothing.
+-- `candidate_ranges::raw_frame` meets its contract.
 use borrow.Author.Needs.{needs}
 use native.Mathlib.Omega.{arith}
 use Prim.Native.Nat.{_≤_}

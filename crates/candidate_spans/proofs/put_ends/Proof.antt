@@ -1,4 +1,4 @@
--- `candidate_spans::put_ends` meets its contract. The invariant: the entries of the parts passed are held (`held-next`); the measure is how many parts are left. Assumes nothing.
+-- `candidate_spans::put_ends` meets its contract. The invariant: the entries of the parts passed are held (`held-next`); the measure is how many parts are left.
 use borrow.Author.Needs.{needs}
 use mathlib.Core.Path.{_≡_, refl, ap, _∙_}
 use Prim.Native.Nat.{_-_, _≤_}
@@ -8,12 +8,14 @@ use mir.Syntax.{w64}
 use mir.ValLaws.{toZ-ofZ}
 use Rattle.candidate_ranges.specs.declared.Range.{Range}
 use Rattle.candidate_filter.specs.Parts.{partRange}
-use Rattle.candidate_spans.specs.Held.{Held, raisedEnd, lowEnds, highEnds, none-held, held-next, part-room}
+use Rattle.candidate_spans.specs.Held.{PartsHeld, lowEnds, highEnds}
+use Rattle.candidate_filter.specs.Stored.{raisedEnd}
+use Rattle.candidate_spans.proofs.Held.{none-held, held-next, part-room}
 use Rattle.candidate_spans.proofs.put_ends.Statement.{statement}
 use Rattle.candidate_spans.proofs.put_ends.Tie as tie
 
 abbrev Inv-loop : tie.InvT-loop
-Inv-loop f low high w parts first₀ last₀ i₀ first last i = Held (lowEnds (partRange f low high w)) (highEnds (partRange f low high w)) 0 i first last × (length first ≡ length first₀) × (length last ≡ length last₀) × (i ≤ parts)
+Inv-loop f low high w parts first₀ last₀ i₀ first last i = PartsHeld (lowEnds (partRange f low high w)) (highEnds (partRange f low high w)) 0 i first last × (length first ≡ length first₀) × (length last ≡ length last₀) × (i ≤ parts)
 
 abbrev μ-loop : tie.MeasureT-loop
 μ-loop f low high w parts first₀ last₀ i₀ first last i = parts - i

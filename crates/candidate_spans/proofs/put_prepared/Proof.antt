@@ -1,4 +1,4 @@
--- `candidate_spans::put_prepared` meets its contract: the ranges of the parts are those of document 01 (`range-is`). Assumes nothing.
+-- `candidate_spans::put_prepared` meets its contract: the ranges of the parts are those of document 01 (`range-is`).
 use borrow.Author.Needs.{needs}
 use Rattle.candidate_spans.proofs.Query.{query-ready, ends-ready, ranges-held}
 use Rattle.candidate_spans.proofs.put_prepared.Statement.{statement}

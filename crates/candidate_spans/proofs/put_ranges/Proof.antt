@@ -1,6 +1,6 @@
--- `candidate_spans::put_ranges` meets its contract. Assumes nothing.
+-- `candidate_spans::put_ranges` meets its contract.
 use borrow.Author.Needs.{needs}
-use Rattle.check_list.specs.Turn.{front-long}
+use Rattle.meaning_curves.proofs.Values.{front-long}
 use Rattle.candidate_spans.proofs.put_ranges.Statement.{statement}
 use Rattle.candidate_spans.proofs.put_ranges.Tie as tie
 

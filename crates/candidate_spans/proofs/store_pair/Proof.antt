@@ -1,6 +1,6 @@
--- `candidate_spans::store_pair` meets its contract (`stored`). Assumes nothing.
+-- `candidate_spans::store_pair` meets its contract (`stored`).
 use borrow.Author.Needs.{needs}
-use Rattle.candidate_spans.specs.Held.{stored}
+use Rattle.candidate_spans.proofs.Held.{stored}
 use Rattle.candidate_spans.proofs.store_pair.Statement.{statement}
 use Rattle.candidate_spans.proofs.store_pair.Tie as tie
 

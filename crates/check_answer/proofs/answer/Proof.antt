@@ -1,8 +1,9 @@
--- `check_answer::answer` meets its contract (`answer-all`, `answer-full`). Assumes nothing.
+-- `check_answer::answer` meets its contract (`answer-all`, `answer-full`).
 use borrow.Author.Needs.{needs}
 use mathlib.Core.Path.{ap, _∙_}
 use native.Mathlib.Omega.{arith}
-use Rattle.check_answer.specs.Answer.{answerOf, answer-all, answer-full}
+use Rattle.check_answer.specs.Answer.{answerOf}
+use Rattle.check_answer.proofs.AnswerLaws.{answer-all, answer-full}
 use Rattle.check_answer.proofs.answer.Statement.{statement}
 use Rattle.check_answer.proofs.answer.Tie as tie
 

@@ -1,7 +1,7 @@
--- `check_answer::find_matches` meets its contract (`answers`). Assumes nothing.
+-- `check_answer::find_matches` meets its contract (`answers`).
 use borrow.Author.Needs.{needs}
-use Rattle.check_list.specs.Turn.{front-long}
-use Rattle.check_answer.specs.Answer.{answers}
+use Rattle.meaning_curves.proofs.Values.{front-long}
+use Rattle.check_answer.proofs.AnswerLaws.{answers}
 use Rattle.check_answer.proofs.find_matches.Statement.{statement}
 use Rattle.check_answer.proofs.find_matches.Tie as tie
 

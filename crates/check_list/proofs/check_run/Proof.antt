@@ -1,9 +1,9 @@
--- `check_list::check_run` meets its contract. The invariant is `RunSoFar`, and that the room keeps its length; the measure is how many offsets are left. Assumes nothing.
+-- `check_list::check_run` meets its contract. The invariant is `RunSoFar`, and that the room keeps its length; the measure is how many offsets are left.
 use mathlib.Core.Path.{_≡_, refl, _∙_}
 use Prim.Native.Nat.{ℕ, _+_, _-_, _≤_}
 use native.Mathlib.Omega.{arith}
 use lib.ListN.{length}
-use Rattle.check_list.specs.Turn.{RunSoFar, run-starts, run-next, run-ends}
+use Rattle.check_list.proofs.Turn.{RunSoFar, run-starts, run-next, run-ends}
 use Rattle.check_list.proofs.check_run.Statement.{statement}
 use Rattle.check_list.proofs.check_run.Tie as tie
 

@@ -1,6 +1,6 @@
--- `check_list::first_sums` meets its contract: a raw query asks for no sums (`raw-sums`). Assumes nothing.
+-- `check_list::first_sums` meets its contract: a raw query asks for no sums (`raw-sums`).
 use borrow.Author.Needs.{needs}
-use Rattle.check_list.specs.Found.{raw-sums}
+use Rattle.check_list.proofs.Found.{raw-sums}
 use Rattle.check_list.proofs.first_sums.Statement.{statement}
 use Rattle.check_list.proofs.first_sums.Tie as tie
 

@@ -1,7 +1,7 @@
--- `check_list::list_match` meets its contract, by what the test says. Assumes nothing.
+-- `check_list::list_match` meets its contract, by what the test says.
 use borrow.Author.Needs.{needs}
-use Rattle.check_list.specs.Found.{no-entries, one-entry}
-use Rattle.check_list.specs.Listed.{list-none}
+use Rattle.check_list.proofs.Found.{no-entries, one-entry}
+use Rattle.check_list.proofs.Listed.{list-none}
 use Rattle.check_list.proofs.list_match.Statement.{statement}
 use Rattle.check_list.proofs.list_match.Tie as tie
 

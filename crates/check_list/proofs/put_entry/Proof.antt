@@ -1,7 +1,7 @@
--- `check_list::put_entry` meets its contract (`list-put`, `list-full`). Assumes nothing.
+-- `check_list::put_entry` meets its contract (`list-put`, `list-full`).
 use borrow.Author.Needs.{needs}
 use native.Mathlib.Omega.{arith}
-use Rattle.check_list.specs.Listed.{list-put, list-full}
+use Rattle.check_list.proofs.Listed.{list-put, list-full}
 use Rattle.check_list.proofs.put_entry.Statement.{statement}
 use Rattle.check_list.proofs.put_entry.Tie as tie
 

@@ -1,7 +1,7 @@
--- `check_list::slide_sums` meets its contract: a raw query asks for no sums (`raw-sums`), and there is no stretch past the last. Assumes nothing.
+-- `check_list::slide_sums` meets its contract: a raw query asks for no sums (`raw-sums`), and there is no stretch past the last.
 use borrow.Author.Needs.{needs}
 use native.Mathlib.Omega.{arith}
-use Rattle.check_list.specs.Found.{raw-sums}
+use Rattle.check_list.proofs.Found.{raw-sums}
 use Rattle.check_list.proofs.slide_sums.Statement.{statement}
 use Rattle.check_list.proofs.slide_sums.Tie as tie
 

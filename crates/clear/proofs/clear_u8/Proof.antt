@@ -1,4 +1,4 @@
--- `clear::clear_u8` meets its contract. Assumes nothing.
+-- `clear::clear_u8` meets its contract.
 use Prim.Native.Nat.{_-_}
 use native.Mathlib.Omega.{arith}
 use lib.ListN.{length}

@@ -2,20 +2,20 @@
 -- Both indexes are audited, the series is searched through both, and what they come to is told.
 -- | use Rattle.meaning_rows.specs.Index.{lent}
 -- | use Rattle.meaning_entries.specs.Search.{lentSearch}
--- | use Rattle.entry_search.specs.Refused.{buffers}
--- | use Rattle.demand.proofs.Kept.{demand3-kept}
+-- | use Rattle.meaning_entries.specs.Search.{searchBuffers}
+-- | use Rattle.meaning_entries.proofs.BothKept.{demand3-kept}
 -- | one, audit1 = audit
 -- | two, audit2 = audit
 -- | found1, kept1 = search
 -- | found2, kept2 = search
 -- | t, told = tell
--- | ends: rw told (demand3-kept (lentSearch (now series) head1 (now rows1) (now left1) (now right1) ask (now query)) (lent head2 (now rows2) (now left2) (now right2)) (buffers (now first1) (now last1) (now scratch1) (now offsets1) (now distances1)) (buffers (now first2) (now last2) (now scratch2) (now offsets2) (now distances2)) (buffers last.first1 last.last1 last.scratch1 last.offsets1 last.distances1) (buffers last.first2 last.last2 last.scratch2 last.offsets2 last.distances2) one two found1 found2 audit1 audit2 kept1 kept2)
+-- | ends: rw told (demand3-kept (lentSearch (now series) head1 (now rows1) (now left1) (now right1) ask (now query)) (lent head2 (now rows2) (now left2) (now right2)) (searchBuffers (now first1) (now last1) (now scratch1) (now offsets1) (now distances1)) (searchBuffers (now first2) (now last2) (now scratch2) (now offsets2) (now distances2)) (searchBuffers last.first1 last.last1 last.scratch1 last.offsets1 last.distances1) (searchBuffers last.first2 last.last2 last.scratch2 last.offsets2 last.distances2) one two found1 found2 audit1 audit2 kept1 kept2)
 use Rattle.rows_records.proofs.Prelude.{refl, ℕ, List, [], _∷_, ℤ, length, URA, fullShare, named, Val, SProp, ent, emp, id⊢, via, fst∗, Memory, Routine, Heap, WpFn, Tables, Atoms, Lfts, Shares, Fun, factI, givenOf, tables, Given, Item, ⋆, _$_, _∵_, !, qed, by, move, keep, whole, sub, agg, look, init, stop, from, and-then, no-more, land, returns, enter, alloc1, alloc0, params1, pass1, pass0, FmC, fmOf, Is, i32, u64, u32, u16, RefT, ptr, now, name, sliceVal, Room, slice-vals, shr-slice-tells, mut-slice-tells, Meets, tripleOf, entered, cited, AtEntry, Data, struct, enum, Lent, value, kept, lends, token, viewed, lent-at, holds, empty, tidy, frees-all, calls-with, leaves-with, meets-with, loc, part, start, put-at}
 use contract.Running.{tablesOf}
 use Rattle.meaning_rows.specs.Index.{lent}
 use Rattle.meaning_entries.specs.Search.{lentSearch}
-use Rattle.entry_search.specs.Refused.{buffers}
-use Rattle.demand.proofs.Kept.{demand3-kept}
+use Rattle.meaning_entries.specs.Search.{searchBuffers}
+use Rattle.meaning_entries.proofs.BothKept.{demand3-kept}
 use Rattle.meaning_filter.specs.declared.Ask.{Ask}
 use Rattle.meaning_filter.proofs.Ask as Askᵀ
 use Rattle.meaning_filter.proofs.Ask.Laws as Askᴸ
@@ -208,7 +208,7 @@ module _ {M : Type 1} (𝓤 : URA M) (H : Heap 𝓤) (A : Atoms 𝓤) (W : Given
         returns ! (look ! 36 refl) $
         frees-all ! (token 𝓤 H A series° ∷ viewed 𝓤 H A series° ∷ token 𝓤 H A rows2° ∷ viewed 𝓤 H A rows2° ∷ token 𝓤 H A left2° ∷ viewed 𝓤 H A left2° ∷ token 𝓤 H A right2° ∷ viewed 𝓤 H A right2° ∷ token 𝓤 H A query° ∷ viewed 𝓤 H A query° ∷ token 𝓤 H A first2° ∷ lent-at 𝓤 H A first2° (ls₄ .1 .1 .1 .1 .1 .1 .1 .0) ∷ token 𝓤 H A last2° ∷ lent-at 𝓤 H A last2° (ls₄ .1 .1 .1 .1 .1 .1 .1 .1 .0) ∷ token 𝓤 H A scratch2° ∷ lent-at 𝓤 H A scratch2° (ls₄ .1 .1 .1 .1 .1 .1 .1 .1 .1 .0) ∷ token 𝓤 H A offsets2° ∷ lent-at 𝓤 H A offsets2° (ls₄ .1 .1 .1 .1 .1 .1 .1 .1 .1 .1 .0) ∷ token 𝓤 H A distances2° ∷ lent-at 𝓤 H A distances2° (ls₄ .1 .1 .1 .1 .1 .1 .1 .1 .1 .1 .1 .0) ∷ token 𝓤 H A rows1° ∷ viewed 𝓤 H A rows1° ∷ token 𝓤 H A left1° ∷ viewed 𝓤 H A left1° ∷ token 𝓤 H A right1° ∷ viewed 𝓤 H A right1° ∷ token 𝓤 H A first1° ∷ lent-at 𝓤 H A first1° (ls₃ .1 .1 .1 .1 .1 .1 .1 .0) ∷ token 𝓤 H A last1° ∷ lent-at 𝓤 H A last1° (ls₃ .1 .1 .1 .1 .1 .1 .1 .1 .0) ∷ token 𝓤 H A scratch1° ∷ lent-at 𝓤 H A scratch1° (ls₃ .1 .1 .1 .1 .1 .1 .1 .1 .1 .0) ∷ token 𝓤 H A offsets1° ∷ lent-at 𝓤 H A offsets1° (ls₃ .1 .1 .1 .1 .1 .1 .1 .1 .1 .1 .0) ∷ token 𝓤 H A distances1° ∷ lent-at 𝓤 H A distances1° (ls₃ .1 .1 .1 .1 .1 .1 .1 .1 .1 .1 .1 .0) ∷ []) (holds _ ∷ holds _ ∷ holds _ ∷ holds _ ∷ holds _ ∷ holds _ ∷ holds _ ∷ holds _ ∷ holds _ ∷ holds _ ∷ holds _ ∷ holds _ ∷ holds _ ∷ holds _ ∷ holds _ ∷ holds _ ∷ holds _ ∷ holds _ ∷ holds _ ∷ holds _ ∷ holds _ ∷ holds _ ∷ holds _ ∷ holds _ ∷ holds _ ∷ holds _ ∷ holds _ ∷ holds _ ∷ holds _ ∷ holds _ ∷ holds _ ∷ holds _ ∷ holds _ ∷ holds _ ∷ holds _ ∷ holds _ ∷ holds _ ∷ holds _ ∷ holds _ ∷ holds _ ∷ holds _ ∷ holds _ ∷ holds _ ∷ holds _ ∷ holds _ ∷ holds _ ∷ []) tt $
         keep ! (0 ∷ 1 ∷ 20 ∷ 21 ∷ 22 ∷ 23 ∷ 24 ∷ 25 ∷ 2 ∷ 3 ∷ 4 ∷ 5 ∷ 6 ∷ 7 ∷ 8 ∷ 9 ∷ 26 ∷ 27 ∷ 28 ∷ 29 ∷ 30 ∷ 31 ∷ 32 ∷ 33 ∷ 34 ∷ 35 ∷ 10 ∷ 11 ∷ 12 ∷ 13 ∷ 14 ∷ 15 ∷ 16 ∷ 17 ∷ 18 ∷ 19 ∷ []) $
-        by ! (leaves-with 𝓤 H A W f.ended (f.clauses 𝓤 H A mem run) bound (kept series° ∷ kept rows1° ∷ kept left1° ∷ kept right1° ∷ kept rows2° ∷ kept left2° ∷ kept right2° ∷ kept query° ∷ lends first1° (ls₃ .1 .1 .1 .1 .1 .1 .1 .0) (fits₃ .1 .1 .1 .1 .1 .1 .1 .0) ∷ lends last1° (ls₃ .1 .1 .1 .1 .1 .1 .1 .1 .0) (fits₃ .1 .1 .1 .1 .1 .1 .1 .1 .0) ∷ lends scratch1° (ls₃ .1 .1 .1 .1 .1 .1 .1 .1 .1 .0) (fits₃ .1 .1 .1 .1 .1 .1 .1 .1 .1 .0) ∷ lends offsets1° (ls₃ .1 .1 .1 .1 .1 .1 .1 .1 .1 .1 .0) (fits₃ .1 .1 .1 .1 .1 .1 .1 .1 .1 .1 .0) ∷ lends distances1° (ls₃ .1 .1 .1 .1 .1 .1 .1 .1 .1 .1 .1 .0) (fits₃ .1 .1 .1 .1 .1 .1 .1 .1 .1 .1 .1 .0) ∷ lends first2° (ls₄ .1 .1 .1 .1 .1 .1 .1 .0) (fits₄ .1 .1 .1 .1 .1 .1 .1 .0) ∷ lends last2° (ls₄ .1 .1 .1 .1 .1 .1 .1 .1 .0) (fits₄ .1 .1 .1 .1 .1 .1 .1 .1 .0) ∷ lends scratch2° (ls₄ .1 .1 .1 .1 .1 .1 .1 .1 .1 .0) (fits₄ .1 .1 .1 .1 .1 .1 .1 .1 .1 .0) ∷ lends offsets2° (ls₄ .1 .1 .1 .1 .1 .1 .1 .1 .1 .1 .0) (fits₄ .1 .1 .1 .1 .1 .1 .1 .1 .1 .1 .0) ∷ lends distances2° (ls₄ .1 .1 .1 .1 .1 .1 .1 .1 .1 .1 .1 .0) (fits₄ .1 .1 .1 .1 .1 .1 .1 .1 .1 .1 .1 .0) ∷ []) ((Bothᴰ 𝓤 H A W) .val t) t (tt, (tt, (tt, (tt, (tt, (tt, (tt, (tt, (tt, (tt, (tt, ((ls₃ .1 .1 .1 .1 .1 .1 .1 .0), ((ls₃ .1 .1 .1 .1 .1 .1 .1 .1 .0), ((ls₃ .1 .1 .1 .1 .1 .1 .1 .1 .1 .0), ((ls₃ .1 .1 .1 .1 .1 .1 .1 .1 .1 .1 .0), ((ls₃ .1 .1 .1 .1 .1 .1 .1 .1 .1 .1 .1 .0), ((ls₄ .1 .1 .1 .1 .1 .1 .1 .0), ((ls₄ .1 .1 .1 .1 .1 .1 .1 .1 .0), ((ls₄ .1 .1 .1 .1 .1 .1 .1 .1 .1 .0), ((ls₄ .1 .1 .1 .1 .1 .1 .1 .1 .1 .1 .0), ((ls₄ .1 .1 .1 .1 .1 .1 .1 .1 .1 .1 .1 .0), tt))))))))))))))))))))) refl refl ((Bothᴰ 𝓤 H A W) .makes t _ is₅) (factI 𝓤 _ (emp 𝓤) (rw told (demand3-kept (lentSearch (now series) head1 (now rows1) (now left1) (now right1) ask (now query)) (lent head2 (now rows2) (now left2) (now right2)) (buffers (now first1) (now last1) (now scratch1) (now offsets1) (now distances1)) (buffers (now first2) (now last2) (now scratch2) (now offsets2) (now distances2)) (buffers (ls₃ .1 .1 .1 .1 .1 .1 .1 .0) (ls₃ .1 .1 .1 .1 .1 .1 .1 .1 .0) (ls₃ .1 .1 .1 .1 .1 .1 .1 .1 .1 .0) (ls₃ .1 .1 .1 .1 .1 .1 .1 .1 .1 .1 .0) (ls₃ .1 .1 .1 .1 .1 .1 .1 .1 .1 .1 .1 .0)) (buffers (ls₄ .1 .1 .1 .1 .1 .1 .1 .0) (ls₄ .1 .1 .1 .1 .1 .1 .1 .1 .0) (ls₄ .1 .1 .1 .1 .1 .1 .1 .1 .1 .0) (ls₄ .1 .1 .1 .1 .1 .1 .1 .1 .1 .1 .0) (ls₄ .1 .1 .1 .1 .1 .1 .1 .1 .1 .1 .1 .0)) one two found1 found2 audit1 audit2 kept1 kept2)))))))))))))))))))))))))))))))))))))))))))))))))))))))
+        by ! (leaves-with 𝓤 H A W f.ended (f.clauses 𝓤 H A mem run) bound (kept series° ∷ kept rows1° ∷ kept left1° ∷ kept right1° ∷ kept rows2° ∷ kept left2° ∷ kept right2° ∷ kept query° ∷ lends first1° (ls₃ .1 .1 .1 .1 .1 .1 .1 .0) (fits₃ .1 .1 .1 .1 .1 .1 .1 .0) ∷ lends last1° (ls₃ .1 .1 .1 .1 .1 .1 .1 .1 .0) (fits₃ .1 .1 .1 .1 .1 .1 .1 .1 .0) ∷ lends scratch1° (ls₃ .1 .1 .1 .1 .1 .1 .1 .1 .1 .0) (fits₃ .1 .1 .1 .1 .1 .1 .1 .1 .1 .0) ∷ lends offsets1° (ls₃ .1 .1 .1 .1 .1 .1 .1 .1 .1 .1 .0) (fits₃ .1 .1 .1 .1 .1 .1 .1 .1 .1 .1 .0) ∷ lends distances1° (ls₃ .1 .1 .1 .1 .1 .1 .1 .1 .1 .1 .1 .0) (fits₃ .1 .1 .1 .1 .1 .1 .1 .1 .1 .1 .1 .0) ∷ lends first2° (ls₄ .1 .1 .1 .1 .1 .1 .1 .0) (fits₄ .1 .1 .1 .1 .1 .1 .1 .0) ∷ lends last2° (ls₄ .1 .1 .1 .1 .1 .1 .1 .1 .0) (fits₄ .1 .1 .1 .1 .1 .1 .1 .1 .0) ∷ lends scratch2° (ls₄ .1 .1 .1 .1 .1 .1 .1 .1 .1 .0) (fits₄ .1 .1 .1 .1 .1 .1 .1 .1 .1 .0) ∷ lends offsets2° (ls₄ .1 .1 .1 .1 .1 .1 .1 .1 .1 .1 .0) (fits₄ .1 .1 .1 .1 .1 .1 .1 .1 .1 .1 .0) ∷ lends distances2° (ls₄ .1 .1 .1 .1 .1 .1 .1 .1 .1 .1 .1 .0) (fits₄ .1 .1 .1 .1 .1 .1 .1 .1 .1 .1 .1 .0) ∷ []) ((Bothᴰ 𝓤 H A W) .val t) t (tt, (tt, (tt, (tt, (tt, (tt, (tt, (tt, (tt, (tt, (tt, ((ls₃ .1 .1 .1 .1 .1 .1 .1 .0), ((ls₃ .1 .1 .1 .1 .1 .1 .1 .1 .0), ((ls₃ .1 .1 .1 .1 .1 .1 .1 .1 .1 .0), ((ls₃ .1 .1 .1 .1 .1 .1 .1 .1 .1 .1 .0), ((ls₃ .1 .1 .1 .1 .1 .1 .1 .1 .1 .1 .1 .0), ((ls₄ .1 .1 .1 .1 .1 .1 .1 .0), ((ls₄ .1 .1 .1 .1 .1 .1 .1 .1 .0), ((ls₄ .1 .1 .1 .1 .1 .1 .1 .1 .1 .0), ((ls₄ .1 .1 .1 .1 .1 .1 .1 .1 .1 .1 .0), ((ls₄ .1 .1 .1 .1 .1 .1 .1 .1 .1 .1 .1 .0), tt))))))))))))))))))))) refl refl ((Bothᴰ 𝓤 H A W) .makes t _ is₅) (factI 𝓤 _ (emp 𝓤) (rw told (demand3-kept (lentSearch (now series) head1 (now rows1) (now left1) (now right1) ask (now query)) (lent head2 (now rows2) (now left2) (now right2)) (searchBuffers (now first1) (now last1) (now scratch1) (now offsets1) (now distances1)) (searchBuffers (now first2) (now last2) (now scratch2) (now offsets2) (now distances2)) (searchBuffers (ls₃ .1 .1 .1 .1 .1 .1 .1 .0) (ls₃ .1 .1 .1 .1 .1 .1 .1 .1 .0) (ls₃ .1 .1 .1 .1 .1 .1 .1 .1 .1 .0) (ls₃ .1 .1 .1 .1 .1 .1 .1 .1 .1 .1 .0) (ls₃ .1 .1 .1 .1 .1 .1 .1 .1 .1 .1 .1 .0)) (searchBuffers (ls₄ .1 .1 .1 .1 .1 .1 .1 .0) (ls₄ .1 .1 .1 .1 .1 .1 .1 .1 .0) (ls₄ .1 .1 .1 .1 .1 .1 .1 .1 .1 .0) (ls₄ .1 .1 .1 .1 .1 .1 .1 .1 .1 .1 .0) (ls₄ .1 .1 .1 .1 .1 .1 .1 .1 .1 .1 .1 .0)) one two found1 found2 audit1 audit2 kept1 kept2)))))))))))))))))))))))))))))))))))))))))))))))))))))))
 
   meets : Meets 𝓤 H A f.signature (WpFn 𝓤 H (𝓣 .C) (𝓣 .Λ) code.function) (f.spec 𝓤 H A mem run)
   meets = meets-with 𝓤 H A f.ended (f.clauses 𝓤 H A mem run) (WpFn 𝓤 H (𝓣 .C) (𝓣 .Λ) code.function) (λ κs. (slice-vals, ((λ x. (Headᴰ 𝓤 H A W) .val x ∷ []), (slice-vals, (slice-vals, (slice-vals, ((λ x. (Headᴰ 𝓤 H A W) .val x ∷ []), (slice-vals, (slice-vals, (slice-vals, ((λ x. (Askᴰ 𝓤 H A W) .val x ∷ []), (slice-vals, (slice-vals, (slice-vals, (slice-vals, (slice-vals, (slice-vals, (slice-vals, (slice-vals, (slice-vals, (slice-vals, (slice-vals, tt))))))))))))))))))))))

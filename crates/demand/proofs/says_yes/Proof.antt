@@ -1,7 +1,7 @@
--- `demand::says_yes` meets its contract, case by case. Assumes nothing.
+-- `demand::says_yes` meets its contract, case by case.
 use borrow.Author.Needs.{needs}
 use mathlib.Core.Path.{sym, ap}
-use Rattle.meaning_entries.specs.Told.{yes}
+use Rattle.meaning_entries.specs.Both.{yes}
 use Rattle.demand.proofs.says_yes.Statement.{statement}
 use Rattle.demand.proofs.says_yes.Tie as tie
 

@@ -1,4 +1,4 @@
--- `demand::tell` meets its contract: its tests are those of the definition. Assumes nothing.
+-- `demand::tell` meets its contract: its tests are those of the definition.
 use borrow.Author.Needs.{needs}
 use borrow.Author.Tests.{not-true, not-false}
 use mathlib.Core.Path.{_≡_, refl, sym, _∙_}
@@ -6,7 +6,7 @@ use mathlib.Core.Bool.{true, false}
 use Rattle.meaning_entries.specs.declared.Audited.{Audited}
 use Rattle.meaning_entries.specs.declared.Found.{Found}
 use Rattle.meaning_entries.specs.declared.Both.{Both}
-use Rattle.meaning_entries.specs.Told.{yes, toldFound, told}
+use Rattle.meaning_entries.specs.Both.{yes, toldFound, told}
 use Rattle.demand.proofs.tell.Statement.{statement}
 use Rattle.demand.proofs.tell.Tie as tie
 

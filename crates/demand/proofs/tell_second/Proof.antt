@@ -1,7 +1,7 @@
--- `demand::tell_second` meets its contract, case by case. Assumes nothing.
+-- `demand::tell_second` meets its contract, case by case.
 use borrow.Author.Needs.{needs}
 use mathlib.Core.Path.{sym, ap}
-use Rattle.meaning_entries.specs.Told.{toldSecond}
+use Rattle.meaning_entries.specs.Both.{toldSecond}
 use Rattle.demand.proofs.tell_second.Statement.{statement}
 use Rattle.demand.proofs.tell_second.Tie as tie
 

@@ -1,4 +1,4 @@
--- `distance_bound::envelope_part` meets its contract. The invariant: the sum so far. Assumes nothing.
+-- `distance_bound::envelope_part` meets its contract. The invariant: the sum so far.
 use mathlib.Core.Path.{_≡_}
 use Prim.Native.Nat.{ℕ, _+_, _*_, _-_, _≤_}
 use native.Mathlib.Omega.{arith}

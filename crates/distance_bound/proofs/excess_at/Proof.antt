@@ -1,9 +1,9 @@
--- `distance_bound::excess_at` meets its contract. Assumes nothing.
+-- `distance_bound::excess_at` meets its contract.
 use mathlib.Core.Path.{_∙_, ap}
 use native.Mathlib.Omega.{arith}
 use Rattle.meaning_numbers.specs.Sum.{square}
-use Rattle.numbers.specs.Back.{in-arg}
-use Rattle.distance_bound.specs.Excess.{excess-back}
+use Rattle.numbers.proofs.Back.{in-arg}
+use Rattle.distance_bound.proofs.Excess.{excess-back}
 use Rattle.distance_bound.proofs.excess_at.Statement.{statement}
 use Rattle.distance_bound.proofs.excess_at.Tie as tie
 

@@ -1,4 +1,4 @@
--- `distance_bound::outside` meets its contract: the greater of the two differences, and 0 where it is negative. Assumes nothing.
+-- `distance_bound::outside` meets its contract: the greater of the two differences, and 0 where it is negative.
 use mathlib.Core.Path.{_≡_, ap}
 use mathlib.Core.Logic.{⊎-elim}
 use Prim.Native.Nat.{_≤_}

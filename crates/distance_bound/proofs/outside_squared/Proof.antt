@@ -1,12 +1,12 @@
--- `distance_bound::outside_squared` meets its contract. Assumes nothing.
+-- `distance_bound::outside_squared` meets its contract.
 use borrow.Author.Needs.{needs}
 use mathlib.Core.Path.{_≡_, refl, _∙_}
 use Prim.Native.Nat.{_*_, _≤_}
 use native.Mathlib.Omega.{arith}
 use Rattle.meaning_filter.proofs.Apart.{excess-sq-le}
 use Rattle.meaning_filter.proofs.Bound.{excess}
-use Rattle.numbers.specs.Back.{in-arg}
-use Rattle.distance_bound.specs.Excess.{excess-back}
+use Rattle.numbers.proofs.Back.{in-arg}
+use Rattle.distance_bound.proofs.Excess.{excess-back}
 use Rattle.distance_bound.proofs.outside_squared.Statement.{statement}
 use Rattle.distance_bound.proofs.outside_squared.Tie as tie
 

@@ -1,4 +1,4 @@
--- `distance_envelope::pass_ahead` meets its contract. The invariant: the pass is made as far as place i (`AheadTo`). Assumes nothing.
+-- `distance_envelope::pass_ahead` meets its contract. The invariant: the pass is made as far as place i (`AheadTo`).
 use borrow.Author.Needs.{needs}
 use mathlib.Core.Path.{_≡_, refl, _∙_}
 use Prim.Native.Nat.{_+_, _-_, _≤_}
@@ -9,7 +9,7 @@ use mir.Val.{toZ, ofZ}
 use mir.ValLaws.{toZ-ofZ}
 use Rattle.meaning_curves.specs.Curve.{at}
 use Rattle.distance_envelope.specs.Best.{pick}
-use Rattle.distance_envelope.specs.Pass.{AheadTo, ahead-start, ahead-next, ahead-end}
+use Rattle.distance_envelope.proofs.Pass.{AheadTo, ahead-start, ahead-next, ahead-end}
 use Rattle.distance_envelope.proofs.pass_ahead.Statement.{statement}
 use Rattle.distance_envelope.proofs.pass_ahead.Tie as tie
 

@@ -1,4 +1,4 @@
--- `distance_envelope::pass_back` meets its contract. The invariant: the pass is made from the end as far as place i (`BackTo`). Assumes nothing.
+-- `distance_envelope::pass_back` meets its contract. The invariant: the pass is made from the end as far as place i (`BackTo`).
 use borrow.Author.Needs.{needs}
 use mathlib.Core.Path.{_≡_, refl, _∙_}
 use Prim.Native.Nat.{_-_, _≤_, min}
@@ -9,7 +9,7 @@ use mir.Val.{toZ, ofZ}
 use mir.ValLaws.{toZ-ofZ}
 use Rattle.meaning_curves.specs.Curve.{at}
 use Rattle.distance_envelope.specs.Best.{pick}
-use Rattle.distance_envelope.specs.Pass.{BackTo, back-start, back-next, back-end}
+use Rattle.distance_envelope.proofs.Pass.{BackTo, back-start, back-next, back-end}
 use Rattle.distance_envelope.proofs.pass_back.Statement.{statement}
 use Rattle.distance_envelope.proofs.pass_back.Tie as tie
 

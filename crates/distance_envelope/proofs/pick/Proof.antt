@@ -1,4 +1,4 @@
--- `distance_envelope::pick` meets its contract, by the flag. Assumes nothing.
+-- `distance_envelope::pick` meets its contract, by the flag.
 use borrow.Author.Needs.{needs}
 use mathlib.Core.Path.{refl, _∙_}
 use mir.Syntax.{w32}

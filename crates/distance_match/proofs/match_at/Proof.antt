@@ -1,4 +1,4 @@
--- `distance_match::match_at` meets its contract, by the kind: of a raw query the distance decides (`raw-matched`). Assumes nothing.
+-- `distance_match::match_at` meets its contract, by the kind: of a raw query the distance decides (`raw-matched`).
 use borrow.Author.Needs.{needs}
 use mathlib.Core.Path.{_≡_, _∙_, ap}
 use Prim.Native.Nat.{ℕ}
@@ -8,10 +8,10 @@ use Rattle.meaning_curves.specs.Curve.{at, stretch}
 use Rattle.meaning_curves.proofs.Same.{distance-same}
 use Rattle.meaning_filter.specs.declared.Kind.the-variants.{Raw, Normal}
 use Rattle.distance_query.specs.Ready.{Ready}
-use Rattle.distance_compare.specs.Answer.{nearness}
-use Rattle.distance_match.specs.Matched.{raw-matched}
-use Rattle.distance_compare.specs.Room.{same-self}
-use Rattle.distance_match.specs.Shift.{of-kind}
+use Rattle.distance_within.specs.Answer.{nearness}
+use Rattle.distance_match.proofs.Matched.{raw-matched}
+use Rattle.distance_within.proofs.Room.{same-self}
+use Rattle.distance_match.proofs.Shift.{of-kind}
 use Rattle.distance_match.proofs.match_at.Statement.{statement}
 use Rattle.distance_match.proofs.match_at.Tie as tie
 

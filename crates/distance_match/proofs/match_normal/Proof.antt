@@ -1,4 +1,4 @@
--- `distance_match::match_normal` meets its contract: where a cheap test fails the stretch does not match (`unlike-matched`), else the distance decides (`alike-matched`). Assumes nothing.
+-- `distance_match::match_normal` meets its contract: where a cheap test fails the stretch does not match (`unlike-matched`), else the distance decides (`alike-matched`).
 use borrow.Author.Needs.{needs}
 use borrow.Author.Tests.{not-true, not-false}
 use mathlib.Core.Path.{_≡_, _∙_, ap}
@@ -8,11 +8,11 @@ use lib.ListN.{length}
 use Rattle.meaning_curves.specs.Curve.{at, stretch, total, spread}
 use Rattle.meaning_curves.specs.Normal.{normalised}
 use Rattle.meaning_curves.proofs.Same.{distance-same}
-use Rattle.values.specs.Sums.{spread-bound}
-use Rattle.distance_compare.specs.Answer.{nearness}
-use Rattle.distance_match.specs.Alike.{alike-matched, unlike-matched}
-use Rattle.distance_compare.specs.Room.{same-self}
-use Rattle.distance_match.specs.Shift.{shift-raised, spread-limit}
+use Rattle.values.proofs.SumsLaws.{spread-bound}
+use Rattle.distance_within.specs.Answer.{nearness}
+use Rattle.distance_match.proofs.AlikeLaws.{alike-matched, unlike-matched}
+use Rattle.distance_within.proofs.Room.{same-self}
+use Rattle.distance_match.proofs.Shift.{shift-raised, spread-limit}
 use Rattle.distance_match.proofs.match_normal.Statement.{statement}
 use Rattle.distance_match.proofs.match_normal.Tie as tie
 

@@ -1,9 +1,9 @@
--- `distance_normal::cut_of` meets its contract: the estimate or one more (`estimate`, `cut-flag`). Assumes nothing.
+-- `distance_normal::cut_of` meets its contract: the estimate or one more (`estimate`, `cut-flag`).
 use borrow.Author.Needs.{needs}
 use Prim.Native.Nat.{ℕ, _+_, _*_, _/_}
 use native.Mathlib.Omega.{arith}
 use lib.Dec.{leb}
-use Rattle.distance_normal.specs.Normal.{Estimate, estimate, product-le, cut-flag, flag-le}
+use Rattle.distance_normal.proofs.Normal.{Estimate, estimate, product-le, cut-flag, flag-le}
 use Rattle.distance_normal.proofs.cut_of.Statement.{statement}
 use Rattle.distance_normal.proofs.cut_of.Tie as tie
 

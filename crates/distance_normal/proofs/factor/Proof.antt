@@ -1,6 +1,6 @@
--- `distance_normal::factor` meets its contract. Assumes nothing.
+-- `distance_normal::factor` meets its contract.
 use borrow.Author.Needs.{needs}
-use Rattle.distance_normal.specs.Normal.{factor-is}
+use Rattle.distance_normal.proofs.Normal.{factor-is}
 use Rattle.distance_normal.proofs.factor.Statement.{statement}
 use Rattle.distance_normal.proofs.factor.Tie as tie
 

@@ -1,4 +1,4 @@
--- `distance_normal::normal_of` meets its contract. Assumes nothing.
+-- `distance_normal::normal_of` meets its contract.
 use borrow.Author.Needs.{needs}
 use mathlib.Core.Path.{_≡_, _∙_}
 use mathlib.Core.Logic.{⊎-elim}
@@ -8,7 +8,7 @@ use lib.IntN.{pos, negℤ, _-ℤ_}
 use mir.Syntax.{w32}
 use mir.Val.{toZ}
 use mir.ValLaws.{toZ-ofZ, toZ-pos}
-use Rattle.distance_normal.specs.Normal.{cut-small, normal-up, normal-down, diff}
+use Rattle.distance_normal.proofs.Normal.{cut-small, normal-up, normal-down, diff}
 use Rattle.meaning_numbers.proofs.Machine.{zmach32}
 use Rattle.meaning_numbers.proofs.Rep.{z-sub, z-neg, zarith}
 use Rattle.distance_normal.proofs.normal_of.Statement.{statement}

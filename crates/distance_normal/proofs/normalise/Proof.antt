@@ -1,4 +1,4 @@
--- `distance_normal::normalise` meets its contract: all places are one part. Assumes nothing.
+-- `distance_normal::normalise` meets its contract: all places are one part.
 use borrow.Author.Needs.{needs}
 use native.Mathlib.Omega.{arith}
 use native.Mathlib.Nat.{zero-add}

@@ -1,9 +1,9 @@
--- `distance_query::curve_of` meets its contract, by the kind. Assumes nothing.
+-- `distance_query::curve_of` meets its contract, by the kind.
 use borrow.Author.Needs.{needs}
 use mathlib.Core.Path.{_≡_}
 use native.Mathlib.Omega.{arith}
 use Rattle.meaning_filter.specs.declared.Kind.the-variants.{Raw, Normal}
-use Rattle.distance_query.specs.Ready.{raw-curve, normal-curve}
+use Rattle.distance_query.proofs.Ready.{raw-curve, normal-curve}
 use Rattle.distance_query.proofs.curve_of.Statement.{statement}
 use Rattle.distance_query.proofs.curve_of.Tie as tie
 

@@ -1,9 +1,9 @@
--- `distance_query::prepare` meets its contract: what its callees made, over the query's length. Assumes nothing.
+-- `distance_query::prepare` meets its contract: what its callees made, over the query's length.
 use borrow.Author.Needs.{needs}
 use mathlib.Core.Path.{_∙_}
 use lib.ListN.{length}
 use Rattle.meaning_curves.proofs.Same.{spread-same}
-use Rattle.distance_query.specs.Ready.{from-start}
+use Rattle.distance_query.proofs.Ready.{from-start}
 use Rattle.distance_query.proofs.prepare.Statement.{statement}
 use Rattle.distance_query.proofs.prepare.Tie as tie
 

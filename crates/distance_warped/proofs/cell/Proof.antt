@@ -1,8 +1,8 @@
--- `distance_warped::cell` meets its contract. Assumes nothing.
+-- `distance_warped::cell` meets its contract.
 use borrow.Author.Needs.{needs}
 use native.Mathlib.Omega.{arith}
 use Rattle.meaning_curves.proofs.Values.{cost-le}
-use Rattle.numbers.specs.Back.{cost-back, in-arg}
+use Rattle.numbers.proofs.Back.{cost-back, in-arg}
 use Rattle.distance_warped.proofs.cell.Statement.{statement}
 use Rattle.distance_warped.proofs.cell.Tie as tie
 

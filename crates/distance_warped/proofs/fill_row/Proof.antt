@@ -1,4 +1,4 @@
--- `distance_warped::fill_row` meets its contract. Assumes nothing.
+-- `distance_warped::fill_row` meets its contract.
 use borrow.Author.Count.{below-more}
 use mathlib.Core.Path.{_≡_, refl, _∙_}
 use Prim.Native.Nat.{ℕ, _+_, _-_, _≤_, _<_}

@@ -1,4 +1,4 @@
--- `distance_warped::warped_in` meets its contract: what the envelope bound passes, the distance passes (`bound-le`). Assumes nothing.
+-- `distance_warped::warped_in` meets its contract: what the envelope bound passes, the distance passes (`bound-le`).
 use borrow.Author.Needs.{needs}
 use Prim.Native.Nat.{ℕ, _≤_}
 use native.Mathlib.Omega.{arith}
@@ -9,9 +9,10 @@ use Rattle.meaning_curves.specs.Curve.{at, stretch}
 use Rattle.meaning_curves.specs.Table.{warped}
 use Rattle.meaning_curves.proofs.Straight.{distance-is}
 use Rattle.meaning_filter.proofs.Bound.{apart}
-use Rattle.numbers.specs.Within.{Within, within-above, within-exact}
-use Rattle.distance_envelope.specs.Envelope.{low-in, high-in}
-use Rattle.distance_warped.specs.Rest.{bound-le}
+use Rattle.numbers.specs.Within.{Within}
+use Rattle.numbers.proofs.Within.{within-above, within-exact}
+use Rattle.distance_envelope.proofs.EnvelopeLaws.{low-in, high-in}
+use Rattle.distance_warped.proofs.Rest.{bound-le}
 use Rattle.distance_warped.proofs.warped_in.Statement.{statement}
 use Rattle.distance_warped.proofs.warped_in.Tie as tie
 

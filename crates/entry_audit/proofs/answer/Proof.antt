@@ -1,4 +1,4 @@
--- `entry_audit::answer` meets its contract: its tests are those of the definition. Assumes nothing.
+-- `entry_audit::answer` meets its contract: its tests are those of the definition.
 use borrow.Author.Tests.{not-true, not-false}
 use mathlib.Core.Path.{_∙_}
 use Rattle.entry_audit.proofs.Cases.{answer-refused, answer-wrong, answer-complete, none-lacking, some-lacking}

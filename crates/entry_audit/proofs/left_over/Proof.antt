@@ -1,4 +1,4 @@
--- `entry_audit::left_over` meets its contract, by what judging said. Assumes nothing.
+-- `entry_audit::left_over` meets its contract, by what judging said.
 use borrow.Author.Needs.{needs}
 use mathlib.Core.Path.{sym, ap, _∙_}
 use Rattle.entry_audit.specs.Plan.{leftOver}

@@ -1,4 +1,4 @@
--- `entry_audit::make_plan` meets its contract. Assumes nothing.
+-- `entry_audit::make_plan` meets its contract.
 use borrow.Author.Needs.{needs}
 use Rattle.entry_audit.specs.Plan.{planOf}
 use Rattle.entry_audit.proofs.make_plan.Statement.{statement}

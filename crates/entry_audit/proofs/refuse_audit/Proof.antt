@@ -1,7 +1,8 @@
--- `entry_audit::refuse_audit` meets its contract: each test is a line of the table. Assumes nothing.
+-- `entry_audit::refuse_audit` meets its contract: each test is a line of the table.
 use borrow.Author.Needs.{needs}
 use Rattle.meaning_entries.specs.Refusal.{fewerWindows, moreWindows}
-use Rattle.refusals.specs.Refusal.{judgedLine, line-before, place-before, series-before}
+use Rattle.refusals.specs.Refusal.{judgedLine}
+use Rattle.refusals.proofs.RefusalLaws.{line-before, place-before, series-before}
 use Rattle.entry_audit.specs.Plan.{tableOf}
 use Rattle.entry_audit.proofs.refuse_audit.Statement.{statement}
 use Rattle.entry_audit.proofs.refuse_audit.Tie as tie

@@ -1,9 +1,9 @@
 -- Written by tools/walk from the plan in the lines marked |. Change those, and run `tools/walk entry_build build`.
--- A plan that refuses leaves the buffers as they were; else the index is built.
--- | use Rattle.build_passes.specs.Filled.{buffers}
+-- A plan that refuses leaves the indexBuffers as they were; else the index is built.
+-- | use Rattle.meaning_entries.specs.Buffers.{indexBuffers}
 -- | use Rattle.entry_build.proofs.Stages.{halts, goes}
--- | use Rattle.build_passes.specs.Filled.{buffers}
--- | let CALL = (now series) w d g (buffers (now rows) (now left) (now right)) p planned
+-- | use Rattle.meaning_entries.specs.Buffers.{indexBuffers}
+-- | let CALL = (now series) w d g (indexBuffers (now rows) (now left) (now right)) p planned
 -- | p, planned = make_plan
 -- | if refused:
 -- |   t, stopped = refuse
@@ -14,14 +14,14 @@ use Rattle.rows_records.proofs.Prelude.{refl, Bool, not, ℕ, List, [], _∷_, 
 use contract.Running.{tablesOf}
 use types.Run.{load, fld}
 use types.Part.{look-in}
-use Rattle.build_passes.specs.Filled.{buffers}
+use Rattle.meaning_entries.specs.Buffers.{indexBuffers}
 use Rattle.entry_build.proofs.Stages.{halts, goes}
 use Rattle.meaning_entries.specs.declared.Built.{Built}
 use Rattle.meaning_entries.proofs.Built as Builtᵀ
 use Rattle.meaning_entries.proofs.Built.Laws as Builtᴸ
-use Rattle.build_plan.specs.declared.Plan.{Plan}
-use Rattle.build_plan.proofs.Plan as Planᵀ
-use Rattle.build_plan.proofs.Plan.Laws as Planᴸ
+use Rattle.build_plan.specs.declared.BuildPlan.{BuildPlan}
+use Rattle.build_plan.proofs.BuildPlan as BuildPlanᵀ
+use Rattle.build_plan.proofs.BuildPlan.Laws as BuildPlanᴸ
 use Rattle.refusals.specs.declared.Refusal.{Refusal}
 use Rattle.refusals.proofs.Refusal as Refusalᵀ
 use Rattle.refusals.proofs.Refusal.Laws as Refusalᴸ
@@ -47,8 +47,8 @@ use Rattle.entry_build.proofs.build.Code as code
 abbrev Builtᴰ : {M : Type 1} (𝓤 : URA M) (H : Heap 𝓤) (A : Atoms 𝓤) → Given 𝓤 H A → Data 𝓤 H A
 Builtᴰ 𝓤 H A W = enum 𝓤 H A W Builtᵀ.the-type Builtᴸ.the-laws tt Builtᴸ.the-plain
 
-abbrev Planᴰ : {M : Type 1} (𝓤 : URA M) (H : Heap 𝓤) (A : Atoms 𝓤) → Given 𝓤 H A → Data 𝓤 H A
-Planᴰ 𝓤 H A W = struct 𝓤 H A W Planᵀ.the-type Planᴸ.the-laws Planᴸ.the-plain
+abbrev BuildPlanᴰ : {M : Type 1} (𝓤 : URA M) (H : Heap 𝓤) (A : Atoms 𝓤) → Given 𝓤 H A → Data 𝓤 H A
+BuildPlanᴰ 𝓤 H A W = struct 𝓤 H A W BuildPlanᵀ.the-type BuildPlanᴸ.the-laws BuildPlanᴸ.the-plain
 
 abbrev Refusalᴰ : {M : Type 1} (𝓤 : URA M) (H : Heap 𝓤) (A : Atoms 𝓤) → Given 𝓤 H A → Data 𝓤 H A
 Refusalᴰ 𝓤 H A W = struct 𝓤 H A W Refusalᵀ.the-type Refusalᴸ.the-laws Refusalᴸ.the-plain
@@ -98,19 +98,19 @@ module _ {M : Type 1} (𝓤 : URA M) (H : Heap 𝓤) (A : Atoms 𝓤) (W : Given
         put-at ! 30 (of-opd ! (part ! 22 refl (sub ! 1 refl (whole !)))) refl ((uint 𝓤 H A W w64) .lawful .typed (length (now right)) _ (refl, g-right .0) .0) $
         move ! (0 ∷ 1 ∷ []) $
         calls-with ! fm make-plan.ended (make-plan.clauses 𝓤 H A mem run) known-make-plan (kept series° ∷ value (uint 𝓤 H A W w32) w g-w ∷ value (uint 𝓤 H A W w32) d g-d ∷ value (uint 𝓤 H A W w32) g g-g ∷ value (uint 𝓤 H A W w64) (length (now rows)) (refl, g-rows .0) ∷ value (uint 𝓤 H A W w64) (length (now left)) (refl, g-left .0) ∷ value (uint 𝓤 H A W w64) (length (now right)) (refl, g-right .0) ∷ [])
-        (λ fs. (((κs .0, tt), (qs .0, tt), tt, (series, (w, (d, (g, ((length (now rows)), ((length (now left)), ((length (now right)), tt))))))), (slice-vals series, ((uint 𝓤 H A W w32) .val w ∷ [], ((uint 𝓤 H A W w32) .val d ∷ [], ((uint 𝓤 H A W w32) .val g ∷ [], ((uint 𝓤 H A W w64) .val (length (now rows)) ∷ [], ((uint 𝓤 H A W w64) .val (length (now left)) ∷ [], ((uint 𝓤 H A W w64) .val (length (now right)) ∷ [], tt)))))))), tt)) (λ fs. refl) (λ fs. refl) (λ fs ls. ls) (λ fs ls. refl) (λ fs. id⊢ 𝓤 _) (λ fs r ls. id⊢ 𝓤 _) (λ fs. (Planᴰ 𝓤 H A W) .val) (λ fs. (Planᴰ 𝓤 H A W) .tells) (λ fs. (and-then ! (loc ! 10 refl) (and-then ! (loc ! 12 refl) (and-then ! (loc ! 14 refl) (and-then ! (loc ! 16 refl) (and-then ! (loc ! 26 refl) (and-then ! (loc ! 28 refl) (and-then ! (loc ! 30 refl) (no-more !))))))))) (λ fs p ls₁ planned is₁ fits₁.
-        land ! (from ! (stop !)) (init ! 24 refl ((Planᴰ 𝓤 H A W) .lawful .typed p _ is₁ .0)) $
+        (λ fs. (((κs .0, tt), (qs .0, tt), tt, (series, (w, (d, (g, ((length (now rows)), ((length (now left)), ((length (now right)), tt))))))), (slice-vals series, ((uint 𝓤 H A W w32) .val w ∷ [], ((uint 𝓤 H A W w32) .val d ∷ [], ((uint 𝓤 H A W w32) .val g ∷ [], ((uint 𝓤 H A W w64) .val (length (now rows)) ∷ [], ((uint 𝓤 H A W w64) .val (length (now left)) ∷ [], ((uint 𝓤 H A W w64) .val (length (now right)) ∷ [], tt)))))))), tt)) (λ fs. refl) (λ fs. refl) (λ fs ls. ls) (λ fs ls. refl) (λ fs. id⊢ 𝓤 _) (λ fs r ls. id⊢ 𝓤 _) (λ fs. (BuildPlanᴰ 𝓤 H A W) .val) (λ fs. (BuildPlanᴰ 𝓤 H A W) .tells) (λ fs. (and-then ! (loc ! 10 refl) (and-then ! (loc ! 12 refl) (and-then ! (loc ! 14 refl) (and-then ! (loc ! 16 refl) (and-then ! (loc ! 26 refl) (and-then ! (loc ! 28 refl) (and-then ! (loc ! 30 refl) (no-more !))))))))) (λ fs p ls₁ planned is₁ fits₁.
+        land ! (from ! (stop !)) (init ! 24 refl ((BuildPlanᴰ 𝓤 H A W) .lawful .typed p _ is₁ .0)) $
         tidy ! (token 𝓤 H A series° ∷ viewed 𝓤 H A series° ∷ token 𝓤 H A rows° ∷ lent-at 𝓤 H A rows° (now rows) ∷ token 𝓤 H A left° ∷ lent-at 𝓤 H A left° (now left) ∷ token 𝓤 H A right° ∷ lent-at 𝓤 H A right° (now right) ∷ []) (empty ∷ holds _ ∷ holds _ ∷ holds _ ∷ holds _ ∷ holds _ ∷ holds _ ∷ holds _ ∷ holds _ ∷ holds _ ∷ holds _ ∷ holds _ ∷ empty ∷ empty ∷ empty ∷ empty ∷ empty ∷ empty ∷ empty ∷ []) refl $
         put-at ! 32 (bin ! (load ! (from ! (fld ! refl (fld ! refl (stop !)))) (look-in ! 24 (sub ! 0 refl (sub ! 0 refl (whole !))))) (lit ! tt) tt) refl (tt, tt) $
         by-bool (not (eqb ((p .refusal) .number) 0)) (λ refused. rewrite ! 32 (λ (t : Bool). ‵ (fat fullShare tyBool l₁₂ 0 (vbool t))) refused refl $ goes-in ! (loc ! 32 refl) $
-        calls-with ! fm refuse.ended (refuse.clauses 𝓤 H A mem run) known-refuse (value (Planᴰ 𝓤 H A W) p is₁ ∷ [])
-        (λ fs. ((tt, tt, tt, (p, tt), ((Planᴰ 𝓤 H A W) .val p ∷ [], tt)), tt)) (λ fs. refl) (λ fs. refl) (λ fs ls. ls) (λ fs ls. refl) (λ fs. id⊢ 𝓤 _) (λ fs r ls. id⊢ 𝓤 _) (λ fs. (Builtᴰ 𝓤 H A W) .val) (λ fs. (Builtᴰ 𝓤 H A W) .tells) (λ fs. (and-then ! (loc ! 26 refl) (no-more !))) (λ fs t ls₂ stopped is₂ fits₂.
+        calls-with ! fm refuse.ended (refuse.clauses 𝓤 H A mem run) known-refuse (value (BuildPlanᴰ 𝓤 H A W) p is₁ ∷ [])
+        (λ fs. ((tt, tt, tt, (p, tt), ((BuildPlanᴰ 𝓤 H A W) .val p ∷ [], tt)), tt)) (λ fs. refl) (λ fs. refl) (λ fs ls. ls) (λ fs ls. refl) (λ fs. id⊢ 𝓤 _) (λ fs r ls. id⊢ 𝓤 _) (λ fs. (Builtᴰ 𝓤 H A W) .val) (λ fs. (Builtᴰ 𝓤 H A W) .tells) (λ fs. (and-then ! (loc ! 26 refl) (no-more !))) (λ fs t ls₂ stopped is₂ fits₂.
         land ! (from ! (stop !)) (init ! 8 refl ((Builtᴰ 𝓤 H A W) .lawful .typed t _ is₂ .0)) $
         tidy ! (token 𝓤 H A series° ∷ viewed 𝓤 H A series° ∷ token 𝓤 H A rows° ∷ lent-at 𝓤 H A rows° (now rows) ∷ token 𝓤 H A left° ∷ lent-at 𝓤 H A left° (now left) ∷ token 𝓤 H A right° ∷ lent-at 𝓤 H A right° (now right) ∷ []) (holds _ ∷ holds _ ∷ holds _ ∷ holds _ ∷ holds _ ∷ holds _ ∷ holds _ ∷ holds _ ∷ holds _ ∷ holds _ ∷ holds _ ∷ holds _ ∷ holds _ ∷ empty ∷ empty ∷ empty ∷ empty ∷ empty ∷ empty ∷ []) refl $
         returns-within ! Post refl (look ! 8 refl) $
         frees-all ! (token 𝓤 H A series° ∷ viewed 𝓤 H A series° ∷ token 𝓤 H A rows° ∷ lent-at 𝓤 H A rows° (now rows) ∷ token 𝓤 H A left° ∷ lent-at 𝓤 H A left° (now left) ∷ token 𝓤 H A right° ∷ lent-at 𝓤 H A right° (now right) ∷ []) (holds _ ∷ holds _ ∷ holds _ ∷ holds _ ∷ holds _ ∷ holds _ ∷ holds _ ∷ holds _ ∷ holds _ ∷ holds _ ∷ holds _ ∷ holds _ ∷ holds _ ∷ empty ∷ empty ∷ empty ∷ empty ∷ empty ∷ empty ∷ []) tt $
         keep ! (0 ∷ 1 ∷ 2 ∷ 3 ∷ 4 ∷ 5 ∷ 6 ∷ 7 ∷ []) $
-        by ! (leaves-with 𝓤 H A W f.ended (f.clauses 𝓤 H A mem run) bound (kept series° ∷ lends rows° (now rows) refl ∷ lends left° (now left) refl ∷ lends right° (now right) refl ∷ []) ((Builtᴰ 𝓤 H A W) .val t) t (tt, (tt, (tt, (tt, ((now rows), ((now left), ((now right), tt))))))) refl refl ((Builtᴰ 𝓤 H A W) .makes t _ is₂) (factI 𝓤 _ (emp 𝓤) (halts (now series) w d g (buffers (now rows) (now left) (now right)) p planned refused stopped)))))
+        by ! (leaves-with 𝓤 H A W f.ended (f.clauses 𝓤 H A mem run) bound (kept series° ∷ lends rows° (now rows) refl ∷ lends left° (now left) refl ∷ lends right° (now right) refl ∷ []) ((Builtᴰ 𝓤 H A W) .val t) t (tt, (tt, (tt, (tt, ((now rows), ((now left), ((now right), tt))))))) refl refl ((Builtᴰ 𝓤 H A W) .makes t _ is₂) (factI 𝓤 _ (emp 𝓤) (halts (now series) w d g (indexBuffers (now rows) (now left) (now right)) p planned refused stopped)))))
         (λ no-refused. rewrite ! 32 (λ (t : Bool). ‵ (fat fullShare tyBool l₁₂ 0 (vbool t))) no-refused refl $ passes-by ! (loc ! 32 refl) $
         put-at ! 34 (start ! 18 refl (sub ! 0 refl (whole !))) refl (tt, tt) $
         put-at ! 36 (agg ! (and-then ! (loc ! 34 refl) (and-then ! (part ! 18 refl (sub ! 1 refl (whole !))) (no-more !)))) refl (tt, (tt, (record { fits = g-rows .0 }, tt))) $
@@ -119,8 +119,8 @@ module _ {M : Type 1} (𝓤 : URA M) (H : Heap 𝓤) (A : Atoms 𝓤) (W : Given
         put-at ! 42 (start ! 22 refl (sub ! 0 refl (whole !))) refl (tt, tt) $
         put-at ! 44 (agg ! (and-then ! (loc ! 42 refl) (and-then ! (part ! 22 refl (sub ! 1 refl (whole !))) (no-more !)))) refl (tt, (tt, (record { fits = g-right .0 }, tt))) $
         move ! (0 ∷ 1 ∷ 2 ∷ 3 ∷ 4 ∷ 5 ∷ 6 ∷ 7 ∷ []) $
-        calls-with ! fm build-planned.ended (build-planned.clauses 𝓤 H A mem run) known-build-planned (kept series° ∷ value (uint 𝓤 H A W w32) w g-w ∷ value (uint 𝓤 H A W w32) d g-d ∷ value (uint 𝓤 H A W w32) g g-g ∷ value (Planᴰ 𝓤 H A W) p is₁ ∷ lends rows° (now rows) refl ∷ lends left° (now left) refl ∷ lends right° (now right) refl ∷ [])
-        (λ fs. (((κs .0, (fs .0 .0 ∷ [], (fs .1 .0 .0 ∷ [], (fs .1 .1 .0 .0 ∷ [], tt)))), (qs .0, (fullShare, (fullShare, (fullShare, tt)))), tt, (series, (w, (d, (g, (p, (record { ptr = rows .ptr; name = fs .0 .1; now = (now rows) }, (record { ptr = left .ptr; name = fs .1 .0 .1; now = (now left) }, (record { ptr = right .ptr; name = fs .1 .1 .0 .1; now = (now right) }, tt)))))))), (slice-vals series, ((uint 𝓤 H A W w32) .val w ∷ [], ((uint 𝓤 H A W w32) .val d ∷ [], ((uint 𝓤 H A W w32) .val g ∷ [], ((Planᴰ 𝓤 H A W) .val p ∷ [], (slice-vals rows, (slice-vals left, (slice-vals right, tt))))))))), tt)) (λ fs. refl) (λ fs. refl) (λ fs ls. ls) (λ fs ls. refl) (λ fs. factI 𝓤 _ (emp 𝓤) ((planned, goes (now series) w d g (buffers (now rows) (now left) (now right)) p planned no-refused))) (λ fs r ls. id⊢ 𝓤 _) (λ fs. (Builtᴰ 𝓤 H A W) .val) (λ fs. (Builtᴰ 𝓤 H A W) .tells) (λ fs. (and-then ! (loc ! 4 refl) (and-then ! (loc ! 6 refl) (and-then ! (loc ! 8 refl) (and-then ! (loc ! 10 refl) (and-then ! (loc ! 18 refl) (and-then ! (loc ! 30 refl) (and-then ! (loc ! 34 refl) (and-then ! (loc ! 38 refl) (no-more !)))))))))) (λ fs t ls₃ done-so is₃ fits₃.
+        calls-with ! fm build-planned.ended (build-planned.clauses 𝓤 H A mem run) known-build-planned (kept series° ∷ value (uint 𝓤 H A W w32) w g-w ∷ value (uint 𝓤 H A W w32) d g-d ∷ value (uint 𝓤 H A W w32) g g-g ∷ value (BuildPlanᴰ 𝓤 H A W) p is₁ ∷ lends rows° (now rows) refl ∷ lends left° (now left) refl ∷ lends right° (now right) refl ∷ [])
+        (λ fs. (((κs .0, (fs .0 .0 ∷ [], (fs .1 .0 .0 ∷ [], (fs .1 .1 .0 .0 ∷ [], tt)))), (qs .0, (fullShare, (fullShare, (fullShare, tt)))), tt, (series, (w, (d, (g, (p, (record { ptr = rows .ptr; name = fs .0 .1; now = (now rows) }, (record { ptr = left .ptr; name = fs .1 .0 .1; now = (now left) }, (record { ptr = right .ptr; name = fs .1 .1 .0 .1; now = (now right) }, tt)))))))), (slice-vals series, ((uint 𝓤 H A W w32) .val w ∷ [], ((uint 𝓤 H A W w32) .val d ∷ [], ((uint 𝓤 H A W w32) .val g ∷ [], ((BuildPlanᴰ 𝓤 H A W) .val p ∷ [], (slice-vals rows, (slice-vals left, (slice-vals right, tt))))))))), tt)) (λ fs. refl) (λ fs. refl) (λ fs ls. ls) (λ fs ls. refl) (λ fs. factI 𝓤 _ (emp 𝓤) ((planned, goes (now series) w d g (indexBuffers (now rows) (now left) (now right)) p planned no-refused))) (λ fs r ls. id⊢ 𝓤 _) (λ fs. (Builtᴰ 𝓤 H A W) .val) (λ fs. (Builtᴰ 𝓤 H A W) .tells) (λ fs. (and-then ! (loc ! 4 refl) (and-then ! (loc ! 6 refl) (and-then ! (loc ! 8 refl) (and-then ! (loc ! 10 refl) (and-then ! (loc ! 18 refl) (and-then ! (loc ! 30 refl) (and-then ! (loc ! 34 refl) (and-then ! (loc ! 38 refl) (no-more !)))))))))) (λ fs t ls₃ done-so is₃ fits₃.
         land ! (from ! (stop !)) (init ! 8 refl ((Builtᴰ 𝓤 H A W) .lawful .typed t _ is₃ .0)) $
         tidy ! (token 𝓤 H A series° ∷ viewed 𝓤 H A series° ∷ token 𝓤 H A rows° ∷ lent-at 𝓤 H A rows° (ls₃ .1 .1 .1 .1 .1 .0) ∷ token 𝓤 H A left° ∷ lent-at 𝓤 H A left° (ls₃ .1 .1 .1 .1 .1 .1 .0) ∷ token 𝓤 H A right° ∷ lent-at 𝓤 H A right° (ls₃ .1 .1 .1 .1 .1 .1 .1 .0) ∷ []) (holds _ ∷ holds _ ∷ holds _ ∷ holds _ ∷ holds _ ∷ holds _ ∷ holds _ ∷ holds _ ∷ holds _ ∷ holds _ ∷ holds _ ∷ holds _ ∷ holds _ ∷ holds _ ∷ holds _ ∷ holds _ ∷ holds _ ∷ holds _ ∷ holds _ ∷ []) refl $
         returns ! (look ! 8 refl) $

@@ -1,12 +1,12 @@
 -- Written by tools/walk from the plan in the lines marked |. Change those, and run `tools/walk entry_build build_planned`.
--- The rows are built by the numbers of the plan, and what stands in the buffers is answered.
+-- The rows are built by the numbers of the plan, and what stands in the indexBuffers is answered.
 -- | use lib.ListN.{getD}
 -- | use Rattle.entry_build.proofs.Stages.{many, held}
 -- | use lib.ListN.{getD}
 -- | use Rattle.rows_records.specs.Records.{zeroRow}
--- | use Rattle.build_passes.specs.Filled.{buffers}
--- | use Rattle.entry_build.specs.Answer.{plan-sizes, plan-lays, some-rows, last-in, built-kept}
--- | let HERE = (now series) w d g (buffers (now rows) (now left) (now right)) p (asked .0) (asked .1)
+-- | use Rattle.meaning_entries.specs.Buffers.{indexBuffers}
+-- | use Rattle.entry_build.proofs.AnswerLaws.{plan-sizes, plan-lays, some-rows, last-in, built-kept}
+-- | let HERE = (now series) w d g (indexBuffers (now rows) (now left) (now right)) p (asked .0) (asked .1)
 -- | m, wide = widened
 -- | n, made = build_rows: rw wide (plan-lays $HERE)
 -- | k, before = place_before
@@ -19,14 +19,15 @@ use denote.Struct.Laws as LL
 use lib.ListN.{getD}
 use Rattle.entry_build.proofs.Stages.{many, held}
 use Rattle.rows_records.specs.Records.{zeroRow}
-use Rattle.build_passes.specs.Filled.{buffers}
-use Rattle.entry_build.specs.Answer.{plan-sizes, plan-lays, some-rows, last-in, built-kept, PlannedFor}
+use Rattle.meaning_entries.specs.Buffers.{indexBuffers}
+use Rattle.entry_build.specs.Answer.{PlannedFor}
+use Rattle.entry_build.proofs.AnswerLaws.{plan-sizes, plan-lays, some-rows, last-in, built-kept}
 use Rattle.meaning_entries.specs.declared.Built.{Built}
 use Rattle.meaning_entries.proofs.Built as Builtᵀ
 use Rattle.meaning_entries.proofs.Built.Laws as Builtᴸ
-use Rattle.build_plan.specs.declared.Plan.{Plan}
-use Rattle.build_plan.proofs.Plan as Planᵀ
-use Rattle.build_plan.proofs.Plan.Laws as Planᴸ
+use Rattle.build_plan.specs.declared.BuildPlan.{BuildPlan}
+use Rattle.build_plan.proofs.BuildPlan as BuildPlanᵀ
+use Rattle.build_plan.proofs.BuildPlan.Laws as BuildPlanᴸ
 use Rattle.meaning_rows.specs.declared.Row.{Row}
 use Rattle.meaning_rows.proofs.Row as Rowᵀ
 use Rattle.meaning_rows.proofs.Row.Laws as Rowᴸ
@@ -58,15 +59,15 @@ use Rattle.entry_build.proofs.build_planned.Code as code
 abbrev Builtᴰ : {M : Type 1} (𝓤 : URA M) (H : Heap 𝓤) (A : Atoms 𝓤) → Given 𝓤 H A → Data 𝓤 H A
 Builtᴰ 𝓤 H A W = enum 𝓤 H A W Builtᵀ.the-type Builtᴸ.the-laws tt Builtᴸ.the-plain
 
-abbrev Planᴰ : {M : Type 1} (𝓤 : URA M) (H : Heap 𝓤) (A : Atoms 𝓤) → Given 𝓤 H A → Data 𝓤 H A
-Planᴰ 𝓤 H A W = struct 𝓤 H A W Planᵀ.the-type Planᴸ.the-laws Planᴸ.the-plain
+abbrev BuildPlanᴰ : {M : Type 1} (𝓤 : URA M) (H : Heap 𝓤) (A : Atoms 𝓤) → Given 𝓤 H A → Data 𝓤 H A
+BuildPlanᴰ 𝓤 H A W = struct 𝓤 H A W BuildPlanᵀ.the-type BuildPlanᴸ.the-laws BuildPlanᴸ.the-plain
 
 abbrev Rowᴰ : {M : Type 1} (𝓤 : URA M) (H : Heap 𝓤) (A : Atoms 𝓤) → Given 𝓤 H A → Data 𝓤 H A
 Rowᴰ 𝓤 H A W = struct 𝓤 H A W Rowᵀ.the-type Rowᴸ.the-laws Rowᴸ.the-plain
 
 module _ {M : Type 1} (𝓤 : URA M) (H : Heap 𝓤) (A : Atoms 𝓤) (W : Given 𝓤 H A) (mem : Memory → SProp 𝓤) (run : Routine → Fun 𝓤) (𝓣 : Tables 𝓤 H) (fm : FmC 𝓤 H (W .laws) (𝓣 .C)) (known-widened : Meets 𝓤 H A widened.signature (𝓣 .C #widened) (widened.spec 𝓤 H A mem run)) (known-build-rows : Meets 𝓤 H A build-rows.signature (𝓣 .C #build-rows) (build-rows.spec 𝓤 H A mem run)) (known-place-before : Meets 𝓤 H A place-before.signature (𝓣 .C #place-before) (place-before.spec 𝓤 H A mem run)) (known-row-at : Meets 𝓤 H A row-at.signature (𝓣 .C #row-at) (row-at.spec 𝓤 H A mem run)) (known-answer : Meets 𝓤 H A answer.signature (𝓣 .C #answer) (answer.spec 𝓤 H A mem run)) where
-  module _ (κs : Lfts 4) (qs : Shares 4) (series : RefT (List ℤ)) (w : ℕ) (d : ℕ) (g : ℕ) (p : Plan) (rows : RefT (List Row)) (left : RefT (List ℕ)) (right : RefT (List ℕ))
-      (g-series : Room i32 (length (now series))) (g-w : Is ((uint 𝓤 H A W w32) .row) w ((uint 𝓤 H A W w32) .val w ∷ [])) (g-d : Is ((uint 𝓤 H A W w32) .row) d ((uint 𝓤 H A W w32) .val d ∷ [])) (g-g : Is ((uint 𝓤 H A W w32) .row) g ((uint 𝓤 H A W w32) .val g ∷ [])) (g-p : Is ((Planᴰ 𝓤 H A W) .row) p ((Planᴰ 𝓤 H A W) .val p ∷ [])) (g-rows : Room Rowᵀ.the-row (length (now rows))) (g-left : Room u32 (length (now left))) (g-right : Room u32 (length (now right))) (asked : (PlannedFor (now series) w d g (buffers (now rows) (now left) (now right)) p) × (p .refusal .number ≡ 0)) where
+  module _ (κs : Lfts 4) (qs : Shares 4) (series : RefT (List ℤ)) (w : ℕ) (d : ℕ) (g : ℕ) (p : BuildPlan) (rows : RefT (List Row)) (left : RefT (List ℕ)) (right : RefT (List ℕ))
+      (g-series : Room i32 (length (now series))) (g-w : Is ((uint 𝓤 H A W w32) .row) w ((uint 𝓤 H A W w32) .val w ∷ [])) (g-d : Is ((uint 𝓤 H A W w32) .row) d ((uint 𝓤 H A W w32) .val d ∷ [])) (g-g : Is ((uint 𝓤 H A W w32) .row) g ((uint 𝓤 H A W w32) .val g ∷ [])) (g-p : Is ((BuildPlanᴰ 𝓤 H A W) .row) p ((BuildPlanᴰ 𝓤 H A W) .val p ∷ [])) (g-rows : Room Rowᵀ.the-row (length (now rows))) (g-left : Room u32 (length (now left))) (g-right : Room u32 (length (now right))) (asked : (PlannedFor (now series) w d g (indexBuffers (now rows) (now left) (now right)) p) × (p .refusal .number ≡ 0)) where
     abbrev series° : Lent
     series° = record { row = i32; ref = series; lft = κs .0; share = qs .0; has-room = g-series }
 
@@ -80,16 +81,16 @@ module _ {M : Type 1} (𝓤 : URA M) (H : Heap 𝓤) (A : Atoms 𝓤) (W : Given
     right° = record { row = u32; ref = right; lft = κs .1 .1 .1 .0; share = qs .1 .1 .1 .0; has-room = g-right }
 
     abbrev bound : tripleOf 𝓤 H A f.signature (f.spec 𝓤 H A mem run) .Ghost
-    bound = ((κs, qs, tt, (series, (w, (d, (g, (p, (rows, (left, (right, tt)))))))), (slice-vals series, ((uint 𝓤 H A W w32) .val w ∷ [], ((uint 𝓤 H A W w32) .val d ∷ [], ((uint 𝓤 H A W w32) .val g ∷ [], ((Planᴰ 𝓤 H A W) .val p ∷ [], (slice-vals rows, (slice-vals left, (slice-vals right, tt))))))))), tt)
+    bound = ((κs, qs, tt, (series, (w, (d, (g, (p, (rows, (left, (right, tt)))))))), (slice-vals series, ((uint 𝓤 H A W w32) .val w ∷ [], ((uint 𝓤 H A W w32) .val d ∷ [], ((uint 𝓤 H A W w32) .val g ∷ [], ((BuildPlanᴰ 𝓤 H A W) .val p ∷ [], (slice-vals rows, (slice-vals left, (slice-vals right, tt))))))))), tt)
 
     abbrev Post : Val → SProp 𝓤
     Post = tripleOf 𝓤 H A f.signature (f.spec 𝓤 H A mem run) .post bound
 
     abbrev passed : List Val
-    passed = sliceVal (series .ptr) (length (now series)) ∷ (uint 𝓤 H A W w32) .val w ∷ (uint 𝓤 H A W w32) .val d ∷ (uint 𝓤 H A W w32) .val g ∷ (Planᴰ 𝓤 H A W) .val p ∷ sliceVal (rows .ptr) (length (now rows)) ∷ sliceVal (left .ptr) (length (now left)) ∷ sliceVal (right .ptr) (length (now right)) ∷ []
+    passed = sliceVal (series .ptr) (length (now series)) ∷ (uint 𝓤 H A W w32) .val w ∷ (uint 𝓤 H A W w32) .val d ∷ (uint 𝓤 H A W w32) .val g ∷ (BuildPlanᴰ 𝓤 H A W) .val p ∷ sliceVal (rows .ptr) (length (now rows)) ∷ sliceVal (left .ptr) (length (now left)) ∷ sliceVal (right .ptr) (length (now right)) ∷ []
 
     abbrev Entry : List (Item 𝓤)
-    Entry = AtEntry 𝓤 H A f.signature κs qs (series, (w, (d, (g, (p, (rows, (left, (right, tt)))))))) (slice-vals series, ((uint 𝓤 H A W w32) .val w ∷ [], ((uint 𝓤 H A W w32) .val d ∷ [], ((uint 𝓤 H A W w32) .val g ∷ [], ((Planᴰ 𝓤 H A W) .val p ∷ [], (slice-vals rows, (slice-vals left, (slice-vals right, tt))))))))
+    Entry = AtEntry 𝓤 H A f.signature κs qs (series, (w, (d, (g, (p, (rows, (left, (right, tt)))))))) (slice-vals series, ((uint 𝓤 H A W w32) .val w ∷ [], ((uint 𝓤 H A W w32) .val d ∷ [], ((uint 𝓤 H A W w32) .val g ∷ [], ((BuildPlanᴰ 𝓤 H A W) .val p ∷ [], (slice-vals rows, (slice-vals left, (slice-vals right, tt))))))))
 
     walk : ent 𝓤 (⋆ 𝓤 H A Entry) (WpFn 𝓤 H (𝓣 .C) (𝓣 .Λ) code.function passed Post)
     walk =
@@ -99,7 +100,7 @@ module _ {M : Type 1} (𝓤 : URA M) (H : Heap 𝓤) (A : Atoms 𝓤) (W : Given
         pass1 ! (init ! 36 refl ((uint 𝓤 H A W w32) .lawful .typed w _ g-w .0)) $
         pass1 ! (init ! 34 refl ((uint 𝓤 H A W w32) .lawful .typed d _ g-d .0)) $
         pass1 ! (init ! 32 refl ((uint 𝓤 H A W w32) .lawful .typed g _ g-g .0)) $
-        pass1 ! (init ! 30 refl ((Planᴰ 𝓤 H A W) .lawful .typed p _ g-p .0)) $
+        pass1 ! (init ! 30 refl ((BuildPlanᴰ 𝓤 H A W) .lawful .typed p _ g-p .0)) $
         pass1 ! (init ! 28 refl (tt, (tt, (record { fits = g-rows .0 }, tt)))) $
         pass1 ! (init ! 26 refl (tt, (tt, (record { fits = g-left .0 }, tt)))) $
         pass1 ! (init ! 24 refl (tt, (tt, (record { fits = g-right .0 }, tt)))) $
@@ -116,34 +117,34 @@ module _ {M : Type 1} (𝓤 : URA M) (H : Heap 𝓤) (A : Atoms 𝓤) (W : Given
         put-at ! 42 (start ! 24 refl (sub ! 0 refl (whole !))) refl (tt, tt) $
         put-at ! 44 (agg ! (and-then ! (loc ! 42 refl) (and-then ! (part ! 24 refl (sub ! 1 refl (whole !))) (no-more !)))) refl (tt, (tt, (record { fits = g-right .0 }, tt))) $
         move ! (0 ∷ 1 ∷ 2 ∷ 3 ∷ 4 ∷ 5 ∷ 6 ∷ 7 ∷ []) $
-        calls-with ! fm build-rows.ended (build-rows.clauses 𝓤 H A mem run) known-build-rows (kept series° ∷ value (uint 𝓤 H A W w64) (p .window) (LL.owed Planᵀ.the-type Planᴸ.the-laws p _ g-p .1 .0) ∷ value (uint 𝓤 H A W w64) (p .extra) (LL.owed Planᵀ.the-type Planᴸ.the-laws p _ g-p .1 .1 .1 .0) ∷ value (uint 𝓤 H A W w64) (p .width) (LL.owed Planᵀ.the-type Planᴸ.the-laws p _ g-p .1 .1 .0) ∷ value (uint 𝓤 H A W w64) (p .bias) (LL.owed Planᵀ.the-type Planᴸ.the-laws p _ g-p .1 .1 .1 .1 .0) ∷ value (uint 𝓤 H A W w64) m is₁ ∷ lends rows° (now rows) refl ∷ lends left° (now left) refl ∷ lends right° (now right) refl ∷ [])
-        (λ fs. (((κs .0, (fs .0 .0 ∷ [], (fs .1 .0 .0 ∷ [], (fs .1 .1 .0 .0 ∷ [], tt)))), (qs .0, (fullShare, (fullShare, (fullShare, tt)))), tt, (series, ((p .window), ((p .extra), ((p .width), ((p .bias), (m, (record { ptr = rows .ptr; name = fs .0 .1; now = (now rows) }, (record { ptr = left .ptr; name = fs .1 .0 .1; now = (now left) }, (record { ptr = right .ptr; name = fs .1 .1 .0 .1; now = (now right) }, tt))))))))), (slice-vals series, ((uint 𝓤 H A W w64) .val (p .window) ∷ [], ((uint 𝓤 H A W w64) .val (p .extra) ∷ [], ((uint 𝓤 H A W w64) .val (p .width) ∷ [], ((uint 𝓤 H A W w64) .val (p .bias) ∷ [], ((uint 𝓤 H A W w64) .val m ∷ [], (slice-vals rows, (slice-vals left, (slice-vals right, tt)))))))))), tt)) (λ fs. refl) (λ fs. refl) (λ fs ls. ls) (λ fs ls. refl) (λ fs. factI 𝓤 _ (emp 𝓤) (rw wide (plan-lays (now series) w d g (buffers (now rows) (now left) (now right)) p (asked .0) (asked .1)))) (λ fs r ls. id⊢ 𝓤 _) (λ fs. (uint 𝓤 H A W w64) .val) (λ fs. (uint 𝓤 H A W w64) .tells) (λ fs. (and-then ! (loc ! 4 refl) (and-then ! (part ! 12 refl (sub ! 1 refl (whole !))) (and-then ! (part ! 12 refl (sub ! 3 refl (whole !))) (and-then ! (part ! 12 refl (sub ! 2 refl (whole !))) (and-then ! (part ! 12 refl (sub ! 4 refl (whole !))) (and-then ! (loc ! 20 refl) (and-then ! (loc ! 30 refl) (and-then ! (loc ! 34 refl) (and-then ! (loc ! 38 refl) (no-more !))))))))))) (λ fs n ls₂ made is₂ fits₂.
+        calls-with ! fm build-rows.ended (build-rows.clauses 𝓤 H A mem run) known-build-rows (kept series° ∷ value (uint 𝓤 H A W w64) (p .window) (LL.owed BuildPlanᵀ.the-type BuildPlanᴸ.the-laws p _ g-p .1 .0) ∷ value (uint 𝓤 H A W w64) (p .extra) (LL.owed BuildPlanᵀ.the-type BuildPlanᴸ.the-laws p _ g-p .1 .1 .1 .0) ∷ value (uint 𝓤 H A W w64) (p .width) (LL.owed BuildPlanᵀ.the-type BuildPlanᴸ.the-laws p _ g-p .1 .1 .0) ∷ value (uint 𝓤 H A W w64) (p .bias) (LL.owed BuildPlanᵀ.the-type BuildPlanᴸ.the-laws p _ g-p .1 .1 .1 .1 .0) ∷ value (uint 𝓤 H A W w64) m is₁ ∷ lends rows° (now rows) refl ∷ lends left° (now left) refl ∷ lends right° (now right) refl ∷ [])
+        (λ fs. (((κs .0, (fs .0 .0 ∷ [], (fs .1 .0 .0 ∷ [], (fs .1 .1 .0 .0 ∷ [], tt)))), (qs .0, (fullShare, (fullShare, (fullShare, tt)))), tt, (series, ((p .window), ((p .extra), ((p .width), ((p .bias), (m, (record { ptr = rows .ptr; name = fs .0 .1; now = (now rows) }, (record { ptr = left .ptr; name = fs .1 .0 .1; now = (now left) }, (record { ptr = right .ptr; name = fs .1 .1 .0 .1; now = (now right) }, tt))))))))), (slice-vals series, ((uint 𝓤 H A W w64) .val (p .window) ∷ [], ((uint 𝓤 H A W w64) .val (p .extra) ∷ [], ((uint 𝓤 H A W w64) .val (p .width) ∷ [], ((uint 𝓤 H A W w64) .val (p .bias) ∷ [], ((uint 𝓤 H A W w64) .val m ∷ [], (slice-vals rows, (slice-vals left, (slice-vals right, tt)))))))))), tt)) (λ fs. refl) (λ fs. refl) (λ fs ls. ls) (λ fs ls. refl) (λ fs. factI 𝓤 _ (emp 𝓤) (rw wide (plan-lays (now series) w d g (indexBuffers (now rows) (now left) (now right)) p (asked .0) (asked .1)))) (λ fs r ls. id⊢ 𝓤 _) (λ fs. (uint 𝓤 H A W w64) .val) (λ fs. (uint 𝓤 H A W w64) .tells) (λ fs. (and-then ! (loc ! 4 refl) (and-then ! (part ! 12 refl (sub ! 1 refl (whole !))) (and-then ! (part ! 12 refl (sub ! 3 refl (whole !))) (and-then ! (part ! 12 refl (sub ! 2 refl (whole !))) (and-then ! (part ! 12 refl (sub ! 4 refl (whole !))) (and-then ! (loc ! 20 refl) (and-then ! (loc ! 30 refl) (and-then ! (loc ! 34 refl) (and-then ! (loc ! 38 refl) (no-more !))))))))))) (λ fs n ls₂ made is₂ fits₂.
         land ! (from ! (stop !)) (init ! 28 refl ((uint 𝓤 H A W w64) .lawful .typed n _ is₂ .0)) $
         tidy ! (token 𝓤 H A series° ∷ viewed 𝓤 H A series° ∷ token 𝓤 H A rows° ∷ lent-at 𝓤 H A rows° (ls₂ .1 .1 .1 .1 .1 .1 .0) ∷ token 𝓤 H A left° ∷ lent-at 𝓤 H A left° (ls₂ .1 .1 .1 .1 .1 .1 .1 .0) ∷ token 𝓤 H A right° ∷ lent-at 𝓤 H A right° (ls₂ .1 .1 .1 .1 .1 .1 .1 .1 .0) ∷ []) (empty ∷ holds _ ∷ holds _ ∷ holds _ ∷ holds _ ∷ holds _ ∷ holds _ ∷ holds _ ∷ holds _ ∷ holds _ ∷ holds _ ∷ empty ∷ empty ∷ holds _ ∷ holds _ ∷ holds _ ∷ holds _ ∷ holds _ ∷ holds _ ∷ empty ∷ empty ∷ []) refl $
         calls-with ! fm place-before.ended (place-before.clauses 𝓤 H A mem run) known-place-before (value (uint 𝓤 H A W w64) n is₂ ∷ [])
-        (λ fs. ((tt, tt, tt, (n, tt), ((uint 𝓤 H A W w64) .val n ∷ [], tt)), tt)) (λ fs. refl) (λ fs. refl) (λ fs ls. ls) (λ fs ls. refl) (λ fs. factI 𝓤 _ (emp 𝓤) (some-rows (now series) w d g (buffers (now rows) (now left) (now right)) p (asked .0) (asked .1) (many (now series) w d g (buffers (now rows) (now left) (now right)) p (asked .0) (asked .1) wide made))) (λ fs r ls. id⊢ 𝓤 _) (λ fs. (uint 𝓤 H A W w64) .val) (λ fs. (uint 𝓤 H A W w64) .tells) (λ fs. (and-then ! (loc ! 30 refl) (no-more !))) (λ fs k ls₃ before is₃ fits₃.
+        (λ fs. ((tt, tt, tt, (n, tt), ((uint 𝓤 H A W w64) .val n ∷ [], tt)), tt)) (λ fs. refl) (λ fs. refl) (λ fs ls. ls) (λ fs ls. refl) (λ fs. factI 𝓤 _ (emp 𝓤) (some-rows (now series) w d g (indexBuffers (now rows) (now left) (now right)) p (asked .0) (asked .1) (many (now series) w d g (indexBuffers (now rows) (now left) (now right)) p (asked .0) (asked .1) wide made))) (λ fs r ls. id⊢ 𝓤 _) (λ fs. (uint 𝓤 H A W w64) .val) (λ fs. (uint 𝓤 H A W w64) .tells) (λ fs. (and-then ! (loc ! 30 refl) (no-more !))) (λ fs k ls₃ before is₃ fits₃.
         land ! (from ! (stop !)) (init ! 30 refl ((uint 𝓤 H A W w64) .lawful .typed k _ is₃ .0)) $
         tidy ! (token 𝓤 H A series° ∷ viewed 𝓤 H A series° ∷ token 𝓤 H A rows° ∷ lent-at 𝓤 H A rows° (ls₂ .1 .1 .1 .1 .1 .1 .0) ∷ token 𝓤 H A left° ∷ lent-at 𝓤 H A left° (ls₂ .1 .1 .1 .1 .1 .1 .1 .0) ∷ token 𝓤 H A right° ∷ lent-at 𝓤 H A right° (ls₂ .1 .1 .1 .1 .1 .1 .1 .1 .0) ∷ []) (empty ∷ holds _ ∷ holds _ ∷ holds _ ∷ holds _ ∷ holds _ ∷ holds _ ∷ holds _ ∷ holds _ ∷ holds _ ∷ holds _ ∷ holds _ ∷ empty ∷ holds _ ∷ holds _ ∷ holds _ ∷ holds _ ∷ holds _ ∷ holds _ ∷ empty ∷ empty ∷ []) refl $
         put-at ! 46 (start ! 20 refl (sub ! 0 refl (whole !))) refl (tt, tt) $
         put-at ! 48 (agg ! (and-then ! (loc ! 46 refl) (and-then ! (part ! 20 refl (sub ! 1 refl (whole !))) (no-more !)))) refl (tt, (tt, (record { fits = g-rows .0 }, tt))) $
         move ! (2 ∷ 3 ∷ []) $
         calls-with ! fm row-at.ended (row-at.clauses 𝓤 H A mem run) known-row-at (shares rows° (ls₂ .1 .1 .1 .1 .1 .1 .0) (fits₂ .1 .1 .1 .1 .1 .1 .0) ∷ value (uint 𝓤 H A W w64) k is₃ ∷ [])
-        (λ fs. (((fs .0 .0 ∷ [], tt), (fullShare, tt), tt, (record { ptr = rows .ptr; name = fs .0 .1; now = (ls₂ .1 .1 .1 .1 .1 .1 .0) }, (k, tt)), (slice-vals rows, ((uint 𝓤 H A W w64) .val k ∷ [], tt))), tt)) (λ fs. refl) (λ fs. refl) (λ fs ls. ls) (λ fs ls. refl) (λ fs. factI 𝓤 _ (emp 𝓤) (rw before (last-in (now series) w d g (buffers (now rows) (now left) (now right)) p (asked .0) (asked .1) (many (now series) w d g (buffers (now rows) (now left) (now right)) p (asked .0) (asked .1) wide made) (held (now series) w d g (buffers (now rows) (now left) (now right)) p (asked .0) (asked .1) wide made)))) (λ fs r ls. id⊢ 𝓤 _) (λ fs. (Rowᴰ 𝓤 H A W) .val) (λ fs. (Rowᴰ 𝓤 H A W) .tells) (λ fs. (and-then ! (loc ! 48 refl) (and-then ! (loc ! 30 refl) (no-more !)))) (λ fs r ls₄ last-is is₄ fits₄.
+        (λ fs. (((fs .0 .0 ∷ [], tt), (fullShare, tt), tt, (record { ptr = rows .ptr; name = fs .0 .1; now = (ls₂ .1 .1 .1 .1 .1 .1 .0) }, (k, tt)), (slice-vals rows, ((uint 𝓤 H A W w64) .val k ∷ [], tt))), tt)) (λ fs. refl) (λ fs. refl) (λ fs ls. ls) (λ fs ls. refl) (λ fs. factI 𝓤 _ (emp 𝓤) (rw before (last-in (now series) w d g (indexBuffers (now rows) (now left) (now right)) p (asked .0) (asked .1) (many (now series) w d g (indexBuffers (now rows) (now left) (now right)) p (asked .0) (asked .1) wide made) (held (now series) w d g (indexBuffers (now rows) (now left) (now right)) p (asked .0) (asked .1) wide made)))) (λ fs r ls. id⊢ 𝓤 _) (λ fs. (Rowᴰ 𝓤 H A W) .val) (λ fs. (Rowᴰ 𝓤 H A W) .tells) (λ fs. (and-then ! (loc ! 48 refl) (and-then ! (loc ! 30 refl) (no-more !)))) (λ fs r ls₄ last-is is₄ fits₄.
         land ! (from ! (stop !)) (init ! 32 refl ((Rowᴰ 𝓤 H A W) .lawful .typed r _ is₄ .0)) $
         tidy ! (token 𝓤 H A rows° ∷ lent-at 𝓤 H A rows° (ls₂ .1 .1 .1 .1 .1 .1 .0) ∷ token 𝓤 H A series° ∷ viewed 𝓤 H A series° ∷ token 𝓤 H A left° ∷ lent-at 𝓤 H A left° (ls₂ .1 .1 .1 .1 .1 .1 .1 .0) ∷ token 𝓤 H A right° ∷ lent-at 𝓤 H A right° (ls₂ .1 .1 .1 .1 .1 .1 .1 .1 .0) ∷ []) (empty ∷ holds _ ∷ holds _ ∷ holds _ ∷ holds _ ∷ holds _ ∷ holds _ ∷ holds _ ∷ holds _ ∷ holds _ ∷ holds _ ∷ holds _ ∷ holds _ ∷ holds _ ∷ holds _ ∷ holds _ ∷ holds _ ∷ holds _ ∷ holds _ ∷ holds _ ∷ holds _ ∷ []) refl $
         move ! (2 ∷ 3 ∷ []) $
         calls-with ! fm answer.ended (answer.clauses 𝓤 H A mem run) known-answer (kept series° ∷ value (uint 𝓤 H A W w32) w g-w ∷ value (uint 𝓤 H A W w32) d g-d ∷ value (uint 𝓤 H A W w64) n is₂ ∷ value (Rowᴰ 𝓤 H A W) r is₄ ∷ [])
-        (λ fs. (((κs .0, tt), (qs .0, tt), tt, (series, (w, (d, (n, (r, tt))))), (slice-vals series, ((uint 𝓤 H A W w32) .val w ∷ [], ((uint 𝓤 H A W w32) .val d ∷ [], ((uint 𝓤 H A W w64) .val n ∷ [], ((Rowᴰ 𝓤 H A W) .val r ∷ [], tt)))))), tt)) (λ fs. refl) (λ fs. refl) (λ fs ls. ls) (λ fs ls. refl) (λ fs. factI 𝓤 _ (emp 𝓤) (plan-sizes (now series) w d g (buffers (now rows) (now left) (now right)) p (asked .0) (asked .1))) (λ fs r ls. id⊢ 𝓤 _) (λ fs. (Builtᴰ 𝓤 H A W) .val) (λ fs. (Builtᴰ 𝓤 H A W) .tells) (λ fs. (and-then ! (loc ! 10 refl) (and-then ! (loc ! 12 refl) (and-then ! (loc ! 14 refl) (and-then ! (loc ! 28 refl) (and-then ! (loc ! 32 refl) (no-more !))))))) (λ fs t ls₅ answered is₅ fits₅.
+        (λ fs. (((κs .0, tt), (qs .0, tt), tt, (series, (w, (d, (n, (r, tt))))), (slice-vals series, ((uint 𝓤 H A W w32) .val w ∷ [], ((uint 𝓤 H A W w32) .val d ∷ [], ((uint 𝓤 H A W w64) .val n ∷ [], ((Rowᴰ 𝓤 H A W) .val r ∷ [], tt)))))), tt)) (λ fs. refl) (λ fs. refl) (λ fs ls. ls) (λ fs ls. refl) (λ fs. factI 𝓤 _ (emp 𝓤) (plan-sizes (now series) w d g (indexBuffers (now rows) (now left) (now right)) p (asked .0) (asked .1))) (λ fs r ls. id⊢ 𝓤 _) (λ fs. (Builtᴰ 𝓤 H A W) .val) (λ fs. (Builtᴰ 𝓤 H A W) .tells) (λ fs. (and-then ! (loc ! 10 refl) (and-then ! (loc ! 12 refl) (and-then ! (loc ! 14 refl) (and-then ! (loc ! 28 refl) (and-then ! (loc ! 32 refl) (no-more !))))))) (λ fs t ls₅ answered is₅ fits₅.
         land ! (from ! (stop !)) (init ! 8 refl ((Builtᴰ 𝓤 H A W) .lawful .typed t _ is₅ .0)) $
         tidy ! (token 𝓤 H A series° ∷ viewed 𝓤 H A series° ∷ token 𝓤 H A rows° ∷ lent-at 𝓤 H A rows° (ls₂ .1 .1 .1 .1 .1 .1 .0) ∷ token 𝓤 H A left° ∷ lent-at 𝓤 H A left° (ls₂ .1 .1 .1 .1 .1 .1 .1 .0) ∷ token 𝓤 H A right° ∷ lent-at 𝓤 H A right° (ls₂ .1 .1 .1 .1 .1 .1 .1 .1 .0) ∷ []) (holds _ ∷ holds _ ∷ holds _ ∷ holds _ ∷ holds _ ∷ holds _ ∷ holds _ ∷ holds _ ∷ holds _ ∷ holds _ ∷ holds _ ∷ holds _ ∷ holds _ ∷ holds _ ∷ holds _ ∷ holds _ ∷ holds _ ∷ holds _ ∷ holds _ ∷ holds _ ∷ holds _ ∷ []) refl $
         returns ! (look ! 8 refl) $
         frees-all ! (token 𝓤 H A series° ∷ viewed 𝓤 H A series° ∷ token 𝓤 H A rows° ∷ lent-at 𝓤 H A rows° (ls₂ .1 .1 .1 .1 .1 .1 .0) ∷ token 𝓤 H A left° ∷ lent-at 𝓤 H A left° (ls₂ .1 .1 .1 .1 .1 .1 .1 .0) ∷ token 𝓤 H A right° ∷ lent-at 𝓤 H A right° (ls₂ .1 .1 .1 .1 .1 .1 .1 .1 .0) ∷ []) (holds _ ∷ holds _ ∷ holds _ ∷ holds _ ∷ holds _ ∷ holds _ ∷ holds _ ∷ holds _ ∷ holds _ ∷ holds _ ∷ holds _ ∷ holds _ ∷ holds _ ∷ holds _ ∷ holds _ ∷ holds _ ∷ holds _ ∷ holds _ ∷ holds _ ∷ holds _ ∷ holds _ ∷ []) tt $
         keep ! (0 ∷ 1 ∷ 2 ∷ 3 ∷ 4 ∷ 5 ∷ 6 ∷ 7 ∷ []) $
-        by ! (leaves-with 𝓤 H A W f.ended (f.clauses 𝓤 H A mem run) bound (kept series° ∷ lends rows° (ls₂ .1 .1 .1 .1 .1 .1 .0) (fits₂ .1 .1 .1 .1 .1 .1 .0) ∷ lends left° (ls₂ .1 .1 .1 .1 .1 .1 .1 .0) (fits₂ .1 .1 .1 .1 .1 .1 .1 .0) ∷ lends right° (ls₂ .1 .1 .1 .1 .1 .1 .1 .1 .0) (fits₂ .1 .1 .1 .1 .1 .1 .1 .1 .0) ∷ []) ((Builtᴰ 𝓤 H A W) .val t) t (tt, (tt, (tt, (tt, (tt, ((ls₂ .1 .1 .1 .1 .1 .1 .0), ((ls₂ .1 .1 .1 .1 .1 .1 .1 .0), ((ls₂ .1 .1 .1 .1 .1 .1 .1 .1 .0), tt)))))))) refl refl ((Builtᴰ 𝓤 H A W) .makes t _ is₅) (factI 𝓤 _ (emp 𝓤) (rw answered (built-kept (now series) w d g (buffers (now rows) (now left) (now right)) p (asked .0) (asked .1) (many (now series) w d g (buffers (now rows) (now left) (now right)) p (asked .0) (asked .1) wide made) (held (now series) w d g (buffers (now rows) (now left) (now right)) p (asked .0) (asked .1) wide made) (last-is ∙ ap (λ (x : ℕ). getD (ls₂ .1 .1 .1 .1 .1 .1 .0) x zeroRow) before)))))))))))))))))))))))))))))))
+        by ! (leaves-with 𝓤 H A W f.ended (f.clauses 𝓤 H A mem run) bound (kept series° ∷ lends rows° (ls₂ .1 .1 .1 .1 .1 .1 .0) (fits₂ .1 .1 .1 .1 .1 .1 .0) ∷ lends left° (ls₂ .1 .1 .1 .1 .1 .1 .1 .0) (fits₂ .1 .1 .1 .1 .1 .1 .1 .0) ∷ lends right° (ls₂ .1 .1 .1 .1 .1 .1 .1 .1 .0) (fits₂ .1 .1 .1 .1 .1 .1 .1 .1 .0) ∷ []) ((Builtᴰ 𝓤 H A W) .val t) t (tt, (tt, (tt, (tt, (tt, ((ls₂ .1 .1 .1 .1 .1 .1 .0), ((ls₂ .1 .1 .1 .1 .1 .1 .1 .0), ((ls₂ .1 .1 .1 .1 .1 .1 .1 .1 .0), tt)))))))) refl refl ((Builtᴰ 𝓤 H A W) .makes t _ is₅) (factI 𝓤 _ (emp 𝓤) (rw answered (built-kept (now series) w d g (indexBuffers (now rows) (now left) (now right)) p (asked .0) (asked .1) (many (now series) w d g (indexBuffers (now rows) (now left) (now right)) p (asked .0) (asked .1) wide made) (held (now series) w d g (indexBuffers (now rows) (now left) (now right)) p (asked .0) (asked .1) wide made) (last-is ∙ ap (λ (x : ℕ). getD (ls₂ .1 .1 .1 .1 .1 .1 .0) x zeroRow) before)))))))))))))))))))))))))))))))
 
   meets : Meets 𝓤 H A f.signature (WpFn 𝓤 H (𝓣 .C) (𝓣 .Λ) code.function) (f.spec 𝓤 H A mem run)
-  meets = meets-with 𝓤 H A f.ended (f.clauses 𝓤 H A mem run) (WpFn 𝓤 H (𝓣 .C) (𝓣 .Λ) code.function) (λ κs. (slice-vals, ((λ x. (uint 𝓤 H A W w32) .val x ∷ []), ((λ x. (uint 𝓤 H A W w32) .val x ∷ []), ((λ x. (uint 𝓤 H A W w32) .val x ∷ []), ((λ x. (Planᴰ 𝓤 H A W) .val x ∷ []), (slice-vals, (slice-vals, (slice-vals, tt)))))))))
-      (λ κs. (shr-slice-tells (named 0) (κs .0) i32, ((uint 𝓤 H A W w32) .tells, ((uint 𝓤 H A W w32) .tells, ((uint 𝓤 H A W w32) .tells, ((Planᴰ 𝓤 H A W) .tells, (mut-slice-tells (named 1) (κs .1 .0) Rowᵀ.the-row, (mut-slice-tells (named 2) (κs .1 .1 .0) u32, (mut-slice-tells (named 3) (κs .1 .1 .1 .0) u32, tt)))))))))
+  meets = meets-with 𝓤 H A f.ended (f.clauses 𝓤 H A mem run) (WpFn 𝓤 H (𝓣 .C) (𝓣 .Λ) code.function) (λ κs. (slice-vals, ((λ x. (uint 𝓤 H A W w32) .val x ∷ []), ((λ x. (uint 𝓤 H A W w32) .val x ∷ []), ((λ x. (uint 𝓤 H A W w32) .val x ∷ []), ((λ x. (BuildPlanᴰ 𝓤 H A W) .val x ∷ []), (slice-vals, (slice-vals, (slice-vals, tt)))))))))
+      (λ κs. (shr-slice-tells (named 0) (κs .0) i32, ((uint 𝓤 H A W w32) .tells, ((uint 𝓤 H A W w32) .tells, ((uint 𝓤 H A W w32) .tells, ((BuildPlanᴰ 𝓤 H A W) .tells, (mut-slice-tells (named 1) (κs .1 .0) Rowᵀ.the-row, (mut-slice-tells (named 2) (κs .1 .1 .0) u32, (mut-slice-tells (named 3) (κs .1 .1 .1 .0) u32, tt)))))))))
       (λ κs qs bounds a g are. needs 𝓤 _ _ (walk κs qs (a .0) (a .1 .0) (a .1 .1 .0) (a .1 .1 .1 .0) (a .1 .1 .1 .1 .0) (a .1 .1 .1 .1 .1 .0) (a .1 .1 .1 .1 .1 .1 .0) (a .1 .1 .1 .1 .1 .1 .1 .0) (are .0 .0 .1) (are .1 .0) (are .1 .1 .0) (are .1 .1 .1 .0) (are .1 .1 .1 .1 .0) (are .1 .1 .1 .1 .1 .0 .0 .1) (are .1 .1 .1 .1 .1 .1 .0 .0 .1) (are .1 .1 .1 .1 .1 .1 .1 .0 .0 .1)))
 
 pub build-planned-spec : {M : Type 1} → stated.statement M

@@ -1,9 +1,9 @@
 -- Written by tools/walk from the plan in the lines marked |. Change those, and run `tools/walk entry_extend extend`.
--- A plan that refuses leaves the buffers as they were; else the index is extended.
--- | use Rattle.build_passes.specs.Filled.{buffers}
+-- A plan that refuses leaves the indexBuffers as they were; else the index is extended.
+-- | use Rattle.meaning_entries.specs.Buffers.{indexBuffers}
 -- | use Rattle.entry_extend.proofs.Stages.{halts, goes}
--- | use Rattle.build_passes.specs.Filled.{buffers}
--- | let HERE = (now series) head (now from′) (now lefts) (now rights) (buffers (now rows) (now left) (now right))
+-- | use Rattle.meaning_entries.specs.Buffers.{indexBuffers}
+-- | let HERE = (now series) head (now from′) (now lefts) (now rights) (indexBuffers (now rows) (now left) (now right))
 -- | j, judged = judge
 -- | m, least = shorter
 -- | p, planned = make_plan
@@ -14,7 +14,7 @@
 -- | ends: done-so
 use Rattle.rows_records.proofs.Prelude.{refl, Bool, not, ℕ, List, [], _∷_, ℤ, eqb, length, URA, fullShare, named, w64, tyBool, Val, vbool, SProp, ent, emp, id⊢, via, fst∗, fat, Memory, Routine, Heap, WpFn, Tables, Atoms, Lfts, Shares, Fun, factI, givenOf, tables, Given, Item, ‵, ⋆, _$_, _∵_, !, qed, by, move, keep, rewrite, whole, sub, agg, look, init, store, stop, assigns, from, lit, bin, of-opd, and-then, no-more, land, returns, returns-within, enter, alloc1, alloc0, params1, pass1, pass0, FmC, fmOf, Is, i32, u32, RefT, ptr, now, name, sliceVal, Room, slice-vals, shr-slice-tells, mut-slice-tells, Meets, tripleOf, entered, cited, AtEntry, by-bool, goes-in, passes-by, Data, uint, struct, enum, Lent, value, kept, lends, token, viewed, lent-at, holds, empty, tidy, frees-all, calls-with, leaves-with, meets-with, loc, part, start, put-at}
 use contract.Running.{tablesOf}
-use Rattle.build_passes.specs.Filled.{buffers}
+use Rattle.meaning_entries.specs.Buffers.{indexBuffers}
 use Rattle.entry_extend.proofs.Stages.{halts, goes}
 use Rattle.meaning_entries.specs.declared.Extended.{Extended}
 use Rattle.meaning_entries.proofs.Extended as Extendedᵀ
@@ -143,7 +143,7 @@ module _ {M : Type 1} (𝓤 : URA M) (H : Heap 𝓤) (A : Atoms 𝓤) (W : Given
         returns-within ! Post refl (look ! 14 refl) $
         frees-all ! (token 𝓤 H A series° ∷ viewed 𝓤 H A series° ∷ token 𝓤 H A from′° ∷ viewed 𝓤 H A from′° ∷ token 𝓤 H A lefts° ∷ viewed 𝓤 H A lefts° ∷ token 𝓤 H A rights° ∷ viewed 𝓤 H A rights° ∷ token 𝓤 H A rows° ∷ lent-at 𝓤 H A rows° (now rows) ∷ token 𝓤 H A left° ∷ lent-at 𝓤 H A left° (now left) ∷ token 𝓤 H A right° ∷ lent-at 𝓤 H A right° (now right) ∷ []) (holds _ ∷ holds _ ∷ holds _ ∷ holds _ ∷ holds _ ∷ holds _ ∷ holds _ ∷ holds _ ∷ holds _ ∷ holds _ ∷ holds _ ∷ holds _ ∷ holds _ ∷ holds _ ∷ holds _ ∷ empty ∷ empty ∷ empty ∷ empty ∷ empty ∷ empty ∷ []) tt $
         keep ! (0 ∷ 1 ∷ 2 ∷ 3 ∷ 4 ∷ 5 ∷ 6 ∷ 7 ∷ 8 ∷ 9 ∷ 10 ∷ 11 ∷ 12 ∷ 13 ∷ []) $
-        by ! (leaves-with 𝓤 H A W f.ended (f.clauses 𝓤 H A mem run) bound (kept series° ∷ kept from′° ∷ kept lefts° ∷ kept rights° ∷ lends rows° (now rows) refl ∷ lends left° (now left) refl ∷ lends right° (now right) refl ∷ []) ((Extendedᴰ 𝓤 H A W) .val t) t (tt, (tt, (tt, (tt, (tt, ((now rows), ((now left), ((now right), tt)))))))) refl refl ((Extendedᴰ 𝓤 H A W) .makes t _ is₄) (factI 𝓤 _ (emp 𝓤) (halts (now series) head (now from′) (now lefts) (now rights) (buffers (now rows) (now left) (now right)) judged least planned refused stopped)))))
+        by ! (leaves-with 𝓤 H A W f.ended (f.clauses 𝓤 H A mem run) bound (kept series° ∷ kept from′° ∷ kept lefts° ∷ kept rights° ∷ lends rows° (now rows) refl ∷ lends left° (now left) refl ∷ lends right° (now right) refl ∷ []) ((Extendedᴰ 𝓤 H A W) .val t) t (tt, (tt, (tt, (tt, (tt, ((now rows), ((now left), ((now right), tt)))))))) refl refl ((Extendedᴰ 𝓤 H A W) .makes t _ is₄) (factI 𝓤 _ (emp 𝓤) (halts (now series) head (now from′) (now lefts) (now rights) (indexBuffers (now rows) (now left) (now right)) judged least planned refused stopped)))))
         (λ no-refused. rewrite ! 42 (λ (t : Bool). ‵ (fat fullShare tyBool l₁₄ 0 (vbool t))) no-refused refl $ passes-by ! (loc ! 42 refl) $
         put-at ! 44 (start ! 26 refl (sub ! 0 refl (whole !))) refl (tt, tt) $
         put-at ! 46 (agg ! (and-then ! (loc ! 44 refl) (and-then ! (part ! 26 refl (sub ! 1 refl (whole !))) (no-more !)))) refl (tt, (tt, (record { fits = g-rows .0 }, tt))) $
@@ -153,7 +153,7 @@ module _ {M : Type 1} (𝓤 : URA M) (H : Heap 𝓤) (A : Atoms 𝓤) (W : Given
         put-at ! 54 (agg ! (and-then ! (loc ! 52 refl) (and-then ! (part ! 30 refl (sub ! 1 refl (whole !))) (no-more !)))) refl (tt, (tt, (record { fits = g-right .0 }, tt))) $
         move ! (0 ∷ 1 ∷ 2 ∷ 3 ∷ 4 ∷ 5 ∷ 6 ∷ 7 ∷ 8 ∷ 9 ∷ 10 ∷ 11 ∷ 12 ∷ 13 ∷ []) $
         calls-with ! fm extend-planned.ended (extend-planned.clauses 𝓤 H A mem run) known-extend-planned (kept series° ∷ value (Headᴰ 𝓤 H A W) head g-head ∷ kept from′° ∷ kept lefts° ∷ kept rights° ∷ lends rows° (now rows) refl ∷ lends left° (now left) refl ∷ lends right° (now right) refl ∷ [])
-        (λ fs. (((κs .0, (κs .1 .0, (κs .1 .1 .0, (κs .1 .1 .1 .0, (fs .0 .0 ∷ [], (fs .1 .0 .0 ∷ [], (fs .1 .1 .0 .0 ∷ [], tt))))))), (qs .0, (qs .1 .0, (qs .1 .1 .0, (qs .1 .1 .1 .0, (fullShare, (fullShare, (fullShare, tt))))))), tt, (series, (head, (from′, (lefts, (rights, (record { ptr = rows .ptr; name = fs .0 .1; now = (now rows) }, (record { ptr = left .ptr; name = fs .1 .0 .1; now = (now left) }, (record { ptr = right .ptr; name = fs .1 .1 .0 .1; now = (now right) }, tt)))))))), (slice-vals series, ((Headᴰ 𝓤 H A W) .val head ∷ [], (slice-vals from′, (slice-vals lefts, (slice-vals rights, (slice-vals rows, (slice-vals left, (slice-vals right, tt))))))))), tt)) (λ fs. refl) (λ fs. refl) (λ fs ls. ls) (λ fs ls. refl) (λ fs. factI 𝓤 _ (emp 𝓤) (goes (now series) head (now from′) (now lefts) (now rights) (buffers (now rows) (now left) (now right)) judged least planned no-refused)) (λ fs r ls. id⊢ 𝓤 _) (λ fs. (Extendedᴰ 𝓤 H A W) .val) (λ fs. (Extendedᴰ 𝓤 H A W) .tells) (λ fs. (and-then ! (loc ! 4 refl) (and-then ! (loc ! 6 refl) (and-then ! (loc ! 8 refl) (and-then ! (loc ! 10 refl) (and-then ! (loc ! 12 refl) (and-then ! (loc ! 34 refl) (and-then ! (loc ! 38 refl) (and-then ! (loc ! 42 refl) (no-more !)))))))))) (λ fs t ls₅ done-so is₅ fits₅.
+        (λ fs. (((κs .0, (κs .1 .0, (κs .1 .1 .0, (κs .1 .1 .1 .0, (fs .0 .0 ∷ [], (fs .1 .0 .0 ∷ [], (fs .1 .1 .0 .0 ∷ [], tt))))))), (qs .0, (qs .1 .0, (qs .1 .1 .0, (qs .1 .1 .1 .0, (fullShare, (fullShare, (fullShare, tt))))))), tt, (series, (head, (from′, (lefts, (rights, (record { ptr = rows .ptr; name = fs .0 .1; now = (now rows) }, (record { ptr = left .ptr; name = fs .1 .0 .1; now = (now left) }, (record { ptr = right .ptr; name = fs .1 .1 .0 .1; now = (now right) }, tt)))))))), (slice-vals series, ((Headᴰ 𝓤 H A W) .val head ∷ [], (slice-vals from′, (slice-vals lefts, (slice-vals rights, (slice-vals rows, (slice-vals left, (slice-vals right, tt))))))))), tt)) (λ fs. refl) (λ fs. refl) (λ fs ls. ls) (λ fs ls. refl) (λ fs. factI 𝓤 _ (emp 𝓤) (goes (now series) head (now from′) (now lefts) (now rights) (indexBuffers (now rows) (now left) (now right)) judged least planned no-refused)) (λ fs r ls. id⊢ 𝓤 _) (λ fs. (Extendedᴰ 𝓤 H A W) .val) (λ fs. (Extendedᴰ 𝓤 H A W) .tells) (λ fs. (and-then ! (loc ! 4 refl) (and-then ! (loc ! 6 refl) (and-then ! (loc ! 8 refl) (and-then ! (loc ! 10 refl) (and-then ! (loc ! 12 refl) (and-then ! (loc ! 34 refl) (and-then ! (loc ! 38 refl) (and-then ! (loc ! 42 refl) (no-more !)))))))))) (λ fs t ls₅ done-so is₅ fits₅.
         land ! (from ! (stop !)) (init ! 14 refl ((Extendedᴰ 𝓤 H A W) .lawful .typed t _ is₅ .0)) $
         tidy ! (token 𝓤 H A series° ∷ viewed 𝓤 H A series° ∷ token 𝓤 H A from′° ∷ viewed 𝓤 H A from′° ∷ token 𝓤 H A lefts° ∷ viewed 𝓤 H A lefts° ∷ token 𝓤 H A rights° ∷ viewed 𝓤 H A rights° ∷ token 𝓤 H A rows° ∷ lent-at 𝓤 H A rows° (ls₅ .1 .1 .1 .1 .1 .0) ∷ token 𝓤 H A left° ∷ lent-at 𝓤 H A left° (ls₅ .1 .1 .1 .1 .1 .1 .0) ∷ token 𝓤 H A right° ∷ lent-at 𝓤 H A right° (ls₅ .1 .1 .1 .1 .1 .1 .1 .0) ∷ []) (holds _ ∷ holds _ ∷ holds _ ∷ holds _ ∷ holds _ ∷ holds _ ∷ holds _ ∷ holds _ ∷ holds _ ∷ holds _ ∷ holds _ ∷ holds _ ∷ holds _ ∷ holds _ ∷ holds _ ∷ holds _ ∷ holds _ ∷ holds _ ∷ holds _ ∷ holds _ ∷ holds _ ∷ []) refl $
         returns ! (look ! 14 refl) $

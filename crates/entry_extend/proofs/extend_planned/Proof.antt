@@ -1,12 +1,12 @@
 -- Written by tools/walk from the plan in the lines marked |. Change those, and run `tools/walk entry_extend extend_planned`.
--- The head's numbers are lifted, the passes made by them, and what stands in the buffers is answered.
+-- The head's numbers are lifted, the passes made by them, and what stands in the indexBuffers is answered.
 -- | use lib.ListN.{getD}
 -- | use Rattle.entry_extend.proofs.Stages.{made-so}
 -- | use lib.ListN.{getD}
--- | use Rattle.build_passes.specs.Filled.{buffers}
+-- | use Rattle.meaning_entries.specs.Buffers.{indexBuffers}
 -- | use Rattle.rows_records.specs.Records.{zeroRow}
--- | use Rattle.entry_extend.specs.Answer.{lift-asked, sizes, passes-asked, last-in, extended-kept}
--- | let HERE = (now series) head (now from′) (now lefts) (now rights) (buffers (now rows) (now left) (now right))
+-- | use Rattle.entry_extend.proofs.AnswerLaws.{lift-asked, sizes, passes-asked, last-in, extended-kept}
+-- | let HERE = (now series) head (now from′) (now lefts) (now rights) (indexBuffers (now rows) (now left) (now right))
 -- | let MADE = (made-so $HERE lifted made)
 -- | u, lifted = lift_of: lift-asked $HERE asked
 -- | n, made = extend_passes: passes-asked $HERE asked lifted
@@ -19,9 +19,9 @@ use contract.Running.{tablesOf}
 use denote.Struct.Laws as LL
 use lib.ListN.{getD}
 use Rattle.entry_extend.proofs.Stages.{made-so}
-use Rattle.build_passes.specs.Filled.{buffers}
+use Rattle.meaning_entries.specs.Buffers.{indexBuffers}
 use Rattle.rows_records.specs.Records.{zeroRow}
-use Rattle.entry_extend.specs.Answer.{lift-asked, sizes, passes-asked, last-in, extended-kept}
+use Rattle.entry_extend.proofs.AnswerLaws.{lift-asked, sizes, passes-asked, last-in, extended-kept}
 use Rattle.meaning_entries.specs.declared.Extended.{Extended}
 use Rattle.meaning_entries.proofs.Extended as Extendedᵀ
 use Rattle.meaning_entries.proofs.Extended.Laws as Extendedᴸ
@@ -74,7 +74,7 @@ Rowᴰ 𝓤 H A W = struct 𝓤 H A W Rowᵀ.the-type Rowᴸ.the-laws Rowᴸ.the
 
 module _ {M : Type 1} (𝓤 : URA M) (H : Heap 𝓤) (A : Atoms 𝓤) (W : Given 𝓤 H A) (mem : Memory → SProp 𝓤) (run : Routine → Fun 𝓤) (𝓣 : Tables 𝓤 H) (fm : FmC 𝓤 H (W .laws) (𝓣 .C)) (known-lift-of : Meets 𝓤 H A lift-of.signature (𝓣 .C #lift-of) (lift-of.spec 𝓤 H A mem run)) (known-extend-passes : Meets 𝓤 H A extend-passes.signature (𝓣 .C #extend-passes) (extend-passes.spec 𝓤 H A mem run)) (known-last-place : Meets 𝓤 H A last-place.signature (𝓣 .C #last-place) (last-place.spec 𝓤 H A mem run)) (known-row-at : Meets 𝓤 H A row-at.signature (𝓣 .C #row-at) (row-at.spec 𝓤 H A mem run)) (known-answer : Meets 𝓤 H A answer.signature (𝓣 .C #answer) (answer.spec 𝓤 H A mem run)) where
   module _ (κs : Lfts 7) (qs : Shares 7) (series : RefT (List ℤ)) (head : Head) (from′ : RefT (List Row)) (lefts : RefT (List ℕ)) (rights : RefT (List ℕ)) (rows : RefT (List Row)) (left : RefT (List ℕ)) (right : RefT (List ℕ))
-      (g-series : Room i32 (length (now series))) (g-head : Is ((Headᴰ 𝓤 H A W) .row) head ((Headᴰ 𝓤 H A W) .val head ∷ [])) (g-from′ : Room Rowᵀ.the-row (length (now from′))) (g-lefts : Room u32 (length (now lefts))) (g-rights : Room u32 (length (now rights))) (g-rows : Room Rowᵀ.the-row (length (now rows))) (g-left : Room u32 (length (now left))) (g-right : Room u32 (length (now right))) (asked : thePlan (now series) head (now from′) (now lefts) (now rights) (buffers (now rows) (now left) (now right)) .number ≡ 0) where
+      (g-series : Room i32 (length (now series))) (g-head : Is ((Headᴰ 𝓤 H A W) .row) head ((Headᴰ 𝓤 H A W) .val head ∷ [])) (g-from′ : Room Rowᵀ.the-row (length (now from′))) (g-lefts : Room u32 (length (now lefts))) (g-rights : Room u32 (length (now rights))) (g-rows : Room Rowᵀ.the-row (length (now rows))) (g-left : Room u32 (length (now left))) (g-right : Room u32 (length (now right))) (asked : thePlan (now series) head (now from′) (now lefts) (now rights) (indexBuffers (now rows) (now left) (now right)) .number ≡ 0) where
     abbrev series° : Lent
     series° = record { row = i32; ref = series; lft = κs .0; share = qs .0; has-room = g-series }
 
@@ -123,7 +123,7 @@ module _ {M : Type 1} (𝓤 : URA M) (H : Heap 𝓤) (A : Atoms 𝓤) (W : Given
         pass0 ! $
         keep ! (42 ∷ 49 ∷ 43 ∷ 51 ∷ 44 ∷ 52 ∷ 45 ∷ 53 ∷ 46 ∷ 54 ∷ 47 ∷ 55 ∷ 48 ∷ 56 ∷ 40 ∷ 41 ∷ 38 ∷ 39 ∷ 36 ∷ 37 ∷ 34 ∷ 35 ∷ 32 ∷ 33 ∷ 30 ∷ 31 ∷ 28 ∷ 29 ∷ 26 ∷ 27 ∷ 24 ∷ 25 ∷ 22 ∷ 23 ∷ 20 ∷ 21 ∷ 18 ∷ 19 ∷ 16 ∷ 17 ∷ 14 ∷ 15 ∷ 12 ∷ 13 ∷ 10 ∷ 11 ∷ 8 ∷ 9 ∷ 6 ∷ 7 ∷ 4 ∷ 5 ∷ 2 ∷ 3 ∷ 0 ∷ 1 ∷ []) $
         calls-with ! fm lift-of.ended (lift-of.clauses 𝓤 H A mem run) known-lift-of (value (uint 𝓤 H A W w32) (head .window) (LL.owed Headᵀ.the-type Headᴸ.the-laws head _ g-head .0) ∷ value (uint 𝓤 H A W w32) (head .width) (LL.owed Headᵀ.the-type Headᴸ.the-laws head _ g-head .1 .0) ∷ value (uint 𝓤 H A W w32) (head .windows) (LL.owed Headᵀ.the-type Headᴸ.the-laws head _ g-head .1 .1 .0) ∷ [])
-        (λ fs. ((tt, tt, tt, ((head .window), ((head .width), ((head .windows), tt))), ((uint 𝓤 H A W w32) .val (head .window) ∷ [], ((uint 𝓤 H A W w32) .val (head .width) ∷ [], ((uint 𝓤 H A W w32) .val (head .windows) ∷ [], tt)))), tt)) (λ fs. refl) (λ fs. refl) (λ fs ls. ls) (λ fs ls. refl) (λ fs. factI 𝓤 _ (emp 𝓤) (lift-asked (now series) head (now from′) (now lefts) (now rights) (buffers (now rows) (now left) (now right)) asked)) (λ fs r ls. id⊢ 𝓤 _) (λ fs. (Liftᴰ 𝓤 H A W) .val) (λ fs. (Liftᴰ 𝓤 H A W) .tells) (λ fs. (and-then ! (part ! 20 refl (sub ! 0 refl (whole !))) (and-then ! (part ! 20 refl (sub ! 1 refl (whole !))) (and-then ! (part ! 20 refl (sub ! 2 refl (whole !))) (no-more !))))) (λ fs u ls₁ lifted is₁ fits₁.
+        (λ fs. ((tt, tt, tt, ((head .window), ((head .width), ((head .windows), tt))), ((uint 𝓤 H A W w32) .val (head .window) ∷ [], ((uint 𝓤 H A W w32) .val (head .width) ∷ [], ((uint 𝓤 H A W w32) .val (head .windows) ∷ [], tt)))), tt)) (λ fs. refl) (λ fs. refl) (λ fs ls. ls) (λ fs ls. refl) (λ fs. factI 𝓤 _ (emp 𝓤) (lift-asked (now series) head (now from′) (now lefts) (now rights) (indexBuffers (now rows) (now left) (now right)) asked)) (λ fs r ls. id⊢ 𝓤 _) (λ fs. (Liftᴰ 𝓤 H A W) .val) (λ fs. (Liftᴰ 𝓤 H A W) .tells) (λ fs. (and-then ! (part ! 20 refl (sub ! 0 refl (whole !))) (and-then ! (part ! 20 refl (sub ! 1 refl (whole !))) (and-then ! (part ! 20 refl (sub ! 2 refl (whole !))) (no-more !))))) (λ fs u ls₁ lifted is₁ fits₁.
         land ! (from ! (stop !)) (init ! 32 refl ((Liftᴰ 𝓤 H A W) .lawful .typed u _ is₁ .0)) $
         tidy ! (token 𝓤 H A series° ∷ viewed 𝓤 H A series° ∷ token 𝓤 H A from′° ∷ viewed 𝓤 H A from′° ∷ token 𝓤 H A lefts° ∷ viewed 𝓤 H A lefts° ∷ token 𝓤 H A rights° ∷ viewed 𝓤 H A rights° ∷ token 𝓤 H A rows° ∷ lent-at 𝓤 H A rows° (now rows) ∷ token 𝓤 H A left° ∷ lent-at 𝓤 H A left° (now left) ∷ token 𝓤 H A right° ∷ lent-at 𝓤 H A right° (now right) ∷ []) (empty ∷ holds _ ∷ holds _ ∷ holds _ ∷ holds _ ∷ holds _ ∷ holds _ ∷ holds _ ∷ holds _ ∷ holds _ ∷ empty ∷ empty ∷ empty ∷ empty ∷ empty ∷ empty ∷ empty ∷ empty ∷ empty ∷ empty ∷ empty ∷ []) refl $
         put-at ! 40 (start ! 26 refl (sub ! 0 refl (whole !))) refl (tt, tt) $
@@ -134,7 +134,7 @@ module _ {M : Type 1} (𝓤 : URA M) (H : Heap 𝓤) (A : Atoms 𝓤) (W : Given
         put-at ! 50 (agg ! (and-then ! (loc ! 48 refl) (and-then ! (part ! 30 refl (sub ! 1 refl (whole !))) (no-more !)))) refl (tt, (tt, (record { fits = g-right .0 }, tt))) $
         move ! (0 ∷ 1 ∷ 2 ∷ 3 ∷ 4 ∷ 5 ∷ 6 ∷ 7 ∷ 8 ∷ 9 ∷ 10 ∷ 11 ∷ 12 ∷ 13 ∷ []) $
         calls-with ! fm extend-passes.ended (extend-passes.clauses 𝓤 H A mem run) known-extend-passes (kept series° ∷ value (uint 𝓤 H A W w64) (u .window) (LL.owed Liftᵀ.the-type Liftᴸ.the-laws u _ is₁ .0) ∷ value (uint 𝓤 H A W w64) (u .extra) (LL.owed Liftᵀ.the-type Liftᴸ.the-laws u _ is₁ .1 .1 .1 .1 .0) ∷ value (uint 𝓤 H A W w64) (u .width) (LL.owed Liftᵀ.the-type Liftᴸ.the-laws u _ is₁ .1 .1 .0) ∷ value (uint 𝓤 H A W w64) (u .base) (LL.owed Liftᵀ.the-type Liftᴸ.the-laws u _ is₁ .1 .1 .1 .0) ∷ value (uint 𝓤 H A W w64) (u .bias) (LL.owed Liftᵀ.the-type Liftᴸ.the-laws u _ is₁ .1 .1 .1 .1 .1 .0) ∷ value (uint 𝓤 H A W w64) (u .old) (LL.owed Liftᵀ.the-type Liftᴸ.the-laws u _ is₁ .1 .0) ∷ kept from′° ∷ kept lefts° ∷ kept rights° ∷ lends rows° (now rows) refl ∷ lends left° (now left) refl ∷ lends right° (now right) refl ∷ [])
-        (λ fs. (((κs .0, (κs .1 .0, (κs .1 .1 .0, (κs .1 .1 .1 .0, (fs .0 .0 ∷ [], (fs .1 .0 .0 ∷ [], (fs .1 .1 .0 .0 ∷ [], tt))))))), (qs .0, (qs .1 .0, (qs .1 .1 .0, (qs .1 .1 .1 .0, (fullShare, (fullShare, (fullShare, tt))))))), tt, (series, ((u .window), ((u .extra), ((u .width), ((u .base), ((u .bias), ((u .old), (from′, (lefts, (rights, (record { ptr = rows .ptr; name = fs .0 .1; now = (now rows) }, (record { ptr = left .ptr; name = fs .1 .0 .1; now = (now left) }, (record { ptr = right .ptr; name = fs .1 .1 .0 .1; now = (now right) }, tt))))))))))))), (slice-vals series, ((uint 𝓤 H A W w64) .val (u .window) ∷ [], ((uint 𝓤 H A W w64) .val (u .extra) ∷ [], ((uint 𝓤 H A W w64) .val (u .width) ∷ [], ((uint 𝓤 H A W w64) .val (u .base) ∷ [], ((uint 𝓤 H A W w64) .val (u .bias) ∷ [], ((uint 𝓤 H A W w64) .val (u .old) ∷ [], (slice-vals from′, (slice-vals lefts, (slice-vals rights, (slice-vals rows, (slice-vals left, (slice-vals right, tt)))))))))))))), tt)) (λ fs. refl) (λ fs. refl) (λ fs ls. ls) (λ fs ls. refl) (λ fs. factI 𝓤 _ (emp 𝓤) (passes-asked (now series) head (now from′) (now lefts) (now rights) (buffers (now rows) (now left) (now right)) asked lifted)) (λ fs r ls. id⊢ 𝓤 _) (λ fs. (uint 𝓤 H A W w64) .val) (λ fs. (uint 𝓤 H A W w64) .tells) (λ fs. (and-then ! (loc ! 4 refl) (and-then ! (part ! 20 refl (sub ! 0 refl (whole !))) (and-then ! (part ! 20 refl (sub ! 4 refl (whole !))) (and-then ! (part ! 20 refl (sub ! 2 refl (whole !))) (and-then ! (part ! 20 refl (sub ! 3 refl (whole !))) (and-then ! (part ! 20 refl (sub ! 5 refl (whole !))) (and-then ! (part ! 20 refl (sub ! 1 refl (whole !))) (and-then ! (loc ! 8 refl) (and-then ! (loc ! 10 refl) (and-then ! (loc ! 12 refl) (and-then ! (loc ! 30 refl) (and-then ! (loc ! 34 refl) (and-then ! (loc ! 38 refl) (no-more !))))))))))))))) (λ fs n ls₂ made is₂ fits₂.
+        (λ fs. (((κs .0, (κs .1 .0, (κs .1 .1 .0, (κs .1 .1 .1 .0, (fs .0 .0 ∷ [], (fs .1 .0 .0 ∷ [], (fs .1 .1 .0 .0 ∷ [], tt))))))), (qs .0, (qs .1 .0, (qs .1 .1 .0, (qs .1 .1 .1 .0, (fullShare, (fullShare, (fullShare, tt))))))), tt, (series, ((u .window), ((u .extra), ((u .width), ((u .base), ((u .bias), ((u .old), (from′, (lefts, (rights, (record { ptr = rows .ptr; name = fs .0 .1; now = (now rows) }, (record { ptr = left .ptr; name = fs .1 .0 .1; now = (now left) }, (record { ptr = right .ptr; name = fs .1 .1 .0 .1; now = (now right) }, tt))))))))))))), (slice-vals series, ((uint 𝓤 H A W w64) .val (u .window) ∷ [], ((uint 𝓤 H A W w64) .val (u .extra) ∷ [], ((uint 𝓤 H A W w64) .val (u .width) ∷ [], ((uint 𝓤 H A W w64) .val (u .base) ∷ [], ((uint 𝓤 H A W w64) .val (u .bias) ∷ [], ((uint 𝓤 H A W w64) .val (u .old) ∷ [], (slice-vals from′, (slice-vals lefts, (slice-vals rights, (slice-vals rows, (slice-vals left, (slice-vals right, tt)))))))))))))), tt)) (λ fs. refl) (λ fs. refl) (λ fs ls. ls) (λ fs ls. refl) (λ fs. factI 𝓤 _ (emp 𝓤) (passes-asked (now series) head (now from′) (now lefts) (now rights) (indexBuffers (now rows) (now left) (now right)) asked lifted)) (λ fs r ls. id⊢ 𝓤 _) (λ fs. (uint 𝓤 H A W w64) .val) (λ fs. (uint 𝓤 H A W w64) .tells) (λ fs. (and-then ! (loc ! 4 refl) (and-then ! (part ! 20 refl (sub ! 0 refl (whole !))) (and-then ! (part ! 20 refl (sub ! 4 refl (whole !))) (and-then ! (part ! 20 refl (sub ! 2 refl (whole !))) (and-then ! (part ! 20 refl (sub ! 3 refl (whole !))) (and-then ! (part ! 20 refl (sub ! 5 refl (whole !))) (and-then ! (part ! 20 refl (sub ! 1 refl (whole !))) (and-then ! (loc ! 8 refl) (and-then ! (loc ! 10 refl) (and-then ! (loc ! 12 refl) (and-then ! (loc ! 30 refl) (and-then ! (loc ! 34 refl) (and-then ! (loc ! 38 refl) (no-more !))))))))))))))) (λ fs n ls₂ made is₂ fits₂.
         land ! (from ! (stop !)) (init ! 34 refl ((uint 𝓤 H A W w64) .lawful .typed n _ is₂ .0)) $
         tidy ! (token 𝓤 H A series° ∷ viewed 𝓤 H A series° ∷ token 𝓤 H A from′° ∷ viewed 𝓤 H A from′° ∷ token 𝓤 H A lefts° ∷ viewed 𝓤 H A lefts° ∷ token 𝓤 H A rights° ∷ viewed 𝓤 H A rights° ∷ token 𝓤 H A rows° ∷ lent-at 𝓤 H A rows° (ls₂ .1 .1 .1 .1 .1 .1 .1 .1 .1 .1 .0) ∷ token 𝓤 H A left° ∷ lent-at 𝓤 H A left° (ls₂ .1 .1 .1 .1 .1 .1 .1 .1 .1 .1 .1 .0) ∷ token 𝓤 H A right° ∷ lent-at 𝓤 H A right° (ls₂ .1 .1 .1 .1 .1 .1 .1 .1 .1 .1 .1 .1 .0) ∷ []) (empty ∷ holds _ ∷ holds _ ∷ holds _ ∷ holds _ ∷ holds _ ∷ holds _ ∷ holds _ ∷ holds _ ∷ holds _ ∷ holds _ ∷ empty ∷ empty ∷ holds _ ∷ holds _ ∷ holds _ ∷ holds _ ∷ holds _ ∷ holds _ ∷ empty ∷ empty ∷ []) refl $
         calls-with ! fm last-place.ended (last-place.clauses 𝓤 H A mem run) known-last-place (value (uint 𝓤 H A W w64) n is₂ ∷ [])
@@ -145,18 +145,18 @@ module _ {M : Type 1} (𝓤 : URA M) (H : Heap 𝓤) (A : Atoms 𝓤) (W : Given
         put-at ! 54 (agg ! (and-then ! (loc ! 52 refl) (and-then ! (part ! 26 refl (sub ! 1 refl (whole !))) (no-more !)))) refl (tt, (tt, (record { fits = g-rows .0 }, tt))) $
         move ! (8 ∷ 9 ∷ []) $
         calls-with ! fm row-at.ended (row-at.clauses 𝓤 H A mem run) known-row-at (shares rows° (ls₂ .1 .1 .1 .1 .1 .1 .1 .1 .1 .1 .0) (fits₂ .1 .1 .1 .1 .1 .1 .1 .1 .1 .1 .0) ∷ value (uint 𝓤 H A W w64) k is₃ ∷ [])
-        (λ fs. (((fs .0 .0 ∷ [], tt), (fullShare, tt), tt, (record { ptr = rows .ptr; name = fs .0 .1; now = (ls₂ .1 .1 .1 .1 .1 .1 .1 .1 .1 .1 .0) }, (k, tt)), (slice-vals rows, ((uint 𝓤 H A W w64) .val k ∷ [], tt))), tt)) (λ fs. refl) (λ fs. refl) (λ fs ls. ls) (λ fs ls. refl) (λ fs. factI 𝓤 _ (emp 𝓤) (rw before (last-in (now series) head (now from′) (now lefts) (now rights) (buffers (now rows) (now left) (now right)) asked ((made-so (now series) head (now from′) (now lefts) (now rights) (buffers (now rows) (now left) (now right)) lifted made) .0) ((made-so (now series) head (now from′) (now lefts) (now rights) (buffers (now rows) (now left) (now right)) lifted made) .1)))) (λ fs r ls. id⊢ 𝓤 _) (λ fs. (Rowᴰ 𝓤 H A W) .val) (λ fs. (Rowᴰ 𝓤 H A W) .tells) (λ fs. (and-then ! (loc ! 54 refl) (and-then ! (loc ! 36 refl) (no-more !)))) (λ fs r ls₄ last-is is₄ fits₄.
+        (λ fs. (((fs .0 .0 ∷ [], tt), (fullShare, tt), tt, (record { ptr = rows .ptr; name = fs .0 .1; now = (ls₂ .1 .1 .1 .1 .1 .1 .1 .1 .1 .1 .0) }, (k, tt)), (slice-vals rows, ((uint 𝓤 H A W w64) .val k ∷ [], tt))), tt)) (λ fs. refl) (λ fs. refl) (λ fs ls. ls) (λ fs ls. refl) (λ fs. factI 𝓤 _ (emp 𝓤) (rw before (last-in (now series) head (now from′) (now lefts) (now rights) (indexBuffers (now rows) (now left) (now right)) asked ((made-so (now series) head (now from′) (now lefts) (now rights) (indexBuffers (now rows) (now left) (now right)) lifted made) .0) ((made-so (now series) head (now from′) (now lefts) (now rights) (indexBuffers (now rows) (now left) (now right)) lifted made) .1)))) (λ fs r ls. id⊢ 𝓤 _) (λ fs. (Rowᴰ 𝓤 H A W) .val) (λ fs. (Rowᴰ 𝓤 H A W) .tells) (λ fs. (and-then ! (loc ! 54 refl) (and-then ! (loc ! 36 refl) (no-more !)))) (λ fs r ls₄ last-is is₄ fits₄.
         land ! (from ! (stop !)) (init ! 38 refl ((Rowᴰ 𝓤 H A W) .lawful .typed r _ is₄ .0)) $
         tidy ! (token 𝓤 H A rows° ∷ lent-at 𝓤 H A rows° (ls₂ .1 .1 .1 .1 .1 .1 .1 .1 .1 .1 .0) ∷ token 𝓤 H A series° ∷ viewed 𝓤 H A series° ∷ token 𝓤 H A from′° ∷ viewed 𝓤 H A from′° ∷ token 𝓤 H A lefts° ∷ viewed 𝓤 H A lefts° ∷ token 𝓤 H A rights° ∷ viewed 𝓤 H A rights° ∷ token 𝓤 H A left° ∷ lent-at 𝓤 H A left° (ls₂ .1 .1 .1 .1 .1 .1 .1 .1 .1 .1 .1 .0) ∷ token 𝓤 H A right° ∷ lent-at 𝓤 H A right° (ls₂ .1 .1 .1 .1 .1 .1 .1 .1 .1 .1 .1 .1 .0) ∷ []) (empty ∷ holds _ ∷ holds _ ∷ holds _ ∷ holds _ ∷ holds _ ∷ holds _ ∷ holds _ ∷ holds _ ∷ holds _ ∷ holds _ ∷ holds _ ∷ holds _ ∷ holds _ ∷ holds _ ∷ holds _ ∷ holds _ ∷ holds _ ∷ holds _ ∷ holds _ ∷ holds _ ∷ []) refl $
         move ! (2 ∷ 3 ∷ []) $
         calls-with ! fm answer.ended (answer.clauses 𝓤 H A mem run) known-answer (kept series° ∷ value (Headᴰ 𝓤 H A W) head g-head ∷ value (uint 𝓤 H A W w64) n is₂ ∷ value (Rowᴰ 𝓤 H A W) r is₄ ∷ [])
-        (λ fs. (((κs .0, tt), (qs .0, tt), tt, (series, (head, (n, (r, tt)))), (slice-vals series, ((Headᴰ 𝓤 H A W) .val head ∷ [], ((uint 𝓤 H A W w64) .val n ∷ [], ((Rowᴰ 𝓤 H A W) .val r ∷ [], tt))))), tt)) (λ fs. refl) (λ fs. refl) (λ fs ls. ls) (λ fs ls. refl) (λ fs. factI 𝓤 _ (emp 𝓤) (sizes (now series) head (now from′) (now lefts) (now rights) (buffers (now rows) (now left) (now right)) asked)) (λ fs r ls. id⊢ 𝓤 _) (λ fs. (Extendedᴰ 𝓤 H A W) .val) (λ fs. (Extendedᴰ 𝓤 H A W) .tells) (λ fs. (and-then ! (loc ! 16 refl) (and-then ! (loc ! 18 refl) (and-then ! (loc ! 34 refl) (and-then ! (loc ! 38 refl) (no-more !)))))) (λ fs t ls₅ answered is₅ fits₅.
+        (λ fs. (((κs .0, tt), (qs .0, tt), tt, (series, (head, (n, (r, tt)))), (slice-vals series, ((Headᴰ 𝓤 H A W) .val head ∷ [], ((uint 𝓤 H A W w64) .val n ∷ [], ((Rowᴰ 𝓤 H A W) .val r ∷ [], tt))))), tt)) (λ fs. refl) (λ fs. refl) (λ fs ls. ls) (λ fs ls. refl) (λ fs. factI 𝓤 _ (emp 𝓤) (sizes (now series) head (now from′) (now lefts) (now rights) (indexBuffers (now rows) (now left) (now right)) asked)) (λ fs r ls. id⊢ 𝓤 _) (λ fs. (Extendedᴰ 𝓤 H A W) .val) (λ fs. (Extendedᴰ 𝓤 H A W) .tells) (λ fs. (and-then ! (loc ! 16 refl) (and-then ! (loc ! 18 refl) (and-then ! (loc ! 34 refl) (and-then ! (loc ! 38 refl) (no-more !)))))) (λ fs t ls₅ answered is₅ fits₅.
         land ! (from ! (stop !)) (init ! 14 refl ((Extendedᴰ 𝓤 H A W) .lawful .typed t _ is₅ .0)) $
         tidy ! (token 𝓤 H A series° ∷ viewed 𝓤 H A series° ∷ token 𝓤 H A rows° ∷ lent-at 𝓤 H A rows° (ls₂ .1 .1 .1 .1 .1 .1 .1 .1 .1 .1 .0) ∷ token 𝓤 H A from′° ∷ viewed 𝓤 H A from′° ∷ token 𝓤 H A lefts° ∷ viewed 𝓤 H A lefts° ∷ token 𝓤 H A rights° ∷ viewed 𝓤 H A rights° ∷ token 𝓤 H A left° ∷ lent-at 𝓤 H A left° (ls₂ .1 .1 .1 .1 .1 .1 .1 .1 .1 .1 .1 .0) ∷ token 𝓤 H A right° ∷ lent-at 𝓤 H A right° (ls₂ .1 .1 .1 .1 .1 .1 .1 .1 .1 .1 .1 .1 .0) ∷ []) (holds _ ∷ holds _ ∷ holds _ ∷ holds _ ∷ holds _ ∷ holds _ ∷ holds _ ∷ holds _ ∷ holds _ ∷ holds _ ∷ holds _ ∷ holds _ ∷ holds _ ∷ holds _ ∷ holds _ ∷ holds _ ∷ holds _ ∷ holds _ ∷ holds _ ∷ holds _ ∷ holds _ ∷ []) refl $
         returns ! (look ! 14 refl) $
         frees-all ! (token 𝓤 H A series° ∷ viewed 𝓤 H A series° ∷ token 𝓤 H A rows° ∷ lent-at 𝓤 H A rows° (ls₂ .1 .1 .1 .1 .1 .1 .1 .1 .1 .1 .0) ∷ token 𝓤 H A from′° ∷ viewed 𝓤 H A from′° ∷ token 𝓤 H A lefts° ∷ viewed 𝓤 H A lefts° ∷ token 𝓤 H A rights° ∷ viewed 𝓤 H A rights° ∷ token 𝓤 H A left° ∷ lent-at 𝓤 H A left° (ls₂ .1 .1 .1 .1 .1 .1 .1 .1 .1 .1 .1 .0) ∷ token 𝓤 H A right° ∷ lent-at 𝓤 H A right° (ls₂ .1 .1 .1 .1 .1 .1 .1 .1 .1 .1 .1 .1 .0) ∷ []) (holds _ ∷ holds _ ∷ holds _ ∷ holds _ ∷ holds _ ∷ holds _ ∷ holds _ ∷ holds _ ∷ holds _ ∷ holds _ ∷ holds _ ∷ holds _ ∷ holds _ ∷ holds _ ∷ holds _ ∷ holds _ ∷ holds _ ∷ holds _ ∷ holds _ ∷ holds _ ∷ holds _ ∷ []) tt $
         keep ! (0 ∷ 1 ∷ 4 ∷ 5 ∷ 6 ∷ 7 ∷ 8 ∷ 9 ∷ 2 ∷ 3 ∷ 10 ∷ 11 ∷ 12 ∷ 13 ∷ []) $
-        by ! (leaves-with 𝓤 H A W f.ended (f.clauses 𝓤 H A mem run) bound (kept series° ∷ kept from′° ∷ kept lefts° ∷ kept rights° ∷ lends rows° (ls₂ .1 .1 .1 .1 .1 .1 .1 .1 .1 .1 .0) (fits₂ .1 .1 .1 .1 .1 .1 .1 .1 .1 .1 .0) ∷ lends left° (ls₂ .1 .1 .1 .1 .1 .1 .1 .1 .1 .1 .1 .0) (fits₂ .1 .1 .1 .1 .1 .1 .1 .1 .1 .1 .1 .0) ∷ lends right° (ls₂ .1 .1 .1 .1 .1 .1 .1 .1 .1 .1 .1 .1 .0) (fits₂ .1 .1 .1 .1 .1 .1 .1 .1 .1 .1 .1 .1 .0) ∷ []) ((Extendedᴰ 𝓤 H A W) .val t) t (tt, (tt, (tt, (tt, (tt, ((ls₂ .1 .1 .1 .1 .1 .1 .1 .1 .1 .1 .0), ((ls₂ .1 .1 .1 .1 .1 .1 .1 .1 .1 .1 .1 .0), ((ls₂ .1 .1 .1 .1 .1 .1 .1 .1 .1 .1 .1 .1 .0), tt)))))))) refl refl ((Extendedᴰ 𝓤 H A W) .makes t _ is₅) (factI 𝓤 _ (emp 𝓤) (rw answered (extended-kept (now series) head (now from′) (now lefts) (now rights) (buffers (now rows) (now left) (now right)) asked ((made-so (now series) head (now from′) (now lefts) (now rights) (buffers (now rows) (now left) (now right)) lifted made) .0) ((made-so (now series) head (now from′) (now lefts) (now rights) (buffers (now rows) (now left) (now right)) lifted made) .1) (last-is ∙ ap (λ (x : ℕ). getD (ls₂ .1 .1 .1 .1 .1 .1 .1 .1 .1 .1 .0) x zeroRow) before)))))))))))))))))))))))))))))))
+        by ! (leaves-with 𝓤 H A W f.ended (f.clauses 𝓤 H A mem run) bound (kept series° ∷ kept from′° ∷ kept lefts° ∷ kept rights° ∷ lends rows° (ls₂ .1 .1 .1 .1 .1 .1 .1 .1 .1 .1 .0) (fits₂ .1 .1 .1 .1 .1 .1 .1 .1 .1 .1 .0) ∷ lends left° (ls₂ .1 .1 .1 .1 .1 .1 .1 .1 .1 .1 .1 .0) (fits₂ .1 .1 .1 .1 .1 .1 .1 .1 .1 .1 .1 .0) ∷ lends right° (ls₂ .1 .1 .1 .1 .1 .1 .1 .1 .1 .1 .1 .1 .0) (fits₂ .1 .1 .1 .1 .1 .1 .1 .1 .1 .1 .1 .1 .0) ∷ []) ((Extendedᴰ 𝓤 H A W) .val t) t (tt, (tt, (tt, (tt, (tt, ((ls₂ .1 .1 .1 .1 .1 .1 .1 .1 .1 .1 .0), ((ls₂ .1 .1 .1 .1 .1 .1 .1 .1 .1 .1 .1 .0), ((ls₂ .1 .1 .1 .1 .1 .1 .1 .1 .1 .1 .1 .1 .0), tt)))))))) refl refl ((Extendedᴰ 𝓤 H A W) .makes t _ is₅) (factI 𝓤 _ (emp 𝓤) (rw answered (extended-kept (now series) head (now from′) (now lefts) (now rights) (indexBuffers (now rows) (now left) (now right)) asked ((made-so (now series) head (now from′) (now lefts) (now rights) (indexBuffers (now rows) (now left) (now right)) lifted made) .0) ((made-so (now series) head (now from′) (now lefts) (now rights) (indexBuffers (now rows) (now left) (now right)) lifted made) .1) (last-is ∙ ap (λ (x : ℕ). getD (ls₂ .1 .1 .1 .1 .1 .1 .1 .1 .1 .1 .0) x zeroRow) before)))))))))))))))))))))))))))))))
 
   meets : Meets 𝓤 H A f.signature (WpFn 𝓤 H (𝓣 .C) (𝓣 .Λ) code.function) (f.spec 𝓤 H A mem run)
   meets = meets-with 𝓤 H A f.ended (f.clauses 𝓤 H A mem run) (WpFn 𝓤 H (𝓣 .C) (𝓣 .Λ) code.function) (λ κs. (slice-vals, ((λ x. (Headᴰ 𝓤 H A W) .val x ∷ []), (slice-vals, (slice-vals, (slice-vals, (slice-vals, (slice-vals, (slice-vals, tt)))))))))

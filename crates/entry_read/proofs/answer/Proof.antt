@@ -1,4 +1,4 @@
--- `entry_read::answer` meets its contract. By the number of the plan. Assumes nothing.
+-- `entry_read::answer` meets its contract. By the number of the plan.
 use mathlib.Core.Path.{refl}
 use borrow.Author.Tests.{eq-eqb, ne-eqb}
 use Rattle.entry_read.specs.Plan.{planAnswer}

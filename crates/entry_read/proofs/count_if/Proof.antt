@@ -1,4 +1,4 @@
--- `entry_read::count_if` meets its contract. By the test. Assumes nothing.
+-- `entry_read::count_if` meets its contract. By the test.
 use mathlib.Core.Path.{refl}
 use borrow.Author.Needs.{needs}
 use Rattle.entry_read.proofs.count_if.Statement.{statement}

@@ -1,4 +1,4 @@
--- `entry_read::fill_runs` meets its contract. The invariant: the columns after i bytes are a view of what has been said (`Filling`). The measure is what is left of the text. Assumes nothing.
+-- `entry_read::fill_runs` meets its contract. The invariant: the columns after i bytes are a view of what has been said (`Filling`). The measure is what is left of the text.
 use mathlib.Core.Path.{_≡_}
 use Prim.Native.Nat.{_-_}
 use native.Mathlib.Omega.{arith}
@@ -6,7 +6,7 @@ use lib.ListN.{length}
 use mir.Syntax.{w64}
 use mir.Val.{toZ, ofZ}
 use mir.ValLaws.{toZ-ofZ}
-use Rattle.text_event.specs.Event.{row-up, run-up, runs-up, value-up, closed-up}
+use Rattle.text_event.proofs.EventLaws.{row-up, run-up, runs-up, value-up, closed-up}
 use Rattle.entry_read.proofs.Columns.{Filling, filling-start, filling-run, filling-row, filling-runs, filling-value, filling-closed, filling-refuse, filling-end}
 use borrow.Author.Needs.{needs}
 use Rattle.entry_read.proofs.fill_runs.Statement.{statement}

@@ -1,4 +1,4 @@
--- `entry_read::load_runs` meets its contract. By the number of the plan: nothing is altered, or the columns were cleared and filled. Assumes nothing.
+-- `entry_read::load_runs` meets its contract. By the number of the plan: nothing is altered, or the columns were cleared and filled.
 use mathlib.Core.Path.{ap, _∙_}
 use Rattle.clear.proofs.Clear.{cleared-all}
 use Rattle.entry_read.specs.Plan.{planFor}

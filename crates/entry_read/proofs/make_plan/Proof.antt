@@ -1,4 +1,4 @@
--- `entry_read::make_plan` meets its contract. By what the text comes to. Assumes nothing.
+-- `entry_read::make_plan` meets its contract. By what the text comes to.
 use mathlib.Core.Path.{refl, sym, ap, _∙_}
 use Rattle.entry_read.specs.Plan.{planScanned}
 use borrow.Author.Needs.{needs}

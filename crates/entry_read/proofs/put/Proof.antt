@@ -1,4 +1,4 @@
--- `entry_read::put` meets its contract: a place that there is not changes nothing. Assumes nothing.
+-- `entry_read::put` meets its contract: a place that there is not changes nothing.
 use mathlib.Core.Path.{sym}
 use lib.Seq.{set-out}
 use borrow.Author.Needs.{needs}

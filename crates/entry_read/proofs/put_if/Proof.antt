@@ -1,4 +1,4 @@
--- `entry_read::put_if` meets its contract. By the test. Assumes nothing.
+-- `entry_read::put_if` meets its contract. By the test.
 use borrow.Author.Needs.{needs}
 use Rattle.entry_read.proofs.put_if.Statement.{statement}
 use Rattle.entry_read.proofs.put_if.Tie as tie

@@ -1,9 +1,10 @@
--- `entry_read::put_runs` meets its contract. The invariant: the columns are what the runs so far make of those at the beginning (`RunsFrom`). The measure is what is left of the text. Assumes nothing.
+-- `entry_read::put_runs` meets its contract. The invariant: the columns are what the runs so far make of those at the beginning (`RunsFrom`). The measure is what is left of the text.
 use mathlib.Core.Path.{_≡_, refl, ap, _∙_}
 use Prim.Native.Nat.{_-_, _≤_}
 use native.Mathlib.Omega.{arith}
 use lib.ListN.{length, length-set}
-use Rattle.text_event.specs.Event.{RunsFrom, none, one, leftOf, rightOf, run-up}
+use Rattle.text_event.specs.Event.{RunsFrom, none, one, leftOf, rightOf}
+use Rattle.text_event.proofs.EventLaws.{run-up}
 use Rattle.entry_read.specs.Runs.{Columns, tellColumns}
 use Rattle.entry_read.proofs.Columns.{run-stored}
 use borrow.Author.Needs.{needs}

@@ -17,9 +17,9 @@ use Rattle.text_rows.specs.Line.{stored}
 use Rattle.meaning_entries.specs.declared.Loaded.{Loaded}
 use Rattle.meaning_entries.proofs.Loaded as Loadedᵀ
 use Rattle.meaning_entries.proofs.Loaded.Laws as Loadedᴸ
-use Rattle.entry_read.specs.declared.Plan.{Plan}
-use Rattle.entry_read.proofs.Plan as Planᵀ
-use Rattle.entry_read.proofs.Plan.Laws as Planᴸ
+use Rattle.entry_read.specs.declared.ReadPlan.{ReadPlan}
+use Rattle.entry_read.proofs.ReadPlan as ReadPlanᵀ
+use Rattle.entry_read.proofs.ReadPlan.Laws as ReadPlanᴸ
 use Rattle.meaning_rows.specs.declared.Row.{Row}
 use Rattle.meaning_rows.proofs.Row as Rowᵀ
 use Rattle.entry_read.proofs.load_runs as load-runs
@@ -46,8 +46,8 @@ use Rattle.entry_read.proofs.read.Code as code
 abbrev Loadedᴰ : {M : Type 1} (𝓤 : URA M) (H : Heap 𝓤) (A : Atoms 𝓤) → Given 𝓤 H A → Data 𝓤 H A
 Loadedᴰ 𝓤 H A W = enum 𝓤 H A W Loadedᵀ.the-type Loadedᴸ.the-laws tt Loadedᴸ.the-plain
 
-abbrev Planᴰ : {M : Type 1} (𝓤 : URA M) (H : Heap 𝓤) (A : Atoms 𝓤) → Given 𝓤 H A → Data 𝓤 H A
-Planᴰ 𝓤 H A W = struct 𝓤 H A W Planᵀ.the-type Planᴸ.the-laws Planᴸ.the-plain
+abbrev ReadPlanᴰ : {M : Type 1} (𝓤 : URA M) (H : Heap 𝓤) (A : Atoms 𝓤) → Given 𝓤 H A → Data 𝓤 H A
+ReadPlanᴰ 𝓤 H A W = struct 𝓤 H A W ReadPlanᵀ.the-type ReadPlanᴸ.the-laws ReadPlanᴸ.the-plain
 
 module _ {M : Type 1} (𝓤 : URA M) (H : Heap 𝓤) (A : Atoms 𝓤) (W : Given 𝓤 H A) (mem : Memory → SProp 𝓤) (run : Routine → Fun 𝓤) (𝓣 : Tables 𝓤 H) (fm : FmC 𝓤 H (W .laws) (𝓣 .C)) (known-load-runs : Meets 𝓤 H A load-runs.signature (𝓣 .C #load-runs) (load-runs.spec 𝓤 H A mem run)) (known-clear-rows : Meets 𝓤 H A clear-rows.signature (𝓣 .C #clear-rows) (clear-rows.spec 𝓤 H A mem run)) (known-fill-rows : Meets 𝓤 H A fill-rows.signature (𝓣 .C #fill-rows) (fill-rows.spec 𝓤 H A mem run)) (known-answer : Meets 𝓤 H A answer.signature (𝓣 .C #answer) (answer.spec 𝓤 H A mem run)) where
   module _ (κs : Lfts 4) (qs : Shares 4) (text : RefT (List ℕ)) (rows : RefT (List Row)) (left : RefT (List ℕ)) (right : RefT (List ℕ))
@@ -93,25 +93,25 @@ module _ {M : Type 1} (𝓤 : URA M) (H : Heap 𝓤) (A : Atoms 𝓤) (W : Given
         put-at ! 28 (agg ! (and-then ! (loc ! 26 refl) (and-then ! (part ! 16 refl (sub ! 1 refl (whole !))) (no-more !)))) refl (tt, (tt, (record { fits = g-right .0 }, tt))) $
         move ! (0 ∷ 1 ∷ 4 ∷ 5 ∷ 6 ∷ 7 ∷ []) $
         calls-with ! fm load-runs.ended (load-runs.clauses 𝓤 H A mem run) known-load-runs (kept text° ∷ value (uint 𝓤 H A W w64) (length (now rows)) (refl, g-rows .0) ∷ lends left° (now left) refl ∷ lends right° (now right) refl ∷ [])
-        (λ fs. (((κs .0, (fs .0 .0 ∷ [], (fs .1 .0 .0 ∷ [], tt))), (qs .0, (fullShare, (fullShare, tt))), tt, (text, ((length (now rows)), (record { ptr = left .ptr; name = fs .0 .1; now = (now left) }, (record { ptr = right .ptr; name = fs .1 .0 .1; now = (now right) }, tt)))), (slice-vals text, ((uint 𝓤 H A W w64) .val (length (now rows)) ∷ [], (slice-vals left, (slice-vals right, tt))))), tt)) (λ fs. refl) (λ fs. refl) (λ fs ls. ls) (λ fs ls. refl) (λ fs. id⊢ 𝓤 _) (λ fs r ls. id⊢ 𝓤 _) (λ fs. (Planᴰ 𝓤 H A W) .val) (λ fs. (Planᴰ 𝓤 H A W) .tells) (λ fs. (and-then ! (loc ! 6 refl) (and-then ! (loc ! 16 refl) (and-then ! (loc ! 20 refl) (and-then ! (loc ! 24 refl) (no-more !)))))) (λ fs p ls₁ loads is₁ fits₁.
-        land ! (from ! (stop !)) (init ! 18 refl ((Planᴰ 𝓤 H A W) .lawful .typed p _ is₁ .0)) $
+        (λ fs. (((κs .0, (fs .0 .0 ∷ [], (fs .1 .0 .0 ∷ [], tt))), (qs .0, (fullShare, (fullShare, tt))), tt, (text, ((length (now rows)), (record { ptr = left .ptr; name = fs .0 .1; now = (now left) }, (record { ptr = right .ptr; name = fs .1 .0 .1; now = (now right) }, tt)))), (slice-vals text, ((uint 𝓤 H A W w64) .val (length (now rows)) ∷ [], (slice-vals left, (slice-vals right, tt))))), tt)) (λ fs. refl) (λ fs. refl) (λ fs ls. ls) (λ fs ls. refl) (λ fs. id⊢ 𝓤 _) (λ fs r ls. id⊢ 𝓤 _) (λ fs. (ReadPlanᴰ 𝓤 H A W) .val) (λ fs. (ReadPlanᴰ 𝓤 H A W) .tells) (λ fs. (and-then ! (loc ! 6 refl) (and-then ! (loc ! 16 refl) (and-then ! (loc ! 20 refl) (and-then ! (loc ! 24 refl) (no-more !)))))) (λ fs p ls₁ loads is₁ fits₁.
+        land ! (from ! (stop !)) (init ! 18 refl ((ReadPlanᴰ 𝓤 H A W) .lawful .typed p _ is₁ .0)) $
         tidy ! (token 𝓤 H A text° ∷ viewed 𝓤 H A text° ∷ token 𝓤 H A left° ∷ lent-at 𝓤 H A left° (ls₁ .1 .1 .0) ∷ token 𝓤 H A right° ∷ lent-at 𝓤 H A right° (ls₁ .1 .1 .1 .0) ∷ token 𝓤 H A rows° ∷ lent-at 𝓤 H A rows° (now rows) ∷ []) (empty ∷ holds _ ∷ holds _ ∷ holds _ ∷ holds _ ∷ holds _ ∷ holds _ ∷ holds _ ∷ holds _ ∷ holds _ ∷ holds _ ∷ empty ∷ empty ∷ empty ∷ empty ∷ empty ∷ []) refl $
         put-at ! 32 (start ! 12 refl (sub ! 0 refl (whole !))) refl (tt, tt) $
         put-at ! 34 (agg ! (and-then ! (loc ! 32 refl) (and-then ! (part ! 12 refl (sub ! 1 refl (whole !))) (no-more !)))) refl (tt, (tt, (record { fits = g-rows .0 }, tt))) $
         move ! (6 ∷ 7 ∷ []) $
-        calls-with ! fm clear-rows.ended (clear-rows.clauses 𝓤 H A mem run) known-clear-rows (lends rows° (now rows) refl ∷ value (uint 𝓤 H A W w64) (p .from) (LL.owed Planᵀ.the-type Planᴸ.the-laws p _ is₁ .1 .1 .1 .1 .0) ∷ [])
+        calls-with ! fm clear-rows.ended (clear-rows.clauses 𝓤 H A mem run) known-clear-rows (lends rows° (now rows) refl ∷ value (uint 𝓤 H A W w64) (p .from) (LL.owed ReadPlanᵀ.the-type ReadPlanᴸ.the-laws p _ is₁ .1 .1 .1 .1 .0) ∷ [])
         (λ fs. (((fs .0 .0 ∷ [], tt), (fullShare, tt), tt, (record { ptr = rows .ptr; name = fs .0 .1; now = (now rows) }, ((p .from), tt)), (slice-vals rows, ((uint 𝓤 H A W w64) .val (p .from) ∷ [], tt))), tt)) (λ fs. refl) (λ fs. refl) (λ fs ls. ls) (λ fs ls. refl) (λ fs. factI 𝓤 _ (emp 𝓤) (loads-inside loads .from)) (λ fs r ls. id⊢ 𝓤 _) (λ fs. (nothing 𝓤 H A W) .val) (λ fs. (nothing 𝓤 H A W) .tells) (λ fs. (and-then ! (loc ! 34 refl) (and-then ! (part ! 18 refl (sub ! 4 refl (whole !))) (no-more !)))) (λ fs u ls₂ cleared is₂ fits₂.
         land ! (from ! (stop !)) (init ! 30 refl ((nothing 𝓤 H A W) .lawful .typed u _ is₂ .0)) $
         tidy ! (token 𝓤 H A rows° ∷ lent-at 𝓤 H A rows° (ls₂ .0) ∷ token 𝓤 H A text° ∷ viewed 𝓤 H A text° ∷ token 𝓤 H A left° ∷ lent-at 𝓤 H A left° (ls₁ .1 .1 .0) ∷ token 𝓤 H A right° ∷ lent-at 𝓤 H A right° (ls₁ .1 .1 .1 .0) ∷ []) (empty ∷ holds _ ∷ holds _ ∷ holds _ ∷ holds _ ∷ holds _ ∷ holds _ ∷ holds _ ∷ holds _ ∷ holds _ ∷ holds _ ∷ holds _ ∷ holds _ ∷ holds _ ∷ empty ∷ empty ∷ []) refl $
         put-at ! 36 (start ! 12 refl (sub ! 0 refl (whole !))) refl (tt, tt) $
         put-at ! 38 (agg ! (and-then ! (loc ! 36 refl) (and-then ! (part ! 12 refl (sub ! 1 refl (whole !))) (no-more !)))) refl (tt, (tt, (record { fits = g-rows .0 }, tt))) $
         move ! (2 ∷ 3 ∷ 0 ∷ 1 ∷ []) $
-        calls-with ! fm fill-rows.ended (fill-rows.clauses 𝓤 H A mem run) known-fill-rows (kept text° ∷ value (uint 𝓤 H A W w64) (p .rows) (LL.owed Planᵀ.the-type Planᴸ.the-laws p _ is₁ .1 .1 .0) ∷ lends rows° (ls₂ .0) (fits₂ .0) ∷ [])
+        calls-with ! fm fill-rows.ended (fill-rows.clauses 𝓤 H A mem run) known-fill-rows (kept text° ∷ value (uint 𝓤 H A W w64) (p .rows) (LL.owed ReadPlanᵀ.the-type ReadPlanᴸ.the-laws p _ is₁ .1 .1 .0) ∷ lends rows° (ls₂ .0) (fits₂ .0) ∷ [])
         (λ fs. (((κs .0, (fs .0 .0 ∷ [], tt)), (qs .0, (fullShare, tt)), tt, (text, ((p .rows), (record { ptr = rows .ptr; name = fs .0 .1; now = (ls₂ .0) }, tt))), (slice-vals text, ((uint 𝓤 H A W w64) .val (p .rows) ∷ [], (slice-vals rows, tt)))), tt)) (λ fs. refl) (λ fs. refl) (λ fs ls. ls) (λ fs ls. refl) (λ fs. factI 𝓤 _ (emp 𝓤) (omega (arith, loads-inside loads .rows, (fits₂ .0)))) (λ fs r ls. id⊢ 𝓤 _) (λ fs. (nothing 𝓤 H A W) .val) (λ fs. (nothing 𝓤 H A W) .tells) (λ fs. (and-then ! (loc ! 8 refl) (and-then ! (part ! 16 refl (sub ! 2 refl (whole !))) (and-then ! (loc ! 36 refl) (no-more !))))) (λ fs v ls₃ filled is₃ fits₃.
         land ! (from ! (stop !)) (store ! 30 refl ((nothing 𝓤 H A W) .lawful .typed v _ is₃ .0)) $
         tidy ! (token 𝓤 H A text° ∷ viewed 𝓤 H A text° ∷ token 𝓤 H A rows° ∷ lent-at 𝓤 H A rows° (ls₃ .1 .1 .0) ∷ token 𝓤 H A left° ∷ lent-at 𝓤 H A left° (ls₁ .1 .1 .0) ∷ token 𝓤 H A right° ∷ lent-at 𝓤 H A right° (ls₁ .1 .1 .1 .0) ∷ []) (empty ∷ holds _ ∷ holds _ ∷ holds _ ∷ holds _ ∷ holds _ ∷ holds _ ∷ holds _ ∷ holds _ ∷ holds _ ∷ holds _ ∷ holds _ ∷ holds _ ∷ holds _ ∷ holds _ ∷ holds _ ∷ []) refl $
-        calls-with ! fm answer.ended (answer.clauses 𝓤 H A mem run) known-answer (value (Planᴰ 𝓤 H A W) p is₁ ∷ [])
-        (λ fs. ((tt, tt, tt, (p, tt), ((Planᴰ 𝓤 H A W) .val p ∷ [], tt)), tt)) (λ fs. refl) (λ fs. refl) (λ fs ls. ls) (λ fs ls. refl) (λ fs. id⊢ 𝓤 _) (λ fs r ls. id⊢ 𝓤 _) (λ fs. (Loadedᴰ 𝓤 H A W) .val) (λ fs. (Loadedᴰ 𝓤 H A W) .tells) (λ fs. (and-then ! (loc ! 20 refl) (no-more !))) (λ fs t ls₄ answered is₄ fits₄.
+        calls-with ! fm answer.ended (answer.clauses 𝓤 H A mem run) known-answer (value (ReadPlanᴰ 𝓤 H A W) p is₁ ∷ [])
+        (λ fs. ((tt, tt, tt, (p, tt), ((ReadPlanᴰ 𝓤 H A W) .val p ∷ [], tt)), tt)) (λ fs. refl) (λ fs. refl) (λ fs ls. ls) (λ fs ls. refl) (λ fs. id⊢ 𝓤 _) (λ fs r ls. id⊢ 𝓤 _) (λ fs. (Loadedᴰ 𝓤 H A W) .val) (λ fs. (Loadedᴰ 𝓤 H A W) .tells) (λ fs. (and-then ! (loc ! 20 refl) (no-more !))) (λ fs t ls₄ answered is₄ fits₄.
         land ! (from ! (stop !)) (init ! 8 refl ((Loadedᴰ 𝓤 H A W) .lawful .typed t _ is₄ .0)) $
         tidy ! (token 𝓤 H A text° ∷ viewed 𝓤 H A text° ∷ token 𝓤 H A rows° ∷ lent-at 𝓤 H A rows° (ls₃ .1 .1 .0) ∷ token 𝓤 H A left° ∷ lent-at 𝓤 H A left° (ls₁ .1 .1 .0) ∷ token 𝓤 H A right° ∷ lent-at 𝓤 H A right° (ls₁ .1 .1 .1 .0) ∷ []) (holds _ ∷ holds _ ∷ holds _ ∷ holds _ ∷ holds _ ∷ holds _ ∷ holds _ ∷ holds _ ∷ holds _ ∷ holds _ ∷ holds _ ∷ holds _ ∷ holds _ ∷ holds _ ∷ holds _ ∷ holds _ ∷ []) refl $
         returns ! (look ! 8 refl) $

@@ -1,9 +1,10 @@
--- `entry_read::refuse_rows` meets its contract: each test is a line of the table. Assumes nothing.
+-- `entry_read::refuse_rows` meets its contract: each test is a line of the table.
 use borrow.Author.Needs.{needs}
 use mathlib.Core.Path.{refl}
 use lib.Dec.{ltb}
 use Rattle.meaning_entries.specs.Refusal.{bufferShort}
-use Rattle.refusals.specs.Refusal.{judgedLine, line-before, place-before}
+use Rattle.refusals.specs.Refusal.{judgedLine}
+use Rattle.refusals.proofs.RefusalLaws.{line-before, place-before}
 use Rattle.entry_read.specs.Plan.{rowsTable}
 use Rattle.entry_read.proofs.refuse_rows.Statement.{statement}
 use Rattle.entry_read.proofs.refuse_rows.Tie as tie

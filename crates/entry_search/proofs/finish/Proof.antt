@@ -1,4 +1,4 @@
--- `entry_search::finish` meets its contract: what refused, or what is found. Assumes nothing.
+-- `entry_search::finish` meets its contract: what refused, or what is found.
 use borrow.Author.Needs.{needs}
 use mathlib.Core.Path.{refl}
 use Rattle.entry_search.proofs.finish.Statement.{statement}

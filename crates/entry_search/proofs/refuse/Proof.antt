@@ -1,4 +1,4 @@
--- `entry_search::refuse` meets its contract. Assumes nothing.
+-- `entry_search::refuse` meets its contract.
 use mathlib.Core.Path.{refl}
 use Rattle.entry_search.specs.Refused.{refusedAs}
 use Rattle.entry_search.proofs.refuse.Statement.{statement}

@@ -1,14 +1,14 @@
 -- Written by tools/walk from the plan in the lines marked |. Change those, and run `tools/walk entry_search search`.
 -- The candidates are found, and then checked.
--- | use Rattle.entry_search.specs.Refused.{buffers}
+-- | use Rattle.meaning_entries.specs.Search.{searchBuffers}
 -- | use Rattle.entry_search.proofs.Looks.{finish-asked, both-kept}
--- | let HERE = (now series) head (now rows) (now left) (now right) ask (now query) (buffers (now first) (now last) (now scratch) (now offsets) (now distances))
+-- | let HERE = (now series) head (now rows) (now left) (now right) ask (now query) (searchBuffers (now first) (now last) (now scratch) (now offsets) (now distances))
 -- | s, found = find_candidates
 -- | t, finished = finish: finish-asked $HERE found
 -- | ends: both-kept $HERE found finished
 use Rattle.rows_records.proofs.Prelude.{refl, ℕ, List, [], _∷_, ℤ, length, URA, fullShare, named, Val, SProp, ent, emp, id⊢, via, fst∗, Memory, Routine, Heap, WpFn, Tables, Atoms, Lfts, Shares, Fun, factI, givenOf, tables, Given, Item, ⋆, _$_, _∵_, !, qed, by, move, keep, whole, sub, agg, look, init, stop, from, and-then, no-more, land, returns, enter, alloc1, alloc0, params1, pass1, pass0, FmC, fmOf, Is, i32, u64, u32, u16, RefT, ptr, now, name, sliceVal, Room, slice-vals, shr-slice-tells, mut-slice-tells, Meets, tripleOf, entered, cited, AtEntry, Data, struct, enum, Lent, value, kept, lends, shares, token, viewed, lent-at, holds, empty, tidy, frees-all, calls-with, leaves-with, meets-with, loc, part, start, put-at}
 use contract.Running.{tablesOf}
-use Rattle.entry_search.specs.Refused.{buffers}
+use Rattle.meaning_entries.specs.Search.{searchBuffers}
 use Rattle.entry_search.proofs.Looks.{finish-asked, both-kept}
 use Rattle.meaning_filter.specs.declared.Ask.{Ask}
 use Rattle.meaning_filter.proofs.Ask as Askᵀ
@@ -19,15 +19,15 @@ use Rattle.meaning_entries.proofs.Found.Laws as Foundᴸ
 use Rattle.meaning_rows.specs.declared.Head.{Head}
 use Rattle.meaning_rows.proofs.Head as Headᵀ
 use Rattle.meaning_rows.proofs.Head.Laws as Headᴸ
-use Rattle.entry_search.specs.declared.Sought.{Sought}
-use Rattle.entry_search.proofs.Sought as Soughtᵀ
-use Rattle.entry_search.proofs.Sought.Laws as Soughtᴸ
+use Rattle.candidate_find.specs.declared.Sought.{Sought}
+use Rattle.candidate_find.proofs.Sought as Soughtᵀ
+use Rattle.candidate_find.proofs.Sought.Laws as Soughtᴸ
 use Rattle.meaning_rows.specs.declared.Row.{Row}
 use Rattle.meaning_rows.proofs.Row as Rowᵀ
-use Rattle.entry_search.proofs.find_candidates as find-candidates
-use Rattle.entry_search.proofs.find_candidates.Symbol as find-candidates-def
-use Rattle.entry_search.proofs.find_candidates.Symbol.{name as #find-candidates}
-use Rattle.entry_search.proofs.find_candidates.Met as find-candidates-thm
+use Rattle.candidate_find.proofs.find_candidates as find-candidates
+use Rattle.candidate_find.proofs.find_candidates.Symbol as find-candidates-def
+use Rattle.candidate_find.proofs.find_candidates.Symbol.{name as #find-candidates}
+use Rattle.candidate_find.proofs.find_candidates.Met as find-candidates-thm
 use Rattle.entry_search.proofs.finish as finish
 use Rattle.entry_search.proofs.finish.Symbol as finish-def
 use Rattle.entry_search.proofs.finish.Symbol.{name as #finish}
@@ -133,13 +133,13 @@ module _ {M : Type 1} (𝓤 : URA M) (H : Heap 𝓤) (A : Atoms 𝓤) (W : Given
         put-at ! 74 (agg ! (and-then ! (loc ! 72 refl) (and-then ! (part ! 44 refl (sub ! 1 refl (whole !))) (no-more !)))) refl (tt, (tt, (record { fits = g-distances .0 }, tt))) $
         move ! (0 ∷ 1 ∷ 8 ∷ 9 ∷ 10 ∷ 11 ∷ 12 ∷ 13 ∷ 16 ∷ 17 ∷ 18 ∷ 19 ∷ []) $
         calls-with ! fm finish.ended (finish.clauses 𝓤 H A mem run) known-finish (value (Soughtᴰ 𝓤 H A W) s is₁ ∷ value (Askᴰ 𝓤 H A W) ask g-ask ∷ kept series° ∷ kept query° ∷ shares first° (ls₁ .1 .1 .1 .1 .1 .1 .1 .0) (fits₁ .1 .1 .1 .1 .1 .1 .1 .0) ∷ shares last° (ls₁ .1 .1 .1 .1 .1 .1 .1 .1 .0) (fits₁ .1 .1 .1 .1 .1 .1 .1 .1 .0) ∷ lends offsets° (now offsets) refl ∷ lends distances° (now distances) refl ∷ [])
-        (λ fs. (((κs .0, (κs .1 .1 .1 .1 .0, (fs .0 .0 ∷ [], (fs .1 .0 .0 ∷ [], (fs .1 .1 .0 .0 ∷ [], (fs .1 .1 .1 .0 .0 ∷ [], tt)))))), (qs .0, (qs .1 .1 .1 .1 .0, (fullShare, (fullShare, (fullShare, (fullShare, tt)))))), tt, (s, (ask, (series, (query, (record { ptr = first .ptr; name = fs .0 .1; now = (ls₁ .1 .1 .1 .1 .1 .1 .1 .0) }, (record { ptr = last .ptr; name = fs .1 .0 .1; now = (ls₁ .1 .1 .1 .1 .1 .1 .1 .1 .0) }, (record { ptr = offsets .ptr; name = fs .1 .1 .0 .1; now = (now offsets) }, (record { ptr = distances .ptr; name = fs .1 .1 .1 .0 .1; now = (now distances) }, tt)))))))), ((Soughtᴰ 𝓤 H A W) .val s ∷ [], ((Askᴰ 𝓤 H A W) .val ask ∷ [], (slice-vals series, (slice-vals query, (slice-vals first, (slice-vals last, (slice-vals offsets, (slice-vals distances, tt))))))))), tt)) (λ fs. refl) (λ fs. refl) (λ fs ls. ls) (λ fs ls. refl) (λ fs. factI 𝓤 _ (emp 𝓤) (finish-asked (now series) head (now rows) (now left) (now right) ask (now query) (buffers (now first) (now last) (now scratch) (now offsets) (now distances)) found)) (λ fs r ls. id⊢ 𝓤 _) (λ fs. (Foundᴰ 𝓤 H A W) .val) (λ fs. (Foundᴰ 𝓤 H A W) .tells) (λ fs. (and-then ! (loc ! 36 refl) (and-then ! (loc ! 22 refl) (and-then ! (loc ! 12 refl) (and-then ! (loc ! 24 refl) (and-then ! (loc ! 52 refl) (and-then ! (loc ! 56 refl) (and-then ! (loc ! 60 refl) (and-then ! (loc ! 64 refl) (no-more !)))))))))) (λ fs t ls₂ finished is₂ fits₂.
+        (λ fs. (((κs .0, (κs .1 .1 .1 .1 .0, (fs .0 .0 ∷ [], (fs .1 .0 .0 ∷ [], (fs .1 .1 .0 .0 ∷ [], (fs .1 .1 .1 .0 .0 ∷ [], tt)))))), (qs .0, (qs .1 .1 .1 .1 .0, (fullShare, (fullShare, (fullShare, (fullShare, tt)))))), tt, (s, (ask, (series, (query, (record { ptr = first .ptr; name = fs .0 .1; now = (ls₁ .1 .1 .1 .1 .1 .1 .1 .0) }, (record { ptr = last .ptr; name = fs .1 .0 .1; now = (ls₁ .1 .1 .1 .1 .1 .1 .1 .1 .0) }, (record { ptr = offsets .ptr; name = fs .1 .1 .0 .1; now = (now offsets) }, (record { ptr = distances .ptr; name = fs .1 .1 .1 .0 .1; now = (now distances) }, tt)))))))), ((Soughtᴰ 𝓤 H A W) .val s ∷ [], ((Askᴰ 𝓤 H A W) .val ask ∷ [], (slice-vals series, (slice-vals query, (slice-vals first, (slice-vals last, (slice-vals offsets, (slice-vals distances, tt))))))))), tt)) (λ fs. refl) (λ fs. refl) (λ fs ls. ls) (λ fs ls. refl) (λ fs. factI 𝓤 _ (emp 𝓤) (finish-asked (now series) head (now rows) (now left) (now right) ask (now query) (searchBuffers (now first) (now last) (now scratch) (now offsets) (now distances)) found)) (λ fs r ls. id⊢ 𝓤 _) (λ fs. (Foundᴰ 𝓤 H A W) .val) (λ fs. (Foundᴰ 𝓤 H A W) .tells) (λ fs. (and-then ! (loc ! 36 refl) (and-then ! (loc ! 22 refl) (and-then ! (loc ! 12 refl) (and-then ! (loc ! 24 refl) (and-then ! (loc ! 52 refl) (and-then ! (loc ! 56 refl) (and-then ! (loc ! 60 refl) (and-then ! (loc ! 64 refl) (no-more !)))))))))) (λ fs t ls₂ finished is₂ fits₂.
         land ! (from ! (stop !)) (init ! 20 refl ((Foundᴰ 𝓤 H A W) .lawful .typed t _ is₂ .0)) $
         tidy ! (token 𝓤 H A series° ∷ viewed 𝓤 H A series° ∷ token 𝓤 H A query° ∷ viewed 𝓤 H A query° ∷ token 𝓤 H A first° ∷ lent-at 𝓤 H A first° (ls₁ .1 .1 .1 .1 .1 .1 .1 .0) ∷ token 𝓤 H A last° ∷ lent-at 𝓤 H A last° (ls₁ .1 .1 .1 .1 .1 .1 .1 .1 .0) ∷ token 𝓤 H A offsets° ∷ lent-at 𝓤 H A offsets° (ls₂ .1 .1 .1 .1 .1 .1 .0) ∷ token 𝓤 H A distances° ∷ lent-at 𝓤 H A distances° (ls₂ .1 .1 .1 .1 .1 .1 .1 .0) ∷ token 𝓤 H A rows° ∷ viewed 𝓤 H A rows° ∷ token 𝓤 H A left° ∷ viewed 𝓤 H A left° ∷ token 𝓤 H A right° ∷ viewed 𝓤 H A right° ∷ token 𝓤 H A scratch° ∷ lent-at 𝓤 H A scratch° (ls₁ .1 .1 .1 .1 .1 .1 .1 .1 .1 .0) ∷ []) (holds _ ∷ holds _ ∷ holds _ ∷ holds _ ∷ holds _ ∷ holds _ ∷ holds _ ∷ holds _ ∷ holds _ ∷ holds _ ∷ holds _ ∷ holds _ ∷ holds _ ∷ holds _ ∷ holds _ ∷ holds _ ∷ holds _ ∷ holds _ ∷ holds _ ∷ holds _ ∷ holds _ ∷ holds _ ∷ holds _ ∷ holds _ ∷ holds _ ∷ holds _ ∷ holds _ ∷ holds _ ∷ []) refl $
         returns ! (look ! 20 refl) $
         frees-all ! (token 𝓤 H A series° ∷ viewed 𝓤 H A series° ∷ token 𝓤 H A query° ∷ viewed 𝓤 H A query° ∷ token 𝓤 H A first° ∷ lent-at 𝓤 H A first° (ls₁ .1 .1 .1 .1 .1 .1 .1 .0) ∷ token 𝓤 H A last° ∷ lent-at 𝓤 H A last° (ls₁ .1 .1 .1 .1 .1 .1 .1 .1 .0) ∷ token 𝓤 H A offsets° ∷ lent-at 𝓤 H A offsets° (ls₂ .1 .1 .1 .1 .1 .1 .0) ∷ token 𝓤 H A distances° ∷ lent-at 𝓤 H A distances° (ls₂ .1 .1 .1 .1 .1 .1 .1 .0) ∷ token 𝓤 H A rows° ∷ viewed 𝓤 H A rows° ∷ token 𝓤 H A left° ∷ viewed 𝓤 H A left° ∷ token 𝓤 H A right° ∷ viewed 𝓤 H A right° ∷ token 𝓤 H A scratch° ∷ lent-at 𝓤 H A scratch° (ls₁ .1 .1 .1 .1 .1 .1 .1 .1 .1 .0) ∷ []) (holds _ ∷ holds _ ∷ holds _ ∷ holds _ ∷ holds _ ∷ holds _ ∷ holds _ ∷ holds _ ∷ holds _ ∷ holds _ ∷ holds _ ∷ holds _ ∷ holds _ ∷ holds _ ∷ holds _ ∷ holds _ ∷ holds _ ∷ holds _ ∷ holds _ ∷ holds _ ∷ holds _ ∷ holds _ ∷ holds _ ∷ holds _ ∷ holds _ ∷ holds _ ∷ holds _ ∷ holds _ ∷ []) tt $
         keep ! (0 ∷ 1 ∷ 12 ∷ 13 ∷ 14 ∷ 15 ∷ 16 ∷ 17 ∷ 2 ∷ 3 ∷ 4 ∷ 5 ∷ 6 ∷ 7 ∷ 18 ∷ 19 ∷ 8 ∷ 9 ∷ 10 ∷ 11 ∷ []) $
-        by ! (leaves-with 𝓤 H A W f.ended (f.clauses 𝓤 H A mem run) bound (kept series° ∷ kept rows° ∷ kept left° ∷ kept right° ∷ kept query° ∷ lends first° (ls₁ .1 .1 .1 .1 .1 .1 .1 .0) (fits₁ .1 .1 .1 .1 .1 .1 .1 .0) ∷ lends last° (ls₁ .1 .1 .1 .1 .1 .1 .1 .1 .0) (fits₁ .1 .1 .1 .1 .1 .1 .1 .1 .0) ∷ lends scratch° (ls₁ .1 .1 .1 .1 .1 .1 .1 .1 .1 .0) (fits₁ .1 .1 .1 .1 .1 .1 .1 .1 .1 .0) ∷ lends offsets° (ls₂ .1 .1 .1 .1 .1 .1 .0) (fits₂ .1 .1 .1 .1 .1 .1 .0) ∷ lends distances° (ls₂ .1 .1 .1 .1 .1 .1 .1 .0) (fits₂ .1 .1 .1 .1 .1 .1 .1 .0) ∷ []) ((Foundᴰ 𝓤 H A W) .val t) t (tt, (tt, (tt, (tt, (tt, (tt, (tt, ((ls₁ .1 .1 .1 .1 .1 .1 .1 .0), ((ls₁ .1 .1 .1 .1 .1 .1 .1 .1 .0), ((ls₁ .1 .1 .1 .1 .1 .1 .1 .1 .1 .0), ((ls₂ .1 .1 .1 .1 .1 .1 .0), ((ls₂ .1 .1 .1 .1 .1 .1 .1 .0), tt)))))))))))) refl refl ((Foundᴰ 𝓤 H A W) .makes t _ is₂) (factI 𝓤 _ (emp 𝓤) (both-kept (now series) head (now rows) (now left) (now right) ask (now query) (buffers (now first) (now last) (now scratch) (now offsets) (now distances)) found finished)))))))))))))))))))))))))))))))))
+        by ! (leaves-with 𝓤 H A W f.ended (f.clauses 𝓤 H A mem run) bound (kept series° ∷ kept rows° ∷ kept left° ∷ kept right° ∷ kept query° ∷ lends first° (ls₁ .1 .1 .1 .1 .1 .1 .1 .0) (fits₁ .1 .1 .1 .1 .1 .1 .1 .0) ∷ lends last° (ls₁ .1 .1 .1 .1 .1 .1 .1 .1 .0) (fits₁ .1 .1 .1 .1 .1 .1 .1 .1 .0) ∷ lends scratch° (ls₁ .1 .1 .1 .1 .1 .1 .1 .1 .1 .0) (fits₁ .1 .1 .1 .1 .1 .1 .1 .1 .1 .0) ∷ lends offsets° (ls₂ .1 .1 .1 .1 .1 .1 .0) (fits₂ .1 .1 .1 .1 .1 .1 .0) ∷ lends distances° (ls₂ .1 .1 .1 .1 .1 .1 .1 .0) (fits₂ .1 .1 .1 .1 .1 .1 .1 .0) ∷ []) ((Foundᴰ 𝓤 H A W) .val t) t (tt, (tt, (tt, (tt, (tt, (tt, (tt, ((ls₁ .1 .1 .1 .1 .1 .1 .1 .0), ((ls₁ .1 .1 .1 .1 .1 .1 .1 .1 .0), ((ls₁ .1 .1 .1 .1 .1 .1 .1 .1 .1 .0), ((ls₂ .1 .1 .1 .1 .1 .1 .0), ((ls₂ .1 .1 .1 .1 .1 .1 .1 .0), tt)))))))))))) refl refl ((Foundᴰ 𝓤 H A W) .makes t _ is₂) (factI 𝓤 _ (emp 𝓤) (both-kept (now series) head (now rows) (now left) (now right) ask (now query) (searchBuffers (now first) (now last) (now scratch) (now offsets) (now distances)) found finished)))))))))))))))))))))))))))))))))
 
   meets : Meets 𝓤 H A f.signature (WpFn 𝓤 H (𝓣 .C) (𝓣 .Λ) code.function) (f.spec 𝓤 H A mem run)
   meets = meets-with 𝓤 H A f.ended (f.clauses 𝓤 H A mem run) (WpFn 𝓤 H (𝓣 .C) (𝓣 .Λ) code.function) (λ κs. (slice-vals, ((λ x. (Headᴰ 𝓤 H A W) .val x ∷ []), (slice-vals, (slice-vals, (slice-vals, ((λ x. (Askᴰ 𝓤 H A W) .val x ∷ []), (slice-vals, (slice-vals, (slice-vals, (slice-vals, (slice-vals, (slice-vals, tt)))))))))))))
@@ -152,5 +152,5 @@ search-spec 𝓤 H 𝓜 𝓖 𝓡 =
     entered 𝓤 H (tripleOf 𝓤 H (𝓖 .A) f.signature (f.spec 𝓤 H (𝓖 .A) (𝓜 .mem) (𝓡 .run)))
     (tables 𝓤 H 𝓜 𝓡 code.env .C) (tables 𝓤 H 𝓜 𝓡 code.env .Λ) #self code.function (code.unfolded 𝓤 H 𝓜 𝓡)
     (meets 𝓤 H (𝓖 .A) (givenOf 𝓤 H 𝓜 𝓖) (𝓜 .mem) (𝓡 .run) (tablesOf 𝓤 H 𝓜 (tables 𝓤 H 𝓜 𝓡 code.env)) (fmOf 𝓤 H (givenOf 𝓤 H 𝓜 𝓖 .laws) (tablesOf 𝓤 H 𝓜 (tables 𝓤 H 𝓜 𝓡 code.env)))
-    (cited 𝓤 H (tripleOf 𝓤 H (𝓖 .A) find-candidates.signature (find-candidates.spec 𝓤 H (𝓖 .A) (𝓜 .mem) (𝓡 .run))) 𝓜 𝓡 code.env #find-candidates find-candidates-def.routine code.calls-entry-search·find-candidates (find-candidates-thm.met 𝓤 H 𝓜 𝓖 𝓡))
+    (cited 𝓤 H (tripleOf 𝓤 H (𝓖 .A) find-candidates.signature (find-candidates.spec 𝓤 H (𝓖 .A) (𝓜 .mem) (𝓡 .run))) 𝓜 𝓡 code.env #find-candidates find-candidates-def.routine code.calls-candidate-find·find-candidates (find-candidates-thm.met 𝓤 H 𝓜 𝓖 𝓡))
     (cited 𝓤 H (tripleOf 𝓤 H (𝓖 .A) finish.signature (finish.spec 𝓤 H (𝓖 .A) (𝓜 .mem) (𝓡 .run))) 𝓜 𝓡 code.env #finish finish-def.routine code.calls-entry-search·finish (finish-thm.met 𝓤 H 𝓜 𝓖 𝓡)))

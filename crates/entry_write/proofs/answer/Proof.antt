@@ -1,4 +1,4 @@
--- `entry_write::answer` meets its contract, by what refuses. Assumes nothing.
+-- `entry_write::answer` meets its contract, by what refuses.
 use borrow.Author.Needs.{needs}
 use borrow.Author.Tests.{eq-eqb, ne-eqb}
 use mathlib.Core.Path.{_≡_, refl, ap, _∙_}

@@ -1,4 +1,4 @@
--- `entry_write::is_refused` meets its contract. By cases. Assumes nothing.
+-- `entry_write::is_refused` meets its contract. By cases.
 use Rattle.entry_write.specs.Answer.{isRefused}
 use borrow.Author.Needs.{needs}
 use Rattle.entry_write.proofs.is_refused.Statement.{statement}

@@ -1,5 +1,5 @@
--- `entry_write::spell_end` meets its contract. By the flag: written and cleared behind, or counted. Assumes nothing.
-use Rattle.entry_write.specs.Spell.{ended-stored, ended-only}
+-- `entry_write::spell_end` meets its contract. By the flag: written and cleared behind, or counted.
+use Rattle.entry_write.proofs.Spell.{ended-stored, ended-only}
 use borrow.Author.Needs.{needs}
 use Rattle.entry_write.proofs.spell_end.Statement.{statement}
 use Rattle.entry_write.proofs.spell_end.Tie as tie

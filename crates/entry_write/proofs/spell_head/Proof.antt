@@ -1,5 +1,5 @@
--- `entry_write::spell_head` meets its contract. By the flag: written, or counted. Assumes nothing.
-use Rattle.entry_write.specs.Spell.{spelled-stored, spelled-only}
+-- `entry_write::spell_head` meets its contract. By the flag: written, or counted.
+use Rattle.entry_write.proofs.Spell.{spelled-stored, spelled-only}
 use borrow.Author.Needs.{needs}
 use Rattle.entry_write.proofs.spell_head.Statement.{statement}
 use Rattle.entry_write.proofs.spell_head.Tie as tie

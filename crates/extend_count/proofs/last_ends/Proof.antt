@@ -1,4 +1,4 @@
--- `extend_count::last_ends` meets its contract. Assumes nothing.
+-- `extend_count::last_ends` meets its contract.
 use borrow.Author.Needs.{needs}
 use mathlib.Core.Path.{_≡_}
 use Prim.Native.Nat.{ℕ, _+_, _-_, _≤_}

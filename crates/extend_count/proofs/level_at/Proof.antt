@@ -1,4 +1,4 @@
--- `extend_count::level_at` meets its contract. Assumes nothing.
+-- `extend_count::level_at` meets its contract.
 use borrow.Author.Needs.{needs}
 use mathlib.Core.Path.{_≡_, ap}
 use Prim.Native.Nat.{ℕ, _+_}

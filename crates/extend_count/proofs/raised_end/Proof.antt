@@ -1,4 +1,4 @@
--- `extend_count::raised_end` meets its contract: the raised end fits. Assumes nothing.
+-- `extend_count::raised_end` meets its contract: the raised end fits.
 use mathlib.Core.Path.{_≡_, ap, _∙_}
 use lib.IntN.{pos}
 use mir.Syntax.{w32}

@@ -1,9 +1,10 @@
--- `extend_new::list_new` meets its contract: the new windows are those of the rest of the series, which is lent as a part. Assumes nothing.
+-- `extend_new::list_new` meets its contract: the new windows are those of the rest of the series, which is lent as a part.
 use borrow.Author.Needs.{needs}
 use borrow.Author.Tests.{lt-ltb, le-ltb}
 use Rattle.sums_slide.specs.Levels.{windowsOf}
-use Rattle.sums_slide.specs.Picked.{append-none}
-use Rattle.extend_new.specs.New.{newTable, rest-lent, rest-whole}
+use Rattle.sums_slide.proofs.Picked.{append-none}
+use Rattle.extend_new.specs.New.{newTable}
+use Rattle.extend_new.proofs.New.{rest-lent, rest-whole}
 use Rattle.extend_new.proofs.list_new.Statement.{statement}
 use Rattle.extend_new.proofs.list_new.Tie as tie
 

@@ -1,4 +1,4 @@
--- `extend_new::take_join` meets its contract. Assumes nothing.
+-- `extend_new::take_join` meets its contract.
 use borrow.Author.Needs.{needs}
 use native.Mathlib.Omega.{arith}
 use Rattle.extend_new.specs.New.{lessJoin}

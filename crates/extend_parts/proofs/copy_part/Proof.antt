@@ -1,6 +1,7 @@
--- `extend_parts::copy_part` meets its contract: the row's part of the column is lent to its writer. Assumes nothing.
+-- `extend_parts::copy_part` meets its contract: the row's part of the column is lent to its writer.
 use borrow.Author.Needs.{needs}
-use Rattle.extend_parts.specs.Copy.{partSize, partCopied, part-back}
+use Rattle.extend_parts.specs.Copy.{partSize, partCopied}
+use Rattle.extend_parts.proofs.Copy.{part-back}
 use Rattle.extend_parts.proofs.copy_part.Statement.{statement}
 use Rattle.extend_parts.proofs.copy_part.Tie as tie
 

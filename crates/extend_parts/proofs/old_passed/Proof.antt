@@ -1,4 +1,4 @@
--- `extend_parts::old_passed` meets its contract: its test is that of the definition. Assumes nothing.
+-- `extend_parts::old_passed` meets its contract: its test is that of the definition.
 use mathlib.Core.Path.{_≡_, sym, _∙_}
 use native.Mathlib.Omega.{arith}
 use lib.Signed.{leZ}

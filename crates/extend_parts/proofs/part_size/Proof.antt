@@ -1,4 +1,4 @@
--- `extend_parts::part_size` meets its contract: its test is that of the definition. Assumes nothing.
+-- `extend_parts::part_size` meets its contract: its test is that of the definition.
 use mathlib.Core.Path.{_≡_, sym, _∙_}
 use lib.Signed.{leZ}
 use mir.Syntax.{w32}

@@ -1,4 +1,4 @@
--- `extend_parts::with_part` meets its contract. Assumes nothing.
+-- `extend_parts::with_part` meets its contract.
 use borrow.Author.Needs.{needs}
 use Prim.Native.Nat.{_-_}
 use lib.ListN.{getD}

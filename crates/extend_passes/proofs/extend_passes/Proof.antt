@@ -3,7 +3,8 @@
 -- | use mathlib.Core.Path.{subst}
 -- | use Rattle.extend_passes.proofs.Stages.{has, counts, in-rows, lays, copies, joins, fills, extends}
 -- | use mathlib.Core.Path.{subst}
--- | use Rattle.extend_passes.specs.Whole.{indexOf, weave-asked}
+-- | use Rattle.extend_passes.specs.Whole.{indexOf}
+-- | use Rattle.extend_passes.proofs.Whole.{weave-asked}
 -- | n, woven = weave_new at (indexOf w d old (now from′) (now lefts) (now rights)): weave-asked (asked .0)
 -- | i, counted = count_rows: counts asked woven long.left@weave_new
 -- | row, row-is = row_at: in-rows asked woven long.left@weave_new counted
@@ -17,37 +18,38 @@ use Rattle.rows_records.proofs.Prelude.{_≡_, refl, _∙_, sym, ℕ, _+_, _*_,
 use contract.Running.{tablesOf}
 use mathlib.Core.Path.{subst}
 use Rattle.extend_passes.proofs.Stages.{has, counts, in-rows, lays, copies, joins, fills, extends}
-use Rattle.extend_passes.specs.Whole.{indexOf, weave-asked, PassesAsked}
-use Rattle.sums_slide.specs.declared.Place.{Place}
-use Rattle.sums_slide.proofs.Place as Placeᵀ
-use Rattle.sums_slide.proofs.Place.Laws as Placeᴸ
+use Rattle.extend_passes.specs.Whole.{indexOf, PassesAsked}
+use Rattle.extend_passes.proofs.Whole.{weave-asked}
+use Rattle.sums_slide.specs.declared.Window.{Window}
+use Rattle.sums_slide.proofs.Window as Windowᵀ
+use Rattle.sums_slide.proofs.Window.Laws as Windowᴸ
 use Rattle.meaning_rows.specs.declared.Row.{Row}
 use Rattle.meaning_rows.proofs.Row as Rowᵀ
 use Rattle.meaning_rows.proofs.Row.Laws as Rowᴸ
-use Rattle.extend_passes.proofs.weave_new as weave-new
-use Rattle.extend_passes.proofs.weave_new.Symbol as weave-new-def
-use Rattle.extend_passes.proofs.weave_new.Symbol.{name as #weave-new}
-use Rattle.extend_passes.proofs.weave_new.Met as weave-new-thm
-use Rattle.extend_passes.proofs.count_rows as count-rows
-use Rattle.extend_passes.proofs.count_rows.Symbol as count-rows-def
-use Rattle.extend_passes.proofs.count_rows.Symbol.{name as #count-rows}
-use Rattle.extend_passes.proofs.count_rows.Met as count-rows-thm
+use Rattle.extend_rows.proofs.weave_new as weave-new
+use Rattle.extend_rows.proofs.weave_new.Symbol as weave-new-def
+use Rattle.extend_rows.proofs.weave_new.Symbol.{name as #weave-new}
+use Rattle.extend_rows.proofs.weave_new.Met as weave-new-thm
+use Rattle.extend_rows.proofs.count_rows as count-rows
+use Rattle.extend_rows.proofs.count_rows.Symbol as count-rows-def
+use Rattle.extend_rows.proofs.count_rows.Symbol.{name as #count-rows}
+use Rattle.extend_rows.proofs.count_rows.Met as count-rows-thm
 use Rattle.rows_records.proofs.row_at as row-at
 use Rattle.rows_records.proofs.row_at.Symbol as row-at-def
 use Rattle.rows_records.proofs.row_at.Symbol.{name as #row-at}
 use Rattle.rows_records.proofs.row_at.Met as row-at-thm
-use Rattle.extend_passes.proofs.lay_joined as lay-joined
-use Rattle.extend_passes.proofs.lay_joined.Symbol as lay-joined-def
-use Rattle.extend_passes.proofs.lay_joined.Symbol.{name as #lay-joined}
-use Rattle.extend_passes.proofs.lay_joined.Met as lay-joined-thm
-use Rattle.extend_passes.proofs.copy_runs as copy-runs
-use Rattle.extend_passes.proofs.copy_runs.Symbol as copy-runs-def
-use Rattle.extend_passes.proofs.copy_runs.Symbol.{name as #copy-runs}
-use Rattle.extend_passes.proofs.copy_runs.Met as copy-runs-thm
-use Rattle.extend_passes.proofs.join_first as join-first
-use Rattle.extend_passes.proofs.join_first.Symbol as join-first-def
-use Rattle.extend_passes.proofs.join_first.Symbol.{name as #join-first}
-use Rattle.extend_passes.proofs.join_first.Met as join-first-thm
+use Rattle.extend_rows.proofs.lay_joined as lay-joined
+use Rattle.extend_rows.proofs.lay_joined.Symbol as lay-joined-def
+use Rattle.extend_rows.proofs.lay_joined.Symbol.{name as #lay-joined}
+use Rattle.extend_rows.proofs.lay_joined.Met as lay-joined-thm
+use Rattle.extend_runs.proofs.copy_runs as copy-runs
+use Rattle.extend_runs.proofs.copy_runs.Symbol as copy-runs-def
+use Rattle.extend_runs.proofs.copy_runs.Symbol.{name as #copy-runs}
+use Rattle.extend_runs.proofs.copy_runs.Met as copy-runs-thm
+use Rattle.extend_runs.proofs.join_first as join-first
+use Rattle.extend_runs.proofs.join_first.Symbol as join-first-def
+use Rattle.extend_runs.proofs.join_first.Symbol.{name as #join-first}
+use Rattle.extend_runs.proofs.join_first.Met as join-first-thm
 use Rattle.build_fill.proofs.fill_parts as fill-parts
 use Rattle.build_fill.proofs.fill_parts.Symbol as fill-parts-def
 use Rattle.build_fill.proofs.fill_parts.Symbol.{name as #fill-parts}
@@ -58,8 +60,8 @@ use Rattle.extend_passes.proofs.extend_passes.Statement as stated
 use Rattle.extend_passes.proofs.extend_passes.Code as code
 use Rattle.meaning_curves.specs.Limits.{greatestValue}
 
-abbrev Placeᴰ : {M : Type 1} (𝓤 : URA M) (H : Heap 𝓤) (A : Atoms 𝓤) → Given 𝓤 H A → Data 𝓤 H A
-Placeᴰ 𝓤 H A W = struct 𝓤 H A W Placeᵀ.the-type Placeᴸ.the-laws Placeᴸ.the-plain
+abbrev Windowᴰ : {M : Type 1} (𝓤 : URA M) (H : Heap 𝓤) (A : Atoms 𝓤) → Given 𝓤 H A → Data 𝓤 H A
+Windowᴰ 𝓤 H A W = struct 𝓤 H A W Windowᵀ.the-type Windowᴸ.the-laws Windowᴸ.the-plain
 
 abbrev Rowᴰ : {M : Type 1} (𝓤 : URA M) (H : Heap 𝓤) (A : Atoms 𝓤) → Given 𝓤 H A → Data 𝓤 H A
 Rowᴰ 𝓤 H A W = struct 𝓤 H A W Rowᵀ.the-type Rowᴸ.the-laws Rowᴸ.the-plain
@@ -177,8 +179,8 @@ module _ {M : Type 1} (𝓤 : URA M) (H : Heap 𝓤) (A : Atoms 𝓤) (W : Given
         put-at ! 104 (agg ! (and-then ! (loc ! 102 refl) (and-then ! (part ! 40 refl (sub ! 1 refl (whole !))) (no-more !)))) refl (tt, (tt, (record { fits = g-right .0 }, tt))) $
         move ! (12 ∷ 13 ∷ 6 ∷ 7 ∷ 10 ∷ 11 ∷ []) $
         calls-with ! fm join-first.ended (join-first.clauses 𝓤 H A mem run) known-join-first (kept s° ∷ value (uint 𝓤 H A W w64) w g-w ∷ value (uint 𝓤 H A W w64) e g-e ∷ value (uint 𝓤 H A W w64) old g-old ∷ value (Rowᴰ 𝓤 H A W) q is₆ ∷ value (Rowᴰ 𝓤 H A W) row is₃ ∷ kept rights° ∷ lends right° (ls₅ .1 .1 .1 .1 .1 .1 .0) (fits₅ .1 .1 .1 .1 .1 .1 .0) ∷ [])
-        (λ fs. (((κs .0, (κs .1 .1 .1 .0, (fs .0 .0 ∷ [], tt))), (qs .0, (qs .1 .1 .1 .0, (fullShare, tt))), tt, (s, (w, (e, (old, (q, (row, (rights, (record { ptr = right .ptr; name = fs .0 .1; now = (ls₅ .1 .1 .1 .1 .1 .1 .0) }, tt)))))))), (slice-vals s, ((uint 𝓤 H A W w64) .val w ∷ [], ((uint 𝓤 H A W w64) .val e ∷ [], ((uint 𝓤 H A W w64) .val old ∷ [], ((Rowᴰ 𝓤 H A W) .val q ∷ [], ((Rowᴰ 𝓤 H A W) .val row ∷ [], (slice-vals rights, (slice-vals right, tt))))))))), tt)) (λ fs. refl) (λ fs. refl) (λ fs ls. ls) (λ fs ls. refl) (λ fs. factI 𝓤 _ (emp 𝓤) (joins asked woven (fits₁ .1 .1 .1 .1 .1 .1 .1 .1 .0) counted row-is laid (fits₄ .1 .1 .1 .1 .1 .1 .1 .1 .0) (fits₂ .1 .1 .1 .1 .1 .1 .1 .1 .0) copied again-is)) (λ fs r ls. id⊢ 𝓤 _) (λ fs. (Placeᴰ 𝓤 H A W) .val) (λ fs. (Placeᴰ 𝓤 H A W) .tells) (λ fs. (and-then ! (loc ! 12 refl) (and-then ! (loc ! 14 refl) (and-then ! (loc ! 16 refl) (and-then ! (loc ! 24 refl) (and-then ! (loc ! 44 refl) (and-then ! (loc ! 42 refl) (and-then ! (loc ! 30 refl) (and-then ! (loc ! 100 refl) (no-more !)))))))))) (λ fs t ls₇ joined is₇ fits₇.
-        land ! (from ! (stop !)) (init ! 50 refl ((Placeᴰ 𝓤 H A W) .lawful .typed t _ is₇ .0)) $
+        (λ fs. (((κs .0, (κs .1 .1 .1 .0, (fs .0 .0 ∷ [], tt))), (qs .0, (qs .1 .1 .1 .0, (fullShare, tt))), tt, (s, (w, (e, (old, (q, (row, (rights, (record { ptr = right .ptr; name = fs .0 .1; now = (ls₅ .1 .1 .1 .1 .1 .1 .0) }, tt)))))))), (slice-vals s, ((uint 𝓤 H A W w64) .val w ∷ [], ((uint 𝓤 H A W w64) .val e ∷ [], ((uint 𝓤 H A W w64) .val old ∷ [], ((Rowᴰ 𝓤 H A W) .val q ∷ [], ((Rowᴰ 𝓤 H A W) .val row ∷ [], (slice-vals rights, (slice-vals right, tt))))))))), tt)) (λ fs. refl) (λ fs. refl) (λ fs ls. ls) (λ fs ls. refl) (λ fs. factI 𝓤 _ (emp 𝓤) (joins asked woven (fits₁ .1 .1 .1 .1 .1 .1 .1 .1 .0) counted row-is laid (fits₄ .1 .1 .1 .1 .1 .1 .1 .1 .0) (fits₂ .1 .1 .1 .1 .1 .1 .1 .1 .0) copied again-is)) (λ fs r ls. id⊢ 𝓤 _) (λ fs. (Windowᴰ 𝓤 H A W) .val) (λ fs. (Windowᴰ 𝓤 H A W) .tells) (λ fs. (and-then ! (loc ! 12 refl) (and-then ! (loc ! 14 refl) (and-then ! (loc ! 16 refl) (and-then ! (loc ! 24 refl) (and-then ! (loc ! 44 refl) (and-then ! (loc ! 42 refl) (and-then ! (loc ! 30 refl) (and-then ! (loc ! 100 refl) (no-more !)))))))))) (λ fs t ls₇ joined is₇ fits₇.
+        land ! (from ! (stop !)) (init ! 50 refl ((Windowᴰ 𝓤 H A W) .lawful .typed t _ is₇ .0)) $
         tidy ! (token 𝓤 H A s° ∷ viewed 𝓤 H A s° ∷ token 𝓤 H A rights° ∷ viewed 𝓤 H A rights° ∷ token 𝓤 H A right° ∷ lent-at 𝓤 H A right° (ls₇ .1 .1 .1 .1 .1 .1 .1 .0) ∷ token 𝓤 H A rows° ∷ lent-at 𝓤 H A rows° (ls₄ .1 .1 .1 .1 .1 .1 .0) ∷ token 𝓤 H A from′° ∷ viewed 𝓤 H A from′° ∷ token 𝓤 H A lefts° ∷ viewed 𝓤 H A lefts° ∷ token 𝓤 H A left° ∷ lent-at 𝓤 H A left° (ls₅ .1 .1 .1 .1 .1 .0) ∷ []) (empty ∷ holds _ ∷ holds _ ∷ holds _ ∷ holds _ ∷ holds _ ∷ holds _ ∷ holds _ ∷ holds _ ∷ holds _ ∷ holds _ ∷ holds _ ∷ holds _ ∷ holds _ ∷ holds _ ∷ holds _ ∷ holds _ ∷ holds _ ∷ holds _ ∷ holds _ ∷ holds _ ∷ holds _ ∷ holds _ ∷ holds _ ∷ holds _ ∷ holds _ ∷ holds _ ∷ holds _ ∷ holds _ ∷ holds _ ∷ holds _ ∷ holds _ ∷ holds _ ∷ holds _ ∷ holds _ ∷ holds _ ∷ holds _ ∷ holds _ ∷ holds _ ∷ holds _ ∷ holds _ ∷ holds _ ∷ holds _ ∷ holds _ ∷ holds _ ∷ holds _ ∷ empty ∷ empty ∷ empty ∷ empty ∷ empty ∷ empty ∷ []) refl $
         put-at ! 106 (start ! 36 refl (sub ! 0 refl (whole !))) refl (tt, tt) $
         put-at ! 108 (agg ! (and-then ! (loc ! 106 refl) (and-then ! (part ! 36 refl (sub ! 1 refl (whole !))) (no-more !)))) refl (tt, (tt, (record { fits = g-rows .0 }, tt))) $
@@ -187,8 +189,8 @@ module _ {M : Type 1} (𝓤 : URA M) (H : Heap 𝓤) (A : Atoms 𝓤) (W : Given
         put-at ! 114 (start ! 40 refl (sub ! 0 refl (whole !))) refl (tt, tt) $
         put-at ! 116 (agg ! (and-then ! (loc ! 114 refl) (and-then ! (part ! 40 refl (sub ! 1 refl (whole !))) (no-more !)))) refl (tt, (tt, (record { fits = g-right .0 }, tt))) $
         move ! (0 ∷ 1 ∷ 6 ∷ 7 ∷ 12 ∷ 13 ∷ 4 ∷ 5 ∷ []) $
-        calls-with ! fm fill-parts.ended (fill-parts.clauses 𝓤 H A mem run) known-fill-parts (kept s° ∷ value (uint 𝓤 H A W w64) w g-w ∷ value (uint 𝓤 H A W w64) e g-e ∷ shares rows° (ls₄ .1 .1 .1 .1 .1 .1 .0) (fits₄ .1 .1 .1 .1 .1 .1 .0) ∷ value (uint 𝓤 H A W w64) n is₁ ∷ value (Placeᴰ 𝓤 H A W) t is₇ ∷ lends left° (ls₅ .1 .1 .1 .1 .1 .0) (fits₅ .1 .1 .1 .1 .1 .0) ∷ lends right° (ls₇ .1 .1 .1 .1 .1 .1 .1 .0) (fits₇ .1 .1 .1 .1 .1 .1 .1 .0) ∷ [])
-        (λ fs. (((κs .0, (fs .0 .0 ∷ [], (fs .1 .0 .0 ∷ [], (fs .1 .1 .0 .0 ∷ [], tt)))), (qs .0, (fullShare, (fullShare, (fullShare, tt)))), tt, (s, (w, (e, (record { ptr = rows .ptr; name = fs .0 .1; now = (ls₄ .1 .1 .1 .1 .1 .1 .0) }, (n, (t, (record { ptr = left .ptr; name = fs .1 .0 .1; now = (ls₅ .1 .1 .1 .1 .1 .0) }, (record { ptr = right .ptr; name = fs .1 .1 .0 .1; now = (ls₇ .1 .1 .1 .1 .1 .1 .1 .0) }, tt)))))))), (slice-vals s, ((uint 𝓤 H A W w64) .val w ∷ [], ((uint 𝓤 H A W w64) .val e ∷ [], (slice-vals rows, ((uint 𝓤 H A W w64) .val n ∷ [], ((Placeᴰ 𝓤 H A W) .val t ∷ [], (slice-vals left, (slice-vals right, tt))))))))), (has asked))) (λ fs. refl) (λ fs. refl) (λ fs ls. ls) (λ fs ls. refl) (λ fs. factI 𝓤 _ (emp 𝓤) (fills asked woven (fits₁ .1 .1 .1 .1 .1 .1 .1 .1 .0) counted row-is laid (fits₄ .1 .1 .1 .1 .1 .1 .1 .1 .0) (fits₂ .1 .1 .1 .1 .1 .1 .1 .1 .0) copied again-is joined)) (λ fs r ls. id⊢ 𝓤 _) (λ fs. (nothing 𝓤 H A W) .val) (λ fs. (nothing 𝓤 H A W) .tells) (λ fs. (and-then ! (loc ! 10 refl) (and-then ! (loc ! 12 refl) (and-then ! (loc ! 14 refl) (and-then ! (loc ! 102 refl) (and-then ! (loc ! 36 refl) (and-then ! (loc ! 44 refl) (and-then ! (loc ! 106 refl) (and-then ! (loc ! 110 refl) (no-more !)))))))))) (λ fs x ls₈ filled is₈ fits₈.
+        calls-with ! fm fill-parts.ended (fill-parts.clauses 𝓤 H A mem run) known-fill-parts (kept s° ∷ value (uint 𝓤 H A W w64) w g-w ∷ value (uint 𝓤 H A W w64) e g-e ∷ shares rows° (ls₄ .1 .1 .1 .1 .1 .1 .0) (fits₄ .1 .1 .1 .1 .1 .1 .0) ∷ value (uint 𝓤 H A W w64) n is₁ ∷ value (Windowᴰ 𝓤 H A W) t is₇ ∷ lends left° (ls₅ .1 .1 .1 .1 .1 .0) (fits₅ .1 .1 .1 .1 .1 .0) ∷ lends right° (ls₇ .1 .1 .1 .1 .1 .1 .1 .0) (fits₇ .1 .1 .1 .1 .1 .1 .1 .0) ∷ [])
+        (λ fs. (((κs .0, (fs .0 .0 ∷ [], (fs .1 .0 .0 ∷ [], (fs .1 .1 .0 .0 ∷ [], tt)))), (qs .0, (fullShare, (fullShare, (fullShare, tt)))), tt, (s, (w, (e, (record { ptr = rows .ptr; name = fs .0 .1; now = (ls₄ .1 .1 .1 .1 .1 .1 .0) }, (n, (t, (record { ptr = left .ptr; name = fs .1 .0 .1; now = (ls₅ .1 .1 .1 .1 .1 .0) }, (record { ptr = right .ptr; name = fs .1 .1 .0 .1; now = (ls₇ .1 .1 .1 .1 .1 .1 .1 .0) }, tt)))))))), (slice-vals s, ((uint 𝓤 H A W w64) .val w ∷ [], ((uint 𝓤 H A W w64) .val e ∷ [], (slice-vals rows, ((uint 𝓤 H A W w64) .val n ∷ [], ((Windowᴰ 𝓤 H A W) .val t ∷ [], (slice-vals left, (slice-vals right, tt))))))))), (has asked))) (λ fs. refl) (λ fs. refl) (λ fs ls. ls) (λ fs ls. refl) (λ fs. factI 𝓤 _ (emp 𝓤) (fills asked woven (fits₁ .1 .1 .1 .1 .1 .1 .1 .1 .0) counted row-is laid (fits₄ .1 .1 .1 .1 .1 .1 .1 .1 .0) (fits₂ .1 .1 .1 .1 .1 .1 .1 .1 .0) copied again-is joined)) (λ fs r ls. id⊢ 𝓤 _) (λ fs. (nothing 𝓤 H A W) .val) (λ fs. (nothing 𝓤 H A W) .tells) (λ fs. (and-then ! (loc ! 10 refl) (and-then ! (loc ! 12 refl) (and-then ! (loc ! 14 refl) (and-then ! (loc ! 102 refl) (and-then ! (loc ! 36 refl) (and-then ! (loc ! 44 refl) (and-then ! (loc ! 106 refl) (and-then ! (loc ! 110 refl) (no-more !)))))))))) (λ fs x ls₈ filled is₈ fits₈.
         land ! (from ! (stop !)) (store ! 76 refl ((nothing 𝓤 H A W) .lawful .typed x _ is₈ .0)) $
         tidy ! (token 𝓤 H A s° ∷ viewed 𝓤 H A s° ∷ token 𝓤 H A rows° ∷ lent-at 𝓤 H A rows° (ls₄ .1 .1 .1 .1 .1 .1 .0) ∷ token 𝓤 H A left° ∷ lent-at 𝓤 H A left° (ls₈ .1 .1 .1 .1 .1 .1 .0) ∷ token 𝓤 H A right° ∷ lent-at 𝓤 H A right° (ls₈ .1 .1 .1 .1 .1 .1 .1 .0) ∷ token 𝓤 H A rights° ∷ viewed 𝓤 H A rights° ∷ token 𝓤 H A from′° ∷ viewed 𝓤 H A from′° ∷ token 𝓤 H A lefts° ∷ viewed 𝓤 H A lefts° ∷ []) (empty ∷ holds _ ∷ holds _ ∷ holds _ ∷ holds _ ∷ holds _ ∷ holds _ ∷ holds _ ∷ holds _ ∷ holds _ ∷ holds _ ∷ holds _ ∷ holds _ ∷ holds _ ∷ holds _ ∷ holds _ ∷ holds _ ∷ holds _ ∷ holds _ ∷ holds _ ∷ holds _ ∷ holds _ ∷ holds _ ∷ holds _ ∷ holds _ ∷ holds _ ∷ holds _ ∷ holds _ ∷ holds _ ∷ holds _ ∷ holds _ ∷ holds _ ∷ holds _ ∷ holds _ ∷ holds _ ∷ holds _ ∷ holds _ ∷ holds _ ∷ holds _ ∷ holds _ ∷ holds _ ∷ holds _ ∷ holds _ ∷ holds _ ∷ holds _ ∷ holds _ ∷ holds _ ∷ holds _ ∷ holds _ ∷ holds _ ∷ holds _ ∷ holds _ ∷ []) refl $
         put-at ! 14 (of-opd ! (loc ! 42 refl)) refl ((uint 𝓤 H A W w64) .lawful .typed n _ is₁ .0) $
@@ -208,10 +210,10 @@ extend-passes-spec 𝓤 H 𝓜 𝓖 𝓡 =
     entered 𝓤 H (tripleOf 𝓤 H (𝓖 .A) f.signature (f.spec 𝓤 H (𝓖 .A) (𝓜 .mem) (𝓡 .run)))
     (tables 𝓤 H 𝓜 𝓡 code.env .C) (tables 𝓤 H 𝓜 𝓡 code.env .Λ) #self code.function (code.unfolded 𝓤 H 𝓜 𝓡)
     (meets 𝓤 H (𝓖 .A) (givenOf 𝓤 H 𝓜 𝓖) (𝓜 .mem) (𝓡 .run) (tablesOf 𝓤 H 𝓜 (tables 𝓤 H 𝓜 𝓡 code.env)) (fmOf 𝓤 H (givenOf 𝓤 H 𝓜 𝓖 .laws) (tablesOf 𝓤 H 𝓜 (tables 𝓤 H 𝓜 𝓡 code.env)))
-    (cited 𝓤 H (tripleOf 𝓤 H (𝓖 .A) weave-new.signature (weave-new.spec 𝓤 H (𝓖 .A) (𝓜 .mem) (𝓡 .run))) 𝓜 𝓡 code.env #weave-new weave-new-def.routine code.calls-extend-passes·weave-new (weave-new-thm.met 𝓤 H 𝓜 𝓖 𝓡))
-    (cited 𝓤 H (tripleOf 𝓤 H (𝓖 .A) count-rows.signature (count-rows.spec 𝓤 H (𝓖 .A) (𝓜 .mem) (𝓡 .run))) 𝓜 𝓡 code.env #count-rows count-rows-def.routine code.calls-extend-passes·count-rows (count-rows-thm.met 𝓤 H 𝓜 𝓖 𝓡))
+    (cited 𝓤 H (tripleOf 𝓤 H (𝓖 .A) weave-new.signature (weave-new.spec 𝓤 H (𝓖 .A) (𝓜 .mem) (𝓡 .run))) 𝓜 𝓡 code.env #weave-new weave-new-def.routine code.calls-extend-rows·weave-new (weave-new-thm.met 𝓤 H 𝓜 𝓖 𝓡))
+    (cited 𝓤 H (tripleOf 𝓤 H (𝓖 .A) count-rows.signature (count-rows.spec 𝓤 H (𝓖 .A) (𝓜 .mem) (𝓡 .run))) 𝓜 𝓡 code.env #count-rows count-rows-def.routine code.calls-extend-rows·count-rows (count-rows-thm.met 𝓤 H 𝓜 𝓖 𝓡))
     (cited 𝓤 H (tripleOf 𝓤 H (𝓖 .A) row-at.signature (row-at.spec 𝓤 H (𝓖 .A) (𝓜 .mem) (𝓡 .run))) 𝓜 𝓡 code.env #row-at row-at-def.routine code.calls-rows-records·row-at (row-at-thm.met 𝓤 H 𝓜 𝓖 𝓡))
-    (cited 𝓤 H (tripleOf 𝓤 H (𝓖 .A) lay-joined.signature (lay-joined.spec 𝓤 H (𝓖 .A) (𝓜 .mem) (𝓡 .run))) 𝓜 𝓡 code.env #lay-joined lay-joined-def.routine code.calls-extend-passes·lay-joined (lay-joined-thm.met 𝓤 H 𝓜 𝓖 𝓡))
-    (cited 𝓤 H (tripleOf 𝓤 H (𝓖 .A) copy-runs.signature (copy-runs.spec 𝓤 H (𝓖 .A) (𝓜 .mem) (𝓡 .run))) 𝓜 𝓡 code.env #copy-runs copy-runs-def.routine code.calls-extend-passes·copy-runs (copy-runs-thm.met 𝓤 H 𝓜 𝓖 𝓡))
-    (cited 𝓤 H (tripleOf 𝓤 H (𝓖 .A) join-first.signature (join-first.spec 𝓤 H (𝓖 .A) (𝓜 .mem) (𝓡 .run))) 𝓜 𝓡 code.env #join-first join-first-def.routine code.calls-extend-passes·join-first (join-first-thm.met 𝓤 H 𝓜 𝓖 𝓡))
+    (cited 𝓤 H (tripleOf 𝓤 H (𝓖 .A) lay-joined.signature (lay-joined.spec 𝓤 H (𝓖 .A) (𝓜 .mem) (𝓡 .run))) 𝓜 𝓡 code.env #lay-joined lay-joined-def.routine code.calls-extend-rows·lay-joined (lay-joined-thm.met 𝓤 H 𝓜 𝓖 𝓡))
+    (cited 𝓤 H (tripleOf 𝓤 H (𝓖 .A) copy-runs.signature (copy-runs.spec 𝓤 H (𝓖 .A) (𝓜 .mem) (𝓡 .run))) 𝓜 𝓡 code.env #copy-runs copy-runs-def.routine code.calls-extend-runs·copy-runs (copy-runs-thm.met 𝓤 H 𝓜 𝓖 𝓡))
+    (cited 𝓤 H (tripleOf 𝓤 H (𝓖 .A) join-first.signature (join-first.spec 𝓤 H (𝓖 .A) (𝓜 .mem) (𝓡 .run))) 𝓜 𝓡 code.env #join-first join-first-def.routine code.calls-extend-runs·join-first (join-first-thm.met 𝓤 H 𝓜 𝓖 𝓡))
     (cited 𝓤 H (tripleOf 𝓤 H (𝓖 .A) fill-parts.signature (fill-parts.spec 𝓤 H (𝓖 .A) (𝓜 .mem) (𝓡 .run))) 𝓜 𝓡 code.env #fill-parts fill-parts-def.routine code.calls-build-fill·fill-parts (fill-parts-thm.met 𝓤 H 𝓜 𝓖 𝓡)))

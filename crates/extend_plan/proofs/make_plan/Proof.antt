@@ -1,7 +1,8 @@
--- `extend_plan::make_plan` meets its contract: each test is a line of the table. Assumes nothing.
+-- `extend_plan::make_plan` meets its contract: each test is a line of the table.
 use borrow.Author.Needs.{needs}
 use Rattle.meaning_entries.specs.Refusal.{moreWindows}
-use Rattle.refusals.specs.Refusal.{judgedLine, line-before, place-before, series-before}
+use Rattle.refusals.specs.Refusal.{judgedLine}
+use Rattle.refusals.proofs.RefusalLaws.{line-before, place-before, series-before}
 use Rattle.extend_plan.specs.Plan.{planOf}
 use Rattle.extend_plan.proofs.make_plan.Statement.{statement}
 use Rattle.extend_plan.proofs.make_plan.Tie as tie

@@ -1,4 +1,4 @@
--- `extend_weave::chosen` meets its contract: its test is that of the definition, and no end wraps. Assumes nothing.
+-- `extend_weave::chosen` meets its contract: its test is that of the definition, and no end wraps.
 use borrow.Author.Needs.{needs}
 use mathlib.Core.Path.{_≡_, sym, _∙_}
 use native.Mathlib.Omega.{arith}

@@ -1,4 +1,4 @@
--- `extend_weave::low_at` meets its contract: no product wraps, as the ranges are small. Assumes nothing.
+-- `extend_weave::low_at` meets its contract: no product wraps, as the ranges are small.
 use borrow.Author.Needs.{needs}
 use mathlib.Core.Path.{_∙_}
 use native.Mathlib.Omega.{arith}

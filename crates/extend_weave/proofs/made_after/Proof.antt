@@ -1,4 +1,4 @@
--- `extend_weave::made_after` meets its contract: its tests are those of the definition. Assumes nothing.
+-- `extend_weave::made_after` meets its contract: its tests are those of the definition.
 use mathlib.Core.Path.{_≡_, sym, _∙_}
 use native.Mathlib.Omega.{arith}
 use lib.Signed.{leZ, ltZ}

@@ -1,8 +1,8 @@
--- `find::main` meets its contract: it is safe, and each function that it calls is given what it asks (`starts`, `ends`). Assumes nothing.
+-- `find::main` meets its contract: it is safe, and each function that it calls is given what it asks (`starts`, `ends`).
 use native.Mathlib.Omega.{arith}
 use lib.IntN.{ℤ, pos}
 use lib.ListN.{length-replicate}
-use Rattle.find.specs.Reading.{starts, ends}
+use Rattle.find.proofs.Reading.{starts, ends}
 use borrow.Author.Needs.{needs}
 use Rattle.find.proofs.main.Statement.{statement}
 use Rattle.find.proofs.main.Tie as tie

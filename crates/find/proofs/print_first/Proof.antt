@@ -1,4 +1,4 @@
--- `find::print_first` meets its contract. Assumes nothing.
+-- `find::print_first` meets its contract.
 use native.Mathlib.Omega.{arith}
 use lib.ListN.{length-take}
 use borrow.Author.Needs.{needs}

@@ -1,6 +1,7 @@
--- `find::read_all` meets its contract. The invariant: some text has been read, and as many bytes more can be as the turns that are left bring. The measure is the turns that are left. Assumes nothing.
+-- `find::read_all` meets its contract. The invariant: some text has been read, and as many bytes more can be as the turns that are left bring. The measure is the turns that are left.
 use Prim.Native.Nat.{_*_, _-_}
-use Rattle.find.specs.Reading.{ReadTo, inputOf, open-less, step-goes, read-less}
+use Rattle.find.specs.Reading.{ReadTo}
+use Rattle.find.proofs.Reading.{inputOf, open-less, step-goes, read-less}
 use borrow.Author.Needs.{needs}
 use lib.ListN.{length}
 use mathlib.Core.Path.{_≡_, refl, ap, _∙_}

@@ -1,7 +1,7 @@
--- `find::read_on` meets its contract: a step by the piece that the read brought. Assumes nothing.
+-- `find::read_on` meets its contract: a step by the piece that the read brought.
 use borrow.Author.Needs.{needs}
 use native.Mathlib.Omega.{arith}
-use Rattle.find.specs.Reading.{stepped}
+use Rattle.find.proofs.Reading.{stepped}
 use Rattle.find.proofs.read_on.Statement.{statement}
 use Rattle.find.proofs.read_on.Tie as tie
 

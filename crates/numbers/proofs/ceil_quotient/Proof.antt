@@ -1,4 +1,4 @@
--- `numbers::ceil_quotient` meets its contract: 0 less the floor of 0 less the number. Assumes nothing.
+-- `numbers::ceil_quotient` meets its contract: 0 less the floor of 0 less the number.
 use borrow.Author.Needs.{needs}
 use mathlib.Core.Path.{_≡_, _∙_, ap}
 use native.Mathlib.Omega.{arith}

@@ -1,4 +1,4 @@
--- `numbers::difference` meets its contract. Assumes nothing.
+-- `numbers::difference` meets its contract.
 use borrow.Author.Needs.{needs}
 use lib.IntN.{pos, _-ℤ_}
 use Rattle.meaning_numbers.proofs.Rep.{zarith, z-sub}

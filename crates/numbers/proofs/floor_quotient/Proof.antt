@@ -1,4 +1,4 @@
--- `numbers::floor_quotient` meets its contract: of a negative z the number -1 - z is not negative, and its quotient is -1 less the floor of z's. Assumes nothing.
+-- `numbers::floor_quotient` meets its contract: of a negative z the number -1 - z is not negative, and its quotient is -1 less the floor of z's.
 use borrow.Author.Needs.{needs}
 use mathlib.Core.Path.{_≡_}
 use Prim.Native.Nat.{_/_, _<_, _^_}
@@ -8,7 +8,7 @@ use mir.Syntax.{w64}
 use mir.Val.{toZ, ofZ}
 use Rattle.meaning_numbers.proofs.Rep.{z-sub}
 use Rattle.meaning_numbers.proofs.Machine.{zmach, z-abs, z-cast, z-fits}
-use Rattle.numbers.specs.Row.{row-up, row-down}
+use Rattle.numbers.proofs.Row.{row-up, row-down}
 use Rattle.numbers.proofs.floor_quotient.Statement.{statement}
 use Rattle.numbers.proofs.floor_quotient.Tie as tie
 

@@ -1,4 +1,4 @@
--- `numbers::gap` meets its contract: both ways are the size of x - y, whose range follows from the limits. Assumes nothing.
+-- `numbers::gap` meets its contract: both ways are the size of x - y, whose range follows from the limits.
 use lib.IntN.{ℤ, pos, _-ℤ_}
 use mir.Syntax.{w32}
 use mir.Val.{toZ, ofZ}

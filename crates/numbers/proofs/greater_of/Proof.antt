@@ -1,6 +1,6 @@
--- `numbers::greater_of` meets its contract, by the flag of its test. Assumes nothing.
+-- `numbers::greater_of` meets its contract, by the flag of its test.
 use mir.Syntax.{w64}
-use Rattle.numbers.specs.Back.{greater-second, greater-first}
+use Rattle.numbers.proofs.Back.{greater-second, greater-first}
 use Rattle.numbers.proofs.greater_of.Statement.{statement}
 use Rattle.numbers.proofs.greater_of.Tie as tie
 

@@ -1,6 +1,6 @@
--- `numbers::greater_value` meets its contract, by the flag of its test. Assumes nothing.
+-- `numbers::greater_value` meets its contract, by the flag of its test.
 use mir.Syntax.{w32}
-use Rattle.numbers.specs.Back.{greater-second, greater-first}
+use Rattle.numbers.proofs.Back.{greater-second, greater-first}
 use Rattle.numbers.proofs.greater_value.Statement.{statement}
 use Rattle.numbers.proofs.greater_value.Tie as tie
 

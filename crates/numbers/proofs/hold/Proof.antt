@@ -1,4 +1,4 @@
--- `numbers::hold` meets its contract. By the two tests. Assumes nothing.
+-- `numbers::hold` meets its contract. By the two tests.
 use lib.IntN.{pos}
 use lib.Signed.{_≤ℤ_, _<ℤ_}
 use mir.Syntax.{w64}

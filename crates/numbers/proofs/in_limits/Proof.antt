@@ -1,4 +1,4 @@
--- `numbers::in_limits` meets its contract. Assumes nothing.
+-- `numbers::in_limits` meets its contract.
 use mathlib.Core.Path.{sym}
 use Rattle.meaning_numbers.proofs.Machine.{zmach32}
 use Rattle.meaning_curves.proofs.Values.{value-yes, value-no}

@@ -1,6 +1,6 @@
--- `numbers::lesser_of` meets its contract, by the flag of its test. Assumes nothing.
+-- `numbers::lesser_of` meets its contract, by the flag of its test.
 use mir.Syntax.{w64}
-use Rattle.numbers.specs.Back.{lesser-first, lesser-second}
+use Rattle.numbers.proofs.Back.{lesser-first, lesser-second}
 use Rattle.numbers.proofs.lesser_of.Statement.{statement}
 use Rattle.numbers.proofs.lesser_of.Tie as tie
 

@@ -1,4 +1,4 @@
--- `numbers::lower` meets its contract. Assumes nothing.
+-- `numbers::lower` meets its contract.
 use borrow.Author.Needs.{needs}
 use native.Mathlib.Omega.{arith}
 use mir.Syntax.{w32}

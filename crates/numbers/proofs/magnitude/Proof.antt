@@ -1,4 +1,4 @@
--- `numbers::magnitude` meets its contract. Of a negative number one less is turned, so that the least i32 is no exception. Assumes nothing.
+-- `numbers::magnitude` meets its contract. Of a negative number one less is turned, so that the least i32 is no exception.
 use borrow.Author.Needs.{needs}
 use native.Mathlib.Omega.{arith}
 use Prim.Native.Nat.{_<_, _≤_, _^_}

@@ -1,4 +1,4 @@
--- `numbers::minus` meets its contract: the numbers are small. Assumes nothing.
+-- `numbers::minus` meets its contract: the numbers are small.
 use native.Mathlib.Omega.{arith}
 use mir.Syntax.{w64}
 use mir.ValLaws.{toZ-ofZ}

@@ -1,4 +1,4 @@
--- `numbers::narrow` meets its contract. By the two tests. Assumes nothing.
+-- `numbers::narrow` meets its contract. By the two tests.
 use lib.IntN.{pos, negsuc}
 use lib.Signed.{_≤ℤ_, _<ℤ_}
 use mir.Syntax.{w32, w64}

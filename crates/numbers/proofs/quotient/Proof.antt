@@ -1,4 +1,4 @@
--- `numbers::quotient` meets its contract. Assumes nothing.
+-- `numbers::quotient` meets its contract.
 use borrow.Author.Needs.{needs}
 use mathlib.Core.Path.{_≡_, sym}
 use native.Mathlib.Nat.{div-zero}

@@ -1,4 +1,4 @@
--- `numbers::raise` meets its contract. Assumes nothing.
+-- `numbers::raise` meets its contract.
 use lib.IntN.{ℤ, pos, _+ℤ_}
 use mir.Syntax.{w32}
 use mir.Val.{toZ, ofZ}

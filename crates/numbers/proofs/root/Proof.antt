@@ -1,4 +1,4 @@
--- `numbers::root` meets its contract. The invariant: the root lies from r to below r + width, which is at most 2 ^ 32. Assumes nothing.
+-- `numbers::root` meets its contract. The invariant: the root lies from r to below r + width, which is at most 2 ^ 32.
 use mathlib.Core.Path.{_≡_}
 use mathlib.Core.Logic.{⊎-elim}
 use Prim.Native.Nat.{_+_, _*_, _-_, _/_, _≤_, _<_}

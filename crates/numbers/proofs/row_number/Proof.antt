@@ -1,4 +1,4 @@
--- `numbers::row_number` meets its contract: of a negative sum z the number -1 - z is not negative, and its quotient is -1 less the row's number. Assumes nothing.
+-- `numbers::row_number` meets its contract: of a negative sum z the number -1 - z is not negative, and its quotient is -1 less the row's number.
 use borrow.Author.Needs.{needs}
 use mathlib.Core.Path.{_≡_, sym}
 use Prim.Native.Nat.{_<_}
@@ -8,8 +8,8 @@ use mir.Syntax.{w32}
 use mir.Val.{toZ, ofZ}
 use Rattle.meaning_numbers.proofs.Rep.{z-sub}
 use Rattle.meaning_numbers.proofs.Machine.{zmach32, z-abs, z-cast32}
-use Rattle.numbers.specs.Back.{z-fits32}
-use Rattle.numbers.specs.Row.{row-up, row-down}
+use Rattle.numbers.proofs.Back.{z-fits32}
+use Rattle.numbers.proofs.Row.{row-up, row-down}
 use Rattle.numbers.proofs.row_number.Statement.{statement}
 use Rattle.numbers.proofs.row_number.Tie as tie
 

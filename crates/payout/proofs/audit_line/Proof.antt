@@ -1,4 +1,4 @@
--- `payout::audit_line` meets its contract. By what the line came to. Assumes nothing.
+-- `payout::audit_line` meets its contract. By what the line came to.
 use mathlib.Core.Path.{sym, ap, _∙_}
 use Prim.Native.Nat.{_+_}
 use native.Mathlib.Omega.{arith}

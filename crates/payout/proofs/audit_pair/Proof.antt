@@ -1,4 +1,4 @@
--- `payout::audit_pair` meets its contract. By what the index text came to. Assumes nothing.
+-- `payout::audit_pair` meets its contract. By what the index text came to.
 use mathlib.Core.Path.{sym, ap, _∙_}
 use Rattle.meaning_entries.specs.declared.Audited.{Audited}
 use Rattle.payout.proofs.Outcome.{index-stopped}

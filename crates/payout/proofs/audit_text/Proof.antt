@@ -1,4 +1,4 @@
--- `payout::audit_text` meets its contract: its number is the answer packed, which fits. Assumes nothing.
+-- `payout::audit_text` meets its contract: its number is the answer packed, which fits.
 use mathlib.Core.Path.{sym, ap, subst, _∙_}
 use Prim.Native.Nat.{_<_, _^_}
 use native.Mathlib.Omega.{arith}

@@ -1,4 +1,4 @@
--- `payout::audit_values` meets its contract: the limit on n first. Assumes nothing.
+-- `payout::audit_values` meets its contract: the limit on n first.
 use mathlib.Core.Path.{sym, _∙_}
 use Prim.Native.Nat.{_≤_}
 use native.Mathlib.Omega.{arith}

@@ -1,4 +1,4 @@
--- `payout::newline_count` meets its contract: the last line has every newline before it. Assumes nothing.
+-- `payout::newline_count` meets its contract: the last line has every newline before it.
 use mathlib.Core.Path.{ap, _∙_}
 use Prim.Native.Nat.{ℕ, _-_}
 use native.Mathlib.Omega.{arith}

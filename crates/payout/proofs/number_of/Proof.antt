@@ -1,4 +1,4 @@
--- `payout::number_of` meets its contract. By the kind of answer. Assumes nothing.
+-- `payout::number_of` meets its contract. By the kind of answer.
 use mathlib.Core.Path.{refl, sym, ap, subst, _∙_}
 use Prim.Native.Nat.{_<_, _^_}
 use Rattle.meaning_entries.specs.declared.Audited.{Audited}

@@ -1,4 +1,4 @@
--- `payout::refused_number` meets its contract. By the number. Assumes nothing.
+-- `payout::refused_number` meets its contract. By the number.
 use mathlib.Core.Path.{sym, subst, _∙_}
 use Prim.Native.Nat.{ℕ, _<_, _^_}
 use Rattle.payout.proofs.Small.{packed-unread, packed-other}

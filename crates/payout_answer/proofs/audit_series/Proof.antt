@@ -1,6 +1,6 @@
--- `payout_answer::audit_series` meets its contract: the answer by the plan, and where nothing refuses by the walk over the rows. Assumes nothing.
+-- `payout_answer::audit_series` meets its contract: the answer by the plan, and where nothing refuses by the walk over the rows.
 use mathlib.Core.Path.{_≡_, sym, ap, _∙_}
-use Rattle.entry_audit.specs.declared.Plan.{Plan}
+use Rattle.entry_audit.specs.declared.AuditPlan.{AuditPlan}
 use Rattle.entry_audit.specs.Plan.{planOf, answerOf}
 use Rattle.text_judge.specs.Judged.{judgedRows}
 use Rattle.payout_answer.proofs.Planned.{stopped-right, goes-sized, walked-right}
@@ -13,22 +13,22 @@ module _ (m : tie.After-make-plan) where
   abbrev o : tie.Start
   o = m .before .before .before
 
-  abbrev plan : Plan
+  abbrev plan : AuditPlan
   plan = planOf (o .args .series .now) (o .args .head) (judgedRows (o .args .head) (o .args .c))
 
   made : m .make-plan .result ≡ plan
   made = m .make-plan .ensures ∙ ap (planOf (o .args .series .now) (o .args .head)) (m .before .judged-rows .ensures)
 
   number-zero : m .make-plan .result .refusal .number ≡ 0 → plan .refusal .number ≡ 0
-  number-zero e = sym (ap (λ (u : Plan). u .refusal .number) made) ∙ e
+  number-zero e = sym (ap (λ (u : AuditPlan). u .refusal .number) made) ∙ e
 
 returns : tie.Need-returns
 returns c =
     let t = c .before .before in
     let m = t .before .before in
     let a = o m .args in
-    c .answer .ensures ∙ ap (λ (u : Plan). answerOf u (c .before .begin .result)) (made m)
-    ∙ stopped-right (a .index .now) (a .series .now) (a .head) (a .c) (o m .pre) (c .before .begin .result) (λ z. t .if1 .taken (ap (λ (u : Plan). u .refusal .number) (made m) ∙ z))
+    c .answer .ensures ∙ ap (λ (u : AuditPlan). answerOf u (c .before .begin .result)) (made m)
+    ∙ stopped-right (a .index .now) (a .series .now) (a .head) (a .c) (o m .pre) (c .before .begin .result) (λ z. t .if1 .taken (ap (λ (u : AuditPlan). u .refusal .number) (made m) ∙ z))
 
 walk-rows-requires : tie.Need-walk-rows-requires
 walk-rows-requires c κs =
@@ -41,7 +41,7 @@ returns-2 c =
     let w = c .before in
     let m = w .before .before .before in
     let a = o m .args in
-    c .answer2 .ensures ∙ ap (λ (u : Plan). answerOf u (w .walk-rows .result)) (made m)
+    c .answer2 .ensures ∙ ap (λ (u : AuditPlan). answerOf u (w .walk-rows .result)) (made m)
     ∙ walked-right (a .index .now) (a .series .now) (a .head) (a .c) (o m .pre) (w .walk-rows .result) (number-zero m (w .before .if1 .left)) (w .walk-rows .ensures)
 
 pub audit-series-spec : {M : Type 1} → statement M

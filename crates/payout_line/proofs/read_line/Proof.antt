@@ -1,4 +1,4 @@
--- `payout_line::read_line` meets its contract: the line is fed in one piece. Assumes nothing.
+-- `payout_line::read_line` meets its contract: the line is fed in one piece.
 use mathlib.Core.Path.{_∙_}
 use mathlib.Core.List.{[], _∷_}
 use native.Mathlib.Omega.{arith}

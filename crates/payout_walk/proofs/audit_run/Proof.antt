@@ -1,4 +1,4 @@
--- `payout_walk::audit_run` meets its contract: the run as a row of one run. Assumes nothing.
+-- `payout_walk::audit_run` meets its contract: the run as a row of one run.
 use borrow.Author.Tests.{not-true, not-false}
 use mathlib.Core.Path.{sym, _∙_}
 use mir.Syntax.{w32}

@@ -1,4 +1,4 @@
--- `payout_walk::shut` meets its contract. Assumes nothing.
+-- `payout_walk::shut` meets its contract.
 use borrow.Author.Needs.{needs}
 use Rattle.payout_walk.specs.Walk.{shutWalk}
 use Rattle.payout_walk.proofs.shut.Statement.{statement}

@@ -1,4 +1,4 @@
--- `payout_walk::tell` meets its contract. By the place of the number. Assumes nothing.
+-- `payout_walk::tell` meets its contract. By the place of the number.
 use mathlib.Core.Path.{refl}
 use mir.Syntax.{w32, w64}
 use mir.ValLaws.{toZ-ofZ}

@@ -1,4 +1,4 @@
--- `payout_walk::walk_rows` meets its contract. The invariant: what is left of the text comes to what the text comes to (`Kept`), and no more rows are closed than bytes were read. The measure is what is left of the text. Assumes nothing.
+-- `payout_walk::walk_rows` meets its contract. The invariant: what is left of the text comes to what the text comes to (`Kept`), and no more rows are closed than bytes were read. The measure is what is left of the text.
 use mathlib.Core.Path.{_≡_, sym, _∙_}
 use mathlib.Core.List.{List}
 use Prim.Native.Nat.{_+_, _-_, _≤_}
@@ -11,7 +11,7 @@ use mir.Syntax.{w64}
 use mir.Val.{toZ, ofZ}
 use mir.ValLaws.{toZ-ofZ}
 use Rattle.meaning_rows.specs.declared.Head.{Head}
-use Rattle.text_index.specs.View.{Kept, kept-start, kept-to, kept-value, kept-closed}
+use Rattle.text_index.proofs.View.{Kept, kept-start, kept-to, kept-value, kept-closed}
 use Rattle.payout_walk.specs.Walk.{startWalk, tellWalk, shutWalk}
 use Rattle.payout_walk.proofs.Seen.{walked-end, walked-refuse, walked-stopped, tell-rows, shut-rows}
 use Rattle.payout_walk.proofs.walk_rows.Statement.{statement}

@@ -1,5 +1,4 @@
 -- `program_answer::build_table` meets its contract: a walk of its MIR, by hand. The table is lent as a `&mut [Row]` to `build`, taken back, and handed out with what `build` answered.
--- Assumes nothing.
 use mathlib.Core.Path.{_≡_, refl, sym, _∙_, subst}
 use Prim.Native.Nat.{ℕ, _<_, _^_}
 use mathlib.Core.List.{List, [], _∷_}
@@ -50,7 +49,7 @@ use Rattle.meaning_entries.specs.Demand2.{BuildKept}
 use Rattle.meaning_entries.proofs.Built as Bu
 use Rattle.meaning_entries.proofs.Built.Laws as Bu′
 use Rattle.rows_records.proofs.LocalMut.{lends-local, back-local}
-use Rattle.build_passes.specs.Filled.{buffers}
+use Rattle.meaning_entries.specs.Buffers.{indexBuffers}
 use Rattle.entry_build.proofs.build.Symbol as entry-def
 use Rattle.entry_build.proofs.build.Symbol.{name as #build}
 use Rattle.entry_build.proofs.build.Met as entry-thm
@@ -92,7 +91,7 @@ module _ {M : Type 1} (𝓤 : URA M) (H : Heap 𝓤) (A : Atoms 𝓤) (W : Given
   abbrev Post : Val → SProp 𝓤
   Post = walkOf 𝓤 H A f.ended stayed (f.clauses 𝓤 H A mem run) .post bound
 
-  exits : (zl : List ℕ) (longl : length zl ≡ length (xl .now)) (zr : List ℕ) (longr : length zr ≡ length (xr .now)) (t : Table) (g-t : Is Tb.the-row t (low-table t ∷ [])) (right : BuildKept (lentBuild (xs .now) w wide g) (buffers table (xl .now) (xr .now)) (t .answer) (buffers (t .rows) zl zr)) → ent 𝓤 (⋆ 𝓤 H A (‵ (flft κs qs) ∷ ‵ (flft κl ql) ∷ ‵ (flft κr qr) ∷ ‵ (OwnMut u32 (xl .ptr .0) (xl .ptr .1) (length (xl .now)) (named 0) κl (xl .name) zl) ∷ ‵ (OwnMut u32 (xr .ptr .0) (xr .ptr .1) (length (xr .now)) (named 0) κr (xr .name) zr) ∷ [])) (Post (low-table t))
+  exits : (zl : List ℕ) (longl : length zl ≡ length (xl .now)) (zr : List ℕ) (longr : length zr ≡ length (xr .now)) (t : Table) (g-t : Is Tb.the-row t (low-table t ∷ [])) (right : BuildKept (lentBuild (xs .now) w wide g) (indexBuffers table (xl .now) (xr .now)) (t .answer) (indexBuffers (t .rows) zl zr)) → ent 𝓤 (⋆ 𝓤 H A (‵ (flft κs qs) ∷ ‵ (flft κl ql) ∷ ‵ (flft κr qr) ∷ ‵ (OwnMut u32 (xl .ptr .0) (xl .ptr .1) (length (xl .now)) (named 0) κl (xl .name) zl) ∷ ‵ (OwnMut u32 (xr .ptr .0) (xr .ptr .1) (length (xr .now)) (named 0) κr (xr .name) zr) ∷ [])) (Post (low-table t))
   exits zl longl zr longr t g-t right =
       qed W (‵ (flft κs qs) ∷ ‵ (flft κl ql) ∷ ‵ (flft κr qr) ∷ ‵ (OwnMut u32 (xl .ptr .0) (xl .ptr .1) (length (xl .now)) (named 0) κl (xl .name) zl) ∷ ‵ (OwnMut u32 (xr .ptr .0) (xr .ptr .1) (length (xr .now)) (named 0) κr (xr .name) zr) ∷ []) ∵
       suffices ! _ (ends-at 𝓤 H A f.ended stayed (f.clauses 𝓤 H A mem run) W bound (low-table t) t (tt, (tt, (tt, (tt, (tt, (zl, (zr, tt))))))) (tt, (tt, (tt, (tt, (tt, (longl, (longr, tt)))))))) $ says ! right $
@@ -166,7 +165,7 @@ module _ {M : Type 1} (𝓤 : URA M) (H : Heap 𝓤) (A : Atoms 𝓤) (W : Given
         returns ! (look ! 39 refl) $
         lose ! 39 refl refl $ lose ! 37 refl refl $ lose ! 35 refl refl $ lose ! 33 refl refl $ lose ! 31 refl refl $ lose ! 29 refl refl $ lose ! 27 refl refl $ lose ! 25 refl refl $ lose ! 0 refl refl $ lose ! 21 refl refl $ lose ! 19 refl refl $ lose ! 17 refl refl $ lose ! 15 refl refl $ lose ! 13 refl refl $ lose ! 11 refl refl $ lose ! 9 refl refl $ lose ! 7 refl refl $ free0 ! $
         keep ! (1 ∷ 3 ∷ 5 ∷ 4 ∷ 6 ∷ []) $
-        by ! (exits zl longl zr longr u g-u (subst (λ (y : Table). BuildKept (lentBuild (xs .now) w wide g) (buffers table (xl .now) (xr .now)) (y .answer) (buffers (y .rows) zl zr)) (sym is-u) kept))))))))))))))))))))))))
+        by ! (exits zl longl zr longr u g-u (subst (λ (y : Table). BuildKept (lentBuild (xs .now) w wide g) (indexBuffers table (xl .now) (xr .now)) (y .answer) (indexBuffers (y .rows) zl zr)) (sym is-u) kept))))))))))))))))))))))))
 
 module _ {M : Type 1} (𝓤 : URA M) (H : Heap 𝓤) (A : Atoms 𝓤) (W : Given 𝓤 H A) (mem : Memory → SProp 𝓤) (run : Routine → Fun 𝓤) (𝓣 : Tables 𝓤 H) (known : Triple 𝓤 (𝓣 .C #build) (Build 𝓤 H A mem run)) (known-table : Triple 𝓤 (𝓣 .C #table-of) (Tabling 𝓤 H A mem run)) where
   meets : Meets 𝓤 H A f.signature (WpFn 𝓤 H (𝓣 .C) (𝓣 .Λ) code.function) (f.spec 𝓤 H A mem run)

@@ -1,4 +1,4 @@
--- `program_answer::put_found` meets its contract, by the answer. Assumes nothing.
+-- `program_answer::put_found` meets its contract, by the answer.
 use borrow.Author.Needs.{needs}
 use Rattle.program_answer.proofs.put_found.Statement.{statement}
 use Rattle.program_answer.proofs.put_found.Tie as tie

@@ -1,5 +1,4 @@
--- `program_answer::search_table` meets its contract: a walk of its MIR, by hand. The table is lent as a `&[Row]`, of which the first n records go to `search`; the buffers are lent again.
--- Assumes nothing.
+-- `program_answer::search_table` meets its contract: a walk of its MIR, by hand. The table is lent as a `&[Row]`, of which the first n records go to `search`; the searchBuffers are lent again.
 use mathlib.Core.Path.{_≡_, refl, sym}
 use Prim.Native.Nat.{ℕ, _<_, _≤_, _*_, _^_}
 use native.Mathlib.Omega.{arith}
@@ -61,7 +60,7 @@ use Rattle.meaning_entries.proofs.Found as Fd
 use Rattle.meaning_entries.proofs.Found.Laws as Fd′
 use Rattle.rows_records.proofs.Lent.{lends-local, back-local}
 use Rattle.rows_records.proofs.Prefix.{prefix}
-use Rattle.entry_search.specs.Refused.{buffers}
+use Rattle.meaning_entries.specs.Search.{searchBuffers}
 use Rattle.entry_search.proofs.search.Symbol as entry-def
 use Rattle.entry_search.proofs.search.Symbol.{name as #search}
 use Rattle.entry_search.proofs.search.Met as entry-thm
@@ -112,7 +111,7 @@ module _ {M : Type 1} (𝓤 : URA M) (H : Heap 𝓤) (A : Atoms 𝓤) (W : Given
   abbrev Post : Val → SProp 𝓤
   Post = walkOf 𝓤 H A f.ended stayed (f.clauses 𝓤 H A mem run) .post bound
 
-  exits : (zl : List ℕ) (longl : length zl ≡ length (xl .now)) (zr : List ℕ) (longr : length zr ≡ length (xr .now)) (zc : List ℕ) (longc : length zc ≡ length (xc .now)) (zo : List ℕ) (longo : length zo ≡ length (xo .now)) (zd : List ℕ) (longd : length zd ≡ length (xd .now)) (t : Found) (g-t : Is Fd.the-row t (low-found t ∷ [])) (right : SearchKept (lentSearch (xs .now) head (take n table) (xu .now) (xv .now) ask (xq .now)) (buffers (xl .now) (xr .now) (xc .now) (xo .now) (xd .now)) t (buffers zl zr zc zo zd)) → ent 𝓤 (⋆ 𝓤 H A (‵ (flft κs qs) ∷ ‵ (flft κu qu) ∷ ‵ (flft κv qv) ∷ ‵ (flft κq qq) ∷ ‵ (flft κl ql) ∷ ‵ (flft κr qr) ∷ ‵ (flft κc qc) ∷ ‵ (flft κo qo) ∷ ‵ (flft κd qd) ∷ ‵ (OwnMut u32 (xl .ptr .0) (xl .ptr .1) (length (xl .now)) (named 0) κl (xl .name) zl) ∷ ‵ (OwnMut u32 (xr .ptr .0) (xr .ptr .1) (length (xr .now)) (named 0) κr (xr .name) zr) ∷ ‵ (OwnMut u16 (xc .ptr .0) (xc .ptr .1) (length (xc .now)) (named 0) κc (xc .name) zc) ∷ ‵ (OwnMut u32 (xo .ptr .0) (xo .ptr .1) (length (xo .now)) (named 0) κo (xo .name) zo) ∷ ‵ (OwnMut u64 (xd .ptr .0) (xd .ptr .1) (length (xd .now)) (named 0) κd (xd .name) zd) ∷ [])) (Post (low-found t))
+  exits : (zl : List ℕ) (longl : length zl ≡ length (xl .now)) (zr : List ℕ) (longr : length zr ≡ length (xr .now)) (zc : List ℕ) (longc : length zc ≡ length (xc .now)) (zo : List ℕ) (longo : length zo ≡ length (xo .now)) (zd : List ℕ) (longd : length zd ≡ length (xd .now)) (t : Found) (g-t : Is Fd.the-row t (low-found t ∷ [])) (right : SearchKept (lentSearch (xs .now) head (take n table) (xu .now) (xv .now) ask (xq .now)) (searchBuffers (xl .now) (xr .now) (xc .now) (xo .now) (xd .now)) t (searchBuffers zl zr zc zo zd)) → ent 𝓤 (⋆ 𝓤 H A (‵ (flft κs qs) ∷ ‵ (flft κu qu) ∷ ‵ (flft κv qv) ∷ ‵ (flft κq qq) ∷ ‵ (flft κl ql) ∷ ‵ (flft κr qr) ∷ ‵ (flft κc qc) ∷ ‵ (flft κo qo) ∷ ‵ (flft κd qd) ∷ ‵ (OwnMut u32 (xl .ptr .0) (xl .ptr .1) (length (xl .now)) (named 0) κl (xl .name) zl) ∷ ‵ (OwnMut u32 (xr .ptr .0) (xr .ptr .1) (length (xr .now)) (named 0) κr (xr .name) zr) ∷ ‵ (OwnMut u16 (xc .ptr .0) (xc .ptr .1) (length (xc .now)) (named 0) κc (xc .name) zc) ∷ ‵ (OwnMut u32 (xo .ptr .0) (xo .ptr .1) (length (xo .now)) (named 0) κo (xo .name) zo) ∷ ‵ (OwnMut u64 (xd .ptr .0) (xd .ptr .1) (length (xd .now)) (named 0) κd (xd .name) zd) ∷ [])) (Post (low-found t))
   exits zl longl zr longr zc longc zo longo zd longd t g-t right =
       qed W (‵ (flft κs qs) ∷ ‵ (flft κu qu) ∷ ‵ (flft κv qv) ∷ ‵ (flft κq qq) ∷ ‵ (flft κl ql) ∷ ‵ (flft κr qr) ∷ ‵ (flft κc qc) ∷ ‵ (flft κo qo) ∷ ‵ (flft κd qd) ∷ ‵ (OwnMut u32 (xl .ptr .0) (xl .ptr .1) (length (xl .now)) (named 0) κl (xl .name) zl) ∷ ‵ (OwnMut u32 (xr .ptr .0) (xr .ptr .1) (length (xr .now)) (named 0) κr (xr .name) zr) ∷ ‵ (OwnMut u16 (xc .ptr .0) (xc .ptr .1) (length (xc .now)) (named 0) κc (xc .name) zc) ∷ ‵ (OwnMut u32 (xo .ptr .0) (xo .ptr .1) (length (xo .now)) (named 0) κo (xo .name) zo) ∷ ‵ (OwnMut u64 (xd .ptr .0) (xd .ptr .1) (length (xd .now)) (named 0) κd (xd .name) zd) ∷ []) ∵
       suffices ! _ (ends-at 𝓤 H A f.ended stayed (f.clauses 𝓤 H A mem run) W bound (low-found t) t (tt, (tt, (tt, (tt, (tt, (tt, (tt, (tt, (zl, (zr, (zc, (zo, (zd, tt))))))))))))) (tt, (tt, (tt, (tt, (tt, (tt, (tt, (tt, (longl, (longr, (longc, (longo, (longd, tt)))))))))))))) $ says ! right $

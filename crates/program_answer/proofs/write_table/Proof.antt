@@ -1,5 +1,4 @@
 -- `program_answer::write_table` meets its contract: a walk of its MIR, by hand. The table is lent as a `&[Row]`, of which the first n records go to `write`; the text is lent again.
--- Assumes nothing.
 use mathlib.Core.Path.{_≡_, refl, sym}
 use Prim.Native.Nat.{ℕ, _<_, _≤_, _*_, _^_}
 use native.Mathlib.Omega.{arith}

@@ -1,6 +1,6 @@
--- `program_input::above` meets its contract. Assumes nothing.
+-- `program_input::above` meets its contract.
 use borrow.Author.Needs.{needs}
-use Rattle.program_input.specs.Text.{cast-is}
+use Rattle.program_input.proofs.Text.{cast-is}
 use mir.Syntax.{w64}
 use mir.ValLaws.{toZ-ofZ}
 use Rattle.program_input.proofs.above.Statement.{statement}

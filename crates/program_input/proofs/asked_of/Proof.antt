@@ -1,4 +1,4 @@
--- `program_input::asked_of` meets its contract: each number fits its type. Assumes nothing.
+-- `program_input::asked_of` meets its contract: each number fits its type.
 use borrow.Author.Needs.{needs}
 use Rattle.program_input.specs.Tables.{askedOf}
 use Rattle.meaning_numbers.proofs.Rep.{zarith}

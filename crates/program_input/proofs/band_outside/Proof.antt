@@ -1,6 +1,6 @@
--- `program_input::band_outside` meets its contract. Assumes nothing.
+-- `program_input::band_outside` meets its contract.
 use borrow.Author.Needs.{needs}
-use Rattle.program_input.specs.Text.{cast-is}
+use Rattle.program_input.proofs.Text.{cast-is}
 use Rattle.meaning_numbers.proofs.Machine.{zmach}
 use Rattle.meaning_numbers.proofs.Rep.{z-sub}
 use lib.IntN.{pos, _-ℤ_}

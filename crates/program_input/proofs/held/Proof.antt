@@ -1,4 +1,4 @@
--- `program_input::held` meets its contract. Assumes nothing.
+-- `program_input::held` meets its contract.
 use borrow.Author.Needs.{needs}
 use Rattle.meaning_numbers.proofs.Machine.{zmach, z-abs}
 use lib.IntN.{pos}

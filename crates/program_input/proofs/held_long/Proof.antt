@@ -1,4 +1,4 @@
--- `program_input::held_long` meets its contract. Assumes nothing.
+-- `program_input::held_long` meets its contract.
 use borrow.Author.Needs.{needs}
 use Rattle.meaning_numbers.proofs.Machine.{zmach, z-abs, z-fits}
 use lib.IntN.{pos}

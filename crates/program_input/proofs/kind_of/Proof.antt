@@ -1,4 +1,4 @@
--- `program_input::kind_of` meets its contract, by the test. Assumes nothing.
+-- `program_input::kind_of` meets its contract, by the test.
 use Rattle.meaning_numbers.proofs.Machine.{zmach, lt-ltZ, le-ltZ}
 use lib.IntN.{ℤ, pos}
 use lib.Signed.{_≤ℤ_, _<ℤ_}

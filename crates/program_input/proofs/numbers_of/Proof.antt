@@ -1,4 +1,4 @@
--- `program_input::numbers_of` meets its contract: each number is read at its place. Assumes nothing.
+-- `program_input::numbers_of` meets its contract: each number is read at its place.
 use borrow.Author.Needs.{needs}
 use Rattle.program_input.specs.Tables.{numbersAt}
 use Rattle.program_input.proofs.numbers_of.Statement.{statement}

@@ -1,8 +1,8 @@
--- `program_input::outside` meets its contract, by the two tests. Assumes nothing.
-use Rattle.program_input.specs.Text.{not-le}
+-- `program_input::outside` meets its contract, by the two tests.
+use Rattle.program_input.proofs.Text.{not-le}
 use Rattle.meaning_numbers.proofs.Machine.{zmach}
 use Rattle.meaning_numbers.specs.Order.{within}
-use Rattle.text_feed.specs.Keep.{gt-leZ, le-leZ}
+use Rattle.text_feed.proofs.Keep.{gt-leZ, le-leZ}
 use lib.IntN.{ℤ}
 use lib.Signed.{_≤ℤ_, _<ℤ_}
 use mir.Syntax.{w64}

@@ -1,6 +1,6 @@
--- `program_input::read_piece` meets its contract, by what feeding comes to. Assumes nothing.
+-- `program_input::read_piece` meets its contract, by what feeding comes to.
 use borrow.Author.Needs.{needs}
-use Rattle.program_input.specs.Input.{open-ready, read-still, read-going, read-failed}
+use Rattle.program_input.proofs.InputLaws.{open-ready, read-still, read-going, read-failed}
 use Rattle.program_input.proofs.read_piece.Statement.{statement}
 use Rattle.program_input.proofs.read_piece.Tie as tie
 

@@ -1,6 +1,6 @@
--- `program_input::refuse` meets its contract, by where the input stands. Assumes nothing.
+-- `program_input::refuse` meets its contract, by where the input stands.
 use borrow.Author.Needs.{needs}
-use Rattle.program_input.specs.Text.{end-failed, end-short, end-done, sound-end}
+use Rattle.program_input.proofs.Text.{end-failed, end-short, end-done, sound-end}
 use borrow.Author.Tests.{not-true, not-false}
 use mathlib.Core.Path.{sym, _∙_}
 use Rattle.program_input.proofs.refuse.Statement.{statement}

@@ -1,10 +1,11 @@
--- `program_input::refuse_call` meets its contract, one part of the table after the other. Assumes nothing.
+-- `program_input::refuse_call` meets its contract, one part of the table after the other.
 use borrow.Author.Needs.{needs}
 use Prim.Native.Nat.{_≤_}
-use Rattle.refusals.specs.Refusal.{line-before, passes, part-refuses, part-passes}
+use Rattle.refusals.specs.Refusal.{passes}
+use Rattle.refusals.proofs.RefusalLaws.{line-before, part-refuses, part-passes}
 use Rattle.program_input.specs.Tables.{kindOf, valuesTable, numbersTable, callTable}
-use Rattle.program_input.specs.Text.{values-lack, numbers-lack, series-few, query-in, query-few}
-use Rattle.meaning_entries.proofs.Refusal.{Passed}
+use Rattle.program_input.proofs.Text.{values-lack, numbers-lack, series-few, query-in, query-few}
+use Rattle.meaning_entries.proofs.Refusal.{AllPass}
 use Rattle.meaning_entries.specs.Refusal.{Condition, flatQuery, normalFlat}
 use lib.ListN.{length, take, length-take}
 use mathlib.Core.List.{List, [], _∷_, _++_}
@@ -27,11 +28,11 @@ module _ (o : tie.Start) where
   three = flatQuery (kindOf (o .args .x .raw)) (take (o .args .q .count) (o .args .query .now)) ∷ []
 
 -- the values pass
-first : (c : tie.Else1) → Passed (one (c .before .before .before))
+first : (c : tie.Else1) → AllPass (one (c .before .before .before))
 first c = let v = c .before .before in passes (one (v .before)) (values-lack (v .before .args .v) (v .before .args .q)) (v .refuse-values .ensures) (c .if1 .left)
 
 -- the numbers pass
-second : (c : tie.Else2) → Passed (two (c .before .before .before .before .before .before))
+second : (c : tie.Else2) → AllPass (two (c .before .before .before .before .before .before))
 second c =
     let n = c .before .before in
     let o = n .before .before .before .before in

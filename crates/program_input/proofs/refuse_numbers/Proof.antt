@@ -1,6 +1,6 @@
--- `program_input::refuse_numbers` meets its contract: each test is a line of the table (`line-before`). Assumes nothing.
+-- `program_input::refuse_numbers` meets its contract: each test is a line of the table (`line-before`).
 use borrow.Author.Needs.{needs}
-use Rattle.refusals.specs.Refusal.{line-before}
+use Rattle.refusals.proofs.RefusalLaws.{line-before}
 use Rattle.program_input.specs.Tables.{numbersTable}
 use Rattle.meaning_entries.proofs.Refusal.{openLines}
 use mathlib.Core.Bool.{_||_}

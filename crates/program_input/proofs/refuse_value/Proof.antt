@@ -1,4 +1,4 @@
--- `program_input::refuse_value` meets its contract, by its test. Assumes nothing.
+-- `program_input::refuse_value` meets its contract, by its test.
 use borrow.Author.Tests.{lt-ltb, le-ltb}
 use mathlib.Core.Path.{refl}
 use Rattle.refusals.specs.Refusal.{refuseAt}

@@ -1,9 +1,9 @@
--- `program_input::refuse_values` meets its contract: each test is a line of the table. Assumes nothing.
+-- `program_input::refuse_values` meets its contract: each test is a line of the table.
 use borrow.Author.Needs.{needs}
 use mathlib.Core.Path.{ap}
 use mathlib.Core.Bool.{not}
 use Rattle.meaning_entries.specs.Refusal.{atPlace, lengthOutside}
-use Rattle.refusals.specs.Refusal.{line-before, place-before}
+use Rattle.refusals.proofs.RefusalLaws.{line-before, place-before}
 use Rattle.program_input.specs.Tables.{firstOut, valuesTable}
 use Rattle.program_input.proofs.refuse_values.Statement.{statement}
 use Rattle.program_input.proofs.refuse_values.Tie as tie

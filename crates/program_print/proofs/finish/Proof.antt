@@ -1,6 +1,6 @@
--- `program_print::finish` meets its contract, by what refuses. Assumes nothing.
+-- `program_print::finish` meets its contract, by what refuses.
 use borrow.Author.Needs.{needs}
-use Rattle.program_print.specs.End.{sound-here, refused-end, not-failed, given-here, call-free, printed-end}
+use Rattle.program_print.proofs.End.{sound-here, refused-end, not-failed, given-here, call-free, printed-end}
 use lib.ListN.{length-take}
 use native.Mathlib.Omega.{arith}
 use Rattle.program_print.proofs.finish.Statement.{statement}

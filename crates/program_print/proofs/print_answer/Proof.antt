@@ -1,8 +1,8 @@
--- `program_print::print_answer` meets its contract: the build, its text and the list behind it (`prints`). Assumes nothing.
+-- `program_print::print_answer` meets its contract: the build, its text and the list behind it (`prints`).
 use borrow.Author.Needs.{needs}
 use Prim.Native.Nat.{ℕ}
 use Rattle.meaning_rows.specs.Index.{zeroRow}
-use Rattle.program_print.specs.Whole.{not-refused, rows-few, runs-few, prints}
+use Rattle.program_print.proofs.Whole.{not-refused, rows-few, runs-few, prints}
 use lib.ListN.{length-take, length-replicate}
 use native.Mathlib.Omega.{arith}
 use Rattle.program_print.proofs.print_answer.Statement.{statement}

@@ -1,4 +1,4 @@
--- `refusals::band_outside` meets its contract (`band-is`). Assumes nothing.
+-- `refusals::band_outside` meets its contract (`band-is`).
 use Rattle.refusals.proofs.Tests.{band-is}
 use Rattle.refusals.proofs.band_outside.Statement.{statement}
 use Rattle.refusals.proofs.band_outside.Tie as tie

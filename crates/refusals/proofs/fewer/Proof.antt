@@ -1,4 +1,4 @@
--- `refusals::fewer` meets its contract (`fewer-is`). Assumes nothing.
+-- `refusals::fewer` meets its contract (`fewer-is`).
 use borrow.Author.Needs.{needs}
 use Rattle.refusals.proofs.Tests.{fewer-is}
 use Rattle.refusals.proofs.fewer.Statement.{statement}

@@ -1,4 +1,4 @@
--- `refusals::is_flat` meets its contract (`flat-is`). Assumes nothing.
+-- `refusals::is_flat` meets its contract (`flat-is`).
 use borrow.Author.Needs.{needs}
 use Rattle.refusals.proofs.Flat.{flat-is}
 use Rattle.refusals.proofs.is_flat.Statement.{statement}

@@ -1,4 +1,4 @@
--- `refusals::length_in` meets its contract: its two tests are those of the definition. Assumes nothing.
+-- `refusals::length_in` meets its contract: its two tests are those of the definition.
 use Rattle.meaning_numbers.specs.Order.{within}
 use borrow.Author.Needs.{needs}
 use Rattle.refusals.proofs.length_in.Statement.{statement}

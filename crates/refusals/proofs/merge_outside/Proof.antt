@@ -1,4 +1,4 @@
--- `refusals::merge_outside` meets its contract (`from-zero`). Assumes nothing.
+-- `refusals::merge_outside` meets its contract (`from-zero`).
 use mathlib.Core.Path.{ap}
 use mathlib.Core.Bool.{not}
 use Rattle.refusals.proofs.Tests.{from-zero}

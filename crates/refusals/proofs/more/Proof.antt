@@ -1,4 +1,4 @@
--- `refusals::more` meets its contract (`more-is`, `not-more`). Assumes nothing.
+-- `refusals::more` meets its contract (`more-is`, `not-more`).
 use borrow.Author.Needs.{needs}
 use Rattle.refusals.proofs.Tests.{more-is, not-more}
 use Rattle.refusals.proofs.more.Statement.{statement}

@@ -1,4 +1,4 @@
--- `refusals::normal_flat` meets its contract, by the kind. Assumes nothing.
+-- `refusals::normal_flat` meets its contract, by the kind.
 use borrow.Author.Needs.{needs}
 use Rattle.refusals.proofs.Flat.{raw-flat, normal-is-flat}
 use Rattle.refusals.proofs.normal_flat.Statement.{statement}

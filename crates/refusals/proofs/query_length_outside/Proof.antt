@@ -1,4 +1,4 @@
--- `refusals::query_length_outside` meets its contract: its tests are those of the definition. Assumes nothing.
+-- `refusals::query_length_outside` meets its contract: its tests are those of the definition.
 use Rattle.meaning_numbers.specs.Order.{within}
 use borrow.Author.Needs.{needs}
 use Rattle.refusals.proofs.query_length_outside.Statement.{statement}

@@ -1,4 +1,4 @@
--- `refusals::refuse_if` meets its contract, by the test. Assumes nothing.
+-- `refusals::refuse_if` meets its contract, by the test.
 use mathlib.Core.Path.{sym, ap}
 use mathlib.Core.Bool.{Bool}
 use Rattle.refusals.specs.Refusal.{refuseIf}

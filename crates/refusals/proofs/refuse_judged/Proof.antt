@@ -1,4 +1,4 @@
--- `refusals::refuse_judged` meets its contract, by what judging said. Assumes nothing.
+-- `refusals::refuse_judged` meets its contract, by what judging said.
 use borrow.Author.Needs.{needs}
 use mathlib.Core.Path.{sym, ap}
 use Rattle.rows_judge.specs.declared.Judged.{Judged}

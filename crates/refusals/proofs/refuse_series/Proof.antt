@@ -1,4 +1,4 @@
--- `refusals::refuse_series` meets its contract, by the length. Assumes nothing.
+-- `refusals::refuse_series` meets its contract, by the length.
 use borrow.Author.Needs.{needs}
 use mathlib.Core.Path.{sym, ap, _∙_}
 use mathlib.Core.Bool.{Bool, not}

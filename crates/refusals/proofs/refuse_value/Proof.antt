@@ -1,4 +1,4 @@
--- `refusals::refuse_value` meets its contract, by the first value outside. Assumes nothing.
+-- `refusals::refuse_value` meets its contract, by the first value outside.
 use borrow.Author.Needs.{needs}
 use mathlib.Core.Path.{_≡_, refl, sym, ap, _∙_}
 use mathlib.Core.Option.{Option, none, some}

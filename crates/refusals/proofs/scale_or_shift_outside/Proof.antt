@@ -1,4 +1,4 @@
--- `refusals::scale_or_shift_outside` meets its contract (`from-zero`). Assumes nothing.
+-- `refusals::scale_or_shift_outside` meets its contract (`from-zero`).
 use mathlib.Core.Path.{ap}
 use mathlib.Core.Bool.{Bool, not, _||_}
 use lib.IntN.{pos}

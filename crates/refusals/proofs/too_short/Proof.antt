@@ -1,4 +1,4 @@
--- `refusals::too_short` meets its contract (`short-is`, `not-short`). Assumes nothing.
+-- `refusals::too_short` meets its contract (`short-is`, `not-short`).
 use Rattle.refusals.proofs.Tests.{short-is, not-short}
 use Rattle.refusals.proofs.too_short.Statement.{statement}
 use Rattle.refusals.proofs.too_short.Tie as tie

@@ -1,6 +1,6 @@
--- `refusals::unrefused` meets its contract (`none-is`). Assumes nothing.
+-- `refusals::unrefused` meets its contract (`none-is`).
 use mathlib.Core.Path.{sym}
-use Rattle.refusals.specs.Refusal.{none-is}
+use Rattle.refusals.proofs.RefusalLaws.{none-is}
 use Rattle.refusals.proofs.unrefused.Statement.{statement}
 use Rattle.refusals.proofs.unrefused.Tie as tie
 

@@ -1,4 +1,4 @@
--- `refusals::width_outside` meets its contract: its tests are those of the definition. Assumes nothing.
+-- `refusals::width_outside` meets its contract: its tests are those of the definition.
 use borrow.Author.Needs.{needs}
 use Rattle.meaning_numbers.specs.Order.{within}
 use Rattle.refusals.proofs.width_outside.Statement.{statement}

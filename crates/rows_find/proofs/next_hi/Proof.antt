@@ -1,4 +1,4 @@
--- `rows_find::next_hi` meets its contract. Assumes nothing.
+-- `rows_find::next_hi` meets its contract.
 use mathlib.Core.Path.{_≡_, sym, _∙_}
 use lib.Signed.{leZ}
 use mir.Syntax.{w32}

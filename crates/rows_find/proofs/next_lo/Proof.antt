@@ -1,4 +1,4 @@
--- `rows_find::next_lo` meets its contract. Assumes nothing.
+-- `rows_find::next_lo` meets its contract.
 use mathlib.Core.Path.{_≡_, sym, _∙_}
 use native.Mathlib.Omega.{arith}
 use lib.Signed.{leZ}

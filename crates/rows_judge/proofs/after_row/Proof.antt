@@ -1,4 +1,4 @@
--- `rows_judge::after_row` meets its contract. Where the total is good, it is at most the windows, so that the sum fits. Assumes nothing.
+-- `rows_judge::after_row` meets its contract. Where the total is good, it is at most the windows, so that the sum fits.
 use mathlib.Core.Path.{_≡_, refl, sym, _∙_, ap}
 use mathlib.Core.Bool.{Bool, true, false, _&&_}
 use Prim.Native.Nat.{_+_}

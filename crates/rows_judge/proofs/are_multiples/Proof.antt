@@ -1,4 +1,4 @@
--- `rows_judge::are_multiples` meets its contract: what lies d above a multiple is one (`next-multiple`); in 64 bits no sum wraps. Assumes nothing.
+-- `rows_judge::are_multiples` meets its contract: what lies d above a multiple is one (`next-multiple`); in 64 bits no sum wraps.
 use mathlib.Core.Path.{_≡_, refl, sym, _∙_, ap}
 use mathlib.Core.Bool.{true, _&&_}
 use Prim.Native.Nat.{ℕ, _<_, _^_}

@@ -1,4 +1,4 @@
--- `rows_judge::ends_good` meets its contract: its tests are those that it states, on numbers that the machine reads back as they are. Assumes nothing.
+-- `rows_judge::ends_good` meets its contract: its tests are those that it states, on numbers that the machine reads back as they are.
 use mir.Syntax.{w32}
 use mir.ValLaws.{toZ-ofZ}
 use borrow.Author.Needs.{needs}

@@ -1,4 +1,4 @@
--- `rows_judge::is_multiple` meets its contract. By 0 a number leaves itself. Assumes nothing.
+-- `rows_judge::is_multiple` meets its contract. By 0 a number leaves itself.
 use mathlib.Core.Path.{_≡_, sym, _∙_, ap}
 use Prim.Native.Nat.{ℕ, _%_}
 use native.Mathlib.Nat.{mod-zero}

@@ -1,4 +1,4 @@
--- `rows_judge::judge_head` meets its contract. Assumes nothing.
+-- `rows_judge::judge_head` meets its contract.
 use mathlib.Core.Path.{ap}
 use mathlib.Core.Bool.{Bool}
 use Rattle.meaning_curves.specs.Limits.{lowestEnd}

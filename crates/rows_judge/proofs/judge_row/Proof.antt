@@ -1,4 +1,4 @@
--- `rows_judge::judge_row` meets its contract: a row that does not fit ends in the failed state, and one that fits is judged by its runs, which lie inside the run buffer. Assumes nothing.
+-- `rows_judge::judge_row` meets its contract: a row that does not fit ends in the failed state, and one that fits is judged by its runs, which lie inside the run buffer.
 use mathlib.Core.Path.{_≡_, sym, _∙_, ap}
 use mathlib.Core.Bool.{_&&_}
 use mathlib.Core.List.{[]}
@@ -9,7 +9,7 @@ use lib.ListN.{length, take, drop}
 use borrow.Author.Tests.{not-true, not-false}
 use Rattle.meaning_rows.specs.Index.{Index, lent, entries, runsOf}
 use Rattle.meaning_rows.specs.Judge.{rangeGood, partGood}
-use Rattle.rows_judge.specs.State.{room, scan, after}
+use Rattle.rows_judge.specs.Judging.{room, scan, after}
 use Rattle.meaning_rows.proofs.Grown.{length-entries}
 use Rattle.rows_judge.proofs.Next.{fitting, fits-room, next-bad, next-fits}
 use borrow.Author.Needs.{needs}

@@ -1,4 +1,4 @@
--- `rows_judge::range_good` meets its contract: its tests are those of the definition in another order, on numbers that the machine reads back as they are. Assumes nothing.
+-- `rows_judge::range_good` meets its contract: its tests are those of the definition in another order, on numbers that the machine reads back as they are.
 use mathlib.Core.Path.{_≡_, refl}
 use mathlib.Core.Bool.{Bool, true, false, _&&_}
 use mir.Syntax.{w32}

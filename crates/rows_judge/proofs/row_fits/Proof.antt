@@ -1,4 +1,4 @@
--- `rows_judge::row_fits` meets its contract. Assumes nothing.
+-- `rows_judge::row_fits` meets its contract.
 use mir.Syntax.{w32}
 use mir.ValLaws.{toZ-ofZ}
 use borrow.Author.Needs.{needs}

@@ -1,4 +1,4 @@
--- `rows_judge::total_good` meets its contract. Assumes nothing.
+-- `rows_judge::total_good` meets its contract.
 use mathlib.Core.Path.{_≡_, sym}
 use Prim.Native.Nat.{ℕ, _+_, _-_, _≤_}
 use native.Mathlib.Decide.{decLe}

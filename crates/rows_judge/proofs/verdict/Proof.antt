@@ -1,4 +1,4 @@
--- `rows_judge::verdict` meets its contract. Assumes nothing.
+-- `rows_judge::verdict` meets its contract.
 use Rattle.rows_judge.proofs.verdict.Statement.{statement}
 use Rattle.rows_judge.proofs.verdict.Tie as tie
 

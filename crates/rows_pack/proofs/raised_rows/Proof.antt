@@ -1,4 +1,4 @@
--- `rows_pack::raised_rows` meets its contract, by the two inequalities of a quotient. Assumes nothing.
+-- `rows_pack::raised_rows` meets its contract, by the two inequalities of a quotient.
 use borrow.Author.Needs.{needs}
 use Prim.Native.Nat.{_+_, _-_, _*_}
 use native.Mathlib.Omega.{arith}

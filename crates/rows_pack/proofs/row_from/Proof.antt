@@ -1,4 +1,4 @@
--- `rows_pack::row_from` meets its contract. Assumes nothing.
+-- `rows_pack::row_from` meets its contract.
 use borrow.Author.Needs.{needs}
 use mathlib.Core.Path.{_∙_}
 use Prim.Native.Nat.{_-_}

@@ -1,4 +1,4 @@
--- `rows_pack::start_of` meets its contract. Assumes nothing.
+-- `rows_pack::start_of` meets its contract.
 use borrow.Author.Needs.{needs}
 use borrow.Author.Tests.{eq-eqb, ne-eqb}
 use Rattle.rows_pack.specs.Packed.{startOf}

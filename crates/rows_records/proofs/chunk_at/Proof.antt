@@ -1,5 +1,4 @@
 -- `rows_records::chunk_at` meets its contract: a walk of its MIR, by hand. A local array of zeros is lent whole, as a `&mut [Row]`, to `copy_rows`, and is returned by value.
--- Assumes nothing.
 use mathlib.Core.Path.{_≡_, refl, _∙_}
 use Prim.Native.Nat.{ℕ, zero, suc, _<_, _^_}
 use mathlib.Core.List.{[], _∷_, List}

@@ -1,4 +1,4 @@
--- `sums_count::at_most` meets its contract: k + 2^32 - x is from 2^32 up to below twice that exactly if x is at most k. Assumes nothing.
+-- `sums_count::at_most` meets its contract: k + 2^32 - x is from 2^32 up to below twice that exactly if x is at most k.
 use borrow.Author.Needs.{needs}
 use borrow.Author.Tests.{leb-true, leb-false}
 use mathlib.Core.Path.{_≡_}

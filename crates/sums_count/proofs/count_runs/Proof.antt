@@ -1,4 +1,4 @@
--- `sums_count::count_runs` meets its contract. The invariant: the runs of the windows passed are counted, and the next window begins a run (`counted-run`, `fresh-next`). Assumes nothing.
+-- `sums_count::count_runs` meets its contract. The invariant: the runs of the windows passed are counted, and the next window begins a run (`counted-run`, `fresh-next`).
 use mathlib.Core.Path.{_≡_, refl, sym, ap, _∙_}
 use Prim.Native.Nat.{ℕ, _+_, _-_, _/_, _≤_, _<_}
 use native.Mathlib.Omega.{arith}
@@ -6,8 +6,9 @@ use lib.ListN.{length, getD, length-set}
 use Rattle.meaning_rows.proofs.Runs.{runs-le}
 use Rattle.sums_slide.specs.Levels.{level, rowOf, windowsOf, level-small}
 use Rattle.sums_slide.specs.Table.{table}
-use Rattle.sums_count.specs.Tally.{isRow, Fresh, Counted, fresh-start, fresh-next, counted-start, counted-run}
-use Rattle.sums_count.specs.Rows.{table-rises, table-has, front-at, front-rising, front-has}
+use Rattle.sums_count.specs.Tally.{isRow, Counted}
+use Rattle.sums_count.proofs.Tally.{Fresh, fresh-start, fresh-next, counted-start, counted-run}
+use Rattle.sums_count.proofs.Rows.{table-rises, table-has, front-at, front-rising, front-has}
 use Rattle.sums_count.proofs.count_runs.Statement.{statement}
 use Rattle.sums_count.proofs.count_runs.Tie as tie
 

@@ -1,4 +1,4 @@
--- `sums_count::plan` meets its contract: what it asks of each part, the part before has ensured. Assumes nothing.
+-- `sums_count::plan` meets its contract: what it asks of each part, the part before has ensured.
 use borrow.Author.Needs.{needs}
 use native.Mathlib.Omega.{arith}
 use Rattle.clear.proofs.Clear.{cleared-zero}

@@ -1,10 +1,12 @@
--- `sums_slide::collect` meets its contract. The invariant: the numbers passed whose flags are set stand behind the first k (`collect-yes`, `collect-no`). Assumes nothing.
+-- `sums_slide::collect` meets its contract. The invariant: the numbers passed whose flags are set stand behind the first k (`collect-yes`, `collect-no`).
 use mathlib.Core.Path.{_≡_}
 use Prim.Native.Nat.{_-_, _≤_}
 use native.Mathlib.Omega.{arith}
 use lib.ListN.{length}
-use Rattle.sums_slide.specs.Marks.{lit, collect-room, collect-yes, collect-no}
-use Rattle.sums_slide.specs.Picked.{picked, Appended, append-none, picked-start}
+use Rattle.sums_slide.specs.Marks.{lit}
+use Rattle.sums_slide.proofs.Marks.{collect-room, collect-yes, collect-no}
+use Rattle.sums_slide.specs.Picked.{picked, Appended}
+use Rattle.sums_slide.proofs.Picked.{append-none, picked-start}
 use Rattle.sums_slide.proofs.collect.Statement.{statement}
 use Rattle.sums_slide.proofs.collect.Tie as tie
 

@@ -1,6 +1,7 @@
--- `sums_slide::first_level` meets its contract. Assumes nothing.
+-- `sums_slide::first_level` meets its contract.
 use native.Mathlib.Omega.{arith}
-use Rattle.sums_slide.specs.Levels.{level-first, level-small}
+use Rattle.sums_slide.specs.Levels.{level-small}
+use Rattle.sums_slide.proofs.Levels.{level-first}
 use Rattle.sums_slide.proofs.first_level.Statement.{statement}
 use Rattle.sums_slide.proofs.first_level.Tie as tie
 

@@ -1,4 +1,4 @@
--- `sums_slide::first_place` meets its contract. Assumes nothing.
+-- `sums_slide::first_place` meets its contract.
 use borrow.Author.Needs.{needs}
 use Rattle.sums_slide.proofs.first_place.Statement.{statement}
 use Rattle.sums_slide.proofs.first_place.Tie as tie

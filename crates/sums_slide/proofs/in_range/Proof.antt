@@ -1,4 +1,4 @@
--- `sums_slide::in_range` meets its contract. Assumes nothing.
+-- `sums_slide::in_range` meets its contract.
 use borrow.Author.Tests.{le-leb, lt-leb}
 use Rattle.sums_slide.specs.Levels.{within}
 use Rattle.sums_slide.proofs.in_range.Statement.{statement}

@@ -1,9 +1,10 @@
--- `sums_slide::level_ends` meets its contract. The invariant: both ends of the windows passed (`bounds-more`). Assumes nothing.
+-- `sums_slide::level_ends` meets its contract. The invariant: both ends of the windows passed (`bounds-more`).
 use borrow.Author.Needs.{needs}
 use mathlib.Core.Path.{_≡_}
 use Prim.Native.Nat.{_+_, _-_, _≤_}
 use native.Mathlib.Omega.{arith}
-use Rattle.sums_slide.specs.Levels.{level, windowsOf, level-small, Bounds, bounds-more, bounds-one}
+use Rattle.sums_slide.specs.Levels.{level, windowsOf, level-small, Bounds}
+use Rattle.sums_slide.proofs.Levels.{bounds-more, bounds-one}
 use Rattle.sums_slide.proofs.level_ends.Statement.{statement}
 use Rattle.sums_slide.proofs.level_ends.Tie as tie
 

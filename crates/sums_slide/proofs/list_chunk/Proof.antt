@@ -1,4 +1,4 @@
--- `sums_slide::list_chunk` meets its contract: the flags of all windows tell the numbers that are met (`lit-picked`). Assumes nothing.
+-- `sums_slide::list_chunk` meets its contract: the flags of all windows tell the numbers that are met (`lit-picked`).
 use borrow.Author.Needs.{needs}
 use mathlib.Core.Path.{_≡_, sym, _∙_}
 use Prim.Native.Nat.{ℕ}
@@ -7,7 +7,8 @@ use lib.ListN.{length}
 use mathlib.Core.List.{List}
 use Rattle.clear.proofs.Clear.{cleared-zero}
 use Rattle.sums_slide.specs.Levels.{level, rowOf, windowsOf}
-use Rattle.sums_slide.specs.Marks.{met, lit, lit-picked}
+use Rattle.sums_slide.specs.Marks.{met, lit}
+use Rattle.sums_slide.proofs.Marks.{lit-picked}
 use Rattle.sums_slide.specs.Picked.{picked}
 use Rattle.sums_slide.proofs.list_chunk.Statement.{statement}
 use Rattle.sums_slide.proofs.list_chunk.Tie as tie

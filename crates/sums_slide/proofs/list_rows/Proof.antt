@@ -1,4 +1,4 @@
--- `sums_slide::list_rows` meets its contract. The invariant: the row numbers below the next chunk's first are listed. Assumes nothing.
+-- `sums_slide::list_rows` meets its contract. The invariant: the row numbers below the next chunk's first are listed.
 use mathlib.Core.Path.{_≡_, refl, _∙_}
 use Prim.Native.Nat.{_+_, _-_, _≤_}
 use native.Mathlib.Omega.{arith}
@@ -6,8 +6,10 @@ use native.Mathlib.Nat.{div-le-self}
 use lib.ListN.{length}
 use Rattle.sums_slide.specs.Levels.{level, rowOf, windowsOf}
 use Rattle.sums_slide.specs.Marks.{met}
-use Rattle.sums_slide.specs.Picked.{picked, Appended, append-none}
-use Rattle.sums_slide.specs.Table.{table, chunk-next, chunk-room, table-start, table-end}
+use Rattle.sums_slide.specs.Picked.{picked, Appended}
+use Rattle.sums_slide.proofs.Picked.{append-none}
+use Rattle.sums_slide.specs.Table.{table}
+use Rattle.sums_slide.proofs.Table.{chunk-next, chunk-room, table-start, table-end}
 use Rattle.sums_slide.proofs.list_rows.Statement.{statement}
 use Rattle.sums_slide.proofs.list_rows.Tie as tie
 

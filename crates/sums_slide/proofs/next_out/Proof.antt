@@ -1,4 +1,4 @@
--- `sums_slide::next_out` meets its contract. The invariant: every window passed is in the range. Assumes nothing.
+-- `sums_slide::next_out` meets its contract. The invariant: every window passed is in the range.
 use borrow.Author.Needs.{needs}
 use borrow.Author.Tests.{not-true, not-false}
 use borrow.Author.Count.{below-more}
@@ -7,7 +7,7 @@ use mathlib.Core.Bool.{true}
 use Prim.Native.Nat.{ℕ, _-_, _≤_, _<_}
 use native.Mathlib.Omega.{arith}
 use Rattle.sums_slide.specs.Levels.{level, within, windowsOf}
-use Rattle.sums_slide.specs.Change.{stop-from, stop-here}
+use Rattle.sums_slide.proofs.Change.{stop-from, stop-here}
 use Rattle.sums_slide.proofs.next_out.Statement.{statement}
 use Rattle.sums_slide.proofs.next_out.Tie as tie
 

@@ -1,9 +1,9 @@
--- `sums_slide::next_row` meets its contract (`next-row`). Assumes nothing.
+-- `sums_slide::next_row` meets its contract (`next-row`).
 use Prim.Native.Nat.{_*_, _≤_}
 use native.Mathlib.Omega.{arith}
 use native.Mathlib.Nat.{div-mul-le-self}
 use Rattle.sums_slide.specs.Levels.{level, rowOf, level-small}
-use Rattle.sums_slide.specs.Change.{next-row}
+use Rattle.sums_slide.proofs.Change.{next-row}
 use Rattle.sums_slide.proofs.next_row.Statement.{statement}
 use Rattle.sums_slide.proofs.next_row.Tie as tie
 

@@ -1,4 +1,4 @@
--- `sums_slide::raise_end` meets its contract. Assumes nothing.
+-- `sums_slide::raise_end` meets its contract.
 use native.Mathlib.Omega.{arith}
 use lib.IntN.{ℤ, _+ℤ_}
 use mir.Syntax.{w32}

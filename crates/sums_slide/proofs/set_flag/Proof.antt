@@ -1,4 +1,4 @@
--- `sums_slide::set_flag` meets its contract. Assumes nothing.
+-- `sums_slide::set_flag` meets its contract.
 use borrow.Author.Needs.{needs}
 use borrow.Author.Tests.{le-leb, lt-leb}
 use mathlib.Core.Path.{sym}

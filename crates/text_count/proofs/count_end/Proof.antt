@@ -1,4 +1,4 @@
--- `text_count::count_end` meets its contract. Assumes nothing.
+-- `text_count::count_end` meets its contract.
 use Rattle.meaning_text.specs.Bytes.{bytes}
 use Rattle.text_write.specs.Write.{endText}
 use borrow.Author.Needs.{needs}

@@ -1,8 +1,8 @@
--- `text_count::count_head` meets its contract. Assumes nothing.
+-- `text_count::count_head` meets its contract.
 use native.Mathlib.Omega.{arith}
 use lib.IntN.{pos}
 use Rattle.text_write.specs.Write.{headText}
-use Rattle.text_count.specs.Count.{counted-is, head-length}
+use Rattle.text_count.proofs.Count.{counted-is, head-length}
 use borrow.Author.Needs.{needs}
 use Rattle.text_count.proofs.count_head.Statement.{statement}
 use Rattle.text_count.proofs.count_head.Tie as tie

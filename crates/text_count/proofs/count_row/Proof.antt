@@ -1,4 +1,4 @@
--- `text_count::count_row` meets its contract. Its range, its runs and its end, one after the other. Assumes nothing.
+-- `text_count::count_row` meets its contract. Its range, its runs and its end, one after the other.
 use mathlib.Core.Path.{_≡_, ap}
 use native.Mathlib.Omega.{arith}
 use lib.IntN.{ℤ}
@@ -7,7 +7,7 @@ use mir.Syntax.{w32}
 use mir.Val.{toZ, ofZ}
 use mir.ValLaws.{toZ-ofZ}
 use Rattle.meaning_text.specs.Number.{spellℤ}
-use Rattle.text_count.specs.Count.{row-counted}
+use Rattle.text_count.proofs.Count.{row-counted}
 use borrow.Author.Needs.{needs}
 use Rattle.text_count.proofs.count_row.Statement.{statement}
 use Rattle.text_count.proofs.count_row.Tie as tie

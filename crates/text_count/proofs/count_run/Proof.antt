@@ -1,6 +1,6 @@
--- `text_count::count_run` meets its contract. Assumes nothing.
+-- `text_count::count_run` meets its contract.
 use native.Mathlib.Omega.{arith}
-use Rattle.text_count.specs.Count.{counted-is, run-length}
+use Rattle.text_count.proofs.Count.{counted-is, run-length}
 use lib.IntN.{pos}
 use Rattle.meaning_text.specs.Form.{spell}
 use Rattle.meaning_text.specs.Texts.{runForm}

@@ -1,7 +1,7 @@
--- `text_count::count_runs` meets its contract. The invariant: the first i runs of the part are counted (`Runs`). Assumes nothing.
+-- `text_count::count_runs` meets its contract. The invariant: the first i runs of the part are counted (`Runs`).
 use Prim.Native.Nat.{_-_}
 use native.Mathlib.Omega.{arith}
-use Rattle.text_count.specs.Count.{Runs, runs-start, runs-turn, runs-end, runs-past}
+use Rattle.text_count.proofs.Count.{Runs, runs-start, runs-turn, runs-end, runs-past}
 use borrow.Author.Needs.{needs}
 use Rattle.text_count.proofs.count_runs.Statement.{statement}
 use Rattle.text_count.proofs.count_runs.Tie as tie

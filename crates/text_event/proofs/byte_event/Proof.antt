@@ -1,4 +1,4 @@
--- `text_event::byte_event` meets its contract. The invariant: the bytes so far say nothing. The measure is what is left of the text. Assumes nothing.
+-- `text_event::byte_event` meets its contract. The invariant: the bytes so far say nothing. The measure is what is left of the text.
 use mathlib.Core.Path.{_≡_, refl, sym, _∙_}
 use Prim.Native.Nat.{_-_}
 use native.Mathlib.Omega.{arith}
@@ -9,7 +9,7 @@ use mir.Val.{toZ, ofZ}
 use mir.ValLaws.{toZ-ofZ}
 use Rattle.text_index.specs.declared.Moved.{Moved}
 use Rattle.text_index.specs.Step.{GoodState}
-use Rattle.text_index.specs.View.{step-good}
+use Rattle.text_index.proofs.View.{step-good}
 use Rattle.text_event.specs.Event.{Quiet, still, more}
 use Rattle.text_event.proofs.byte_event.Statement.{statement}
 use Rattle.text_event.proofs.byte_event.Tie as tie

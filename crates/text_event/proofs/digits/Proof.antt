@@ -1,10 +1,10 @@
--- `text_event::digits` meets its contract. The invariant: the digits so far say nothing, and their number is below the bound for so many (`top`). The measure is how many may still come. Assumes nothing.
+-- `text_event::digits` meets its contract. The invariant: the digits so far say nothing, and their number is below the bound for so many (`top`). The measure is how many may still come.
 use Prim.Native.Nat.{_+_, _-_, _<_, _≤_}
 use native.Mathlib.Omega.{arith}
 use borrow.Author.Needs.{needs}
 use lib.ListN.{length}
 use Rattle.text_numbers.specs.declared.Numeral.{Numeral}
-use Rattle.text_index.specs.declared.Place.{Place}
+use Rattle.text_index.specs.declared.Field.{Field}
 use Rattle.text_index.specs.declared.State.{State}
 use Rattle.text_event.specs.Event.{Quiet}
 use Rattle.text_event.proofs.Steps.{still-here, more-here, next-digit, next-less, top, top-more, top-most, digits-told}
@@ -13,7 +13,7 @@ use Rattle.text_event.proofs.digits.Tie as tie
 
 abbrev Inv-loop : tie.InvT-loop
 Inv-loop text at first m₀ k₀ m k =
-    (k ≤ 7) × (m < top k) × ((p : Place) → Quiet text (State.At p (Numeral.Plus first)) at (State.At p (Numeral.Plus m)) (at + k)) × ((p : Place) → Quiet text (State.At p (Numeral.Less first)) at (State.At p (Numeral.Less m)) (at + k))
+    (k ≤ 7) × (m < top k) × ((p : Field) → Quiet text (State.At p (Numeral.Plus first)) at (State.At p (Numeral.Plus m)) (at + k)) × ((p : Field) → Quiet text (State.At p (Numeral.Less first)) at (State.At p (Numeral.Less m)) (at + k))
 
 abbrev μ-loop : tie.MeasureT-loop
 μ-loop text at first m₀ k₀ m k = 7 - k

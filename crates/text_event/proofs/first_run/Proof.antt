@@ -1,4 +1,4 @@
--- `text_event::first_run` meets its contract: a bracket, and the run behind it. Assumes nothing.
+-- `text_event::first_run` meets its contract: a bracket, and the run behind it.
 use native.Mathlib.Omega.{arith}
 use borrow.Author.Tests.{not-false}
 use Rattle.meaning_text.specs.Bytes.{bytes}

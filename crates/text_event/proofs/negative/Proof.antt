@@ -1,4 +1,4 @@
--- `text_event::negative` meets its contract. Assumes nothing.
+-- `text_event::negative` meets its contract.
 use native.Mathlib.Omega.{arith}
 use lib.IntN.{pos}
 use mir.Syntax.{w64}

@@ -1,4 +1,4 @@
--- `text_event::next_event` meets its contract. By the state. Assumes nothing.
+-- `text_event::next_event` meets its contract. By the state.
 use mathlib.Core.Path.{ap, _∙_}
 use Rattle.text_index.specs.declared.Turn.{Turn}
 use Rattle.text_index.specs.declared.State.{State}

@@ -1,4 +1,4 @@
--- `text_event::number_and_blank` meets its contract: a number, and a blank. Assumes nothing.
+-- `text_event::number_and_blank` meets its contract: a number, and a blank.
 use native.Mathlib.Omega.{arith}
 use borrow.Author.Tests.{not-false}
 use Rattle.meaning_text.specs.Bytes.{bytes}

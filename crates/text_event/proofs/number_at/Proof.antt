@@ -1,4 +1,4 @@
--- `text_event::number_at` meets its contract: the first digit, and those behind it. Assumes nothing.
+-- `text_event::number_at` meets its contract: the first digit, and those behind it.
 use mathlib.Core.Path.{refl}
 use native.Mathlib.Omega.{arith}
 use Rattle.text_event.proofs.Steps.{number-told}

@@ -1,4 +1,4 @@
--- `text_event::opens` meets its contract: room, and the word. Assumes nothing.
+-- `text_event::opens` meets its contract: room, and the word.
 use native.Mathlib.Omega.{arith}
 use mathlib.Core.Bool.{false≢true}
 use borrow.Author.Tests.{not-false}

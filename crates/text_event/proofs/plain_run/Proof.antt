@@ -1,4 +1,4 @@
--- `text_event::plain_run` meets its contract: a blank and a bracket, and the run behind them. Assumes nothing.
+-- `text_event::plain_run` meets its contract: a blank and a bracket, and the run behind them.
 use native.Mathlib.Omega.{arith}
 use borrow.Author.Tests.{not-false}
 use Rattle.meaning_text.specs.Bytes.{bytes}

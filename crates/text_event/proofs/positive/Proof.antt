@@ -1,4 +1,4 @@
--- `text_event::positive` meets its contract. Assumes nothing.
+-- `text_event::positive` meets its contract.
 use native.Mathlib.Omega.{arith}
 use mir.Syntax.{w64}
 use mir.ValLaws.{toZ-pos}

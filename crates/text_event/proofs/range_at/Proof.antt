@@ -1,4 +1,4 @@
--- `text_event::range_at` meets its contract: `(row `, and two numbers. Assumes nothing.
+-- `text_event::range_at` meets its contract: `(row `, and two numbers.
 use native.Mathlib.Omega.{arith}
 use mathlib.Core.Path.{_≡_}
 use mir.Syntax.{w64}

@@ -1,4 +1,4 @@
--- `text_event::roomy` meets its contract. By its test. Assumes nothing.
+-- `text_event::roomy` meets its contract. By its test.
 use Prim.Native.Nat.{_-_}
 use native.Mathlib.Omega.{arith}
 use lib.ListN.{length}

@@ -1,4 +1,4 @@
--- `text_event::run_body` meets its contract: two numbers, and the bytes behind them. Assumes nothing.
+-- `text_event::run_body` meets its contract: two numbers, and the bytes behind them.
 use native.Mathlib.Omega.{arith}
 use borrow.Author.Tests.{not-false}
 use Rattle.meaning_text.specs.Bytes.{bytes}

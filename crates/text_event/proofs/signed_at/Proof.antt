@@ -1,4 +1,4 @@
--- `text_event::signed_at` meets its contract. By its first byte. Assumes nothing.
+-- `text_event::signed_at` meets its contract. By its first byte.
 use mathlib.Core.Path.{_≡_}
 use Prim.Native.Nat.{_/_}
 use native.Mathlib.Omega.{arith}

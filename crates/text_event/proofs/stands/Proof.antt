@@ -1,4 +1,4 @@
--- `text_event::stands` meets its contract. The invariant: the first k bytes of the word are there. The measure is how many are left. Assumes nothing.
+-- `text_event::stands` meets its contract. The invariant: the first k bytes of the word are there. The measure is how many are left.
 use mathlib.Core.Path.{_≡_, refl}
 use mathlib.Core.Bool.{false≢true}
 use Prim.Native.Nat.{ℕ, _+_, _-_, _<_, _≤_}

@@ -1,4 +1,4 @@
--- `text_feed::counted` meets its contract. By the two tests. Assumes nothing.
+-- `text_feed::counted` meets its contract. By the two tests.
 use mathlib.Core.Path.{_≡_, sym, _∙_}
 use borrow.Author.Tests.{eq-eqb, ne-eqb}
 use mir.Syntax.{w64}

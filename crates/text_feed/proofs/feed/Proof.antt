@@ -1,4 +1,4 @@
--- `text_feed::feed` meets its contract. The invariant: what is kept after i bytes holds what the automaton has been told (`Sofar`). The measure is what is left of the piece. Assumes nothing.
+-- `text_feed::feed` meets its contract. The invariant: what is kept after i bytes holds what the automaton has been told (`Sofar`). The measure is what is left of the piece.
 use mathlib.Core.Path.{_≡_, sym, _∙_}
 use Prim.Native.Nat.{_-_}
 use native.Mathlib.Omega.{arith}
@@ -7,7 +7,7 @@ use lib.ListN.{length}
 use mir.Syntax.{w64}
 use mir.Val.{toZ, ofZ}
 use mir.ValLaws.{toZ-ofZ}
-use Rattle.text_feed.specs.Feed.{Sofar, sofar-start, sofar-to, sofar-value, sofar-ended, sofar-refuse, comes-failed, comes-going}
+use Rattle.text_feed.proofs.FeedLaws.{Sofar, sofar-start, sofar-to, sofar-value, sofar-ended, sofar-refuse, comes-failed, comes-going}
 use Rattle.text_feed.proofs.feed.Statement.{statement}
 use Rattle.text_feed.proofs.feed.Tie as tie
 

@@ -1,4 +1,4 @@
--- `text_feed::kept` meets its contract. By whether the value is one of these. Assumes nothing.
+-- `text_feed::kept` meets its contract. By whether the value is one of these.
 use mathlib.Core.Path.{_≡_}
 use mir.Syntax.{w64}
 use mir.Val.{toZ, ofZ}

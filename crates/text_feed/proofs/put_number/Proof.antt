@@ -1,4 +1,4 @@
--- `text_feed::put_number` meets its contract. A place that there is not changes nothing. Assumes nothing.
+-- `text_feed::put_number` meets its contract. A place that there is not changes nothing.
 use mathlib.Core.Path.{sym}
 use lib.Seq.{set-out}
 use borrow.Author.Needs.{needs}

@@ -1,4 +1,4 @@
--- `text_feed::store` meets its contract. A place that there is not changes nothing. Assumes nothing.
+-- `text_feed::store` meets its contract. A place that there is not changes nothing.
 use mathlib.Core.Path.{sym, ap, _∙_}
 use mir.Syntax.{w32, w64}
 use mir.Val.{toZ, ofZ}

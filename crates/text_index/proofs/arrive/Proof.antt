@@ -1,8 +1,9 @@
--- `text_index::arrive` meets its contract. By the two tests. Assumes nothing.
+-- `text_index::arrive` meets its contract. By the two tests.
 use mathlib.Core.Path.{sym, _∙_}
 use native.Mathlib.Omega.{arith}
 use borrow.Author.Tests.{eq-eqb, ne-eqb, lt-ltb, le-ltb}
-use Rattle.text_index.specs.Step.{reach, word-short}
+use Rattle.text_index.specs.Step.{reach}
+use Rattle.text_index.proofs.Step.{word-short}
 use mathlib.Core.Path.{sym, _∙_}
 use borrow.Author.Needs.{needs}
 use Rattle.text_index.proofs.arrive.Statement.{statement}

@@ -1,4 +1,4 @@
--- `text_index::picked` meets its contract. By the case and the byte. Assumes nothing.
+-- `text_index::picked` meets its contract. By the case and the byte.
 use borrow.Author.Tests.{eq-eqb, ne-eqb}
 use Rattle.text_index.specs.Step.{pick}
 use borrow.Author.Needs.{needs}

@@ -1,6 +1,7 @@
--- `text_index::step_turn` meets its contract. The word that the byte picks is tried. Assumes nothing.
+-- `text_index::step_turn` meets its contract. The word that the byte picks is tried.
 use mathlib.Core.Path.{sym, _∙_}
-use Rattle.text_index.specs.Step.{turnStep, word-long}
+use Rattle.text_index.specs.Step.{turnStep}
+use Rattle.text_index.proofs.Step.{word-long}
 use mathlib.Core.Path.{sym, _∙_}
 use borrow.Author.Needs.{needs}
 use Rattle.text_index.proofs.step_turn.Statement.{statement}

@@ -1,4 +1,4 @@
--- `text_index::word_byte` meets its contract. By the case. Assumes nothing.
+-- `text_index::word_byte` meets its contract. By the case.
 use Rattle.text_index.specs.Step.{word}
 use Rattle.meaning_text.specs.Bytes.{bytes}
 use borrow.Author.Needs.{needs}

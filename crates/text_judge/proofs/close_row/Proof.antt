@@ -1,4 +1,4 @@
--- `text_judge::close_row` meets its contract. Its tests are those of the definition, on numbers that the machine reads back as they are; where the total is good it is at most the windows, so that the sum fits. Assumes nothing.
+-- `text_judge::close_row` meets its contract. Its tests are those of the definition, on numbers that the machine reads back as they are; where the total is good it is at most the windows, so that the sum fits.
 use mathlib.Core.Bool.{Bool, true, _&&_}
 use lib.Dec.{leb}
 use mir.Val.{toZ, ofZ}

@@ -1,4 +1,4 @@
--- `text_judge::judged_rows` meets its contract. By its tests, in the order of the definition. Assumes nothing.
+-- `text_judge::judged_rows` meets its contract. By its tests, in the order of the definition.
 use mathlib.Core.Path.{refl, sym, _∙_}
 use borrow.Author.Tests.{not-true, not-false}
 use Rattle.text_judge.specs.Judged.{judgedRows}

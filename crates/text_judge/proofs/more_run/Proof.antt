@@ -1,4 +1,4 @@
--- `text_judge::more_run` meets its contract. By whether the run is good after those before it; then its right end is not below its left. Assumes nothing.
+-- `text_judge::more_run` meets its contract. By whether the run is good after those before it; then its right end is not below its left.
 use mathlib.Core.Path.{refl, sym, _∙_}
 use native.Mathlib.Omega.{arith}
 use Rattle.rows_judge.proofs.Scan.{both, good-run}

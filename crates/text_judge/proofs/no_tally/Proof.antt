@@ -1,4 +1,4 @@
--- `text_judge::no_tally` meets its contract. By what its parts are. Assumes nothing.
+-- `text_judge::no_tally` meets its contract. By what its parts are.
 use mathlib.Core.Path.{refl}
 use borrow.Author.Needs.{needs}
 use Rattle.text_judge.proofs.no_tally.Statement.{statement}

@@ -1,4 +1,4 @@
--- `text_judge::scan_end` meets its contract. By the case. Assumes nothing.
+-- `text_judge::scan_end` meets its contract. By the case.
 use borrow.Author.Needs.{needs}
 use Rattle.text_judge.proofs.scan_end.Statement.{statement}
 use Rattle.text_judge.proofs.scan_end.Tie as tie

@@ -1,4 +1,4 @@
--- `text_judge::shut` meets its contract. By what closing the row gives. Assumes nothing.
+-- `text_judge::shut` meets its contract. By what closing the row gives.
 use mathlib.Core.Path.{refl}
 use mir.Syntax.{w32}
 use mir.ValLaws.{toZ-ofZ}

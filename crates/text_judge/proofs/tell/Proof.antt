@@ -1,4 +1,4 @@
--- `text_judge::tell` meets its contract. By the place of the number. Assumes nothing.
+-- `text_judge::tell` meets its contract. By the place of the number.
 use mathlib.Core.Path.{refl, _∙_}
 use mir.Syntax.{w32, w64}
 use mir.ValLaws.{toZ-ofZ}

@@ -1,9 +1,9 @@
--- `text_judge::tell_row` meets its contract: the numbers one after the other. Assumes nothing.
+-- `text_judge::tell_row` meets its contract: the numbers one after the other.
 use mathlib.Core.Path.{ap, _∙_}
 use native.Mathlib.Omega.{arith}
 use mir.Syntax.{w64}
 use mir.ValLaws.{toZ-ofZ}
-use Rattle.text_index.specs.declared.Place.{Place}
+use Rattle.text_index.specs.declared.Field.{Field}
 use Rattle.text_judge.specs.Tally.{tellTally, toldRun}
 use borrow.Author.Needs.{needs}
 use Rattle.text_judge.proofs.tell_row.Statement.{statement}
@@ -22,7 +22,7 @@ returns c =
     let s = c .before .before .before in
     let e = toZ-ofZ w64 (s .args .low) (s .fits .low) in
     let f = toZ-ofZ w64 (s .args .up) (s .fits .up) in
-    c .tell-run .ensures ∙ ap (toldRun (s .args .l) (s .args .r)) ((rw f at (c .before .tell2 .ensures)) ∙ ap (tellTally Place.Up (s .args .up)) (rw e at (c .before .before .tell .ensures)))
+    c .tell-run .ensures ∙ ap (toldRun (s .args .l) (s .args .r)) ((rw f at (c .before .tell2 .ensures)) ∙ ap (tellTally Field.Up (s .args .up)) (rw e at (c .before .before .tell .ensures)))
 
 pub tell-row-spec : {M : Type 1} → statement M
 tell-row-spec = tie.close (tie.spec (λ c κs. search needs) tell-requires-2 tell-run-requires returns)

@@ -1,4 +1,4 @@
--- `text_judge::tell_run` meets its contract: the left end, then the right, as they are. Assumes nothing.
+-- `text_judge::tell_run` meets its contract: the left end, then the right, as they are.
 use mathlib.Core.Path.{refl, _∙_}
 use native.Mathlib.Omega.{arith}
 use mir.Syntax.{w32}

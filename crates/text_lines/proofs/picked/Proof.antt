@@ -1,4 +1,4 @@
--- `text_lines::picked` meets its contract. By the case and the byte. Assumes nothing.
+-- `text_lines::picked` meets its contract. By the case and the byte.
 use borrow.Author.Tests.{eq-eqb, ne-eqb}
 use Rattle.text_lines.specs.Step.{pick}
 use borrow.Author.Needs.{needs}

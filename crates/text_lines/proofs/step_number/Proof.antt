@@ -1,4 +1,4 @@
--- `text_lines::step_number` meets its contract. By what the byte does to the number. Assumes nothing.
+-- `text_lines::step_number` meets its contract. By what the byte does to the number.
 use mathlib.Core.Path.{sym, _∙_}
 use mir.Syntax.{w64}
 use mir.Val.{toZ, ofZ}

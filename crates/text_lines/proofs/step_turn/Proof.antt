@@ -1,6 +1,7 @@
--- `text_lines::step_turn` meets its contract. The word that the byte picks is tried. Assumes nothing.
+-- `text_lines::step_turn` meets its contract. The word that the byte picks is tried.
 use mathlib.Core.Path.{sym, _∙_}
-use Rattle.text_lines.specs.Step.{turnStep, word-long}
+use Rattle.text_lines.specs.Step.{turnStep}
+use Rattle.text_lines.proofs.Step.{word-long}
 use borrow.Author.Needs.{needs}
 use Rattle.text_lines.proofs.step_turn.Statement.{statement}
 use Rattle.text_lines.proofs.step_turn.Tie as tie

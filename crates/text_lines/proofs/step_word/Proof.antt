@@ -1,8 +1,9 @@
--- `text_lines::step_word` meets its contract. By where the byte leads, and whether it is the last of the word. Assumes nothing.
+-- `text_lines::step_word` meets its contract. By where the byte leads, and whether it is the last of the word.
 use mathlib.Core.Path.{sym, _∙_}
 use native.Mathlib.Omega.{arith}
 use borrow.Author.Tests.{lt-ltb, le-ltb}
-use Rattle.text_lines.specs.Step.{wordStep, word-short}
+use Rattle.text_lines.specs.Step.{wordStep}
+use Rattle.text_lines.proofs.Step.{word-short}
 use borrow.Author.Needs.{needs}
 use Rattle.text_lines.proofs.step_word.Statement.{statement}
 use Rattle.text_lines.proofs.step_word.Tie as tie

@@ -1,4 +1,4 @@
--- `text_lines::word_length` meets its contract. By the case. Assumes nothing.
+-- `text_lines::word_length` meets its contract. By the case.
 use Rattle.text_lines.specs.Step.{word}
 use Rattle.meaning_text.specs.Bytes.{bytes}
 use borrow.Author.Needs.{needs}

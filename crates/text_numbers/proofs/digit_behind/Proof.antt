@@ -1,4 +1,4 @@
--- `text_numbers::digit_behind` meets its contract. Assumes nothing.
+-- `text_numbers::digit_behind` meets its contract.
 use mathlib.Core.Path.{sym, _∙_}
 use borrow.Author.Needs.{needs}
 use Rattle.text_numbers.proofs.digit_behind.Statement.{statement}

@@ -1,4 +1,4 @@
--- `text_numbers::digit_from` meets its contract. Assumes nothing.
+-- `text_numbers::digit_from` meets its contract.
 use borrow.Author.Tests.{lt-ltb, le-ltb}
 use Rattle.text_numbers.proofs.digit_from.Statement.{statement}
 use Rattle.text_numbers.proofs.digit_from.Tie as tie

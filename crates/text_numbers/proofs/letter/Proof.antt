@@ -1,4 +1,4 @@
--- `text_numbers::letter` meets its contract: behind the last byte `getD` gives its default. Assumes nothing.
+-- `text_numbers::letter` meets its contract: behind the last byte `getD` gives its default.
 use mathlib.Core.Path.{sym}
 use borrow.Author.Needs.{needs}
 use lib.ListN.{List·getD-eq-default}

@@ -1,4 +1,4 @@
--- `text_numbers::number_value` meets its contract. By the state of the number; its magnitude is below 10 ^ 18. Assumes nothing.
+-- `text_numbers::number_value` meets its contract. By the state of the number; its magnitude is below 10 ^ 18.
 use mathlib.Core.Path.{_≡_}
 use native.Mathlib.Omega.{arith}
 use lib.IntN.{pos, negℤ, _-ℤ_}

@@ -1,7 +1,7 @@
--- `text_put::digit_count` meets its contract: five digits are taken off at once. Assumes nothing.
+-- `text_put::digit_count` meets its contract: five digits are taken off at once.
 use Prim.Native.Nat.{_/_}
 use native.Mathlib.Omega.{arith}
-use Rattle.text_put.specs.Digits.{length-five, length-most}
+use Rattle.text_put.proofs.Digits.{length-five, length-most}
 use borrow.Author.Needs.{needs}
 use Rattle.text_put.proofs.digit_count.Statement.{statement}
 use Rattle.text_put.proofs.digit_count.Tie as tie

@@ -1,6 +1,6 @@
--- `text_put::few_digits` meets its contract: each test is against the next power of ten. Assumes nothing.
+-- `text_put::few_digits` meets its contract: each test is against the next power of ten.
 use native.Mathlib.Omega.{arith}
-use Rattle.text_put.specs.Digits.{length-one, length-between}
+use Rattle.text_put.proofs.Digits.{length-one, length-between}
 use Rattle.text_put.proofs.few_digits.Statement.{statement}
 use Rattle.text_put.proofs.few_digits.Tie as tie
 use mathlib.Core.Path.{sym}

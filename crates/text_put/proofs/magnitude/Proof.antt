@@ -1,4 +1,4 @@
--- `text_put::magnitude` meets its contract. By the sign. Assumes nothing.
+-- `text_put::magnitude` meets its contract. By the sign.
 use lib.IntN.{pos, _+ℤ_, _-ℤ_}
 use mir.Syntax.{w64}
 use mir.Val.{toZ, ofZ}

@@ -1,4 +1,4 @@
--- `text_put::number_length` meets its contract: the digits, and the sign of a number below 0. Assumes nothing.
+-- `text_put::number_length` meets its contract: the digits, and the sign of a number below 0.
 use mathlib.Core.Path.{_≡_, sym, ap, _∙_}
 use Prim.Native.Nat.{ℕ, _≤_}
 use native.Mathlib.Omega.{arith}
@@ -10,7 +10,7 @@ use mir.Val.{toZ, ofZ}
 use mir.ValLaws.{toZ-ofZ}
 use Rattle.meaning_numbers.proofs.Machine.{zmach32}
 use Rattle.meaning_text.specs.Number.{spellℕ}
-use Rattle.text_put.specs.Digits.{sfits-wide, abs-small, spell-minus, spell-plus}
+use Rattle.text_put.proofs.Digits.{sfits-wide, abs-small, spell-minus, spell-plus}
 use borrow.Author.Needs.{needs}
 use Rattle.text_put.proofs.number_length.Statement.{statement}
 use Rattle.text_put.proofs.number_length.Tie as tie

@@ -1,5 +1,5 @@
--- `text_put::put_byte` meets its contract. There is room, or there is none. Assumes nothing.
-use Rattle.text_put.specs.Put.{put-out}
+-- `text_put::put_byte` meets its contract. There is room, or there is none.
+use Rattle.text_put.proofs.Put.{put-out}
 use borrow.Author.Needs.{needs}
 use Rattle.text_put.proofs.put_byte.Statement.{statement}
 use Rattle.text_put.proofs.put_byte.Tie as tie

@@ -1,9 +1,10 @@
--- `text_put::put_word` meets its contract. The invariant: the first i bytes of the word stand in the buffer. Assumes nothing.
+-- `text_put::put_word` meets its contract. The invariant: the first i bytes of the word stand in the buffer.
 use Prim.Native.Nat.{_-_, _≤_}
 use native.Mathlib.Omega.{arith}
 use borrow.Author.Needs.{needs}
 use lib.ListN.{length, take}
-use Rattle.text_put.specs.Put.{Put, put-none, put-turn, put-all, put-length}
+use Rattle.text_put.specs.Put.{Put}
+use Rattle.text_put.proofs.Put.{put-none, put-turn, put-all, put-length}
 use Rattle.text_put.proofs.put_word.Statement.{statement}
 use Rattle.text_put.proofs.put_word.Tie as tie
 

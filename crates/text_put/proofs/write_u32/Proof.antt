@@ -1,4 +1,4 @@
--- `text_put::write_u32` meets its contract. An unsigned number of 32 bits is read as itself. Assumes nothing.
+-- `text_put::write_u32` meets its contract. An unsigned number of 32 bits is read as itself.
 use mathlib.Core.Path.{_≡_, sym}
 use native.Mathlib.Omega.{arith}
 use lib.IntN.{pos}

@@ -1,4 +1,4 @@
--- `text_put::write_u64` meets its contract. Assumes nothing.
+-- `text_put::write_u64` meets its contract.
 use Rattle.meaning_text.specs.Number.{spellℤ}
 use borrow.Author.Needs.{needs}
 use Rattle.text_put.proofs.write_u64.Statement.{statement}

@@ -1,6 +1,5 @@
 -- `text_reader::bad_line` meets its contract: a walk of its MIR, by hand. The `Reader` that one call returns is held in a local and passed to the next.
 -- The machine value that `reader_of` returns is stored and passed on as it is. In a local of a body MIR erases the lifetime of the struct's type, so the value is shown to have the type at `erased`: what the struct owns does not say the lifetime's name.
--- Assumes nothing.
 use mathlib.Core.Path.{_≡_, refl, ap, _∙_}
 use Prim.Native.Nat.{ℕ, _<_, _^_}
 use mathlib.Core.List.{List, [], _∷_}

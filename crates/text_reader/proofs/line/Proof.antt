@@ -1,6 +1,5 @@
 -- `text_reader::line` meets its contract: a walk of its MIR, by hand. The struct is taken apart, and `line_at` is called on the slice and the number.
 -- The struct is Copy: what it owns is had twice, one copy is kept whole for the exit, and of the other what the text owns goes to the callee, beside the lifetime's token, which comes back.
--- Assumes nothing.
 use mathlib.Core.Path.{_≡_, refl}
 use Prim.Native.Nat.{ℕ, _<_, _^_}
 use mathlib.Core.List.{[], _∷_}

@@ -1,4 +1,4 @@
--- `text_reader::line_at` meets its contract. The invariant: n is the line of place i, and at most i + 1. The measure is how far `at` is. Assumes nothing.
+-- `text_reader::line_at` meets its contract. The invariant: n is the line of place i, and at most i + 1. The measure is how far `at` is.
 use mathlib.Core.Path.{_≡_, sym, ap, _∙_}
 use Prim.Native.Nat.{suc, _-_, _≤_}
 use native.Mathlib.Omega.{arith}

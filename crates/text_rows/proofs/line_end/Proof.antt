@@ -1,4 +1,4 @@
--- `text_rows::line_end` meets its contract. Assumes nothing.
+-- `text_rows::line_end` meets its contract.
 use mathlib.Core.Path.{refl}
 use borrow.Author.Needs.{needs}
 use Rattle.text_rows.proofs.line_end.Statement.{statement}

@@ -1,4 +1,4 @@
--- `text_rows::make_row` meets its contract. On numbers that the machine reads back as they are. Assumes nothing.
+-- `text_rows::make_row` meets its contract. On numbers that the machine reads back as they are.
 use mathlib.Core.Path.{refl}
 use mir.Syntax.{w32}
 use mir.ValLaws.{toZ-ofZ}

@@ -1,6 +1,5 @@
 -- `text_rows::next_line` meets its contract: a walk of its MIR, by hand. The reader that one call returns is held in a local and passed to the next, beside two fields of the line.
 -- In a local of a body MIR erases the lifetime of the reader's type, so its value is shown to have the type at `erased`.
--- Assumes nothing.
 use mathlib.Core.Path.{_≡_, refl}
 use mathlib.Core.List.{List, [], _∷_}
 use lib.ListN.{length}

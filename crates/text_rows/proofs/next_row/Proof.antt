@@ -1,6 +1,5 @@
 -- `text_rows::next_row` meets its contract: a walk of its MIR, by hand. The reader is taken apart, and `row_from` is called on the text, the position, and what is known so far.
 -- Of the reader what the text owns is kept; of numbers, state and tally what they own is made anew.
--- Assumes nothing.
 use mathlib.Core.Path.{_≡_, refl}
 use mathlib.Core.List.{List, [], _∷_}
 use lib.Dec.{T as Holds}

@@ -1,4 +1,4 @@
--- `text_rows::no_line` meets its contract. By what its parts are. Assumes nothing.
+-- `text_rows::no_line` meets its contract. By what its parts are.
 use mathlib.Core.Path.{refl}
 use borrow.Author.Needs.{needs}
 use Rattle.text_rows.proofs.no_line.Statement.{statement}

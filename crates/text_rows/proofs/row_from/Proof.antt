@@ -1,4 +1,4 @@
--- `text_rows::row_from` meets its contract. The invariant: what is left of the text comes to the same line (`Going`). The measure is what is left of the text. Assumes nothing.
+-- `text_rows::row_from` meets its contract. The invariant: what is left of the text comes to the same line (`Going`). The measure is what is left of the text.
 use mathlib.Core.Path.{_≡_, _∙_}
 use Prim.Native.Nat.{_-_}
 use native.Mathlib.Omega.{arith}
@@ -6,7 +6,7 @@ use lib.ListN.{length}
 use mir.Syntax.{w64}
 use mir.Val.{toZ, ofZ}
 use mir.ValLaws.{toZ-ofZ}
-use Rattle.text_event.specs.Event.{row-up, runs-up, run-up, value-up}
+use Rattle.text_event.proofs.EventLaws.{row-up, runs-up, run-up, value-up}
 use Rattle.text_rows.proofs.Turn.{Going, going-start, line-run, line-row, line-runs, line-value, line-closed, line-refuse, line-stop}
 use borrow.Author.Needs.{needs}
 use Rattle.text_rows.proofs.row_from.Statement.{statement}

@@ -1,4 +1,4 @@
--- `text_write::write_end` meets its contract. The word is written. Assumes nothing.
+-- `text_write::write_end` meets its contract. The word is written.
 use Rattle.meaning_text.specs.Bytes.{bytes}
 use Rattle.text_write.specs.Write.{endText}
 use borrow.Author.Needs.{needs}

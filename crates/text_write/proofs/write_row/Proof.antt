@@ -1,7 +1,7 @@
--- `text_write::write_row` meets its contract. Words, numbers and runs in order, put together as they are spelled. Assumes nothing.
+-- `text_write::write_row` meets its contract. Words, numbers and runs in order, put together as they are spelled.
 use Rattle.meaning_text.specs.Bytes.{bytes}
 use Rattle.meaning_text.specs.Form.{spell}
-use Rattle.text_put.specs.Put.{put-then, put-length}
+use Rattle.text_put.proofs.Put.{put-then, put-length}
 use Rattle.text_write.specs.Write.{runsText, rowText}
 use mathlib.Core.Path.{_≡_, sym}
 use mir.Syntax.{w32}

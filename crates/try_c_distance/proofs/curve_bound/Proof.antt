@@ -1,4 +1,4 @@
--- `try_c_distance::curve_bound` meets its contract: what `envelope_bound` requires was tested. The invariant: the numbers so far are written. Assumes nothing.
+-- `try_c_distance::curve_bound` meets its contract: what `envelope_bound` requires was tested. The invariant: the numbers so far are written.
 use borrow.Author.Needs.{needs}
 use borrow.Author.Tests.{not-true, not-false}
 use mathlib.Core.Path.{_≡_, refl, sym}

@@ -1,4 +1,4 @@
--- `try_c_distance::curve_envelopes` meets its contract. Assumes nothing.
+-- `try_c_distance::curve_envelopes` meets its contract.
 use borrow.Author.Needs.{needs}
 use borrow.Author.Tests.{not-true, not-false}
 use mathlib.Core.Path.{refl}

@@ -1,4 +1,4 @@
--- `try_c_distance::curve_normal` meets its contract. The invariant: the spreads so far are written, and room holds the last normalised values. Assumes nothing.
+-- `try_c_distance::curve_normal` meets its contract. The invariant: the spreads so far are written, and room holds the last normalised values.
 use borrow.Author.Needs.{needs}
 use borrow.Author.Tests.{not-true, not-false}
 use mathlib.Core.Path.{_≡_, refl, _∙_}

@@ -1,4 +1,4 @@
--- `try_c_distance::curve_straight` meets its contract: what `straight` requires was tested. The invariant: the numbers so far are written. Assumes nothing.
+-- `try_c_distance::curve_straight` meets its contract: what `straight` requires was tested. The invariant: the numbers so far are written.
 use borrow.Author.Needs.{needs}
 use borrow.Author.Tests.{not-true, not-false}
 use mathlib.Core.Path.{_≡_, refl}

@@ -1,4 +1,4 @@
--- `try_c_distance::curve_warped` meets its contract: what its callees require was tested. Assumes nothing.
+-- `try_c_distance::curve_warped` meets its contract: what its callees require was tested.
 use borrow.Author.Needs.{needs}
 use borrow.Author.Tests.{not-true, not-false}
 use mathlib.Core.Path.{refl}

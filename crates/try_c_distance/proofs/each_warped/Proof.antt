@@ -1,4 +1,4 @@
--- `try_c_distance::each_warped` meets its contract. The invariant: the numbers so far are written. Assumes nothing.
+-- `try_c_distance::each_warped` meets its contract. The invariant: the numbers so far are written.
 use mathlib.Core.Path.{_≡_, refl, _∙_, sym}
 use Prim.Native.Nat.{_+_, _-_, _≤_}
 use native.Mathlib.Omega.{arith}

@@ -1,4 +1,4 @@
--- `try_c_distance::normal_values` meets its contract. Assumes nothing.
+-- `try_c_distance::normal_values` meets its contract.
 use borrow.Author.Needs.{needs}
 use mathlib.Core.Path.{refl}
 use native.Mathlib.Omega.{arith}

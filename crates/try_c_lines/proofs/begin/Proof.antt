@@ -1,4 +1,4 @@
--- `try_c_lines::begin` meets its contract. Assumes nothing.
+-- `try_c_lines::begin` meets its contract.
 use Rattle.try_c_lines.proofs.begin.Statement.{statement}
 use Rattle.try_c_lines.proofs.begin.Tie as tie
 

@@ -1,4 +1,4 @@
--- `try_c_lines::piece` meets its contract: the piece ends inside the text. Assumes nothing.
+-- `try_c_lines::piece` meets its contract: the piece ends inside the text.
 use borrow.Author.Needs.{needs}
 use mathlib.Core.Path.{subst}
 use Prim.Native.Nat.{ℕ}

@@ -1,4 +1,4 @@
--- `try_distance::in_rooms` meets its contract. Assumes nothing.
+-- `try_distance::in_rooms` meets its contract.
 use native.Mathlib.Omega.{arith}
 use mathlib.Core.Path.{sym}
 use lib.ListN.{length-take}

@@ -1,4 +1,4 @@
--- `try_distance::run` meets its contract. Assumes nothing.
+-- `try_distance::run` meets its contract.
 use borrow.Author.Needs.{needs}
 use Prim.Native.Nat.{_≤_}
 use native.Mathlib.Omega.{arith}

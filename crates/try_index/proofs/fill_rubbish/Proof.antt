@@ -1,4 +1,4 @@
--- `try_index::fill_rubbish` meets its contract. Assumes nothing.
+-- `try_index::fill_rubbish` meets its contract.
 use borrow.Author.Needs.{needs}
 use mathlib.Core.Path.{_≡_}
 use Prim.Native.Nat.{_-_, _≤_}

@@ -1,4 +1,4 @@
--- `try_index::try_audit` meets its contract. Assumes nothing.
+-- `try_index::try_audit` meets its contract.
 use borrow.Author.Needs.{needs}
 use native.Mathlib.Omega.{arith}
 use lib.ListN.{length-take}

@@ -1,4 +1,4 @@
--- `try_search::search_one` meets its contract. Assumes nothing.
+-- `try_search::search_one` meets its contract.
 use borrow.Author.Needs.{needs}
 use mathlib.Core.Path.{sym}
 use lib.Seq.{length-take-le}

@@ -1,4 +1,4 @@
--- `try_search::with_list` meets its contract. Assumes nothing.
+-- `try_search::with_list` meets its contract.
 use borrow.Author.Needs.{needs}
 use mathlib.Core.Path.{sym}
 use lib.Seq.{length-take-le}

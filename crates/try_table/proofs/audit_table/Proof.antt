@@ -1,5 +1,4 @@
 -- `try_table::audit_table` meets its contract: a walk of its MIR, by hand. The first records of the table are lent to the audit. All that the proof knows of the callee is that it meets its contract.
--- Assumes nothing.
 use mathlib.Core.Path.{_≡_, refl, sym}
 use Prim.Native.Nat.{ℕ, _<_, _≤_, _^_}
 use native.Mathlib.Omega.{arith}

@@ -1,5 +1,4 @@
 -- `try_table::build_table` meets its contract: a walk of its MIR, by hand. The table is lent whole to the build, and handed out. All that the proof knows of the callees is that they meet their contracts.
--- Assumes nothing.
 use mathlib.Core.Path.{_≡_, refl, _∙_}
 use Prim.Native.Nat.{ℕ, _<_, _^_}
 use mathlib.Core.List.{List, [], _∷_}
@@ -55,7 +54,7 @@ use Rattle.meaning_entries.proofs.Built as Bu
 use Rattle.meaning_entries.proofs.Built.Laws as Bu′
 use Rattle.rows_records.proofs.RowKit.{half, record-type, row-makes}
 use Rattle.rows_records.proofs.Rows.{chunk}
-use Rattle.build_passes.specs.Filled.{buffers}
+use Rattle.meaning_entries.specs.Buffers.{indexBuffers}
 use Rattle.entry_build.proofs.BuildCall.{low-built}
 use Rattle.entry_build.proofs.BuildCall.{Build, calls-build-lent}
 use Rattle.entry_build.proofs.build.Symbol as build-def
@@ -99,7 +98,7 @@ module _ {M : Type 1} (𝓤 : URA M) (H : Heap 𝓤) (A : Atoms 𝓤) (W : Given
   abbrev Post : Val → SProp 𝓤
   Post = walkOf 𝓤 H A f.ended stayed (f.clauses 𝓤 H A mem run) .post bound
 
-  exits : (zl : List ℕ) (long-l : length zl ≡ length (xl .now)) (zr : List ℕ) (long-r : length zr ≡ length (xr .now)) (t : Tabled) (g-t : Is Ta.the-row t (low-tabled t ∷ [])) (right : BuildKept (lentBuild (xs .now) w d g) (buffers (rubbishRows w) (xl .now) (xr .now)) (t .answer) (buffers (t .rows) zl zr)) → ent 𝓤 (⋆ 𝓤 H A (‵ (flft κs qs) ∷ ‵ (flft κl ql) ∷ ‵ (flft κr qr) ∷ ‵ (Lends.Own u32 (xl .ptr .0) (xl .ptr .1) (length (xl .now)) (named 0) κl (xl .name) zl) ∷ ‵ (Lends.Own u32 (xr .ptr .0) (xr .ptr .1) (length (xr .now)) (named 0) κr (xr .name) zr) ∷ [])) (Post (low-tabled t))
+  exits : (zl : List ℕ) (long-l : length zl ≡ length (xl .now)) (zr : List ℕ) (long-r : length zr ≡ length (xr .now)) (t : Tabled) (g-t : Is Ta.the-row t (low-tabled t ∷ [])) (right : BuildKept (lentBuild (xs .now) w d g) (indexBuffers (rubbishRows w) (xl .now) (xr .now)) (t .answer) (indexBuffers (t .rows) zl zr)) → ent 𝓤 (⋆ 𝓤 H A (‵ (flft κs qs) ∷ ‵ (flft κl ql) ∷ ‵ (flft κr qr) ∷ ‵ (Lends.Own u32 (xl .ptr .0) (xl .ptr .1) (length (xl .now)) (named 0) κl (xl .name) zl) ∷ ‵ (Lends.Own u32 (xr .ptr .0) (xr .ptr .1) (length (xr .now)) (named 0) κr (xr .name) zr) ∷ [])) (Post (low-tabled t))
   exits zl long-l zr long-r t g-t right =
       qed W (‵ (flft κs qs) ∷ ‵ (flft κl ql) ∷ ‵ (flft κr qr) ∷ ‵ (Lends.Own u32 (xl .ptr .0) (xl .ptr .1) (length (xl .now)) (named 0) κl (xl .name) zl) ∷ ‵ (Lends.Own u32 (xr .ptr .0) (xr .ptr .1) (length (xr .now)) (named 0) κr (xr .name) zr) ∷ []) ∵
       suffices ! _ (ends-at 𝓤 H A f.ended stayed (f.clauses 𝓤 H A mem run) W bound (low-tabled t) t (tt, (tt, (tt, (tt, (zl, (zr, tt)))))) (tt, (tt, (tt, (tt, (long-l, (long-r, tt))))))) $ says ! right $
@@ -107,7 +106,7 @@ module _ {M : Type 1} (𝓤 : URA M) (H : Heap 𝓤) (A : Atoms 𝓤) (W : Given
 
   module _ (𝓣 : Tables 𝓤 H) (fm : FmC 𝓤 H (W .laws) (𝓣 .C)) (known-rubbish : Triple 𝓤 (𝓣 .C #rubbish) (Rubbish 𝓤 H A mem run)) (known-build : Triple 𝓤 (𝓣 .C #build) (Build 𝓤 H A mem run)) (known-handed : Triple 𝓤 (𝓣 .C #handed-out) (HandedOut 𝓤 H A mem run))
       (g-s : Room i32 (length (xs .now))) (g-w : w < 2 ^ 32) (g-d : d < 2 ^ 32) (g-g : g < 2 ^ 32) (g-l : Room u32 (length (xl .now))) (g-r : Room u32 (length (xr .now))) where
-    kept : (table : List Row) → table ≡ rubbishRows w → (b : Built) (za : List Row) (zl zr : List ℕ) → BuildKept (lentBuild (xs .now) w d g) (buffers table (xl .now) (xr .now)) b (buffers za zl zr) → (t : Tabled) → t ≡ tabledAs b za → BuildKept (lentBuild (xs .now) w d g) (buffers (rubbishRows w) (xl .now) (xr .now)) (t .answer) (buffers (t .rows) zl zr)
+    kept : (table : List Row) → table ≡ rubbishRows w → (b : Built) (za : List Row) (zl zr : List ℕ) → BuildKept (lentBuild (xs .now) w d g) (indexBuffers table (xl .now) (xr .now)) b (indexBuffers za zl zr) → (t : Tabled) → t ≡ tabledAs b za → BuildKept (lentBuild (xs .now) w d g) (indexBuffers (rubbishRows w) (xl .now) (xr .now)) (t .answer) (indexBuffers (t .rows) zl zr)
     kept table is b za zl zr made t is-t = rw is-t (rw is at made)
 
     module _ (l₀ l₁ l₂ l₃ l₄ l₅ l₆ l₇ l₈ l₉ l₁₀ l₁₁ l₁₂ l₁₃ l₁₄ l₁₅ : ℕ) where
@@ -126,7 +125,7 @@ module _ {M : Type 1} (𝓤 : URA M) (H : Heap 𝓤) (A : Atoms 𝓤) (W : Given
           ∷ ‵ (fat fullShare half l₄ 0 (vint w32 g)) ∷ ‵ (fdies half l₄) ∷ ‵ (fat fullShare half l₃ 0 (vint w32 d)) ∷ ‵ (fdies half l₃)
           ∷ ‵ (fat fullShare half l₂ 0 (vint w32 w)) ∷ ‵ (fdies half l₂) ∷ ‵ (fat fullShare (sliceTy (tyRef (named 0) imm half)) l₁ 0 (sliceVal (xs .ptr) (length (xs .now)))) ∷ ‵ (fdies (sliceTy (tyRef (named 0) imm half)) l₁) ∷ Γ
 
-      go-4 : (table : List Row) (is-table : table ≡ rubbishRows w) (g-table : Is (Array T.the-row 64) table (chunk table ∷ [])) (b : Built) (za : List Row) (zl : List ℕ) (zr : List ℕ) (made : BuildKept (lentBuild (xs .now) w d g) (buffers table (xl .now) (xr .now)) b (buffers za zl zr)) (g-b : Is Bu.the-row b (low-built b ∷ [])) (long-a : length za ≡ length table) (long-l : length zl ≡ length (xl .now)) (long-r : length zr ≡ length (xr .now)) (is-za : Is (Array T.the-row 64) za (chunk za ∷ [])) (t : Tabled) (is-t : t ≡ tabledAs b za) (g-t : Is Ta.the-row t (low-tabled t ∷ [])) → Sq W (‵ (flft κs qs) ∷ ‵ (ShrSlice (named 0) κs i32 .own xs (sliceVal (xs .ptr) (length (xs .now)) ∷ [])) ∷ ‵ (flft κl ql) ∷ ‵ (Lends.Own u32 (xl .ptr .0) (xl .ptr .1) (length (xl .now)) (named 0) κl (xl .name) zl)
+      go-4 : (table : List Row) (is-table : table ≡ rubbishRows w) (g-table : Is (Array T.the-row 64) table (chunk table ∷ [])) (b : Built) (za : List Row) (zl : List ℕ) (zr : List ℕ) (made : BuildKept (lentBuild (xs .now) w d g) (indexBuffers table (xl .now) (xr .now)) b (indexBuffers za zl zr)) (g-b : Is Bu.the-row b (low-built b ∷ [])) (long-a : length za ≡ length table) (long-l : length zl ≡ length (xl .now)) (long-r : length zr ≡ length (xr .now)) (is-za : Is (Array T.the-row 64) za (chunk za ∷ [])) (t : Tabled) (is-t : t ≡ tabledAs b za) (g-t : Is Ta.the-row t (low-tabled t ∷ [])) → Sq W (‵ (flft κs qs) ∷ ‵ (ShrSlice (named 0) κs i32 .own xs (sliceVal (xs .ptr) (length (xs .now)) ∷ [])) ∷ ‵ (flft κl ql) ∷ ‵ (Lends.Own u32 (xl .ptr .0) (xl .ptr .1) (length (xl .now)) (named 0) κl (xl .name) zl)
           ∷ ‵ (flft κr qr) ∷ ‵ (Lends.Own u32 (xr .ptr .0) (xr .ptr .1) (length (xr .now)) (named 0) κr (xr .name) zr) ∷ Idle (‵ (fat fullShare (tyArray T′.mir 64) l₉ 0 (chunk za)) ∷ ‵ (fdies (tyArray T′.mir 64) l₉) ∷ ‵ (fat fullShare Bu′.mir l₈ 0 (low-built b)) ∷ ‵ (fdies Bu′.mir l₈)
           ∷ ‵ (fat fullShare (tyArray T′.mir 64) l₇ 0 (chunk za)) ∷ ‵ (fdies (tyArray T′.mir 64) l₇) ∷ Passed (‵ (fat fullShare Ta′.mir l₀ 0 (low-tabled t)) ∷ ‵ (fdies Ta′.mir l₀) ∷ []))) (runs (𝓣 .C) (𝓣 .Λ) En mir.t-12 (atRet En Post))
       go-4 table is-table g-table b za zl zr made g-b long-a long-l long-r is-za t is-t g-t =
@@ -135,7 +134,7 @@ module _ {M : Type 1} (𝓤 : URA M) (H : Heap 𝓤) (A : Atoms 𝓤) (W : Given
           keep ! (0 ∷ 2 ∷ 4 ∷ 3 ∷ 5 ∷ []) $
           by ! (exits zl long-l zr long-r t g-t (kept table is-table b za zl zr made t is-t))
 
-      go-3 : (table : List Row) (is-table : table ≡ rubbishRows w) (g-table : Is (Array T.the-row 64) table (chunk table ∷ [])) (b : Built) (za : List Row) (zl : List ℕ) (zr : List ℕ) (made : BuildKept (lentBuild (xs .now) w d g) (buffers table (xl .now) (xr .now)) b (buffers za zl zr)) (g-b : Is Bu.the-row b (low-built b ∷ [])) (long-a : length za ≡ length table) (long-l : length zl ≡ length (xl .now)) (long-r : length zr ≡ length (xr .now)) (is-za : Is (Array T.the-row 64) za (chunk za ∷ [])) → Sq W (‵ (flft κs qs) ∷ ‵ (ShrSlice (named 0) κs i32 .own xs (sliceVal (xs .ptr) (length (xs .now)) ∷ [])) ∷ ‵ (flft κl ql) ∷ ‵ (Lends.Own u32 (xl .ptr .0) (xl .ptr .1) (length (xl .now)) (named 0) κl (xl .name) zl)
+      go-3 : (table : List Row) (is-table : table ≡ rubbishRows w) (g-table : Is (Array T.the-row 64) table (chunk table ∷ [])) (b : Built) (za : List Row) (zl : List ℕ) (zr : List ℕ) (made : BuildKept (lentBuild (xs .now) w d g) (indexBuffers table (xl .now) (xr .now)) b (indexBuffers za zl zr)) (g-b : Is Bu.the-row b (low-built b ∷ [])) (long-a : length za ≡ length table) (long-l : length zl ≡ length (xl .now)) (long-r : length zr ≡ length (xr .now)) (is-za : Is (Array T.the-row 64) za (chunk za ∷ [])) → Sq W (‵ (flft κs qs) ∷ ‵ (ShrSlice (named 0) κs i32 .own xs (sliceVal (xs .ptr) (length (xs .now)) ∷ [])) ∷ ‵ (flft κl ql) ∷ ‵ (Lends.Own u32 (xl .ptr .0) (xl .ptr .1) (length (xl .now)) (named 0) κl (xl .name) zl)
           ∷ ‵ (flft κr qr) ∷ ‵ (Lends.Own u32 (xr .ptr .0) (xr .ptr .1) (length (xr .now)) (named 0) κr (xr .name) zr) ∷ Idle (‵ (fat fullShare (tyArray T′.mir 64) l₉ 0 (chunk table)) ∷ ‵ (fdies (tyArray T′.mir 64) l₉) ∷ ‵ (fat fullShare Bu′.mir l₈ 0 (low-built b)) ∷ ‵ (fdies Bu′.mir l₈)
           ∷ ‵ (fat fullShare (tyArray T′.mir 64) l₇ 0 (chunk za)) ∷ ‵ (fdies (tyArray T′.mir 64) l₇) ∷ Passed (‵ (froom Ta′.mir l₀ 0) ∷ ‵ (fdies Ta′.mir l₀) ∷ []))) (runs (𝓣 .C) (𝓣 .Λ) En mir.t-10 (atRet En Post))
       go-3 table is-table g-table b za zl zr made g-b long-a long-l long-r is-za =

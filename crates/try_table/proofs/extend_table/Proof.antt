@@ -1,5 +1,4 @@
 -- `try_table::extend_table` meets its contract: a walk of its MIR, by hand. The first records of one table and the whole of another are lent to the extension, and the latter is handed out. All that the proof knows of the callees is that they meet their contracts.
--- Assumes nothing.
 use mathlib.Core.Path.{_≡_, refl, sym, _∙_}
 use Prim.Native.Nat.{ℕ, _<_, _≤_, _^_}
 use native.Mathlib.Omega.{arith}
@@ -60,7 +59,7 @@ use Rattle.meaning_entries.proofs.Extended as Ex
 use Rattle.meaning_entries.proofs.Extended.Laws as Ex′
 use Rattle.rows_records.proofs.RowKit.{word, half, record-type, row-makes}
 use Rattle.rows_records.proofs.Rows.{chunk}
-use Rattle.build_passes.specs.Filled.{buffers}
+use Rattle.meaning_entries.specs.Buffers.{indexBuffers}
 use Rattle.entry_audit.proofs.AuditCall.{low-head}
 use Rattle.entry_extend.proofs.ExtendCall.{low-extended}
 use Rattle.entry_extend.proofs.extend.Symbol as extend-def
@@ -105,7 +104,7 @@ module _ {M : Type 1} (𝓤 : URA M) (H : Heap 𝓤) (A : Atoms 𝓤) (W : Given
   abbrev Post : Val → SProp 𝓤
   Post = walkOf 𝓤 H A f.ended stayed (f.clauses 𝓤 H A mem run) .post bound
 
-  exits : (zl : List ℕ) (long-l : length zl ≡ length (xl .now)) (zr : List ℕ) (long-r : length zr ≡ length (xr .now)) (t : Extension) (g-t : Is Xt.the-row t (low-extension t ∷ [])) (right : ExtendKept (lentExtend (xs .now) head (take n old) (xc .now) (xh .now)) (buffers (rubbishRows (head .window)) (xl .now) (xr .now)) (t .answer) (buffers (t .rows) zl zr)) → ent 𝓤 (⋆ 𝓤 H A (‵ (flft κs qs) ∷ ‵ (flft κc qc) ∷ ‵ (flft κh qh) ∷ ‵ (flft κl ql) ∷ ‵ (flft κr qr) ∷ ‵ (Lends.Own u32 (xl .ptr .0) (xl .ptr .1) (length (xl .now)) (named 0) κl (xl .name) zl) ∷ ‵ (Lends.Own u32 (xr .ptr .0) (xr .ptr .1) (length (xr .now)) (named 0) κr (xr .name) zr) ∷ [])) (Post (low-extension t))
+  exits : (zl : List ℕ) (long-l : length zl ≡ length (xl .now)) (zr : List ℕ) (long-r : length zr ≡ length (xr .now)) (t : Extension) (g-t : Is Xt.the-row t (low-extension t ∷ [])) (right : ExtendKept (lentExtend (xs .now) head (take n old) (xc .now) (xh .now)) (indexBuffers (rubbishRows (head .window)) (xl .now) (xr .now)) (t .answer) (indexBuffers (t .rows) zl zr)) → ent 𝓤 (⋆ 𝓤 H A (‵ (flft κs qs) ∷ ‵ (flft κc qc) ∷ ‵ (flft κh qh) ∷ ‵ (flft κl ql) ∷ ‵ (flft κr qr) ∷ ‵ (Lends.Own u32 (xl .ptr .0) (xl .ptr .1) (length (xl .now)) (named 0) κl (xl .name) zl) ∷ ‵ (Lends.Own u32 (xr .ptr .0) (xr .ptr .1) (length (xr .now)) (named 0) κr (xr .name) zr) ∷ [])) (Post (low-extension t))
   exits zl long-l zr long-r t g-t right =
       qed W (‵ (flft κs qs) ∷ ‵ (flft κc qc) ∷ ‵ (flft κh qh) ∷ ‵ (flft κl ql) ∷ ‵ (flft κr qr) ∷ ‵ (Lends.Own u32 (xl .ptr .0) (xl .ptr .1) (length (xl .now)) (named 0) κl (xl .name) zl) ∷ ‵ (Lends.Own u32 (xr .ptr .0) (xr .ptr .1) (length (xr .now)) (named 0) κr (xr .name) zr) ∷ []) ∵
       suffices ! _ (ends-at 𝓤 H A f.ended stayed (f.clauses 𝓤 H A mem run) W bound (low-extension t) t (tt, (tt, (tt, (tt, (tt, (tt, (zl, (zr, tt)))))))) (tt, (tt, (tt, (tt, (tt, (tt, (long-l, (long-r, tt))))))))) $ says ! right $
@@ -116,7 +115,7 @@ module _ {M : Type 1} (𝓤 : URA M) (H : Heap 𝓤) (A : Atoms 𝓤) (W : Given
     long : length (take n old) ≡ n
     long = simp length-take (omega (arith, asked, g-old .1 .0 .1))
 
-    kept : (table : List Row) → table ≡ rubbishRows (head .window) → (b : Extended) (za : List Row) (zl zr : List ℕ) → ExtendKept (lentExtend (xs .now) head (take n old) (xc .now) (xh .now)) (buffers table (xl .now) (xr .now)) b (buffers za zl zr) → (t : Extension) → t ≡ extensionAs b za → ExtendKept (lentExtend (xs .now) head (take n old) (xc .now) (xh .now)) (buffers (rubbishRows (head .window)) (xl .now) (xr .now)) (t .answer) (buffers (t .rows) zl zr)
+    kept : (table : List Row) → table ≡ rubbishRows (head .window) → (b : Extended) (za : List Row) (zl zr : List ℕ) → ExtendKept (lentExtend (xs .now) head (take n old) (xc .now) (xh .now)) (indexBuffers table (xl .now) (xr .now)) b (indexBuffers za zl zr) → (t : Extension) → t ≡ extensionAs b za → ExtendKept (lentExtend (xs .now) head (take n old) (xc .now) (xh .now)) (indexBuffers (rubbishRows (head .window)) (xl .now) (xr .now)) (t .answer) (indexBuffers (t .rows) zl zr)
     kept table is b za zl zr made t is-t = rw is-t (rw is at made)
 
     module _ (l₀ l₁ l₂ l₃ l₄ l₅ l₆ l₇ l₈ l₉ l₁₀ l₁₁ l₁₂ l₁₃ l₁₄ l₁₅ l₁₆ l₁₇ l₁₈ l₁₉ l₂₀ : ℕ) where
@@ -137,7 +136,7 @@ module _ {M : Type 1} (𝓤 : URA M) (H : Heap 𝓤) (A : Atoms 𝓤) (W : Given
           ∷ ‵ (fat fullShare word l₄ 0 (vint w64 n)) ∷ ‵ (fdies word l₄) ∷ ‵ (fat fullShare (tyArray T′.mir 64) l₃ 0 (chunk old)) ∷ ‵ (fdies (tyArray T′.mir 64) l₃)
           ∷ ‵ (fat fullShare Hd′.mir l₂ 0 (low-head head)) ∷ ‵ (fdies Hd′.mir l₂) ∷ ‵ (fat fullShare (sliceTy (tyRef (named 0) imm half)) l₁ 0 (sliceVal (xs .ptr) (length (xs .now)))) ∷ ‵ (fdies (sliceTy (tyRef (named 0) imm half)) l₁) ∷ Γ
 
-      go-4 : (table : List Row) (is-table : table ≡ rubbishRows (head .window)) (g-table : Is (Array T.the-row 64) table (chunk table ∷ [])) (b : Extended) (za : List Row) (zl : List ℕ) (zr : List ℕ) (made : ExtendKept (lentExtend (xs .now) head (take n old) (xc .now) (xh .now)) (buffers table (xl .now) (xr .now)) b (buffers za zl zr)) (g-b : Is Ex.the-row b (low-extended b ∷ [])) (long-a : length za ≡ length table) (long-l : length zl ≡ length (xl .now)) (long-r : length zr ≡ length (xr .now)) (is-za : Is (Array T.the-row 64) za (chunk za ∷ [])) (t : Extension) (is-t : t ≡ extensionAs b za) (g-t : Is Xt.the-row t (low-extension t ∷ [])) → Sq W (‵ (flft κs qs) ∷ ‵ (ShrSlice (named 0) κs i32 .own xs (sliceVal (xs .ptr) (length (xs .now)) ∷ [])) ∷ ‵ (flft κc qc) ∷ ‵ (ShrSlice (named 0) κc u32 .own xc (sliceVal (xc .ptr) (length (xc .now)) ∷ []))
+      go-4 : (table : List Row) (is-table : table ≡ rubbishRows (head .window)) (g-table : Is (Array T.the-row 64) table (chunk table ∷ [])) (b : Extended) (za : List Row) (zl : List ℕ) (zr : List ℕ) (made : ExtendKept (lentExtend (xs .now) head (take n old) (xc .now) (xh .now)) (indexBuffers table (xl .now) (xr .now)) b (indexBuffers za zl zr)) (g-b : Is Ex.the-row b (low-extended b ∷ [])) (long-a : length za ≡ length table) (long-l : length zl ≡ length (xl .now)) (long-r : length zr ≡ length (xr .now)) (is-za : Is (Array T.the-row 64) za (chunk za ∷ [])) (t : Extension) (is-t : t ≡ extensionAs b za) (g-t : Is Xt.the-row t (low-extension t ∷ [])) → Sq W (‵ (flft κs qs) ∷ ‵ (ShrSlice (named 0) κs i32 .own xs (sliceVal (xs .ptr) (length (xs .now)) ∷ [])) ∷ ‵ (flft κc qc) ∷ ‵ (ShrSlice (named 0) κc u32 .own xc (sliceVal (xc .ptr) (length (xc .now)) ∷ []))
           ∷ ‵ (flft κh qh) ∷ ‵ (ShrSlice (named 0) κh u32 .own xh (sliceVal (xh .ptr) (length (xh .now)) ∷ [])) ∷ ‵ (flft κl ql) ∷ ‵ (Lends.Own u32 (xl .ptr .0) (xl .ptr .1) (length (xl .now)) (named 0) κl (xl .name) zl)
           ∷ ‵ (flft κr qr) ∷ ‵ (Lends.Own u32 (xr .ptr .0) (xr .ptr .1) (length (xr .now)) (named 0) κr (xr .name) zr) ∷ Idle (‵ (fat fullShare (tyArray T′.mir 64) l₁₂ 0 (chunk za)) ∷ ‵ (fdies (tyArray T′.mir 64) l₁₂) ∷ ‵ (fat fullShare Ex′.mir l₁₁ 0 (low-extended b)) ∷ ‵ (fdies Ex′.mir l₁₁)
           ∷ ‵ (fat fullShare (tyArray T′.mir 64) l₁₀ 0 (chunk za)) ∷ ‵ (fdies (tyArray T′.mir 64) l₁₀) ∷ ‵ (fat fullShare (tyArray T′.mir 64) l₉ 0 (chunk old)) ∷ ‵ (fdies (tyArray T′.mir 64) l₉) ∷ Passed (‵ (fat fullShare Xt′.mir l₀ 0 (low-extension t)) ∷ ‵ (fdies Xt′.mir l₀) ∷ []))) (runs (𝓣 .C) (𝓣 .Λ) En mir.t-15 (atRet En Post))
@@ -147,7 +146,7 @@ module _ {M : Type 1} (𝓤 : URA M) (H : Heap 𝓤) (A : Atoms 𝓤) (W : Given
           keep ! (0 ∷ 2 ∷ 4 ∷ 6 ∷ 8 ∷ 7 ∷ 9 ∷ []) $
           by ! (exits zl long-l zr long-r t g-t (kept table is-table b za zl zr made t is-t))
 
-      go-3 : (table : List Row) (is-table : table ≡ rubbishRows (head .window)) (g-table : Is (Array T.the-row 64) table (chunk table ∷ [])) (b : Extended) (za : List Row) (zl : List ℕ) (zr : List ℕ) (made : ExtendKept (lentExtend (xs .now) head (take n old) (xc .now) (xh .now)) (buffers table (xl .now) (xr .now)) b (buffers za zl zr)) (g-b : Is Ex.the-row b (low-extended b ∷ [])) (long-a : length za ≡ length table) (long-l : length zl ≡ length (xl .now)) (long-r : length zr ≡ length (xr .now)) (is-za : Is (Array T.the-row 64) za (chunk za ∷ [])) → Sq W (‵ (flft κs qs) ∷ ‵ (ShrSlice (named 0) κs i32 .own xs (sliceVal (xs .ptr) (length (xs .now)) ∷ [])) ∷ ‵ (flft κc qc) ∷ ‵ (ShrSlice (named 0) κc u32 .own xc (sliceVal (xc .ptr) (length (xc .now)) ∷ []))
+      go-3 : (table : List Row) (is-table : table ≡ rubbishRows (head .window)) (g-table : Is (Array T.the-row 64) table (chunk table ∷ [])) (b : Extended) (za : List Row) (zl : List ℕ) (zr : List ℕ) (made : ExtendKept (lentExtend (xs .now) head (take n old) (xc .now) (xh .now)) (indexBuffers table (xl .now) (xr .now)) b (indexBuffers za zl zr)) (g-b : Is Ex.the-row b (low-extended b ∷ [])) (long-a : length za ≡ length table) (long-l : length zl ≡ length (xl .now)) (long-r : length zr ≡ length (xr .now)) (is-za : Is (Array T.the-row 64) za (chunk za ∷ [])) → Sq W (‵ (flft κs qs) ∷ ‵ (ShrSlice (named 0) κs i32 .own xs (sliceVal (xs .ptr) (length (xs .now)) ∷ [])) ∷ ‵ (flft κc qc) ∷ ‵ (ShrSlice (named 0) κc u32 .own xc (sliceVal (xc .ptr) (length (xc .now)) ∷ []))
           ∷ ‵ (flft κh qh) ∷ ‵ (ShrSlice (named 0) κh u32 .own xh (sliceVal (xh .ptr) (length (xh .now)) ∷ [])) ∷ ‵ (flft κl ql) ∷ ‵ (Lends.Own u32 (xl .ptr .0) (xl .ptr .1) (length (xl .now)) (named 0) κl (xl .name) zl)
           ∷ ‵ (flft κr qr) ∷ ‵ (Lends.Own u32 (xr .ptr .0) (xr .ptr .1) (length (xr .now)) (named 0) κr (xr .name) zr) ∷ Idle (‵ (fat fullShare (tyArray T′.mir 64) l₁₂ 0 (chunk table)) ∷ ‵ (fdies (tyArray T′.mir 64) l₁₂) ∷ ‵ (fat fullShare Ex′.mir l₁₁ 0 (low-extended b)) ∷ ‵ (fdies Ex′.mir l₁₁)
           ∷ ‵ (fat fullShare (tyArray T′.mir 64) l₁₀ 0 (chunk za)) ∷ ‵ (fdies (tyArray T′.mir 64) l₁₀) ∷ ‵ (fat fullShare (tyArray T′.mir 64) l₉ 0 (chunk old)) ∷ ‵ (fdies (tyArray T′.mir 64) l₉) ∷ Passed (‵ (froom Xt′.mir l₀ 0) ∷ ‵ (fdies Xt′.mir l₀) ∷ []))) (runs (𝓣 .C) (𝓣 .Λ) En mir.t-13 (atRet En Post))

@@ -1,6 +1,6 @@
--- `try_text::first_rows` meets its contract: each line can be read on from the line before. Assumes nothing.
+-- `try_text::first_rows` meets its contract: each line can be read on from the line before.
 use native.Mathlib.Omega.{arith}
-use Rattle.text_index.specs.Follow.{index-good}
+use Rattle.text_index.proofs.Follow.{index-good}
 use Rattle.text_judge.proofs.Seen.{start-fits}
 use Rattle.text_rows.specs.Line.{lineAt}
 use Rattle.text_rows.proofs.Turn.{line-ready}

@@ -1,4 +1,4 @@
--- `try_text::run` meets its contract. Assumes nothing.
+-- `try_text::run` meets its contract.
 use Prim.Native.Nat.{_+_, _-_, _≤_}
 use native.Mathlib.Omega.{arith}
 use lib.ListN.{length}

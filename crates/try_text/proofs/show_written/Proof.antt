@@ -1,4 +1,4 @@
--- `try_text::show_written` meets its contract. Assumes nothing.
+-- `try_text::show_written` meets its contract.
 use native.Mathlib.Omega.{arith}
 use lib.ListN.{length-take}
 use borrow.Author.Needs.{needs}

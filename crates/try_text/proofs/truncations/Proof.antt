@@ -1,4 +1,4 @@
--- `try_text::truncations` meets its contract. Assumes nothing.
+-- `try_text::truncations` meets its contract.
 use Prim.Native.Nat.{_-_, _≤_}
 use native.Mathlib.Omega.{arith}
 use lib.ListN.{length, length-take}

@@ -1,4 +1,4 @@
--- `try_vectors::read_numbers` meets its contract. Assumes nothing.
+-- `try_vectors::read_numbers` meets its contract.
 use borrow.Author.Needs.{needs}
 use mathlib.Core.Path.{_≡_}
 use Prim.Native.Nat.{_-_, _≤_}

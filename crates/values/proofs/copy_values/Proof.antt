@@ -1,4 +1,4 @@
--- `values::copy_values` meets its contract. The invariant: the values so far are those of q. Assumes nothing.
+-- `values::copy_values` meets its contract. The invariant: the values so far are those of q.
 use borrow.Author.Needs.{needs}
 use borrow.Author.Count.{below-more}
 use mathlib.Core.Path.{_≡_, refl, _∙_}

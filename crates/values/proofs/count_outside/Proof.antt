@@ -1,4 +1,4 @@
--- `values::count_outside` meets its contract. The invariant: the count so far. Assumes nothing.
+-- `values::count_outside` meets its contract. The invariant: the count so far.
 use mathlib.Core.Path.{_≡_, _∙_, ap, sym}
 use mathlib.Core.Bool.{Bool, not}
 use Prim.Native.Nat.{ℕ, _+_, _-_, _≤_}

@@ -1,4 +1,4 @@
--- `values::first_outside` meets its contract. The invariant: every value passed is in its limits; a block that counts none adds its values (`block-in`). Assumes nothing.
+-- `values::first_outside` meets its contract. The invariant: every value passed is in its limits; a block that counts none adds its values (`block-in`).
 use borrow.Author.Needs.{needs}
 use borrow.Author.Tests.{not-false}
 use mathlib.Core.Path.{_≡_, sym, subst}

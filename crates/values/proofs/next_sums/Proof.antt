@@ -1,13 +1,13 @@
--- `values::next_sums` meets its contract (`slide-values`, `slide-squares`). Assumes nothing.
+-- `values::next_sums` meets its contract (`slide-values`, `slide-squares`).
 use borrow.Author.Needs.{needs}
 use mathlib.Core.Path.{_≡_, _∙_, sym}
 use Prim.Native.Nat.{_+_, _*_, _≤_}
 use native.Mathlib.Omega.{arith}
 use Rattle.meaning_curves.specs.Curve.{at}
 use Rattle.meaning_numbers.proofs.Root.{sq-le}
-use Rattle.numbers.specs.Back.{in-arg, raised-back}
+use Rattle.numbers.proofs.Back.{in-arg, raised-back}
 use Rattle.numbers.specs.Raised.{raised, raised-le}
-use Rattle.values.specs.Sums.{sums-le, slide-values, slide-squares}
+use Rattle.values.proofs.SumsLaws.{sums-le, slide-values, slide-squares}
 use Rattle.values.proofs.next_sums.Statement.{statement}
 use Rattle.values.proofs.next_sums.Tie as tie
 

@@ -1,4 +1,4 @@
--- `values::next_window` meets its contract (`moved-on`); nothing wraps, as no window's sum is large (`out-fits`). Assumes nothing.
+-- `values::next_window` meets its contract (`moved-on`); nothing wraps, as no window's sum is large (`out-fits`).
 use borrow.Author.Needs.{needs}
 use mathlib.Core.Path.{_≡_, _∙_}
 use Prim.Native.Nat.{_+_, _≤_}
@@ -8,8 +8,8 @@ use mir.Val.{toZ, ofZ}
 use mir.ValLaws.{toZ-ofZ}
 use Rattle.meaning_numbers.proofs.Rep.{up, dn, zarith, z-sub}
 use Rattle.meaning_curves.specs.Curve.{at, windowSum}
-use Rattle.numbers.specs.Back.{plus-fits, plus-back}
-use Rattle.values.specs.Window.{window-small, out-fits, out-sum, moved-on}
+use Rattle.numbers.proofs.Back.{plus-fits, plus-back}
+use Rattle.values.proofs.Window.{window-small, out-fits, out-sum, moved-on}
 use Rattle.values.proofs.next_window.Statement.{statement}
 use Rattle.values.proofs.next_window.Tie as tie
 

@@ -1,4 +1,4 @@
--- `values::outside_from` meets its contract. The invariant: every value passed is in its limits, and so is every value before. Assumes nothing.
+-- `values::outside_from` meets its contract. The invariant: every value passed is in its limits, and so is every value before.
 use borrow.Author.Needs.{needs}
 use borrow.Author.Count.{below-more}
 use borrow.Author.Tests.{not-true, not-false}

@@ -1,4 +1,4 @@
--- `values::raised_sum` meets its contract. The invariant: the sum so far. Assumes nothing.
+-- `values::raised_sum` meets its contract. The invariant: the sum so far.
 use mathlib.Core.Path.{_≡_, _∙_}
 use Prim.Native.Nat.{_*_, _-_, _≤_}
 use native.Mathlib.Omega.{arith}
@@ -6,7 +6,7 @@ use Rattle.meaning_numbers.specs.Sum.{Σℕ}
 use Rattle.meaning_numbers.proofs.Sum.{Σℕ-none, Σℕ-more}
 use Rattle.meaning_curves.specs.Curve.{stretch}
 use Rattle.numbers.specs.Raised.{raised, raised-le}
-use Rattle.numbers.specs.Back.{in-arg, raised-back}
+use Rattle.numbers.proofs.Back.{in-arg, raised-back}
 use Rattle.values.proofs.raised_sum.Statement.{statement}
 use Rattle.values.proofs.raised_sum.Tie as tie
 

@@ -1,6 +1,6 @@
--- `values::spread_of` meets its contract (`spread-raised`). Assumes nothing.
+-- `values::spread_of` meets its contract (`spread-raised`).
 use native.Mathlib.Omega.{arith}
-use Rattle.values.specs.Sums.{spread-small, spread-raised}
+use Rattle.values.proofs.SumsLaws.{spread-small, spread-raised}
 use Rattle.values.proofs.spread_of.Statement.{statement}
 use Rattle.values.proofs.spread_of.Tie as tie
 

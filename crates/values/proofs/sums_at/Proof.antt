@@ -1,4 +1,4 @@
--- `values::sums_at` meets its contract. The invariant: both sums so far. Assumes nothing.
+-- `values::sums_at` meets its contract. The invariant: both sums so far.
 use mathlib.Core.Path.{_≡_, _∙_}
 use Prim.Native.Nat.{_*_, _-_, _≤_}
 use native.Mathlib.Omega.{arith}
@@ -6,7 +6,7 @@ use Rattle.meaning_curves.specs.Curve.{stretch}
 use Rattle.meaning_numbers.proofs.Root.{sq-le}
 use Rattle.meaning_numbers.proofs.Sum.{Σℕ-none, Σℕ-more}
 use Rattle.meaning_numbers.specs.Sum.{Σℕ, square}
-use Rattle.numbers.specs.Back.{in-arg, raised-back}
+use Rattle.numbers.proofs.Back.{in-arg, raised-back}
 use Rattle.numbers.specs.Raised.{raised, raised-le}
 use Rattle.values.proofs.sums_at.Statement.{statement}
 use Rattle.values.proofs.sums_at.Tie as tie

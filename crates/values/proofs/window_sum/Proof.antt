@@ -1,4 +1,4 @@
--- `values::window_sum` meets its contract: the raised sum less the bias (`window-raised`). Assumes nothing.
+-- `values::window_sum` meets its contract: the raised sum less the bias (`window-raised`).
 use borrow.Author.Needs.{needs}
 use mathlib.Core.Path.{_∙_, ap}
 use Prim.Native.Nat.{ℕ, _*_}
@@ -9,7 +9,7 @@ use mir.ValLaws.{toZ-ofZ}
 use Rattle.meaning_numbers.proofs.Sum.{Σℕ-le}
 use Rattle.meaning_curves.specs.Curve.{stretch}
 use Rattle.numbers.specs.Raised.{raised, raised-le}
-use Rattle.values.specs.Window.{window-raised}
+use Rattle.values.proofs.Window.{window-raised}
 use Rattle.values.proofs.window_sum.Statement.{statement}
 use Rattle.values.proofs.window_sum.Tie as tie
 

@@ -1,0 +1,14 @@
+-- The count of windows is reckoned without a wrap.
+use Prim.Native.Nat.{ℕ, _+_, _<_, _≤_, _^_}
+use native.Mathlib.Omega.{arith}
+use mathlib.Core.List.{List}
+use lib.IntN.{ℤ}
+use lib.ListN.{length}
+use Rattle.sums_slide.specs.Levels.{Lent}
+
+module _ {s : List ℤ} {w e : ℕ} (h : Lent s w e) where
+  pub plus-fits : length s + 1 < 2 ^ 64
+  plus-fits = omega (arith, h .long)
+
+  pub minus-fits : w ≤ length s + 1
+  minus-fits = omega (arith, h .fits)

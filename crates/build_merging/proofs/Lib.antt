@@ -1,0 +1,3 @@
+-- Laws of build_merging.
+pub mod Filed
+pub mod Standing

@@ -1,0 +1,2 @@
+-- Laws of build_parts.
+pub mod Lent

@@ -1,0 +1,149 @@
+-- Rows that tile the sums, packed as records, are rows that the pass can fill (`packed-rowed`).
+use mathlib.Core.Path.{_≡_, refl, sym, ap, _∙_}
+use mathlib.Core.Bool.{Bool, true, false}
+use mathlib.Core.List.{List, [], _∷_}
+use Prim.Native.Nat.{ℕ, zero, suc, _+_, _<_, _≤_}
+use native.Mathlib.Omega.{arith}
+use lib.IntN.{ℤ, pos, negsuc, _+ℤ_}
+use lib.ListN.{length, getD, length-map}
+use lib.Seq.{getD-take}
+use lib.Signed.{_≤ℤ_, _<ℤ_}
+use Rattle.meaning_numbers.specs.Place.{any}
+use Rattle.meaning_numbers.specs.Sum.{Σℕ}
+use Rattle.meaning_numbers.proofs.Sum.{Σℕ-same}
+use Rattle.meaning_numbers.proofs.Rep.{Rep, zarith}
+use Rattle.meaning_numbers.proofs.Tests.{by-test, clash}
+use Rattle.meaning_numbers.proofs.Member.{All, all-mem, mem-at}
+use Rattle.meaning_curves.specs.Curve.{windowSum}
+use Rattle.meaning_rows.specs.declared.Row.{Row}
+use Rattle.meaning_rows.specs.Range.{inside, lowOf, upOf, rowNumber}
+use Rattle.meaning_rows.specs.Runs.{runs, runCount}
+use Rattle.meaning_rows.specs.Build.{SetRow, entry, withRuns}
+use Rattle.meaning_rows.proofs.Range.{row-below, row-above, up-is}
+use Rattle.meaning_rows.proofs.Build.{Fine, Chain, Tiled, Ends, covered, mergedRows, tiled-fine, built-tiled, built-covers, built-ends}
+use Rattle.meaning_rows.proofs.LaidAt.{records-at}
+use Rattle.rows_records.specs.Records.{zeroRow}
+use Rattle.sums_slide.specs.Levels.{Lent, windowsOf, level-small}
+use Rattle.sums_slide.proofs.Levels.{level-is}
+use Rattle.rows_pack.specs.PackedAs.{PackedAs}
+use Rattle.build_fill.specs.Pass.{partStart}
+use Rattle.build_fill.specs.Pass.{Rowed}
+
+-- a row with no windows
+abbrev pub noRow : SetRow
+noRow = record { low = pos 0; up = pos 0; has = λ j. false }
+
+-- the test of each row
+abbrev pub tests : List SetRow → ℕ → ℕ → Bool
+tests l i = getD l i noRow .has
+
+-- an end of a range far from what 32 bits hold
+pub record Near (z : ℤ) : Type 0 where
+  pub least : negsuc 999999999 ≤ℤ z
+  pub most : z ≤ℤ pos 1000000000
+
+-- ---- by place
+
+-- where one of a list passes, it has a place
+pub record Passes (p : SetRow → Bool) (l : List SetRow) : Type 0 where
+  pub place : ℕ
+  pub below : place < length l
+  pub is : p (getD l place noRow) ≡ true
+
+any-at : (p : SetRow → Bool) (l : List SetRow) → any p l ≡ true → Passes p l
+unfolding any
+any-at p [] h = clash h refl
+any-at p (x ∷ l) h = by-test (p x)
+    (λ t. record { place = 0; below = omega arith; is = t })
+    (λ f. let o = any-at p l (rw f at h) in record { place = suc (o .place); below = omega (arith, o .below); is = o .is })
+
+module _ (sum : ℕ → ℤ) (n : ℕ) where
+  all-fine : (l : List SetRow) → Tiled sum n l → (i : ℕ) → i < length l → Fine sum n (getD l i noRow)
+  all-fine l t i h = all-mem (Fine sum n) l (tiled-fine sum n l t) (mem-at noRow l i h)
+
+  tail-tiled : (r : SetRow) (l : List SetRow) → Tiled sum n (r ∷ l) → Tiled sum n l
+  unfolding Tiled Chain
+  tail-tiled r [] t = tt
+  tail-tiled r (s ∷ l) t = t .2
+
+  -- a row lies below every row after it
+  first-apart : (r : SetRow) (l : List SetRow) → Tiled sum n (r ∷ l) → (k : ℕ) → k < length l → r .up ≤ℤ getD l k noRow .low
+  unfolding Tiled Chain
+  first-apart r [] t k h = absurd (omega arith)
+  first-apart r (s ∷ l) t zero h = t .1 .order
+  first-apart r (s ∷ l) t (suc k) h =
+      let a : r .up ≤ℤ s .low = t .1 .order in
+      let b : s .low <ℤ s .up = all-fine (s ∷ l) (t .2) 0 (omega arith) .wide in
+      let c : s .up ≤ℤ getD l k noRow .low = first-apart s l (t .2) k (omega arith) in
+      omega zarith
+
+  tiled-apart : (l : List SetRow) → Tiled sum n l → (i k : ℕ) → i < k → k < length l → getD l i noRow .up ≤ℤ getD l k noRow .low
+  tiled-apart [] t i k a b = absurd (omega arith)
+  tiled-apart (r ∷ l) t zero zero a b = absurd (omega arith)
+  tiled-apart (r ∷ l) t zero (suc k) a b = first-apart r l t k (omega arith)
+  tiled-apart (r ∷ l) t (suc i) zero a b = absurd (omega arith)
+  tiled-apart (r ∷ l) t (suc i) (suc k) a b = tiled-apart l (tail-tiled r l t) i k (omega arith) (omega arith)
+
+-- ---- what is packed
+
+module _ {n count : ℕ} {l : List SetRow} {rows : List Row} (p : PackedAs n l rows count) where
+  size-is : (i : ℕ) → length (withRuns n (getD l i noRow) .runs) ≡ runCount (tests l i) n
+  unfolding withRuns
+  size-is i = length-map (runs (tests l i) n) entry
+
+  record-at : (i : ℕ) → i < count → getD rows i zeroRow ≡ record { low = withRuns n (getD l i noRow) .low; up = withRuns n (getD l i noRow) .up; first = 0 + Σℕ i (λ y. length (withRuns n (getD l y noRow) .runs)); runs = length (withRuns n (getD l i noRow) .runs) }
+  record-at i h = sym (getD-take count rows i zeroRow h) ∙ ap (λ (m : List Row). getD m i zeroRow) (p .front) ∙ records-at noRow (withRuns n) zeroRow 0 l i (omega (arith, p .many))
+
+  low-at : (i : ℕ) → i < count → getD rows i zeroRow .low ≡ getD l i noRow .low
+  unfolding withRuns
+  low-at i h = ap (λ (r : Row). r .low) (record-at i h)
+
+  up-at : (i : ℕ) → i < count → getD rows i zeroRow .up ≡ getD l i noRow .up
+  unfolding withRuns
+  up-at i h = ap (λ (r : Row). r .up) (record-at i h)
+
+  first-at : (i : ℕ) → i < count → getD rows i zeroRow .first ≡ partStart count n (tests l) i
+  first-at i h =
+      let e : 0 + Σℕ i (λ y. length (withRuns n (getD l y noRow) .runs)) ≡ Σℕ i (λ y. length (withRuns n (getD l y noRow) .runs)) = omega arith in
+      ap (λ (r : Row). r .first) (record-at i h) ∙ e ∙ Σℕ-same i (λ y. length (withRuns n (getD l y noRow) .runs)) (λ y. runCount (tests l y) n) (λ y b. size-is y)
+
+  runs-at : (i : ℕ) → i < count → getD rows i zeroRow .runs ≡ runCount (tests l i) n
+  runs-at i h = ap (λ (r : Row). r .runs) (record-at i h) ∙ size-is i
+
+  pub packed-rowed : (sum : ℕ → ℤ) → Tiled sum n l → ((j : ℕ) → j < n → covered (sum j) l ≡ true) → All (Ends Near) l → Rowed (tests l) sum 0 n rows count
+  packed-rowed sum t c e = record {
+    within = p .within;
+    small = λ i h.
+        let m : i < length l = omega (arith, p .many) in
+        let a : Ends Near (getD l i noRow) = all-mem (Ends Near) l e (mem-at noRow l i m) in
+        let w : getD l i noRow .low <ℤ getD l i noRow .up = all-fine sum n l t i m .wide in
+        record { least = rw (low-at i h) (a .low-end .least); order = rw (low-at i h, up-at i h) (omega zarith); most = rw (up-at i h) (a .up-end .most) };
+    apart = λ i k a b. rw (up-at i (omega arith), low-at k b) (tiled-apart sum n l t i k a (omega (arith, p .many)));
+    holds = λ i j h a b. all-fine sum n l t i (omega (arith, p .many)) .exact j b ∙ sym (rw (low-at i h, up-at i h));
+    home = λ j a b. let o = any-at (λ r. inside (r .low) (r .up) (sum j)) l (c j b) in
+        record { at = o .place; below = omega (arith, o .below, p .many); is = all-fine sum n l t (o .place) (o .below) .exact j b ∙ o .is };
+    first = first-at;
+    runs = runs-at;
+  }
+
+-- ---- the rows of a build
+
+module _ {s : List ℤ} {w e : ℕ} (d g : ℕ) (one : 1 ≤ d) (most : d ≤ 1000000) (h : Lent s w e) where
+  near-ends : (j : ℕ) → Near (lowOf d (rowNumber d (windowSum s w j))) × Near (upOf d (rowNumber d (windowSum s w j)))
+  near-ends j =
+      let z = windowSum s w j in
+      let low : ℤ = lowOf d (rowNumber d z) in
+      let high : ℤ = upOf d (rowNumber d z) in
+      let a : low ≤ℤ z = row-below d z one in
+      let b : z <ℤ high = row-above d z one in
+      let u : high ≡ low +ℤ pos d = up-is d (rowNumber d z) in
+      let r : Rep z _ _ = level-is j h in
+      let v = level-small j h in (
+        record { least = omega (zarith, a, b, u, r, v, most, h .most, h .small); most = omega (zarith, a, b, u, r, v, most) },
+        record { least = omega (zarith, a, b, u, r, v, most, h .most, h .small); most = omega (zarith, a, b, u, r, v, most) },
+      )
+
+  pub built-rowed : {rows : List Row} {count : ℕ} → PackedAs (windowsOf s w) (mergedRows (windowSum s w) d g (windowsOf s w)) rows count
+      → Rowed (tests (mergedRows (windowSum s w) d g (windowsOf s w))) (windowSum s w) 0 (windowsOf s w) rows count
+  built-rowed p = packed-rowed p (windowSum s w) (built-tiled (windowSum s w) d (windowsOf s w) one g) (built-covers (windowSum s w) d (windowsOf s w) one g)
+      (built-ends (windowSum s w) d (windowsOf s w) one g Near (λ j b. near-ends j))

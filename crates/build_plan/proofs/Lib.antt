@@ -1,0 +1,2 @@
+-- Laws of build_plan.
+pub mod PlanLaws

@@ -1,0 +1,12 @@
+-- The range of each part of a query, and the offsets that meet all parts handed out.
+use mathlib.Core.List.{List}
+use Prim.Native.Nat.{ℕ}
+use lib.Dec.{eqb}
+use lib.IntN.{ℤ}
+use Rattle.meaning_rows.specs.Index.{Index}
+use Rattle.candidate_counts.proofs.LeadingLaws.{leading}
+use Rattle.candidate_counts.specs.Handed.{Handed}
+
+-- the offsets that meet all parts, handed out
+abbrev pub FoundAll : Index → (ℕ → ℤ × ℤ) → ℕ → ℕ → List ℕ → List ℕ → List ℕ → List ℕ → ℕ → ℕ → Type 0
+FoundAll x range parts offsets first last first′ last′ k found = Handed (λ j. eqb (leading x range parts j) parts) offsets first last first′ last′ k found

@@ -1,0 +1,3 @@
+-- Laws of candidate_find.
+pub mod Looks
+pub mod Only

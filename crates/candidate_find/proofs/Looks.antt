@@ -1,0 +1,243 @@
+-- Finding candidates, where nothing refuses the search before it looks: what its parts ask for is had (`put-asked`, `meet-asked`, `hand-asked`), and what they promise is the promise of finding (`gathered`).
+use mathlib.Core.Path.{_≡_, refl, sym, ap, _∙_}
+use mathlib.Core.Bool.{Bool, true, false, not}
+use mathlib.Core.List.{List, [], map}
+use Prim.Native.Nat.{ℕ, zero, suc, _+_, _-_, _*_, _/_, _<_, _≤_, min}
+use native.Mathlib.Omega.{arith}
+use native.Mathlib.Nat.{div-le-self, div-mul-le-self}
+use lib.Dec.{eqb}
+use borrow.Author.Tests.{eqb-true, eqb-false, not-true, not-false}
+use lib.IntN.{ℤ}
+use lib.ListN.{length, getD, length-replicate}
+use Rattle.meaning_filter.proofs.Candidates.{count}
+use Rattle.meaning_filter.proofs.Candidates.{count-cong}
+use Rattle.candidate_spans.specs.Held.{at}
+use Rattle.meaning_rows.specs.declared.Row.{Row}
+use Rattle.meaning_rows.specs.declared.Head.{Head}
+use Rattle.meaning_rows.specs.Index.{Index, lent, entries}
+use Rattle.meaning_rows.specs.Runs.{runs}
+use Rattle.meaning_rows.proofs.Runs.{runs-cong}
+use Rattle.meaning_filter.specs.declared.Ask.{Ask}
+use Rattle.meaning_filter.specs.Range.{rangeOf, ranges}
+use Rattle.meaning_filter.specs.Candidates.{admits}
+use Rattle.meaning_filter.specs.Matches.{candidateAt, candidateRuns, candidateCount}
+use Rattle.meaning_entries.specs.Buffers.{filled, pairRoom}
+use Rattle.meaning_entries.specs.Search.{SearchCall, SearchBuffers, lentSearch, question, searchPlan, searchCandidates, lookedAfter, searchBuffers}
+use Rattle.rows_judge.specs.declared.Judged.{Judged}
+use Rattle.rows_judge.specs.Judged.{judgedOf}
+use Rattle.rows_judge.proofs.Scan.{length-entries}
+use Rattle.candidate_counts.proofs.LeadingLaws.{leading, Counted}
+use Rattle.candidate_counts.proofs.Leading.{leading-all}
+use Rattle.candidate_filter.specs.declared.Span.{Span}
+use Rattle.candidate_filter.specs.Met.{clampOf, metSpan}
+use Rattle.candidate_filter.proofs.Parts.{FoundAll}
+use Rattle.candidate_filter.proofs.Meaning.{cleared-zeros, found-all}
+use Rattle.candidate_filter.proofs.Spanned.{span-admits, span-inside, span-few, clamp-admits, climbs}
+use Rattle.candidate_spans.specs.Held.{RangesReady, RangesHeld}
+use Rattle.candidate_filter.proofs.Stored.{raised-most, lowered}
+use Rattle.candidate_spans.specs.Met.{spanAt, MeetReady, AllMet}
+use Rattle.candidate_spans.specs.Raised.{stretchHit}
+use Rattle.candidate_spans.proofs.Raised.{counted-all}
+use Rattle.candidate_plan.specs.Tables.{planOf}
+use Rattle.candidate_plan.specs.Allowed.{Allowed, thePlan, plan-is, goes-on, allowed}
+use Rattle.refusals.specs.declared.Refusal.{Refusal}
+use Rattle.refusals.specs.Refusal.{refusalOf, asRefusal}
+use Rattle.candidate_find.specs.declared.Sought.{Sought}
+use Rattle.candidate_find.specs.Sought.{stopped, HandReady, HandedOut, SoughtKept}
+
+length-cleared : (l : List ℕ) → length (filled 0 [] l) ≡ length l
+unfolding filled
+length-cleared l = omega (arith, length-replicate {A = ℕ} (length l - 0) 0)
+
+-- a buffer is filled by its length
+filled-same : (l a b : List ℕ) → length a ≡ length b → _≡_ {A = List ℕ} (filled 0 l a) (filled 0 l b)
+unfolding filled
+filled-same l a b e = rw e
+
+-- a query has at most as many parts as there are windows
+more : (k w : ℕ) → 1 ≤ w → k + w ≤ suc k * w
+more k zero a = absurd (omega arith)
+more k (suc w) a = omega arith
+
+parts-le : (m w n : ℕ) → 1 ≤ w → w ≤ m → m ≤ n → m / w ≤ n + 1 - w
+parts-le m w n a b c = by (m / w) (div-mul-le-self m w)
+  where
+    by : (k : ℕ) → k * w ≤ m → k ≤ n + 1 - w
+    by zero h = omega arith
+    by (suc k) h = omega (arith, more k w a)
+
+module _ (s : List ℤ) (h : Head) (rows : List Row) (left right : List ℕ) (ask : Ask) (q : List ℤ) (b : SearchBuffers) (z : thePlan s h rows left right ask q b .number ≡ 0) where
+  abbrev m : ℕ
+  m = length q
+
+  abbrev w : ℕ
+  w = h .window
+
+  abbrev p : ℕ
+  p = m / w
+
+  abbrev n : ℕ
+  n = length s + 1 - m
+
+  abbrev x : Index
+  x = lent h rows left right
+
+  abbrev call : SearchCall
+  call = lentSearch s h rows left right ask q
+
+  abbrev range : ℕ → ℤ × ℤ
+  range = rangeOf (ask .kind) (at q) m (ask .limits) w
+
+  a : Allowed s h x ask q (pairRoom (b .left) (b .right)) (length (b .scratch))
+  a = allowed s h rows left right ask q b z
+
+  window-in : (1 ≤ w) × (w ≤ 256)
+  window-in = (a .formed .head .window .least, a .formed .head .window .most)
+
+  pub put-asked : RangesReady (ask .kind) q (ask .limits) w (b .left) (b .right)
+  put-asked =
+      let k = parts-le m w (length s) (window-in .0) (a .window) (a .inside) in
+      record {
+        values = a .query;
+        some = a .some;
+        few = a .few;
+        not-flat = a .not-flat;
+        window = window-in .0;
+        limits = record { window = window-in .1; threshold = a .threshold; scale = omega (arith, a .scale-low); scale-most = a .scale-high; shift = a .shift };
+        first-room = omega (arith, k, a .candidates-fit);
+        last-room = omega (arith, k, a .candidates-fit);
+      }
+
+  module _ {first₁ last₁ : List ℕ} (held : RangesHeld (ask .kind) q (ask .limits) w (b .left) (b .right) first₁ last₁) where
+    pub meet-asked : MeetReady rows p first₁ last₁
+    meet-asked = record {
+      climbs = climbs x (a .formed);
+      few = λ lo hi. let f = span-few x (a .formed) lo hi in (omega (arith, f .0, a .formed .head .windows .most), omega (arith, f .1, a .formed .head .windows .most));
+      ends = λ i k. record {
+        in-first = omega (arith, held .first-long, put-asked .first-room);
+        in-last = omega (arith, held .last-long, put-asked .last-room);
+        first-most = rw (held .held .first-at i (omega arith) k) (raised-most (range i .0));
+        last-most = rw (held .held .last-at i (omega arith) k) (raised-most (range i .1));
+      };
+    }
+
+    abbrev met : ℕ → Span
+    met i = metSpan rows (clampOf (range i .0)) (clampOf (range i .1))
+
+    span-is : (i : ℕ) → i < p → spanAt rows first₁ last₁ i ≡ met i
+    span-is i k = rw (held .held .first-at i (omega arith) k, held .held .last-at i (omega arith) k, lowered (range i .0), lowered (range i .1))
+
+    module _ {first₂ last₂ : List ℕ} (all : AllMet rows p first₁ last₁ first₂ last₂) where
+      from-is : (i : ℕ) → i < p → getD first₂ i 0 ≡ met i .from
+      from-is i k = all .held .first-at i (omega arith) k ∙ ap (λ (t : Span). t .from) (span-is i k)
+
+      to-is : (i : ℕ) → i < p → getD last₂ i 0 ≡ met i .to
+      to-is i k = all .held .last-at i (omega arith) k ∙ ap (λ (t : Span). t .to) (span-is i k)
+
+      inside : (i : ℕ) → i < p → getD last₂ i 0 ≤ length (entries left right)
+      inside i k = rw (to-is i k) (span-inside x (a .formed) (clampOf (range i .0)) (clampOf (range i .1)))
+
+      pub hand-asked : HandReady s h left right q first₂ last₂ (b .scratch)
+      hand-asked = record {
+        long = a .long;
+        some = a .some;
+        inside = a .inside;
+        window = window-in .0;
+        window-most = window-in .1;
+        stretches = record {
+          most = omega (arith, div-le-self m w, a .few);
+          window = window-in .1;
+          first-room = omega (arith, all .first-long, held .first-long, put-asked .first-room);
+          last-room = omega (arith, all .last-long, held .last-long, put-asked .last-room);
+          inside-left = λ i k. omega (arith, inside i k, length-entries left right);
+          inside-right = λ i k. omega (arith, inside i k, length-entries left right);
+          room = omega (arith, length-cleared (b .scratch), a .scratch-fits, a .window);
+          zeros = cleared-zeros (b .scratch);
+        };
+        room = omega (arith, a .scratch-fits, a .window);
+        first-room = omega (arith, all .first-long, held .first-long, a .candidates-fit, a .window);
+        last-room = omega (arith, all .last-long, held .last-long, a .candidates-fit, a .window);
+      }
+
+      hit-is : (i j : ℕ) → i < p → stretchHit left right first₂ last₂ w i j ≡ admits x (range i) (j + i * w)
+      hit-is i j k = rw (from-is i k, to-is i k) (span-admits x (a .formed) (clampOf (range i .0)) (clampOf (range i .1)) (j + i * w) ∙ clamp-admits x (a .formed) (range i) (j + i * w))
+
+      module _ {t : Sought} {left′ right′ scratch : List ℕ} (e : HandedOut s h left right q first₂ last₂ (b .scratch) t left′ right′ scratch) where
+        counted : Counted x range n p (e .counts)
+        counted = counted-all x range (stretchHit left right first₂ last₂ w) n p (e .counts) hit-is (e .counted)
+
+        found : FoundAll x range p n first₂ last₂ left′ right′ (t .runs) (t .candidates)
+        found = found-all x range p n (e .counts) counted (e .handed)
+
+        abbrev lead : ℕ → Bool
+        lead j = eqb (leading x range p j) p
+
+        lead-is : (j : ℕ) → lead j ≡ candidateAt x (question call) j
+        unfolding candidateAt ranges question
+        lead-is j = leading-all x range p j
+
+        runs-are : runs lead n ≡ candidateRuns x (question call)
+        unfolding candidateRuns question
+        runs-are = runs-cong lead (candidateAt x (question call)) n (λ j _. lead-is j)
+
+        count-is : count lead n ≡ candidateCount x (question call)
+        unfolding candidateCount question
+        count-is = count-cong lead (candidateAt x (question call)) n (λ j _. lead-is j)
+
+        left-is : left′ ≡ lookedAfter call b .left
+        unfolding lookedAfter
+        left-is = found .left-is ∙ ap (λ (y : List (ℕ × ℕ)). filled 0 (map (λ t. t .0) y) first₂) runs-are ∙ filled-same _ first₂ (b .left) (all .first-long ∙ held .first-long)
+
+        right-is : right′ ≡ lookedAfter call b .right
+        unfolding lookedAfter
+        right-is = found .right-is ∙ ap (λ (y : List (ℕ × ℕ)). filled 0 (map (λ t. t .1) y) last₂) runs-are ∙ filled-same _ last₂ (b .right) (all .last-long ∙ held .last-long)
+
+        -- nothing refuses
+        unrefused : t .refusal ≡ refusalOf (searchPlan call b)
+        unfolding asRefusal
+        unrefused = e .goes-on ∙ sym (ap asRefusal (goes-on s h rows left right ask q b z))
+
+        pub counted-so : (t .runs ≡ length (candidateRuns x (question call))) × (t .candidates ≡ searchCandidates call)
+        counted-so = (found .count-is ∙ ap length runs-are, found .found-is ∙ count-is)
+
+        pub cleared-so : scratch ≡ lookedAfter call b .scratch
+        unfolding lookedAfter
+        cleared-so = e .cleared
+
+module _ (s : List ℤ) (h : Head) (rows : List Row) (left right : List ℕ) (ask : Ask) (q : List ℤ) (first last scratch : List ℕ) where
+  abbrev B : SearchBuffers
+  B = searchBuffers first last scratch [] []
+
+  abbrev C : SearchCall
+  C = lentSearch s h rows left right ask q
+
+  module _ (z : thePlan s h rows left right ask q B .number ≡ 0) {first₁ last₁ : List ℕ} (held : RangesHeld (ask .kind) q (ask .limits) (h .window) first last first₁ last₁)
+      {first₂ last₂ : List ℕ} (all : AllMet rows (length q / h .window) first₁ last₁ first₂ last₂) where
+    pub gathered : {t : Sought} {first′ last′ scratch′ : List ℕ} → HandedOut s h left right q first₂ last₂ scratch t first′ last′ scratch′ → SoughtKept C first last scratch t first′ last′ scratch′
+    gathered {t} e = record {
+      judged = unrefused s h rows left right ask q B z held all e;
+      stays = λ f. absurd (f (ap (λ (r : Refusal). r .number) (e .goes-on)));
+      uncounted = λ f. absurd (f (ap (λ (r : Refusal). r .number) (e .goes-on)));
+      counted = λ _. counted-so s h rows left right ask q B z held all e;
+      handed = λ _. (left-is s h rows left right ask q B z held all e, right-is s h rows left right ask q B z held all e, cleared-so s h rows left right ask q B z held all e);
+    }
+
+  -- a plan refuses
+  pub halted : (thePlan s h rows left right ask q B .number ≡ 0 → ⊥) → SoughtKept C first last scratch (stopped (thePlan s h rows left right ask q B)) first last scratch
+  halted f = record {
+    judged = plan-is s h rows left right ask q B;
+    stays = λ _. (refl, refl, refl);
+    uncounted = λ _. (refl, refl);
+    counted = λ e. absurd (f e);
+    handed = λ e. absurd (f e);
+  }
+
+module _ (s : List ℤ) (h : Head) (rows : List Row) (left right : List ℕ) (ask : Ask) (q : List ℤ) (first last scratch : List ℕ) {j : Judged} {p : Refusal} (judged : j ≡ judgedOf (lent h rows left right)) (planned : p ≡ planOf s h j ask q (min (length first) (length last)) (length scratch)) where
+  plan-here : p ≡ thePlan s h rows left right ask q (searchBuffers first last scratch [] [])
+  plan-here = planned ∙ ap (λ (i : Judged). planOf s h i ask q (min (length first) (length last)) (length scratch)) judged
+
+  pub halts : not (eqb (p .number) 0) ≡ true → {t : Sought} → t ≡ stopped p → SoughtKept (lentSearch s h rows left right ask q) first last scratch t first last scratch
+  halts f e = rw (e, plan-here) (halted s h rows left right ask q first last scratch (λ z. eqb-false (p .number) 0 (not-true (eqb (p .number) 0) f) (ap (λ (r : Refusal). r .number) plan-here ∙ z)))
+
+  pub goes : not (eqb (p .number) 0) ≡ false → thePlan s h rows left right ask q (searchBuffers first last scratch [] []) .number ≡ 0
+  goes f = sym (ap (λ (r : Refusal). r .number) plan-here) ∙ eqb-true (p .number) 0 (not-false (eqb (p .number) 0) f)

@@ -1,0 +1,38 @@
+-- The promise of finding candidates leaves one outcome.
+use mathlib.Core.Path.{_≡_, _∙_, sym, ap}
+use mathlib.Core.List.{List}
+use Prim.Native.Nat.{ℕ}
+use lib.Dec.{eqb}
+use borrow.Author.Tests.{eqb-true, eqb-false}
+use Rattle.meaning_filter.proofs.Candidates.{by-test}
+use Rattle.meaning_entries.specs.Search.{SearchCall}
+use Rattle.refusals.specs.declared.Refusal.{Refusal}
+use Rattle.candidate_find.specs.declared.Sought.{Sought}
+use Rattle.candidate_find.specs.Sought.{SoughtKept}
+
+module _ (c : SearchCall) (left right scratch : List ℕ) {t u : Sought} {left′ right′ scratch′ left″ right″ scratch″ : List ℕ} where
+  pub sought-only : SoughtKept c left right scratch t left′ right′ scratch′ → SoughtKept c left right scratch u left″ right″ scratch″ → (t ≡ u) × (left′ ≡ left″) × (right′ ≡ right″) × (scratch′ ≡ scratch″)
+  sought-only k l =
+      let same : t .refusal ≡ u .refusal = k .judged ∙ sym (l .judged) in
+      let number : u .refusal .number ≡ t .refusal .number = sym (ap (λ (r : Refusal). r .number) same) in
+      by-test (eqb (t .refusal .number) 0)
+      (λ yes.
+      let z = eqb-true (t .refusal .number) 0 yes in
+      let y = number ∙ z in
+      let runs = k .counted z .0 ∙ sym (l .counted y .0) in
+      let candidates = k .counted z .1 ∙ sym (l .counted y .1) in (
+        λ i. record { refusal = same i; runs = runs i; candidates = candidates i },
+        k .handed z .0 ∙ sym (l .handed y .0),
+        k .handed z .1 ∙ sym (l .handed y .1),
+        k .handed z .2 ∙ sym (l .handed y .2),
+      ))
+      (λ no.
+      let z = eqb-false (t .refusal .number) 0 no in
+      let y : u .refusal .number ≡ 0 → ⊥ = λ e. z (sym number ∙ e) in
+      let runs = k .uncounted z .0 ∙ sym (l .uncounted y .0) in
+      let candidates = k .uncounted z .1 ∙ sym (l .uncounted y .1) in (
+        λ i. record { refusal = same i; runs = runs i; candidates = candidates i },
+        k .stays z .0 ∙ sym (l .stays y .0),
+        k .stays z .1 ∙ sym (l .stays y .1),
+        k .stays z .2 ∙ sym (l .stays y .2),
+      ))

@@ -1,0 +1,2 @@
+-- What the contracts of candidate_find cite.
+pub mod Sought

@@ -1,0 +1,2 @@
+-- Laws of candidate_plan.
+pub mod Cases

@@ -1,0 +1,3 @@
+-- Laws of check_answer.
+pub mod AnswerLaws
+pub mod Search

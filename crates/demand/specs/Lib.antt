@@ -1,2 +1,0 @@
--- What the contracts of demand 3 of the code cite.
-pub mod Both

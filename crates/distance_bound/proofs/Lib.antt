@@ -1,0 +1,2 @@
+-- Laws of distance_bound.
+pub mod Excess

@@ -1,2 +1,0 @@
--- What a value lies outside an envelope, of values that are passed on.
-pub mod Excess

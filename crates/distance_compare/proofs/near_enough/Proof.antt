@@ -1,7 +1,0 @@
--- `distance_compare::near_enough` meets its contract. Assumes nothing.
-use Rattle.distance_compare.specs.Answer.{yes-answer, no-answer}
-use Rattle.distance_compare.proofs.near_enough.Statement.{statement}
-use Rattle.distance_compare.proofs.near_enough.Tie as tie
-
-pub near-enough-spec : {M : Type 1} → statement M
-near-enough-spec = tie.close (tie.spec (λ c. no-answer (c .if1 .taken)) (λ c. yes-answer (c .if1 .left)))

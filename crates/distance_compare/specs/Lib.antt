@@ -1,4 +1,0 @@
--- A distance within a threshold, and normalised values within a limit.
-pub mod Answer
-pub mod Room
-pub mod Within

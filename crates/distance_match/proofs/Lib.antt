@@ -1,0 +1,4 @@
+-- Laws of distance_match.
+pub mod AlikeLaws
+pub mod Matched
+pub mod Shift

@@ -1,0 +1,3 @@
+-- Laws of distance_normal.
+pub mod Normal
+pub mod Stretch

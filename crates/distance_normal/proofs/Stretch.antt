@@ -1,0 +1,21 @@
+-- The normalised values of a stretch, in room that is lent: what making them asks, some of them made, all of them made. They are in the limits of values (`normalised-in`).
+use mathlib.Core.List.{List}
+use Prim.Native.Nat.{ℕ, _<_, _≤_}
+use native.Mathlib.Omega.{arith}
+use lib.IntN.{ℤ, pos, negsuc, natAbs}
+use Rattle.meaning_numbers.proofs.Rep.{zarith}
+use Rattle.meaning_curves.specs.Curve.{spread}
+use Rattle.meaning_curves.specs.Normal.{normalised}
+use Rattle.meaning_curves.proofs.Sizes.{normal-small}
+use Rattle.meaning_curves.proofs.Values.{InLimits, AllIn, all-in}
+use Rattle.distance_normal.specs.Stretch.{Normalised}
+
+in-size : (x : ℤ) → natAbs x ≤ 3200 → InLimits x
+in-size (pos n) h = record { low = omega zarith; high = omega zarith }
+in-size (negsuc n) h = record { low = omega zarith; high = omega zarith }
+
+pub value-in : (s : ℕ → ℤ) (m k : ℕ) → 0 < spread s m → k < m → m ≤ 1024 → InLimits (normalised s m k)
+value-in s m k some b short = in-size _ (normal-small s m k some b short)
+
+pub normalised-in : {s : ℕ → ℤ} {m : ℕ} {out : List ℤ} → 0 < spread s m → m ≤ 1024 → Normalised s m out → AllIn out
+normalised-in {s} {m} {out} some short h = all-in out (λ k l. let b : k < m = omega (arith, h .long) in rw (h .at k b) (value-in s m k some b short))

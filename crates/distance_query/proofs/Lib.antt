@@ -1,0 +1,2 @@
+-- Laws of distance_query.
+pub mod Ready

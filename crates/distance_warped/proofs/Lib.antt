@@ -1,0 +1,3 @@
+-- Laws of distance_warped.
+pub mod Rest
+pub mod Rows

@@ -1,0 +1,4 @@
+-- Laws of distance_within.
+pub mod Answer
+pub mod Room
+pub mod Within

@@ -1,0 +1,48 @@
+-- `distance_within::compare` meets its contract: the straight distance is the distance at band 0, and the warped one at any band.
+use borrow.Author.Needs.{needs}
+use mathlib.Core.Path.{_∙_, ap, sym}
+use Prim.Native.Nat.{ℕ}
+use native.Mathlib.Omega.{arith}
+use lib.ListN.{length}
+use lib.IntN.{ℤ}
+use Rattle.meaning_curves.specs.Curve.{at, stretch}
+use Rattle.meaning_curves.proofs.Straight.{distance-is}
+use Rattle.distance_within.specs.Answer.{nearness}
+use Rattle.distance_within.proofs.Answer.{within-answer, straight-distance}
+use Rattle.distance_within.proofs.compare.Statement.{statement}
+use Rattle.distance_within.proofs.compare.Tie as tie
+
+-- the stretch and the curve
+module _ (o : tie.Start) where
+  abbrev S : ℕ → ℤ
+  S = stretch (o .args .s .now) (o .args .from)
+
+  abbrev Q : ℕ → ℤ
+  Q = at (o .args .curve .now)
+
+  abbrev m : ℕ
+  m = length (o .args .curve .now)
+
+returns : tie.Need-returns
+returns c =
+    let o = c .before .before .before .before in
+    c .near-enough .ensures ∙ within-answer (c .before .straight .ensures)
+    ∙ ap (λ (d : ℕ). nearness d (o .args .threshold)) (straight-distance (S o) (Q o) (m o) (omega arith))
+
+returns-2 : tie.Need-returns-2
+returns-2 c =
+    let o = c .before .before .before .before .before .before .before in
+    c .near-enough2 .ensures ∙ within-answer (c .before .before .before .warped-in .ensures)
+    ∙ ap (λ (d : ℕ). nearness d (o .args .threshold)) (sym (distance-is (S o) (Q o) (o .args .b) (m o) (o .pre .1 .0 .0)))
+
+pub compare-spec : {M : Type 1} → statement M
+compare-spec =
+    tie.close
+    (tie.spec
+    (λ c κs. search needs)
+    (λ c κs. search needs)
+    returns
+    (λ c κs. search needs)
+    (λ c κs. search needs)
+    (λ c. search needs)
+    returns-2)

@@ -1,0 +1,11 @@
+-- The runs of an index text in the run buffer, as a pass over its bytes stores them.
+use mathlib.Core.List.{List}
+use Prim.Native.Nat.{ℕ}
+use Rattle.entry_read.specs.Runs.{Columns}
+
+-- a row's end
+abbrev pub shutColumns : Columns → Columns
+shutColumns t = t
+
+abbrev pub startColumns : List ℕ → List ℕ → Columns
+startColumns left right = record { left = 0; count = 0; lefts = left; rights = right }

@@ -1,0 +1,24 @@
+-- Checking candidates: what it asks for (`FinishReady`) and what is promised of it (`Finished`).
+use mathlib.Core.Path.{_≡_}
+use mathlib.Core.List.{List}
+use Prim.Native.Nat.{ℕ}
+use lib.IntN.{ℤ}
+use Rattle.meaning_rows.specs.Runs.{runs}
+use Rattle.meaning_filter.specs.declared.Ask.{Ask}
+use Rattle.meaning_filter.specs.Matches.{offsetCount}
+use Rattle.meaning_entries.specs.declared.Found.{Found}
+use Rattle.check_list.specs.Members.{members}
+use Rattle.check_list.specs.Found.{RunsLent, lentRuns, found}
+use Rattle.check_answer.specs.Answer.{wanted, Limited, Answers}
+use Rattle.candidate_find.specs.declared.Sought.{Sought}
+use Rattle.entry_search.specs.Refused.{refusedAs}
+
+-- what checking them asks for
+pub record FinishReady (ask : Ask) (s q : List ℤ) (t : Sought) (first last : List ℕ) : Type 0 where
+  pub limited : Limited (ask .kind) s q (ask .limits)
+  pub lent : RunsLent (offsetCount (wanted ask s q)) first last (t .runs)
+
+-- checking them: a refusal is answered and alters nothing; else the matches among them are listed
+pub record Finished (ask : Ask) (s q : List ℤ) (t : Sought) (first last offsets distances : List ℕ) (answer : Found) (offsets′ distances′ : List ℕ) : Type 0 where
+  pub refused : (t .refusal .number ≡ 0 → ⊥) → (answer ≡ refusedAs (t .refusal)) × (offsets′ ≡ offsets) × (distances′ ≡ distances)
+  pub answered : t .refusal .number ≡ 0 → Answers (found (wanted ask s q) (members (lentRuns first last (t .runs)))) (t .candidates) answer offsets distances offsets′ distances′

@@ -1,0 +1,220 @@
+-- The runs of the extension's rows counted: what the counting asks (`countable`), whether the first new run joins (`joins`), and that the counts, less one where it does, are those of the extension's rows (`matches`).
+use mathlib.Core.Path.{_≡_, refl, sym, ap, _∙_}
+use mathlib.Core.Bool.{Bool, true, false, and-false}
+use mathlib.Core.List.{List, [], _∷_, map}
+use Prim.Native.Nat.{ℕ, zero, suc, _+_, _-_, _*_, _<_, _≤_}
+use native.Mathlib.Omega.{arith}
+use native.Mathlib.Decide.{decLt}
+use lib.Dec.{leb, eqb}
+use lib.IntN.{ℤ, pos, natAbs}
+use lib.ListN.{length, getD, set, length-map}
+use lib.Seq.{getD-set-same, getD-set-other}
+use borrow.Author.Tests.{lt-ltb, le-ltb, eqb-true, eqb-false, eq-eqb, ne-eqb}
+use Rattle.meaning_numbers.specs.Sum.{bit}
+use Rattle.meaning_numbers.proofs.Sum.{Σℕ-same}
+use Rattle.meaning_numbers.proofs.Count.{bit-true, bit-false}
+use Rattle.meaning_numbers.proofs.Rep.{zarith, z-sub}
+use Rattle.meaning_numbers.proofs.Tests.{by-test, clash}
+use Rattle.meaning_curves.specs.Curve.{windowSum, windowCount}
+use Rattle.meaning_rows.specs.declared.Row.{Row}
+use Rattle.meaning_rows.specs.Runs.{before, runCount}
+use Rattle.meaning_rows.specs.Index.{Index, RangeRow, entries}
+use Rattle.meaning_rows.specs.Build.{withRuns}
+use Rattle.meaning_rows.specs.Extend.{grown}
+use Rattle.meaning_rows.proofs.Judge.{WellFormed}
+use Rattle.meaning_rows.proofs.Runs.{runs-le}
+use Rattle.meaning_rows.proofs.Extend.{Extendable}
+use Rattle.meaning_rows.proofs.Woven.{wovenRows, woven-ascends, grownRuns}
+use Rattle.meaning_rows.proofs.Grown.{lastEnds, old-count, length-entries}
+use Rattle.rows_records.specs.Records.{zeroRow}
+use Rattle.sums_slide.specs.Levels.{level, Lent}
+use Rattle.extend_count.specs.Count.{isRow}
+use Rattle.meaning_rows.proofs.Columns.{getD-past}
+use Rattle.sums_slide.specs.Ends.{raisedEnd}
+use Rattle.extend_count.specs.Rank.{rank}
+use Rattle.extend_count.specs.Count.{rowFrom, Countable, Counted}
+use Rattle.extend_count.proofs.Count.{counted-starts}
+use Rattle.extend_count.specs.Listed.{listed, endOf, sizeOf, Listable}
+use Rattle.extend_count.proofs.Listed.{listed-at, length-listed}
+use Rattle.extend_count.proofs.Extension.{Ends, climbs, new-row, begun, first-in, has-first, first-joins, other-counts, first-count}
+use Rattle.extend_new.specs.New.{lessJoin}
+use Rattle.extend_parts.proofs.OldRuns.{rowHas}
+use Rattle.extend_parts.proofs.Records.{Matches}
+use Rattle.extend_rows.specs.Steps.{firstNew, joinsOf, SumAsked}
+use Rattle.extend_runs.proofs.Rowed.{ends-limits, size-is, total-most}
+use Rattle.extend_runs.proofs.Joined.{Joins}
+
+less-yes : {joins : Bool} (i : ℕ) (counts : List ℕ) → joins ≡ true → lessJoin joins i counts ≡ set counts i (getD counts i 0 - 1)
+unfolding lessJoin
+less-yes i counts t = rw t refl
+
+less-no : {joins : Bool} (i : ℕ) (counts : List ℕ) → joins ≡ false → lessJoin joins i counts ≡ counts
+unfolding lessJoin
+less-no i counts f = rw f refl
+
+-- an entry of a mapped list, whatever stands past it
+map-at : (G : Row → RangeRow) (o : RangeRow) (l : List Row) (i : ℕ) → i < length l → getD (map G l) i o ≡ G (getD l i zeroRow)
+map-at G o [] i h = absurd (omega arith)
+map-at G o (r ∷ l) zero h = refl
+map-at G o (r ∷ l) (suc i) h = map-at G o l i (omega arith)
+
+module _ (x : Index) (s : List ℤ) (g : WellFormed x) (long : Extendable x s) (e : ℕ) (lent : Lent s (natAbs (x .window)) e) (left right : List ℕ) (is : x .runs ≡ entries left right)
+    (rows : List Row) (row-at : (i : ℕ) → getD rows i zeroRow ≡ getD (wovenRows x s g long) i zeroRow) (in-rows : length (wovenRows x s g long) ≤ length rows) where
+  abbrev w : ℕ
+  w = natAbs (x .window)
+
+  abbrev old : ℕ
+  old = natAbs (x .windows)
+
+  abbrev n : ℕ
+  n = windowCount (length s) w
+
+  abbrev sum : ℕ → ℤ
+  sum = windowSum s w
+
+  abbrev made : List Row
+  made = wovenRows x s g long
+
+  abbrev size : ℕ
+  size = length made
+
+  abbrev at : ℕ → Row
+  at i = getD made i zeroRow
+
+  abbrev P : ℕ → ℕ → Bool
+  P = rowHas x s g long
+
+  abbrev G : Row → RangeRow
+  G = grownRuns x sum old n
+
+  abbrev bias : ℕ
+  bias = 10000 * w + e
+
+  pub listable : (ups counts : ℕ) → size ≤ ups → size ≤ counts → Listable rows size bias ups counts
+  listable ups counts a b = record {
+    in-rows = in-rows;
+    in-ups = a;
+    in-counts = b;
+    ends = λ i l. let q = ends-limits x s g long i l .1 in let lo = q .0 in let hi = q .1 in
+        rw (row-at i) (record { least = omega (zarith, lo, z-sub (pos 0) (pos 4000000)); most = hi; small = omega (arith, lent .most, lent .small) });
+  }
+
+  module _ (ups counts right₁ left₁ : List ℕ) (lu : ups ≡ listed (endOf rows bias) size right₁) (lc : counts ≡ listed (sizeOf rows) size left₁) (in-ups : size ≤ length right₁) (in-counts : size ≤ length left₁) where
+    ends : Ends made bias ups
+    ends = record { end = λ i l. ap (λ (m : List ℕ). getD m i 0) lu ∙ listed-at (endOf rows bias) size right₁ in-ups i l ∙ ap (λ (r : Row). raisedEnd bias (r .up)) (row-at i) }
+
+    sizes : (i : ℕ) → i < size → getD counts i 0 ≡ at i .runs
+    sizes i l = ap (λ (m : List ℕ). getD m i 0) lc ∙ listed-at (sizeOf rows) size left₁ in-counts i l ∙ ap (λ (r : Row). r .runs) (row-at i)
+
+    pub old-size : (i : ℕ) → i < size → runCount (P i) old ≡ at i .runs
+    old-size i l = old-count x sum (at i) (begun x s g long e lent ups ends i l)
+
+    pub countable : Countable s w e old ups size counts
+    countable = record {
+      lent = lent;
+      some-left = long .longer;
+      in-ups = omega (arith, ap length lu, length-listed (endOf rows bias) size right₁);
+      in-counts = omega (arith, ap length lc, length-listed (sizeOf rows) size left₁);
+      climbing = climbs made bias ups (woven-ascends x s g long) ends;
+      has-row = new-row x s g long e lent ups ends;
+      small = λ i l. omega (arith, sizes i l, old-size i l, runs-le (P i) old, long .longer, lent .long, lent .some);
+    }
+
+    module _ (counts′ : List ℕ) (c : Counted s w e old ups size counts n counts′) (i : ℕ) (first-new : old < n → i ≡ rank ups size (level s w e old)) where
+      abbrev r : Row
+      r = getD rows i zeroRow
+
+      abbrev J : Bool
+      J = joinsOf s w old r right
+
+      pub row-fits : r .first + r .runs ≤ length right
+      row-fits = rw (row-at i) (elim (decLt i size) [
+        | yes l ↦ omega (arith, begun x s g long e lent ups ends i l .fits, ap length is, length-entries left right)
+        | no f ↦ rw (getD-past zeroRow made i (omega arith)) (omega arith)
+      ])
+
+      no-join : n ≤ old → J ≡ false
+      unfolding joinsOf firstNew lastEnds
+      no-join h = rw (le-ltb old n h, ne-eqb (getD right (r .first + r .runs - 1) 0 + 1) 0 (λ q. omega arith)) (and-false (leb 1 (r .runs)))
+
+      module _ (some : old < n) where
+        abbrev first : ℕ
+        first = rank ups size (level s w e old)
+
+        pub row-in : i < size
+        row-in = rw (first-new some) (first-in x s g long e lent ups ends counts counts′ sizes c some left right is)
+
+        ends-is : J ≡ lastEnds (getD made first zeroRow) right old
+        unfolding joinsOf firstNew
+        ends-is = rw (lt-ltb old n some) (ap (λ (q : Row). lastEnds q right old) (row-at i) ∙ ap (λ (k : ℕ). lastEnds (getD made k zeroRow) right old) (first-new some))
+
+        before-is : before (P i) old ≡ J
+        before-is = ap (λ (k : ℕ). before (P k) old) (first-new some) ∙ first-joins x s g long e lent ups ends counts counts′ sizes c some left right is ∙ sym ends-is
+
+        has-is : (k : ℕ) → k < size → P k old ≡ eqb first k
+        has-is k l = has-first x s g long e lent ups ends counts counts′ sizes c some left right is k l
+
+        joins-new : Joins x s g long i J
+        joins-new = record {
+          new = λ t. some;
+          row = λ t. row-in;
+          holds = λ t. has-is i row-in ∙ eq-eqb first i (sym (first-new some));
+          goes-on = λ t. before-is ∙ t;
+          fresh = λ f k l m t. let q : k ≡ i = sym (eqb-true first k (sym (has-is k l) ∙ t)) ∙ sym (first-new some) in ap (λ (k : ℕ). before (P k) old) q ∙ before-is ∙ f;
+        }
+
+        own-count : getD counts′ i 0 ≡ runCount (P i) n + bit J
+        own-count =
+            let a = sym (first-new some) in
+            let b = sym ends-is in
+            ap (λ (k : ℕ). getD counts′ k 0) (first-new some) ∙ first-count x s g long e lent ups ends counts counts′ sizes c some left right is ∙ (λ j. runCount (P (a j)) n + bit (b j))
+
+        count-new : (k : ℕ) → k < size → getD (lessJoin J i counts′) k 0 ≡ runCount (P k) n
+        count-new k l = by-test (eqb k i)
+            (λ t. let q = eqb-true k i t in rw q (by-test J
+            (λ y. rw (less-yes i counts′ y) (getD-set-same counts′ i (getD counts′ i 0 - 1) 0 (omega (arith, row-in, c .long, ap length lc, length-listed (sizeOf rows) size left₁)) ∙ omega (arith, own-count, bit-true y)))
+            (λ f. rw (less-no i counts′ f) (omega (arith, own-count, bit-false f)))))
+            (λ f. let q : (k ≡ i) → ⊥ = eqb-false k i f in
+            let o = other-counts x s g long e lent ups ends counts counts′ sizes c some left right is k l (λ p. q (p ∙ sym (first-new some))) in
+            by-test J
+            (λ y. rw (less-yes i counts′ y) (getD-set-other counts′ i k (getD counts′ i 0 - 1) 0 q ∙ o))
+            (λ h. rw (less-no i counts′ h) o))
+
+      count-old : n ≤ old → (k : ℕ) → k < size → getD (lessJoin J i counts′) k 0 ≡ runCount (P k) n
+      count-old h k l =
+          let q : n ≡ old = omega (arith, long .longer) in
+          let none = counted-starts s w e old ups size counts .count k l in
+          rw (less-no i counts′ (no-join h)) (omega (arith, c .count k l, ap (runCount (isRow (rowFrom s w e old ups size) k)) q, none, sizes k l, old-size k l, ap (runCount (P k)) q))
+
+      joins-none : n ≤ old → Joins x s g long i J
+      joins-none h = record {
+        new = λ t. clash t (no-join h);
+        row = λ t. clash t (no-join h);
+        holds = λ t. clash t (no-join h);
+        goes-on = λ t. clash t (no-join h);
+        fresh = λ f k l m t. absurd (omega arith);
+      }
+
+      pub joins : Joins x s g long i J
+      joins = elim (decLt old n) [ yes h ↦ joins-new h | no f ↦ joins-none (omega arith) ]
+
+      -- the counts are the runs of the rows
+      pub count-is : (k : ℕ) → k < size → getD (lessJoin J i counts′) k 0 ≡ runCount (P k) n
+      count-is k l = elim (decLt old n) [ yes h ↦ count-new h k l | no f ↦ count-old (omega arith) k l ]
+
+      pub sum-asked : SumAsked J i counts′ size
+      sum-asked =
+          let many = ap length lc in
+          record {
+            fits = omega (arith, c .long, many, length-listed (sizeOf rows) size left₁);
+            has = λ t. let h = joins .new t in (omega (arith, row-in h, c .long, many, length-listed (sizeOf rows) size left₁), omega (arith, own-count h, bit-true t));
+            small = omega (arith, Σℕ-same size (λ k. getD (lessJoin J i counts′) k 0) (λ k. runCount (P k) n) (λ k l. count-is k l), total-most x s g long, lent .long, lent .some);
+          }
+
+      pub matches : Matches (map G made) rows (lessJoin J i counts′)
+      unfolding withRuns grown
+      matches = record {
+        low = λ k l. let m : k < size = omega (arith, length-map made G) in ap (λ (q : Row). q .low) (row-at k) ∙ sym (ap (λ (q : RangeRow). q .low) (map-at G _ made k m));
+        up = λ k l. let m : k < size = omega (arith, length-map made G) in ap (λ (q : Row). q .up) (row-at k) ∙ sym (ap (λ (q : RangeRow). q .up) (map-at G _ made k m));
+        count = λ k l. let m : k < size = omega (arith, length-map made G) in count-is k m ∙ sym (size-is x s g long k) ∙ sym (ap (λ (q : RangeRow). length (q .runs)) (map-at G _ made k m));
+      }

@@ -1,0 +1,99 @@
+-- `extend_runs::join_first` meets its contract.
+use borrow.Author.Needs.{needs}
+use mathlib.Core.Path.{_≡_, ap, _∙_}
+use Prim.Native.Nat.{ℕ, _+_, _*_}
+use native.Mathlib.Omega.{arith}
+use lib.IntN.{ℤ, pos, negsuc}
+use lib.Signed.{_≤ℤ_}
+use mir.Syntax.{w32}
+use mir.Val.{ofZ, toZ}
+use mir.ValLaws.{toZ-ofZ}
+use Rattle.meaning_numbers.proofs.Rep.{zarith}
+use Rattle.meaning_numbers.proofs.Machine.{zmach32}
+use Rattle.meaning_rows.specs.declared.Row.{Row}
+use Rattle.meaning_rows.proofs.Grown.{lastEnds}
+use Rattle.sums_slide.specs.Ends.{raisedEnd}
+use Rattle.build_fill.specs.Turn.{Small}
+use Rattle.extend_rows.specs.Steps.{joinsOf}
+use Rattle.extend_runs.proofs.Joining.{joinable-as, joined-as, joins-some, joinable-lent, joined-back}
+use Rattle.extend_runs.proofs.join_first.Statement.{statement}
+use Rattle.extend_runs.proofs.join_first.Tie as tie
+
+-- an end of a range, as the machine reads it
+end-read : (z : ℤ) → negsuc 999999999 ≤ℤ z → z ≤ℤ pos 1000000000 → toZ w32 (ofZ w32 z) ≡ z
+end-read z a b = toZ-ofZ w32 z (omega (zmach32, a, b))
+
+low-read : (r : Row) → Small r → toZ w32 (ofZ w32 (r .low)) ≡ r .low
+low-read r h = end-read (r .low) (h .least) (omega (zarith, h .order, h .most))
+
+up-read : (r : Row) → Small r → toZ w32 (ofZ w32 (r .up)) ≡ r .up
+up-read r h = end-read (r .up) (omega (zarith, h .least, h .order)) (h .most)
+
+module _ (c : tie.After-spot-of) where
+  abbrev ends : tie.After-last-ends
+  ends = c .before
+
+  abbrev second : tie.After-raise-end2
+  second = ends .before .before
+
+  abbrev first : tie.After-raise-end
+  first = second .before .before
+
+  abbrev placed : tie.After-place-at
+  placed = first .before .before
+
+  abbrev o : tie.Start
+  o = placed .before .before .before
+
+  joins-is : ends .last-ends .result ≡ joinsOf (o .args .s .now) (o .args .w) (o .args .old) (o .args .r) (o .args .olds .now)
+  unfolding joinsOf
+  joins-is = ends .last-ends .ensures ∙ ap (lastEnds (o .args .r) (o .args .olds .now)) (ends .before .first-new .ensures)
+
+  abbrev bias : ℕ
+  bias = 10000 * o .args .w + o .args .e
+
+  low-is : first .raise-end .result ≡ raisedEnd bias (o .args .q .low)
+  low-is = first .raise-end .ensures ∙ ap (raisedEnd bias) (low-read (o .args .q) (o .pre .1 .small))
+
+  up-is : second .raise-end2 .result ≡ raisedEnd bias (o .args .q .up)
+  up-is = second .raise-end2 .ensures ∙ ap (raisedEnd bias) (up-read (o .args .q) (o .pre .1 .small))
+
+join-run-requires : tie.Need-join-run-requires
+join-run-requires c κs =
+    let p = c .before .before in
+    let a = o p .args in
+    let able = o p .pre .1 .can (placed p .place-at .result) (placed p .place-at .ensures .0) (placed p .place-at .ensures .1) in
+    (o p .pre .1 .lent, joinable-as (joins-is p) (low-is p) (up-is p) (p .spot-of .ensures) (joinable-lent (a .q) (a .r) (a .right .now) (joins-some (a .s .now) (a .w) (a .old) (a .r) (a .olds .now)) able))
+
+returns : tie.Need-returns
+returns c =
+    let j = c .before .before in
+    let p = j .before .before .before in
+    let a = o p .args in
+    record {
+      place = placed p .place-at .result;
+      start = placed p .place-at .ensures .0;
+      begins = placed p .place-at .ensures .1;
+      run = joined-back (a .q) (a .r) (a .right .now) (joins-some (a .s .now) (a .w) (a .old) (a .r) (a .olds .now)) (j .join-run .result) _ (joined-as (joins-is p) (low-is p) (up-is p) (p .spot-of .ensures) (j .join-run .ensures));
+    }
+
+pub join-first-spec : {M : Type 1} → statement M
+join-first-spec =
+    tie.close
+    (tie.spec
+    (λ c κs. (c .before .before .pre .1 .lent, c .before .before .pre .1 .below))
+    (λ c. omega (arith, c .before .before .before .pre .1 .lent .most))
+    (λ c. omega (arith, c .before .before .before .pre .1 .lent .most, c .before .before .before .pre .1 .lent .small))
+    (λ c κs. let q = c .before .before .before .before .pre .1 in (omega (arith, q .lent .most, q .lent .small), rw (low-read (c .before .before .before .before .args .q) (q .small)) (q .small .least, omega (zarith, q .small .order, q .small .most))))
+    (λ c κs. let q = c .before .before .before .before .before .before .pre .1 in (omega (arith, q .lent .most, q .lent .small), rw (up-read (c .before .before .before .before .before .before .args .q) (q .small)) (omega (zarith, q .small .least, q .small .order), q .small .most)))
+    (λ c κs. let q = c .before .before .before .before .before .before .before .pre .1 in q .lent .fits)
+    (λ c κs. search needs)
+    (λ c κs. search needs)
+    (λ c. search needs)
+    (λ c. search needs)
+    (λ c. search needs)
+    (λ c. omega (arith, o (c .before) .pre .1 .begins))
+    (λ c. search needs)
+    join-run-requires
+    (λ c. search needs)
+    returns)

@@ -1,0 +1,42 @@
+-- `extend_runs::place_at` meets its contract: past the last window the sum slides on from it.
+use borrow.Author.Needs.{needs}
+use mathlib.Core.Path.{_≡_, refl, ap, _∙_}
+use Prim.Native.Nat.{_+_, _-_}
+use native.Mathlib.Omega.{arith}
+use Rattle.sums_slide.specs.Levels.{level}
+use Rattle.extend_runs.proofs.place_at.Statement.{statement}
+use Rattle.extend_runs.proofs.place_at.Tie as tie
+
+slide-requires : tie.Need-slide-requires
+slide-requires c κs =
+    let o = c .before .before in
+    let a = o .args in
+    let h = o .pre .0 in
+    (h, (omega (arith, o .pre .1, h .long, h .some), c .level-at2 .ensures (omega (arith, c .before .if1 .left, o .pre .1, h .fits, h .some))))
+
+returns : tie.Need-returns
+returns c =
+    let o = c .before .before in
+    (record { lent = o .pre .0; below = o .pre .1; sum = c .level-at .ensures (c .before .if1 .taken) }, refl)
+
+returns-2 : tie.Need-returns-2
+returns-2 c =
+    let o = c .before .before .before in
+    let a = o .args in
+    let h = o .pre .0 in
+    let e : a .j - 1 + 1 ≡ a .j = omega (arith, c .before .before .if1 .left, o .pre .1, h .fits, h .some) in
+    (record { lent = h; below = o .pre .1; sum = c .slide .ensures ∙ ap (level (a .s .now) (a .w) (a .e)) e }, refl)
+
+pub place-at-spec : {M : Type 1} → statement M
+place-at-spec =
+    tie.close
+    (tie.spec
+    (λ c. search needs)
+    (λ c. search needs)
+    (λ c κs. search needs)
+    (λ c. search needs)
+    (λ c. search needs)
+    (λ c κs. search needs)
+    slide-requires
+    returns
+    returns-2)

@@ -1,0 +1,3 @@
+-- What the contracts of extend_runs cite.
+pub mod Joining
+pub mod Copied

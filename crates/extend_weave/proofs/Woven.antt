@@ -1,0 +1,144 @@
+-- The row numbers of the new windows can be woven among the old rows (`weavable`), and the records made and cleared are the rows of the extension (`woven-rows`, `row-is`).
+use mathlib.Core.Path.{_≡_, refl, sym, ap, _∙_}
+use mathlib.Core.List.{List, _++_, map}
+use Prim.Native.Nat.{ℕ, zero, suc, _+_, _-_, _*_, _<_, _≤_}
+use native.Mathlib.Omega.{arith}
+use native.Mathlib.Decide.{decLt}
+use native.Mathlib.Nat.{div-mul-le-self}
+use lib.Dec.{ltb}
+use lib.IntN.{ℤ, pos, natAbs}
+use lib.ListN.{length, getD, take, drop, replicate, length-map, length-append, length-replicate, List·getD-append}
+use lib.Seq.{getD-take, getD-append-add}
+use lib.Signed.{_≤ℤ_, _<ℤ_, leZ}
+use borrow.Author.Tests.{ltb-true}
+use Rattle.meaning_numbers.specs.Order.{within}
+use Rattle.meaning_numbers.proofs.Rep.{zarith}
+use Rattle.meaning_numbers.proofs.Machine.{leZ-true}
+use Rattle.meaning_numbers.proofs.Tests.{by-test, both}
+use Rattle.meaning_numbers.proofs.Member.{all-mem, mem-all, mem-at}
+use Rattle.meaning_curves.specs.Limits.{lowestEnd}
+use Rattle.meaning_curves.specs.Curve.{windowSum, windowCount}
+use Rattle.meaning_rows.specs.declared.Row.{Row}
+use Rattle.meaning_rows.specs.Index.{Index}
+use Rattle.meaning_rows.proofs.Judge.{GoodEnd, GoodRow, WellFormed, each-row, ranges-ascend}
+use Rattle.meaning_rows.proofs.Build.{numbers-length}
+use Rattle.meaning_rows.proofs.Extend.{Extendable}
+use Rattle.meaning_rows.proofs.Woven.{woven, wovenRows, woven-most}
+use Rattle.meaning_entries.specs.Buffers.{filled}
+use Rattle.rows_records.specs.Records.{zeroRow}
+use Rattle.sums_slide.specs.Levels.{level, level-small, rowOf, Lent, windowsOf}
+use Rattle.sums_slide.proofs.Marks.{yes-met}
+use Rattle.sums_slide.specs.Table.{table}
+use Rattle.sums_slide.specs.Picked.{Appended}
+use Rattle.sums_count.specs.Numbers.{lowered}
+use Rattle.sums_count.proofs.Numbers.{table-only}
+use Rattle.sums_count.specs.Tally.{Rising}
+use Rattle.sums_count.proofs.Rows.{table-rises}
+use Rattle.extend_weave.specs.Turn.{endLow}
+use Rattle.extend_weave.specs.Weave.{numbersOf, Weavable, Made}
+use Rattle.meaning_rows.proofs.Columns.{getD-past}
+use Rattle.extend_new.specs.New.{newTable}
+use Rattle.extend_new.proofs.New.{rest-lent, new-numbers}
+
+end-below : (d : ℕ) (z : ℤ) → GoodEnd d z → z <ℤ endLow
+unfolding within
+end-below d z e = let h : z ≤ℤ pos 4000000 = leZ-true (both (leZ lowestEnd z) (leZ z (pos 4000000)) (e .limited) .1) in omega zarith
+
+-- the table of the new windows rises
+new-rises : (s : List ℤ) (old w e d : ℕ) → Rising (newTable s old w e d) (length (newTable s old w e d))
+unfolding newTable
+new-rises s old w e d = by-test (ltb old (windowsOf s w)) (λ t. rw t (table-rises (drop old s) w e d)) (λ f. rw f (record { up = λ i k a h. absurd (omega arith) }))
+
+row-small : (lv : ℕ → ℕ) (d j k : ℕ) → rowOf lv d j ≡ k → lv j ≤ 6120000 → k * d ≤ 1000000000
+unfolding rowOf
+row-small lv d j k e h = rw (← e) (omega (arith, div-mul-le-self (lv j) d))
+
+module _ {s : List ℤ} {w e : ℕ} (d b : ℕ) (one : 0 < d) (bias : 10000 * w + e ≡ b * d) (lent : Lent s w e) where
+  table-small : (i : ℕ) → i < length (table s w e d) → getD (table s w e d) i 0 * d ≤ 1000000000
+  table-small i l =
+      let m = yes-met (rowOf (level s w e) d) (windowsOf s w) (getD (table s w e d) i 0) (table-only d b one bias lent (getD (table s w e d) i 0) (mem-at 0 (table s w e d) i l)) in
+      row-small (level s w e) d (m .at) (getD (table s w e d) i 0) (m .is) (level-small (m .at) lent)
+
+new-small : {s : List ℤ} {w e : ℕ} (old d b : ℕ) → 0 < d → 10000 * w + e ≡ b * d → Lent s w e → (i : ℕ) → i < length (newTable s old w e d) → getD (newTable s old w e d) i 0 * d ≤ 1000000000
+unfolding newTable
+new-small {s} {w} {e} old d b one bias lent i = by-test (ltb old (windowsOf s w))
+    (λ t. rw t (λ l. table-small d b one bias (rest-lent old (ltb-true old (windowsOf s w) t) lent) i l))
+    (λ f. rw f (λ l. absurd (omega arith)))
+
+module _ (x : Index) (s : List ℤ) (g : WellFormed x) (long : Extendable x s) (e b : ℕ) (lent : Lent s (natAbs (x .window)) e) (bias : 10000 * natAbs (x .window) + e ≡ b * natAbs (x .width)) where
+  abbrev w : ℕ
+  w = natAbs (x .window)
+
+  abbrev d : ℕ
+  d = natAbs (x .width)
+
+  abbrev old : ℕ
+  old = natAbs (x .windows)
+
+  abbrev n : ℕ
+  n = windowCount (length s) w
+
+  abbrev made : List Row
+  made = wovenRows x s g long
+
+  abbrev size : ℕ
+  size = length made
+
+  one : 0 < d
+  one = omega (arith, g .head .width .least)
+
+  -- there is room for the row numbers where there is room for the windows
+  pub table-fits : length (newTable s old w e d) ≤ n
+  table-fits = omega (arith, length-map (newTable s old w e d) (lowered b), ap length (new-numbers old d b one bias lent), numbers-length (λ j. windowSum s w (old + j)) d (n - old))
+
+  module _ {k : ℕ} {left₀ left : List ℕ} (a : Appended (newTable s old w e d) 0 k left₀ left) (fits : k ≤ length left) where
+    many : k ≡ length (newTable s old w e d)
+    many = omega (arith, a .count)
+
+    number-is : (i : ℕ) → i < k → getD left i 0 ≡ getD (newTable s old w e d) i 0
+    number-is i l = sym (getD-take k left i 0 l) ∙ ap (λ (m : List ℕ). getD m i 0) (a .front)
+
+    made-is : woven d (x .rows) (numbersOf left k b) ≡ made
+    made-is = ap (woven d (x .rows)) (ap (map (lowered b)) (a .front) ∙ new-numbers old d b one bias lent)
+
+    pub weavable : (room : ℕ) → n ≤ room → Weavable (x .rows) left k d b room
+    weavable room h = record {
+      width = (g .head .width .least, g .head .width .most);
+      cells = record {
+        fits = fits;
+        small = λ i l. rw (number-is i l) (new-small old d b one bias lent i (omega (arith, many)));
+        low-base = omega (arith, bias, lent .most, lent .small);
+      };
+      rising = record { up = λ i j l m. rw (number-is i (omega arith), number-is j m) (new-rises s old w e d .up i j l (omega (arith, many))) };
+      ascending = ranges-ascend x g;
+      below = mem-all (λ r. r .up <ℤ endLow) (x .rows) (λ r m. end-below d (r .up) (all-mem (GoodRow x) (x .rows) (each-row x g) m .up-end));
+      room = rw made-is (omega (arith, woven-most x s g long));
+    }
+
+    module _ {count : ℕ} {rows₀ rows : List Row} (m : Made (x .rows) left k d b rows₀ count rows) where
+      pub count-is : count ≡ size
+      count-is = m .count-is ∙ ap length made-is
+
+      pub woven-rows : take count rows ++ replicate (length rows - count) zeroRow ≡ filled zeroRow made rows₀
+      unfolding filled
+      woven-rows = ap (λ (l : List Row). l ++ replicate (length rows - count) zeroRow) (m .rows-are ∙ made-is) ∙ (λ i. made ++ replicate (m .long i - count-is i) zeroRow)
+
+  -- row i of the records, whatever i
+  pub row-is : (rows₀ : List Row) (i : ℕ) → getD (filled zeroRow made rows₀) i zeroRow ≡ getD made i zeroRow
+  unfolding filled
+  row-is rows₀ i =
+      let r : List Row = replicate (length rows₀ - size) zeroRow in
+      elim (decLt i size) [
+        | yes l ↦ List·getD-append made r zeroRow i l
+        | no f ↦ let q : size + (i - size) ≡ i = omega arith in
+            ap (λ (z : ℕ). getD (made ++ r) z zeroRow) (sym q) ∙ getD-append-add made r (i - size) zeroRow ∙ none (length rows₀ - size) (i - size) ∙ sym (getD-past zeroRow made i (omega arith))
+      ]
+    where
+      none : (k i : ℕ) → let l : List Row = replicate k zeroRow in getD l i zeroRow ≡ zeroRow
+      none zero i = refl
+      none (suc k) zero = refl
+      none (suc k) (suc i) = none k i
+
+  pub rows-long : (rows₀ : List Row) → n ≤ length rows₀ → length (filled zeroRow made rows₀) ≡ length rows₀
+  unfolding filled
+  rows-long rows₀ h = let r : List Row = replicate (length rows₀ - size) zeroRow in omega (arith, length-append made r, length-replicate {A = Row} (length rows₀ - size) zeroRow, woven-most x s g long)

@@ -1,0 +1,2 @@
+-- Laws of find.
+pub mod Reading

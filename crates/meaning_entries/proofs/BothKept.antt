@@ -1,0 +1,56 @@
+-- `Demand3Kept` follows from what the two entries promise (`AuditKept`, `SearchKept`) and from demand 3 of the meanings, and from nothing else.
+use mathlib.Core.Path.{_≡_, refl, sym, subst}
+use mathlib.Core.Option.{none}
+use lib.ListN.{length}
+use Rattle.meaning_rows.specs.Index.{Index}
+use Rattle.meaning_entries.specs.declared.Audited.{Audited}
+use Rattle.meaning_entries.specs.declared.Found.{Found}
+use Rattle.meaning_entries.specs.declared.Both.{Both}
+use Rattle.meaning_entries.specs.Audit.{Passes}
+use Rattle.meaning_entries.specs.Search.{SearchCall, SearchBuffers, searchMatches, searchCandidates, searchRefusal, searchAnswer}
+use Rattle.meaning_entries.specs.Demand2.{AuditKept, SearchKept}
+use Rattle.meaning_entries.specs.Demand3.{through}
+use Rattle.meaning_entries.specs.Both.{told, auditOf, demandAnswer}
+use Rattle.meaning_entries.proofs.Demand3.{demand3}
+use Rattle.meaning_entries.proofs.BothTold.{all-told, first-audit, second-audit, first-search, second-search, both-listed, demand-refusal, demand-wrong, demand-missing, demand-counts, demand-found}
+use Rattle.meaning_entries.specs.Both.{BothListed, Demand3Kept}
+
+module _ (c : SearchCall) (x : Index) (before₁ before₂ after₁ after₂ : SearchBuffers) where
+  -- the answer that is meant keeps the promise
+  module _ (search₁ : SearchKept c before₁ (searchAnswer c before₁) after₁) (search₂ : SearchKept (through x c) before₂ (searchAnswer (through x c) before₂) after₂) where
+    listed : Passes (c .index) (c .series) → Passes x (c .series) → searchRefusal c before₁ ≡ none → searchRefusal (through x c) before₂ ≡ none → BothListed c (demandAnswer c x before₁ before₂) after₁ after₂
+    listed p q e f = record {
+      count₁ = length (searchMatches c);
+      count₂ = length (searchMatches (through x c));
+      answered = both-listed c x before₁ before₂ p q e f;
+      same = demand3 c x (length (searchMatches c)) (length (searchMatches (through x c))) _ _
+          (record { passes = p; before = before₁; after = after₁; candidates = searchCandidates c; kept = subst (λ (a : Found). SearchKept c before₁ a after₁) (all-told c before₁ e) search₁; listed = refl })
+          (record { passes = q; before = before₂; after = after₂; candidates = searchCandidates (through x c); kept = subst (λ (a : Found). SearchKept (through x c) before₂ a after₂) (all-told (through x c) before₂ f) search₂; listed = refl });
+    }
+
+    meant-kept : Demand3Kept c x before₁ before₂ (demandAnswer c x before₁ before₂) after₁ after₂
+    meant-kept = record {
+      listed = listed;
+      first-audit = first-audit c x before₁ before₂;
+      second-audit = second-audit c x before₁ before₂;
+      first-search = first-search c x before₁ before₂;
+      second-search = second-search c x before₁ before₂;
+      refused = demand-refusal c x before₁ before₂;
+      wrong = demand-wrong c x before₁ before₂;
+      missing = demand-missing c x before₁ before₂;
+      counted = demand-counts c x before₁ before₂;
+      found = demand-found c x before₁ before₂;
+      first = search₁;
+      second = search₂;
+    }
+
+  module _ (one two : Audited) (first second : Found) (audit₁ : AuditKept (auditOf c) one) (audit₂ : AuditKept (auditOf (through x c)) two)
+      (search₁ : SearchKept c before₁ first after₁) (search₂ : SearchKept (through x c) before₂ second after₂) where
+    told-meant : told one two first second ≡ demandAnswer c x before₁ before₂
+    unfolding demandAnswer
+    told-meant = rw (audit₁ .answered, audit₂ .answered, search₁ .answered, search₂ .answered) refl
+
+    pub demand3-kept : Demand3Kept c x before₁ before₂ (told one two first second) after₁ after₂
+    demand3-kept =
+        subst (λ (a : Both). Demand3Kept c x before₁ before₂ a after₁ after₂) (sym told-meant)
+        (meant-kept (subst (λ (a : Found). SearchKept c before₁ a after₁) (search₁ .answered) search₁) (subst (λ (a : Found). SearchKept (through x c) before₂ a after₂) (search₂ .answered) search₂))

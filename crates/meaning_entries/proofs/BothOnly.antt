@@ -1,0 +1,52 @@
+-- The promise of demand 3 leaves one outcome: one answer, and one content of every buffer.
+use mathlib.Core.Path.{_≡_, refl, sym, _∙_, ap}
+use mathlib.Core.Bool.{false≢true}
+use mathlib.Core.Option.{Option, none, some, Option·some-ne-none}
+use Prim.Native.Nat.{ℕ}
+use Rattle.meaning_rows.specs.Index.{Index}
+use Rattle.meaning_entries.specs.declared.Audited.{Audited}
+use Rattle.meaning_entries.specs.declared.Both.{Both}
+use Rattle.meaning_entries.specs.Answers.{bothCounts}
+use Rattle.meaning_entries.specs.Audit.{auditAnswer, Passes}
+use Rattle.meaning_entries.specs.Search.{SearchCall, SearchBuffers, searchRefusal, searchAfter}
+use Rattle.meaning_entries.specs.Demand3.{through}
+use Rattle.meaning_entries.specs.Both.{yes, auditOf, demandAnswer}
+use Rattle.meaning_entries.proofs.BothTold.{first-audit, second-audit, first-search, second-search, both-listed, demand-counts}
+use Rattle.meaning_entries.specs.Both.{Demand3Kept}
+
+-- whether an audit says yes, and whether a search is refused, is known
+by-audit : {P : Type 0} (a : Audited) → (a ≡ Audited.Yes → P) → ((a ≡ Audited.Yes → ⊥) → P) → P
+unfolding yes
+by-audit Audited.Yes y n = y refl
+by-audit (Audited.Wrong row offset) y n = n (λ e. false≢true (ap yes e))
+by-audit (Audited.Missing count) y n = n (λ e. false≢true (ap yes e))
+by-audit (Audited.Refused number place) y n = n (λ e. false≢true (ap yes e))
+
+by-refusal : {P : Type 0} (o : Option (ℕ × ℕ)) → (o ≡ none → P) → ((o ≡ none → ⊥) → P) → P
+by-refusal none y n = y refl
+by-refusal (some r) y n = n (Option·some-ne-none r)
+
+module _ (c : SearchCall) (x : Index) (b₁ b₂ : SearchBuffers) (answer : Both) (after₁ after₂ : SearchBuffers) (k : Demand3Kept c x b₁ b₂ answer after₁ after₂) where
+  listed-only : Passes (c .index) (c .series) → Passes x (c .series) → searchRefusal c b₁ ≡ none → searchRefusal (through x c) b₂ ≡ none → answer ≡ demandAnswer c x b₁ b₂
+  listed-only p q e f =
+      let l = k .listed p q e f in
+      let m = both-listed c x b₁ b₂ p q e f in
+      let counts = sym (ap bothCounts (l .answered)) ∙ k .counted ∙ sym (demand-counts c x b₁ b₂) ∙ ap bothCounts m in
+      l .answered ∙ ap (λ (n : ℕ × ℕ). Both.Listed (n .0) (n .1)) counts ∙ sym m
+
+  answer-only : answer ≡ demandAnswer c x b₁ b₂
+  answer-only =
+      by-audit (auditAnswer (auditOf c))
+      (λ p. by-audit (auditAnswer (auditOf (through x c)))
+      (λ q. by-refusal (searchRefusal c b₁)
+      (λ e. by-refusal (searchRefusal (through x c) b₂) (listed-only p q e) (λ n. k .second-search p q e n ∙ sym (second-search c x b₁ b₂ p q e n)))
+      (λ n. k .first-search p q n ∙ sym (first-search c x b₁ b₂ p q n)))
+      (λ n. k .second-audit p n ∙ sym (second-audit c x b₁ b₂ p n)))
+      (λ n. k .first-audit n ∙ sym (first-audit c x b₁ b₂ n))
+
+  pub demand3-only : (answer ≡ demandAnswer c x b₁ b₂) × (after₁ ≡ searchAfter c b₁) × (after₂ ≡ searchAfter (through x c) b₂)
+  demand3-only = (
+    answer-only,
+    λ i. record { left = k .first .left i; right = k .first .right i; scratch = k .first .scratch i; offsets = k .first .offsets i; distances = k .first .distances i },
+    λ i. record { left = k .second .left i; right = k .second .right i; scratch = k .second .scratch i; offsets = k .second .offsets i; distances = k .second .distances i },
+  )

@@ -1,0 +1,8 @@
+-- A value raised by 10,000, which leaves nothing signed.
+use lib.IntN.{ℤ}
+use Rattle.meaning_numbers.proofs.Rep.{Rep, zarith}
+use Rattle.meaning_curves.proofs.Values.{InLimits}
+use Rattle.numbers.specs.Raised.{raised}
+
+pub raised-is : {x : ℤ} → InLimits x → Rep x (raised x) 10000
+raised-is {x} h = omega (zarith, h .low, h .high)

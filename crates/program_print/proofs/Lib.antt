@@ -1,0 +1,3 @@
+-- Laws of program_print.
+pub mod End
+pub mod Whole

@@ -1,0 +1,3 @@
+-- Laws of rows_pack.
+pub mod Packed
+pub mod Records

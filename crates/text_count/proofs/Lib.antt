@@ -1,0 +1,2 @@
+-- Laws of text_count.
+pub mod Count

@@ -1,0 +1,111 @@
+-- What is kept of the lines: the single numbers at eight places, and of the values of the series and of the query as many as there is room for, clamped to 32 bits, with their count and with how many stand before the first outside its limits.
+use mathlib.Core.Path.{_≡_, refl, sym, ap, _∙_}
+use mathlib.Core.Bool.{true, false, cond, not}
+use mathlib.Core.List.{List, [], _∷_, _++_, map}
+use mathlib.Core.Option.{none, some}
+use Prim.Native.Nat.{ℕ, suc, _+_}
+use native.Mathlib.Omega.{arith}
+use lib.Dec.{eqb, ltb}
+use lib.IntN.{ℤ}
+use lib.ListN.{length, set, length-append, length-map}
+use lib.Seq.{sets}
+use lib.Signed.{leZ, _<ℤ_, _≤ℤ_, clashℤ}
+use borrow.Author.Tests.{eq-eqb, ne-eqb, eqb-true, eqb-false, ltb-true, ltb-false, lt-ltb, le-ltb}
+use Rattle.meaning_curves.specs.Limits.{valueIn, firstOutside}
+use Rattle.meaning_numbers.specs.Place.{placeFrom}
+use Rattle.meaning_numbers.proofs.Rep.{z-le}
+use Rattle.meaning_numbers.proofs.Machine.{leZ-true, f-gt}
+use Rattle.meaning_text.proofs.Reading.{on-flag}
+use Rattle.text_put.proofs.Put.{sets-append}
+use Rattle.text_lines.specs.declared.Word.{Word}
+use Rattle.text_lines.specs.declared.Field.{Field}
+use Rattle.text_lines.specs.Follow.{Said, told, named}
+use Rattle.text_feed.specs.declared.Values.{Values}
+use Rattle.numbers.specs.Narrow.{clamp}
+use Rattle.text_feed.specs.Keep.{stored, leading, valuesMore, placeOf, ofSeries, ofQuery, wordPlace, wordNumber, Kept, Holds}
+
+-- ---- one more
+
+stored-more : (base vs : List ℤ) (z : ℤ) → stored base (vs ++ (z ∷ [])) ≡ set (stored base vs) (length vs) (clamp z)
+unfolding stored
+stored-more base vs z =
+    let e : 0 + length (map clamp vs) ≡ length vs = omega (arith, length-map vs clamp) in
+    ap (sets base 0) (map-append vs (z ∷ [])) ∙ sets-append (map clamp vs) (clamp z ∷ []) base 0 ∙ rw e
+  where
+    map-append : (a b : List ℤ) → map clamp (a ++ b) ≡ map clamp a ++ map clamp b
+    map-append [] b = refl
+    map-append (x ∷ a) b = ap (λ (l : List ℤ). clamp x ∷ l) (map-append a b)
+
+leading-more : (vs : List ℤ) (z : ℤ) → leading (vs ++ (z ∷ [])) ≡ cond (eqb (leading vs) (length vs)) (cond (valueIn z) (length vs + 1) (leading vs)) (leading vs)
+unfolding leading
+leading-more [] z = on-flag (valueIn z) (λ e. rw e) (λ e. rw e)
+leading-more (x ∷ vs) z =
+    on-flag (valueIn x)
+    (λ e. on-flag (eqb (leading vs) (length vs))
+    (λ f. rw (e, leading-more vs z, f) (on-flag (valueIn z) (λ d. rw (d, eq-eqb (suc (leading vs)) (suc (length vs)) (ap suc (eqb-true (leading vs) (length vs) f))) (omega arith)) (λ d. rw (d, eq-eqb (suc (leading vs)) (suc (length vs)) (ap suc (eqb-true (leading vs) (length vs) f))))))
+    (λ f. rw (e, leading-more vs z, f, ne-eqb (suc (leading vs)) (suc (length vs)) (λ d. eqb-false (leading vs) (length vs) f (omega arith)))))
+    (λ e. rw (e, ne-eqb 0 (suc (length vs)) (λ d. omega arith)))
+
+pub kept-more : (base vs : List ℤ) (v : Values) (buf : List ℤ) (z : ℤ) → Kept base vs v buf → Kept base (vs ++ (z ∷ [])) (valuesMore v z) (set buf (v .count) (clamp z))
+unfolding valuesMore
+kept-more base vs v buf z k = record {
+  count = rw (length-append vs (z ∷ []), k .count);
+  inside = rw (leading-more vs z, k .count, k .inside);
+  lies = rw (k .lies, k .count) (sym (stored-more base vs z));
+}
+
+-- the place of the first value outside its limits
+pub leading-outside : (vs : List ℤ) → firstOutside vs ≡ cond (ltb (leading vs) (length vs)) (some (leading vs)) none
+unfolding firstOutside placeFrom leading
+leading-outside vs = let e : 0 + leading vs ≡ leading vs = omega arith in from vs 0 ∙ rw e
+  where
+    from : (vs : List ℤ) (k : ℕ) → placeFrom k (λ x. not (valueIn x)) vs ≡ cond (ltb (leading vs) (length vs)) (some (k + leading vs)) none
+    from [] k = refl
+    from (x ∷ vs) k =
+        let e : k + suc (leading vs) ≡ suc k + leading vs = omega arith in
+        on-flag (valueIn x)
+        (λ f. rw (f, from vs (suc k), e) (on-flag (ltb (leading vs) (length vs)) (λ t. rw (t, lt-ltb (suc (leading vs)) (suc (length vs)) (omega (arith, ltb-true (leading vs) (length vs) t)))) (λ t. rw (t, le-ltb (suc (leading vs)) (suc (length vs)) (omega (arith, ltb-false (leading vs) (length vs) t))))))
+        (λ f. let z : k + 0 ≡ k = omega arith in rw (f, lt-ltb 0 (suc (length vs)) (omega arith), z))
+
+pub kept-none : (base : List ℤ) → Kept base [] (record { count = 0; inside = 0 }) base
+unfolding leading stored
+kept-none base = record { count = refl; inside = refl; lies = refl }
+
+-- a number
+pub holds-told : (kept asked : List ℤ) (g : Said) (numbers : List ℤ) (v w : Values) (series query : List ℤ) (p : Field) (z : ℤ) → Holds kept asked g numbers v w series query
+    → Holds kept asked (told p z g) (set numbers (placeOf p) z) (cond (ofSeries p) (valuesMore v z) v) (cond (ofQuery p) (valuesMore w z) w)
+    (cond (ofSeries p) (set series (v .count) (clamp z)) series) (cond (ofQuery p) (set query (w .count) (clamp z)) query)
+holds-told kept asked g numbers v w series query Field.Window z h = record { alone = rw (h .alone); first = h .first; second = h .second }
+holds-told kept asked g numbers v w series query Field.Width z h = record { alone = rw (h .alone); first = h .first; second = h .second }
+holds-told kept asked g numbers v w series query Field.Merge z h = record { alone = rw (h .alone); first = h .first; second = h .second }
+holds-told kept asked g numbers v w series query Field.Item z h = record { alone = rw (h .alone); first = kept-more kept (g .series) v series z (h .first); second = h .second }
+holds-told kept asked g numbers v w series query Field.Band z h = record { alone = rw (h .alone); first = h .first; second = h .second }
+holds-told kept asked g numbers v w series query Field.Threshold z h = record { alone = rw (h .alone); first = h .first; second = h .second }
+holds-told kept asked g numbers v w series query Field.Scale z h = record { alone = rw (h .alone); first = h .first; second = h .second }
+holds-told kept asked g numbers v w series query Field.Shift z h = record { alone = rw (h .alone); first = h .first; second = h .second }
+holds-told kept asked g numbers v w series query Field.Asked z h = record { alone = rw (h .alone); first = h .first; second = kept-more asked (g .query) w query z (h .second) }
+holds-told kept asked g numbers v w series query Field.Entry z h = record { alone = rw (h .alone); first = kept-more kept (g .series) v series z (h .first); second = h .second }
+
+-- a word
+pub holds-named : (kept asked : List ℤ) (g : Said) (numbers : List ℤ) (v w : Values) (series query : List ℤ) (n : Word) → Holds kept asked g numbers v w series query
+    → Holds kept asked (named n g) (set numbers (wordPlace n) (wordNumber n)) v w series query
+holds-named kept asked g numbers v w series query Word.Window h = record { alone = rw (h .alone); first = h .first; second = h .second }
+holds-named kept asked g numbers v w series query Word.Width h = record { alone = rw (h .alone); first = h .first; second = h .second }
+holds-named kept asked g numbers v w series query Word.Merge h = record { alone = rw (h .alone); first = h .first; second = h .second }
+holds-named kept asked g numbers v w series query Word.Series h = record { alone = rw (h .alone); first = h .first; second = h .second }
+holds-named kept asked g numbers v w series query Word.Find h = record { alone = rw (h .alone); first = h .first; second = h .second }
+holds-named kept asked g numbers v w series query Word.Raw h = record { alone = rw (h .alone); first = h .first; second = h .second }
+holds-named kept asked g numbers v w series query Word.Normal h = record { alone = rw (h .alone); first = h .first; second = h .second }
+holds-named kept asked g numbers v w series query Word.Query h = record { alone = rw (h .alone); first = h .first; second = h .second }
+holds-named kept asked g numbers v w series query Word.End h = record { alone = rw (h .alone); first = h .first; second = h .second }
+holds-named kept asked g numbers v w series query Word.Line h = record { alone = rw (h .alone); first = h .first; second = h .second }
+holds-named kept asked g numbers v w series query Word.LineEnd h = record { alone = rw (h .alone); first = h .first; second = h .second }
+holds-named kept asked g numbers v w series query (Word.Space p) h = record { alone = rw (h .alone); first = h .first; second = h .second }
+
+-- ---- tests
+
+pub gt-leZ : {a b : ℤ} → b <ℤ a → leZ a b ≡ false
+gt-leZ {a} {b} h = on-flag (leZ a b) (λ e. absurd (clashℤ h (leZ-true e))) (λ e. e)
+
+pub le-leZ : {a b : ℤ} → a ≤ℤ b → leZ a b ≡ true
+le-leZ {a} {b} h = on-flag (leZ a b) (λ e. e) (λ e. absurd (omega (arith, z-le h, f-gt a b e)))

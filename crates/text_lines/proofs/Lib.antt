@@ -1,0 +1,3 @@
+-- Laws of text_lines.
+pub mod Follow
+pub mod Step

@@ -1,0 +1,2 @@
+-- Laws of text_list.
+pub mod Found

@@ -1,0 +1,3 @@
+-- Laws of text_numbers.
+pub mod Number
+pub mod Onward

@@ -1,0 +1,3 @@
+-- Laws of text_put.
+pub mod Digits
+pub mod Put

@@ -1,0 +1,2 @@
+-- Laws of text_write.
+pub mod Write

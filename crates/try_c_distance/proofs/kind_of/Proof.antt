@@ -1,8 +1,0 @@
--- `try_c_distance::kind_of` meets its contract. Assumes nothing.
-use borrow.Author.Needs.{needs}
-use Rattle.try_c_distance.proofs.Answers.{kind-normal}
-use Rattle.try_c_distance.proofs.kind_of.Statement.{statement}
-use Rattle.try_c_distance.proofs.kind_of.Tie as tie
-
-pub kind-of-spec : {M : Type 1} → statement M
-kind-of-spec = tie.close (tie.spec (λ c. search needs) (λ c. kind-normal _ (c .if1 .left)))

@@ -1,8 +1,0 @@
--- `try_c_distance::window_after` meets its contract. Assumes nothing.
-use borrow.Author.Needs.{needs}
-use native.Mathlib.Omega.{arith}
-use Rattle.try_c_distance.proofs.window_after.Statement.{statement}
-use Rattle.try_c_distance.proofs.window_after.Tie as tie
-
-pub window-after-spec : {M : Type 1} → statement M
-window-after-spec = tie.close (tie.spec (λ c. omega arith) (λ c κs. search needs) (λ c. search needs) (λ c. λ l. absurd (omega arith)))

@@ -1,0 +1,3 @@
+-- Proofs of try_c_match.
+pub mod Matches
+pub mod Answers

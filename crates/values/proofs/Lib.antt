@@ -1,0 +1,3 @@
+-- Laws of values.
+pub mod SumsLaws
+pub mod Window
