@@ -1,4 +1,4 @@
--- That the count of windows fits.
+-- Laws of build_fill.
 mod Fits
 pub mod Pass
 pub mod Turn

@@ -1,8 +1,8 @@
 // The rows of a series before merging: their records packed in order. The run buffer is the only other room.
+use clear::clear_u32;
 use meaning_rows::Row;
 use rows_pack::pack_rows;
 use rows_pack::sum_up;
-use sums_count::clear_numbers;
 use sums_count::plan;
 ghost use mathlib.Core.Path.{_≡_};
 ghost use Prim.Native.Nat.{_+_, _*_, _≤_};
@@ -45,8 +45,8 @@ pub fn lay_out(s: &[i32], w: usize, e: u64, d: u64, left: &mut [u32], right: &mu
 pub fn clear_runs(left: &mut [u32], right: &mut [u32])
     ensures { λ _. ⌜ Cleared (now (left .entry)) (now (left .exit)) × Cleared (now (right .entry)) (now (right .exit)) ⌝ }
 {
-    clear_numbers(left);
-    clear_numbers(right);
+    clear_u32(left, 0);
+    clear_u32(right, 0);
 }
 
 // The records of the rows before merging are packed in `rows`; how many there are. `bias` is what sums are raised by in all.

@@ -1,4 +1,4 @@
--- A turn of merging over plain variables.
+-- Laws of build_merge.
 mod Turn
 pub mod Merging
 pub mod Names

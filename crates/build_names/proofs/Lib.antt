@@ -1,4 +1,4 @@
--- A turn of naming over plain variables, and what naming a row asks.
+-- Laws of build_names.
 mod Turn
 pub mod Named
 pub mod Naming

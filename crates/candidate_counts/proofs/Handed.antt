@@ -2,15 +2,15 @@
 use mathlib.Core.Path.{_≡_, refl, sym, ap, _∙_}
 use mathlib.Core.Bool.{Bool}
 use mathlib.Core.List.{List, [], _∷_, _++_, map}
-use Prim.Native.Nat.{ℕ, _-_, _≤_}
+use Prim.Native.Nat.{ℕ, _≤_}
 use native.Mathlib.Omega.{arith}
-use lib.ListN.{length, take, drop, replicate, length-append, length-drop}
+use lib.ListN.{length, drop, length-append, length-drop}
 use lib.Seq.{take-at}
-use Rattle.meaning_numbers.specs.Sum.{count}
 use Rattle.meaning_rows.specs.Runs.{runs}
 use Rattle.meaning_rows.proofs.Runs.{runs-le}
 use Rattle.meaning_rows.proofs.Columns.{lefts, rights, length-lefts, length-rights}
 use Rattle.meaning_entries.specs.Buffers.{filled}
+use Rattle.clear.specs.Clear.{clearedFrom}
 use Rattle.candidate_counts.specs.Handed.{Columns, Handed}
 
 lefts-are : (l : List (ℕ × ℕ)) → lefts l ≡ map (λ x. x .0) l
@@ -24,28 +24,27 @@ rights-are [] = refl
 rights-are (x ∷ l) = ap (λ (k : List ℕ). x .1 ∷ k) (rights-are l)
 
 -- a front part kept, and 0 behind it
-behind : (front old now : List ℕ) (k : ℕ) → length front ≡ k → k ≤ length old → now ≡ front ++ drop k old → take k now ++ replicate (length now - k) 0 ≡ filled 0 front old
-unfolding filled
+behind : (front old now : List ℕ) (k : ℕ) → length front ≡ k → k ≤ length old → now ≡ front ++ drop k old → clearedFrom k now ≡ filled 0 front old
+unfolding filled clearedFrom
 behind front old now k e h n =
     let l : length now ≡ length old = ap length n ∙ length-append front (drop k old) ∙ rw (e, length-drop k old) (omega arith) in
     rw (l, n, take-at front (drop k old) k e, e)
 
 module _ {set : ℕ → Bool} {n : ℕ} {left₀ right₀ left right : List ℕ} {k found : ℕ} (c : Columns set n left₀ right₀ left right k found) where
-  pub left-room : n ≤ length left₀ → (k ≤ length left₀) × (length left ≡ length left₀)
-  left-room h =
-      let r = runs-le set n in
-      (omega (arith, c .count-is), ap length (c .left-is) ∙ length-append (lefts (runs set n)) (drop k left₀) ∙ rw (length-lefts (runs set n), sym (c .count-is), length-drop k left₀) (omega (arith, c .count-is)))
+  room : {m : ℕ} → n ≤ m → k ≤ m
+  room h = omega (arith, runs-le set n, c .count-is)
 
-  pub right-room : n ≤ length right₀ → (k ≤ length right₀) × (length right ≡ length right₀)
-  right-room h =
-      let r = runs-le set n in
-      (omega (arith, c .count-is), ap length (c .right-is) ∙ length-append (rights (runs set n)) (drop k right₀) ∙ rw (length-rights (runs set n), sym (c .count-is), length-drop k right₀) (omega (arith, c .count-is)))
+  pub left-long : n ≤ length left₀ → length left ≡ length left₀
+  left-long h = ap length (c .left-is) ∙ length-append (lefts (runs set n)) (drop k left₀) ∙ rw (length-lefts (runs set n), sym (c .count-is), length-drop k left₀) (omega (arith, room h))
 
-  pub handed : {left′ right′ : List ℕ} → n ≤ length left₀ → n ≤ length right₀ → left′ ≡ take k left ++ replicate (length left - k) 0 → right′ ≡ take k right ++ replicate (length right - k) 0
+  pub right-long : n ≤ length right₀ → length right ≡ length right₀
+  right-long h = ap length (c .right-is) ∙ length-append (rights (runs set n)) (drop k right₀) ∙ rw (length-rights (runs set n), sym (c .count-is), length-drop k right₀) (omega (arith, room h))
+
+  pub handed : {left′ right′ : List ℕ} → n ≤ length left₀ → n ≤ length right₀ → left′ ≡ clearedFrom k left → right′ ≡ clearedFrom k right
       → Handed set n left₀ right₀ left′ right′ k found
   handed hl hr el er = record {
     count-is = c .count-is;
     found-is = c .found-is;
-    left-is = el ∙ behind (lefts (runs set n)) left₀ left k (length-lefts (runs set n) ∙ sym (c .count-is)) (left-room hl .0) (c .left-is) ∙ ap (λ (l : List ℕ). filled 0 l left₀) (lefts-are (runs set n));
-    right-is = er ∙ behind (rights (runs set n)) right₀ right k (length-rights (runs set n) ∙ sym (c .count-is)) (right-room hr .0) (c .right-is) ∙ ap (λ (l : List ℕ). filled 0 l right₀) (rights-are (runs set n));
+    left-is = el ∙ behind (lefts (runs set n)) left₀ left k (length-lefts (runs set n) ∙ sym (c .count-is)) (room hl) (c .left-is) ∙ ap (λ (l : List ℕ). filled 0 l left₀) (lefts-are (runs set n));
+    right-is = er ∙ behind (rights (runs set n)) right₀ right k (length-rights (runs set n) ∙ sym (c .count-is)) (room hr) (c .right-is) ∙ ap (λ (l : List ℕ). filled 0 l right₀) (rights-are (runs set n));
   }

@@ -1,7 +1,6 @@
 -- What the definitions of specs/ imply.
 pub mod Raise
 pub mod Leading
-pub mod Clear
 pub mod Handed
 pub mod Take
 pub mod LeadingLaws

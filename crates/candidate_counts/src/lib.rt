@@ -1,10 +1,12 @@
 // The scratch count of a search: a place for each offset, which holds how many leading parts of the query the offset has met; and the candidates handed out of it as joined runs.
+use clear::clear_u16;
+use clear::clear_u32;
 use numbers::shorter;
 ghost use mathlib.Core.Path.{_≡_};
 ghost use mathlib.Core.Bool.{true, not, _&&_};
-ghost use mathlib.Core.List.{[], _++_};
+ghost use mathlib.Core.List.{[]};
 ghost use Prim.Native.Nat.{_+_, _-_, _<_, _≤_, min};
-ghost use lib.ListN.{length, take, drop, replicate};
+ghost use lib.ListN.{length, take, drop};
 ghost use Rattle.meaning_numbers.specs.Sum.{bit, count};
 ghost use Rattle.meaning_curves.specs.Limits.{mostValues};
 ghost use Rattle.meaning_rows.specs.Index.{entries};
@@ -189,29 +191,6 @@ pub fn write_runs(
     take_each(scratch, p, j, offsets - j, out, left, right)
 }
 
-// Every entry from `from` on is made 0.
-pub fn clear_from(buffer: &mut [u32], from: usize)
-    requires { ⌜ from ≤ length (now buffer) ⌝ }
-    ensures { λ _. ⌜ now (buffer .exit) ≡ take from (now (buffer .entry)) ++ replicate (length (now (buffer .entry)) - from) 0 ⌝ }
-{
-    let mut i = from;
-    while i < buffer.len() {
-        buffer[i] = 0;
-        i += 1;
-    }
-}
-
-// Every count is made 0.
-pub fn clear_scratch(scratch: &mut [u16])
-    ensures { λ _. ⌜ now (scratch .exit) ≡ filled 0 [] (now (scratch .entry)) ⌝ }
-{
-    let mut i: usize = 0;
-    while i < scratch.len() {
-        scratch[i] = 0;
-        i += 1;
-    }
-}
-
 // The offsets that stand at `p` handed out as joined runs at the front of `left` and `right`, 0 behind them, and every count made 0.
 pub fn collect(
     scratch: &mut [u16],
@@ -225,8 +204,8 @@ pub fn collect(
 {
     let found = write_runs(scratch, p, offsets, left, right);
     let runs = found.runs;
-    clear_from(left, runs);
-    clear_from(right, runs);
-    clear_scratch(scratch);
+    clear_u32(left, runs);
+    clear_u32(right, runs);
+    clear_u16(scratch, 0);
     found
 }

@@ -5,11 +5,11 @@ use numbers::lower;
 use numbers::place_before;
 use rows_find::find_row;
 use rows_records::row_or;
+use rows_records::zero_row;
 ghost use mathlib.Core.Path.{_≡_};
 ghost use Prim.Native.Nat.{_-_, _≤_};
 ghost use lib.ListN.{length};
 ghost use Rattle.rows_find.specs.Search.{Climbs};
-ghost use Rattle.rows_records.specs.Records.{zeroRow};
 ghost use Rattle.candidate_filter.specs.Met.{clampOf, endOf, reachedRuns, spanOf, metSpan};
 ghost use lib.IntN.{pos, negsuc, natAbs, _+ℤ_};
 ghost use Rattle.meaning_numbers.proofs.Between.{Between};
@@ -64,18 +64,6 @@ pub fn span_of(n: usize, a: usize, b: usize, first: Row, last: Row, edge: Row, h
         };
     }
     Span { from: to, to }
-}
-
-// The record of zeros.
-pub fn zero_row() -> Row
-    ensures { λ r. ⌜ r ≡ zeroRow ⌝ }
-{
-    Row {
-        low: 0,
-        up: 0,
-        first: 0,
-        runs: 0,
-    }
 }
 
 // The runs of the rows that a range meets.

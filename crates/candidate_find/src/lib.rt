@@ -1,10 +1,10 @@
 // Finding a search's candidates (01, Candidates): the call and the index are judged, the ranges of the query's parts met with the rows, and the candidates that all parts leave handed out.
-use candidate_counts::clear_scratch;
 use candidate_counts::collect;
 use candidate_plan::plan_search;
 use candidate_spans::meet_parts;
 use candidate_spans::put_ranges;
 use candidate_spans::raise_stretches;
+use clear::clear_u16;
 use meaning_filter::Ask;
 use meaning_rows::Head;
 use meaning_rows::Row;
@@ -83,7 +83,7 @@ pub fn hand_out(
     let m = query.len();
     let parts = m / w;
     let n = series.len() + 1 - m;
-    clear_scratch(scratch);
+    clear_u16(scratch, 0);
     raise_stretches(scratch, left, right, first, last, w, parts, n);
     let c = collect(scratch, parts as u16, n, first, last);
     tell_sought(c.runs, c.candidates)

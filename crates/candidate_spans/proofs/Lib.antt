@@ -1,4 +1,4 @@
--- Laws of spans.
+-- Laws of candidate_spans.
 pub mod Query
 pub mod Held
 pub mod MetLaws

@@ -1,6 +1,5 @@
 -- Laws of check_list.
 pub mod Candidates
-pub mod Clear
 pub mod Found
 pub mod Listed
 pub mod Members

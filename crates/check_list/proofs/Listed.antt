@@ -8,6 +8,8 @@ use lib.ListN.{length, take, set, length-append, length-set, length-take}
 use lib.Seq.{take-all, take-suc-set}
 use Rattle.meaning_entries.specs.Buffers.{filled, pairRoom}
 use Rattle.meaning_entries.specs.Demand3.{pairs}
+use Rattle.clear.specs.Clear.{clearedFrom}
+use Rattle.clear.proofs.Clear.{cleared-front}
 use Rattle.check_list.specs.Listed.{Listed, ListFilled}
 
 -- ---- pairs
@@ -95,7 +97,7 @@ first-columns (suc k) (x ∷ a) (y ∷ b) =
     rw e (ap (λ (l : List ℕ). x ∷ l) (r .0), ap (λ (l : List ℕ). y ∷ l) (r .1))
 
 -- everything from place e on is made 0, where the list ends
-pub list-filled : {l : List (ℕ × ℕ)} {r e k : ℕ} {a b a′ b′ a″ b″ : List ℕ} → Listed l 0 r a b a′ b′ → e ≡ min r k → k ≡ min (length a′) (length b′) → a″ ≡ filled 0 (take e a′) a′ → b″ ≡ filled 0 (take e b′) b′
+pub list-filled : {l : List (ℕ × ℕ)} {r e k : ℕ} {a b a′ b′ a″ b″ : List ℕ} → Listed l 0 r a b a′ b′ → e ≡ min r k → k ≡ min (length a′) (length b′) → a″ ≡ clearedFrom e a′ → b″ ≡ clearedFrom e b′
     → ListFilled l r a b a″ b″
 unfolding filled
 list-filled {l} {r} {e} {k} {a} {b} {a′} {b′} s end room f g =
@@ -103,6 +105,6 @@ list-filled {l} {r} {e} {k} {a} {b} {a′} {b′} s end room f g =
     let front : take r (pairs a′ b′) ≡ take (pairRoom a b) l = s .front in
     record {
       count = omega (arith, s .count);
-      offsets-are = cc (f, here, s .as-many-offsets, front, first-columns r a′ b′ .0);
-      distances-are = cc (g, here, s .as-many-distances, front, first-columns r a′ b′ .1);
+      offsets-are = cc (f, cleared-front e a′, here, s .as-many-offsets, front, first-columns r a′ b′ .0);
+      distances-are = cc (g, cleared-front e b′, here, s .as-many-distances, front, first-columns r a′ b′ .1);
     }

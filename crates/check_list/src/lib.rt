@@ -1,4 +1,6 @@
 // The candidates of a search, tested run by run: a match is listed while there is room, and counted where there is none. Sums slide along a run.
+use clear::clear_u32;
+use clear::clear_u64;
 use distance_match::match_at;
 use distance_query::Query;
 use distance_within::Match;
@@ -12,13 +14,12 @@ use values::sums_at;
 ghost use mathlib.Core.Path.{_≡_};
 ghost use mathlib.Core.List.{[], _∷_};
 ghost use Prim.Native.Nat.{_+_, _-_, _<_, _≤_};
-ghost use lib.ListN.{length, take};
+ghost use lib.ListN.{length};
 ghost use Rattle.meaning_numbers.specs.Place.{numbersFrom};
 ghost use Rattle.meaning_curves.specs.Limits.{mostValues, longestQuery};
 ghost use Rattle.meaning_curves.proofs.Values.{AllIn};
 ghost use Rattle.meaning_filter.specs.declared.Kind.{Kind};
 ghost use Rattle.meaning_filter.specs.Matches.{offsetCount};
-ghost use Rattle.meaning_entries.specs.Buffers.{filled};
 ghost use Rattle.check_list.specs.Members.{members};
 ghost use Rattle.check_list.specs.Listed.{Listed, ListFilled};
 ghost use Rattle.check_list.specs.Found.{asked, Prepared, RunsLent, SumsFor, found, lentRuns, entriesOf};
@@ -174,28 +175,6 @@ pub fn check_each(
     n
 }
 
-// Every offset from a place on is made 0.
-pub fn clear_offsets(offsets: &mut [u32], from: usize)
-    ensures { λ _. ⌜ now (offsets .exit) ≡ filled 0 (take from (now (offsets .entry))) (now (offsets .entry)) ⌝ }
-{
-    let mut i = from;
-    while i < offsets.len() {
-        offsets[i] = 0;
-        i += 1;
-    }
-}
-
-// Every distance from a place on is made 0.
-pub fn clear_distances(distances: &mut [u64], from: usize)
-    ensures { λ _. ⌜ now (distances .exit) ≡ filled 0 (take from (now (distances .entry))) (now (distances .entry)) ⌝ }
-{
-    let mut i = from;
-    while i < distances.len() {
-        distances[i] = 0;
-        i += 1;
-    }
-}
-
 // Every candidate is tested: the matches among the runs' offsets are listed as far as there is room, and what lies behind them is made 0; how many matches there are.
 pub fn check_runs(
     kind: Kind,
@@ -238,7 +217,7 @@ pub fn check_runs(
     );
     let room_for = lesser(offsets.len() as u64, distances.len() as u64);
     let end = lesser(n as u64, room_for) as usize;
-    clear_offsets(offsets, end);
-    clear_distances(distances, end);
+    clear_u32(offsets, end);
+    clear_u64(distances, end);
     n
 }

@@ -38,7 +38,7 @@ pub fn cell(corner: u64, above: u64, left: u64, x: i32, y: i32) -> u64
 }
 
 // `big` at each place to `m`.
-pub fn clear_row(row: &mut [u64], m: usize)
+pub fn fill_row(row: &mut [u64], m: usize)
     requires { do ⌜ m < (← ⟦row.len()⟧) ⌝ }
     ensures { λ r. ⌜ ((k : ℕ) → k ≤ m → getD (now (row .exit)) k 0 ≡ big) ⌝ }
 {
@@ -57,7 +57,7 @@ pub fn first_row(s: &[i32], from: usize, q: &[i32], b: usize, row: &mut [u64])
     ensures { λ r. do ⌜ RowIs (cells (stretch (now (s .entry)) from) (at (now (q .entry))) b 0) (← ⟦q.len()⟧ .entry) (now (row .exit)) ⌝ }
 {
     let m = q.len();
-    clear_row(row, m);
+    fill_row(row, m);
     let x = s[from];
     let hi = band_high(0, b, m);
     let mut left: u64 = 0;

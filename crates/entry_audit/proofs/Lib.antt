@@ -1,4 +1,4 @@
--- What auditing implies, and the calls of the loop over lent records.
+-- Laws of entry_audit.
 pub mod Turn
 pub mod Cases
 pub mod Chunks

@@ -1,3 +1,3 @@
--- What the plan of the entry gives, and a call of the entry in a walk of a crate above.
+-- Laws of entry_extend.
 pub mod Stages
 pub mod AnswerLaws

@@ -12,7 +12,7 @@ use lib.Seq.{sets, sets-eq, take-length}
 use borrow.Author.Tests.{eq-eqb, ne-eqb, eqb-true, eqb-false}
 use Rattle.meaning_rows.specs.declared.Head.{Head}
 use Rattle.meaning_rows.specs.declared.Row.{Row}
-use Rattle.meaning_rows.specs.Index.{Index, Entry, lent}
+use Rattle.meaning_rows.specs.Index.{zeroRow, Index, Entry, lent}
 use Rattle.meaning_rows.specs.Judge.{headGood, firstBadRow}
 use Rattle.meaning_text.specs.Form.{Value}
 use Rattle.meaning_text.specs.Read.{fine, unfit, readText, lineOf}
@@ -20,7 +20,7 @@ use Rattle.meaning_text.specs.Texts.{indexForm, indexSaid}
 use Rattle.meaning_text.proofs.Reading.{by-test}
 use Rattle.meaning_entries.specs.declared.Loaded.{Loaded}
 use Rattle.meaning_entries.specs.Refusal.{firstRefusal, badLine, unreadable, roomLines}
-use Rattle.meaning_entries.specs.Buffers.{filled, zeroRow, IndexBuffers, runRoom, lefts, rights, indexIn}
+use Rattle.meaning_entries.specs.Buffers.{filled, IndexBuffers, runRoom, lefts, rights, indexIn}
 use Rattle.meaning_entries.specs.Answers.{headOf}
 use Rattle.meaning_entries.specs.Load.{textIndex, loadTable, loadRefusal, loadAnswer, loadAfter}
 use Rattle.meaning_entries.specs.Demand2.{LoadKept}

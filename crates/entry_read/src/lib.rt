@@ -1,4 +1,5 @@
 // Reading an index text into lent buffers (01, Text and program): a pass that judges the text, and where nothing refuses a pass that puts its runs into the run buffer and one that puts its rows into the row records. What is not used of the buffers is made 0 at once. A refusal alters nothing.
+use clear::clear_u32;
 use meaning_entries::Loaded;
 use meaning_rows::Head;
 use meaning_rows::Row;
@@ -28,7 +29,7 @@ use text_rows::fill_rows;
 ghost use mathlib.Core.Path.{_≡_};
 ghost use mathlib.Core.Bool.{cond};
 ghost use Prim.Native.Nat.{_+_, _<_, _≤_, _^_};
-ghost use lib.ListN.{length, set, replicate};
+ghost use lib.ListN.{length, set};
 ghost use Rattle.meaning_entries.specs.Demand2.{LoadKept};
 ghost use Rattle.refusals.specs.Refusal.{refusalOf};
 ghost use Rattle.text_event.specs.Event.{RunsFrom};
@@ -252,17 +253,6 @@ pub fn fill_runs(text: &[u8], left: &mut [u32], right: &mut [u32])
     }
 }
 
-// Every entry is made 0.
-fn clear(out: &mut [u32])
-    ensures { λ _. ⌜ now (out .exit) ≡ replicate (length (now (out .entry))) 0 ⌝ }
-{
-    let mut i = 0;
-    while i < out.len() {
-        out[i] = 0;
-        i += 1;
-    }
-}
-
 // The plan for a text, and where nothing refuses its runs in the run buffer.
 pub fn load_runs(text: &[u8], rows: usize, left: &mut [u32], right: &mut [u32]) -> ReadPlan
     ensures { λ p. ⌜ Loads (now (text .entry)) rows (now (left .entry)) (now (right .entry)) p (now (left .exit)) (now (right .exit)) ⌝ }
@@ -272,8 +262,8 @@ pub fn load_runs(text: &[u8], rows: usize, left: &mut [u32], right: &mut [u32]) 
     if p.refusal.number != 0 {
         return p;
     }
-    clear(left);
-    clear(right);
+    clear_u32(left, 0);
+    clear_u32(right, 0);
     fill_runs(text, left, right);
     p
 }

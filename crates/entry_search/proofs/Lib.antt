@@ -1,4 +1,4 @@
--- What the halves of a search have of their parts, that their promises leave one outcome, and a call of the entry in a walk of a crate above.
+-- Laws of entry_search.
 pub mod Looks
 pub mod Only
 pub mod Refused

@@ -20,10 +20,11 @@ use Rattle.meaning_entries.specs.Demand2.{WriteKept}
 use Rattle.meaning_entries.proofs.Refusal.{passed-is, openLines, passed-line, lacks}
 use Rattle.meaning_entries.proofs.Lines.{room-line}
 use Rattle.meaning_entries.proofs.Demand2.{write-kept}
+use Rattle.clear.specs.Clear.{clearedFrom}
 use Rattle.rows_judge.specs.declared.Judged.{Judged}
 use Rattle.rows_judge.specs.Judged.{judgedOf, bad-row}
 use Rattle.refusals.specs.Refusal.{refusalOf, judged-line, passes, refuses}
-use Rattle.entry_write.specs.Spell.{Ended, cleared}
+use Rattle.entry_write.specs.Spell.{Ended}
 use Rattle.entry_write.specs.Answer.{tableOf, answerOf, isRefused}
 
 -- an answer, and why
@@ -69,8 +70,8 @@ untouched (refused n p e) h = rw (e, writeAfter)
 untouched (fits e l) h = let z : _≡_ {A = ℕ} 0 1 = cc in absurd (omega arith)
 
 -- a text with room, and zeros behind it
-whole : (l text : List ℕ) (to : ℕ) → length l ≤ length text → to ≡ length l → cleared to (sets text 0 l) ≡ filled 0 l text
-unfolding cleared filled
+whole : (l text : List ℕ) (to : ℕ) → length l ≤ length text → to ≡ length l → clearedFrom to (sets text 0 l) ≡ filled 0 l text
+unfolding clearedFrom filled
 whole l text to h e =
     let s : sets text 0 l ≡ l ++ drop (0 + length l) text = sets-eq l text 0 (omega arith) in
     rw (e, length-sets text 0 l, s, take-append-le (length l) l (drop (0 + length l) text) (omega arith), take-length l)

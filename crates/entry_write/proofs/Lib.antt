@@ -1,3 +1,3 @@
--- The calls that lend a text again, those of the two walks, what the entry keeps, and the call of the entry by crates above.
+-- Laws of entry_write.
 pub mod Kept
 pub mod Spell

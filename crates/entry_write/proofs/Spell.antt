@@ -1,24 +1,24 @@
 -- A text spelled into a buffer: stored from a place on as far as there is room, or only counted, and then nothing is altered.
 use mathlib.Core.Path.{_≡_, refl, sym, ap, _∙_}
 use mathlib.Core.Bool.{Bool, true, false}
-use mathlib.Core.List.{List, [], _∷_, _++_, append-nil, append-assoc}
-use Prim.Native.Nat.{ℕ, _+_, _-_, _<_, _≤_}
+use mathlib.Core.List.{List, _++_, append-nil, append-assoc}
+use Prim.Native.Nat.{ℕ, _+_, _<_, _≤_}
 use native.Mathlib.Omega.{arith}
 use lib.IntN.{pos}
-use native.Mathlib.Decide.{decLe}
-use lib.ListN.{length, getD, take, drop, set, replicate, length-append, length-replicate, replicate-append-replicate, drop-of-length-le}
-use lib.Seq.{sets, length-sets, sets-eq, take-all}
+use lib.ListN.{length, getD, take, length-append}
+use lib.Seq.{take-all}
 use Rattle.meaning_rows.specs.declared.Row.{Row}
 use Rattle.meaning_rows.specs.declared.Head.{Head}
 use Rattle.meaning_rows.specs.Index.{lent}
 use Rattle.meaning_text.specs.Form.{spellMany}
 use Rattle.meaning_text.specs.Texts.{indexText}
+use Rattle.clear.specs.Clear.{clearedFrom}
 use Rattle.text_write.specs.Write.{headText, endText, rowText}
 use Rattle.text_write.proofs.Write.{rowsText, rows-turn, index-parts}
 use Rattle.text_put.specs.Put.{Put}
-use Rattle.text_put.proofs.Put.{put-then, sets-append}
+use Rattle.text_put.proofs.Put.{put-then}
 use Rattle.text_count.specs.Count.{Counted}
-use Rattle.entry_write.specs.Spell.{Spelled, cleared, Ended}
+use Rattle.entry_write.specs.Spell.{Spelled, Ended}
 
 pub spelled-put : {old l new : List ℕ} {from to : ℕ} → Put old from l new to → Spelled true old from l new to
 spelled-put p = record { holds = p .holds; ends = p .ends }
@@ -37,8 +37,8 @@ pub spelled-then : {store : Bool} {a b c l m : List ℕ} {i j k : ℕ} → Spell
 spelled-then {store = true} {l = l} {m = m} p q = spelled-put (put-then {l = l} {m = m} (record { holds = p .holds; ends = p .ends }) (record { holds = q .holds; ends = q .ends }))
 spelled-then {store = false} {l = l} {m = m} p q = record { holds = q .holds ∙ p .holds; ends = omega (arith, p .ends, q .ends, ap length (p .holds), length-append l m) }
 
-pub ended-stored : {store : Bool} {old l mid new : List ℕ} {from to : ℕ} → store ≡ true → Put old from l mid to → new ≡ cleared to mid → Ended store old from l new to
-ended-stored {l = l} {to = to} e p c = rw e (record { holds = c ∙ ap (cleared to) (p .holds); ends = p .ends })
+pub ended-stored : {store : Bool} {old l mid new : List ℕ} {from to : ℕ} → store ≡ true → Put old from l mid to → new ≡ clearedFrom to mid → Ended store old from l new to
+ended-stored {l = l} {to = to} e p c = rw e (record { holds = c ∙ ap (clearedFrom to) (p .holds); ends = p .ends })
 
 pub ended-only : {store : Bool} {old l : List ℕ} {from to : ℕ} → store ≡ false → Counted (length old) from l to → Ended store old from l old to
 ended-only e p = rw e (record { holds = refl; ends = p .ends })
@@ -47,52 +47,10 @@ ended-only e p = rw e (record { holds = refl; ends = p .ends })
 pub spelled-ended : {store : Bool} {a b c l m : List ℕ} {i j k : ℕ} → Spelled store a i l b j → Ended store b j m c k → Ended store a i (l ++ m) c k
 spelled-ended {store = true} {b = b} {l = l} {m = m} {j = j} {k = k} p q =
     let s = spelled-then {l = l} {m = m} p (record { holds = refl; ends = q .ends }) in
-    record { holds = q .holds ∙ ap (cleared k) (s .holds); ends = s .ends }
+    record { holds = q .holds ∙ ap (clearedFrom k) (s .holds); ends = s .ends }
 spelled-ended {store = false} {b = b} {l = l} {m = m} {j = j} {k = k} p q =
     let s = spelled-then {l = l} {m = m} p (record { holds = refl; ends = q .ends }) in
     record { holds = q .holds ∙ p .holds; ends = s .ends }
-
--- ---- zeros written one after the other
-
--- after those from `from` up to i
-pub record Clearing (old : List ℕ) (from : ℕ) (now : List ℕ) (i : ℕ) : Type 0 where
-  pub holds : now ≡ sets old from (replicate (i - from) 0)
-  pub begun : from ≤ i
-  pub within : i - from ≤ length old - from
-
-pub clearing-length : {old now : List ℕ} {from i : ℕ} → Clearing old from now i → length now ≡ length old
-clearing-length {old} {from = from} {i} c = rw (c .holds) (length-sets old from (replicate (i - from) 0))
-
-pub clearing-starts : (old : List ℕ) (from : ℕ) → Clearing old from old from
-clearing-starts old from = let e : from - from ≡ 0 = omega arith in record { holds = rw e; begun = omega arith; within = omega arith }
-
-one-more : (k : ℕ) → replicate {A = ℕ} (k + 1) 0 ≡ replicate k 0 ++ (0 ∷ [])
-one-more k = sym (replicate-append-replicate k 1 0)
-
-pub clearing-turn : {old now : List ℕ} {from i : ℕ} → Clearing old from now i → i < length now → Clearing old from (set now i 0) (i + 1)
-clearing-turn {old} {now} {from} {i} c h =
-    let n = i - from in
-    let e : i + 1 - from ≡ n + 1 = omega (arith, c .begun) in
-    let f : from + n ≡ i = omega (arith, c .begun) in
-    record {
-      holds = rw (c .holds, e, one-more n, sets-append (replicate n 0) (0 ∷ []) old from, length-replicate {A = ℕ} n 0, f);
-      begun = omega (arith, c .begun);
-      within = omega (arith, c .begun, h, clearing-length c);
-    }
-
-pub clearing-ends : {old now : List ℕ} {from i : ℕ} → Clearing old from now i → length now ≤ i → now ≡ cleared from old
-unfolding cleared
-clearing-ends {old} {now} {from} {i} c h = elim (decLe from (length old)) [
-  | yes l ↦
-      let e : i - from ≡ length old - from = omega (arith, h, c .within, clearing-length c) in
-      let n = length old - from in
-      let whole : drop (from + length (replicate {A = ℕ} n 0)) old ≡ [] = drop-of-length-le old {i = from + length (replicate {A = ℕ} n 0)} (omega (arith, length-replicate {A = ℕ} n 0)) in
-      c .holds ∙ rw e (sets-eq (replicate n 0) old from (omega (arith, length-replicate {A = ℕ} n 0)) ∙ rw (whole, append-nil))
-  | no f ↦
-      let e : i - from ≡ 0 = omega (arith, c .within) in
-      let n : length old - from ≡ 0 = omega arith in
-      c .holds ∙ rw (e, n, append-nil) (sym (take-all from old (omega arith)))
-]
 
 -- ---- the loop over the row records
 

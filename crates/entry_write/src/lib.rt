@@ -1,4 +1,5 @@
 // The entry write: a lent index becomes an index text. The text is counted first, then written by the same loop over the row records.
+use clear::clear_u8;
 use meaning_entries::Written;
 use meaning_rows::Head;
 use meaning_rows::Row;
@@ -23,7 +24,7 @@ ghost use Rattle.meaning_rows.specs.Index.{lent};
 ghost use Rattle.meaning_text.specs.Texts.{indexText};
 ghost use Rattle.meaning_entries.specs.Demand2.{WriteKept};
 ghost use Rattle.text_write.specs.Write.{headText, endText, rowText};
-ghost use Rattle.entry_write.specs.Spell.{Spelled, Ended, cleared};
+ghost use Rattle.entry_write.specs.Spell.{Spelled, Ended};
 ghost use Rattle.refusals.specs.Refusal.{refusalOf};
 ghost use Rattle.entry_write.specs.Answer.{tableOf, answerOf, isRefused};
 
@@ -54,24 +55,13 @@ pub fn spell_row(
     count_row(text.len(), at, r, left, right)
 }
 
-// Every byte from a place on is made 0.
-pub fn clear_from(text: &mut [u8], from: usize)
-    ensures { λ _. ⌜ now (text .exit) ≡ cleared from (now (text .entry)) ⌝ }
-{
-    let mut i = from;
-    while i < text.len() {
-        text[i] = 0;
-        i += 1;
-    }
-}
-
 // The end, likewise; where it is stored, zeros behind it.
 pub fn spell_end(text: &mut [u8], store: bool, at: usize) -> usize
     ensures { λ to. ⌜ Ended store (now (text .entry)) at endText (now (text .exit)) to ⌝ }
 {
     if store {
         let to = write_end(text, at);
-        clear_from(text, to);
+        clear_u8(text, to);
         return to;
     }
     count_end(text.len(), at)

@@ -1,4 +1,4 @@
--- Calls of the covered functions, as steps of a walk.
+-- Laws of extend_count.
 pub mod Count
 pub mod Extension
 pub mod Listed

@@ -1,3 +1,3 @@
--- No laws of their own.
+-- Laws of extend_new.
 pub mod Join
 pub mod New

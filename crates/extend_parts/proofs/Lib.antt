@@ -1,4 +1,4 @@
--- Calls of the covered functions, as steps of a walk.
+-- Laws of extend_parts.
 pub mod Columns
 pub mod Copy
 pub mod Lay

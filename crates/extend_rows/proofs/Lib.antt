@@ -1,4 +1,4 @@
--- Proofs of extend_rows.
+-- Laws of extend_rows.
 pub mod Shell
 pub mod Laid
 pub mod Steps

@@ -1,4 +1,4 @@
--- Proofs of extend_runs.
+-- Laws of extend_runs.
 pub mod Rowed
 pub mod Joined
 pub mod Counts

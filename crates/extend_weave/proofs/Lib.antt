@@ -1,4 +1,4 @@
--- That the counts of a weave fit.
+-- Laws of extend_weave.
 pub mod Fits
 pub mod Weave
 pub mod Woven

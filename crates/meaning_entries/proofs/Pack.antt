@@ -10,14 +10,13 @@ use lib.IntN.{ℤ}
 use lib.ListN.{getD}
 use Rattle.meaning_numbers.proofs.Tests.{two-tests}
 use Rattle.meaning_curves.specs.Limits.{mostValues}
-use Rattle.meaning_rows.specs.Index.{Index}
+use Rattle.meaning_rows.specs.Index.{zeroRow, Index}
 use Rattle.meaning_rows.specs.Judge.{firstBadRow}
 use Rattle.meaning_rows.specs.Audit.{firstWrong, missing}
 use Rattle.meaning_rows.proofs.Judge.{well-formed, row-at, stands-below}
 use Rattle.meaning_rows.proofs.Audit.{first-wrong}
 use Rattle.meaning_entries.specs.declared.Audited.{Audited}
 use Rattle.meaning_entries.specs.Refusal.{Condition, firstRefusal}
-use Rattle.meaning_entries.specs.Buffers.{zeroRow}
 use Rattle.meaning_entries.specs.Audit.{AuditCall, auditTable, complete, audited}
 use Rattle.meaning_entries.specs.Load.{textIndex}
 use Rattle.meaning_entries.specs.AuditText.{textCall, auditTextTable, auditTextAnswer, packRefusal, pack, unpackBy, unpack, auditText}

@@ -7,7 +7,7 @@ use lib.Dec.{eqb}
 use lib.IntN.{pos}
 use lib.ListN.{replicate}
 use Rattle.meaning_numbers.proofs.Table.{sameList}
-use Rattle.meaning_rows.specs.Index.{Index}
+use Rattle.meaning_rows.specs.Index.{zeroRow, Index}
 use Rattle.meaning_text.specs.Bytes.{bytes}
 use Rattle.meaning_text.specs.Number.{spellℤ}
 use Rattle.meaning_text.specs.Form.{both}
@@ -15,7 +15,7 @@ use Rattle.meaning_text.specs.Read.{fine, unfit, readText}
 use Rattle.meaning_text.specs.Texts.{indexForm, seriesForm, indexSaid, indexText, refusedText}
 use Rattle.meaning_entries.specs.declared.Audited.{Audited}
 use Rattle.meaning_entries.specs.declared.Extended.{Extended}
-use Rattle.meaning_entries.specs.Buffers.{IndexBuffers, zeroRow}
+use Rattle.meaning_entries.specs.Buffers.{IndexBuffers}
 use Rattle.meaning_entries.specs.Extend.{ExtendCall, extendAnswer, extendIndex}
 use Rattle.meaning_entries.specs.AuditText.{auditText, unpack}
 use Rattle.meaning_entries.specs.Program.{program}

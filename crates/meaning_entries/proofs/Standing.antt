@@ -12,12 +12,12 @@ use Rattle.meaning_curves.specs.Curve.{windowSum, windowCount}
 use Rattle.meaning_rows.specs.declared.Row.{Row}
 use Rattle.meaning_rows.specs.declared.Head.{Head}
 use Rattle.meaning_rows.specs.Runs.{runs}
-use Rattle.meaning_rows.specs.Index.{Index, Entry, entries, lent, laidOut, allRuns}
+use Rattle.meaning_rows.specs.Index.{zeroRow, Index, Entry, entries, lent, laidOut, allRuns}
 use Rattle.meaning_rows.specs.Build.{SetRow, filed, merged, entry, withRuns, builtRows, built}
 use Rattle.meaning_rows.specs.Extend.{insertRows, added, newNumbers, grown, extendedRows, extended}
 use Rattle.meaning_entries.specs.declared.Built.{Built}
 use Rattle.meaning_entries.specs.declared.Extended.{Extended}
-use Rattle.meaning_entries.specs.Buffers.{IndexBuffers, filled, zeroRow, lefts, rights, indexIn}
+use Rattle.meaning_entries.specs.Buffers.{IndexBuffers, filled, lefts, rights, indexIn}
 use Rattle.meaning_entries.specs.Answers.{headOf}
 use Rattle.meaning_entries.specs.Build.{BuildCall, lentBuild, buildIndex, buildHead, buildCounts, buildAfter, buildWindows}
 use Rattle.meaning_entries.specs.Extend.{ExtendCall, lentExtend, extendIndex, extendHead, extendCounts, extendAfter, extendWindows}

@@ -1,17 +1,14 @@
 -- Lent buffers, and what stands in them afterwards: the written entries first, 0 in every unused one (01, after the tables of refusals).
 use mathlib.Core.List.{List, _++_, map}
 use Prim.Native.Nat.{ℕ, _-_, min}
-use lib.IntN.{pos, natAbs}
+use lib.IntN.{natAbs}
 use lib.ListN.{length, replicate}
 use Rattle.meaning_rows.specs.declared.Row.{Row}
-use Rattle.meaning_rows.specs.Index.{Index, Entry}
+use Rattle.meaning_rows.specs.Index.{zeroRow, Index, Entry}
 
 -- a buffer after it was written: the new entries, and 0 in the others
 unfoldable pub filled : {A : Type 0} → A → List A → List A → List A
 filled zero new old = new ++ replicate (length old - length new) zero
-
-abbrev pub zeroRow : Row
-zeroRow = record { low = pos 0; up = pos 0; first = 0; runs = 0 }
 
 -- a buffer of pairs is two slices; it holds as many entries as the shorter
 abbrev pub pairRoom : List ℕ → List ℕ → ℕ

@@ -9,7 +9,7 @@ use Prim.Native.Nat.{ℕ, zero, suc, _+_, _-_, _<_, _≤_}
 use native.Mathlib.Omega.{arith}
 use native.Mathlib.Decide.{decLe}
 use lib.Dec.{leb}
-use lib.IntN.{ℤ, pos, natAbs}
+use lib.IntN.{ℤ, natAbs}
 use lib.ListN.{length, getD}
 use lib.Signed.{_≤ℤ_}
 use borrow.Author.Tests.{leb-true, le-leb, not-false}
@@ -22,7 +22,7 @@ use Rattle.meaning_numbers.proofs.Member.{any-mem, any-found, any-none, any-map
 use Rattle.meaning_curves.specs.Limits.{lowestEnd}
 use Rattle.meaning_rows.specs.declared.Row.{Row}
 use Rattle.meaning_rows.specs.Range.{inside}
-use Rattle.meaning_rows.specs.Index.{Index, Entry, runsOf, inRun, stands}
+use Rattle.meaning_rows.specs.Index.{zeroRow, Index, Entry, runsOf, inRun, stands}
 use Rattle.meaning_rows.specs.Build.{entry}
 use Rattle.meaning_rows.specs.Audit.{offsets, wrongIn, wrongFrom, sums, firstWrong, nowhere, missing}
 use Rattle.meaning_rows.proofs.Range.{is-inside}
@@ -192,13 +192,10 @@ some-none e = let z : _≡_ {A = ℕ} 0 1 = cc in omega arith
 same-pair : {p q : ℕ × ℕ} → some p ≡ some q → p ≡ q
 same-pair e = cc
 
-no-row : Row
-no-row = record { low = pos 0; up = pos 0; first = 0; runs = 0 }
-
 module _ (x : Index) (s : List ℤ) (g : WellFormed x) where
   pub all-right : firstWrong x s ≡ none → All (RightRow x (sums x s)) (x .rows)
   unfolding firstWrong
-  all-right e = ⊎-elim (λ a. a) (λ w. absurd (some-none (sym (w .3) ∙ e))) (right-or-wrong x (sums x s) no-row 0 (x .rows) (each-row x g))
+  all-right e = ⊎-elim (λ a. a) (λ w. absurd (some-none (sym (w .3) ∙ e))) (right-or-wrong x (sums x s) zeroRow 0 (x .rows) (each-row x g))
 
   pub none-wrong : All (RightRow x (sums x s)) (x .rows) → firstWrong x s ≡ none
   unfolding firstWrong

@@ -9,6 +9,10 @@ use Rattle.meaning_numbers.specs.Place.{any}
 use Rattle.meaning_rows.specs.declared.Row.{Row}
 use Rattle.meaning_rows.specs.declared.Head.{Head}
 
+-- the record of zeros
+abbrev pub zeroRow : Row
+zeroRow = record { low = pos 0; up = pos 0; first = 0; runs = 0 }
+
 -- a run entry: l and r
 abbrev pub Entry : Type 0
 Entry = ℤ × ℤ

@@ -14,7 +14,7 @@ use lib.Signed.{ltZ}
 use borrow.Author.Tests.{ne-eqb, ltb-true}
 use Rattle.meaning_numbers.proofs.Member.{All}
 use Rattle.meaning_curves.specs.Limits.{mostValues, mostProgramValues, lengthIn, lowestEnd, firstOutside}
-use Rattle.meaning_rows.specs.Index.{Index, runsOf}
+use Rattle.meaning_rows.specs.Index.{zeroRow, Index, runsOf}
 use Rattle.meaning_rows.specs.Judge.{runLengths, firstBadRow}
 use Rattle.meaning_rows.specs.Audit.{firstWrong, missing}
 use Rattle.meaning_rows.specs.declared.Row.{Row}
@@ -31,7 +31,6 @@ use Rattle.meaning_text.proofs.Texts.{index-laws, series-laws}
 use Rattle.meaning_text.proofs.Lines.{newlines-append, index-lines, bad-line}
 use Rattle.meaning_entries.specs.declared.Audited.{Audited}
 use Rattle.meaning_entries.specs.Refusal.{Condition, firstRefusal, lengthOutside, valueOutside, illFormed, windowsOf, fewerWindows, moreWindows}
-use Rattle.meaning_entries.specs.Buffers.{zeroRow}
 use Rattle.meaning_entries.specs.Audit.{AuditCall, auditTable, complete, audited}
 use Rattle.meaning_entries.specs.Load.{textIndex}
 use Rattle.meaning_entries.specs.AuditText.{packRefusal, pack, auditTextAnswer}

@@ -1,3 +1,3 @@
--- Calls of the entries in a walk.
+-- Laws of program_answer.
 pub mod Print
 pub mod Sizes

@@ -16,7 +16,7 @@ use Rattle.meaning_curves.specs.Limits.{mostValues, mostProgramValues}
 use Rattle.meaning_curves.specs.Curve.{windowCount, windowSum}
 use Rattle.meaning_rows.specs.declared.Row.{Row}
 use Rattle.meaning_rows.specs.Runs.{runs}
-use Rattle.meaning_rows.specs.Index.{Index, Entry, entries, lent, allRuns}
+use Rattle.meaning_rows.specs.Index.{zeroRow, Index, Entry, entries, lent, allRuns}
 use Rattle.meaning_rows.specs.Build.{SetRow, entry, withRuns, builtRows, merged, filed, built}
 use Rattle.meaning_rows.proofs.Judge.{Natural, none-bad}
 use Rattle.meaning_filter.specs.Matches.{allMatches, candidateAt, candidateCount}
@@ -24,7 +24,7 @@ use Rattle.meaning_text.specs.Texts.{indexText, foundText}
 use Rattle.meaning_entries.specs.declared.Built.{Built}
 use Rattle.meaning_entries.specs.declared.Found.{Found}
 use Rattle.meaning_entries.specs.Refusal.{Condition, valueOutside, flatQuery, illFormed, windowsOf, bufferShort, seriesLines}
-use Rattle.meaning_entries.specs.Buffers.{IndexBuffers, filled, zeroRow, lefts, rights, indexIn}
+use Rattle.meaning_entries.specs.Buffers.{IndexBuffers, filled, lefts, rights, indexIn}
 use Rattle.meaning_entries.specs.Answers.{headOf}
 use Rattle.meaning_entries.specs.Build.{BuildCall, lentBuild, widthLines, buildTable, buildRefusal, buildIndex, buildAnswer, buildAfter}
 use Rattle.meaning_entries.specs.Write.{writeTable, writeRefusal}

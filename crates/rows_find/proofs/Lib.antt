@@ -1,2 +1,2 @@
--- The search over plain variables.
+-- Laws of rows_find.
 pub mod Search

@@ -1,13 +1,9 @@
--- The record of zeros, and the records that a chunk holds.
+-- The records that a chunk holds.
 use mathlib.Core.List.{List}
 use Prim.Native.Nat.{ℕ, zero, suc, _+_, _-_, min}
-use lib.IntN.{pos}
 use lib.ListN.{getD, set, replicate}
 use Rattle.meaning_rows.specs.declared.Row.{Row}
-
--- what stands past the end of the lent records
-abbrev pub zeroRow : Row
-zeroRow = record { low = pos 0; up = pos 0; first = 0; runs = 0 }
+pub use Rattle.meaning_rows.specs.Index.{zeroRow}
 
 -- the first n entries of a list, exchanged for the n records that stand from a place on
 unfoldable pub copied : List Row → ℕ → ℕ → List Row → List Row

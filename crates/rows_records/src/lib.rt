@@ -6,6 +6,18 @@ ghost use lib.ListN.{length, getD, take, replicate};
 ghost use Rattle.rows_records.specs.Records.{zeroRow, copied, countFrom, chunkOf};
 use meaning_rows::Row;
 
+// The record of zeros.
+pub fn zero_row() -> Row
+    ensures { λ r. ⌜ r ≡ zeroRow ⌝ }
+{
+    Row {
+        low: 0,
+        up: 0,
+        first: 0,
+        runs: 0,
+    }
+}
+
 // Record k.
 pub fn row_at(rows: &[Row], k: usize) -> Row
     requires { ⌜ k < length (now rows) ⌝ }

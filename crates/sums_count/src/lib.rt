@@ -1,4 +1,5 @@
 // The runs of each row counted in one pass over the runs of a series, beside the table of its row numbers.
+use clear::clear_u32;
 use sums_slide::Window;
 use sums_slide::first_level;
 use sums_slide::list_rows;
@@ -39,18 +40,6 @@ pub fn find_number(numbers: &[u32], count: usize, k: u64) -> usize
         size -= half;
     }
     lo
-}
-
-// Every number is made 0.
-pub fn clear_numbers(numbers: &mut [u32])
-    ensures { λ _. ⌜ ((x : ℕ) → getD (now (numbers .exit)) x 0 ≡ 0) ⌝ }
-    ensures { λ _. ⌜ length (now (numbers .exit)) ≡ length (now (numbers .entry)) ⌝ }
-{
-    let mut i: usize = 0;
-    while i < numbers.len() {
-        numbers[i] = 0;
-        i += 1;
-    }
 }
 
 // The number of runs of each row, beside its number in the table.
@@ -110,7 +99,7 @@ pub fn plan(
     ensures { λ _. ⌜ Counted (rowOf (level (now (s .entry)) w e) d) (windowsOf (now (s .entry)) w) (table (now (s .entry)) w e d) (now (counts .exit)) ⌝ }
 {
     let n = list_rows(s, w, e, d, flags, numbers);
-    clear_numbers(counts);
+    clear_u32(counts, 0);
     count_runs(s, w, e, d, numbers, n, counts);
     n
 }

@@ -99,13 +99,6 @@ flags-start row base l h = record { flag = λ x b. h x b ∙ rw (met-start row (
 pub lit-picked : (row : ℕ → ℕ) (n base m : ℕ) (flags : List ℕ) → Flags row n base flags → length flags ≡ m → picked (lit flags base) base (length flags) ≡ picked (met row n) base m
 lit-picked row n base m flags f e = picked-cong (lit flags base) (met row n) base (length flags) (flags-lit f) ∙ ap (picked (met row n) base) e
 
--- ---- a turn of clearing
-
-pub clear-more : (l : List ℕ) (i : ℕ) → i < length l → ((x : ℕ) → x < i → getD l x 0 ≡ 0) → (x : ℕ) → x < i + 1 → getD (set l i 0) x 0 ≡ 0
-clear-more l i h z x b = by-test (eqb x i)
-    (λ t. let e = eqb-true x i t in rw e (getD-set-same l i 0 0 h))
-    (λ f. let e : (x ≡ i) → ⊥ = eqb-false x i f in getD-set-other l i x 0 0 e ∙ z x (omega arith))
-
 -- ---- a turn of collecting
 
 module _ (flags : List ℕ) (base x : ℕ) {old new : List ℕ} {k r : ℕ} (less : x < length flags) (a : Appended (picked (lit flags base) base x) k r old new) where

@@ -20,11 +20,6 @@ flagged l base k = cond (leb base k) (set l (k - base) 1) l
 pub record Flags (row : ℕ → ℕ) (n base : ℕ) (flags : List ℕ) : Type 0 where
   pub flag : (x : ℕ) → x < length flags → getD flags x 0 ≡ bit (met row n (base + x))
 
--- all flags are 0
-pub record Cleared (old new : List ℕ) : Type 0 where
-  pub long : length new ≡ length old
-  pub zero : (x : ℕ) → x < length new → getD new x 0 ≡ 0
-
 -- the flag of number v is set
 unfoldable pub lit : List ℕ → ℕ → ℕ → Bool
 lit flags base v = not (eqb (getD flags (v - base) 0) 0)

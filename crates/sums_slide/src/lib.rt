@@ -1,4 +1,5 @@
 // Passes over the windows of a series, by runs: the windows of a run have sums in one range, and no row number is computed inside it. Sums are raised, so that nothing is signed here.
+use clear::clear_u8;
 use numbers::RAISE;
 use numbers::greater;
 use numbers::lesser;
@@ -18,7 +19,7 @@ ghost use Rattle.numbers.specs.Raised.{raised};
 ghost use Rattle.sums_slide.specs.Levels.{level, placeFrom, sumAt, rowOf, Lent, windowsOf, within, Bounds};
 ghost use Rattle.sums_slide.specs.Ends.{raisedEnd};
 ghost use Rattle.sums_slide.specs.Change.{Stop, NextRow};
-ghost use Rattle.sums_slide.specs.Marks.{flagged, lit, met, Flags, Cleared};
+ghost use Rattle.sums_slide.specs.Marks.{flagged, lit, met, Flags};
 ghost use Rattle.sums_slide.specs.Table.{table};
 ghost use Rattle.sums_slide.specs.Picked.{picked, Appended};
 
@@ -245,17 +246,6 @@ pub fn collect(flags: &[u8], base: u64, out: &mut [u32], k: usize) -> usize
     n
 }
 
-// Every flag is made 0.
-pub fn clear_flags(flags: &mut [u8])
-    ensures { λ _. ⌜ Cleared (now (flags .entry)) (now (flags .exit)) ⌝ }
-{
-    let mut i: usize = 0;
-    while i < flags.len() {
-        flags[i] = 0;
-        i += 1;
-    }
-}
-
 // The row numbers from `base` on that windows have, as many numbers as there are flags, written behind the first `k` of `out`; how many stand there then.
 pub fn list_chunk(
     s: &[i32],
@@ -274,7 +264,7 @@ pub fn list_chunk(
     ensures { λ r. ⌜ Appended (picked (met (rowOf (level (now (s .entry)) w e) d) (windowsOf (now (s .entry)) w)) base (length (now (flags .entry)))) k r (now (out .entry)) (now (out .exit)) ⌝ }
     ensures { λ _. ⌜ length (now (flags .exit)) ≡ length (now (flags .entry)) ⌝ }
 {
-    clear_flags(flags);
+    clear_u8(flags, 0);
     mark(s, w, e, d, base, flags);
     collect(flags, base, out, k)
 }

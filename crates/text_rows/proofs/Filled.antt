@@ -12,7 +12,7 @@ use lib.ListN.{length, getD, take, drop, replicate, length-replicate, length-app
 use lib.Seq.{drop-append-seam, drop-drop, getD-set-same, getD-set-other, ext-getD}
 use Rattle.meaning_rows.specs.declared.Head.{Head}
 use Rattle.meaning_rows.specs.declared.Row.{Row}
-use Rattle.meaning_rows.specs.Index.{RangeRow, lent, records, allRuns}
+use Rattle.meaning_rows.specs.Index.{zeroRow, RangeRow, lent, records, allRuns}
 use Rattle.meaning_rows.specs.Judge.{headGood}
 use Rattle.meaning_rows.proofs.Laid.{length-records}
 use Rattle.meaning_text.specs.Form.{Value}
@@ -31,7 +31,7 @@ use Rattle.text_judge.specs.Tally.{noRuns, runsFrom, noRows, rowsFrom, headHeld
 use Rattle.text_judge.proofs.Seen.{tallyOf, tells, shuts, start-is}
 use Rattle.text_judge.proofs.Prefix.{map-append, row-placed}
 use Rattle.text_rows.specs.declared.Line.{Line}
-use Rattle.text_rows.specs.Line.{zeroRow, rowMade, lineFrom, nextLine, lineAt, stored}
+use Rattle.text_rows.specs.Line.{rowMade, lineFrom, nextLine, lineAt, stored}
 use Rattle.text_rows.proofs.Turn.{line-byte, line-ready, length-stored}
 
 abbrev Rs : Type 0

@@ -1,9 +1,9 @@
 -- An index text read on to the end of its next row, as often as rows are wanted.
 use mathlib.Core.List.{List, [], _∷_}
 use Prim.Native.Nat.{ℕ, zero, suc, _≤_, min}
-use lib.IntN.{pos}
 use lib.ListN.{set, drop}
 use Rattle.meaning_rows.specs.declared.Row.{Row}
+use Rattle.meaning_rows.specs.Index.{zeroRow}
 use Rattle.text_index.specs.declared.Word.{Word}
 use Rattle.text_index.specs.declared.State.{State}
 use Rattle.text_index.specs.declared.Moved.{Moved}
@@ -11,9 +11,6 @@ use Rattle.text_index.specs.Step.{indexStep, GoodState}
 use Rattle.text_judge.specs.declared.Tally.{Tally}
 use Rattle.text_judge.specs.Tally.{startTally, tellTally, shutTally, Fits}
 use Rattle.text_rows.specs.declared.Line.{Line}
-
-abbrev pub zeroRow : Row
-zeroRow = record { low = pos 0; up = pos 0; first = 0; runs = 0 }
 
 -- the record of the row that is open: its runs begin where those of the rows before end
 unfoldable pub rowMade : Tally → Row

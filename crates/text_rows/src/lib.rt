@@ -1,6 +1,7 @@
 // The rows of an index text put into lent row records, in one pass over its bytes: each record when its line is read, and records of zeros past the last.
 // A row is read through the reader, which holds the text and where it stands (`next_row`); every caller without a reader has `next_line`.
 use meaning_rows::Row;
+use rows_records::zero_row;
 use text_event::Event;
 use text_event::next_event;
 use text_index::State;
@@ -57,12 +58,7 @@ fn make_row(t: Tally) -> Row
 fn line_end(s: State, at: usize, t: Tally) -> Line
     ensures { λ r. ⌜ r ≡ record { state = s; at = at; tally = t; row = record { low = pos 0; up = pos 0; first = 0; runs = 0 } } ⌝ }
 {
-    let row = Row {
-        low: 0,
-        up: 0,
-        first: 0,
-        runs: 0,
-    };
+    let row = zero_row();
     Line {
         state: s,
         at,

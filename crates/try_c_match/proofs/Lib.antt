@@ -1,3 +1,3 @@
--- Proofs of try_c_match.
+-- Laws of try_c_match.
 pub mod Matches
 pub mod Answers

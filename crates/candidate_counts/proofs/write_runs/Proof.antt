@@ -11,7 +11,7 @@ use Rattle.meaning_rows.proofs.Columns.{Filling, filling-starts, filling-left, 
 use Rattle.candidate_counts.specs.declared.Found.{Found}
 use Rattle.candidate_counts.specs.Handed.{stood, Columns}
 use Rattle.candidate_counts.specs.Take.{TakeReady, Took}
-use Rattle.candidate_counts.proofs.Handed.{left-room, right-room}
+use Rattle.candidate_counts.proofs.Handed.{left-long, right-long}
 use Rattle.candidate_counts.proofs.write_runs.Statement.{statement}
 use Rattle.candidate_counts.proofs.write_runs.Tie as tie
 
@@ -89,6 +89,6 @@ write-runs-spec =
     loop-again
     (λ c. c .before .loop .inv .0)
     (λ c κs. let l = c .before .before .before in ready l _ (omega (arith, l .loop .inv .0)))
-    (λ c. let w = c .before .before .before .before in left-room (full w) (start (l w) .pre .1) .1)
-    (λ c. let w = c .before .before .before .before in right-room (full w) (start (l w) .pre .2) .1)
+    (λ c. let w = c .before .before .before .before in left-long (full w) (start (l w) .pre .1))
+    (λ c. let w = c .before .before .before .before in right-long (full w) (start (l w) .pre .2))
     (λ c. full (c .before .before .before .before)))

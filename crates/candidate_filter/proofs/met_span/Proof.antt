@@ -35,10 +35,10 @@ use Rattle.rows_find.proofs.find_row as find-row
 use Rattle.rows_find.proofs.find_row.Symbol as find-row-def
 use Rattle.rows_find.proofs.find_row.Symbol.{name as #find-row}
 use Rattle.rows_find.proofs.find_row.Met as find-row-thm
-use Rattle.candidate_filter.proofs.zero_row as zero-row
-use Rattle.candidate_filter.proofs.zero_row.Symbol as zero-row-def
-use Rattle.candidate_filter.proofs.zero_row.Symbol.{name as #zero-row}
-use Rattle.candidate_filter.proofs.zero_row.Met as zero-row-thm
+use Rattle.rows_records.proofs.zero_row as zero-row
+use Rattle.rows_records.proofs.zero_row.Symbol as zero-row-def
+use Rattle.rows_records.proofs.zero_row.Symbol.{name as #zero-row}
+use Rattle.rows_records.proofs.zero_row.Met as zero-row-thm
 use Rattle.rows_records.proofs.row_or as row-or
 use Rattle.rows_records.proofs.row_or.Symbol as row-or-def
 use Rattle.rows_records.proofs.row_or.Symbol.{name as #row-or}
@@ -156,7 +156,7 @@ met-span-spec 𝓤 H 𝓜 𝓖 𝓡 =
     (meets 𝓤 H (𝓖 .A) (givenOf 𝓤 H 𝓜 𝓖) (𝓜 .mem) (𝓡 .run) (tablesOf 𝓤 H 𝓜 (tables 𝓤 H 𝓜 𝓡 code.env)) (fmOf 𝓤 H (givenOf 𝓤 H 𝓜 𝓖 .laws) (tablesOf 𝓤 H 𝓜 (tables 𝓤 H 𝓜 𝓡 code.env)))
     (cited 𝓤 H (tripleOf 𝓤 H (𝓖 .A) clamp.signature (clamp.spec 𝓤 H (𝓖 .A) (𝓜 .mem) (𝓡 .run))) 𝓜 𝓡 code.env #clamp clamp-def.routine code.calls-candidate-filter·clamp (clamp-thm.met 𝓤 H 𝓜 𝓖 𝓡))
     (cited 𝓤 H (tripleOf 𝓤 H (𝓖 .A) find-row.signature (find-row.spec 𝓤 H (𝓖 .A) (𝓜 .mem) (𝓡 .run))) 𝓜 𝓡 code.env #find-row find-row-def.routine code.calls-rows-find·find-row (find-row-thm.met 𝓤 H 𝓜 𝓖 𝓡))
-    (cited 𝓤 H (tripleOf 𝓤 H (𝓖 .A) zero-row.signature (zero-row.spec 𝓤 H (𝓖 .A) (𝓜 .mem) (𝓡 .run))) 𝓜 𝓡 code.env #zero-row zero-row-def.routine code.calls-candidate-filter·zero-row (zero-row-thm.met 𝓤 H 𝓜 𝓖 𝓡))
+    (cited 𝓤 H (tripleOf 𝓤 H (𝓖 .A) zero-row.signature (zero-row.spec 𝓤 H (𝓖 .A) (𝓜 .mem) (𝓡 .run))) 𝓜 𝓡 code.env #zero-row zero-row-def.routine code.calls-rows-records·zero-row (zero-row-thm.met 𝓤 H 𝓜 𝓖 𝓡))
     (cited 𝓤 H (tripleOf 𝓤 H (𝓖 .A) row-or.signature (row-or.spec 𝓤 H (𝓖 .A) (𝓜 .mem) (𝓡 .run))) 𝓜 𝓡 code.env #row-or row-or-def.routine code.calls-rows-records·row-or (row-or-thm.met 𝓤 H 𝓜 𝓖 𝓡))
     (cited 𝓤 H (tripleOf 𝓤 H (𝓖 .A) place-before.signature (place-before.spec 𝓤 H (𝓖 .A) (𝓜 .mem) (𝓡 .run))) 𝓜 𝓡 code.env #place-before place-before-def.routine code.calls-numbers·place-before (place-before-thm.met 𝓤 H 𝓜 𝓖 𝓡))
     (cited 𝓤 H (tripleOf 𝓤 H (𝓖 .A) span-of.signature (span-of.spec 𝓤 H (𝓖 .A) (𝓜 .mem) (𝓡 .run))) 𝓜 𝓡 code.env #span-of span-of-def.routine code.calls-candidate-filter·span-of (span-of-thm.met 𝓤 H 𝓜 𝓖 𝓡)))

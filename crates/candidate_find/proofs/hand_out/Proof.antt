@@ -3,13 +3,16 @@ use borrow.Author.Needs.{needs}
 use native.Mathlib.Omega.{arith}
 use mathlib.Core.Path.{_≡_, ap, _∙_}
 use lib.ListN.{length}
+use Rattle.meaning_entries.specs.Buffers.{filled}
+use Rattle.clear.specs.Clear.{clearedFrom}
 use Rattle.candidate_filter.proofs.Meaning.{cleared-same}
 use Rattle.candidate_find.specs.declared.Sought.{Sought}
 use Rattle.candidate_find.proofs.hand_out.Statement.{statement}
 use Rattle.candidate_find.proofs.hand_out.Tie as tie
 
 raise-stretches-requires : tie.Need-raise-stretches-requires
-raise-stretches-requires c κs = rw (c .before .before .before .before .before .clear-scratch .ensures) (c .before .before .before .before .before .before .before .before .before .before .before .before .before .pre .stretches)
+unfolding filled clearedFrom
+raise-stretches-requires c κs = rw (c .before .before .before .before .before .clear-u16 .ensures) (c .before .before .before .before .before .before .before .before .before .before .before .before .before .pre .stretches)
 
 collect-requires : tie.Need-collect-requires
 collect-requires c κs =

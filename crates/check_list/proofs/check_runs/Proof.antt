@@ -16,7 +16,7 @@ returns c =
     let o = c .before .before .before .before .before .before in
     let m = o .before .before in
     let e = m .before .before .before .before .before .before .before .before in
-    list-filled (e .check-each .ensures) (m .lesser2 .ensures) (m .before .lesser .ensures) (o .clear-offsets .ensures) (c .before .before .clear-distances .ensures)
+    list-filled (e .check-each .ensures) (m .lesser2 .ensures) (m .before .lesser .ensures) (o .clear-u32 .ensures) (c .before .before .clear-u64 .ensures)
 
 pub check-runs-spec : {M : Type 1} → statement M
 check-runs-spec =

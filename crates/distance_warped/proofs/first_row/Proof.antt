@@ -26,7 +26,7 @@ loop-holds c =
     let o = c .before .before .before .before .before .before .before in
     let S = stretch (o .args .s .now) (o .args .from) in
     let Q = at (o .args .q .now) in
-    let r = c .before .before .before .before .clear-row in
+    let r = c .before .before .before .before .fill-row in
     (omega arith, refl, omega (arith, r .kept .0), first-start S Q (o .args .b) _ _ (r .ensures), sym (before-none 0 (cells S Q (o .args .b) 0)), omega arith)
 
 -- a turn
@@ -71,7 +71,7 @@ loop-again c =
     )
 
 same-length : tie.Need-same-length Inv-loop μ-loop
-same-length c = c .before .loop .inv .1 ∙ c .before .before .before .before .before .before .clear-row .kept .0
+same-length c = c .before .loop .inv .1 ∙ c .before .before .before .before .before .before .fill-row .kept .0
 
 returns : tie.Need-returns Inv-loop μ-loop
 returns c =

@@ -7,7 +7,7 @@ use Rattle.entry_write.proofs.spell_end.Tie as tie
 returns : tie.Need-returns
 returns c =
     let w = c .before .before .before .before .before .before in
-    ended-stored (w .before .before .if1 .taken) (w .write-end .ensures) (c .before .before .clear-from .ensures)
+    ended-stored (w .before .before .if1 .taken) (w .write-end .ensures) (c .before .before .clear-u8 .ensures)
 
 returns-2 : tie.Need-returns-2
 returns-2 c = ended-only (c .before .if1 .left) (c .count-end .ensures)

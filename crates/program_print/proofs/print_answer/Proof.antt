@@ -1,7 +1,7 @@
 -- `program_print::print_answer` meets its contract: the build, its text and the list behind it (`prints`).
 use borrow.Author.Needs.{needs}
 use Prim.Native.Nat.{ℕ}
-use Rattle.meaning_entries.specs.Buffers.{zeroRow}
+use Rattle.meaning_rows.specs.Index.{zeroRow}
 use Rattle.program_print.proofs.Whole.{not-refused, rows-few, runs-few, prints}
 use lib.ListN.{length-take, length-replicate}
 use native.Mathlib.Omega.{arith}

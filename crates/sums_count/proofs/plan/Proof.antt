@@ -1,6 +1,7 @@
 -- `sums_count::plan` meets its contract: what it asks of each part, the part before has ensured.
 use borrow.Author.Needs.{needs}
 use native.Mathlib.Omega.{arith}
+use Rattle.clear.proofs.Clear.{cleared-zero}
 use Rattle.sums_count.proofs.plan.Statement.{statement}
 use Rattle.sums_count.proofs.plan.Tie as tie
 
@@ -8,8 +9,8 @@ count-runs-requires : tie.Need-count-runs-requires
 count-runs-requires c κs =
     let o = c .before .before .before .before .before .before .before .before .before .before .before .before .before .before .before .before in
     let a = c .before .before .before .before .before .before .before .before .before .before .list-rows .ensures in
-    let k = c .before .before .before .before .clear-numbers .ensures in
-    (o .pre .0, (o .pre .1 .0, ((omega (arith, a .count), a .front, omega (arith, a .count, a .long, o .pre .1 .1 .1 .0), omega (arith, a .count, k .1, o .pre .1 .1 .1 .1)), k .0)))
+    let k = c .before .before .before .before .clear-u32 in
+    (o .pre .0, (o .pre .1 .0, ((omega (arith, a .count), a .front, omega (arith, a .count, a .long, o .pre .1 .1 .1 .0), omega (arith, a .count, k .kept .0, o .pre .1 .1 .1 .1)), cleared-zero _ (k .ensures))))
 
 pub plan-spec : {M : Type 1} → statement M
 plan-spec =

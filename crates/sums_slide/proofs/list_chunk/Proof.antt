@@ -5,6 +5,7 @@ use Prim.Native.Nat.{ℕ}
 use native.Mathlib.Omega.{arith}
 use lib.ListN.{length}
 use mathlib.Core.List.{List}
+use Rattle.clear.proofs.Clear.{cleared-zero}
 use Rattle.sums_slide.specs.Levels.{level, rowOf, windowsOf}
 use Rattle.sums_slide.specs.Marks.{met, lit}
 use Rattle.sums_slide.proofs.Marks.{lit-picked}
@@ -20,14 +21,14 @@ module _ (c : tie.After-collect-arg2) where
   m = c .before .before .before .before .mark .last .1 .1 .1 .1 .1 .0
 
   long : length m ≡ length (o .args .flags .now)
-  long = c .before .before .before .before .mark .ensures .1 ∙ c .before .before .before .before .before .before .before .before .clear-flags .ensures .long
+  long = c .before .before .before .before .mark .ensures .1 ∙ c .before .before .before .before .before .before .before .before .clear-u8 .kept .0
 
   same : picked (lit m (o .args .base)) (o .args .base) (length m)
       ≡ picked (met (rowOf (level (o .args .s .now) (o .args .w) (o .args .e)) (o .args .d)) (windowsOf (o .args .s .now) (o .args .w))) (o .args .base) (length (o .args .flags .now))
   same = lit-picked _ _ (o .args .base) (length (o .args .flags .now)) m (c .before .before .before .before .mark .ensures .0) long
 
 mark-requires : tie.Need-mark-requires
-mark-requires c κs = let o = c .before .before .before .before .before .before .before in (o .pre .0, (o .pre .1 .0, c .before .before .before .clear-flags .ensures .zero))
+mark-requires c κs = let o = c .before .before .before .before .before .before .before in (o .pre .0, (o .pre .1 .0, λ x b. cleared-zero _ (c .before .before .before .clear-u8 .ensures) x))
 
 collect-requires : tie.Need-collect-requires
 collect-requires c κs = (omega (arith, long c, o c .pre .1 .1 .0), rw (same c) (o c .pre .1 .1 .1))

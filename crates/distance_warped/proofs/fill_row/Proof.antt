@@ -1,4 +1,4 @@
--- `distance_warped::clear_row` meets its contract.
+-- `distance_warped::fill_row` meets its contract.
 use borrow.Author.Count.{below-more}
 use mathlib.Core.Path.{_≡_, refl, _∙_}
 use Prim.Native.Nat.{ℕ, _+_, _-_, _≤_, _<_}
@@ -6,8 +6,8 @@ use native.Mathlib.Omega.{arith}
 use lib.ListN.{length, getD, length-set}
 use lib.Seq.{getD-set-same, getD-set-other}
 use Rattle.distance_warped.specs.Rows.{big}
-use Rattle.distance_warped.proofs.clear_row.Statement.{statement}
-use Rattle.distance_warped.proofs.clear_row.Tie as tie
+use Rattle.distance_warped.proofs.fill_row.Statement.{statement}
+use Rattle.distance_warped.proofs.fill_row.Tie as tie
 
 abbrev Inv-loop : tie.InvT-loop
 Inv-loop row₀ m k₀ row k = (k ≤ m + 1) × (length row ≡ length row₀) × ((n : ℕ) → n < k → getD row n 0 ≡ big)
@@ -25,8 +25,8 @@ loop-again c =
       below-more _ k (λ n l. getD-set-other row k n big 0 (λ e. omega arith) ∙ c .before .loop .inv .2 n l) (getD-set-same row k big 0 here),
     )
 
-pub clear-row-spec : {M : Type 1} → statement M
-clear-row-spec =
+pub fill-row-spec : {M : Type 1} → statement M
+fill-row-spec =
     tie.close
     (tie.spec
     Inv-loop

@@ -1,0 +1,2 @@
+-- Laws of clear.
+pub mod Clear

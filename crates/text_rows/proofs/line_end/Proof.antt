@@ -1,0 +1,8 @@
+-- `text_rows::line_end` meets its contract.
+use mathlib.Core.Path.{refl}
+use borrow.Author.Needs.{needs}
+use Rattle.text_rows.proofs.line_end.Statement.{statement}
+use Rattle.text_rows.proofs.line_end.Tie as tie
+
+pub line-end-spec : {M : Type 1} → statement M
+line-end-spec = tie.close (tie.spec (λ c κs. search needs) (λ c. rw (c .zero-row .ensures) refl))
