@@ -28,13 +28,13 @@ use Rattle.rows_judge.specs.Judged.{judgedOf}
 use Rattle.rows_judge.proofs.Scan.{length-entries}
 use Rattle.candidate_counts.proofs.LeadingLaws.{leading, Counted}
 use Rattle.candidate_counts.proofs.Leading.{leading-all}
-use Rattle.candidate_filter.specs.declared.Span.{Span}
-use Rattle.candidate_filter.specs.Met.{clampOf, metSpan}
-use Rattle.candidate_filter.proofs.Parts.{FoundAll}
-use Rattle.candidate_filter.proofs.Meaning.{cleared-zeros, found-all}
-use Rattle.candidate_filter.proofs.Spanned.{span-admits, span-inside, span-few, clamp-admits, climbs}
+use Rattle.candidate_met.specs.declared.Span.{Span}
+use Rattle.candidate_met.specs.Met.{clampOf, metSpan}
+use Rattle.candidate_met.proofs.Parts.{FoundAll}
+use Rattle.candidate_met.proofs.Meaning.{cleared-zeros, found-all}
+use Rattle.candidate_met.proofs.Spanned.{span-admits, span-inside, span-few, clamp-admits, climbs}
 use Rattle.candidate_spans.specs.Held.{RangesReady, RangesHeld}
-use Rattle.candidate_filter.proofs.Stored.{raised-most, lowered}
+use Rattle.candidate_met.proofs.Stored.{raised-most, lowered}
 use Rattle.candidate_spans.specs.Met.{spanAt, MeetReady, AllMet}
 use Rattle.candidate_spans.specs.Raised.{stretchHit}
 use Rattle.candidate_spans.proofs.Raised.{counted-all}

@@ -10,7 +10,7 @@ use lib.ListN.{length, set, length-set}
 use lib.Seq.{getD-set-same, getD-set-other}
 use Rattle.candidate_ranges.specs.declared.Frame.{Frame}
 use Rattle.candidate_spans.specs.Held.{lowEnds, highEnds, PartsHeld, Stored, EndsReady}
-use Rattle.candidate_filter.specs.Stored.{raisedEnd}
+use Rattle.candidate_met.specs.Stored.{raisedEnd}
 
 pub stored : (i a b : ℕ) (first last : List ℕ) → i < length first → i < length last → Stored i a b first last (set first i a) (set last i b)
 stored i a b first last h k = record {

@@ -5,10 +5,10 @@ use Prim.Native.Nat.{ℕ, _+_, _<_, _≤_}
 use native.Mathlib.Omega.{arith}
 use lib.ListN.{length, getD}
 use Rattle.meaning_rows.specs.declared.Row.{Row}
-use Rattle.candidate_filter.specs.declared.Span.{Span}
-use Rattle.candidate_filter.specs.Met.{clampOf}
+use Rattle.candidate_met.specs.declared.Span.{Span}
+use Rattle.candidate_met.specs.Met.{clampOf}
 use Rattle.candidate_spans.specs.Held.{PartsHeld, Stored}
-use Rattle.candidate_filter.specs.Stored.{EndsAt, heldRange}
+use Rattle.candidate_met.specs.Stored.{EndsAt, heldRange}
 use Rattle.candidate_spans.proofs.Held.{none-held, held-next, held-rest}
 use Rattle.candidate_spans.specs.Met.{spanAt, MeetReady, AllMet}
 

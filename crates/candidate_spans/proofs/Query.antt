@@ -17,7 +17,7 @@ use Rattle.candidate_ranges.specs.Frame.{frameOf, QueryIn}
 use Rattle.candidate_ranges.proofs.Fits.{query-in}
 use Rattle.candidate_ranges.proofs.Sizes.{frame-in}
 use Rattle.candidate_ranges.proofs.Ends.{range-is}
-use Rattle.candidate_filter.specs.Parts.{partRange}
+use Rattle.candidate_met.specs.Parts.{partRange}
 use Rattle.candidate_spans.specs.Held.{PartsHeld, lowEnds, highEnds, EndsReady, RangesReady, RangesHeld}
 use Rattle.candidate_spans.proofs.Held.{held-same}
 

@@ -12,7 +12,7 @@ use Rattle.meaning_filter.specs.Range.{rangeOf}
 use Rattle.candidate_ranges.specs.declared.Frame.{Frame}
 use Rattle.candidate_ranges.proofs.Fits.{LimitsIn}
 use Rattle.candidate_ranges.specs.Frame.{FrameIn}
-use Rattle.candidate_filter.specs.Stored.{raisedEnd}
+use Rattle.candidate_met.specs.Stored.{raisedEnd}
 pub use Rattle.meaning_curves.specs.Curve.{at}
 
 -- the ends of each part's range

@@ -5,12 +5,12 @@ use Prim.Native.Nat.{ℕ, _<_, _≤_}
 use lib.IntN.{ℤ}
 use lib.ListN.{length}
 use Rattle.meaning_rows.specs.declared.Row.{Row}
-use Rattle.candidate_filter.specs.Met.{Climbs}
+use Rattle.candidate_met.specs.Met.{Climbs}
 use Rattle.candidate_ranges.specs.declared.Range.{Range}
-use Rattle.candidate_filter.specs.declared.Span.{Span}
-use Rattle.candidate_filter.specs.Met.{clampOf, metSpan}
+use Rattle.candidate_met.specs.declared.Span.{Span}
+use Rattle.candidate_met.specs.Met.{clampOf, metSpan}
 use Rattle.candidate_spans.specs.Held.{PartsHeld}
-use Rattle.candidate_filter.specs.Stored.{EndsAt, heldRange}
+use Rattle.candidate_met.specs.Stored.{EndsAt, heldRange}
 
 -- the stretch that a range meets
 abbrev pub spanOf : List Row → Range → Span

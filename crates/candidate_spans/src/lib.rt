@@ -1,9 +1,9 @@
 // The stretches of runs that the parts of a query meet, held in the candidate buffer until candidates are handed out: entry i is that of part i.
 use candidate_counts::raise_runs;
-use candidate_filter::Span;
-use candidate_filter::met_span;
-use candidate_filter::raise_clamped;
-use candidate_filter::range_at;
+use candidate_met::Span;
+use candidate_met::met_span;
+use candidate_met::raise_clamped;
+use candidate_met::range_at;
 use candidate_ranges::Frame;
 use candidate_ranges::frame_of;
 use candidate_ranges::part_range;
@@ -16,7 +16,7 @@ ghost use mathlib.Core.Path.{_≡_};
 ghost use Prim.Native.Nat.{_<_, _≤_};
 ghost use lib.ListN.{length};
 ghost use Rattle.meaning_curves.specs.Limits.{mostValues};
-ghost use Rattle.candidate_filter.specs.Parts.{partRange};
+ghost use Rattle.candidate_met.specs.Parts.{partRange};
 ghost use Rattle.candidate_spans.specs.Held.{lowEnds, highEnds, PartsHeld, EndsReady, Stored, RangesReady, RangesHeld};
 ghost use Rattle.candidate_spans.specs.Met.{MeetReady, AllMet};
 ghost use Rattle.candidate_spans.specs.Raised.{StretchesReady, stretchHit, CountedBy};

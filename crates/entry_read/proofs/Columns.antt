@@ -12,7 +12,7 @@ use Rattle.meaning_text.specs.Form.{Value}
 use Rattle.meaning_text.specs.Read.{Verdict, fine, unfit, readText}
 use Rattle.meaning_text.specs.Texts.{indexForm, rowSaid, indexSaid}
 use Rattle.meaning_text.proofs.Automaton.{verdictOf, atEnd}
-use Rattle.text_put.proofs.Put.{sets-append}
+use Rattle.meaning_text.proofs.Sets.{sets-append}
 use Rattle.text_index.specs.declared.Field.{Field}
 use Rattle.text_index.specs.declared.State.{State}
 use Rattle.text_index.specs.declared.Moved.{Moved}

@@ -9,3 +9,4 @@ pub mod Texts
 pub mod Lines
 pub mod Onward
 pub mod Automaton
+pub mod Sets

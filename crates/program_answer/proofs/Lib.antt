@@ -1,3 +1,4 @@
 -- Laws of program_answer.
 pub mod Print
 pub mod Sizes
+pub mod Whole

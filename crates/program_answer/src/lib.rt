@@ -1,9 +1,10 @@
-// Build, writing and search over row records by value, and the list of matches as text: what the search program prints is put together from these (01, 'Text and program').
-use entry_build::build;
-use entry_search::search;
-use entry_write::write;
-use meaning_curves::MOST_PROGRAM_VALUES;
+// The list of matches as text behind the text of the index: what the search program prints is put together from these (01, 'Text and program').
+use program_input::Asked;
+use program_table::write_table;
+use program_table::build_table;
 use meaning_entries::Built;
+use program_table::search_table;
+use meaning_curves::MOST_PROGRAM_VALUES;
 use meaning_entries::Found;
 use meaning_entries::Written;
 use meaning_filter::Ask;
@@ -12,97 +13,15 @@ use meaning_rows::Row;
 use text_list::write_found;
 ghost use mathlib.Core.Path.{_≡_};
 ghost use Prim.Native.Nat.{_≤_};
-ghost use lib.ListN.{take};
+ghost use lib.ListN.{take, length};
 ghost use Rattle.meaning_curves.specs.Limits.{mostProgramValues};
-ghost use Rattle.meaning_rows.specs.Index.{lent};
-ghost use Rattle.meaning_entries.specs.Build.{lentBuild};
 ghost use Rattle.meaning_entries.specs.Search.{lentSearch};
-ghost use Rattle.meaning_entries.specs.Demand2.{BuildKept, WriteKept, SearchKept};
-ghost use Rattle.meaning_entries.specs.Buffers.{indexBuffers};
-ghost use Rattle.meaning_entries.specs.Search.{searchBuffers};
 ghost use Rattle.meaning_entries.specs.Answers.{writtenCount};
-ghost use Rattle.program_answer.specs.Table.{tableOf};
 ghost use Rattle.program_answer.specs.Print.{FoundPut};
-ghost use Rattle.program_answer.specs.Finish.{Listed};
-
-// Row records by value, and what the build that made them answered.
-pub struct Table {
-    pub rows: [Row; MOST_PROGRAM_VALUES],
-    pub answer: Built,
-}
-
-pub fn table_of(rows: [Row; MOST_PROGRAM_VALUES], answer: Built) -> Table
-    ensures { λ t. ⌜ t ≡ tableOf rows answer ⌝ }
-{
-    Table { rows, answer }
-}
-
-// The build, into row records by value.
-pub fn build_table(
-    series: &[i32],
-    w: u32,
-    d: u32,
-    g: u32,
-    rows: [Row; MOST_PROGRAM_VALUES],
-    left: &mut [u32],
-    right: &mut [u32],
-) -> Table
-    ensures { λ t. ⌜ BuildKept (lentBuild (now (series .entry)) w d g) (indexBuffers rows (now (left .entry)) (now (right .entry))) (t .answer) (indexBuffers (t .rows) (now (left .exit)) (now (right .exit))) ⌝ }
-{
-    let mut table = rows;
-    let answer = build(series, w, d, g, &mut table, left, right);
-    table_of(table, answer)
-}
-
-// The text of the index of the first n records of a table.
-pub fn write_table(
-    head: Head,
-    table: [Row; MOST_PROGRAM_VALUES],
-    n: usize,
-    left: &[u32],
-    right: &[u32],
-    text: &mut [u8],
-) -> Written
-    requires { ⌜ n ≤ mostProgramValues ⌝ }
-    ensures { λ a. ⌜ WriteKept (lent head (take n table) (now (left .entry)) (now (right .entry))) (now (text .entry)) a (now (text .exit)) ⌝ }
-{
-    write(head, &table[..n], left, right, text)
-}
-
-// The search through that index.
-pub fn search_table(
-    series: &[i32],
-    head: Head,
-    table: [Row; MOST_PROGRAM_VALUES],
-    n: usize,
-    left: &[u32],
-    right: &[u32],
-    ask: Ask,
-    query: &[i32],
-    first: &mut [u32],
-    last: &mut [u32],
-    scratch: &mut [u16],
-    offsets: &mut [u32],
-    distances: &mut [u64],
-) -> Found
-    requires { ⌜ n ≤ mostProgramValues ⌝ }
-    ensures { λ a. ⌜ SearchKept (lentSearch (now (series .entry)) head (take n table) (now (left .entry)) (now (right .entry)) ask (now (query .entry))) (searchBuffers (now (first .entry)) (now (last .entry)) (now (scratch .entry)) (now (offsets .entry)) (now (distances .entry))) a (searchBuffers (now (first .exit)) (now (last .exit)) (now (scratch .exit)) (now (offsets .exit)) (now (distances .exit))) ⌝ }
-{
-    search(
-        series,
-        head,
-        &table[..n],
-        left,
-        right,
-        ask,
-        query,
-        first,
-        last,
-        scratch,
-        offsets,
-        distances,
-    )
-}
+ghost use Rattle.program_answer.specs.Finish.{Listed, Prints};
+ghost use Rattle.meaning_entries.specs.Program.{callLines, printed};
+ghost use Rattle.meaning_entries.proofs.Refusal.{AllPass};
+ghost use Rattle.program_input.specs.Tables.{callOf};
 
 pub fn length_of(a: Written) -> usize
     ensures { λ n. ⌜ n ≡ writtenCount a ⌝ }
@@ -173,4 +92,52 @@ pub fn list_matches(
         &mut distances,
     );
     put_found(text, at, a, &offsets, &distances)
+}
+
+// The index and the list, as text.
+pub fn print_answer(series: &[i32], query: &[i32], a: Asked, text: &mut [u8]) -> usize
+    requires { ⌜ (AllPass (callLines (callOf (now series) (now query) a))) × (length (now text) ≡ 1048576) ⌝ }
+    ensures { λ r. ⌜ Prints (printed (callOf (now (series .entry)) (now (query .entry)) a)) (now (text .exit)) r ⌝ }
+{
+    let rows = [Row {
+        low: 0,
+        up: 0,
+        first: 0,
+        runs: 0,
+    }; MOST_PROGRAM_VALUES];
+    let mut left = [0u32; MOST_PROGRAM_VALUES];
+    let mut right = [0u32; MOST_PROGRAM_VALUES];
+    let made = build_table(
+        series,
+        a.window,
+        a.width,
+        a.merge,
+        rows,
+        &mut left,
+        &mut right,
+    );
+    let table = made.rows;
+    let answer = made.answer;
+    match answer {
+        Built::Refused {
+            number: _,
+            place: _,
+        } => 0,
+        Built::Index { head, rows, runs } => {
+            let at = length_of(write_table(head, table, rows, &left[..runs], &right[..runs], text));
+            let ask = a.ask;
+            list_matches(
+                series,
+                head,
+                table,
+                rows,
+                &left[..runs],
+                &right[..runs],
+                ask,
+                query,
+                text,
+                at,
+            )
+        }
+    }
 }

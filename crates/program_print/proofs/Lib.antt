@@ -1,3 +1,2 @@
 -- Laws of program_print.
 pub mod End
-pub mod Whole

@@ -16,7 +16,7 @@ use Rattle.meaning_numbers.specs.Place.{placeFrom}
 use Rattle.meaning_numbers.proofs.Rep.{z-le}
 use Rattle.meaning_numbers.proofs.Machine.{leZ-true, f-gt}
 use Rattle.meaning_text.proofs.Reading.{on-flag}
-use Rattle.text_put.proofs.Put.{sets-append}
+use Rattle.meaning_text.proofs.Sets.{sets-append}
 use Rattle.text_lines.specs.declared.Word.{Word}
 use Rattle.text_lines.specs.declared.Field.{Field}
 use Rattle.text_lines.specs.Follow.{Said, told, named}

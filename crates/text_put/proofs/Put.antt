@@ -7,14 +7,11 @@ use Prim.Native.Nat.{ℕ, suc, _+_, _<_, _≤_, min}
 use native.Mathlib.Omega.{arith}
 use native.Mathlib.Numerals.{add-one}
 use lib.Dec.{ltb}
-use lib.ListN.{length, take, drop, set, getD, length-append}
+use lib.ListN.{length, take, drop, getD, length-append}
 use lib.Seq.{sets, length-sets, sets-eq, set-out, take-suc, take-length}
 use borrow.Author.Tests.{ltb-true, ltb-false}
 use Rattle.text_put.specs.Put.{Put}
-
-pub sets-append : {A : Type 0} (l m old : List A) (i : ℕ) → sets old i (l ++ m) ≡ sets (sets old i l) (i + length l) m
-sets-append [] m old i = let e : i + 0 ≡ i = omega arith in rw e
-sets-append (b ∷ l) m old i = let e : i + suc (length l) ≡ suc i + length l = omega arith in rw e (sets-append l m (set old i b) (suc i))
+use Rattle.meaning_text.proofs.Sets.{sets-append}
 
 sets-out : (l old : List ℕ) (i : ℕ) → length old ≤ i → sets old i l ≡ old
 sets-out [] old i h = refl

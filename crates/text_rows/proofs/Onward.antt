@@ -1,4 +1,4 @@
--- A reader of a text that stands where a line ended: it can be read on, and gives the next line. Assumes nothing.
+-- A reader of a text that stands where a line ended: it can be read on, and gives the next line.
 use mathlib.Core.Path.{_≡_}
 use mathlib.Core.List.{List}
 use Prim.Native.Nat.{ℕ}

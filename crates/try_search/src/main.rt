@@ -5,7 +5,7 @@ use meaning_filter::Ask;
 use meaning_filter::Kind;
 use meaning_filter::Limits;
 use meaning_rows::Row;
-use program_answer::search_table;
+use program_table::search_table;
 use try_vectors::get_head;
 use try_vectors::get_length;
 use try_vectors::get_natural;

@@ -6,7 +6,7 @@ use meaning_entries::Loaded;
 use meaning_entries::Written;
 use meaning_rows::Head;
 use meaning_rows::Row;
-use program_answer::write_table;
+use program_table::write_table;
 use text_rows::line_row;
 use text_rows::next_line;
 use text_rows::no_line;

@@ -5,7 +5,7 @@ use mathlib.Core.Path.{_≡_, ap, _∙_}
 use lib.ListN.{length}
 use Rattle.meaning_entries.specs.Buffers.{filled}
 use Rattle.clear.specs.Clear.{clearedFrom}
-use Rattle.candidate_filter.proofs.Meaning.{cleared-same}
+use Rattle.candidate_met.proofs.Meaning.{cleared-same}
 use Rattle.candidate_find.specs.declared.Sought.{Sought}
 use Rattle.candidate_find.proofs.hand_out.Statement.{statement}
 use Rattle.candidate_find.proofs.hand_out.Tie as tie

@@ -22,19 +22,19 @@ use Rattle.candidate_spans.proofs.MetLaws.{Meeting, meeting-starts, mee
 use Rattle.candidate_ranges.specs.declared.Range.{Range}
 use Rattle.candidate_ranges.proofs.Range as Rangeᵀ
 use Rattle.candidate_ranges.proofs.Range.Laws as Rangeᴸ
-use Rattle.candidate_filter.specs.declared.Span.{Span}
-use Rattle.candidate_filter.proofs.Span as Spanᵀ
-use Rattle.candidate_filter.proofs.Span.Laws as Spanᴸ
+use Rattle.candidate_met.specs.declared.Span.{Span}
+use Rattle.candidate_met.proofs.Span as Spanᵀ
+use Rattle.candidate_met.proofs.Span.Laws as Spanᴸ
 use Rattle.meaning_rows.specs.declared.Row.{Row}
 use Rattle.meaning_rows.proofs.Row as Rowᵀ
 use Rattle.candidate_spans.proofs.range_at as range-at
 use Rattle.candidate_spans.proofs.range_at.Symbol as range-at-def
 use Rattle.candidate_spans.proofs.range_at.Symbol.{name as #range-at}
 use Rattle.candidate_spans.proofs.range_at.Met as range-at-thm
-use Rattle.candidate_filter.proofs.met_span as met-span
-use Rattle.candidate_filter.proofs.met_span.Symbol as met-span-def
-use Rattle.candidate_filter.proofs.met_span.Symbol.{name as #met-span}
-use Rattle.candidate_filter.proofs.met_span.Met as met-span-thm
+use Rattle.candidate_met.proofs.met_span as met-span
+use Rattle.candidate_met.proofs.met_span.Symbol as met-span-def
+use Rattle.candidate_met.proofs.met_span.Symbol.{name as #met-span}
+use Rattle.candidate_met.proofs.met_span.Met as met-span-thm
 use Rattle.candidate_spans.proofs.put_span as put-span
 use Rattle.candidate_spans.proofs.put_span.Symbol as put-span-def
 use Rattle.candidate_spans.proofs.put_span.Symbol.{name as #put-span}
@@ -146,5 +146,5 @@ meet-parts-spec 𝓤 H 𝓜 𝓖 𝓡 =
     (tables 𝓤 H 𝓜 𝓡 code.env .C) (tables 𝓤 H 𝓜 𝓡 code.env .Λ) #self code.function (code.unfolded 𝓤 H 𝓜 𝓡)
     (meets 𝓤 H (𝓖 .A) (givenOf 𝓤 H 𝓜 𝓖) (𝓜 .mem) (𝓡 .run) (tablesOf 𝓤 H 𝓜 (tables 𝓤 H 𝓜 𝓡 code.env)) (fmOf 𝓤 H (givenOf 𝓤 H 𝓜 𝓖 .laws) (tablesOf 𝓤 H 𝓜 (tables 𝓤 H 𝓜 𝓡 code.env)))
     (cited 𝓤 H (tripleOf 𝓤 H (𝓖 .A) range-at.signature (range-at.spec 𝓤 H (𝓖 .A) (𝓜 .mem) (𝓡 .run))) 𝓜 𝓡 code.env #range-at range-at-def.routine code.calls-candidate-spans·range-at (range-at-thm.met 𝓤 H 𝓜 𝓖 𝓡))
-    (cited 𝓤 H (tripleOf 𝓤 H (𝓖 .A) met-span.signature (met-span.spec 𝓤 H (𝓖 .A) (𝓜 .mem) (𝓡 .run))) 𝓜 𝓡 code.env #met-span met-span-def.routine code.calls-candidate-filter·met-span (met-span-thm.met 𝓤 H 𝓜 𝓖 𝓡))
+    (cited 𝓤 H (tripleOf 𝓤 H (𝓖 .A) met-span.signature (met-span.spec 𝓤 H (𝓖 .A) (𝓜 .mem) (𝓡 .run))) 𝓜 𝓡 code.env #met-span met-span-def.routine code.calls-candidate-met·met-span (met-span-thm.met 𝓤 H 𝓜 𝓖 𝓡))
     (cited 𝓤 H (tripleOf 𝓤 H (𝓖 .A) put-span.signature (put-span.spec 𝓤 H (𝓖 .A) (𝓜 .mem) (𝓡 .run))) 𝓜 𝓡 code.env #put-span put-span-def.routine code.calls-candidate-spans·put-span (put-span-thm.met 𝓤 H 𝓜 𝓖 𝓡)))

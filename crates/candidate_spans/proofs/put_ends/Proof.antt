@@ -7,9 +7,9 @@ use lib.ListN.{length}
 use mir.Syntax.{w64}
 use mir.ValLaws.{toZ-ofZ}
 use Rattle.candidate_ranges.specs.declared.Range.{Range}
-use Rattle.candidate_filter.specs.Parts.{partRange}
+use Rattle.candidate_met.specs.Parts.{partRange}
 use Rattle.candidate_spans.specs.Held.{PartsHeld, lowEnds, highEnds}
-use Rattle.candidate_filter.specs.Stored.{raisedEnd}
+use Rattle.candidate_met.specs.Stored.{raisedEnd}
 use Rattle.candidate_spans.proofs.Held.{none-held, held-next, part-room}
 use Rattle.candidate_spans.proofs.put_ends.Statement.{statement}
 use Rattle.candidate_spans.proofs.put_ends.Tie as tie

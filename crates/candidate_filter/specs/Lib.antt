@@ -1,4 +1,0 @@
--- What the contracts of candidate_filter cite.
-pub mod Met
-pub mod Parts
-pub mod Stored

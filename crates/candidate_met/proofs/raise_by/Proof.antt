@@ -1,0 +1,25 @@
+-- `candidate_met::raise_by` meets its contract.
+use lib.IntN.{ℤ, pos, _+ℤ_}
+use mir.Syntax.{w32}
+use mir.Val.{toZ, ofZ}
+use Rattle.meaning_numbers.proofs.Machine.{z-abs, zmach32}
+use Rattle.meaning_numbers.proofs.Rep.{z-add}
+use Rattle.candidate_met.proofs.raise_by.Statement.{statement}
+use Rattle.candidate_met.proofs.raise_by.Tie as tie
+
+abbrev x : tie.Start → ℤ
+x c = toZ w32 (ofZ w32 (c .args .x))
+
+add-result : tie.Need-add-result
+add-result c = omega (zmach32, z-add (x c) (pos 4000001))
+
+cast-result : tie.Need-cast-result
+cast-result c = let f = add-result c in omega (zmach32, z-add (x c) (pos 4000001), z-abs (toZ w32 (ofZ w32 (x c +ℤ pos 4000001))))
+
+returns : tie.Need-returns
+returns c =
+    let f = add-result c in
+    omega (zmach32, z-add (x c) (pos 4000001), z-add (c .args .x) (pos 4000001), z-abs (c .args .x +ℤ pos 4000001), z-abs (toZ w32 (ofZ w32 (x c +ℤ pos 4000001))))
+
+pub raise-by-spec : {M : Type 1} → statement M
+raise-by-spec = tie.close (tie.spec add-result cast-result returns)

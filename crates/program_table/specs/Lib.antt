@@ -1,0 +1,2 @@
+-- What the contracts of program_table cite.
+pub mod Table
