@@ -24,7 +24,7 @@ use text_judge::Rows;
 use text_judge::Scanned;
 use text_judge::judged_rows;
 use text_judge::scan;
-use text_reader::bad_line;
+use text_rows::bad_line;
 use text_rows::fill_rows;
 ghost use mathlib.Core.Path.{_≡_};
 ghost use mathlib.Core.Bool.{cond};

@@ -1,15 +1,15 @@
 // The list of matches as text behind the text of the index: what the search program prints is put together from these (01, 'Text and program').
-use program_input::Asked;
-use program_table::write_table;
-use program_table::build_table;
-use meaning_entries::Built;
-use program_table::search_table;
 use meaning_curves::MOST_PROGRAM_VALUES;
+use meaning_entries::Built;
 use meaning_entries::Found;
 use meaning_entries::Written;
 use meaning_filter::Ask;
 use meaning_rows::Head;
 use meaning_rows::Row;
+use program_input::Asked;
+use program_table::build_table;
+use program_table::search_table;
+use program_table::write_table;
 use text_list::write_found;
 ghost use mathlib.Core.Path.{_≡_};
 ghost use Prim.Native.Nat.{_≤_};

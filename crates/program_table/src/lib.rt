@@ -1,14 +1,14 @@
 // Build, writing and search over row records by value, as the search program calls the entries.
-use meaning_filter::Ask;
-use meaning_entries::Found;
-use entry_search::search;
-use meaning_rows::Head;
-use meaning_entries::Written;
-use entry_write::write;
-use meaning_rows::Row;
-use meaning_entries::Built;
-use meaning_curves::MOST_PROGRAM_VALUES;
 use entry_build::build;
+use entry_search::search;
+use entry_write::write;
+use meaning_curves::MOST_PROGRAM_VALUES;
+use meaning_entries::Built;
+use meaning_entries::Found;
+use meaning_entries::Written;
+use meaning_filter::Ask;
+use meaning_rows::Head;
+use meaning_rows::Row;
 ghost use mathlib.Core.Path.{_≡_};
 ghost use Rattle.program_table.specs.Table.{tableOf};
 ghost use Rattle.meaning_entries.specs.Build.{lentBuild};

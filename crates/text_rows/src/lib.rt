@@ -15,6 +15,7 @@ use text_judge::tell_row;
 use text_judge::tell_run;
 use text_judge::tell_runs;
 use text_reader::Reader;
+pub use text_reader::bad_line;
 use text_reader::reader_of;
 ghost use mathlib.Core.Path.{_≡_};
 ghost use Prim.Native.Nat.{_<_, _≤_, min};
