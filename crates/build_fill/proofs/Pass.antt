@@ -1,4 +1,4 @@
--- The pass over the windows: rows as records with ranges and parts (`Rowed`), what holds where a turn begins (`Going`), and a turn over plain variables.
+-- Laws of specs/Pass.
 use mathlib.Core.Path.{_≡_, sym, ap, _∙_, subst}
 use mathlib.Core.Bool.{Bool, true, false}
 use mathlib.Core.List.{List}

@@ -1,4 +1,4 @@
--- A turn of the pass: one run of windows with sums in the range of a row, filed in the row's part.
+-- Laws of specs/Turn.
 use mathlib.Core.Path.{_≡_, refl, sym, _∙_}
 use mathlib.Core.Bool.{Bool, true}
 use mathlib.Core.List.{List}

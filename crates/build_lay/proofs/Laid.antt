@@ -1,4 +1,4 @@
--- The rows of a series laid out: their numbers and where their parts end, and what is packed of these (`laid-packed`).
+-- Laws of specs/Laid.
 use mathlib.Core.Path.{_≡_, sym, ap, _∙_}
 use mathlib.Core.List.{List, _++_, map}
 use Prim.Native.Nat.{ℕ, _+_, _*_, _≤_}

@@ -1,5 +1,4 @@
--- Merging on its way over packed rows: what holds before row i (`Merging`), how it begins (`merging-start`), a turn (`merging-turn`), what a turn needs (`merging-joinable`) and the end
--- (`merging-end`): the records are those of the merged rows. The rows are sets of windows, window j in row `row j`; the decision is that of `takes`, by counts of names.
+-- Laws of specs/Merging.
 use mathlib.Core.Path.{_≡_, refl, sym, ap, _∙_}
 use mathlib.Core.Bool.{true, false}
 use mathlib.Core.List.{List, [], _∷_, _++_, map, append-assoc}

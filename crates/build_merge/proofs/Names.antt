@@ -1,5 +1,4 @@
--- Names of rows: window j stands in row `row j`, whose name is one more; 0 names none. A run's entry has the name before it and the name after it. A row that joins a group of rows
--- has as many neighbours in the group as entries that name one of its rows, so the runs of the union are counted by names alone (`runs-merged`).
+-- Laws of specs/Names.
 use mathlib.Core.Path.{_≡_, refl, sym, ap}
 use mathlib.Core.Bool.{Bool, false, _&&_, _||_, and-false}
 use mathlib.Core.List.{List, [], _∷_}

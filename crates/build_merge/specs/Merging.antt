@@ -1,5 +1,4 @@
--- Merging on its way over packed rows: what holds before row i, how it begins, a turn, what a turn needs and the end
---: the records are those of the merged rows. The rows are sets of windows, window j in row `row j`; the decision is that of `takes`, by counts of names.
+-- Merging over packed rows. The rows are sets of windows, window j in row `row j`; the decision is that of `takes`, by counts of names.
 use mathlib.Core.Path.{_≡_}
 use mathlib.Core.List.{List, [], _∷_}
 use Prim.Native.Nat.{ℕ, _+_, _<_, _≤_}

@@ -1,4 +1,4 @@
--- Rows of a series that stand packed, with empty parts long enough for all runs: they can be named, and then merged (`standing-ready`).
+-- Laws of specs/Standing.
 use mathlib.Core.Path.{_≡_}
 use mathlib.Core.List.{List}
 use Prim.Native.Nat.{ℕ, _<_}

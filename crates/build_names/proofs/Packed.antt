@@ -1,5 +1,4 @@
--- Rows of a build that stand packed in records: their ranges hold the windows, so the rows can be named (`packed-unnamed`) and, with the names in their parts, merged (`packed-ready`). The rows of a build are so
--- before merging (`filed-sound`) and after it (`merged-sound`), so what is merged stands packed again as rows by ranges (`packed-ranges`).
+-- Laws of specs/Packed.
 use mathlib.Core.Path.{_≡_, refl, sym, ap, _∙_, subst}
 use mathlib.Core.Bool.{true, false}
 use mathlib.Core.List.{List, [], _∷_, map}

@@ -1,4 +1,4 @@
--- Windows by place and raised sum, their names, and what holds on the way of the pass that names neighbours (`Underway`).
+-- Laws of specs/Places.
 use mathlib.Core.Path.{_≡_, refl, sym, ap, _∙_, subst}
 use mathlib.Core.List.{List}
 use Prim.Native.Nat.{ℕ, zero, suc, _+_, _-_, _*_, _<_, _≤_}

@@ -1,5 +1,4 @@
--- Rows as ranges of lent records: the row of a window is the first whose upper end is above the window's sum (`rowIn`). Where the ranges ascend and hold every window, row i holds exactly the windows
--- whose row is i (`held-row`), and a run of raised sums in its range is a run of its windows (`stop-run`).
+-- Laws of specs/Ranges.
 use mathlib.Core.Path.{_≡_, refl, sym, _∙_}
 use mathlib.Core.Bool.{Bool, true, false}
 use mathlib.Core.List.{List}

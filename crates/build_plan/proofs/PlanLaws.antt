@@ -1,4 +1,4 @@
--- The plan of a build: what refuses it, or by how much it raises sums. Where nothing refuses it, its numbers are in their limits and its buffers have room (`goes`).
+-- Laws of specs/Plan.
 use mathlib.Core.List.{List}
 use Prim.Native.Nat.{ℕ, _≤_}
 use lib.Dec.{T}

@@ -1,4 +1,4 @@
--- The range of each part of a query, and the offsets that meet all parts handed out.
+-- Laws of specs/Parts.
 use mathlib.Core.List.{List}
 use Prim.Native.Nat.{ℕ}
 use lib.Dec.{eqb}

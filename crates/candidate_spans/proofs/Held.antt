@@ -1,4 +1,4 @@
--- What the candidate buffer holds while the parts of a query are asked: two numbers of each part as an entry (`PartsHeld`). First they are the ends of the part's range, clamped and raised, then the stretch of runs that the range meets.
+-- Laws of specs/Held.
 use mathlib.Core.Path.{_≡_, ap, _∙_}
 use mathlib.Core.List.{List}
 use Prim.Native.Nat.{ℕ, suc, _+_, _*_, _<_, _≤_}

@@ -1,4 +1,4 @@
--- Each entry of the candidate buffer replaced by the stretch of runs that its range meets (`AllMet`). A turn of the loop is `meeting-next`, over plain variables.
+-- Laws of specs/Met.
 use mathlib.Core.Path.{_≡_, refl, ap, _∙_, subst}
 use mathlib.Core.List.{List}
 use Prim.Native.Nat.{ℕ, _+_, _<_, _≤_}

@@ -1,4 +1,4 @@
--- The scratch count by the stretches of runs that parts meet: a part counts at an offset where all parts before it do and its window stands in a run of its stretch (`leadingBy`, `CountedBy`). Where each stretch has the runs of the rows that the part's range meets, that is the count of leading parts (`counted-all`).
+-- Laws of specs/Raised.
 use mathlib.Core.Path.{_≡_, refl, ap, _∙_}
 use mathlib.Core.Bool.{Bool, cond, _&&_}
 use mathlib.Core.List.{List}

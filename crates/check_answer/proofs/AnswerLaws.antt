@@ -1,4 +1,4 @@
--- What a search that looked answers, by the room of its list (`answerOf`), and how the list stands then (`Answers`).
+-- Laws of specs/Answer.
 use mathlib.Core.Path.{_≡_, refl, ap, _∙_}
 use mathlib.Core.List.{List}
 use Prim.Native.Nat.{ℕ, _<_, _≤_}

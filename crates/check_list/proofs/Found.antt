@@ -1,4 +1,4 @@
--- The matches among some offsets, as entries of the list (`found`): those of the candidates' runs are the list that a search means (`found-among`). What checking asks for (`Prepared`), and the sums that slide (`SumsFor`).
+-- Laws of specs/Found.
 use mathlib.Core.Path.{_≡_, refl, sym, ap}
 use mathlib.Core.Bool.{Bool, true, false, cond}
 use mathlib.Core.List.{List, [], _∷_, _++_, map, append-nil}

@@ -1,4 +1,4 @@
--- The list of a search as it grows: entries are appended while the two slices have room, and counted on where they have none (`Listed`). One stretch behind another is one stretch (`list-on`). Where unused entries are 0 behind it, the list is filled (`list-filled`).
+-- Laws of specs/Listed.
 use mathlib.Core.Path.{_≡_, refl, sym, ap, _∙_}
 use mathlib.Core.List.{List, [], _∷_, _++_, map, append-nil, append-assoc}
 use Prim.Native.Nat.{ℕ, zero, suc, _+_, _<_, _≤_, min}

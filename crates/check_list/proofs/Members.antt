@@ -1,4 +1,4 @@
--- The offsets of runs, ascending (`members`). Those of a set's runs are the offsets that are kept by its test (`kept-members`). By induction on the number of offsets, one offset taken in at a time.
+-- Laws of specs/Members.
 use mathlib.Core.Path.{_≡_, refl, sym, ap, _∙_}
 use mathlib.Core.Bool.{Bool, true, false, cond}
 use mathlib.Core.List.{List, [], _∷_, _++_, append-nil, append-assoc}

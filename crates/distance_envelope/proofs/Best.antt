@@ -1,5 +1,4 @@
--- The least or the greatest of the values at some places, by what it is: the value at one of them, and at least as far out as each (`Best`). One lemma serves both ends: `pick` takes the one that is further out, and two stretches of places that touch join (`best-join`).
--- Windows that reach n places ahead, or back, grow by as much as they are long (`ahead-more`, `back-more`), and one way after the other gives the envelope (`best-through`, `best-edge`).
+-- Laws of specs/Best.
 use mathlib.Core.Path.{_≡_, refl, _∙_}
 use mathlib.Core.Bool.{Bool, true, false}
 use mathlib.Core.Logic.{_⊎_, inl, inr, ⊎-elim}

@@ -1,4 +1,4 @@
--- An envelope as it stands in a list, and the two envelopes of a curve, which are in the limits of values where the curve is.
+-- Laws of specs/Envelope.
 use mathlib.Core.List.{List}
 use Prim.Native.Nat.{ℕ, _<_}
 use native.Mathlib.Omega.{arith}

@@ -1,4 +1,4 @@
--- What the passes over a list do: each value becomes the pick of itself and the one d places ahead, or back, where there is one (`PassAhead`, `PassBack`). After passes that add up to n each value is the best of the n places ahead, or back, and itself (`Ahead`, `Back`).
+-- Laws of specs/Pass.
 use borrow.Author.Count.{below-more}
 use mathlib.Core.Path.{_≡_, _∙_, refl}
 use mathlib.Core.Bool.{Bool}

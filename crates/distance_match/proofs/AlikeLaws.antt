@@ -1,4 +1,4 @@
--- The tests of a normalised query that ask for no value: flat, scale and shift, over the numbers that code has (`Alike`). They are those of the meaning, so where they fail the stretch does not match (`unlike-matched`), and where they pass the distance decides (`alike-matched`).
+-- Laws of specs/Alike.
 use mathlib.Core.Path.{_≡_, refl, sym, subst}
 use mathlib.Core.Bool.{Bool, true, false, not}
 use mathlib.Core.Logic.{⊎-elim}

@@ -1,4 +1,4 @@
--- What a match test answers, by the meaning: the distance of a stretch that matches (`matched`).
+-- Laws of specs/Matched.
 use mathlib.Core.Path.{_≡_, refl}
 use Prim.Native.Nat.{ℕ}
 use lib.IntN.{ℤ}

@@ -1,5 +1,4 @@
--- A normalised value by one multiplication and one test. With F the root of 2^62 / A, and g = 100 × |c| below 2^31, the number e = g × F / 2^31 is the cut or one less than it (`estimate`): it is never too large, since F² × A ≤ 2^62, and e + 2 always is, since 2^62 < (F + 1)² × A.
--- The cut is determined by its two inequalities (`cut-same`).
+-- Laws of specs/Normal.
 use mathlib.Core.Path.{_≡_, refl, ap}
 use Prim.Native.Nat.{ℕ, zero, suc, _+_, _-_, _*_, _/_, _<_, _≤_}
 use mathlib.Core.Bool.{Bool, true, false, not}

@@ -1,4 +1,4 @@
--- The normalised values of a stretch, in room that is lent: what making them asks, some of them made, all of them made. They are in the limits of values (`normalised-in`).
+-- Laws of specs/Stretch.
 use mathlib.Core.List.{List}
 use Prim.Native.Nat.{ℕ, _<_, _≤_}
 use native.Mathlib.Omega.{arith}

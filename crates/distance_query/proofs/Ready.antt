@@ -1,4 +1,4 @@
--- What depends on the query alone and is made once (`Ready`): the curve that stretches are compared with, its envelopes, and the query's raised sum and spread.
+-- Laws of specs/Ready.
 use mathlib.Core.Path.{_≡_, refl, sym, _∙_}
 use mathlib.Core.List.{List}
 use Prim.Native.Nat.{ℕ, _<_, _≤_}

@@ -1,4 +1,4 @@
--- The table of the warped distance by rows, as code keeps one: cell j stands at place j + 1, and `big` at place 0 and wherever the band has no cell. With that, each cell is made from three numbers by one rule, at the band's edge too (`next-cell`, `first-cell`).
+-- Laws of specs/Rows.
 use mathlib.Core.Path.{_≡_, sym, _∙_}
 use mathlib.Core.List.{List}
 use Prim.Native.Nat.{ℕ, _+_, _<_}

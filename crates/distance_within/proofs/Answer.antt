@@ -1,4 +1,4 @@
--- A distance within a threshold, as an answer. One that was left early answers the same as the whole one (`within-answer`).
+-- Laws of specs/Answer.
 use mathlib.Core.Path.{_≡_, refl}
 use mathlib.Core.Bool.{true, false}
 use mathlib.Core.Logic.{⊎-elim}

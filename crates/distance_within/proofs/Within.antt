@@ -1,4 +1,4 @@
--- Normalised values made block by block, as far as their envelope bound stays within a limit. The first so many are made (`NormalTo`); a block more (`normal-next`) adds its part of the bound (`part-is`).
+-- Laws of specs/Within.
 use mathlib.Core.Path.{_≡_, _∙_}
 use mathlib.Core.List.{List}
 use Prim.Native.Nat.{ℕ, _+_, _-_, _*_, _<_, _≤_}

@@ -1,4 +1,4 @@
--- What a build answers, and that it keeps its promise (`refused-kept`, `built-kept`).
+-- Laws of specs/Answer.
 use mathlib.Core.Path.{_≡_, refl, sym, ap, _∙_}
 use mathlib.Core.Bool.{true}
 use mathlib.Core.List.{List, [], _∷_, _++_, map}

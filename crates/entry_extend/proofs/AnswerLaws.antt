@@ -1,4 +1,4 @@
--- What an extension answers, and that it keeps its promise (`refused-kept`, `extended-kept`).
+-- Laws of specs/Answer.
 use mathlib.Core.Path.{_≡_, refl, sym, ap, _∙_}
 use mathlib.Core.List.{List}
 use mathlib.Core.Option.{none, some}

@@ -1,4 +1,4 @@
--- The runs of an index text in the run buffer, as a pass over its bytes stores them.
+-- Laws of specs/Runs.
 use mathlib.Core.List.{List}
 use Prim.Native.Nat.{ℕ}
 use Rattle.entry_read.specs.Runs.{Columns}

@@ -1,4 +1,4 @@
--- What a refused search answers, and the buffers of a search by their contents.
+-- Laws of specs/Refused.
 use mathlib.Core.Path.{_≡_, sym}
 use mathlib.Core.List.{List}
 use Prim.Native.Nat.{ℕ}

@@ -1,4 +1,4 @@
--- A text spelled into a buffer: stored from a place on as far as there is room, or only counted, and then nothing is altered.
+-- Laws of specs/Spell.
 use mathlib.Core.Path.{_≡_, refl, sym, ap, _∙_}
 use mathlib.Core.Bool.{Bool, true, false}
 use mathlib.Core.List.{List, _++_, append-nil, append-assoc}

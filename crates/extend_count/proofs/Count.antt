@@ -1,4 +1,4 @@
--- Counting the runs of new windows in their rows, by rank.
+-- Laws of specs/Count.
 use mathlib.Core.Path.{_≡_, refl, sym, ap, _∙_, subst}
 use mathlib.Core.Bool.{true, false}
 use mathlib.Core.List.{List}

@@ -1,4 +1,4 @@
--- Numbers listed in a slice, one in a turn; the raised upper end of a row, and how many runs it has.
+-- Laws of specs/Listed.
 use mathlib.Core.Path.{_≡_, refl, _∙_}
 use mathlib.Core.List.{List}
 use Prim.Native.Nat.{ℕ, zero, suc, _+_, _<_, _≤_}

@@ -1,4 +1,4 @@
--- The rank of a number among ascending ends: how many are at most it. It is the place of the first end above it (`rank-is`).
+-- Laws of specs/Rank.
 use mathlib.Core.Path.{_≡_, sym, _∙_}
 use mathlib.Core.List.{List}
 use Prim.Native.Nat.{ℕ, zero, suc, _+_, _<_, _≤_}

@@ -1,4 +1,4 @@
--- The first new run joined to the last old run of its row: what the code does, and that the parts then hold the runs up to its end (`joined-parts`, `joined-cursors`).
+-- Laws of specs/Join.
 use mathlib.Core.Path.{_≡_}
 use mathlib.Core.Bool.{true}
 use Prim.Native.Nat.{ℕ, _<_}

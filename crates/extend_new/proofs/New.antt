@@ -1,4 +1,4 @@
--- The table of the row numbers of the windows from `old` on: lowered, it is the list of their row numbers (`new-numbers`).
+-- Laws of specs/New.
 use mathlib.Core.Path.{_≡_, refl, ap, _∙_}
 use mathlib.Core.List.{List, map}
 use Prim.Native.Nat.{ℕ, zero, suc, _+_, _-_, _*_, _<_}

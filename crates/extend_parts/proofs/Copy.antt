@@ -1,4 +1,4 @@
--- One column of the old run buffer copied to the parts of the rows: what a turn writes, and the column after some rows.
+-- Laws of specs/Copy.
 use mathlib.Core.Path.{_≡_, refl, sym, ap, _∙_}
 use mathlib.Core.List.{List, _++_}
 use Prim.Native.Nat.{ℕ, zero, suc, _+_, _-_, _<_, _≤_}

@@ -1,4 +1,4 @@
--- Row records with their parts, from the ends of the parts.
+-- Laws of specs/Lay.
 use mathlib.Core.Path.{_≡_, refl, _∙_}
 use mathlib.Core.List.{List}
 use Prim.Native.Nat.{ℕ, zero, suc, _+_, _<_, _≤_}

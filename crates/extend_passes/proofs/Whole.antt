@@ -1,4 +1,4 @@
--- The passes of an extension, one after the other: what each asks follows from what those before it left, and at the end the indexBuffers hold the extended index (`extended-held`).
+-- Laws of specs/Whole.
 use mathlib.Core.Path.{_≡_, refl, sym, ap, _∙_, subst}
 use mathlib.Core.Bool.{Bool, true}
 use mathlib.Core.List.{List, map}

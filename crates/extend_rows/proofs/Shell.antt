@@ -1,4 +1,4 @@
--- What the walked parts of an extension ask and leave.
+-- Laws of specs/Shell.
 use mathlib.Core.Path.{_≡_, ap, _∙_}
 use mathlib.Core.List.{List, _++_}
 use Prim.Native.Nat.{ℕ, _-_, _≤_}

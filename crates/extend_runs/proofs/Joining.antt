@@ -1,4 +1,4 @@
--- What the covered steps of an extension ask and leave.
+-- Laws of specs/Joining.
 use mathlib.Core.Path.{_≡_, ap, _∙_}
 use mathlib.Core.Bool.{Bool, true}
 use mathlib.Core.List.{List}

@@ -1,4 +1,4 @@
--- The walk over old rows and row numbers: what it is given, what it has made after some turns (`Weaving`), how it begins, a turn (`weaving-turn`) and its end.
+-- Laws of specs/Weave.
 use mathlib.Core.Path.{_≡_, refl, sym, ap, _∙_, subst}
 use mathlib.Core.Logic.{⊎-elim}
 use mathlib.Core.List.{List, [], _∷_, _++_, map, List·Memᴰ as Mem, List·Memᴰ·cases-cons as cases, List·Memᴰ·not-nil as not-nil, append-nil, append-assoc}

@@ -1,4 +1,4 @@
--- The input as the program reads it, piece by piece: some text has been read, and n bytes more can be.
+-- Laws of specs/Reading.
 use mathlib.Core.Path.{_≡_}
 use mathlib.Core.List.{List, [], _++_}
 use Prim.Native.Nat.{ℕ, _+_, _<_, _≤_, _^_}

@@ -1,4 +1,4 @@
--- A value raised by 10,000, which leaves nothing signed.
+-- Laws of specs/Raised.
 use lib.IntN.{ℤ}
 use Rattle.meaning_numbers.proofs.Rep.{Rep, zarith}
 use Rattle.meaning_curves.proofs.Values.{InLimits}

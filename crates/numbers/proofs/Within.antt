@@ -1,5 +1,4 @@
--- What a function that may be left early answers: the number d where it is at most the limit, and otherwise some number above the limit.
--- It is shown by its two ways out: with the whole number (`whole`), or above the limit with a part of it (`left-early`).
+-- Laws of specs/Within.
 use mathlib.Core.Path.{_≡_}
 use Prim.Native.Nat.{ℕ, _<_, _≤_}
 use native.Mathlib.Omega.{arith}

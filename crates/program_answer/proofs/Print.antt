@@ -1,4 +1,4 @@
--- What the program prints where nothing refuses it: its build and its search are not refused either (`build-free`, `search-free`), what is built stands in the buffers (`lent-is`), and its texts have room.
+-- Laws of specs/Print.
 use mathlib.Core.Path.{_≡_, refl, sym, ap, _∙_, subst}
 use mathlib.Core.List.{List, [], _∷_, _++_, map}
 use mathlib.Core.Option.{none}

@@ -1,4 +1,4 @@
--- Where the program's input stands after some pieces (`Stands`), and what a piece more does to it.
+-- Laws of specs/Input.
 use mathlib.Core.Path.{_≡_, refl, sym, ap, _∙_}
 use mathlib.Core.List.{List, [], _∷_, _++_}
 use mathlib.Core.Option.{Option}

@@ -1,4 +1,4 @@
--- What refuses a call, as code has it, by a table of conditions (`refusalOf`): a line of it (`line-before`, `place-before`), what it says (`passes`, `refuses`), and its parts (`part-refuses`, `part-passes`).
+-- Laws of specs/Refusal.
 use mathlib.Core.Path.{_≡_, refl, sym, ap, _∙_}
 use mathlib.Core.Bool.{Bool, true, false, not}
 use mathlib.Core.List.{List, [], _∷_, _++_}

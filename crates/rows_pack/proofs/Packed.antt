@@ -1,4 +1,4 @@
--- The record of a row, from its raised number and the ends of the rows' parts, and the records of all rows.
+-- Laws of specs/Packed.
 use mathlib.Core.Path.{_≡_, refl, sym, _∙_}
 use mathlib.Core.List.{List}
 use Prim.Native.Nat.{ℕ, zero, suc, _+_, _<_}

@@ -1,4 +1,4 @@
--- The table of a series, lowered, is the list of its row numbers (`table-numbers`), and a row's runs are those of the windows that have its number (`row-runs`).
+-- Laws of specs/Numbers.
 use mathlib.Core.Path.{_≡_, sym, ap, _∙_, subst}
 use mathlib.Core.Logic.{⊎-elim}
 use mathlib.Core.Bool.{Bool, true}

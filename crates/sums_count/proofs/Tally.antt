@@ -1,4 +1,4 @@
--- Rising tables, and the runs of each row counted. A turn of the pass takes a whole run in (`counted-run`).
+-- Laws of specs/Tally.
 use mathlib.Core.Path.{_≡_, sym, ap, _∙_}
 use mathlib.Core.Bool.{Bool, true, false}
 use mathlib.Core.List.{List}

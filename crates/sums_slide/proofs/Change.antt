@@ -1,4 +1,4 @@
--- The end of a run: the first offset, from one on, that does not pass a test; and of the windows of one row (`next-row`).
+-- Laws of specs/Change.
 use mathlib.Core.Path.{_≡_}
 use mathlib.Core.Bool.{true, false}
 use Prim.Native.Nat.{ℕ, _+_, _*_, _/_, _<_, _≤_}

@@ -1,4 +1,4 @@
--- Ends of ranges raised by a bias, 0 where that is negative: a raised range holds a raised sum exactly if the range holds the sum (`within-is`); so for one end (`raised-le`, `raised-gt`).
+-- Laws of specs/Ends.
 use mathlib.Core.Path.{_≡_}
 use Prim.Native.Nat.{ℕ, _<_, _≤_}
 use lib.IntN.{ℤ}

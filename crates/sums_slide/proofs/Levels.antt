@@ -1,4 +1,4 @@
--- Raised sums: each value of a window raised by 10,000, and e more for the window. They are the windows' sums (`level-is`), and move by one window (`level-next`).
+-- Laws of specs/Levels.
 use mathlib.Core.Path.{_≡_, refl}
 use mathlib.Core.List.{List}
 use Prim.Native.Nat.{ℕ, _+_, _*_, min, max}

@@ -1,4 +1,4 @@
--- Flags for the row numbers that windows have, over raised row numbers.
+-- Laws of specs/Marks.
 use mathlib.Core.Path.{_≡_, refl, sym, ap, _∙_}
 use mathlib.Core.Bool.{true, false, cond, or-true}
 use mathlib.Core.List.{List, [], _∷_}

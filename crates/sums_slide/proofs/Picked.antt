@@ -1,4 +1,4 @@
--- The numbers from one on that pass a test, ascending.
+-- Laws of specs/Picked.
 use mathlib.Core.Path.{_≡_, refl, sym, ap, _∙_}
 use mathlib.Core.Bool.{Bool, true, false}
 use mathlib.Core.List.{List, [], _∷_, _++_, append-nil, append-assoc}

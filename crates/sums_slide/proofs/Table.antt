@@ -1,4 +1,4 @@
--- The table of the row numbers that windows have, ascending, over raised row numbers. A pass makes it from the least number to the greatest (`table-start`, `table-end`).
+-- Laws of specs/Table.
 use mathlib.Core.Path.{_≡_, sym, ap, _∙_}
 use mathlib.Core.Bool.{Bool}
 use mathlib.Core.List.{List, [], _++_, append-nil}

@@ -1,4 +1,4 @@
--- Texts counted: the place behind a text that begins at a place, or one past a limit. The parts of an index text, by the lengths of their numbers.
+-- Laws of specs/Count.
 use mathlib.Core.Path.{_≡_, sym, ap, _∙_}
 use mathlib.Core.List.{List, _++_}
 use Prim.Native.Nat.{ℕ, suc, _+_, _-_, _<_, _≤_, min}

@@ -1,4 +1,4 @@
--- What comes next in an index text, by the steps of its automaton: bytes that say nothing (`Quiet`), then one that ends a number or a row, that is refused, or the text's end. A run is two numbers, a row's beginning two and a run. What every such step keeps, an event keeps (`quiet-keeps`, `value-keeps`, `run-keeps`, `row-keeps`, `runs-keeps`).
+-- Laws of specs/Event.
 use mathlib.Core.Path.{_≡_}
 use mathlib.Core.List.{List}
 use Prim.Native.Nat.{ℕ, _+_, _<_, _≤_}

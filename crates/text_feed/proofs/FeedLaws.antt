@@ -1,4 +1,4 @@
--- What a piece of the text does: where what was kept holds what had been said, it comes to what the automaton comes to.
+-- Laws of specs/Feed.
 use mathlib.Core.Path.{_≡_, refl, ap, _∙_}
 use mathlib.Core.Bool.{Bool, true, false, cond}
 use mathlib.Core.List.{List}

@@ -1,4 +1,4 @@
--- What is kept of the lines: the single numbers at eight places, and of the values of the series and of the query as many as there is room for, clamped to 32 bits, with their count and with how many stand before the first outside its limits.
+-- Laws of specs/Keep.
 use mathlib.Core.Path.{_≡_, refl, sym, ap, _∙_}
 use mathlib.Core.Bool.{true, false, cond, not}
 use mathlib.Core.List.{List, [], _∷_, _++_, map}

@@ -1,4 +1,4 @@
--- Whole texts in pieces: a piece behind another, and what a text that has ended comes to, for a form that the automaton of the lines follows from its start.
+-- Laws of specs/Whole.
 use mathlib.Core.Path.{_≡_, refl, sym, ap, _∙_}
 use mathlib.Core.List.{List}
 use mathlib.Core.Option.{none}

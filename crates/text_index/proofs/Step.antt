@@ -1,4 +1,4 @@
--- What a byte does to an index text: the words with what stands behind each, the numbers with what may come behind each, and the step of a state.
+-- Laws of specs/Step.
 use Prim.Native.Nat.{_<_, _≤_}
 use native.Mathlib.Omega.{arith}
 use lib.ListN.{length}

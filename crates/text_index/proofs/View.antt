@@ -1,4 +1,4 @@
--- What a loop over an index text keeps of what is said: any view of it that a number and a row's end move in the same way comes to the view of what the text says (`text-viewed`).
+-- Laws of specs/View.
 use mathlib.Core.Path.{_≡_, refl, ap, _∙_}
 use mathlib.Core.List.{List, [], _∷_}
 use mathlib.Core.Option.{Option, none, some}

@@ -1,4 +1,4 @@
--- The automaton of the lines follows `seriesForm` and `programForm`, each from its own start: each state with what has been said so far has a reader for the rest of the text, and a byte takes it to the next. So the bytes of a text come to what `readText` says.
+-- Laws of specs/Follow.
 use mathlib.Core.Path.{_≡_, refl, sym, ap, _∙_}
 use mathlib.Core.Bool.{true, false, cond}
 use mathlib.Core.List.{List, [], _∷_, append-assoc, append-nil}

@@ -1,4 +1,4 @@
--- The text of a list of matches, as the code writes it: one match after the other, out of two slices.
+-- Laws of specs/Found.
 use mathlib.Core.Path.{_≡_, refl, _∙_}
 use mathlib.Core.List.{List, [], _∷_, _++_, append-assoc, map}
 use Prim.Native.Nat.{ℕ, zero, suc, _+_, _-_, _<_, _≤_, min}

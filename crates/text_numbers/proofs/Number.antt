@@ -1,4 +1,4 @@
--- What a byte does to a number that has been read so far, and the value of a number that could end. The state is the magnitude: a 19th digit is one behind 10 ^ 17 or more.
+-- Laws of specs/Number.
 use mathlib.Core.Path.{_≡_, refl}
 use mathlib.Core.Bool.{true, false}
 use Prim.Native.Nat.{ℕ, suc, _+_, _*_, _-_, _<_, _≤_, _^_}

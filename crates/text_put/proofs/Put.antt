@@ -1,4 +1,4 @@
--- Bytes written into a buffer: byte by byte from a place on, as far as there is room; the next place is counted on to one past the end, which says that there was none.
+-- Laws of specs/Put.
 use mathlib.Core.Path.{_≡_, refl, sym, _∙_}
 use mathlib.Core.List.{List, [], _∷_, _++_}
 use mathlib.Core.Logic.{_⊎_, inl, inr, ⊎-elim}

@@ -1,4 +1,4 @@
--- The parts of an index text: its head, its rows one after the other, its end; together they are the text of the index.
+-- Laws of specs/Write.
 use mathlib.Core.Path.{_≡_, refl, _∙_}
 use mathlib.Core.List.{List, [], _∷_, _++_, append-assoc, append-nil, map}
 use Prim.Native.Nat.{ℕ, zero, suc, _+_, _-_, _<_, _≤_, min}

@@ -1,4 +1,4 @@
--- A text of which some bytes have been read (`Stands`), and one more piece (`Fed`).
+-- Laws of specs/Piece.
 use mathlib.Core.Path.{_≡_}
 use mathlib.Core.Bool.{Bool}
 use mathlib.Core.List.{List}

@@ -1,5 +1,4 @@
--- The sums of a stretch as code keeps them, over values raised by 10,000: the sum of m raised values and the sum of their squares. The spread and the centred values are those of the values themselves (`spread-raised`, `centred-raised`).
--- They move by one place (`slide-values`, `slide-squares`).
+-- Laws of specs/Sums.
 use mathlib.Core.Path.{_≡_}
 use mathlib.Core.List.{List}
 use Prim.Native.Nat.{ℕ, zero, suc, _+_, _*_, _≤_}

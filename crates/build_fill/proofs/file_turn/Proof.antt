@@ -68,14 +68,5 @@ returns c =
 
 pub file-turn-spec : {M : Type 1} → statement M
 file-turn-spec =
-    tie.close
-    (tie.spec
-    (λ c. omega (arith, c .before .before .pre .place .lent .most))
-    (λ c. omega (arith, c .before .before .pre .place .lent .most, c .before .before .pre .place .lent .small))
-    raise-end-requires
-    raise-end-requires-2
-    next-out-requires
-    file-run-requires
-    (λ c. search needs)
-    (λ c. search needs)
-    returns)
+    tie.close (tie.spec (λ c. omega (arith, c .before .before .pre .place .lent .most)) (λ c. omega (arith, c .before .before .pre .place .lent .most, c .before .before .pre .place .lent .small))
+    raise-end-requires raise-end-requires-2 next-out-requires file-run-requires (λ c. search needs) (λ c. search needs) returns)

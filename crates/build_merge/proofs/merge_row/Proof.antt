@@ -41,17 +41,5 @@ returns-2 c =
 
 pub merge-row-spec : {M : Type 1} → statement M
 merge-row-spec =
-    tie.close
-    (tie.spec
-    (λ c. search needs)
-    (λ c. search needs)
-    (λ c. search needs)
-    (λ c κs. search needs)
-    (λ c. search needs)
-    (λ c. search needs)
-    mul-if1-2
-    (λ c. search needs)
-    (λ c. search needs)
-    (λ c. search needs)
-    returns
-    returns-2)
+    tie.close (tie.spec (λ c. search needs) (λ c. search needs) (λ c. search needs) (λ c κs. search needs) (λ c. search needs) (λ c. search needs) mul-if1-2 (λ c. search needs) (λ c. search needs)
+    (λ c. search needs) returns returns-2)

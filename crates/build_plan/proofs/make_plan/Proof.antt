@@ -37,14 +37,4 @@ returns-2 c =
     }
 
 pub make-plan-spec : {M : Type 1} → statement M
-make-plan-spec =
-    tie.close
-    (tie.spec
-    (λ c κs. search needs)
-    (λ c κs. search needs)
-    returns
-    raised-rows-requires
-    (λ c. search needs)
-    (λ c. search needs)
-    (λ c. search needs)
-    returns-2)
+make-plan-spec = tie.close (tie.spec (λ c κs. search needs) (λ c κs. search needs) returns raised-rows-requires (λ c. search needs) (λ c. search needs) (λ c. search needs) returns-2)

@@ -31,17 +31,5 @@ returns c =
 
 pub count-at-spec : {M : Type 1} → statement M
 count-at-spec =
-    tie.close
-    (tie.spec
-    Inv-loop
-    μ-loop
-    (λ c. (omega arith, sym (count-none _)))
-    (λ c. omega arith)
-    (λ c. omega arith)
-    (λ c. omega arith)
-    (λ c. tt)
-    (λ c. let l = c .before .before in omega (arith, more l, count-le (at l) (l .loop .k + 1)))
-    (λ c. omega arith)
-    (λ c. omega arith)
-    (λ c. (omega arith, more (c .before .before)))
-    returns)
+    tie.close (tie.spec Inv-loop μ-loop (λ c. (omega arith, sym (count-none _))) (λ c. omega arith) (λ c. omega arith) (λ c. omega arith) (λ c. tt)
+    (λ c. let l = c .before .before in omega (arith, more l, count-le (at l) (l .loop .k + 1))) (λ c. omega arith) (λ c. omega arith) (λ c. (omega arith, more (c .before .before))) returns)

@@ -33,22 +33,6 @@ returns-3 c = rw (taken (c .before), c .if2 .left) (omega arith, (refl, refl))
 
 pub put-spec : {M : Type 1} → statement M
 put-spec =
-    tie.close
-    (tie.spec
-    returns
-    (λ c. search needs)
-    (λ c. omega (arith, bit-true (c .if2 .taken)))
-    (λ c. search needs)
-    (λ c. omega (arith, bit-true (c .if2 .taken)))
-    (λ c. search needs)
-    returns-2
-    (λ c. search needs)
-    (λ c. search needs)
-    (λ c. omega (arith, one c))
-    (λ c. search needs)
-    (λ c. search needs)
-    (λ c. omega (arith, one c))
-    (λ c. search needs)
-    (λ c. search needs)
-    (λ c. search needs)
+    tie.close (tie.spec returns (λ c. search needs) (λ c. omega (arith, bit-true (c .if2 .taken))) (λ c. search needs) (λ c. omega (arith, bit-true (c .if2 .taken))) (λ c. search needs) returns-2
+    (λ c. search needs) (λ c. search needs) (λ c. omega (arith, one c)) (λ c. search needs) (λ c. search needs) (λ c. omega (arith, one c)) (λ c. search needs) (λ c. search needs) (λ c. search needs)
     returns-3)

@@ -33,18 +33,6 @@ returns c =
 
 pub raise-run-spec : {M : Type 1} → statement M
 raise-run-spec =
-    tie.close
-    (tie.spec
-    Inv-loop
-    μ-loop
-    loop-holds
-    (λ c. omega (arith, inside c))
-    (λ c. inside (c .before))
-    (λ c κs. c .before .before .before .before .pre .1)
-    (λ c. omega (arith, inside (c .before .before)))
-    (λ c. inside (c .before .before))
-    (λ c. omega (arith, inside (c .before .before)))
-    (λ c. omega (arith, c .before .before .loop-test .taken))
-    loop-again
-    (λ c. c .before .loop .inv .2 .long)
-    returns)
+    tie.close (tie.spec Inv-loop μ-loop loop-holds (λ c. omega (arith, inside c)) (λ c. inside (c .before)) (λ c κs. c .before .before .before .before .pre .1)
+    (λ c. omega (arith, inside (c .before .before))) (λ c. inside (c .before .before)) (λ c. omega (arith, inside (c .before .before))) (λ c. omega (arith, c .before .before .loop-test .taken))
+    loop-again (λ c. c .before .loop .inv .2 .long) returns)

@@ -53,23 +53,8 @@ returns c =
 
 pub raise-runs-spec : {M : Type 1} → statement M
 raise-runs-spec =
-    tie.close
-    (tie.spec
-    Inv-loop
-    μ-loop
-    loop-holds
-    (λ c. omega (arith, in-left c))
-    (λ c. in-left (c .before))
-    (λ c. omega (arith, c .shared-slice-known3 .given (c .before .before .loop .i)))
-    (λ c. omega (arith, in-right (c .before)))
-    (λ c. in-right (c .before .before))
-    (λ c. omega (arith, c .shared-slice-known4 .given (c .before .before .before .loop .i)))
-    (λ c κs. omega arith)
-    (λ c. omega (arith, c .before .shared-slice-known4 .given (c .before .before .before .before .loop .i)))
-    (λ c κs. omega arith)
-    raise-run-requires
+    tie.close (tie.spec Inv-loop μ-loop loop-holds (λ c. omega (arith, in-left c)) (λ c. in-left (c .before)) (λ c. omega (arith, c .shared-slice-known3 .given (c .before .before .loop .i)))
+    (λ c. omega (arith, in-right (c .before))) (λ c. in-right (c .before .before)) (λ c. omega (arith, c .shared-slice-known4 .given (c .before .before .before .loop .i))) (λ c κs. omega arith)
+    (λ c. omega (arith, c .before .shared-slice-known4 .given (c .before .before .before .before .loop .i))) (λ c κs. omega arith) raise-run-requires
     (λ c. omega (arith, in-left (c .before .before .before .before .before .before .before .before)))
-    (λ c. omega (arith, c .before .before .before .before .before .before .before .before .loop-test .taken))
-    loop-again
-    (λ c. c .before .loop .inv .long)
-    returns)
+    (λ c. omega (arith, c .before .before .before .before .before .before .before .before .loop-test .taken)) loop-again (λ c. c .before .loop .inv .long) returns)

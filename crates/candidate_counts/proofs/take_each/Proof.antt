@@ -45,23 +45,10 @@ loop-again c =
 
 pub take-each-spec : {M : Type 1} → statement M
 take-each-spec =
-    tie.close
-    (tie.spec
-    Inv-loop
-    μ-loop
-    (λ c. let a = c .before .before .before in (omega arith, taking-starts _ _ _ _ _ _ _ (a .pre .begun)))
-    (λ c. omega (arith, inside c))
-    (λ c. omega (arith, inside c))
-    (λ c. inside (c .before))
-    put-requires
-    (λ c. tt)
-    (λ c.
-    let u = c .before .before .before .before .before .before .before .before in
-    let l = u .before in
+    tie.close (tie.spec Inv-loop μ-loop (λ c. let a = c .before .before .before in (omega arith, taking-starts _ _ _ _ _ _ _ (a .pre .begun))) (λ c. omega (arith, inside c))
+    (λ c. omega (arith, inside c)) (λ c. inside (c .before)) put-requires (λ c. tt) (λ c. let u = c .before .before .before .before .before .before .before .before in let l = u .before in
     omega (arith, flag-bit (here l), bit-le (here l), l .loop .inv .1 .fewer, start l .pre .fewer, u .loop-test .taken, start l .pre .short))
     (λ c. omega (arith, inside (c .before .before .before .before .before .before .before .before)))
-    (λ c. omega (arith, c .before .before .before .before .before .before .before .before .loop-test .taken))
-    loop-again
-    (λ c. c .before .loop .inv .1 .long-left)
+    (λ c. omega (arith, c .before .before .before .before .before .before .before .before .loop-test .taken)) loop-again (λ c. c .before .loop .inv .1 .long-left)
     (λ c. c .before .loop .inv .1 .long-right)
     (λ c. let e : c .before .loop .i ≡ start (c .before) .args .n = omega (arith, c .loop-test .left, c .before .loop .inv .0) in rw e at (c .before .loop .inv .1 .took)))

@@ -35,16 +35,5 @@ returns c = cc (small-back _ (omega arith) (low-small (c .before)), low-is (c .b
 
 pub range-at-spec : {M : Type 1} → statement M
 range-at-spec =
-    tie.close
-    (tie.spec
-    (λ c. search needs)
-    (λ c. search needs)
-    (λ c. search needs)
-    (λ c. search needs)
-    (λ c. search needs)
-    (λ c. search needs)
-    (λ c κs. search needs)
-    (λ c. small-fits (omega arith) (low-small c))
-    (λ c κs. search needs)
-    (λ c. small-fits (omega arith) (high-small c))
-    returns)
+    tie.close (tie.spec (λ c. search needs) (λ c. search needs) (λ c. search needs) (λ c. search needs) (λ c. search needs) (λ c. search needs) (λ c κs. search needs)
+    (λ c. small-fits (omega arith) (low-small c)) (λ c κs. search needs) (λ c. small-fits (omega arith) (high-small c)) returns)

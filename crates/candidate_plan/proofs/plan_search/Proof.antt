@@ -34,11 +34,4 @@ returns-2 c =
     (c .refuse-state .ensures ∙ ap (λ (n : ℕ). refusalOf (state o n)) (c .before .lesser .ensures))
 
 pub plan-search-spec : {M : Type 1} → statement M
-plan-search-spec =
-    tie.close
-    (tie.spec
-    (λ c κs. search needs)
-    returns
-    (λ c κs. search needs)
-    (λ c κs. search needs)
-    returns-2)
+plan-search-spec = tie.close (tie.spec (λ c κs. search needs) returns (λ c κs. search needs) (λ c κs. search needs) returns-2)

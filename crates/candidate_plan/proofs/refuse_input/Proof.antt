@@ -62,14 +62,4 @@ returns-3 c =
     (part-passes (three o) (second e) (line-before 11 _ _ (c .before .unrefused .ensures) (c .before .before .normal-flat .ensures) (c .refuse-if .ensures)))
 
 pub refuse-input-spec : {M : Type 1} → statement M
-refuse-input-spec =
-    tie.close
-    (tie.spec
-    (λ c κs. search needs)
-    returns
-    (λ c κs. search needs)
-    returns-2
-    normal-flat-requires
-    (λ c κs. search needs)
-    (λ c κs. search needs)
-    returns-3)
+refuse-input-spec = tie.close (tie.spec (λ c κs. search needs) returns (λ c κs. search needs) returns-2 normal-flat-requires (λ c κs. search needs) (λ c κs. search needs) returns-3)

@@ -15,11 +15,5 @@ returns c = rw (cast-back {n = 204800001} (c .root .result + 1) (omega arith) (s
 
 pub high-scale-spec : {M : Type 1} → statement M
 high-scale-spec =
-    tie.close
-    (tie.spec
-    (λ c. omega (arith, square-le (c .args .a) (c .pre .1)))
-    (λ c. omega (arith, scaled-le (c .args .spread) (c .args .a) (c .pre .0) (c .pre .1)))
-    (λ c κs. search needs)
-    (λ c. omega (arith, small c))
-    (λ c. small-fits {n = 204800001} (omega arith) (small-pos 204800001 (c .root .result + 1) (small c)))
-    returns)
+    tie.close (tie.spec (λ c. omega (arith, square-le (c .args .a) (c .pre .1))) (λ c. omega (arith, scaled-le (c .args .spread) (c .args .a) (c .pre .0) (c .pre .1))) (λ c κs. search needs)
+    (λ c. omega (arith, small c)) (λ c. small-fits {n = 204800001} (omega arith) (small-pos 204800001 (c .root .result + 1) (small c))) returns)

@@ -16,11 +16,5 @@ returns c = rw (cast-back {n = 204800000} (c .root .result) (omega arith) (small
 
 pub low-scale-spec : {M : Type 1} → statement M
 low-scale-spec =
-    tie.close
-    (tie.spec
-    (λ c. search needs)
-    (λ c. omega (arith, square-le (c .args .a) (c .pre .2)))
-    (λ c. mul-pos (c .pre .1) (c .pre .1))
-    (λ c κs. search needs)
-    (λ c. small-fits {n = 204800000} (omega arith) (small-pos 204800000 (c .root .result) (small c)))
-    returns)
+    tie.close (tie.spec (λ c. search needs) (λ c. omega (arith, square-le (c .args .a) (c .pre .2))) (λ c. mul-pos (c .pre .1) (c .pre .1)) (λ c κs. search needs)
+    (λ c. small-fits {n = 204800000} (omega arith) (small-pos 204800000 (c .root .result) (small c))) returns)

@@ -63,13 +63,5 @@ returns c =
 
 pub part-range-spec : {M : Type 1} → statement M
 part-range-spec =
-    tie.close
-    (tie.spec
-    (λ c. search needs)
-    (λ c κs. search needs)
-    (λ c. small-fits (omega arith) (least c))
-    (λ c κs. search needs)
-    (λ c. small-fits (omega arith) (most c))
-    (λ c κs. (c .before .before .pre .0, passed (least (c .before))))
-    (λ c κs. (c .before .before .before .pre .0, passed (most (c .before))))
-    returns)
+    tie.close (tie.spec (λ c. search needs) (λ c κs. search needs) (λ c. small-fits (omega arith) (least c)) (λ c κs. search needs) (λ c. small-fits (omega arith) (most c))
+    (λ c κs. (c .before .before .pre .0, passed (least (c .before)))) (λ c κs. (c .before .before .before .pre .0, passed (most (c .before)))) returns)

@@ -15,9 +15,5 @@ returns c = rw (cast-back {n = 16000000} (c .root .result) (omega arith) (reach 
 
 pub raw-frame-spec : {M : Type 1} → statement M
 raw-frame-spec =
-    tie.close
-    (tie.spec
-    (λ c. omega (arith, product-le (c .before .args .w) (c .before .args .l .threshold) (c .before .pre .0) (c .before .pre .1)))
-    (λ c κs. search needs)
-    (λ c. small-fits {n = 16000000} (omega arith) (small-pos 16000000 (c .root .result) (reach c)))
-    returns)
+    tie.close (tie.spec (λ c. omega (arith, product-le (c .before .args .w) (c .before .args .l .threshold) (c .before .pre .0) (c .before .pre .1))) (λ c κs. search needs)
+    (λ c. small-fits {n = 16000000} (omega arith) (small-pos 16000000 (c .root .result) (reach c))) returns)

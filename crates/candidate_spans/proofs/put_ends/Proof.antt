@@ -55,18 +55,7 @@ returns c =
 
 pub put-ends-spec : {M : Type 1} → statement M
 put-ends-spec =
-    tie.close
-    (tie.spec
-    Inv-loop
-    μ-loop
-    loop-holds
-    part-range-requires
-    (λ c κs. tt)
-    (λ c κs. tt)
-    store-pair-requires
+    tie.close (tie.spec Inv-loop μ-loop loop-holds part-range-requires (λ c κs. tt) (λ c κs. tt) store-pair-requires
     (λ c. omega (arith, c .before .before .before .before .before .before .before .before .before .before .before .before .loop-test .taken, start (c .before .before .before .before .before .before .before .before .before .before .before .before .before) .pre .most))
-    (λ c. omega (arith, c .before .before .before .before .before .before .before .before .before .before .before .before .loop-test .taken))
-    loop-again
-    (λ c. c .before .loop .inv .1)
-    (λ c. c .before .loop .inv .2)
-    returns)
+    (λ c. omega (arith, c .before .before .before .before .before .before .before .before .before .before .before .before .loop-test .taken)) loop-again (λ c. c .before .loop .inv .1)
+    (λ c. c .before .loop .inv .2) returns)

@@ -22,16 +22,5 @@ returns c =
 
 pub put-prepared-spec : {M : Type 1} → statement M
 put-prepared-spec =
-    tie.close
-    (tie.spec
-    (λ c. search needs)
-    prepare-requires
-    frame-of-requires
-    (λ c. search needs)
-    put-ends-requires
-    (λ c. search needs)
-    (λ c. search needs)
-    (λ c. search needs)
-    (λ c. search needs)
-    (λ c. search needs)
-    returns)
+    tie.close (tie.spec (λ c. search needs) prepare-requires frame-of-requires (λ c. search needs) put-ends-requires (λ c. search needs) (λ c. search needs) (λ c. search needs) (λ c. search needs)
+    (λ c. search needs) returns)

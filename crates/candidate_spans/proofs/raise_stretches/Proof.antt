@@ -56,22 +56,8 @@ returns c =
 
 pub raise-stretches-spec : {M : Type 1} → statement M
 raise-stretches-spec =
-    tie.close
-    (tie.spec
-    Inv-loop
-    μ-loop
-    loop-holds
-    (λ c. omega (arith, below c))
-    (λ c. in-first (c .before))
-    (λ c. omega (arith, c .shared-slice-known5 .given (c .before .before .loop .i)))
-    (λ c. omega (arith, below (c .before)))
-    (λ c. in-last (c .before .before))
-    (λ c. omega (arith, c .shared-slice-known6 .given (c .before .before .before .loop .i)))
-    (λ c. omega (arith, shift-fits (c .before .before .before)))
-    (λ c. omega (arith, below (c .before .before .before)))
-    raise-runs-requires
-    (λ c. omega (arith, below (c .before .before .before .before .before .before)))
-    (λ c. omega (arith, c .before .before .before .before .before .before .loop-test .taken))
-    loop-again
-    (λ c. c .before .loop .inv .1)
-    returns)
+    tie.close (tie.spec Inv-loop μ-loop loop-holds (λ c. omega (arith, below c)) (λ c. in-first (c .before)) (λ c. omega (arith, c .shared-slice-known5 .given (c .before .before .loop .i)))
+    (λ c. omega (arith, below (c .before))) (λ c. in-last (c .before .before)) (λ c. omega (arith, c .shared-slice-known6 .given (c .before .before .before .loop .i)))
+    (λ c. omega (arith, shift-fits (c .before .before .before))) (λ c. omega (arith, below (c .before .before .before))) raise-runs-requires
+    (λ c. omega (arith, below (c .before .before .before .before .before .before))) (λ c. omega (arith, c .before .before .before .before .before .before .loop-test .taken)) loop-again
+    (λ c. c .before .loop .inv .1) returns)

@@ -8,13 +8,4 @@ returns : tie.Need-returns
 returns c = let o = c in stored (o .args .i) (o .args .a) (o .args .b) (o .args .first .now) (o .args .last .now) (o .pre .0) (o .pre .1)
 
 pub store-pair-spec : {M : Type 1} → statement M
-store-pair-spec =
-    tie.close
-    (tie.spec
-    (λ c. search needs)
-    (λ c. search needs)
-    (λ c. search needs)
-    (λ c. search needs)
-    (λ c. search needs)
-    (λ c. search needs)
-    returns)
+store-pair-spec = tie.close (tie.spec (λ c. search needs) (λ c. search needs) (λ c. search needs) (λ c. search needs) (λ c. search needs) (λ c. search needs) returns)

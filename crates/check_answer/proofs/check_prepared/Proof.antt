@@ -11,14 +11,5 @@ prepare-requires c κs =
 
 pub check-prepared-spec : {M : Type 1} → statement M
 check-prepared-spec =
-    tie.close
-    (tie.spec
-    (λ c. search needs)
-    prepare-requires
-    (λ c κs. search needs)
-    (λ c. search needs)
-    (λ c. search needs)
-    (λ c. search needs)
-    (λ c. search needs)
-    (λ c. search needs)
+    tie.close (tie.spec (λ c. search needs) prepare-requires (λ c κs. search needs) (λ c. search needs) (λ c. search needs) (λ c. search needs) (λ c. search needs) (λ c. search needs)
     (λ c. search needs))

@@ -16,19 +16,5 @@ returns c = answers (c .before .before .before .before .before .before .before .
 
 pub find-matches-spec : {M : Type 1} → statement M
 find-matches-spec =
-    tie.close
-    (tie.spec
-    (λ c. search needs)
-    (λ c. search needs)
-    (λ c. search needs)
-    (λ c. search needs)
-    (λ c. search needs)
-    (λ c. search needs)
-    (λ c. search needs)
-    (λ c. search needs)
-    (λ c. search needs)
-    check-prepared-requires
-    (λ c κs. search needs)
-    (λ c. search needs)
-    (λ c. search needs)
-    returns)
+    tie.close (tie.spec (λ c. search needs) (λ c. search needs) (λ c. search needs) (λ c. search needs) (λ c. search needs) (λ c. search needs) (λ c. search needs) (λ c. search needs)
+    (λ c. search needs) check-prepared-requires (λ c κs. search needs) (λ c. search needs) (λ c. search needs) returns)

@@ -53,23 +53,7 @@ loop-again c =
 
 pub check-each-spec : {M : Type 1} → statement M
 check-each-spec =
-    tie.close
-    (tie.spec
-    Inv-loop
-    μ-loop
-    loop-holds
-    (λ c. omega (arith, has-left c))
-    (λ c. has-left (c .before))
-    (λ c. omega (arith, c .shared-slice-known3 .given (c .before .before .loop .i)))
-    (λ c. omega (arith, has-right (c .before)))
-    (λ c. has-right (c .before .before))
-    (λ c. omega (arith, c .shared-slice-known4 .given (c .before .before .before .loop .i)))
-    check-run-requires
-    (λ c. search needs)
-    (λ c. search needs)
-    loop-again
-    (λ c. c .before .loop .inv .0)
-    (λ c. c .before .loop .inv .1)
-    (λ c. c .before .loop .inv .2 .so-far .as-many-offsets)
-    (λ c. c .before .loop .inv .2 .so-far .as-many-distances)
-    (λ c. runs-end (c .loop-test .left) (c .before .loop .inv .2)))
+    tie.close (tie.spec Inv-loop μ-loop loop-holds (λ c. omega (arith, has-left c)) (λ c. has-left (c .before)) (λ c. omega (arith, c .shared-slice-known3 .given (c .before .before .loop .i)))
+    (λ c. omega (arith, has-right (c .before))) (λ c. has-right (c .before .before)) (λ c. omega (arith, c .shared-slice-known4 .given (c .before .before .before .loop .i))) check-run-requires
+    (λ c. search needs) (λ c. search needs) loop-again (λ c. c .before .loop .inv .0) (λ c. c .before .loop .inv .1) (λ c. c .before .loop .inv .2 .so-far .as-many-offsets)
+    (λ c. c .before .loop .inv .2 .so-far .as-many-distances) (λ c. runs-end (c .loop-test .left) (c .before .loop .inv .2)))

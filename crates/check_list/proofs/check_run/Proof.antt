@@ -88,20 +88,5 @@ returns c = run-ends (c .loop-test .left) (c .before .loop .inv .2)
 
 pub check-run-spec : {M : Type 1} → statement M
 check-run-spec =
-    tie.close
-    (tie.spec
-    Inv-loop
-    μ-loop
-    first-sums-requires
-    loop-holds
-    match-at-requires
-    list-match-requires
-    slide-sums-requires
-    add-j
-    (λ c. omega arith)
-    loop-again
-    same-length
-    same-length-2
-    same-length-3
-    same-length-4
-    returns)
+    tie.close (tie.spec Inv-loop μ-loop first-sums-requires loop-holds match-at-requires list-match-requires slide-sums-requires add-j (λ c. omega arith) loop-again same-length same-length-2
+    same-length-3 same-length-4 returns)

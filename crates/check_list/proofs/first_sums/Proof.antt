@@ -5,11 +5,4 @@ use Rattle.check_list.proofs.first_sums.Statement.{statement}
 use Rattle.check_list.proofs.first_sums.Tie as tie
 
 pub first-sums-spec : {M : Type 1} → statement M
-first-sums-spec =
-    tie.close
-    (tie.spec
-    (λ c. search needs)
-    (λ c. search needs)
-    (λ c κs. search needs)
-    (λ c. raw-sums (c .enum-told .given .1))
-    (λ c. search needs))
+first-sums-spec = tie.close (tie.spec (λ c. search needs) (λ c. search needs) (λ c κs. search needs) (λ c. raw-sums (c .enum-told .given .1)) (λ c. search needs))

@@ -8,15 +8,6 @@ use Rattle.clear.proofs.clear_u32.Tie as tie
 
 pub clear-u32-spec : {M : Type 1} → statement M
 clear-u32-spec =
-    tie.close
-    (tie.spec
-    (λ old from i₀ new i. Clearing from i old new)
-    (λ old from i₀ new i. length old - i)
-    (λ c. clear-starts (c .args .from) (c .args .buffer .now))
-    (λ c. omega arith)
-    (λ c. omega arith)
-    (λ c. omega arith)
-    (λ c. omega (arith, c .before .loop .inv .long))
-    (λ c. clear-next (c .loop-test .taken) (c .before .loop .inv))
-    (λ c. c .before .loop .inv .long)
+    tie.close (tie.spec (λ old from i₀ new i. Clearing from i old new) (λ old from i₀ new i. length old - i) (λ c. clear-starts (c .args .from) (c .args .buffer .now)) (λ c. omega arith)
+    (λ c. omega arith) (λ c. omega arith) (λ c. omega (arith, c .before .loop .inv .long)) (λ c. clear-next (c .loop-test .taken) (c .before .loop .inv)) (λ c. c .before .loop .inv .long)
     (λ c. clear-ends (c .loop-test .left) (c .before .loop .inv)))

@@ -48,19 +48,6 @@ returns-2 c = made-whole (more (c .before .before) _ (c .envelope-part2 .ensures
 
 pub envelope-bound-spec : {M : Type 1} → statement M
 envelope-bound-spec =
-    tie.close
-    (tie.spec
-    Inv-loop
-    μ-loop
-    (λ c. (omega arith, omega arith, made-none _ _))
-    (λ c. omega arith)
-    envelope-part-requires
-    (λ c. omega (arith, small (c .before .before) 16 (c .envelope-part .ensures)))
-    returns
-    (λ c. omega arith)
-    (λ c. omega arith)
-    loop-again
-    (λ c. omega arith)
-    envelope-part-requires-2
-    (λ c. omega (arith, small (c .before .before) _ (c .envelope-part2 .ensures)))
-    returns-2)
+    tie.close (tie.spec Inv-loop μ-loop (λ c. (omega arith, omega arith, made-none _ _)) (λ c. omega arith) envelope-part-requires
+    (λ c. omega (arith, small (c .before .before) 16 (c .envelope-part .ensures))) returns (λ c. omega arith) (λ c. omega arith) loop-again (λ c. omega arith) envelope-part-requires-2
+    (λ c. omega (arith, small (c .before .before) _ (c .envelope-part2 .ensures))) returns-2)

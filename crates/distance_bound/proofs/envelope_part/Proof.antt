@@ -28,15 +28,5 @@ returns c =
 
 pub envelope-part-spec : {M : Type 1} → statement M
 envelope-part-spec =
-    tie.close
-    (tie.spec
-    Inv-loop
-    μ-loop
-    (λ c. rw Σℕ-none (omega arith))
-    (λ c. omega arith)
-    (λ c κs. (omega arith, (omega arith, (omega arith, c .before .before .pre .1 .1 .1 .1))))
-    (λ c. omega (arith, small c))
-    (λ c. omega arith)
-    (λ c. omega arith)
-    (λ c. rw Σℕ-more (omega arith, omega (arith, small c), omega (arith, c .excess-at .ensures)))
-    returns)
+    tie.close (tie.spec Inv-loop μ-loop (λ c. rw Σℕ-none (omega arith)) (λ c. omega arith) (λ c κs. (omega arith, (omega arith, (omega arith, c .before .before .pre .1 .1 .1 .1))))
+    (λ c. omega (arith, small c)) (λ c. omega arith) (λ c. omega arith) (λ c. rw Σℕ-more (omega arith, omega (arith, small c), omega (arith, c .excess-at .ensures))) returns)

@@ -18,10 +18,4 @@ small : (c : tie.After-outside) → c .outside .result * c .outside .result ≤ 
 small c = let p = c .before .pre in rw (told c) (excess-sq-le (p .0) (p .1 .0) (p .1 .1))
 
 pub outside-squared-spec : {M : Type 1} → statement M
-outside-squared-spec =
-    tie.close
-    (tie.spec
-    (λ c κs. (in-arg (c .pre .0), (in-arg (c .pre .1 .0), in-arg (c .pre .1 .1))))
-    (λ c. search needs)
-    (λ c. omega (arith, small c))
-    (λ c. rw (told c) refl))
+outside-squared-spec = tie.close (tie.spec (λ c κs. (in-arg (c .pre .0), (in-arg (c .pre .1 .0), in-arg (c .pre .1 .1)))) (λ c. search needs) (λ c. omega (arith, small c)) (λ c. rw (told c) refl))

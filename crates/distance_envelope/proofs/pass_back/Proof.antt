@@ -31,21 +31,5 @@ loop-again c =
 
 pub pass-back-spec : {M : Type 1} → statement M
 pass-back-spec =
-    tie.close
-    (tie.spec
-    Inv-loop
-    μ-loop
-    (λ c. (omega arith, omega arith, omega arith, back-start _ _ _))
-    (λ c. omega arith)
-    (λ c. omega arith)
-    (λ c. omega arith)
-    (λ c. omega arith)
-    (λ c. omega arith)
-    (λ c. omega arith)
-    (λ c κs. search needs)
-    (λ c. omega arith)
-    (λ c. omega arith)
-    (λ c. omega arith)
-    loop-again
-    (λ c. omega arith)
-    (λ c. back-end (c .before .loop .inv .3) (omega arith)))
+    tie.close (tie.spec Inv-loop μ-loop (λ c. (omega arith, omega arith, omega arith, back-start _ _ _)) (λ c. omega arith) (λ c. omega arith) (λ c. omega arith) (λ c. omega arith) (λ c. omega arith)
+    (λ c. omega arith) (λ c κs. search needs) (λ c. omega arith) (λ c. omega arith) (λ c. omega arith) loop-again (λ c. omega arith) (λ c. back-end (c .before .loop .inv .3) (omega arith)))

@@ -22,15 +22,5 @@ returns c = let e : c .before .loop .n ≡ c .before .before .args .b = omega ar
 
 pub reach-back-spec : {M : Type 1} → statement M
 reach-back-spec =
-    tie.close
-    (tie.spec
-    Inv-loop
-    μ-loop
-    (λ c. (omega arith, back-none _ _))
-    (λ c κs. omega arith)
-    (λ c κs. search needs)
-    (λ c. omega arith)
-    (λ c. omega arith)
-    loop-again
-    (λ c. c .before .loop .inv .1 .long)
-    returns)
+    tie.close (tie.spec Inv-loop μ-loop (λ c. (omega arith, back-none _ _)) (λ c κs. omega arith) (λ c κs. search needs) (λ c. omega arith) (λ c. omega arith) loop-again
+    (λ c. c .before .loop .inv .1 .long) returns)

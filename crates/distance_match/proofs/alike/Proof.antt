@@ -59,19 +59,5 @@ returns-4 c =
 
 pub alike-spec : {M : Type 1} → statement M
 alike-spec =
-    tie.close
-    (tie.spec
-    returns
-    (λ c. search needs)
-    (λ c. search needs)
-    mul-square
-    mul-if2
-    (λ c. search needs)
-    returns-2
-    mul-if3
-    (λ c. search needs)
-    returns-3
-    (λ c κs. search needs)
-    (λ c. search needs)
-    mul-result
-    returns-4)
+    tie.close (tie.spec returns (λ c. search needs) (λ c. search needs) mul-square mul-if2 (λ c. search needs) returns-2 mul-if3 (λ c. search needs) returns-3 (λ c κs. search needs)
+    (λ c. search needs) mul-result returns-4)

@@ -62,15 +62,5 @@ returns-2 c = let n = c .before .before .before in rw (normal (n .before .before
 
 pub match-at-spec : {M : Type 1} → statement M
 match-at-spec =
-    tie.close
-    (tie.spec
-    (λ c. search needs)
-    (λ c. search needs)
-    compare-requires
-    (λ c. search needs)
-    match-normal-requires
-    (λ c. search needs)
-    returns
-    (λ c. search needs)
-    (λ c. search needs)
+    tie.close (tie.spec (λ c. search needs) (λ c. search needs) compare-requires (λ c. search needs) match-normal-requires (λ c. search needs) returns (λ c. search needs) (λ c. search needs)
     returns-2)

@@ -72,14 +72,4 @@ returns-2 c =
     ∙ alike-matched (S d) (Q d) (m d) l (d .spread-of .ensures) (ready .spread) (shift d) like
 
 pub match-normal-spec : {M : Type 1} → statement M
-match-normal-spec =
-    tie.close
-    (tie.spec
-    (λ c κs. search needs)
-    alike-requires
-    returns
-    (λ c. search needs)
-    compare-normal-requires
-    (λ c. search needs)
-    (λ c. search needs)
-    returns-2)
+match-normal-spec = tie.close (tie.spec (λ c κs. search needs) alike-requires returns (λ c. search needs) compare-normal-requires (λ c. search needs) (λ c. search needs) returns-2)

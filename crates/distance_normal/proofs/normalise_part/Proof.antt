@@ -77,22 +77,8 @@ loop-again c =
 
 pub normalise-part-spec : {M : Type 1} → statement M
 normalise-part-spec =
-    tie.close
-    (tie.spec
-    Inv-loop
-    μ-loop
-    (λ c. (omega arith, record { long = refl; kept = λ k h. refl; made = λ k h. absurd (omega arith) }))
-    (λ c. omega (arith, c .before .before .pre .0 .in-series))
-    (λ c. omega (arith, c .before .before .pre .0 .in-series))
-    (λ c. omega (arith, c .before .before .pre .0 .in-series))
-    (λ c. omega (arith, c .before .before .pre .0 .in-series))
-    (λ c κs. in-arg (c .before .before .before .pre .0 .values-in .at _))
-    (λ c. omega (arith, small c))
-    normal-of-requires
-    (λ c. omega arith)
-    (λ c. omega (arith, c .before .before .before .before .loop .inv .1 .long))
-    (λ c. omega arith)
-    (λ c. omega arith)
-    loop-again
-    (λ c. c .before .loop .inv .1 .long)
+    tie.close (tie.spec Inv-loop μ-loop (λ c. (omega arith, record { long = refl; kept = λ k h. refl; made = λ k h. absurd (omega arith) })) (λ c. omega (arith, c .before .before .pre .0 .in-series))
+    (λ c. omega (arith, c .before .before .pre .0 .in-series)) (λ c. omega (arith, c .before .before .pre .0 .in-series)) (λ c. omega (arith, c .before .before .pre .0 .in-series))
+    (λ c κs. in-arg (c .before .before .before .pre .0 .values-in .at _)) (λ c. omega (arith, small c)) normal-of-requires (λ c. omega arith)
+    (λ c. omega (arith, c .before .before .before .before .loop .inv .1 .long)) (λ c. omega arith) (λ c. omega arith) loop-again (λ c. c .before .loop .inv .1 .long)
     (λ c. let e : c .before .loop .k ≡ c .before .before .args .n = omega arith in rw e at (c .before .loop .inv .1)))

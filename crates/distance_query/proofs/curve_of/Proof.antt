@@ -29,14 +29,4 @@ returns-2 c =
     rw (normal t) (normal-curve (p .1 .0) (p .1 .1 .1 .1 .0) (p .1 .1 .1 .1 .1 (normal t)) (rw (p .0) at (c .before .normalise .ensures)))
 
 pub curve-of-spec : {M : Type 1} → statement M
-curve-of-spec =
-    tie.close
-    (tie.spec
-    (λ c. search needs)
-    (λ c κs. search needs)
-    (λ c. search needs)
-    normalise-requires
-    (λ c. search needs)
-    returns
-    (λ c. search needs)
-    returns-2)
+curve-of-spec = tie.close (tie.spec (λ c. search needs) (λ c κs. search needs) (λ c. search needs) normalise-requires (λ c. search needs) returns (λ c. search needs) returns-2)

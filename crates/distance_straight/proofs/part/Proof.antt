@@ -42,20 +42,6 @@ returns c =
 
 pub part-spec : {M : Type 1} → statement M
 part-spec =
-    tie.close
-    (tie.spec
-    Inv-loop
-    μ-loop
-    (λ c. rw Σℕ-none (omega arith))
-    (λ c. omega arith)
-    (λ c. omega arith)
-    (λ c. omega arith)
-    (λ c. omega arith)
-    (λ c. omega arith)
-    (λ c. omega arith)
-    (λ c κs. let p = c .before .before .before .before .pre .1 .1 .1 in (in-arg (p .0 .at _), in-arg (p .1 .at _)))
-    (λ c. omega (arith, small c))
-    (λ c. omega arith)
-    (λ c. omega arith)
-    loop-again
+    tie.close (tie.spec Inv-loop μ-loop (λ c. rw Σℕ-none (omega arith)) (λ c. omega arith) (λ c. omega arith) (λ c. omega arith) (λ c. omega arith) (λ c. omega arith) (λ c. omega arith)
+    (λ c κs. let p = c .before .before .before .before .pre .1 .1 .1 in (in-arg (p .0 .at _), in-arg (p .1 .at _))) (λ c. omega (arith, small c)) (λ c. omega arith) (λ c. omega arith) loop-again
     returns)

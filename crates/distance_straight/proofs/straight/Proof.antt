@@ -50,19 +50,5 @@ returns-2 c = made-whole (more (c .before .before) _ (c .part2 .ensures)) (omega
 
 pub straight-spec : {M : Type 1} → statement M
 straight-spec =
-    tie.close
-    (tie.spec
-    Inv-loop
-    μ-loop
-    (λ c. (omega arith, omega arith, made-none _ _))
-    (λ c. omega arith)
-    part-requires
-    (λ c. omega (arith, small (c .before .before) 16 (c .part .ensures)))
-    returns
-    (λ c. omega arith)
-    (λ c. omega arith)
-    loop-again
-    (λ c. omega arith)
-    part-requires-2
-    (λ c. omega (arith, small (c .before .before) _ (c .part2 .ensures)))
-    returns-2)
+    tie.close (tie.spec Inv-loop μ-loop (λ c. (omega arith, omega arith, made-none _ _)) (λ c. omega arith) part-requires (λ c. omega (arith, small (c .before .before) 16 (c .part .ensures))) returns
+    (λ c. omega arith) (λ c. omega arith) loop-again (λ c. omega arith) part-requires-2 (λ c. omega (arith, small (c .before .before) _ (c .part2 .ensures))) returns-2)

@@ -8,10 +8,6 @@ use Rattle.distance_warped.proofs.cell.Tie as tie
 
 pub cell-spec : {M : Type 1} → statement M
 cell-spec =
-    tie.close
-    (tie.spec
-    (λ c κs. search needs)
-    (λ c κs. search needs)
-    (λ c κs. let p = c .before .before .pre .1 in (in-arg (p .0), in-arg (p .1)))
+    tie.close (tie.spec (λ c κs. search needs) (λ c κs. search needs) (λ c κs. let p = c .before .before .pre .1 in (in-arg (p .0), in-arg (p .1)))
     (λ c. let p = c .before .before .before .pre .1 in omega (arith, c .squared .ensures, cost-back (p .0) (p .1), cost-le (p .0) (p .1)))
     (λ c. let p = c .before .before .before .pre .1 in omega (arith, c .squared .ensures, cost-back (p .0) (p .1))))

@@ -27,15 +27,5 @@ loop-again c =
 
 pub fill-row-spec : {M : Type 1} → statement M
 fill-row-spec =
-    tie.close
-    (tie.spec
-    Inv-loop
-    μ-loop
-    (λ c. (omega arith, refl, λ n l. absurd (omega arith)))
-    (λ c. omega arith)
-    (λ c. omega arith)
-    (λ c. omega arith)
-    (λ c. omega arith)
-    loop-again
-    (λ c. omega arith)
-    (λ c k l. c .before .loop .inv .2 k (omega arith)))
+    tie.close (tie.spec Inv-loop μ-loop (λ c. (omega arith, refl, λ n l. absurd (omega arith))) (λ c. omega arith) (λ c. omega arith) (λ c. omega arith) (λ c. omega arith) loop-again
+    (λ c. omega arith) (λ c k l. c .before .loop .inv .2 k (omega arith)))

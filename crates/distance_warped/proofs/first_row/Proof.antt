@@ -80,23 +80,5 @@ returns c =
 
 pub first-row-spec : {M : Type 1} → statement M
 first-row-spec =
-    tie.close
-    (tie.spec
-    Inv-loop
-    μ-loop
-    (λ c κs. omega arith)
-    (λ c. omega arith)
-    (λ c. omega arith)
-    (λ c κs. omega arith)
-    loop-holds
-    (λ c. omega arith)
-    (λ c. omega arith)
-    squared-requires
-    add-left
-    (λ c. omega arith)
-    (λ c. omega arith)
-    (λ c. omega arith)
-    (λ c. omega arith)
-    loop-again
-    same-length
-    returns)
+    tie.close (tie.spec Inv-loop μ-loop (λ c κs. omega arith) (λ c. omega arith) (λ c. omega arith) (λ c κs. omega arith) loop-holds (λ c. omega arith) (λ c. omega arith) squared-requires add-left
+    (λ c. omega arith) (λ c. omega arith) (λ c. omega arith) (λ c. omega arith) loop-again same-length returns)

@@ -118,26 +118,10 @@ returns-2 c =
 
 pub table-within-spec : {M : Type 1} → statement M
 table-within-spec =
-    tie.close
-    (tie.spec
-    Inv-loop
-    μ-loop
-    (λ c κs. let p = c .before .before .pre in (p .0, (p .1 .0, p .1 .1 .0)))
+    tie.close (tie.spec Inv-loop μ-loop (λ c κs. let p = c .before .before .pre in (p .0, (p .1 .0, p .1 .1 .0)))
     (λ c κs. let p = c .before .before .before .before .before in asked p 0 (p .pre .1 .0 .0))
-    (λ c. let p = c .before .before .before .before .before .before in omega (arith, c .excess-at .ensures, first-le p, p .pre .1 .1 .1 .1))
-    (λ c. omega arith)
-    loop-holds
-    (λ c κs. let l = c .before .before in let p = o l .pre in (p .0, ((omega (arith, c .before .loop-test .taken), p .1 .0 .1, l .loop .inv .2), (p .1 .1 .0, l .loop .inv .3))))
-    (λ c. omega arith)
-    (λ c κs. let l = c .before .before .before .before .before in asked (o l) (l .loop .i + 1) (omega (arith, c .before .before .before .before .loop-test .taken)))
-    enough
-    (λ c. omega (arith, fits c))
-    (λ c. omega (arith, fits (c .before)))
-    (λ c. c .before .before .before .before .next-row .kept .1 .1 .1 .1 .1 .0 ∙ same (l (c .before)))
-    (λ c. left-early (under (c .before)) (c .if1 .taken))
-    (λ c. omega arith)
-    loop-again
-    (λ c. omega arith)
-    (λ c. c .before .before .loop .inv .2)
-    (λ c. same (c .before .before))
-    returns-2)
+    (λ c. let p = c .before .before .before .before .before .before in omega (arith, c .excess-at .ensures, first-le p, p .pre .1 .1 .1 .1)) (λ c. omega arith) loop-holds
+    (λ c κs. let l = c .before .before in let p = o l .pre in (p .0, ((omega (arith, c .before .loop-test .taken), p .1 .0 .1, l .loop .inv .2), (p .1 .1 .0, l .loop .inv .3)))) (λ c. omega arith)
+    (λ c κs. let l = c .before .before .before .before .before in asked (o l) (l .loop .i + 1) (omega (arith, c .before .before .before .before .loop-test .taken))) enough (λ c. omega (arith, fits c))
+    (λ c. omega (arith, fits (c .before))) (λ c. c .before .before .before .before .next-row .kept .1 .1 .1 .1 .1 .0 ∙ same (l (c .before))) (λ c. left-early (under (c .before)) (c .if1 .taken))
+    (λ c. omega arith) loop-again (λ c. omega arith) (λ c. c .before .before .loop .inv .2) (λ c. same (c .before .before)) returns-2)

@@ -36,13 +36,4 @@ returns-2 c =
     ∙ ap (λ (d : ℕ). nearness d (o .args .threshold)) (sym (distance-is (S o) (Q o) (o .args .b) (m o) (o .pre .1 .0 .0)))
 
 pub compare-spec : {M : Type 1} → statement M
-compare-spec =
-    tie.close
-    (tie.spec
-    (λ c κs. search needs)
-    (λ c κs. search needs)
-    returns
-    (λ c κs. search needs)
-    (λ c κs. search needs)
-    (λ c. search needs)
-    returns-2)
+compare-spec = tie.close (tie.spec (λ c κs. search needs) (λ c κs. search needs) returns (λ c κs. search needs) (λ c κs. search needs) (λ c. search needs) returns-2)

@@ -307,44 +307,6 @@ returns-3 c =
 
 pub audit-chunk-spec : {M : Type 1} → statement M
 audit-chunk-spec =
-    tie.close
-    (tie.spec
-    Inv-offsets
-    μ-offsets
-    Inv-runs
-    μ-runs
-    Inv-rows
-    μ-rows
-    returns
-    (λ c. search needs)
-    sub-rest
-    rows-holds
-    (λ c. omega arith)
-    (λ c. omega arith)
-    (λ c. search needs)
-    (λ c. search needs)
-    (λ c. search needs)
-    runs-holds
-    mul-j
-    shared-slice-read-j
-    cast-j
-    mul-last
-    shared-slice-read-last
-    cast-last
-    part-sum-requires
-    offsets-holds
-    value-in-requires
-    holds-requires
-    add-row
-    value-out-requires
-    add-j
-    offsets-less
-    offsets-again
-    add-i
-    runs-less
-    runs-again
-    add-k
-    rows-less
-    rows-again
-    returns-2
-    returns-3)
+    tie.close (tie.spec Inv-offsets μ-offsets Inv-runs μ-runs Inv-rows μ-rows returns (λ c. search needs) sub-rest rows-holds (λ c. omega arith) (λ c. omega arith) (λ c. search needs)
+    (λ c. search needs) (λ c. search needs) runs-holds mul-j shared-slice-read-j cast-j mul-last shared-slice-read-last cast-last part-sum-requires offsets-holds value-in-requires holds-requires
+    add-row value-out-requires add-j offsets-less offsets-again add-i runs-less runs-again add-k rows-less rows-again returns-2 returns-3)

@@ -121,38 +121,6 @@ returns-2 c = let a = c .before .before in filling-end _ _ _ (a .before .loop .i
 
 pub fill-runs-spec : {M : Type 1} → statement M
 fill-runs-spec =
-    tie.close
-    (tie.spec
-    Inv-loop
-    μ-loop
-    loop-holds
-    next-event-requires
-    (λ c. search needs)
-    put-runs-requires
-    loop-less
-    loop-again
-    (λ c. search needs)
-    put-runs-requires-2
-    loop-less-2
-    loop-again-2
-    (λ c. search needs)
-    (λ c κs. search needs)
-    (λ c κs. search needs)
-    (λ c κs. search needs)
-    (λ c κs. search needs)
-    count-if-requires
-    (λ c κs. search needs)
-    (λ c κs. search needs)
-    loop-less-3
-    loop-again-3
-    (λ c. search needs)
-    loop-less-4
-    loop-again-4
-    (λ c. search needs)
-    same-length
-    same-length-2
-    returns
-    (λ c. search needs)
-    same-length-3
-    same-length-4
-    returns-2)
+    tie.close (tie.spec Inv-loop μ-loop loop-holds next-event-requires (λ c. search needs) put-runs-requires loop-less loop-again (λ c. search needs) put-runs-requires-2 loop-less-2 loop-again-2
+    (λ c. search needs) (λ c κs. search needs) (λ c κs. search needs) (λ c κs. search needs) (λ c κs. search needs) count-if-requires (λ c κs. search needs) (λ c κs. search needs) loop-less-3
+    loop-again-3 (λ c. search needs) loop-less-4 loop-again-4 (λ c. search needs) same-length same-length-2 returns (λ c. search needs) same-length-3 same-length-4 returns-2)

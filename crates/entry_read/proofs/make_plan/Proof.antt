@@ -14,14 +14,4 @@ unfolding planScanned
 returns-2 c = let a = c .before .before in let s = a .before .before in let b = s .before .before in let e = sym (s .scan .ensures) ∙ a .head .given .1 in c .plan-fine .ensures ∙ sym (ap (planScanned (b .args .text .now) (b .args .rows) (b .args .runs)) e)
 
 pub make-plan-spec : {M : Type 1} → statement M
-make-plan-spec =
-    tie.close
-    (tie.spec
-    (λ c κs. search needs)
-    (λ c. search needs)
-    (λ c κs. search needs)
-    (λ c κs. search needs)
-    (λ c. search needs)
-    (λ c κs. search needs)
-    returns
-    returns-2)
+make-plan-spec = tie.close (tie.spec (λ c κs. search needs) (λ c. search needs) (λ c κs. search needs) (λ c κs. search needs) (λ c. search needs) (λ c κs. search needs) returns returns-2)

@@ -58,24 +58,5 @@ loop-again c =
 
 pub put-runs-spec : {M : Type 1} → statement M
 put-runs-spec =
-    tie.close
-    (tie.spec
-    Inv-loop
-    μ-loop
-    (λ c κs. search needs)
-    (λ c κs. search needs)
-    add-n
-    loop-holds
-    (λ c κs. search needs)
-    same-length
-    same-length-2
-    returns
-    (λ c κs. search needs)
-    (λ c κs. search needs)
-    (λ c κs. search needs)
-    (λ c κs. search needs)
-    add-n-2
-    (λ c κs. search needs)
-    add-i
-    loop-less
-    loop-again)
+    tie.close (tie.spec Inv-loop μ-loop (λ c κs. search needs) (λ c κs. search needs) add-n loop-holds (λ c κs. search needs) same-length same-length-2 returns (λ c κs. search needs)
+    (λ c κs. search needs) (λ c κs. search needs) (λ c κs. search needs) add-n-2 (λ c κs. search needs) add-i loop-less loop-again)

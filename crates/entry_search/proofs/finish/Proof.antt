@@ -20,12 +20,4 @@ returns-2 c = record {
 }
 
 pub finish-spec : {M : Type 1} → statement M
-finish-spec =
-    tie.close
-    (tie.spec
-    (λ c κs. search needs)
-    returns
-    find-matches-requires
-    (λ c. search needs)
-    (λ c. search needs)
-    returns-2)
+finish-spec = tie.close (tie.spec (λ c κs. search needs) returns find-matches-requires (λ c. search needs) (λ c. search needs) returns-2)

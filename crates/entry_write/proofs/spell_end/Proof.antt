@@ -13,12 +13,4 @@ returns-2 : tie.Need-returns-2
 returns-2 c = ended-only (c .before .if1 .left) (c .count-end .ensures)
 
 pub spell-end-spec : {M : Type 1} → statement M
-spell-end-spec =
-    tie.close
-    (tie.spec
-    (λ c κs. search needs)
-    (λ c κs. search needs)
-    (λ c. search needs)
-    returns
-    (λ c κs. search needs)
-    returns-2)
+spell-end-spec = tie.close (tie.spec (λ c κs. search needs) (λ c κs. search needs) (λ c. search needs) returns (λ c κs. search needs) returns-2)

@@ -107,27 +107,10 @@ returns c =
 
 pub count-new-spec : {M : Type 1} → statement M
 count-new-spec =
-    tie.close
-    (tie.spec
-    Inv-loop
-    μ-loop
-    (λ c. omega (arith, c .before .before .pre .lent .long))
-    (λ c. omega (arith, c .before .before .pre .lent .fits))
-    (λ c κs. c .before .before .pre .lent)
-    loop-holds
-    (λ c κs. let o = c .before .before .before .before .before in (o .pre .in-ups, o .pre .climbing))
-    (λ c. omega (arith, in-counts c))
-    (λ c. in-counts (c .before))
-    (λ c. omega (arith, few (c .before)))
-    (λ c. omega (arith, in-counts (c .before)))
-    (λ c. in-counts (c .before))
-    (λ c κs. omega (arith, below (c .before), o (c .before) .pre .in-ups))
-    (λ c. omega (arith, c .start-of .ok))
-    (λ c. omega (arith, below (c .before .before), o (c .before .before) .pre .in-ups))
+    tie.close (tie.spec Inv-loop μ-loop (λ c. omega (arith, c .before .before .pre .lent .long)) (λ c. omega (arith, c .before .before .pre .lent .fits)) (λ c κs. c .before .before .pre .lent)
+    loop-holds (λ c κs. let o = c .before .before .before .before .before in (o .pre .in-ups, o .pre .climbing)) (λ c. omega (arith, in-counts c)) (λ c. in-counts (c .before))
+    (λ c. omega (arith, few (c .before))) (λ c. omega (arith, in-counts (c .before))) (λ c. in-counts (c .before)) (λ c κs. omega (arith, below (c .before), o (c .before) .pre .in-ups))
+    (λ c. omega (arith, c .start-of .ok)) (λ c. omega (arith, below (c .before .before), o (c .before .before) .pre .in-ups))
     (λ c. omega (arith, below (c .before .before .before), o (c .before .before .before) .pre .in-ups))
-    (λ c. omega (arith, c .shared-slice-known2 .given (c .before .before .before .find-above .result)))
-    next-out-requires
-    (λ c. omega (arith, run c .ahead, run c .below))
-    loop-again
-    (λ c. c .before .loop .inv .4 .long)
-    returns)
+    (λ c. omega (arith, c .shared-slice-known2 .given (c .before .before .before .find-above .result))) next-out-requires (λ c. omega (arith, run c .ahead, run c .below)) loop-again
+    (λ c. c .before .loop .inv .4 .long) returns)

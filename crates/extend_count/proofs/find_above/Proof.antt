@@ -44,19 +44,6 @@ returns c =
 
 pub find-above-spec : {M : Type 1} → statement M
 find-above-spec =
-    tie.close
-    (tie.spec
-    Inv-loop
-    μ-loop
-    (λ c. (omega arith, omega arith, λ i b. absurd (omega arith), λ i a b. absurd (omega arith)))
-    (λ c. omega arith)
-    (λ c. omega arith)
-    (λ c. omega arith)
-    (λ c. omega arith)
-    (λ c. omega (arith, c .shared-slice-known .given (c .before .before .loop .lo + (c .before .before .loop .hi - c .before .before .loop .lo) / 2)))
-    (λ c. omega arith)
-    (λ c. omega arith)
-    loop-again
-    (λ c. omega arith)
-    loop-again-2
-    returns)
+    tie.close (tie.spec Inv-loop μ-loop (λ c. (omega arith, omega arith, λ i b. absurd (omega arith), λ i a b. absurd (omega arith))) (λ c. omega arith) (λ c. omega arith) (λ c. omega arith)
+    (λ c. omega arith) (λ c. omega (arith, c .shared-slice-known .given (c .before .before .loop .lo + (c .before .before .loop .hi - c .before .before .loop .lo) / 2))) (λ c. omega arith)
+    (λ c. omega arith) loop-again (λ c. omega arith) loop-again-2 returns)

@@ -37,13 +37,5 @@ returns-2 c = record { stays = λ f. clash (joins c) f; stop = λ _. c .next-out
 
 pub join-run-spec : {M : Type 1} → statement M
 join-run-spec =
-    tie.close
-    (tie.spec
-    returns
-    next-out-requires
-    (λ c. omega (arith, ahead c))
-    (λ c. search needs)
-    (λ c. omega (arith, o c .pre .1 .fits (joins c)))
-    (λ c. o c .pre .1 .fits (joins c))
-    (λ c. search needs)
-    returns-2)
+    tie.close (tie.spec returns next-out-requires (λ c. omega (arith, ahead c)) (λ c. search needs) (λ c. omega (arith, o c .pre .1 .fits (joins c))) (λ c. o c .pre .1 .fits (joins c))
+    (λ c. search needs) returns-2)

@@ -33,16 +33,5 @@ returns-2 c =
 
 pub list-new-spec : {M : Type 1} → statement M
 list-new-spec =
-    tie.close
-    (tie.spec
-    (λ c. search needs)
-    (λ c. search needs)
-    (λ c. search needs)
-    (λ c. search needs)
-    (λ c. search needs)
-    (λ c. search needs)
-    list-rows-requires
-    (λ c. search needs)
-    (λ c. search needs)
-    returns
-    returns-2)
+    tie.close (tie.spec (λ c. search needs) (λ c. search needs) (λ c. search needs) (λ c. search needs) (λ c. search needs) (λ c. search needs) list-rows-requires (λ c. search needs)
+    (λ c. search needs) returns returns-2)

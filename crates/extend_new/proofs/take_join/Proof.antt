@@ -15,13 +15,6 @@ returns-2 c = rw (c .if1 .left)
 
 pub take-join-spec : {M : Type 1} → statement M
 take-join-spec =
-    tie.close
-    (tie.spec
-    (λ c. let h = c .before .pre (c .if1 .taken) in omega (arith, h .0))
-    (λ c. c .before .before .pre (c .before .if1 .taken) .0)
-    (λ c. c .before .before .pre (c .before .if1 .taken) .1)
-    (λ c. let h = c .before .before .pre (c .before .if1 .taken) in omega (arith, h .0))
-    (λ c. c .before .before .pre (c .before .if1 .taken) .0)
-    (λ c. search needs)
-    returns
-    returns-2)
+    tie.close (tie.spec (λ c. let h = c .before .pre (c .if1 .taken) in omega (arith, h .0)) (λ c. c .before .before .pre (c .before .if1 .taken) .0)
+    (λ c. c .before .before .pre (c .before .if1 .taken) .1) (λ c. let h = c .before .before .pre (c .before .if1 .taken) in omega (arith, h .0))
+    (λ c. c .before .before .pre (c .before .if1 .taken) .0) (λ c. search needs) returns returns-2)

@@ -55,23 +55,9 @@ still c =
 
 pub write-part-spec : {M : Type 1} → statement M
 write-part-spec =
-    tie.close
-    (tie.spec
-    Inv-loop
-    μ-loop
-    (λ c. (omega arith, paste-zero (c .args .part .now) 0 (c .args .numbers .now)))
-    (λ c. omega (arith, c .loop-test .taken, c .before .before .pre .0))
-    (λ c. omega (arith, c .before .loop-test .taken, c .before .before .before .pre .0))
-    (λ c. omega (arith, c .before .loop-test .taken, c .before .before .before .pre .0))
-    (λ c. omega (arith, c .before .loop-test .taken, still (c .before .before), c .before .before .before .pre .1, c .before .before .before .pre .2))
-    (λ c. omega (arith, c .before .loop-test .taken))
-    (λ c. omega (arith, c .before .loop-test .taken))
-    loop-again
-    (λ c. omega (arith, o (c .before) .pre .3))
-    (λ c. omega (arith, c .if1 .taken))
-    (λ c. omega (arith, o (c .before) .pre .2))
+    tie.close (tie.spec Inv-loop μ-loop (λ c. (omega arith, paste-zero (c .args .part .now) 0 (c .args .numbers .now))) (λ c. omega (arith, c .loop-test .taken, c .before .before .pre .0))
+    (λ c. omega (arith, c .before .loop-test .taken, c .before .before .before .pre .0)) (λ c. omega (arith, c .before .loop-test .taken, c .before .before .before .pre .0))
+    (λ c. omega (arith, c .before .loop-test .taken, still (c .before .before), c .before .before .before .pre .1, c .before .before .before .pre .2)) (λ c. omega (arith, c .before .loop-test .taken))
+    (λ c. omega (arith, c .before .loop-test .taken)) loop-again (λ c. omega (arith, o (c .before) .pre .3)) (λ c. omega (arith, c .if1 .taken)) (λ c. omega (arith, o (c .before) .pre .2))
     (λ c. omega (arith, c .if1 .taken, long (c .before), o (c .before) .pre .2))
-    (λ c. length-set (c .before .before .loop .part) (o (c .before) .args .size - 1) (o (c .before) .args .n) ∙ long (c .before))
-    returns
-    (λ c. long (c .before))
-    returns-2)
+    (λ c. length-set (c .before .before .loop .part) (o (c .before) .args .size - 1) (o (c .before) .args .n) ∙ long (c .before)) returns (λ c. long (c .before)) returns-2)

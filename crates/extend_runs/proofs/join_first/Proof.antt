@@ -79,21 +79,9 @@ returns c =
 
 pub join-first-spec : {M : Type 1} → statement M
 join-first-spec =
-    tie.close
-    (tie.spec
-    (λ c κs. (c .before .before .pre .1 .lent, c .before .before .pre .1 .below))
-    (λ c. omega (arith, c .before .before .before .pre .1 .lent .most))
+    tie.close (tie.spec (λ c κs. (c .before .before .pre .1 .lent, c .before .before .pre .1 .below)) (λ c. omega (arith, c .before .before .before .pre .1 .lent .most))
     (λ c. omega (arith, c .before .before .before .pre .1 .lent .most, c .before .before .before .pre .1 .lent .small))
     (λ c κs. let q = c .before .before .before .before .pre .1 in (omega (arith, q .lent .most, q .lent .small), rw (low-read (c .before .before .before .before .args .q) (q .small)) (q .small .least, omega (zarith, q .small .order, q .small .most))))
     (λ c κs. let q = c .before .before .before .before .before .before .pre .1 in (omega (arith, q .lent .most, q .lent .small), rw (up-read (c .before .before .before .before .before .before .args .q) (q .small)) (omega (zarith, q .small .least, q .small .order), q .small .most)))
-    (λ c κs. let q = c .before .before .before .before .before .before .before .pre .1 in q .lent .fits)
-    (λ c κs. search needs)
-    (λ c κs. search needs)
-    (λ c. search needs)
-    (λ c. search needs)
-    (λ c. search needs)
-    (λ c. omega (arith, o (c .before) .pre .1 .begins))
-    (λ c. search needs)
-    join-run-requires
-    (λ c. search needs)
-    returns)
+    (λ c κs. let q = c .before .before .before .before .before .before .before .pre .1 in q .lent .fits) (λ c κs. search needs) (λ c κs. search needs) (λ c. search needs) (λ c. search needs)
+    (λ c. search needs) (λ c. omega (arith, o (c .before) .pre .1 .begins)) (λ c. search needs) join-run-requires (λ c. search needs) returns)

@@ -28,15 +28,4 @@ returns-2 c =
     (record { lent = h; below = o .pre .1; sum = c .slide .ensures ∙ ap (level (a .s .now) (a .w) (a .e)) e }, refl)
 
 pub place-at-spec : {M : Type 1} → statement M
-place-at-spec =
-    tie.close
-    (tie.spec
-    (λ c. search needs)
-    (λ c. search needs)
-    (λ c κs. search needs)
-    (λ c. search needs)
-    (λ c. search needs)
-    (λ c κs. search needs)
-    slide-requires
-    returns
-    returns-2)
+place-at-spec = tie.close (tie.spec (λ c. search needs) (λ c. search needs) (λ c κs. search needs) (λ c. search needs) (λ c. search needs) (λ c κs. search needs) slide-requires returns returns-2)

@@ -58,22 +58,5 @@ returns-2 c = read-less (65536 * c .before .loop .turns) _ _ _ _ _ (omega arith)
 
 pub read-all-spec : {M : Type 1} → statement M
 read-all-spec =
-    tie.close
-    (tie.spec
-    Inv-loop
-    μ-loop
-    loop-holds
-    read-on-requires
-    (λ c. search needs)
-    (λ c. omega arith)
-    (λ c. omega arith)
-    loop-again
-    (λ c. search needs)
-    same-length
-    same-length-2
-    same-length-3
-    returns
-    same-length-4
-    same-length-5
-    same-length-6
-    returns-2)
+    tie.close (tie.spec Inv-loop μ-loop loop-holds read-on-requires (λ c. search needs) (λ c. omega arith) (λ c. omega arith) loop-again (λ c. search needs) same-length same-length-2 same-length-3
+    returns same-length-4 same-length-5 same-length-6 returns-2)

@@ -24,15 +24,5 @@ returns-2 c =
 
 pub take-read-spec : {M : Type 1} → statement M
 take-read-spec =
-    tie.close
-    (tie.spec
-    slice-aggregate-read-piece
-    read-piece-requires
-    (λ c. search needs)
-    (λ c. search needs)
-    (λ c. search needs)
-    returns
-    (λ c. search needs)
-    (λ c. search needs)
-    (λ c. search needs)
+    tie.close (tie.spec slice-aggregate-read-piece read-piece-requires (λ c. search needs) (λ c. search needs) (λ c. search needs) returns (λ c. search needs) (λ c. search needs) (λ c. search needs)
     returns-2)

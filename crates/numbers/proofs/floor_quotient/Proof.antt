@@ -57,16 +57,4 @@ returns-2 : tie.Need-returns-2
 returns-2 c = let k = natAbs (z (c .before)) / c .before .args .d in rw (row-up (c .before .args .d) (up-same c)) (omega (zmach, z-cast k (up-small c)))
 
 pub floor-quotient-spec : {M : Type 1} → statement M
-floor-quotient-spec =
-    tie.close
-    (tie.spec
-    sub-n
-    cast-n
-    (λ c. search needs)
-    (λ c. omega (zmach, small c))
-    sub-result
-    returns
-    cast-n-2
-    (λ c. search needs)
-    (λ c. omega (zmach, up-small c))
-    returns-2)
+floor-quotient-spec = tie.close (tie.spec sub-n cast-n (λ c. search needs) (λ c. omega (zmach, small c)) sub-result returns cast-n-2 (λ c. search needs) (λ c. omega (zmach, up-small c)) returns-2)

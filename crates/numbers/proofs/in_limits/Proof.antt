@@ -7,8 +7,4 @@ use Rattle.numbers.proofs.in_limits.Tie as tie
 
 pub in-limits-spec : {M : Type 1} → statement M
 in-limits-spec =
-    tie.close
-    (tie.spec
-    (λ c. sym (value-no (c .before .args .x) (λ h. omega zmach32)))
-    (λ c. sym (value-no (c .before .before .args .x) (λ h. omega zmach32)))
-    (λ c. sym (value-yes (omega zmach32))))
+    tie.close (tie.spec (λ c. sym (value-no (c .before .args .x) (λ h. omega zmach32))) (λ c. sym (value-no (c .before .before .args .x) (λ h. omega zmach32))) (λ c. sym (value-yes (omega zmach32))))

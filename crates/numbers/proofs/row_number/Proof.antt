@@ -60,15 +60,4 @@ returns-2 c =
 
 pub row-number-spec : {M : Type 1} → statement M
 row-number-spec =
-    tie.close
-    (tie.spec
-    sub-n
-    cast-n
-    (λ c κs. search needs)
-    (λ c. omega (zmach32, small c))
-    sub-result
-    returns
-    cast-n-2
-    (λ c κs. search needs)
-    (λ c. omega (zmach32, up-small c))
-    returns-2)
+    tie.close (tie.spec sub-n cast-n (λ c κs. search needs) (λ c. omega (zmach32, small c)) sub-result returns cast-n-2 (λ c κs. search needs) (λ c. omega (zmach32, up-small c)) returns-2)

@@ -17,10 +17,4 @@ small : (c : tie.After-gap) → c .gap .result * c .gap .result ≤ 400000000
 small c = rw (told c) (cost-le (c .before .pre .0) (c .before .pre .1))
 
 pub squared-spec : {M : Type 1} → statement M
-squared-spec =
-    tie.close
-    (tie.spec
-    (λ c κs. (in-arg (c .pre .0), in-arg (c .pre .1)))
-    (λ c. search needs)
-    (λ c. omega (arith, small c))
-    (λ c. rw (told c) refl))
+squared-spec = tie.close (tie.spec (λ c κs. (in-arg (c .pre .0), in-arg (c .pre .1))) (λ c. search needs) (λ c. omega (arith, small c)) (λ c. rw (told c) refl))

@@ -20,16 +20,5 @@ returns-2 c = let a = c .before .before .before in let r = a .before .before .be
 
 pub audit-line-spec : {M : Type 1} → statement M
 audit-line-spec =
-    tie.close
-    (tie.spec
-    (λ c. search needs)
-    (λ c κs. search needs)
-    (λ c. search needs)
-    (λ c κs. search needs)
-    (λ c κs. search needs)
-    add-t14
-    (λ c. search needs)
-    (λ c. search needs)
-    (λ c κs. search needs)
-    returns
-    returns-2)
+    tie.close (tie.spec (λ c. search needs) (λ c κs. search needs) (λ c. search needs) (λ c κs. search needs) (λ c κs. search needs) add-t14 (λ c. search needs) (λ c. search needs)
+    (λ c κs. search needs) returns returns-2)

@@ -24,11 +24,4 @@ returns-2 : tie.Need-returns-2
 returns-2 c = let e = c .before .before in let f = e .before in let a = f .before .before .args in c .audit-series .ensures ∙ counted-inside (textIndex (a .index .now)) (a .values .now) (a .n) (sym (f .length-in .ensures) ∙ not-false (f .length-in .result) (e .if1 .left))
 
 pub audit-values-spec : {M : Type 1} → statement M
-audit-values-spec =
-    tie.close
-    (tie.spec
-    (λ c κs. search needs)
-    returns
-    slice-aggregate-audit-series
-    (λ c κs. search needs)
-    returns-2)
+audit-values-spec = tie.close (tie.spec (λ c κs. search needs) returns slice-aggregate-audit-series (λ c κs. search needs) returns-2)

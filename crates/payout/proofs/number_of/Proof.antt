@@ -37,16 +37,5 @@ returns-4 c = c .refused-number .ensures ∙ sym (ap pack (c .before .before .a3
 
 pub number-of-spec : {M : Type 1} → statement M
 number-of-spec =
-    tie.close
-    (tie.spec
-    (λ c. search needs)
-    (λ c. search needs)
-    wrong-number-requires
-    (λ c. search needs)
-    missing-number-requires
-    (λ c. search needs)
-    refused-number-requires
-    returns
-    returns-2
-    returns-3
-    returns-4)
+    tie.close (tie.spec (λ c. search needs) (λ c. search needs) wrong-number-requires (λ c. search needs) missing-number-requires (λ c. search needs) refused-number-requires returns returns-2
+    returns-3 returns-4)

@@ -45,14 +45,4 @@ returns-2 c =
     ∙ walked-right (a .index .now) (a .series .now) (a .head) (a .c) (o m .pre) (w .walk-rows .result) (number-zero m (w .before .if1 .left)) (w .walk-rows .ensures)
 
 pub audit-series-spec : {M : Type 1} → statement M
-audit-series-spec =
-    tie.close
-    (tie.spec
-    (λ c κs. search needs)
-    (λ c κs. search needs)
-    (λ c κs. search needs)
-    (λ c κs. search needs)
-    returns
-    walk-rows-requires
-    (λ c κs. search needs)
-    returns-2)
+audit-series-spec = tie.close (tie.spec (λ c κs. search needs) (λ c κs. search needs) (λ c κs. search needs) (λ c κs. search needs) returns walk-rows-requires (λ c κs. search needs) returns-2)

@@ -35,15 +35,4 @@ returns-2 c =
     (rw (l, u) at (c .audit-chunk .ensures)) ∙ run-on (s .args .series .now) (s .args .head) (s .args .t) (s .args .r) e
 
 pub audit-run-spec : {M : Type 1} → statement M
-audit-run-spec =
-    tie.close
-    (tie.spec
-    (λ c. search needs)
-    (λ c. search needs)
-    (λ c κs. search needs)
-    returns
-    (λ c. search needs)
-    (λ c. search needs)
-    (λ c. search needs)
-    audit-chunk-requires
-    returns-2)
+audit-run-spec = tie.close (tie.spec (λ c. search needs) (λ c. search needs) (λ c κs. search needs) returns (λ c. search needs) (λ c. search needs) (λ c. search needs) audit-chunk-requires returns-2)

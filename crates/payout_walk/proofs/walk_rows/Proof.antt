@@ -78,29 +78,6 @@ returns-3 c = let l = c .before .before in walked-end (S l) (H l) _ (l .loop .s)
 
 pub walk-rows-spec : {M : Type 1} → statement M
 walk-rows-spec =
-    tie.close
-    (tie.spec
-    Inv-loop
-    μ-loop
-    (λ c κs. search needs)
-    loop-holds
-    (λ c. omega arith)
-    index-step-requires
-    (λ c. search needs)
-    (λ c. omega arith)
-    (λ c. omega arith)
-    loop-again
-    (λ c. search needs)
-    tell-requires
-    (λ c. omega arith)
-    returns
-    (λ c. omega arith)
-    loop-again-2
-    (λ c. search needs)
-    shut-requires
-    (λ c. omega arith)
-    (λ c. omega arith)
-    loop-again-3
-    (λ c. search needs)
-    returns-2
-    returns-3)
+    tie.close (tie.spec Inv-loop μ-loop (λ c κs. search needs) loop-holds (λ c. omega arith) index-step-requires (λ c. search needs) (λ c. omega arith) (λ c. omega arith) loop-again
+    (λ c. search needs) tell-requires (λ c. omega arith) returns (λ c. omega arith) loop-again-2 (λ c. search needs) shut-requires (λ c. omega arith) (λ c. omega arith) loop-again-3
+    (λ c. search needs) returns-2 returns-3)

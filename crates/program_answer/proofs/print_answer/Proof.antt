@@ -46,24 +46,6 @@ returns-2 c = prints _ _ _ (c .before .before .before .before .before .before .b
 
 pub print-answer-spec : {M : Type 1} → statement M
 print-answer-spec =
-    tie.close
-    (tie.spec
-    (λ c. search needs)
-    (λ c. search needs)
-    (λ c κs. search needs)
-    (λ c. search needs)
-    (λ c. search needs)
-    array-share-prefix-left
-    slice-aggregate-write-table
-    array-share-prefix-right
-    slice-aggregate-write-table-2
-    write-table-requires
-    (λ c κs. search needs)
-    array-share-prefix-left-2
-    slice-aggregate-list-matches
-    array-share-prefix-right-2
-    slice-aggregate-list-matches-2
-    list-matches-requires
-    returns
-    (λ c. search needs)
-    returns-2)
+    tie.close (tie.spec (λ c. search needs) (λ c. search needs) (λ c κs. search needs) (λ c. search needs) (λ c. search needs) array-share-prefix-left slice-aggregate-write-table
+    array-share-prefix-right slice-aggregate-write-table-2 write-table-requires (λ c κs. search needs) array-share-prefix-left-2 slice-aggregate-list-matches array-share-prefix-right-2
+    slice-aggregate-list-matches-2 list-matches-requires returns (λ c. search needs) returns-2)

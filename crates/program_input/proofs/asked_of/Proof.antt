@@ -44,15 +44,4 @@ returns c =
     }
 
 pub asked-of-spec : {M : Type 1} → statement M
-asked-of-spec =
-    tie.close
-    (tie.spec
-    held-requires
-    (λ c κs. search needs)
-    held-requires-2
-    held-requires-3
-    (λ c κs. search needs)
-    held-requires-4
-    held-requires-5
-    held-requires-6
-    returns)
+asked-of-spec = tie.close (tie.spec held-requires (λ c κs. search needs) held-requires-2 held-requires-3 (λ c κs. search needs) held-requires-4 held-requires-5 held-requires-6 returns)

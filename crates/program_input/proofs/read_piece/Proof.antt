@@ -24,22 +24,5 @@ returns-3 c = let a = c .before .before .before .before .before .before .before 
 
 pub read-piece-spec : {M : Type 1} → statement M
 read-piece-spec =
-    tie.close
-    (tie.spec
-    (λ c. search needs)
-    (λ c. search needs)
-    feed-requires
-    (λ c. search needs)
-    line-in-requires
-    (λ c. search needs)
-    (λ c κs. search needs)
-    line-in-requires-2
-    returns
-    (λ c. search needs)
-    (λ c. search needs)
-    (λ c. search needs)
-    returns-2
-    (λ c. search needs)
-    (λ c. search needs)
-    (λ c. search needs)
-    returns-3)
+    tie.close (tie.spec (λ c. search needs) (λ c. search needs) feed-requires (λ c. search needs) line-in-requires (λ c. search needs) (λ c κs. search needs) line-in-requires-2 returns
+    (λ c. search needs) (λ c. search needs) (λ c. search needs) returns-2 (λ c. search needs) (λ c. search needs) (λ c. search needs) returns-3)

@@ -22,14 +22,4 @@ returns-3 : tie.Need-returns-3
 returns-3 c = let a = c .before .before .before .before .before .before .before .before .before .args in end-done (a .numbers .now) (a .query .now) (c .before .before .before .before .before .before .before .r2 .given .1) (sym (c .before .before .before .before .before .is-done .ensures) ∙ not-false (c .before .before .before .before .before .is-done .result) (c .before .before .before .before .if1 .left)) (rw (c .before .numbers-of .ensures) at (c .refuse-call .ensures))
 
 pub refuse-spec : {M : Type 1} → statement M
-refuse-spec =
-    tie.close
-    (tie.spec
-    (λ c. search needs)
-    (λ c. search needs)
-    (λ c κs. search needs)
-    returns
-    numbers-of-requires
-    refuse-call-requires
-    returns-2
-    returns-3)
+refuse-spec = tie.close (tie.spec (λ c. search needs) (λ c. search needs) (λ c κs. search needs) returns numbers-of-requires refuse-call-requires returns-2 returns-3)

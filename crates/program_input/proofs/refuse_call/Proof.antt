@@ -75,15 +75,5 @@ returns-3 c =
 
 pub refuse-call-spec : {M : Type 1} → statement M
 refuse-call-spec =
-    tie.close
-    (tie.spec
-    (λ c κs. search needs)
-    returns
-    refuse-numbers-requires
-    returns-2
-    (λ c κs. search needs)
-    slice-aggregate-normal-flat
-    normal-flat-requires
-    (λ c κs. search needs)
-    (λ c κs. search needs)
-    returns-3)
+    tie.close (tie.spec (λ c κs. search needs) returns refuse-numbers-requires returns-2 (λ c κs. search needs) slice-aggregate-normal-flat normal-flat-requires (λ c κs. search needs)
+    (λ c κs. search needs) returns-3)

@@ -35,19 +35,5 @@ returns-3 c = printed-end (c .before .before .before .before .before .before .be
 
 pub finish-spec : {M : Type 1} → statement M
 finish-spec =
-    tie.close
-    (tie.spec
-    refuse-requires
-    (λ c κs. search needs)
-    (λ c. search needs)
-    returns
-    (λ c. search needs)
-    (λ c. search needs)
-    slice-aggregate-print-answer
-    slice-aggregate-print-answer-2
-    numbers-of-requires
-    asked-of-requires
-    print-answer-requires
-    returns-2
-    (λ c. search needs)
-    returns-3)
+    tie.close (tie.spec refuse-requires (λ c κs. search needs) (λ c. search needs) returns (λ c. search needs) (λ c. search needs) slice-aggregate-print-answer slice-aggregate-print-answer-2
+    numbers-of-requires asked-of-requires print-answer-requires returns-2 (λ c. search needs) returns-3)

@@ -8,9 +8,4 @@ returns : tie.Need-returns
 returns c = flat-is (c .before .before .args .q .now) (c .spread-of .result) (c .spread-of .ensures)
 
 pub is-flat-spec : {M : Type 1} → statement M
-is-flat-spec =
-    tie.close
-    (tie.spec
-    (λ c κs. search needs)
-    (λ c κs. search needs)
-    returns)
+is-flat-spec = tie.close (tie.spec (λ c κs. search needs) (λ c κs. search needs) returns)

@@ -11,11 +11,4 @@ returns-2 : tie.Need-returns-2
 returns-2 c = normal-is-flat (c .before .before .before .args .q .now) (c .before .enum-told2 .given .1) (c .is-flat .ensures)
 
 pub normal-flat-spec : {M : Type 1} → statement M
-normal-flat-spec =
-    tie.close
-    (tie.spec
-    (λ c. search needs)
-    (λ c. search needs)
-    (λ c κs. search needs)
-    returns
-    returns-2)
+normal-flat-spec = tie.close (tie.spec (λ c. search needs) (λ c. search needs) (λ c κs. search needs) returns returns-2)

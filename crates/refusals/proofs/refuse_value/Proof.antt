@@ -35,11 +35,4 @@ returns-2 c =
     ap (λ (o : Option ℕ). refuseAt 2 o (a .after)) (ap unplaced (sym (c .enum-told .given .1) ∙ f .first-outside .ensures) ∙ told (firstOutside (a .s .now)))
 
 pub refuse-value-spec : {M : Type 1} → statement M
-refuse-value-spec =
-    tie.close
-    (tie.spec
-    (λ c κs. search needs)
-    (λ c. search needs)
-    (λ c. search needs)
-    returns
-    returns-2)
+refuse-value-spec = tie.close (tie.spec (λ c κs. search needs) (λ c. search needs) (λ c. search needs) returns returns-2)

@@ -56,14 +56,4 @@ returns-2 c =
 
 pub judge-row-spec : {M : Type 1} → statement M
 judge-row-spec =
-    tie.close
-    (tie.spec
-    (λ c κs. search needs)
-    (λ c κs. search needs)
-    returns
-    (λ c. search needs)
-    (λ c. search needs)
-    (λ c. search needs)
-    judge-runs-requires
-    (λ c κs. search needs)
-    returns-2)
+    tie.close (tie.spec (λ c κs. search needs) (λ c κs. search needs) returns (λ c. search needs) (λ c. search needs) (λ c. search needs) judge-runs-requires (λ c κs. search needs) returns-2)

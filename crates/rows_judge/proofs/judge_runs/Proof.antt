@@ -133,25 +133,5 @@ returns-3 c =
 
 pub judge-runs-spec : {M : Type 1} → statement M
 judge-runs-spec =
-    tie.close
-    (tie.spec
-    Inv-loop
-    μ-loop
-    loop-holds
-    mul-l
-    shared-slice-read-l
-    cast-l
-    mul-r
-    shared-slice-read-r
-    cast-r
-    returns
-    add-total
-    sub-total
-    add-total-2
-    add-least
-    add-i
-    loop-less
-    loop-again
-    add-if2
-    returns-2
-    returns-3)
+    tie.close (tie.spec Inv-loop μ-loop loop-holds mul-l shared-slice-read-l cast-l mul-r shared-slice-read-r cast-r returns add-total sub-total add-total-2 add-least add-i loop-less loop-again
+    add-if2 returns-2 returns-3)

@@ -40,18 +40,7 @@ loop-again c =
 
 pub sum-up-spec : {M : Type 1} → statement M
 sum-up-spec =
-    tie.close
-    (tie.spec
-    Inv-loop
-    μ-loop
-    (λ c. (omega arith, sym (Σℕ-none (λ k. getD (c .args .counts .now) k 0)), summed-start (c .args .counts .now)))
-    (λ c. omega (arith, room c))
-    (λ c. room (c .before))
-    (λ c. omega (arith, small (c .before)))
-    (λ c. omega (arith, room (c .before)))
-    (λ c. room (c .before))
-    (λ c. omega (arith, room (c .before)))
-    (λ c. omega (arith, c .before .loop-test .taken))
-    loop-again
-    (λ c. c .before .loop .inv .2 .long)
+    tie.close (tie.spec Inv-loop μ-loop (λ c. (omega arith, sym (Σℕ-none (λ k. getD (c .args .counts .now) k 0)), summed-start (c .args .counts .now))) (λ c. omega (arith, room c))
+    (λ c. room (c .before)) (λ c. omega (arith, small (c .before))) (λ c. omega (arith, room (c .before))) (λ c. room (c .before)) (λ c. omega (arith, room (c .before)))
+    (λ c. omega (arith, c .before .loop-test .taken)) loop-again (λ c. c .before .loop .inv .2 .long)
     (λ c. let e : c .before .loop .i ≡ c .before .before .args .n = omega (arith, c .loop-test .left) in rw e at (c .before .loop .inv .2)))

@@ -112,23 +112,6 @@ returns c =
 
 pub count-runs-spec : {M : Type 1} → statement M
 count-runs-spec =
-    tie.close
-    (tie.spec
-    Inv-loop
-    μ-loop
-    (λ c. omega (arith, c .before .before .pre .0 .long))
-    (λ c. omega (arith, c .before .before .pre .0 .fits))
-    (λ c κs. c .before .before .pre .0)
-    loop-holds
-    row-of-level-requires
-    find-number-requires
-    (λ c. omega (arith, in-counts c))
-    (λ c. in-counts (c .before))
-    (λ c. omega (arith, few (c .before)))
-    (λ c. omega (arith, in-counts (c .before)))
-    (λ c. in-counts (c .before))
-    next-row-requires
-    (λ c. omega (arith, c .next-row .ensures .run .ahead, c .next-row .ensures .run .below))
-    loop-again
-    (λ c. c .before .loop .inv .4)
-    returns)
+    tie.close (tie.spec Inv-loop μ-loop (λ c. omega (arith, c .before .before .pre .0 .long)) (λ c. omega (arith, c .before .before .pre .0 .fits)) (λ c κs. c .before .before .pre .0) loop-holds
+    row-of-level-requires find-number-requires (λ c. omega (arith, in-counts c)) (λ c. in-counts (c .before)) (λ c. omega (arith, few (c .before))) (λ c. omega (arith, in-counts (c .before)))
+    (λ c. in-counts (c .before)) next-row-requires (λ c. omega (arith, c .next-row .ensures .run .ahead, c .next-row .ensures .run .below)) loop-again (λ c. c .before .loop .inv .4) returns)

@@ -38,18 +38,6 @@ returns c =
 
 pub find-number-spec : {M : Type 1} → statement M
 find-number-spec =
-    tie.close
-    (tie.spec
-    Inv-loop
-    μ-loop
-    (λ c. record { fits = omega arith; place = λ i l h. (omega arith, omega arith) })
-    (λ c. omega (arith, c .before .loop .inv .fits))
-    (λ c. omega (arith, c .before .loop .inv .fits))
-    (λ c. omega (arith, c .before .before .loop .inv .fits))
-    at-most-requires
-    (λ c. omega (arith, added c))
-    (λ c. omega (arith, added c, l c .loop .inv .fits))
-    (λ c. omega arith)
-    (λ c. omega (arith, c .before .before .loop-test .taken))
-    loop-again
-    returns)
+    tie.close (tie.spec Inv-loop μ-loop (λ c. record { fits = omega arith; place = λ i l h. (omega arith, omega arith) }) (λ c. omega (arith, c .before .loop .inv .fits))
+    (λ c. omega (arith, c .before .loop .inv .fits)) (λ c. omega (arith, c .before .before .loop .inv .fits)) at-most-requires (λ c. omega (arith, added c))
+    (λ c. omega (arith, added c, l c .loop .inv .fits)) (λ c. omega arith) (λ c. omega (arith, c .before .before .loop-test .taken)) loop-again returns)

@@ -13,13 +13,4 @@ count-runs-requires c κs =
     (o .pre .0, (o .pre .1 .0, ((omega (arith, a .count), a .front, omega (arith, a .count, a .long, o .pre .1 .1 .1 .0), omega (arith, a .count, k .kept .0, o .pre .1 .1 .1 .1)), cleared-zero _ (k .ensures))))
 
 pub plan-spec : {M : Type 1} → statement M
-plan-spec =
-    tie.close
-    (tie.spec
-    (λ c κs. search needs)
-    (λ c κs. search needs)
-    count-runs-requires
-    (λ c. search needs)
-    (λ c. search needs)
-    (λ c. search needs)
-    (λ c. search needs))
+plan-spec = tie.close (tie.spec (λ c κs. search needs) (λ c κs. search needs) count-runs-requires (λ c. search needs) (λ c. search needs) (λ c. search needs) (λ c. search needs))

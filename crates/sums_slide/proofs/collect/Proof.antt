@@ -33,22 +33,6 @@ returns c =
 
 pub collect-spec : {M : Type 1} → statement M
 collect-spec =
-    tie.close
-    (tie.spec
-    Inv-loop
-    μ-loop
-    (λ c. (omega arith, rw picked-start (append-none (c .args .k) (c .args .out .now))))
-    (λ c. omega arith)
-    (λ c. omega (arith, c .before .before .before .before .pre .0))
-    (λ c. omega (arith, c .before .before .before .before .pre .0))
-    (λ c. omega (arith, room c))
-    room
-    (λ c. omega (arith, room c))
-    (λ c. omega arith)
-    (λ c. omega arith)
-    loop-again
-    (λ c. omega arith)
-    (λ c. omega arith)
-    loop-again-2
-    (λ c. c .before .loop .inv .1 .long)
-    returns)
+    tie.close (tie.spec Inv-loop μ-loop (λ c. (omega arith, rw picked-start (append-none (c .args .k) (c .args .out .now)))) (λ c. omega arith)
+    (λ c. omega (arith, c .before .before .before .before .pre .0)) (λ c. omega (arith, c .before .before .before .before .pre .0)) (λ c. omega (arith, room c)) room (λ c. omega (arith, room c))
+    (λ c. omega arith) (λ c. omega arith) loop-again (λ c. omega arith) (λ c. omega arith) loop-again-2 (λ c. c .before .loop .inv .1 .long) returns)

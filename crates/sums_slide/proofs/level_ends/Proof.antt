@@ -42,17 +42,5 @@ returns c =
 
 pub level-ends-spec : {M : Type 1} → statement M
 level-ends-spec =
-    tie.close
-    (tie.spec
-    Inv-loop
-    μ-loop
-    (λ c. omega (arith, c .pre .fits))
-    (λ c κs. c .pre)
-    loop-holds
-    move-on-requires
-    (λ c κs. search needs)
-    (λ c κs. search needs)
-    (λ c. omega arith)
-    (λ c. omega arith)
-    loop-again
-    returns)
+    tie.close (tie.spec Inv-loop μ-loop (λ c. omega (arith, c .pre .fits)) (λ c κs. c .pre) loop-holds move-on-requires (λ c κs. search needs) (λ c κs. search needs) (λ c. omega arith)
+    (λ c. omega arith) loop-again returns)

@@ -75,18 +75,6 @@ returns c =
 
 pub list-rows-spec : {M : Type 1} → statement M
 list-rows-spec =
-    tie.close
-    (tie.spec
-    Inv-loop
-    μ-loop
-    (λ c κs. c .before .before .pre .0)
-    (λ c κs. (ends-small c .1, c .before .before .before .pre .1 .0 .1))
-    (λ c κs. (ends-small (c .before) .0, c .before .before .before .before .pre .1 .0 .1))
-    loop-holds
-    list-chunk-requires
-    add-base
-    loop-less
-    loop-again
-    (λ c. c .before .loop .inv .1)
-    (λ c. c .before .loop .inv .0 .long)
-    returns)
+    tie.close (tie.spec Inv-loop μ-loop (λ c κs. c .before .before .pre .0) (λ c κs. (ends-small c .1, c .before .before .before .pre .1 .0 .1))
+    (λ c κs. (ends-small (c .before) .0, c .before .before .before .before .pre .1 .0 .1)) loop-holds list-chunk-requires add-base loop-less loop-again (λ c. c .before .loop .inv .1)
+    (λ c. c .before .loop .inv .0 .long) returns)

@@ -70,18 +70,5 @@ returns c =
 
 pub mark-spec : {M : Type 1} → statement M
 mark-spec =
-    tie.close
-    (tie.spec
-    Inv-loop
-    μ-loop
-    (λ c. omega (arith, c .before .pre .0 .long))
-    (λ c. omega (arith, c .before .pre .0 .fits))
-    (λ c κs. c .before .pre .0)
-    loop-holds
-    row-of-level-requires
-    (λ c κs. search needs)
-    next-row-requires
-    loop-less
-    loop-again
-    (λ c. c .before .loop .inv .3)
-    returns)
+    tie.close (tie.spec Inv-loop μ-loop (λ c. omega (arith, c .before .pre .0 .long)) (λ c. omega (arith, c .before .pre .0 .fits)) (λ c κs. c .before .pre .0) loop-holds row-of-level-requires
+    (λ c κs. search needs) next-row-requires loop-less loop-again (λ c. c .before .loop .inv .3) returns)

@@ -30,15 +30,5 @@ slid c =
 
 pub move-on-spec : {M : Type 1} → statement M
 move-on-spec =
-    tie.close
-    (tie.spec
-    (λ c. search needs)
-    (λ c. search needs)
-    (λ c. search needs)
-    (λ c. search needs)
-    (λ c. search needs)
-    (λ c κs. in-arg (c .before .before .pre .0 .all .at _))
-    add-result
-    (λ c κs. in-arg (c .before .before .before .pre .0 .all .at _))
-    (λ c. omega (arith, slid c))
-    (λ c. omega (arith, slid c)))
+    tie.close (tie.spec (λ c. search needs) (λ c. search needs) (λ c. search needs) (λ c. search needs) (λ c. search needs) (λ c κs. in-arg (c .before .before .pre .0 .all .at _)) add-result
+    (λ c κs. in-arg (c .before .before .before .pre .0 .all .at _)) (λ c. omega (arith, slid c)) (λ c. omega (arith, slid c)))

@@ -57,17 +57,5 @@ returns-2 c =
 
 pub next-out-spec : {M : Type 1} → statement M
 next-out-spec =
-    tie.close
-    (tie.spec
-    Inv-loop
-    μ-loop
-    (λ c. omega (arith, c .pre .0 .fits))
-    loop-holds
-    (λ c κs. search needs)
-    returns
-    move-on-requires
-    (λ c. omega arith)
-    (λ c. omega arith)
-    loop-again
-    last-out-requires
-    returns-2)
+    tie.close (tie.spec Inv-loop μ-loop (λ c. omega (arith, c .pre .0 .fits)) loop-holds (λ c κs. search needs) returns move-on-requires (λ c. omega arith) (λ c. omega arith) loop-again
+    last-out-requires returns-2)

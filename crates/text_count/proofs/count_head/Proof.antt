@@ -13,14 +13,4 @@ returns c =
     counted-is (headText (pos (h .window)) (pos (h .width)) (pos (h .windows))) _ (omega (arith, head-length (h .window) (h .width) (h .windows), c .before .digit-count3 .ensures .0, c .before .before .digit-count2 .ensures .0, c .before .before .before .digit-count .ensures .0)) (c .advance .ensures)
 
 pub count-head-spec : {M : Type 1} → statement M
-count-head-spec =
-    tie.close
-    (tie.spec
-    (λ c κs. search needs)
-    (λ c κs. search needs)
-    (λ c. search needs)
-    (λ c κs. search needs)
-    (λ c. search needs)
-    (λ c. search needs)
-    (λ c κs. search needs)
-    returns)
+count-head-spec = tie.close (tie.spec (λ c κs. search needs) (λ c κs. search needs) (λ c. search needs) (λ c κs. search needs) (λ c. search needs) (λ c. search needs) (λ c κs. search needs) returns)

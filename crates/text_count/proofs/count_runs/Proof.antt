@@ -38,22 +38,5 @@ returns-2 c = runs-past (c .before .before .loop .inv) (c .if1 .taken)
 
 pub count-runs-spec : {M : Type 1} → statement M
 count-runs-spec =
-    tie.close
-    (tie.spec
-    Inv-loop
-    μ-loop
-    (λ c κs. search needs)
-    (λ c κs. search needs)
-    loop-holds
-    add-count-run
-    (λ c. omega arith)
-    shared-slice-read-count-run
-    add-count-run-2
-    (λ c. omega arith)
-    shared-slice-read-count-run-2
-    (λ c κs. search needs)
-    (λ c. omega arith)
-    (λ c. omega arith)
-    loop-again
-    returns
-    returns-2)
+    tie.close (tie.spec Inv-loop μ-loop (λ c κs. search needs) (λ c κs. search needs) loop-holds add-count-run (λ c. omega arith) shared-slice-read-count-run add-count-run-2 (λ c. omega arith)
+    shared-slice-read-count-run-2 (λ c κs. search needs) (λ c. omega arith) (λ c. omega arith) loop-again returns returns-2)

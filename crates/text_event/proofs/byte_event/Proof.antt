@@ -72,23 +72,5 @@ returns-4 c = (c .before .loop .inv .1, c .loop-test .left)
 
 pub byte-event-spec : {M : Type 1} → statement M
 byte-event-spec =
-    tie.close
-    (tie.spec
-    Inv-loop
-    μ-loop
-    loop-holds
-    shared-slice-read-index-step
-    index-step-requires
-    (λ c. search needs)
-    add-i
-    loop-less
-    loop-again
-    (λ c. search needs)
-    add-t16
-    returns
-    (λ c. search needs)
-    add-t17
-    returns-2
-    (λ c. search needs)
-    returns-3
-    returns-4)
+    tie.close (tie.spec Inv-loop μ-loop loop-holds shared-slice-read-index-step index-step-requires (λ c. search needs) add-i loop-less loop-again (λ c. search needs) add-t16 returns
+    (λ c. search needs) add-t17 returns-2 (λ c. search needs) returns-3 returns-4)

@@ -59,25 +59,5 @@ returns-3 c = let l = c .before in digits-told _ _ _ _ _ (l .loop .inv .1) (l .l
 
 pub digits-spec : {M : Type 1} → statement M
 digits-spec =
-    tie.close
-    (tie.spec
-    Inv-loop
-    μ-loop
-    loop-holds
-    (λ c. search needs)
-    (λ c. search needs)
-    mul-result
-    add-result
-    returns
-    mul-result-2
-    add-result-2
-    returns-2
-    mul-m
-    (λ c. search needs)
-    add-m
-    (λ c. search needs)
-    (λ c. search needs)
-    loop-again
-    mul-result-3
-    add-result-3
-    returns-3)
+    tie.close (tie.spec Inv-loop μ-loop loop-holds (λ c. search needs) (λ c. search needs) mul-result add-result returns mul-result-2 add-result-2 returns-2 mul-m (λ c. search needs) add-m
+    (λ c. search needs) (λ c. search needs) loop-again mul-result-3 add-result-3 returns-3)

@@ -33,16 +33,4 @@ unfolding bytes
 returns-4 c = let s = c .before .before .before in λ h. first-told _ _ _ (s .stands .ensures .0 (not-false (s .stands .result) (c .before .before .if2 .left))) (c .before .run-body .ensures (omega (arith, c .if3 .left)))
 
 pub first-run-spec : {M : Type 1} → statement M
-first-run-spec =
-    tie.close
-    (tie.spec
-    (λ c κs. search needs)
-    returns
-    (λ c. search needs)
-    stands-requires
-    returns-2
-    add-run-body
-    run-body-requires
-    returns-3
-    add-result
-    returns-4)
+first-run-spec = tie.close (tie.spec (λ c κs. search needs) returns (λ c. search needs) stands-requires returns-2 add-run-body run-body-requires returns-3 add-result returns-4)

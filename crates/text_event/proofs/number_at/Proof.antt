@@ -16,15 +16,4 @@ returns-3 : tie.Need-returns-3
 returns-3 c = λ h. number-told _ _ _ (c .digits .result) (omega (arith, c .before .before .before .before .before .pre)) refl (c .before .before .if1 .left) (c .before .if2 .left) (c .digits .ensures)
 
 pub number-at-spec : {M : Type 1} → statement M
-number-at-spec =
-    tie.close
-    (tie.spec
-    (λ c. search needs)
-    returns
-    returns-2
-    (λ c. search needs)
-    (λ c. search needs)
-    (λ c. search needs)
-    (λ c κs. search needs)
-    (λ c. search needs)
-    returns-3)
+number-at-spec = tie.close (tie.spec (λ c. search needs) returns returns-2 (λ c. search needs) (λ c. search needs) (λ c. search needs) (λ c κs. search needs) (λ c. search needs) returns-3)

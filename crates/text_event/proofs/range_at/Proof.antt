@@ -32,17 +32,5 @@ returns-2 c =
 
 pub range-at-spec : {M : Type 1} → statement M
 range-at-spec =
-    tie.close
-    (tie.spec
-    (λ c κs. search needs)
-    (λ c. search needs)
-    add-signed-at
-    signed-at-requires
-    (λ c. search needs)
-    signed-at-requires-2
-    (λ c. search needs)
-    (λ c. search needs)
-    (λ c. search needs)
-    returns-2
-    (λ c. search needs)
-    (λ c. search needs))
+    tie.close (tie.spec (λ c κs. search needs) (λ c. search needs) add-signed-at signed-at-requires (λ c. search needs) signed-at-requires-2 (λ c. search needs) (λ c. search needs) (λ c. search needs)
+    returns-2 (λ c. search needs) (λ c. search needs))

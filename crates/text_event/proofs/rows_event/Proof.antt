@@ -25,18 +25,5 @@ returns-2 c =
 
 pub rows-event-spec : {M : Type 1} → statement M
 rows-event-spec =
-    tie.close
-    (tie.spec
-    (λ c κs. search needs)
-    (λ c. search needs)
-    (λ c κs. search needs)
-    (λ c κs. search needs)
-    (λ c. search needs)
-    (λ c κs. search needs)
-    (λ c κs. search needs)
-    (λ c κs. search needs)
-    add-t15
-    (λ c. search needs)
-    (λ c κs. search needs)
-    returns-2
-    (λ c. search needs))
+    tie.close (tie.spec (λ c κs. search needs) (λ c. search needs) (λ c κs. search needs) (λ c κs. search needs) (λ c. search needs) (λ c κs. search needs) (λ c κs. search needs)
+    (λ c κs. search needs) add-t15 (λ c. search needs) (λ c κs. search needs) returns-2 (λ c. search needs))

@@ -49,27 +49,5 @@ returns-5 c =
 
 pub run-body-spec : {M : Type 1} → statement M
 run-body-spec =
-    tie.close
-    (tie.spec
-    (λ c κs. search needs)
-    returns
-    (λ c. search needs)
-    (λ c. search needs)
-    (λ c κs. search needs)
-    returns-2
-    (λ c. search needs)
-    (λ c. search needs)
-    number-at-requires-2
-    returns-3
-    (λ c. search needs)
-    (λ c. search needs)
-    (λ c. search needs)
-    (λ c. search needs)
-    stands-requires-2
-    returns-4
-    mul-result
-    add-result
-    mul-result-2
-    (λ c. search needs)
-    add-result-3
-    returns-5)
+    tie.close (tie.spec (λ c κs. search needs) returns (λ c. search needs) (λ c. search needs) (λ c κs. search needs) returns-2 (λ c. search needs) (λ c. search needs) number-at-requires-2 returns-3
+    (λ c. search needs) (λ c. search needs) (λ c. search needs) (λ c. search needs) stands-requires-2 returns-4 mul-result add-result mul-result-2 (λ c. search needs) add-result-3 returns-5)

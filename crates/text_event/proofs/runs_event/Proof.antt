@@ -21,16 +21,5 @@ returns-2 c = ends-told _ _ (c .before .ends .ensures (c .if2 .taken))
 
 pub runs-event-spec : {M : Type 1} → statement M
 runs-event-spec =
-    tie.close
-    (tie.spec
-    (λ c κs. search needs)
-    (λ c κs. search needs)
-    (λ c κs. search needs)
-    (λ c κs. search needs)
-    add-t8
-    returns
-    (λ c κs. search needs)
-    add-t12
-    returns-2
-    (λ c κs. search needs)
+    tie.close (tie.spec (λ c κs. search needs) (λ c κs. search needs) (λ c κs. search needs) (λ c κs. search needs) add-t8 returns (λ c κs. search needs) add-t12 returns-2 (λ c κs. search needs)
     (λ c. search needs))

@@ -104,42 +104,7 @@ returns-2 c =
 
 pub feed-spec : {M : Type 1} → statement M
 feed-spec =
-    tie.close
-    (tie.spec
-    Inv-loop
-    μ-loop
-    loop-holds
-    (λ c. omega arith)
-    line-step-requires
-    (λ c. search needs)
-    (λ c. omega arith)
-    (λ c. omega arith)
-    loop-again
-    (λ c. search needs)
-    (λ c κs. search needs)
-    (λ c κs. search needs)
-    (λ c κs. search needs)
-    kept-requires
-    (λ c κs. search needs)
-    kept-requires-2
-    (λ c. omega arith)
-    (λ c. omega arith)
-    loop-again-2
-    (λ c. search needs)
-    (λ c κs. search needs)
-    (λ c κs. search needs)
-    (λ c κs. search needs)
-    (λ c. omega arith)
-    (λ c. omega arith)
-    loop-again-3
-    (λ c. search needs)
-    add-t36
-    same-length
-    same-length-2
-    same-length-3
-    returns
-    add-t37
-    same-length-4
-    same-length-5
-    same-length-6
-    returns-2)
+    tie.close (tie.spec Inv-loop μ-loop loop-holds (λ c. omega arith) line-step-requires (λ c. search needs) (λ c. omega arith) (λ c. omega arith) loop-again (λ c. search needs) (λ c κs. search needs)
+    (λ c κs. search needs) (λ c κs. search needs) kept-requires (λ c κs. search needs) kept-requires-2 (λ c. omega arith) (λ c. omega arith) loop-again-2 (λ c. search needs) (λ c κs. search needs)
+    (λ c κs. search needs) (λ c κs. search needs) (λ c. omega arith) (λ c. omega arith) loop-again-3 (λ c. search needs) add-t36 same-length same-length-2 same-length-3 returns add-t37 same-length-4
+    same-length-5 same-length-6 returns-2)

@@ -25,8 +25,4 @@ unfolding reach
 returns-3 c = simp (ne-eqb _ _ (λ e. c .if1 .left (e ∙ sym (c .before .word-byte .ensures))))
 
 pub arrive-spec : {M : Type 1} → statement M
-arrive-spec =
-    tie.close
-    (tie.spec
-    (search needs) add-if2 (search needs) (search needs) returns (search needs)
-    returns-2 returns-3)
+arrive-spec = tie.close (tie.spec (search needs) add-if2 (search needs) (search needs) returns (search needs) returns-2 returns-3)

@@ -27,8 +27,4 @@ unfolding indexStep
 returns-4 c = rw (c .enum-told .given .1)
 
 pub index-step-spec : {M : Type 1} → statement M
-index-step-spec =
-    tie.close
-    (tie.spec
-    (search needs) step-word-requires (search needs) step-number-requires (search needs)
-    (search needs) (search needs) returns returns-2 returns-3 returns-4)
+index-step-spec = tie.close (tie.spec (search needs) step-word-requires (search needs) step-number-requires (search needs) (search needs) (search needs) returns returns-2 returns-3 returns-4)

@@ -23,7 +23,5 @@ returns-3 c = let v = c .before .before in let n = v .before .before .before in 
 
 pub step-number-spec : {M : Type 1} → statement M
 step-number-spec =
-    tie.close
-    (tie.spec
-    (λ c κs. search needs) (λ c. search needs) (λ c. search needs) (λ c κs. search needs) (λ c. search needs)
+    tie.close (tie.spec (λ c κs. search needs) (λ c. search needs) (λ c. search needs) (λ c κs. search needs) (λ c. search needs)
     (λ c κs. search needs) (λ c. search needs) returns returns-2 returns-3)

@@ -19,8 +19,4 @@ unfolding wordStep
 returns-3 c = let a = c .before .before in simp (sym (a .arrive .ensures) ∙ c .enum-told .given .1)
 
 pub step-word-spec : {M : Type 1} → statement M
-step-word-spec =
-    tie.close
-    (tie.spec
-    (search needs) (search needs) (search needs) returns (search needs) returns-2
-    returns-3)
+step-word-spec = tie.close (tie.spec (search needs) (search needs) (search needs) returns (search needs) returns-2 returns-3)

@@ -30,14 +30,4 @@ unfolding rowNext
 returns-2 c = let t = c in let g = t .before .before .before in let r = g .before .before in let s = r .before .before .before .before in let l : toZ w32 (ofZ w32 (s .args .o .low)) ≡ s .args .o .low = toZ-ofZ w32 (s .args .o .low) (record { sfits = r .before .before .before .struct-told .given .0 .1 }) in let u : toZ w32 (ofZ w32 (s .args .o .up)) ≡ s .args .o .up = toZ-ofZ w32 (s .args .o .up) (record { sfits = r .before .before .before .struct-told .given .1 .0 .1 }) in let m : toZ w32 (ofZ w32 (s .args .s .least)) ≡ s .args .s .least = toZ-ofZ w32 (s .args .s .least) (record { sfits = r .before .struct-told3 .given .1 .1 .1 .0 .1 }) in let e = rw (r .range-good .ensures, g .total-good .ensures, l, u, m) at (t .if1 .left) in rw e refl
 
 pub close-row-spec : {M : Type 1} → statement M
-close-row-spec =
-    tie.close
-    (tie.spec
-    (λ c κs. search needs)
-    (λ c. search needs)
-    (λ c κs. search needs)
-    (λ c. search needs)
-    (λ c. search needs)
-    add-t19
-    returns
-    returns-2)
+close-row-spec = tie.close (tie.spec (λ c κs. search needs) (λ c. search needs) (λ c κs. search needs) (λ c. search needs) (λ c. search needs) add-t19 returns returns-2)

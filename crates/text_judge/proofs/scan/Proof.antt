@@ -135,33 +135,6 @@ returns-2 c =
 
 pub scan-spec : {M : Type 1} → statement M
 scan-spec =
-    tie.close
-    (tie.spec
-    Inv-loop
-    μ-loop
-    (λ c κs. search needs)
-    loop-holds
-    next-event-requires
-    (λ c. search needs)
-    tell-row-requires
-    tell-runs-requires
-    loop-less
-    loop-again
-    (λ c. search needs)
-    tell-run-requires
-    tell-runs-requires-2
-    loop-less-2
-    loop-again-2
-    (λ c. search needs)
-    tell-requires
-    loop-less-3
-    loop-again-3
-    (λ c. search needs)
-    shut-requires
-    loop-less-4
-    loop-again-4
-    (λ c. search needs)
-    returns
-    (λ c. search needs)
-    (λ c κs. search needs)
-    returns-2)
+    tie.close (tie.spec Inv-loop μ-loop (λ c κs. search needs) loop-holds next-event-requires (λ c. search needs) tell-row-requires tell-runs-requires loop-less loop-again (λ c. search needs)
+    tell-run-requires tell-runs-requires-2 loop-less-2 loop-again-2 (λ c. search needs) tell-requires loop-less-3 loop-again-3 (λ c. search needs) shut-requires loop-less-4 loop-again-4
+    (λ c. search needs) returns (λ c. search needs) (λ c κs. search needs) returns-2)

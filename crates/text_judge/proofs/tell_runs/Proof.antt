@@ -40,17 +40,4 @@ loop-again c =
 
 pub tell-runs-spec : {M : Type 1} → statement M
 tell-runs-spec =
-    tie.close
-    (tie.spec
-    Inv-loop
-    μ-loop
-    loop-holds
-    (λ c κs. search needs)
-    returns
-    (λ c κs. search needs)
-    (λ c κs. search needs)
-    tell-run-requires
-    (λ c κs. search needs)
-    add-i
-    loop-less
-    loop-again)
+    tie.close (tie.spec Inv-loop μ-loop loop-holds (λ c κs. search needs) returns (λ c κs. search needs) (λ c κs. search needs) tell-run-requires (λ c κs. search needs) add-i loop-less loop-again)

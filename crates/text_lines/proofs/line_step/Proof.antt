@@ -27,8 +27,4 @@ unfolding lineStep
 returns-4 c = rw (c .enum-told .given .1)
 
 pub line-step-spec : {M : Type 1} → statement M
-line-step-spec =
-    tie.close
-    (tie.spec
-    (search needs) step-word-requires (search needs) step-number-requires (search needs)
-    (search needs) (search needs) returns returns-2 returns-3 returns-4)
+line-step-spec = tie.close (tie.spec (search needs) step-word-requires (search needs) step-number-requires (search needs) (search needs) (search needs) returns returns-2 returns-3 returns-4)

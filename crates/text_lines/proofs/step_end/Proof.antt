@@ -21,8 +21,4 @@ unfolding endStep
 returns-2 c = let a = c .before .before in simp (sym (a .before .before .number-end .ensures), sym (a .before .picked .ensures), sym (a .arrive .ensures) ∙ c .enum-told .given .1)
 
 pub step-end-spec : {M : Type 1} → statement M
-step-end-spec =
-    tie.close
-    (tie.spec
-    (search needs) (search needs) arrive-requires (search needs) (search needs) returns
-    returns-2)
+step-end-spec = tie.close (tie.spec (search needs) (search needs) arrive-requires (search needs) (search needs) returns returns-2)

@@ -21,8 +21,4 @@ unfolding numberStep
 returns-3 c = let v = c .before .before in let n = v .before .before .before in simp (sym (n .number-step .ensures) ∙ v .before .enum-told .given .1, sym (v .number-value .ensures) ∙ c .enum-told2 .given .1)
 
 pub step-number-spec : {M : Type 1} → statement M
-step-number-spec =
-    tie.close
-    (tie.spec
-    (search needs) (search needs) (search needs) (λ c κs. search needs) (search needs)
-    (search needs) (search needs) returns returns-2 returns-3)
+step-number-spec = tie.close (tie.spec (search needs) (search needs) (search needs) (λ c κs. search needs) (search needs) (search needs) (search needs) returns returns-2 returns-3)

@@ -18,7 +18,4 @@ unfolding turnStep
 returns-2 c = let a = c .before .before in simp (sym (a .before .picked .ensures), sym (a .arrive .ensures) ∙ c .enum-told .given .1)
 
 pub step-turn-spec : {M : Type 1} → statement M
-step-turn-spec =
-    tie.close
-    (tie.spec
-    (search needs) arrive-requires (search needs) (search needs) returns returns-2)
+step-turn-spec = tie.close (tie.spec (search needs) arrive-requires (search needs) (search needs) returns returns-2)

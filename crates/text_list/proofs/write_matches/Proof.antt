@@ -34,21 +34,5 @@ returns c = put-then (c .before .before .before .before .put-word .ensures) (mat
 
 pub write-matches-spec : {M : Type 1} → statement M
 write-matches-spec =
-    tie.close
-    (tie.spec
-    Inv-loop
-    μ-loop
-    (λ c κs. search needs)
-    (λ c. search needs)
-    (λ c κs. search needs)
-    loop-holds
-    (λ c. omega arith)
-    shared-slice-read-write-match
-    (λ c. omega arith)
-    shared-slice-read-write-match-2
-    (λ c κs. search needs)
-    (λ c. omega arith)
-    (λ c. omega arith)
-    loop-again
-    same-length
-    returns)
+    tie.close (tie.spec Inv-loop μ-loop (λ c κs. search needs) (λ c. search needs) (λ c κs. search needs) loop-holds (λ c. omega arith) shared-slice-read-write-match (λ c. omega arith)
+    shared-slice-read-write-match-2 (λ c κs. search needs) (λ c. omega arith) (λ c. omega arith) loop-again same-length returns)

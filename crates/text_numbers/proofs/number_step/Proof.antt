@@ -66,31 +66,6 @@ returns-11 c = simp (c .before .before .before .n2 .given .1, sym (c .before .di
 
 pub number-step-spec : {M : Type 1} → statement M
 number-step-spec =
-    tie.close
-    (tie.spec
-    (λ c. search needs)
-    returns
-    returns-2
-    (λ c κs. search needs)
-    sub-t10
-    (λ c. search needs)
-    returns-3
-    (λ c. search needs)
-    (λ c κs. search needs)
-    sub-t14
-    (λ c. search needs)
-    returns-4
-    (λ c. search needs)
-    (λ c. search needs)
-    (λ c κs. search needs)
-    with-digit-requires
-    returns-5
-    (λ c. search needs)
-    (λ c κs. search needs)
-    with-digit-requires-2
-    returns-6
-    returns-7
-    returns-8
-    returns-9
-    returns-10
-    returns-11)
+    tie.close (tie.spec (λ c. search needs) returns returns-2 (λ c κs. search needs) sub-t10 (λ c. search needs) returns-3 (λ c. search needs) (λ c κs. search needs) sub-t14 (λ c. search needs)
+    returns-4 (λ c. search needs) (λ c. search needs) (λ c κs. search needs) with-digit-requires returns-5 (λ c. search needs) (λ c κs. search needs) with-digit-requires-2 returns-6 returns-7
+    returns-8 returns-9 returns-10 returns-11)

@@ -43,18 +43,4 @@ returns-5 c = let g = rw (c .before .n2 .given .1) at (c .before .before .before
 
 pub number-value-spec : {M : Type 1} → statement M
 number-value-spec =
-    tie.close
-    (tie.spec
-    (λ c. search needs)
-    (λ c. search needs)
-    (λ c. search needs)
-    (λ c. search needs)
-    cast-t5
-    (λ c. search needs)
-    cast-t6
-    sub-t7
-    returns
-    returns-2
-    returns-3
-    returns-4
-    returns-5)
+    tie.close (tie.spec (λ c. search needs) (λ c. search needs) (λ c. search needs) (λ c. search needs) cast-t5 (λ c. search needs) cast-t6 sub-t7 returns returns-2 returns-3 returns-4 returns-5)

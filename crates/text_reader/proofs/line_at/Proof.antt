@@ -58,19 +58,4 @@ returns-2 : tie.Need-returns-2 Inv-loop μ-loop
 returns-2 c = let l = c .before in let e : l .before .args .at ≡ l .loop .i = omega arith in rw e (l .loop .inv .0)
 
 pub line-at-spec : {M : Type 1} → statement M
-line-at-spec =
-    tie.close
-    (tie.spec
-    Inv-loop
-    μ-loop
-    loop-holds
-    returns
-    shared-slice-read-if2
-    add-n
-    add-i
-    loop-less
-    loop-again
-    add-i-2
-    loop-less-2
-    loop-again-2
-    returns-2)
+line-at-spec = tie.close (tie.spec Inv-loop μ-loop loop-holds returns shared-slice-read-if2 add-n add-i loop-less loop-again add-i-2 loop-less-2 loop-again-2 returns-2)

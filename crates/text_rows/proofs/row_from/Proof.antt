@@ -125,33 +125,6 @@ returns-3 c =
 
 pub row-from-spec : {M : Type 1} → statement M
 row-from-spec =
-    tie.close
-    (tie.spec
-    Inv-loop
-    μ-loop
-    loop-holds
-    next-event-requires
-    (λ c. search needs)
-    tell-row-requires
-    tell-runs-requires
-    loop-less
-    loop-again
-    (λ c. search needs)
-    tell-run-requires
-    tell-runs-requires-2
-    loop-less-2
-    loop-again-2
-    (λ c. search needs)
-    tell-requires
-    loop-less-3
-    loop-again-3
-    (λ c. search needs)
-    (λ c κs. search needs)
-    shut-requires
-    returns
-    (λ c. search needs)
-    (λ c κs. search needs)
-    returns-2
-    (λ c. search needs)
-    (λ c κs. search needs)
-    returns-3)
+    tie.close (tie.spec Inv-loop μ-loop loop-holds next-event-requires (λ c. search needs) tell-row-requires tell-runs-requires loop-less loop-again (λ c. search needs) tell-run-requires
+    tell-runs-requires-2 loop-less-2 loop-again-2 (λ c. search needs) tell-requires loop-less-3 loop-again-3 (λ c. search needs) (λ c κs. search needs) shut-requires returns (λ c. search needs)
+    (λ c κs. search needs) returns-2 (λ c. search needs) (λ c κs. search needs) returns-3)

@@ -40,23 +40,5 @@ returns c = put-then (c .before .before .before .before .put-word .ensures) (run
 
 pub write-runs-spec : {M : Type 1} → statement M
 write-runs-spec =
-    tie.close
-    (tie.spec
-    Inv-loop
-    μ-loop
-    (λ c κs. search needs)
-    (λ c. search needs)
-    (λ c κs. search needs)
-    loop-holds
-    add-write-run
-    (λ c. omega arith)
-    shared-slice-read-write-run
-    add-write-run-2
-    (λ c. omega arith)
-    shared-slice-read-write-run-2
-    (λ c κs. search needs)
-    (λ c. omega arith)
-    (λ c. omega arith)
-    loop-again
-    same-length
-    returns)
+    tie.close (tie.spec Inv-loop μ-loop (λ c κs. search needs) (λ c. search needs) (λ c κs. search needs) loop-holds add-write-run (λ c. omega arith) shared-slice-read-write-run add-write-run-2
+    (λ c. omega arith) shared-slice-read-write-run-2 (λ c κs. search needs) (λ c. omega arith) (λ c. omega arith) loop-again same-length returns)

@@ -49,24 +49,9 @@ returns-5 c = let i = c .before .loop .inv in outcome-yes (i .0) (omega (arith, 
 
 pub curve-bound-spec : {M : Type 1} → statement M
 curve-bound-spec =
-    tie.close
-    (tie.spec
-    Inv-loop
-    μ-loop
-    (λ c. outcome-no (λ a. c .if1 .taken (a .0)) refl refl)
-    (λ c κs. search needs)
-    (λ c. outcome-no (λ a. c .before .fits2 .ensures .no (not-true _ (c .if2 .taken)) (a .1)) refl refl)
-    (λ c κs. search needs)
-    (λ c. outcome-no (λ a. c .before .all-in .ensures .no (not-true _ (c .if3 .taken)) (a .2)) refl refl)
-    (λ c κs. search needs)
-    (λ c. outcome-no (λ a. c .before .all-in2 .ensures .no (not-true _ (c .if4 .taken)) (a .3)) refl refl)
-    loop-holds
-    (λ c. omega (arith, c .loop .inv .0 .1 .long))
-    envelope-bound-requires
-    (λ c. omega arith)
-    (λ c. let i = c .before .before .loop .inv in omega (arith, i .0 .1 .enough, i .4 .long))
-    (λ c. omega arith)
-    (λ c. omega arith)
-    loop-again
-    (λ c. c .before .loop .inv .4 .long)
+    tie.close (tie.spec Inv-loop μ-loop (λ c. outcome-no (λ a. c .if1 .taken (a .0)) refl refl) (λ c κs. search needs)
+    (λ c. outcome-no (λ a. c .before .fits2 .ensures .no (not-true _ (c .if2 .taken)) (a .1)) refl refl) (λ c κs. search needs)
+    (λ c. outcome-no (λ a. c .before .all-in .ensures .no (not-true _ (c .if3 .taken)) (a .2)) refl refl) (λ c κs. search needs)
+    (λ c. outcome-no (λ a. c .before .all-in2 .ensures .no (not-true _ (c .if4 .taken)) (a .3)) refl refl) loop-holds (λ c. omega (arith, c .loop .inv .0 .1 .long)) envelope-bound-requires
+    (λ c. omega arith) (λ c. let i = c .before .before .loop .inv in omega (arith, i .0 .1 .enough, i .4 .long)) (λ c. omega arith) (λ c. omega arith) loop-again (λ c. c .before .loop .inv .4 .long)
     returns-5)

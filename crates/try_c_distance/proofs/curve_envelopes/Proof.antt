@@ -16,14 +16,6 @@ returns-4 c =
 
 pub curve-envelopes-spec : {M : Type 1} → statement M
 curve-envelopes-spec =
-    tie.close
-    (tie.spec
-    (λ c. outcome-no (λ a. c .if1 .taken (a .0)) refl (refl, refl))
-    (λ c. outcome-no (λ a. c .if2 .taken (a .1)) refl (refl, refl))
-    (λ c κs. search needs)
-    (λ c. outcome-no (λ a. c .before .all-in .ensures .no (not-true _ (c .if3 .taken)) (a .2)) refl (refl, refl))
-    (λ c κs. omega arith)
-    (λ c κs. omega arith)
-    (λ c. search needs)
-    (λ c. search needs)
+    tie.close (tie.spec (λ c. outcome-no (λ a. c .if1 .taken (a .0)) refl (refl, refl)) (λ c. outcome-no (λ a. c .if2 .taken (a .1)) refl (refl, refl)) (λ c κs. search needs)
+    (λ c. outcome-no (λ a. c .before .all-in .ensures .no (not-true _ (c .if3 .taken)) (a .2)) refl (refl, refl)) (λ c κs. omega arith) (λ c κs. omega arith) (λ c. search needs) (λ c. search needs)
     returns-4)

@@ -66,23 +66,7 @@ returns-2 c =
 
 pub curve-normal-spec : {M : Type 1} → statement M
 curve-normal-spec =
-    tie.close
-    (tie.spec
-    Inv-loop
-    μ-loop
-    (λ c κs. search needs)
-    (λ c. outcome-no (c .before .fits2 .ensures .no (not-true _ (c .if1 .taken))) refl (refl, refl))
-    (λ c κs. let f = c .before .fits2 .ensures .yes (not-false _ (c .if1 .left)) in (omega (arith, f .long), (f .short, f .inside)))
-    loop-holds
-    (λ c. omega (arith, c .loop .inv .0 .long))
-    spread-of-requires
-    normal-values-requires
-    (λ c. omega arith)
-    (λ c. let i = c .before .before .before .before .before .loop .inv in omega (arith, i .0 .enough, i .7 .long))
-    sums-after-requires
-    (λ c. omega arith)
-    (λ c. omega arith)
-    loop-again
-    (λ c. c .before .loop .inv .4)
-    (λ c. c .before .loop .inv .7 .long)
-    returns-2)
+    tie.close (tie.spec Inv-loop μ-loop (λ c κs. search needs) (λ c. outcome-no (c .before .fits2 .ensures .no (not-true _ (c .if1 .taken))) refl (refl, refl))
+    (λ c κs. let f = c .before .fits2 .ensures .yes (not-false _ (c .if1 .left)) in (omega (arith, f .long), (f .short, f .inside))) loop-holds (λ c. omega (arith, c .loop .inv .0 .long))
+    spread-of-requires normal-values-requires (λ c. omega arith) (λ c. let i = c .before .before .before .before .before .loop .inv in omega (arith, i .0 .enough, i .7 .long)) sums-after-requires
+    (λ c. omega arith) (λ c. omega arith) loop-again (λ c. c .before .loop .inv .4) (λ c. c .before .loop .inv .7 .long) returns-2)

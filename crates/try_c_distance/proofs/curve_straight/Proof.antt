@@ -42,21 +42,6 @@ returns-3 c = let i = c .before .loop .inv in outcome-yes (i .0, i .1) (omega (a
 
 pub curve-straight-spec : {M : Type 1} → statement M
 curve-straight-spec =
-    tie.close
-    (tie.spec
-    Inv-loop
-    μ-loop
-    (λ c κs. search needs)
-    (λ c. outcome-no (λ a. c .before .fits2 .ensures .no (not-true _ (c .if1 .taken)) (a .0)) refl refl)
-    (λ c κs. search needs)
-    (λ c. outcome-no (λ a. c .before .all-in .ensures .no (not-true _ (c .if2 .taken)) (a .1)) refl refl)
-    loop-holds
-    (λ c. omega (arith, c .loop .inv .0 .long))
-    straight-requires
-    (λ c. omega arith)
-    (λ c. let i = c .before .before .loop .inv in omega (arith, i .0 .enough, i .5 .long))
-    (λ c. omega arith)
-    (λ c. omega arith)
-    loop-again
-    (λ c. c .before .loop .inv .5 .long)
-    returns-3)
+    tie.close (tie.spec Inv-loop μ-loop (λ c κs. search needs) (λ c. outcome-no (λ a. c .before .fits2 .ensures .no (not-true _ (c .if1 .taken)) (a .0)) refl refl) (λ c κs. search needs)
+    (λ c. outcome-no (λ a. c .before .all-in .ensures .no (not-true _ (c .if2 .taken)) (a .1)) refl refl) loop-holds (λ c. omega (arith, c .loop .inv .0 .long)) straight-requires (λ c. omega arith)
+    (λ c. let i = c .before .before .loop .inv in omega (arith, i .0 .enough, i .5 .long)) (λ c. omega arith) (λ c. omega arith) loop-again (λ c. c .before .loop .inv .5 .long) returns-3)

@@ -29,18 +29,7 @@ returns-5 c =
 
 pub curve-warped-spec : {M : Type 1} → statement M
 curve-warped-spec =
-    tie.close
-    (tie.spec
-    (λ c. outcome-no (λ a. c .if1 .taken (a .0)) refl (refl, refl, refl))
-    (λ c. outcome-no (λ a. c .if2 .taken (a .1)) refl (refl, refl, refl))
-    (λ c κs. search needs)
-    (λ c. outcome-no (λ a. c .before .fits2 .ensures .no (not-true _ (c .if3 .taken)) (a .2)) refl (refl, refl, refl))
-    (λ c κs. search needs)
-    (λ c. outcome-no (λ a. c .before .all-in .ensures .no (not-true _ (c .if4 .taken)) (a .3)) refl (refl, refl, refl))
-    (λ c κs. search needs)
-    (λ c κs. search needs)
-    each-warped-requires
-    (λ c. search needs)
-    (λ c. search needs)
-    (λ c. search needs)
-    returns-5)
+    tie.close (tie.spec (λ c. outcome-no (λ a. c .if1 .taken (a .0)) refl (refl, refl, refl)) (λ c. outcome-no (λ a. c .if2 .taken (a .1)) refl (refl, refl, refl)) (λ c κs. search needs)
+    (λ c. outcome-no (λ a. c .before .fits2 .ensures .no (not-true _ (c .if3 .taken)) (a .2)) refl (refl, refl, refl)) (λ c κs. search needs)
+    (λ c. outcome-no (λ a. c .before .all-in .ensures .no (not-true _ (c .if4 .taken)) (a .3)) refl (refl, refl, refl)) (λ c κs. search needs) (λ c κs. search needs) each-warped-requires
+    (λ c. search needs) (λ c. search needs) (λ c. search needs) returns-5)

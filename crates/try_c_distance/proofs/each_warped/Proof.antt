@@ -37,18 +37,6 @@ returns c = let i = c .before .loop .inv in (omega (arith, i .0 .long), written-
 
 pub each-warped-spec : {M : Type 1} → statement M
 each-warped-spec =
-    tie.close
-    (tie.spec
-    Inv-loop
-    μ-loop
-    loop-holds
-    (λ c. omega (arith, c .loop .inv .0 .long))
-    (λ c. sym (c .before .before .loop .inv .6))
-    warped-in-requires
-    (λ c. omega arith)
-    (λ c. let i = c .before .before .before .before .loop .inv in omega (arith, i .0 .enough, i .5 .long))
-    (λ c. omega arith)
-    (λ c. omega arith)
-    loop-again
-    (λ c. c .before .loop .inv .5 .long)
+    tie.close (tie.spec Inv-loop μ-loop loop-holds (λ c. omega (arith, c .loop .inv .0 .long)) (λ c. sym (c .before .before .loop .inv .6)) warped-in-requires (λ c. omega arith)
+    (λ c. let i = c .before .before .before .before .loop .inv in omega (arith, i .0 .enough, i .5 .long)) (λ c. omega arith) (λ c. omega arith) loop-again (λ c. c .before .loop .inv .5 .long)
     returns)

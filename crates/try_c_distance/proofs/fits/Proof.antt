@@ -13,12 +13,5 @@ returns-5 c = let a = c .all-in .ensures in record {
 
 pub fits-spec : {M : Type 1} → statement M
 fits-spec =
-    tie.close
-    (tie.spec
-    (λ c. says-no (λ f. omega (arith, f .some)))
-    (λ c. says-no (λ f. omega (arith, f .short)))
-    (λ c. says-no (λ f. omega (arith, f .long)))
-    (λ c. search needs)
-    (λ c. says-no (λ f. omega (arith, f .enough)))
-    (λ c κs. search needs)
-    returns-5)
+    tie.close (tie.spec (λ c. says-no (λ f. omega (arith, f .some))) (λ c. says-no (λ f. omega (arith, f .short))) (λ c. says-no (λ f. omega (arith, f .long))) (λ c. search needs)
+    (λ c. says-no (λ f. omega (arith, f .enough))) (λ c κs. search needs) returns-5)

@@ -72,28 +72,5 @@ returns-2 c =
 
 pub lines-read-spec : {M : Type 1} → statement M
 lines-read-spec =
-    tie.close
-    (tie.spec
-    Inv-loop
-    μ-loop
-    (λ c κs. search needs)
-    loop-holds
-    (λ c. omega arith)
-    (λ c. omega arith)
-    piece-requires
-    (λ c. search needs)
-    add-k
-    loop-less
-    loop-again
-    (λ c. search needs)
-    (λ c κs. search needs)
-    same-length
-    same-length-2
-    same-length-3
-    returns
-    piece-requires-2
-    (λ c κs. search needs)
-    same-length-4
-    same-length-5
-    same-length-6
-    returns-2)
+    tie.close (tie.spec Inv-loop μ-loop (λ c κs. search needs) loop-holds (λ c. omega arith) (λ c. omega arith) piece-requires (λ c. search needs) add-k loop-less loop-again (λ c. search needs)
+    (λ c κs. search needs) same-length same-length-2 same-length-3 returns piece-requires-2 (λ c κs. search needs) same-length-4 same-length-5 same-length-6 returns-2)

@@ -17,12 +17,5 @@ flat c =
 
 pub can-prepare-spec : {M : Type 1} → statement M
 can-prepare-spec =
-    tie.close
-    (tie.spec
-    (λ c. search needs)
-    (λ c. search needs)
-    (λ c κs. search needs)
-    (λ c κs. search needs)
-    flat
-    (λ c. says-yes (λ f. absurd (raw-normal (c .enum-told .given .1) f)))
+    tie.close (tie.spec (λ c. search needs) (λ c. search needs) (λ c κs. search needs) (λ c κs. search needs) flat (λ c. says-yes (λ f. absurd (raw-normal (c .enum-told .given .1) f)))
     (λ c. says-yes (λ f. let q = c .before .before .before .before .before .args .q .now in rw (sym (c .before .spread-of .ensures ∙ spread-same (from-start q (length q)))) (omega arith))))

@@ -60,27 +60,9 @@ returns-10 c =
 
 pub curve-matches-spec : {M : Type 1} → statement M
 curve-matches-spec =
-    tie.close
-    (tie.spec
-    (λ c. outcome-no (λ a. c .if1 .taken (a .curves)) refl refl)
-    (λ c. outcome-no (λ a. c .if2 .taken (a .lows)) refl refl)
-    (λ c. outcome-no (λ a. c .if3 .taken (a .highs)) refl refl)
-    (λ c. outcome-no (λ a. c .if4 .taken (a .rooms)) refl refl)
-    (λ c. outcome-no (λ a. omega (arith, c .if5 .taken, a .rows)) refl refl)
-    (λ c. outcome-no (λ a. omega (arith, c .if6 .taken, a .scales)) refl refl)
-    (λ c κs. search needs)
-    (λ c. outcome-no (λ a. c .before .fits2 .ensures .no (not-true _ (c .if7 .taken)) (a .fits)) refl refl)
-    (λ c κs. search needs)
-    (λ c. outcome-no (λ a. c .before .all-in .ensures .no (not-true _ (c .if8 .taken)) (a .values)) refl refl)
-    (λ c κs. search needs)
-    can-prepare-requires
-    returns-9
-    prepare-requires
-    each-match-requires
-    (λ c. search needs)
-    (λ c. search needs)
-    (λ c. search needs)
-    (λ c. search needs)
-    (λ c. search needs)
-    (λ c. search needs)
-    returns-10)
+    tie.close (tie.spec (λ c. outcome-no (λ a. c .if1 .taken (a .curves)) refl refl) (λ c. outcome-no (λ a. c .if2 .taken (a .lows)) refl refl)
+    (λ c. outcome-no (λ a. c .if3 .taken (a .highs)) refl refl) (λ c. outcome-no (λ a. c .if4 .taken (a .rooms)) refl refl) (λ c. outcome-no (λ a. omega (arith, c .if5 .taken, a .rows)) refl refl)
+    (λ c. outcome-no (λ a. omega (arith, c .if6 .taken, a .scales)) refl refl) (λ c κs. search needs)
+    (λ c. outcome-no (λ a. c .before .fits2 .ensures .no (not-true _ (c .if7 .taken)) (a .fits)) refl refl) (λ c κs. search needs)
+    (λ c. outcome-no (λ a. c .before .all-in .ensures .no (not-true _ (c .if8 .taken)) (a .values)) refl refl) (λ c κs. search needs) can-prepare-requires returns-9 prepare-requires
+    each-match-requires (λ c. search needs) (λ c. search needs) (λ c. search needs) (λ c. search needs) (λ c. search needs) (λ c. search needs) returns-10)

@@ -62,26 +62,8 @@ returns-4 c =
 
 pub curve-windows-spec : {M : Type 1} → statement M
 curve-windows-spec =
-    tie.close
-    (tie.spec
-    Inv-loop
-    μ-loop
-    (λ c. outcome-no (λ a. omega (arith, a .0, c .if1 .taken)) refl (refl, refl))
-    (λ c. outcome-no (λ a. c .if2 .taken (a .1)) refl (refl, refl))
-    (λ c κs. search needs)
-    (λ c. outcome-no (λ a. c .before .fits2 .ensures .no (not-true _ (c .if3 .taken)) (a .2)) refl (refl, refl))
-    window-sum-requires
-    loop-holds
-    (λ c. omega (arith, c .loop .inv .0 .2 .long))
-    (λ c. omega arith)
-    (λ c. let i = c .before .loop .inv in omega (arith, i .0 .2 .enough, i .4 .long))
-    (λ c κs. search needs)
-    (λ c. omega arith)
-    (λ c. let i = c .before .before .loop .inv in omega (arith, i .0 .2 .enough, i .0 .1, i .5 .long))
-    window-after-requires
-    (λ c. omega arith)
-    (λ c. omega arith)
-    loop-again
-    (λ c. c .before .loop .inv .4 .long)
-    (λ c. c .before .loop .inv .5 .long)
-    returns-4)
+    tie.close (tie.spec Inv-loop μ-loop (λ c. outcome-no (λ a. omega (arith, a .0, c .if1 .taken)) refl (refl, refl)) (λ c. outcome-no (λ a. c .if2 .taken (a .1)) refl (refl, refl))
+    (λ c κs. search needs) (λ c. outcome-no (λ a. c .before .fits2 .ensures .no (not-true _ (c .if3 .taken)) (a .2)) refl (refl, refl)) window-sum-requires loop-holds
+    (λ c. omega (arith, c .loop .inv .0 .2 .long)) (λ c. omega arith) (λ c. let i = c .before .loop .inv in omega (arith, i .0 .2 .enough, i .4 .long)) (λ c κs. search needs) (λ c. omega arith)
+    (λ c. let i = c .before .before .loop .inv in omega (arith, i .0 .2 .enough, i .0 .1, i .5 .long)) window-after-requires (λ c. omega arith) (λ c. omega arith) loop-again
+    (λ c. c .before .loop .inv .4 .long) (λ c. c .before .loop .inv .5 .long) returns-4)

@@ -75,22 +75,7 @@ returns c = let i = c .before .loop .inv in (omega (arith, i .0 .long), written-
 
 pub each-match-spec : {M : Type 1} → statement M
 each-match-spec =
-    tie.close
-    (tie.spec
-    Inv-loop
-    μ-loop
-    sums-at-requires
-    loop-holds
-    (λ c. omega (arith, c .loop .inv .0 .long))
-    match-at-requires
-    (λ c κs. search needs)
-    (λ c. omega arith)
-    (λ c. let i = c .before .before .before .before .before .before .before .before .loop .inv in omega (arith, i .0 .enough, i .6 .long))
-    sums-after-requires
-    (λ c. let i = c .before .before .before .before .before .before .before .before .before .loop .inv in omega (arith, i .0 .some, i .0 .long, i .10))
-    (λ c. omega arith)
-    loop-again
-    (λ c. c .before .loop .inv .4 .1)
-    (λ c. c .before .loop .inv .5 .1)
-    (λ c. c .before .loop .inv .6 .long)
-    returns)
+    tie.close (tie.spec Inv-loop μ-loop sums-at-requires loop-holds (λ c. omega (arith, c .loop .inv .0 .long)) match-at-requires (λ c κs. search needs) (λ c. omega arith)
+    (λ c. let i = c .before .before .before .before .before .before .before .before .loop .inv in omega (arith, i .0 .enough, i .6 .long)) sums-after-requires
+    (λ c. let i = c .before .before .before .before .before .before .before .before .before .loop .inv in omega (arith, i .0 .some, i .0 .long, i .10)) (λ c. omega arith) loop-again
+    (λ c. c .before .loop .inv .4 .1) (λ c. c .before .loop .inv .5 .1) (λ c. c .before .loop .inv .6 .long) returns)

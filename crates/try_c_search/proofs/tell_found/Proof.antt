@@ -19,15 +19,5 @@ returns-3 c = c .numbers3 .ensures ∙ sym (ap toldFound (c .before .before .a3 
 
 pub tell-found-spec : {M : Type 1} → statement M
 tell-found-spec =
-    tie.close
-    (tie.spec
-    (λ c. search needs)
-    (λ c κs. search needs)
-    (λ c. search needs)
-    (λ c κs. search needs)
-    (λ c. search needs)
-    (λ c. search needs)
-    (λ c κs. search needs)
-    returns
-    returns-2
+    tie.close (tie.spec (λ c. search needs) (λ c κs. search needs) (λ c. search needs) (λ c κs. search needs) (λ c. search needs) (λ c. search needs) (λ c κs. search needs) returns returns-2
     returns-3)

@@ -33,26 +33,6 @@ slice-aggregate-try-one-8 c = sym (length-take-le _ _ (search needs))
 
 pub in-rooms-spec : {M : Type 1} → statement M
 in-rooms-spec =
-    tie.close
-    (tie.spec
-    (λ c. search needs)
-    (λ c. search needs)
-    (λ c. search needs)
-    (λ c. search needs)
-    (λ c κs. search needs)
-    slice-aggregate-try-one
-    slice-aggregate-try-one-2
-    (λ c. search needs)
-    slice-aggregate-try-one-3
-    (λ c. search needs)
-    slice-aggregate-try-one-4
-    (λ c. search needs)
-    slice-aggregate-try-one-5
-    (λ c. search needs)
-    slice-aggregate-try-one-6
-    (λ c. search needs)
-    slice-aggregate-try-one-7
-    (λ c. search needs)
-    slice-aggregate-try-one-8
-    (λ c κs. search needs)
-    (λ c. search needs))
+    tie.close (tie.spec (λ c. search needs) (λ c. search needs) (λ c. search needs) (λ c. search needs) (λ c κs. search needs) slice-aggregate-try-one slice-aggregate-try-one-2 (λ c. search needs)
+    slice-aggregate-try-one-3 (λ c. search needs) slice-aggregate-try-one-4 (λ c. search needs) slice-aggregate-try-one-5 (λ c. search needs) slice-aggregate-try-one-6 (λ c. search needs)
+    slice-aggregate-try-one-7 (λ c. search needs) slice-aggregate-try-one-8 (λ c κs. search needs) (λ c. search needs))

@@ -15,16 +15,5 @@ abbrev μ-loop : tie.MeasureT-loop
 
 pub fill-rubbish-spec : {M : Type 1} → statement M
 fill-rubbish-spec =
-    tie.close
-    (tie.spec
-    Inv-loop
-    μ-loop
-    (λ c. (omega arith, omega arith))
-    (λ c. omega arith)
-    (λ c. omega arith)
-    (λ c κs. search needs)
-    (λ c. omega arith)
-    (λ c. simp length-set (omega arith))
-    (λ c. (simp length-set (omega arith), simp length-set (omega arith)))
-    (λ c. omega arith)
-    (λ c. search needs))
+    tie.close (tie.spec Inv-loop μ-loop (λ c. (omega arith, omega arith)) (λ c. omega arith) (λ c. omega arith) (λ c κs. search needs) (λ c. omega arith) (λ c. simp length-set (omega arith))
+    (λ c. (simp length-set (omega arith), simp length-set (omega arith))) (λ c. omega arith) (λ c. search needs))

@@ -7,16 +7,5 @@ use Rattle.try_search.proofs.with_list.Tie as tie
 
 pub with-list-spec : {M : Type 1} → statement M
 with-list-spec =
-    tie.close
-    (tie.spec
-    (λ c. search needs)
-    (λ c. search needs)
-    (λ c. search needs)
-    (λ c. sym (length-take-le _ _ (search needs)))
-    (λ c. search needs)
-    (λ c. sym (length-take-le _ _ (search needs)))
-    (λ c. search needs)
-    (λ c. search needs)
-    (λ c. search needs)
-    (λ c. search needs)
-    (λ c. search needs))
+    tie.close (tie.spec (λ c. search needs) (λ c. search needs) (λ c. search needs) (λ c. sym (length-take-le _ _ (search needs))) (λ c. search needs) (λ c. sym (length-take-le _ _ (search needs)))
+    (λ c. search needs) (λ c. search needs) (λ c. search needs) (λ c. search needs) (λ c. search needs))

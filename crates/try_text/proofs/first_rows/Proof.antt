@@ -21,16 +21,5 @@ third-ready c κs = rw (c .next-line2 .ensures, c .before .next-line .ensures, c
 
 pub first-rows-spec : {M : Type 1} → statement M
 first-rows-spec =
-    tie.close
-    (tie.spec
-    (λ c κs. search needs)
-    first-ready
-    second-ready
-    third-ready
-    (λ c κs. search needs)
-    (λ c. search needs)
-    (λ c κs. search needs)
-    (λ c. search needs)
-    (λ c κs. search needs)
-    (λ c. search needs)
-    (λ c. search needs))
+    tie.close (tie.spec (λ c κs. search needs) first-ready second-ready third-ready (λ c κs. search needs) (λ c. search needs) (λ c κs. search needs) (λ c. search needs) (λ c κs. search needs)
+    (λ c. search needs) (λ c. search needs))

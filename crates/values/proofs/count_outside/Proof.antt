@@ -41,18 +41,5 @@ returns c =
 
 pub count-outside-spec : {M : Type 1} → statement M
 count-outside-spec =
-    tie.close
-    (tie.spec
-    Inv-loop
-    μ-loop
-    (λ c. (omega arith, sym (count-none _)))
-    (λ c. omega arith)
-    (λ c. omega arith)
-    (λ c. omega arith)
-    (λ c κs. search needs)
-    (λ c. tt)
-    (λ c. omega (arith, more c, count-le (outside c) (l c .loop .k + 1)))
-    (λ c. omega arith)
-    (λ c. omega arith)
-    (λ c. (omega arith, more c))
-    returns)
+    tie.close (tie.spec Inv-loop μ-loop (λ c. (omega arith, sym (count-none _))) (λ c. omega arith) (λ c. omega arith) (λ c. omega arith) (λ c κs. search needs) (λ c. tt)
+    (λ c. omega (arith, more c, count-le (outside c) (l c .loop .k + 1))) (λ c. omega arith) (λ c. omega arith) (λ c. (omega arith, more c)) returns)

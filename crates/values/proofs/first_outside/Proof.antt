@@ -42,17 +42,5 @@ loop-again c =
 
 pub first-outside-spec : {M : Type 1} → statement M
 first-outside-spec =
-    tie.close
-    (tie.spec
-    Inv-loop
-    μ-loop
-    (λ c. (omega arith, record { inside = λ k l. absurd (omega arith) }))
-    (λ c. omega arith)
-    (λ c κs. search needs)
-    (λ c κs. search needs)
-    (λ c. search needs)
-    (λ c. omega arith)
-    (λ c. omega arith)
-    loop-again
-    (λ c κs. search needs)
-    (λ c. search needs))
+    tie.close (tie.spec Inv-loop μ-loop (λ c. (omega arith, record { inside = λ k l. absurd (omega arith) })) (λ c. omega arith) (λ c κs. search needs) (λ c κs. search needs) (λ c. search needs)
+    (λ c. omega arith) (λ c. omega arith) loop-again (λ c κs. search needs) (λ c. search needs))

@@ -41,13 +41,6 @@ returns c = let a = o c .args in plus-back (left-is c) (above c) (below c) (o c 
 
 pub next-window-spec : {M : Type 1} → statement M
 next-window-spec =
-    tie.close
-    (tie.spec
-    (λ c. search needs)
-    (λ c. search needs)
-    (λ c. search needs)
-    (λ c. search needs)
-    (λ c. search needs)
+    tie.close (tie.spec (λ c. search needs) (λ c. search needs) (λ c. search needs) (λ c. search needs) (λ c. search needs)
     (λ c. let a = o c .args in out-fits (a .w) (a .j) (o c .pre .1 .1 .0) (o c .pre .1 .0) (sum-is c) (a .j))
-    (λ c. plus-fits (left-is c) (above c) (below c) (o c .pre .1 .1 .0 .at (o c .args .j + o c .args .w)))
-    returns)
+    (λ c. plus-fits (left-is c) (above c) (below c) (o c .pre .1 .1 .0 .at (o c .args .j + o c .args .w))) returns)

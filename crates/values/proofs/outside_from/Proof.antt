@@ -43,16 +43,5 @@ returns-2 c = sym (ap placed (in-values (c .before .before .args .s .now) (λ k 
 
 pub outside-from-spec : {M : Type 1} → statement M
 outside-from-spec =
-    tie.close
-    (tie.spec
-    Inv-loop
-    μ-loop
-    (λ c. (omega arith, λ k l. c .pre .1 .inside k l))
-    (λ c. omega arith)
-    (λ c. omega arith)
-    (λ c κs. search needs)
-    returns
-    (λ c. omega arith)
-    (λ c. omega arith)
-    loop-again
-    returns-2)
+    tie.close (tie.spec Inv-loop μ-loop (λ c. (omega arith, λ k l. c .pre .1 .inside k l)) (λ c. omega arith) (λ c. omega arith) (λ c κs. search needs) returns (λ c. omega arith) (λ c. omega arith)
+    loop-again returns-2)

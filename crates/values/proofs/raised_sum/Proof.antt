@@ -34,17 +34,5 @@ returns c =
 
 pub raised-sum-spec : {M : Type 1} → statement M
 raised-sum-spec =
-    tie.close
-    (tie.spec
-    Inv-loop
-    μ-loop
-    (λ c. rw Σℕ-none (omega arith))
-    (λ c. omega arith)
-    (λ c. omega arith)
-    (λ c. omega arith)
-    (λ c κs. in-arg (c .before .before .before .pre .1 .1 .at _))
-    (λ c. omega (arith, small c))
-    (λ c. omega arith)
-    (λ c. omega arith)
-    (λ c. rw Σℕ-more (omega arith, omega (arith, small c), omega (arith, told c)))
-    returns)
+    tie.close (tie.spec Inv-loop μ-loop (λ c. rw Σℕ-none (omega arith)) (λ c. omega arith) (λ c. omega arith) (λ c. omega arith) (λ c κs. in-arg (c .before .before .before .pre .1 .1 .at _))
+    (λ c. omega (arith, small c)) (λ c. omega arith) (λ c. omega arith) (λ c. rw Σℕ-more (omega arith, omega (arith, small c), omega (arith, told c))) returns)

@@ -6,9 +6,6 @@ use Rattle.values.proofs.spread_of.Tie as tie
 
 pub spread-of-spec : {M : Type 1} → statement M
 spread-of-spec =
-    tie.close
-    (tie.spec
-    (λ c. let p = c .before .pre in let l = spread-small (p .1 .0) (p .1 .1) (p .0) in omega arith)
-    (λ c. let p = c .before .before .pre in let l = spread-small (p .1 .0) (p .1 .1) (p .0) in omega arith)
-    (λ c. let p = c .before .before .pre in omega (arith, spread-raised (p .1 .0) (p .1 .1)))
+    tie.close (tie.spec (λ c. let p = c .before .pre in let l = spread-small (p .1 .0) (p .1 .1) (p .0) in omega arith)
+    (λ c. let p = c .before .before .pre in let l = spread-small (p .1 .0) (p .1 .1) (p .0) in omega arith) (λ c. let p = c .before .before .pre in omega (arith, spread-raised (p .1 .0) (p .1 .1)))
     (λ c. let p = c .before .before .pre in omega (arith, spread-raised (p .1 .0) (p .1 .1))))

@@ -41,19 +41,6 @@ returns c =
 
 pub sums-at-spec : {M : Type 1} → statement M
 sums-at-spec =
-    tie.close
-    (tie.spec
-    Inv-loop
-    μ-loop
-    (λ c. rw (Σℕ-none, Σℕ-none) (omega arith))
-    (λ c. omega arith)
-    (λ c. omega arith)
-    (λ c. omega arith)
-    (λ c κs. in-arg (c .before .before .before .pre .1 .1 .at _))
-    (λ c. omega (arith, small c))
-    (λ c. omega (arith, square-small c))
-    (λ c. omega (arith, square-small c))
-    (λ c. omega arith)
-    (λ c. omega arith)
-    loop-again
-    returns)
+    tie.close (tie.spec Inv-loop μ-loop (λ c. rw (Σℕ-none, Σℕ-none) (omega arith)) (λ c. omega arith) (λ c. omega arith) (λ c. omega arith)
+    (λ c κs. in-arg (c .before .before .before .pre .1 .1 .at _)) (λ c. omega (arith, small c)) (λ c. omega (arith, square-small c)) (λ c. omega (arith, square-small c)) (λ c. omega arith)
+    (λ c. omega arith) loop-again returns)
