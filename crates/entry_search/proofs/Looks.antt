@@ -24,7 +24,6 @@ use Rattle.entry_search.proofs.Refused.{refused-kept}
 use Rattle.entry_search.specs.Finished.{FinishReady, Finished}
 use Rattle.candidate_find.specs.Sought.{SoughtKept}
 use Rattle.entry_search.proofs.SoughtLaws.{runs-lent}
-use Rattle.candidate_find.proofs.Looks.{counted, goes, n, x}
 
 -- ---- checking after it
 

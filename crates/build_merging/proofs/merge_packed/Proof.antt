@@ -6,7 +6,6 @@
 -- | ends: λ m sound packed. merged-so (rowsOf (now s) w e (now rows) n (now left) (now right) (asked .0) last.left last.right long.left long.right names m) (standing-ready (now s) w e (now rows) n (now left) (now right) (asked .0) last.left last.right long.left long.right names m sound packed)
 use Rattle.rows_records.proofs.Prelude.{refl, ℕ, _≤_, List, [], _∷_, ℤ, length, URA, fullShare, named, w64, Val, SProp, ent, emp, id⊢, Memory, Routine, Heap, WpFn, Tables, Atoms, Lfts, Shares, Fun, factI, givenOf, tables, Given, Item, ⋆, _$_, _∵_, !, qed, by, move, keep, whole, sub, agg, look, init, stop, from, and-then, no-more, land, returns, enter, alloc1, alloc0, params1, pass1, pass0, FmC, fmOf, Is, i32, u32, RefT, ptr, now, name, sliceVal, Room, slice-vals, shr-slice-tells, mut-slice-tells, Meets, tripleOf, entered, cited, needs, AtEntry, uint, nothing, Lent, value, kept, lends, shares, token, viewed, lent-at, holds, empty, tidy, frees-all, calls-with, leaves-with, meets-with, loc, part, start, put-at}
 use contract.Running.{tablesOf}
-use Rattle.build_merging.specs.Standing.{Standing}
 use Rattle.build_merging.proofs.Standing.{standing-unnamed, rowsOf, standing-ready, standing-mergeable}
 use Rattle.meaning_rows.specs.declared.Row.{Row}
 use Rattle.meaning_rows.proofs.Row as Rowᵀ
@@ -23,6 +22,7 @@ use Rattle.build_merging.proofs.merge_packed as f
 use Rattle.build_merging.proofs.merge_packed.Statement as stated
 use Rattle.build_merging.proofs.merge_packed.Code as code
 use Rattle.meaning_curves.specs.Limits.{greatestMerge}
+use Rattle.build_merging.specs.Standing.{Standing}
 
 module _ {M : Type 1} (𝓤 : URA M) (H : Heap 𝓤) (A : Atoms 𝓤) (W : Given 𝓤 H A) (mem : Memory → SProp 𝓤) (run : Routine → Fun 𝓤) (𝓣 : Tables 𝓤 H) (fm : FmC 𝓤 H (W .laws) (𝓣 .C)) (known-name-neighbours : Meets 𝓤 H A name-neighbours.signature (𝓣 .C #name-neighbours) (name-neighbours.spec 𝓤 H A mem run)) (known-merge-rows : Meets 𝓤 H A merge-rows.signature (𝓣 .C #merge-rows) (merge-rows.spec 𝓤 H A mem run)) where
   module _ (κs : Lfts 4) (qs : Shares 4) (s : RefT (List ℤ)) (w : ℕ) (e : ℕ) (g : ℕ) (rows : RefT (List Row)) (n : ℕ) (left : RefT (List ℕ)) (right : RefT (List ℕ))

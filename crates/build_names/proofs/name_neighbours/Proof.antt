@@ -24,12 +24,12 @@ use contract.Running.{tablesOf}
 use borrow.Author.Tests.{ltb-true, ltb-false}
 use Rattle.sums_slide.specs.Levels.{windowsOf}
 use Rattle.build_names.proofs.Turn.{Way, first-nameable, started, ended, place-in, asks-end, nearer-end, asks-name, asks-file, turned}
-use Rattle.sums_slide.specs.declared.Place.{Place}
-use Rattle.sums_slide.proofs.Place as Placeᵀ
-use Rattle.sums_slide.proofs.Place.Laws as Placeᴸ
 use Rattle.meaning_rows.specs.declared.Row.{Row}
 use Rattle.meaning_rows.proofs.Row as Rowᵀ
 use Rattle.meaning_rows.proofs.Row.Laws as Rowᴸ
+use Rattle.sums_slide.specs.declared.Window.{Window}
+use Rattle.sums_slide.proofs.Window as Windowᵀ
+use Rattle.sums_slide.proofs.Window.Laws as Windowᴸ
 use Rattle.sums_slide.proofs.first_place as first-place
 use Rattle.sums_slide.proofs.first_place.Symbol as first-place-def
 use Rattle.sums_slide.proofs.first_place.Symbol.{name as #first-place}
@@ -56,11 +56,11 @@ use Rattle.build_names.proofs.name_neighbours.Statement as stated
 use Rattle.build_names.proofs.name_neighbours.Code as code
 use Rattle.build_names.specs.Places.{Unnamed}
 
-abbrev Placeᴰ : {M : Type 1} (𝓤 : URA M) (H : Heap 𝓤) (A : Atoms 𝓤) → Given 𝓤 H A → Data 𝓤 H A
-Placeᴰ 𝓤 H A W = struct 𝓤 H A W Placeᵀ.the-type Placeᴸ.the-laws Placeᴸ.the-plain
-
 abbrev Rowᴰ : {M : Type 1} (𝓤 : URA M) (H : Heap 𝓤) (A : Atoms 𝓤) → Given 𝓤 H A → Data 𝓤 H A
 Rowᴰ 𝓤 H A W = struct 𝓤 H A W Rowᵀ.the-type Rowᴸ.the-laws Rowᴸ.the-plain
+
+abbrev Windowᴰ : {M : Type 1} (𝓤 : URA M) (H : Heap 𝓤) (A : Atoms 𝓤) → Given 𝓤 H A → Data 𝓤 H A
+Windowᴰ 𝓤 H A W = struct 𝓤 H A W Windowᵀ.the-type Windowᴸ.the-laws Windowᴸ.the-plain
 
 module _ {M : Type 1} (𝓤 : URA M) (H : Heap 𝓤) (A : Atoms 𝓤) (W : Given 𝓤 H A) (mem : Memory → SProp 𝓤) (run : Routine → Fun 𝓤) (𝓣 : Tables 𝓤 H) (fm : FmC 𝓤 H (W .laws) (𝓣 .C)) (known-first-place : Meets 𝓤 H A first-place.signature (𝓣 .C #first-place) (first-place.spec 𝓤 H A mem run)) (known-name-at : Meets 𝓤 H A name-at.signature (𝓣 .C #name-at) (name-at.spec 𝓤 H A mem run)) (known-row-at : Meets 𝓤 H A row-at.signature (𝓣 .C #row-at) (row-at.spec 𝓤 H A mem run)) (known-run-end : Meets 𝓤 H A run-end.signature (𝓣 .C #run-end) (run-end.spec 𝓤 H A mem run)) (known-file-entry : Meets 𝓤 H A file-entry.signature (𝓣 .C #file-entry) (file-entry.spec 𝓤 H A mem run)) where
   module _ (κs : Lfts 4) (qs : Shares 4) (s : RefT (List ℤ)) (w : ℕ) (e : ℕ) (rows : RefT (List Row)) (count : ℕ) (left : RefT (List ℕ)) (right : RefT (List ℕ))
@@ -105,17 +105,17 @@ module _ {M : Type 1} (𝓤 : URA M) (H : Heap 𝓤) (A : Atoms 𝓤) (W : Given
         put-at ! 24 (of-opd ! (part ! 10 refl (sub ! 1 refl (whole !)))) refl ((uint 𝓤 H A W w64) .lawful .typed (length (now s)) _ (refl, g-s .0) .0) $
         move ! (0 ∷ 1 ∷ []) $
         calls-with ! fm first-place.ended (first-place.clauses 𝓤 H A mem run) known-first-place (kept s° ∷ value (uint 𝓤 H A W w64) w g-w ∷ value (uint 𝓤 H A W w64) e g-e ∷ [])
-        (λ fs. (((κs .0, tt), (qs .0, tt), tt, (s, (w, (e, tt))), (slice-vals s, ((uint 𝓤 H A W w64) .val w ∷ [], ((uint 𝓤 H A W w64) .val e ∷ [], tt)))), tt)) (λ fs. refl) (λ fs. refl) (λ fs ls. ls) (λ fs ls. refl) (λ fs. factI 𝓤 _ (emp 𝓤) (asked .lent)) (λ fs r ls. id⊢ 𝓤 _) (λ fs. (Placeᴰ 𝓤 H A W) .val) (λ fs. (Placeᴰ 𝓤 H A W) .tells) (λ fs. (and-then ! (loc ! 10 refl) (and-then ! (loc ! 12 refl) (and-then ! (loc ! 14 refl) (no-more !))))) (λ fs p ls₁ is-p is₁ fits₁.
-        land ! (from ! (stop !)) (init ! 26 refl ((Placeᴰ 𝓤 H A W) .lawful .typed p _ is₁ .0)) $
+        (λ fs. (((κs .0, tt), (qs .0, tt), tt, (s, (w, (e, tt))), (slice-vals s, ((uint 𝓤 H A W w64) .val w ∷ [], ((uint 𝓤 H A W w64) .val e ∷ [], tt)))), tt)) (λ fs. refl) (λ fs. refl) (λ fs ls. ls) (λ fs ls. refl) (λ fs. factI 𝓤 _ (emp 𝓤) (asked .lent)) (λ fs r ls. id⊢ 𝓤 _) (λ fs. (Windowᴰ 𝓤 H A W) .val) (λ fs. (Windowᴰ 𝓤 H A W) .tells) (λ fs. (and-then ! (loc ! 10 refl) (and-then ! (loc ! 12 refl) (and-then ! (loc ! 14 refl) (no-more !))))) (λ fs p ls₁ is-p is₁ fits₁.
+        land ! (from ! (stop !)) (init ! 26 refl ((Windowᴰ 𝓤 H A W) .lawful .typed p _ is₁ .0)) $
         tidy ! (token 𝓤 H A s° ∷ viewed 𝓤 H A s° ∷ token 𝓤 H A rows° ∷ viewed 𝓤 H A rows° ∷ token 𝓤 H A left° ∷ lent-at 𝓤 H A left° (now left) ∷ token 𝓤 H A right° ∷ lent-at 𝓤 H A right° (now right) ∷ []) (empty ∷ holds _ ∷ holds _ ∷ holds _ ∷ holds _ ∷ holds _ ∷ holds _ ∷ holds _ ∷ holds _ ∷ holds _ ∷ empty ∷ empty ∷ empty ∷ empty ∷ empty ∷ empty ∷ empty ∷ empty ∷ empty ∷ empty ∷ empty ∷ empty ∷ []) refl $
         put-at ! 28 (of-opd ! (lit ! tt)) refl ((uint 𝓤 H A W w64) .lawful .typed 0 _ (refl, lit< tt) .0) $
         move ! (2 ∷ 3 ∷ []) $
-        calls-with ! fm name-at.ended (name-at.clauses 𝓤 H A mem run) known-name-at (kept rows° ∷ value (uint 𝓤 H A W w64) count g-count ∷ value (uint 𝓤 H A W w64) (length (now s)) (refl, g-s .0) ∷ value (uint 𝓤 H A W w64) w g-w ∷ value (uint 𝓤 H A W w64) e g-e ∷ value (Placeᴰ 𝓤 H A W) p is₁ ∷ [])
-        (λ fs. (((κs .1 .0, tt), (qs .1 .0, tt), tt, (rows, (count, ((length (now s)), (w, (e, (p, tt)))))), (slice-vals rows, ((uint 𝓤 H A W w64) .val count ∷ [], ((uint 𝓤 H A W w64) .val (length (now s)) ∷ [], ((uint 𝓤 H A W w64) .val w ∷ [], ((uint 𝓤 H A W w64) .val e ∷ [], ((Placeᴰ 𝓤 H A W) .val p ∷ [], tt))))))), tt)) (λ fs. refl) (λ fs. refl) (λ fs ls. ls) (λ fs ls. refl) (λ fs. factI 𝓤 _ (emp 𝓤) (first-nameable (now s) w e (now rows) count (now left) (now right) asked is-p)) (λ fs r ls. id⊢ 𝓤 _) (λ fs. (uint 𝓤 H A W w64) .val) (λ fs. (uint 𝓤 H A W w64) .tells) (λ fs. (and-then ! (loc ! 16 refl) (and-then ! (loc ! 18 refl) (and-then ! (loc ! 24 refl) (and-then ! (loc ! 12 refl) (and-then ! (loc ! 14 refl) (and-then ! (loc ! 26 refl) (no-more !)))))))) (λ fs first ls₂ is-first is₂ fits₂.
+        calls-with ! fm name-at.ended (name-at.clauses 𝓤 H A mem run) known-name-at (kept rows° ∷ value (uint 𝓤 H A W w64) count g-count ∷ value (uint 𝓤 H A W w64) (length (now s)) (refl, g-s .0) ∷ value (uint 𝓤 H A W w64) w g-w ∷ value (uint 𝓤 H A W w64) e g-e ∷ value (Windowᴰ 𝓤 H A W) p is₁ ∷ [])
+        (λ fs. (((κs .1 .0, tt), (qs .1 .0, tt), tt, (rows, (count, ((length (now s)), (w, (e, (p, tt)))))), (slice-vals rows, ((uint 𝓤 H A W w64) .val count ∷ [], ((uint 𝓤 H A W w64) .val (length (now s)) ∷ [], ((uint 𝓤 H A W w64) .val w ∷ [], ((uint 𝓤 H A W w64) .val e ∷ [], ((Windowᴰ 𝓤 H A W) .val p ∷ [], tt))))))), tt)) (λ fs. refl) (λ fs. refl) (λ fs ls. ls) (λ fs ls. refl) (λ fs. factI 𝓤 _ (emp 𝓤) (first-nameable (now s) w e (now rows) count (now left) (now right) asked is-p)) (λ fs r ls. id⊢ 𝓤 _) (λ fs. (uint 𝓤 H A W w64) .val) (λ fs. (uint 𝓤 H A W w64) .tells) (λ fs. (and-then ! (loc ! 16 refl) (and-then ! (loc ! 18 refl) (and-then ! (loc ! 24 refl) (and-then ! (loc ! 12 refl) (and-then ! (loc ! 14 refl) (and-then ! (loc ! 26 refl) (no-more !)))))))) (λ fs first ls₂ is-first is₂ fits₂.
         land ! (from ! (stop !)) (init ! 30 refl ((uint 𝓤 H A W w64) .lawful .typed first _ is₂ .0)) $
         tidy ! (token 𝓤 H A rows° ∷ viewed 𝓤 H A rows° ∷ token 𝓤 H A s° ∷ viewed 𝓤 H A s° ∷ token 𝓤 H A left° ∷ lent-at 𝓤 H A left° (now left) ∷ token 𝓤 H A right° ∷ lent-at 𝓤 H A right° (now right) ∷ []) (empty ∷ holds _ ∷ holds _ ∷ holds _ ∷ holds _ ∷ holds _ ∷ holds _ ∷ holds _ ∷ holds _ ∷ holds _ ∷ holds _ ∷ holds _ ∷ empty ∷ empty ∷ empty ∷ empty ∷ empty ∷ empty ∷ empty ∷ empty ∷ empty ∷ empty ∷ []) refl $
-        loops ! 𝓣 (λ (σ : Place × ℕ × ℕ × List ℕ × List ℕ). windowsOf (now s) w - (σ .0) .offset) (λ σ. (Way (now s) w e (now rows) count (now left) (now right) asked (σ .0) (σ .1) (σ .2) (σ .3) (σ .4)) × Is ((Placeᴰ 𝓤 H A W) .row) (σ .0) ((Placeᴰ 𝓤 H A W) .val (σ .0) ∷ []) × Is ((uint 𝓤 H A W w64) .row) (σ .1) ((uint 𝓤 H A W w64) .val (σ .1) ∷ []) × Is ((uint 𝓤 H A W w64) .row) (σ .2) ((uint 𝓤 H A W w64) .val (σ .2) ∷ []) × (length (σ .3) ≡ length (now left)) × (length (σ .4) ≡ length (now right)))
-        (λ σ. token 𝓤 H A rows° ∷ viewed 𝓤 H A rows° ∷ token 𝓤 H A s° ∷ viewed 𝓤 H A s° ∷ token 𝓤 H A left° ∷ lent-at 𝓤 H A left° (σ .3) ∷ token 𝓤 H A right° ∷ lent-at 𝓤 H A right° (σ .4) ∷ []) (λ σ. empty ∷ holds (sliceVal (s .ptr) (length (now s))) ∷ holds ((uint 𝓤 H A W w64) .val w) ∷ holds ((uint 𝓤 H A W w64) .val e) ∷ holds (sliceVal (rows .ptr) (length (now rows))) ∷ holds ((uint 𝓤 H A W w64) .val count) ∷ holds (sliceVal (left .ptr) (length (now left))) ∷ holds (sliceVal (right .ptr) (length (now right))) ∷ holds ((uint 𝓤 H A W w64) .val (length (now s))) ∷ holds ((Placeᴰ 𝓤 H A W) .val (σ .0)) ∷ holds ((uint 𝓤 H A W w64) .val (σ .1)) ∷ holds ((uint 𝓤 H A W w64) .val (σ .2)) ∷ empty ∷ empty ∷ empty ∷ empty ∷ empty ∷ empty ∷ empty ∷ empty ∷ empty ∷ empty ∷ []) (p, 0, first, (now left), (now right)) ((started (now s) w e (now rows) count (now left) (now right) asked is-p is-first), is₁, (refl, lit< tt), is₂, refl, refl) refl (λ σ keptᵗ Qᵗ onᵗ outᵗ.
+        loops ! 𝓣 (λ (σ : Window × ℕ × ℕ × List ℕ × List ℕ). windowsOf (now s) w - (σ .0) .offset) (λ σ. (Way (now s) w e (now rows) count (now left) (now right) asked (σ .0) (σ .1) (σ .2) (σ .3) (σ .4)) × Is ((Windowᴰ 𝓤 H A W) .row) (σ .0) ((Windowᴰ 𝓤 H A W) .val (σ .0) ∷ []) × Is ((uint 𝓤 H A W w64) .row) (σ .1) ((uint 𝓤 H A W w64) .val (σ .1) ∷ []) × Is ((uint 𝓤 H A W w64) .row) (σ .2) ((uint 𝓤 H A W w64) .val (σ .2) ∷ []) × (length (σ .3) ≡ length (now left)) × (length (σ .4) ≡ length (now right)))
+        (λ σ. token 𝓤 H A rows° ∷ viewed 𝓤 H A rows° ∷ token 𝓤 H A s° ∷ viewed 𝓤 H A s° ∷ token 𝓤 H A left° ∷ lent-at 𝓤 H A left° (σ .3) ∷ token 𝓤 H A right° ∷ lent-at 𝓤 H A right° (σ .4) ∷ []) (λ σ. empty ∷ holds (sliceVal (s .ptr) (length (now s))) ∷ holds ((uint 𝓤 H A W w64) .val w) ∷ holds ((uint 𝓤 H A W w64) .val e) ∷ holds (sliceVal (rows .ptr) (length (now rows))) ∷ holds ((uint 𝓤 H A W w64) .val count) ∷ holds (sliceVal (left .ptr) (length (now left))) ∷ holds (sliceVal (right .ptr) (length (now right))) ∷ holds ((uint 𝓤 H A W w64) .val (length (now s))) ∷ holds ((Windowᴰ 𝓤 H A W) .val (σ .0)) ∷ holds ((uint 𝓤 H A W w64) .val (σ .1)) ∷ holds ((uint 𝓤 H A W w64) .val (σ .2)) ∷ empty ∷ empty ∷ empty ∷ empty ∷ empty ∷ empty ∷ empty ∷ empty ∷ empty ∷ empty ∷ []) (p, 0, first, (now left), (now right)) ((started (now s) w e (now rows) count (now left) (now right) asked is-p is-first), is₁, (refl, lit< tt), is₂, refl, refl) refl (λ σ keptᵗ Qᵗ onᵗ outᵗ.
         put-at ! 38 (bin ! (lit ! tt) (loc ! 30 refl) tt) refl (tt, tt) $
         by-bool (ltb 0 (σ .2)) (λ some. rewrite ! 38 (λ (t : Bool). ‵ (fat fullShare tyBool l₁₅ 0 (vbool t))) some refl $ stays ! (loc ! 38 refl) $
         put-at ! 40 (bin ! (loc ! 30 refl) (lit ! tt) ((ltb-true 0 (σ .2) some))) refl ((uint 𝓤 H A W w64) .lawful .typed ((σ .2) - 1) _ (refl, sub-fits (σ .2) 1 ((keptᵗ .3) .1)) .0) $
@@ -125,13 +125,13 @@ module _ {M : Type 1} (𝓤 : URA M) (H : Heap 𝓤) (A : Atoms 𝓤) (W : Given
         land ! (from ! (stop !)) (init ! 32 refl ((Rowᴰ 𝓤 H A W) .lawful .typed r _ is₃ .0)) $
         tidy ! (token 𝓤 H A rows° ∷ viewed 𝓤 H A rows° ∷ token 𝓤 H A s° ∷ viewed 𝓤 H A s° ∷ token 𝓤 H A left° ∷ lent-at 𝓤 H A left° (σ .3) ∷ token 𝓤 H A right° ∷ lent-at 𝓤 H A right° (σ .4) ∷ []) (empty ∷ holds _ ∷ holds _ ∷ holds _ ∷ holds _ ∷ holds _ ∷ holds _ ∷ holds _ ∷ holds _ ∷ holds _ ∷ holds _ ∷ holds _ ∷ holds _ ∷ empty ∷ empty ∷ holds _ ∷ holds _ ∷ empty ∷ empty ∷ empty ∷ empty ∷ empty ∷ []) refl $
         move ! (2 ∷ 3 ∷ []) $
-        calls-with ! fm run-end.ended (run-end.clauses 𝓤 H A mem run) known-run-end (kept s° ∷ value (uint 𝓤 H A W w64) w g-w ∷ value (uint 𝓤 H A W w64) e g-e ∷ value (Placeᴰ 𝓤 H A W) (σ .0) (keptᵗ .1) ∷ value (Rowᴰ 𝓤 H A W) r is₃ ∷ [])
-        (λ fs. (((κs .0, tt), (qs .0, tt), tt, (s, (w, (e, ((σ .0), (r, tt))))), (slice-vals s, ((uint 𝓤 H A W w64) .val w ∷ [], ((uint 𝓤 H A W w64) .val e ∷ [], ((Placeᴰ 𝓤 H A W) .val (σ .0) ∷ [], ((Rowᴰ 𝓤 H A W) .val r ∷ [], tt)))))), tt)) (λ fs. refl) (λ fs. refl) (λ fs ls. ls) (λ fs ls. refl) (λ fs. factI 𝓤 _ (emp 𝓤) (asks-end (now s) w e (now rows) count (now left) (now right) asked (keptᵗ .0) (ltb-true 0 (σ .2) some) is-r)) (λ fs r ls. id⊢ 𝓤 _) (λ fs. (Placeᴰ 𝓤 H A W) .val) (λ fs. (Placeᴰ 𝓤 H A W) .tells) (λ fs. (and-then ! (loc ! 10 refl) (and-then ! (loc ! 12 refl) (and-then ! (loc ! 14 refl) (and-then ! (loc ! 26 refl) (and-then ! (loc ! 32 refl) (no-more !))))))) (λ fs t ls₄ halt is₄ fits₄.
-        land ! (from ! (stop !)) (init ! 34 refl ((Placeᴰ 𝓤 H A W) .lawful .typed t _ is₄ .0)) $
+        calls-with ! fm run-end.ended (run-end.clauses 𝓤 H A mem run) known-run-end (kept s° ∷ value (uint 𝓤 H A W w64) w g-w ∷ value (uint 𝓤 H A W w64) e g-e ∷ value (Windowᴰ 𝓤 H A W) (σ .0) (keptᵗ .1) ∷ value (Rowᴰ 𝓤 H A W) r is₃ ∷ [])
+        (λ fs. (((κs .0, tt), (qs .0, tt), tt, (s, (w, (e, ((σ .0), (r, tt))))), (slice-vals s, ((uint 𝓤 H A W w64) .val w ∷ [], ((uint 𝓤 H A W w64) .val e ∷ [], ((Windowᴰ 𝓤 H A W) .val (σ .0) ∷ [], ((Rowᴰ 𝓤 H A W) .val r ∷ [], tt)))))), tt)) (λ fs. refl) (λ fs. refl) (λ fs ls. ls) (λ fs ls. refl) (λ fs. factI 𝓤 _ (emp 𝓤) (asks-end (now s) w e (now rows) count (now left) (now right) asked (keptᵗ .0) (ltb-true 0 (σ .2) some) is-r)) (λ fs r ls. id⊢ 𝓤 _) (λ fs. (Windowᴰ 𝓤 H A W) .val) (λ fs. (Windowᴰ 𝓤 H A W) .tells) (λ fs. (and-then ! (loc ! 10 refl) (and-then ! (loc ! 12 refl) (and-then ! (loc ! 14 refl) (and-then ! (loc ! 26 refl) (and-then ! (loc ! 32 refl) (no-more !))))))) (λ fs t ls₄ halt is₄ fits₄.
+        land ! (from ! (stop !)) (init ! 34 refl ((Windowᴰ 𝓤 H A W) .lawful .typed t _ is₄ .0)) $
         tidy ! (token 𝓤 H A s° ∷ viewed 𝓤 H A s° ∷ token 𝓤 H A rows° ∷ viewed 𝓤 H A rows° ∷ token 𝓤 H A left° ∷ lent-at 𝓤 H A left° (σ .3) ∷ token 𝓤 H A right° ∷ lent-at 𝓤 H A right° (σ .4) ∷ []) (empty ∷ holds _ ∷ holds _ ∷ holds _ ∷ holds _ ∷ holds _ ∷ holds _ ∷ holds _ ∷ holds _ ∷ holds _ ∷ holds _ ∷ holds _ ∷ holds _ ∷ holds _ ∷ empty ∷ holds _ ∷ holds _ ∷ empty ∷ empty ∷ empty ∷ empty ∷ empty ∷ []) refl $
         move ! (2 ∷ 3 ∷ []) $
-        calls-with ! fm name-at.ended (name-at.clauses 𝓤 H A mem run) known-name-at (kept rows° ∷ value (uint 𝓤 H A W w64) count g-count ∷ value (uint 𝓤 H A W w64) (length (now s)) (refl, g-s .0) ∷ value (uint 𝓤 H A W w64) w g-w ∷ value (uint 𝓤 H A W w64) e g-e ∷ value (Placeᴰ 𝓤 H A W) t is₄ ∷ [])
-        (λ fs. (((κs .1 .0, tt), (qs .1 .0, tt), tt, (rows, (count, ((length (now s)), (w, (e, (t, tt)))))), (slice-vals rows, ((uint 𝓤 H A W w64) .val count ∷ [], ((uint 𝓤 H A W w64) .val (length (now s)) ∷ [], ((uint 𝓤 H A W w64) .val w ∷ [], ((uint 𝓤 H A W w64) .val e ∷ [], ((Placeᴰ 𝓤 H A W) .val t ∷ [], tt))))))), tt)) (λ fs. refl) (λ fs. refl) (λ fs ls. ls) (λ fs ls. refl) (λ fs. factI 𝓤 _ (emp 𝓤) (asks-name (now s) w e (now rows) count (now left) (now right) asked (keptᵗ .0) (ltb-true 0 (σ .2) some) is-r halt)) (λ fs r ls. id⊢ 𝓤 _) (λ fs. (uint 𝓤 H A W w64) .val) (λ fs. (uint 𝓤 H A W w64) .tells) (λ fs. (and-then ! (loc ! 16 refl) (and-then ! (loc ! 18 refl) (and-then ! (loc ! 24 refl) (and-then ! (loc ! 12 refl) (and-then ! (loc ! 14 refl) (and-then ! (loc ! 34 refl) (no-more !)))))))) (λ fs v ls₅ is-v is₅ fits₅.
+        calls-with ! fm name-at.ended (name-at.clauses 𝓤 H A mem run) known-name-at (kept rows° ∷ value (uint 𝓤 H A W w64) count g-count ∷ value (uint 𝓤 H A W w64) (length (now s)) (refl, g-s .0) ∷ value (uint 𝓤 H A W w64) w g-w ∷ value (uint 𝓤 H A W w64) e g-e ∷ value (Windowᴰ 𝓤 H A W) t is₄ ∷ [])
+        (λ fs. (((κs .1 .0, tt), (qs .1 .0, tt), tt, (rows, (count, ((length (now s)), (w, (e, (t, tt)))))), (slice-vals rows, ((uint 𝓤 H A W w64) .val count ∷ [], ((uint 𝓤 H A W w64) .val (length (now s)) ∷ [], ((uint 𝓤 H A W w64) .val w ∷ [], ((uint 𝓤 H A W w64) .val e ∷ [], ((Windowᴰ 𝓤 H A W) .val t ∷ [], tt))))))), tt)) (λ fs. refl) (λ fs. refl) (λ fs ls. ls) (λ fs ls. refl) (λ fs. factI 𝓤 _ (emp 𝓤) (asks-name (now s) w e (now rows) count (now left) (now right) asked (keptᵗ .0) (ltb-true 0 (σ .2) some) is-r halt)) (λ fs r ls. id⊢ 𝓤 _) (λ fs. (uint 𝓤 H A W w64) .val) (λ fs. (uint 𝓤 H A W w64) .tells) (λ fs. (and-then ! (loc ! 16 refl) (and-then ! (loc ! 18 refl) (and-then ! (loc ! 24 refl) (and-then ! (loc ! 12 refl) (and-then ! (loc ! 14 refl) (and-then ! (loc ! 34 refl) (no-more !)))))))) (λ fs v ls₅ is-v is₅ fits₅.
         land ! (from ! (stop !)) (init ! 36 refl ((uint 𝓤 H A W w64) .lawful .typed v _ is₅ .0)) $
         tidy ! (token 𝓤 H A rows° ∷ viewed 𝓤 H A rows° ∷ token 𝓤 H A s° ∷ viewed 𝓤 H A s° ∷ token 𝓤 H A left° ∷ lent-at 𝓤 H A left° (σ .3) ∷ token 𝓤 H A right° ∷ lent-at 𝓤 H A right° (σ .4) ∷ []) (empty ∷ holds _ ∷ holds _ ∷ holds _ ∷ holds _ ∷ holds _ ∷ holds _ ∷ holds _ ∷ holds _ ∷ holds _ ∷ holds _ ∷ holds _ ∷ holds _ ∷ holds _ ∷ holds _ ∷ holds _ ∷ holds _ ∷ empty ∷ empty ∷ empty ∷ empty ∷ empty ∷ []) refl $
         put-at ! 44 (start ! 20 refl (sub ! 0 refl (whole !))) refl (tt, tt) $
@@ -145,7 +145,7 @@ module _ {M : Type 1} (𝓤 : URA M) (H : Heap 𝓤) (A : Atoms 𝓤) (W : Given
         tidy ! (token 𝓤 H A left° ∷ lent-at 𝓤 H A left° (ls₆ .1 .1 .1 .0) ∷ token 𝓤 H A right° ∷ lent-at 𝓤 H A right° (ls₆ .1 .1 .1 .1 .0) ∷ token 𝓤 H A rows° ∷ viewed 𝓤 H A rows° ∷ token 𝓤 H A s° ∷ viewed 𝓤 H A s° ∷ []) (empty ∷ holds _ ∷ holds _ ∷ holds _ ∷ holds _ ∷ holds _ ∷ holds _ ∷ holds _ ∷ holds _ ∷ holds _ ∷ holds _ ∷ holds _ ∷ holds _ ∷ holds _ ∷ holds _ ∷ holds _ ∷ holds _ ∷ holds _ ∷ holds _ ∷ holds _ ∷ holds _ ∷ holds _ ∷ []) refl $
         assigns ! (of-opd ! (loc ! 30 refl)) (from ! (stop !)) (store ! 28 refl ((uint 𝓤 H A W w64) .lawful .typed (σ .2) _ (keptᵗ .3) .0)) $
         assigns ! (of-opd ! (loc ! 36 refl)) (from ! (stop !)) (store ! 30 refl ((uint 𝓤 H A W w64) .lawful .typed v _ is₅ .0)) $
-        assigns-last ! (of-opd ! (loc ! 34 refl)) (from ! (stop !)) (store ! 26 refl ((Placeᴰ 𝓤 H A W) .lawful .typed t _ is₄ .0)) $
+        assigns-last ! (of-opd ! (loc ! 34 refl)) (from ! (stop !)) (store ! 26 refl ((Windowᴰ 𝓤 H A W) .lawful .typed t _ is₄ .0)) $
         forget ! 38 refl $
         forget ! 40 refl $
         forget ! 32 refl $

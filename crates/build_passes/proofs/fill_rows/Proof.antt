@@ -19,7 +19,6 @@ use Rattle.meaning_rows.proofs.Build.{mergedRows}
 use Rattle.sums_slide.specs.Levels.{windowsOf}
 use Rattle.build_passes.proofs.Rowed.{tests}
 use Rattle.build_fill.proofs.Turn.{first-at}
-use Rattle.build_passes.specs.Filled.{Fillable}
 use Rattle.build_passes.proofs.Filled.{starts, finished}
 use Rattle.sums_slide.specs.declared.Window.{Window}
 use Rattle.sums_slide.proofs.Window as Windowᵀ
@@ -46,6 +45,7 @@ use Rattle.build_passes.proofs.fill_rows.Key.{name as #self}
 use Rattle.build_passes.proofs.fill_rows as f
 use Rattle.build_passes.proofs.fill_rows.Statement as stated
 use Rattle.build_passes.proofs.fill_rows.Code as code
+use Rattle.build_passes.specs.Filled.{Fillable}
 
 abbrev Windowᴰ : {M : Type 1} (𝓤 : URA M) (H : Heap 𝓤) (A : Atoms 𝓤) → Given 𝓤 H A → Data 𝓤 H A
 Windowᴰ 𝓤 H A W = struct 𝓤 H A W Windowᵀ.the-type Windowᴸ.the-laws Windowᴸ.the-plain

@@ -1,4 +1,4 @@
--- Written by tools/walk from the plan in the lines marked |. Change those, and run `tools/walk entry_search find_candidates`.
+-- Written by tools/walk from the plan in the lines marked |. Change those, and run `tools/walk candidate_find find_candidates`.
 -- A plan that refuses leaves the buffers as they were; else the candidates are gathered.
 -- | use Rattle.candidate_find.proofs.Looks.{halts, goes}
 -- | let HERE = (now series) head (now rows) (now left) (now right) ask (now query) (now first) (now last) (now scratch)

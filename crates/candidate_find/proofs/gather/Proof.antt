@@ -1,4 +1,4 @@
--- Written by tools/walk from the plan in the lines marked |. Change those, and run `tools/walk entry_search gather`.
+-- Written by tools/walk from the plan in the lines marked |. Change those, and run `tools/walk candidate_find gather`.
 -- The ranges of the parts are put into the candidate buffer, each is replaced by the stretch of runs that it meets, and the candidates are handed out.
 -- | use Rattle.candidate_find.proofs.Looks.{put-asked, meet-asked, hand-asked, gathered}
 -- | let CALL = (now series) head (now rows) (now left) (now right) ask (now query)
@@ -37,8 +37,8 @@ use Rattle.candidate_find.proofs.gather.Key.{name as #self}
 use Rattle.candidate_find.proofs.gather as f
 use Rattle.candidate_find.proofs.gather.Statement as stated
 use Rattle.candidate_find.proofs.gather.Code as code
-use Rattle.candidate_plan.specs.Allowed.{thePlan}
 use Rattle.meaning_entries.specs.Search.{searchBuffers}
+use Rattle.candidate_plan.specs.Allowed.{thePlan}
 
 abbrev Askᴰ : {M : Type 1} (𝓤 : URA M) (H : Heap 𝓤) (A : Atoms 𝓤) → Given 𝓤 H A → Data 𝓤 H A
 Askᴰ 𝓤 H A W = struct 𝓤 H A W Askᵀ.the-type Askᴸ.the-laws Askᴸ.the-plain

@@ -17,7 +17,6 @@
 use Rattle.rows_records.proofs.Prelude.{_≡_, refl, Bool, ℕ, _+_, _-_, List, [], _∷_, ltb, lit<, length, URA, fullShare, named, w64, tyBool, Val, vbool, SProp, ent, emp, id⊢, fat, Memory, Routine, Heap, WpFn, Tables, Atoms, Lfts, Shares, Fun, factI, givenOf, tables, Given, Item, ‵, ⋆, _$_, _∵_, !, qed, by, move, keep, rewrite, whole, sub, agg, look, init, store, stop, assigns-last, from, lit, unit-lit, bin, of-opd, and-then, no-more, land, returns, stays, leaves-loop, forget, enter, alloc1, alloc0, params1, pass1, pass0, FmC, fmOf, Is, u32, RefT, ptr, now, name, sliceVal, Room, slice-vals, shr-slice-tells, mut-slice-tells, Meets, tripleOf, entered, cited, needs, AtEntry, by-bool, Data, uint, nothing, struct, Lent, value, kept, lends, shares, token, viewed, lent-at, holds, empty, tidy, frees-all, calls-with, leaves-with, meets-with, loc, part, start, put-at, loops, next-fits, nearer, upto-end}
 use contract.Running.{tablesOf}
 use borrow.Author.Tests.{ltb-true, ltb-false}
-use Rattle.candidate_spans.specs.Met.{MeetReady}
 use Rattle.candidate_spans.proofs.MetLaws.{Meeting, meeting-starts, meeting-ends, meeting-asks, meeting-stores, meeting-next}
 use Rattle.candidate_ranges.specs.declared.Range.{Range}
 use Rattle.candidate_ranges.proofs.Range as Rangeᵀ
@@ -27,10 +26,10 @@ use Rattle.candidate_met.proofs.Span as Spanᵀ
 use Rattle.candidate_met.proofs.Span.Laws as Spanᴸ
 use Rattle.meaning_rows.specs.declared.Row.{Row}
 use Rattle.meaning_rows.proofs.Row as Rowᵀ
-use Rattle.candidate_spans.proofs.range_at as range-at
-use Rattle.candidate_spans.proofs.range_at.Symbol as range-at-def
-use Rattle.candidate_spans.proofs.range_at.Symbol.{name as #range-at}
-use Rattle.candidate_spans.proofs.range_at.Met as range-at-thm
+use Rattle.candidate_met.proofs.range_at as range-at
+use Rattle.candidate_met.proofs.range_at.Symbol as range-at-def
+use Rattle.candidate_met.proofs.range_at.Symbol.{name as #range-at}
+use Rattle.candidate_met.proofs.range_at.Met as range-at-thm
 use Rattle.candidate_met.proofs.met_span as met-span
 use Rattle.candidate_met.proofs.met_span.Symbol as met-span-def
 use Rattle.candidate_met.proofs.met_span.Symbol.{name as #met-span}
@@ -43,6 +42,7 @@ use Rattle.candidate_spans.proofs.meet_parts.Key.{name as #self}
 use Rattle.candidate_spans.proofs.meet_parts as f
 use Rattle.candidate_spans.proofs.meet_parts.Statement as stated
 use Rattle.candidate_spans.proofs.meet_parts.Code as code
+use Rattle.candidate_spans.specs.Met.{MeetReady}
 
 abbrev Rangeᴰ : {M : Type 1} (𝓤 : URA M) (H : Heap 𝓤) (A : Atoms 𝓤) → Given 𝓤 H A → Data 𝓤 H A
 Rangeᴰ 𝓤 H A W = struct 𝓤 H A W Rangeᵀ.the-type Rangeᴸ.the-laws Rangeᴸ.the-plain
@@ -145,6 +145,6 @@ meet-parts-spec 𝓤 H 𝓜 𝓖 𝓡 =
     entered 𝓤 H (tripleOf 𝓤 H (𝓖 .A) f.signature (f.spec 𝓤 H (𝓖 .A) (𝓜 .mem) (𝓡 .run)))
     (tables 𝓤 H 𝓜 𝓡 code.env .C) (tables 𝓤 H 𝓜 𝓡 code.env .Λ) #self code.function (code.unfolded 𝓤 H 𝓜 𝓡)
     (meets 𝓤 H (𝓖 .A) (givenOf 𝓤 H 𝓜 𝓖) (𝓜 .mem) (𝓡 .run) (tablesOf 𝓤 H 𝓜 (tables 𝓤 H 𝓜 𝓡 code.env)) (fmOf 𝓤 H (givenOf 𝓤 H 𝓜 𝓖 .laws) (tablesOf 𝓤 H 𝓜 (tables 𝓤 H 𝓜 𝓡 code.env)))
-    (cited 𝓤 H (tripleOf 𝓤 H (𝓖 .A) range-at.signature (range-at.spec 𝓤 H (𝓖 .A) (𝓜 .mem) (𝓡 .run))) 𝓜 𝓡 code.env #range-at range-at-def.routine code.calls-candidate-spans·range-at (range-at-thm.met 𝓤 H 𝓜 𝓖 𝓡))
+    (cited 𝓤 H (tripleOf 𝓤 H (𝓖 .A) range-at.signature (range-at.spec 𝓤 H (𝓖 .A) (𝓜 .mem) (𝓡 .run))) 𝓜 𝓡 code.env #range-at range-at-def.routine code.calls-candidate-met·range-at (range-at-thm.met 𝓤 H 𝓜 𝓖 𝓡))
     (cited 𝓤 H (tripleOf 𝓤 H (𝓖 .A) met-span.signature (met-span.spec 𝓤 H (𝓖 .A) (𝓜 .mem) (𝓡 .run))) 𝓜 𝓡 code.env #met-span met-span-def.routine code.calls-candidate-met·met-span (met-span-thm.met 𝓤 H 𝓜 𝓖 𝓡))
     (cited 𝓤 H (tripleOf 𝓤 H (𝓖 .A) put-span.signature (put-span.spec 𝓤 H (𝓖 .A) (𝓜 .mem) (𝓡 .run))) 𝓜 𝓡 code.env #put-span put-span-def.routine code.calls-candidate-spans·put-span (put-span-thm.met 𝓤 H 𝓜 𝓖 𝓡)))

@@ -29,6 +29,9 @@ use contract.Running.{tablesOf}
 use borrow.Author.Tests.{ltb-true, ltb-false}
 use Rattle.entry_audit.specs.Plan.{planOf}
 use Rattle.entry_audit.proofs.Going.{Auditing, auditing-starts, auditing-ready, auditing-next, auditing-stops, auditing-ends, answers, chunk-fits, chunk-nearer}
+use Rattle.entry_audit.specs.declared.AuditPlan.{AuditPlan}
+use Rattle.entry_audit.proofs.AuditPlan as AuditPlanᵀ
+use Rattle.entry_audit.proofs.AuditPlan.Laws as AuditPlanᴸ
 use Rattle.meaning_entries.specs.declared.Audited.{Audited}
 use Rattle.meaning_entries.proofs.Audited as Auditedᵀ
 use Rattle.meaning_entries.proofs.Audited.Laws as Auditedᴸ
@@ -38,15 +41,12 @@ use Rattle.meaning_rows.proofs.Head.Laws as Headᴸ
 use Rattle.rows_judge.specs.declared.Judged.{Judged}
 use Rattle.rows_judge.proofs.Judged as Judgedᵀ
 use Rattle.rows_judge.proofs.Judged.Laws as Judgedᴸ
-use Rattle.entry_audit.specs.declared.Plan.{Plan}
-use Rattle.entry_audit.proofs.Plan as Planᵀ
-use Rattle.entry_audit.proofs.Plan.Laws as Planᴸ
 use Rattle.meaning_rows.specs.declared.Row.{Row}
 use Rattle.meaning_rows.proofs.Row as Rowᵀ
 use Rattle.meaning_rows.proofs.Row.Laws as Rowᴸ
-use Rattle.entry_audit.specs.declared.State.{State}
-use Rattle.entry_audit.proofs.State as Stateᵀ
-use Rattle.entry_audit.proofs.State.Laws as Stateᴸ
+use Rattle.entry_audit.specs.declared.RowsAudited.{RowsAudited}
+use Rattle.entry_audit.proofs.RowsAudited as RowsAuditedᵀ
+use Rattle.entry_audit.proofs.RowsAudited.Laws as RowsAuditedᴸ
 use Rattle.rows_judge.proofs.judge as judge
 use Rattle.rows_judge.proofs.judge.Symbol as judge-def
 use Rattle.rows_judge.proofs.judge.Symbol.{name as #judge}
@@ -76,6 +76,9 @@ use Rattle.entry_audit.proofs.audit as f
 use Rattle.entry_audit.proofs.audit.Statement as stated
 use Rattle.entry_audit.proofs.audit.Code as code
 
+abbrev AuditPlanᴰ : {M : Type 1} (𝓤 : URA M) (H : Heap 𝓤) (A : Atoms 𝓤) → Given 𝓤 H A → Data 𝓤 H A
+AuditPlanᴰ 𝓤 H A W = struct 𝓤 H A W AuditPlanᵀ.the-type AuditPlanᴸ.the-laws AuditPlanᴸ.the-plain
+
 abbrev Auditedᴰ : {M : Type 1} (𝓤 : URA M) (H : Heap 𝓤) (A : Atoms 𝓤) → Given 𝓤 H A → Data 𝓤 H A
 Auditedᴰ 𝓤 H A W = enum 𝓤 H A W Auditedᵀ.the-type Auditedᴸ.the-laws tt Auditedᴸ.the-plain
 
@@ -85,14 +88,14 @@ Headᴰ 𝓤 H A W = struct 𝓤 H A W Headᵀ.the-type Headᴸ.the-laws Headᴸ
 abbrev Judgedᴰ : {M : Type 1} (𝓤 : URA M) (H : Heap 𝓤) (A : Atoms 𝓤) → Given 𝓤 H A → Data 𝓤 H A
 Judgedᴰ 𝓤 H A W = enum 𝓤 H A W Judgedᵀ.the-type Judgedᴸ.the-laws tt Judgedᴸ.the-plain
 
-abbrev Planᴰ : {M : Type 1} (𝓤 : URA M) (H : Heap 𝓤) (A : Atoms 𝓤) → Given 𝓤 H A → Data 𝓤 H A
-Planᴰ 𝓤 H A W = struct 𝓤 H A W Planᵀ.the-type Planᴸ.the-laws Planᴸ.the-plain
-
 abbrev Rowᴰ : {M : Type 1} (𝓤 : URA M) (H : Heap 𝓤) (A : Atoms 𝓤) → Given 𝓤 H A → Data 𝓤 H A
 Rowᴰ 𝓤 H A W = struct 𝓤 H A W Rowᵀ.the-type Rowᴸ.the-laws Rowᴸ.the-plain
 
-abbrev Stateᴰ : {M : Type 1} (𝓤 : URA M) (H : Heap 𝓤) (A : Atoms 𝓤) → Given 𝓤 H A → Data 𝓤 H A
-Stateᴰ 𝓤 H A W = struct 𝓤 H A W Stateᵀ.the-type Stateᴸ.the-laws Stateᴸ.the-plain
+abbrev Row64ᴰ : {M : Type 1} (𝓤 : URA M) (H : Heap 𝓤) (A : Atoms 𝓤) → Given 𝓤 H A → Data 𝓤 H A
+Row64ᴰ 𝓤 H A W = array 𝓤 H A W (Rowᴰ 𝓤 H A W) 64
+
+abbrev RowsAuditedᴰ : {M : Type 1} (𝓤 : URA M) (H : Heap 𝓤) (A : Atoms 𝓤) → Given 𝓤 H A → Data 𝓤 H A
+RowsAuditedᴰ 𝓤 H A W = struct 𝓤 H A W RowsAuditedᵀ.the-type RowsAuditedᴸ.the-laws RowsAuditedᴸ.the-plain
 
 module _ {M : Type 1} (𝓤 : URA M) (H : Heap 𝓤) (A : Atoms 𝓤) (W : Given 𝓤 H A) (mem : Memory → SProp 𝓤) (run : Routine → Fun 𝓤) (𝓣 : Tables 𝓤 H) (fm : FmC 𝓤 H (W .laws) (𝓣 .C)) (known-judge : Meets 𝓤 H A judge.signature (𝓣 .C #judge) (judge.spec 𝓤 H A mem run)) (known-make-plan : Meets 𝓤 H A make-plan.signature (𝓣 .C #make-plan) (make-plan.spec 𝓤 H A mem run)) (known-begin : Meets 𝓤 H A begin.signature (𝓣 .C #begin) (begin.spec 𝓤 H A mem run)) (known-chunk-at : Meets 𝓤 H A chunk-at.signature (𝓣 .C #chunk-at) (chunk-at.spec 𝓤 H A mem run)) (known-audit-chunk : Meets 𝓤 H A audit-chunk.signature (𝓣 .C #audit-chunk) (audit-chunk.spec 𝓤 H A mem run)) (known-answer : Meets 𝓤 H A answer.signature (𝓣 .C #answer) (answer.spec 𝓤 H A mem run)) where
   module _ (κs : Lfts 4) (qs : Shares 4) (series : RefT (List ℤ)) (head : Head) (rows : RefT (List Row)) (left : RefT (List ℕ)) (right : RefT (List ℕ))
@@ -139,33 +142,33 @@ module _ {M : Type 1} (𝓤 : URA M) (H : Heap 𝓤) (A : Atoms 𝓤) (W : Given
         tidy ! (token 𝓤 H A rows° ∷ viewed 𝓤 H A rows° ∷ token 𝓤 H A left° ∷ viewed 𝓤 H A left° ∷ token 𝓤 H A right° ∷ viewed 𝓤 H A right° ∷ token 𝓤 H A series° ∷ viewed 𝓤 H A series° ∷ []) (empty ∷ holds _ ∷ holds _ ∷ holds _ ∷ holds _ ∷ holds _ ∷ holds _ ∷ empty ∷ empty ∷ empty ∷ empty ∷ empty ∷ empty ∷ []) refl $
         move ! (6 ∷ 7 ∷ []) $
         calls-with ! fm make-plan.ended (make-plan.clauses 𝓤 H A mem run) known-make-plan (kept series° ∷ value (Headᴰ 𝓤 H A W) head g-head ∷ value (Judgedᴰ 𝓤 H A W) j is₁ ∷ [])
-        (λ fs. (((κs .0, tt), (qs .0, tt), tt, (series, (head, (j, tt))), (slice-vals series, ((Headᴰ 𝓤 H A W) .val head ∷ [], ((Judgedᴰ 𝓤 H A W) .val j ∷ [], tt)))), tt)) (λ fs. refl) (λ fs. refl) (λ fs ls. ls) (λ fs ls. refl) (λ fs. id⊢ 𝓤 _) (λ fs r ls. id⊢ 𝓤 _) (λ fs. (Planᴰ 𝓤 H A W) .val) (λ fs. (Planᴰ 𝓤 H A W) .tells) (λ fs. (and-then ! (loc ! 10 refl) (and-then ! (loc ! 12 refl) (and-then ! (loc ! 20 refl) (no-more !))))) (λ fs p ls₂ is-p is₂ fits₂.
-        land ! (from ! (stop !)) (init ! 22 refl ((Planᴰ 𝓤 H A W) .lawful .typed p _ is₂ .0)) $
+        (λ fs. (((κs .0, tt), (qs .0, tt), tt, (series, (head, (j, tt))), (slice-vals series, ((Headᴰ 𝓤 H A W) .val head ∷ [], ((Judgedᴰ 𝓤 H A W) .val j ∷ [], tt)))), tt)) (λ fs. refl) (λ fs. refl) (λ fs ls. ls) (λ fs ls. refl) (λ fs. id⊢ 𝓤 _) (λ fs r ls. id⊢ 𝓤 _) (λ fs. (AuditPlanᴰ 𝓤 H A W) .val) (λ fs. (AuditPlanᴰ 𝓤 H A W) .tells) (λ fs. (and-then ! (loc ! 10 refl) (and-then ! (loc ! 12 refl) (and-then ! (loc ! 20 refl) (no-more !))))) (λ fs p ls₂ is-p is₂ fits₂.
+        land ! (from ! (stop !)) (init ! 22 refl ((AuditPlanᴰ 𝓤 H A W) .lawful .typed p _ is₂ .0)) $
         tidy ! (token 𝓤 H A series° ∷ viewed 𝓤 H A series° ∷ token 𝓤 H A rows° ∷ viewed 𝓤 H A rows° ∷ token 𝓤 H A left° ∷ viewed 𝓤 H A left° ∷ token 𝓤 H A right° ∷ viewed 𝓤 H A right° ∷ []) (empty ∷ holds _ ∷ holds _ ∷ holds _ ∷ holds _ ∷ holds _ ∷ holds _ ∷ holds _ ∷ empty ∷ empty ∷ empty ∷ empty ∷ empty ∷ []) refl $
-        calls-with ! fm begin.ended (begin.clauses 𝓤 H A mem run) known-begin (value (Planᴰ 𝓤 H A W) p is₂ ∷ [])
-        (λ fs. ((tt, tt, tt, (p, tt), ((Planᴰ 𝓤 H A W) .val p ∷ [], tt)), tt)) (λ fs. refl) (λ fs. refl) (λ fs ls. ls) (λ fs ls. refl) (λ fs. id⊢ 𝓤 _) (λ fs r ls. id⊢ 𝓤 _) (λ fs. (Stateᴰ 𝓤 H A W) .val) (λ fs. (Stateᴰ 𝓤 H A W) .tells) (λ fs. (and-then ! (loc ! 24 refl) (no-more !))) (λ fs begun ls₃ is is₃ fits₃.
-        land ! (from ! (stop !)) (init ! 24 refl ((Stateᴰ 𝓤 H A W) .lawful .typed begun _ is₃ .0)) $
+        calls-with ! fm begin.ended (begin.clauses 𝓤 H A mem run) known-begin (value (AuditPlanᴰ 𝓤 H A W) p is₂ ∷ [])
+        (λ fs. ((tt, tt, tt, (p, tt), ((AuditPlanᴰ 𝓤 H A W) .val p ∷ [], tt)), tt)) (λ fs. refl) (λ fs. refl) (λ fs ls. ls) (λ fs ls. refl) (λ fs. id⊢ 𝓤 _) (λ fs r ls. id⊢ 𝓤 _) (λ fs. (RowsAuditedᴰ 𝓤 H A W) .val) (λ fs. (RowsAuditedᴰ 𝓤 H A W) .tells) (λ fs. (and-then ! (loc ! 24 refl) (no-more !))) (λ fs begun ls₃ is is₃ fits₃.
+        land ! (from ! (stop !)) (init ! 24 refl ((RowsAuditedᴰ 𝓤 H A W) .lawful .typed begun _ is₃ .0)) $
         tidy ! (token 𝓤 H A series° ∷ viewed 𝓤 H A series° ∷ token 𝓤 H A rows° ∷ viewed 𝓤 H A rows° ∷ token 𝓤 H A left° ∷ viewed 𝓤 H A left° ∷ token 𝓤 H A right° ∷ viewed 𝓤 H A right° ∷ []) (empty ∷ holds _ ∷ holds _ ∷ holds _ ∷ holds _ ∷ holds _ ∷ holds _ ∷ holds _ ∷ holds _ ∷ empty ∷ empty ∷ empty ∷ empty ∷ []) refl $
         put-at ! 26 (of-opd ! (lit ! tt)) refl ((uint 𝓤 H A W w64) .lawful .typed 0 _ (refl, lit< tt) .0) $
-        loops ! 𝓣 (λ (σ : State × ℕ). length (now rows) + 64 - (σ .1)) (λ σ. (Auditing (now series) head (now rows) (now left) (now right) (σ .0) (σ .1)) × Is ((Stateᴰ 𝓤 H A W) .row) (σ .0) ((Stateᴰ 𝓤 H A W) .val (σ .0) ∷ []) × Is ((uint 𝓤 H A W w64) .row) (σ .1) ((uint 𝓤 H A W w64) .val (σ .1) ∷ []))
-        (λ σ. token 𝓤 H A series° ∷ viewed 𝓤 H A series° ∷ token 𝓤 H A rows° ∷ viewed 𝓤 H A rows° ∷ token 𝓤 H A left° ∷ viewed 𝓤 H A left° ∷ token 𝓤 H A right° ∷ viewed 𝓤 H A right° ∷ []) (λ σ. empty ∷ holds (sliceVal (series .ptr) (length (now series))) ∷ holds ((Headᴰ 𝓤 H A W) .val head) ∷ holds (sliceVal (rows .ptr) (length (now rows))) ∷ holds (sliceVal (left .ptr) (length (now left))) ∷ holds (sliceVal (right .ptr) (length (now right))) ∷ holds ((Judgedᴰ 𝓤 H A W) .val j) ∷ holds ((Planᴰ 𝓤 H A W) .val p) ∷ holds ((Stateᴰ 𝓤 H A W) .val (σ .0)) ∷ holds ((uint 𝓤 H A W w64) .val (σ .1)) ∷ empty ∷ empty ∷ empty ∷ []) (begun, 0) ((auditing-starts (now series) head (now rows) (now left) (now right) (is-p ∙ ap (planOf (now series) head) is-j) is), is₃, (refl, lit< tt)) refl (λ σ keptᵗ Qᵗ onᵗ outᵗ.
+        loops ! 𝓣 (λ (σ : RowsAudited × ℕ). length (now rows) + 64 - (σ .1)) (λ σ. (Auditing (now series) head (now rows) (now left) (now right) (σ .0) (σ .1)) × Is ((RowsAuditedᴰ 𝓤 H A W) .row) (σ .0) ((RowsAuditedᴰ 𝓤 H A W) .val (σ .0) ∷ []) × Is ((uint 𝓤 H A W w64) .row) (σ .1) ((uint 𝓤 H A W w64) .val (σ .1) ∷ []))
+        (λ σ. token 𝓤 H A series° ∷ viewed 𝓤 H A series° ∷ token 𝓤 H A rows° ∷ viewed 𝓤 H A rows° ∷ token 𝓤 H A left° ∷ viewed 𝓤 H A left° ∷ token 𝓤 H A right° ∷ viewed 𝓤 H A right° ∷ []) (λ σ. empty ∷ holds (sliceVal (series .ptr) (length (now series))) ∷ holds ((Headᴰ 𝓤 H A W) .val head) ∷ holds (sliceVal (rows .ptr) (length (now rows))) ∷ holds (sliceVal (left .ptr) (length (now left))) ∷ holds (sliceVal (right .ptr) (length (now right))) ∷ holds ((Judgedᴰ 𝓤 H A W) .val j) ∷ holds ((AuditPlanᴰ 𝓤 H A W) .val p) ∷ holds ((RowsAuditedᴰ 𝓤 H A W) .val (σ .0)) ∷ holds ((uint 𝓤 H A W w64) .val (σ .1)) ∷ empty ∷ empty ∷ empty ∷ []) (begun, 0) ((auditing-starts (now series) head (now rows) (now left) (now right) (is-p ∙ ap (planOf (now series) head) is-j) is), is₃, (refl, lit< tt)) refl (λ σ keptᵗ Qᵗ onᵗ outᵗ.
         put-at ! 30 (of-opd ! (part ! 14 refl (sub ! 1 refl (whole !)))) refl ((uint 𝓤 H A W w64) .lawful .typed (length (now rows)) _ (refl, g-rows .0) .0) $
         put-at ! 32 (bin ! (loc ! 26 refl) (loc ! 30 refl) tt) refl (tt, tt) $
         by-bool (ltb (σ .1) (length (now rows))) (λ inside. rewrite ! 32 (λ (t : Bool). ‵ (fat fullShare tyBool l₁₂ 0 (vbool t))) inside refl $ stays ! (loc ! 32 refl) $
         move ! (2 ∷ 3 ∷ []) $
         calls-with ! fm chunk-at.ended (chunk-at.clauses 𝓤 H A mem run) known-chunk-at (kept rows° ∷ value (uint 𝓤 H A W w64) (σ .1) (keptᵗ .2) ∷ [])
-        (λ fs. (((κs .1 .0, tt), (qs .1 .0, tt), tt, (rows, ((σ .1), tt)), (slice-vals rows, ((uint 𝓤 H A W w64) .val (σ .1) ∷ [], tt))), tt)) (λ fs. refl) (λ fs. refl) (λ fs ls. ls) (λ fs ls. refl) (λ fs. id⊢ 𝓤 _) (λ fs r ls. id⊢ 𝓤 _) (λ fs. (array 𝓤 H A W (Rowᴰ 𝓤 H A W) 64) .val) (λ fs. (array 𝓤 H A W (Rowᴰ 𝓤 H A W) 64) .tells) (λ fs. (and-then ! (loc ! 14 refl) (and-then ! (loc ! 26 refl) (no-more !)))) (λ fs c ls₄ is-c is₄ fits₄.
-        land ! (from ! (stop !)) (init ! 28 refl ((array 𝓤 H A W (Rowᴰ 𝓤 H A W) 64) .lawful .typed c _ is₄ .0)) $
+        (λ fs. (((κs .1 .0, tt), (qs .1 .0, tt), tt, (rows, ((σ .1), tt)), (slice-vals rows, ((uint 𝓤 H A W w64) .val (σ .1) ∷ [], tt))), tt)) (λ fs. refl) (λ fs. refl) (λ fs ls. ls) (λ fs ls. refl) (λ fs. id⊢ 𝓤 _) (λ fs r ls. id⊢ 𝓤 _) (λ fs. (Row64ᴰ 𝓤 H A W) .val) (λ fs. (Row64ᴰ 𝓤 H A W) .tells) (λ fs. (and-then ! (loc ! 14 refl) (and-then ! (loc ! 26 refl) (no-more !)))) (λ fs c ls₄ is-c is₄ fits₄.
+        land ! (from ! (stop !)) (init ! 28 refl ((Row64ᴰ 𝓤 H A W) .lawful .typed c _ is₄ .0)) $
         tidy ! (token 𝓤 H A rows° ∷ viewed 𝓤 H A rows° ∷ token 𝓤 H A series° ∷ viewed 𝓤 H A series° ∷ token 𝓤 H A left° ∷ viewed 𝓤 H A left° ∷ token 𝓤 H A right° ∷ viewed 𝓤 H A right° ∷ []) (empty ∷ holds _ ∷ holds _ ∷ holds _ ∷ holds _ ∷ holds _ ∷ holds _ ∷ holds _ ∷ holds _ ∷ holds _ ∷ holds _ ∷ holds _ ∷ holds _ ∷ []) refl $
         move ! (2 ∷ 3 ∷ 4 ∷ 5 ∷ 6 ∷ 7 ∷ []) $
-        calls-with ! fm audit-chunk.ended (audit-chunk.clauses 𝓤 H A mem run) known-audit-chunk (value (array 𝓤 H A W (Rowᴰ 𝓤 H A W) 64) c is₄ ∷ value (uint 𝓤 H A W w64) (σ .1) (keptᵗ .2) ∷ value (Stateᴰ 𝓤 H A W) (σ .0) (keptᵗ .1) ∷ kept series° ∷ value (Headᴰ 𝓤 H A W) head g-head ∷ kept left° ∷ kept right° ∷ [])
-        (λ fs. (((κs .0, (κs .1 .1 .0, (κs .1 .1 .1 .0, tt))), (qs .0, (qs .1 .1 .0, (qs .1 .1 .1 .0, tt))), tt, (c, ((σ .1), ((σ .0), (series, (head, (left, (right, tt))))))), ((array 𝓤 H A W (Rowᴰ 𝓤 H A W) 64) .val c ∷ [], ((uint 𝓤 H A W w64) .val (σ .1) ∷ [], ((Stateᴰ 𝓤 H A W) .val (σ .0) ∷ [], (slice-vals series, ((Headᴰ 𝓤 H A W) .val head ∷ [], (slice-vals left, (slice-vals right, tt)))))))), tt)) (λ fs. refl) (λ fs. refl) (λ fs ls. ls) (λ fs ls. refl) (λ fs. factI 𝓤 _ (emp 𝓤) (auditing-ready (now series) head (now rows) (now left) (now right) (keptᵗ .0) is-c (chunk-fits (now series) head (now rows) (now left) (now right) (σ .1) (ltb-true (σ .1) (length (now rows)) inside) (g-rows .1)))) (λ fs r ls. id⊢ 𝓤 _) (λ fs. (Stateᴰ 𝓤 H A W) .val) (λ fs. (Stateᴰ 𝓤 H A W) .tells) (λ fs. (and-then ! (loc ! 24 refl) (and-then ! (loc ! 22 refl) (and-then ! (loc ! 20 refl) (and-then ! (loc ! 6 refl) (and-then ! (loc ! 8 refl) (and-then ! (loc ! 12 refl) (and-then ! (loc ! 14 refl) (no-more !))))))))) (λ fs t ls₅ is-t is₅ fits₅.
-        land ! (from ! (stop !)) (store ! 24 refl ((Stateᴰ 𝓤 H A W) .lawful .typed t _ is₅ .0)) $
+        calls-with ! fm audit-chunk.ended (audit-chunk.clauses 𝓤 H A mem run) known-audit-chunk (value (Row64ᴰ 𝓤 H A W) c is₄ ∷ value (uint 𝓤 H A W w64) (σ .1) (keptᵗ .2) ∷ value (RowsAuditedᴰ 𝓤 H A W) (σ .0) (keptᵗ .1) ∷ kept series° ∷ value (Headᴰ 𝓤 H A W) head g-head ∷ kept left° ∷ kept right° ∷ [])
+        (λ fs. (((κs .0, (κs .1 .1 .0, (κs .1 .1 .1 .0, tt))), (qs .0, (qs .1 .1 .0, (qs .1 .1 .1 .0, tt))), tt, (c, ((σ .1), ((σ .0), (series, (head, (left, (right, tt))))))), ((Row64ᴰ 𝓤 H A W) .val c ∷ [], ((uint 𝓤 H A W w64) .val (σ .1) ∷ [], ((RowsAuditedᴰ 𝓤 H A W) .val (σ .0) ∷ [], (slice-vals series, ((Headᴰ 𝓤 H A W) .val head ∷ [], (slice-vals left, (slice-vals right, tt)))))))), tt)) (λ fs. refl) (λ fs. refl) (λ fs ls. ls) (λ fs ls. refl) (λ fs. factI 𝓤 _ (emp 𝓤) (auditing-ready (now series) head (now rows) (now left) (now right) (keptᵗ .0) is-c (chunk-fits (now series) head (now rows) (now left) (now right) (σ .1) (ltb-true (σ .1) (length (now rows)) inside) (g-rows .1)))) (λ fs r ls. id⊢ 𝓤 _) (λ fs. (RowsAuditedᴰ 𝓤 H A W) .val) (λ fs. (RowsAuditedᴰ 𝓤 H A W) .tells) (λ fs. (and-then ! (loc ! 24 refl) (and-then ! (loc ! 22 refl) (and-then ! (loc ! 20 refl) (and-then ! (loc ! 6 refl) (and-then ! (loc ! 8 refl) (and-then ! (loc ! 12 refl) (and-then ! (loc ! 14 refl) (no-more !))))))))) (λ fs t ls₅ is-t is₅ fits₅.
+        land ! (from ! (stop !)) (store ! 24 refl ((RowsAuditedᴰ 𝓤 H A W) .lawful .typed t _ is₅ .0)) $
         tidy ! (token 𝓤 H A series° ∷ viewed 𝓤 H A series° ∷ token 𝓤 H A left° ∷ viewed 𝓤 H A left° ∷ token 𝓤 H A right° ∷ viewed 𝓤 H A right° ∷ token 𝓤 H A rows° ∷ viewed 𝓤 H A rows° ∷ []) (empty ∷ holds _ ∷ holds _ ∷ holds _ ∷ holds _ ∷ holds _ ∷ holds _ ∷ holds _ ∷ holds _ ∷ holds _ ∷ holds _ ∷ holds _ ∷ holds _ ∷ []) refl $
         assigns ! (un ! (part ! 24 refl (sub ! 0 refl (whole !))) tt) (from ! (stop !)) (store ! 32 refl (tt, tt)) $
         by-bool (not (t .go)) (λ done. rewrite ! 32 (λ (t : Bool). ‵ (fat fullShare tyBool l₁₂ 0 (vbool t))) done refl $ goes-in ! (loc ! 32 refl) $ jumps ! $ outᵗ _ $
-        calls-with ! fm answer.ended (answer.clauses 𝓤 H A mem run) known-answer (value (Planᴰ 𝓤 H A W) p is₂ ∷ value (Stateᴰ 𝓤 H A W) t is₅ ∷ [])
-        (λ fs. ((tt, tt, tt, (p, (t, tt)), ((Planᴰ 𝓤 H A W) .val p ∷ [], ((Stateᴰ 𝓤 H A W) .val t ∷ [], tt))), tt)) (λ fs. refl) (λ fs. refl) (λ fs ls. ls) (λ fs ls. refl) (λ fs. id⊢ 𝓤 _) (λ fs r ls. id⊢ 𝓤 _) (λ fs. (Auditedᴰ 𝓤 H A W) .val) (λ fs. (Auditedᴰ 𝓤 H A W) .tells) (λ fs. (and-then ! (loc ! 24 refl) (and-then ! (loc ! 26 refl) (no-more !)))) (λ fs a ls₆ is-a is₆ fits₆.
+        calls-with ! fm answer.ended (answer.clauses 𝓤 H A mem run) known-answer (value (AuditPlanᴰ 𝓤 H A W) p is₂ ∷ value (RowsAuditedᴰ 𝓤 H A W) t is₅ ∷ [])
+        (λ fs. ((tt, tt, tt, (p, (t, tt)), ((AuditPlanᴰ 𝓤 H A W) .val p ∷ [], ((RowsAuditedᴰ 𝓤 H A W) .val t ∷ [], tt))), tt)) (λ fs. refl) (λ fs. refl) (λ fs ls. ls) (λ fs ls. refl) (λ fs. id⊢ 𝓤 _) (λ fs r ls. id⊢ 𝓤 _) (λ fs. (Auditedᴰ 𝓤 H A W) .val) (λ fs. (Auditedᴰ 𝓤 H A W) .tells) (λ fs. (and-then ! (loc ! 24 refl) (and-then ! (loc ! 26 refl) (no-more !)))) (λ fs a ls₆ is-a is₆ fits₆.
         land ! (from ! (stop !)) (init ! 8 refl ((Auditedᴰ 𝓤 H A W) .lawful .typed a _ is₆ .0)) $
         tidy ! (token 𝓤 H A series° ∷ viewed 𝓤 H A series° ∷ token 𝓤 H A left° ∷ viewed 𝓤 H A left° ∷ token 𝓤 H A right° ∷ viewed 𝓤 H A right° ∷ token 𝓤 H A rows° ∷ viewed 𝓤 H A rows° ∷ []) (holds _ ∷ holds _ ∷ holds _ ∷ holds _ ∷ holds _ ∷ holds _ ∷ holds _ ∷ holds _ ∷ holds _ ∷ holds _ ∷ holds _ ∷ holds _ ∷ holds _ ∷ []) refl $
         returns ! (look ! 8 refl) $
@@ -180,8 +183,8 @@ module _ {M : Type 1} (𝓤 : URA M) (H : Heap 𝓤) (A : Atoms 𝓤) (W : Given
         move ! (0 ∷ 1 ∷ 6 ∷ 7 ∷ 2 ∷ 3 ∷ 4 ∷ 5 ∷ []) $
         by ! (onᵗ (t, ((σ .1) + 64)) (chunk-nearer (now series) head (now rows) (now left) (now right) (σ .1) (ltb-true (σ .1) (length (now rows)) inside)) ((auditing-next (now series) head (now rows) (now left) (now right) (keptᵗ .0) is-c is-t no-done), is₅, (refl, (chunk-fits (now series) head (now rows) (now left) (now right) (σ .1) (ltb-true (σ .1) (length (now rows)) inside) (g-rows .1)))))))))
         (λ no-inside. rewrite ! 32 (λ (t : Bool). ‵ (fat fullShare tyBool l₁₂ 0 (vbool t))) no-inside refl $ leaves-loop ! (loc ! 32 refl) $ outᵗ _ $
-        calls-with ! fm answer.ended (answer.clauses 𝓤 H A mem run) known-answer (value (Planᴰ 𝓤 H A W) p is₂ ∷ value (Stateᴰ 𝓤 H A W) (σ .0) (keptᵗ .1) ∷ [])
-        (λ fs. ((tt, tt, tt, (p, ((σ .0), tt)), ((Planᴰ 𝓤 H A W) .val p ∷ [], ((Stateᴰ 𝓤 H A W) .val (σ .0) ∷ [], tt))), tt)) (λ fs. refl) (λ fs. refl) (λ fs ls. ls) (λ fs ls. refl) (λ fs. id⊢ 𝓤 _) (λ fs r ls. id⊢ 𝓤 _) (λ fs. (Auditedᴰ 𝓤 H A W) .val) (λ fs. (Auditedᴰ 𝓤 H A W) .tells) (λ fs. (and-then ! (loc ! 24 refl) (and-then ! (loc ! 26 refl) (no-more !)))) (λ fs a ls₇ is-a is₇ fits₇.
+        calls-with ! fm answer.ended (answer.clauses 𝓤 H A mem run) known-answer (value (AuditPlanᴰ 𝓤 H A W) p is₂ ∷ value (RowsAuditedᴰ 𝓤 H A W) (σ .0) (keptᵗ .1) ∷ [])
+        (λ fs. ((tt, tt, tt, (p, ((σ .0), tt)), ((AuditPlanᴰ 𝓤 H A W) .val p ∷ [], ((RowsAuditedᴰ 𝓤 H A W) .val (σ .0) ∷ [], tt))), tt)) (λ fs. refl) (λ fs. refl) (λ fs ls. ls) (λ fs ls. refl) (λ fs. id⊢ 𝓤 _) (λ fs r ls. id⊢ 𝓤 _) (λ fs. (Auditedᴰ 𝓤 H A W) .val) (λ fs. (Auditedᴰ 𝓤 H A W) .tells) (λ fs. (and-then ! (loc ! 24 refl) (and-then ! (loc ! 26 refl) (no-more !)))) (λ fs a ls₇ is-a is₇ fits₇.
         land ! (from ! (stop !)) (init ! 8 refl ((Auditedᴰ 𝓤 H A W) .lawful .typed a _ is₇ .0)) $
         tidy ! (token 𝓤 H A series° ∷ viewed 𝓤 H A series° ∷ token 𝓤 H A rows° ∷ viewed 𝓤 H A rows° ∷ token 𝓤 H A left° ∷ viewed 𝓤 H A left° ∷ token 𝓤 H A right° ∷ viewed 𝓤 H A right° ∷ []) (holds _ ∷ holds _ ∷ holds _ ∷ holds _ ∷ holds _ ∷ holds _ ∷ holds _ ∷ holds _ ∷ holds _ ∷ holds _ ∷ empty ∷ holds _ ∷ holds _ ∷ []) refl $
         returns ! (look ! 8 refl) $

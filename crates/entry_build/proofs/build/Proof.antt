@@ -16,12 +16,12 @@ use types.Run.{load, fld}
 use types.Part.{look-in}
 use Rattle.meaning_entries.specs.Buffers.{indexBuffers}
 use Rattle.entry_build.proofs.Stages.{halts, goes}
-use Rattle.meaning_entries.specs.declared.Built.{Built}
-use Rattle.meaning_entries.proofs.Built as Builtᵀ
-use Rattle.meaning_entries.proofs.Built.Laws as Builtᴸ
 use Rattle.build_plan.specs.declared.BuildPlan.{BuildPlan}
 use Rattle.build_plan.proofs.BuildPlan as BuildPlanᵀ
 use Rattle.build_plan.proofs.BuildPlan.Laws as BuildPlanᴸ
+use Rattle.meaning_entries.specs.declared.Built.{Built}
+use Rattle.meaning_entries.proofs.Built as Builtᵀ
+use Rattle.meaning_entries.proofs.Built.Laws as Builtᴸ
 use Rattle.refusals.specs.declared.Refusal.{Refusal}
 use Rattle.refusals.proofs.Refusal as Refusalᵀ
 use Rattle.refusals.proofs.Refusal.Laws as Refusalᴸ
@@ -44,11 +44,11 @@ use Rattle.entry_build.proofs.build as f
 use Rattle.entry_build.proofs.build.Statement as stated
 use Rattle.entry_build.proofs.build.Code as code
 
-abbrev Builtᴰ : {M : Type 1} (𝓤 : URA M) (H : Heap 𝓤) (A : Atoms 𝓤) → Given 𝓤 H A → Data 𝓤 H A
-Builtᴰ 𝓤 H A W = enum 𝓤 H A W Builtᵀ.the-type Builtᴸ.the-laws tt Builtᴸ.the-plain
-
 abbrev BuildPlanᴰ : {M : Type 1} (𝓤 : URA M) (H : Heap 𝓤) (A : Atoms 𝓤) → Given 𝓤 H A → Data 𝓤 H A
 BuildPlanᴰ 𝓤 H A W = struct 𝓤 H A W BuildPlanᵀ.the-type BuildPlanᴸ.the-laws BuildPlanᴸ.the-plain
+
+abbrev Builtᴰ : {M : Type 1} (𝓤 : URA M) (H : Heap 𝓤) (A : Atoms 𝓤) → Given 𝓤 H A → Data 𝓤 H A
+Builtᴰ 𝓤 H A W = enum 𝓤 H A W Builtᵀ.the-type Builtᴸ.the-laws tt Builtᴸ.the-plain
 
 abbrev Refusalᴰ : {M : Type 1} (𝓤 : URA M) (H : Heap 𝓤) (A : Atoms 𝓤) → Given 𝓤 H A → Data 𝓤 H A
 Refusalᴰ 𝓤 H A W = struct 𝓤 H A W Refusalᵀ.the-type Refusalᴸ.the-laws Refusalᴸ.the-plain

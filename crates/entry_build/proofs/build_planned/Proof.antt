@@ -20,14 +20,13 @@ use lib.ListN.{getD}
 use Rattle.entry_build.proofs.Stages.{many, held}
 use Rattle.rows_records.specs.Records.{zeroRow}
 use Rattle.meaning_entries.specs.Buffers.{indexBuffers}
-use Rattle.entry_build.specs.Answer.{PlannedFor}
 use Rattle.entry_build.proofs.AnswerLaws.{plan-sizes, plan-lays, some-rows, last-in, built-kept}
-use Rattle.meaning_entries.specs.declared.Built.{Built}
-use Rattle.meaning_entries.proofs.Built as Builtᵀ
-use Rattle.meaning_entries.proofs.Built.Laws as Builtᴸ
 use Rattle.build_plan.specs.declared.BuildPlan.{BuildPlan}
 use Rattle.build_plan.proofs.BuildPlan as BuildPlanᵀ
 use Rattle.build_plan.proofs.BuildPlan.Laws as BuildPlanᴸ
+use Rattle.meaning_entries.specs.declared.Built.{Built}
+use Rattle.meaning_entries.proofs.Built as Builtᵀ
+use Rattle.meaning_entries.proofs.Built.Laws as Builtᴸ
 use Rattle.meaning_rows.specs.declared.Row.{Row}
 use Rattle.meaning_rows.proofs.Row as Rowᵀ
 use Rattle.meaning_rows.proofs.Row.Laws as Rowᴸ
@@ -39,10 +38,10 @@ use Rattle.build_passes.proofs.build_rows as build-rows
 use Rattle.build_passes.proofs.build_rows.Symbol as build-rows-def
 use Rattle.build_passes.proofs.build_rows.Symbol.{name as #build-rows}
 use Rattle.build_passes.proofs.build_rows.Met as build-rows-thm
-use Rattle.entry_build.proofs.place_before as place-before
-use Rattle.entry_build.proofs.place_before.Symbol as place-before-def
-use Rattle.entry_build.proofs.place_before.Symbol.{name as #place-before}
-use Rattle.entry_build.proofs.place_before.Met as place-before-thm
+use Rattle.numbers.proofs.place_before as place-before
+use Rattle.numbers.proofs.place_before.Symbol as place-before-def
+use Rattle.numbers.proofs.place_before.Symbol.{name as #place-before}
+use Rattle.numbers.proofs.place_before.Met as place-before-thm
 use Rattle.rows_records.proofs.row_at as row-at
 use Rattle.rows_records.proofs.row_at.Symbol as row-at-def
 use Rattle.rows_records.proofs.row_at.Symbol.{name as #row-at}
@@ -55,12 +54,13 @@ use Rattle.entry_build.proofs.build_planned.Key.{name as #self}
 use Rattle.entry_build.proofs.build_planned as f
 use Rattle.entry_build.proofs.build_planned.Statement as stated
 use Rattle.entry_build.proofs.build_planned.Code as code
-
-abbrev Builtᴰ : {M : Type 1} (𝓤 : URA M) (H : Heap 𝓤) (A : Atoms 𝓤) → Given 𝓤 H A → Data 𝓤 H A
-Builtᴰ 𝓤 H A W = enum 𝓤 H A W Builtᵀ.the-type Builtᴸ.the-laws tt Builtᴸ.the-plain
+use Rattle.entry_build.specs.Answer.{PlannedFor}
 
 abbrev BuildPlanᴰ : {M : Type 1} (𝓤 : URA M) (H : Heap 𝓤) (A : Atoms 𝓤) → Given 𝓤 H A → Data 𝓤 H A
 BuildPlanᴰ 𝓤 H A W = struct 𝓤 H A W BuildPlanᵀ.the-type BuildPlanᴸ.the-laws BuildPlanᴸ.the-plain
+
+abbrev Builtᴰ : {M : Type 1} (𝓤 : URA M) (H : Heap 𝓤) (A : Atoms 𝓤) → Given 𝓤 H A → Data 𝓤 H A
+Builtᴰ 𝓤 H A W = enum 𝓤 H A W Builtᵀ.the-type Builtᴸ.the-laws tt Builtᴸ.the-plain
 
 abbrev Rowᴰ : {M : Type 1} (𝓤 : URA M) (H : Heap 𝓤) (A : Atoms 𝓤) → Given 𝓤 H A → Data 𝓤 H A
 Rowᴰ 𝓤 H A W = struct 𝓤 H A W Rowᵀ.the-type Rowᴸ.the-laws Rowᴸ.the-plain
@@ -122,7 +122,7 @@ module _ {M : Type 1} (𝓤 : URA M) (H : Heap 𝓤) (A : Atoms 𝓤) (W : Given
         land ! (from ! (stop !)) (init ! 28 refl ((uint 𝓤 H A W w64) .lawful .typed n _ is₂ .0)) $
         tidy ! (token 𝓤 H A series° ∷ viewed 𝓤 H A series° ∷ token 𝓤 H A rows° ∷ lent-at 𝓤 H A rows° (ls₂ .1 .1 .1 .1 .1 .1 .0) ∷ token 𝓤 H A left° ∷ lent-at 𝓤 H A left° (ls₂ .1 .1 .1 .1 .1 .1 .1 .0) ∷ token 𝓤 H A right° ∷ lent-at 𝓤 H A right° (ls₂ .1 .1 .1 .1 .1 .1 .1 .1 .0) ∷ []) (empty ∷ holds _ ∷ holds _ ∷ holds _ ∷ holds _ ∷ holds _ ∷ holds _ ∷ holds _ ∷ holds _ ∷ holds _ ∷ holds _ ∷ empty ∷ empty ∷ holds _ ∷ holds _ ∷ holds _ ∷ holds _ ∷ holds _ ∷ holds _ ∷ empty ∷ empty ∷ []) refl $
         calls-with ! fm place-before.ended (place-before.clauses 𝓤 H A mem run) known-place-before (value (uint 𝓤 H A W w64) n is₂ ∷ [])
-        (λ fs. ((tt, tt, tt, (n, tt), ((uint 𝓤 H A W w64) .val n ∷ [], tt)), tt)) (λ fs. refl) (λ fs. refl) (λ fs ls. ls) (λ fs ls. refl) (λ fs. factI 𝓤 _ (emp 𝓤) (some-rows (now series) w d g (indexBuffers (now rows) (now left) (now right)) p (asked .0) (asked .1) (many (now series) w d g (indexBuffers (now rows) (now left) (now right)) p (asked .0) (asked .1) wide made))) (λ fs r ls. id⊢ 𝓤 _) (λ fs. (uint 𝓤 H A W w64) .val) (λ fs. (uint 𝓤 H A W w64) .tells) (λ fs. (and-then ! (loc ! 30 refl) (no-more !))) (λ fs k ls₃ before is₃ fits₃.
+        (λ fs. ((tt, tt, tt, (n, tt), ((uint 𝓤 H A W w64) .val n ∷ [], tt)), tt)) (λ fs. refl) (λ fs. refl) (λ fs ls. ls) (λ fs ls. refl) (λ fs. id⊢ 𝓤 _) (λ fs r ls. id⊢ 𝓤 _) (λ fs. (uint 𝓤 H A W w64) .val) (λ fs. (uint 𝓤 H A W w64) .tells) (λ fs. (and-then ! (loc ! 30 refl) (no-more !))) (λ fs k ls₃ before is₃ fits₃.
         land ! (from ! (stop !)) (init ! 30 refl ((uint 𝓤 H A W w64) .lawful .typed k _ is₃ .0)) $
         tidy ! (token 𝓤 H A series° ∷ viewed 𝓤 H A series° ∷ token 𝓤 H A rows° ∷ lent-at 𝓤 H A rows° (ls₂ .1 .1 .1 .1 .1 .1 .0) ∷ token 𝓤 H A left° ∷ lent-at 𝓤 H A left° (ls₂ .1 .1 .1 .1 .1 .1 .1 .0) ∷ token 𝓤 H A right° ∷ lent-at 𝓤 H A right° (ls₂ .1 .1 .1 .1 .1 .1 .1 .1 .0) ∷ []) (empty ∷ holds _ ∷ holds _ ∷ holds _ ∷ holds _ ∷ holds _ ∷ holds _ ∷ holds _ ∷ holds _ ∷ holds _ ∷ holds _ ∷ holds _ ∷ empty ∷ holds _ ∷ holds _ ∷ holds _ ∷ holds _ ∷ holds _ ∷ holds _ ∷ empty ∷ empty ∷ []) refl $
         put-at ! 46 (start ! 20 refl (sub ! 0 refl (whole !))) refl (tt, tt) $
@@ -155,6 +155,6 @@ build-planned-spec 𝓤 H 𝓜 𝓖 𝓡 =
     (meets 𝓤 H (𝓖 .A) (givenOf 𝓤 H 𝓜 𝓖) (𝓜 .mem) (𝓡 .run) (tablesOf 𝓤 H 𝓜 (tables 𝓤 H 𝓜 𝓡 code.env)) (fmOf 𝓤 H (givenOf 𝓤 H 𝓜 𝓖 .laws) (tablesOf 𝓤 H 𝓜 (tables 𝓤 H 𝓜 𝓡 code.env)))
     (cited 𝓤 H (tripleOf 𝓤 H (𝓖 .A) widened.signature (widened.spec 𝓤 H (𝓖 .A) (𝓜 .mem) (𝓡 .run))) 𝓜 𝓡 code.env #widened widened-def.routine code.calls-entry-build·widened (widened-thm.met 𝓤 H 𝓜 𝓖 𝓡))
     (cited 𝓤 H (tripleOf 𝓤 H (𝓖 .A) build-rows.signature (build-rows.spec 𝓤 H (𝓖 .A) (𝓜 .mem) (𝓡 .run))) 𝓜 𝓡 code.env #build-rows build-rows-def.routine code.calls-build-passes·build-rows (build-rows-thm.met 𝓤 H 𝓜 𝓖 𝓡))
-    (cited 𝓤 H (tripleOf 𝓤 H (𝓖 .A) place-before.signature (place-before.spec 𝓤 H (𝓖 .A) (𝓜 .mem) (𝓡 .run))) 𝓜 𝓡 code.env #place-before place-before-def.routine code.calls-entry-build·place-before (place-before-thm.met 𝓤 H 𝓜 𝓖 𝓡))
+    (cited 𝓤 H (tripleOf 𝓤 H (𝓖 .A) place-before.signature (place-before.spec 𝓤 H (𝓖 .A) (𝓜 .mem) (𝓡 .run))) 𝓜 𝓡 code.env #place-before place-before-def.routine code.calls-numbers·place-before (place-before-thm.met 𝓤 H 𝓜 𝓖 𝓡))
     (cited 𝓤 H (tripleOf 𝓤 H (𝓖 .A) row-at.signature (row-at.spec 𝓤 H (𝓖 .A) (𝓜 .mem) (𝓡 .run))) 𝓜 𝓡 code.env #row-at row-at-def.routine code.calls-rows-records·row-at (row-at-thm.met 𝓤 H 𝓜 𝓖 𝓡))
     (cited 𝓤 H (tripleOf 𝓤 H (𝓖 .A) answer.signature (answer.spec 𝓤 H (𝓖 .A) (𝓜 .mem) (𝓡 .run))) 𝓜 𝓡 code.env #answer answer-def.routine code.calls-entry-build·answer (answer-thm.met 𝓤 H 𝓜 𝓖 𝓡)))

@@ -34,10 +34,10 @@ use Rattle.rows_judge.proofs.judge as judge
 use Rattle.rows_judge.proofs.judge.Symbol as judge-def
 use Rattle.rows_judge.proofs.judge.Symbol.{name as #judge}
 use Rattle.rows_judge.proofs.judge.Met as judge-thm
-use Rattle.rows_judge.proofs.lesser as lesser
-use Rattle.rows_judge.proofs.lesser.Symbol as lesser-def
-use Rattle.rows_judge.proofs.lesser.Symbol.{name as #lesser}
-use Rattle.rows_judge.proofs.lesser.Met as lesser-thm
+use Rattle.numbers.proofs.shorter as shorter
+use Rattle.numbers.proofs.shorter.Symbol as shorter-def
+use Rattle.numbers.proofs.shorter.Symbol.{name as #shorter}
+use Rattle.numbers.proofs.shorter.Met as shorter-thm
 use Rattle.extend_plan.proofs.make_plan as make-plan
 use Rattle.extend_plan.proofs.make_plan.Symbol as make-plan-def
 use Rattle.extend_plan.proofs.make_plan.Symbol.{name as #make-plan}
@@ -67,7 +67,7 @@ Judgedᴰ 𝓤 H A W = enum 𝓤 H A W Judgedᵀ.the-type Judgedᴸ.the-laws tt 
 abbrev Refusalᴰ : {M : Type 1} (𝓤 : URA M) (H : Heap 𝓤) (A : Atoms 𝓤) → Given 𝓤 H A → Data 𝓤 H A
 Refusalᴰ 𝓤 H A W = struct 𝓤 H A W Refusalᵀ.the-type Refusalᴸ.the-laws Refusalᴸ.the-plain
 
-module _ {M : Type 1} (𝓤 : URA M) (H : Heap 𝓤) (A : Atoms 𝓤) (W : Given 𝓤 H A) (mem : Memory → SProp 𝓤) (run : Routine → Fun 𝓤) (𝓣 : Tables 𝓤 H) (fm : FmC 𝓤 H (W .laws) (𝓣 .C)) (known-judge : Meets 𝓤 H A judge.signature (𝓣 .C #judge) (judge.spec 𝓤 H A mem run)) (known-lesser : Meets 𝓤 H A lesser.signature (𝓣 .C #lesser) (lesser.spec 𝓤 H A mem run)) (known-make-plan : Meets 𝓤 H A make-plan.signature (𝓣 .C #make-plan) (make-plan.spec 𝓤 H A mem run)) (known-refuse : Meets 𝓤 H A refuse.signature (𝓣 .C #refuse) (refuse.spec 𝓤 H A mem run)) (known-extend-planned : Meets 𝓤 H A extend-planned.signature (𝓣 .C #extend-planned) (extend-planned.spec 𝓤 H A mem run)) where
+module _ {M : Type 1} (𝓤 : URA M) (H : Heap 𝓤) (A : Atoms 𝓤) (W : Given 𝓤 H A) (mem : Memory → SProp 𝓤) (run : Routine → Fun 𝓤) (𝓣 : Tables 𝓤 H) (fm : FmC 𝓤 H (W .laws) (𝓣 .C)) (known-judge : Meets 𝓤 H A judge.signature (𝓣 .C #judge) (judge.spec 𝓤 H A mem run)) (known-shorter : Meets 𝓤 H A shorter.signature (𝓣 .C #shorter) (shorter.spec 𝓤 H A mem run)) (known-make-plan : Meets 𝓤 H A make-plan.signature (𝓣 .C #make-plan) (make-plan.spec 𝓤 H A mem run)) (known-refuse : Meets 𝓤 H A refuse.signature (𝓣 .C #refuse) (refuse.spec 𝓤 H A mem run)) (known-extend-planned : Meets 𝓤 H A extend-planned.signature (𝓣 .C #extend-planned) (extend-planned.spec 𝓤 H A mem run)) where
   module _ (κs : Lfts 7) (qs : Shares 7) (series : RefT (List ℤ)) (head : Head) (from′ : RefT (List Row)) (lefts : RefT (List ℕ)) (rights : RefT (List ℕ)) (rows : RefT (List Row)) (left : RefT (List ℕ)) (right : RefT (List ℕ))
       (g-series : Room i32 (length (now series))) (g-head : Is ((Headᴰ 𝓤 H A W) .row) head ((Headᴰ 𝓤 H A W) .val head ∷ [])) (g-from′ : Room Rowᵀ.the-row (length (now from′))) (g-lefts : Room u32 (length (now lefts))) (g-rights : Room u32 (length (now rights))) (g-rows : Room Rowᵀ.the-row (length (now rows))) (g-left : Room u32 (length (now left))) (g-right : Room u32 (length (now right))) where
     abbrev series° : Lent
@@ -124,7 +124,7 @@ module _ {M : Type 1} (𝓤 : URA M) (H : Heap 𝓤) (A : Atoms 𝓤) (W : Given
         tidy ! (token 𝓤 H A from′° ∷ viewed 𝓤 H A from′° ∷ token 𝓤 H A lefts° ∷ viewed 𝓤 H A lefts° ∷ token 𝓤 H A rights° ∷ viewed 𝓤 H A rights° ∷ token 𝓤 H A series° ∷ viewed 𝓤 H A series° ∷ token 𝓤 H A rows° ∷ lent-at 𝓤 H A rows° (now rows) ∷ token 𝓤 H A left° ∷ lent-at 𝓤 H A left° (now left) ∷ token 𝓤 H A right° ∷ lent-at 𝓤 H A right° (now right) ∷ []) (empty ∷ holds _ ∷ holds _ ∷ holds _ ∷ holds _ ∷ holds _ ∷ holds _ ∷ holds _ ∷ holds _ ∷ holds _ ∷ empty ∷ empty ∷ empty ∷ empty ∷ empty ∷ empty ∷ empty ∷ empty ∷ empty ∷ empty ∷ empty ∷ []) refl $
         put-at ! 38 (of-opd ! (part ! 28 refl (sub ! 1 refl (whole !)))) refl ((uint 𝓤 H A W w64) .lawful .typed (length (now left)) _ (refl, g-left .0) .0) $
         put-at ! 40 (of-opd ! (part ! 30 refl (sub ! 1 refl (whole !)))) refl ((uint 𝓤 H A W w64) .lawful .typed (length (now right)) _ (refl, g-right .0) .0) $
-        calls-with ! fm lesser.ended (lesser.clauses 𝓤 H A mem run) known-lesser (value (uint 𝓤 H A W w64) (length (now left)) (refl, g-left .0) ∷ value (uint 𝓤 H A W w64) (length (now right)) (refl, g-right .0) ∷ [])
+        calls-with ! fm shorter.ended (shorter.clauses 𝓤 H A mem run) known-shorter (value (uint 𝓤 H A W w64) (length (now left)) (refl, g-left .0) ∷ value (uint 𝓤 H A W w64) (length (now right)) (refl, g-right .0) ∷ [])
         (λ fs. ((tt, tt, tt, ((length (now left)), ((length (now right)), tt)), ((uint 𝓤 H A W w64) .val (length (now left)) ∷ [], ((uint 𝓤 H A W w64) .val (length (now right)) ∷ [], tt))), tt)) (λ fs. refl) (λ fs. refl) (λ fs ls. ls) (λ fs ls. refl) (λ fs. id⊢ 𝓤 _) (λ fs r ls. id⊢ 𝓤 _) (λ fs. (uint 𝓤 H A W w64) .val) (λ fs. (uint 𝓤 H A W w64) .tells) (λ fs. (and-then ! (loc ! 40 refl) (and-then ! (loc ! 42 refl) (no-more !)))) (λ fs m ls₂ least is₂ fits₂.
         land ! (from ! (stop !)) (init ! 34 refl ((uint 𝓤 H A W w64) .lawful .typed m _ is₂ .0)) $
         tidy ! (token 𝓤 H A from′° ∷ viewed 𝓤 H A from′° ∷ token 𝓤 H A lefts° ∷ viewed 𝓤 H A lefts° ∷ token 𝓤 H A rights° ∷ viewed 𝓤 H A rights° ∷ token 𝓤 H A series° ∷ viewed 𝓤 H A series° ∷ token 𝓤 H A rows° ∷ lent-at 𝓤 H A rows° (now rows) ∷ token 𝓤 H A left° ∷ lent-at 𝓤 H A left° (now left) ∷ token 𝓤 H A right° ∷ lent-at 𝓤 H A right° (now right) ∷ []) (empty ∷ holds _ ∷ holds _ ∷ holds _ ∷ holds _ ∷ holds _ ∷ holds _ ∷ holds _ ∷ holds _ ∷ holds _ ∷ holds _ ∷ empty ∷ holds _ ∷ holds _ ∷ empty ∷ empty ∷ empty ∷ empty ∷ empty ∷ empty ∷ empty ∷ []) refl $
@@ -173,7 +173,7 @@ extend-spec 𝓤 H 𝓜 𝓖 𝓡 =
     (tables 𝓤 H 𝓜 𝓡 code.env .C) (tables 𝓤 H 𝓜 𝓡 code.env .Λ) #self code.function (code.unfolded 𝓤 H 𝓜 𝓡)
     (meets 𝓤 H (𝓖 .A) (givenOf 𝓤 H 𝓜 𝓖) (𝓜 .mem) (𝓡 .run) (tablesOf 𝓤 H 𝓜 (tables 𝓤 H 𝓜 𝓡 code.env)) (fmOf 𝓤 H (givenOf 𝓤 H 𝓜 𝓖 .laws) (tablesOf 𝓤 H 𝓜 (tables 𝓤 H 𝓜 𝓡 code.env)))
     (cited 𝓤 H (tripleOf 𝓤 H (𝓖 .A) judge.signature (judge.spec 𝓤 H (𝓖 .A) (𝓜 .mem) (𝓡 .run))) 𝓜 𝓡 code.env #judge judge-def.routine code.calls-rows-judge·judge (judge-thm.met 𝓤 H 𝓜 𝓖 𝓡))
-    (cited 𝓤 H (tripleOf 𝓤 H (𝓖 .A) lesser.signature (lesser.spec 𝓤 H (𝓖 .A) (𝓜 .mem) (𝓡 .run))) 𝓜 𝓡 code.env #lesser lesser-def.routine code.calls-rows-judge·lesser (lesser-thm.met 𝓤 H 𝓜 𝓖 𝓡))
+    (cited 𝓤 H (tripleOf 𝓤 H (𝓖 .A) shorter.signature (shorter.spec 𝓤 H (𝓖 .A) (𝓜 .mem) (𝓡 .run))) 𝓜 𝓡 code.env #shorter shorter-def.routine code.calls-numbers·shorter (shorter-thm.met 𝓤 H 𝓜 𝓖 𝓡))
     (cited 𝓤 H (tripleOf 𝓤 H (𝓖 .A) make-plan.signature (make-plan.spec 𝓤 H (𝓖 .A) (𝓜 .mem) (𝓡 .run))) 𝓜 𝓡 code.env #make-plan make-plan-def.routine code.calls-extend-plan·make-plan (make-plan-thm.met 𝓤 H 𝓜 𝓖 𝓡))
     (cited 𝓤 H (tripleOf 𝓤 H (𝓖 .A) refuse.signature (refuse.spec 𝓤 H (𝓖 .A) (𝓜 .mem) (𝓡 .run))) 𝓜 𝓡 code.env #refuse refuse-def.routine code.calls-entry-extend·refuse (refuse-thm.met 𝓤 H 𝓜 𝓖 𝓡))
     (cited 𝓤 H (tripleOf 𝓤 H (𝓖 .A) extend-planned.signature (extend-planned.spec 𝓤 H (𝓖 .A) (𝓜 .mem) (𝓡 .run))) 𝓜 𝓡 code.env #extend-planned extend-planned-def.routine code.calls-entry-extend·extend-planned (extend-planned-thm.met 𝓤 H 𝓜 𝓖 𝓡)))

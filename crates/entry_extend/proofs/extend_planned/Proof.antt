@@ -42,10 +42,10 @@ use Rattle.extend_passes.proofs.extend_passes as extend-passes
 use Rattle.extend_passes.proofs.extend_passes.Symbol as extend-passes-def
 use Rattle.extend_passes.proofs.extend_passes.Symbol.{name as #extend-passes}
 use Rattle.extend_passes.proofs.extend_passes.Met as extend-passes-thm
-use Rattle.entry_extend.proofs.last_place as last-place
-use Rattle.entry_extend.proofs.last_place.Symbol as last-place-def
-use Rattle.entry_extend.proofs.last_place.Symbol.{name as #last-place}
-use Rattle.entry_extend.proofs.last_place.Met as last-place-thm
+use Rattle.numbers.proofs.place_before as place-before
+use Rattle.numbers.proofs.place_before.Symbol as place-before-def
+use Rattle.numbers.proofs.place_before.Symbol.{name as #place-before}
+use Rattle.numbers.proofs.place_before.Met as place-before-thm
 use Rattle.rows_records.proofs.row_at as row-at
 use Rattle.rows_records.proofs.row_at.Symbol as row-at-def
 use Rattle.rows_records.proofs.row_at.Symbol.{name as #row-at}
@@ -72,7 +72,7 @@ Liftᴰ 𝓤 H A W = struct 𝓤 H A W Liftᵀ.the-type Liftᴸ.the-laws Liftᴸ
 abbrev Rowᴰ : {M : Type 1} (𝓤 : URA M) (H : Heap 𝓤) (A : Atoms 𝓤) → Given 𝓤 H A → Data 𝓤 H A
 Rowᴰ 𝓤 H A W = struct 𝓤 H A W Rowᵀ.the-type Rowᴸ.the-laws Rowᴸ.the-plain
 
-module _ {M : Type 1} (𝓤 : URA M) (H : Heap 𝓤) (A : Atoms 𝓤) (W : Given 𝓤 H A) (mem : Memory → SProp 𝓤) (run : Routine → Fun 𝓤) (𝓣 : Tables 𝓤 H) (fm : FmC 𝓤 H (W .laws) (𝓣 .C)) (known-lift-of : Meets 𝓤 H A lift-of.signature (𝓣 .C #lift-of) (lift-of.spec 𝓤 H A mem run)) (known-extend-passes : Meets 𝓤 H A extend-passes.signature (𝓣 .C #extend-passes) (extend-passes.spec 𝓤 H A mem run)) (known-last-place : Meets 𝓤 H A last-place.signature (𝓣 .C #last-place) (last-place.spec 𝓤 H A mem run)) (known-row-at : Meets 𝓤 H A row-at.signature (𝓣 .C #row-at) (row-at.spec 𝓤 H A mem run)) (known-answer : Meets 𝓤 H A answer.signature (𝓣 .C #answer) (answer.spec 𝓤 H A mem run)) where
+module _ {M : Type 1} (𝓤 : URA M) (H : Heap 𝓤) (A : Atoms 𝓤) (W : Given 𝓤 H A) (mem : Memory → SProp 𝓤) (run : Routine → Fun 𝓤) (𝓣 : Tables 𝓤 H) (fm : FmC 𝓤 H (W .laws) (𝓣 .C)) (known-lift-of : Meets 𝓤 H A lift-of.signature (𝓣 .C #lift-of) (lift-of.spec 𝓤 H A mem run)) (known-extend-passes : Meets 𝓤 H A extend-passes.signature (𝓣 .C #extend-passes) (extend-passes.spec 𝓤 H A mem run)) (known-place-before : Meets 𝓤 H A place-before.signature (𝓣 .C #place-before) (place-before.spec 𝓤 H A mem run)) (known-row-at : Meets 𝓤 H A row-at.signature (𝓣 .C #row-at) (row-at.spec 𝓤 H A mem run)) (known-answer : Meets 𝓤 H A answer.signature (𝓣 .C #answer) (answer.spec 𝓤 H A mem run)) where
   module _ (κs : Lfts 7) (qs : Shares 7) (series : RefT (List ℤ)) (head : Head) (from′ : RefT (List Row)) (lefts : RefT (List ℕ)) (rights : RefT (List ℕ)) (rows : RefT (List Row)) (left : RefT (List ℕ)) (right : RefT (List ℕ))
       (g-series : Room i32 (length (now series))) (g-head : Is ((Headᴰ 𝓤 H A W) .row) head ((Headᴰ 𝓤 H A W) .val head ∷ [])) (g-from′ : Room Rowᵀ.the-row (length (now from′))) (g-lefts : Room u32 (length (now lefts))) (g-rights : Room u32 (length (now rights))) (g-rows : Room Rowᵀ.the-row (length (now rows))) (g-left : Room u32 (length (now left))) (g-right : Room u32 (length (now right))) (asked : thePlan (now series) head (now from′) (now lefts) (now rights) (indexBuffers (now rows) (now left) (now right)) .number ≡ 0) where
     abbrev series° : Lent
@@ -137,7 +137,7 @@ module _ {M : Type 1} (𝓤 : URA M) (H : Heap 𝓤) (A : Atoms 𝓤) (W : Given
         (λ fs. (((κs .0, (κs .1 .0, (κs .1 .1 .0, (κs .1 .1 .1 .0, (fs .0 .0 ∷ [], (fs .1 .0 .0 ∷ [], (fs .1 .1 .0 .0 ∷ [], tt))))))), (qs .0, (qs .1 .0, (qs .1 .1 .0, (qs .1 .1 .1 .0, (fullShare, (fullShare, (fullShare, tt))))))), tt, (series, ((u .window), ((u .extra), ((u .width), ((u .base), ((u .bias), ((u .old), (from′, (lefts, (rights, (record { ptr = rows .ptr; name = fs .0 .1; now = (now rows) }, (record { ptr = left .ptr; name = fs .1 .0 .1; now = (now left) }, (record { ptr = right .ptr; name = fs .1 .1 .0 .1; now = (now right) }, tt))))))))))))), (slice-vals series, ((uint 𝓤 H A W w64) .val (u .window) ∷ [], ((uint 𝓤 H A W w64) .val (u .extra) ∷ [], ((uint 𝓤 H A W w64) .val (u .width) ∷ [], ((uint 𝓤 H A W w64) .val (u .base) ∷ [], ((uint 𝓤 H A W w64) .val (u .bias) ∷ [], ((uint 𝓤 H A W w64) .val (u .old) ∷ [], (slice-vals from′, (slice-vals lefts, (slice-vals rights, (slice-vals rows, (slice-vals left, (slice-vals right, tt)))))))))))))), tt)) (λ fs. refl) (λ fs. refl) (λ fs ls. ls) (λ fs ls. refl) (λ fs. factI 𝓤 _ (emp 𝓤) (passes-asked (now series) head (now from′) (now lefts) (now rights) (indexBuffers (now rows) (now left) (now right)) asked lifted)) (λ fs r ls. id⊢ 𝓤 _) (λ fs. (uint 𝓤 H A W w64) .val) (λ fs. (uint 𝓤 H A W w64) .tells) (λ fs. (and-then ! (loc ! 4 refl) (and-then ! (part ! 20 refl (sub ! 0 refl (whole !))) (and-then ! (part ! 20 refl (sub ! 4 refl (whole !))) (and-then ! (part ! 20 refl (sub ! 2 refl (whole !))) (and-then ! (part ! 20 refl (sub ! 3 refl (whole !))) (and-then ! (part ! 20 refl (sub ! 5 refl (whole !))) (and-then ! (part ! 20 refl (sub ! 1 refl (whole !))) (and-then ! (loc ! 8 refl) (and-then ! (loc ! 10 refl) (and-then ! (loc ! 12 refl) (and-then ! (loc ! 30 refl) (and-then ! (loc ! 34 refl) (and-then ! (loc ! 38 refl) (no-more !))))))))))))))) (λ fs n ls₂ made is₂ fits₂.
         land ! (from ! (stop !)) (init ! 34 refl ((uint 𝓤 H A W w64) .lawful .typed n _ is₂ .0)) $
         tidy ! (token 𝓤 H A series° ∷ viewed 𝓤 H A series° ∷ token 𝓤 H A from′° ∷ viewed 𝓤 H A from′° ∷ token 𝓤 H A lefts° ∷ viewed 𝓤 H A lefts° ∷ token 𝓤 H A rights° ∷ viewed 𝓤 H A rights° ∷ token 𝓤 H A rows° ∷ lent-at 𝓤 H A rows° (ls₂ .1 .1 .1 .1 .1 .1 .1 .1 .1 .1 .0) ∷ token 𝓤 H A left° ∷ lent-at 𝓤 H A left° (ls₂ .1 .1 .1 .1 .1 .1 .1 .1 .1 .1 .1 .0) ∷ token 𝓤 H A right° ∷ lent-at 𝓤 H A right° (ls₂ .1 .1 .1 .1 .1 .1 .1 .1 .1 .1 .1 .1 .0) ∷ []) (empty ∷ holds _ ∷ holds _ ∷ holds _ ∷ holds _ ∷ holds _ ∷ holds _ ∷ holds _ ∷ holds _ ∷ holds _ ∷ holds _ ∷ empty ∷ empty ∷ holds _ ∷ holds _ ∷ holds _ ∷ holds _ ∷ holds _ ∷ holds _ ∷ empty ∷ empty ∷ []) refl $
-        calls-with ! fm last-place.ended (last-place.clauses 𝓤 H A mem run) known-last-place (value (uint 𝓤 H A W w64) n is₂ ∷ [])
+        calls-with ! fm place-before.ended (place-before.clauses 𝓤 H A mem run) known-place-before (value (uint 𝓤 H A W w64) n is₂ ∷ [])
         (λ fs. ((tt, tt, tt, (n, tt), ((uint 𝓤 H A W w64) .val n ∷ [], tt)), tt)) (λ fs. refl) (λ fs. refl) (λ fs ls. ls) (λ fs ls. refl) (λ fs. id⊢ 𝓤 _) (λ fs r ls. id⊢ 𝓤 _) (λ fs. (uint 𝓤 H A W w64) .val) (λ fs. (uint 𝓤 H A W w64) .tells) (λ fs. (and-then ! (loc ! 36 refl) (no-more !))) (λ fs k ls₃ before is₃ fits₃.
         land ! (from ! (stop !)) (init ! 36 refl ((uint 𝓤 H A W w64) .lawful .typed k _ is₃ .0)) $
         tidy ! (token 𝓤 H A series° ∷ viewed 𝓤 H A series° ∷ token 𝓤 H A from′° ∷ viewed 𝓤 H A from′° ∷ token 𝓤 H A lefts° ∷ viewed 𝓤 H A lefts° ∷ token 𝓤 H A rights° ∷ viewed 𝓤 H A rights° ∷ token 𝓤 H A rows° ∷ lent-at 𝓤 H A rows° (ls₂ .1 .1 .1 .1 .1 .1 .1 .1 .1 .1 .0) ∷ token 𝓤 H A left° ∷ lent-at 𝓤 H A left° (ls₂ .1 .1 .1 .1 .1 .1 .1 .1 .1 .1 .1 .0) ∷ token 𝓤 H A right° ∷ lent-at 𝓤 H A right° (ls₂ .1 .1 .1 .1 .1 .1 .1 .1 .1 .1 .1 .1 .0) ∷ []) (empty ∷ holds _ ∷ holds _ ∷ holds _ ∷ holds _ ∷ holds _ ∷ holds _ ∷ holds _ ∷ holds _ ∷ holds _ ∷ holds _ ∷ holds _ ∷ empty ∷ holds _ ∷ holds _ ∷ holds _ ∷ holds _ ∷ holds _ ∷ holds _ ∷ empty ∷ empty ∷ []) refl $
@@ -171,6 +171,6 @@ extend-planned-spec 𝓤 H 𝓜 𝓖 𝓡 =
     (meets 𝓤 H (𝓖 .A) (givenOf 𝓤 H 𝓜 𝓖) (𝓜 .mem) (𝓡 .run) (tablesOf 𝓤 H 𝓜 (tables 𝓤 H 𝓜 𝓡 code.env)) (fmOf 𝓤 H (givenOf 𝓤 H 𝓜 𝓖 .laws) (tablesOf 𝓤 H 𝓜 (tables 𝓤 H 𝓜 𝓡 code.env)))
     (cited 𝓤 H (tripleOf 𝓤 H (𝓖 .A) lift-of.signature (lift-of.spec 𝓤 H (𝓖 .A) (𝓜 .mem) (𝓡 .run))) 𝓜 𝓡 code.env #lift-of lift-of-def.routine code.calls-entry-extend·lift-of (lift-of-thm.met 𝓤 H 𝓜 𝓖 𝓡))
     (cited 𝓤 H (tripleOf 𝓤 H (𝓖 .A) extend-passes.signature (extend-passes.spec 𝓤 H (𝓖 .A) (𝓜 .mem) (𝓡 .run))) 𝓜 𝓡 code.env #extend-passes extend-passes-def.routine code.calls-extend-passes·extend-passes (extend-passes-thm.met 𝓤 H 𝓜 𝓖 𝓡))
-    (cited 𝓤 H (tripleOf 𝓤 H (𝓖 .A) last-place.signature (last-place.spec 𝓤 H (𝓖 .A) (𝓜 .mem) (𝓡 .run))) 𝓜 𝓡 code.env #last-place last-place-def.routine code.calls-entry-extend·last-place (last-place-thm.met 𝓤 H 𝓜 𝓖 𝓡))
+    (cited 𝓤 H (tripleOf 𝓤 H (𝓖 .A) place-before.signature (place-before.spec 𝓤 H (𝓖 .A) (𝓜 .mem) (𝓡 .run))) 𝓜 𝓡 code.env #place-before place-before-def.routine code.calls-numbers·place-before (place-before-thm.met 𝓤 H 𝓜 𝓖 𝓡))
     (cited 𝓤 H (tripleOf 𝓤 H (𝓖 .A) row-at.signature (row-at.spec 𝓤 H (𝓖 .A) (𝓜 .mem) (𝓡 .run))) 𝓜 𝓡 code.env #row-at row-at-def.routine code.calls-rows-records·row-at (row-at-thm.met 𝓤 H 𝓜 𝓖 𝓡))
     (cited 𝓤 H (tripleOf 𝓤 H (𝓖 .A) answer.signature (answer.spec 𝓤 H (𝓖 .A) (𝓜 .mem) (𝓡 .run))) 𝓜 𝓡 code.env #answer answer-def.routine code.calls-entry-extend·answer (answer-thm.met 𝓤 H 𝓜 𝓖 𝓡)))

@@ -20,12 +20,12 @@ use mathlib.Core.Path.{subst}
 use Rattle.extend_passes.proofs.Stages.{has, counts, in-rows, lays, copies, joins, fills, extends}
 use Rattle.extend_passes.specs.Whole.{indexOf, PassesAsked}
 use Rattle.extend_passes.proofs.Whole.{weave-asked}
-use Rattle.sums_slide.specs.declared.Window.{Window}
-use Rattle.sums_slide.proofs.Window as Windowᵀ
-use Rattle.sums_slide.proofs.Window.Laws as Windowᴸ
 use Rattle.meaning_rows.specs.declared.Row.{Row}
 use Rattle.meaning_rows.proofs.Row as Rowᵀ
 use Rattle.meaning_rows.proofs.Row.Laws as Rowᴸ
+use Rattle.sums_slide.specs.declared.Window.{Window}
+use Rattle.sums_slide.proofs.Window as Windowᵀ
+use Rattle.sums_slide.proofs.Window.Laws as Windowᴸ
 use Rattle.extend_rows.proofs.weave_new as weave-new
 use Rattle.extend_rows.proofs.weave_new.Symbol as weave-new-def
 use Rattle.extend_rows.proofs.weave_new.Symbol.{name as #weave-new}
@@ -60,11 +60,11 @@ use Rattle.extend_passes.proofs.extend_passes.Statement as stated
 use Rattle.extend_passes.proofs.extend_passes.Code as code
 use Rattle.meaning_curves.specs.Limits.{greatestValue}
 
-abbrev Windowᴰ : {M : Type 1} (𝓤 : URA M) (H : Heap 𝓤) (A : Atoms 𝓤) → Given 𝓤 H A → Data 𝓤 H A
-Windowᴰ 𝓤 H A W = struct 𝓤 H A W Windowᵀ.the-type Windowᴸ.the-laws Windowᴸ.the-plain
-
 abbrev Rowᴰ : {M : Type 1} (𝓤 : URA M) (H : Heap 𝓤) (A : Atoms 𝓤) → Given 𝓤 H A → Data 𝓤 H A
 Rowᴰ 𝓤 H A W = struct 𝓤 H A W Rowᵀ.the-type Rowᴸ.the-laws Rowᴸ.the-plain
+
+abbrev Windowᴰ : {M : Type 1} (𝓤 : URA M) (H : Heap 𝓤) (A : Atoms 𝓤) → Given 𝓤 H A → Data 𝓤 H A
+Windowᴰ 𝓤 H A W = struct 𝓤 H A W Windowᵀ.the-type Windowᴸ.the-laws Windowᴸ.the-plain
 
 module _ {M : Type 1} (𝓤 : URA M) (H : Heap 𝓤) (A : Atoms 𝓤) (W : Given 𝓤 H A) (mem : Memory → SProp 𝓤) (run : Routine → Fun 𝓤) (𝓣 : Tables 𝓤 H) (fm : FmC 𝓤 H (W .laws) (𝓣 .C)) (known-weave-new : Meets 𝓤 H A weave-new.signature (𝓣 .C #weave-new) (weave-new.spec 𝓤 H A mem run)) (known-count-rows : Meets 𝓤 H A count-rows.signature (𝓣 .C #count-rows) (count-rows.spec 𝓤 H A mem run)) (known-row-at : Meets 𝓤 H A row-at.signature (𝓣 .C #row-at) (row-at.spec 𝓤 H A mem run)) (known-lay-joined : Meets 𝓤 H A lay-joined.signature (𝓣 .C #lay-joined) (lay-joined.spec 𝓤 H A mem run)) (known-copy-runs : Meets 𝓤 H A copy-runs.signature (𝓣 .C #copy-runs) (copy-runs.spec 𝓤 H A mem run)) (known-join-first : Meets 𝓤 H A join-first.signature (𝓣 .C #join-first) (join-first.spec 𝓤 H A mem run)) (known-fill-parts : Meets 𝓤 H A fill-parts.signature (𝓣 .C #fill-parts) (fill-parts.spec 𝓤 H A mem run)) where
   module _ (κs : Lfts 7) (qs : Shares 7) (s : RefT (List ℤ)) (w : ℕ) (e : ℕ) (d : ℕ) (base : ℕ) (bias : ℕ) (old : ℕ) (from′ : RefT (List Row)) (lefts : RefT (List ℕ)) (rights : RefT (List ℕ)) (rows : RefT (List Row)) (left : RefT (List ℕ)) (right : RefT (List ℕ))

@@ -1,4 +1,4 @@
--- Written by tools/walk from the plan in the lines marked |. Change those, and run `tools/walk extend_passes count_rows`.
+-- Written by tools/walk from the plan in the lines marked |. Change those, and run `tools/walk extend_rows count_rows`.
 -- The raised ends of the rows are listed, and the runs counted beside them.
 -- | u, ends-are = list_ends: asked .lists
 -- | i, counted = count_windows: rw (ends-are .0, ends-are .1) (asked .counts)

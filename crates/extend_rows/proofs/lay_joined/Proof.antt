@@ -1,4 +1,4 @@
--- Written by tools/walk from the plan in the lines marked |. Change those, and run `tools/walk extend_passes lay_joined`.
+-- Written by tools/walk from the plan in the lines marked |. Change those, and run `tools/walk extend_rows lay_joined`.
 -- The counts are summed to the ends of the parts, and the parts laid out.
 -- | u, summed = sum_joined: (asked .window, asked .fits, asked .sums)
 -- | v, rows-are = lay_rows: asked .lays last.left long.left summed

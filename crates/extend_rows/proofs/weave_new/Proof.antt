@@ -1,4 +1,4 @@
--- Written by tools/walk from the plan in the lines marked |. Change those, and run `tools/walk extend_passes weave_new`.
+-- Written by tools/walk from the plan in the lines marked |. Change those, and run `tools/walk extend_rows weave_new`.
 -- The row numbers of the new windows are listed, old rows and new ones woven, and the records past them cleared.
 -- | use Rattle.extend_rows.proofs.Shell.{lists, weaves, clears, woven-as}
 -- | k, listed = list_numbers: lists asked
@@ -7,7 +7,6 @@
 -- | ends: woven-as asked listed made rows-are
 use Rattle.rows_records.proofs.Prelude.{refl, ℕ, List, [], _∷_, ℤ, length, URA, fullShare, named, w64, Val, SProp, ent, emp, id⊢, Memory, Routine, Heap, WpFn, Tables, Atoms, Lfts, Shares, Fun, factI, givenOf, tables, Given, Item, ⋆, _$_, _∵_, !, qed, by, move, keep, whole, sub, agg, look, init, stop, from, of-opd, and-then, no-more, land, returns, enter, alloc1, alloc0, params1, pass1, pass0, FmC, fmOf, Is, i32, u32, RefT, ptr, now, name, sliceVal, Room, slice-vals, shr-slice-tells, mut-slice-tells, Meets, tripleOf, entered, cited, needs, AtEntry, uint, nothing, Lent, value, kept, lends, shares, token, viewed, lent-at, holds, empty, tidy, frees-all, calls-with, leaves-with, meets-with, loc, part, start, put-at}
 use contract.Running.{tablesOf}
-use Rattle.extend_rows.specs.Shell.{WeaveAsked}
 use Rattle.extend_rows.proofs.Shell.{lists, weaves, clears, woven-as}
 use Rattle.meaning_rows.specs.declared.Row.{Row}
 use Rattle.meaning_rows.proofs.Row as Rowᵀ
@@ -28,6 +27,7 @@ use Rattle.extend_rows.proofs.weave_new as f
 use Rattle.extend_rows.proofs.weave_new.Statement as stated
 use Rattle.extend_rows.proofs.weave_new.Code as code
 use Rattle.meaning_rows.specs.Index.{Index}
+use Rattle.extend_rows.specs.Shell.{WeaveAsked}
 
 module _ {M : Type 1} (𝓤 : URA M) (H : Heap 𝓤) (A : Atoms 𝓤) (W : Given 𝓤 H A) (mem : Memory → SProp 𝓤) (run : Routine → Fun 𝓤) (𝓣 : Tables 𝓤 H) (fm : FmC 𝓤 H (W .laws) (𝓣 .C)) (known-list-numbers : Meets 𝓤 H A list-numbers.signature (𝓣 .C #list-numbers) (list-numbers.spec 𝓤 H A mem run)) (known-weave-rows : Meets 𝓤 H A weave-rows.signature (𝓣 .C #weave-rows) (weave-rows.spec 𝓤 H A mem run)) (known-clear-rows : Meets 𝓤 H A clear-rows.signature (𝓣 .C #clear-rows) (clear-rows.spec 𝓤 H A mem run)) where
   module _ (κs : Lfts 4) (qs : Shares 4) (s : RefT (List ℤ)) (w : ℕ) (e : ℕ) (d : ℕ) (base : ℕ) (old : ℕ) (from′ : RefT (List Row)) (rows : RefT (List Row)) (left : RefT (List ℕ)) (x : Index)

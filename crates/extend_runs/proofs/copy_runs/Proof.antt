@@ -1,4 +1,4 @@
--- Written by tools/walk from the plan in the lines marked |. Change those, and run `tools/walk extend_passes copy_runs`.
+-- Written by tools/walk from the plan in the lines marked |. Change those, and run `tools/walk extend_runs copy_runs`.
 -- The runs are cleared, and the old ones copied, one column at a time.
 -- | u, cleared = clear_runs
 -- | v, left-is = copy_column: rw (cleared .0 .long) (asked .lefts-fit)

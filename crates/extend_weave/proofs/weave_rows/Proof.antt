@@ -32,7 +32,6 @@ use lib.ListN.{set}
 use mathlib.Core.Path.{subst}
 use native.Mathlib.Nat.{le-refl, le-of-lt}
 use borrow.Author.Tests.{ltb-true, ltb-false}
-use Rattle.extend_weave.specs.Weave.{Weavable}
 use Rattle.extend_weave.proofs.Weave.{Weaving, weaving-cell, weaving-starts, weaving-ends, weaving-room, weaving-turn, weaving-falls}
 use Rattle.extend_weave.proofs.Fits.{below-rows, below-numbers, sum-below}
 use Rattle.meaning_rows.specs.declared.Row.{Row}
@@ -70,6 +69,7 @@ use Rattle.extend_weave.proofs.weave_rows.Key.{name as #self}
 use Rattle.extend_weave.proofs.weave_rows as f
 use Rattle.extend_weave.proofs.weave_rows.Statement as stated
 use Rattle.extend_weave.proofs.weave_rows.Code as code
+use Rattle.extend_weave.specs.Weave.{Weavable}
 
 abbrev Rowᴰ : {M : Type 1} (𝓤 : URA M) (H : Heap 𝓤) (A : Atoms 𝓤) → Given 𝓤 H A → Data 𝓤 H A
 Rowᴰ 𝓤 H A W = struct 𝓤 H A W Rowᵀ.the-type Rowᴸ.the-laws Rowᴸ.the-plain

@@ -32,9 +32,9 @@ use Rattle.rows_judge.proofs.Judged.Laws as Judgedᴸ
 use Rattle.meaning_rows.specs.declared.Row.{Row}
 use Rattle.meaning_rows.proofs.Row as Rowᵀ
 use Rattle.meaning_rows.proofs.Row.Laws as Rowᴸ
-use Rattle.rows_judge.specs.declared.State.{State}
-use Rattle.rows_judge.proofs.State as Stateᵀ
-use Rattle.rows_judge.proofs.State.Laws as Stateᴸ
+use Rattle.rows_judge.specs.declared.RowsJudged.{RowsJudged}
+use Rattle.rows_judge.proofs.RowsJudged as RowsJudgedᵀ
+use Rattle.rows_judge.proofs.RowsJudged.Laws as RowsJudgedᴸ
 use Rattle.rows_judge.proofs.judge_head as judge-head
 use Rattle.rows_judge.proofs.judge_head.Symbol as judge-head-def
 use Rattle.rows_judge.proofs.judge_head.Symbol.{name as #judge-head}
@@ -65,8 +65,8 @@ Judgedᴰ 𝓤 H A W = enum 𝓤 H A W Judgedᵀ.the-type Judgedᴸ.the-laws tt 
 abbrev Rowᴰ : {M : Type 1} (𝓤 : URA M) (H : Heap 𝓤) (A : Atoms 𝓤) → Given 𝓤 H A → Data 𝓤 H A
 Rowᴰ 𝓤 H A W = struct 𝓤 H A W Rowᵀ.the-type Rowᴸ.the-laws Rowᴸ.the-plain
 
-abbrev Stateᴰ : {M : Type 1} (𝓤 : URA M) (H : Heap 𝓤) (A : Atoms 𝓤) → Given 𝓤 H A → Data 𝓤 H A
-Stateᴰ 𝓤 H A W = struct 𝓤 H A W Stateᵀ.the-type Stateᴸ.the-laws Stateᴸ.the-plain
+abbrev RowsJudgedᴰ : {M : Type 1} (𝓤 : URA M) (H : Heap 𝓤) (A : Atoms 𝓤) → Given 𝓤 H A → Data 𝓤 H A
+RowsJudgedᴰ 𝓤 H A W = struct 𝓤 H A W RowsJudgedᵀ.the-type RowsJudgedᴸ.the-laws RowsJudgedᴸ.the-plain
 
 module _ {M : Type 1} (𝓤 : URA M) (H : Heap 𝓤) (A : Atoms 𝓤) (W : Given 𝓤 H A) (mem : Memory → SProp 𝓤) (run : Routine → Fun 𝓤) (𝓣 : Tables 𝓤 H) (fm : FmC 𝓤 H (W .laws) (𝓣 .C)) (known-judge-head : Meets 𝓤 H A judge-head.signature (𝓣 .C #judge-head) (judge-head.spec 𝓤 H A mem run)) (known-row-at : Meets 𝓤 H A row-at.signature (𝓣 .C #row-at) (row-at.spec 𝓤 H A mem run)) (known-judge-row : Meets 𝓤 H A judge-row.signature (𝓣 .C #judge-row) (judge-row.spec 𝓤 H A mem run)) (known-verdict : Meets 𝓤 H A verdict.signature (𝓣 .C #verdict) (verdict.spec 𝓤 H A mem run)) where
   module _ (κs : Lfts 3) (qs : Shares 3) (head : Head) (rows : RefT (List Row)) (left : RefT (List ℕ)) (right : RefT (List ℕ))
@@ -103,12 +103,12 @@ module _ {M : Type 1} (𝓤 : URA M) (H : Heap 𝓤) (A : Atoms 𝓤) (W : Given
         pass0 ! $
         keep ! (20 ∷ 24 ∷ 21 ∷ 25 ∷ 22 ∷ 26 ∷ 18 ∷ 19 ∷ 16 ∷ 17 ∷ 14 ∷ 15 ∷ 12 ∷ 13 ∷ 10 ∷ 11 ∷ 8 ∷ 9 ∷ 6 ∷ 7 ∷ 4 ∷ 5 ∷ 2 ∷ 3 ∷ 0 ∷ 1 ∷ []) $
         calls-with ! fm judge-head.ended (judge-head.clauses 𝓤 H A mem run) known-judge-head (value (Headᴰ 𝓤 H A W) head g-head ∷ [])
-        (λ fs. ((tt, tt, tt, (head, tt), ((Headᴰ 𝓤 H A W) .val head ∷ [], tt)), tt)) (λ fs. refl) (λ fs. refl) (λ fs ls. ls) (λ fs ls. refl) (λ fs. id⊢ 𝓤 _) (λ fs r ls. id⊢ 𝓤 _) (λ fs. (Stateᴰ 𝓤 H A W) .val) (λ fs. (Stateᴰ 𝓤 H A W) .tells) (λ fs. (and-then ! (loc ! 10 refl) (no-more !))) (λ fs begun ls₁ is is₁ fits₁.
-        land ! (from ! (stop !)) (init ! 16 refl ((Stateᴰ 𝓤 H A W) .lawful .typed begun _ is₁ .0)) $
+        (λ fs. ((tt, tt, tt, (head, tt), ((Headᴰ 𝓤 H A W) .val head ∷ [], tt)), tt)) (λ fs. refl) (λ fs. refl) (λ fs ls. ls) (λ fs ls. refl) (λ fs. id⊢ 𝓤 _) (λ fs r ls. id⊢ 𝓤 _) (λ fs. (RowsJudgedᴰ 𝓤 H A W) .val) (λ fs. (RowsJudgedᴰ 𝓤 H A W) .tells) (λ fs. (and-then ! (loc ! 10 refl) (no-more !))) (λ fs begun ls₁ is is₁ fits₁.
+        land ! (from ! (stop !)) (init ! 16 refl ((RowsJudgedᴰ 𝓤 H A W) .lawful .typed begun _ is₁ .0)) $
         tidy ! (token 𝓤 H A rows° ∷ viewed 𝓤 H A rows° ∷ token 𝓤 H A left° ∷ viewed 𝓤 H A left° ∷ token 𝓤 H A right° ∷ viewed 𝓤 H A right° ∷ []) (empty ∷ holds _ ∷ holds _ ∷ holds _ ∷ holds _ ∷ holds _ ∷ empty ∷ empty ∷ empty ∷ empty ∷ []) refl $
         put-at ! 18 (of-opd ! (lit ! tt)) refl ((uint 𝓤 H A W w64) .lawful .typed 0 _ (refl, lit< tt) .0) $
-        loops ! 𝓣 (λ (σ : State × ℕ). length (now rows) - (σ .1)) (λ σ. (Judging head (now rows) (now left) (now right) (σ .0) (σ .1)) × Is ((Stateᴰ 𝓤 H A W) .row) (σ .0) ((Stateᴰ 𝓤 H A W) .val (σ .0) ∷ []) × Is ((uint 𝓤 H A W w64) .row) (σ .1) ((uint 𝓤 H A W w64) .val (σ .1) ∷ []))
-        (λ σ. token 𝓤 H A rows° ∷ viewed 𝓤 H A rows° ∷ token 𝓤 H A left° ∷ viewed 𝓤 H A left° ∷ token 𝓤 H A right° ∷ viewed 𝓤 H A right° ∷ []) (λ σ. empty ∷ holds ((Headᴰ 𝓤 H A W) .val head) ∷ holds (sliceVal (rows .ptr) (length (now rows))) ∷ holds (sliceVal (left .ptr) (length (now left))) ∷ holds (sliceVal (right .ptr) (length (now right))) ∷ holds ((Stateᴰ 𝓤 H A W) .val (σ .0)) ∷ holds ((uint 𝓤 H A W w64) .val (σ .1)) ∷ empty ∷ empty ∷ empty ∷ []) (begun, 0) ((judging-starts head (now rows) (now left) (now right) is), is₁, (refl, lit< tt)) refl (λ σ keptᵗ Qᵗ onᵗ outᵗ.
+        loops ! 𝓣 (λ (σ : RowsJudged × ℕ). length (now rows) - (σ .1)) (λ σ. (Judging head (now rows) (now left) (now right) (σ .0) (σ .1)) × Is ((RowsJudgedᴰ 𝓤 H A W) .row) (σ .0) ((RowsJudgedᴰ 𝓤 H A W) .val (σ .0) ∷ []) × Is ((uint 𝓤 H A W w64) .row) (σ .1) ((uint 𝓤 H A W w64) .val (σ .1) ∷ []))
+        (λ σ. token 𝓤 H A rows° ∷ viewed 𝓤 H A rows° ∷ token 𝓤 H A left° ∷ viewed 𝓤 H A left° ∷ token 𝓤 H A right° ∷ viewed 𝓤 H A right° ∷ []) (λ σ. empty ∷ holds ((Headᴰ 𝓤 H A W) .val head) ∷ holds (sliceVal (rows .ptr) (length (now rows))) ∷ holds (sliceVal (left .ptr) (length (now left))) ∷ holds (sliceVal (right .ptr) (length (now right))) ∷ holds ((RowsJudgedᴰ 𝓤 H A W) .val (σ .0)) ∷ holds ((uint 𝓤 H A W w64) .val (σ .1)) ∷ empty ∷ empty ∷ empty ∷ []) (begun, 0) ((judging-starts head (now rows) (now left) (now right) is), is₁, (refl, lit< tt)) refl (λ σ keptᵗ Qᵗ onᵗ outᵗ.
         put-at ! 20 (of-opd ! (part ! 10 refl (sub ! 1 refl (whole !)))) refl ((uint 𝓤 H A W w64) .lawful .typed (length (now rows)) _ (refl, g-rows .0) .0) $
         put-at ! 22 (bin ! (loc ! 18 refl) (loc ! 20 refl) tt) refl (tt, tt) $
         by-bool (ltb (σ .1) (length (now rows))) (λ inside. rewrite ! 22 (λ (t : Bool). ‵ (fat fullShare tyBool l₈ 0 (vbool t))) inside refl $ stays ! (loc ! 22 refl) $
@@ -118,14 +118,14 @@ module _ {M : Type 1} (𝓤 : URA M) (H : Heap 𝓤) (A : Atoms 𝓤) (W : Given
         land ! (from ! (stop !)) (init ! 24 refl ((Rowᴰ 𝓤 H A W) .lawful .typed r _ is₂ .0)) $
         tidy ! (token 𝓤 H A rows° ∷ viewed 𝓤 H A rows° ∷ token 𝓤 H A left° ∷ viewed 𝓤 H A left° ∷ token 𝓤 H A right° ∷ viewed 𝓤 H A right° ∷ []) (empty ∷ holds _ ∷ holds _ ∷ holds _ ∷ holds _ ∷ holds _ ∷ holds _ ∷ holds _ ∷ holds _ ∷ holds _ ∷ []) refl $
         move ! (2 ∷ 3 ∷ 4 ∷ 5 ∷ []) $
-        calls-with ! fm judge-row.ended (judge-row.clauses 𝓤 H A mem run) known-judge-row (value (Headᴰ 𝓤 H A W) head g-head ∷ value (Stateᴰ 𝓤 H A W) (σ .0) (keptᵗ .1) ∷ value (Rowᴰ 𝓤 H A W) r is₂ ∷ kept left° ∷ kept right° ∷ [])
-        (λ fs. (((κs .1 .0, (κs .1 .1 .0, tt)), (qs .1 .0, (qs .1 .1 .0, tt)), tt, (head, ((σ .0), (r, (left, (right, tt))))), ((Headᴰ 𝓤 H A W) .val head ∷ [], ((Stateᴰ 𝓤 H A W) .val (σ .0) ∷ [], ((Rowᴰ 𝓤 H A W) .val r ∷ [], (slice-vals left, (slice-vals right, tt)))))), tt)) (λ fs. refl) (λ fs. refl) (λ fs ls. ls) (λ fs ls. refl) (λ fs. id⊢ 𝓤 _) (λ fs r ls. id⊢ 𝓤 _) (λ fs. (Stateᴰ 𝓤 H A W) .val) (λ fs. (Stateᴰ 𝓤 H A W) .tells) (λ fs. (and-then ! (loc ! 6 refl) (and-then ! (loc ! 14 refl) (and-then ! (loc ! 22 refl) (and-then ! (loc ! 10 refl) (and-then ! (loc ! 12 refl) (no-more !))))))) (λ fs t ls₃ is-t is₃ fits₃.
-        land ! (from ! (stop !)) (store ! 16 refl ((Stateᴰ 𝓤 H A W) .lawful .typed t _ is₃ .0)) $
+        calls-with ! fm judge-row.ended (judge-row.clauses 𝓤 H A mem run) known-judge-row (value (Headᴰ 𝓤 H A W) head g-head ∷ value (RowsJudgedᴰ 𝓤 H A W) (σ .0) (keptᵗ .1) ∷ value (Rowᴰ 𝓤 H A W) r is₂ ∷ kept left° ∷ kept right° ∷ [])
+        (λ fs. (((κs .1 .0, (κs .1 .1 .0, tt)), (qs .1 .0, (qs .1 .1 .0, tt)), tt, (head, ((σ .0), (r, (left, (right, tt))))), ((Headᴰ 𝓤 H A W) .val head ∷ [], ((RowsJudgedᴰ 𝓤 H A W) .val (σ .0) ∷ [], ((Rowᴰ 𝓤 H A W) .val r ∷ [], (slice-vals left, (slice-vals right, tt)))))), tt)) (λ fs. refl) (λ fs. refl) (λ fs ls. ls) (λ fs ls. refl) (λ fs. id⊢ 𝓤 _) (λ fs r ls. id⊢ 𝓤 _) (λ fs. (RowsJudgedᴰ 𝓤 H A W) .val) (λ fs. (RowsJudgedᴰ 𝓤 H A W) .tells) (λ fs. (and-then ! (loc ! 6 refl) (and-then ! (loc ! 14 refl) (and-then ! (loc ! 22 refl) (and-then ! (loc ! 10 refl) (and-then ! (loc ! 12 refl) (no-more !))))))) (λ fs t ls₃ is-t is₃ fits₃.
+        land ! (from ! (stop !)) (store ! 16 refl ((RowsJudgedᴰ 𝓤 H A W) .lawful .typed t _ is₃ .0)) $
         tidy ! (token 𝓤 H A left° ∷ viewed 𝓤 H A left° ∷ token 𝓤 H A right° ∷ viewed 𝓤 H A right° ∷ token 𝓤 H A rows° ∷ viewed 𝓤 H A rows° ∷ []) (empty ∷ holds _ ∷ holds _ ∷ holds _ ∷ holds _ ∷ holds _ ∷ holds _ ∷ holds _ ∷ holds _ ∷ holds _ ∷ []) refl $
         assigns ! (un ! (part ! 16 refl (sub ! 0 refl (whole !))) tt) (from ! (stop !)) (store ! 22 refl (tt, tt)) $
         by-bool (not (t .good)) (λ bad. rewrite ! 22 (λ (t : Bool). ‵ (fat fullShare tyBool l₈ 0 (vbool t))) bad refl $ goes-in ! (loc ! 22 refl) $ jumps ! $ outᵗ _ $
-        calls-with ! fm verdict.ended (verdict.clauses 𝓤 H A mem run) known-verdict (value (Stateᴰ 𝓤 H A W) t is₃ ∷ value (uint 𝓤 H A W w64) (σ .1) (keptᵗ .2) ∷ [])
-        (λ fs. ((tt, tt, tt, (t, ((σ .1), tt)), ((Stateᴰ 𝓤 H A W) .val t ∷ [], ((uint 𝓤 H A W w64) .val (σ .1) ∷ [], tt))), tt)) (λ fs. refl) (λ fs. refl) (λ fs ls. ls) (λ fs ls. refl) (λ fs. id⊢ 𝓤 _) (λ fs r ls. id⊢ 𝓤 _) (λ fs. (Judgedᴰ 𝓤 H A W) .val) (λ fs. (Judgedᴰ 𝓤 H A W) .tells) (λ fs. (and-then ! (loc ! 18 refl) (and-then ! (loc ! 20 refl) (no-more !)))) (λ fs j ls₄ is-j is₄ fits₄.
+        calls-with ! fm verdict.ended (verdict.clauses 𝓤 H A mem run) known-verdict (value (RowsJudgedᴰ 𝓤 H A W) t is₃ ∷ value (uint 𝓤 H A W w64) (σ .1) (keptᵗ .2) ∷ [])
+        (λ fs. ((tt, tt, tt, (t, ((σ .1), tt)), ((RowsJudgedᴰ 𝓤 H A W) .val t ∷ [], ((uint 𝓤 H A W w64) .val (σ .1) ∷ [], tt))), tt)) (λ fs. refl) (λ fs. refl) (λ fs ls. ls) (λ fs ls. refl) (λ fs. id⊢ 𝓤 _) (λ fs r ls. id⊢ 𝓤 _) (λ fs. (Judgedᴰ 𝓤 H A W) .val) (λ fs. (Judgedᴰ 𝓤 H A W) .tells) (λ fs. (and-then ! (loc ! 18 refl) (and-then ! (loc ! 20 refl) (no-more !)))) (λ fs j ls₄ is-j is₄ fits₄.
         land ! (from ! (stop !)) (init ! 6 refl ((Judgedᴰ 𝓤 H A W) .lawful .typed j _ is₄ .0)) $
         tidy ! (token 𝓤 H A left° ∷ viewed 𝓤 H A left° ∷ token 𝓤 H A right° ∷ viewed 𝓤 H A right° ∷ token 𝓤 H A rows° ∷ viewed 𝓤 H A rows° ∷ []) (holds _ ∷ holds _ ∷ holds _ ∷ holds _ ∷ holds _ ∷ holds _ ∷ holds _ ∷ holds _ ∷ holds _ ∷ holds _ ∷ []) refl $
         returns ! (look ! 6 refl) $
@@ -140,8 +140,8 @@ module _ {M : Type 1} (𝓤 : URA M) (H : Heap 𝓤) (A : Atoms 𝓤) (W : Given
         move ! (4 ∷ 5 ∷ 0 ∷ 1 ∷ 2 ∷ 3 ∷ []) $
         by ! (onᵗ (t, ((σ .1) + 1)) (nearer (σ .1) (length (now rows)) (ltb-true (σ .1) (length (now rows)) inside)) ((judging-next head (now rows) (now left) (now right) (keptᵗ .0) is-r is-t (ltb-true (σ .1) (length (now rows)) inside) no-bad), is₃, (refl, next-fits (σ .1) (length (now rows)) (ltb-true (σ .1) (length (now rows)) inside) (g-rows .0))))))))
         (λ no-inside. rewrite ! 22 (λ (t : Bool). ‵ (fat fullShare tyBool l₈ 0 (vbool t))) no-inside refl $ leaves-loop ! (loc ! 22 refl) $ outᵗ _ $
-        calls-with ! fm verdict.ended (verdict.clauses 𝓤 H A mem run) known-verdict (value (Stateᴰ 𝓤 H A W) (σ .0) (keptᵗ .1) ∷ value (uint 𝓤 H A W w64) (σ .1) (keptᵗ .2) ∷ [])
-        (λ fs. ((tt, tt, tt, ((σ .0), ((σ .1), tt)), ((Stateᴰ 𝓤 H A W) .val (σ .0) ∷ [], ((uint 𝓤 H A W w64) .val (σ .1) ∷ [], tt))), tt)) (λ fs. refl) (λ fs. refl) (λ fs ls. ls) (λ fs ls. refl) (λ fs. id⊢ 𝓤 _) (λ fs r ls. id⊢ 𝓤 _) (λ fs. (Judgedᴰ 𝓤 H A W) .val) (λ fs. (Judgedᴰ 𝓤 H A W) .tells) (λ fs. (and-then ! (loc ! 18 refl) (and-then ! (loc ! 20 refl) (no-more !)))) (λ fs j ls₅ is-j is₅ fits₅.
+        calls-with ! fm verdict.ended (verdict.clauses 𝓤 H A mem run) known-verdict (value (RowsJudgedᴰ 𝓤 H A W) (σ .0) (keptᵗ .1) ∷ value (uint 𝓤 H A W w64) (σ .1) (keptᵗ .2) ∷ [])
+        (λ fs. ((tt, tt, tt, ((σ .0), ((σ .1), tt)), ((RowsJudgedᴰ 𝓤 H A W) .val (σ .0) ∷ [], ((uint 𝓤 H A W w64) .val (σ .1) ∷ [], tt))), tt)) (λ fs. refl) (λ fs. refl) (λ fs ls. ls) (λ fs ls. refl) (λ fs. id⊢ 𝓤 _) (λ fs r ls. id⊢ 𝓤 _) (λ fs. (Judgedᴰ 𝓤 H A W) .val) (λ fs. (Judgedᴰ 𝓤 H A W) .tells) (λ fs. (and-then ! (loc ! 18 refl) (and-then ! (loc ! 20 refl) (no-more !)))) (λ fs j ls₅ is-j is₅ fits₅.
         land ! (from ! (stop !)) (init ! 6 refl ((Judgedᴰ 𝓤 H A W) .lawful .typed j _ is₅ .0)) $
         tidy ! (token 𝓤 H A rows° ∷ viewed 𝓤 H A rows° ∷ token 𝓤 H A left° ∷ viewed 𝓤 H A left° ∷ token 𝓤 H A right° ∷ viewed 𝓤 H A right° ∷ []) (holds _ ∷ holds _ ∷ holds _ ∷ holds _ ∷ holds _ ∷ holds _ ∷ holds _ ∷ holds _ ∷ holds _ ∷ empty ∷ []) refl $
         returns ! (look ! 6 refl) $

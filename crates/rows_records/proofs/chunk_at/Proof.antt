@@ -7,9 +7,9 @@
 -- | ends: made ∙ chunk-copied (now rows) from′ n $counted
 use Rattle.rows_records.proofs.Prelude.{refl, _∙_, sym, ℕ, List, [], _∷_, lit<, length, URA, fullShare, named, w64, Val, SProp, ent, emp, id⊢, via, fst∗, Memory, Routine, Heap, WpFn, Tables, Atoms, Lfts, Shares, Fun, factI, givenOf, tables, Given, Item, ⋆, _$_, _∵_, !, qed, by, move, keep, whole, sub, agg, look, init, stop, from, lit, of-opd, and-then, no-more, land, returns, enter, alloc1, alloc0, params1, pass1, pass0, FmC, fmOf, Is, RefT, ptr, now, name, sliceVal, Room, slice-vals, shr-slice-tells, Meets, tripleOf, entered, cited, AtEntry, Data, uint, nothing, struct, Lent, value, kept, lends, token, viewed, holds, empty, tidy, frees-all, calls-with, leaves-with, meets-with, loc, part, put-at, array, is-repeat, Local, mut-of, lends-array, back-array, recount}
 use contract.Running.{tablesOf}
+use lib.IntN.{pos}
 use types.Run.{addr}
 use types.Part.{rep}
-use lib.IntN.{pos}
 use lib.ListN.{replicate}
 use denote.Struct.Laws as LL
 use Rattle.rows_records.proofs.Chunk.{count-is, chunk-copied}

@@ -62,18 +62,19 @@ module _ {M : Type 1} (𝓤 : URA M) (H : Heap 𝓤) (A : Atoms 𝓤) (W : Given
         put-at ! 10 (of-opd ! (part ! 4 refl (sub ! 1 refl (whole !)))) refl ((uint 𝓤 H A W w64) .lawful .typed (length (now rows)) _ (refl, g-rows .0) .0) $
         put-at ! 12 (bin ! (loc ! 8 refl) (loc ! 10 refl) tt) refl (tt, tt) $
         by-bool (ltb (σ .0) (length (now rows))) (λ inside. rewrite ! 12 (λ (t : Bool). ‵ (fat fullShare tyBool l₅ 0 (vbool t))) inside refl $ stays ! (loc ! 12 refl) $
-        put-at ! 14 (agg ! (and-then ! (lit ! tt) (and-then ! (lit ! tt) (and-then ! (lit ! tt) (and-then ! (lit ! tt) (no-more !)))))) refl ((Rowᴰ 𝓤 H A W) .lawful .typed (record { low = pos 0; up = pos 0; first = 0; runs = 0 }) _ (LL.owes Rowᵀ.the-type Rowᴸ.the-laws (record { low = pos 0; up = pos 0; first = 0; runs = 0 }) ((refl, lit< tt), ((refl, lit< tt), ((refl, lit< tt), ((refl, lit< tt), tt))))) .0) $
+        let x₆ : Row = record { low = pos 0; up = pos 0; first = 0; runs = 0 } in let has₆ : Is ((Rowᴰ 𝓤 H A W) .row) x₆ ((Rowᴰ 𝓤 H A W) .val x₆ ∷ []) = LL.owes Rowᵀ.the-type Rowᴸ.the-laws (record { low = pos 0; up = pos 0; first = 0; runs = 0 }) ((refl, lit< tt), ((refl, lit< tt), ((refl, lit< tt), ((refl, lit< tt), tt)))) in
+        put-at ! 14 (agg ! (and-then ! (lit ! tt) (and-then ! (lit ! tt) (and-then ! (lit ! tt) (and-then ! (lit ! tt) (no-more !)))))) refl ((Rowᴰ 𝓤 H A W) .lawful .typed x₆ _ has₆ .0) $
         assigns ! (bin ! (loc ! 8 refl) (lit ! tt) (record { fits = offset-fits Rowᵀ.the-row (σ .0) _ (ltb-true (σ .0) (length (now rows)) inside) g-rows })) (from ! (stop !)) (store ! 10 refl ((uint 𝓤 H A W w64) .lawful .typed ((σ .0) * 16) _ (refl, offset-fits Rowᵀ.the-row (σ .0) _ (ltb-true (σ .0) (length (now rows)) inside) g-rows) .0)) $
         put-at ! 16 (bin ! (part ! 4 refl (sub ! 0 refl (whole !))) (loc ! 10 refl) tt) refl (tt, tt) $
         move ! (0 ∷ 1 ∷ []) $
-        writes-lent ! (Rowᴰ 𝓤 H A W) rows (σ .1) (σ .0) (record { low = pos 0; up = pos 0; first = 0; runs = 0 }) (λ q b o v. refl) g-rows (keptᵗ .2) (ltb-true (σ .0) (length (now rows)) inside) 14 refl (LL.owes Rowᵀ.the-type Rowᴸ.the-laws (record { low = pos 0; up = pos 0; first = 0; runs = 0 }) ((refl, lit< tt), ((refl, lit< tt), ((refl, lit< tt), ((refl, lit< tt), tt))))) ((Rowᴰ 𝓤 H A W) .lawful .typed (record { low = pos 0; up = pos 0; first = 0; runs = 0 }) _ (LL.owes Rowᵀ.the-type Rowᴸ.the-laws (record { low = pos 0; up = pos 0; first = 0; runs = 0 }) ((refl, lit< tt), ((refl, lit< tt), ((refl, lit< tt), ((refl, lit< tt), tt))))) .0) (loc ! 16 refl) $
-        tidy ! (token 𝓤 H A rows° ∷ lent-at 𝓤 H A rows° (set (σ .1) (σ .0) (record { low = pos 0; up = pos 0; first = 0; runs = 0 })) ∷ []) (empty ∷ holds _ ∷ holds _ ∷ holds _ ∷ holds _ ∷ holds _ ∷ holds _ ∷ holds _ ∷ []) refl $
+        writes-lent ! (Rowᴰ 𝓤 H A W) rows (σ .1) (σ .0) x₆ (λ q b o v. refl) g-rows (keptᵗ .2) (ltb-true (σ .0) (length (now rows)) inside) 14 refl has₆ ((Rowᴰ 𝓤 H A W) .lawful .typed x₆ _ has₆ .0) (loc ! 16 refl) $
+        tidy ! (token 𝓤 H A rows° ∷ lent-at 𝓤 H A rows° (set (σ .1) (σ .0) x₆) ∷ []) (empty ∷ holds _ ∷ holds _ ∷ holds _ ∷ holds _ ∷ holds _ ∷ holds _ ∷ holds _ ∷ []) refl $
         assigns-last ! (bin ! (loc ! 8 refl) (lit ! tt) (record { fits = next-fits (σ .0) (length (now rows)) (ltb-true (σ .0) (length (now rows)) inside) (g-rows .0) })) (from ! (stop !)) (store ! 8 refl ((uint 𝓤 H A W w64) .lawful .typed ((σ .0) + 1) _ (refl, next-fits (σ .0) (length (now rows)) (ltb-true (σ .0) (length (now rows)) inside) (g-rows .0)) .0)) $
         forget ! 10 refl $
         forget ! 12 refl $
         forget ! 14 refl $
         forget ! 16 refl $
-        by ! (onᵗ (((σ .0) + 1), (set (σ .1) (σ .0) (record { low = pos 0; up = pos 0; first = 0; runs = 0 }))) (nearer (σ .0) (length (now rows)) (ltb-true (σ .0) (length (now rows)) inside)) ((clearing-turn from′ (now rows) (keptᵗ .0) (ltb-true (σ .0) (length (now rows)) inside)), (refl, next-fits (σ .0) (length (now rows)) (ltb-true (σ .0) (length (now rows)) inside) (g-rows .0)), (set-long (σ .1) (σ .0) (record { low = pos 0; up = pos 0; first = 0; runs = 0 }) (keptᵗ .2)))))
+        by ! (onᵗ (((σ .0) + 1), (set (σ .1) (σ .0) x₆)) (nearer (σ .0) (length (now rows)) (ltb-true (σ .0) (length (now rows)) inside)) ((clearing-turn from′ (now rows) (keptᵗ .0) (ltb-true (σ .0) (length (now rows)) inside)), (refl, next-fits (σ .0) (length (now rows)) (ltb-true (σ .0) (length (now rows)) inside) (g-rows .0)), (set-long (σ .1) (σ .0) x₆ (keptᵗ .2)))))
         (λ no-inside. rewrite ! 12 (λ (t : Bool). ‵ (fat fullShare tyBool l₅ 0 (vbool t))) no-inside refl $ leaves-loop ! (loc ! 12 refl) $ outᵗ _ $
         put-at ! 2 (of-opd ! (unit-lit !)) refl ((nothing 𝓤 H A W) .lawful .typed tt _ refl .0) $
         returns ! (look ! 2 refl) $
