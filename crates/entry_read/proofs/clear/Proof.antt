@@ -13,41 +13,12 @@ Inv-loop out₀ i₀ out i = (length out ≡ length out₀) × Zeros out i
 abbrev μ-loop : tie.MeasureT-loop
 μ-loop out₀ i₀ out i = length out - i
 
-loop-holds : tie.Need-loop-holds Inv-loop μ-loop
-loop-holds c = (refl, λ j h. absurd (omega arith))
-
-mul-out : tie.Need-mul-out Inv-loop μ-loop
-mul-out c = omega arith
-
-slice-write-out : tie.Need-slice-write-out Inv-loop μ-loop
-slice-write-out c = omega arith
-
-add-i : tie.Need-add-i Inv-loop μ-loop
-add-i c = omega arith
-
-loop-less : tie.Need-loop-less Inv-loop μ-loop
-loop-less c = omega (arith, length-set (c .before .loop .out) (c .before .loop .i) 0)
-
-loop-again : tie.Need-loop-again Inv-loop μ-loop
-loop-again c = let l = c .before in (length-set (l .loop .out) (l .loop .i) 0 ∙ l .loop .inv .0, zeros-more (l .loop .out) (l .loop .i) (c .loop-test .taken) (l .loop .inv .1))
-
-same-length : tie.Need-same-length Inv-loop μ-loop
-same-length c = c .before .loop .inv .0
-
-returns : tie.Need-returns Inv-loop μ-loop
-returns c = let l = c .before in zeros-all (l .loop .out) (l .before .args .out .now) (l .loop .i) (l .loop .inv .0) (c .loop-test .left) (l .loop .inv .1)
-
 pub clear-spec : {M : Type 1} → statement M
 clear-spec =
     tie.close
     (tie.spec
-    Inv-loop
-    μ-loop
-    loop-holds
-    mul-out
-    slice-write-out
-    add-i
-    loop-less
-    loop-again
-    same-length
-    returns)
+    Inv-loop μ-loop (λ c. (refl, λ j h. absurd (omega arith))) (λ c. omega arith) (λ c. omega arith) (λ c. omega arith)
+    (λ c. omega (arith, length-set (c .before .loop .out) (c .before .loop .i) 0))
+    (λ c. let l = c .before in (length-set (l .loop .out) (l .loop .i) 0 ∙ l .loop .inv .0, zeros-more (l .loop .out) (l .loop .i) (c .loop-test .taken) (l .loop .inv .1)))
+    (λ c. c .before .loop .inv .0)
+    (λ c. let l = c .before in zeros-all (l .loop .out) (l .before .args .out .now) (l .loop .i) (l .loop .inv .0) (c .loop-test .left) (l .loop .inv .1)))

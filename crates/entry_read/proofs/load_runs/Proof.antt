@@ -6,9 +6,6 @@ use borrow.Author.Needs.{needs}
 use Rattle.entry_read.proofs.load_runs.Statement.{statement}
 use Rattle.entry_read.proofs.load_runs.Tie as tie
 
-returns : tie.Need-returns
-returns c = let m = c .before .before in let l = m .before in let s = l .before .before .before .before in record { planned = m .make-plan .ensures ∙ ap (planFor (s .args .text .now) (s .args .rows)) (l .shorter .ensures); lefts = column-stays _ _ _ (c .if1 .taken); rights = column-stays _ _ _ (c .if1 .taken) }
-
 returns-2 : tie.Need-returns-2
 returns-2 c = let f = c .before .before .before .before in let c2 = f .before .before .before .before .before in let c1 = c2 .before .before .before .before in let el = c1 .before .before in let m = el .before .before in let l = m .before in let s = l .before .before .before .before in let e = m .make-plan .ensures ∙ ap (planFor (s .args .text .now) (s .args .rows)) (l .shorter .ensures) in let q = column-filled (s .args .text .now) (s .args .left .now) (s .args .right .now) (m .make-plan .result) _ _ e (el .if1 .left) _ _ _ _ (c1 .clear .ensures) (c2 .clear2 .ensures) (f .fill-runs .ensures) in record { planned = e; lefts = q .0; rights = q .1 }
 
@@ -16,12 +13,6 @@ pub load-runs-spec : {M : Type 1} → statement M
 load-runs-spec =
     tie.close
     (tie.spec
-    (λ c κs. search needs)
-    (λ c κs. search needs)
-    returns
-    (λ c κs. search needs)
-    (λ c κs. search needs)
-    (λ c κs. search needs)
-    (λ c. search needs)
-    (λ c. search needs)
-    returns-2)
+    (λ c κs. search needs) (λ c κs. search needs)
+    (λ c. let m = c .before .before in let l = m .before in let s = l .before .before .before .before in record { planned = m .make-plan .ensures ∙ ap (planFor (s .args .text .now) (s .args .rows)) (l .shorter .ensures); lefts = column-stays _ _ _ (c .if1 .taken); rights = column-stays _ _ _ (c .if1 .taken) })
+    (λ c κs. search needs) (λ c κs. search needs) (λ c κs. search needs) (λ c. search needs) (λ c. search needs) returns-2)

@@ -5,23 +5,11 @@ use borrow.Author.Needs.{needs}
 use Rattle.entry_read.proofs.make_plan.Statement.{statement}
 use Rattle.entry_read.proofs.make_plan.Tie as tie
 
-returns : tie.Need-returns
-unfolding planScanned
-returns c = let l = c .before in let a = l .before .before in let s = a .before .before in let b = s .before .before in let e = sym (s .scan .ensures) ∙ a .at .given .1 in c .refused .ensures ∙ (rw (l .bad-line .ensures) refl) ∙ sym (ap (planScanned (b .args .text .now) (b .args .rows) (b .args .runs)) e)
-
-returns-2 : tie.Need-returns-2
-unfolding planScanned
-returns-2 c = let a = c .before .before in let s = a .before .before in let b = s .before .before in let e = sym (s .scan .ensures) ∙ a .head .given .1 in c .plan-fine .ensures ∙ sym (ap (planScanned (b .args .text .now) (b .args .rows) (b .args .runs)) e)
-
 pub make-plan-spec : {M : Type 1} → statement M
+unfolding planScanned
 make-plan-spec =
     tie.close
     (tie.spec
-    (λ c κs. search needs)
-    (λ c. search needs)
-    (λ c κs. search needs)
-    (λ c κs. search needs)
-    (λ c. search needs)
-    (λ c κs. search needs)
-    returns
-    returns-2)
+    (λ c κs. search needs) (λ c. search needs) (λ c κs. search needs) (λ c κs. search needs) (λ c. search needs) (λ c κs. search needs)
+    (λ c. let l = c .before in let a = l .before .before in let s = a .before .before in let b = s .before .before in let e = sym (s .scan .ensures) ∙ a .at .given .1 in c .refused .ensures ∙ (rw (l .bad-line .ensures) refl) ∙ sym (ap (planScanned (b .args .text .now) (b .args .rows) (b .args .runs)) e))
+    (λ c. let a = c .before .before in let s = a .before .before in let b = s .before .before in let e = sym (s .scan .ensures) ∙ a .head .given .1 in c .plan-fine .ensures ∙ sym (ap (planScanned (b .args .text .now) (b .args .rows) (b .args .runs)) e)))

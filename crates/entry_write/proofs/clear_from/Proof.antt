@@ -12,34 +12,11 @@ Inv-loop text₀ from i₀ text i = Clearing text₀ from text i
 abbrev μ-loop : tie.MeasureT-loop
 μ-loop text₀ from i₀ text i = length text - i
 
-loop-holds : tie.Need-loop-holds Inv-loop μ-loop
-loop-holds c = clearing-starts (c .args .text .now) (c .args .from)
-
-add-i : tie.Need-add-i Inv-loop μ-loop
-add-i c = omega (arith, clearing-length (c .before .loop .inv))
-
-loop-less : tie.Need-loop-less Inv-loop μ-loop
-loop-less c = omega (arith, length-set (c .before .loop .text) (c .before .loop .i) 0)
-
-loop-again : tie.Need-loop-again Inv-loop μ-loop
-loop-again c = clearing-turn (c .before .loop .inv) (omega arith)
-
-same-length : tie.Need-same-length Inv-loop μ-loop
-same-length c = clearing-length (c .before .loop .inv)
-
-returns : tie.Need-returns Inv-loop μ-loop
-returns c = clearing-ends (c .before .loop .inv) (c .loop-test .left)
-
 pub clear-from-spec : {M : Type 1} → statement M
 clear-from-spec =
     tie.close
     (tie.spec
-    Inv-loop
-    μ-loop
-    loop-holds
-    (λ c. omega arith)
-    add-i
-    loop-less
-    loop-again
-    same-length
-    returns)
+    Inv-loop μ-loop (λ c. clearing-starts (c .args .text .now) (c .args .from)) (λ c. omega arith)
+    (λ c. omega (arith, clearing-length (c .before .loop .inv))) (λ c. omega (arith, length-set (c .before .loop .text) (c .before .loop .i) 0))
+    (λ c. clearing-turn (c .before .loop .inv) (omega arith)) (λ c. clearing-length (c .before .loop .inv))
+    (λ c. clearing-ends (c .before .loop .inv) (c .loop-test .left)))

@@ -4,21 +4,10 @@ use borrow.Author.Needs.{needs}
 use Rattle.entry_write.proofs.spell_end.Statement.{statement}
 use Rattle.entry_write.proofs.spell_end.Tie as tie
 
-returns : tie.Need-returns
-returns c =
-    let w = c .before .before .before .before .before .before in
-    ended-stored (w .before .before .if1 .taken) (w .write-end .ensures) (c .before .before .clear-from .ensures)
-
-returns-2 : tie.Need-returns-2
-returns-2 c = ended-only (c .before .if1 .left) (c .count-end .ensures)
-
 pub spell-end-spec : {M : Type 1} → statement M
 spell-end-spec =
     tie.close
     (tie.spec
-    (λ c κs. search needs)
-    (λ c κs. search needs)
-    (λ c. search needs)
-    returns
-    (λ c κs. search needs)
-    returns-2)
+    (λ c κs. search needs) (λ c κs. search needs) (λ c. search needs)
+    (λ c. let w = c .before .before .before .before .before .before in ended-stored (w .before .before .if1 .taken) (w .write-end .ensures) (c .before .before .clear-from .ensures))
+    (λ c κs. search needs) (λ c. ended-only (c .before .if1 .left) (c .count-end .ensures)))

@@ -10,15 +10,11 @@ unfolding word bytes
 word-byte-spec =
     tie.close
     (tie.spec
-    (search needs) (search needs) (search needs) (search needs) (search needs)
-    (search needs) (search needs) (search needs) (search needs) (search needs)
-    (search needs) (search needs) (search needs) (search needs) (search needs)
-    (search needs) (search needs) (search needs) (search needs) (search needs)
-    (search needs) (search needs) (search needs) (search needs) (search needs)
-    (search needs) (search needs) (search needs) (search needs) (search needs)
-    (search needs) (search needs) (search needs)
-    (λ c. rw (c .before .before .enum-told .given .1) (c .letter .ensures))
-    (λ c. rw (c .before .before .enum-told2 .given .1) (c .letter2 .ensures))
+    (search needs) (search needs) (search needs) (search needs) (search needs) (search needs) (search needs) (search needs) (search needs)
+    (search needs) (search needs) (search needs) (search needs) (search needs) (search needs) (search needs) (search needs) (search needs)
+    (search needs) (search needs) (search needs) (search needs) (search needs) (search needs) (search needs) (search needs) (search needs)
+    (search needs) (search needs) (search needs) (search needs) (search needs) (search needs)
+    (λ c. rw (c .before .before .enum-told .given .1) (c .letter .ensures)) (λ c. rw (c .before .before .enum-told2 .given .1) (c .letter2 .ensures))
     (λ c. rw (c .before .before .enum-told3 .given .1) (c .letter3 .ensures))
     (λ c. rw (c .before .before .enum-told4 .given .1) (c .letter4 .ensures))
     (λ c. rw (c .before .before .enum-told5 .given .1) (c .letter5 .ensures))
