@@ -1,5 +1,5 @@
 -- What a byte does to a series line or to the program's lines: the words with what stands behind each, the numbers with what may come behind each, and the step of a state.
-use mathlib.Core.Bool.{Bool, cond}
+use mathlib.Core.Bool.{cond}
 use mathlib.Core.List.{List}
 use Prim.Native.Nat.{ℕ, _+_, _<_}
 use lib.Dec.{ltb, eqb}

@@ -15,7 +15,6 @@ use Rattle.meaning_text.proofs.Number.{is-digit}
 use Rattle.meaning_text.proofs.Onward.{Rest, readThen}
 use Rattle.text_numbers.specs.declared.Numeral.{Numeral}
 use Rattle.text_numbers.specs.declared.Numeral.the-variants.{Start, Sign, Zero, Plus, Less}
-use Rattle.text_numbers.specs.declared.Taken.{Taken}
 use Rattle.text_numbers.specs.declared.Taken.the-variants.{More, Stop}
 use Rattle.text_numbers.specs.declared.Whole.{Whole}
 use Rattle.text_numbers.specs.declared.Whole.the-variants.{Value, Partial}

@@ -1,7 +1,6 @@
 -- `text_index::step_number` meets its contract. By what the byte does to the number.
 use mathlib.Core.Path.{sym, _∙_}
 use mir.Syntax.{w64}
-use mir.Val.{toZ, ofZ}
 use mir.ValLaws.{toZ-ofZ}
 use Rattle.text_index.specs.Step.{numberStep}
 use mathlib.Core.Path.{sym, _∙_}
