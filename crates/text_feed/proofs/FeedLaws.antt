@@ -97,7 +97,7 @@ module _ {piece : List ℕ} {numbers₀ series₀ query₀ : List ℤ} {s₀ : S
     alone-long = length-set numbers (placeOf p) z ∙ r .alone-long;
     first-long = set-long (ofSeries p) series (v .count) (clamp z) ∙ r .first-long;
     second-long = set-long (ofQuery p) query (q .count) (clamp z) ∙ r .second-long;
-    comes = λ g kept asked o. let c = r .comes g kept asked o in (told p z (c .0), holds-told kept asked (c .0) numbers v q series query p z (c .1), turn g (c .0) m (told p z (c .0)) (by (Moved.Value m p z) (c .0) e) (c .2));
+    comes = λ g kept asked o. let c = r .comes g kept asked o in (told p z (c .0), holds-told (c .1) p z, turn g (c .0) m (told p z (c .0)) (by (Moved.Value m p z) (c .0) e) (c .2));
   }
 
   pub sofar-ended : (m : State) (w : Word) → lineStep s (getD piece i 0) ≡ Moved.Ended m w → Sofar piece numbers₀ series₀ query₀ s₀ v₀ q₀ start (set numbers (wordPlace w) (wordNumber w)) series query m v q (i + 1)
@@ -109,7 +109,7 @@ module _ {piece : List ℕ} {numbers₀ series₀ query₀ : List ℤ} {s₀ : S
     alone-long = length-set numbers (wordPlace w) (wordNumber w) ∙ r .alone-long;
     first-long = r .first-long;
     second-long = r .second-long;
-    comes = λ g kept asked o. let c = r .comes g kept asked o in (named w (c .0), holds-named kept asked (c .0) numbers v q series query w (c .1), turn g (c .0) m (named w (c .0)) (by (Moved.Ended m w) (c .0) e) (c .2));
+    comes = λ g kept asked o. let c = r .comes g kept asked o in (named w (c .0), holds-named (c .1) w, turn g (c .0) m (named w (c .0)) (by (Moved.Ended m w) (c .0) e) (c .2));
   }
 
   pub sofar-refuse : lineStep s (getD piece i 0) ≡ Moved.Refuse → (g : Said) (kept asked : List ℤ) → Holds kept asked g numbers₀ v₀ q₀ series₀ query₀ → feed step (going (at s₀ g) start) piece ≡ failed (start + i)

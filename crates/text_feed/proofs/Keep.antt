@@ -71,36 +71,35 @@ pub kept-none : (base : List ℤ) → Kept base [] (record { count = 0; inside =
 unfolding leading stored
 kept-none base = record { count = refl; inside = refl; lies = refl }
 
--- a number
-pub holds-told : (kept asked : List ℤ) (g : Said) (numbers : List ℤ) (v w : Values) (series query : List ℤ) (p : Field) (z : ℤ) → Holds kept asked g numbers v w series query
-    → Holds kept asked (told p z g) (set numbers (placeOf p) z) (cond (ofSeries p) (valuesMore v z) v) (cond (ofQuery p) (valuesMore w z) w)
-    (cond (ofSeries p) (set series (v .count) (clamp z)) series) (cond (ofQuery p) (set query (w .count) (clamp z)) query)
-holds-told kept asked g numbers v w series query Field.Window z h = record { alone = rw (h .alone); first = h .first; second = h .second }
-holds-told kept asked g numbers v w series query Field.Width z h = record { alone = rw (h .alone); first = h .first; second = h .second }
-holds-told kept asked g numbers v w series query Field.Merge z h = record { alone = rw (h .alone); first = h .first; second = h .second }
-holds-told kept asked g numbers v w series query Field.Item z h = record { alone = rw (h .alone); first = kept-more kept (g .series) v series z (h .first); second = h .second }
-holds-told kept asked g numbers v w series query Field.Band z h = record { alone = rw (h .alone); first = h .first; second = h .second }
-holds-told kept asked g numbers v w series query Field.Threshold z h = record { alone = rw (h .alone); first = h .first; second = h .second }
-holds-told kept asked g numbers v w series query Field.Scale z h = record { alone = rw (h .alone); first = h .first; second = h .second }
-holds-told kept asked g numbers v w series query Field.Shift z h = record { alone = rw (h .alone); first = h .first; second = h .second }
-holds-told kept asked g numbers v w series query Field.Asked z h = record { alone = rw (h .alone); first = h .first; second = kept-more asked (g .query) w query z (h .second) }
-holds-told kept asked g numbers v w series query Field.Entry z h = record { alone = rw (h .alone); first = kept-more kept (g .series) v series z (h .first); second = h .second }
+module _ {kept asked : List ℤ} {g : Said} {numbers : List ℤ} {v w : Values} {series query : List ℤ} (h : Holds kept asked g numbers v w series query) where
+  -- a number
+  pub holds-told : (p : Field) (z : ℤ) → Holds kept asked (told p z g) (set numbers (placeOf p) z) (cond (ofSeries p) (valuesMore v z) v) (cond (ofQuery p) (valuesMore w z) w)
+      (cond (ofSeries p) (set series (v .count) (clamp z)) series) (cond (ofQuery p) (set query (w .count) (clamp z)) query)
+  holds-told Field.Window z = record { alone = rw (h .alone); first = h .first; second = h .second }
+  holds-told Field.Width z = record { alone = rw (h .alone); first = h .first; second = h .second }
+  holds-told Field.Merge z = record { alone = rw (h .alone); first = h .first; second = h .second }
+  holds-told Field.Item z = record { alone = rw (h .alone); first = kept-more _ _ _ _ z (h .first); second = h .second }
+  holds-told Field.Band z = record { alone = rw (h .alone); first = h .first; second = h .second }
+  holds-told Field.Threshold z = record { alone = rw (h .alone); first = h .first; second = h .second }
+  holds-told Field.Scale z = record { alone = rw (h .alone); first = h .first; second = h .second }
+  holds-told Field.Shift z = record { alone = rw (h .alone); first = h .first; second = h .second }
+  holds-told Field.Asked z = record { alone = rw (h .alone); first = h .first; second = kept-more _ _ _ _ z (h .second) }
+  holds-told Field.Entry z = record { alone = rw (h .alone); first = kept-more _ _ _ _ z (h .first); second = h .second }
 
--- a word
-pub holds-named : (kept asked : List ℤ) (g : Said) (numbers : List ℤ) (v w : Values) (series query : List ℤ) (n : Word) → Holds kept asked g numbers v w series query
-    → Holds kept asked (named n g) (set numbers (wordPlace n) (wordNumber n)) v w series query
-holds-named kept asked g numbers v w series query Word.Window h = record { alone = rw (h .alone); first = h .first; second = h .second }
-holds-named kept asked g numbers v w series query Word.Width h = record { alone = rw (h .alone); first = h .first; second = h .second }
-holds-named kept asked g numbers v w series query Word.Merge h = record { alone = rw (h .alone); first = h .first; second = h .second }
-holds-named kept asked g numbers v w series query Word.Series h = record { alone = rw (h .alone); first = h .first; second = h .second }
-holds-named kept asked g numbers v w series query Word.Find h = record { alone = rw (h .alone); first = h .first; second = h .second }
-holds-named kept asked g numbers v w series query Word.Raw h = record { alone = rw (h .alone); first = h .first; second = h .second }
-holds-named kept asked g numbers v w series query Word.Normal h = record { alone = rw (h .alone); first = h .first; second = h .second }
-holds-named kept asked g numbers v w series query Word.Query h = record { alone = rw (h .alone); first = h .first; second = h .second }
-holds-named kept asked g numbers v w series query Word.End h = record { alone = rw (h .alone); first = h .first; second = h .second }
-holds-named kept asked g numbers v w series query Word.Line h = record { alone = rw (h .alone); first = h .first; second = h .second }
-holds-named kept asked g numbers v w series query Word.LineEnd h = record { alone = rw (h .alone); first = h .first; second = h .second }
-holds-named kept asked g numbers v w series query (Word.Space p) h = record { alone = rw (h .alone); first = h .first; second = h .second }
+  -- a word
+  pub holds-named : (n : Word) → Holds kept asked (named n g) (set numbers (wordPlace n) (wordNumber n)) v w series query
+  holds-named Word.Window = record { alone = rw (h .alone); first = h .first; second = h .second }
+  holds-named Word.Width = record { alone = rw (h .alone); first = h .first; second = h .second }
+  holds-named Word.Merge = record { alone = rw (h .alone); first = h .first; second = h .second }
+  holds-named Word.Series = record { alone = rw (h .alone); first = h .first; second = h .second }
+  holds-named Word.Find = record { alone = rw (h .alone); first = h .first; second = h .second }
+  holds-named Word.Raw = record { alone = rw (h .alone); first = h .first; second = h .second }
+  holds-named Word.Normal = record { alone = rw (h .alone); first = h .first; second = h .second }
+  holds-named Word.Query = record { alone = rw (h .alone); first = h .first; second = h .second }
+  holds-named Word.End = record { alone = rw (h .alone); first = h .first; second = h .second }
+  holds-named Word.Line = record { alone = rw (h .alone); first = h .first; second = h .second }
+  holds-named Word.LineEnd = record { alone = rw (h .alone); first = h .first; second = h .second }
+  holds-named (Word.Space p) = record { alone = rw (h .alone); first = h .first; second = h .second }
 
 -- ---- tests
 

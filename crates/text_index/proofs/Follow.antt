@@ -1,6 +1,6 @@
 -- The automaton of the index text follows `indexForm`: each state with what has been said so far has a reader for the rest of the text, and a byte takes it to the next. So the bytes of a text come to what `readText` says.
-use mathlib.Core.Path.{_≡_, refl, sym, ap, _∙_}
-use mathlib.Core.Bool.{false, cond}
+use mathlib.Core.Path.{_≡_, refl, ap, _∙_}
+use mathlib.Core.Bool.{Bool, true, false, cond}
 use mathlib.Core.List.{List, [], _∷_, _++_, append-assoc, append-nil}
 use mathlib.Core.Option.{Option, none, some}
 use Prim.Native.Nat.{ℕ, suc, _+_, _<_}
@@ -18,10 +18,11 @@ use Rattle.meaning_text.proofs.Open.{openText}
 use Rattle.meaning_text.proofs.Form.{filled, clearWord, clear, follows, firm, opens, decided}
 use Rattle.meaning_text.proofs.Reading.{on-flag, begun}
 use Rattle.meaning_text.proofs.Onward.{Rest, wordThen, readThen, read-alone, lead-then, trail-then, both-then, many-then, many-ends, word-over, word-next, word-off, word-short}
-use Rattle.meaning_text.proofs.Automaton.{going, feed, Halts, bad-here, over, atRest, Follows, judged, form-comes}
+use Rattle.meaning_text.proofs.Automaton.{going, feed, bad-here, over, atRest, Follows, judged, form-comes}
 use Rattle.text_numbers.specs.declared.Numeral.{Numeral}
 use Rattle.text_numbers.specs.Number.{numStep, whole}
 use Rattle.text_numbers.proofs.Number.{good-step, on-taken, on-whole}
+use Rattle.text_numbers.proofs.Onto.{Onto, follows-by}
 use Rattle.text_numbers.proofs.Onward.{numberThen, number-more, number-stop, number-then}
 use Rattle.text_index.specs.declared.Word.{Word}
 use Rattle.text_index.specs.declared.Field.{Field}
@@ -29,7 +30,7 @@ use Rattle.text_index.specs.declared.Turn.{Turn}
 use Rattle.text_index.specs.declared.State.{State}
 use Rattle.text_index.specs.declared.Reached.{Reached}
 use Rattle.text_index.specs.declared.Moved.{Moved}
-use Rattle.text_index.specs.Step.{word, behind, turnAfter, pick, reach, closes, wordStep, turnStep, endStep, numberStep, indexStep, GoodState}
+use Rattle.text_index.specs.Step.{word, behind, turnAfter, pick, reach, closes, led, wordStep, turnStep, endStep, numberStep, indexStep, GoodState}
 use Rattle.text_index.proofs.Step.{word-long}
 
 -- ---- what has been said
@@ -173,102 +174,83 @@ rest x = restState (x .state) (x .said)
 
 -- ---- words
 
-behind-then : (w : Word) (k : ℕ) (g : Said) → suc k ≡ length (word w) → behindThen w g ≡ restState (behind w) (cond (closes w k) (closed g) g)
+behind-then : (w : Word) (k : ℕ) (g : Said) → suc k ≡ length (word w) → GoodState (behind w) × (behindThen w g ≡ restState (behind w) (cond (closes w k) (closed g) g))
 unfolding word bytes behind behindThen closes
-behind-then Word.Window k g h = refl
-behind-then Word.Width k g h = refl
-behind-then Word.Windows k g h = refl
-behind-then Word.Head k g h = refl
-behind-then Word.Row k g h = refl
-behind-then Word.Up k g h = refl
-behind-then Word.Run k g h = refl
-behind-then Word.Right k g h = refl
-behind-then Word.RunEnd k g h = refl
-behind-then Word.RowEnd k g h = let e : k ≡ 1 = omega arith in rw e
-behind-then Word.End k g h = refl
+behind-then Word.Window k g h = (tt, refl)
+behind-then Word.Width k g h = (tt, refl)
+behind-then Word.Windows k g h = (tt, refl)
+behind-then Word.Head k g h = (tt, refl)
+behind-then Word.Row k g h = (tt, refl)
+behind-then Word.Up k g h = (tt, refl)
+behind-then Word.Run k g h = (tt, refl)
+behind-then Word.Right k g h = (tt, refl)
+behind-then Word.RunEnd k g h = (tt, refl)
+behind-then Word.RowEnd k g h = let e : k ≡ 1 = omega arith in (tt, rw e)
+behind-then Word.End k g h = (tt, refl)
+
+-- a word whose bytes end no row, or a row's end
+data Closing : Word → Type 0 where
+  row-end : Closing Word.RowEnd
+  other : {w : Word} → ((k : ℕ) → closes w k ≡ false) → Closing w
+
+closing : (w : Word) → Closing w
+unfolding closes
+closing Word.Window = other (λ k. refl)
+closing Word.Width = other (λ k. refl)
+closing Word.Windows = other (λ k. refl)
+closing Word.Head = other (λ k. refl)
+closing Word.Row = other (λ k. refl)
+closing Word.Up = other (λ k. refl)
+closing Word.Run = other (λ k. refl)
+closing Word.Right = other (λ k. refl)
+closing Word.RunEnd = other (λ k. refl)
+closing Word.RowEnd = row-end
+closing Word.End = other (λ k. refl)
 
 pub inside : (w : Word) (k : ℕ) → suc k < length (word w) → closes w k ≡ false
 unfolding word bytes closes
-inside Word.Window k h = refl
-inside Word.Width k h = refl
-inside Word.Windows k h = refl
-inside Word.Head k h = refl
-inside Word.Row k h = refl
-inside Word.Up k h = refl
-inside Word.Run k h = refl
-inside Word.Right k h = refl
-inside Word.RunEnd k h = refl
-inside Word.RowEnd k h = let e : k ≡ 0 = omega arith in rw e
-inside Word.End k h = refl
+inside w k h = by (closing w) h
+  where
+    by : {w : Word} → Closing w → suc k < length (word w) → closes w k ≡ false
+    by row-end h = let e : k ≡ 0 = omega arith in rw e
+    by (other f) h = f k
 
 pub not-first : (w : Word) → closes w 0 ≡ false
 unfolding closes
-not-first Word.Window = refl
-not-first Word.Width = refl
-not-first Word.Windows = refl
-not-first Word.Head = refl
-not-first Word.Row = refl
-not-first Word.Up = refl
-not-first Word.Run = refl
-not-first Word.Right = refl
-not-first Word.RunEnd = refl
-not-first Word.RowEnd = refl
-not-first Word.End = refl
+not-first w = by (closing w)
+  where
+    by : {w : Word} → Closing w → closes w 0 ≡ false
+    by row-end = refl
+    by (other f) = f 0
 
-pub there-same : {s n : State} → Reached.There s ≡ Reached.There n → s ≡ n
-there-same e = cc
+-- where a byte leads
+abbrev pub turned : Reached → Said → Option Reading
+turned (Reached.There s) g = some (at s g)
+turned Reached.Not g = none
 
-pub not-there : {A : Type 0} {s : State} → Reached.Not ≡ Reached.There s → A
-not-there e = let z : _≡_ {A = ℕ} 0 1 = cc in absurd (omega arith)
+pub led-moved : (x : Reached) (f : State → Moved) (g h : Said) → ((s : State) → moved (f s) g ≡ some (at s h)) → moved (led x f) g ≡ turned x h
+led-moved (Reached.There s) f g h e = e s
+led-moved Reached.Not f g h e = refl
 
-there-not : {A : Type 0} {s : State} → Reached.There s ≡ Reached.Not → A
-there-not e = not-there (sym e)
+pub word-moved : (x : Reached) (c : Bool) (g : Said) → moved (led x (λ s. cond c (Moved.Closed s) (Moved.To s))) g ≡ turned x (cond c (closed g) g)
+word-moved x true g = led-moved x _ g (closed g) (λ s. refl)
+word-moved x false g = led-moved x _ g g (λ s. refl)
 
-good-behind : (w : Word) → GoodState (behind w)
-unfolding behind
-good-behind Word.Window = tt
-good-behind Word.Width = tt
-good-behind Word.Windows = tt
-good-behind Word.Head = tt
-good-behind Word.Row = tt
-good-behind Word.Up = tt
-good-behind Word.Run = tt
-good-behind Word.Right = tt
-good-behind Word.RunEnd = tt
-good-behind Word.RowEnd = tt
-good-behind Word.End = tt
+abbrev pub Good : Reading → Type 0
+Good x = GoodState (x .state)
 
 -- a byte of a word
-module _ (w : Word) (k b : ℕ) (h : k < length (word w)) where
-  reach-good : (n : State) → reach w k b ≡ Reached.There n → GoodState n
-  unfolding reach
-  reach-good n e =
-      on-flag (eqb b (getD (word w) k 0))
-      (λ t. on-flag (ltb (k + 1) (length (word w)))
-      (λ u. rw (← there-same (rw (t, u) at e)) (ltb-true (k + 1) (length (word w)) u))
-      (λ u. rw (← there-same (rw (t, u) at e)) (good-behind w)))
-      (λ t. not-there (rw t at e))
-
-  reach-goes : (g : Said) (n : State) → reach w k b ≡ Reached.There n → (t : List ℕ) → wordThen (drop k (word w)) (behindThen w g) (b ∷ t) ≡ restState n (cond (closes w k) (closed g) g) t
-  unfolding reach
-  reach-goes g n e r =
-      on-flag (eqb b (getD (word w) k 0))
-      (λ t. on-flag (ltb (k + 1) (length (word w)))
-      (λ u. let i = inside w k (omega (arith, ltb-true (k + 1) (length (word w)) u)) in
-      let a : suc k ≡ k + 1 = omega arith in
-      rw (← there-same (rw (t, u) at e), i) (word-next (word w) (behindThen w g) k h b r t ∙ rw a))
-      (λ u. let l : suc k ≡ length (word w) = omega (arith, ltb-false (k + 1) (length (word w)) u) in
-      rw (← there-same (rw (t, u) at e))
-      (word-next (word w) (behindThen w g) k h b r t
-      ∙ ap (λ (f : Rest V'). f r) (word-over (word w) (behindThen w g) (suc k) (omega arith) ∙ behind-then w k g l))))
-      (λ t. not-there (rw t at e))
-
-  reach-off : (g : Said) → reach w k b ≡ Reached.Not → (t : List ℕ) → wordThen (drop k (word w)) (behindThen w g) (b ∷ t) ≡ bad (b ∷ t)
-  unfolding reach
-  reach-off g e r =
-      on-flag (eqb b (getD (word w) k 0))
-      (λ t. there-not (rw t at e))
-      (λ t. word-off (word w) (behindThen w g) k h b r t)
+word-onto : (w : Word) (k b : ℕ) → k < length (word w) → (g : Said) (t : List ℕ) → Onto Good rest (turned (reach w k b) (cond (closes w k) (closed g) g)) b t (wordThen (drop k (word w)) (behindThen w g) (b ∷ t))
+unfolding reach rest
+word-onto w k b h g t =
+    on-flag (eqb b (getD (word w) k 0))
+    (λ e. on-flag (ltb (k + 1) (length (word w)))
+    (λ u. let a : suc k ≡ k + 1 = omega arith in
+    rw (e, u, inside w k (omega (arith, ltb-true (k + 1) (length (word w)) u))) (ltb-true (k + 1) (length (word w)) u, word-next (word w) (behindThen w g) k h b t e ∙ rw a))
+    (λ u. let l : suc k ≡ length (word w) = omega (arith, ltb-false (k + 1) (length (word w)) u) in
+    let n = behind-then w k g l in
+    rw (e, u) (n .0, word-next (word w) (behindThen w g) k h b t e ∙ ap (λ (f : Rest V'). f t) (word-over (word w) (behindThen w g) (suc k) (omega arith) ∙ n .1))))
+    (λ e. rw (e, word-off (word w) (behindThen w g) k h b t e) bad-here)
 
 -- ---- a row or the end, a run or the row's end
 
@@ -330,84 +312,28 @@ after-turn Field.Right g = refl
 
 -- ---- every state
 
-pub on-reached : (x : Reached) {A : Type 0} → ((s : State) → x ≡ Reached.There s → A) → (x ≡ Reached.Not → A) → A
-on-reached (Reached.There s) f g = f s refl
-on-reached Reached.Not f g = g refl
-
 pub some-same : {x y : Reading} → some x ≡ some y → x ≡ y
 some-same e = cc
 
 pub none-some : {A : Type 0} {x : Reading} → none ≡ some x → A
 none-some e = let z : _≡_ {A = ℕ} 0 1 = cc in absurd (omega arith)
 
-some-none : {A : Type 0} {x : Reading} → some x ≡ none → A
-some-none e = none-some (sym e)
-
--- a byte that is taken
-record Goes (s : State) (g : Said) (b : ℕ) (n : Reading) : Type 0 where
-  good : GoodState (n .state)
-  goes : (t : List ℕ) → restState s g (b ∷ t) ≡ restState (n .state) (n .said) t
-
-goes-as : {s : State} {g : Said} {b : ℕ} {n m : Reading} → n ≡ m → Goes s g b n → Goes s g b m
-goes-as e h = rw (← e) h
-
 -- behind a number or between two words
-module _ (t : Turn) (g : Said) (b : ℕ) where
-  turn-goes : (n : State) → reach (pick t b) 0 b ≡ Reached.There n → Goes (State.Before t) g b (at n g)
-  turn-goes n e =
-      let w = pick t b in
-      record {
-        good = reach-good w 0 b (word-long w) n e;
-        goes = λ u. turn-pick t g b u ∙ rw (not-first w) at (reach-goes w 0 b (word-long w) g n e u);
-      }
+turn-onto : (s : Turn) (g : Said) (b : ℕ) (t : List ℕ) → Onto Good rest (turned (reach (pick s b) 0 b) g) b t (restTurn s g (b ∷ t))
+turn-onto s g b t = let w = pick s b in rw (turn-pick s g b t) (rw (not-first w) at (word-onto w 0 b (word-long w) g t))
 
-  turn-off : reach (pick t b) 0 b ≡ Reached.Not → (u : List ℕ) → restTurn t g (b ∷ u) ≡ bad (b ∷ u)
-  turn-off e u = turn-pick t g b u ∙ reach-off (pick t b) 0 b (word-long (pick t b)) g e u
-
-goes : (s : State) (g : Said) (b : ℕ) (n : Reading) → GoodState s → moved (indexStep s b) g ≡ some n → Goes s g b n
-unfolding indexStep wordStep turnStep endStep numberStep
-goes (State.In w k) g b n h e =
-    on-reached (reach w k b)
-    (λ s i. let r = reach-goes w k b h g s i in
-    on-flag (closes w k)
-    (λ c. goes-as (some-same (rw (i, c) at e)) (record { good = reach-good w k b h s i; goes = rw c at r }))
-    (λ c. goes-as (some-same (rw (i, c) at e)) (record { good = reach-good w k b h s i; goes = rw c at r })))
-    (λ i. none-some (rw i at e))
-goes (State.At p m) g b n h e =
+onto : (s : State) (g : Said) (b : ℕ) (t : List ℕ) → GoodState s → Onto Good rest (moved (indexStep s b) g) b t (restState s g (b ∷ t))
+unfolding indexStep wordStep turnStep endStep numberStep rest
+onto (State.In w k) g b t h = rw (word-moved (reach w k b) (closes w k) g) (word-onto w k b h g t)
+onto (State.At p m) g b t h =
+    let f : ℤ → Rest V' = λ z. after p (told p z g) in
     on-taken (numStep m b)
-    (λ q i. goes-as (some-same (rw i at e)) (record { good = good-step m b q i; goes = λ t. number-more _ m b q t i }))
+    (λ q i. rw (i, number-more f m b q t i) (good-step m b q i, refl))
     (λ i. on-whole (whole m)
-    (λ z j. on-reached (reach (pick (turnAfter p) b) 0 b)
-    (λ s k. let r = turn-goes (turnAfter p) (told p z g) b s k in
-    goes-as (some-same (rw (i, j, k) at e)) (record { good = r .good; goes = λ t. number-stop _ m b t i ∙ rw j (ap (λ (f : Rest V'). f (b ∷ t)) (after-turn p (told p z g)) ∙ r .goes t) }))
-    (λ k. none-some (rw (i, j, k) at e)))
-    (λ j. none-some (rw (i, j) at e)))
-goes (State.Before t) g b n h e =
-    on-reached (reach (pick t b) 0 b)
-    (λ s i. goes-as (some-same (rw i at e)) (turn-goes t g b s i))
-    (λ i. none-some (rw i at e))
-goes State.Done g b n h e = none-some e
-
--- a byte that is refused
-halts : (s : State) (g : Said) (b : ℕ) → GoodState s → moved (indexStep s b) g ≡ none → (t : List ℕ) → Halts (b ∷ t) (restState s g (b ∷ t))
-unfolding indexStep wordStep turnStep endStep numberStep
-halts (State.In w k) g b h e t =
-    on-reached (reach w k b)
-    (λ s i. on-flag (closes w k) (λ c. some-none (rw (i, c) at e)) (λ c. some-none (rw (i, c) at e)))
-    (λ i. rw (reach-off w k b h g i t) bad-here)
-halts (State.At p m) g b h e t =
-    on-taken (numStep m b)
-    (λ q i. some-none (rw i at e))
-    (λ i. on-whole (whole m)
-    (λ z j. on-reached (reach (pick (turnAfter p) b) 0 b)
-    (λ s k. some-none (rw (i, j, k) at e))
-    (λ k. rw (number-stop (λ z. after p (told p z g)) m b t i, j, after-turn p (told p z g), turn-off (turnAfter p) (told p z g) b k t) bad-here))
-    (λ j. rw (number-stop (λ z. after p (told p z g)) m b t i, j) bad-here))
-halts (State.Before s) g b h e t =
-    on-reached (reach (pick s b) 0 b)
-    (λ n i. some-none (rw i at e))
-    (λ i. rw (turn-off s g b i t) bad-here)
-halts State.Done g b h e t = over
+    (λ z j. rw (i, j, number-stop f m b t i, j, led-moved (reach (pick (turnAfter p) b) 0 b) _ g (told p z g) (λ s. refl), after-turn p (told p z g)) (turn-onto (turnAfter p) (told p z g) b t))
+    (λ j. rw (i, j, number-stop f m b t i, j) bad-here))
+onto (State.Before s) g b t h = rw (led-moved (reach (pick s b) 0 b) _ g g (λ s. refl)) (turn-onto s g b t)
+onto State.Done g b t h = over
 
 -- the text's end
 ends : (s : State) (g : Said) → GoodState s → restState s g [] ≡ atRest (acceptState s g)
@@ -420,17 +346,9 @@ ends (State.At p n) g h =
 ends (State.Before t) g h = turn-ends t g
 ends State.Done g h = refl
 
-abbrev pub Good : Reading → Type 0
-Good x = GoodState (x .state)
-
 follows-index : Follows step accept Good rest
 unfolding step accept rest
-follows-index = record {
-  stays-good = λ s b n g e. goes (s .state) (s .said) b n g e .good;
-  goes-on = λ s b n g e t. goes (s .state) (s .said) b n g e .goes t;
-  halts = λ s b g e t. halts (s .state) (s .said) b g e t;
-  ends = λ s g. ends (s .state) (s .said) g;
-}
+follows-index = follows-by Good rest step accept (λ s b t. onto (s .state) (s .said) b t) (λ s. ends (s .state) (s .said))
 
 index-then : readThen indexForm (λ v u. got v u) ≡ wordThen (word Word.Window) (behindThen Word.Window nothingSaid)
 unfolding word behindThen after afterWindow afterWidth afterWindows restRows

@@ -8,30 +8,22 @@ use Rattle.text_index.specs.Step.{word}
 
 -- ---- the sizes of the words
 
-pub word-long : (w : Word) → 0 < length (word w)
+sizes : (w : Word) → (0 < length (word w)) × (length (word w) ≤ 15)
 unfolding word bytes
-word-long Word.Window = omega arith
-word-long Word.Width = omega arith
-word-long Word.Windows = omega arith
-word-long Word.Head = omega arith
-word-long Word.Row = omega arith
-word-long Word.Up = omega arith
-word-long Word.Run = omega arith
-word-long Word.Right = omega arith
-word-long Word.RunEnd = omega arith
-word-long Word.RowEnd = omega arith
-word-long Word.End = omega arith
+sizes Word.Window = (omega arith, omega arith)
+sizes Word.Width = (omega arith, omega arith)
+sizes Word.Windows = (omega arith, omega arith)
+sizes Word.Head = (omega arith, omega arith)
+sizes Word.Row = (omega arith, omega arith)
+sizes Word.Up = (omega arith, omega arith)
+sizes Word.Run = (omega arith, omega arith)
+sizes Word.Right = (omega arith, omega arith)
+sizes Word.RunEnd = (omega arith, omega arith)
+sizes Word.RowEnd = (omega arith, omega arith)
+sizes Word.End = (omega arith, omega arith)
+
+pub word-long : (w : Word) → 0 < length (word w)
+word-long w = sizes w .0
 
 pub word-short : (w : Word) → length (word w) ≤ 15
-unfolding word bytes
-word-short Word.Window = omega arith
-word-short Word.Width = omega arith
-word-short Word.Windows = omega arith
-word-short Word.Head = omega arith
-word-short Word.Row = omega arith
-word-short Word.Up = omega arith
-word-short Word.Run = omega arith
-word-short Word.Right = omega arith
-word-short Word.RunEnd = omega arith
-word-short Word.RowEnd = omega arith
-word-short Word.End = omega arith
+word-short w = sizes w .1

@@ -7,9 +7,7 @@ use lib.IntN.{ℤ}
 use lib.ListN.{length, getD}
 use Rattle.meaning_text.specs.Bytes.{bytes}
 use Rattle.text_numbers.specs.declared.Numeral.{Numeral}
-use Rattle.text_numbers.specs.declared.Taken.{Taken}
-use Rattle.text_numbers.specs.declared.Whole.{Whole}
-use Rattle.text_numbers.specs.Number.{numStep, whole, NumGood}
+use Rattle.text_numbers.specs.Number.{numStep, whole, byTaken, byWhole, NumGood}
 use Rattle.text_index.specs.declared.Word.{Word}
 use Rattle.text_index.specs.declared.Field.{Field}
 use Rattle.text_index.specs.declared.Turn.{Turn}
@@ -80,38 +78,22 @@ closes Word.End k = false
 
 -- ---- the step
 
-abbrev pub wordMoved : Reached → Bool → Moved
-wordMoved (Reached.There s) c = cond c (Moved.Closed s) (Moved.To s)
-wordMoved Reached.Not c = Moved.Refuse
-
-abbrev pub turnMoved : Reached → Moved
-turnMoved (Reached.There s) = Moved.To s
-turnMoved Reached.Not = Moved.Refuse
-
-abbrev pub endMoved : Reached → Field → ℤ → Moved
-endMoved (Reached.There s) p z = Moved.Value s p z
-endMoved Reached.Not p z = Moved.Refuse
+abbrev pub led : Reached → (State → Moved) → Moved
+led (Reached.There s) f = f s
+led Reached.Not f = Moved.Refuse
 
 unfoldable pub wordStep : Word → ℕ → ℕ → Moved
-wordStep w k b = wordMoved (reach w k b) (closes w k)
+wordStep w k b = led (reach w k b) (λ s. cond (closes w k) (Moved.Closed s) (Moved.To s))
 
 unfoldable pub turnStep : Turn → ℕ → Moved
-turnStep t b = turnMoved (reach (pick t b) 0 b)
+turnStep t b = led (reach (pick t b) 0 b) (λ s. Moved.To s)
 
 -- behind a number that has ended
 unfoldable pub endStep : Field → ℤ → ℕ → Moved
-endStep p z b = endMoved (reach (pick (turnAfter p) b) 0 b) p z
-
-abbrev pub stopMoved : Field → Whole → ℕ → Moved
-stopMoved p (Whole.Value z) b = endStep p z b
-stopMoved p Whole.Partial b = Moved.Refuse
-
-abbrev pub numberMoved : Field → Taken → Whole → ℕ → Moved
-numberMoved p (Taken.More m) w b = Moved.To (State.At p m)
-numberMoved p Taken.Stop w b = stopMoved p w b
+endStep p z b = led (reach (pick (turnAfter p) b) 0 b) (λ s. Moved.Value s p z)
 
 unfoldable pub numberStep : Field → Numeral → ℕ → Moved
-numberStep p n b = numberMoved p (numStep n b) (whole n) b
+numberStep p n b = byTaken (numStep n b) (λ m. Moved.To (State.At p m)) (byWhole (whole n) (λ z. endStep p z b) Moved.Refuse)
 
 unfoldable pub indexStep : State → ℕ → Moved
 indexStep (State.In w k) b = wordStep w k b

@@ -1,6 +1,6 @@
--- Laws of specs/Follow.
-use mathlib.Core.Path.{_≡_, refl, sym, ap, _∙_}
-use mathlib.Core.Bool.{true, false, cond}
+-- The automaton of the lines follows `seriesForm` and `programForm`, each from its own start: each state with what has been said so far has a reader for the rest of the text, and a byte takes it to the next. So the bytes of a text come to what `readText` says.
+use mathlib.Core.Path.{_≡_, refl, ap, _∙_}
+use mathlib.Core.Bool.{Bool, true, false, cond}
 use mathlib.Core.List.{List, [], _∷_, append-assoc, append-nil}
 use mathlib.Core.Option.{Option, none, some}
 use Prim.Native.Nat.{ℕ, suc, _+_, _<_}
@@ -18,17 +18,19 @@ use Rattle.meaning_text.proofs.Open.{openText}
 use Rattle.meaning_text.proofs.Form.{filled, clearWord, clear, follows, firm, opens, decided}
 use Rattle.meaning_text.proofs.Reading.{on-flag, begun}
 use Rattle.meaning_text.proofs.Onward.{Rest, wordThen, readThen, word-both, read-alone, lead-then, trail-then, both-then, one-then, one-ends, many-then, many-ends, word-over, word-next, word-off, word-short}
-use Rattle.meaning_text.proofs.Automaton.{going, feed, Halts, bad-here, over, atRest, Follows, judged, form-comes}
+use Rattle.meaning_text.proofs.Automaton.{going, feed, bad-here, over, atRest, Follows, judged, form-comes}
 use Rattle.text_numbers.specs.declared.Numeral.{Numeral}
 use Rattle.text_numbers.specs.Number.{numStep, whole}
 use Rattle.text_numbers.proofs.Number.{good-step, on-taken, on-whole}
+use Rattle.text_numbers.proofs.Onto.{Onto, follows-by}
 use Rattle.text_numbers.proofs.Onward.{numberThen, number-more, number-stop, number-then}
 use Rattle.text_lines.specs.declared.Word.{Word}
 use Rattle.text_lines.specs.declared.Field.{Field}
 use Rattle.text_lines.specs.declared.Turn.{Turn}
 use Rattle.text_lines.specs.declared.State.{State}
 use Rattle.text_lines.specs.declared.Reached.{Reached}
-use Rattle.text_lines.specs.Step.{word, behind, turnAfter, pick, reach, wordStep, turnStep, endStep, numberStep, lineStep, GoodState}
+use Rattle.text_lines.specs.declared.Moved.{Moved}
+use Rattle.text_lines.specs.Step.{word, behind, turnAfter, pick, reach, led, wordStep, turnStep, endStep, numberStep, lineStep, GoodState}
 use Rattle.text_lines.proofs.Step.{word-long}
 use Rattle.text_lines.specs.Follow.{Said, nothingSaid, seriesMore, queryMore, told, kindSaid, named, Reading, at, moved, step, programStart, seriesStart, seriesValue, programValue}
 
@@ -134,58 +136,34 @@ module _ {A : Type 0} (fin : Said → A) where
 
 -- ---- words
 
-there-same : {s n : State} → Reached.There s ≡ Reached.There n → s ≡ n
-there-same e = cc
+-- where a byte leads
+abbrev turned : Reached → Said → Option Reading
+turned (Reached.There s) g = some (at s g)
+turned Reached.Not g = none
 
-not-there : {A : Type 0} {s : State} → Reached.Not ≡ Reached.There s → A
-not-there e = let z : _≡_ {A = ℕ} 0 1 = cc in absurd (omega arith)
+led-moved : (x : Reached) (f : State → Moved) (g h : Said) → ((s : State) → moved (f s) g ≡ some (at s h)) → moved (led x f) g ≡ turned x h
+led-moved (Reached.There s) f g h e = e s
+led-moved Reached.Not f g h e = refl
 
-there-not : {A : Type 0} {s : State} → Reached.There s ≡ Reached.Not → A
-there-not e = not-there (sym e)
-
-good-behind : (w : Word) → GoodState (behind w)
-unfolding behind
-good-behind Word.Window = tt
-good-behind Word.Width = tt
-good-behind Word.Merge = tt
-good-behind Word.Series = tt
-good-behind Word.Find = tt
-good-behind Word.Raw = tt
-good-behind Word.Normal = tt
-good-behind Word.Query = tt
-good-behind Word.End = tt
-good-behind Word.Line = tt
-good-behind Word.LineEnd = tt
-good-behind (Word.Space p) = tt
-
-on-reached : (x : Reached) {A : Type 0} → ((s : State) → x ≡ Reached.There s → A) → (x ≡ Reached.Not → A) → A
-on-reached (Reached.There s) f g = f s refl
-on-reached Reached.Not f g = g refl
-
-some-same : {x y : Reading} → some x ≡ some y → x ≡ y
-some-same e = cc
-
-none-some : {A : Type 0} {x : Reading} → none ≡ some x → A
-none-some e = let z : _≡_ {A = ℕ} 0 1 = cc in absurd (omega arith)
-
-some-none : {A : Type 0} {x : Reading} → some x ≡ none → A
-some-none e = none-some (sym e)
+word-moved : (x : Reached) (more : Bool) (w : Word) (g : Said) → moved (led x (λ s. cond more (Moved.To s) (Moved.Ended s w))) g ≡ turned x (cond more g (named w g))
+word-moved x true w g = led-moved x _ g g (λ s. refl)
+word-moved x false w g = led-moved x _ g (named w g) (λ s. refl)
 
 module _ {A : Type 0} (fin : Said → A) where
-  behind-then : (w : Word) (g : Said) → behindThen fin w g ≡ restState fin (behind w) (named w g)
+  behind-then : (w : Word) (g : Said) → GoodState (behind w) × (behindThen fin w g ≡ restState fin (behind w) (named w g))
   unfolding behind behindThen afterKind after
-  behind-then Word.Window g = refl
-  behind-then Word.Width g = refl
-  behind-then Word.Merge g = refl
-  behind-then Word.Series g = refl
-  behind-then Word.Find g = refl
-  behind-then Word.Raw g = refl
-  behind-then Word.Normal g = refl
-  behind-then Word.Query g = refl
-  behind-then Word.End g = refl
-  behind-then Word.Line g = refl
-  behind-then Word.LineEnd g = refl
-  behind-then (Word.Space p) g = refl
+  behind-then Word.Window g = (tt, refl)
+  behind-then Word.Width g = (tt, refl)
+  behind-then Word.Merge g = (tt, refl)
+  behind-then Word.Series g = (tt, refl)
+  behind-then Word.Find g = (tt, refl)
+  behind-then Word.Raw g = (tt, refl)
+  behind-then Word.Normal g = (tt, refl)
+  behind-then Word.Query g = (tt, refl)
+  behind-then Word.End g = (tt, refl)
+  behind-then Word.Line g = (tt, refl)
+  behind-then Word.LineEnd g = (tt, refl)
+  behind-then (Word.Space p) g = (tt, refl)
 
   -- a word of one byte says nothing
   unnamed : (w : Word) (g : Said) → cond (ltb 1 (length (word w))) g (named w g) ≡ g
@@ -204,34 +182,16 @@ module _ {A : Type 0} (fin : Said → A) where
   unnamed (Word.Space p) g = refl
 
   -- a byte of a word
-  module _ (w : Word) (k b : ℕ) (h : k < length (word w)) where
-    reach-good : (n : State) → reach w k b ≡ Reached.There n → GoodState n
-    unfolding reach
-    reach-good n e =
-        on-flag (eqb b (getD (word w) k 0))
-        (λ t. on-flag (ltb (k + 1) (length (word w)))
-        (λ u. rw (← there-same (rw (t, u) at e)) (ltb-true (k + 1) (length (word w)) u))
-        (λ u. rw (← there-same (rw (t, u) at e)) (good-behind w)))
-        (λ t. not-there (rw t at e))
-
-    reach-goes : (g : Said) (n : State) → reach w k b ≡ Reached.There n → (t : List ℕ) → wordThen (drop k (word w)) (behindThen fin w g) (b ∷ t) ≡ restState fin n (cond (ltb (k + 1) (length (word w))) g (named w g)) t
-    unfolding reach
-    reach-goes g n e r =
-        on-flag (eqb b (getD (word w) k 0))
-        (λ t. on-flag (ltb (k + 1) (length (word w)))
-        (λ u. let a : suc k ≡ k + 1 = omega arith in
-        rw (← there-same (rw (t, u) at e), u) (word-next (word w) (behindThen fin w g) k h b r t ∙ rw a))
-        (λ u. rw (← there-same (rw (t, u) at e), u)
-        (word-next (word w) (behindThen fin w g) k h b r t
-        ∙ ap (λ (f : Rest A). f r) (word-over (word w) (behindThen fin w g) (suc k) (omega (arith, ltb-false (k + 1) (length (word w)) u)) ∙ behind-then w g))))
-        (λ t. not-there (rw t at e))
-
-    reach-off : (g : Said) → reach w k b ≡ Reached.Not → (t : List ℕ) → wordThen (drop k (word w)) (behindThen fin w g) (b ∷ t) ≡ bad (b ∷ t)
-    unfolding reach
-    reach-off g e r =
-        on-flag (eqb b (getD (word w) k 0))
-        (λ t. there-not (rw t at e))
-        (λ t. word-off (word w) (behindThen fin w g) k h b r t)
+  word-onto : (w : Word) (k b : ℕ) → k < length (word w) → (g : Said) (t : List ℕ) → Onto Good (rest fin) (turned (reach w k b) (cond (ltb (k + 1) (length (word w))) g (named w g))) b t (wordThen (drop k (word w)) (behindThen fin w g) (b ∷ t))
+  unfolding reach rest
+  word-onto w k b h g t =
+      on-flag (eqb b (getD (word w) k 0))
+      (λ e. on-flag (ltb (k + 1) (length (word w)))
+      (λ u. let a : suc k ≡ k + 1 = omega arith in
+      rw (e, u) (ltb-true (k + 1) (length (word w)) u, word-next (word w) (behindThen fin w g) k h b t e ∙ rw a))
+      (λ u. let n = behind-then w g in
+      rw (e, u) (n .0, word-next (word w) (behindThen fin w g) k h b t e ∙ ap (λ (f : Rest A). f t) (word-over (word w) (behindThen fin w g) (suc k) (omega (arith, ltb-false (k + 1) (length (word w)) u)) ∙ n .1))))
+      (λ e. rw (e, word-off (word w) (behindThen fin w g) k h b t e) bad-here)
 
   -- ---- between two words
 
@@ -301,71 +261,22 @@ module _ {A : Type 0} (fin : Said → A) where
   after-turn Field.Asked g = refl
   after-turn Field.Entry g = refl
 
-  -- a byte that is taken
-  record Goes (s : State) (g : Said) (b : ℕ) (n : Reading) : Type 0 where
-    good : GoodState (n .state)
-    goes : (t : List ℕ) → restState fin s g (b ∷ t) ≡ restState fin (n .state) (n .said) t
-
-  goes-as : {s : State} {g : Said} {b : ℕ} {n m : Reading} → n ≡ m → Goes s g b n → Goes s g b m
-  goes-as e h = rw (← e) h
-
   -- behind a number or between two words
-  module _ (t : Turn) (g : Said) (b : ℕ) where
-    turn-goes : (n : State) → reach (pick t b) 0 b ≡ Reached.There n → Goes (State.Before t) g b (at n g)
-    turn-goes n e =
-        let w = pick t b in
-        record {
-          good = reach-good w 0 b (word-long w) n e;
-          goes = λ u. turn-pick t g b u ∙ rw (unnamed w g) at (reach-goes w 0 b (word-long w) g n e u);
-        }
+  turn-onto : (s : Turn) (g : Said) (b : ℕ) (t : List ℕ) → Onto Good (rest fin) (turned (reach (pick s b) 0 b) g) b t (restTurn fin s g (b ∷ t))
+  turn-onto s g b t = let w = pick s b in rw (turn-pick s g b t) (rw (unnamed w g) at (word-onto w 0 b (word-long w) g t))
 
-    turn-off : reach (pick t b) 0 b ≡ Reached.Not → (u : List ℕ) → restTurn fin t g (b ∷ u) ≡ bad (b ∷ u)
-    turn-off e u = turn-pick t g b u ∙ reach-off (pick t b) 0 b (word-long (pick t b)) g e u
-
-  goes : (s : State) (g : Said) (b : ℕ) (n : Reading) → GoodState s → moved (lineStep s b) g ≡ some n → Goes s g b n
-  unfolding lineStep wordStep turnStep endStep numberStep
-  goes (State.In w k) g b n h e =
-      on-reached (reach w k b)
-      (λ s i. let r = reach-goes w k b h g s i in
-      on-flag (ltb (k + 1) (length (word w)))
-      (λ c. goes-as (some-same (rw (i, c) at e)) (record { good = reach-good w k b h s i; goes = rw c at r }))
-      (λ c. goes-as (some-same (rw (i, c) at e)) (record { good = reach-good w k b h s i; goes = rw c at r })))
-      (λ i. none-some (rw i at e))
-  goes (State.At p m) g b n h e =
+  onto : (s : State) (g : Said) (b : ℕ) (t : List ℕ) → GoodState s → Onto Good (rest fin) (moved (lineStep s b) g) b t (restState fin s g (b ∷ t))
+  unfolding lineStep wordStep turnStep endStep numberStep rest
+  onto (State.In w k) g b t h = rw (word-moved (reach w k b) (ltb (k + 1) (length (word w))) w g) (word-onto w k b h g t)
+  onto (State.At p m) g b t h =
+      let f : ℤ → Rest A = λ z. after fin p (told p z g) in
       on-taken (numStep m b)
-      (λ q i. goes-as (some-same (rw i at e)) (record { good = good-step m b q i; goes = λ t. number-more _ m b q t i }))
+      (λ q i. rw (i, number-more f m b q t i) (good-step m b q i, refl))
       (λ i. on-whole (whole m)
-      (λ z j. on-reached (reach (pick (turnAfter p) b) 0 b)
-      (λ s k. let r = turn-goes (turnAfter p) (told p z g) b s k in
-      goes-as (some-same (rw (i, j, k) at e)) (record { good = r .good; goes = λ t. number-stop _ m b t i ∙ rw j (ap (λ (f : Rest A). f (b ∷ t)) (after-turn p (told p z g)) ∙ r .goes t) }))
-      (λ k. none-some (rw (i, j, k) at e)))
-      (λ j. none-some (rw (i, j) at e)))
-  goes (State.Before t) g b n h e =
-      on-reached (reach (pick t b) 0 b)
-      (λ s i. goes-as (some-same (rw i at e)) (turn-goes t g b s i))
-      (λ i. none-some (rw i at e))
-  goes State.Done g b n h e = none-some e
-
-  -- a byte that is refused
-  halts : (s : State) (g : Said) (b : ℕ) → GoodState s → moved (lineStep s b) g ≡ none → (t : List ℕ) → Halts (b ∷ t) (restState fin s g (b ∷ t))
-  unfolding lineStep wordStep turnStep endStep numberStep
-  halts (State.In w k) g b h e t =
-      on-reached (reach w k b)
-      (λ s i. on-flag (ltb (k + 1) (length (word w))) (λ c. some-none (rw (i, c) at e)) (λ c. some-none (rw (i, c) at e)))
-      (λ i. rw (reach-off w k b h g i t) bad-here)
-  halts (State.At p m) g b h e t =
-      on-taken (numStep m b)
-      (λ q i. some-none (rw i at e))
-      (λ i. on-whole (whole m)
-      (λ z j. on-reached (reach (pick (turnAfter p) b) 0 b)
-      (λ s k. some-none (rw (i, j, k) at e))
-      (λ k. rw (number-stop (λ z. after fin p (told p z g)) m b t i, j, after-turn p (told p z g), turn-off (turnAfter p) (told p z g) b k t) bad-here))
-      (λ j. rw (number-stop (λ z. after fin p (told p z g)) m b t i, j) bad-here))
-  halts (State.Before s) g b h e t =
-      on-reached (reach (pick s b) 0 b)
-      (λ n i. some-none (rw i at e))
-      (λ i. rw (turn-off s g b i t) bad-here)
-  halts State.Done g b h e t = over
+      (λ z j. rw (i, j, number-stop f m b t i, j, led-moved (reach (pick (turnAfter p) b) 0 b) _ g (told p z g) (λ s. refl), after-turn p (told p z g)) (turn-onto (turnAfter p) (told p z g) b t))
+      (λ j. rw (i, j, number-stop f m b t i, j) bad-here))
+  onto (State.Before s) g b t h = rw (led-moved (reach (pick s b) 0 b) _ g g (λ s. refl)) (turn-onto s g b t)
+  onto State.Done g b t h = over
 
   -- the text's end
   ends : (s : State) (g : Said) → GoodState s → restState fin s g [] ≡ atRest (acceptState fin s g)
@@ -380,12 +291,7 @@ module _ {A : Type 0} (fin : Said → A) where
 
   follows-lines : Follows step (accept fin) Good (rest fin)
   unfolding step accept rest
-  follows-lines = record {
-    stays-good = λ s b n g e. goes (s .state) (s .said) b n g e .good;
-    goes-on = λ s b n g e t. goes (s .state) (s .said) b n g e .goes t;
-    halts = λ s b g e t. halts (s .state) (s .said) b g e t;
-    ends = λ s g. ends (s .state) (s .said) g;
-  }
+  follows-lines = follows-by Good (rest fin) step (accept fin) (λ s b t. onto (s .state) (s .said) b t) (λ s. ends (s .state) (s .said))
 
 -- ---- the two forms
 

@@ -1,3 +1,4 @@
 -- Laws of text_numbers.
 pub mod Number
+pub mod Onto
 pub mod Onward

@@ -15,26 +15,20 @@ use Rattle.meaning_text.proofs.Number.{is-digit}
 use Rattle.meaning_text.proofs.Onward.{Rest, readThen}
 use Rattle.text_numbers.specs.declared.Numeral.{Numeral}
 use Rattle.text_numbers.specs.declared.Numeral.the-variants.{Start, Sign, Zero, Plus, Less}
-use Rattle.text_numbers.specs.declared.Taken.{Taken}
 use Rattle.text_numbers.specs.declared.Taken.the-variants.{More, Stop}
 use Rattle.text_numbers.specs.declared.Whole.{Whole}
 use Rattle.text_numbers.specs.declared.Whole.the-variants.{Value, Partial}
-use Rattle.text_numbers.specs.Number.{numStep, whole, within, grown, first}
+use Rattle.text_numbers.specs.Number.{numStep, whole, within, grown, first, byTaken, byWhole}
 use Rattle.text_numbers.proofs.Number.{within-yes, within-false}
 
 -- on from a number that has ended, or a bad byte
 abbrev pub wholeThen : {A : Type 0} → Whole → (ℤ → Rest A) → Rest A
-wholeThen (Value z) k t = k z t
-wholeThen Partial k t = bad t
-
-abbrev pub takenThen : {B : Type 0} → Taken → (Numeral → B) → B → B
-takenThen (More n) f r = f n
-takenThen Stop f r = r
+wholeThen w k t = byWhole w (λ z. k z t) (bad t)
 
 -- the number of which n has been read, and then on from there
 unfoldable pub numberThen : {A : Type 0} → Numeral → (ℤ → Rest A) → Rest A
 numberThen n k [] = wholeThen (whole n) k []
-numberThen n k (b ∷ t) = takenThen (numStep n b) (λ m. numberThen m k t) (wholeThen (whole n) k (b ∷ t))
+numberThen n k (b ∷ t) = byTaken (numStep n b) (λ m. numberThen m k t) (wholeThen (whole n) k (b ∷ t))
 
 module _ {A : Type 0} (k : ℤ → Rest A) (n : Numeral) where
   pub number-more : (b : ℕ) (m : Numeral) (t : List ℕ) → numStep n b ≡ More m → numberThen n k (b ∷ t) ≡ numberThen m k t
@@ -135,7 +129,7 @@ module _ {A : Type 0} (k : ℤ → Rest A) where
       (λ e. rw (e, readℤ) (minus-then t))
       (λ e. on-flag (eqb b 48) (λ g. rw (e, g, readℤ) (zero-then t)) (λ g. rw (e, g, readℤ) (plain-then b t e g ∙ number-is b t e g)))
     where
-      number-is : (b : ℕ) (t : List ℕ) → eqb b 45 ≡ false → eqb b 48 ≡ false → numberThen Start k (b ∷ t) ≡ takenThen (first Plus b) (λ m. numberThen m k t) (bad (b ∷ t))
+      number-is : (b : ℕ) (t : List ℕ) → eqb b 45 ≡ false → eqb b 48 ≡ false → numberThen Start k (b ∷ t) ≡ byTaken (first Plus b) (λ m. numberThen m k t) (bad (b ∷ t))
       number-is b t e g = rw (e, g)
 
   pub number-then : readThen number k ≡ numberThen Start k

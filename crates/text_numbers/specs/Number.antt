@@ -2,7 +2,7 @@
 use mathlib.Core.Bool.{Bool, false, cond}
 use Prim.Native.Nat.{ℕ, suc, _+_, _*_, _-_, _<_, _^_}
 use lib.Dec.{ltb, eqb}
-use lib.IntN.{pos, negℤ}
+use lib.IntN.{ℤ, pos, negℤ}
 use Rattle.text_numbers.specs.declared.Numeral.{Numeral}
 use Rattle.text_numbers.specs.declared.Numeral.the-variants.{Start, Sign, Zero, Plus, Less}
 use Rattle.text_numbers.specs.declared.Taken.{Taken}
@@ -39,6 +39,15 @@ whole Sign = Partial
 whole Zero = Value (pos 0)
 whole (Plus m) = Value (pos m)
 whole (Less m) = Value (negℤ (pos m))
+
+-- by what a byte did to a number, and by its value
+abbrev pub byTaken : {B : Type 0} → Taken → (Numeral → B) → B → B
+byTaken (More n) f r = f n
+byTaken Stop f r = r
+
+abbrev pub byWhole : {B : Type 0} → Whole → (ℤ → B) → B → B
+byWhole (Value z) f r = f z
+byWhole Partial f r = r
 
 -- at most 18 digits
 abbrev pub NumGood : Numeral → Type 0

@@ -18,22 +18,6 @@ Inv-loop text left₀ right₀ s₀ l₀ k₀ i₀ left right s l k i = Filling 
 abbrev μ-loop : tie.MeasureT-loop
 μ-loop text left₀ right₀ s₀ l₀ k₀ i₀ left right s l k i = length text - i
 
-loop-holds : tie.Need-loop-holds Inv-loop μ-loop
-loop-holds c = filling-start _ _ _
-
-next-event-requires : tie.Need-next-event-requires Inv-loop μ-loop
-next-event-requires c κs = c .loop .inv .kept .good
-
-put-runs-requires : tie.Need-put-runs-requires Inv-loop μ-loop
-put-runs-requires c κs = let n = c .before .before .before in let l = n .before .before .before in let u = row-up ((rw (n .a .given .1) at (n .before .before .next-event .ensures)) .1) in (omega (arith, u .0, l .loop .inv .count), u .1)
-
-loop-less : tie.Need-loop-less Inv-loop μ-loop
-loop-less c =
-    let n = c .before .before .before .before .before .before .before .before in
-    let u = row-up ((rw (n .a .given .1) at (n .before .before .next-event .ensures)) .1) in
-    let v = runs-up (c .before .before .before .before .put-runs .ensures) (u .1) in
-    omega (arith, u .0, u .1, v .0, v .1)
-
 loop-again : tie.Need-loop-again Inv-loop μ-loop
 loop-again c =
     let n = c .before .before .before .before .before .before .before .before in
@@ -41,35 +25,12 @@ loop-again c =
     let v = rw (n .a .given .1) at (m .next-event .ensures) in
     filling-runs _ _ _ (c .before .before .before .before .put-runs .ensures) (filling-row _ _ _ (m .before .loop .inv) _ _ _ _ _ (search (needs, c .before .before .before .before .before .before .before .known-told .given)) (search (needs, c .before .before .before .before .before .before .before .known-told .given)) v)
 
-put-runs-requires-2 : tie.Need-put-runs-requires-2 Inv-loop μ-loop
-put-runs-requires-2 c κs = let n = c .before .before .before in let l = n .before .before .before in let u = run-up ((rw (n .a2 .given .1) at (n .before .before .next-event .ensures)) .1) in (omega (arith, u .0, l .loop .inv .count), u .1)
-
-loop-less-2 : tie.Need-loop-less-2 Inv-loop μ-loop
-loop-less-2 c =
-    let n = c .before .before .before .before .before .before .before .before in
-    let u = run-up ((rw (n .a2 .given .1) at (n .before .before .next-event .ensures)) .1) in
-    let v = runs-up (c .before .before .before .before .put-runs2 .ensures) (u .1) in
-    omega (arith, u .0, u .1, v .0, v .1)
-
 loop-again-2 : tie.Need-loop-again-2 Inv-loop μ-loop
 loop-again-2 c =
     let n = c .before .before .before .before .before .before .before .before in
     let m = n .before .before in
     let v = rw (n .a2 .given .1) at (m .next-event .ensures) in
     rw (v .0) (filling-runs _ _ _ (c .before .before .before .before .put-runs2 .ensures) (filling-run _ _ _ (m .before .loop .inv) _ _ _ (search (needs, c .before .before .before .before .before .before .before .known-told2 .given)) (search (needs, c .before .before .before .before .before .before .before .known-told2 .given)) v))
-
-count-if-requires : tie.Need-count-if-requires Inv-loop μ-loop
-count-if-requires c κs = let p2 = c .before .before in let p1 = p2 .before .before .before .before in let n = p1 .before .before .before .before .before in let l = n .before .before .before in omega (arith, l .loop .inv .count, l .loop .inv .kept .inside, l .before .before .before .before .good)
-
-loop-less-3 : tie.Need-loop-less-3 Inv-loop μ-loop
-loop-less-3 c =
-    let il = c .before in
-    let ci = il .before in
-    let p2 = ci .before .before .before in
-    let p1 = p2 .before .before .before .before in
-    let n = p1 .before .before .before .before .before in
-    let u = value-up (rw (n .n .given .1) at (n .before .before .next-event .ensures)) in
-    omega (arith, u .0, u .1)
 
 loop-again-3 : tie.Need-loop-again-3 Inv-loop μ-loop
 loop-again-3 c =
@@ -89,38 +50,21 @@ loop-again-3 c =
     let e4 = rw (il .is-left .ensures, ho .hold .ensures, e) at (c .pick-if .ensures) in
     rw (e1, e2, e3, e4) (filling-value _ _ _ (a .before .loop .inv) (n .n .given .0 .0) (n .n .given .0 .1 .0) z _ (rw (n .n .given .1) at (a .next-event .ensures)))
 
-loop-less-4 : tie.Need-loop-less-4 Inv-loop μ-loop
-loop-less-4 c =
-    let n = c .before in
-    let u = closed-up (rw (n .n2 .given .1) at (n .before .before .next-event .ensures)) in
-    omega (arith, u .0, u .1)
-
-loop-again-4 : tie.Need-loop-again-4 Inv-loop μ-loop
-loop-again-4 c =
-    let n = c .before in
-    let a = n .before .before in
-    filling-closed _ _ _ (a .before .loop .inv) (n .n2 .given .0 .0) _ (rw (n .n2 .given .1) at (a .next-event .ensures))
-
-same-length : tie.Need-same-length Inv-loop μ-loop
-same-length c = c .before .before .before .loop .inv .left-long
-
-same-length-2 : tie.Need-same-length-2 Inv-loop μ-loop
-same-length-2 c = c .before .before .before .loop .inv .right-long
-
-returns : tie.Need-returns Inv-loop μ-loop
-returns c = let a = c .before .before in filling-refuse _ _ _ (a .before .loop .inv) (c .enum-told .given .0 .0) _ (rw (c .enum-told .given .1) at (a .next-event .ensures))
-
-same-length-3 : tie.Need-same-length-3 Inv-loop μ-loop
-same-length-3 c = c .before .before .before .loop .inv .left-long
-
-same-length-4 : tie.Need-same-length-4 Inv-loop μ-loop
-same-length-4 c = c .before .before .before .loop .inv .right-long
-
-returns-2 : tie.Need-returns-2 Inv-loop μ-loop
-returns-2 c = let a = c .before .before in filling-end _ _ _ (a .before .loop .inv) (c .enum-told2 .given .0 .0) _ (rw (c .enum-told2 .given .1) at (a .next-event .ensures))
-
 pub fill-runs-spec : {M : Type 1} → statement M
 fill-runs-spec =
-    tie.close (tie.spec Inv-loop μ-loop loop-holds next-event-requires (λ c. search needs) put-runs-requires loop-less loop-again (λ c. search needs) put-runs-requires-2 loop-less-2 loop-again-2
-    (λ c. search needs) (λ c κs. search needs) (λ c κs. search needs) (λ c κs. search needs) (λ c κs. search needs) count-if-requires (λ c κs. search needs) (λ c κs. search needs) loop-less-3
-    loop-again-3 (λ c. search needs) loop-less-4 loop-again-4 (λ c. search needs) same-length same-length-2 returns (λ c. search needs) same-length-3 same-length-4 returns-2)
+    tie.close (tie.spec Inv-loop μ-loop (λ c. filling-start _ _ _) (λ c κs. c .loop .inv .kept .good) (λ c. search needs)
+    (λ c κs. let n = c .before .before .before in let l = n .before .before .before in let u = row-up ((rw (n .a .given .1) at (n .before .before .next-event .ensures)) .1) in (omega (arith, u .0, l .loop .inv .count), u .1))
+    (λ c. let n = c .before .before .before .before .before .before .before .before in let u = row-up ((rw (n .a .given .1) at (n .before .before .next-event .ensures)) .1) in let v = runs-up (c .before .before .before .before .put-runs .ensures) (u .1) in omega (arith, u .0, u .1, v .0, v .1))
+    loop-again (λ c. search needs)
+    (λ c κs. let n = c .before .before .before in let l = n .before .before .before in let u = run-up ((rw (n .a2 .given .1) at (n .before .before .next-event .ensures)) .1) in (omega (arith, u .0, l .loop .inv .count), u .1))
+    (λ c. let n = c .before .before .before .before .before .before .before .before in let u = run-up ((rw (n .a2 .given .1) at (n .before .before .next-event .ensures)) .1) in let v = runs-up (c .before .before .before .before .put-runs2 .ensures) (u .1) in omega (arith, u .0, u .1, v .0, v .1))
+    loop-again-2 (λ c. search needs) (λ c κs. search needs) (λ c κs. search needs) (λ c κs. search needs) (λ c κs. search needs)
+    (λ c κs. let p2 = c .before .before in let p1 = p2 .before .before .before .before in let n = p1 .before .before .before .before .before in let l = n .before .before .before in omega (arith, l .loop .inv .count, l .loop .inv .kept .inside, l .before .before .before .before .good))
+    (λ c κs. search needs) (λ c κs. search needs)
+    (λ c. let il = c .before in let ci = il .before in let p2 = ci .before .before .before in let p1 = p2 .before .before .before .before in let n = p1 .before .before .before .before .before in let u = value-up (rw (n .n .given .1) at (n .before .before .next-event .ensures)) in omega (arith, u .0, u .1))
+    loop-again-3 (λ c. search needs) (λ c. let n = c .before in let u = closed-up (rw (n .n2 .given .1) at (n .before .before .next-event .ensures)) in omega (arith, u .0, u .1))
+    (λ c. let n = c .before in let a = n .before .before in filling-closed _ _ _ (a .before .loop .inv) (n .n2 .given .0 .0) _ (rw (n .n2 .given .1) at (a .next-event .ensures)))
+    (λ c. search needs) (λ c. c .before .before .before .loop .inv .left-long) (λ c. c .before .before .before .loop .inv .right-long)
+    (λ c. let a = c .before .before in filling-refuse _ _ _ (a .before .loop .inv) (c .enum-told .given .0 .0) _ (rw (c .enum-told .given .1) at (a .next-event .ensures)))
+    (λ c. search needs) (λ c. c .before .before .before .loop .inv .left-long) (λ c. c .before .before .before .loop .inv .right-long)
+    (λ c. let a = c .before .before in filling-end _ _ _ (a .before .loop .inv) (c .enum-told2 .given .0 .0) _ (rw (c .enum-told2 .given .1) at (a .next-event .ensures))))

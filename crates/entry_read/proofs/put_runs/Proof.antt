@@ -18,29 +18,11 @@ Inv-loop text at k l r left₀ right₀ last₀ n₀ i₀ left right last n i =
 abbrev μ-loop : tie.MeasureT-loop
 μ-loop text at k l r left₀ right₀ last₀ n₀ i₀ left right last n i = length text - i
 
-add-n : tie.Need-add-n Inv-loop μ-loop
-add-n c = let s = c .before .before .before .before .before .before .before .before .before .before .before in omega (arith, s .pre .0, s .pre .1, s .good)
-
-loop-holds : tie.Need-loop-holds Inv-loop μ-loop
-loop-holds c = let s = c .before .before .before .before .before .before .before .before .before .before .before in (omega (arith, s .pre .0), s .pre .1, none, refl, refl)
-
-same-length : tie.Need-same-length Inv-loop μ-loop
-same-length c = c .before .before .loop .inv .3 ∙ ap length (c .before .before .before .before .before .before .before .before .before .put .ensures) ∙ simp length-set
-
-same-length-2 : tie.Need-same-length-2 Inv-loop μ-loop
-same-length-2 c = c .before .before .loop .inv .4 ∙ ap length (c .before .before .before .before .before .put2 .ensures) ∙ simp length-set
-
-returns : tie.Need-returns Inv-loop μ-loop
-returns c = rw (c .before .before .before .before .before .before .before .before .before .put .ensures, c .before .before .before .before .before .put2 .ensures) at (c .before .before .loop .inv .2)
-
 add-n-2 : tie.Need-add-n-2 Inv-loop μ-loop
 add-n-2 c = let p = c .before .before .before .before .before .before .before .before .before .before .before .plain-run .ensures (omega (arith, c .before .before .before .before .before .before .before .before .before .before .if1 .left)) in let l = c .before .before .before .before .before .before .before .before .before .before .before .before in omega (arith, run-up (p .run) .0, run-up (p .run) .1, l .loop .inv .0, c .before .before .before .before .before .before .before .before .before .before .before .before .before .before .before .before .before .before .before .before .before .before .before .before .good)
 
 add-i : tie.Need-add-i Inv-loop μ-loop
 add-i c = let p = c .before .before .before .before .before .before .before .before .before .before .before .before .plain-run .ensures (omega (arith, c .before .before .before .before .before .before .before .before .before .before .before .if1 .left)) in omega (arith, run-up (p .run) .1, c .run-length .ensures, c .before .before .before .before .before .before .before .before .before .before .before .before .before .before .before .before .before .before .before .before .before .before .before .before .before .good)
-
-loop-less : tie.Need-loop-less Inv-loop μ-loop
-loop-less c = let p = c .before .before .before .before .before .before .before .before .before .before .before .before .plain-run .ensures (omega (arith, c .before .before .before .before .before .before .before .before .before .before .before .if1 .left)) in omega (arith, run-up (p .run) .0, run-up (p .run) .1, c .run-length .ensures)
 
 loop-again : tie.Need-loop-again Inv-loop μ-loop
 loop-again c =
@@ -58,5 +40,12 @@ loop-again c =
 
 pub put-runs-spec : {M : Type 1} → statement M
 put-runs-spec =
-    tie.close (tie.spec Inv-loop μ-loop (λ c κs. search needs) (λ c κs. search needs) add-n loop-holds (λ c κs. search needs) same-length same-length-2 returns (λ c κs. search needs)
-    (λ c κs. search needs) (λ c κs. search needs) (λ c κs. search needs) add-n-2 (λ c κs. search needs) add-i loop-less loop-again)
+    tie.close (tie.spec Inv-loop μ-loop (λ c κs. search needs) (λ c κs. search needs)
+    (λ c. let s = c .before .before .before .before .before .before .before .before .before .before .before in omega (arith, s .pre .0, s .pre .1, s .good))
+    (λ c. let s = c .before .before .before .before .before .before .before .before .before .before .before in (omega (arith, s .pre .0), s .pre .1, none, refl, refl)) (λ c κs. search needs)
+    (λ c. c .before .before .loop .inv .3 ∙ ap length (c .before .before .before .before .before .before .before .before .before .put .ensures) ∙ simp length-set)
+    (λ c. c .before .before .loop .inv .4 ∙ ap length (c .before .before .before .before .before .put2 .ensures) ∙ simp length-set)
+    (λ c. rw (c .before .before .before .before .before .before .before .before .before .put .ensures, c .before .before .before .before .before .put2 .ensures) at (c .before .before .loop .inv .2))
+    (λ c κs. search needs) (λ c κs. search needs) (λ c κs. search needs) (λ c κs. search needs) add-n-2 (λ c κs. search needs) add-i
+    (λ c. let p = c .before .before .before .before .before .before .before .before .before .before .before .before .plain-run .ensures (omega (arith, c .before .before .before .before .before .before .before .before .before .before .before .if1 .left)) in omega (arith, run-up (p .run) .0, run-up (p .run) .1, c .run-length .ensures))
+    loop-again)

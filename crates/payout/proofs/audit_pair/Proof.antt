@@ -6,11 +6,8 @@ use borrow.Author.Needs.{needs}
 use Rattle.payout.proofs.audit_pair.Statement.{statement}
 use Rattle.payout.proofs.audit_pair.Tie as tie
 
-audit-line-requires : tie.Need-audit-line-requires
-audit-line-requires c κs = let h = c .before in sym (h .head .given .1) ∙ h .before .before .scan .ensures
-
-returns : tie.Need-returns
-returns c = let a = c .before .before in let r = a .before .before in let s = r .before .before .before in ap (Audited.Refused 12) (c .bad-line .ensures) ∙ index-stopped (s .args .index .now) (s .args .line .now) (a .at .given .0 .0) (sym (a .at .given .1) ∙ r .scan .ensures)
-
 pub audit-pair-spec : {M : Type 1} → statement M
-audit-pair-spec = tie.close (tie.spec (λ c κs. search needs) (λ c. search needs) (λ c κs. search needs) (λ c. search needs) audit-line-requires returns (λ c. search needs))
+audit-pair-spec =
+    tie.close (tie.spec (λ c κs. search needs) (λ c. search needs) (λ c κs. search needs) (λ c. search needs) (λ c κs. let h = c .before in sym (h .head .given .1) ∙ h .before .before .scan .ensures)
+    (λ c. let a = c .before .before in let r = a .before .before in let s = r .before .before .before in ap (Audited.Refused 12) (c .bad-line .ensures) ∙ index-stopped (s .args .index .now) (s .args .line .now) (a .at .given .0 .0) (sym (a .at .given .1) ∙ r .scan .ensures))
+    (λ c. search needs))

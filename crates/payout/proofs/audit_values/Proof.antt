@@ -14,14 +14,10 @@ use borrow.Author.Needs.{needs}
 use Rattle.payout.proofs.audit_values.Statement.{statement}
 use Rattle.payout.proofs.audit_values.Tie as tie
 
-returns : tie.Need-returns
-returns c = let f = c .before in let a = f .before .before .args in counted-outside (textIndex (a .index .now)) (a .values .now) (a .n) (sym (f .length-in .ensures) ∙ not-true (f .length-in .result) (c .if1 .taken))
-
-slice-aggregate-audit-series : tie.Need-slice-aggregate-audit-series
-slice-aggregate-audit-series c = let f = c .before .before in let s = f .before .before in let b = between 1 mostProgramValues (pos (s .args .n)) (sym (f .length-in .ensures) ∙ not-false (f .length-in .result) (c .before .if1 .left)) in let h : s .args .n ≤ length (s .args .values .now) = omega (arith, b .most, s .pre .1) in sym (length-take-le (s .args .n) (s .args .values .now) h)
-
-returns-2 : tie.Need-returns-2
-returns-2 c = let e = c .before .before in let f = e .before in let a = f .before .before .args in c .audit-series .ensures ∙ counted-inside (textIndex (a .index .now)) (a .values .now) (a .n) (sym (f .length-in .ensures) ∙ not-false (f .length-in .result) (e .if1 .left))
-
 pub audit-values-spec : {M : Type 1} → statement M
-audit-values-spec = tie.close (tie.spec (λ c κs. search needs) returns slice-aggregate-audit-series (λ c κs. search needs) returns-2)
+audit-values-spec =
+    tie.close (tie.spec (λ c κs. search needs)
+    (λ c. let f = c .before in let a = f .before .before .args in counted-outside (textIndex (a .index .now)) (a .values .now) (a .n) (sym (f .length-in .ensures) ∙ not-true (f .length-in .result) (c .if1 .taken)))
+    (λ c. let f = c .before .before in let s = f .before .before in let b = between 1 mostProgramValues (pos (s .args .n)) (sym (f .length-in .ensures) ∙ not-false (f .length-in .result) (c .before .if1 .left)) in let h : s .args .n ≤ length (s .args .values .now) = omega (arith, b .most, s .pre .1) in sym (length-take-le (s .args .n) (s .args .values .now) h))
+    (λ c κs. search needs)
+    (λ c. let e = c .before .before in let f = e .before in let a = f .before .before .args in c .audit-series .ensures ∙ counted-inside (textIndex (a .index .now)) (a .values .now) (a .n) (sym (f .length-in .ensures) ∙ not-false (f .length-in .result) (e .if1 .left))))

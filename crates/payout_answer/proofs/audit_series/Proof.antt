@@ -22,27 +22,9 @@ module _ (m : tie.After-make-plan) where
   number-zero : m .make-plan .result .refusal .number ≡ 0 → plan .refusal .number ≡ 0
   number-zero e = sym (ap (λ (u : AuditPlan). u .refusal .number) made) ∙ e
 
-returns : tie.Need-returns
-returns c =
-    let t = c .before .before in
-    let m = t .before .before in
-    let a = o m .args in
-    c .answer .ensures ∙ ap (λ (u : AuditPlan). answerOf u (c .before .begin .result)) (made m)
-    ∙ stopped-right (a .index .now) (a .series .now) (a .head) (a .c) (o m .pre) (c .before .begin .result) (λ z. t .if1 .taken (ap (λ (u : AuditPlan). u .refusal .number) (made m) ∙ z))
-
-walk-rows-requires : tie.Need-walk-rows-requires
-walk-rows-requires c κs =
-    let m = c .before .before in
-    let a = o m .args in
-    goes-sized (a .index .now) (a .series .now) (a .head) (a .c) (o m .pre) (number-zero m (c .if1 .left))
-
-returns-2 : tie.Need-returns-2
-returns-2 c =
-    let w = c .before in
-    let m = w .before .before .before in
-    let a = o m .args in
-    c .answer2 .ensures ∙ ap (λ (u : AuditPlan). answerOf u (w .walk-rows .result)) (made m)
-    ∙ walked-right (a .index .now) (a .series .now) (a .head) (a .c) (o m .pre) (w .walk-rows .result) (number-zero m (w .before .if1 .left)) (w .walk-rows .ensures)
-
 pub audit-series-spec : {M : Type 1} → statement M
-audit-series-spec = tie.close (tie.spec (λ c κs. search needs) (λ c κs. search needs) (λ c κs. search needs) (λ c κs. search needs) returns walk-rows-requires (λ c κs. search needs) returns-2)
+audit-series-spec =
+    tie.close (tie.spec (λ c κs. search needs) (λ c κs. search needs) (λ c κs. search needs) (λ c κs. search needs)
+    (λ c. let t = c .before .before in let m = t .before .before in let a = o m .args in c .answer .ensures ∙ ap (λ (u : AuditPlan). answerOf u (c .before .begin .result)) (made m) ∙ stopped-right (a .index .now) (a .series .now) (a .head) (a .c) (o m .pre) (c .before .begin .result) (λ z. t .if1 .taken (ap (λ (u : AuditPlan). u .refusal .number) (made m) ∙ z)))
+    (λ c κs. let m = c .before .before in let a = o m .args in goes-sized (a .index .now) (a .series .now) (a .head) (a .c) (o m .pre) (number-zero m (c .if1 .left))) (λ c κs. search needs)
+    (λ c. let w = c .before in let m = w .before .before .before in let a = o m .args in c .answer2 .ensures ∙ ap (λ (u : AuditPlan). answerOf u (w .walk-rows .result)) (made m) ∙ walked-right (a .index .now) (a .series .now) (a .head) (a .c) (o m .pre) (w .walk-rows .result) (number-zero m (w .before .if1 .left)) (w .walk-rows .ensures)))

@@ -9,9 +9,6 @@ use borrow.Author.Needs.{needs}
 use Rattle.payout_walk.proofs.audit_run.Statement.{statement}
 use Rattle.payout_walk.proofs.audit_run.Tie as tie
 
-returns : tie.Need-returns
-returns c = let f = c .before in let s = f .before .before .before in run-off (s .args .series .now) (s .args .head) (s .args .t) (s .args .r) (sym (f .run-reads .ensures) ∙ not-true (f .run-reads .result) (c .if1 .taken))
-
 audit-chunk-requires : tie.Need-audit-chunk-requires
 unfolding oneRun
 audit-chunk-requires c κs =
@@ -35,4 +32,7 @@ returns-2 c =
     (rw (l, u) at (c .audit-chunk .ensures)) ∙ run-on (s .args .series .now) (s .args .head) (s .args .t) (s .args .r) e
 
 pub audit-run-spec : {M : Type 1} → statement M
-audit-run-spec = tie.close (tie.spec (λ c. search needs) (λ c. search needs) (λ c κs. search needs) returns (λ c. search needs) (λ c. search needs) (λ c. search needs) audit-chunk-requires returns-2)
+audit-run-spec =
+    tie.close (tie.spec (λ c. search needs) (λ c. search needs) (λ c κs. search needs)
+    (λ c. let f = c .before in let s = f .before .before .before in run-off (s .args .series .now) (s .args .head) (s .args .t) (s .args .r) (sym (f .run-reads .ensures) ∙ not-true (f .run-reads .result) (c .if1 .taken)))
+    (λ c. search needs) (λ c. search needs) (λ c. search needs) audit-chunk-requires returns-2)

@@ -7,35 +7,13 @@ use borrow.Author.Needs.{needs}
 use Rattle.payout_walk.proofs.tell.Statement.{statement}
 use Rattle.payout_walk.proofs.tell.Tie as tie
 
-returns : tie.Need-returns
-unfolding tellWalk
-returns c = rw (c .enum-told .given .1) refl
-
-returns-2 : tie.Need-returns-2
-unfolding tellWalk
-returns-2 c = rw (c .enum-told2 .given .1) refl
-
-returns-3 : tie.Need-returns-3
-unfolding tellWalk
-returns-3 c = rw (c .enum-told3 .given .1) refl
-
-returns-4 : tie.Need-returns-4
-unfolding tellWalk
-returns-4 c = let n = c .before in let k = n .before in let s = k .before .before .before in let z = toZ-ofZ w64 (s .args .z) (s .fits .z) in let u = toZ-ofZ w32 (s .args .t .up) (record { sfits = c .struct-told .given .1 .0 .1 }) in let l = toZ-ofZ w32 (n .narrow .result) (record { sfits = n .narrow .ok }) in rw (k .enum-told4 .given .1, u, l, n .narrow .ensures, z) refl
-
-returns-5 : tie.Need-returns-5
-unfolding tellWalk
-returns-5 c = let n = c .before in let k = n .before in let s = k .before .before .before in let z = toZ-ofZ w64 (s .args .z) (s .fits .z) in let u = toZ-ofZ w32 (s .args .t .low) (record { sfits = c .struct-told2 .given .0 .1 }) in let l = toZ-ofZ w32 (n .narrow2 .result) (record { sfits = n .narrow2 .ok }) in rw (k .enum-told5 .given .1, u, l, n .narrow2 .ensures, z) refl
-
-returns-6 : tie.Need-returns-6
-unfolding tellWalk
-returns-6 c = let n = c .before in let k = n .before in let s = k .before .before .before in let z = toZ-ofZ w64 (s .args .z) (s .fits .z) in let l = toZ-ofZ w32 (s .args .t .low) (record { sfits = c .struct-told3 .given .0 .1 }) in let u = toZ-ofZ w32 (s .args .t .up) (record { sfits = c .struct-told3 .given .1 .0 .1 }) in rw (k .enum-told6 .given .1, u, l, n .hold .ensures, z) refl
-
-returns-7 : tie.Need-returns-7
-unfolding tellWalk
-returns-7 c = let m = c .before in let n = m .before in let k = n .before in let s = k .before .before .before in let z = toZ-ofZ w64 (s .args .z) (s .fits .z) in let l = toZ-ofZ w32 (s .args .t .low) (record { sfits = c .struct-told4 .given .0 .1 }) in let u = toZ-ofZ w32 (s .args .t .up) (record { sfits = c .struct-told4 .given .1 .0 .1 }) in rw (k .enum-told7 .given .1, u, l, m .audit-run .ensures, n .hold2 .ensures, z) refl
-
 pub tell-spec : {M : Type 1} → statement M
+unfolding tellWalk
 tell-spec =
-    tie.close (tie.spec (λ c. search needs) (λ c. search needs) (λ c. search needs) (λ c. search needs) (λ c κs. search needs) (λ c. search needs) (λ c κs. search needs) (λ c. search needs)
-    (λ c κs. search needs) (λ c. search needs) (λ c κs. search needs) (λ c κs. search needs) returns returns-2 returns-3 returns-4 returns-5 returns-6 returns-7)
+    tie.close (tie.spec (λ c. search needs) (λ c. search needs) (λ c. search needs) (λ c. search needs) (λ c κs. search needs) (λ c. search needs) (λ c κs. search needs)
+    (λ c. search needs) (λ c κs. search needs) (λ c. search needs) (λ c κs. search needs) (λ c κs. search needs)
+    (λ c. rw (c .enum-told .given .1) refl) (λ c. rw (c .enum-told2 .given .1) refl) (λ c. rw (c .enum-told3 .given .1) refl)
+    (λ c. let n = c .before in let k = n .before in let s = k .before .before .before in let z = toZ-ofZ w64 (s .args .z) (s .fits .z) in let u = toZ-ofZ w32 (s .args .t .up) (record { sfits = c .struct-told .given .1 .0 .1 }) in let l = toZ-ofZ w32 (n .narrow .result) (record { sfits = n .narrow .ok }) in rw (k .enum-told4 .given .1, u, l, n .narrow .ensures, z) refl)
+    (λ c. let n = c .before in let k = n .before in let s = k .before .before .before in let z = toZ-ofZ w64 (s .args .z) (s .fits .z) in let u = toZ-ofZ w32 (s .args .t .low) (record { sfits = c .struct-told2 .given .0 .1 }) in let l = toZ-ofZ w32 (n .narrow2 .result) (record { sfits = n .narrow2 .ok }) in rw (k .enum-told5 .given .1, u, l, n .narrow2 .ensures, z) refl)
+    (λ c. let n = c .before in let k = n .before in let s = k .before .before .before in let z = toZ-ofZ w64 (s .args .z) (s .fits .z) in let l = toZ-ofZ w32 (s .args .t .low) (record { sfits = c .struct-told3 .given .0 .1 }) in let u = toZ-ofZ w32 (s .args .t .up) (record { sfits = c .struct-told3 .given .1 .0 .1 }) in rw (k .enum-told6 .given .1, u, l, n .hold .ensures, z) refl)
+    (λ c. let m = c .before in let n = m .before in let k = n .before in let s = k .before .before .before in let z = toZ-ofZ w64 (s .args .z) (s .fits .z) in let l = toZ-ofZ w32 (s .args .t .low) (record { sfits = c .struct-told4 .given .0 .1 }) in let u = toZ-ofZ w32 (s .args .t .up) (record { sfits = c .struct-told4 .given .1 .0 .1 }) in rw (k .enum-told7 .given .1, u, l, m .audit-run .ensures, n .hold2 .ensures, z) refl))

@@ -33,18 +33,6 @@ S l = l .before .before .before .args .series .now
 abbrev H : At → Head
 H l = l .before .before .before .args .head
 
-loop-holds : tie.Need-loop-holds Inv-loop μ-loop
-loop-holds c = rw (c .no-walk .ensures) (kept-start (tellWalk (c .before .before .args .series .now) (c .before .before .args .head)) shutWalk startWalk _, omega arith)
-
-index-step-requires : tie.Need-index-step-requires Inv-loop μ-loop
-index-step-requires c κs = c .before .before .loop .inv .0 .good
-
-loop-again : tie.Need-loop-again Inv-loop μ-loop
-loop-again c = let a = c .before .before .before in let l = a .before .before .before in (kept-to (tellWalk (S l) (H l)) shutWalk startWalk _ (l .loop .s) (l .loop .t) (l .loop .i) (l .loop .inv .0) (a .before .before .loop-test .taken) (c .before .n .given .0 .0) (sym (a .index-step .ensures) ∙ c .before .n .given .1), omega (arith, l .loop .inv .1))
-
-tell-requires : tie.Need-tell-requires Inv-loop μ-loop
-tell-requires c κs = let a = c .before .before .before in let l = a .before .before .before in (l .before .before .before .pre, omega (arith, l .loop .inv .1, a .before .before .loop-test .taken, l .before .before .before .good))
-
 -- after a number
 moved : (c : tie.After-tell Inv-loop μ-loop) → let n = c .before .before in let l = n .before .before .before .before .before in
     Kept (tellWalk (S l) (H l)) shutWalk startWalk (l .before .before .before .args .text .now) (n .n2 .given .0 .0) (c .tell .result) (l .loop .i + 1) × (c .tell .result .rows ≤ l .loop .i + 1)
@@ -58,26 +46,20 @@ moved c =
     let q = rw e at (c .tell .ensures) in
     rw q (kept-value (tellWalk (S l) (H l)) shutWalk startWalk _ (l .loop .s) (l .loop .t) (l .loop .i) (l .loop .inv .0) (a .before .before .loop-test .taken) (n .n2 .given .0 .0) p z (sym (a .index-step .ensures) ∙ n .n2 .given .1), omega (arith, l .loop .inv .1, tell-rows (S l) (H l) p z (l .loop .t)))
 
-returns : tie.Need-returns Inv-loop μ-loop
-returns c = let t = c .before .before .before in let n = t .before .before in let l = n .before .before .before .before .before in walked-stopped (S l) (H l) _ (n .n2 .given .0 .0) (t .tell .result) (l .loop .i + 1) (moved t .0) (not-true (t .tell .result .found .go) (c .before .if1 .taken))
-
-loop-again-2 : tie.Need-loop-again-2 Inv-loop μ-loop
-loop-again-2 c = moved (c .before .before)
-
-shut-requires : tie.Need-shut-requires Inv-loop μ-loop
-shut-requires c κs = let a = c .before .before .before in let l = a .before .before .before in omega (arith, l .loop .inv .1, a .before .before .loop-test .taken, l .before .before .before .good)
-
-loop-again-3 : tie.Need-loop-again-3 Inv-loop μ-loop
-loop-again-3 c = let n = c .before .before in let a = n .before .before in let l = a .before .before .before in rw (c .shut .ensures) (kept-closed (tellWalk (S l) (H l)) shutWalk startWalk _ (l .loop .s) (l .loop .t) (l .loop .i) (l .loop .inv .0) (a .before .before .loop-test .taken) (n .n3 .given .0 .0) (sym (a .index-step .ensures) ∙ n .n3 .given .1), omega (arith, l .loop .inv .1, shut-rows (l .loop .t)))
-
-returns-2 : tie.Need-returns-2 Inv-loop μ-loop
-returns-2 c = let e = c .before in let a = e .before .before in let l = a .before .before .before in walked-refuse (S l) (H l) _ (l .loop .s) (l .loop .t) (l .loop .i) (l .loop .inv .0) (a .before .before .loop-test .taken) (sym (a .index-step .ensures) ∙ e .enum-told .given .1)
-
-returns-3 : tie.Need-returns-3 Inv-loop μ-loop
-returns-3 c = let l = c .before .before in walked-end (S l) (H l) _ (l .loop .s) (l .loop .t) (l .loop .i) (l .loop .inv .0) (c .before .loop-test .left)
-
 pub walk-rows-spec : {M : Type 1} → statement M
 walk-rows-spec =
-    tie.close (tie.spec Inv-loop μ-loop (λ c κs. search needs) loop-holds (λ c. omega arith) index-step-requires (λ c. search needs) (λ c. omega arith) (λ c. omega arith) loop-again
-    (λ c. search needs) tell-requires (λ c. omega arith) returns (λ c. omega arith) loop-again-2 (λ c. search needs) shut-requires (λ c. omega arith) (λ c. omega arith) loop-again-3
-    (λ c. search needs) returns-2 returns-3)
+    tie.close (tie.spec Inv-loop μ-loop (λ c κs. search needs)
+    (λ c. rw (c .no-walk .ensures) (kept-start (tellWalk (c .before .before .args .series .now) (c .before .before .args .head)) shutWalk startWalk _, omega arith))
+    (λ c. omega arith) (λ c κs. c .before .before .loop .inv .0 .good) (λ c. search needs) (λ c. omega arith) (λ c. omega arith)
+    (λ c. let a = c .before .before .before in let l = a .before .before .before in (kept-to (tellWalk (S l) (H l)) shutWalk startWalk _ (l .loop .s) (l .loop .t) (l .loop .i) (l .loop .inv .0) (a .before .before .loop-test .taken) (c .before .n .given .0 .0) (sym (a .index-step .ensures) ∙ c .before .n .given .1), omega (arith, l .loop .inv .1)))
+    (λ c. search needs)
+    (λ c κs. let a = c .before .before .before in let l = a .before .before .before in (l .before .before .before .pre, omega (arith, l .loop .inv .1, a .before .before .loop-test .taken, l .before .before .before .good)))
+    (λ c. omega arith)
+    (λ c. let t = c .before .before .before in let n = t .before .before in let l = n .before .before .before .before .before in walked-stopped (S l) (H l) _ (n .n2 .given .0 .0) (t .tell .result) (l .loop .i + 1) (moved t .0) (not-true (t .tell .result .found .go) (c .before .if1 .taken)))
+    (λ c. omega arith) (λ c. moved (c .before .before)) (λ c. search needs)
+    (λ c κs. let a = c .before .before .before in let l = a .before .before .before in omega (arith, l .loop .inv .1, a .before .before .loop-test .taken, l .before .before .before .good))
+    (λ c. omega arith) (λ c. omega arith)
+    (λ c. let n = c .before .before in let a = n .before .before in let l = a .before .before .before in rw (c .shut .ensures) (kept-closed (tellWalk (S l) (H l)) shutWalk startWalk _ (l .loop .s) (l .loop .t) (l .loop .i) (l .loop .inv .0) (a .before .before .loop-test .taken) (n .n3 .given .0 .0) (sym (a .index-step .ensures) ∙ n .n3 .given .1), omega (arith, l .loop .inv .1, shut-rows (l .loop .t))))
+    (λ c. search needs)
+    (λ c. let e = c .before in let a = e .before .before in let l = a .before .before .before in walked-refuse (S l) (H l) _ (l .loop .s) (l .loop .t) (l .loop .i) (l .loop .inv .0) (a .before .before .loop-test .taken) (sym (a .index-step .ensures) ∙ e .enum-told .given .1))
+    (λ c. let l = c .before .before in walked-end (S l) (H l) _ (l .loop .s) (l .loop .t) (l .loop .i) (l .loop .inv .0) (c .before .loop-test .left)))

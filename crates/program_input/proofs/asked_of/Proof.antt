@@ -7,18 +7,6 @@ use mir.ValLaws.{toZ-ofZ}
 use Rattle.program_input.proofs.asked_of.Statement.{statement}
 use Rattle.program_input.proofs.asked_of.Tie as tie
 
-held-requires : tie.Need-held-requires
-held-requires c κs = rw (toZ-ofZ w64 (c .before .args .x .band) (record { sfits = c .struct-told .given .1 .1 .1 .0 .1 })) (c .before .pre .band .least, omega (zarith, c .before .pre .band .most))
-
-held-requires-2 : tie.Need-held-requires-2
-held-requires-2 c κs = rw (toZ-ofZ w64 (c .before .before .before .before .before .args .x .scale) (record { sfits = c .struct-told3 .given .1 .1 .1 .1 .1 .0 .1 })) (c .before .before .before .before .before .pre .scale .least, omega (zarith, c .before .before .before .before .before .pre .scale .most))
-
-held-requires-3 : tie.Need-held-requires-3
-held-requires-3 c κs = rw (toZ-ofZ w64 (c .before .before .before .before .before .before .before .args .x .shift) (record { sfits = c .struct-told4 .given .1 .1 .1 .1 .1 .1 .0 .1 })) (c .before .before .before .before .before .before .before .pre .shift .least, omega (zarith, c .before .before .before .before .before .before .before .pre .shift .most))
-
-held-requires-4 : tie.Need-held-requires-4
-held-requires-4 c κs = rw (toZ-ofZ w64 (c .before .before .before .before .before .before .before .before .before .before .before .args .x .window) (record { sfits = c .struct-told6 .given .0 .1 })) (c .before .before .before .before .before .before .before .before .before .before .before .pre .window .least, omega (zarith, c .before .before .before .before .before .before .before .before .before .before .before .pre .window .most))
-
 held-requires-5 : tie.Need-held-requires-5
 held-requires-5 c κs = rw (toZ-ofZ w64 (c .before .before .before .before .before .before .before .before .before .before .before .before .before .args .x .width) (record { sfits = c .struct-told7 .given .1 .0 .1 })) (c .before .before .before .before .before .before .before .before .before .before .before .before .before .pre .width .least, omega (zarith, c .before .before .before .before .before .before .before .before .before .before .before .before .before .pre .width .most))
 
@@ -44,4 +32,12 @@ returns c =
     }
 
 pub asked-of-spec : {M : Type 1} → statement M
-asked-of-spec = tie.close (tie.spec held-requires (λ c κs. search needs) held-requires-2 held-requires-3 (λ c κs. search needs) held-requires-4 held-requires-5 held-requires-6 returns)
+asked-of-spec =
+    tie.close (tie.spec
+    (λ c κs. rw (toZ-ofZ w64 (c .before .args .x .band) (record { sfits = c .struct-told .given .1 .1 .1 .0 .1 })) (c .before .pre .band .least, omega (zarith, c .before .pre .band .most)))
+    (λ c κs. search needs)
+    (λ c κs. rw (toZ-ofZ w64 (c .before .before .before .before .before .args .x .scale) (record { sfits = c .struct-told3 .given .1 .1 .1 .1 .1 .0 .1 })) (c .before .before .before .before .before .pre .scale .least, omega (zarith, c .before .before .before .before .before .pre .scale .most)))
+    (λ c κs. rw (toZ-ofZ w64 (c .before .before .before .before .before .before .before .args .x .shift) (record { sfits = c .struct-told4 .given .1 .1 .1 .1 .1 .1 .0 .1 })) (c .before .before .before .before .before .before .before .pre .shift .least, omega (zarith, c .before .before .before .before .before .before .before .pre .shift .most)))
+    (λ c κs. search needs)
+    (λ c κs. rw (toZ-ofZ w64 (c .before .before .before .before .before .before .before .before .before .before .before .args .x .window) (record { sfits = c .struct-told6 .given .0 .1 })) (c .before .before .before .before .before .before .before .before .before .before .before .pre .window .least, omega (zarith, c .before .before .before .before .before .before .before .before .before .before .before .pre .window .most)))
+    held-requires-5 held-requires-6 returns)

@@ -4,10 +4,8 @@ use Rattle.program_input.specs.Tables.{numbersAt}
 use Rattle.program_input.proofs.numbers_of.Statement.{statement}
 use Rattle.program_input.proofs.numbers_of.Tie as tie
 
-returns : tie.Need-returns
-unfolding numbersAt
-returns c = search needs
-
 pub numbers-of-spec : {M : Type 1} → statement M
+unfolding numbersAt
 numbers-of-spec =
-    tie.close (tie.spec (λ c. search needs) (λ c. search needs) (λ c. search needs) (λ c. search needs) (λ c. search needs) (λ c. search needs) (λ c. search needs) (λ c. search needs) returns)
+    tie.close (tie.spec (λ c. search needs) (λ c. search needs) (λ c. search needs) (λ c. search needs) (λ c. search needs) (λ c. search needs) (λ c. search needs)
+    (λ c. search needs) (λ c. search needs))

@@ -4,18 +4,6 @@ use Rattle.program_input.proofs.InputLaws.{open-ready, read-still, read
 use Rattle.program_input.proofs.read_piece.Statement.{statement}
 use Rattle.program_input.proofs.read_piece.Tie as tie
 
-feed-requires : tie.Need-feed-requires
-feed-requires c κs = open-ready (c .before .before .before .before .r2 .given .1) (c .before .before .before .before .before .before .before .pre) .0
-
-line-in-requires : tie.Need-line-in-requires
-line-in-requires c κs = let o = open-ready (c .before .before .before .before .before .before .before .before .before .before .before .r2 .given .1) (c .before .before .before .before .before .before .before .before .before .before .before .before .before .before .pre) in (o .1, o .2)
-
-line-in-requires-2 : tie.Need-line-in-requires-2
-line-in-requires-2 c κs = let o = open-ready (c .before .before .before .before .before .before .before .before .before .before .before .before .r2 .given .1) (c .before .before .before .before .before .before .before .before .before .before .before .before .before .before .before .pre) in (o .1, o .2)
-
-returns : tie.Need-returns
-returns c = let a = c .before .before .before .before .args in read-still (a .piece .now) (a .numbers .now) (a .series .now) (a .query .now) (c .before .r .given .1)
-
 returns-2 : tie.Need-returns-2
 returns-2 c = let a = c .before .before .before .before .before .before .before .before .before .before .before .before .before .before .before .args in read-going (a .piece .now) (a .numbers .now) (a .series .now) (a .query .now) _ _ _ (c .before .before .before .before .before .before .before .before .before .before .before .before .r2 .given .1) (c .before .before .before .before .before .before .before .feed .ensures .0) (c .before .before .before .before .before .before .before .feed .ensures .1) (c .before .before .n .given .1) (c .line-in .ensures)
 
@@ -24,5 +12,10 @@ returns-3 c = let a = c .before .before .before .before .before .before .before 
 
 pub read-piece-spec : {M : Type 1} → statement M
 read-piece-spec =
-    tie.close (tie.spec (λ c. search needs) (λ c. search needs) feed-requires (λ c. search needs) line-in-requires (λ c. search needs) (λ c κs. search needs) line-in-requires-2 returns
+    tie.close (tie.spec (λ c. search needs) (λ c. search needs)
+    (λ c κs. open-ready (c .before .before .before .before .r2 .given .1) (c .before .before .before .before .before .before .before .pre) .0) (λ c. search needs)
+    (λ c κs. let o = open-ready (c .before .before .before .before .before .before .before .before .before .before .before .r2 .given .1) (c .before .before .before .before .before .before .before .before .before .before .before .before .before .before .pre) in (o .1, o .2))
+    (λ c. search needs) (λ c κs. search needs)
+    (λ c κs. let o = open-ready (c .before .before .before .before .before .before .before .before .before .before .before .before .r2 .given .1) (c .before .before .before .before .before .before .before .before .before .before .before .before .before .before .before .pre) in (o .1, o .2))
+    (λ c. let a = c .before .before .before .before .args in read-still (a .piece .now) (a .numbers .now) (a .series .now) (a .query .now) (c .before .r .given .1))
     (λ c. search needs) (λ c. search needs) (λ c. search needs) returns-2 (λ c. search needs) (λ c. search needs) (λ c. search needs) returns-3)

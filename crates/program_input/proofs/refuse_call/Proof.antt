@@ -42,26 +42,6 @@ second c =
 short : (c : tie.Else2) → c .before .before .before .before .before .before .args .q .count ≤ 1024
 short c = let o = c .before .before .before .before .before .before in query-few (o .args .v .count) (o .args .q .count) (o .args .x) (second c)
 
-returns : tie.Need-returns
-unfolding callTable
-returns c = let v = c .before .before in let o = v .before in part-refuses (one o) (two o ++ three o) (v .refuse-values .ensures) (c .if1 .taken)
-
-refuse-numbers-requires : tie.Need-refuse-numbers-requires
-refuse-numbers-requires c κs = let o = c .before .before .before in (omega (arith, series-few (o .args .v) (o .args .q) (first c)), o .pre .few)
-
-returns-2 : tie.Need-returns-2
-unfolding callTable
-returns-2 c = let n = c .before .before in let o = n .before .before .before .before in part-passes (two o ++ three o) (first (n .before)) (part-refuses (two o) (three o) (n .refuse-numbers .ensures) (c .if2 .taken))
-
-slice-aggregate-normal-flat : tie.Need-slice-aggregate-normal-flat
-slice-aggregate-normal-flat c = let e = c .before .before .before in let o = e .before .before .before .before .before .before in let h : o .args .q .count ≤ length (o .args .query .now) = omega (arith, short e, o .pre .long) in simp length-take (omega (arith, h))
-
-normal-flat-requires : tie.Need-normal-flat-requires
-normal-flat-requires c κs =
-    let e = c .before .before .before in
-    let o = e .before .before .before .before .before .before in
-    (o .pre .inside (query-in (o .args .v) (o .args .q) (first (e .before .before .before))) (short e), simp length-take (omega (arith, short e)))
-
 returns-3 : tie.Need-returns-3
 unfolding callTable flatQuery
 returns-3 c =
@@ -74,6 +54,12 @@ returns-3 c =
     (part-passes (three o) (second e) (line-before 11 (normalFlat (kindOf (o .args .x .raw)) (take (o .args .q .count) (o .args .query .now))) _ (c .before .unrefused .ensures) (c .before .before .normal-flat .ensures ∙ rw kind) (c .refuse-if .ensures)))
 
 pub refuse-call-spec : {M : Type 1} → statement M
+unfolding callTable
 refuse-call-spec =
-    tie.close (tie.spec (λ c κs. search needs) returns refuse-numbers-requires returns-2 (λ c κs. search needs) slice-aggregate-normal-flat normal-flat-requires (λ c κs. search needs)
-    (λ c κs. search needs) returns-3)
+    tie.close (tie.spec (λ c κs. search needs) (λ c. let v = c .before .before in let o = v .before in part-refuses (one o) (two o ++ three o) (v .refuse-values .ensures) (c .if1 .taken))
+    (λ c κs. let o = c .before .before .before in (omega (arith, series-few (o .args .v) (o .args .q) (first c)), o .pre .few))
+    (λ c. let n = c .before .before in let o = n .before .before .before .before in part-passes (two o ++ three o) (first (n .before)) (part-refuses (two o) (three o) (n .refuse-numbers .ensures) (c .if2 .taken)))
+    (λ c κs. search needs)
+    (λ c. let e = c .before .before .before in let o = e .before .before .before .before .before .before in let h : o .args .q .count ≤ length (o .args .query .now) = omega (arith, short e, o .pre .long) in simp length-take (omega (arith, h)))
+    (λ c κs. let e = c .before .before .before in let o = e .before .before .before .before .before .before in (o .pre .inside (query-in (o .args .v) (o .args .q) (first (e .before .before .before))) (short e), simp length-take (omega (arith, short e))))
+    (λ c κs. search needs) (λ c κs. search needs) returns-3)

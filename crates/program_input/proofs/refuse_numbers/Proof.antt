@@ -9,15 +9,6 @@ use mir.ValLaws.{toZ-ofZ}
 use Rattle.program_input.proofs.refuse_numbers.Statement.{statement}
 use Rattle.program_input.proofs.refuse_numbers.Tie as tie
 
-above-requires : tie.Need-above-requires
-above-requires c κs = let threshold = c .before .before .before .before in threshold .before .before .before .before .before .before .before .before .before .pre .1
-
-above-requires-2 : tie.Need-above-requires-2
-above-requires-2 c κs =
-    let below = c .before .before .before .before .before .before .before .before .before .before .before in
-    let threshold = below .before .before .before .before .before .before in
-    threshold .before .before .before .before .before .before .before .before .before .pre .0
-
 returns : tie.Need-returns
 unfolding openLines numbersTable
 returns c =
@@ -45,6 +36,9 @@ returns c =
 
 pub refuse-numbers-spec : {M : Type 1} → statement M
 refuse-numbers-spec =
-    tie.close (tie.spec (λ c κs. search needs) (λ c κs. search needs) (λ c κs. search needs) (λ c κs. search needs) (λ c κs. search needs) (λ c κs. search needs) (λ c κs. search needs)
-    (λ c κs. search needs) above-requires (λ c κs. search needs) (λ c κs. search needs) (λ c κs. search needs) (λ c κs. search needs) (λ c κs. search needs) (λ c κs. search needs)
-    (λ c κs. search needs) (λ c κs. search needs) above-requires-2 (λ c κs. search needs) returns)
+    tie.close (tie.spec (λ c κs. search needs) (λ c κs. search needs) (λ c κs. search needs) (λ c κs. search needs) (λ c κs. search needs) (λ c κs. search needs)
+    (λ c κs. search needs) (λ c κs. search needs)
+    (λ c κs. let threshold = c .before .before .before .before in threshold .before .before .before .before .before .before .before .before .before .pre .1)
+    (λ c κs. search needs) (λ c κs. search needs) (λ c κs. search needs) (λ c κs. search needs) (λ c κs. search needs) (λ c κs. search needs) (λ c κs. search needs) (λ c κs. search needs)
+    (λ c κs. let below = c .before .before .before .before .before .before .before .before .before .before .before in let threshold = below .before .before .before .before .before .before in threshold .before .before .before .before .before .before .before .before .before .pre .0)
+    (λ c κs. search needs) returns)

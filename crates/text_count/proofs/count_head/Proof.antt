@@ -7,10 +7,7 @@ use borrow.Author.Needs.{needs}
 use Rattle.text_count.proofs.count_head.Statement.{statement}
 use Rattle.text_count.proofs.count_head.Tie as tie
 
-returns : tie.Need-returns
-returns c =
-    let h = c .before .before .before .before .args .h in
-    counted-is (headText (pos (h .window)) (pos (h .width)) (pos (h .windows))) _ (omega (arith, head-length (h .window) (h .width) (h .windows), c .before .digit-count3 .ensures .0, c .before .before .digit-count2 .ensures .0, c .before .before .before .digit-count .ensures .0)) (c .advance .ensures)
-
 pub count-head-spec : {M : Type 1} → statement M
-count-head-spec = tie.close (tie.spec (λ c κs. search needs) (λ c κs. search needs) (λ c. search needs) (λ c κs. search needs) (λ c. search needs) (λ c. search needs) (λ c κs. search needs) returns)
+count-head-spec =
+    tie.close (tie.spec (λ c κs. search needs) (λ c κs. search needs) (λ c. search needs) (λ c κs. search needs) (λ c. search needs) (λ c. search needs) (λ c κs. search needs)
+    (λ c. let h = c .before .before .before .before .args .h in counted-is (headText (pos (h .window)) (pos (h .width)) (pos (h .windows))) _ (omega (arith, head-length (h .window) (h .width) (h .windows), c .before .digit-count3 .ensures .0, c .before .before .digit-count2 .ensures .0, c .before .before .before .digit-count .ensures .0)) (c .advance .ensures)))

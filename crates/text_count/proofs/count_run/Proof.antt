@@ -8,10 +8,7 @@ use borrow.Author.Needs.{needs}
 use Rattle.text_count.proofs.count_run.Statement.{statement}
 use Rattle.text_count.proofs.count_run.Tie as tie
 
-returns : tie.Need-returns
-returns c =
-    let s = c .before .before .before .args in
-    counted-is (spell runForm (pos (s .left), pos (s .right))) _ (omega (arith, run-length (s .left) (s .right), c .before .digit-count2 .ensures .0, c .before .before .digit-count .ensures .0)) (c .advance .ensures)
-
 pub count-run-spec : {M : Type 1} → statement M
-count-run-spec = tie.close (tie.spec (λ c κs. search needs) (λ c κs. search needs) (λ c. search needs) (λ c. search needs) (λ c κs. search needs) returns)
+count-run-spec =
+    tie.close (tie.spec (λ c κs. search needs) (λ c κs. search needs) (λ c. search needs) (λ c. search needs) (λ c κs. search needs)
+    (λ c. let s = c .before .before .before .args in counted-is (spell runForm (pos (s .left), pos (s .right))) _ (omega (arith, run-length (s .left) (s .right), c .before .digit-count2 .ensures .0, c .before .before .digit-count .ensures .0)) (c .advance .ensures)))

@@ -20,57 +20,14 @@ Inv-loop text at n₀ i₀ n i = GoodState n × Quiet text n₀ i₀ n i
 abbrev μ-loop : tie.MeasureT-loop
 μ-loop text at n₀ i₀ n i = length text - i
 
-loop-holds : tie.Need-loop-holds Inv-loop μ-loop
-loop-holds c = (c .before .pre, still)
-
-shared-slice-read-index-step : tie.Need-shared-slice-read-index-step Inv-loop μ-loop
-shared-slice-read-index-step c = omega arith
-
-index-step-requires : tie.Need-index-step-requires Inv-loop μ-loop
-index-step-requires c κs = c .before .before .loop .inv .0
-
-add-i : tie.Need-add-i Inv-loop μ-loop
-add-i c = omega arith
-
-loop-less : tie.Need-loop-less Inv-loop μ-loop
-loop-less c = omega arith
-
-loop-again : tie.Need-loop-again Inv-loop μ-loop
-loop-again c =
-    let a = c .before .before .before in
-    let l = a .before .before .before in
-    let e = sym (a .index-step .ensures) ∙ c .before .m .given .1 in
-    (step-good (l .loop .n) _ (Moved.To (c .before .m .given .0 .0)) (l .loop .inv .0) e, more (l .loop .inv .1) (a .before .before .loop-test .taken) e)
-
-add-t16 : tie.Need-add-t16 Inv-loop μ-loop
-add-t16 c = omega arith
-
-returns : tie.Need-returns Inv-loop μ-loop
-returns c =
-    let n = c .before in
-    let a = n .before .before in
-    let l = a .before .before .before in
-    let z = n .m2 .given .0 .1 .1 .0 in
-    let e : toZ w64 (ofZ w64 z) ≡ z = toZ-ofZ w64 z (search (needs, c .known-told2 .given)) in
-    rw e (record { last = l .loop .n; place = l .loop .i; quiet = l .loop .inv .1; inside = a .before .before .loop-test .taken; ends = sym (a .index-step .ensures) ∙ n .m2 .given .1; next = refl })
-
-add-t17 : tie.Need-add-t17 Inv-loop μ-loop
-add-t17 c = omega arith
-
-returns-2 : tie.Need-returns-2 Inv-loop μ-loop
-returns-2 c =
-    let n = c .before in
-    let a = n .before .before in
-    let l = a .before .before .before in
-    record { last = l .loop .n; place = l .loop .i; quiet = l .loop .inv .1; inside = a .before .before .loop-test .taken; ends = sym (a .index-step .ensures) ∙ n .m3 .given .1; next = refl }
-
-returns-3 : tie.Need-returns-3 Inv-loop μ-loop
-returns-3 c = let a = c .before .before in let l = a .before .before .before in (l .loop .inv .1, a .before .before .loop-test .taken, sym (a .index-step .ensures) ∙ c .enum-told .given .1)
-
-returns-4 : tie.Need-returns-4 Inv-loop μ-loop
-returns-4 c = (c .before .loop .inv .1, c .loop-test .left)
-
 pub byte-event-spec : {M : Type 1} → statement M
 byte-event-spec =
-    tie.close (tie.spec Inv-loop μ-loop loop-holds shared-slice-read-index-step index-step-requires (λ c. search needs) add-i loop-less loop-again (λ c. search needs) add-t16 returns
-    (λ c. search needs) add-t17 returns-2 (λ c. search needs) returns-3 returns-4)
+    tie.close (tie.spec Inv-loop μ-loop (λ c. (c .before .pre, still)) (λ c. omega arith) (λ c κs. c .before .before .loop .inv .0) (λ c. search needs) (λ c. omega arith) (λ c. omega arith)
+    (λ c. let a = c .before .before .before in let l = a .before .before .before in let e = sym (a .index-step .ensures) ∙ c .before .m .given .1 in (step-good (l .loop .n) _ (Moved.To (c .before .m .given .0 .0)) (l .loop .inv .0) e, more (l .loop .inv .1) (a .before .before .loop-test .taken) e))
+    (λ c. search needs) (λ c. omega arith)
+    (λ c. let n = c .before in let a = n .before .before in let l = a .before .before .before in let z = n .m2 .given .0 .1 .1 .0 in let e : toZ w64 (ofZ w64 z) ≡ z = toZ-ofZ w64 z (search (needs, c .known-told2 .given)) in rw e (record { last = l .loop .n; place = l .loop .i; quiet = l .loop .inv .1; inside = a .before .before .loop-test .taken; ends = sym (a .index-step .ensures) ∙ n .m2 .given .1; next = refl }))
+    (λ c. search needs) (λ c. omega arith)
+    (λ c. let n = c .before in let a = n .before .before in let l = a .before .before .before in record { last = l .loop .n; place = l .loop .i; quiet = l .loop .inv .1; inside = a .before .before .loop-test .taken; ends = sym (a .index-step .ensures) ∙ n .m3 .given .1; next = refl })
+    (λ c. search needs)
+    (λ c. let a = c .before .before in let l = a .before .before .before in (l .loop .inv .1, a .before .before .loop-test .taken, sym (a .index-step .ensures) ∙ c .enum-told .given .1))
+    (λ c. (c .before .loop .inv .1, c .loop-test .left)))

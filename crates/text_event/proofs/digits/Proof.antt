@@ -18,46 +18,20 @@ Inv-loop text at first m₀ k₀ m k =
 abbrev μ-loop : tie.MeasureT-loop
 μ-loop text at first m₀ k₀ m k = 7 - k
 
-loop-holds : tie.Need-loop-holds Inv-loop μ-loop
-loop-holds c = (omega arith, c .pre .0, λ p. still-here, λ p. still-here)
-
-mul-result : tie.Need-mul-result Inv-loop μ-loop
-mul-result c = let l = c .before .before .before in omega (arith, l .loop .inv .0, l .loop .inv .1, top-most (l .loop .k) (l .loop .inv .0))
-
-add-result : tie.Need-add-result Inv-loop μ-loop
-add-result c = let l = c .before .before .before in omega (arith, l .loop .inv .0, l .loop .inv .1, top-most (l .loop .k) (l .loop .inv .0))
-
-returns : tie.Need-returns Inv-loop μ-loop
-returns c = let l = c .before .before .before in digits-told _ _ _ _ _ (l .loop .inv .1) (l .loop .inv .0) (l .loop .inv .2) (l .loop .inv .3)
-
-mul-result-2 : tie.Need-mul-result-2 Inv-loop μ-loop
-mul-result-2 c = let l = c .before .before .before .before in omega (arith, l .loop .inv .0, l .loop .inv .1, top-most (l .loop .k) (l .loop .inv .0))
-
-add-result-2 : tie.Need-add-result-2 Inv-loop μ-loop
-add-result-2 c = let l = c .before .before .before .before in omega (arith, l .loop .inv .0, l .loop .inv .1, top-most (l .loop .k) (l .loop .inv .0))
-
-returns-2 : tie.Need-returns-2 Inv-loop μ-loop
-returns-2 c = let l = c .before .before .before .before in digits-told _ _ _ _ _ (l .loop .inv .1) (l .loop .inv .0) (l .loop .inv .2) (l .loop .inv .3)
-
-mul-m : tie.Need-mul-m Inv-loop μ-loop
-mul-m c = let l = c .before .before .before .before in omega (arith, l .loop .inv .0, l .loop .inv .1, top-most (l .loop .k) (l .loop .inv .0))
-
-add-m : tie.Need-add-m Inv-loop μ-loop
-add-m c = let l = c .before .before .before .before in omega (arith, l .loop .inv .0, l .loop .inv .1, top-most (l .loop .k) (l .loop .inv .0), c .if2 .left)
-
 loop-again : tie.Need-loop-again Inv-loop μ-loop
 loop-again c = let l = c .before .before .before .before in let h : l .before .args .at + l .loop .k < length (l .before .args .text .now) = omega (arith, l .before .pre .1, c .before .before .before .loop-test .taken) in let n : l .loop .m < 100000000000000000 = omega (arith, l .loop .inv .0, l .loop .inv .1, top-most (l .loop .k) (l .loop .inv .0)) in (omega (arith, c .before .before .before .loop-test .taken), omega (arith, top-more (l .loop .k), l .loop .inv .1, c .before .if1 .left, c .if2 .left), λ p. more-here (l .loop .k) (l .loop .inv .2 p) h (next-digit p (l .loop .m) _ (c .before .if1 .left) (c .if2 .left) n), λ p. more-here (l .loop .k) (l .loop .inv .3 p) h (next-less p (l .loop .m) _ (c .before .if1 .left) (c .if2 .left) n))
 
-mul-result-3 : tie.Need-mul-result-3 Inv-loop μ-loop
-mul-result-3 c = let l = c .before in omega (arith, l .loop .inv .0, l .loop .inv .1, top-most (l .loop .k) (l .loop .inv .0))
-
-add-result-3 : tie.Need-add-result-3 Inv-loop μ-loop
-add-result-3 c = let l = c .before in omega (arith, l .loop .inv .0, l .loop .inv .1, top-most (l .loop .k) (l .loop .inv .0))
-
-returns-3 : tie.Need-returns-3 Inv-loop μ-loop
-returns-3 c = let l = c .before in digits-told _ _ _ _ _ (l .loop .inv .1) (l .loop .inv .0) (l .loop .inv .2) (l .loop .inv .3)
-
 pub digits-spec : {M : Type 1} → statement M
 digits-spec =
-    tie.close (tie.spec Inv-loop μ-loop loop-holds (λ c. search needs) (λ c. search needs) mul-result add-result returns mul-result-2 add-result-2 returns-2 mul-m (λ c. search needs) add-m
-    (λ c. search needs) (λ c. search needs) loop-again mul-result-3 add-result-3 returns-3)
+    tie.close (tie.spec Inv-loop μ-loop (λ c. (omega arith, c .pre .0, λ p. still-here, λ p. still-here)) (λ c. search needs) (λ c. search needs)
+    (λ c. let l = c .before .before .before in omega (arith, l .loop .inv .0, l .loop .inv .1, top-most (l .loop .k) (l .loop .inv .0)))
+    (λ c. let l = c .before .before .before in omega (arith, l .loop .inv .0, l .loop .inv .1, top-most (l .loop .k) (l .loop .inv .0)))
+    (λ c. let l = c .before .before .before in digits-told _ _ _ _ _ (l .loop .inv .1) (l .loop .inv .0) (l .loop .inv .2) (l .loop .inv .3))
+    (λ c. let l = c .before .before .before .before in omega (arith, l .loop .inv .0, l .loop .inv .1, top-most (l .loop .k) (l .loop .inv .0)))
+    (λ c. let l = c .before .before .before .before in omega (arith, l .loop .inv .0, l .loop .inv .1, top-most (l .loop .k) (l .loop .inv .0)))
+    (λ c. let l = c .before .before .before .before in digits-told _ _ _ _ _ (l .loop .inv .1) (l .loop .inv .0) (l .loop .inv .2) (l .loop .inv .3))
+    (λ c. let l = c .before .before .before .before in omega (arith, l .loop .inv .0, l .loop .inv .1, top-most (l .loop .k) (l .loop .inv .0))) (λ c. search needs)
+    (λ c. let l = c .before .before .before .before in omega (arith, l .loop .inv .0, l .loop .inv .1, top-most (l .loop .k) (l .loop .inv .0), c .if2 .left))
+    (λ c. search needs) (λ c. search needs) loop-again (λ c. let l = c .before in omega (arith, l .loop .inv .0, l .loop .inv .1, top-most (l .loop .k) (l .loop .inv .0)))
+    (λ c. let l = c .before in omega (arith, l .loop .inv .0, l .loop .inv .1, top-most (l .loop .k) (l .loop .inv .0)))
+    (λ c. let l = c .before in digits-told _ _ _ _ _ (l .loop .inv .1) (l .loop .inv .0) (l .loop .inv .2) (l .loop .inv .3)))

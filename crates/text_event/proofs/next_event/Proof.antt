@@ -6,17 +6,10 @@ use borrow.Author.Needs.{needs}
 use Rattle.text_event.proofs.next_event.Statement.{statement}
 use Rattle.text_event.proofs.next_event.Tie as tie
 
-returns-3 : tie.Need-returns-3
-returns-3 c = rw (c .before .before .before .before .s .given .1) (c .byte-event3 .ensures)
-
-returns-4 : tie.Need-returns-4
-returns-4 c = let e = c .before .before .before .before .s .given .1 ∙ ap (λ (t : Turn). State.Before t) (c .before .enum-told4 .given .1) in rw e (c .rows-event .ensures)
-
-returns-5 : tie.Need-returns-5
-returns-5 c = let e = c .before .before .before .before .s .given .1 ∙ ap (λ (t : Turn). State.Before t) (c .before .enum-told5 .given .1) in rw e (c .runs-event .ensures)
-
 pub next-event-spec : {M : Type 1} → statement M
 next-event-spec =
-    tie.close (tie.spec (λ c. search needs) (λ c κs. search needs) (λ c. search needs) (λ c κs. search needs) (λ c. search needs) (λ c. search needs) (λ c κs. search needs) (λ c. search needs)
-    (λ c κs. search needs) (λ c. search needs) (λ c κs. search needs) (λ c. search needs) (λ c κs. search needs) (λ c. search needs) (λ c. search needs) returns-3 returns-4 returns-5
-    (λ c. search needs))
+    tie.close (tie.spec (λ c. search needs) (λ c κs. search needs) (λ c. search needs) (λ c κs. search needs) (λ c. search needs) (λ c. search needs)
+    (λ c κs. search needs) (λ c. search needs) (λ c κs. search needs) (λ c. search needs) (λ c κs. search needs) (λ c. search needs) (λ c κs. search needs) (λ c. search needs) (λ c. search needs)
+    (λ c. rw (c .before .before .before .before .s .given .1) (c .byte-event3 .ensures))
+    (λ c. let e = c .before .before .before .before .s .given .1 ∙ ap (λ (t : Turn). State.Before t) (c .before .enum-told4 .given .1) in rw e (c .rows-event .ensures))
+    (λ c. let e = c .before .before .before .before .s .given .1 ∙ ap (λ (t : Turn). State.Before t) (c .before .enum-told5 .given .1) in rw e (c .runs-event .ensures)) (λ c. search needs))

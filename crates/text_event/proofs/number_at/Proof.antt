@@ -6,14 +6,8 @@ use borrow.Author.Needs.{needs}
 use Rattle.text_event.proofs.number_at.Statement.{statement}
 use Rattle.text_event.proofs.number_at.Tie as tie
 
-returns : tie.Need-returns
-returns c = λ h. absurd (omega (arith, h))
-
-returns-2 : tie.Need-returns-2
-returns-2 c = λ h. absurd (omega (arith, h))
-
-returns-3 : tie.Need-returns-3
-returns-3 c = λ h. number-told _ _ _ (c .digits .result) (omega (arith, c .before .before .before .before .before .pre)) refl (c .before .before .if1 .left) (c .before .if2 .left) (c .digits .ensures)
-
 pub number-at-spec : {M : Type 1} → statement M
-number-at-spec = tie.close (tie.spec (λ c. search needs) returns returns-2 (λ c. search needs) (λ c. search needs) (λ c. search needs) (λ c κs. search needs) (λ c. search needs) returns-3)
+number-at-spec =
+    tie.close (tie.spec (λ c. search needs) (λ c h. absurd (omega (arith, h))) (λ c h. absurd (omega (arith, h))) (λ c. search needs) (λ c. search needs)
+    (λ c. search needs) (λ c κs. search needs) (λ c. search needs)
+    (λ c h. number-told _ _ _ (c .digits .result) (omega (arith, c .before .before .before .before .before .pre)) refl (c .before .before .if1 .left) (c .before .if2 .left) (c .digits .ensures)))

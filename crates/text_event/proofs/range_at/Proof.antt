@@ -10,15 +10,6 @@ use borrow.Author.Needs.{needs}
 use Rattle.text_event.proofs.range_at.Statement.{statement}
 use Rattle.text_event.proofs.range_at.Tie as tie
 
-add-signed-at : tie.Need-add-signed-at
-add-signed-at c = omega (arith, c .before .opens .ensures (not-false (c .before .opens .result) (c .if1 .left)) .room, c .before .before .before .good)
-
-signed-at-requires : tie.Need-signed-at-requires
-signed-at-requires c κs = omega (arith, c .before .opens .ensures (not-false (c .before .opens .result) (c .if1 .left)) .room)
-
-signed-at-requires-2 : tie.Need-signed-at-requires-2
-signed-at-requires-2 c κs = let x = rw (c .before .low .given .1) at (c .before .before .before .signed-at .ensures) in omega (arith, x .0, c .before .before .before .before .before .opens .ensures (not-false (c .before .before .before .before .before .opens .result) (c .before .before .before .before .if1 .left)) .room)
-
 returns-2 : tie.Need-returns-2
 returns-2 c =
     let m = c .before .before .before .before .before in
@@ -32,5 +23,8 @@ returns-2 c =
 
 pub range-at-spec : {M : Type 1} → statement M
 range-at-spec =
-    tie.close (tie.spec (λ c κs. search needs) (λ c. search needs) add-signed-at signed-at-requires (λ c. search needs) signed-at-requires-2 (λ c. search needs) (λ c. search needs) (λ c. search needs)
-    returns-2 (λ c. search needs) (λ c. search needs))
+    tie.close (tie.spec (λ c κs. search needs) (λ c. search needs)
+    (λ c. omega (arith, c .before .opens .ensures (not-false (c .before .opens .result) (c .if1 .left)) .room, c .before .before .before .good))
+    (λ c κs. omega (arith, c .before .opens .ensures (not-false (c .before .opens .result) (c .if1 .left)) .room)) (λ c. search needs)
+    (λ c κs. let x = rw (c .before .low .given .1) at (c .before .before .before .signed-at .ensures) in omega (arith, x .0, c .before .before .before .before .before .opens .ensures (not-false (c .before .before .before .before .before .opens .result) (c .before .before .before .before .if1 .left)) .room))
+    (λ c. search needs) (λ c. search needs) (λ c. search needs) returns-2 (λ c. search needs) (λ c. search needs))

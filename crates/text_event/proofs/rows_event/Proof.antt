@@ -9,9 +9,6 @@ use borrow.Author.Needs.{needs}
 use Rattle.text_event.proofs.rows_event.Statement.{statement}
 use Rattle.text_event.proofs.rows_event.Tie as tie
 
-add-t15 : tie.Need-add-t15
-add-t15 c = let p = c .before .before .before .before .first-run .ensures (omega (arith, c .before .before .before .if1 .left)) in omega (arith, run-up (p .run) .1, c .run-length .ensures, c .before .before .before .before .before .before .before .before .before .before .good)
-
 returns-2 : tie.Need-returns-2
 returns-2 c =
     let p = c .before .before .before .before .first-run .ensures (omega (arith, c .before .before .before .if1 .left)) in
@@ -25,5 +22,7 @@ returns-2 c =
 
 pub rows-event-spec : {M : Type 1} → statement M
 rows-event-spec =
-    tie.close (tie.spec (λ c κs. search needs) (λ c. search needs) (λ c κs. search needs) (λ c κs. search needs) (λ c. search needs) (λ c κs. search needs) (λ c κs. search needs)
-    (λ c κs. search needs) add-t15 (λ c. search needs) (λ c κs. search needs) returns-2 (λ c. search needs))
+    tie.close (tie.spec (λ c κs. search needs) (λ c. search needs) (λ c κs. search needs) (λ c κs. search needs) (λ c. search needs) (λ c κs. search needs)
+    (λ c κs. search needs) (λ c κs. search needs)
+    (λ c. let p = c .before .before .before .before .first-run .ensures (omega (arith, c .before .before .before .if1 .left)) in omega (arith, run-up (p .run) .1, c .run-length .ensures, c .before .before .before .before .before .before .before .before .before .before .good))
+    (λ c. search needs) (λ c κs. search needs) returns-2 (λ c. search needs))

@@ -13,9 +13,6 @@ use borrow.Author.Needs.{needs}
 use Rattle.text_event.proofs.signed_at.Statement.{statement}
 use Rattle.text_event.proofs.signed_at.Tie as tie
 
-negative-requires : tie.Need-negative-requires
-negative-requires c κs = let x = c .before .number-and-blank .ensures (omega (arith, c .if2 .left)) in x .number .small
-
 returns-2 : tie.Need-returns-2
 returns-2 c =
     let n = c .before .before in let s = n .before .before .before .before in
@@ -23,17 +20,10 @@ returns-2 c =
     let e : toZ w64 (ofZ w64 (c .negative .result)) ≡ c .negative .result = toZ-ofZ w64 (c .negative .result) (omega (zmach, c .negative .ensures, x .number .small, z-neg (pos (n .number-and-blank .result / 16)))) in
     rw (e, c .negative .ensures) (less-told _ _ _ (omega (arith, s .pre)) (n .before .if1 .taken) x)
 
-positive-requires : tie.Need-positive-requires
-positive-requires c κs = let x = c .before .number-and-blank2 .ensures (omega (arith, c .if3 .left)) in x .number .small
-
-returns-4 : tie.Need-returns-4
-returns-4 c =
-    let n = c .before .before in
-    let x = n .number-and-blank2 .ensures (omega (arith, c .before .if3 .left)) in
-    let e : toZ w64 (ofZ w64 (c .positive .result)) ≡ c .positive .result = toZ-ofZ w64 (c .positive .result) (omega (zmach, c .positive .ensures, x .number .small)) in
-    rw (e, c .positive .ensures) (plus-told _ _ _ x)
-
 pub signed-at-spec : {M : Type 1} → statement M
 signed-at-spec =
-    tie.close (tie.spec (λ c. search needs) (λ c. search needs) (λ c κs. search needs) (λ c. search needs) negative-requires (λ c. search needs) (λ c. search needs) (λ c. search needs) returns-2
-    (λ c κs. search needs) (λ c. search needs) positive-requires (λ c. search needs) (λ c. search needs) returns-4)
+    tie.close (tie.spec (λ c. search needs) (λ c. search needs) (λ c κs. search needs) (λ c. search needs)
+    (λ c κs. let x = c .before .number-and-blank .ensures (omega (arith, c .if2 .left)) in x .number .small) (λ c. search needs) (λ c. search needs)
+    (λ c. search needs) returns-2 (λ c κs. search needs) (λ c. search needs)
+    (λ c κs. let x = c .before .number-and-blank2 .ensures (omega (arith, c .if3 .left)) in x .number .small) (λ c. search needs) (λ c. search needs)
+    (λ c. let n = c .before .before in let x = n .number-and-blank2 .ensures (omega (arith, c .before .if3 .left)) in let e : toZ w64 (ofZ w64 (c .positive .result)) ≡ c .positive .result = toZ-ofZ w64 (c .positive .result) (omega (zmach, c .positive .ensures, x .number .small)) in rw (e, c .positive .ensures) (plus-told _ _ _ x)))

@@ -15,17 +15,10 @@ Inv-loop text at word k₀ k = (k ≤ length word) × ((j : ℕ) → j < k → g
 abbrev μ-loop : tie.MeasureT-loop
 μ-loop text at word k₀ k = length word - k
 
-loop-holds : tie.Need-loop-holds Inv-loop μ-loop
-loop-holds c = (omega arith, λ j h. absurd (omega (arith, h)))
-
-returns : tie.Need-returns Inv-loop μ-loop
-returns c = let l = c .before .before .before .before in (λ e. absurd (false≢true e), λ s. absurd (c .if1 .taken (stands-byte s (l .loop .k) _ (omega arith) refl .1)))
-
-loop-again : tie.Need-loop-again Inv-loop μ-loop
-loop-again c = let l = c .before .before .before .before in (omega arith, same-more (l .before .args .text .now) (l .before .args .word .now) (l .before .args .at) (l .loop .k) (l .loop .inv .1) (c .if1 .left))
-
-returns-2 : tie.Need-returns-2 Inv-loop μ-loop
-returns-2 c = let l = c .before in (λ e. stands-all _ _ _ (l .before .pre) (λ k h. l .loop .inv .1 k (omega (arith, h, c .loop-test .left))), λ s. refl)
-
 pub stands-spec : {M : Type 1} → statement M
-stands-spec = tie.close (tie.spec Inv-loop μ-loop loop-holds (λ c. search needs) (λ c. search needs) (λ c. search needs) returns (λ c. search needs) (λ c. search needs) loop-again returns-2)
+stands-spec =
+    tie.close (tie.spec Inv-loop μ-loop (λ c. (omega arith, λ j h. absurd (omega (arith, h)))) (λ c. search needs) (λ c. search needs) (λ c. search needs)
+    (λ c. let l = c .before .before .before .before in (λ e. absurd (false≢true e), λ s. absurd (c .if1 .taken (stands-byte s (l .loop .k) _ (omega arith) refl .1))))
+    (λ c. search needs) (λ c. search needs)
+    (λ c. let l = c .before .before .before .before in (omega arith, same-more (l .before .args .text .now) (l .before .args .word .now) (l .before .args .at) (l .loop .k) (l .loop .inv .1) (c .if1 .left)))
+    (λ c. let l = c .before in (λ e. stands-all _ _ _ (l .before .pre) (λ k h. l .loop .inv .1 k (omega (arith, h, c .loop-test .left))), λ s. refl)))

@@ -9,19 +9,11 @@ use borrow.Author.Needs.{needs}
 use Rattle.text_feed.proofs.counted.Statement.{statement}
 use Rattle.text_feed.proofs.counted.Tie as tie
 
-returns : tie.Need-returns
-unfolding valuesMore
-returns c = let a = c .before in let z = a .before .before .args .z in let e : toZ w64 (ofZ w64 z) ≡ z = toZ-ofZ w64 z (a .before .before .fits .z) in simp (eq-eqb _ _ (a .before .if1 .taken), sym (rw e at (a .in-limits .ensures)) ∙ c .if2 .taken)
-
-returns-2 : tie.Need-returns-2
-unfolding valuesMore
-returns-2 c = let a = c .before in let z = a .before .before .args .z in let e : toZ w64 (ofZ w64 z) ≡ z = toZ-ofZ w64 z (a .before .before .fits .z) in simp (eq-eqb _ _ (a .before .if1 .taken), sym (rw e at (a .in-limits .ensures)) ∙ c .if2 .left)
-
-returns-3 : tie.Need-returns-3
-unfolding valuesMore
-returns-3 c = simp (ne-eqb _ _ (c .if1 .left))
-
 pub counted-spec : {M : Type 1} → statement M
+unfolding valuesMore
 counted-spec =
-    tie.close
-    (tie.spec (λ c κs. search needs) (λ c. search needs) (λ c. search needs) returns (λ c. search needs) returns-2 (λ c. search needs) returns-3)
+    tie.close (tie.spec (λ c κs. search needs) (λ c. search needs) (λ c. search needs)
+    (λ c. let a = c .before in let z = a .before .before .args .z in let e : toZ w64 (ofZ w64 z) ≡ z = toZ-ofZ w64 z (a .before .before .fits .z) in simp (eq-eqb _ _ (a .before .if1 .taken), sym (rw e at (a .in-limits .ensures)) ∙ c .if2 .taken))
+    (λ c. search needs)
+    (λ c. let a = c .before in let z = a .before .before .args .z in let e : toZ w64 (ofZ w64 z) ≡ z = toZ-ofZ w64 z (a .before .before .fits .z) in simp (eq-eqb _ _ (a .before .if1 .taken), sym (rw e at (a .in-limits .ensures)) ∙ c .if2 .left))
+    (λ c. search needs) (λ c. simp (ne-eqb _ _ (c .if1 .left))))

@@ -17,21 +17,6 @@ Inv-loop piece numbers₀ series₀ query₀ s₀ v₀ q₀ at i₀ numbers seri
 abbrev μ-loop : tie.MeasureT-loop
 μ-loop piece numbers₀ series₀ query₀ s₀ v₀ q₀ at i₀ numbers series query s v q i = length piece - i
 
-loop-holds : tie.Need-loop-holds Inv-loop μ-loop
-loop-holds c = let s = c .before .before .before in sofar-start (s .args .p) _ _ _ _ (s .pre)
-
-line-step-requires : tie.Need-line-step-requires Inv-loop μ-loop
-line-step-requires c κs = c .before .before .loop .inv .good
-
-loop-again : tie.Need-loop-again Inv-loop μ-loop
-loop-again c = let a = c .before .before .before in let l = a .before .before .before in sofar-to (l .loop .inv) (a .before .before .loop-test .taken) (c .before .n .given .0 .0) (sym (a .line-step .ensures) ∙ c .before .n .given .1)
-
-kept-requires : tie.Need-kept-requires Inv-loop μ-loop
-kept-requires c κs = let l = c .before .before .before .before .before .before .before .before .before .before .before .before in omega (arith, l .loop .inv .first, l .before .before .before .before .pre .room, c .before .before .before .before .before .before .before .before .before .before .before .loop-test .taken)
-
-kept-requires-2 : tie.Need-kept-requires-2 Inv-loop μ-loop
-kept-requires-2 c κs = let k = c .before .before .before in let l = k .before .before .before .before .before .before .before .before .before .before .before .before .before in omega (arith, l .loop .inv .second, l .before .before .before .before .pre .room, k .before .before .before .before .before .before .before .before .before .before .before .before .loop-test .taken)
-
 loop-again-2 : tie.Need-loop-again-2 Inv-loop μ-loop
 loop-again-2 c =
     let k2 = c .before in
@@ -64,47 +49,21 @@ loop-again-3 c =
     let e1 = rw (kp .kind-place .ensures, toZ-ofZ w64 (kn .kind-number .result) (search needs), kn .kind-number .ensures) at (pn .put-number2 .ensures) in
     rw e1 (sofar-ended (l .loop .inv) (a .before .before .loop-test .taken) (n .n3 .given .0 .0) (n .n3 .given .0 .1 .0) (sym (a .line-step .ensures) ∙ n .n3 .given .1))
 
-add-t36 : tie.Need-add-t36 Inv-loop μ-loop
-add-t36 c = let l = c .before .before .before .before .before in omega (arith, l .before .before .before .before .pre .room, c .before .before .before .before .loop-test .taken)
-
-same-length : tie.Need-same-length Inv-loop μ-loop
-same-length c = c .before .before .before .before .before .loop .inv .alone-long
-
-same-length-2 : tie.Need-same-length-2 Inv-loop μ-loop
-same-length-2 c = c .before .before .before .before .before .loop .inv .first-long
-
-same-length-3 : tie.Need-same-length-3 Inv-loop μ-loop
-same-length-3 c = c .before .before .before .before .before .loop .inv .second-long
-
-returns : tie.Need-returns Inv-loop μ-loop
-returns c =
-    let a = c .before .before in
-    let l = a .before .before .before in
-    let s = l .before .before .before .before in
-    (tt, λ g kept asked. comes-failed (s .args .p) _ _ _ _ _ _ _ _ g kept asked (sofar-refuse (l .loop .inv) (a .before .before .loop-test .taken) (sym (a .line-step .ensures) ∙ c .enum-told .given .1) g kept asked))
-
-add-t37 : tie.Need-add-t37 Inv-loop μ-loop
-add-t37 c = let l = c .before in omega (arith, l .before .before .before .before .pre .room, l .loop .inv .within)
-
-same-length-4 : tie.Need-same-length-4 Inv-loop μ-loop
-same-length-4 c = c .before .loop .inv .alone-long
-
-same-length-5 : tie.Need-same-length-5 Inv-loop μ-loop
-same-length-5 c = c .before .loop .inv .first-long
-
-same-length-6 : tie.Need-same-length-6 Inv-loop μ-loop
-same-length-6 c = c .before .loop .inv .second-long
-
-returns-2 : tie.Need-returns-2 Inv-loop μ-loop
-returns-2 c =
-    let l = c .before in
-    let s = l .before .before .before .before in
-    let i = l .loop .inv in
-    ((i .good, i .first, i .second, omega (arith, i .within, c .loop-test .left)), λ g kept asked. comes-going (s .args .p) _ _ _ _ _ _ _ _ _ _ _ i (c .loop-test .left) g kept asked)
-
 pub feed-spec : {M : Type 1} → statement M
 feed-spec =
-    tie.close (tie.spec Inv-loop μ-loop loop-holds (λ c. omega arith) line-step-requires (λ c. search needs) (λ c. omega arith) (λ c. omega arith) loop-again (λ c. search needs) (λ c κs. search needs)
-    (λ c κs. search needs) (λ c κs. search needs) kept-requires (λ c κs. search needs) kept-requires-2 (λ c. omega arith) (λ c. omega arith) loop-again-2 (λ c. search needs) (λ c κs. search needs)
-    (λ c κs. search needs) (λ c κs. search needs) (λ c. omega arith) (λ c. omega arith) loop-again-3 (λ c. search needs) add-t36 same-length same-length-2 same-length-3 returns add-t37 same-length-4
-    same-length-5 same-length-6 returns-2)
+    tie.close (tie.spec Inv-loop μ-loop (λ c. let s = c .before .before .before in sofar-start (s .args .p) _ _ _ _ (s .pre)) (λ c. omega arith)
+    (λ c κs. c .before .before .loop .inv .good) (λ c. search needs) (λ c. omega arith) (λ c. omega arith)
+    (λ c. let a = c .before .before .before in let l = a .before .before .before in sofar-to (l .loop .inv) (a .before .before .loop-test .taken) (c .before .n .given .0 .0) (sym (a .line-step .ensures) ∙ c .before .n .given .1))
+    (λ c. search needs) (λ c κs. search needs) (λ c κs. search needs) (λ c κs. search needs)
+    (λ c κs. let l = c .before .before .before .before .before .before .before .before .before .before .before .before in omega (arith, l .loop .inv .first, l .before .before .before .before .pre .room, c .before .before .before .before .before .before .before .before .before .before .before .loop-test .taken))
+    (λ c κs. search needs)
+    (λ c κs. let k = c .before .before .before in let l = k .before .before .before .before .before .before .before .before .before .before .before .before .before in omega (arith, l .loop .inv .second, l .before .before .before .before .pre .room, k .before .before .before .before .before .before .before .before .before .before .before .before .loop-test .taken))
+    (λ c. omega arith) (λ c. omega arith) loop-again-2 (λ c. search needs) (λ c κs. search needs) (λ c κs. search needs) (λ c κs. search needs)
+    (λ c. omega arith) (λ c. omega arith) loop-again-3 (λ c. search needs)
+    (λ c. let l = c .before .before .before .before .before in omega (arith, l .before .before .before .before .pre .room, c .before .before .before .before .loop-test .taken))
+    (λ c. c .before .before .before .before .before .loop .inv .alone-long) (λ c. c .before .before .before .before .before .loop .inv .first-long)
+    (λ c. c .before .before .before .before .before .loop .inv .second-long)
+    (λ c. let a = c .before .before in let l = a .before .before .before in let s = l .before .before .before .before in (tt, λ g kept asked. comes-failed (s .args .p) _ _ _ _ _ _ _ _ g kept asked (sofar-refuse (l .loop .inv) (a .before .before .loop-test .taken) (sym (a .line-step .ensures) ∙ c .enum-told .given .1) g kept asked)))
+    (λ c. let l = c .before in omega (arith, l .before .before .before .before .pre .room, l .loop .inv .within))
+    (λ c. c .before .loop .inv .alone-long) (λ c. c .before .loop .inv .first-long) (λ c. c .before .loop .inv .second-long)
+    (λ c. let l = c .before in let s = l .before .before .before .before in let i = l .loop .inv in ((i .good, i .first, i .second, omega (arith, i .within, c .loop-test .left)), λ g kept asked. comes-going (s .args .p) _ _ _ _ _ _ _ _ _ _ _ i (c .loop-test .left) g kept asked)))

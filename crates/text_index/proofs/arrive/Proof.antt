@@ -9,20 +9,11 @@ use borrow.Author.Needs.{needs}
 use Rattle.text_index.proofs.arrive.Statement.{statement}
 use Rattle.text_index.proofs.arrive.Tie as tie
 
-add-if2 : tie.Need-add-if2
-add-if2 c = omega (arith, word-short (c .before .before .args .w))
-
-returns : tie.Need-returns
-unfolding reach
-returns c = let a = c .before .before .before in simp (eq-eqb _ _ (c .before .before .if1 .taken ∙ a .word-byte .ensures), lt-ltb _ _ (rw (c .before .word-length .ensures) at (c .if2 .taken)))
-
-returns-2 : tie.Need-returns-2
-unfolding reach
-returns-2 c = let a = c .before .before .before .before in simp (eq-eqb _ _ (c .before .before .before .if1 .taken ∙ a .word-byte .ensures), le-ltb _ _ (rw (c .before .before .word-length .ensures) at (c .before .if2 .left)), c .word-end .ensures)
-
-returns-3 : tie.Need-returns-3
-unfolding reach
-returns-3 c = simp (ne-eqb _ _ (λ e. c .if1 .left (e ∙ sym (c .before .word-byte .ensures))))
-
 pub arrive-spec : {M : Type 1} → statement M
-arrive-spec = tie.close (tie.spec (search needs) add-if2 (search needs) (search needs) returns (search needs) returns-2 returns-3)
+unfolding reach
+arrive-spec =
+    tie.close (tie.spec (search needs) (λ c. omega (arith, word-short (c .before .before .args .w))) (search needs) (search needs)
+    (λ c. let a = c .before .before .before in simp (eq-eqb _ _ (c .before .before .if1 .taken ∙ a .word-byte .ensures), lt-ltb _ _ (rw (c .before .word-length .ensures) at (c .if2 .taken))))
+    (search needs)
+    (λ c. let a = c .before .before .before .before in simp (eq-eqb _ _ (c .before .before .before .if1 .taken ∙ a .word-byte .ensures), le-ltb _ _ (rw (c .before .before .word-length .ensures) at (c .before .if2 .left)), c .word-end .ensures))
+    (λ c. simp (ne-eqb _ _ (λ e. c .if1 .left (e ∙ sym (c .before .word-byte .ensures))))))

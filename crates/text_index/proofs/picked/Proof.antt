@@ -9,5 +9,5 @@ pub picked-spec : {M : Type 1} → statement M
 unfolding pick
 picked-spec =
     tie.close (tie.spec (search needs) (search needs) (λ c. simp (c .before .enum-told .given .1, eq-eqb _ _ (c .if1 .taken))) (search needs)
-    (λ c. simp (c .before .enum-told2 .given .1, eq-eqb _ _ (c .if2 .taken))) (λ c. simp (c .before .t .given .1)) (λ c. simp (c .before .enum-told .given .1, ne-eqb _ _ (c .if1 .left)))
-    (λ c. simp (c .before .enum-told2 .given .1, ne-eqb _ _ (c .if2 .left))))
+    (λ c. simp (c .before .enum-told2 .given .1, eq-eqb _ _ (c .if2 .taken))) (λ c. simp (c .before .t .given .1))
+    (λ c. simp (c .before .enum-told .given .1, ne-eqb _ _ (c .if1 .left))) (λ c. simp (c .before .enum-told2 .given .1, ne-eqb _ _ (c .if2 .left))))

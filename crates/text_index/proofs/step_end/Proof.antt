@@ -10,16 +10,9 @@ use borrow.Author.Needs.{needs}
 use Rattle.text_index.proofs.step_end.Statement.{statement}
 use Rattle.text_index.proofs.step_end.Tie as tie
 
-arrive-requires : tie.Need-arrive-requires
-arrive-requires c κs = word-long _
-
-returns : tie.Need-returns
-unfolding endStep
-returns c = let a = c .before .before .before in let z = a .before .before .before .args .z in let e : toZ w64 (ofZ w64 z) ≡ z = toZ-ofZ w64 z (a .before .before .before .fits .z) in simp (e, sym (a .before .before .number-end .ensures), sym (a .before .picked .ensures), sym (a .arrive .ensures) ∙ c .before .s .given .1)
-
-returns-2 : tie.Need-returns-2
-unfolding endStep
-returns-2 c = let a = c .before .before in simp (sym (a .before .before .number-end .ensures), sym (a .before .picked .ensures), sym (a .arrive .ensures) ∙ c .enum-told .given .1)
-
 pub step-end-spec : {M : Type 1} → statement M
-step-end-spec = tie.close (tie.spec (search needs) (search needs) arrive-requires (search needs) (search needs) returns returns-2)
+unfolding endStep
+step-end-spec =
+    tie.close (tie.spec (search needs) (search needs) (λ c κs. word-long _) (search needs) (search needs)
+    (λ c. let a = c .before .before .before in let z = a .before .before .before .args .z in let e : toZ w64 (ofZ w64 z) ≡ z = toZ-ofZ w64 z (a .before .before .before .fits .z) in simp (e, sym (a .before .before .number-end .ensures), sym (a .before .picked .ensures), sym (a .arrive .ensures) ∙ c .before .s .given .1))
+    (λ c. let a = c .before .before in simp (sym (a .before .before .number-end .ensures), sym (a .before .picked .ensures), sym (a .arrive .ensures) ∙ c .enum-told .given .1)))

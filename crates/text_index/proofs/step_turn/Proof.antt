@@ -7,16 +7,9 @@ use borrow.Author.Needs.{needs}
 use Rattle.text_index.proofs.step_turn.Statement.{statement}
 use Rattle.text_index.proofs.step_turn.Tie as tie
 
-arrive-requires : tie.Need-arrive-requires
-arrive-requires c κs = word-long _
-
-returns : tie.Need-returns
-unfolding turnStep
-returns c = let a = c .before .before .before in simp (sym (a .before .picked .ensures), sym (a .arrive .ensures) ∙ c .before .s .given .1)
-
-returns-2 : tie.Need-returns-2
-unfolding turnStep
-returns-2 c = let a = c .before .before in simp (sym (a .before .picked .ensures), sym (a .arrive .ensures) ∙ c .enum-told .given .1)
-
 pub step-turn-spec : {M : Type 1} → statement M
-step-turn-spec = tie.close (tie.spec (search needs) arrive-requires (search needs) (search needs) returns returns-2)
+unfolding turnStep
+step-turn-spec =
+    tie.close (tie.spec (search needs) (λ c κs. word-long _) (search needs) (search needs)
+    (λ c. let a = c .before .before .before in simp (sym (a .before .picked .ensures), sym (a .arrive .ensures) ∙ c .before .s .given .1))
+    (λ c. let a = c .before .before in simp (sym (a .before .picked .ensures), sym (a .arrive .ensures) ∙ c .enum-told .given .1)))

@@ -7,32 +7,6 @@ use borrow.Author.Needs.{needs}
 use Rattle.text_judge.proofs.tell.Statement.{statement}
 use Rattle.text_judge.proofs.tell.Tie as tie
 
-returns : tie.Need-returns
-unfolding tellTally
-returns c =
-    let h = c .before in let k = h .before in let s = k .before .before .before .before .before in
-    c .with-head .ensures ∙ rw (k .enum-told .given .1, h .hold .ensures, toZ-ofZ w64 (s .args .z) (s .fits .z)) refl
-
-returns-2 : tie.Need-returns-2
-unfolding tellTally
-returns-2 c =
-    let h = c .before in let k = h .before in let s = k .before .before .before .before .before in
-    c .with-head2 .ensures ∙ rw (k .enum-told2 .given .1, h .hold2 .ensures, toZ-ofZ w64 (s .args .z) (s .fits .z)) refl
-
-returns-3 : tie.Need-returns-3
-unfolding tellTally
-returns-3 c =
-    let h = c .before in let k = h .before in let s = k .before .before .before .before .before in
-    c .with-head3 .ensures ∙ rw (k .enum-told3 .given .1, h .hold3 .ensures, toZ-ofZ w64 (s .args .z) (s .fits .z)) refl
-
-returns-4 : tie.Need-returns-4
-unfolding tellTally
-returns-4 c =
-    let d = c .before in let n = d .before in let k = n .before in let s = k .before .before .before .before .before in
-    let u = toZ-ofZ w32 (s .args .t .row .up) (record { sfits = d .struct-told .given .1 .0 .1 }) in
-    let l = toZ-ofZ w32 (n .narrow .result) (record { sfits = n .narrow .ok }) in
-    c .with-row .ensures ∙ rw (k .enum-told4 .given .1, u, l, n .narrow .ensures, toZ-ofZ w64 (s .args .z) (s .fits .z)) refl
-
 returns-5 : tie.Need-returns-5
 unfolding tellTally
 returns-5 c =
@@ -58,8 +32,14 @@ returns-7 c =
     c .with-row4 .ensures ∙ rw (k .enum-told7 .given .1, u, l, m .more-run .ensures, n .hold5 .ensures, toZ-ofZ w64 (s .args .z) (s .fits .z)) refl
 
 pub tell-spec : {M : Type 1} → statement M
+unfolding tellTally
 tell-spec =
-    tie.close (tie.spec (λ c. search needs) (λ c κs. search needs) (λ c κs. search needs) (λ c. search needs) (λ c κs. search needs) (λ c κs. search needs) (λ c. search needs) (λ c κs. search needs)
-    (λ c κs. search needs) (λ c. search needs) (λ c κs. search needs) (λ c κs. search needs) (λ c. search needs) (λ c κs. search needs) (λ c κs. search needs) (λ c κs. search needs)
-    (λ c. search needs) (λ c κs. search needs) (λ c κs. search needs) (λ c. search needs) (λ c κs. search needs) (λ c κs. search needs) (λ c κs. search needs) returns returns-2 returns-3 returns-4
+    tie.close (tie.spec (λ c. search needs) (λ c κs. search needs) (λ c κs. search needs) (λ c. search needs) (λ c κs. search needs) (λ c κs. search needs)
+    (λ c. search needs) (λ c κs. search needs) (λ c κs. search needs) (λ c. search needs) (λ c κs. search needs) (λ c κs. search needs)
+    (λ c. search needs) (λ c κs. search needs) (λ c κs. search needs) (λ c κs. search needs) (λ c. search needs) (λ c κs. search needs)
+    (λ c κs. search needs) (λ c. search needs) (λ c κs. search needs) (λ c κs. search needs) (λ c κs. search needs)
+    (λ c. let h = c .before in let k = h .before in let s = k .before .before .before .before .before in c .with-head .ensures ∙ rw (k .enum-told .given .1, h .hold .ensures, toZ-ofZ w64 (s .args .z) (s .fits .z)) refl)
+    (λ c. let h = c .before in let k = h .before in let s = k .before .before .before .before .before in c .with-head2 .ensures ∙ rw (k .enum-told2 .given .1, h .hold2 .ensures, toZ-ofZ w64 (s .args .z) (s .fits .z)) refl)
+    (λ c. let h = c .before in let k = h .before in let s = k .before .before .before .before .before in c .with-head3 .ensures ∙ rw (k .enum-told3 .given .1, h .hold3 .ensures, toZ-ofZ w64 (s .args .z) (s .fits .z)) refl)
+    (λ c. let d = c .before in let n = d .before in let k = n .before in let s = k .before .before .before .before .before in let u = toZ-ofZ w32 (s .args .t .row .up) (record { sfits = d .struct-told .given .1 .0 .1 }) in let l = toZ-ofZ w32 (n .narrow .result) (record { sfits = n .narrow .ok }) in c .with-row .ensures ∙ rw (k .enum-told4 .given .1, u, l, n .narrow .ensures, toZ-ofZ w64 (s .args .z) (s .fits .z)) refl)
     returns-5 returns-6 returns-7)

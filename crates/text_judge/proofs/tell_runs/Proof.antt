@@ -16,28 +16,10 @@ Inv-loop text at tally₀ i₀ tally i = Fits tally i × (i ≤ length text) × 
 abbrev μ-loop : tie.MeasureT-loop
 μ-loop text at tally₀ i₀ tally i = length text - i
 
-loop-holds : tie.Need-loop-holds Inv-loop μ-loop
-loop-holds c = (c .before .pre .0, c .before .pre .1, none)
-
-returns : tie.Need-returns Inv-loop μ-loop
-returns c = c .before .before .loop .inv .2
-
-tell-run-requires : tie.Need-tell-run-requires Inv-loop μ-loop
-tell-run-requires c κs = let l = c .before .before .before .before in (l .loop .inv .0 .sound, omega (arith, l .loop .inv .0 .runs, l .loop .inv .1, l .before .before .good))
-
-add-i : tie.Need-add-i Inv-loop μ-loop
-add-i c = let p = c .before .before .before .before .before .plain-run .ensures (omega (arith, c .before .before .before .before .if1 .left)) in omega (arith, run-up (p .run) .1, c .run-length .ensures, c .before .before .before .before .before .before .before .before .good)
-
-loop-less : tie.Need-loop-less Inv-loop μ-loop
-loop-less c = let p = c .before .before .before .before .before .plain-run .ensures (omega (arith, c .before .before .before .before .if1 .left)) in omega (arith, run-up (p .run) .0, run-up (p .run) .1, c .run-length .ensures)
-
-loop-again : tie.Need-loop-again Inv-loop μ-loop
-loop-again c =
-    let l = c .before .before .before .before .before .before in
-    let p = c .before .before .before .before .before .plain-run .ensures (omega (arith, c .before .before .before .before .if1 .left)) in
-    rw (c .before .tell-run .ensures, c .before .before .before .run-left .ensures, c .before .before .run-right .ensures, c .run-length .ensures)
-    (run-fits _ (p .run) (l .loop .inv .0), run-up (p .run) .1, one (l .loop .inv .2) (p .run))
-
 pub tell-runs-spec : {M : Type 1} → statement M
 tell-runs-spec =
-    tie.close (tie.spec Inv-loop μ-loop loop-holds (λ c κs. search needs) returns (λ c κs. search needs) (λ c κs. search needs) tell-run-requires (λ c κs. search needs) add-i loop-less loop-again)
+    tie.close (tie.spec Inv-loop μ-loop (λ c. (c .before .pre .0, c .before .pre .1, none)) (λ c κs. search needs) (λ c. c .before .before .loop .inv .2) (λ c κs. search needs) (λ c κs. search needs)
+    (λ c κs. let l = c .before .before .before .before in (l .loop .inv .0 .sound, omega (arith, l .loop .inv .0 .runs, l .loop .inv .1, l .before .before .good))) (λ c κs. search needs)
+    (λ c. let p = c .before .before .before .before .before .plain-run .ensures (omega (arith, c .before .before .before .before .if1 .left)) in omega (arith, run-up (p .run) .1, c .run-length .ensures, c .before .before .before .before .before .before .before .before .good))
+    (λ c. let p = c .before .before .before .before .before .plain-run .ensures (omega (arith, c .before .before .before .before .if1 .left)) in omega (arith, run-up (p .run) .0, run-up (p .run) .1, c .run-length .ensures))
+    (λ c. let l = c .before .before .before .before .before .before in let p = c .before .before .before .before .before .plain-run .ensures (omega (arith, c .before .before .before .before .if1 .left)) in rw (c .before .tell-run .ensures, c .before .before .before .run-left .ensures, c .before .before .run-right .ensures, c .run-length .ensures) (run-fits _ (p .run) (l .loop .inv .0), run-up (p .run) .1, one (l .loop .inv .2) (p .run))))

@@ -1,24 +1,16 @@
 -- `text_lines::step_number` meets its contract. By what the byte does to the number.
 use mathlib.Core.Path.{sym, _∙_}
 use mir.Syntax.{w64}
-use mir.Val.{toZ, ofZ}
 use mir.ValLaws.{toZ-ofZ}
 use Rattle.text_lines.specs.Step.{numberStep}
 use borrow.Author.Needs.{needs}
 use Rattle.text_lines.proofs.step_number.Statement.{statement}
 use Rattle.text_lines.proofs.step_number.Tie as tie
 
-returns : tie.Need-returns
-unfolding numberStep
-returns c = simp (sym (c .before .before .before .number-step .ensures) ∙ c .before .m .given .1)
-
-returns-2 : tie.Need-returns-2
-unfolding numberStep
-returns-2 c = let v = c .before .before .before .before in let n = v .before .before .before in let e = toZ-ofZ w64 (c .before .before .z .given .0 .0) (search needs) in simp (e, sym (n .number-step .ensures) ∙ v .before .enum-told .given .1, sym (v .number-value .ensures) ∙ c .before .before .z .given .1, c .step-end .ensures)
-
-returns-3 : tie.Need-returns-3
-unfolding numberStep
-returns-3 c = let v = c .before .before in let n = v .before .before .before in simp (sym (n .number-step .ensures) ∙ v .before .enum-told .given .1, sym (v .number-value .ensures) ∙ c .enum-told2 .given .1)
-
 pub step-number-spec : {M : Type 1} → statement M
-step-number-spec = tie.close (tie.spec (search needs) (search needs) (search needs) (λ c κs. search needs) (search needs) (search needs) (search needs) returns returns-2 returns-3)
+unfolding numberStep
+step-number-spec =
+    tie.close (tie.spec (search needs) (search needs) (search needs) (λ c κs. search needs) (search needs) (search needs) (search needs)
+    (λ c. simp (sym (c .before .before .before .number-step .ensures) ∙ c .before .m .given .1))
+    (λ c. let v = c .before .before .before .before in let n = v .before .before .before in let e = toZ-ofZ w64 (c .before .before .z .given .0 .0) (search needs) in simp (e, sym (n .number-step .ensures) ∙ v .before .enum-told .given .1, sym (v .number-value .ensures) ∙ c .before .before .z .given .1, c .step-end .ensures))
+    (λ c. let v = c .before .before in let n = v .before .before .before in simp (sym (n .number-step .ensures) ∙ v .before .enum-told .given .1, sym (v .number-value .ensures) ∙ c .enum-told2 .given .1)))

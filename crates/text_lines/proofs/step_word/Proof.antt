@@ -8,20 +8,11 @@ use borrow.Author.Needs.{needs}
 use Rattle.text_lines.proofs.step_word.Statement.{statement}
 use Rattle.text_lines.proofs.step_word.Tie as tie
 
-add-if1 : tie.Need-add-if1
-add-if1 c = omega (arith, word-short (c .before .before .before .before .args .w))
-
-returns : tie.Need-returns
-unfolding wordStep
-returns c = let a = c .before .before .before .before .before in simp (sym (a .arrive .ensures) ∙ c .before .before .before .s .given .1, lt-ltb _ _ (rw (c .before .word-length .ensures) at (c .if1 .taken)))
-
-returns-2 : tie.Need-returns-2
-unfolding wordStep
-returns-2 c = let a = c .before .before .before .before .before in simp (sym (a .arrive .ensures) ∙ c .before .before .before .s .given .1, le-ltb _ _ (rw (c .before .word-length .ensures) at (c .if1 .left)))
-
-returns-3 : tie.Need-returns-3
-unfolding wordStep
-returns-3 c = let a = c .before .before in simp (sym (a .arrive .ensures) ∙ c .enum-told .given .1)
-
 pub step-word-spec : {M : Type 1} → statement M
-step-word-spec = tie.close (tie.spec (search needs) (search needs) add-if1 (search needs) returns (search needs) returns-2 returns-3)
+unfolding wordStep
+step-word-spec =
+    tie.close (tie.spec (search needs) (search needs) (λ c. omega (arith, word-short (c .before .before .before .before .args .w))) (search needs)
+    (λ c. let a = c .before .before .before .before .before in simp (sym (a .arrive .ensures) ∙ c .before .before .before .s .given .1, lt-ltb _ _ (rw (c .before .word-length .ensures) at (c .if1 .taken))))
+    (search needs)
+    (λ c. let a = c .before .before .before .before .before in simp (sym (a .arrive .ensures) ∙ c .before .before .before .s .given .1, le-ltb _ _ (rw (c .before .word-length .ensures) at (c .if1 .left))))
+    (λ c. let a = c .before .before in simp (sym (a .arrive .ensures) ∙ c .enum-told .given .1)))

@@ -14,25 +14,12 @@ Inv-loop buf₀ at count offsets distances n to₀ i₀ buf to i = Matches buf�
 abbrev μ-loop : tie.MeasureT-loop
 μ-loop buf₀ at count offsets distances n to₀ i₀ buf to i = n - i
 
-loop-holds : tie.Need-loop-holds Inv-loop μ-loop
-loop-holds c = matches-start _ _ _ _ _ _ _ _ (c .before .before .before .before .before .part-length .ensures) (put-stays (c .before .before .put-word .ensures))
-
-shared-slice-read-write-match : tie.Need-shared-slice-read-write-match Inv-loop μ-loop
-shared-slice-read-write-match c = omega (arith, c .before .before .before .loop .inv .room)
-
-shared-slice-read-write-match-2 : tie.Need-shared-slice-read-write-match-2 Inv-loop μ-loop
-shared-slice-read-write-match-2 c = omega (arith, c .before .before .before .before .loop .inv .room)
-
-loop-again : tie.Need-loop-again Inv-loop μ-loop
-loop-again c = let t = c .before .before .before .before .before .before in matches-turn (t .before .loop .inv) (t .loop-test .taken) (c .before .before .write-match .ensures)
-
-same-length : tie.Need-same-length Inv-loop μ-loop
-same-length c = put-length (c .before .loop .inv .put) ∙ put-length (c .before .before .before .before .put-word .ensures)
-
-returns : tie.Need-returns Inv-loop μ-loop
-returns c = put-then (c .before .before .before .before .put-word .ensures) (matches-end (c .before .loop .inv) (c .loop-test .left))
-
 pub write-matches-spec : {M : Type 1} → statement M
 write-matches-spec =
-    tie.close (tie.spec Inv-loop μ-loop (λ c κs. search needs) (λ c. search needs) (λ c κs. search needs) loop-holds (λ c. omega arith) shared-slice-read-write-match (λ c. omega arith)
-    shared-slice-read-write-match-2 (λ c κs. search needs) (λ c. omega arith) (λ c. omega arith) loop-again same-length returns)
+    tie.close (tie.spec Inv-loop μ-loop (search needs) (search needs) (search needs)
+    (λ c. matches-start _ _ _ _ _ _ _ _ (c .before .before .before .before .before .part-length .ensures) (put-stays (c .before .before .put-word .ensures)))
+    (λ c. omega arith) (λ c. omega (arith, c .before .before .before .loop .inv .room)) (λ c. omega arith)
+    (λ c. omega (arith, c .before .before .before .before .loop .inv .room)) (search needs) (λ c. omega arith) (λ c. omega arith)
+    (λ c. let t = c .before .before .before .before .before .before in matches-turn (t .before .loop .inv) (t .loop-test .taken) (c .before .before .write-match .ensures))
+    (λ c. put-length (c .before .loop .inv .put) ∙ put-length (c .before .before .before .before .put-word .ensures))
+    (λ c. put-then (c .before .before .before .before .put-word .ensures) (matches-end (c .before .loop .inv) (c .loop-test .left))))

@@ -12,35 +12,15 @@ use borrow.Author.Needs.{needs}
 use Rattle.text_numbers.proofs.number_value.Statement.{statement}
 use Rattle.text_numbers.proofs.number_value.Tie as tie
 
-cast-t5 : tie.Need-cast-t5
-cast-t5 c = let g = rw (c .before .n .given .1) at (c .before .before .before .pre) in omega (zmach, g)
-
-cast-t6 : tie.Need-cast-t6
-cast-t6 c = let g = rw (c .before .n2 .given .1) at (c .before .before .before .pre) in omega (zmach, g)
-
 sub-t7 : tie.Need-sub-t7
 sub-t7 c = let g = rw (c .before .n2 .given .1) at (c .before .before .before .pre) in let m = c .before .n2 .given .0 .0 in omega (zmach, g, z-cast m (omega (arith, g)), z-sub (pos 0) (toZ w64 m))
 
-returns : tie.Need-returns
-unfolding whole
-returns c = simp (c .enum-told .given .1)
-
-returns-2 : tie.Need-returns-2
-unfolding whole
-returns-2 c = simp (c .enum-told2 .given .1)
-
-returns-3 : tie.Need-returns-3
-unfolding whole
-returns-3 c = simp (c .enum-told3 .given .1)
-
-returns-4 : tie.Need-returns-4
-unfolding whole
-returns-4 c = let g = rw (c .before .n .given .1) at (c .before .before .before .pre) in simp (c .before .n .given .1, toZ-pos w64 (c .before .n .given .0 .0) (omega (arith, g)))
-
-returns-5 : tie.Need-returns-5
-unfolding whole
-returns-5 c = let g = rw (c .before .n2 .given .1) at (c .before .before .before .pre) in let m = c .before .n2 .given .0 .0 in let f = sub-t7 c in let e : toZ w64 (ofZ w64 (pos 0 -ℤ toZ w64 m)) ≡ negℤ (pos m) = omega (zmach, g, z-cast m (omega (arith, g)), z-sub (pos 0) (toZ w64 m), z-neg (pos m)) in simp (c .before .n2 .given .1, e)
-
 pub number-value-spec : {M : Type 1} → statement M
+unfolding whole
 number-value-spec =
-    tie.close (tie.spec (λ c. search needs) (λ c. search needs) (λ c. search needs) (λ c. search needs) cast-t5 (λ c. search needs) cast-t6 sub-t7 returns returns-2 returns-3 returns-4 returns-5)
+    tie.close (tie.spec (λ c. search needs) (λ c. search needs) (λ c. search needs) (λ c. search needs)
+    (λ c. let g = rw (c .before .n .given .1) at (c .before .before .before .pre) in omega (zmach, g)) (λ c. search needs)
+    (λ c. let g = rw (c .before .n2 .given .1) at (c .before .before .before .pre) in omega (zmach, g)) sub-t7 (λ c. simp (c .enum-told .given .1))
+    (λ c. simp (c .enum-told2 .given .1)) (λ c. simp (c .enum-told3 .given .1))
+    (λ c. let g = rw (c .before .n .given .1) at (c .before .before .before .pre) in simp (c .before .n .given .1, toZ-pos w64 (c .before .n .given .0 .0) (omega (arith, g))))
+    (λ c. let g = rw (c .before .n2 .given .1) at (c .before .before .before .pre) in let m = c .before .n2 .given .0 .0 in let f = sub-t7 c in let e : toZ w64 (ofZ w64 (pos 0 -ℤ toZ w64 m)) ≡ negℤ (pos m) = omega (zmach, g, z-cast m (omega (arith, g)), z-sub (pos 0) (toZ w64 m), z-neg (pos m)) in simp (c .before .n2 .given .1, e)))

@@ -13,22 +13,11 @@ add-result c = let x = c .before .args .x in let b = z-fits (c .before .fits .x)
 sub-result : tie.Need-sub-result
 sub-result c = let x = c .before .args .x in let b = z-fits (c .before .fits .x) in let X = toZ w64 (ofZ w64 x) in let S = X +ℤ pos 1 in let s = toZ w64 (ofZ w64 S) in let D = pos 0 -ℤ s in let d = toZ w64 (ofZ w64 D) in let f = add-result c in omega (zmach, b, z-add X (pos 1), z-sub (pos 0) s)
 
-cast-result : tie.Need-cast-result
-cast-result c = let x = c .before .args .x in let b = z-fits (c .before .fits .x) in let X = toZ w64 (ofZ w64 x) in let S = X +ℤ pos 1 in let s = toZ w64 (ofZ w64 S) in let D = pos 0 -ℤ s in let d = toZ w64 (ofZ w64 D) in let f = add-result c in let g = sub-result c in omega (zmach, b, z-add X (pos 1), z-sub (pos 0) s, z-abs d)
-
-add-result-2 : tie.Need-add-result-2
-add-result-2 c = let x = c .before .args .x in let b = z-fits (c .before .fits .x) in let X = toZ w64 (ofZ w64 x) in let S = X +ℤ pos 1 in let s = toZ w64 (ofZ w64 S) in let D = pos 0 -ℤ s in let d = toZ w64 (ofZ w64 D) in let f = add-result c in let g = sub-result c in omega (zmach, b, z-add X (pos 1), z-sub (pos 0) s, z-abs d)
-
-returns : tie.Need-returns
-returns c = let x = c .before .args .x in let b = z-fits (c .before .fits .x) in let X = toZ w64 (ofZ w64 x) in let S = X +ℤ pos 1 in let s = toZ w64 (ofZ w64 S) in let D = pos 0 -ℤ s in let d = toZ w64 (ofZ w64 D) in let f = add-result c in let g = sub-result c in omega (zmach, b, z-add X (pos 1), z-sub (pos 0) s, z-abs d, z-abs x)
-
-cast-result-2 : tie.Need-cast-result-2
-cast-result-2 c = let x = c .before .args .x in let b = z-fits (c .before .fits .x) in let X = toZ w64 (ofZ w64 x) in let S = X +ℤ pos 1 in let s = toZ w64 (ofZ w64 S) in let D = pos 0 -ℤ s in let d = toZ w64 (ofZ w64 D) in omega (zmach, b, z-abs X)
-
-returns-2 : tie.Need-returns-2
-returns-2 c = let x = c .before .args .x in let b = z-fits (c .before .fits .x) in let X = toZ w64 (ofZ w64 x) in let S = X +ℤ pos 1 in let s = toZ w64 (ofZ w64 S) in let D = pos 0 -ℤ s in let d = toZ w64 (ofZ w64 D) in omega (zmach, b, z-abs X, z-abs x)
-
 pub magnitude-spec : {M : Type 1} → statement M
 magnitude-spec =
-    tie.close
-    (tie.spec add-result sub-result cast-result add-result-2 returns cast-result-2 returns-2)
+    tie.close (tie.spec add-result sub-result
+    (λ c. let x = c .before .args .x in let b = z-fits (c .before .fits .x) in let X = toZ w64 (ofZ w64 x) in let S = X +ℤ pos 1 in let s = toZ w64 (ofZ w64 S) in let D = pos 0 -ℤ s in let d = toZ w64 (ofZ w64 D) in let f = add-result c in let g = sub-result c in omega (zmach, b, z-add X (pos 1), z-sub (pos 0) s, z-abs d))
+    (λ c. let x = c .before .args .x in let b = z-fits (c .before .fits .x) in let X = toZ w64 (ofZ w64 x) in let S = X +ℤ pos 1 in let s = toZ w64 (ofZ w64 S) in let D = pos 0 -ℤ s in let d = toZ w64 (ofZ w64 D) in let f = add-result c in let g = sub-result c in omega (zmach, b, z-add X (pos 1), z-sub (pos 0) s, z-abs d))
+    (λ c. let x = c .before .args .x in let b = z-fits (c .before .fits .x) in let X = toZ w64 (ofZ w64 x) in let S = X +ℤ pos 1 in let s = toZ w64 (ofZ w64 S) in let D = pos 0 -ℤ s in let d = toZ w64 (ofZ w64 D) in let f = add-result c in let g = sub-result c in omega (zmach, b, z-add X (pos 1), z-sub (pos 0) s, z-abs d, z-abs x))
+    (λ c. let x = c .before .args .x in let b = z-fits (c .before .fits .x) in let X = toZ w64 (ofZ w64 x) in let S = X +ℤ pos 1 in let s = toZ w64 (ofZ w64 S) in let D = pos 0 -ℤ s in let d = toZ w64 (ofZ w64 D) in omega (zmach, b, z-abs X))
+    (λ c. let x = c .before .args .x in let b = z-fits (c .before .fits .x) in let X = toZ w64 (ofZ w64 x) in let S = X +ℤ pos 1 in let s = toZ w64 (ofZ w64 S) in let D = pos 0 -ℤ s in let d = toZ w64 (ofZ w64 D) in omega (zmach, b, z-abs X, z-abs x)))

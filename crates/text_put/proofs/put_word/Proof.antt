@@ -14,17 +14,9 @@ Inv-loop buf₀ at word to₀ i₀ buf to i = Put buf₀ at (take i word) buf to
 abbrev μ-loop : tie.MeasureT-loop
 μ-loop buf₀ at word to₀ i₀ buf to i = length word - i
 
-loop-holds : tie.Need-loop-holds Inv-loop μ-loop
-loop-holds c = (put-none (c .before .before .before .args .buf .now) (c .before .before .before .args .at) _ (c .capped .ensures), omega arith)
-
-loop-again : tie.Need-loop-again Inv-loop μ-loop
-loop-again c = let l = c .before .before .before .before .before .before in (put-turn (l .before .before .before .before .args .word .now) (l .loop .i) (c .before .before .before .before .before .loop-test .taken) (l .loop .inv .0) (c .before .before .put-byte .ensures), omega arith)
-
-same-length : tie.Need-same-length Inv-loop μ-loop
-same-length c = put-length (c .before .loop .inv .0)
-
-returns : tie.Need-returns Inv-loop μ-loop
-returns c = put-all (c .before .before .before .before .before .args .word .now) (c .before .loop .i) (omega arith) (c .before .loop .inv .0)
-
 pub put-word-spec : {M : Type 1} → statement M
-put-word-spec = tie.close (tie.spec Inv-loop μ-loop (λ c κs. search needs) loop-holds (λ c. omega arith) (λ c κs. search needs) (λ c. omega arith) (λ c. omega arith) loop-again same-length returns)
+put-word-spec =
+    tie.close (tie.spec Inv-loop μ-loop (λ c κs. search needs) (λ c. (put-none (c .before .before .before .args .buf .now) (c .before .before .before .args .at) _ (c .capped .ensures), omega arith))
+    (λ c. omega arith) (λ c κs. search needs) (λ c. omega arith) (λ c. omega arith)
+    (λ c. let l = c .before .before .before .before .before .before in (put-turn (l .before .before .before .before .args .word .now) (l .loop .i) (c .before .before .before .before .before .loop-test .taken) (l .loop .inv .0) (c .before .before .put-byte .ensures), omega arith))
+    (λ c. put-length (c .before .loop .inv .0)) (λ c. put-all (c .before .before .before .before .before .args .word .now) (c .before .loop .i) (omega arith) (c .before .loop .inv .0)))

@@ -11,11 +11,9 @@ use borrow.Author.Needs.{needs}
 use Rattle.text_put.proofs.write_number.Statement.{statement}
 use Rattle.text_put.proofs.write_number.Tie as tie
 
-returns : tie.Need-returns
-returns c = let m = c .before .before .before .before .before .before .before .before .before in let x = m .before .before .args .x in let h : x <ℤ pos 0 = omega zmach in let e : natAbs x ≡ m .magnitude .result = omega (zmach, m .magnitude .ensures, z-abs (toZ w64 (ofZ w64 x)), z-abs x) in rw (spell-minus x h, e) (put-then (c .before .before .before .before .before .before .put-byte .ensures) (c .before .before .put-digits .ensures))
-
-returns-2 : tie.Need-returns-2
-returns-2 c = let m = c .before .before .before .before .before in let x = m .before .before .args .x in let h : pos 0 ≤ℤ x = omega zmach in let e : natAbs x ≡ m .magnitude .result = omega (zmach, m .magnitude .ensures, z-abs (toZ w64 (ofZ w64 x)), z-abs x) in rw (spell-plus x h, e) (c .before .before .put-digits2 .ensures)
-
 pub write-number-spec : {M : Type 1} → statement M
-write-number-spec = tie.close (tie.spec (λ c κs. search needs) (λ c κs. search needs) (λ c κs. search needs) (λ c. search needs) returns (λ c κs. search needs) (λ c. search needs) returns-2)
+write-number-spec =
+    tie.close (tie.spec (λ c κs. search needs) (λ c κs. search needs) (λ c κs. search needs) (λ c. search needs)
+    (λ c. let m = c .before .before .before .before .before .before .before .before .before in let x = m .before .before .args .x in let h : x <ℤ pos 0 = omega zmach in let e : natAbs x ≡ m .magnitude .result = omega (zmach, m .magnitude .ensures, z-abs (toZ w64 (ofZ w64 x)), z-abs x) in rw (spell-minus x h, e) (put-then (c .before .before .before .before .before .before .put-byte .ensures) (c .before .before .put-digits .ensures)))
+    (λ c κs. search needs) (λ c. search needs)
+    (λ c. let m = c .before .before .before .before .before in let x = m .before .before .args .x in let h : pos 0 ≤ℤ x = omega zmach in let e : natAbs x ≡ m .magnitude .result = omega (zmach, m .magnitude .ensures, z-abs (toZ w64 (ofZ w64 x)), z-abs x) in rw (spell-plus x h, e) (c .before .before .put-digits2 .ensures)))

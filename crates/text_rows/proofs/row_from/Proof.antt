@@ -18,15 +18,6 @@ Inv-loop text at s₀ t₀ i₀ s t i = Going text s₀ t₀ i₀ s t i
 abbrev μ-loop : tie.MeasureT-loop
 μ-loop text at s₀ t₀ i₀ s t i = length text - i
 
-loop-holds : tie.Need-loop-holds Inv-loop μ-loop
-loop-holds c = let s = c .before in going-start (s .args .text .now) (s .args .s) (s .args .t) (s .args .at) (s .pre .good) (s .pre .fits) (s .pre .inside)
-
-next-event-requires : tie.Need-next-event-requires Inv-loop μ-loop
-next-event-requires c κs = c .loop .inv .good
-
-tell-row-requires : tie.Need-tell-row-requires Inv-loop μ-loop
-tell-row-requires c κs = let l = c .before .before .before .before in (l .loop .inv .fits .sound, omega (arith, l .loop .inv .fits .runs, l .loop .inv .inside, l .before .before .good))
-
 tell-runs-requires : tie.Need-tell-runs-requires Inv-loop μ-loop
 tell-runs-requires c κs =
     let n = c .before .before in
@@ -37,13 +28,6 @@ tell-runs-requires c κs =
     let f : toZ w64 (ofZ w64 high) ≡ high = toZ-ofZ w64 high (search (needs, c .before .known-told .given)) in
     let y = line-row _ _ _ _ (a .before .loop .inv) low high _ _ _ (rw (n .low .given .1) at (a .next-event .ensures)) (rw (e, f) at (c .tell-row .ensures)) in
     (y .fits, y .inside)
-
-loop-less : tie.Need-loop-less Inv-loop μ-loop
-loop-less c =
-    let n = c .before .before .before .before in
-    let u = row-up ((rw (n .low .given .1) at (n .before .before .next-event .ensures)) .1) in
-    let v = runs-up (c .before .tell-runs .ensures) (u .1) in
-    omega (arith, u .0, u .1, v .0, v .1)
 
 loop-again : tie.Need-loop-again Inv-loop μ-loop
 loop-again c =
@@ -56,75 +40,24 @@ loop-again c =
     let y = line-row _ _ _ _ (a .before .loop .inv) low high _ _ _ (rw (n .low .given .1) at (a .next-event .ensures)) (rw (e, f) at (c .before .before .tell-row .ensures)) in
     line-runs _ _ _ _ (c .before .tell-runs .ensures) y
 
-tell-run-requires : tie.Need-tell-run-requires Inv-loop μ-loop
-tell-run-requires c κs = let l = c .before .before .before .before in (l .loop .inv .fits .sound, omega (arith, l .loop .inv .fits .runs, l .loop .inv .inside, l .before .before .good))
-
-tell-runs-requires-2 : tie.Need-tell-runs-requires-2 Inv-loop μ-loop
-tell-runs-requires-2 c κs =
-    let n = c .before .before in
-    let a = n .before .before in
-    let v = rw (n .l .given .1) at (a .next-event .ensures) in
-    let y = line-run _ _ _ _ (a .before .loop .inv) _ _ _ v (c .tell-run .ensures) in
-    (y .fits, y .inside)
-
-loop-less-2 : tie.Need-loop-less-2 Inv-loop μ-loop
-loop-less-2 c =
-    let n = c .before .before .before .before in
-    let u = run-up ((rw (n .l .given .1) at (n .before .before .next-event .ensures)) .1) in
-    let v = runs-up (c .before .tell-runs2 .ensures) (u .1) in
-    omega (arith, u .0, u .1, v .0, v .1)
-
-loop-again-2 : tie.Need-loop-again-2 Inv-loop μ-loop
-loop-again-2 c =
-    let n = c .before .before .before .before in
-    let a = n .before .before in
-    let v = rw (n .l .given .1) at (a .next-event .ensures) in
-    let y = line-run _ _ _ _ (a .before .loop .inv) _ _ _ v (c .before .before .tell-run .ensures) in
-    rw (v .0) (line-runs _ _ _ _ (c .before .tell-runs2 .ensures) y)
-
-tell-requires : tie.Need-tell-requires Inv-loop μ-loop
-tell-requires c κs = let l = c .before .before .before .before in (l .loop .inv .fits .sound, omega (arith, l .loop .inv .fits .runs, l .loop .inv .inside, l .before .before .good))
-
-loop-less-3 : tie.Need-loop-less-3 Inv-loop μ-loop
-loop-less-3 c =
-    let n = c .before .before in
-    let u = value-up (rw (n .n .given .1) at (n .before .before .next-event .ensures)) in
-    omega (arith, u .0, u .1)
-
-loop-again-3 : tie.Need-loop-again-3 Inv-loop μ-loop
-loop-again-3 c =
-    let n = c .before .before in
-    let a = n .before .before in
-    let z = n .n .given .0 .1 .1 .0 in
-    let e : toZ w64 (ofZ w64 z) ≡ z = toZ-ofZ w64 z (search (needs, c .before .known-told3 .given)) in
-    rw (rw e at (c .tell .ensures)) (line-value _ _ _ _ (a .before .loop .inv) (n .n .given .0 .0) (n .n .given .0 .1 .0) z _ (rw (n .n .given .1) at (a .next-event .ensures)))
-
-shut-requires : tie.Need-shut-requires Inv-loop μ-loop
-shut-requires c κs =
-    let l = c .before .before .before .before .before in
-    (omega (arith, l .loop .inv .fits .rows, l .loop .inv .inside, l .before .before .good), omega (arith, l .loop .inv .fits .runs, l .loop .inv .inside, l .before .before .good))
-
-returns : tie.Need-returns Inv-loop μ-loop
-returns c =
-    let m = c .before in
-    let n = m .before .before in
-    let a = n .before .before in
-    rw (c .shut .ensures, m .make-row .ensures) (line-closed _ _ _ _ (a .before .loop .inv) (n .n2 .given .0 .0) _ (rw (n .n2 .given .1) at (a .next-event .ensures)))
-
-returns-2 : tie.Need-returns-2 Inv-loop μ-loop
-returns-2 c =
-    let n = c .before .before in
-    let a = n .before .before in
-    c .line-end .ensures ∙ line-refuse _ _ _ _ (a .before .loop .inv) (n .n3 .given .0 .0) _ (rw (n .n3 .given .1) at (a .next-event .ensures))
-
-returns-3 : tie.Need-returns-3 Inv-loop μ-loop
-returns-3 c =
-    let n = c .before .before in
-    let a = n .before .before in
-    c .line-end2 .ensures ∙ line-stop _ _ _ _ (a .before .loop .inv) (n .n4 .given .0 .0) _ (rw (n .n4 .given .1) at (a .next-event .ensures))
-
 pub row-from-spec : {M : Type 1} → statement M
 row-from-spec =
-    tie.close (tie.spec Inv-loop μ-loop loop-holds next-event-requires (λ c. search needs) tell-row-requires tell-runs-requires loop-less loop-again (λ c. search needs) tell-run-requires
-    tell-runs-requires-2 loop-less-2 loop-again-2 (λ c. search needs) tell-requires loop-less-3 loop-again-3 (λ c. search needs) (λ c κs. search needs) shut-requires returns (λ c. search needs)
-    (λ c κs. search needs) returns-2 (λ c. search needs) (λ c κs. search needs) returns-3)
+    tie.close (tie.spec Inv-loop μ-loop (λ c. let s = c .before in going-start (s .args .text .now) (s .args .s) (s .args .t) (s .args .at) (s .pre .good) (s .pre .fits) (s .pre .inside))
+    (λ c κs. c .loop .inv .good) (λ c. search needs)
+    (λ c κs. let l = c .before .before .before .before in (l .loop .inv .fits .sound, omega (arith, l .loop .inv .fits .runs, l .loop .inv .inside, l .before .before .good))) tell-runs-requires
+    (λ c. let n = c .before .before .before .before in let u = row-up ((rw (n .low .given .1) at (n .before .before .next-event .ensures)) .1) in let v = runs-up (c .before .tell-runs .ensures) (u .1) in omega (arith, u .0, u .1, v .0, v .1))
+    loop-again (λ c. search needs)
+    (λ c κs. let l = c .before .before .before .before in (l .loop .inv .fits .sound, omega (arith, l .loop .inv .fits .runs, l .loop .inv .inside, l .before .before .good)))
+    (λ c κs. let n = c .before .before in let a = n .before .before in let v = rw (n .l .given .1) at (a .next-event .ensures) in let y = line-run _ _ _ _ (a .before .loop .inv) _ _ _ v (c .tell-run .ensures) in (y .fits, y .inside))
+    (λ c. let n = c .before .before .before .before in let u = run-up ((rw (n .l .given .1) at (n .before .before .next-event .ensures)) .1) in let v = runs-up (c .before .tell-runs2 .ensures) (u .1) in omega (arith, u .0, u .1, v .0, v .1))
+    (λ c. let n = c .before .before .before .before in let a = n .before .before in let v = rw (n .l .given .1) at (a .next-event .ensures) in let y = line-run _ _ _ _ (a .before .loop .inv) _ _ _ v (c .before .before .tell-run .ensures) in rw (v .0) (line-runs _ _ _ _ (c .before .tell-runs2 .ensures) y))
+    (λ c. search needs) (λ c κs. let l = c .before .before .before .before in (l .loop .inv .fits .sound, omega (arith, l .loop .inv .fits .runs, l .loop .inv .inside, l .before .before .good)))
+    (λ c. let n = c .before .before in let u = value-up (rw (n .n .given .1) at (n .before .before .next-event .ensures)) in omega (arith, u .0, u .1))
+    (λ c. let n = c .before .before in let a = n .before .before in let z = n .n .given .0 .1 .1 .0 in let e : toZ w64 (ofZ w64 z) ≡ z = toZ-ofZ w64 z (search (needs, c .before .known-told3 .given)) in rw (rw e at (c .tell .ensures)) (line-value _ _ _ _ (a .before .loop .inv) (n .n .given .0 .0) (n .n .given .0 .1 .0) z _ (rw (n .n .given .1) at (a .next-event .ensures))))
+    (λ c. search needs) (λ c κs. search needs)
+    (λ c κs. let l = c .before .before .before .before .before in (omega (arith, l .loop .inv .fits .rows, l .loop .inv .inside, l .before .before .good), omega (arith, l .loop .inv .fits .runs, l .loop .inv .inside, l .before .before .good)))
+    (λ c. let m = c .before in let n = m .before .before in let a = n .before .before in rw (c .shut .ensures, m .make-row .ensures) (line-closed _ _ _ _ (a .before .loop .inv) (n .n2 .given .0 .0) _ (rw (n .n2 .given .1) at (a .next-event .ensures))))
+    (λ c. search needs) (λ c κs. search needs)
+    (λ c. let n = c .before .before in let a = n .before .before in c .line-end .ensures ∙ line-refuse _ _ _ _ (a .before .loop .inv) (n .n3 .given .0 .0) _ (rw (n .n3 .given .1) at (a .next-event .ensures)))
+    (λ c. search needs) (λ c κs. search needs)
+    (λ c. let n = c .before .before in let a = n .before .before in c .line-end2 .ensures ∙ line-stop _ _ _ _ (a .before .loop .inv) (n .n4 .given .0 .0) _ (rw (n .n4 .given .1) at (a .next-event .ensures))))

@@ -28,10 +28,7 @@ returns c =
     (put-then (put-then (p1 .put-word .ensures) (w1 .write-i32 .ensures)) (put-then (put-then (p2 .put-word2 .ensures) (w2 .write-i322 .ensures)) (r .write-runs .ensures)))
     (p3 .put-word3 .ensures))
 
-same-length : tie.Need-same-length
-same-length c = put-length (returns c)
-
 pub write-row-spec : {M : Type 1} → statement M
 write-row-spec =
-    tie.close (tie.spec (λ c. search needs) (λ c κs. search needs) (λ c κs. search needs) (λ c. search needs) (λ c κs. search needs) (λ c κs. search needs) (λ c. search needs) (λ c. search needs)
-    (λ c κs. search needs) (λ c. search needs) (λ c κs. search needs) same-length returns)
+    tie.close (tie.spec (search needs) (search needs) (search needs) (search needs) (search needs) (search needs) (search needs) (search needs) (search needs)
+    (search needs) (search needs) (λ c. put-length (returns c)) returns)

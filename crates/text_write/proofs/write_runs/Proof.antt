@@ -14,31 +14,13 @@ Inv-loop buf₀ at left right first runs n to₀ i₀ buf to i = Runs buf₀ to�
 abbrev μ-loop : tie.MeasureT-loop
 μ-loop buf₀ at left right first runs n to₀ i₀ buf to i = n - i
 
-loop-holds : tie.Need-loop-holds Inv-loop μ-loop
-loop-holds c = runs-start _ _ _ _ _ _ _ _ _ (c .before .before .before .before .before .part-length .ensures) (put-stays (c .before .before .put-word .ensures))
-
-add-write-run : tie.Need-add-write-run Inv-loop μ-loop
-add-write-run c = omega (arith, c .before .before .loop .inv .room)
-
-shared-slice-read-write-run : tie.Need-shared-slice-read-write-run Inv-loop μ-loop
-shared-slice-read-write-run c = omega (arith, c .before .before .before .loop .inv .room)
-
-add-write-run-2 : tie.Need-add-write-run-2 Inv-loop μ-loop
-add-write-run-2 c = omega (arith, c .before .before .before .loop .inv .room)
-
-shared-slice-read-write-run-2 : tie.Need-shared-slice-read-write-run-2 Inv-loop μ-loop
-shared-slice-read-write-run-2 c = omega (arith, c .before .before .before .before .loop .inv .room)
-
-loop-again : tie.Need-loop-again Inv-loop μ-loop
-loop-again c = runs-turn (c .before .before .before .before .before .before .before .loop .inv) (c .before .before .before .before .before .before .loop-test .taken) (c .before .before .write-run .ensures)
-
-same-length : tie.Need-same-length Inv-loop μ-loop
-same-length c = put-length (c .before .loop .inv .put) ∙ put-length (c .before .before .before .before .put-word .ensures)
-
-returns : tie.Need-returns Inv-loop μ-loop
-returns c = put-then (c .before .before .before .before .put-word .ensures) (runs-end (c .before .loop .inv) (c .loop-test .left))
-
 pub write-runs-spec : {M : Type 1} → statement M
 write-runs-spec =
-    tie.close (tie.spec Inv-loop μ-loop (λ c κs. search needs) (λ c. search needs) (λ c κs. search needs) loop-holds add-write-run (λ c. omega arith) shared-slice-read-write-run add-write-run-2
-    (λ c. omega arith) shared-slice-read-write-run-2 (λ c κs. search needs) (λ c. omega arith) (λ c. omega arith) loop-again same-length returns)
+    tie.close (tie.spec Inv-loop μ-loop (search needs) (search needs) (search needs)
+    (λ c. runs-start _ _ _ _ _ _ _ _ _ (c .before .before .before .before .before .part-length .ensures) (put-stays (c .before .before .put-word .ensures)))
+    (λ c. omega (arith, c .before .before .loop .inv .room)) (λ c. omega arith) (λ c. omega (arith, c .before .before .before .loop .inv .room))
+    (λ c. omega (arith, c .before .before .before .loop .inv .room)) (λ c. omega arith)
+    (λ c. omega (arith, c .before .before .before .before .loop .inv .room)) (search needs) (λ c. omega arith) (λ c. omega arith)
+    (λ c. runs-turn (c .before .before .before .before .before .before .before .loop .inv) (c .before .before .before .before .before .before .loop-test .taken) (c .before .before .write-run .ensures))
+    (λ c. put-length (c .before .loop .inv .put) ∙ put-length (c .before .before .before .before .put-word .ensures))
+    (λ c. put-then (c .before .before .before .before .put-word .ensures) (runs-end (c .before .loop .inv) (c .loop-test .left))))
