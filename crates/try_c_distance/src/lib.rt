@@ -198,7 +198,7 @@ fn normal_values(s: &[i32], from: usize, t: Sums, a: u64, room: &mut [i32])
 }
 
 // The sums of the next stretch, where there is one.
-fn sums_after(s: &[i32], from: usize, m: usize, t: Sums) -> Sums
+pub fn sums_after(s: &[i32], from: usize, m: usize, t: Sums) -> Sums
     requires { do ⌜ from + m ≤ (← ⟦s.len()⟧) ⌝ }
     requires { ⌜ m ≤ longestQuery ⌝ }
     requires { ⌜ AllIn (now s) ⌝ }

@@ -1,4 +1,5 @@
 // The match test for C, and what stands under it: whole roots, window sums and row numbers, the first value outside its limits. For tests/ and bench/ only.
+use try_c_distance::sums_after;
 use distance_match::match_at;
 use distance_query::Query;
 use distance_query::prepare;
