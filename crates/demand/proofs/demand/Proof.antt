@@ -13,8 +13,7 @@
 use Rattle.rows_records.proofs.Prelude.{refl, ℕ, List, [], _∷_, ℤ, length, URA, fullShare, named, Val, SProp, ent, emp, id⊢, via, fst∗, Memory, Routine, Heap, WpFn, Tables, Atoms, Lfts, Shares, Fun, factI, givenOf, tables, Given, Item, ⋆, _$_, _∵_, !, qed, by, move, keep, whole, sub, agg, look, init, stop, from, and-then, no-more, land, returns, enter, alloc1, alloc0, params1, pass1, pass0, FmC, fmOf, Is, i32, u64, u32, u16, RefT, ptr, now, name, sliceVal, Room, slice-vals, shr-slice-tells, mut-slice-tells, Meets, tripleOf, entered, cited, AtEntry, Data, struct, enum, Lent, value, kept, lends, token, viewed, lent-at, holds, empty, tidy, frees-all, calls-with, leaves-with, meets-with, loc, part, start, put-at}
 use contract.Running.{tablesOf}
 use Rattle.meaning_rows.specs.Index.{lent}
-use Rattle.meaning_entries.specs.Search.{lentSearch}
-use Rattle.meaning_entries.specs.Search.{searchBuffers}
+use Rattle.meaning_entries.specs.Search.{lentSearch, searchBuffers}
 use Rattle.meaning_entries.proofs.BothKept.{demand3-kept}
 use Rattle.meaning_filter.specs.declared.Ask.{Ask}
 use Rattle.meaning_filter.proofs.Ask as Askᵀ

@@ -1,4 +1,4 @@
--- Written by tools/walk from the plan in the lines marked |. Change those, and run `tools/walk program_answer build_table`.
+-- Written by tools/walk from the plan in the lines marked |. Change those, and run `tools/walk program_table build_table`.
 -- The table is lent to `build`, taken back, and handed out with what `build` answered.
 -- | a, made = build
 -- | t, out = table_of

@@ -1,4 +1,4 @@
--- Written by tools/walk from the plan in the lines marked |. Change those, and run `tools/walk program_answer write_table`.
+-- Written by tools/walk from the plan in the lines marked |. Change those, and run `tools/walk program_table write_table`.
 -- The first n records of the table are lent as a slice.
 -- | part: asked
 -- | a, made = write

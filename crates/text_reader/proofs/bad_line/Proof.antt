@@ -5,7 +5,7 @@
 -- | holds text: made .0
 -- | n, is = line
 -- | ends: is ∙ ap (λ (x : RefT (List ℕ)). lineOf (now x) (r .at)) (made .0) ∙ ap (lineOf (now text)) (made .1)
-use Rattle.rows_records.proofs.Prelude.{refl, _∙_, ap, ℕ, List, [], _∷_, length, URA, named, w64, Val, SProp, ent, emp, id⊢, via, fst∗, Memory, Routine, Heap, WpFn, Tables, Atoms, Lfts, Shares, Fun, factI, givenOf, tables, Given, Item, ⋆, _$_, _∵_, !, qed, by, move, keep, look, init, stop, from, and-then, no-more, land, returns, enter, alloc1, alloc0, params1, pass1, pass0, FmC, fmOf, Is, u8, RefT, now, sliceVal, Room, slice-vals, shr-slice-tells, Meets, tripleOf, entered, cited, AtEntry, uint, Lent, value, kept, views, token, viewed, holds, empty, tidy, frees-all, calls-with, leaves-with, meets-with, loc, Holder, holder, in-struct, same-view}
+use Rattle.rows_records.proofs.Prelude.{refl, _∙_, ap, ℕ, List, [], _∷_, length, URA, named, w64, Val, SProp, ent, emp, id⊢, via, fst∗, Memory, Routine, Heap, WpFn, Tables, Atoms, Lfts, Shares, Fun, factI, givenOf, tables, Given, Item, ⋆, _$_, _∵_, !, qed, by, move, keep, look, init, stop, from, and-then, no-more, land, returns, enter, alloc1, alloc0, params1, pass1, pass0, FmC, fmOf, Is, u8, RefT, now, sliceVal, Room, slice-vals, shr-slice-tells, Meets, tripleOf, entered, cited, AtEntry, uint, Lent, value, kept, token, viewed, holds, empty, tidy, frees-all, calls-with, leaves-with, meets-with, loc, views, Holder, holder, in-struct, same-view}
 use contract.Running.{tablesOf}
 use mir.Syntax.{erased}
 use denote.Ref.{NamedLft}

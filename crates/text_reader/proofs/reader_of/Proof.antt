@@ -1,7 +1,7 @@
 -- Written by tools/walk from the plan in the lines marked |. Change those, and run `tools/walk text_reader reader_of`.
 -- A reader is made of the slice and the number passed.
 -- | ends: (refl, refl)
-use Rattle.rows_records.proofs.Prelude.{refl, ℕ, List, [], _∷_, length, URA, named, w64, Val, SProp, ent, emp, id⊢, via, fst∗, Memory, Routine, Heap, WpFn, Tables, Atoms, Lfts, Shares, Fun, factI, givenOf, tables, Given, Item, ⋆, _$_, _∵_, !, qed, by, move, keep, agg, look, init, and-then, no-more, returns, enter, alloc1, alloc0, params1, pass1, pass0, FmC, fmOf, Is, u8, RefT, now, sliceVal, Room, slice-vals, shr-slice-tells, Meets, tripleOf, entered, AtEntry, uint, Lent, kept, token, viewed, holds, frees-all, leaves-holding, meets-with, loc, put-at, Holder, holder, in-struct, twin}
+use Rattle.rows_records.proofs.Prelude.{refl, ℕ, List, [], _∷_, length, URA, named, w64, Val, SProp, ent, emp, id⊢, via, fst∗, Memory, Routine, Heap, WpFn, Tables, Atoms, Lfts, Shares, Fun, factI, givenOf, tables, Given, Item, ⋆, _$_, _∵_, !, qed, by, move, keep, agg, look, init, and-then, no-more, returns, enter, alloc1, alloc0, params1, pass1, pass0, FmC, fmOf, Is, u8, RefT, now, sliceVal, Room, slice-vals, shr-slice-tells, Meets, tripleOf, entered, AtEntry, uint, Lent, kept, token, viewed, holds, frees-all, meets-with, loc, put-at, leaves-holding, Holder, holder, in-struct, twin}
 use contract.Running.{tablesOf}
 use mir.Syntax.{erased}
 use denote.Signature.{namedLft}

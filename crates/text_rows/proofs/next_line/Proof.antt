@@ -5,7 +5,7 @@
 -- | holds text: made .0
 -- | n, is = next_row: ready-on text p r made asked
 -- | ends: line-on text p r made is
-use Rattle.rows_records.proofs.Prelude.{refl, ℕ, List, [], _∷_, length, URA, named, w64, Val, SProp, ent, emp, id⊢, Memory, Routine, Heap, WpFn, Tables, Atoms, Lfts, Shares, Fun, factI, givenOf, tables, Given, Item, ⋆, _$_, _∵_, !, qed, by, move, keep, look, init, stop, from, and-then, no-more, land, returns, enter, alloc1, alloc0, params1, pass1, pass0, FmC, fmOf, Is, u8, RefT, now, sliceVal, Room, slice-vals, shr-slice-tells, Meets, tripleOf, entered, cited, needs, AtEntry, Data, uint, struct, enum, Lent, value, kept, views, token, viewed, holds, empty, tidy, frees-all, calls-with, leaves-with, meets-with, loc, part-of, Holder, holder, in-struct, same-view}
+use Rattle.rows_records.proofs.Prelude.{refl, ℕ, List, [], _∷_, length, URA, named, w64, Val, SProp, ent, emp, id⊢, Memory, Routine, Heap, WpFn, Tables, Atoms, Lfts, Shares, Fun, factI, givenOf, tables, Given, Item, ⋆, _$_, _∵_, !, qed, by, move, keep, look, init, stop, from, and-then, no-more, land, returns, enter, alloc1, alloc0, params1, pass1, pass0, FmC, fmOf, Is, u8, RefT, now, sliceVal, Room, slice-vals, shr-slice-tells, Meets, tripleOf, entered, cited, needs, AtEntry, Data, uint, struct, enum, Lent, value, kept, token, viewed, holds, empty, tidy, frees-all, calls-with, leaves-with, meets-with, loc, views, part-of, Holder, holder, in-struct, same-view}
 use contract.Running.{tablesOf}
 use mir.Syntax.{erased}
 use denote.Ref.{NamedLft}
