@@ -1,5 +1,4 @@
 // The match test for C, and what stands under it: whole roots, window sums and row numbers, the first value outside its limits. For tests/ and bench/ only.
-use try_c_distance::sums_after;
 use distance_match::match_at;
 use distance_query::Query;
 use distance_query::prepare;
@@ -12,6 +11,7 @@ use numbers::root;
 use numbers::row_number;
 use try_c_distance::all_in;
 use try_c_distance::fits;
+use try_c_distance::sums_after;
 use values::Place;
 use values::first_outside;
 use values::next_window;
