@@ -1,4 +1,4 @@
--- A local array in a walk, as `tools/walk` writes it: it is lent whole, as a `&mut [T]`, or its first k elements are, as a `&[T]`, for one call, and it is taken back. Nothing here names a type or a function.
+-- A local array in a walk, as the tool of walks writes it: it is lent whole, as a `&mut [T]`, or its first k elements are, as a `&[T]`, for one call, and it is taken back. Nothing here names a type or a function.
 --     array            the plain data `[T; n]`.        is-repeat       what is known of `[x; n]`
 --     Local            where a local array lies: its elements' type, how many there are, and its block
 --     mut-of, shr-of   the slice that it is lent as

@@ -1,4 +1,4 @@
--- A struct that holds a slice in field k, beside plain data, in a walk as `tools/walk` writes it. Nothing here names a type or a function.
+-- A struct that holds a slice in field k, beside plain data, in a walk as the tool of walks writes it. Nothing here names a type or a function.
 --     Holder, holder   its row, its machine value, and what is known of it
 --     in-struct        what the struct owns, of what its slice owns.       of-struct       what its slice owns, of what the struct owns
 --     same-view        what a lent slice owns, where it is named otherwise

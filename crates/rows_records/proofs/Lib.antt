@@ -1,4 +1,4 @@
--- The kit for walks: what tools/walk writes is made of it (Prelude passes on its names). Elements, loops, local arrays and structs that hold a slice; and the laws of chunks and of clearing.
+-- The kit for walks: what the tool of walks writes is made of it (Prelude passes on its names). Elements, loops, local arrays and structs that hold a slice; and the laws of chunks and of clearing.
 pub mod Walk
 pub mod Elem
 pub mod Again

@@ -1,4 +1,4 @@
--- Arguments and parameters passed on in a walk, as `tools/walk` writes it. Nothing here names a type or a function. A crate above says `use Rattle.rows_records.proofs.Passing.{..}`.
+-- Arguments and parameters passed on in a walk, as the tool of walks writes it. Nothing here names a type or a function. A crate above says `use Rattle.rows_records.proofs.Passing.{..}`.
 --     Data             a type of plain data in a walk: its row, a value's machine value, and that what it owns is had for nothing.        uint, sint, boolean, nothing, struct, enum     the types
 --     Lent             a slice that the function was lent, `&κ [T]` or `&κ mut [T]`: its row, the reference, the lifetime with a share of its token, and that its elements have room.        token, viewed, lent-at       that share; what a `&κ [T]` owns; what a `&κ mut [T]` owns at a list
 --     Arg              an argument of a call: a value; what is made of a copy of a `&κ [T]`, as that copy itself (`kept`) or a struct that holds it (`Holding`); a `&κ mut [T]` at the list that it holds, which is lent again for the call, as a `&mut` or as a `&`

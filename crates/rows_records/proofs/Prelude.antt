@@ -1,4 +1,4 @@
--- The names that every walk of `tools/walk` brings in, from one place.
+-- The names that every walk of the tool of walks brings in, from one place.
 pub use mathlib.Core.Path.{_≡_, refl, _∙_, sym, ap}
 pub use mathlib.Core.Bool.{Bool, not}
 pub use Prim.Native.Nat.{ℕ, _/_, _+_, _-_, _*_, _<_, _≤_}

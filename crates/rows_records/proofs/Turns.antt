@@ -1,4 +1,4 @@
--- Loops and elements of slices in a walk, as `tools/walk` writes it. Nothing here names a type or a function. A crate above says `use Rattle.rows_records.proofs.Turns.{..}`.
+-- Loops and elements of slices in a walk, as the tool of walks writes it. Nothing here names a type or a function. A crate above says `use Rattle.rows_records.proofs.Turns.{..}`.
 --     loops            a `while` and what follows it, over states s of any type: Δ s is what is had of slices and cs s what the locals hold before a turn, F s what is known, and μ s falls with each turn
 --     reads-lent, reads-shared     an element of a `&κ mut [T]`, or of a `&κ [T]`, is read into an empty local through the pointer in another one.        writes-lent    an element is written
 --     offset-fits      the byte offset of an element fits a usize.     sub-fits     a difference fits where the greater number does.      set-long     a list with an element written is as long.
