@@ -1,4 +1,4 @@
--- What a refused search answers, and the buffers of a search by their contents.
+-- What a refused search answers.
 use Rattle.meaning_entries.specs.declared.Found.{Found}
 use Rattle.refusals.specs.declared.Refusal.{Refusal}
 

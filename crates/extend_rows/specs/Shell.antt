@@ -1,4 +1,4 @@
--- What the walked parts of an extension ask and leave.
+-- What weaving an extension's rows asks and leaves.
 use mathlib.Core.Path.{_≡_}
 use mathlib.Core.List.{List}
 use Prim.Native.Nat.{ℕ, _+_, _-_, _*_, _≤_}

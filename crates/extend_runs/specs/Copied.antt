@@ -1,4 +1,4 @@
--- What the walked steps between the passes ask and leave, step by step.
+-- What copying the old runs of an extension asks and leaves.
 use mathlib.Core.Path.{_≡_}
 use mathlib.Core.List.{List}
 use Prim.Native.Nat.{ℕ}

@@ -1,4 +1,4 @@
--- What the covered steps of an extension ask and leave.
+-- What joining the first new run asks and leaves.
 use mathlib.Core.Path.{_≡_}
 use mathlib.Core.Bool.{Bool}
 use mathlib.Core.List.{List}
