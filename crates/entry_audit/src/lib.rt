@@ -1,17 +1,4 @@
 // The audit of a lent index against a series (01, Rows): refused, or yes, or the first row and offset filed wrongly, or how many windows stand nowhere. Any content may be lent. The sum slides inside a run: a value comes in, the window is tested, a value goes out, so no read needs a test.
-ghost use mathlib.Core.Path.{_≡_};
-ghost use mathlib.Core.Bool.{true};
-ghost use Prim.Native.Nat.{_+_, _-_, _<_};
-ghost use Rattle.meaning_curves.specs.Limits.{longestWindow};
-ghost use Rattle.meaning_curves.specs.Curve.{windowSum};
-ghost use Rattle.meaning_curves.proofs.Values.{AllIn};
-ghost use lib.ListN.{length};
-ghost use Rattle.meaning_rows.specs.Range.{inside};
-ghost use Rattle.meaning_entries.specs.Audit.{lentAudit};
-ghost use Rattle.meaning_entries.specs.Demand2.{AuditKept};
-ghost use Rattle.entry_audit.specs.Auditing.{Ready, chunked};
-ghost use Rattle.refusals.specs.Refusal.{refusalOf};
-ghost use Rattle.entry_audit.specs.Plan.{tableOf, leftOver, planOf, began, answerOf};
 use meaning_entries::Audited;
 use meaning_rows::Head;
 use meaning_rows::Row;
@@ -27,6 +14,19 @@ use rows_judge::Judged;
 use rows_judge::judge;
 use rows_records::chunk_at;
 use values::window_sum;
+ghost use mathlib.Core.Path.{_≡_};
+ghost use mathlib.Core.Bool.{true};
+ghost use Prim.Native.Nat.{_+_, _-_, _<_};
+ghost use Rattle.meaning_curves.specs.Limits.{longestWindow};
+ghost use Rattle.meaning_curves.specs.Curve.{windowSum};
+ghost use Rattle.meaning_curves.proofs.Values.{AllIn};
+ghost use lib.ListN.{length};
+ghost use Rattle.meaning_rows.specs.Range.{inside};
+ghost use Rattle.meaning_entries.specs.Audit.{lentAudit};
+ghost use Rattle.meaning_entries.specs.Demand2.{AuditKept};
+ghost use Rattle.entry_audit.specs.Auditing.{Ready, chunked};
+ghost use Rattle.refusals.specs.Refusal.{refusalOf};
+ghost use Rattle.entry_audit.specs.Plan.{tableOf, leftOver, planOf, began, answerOf};
 
 // What is known after some rows: that the audit goes on, or else the row and offset filed wrongly.
 pub struct RowsAudited {

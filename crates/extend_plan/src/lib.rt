@@ -1,6 +1,4 @@
 // What refuses an extension, by its series, by what judging said of the index and by how many entries the buffers hold.
-ghost use mathlib.Core.Path.{_≡_};
-ghost use Rattle.extend_plan.specs.Plan.{planOf};
 use meaning_rows::Head;
 use refusals::Refusal;
 use refusals::more;
@@ -9,6 +7,8 @@ use refusals::refuse_judged;
 use refusals::refuse_room;
 use refusals::refuse_series;
 use rows_judge::Judged;
+ghost use mathlib.Core.Path.{_≡_};
+ghost use Rattle.extend_plan.specs.Plan.{planOf};
 
 // The plan of an extension.
 pub fn make_plan(series: &[i32], head: Head, j: Judged, rows: usize, runs: usize) -> Refusal

@@ -1,4 +1,16 @@
 // The audit of an index text against a series line, for the C payout program (01, Text and program): both texts are read before anything is judged, the answer is packed into a number, and nothing is lent. Any bytes may be handed over.
+use meaning_curves::MOST_PROGRAM_VALUES;
+use meaning_curves::MOST_VALUES;
+use meaning_entries::Audited;
+use meaning_rows::Head;
+use payout_answer::audit_series;
+use payout_line::Line;
+use payout_line::read_line;
+use refusals::length_in;
+use text_judge::Rows;
+use text_judge::Scanned;
+use text_judge::scan;
+use text_reader::bad_line;
 ghost use mathlib.Core.Path.{_≡_};
 ghost use Prim.Native.Nat.{_+_, _*_, _<_, _≤_, _^_};
 ghost use lib.ListN.{length};
@@ -12,18 +24,6 @@ ghost use Rattle.meaning_entries.specs.Demand2.{AuditTextKept};
 ghost use Rattle.text_judge.specs.declared.Scanned.{Scanned};
 ghost use Rattle.text_judge.specs.Tally.{scanned};
 ghost use Rattle.payout.specs.Counted.{countedAnswer};
-use meaning_curves::MOST_PROGRAM_VALUES;
-use meaning_curves::MOST_VALUES;
-use meaning_entries::Audited;
-use meaning_rows::Head;
-use payout_answer::audit_series;
-use payout_line::Line;
-use payout_line::read_line;
-use refusals::length_in;
-use text_judge::Rows;
-use text_judge::Scanned;
-use text_judge::scan;
-use text_reader::bad_line;
 
 // What a row counts in the number of a window filed wrongly.
 const VALUES: u64 = MOST_VALUES as u64;

@@ -1,14 +1,14 @@
 // The series line of the audit of two texts, read as a whole: whether it can be read, how many values it has, and as many of them as there is room for, clamped to 32 bits.
-ghost use mathlib.Core.Path.{_≡_};
-ghost use Rattle.meaning_text.specs.Read.{readText};
-ghost use Rattle.meaning_text.specs.Texts.{seriesForm};
-ghost use Rattle.payout_line.specs.Line.{startLine, lineEnd, lineRead, Stored};
 use text_feed::Feeding;
 use text_feed::Progress;
 use text_feed::Values;
 use text_feed::feed;
 use text_lines::State;
 use text_lines::Word;
+ghost use mathlib.Core.Path.{_≡_};
+ghost use Rattle.meaning_text.specs.Read.{readText};
+ghost use Rattle.meaning_text.specs.Texts.{seriesForm};
+ghost use Rattle.payout_line.specs.Line.{startLine, lineEnd, lineRead, Stored};
 
 // A line cannot be read from a place on; or how many values it has.
 pub enum Line {

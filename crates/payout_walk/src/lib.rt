@@ -1,9 +1,4 @@
 // The rows of an index text audited against a series in one pass over its bytes (01, Rows): a run is audited where its right end is read, as a row of one run, and nothing is kept of it. The pass stops at the first offset filed wrongly.
-ghost use mathlib.Core.Path.{_≡_};
-ghost use mathlib.Core.Bool.{_&&_};
-ghost use Prim.Native.Nat.{_+_, _<_, _^_};
-ghost use lib.Dec.{leb};
-ghost use Rattle.payout_walk.specs.Walk.{Sized, startWalk, afterRun, tellWalk, shutWalk, Walked};
 use entry_audit::RowsAudited;
 use entry_audit::audit_chunk;
 use meaning_rows::Head;
@@ -15,6 +10,11 @@ use text_index::Moved;
 use text_index::State;
 use text_index::Word;
 use text_index::index_step;
+ghost use mathlib.Core.Path.{_≡_};
+ghost use mathlib.Core.Bool.{_&&_};
+ghost use Prim.Native.Nat.{_+_, _<_, _^_};
+ghost use lib.Dec.{leb};
+ghost use Rattle.payout_walk.specs.Walk.{Sized, startWalk, afterRun, tellWalk, shutWalk, Walked};
 
 // What is known of a text so far: the range of the row that is open, the left end of the run that is open, how many rows are closed, and what is filed wrongly first.
 pub struct Walk {

@@ -1,6 +1,14 @@
 // RowsJudged a lent index: whether it is well formed, and else the first bad row (01, Rows). The head is judged first. Any content may be lent, and no sum wraps.
+use meaning_curves::HIGHEST_END;
+use meaning_curves::LONGEST_WINDOW;
+use meaning_curves::LOWEST_END;
+use meaning_curves::MOST_VALUES;
+use meaning_curves::WIDEST_ROW;
+use meaning_rows::Head;
+use meaning_rows::Row;
 use numbers::magnitude;
 use numbers::shorter;
+use rows_records::row_at;
 ghost use mathlib.Core.Path.{_≡_};
 ghost use mathlib.Core.Bool.{_&&_};
 ghost use mathlib.Core.List.{[]};
@@ -15,14 +23,6 @@ ghost use Rattle.meaning_rows.specs.Index.{lent, entries};
 ghost use Rattle.meaning_rows.specs.Judge.{headGood, rangeGood};
 ghost use Rattle.rows_judge.specs.Judged.{judgedOf};
 ghost use Rattle.rows_judge.specs.Judging.{start, room, fits, scan, after, next, verdictOf};
-use meaning_curves::HIGHEST_END;
-use meaning_curves::LONGEST_WINDOW;
-use meaning_curves::LOWEST_END;
-use meaning_curves::MOST_VALUES;
-use meaning_curves::WIDEST_ROW;
-use meaning_rows::Head;
-use meaning_rows::Row;
-use rows_records::row_at;
 
 // The most windows of an index.
 const WINDOWS: u32 = MOST_VALUES as u32;

@@ -1,10 +1,10 @@
 // The lent row records: the functions that read, copy and clear them. Above, a function that takes `&[Row]` or `&mut [Row]` is thin and calls these; what it calls besides works on a `Row` by value, on a chunk of records by value, and on slices of numbers.
+use meaning_rows::Row;
 ghost use mathlib.Core.Path.{_≡_};
 ghost use mathlib.Core.List.{_++_};
 ghost use Prim.Native.Nat.{_+_, _-_, _<_, _≤_};
 ghost use lib.ListN.{length, getD, take, replicate};
 ghost use Rattle.rows_records.specs.Records.{zeroRow, copied, countFrom, chunkOf};
-use meaning_rows::Row;
 
 // The record of zeros.
 pub fn zero_row() -> Row

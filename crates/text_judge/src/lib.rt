@@ -1,19 +1,8 @@
 // Judging an index text in one pass over its bytes, whatever its length: whether it can be read, how many rows and runs it has, and the first bad row of its index (01, Rows). Nothing is kept of a row that is closed but where it ended.
-use numbers::hold;
-ghost use mathlib.Core.Path.{_≡_};
-ghost use Prim.Native.Nat.{_+_, _<_, _≤_, _^_};
-ghost use Rattle.meaning_text.specs.Read.{readText};
-ghost use Rattle.meaning_text.specs.Texts.{indexForm};
-ghost use Rattle.meaning_text.proofs.Automaton.{atEnd};
-ghost use Rattle.text_index.specs.declared.Field.{Field};
-ghost use Rattle.text_index.specs.View.{keptAt};
-ghost use Rattle.text_event.specs.Event.{RunsFrom};
-ghost use Rattle.text_judge.specs.Tally.{noRuns, runNext, Sound, noRows, rowNext, withHead, withOpen, tellTally, shutTally, toldRun, Fits, startTally, scanned, keptScanned};
-ghost use Rattle.text_judge.specs.Judged.{judgedRows};
-ghost use lib.ListN.{length};
 use meaning_curves::LOWEST_END;
 use meaning_rows::Head;
 use meaning_rows::Row;
+use numbers::hold;
 use numbers::narrow;
 use rows_judge::Judged;
 use rows_judge::head_good;
@@ -30,6 +19,17 @@ use text_index::Field;
 use text_index::State;
 use text_index::Turn;
 use text_index::Word;
+ghost use mathlib.Core.Path.{_≡_};
+ghost use Prim.Native.Nat.{_+_, _<_, _≤_, _^_};
+ghost use Rattle.meaning_text.specs.Read.{readText};
+ghost use Rattle.meaning_text.specs.Texts.{indexForm};
+ghost use Rattle.meaning_text.proofs.Automaton.{atEnd};
+ghost use Rattle.text_index.specs.declared.Field.{Field};
+ghost use Rattle.text_index.specs.View.{keptAt};
+ghost use Rattle.text_event.specs.Event.{RunsFrom};
+ghost use Rattle.text_judge.specs.Tally.{noRuns, runNext, Sound, noRows, rowNext, withHead, withOpen, tellTally, shutTally, toldRun, Fits, startTally, scanned, keptScanned};
+ghost use Rattle.text_judge.specs.Judged.{judgedRows};
+ghost use lib.ListN.{length};
 
 // The runs of a row so far: how many, that they are good, the least left end that the next may have, and their lengths added up.
 pub struct Runs {

@@ -1,9 +1,4 @@
 // The entries over lent records for C: for the comparison under tests/ and the measurements under bench/, and for nothing else. Each takes what the entry takes, calls it, and tells its answer as a struct of numbers.
-ghost use mathlib.Core.Path.{_≡_};
-ghost use Rattle.meaning_entries.specs.Audit.{lentAudit, auditAnswer};
-ghost use Rattle.meaning_entries.specs.Build.{lentBuild};
-ghost use Rattle.meaning_entries.specs.Extend.{lentExtend};
-ghost use Rattle.try_c_index.specs.Told.{numbersOf, toldAudited, indexOf, toldBuilt, BuildTold, toldExtended, ExtendTold};
 use entry_audit::audit;
 use entry_build::build;
 use entry_extend::extend;
@@ -12,6 +7,11 @@ use meaning_entries::Built;
 use meaning_entries::Extended;
 use meaning_rows::Head;
 use meaning_rows::Row;
+ghost use mathlib.Core.Path.{_≡_};
+ghost use Rattle.meaning_entries.specs.Audit.{lentAudit, auditAnswer};
+ghost use Rattle.meaning_entries.specs.Build.{lentBuild};
+ghost use Rattle.meaning_entries.specs.Extend.{lentExtend};
+ghost use Rattle.try_c_index.specs.Told.{numbersOf, toldAudited, indexOf, toldBuilt, BuildTold, toldExtended, ExtendTold};
 
 // An answer: its kind, 3 where the call is refused, a head where it has one, and two numbers.
 #[repr(C)]

@@ -1,7 +1,4 @@
 // The entry that searches for C: for the comparison under tests/ and the measurements under bench/, and for nothing else. It takes what the entry takes, the kind and the limits as a struct of numbers, calls it, and tells its answer as one.
-ghost use mathlib.Core.Path.{_≡_};
-ghost use Rattle.meaning_entries.specs.Search.{lentSearch};
-ghost use Rattle.try_c_search.specs.Told.{kindOf, limitsOf, askOf, numbersOf, toldFound, SearchTold};
 use entry_search::search;
 use meaning_entries::Found;
 use meaning_filter::Ask;
@@ -9,6 +6,9 @@ use meaning_filter::Kind;
 use meaning_filter::Limits;
 use meaning_rows::Head;
 use meaning_rows::Row;
+ghost use mathlib.Core.Path.{_≡_};
+ghost use Rattle.meaning_entries.specs.Search.{lentSearch};
+ghost use Rattle.try_c_search.specs.Told.{kindOf, limitsOf, askOf, numbersOf, toldFound, SearchTold};
 
 // What a search is asked for beside its query: the kind, 0 for raw and any other number for normalised; band, threshold, scale limit in tenths, shift limit.
 #[repr(C)]
