@@ -1,9 +1,5 @@
 -- The count of windows is reckoned without a wrap.
-use Prim.Native.Nat.{ℕ, _+_, _<_, _≤_, _^_}
-use native.Mathlib.Omega.{arith}
-use mathlib.Core.List.{List}
-use lib.IntN.{ℤ}
-use lib.ListN.{length}
+use Rattle.meaning_numbers.proofs.Prelude.{ℕ, _+_, _<_, _≤_, _^_, arith, List, ℤ, length}
 use Rattle.sums_slide.specs.Levels.{Lent}
 
 module _ {s : List ℤ} {w e : ℕ} (h : Lent s w e) where

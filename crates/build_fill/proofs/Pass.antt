@@ -1,30 +1,15 @@
 -- Laws of specs/Pass.
-use mathlib.Core.Path.{_≡_, sym, ap, _∙_, subst}
-use mathlib.Core.Bool.{Bool, true, false}
-use mathlib.Core.List.{List}
-use Prim.Native.Nat.{ℕ, _+_, _-_, _<_, _≤_}
-use native.Mathlib.Omega.{arith}
-use native.Mathlib.Decide.{decLt}
-use lib.IntN.{ℤ}
-use lib.ListN.{getD, set}
-use lib.Signed.{_≤ℤ_, _<ℤ_}
-use Rattle.meaning_numbers.proofs.Rep.{zarith}
+use Rattle.meaning_numbers.proofs.Prelude.{_≡_, sym, ap, _∙_, subst, Bool, true, false, List, ℕ, _+_, _-_, _<_, _≤_, arith, decLt, ℤ, getD, set, _≤ℤ_, _<ℤ_, zarith}
 use Rattle.meaning_curves.specs.Curve.{windowSum}
-use Rattle.meaning_rows.specs.declared.Row.{Row}
-use Rattle.meaning_rows.specs.Range.{inside}
-use Rattle.meaning_rows.specs.Runs.{runCount}
-use Rattle.meaning_rows.proofs.Range.{is-inside, inside-below, inside-above}
-use Rattle.meaning_rows.proofs.Cursors.{fileRight}
+use Rattle.meaning_rows.specs.{declared.Row.Row, Range.inside, Runs.runCount}
+use Rattle.meaning_rows.proofs.{Range.is-inside, Range.inside-below, Range.inside-above, Cursors.fileRight}
 use Rattle.rows_records.specs.Records.{zeroRow}
-use Rattle.sums_slide.specs.declared.Window.{Window}
-use Rattle.sums_slide.specs.Levels.{windowsOf}
-use Rattle.sums_slide.specs.Change.{Change}
-use Rattle.rows_find.specs.Search.{Climbs, Reached, FoundRow}
+use Rattle.sums_slide.specs.{declared.Window.Window, Levels.windowsOf, Change.Change}
 use Rattle.build_parts.specs.Part.{written}
 use Rattle.build_parts.specs.Filling.{partStart, parts-laid, Filling, RunOf, some-left, cursor-is, filling-run}
-use Rattle.build_fill.specs.Turn.{At, TurnAsked, Turned}
+use Rattle.rows_find.specs.Search.{Climbs, Reached, FoundRow}
+use Rattle.build_fill.specs.{Turn.At, Turn.TurnAsked, Turn.Turned, Pass.Rowed, Pass.Passable, Pass.PassMade}
 use Rattle.build_fill.proofs.Turn.{change-held}
-use Rattle.build_fill.specs.Pass.{Rowed, Passable, PassMade}
 pub use Rattle.build_parts.proofs.Lent.{lentFrom, backAt, lent-is, back-same, back-set}
 
 module _ {P : ℕ → ℕ → Bool} {sum : ℕ → ℤ} {from windows : ℕ} {rows : List Row} {n : ℕ} (h : Rowed P sum from windows rows n) where

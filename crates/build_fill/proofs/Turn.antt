@@ -1,20 +1,10 @@
 -- Laws of specs/Turn.
-use mathlib.Core.Path.{_≡_, refl, sym, _∙_}
-use mathlib.Core.Bool.{Bool, true}
-use mathlib.Core.List.{List}
-use Prim.Native.Nat.{ℕ, _+_, _*_, _<_, _≤_}
-use native.Mathlib.Omega.{arith}
-use native.Mathlib.Decide.{decLt}
-use lib.IntN.{ℤ}
-use Rattle.meaning_numbers.proofs.Tests.{clash}
+use Rattle.meaning_numbers.proofs.Prelude.{_≡_, refl, sym, _∙_, Bool, true, List, ℕ, _+_, _*_, _<_, _≤_, arith, decLt, ℤ, clash}
 use Rattle.meaning_curves.specs.Curve.{windowSum}
 use Rattle.meaning_rows.specs.Range.{inside}
-use Rattle.sums_slide.specs.declared.Window.{Window}
+use Rattle.sums_slide.specs.{declared.Window.Window, Ends.raisedEnd, Change.Change, Change.Stop}
 use Rattle.sums_slide.specs.Levels.{level, placeFrom, Lent, windowsOf, level-small}
-use Rattle.sums_slide.proofs.Levels.{level-is}
-use Rattle.sums_slide.specs.Ends.{raisedEnd}
-use Rattle.sums_slide.proofs.EndsLaws.{within-is}
-use Rattle.sums_slide.specs.Change.{Change, Stop}
+use Rattle.sums_slide.proofs.{Levels.level-is, EndsLaws.within-is}
 use Rattle.build_fill.specs.Turn.{At}
 
 -- the first window

@@ -1,18 +1,15 @@
 -- The pass over the windows: rows as records with ranges and parts (`Rowed`), what holds where a turn begins, and a turn over plain variables.
-use mathlib.Core.Path.{_≡_}
-use mathlib.Core.Bool.{Bool, true}
-use mathlib.Core.List.{List}
 use Prim.Native.Nat.{ℕ, _<_, _≤_}
 use lib.IntN.{ℤ}
 use lib.ListN.{length, getD}
 use lib.Signed.{_≤ℤ_}
+use mathlib.Core.Bool.{Bool, true}
+use mathlib.Core.List.{List}
+use mathlib.Core.Path.{_≡_}
 use Rattle.meaning_curves.specs.Curve.{windowSum}
-use Rattle.meaning_rows.specs.declared.Row.{Row}
-use Rattle.meaning_rows.specs.Range.{inside}
-use Rattle.meaning_rows.specs.Runs.{runCount}
+use Rattle.meaning_rows.specs.{declared.Row.Row, Range.inside, Runs.runCount}
 use Rattle.rows_records.specs.Records.{zeroRow}
-use Rattle.sums_slide.specs.declared.Window.{Window}
-use Rattle.sums_slide.specs.Levels.{windowsOf}
+use Rattle.sums_slide.specs.{declared.Window.Window, Levels.windowsOf}
 use Rattle.build_parts.specs.Filling.{Filling}
 use Rattle.build_fill.specs.Turn.{Small, At}
 pub use Rattle.build_parts.specs.Filling.{partStart, partsTotal, filling-start, parts-laid}

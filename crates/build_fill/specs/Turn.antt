@@ -1,19 +1,16 @@
 -- A turn of the pass: one run of windows with sums in the range of a row, filed in the row's part.
-use mathlib.Core.Path.{_≡_}
-use mathlib.Core.Bool.{true}
-use mathlib.Core.List.{List}
 use Prim.Native.Nat.{ℕ, _+_, _-_, _<_, _≤_}
 use lib.IntN.{ℤ, pos, negsuc}
 use lib.ListN.{set}
 use lib.Signed.{_≤ℤ_}
+use mathlib.Core.Bool.{true}
+use mathlib.Core.List.{List}
+use mathlib.Core.Path.{_≡_}
 use Rattle.meaning_numbers.proofs.Rep.{up}
 use Rattle.meaning_curves.specs.Curve.{windowSum}
-use Rattle.meaning_rows.specs.declared.Row.{Row}
-use Rattle.meaning_rows.specs.Range.{inside}
+use Rattle.meaning_rows.specs.{declared.Row.Row, Range.inside}
 use Rattle.meaning_rows.proofs.Cursors.{fileRight}
-use Rattle.sums_slide.specs.declared.Window.{Window}
-use Rattle.sums_slide.specs.Levels.{level, Lent, windowsOf}
-use Rattle.sums_slide.specs.Change.{Change}
+use Rattle.sums_slide.specs.{declared.Window.Window, Levels.level, Levels.Lent, Levels.windowsOf, Change.Change}
 use Rattle.build_parts.specs.Part.{written, PartRoom}
 
 -- both ends are far from what 32 bits hold

@@ -1,25 +1,20 @@
 -- Laws of specs/Laid.
-use mathlib.Core.Path.{_≡_, sym, ap, _∙_}
-use mathlib.Core.List.{List, _++_, map}
 use Prim.Native.Nat.{ℕ, _+_, _*_, _≤_}
-use native.Mathlib.Omega.{arith}
 use lib.IntN.{ℤ}
 use lib.ListN.{length, take, drop, length-map}
 use lib.Seq.{take-append-seam}
+use mathlib.Core.List.{List, _++_, map}
+use mathlib.Core.Path.{_≡_, sym, ap, _∙_}
+use native.Mathlib.Omega.{arith}
 use Rattle.meaning_curves.specs.Curve.{windowSum}
-use Rattle.meaning_rows.specs.declared.Row.{Row}
-use Rattle.meaning_rows.specs.Index.{records}
+use Rattle.meaning_rows.specs.{declared.Row.Row, Index.records}
 use Rattle.meaning_rows.specs.Build.{SetRow, rowNumbers, rowAt, filed, withRuns, builtRows}
-use Rattle.meaning_rows.proofs.Laid.{length-records}
-use Rattle.meaning_rows.proofs.Build.{merged-none}
-use Rattle.sums_slide.specs.Levels.{windowsOf}
-use Rattle.sums_slide.specs.Table.{table}
+use Rattle.meaning_rows.proofs.{Laid.length-records, Build.merged-none}
+use Rattle.sums_slide.specs.{Levels.windowsOf, Table.table}
 use Rattle.sums_count.specs.Numbers.{lowered}
 use Rattle.sums_count.proofs.Numbers.{table-numbers}
-use Rattle.rows_pack.specs.Packed.{Packable, packed}
-use Rattle.rows_pack.proofs.Packed.{length-packed}
-use Rattle.rows_pack.specs.PackedAs.{PackedAs}
-use Rattle.rows_pack.proofs.Records.{table-fits, table-packable, built-records}
+use Rattle.rows_pack.specs.{Packed.Packable, Packed.packed, PackedAs.PackedAs}
+use Rattle.rows_pack.proofs.{Packed.length-packed, Records.table-fits, Records.table-packable, Records.built-records}
 use Rattle.build_lay.specs.Laid.{LayAsked, LaidOut}
 
 module _ {s : List ℤ} {w e d : ℕ} {left₀ right₀ : List ℕ} (a : LayAsked s w e d left₀ right₀) where

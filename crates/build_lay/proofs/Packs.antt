@@ -1,16 +1,14 @@
 -- What packing the records of a series' rows asks and gives, once the rows are laid out.
-use mathlib.Core.List.{List}
 use Prim.Native.Nat.{ℕ, _+_, _*_, _≤_}
-use native.Mathlib.Omega.{arith}
-use mathlib.Core.Path.{_≡_}
 use lib.IntN.{ℤ}
 use lib.ListN.{length}
+use mathlib.Core.List.{List}
+use mathlib.Core.Path.{_≡_}
+use native.Mathlib.Omega.{arith}
 use Rattle.meaning_curves.specs.Curve.{windowSum}
-use Rattle.meaning_rows.specs.declared.Row.{Row}
-use Rattle.meaning_rows.specs.Build.{filed}
+use Rattle.meaning_rows.specs.{declared.Row.Row, Build.filed}
 use Rattle.sums_slide.specs.Levels.{windowsOf}
-use Rattle.rows_pack.specs.Packed.{Packable, packed}
-use Rattle.rows_pack.specs.PackedAs.{PackedAs}
+use Rattle.rows_pack.specs.{Packed.Packable, Packed.packed, PackedAs.PackedAs}
 use Rattle.build_lay.specs.Laid.{LayAsked, LaidOut}
 use Rattle.build_lay.proofs.Laid.{rows-fit, laid-packable, laid-packed}
 

@@ -1,11 +1,10 @@
 -- The rows of a series laid out: their numbers and where their parts end, and what is packed of these.
-use mathlib.Core.Path.{_≡_}
-use mathlib.Core.List.{List}
 use Prim.Native.Nat.{ℕ, _+_, _*_, _≤_}
 use lib.IntN.{ℤ}
 use lib.ListN.{length, getD, take}
-use Rattle.sums_slide.specs.Levels.{level, rowOf, windowsOf, Lent}
-use Rattle.sums_slide.specs.Table.{table}
+use mathlib.Core.List.{List}
+use mathlib.Core.Path.{_≡_}
+use Rattle.sums_slide.specs.{Levels.level, Levels.rowOf, Levels.windowsOf, Levels.Lent, Table.table}
 use Rattle.sums_count.specs.Tally.{Counted}
 use Rattle.rows_pack.specs.Packed.{Summed}
 

@@ -1,31 +1,17 @@
 -- Laws of specs/Merging.
-use mathlib.Core.Path.{_≡_, refl, sym, ap, _∙_}
-use mathlib.Core.Bool.{true, false}
-use mathlib.Core.List.{List, [], _∷_, _++_, map, append-assoc}
-use Prim.Native.Nat.{ℕ, suc, _+_, _*_, _<_, _≤_}
-use native.Mathlib.Omega.{arith}
-use native.Mathlib.Numerals.{add-one}
-use lib.Dec.{ltb}
-use lib.ListN.{length, getD, take, drop, set, length-map, length-append, length-set}
-use lib.Seq.{drop-cons, take-set-le, drop-set-lt, take-suc-set}
 use Rattle.meaning_numbers.specs.Sum.{count}
 use Rattle.meaning_numbers.proofs.Sum.{Σℕ-none, Σℕ-more, Σℕ-fewer}
-use Rattle.meaning_numbers.proofs.Tests.{by-test}
-use Rattle.meaning_rows.specs.declared.Row.{Row}
-use Rattle.meaning_rows.specs.Runs.{runs, runCount}
-use Rattle.meaning_rows.specs.Index.{records}
+use Rattle.meaning_numbers.proofs.Prelude.{_≡_, refl, sym, ap, _∙_, true, false, List, [], _∷_, _++_, map, append-assoc, ℕ, suc, _+_, _*_, _<_, _≤_, arith, add-one, ltb, length, getD, take, drop, set, length-map, length-append, length-set, drop-cons, take-set-le, drop-set-lt, take-suc-set, by-test}
+use Rattle.meaning_rows.specs.{declared.Row.Row, Runs.runs, Runs.runCount, Index.records}
 use Rattle.meaning_rows.specs.Build.{SetRow, join, takes, upward, merged, entry, withRuns}
-use Rattle.meaning_rows.proofs.Runs.{runs-cong, runs-le}
-use Rattle.meaning_rows.proofs.Build.{upward-yes, upward-no}
+use Rattle.meaning_rows.proofs.{Runs.runs-cong, Runs.runs-le, Build.upward-yes, Build.upward-no}
 use Rattle.rows_records.specs.Records.{zeroRow}
 use Rattle.sums_slide.specs.Levels.{within}
 use Rattle.sums_count.specs.Tally.{isRow}
 use Rattle.rows_pack.specs.PackedAs.{PackedAs}
-use Rattle.build_merge.specs.declared.Group.{Group}
-use Rattle.build_merge.specs.Names.{NamedRow}
-use Rattle.build_merge.proofs.Names.{group, group-one, group-more, runs-merged}
+use Rattle.build_merge.specs.{declared.Group.Group, Names.NamedRow, Merging.Numbered, Merging.partAt, Merging.Rows, Merging.Ready}
 use Rattle.build_merge.specs.Group.{touching, firstGroup, unionRuns, joined, begun, nextGroup, Joinable}
-use Rattle.build_merge.specs.Merging.{Numbered, partAt, Rows, Ready}
+use Rattle.build_merge.proofs.Names.{group, group-one, group-more, runs-merged}
 
 -- ---- records of rows, one by one
 

@@ -1,20 +1,9 @@
 -- Laws of specs/Names.
-use mathlib.Core.Path.{_≡_, refl, sym, ap}
-use mathlib.Core.Bool.{Bool, false, _&&_, _||_, and-false}
-use mathlib.Core.List.{List, [], _∷_}
-use Prim.Native.Nat.{ℕ, zero, suc, _+_, _<_, _≤_}
-use native.Mathlib.Omega.{arith}
-use native.Mathlib.Decide.{decLe}
-use lib.Dec.{leb, ltb, eqb}
-use lib.ListN.{length, getD}
-use borrow.Author.Tests.{leb-true, leb-false, ltb-true, ltb-false, eqb-true, eqb-false, lt-ltb, le-ltb, le-leb, lt-leb}
 use Rattle.meaning_numbers.specs.Sum.{bit, count}
 use Rattle.meaning_numbers.proofs.Count.{count-shift}
-use Rattle.meaning_numbers.proofs.Tests.{by-test}
+use Rattle.meaning_numbers.proofs.Prelude.{_≡_, refl, sym, ap, Bool, false, _&&_, _||_, and-false, List, [], _∷_, ℕ, zero, suc, _+_, _<_, _≤_, arith, decLe, leb, ltb, eqb, length, getD, leb-true, leb-false, ltb-true, ltb-false, eqb-true, eqb-false, lt-ltb, le-ltb, le-leb, lt-leb, by-test}
 use Rattle.meaning_rows.specs.Runs.{before, runs, runCount}
-use Rattle.meaning_rows.proofs.Runs.{either, runs-cong}
-use Rattle.meaning_rows.proofs.Columns.{lefts, rights, length-lefts, length-rights}
-use Rattle.meaning_rows.proofs.Neighbours.{sumOver, runs-joined}
+use Rattle.meaning_rows.proofs.{Runs.either, Runs.runs-cong, Columns.lefts, Columns.rights, Columns.length-lefts, Columns.length-rights, Neighbours.sumOver, Neighbours.runs-joined}
 use Rattle.sums_slide.specs.Levels.{within}
 use Rattle.sums_count.specs.Tally.{isRow}
 use Rattle.build_merge.specs.Names.{nameAt, nameBefore, namesOf, NamedRow}

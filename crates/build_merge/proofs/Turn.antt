@@ -1,16 +1,9 @@
 -- A turn of merging over plain variables: what the loop keeps, that the calls may be made and the places are there, how it starts, moves and ends.
-use mathlib.Core.Path.{_≡_, subst}
-use Prim.Native.Nat.{ℕ, _<_, _≤_, _^_, _+_}
-use native.Mathlib.Omega.{arith}
-use mathlib.Core.List.{List}
-use lib.ListN.{length, set, getD}
-use Rattle.meaning_rows.specs.declared.Row.{Row}
-use Rattle.meaning_rows.specs.Build.{merged}
+use Rattle.meaning_numbers.proofs.Prelude.{_≡_, subst, ℕ, _<_, _≤_, _^_, _+_, arith, List, length, set, getD}
+use Rattle.meaning_rows.specs.{declared.Row.Row, Build.merged}
 use Rattle.rows_records.specs.Records.{zeroRow}
 use Rattle.rows_pack.specs.PackedAs.{PackedAs}
-use Rattle.build_merge.specs.declared.Group.{Group}
-use Rattle.build_merge.specs.Group.{firstGroup, nextGroup, Joinable}
-use Rattle.build_merge.specs.Merging.{Rows, Ready, Mergeable}
+use Rattle.build_merge.specs.{declared.Group.Group, Group.firstGroup, Group.nextGroup, Group.Joinable, Merging.Rows, Merging.Ready, Merging.Mergeable}
 use Rattle.build_merge.proofs.Merging.{Merging, merging-start, merging-turn, merging-place, merging-joinable, merging-end}
 
 module _ (ys : List Row) (n : ℕ) (us ws : List ℕ) (g : ℕ) (asked : Mergeable ys n us ws × (g ≤ 100)) where

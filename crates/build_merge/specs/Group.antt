@@ -1,13 +1,12 @@
 -- The group of rows on the way, and the group after one row more: the row is taken in, or begins the next group (`nextGroup`).
-use mathlib.Core.Bool.{cond}
-use mathlib.Core.List.{List}
 use Prim.Native.Nat.{ℕ, _+_, _-_, _*_, _<_, _≤_}
 use lib.Dec.{ltb}
 use lib.ListN.{length}
+use mathlib.Core.Bool.{cond}
+use mathlib.Core.List.{List}
 use Rattle.meaning_numbers.specs.Sum.{count}
 use Rattle.meaning_rows.specs.declared.Row.{Row}
-use Rattle.build_merge.specs.declared.Group.{Group}
-use Rattle.build_merge.specs.Names.{namesOf}
+use Rattle.build_merge.specs.{declared.Group.Group, Names.namesOf}
 
 -- the group of the first row
 abbrev pub firstGroup : Row → Group

@@ -1,12 +1,10 @@
 -- Merging over packed rows. The rows are sets of windows, window j in row `row j`; the decision is that of `takes`, by counts of names.
-use mathlib.Core.Path.{_≡_}
-use mathlib.Core.List.{List, [], _∷_}
 use Prim.Native.Nat.{ℕ, _+_, _<_, _≤_}
 use lib.ListN.{length}
+use mathlib.Core.List.{List, [], _∷_}
+use mathlib.Core.Path.{_≡_}
 use Rattle.meaning_numbers.specs.Sum.{Σℕ, count}
-use Rattle.meaning_rows.specs.declared.Row.{Row}
-use Rattle.meaning_rows.specs.Runs.{runCount}
-use Rattle.meaning_rows.specs.Build.{SetRow}
+use Rattle.meaning_rows.specs.{declared.Row.Row, Runs.runCount, Build.SetRow}
 use Rattle.sums_count.specs.Tally.{isRow}
 use Rattle.rows_pack.specs.PackedAs.{PackedAs}
 use Rattle.build_merge.specs.Names.{NamedRow}

@@ -1,11 +1,11 @@
 -- Names of rows: window j stands in row `row j`, whose name is one more; 0 names none. A run's entry has the name before it and the name after it. A row that joins a group of rows
 -- has as many neighbours in the group as entries that name one of its rows, so the runs of the union are counted by names alone.
-use mathlib.Core.Path.{_≡_}
-use mathlib.Core.Bool.{Bool, cond}
-use mathlib.Core.List.{List}
 use Prim.Native.Nat.{ℕ, zero, suc, _+_, _<_}
 use lib.Dec.{ltb}
 use lib.ListN.{getD}
+use mathlib.Core.Bool.{Bool, cond}
+use mathlib.Core.List.{List}
+use mathlib.Core.Path.{_≡_}
 use Rattle.meaning_rows.specs.Runs.{runs, runCount}
 use Rattle.meaning_rows.proofs.Columns.{lefts, rights}
 use Rattle.sums_slide.specs.Levels.{within}

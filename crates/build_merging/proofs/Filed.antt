@@ -1,12 +1,11 @@
 -- The packed rows of a series can be merged (`filed-standing`).
-use mathlib.Core.Path.{_≡_}
-use mathlib.Core.List.{List}
 use Prim.Native.Nat.{ℕ, _<_, _≤_}
 use lib.IntN.{ℤ}
 use lib.ListN.{length, getD}
+use mathlib.Core.List.{List}
+use mathlib.Core.Path.{_≡_}
 use Rattle.meaning_curves.specs.Curve.{windowSum}
-use Rattle.meaning_rows.specs.declared.Row.{Row}
-use Rattle.meaning_rows.specs.Build.{filed}
+use Rattle.meaning_rows.specs.{declared.Row.Row, Build.filed}
 use Rattle.sums_slide.specs.Levels.{Lent, windowsOf}
 use Rattle.rows_pack.specs.PackedAs.{PackedAs}
 use Rattle.build_names.proofs.Packed.{filed-sound}

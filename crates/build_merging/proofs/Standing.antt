@@ -1,20 +1,16 @@
 -- Laws of specs/Standing.
-use mathlib.Core.Path.{_≡_}
-use mathlib.Core.List.{List}
 use Prim.Native.Nat.{ℕ, _<_}
-use native.Mathlib.Omega.{arith}
 use lib.IntN.{ℤ}
 use lib.ListN.{length}
+use mathlib.Core.List.{List}
+use mathlib.Core.Path.{_≡_}
+use native.Mathlib.Omega.{arith}
 use Rattle.meaning_curves.specs.Curve.{windowSum}
-use Rattle.meaning_rows.specs.declared.Row.{Row}
-use Rattle.meaning_rows.specs.Build.{SetRow}
+use Rattle.meaning_rows.specs.{declared.Row.Row, Build.SetRow}
 use Rattle.sums_slide.specs.Levels.{windowsOf}
-use Rattle.build_merge.specs.Names.{NamedRow}
 use Rattle.rows_pack.specs.PackedAs.{PackedAs}
-use Rattle.build_merge.specs.Merging.{Rows, Ready, Mergeable, partAt}
-use Rattle.build_names.specs.Ranges.{rowIn}
-use Rattle.build_names.specs.Places.{Unnamed}
-use Rattle.build_names.specs.Packed.{Sound}
+use Rattle.build_merge.specs.{Names.NamedRow, Merging.Rows, Merging.Ready, Merging.Mergeable, Merging.partAt}
+use Rattle.build_names.specs.{Ranges.rowIn, Places.Unnamed, Packed.Sound}
 use Rattle.build_names.proofs.Packed.{packed-unnamed, packed-ready}
 use Rattle.build_merging.specs.Standing.{Standing}
 

@@ -1,12 +1,11 @@
 -- Rows of a series that stand packed, with empty parts long enough for all runs: they can be named, and then merged.
-use mathlib.Core.Path.{_≡_}
-use mathlib.Core.List.{List}
 use Prim.Native.Nat.{ℕ, _≤_}
 use lib.IntN.{ℤ}
 use lib.ListN.{length, getD}
+use mathlib.Core.List.{List}
+use mathlib.Core.Path.{_≡_}
 use Rattle.meaning_curves.specs.Curve.{windowSum}
-use Rattle.meaning_rows.specs.declared.Row.{Row}
-use Rattle.meaning_rows.specs.Build.{SetRow}
+use Rattle.meaning_rows.specs.{declared.Row.Row, Build.SetRow}
 use Rattle.sums_slide.specs.Levels.{Lent, windowsOf}
 use Rattle.rows_pack.specs.PackedAs.{PackedAs}
 use Rattle.build_names.specs.Packed.{Sound}

@@ -1,16 +1,10 @@
 -- The row that a search for a window's sum finds: its place is the one that is named, and small.
-use mathlib.Core.Path.{_≡_, ap, _∙_}
-use mathlib.Core.List.{List}
-use Prim.Native.Nat.{ℕ, _≤_}
-use native.Mathlib.Omega.{arith}
-use lib.IntN.{ℤ}
+use Rattle.meaning_numbers.proofs.Prelude.{_≡_, ap, _∙_, List, ℕ, _≤_, arith, ℤ}
 use Rattle.meaning_rows.specs.declared.Row.{Row}
-use Rattle.sums_slide.specs.declared.Window.{Window}
-use Rattle.sums_slide.specs.Levels.{sumAt}
+use Rattle.sums_slide.specs.{declared.Window.Window, Levels.sumAt}
 use Rattle.rows_find.specs.Search.{Found}
-use Rattle.build_names.specs.Ranges.{placeIn, endsBy}
+use Rattle.build_names.specs.{Ranges.placeIn, Ranges.endsBy, Places.Nameable}
 use Rattle.build_names.proofs.Ranges.{first-le, found-place}
-use Rattle.build_names.specs.Places.{Nameable}
 
 module _ {rows : List Row} {count w e : ℕ} {at : Window} (y : Nameable rows count w e at) {sum : ℤ} {i : ℕ} (sum-is : sum ≡ sumAt w e at) (found : Found rows count sum i) where
   pub place-is : i ≡ placeIn rows count (sumAt w e at)

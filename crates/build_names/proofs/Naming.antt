@@ -1,21 +1,13 @@
 -- The pass that names the neighbours of all runs, by runs: what holds after the windows below j (`Naming`), how it begins, a turn, which names the neighbours of one run in the part of its row (`naming-run`), and the end (`naming-end`).
-use mathlib.Core.Path.{_≡_, sym, _∙_}
-use mathlib.Core.Bool.{true, false}
-use mathlib.Core.List.{List}
-use Prim.Native.Nat.{ℕ, suc, _+_, _-_, _<_, _≤_}
-use native.Mathlib.Omega.{arith}
-use lib.ListN.{length, getD, set, length-set}
-use borrow.Author.Tests.{eq-eqb, ne-eqb}
+use Rattle.meaning_numbers.proofs.Prelude.{_≡_, sym, _∙_, true, false, List, ℕ, suc, _+_, _-_, _<_, _≤_, arith, length, getD, set, length-set, eq-eqb, ne-eqb}
 use Rattle.meaning_rows.specs.Runs.{before, runCount}
-use Rattle.meaning_rows.proofs.Parts.{Laid}
-use Rattle.meaning_rows.proofs.Columns.{runCount-mono}
+use Rattle.meaning_rows.proofs.{Parts.Laid, Columns.runCount-mono}
 use Rattle.meaning_rows.proofs.Cursors.{Cursors, PartsAs, parts-as-start, cursors-start, fileRight, length-file, filed-as, cursors-run}
 use Rattle.sums_slide.specs.Change.{RowRun}
 use Rattle.sums_count.specs.Tally.{isRow}
 use Rattle.sums_count.proofs.Tally.{Fresh, fresh-start, fresh-next, run-mine}
 use Rattle.build_parts.specs.Filling.{parts-laid}
-use Rattle.build_merge.specs.Names.{nameAt, nameBefore, nameAfter, NamedRow}
-use Rattle.build_merge.specs.Merging.{partAt}
+use Rattle.build_merge.specs.{Names.nameAt, Names.nameBefore, Names.nameAfter, Names.NamedRow, Merging.partAt}
 
 module _ (row : ℕ → ℕ) (n R : ℕ) where
   pub record Naming (j : ℕ) (left right : List ℕ) : Type 0 where

@@ -1,43 +1,21 @@
 -- Laws of specs/Packed.
-use mathlib.Core.Path.{_≡_, refl, sym, ap, _∙_, subst}
-use mathlib.Core.Bool.{true, false}
-use mathlib.Core.List.{List, [], _∷_, map}
-use Prim.Native.Nat.{ℕ, zero, suc, _+_, _*_, _<_, _≤_}
-use native.Mathlib.Omega.{arith}
-use native.Mathlib.Decide.{decLt}
-use lib.IntN.{ℤ, pos, negsuc, _+ℤ_}
-use lib.ListN.{length, getD, length-map, length-append}
-use lib.Seq.{getD-take}
-use lib.Signed.{_≤ℤ_, _<ℤ_}
-use Rattle.meaning_numbers.specs.Sum.{Σℕ}
-use Rattle.meaning_numbers.specs.Place.{any}
-use Rattle.meaning_numbers.proofs.Sum.{Σℕ-none, Σℕ-same}
-use Rattle.meaning_numbers.proofs.Rep.{Rep, up, dn, zarith, rep-self, rep-pos, rep-add, rep-mul, rep-eq}
-use Rattle.meaning_numbers.proofs.Machine.{leZ-true}
-use Rattle.meaning_numbers.proofs.Tests.{by-test, clash}
-use Rattle.meaning_numbers.proofs.Member.{All}
+use Rattle.meaning_numbers.specs.{Sum.Σℕ, Place.any}
+use Rattle.meaning_numbers.proofs.{Sum.Σℕ-none, Sum.Σℕ-same, Member.All}
+use Rattle.meaning_numbers.proofs.Prelude.{_≡_, refl, sym, ap, _∙_, subst, true, false, List, [], _∷_, map, ℕ, zero, suc, _+_, _*_, _<_, _≤_, arith, decLt, ℤ, pos, negsuc, _+ℤ_, length, getD, length-map, length-append, getD-take, _≤ℤ_, _<ℤ_, Rep, up, dn, zarith, rep-self, rep-pos, rep-add, rep-mul, rep-eq, leZ-true, by-test, clash}
 use Rattle.meaning_curves.specs.Curve.{windowSum}
-use Rattle.meaning_rows.specs.declared.Row.{Row}
-use Rattle.meaning_rows.specs.Range.{rowNumber, lowOf, upOf, inside}
-use Rattle.meaning_rows.specs.Runs.{runs, runCount}
-use Rattle.meaning_rows.specs.Index.{records, allRuns}
-use Rattle.meaning_rows.specs.Build.{SetRow, filed, entry, withRuns, builtRows}
-use Rattle.meaning_rows.proofs.Range.{is-inside, row-below, row-above}
-use Rattle.meaning_rows.proofs.Runs.{runs-cong}
+use Rattle.meaning_rows.specs.{declared.Row.Row, Range.rowNumber, Range.lowOf, Range.upOf, Range.inside, Runs.runs, Runs.runCount, Index.records, Index.allRuns, Build.SetRow, Build.filed, Build.entry, Build.withRuns, Build.builtRows}
+use Rattle.meaning_rows.proofs.{Range.is-inside, Range.row-below, Range.row-above, Runs.runs-cong, LaidAt.Σℕ-shift}
 use Rattle.meaning_rows.proofs.Build.{Fine, Chain, Tiled, Ends, covered, mergedRows, built-tiled, built-covers, built-ends, built-length, built-runs, merged-none}
 use Rattle.rows_records.specs.Records.{zeroRow}
 use Rattle.sums_slide.specs.Levels.{level, Lent, windowsOf, level-le}
 use Rattle.sums_slide.proofs.Levels.{level-is}
 use Rattle.sums_count.specs.Tally.{isRow}
-use Rattle.meaning_rows.proofs.LaidAt.{Σℕ-shift}
-use Rattle.build_merge.specs.Names.{NamedRow}
 use Rattle.rows_pack.specs.PackedAs.{PackedAs}
-use Rattle.build_merge.specs.Merging.{Numbered, Ready, partAt}
+use Rattle.build_merge.specs.{Names.NamedRow, Merging.Numbered, Merging.Ready, Merging.partAt}
 use Rattle.build_merge.proofs.Merging.{recordOf, records-first}
+use Rattle.build_names.specs.{Places.Unnamed, Packed.Sound}
 use Rattle.build_names.specs.Ranges.{Limited, endsBy, placeIn, rowIn, Ranged, RangeRows}
 use Rattle.build_names.proofs.Ranges.{first-passes, first-fails, held-row, no-leZ}
-use Rattle.build_names.specs.Places.{Unnamed}
-use Rattle.build_names.specs.Packed.{Sound}
 
 -- ---- lists of rows by place
 

@@ -1,31 +1,18 @@
 -- Laws of specs/Places.
-use mathlib.Core.Path.{_≡_, refl, sym, ap, _∙_, subst}
-use mathlib.Core.List.{List}
-use Prim.Native.Nat.{ℕ, zero, suc, _+_, _-_, _*_, _<_, _≤_}
-use native.Mathlib.Omega.{arith}
-use lib.Dec.{ltb}
-use lib.IntN.{ℤ}
-use lib.ListN.{length, getD, set, length-set}
-use borrow.Author.Tests.{lt-ltb, ltb-true, ltb-false}
-use Rattle.meaning_numbers.proofs.Tests.{by-test}
+use Rattle.meaning_numbers.proofs.Prelude.{_≡_, refl, sym, ap, _∙_, subst, List, ℕ, zero, suc, _+_, _-_, _*_, _<_, _≤_, arith, ltb, ℤ, length, getD, set, length-set, lt-ltb, ltb-true, ltb-false, by-test}
 use Rattle.meaning_curves.specs.Curve.{windowSum}
-use Rattle.meaning_rows.specs.declared.Row.{Row}
-use Rattle.meaning_rows.specs.Runs.{runCount}
+use Rattle.meaning_rows.specs.{declared.Row.Row, Runs.runCount}
 use Rattle.meaning_rows.proofs.Cursors.{fileRight, length-file}
 use Rattle.rows_records.specs.Records.{zeroRow}
-use Rattle.sums_slide.specs.declared.Window.{Window}
+use Rattle.sums_slide.specs.{declared.Window.Window, Change.Stop, Change.RowRun, Ends.raisedEnd}
 use Rattle.sums_slide.specs.Levels.{level, Lent, windowsOf, level-small, placeFrom}
 use Rattle.sums_slide.proofs.Levels.{level-is, sum-is}
-use Rattle.sums_slide.specs.Change.{Stop, RowRun}
 use Rattle.sums_count.specs.Tally.{isRow}
 use Rattle.build_parts.specs.Part.{written, PartRoom}
-use Rattle.build_merge.specs.Names.{nameAt, nameBefore, NamedRow}
-use Rattle.build_merge.specs.Merging.{partAt}
-use Rattle.sums_slide.specs.Ends.{raisedEnd}
-use Rattle.build_names.specs.Ranges.{LimitedRow, rowIn}
+use Rattle.build_merge.specs.{Names.nameAt, Names.nameBefore, Names.NamedRow, Merging.partAt}
+use Rattle.build_names.specs.{Ranges.LimitedRow, Ranges.rowIn, Places.nameFor, Places.nameIn, Places.Nameable, Places.Unnamed}
 use Rattle.build_names.proofs.Ranges.{range-climbs, stop-run}
 use Rattle.build_names.proofs.Naming.{Naming, naming-start, naming-more, naming-written, naming-room, naming-run, naming-end}
-use Rattle.build_names.specs.Places.{nameFor, nameIn, Nameable, Unnamed}
 
 module _ (s : List ℤ) (w e : ℕ) (rows : List Row) (count : ℕ) where
   abbrev n : ℕ

@@ -1,26 +1,10 @@
 -- Laws of specs/Ranges.
-use mathlib.Core.Path.{_≡_, refl, sym, _∙_}
-use mathlib.Core.Bool.{Bool, true, false}
-use mathlib.Core.List.{List}
-use Prim.Native.Nat.{ℕ, zero, suc, _<_, _≤_}
-use native.Mathlib.Omega.{arith}
-use native.Mathlib.Decide.{decLt}
-use lib.Dec.{eqb}
-use lib.IntN.{ℤ, pos, negsuc}
-use lib.ListN.{getD}
-use lib.Signed.{leZ, _≤ℤ_, _<ℤ_, ≤ℤ-refl}
-use borrow.Author.Tests.{eqb-true, eqb-false, eq-eqb}
-use Rattle.meaning_numbers.proofs.Rep.{Rep, up, zarith}
-use Rattle.meaning_numbers.proofs.Machine.{f-gt, leZ-true}
-use Rattle.meaning_numbers.proofs.Tests.{by-test, clash}
-use Rattle.meaning_rows.specs.declared.Row.{Row}
-use Rattle.meaning_rows.specs.Range.{inside}
+use Rattle.meaning_numbers.proofs.Prelude.{_≡_, refl, sym, _∙_, Bool, true, false, List, ℕ, zero, suc, _<_, _≤_, arith, decLt, eqb, ℤ, pos, negsuc, getD, leZ, _≤ℤ_, _<ℤ_, ≤ℤ-refl, eqb-true, eqb-false, eq-eqb, Rep, up, zarith, f-gt, leZ-true, by-test, clash}
+use Rattle.meaning_rows.specs.{declared.Row.Row, Range.inside}
 use Rattle.meaning_rows.proofs.Range.{le-leZ, lt-leZ, inside-yes, is-inside}
 use Rattle.rows_records.specs.Records.{zeroRow}
-use Rattle.sums_slide.specs.Levels.{within}
-use Rattle.sums_slide.specs.Ends.{raisedEnd}
+use Rattle.sums_slide.specs.{Levels.within, Ends.raisedEnd, Change.Change, Change.Stop, Change.RowRun}
 use Rattle.sums_slide.proofs.EndsLaws.{within-is}
-use Rattle.sums_slide.specs.Change.{Change, Stop, RowRun}
 use Rattle.sums_count.specs.Tally.{isRow}
 use Rattle.rows_find.specs.Search.{Climbs, Found}
 use Rattle.build_names.specs.Ranges.{Limited, firstNot, endsBy, placeIn, rowIn, Ranged}

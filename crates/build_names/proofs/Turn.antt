@@ -1,23 +1,13 @@
 -- A turn of naming over plain variables, with what its calls give: that they may be made, how the loop starts, moves and ends.
-use mathlib.Core.Path.{_≡_, refl}
-use Prim.Native.Nat.{ℕ, _<_, _≤_, _+_, _-_, _*_}
-use native.Mathlib.Omega.{arith}
-use mathlib.Core.List.{List}
-use lib.IntN.{ℤ}
-use lib.ListN.{length, set, getD}
+use Rattle.meaning_numbers.proofs.Prelude.{_≡_, refl, ℕ, _<_, _≤_, _+_, _-_, _*_, arith, List, ℤ, length, set, getD}
 use Rattle.meaning_curves.specs.Curve.{windowSum}
 use Rattle.meaning_rows.specs.declared.Row.{Row}
 use Rattle.meaning_rows.proofs.Cursors.{fileRight}
 use Rattle.rows_records.specs.Records.{zeroRow}
-use Rattle.sums_slide.specs.declared.Window.{Window}
-use Rattle.sums_slide.specs.Levels.{Lent, level, windowsOf, placeFrom}
-use Rattle.sums_slide.specs.Change.{Stop}
-use Rattle.sums_slide.specs.Ends.{raisedEnd}
+use Rattle.sums_slide.specs.{declared.Window.Window, Levels.Lent, Levels.level, Levels.windowsOf, Levels.placeFrom, Change.Stop, Ends.raisedEnd}
 use Rattle.build_parts.specs.Part.{written, PartRoom}
-use Rattle.build_merge.specs.Names.{NamedRow}
-use Rattle.build_merge.specs.Merging.{partAt}
-use Rattle.build_names.specs.Ranges.{rowIn, LimitedRow}
-use Rattle.build_names.specs.Places.{nameIn, Nameable, Unnamed}
+use Rattle.build_merge.specs.{Names.NamedRow, Merging.partAt}
+use Rattle.build_names.specs.{Ranges.rowIn, Ranges.LimitedRow, Places.nameIn, Places.Nameable, Places.Unnamed}
 use Rattle.build_names.proofs.Places.{Underway, nameable, underway-start, underway-end, underway-turn, turn-place, turn-end, turn-next, turn-asks, turn-nearer}
 
 module _ (ss : List ℤ) (w e : ℕ) (rows : List Row) (n : ℕ) (ls ks : List ℕ) (asked : Unnamed ss w e rows n ls ks) where

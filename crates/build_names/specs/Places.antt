@@ -1,11 +1,11 @@
 -- Windows by place and raised sum, their names, and what holds on the way of the pass that names neighbours.
-use mathlib.Core.Path.{_≡_}
-use mathlib.Core.Bool.{cond}
-use mathlib.Core.List.{List}
 use Prim.Native.Nat.{ℕ, _+_, _≤_}
 use lib.Dec.{ltb}
 use lib.IntN.{ℤ}
 use lib.ListN.{length, getD}
+use mathlib.Core.Bool.{cond}
+use mathlib.Core.List.{List}
+use mathlib.Core.Path.{_≡_}
 use Rattle.meaning_curves.specs.Curve.{windowSum, windowCount}
 use Rattle.meaning_rows.specs.declared.Row.{Row}
 use Rattle.sums_slide.specs.declared.Window.{Window}

@@ -1,15 +1,14 @@
 -- Rows as ranges of lent records: the row of a window is the first whose upper end is above the window's sum (`rowIn`). Where the ranges ascend and hold every window, row i holds exactly the windows
 -- whose row is i, and a run of raised sums in its range is a run of its windows.
-use mathlib.Core.Path.{_≡_}
-use mathlib.Core.Bool.{Bool, cond}
-use mathlib.Core.List.{List}
 use Prim.Native.Nat.{ℕ, zero, suc, _<_, _≤_}
 use lib.IntN.{ℤ}
 use lib.ListN.{length, getD}
 use lib.Signed.{leZ, _≤ℤ_, _<ℤ_}
+use mathlib.Core.Bool.{Bool, cond}
+use mathlib.Core.List.{List}
+use mathlib.Core.Path.{_≡_}
 use Rattle.meaning_numbers.proofs.Rep.{up, dn}
-use Rattle.meaning_rows.specs.declared.Row.{Row}
-use Rattle.meaning_rows.specs.Runs.{runCount}
+use Rattle.meaning_rows.specs.{declared.Row.Row, Runs.runCount}
 use Rattle.rows_records.specs.Records.{zeroRow}
 use Rattle.sums_count.specs.Tally.{isRow}
 use Rattle.build_merge.specs.Merging.{partAt}

@@ -1,14 +1,5 @@
 -- A column from some place on, lent to a writer and put back: what is written into it is written into the column that much further on.
-use mathlib.Core.Path.{_≡_, sym, ap, _∙_}
-use mathlib.Core.List.{List, [], _++_, append-nil}
-use Prim.Native.Nat.{ℕ, _+_, _-_}
-use native.Mathlib.Nat.{zero-add}
-use native.Mathlib.Omega.{arith}
-use lib.Dec.{ltb}
-use lib.ListN.{length, getD, set, take, drop, length-drop, drop-of-length-le, take-append-drop}
-use lib.Seq.{take-all, take-set-le, drop-set-add, getD-drop}
-use borrow.Author.Tests.{ltb-true}
-use Rattle.meaning_numbers.proofs.Tests.{by-test}
+use Rattle.meaning_numbers.proofs.Prelude.{_≡_, sym, ap, _∙_, List, [], _++_, append-nil, ℕ, _+_, _-_, zero-add, arith, ltb, length, getD, set, take, drop, length-drop, drop-of-length-le, take-append-drop, take-all, take-set-le, drop-set-add, getD-drop, ltb-true, by-test}
 use Rattle.meaning_rows.specs.declared.Row.{Row}
 use Rattle.meaning_rows.proofs.Cursors.{fileRight}
 use Rattle.build_parts.specs.Part.{writtenIn, EntryRoom, written, PartRoom}

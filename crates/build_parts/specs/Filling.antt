@@ -1,19 +1,16 @@
 -- The pass that fills all parts, by runs: what holds after the windows below j (`Filling`), how it begins, and a turn, which files one run in the part of its row (`filling-run`).
 -- Row i has the windows that pass its test P i; its part begins at the sum of the parts before. Entries behind all parts stay.
-use mathlib.Core.Path.{_≡_, refl, sym, ap, _∙_}
-use mathlib.Core.Bool.{Bool, true, false}
-use mathlib.Core.List.{List}
 use Prim.Native.Nat.{ℕ, suc, _+_, _-_, _<_, _≤_}
-use native.Mathlib.Omega.{arith}
 use lib.ListN.{length, getD, set, length-set}
 use lib.Seq.{getD-set-other}
+use mathlib.Core.Bool.{Bool, true, false}
+use mathlib.Core.List.{List}
+use mathlib.Core.Path.{_≡_, refl, sym, ap, _∙_}
+use native.Mathlib.Omega.{arith}
 use Rattle.meaning_numbers.specs.Sum.{Σℕ}
-use Rattle.meaning_numbers.proofs.Sum.{Σℕ-more, Σℕ-fewer}
-use Rattle.meaning_numbers.proofs.Tests.{clash}
+use Rattle.meaning_numbers.proofs.{Sum.Σℕ-more, Sum.Σℕ-fewer, Tests.clash}
 use Rattle.meaning_rows.specs.Runs.{before, runCount}
-use Rattle.meaning_rows.proofs.Runs.{before-none, before-more}
-use Rattle.meaning_rows.proofs.Columns.{runCount-mono}
-use Rattle.meaning_rows.proofs.Parts.{Laid, Parts, parts-start, run-count}
+use Rattle.meaning_rows.proofs.{Runs.before-none, Runs.before-more, Columns.runCount-mono, Parts.Laid, Parts.Parts, Parts.parts-start, Parts.run-count}
 use Rattle.meaning_rows.proofs.Cursors.{Cursors, cursors-start, fileRight, length-file, filed-other, filed-run}
 
 module _ (R W : ℕ) (P : ℕ → ℕ → Bool) where

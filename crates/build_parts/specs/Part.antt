@@ -1,7 +1,7 @@
 -- A row's part of the run buffer: how many of its runs are written, and that there is room for one more.
-use mathlib.Core.List.{List}
 use Prim.Native.Nat.{ℕ, _+_, _-_, _<_, _≤_}
 use lib.ListN.{length, getD}
+use mathlib.Core.List.{List}
 use Rattle.meaning_rows.specs.declared.Row.{Row}
 
 -- how many of the n entries of a part that is not full are written, where the part is lent from its first entry on

@@ -1,34 +1,20 @@
 -- What stands in the indexBuffers once the parts of a build's rows are filled is its index (`finished`).
-use mathlib.Core.Path.{_≡_, sym, ap, _∙_}
-use mathlib.Core.List.{List, [], _∷_, _++_, map}
-use Prim.Native.Nat.{ℕ, zero, _+_, _-_, _<_, _≤_}
-use native.Mathlib.Omega.{arith}
-use lib.IntN.{ℤ, natAbs}
-use lib.ListN.{length, getD, take, replicate, length-append, length-map, List·getD-append}
-use lib.Seq.{take-append-seam}
 use Rattle.meaning_numbers.specs.Sum.{Σℕ}
 use Rattle.meaning_numbers.proofs.Sum.{Σℕ-same, Σℕ-more}
+use Rattle.meaning_numbers.proofs.Prelude.{_≡_, sym, ap, _∙_, List, [], _∷_, _++_, map, ℕ, zero, _+_, _-_, _<_, _≤_, arith, ℤ, natAbs, length, getD, take, replicate, length-append, length-map, List·getD-append, take-append-seam}
 use Rattle.meaning_curves.specs.Curve.{windowSum}
-use Rattle.meaning_rows.specs.declared.Row.{Row}
-use Rattle.meaning_rows.specs.Runs.{runs, runCount}
-use Rattle.meaning_rows.specs.Index.{RangeRow, records, allRuns}
-use Rattle.meaning_rows.specs.Build.{SetRow, entry, withRuns, builtRows, built}
-use Rattle.meaning_rows.proofs.Build.{mergedRows, built-runs}
-use Rattle.meaning_rows.proofs.Columns as Columns
-use Rattle.meaning_rows.proofs.Laid.{length-records}
-use Rattle.meaning_rows.proofs.LaidAt.{records-at, runs-total, column-at}
+use Rattle.meaning_rows.specs.{declared.Row.Row, Runs.runs, Runs.runCount, Index.RangeRow, Index.records, Index.allRuns, Build.SetRow, Build.entry, Build.withRuns, Build.builtRows, Build.built}
+use Rattle.meaning_rows.proofs.{Build.mergedRows, Build.built-runs, Laid.length-records, LaidAt.records-at, LaidAt.runs-total, LaidAt.column-at}
 use Rattle.meaning_entries.specs.Buffers.{IndexBuffers, filled, indexIn, lefts, rights, indexBuffers}
+use Rattle.meaning_entries.proofs.Filled.{filled-is, lefts-entry, rights-entry, zeros}
 use Rattle.rows_records.specs.Records.{zeroRow}
-use Rattle.sums_slide.specs.declared.Window.{Window}
-use Rattle.sums_slide.specs.Levels.{windowsOf}
+use Rattle.sums_slide.specs.{declared.Window.Window, Levels.windowsOf}
 use Rattle.rows_pack.specs.PackedAs.{PackedAs}
 use Rattle.build_lay.specs.Laid.{Cleared}
-use Rattle.build_fill.specs.Pass.{partStart, partsTotal, filling-start}
-use Rattle.build_fill.specs.Turn.{At}
-use Rattle.build_fill.specs.Pass.{Passable, PassMade}
-use Rattle.build_passes.proofs.Rowed.{noRow, tests, built-rowed}
+use Rattle.build_fill.specs.{Pass.partStart, Pass.partsTotal, Pass.filling-start, Turn.At, Pass.Passable, Pass.PassMade}
 use Rattle.build_passes.specs.Filled.{Fillable, Holds}
-use Rattle.meaning_entries.proofs.Filled.{filled-is, lefts-entry, rights-entry, zeros}
+use Rattle.build_passes.proofs.Rowed.{noRow, tests, built-rowed}
+use Rattle.meaning_rows.proofs.Columns as Columns
 
 -- where no row is laid out, a record of zeros stands first
 no-part : {X : Type 0} (G : X → RangeRow) (old : List Row) → let r = getD (filled zeroRow (records 0 (map G [])) old) 0 zeroRow in r .first + r .runs ≡ length (allRuns (map G []))

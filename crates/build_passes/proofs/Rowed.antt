@@ -1,33 +1,16 @@
 -- Rows that tile the sums, packed as records, are rows that the pass can fill (`packed-rowed`).
-use mathlib.Core.Path.{_≡_, refl, sym, ap, _∙_}
-use mathlib.Core.Bool.{Bool, true, false}
-use mathlib.Core.List.{List, [], _∷_}
-use Prim.Native.Nat.{ℕ, zero, suc, _+_, _<_, _≤_}
-use native.Mathlib.Omega.{arith}
-use lib.IntN.{ℤ, pos, negsuc, _+ℤ_}
-use lib.ListN.{length, getD, length-map}
-use lib.Seq.{getD-take}
-use lib.Signed.{_≤ℤ_, _<ℤ_}
-use Rattle.meaning_numbers.specs.Place.{any}
-use Rattle.meaning_numbers.specs.Sum.{Σℕ}
-use Rattle.meaning_numbers.proofs.Sum.{Σℕ-same}
-use Rattle.meaning_numbers.proofs.Rep.{Rep, zarith}
-use Rattle.meaning_numbers.proofs.Tests.{by-test, clash}
-use Rattle.meaning_numbers.proofs.Member.{All, all-mem, mem-at}
+use Rattle.meaning_numbers.specs.{Place.any, Sum.Σℕ}
+use Rattle.meaning_numbers.proofs.{Sum.Σℕ-same, Member.All, Member.all-mem, Member.mem-at}
+use Rattle.meaning_numbers.proofs.Prelude.{_≡_, refl, sym, ap, _∙_, Bool, true, false, List, [], _∷_, ℕ, zero, suc, _+_, _<_, _≤_, arith, ℤ, pos, negsuc, _+ℤ_, length, getD, length-map, getD-take, _≤ℤ_, _<ℤ_, Rep, zarith, by-test, clash}
 use Rattle.meaning_curves.specs.Curve.{windowSum}
-use Rattle.meaning_rows.specs.declared.Row.{Row}
-use Rattle.meaning_rows.specs.Range.{inside, lowOf, upOf, rowNumber}
-use Rattle.meaning_rows.specs.Runs.{runs, runCount}
-use Rattle.meaning_rows.specs.Build.{SetRow, entry, withRuns}
-use Rattle.meaning_rows.proofs.Range.{row-below, row-above, up-is}
+use Rattle.meaning_rows.specs.{declared.Row.Row, Range.inside, Range.lowOf, Range.upOf, Range.rowNumber, Runs.runs, Runs.runCount, Build.SetRow, Build.entry, Build.withRuns}
+use Rattle.meaning_rows.proofs.{Range.row-below, Range.row-above, Range.up-is, LaidAt.records-at}
 use Rattle.meaning_rows.proofs.Build.{Fine, Chain, Tiled, Ends, covered, mergedRows, tiled-fine, built-tiled, built-covers, built-ends}
-use Rattle.meaning_rows.proofs.LaidAt.{records-at}
 use Rattle.rows_records.specs.Records.{zeroRow}
 use Rattle.sums_slide.specs.Levels.{Lent, windowsOf, level-small}
 use Rattle.sums_slide.proofs.Levels.{level-is}
 use Rattle.rows_pack.specs.PackedAs.{PackedAs}
-use Rattle.build_fill.specs.Pass.{partStart}
-use Rattle.build_fill.specs.Pass.{Rowed}
+use Rattle.build_fill.specs.Pass.{partStart, Rowed}
 
 -- a row with no windows
 abbrev pub noRow : SetRow

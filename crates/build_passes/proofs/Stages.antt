@@ -1,16 +1,7 @@
 -- What each stage of a build asks, by what the stages before it left: rows that are laid out, merged, filled.
-use mathlib.Core.Path.{_≡_, sym, subst}
-use mathlib.Core.Bool.{true}
-use mathlib.Core.List.{List}
-use Prim.Native.Nat.{ℕ}
-use native.Mathlib.Omega.{arith}
-use lib.Dec.{eqb}
-use lib.IntN.{ℤ}
-use lib.ListN.{length}
-use borrow.Author.Tests.{eqb-true}
+use Rattle.meaning_numbers.proofs.Prelude.{_≡_, sym, subst, true, List, ℕ, arith, eqb, ℤ, length, eqb-true}
 use Rattle.meaning_curves.specs.Curve.{windowSum}
-use Rattle.meaning_rows.specs.declared.Row.{Row}
-use Rattle.meaning_rows.specs.Build.{SetRow, filed, merged}
+use Rattle.meaning_rows.specs.{declared.Row.Row, Build.SetRow, Build.filed, Build.merged}
 use Rattle.meaning_rows.proofs.Build.{merged-none}
 use Rattle.sums_slide.specs.Levels.{windowsOf}
 use Rattle.rows_pack.specs.PackedAs.{PackedAs}

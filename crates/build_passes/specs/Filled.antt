@@ -1,17 +1,16 @@
 -- What stands in the buffers once the parts of a build's rows are filled is its index.
-use mathlib.Core.Path.{_≡_}
-use mathlib.Core.List.{List}
 use Prim.Native.Nat.{ℕ, _≤_}
 use lib.IntN.{ℤ}
 use lib.ListN.{length}
+use mathlib.Core.List.{List}
+use mathlib.Core.Path.{_≡_}
 use Rattle.meaning_curves.specs.Curve.{windowSum}
-use Rattle.meaning_rows.specs.declared.Row.{Row}
-use Rattle.meaning_rows.specs.Build.{built}
+use Rattle.meaning_rows.specs.{declared.Row.Row, Build.built}
 use Rattle.meaning_rows.proofs.Build.{mergedRows}
-use Rattle.meaning_rows.proofs.Columns as Columns
 use Rattle.meaning_entries.specs.Buffers.{IndexBuffers, indexIn}
 use Rattle.sums_slide.specs.Levels.{Lent, windowsOf}
 use Rattle.rows_pack.specs.PackedAs.{PackedAs}
+use Rattle.meaning_rows.proofs.Columns as Columns
 
 -- the rows of a build of row width d and merge percentage g are packed in `rows`, and there is room for their runs
 pub record Fillable (d g : ℕ) (s : List ℤ) (w e : ℕ) (rows : List Row) (n : ℕ) (left right : List ℕ) : Type 0 where

@@ -1,16 +1,9 @@
 -- Laws of specs/Plan.
-use mathlib.Core.List.{List}
-use Prim.Native.Nat.{ℕ, _≤_}
-use lib.Dec.{T}
-use lib.IntN.{ℤ, pos}
-use lib.ListN.{length}
-use Rattle.meaning_numbers.proofs.Rep.{zarith}
-use Rattle.meaning_curves.specs.Limits.{mostValues}
-use Rattle.meaning_curves.specs.Curve.{windowCount}
+use Rattle.meaning_numbers.proofs.Prelude.{List, ℕ, _≤_, T, ℤ, pos, length, zarith}
+use Rattle.meaning_curves.specs.{Limits.mostValues, Curve.windowCount}
 use Rattle.meaning_curves.proofs.Values.{AllIn}
 use Rattle.meaning_entries.specs.Build.{lentBuild, buildLines}
-use Rattle.meaning_entries.proofs.Refusal.{AllPass, openLines, passed-line, passed-behind, lacks}
-use Rattle.meaning_entries.proofs.Lines.{long-line, values-line, window-line, width-line, merge-line, room-line}
+use Rattle.meaning_entries.proofs.{Refusal.AllPass, Refusal.openLines, Refusal.passed-line, Refusal.passed-behind, Refusal.lacks, Lines.long-line, Lines.values-line, Lines.window-line, Lines.width-line, Lines.merge-line, Lines.room-line}
 
 -- numbers in their limits, and room
 pub record Goes (s : List ℤ) (w d g rows runs : ℕ) : Type 0 where

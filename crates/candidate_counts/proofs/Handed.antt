@@ -1,14 +1,7 @@
 -- Runs at the front of two columns, cleared behind, are as they are handed out (`handed`).
-use mathlib.Core.Path.{_≡_, refl, sym, ap, _∙_}
-use mathlib.Core.Bool.{Bool}
-use mathlib.Core.List.{List, [], _∷_, _++_, map}
-use Prim.Native.Nat.{ℕ, _≤_}
-use native.Mathlib.Omega.{arith}
-use lib.ListN.{length, drop, length-append, length-drop}
-use lib.Seq.{take-at}
+use Rattle.meaning_numbers.proofs.Prelude.{_≡_, refl, sym, ap, _∙_, Bool, List, [], _∷_, _++_, map, ℕ, _≤_, arith, length, drop, length-append, length-drop, take-at}
 use Rattle.meaning_rows.specs.Runs.{runs}
-use Rattle.meaning_rows.proofs.Runs.{runs-le}
-use Rattle.meaning_rows.proofs.Columns.{lefts, rights, length-lefts, length-rights}
+use Rattle.meaning_rows.proofs.{Runs.runs-le, Columns.lefts, Columns.rights, Columns.length-lefts, Columns.length-rights}
 use Rattle.meaning_entries.specs.Buffers.{filled}
 use Rattle.clear.specs.Clear.{clearedFrom}
 use Rattle.candidate_counts.specs.Handed.{Columns, Handed}

@@ -1,15 +1,6 @@
 -- What the scratch count tells: it is the number of parts exactly at the candidates (`leading-all`).
-use mathlib.Core.Path.{_≡_, refl, sym, _∙_, ap}
-use mathlib.Core.Bool.{Bool, true, false, _&&_, and-true, and-false, and-assoc}
-use mathlib.Core.List.{map}
-use Prim.Native.Nat.{ℕ, zero, suc, _+_, _*_, _≤_}
-use native.Mathlib.Omega.{arith}
-use native.Mathlib.Nat.{zero-add}
-use lib.Dec.{eqb}
-use lib.IntN.{ℤ, natAbs}
-use borrow.Author.Tests.{eq-eqb, ne-eqb}
 use Rattle.meaning_numbers.specs.Place.{numbersFrom}
-use Rattle.meaning_numbers.proofs.Tests.{by-test}
+use Rattle.meaning_numbers.proofs.Prelude.{_≡_, refl, sym, _∙_, ap, Bool, true, false, _&&_, and-true, and-false, and-assoc, map, ℕ, zero, suc, _+_, _*_, _≤_, arith, zero-add, eqb, ℤ, natAbs, eq-eqb, ne-eqb, by-test}
 use Rattle.meaning_rows.specs.Index.{Index}
 use Rattle.meaning_filter.specs.Candidates.{admits, candidate}
 use Rattle.candidate_counts.specs.Raise.{bump}

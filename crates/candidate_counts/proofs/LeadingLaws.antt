@@ -1,11 +1,5 @@
 -- How many leading parts an offset meets, of the first so many: what the scratch count holds (01, Candidates). An offset that stands in two rows of a wrong index counts once.
-use mathlib.Core.Path.{_≡_}
-use mathlib.Core.Bool.{cond}
-use mathlib.Core.List.{List}
-use Prim.Native.Nat.{ℕ, zero, suc, _+_, _*_}
-use lib.Dec.{ltb}
-use lib.IntN.{ℤ, natAbs}
-use lib.ListN.{getD}
+use Rattle.meaning_numbers.proofs.Prelude.{_≡_, cond, List, ℕ, zero, suc, _+_, _*_, ltb, ℤ, natAbs, getD}
 use Rattle.meaning_rows.specs.Index.{Index}
 use Rattle.meaning_filter.specs.Candidates.{admits}
 use Rattle.candidate_counts.specs.Raise.{bump}

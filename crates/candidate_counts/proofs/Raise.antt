@@ -1,16 +1,6 @@
 -- Counts raised place by place and run by run: raised twice by one part is raised once by either (`bump-twice`); a turn over places (`raise-more`) and over runs (`going-next`).
-use mathlib.Core.Path.{_≡_, refl, sym, _∙_}
-use mathlib.Core.Bool.{Bool, true, false, _&&_, _||_, and-false}
-use mathlib.Core.List.{List, [], _∷_}
-use Prim.Native.Nat.{ℕ, _+_, _-_, _<_, _≤_, min, max}
-use native.Mathlib.Omega.{arith}
-use lib.Dec.{leb, ltb, eqb}
-use lib.IntN.{pos}
-use lib.ListN.{length, getD, set, length-set}
-use lib.Seq.{getD-set-same, getD-set-other}
-use borrow.Author.Tests.{leb-true, leb-false, ltb-true, ltb-false, eqb-true, eqb-false, lt-ltb, le-ltb, le-leb, lt-leb, ne-eqb}
 use Rattle.meaning_numbers.specs.Place.{any}
-use Rattle.meaning_numbers.proofs.Tests.{by-test}
+use Rattle.meaning_numbers.proofs.Prelude.{_≡_, refl, sym, _∙_, Bool, true, false, _&&_, _||_, and-false, List, [], _∷_, ℕ, _+_, _-_, _<_, _≤_, min, max, arith, leb, ltb, eqb, pos, length, getD, set, length-set, getD-set-same, getD-set-other, leb-true, leb-false, ltb-true, ltb-false, eqb-true, eqb-false, lt-ltb, le-ltb, le-leb, lt-leb, ne-eqb, by-test}
 use Rattle.meaning_rows.specs.Index.{Entry, inRun}
 use Rattle.candidate_counts.specs.Raise.{bump, between, reached, Raised}
 

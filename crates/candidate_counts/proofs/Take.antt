@@ -1,18 +1,10 @@
 -- Offsets taken in one by one (`taking-next`), or passed over where none is in the set (`took-none`).
-use mathlib.Core.Path.{_≡_, refl, sym, ap, _∙_}
-use mathlib.Core.Bool.{Bool, true, false, not, _&&_}
-use mathlib.Core.List.{List}
-use Prim.Native.Nat.{ℕ, zero, suc, _+_, _-_, _<_, _≤_}
-use native.Mathlib.Omega.{arith}
-use native.Mathlib.Nat.{le-step}
-use lib.ListN.{length, length-set}
 use Rattle.meaning_numbers.specs.Sum.{bit, count}
 use Rattle.meaning_numbers.proofs.Count.{bit-le, bit-false, count-more, never-count}
+use Rattle.meaning_numbers.proofs.Prelude.{_≡_, refl, sym, ap, _∙_, Bool, true, false, not, _&&_, List, ℕ, zero, suc, _+_, _-_, _<_, _≤_, arith, le-step, length, length-set}
 use Rattle.meaning_rows.specs.Runs.{before, takeIn, runs, runCount}
-use Rattle.meaning_rows.proofs.Runs.{runs-more, runCount-more, before-more, runs-le}
-use Rattle.meaning_rows.proofs.Columns.{putLeft, putRight, Filling, filling-next}
-use Rattle.candidate_counts.specs.declared.Found.{Found}
-use Rattle.candidate_counts.specs.Take.{Took}
+use Rattle.meaning_rows.proofs.{Runs.runs-more, Runs.runCount-more, Runs.before-more, Runs.runs-le, Columns.putLeft, Columns.putRight, Columns.Filling, Columns.filling-next}
+use Rattle.candidate_counts.specs.{declared.Found.Found, Take.Took}
 
 -- ---- an offset that is not in the set
 

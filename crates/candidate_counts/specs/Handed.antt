@@ -1,10 +1,10 @@
 -- The candidates as they are handed out: joined runs at the front of a buffer of two slices, and how many runs and offsets they are (01, Candidates).
-use mathlib.Core.Path.{_≡_}
-use mathlib.Core.Bool.{Bool}
-use mathlib.Core.List.{List, map, _++_}
 use Prim.Native.Nat.{ℕ}
 use lib.Dec.{eqb}
 use lib.ListN.{getD, drop}
+use mathlib.Core.Bool.{Bool}
+use mathlib.Core.List.{List, map, _++_}
+use mathlib.Core.Path.{_≡_}
 use Rattle.meaning_numbers.specs.Sum.{count}
 use Rattle.meaning_rows.specs.Runs.{runs, runCount}
 use Rattle.meaning_rows.proofs.Columns.{lefts, rights}

@@ -1,10 +1,10 @@
 -- What a part does to the scratch count: each place that is hit and stands at the part's number is raised by one, and no other.
-use mathlib.Core.Path.{_≡_}
-use mathlib.Core.Bool.{Bool, cond, _&&_}
-use mathlib.Core.List.{List}
 use Prim.Native.Nat.{ℕ, _+_}
 use lib.Dec.{leb, ltb, eqb}
 use lib.ListN.{length, getD}
+use mathlib.Core.Bool.{Bool, cond, _&&_}
+use mathlib.Core.List.{List}
+use mathlib.Core.Path.{_≡_}
 use Rattle.meaning_numbers.specs.Place.{any}
 use Rattle.meaning_rows.specs.Index.{Entry, inRun}
 

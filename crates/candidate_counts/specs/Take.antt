@@ -1,9 +1,9 @@
 -- Some offsets taken in behind what was handed out: a stretch of the loop that writes the runs.
-use mathlib.Core.Path.{_≡_}
-use mathlib.Core.Bool.{Bool}
-use mathlib.Core.List.{List}
 use Prim.Native.Nat.{ℕ, _+_, _≤_}
 use lib.ListN.{length}
+use mathlib.Core.Bool.{Bool}
+use mathlib.Core.List.{List}
+use mathlib.Core.Path.{_≡_}
 use Rattle.meaning_numbers.specs.Sum.{bit, count}
 use Rattle.meaning_rows.proofs.Columns.{Filling}
 use Rattle.candidate_counts.specs.declared.Found.{Found}

@@ -1,49 +1,32 @@
 -- Finding candidates, where nothing refuses the search before it looks: what its parts ask for is had (`put-asked`, `meet-asked`, `hand-asked`), and what they promise is the promise of finding (`gathered`).
-use mathlib.Core.Path.{_≡_, refl, sym, ap, _∙_}
-use mathlib.Core.Bool.{Bool, true, false, not}
-use mathlib.Core.List.{List, [], map}
 use Prim.Native.Nat.{ℕ, zero, suc, _+_, _-_, _*_, _/_, _<_, _≤_, min}
-use native.Mathlib.Omega.{arith}
-use native.Mathlib.Nat.{div-le-self, div-mul-le-self}
-use lib.Dec.{eqb}
 use borrow.Author.Tests.{eqb-true, eqb-false, not-true, not-false}
+use lib.Dec.{eqb}
 use lib.IntN.{ℤ}
 use lib.ListN.{length, getD, length-replicate}
-use Rattle.meaning_filter.proofs.Candidates.{count}
-use Rattle.meaning_filter.proofs.Candidates.{count-cong}
-use Rattle.candidate_spans.specs.Held.{at}
-use Rattle.meaning_rows.specs.declared.Row.{Row}
-use Rattle.meaning_rows.specs.declared.Head.{Head}
-use Rattle.meaning_rows.specs.Index.{Index, lent, entries}
-use Rattle.meaning_rows.specs.Runs.{runs}
+use mathlib.Core.Bool.{Bool, true, false, not}
+use mathlib.Core.List.{List, [], map}
+use mathlib.Core.Path.{_≡_, refl, sym, ap, _∙_}
+use native.Mathlib.Nat.{div-le-self, div-mul-le-self}
+use native.Mathlib.Omega.{arith}
+use Rattle.meaning_rows.specs.{declared.Row.Row, declared.Head.Head, Index.Index, Index.lent, Index.entries, Runs.runs}
 use Rattle.meaning_rows.proofs.Runs.{runs-cong}
-use Rattle.meaning_filter.specs.declared.Ask.{Ask}
-use Rattle.meaning_filter.specs.Range.{rangeOf, ranges}
-use Rattle.meaning_filter.specs.Candidates.{admits}
-use Rattle.meaning_filter.specs.Matches.{candidateAt, candidateRuns, candidateCount}
+use Rattle.meaning_filter.specs.{declared.Ask.Ask, Range.rangeOf, Range.ranges, Candidates.admits, Matches.candidateAt, Matches.candidateRuns, Matches.candidateCount}
+use Rattle.meaning_filter.proofs.Candidates.{count, count-cong}
 use Rattle.meaning_entries.specs.Buffers.{filled, pairRoom}
 use Rattle.meaning_entries.specs.Search.{SearchCall, SearchBuffers, lentSearch, question, searchPlan, searchCandidates, lookedAfter, searchBuffers}
-use Rattle.rows_judge.specs.declared.Judged.{Judged}
-use Rattle.rows_judge.specs.Judged.{judgedOf}
+use Rattle.rows_judge.specs.{declared.Judged.Judged, Judged.judgedOf}
 use Rattle.rows_judge.proofs.Scan.{length-entries}
-use Rattle.candidate_counts.proofs.LeadingLaws.{leading, Counted}
-use Rattle.candidate_counts.proofs.Leading.{leading-all}
-use Rattle.candidate_met.specs.declared.Span.{Span}
-use Rattle.candidate_met.specs.Met.{clampOf, metSpan}
-use Rattle.candidate_met.proofs.Parts.{FoundAll}
-use Rattle.candidate_met.proofs.Meaning.{cleared-zeros, found-all}
+use Rattle.refusals.specs.{declared.Refusal.Refusal, Refusal.refusalOf, Refusal.asRefusal}
+use Rattle.candidate_counts.proofs.{LeadingLaws.leading, LeadingLaws.Counted, Leading.leading-all}
+use Rattle.candidate_met.specs.{declared.Span.Span, Met.clampOf, Met.metSpan}
+use Rattle.candidate_met.proofs.{Parts.FoundAll, Meaning.cleared-zeros, Meaning.found-all, Stored.raised-most, Stored.lowered}
 use Rattle.candidate_met.proofs.Spanned.{span-admits, span-inside, span-few, clamp-admits, climbs}
-use Rattle.candidate_spans.specs.Held.{RangesReady, RangesHeld}
-use Rattle.candidate_met.proofs.Stored.{raised-most, lowered}
-use Rattle.candidate_spans.specs.Met.{spanAt, MeetReady, AllMet}
-use Rattle.candidate_spans.specs.Raised.{stretchHit}
-use Rattle.candidate_spans.proofs.Raised.{counted-all}
 use Rattle.candidate_plan.specs.Tables.{planOf}
 use Rattle.candidate_plan.specs.Allowed.{Allowed, thePlan, plan-is, goes-on, allowed}
-use Rattle.refusals.specs.declared.Refusal.{Refusal}
-use Rattle.refusals.specs.Refusal.{refusalOf, asRefusal}
-use Rattle.candidate_find.specs.declared.Sought.{Sought}
-use Rattle.candidate_find.specs.Sought.{stopped, HandReady, HandedOut, SoughtKept}
+use Rattle.candidate_spans.specs.{Held.at, Held.RangesReady, Held.RangesHeld, Met.spanAt, Met.MeetReady, Met.AllMet, Raised.stretchHit}
+use Rattle.candidate_spans.proofs.Raised.{counted-all}
+use Rattle.candidate_find.specs.{declared.Sought.Sought, Sought.stopped, Sought.HandReady, Sought.HandedOut, Sought.SoughtKept}
 
 length-cleared : (l : List ℕ) → length (filled 0 [] l) ≡ length l
 unfolding filled

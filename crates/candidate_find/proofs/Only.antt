@@ -1,14 +1,13 @@
 -- The promise of finding candidates leaves one outcome.
-use mathlib.Core.Path.{_≡_, _∙_, sym, ap}
-use mathlib.Core.List.{List}
 use Prim.Native.Nat.{ℕ}
-use lib.Dec.{eqb}
 use borrow.Author.Tests.{eqb-true, eqb-false}
+use lib.Dec.{eqb}
+use mathlib.Core.List.{List}
+use mathlib.Core.Path.{_≡_, _∙_, sym, ap}
 use Rattle.meaning_filter.proofs.Candidates.{by-test}
 use Rattle.meaning_entries.specs.Search.{SearchCall}
 use Rattle.refusals.specs.declared.Refusal.{Refusal}
-use Rattle.candidate_find.specs.declared.Sought.{Sought}
-use Rattle.candidate_find.specs.Sought.{SoughtKept}
+use Rattle.candidate_find.specs.{declared.Sought.Sought, Sought.SoughtKept}
 
 module _ (c : SearchCall) (left right scratch : List ℕ) {t u : Sought} {left′ right′ scratch′ left″ right″ scratch″ : List ℕ} where
   pub sought-only : SoughtKept c left right scratch t left′ right′ scratch′ → SoughtKept c left right scratch u left″ right″ scratch″ → (t ≡ u) × (left′ ≡ left″) × (right′ ≡ right″) × (scratch′ ≡ scratch″)

@@ -1,18 +1,16 @@
 -- What finding a search's candidates comes to, and what its parts ask and leave.
-use mathlib.Core.Path.{_≡_}
-use mathlib.Core.List.{List, []}
 use Prim.Native.Nat.{ℕ, _+_, _-_, _/_, _≤_}
 use lib.IntN.{ℤ}
 use lib.ListN.{length}
-use Rattle.candidate_plan.specs.Allowed.{mostValues, longestWindow}
-use Rattle.meaning_rows.specs.declared.Head.{Head}
-use Rattle.meaning_rows.specs.Runs.{runs}
+use mathlib.Core.List.{List, []}
+use mathlib.Core.Path.{_≡_}
+use Rattle.meaning_rows.specs.{declared.Head.Head, Runs.runs}
 use Rattle.meaning_filter.specs.Matches.{candidateRuns}
 use Rattle.meaning_entries.specs.Buffers.{filled}
 use Rattle.meaning_entries.specs.Search.{SearchCall, question, searchPlan, searchCandidates, lookedAfter, searchBuffers}
-use Rattle.refusals.specs.declared.Refusal.{Refusal}
-use Rattle.refusals.specs.Refusal.{refusalOf, unrefused}
+use Rattle.refusals.specs.{declared.Refusal.Refusal, Refusal.refusalOf, Refusal.unrefused}
 use Rattle.candidate_counts.specs.Handed.{stood, Handed}
+use Rattle.candidate_plan.specs.Allowed.{mostValues, longestWindow}
 use Rattle.candidate_spans.specs.Raised.{CountedBy, stretchHit, StretchesReady}
 use Rattle.candidate_find.specs.declared.Sought.{Sought}
 

@@ -1,15 +1,5 @@
 -- The first row whose upper end is above a number: what a search finds is that place (`found-above`); every row before it ends at or below the number (`above-before`), and that row ends above it (`above-at`).
-use mathlib.Core.Path.{_≡_}
-use mathlib.Core.Bool.{true, false}
-use mathlib.Core.List.{List, [], _∷_}
-use Prim.Native.Nat.{ℕ, zero, suc, _<_, _≤_}
-use native.Mathlib.Omega.{arith}
-use native.Mathlib.Decide.{decLt}
-use lib.IntN.{ℤ}
-use lib.ListN.{length, getD}
-use lib.Signed.{leZ, _≤ℤ_, _<ℤ_}
-use Rattle.meaning_numbers.proofs.Machine.{zmach, leZ-true}
-use Rattle.meaning_numbers.proofs.Tests.{by-test}
+use Rattle.meaning_numbers.proofs.Prelude.{_≡_, true, false, List, [], _∷_, ℕ, zero, suc, _<_, _≤_, arith, decLt, ℤ, length, getD, leZ, _≤ℤ_, _<ℤ_, zmach, leZ-true, by-test}
 use Rattle.meaning_rows.specs.declared.Row.{Row}
 use Rattle.rows_records.specs.Records.{zeroRow}
 use Rattle.rows_find.specs.Search.{Found}

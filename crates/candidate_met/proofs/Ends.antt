@@ -1,11 +1,6 @@
 -- A clamped end stands to every row end as it did (`clamp-le`, `clamp-lt`).
-use mathlib.Core.Path.{_≡_}
-use mathlib.Core.Bool.{true, false}
-use lib.IntN.{ℤ, pos, negsuc}
-use lib.Signed.{leZ, ltZ, _≤ℤ_, _<ℤ_}
-use Rattle.meaning_numbers.proofs.Machine.{zmach, leZ-true, lt-ltZ, le-ltZ}
-use Rattle.meaning_numbers.proofs.Tests.{by-test, both}
 use Rattle.meaning_numbers.specs.Order.{within}
+use Rattle.meaning_numbers.proofs.Prelude.{_≡_, true, false, ℤ, pos, negsuc, leZ, ltZ, _≤ℤ_, _<ℤ_, zmach, leZ-true, lt-ltZ, le-ltZ, by-test, both}
 use Rattle.meaning_curves.specs.Limits.{endIn, lowestEnd}
 use Rattle.meaning_rows.proofs.Range.{le-leZ}
 use Rattle.candidate_met.specs.Met.{clampOf}

@@ -1,19 +1,11 @@
 -- What a search has of the scratch count: cleared, it is 0 everywhere; and where all parts raised it, what is handed out are the offsets that meet all of them (`found-all`).
-use mathlib.Core.Path.{_≡_, ap, _∙_}
-use mathlib.Core.List.{List, [], map}
-use Prim.Native.Nat.{ℕ, _-_, _<_}
-use native.Mathlib.Omega.{arith}
-use native.Mathlib.Decide.{decLt}
-use lib.Dec.{eqb}
-use lib.IntN.{ℤ}
-use lib.ListN.{length, getD, replicate, length-replicate, getD-replicate, List·getD-eq-default}
-use borrow.Author.Tests.{lt-ltb}
 use Rattle.meaning_numbers.proofs.Count.{count-cong}
+use Rattle.meaning_numbers.proofs.Prelude.{_≡_, ap, _∙_, List, [], map, ℕ, _-_, _<_, arith, decLt, eqb, ℤ, length, getD, replicate, length-replicate, getD-replicate, List·getD-eq-default, lt-ltb}
 use Rattle.meaning_rows.specs.Index.{Index}
 use Rattle.meaning_rows.proofs.Runs.{runs-cong}
 use Rattle.meaning_entries.specs.Buffers.{filled}
-use Rattle.candidate_counts.proofs.LeadingLaws.{leading, Counted}
 use Rattle.candidate_counts.specs.Handed.{stood, Handed}
+use Rattle.candidate_counts.proofs.LeadingLaws.{leading, Counted}
 use Rattle.candidate_met.proofs.Parts.{FoundAll}
 
 -- counts that were cleared

@@ -1,11 +1,8 @@
 -- Laws of specs/Parts.
-use mathlib.Core.List.{List}
-use Prim.Native.Nat.{ℕ}
-use lib.Dec.{eqb}
-use lib.IntN.{ℤ}
+use Rattle.meaning_numbers.proofs.Prelude.{List, ℕ, eqb, ℤ}
 use Rattle.meaning_rows.specs.Index.{Index}
-use Rattle.candidate_counts.proofs.LeadingLaws.{leading}
 use Rattle.candidate_counts.specs.Handed.{Handed}
+use Rattle.candidate_counts.proofs.LeadingLaws.{leading}
 
 -- the offsets that meet all parts, handed out
 abbrev pub FoundAll : Index → (ℕ → ℤ × ℤ) → ℕ → ℕ → List ℕ → List ℕ → List ℕ → List ℕ → ℕ → ℕ → Type 0

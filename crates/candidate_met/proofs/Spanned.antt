@@ -1,31 +1,16 @@
 -- The stretch of runs that code finds has exactly the offsets that the range admits (`span-admits`), and lies inside the run buffer (`span-inside`, `span-few`), where the index is well formed.
 -- The rows met are those from row a up to row e: they begin after the rows that end at or below the range, and end before those that begin above it. Their runs stand side by side.
-use mathlib.Core.Path.{_≡_, refl, sym, ap, _∙_, subst}
-use mathlib.Core.Bool.{Bool, true, false, cond, _&&_, false≢true}
-use mathlib.Core.List.{List, [], _∷_}
-use Prim.Native.Nat.{ℕ, zero, suc, _+_, _-_, _<_, _≤_}
-use native.Mathlib.Omega.{arith}
-use native.Mathlib.Decide.{decLt, decLe}
-use lib.Dec.{eqb, ltb}
-use lib.IntN.{ℤ, pos, natAbs}
-use lib.ListN.{length, getD, take, drop, length-take, length-drop, List·getD-eq-default}
-use lib.Seq.{getD-take, getD-drop, take-length}
-use lib.Signed.{leZ, ltZ, _≤ℤ_, _<ℤ_}
-use borrow.Author.Tests.{ltb-true, ltb-false, lt-ltb, le-ltb, ne-eqb}
 use Rattle.meaning_numbers.specs.Place.{any}
-use Rattle.meaning_numbers.proofs.Machine.{zmach, lt-ltZ, leZ-true, ltZ-true}
 use Rattle.meaning_numbers.proofs.Member.{any-mem, any-cong, all-mem, mem-at}
-use Rattle.meaning_numbers.proofs.Tests.{by-test, both, of-both}
-use Rattle.meaning_rows.specs.declared.Row.{Row}
-use Rattle.meaning_rows.specs.Index.{Index, Entry, inRun, stands, runsOf}
-use Rattle.meaning_rows.proofs.Judge.{WellFormed, GoodRow, runTotal, each-row, row-at, order-at, first-at, runs-at-most, length-runsOf}
+use Rattle.meaning_numbers.proofs.Prelude.{_≡_, refl, sym, ap, _∙_, subst, Bool, true, false, cond, _&&_, false≢true, List, [], _∷_, ℕ, zero, suc, _+_, _-_, _<_, _≤_, arith, decLt, decLe, eqb, ltb, ℤ, pos, natAbs, length, getD, take, drop, length-take, length-drop, List·getD-eq-default, getD-take, getD-drop, take-length, leZ, ltZ, _≤ℤ_, _<ℤ_, ltb-true, ltb-false, lt-ltb, le-ltb, ne-eqb, zmach, lt-ltZ, leZ-true, ltZ-true, by-test, both, of-both}
+use Rattle.meaning_rows.specs.{declared.Row.Row, Index.Index, Index.Entry, Index.inRun, Index.stands, Index.runsOf}
 use Rattle.meaning_rows.proofs.Range.{le-leZ}
+use Rattle.meaning_rows.proofs.Judge.{WellFormed, GoodRow, runTotal, each-row, row-at, order-at, first-at, runs-at-most, length-runsOf}
 use Rattle.meaning_filter.specs.Candidates.{met, admits}
 use Rattle.rows_records.specs.Records.{zeroRow}
 use Rattle.rows_find.specs.Search.{Climbs}
 use Rattle.candidate_met.specs.Met.{clampOf, firstAbove, endOf, reachedRuns, spanOf, metSpan}
-use Rattle.candidate_met.proofs.Ends.{row-end, clamp-lt, clamp-le}
-use Rattle.candidate_met.proofs.Above.{above-le, above-before, above-at}
+use Rattle.candidate_met.proofs.{Ends.row-end, Ends.clamp-lt, Ends.clamp-le, Above.above-le, Above.above-before, Above.above-at}
 
 -- ---- some entry passes, by its place
 

@@ -1,14 +1,7 @@
 -- The ends of a range are clamped, raised and lowered again.
-use mathlib.Core.Path.{_≡_}
-use Prim.Native.Nat.{_≤_}
-use lib.IntN.{ℤ, pos, negsuc, natAbs, _+ℤ_, _-ℤ_}
-use lib.Signed.{ltZ}
-use Rattle.meaning_numbers.proofs.Rep.{zarith, z-add, z-sub, to-eq}
-use Rattle.meaning_numbers.proofs.Machine.{z-abs, ltZ-false, le-ltZ}
 use Rattle.meaning_numbers.proofs.Between.{Between}
-use Rattle.meaning_numbers.proofs.Tests.{by-test}
-use Rattle.candidate_met.specs.Met.{clampOf}
-use Rattle.candidate_met.specs.Stored.{raisedEnd}
+use Rattle.meaning_numbers.proofs.Prelude.{_≡_, _≤_, ℤ, pos, negsuc, natAbs, _+ℤ_, _-ℤ_, ltZ, zarith, z-add, z-sub, to-eq, z-abs, ltZ-false, le-ltZ, by-test}
+use Rattle.candidate_met.specs.{Met.clampOf, Stored.raisedEnd}
 
 -- a clamped end lies in its limits
 pub clamp-in : (z : ℤ) → Between (negsuc 4000000) (clampOf z) (pos 4000001)

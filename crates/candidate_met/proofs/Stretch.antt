@@ -1,14 +1,9 @@
 -- The stretch of runs that a range meets, from what the steps of `met_span` find.
-use mathlib.Core.Path.{_≡_, refl}
-use mathlib.Core.List.{List}
-use Prim.Native.Nat.{ℕ, _-_}
-use lib.IntN.{ℤ}
-use lib.ListN.{length, getD}
+use Rattle.meaning_numbers.proofs.Prelude.{_≡_, refl, List, ℕ, _-_, ℤ, length, getD}
 use Rattle.meaning_rows.specs.declared.Row.{Row}
 use Rattle.rows_records.specs.Records.{zeroRow}
 use Rattle.rows_find.specs.Search.{Found}
-use Rattle.candidate_met.specs.declared.Span.{Span}
-use Rattle.candidate_met.specs.Met.{spanOf, metSpan}
+use Rattle.candidate_met.specs.{declared.Span.Span, Met.spanOf, Met.metSpan}
 use Rattle.candidate_met.proofs.Above.{found-above}
 
 pub met-is : (rows : List Row) {low high : ℤ} {a b k : ℕ} {none first end edge : Row} {t : Span} → Found rows (length rows) low a → Found rows (length rows) high b → none ≡ zeroRow

@@ -1,9 +1,8 @@
 -- The range of each part of a query, and the offsets that meet all parts handed out.
-use mathlib.Core.List.{List}
 use Prim.Native.Nat.{ℕ}
 use lib.IntN.{ℤ}
-use Rattle.candidate_ranges.specs.declared.Frame.{Frame}
-use Rattle.candidate_ranges.specs.Frame.{rangeAt}
+use mathlib.Core.List.{List}
+use Rattle.candidate_ranges.specs.{declared.Frame.Frame, Frame.rangeAt}
 
 -- the ends of the range of part i, of the envelopes
 abbrev pub partRange : Frame → List ℤ → List ℤ → ℕ → ℕ → ℤ × ℤ

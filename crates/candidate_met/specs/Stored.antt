@@ -1,8 +1,8 @@
 -- A range as two columns hold it: its ends clamped and raised to natural numbers.
-use mathlib.Core.List.{List}
 use Prim.Native.Nat.{ℕ, _<_, _≤_}
 use lib.IntN.{ℤ, pos, natAbs, _+ℤ_, _-ℤ_}
 use lib.ListN.{length, getD}
+use mathlib.Core.List.{List}
 use Rattle.candidate_ranges.specs.declared.Range.{Range}
 use Rattle.candidate_met.specs.Met.{clampOf}
 

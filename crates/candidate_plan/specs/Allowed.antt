@@ -1,36 +1,26 @@
 -- The plan over a lent index is the refusal of the search before it looks (`plan-is`). Where it refuses, that is the answer, and no buffer is altered (`plan-stops`). Where it does not, the call is within all limits (`allowed`), and what is left to decide is whether the list holds all matches (`goes-on`).
-use mathlib.Core.Path.{_≡_, refl, subst}
-use mathlib.Core.Bool.{false}
-use mathlib.Core.List.{List}
-use mathlib.Core.Option.{none, some}
 use Prim.Native.Nat.{ℕ, zero, suc, _+_, _-_, _<_, _≤_}
-use native.Mathlib.Omega.{arith}
 use lib.Dec.{T, eqb}
 use lib.IntN.{ℤ, pos}
 use lib.ListN.{length}
-use Rattle.meaning_numbers.proofs.Rep.{zarith, z-sub}
-use Rattle.meaning_numbers.proofs.Tests.{clash}
-use Rattle.meaning_curves.specs.Curve.{at, spread}
-use Rattle.meaning_curves.specs.Normal.{flat}
+use mathlib.Core.Bool.{false}
+use mathlib.Core.List.{List}
+use mathlib.Core.Option.{none, some}
+use mathlib.Core.Path.{_≡_, refl, subst}
+use native.Mathlib.Omega.{arith}
+use Rattle.meaning_numbers.proofs.{Rep.zarith, Rep.z-sub, Tests.clash}
+use Rattle.meaning_curves.specs.{Curve.at, Curve.spread, Normal.flat}
 use Rattle.meaning_curves.proofs.Values.{AllIn}
-use Rattle.meaning_rows.specs.declared.Row.{Row}
-use Rattle.meaning_rows.specs.declared.Head.{Head}
-use Rattle.meaning_rows.specs.Index.{Index, lent}
+use Rattle.meaning_rows.specs.{declared.Row.Row, declared.Head.Head, Index.Index, Index.lent}
 use Rattle.meaning_rows.proofs.Judge.{WellFormed}
-use Rattle.meaning_filter.specs.declared.Kind.{Kind}
-use Rattle.meaning_filter.specs.declared.Limits.{Limits}
-use Rattle.meaning_filter.specs.declared.Ask.{Ask}
-use Rattle.meaning_entries.specs.declared.Found.{Found}
-use Rattle.meaning_entries.specs.Refusal.{firstRefusal, normalFlat, fewerWindows, moreWindows}
-use Rattle.meaning_entries.specs.Buffers.{pairRoom}
+use Rattle.meaning_filter.specs.{declared.Kind.Kind, declared.Limits.Limits, declared.Ask.Ask}
+use Rattle.meaning_entries.specs.{declared.Found.Found, Refusal.firstRefusal, Refusal.normalFlat, Refusal.fewerWindows, Refusal.moreWindows, Buffers.pairRoom}
 use Rattle.meaning_entries.specs.Search.{SearchCall, SearchBuffers, lentSearch, searchPlan, searchAnswer, searchAfter}
-use Rattle.meaning_entries.proofs.Refusal.{AllPass, passed-is, openLines, passed-line, passed-behind, lacks}
+use Rattle.meaning_entries.proofs.{Looked.plan-refused, Passes.same-windows}
 use Rattle.meaning_entries.proofs.Lines.{long-line, values-line, query-line, below-line, band-line, threshold-line, scale-line, flat-line, formed-line, fewer-line, more-line, room-line}
-use Rattle.meaning_entries.proofs.Looked.{plan-refused}
-use Rattle.meaning_entries.proofs.Passes.{same-windows}
+use Rattle.meaning_entries.proofs.Refusal.{AllPass, passed-is, openLines, passed-line, passed-behind, lacks}
 use Rattle.rows_judge.specs.Judged.{judgedOf, bad-row}
-use Rattle.refusals.specs.declared.Refusal.{Refusal}
-use Rattle.refusals.specs.Refusal.{refusalOf, judged-line, passes, refuses}
+use Rattle.refusals.specs.{declared.Refusal.Refusal, Refusal.refusalOf, Refusal.judged-line, Refusal.passes, Refusal.refuses}
 use Rattle.candidate_plan.specs.Tables.{valuesTable, numbersTable, inputTable, windowsTable, stateTable, planOf}
 pub use Rattle.meaning_curves.specs.Limits.{mostValues, longestWindow}
 

@@ -1,17 +1,14 @@
 -- The refusals of a search but 24, in order, over what code has: the index is told by its head and by what judging said of it.
-use mathlib.Core.List.{List, [], _∷_, _++_}
 use Prim.Native.Nat.{ℕ}
 use lib.IntN.{ℤ, pos}
 use lib.ListN.{length}
+use mathlib.Core.List.{List, [], _∷_, _++_}
 use Rattle.meaning_curves.specs.Limits.{mostValues}
-use Rattle.meaning_rows.specs.declared.Head.{Head}
-use Rattle.meaning_rows.specs.Index.{lent}
+use Rattle.meaning_rows.specs.{declared.Head.Head, Index.lent}
 use Rattle.meaning_filter.specs.declared.Ask.{Ask}
-use Rattle.meaning_entries.specs.Refusal.{Condition, flatQuery}
-use Rattle.meaning_entries.specs.Search.{lentAsk, valueLines, limitLines, windowLines}
+use Rattle.meaning_entries.specs.{Refusal.Condition, Refusal.flatQuery, Search.lentAsk, Search.valueLines, Search.limitLines, Search.windowLines}
 use Rattle.rows_judge.specs.declared.Judged.{Judged}
-use Rattle.refusals.specs.declared.Refusal.{Refusal}
-use Rattle.refusals.specs.Refusal.{refusalOf, judgedLine}
+use Rattle.refusals.specs.{declared.Refusal.Refusal, Refusal.refusalOf, Refusal.judgedLine}
 
 -- 1 and 2
 unfoldable pub valuesTable : List ℤ → List ℤ → List Condition

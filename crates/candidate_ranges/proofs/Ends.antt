@@ -1,24 +1,10 @@
 -- The ends of a part's range, as code makes them of a frame and the envelopes' sums, are the range of document 01 (`range-is`).
-use mathlib.Core.Path.{_≡_, ap, _∙_}
-use mathlib.Core.List.{List}
-use Prim.Native.Nat.{ℕ, _+_, _*_, _≤_}
-use native.Mathlib.Omega.{arith}
-use lib.IntN.{ℤ, pos, negsuc, negℤ, _+ℤ_, _-ℤ_, _*ℤ_}
-use lib.ListN.{length}
-use lib.Signed.{ltZ}
-use Rattle.meaning_numbers.specs.Sum.{Σℤ}
-use Rattle.meaning_numbers.specs.Root.{root}
-use Rattle.meaning_numbers.specs.Order.{minℤ, maxℤ}
-use Rattle.meaning_numbers.specs.Quotient.{floorℤ, ceilℤ}
-use Rattle.meaning_numbers.proofs.Rep.{rep-self, rep-pos, rep-add, rep-sub, rep-mul, rep-neg, rep-eq}
+use Rattle.meaning_numbers.specs.{Sum.Σℤ, Root.root, Order.minℤ, Order.maxℤ, Quotient.floorℤ, Quotient.ceilℤ}
 use Rattle.meaning_numbers.proofs.Sum.{Σℤ-same}
-use Rattle.meaning_numbers.proofs.Tests.{by-test}
-use Rattle.meaning_curves.specs.Curve.{at, stretch, windowSum, total, spread}
-use Rattle.meaning_curves.specs.Normal.{normalised}
+use Rattle.meaning_numbers.proofs.Prelude.{_≡_, ap, _∙_, List, ℕ, _+_, _*_, _≤_, arith, ℤ, pos, negsuc, negℤ, _+ℤ_, _-ℤ_, _*ℤ_, length, ltZ, rep-self, rep-pos, rep-add, rep-sub, rep-mul, rep-neg, rep-eq, by-test}
+use Rattle.meaning_curves.specs.{Curve.at, Curve.stretch, Curve.windowSum, Curve.total, Curve.spread, Normal.normalised}
 use Rattle.meaning_curves.proofs.Values.{AllIn}
-use Rattle.meaning_filter.specs.declared.Kind.{Kind}
-use Rattle.meaning_filter.specs.declared.Kind.the-variants.{Raw, Normal}
-use Rattle.meaning_filter.specs.declared.Limits.{Limits}
+use Rattle.meaning_filter.specs.{declared.Kind.Kind, declared.Kind.the-variants.Raw, declared.Kind.the-variants.Normal, declared.Limits.Limits}
 use Rattle.meaning_filter.specs.Range.{lowerSum, upperSum, rawLow, rawHigh, normalLow, normalHigh, rangeOf}
 use Rattle.values.proofs.SumsLaws.{sum-raised}
 use Rattle.distance_query.specs.Ready.{Ready, curveOf}

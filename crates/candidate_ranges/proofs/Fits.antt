@@ -1,16 +1,9 @@
 -- A query that was made ready, within its limits, has the sizes that a frame is made from (`query-in`).
-use mathlib.Core.Path.{refl}
-use mathlib.Core.List.{List}
-use Prim.Native.Nat.{ℕ, _≤_}
-use native.Mathlib.Omega.{arith}
-use lib.IntN.{ℤ}
-use lib.ListN.{length}
 use Rattle.meaning_numbers.specs.Sum.{Σℕ, square}
+use Rattle.meaning_numbers.proofs.Prelude.{refl, List, ℕ, _≤_, arith, ℤ, length}
 use Rattle.meaning_curves.specs.Curve.{stretch, spread}
-use Rattle.meaning_curves.proofs.Values.{AllIn}
-use Rattle.meaning_curves.proofs.Same.{spread-same}
-use Rattle.meaning_filter.specs.declared.Kind.{Kind}
-use Rattle.meaning_filter.specs.declared.Limits.{Limits}
+use Rattle.meaning_curves.proofs.{Values.AllIn, Same.spread-same}
+use Rattle.meaning_filter.specs.{declared.Kind.Kind, declared.Limits.Limits}
 use Rattle.numbers.specs.Raised.{raised}
 use Rattle.values.specs.Sums.{AreSums}
 use Rattle.values.proofs.SumsLaws.{sums-le, spread-bound}

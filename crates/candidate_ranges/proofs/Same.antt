@@ -1,15 +1,11 @@
 -- Envelopes of m values ask for those values alone: curves that agree below m have the same (`lower-same`, `upper-same`), and so the same sums over a part.
-use mathlib.Core.Path.{_≡_, _∙_}
-use mathlib.Core.List.{List}
-use Prim.Native.Nat.{ℕ, zero, suc, _+_, _-_, _<_, _≤_}
-use native.Mathlib.Omega.{arith}
-use lib.IntN.{ℤ}
 use Rattle.meaning_numbers.specs.Sum.{Σℤ}
 use Rattle.meaning_numbers.proofs.Sum.{Σℤ-same}
+use Rattle.meaning_numbers.proofs.Prelude.{_≡_, _∙_, List, ℕ, zero, suc, _+_, _-_, _<_, _≤_, arith, ℤ}
 use Rattle.meaning_curves.specs.Curve.{at, windowSum}
 use Rattle.meaning_curves.proofs.Same.{Same}
-use Rattle.meaning_filter.specs.Envelope.{leastOf, greatestOf, reachOf, lower, upper}
 use Rattle.meaning_filter.specs.Range.{lowerSum, upperSum}
+use Rattle.meaning_filter.specs.Envelope.{leastOf, greatestOf, reachOf, lower, upper}
 use Rattle.distance_envelope.specs.Envelope.{Envelopes}
 
 least-same : (s t : ℕ → ℤ) (k n : ℕ) → ((j : ℕ) → k ≤ j → j ≤ k + n → s j ≡ t j) → leastOf s k n ≡ leastOf t k n

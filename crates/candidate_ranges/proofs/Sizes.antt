@@ -1,23 +1,12 @@
 -- The sizes of a frame's numbers, within the limits of a query: all products fit 64 bits (`frame-in`).
-use mathlib.Core.Path.{_≡_}
-use mathlib.Core.Bool.{Bool, true, false}
-use Prim.Native.Nat.{ℕ, _+_, _*_, _/_, _≤_}
-use native.Mathlib.Omega.{arith}
-use native.Mathlib.Nat.{mul-le-mul, div-le-self}
-use lib.IntN.{ℤ, pos, _+ℤ_, _-ℤ_, _*ℤ_}
-use mir.Syntax.{w64}
-use mir.Val.{toZ, ofZ}
 use Rattle.meaning_numbers.specs.Root.{root}
 use Rattle.meaning_numbers.proofs.Root.{root-is, le-of-sq-le}
-use Rattle.meaning_filter.specs.declared.Kind.{Kind}
-use Rattle.meaning_filter.specs.declared.Kind.the-variants.{Raw, Normal}
-use Rattle.meaning_filter.specs.declared.Limits.{Limits}
-use Rattle.meaning_filter.specs.Range.{lowScale, highScale}
-use Rattle.distance_envelope.specs.Best.{pick}
-use Rattle.candidate_ranges.specs.declared.Frame.{Frame}
+use Rattle.meaning_numbers.proofs.Prelude.{_≡_, Bool, true, false, ℕ, _+_, _*_, _/_, _≤_, arith, mul-le-mul, div-le-self, ℤ, pos, _+ℤ_, _-ℤ_, _*ℤ_, w64, toZ, ofZ}
+use Rattle.meaning_filter.specs.{declared.Kind.Kind, declared.Kind.the-variants.Raw, declared.Kind.the-variants.Normal, declared.Limits.Limits, Range.lowScale, Range.highScale}
 use Rattle.numbers.specs.Small.{Small}
 use Rattle.numbers.proofs.Small.{small-pos, small-more, small-add, small-sub, small-mul, small-back, arg-back, small-max, small-min}
-use Rattle.candidate_ranges.specs.Frame.{frameOf, FrameIn, QueryIn}
+use Rattle.distance_envelope.specs.Best.{pick}
+use Rattle.candidate_ranges.specs.{declared.Frame.Frame, Frame.frameOf, Frame.FrameIn, Frame.QueryIn}
 pub use Rattle.distance_envelope.proofs.EnvelopeLaws.{low-in, high-in}
 
 pub small-pick : {n : ℕ} (low : Bool) (x y : ℤ) → Small n x → Small n y → Small n (pick low x y)

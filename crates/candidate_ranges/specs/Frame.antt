@@ -1,18 +1,12 @@
 -- The ranges of a query's parts as code makes them: what they share (`frameOf`), and the two ends of a part's range from the sums of the envelopes (`lowEnd`, `highEnd`).
-use mathlib.Core.List.{List}
 use Prim.Native.Nat.{ℕ, _+_, _*_, _≤_}
 use lib.IntN.{ℤ, pos, _+ℤ_, _-ℤ_, _*ℤ_}
-use Rattle.meaning_numbers.specs.Root.{root}
-use Rattle.meaning_numbers.specs.Quotient.{floorℤ, ceilℤ}
-use Rattle.meaning_numbers.specs.Order.{minℤ, maxℤ}
+use mathlib.Core.List.{List}
+use Rattle.meaning_numbers.specs.{Root.root, Quotient.floorℤ, Quotient.ceilℤ, Order.minℤ, Order.maxℤ}
 use Rattle.meaning_curves.specs.Curve.{windowSum}
-use Rattle.meaning_filter.specs.declared.Kind.{Kind}
-use Rattle.meaning_filter.specs.declared.Kind.the-variants.{Raw, Normal}
-use Rattle.meaning_filter.specs.declared.Limits.{Limits}
-use Rattle.meaning_filter.specs.Range.{lowScale, highScale}
-use Rattle.candidate_ranges.specs.declared.Frame.{Frame}
-use Rattle.candidate_ranges.specs.declared.Range.{Range}
+use Rattle.meaning_filter.specs.{declared.Kind.Kind, declared.Kind.the-variants.Raw, declared.Kind.the-variants.Normal, declared.Limits.Limits, Range.lowScale, Range.highScale}
 use Rattle.numbers.specs.Small.{Small}
+use Rattle.candidate_ranges.specs.{declared.Frame.Frame, declared.Range.Range}
 
 -- of a raw query: r, and nothing scaled or shifted
 abbrev pub rawFrame : Limits → ℕ → Frame

@@ -1,16 +1,8 @@
 -- Laws of specs/Held.
-use mathlib.Core.Path.{_≡_, ap, _∙_}
-use mathlib.Core.List.{List}
-use Prim.Native.Nat.{ℕ, suc, _+_, _*_, _<_, _≤_}
-use native.Mathlib.Omega.{arith}
-use native.Mathlib.Nat.{mul-le-mul-right}
-use native.Mathlib.Decide.{decLt}
-use lib.IntN.{ℤ}
-use lib.ListN.{length, set, length-set}
-use lib.Seq.{getD-set-same, getD-set-other}
+use Rattle.meaning_numbers.proofs.Prelude.{_≡_, ap, _∙_, List, ℕ, suc, _+_, _*_, _<_, _≤_, arith, mul-le-mul-right, decLt, ℤ, length, set, length-set, getD-set-same, getD-set-other}
 use Rattle.candidate_ranges.specs.declared.Frame.{Frame}
-use Rattle.candidate_spans.specs.Held.{lowEnds, highEnds, PartsHeld, Stored, EndsReady}
 use Rattle.candidate_met.specs.Stored.{raisedEnd}
+use Rattle.candidate_spans.specs.Held.{lowEnds, highEnds, PartsHeld, Stored, EndsReady}
 
 pub stored : (i a b : ℕ) (first last : List ℕ) → i < length first → i < length last → Stored i a b first last (set first i a) (set last i b)
 stored i a b first last h k = record {

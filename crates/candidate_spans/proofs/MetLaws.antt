@@ -1,16 +1,9 @@
 -- Laws of specs/Met.
-use mathlib.Core.Path.{_≡_, refl, ap, _∙_, subst}
-use mathlib.Core.List.{List}
-use Prim.Native.Nat.{ℕ, _+_, _<_, _≤_}
-use native.Mathlib.Omega.{arith}
-use lib.ListN.{length, getD}
+use Rattle.meaning_numbers.proofs.Prelude.{_≡_, refl, ap, _∙_, subst, List, ℕ, _+_, _<_, _≤_, arith, length, getD}
 use Rattle.meaning_rows.specs.declared.Row.{Row}
-use Rattle.candidate_met.specs.declared.Span.{Span}
-use Rattle.candidate_met.specs.Met.{clampOf}
-use Rattle.candidate_spans.specs.Held.{PartsHeld, Stored}
-use Rattle.candidate_met.specs.Stored.{EndsAt, heldRange}
+use Rattle.candidate_met.specs.{declared.Span.Span, Met.clampOf, Stored.EndsAt, Stored.heldRange}
+use Rattle.candidate_spans.specs.{Held.PartsHeld, Held.Stored, Met.spanAt, Met.MeetReady, Met.AllMet}
 use Rattle.candidate_spans.proofs.Held.{none-held, held-next, held-rest}
-use Rattle.candidate_spans.specs.Met.{spanAt, MeetReady, AllMet}
 
 -- ---- the loop, at part i
 

@@ -1,22 +1,10 @@
 -- A query that is prepared: what the ends of its parts ask for is had (`query-ready`, `ends-ready`), and what is held of them are the ranges of document 01 (`ranges-held`).
-use mathlib.Core.Path.{_≡_}
-use mathlib.Core.List.{List}
-use Prim.Native.Nat.{ℕ, suc, _+_, _*_, _/_, _<_, _≤_}
-use native.Mathlib.Omega.{arith}
-use native.Mathlib.Nat.{div-mul-le-self, div-le-self, mul-le-mul-right}
-use lib.IntN.{ℤ, pos, _-ℤ_}
-use lib.ListN.{length}
+use Rattle.meaning_numbers.proofs.Prelude.{_≡_, List, ℕ, suc, _+_, _*_, _/_, _<_, _≤_, arith, div-mul-le-self, div-le-self, mul-le-mul-right, ℤ, pos, _-ℤ_, length}
 use Rattle.meaning_curves.specs.Curve.{at}
-use Rattle.meaning_filter.specs.declared.Kind.{Kind}
-use Rattle.meaning_filter.specs.declared.Limits.{Limits}
-use Rattle.meaning_filter.specs.Range.{rangeOf}
+use Rattle.meaning_filter.specs.{declared.Kind.Kind, declared.Limits.Limits, Range.rangeOf}
 use Rattle.distance_query.specs.Ready.{Ready}
-use Rattle.candidate_ranges.proofs.Sizes.{low-in, high-in}
-use Rattle.candidate_ranges.specs.declared.Frame.{Frame}
-use Rattle.candidate_ranges.specs.Frame.{frameOf, QueryIn}
-use Rattle.candidate_ranges.proofs.Fits.{query-in}
-use Rattle.candidate_ranges.proofs.Sizes.{frame-in}
-use Rattle.candidate_ranges.proofs.Ends.{range-is}
+use Rattle.candidate_ranges.specs.{declared.Frame.Frame, Frame.frameOf, Frame.QueryIn}
+use Rattle.candidate_ranges.proofs.{Sizes.low-in, Sizes.high-in, Fits.query-in, Sizes.frame-in, Ends.range-is}
 use Rattle.candidate_met.specs.Parts.{partRange}
 use Rattle.candidate_spans.specs.Held.{PartsHeld, lowEnds, highEnds, EndsReady, RangesReady, RangesHeld}
 use Rattle.candidate_spans.proofs.Held.{held-same}

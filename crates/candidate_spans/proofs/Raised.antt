@@ -1,14 +1,5 @@
 -- Laws of specs/Raised.
-use mathlib.Core.Path.{_≡_, refl, ap, _∙_}
-use mathlib.Core.Bool.{Bool, cond, _&&_}
-use mathlib.Core.List.{List}
-use Prim.Native.Nat.{ℕ, zero, suc, _+_, _*_, _<_}
-use native.Mathlib.Omega.{arith}
-use native.Mathlib.Nat.{le-step}
-use lib.Dec.{ltb}
-use lib.IntN.{ℤ, natAbs}
-use lib.ListN.{getD}
-use Rattle.meaning_numbers.proofs.Tests.{by-test}
+use Rattle.meaning_numbers.proofs.Prelude.{_≡_, refl, ap, _∙_, Bool, cond, _&&_, List, ℕ, zero, suc, _+_, _*_, _<_, arith, le-step, ltb, ℤ, natAbs, getD, by-test}
 use Rattle.meaning_rows.specs.Index.{Index}
 use Rattle.meaning_filter.specs.Candidates.{admits}
 use Rattle.candidate_counts.specs.Raise.{bump, Raised}

@@ -1,17 +1,14 @@
 -- What the candidate buffer holds while the parts of a query are asked: two numbers of each part as an entry (`PartsHeld`). First they are the ends of the part's range, clamped and raised, then the stretch of runs that the range meets.
-use mathlib.Core.Path.{_≡_}
-use mathlib.Core.List.{List}
 use Prim.Native.Nat.{ℕ, _*_, _/_, _<_, _≤_}
 use lib.IntN.{ℤ}
 use lib.ListN.{length, getD}
-use Rattle.meaning_curves.proofs.Values.{AllIn}
+use mathlib.Core.List.{List}
+use mathlib.Core.Path.{_≡_}
 use Rattle.meaning_curves.specs.Curve.{spread}
-use Rattle.meaning_filter.specs.declared.Kind.{Kind}
-use Rattle.meaning_filter.specs.declared.Limits.{Limits}
-use Rattle.meaning_filter.specs.Range.{rangeOf}
-use Rattle.candidate_ranges.specs.declared.Frame.{Frame}
+use Rattle.meaning_curves.proofs.Values.{AllIn}
+use Rattle.meaning_filter.specs.{declared.Kind.Kind, declared.Limits.Limits, Range.rangeOf}
+use Rattle.candidate_ranges.specs.{declared.Frame.Frame, Frame.FrameIn}
 use Rattle.candidate_ranges.proofs.Fits.{LimitsIn}
-use Rattle.candidate_ranges.specs.Frame.{FrameIn}
 use Rattle.candidate_met.specs.Stored.{raisedEnd}
 pub use Rattle.meaning_curves.specs.Curve.{at}
 

@@ -1,16 +1,13 @@
 -- Each entry of the candidate buffer replaced by the stretch of runs that its range meets (`AllMet`). A turn of the loop is `meeting-next`, over plain variables.
-use mathlib.Core.Path.{_≡_}
-use mathlib.Core.List.{List}
 use Prim.Native.Nat.{ℕ, _<_, _≤_}
 use lib.IntN.{ℤ}
 use lib.ListN.{length}
+use mathlib.Core.List.{List}
+use mathlib.Core.Path.{_≡_}
 use Rattle.meaning_rows.specs.declared.Row.{Row}
-use Rattle.candidate_met.specs.Met.{Climbs}
 use Rattle.candidate_ranges.specs.declared.Range.{Range}
-use Rattle.candidate_met.specs.declared.Span.{Span}
-use Rattle.candidate_met.specs.Met.{clampOf, metSpan}
+use Rattle.candidate_met.specs.{Met.Climbs, declared.Span.Span, Met.clampOf, Met.metSpan, Stored.EndsAt, Stored.heldRange}
 use Rattle.candidate_spans.specs.Held.{PartsHeld}
-use Rattle.candidate_met.specs.Stored.{EndsAt, heldRange}
 
 -- the stretch that a range meets
 abbrev pub spanOf : List Row → Range → Span

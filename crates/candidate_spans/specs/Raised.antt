@@ -1,10 +1,10 @@
 -- The scratch count by the stretches of runs that parts meet: a part counts at an offset where all parts before it do and its window stands in a run of its stretch (`leadingBy`, `CountedBy`). Where each stretch has the runs of the rows that the part's range meets, that is the count of leading parts.
-use mathlib.Core.Path.{_≡_}
-use mathlib.Core.Bool.{Bool, cond}
-use mathlib.Core.List.{List}
 use Prim.Native.Nat.{ℕ, zero, suc, _+_, _-_, _*_, _<_, _≤_}
 use lib.Dec.{ltb}
 use lib.ListN.{length, getD, take, drop}
+use mathlib.Core.Bool.{Bool, cond}
+use mathlib.Core.List.{List}
+use mathlib.Core.Path.{_≡_}
 use Rattle.meaning_numbers.specs.Place.{any}
 use Rattle.meaning_rows.specs.Index.{entries, inRun}
 use Rattle.candidate_counts.specs.Raise.{bump}

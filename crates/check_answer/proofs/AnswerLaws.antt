@@ -1,10 +1,9 @@
 -- Laws of specs/Answer.
-use mathlib.Core.Path.{_≡_, refl, ap, _∙_}
-use mathlib.Core.List.{List}
 use Prim.Native.Nat.{ℕ, _<_, _≤_}
 use borrow.Author.Tests.{le-leb, lt-leb}
-use Rattle.meaning_entries.specs.declared.Found.{Found}
-use Rattle.meaning_entries.specs.Buffers.{pairRoom}
+use mathlib.Core.List.{List}
+use mathlib.Core.Path.{_≡_, refl, ap, _∙_}
+use Rattle.meaning_entries.specs.{declared.Found.Found, Buffers.pairRoom}
 use Rattle.check_list.specs.Listed.{ListFilled}
 use Rattle.check_answer.specs.Answer.{answerOf, Answers}
 

@@ -1,28 +1,20 @@
 -- How a search that looks ends: it is within its limits (`limited`), and where the candidates stand as they should, what is found is what the search means (`search-done`). `search-ends` says it of a lent index, for the entry.
-use mathlib.Core.Path.{_≡_, refl, sym, _∙_}
-use mathlib.Core.List.{List}
-use mathlib.Core.Option.{none}
 use Prim.Native.Nat.{ℕ, _<_}
-use native.Mathlib.Omega.{arith}
-use native.Mathlib.Decide.{decLe}
 use lib.IntN.{ℤ}
 use lib.ListN.{length}
-use Rattle.meaning_rows.specs.declared.Row.{Row}
-use Rattle.meaning_rows.specs.declared.Head.{Head}
-use Rattle.meaning_rows.specs.Index.{Index}
-use Rattle.meaning_filter.specs.declared.Ask.{Ask}
-use Rattle.meaning_filter.specs.Matches.{candidateRuns}
-use Rattle.meaning_entries.specs.declared.Found.{Found}
-use Rattle.meaning_entries.specs.Refusal.{firstRefusal}
+use mathlib.Core.List.{List}
+use mathlib.Core.Option.{none}
+use mathlib.Core.Path.{_≡_, refl, sym, _∙_}
+use native.Mathlib.Decide.{decLe}
+use native.Mathlib.Omega.{arith}
+use Rattle.meaning_rows.specs.{declared.Row.Row, declared.Head.Head, Index.Index}
+use Rattle.meaning_filter.specs.{declared.Ask.Ask, Matches.candidateRuns}
+use Rattle.meaning_entries.specs.{declared.Found.Found, Refusal.firstRefusal, Demand2.SearchKept}
 use Rattle.meaning_entries.specs.Search.{SearchCall, SearchBuffers, lentSearch, question, listRoom, searchMatches, searchCandidates, searchPlan, searchAnswer, searchAfter, lookedAfter}
-use Rattle.meaning_entries.specs.Demand2.{SearchKept}
-use Rattle.meaning_entries.proofs.Demand2.{search-kept}
-use Rattle.meaning_entries.proofs.Looked.{plan-all, plan-full}
+use Rattle.meaning_entries.proofs.{Demand2.search-kept, Looked.plan-all, Looked.plan-full}
 use Rattle.candidate_plan.specs.Allowed.{Allowed, thePlan, goes-on}
-use Rattle.check_list.specs.Members.{members}
-use Rattle.check_list.specs.Found.{lentRuns, found}
-use Rattle.check_list.proofs.Found.{found-among}
-use Rattle.check_list.proofs.Candidates.{runs-first, list-after}
+use Rattle.check_list.specs.{Members.members, Found.lentRuns, Found.found}
+use Rattle.check_list.proofs.{Found.found-among, Candidates.runs-first, Candidates.list-after}
 use Rattle.check_answer.specs.Answer.{wanted, Limited, answerOf, Answers}
 use Rattle.check_answer.proofs.AnswerLaws.{answer-all, answer-full}
 

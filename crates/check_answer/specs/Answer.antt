@@ -1,19 +1,15 @@
 -- What a search that looked answers, by the room of its list (`answerOf`), and how the list stands then (`Answers`).
-use mathlib.Core.Path.{_≡_}
-use mathlib.Core.Bool.{cond}
-use mathlib.Core.List.{List}
 use Prim.Native.Nat.{ℕ, _<_, _≤_}
 use lib.Dec.{leb}
 use lib.IntN.{ℤ}
 use lib.ListN.{length}
+use mathlib.Core.Bool.{cond}
+use mathlib.Core.List.{List}
+use mathlib.Core.Path.{_≡_}
 use Rattle.meaning_curves.specs.Curve.{at, spread}
 use Rattle.meaning_curves.proofs.Values.{AllIn}
-use Rattle.meaning_filter.specs.declared.Kind.{Kind}
-use Rattle.meaning_filter.specs.declared.Limits.{Limits}
-use Rattle.meaning_filter.specs.declared.Ask.{Ask}
-use Rattle.meaning_filter.specs.Matches.{Question}
-use Rattle.meaning_entries.specs.declared.Found.{Found}
-use Rattle.meaning_entries.specs.Buffers.{pairRoom}
+use Rattle.meaning_filter.specs.{declared.Kind.Kind, declared.Limits.Limits, declared.Ask.Ask, Matches.Question}
+use Rattle.meaning_entries.specs.{declared.Found.Found, Buffers.pairRoom}
 use Rattle.check_list.specs.Listed.{ListFilled}
 
 -- what is looked for

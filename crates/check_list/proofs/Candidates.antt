@@ -1,13 +1,8 @@
 -- Checking the candidates of a search: their runs stand first in the candidate buffer (`runs-first`), and the list of its matches is the one that stands in the buffers afterwards (`list-after`).
-use mathlib.Core.Path.{_≡_}
-use mathlib.Core.List.{List, map}
-use Prim.Native.Nat.{ℕ}
-use lib.ListN.{length}
-use Rattle.meaning_entries.specs.Buffers.{filled}
-use Rattle.meaning_entries.specs.Search.{SearchCall, SearchBuffers, searchMatches, lookedAfter}
+use Rattle.meaning_numbers.proofs.Prelude.{_≡_, List, map, ℕ, length}
+use Rattle.meaning_entries.specs.{Buffers.filled, Search.SearchCall, Search.SearchBuffers, Search.searchMatches, Search.lookedAfter}
 use Rattle.meaning_entries.proofs.Listed.{pairs-back}
-use Rattle.check_list.specs.Listed.{ListFilled}
-use Rattle.check_list.specs.Found.{lentRuns}
+use Rattle.check_list.specs.{Listed.ListFilled, Found.lentRuns}
 
 -- runs that stand first in two slices
 pub runs-first : (l : List (ℕ × ℕ)) (a b : List ℕ) → lentRuns (filled 0 (map (λ x. x .0) l) a) (filled 0 (map (λ x. x .1) l) b) (length l) ≡ l

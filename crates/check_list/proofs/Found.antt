@@ -1,27 +1,16 @@
 -- Laws of specs/Found.
-use mathlib.Core.Path.{_≡_, refl, sym, ap}
-use mathlib.Core.Bool.{Bool, true, false, cond}
-use mathlib.Core.List.{List, [], _∷_, _++_, map, append-nil}
-use Prim.Native.Nat.{ℕ, zero, suc, _+_, _-_, _<_, _≤_}
-use native.Mathlib.Omega.{arith}
-use native.Mathlib.Numerals.{add-one}
-use lib.IntN.{ℤ}
-use lib.ListN.{length, length-map, getD, take}
-use lib.Seq.{take-suc}
 use Rattle.meaning_numbers.specs.Place.{keep, numbersFrom}
+use Rattle.meaning_numbers.proofs.Prelude.{_≡_, refl, sym, ap, Bool, true, false, cond, List, [], _∷_, _++_, map, append-nil, ℕ, zero, suc, _+_, _-_, _<_, _≤_, arith, add-one, ℤ, length, length-map, getD, take, take-suc}
 use Rattle.meaning_curves.specs.Curve.{at, stretch}
 use Rattle.meaning_rows.specs.Index.{Index}
-use Rattle.meaning_filter.specs.declared.Kind.{Kind}
-use Rattle.meaning_filter.specs.declared.Limits.{Limits}
+use Rattle.meaning_filter.specs.{declared.Kind.Kind, declared.Limits.Limits}
 use Rattle.meaning_filter.specs.Matches.{Question, distanceTo, matchesAt, listed, offsetCount, candidateAt, candidateRuns, matchList}
 use Rattle.meaning_entries.specs.Demand3.{pairs}
-use Rattle.distance_within.specs.declared.Match.{Match}
-use Rattle.distance_within.specs.Answer.{answer}
+use Rattle.distance_within.specs.{declared.Match.Match, Answer.answer}
 use Rattle.distance_match.specs.Matched.{matched}
-use Rattle.check_list.specs.Members.{between, members}
-use Rattle.check_list.proofs.Members.{numbers-end, keep-append, keep-length, length-numbers, members-append, kept-members}
+use Rattle.check_list.specs.{Members.between, Members.members, Found.asked, Found.SumsFor, Found.found, Found.lentRuns, Found.entriesOf}
 use Rattle.check_list.proofs.Listed.{length-pairs}
-use Rattle.check_list.specs.Found.{asked, SumsFor, found, lentRuns, entriesOf}
+use Rattle.check_list.proofs.Members.{numbers-end, keep-append, keep-length, length-numbers, members-append, kept-members}
 
 -- a raw query asks for no sums
 pub raw-sums : {kind : Kind} {s : List ℤ} {from m p w : ℕ} → kind ≡ Kind.Raw → SumsFor kind s from m p w

@@ -1,13 +1,6 @@
 -- Laws of specs/Listed.
-use mathlib.Core.Path.{_≡_, refl, sym, ap, _∙_}
-use mathlib.Core.List.{List, [], _∷_, _++_, map, append-nil, append-assoc}
-use Prim.Native.Nat.{ℕ, zero, suc, _+_, _<_, _≤_, min}
-use native.Mathlib.Omega.{arith}
-use native.Mathlib.Numerals.{add-one}
-use lib.ListN.{length, take, set, length-append, length-set, length-take}
-use lib.Seq.{take-all, take-suc-set}
-use Rattle.meaning_entries.specs.Buffers.{filled, pairRoom}
-use Rattle.meaning_entries.specs.Demand3.{pairs}
+use Rattle.meaning_numbers.proofs.Prelude.{_≡_, refl, sym, ap, _∙_, List, [], _∷_, _++_, map, append-nil, append-assoc, ℕ, zero, suc, _+_, _<_, _≤_, min, arith, add-one, length, take, set, length-append, length-set, length-take, take-all, take-suc-set}
+use Rattle.meaning_entries.specs.{Buffers.filled, Buffers.pairRoom, Demand3.pairs}
 use Rattle.clear.specs.Clear.{clearedFrom}
 use Rattle.clear.proofs.Clear.{cleared-front}
 use Rattle.check_list.specs.Listed.{Listed, ListFilled}

@@ -1,24 +1,14 @@
 -- The turns of the loops over the offsets of a run (`RunSoFar`) and over the runs (`RunsSoFar`): what is known as each starts, moves on and ends.
-use mathlib.Core.Path.{_≡_, _∙_}
-use mathlib.Core.List.{List, [], _∷_}
-use Prim.Native.Nat.{ℕ, zero, suc, _+_, _-_, _<_, _≤_}
-use native.Mathlib.Omega.{arith}
-use lib.IntN.{ℤ}
-use lib.ListN.{length, getD, length-take}
-use lib.Seq.{getD-take}
 use Rattle.meaning_numbers.specs.Place.{numbersFrom}
+use Rattle.meaning_numbers.proofs.Prelude.{_≡_, _∙_, List, [], _∷_, ℕ, zero, suc, _+_, _-_, _<_, _≤_, arith, ℤ, length, getD, length-take, getD-take}
 use Rattle.meaning_curves.specs.Curve.{at, stretch}
 use Rattle.meaning_rows.proofs.Runs.{Apart}
-use Rattle.meaning_filter.specs.declared.Kind.{Kind}
-use Rattle.meaning_filter.specs.declared.Limits.{Limits}
-use Rattle.meaning_filter.specs.Matches.{Question}
+use Rattle.meaning_filter.specs.{declared.Kind.Kind, declared.Limits.Limits, Matches.Question}
 use Rattle.meaning_entries.specs.Demand3.{pairs}
 use Rattle.distance_within.specs.declared.Match.{Match}
 use Rattle.distance_match.specs.Matched.{matched}
-use Rattle.check_list.specs.Members.{members}
-use Rattle.check_list.specs.Listed.{Listed}
+use Rattle.check_list.specs.{Members.members, Listed.Listed, Found.asked, Found.SumsFor, Found.RunsLent, Found.lentRuns, Found.found, Found.entriesOf}
 use Rattle.check_list.proofs.Listed.{length-pairs, list-none, list-on}
-use Rattle.check_list.specs.Found.{asked, SumsFor, RunsLent, lentRuns, found, entriesOf}
 use Rattle.check_list.proofs.Found.{entries-few, run-none, run-more, found-few, getD-pairs, runs-none, runs-more}
 
 -- what stands in the lists where the loop over a run that begins at `from` has come to j: behind the first k, n entries are counted

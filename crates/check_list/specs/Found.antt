@@ -1,15 +1,13 @@
 -- The matches among some offsets, as entries of the list (`found`): those of the candidates' runs are the list that a search means. What checking asks for (`Prepared`), and the sums that slide (`SumsFor`).
-use mathlib.Core.Path.{_≡_}
-use mathlib.Core.List.{List, [], _∷_, map}
 use Prim.Native.Nat.{ℕ, _+_, _<_, _≤_}
 use lib.IntN.{ℤ}
 use lib.ListN.{length, take}
+use mathlib.Core.List.{List, [], _∷_, map}
+use mathlib.Core.Path.{_≡_}
 use Rattle.meaning_numbers.specs.Place.{keep}
 use Rattle.meaning_curves.proofs.Values.{AllIn}
-use Rattle.meaning_filter.specs.declared.Kind.{Kind}
-use Rattle.meaning_filter.specs.declared.Limits.{Limits}
-use Rattle.meaning_filter.specs.Matches.{Question, matchesAt, listed}
 use Rattle.meaning_rows.proofs.Runs.{Apart}
+use Rattle.meaning_filter.specs.{declared.Kind.Kind, declared.Limits.Limits, Matches.Question, Matches.matchesAt, Matches.listed}
 use Rattle.meaning_entries.specs.Demand3.{pairs}
 use Rattle.values.specs.Sums.{AreSums}
 use Rattle.distance_query.specs.Ready.{Ready}

@@ -1,10 +1,9 @@
 -- The list of a search as it grows: entries are appended while the two slices have room, and counted on where they have none (`Listed`). One stretch behind another is one stretch. Where unused entries are 0 behind it, the list is filled.
-use mathlib.Core.Path.{_≡_}
-use mathlib.Core.List.{List, _++_, map}
 use Prim.Native.Nat.{ℕ, _+_}
 use lib.ListN.{length, take}
-use Rattle.meaning_entries.specs.Buffers.{filled, pairRoom}
-use Rattle.meaning_entries.specs.Demand3.{pairs}
+use mathlib.Core.List.{List, _++_, map}
+use mathlib.Core.Path.{_≡_}
+use Rattle.meaning_entries.specs.{Buffers.filled, Buffers.pairRoom, Demand3.pairs}
 
 -- l is appended behind the first k entries as far as there is room; r are counted then
 pub record Listed (l : List (ℕ × ℕ)) (k r : ℕ) (offsets distances offsets′ distances′ : List ℕ) : Type 0 where

@@ -1,12 +1,12 @@
 -- A buffer cleared from a place on: entry by entry (`Clearing`), and what it holds then.
-use mathlib.Core.Path.{_≡_, refl, _∙_}
-use mathlib.Core.List.{List, [], _∷_, _++_, append-nil}
 use Prim.Native.Nat.{ℕ, suc, _+_, _-_, _<_, _≤_}
-use native.Mathlib.Omega.{arith}
-use native.Mathlib.Decide.{decLt}
-use native.Mathlib.Numerals.{add-one}
 use lib.ListN.{length, getD, take, set, replicate, length-take, length-set, length-replicate, getD-replicate, List·getD-eq-default}
 use lib.Seq.{take-all, take-suc-set, append-snoc}
+use mathlib.Core.List.{List, [], _∷_, _++_, append-nil}
+use mathlib.Core.Path.{_≡_, refl, _∙_}
+use native.Mathlib.Decide.{decLt}
+use native.Mathlib.Numerals.{add-one}
+use native.Mathlib.Omega.{arith}
 use Rattle.clear.specs.Clear.{clearedFrom}
 
 cases : (clearedFrom 1 (5 ∷ 6 ∷ 7 ∷ []) ≡ 5 ∷ 0 ∷ 0 ∷ []) × (clearedFrom 4 (5 ∷ []) ≡ 5 ∷ [])

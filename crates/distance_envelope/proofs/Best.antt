@@ -1,14 +1,6 @@
 -- Laws of specs/Best.
-use mathlib.Core.Path.{_≡_, refl, _∙_}
-use mathlib.Core.Bool.{Bool, true, false}
-use mathlib.Core.Logic.{_⊎_, inl, inr, ⊎-elim}
-use Prim.Native.Nat.{ℕ, _+_, _-_, _<_, _≤_, min}
-use native.Mathlib.Omega.{arith}
-use native.Mathlib.Decide.{decLe}
-use lib.IntN.{ℤ}
-use lib.Signed.{≤ℤ-refl}
-use Rattle.meaning_numbers.proofs.Rep.{≤ℤ-trans, ≤ℤ-antisym}
 use Rattle.meaning_numbers.proofs.Order.{minℤ-le, maxℤ-le, minℤ-one, maxℤ-one}
+use Rattle.meaning_numbers.proofs.Prelude.{_≡_, refl, _∙_, Bool, true, false, _⊎_, inl, inr, ⊎-elim, ℕ, _+_, _-_, _<_, _≤_, min, arith, decLe, ℤ, ≤ℤ-refl, ≤ℤ-trans, ≤ℤ-antisym}
 use Rattle.meaning_curves.specs.Warp.{Near}
 use Rattle.meaning_filter.proofs.Envelope.{envelope, lower-one, upper-one}
 use Rattle.distance_envelope.specs.Best.{pick, edge, out, Best}

@@ -1,8 +1,5 @@
 -- Laws of specs/Envelope.
-use mathlib.Core.List.{List}
-use Prim.Native.Nat.{ℕ, _<_}
-use native.Mathlib.Omega.{arith}
-use lib.IntN.{ℤ}
+use Rattle.meaning_numbers.proofs.Prelude.{List, ℕ, _<_, arith, ℤ}
 use Rattle.meaning_curves.specs.Curve.{at}
 use Rattle.meaning_curves.proofs.Values.{AllIn, all-in}
 use Rattle.meaning_filter.proofs.Envelope.{lower-one, upper-one}

@@ -1,20 +1,10 @@
 -- Laws of specs/Pass.
 use borrow.Author.Count.{below-more}
-use mathlib.Core.Path.{_≡_, _∙_, refl}
-use mathlib.Core.Bool.{Bool}
-use mathlib.Core.List.{List}
-use Prim.Native.Nat.{ℕ, suc, _+_, _-_, _<_, _≤_, min}
-use native.Mathlib.Omega.{arith}
-use native.Mathlib.Decide.{decLe}
-use lib.IntN.{ℤ, pos}
-use lib.ListN.{length, set, length-set}
-use lib.Seq.{getD-set-same, getD-set-other}
+use Rattle.meaning_numbers.proofs.Prelude.{_≡_, _∙_, refl, Bool, List, ℕ, suc, _+_, _-_, _<_, _≤_, min, arith, decLe, ℤ, pos, length, set, length-set, getD-set-same, getD-set-other}
 use Rattle.meaning_curves.specs.Curve.{at}
 use Rattle.values.specs.Copy.{Copied}
-use Rattle.distance_envelope.specs.Best.{pick, edge}
+use Rattle.distance_envelope.specs.{Best.pick, Best.edge, Envelope.IsEnvelope, Pass.PassAhead, Pass.PassBack, Pass.Ahead, Pass.Back}
 use Rattle.distance_envelope.proofs.Best.{best-one, best-same, best-of, ahead-more, ahead-kept, back-more, back-kept, best-through, best-edge}
-use Rattle.distance_envelope.specs.Envelope.{IsEnvelope}
-use Rattle.distance_envelope.specs.Pass.{PassAhead, PassBack, Ahead, Back}
 
 -- ---- passes that add up to n
 

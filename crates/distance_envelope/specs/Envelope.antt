@@ -1,9 +1,9 @@
 -- An envelope as it stands in a list, and the two envelopes of a curve, which are in the limits of values where the curve is.
-use mathlib.Core.Path.{_≡_}
-use mathlib.Core.List.{List}
 use Prim.Native.Nat.{ℕ, _<_}
 use lib.IntN.{ℤ}
 use lib.ListN.{length}
+use mathlib.Core.List.{List}
+use mathlib.Core.Path.{_≡_}
 use Rattle.meaning_curves.specs.Curve.{at}
 use Rattle.meaning_filter.specs.Envelope.{lower, upper}
 

@@ -1,24 +1,11 @@
 -- Laws of specs/Alike.
-use mathlib.Core.Path.{_≡_, refl, sym, subst}
-use mathlib.Core.Bool.{Bool, true, false, not}
-use mathlib.Core.Logic.{⊎-elim}
-use Prim.Native.Nat.{ℕ, zero, suc, _*_, _<_, _≤_}
-use native.Mathlib.Omega.{arith}
-use lib.Dec.{T, eqb, eqb·suc-zero}
-use lib.IntN.{ℤ, pos, _-ℤ_, natAbs}
-use Rattle.meaning_numbers.proofs.Tests.{is-true, is-false, decided}
-use Rattle.meaning_curves.specs.Curve.{total, spread}
-use Rattle.meaning_curves.specs.Normal.{flat}
-use Rattle.meaning_curves.specs.Match.{normalDistance, normalMatch}
+use Rattle.meaning_numbers.proofs.Prelude.{_≡_, refl, sym, subst, Bool, true, false, not, ⊎-elim, ℕ, zero, suc, _*_, _<_, _≤_, arith, T, eqb, eqb·suc-zero, ℤ, pos, _-ℤ_, natAbs, is-true, is-false, decided}
+use Rattle.meaning_curves.specs.{Curve.total, Curve.spread, Normal.flat, Match.normalDistance, Match.normalMatch}
 use Rattle.meaning_curves.proofs.Match.{normal-yes}
-use Rattle.meaning_filter.specs.declared.Kind.the-variants.{Normal}
-use Rattle.meaning_filter.specs.declared.Limits.{Limits}
-use Rattle.meaning_filter.specs.Matches.{matches, distanceTo}
-use Rattle.distance_within.specs.declared.Match.the-variants.{No}
-use Rattle.distance_within.specs.Answer.{nearness}
+use Rattle.meaning_filter.specs.{declared.Kind.the-variants.Normal, declared.Limits.Limits, Matches.matches, Matches.distanceTo}
+use Rattle.distance_within.specs.{declared.Match.the-variants.No, Answer.nearness}
 use Rattle.distance_within.proofs.Answer.{leb-yes}
-use Rattle.distance_match.specs.Matched.{matched}
-use Rattle.distance_match.specs.Alike.{Alike, Says}
+use Rattle.distance_match.specs.{Matched.matched, Alike.Alike, Alike.Says}
 
 pub says-yes : {P : Type 0} → P → Says true P
 says-yes p = record { yes = λ e. p; no = λ e. absurd (subst T e tt) }

@@ -1,11 +1,7 @@
 -- Laws of specs/Matched.
-use mathlib.Core.Path.{_≡_, refl}
-use Prim.Native.Nat.{ℕ}
-use lib.IntN.{ℤ}
+use Rattle.meaning_numbers.proofs.Prelude.{_≡_, refl, ℕ, ℤ}
 use Rattle.meaning_curves.specs.Match.{distance, rawMatch}
-use Rattle.meaning_filter.specs.declared.Kind.the-variants.{Raw}
-use Rattle.meaning_filter.specs.declared.Limits.{Limits}
-use Rattle.meaning_filter.specs.Matches.{matches, distanceTo}
+use Rattle.meaning_filter.specs.{declared.Kind.the-variants.Raw, declared.Limits.Limits, Matches.matches, Matches.distanceTo}
 use Rattle.distance_within.specs.Answer.{nearness}
 use Rattle.distance_match.specs.Matched.{matched}
 

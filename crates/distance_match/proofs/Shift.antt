@@ -1,16 +1,9 @@
 -- Raised sums differ as the sums do (`shift-raised`), and a spread is not large (`spread-limit`).
-use mathlib.Core.Path.{_≡_, sym, ap}
-use mathlib.Core.List.{List}
-use Prim.Native.Nat.{ℕ, _*_, _≤_}
-use native.Mathlib.Omega.{arith}
-use lib.IntN.{ℤ, pos, _-ℤ_, natAbs}
 use Rattle.meaning_numbers.specs.Sum.{Σℕ}
-use Rattle.meaning_numbers.proofs.Rep.{rep-pos, rep-sub, rep-eq}
-use Rattle.meaning_numbers.proofs.Sum.{Σℤ-same}
-use Rattle.meaning_numbers.proofs.Root.{sq-le}
+use Rattle.meaning_numbers.proofs.{Sum.Σℤ-same, Root.sq-le}
+use Rattle.meaning_numbers.proofs.Prelude.{_≡_, sym, ap, List, ℕ, _*_, _≤_, arith, ℤ, pos, _-ℤ_, natAbs, rep-pos, rep-sub, rep-eq}
 use Rattle.meaning_curves.specs.Curve.{at, stretch, total, spread}
-use Rattle.meaning_curves.proofs.Values.{AllIn, size-le}
-use Rattle.meaning_curves.proofs.Sizes.{spread-le}
+use Rattle.meaning_curves.proofs.{Values.AllIn, Values.size-le, Sizes.spread-le}
 use Rattle.meaning_filter.specs.declared.Kind.{Kind}
 use Rattle.numbers.specs.Raised.{raised}
 use Rattle.values.proofs.SumsLaws.{sum-raised}

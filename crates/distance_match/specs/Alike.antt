@@ -1,8 +1,8 @@
 -- The tests of a normalised query that ask for no value: flat, scale and shift, over the numbers that code has (`Alike`). They are those of the meaning, so where they fail the stretch does not match, and where they pass the distance decides.
-use mathlib.Core.Path.{_≡_}
-use mathlib.Core.Bool.{Bool, true, false}
 use Prim.Native.Nat.{ℕ, _*_, _<_, _≤_}
 use lib.IntN.{pos, _-ℤ_, natAbs}
+use mathlib.Core.Bool.{Bool, true, false}
+use mathlib.Core.Path.{_≡_}
 
 -- of spreads A and B and raised sums p and q, of m values each, within scale a and shift h
 pub record Alike (A p B q m a h : ℕ) : Type 0 where

@@ -1,17 +1,9 @@
 -- Laws of specs/Normal.
-use mathlib.Core.Path.{_≡_, refl, ap}
-use Prim.Native.Nat.{ℕ, zero, suc, _+_, _-_, _*_, _/_, _<_, _≤_}
-use mathlib.Core.Bool.{Bool, true, false, not}
-use native.Mathlib.Omega.{arith}
-use lib.Dec.{T, leb, leb→le, nleb→lt}
 use mir.Val.{boolByte}
-use native.Mathlib.Nat.{add-zero, mul-le-mul, mul-le-mul-left, mul-le-mul-right, le-div-iff-mul-le, div-lt-iff-lt-mul}
-use lib.IntN.{ℤ, pos, negsuc, negℤ, natAbs, _-ℤ_}
-use Rattle.meaning_numbers.proofs.Rep.{Rep, rep-pos, rep-sub, rep-by, rep-eq}
 use Rattle.meaning_numbers.specs.Root.{root}
 use Rattle.meaning_numbers.proofs.Root.{sq-le, le-of-sq-le, root-is}
-use Rattle.meaning_curves.specs.Curve.{spread}
-use Rattle.meaning_curves.specs.Normal.{centred, cut, normalised}
+use Rattle.meaning_numbers.proofs.Prelude.{_≡_, refl, ap, ℕ, zero, suc, _+_, _-_, _*_, _/_, _<_, _≤_, Bool, true, false, not, arith, T, leb, leb→le, nleb→lt, add-zero, mul-le-mul, mul-le-mul-left, mul-le-mul-right, le-div-iff-mul-le, div-lt-iff-lt-mul, ℤ, pos, negsuc, negℤ, natAbs, _-ℤ_, Rep, rep-pos, rep-sub, rep-by, rep-eq}
+use Rattle.meaning_curves.specs.{Curve.spread, Normal.centred, Normal.cut, Normal.normalised}
 use Rattle.meaning_curves.proofs.Normal.{cut-is, cut-only}
 use Rattle.distance_normal.specs.Normal.{normal, IsFactor, CutOf}
 

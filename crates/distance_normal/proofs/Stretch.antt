@@ -1,13 +1,7 @@
 -- Laws of specs/Stretch.
-use mathlib.Core.List.{List}
-use Prim.Native.Nat.{ℕ, _<_, _≤_}
-use native.Mathlib.Omega.{arith}
-use lib.IntN.{ℤ, pos, negsuc, natAbs}
-use Rattle.meaning_numbers.proofs.Rep.{zarith}
-use Rattle.meaning_curves.specs.Curve.{spread}
-use Rattle.meaning_curves.specs.Normal.{normalised}
-use Rattle.meaning_curves.proofs.Sizes.{normal-small}
-use Rattle.meaning_curves.proofs.Values.{InLimits, AllIn, all-in}
+use Rattle.meaning_numbers.proofs.Prelude.{List, ℕ, _<_, _≤_, arith, ℤ, pos, negsuc, natAbs, zarith}
+use Rattle.meaning_curves.specs.{Curve.spread, Normal.normalised}
+use Rattle.meaning_curves.proofs.{Sizes.normal-small, Values.InLimits, Values.AllIn, Values.all-in}
 use Rattle.distance_normal.specs.Stretch.{Normalised}
 
 in-size : (x : ℤ) → natAbs x ≤ 3200 → InLimits x

@@ -1,11 +1,10 @@
 -- The normalised values of a stretch, in room that is lent: what making them asks, some of them made, all of them made. They are in the limits of values.
-use mathlib.Core.Path.{_≡_}
-use mathlib.Core.List.{List}
 use Prim.Native.Nat.{ℕ, _+_, _<_, _≤_}
-use lib.ListN.{length, getD}
 use lib.IntN.{ℤ, pos}
-use Rattle.meaning_curves.specs.Curve.{stretch, spread}
-use Rattle.meaning_curves.specs.Normal.{normalised}
+use lib.ListN.{length, getD}
+use mathlib.Core.List.{List}
+use mathlib.Core.Path.{_≡_}
+use Rattle.meaning_curves.specs.{Curve.stretch, Curve.spread, Normal.normalised}
 use Rattle.meaning_curves.proofs.Values.{AllIn}
 use Rattle.values.specs.Sums.{AreSums}
 

@@ -1,14 +1,7 @@
 -- Laws of specs/Ready.
-use mathlib.Core.Path.{_≡_, refl, sym, _∙_}
-use mathlib.Core.List.{List}
-use Prim.Native.Nat.{ℕ, _<_, _≤_}
-use native.Mathlib.Nat.{zero-add}
-use native.Mathlib.Omega.{arith}
-use lib.IntN.{ℤ}
-use lib.ListN.{length}
+use Rattle.meaning_numbers.proofs.Prelude.{_≡_, refl, sym, _∙_, List, ℕ, _<_, _≤_, zero-add, arith, ℤ, length}
 use Rattle.meaning_curves.specs.Curve.{at, stretch, spread}
-use Rattle.meaning_curves.proofs.Values.{AllIn, all-in}
-use Rattle.meaning_curves.proofs.Same.{Same, normalised-same}
+use Rattle.meaning_curves.proofs.{Values.AllIn, Values.all-in, Same.Same, Same.normalised-same}
 use Rattle.meaning_filter.specs.declared.Kind.the-variants.{Raw, Normal}
 use Rattle.values.specs.Copy.{Copied}
 use Rattle.distance_normal.specs.Stretch.{Normalised}

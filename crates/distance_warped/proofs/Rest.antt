@@ -1,21 +1,11 @@
 -- The envelope bound beside the table: all of it is at most the distance (`bound-le`), and so is the least number of a row with the bound of the rows after it (`rest-least`), since a path to the end passes every row.
-use mathlib.Core.Path.{_≡_, refl, ap}
-use mathlib.Core.List.{List}
-use Prim.Native.Nat.{ℕ, suc, _+_, _-_, _*_, _<_, _≤_}
-use native.Mathlib.Omega.{arith}
-use native.Mathlib.Numerals.{add-one}
-use lib.IntN.{ℤ}
 use Rattle.meaning_numbers.specs.Sum.{Σℕ}
 use Rattle.meaning_numbers.proofs.Sum.{Σℕ-same, Σℕ-le}
-use Rattle.meaning_curves.specs.Curve.{at, stretch}
-use Rattle.meaning_curves.specs.Table.{warped}
-use Rattle.meaning_curves.specs.Match.{distance}
-use Rattle.meaning_curves.proofs.Table.{warped-is}
-use Rattle.meaning_curves.proofs.Values.{AllIn}
+use Rattle.meaning_numbers.proofs.Prelude.{_≡_, refl, ap, List, ℕ, suc, _+_, _-_, _*_, _<_, _≤_, arith, add-one, ℤ}
+use Rattle.meaning_curves.specs.{Curve.at, Curve.stretch, Table.warped, Match.distance}
+use Rattle.meaning_curves.proofs.{Table.warped-is, Values.AllIn}
 use Rattle.meaning_filter.specs.Envelope.{lower, upper}
-use Rattle.meaning_filter.proofs.Envelope.{envelope}
-use Rattle.meaning_filter.proofs.Bound.{apart, distance-bound, through}
-use Rattle.meaning_filter.proofs.Apart.{excess-sq-le}
+use Rattle.meaning_filter.proofs.{Envelope.envelope, Bound.apart, Bound.distance-bound, Bound.through, Apart.excess-sq-le}
 use Rattle.distance_envelope.specs.Envelope.{Envelopes}
 use Rattle.distance_warped.specs.Rows.{cells, LeastOf, least-path}
 

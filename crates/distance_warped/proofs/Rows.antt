@@ -1,11 +1,5 @@
 -- Laws of specs/Rows.
-use mathlib.Core.Path.{_≡_, sym, _∙_}
-use mathlib.Core.List.{List}
-use Prim.Native.Nat.{ℕ, _+_, _<_}
-use native.Mathlib.Omega.{arith}
-use native.Mathlib.Decide.{decLe}
-use lib.ListN.{length, set}
-use lib.Seq.{getD-set-same, getD-set-other}
+use Rattle.meaning_numbers.proofs.Prelude.{_≡_, sym, _∙_, List, ℕ, _+_, _<_, arith, decLe, length, set, getD-set-same, getD-set-other}
 use Rattle.distance_warped.specs.Rows.{big, before-more, Halfway}
 
 pub halfway-more : {f g : ℕ → ℕ} {j m : ℕ} {row : List ℕ} (v : ℕ) → Halfway f g j m row → j + 1 < length row → v ≡ g j → Halfway f g (j + 1) m (set row (j + 1) v)

@@ -1,20 +1,18 @@
 -- The table of the warped distance by rows, as code keeps one: cell j stands at place j + 1, and `big` at place 0 and wherever the band has no cell. With that, each cell is made from three numbers by one rule, at the band's edge too (`next-cell`, `first-cell`).
-use mathlib.Core.Path.{_≡_, refl, sym, _∙_}
-use mathlib.Core.List.{List}
-use mathlib.Core.Option.{Option}
 use Prim.Native.Nat.{ℕ, zero, suc, _+_, _-_, _<_, _≤_, min}
-use native.Mathlib.Omega.{arith}
-use native.Mathlib.Numerals.{add-one}
-use native.Mathlib.Nat.{mul-le-mul-right}
-use native.Mathlib.Decide.{decLe}
+use lib.IntN.{ℤ}
 use lib.ListN.{length, getD, set}
 use lib.Seq.{getD-set-same, getD-set-other}
-use lib.IntN.{ℤ}
-use Rattle.meaning_curves.specs.Straight.{cost}
-use Rattle.meaning_curves.specs.Warp.{Near, WarpPath, first, second}
-use Rattle.meaning_curves.specs.Table.{warped}
-use Rattle.meaning_curves.proofs.Table.{All, missing, there, Under, under, attained, least-total}
+use mathlib.Core.List.{List}
+use mathlib.Core.Option.{Option}
+use mathlib.Core.Path.{_≡_, refl, sym, _∙_}
+use native.Mathlib.Decide.{decLe}
+use native.Mathlib.Nat.{mul-le-mul-right}
+use native.Mathlib.Numerals.{add-one}
+use native.Mathlib.Omega.{arith}
+use Rattle.meaning_curves.specs.{Straight.cost, Warp.Near, Warp.WarpPath, Warp.first, Warp.second, Table.warped}
 use Rattle.meaning_curves.proofs.Grid.{grid, coded, path-near, path-small, grid-start, grid-out, grid-top, grid-side, grid-inner, grid-distance}
+use Rattle.meaning_curves.proofs.Table.{All, missing, there, Under, under, attained, least-total}
 
 -- more than any total: 2048 times the greatest cost
 abbrev pub big : ℕ

@@ -1,18 +1,8 @@
 -- Laws of specs/Answer.
-use mathlib.Core.Path.{_≡_, refl}
-use mathlib.Core.Bool.{true, false}
-use mathlib.Core.Logic.{⊎-elim}
-use Prim.Native.Nat.{ℕ, _<_, _≤_}
-use native.Mathlib.Omega.{arith}
-use native.Mathlib.Decide.{decLe}
-use lib.Dec.{leb, leb→le, le→leb}
-use lib.IntN.{ℤ}
-use Rattle.meaning_numbers.proofs.Tests.{is-true, is-false, decided}
-use Rattle.meaning_curves.specs.Straight.{straight}
-use Rattle.meaning_curves.specs.Match.{distance}
+use Rattle.meaning_numbers.proofs.Prelude.{_≡_, refl, true, false, ⊎-elim, ℕ, _<_, _≤_, arith, decLe, leb, leb→le, le→leb, ℤ, is-true, is-false, decided}
+use Rattle.meaning_curves.specs.{Straight.straight, Match.distance}
 use Rattle.numbers.specs.Within.{Within}
-use Rattle.distance_within.specs.declared.Match.the-variants.{Yes, No}
-use Rattle.distance_within.specs.Answer.{nearness}
+use Rattle.distance_within.specs.{declared.Match.the-variants.Yes, declared.Match.the-variants.No, Answer.nearness}
 
 -- ---- tests of numbers
 

@@ -1,11 +1,6 @@
 -- Normalised values in room that is lent are those of the stretch.
-use mathlib.Core.Path.{refl}
-use mathlib.Core.List.{List}
-use Prim.Native.Nat.{ℕ}
-use native.Mathlib.Nat.{zero-add}
-use lib.IntN.{ℤ}
-use Rattle.meaning_curves.specs.Curve.{stretch}
-use Rattle.meaning_curves.specs.Normal.{normalised}
+use Rattle.meaning_numbers.proofs.Prelude.{refl, List, ℕ, zero-add, ℤ}
+use Rattle.meaning_curves.specs.{Curve.stretch, Normal.normalised}
 use Rattle.meaning_curves.proofs.Same.{Same}
 use Rattle.distance_normal.specs.Stretch.{Normalised}
 

@@ -1,20 +1,10 @@
 -- Laws of specs/Within.
-use mathlib.Core.Path.{_≡_, _∙_}
-use mathlib.Core.List.{List}
-use Prim.Native.Nat.{ℕ, _+_, _-_, _*_, _<_, _≤_}
-use native.Mathlib.Omega.{arith}
-use native.Mathlib.Nat.{zero-add}
-use native.Mathlib.Decide.{decLt}
-use lib.IntN.{ℤ, pos}
-use lib.ListN.{length, take, getD, length-take}
-use lib.Seq.{getD-take}
 use Rattle.meaning_numbers.specs.Sum.{Σℕ}
 use Rattle.meaning_numbers.proofs.Sum.{Σℕ-same}
-use Rattle.meaning_curves.specs.Curve.{at, stretch, spread}
-use Rattle.meaning_curves.specs.Normal.{normalised}
+use Rattle.meaning_numbers.proofs.Prelude.{_≡_, _∙_, List, ℕ, _+_, _-_, _*_, _<_, _≤_, arith, zero-add, decLt, ℤ, pos, length, take, getD, length-take, getD-take}
+use Rattle.meaning_curves.specs.{Curve.at, Curve.stretch, Curve.spread, Normal.normalised}
 use Rattle.meaning_curves.proofs.Values.{AllIn, all-in}
-use Rattle.meaning_filter.proofs.Bound.{apart}
-use Rattle.meaning_filter.proofs.Apart.{aparts-le}
+use Rattle.meaning_filter.proofs.{Bound.apart, Apart.aparts-le}
 use Rattle.numbers.proofs.Blocks.{Made, made-more}
 use Rattle.distance_normal.specs.Stretch.{NormalPart, Normalised}
 use Rattle.distance_normal.proofs.Stretch.{value-in}

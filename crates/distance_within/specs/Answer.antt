@@ -1,9 +1,8 @@
 -- A distance within a threshold, as an answer. One that was left early answers the same as the whole one.
-use mathlib.Core.Bool.{Bool, true, false}
 use Prim.Native.Nat.{ℕ}
 use lib.Dec.{leb}
-use Rattle.distance_within.specs.declared.Match.{Match}
-use Rattle.distance_within.specs.declared.Match.the-variants.{Yes, No}
+use mathlib.Core.Bool.{Bool, true, false}
+use Rattle.distance_within.specs.{declared.Match.Match, declared.Match.the-variants.Yes, declared.Match.the-variants.No}
 
 abbrev pub answer : Bool → ℕ → Match
 answer true d = Yes d

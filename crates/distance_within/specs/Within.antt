@@ -1,10 +1,9 @@
 -- Normalised values made block by block, as far as their envelope bound stays within a limit. The first so many are made; a block more adds its part of the bound.
-use mathlib.Core.List.{List}
 use Prim.Native.Nat.{ℕ, _≤_}
 use lib.IntN.{ℤ}
+use mathlib.Core.List.{List}
 use Rattle.meaning_numbers.specs.Sum.{Σℕ}
-use Rattle.meaning_curves.specs.Curve.{at}
-use Rattle.meaning_curves.specs.Normal.{normalised}
+use Rattle.meaning_curves.specs.{Curve.at, Normal.normalised}
 use Rattle.meaning_filter.proofs.Bound.{apart}
 use Rattle.numbers.specs.Within.{Within}
 use Rattle.distance_normal.specs.Stretch.{Normalised}

@@ -1,27 +1,13 @@
 -- What the audit answers, by its plan: where the plan's refusal is that of a call, the answer is that call's (`stopped`, `went-wrong`, `went-right`), and where nothing refuses its lines say what they test.
-use mathlib.Core.Path.{_≡_, refl, sym, ap, _∙_}
-use mathlib.Core.Bool.{true, false}
-use mathlib.Core.Option.{none, some}
-use Prim.Native.Nat.{ℕ, zero, suc, _+_}
-use lib.Dec.{T}
-use lib.IntN.{natAbs}
-use lib.ListN.{length}
-use borrow.Author.Tests.{eq-eqb, ne-eqb}
+use Rattle.meaning_numbers.proofs.Prelude.{_≡_, refl, sym, ap, _∙_, true, false, none, some, ℕ, zero, suc, _+_, T, natAbs, length, eq-eqb, ne-eqb}
 use Rattle.meaning_curves.specs.Limits.{mostValues}
 use Rattle.meaning_curves.proofs.Values.{AllIn}
 use Rattle.meaning_rows.specs.Audit.{firstWrong, missing}
 use Rattle.meaning_rows.proofs.Judge.{WellFormed}
-use Rattle.meaning_entries.specs.declared.Audited.{Audited}
-use Rattle.meaning_entries.specs.Refusal.{firstRefusal}
-use Rattle.meaning_entries.specs.Audit.{AuditCall, auditTable, complete, audited, auditAnswer}
-use Rattle.meaning_entries.proofs.Refusal.{AllPass, passed-is, openLines, passed-line, lacks}
-use Rattle.meaning_entries.proofs.Lines.{values-line, formed-line, fewer-line, more-line}
-use Rattle.meaning_entries.proofs.Passes.{same-windows}
+use Rattle.meaning_entries.specs.{declared.Audited.Audited, Refusal.firstRefusal, Audit.AuditCall, Audit.auditTable, Audit.complete, Audit.audited, Audit.auditAnswer}
+use Rattle.meaning_entries.proofs.{Refusal.AllPass, Refusal.passed-is, Refusal.openLines, Refusal.passed-line, Refusal.lacks, Lines.values-line, Lines.formed-line, Lines.fewer-line, Lines.more-line, Passes.same-windows}
 use Rattle.refusals.specs.Refusal.{refusalOf, passes, refuses}
-use Rattle.entry_audit.specs.declared.AuditPlan.{AuditPlan}
-use Rattle.entry_audit.specs.declared.RowsAudited.{RowsAudited}
-use Rattle.entry_audit.specs.Auditing.{found}
-use Rattle.entry_audit.specs.Plan.{answerOf}
+use Rattle.entry_audit.specs.{declared.AuditPlan.AuditPlan, declared.RowsAudited.RowsAudited, Auditing.found, Plan.answerOf}
 
 module _ (p : AuditPlan) (s : RowsAudited) where
   pub answer-refused : (p .refusal .number ≡ 0 → ⊥) → Audited.Refused (p .refusal .number) (p .refusal .place) ≡ answerOf p s

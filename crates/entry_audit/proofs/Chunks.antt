@@ -1,28 +1,10 @@
 -- The rows of an index, chunk by chunk: what is filed wrongly first from a place on is that of the chunk, or else of what comes after (`chunk-then`). Every row of a well-formed index can be read (`good-reads`), and so can what a chunk holds (`chunk-reads`).
-use mathlib.Core.Path.{_≡_, refl, sym, ap, subst, _∙_}
-use mathlib.Core.Bool.{true, _&&_}
-use mathlib.Core.List.{List, [], _∷_}
-use mathlib.Core.Option.{Option, none, some}
-use Prim.Native.Nat.{ℕ, zero, suc, _+_, _-_, _<_, _≤_}
-use native.Mathlib.Omega.{arith}
-use native.Mathlib.Decide.{decLe}
-use lib.Dec.{leb, ltb}
-use lib.IntN.{ℤ, pos}
-use lib.ListN.{length, getD, drop, drop-of-length-le, List·getD-eq-default}
-use borrow.Author.Tests.{leb-true, ltb-true}
-use Rattle.meaning_numbers.proofs.Tests.{both, by-test}
+use Rattle.meaning_numbers.proofs.Prelude.{_≡_, refl, sym, ap, subst, _∙_, true, _&&_, List, [], _∷_, Option, none, some, ℕ, zero, suc, _+_, _-_, _<_, _≤_, arith, decLe, leb, ltb, ℤ, pos, length, getD, drop, drop-of-length-le, List·getD-eq-default, leb-true, ltb-true, both, by-test}
 use Rattle.meaning_curves.specs.Curve.{windowSum}
-use Rattle.meaning_rows.specs.declared.Row.{Row}
-use Rattle.meaning_rows.specs.declared.Head.{Head}
-use Rattle.meaning_rows.specs.Range.{inside}
-use Rattle.meaning_rows.specs.Index.{Index, lent, runsOf}
-use Rattle.meaning_rows.specs.Judge.{runsGood}
-use Rattle.meaning_rows.specs.Audit.{offsets, wrongIn, wrongFrom, sums, firstWrong}
-use Rattle.meaning_rows.proofs.Judge.{GoodRow, WellFormed, runs-good, row-at}
+use Rattle.meaning_rows.specs.{declared.Row.Row, declared.Head.Head, Range.inside, Index.Index, Index.lent, Index.runsOf, Judge.runsGood, Audit.offsets, Audit.wrongIn, Audit.wrongFrom, Audit.sums, Audit.firstWrong}
+use Rattle.meaning_rows.proofs.{Judge.GoodRow, Judge.WellFormed, Judge.runs-good, Judge.row-at, Grown.length-entries}
 use Rattle.rows_records.specs.Records.{zeroRow, chunkOf}
-use Rattle.rows_records.proofs.Walk.{drop-next}
-use Rattle.rows_records.proofs.Chunk.{chunk-at, chunk-length}
-use Rattle.meaning_rows.proofs.Grown.{length-entries}
+use Rattle.rows_records.proofs.{Walk.drop-next, Chunk.chunk-at, Chunk.chunk-length}
 use Rattle.rows_judge.proofs.Scan.{part, part-next}
 use Rattle.entry_audit.specs.Auditing.{Reads, onlyRuns, wrongOf}
 

@@ -1,38 +1,17 @@
 -- The loop over the chunks of an audit. `Auditing` is its invariant: where the audit goes on, nothing refuses and what is filed wrongly first from here on is what is filed wrongly first; where it does not, the answer is had. How it starts, moves, stops and ends.
-use mathlib.Core.Path.{_≡_, refl, sym, ap, subst, _∙_}
-use mathlib.Core.Bool.{true, false, not}
-use mathlib.Core.List.{List}
-use mathlib.Core.Option.{Option, none, some}
-use Prim.Native.Nat.{ℕ, _+_, _-_, _<_, _≤_, _*_, _^_}
-use native.Mathlib.Omega.{arith}
-use lib.IntN.{ℤ}
-use lib.ListN.{length, drop, drop-of-length-le}
-use borrow.Author.Tests.{eqb-true, eqb-false, not-true, not-false}
-use Rattle.meaning_numbers.proofs.Tests.{by-test, clash}
+use Rattle.meaning_numbers.proofs.Prelude.{_≡_, refl, sym, ap, subst, _∙_, true, false, not, List, Option, none, some, ℕ, _+_, _-_, _<_, _≤_, _*_, _^_, arith, ℤ, length, drop, drop-of-length-le, eqb-true, eqb-false, not-true, not-false, by-test, clash}
 use Rattle.meaning_curves.specs.Limits.{mostValues}
-use Rattle.meaning_rows.specs.declared.Row.{Row}
-use Rattle.meaning_rows.specs.declared.Head.{Head}
-use Rattle.meaning_rows.specs.Index.{Index, lent}
-use Rattle.meaning_rows.specs.Judge.{lengthTotal}
-use Rattle.meaning_rows.specs.Audit.{firstWrong, wrongFrom}
-use Rattle.meaning_rows.proofs.Judge.{WellFormed, none-bad}
-use Rattle.meaning_rows.proofs.Audit.{missing-are}
-use Rattle.meaning_entries.specs.Refusal.{Condition, fewerWindows, moreWindows}
-use Rattle.meaning_entries.specs.Audit.{AuditCall, lentAudit, auditTable, auditAnswer}
-use Rattle.meaning_entries.specs.declared.Audited.{Audited}
-use Rattle.meaning_entries.specs.Demand2.{AuditKept}
+use Rattle.meaning_rows.specs.{declared.Row.Row, declared.Head.Head, Index.Index, Index.lent, Judge.lengthTotal, Audit.firstWrong, Audit.wrongFrom}
+use Rattle.meaning_rows.proofs.{Judge.WellFormed, Judge.none-bad, Audit.missing-are}
+use Rattle.meaning_entries.specs.{Refusal.Condition, Refusal.fewerWindows, Refusal.moreWindows, Audit.AuditCall, Audit.lentAudit, Audit.auditTable, Audit.auditAnswer, declared.Audited.Audited, Demand2.AuditKept}
 use Rattle.meaning_entries.proofs.Demand2.{audit-kept}
 use Rattle.rows_records.specs.Records.{chunkOf}
 use Rattle.rows_records.proofs.Chunk.{chunk-length}
-use Rattle.refusals.specs.Refusal.{refusalOf, judged-line}
 use Rattle.rows_judge.specs.Judged.{outcome, judgedOf, bad-row}
 use Rattle.rows_judge.proofs.Outcome.{judged-by}
-use Rattle.entry_audit.specs.declared.AuditPlan.{AuditPlan}
-use Rattle.entry_audit.specs.declared.RowsAudited.{RowsAudited}
-use Rattle.entry_audit.specs.Auditing.{found, Ready, wrongOf, chunked}
-use Rattle.entry_audit.specs.Plan.{tableOf, leftOver, planOf, began, answerOf}
-use Rattle.entry_audit.proofs.Cases.{stopped, values-in, formed, fits, went-wrong, went-right}
-use Rattle.entry_audit.proofs.Chunks.{orElse, chunk-then, same-wrong, chunk-reads}
+use Rattle.refusals.specs.Refusal.{refusalOf, judged-line}
+use Rattle.entry_audit.specs.{declared.AuditPlan.AuditPlan, declared.RowsAudited.RowsAudited, Auditing.found, Auditing.Ready, Auditing.wrongOf, Auditing.chunked, Plan.tableOf, Plan.leftOver, Plan.planOf, Plan.began, Plan.answerOf}
+use Rattle.entry_audit.proofs.{Cases.stopped, Cases.values-in, Cases.formed, Cases.fits, Cases.went-wrong, Cases.went-right, Chunks.orElse, Chunks.chunk-then, Chunks.same-wrong, Chunks.chunk-reads}
 
 module _ (series : List ℤ) (h : Head) (rows : List Row) (left right : List ℕ) where
   abbrev X : Index

@@ -1,24 +1,13 @@
 -- The turns of the loops over a chunk's rows, their runs and the offsets of a run: what is filed wrongly first among what is left. A row begins (`row-begins`) and ends (`row-ends`), a run begins (`run-begins`) and ends (`run-ends`),
 -- an offset is filed right (`filed-right`) or wrongly (`filed-wrong`), and where no row is left none is (`none-left`).
-use mathlib.Core.Path.{_≡_, refl, sym, ap, _∙_}
-use mathlib.Core.Bool.{Bool, true, false, cond}
-use mathlib.Core.List.{List, [], _∷_, _++_}
-use mathlib.Core.Option.{Option, none, some}
-use Prim.Native.Nat.{ℕ, suc, _+_, _-_, _<_, _≤_}
-use native.Mathlib.Omega.{arith}
-use lib.IntN.{ℤ}
-use lib.ListN.{length, getD, drop, drop-of-length-le}
 use Rattle.meaning_numbers.specs.Place.{numbersFrom}
+use Rattle.meaning_numbers.proofs.Prelude.{_≡_, refl, sym, ap, _∙_, Bool, true, false, cond, List, [], _∷_, _++_, Option, none, some, ℕ, suc, _+_, _-_, _<_, _≤_, arith, ℤ, length, getD, drop, drop-of-length-le}
 use Rattle.meaning_curves.specs.Curve.{windowSum}
-use Rattle.meaning_rows.specs.declared.Row.{Row}
-use Rattle.meaning_rows.specs.declared.Head.{Head}
-use Rattle.meaning_rows.specs.Range.{inside}
-use Rattle.meaning_rows.specs.Audit.{offsets, wrongIn, wrongFrom}
+use Rattle.meaning_rows.specs.{declared.Row.Row, declared.Head.Head, Range.inside, Audit.offsets, Audit.wrongIn, Audit.wrongFrom}
 use Rattle.rows_records.specs.Records.{zeroRow}
 use Rattle.rows_records.proofs.Walk.{drop-next}
 use Rattle.rows_judge.proofs.Scan.{part, part-next, part-none}
-use Rattle.entry_audit.specs.declared.RowsAudited.{RowsAudited}
-use Rattle.entry_audit.specs.Auditing.{found, wrongOf, chunked}
+use Rattle.entry_audit.specs.{declared.RowsAudited.RowsAudited, Auditing.found, Auditing.wrongOf, Auditing.chunked}
 
 -- nothing is filed wrongly so far
 pub record Still (go : Bool) (row offset : ℕ) : Type 0 where

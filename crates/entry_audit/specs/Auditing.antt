@@ -1,17 +1,14 @@
 -- The state of an audit: that it goes on, or the row and offset filed wrongly. `Ready` is what the audit of a chunk of rows asks: every value in its limits, and every run of the rows inside the run buffer and the series.
-use mathlib.Core.Path.{_≡_}
-use mathlib.Core.Bool.{true, false, cond}
-use mathlib.Core.List.{List, []}
-use mathlib.Core.Option.{Option, none, some}
 use Prim.Native.Nat.{ℕ, _+_, _<_, _≤_, _^_}
 use lib.IntN.{ℤ, pos}
 use lib.ListN.{length, getD}
+use mathlib.Core.Bool.{true, false, cond}
+use mathlib.Core.List.{List, []}
+use mathlib.Core.Option.{Option, none, some}
+use mathlib.Core.Path.{_≡_}
 use Rattle.meaning_curves.specs.Curve.{windowSum}
 use Rattle.meaning_curves.proofs.Values.{AllIn}
-use Rattle.meaning_rows.specs.declared.Row.{Row}
-use Rattle.meaning_rows.specs.declared.Head.{Head}
-use Rattle.meaning_rows.specs.Index.{Index, entries}
-use Rattle.meaning_rows.specs.Audit.{wrongFrom}
+use Rattle.meaning_rows.specs.{declared.Row.Row, declared.Head.Head, Index.Index, Index.entries, Audit.wrongFrom}
 use Rattle.rows_records.specs.Records.{zeroRow}
 use Rattle.entry_audit.specs.declared.RowsAudited.{RowsAudited}
 

@@ -1,20 +1,16 @@
 -- What the audit knows before it looks at the rows: what refuses it, and how many windows the runs leave; how it begins, and what it answers where it ends.
-use mathlib.Core.Bool.{cond}
-use mathlib.Core.List.{List, [], _∷_, _++_}
 use Prim.Native.Nat.{ℕ, _-_}
 use lib.Dec.{eqb}
 use lib.IntN.{ℤ}
 use lib.ListN.{length}
+use mathlib.Core.Bool.{cond}
+use mathlib.Core.List.{List, [], _∷_, _++_}
 use Rattle.meaning_curves.specs.Limits.{mostValues}
-use Rattle.meaning_rows.specs.declared.Head.{Head}
-use Rattle.meaning_rows.specs.Index.{lent}
-use Rattle.meaning_entries.specs.declared.Audited.{Audited}
-use Rattle.meaning_entries.specs.Refusal.{Condition, seriesLines, countLines}
-use Rattle.meaning_entries.specs.Audit.{complete}
+use Rattle.meaning_rows.specs.{declared.Head.Head, Index.lent}
+use Rattle.meaning_entries.specs.{declared.Audited.Audited, Refusal.Condition, Refusal.seriesLines, Refusal.countLines, Audit.complete}
 use Rattle.rows_judge.specs.declared.Judged.{Judged}
 use Rattle.refusals.specs.Refusal.{refusalOf, judgedLine}
-use Rattle.entry_audit.specs.declared.AuditPlan.{AuditPlan}
-use Rattle.entry_audit.specs.declared.RowsAudited.{RowsAudited}
+use Rattle.entry_audit.specs.{declared.AuditPlan.AuditPlan, declared.RowsAudited.RowsAudited}
 
 -- the refusals, over what code has: the index is told by its head and by what judging said of it
 unfoldable pub tableOf : List ℤ → Head → Judged → List Condition

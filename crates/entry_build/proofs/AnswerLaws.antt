@@ -1,35 +1,18 @@
 -- Laws of specs/Answer.
-use mathlib.Core.Path.{_≡_, refl, sym, ap, _∙_}
-use mathlib.Core.Bool.{true}
-use mathlib.Core.List.{List, [], _∷_, _++_, map}
-use mathlib.Core.Option.{none, some}
-use Prim.Native.Nat.{ℕ, _+_, _-_, _*_, _<_, _≤_}
-use native.Mathlib.Omega.{arith}
-use lib.IntN.{ℤ}
-use lib.ListN.{length, getD, replicate, length-append, length-map}
 use Rattle.meaning_numbers.specs.Place.{any}
-use Rattle.meaning_numbers.proofs.Tests.{clash}
+use Rattle.meaning_numbers.proofs.Prelude.{_≡_, refl, sym, ap, _∙_, true, List, [], _∷_, _++_, map, none, some, ℕ, _+_, _-_, _*_, _<_, _≤_, arith, ℤ, length, getD, replicate, length-append, length-map, clash}
 use Rattle.meaning_curves.specs.Curve.{windowSum, windowCount}
-use Rattle.meaning_rows.specs.declared.Row.{Row}
-use Rattle.meaning_rows.specs.Index.{Index}
-use Rattle.meaning_rows.specs.Build.{SetRow, withRuns, built, builtRows}
-use Rattle.meaning_rows.proofs.Build.{mergedRows, covered, built-covers}
-use Rattle.meaning_rows.proofs.Laid.{length-records}
-use Rattle.meaning_entries.specs.declared.Built.{Built}
-use Rattle.meaning_entries.specs.Buffers.{IndexBuffers, filled, runRoom, indexIn}
-use Rattle.meaning_entries.specs.Build.{lentBuild, buildTable, buildRefusal, buildIndex, buildAnswer, buildAfter}
-use Rattle.meaning_entries.specs.Demand2.{BuildKept}
-use Rattle.meaning_entries.proofs.Refusal.{AllPass, passed-is}
-use Rattle.meaning_entries.proofs.Demand2.{build-kept}
+use Rattle.meaning_rows.specs.{declared.Row.Row, Index.Index, Build.SetRow, Build.withRuns, Build.built, Build.builtRows}
+use Rattle.meaning_rows.proofs.{Build.mergedRows, Build.covered, Build.built-covers, Laid.length-records}
+use Rattle.meaning_entries.specs.{declared.Built.Built, Buffers.IndexBuffers, Buffers.filled, Buffers.runRoom, Buffers.indexIn, Build.lentBuild, Build.buildTable, Build.buildRefusal, Build.buildIndex, Build.buildAnswer, Build.buildAfter, Demand2.BuildKept}
+use Rattle.meaning_entries.proofs.{Refusal.AllPass, Refusal.passed-is, Demand2.build-kept}
 use Rattle.rows_records.specs.Records.{zeroRow}
-use Rattle.sums_slide.specs.Levels.{Lent, windowsOf}
-use Rattle.build_passes.proofs.Rowed.{noRow}
-use Rattle.build_passes.specs.Filled.{Holds}
-use Rattle.build_passes.proofs.Filled.{last-part}
-use Rattle.build_lay.specs.Laid.{LayAsked}
-use Rattle.build_plan.specs.declared.BuildPlan.{BuildPlan}
 use Rattle.refusals.specs.Refusal.{refusalOf, passes, refuses}
-use Rattle.build_plan.specs.Plan.{Lifts}
+use Rattle.sums_slide.specs.Levels.{Lent, windowsOf}
+use Rattle.build_lay.specs.Laid.{LayAsked}
+use Rattle.build_passes.specs.Filled.{Holds}
+use Rattle.build_passes.proofs.{Rowed.noRow, Filled.last-part}
+use Rattle.build_plan.specs.{declared.BuildPlan.BuildPlan, Plan.Lifts}
 use Rattle.build_plan.proofs.PlanLaws.{Goes, never-0, goes}
 use Rattle.entry_build.specs.Answer.{refusedAs, indexAs, PlannedFor}
 

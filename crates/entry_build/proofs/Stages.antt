@@ -1,17 +1,7 @@
 -- What a plan of a build gives: a refusal that is answered, or what was built by its numbers as what w, d and g say.
-use mathlib.Core.Path.{_≡_, _∙_}
-use mathlib.Core.Bool.{true, false, not}
-use mathlib.Core.List.{List}
-use Prim.Native.Nat.{ℕ}
-use lib.Dec.{eqb}
-use lib.IntN.{ℤ}
-use lib.ListN.{length}
-use borrow.Author.Tests.{eqb-true, eqb-false, not-true, not-false}
+use Rattle.meaning_numbers.proofs.Prelude.{_≡_, _∙_, true, false, not, List, ℕ, eqb, ℤ, length, eqb-true, eqb-false, not-true, not-false}
 use Rattle.meaning_rows.specs.Build.{built}
-use Rattle.meaning_entries.specs.declared.Built.{Built}
-use Rattle.meaning_entries.specs.Buffers.{IndexBuffers, indexIn}
-use Rattle.meaning_entries.specs.Build.{lentBuild}
-use Rattle.meaning_entries.specs.Demand2.{BuildKept}
+use Rattle.meaning_entries.specs.{declared.Built.Built, Buffers.IndexBuffers, Buffers.indexIn, Build.lentBuild, Demand2.BuildKept}
 use Rattle.build_passes.specs.Filled.{Holds}
 use Rattle.build_plan.specs.declared.BuildPlan.{BuildPlan}
 use Rattle.entry_build.specs.Answer.{refusedAs, PlannedFor}

@@ -1,14 +1,11 @@
 -- What a build answers, and that it keeps its promise.
-use mathlib.Core.List.{List}
 use Prim.Native.Nat.{ℕ, _+_}
 use lib.IntN.{ℤ}
 use lib.ListN.{length}
-use Rattle.meaning_rows.specs.declared.Row.{Row}
-use Rattle.meaning_rows.specs.Index.{Index}
-use Rattle.meaning_entries.specs.declared.Built.{Built}
-use Rattle.meaning_entries.specs.Buffers.{IndexBuffers}
-use Rattle.build_plan.specs.declared.BuildPlan.{BuildPlan}
-use Rattle.build_plan.specs.Plan.{Planned}
+use mathlib.Core.List.{List}
+use Rattle.meaning_rows.specs.{declared.Row.Row, Index.Index}
+use Rattle.meaning_entries.specs.{declared.Built.Built, Buffers.IndexBuffers}
+use Rattle.build_plan.specs.{declared.BuildPlan.BuildPlan, Plan.Planned}
 
 abbrev pub refusedAs : BuildPlan → Built
 refusedAs p = Built.Refused (p .refusal .number) (p .refusal .place)

@@ -1,33 +1,25 @@
 -- Laws of specs/Answer.
-use mathlib.Core.Path.{_≡_, refl, sym, ap, _∙_}
-use mathlib.Core.List.{List}
-use mathlib.Core.Option.{none, some}
 use Prim.Native.Nat.{ℕ, _+_, _-_, _*_, _<_, _≤_}
-use native.Mathlib.Omega.{arith}
 use lib.IntN.{ℤ}
 use lib.ListN.{length, getD, replicate, length-append, length-replicate, length-map}
+use mathlib.Core.List.{List}
+use mathlib.Core.Option.{none, some}
+use mathlib.Core.Path.{_≡_, refl, sym, ap, _∙_}
+use native.Mathlib.Omega.{arith}
 use Rattle.meaning_curves.specs.Curve.{windowCount, windowSum}
 use Rattle.meaning_curves.proofs.Values.{none-outside}
-use Rattle.meaning_rows.specs.declared.Row.{Row}
-use Rattle.meaning_rows.specs.declared.Head.{Head}
-use Rattle.meaning_rows.specs.Index.{Index, RangeRow, lent, records, allRuns}
-use Rattle.meaning_rows.specs.Extend.{extendedRows, extended}
-use Rattle.meaning_rows.proofs.Laid.{length-records}
-use Rattle.meaning_rows.proofs.Woven.{wovenRows, grownRuns}
-use Rattle.meaning_entries.specs.declared.Extended.{Extended}
-use Rattle.meaning_entries.specs.Buffers.{IndexBuffers, filled, indexIn}
+use Rattle.meaning_rows.specs.{declared.Row.Row, declared.Head.Head, Index.Index, Index.RangeRow, Index.lent, Index.records, Index.allRuns, Extend.extendedRows, Extend.extended}
+use Rattle.meaning_rows.proofs.{Laid.length-records, Woven.wovenRows, Woven.grownRuns}
+use Rattle.meaning_entries.specs.{declared.Extended.Extended, Buffers.IndexBuffers, Buffers.filled, Buffers.indexIn, Demand2.ExtendKept}
 use Rattle.meaning_entries.specs.Extend.{ExtendCall, lentExtend, extendRefusal, extendIndex, extendAnswer, extendAfter}
-use Rattle.meaning_entries.specs.Demand2.{ExtendKept}
 use Rattle.meaning_entries.proofs.Demand2.{extend-kept}
 use Rattle.rows_records.specs.Records.{zeroRow}
-use Rattle.build_passes.proofs.Filled.{last-part}
 use Rattle.refusals.specs.declared.Refusal.{Refusal}
+use Rattle.build_passes.proofs.Filled.{last-part}
 use Rattle.extend_plan.proofs.Planned.{thePlan, stopped, goes-on, Sound, sound}
 use Rattle.extend_runs.proofs.Rowed.{rows-are}
-use Rattle.extend_passes.specs.Finished.{HoldsExtended}
-use Rattle.extend_passes.specs.Whole.{PassesAsked}
-use Rattle.entry_extend.specs.declared.Lift.{Lift}
-use Rattle.entry_extend.specs.Answer.{refusedAs, indexAs, Lifts}
+use Rattle.extend_passes.specs.{Finished.HoldsExtended, Whole.PassesAsked}
+use Rattle.entry_extend.specs.{declared.Lift.Lift, Answer.refusedAs, Answer.indexAs, Answer.Lifts}
 
 module _ (s : List ℤ) (h : Head) (from : List Row) (lefts rights : List ℕ) (b : IndexBuffers) where
   abbrev x : Index

@@ -1,29 +1,20 @@
 -- What the plan of an extension gives: a refusal that is answered, or that nothing refuses; and what was made by the head's numbers as what the head says.
-use mathlib.Core.Path.{_≡_, sym, ap, _∙_, subst}
-use mathlib.Core.Bool.{true, false, not}
-use mathlib.Core.List.{List}
 use Prim.Native.Nat.{ℕ, min}
+use borrow.Author.Tests.{eqb-true, eqb-false, not-true, not-false}
 use lib.Dec.{eqb}
 use lib.IntN.{ℤ}
 use lib.ListN.{length}
-use borrow.Author.Tests.{eqb-true, eqb-false, not-true, not-false}
-use Rattle.meaning_rows.specs.declared.Row.{Row}
-use Rattle.meaning_rows.specs.declared.Head.{Head}
-use Rattle.meaning_rows.specs.Index.{Index, lent}
-use Rattle.meaning_rows.specs.Extend.{extended}
-use Rattle.meaning_entries.specs.declared.Extended.{Extended}
-use Rattle.meaning_entries.specs.Buffers.{IndexBuffers}
-use Rattle.meaning_entries.specs.Extend.{lentExtend}
-use Rattle.meaning_entries.specs.Demand2.{ExtendKept}
-use Rattle.rows_judge.specs.declared.Judged.{Judged}
-use Rattle.rows_judge.specs.Judged.{judgedOf}
+use mathlib.Core.Bool.{true, false, not}
+use mathlib.Core.List.{List}
+use mathlib.Core.Path.{_≡_, sym, ap, _∙_, subst}
+use Rattle.meaning_rows.specs.{declared.Row.Row, declared.Head.Head, Index.Index, Index.lent, Extend.extended}
+use Rattle.meaning_entries.specs.{declared.Extended.Extended, Buffers.IndexBuffers, Extend.lentExtend, Demand2.ExtendKept}
+use Rattle.rows_judge.specs.{declared.Judged.Judged, Judged.judgedOf}
 use Rattle.refusals.specs.declared.Refusal.{Refusal}
-use Rattle.extend_passes.specs.Whole.{indexOf}
-use Rattle.extend_passes.specs.Finished.{HoldsExtended}
 use Rattle.extend_plan.specs.Plan.{planOf}
 use Rattle.extend_plan.proofs.Planned.{thePlan}
-use Rattle.entry_extend.specs.declared.Lift.{Lift}
-use Rattle.entry_extend.specs.Answer.{refusedAs, Lifts}
+use Rattle.extend_passes.specs.{Whole.indexOf, Finished.HoldsExtended}
+use Rattle.entry_extend.specs.{declared.Lift.Lift, Answer.refusedAs, Answer.Lifts}
 use Rattle.entry_extend.proofs.AnswerLaws.{refused-kept}
 
 module _ (s : List ℤ) (h : Head) (from : List Row) (lefts rights : List ℕ) (b : IndexBuffers) {j : Judged} {m : ℕ} {p : Refusal} (judged : j ≡ judgedOf (lent h from lefts rights)) (least : m ≡ min (length (b .left)) (length (b .right))) (planned : p ≡ planOf s h j (length (b .rows)) m) where

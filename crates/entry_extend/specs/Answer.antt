@@ -1,9 +1,7 @@
 -- What an extension answers, and that it keeps its promise.
-use mathlib.Core.Path.{_≡_}
 use Prim.Native.Nat.{ℕ, _+_, _*_, _≤_}
-use Rattle.meaning_rows.specs.declared.Row.{Row}
-use Rattle.meaning_rows.specs.declared.Head.{Head}
-use Rattle.meaning_rows.specs.Index.{Index}
+use mathlib.Core.Path.{_≡_}
+use Rattle.meaning_rows.specs.{declared.Row.Row, declared.Head.Head, Index.Index}
 use Rattle.meaning_entries.specs.declared.Extended.{Extended}
 use Rattle.refusals.specs.declared.Refusal.{Refusal}
 use Rattle.entry_extend.specs.declared.Lift.{Lift}

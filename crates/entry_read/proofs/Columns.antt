@@ -1,34 +1,24 @@
 -- The columns of the run buffer are a view of what has been said, so that a pass over a text leaves the text's own runs there (`text-columns`).
-use mathlib.Core.Path.{_≡_, refl, sym, ap, _∙_}
-use mathlib.Core.Bool.{Bool, true, false, cond}
-use mathlib.Core.List.{List, [], _∷_, _++_, map, append-assoc, append-nil}
 use Prim.Native.Nat.{ℕ, _+_, _<_, _≤_, _^_}
-use native.Mathlib.Omega.{arith}
 use lib.IntN.{ℤ, pos}
 use lib.ListN.{length, getD, set, length-append, length-map, length-set}
 use lib.Seq.{sets}
+use mathlib.Core.Bool.{Bool, true, false, cond}
+use mathlib.Core.List.{List, [], _∷_, _++_, map, append-assoc, append-nil}
+use mathlib.Core.Path.{_≡_, refl, sym, ap, _∙_}
+use native.Mathlib.Omega.{arith}
 use Rattle.meaning_rows.specs.Index.{Entry, RangeRow, allRuns}
-use Rattle.meaning_text.specs.Form.{Value}
-use Rattle.meaning_text.specs.Read.{Verdict, fine, unfit, readText}
-use Rattle.meaning_text.specs.Texts.{indexForm, rowSaid, indexSaid}
-use Rattle.meaning_text.proofs.Automaton.{verdictOf, atEnd}
-use Rattle.meaning_text.proofs.Sets.{sets-append}
-use Rattle.text_index.specs.declared.Field.{Field}
-use Rattle.text_index.specs.declared.State.{State}
-use Rattle.text_index.specs.declared.Moved.{Moved}
-use Rattle.text_index.specs.Step.{indexStep}
-use Rattle.text_index.proofs.Follow.{start, Said, nothingSaid, told, closed, value}
-use Rattle.text_index.proofs.Order.{placePart, Order}
-use Rattle.text_index.specs.View.{keptAt}
-use Rattle.text_index.proofs.View.{endOf, Whole, text-viewed, Kept, kept-start, kept-to, kept-value, kept-closed, kept-refuse, kept-end}
-use Rattle.text_event.specs.declared.Event.{Event}
-use Rattle.text_event.specs.Event.{Quiet, RunsFrom, EventAt, atRuns}
-use Rattle.text_event.proofs.EventLaws.{quiet-keeps, value-keeps, run-keeps, row-keeps, runs-keeps}
+use Rattle.meaning_text.specs.{Form.Value, Read.Verdict, Read.fine, Read.unfit, Read.readText, Texts.indexForm, Texts.rowSaid, Texts.indexSaid}
+use Rattle.meaning_text.proofs.{Automaton.verdictOf, Automaton.atEnd, Sets.sets-append}
 use Rattle.numbers.specs.Narrow.{held}
-use Rattle.text_judge.proofs.Bad.{held-pos}
-use Rattle.text_judge.proofs.Prefix.{map-append}
-use Rattle.entry_read.specs.Plan.{heldLefts, heldRights}
-use Rattle.entry_read.specs.Runs.{isLeft, isRight, Columns, tellColumns, runStored, FilledRuns}
+use Rattle.text_index.specs.{declared.Field.Field, declared.State.State, declared.Moved.Moved, Step.indexStep, View.keptAt}
+use Rattle.text_index.proofs.Order.{placePart, Order}
+use Rattle.text_index.proofs.Follow.{start, Said, nothingSaid, told, closed, value}
+use Rattle.text_index.proofs.View.{endOf, Whole, text-viewed, Kept, kept-start, kept-to, kept-value, kept-closed, kept-refuse, kept-end}
+use Rattle.text_event.specs.{declared.Event.Event, Event.Quiet, Event.RunsFrom, Event.EventAt, Event.atRuns}
+use Rattle.text_event.proofs.EventLaws.{quiet-keeps, value-keeps, run-keeps, row-keeps, runs-keeps}
+use Rattle.text_judge.proofs.{Bad.held-pos, Prefix.map-append}
+use Rattle.entry_read.specs.{Plan.heldLefts, Plan.heldRights, Runs.isLeft, Runs.isRight, Runs.Columns, Runs.tellColumns, Runs.runStored, Runs.FilledRuns}
 use Rattle.entry_read.proofs.Runs.{shutColumns, startColumns}
 
 runs-append : (a b : List RangeRow) → allRuns (a ++ b) ≡ allRuns a ++ allRuns b

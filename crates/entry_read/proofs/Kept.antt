@@ -1,44 +1,29 @@
 -- What the entry answers and leaves in the buffers is what is meant (`load-right`): by what the text comes to, and of a text that can be read by the head, the rows and the room.
-use mathlib.Core.Path.{_≡_, refl, sym, ap, _∙_, subst}
-use mathlib.Core.Bool.{true}
-use mathlib.Core.List.{List, [], _∷_, _++_, append-nil}
-use mathlib.Core.Option.{none}
 use Prim.Native.Nat.{ℕ, zero, suc, _+_, _-_, _≤_}
-use native.Mathlib.Omega.{arith}
+use borrow.Author.Tests.{eq-eqb, ne-eqb, eqb-true, eqb-false}
 use lib.Dec.{T, eqb}
 use lib.IntN.{natAbs}
 use lib.ListN.{length, take, drop, replicate, length-replicate, length-map}
 use lib.Seq.{sets, sets-eq, take-length}
-use borrow.Author.Tests.{eq-eqb, ne-eqb, eqb-true, eqb-false}
-use Rattle.meaning_rows.specs.declared.Head.{Head}
-use Rattle.meaning_rows.specs.declared.Row.{Row}
-use Rattle.meaning_rows.specs.Index.{zeroRow, Index, Entry, lent}
-use Rattle.meaning_rows.specs.Judge.{headGood, firstBadRow}
-use Rattle.meaning_text.specs.Form.{Value}
-use Rattle.meaning_text.specs.Read.{fine, unfit, readText, lineOf}
-use Rattle.meaning_text.specs.Texts.{indexForm, indexSaid}
+use mathlib.Core.Bool.{true}
+use mathlib.Core.List.{List, [], _∷_, _++_, append-nil}
+use mathlib.Core.Option.{none}
+use mathlib.Core.Path.{_≡_, refl, sym, ap, _∙_, subst}
+use native.Mathlib.Omega.{arith}
+use Rattle.meaning_rows.specs.{declared.Head.Head, declared.Row.Row, Index.zeroRow, Index.Index, Index.Entry, Index.lent, Judge.headGood, Judge.firstBadRow}
+use Rattle.meaning_text.specs.{Form.Value, Read.fine, Read.unfit, Read.readText, Read.lineOf, Texts.indexForm, Texts.indexSaid}
 use Rattle.meaning_text.proofs.Reading.{by-test}
-use Rattle.meaning_entries.specs.declared.Loaded.{Loaded}
-use Rattle.meaning_entries.specs.Refusal.{firstRefusal, badLine, unreadable, roomLines}
+use Rattle.meaning_entries.specs.{declared.Loaded.Loaded, Refusal.firstRefusal, Refusal.badLine, Refusal.unreadable, Refusal.roomLines, Answers.headOf, Load.textIndex, Load.loadTable, Load.loadRefusal, Load.loadAnswer, Load.loadAfter, Demand2.LoadKept}
 use Rattle.meaning_entries.specs.Buffers.{filled, IndexBuffers, runRoom, lefts, rights, indexIn}
-use Rattle.meaning_entries.specs.Answers.{headOf}
-use Rattle.meaning_entries.specs.Load.{textIndex, loadTable, loadRefusal, loadAnswer, loadAfter}
-use Rattle.meaning_entries.specs.Demand2.{LoadKept}
+use Rattle.meaning_entries.proofs.{Lines.room-line, Demand2.load-kept, Again.text-fine}
 use Rattle.meaning_entries.proofs.Refusal.{AllPass, passed-is, openLines, passed-line, passed-behind, lacks, same-behind}
-use Rattle.meaning_entries.proofs.Lines.{room-line}
-use Rattle.meaning_entries.proofs.Demand2.{load-kept}
-use Rattle.meaning_entries.proofs.Again.{text-fine}
 use Rattle.refusals.specs.declared.Refusal.{Refusal}
 use Rattle.refusals.specs.Refusal.{refusalOf, asRefusal, judgedLine, judged-line, passes, refuses}
 use Rattle.refusals.proofs.RefusalLaws.{place-is, place-none}
-use Rattle.text_judge.specs.declared.Rows.{Rows}
-use Rattle.text_judge.specs.Judged.{judgedRows}
-use Rattle.text_judge.specs.Tally.{noRows, rowsFrom, headHeld}
-use Rattle.text_judge.proofs.Bad.{head-is, rows-judged, rows-good, rows-counted}
-use Rattle.text_judge.proofs.Prefix.{runs-held}
+use Rattle.text_judge.specs.{declared.Rows.Rows, Judged.judgedRows, Tally.noRows, Tally.rowsFrom, Tally.headHeld}
+use Rattle.text_judge.proofs.{Bad.head-is, Bad.rows-judged, Bad.rows-good, Bad.rows-counted, Prefix.runs-held}
 use Rattle.text_rows.specs.Line.{stored}
-use Rattle.text_rows.proofs.Turn.{stored-none}
-use Rattle.text_rows.proofs.Filled.{rows-filled}
+use Rattle.text_rows.proofs.{Turn.stored-none, Filled.rows-filled}
 use Rattle.entry_read.specs.declared.ReadPlan.{ReadPlan}
 use Rattle.entry_read.specs.Plan.{refusedPlan, rowsTable, fitPlan, planScanned, planFor, planAnswer, textRuns, heldLefts, heldRights, columnAfter, Loads}
 use Rattle.entry_read.proofs.Planned.{on-verdict}

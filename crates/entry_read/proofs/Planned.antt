@@ -1,18 +1,14 @@
 -- A plan of number 0 is one for a text that can be read, and the columns of the run buffer by the plan's number.
-use mathlib.Core.Path.{_≡_, refl, sym, ap, _∙_}
-use mathlib.Core.List.{List}
 use Prim.Native.Nat.{ℕ}
-use native.Mathlib.Omega.{arith}
-use lib.ListN.{length, replicate}
 use borrow.Author.Tests.{eq-eqb, ne-eqb}
+use lib.ListN.{length, replicate}
+use mathlib.Core.List.{List}
+use mathlib.Core.Path.{_≡_, refl, sym, ap, _∙_}
+use native.Mathlib.Omega.{arith}
 use Rattle.meaning_rows.specs.Index.{Index}
-use Rattle.meaning_text.specs.Form.{Value}
-use Rattle.meaning_text.specs.Read.{Verdict, fine, unfit, readText}
-use Rattle.meaning_text.specs.Texts.{indexForm, indexSaid}
+use Rattle.meaning_text.specs.{Form.Value, Read.Verdict, Read.fine, Read.unfit, Read.readText, Texts.indexForm, Texts.indexSaid}
 use Rattle.meaning_entries.proofs.Again.{text-fine}
-use Rattle.entry_read.specs.declared.ReadPlan.{ReadPlan}
-use Rattle.entry_read.specs.Plan.{planScanned, planFor, textRuns, heldLefts, heldRights, columnAfter}
-use Rattle.entry_read.specs.Runs.{FilledRuns}
+use Rattle.entry_read.specs.{declared.ReadPlan.ReadPlan, Plan.planScanned, Plan.planFor, Plan.textRuns, Plan.heldLefts, Plan.heldRights, Plan.columnAfter, Runs.FilledRuns}
 
 pub on-verdict : {A B : Type 0} (x : Verdict A) → ((a : A) → x ≡ fine a → B) → ((p : ℕ) → x ≡ unfit p → B) → B
 on-verdict (fine a) f g = f a refl

@@ -1,6 +1,6 @@
 -- Laws of specs/Runs.
-use mathlib.Core.List.{List}
 use Prim.Native.Nat.{ℕ}
+use mathlib.Core.List.{List}
 use Rattle.entry_read.specs.Runs.{Columns}
 
 -- a row's end

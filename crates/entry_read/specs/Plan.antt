@@ -1,25 +1,17 @@
 -- What is planned before anything is stored, by what the text comes to; what is answered, and what stands in a column of the run buffer afterwards.
-use mathlib.Core.Path.{_≡_}
-use mathlib.Core.Bool.{cond}
-use mathlib.Core.List.{List, _∷_, map}
 use Prim.Native.Nat.{ℕ, min}
 use lib.Dec.{eqb}
 use lib.ListN.{length, replicate}
 use lib.Seq.{sets}
-use Rattle.meaning_rows.specs.declared.Head.{Head}
-use Rattle.meaning_rows.specs.Index.{Entry}
-use Rattle.meaning_text.specs.Read.{readText, lineOf}
-use Rattle.meaning_text.specs.Texts.{indexForm}
-use Rattle.meaning_entries.specs.declared.Loaded.{Loaded}
-use Rattle.meaning_entries.specs.Refusal.{Condition, roomLines}
-use Rattle.meaning_entries.specs.Load.{textIndex}
-use Rattle.refusals.specs.declared.Refusal.{Refusal}
-use Rattle.refusals.specs.Refusal.{refusalOf, judgedLine}
-use Rattle.text_judge.specs.declared.Rows.{Rows}
-use Rattle.text_judge.specs.declared.Scanned.{Scanned}
-use Rattle.text_judge.specs.Judged.{judgedRows}
-use Rattle.text_judge.specs.Tally.{scanned}
+use mathlib.Core.Bool.{cond}
+use mathlib.Core.List.{List, _∷_, map}
+use mathlib.Core.Path.{_≡_}
+use Rattle.meaning_rows.specs.{declared.Head.Head, Index.Entry}
+use Rattle.meaning_text.specs.{Read.readText, Read.lineOf, Texts.indexForm}
+use Rattle.meaning_entries.specs.{declared.Loaded.Loaded, Refusal.Condition, Refusal.roomLines, Load.textIndex}
 use Rattle.numbers.specs.Narrow.{held}
+use Rattle.refusals.specs.{declared.Refusal.Refusal, Refusal.refusalOf, Refusal.judgedLine}
+use Rattle.text_judge.specs.{declared.Rows.Rows, declared.Scanned.Scanned, Judged.judgedRows, Tally.scanned}
 use Rattle.entry_read.specs.declared.ReadPlan.{ReadPlan}
 
 abbrev pub noHead : Head

@@ -1,16 +1,14 @@
 -- The runs of an index text in the run buffer, as a pass over its bytes stores them.
-use mathlib.Core.Path.{_≡_}
-use mathlib.Core.Bool.{Bool, true, false, cond}
-use mathlib.Core.List.{List}
 use Prim.Native.Nat.{ℕ, _+_}
 use lib.IntN.{ℤ}
 use lib.ListN.{set}
 use lib.Seq.{sets}
-use Rattle.meaning_text.specs.Form.{Value}
-use Rattle.meaning_text.specs.Read.{fine, readText}
-use Rattle.meaning_text.specs.Texts.{indexForm, indexSaid}
-use Rattle.text_index.specs.declared.Field.{Field}
+use mathlib.Core.Bool.{Bool, true, false, cond}
+use mathlib.Core.List.{List}
+use mathlib.Core.Path.{_≡_}
+use Rattle.meaning_text.specs.{Form.Value, Read.fine, Read.readText, Texts.indexForm, Texts.indexSaid}
 use Rattle.numbers.specs.Narrow.{held}
+use Rattle.text_index.specs.declared.Field.{Field}
 use Rattle.entry_read.specs.Plan.{heldLefts, heldRights}
 
 abbrev pub isLeft : Field → Bool

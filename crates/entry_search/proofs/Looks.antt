@@ -1,29 +1,16 @@
 -- The search after its candidates are found: checking has what it asks for (`finish-asked`), and both promises are the promise of the search (`both-kept`).
 -- The search after it: checking has what it asks for (`finish-asked`), and both promises are the promise of the search (`both-kept`).
-use mathlib.Core.Path.{_≡_, sym, ap, _∙_}
-use mathlib.Core.Bool.{true, false}
-use mathlib.Core.List.{List}
-use Prim.Native.Nat.{ℕ}
-use lib.Dec.{eqb}
-use borrow.Author.Tests.{eqb-true, eqb-false}
-use Rattle.meaning_numbers.proofs.Tests.{by-test}
-use lib.IntN.{ℤ}
-use Rattle.meaning_rows.specs.declared.Row.{Row}
-use Rattle.meaning_rows.specs.declared.Head.{Head}
-use Rattle.meaning_rows.specs.Index.{lent}
-use Rattle.meaning_filter.specs.declared.Ask.{Ask}
-use Rattle.meaning_filter.specs.Matches.{offsetCount, candidateAt, candidateRuns}
-use Rattle.meaning_entries.specs.declared.Found.{Found}
+use Rattle.meaning_numbers.proofs.Prelude.{_≡_, sym, ap, _∙_, true, false, List, ℕ, eqb, eqb-true, eqb-false, by-test, ℤ}
+use Rattle.meaning_rows.specs.{declared.Row.Row, declared.Head.Head, Index.lent}
+use Rattle.meaning_filter.specs.{declared.Ask.Ask, Matches.offsetCount, Matches.candidateAt, Matches.candidateRuns}
+use Rattle.meaning_entries.specs.{declared.Found.Found, Demand2.SearchKept}
 use Rattle.meaning_entries.specs.Search.{SearchCall, SearchBuffers, lentSearch, question, searchPlan, lookedAfter}
-use Rattle.meaning_entries.specs.Demand2.{SearchKept}
-use Rattle.candidate_plan.specs.Allowed.{thePlan, plan-is, allowed}
 use Rattle.refusals.specs.declared.Refusal.{Refusal}
+use Rattle.candidate_plan.specs.Allowed.{thePlan, plan-is, allowed}
 use Rattle.check_answer.proofs.Search.{limited, search-ends}
-use Rattle.candidate_find.specs.declared.Sought.{Sought}
-use Rattle.entry_search.proofs.Refused.{refused-kept}
+use Rattle.candidate_find.specs.{declared.Sought.Sought, Sought.SoughtKept}
 use Rattle.entry_search.specs.Finished.{FinishReady, Finished}
-use Rattle.candidate_find.specs.Sought.{SoughtKept}
-use Rattle.entry_search.proofs.SoughtLaws.{runs-lent}
+use Rattle.entry_search.proofs.{Refused.refused-kept, SoughtLaws.runs-lent}
 
 -- ---- checking after it
 

@@ -1,11 +1,5 @@
 -- The promises of the two halves of a search leave one outcome each: what is told, and what stands in every buffer.
-use mathlib.Core.Path.{_≡_, _∙_, sym}
-use mathlib.Core.List.{List}
-use Prim.Native.Nat.{ℕ}
-use lib.Dec.{eqb}
-use lib.IntN.{ℤ}
-use borrow.Author.Tests.{eqb-true, eqb-false}
-use Rattle.meaning_numbers.proofs.Tests.{by-test}
+use Rattle.meaning_numbers.proofs.Prelude.{_≡_, _∙_, sym, List, ℕ, eqb, ℤ, eqb-true, eqb-false, by-test}
 use Rattle.meaning_filter.specs.declared.Ask.{Ask}
 use Rattle.meaning_entries.specs.declared.Found.{Found}
 use Rattle.candidate_find.specs.declared.Sought.{Sought}

@@ -1,14 +1,8 @@
 -- Laws of specs/Refused.
-use mathlib.Core.Path.{_≡_, sym}
-use mathlib.Core.List.{List}
-use Prim.Native.Nat.{ℕ}
-use lib.IntN.{ℤ}
-use Rattle.meaning_rows.specs.declared.Row.{Row}
-use Rattle.meaning_rows.specs.declared.Head.{Head}
+use Rattle.meaning_numbers.proofs.Prelude.{_≡_, sym, List, ℕ, ℤ}
+use Rattle.meaning_rows.specs.{declared.Row.Row, declared.Head.Head}
 use Rattle.meaning_filter.specs.declared.Ask.{Ask}
-use Rattle.meaning_entries.specs.declared.Found.{Found}
-use Rattle.meaning_entries.specs.Search.{SearchBuffers, lentSearch}
-use Rattle.meaning_entries.specs.Demand2.{SearchKept}
+use Rattle.meaning_entries.specs.{declared.Found.Found, Search.SearchBuffers, Search.lentSearch, Demand2.SearchKept}
 use Rattle.meaning_entries.proofs.Demand2.{search-kept}
 use Rattle.candidate_plan.specs.Allowed.{thePlan, plan-stops}
 use Rattle.entry_search.specs.Refused.{refusedAs}

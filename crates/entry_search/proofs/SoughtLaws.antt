@@ -1,9 +1,5 @@
 -- The two halves of a search by what is promised of them. Finding candidates (`SoughtKept`): the plan's refusal, or the candidates as the search leaves them. Checking them (`Finished`). And the last step of finding, over what its code has: the stretches of runs of the query's parts (`HandReady`, `HandedOut`).
-use mathlib.Core.Bool.{Bool}
-use mathlib.Core.List.{List, map}
-use Prim.Native.Nat.{ℕ, _-_, _≤_}
-use native.Mathlib.Omega.{arith}
-use lib.ListN.{length, replicate, length-map, length-append}
+use Rattle.meaning_numbers.proofs.Prelude.{Bool, List, map, ℕ, _-_, _≤_, arith, length, replicate, length-map, length-append}
 use Rattle.meaning_rows.specs.Runs.{runs}
 use Rattle.meaning_rows.proofs.Runs.{runs-apart}
 use Rattle.meaning_entries.specs.Buffers.{filled}

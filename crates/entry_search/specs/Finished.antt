@@ -1,14 +1,12 @@
 -- Checking candidates: what it asks for (`FinishReady`) and what is promised of it (`Finished`).
-use mathlib.Core.Path.{_≡_}
-use mathlib.Core.List.{List}
 use Prim.Native.Nat.{ℕ}
 use lib.IntN.{ℤ}
+use mathlib.Core.List.{List}
+use mathlib.Core.Path.{_≡_}
 use Rattle.meaning_rows.specs.Runs.{runs}
-use Rattle.meaning_filter.specs.declared.Ask.{Ask}
-use Rattle.meaning_filter.specs.Matches.{offsetCount}
+use Rattle.meaning_filter.specs.{declared.Ask.Ask, Matches.offsetCount}
 use Rattle.meaning_entries.specs.declared.Found.{Found}
-use Rattle.check_list.specs.Members.{members}
-use Rattle.check_list.specs.Found.{RunsLent, lentRuns, found}
+use Rattle.check_list.specs.{Members.members, Found.RunsLent, Found.lentRuns, Found.found}
 use Rattle.check_answer.specs.Answer.{wanted, Limited, Answers}
 use Rattle.candidate_find.specs.declared.Sought.{Sought}
 use Rattle.entry_search.specs.Refused.{refusedAs}

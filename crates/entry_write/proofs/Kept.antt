@@ -1,31 +1,13 @@
 -- The entry keeps its promise: what it answers, and what it leaves in the text, by the first refusal.
-use mathlib.Core.Path.{_≡_, refl, sym, ap, _∙_}
-use mathlib.Core.Bool.{true, false}
-use mathlib.Core.List.{List, _++_}
-use mathlib.Core.Option.{none, some}
-use Prim.Native.Nat.{ℕ, suc, _+_, _≤_, min}
-use native.Mathlib.Omega.{arith}
-use lib.Dec.{T, eqb, ltb}
-use lib.ListN.{length, drop}
-use lib.Seq.{sets, sets-eq, length-sets, take-append-le, take-length}
-use borrow.Author.Tests.{lt-ltb, le-ltb, ltb-true, ltb-false, eqb-true, eqb-false}
-use Rattle.meaning_numbers.proofs.Tests.{by-test}
+use Rattle.meaning_numbers.proofs.Prelude.{_≡_, refl, sym, ap, _∙_, true, false, List, _++_, none, some, ℕ, suc, _+_, _≤_, min, arith, T, eqb, ltb, length, drop, sets, sets-eq, length-sets, take-append-le, take-length, lt-ltb, le-ltb, ltb-true, ltb-false, eqb-true, eqb-false, by-test}
 use Rattle.meaning_rows.specs.Index.{Index}
 use Rattle.meaning_text.specs.Texts.{indexText}
-use Rattle.meaning_entries.specs.declared.Written.{Written}
-use Rattle.meaning_entries.specs.Refusal.{bufferShort}
-use Rattle.meaning_entries.specs.Buffers.{filled}
-use Rattle.meaning_entries.specs.Write.{writeTable, writeRefusal, writeAnswer, writeAfter}
-use Rattle.meaning_entries.specs.Demand2.{WriteKept}
-use Rattle.meaning_entries.proofs.Refusal.{passed-is, openLines, passed-line, lacks}
-use Rattle.meaning_entries.proofs.Lines.{room-line}
-use Rattle.meaning_entries.proofs.Demand2.{write-kept}
+use Rattle.meaning_entries.specs.{declared.Written.Written, Refusal.bufferShort, Buffers.filled, Write.writeTable, Write.writeRefusal, Write.writeAnswer, Write.writeAfter, Demand2.WriteKept}
+use Rattle.meaning_entries.proofs.{Refusal.passed-is, Refusal.openLines, Refusal.passed-line, Refusal.lacks, Lines.room-line, Demand2.write-kept}
 use Rattle.clear.specs.Clear.{clearedFrom}
-use Rattle.rows_judge.specs.declared.Judged.{Judged}
-use Rattle.rows_judge.specs.Judged.{judgedOf, bad-row}
+use Rattle.rows_judge.specs.{declared.Judged.Judged, Judged.judgedOf, Judged.bad-row}
 use Rattle.refusals.specs.Refusal.{refusalOf, judged-line, passes, refuses}
-use Rattle.entry_write.specs.Spell.{Ended}
-use Rattle.entry_write.specs.Answer.{tableOf, answerOf, isRefused}
+use Rattle.entry_write.specs.{Spell.Ended, Answer.tableOf, Answer.answerOf, Answer.isRefused}
 
 -- an answer, and why
 data Because (x : Index) (text : List ℕ) : Written → Type 0 where

@@ -1,22 +1,12 @@
 -- Laws of specs/Spell.
-use mathlib.Core.Path.{_≡_, refl, sym, ap, _∙_}
-use mathlib.Core.Bool.{Bool, true, false}
-use mathlib.Core.List.{List, _++_, append-nil, append-assoc}
-use Prim.Native.Nat.{ℕ, _+_, _<_, _≤_}
-use native.Mathlib.Omega.{arith}
-use lib.IntN.{pos}
-use lib.ListN.{length, getD, take, length-append}
-use lib.Seq.{take-all}
-use Rattle.meaning_rows.specs.declared.Row.{Row}
-use Rattle.meaning_rows.specs.declared.Head.{Head}
-use Rattle.meaning_rows.specs.Index.{lent}
-use Rattle.meaning_text.specs.Form.{spellMany}
-use Rattle.meaning_text.specs.Texts.{indexText}
+use Rattle.meaning_numbers.proofs.Prelude.{_≡_, refl, sym, ap, _∙_, Bool, true, false, List, _++_, append-nil, append-assoc, ℕ, _+_, _<_, _≤_, arith, pos, length, getD, take, length-append, take-all}
+use Rattle.meaning_rows.specs.{declared.Row.Row, declared.Head.Head, Index.lent}
+use Rattle.meaning_text.specs.{Form.spellMany, Texts.indexText}
 use Rattle.clear.specs.Clear.{clearedFrom}
-use Rattle.text_write.specs.Write.{headText, endText, rowText}
-use Rattle.text_write.proofs.Write.{rowsText, rows-turn, index-parts}
 use Rattle.text_put.specs.Put.{Put}
 use Rattle.text_put.proofs.Put.{put-then}
+use Rattle.text_write.specs.Write.{headText, endText, rowText}
+use Rattle.text_write.proofs.Write.{rowsText, rows-turn, index-parts}
 use Rattle.text_count.specs.Count.{Counted}
 use Rattle.entry_write.specs.Spell.{Spelled, Ended}
 

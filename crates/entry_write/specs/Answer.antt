@@ -1,13 +1,11 @@
 -- What write answers, by what judging said, the length of the text and the size of the buffer.
-use mathlib.Core.Bool.{Bool, true, false, cond}
-use mathlib.Core.List.{List, [], _∷_}
 use Prim.Native.Nat.{ℕ}
 use lib.Dec.{eqb}
-use Rattle.meaning_entries.specs.declared.Written.{Written}
-use Rattle.meaning_entries.specs.Refusal.{Condition, bufferShort}
+use mathlib.Core.Bool.{Bool, true, false, cond}
+use mathlib.Core.List.{List, [], _∷_}
+use Rattle.meaning_entries.specs.{declared.Written.Written, Refusal.Condition, Refusal.bufferShort}
 use Rattle.rows_judge.specs.declared.Judged.{Judged}
-use Rattle.refusals.specs.declared.Refusal.{Refusal}
-use Rattle.refusals.specs.Refusal.{refusalOf, judgedLine}
+use Rattle.refusals.specs.{declared.Refusal.Refusal, Refusal.refusalOf, Refusal.judgedLine}
 
 -- the refusals
 unfoldable pub tableOf : Judged → ℕ → ℕ → List Condition

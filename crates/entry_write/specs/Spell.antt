@@ -1,10 +1,10 @@
 -- A text spelled into a buffer: stored from a place on as far as there is room, or only counted, and then nothing is altered.
-use mathlib.Core.Path.{_≡_}
-use mathlib.Core.Bool.{Bool, cond}
-use mathlib.Core.List.{List}
 use Prim.Native.Nat.{ℕ, suc, _+_, min}
 use lib.ListN.{length}
 use lib.Seq.{sets}
+use mathlib.Core.Bool.{Bool, cond}
+use mathlib.Core.List.{List}
+use mathlib.Core.Path.{_≡_}
 use Rattle.clear.specs.Clear.{clearedFrom}
 
 -- `to` is the place behind l, or one past the end

@@ -1,28 +1,13 @@
 -- Laws of specs/Count.
-use mathlib.Core.Path.{_≡_, refl, sym, ap, _∙_, subst}
-use mathlib.Core.Bool.{true, false}
-use mathlib.Core.List.{List}
-use Prim.Native.Nat.{ℕ, zero, suc, _+_, _-_, _<_, _≤_}
-use native.Mathlib.Omega.{arith}
-use native.Mathlib.Decide.{decLt}
-use lib.Dec.{leb, eqb}
-use lib.IntN.{ℤ}
-use lib.ListN.{length, getD, set, length-set}
-use lib.Seq.{getD-set-same, getD-set-other}
-use borrow.Author.Tests.{leb-true, ltb-true, le-leb, lt-leb, lt-ltb, eqb-true, eqb-false, ne-eqb}
-use Rattle.meaning_numbers.proofs.Tests.{by-test, both, clash}
+use Rattle.meaning_numbers.proofs.Prelude.{_≡_, refl, sym, ap, _∙_, subst, true, false, List, ℕ, zero, suc, _+_, _-_, _<_, _≤_, arith, decLt, leb, eqb, ℤ, length, getD, set, length-set, getD-set-same, getD-set-other, leb-true, ltb-true, le-leb, lt-leb, lt-ltb, eqb-true, eqb-false, ne-eqb, by-test, both, clash}
 use Rattle.meaning_rows.specs.Runs.{before, runCount}
-use Rattle.meaning_rows.proofs.Runs.{before-none, before-more}
-use Rattle.meaning_rows.proofs.Parts.{stay-runs}
-use Rattle.meaning_rows.proofs.Columns.{runCount-none}
-use Rattle.sums_slide.specs.Levels.{level, windowsOf, within}
-use Rattle.sums_slide.specs.Change.{Stop, RowRun}
+use Rattle.meaning_rows.proofs.{Runs.before-none, Runs.before-more, Parts.stay-runs, Columns.runCount-none}
+use Rattle.sums_slide.specs.{Levels.level, Levels.windowsOf, Levels.within, Change.Stop, Change.RowRun}
 use Rattle.sums_count.specs.Tally.{isRow}
 use Rattle.sums_count.proofs.Tally.{Fresh, run-mine, run-other}
 use Rattle.rows_pack.specs.Packed.{startOf}
-use Rattle.extend_count.specs.Rank.{rank, Climbing}
+use Rattle.extend_count.specs.{Rank.rank, Rank.Climbing, Count.rowFrom, Count.Counted}
 use Rattle.extend_count.proofs.Rank.{rank-is, rank-under, rank-over}
-use Rattle.extend_count.specs.Count.{rowFrom, Counted}
 
 start-first : (ups : List ℕ) → startOf ups 0 ≡ 0
 unfolding startOf

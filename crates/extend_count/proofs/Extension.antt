@@ -1,46 +1,17 @@
 -- The counts of an extension are right: counting by rank, from each row's old runs on, gives the runs of the extension's rows, but for the first new run where it joins an old one (`counts-are`).
-use mathlib.Core.Path.{_≡_, refl, sym, ap, _∙_, subst}
-use mathlib.Core.Bool.{Bool, true, false, _&&_, and-false, and-true}
-use mathlib.Core.List.{List, [], _∷_, map}
-use Prim.Native.Nat.{ℕ, zero, suc, _+_, _-_, _*_, _<_, _≤_}
-use native.Mathlib.Omega.{arith}
-use native.Mathlib.Decide.{decLt}
-use lib.Dec.{eqb}
-use lib.IntN.{ℤ, natAbs}
-use lib.ListN.{length, getD}
-use lib.Signed.{_≤ℤ_, _<ℤ_}
-use borrow.Author.Tests.{eq-eqb, ne-eqb, le-leb, lt-leb}
-use Rattle.meaning_numbers.specs.Sum.{bit}
-use Rattle.meaning_numbers.specs.Place.{any}
-use Rattle.meaning_numbers.proofs.Rep.{Rep, zarith}
-use Rattle.meaning_numbers.proofs.Count.{bit-false}
-use Rattle.meaning_numbers.proofs.Tests.{by-test, clash}
-use Rattle.meaning_numbers.proofs.Member.{all-mem, mem-at}
-use Rattle.meaning_curves.specs.Limits.{lowestEnd}
-use Rattle.meaning_curves.specs.Curve.{windowSum, windowCount}
-use Rattle.meaning_rows.specs.declared.Row.{Row}
-use Rattle.meaning_rows.specs.Range.{inside}
-use Rattle.meaning_rows.specs.Runs.{before, runCount}
-use Rattle.meaning_rows.specs.Index.{Index, entries}
-use Rattle.meaning_rows.specs.Build.{rowNumbers}
-use Rattle.meaning_rows.specs.Extend.{grown}
-use Rattle.meaning_rows.proofs.Range.{is-inside}
-use Rattle.meaning_rows.proofs.Runs.{runs-cong}
-use Rattle.meaning_rows.proofs.Times.{Ascending}
-use Rattle.meaning_rows.proofs.Judge.{WellFormed, rangeOf}
-use Rattle.meaning_rows.proofs.Extend.{Extendable, grown-new}
-use Rattle.meaning_rows.proofs.Woven.{wovenRows, woven-ascends, woven-covers}
+use Rattle.meaning_numbers.specs.{Sum.bit, Place.any}
+use Rattle.meaning_numbers.proofs.{Count.bit-false, Member.all-mem, Member.mem-at}
+use Rattle.meaning_numbers.proofs.Prelude.{_≡_, refl, sym, ap, _∙_, subst, Bool, true, false, _&&_, and-false, and-true, List, [], _∷_, map, ℕ, zero, suc, _+_, _-_, _*_, _<_, _≤_, arith, decLt, eqb, ℤ, natAbs, length, getD, _≤ℤ_, _<ℤ_, eq-eqb, ne-eqb, le-leb, lt-leb, Rep, zarith, by-test, clash}
+use Rattle.meaning_curves.specs.{Limits.lowestEnd, Curve.windowSum, Curve.windowCount}
+use Rattle.meaning_rows.specs.{declared.Row.Row, Range.inside, Runs.before, Runs.runCount, Index.Index, Index.entries, Build.rowNumbers, Extend.grown}
+use Rattle.meaning_rows.proofs.{Range.is-inside, Runs.runs-cong, Times.Ascending, Judge.WellFormed, Judge.rangeOf, Extend.Extendable, Extend.grown-new, Woven.wovenRows, Woven.woven-ascends, Woven.woven-covers}
 use Rattle.meaning_rows.proofs.Grown.{onward, onward-count, lastEnds, Begun, begun-woven, old-count, joins-old}
 use Rattle.rows_records.specs.Records.{zeroRow}
-use Rattle.sums_slide.specs.Levels.{level, Lent}
-use Rattle.sums_slide.proofs.Levels.{level-is}
+use Rattle.sums_slide.specs.{Levels.level, Levels.Lent, Ends.raisedEnd}
+use Rattle.sums_slide.proofs.{Levels.level-is, EndsLaws.raised-le, EndsLaws.raised-gt, EndsLaws.raised-mono}
 use Rattle.sums_count.specs.Tally.{isRow}
-use Rattle.sums_slide.specs.Ends.{raisedEnd}
-use Rattle.sums_slide.proofs.EndsLaws.{raised-le, raised-gt, raised-mono}
-use Rattle.extend_count.specs.Rank.{rank, Climbing}
-use Rattle.extend_count.proofs.Rank.{rank-is}
-use Rattle.extend_count.specs.Count.{rowFrom, Counted}
-use Rattle.extend_count.proofs.Count.{row-new, row-old}
+use Rattle.extend_count.specs.{Rank.rank, Rank.Climbing, Count.rowFrom, Count.Counted}
+use Rattle.extend_count.proofs.{Rank.rank-is, Count.row-new, Count.row-old}
 
 -- ---- the members from an offset on
 

@@ -1,14 +1,7 @@
 -- Laws of specs/Rank.
-use mathlib.Core.Path.{_≡_, sym, _∙_}
-use mathlib.Core.List.{List}
-use Prim.Native.Nat.{ℕ, zero, suc, _+_, _<_, _≤_}
-use native.Mathlib.Omega.{arith}
-use native.Mathlib.Decide.{decLt}
-use lib.Dec.{leb, ltb}
-use lib.ListN.{getD}
-use borrow.Author.Tests.{le-leb, lt-leb, lt-ltb, le-ltb}
 use Rattle.meaning_numbers.specs.Sum.{count}
 use Rattle.meaning_numbers.proofs.Count.{count-none, count-more, count-cong, bit-true, bit-false}
+use Rattle.meaning_numbers.proofs.Prelude.{_≡_, sym, _∙_, List, ℕ, zero, suc, _+_, _<_, _≤_, arith, decLt, leb, ltb, getD, le-leb, lt-leb, lt-ltb, le-ltb}
 use Rattle.extend_count.specs.Rank.{rank, Climbing}
 
 count-first : (r n : ℕ) → r ≤ n → count (λ i. ltb i r) n ≡ r

@@ -1,11 +1,11 @@
 -- Counting the runs of new windows in their rows, by rank.
-use mathlib.Core.Path.{_≡_}
-use mathlib.Core.Bool.{cond}
-use mathlib.Core.List.{List}
 use Prim.Native.Nat.{ℕ, _+_, _<_, _≤_}
 use lib.Dec.{leb}
 use lib.IntN.{ℤ}
 use lib.ListN.{length, getD}
+use mathlib.Core.Bool.{cond}
+use mathlib.Core.List.{List}
+use mathlib.Core.Path.{_≡_}
 use Rattle.meaning_rows.specs.Runs.{before, runCount}
 use Rattle.sums_slide.specs.Levels.{level, Lent, windowsOf}
 use Rattle.extend_count.specs.Rank.{rank, Climbing}

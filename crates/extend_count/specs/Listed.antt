@@ -1,9 +1,9 @@
 -- Numbers listed in a slice, one in a turn; the raised upper end of a row, and how many runs it has.
-use mathlib.Core.List.{List}
 use Prim.Native.Nat.{ℕ, zero, suc, _<_, _≤_}
 use lib.IntN.{ℤ, pos, _-ℤ_}
 use lib.ListN.{length, getD, set}
 use lib.Signed.{_≤ℤ_}
+use mathlib.Core.List.{List}
 use Rattle.meaning_rows.specs.declared.Row.{Row}
 use Rattle.rows_records.specs.Records.{zeroRow}
 use Rattle.sums_slide.specs.Ends.{raisedEnd}

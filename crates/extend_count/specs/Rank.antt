@@ -1,8 +1,8 @@
 -- The rank of a number among ascending ends: how many are at most it. It is the place of the first end above it.
-use mathlib.Core.List.{List}
 use Prim.Native.Nat.{ℕ, _<_, _≤_}
 use lib.Dec.{leb}
 use lib.ListN.{getD}
+use mathlib.Core.List.{List}
 use Rattle.meaning_numbers.specs.Sum.{count}
 
 unfoldable pub rank : List ℕ → ℕ → ℕ → ℕ

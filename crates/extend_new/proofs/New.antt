@@ -1,15 +1,6 @@
 -- Laws of specs/New.
-use mathlib.Core.Path.{_≡_, refl, ap, _∙_}
-use mathlib.Core.List.{List, map}
-use Prim.Native.Nat.{ℕ, zero, suc, _+_, _-_, _*_, _<_}
-use native.Mathlib.Omega.{arith}
-use lib.Dec.{ltb}
-use lib.IntN.{ℤ, pos}
-use lib.ListN.{length, getD, take, drop, length-drop}
-use lib.Seq.{getD-drop, take-all}
-use borrow.Author.Tests.{ltb-true, ltb-false}
 use Rattle.meaning_numbers.proofs.Sum.{Σℤ-same}
-use Rattle.meaning_numbers.proofs.Tests.{by-test}
+use Rattle.meaning_numbers.proofs.Prelude.{_≡_, refl, ap, _∙_, List, map, ℕ, zero, suc, _+_, _-_, _*_, _<_, arith, ltb, ℤ, pos, length, getD, take, drop, length-drop, getD-drop, take-all, ltb-true, ltb-false, by-test}
 use Rattle.meaning_curves.specs.Curve.{at, stretch, windowSum}
 use Rattle.meaning_rows.specs.Build.{rowNumbers}
 use Rattle.sums_slide.specs.Levels.{Lent, windowsOf}

@@ -1,25 +1,20 @@
 -- The first new run joined to the last old run of its row: what the code does, and that the parts then hold the runs up to its end (`joined-parts`, `joined-cursors`).
-use mathlib.Core.Path.{_≡_, refl, sym, ap, _∙_}
-use mathlib.Core.Bool.{Bool, true, false, not, _&&_}
-use mathlib.Core.List.{List}
 use Prim.Native.Nat.{ℕ, zero, suc, _+_, _-_, _<_, _≤_}
-use native.Mathlib.Omega.{arith}
-use native.Mathlib.Decide.{decLt}
+use borrow.Author.Tests.{eqb-true, eqb-false}
 use lib.Dec.{eqb}
 use lib.IntN.{ℤ}
 use lib.ListN.{length, set, length-set}
 use lib.Seq.{set-set, getD-set-other}
-use borrow.Author.Tests.{eqb-true, eqb-false}
+use mathlib.Core.Bool.{Bool, true, false, not, _&&_}
+use mathlib.Core.List.{List}
+use mathlib.Core.Path.{_≡_, refl, sym, ap, _∙_}
+use native.Mathlib.Decide.{decLt}
+use native.Mathlib.Omega.{arith}
 use Rattle.meaning_numbers.specs.Sum.{bit}
 use Rattle.meaning_numbers.proofs.Tests.{by-test}
 use Rattle.meaning_rows.specs.Runs.{before, runCount}
-use Rattle.meaning_rows.proofs.Runs.{runCount-more, before-more, before-some}
-use Rattle.meaning_rows.proofs.Columns.{putLeft, putRight, runCount-mono}
-use Rattle.meaning_rows.proofs.Parts.{Laid, Parts, stay-runs}
-use Rattle.meaning_rows.proofs.Cursors.{Cursors}
-use Rattle.sums_slide.specs.declared.Window.{Window}
-use Rattle.sums_slide.specs.Levels.{level, windowsOf, within}
-use Rattle.sums_slide.specs.Change.{Stop}
+use Rattle.meaning_rows.proofs.{Runs.runCount-more, Runs.before-more, Runs.before-some, Columns.putLeft, Columns.putRight, Columns.runCount-mono, Parts.Laid, Parts.Parts, Parts.stay-runs, Cursors.Cursors}
+use Rattle.sums_slide.specs.{declared.Window.Window, Levels.level, Levels.windowsOf, Levels.within, Change.Stop}
 use Rattle.extend_new.specs.Turn.{parts-turn}
 
 -- where the first new run joins, its window is in the range and the spot in the buffer

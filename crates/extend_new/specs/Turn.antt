@@ -1,22 +1,20 @@
 -- A window taken in by its row's part: the run that it goes on with reaches further, or a run begins; no other part is touched (`parts-turn`). Over plain variables.
-use mathlib.Core.Path.{_≡_, refl, sym, _∙_}
-use mathlib.Core.Bool.{Bool, true, false, not}
-use mathlib.Core.List.{List, [], _∷_, _++_}
 use Prim.Native.Nat.{ℕ, _+_, _-_, _<_, _≤_}
-use mathlib.Core.Logic.{_⊎_, inl, inr, ⊎-elim}
-use native.Mathlib.Omega.{arith}
-use native.Mathlib.Decide.{decLt}
+use borrow.Author.Tests.{eqb-true, eqb-false}
 use lib.Dec.{eqb}
 use lib.ListN.{length, set, getD, List·getD-append}
 use lib.Seq.{getD-set-same, getD-set-other, getD-at}
-use borrow.Author.Tests.{eqb-true, eqb-false}
+use mathlib.Core.Bool.{Bool, true, false, not}
+use mathlib.Core.List.{List, [], _∷_, _++_}
+use mathlib.Core.Logic.{_⊎_, inl, inr, ⊎-elim}
+use mathlib.Core.Path.{_≡_, refl, sym, _∙_}
+use native.Mathlib.Decide.{decLt}
+use native.Mathlib.Omega.{arith}
 use Rattle.meaning_numbers.specs.Sum.{bit}
-use Rattle.meaning_numbers.proofs.Tests.{by-test}
-use Rattle.meaning_numbers.proofs.Count.{bit-false}
+use Rattle.meaning_numbers.proofs.{Tests.by-test, Count.bit-false}
 use Rattle.meaning_rows.specs.Runs.{before, takeIn, runs, runCount}
-use Rattle.meaning_rows.proofs.Runs.{runs-more, runCount-more, before-some}
+use Rattle.meaning_rows.proofs.{Runs.runs-more, Runs.runCount-more, Runs.before-some, Parts.Laid, Parts.Parts}
 use Rattle.meaning_rows.proofs.Columns.{lefts, rights, lefts-reach, rights-reach, lefts-end, rights-end, length-lefts, length-rights, putLeft, putRight, runCount-mono}
-use Rattle.meaning_rows.proofs.Parts.{Laid, Parts}
 
 -- ---- the row's own part
 

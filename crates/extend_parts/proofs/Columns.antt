@@ -1,14 +1,5 @@
 -- A column after the old runs are copied: each row's part begins with the numbers that stand in its old row's part (`column-front`), and while it is not full ends with how many they are (`column-cursor`).
-use mathlib.Core.Path.{_≡_, refl, sym, ap, _∙_}
-use mathlib.Core.List.{List, _++_}
-use Prim.Native.Nat.{ℕ, zero, suc, _+_, _-_, _<_, _≤_}
-use native.Mathlib.Omega.{arith}
-use native.Mathlib.Decide.{decLt}
-use lib.Dec.{ltb}
-use lib.ListN.{length, getD, take, drop, length-drop, List·getD-append}
-use lib.Seq.{paste, length-paste, getD-append-add, getD-take, getD-drop, getD-set-same, getD-set-other, length-take-le}
-use borrow.Author.Tests.{ltb-true, lt-ltb}
-use Rattle.meaning_numbers.proofs.Tests.{by-test}
+use Rattle.meaning_numbers.proofs.Prelude.{_≡_, refl, sym, ap, _∙_, List, _++_, ℕ, zero, suc, _+_, _-_, _<_, _≤_, arith, decLt, ltb, length, getD, take, drop, length-drop, List·getD-append, paste, length-paste, getD-append-add, getD-take, getD-drop, getD-set-same, getD-set-other, length-take-le, ltb-true, lt-ltb, by-test}
 use Rattle.meaning_rows.specs.declared.Row.{Row}
 use Rattle.rows_records.specs.Records.{zeroRow}
 use Rattle.extend_parts.specs.Copy.{partSize, written, partCopied, CopyRoom, nextOld, columnTo, Copyable}

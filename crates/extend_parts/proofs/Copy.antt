@@ -1,13 +1,5 @@
 -- Laws of specs/Copy.
-use mathlib.Core.Path.{_≡_, refl, sym, ap, _∙_}
-use mathlib.Core.List.{List, _++_}
-use Prim.Native.Nat.{ℕ, zero, suc, _+_, _-_, _<_, _≤_}
-use native.Mathlib.Numerals.{add-one}
-use native.Mathlib.Omega.{arith}
-use lib.Dec.{ltb}
-use lib.ListN.{length, getD, set, take, drop, length-set, length-append, length-drop}
-use lib.Seq.{paste, paste-suc, length-paste, length-take-le}
-use Rattle.meaning_numbers.proofs.Tests.{by-test}
+use Rattle.meaning_numbers.proofs.Prelude.{_≡_, refl, sym, ap, _∙_, List, _++_, ℕ, zero, suc, _+_, _-_, _<_, _≤_, add-one, arith, ltb, length, getD, set, take, drop, length-set, length-append, length-drop, paste, paste-suc, length-paste, length-take-le, by-test}
 use Rattle.meaning_rows.specs.declared.Row.{Row}
 use Rattle.rows_records.specs.Records.{zeroRow}
 use Rattle.build_parts.proofs.Lent.{lentFrom, backAt, lent-is, back-made}

@@ -1,12 +1,5 @@
 -- Laws of specs/Lay.
-use mathlib.Core.Path.{_≡_, refl, _∙_}
-use mathlib.Core.List.{List}
-use Prim.Native.Nat.{ℕ, zero, suc, _+_, _<_, _≤_}
-use native.Mathlib.Numerals.{add-one}
-use native.Mathlib.Omega.{arith}
-use native.Mathlib.Decide.{decLt}
-use lib.ListN.{length, getD, set, length-set}
-use lib.Seq.{getD-set-same, getD-set-other}
+use Rattle.meaning_numbers.proofs.Prelude.{_≡_, refl, _∙_, List, ℕ, zero, suc, _+_, _<_, _≤_, add-one, arith, decLt, length, getD, set, length-set, getD-set-same, getD-set-other}
 use Rattle.meaning_rows.specs.declared.Row.{Row}
 use Rattle.rows_records.specs.Records.{zeroRow}
 use Rattle.extend_parts.specs.Lay.{withPart, laidTo}

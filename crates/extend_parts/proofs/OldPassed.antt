@@ -1,24 +1,8 @@
 -- The rows that the walk over old rows and row numbers makes, met again beside the old rows: each row is the next old row, or a new row below it (`passed-row`). So the old row that the copying holds beside a row is the row's own, if it has old runs.
-use mathlib.Core.Path.{_≡_, refl, sym, ap, _∙_, subst}
-use mathlib.Core.List.{List, [], _∷_, map, List·Memᴰ as Mem, List·Memᴰ·cases-cons as cases}
-use mathlib.Core.Logic.{⊎-elim}
-use Prim.Native.Nat.{ℕ, zero, suc, _<_, _≤_}
-use native.Mathlib.Omega.{arith}
-use native.Mathlib.Numerals.{add-one}
-use native.Mathlib.Decide.{decLt}
-use lib.IntN.{ℤ}
-use lib.ListN.{length, getD, drop, length-drop}
-use lib.Seq.{drop-cons}
-use lib.Signed.{_≤ℤ_, _<ℤ_, ≤ℤ-refl}
-use Rattle.meaning_numbers.proofs.Rep.{zarith}
 use Rattle.meaning_numbers.proofs.Member.{All}
-use Rattle.meaning_rows.specs.declared.Row.{Row}
-use Rattle.meaning_rows.specs.Range.{lowOf}
-use Rattle.meaning_rows.proofs.Range.{where-is, le-leZ, lt-leZ, widen, next-le}
-use Rattle.meaning_rows.proofs.Times.{Ascending}
-use Rattle.meaning_rows.proofs.Build.{Sorted, mem-above}
-use Rattle.meaning_rows.proofs.Judge.{rangeOf}
-use Rattle.meaning_rows.proofs.Woven.{newRow, woven, weave-none, weave-inside, weave-new, weave-old}
+use Rattle.meaning_numbers.proofs.Prelude.{_≡_, refl, sym, ap, _∙_, subst, List, [], _∷_, map, List·Memᴰ as Mem, List·Memᴰ·cases-cons as cases, ⊎-elim, ℕ, zero, suc, _<_, _≤_, arith, add-one, decLt, ℤ, length, getD, drop, length-drop, drop-cons, _≤ℤ_, _<ℤ_, ≤ℤ-refl, zarith}
+use Rattle.meaning_rows.specs.{declared.Row.Row, Range.lowOf}
+use Rattle.meaning_rows.proofs.{Range.where-is, Range.le-leZ, Range.lt-leZ, Range.widen, Range.next-le, Times.Ascending, Build.Sorted, Build.mem-above, Judge.rangeOf, Woven.newRow, Woven.woven, Woven.weave-none, Woven.weave-inside, Woven.weave-new, Woven.weave-old}
 use Rattle.rows_records.specs.Records.{zeroRow}
 use Rattle.extend_weave.specs.Turn.{endLow, endRow}
 use Rattle.extend_parts.specs.Copy.{partSize, oldPassed, passedTo, nextOld}

@@ -1,41 +1,17 @@
 -- After both columns of the old run buffer are copied, each row's part holds the runs of its offsets below the old window count, and while it is not full its last right end has their number (`old-parts`, `old-cursors`). So the filling of the new
 -- windows can go on from there.
-use mathlib.Core.Path.{_≡_, refl, sym, ap, _∙_, subst}
-use mathlib.Core.Bool.{Bool}
-use mathlib.Core.List.{List, [], _∷_}
-use Prim.Native.Nat.{ℕ, zero, suc, _+_, _-_, _<_, _≤_}
-use native.Mathlib.Omega.{arith}
-use native.Mathlib.Decide.{decLt}
-use lib.IntN.{ℤ, pos, natAbs}
-use lib.ListN.{length, getD}
-use lib.Signed.{_≤ℤ_, _<ℤ_, leZ}
 use Rattle.meaning_numbers.specs.Order.{within}
-use Rattle.meaning_numbers.proofs.Rep.{zarith}
-use Rattle.meaning_numbers.proofs.Machine.{leZ-true}
-use Rattle.meaning_numbers.proofs.Tests.{both}
 use Rattle.meaning_numbers.proofs.Member.{All, all-mem, mem-all, mem-at}
-use Rattle.meaning_curves.specs.Limits.{lowestEnd}
-use Rattle.meaning_curves.specs.Curve.{windowSum, windowCount}
-use Rattle.meaning_rows.specs.declared.Row.{Row}
-use Rattle.meaning_rows.specs.Range.{lowOf}
-use Rattle.meaning_rows.specs.Runs.{runs, runCount}
-use Rattle.meaning_rows.specs.Index.{Index, entries}
-use Rattle.meaning_rows.specs.Build.{rowNumbers}
-use Rattle.meaning_rows.specs.Extend.{grown}
-use Rattle.meaning_rows.proofs.Judge.{GoodEnd, GoodRow, WellFormed, each-row, ranges-ascend}
-use Rattle.meaning_rows.proofs.Build.{numbers-sorted, numbers-occur}
-use Rattle.meaning_rows.proofs.Sums.{ends-good}
-use Rattle.meaning_rows.proofs.Columns.{lefts, rights, runCount-mono}
-use Rattle.meaning_rows.proofs.Parts.{Parts}
-use Rattle.meaning_rows.proofs.Cursors.{Cursors}
-use Rattle.meaning_rows.proofs.Extend.{Extendable}
-use Rattle.meaning_rows.proofs.Woven.{newRow, all-woven, wovenRows}
+use Rattle.meaning_numbers.proofs.Prelude.{_≡_, refl, sym, ap, _∙_, subst, Bool, List, [], _∷_, ℕ, zero, suc, _+_, _-_, _<_, _≤_, arith, decLt, ℤ, pos, natAbs, length, getD, _≤ℤ_, _<ℤ_, leZ, zarith, leZ-true, both}
+use Rattle.meaning_curves.specs.{Limits.lowestEnd, Curve.windowSum, Curve.windowCount}
+use Rattle.meaning_rows.specs.{declared.Row.Row, Range.lowOf, Runs.runs, Runs.runCount, Index.Index, Index.entries, Build.rowNumbers, Extend.grown}
+use Rattle.meaning_rows.proofs.{Judge.GoodEnd, Judge.GoodRow, Judge.WellFormed, Judge.each-row, Judge.ranges-ascend, Build.numbers-sorted, Build.numbers-occur, Sums.ends-good, Columns.lefts, Columns.rights, Columns.runCount-mono, Parts.Parts, Cursors.Cursors, Extend.Extendable, Woven.newRow, Woven.all-woven, Woven.wovenRows}
 use Rattle.meaning_rows.proofs.Grown.{Begun, begun-woven, old-runs, old-count, left-at, right-at, length-entries}
 use Rattle.rows_records.specs.Records.{zeroRow}
 use Rattle.extend_weave.specs.Turn.{endLow, endRow}
 use Rattle.extend_parts.specs.Copy.{partSize, nextOld, passedTo, columnTo, Copyable}
-use Rattle.extend_parts.proofs.OldPassed.{PassedRow, own, new, passed-in, passed-row, passed-size}
 use Rattle.extend_parts.proofs.Columns.{column-front, column-cursor}
+use Rattle.extend_parts.proofs.OldPassed.{PassedRow, own, new, passed-in, passed-row, passed-size}
 
 end-below : (d : ℕ) (z : ℤ) → GoodEnd d z → z <ℤ endLow
 unfolding within

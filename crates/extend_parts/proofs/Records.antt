@@ -1,19 +1,11 @@
 -- Rows whose ranges and run counts are those of rows with their runs, laid out by the sums of the counts, are the records of these rows (`laid-records`).
-use mathlib.Core.Path.{_≡_, sym, _∙_}
-use mathlib.Core.List.{List, [], _∷_}
-use Prim.Native.Nat.{ℕ, zero, suc, _+_, _-_, _<_, _≤_}
-use native.Mathlib.Omega.{arith}
-use lib.IntN.{pos}
-use lib.ListN.{length, getD, take}
-use lib.Seq.{ext-getD, getD-take, length-take-le}
 use Rattle.meaning_numbers.specs.Sum.{Σℕ}
 use Rattle.meaning_numbers.proofs.Sum.{Σℕ-none, Σℕ-more, Σℕ-same}
-use Rattle.meaning_rows.specs.declared.Row.{Row}
-use Rattle.meaning_rows.specs.Index.{RangeRow, records}
-use Rattle.meaning_rows.proofs.Laid.{length-records}
+use Rattle.meaning_numbers.proofs.Prelude.{_≡_, sym, _∙_, List, [], _∷_, ℕ, zero, suc, _+_, _-_, _<_, _≤_, arith, pos, length, getD, take, ext-getD, getD-take, length-take-le}
+use Rattle.meaning_rows.specs.{declared.Row.Row, Index.RangeRow, Index.records}
+use Rattle.meaning_rows.proofs.{Laid.length-records, LaidAt.Σℕ-shift}
 use Rattle.rows_records.specs.Records.{zeroRow}
 use Rattle.rows_pack.specs.Packed.{Summed, startOf}
-use Rattle.meaning_rows.proofs.LaidAt.{Σℕ-shift}
 use Rattle.rows_pack.proofs.Records.{start-is}
 use Rattle.extend_parts.specs.Lay.{laidTo, EndsRoom}
 use Rattle.extend_parts.proofs.Lay.{laid-at, length-laid}

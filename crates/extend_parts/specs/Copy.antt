@@ -1,11 +1,11 @@
 -- One column of the old run buffer copied to the parts of the rows: what a turn writes, and the column after some rows.
-use mathlib.Core.Bool.{cond}
-use mathlib.Core.List.{List, _++_}
 use Prim.Native.Nat.{ℕ, zero, suc, _+_, _-_, _<_, _≤_}
 use lib.Dec.{ltb}
 use lib.ListN.{length, getD, set, take, drop}
 use lib.Seq.{paste}
 use lib.Signed.{leZ}
+use mathlib.Core.Bool.{cond}
+use mathlib.Core.List.{List, _++_}
 use Rattle.meaning_rows.specs.declared.Row.{Row}
 use Rattle.rows_records.specs.Records.{zeroRow}
 use Rattle.extend_weave.specs.Turn.{endRow}

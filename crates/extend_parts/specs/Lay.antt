@@ -1,7 +1,7 @@
 -- Row records with their parts, from the ends of the parts.
-use mathlib.Core.List.{List}
 use Prim.Native.Nat.{ℕ, zero, suc, _-_, _<_, _≤_}
 use lib.ListN.{length, getD, set}
+use mathlib.Core.List.{List}
 use Rattle.meaning_rows.specs.declared.Row.{Row}
 use Rattle.rows_records.specs.Records.{zeroRow}
 use Rattle.rows_pack.specs.Packed.{startOf}

@@ -1,27 +1,12 @@
 -- What stands in the indexBuffers once all windows are filed is the extended index (`finished`).
-use mathlib.Core.Path.{_≡_, sym, ap, _∙_}
-use mathlib.Core.Bool.{Bool}
-use mathlib.Core.List.{List, map}
-use Prim.Native.Nat.{ℕ, _≤_}
-use native.Mathlib.Omega.{arith}
-use lib.IntN.{ℤ, natAbs}
-use lib.ListN.{length, getD, length-map}
+use Rattle.meaning_numbers.proofs.Prelude.{_≡_, sym, ap, _∙_, Bool, List, map, ℕ, _≤_, arith, ℤ, natAbs, length, getD, length-map}
 use Rattle.meaning_curves.specs.Curve.{windowSum, windowCount}
-use Rattle.meaning_rows.specs.declared.Row.{Row}
-use Rattle.meaning_rows.specs.Runs.{runs}
-use Rattle.meaning_rows.specs.Index.{Index, RangeRow, records, allRuns}
-use Rattle.meaning_rows.specs.Build.{withRuns}
-use Rattle.meaning_rows.specs.Extend.{extended}
-use Rattle.meaning_rows.proofs.Judge.{WellFormed}
-use Rattle.meaning_rows.proofs.Extend.{Extendable}
-use Rattle.meaning_rows.proofs.Woven.{wovenRows, grownRuns}
-use Rattle.meaning_rows.proofs.LaidAt.{column-at}
-use Rattle.meaning_entries.specs.Buffers.{filled, indexIn, lefts, rights}
-use Rattle.rows_records.specs.Records.{zeroRow}
-use Rattle.build_fill.specs.Pass.{partsTotal}
-use Rattle.build_fill.specs.Pass.{PassMade}
-use Rattle.meaning_entries.specs.Buffers.{indexBuffers}
+use Rattle.meaning_rows.specs.{declared.Row.Row, Runs.runs, Index.Index, Index.RangeRow, Index.records, Index.allRuns, Build.withRuns, Extend.extended}
+use Rattle.meaning_rows.proofs.{Judge.WellFormed, Extend.Extendable, Woven.wovenRows, Woven.grownRuns, LaidAt.column-at}
+use Rattle.meaning_entries.specs.Buffers.{filled, indexIn, lefts, rights, indexBuffers}
 use Rattle.meaning_entries.proofs.Filled.{filled-is, lefts-entry, rights-entry}
+use Rattle.rows_records.specs.Records.{zeroRow}
+use Rattle.build_fill.specs.Pass.{partsTotal, PassMade}
 use Rattle.extend_parts.proofs.OldRuns.{rowHas}
 use Rattle.extend_runs.proofs.Rowed.{rows-are, size-is, start-is, total-is, total-most}
 use Rattle.extend_passes.specs.Finished.{HoldsExtended}

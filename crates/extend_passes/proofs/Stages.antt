@@ -1,24 +1,14 @@
 -- What each pass of an extension asks, by what the passes before it left, and what the last one leaves. A count of rows is that of the rows made, and a record that is read is the one that stands there.
-use mathlib.Core.Path.{_≡_, subst}
-use mathlib.Core.Bool.{Bool}
-use mathlib.Core.List.{List}
-use Prim.Native.Nat.{ℕ, _+_, _*_, _<_, _≤_}
-use lib.IntN.{ℤ}
-use lib.ListN.{length, getD}
-use Rattle.meaning_rows.specs.declared.Row.{Row}
-use Rattle.meaning_rows.specs.Extend.{extended}
-use Rattle.sums_slide.specs.declared.Window.{Window}
-use Rattle.rows_records.specs.Records.{zeroRow}
+use Rattle.meaning_numbers.proofs.Prelude.{_≡_, subst, Bool, List, ℕ, _+_, _*_, _<_, _≤_, ℤ, length, getD}
+use Rattle.meaning_rows.specs.{declared.Row.Row, Extend.extended}
 use Rattle.meaning_entries.specs.Buffers.{indexBuffers}
+use Rattle.rows_records.specs.Records.{zeroRow}
+use Rattle.sums_slide.specs.declared.Window.{Window}
 use Rattle.build_fill.specs.Pass.{Passable, PassMade}
 use Rattle.extend_parts.proofs.OldRuns.{rowHas}
-use Rattle.extend_runs.specs.Joining.{JoinAsked, JoinedAt}
-use Rattle.extend_rows.specs.Steps.{joinsOf}
-use Rattle.extend_runs.specs.Copied.{CopyAsked, CopiedAs}
-use Rattle.extend_rows.specs.Passes.{CountAsked, CountedAs, LayAsked, LaidBy}
-use Rattle.extend_rows.specs.Shell.{madeRows, WovenAs}
-use Rattle.extend_passes.specs.Finished.{HoldsExtended}
-use Rattle.extend_passes.specs.Whole.{indexOf, PassesAsked}
+use Rattle.extend_rows.specs.{Steps.joinsOf, Passes.CountAsked, Passes.CountedAs, Passes.LayAsked, Passes.LaidBy, Shell.madeRows, Shell.WovenAs}
+use Rattle.extend_runs.specs.{Joining.JoinAsked, Joining.JoinedAt, Copied.CopyAsked, Copied.CopiedAs}
+use Rattle.extend_passes.specs.{Finished.HoldsExtended, Whole.indexOf, Whole.PassesAsked}
 use Rattle.extend_passes.proofs.Whole.{count-asked, first-in, lays-asked, copies-asked, old-fits, join-asked, fill-asked, extended-held, rows-counted}
 
 module _ {s : List ℤ} {w e d base bias old : ℕ} {from : List Row} {lefts rights : List ℕ} {rows : List Row} {left right : List ℕ} (asked : PassesAsked s w e d base old from lefts rights rows left right × (bias ≡ 10000 * w + e)) where

@@ -1,50 +1,22 @@
 -- Laws of specs/Whole.
-use mathlib.Core.Path.{_≡_, refl, sym, ap, _∙_, subst}
-use mathlib.Core.Bool.{Bool, true}
-use mathlib.Core.List.{List, map}
-use Prim.Native.Nat.{ℕ, _+_, _-_, _*_, _<_, _≤_}
-use native.Mathlib.Omega.{arith}
-use native.Mathlib.Decide.{decLt}
-use lib.IntN.{ℤ}
-use lib.ListN.{length, getD, take, length-map}
+use Rattle.meaning_numbers.proofs.Prelude.{_≡_, refl, sym, ap, _∙_, subst, Bool, true, List, map, ℕ, _+_, _-_, _*_, _<_, _≤_, arith, decLt, ℤ, length, getD, take, length-map, zarith}
 use Rattle.meaning_curves.specs.Curve.{windowSum}
-use Rattle.meaning_rows.specs.declared.Row.{Row}
-use Rattle.meaning_rows.specs.Index.{Index, RangeRow, records}
-use Rattle.meaning_rows.specs.Extend.{extended}
-use Rattle.meaning_rows.proofs.Laid.{length-records}
-use Rattle.meaning_rows.proofs.Woven.{wovenRows, woven-most, grownRuns}
-use Rattle.meaning_entries.specs.Buffers.{filled}
+use Rattle.meaning_rows.specs.{declared.Row.Row, Index.Index, Index.RangeRow, Index.records, Extend.extended, Runs.runCount}
+use Rattle.meaning_rows.proofs.{Laid.length-records, Woven.wovenRows, Woven.woven-most, Woven.grownRuns, Columns.getD-past}
+use Rattle.meaning_entries.specs.Buffers.{filled, indexBuffers}
 use Rattle.rows_records.specs.Records.{zeroRow}
-use Rattle.meaning_numbers.proofs.Rep.{zarith}
-use Rattle.meaning_rows.specs.Runs.{runCount}
-use Rattle.sums_slide.specs.declared.Window.{Window}
-use Rattle.sums_slide.specs.Levels.{windowsOf}
-use Rattle.build_fill.specs.Pass.{partStart, partsTotal}
-use Rattle.sums_slide.specs.Ends.{raisedEnd}
-use Rattle.build_fill.specs.Turn.{Small}
-use Rattle.build_fill.specs.Pass.{Passable, PassMade}
-use Rattle.meaning_entries.specs.Buffers.{indexBuffers}
-use Rattle.meaning_rows.proofs.Columns.{getD-past}
-use Rattle.extend_parts.proofs.Lay.{laid-past}
+use Rattle.sums_slide.specs.{declared.Window.Window, Levels.windowsOf, Ends.raisedEnd}
+use Rattle.build_fill.specs.{Pass.partStart, Pass.partsTotal, Turn.Small, Pass.Passable, Pass.PassMade}
 use Rattle.extend_parts.specs.Copy.{columnTo}
-use Rattle.extend_parts.proofs.OldRuns.{rowHas}
-use Rattle.extend_runs.specs.Joining.{JoinedRun}
-use Rattle.extend_rows.specs.Passes.{listed, endOf, sizeOf}
-use Rattle.extend_rows.specs.Passes.{lessJoin}
-use Rattle.extend_parts.proofs.Records.{Matches}
-use Rattle.extend_runs.specs.Joining.{spotOf, JoinAsked, JoinedAt}
-use Rattle.extend_rows.specs.Steps.{joinsOf, SumAsked}
-use Rattle.extend_rows.proofs.Shell.{row-is, rows-long}
-use Rattle.extend_runs.proofs.Counts.{listable, countable, row-fits, joins, sum-asked, matches, row-in, old-size}
-use Rattle.extend_rows.proofs.Laid.{lay-asked, laid-front, laid-rows, laid-long}
-use Rattle.extend_runs.proofs.Joined.{Joins, copies-left, copies-right, row-begins, joinable, passable, past-both, long-both}
-use Rattle.extend_passes.specs.Finished.{HoldsExtended}
-use Rattle.extend_passes.proofs.Finished.{finished}
+use Rattle.extend_parts.proofs.{Lay.laid-past, OldRuns.rowHas, Records.Matches}
+use Rattle.extend_rows.specs.{Passes.listed, Passes.endOf, Passes.sizeOf, Passes.lessJoin, Steps.joinsOf, Steps.SumAsked, Shell.WovenAs, Shell.WeaveAsked, Passes.CountAsked, Passes.CountedAs, Passes.LayAsked, Passes.LaidBy}
+use Rattle.extend_rows.proofs.{Shell.row-is, Shell.rows-long, Laid.lay-asked, Laid.laid-front, Laid.laid-rows, Laid.laid-long}
+use Rattle.extend_runs.specs.{Joining.JoinedRun, Joining.spotOf, Joining.JoinAsked, Joining.JoinedAt, Copied.CopyAsked, Copied.CopiedAs}
 use Rattle.extend_runs.proofs.Rowed.{rows-are, first-at, extended-rowed}
-use Rattle.extend_rows.specs.Shell.{WovenAs, WeaveAsked}
-use Rattle.extend_runs.specs.Copied.{CopyAsked, CopiedAs}
-use Rattle.extend_rows.specs.Passes.{CountAsked, CountedAs, LayAsked, LaidBy}
-use Rattle.extend_passes.specs.Whole.{indexOf, PassesAsked}
+use Rattle.extend_runs.proofs.Counts.{listable, countable, row-fits, joins, sum-asked, matches, row-in, old-size}
+use Rattle.extend_runs.proofs.Joined.{Joins, copies-left, copies-right, row-begins, joinable, passable, past-both, long-both}
+use Rattle.extend_passes.specs.{Finished.HoldsExtended, Whole.indexOf, Whole.PassesAsked}
+use Rattle.extend_passes.proofs.Finished.{finished}
 
 module _ {s : List ℤ} {w e d b old : ℕ} {from : List Row} {lefts rights : List ℕ} {rows : List Row} {left right : List ℕ} (h : PassesAsked s w e d b old from lefts rights rows left right) where
   abbrev x : Index

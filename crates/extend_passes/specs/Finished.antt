@@ -1,9 +1,8 @@
 -- What stands in the buffers once all windows are filed is the extended index.
-use mathlib.Core.Path.{_≡_}
-use mathlib.Core.List.{List}
 use lib.IntN.{ℤ}
-use Rattle.meaning_rows.specs.Index.{Index}
-use Rattle.meaning_rows.specs.Extend.{extended}
+use mathlib.Core.List.{List}
+use mathlib.Core.Path.{_≡_}
+use Rattle.meaning_rows.specs.{Index.Index, Extend.extended}
 use Rattle.meaning_entries.specs.Buffers.{IndexBuffers, indexIn}
 
 -- the buffers hold the extended index

@@ -1,13 +1,11 @@
 -- The passes of an extension, one after the other: what each asks follows from what those before it left, and at the end the buffers hold the extended index.
-use mathlib.Core.Path.{_≡_}
-use mathlib.Core.List.{List}
 use Prim.Native.Nat.{ℕ, _+_, _*_, _≤_}
 use lib.IntN.{ℤ, pos}
 use lib.ListN.{length}
-use Rattle.meaning_rows.specs.declared.Row.{Row}
-use Rattle.meaning_rows.specs.Index.{Index, entries}
-use Rattle.meaning_rows.proofs.Judge.{WellFormed}
-use Rattle.meaning_rows.proofs.Extend.{Extendable}
+use mathlib.Core.List.{List}
+use mathlib.Core.Path.{_≡_}
+use Rattle.meaning_rows.specs.{declared.Row.Row, Index.Index, Index.entries}
+use Rattle.meaning_rows.proofs.{Judge.WellFormed, Extend.Extendable}
 use Rattle.sums_slide.specs.Levels.{Lent, windowsOf}
 
 -- the index of these numbers and slices

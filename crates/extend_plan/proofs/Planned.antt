@@ -1,25 +1,18 @@
 -- The plan of an extension is its refusal (`plan-is`); where it refuses nothing, the index is well formed and the series long enough, and the buffers have room (`sound`).
-use mathlib.Core.Path.{_≡_, refl}
-use mathlib.Core.List.{List}
-use mathlib.Core.Option.{none, some}
 use Prim.Native.Nat.{ℕ, _≤_}
 use lib.Dec.{T}
 use lib.IntN.{ℤ}
 use lib.ListN.{length}
-use Rattle.meaning_rows.specs.declared.Row.{Row}
-use Rattle.meaning_rows.specs.declared.Head.{Head}
-use Rattle.meaning_rows.specs.Index.{Index, lent}
-use Rattle.meaning_rows.proofs.Judge.{WellFormed}
-use Rattle.meaning_rows.proofs.Extend.{Extendable}
-use Rattle.meaning_entries.specs.Refusal.{moreWindows}
-use Rattle.meaning_entries.specs.Buffers.{IndexBuffers, runRoom}
-use Rattle.meaning_entries.specs.Extend.{ExtendCall, lentExtend, extendWindows, extendTable, extendRefusal}
+use mathlib.Core.List.{List}
+use mathlib.Core.Option.{none, some}
+use mathlib.Core.Path.{_≡_, refl}
+use Rattle.meaning_rows.specs.{declared.Row.Row, declared.Head.Head, Index.Index, Index.lent}
+use Rattle.meaning_rows.proofs.{Judge.WellFormed, Extend.Extendable}
+use Rattle.meaning_entries.specs.{Refusal.moreWindows, Buffers.IndexBuffers, Buffers.runRoom, Extend.ExtendCall, Extend.lentExtend, Extend.extendWindows, Extend.extendTable, Extend.extendRefusal}
+use Rattle.meaning_entries.proofs.{Lines.room-line, Made.extend-formed, Made.extendable}
 use Rattle.meaning_entries.proofs.Refusal.{AllPass, passed-is, openLines, passed-line, passed-behind, lacks}
-use Rattle.meaning_entries.proofs.Lines.{room-line}
-use Rattle.meaning_entries.proofs.Made.{extend-formed, extendable}
 use Rattle.rows_judge.specs.Judged.{judgedOf, bad-row}
-use Rattle.refusals.specs.declared.Refusal.{Refusal}
-use Rattle.refusals.specs.Refusal.{refusalOf, judged-line, passes, refuses}
+use Rattle.refusals.specs.{declared.Refusal.Refusal, Refusal.refusalOf, Refusal.judged-line, Refusal.passes, Refusal.refuses}
 use Rattle.extend_plan.specs.Plan.{planOf}
 
 module _ (series : List ℤ) (h : Head) (rows : List Row) (left right : List ℕ) (b : IndexBuffers) where

@@ -1,21 +1,12 @@
 -- The records of the extension's rows, laid out by the sums of their counts (`laid-front`, `laid-rows`).
-use mathlib.Core.Path.{_≡_, refl, sym, ap, _∙_, subst}
-use mathlib.Core.List.{List, _++_, map}
-use Prim.Native.Nat.{ℕ, zero, suc, _+_, _-_, _<_, _≤_}
-use native.Mathlib.Omega.{arith}
-use native.Mathlib.Decide.{decLt}
-use lib.ListN.{length, getD, take, replicate, length-map, length-append, length-replicate, List·getD-append}
-use lib.Seq.{ext-getD, getD-take, getD-append-add}
-use Rattle.meaning_rows.specs.declared.Row.{Row}
-use Rattle.meaning_rows.specs.Index.{RangeRow, records}
-use Rattle.meaning_rows.proofs.Laid.{length-records}
+use Rattle.meaning_numbers.proofs.Prelude.{_≡_, refl, sym, ap, _∙_, subst, List, _++_, map, ℕ, zero, suc, _+_, _-_, _<_, _≤_, arith, decLt, length, getD, take, replicate, length-map, length-append, length-replicate, List·getD-append, ext-getD, getD-take, getD-append-add}
+use Rattle.meaning_rows.specs.{declared.Row.Row, Index.RangeRow, Index.records}
+use Rattle.meaning_rows.proofs.{Laid.length-records, Columns.getD-past}
 use Rattle.meaning_entries.specs.Buffers.{filled}
 use Rattle.rows_records.specs.Records.{zeroRow}
 use Rattle.rows_pack.specs.Packed.{Summed}
-use Rattle.meaning_rows.proofs.Columns.{getD-past}
 use Rattle.extend_parts.specs.Lay.{laidTo, EndsRoom}
-use Rattle.extend_parts.proofs.Lay.{laid-past, length-laid}
-use Rattle.extend_parts.proofs.Records.{Matches, ends-room, laid-records}
+use Rattle.extend_parts.proofs.{Lay.laid-past, Lay.length-laid, Records.Matches, Records.ends-room, Records.laid-records}
 
 module _ (G : Row → RangeRow) (made rows₀ rows : List Row) (is : rows ≡ filled zeroRow made rows₀) (row-at : (i : ℕ) → getD rows i zeroRow ≡ getD made i zeroRow) (fits : length made ≤ length rows₀) (long : length rows ≡ length rows₀)
     (counts ends : List ℕ) (m : Matches (map G made) rows counts) (s : Summed (length made) counts ends) where

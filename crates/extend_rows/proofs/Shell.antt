@@ -1,18 +1,11 @@
 -- Laws of specs/Shell.
-use mathlib.Core.Path.{_≡_, ap, _∙_}
-use mathlib.Core.List.{List, _++_}
-use Prim.Native.Nat.{ℕ, _-_, _≤_}
-use native.Mathlib.Omega.{arith}
-use lib.IntN.{ℤ, natAbs}
-use lib.ListN.{length, take, replicate}
-use Rattle.meaning_rows.specs.declared.Row.{Row}
-use Rattle.meaning_rows.specs.Index.{Index}
+use Rattle.meaning_numbers.proofs.Prelude.{_≡_, ap, _∙_, List, _++_, ℕ, _-_, _≤_, arith, ℤ, natAbs, length, take, replicate}
+use Rattle.meaning_rows.specs.{declared.Row.Row, Index.Index}
 use Rattle.meaning_rows.proofs.Woven.{woven-most}
 use Rattle.rows_records.specs.Records.{zeroRow}
-use Rattle.sums_slide.specs.Levels.{Lent, windowsOf}
-use Rattle.sums_slide.specs.Picked.{Appended}
-use Rattle.extend_weave.specs.Weave.{Weavable, Made}
+use Rattle.sums_slide.specs.{Levels.Lent, Levels.windowsOf, Picked.Appended}
 use Rattle.extend_new.specs.New.{newTable}
+use Rattle.extend_weave.specs.Weave.{Weavable, Made}
 use Rattle.extend_weave.proofs.Woven.{table-fits, weavable, count-is, woven-rows}
 use Rattle.extend_rows.specs.Shell.{madeRows, Extending, WeaveAsked, WovenAs}
 pub use Rattle.extend_weave.proofs.Woven.{row-is, rows-long}

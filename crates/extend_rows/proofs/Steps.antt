@@ -1,10 +1,5 @@
 -- Adding up counts, one of them less by one.
-use mathlib.Core.Path.{_≡_, refl}
-use mathlib.Core.Bool.{Bool}
-use mathlib.Core.List.{List}
-use Prim.Native.Nat.{ℕ, _-_}
-use lib.ListN.{length, getD, length-set}
-use Rattle.meaning_numbers.proofs.Tests.{by-test}
+use Rattle.meaning_numbers.proofs.Prelude.{_≡_, refl, Bool, List, ℕ, _-_, length, getD, length-set, by-test}
 use Rattle.extend_new.specs.New.{lessJoin}
 
 pub less-long : (joins : Bool) (i : ℕ) (counts : List ℕ) → length (lessJoin joins i counts) ≡ length counts

@@ -1,15 +1,13 @@
 -- What counting an extension's runs and laying its rows out ask and leave.
-use mathlib.Core.Path.{_≡_}
-use mathlib.Core.List.{List}
 use Prim.Native.Nat.{ℕ, _+_, _<_, _≤_}
 use lib.IntN.{ℤ}
 use lib.ListN.{length}
+use mathlib.Core.List.{List}
+use mathlib.Core.Path.{_≡_}
 use Rattle.meaning_rows.specs.declared.Row.{Row}
 use Rattle.sums_slide.specs.Levels.{level, windowsOf}
 use Rattle.rows_pack.specs.Packed.{Summed}
-use Rattle.extend_count.specs.Rank.{rank}
-use Rattle.extend_count.specs.Count.{Countable, Counted}
-use Rattle.extend_count.specs.Listed.{Listable}
+use Rattle.extend_count.specs.{Rank.rank, Count.Countable, Count.Counted, Listed.Listable}
 use Rattle.extend_parts.specs.Lay.{laidTo, EndsRoom}
 use Rattle.extend_rows.specs.Steps.{joinsOf, SumAsked}
 unfoldable pub use Rattle.extend_count.specs.Listed.{listed}

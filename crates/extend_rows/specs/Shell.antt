@@ -1,16 +1,12 @@
 -- What weaving an extension's rows asks and leaves.
-use mathlib.Core.Path.{_≡_}
-use mathlib.Core.List.{List}
 use Prim.Native.Nat.{ℕ, _+_, _-_, _*_, _≤_}
 use lib.IntN.{ℤ, natAbs}
 use lib.ListN.{length}
+use mathlib.Core.List.{List}
+use mathlib.Core.Path.{_≡_}
 use Rattle.meaning_curves.specs.Curve.{windowSum, windowCount}
-use Rattle.meaning_rows.specs.declared.Row.{Row}
-use Rattle.meaning_rows.specs.Index.{Index}
-use Rattle.meaning_rows.specs.Build.{rowNumbers}
-use Rattle.meaning_rows.proofs.Judge.{WellFormed}
-use Rattle.meaning_rows.proofs.Extend.{Extendable}
-use Rattle.meaning_rows.proofs.Woven.{woven}
+use Rattle.meaning_rows.specs.{declared.Row.Row, Index.Index, Build.rowNumbers}
+use Rattle.meaning_rows.proofs.{Judge.WellFormed, Extend.Extendable, Woven.woven}
 use Rattle.meaning_entries.specs.Buffers.{filled}
 use Rattle.rows_records.specs.Records.{zeroRow}
 use Rattle.sums_slide.specs.Levels.{Lent, windowsOf}

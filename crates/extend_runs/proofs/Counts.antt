@@ -1,48 +1,19 @@
 -- The runs of the extension's rows counted: what the counting asks (`countable`), whether the first new run joins (`joins`), and that the counts, less one where it does, are those of the extension's rows (`matches`).
-use mathlib.Core.Path.{_≡_, refl, sym, ap, _∙_}
-use mathlib.Core.Bool.{Bool, true, false, and-false}
-use mathlib.Core.List.{List, [], _∷_, map}
-use Prim.Native.Nat.{ℕ, zero, suc, _+_, _-_, _*_, _<_, _≤_}
-use native.Mathlib.Omega.{arith}
-use native.Mathlib.Decide.{decLt}
-use lib.Dec.{leb, eqb}
-use lib.IntN.{ℤ, pos, natAbs}
-use lib.ListN.{length, getD, set, length-map}
-use lib.Seq.{getD-set-same, getD-set-other}
-use borrow.Author.Tests.{lt-ltb, le-ltb, eqb-true, eqb-false, eq-eqb, ne-eqb}
 use Rattle.meaning_numbers.specs.Sum.{bit}
-use Rattle.meaning_numbers.proofs.Sum.{Σℕ-same}
-use Rattle.meaning_numbers.proofs.Count.{bit-true, bit-false}
-use Rattle.meaning_numbers.proofs.Rep.{zarith, z-sub}
-use Rattle.meaning_numbers.proofs.Tests.{by-test, clash}
+use Rattle.meaning_numbers.proofs.{Sum.Σℕ-same, Count.bit-true, Count.bit-false}
+use Rattle.meaning_numbers.proofs.Prelude.{_≡_, refl, sym, ap, _∙_, Bool, true, false, and-false, List, [], _∷_, map, ℕ, zero, suc, _+_, _-_, _*_, _<_, _≤_, arith, decLt, leb, eqb, ℤ, pos, natAbs, length, getD, set, length-map, getD-set-same, getD-set-other, lt-ltb, le-ltb, eqb-true, eqb-false, eq-eqb, ne-eqb, zarith, z-sub, by-test, clash}
 use Rattle.meaning_curves.specs.Curve.{windowSum, windowCount}
-use Rattle.meaning_rows.specs.declared.Row.{Row}
-use Rattle.meaning_rows.specs.Runs.{before, runCount}
-use Rattle.meaning_rows.specs.Index.{Index, RangeRow, entries}
-use Rattle.meaning_rows.specs.Build.{withRuns}
-use Rattle.meaning_rows.specs.Extend.{grown}
-use Rattle.meaning_rows.proofs.Judge.{WellFormed}
-use Rattle.meaning_rows.proofs.Runs.{runs-le}
-use Rattle.meaning_rows.proofs.Extend.{Extendable}
-use Rattle.meaning_rows.proofs.Woven.{wovenRows, woven-ascends, grownRuns}
-use Rattle.meaning_rows.proofs.Grown.{lastEnds, old-count, length-entries}
+use Rattle.meaning_rows.specs.{declared.Row.Row, Runs.before, Runs.runCount, Index.Index, Index.RangeRow, Index.entries, Build.withRuns, Extend.grown}
+use Rattle.meaning_rows.proofs.{Judge.WellFormed, Runs.runs-le, Extend.Extendable, Woven.wovenRows, Woven.woven-ascends, Woven.grownRuns, Grown.lastEnds, Grown.old-count, Grown.length-entries, Columns.getD-past}
 use Rattle.rows_records.specs.Records.{zeroRow}
-use Rattle.sums_slide.specs.Levels.{level, Lent}
-use Rattle.extend_count.specs.Count.{isRow}
-use Rattle.meaning_rows.proofs.Columns.{getD-past}
-use Rattle.sums_slide.specs.Ends.{raisedEnd}
-use Rattle.extend_count.specs.Rank.{rank}
-use Rattle.extend_count.specs.Count.{rowFrom, Countable, Counted}
-use Rattle.extend_count.proofs.Count.{counted-starts}
-use Rattle.extend_count.specs.Listed.{listed, endOf, sizeOf, Listable}
-use Rattle.extend_count.proofs.Listed.{listed-at, length-listed}
-use Rattle.extend_count.proofs.Extension.{Ends, climbs, new-row, begun, first-in, has-first, first-joins, other-counts, first-count}
+use Rattle.sums_slide.specs.{Levels.level, Levels.Lent, Ends.raisedEnd}
 use Rattle.extend_new.specs.New.{lessJoin}
-use Rattle.extend_parts.proofs.OldRuns.{rowHas}
-use Rattle.extend_parts.proofs.Records.{Matches}
+use Rattle.extend_count.specs.{Count.isRow, Rank.rank, Count.rowFrom, Count.Countable, Count.Counted, Listed.listed, Listed.endOf, Listed.sizeOf, Listed.Listable}
+use Rattle.extend_count.proofs.{Count.counted-starts, Listed.listed-at, Listed.length-listed}
+use Rattle.extend_count.proofs.Extension.{Ends, climbs, new-row, begun, first-in, has-first, first-joins, other-counts, first-count}
+use Rattle.extend_parts.proofs.{OldRuns.rowHas, Records.Matches}
 use Rattle.extend_rows.specs.Steps.{firstNew, joinsOf, SumAsked}
-use Rattle.extend_runs.proofs.Rowed.{ends-limits, size-is, total-most}
-use Rattle.extend_runs.proofs.Joined.{Joins}
+use Rattle.extend_runs.proofs.{Rowed.ends-limits, Rowed.size-is, Rowed.total-most, Joined.Joins}
 
 less-yes : {joins : Bool} (i : ℕ) (counts : List ℕ) → joins ≡ true → lessJoin joins i counts ≡ set counts i (getD counts i 0 - 1)
 unfolding lessJoin

@@ -1,43 +1,18 @@
 -- Where the old runs are copied and the first new run is joined, the pass can begin (`passable`).
-use mathlib.Core.Path.{_≡_, refl, sym, ap, _∙_, subst}
-use mathlib.Core.Bool.{Bool, true, false}
-use mathlib.Core.List.{List, map}
-use Prim.Native.Nat.{ℕ, suc, _+_, _-_, _*_, _<_, _≤_}
-use native.Mathlib.Omega.{arith}
-use lib.IntN.{ℤ, natAbs}
-use lib.ListN.{length, getD, set, take, length-set}
-use lib.Seq.{getD-set-other}
 use Rattle.meaning_numbers.specs.Sum.{bit}
-use Rattle.meaning_numbers.proofs.Tests.{by-test, clash}
+use Rattle.meaning_numbers.proofs.Prelude.{_≡_, refl, sym, ap, _∙_, subst, Bool, true, false, List, map, ℕ, suc, _+_, _-_, _*_, _<_, _≤_, arith, ℤ, natAbs, length, getD, set, take, length-set, getD-set-other, by-test, clash}
 use Rattle.meaning_curves.specs.Curve.{windowSum, windowCount}
-use Rattle.meaning_rows.specs.declared.Row.{Row}
-use Rattle.meaning_rows.specs.Range.{inside}
-use Rattle.meaning_rows.specs.Runs.{before, runCount}
-use Rattle.meaning_rows.specs.Index.{Index, RangeRow, entries, records}
-use Rattle.meaning_rows.proofs.Judge.{WellFormed}
-use Rattle.meaning_rows.proofs.Runs.{before-more, before-some}
-use Rattle.meaning_rows.proofs.Columns.{runCount-mono}
-use Rattle.meaning_rows.proofs.Extend.{Extendable}
-use Rattle.meaning_rows.proofs.Woven.{wovenRows, grownRuns}
-use Rattle.meaning_rows.proofs.Parts.{Parts}
-use Rattle.meaning_rows.proofs.Cursors.{Cursors}
+use Rattle.meaning_rows.specs.{declared.Row.Row, Range.inside, Runs.before, Runs.runCount, Index.Index, Index.RangeRow, Index.entries, Index.records}
+use Rattle.meaning_rows.proofs.{Judge.WellFormed, Runs.before-more, Runs.before-some, Columns.runCount-mono, Extend.Extendable, Woven.wovenRows, Woven.grownRuns, Parts.Parts, Cursors.Cursors, Grown.length-entries}
 use Rattle.rows_records.specs.Records.{zeroRow}
-use Rattle.sums_slide.specs.declared.Window.{Window}
-use Rattle.sums_slide.proofs.Levels.{level-is}
-use Rattle.sums_slide.specs.Change.{Change}
-use Rattle.build_fill.specs.Pass.{partStart, partsTotal, parts-laid}
-use Rattle.sums_slide.specs.Ends.{raisedEnd}
-use Rattle.sums_slide.proofs.EndsLaws.{within-is}
-use Rattle.build_fill.specs.Turn.{At}
-use Rattle.build_fill.proofs.Turn.{stop-held}
-use Rattle.build_fill.specs.Pass.{Passable, Rowed}
-use Rattle.build_fill.proofs.Pass.{rowed-once}
-use Rattle.extend_parts.specs.Copy.{columnTo, Copyable}
-use Rattle.extend_parts.proofs.Copy.{length-column}
-use Rattle.extend_parts.proofs.Columns.{column-past}
-use Rattle.extend_parts.proofs.OldRuns.{rowHas, LaidRows, copyable, old-parts, old-cursors}
+use Rattle.sums_slide.specs.{declared.Window.Window, Change.Change, Ends.raisedEnd}
+use Rattle.sums_slide.proofs.{Levels.level-is, EndsLaws.within-is}
+use Rattle.build_fill.specs.{Pass.partStart, Pass.partsTotal, Pass.parts-laid, Turn.At, Pass.Passable, Pass.Rowed}
+use Rattle.build_fill.proofs.{Turn.stop-held, Pass.rowed-once}
 use Rattle.extend_new.specs.Join.{JoinedRun, Joinable, joined-parts, joined-cursors}
-use Rattle.meaning_rows.proofs.Grown.{length-entries}
+use Rattle.extend_parts.specs.Copy.{columnTo, Copyable}
+use Rattle.extend_parts.proofs.{Copy.length-column, Columns.column-past}
+use Rattle.extend_parts.proofs.OldRuns.{rowHas, LaidRows, copyable, old-parts, old-cursors}
 use Rattle.extend_runs.proofs.Rowed.{total-most, first-at, extended-rowed, extended-laid}
 
 -- parts that begin at the same places

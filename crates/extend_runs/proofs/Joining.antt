@@ -1,21 +1,12 @@
 -- Laws of specs/Joining.
-use mathlib.Core.Path.{_≡_, ap, _∙_}
-use mathlib.Core.Bool.{Bool, true}
-use mathlib.Core.List.{List}
-use Prim.Native.Nat.{ℕ, _+_, _-_, _≤_}
-use native.Mathlib.Omega.{arith}
-use lib.Dec.{leb}
-use lib.IntN.{ℤ}
-use lib.ListN.{length, set, length-drop}
-use borrow.Author.Tests.{leb-true}
-use Rattle.meaning_numbers.proofs.Tests.{by-test, clash}
+use Rattle.meaning_numbers.proofs.Prelude.{_≡_, ap, _∙_, Bool, true, List, ℕ, _+_, _-_, _≤_, arith, leb, ℤ, length, set, length-drop, leb-true, by-test, clash}
 use Rattle.meaning_rows.specs.declared.Row.{Row}
 use Rattle.meaning_rows.proofs.Grown.{lastEnds}
 use Rattle.sums_slide.specs.declared.Window.{Window}
 use Rattle.build_fill.proofs.Pass.{lentFrom, backAt, lent-is, back-same, back-set}
 use Rattle.extend_new.specs.Join.{Joinable, JoinedRun}
-use Rattle.extend_runs.specs.Joining.{spotOf}
 use Rattle.extend_rows.specs.Steps.{joinsOf}
+use Rattle.extend_runs.specs.Joining.{spotOf}
 
 -- of equal numbers
 pub joinable-as : {s : List ℤ} {w e : ℕ} {p : Window} {b b′ : Bool} {lo lo′ hi hi′ spot spot′ size : ℕ} → b ≡ b′ → lo ≡ lo′ → hi ≡ hi′ → spot ≡ spot′ → Joinable s w e p b′ lo′ hi′ spot′ size → Joinable s w e p b lo hi spot size

@@ -1,37 +1,13 @@
 -- The rows of an extension, laid out as records, are rows that the pass can fill from the old window count on (`extended-rowed`), and rows that the old runs can be copied to (`extended-laid`).
-use mathlib.Core.Path.{_≡_, refl, sym, ap, _∙_, subst}
-use mathlib.Core.Bool.{Bool}
-use mathlib.Core.List.{List, map}
-use Prim.Native.Nat.{ℕ, _+_, _-_, _<_, _≤_}
-use native.Mathlib.Omega.{arith}
-use lib.IntN.{ℤ, pos, natAbs}
-use lib.ListN.{length, getD, take, length-map}
-use lib.Seq.{getD-take}
-use lib.Signed.{_≤ℤ_, leZ}
-use Rattle.meaning_numbers.specs.Order.{within}
-use Rattle.meaning_numbers.specs.Sum.{Σℕ}
-use Rattle.meaning_numbers.proofs.Sum.{Σℕ-same}
-use Rattle.meaning_numbers.proofs.Rep.{zarith}
-use Rattle.meaning_numbers.proofs.Machine.{leZ-true}
-use Rattle.meaning_numbers.proofs.Tests.{both}
-use Rattle.meaning_numbers.proofs.Member.{all-mem, mem-all, mem-at}
-use Rattle.meaning_curves.specs.Limits.{lowestEnd}
-use Rattle.meaning_curves.specs.Curve.{windowSum, windowCount}
-use Rattle.meaning_rows.specs.declared.Row.{Row}
-use Rattle.meaning_rows.specs.Range.{lowOf, upOf}
-use Rattle.meaning_rows.specs.Runs.{runs, runCount}
-use Rattle.meaning_rows.specs.Index.{Index, RangeRow, records, allRuns}
-use Rattle.meaning_rows.specs.Build.{entry, rowNumbers, withRuns}
-use Rattle.meaning_rows.specs.Extend.{grown, extendedRows, extended}
-use Rattle.meaning_rows.proofs.Judge.{GoodEnd, GoodRow, WellFormed, each-row}
-use Rattle.meaning_rows.proofs.Build.{numbers-occur}
-use Rattle.meaning_rows.proofs.Sums.{ends-good}
-use Rattle.meaning_rows.proofs.Extend.{Extendable, grown-new, extended-most}
+use Rattle.meaning_numbers.specs.{Order.within, Sum.Σℕ}
+use Rattle.meaning_numbers.proofs.{Sum.Σℕ-same, Member.all-mem, Member.mem-all, Member.mem-at}
+use Rattle.meaning_numbers.proofs.Prelude.{_≡_, refl, sym, ap, _∙_, subst, Bool, List, map, ℕ, _+_, _-_, _<_, _≤_, arith, ℤ, pos, natAbs, length, getD, take, length-map, getD-take, _≤ℤ_, leZ, zarith, leZ-true, both}
+use Rattle.meaning_curves.specs.{Limits.lowestEnd, Curve.windowSum, Curve.windowCount}
+use Rattle.meaning_rows.specs.{declared.Row.Row, Range.lowOf, Range.upOf, Runs.runs, Runs.runCount, Index.Index, Index.RangeRow, Index.records, Index.allRuns, Build.entry, Build.rowNumbers, Build.withRuns, Extend.grown, Extend.extendedRows, Extend.extended}
+use Rattle.meaning_rows.proofs.{Judge.GoodEnd, Judge.GoodRow, Judge.WellFormed, Judge.each-row, Build.numbers-occur, Sums.ends-good, Extend.Extendable, Extend.grown-new, Extend.extended-most, LaidAt.records-at, LaidAt.runs-total}
 use Rattle.meaning_rows.proofs.Woven.{newRow, all-woven, wovenRows, grownRuns, woven-extended, woven-ascends, woven-covers}
-use Rattle.meaning_rows.proofs.LaidAt.{records-at, runs-total}
 use Rattle.rows_records.specs.Records.{zeroRow}
-use Rattle.build_fill.specs.Pass.{partStart, partsTotal, parts-laid}
-use Rattle.build_fill.specs.Pass.{Rowed}
+use Rattle.build_fill.specs.Pass.{partStart, partsTotal, parts-laid, Rowed}
 use Rattle.extend_count.proofs.Extension.{low-from, in-order, holder}
 use Rattle.extend_parts.proofs.OldRuns.{rowHas, LaidRows}
 

@@ -1,8 +1,8 @@
 -- What copying the old runs of an extension asks and leaves.
-use mathlib.Core.Path.{_≡_}
-use mathlib.Core.List.{List}
 use Prim.Native.Nat.{ℕ}
 use lib.ListN.{length}
+use mathlib.Core.List.{List}
+use mathlib.Core.Path.{_≡_}
 use Rattle.meaning_rows.specs.declared.Row.{Row}
 use Rattle.build_lay.specs.Laid.{Cleared}
 use Rattle.extend_parts.specs.Copy.{columnTo, Copyable}

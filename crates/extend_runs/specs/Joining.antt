@@ -1,13 +1,11 @@
 -- What joining the first new run asks and leaves.
-use mathlib.Core.Path.{_≡_}
-use mathlib.Core.Bool.{Bool}
-use mathlib.Core.List.{List}
 use Prim.Native.Nat.{ℕ, _+_, _-_, _*_, _≤_}
 use lib.IntN.{ℤ}
+use mathlib.Core.Bool.{Bool}
+use mathlib.Core.List.{List}
+use mathlib.Core.Path.{_≡_}
 use Rattle.meaning_rows.specs.declared.Row.{Row}
-use Rattle.sums_slide.specs.declared.Window.{Window}
-use Rattle.sums_slide.specs.Levels.{Lent, windowsOf}
-use Rattle.sums_slide.specs.Ends.{raisedEnd}
+use Rattle.sums_slide.specs.{declared.Window.Window, Levels.Lent, Levels.windowsOf, Ends.raisedEnd}
 use Rattle.build_fill.specs.Turn.{At, Small}
 use Rattle.extend_new.specs.Join.{Joinable}
 pub use Rattle.extend_new.specs.Join.{JoinedRun}

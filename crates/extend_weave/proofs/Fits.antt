@@ -1,6 +1,5 @@
 -- The counts of a weave fit: of old rows, of numbers, and their sum.
-use Prim.Native.Nat.{ℕ, _<_, _≤_, _^_, _+_, _*_}
-use native.Mathlib.Omega.{arith}
+use Rattle.meaning_numbers.proofs.Prelude.{ℕ, _<_, _≤_, _^_, _+_, _*_, arith}
 
 pub below-rows : (i n : ℕ) → i ≤ n → n * 16 < 2 ^ 63 → i < 18446744073709551615
 below-rows i n l g = omega (arith, l, g)

@@ -1,32 +1,13 @@
 -- Laws of specs/Weave.
-use mathlib.Core.Path.{_≡_, refl, sym, ap, _∙_, subst}
-use mathlib.Core.Logic.{⊎-elim}
-use mathlib.Core.List.{List, [], _∷_, _++_, map, List·Memᴰ as Mem, List·Memᴰ·cases-cons as cases, List·Memᴰ·not-nil as not-nil, append-nil, append-assoc}
-use Prim.Native.Nat.{ℕ, zero, suc, _+_, _-_, _*_, _<_, _≤_}
-use native.Mathlib.Omega.{arith}
-use native.Mathlib.Numerals.{add-one}
-use native.Mathlib.Decide.{decLt}
-use lib.IntN.{ℤ, pos, _+ℤ_}
-use lib.ListN.{length, getD, set, take, drop, length-set, length-map, length-append, length-drop, drop-of-length-le, List·getD-map}
-use lib.Seq.{drop-cons, take-suc-set, take-set-le, getD-take, length-take-le}
-use lib.Signed.{_≤ℤ_, _<ℤ_, ≤ℤ-refl}
-use borrow.Author.Tests.{lt-ltb, le-ltb}
-use Rattle.meaning_numbers.proofs.Rep.{zarith, z-sub, rep-eq, rep-pos, rep-sub, rep-mul}
-use Rattle.meaning_numbers.proofs.Machine.{lt-ltZ, le-ltZ}
 use Rattle.meaning_numbers.proofs.Member.{All}
+use Rattle.meaning_numbers.proofs.Prelude.{_≡_, refl, sym, ap, _∙_, subst, ⊎-elim, List, [], _∷_, _++_, map, List·Memᴰ as Mem, List·Memᴰ·cases-cons as cases, List·Memᴰ·not-nil as not-nil, append-nil, append-assoc, ℕ, zero, suc, _+_, _-_, _*_, _<_, _≤_, arith, add-one, decLt, ℤ, pos, _+ℤ_, length, getD, set, take, drop, length-set, length-map, length-append, length-drop, drop-of-length-le, List·getD-map, drop-cons, take-suc-set, take-set-le, getD-take, length-take-le, _≤ℤ_, _<ℤ_, ≤ℤ-refl, lt-ltb, le-ltb, zarith, z-sub, rep-eq, rep-pos, rep-sub, rep-mul, lt-ltZ, le-ltZ}
 use Rattle.meaning_curves.specs.Limits.{lowestEnd}
-use Rattle.meaning_rows.specs.declared.Row.{Row}
-use Rattle.meaning_rows.specs.Range.{lowOf, upOf}
-use Rattle.meaning_rows.proofs.Range.{where-is, le-leZ, lt-leZ, next-le, widen, up-is}
-use Rattle.meaning_rows.proofs.Times.{Ascending}
-use Rattle.meaning_rows.proofs.Build.{Above, Sorted, mem-above}
-use Rattle.meaning_rows.proofs.Judge.{rangeOf}
+use Rattle.meaning_rows.specs.{declared.Row.Row, Range.lowOf, Range.upOf}
+use Rattle.meaning_rows.proofs.{Range.where-is, Range.le-leZ, Range.lt-leZ, Range.next-le, Range.widen, Range.up-is, Times.Ascending, Build.Above, Build.Sorted, Build.mem-above, Judge.rangeOf, Columns.getD-past}
 use Rattle.meaning_rows.proofs.Woven.{newRow, woven, woven-long, weave-none, weave-inside, weave-new, weave-old}
 use Rattle.sums_count.specs.Numbers.{lowered}
 use Rattle.sums_count.proofs.Numbers.{rising-sorted}
-use Rattle.extend_weave.specs.Turn.{endLow, endRow, lowAt, chosenOf, oldAfter, numberAfter, madeAfter, Cell}
-use Rattle.extend_weave.specs.Weave.{numbersOf, Weavable, Made}
-use Rattle.meaning_rows.proofs.Columns.{getD-past}
+use Rattle.extend_weave.specs.{Turn.endLow, Turn.endRow, Turn.lowAt, Turn.chosenOf, Turn.oldAfter, Turn.numberAfter, Turn.madeAfter, Turn.Cell, Weave.numbersOf, Weave.Weavable, Weave.Made}
 
 -- after some turns: a old rows and b numbers are passed, k records are made
 pub record Weaving (old : List Row) (numbers : List ℕ) (count d base : ℕ) (before : List Row) (a b k : ℕ) (rows : List Row) : Type 0 where

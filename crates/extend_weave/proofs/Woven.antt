@@ -1,44 +1,20 @@
 -- The row numbers of the new windows can be woven among the old rows (`weavable`), and the records made and cleared are the rows of the extension (`woven-rows`, `row-is`).
-use mathlib.Core.Path.{_≡_, refl, sym, ap, _∙_}
-use mathlib.Core.List.{List, _++_, map}
-use Prim.Native.Nat.{ℕ, zero, suc, _+_, _-_, _*_, _<_, _≤_}
-use native.Mathlib.Omega.{arith}
-use native.Mathlib.Decide.{decLt}
-use native.Mathlib.Nat.{div-mul-le-self}
-use lib.Dec.{ltb}
-use lib.IntN.{ℤ, pos, natAbs}
-use lib.ListN.{length, getD, take, drop, replicate, length-map, length-append, length-replicate, List·getD-append}
-use lib.Seq.{getD-take, getD-append-add}
-use lib.Signed.{_≤ℤ_, _<ℤ_, leZ}
-use borrow.Author.Tests.{ltb-true}
 use Rattle.meaning_numbers.specs.Order.{within}
-use Rattle.meaning_numbers.proofs.Rep.{zarith}
-use Rattle.meaning_numbers.proofs.Machine.{leZ-true}
-use Rattle.meaning_numbers.proofs.Tests.{by-test, both}
 use Rattle.meaning_numbers.proofs.Member.{all-mem, mem-all, mem-at}
-use Rattle.meaning_curves.specs.Limits.{lowestEnd}
-use Rattle.meaning_curves.specs.Curve.{windowSum, windowCount}
-use Rattle.meaning_rows.specs.declared.Row.{Row}
-use Rattle.meaning_rows.specs.Index.{Index}
-use Rattle.meaning_rows.proofs.Judge.{GoodEnd, GoodRow, WellFormed, each-row, ranges-ascend}
-use Rattle.meaning_rows.proofs.Build.{numbers-length}
-use Rattle.meaning_rows.proofs.Extend.{Extendable}
-use Rattle.meaning_rows.proofs.Woven.{woven, wovenRows, woven-most}
+use Rattle.meaning_numbers.proofs.Prelude.{_≡_, refl, sym, ap, _∙_, List, _++_, map, ℕ, zero, suc, _+_, _-_, _*_, _<_, _≤_, arith, decLt, div-mul-le-self, ltb, ℤ, pos, natAbs, length, getD, take, drop, replicate, length-map, length-append, length-replicate, List·getD-append, getD-take, getD-append-add, _≤ℤ_, _<ℤ_, leZ, ltb-true, zarith, leZ-true, by-test, both}
+use Rattle.meaning_curves.specs.{Limits.lowestEnd, Curve.windowSum, Curve.windowCount}
+use Rattle.meaning_rows.specs.{declared.Row.Row, Index.Index}
+use Rattle.meaning_rows.proofs.{Judge.GoodEnd, Judge.GoodRow, Judge.WellFormed, Judge.each-row, Judge.ranges-ascend, Build.numbers-length, Extend.Extendable, Woven.woven, Woven.wovenRows, Woven.woven-most, Columns.getD-past}
 use Rattle.meaning_entries.specs.Buffers.{filled}
 use Rattle.rows_records.specs.Records.{zeroRow}
+use Rattle.sums_slide.specs.{Table.table, Picked.Appended}
 use Rattle.sums_slide.specs.Levels.{level, level-small, rowOf, Lent, windowsOf}
 use Rattle.sums_slide.proofs.Marks.{yes-met}
-use Rattle.sums_slide.specs.Table.{table}
-use Rattle.sums_slide.specs.Picked.{Appended}
-use Rattle.sums_count.specs.Numbers.{lowered}
-use Rattle.sums_count.proofs.Numbers.{table-only}
-use Rattle.sums_count.specs.Tally.{Rising}
-use Rattle.sums_count.proofs.Rows.{table-rises}
-use Rattle.extend_weave.specs.Turn.{endLow}
-use Rattle.extend_weave.specs.Weave.{numbersOf, Weavable, Made}
-use Rattle.meaning_rows.proofs.Columns.{getD-past}
+use Rattle.sums_count.specs.{Numbers.lowered, Tally.Rising}
+use Rattle.sums_count.proofs.{Numbers.table-only, Rows.table-rises}
 use Rattle.extend_new.specs.New.{newTable}
 use Rattle.extend_new.proofs.New.{rest-lent, new-numbers}
+use Rattle.extend_weave.specs.{Turn.endLow, Weave.numbersOf, Weave.Weavable, Weave.Made}
 
 end-below : (d : ℕ) (z : ℤ) → GoodEnd d z → z <ℤ endLow
 unfolding within

@@ -1,11 +1,11 @@
 -- A turn of the walk over old rows and row numbers, by the next old row and the low end of the next number's range.
-use mathlib.Core.Bool.{cond}
-use mathlib.Core.List.{List}
 use Prim.Native.Nat.{ℕ, _+_, _*_, _<_, _≤_}
 use lib.Dec.{ltb}
 use lib.IntN.{ℤ, pos, _+ℤ_, _-ℤ_}
 use lib.ListN.{length, getD}
 use lib.Signed.{_≤ℤ_, leZ, ltZ}
+use mathlib.Core.Bool.{cond}
+use mathlib.Core.List.{List}
 use Rattle.meaning_rows.specs.declared.Row.{Row}
 
 -- above every range

@@ -1,18 +1,15 @@
 -- The walk over old rows and row numbers: what it is given, what it has made after some turns, how it begins, a turn and its end.
-use mathlib.Core.Path.{_≡_}
-use mathlib.Core.List.{List, map}
 use Prim.Native.Nat.{ℕ, _≤_}
 use lib.IntN.{ℤ}
 use lib.ListN.{length, take}
 use lib.Signed.{_<ℤ_}
+use mathlib.Core.List.{List, map}
+use mathlib.Core.Path.{_≡_}
 use Rattle.meaning_numbers.proofs.Member.{All}
 use Rattle.meaning_curves.specs.Limits.{lowestEnd}
 use Rattle.meaning_rows.specs.declared.Row.{Row}
-use Rattle.meaning_rows.proofs.Times.{Ascending}
-use Rattle.meaning_rows.proofs.Judge.{rangeOf}
-use Rattle.meaning_rows.proofs.Woven.{woven}
-use Rattle.sums_count.specs.Numbers.{lowered}
-use Rattle.sums_count.specs.Tally.{Rising}
+use Rattle.meaning_rows.proofs.{Times.Ascending, Judge.rangeOf, Woven.woven}
+use Rattle.sums_count.specs.{Numbers.lowered, Tally.Rising}
 use Rattle.extend_weave.specs.Turn.{endLow, Cells}
 
 -- the first `count` numbers, lowered

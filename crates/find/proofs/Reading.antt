@@ -1,18 +1,16 @@
 -- Laws of specs/Reading.
-use mathlib.Core.Path.{_≡_}
-use mathlib.Core.List.{List, [], _++_}
 use Prim.Native.Nat.{ℕ, _+_, _<_, _≤_, _^_}
-use native.Mathlib.Omega.{arith}
 use lib.IntN.{ℤ}
 use lib.ListN.{length}
+use mathlib.Core.List.{List, [], _++_}
+use mathlib.Core.Path.{_≡_}
+use native.Mathlib.Omega.{arith}
 use Rattle.text_lines.specs.Follow.{nothingSaid}
 use Rattle.text_feed.specs.Keep.{numbersOf}
-use Rattle.program_input.specs.declared.Input.{Input}
-use Rattle.program_input.specs.Input.{start, Open, ReadOn}
+use Rattle.program_input.specs.{declared.Input.Input, Input.start, Input.Open, Input.ReadOn}
 use Rattle.program_input.proofs.InputLaws.{start-stands, start-open}
 use Rattle.program_answer.specs.Finish.{Reached}
-use Rattle.find.specs.declared.Step.{Step}
-use Rattle.find.specs.Reading.{ReadTo, StepFrom, Stepped}
+use Rattle.find.specs.{declared.Step.Step, Reading.ReadTo, Reading.StepFrom, Reading.Stepped}
 
 -- fewer bytes more
 pub open-less : (r : Input) (n m : ℕ) → m ≤ n → Open r n → Open r m

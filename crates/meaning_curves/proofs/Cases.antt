@@ -1,17 +1,9 @@
 -- Small cases of the definitions, in one table that one proof covers.
-use mathlib.Core.Bool.{Bool, false, not, _&&_}
-use mathlib.Core.List.{List, [], _∷_, map}
-use mathlib.Core.Option.{Option, none, some}
-use Prim.Native.Nat.{ℕ}
-use lib.Dec.{T, eqb}
-use lib.IntN.{ℤ, pos, negsuc, _+ℤ_, _-ℤ_}
-use lib.ListN.{length}
-use Rattle.meaning_numbers.proofs.Table.{holds, sameℤ, sameList}
 use Rattle.meaning_numbers.specs.Place.{numbersFrom}
+use Rattle.meaning_numbers.proofs.Table.{holds, sameℤ, sameList}
+use Rattle.meaning_numbers.proofs.Prelude.{Bool, false, not, _&&_, List, [], _∷_, map, Option, none, some, ℕ, T, eqb, ℤ, pos, negsuc, _+ℤ_, _-ℤ_, length}
+use Rattle.meaning_curves.specs.{Curve.at, Curve.windowSum, Curve.spread, Normal.normalised, Match.distance, Match.rawMatch, Match.normalMatch}
 use Rattle.meaning_curves.specs.Limits.{lengthIn, valueIn, windowIn, widthIn, mergeIn, queryLengthIn, bandIn, thresholdIn, scaleIn, shiftIn, windowsIn, endIn, firstOutside}
-use Rattle.meaning_curves.specs.Curve.{at, windowSum, spread}
-use Rattle.meaning_curves.specs.Normal.{normalised}
-use Rattle.meaning_curves.specs.Match.{distance, rawMatch, normalMatch}
 use Rattle.meaning_curves.proofs.Open.{openCurves}
 
 -- the place is p

@@ -1,19 +1,8 @@
 -- The first value outside its limits: `firstOutside` answers its place exactly if it is that (`outside-is`, `is-outside`), and nothing exactly if every value is inside (`values-in`, `in-values`). From the laws of the first place.
-use mathlib.Core.Path.{_≡_}
-use mathlib.Core.Bool.{not}
-use mathlib.Core.List.{List}
-use mathlib.Core.Option.{none, some}
-use Prim.Native.Nat.{ℕ, _<_}
-use native.Mathlib.Omega.{arith}
-use native.Mathlib.Decide.{decLe}
-use lib.Dec.{T}
-use lib.IntN.{ℤ, pos}
-use lib.ListN.{length, List·getD-eq-default}
 use Rattle.meaning_numbers.specs.Order.{within}
-use Rattle.meaning_numbers.proofs.Tests.{not-not, yes-not-not}
 use Rattle.meaning_numbers.proofs.Place.{place-is, none-is, is-place, is-none}
-use Rattle.meaning_curves.specs.Curve.{at}
-use Rattle.meaning_curves.specs.Limits.{valueIn, firstOutside}
+use Rattle.meaning_numbers.proofs.Prelude.{_≡_, not, List, none, some, ℕ, _<_, arith, decLe, T, ℤ, pos, length, List·getD-eq-default, not-not, yes-not-not}
+use Rattle.meaning_curves.specs.{Curve.at, Limits.valueIn, Limits.firstOutside}
 
 -- p is the place of the first value outside
 pub record Outside (s : List ℤ) (p : ℕ) : Type 0 where

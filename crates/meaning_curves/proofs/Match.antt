@@ -1,13 +1,6 @@
 -- When a stretch matches a query, as facts: the tests `rawMatch` and `normalMatch` pass exactly where they hold.
-use mathlib.Core.Bool.{not, _&&_}
-use Prim.Native.Nat.{ℕ, zero, suc, _*_, _<_, _≤_}
-use native.Mathlib.Omega.{arith}
-use lib.Dec.{T, leb, eqb, leb→le, le→leb, eqb·suc-zero}
-use lib.IntN.{ℤ, _-ℤ_, natAbs}
-use Rattle.meaning_numbers.proofs.Tests.{two-tests, both-tests}
-use Rattle.meaning_curves.specs.Curve.{total, spread}
-use Rattle.meaning_curves.specs.Normal.{flat}
-use Rattle.meaning_curves.specs.Match.{distance, normalDistance, rawMatch, normalMatch, scaleNear, shiftNear}
+use Rattle.meaning_numbers.proofs.Prelude.{not, _&&_, ℕ, zero, suc, _*_, _<_, _≤_, arith, T, leb, eqb, leb→le, le→leb, eqb·suc-zero, ℤ, _-ℤ_, natAbs, two-tests, both-tests}
+use Rattle.meaning_curves.specs.{Curve.total, Curve.spread, Normal.flat, Match.distance, Match.normalDistance, Match.rawMatch, Match.normalMatch, Match.scaleNear, Match.shiftNear}
 
 -- of a stretch s with a query q, both of m values
 pub record RawMatch (s q : ℕ → ℤ) (m b E : ℕ) : Type 0 where

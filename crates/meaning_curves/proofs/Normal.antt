@@ -1,14 +1,8 @@
 -- Normalised values. `cut` is the number that `IsCut` describes (`cut-is`), by the laws of the root and of the quotient, and the only one (`cut-only`); so a normalised value is the one that document 01 describes (`normalised-is`).
-use mathlib.Core.Path.{_≡_, refl}
-use Prim.Native.Nat.{ℕ, _+_, _*_, _/_, _<_, _≤_}
-use native.Mathlib.Omega.{arith}
-use native.Mathlib.Nat.{le-div-iff-mul-le, div-lt-iff-lt-mul, mul-le-mul-right}
-use native.Mathlib.Decide.{decLe}
-use lib.IntN.{ℤ, natAbs}
 use Rattle.meaning_numbers.specs.Sum.{square}
 use Rattle.meaning_numbers.proofs.Root.{root-is, sq-le}
-use Rattle.meaning_curves.specs.Curve.{spread}
-use Rattle.meaning_curves.specs.Normal.{centred, IsCut, cut, signed, normalised}
+use Rattle.meaning_numbers.proofs.Prelude.{_≡_, refl, ℕ, _+_, _*_, _/_, _<_, _≤_, arith, le-div-iff-mul-le, div-lt-iff-lt-mul, mul-le-mul-right, decLe, ℤ, natAbs}
+use Rattle.meaning_curves.specs.{Curve.spread, Normal.centred, Normal.IsCut, Normal.cut, Normal.signed, Normal.normalised}
 
 pub cut-is : {A : ℕ} (c : ℤ) → 0 < A → IsCut A c (cut A c)
 unfolding cut

@@ -1,16 +1,9 @@
 -- Distances, spreads and normalised values of m values ask for those values alone: curves that agree below m have the same (`distance-same`, `spread-same`, `normalised-same`). For the warped distance, each path of the one is a path of the other (`path-same`).
-use mathlib.Core.Path.{_≡_, sym}
-use Prim.Native.Nat.{ℕ, suc, _<_}
-use native.Mathlib.Omega.{arith}
-use lib.IntN.{ℤ, natAbs}
 use Rattle.meaning_numbers.specs.Sum.{square}
 use Rattle.meaning_numbers.proofs.Sum.{Σℤ-same, Σℕ-same}
-use Rattle.meaning_curves.specs.Curve.{spread}
-use Rattle.meaning_curves.specs.Warp.{WarpPath, start, first, second, both, IsWarped}
-use Rattle.meaning_curves.specs.Normal.{normalised}
-use Rattle.meaning_curves.specs.Match.{distance}
-use Rattle.meaning_curves.proofs.Table.{warped-only}
-use Rattle.meaning_curves.proofs.Straight.{distance-least}
+use Rattle.meaning_numbers.proofs.Prelude.{_≡_, sym, ℕ, suc, _<_, arith, ℤ, natAbs}
+use Rattle.meaning_curves.specs.{Curve.spread, Warp.WarpPath, Warp.start, Warp.first, Warp.second, Warp.both, Warp.IsWarped, Normal.normalised, Match.distance}
+use Rattle.meaning_curves.proofs.{Table.warped-only, Straight.distance-least}
 
 -- two curves agree below m
 pub record Same (m : ℕ) (s t : ℕ → ℤ) : Type 0 where

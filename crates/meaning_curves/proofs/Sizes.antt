@@ -1,19 +1,10 @@
 -- How large the numbers get, for code that computes them. The squares of the centred values sum to m × A (`centred-sum`), so each is at most m × A, and a normalised value is at most 100 times the root of m: at most 3200 where m is at most 1024 (`normal-small`).
 -- The spread is at most (m × V)² where no value exceeds V (`spread-le`).
-use mathlib.Core.Path.{_≡_, refl, ap, _∙_, sym}
-use Prim.Native.Nat.{ℕ, zero, suc, _*_, _<_, _≤_}
-use native.Mathlib.Omega.{arith}
-use native.Mathlib.Nat.{mul-le-mul-left, le-of-mul-le-mul-right}
-use lib.IntN.{ℤ, pos, negsuc, _+ℤ_, _-ℤ_, _*ℤ_, natAbs}
 use Rattle.meaning_numbers.specs.Sum.{Σℤ, Σℕ, square}
-use Rattle.meaning_numbers.proofs.Rep.{rep-self, rep-pos, rep-add, rep-sub, rep-mul, rep-eq, eq-rep}
-use Rattle.meaning_numbers.proofs.Sum.{Σℕ-le}
-use Rattle.meaning_numbers.proofs.Slide.{Σℕ-term}
-use Rattle.meaning_numbers.proofs.Root.{sq-le, le-of-sq-le}
-use Rattle.meaning_curves.specs.Curve.{spread}
-use Rattle.meaning_curves.specs.Normal.{centred, cut, signed, normalised}
-use Rattle.meaning_curves.proofs.Spread.{spread-is, squares}
-use Rattle.meaning_curves.proofs.Normal.{cut-is}
+use Rattle.meaning_numbers.proofs.{Sum.Σℕ-le, Slide.Σℕ-term, Root.sq-le, Root.le-of-sq-le}
+use Rattle.meaning_numbers.proofs.Prelude.{_≡_, refl, ap, _∙_, sym, ℕ, zero, suc, _*_, _<_, _≤_, arith, mul-le-mul-left, le-of-mul-le-mul-right, ℤ, pos, negsuc, _+ℤ_, _-ℤ_, _*ℤ_, natAbs, rep-self, rep-pos, rep-add, rep-sub, rep-mul, rep-eq, eq-rep}
+use Rattle.meaning_curves.specs.{Curve.spread, Normal.centred, Normal.cut, Normal.signed, Normal.normalised}
+use Rattle.meaning_curves.proofs.{Spread.spread-is, Spread.squares, Normal.cut-is}
 
 -- ---- the centred values
 

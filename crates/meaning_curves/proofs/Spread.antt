@@ -1,13 +1,7 @@
 -- `spread` is the formula of document 01 over whole numbers, A = m × Σs² - T × T (`spread-is`): the difference is cut at 0 nowhere, as |Σs| ≤ Σ|s| (`sizes`) and, by Cauchy, (Σ|s|)² ≤ m × Σ|s|².
-use mathlib.Core.Path.{_≡_, refl}
-use Prim.Native.Nat.{ℕ, zero, suc, _-_, _*_, _≤_}
-use native.Mathlib.Omega.{arith}
-use lib.IntN.{ℤ, pos, negsuc, _+ℤ_, _-ℤ_, _*ℤ_, natAbs}
 use Rattle.meaning_numbers.specs.Sum.{Σℤ, Σℕ, square}
-use Rattle.meaning_numbers.proofs.Rep.{rep-pos, rep-sub, rep-mul, rep-eq, z-add}
-use Rattle.meaning_numbers.proofs.Machine.{z-abs}
-use Rattle.meaning_numbers.proofs.Cauchy.{cauchy}
-use Rattle.meaning_numbers.proofs.Root.{sq-le}
+use Rattle.meaning_numbers.proofs.{Cauchy.cauchy, Root.sq-le}
+use Rattle.meaning_numbers.proofs.Prelude.{_≡_, refl, ℕ, zero, suc, _-_, _*_, _≤_, arith, ℤ, pos, negsuc, _+ℤ_, _-ℤ_, _*ℤ_, natAbs, rep-pos, rep-sub, rep-mul, rep-eq, z-add, z-abs}
 use Rattle.meaning_curves.specs.Curve.{total, spread}
 
 -- a square of a whole number is the square of its size

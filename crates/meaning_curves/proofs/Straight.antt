@@ -1,14 +1,7 @@
 -- At band 0 a path is the diagonal: its total is the sum of squared differences (`diagonal`), and there is one (`diagonal-path`). So the straight distance is the warped one at band 0 (`straight-is`), and `distance` is the warped distance at every band (`distance-is`).
-use mathlib.Core.Path.{_≡_, refl, sym}
-use Prim.Native.Nat.{ℕ, zero, suc, _-_, _<_}
-use native.Mathlib.Omega.{arith}
-use native.Mathlib.Nat.{zero-add}
-use lib.IntN.{ℤ}
 use Rattle.meaning_numbers.specs.Sum.{Σℕ}
-use Rattle.meaning_curves.specs.Straight.{straight}
-use Rattle.meaning_curves.specs.Warp.{WarpPath, start, first, second, both, IsWarped}
-use Rattle.meaning_curves.specs.Table.{warped}
-use Rattle.meaning_curves.specs.Match.{distance}
+use Rattle.meaning_numbers.proofs.Prelude.{_≡_, refl, sym, ℕ, zero, suc, _-_, _<_, arith, zero-add, ℤ}
+use Rattle.meaning_curves.specs.{Straight.straight, Warp.WarpPath, Warp.start, Warp.first, Warp.second, Warp.both, Warp.IsWarped, Table.warped, Match.distance}
 use Rattle.meaning_curves.proofs.Table.{warped-is}
 
 pub diagonal : {s q : ℕ → ℤ} {i j t : ℕ} → WarpPath s q 0 i j t → (i ≡ j) × (t ≡ straight s q (suc i))

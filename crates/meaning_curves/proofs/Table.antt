@@ -1,15 +1,7 @@
 -- The table holds the least totals. `attained`: what it holds is the total of a path (by recursion on the table). `least-total`: no path to (i, j) has a smaller one (by induction on the path).
 -- Inside the band there is always a path (`in-band`), so `warped` is the warped distance (`warped-is`), and there is only one (`warped-only`).
-use mathlib.Core.Path.{_≡_, refl}
-use mathlib.Core.Bool.{Bool, true, false}
-use mathlib.Core.Option.{Option, none, some}
-use Prim.Native.Nat.{ℕ, zero, suc, _+_, _-_, _≤_, min}
-use native.Mathlib.Omega.{arith, min-cases}
-use lib.Dec.{T, leb, leb→le, le→leb}
-use lib.IntN.{ℤ}
-use Rattle.meaning_numbers.proofs.Tests.{two-tests, both-tests}
-use Rattle.meaning_curves.specs.Straight.{cost}
-use Rattle.meaning_curves.specs.Warp.{Near, WarpPath, start, first, second, both, IsWarped}
+use Rattle.meaning_numbers.proofs.Prelude.{_≡_, refl, Bool, true, false, Option, none, some, ℕ, zero, suc, _+_, _-_, _≤_, min, arith, min-cases, T, leb, leb→le, le→leb, ℤ, two-tests, both-tests}
+use Rattle.meaning_curves.specs.{Straight.cost, Warp.Near, Warp.WarpPath, Warp.start, Warp.first, Warp.second, Warp.both, Warp.IsWarped}
 use Rattle.meaning_curves.specs.Table.{near, when, plus, least, step, firstRow, nextRow, table, valueOf, warped}
 
 -- ---- totals that may be missing

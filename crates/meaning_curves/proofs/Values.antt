@@ -1,25 +1,8 @@
 -- A value in its limits, and every value of a list: by place, with a default that lies in the limits, so that no length is asked. What two such values are apart is at most 20,000, and its square at most 400,000,000.
-use mathlib.Core.Path.{_≡_, sym, subst}
-use mathlib.Core.Bool.{Bool, true, false, not}
-use mathlib.Core.Logic.{⊎-elim}
-use mathlib.Core.List.{List}
-use mathlib.Core.Option.{none}
-use Prim.Native.Nat.{ℕ, suc, _+_, _*_, _<_, _≤_, _-_}
-use native.Mathlib.Decide.{decLe}
-use native.Mathlib.Omega.{arith}
-use lib.Dec.{T}
-use lib.ListN.{length, List·getD-eq-default, take, length-take}
-use lib.IntN.{ℤ, pos, negsuc, _-ℤ_, natAbs}
 use Rattle.meaning_numbers.specs.Sum.{Σℕ}
-use Rattle.meaning_numbers.proofs.Rep.{zarith, z-sub}
-use Rattle.meaning_numbers.proofs.Machine.{z-abs}
-use Rattle.meaning_numbers.proofs.Sum.{Σℕ-le}
-use Rattle.meaning_numbers.proofs.Root.{sq-le}
-use Rattle.meaning_numbers.proofs.Tests.{is-true, is-false, decided}
-use Rattle.meaning_numbers.proofs.Between.{Between, within-yes, yes-within}
-use Rattle.meaning_curves.specs.Limits.{valueIn, firstOutside}
-use Rattle.meaning_curves.specs.Curve.{at, stretch}
-use Rattle.meaning_curves.specs.Straight.{cost}
+use Rattle.meaning_numbers.proofs.{Sum.Σℕ-le, Root.sq-le, Between.Between, Between.within-yes, Between.yes-within}
+use Rattle.meaning_numbers.proofs.Prelude.{_≡_, sym, subst, Bool, true, false, not, ⊎-elim, List, none, ℕ, suc, _+_, _*_, _<_, _≤_, _-_, decLe, arith, T, length, List·getD-eq-default, take, length-take, ℤ, pos, negsuc, _-ℤ_, natAbs, zarith, z-sub, z-abs, is-true, is-false, decided}
+use Rattle.meaning_curves.specs.{Limits.valueIn, Limits.firstOutside, Curve.at, Curve.stretch, Straight.cost}
 use Rattle.meaning_curves.proofs.Limits.{values-in, in-values}
 
 abbrev pub InLimits : ℤ → Type 0

@@ -1,8 +1,8 @@
 -- A curve is its value at each place. A stretch or a query has m values; what stands past them is asked by nothing.
-use mathlib.Core.List.{List}
 use Prim.Native.Nat.{ℕ, _+_, _-_, _*_}
 use lib.IntN.{ℤ, pos, natAbs}
 use lib.ListN.{getD}
+use mathlib.Core.List.{List}
 use Rattle.meaning_numbers.specs.Sum.{Σℤ, Σℕ, square}
 
 -- the values of a list, by place

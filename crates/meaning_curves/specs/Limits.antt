@@ -1,11 +1,10 @@
 -- The limits of document 01, 'The product' and 'Rows': what each quantity may be by itself. Those against n and w stand with their refusals (`Refusal`), that of 18 digits with numbers (`Number`).
+use Prim.Native.Nat.{ℕ}
+use lib.IntN.{ℤ, pos, negsuc, _-ℤ_}
 use mathlib.Core.Bool.{Bool, not}
 use mathlib.Core.List.{List}
 use mathlib.Core.Option.{Option}
-use Prim.Native.Nat.{ℕ}
-use lib.IntN.{ℤ, pos, negsuc, _-ℤ_}
-use Rattle.meaning_numbers.specs.Order.{within}
-use Rattle.meaning_numbers.specs.Place.{firstPlace}
+use Rattle.meaning_numbers.specs.{Order.within, Place.firstPlace}
 
 -- the most values of a series, and so the most windows of an index
 abbrev pub mostValues : ℕ

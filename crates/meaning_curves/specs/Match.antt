@@ -1,12 +1,9 @@
 -- The four kinds of match: raw or normalised, each straight (band 0) or warped.
-use mathlib.Core.Bool.{Bool, not, _&&_}
 use Prim.Native.Nat.{ℕ, zero, suc, _*_}
 use lib.Dec.{leb}
 use lib.IntN.{ℤ, _-ℤ_, natAbs}
-use Rattle.meaning_curves.specs.Curve.{total, spread}
-use Rattle.meaning_curves.specs.Straight.{straight}
-use Rattle.meaning_curves.specs.Table.{warped}
-use Rattle.meaning_curves.specs.Normal.{normalised, flat}
+use mathlib.Core.Bool.{Bool, not, _&&_}
+use Rattle.meaning_curves.specs.{Curve.total, Curve.spread, Straight.straight, Table.warped, Normal.normalised, Normal.flat}
 
 -- 01, The product: band 0 is straight
 unfoldable pub distance : (s q : ℕ → ℤ) → ℕ → ℕ → ℕ

@@ -1,10 +1,9 @@
 -- Normalised values, in hundredths cut toward zero.
-use mathlib.Core.Bool.{Bool}
 use Prim.Native.Nat.{ℕ, _+_, _*_, _/_, _<_, _≤_}
 use lib.Dec.{eqb}
 use lib.IntN.{ℤ, pos, negsuc, negℤ, _-ℤ_, _*ℤ_, natAbs}
-use Rattle.meaning_numbers.specs.Sum.{square}
-use Rattle.meaning_numbers.specs.Root.{root}
+use mathlib.Core.Bool.{Bool}
+use Rattle.meaning_numbers.specs.{Sum.square, Root.root}
 use Rattle.meaning_curves.specs.Curve.{total, spread}
 
 -- 01, Distances: c = m × s(j) - T

@@ -1,9 +1,9 @@
 -- The table that computes the warped distance: at (i, j) the least total of the paths to that pair, or none where no path leads (laws: `attained`, `least-total`).
-use mathlib.Core.Bool.{Bool, true, false, _&&_}
-use mathlib.Core.Option.{Option, none, some}
 use Prim.Native.Nat.{ℕ, zero, suc, _+_, _-_, min}
 use lib.Dec.{leb}
 use lib.IntN.{ℤ}
+use mathlib.Core.Bool.{Bool, true, false, _&&_}
+use mathlib.Core.Option.{Option, none, some}
 use Rattle.meaning_curves.specs.Straight.{cost}
 
 -- |i - j| is at most b, as a test

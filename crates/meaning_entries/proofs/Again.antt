@@ -1,30 +1,13 @@
 -- Reading and writing undo each other. A text that is read and written again is the same text, so only texts that a writer writes are read (`load-again`); a well-formed index has numbers that can be spelled (`spelled`), and its text gives its head, its rows and their runs back (`write-load`).
-use mathlib.Core.Path.{_≡_, refl, sym, ap, _∙_, subst}
-use mathlib.Core.Bool.{true}
-use mathlib.Core.List.{List, [], _∷_, map}
-use mathlib.Core.Option.{none, some}
-use Prim.Native.Nat.{ℕ, _+_, _≤_}
-use native.Mathlib.Omega.{arith}
-use lib.IntN.{ℤ, pos, natAbs}
-use lib.ListN.{take}
-use lib.Signed.{leZ}
 use Rattle.meaning_numbers.specs.Order.{within}
-use Rattle.meaning_numbers.proofs.Tests.{both}
-use Rattle.meaning_numbers.proofs.Machine.{zmach, f-le, z-abs}
+use Rattle.meaning_numbers.proofs.Prelude.{_≡_, refl, sym, ap, _∙_, subst, true, List, [], _∷_, map, none, some, ℕ, _+_, _≤_, arith, ℤ, pos, natAbs, take, leZ, both, zmach, f-le, z-abs}
 use Rattle.meaning_curves.specs.Limits.{endIn, lowestEnd}
-use Rattle.meaning_rows.specs.declared.Row.{Row}
-use Rattle.meaning_rows.specs.Index.{Index, rangeRow}
-use Rattle.meaning_rows.specs.Build.{entry}
-use Rattle.meaning_rows.proofs.Runs.{Apart}
-use Rattle.meaning_rows.proofs.Judge.{GoodRows, WellFormed, runTotal}
-use Rattle.meaning_text.specs.Number.{Short}
-use Rattle.meaning_text.specs.Form.{Value, Spellable, Each, end, more}
-use Rattle.meaning_text.specs.Read.{Verdict, fine, unfit, readText}
+use Rattle.meaning_rows.specs.{declared.Row.Row, Index.Index, Index.rangeRow, Build.entry}
+use Rattle.meaning_rows.proofs.{Runs.Apart, Judge.GoodRows, Judge.WellFormed, Judge.runTotal}
+use Rattle.meaning_text.specs.{Number.Short, Form.Value, Form.Spellable, Form.Each, Form.end, Form.more, Read.Verdict, Read.fine, Read.unfit, Read.readText}
 use Rattle.meaning_text.specs.Texts.{indexForm, rowForm, runForm, sayRow, indexSaid, sayIndex, indexText}
 use Rattle.meaning_text.proofs.Texts.{said-say, said-again, index-again, index-back}
-use Rattle.meaning_entries.specs.Refusal.{firstRefusal, unreadable, badLine}
-use Rattle.meaning_entries.specs.Buffers.{IndexBuffers}
-use Rattle.meaning_entries.specs.Load.{textIndex, loadTable, loadRefusal}
+use Rattle.meaning_entries.specs.{Refusal.firstRefusal, Refusal.unreadable, Refusal.badLine, Buffers.IndexBuffers, Load.textIndex, Load.loadTable, Load.loadRefusal}
 
 -- ---- a text that is read
 

@@ -1,19 +1,9 @@
 -- `Demand3Kept` follows from what the two entries promise (`AuditKept`, `SearchKept`) and from demand 3 of the meanings, and from nothing else.
-use mathlib.Core.Path.{_≡_, refl, sym, subst}
-use mathlib.Core.Option.{none}
-use lib.ListN.{length}
+use Rattle.meaning_numbers.proofs.Prelude.{_≡_, refl, sym, subst, none, length}
 use Rattle.meaning_rows.specs.Index.{Index}
-use Rattle.meaning_entries.specs.declared.Audited.{Audited}
-use Rattle.meaning_entries.specs.declared.Found.{Found}
-use Rattle.meaning_entries.specs.declared.Both.{Both}
-use Rattle.meaning_entries.specs.Audit.{Passes}
-use Rattle.meaning_entries.specs.Search.{SearchCall, SearchBuffers, searchMatches, searchCandidates, searchRefusal, searchAnswer}
-use Rattle.meaning_entries.specs.Demand2.{AuditKept, SearchKept}
-use Rattle.meaning_entries.specs.Demand3.{through}
-use Rattle.meaning_entries.specs.Both.{told, auditOf, demandAnswer}
+use Rattle.meaning_entries.specs.{declared.Audited.Audited, declared.Found.Found, declared.Both.Both, Audit.Passes, Search.SearchCall, Search.SearchBuffers, Search.searchMatches, Search.searchCandidates, Search.searchRefusal, Search.searchAnswer, Demand2.AuditKept, Demand2.SearchKept, Demand3.through, Both.told, Both.auditOf, Both.demandAnswer, Both.BothListed, Both.Demand3Kept}
 use Rattle.meaning_entries.proofs.Demand3.{demand3}
 use Rattle.meaning_entries.proofs.BothTold.{all-told, first-audit, second-audit, first-search, second-search, both-listed, demand-refusal, demand-wrong, demand-missing, demand-counts, demand-found}
-use Rattle.meaning_entries.specs.Both.{BothListed, Demand3Kept}
 
 module _ (c : SearchCall) (x : Index) (before₁ before₂ after₁ after₂ : SearchBuffers) where
   -- the answer that is meant keeps the promise

@@ -1,18 +1,8 @@
 -- The promise of demand 3 leaves one outcome: one answer, and one content of every buffer.
-use mathlib.Core.Path.{_≡_, refl, sym, _∙_, ap}
-use mathlib.Core.Bool.{false≢true}
-use mathlib.Core.Option.{Option, none, some, Option·some-ne-none}
-use Prim.Native.Nat.{ℕ}
+use Rattle.meaning_numbers.proofs.Prelude.{_≡_, refl, sym, _∙_, ap, false≢true, Option, none, some, Option·some-ne-none, ℕ}
 use Rattle.meaning_rows.specs.Index.{Index}
-use Rattle.meaning_entries.specs.declared.Audited.{Audited}
-use Rattle.meaning_entries.specs.declared.Both.{Both}
-use Rattle.meaning_entries.specs.Answers.{bothCounts}
-use Rattle.meaning_entries.specs.Audit.{auditAnswer, Passes}
-use Rattle.meaning_entries.specs.Search.{SearchCall, SearchBuffers, searchRefusal, searchAfter}
-use Rattle.meaning_entries.specs.Demand3.{through}
-use Rattle.meaning_entries.specs.Both.{yes, auditOf, demandAnswer}
+use Rattle.meaning_entries.specs.{declared.Audited.Audited, declared.Both.Both, Answers.bothCounts, Audit.auditAnswer, Audit.Passes, Search.SearchCall, Search.SearchBuffers, Search.searchRefusal, Search.searchAfter, Demand3.through, Both.yes, Both.auditOf, Both.demandAnswer, Both.Demand3Kept}
 use Rattle.meaning_entries.proofs.BothTold.{first-audit, second-audit, first-search, second-search, both-listed, demand-counts}
-use Rattle.meaning_entries.specs.Both.{Demand3Kept}
 
 -- whether an audit says yes, and whether a search is refused, is known
 by-audit : {P : Type 0} (a : Audited) → (a ≡ Audited.Yes → P) → ((a ≡ Audited.Yes → ⊥) → P) → P

@@ -1,19 +1,10 @@
 -- Two audits and two searches as one call: what is answered by what each audit and each search means (`demand-by`), case by case too, and that this paper's number, place, values and counts of the answer are those that are meant. By cases on the audits and on the refusals.
-use mathlib.Core.Path.{_≡_, refl, sym, ap, _∙_}
-use mathlib.Core.Bool.{Bool, true, false, cond}
-use mathlib.Core.Option.{Option, none, some, Option·some-ne-none}
-use Prim.Native.Nat.{ℕ}
-use lib.ListN.{length}
+use Rattle.meaning_numbers.proofs.Prelude.{_≡_, refl, sym, ap, _∙_, Bool, true, false, cond, Option, none, some, Option·some-ne-none, ℕ, length}
 use Rattle.meaning_rows.specs.Index.{Index}
-use Rattle.meaning_entries.specs.declared.Audited.{Audited}
-use Rattle.meaning_entries.specs.declared.Found.{Found}
-use Rattle.meaning_entries.specs.declared.Both.{Both}
+use Rattle.meaning_entries.specs.{declared.Audited.Audited, declared.Found.Found, declared.Both.Both, Audit.AuditCall, Audit.auditAnswer, Audit.Passes, Demand2.AuditKept, Demand2.SearchKept, Demand3.through}
 use Rattle.meaning_entries.specs.Answers.{foundRefusal, bothRefusal, bothWrong, bothMissing, bothCounts, bothFound}
-use Rattle.meaning_entries.specs.Audit.{AuditCall, auditAnswer, Passes}
-use Rattle.meaning_entries.specs.Search.{SearchCall, SearchBuffers, searchMatches, searchCandidates, searchRefusal, searchAnswer, searchAfter}
-use Rattle.meaning_entries.specs.Demand2.{AuditKept, SearchKept}
-use Rattle.meaning_entries.specs.Demand3.{through}
 use Rattle.meaning_entries.specs.Both.{yes, toldSecond, toldFound, told, auditOf, demandAnswer, inTurn, demandRefusal, demandWrong, demandMissing, demandCounts, demandFound}
+use Rattle.meaning_entries.specs.Search.{SearchCall, SearchBuffers, searchMatches, searchCandidates, searchRefusal, searchAnswer, searchAfter}
 use Rattle.meaning_entries.proofs.Demand2.{audit-kept, search-kept}
 
 -- an audit that does not say yes

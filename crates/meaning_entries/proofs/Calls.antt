@@ -1,39 +1,11 @@
 -- Rows of the table of cases that are calls over lent buffers: the answer, and every buffer afterwards. Answers and buffers are compared as lists of numbers.
-use mathlib.Core.Bool.{Bool, _&&_}
-use mathlib.Core.List.{List, [], _∷_, _++_}
-use mathlib.Core.Option.{Option, none, some}
-use Prim.Native.Nat.{ℕ}
-use lib.Dec.{eqb}
-use lib.IntN.{ℤ, pos, negsuc, natAbs}
-use lib.ListN.{drop, replicate}
 use Rattle.meaning_numbers.proofs.Table.{sameList}
-use Rattle.meaning_rows.specs.declared.Row.{Row}
-use Rattle.meaning_rows.specs.declared.Head.{Head}
-use Rattle.meaning_rows.specs.Index.{Index, lent}
-use Rattle.meaning_filter.specs.declared.Kind.{Kind}
-use Rattle.meaning_filter.specs.declared.Kind.the-variants.{Raw, Normal}
-use Rattle.meaning_filter.specs.declared.Ask.{Ask}
-use Rattle.meaning_text.specs.Bytes.{bytes}
-use Rattle.meaning_text.specs.Form.{spell}
-use Rattle.meaning_text.specs.Texts.{seriesForm}
-use Rattle.meaning_entries.specs.declared.Built.{Built}
-use Rattle.meaning_entries.specs.declared.Extended.{Extended}
-use Rattle.meaning_entries.specs.declared.Audited.{Audited}
-use Rattle.meaning_entries.specs.declared.Written.{Written}
-use Rattle.meaning_entries.specs.declared.Loaded.{Loaded}
-use Rattle.meaning_entries.specs.declared.Found.{Found}
-use Rattle.meaning_entries.specs.declared.Both.{Both}
-use Rattle.meaning_entries.specs.Buffers.{IndexBuffers}
+use Rattle.meaning_numbers.proofs.Prelude.{Bool, _&&_, List, [], _∷_, _++_, Option, none, some, ℕ, eqb, ℤ, pos, negsuc, natAbs, drop, replicate}
+use Rattle.meaning_rows.specs.{declared.Row.Row, declared.Head.Head, Index.Index, Index.lent}
+use Rattle.meaning_filter.specs.{declared.Kind.Kind, declared.Kind.the-variants.Raw, declared.Kind.the-variants.Normal, declared.Ask.Ask}
+use Rattle.meaning_text.specs.{Bytes.bytes, Form.spell, Texts.seriesForm}
+use Rattle.meaning_entries.specs.{declared.Built.Built, declared.Extended.Extended, declared.Audited.Audited, declared.Written.Written, declared.Loaded.Loaded, declared.Found.Found, declared.Both.Both, Buffers.IndexBuffers, Build.BuildCall, Build.lentBuild, Build.buildAnswer, Build.buildAfter, Extend.ExtendCall, Extend.lentExtend, Extend.extendAnswer, Extend.extendAfter, Audit.lentAudit, Audit.auditAnswer, Write.writeAnswer, Write.writeAfter, Load.loadAnswer, Load.loadAfter, Search.SearchCall, Search.SearchBuffers, Search.lentSearch, Search.searchAnswer, Search.searchAfter, Both.demandAnswer, AuditText.auditTextAnswer, AuditText.auditText, AuditText.pack, AuditText.unpack, Program.program}
 use Rattle.meaning_entries.specs.Answers.{builtCounts, extendedCounts, loadedCounts, foundCounts, bothRefusal, bothWrong, bothMissing, bothCounts, bothFound}
-use Rattle.meaning_entries.specs.Build.{BuildCall, lentBuild, buildAnswer, buildAfter}
-use Rattle.meaning_entries.specs.Extend.{ExtendCall, lentExtend, extendAnswer, extendAfter}
-use Rattle.meaning_entries.specs.Audit.{lentAudit, auditAnswer}
-use Rattle.meaning_entries.specs.Write.{writeAnswer, writeAfter}
-use Rattle.meaning_entries.specs.Load.{loadAnswer, loadAfter}
-use Rattle.meaning_entries.specs.Search.{SearchCall, SearchBuffers, lentSearch, searchAnswer, searchAfter}
-use Rattle.meaning_entries.specs.Both.{demandAnswer}
-use Rattle.meaning_entries.specs.AuditText.{auditTextAnswer, auditText, pack, unpack}
-use Rattle.meaning_entries.specs.Program.{program}
 
 -- ---- as numbers
 

@@ -1,25 +1,11 @@
 -- The table of cases: the starred cases of document 01 ('Worth trying'), its worked texts, calls over lent buffers, edges, and texts of files. One proof covers the table.
-use mathlib.Core.Bool.{Bool, not, _&&_}
-use mathlib.Core.List.{List, [], _∷_, _++_, map}
-use Prim.Native.Nat.{ℕ}
-use lib.Dec.{T, eqb}
-use lib.IntN.{ℤ, pos, negsuc}
-use Rattle.meaning_numbers.specs.Root.{root}
-use Rattle.meaning_numbers.specs.Place.{numbersFrom}
+use Rattle.meaning_numbers.specs.{Root.root, Place.numbersFrom}
 use Rattle.meaning_numbers.proofs.Table.{holds, sameℤ, sameList}
-use Rattle.meaning_curves.specs.Curve.{at}
-use Rattle.meaning_curves.specs.Normal.{normalised}
-use Rattle.meaning_curves.specs.Match.{distance, normalMatch}
-use Rattle.meaning_rows.specs.Range.{rowNumber, lowOf, upOf}
-use Rattle.meaning_rows.specs.Build.{built}
-use Rattle.meaning_filter.specs.declared.Kind.the-variants.{Raw}
-use Rattle.meaning_filter.specs.Envelope.{lower, upper}
-use Rattle.meaning_filter.specs.Matches.{Question, candidateRuns}
-use Rattle.meaning_entries.proofs.Open.{openEntries}
-use Rattle.meaning_entries.proofs.Row.{prints, openRow}
-use Rattle.meaning_entries.proofs.Calls.{calls}
-use Rattle.meaning_entries.proofs.Edges.{edges}
-use Rattle.meaning_entries.proofs.Vectors.{vectors}
+use Rattle.meaning_numbers.proofs.Prelude.{Bool, not, _&&_, List, [], _∷_, _++_, map, ℕ, T, eqb, ℤ, pos, negsuc}
+use Rattle.meaning_curves.specs.{Curve.at, Normal.normalised, Match.distance, Match.normalMatch}
+use Rattle.meaning_rows.specs.{Range.rowNumber, Range.lowOf, Range.upOf, Build.built}
+use Rattle.meaning_filter.specs.{declared.Kind.the-variants.Raw, Envelope.lower, Envelope.upper, Matches.Question, Matches.candidateRuns}
+use Rattle.meaning_entries.proofs.{Open.openEntries, Row.prints, Row.openRow, Calls.calls, Edges.edges, Vectors.vectors}
 
 -- the values of a curve of n places
 values : ℕ → (ℕ → ℤ) → List ℤ

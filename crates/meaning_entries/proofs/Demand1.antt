@@ -1,31 +1,13 @@
 -- Demand 1 of the meanings: each entry's answer refuses by the first line of its table that applies, and by no other. By cases on that line; of a search, the one line with the number 24 has the place 0.
-use mathlib.Core.Path.{_≡_, refl, sym, ap, _∙_, subst}
-use mathlib.Core.Bool.{Bool, true, false, not, cond, _&&_}
-use mathlib.Core.List.{List, [], _∷_}
-use mathlib.Core.Option.{Option, none, some}
-use Prim.Native.Nat.{ℕ, zero, suc}
-use native.Mathlib.Omega.{arith}
-use lib.Dec.{T, T-not, eqb, eqb→eq, ltb}
-use lib.ListN.{length}
-use Rattle.meaning_numbers.proofs.Tests.{two-tests}
+use Rattle.meaning_numbers.proofs.Prelude.{_≡_, refl, sym, ap, _∙_, subst, Bool, true, false, not, cond, _&&_, List, [], _∷_, Option, none, some, ℕ, zero, suc, arith, T, T-not, eqb, eqb→eq, ltb, length, two-tests}
 use Rattle.meaning_curves.specs.Limits.{mostValues}
-use Rattle.meaning_rows.specs.Index.{Index}
-use Rattle.meaning_rows.specs.Audit.{firstWrong, missing}
+use Rattle.meaning_rows.specs.{Index.Index, Audit.firstWrong, Audit.missing}
 use Rattle.meaning_text.specs.Texts.{refusedText}
-use Rattle.meaning_entries.specs.Refusal.{Condition, firstRefusal, listShort}
-use Rattle.meaning_entries.specs.Buffers.{IndexBuffers}
+use Rattle.meaning_entries.specs.{Refusal.Condition, Refusal.firstRefusal, Refusal.listShort, Buffers.IndexBuffers, Build.BuildCall, Build.buildTable, Build.buildAnswer, Extend.ExtendCall, Extend.extendTable, Extend.extendAnswer, Audit.AuditCall, Audit.auditTable, Audit.complete, Audit.audited, Audit.auditAnswer, Write.writeTable, Write.writeAnswer, Load.loadTable, Load.loadAnswer, AuditText.auditTextTable, AuditText.textCall, AuditText.auditTextAnswer, AuditText.auditText, Program.textProgram, Program.programTable, Program.printed, Program.program}
 use Rattle.meaning_entries.specs.Answers.{builtRefusal, extendedRefusal, auditedRefusal, writtenRefusal, loadedRefusal, foundRefusal}
-use Rattle.meaning_entries.specs.Build.{BuildCall, buildTable, buildAnswer}
-use Rattle.meaning_entries.specs.Extend.{ExtendCall, extendTable, extendAnswer}
-use Rattle.meaning_entries.specs.Audit.{AuditCall, auditTable, complete, audited, auditAnswer}
-use Rattle.meaning_entries.specs.Write.{writeTable, writeAnswer}
-use Rattle.meaning_entries.specs.Load.{loadTable, loadAnswer}
-use Rattle.meaning_entries.specs.Search.{SearchCall, SearchBuffers, listRoom, searchMatches, searchPlan, searchTable, searchRefused, searchAnswer}
-use Rattle.meaning_entries.specs.AuditText.{auditTextTable, textCall, auditTextAnswer, auditText}
-use Rattle.meaning_entries.specs.Program.{textProgram, programTable, printed, program}
 use Rattle.meaning_entries.specs.Demand1.{BuildRefuses, ExtendRefuses, AuditRefuses, WriteRefuses, LoadRefuses, SearchRefuses, AuditTextRefuses, ProgramRefuses}
-use Rattle.meaning_entries.proofs.Refusal.{openLines, First, here, later, is-first}
-use Rattle.meaning_entries.proofs.Pack.{audit-text-back}
+use Rattle.meaning_entries.specs.Search.{SearchCall, SearchBuffers, listRoom, searchMatches, searchPlan, searchTable, searchRefused, searchAnswer}
+use Rattle.meaning_entries.proofs.{Refusal.openLines, Refusal.First, Refusal.here, Refusal.later, Refusal.is-first, Pack.audit-text-back}
 
 build-by : (c : BuildCall) (b : IndexBuffers) (o : Option (ℕ × ℕ)) → firstRefusal (buildTable c b) ≡ o → builtRefusal (buildAnswer c b) ≡ o
 unfolding buildAnswer

@@ -1,32 +1,14 @@
 -- Demand 2 for code: an entry that gives the answer that is meant and leaves the buffers that are meant keeps its promise; number, place and counts follow from the answer. By cases on the refusal.
-use mathlib.Core.Path.{_≡_, refl, ap, _∙_}
-use mathlib.Core.Bool.{Bool, true, false}
-use mathlib.Core.List.{List}
-use mathlib.Core.Option.{Option, none, some}
-use Prim.Native.Nat.{ℕ, zero, suc}
-use lib.Dec.{eqb}
+use Rattle.meaning_numbers.proofs.Prelude.{_≡_, refl, ap, _∙_, Bool, true, false, List, Option, none, some, ℕ, zero, suc, eqb}
 use Rattle.meaning_curves.specs.Limits.{mostValues}
-use Rattle.meaning_rows.specs.Index.{Index}
-use Rattle.meaning_rows.specs.Audit.{firstWrong, missing}
-use Rattle.meaning_entries.specs.Refusal.{firstRefusal}
-use Rattle.meaning_entries.specs.declared.Built.{Built}
-use Rattle.meaning_entries.specs.declared.Extended.{Extended}
-use Rattle.meaning_entries.specs.declared.Audited.{Audited}
-use Rattle.meaning_entries.specs.declared.Written.{Written}
-use Rattle.meaning_entries.specs.declared.Loaded.{Loaded}
-use Rattle.meaning_entries.specs.declared.Found.{Found}
-use Rattle.meaning_entries.specs.Buffers.{IndexBuffers}
+use Rattle.meaning_rows.specs.{Index.Index, Audit.firstWrong, Audit.missing}
+use Rattle.meaning_entries.specs.{Refusal.firstRefusal, declared.Built.Built, declared.Extended.Extended, declared.Audited.Audited, declared.Written.Written, declared.Loaded.Loaded, declared.Found.Found, Buffers.IndexBuffers, Build.BuildCall, Build.buildRefusal, Build.buildAnswer, Build.buildHead, Build.buildCounts, Build.buildAfter, Extend.ExtendCall, Extend.extendRefusal, Extend.extendAnswer, Extend.extendHead, Extend.extendCounts, Extend.extendAfter, Audit.AuditCall, Audit.auditTable, Audit.complete, Audit.audited, Audit.auditAnswer, Audit.wrongIn, Audit.missingIn, Write.writeRefusal, Write.writeAnswer, Write.writeCount, Write.writeAfter, Load.loadRefusal, Load.loadAnswer, Load.loadHead, Load.loadCounts, Load.loadAfter}
 use Rattle.meaning_entries.specs.Answers.{builtRefusal, builtHead, builtCounts, extendedRefusal, extendedHead, extendedCounts, auditedRefusal, wrongPlace, missingCount, writtenRefusal, writtenCount, loadedRefusal, loadedHead, loadedCounts, foundRefusal, foundCounts}
-use Rattle.meaning_entries.specs.Build.{BuildCall, buildRefusal, buildAnswer, buildHead, buildCounts, buildAfter}
-use Rattle.meaning_entries.specs.Extend.{ExtendCall, extendRefusal, extendAnswer, extendHead, extendCounts, extendAfter}
-use Rattle.meaning_entries.specs.Audit.{AuditCall, auditTable, complete, audited, auditAnswer, wrongIn, missingIn}
-use Rattle.meaning_entries.specs.Write.{writeRefusal, writeAnswer, writeCount, writeAfter}
-use Rattle.meaning_entries.specs.Load.{loadRefusal, loadAnswer, loadHead, loadCounts, loadAfter}
-use Rattle.meaning_entries.specs.Search.{SearchCall, SearchBuffers, searchRefusal, looked, searchRefused, searchAnswer, searchCounts, searchAfter}
 use Rattle.meaning_entries.specs.AuditText.{auditTextTable, textCall, auditTextAnswer, unpack, auditText}
 use Rattle.meaning_entries.specs.Demand2.{BuildKept, ExtendKept, AuditKept, WriteKept, LoadKept, SearchKept, AuditTextKept}
-use Rattle.meaning_entries.proofs.Demand1.{build-refuses, extend-refuses, audit-refuses, write-refuses, load-refuses, search-refuses, audit-text-refuses}
+use Rattle.meaning_entries.specs.Search.{SearchCall, SearchBuffers, searchRefusal, looked, searchRefused, searchAnswer, searchCounts, searchAfter}
 use Rattle.meaning_entries.proofs.Pack.{audit-text-back}
+use Rattle.meaning_entries.proofs.Demand1.{build-refuses, extend-refuses, audit-refuses, write-refuses, load-refuses, search-refuses, audit-text-refuses}
 
 build-by : (c : BuildCall) (b : IndexBuffers) (o : Option (ℕ × ℕ)) → buildRefusal c b ≡ o → builtCounts (buildAnswer c b) ≡ buildCounts c b
 unfolding buildAnswer buildCounts

@@ -1,18 +1,10 @@
 -- Demand 3, proved as specs/Demand3.antt states it. Each of the two searches has listed the matches that it means (`listed-is`), its index lets the filter reach every window (`passes-reached`),
 -- so what it means is all matches (`all-found`), which do not depend on the index.
-use mathlib.Core.Path.{_≡_, sym, ap, subst, _∙_}
-use mathlib.Core.List.{List}
-use Prim.Native.Nat.{ℕ}
-use native.Mathlib.Omega.{arith}
-use lib.ListN.{length}
+use Rattle.meaning_numbers.proofs.Prelude.{_≡_, sym, ap, subst, _∙_, List, ℕ, arith, length}
 use Rattle.meaning_filter.specs.Matches.{allMatches, Exactly}
 use Rattle.meaning_filter.proofs.Matches.{all-found, all-exactly}
-use Rattle.meaning_entries.specs.Search.{SearchCall, question, searchPlan, searchTable}
-use Rattle.meaning_entries.specs.Demand3.{Searched, through, Demand3}
-use Rattle.meaning_entries.proofs.Refusal.{is-passed, openLines, passed-line}
-use Rattle.meaning_entries.proofs.Lines.{query-line, scale-line}
-use Rattle.meaning_entries.proofs.Listed.{answered, listed-is}
-use Rattle.meaning_entries.proofs.Passes.{passes-reached}
+use Rattle.meaning_entries.specs.{Search.SearchCall, Search.question, Search.searchPlan, Search.searchTable, Demand3.Searched, Demand3.through, Demand3.Demand3}
+use Rattle.meaning_entries.proofs.{Refusal.is-passed, Refusal.openLines, Refusal.passed-line, Lines.query-line, Lines.scale-line, Listed.answered, Listed.listed-is, Passes.passes-reached}
 
 -- one search: its list is all matches, and its count is how many
 all-listed : (c : SearchCall) (n : ℕ) (l : List (ℕ × ℕ)) → Searched c n l → (l ≡ allMatches (question c)) × (n ≡ length (allMatches (question c)))

@@ -1,14 +1,8 @@
 -- A buffer that is 0 behind its new entries, and the columns of entries of offsets.
-use mathlib.Core.Path.{_≡_, refl, sym, ap, _∙_}
-use mathlib.Core.List.{List, [], _∷_, _++_, map}
-use Prim.Native.Nat.{ℕ, zero, suc, _+_, _-_, _<_, _≤_}
-use native.Mathlib.Omega.{arith}
-use native.Mathlib.Decide.{decLt}
-use lib.ListN.{length, getD, replicate, length-append, length-replicate, List·getD-append}
-use lib.Seq.{ext-getD, getD-append-add}
+use Rattle.meaning_numbers.proofs.Prelude.{_≡_, refl, sym, ap, _∙_, List, [], _∷_, _++_, map, ℕ, zero, suc, _+_, _-_, _<_, _≤_, arith, decLt, length, getD, replicate, length-append, length-replicate, List·getD-append, ext-getD, getD-append-add}
 use Rattle.meaning_rows.specs.Build.{entry}
-use Rattle.meaning_rows.proofs.Columns as Columns
 use Rattle.meaning_entries.specs.Buffers.{filled, lefts, rights}
+use Rattle.meaning_rows.proofs.Columns as Columns
 
 pub zeros : {A : Type 0} (a : A) (n x : ℕ) → getD (replicate n a) x a ≡ a
 zeros a zero x = refl

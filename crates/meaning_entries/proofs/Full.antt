@@ -1,25 +1,10 @@
 -- What a search that kept its promise and answered 24 has listed: the first of the matches that it means, as many as the list holds (`full-listed`), and through an index that passes the first of all matches (`full-all`).
-use mathlib.Core.Path.{_≡_, refl, sym, ap, _∙_}
-use mathlib.Core.Option.{Option, none, some}
-use Prim.Native.Nat.{ℕ, _<_}
-use native.Mathlib.Omega.{arith}
-use native.Mathlib.Decide.{decLe}
-use lib.ListN.{length, take}
-use lib.Seq.{length-take-le}
+use Rattle.meaning_numbers.proofs.Prelude.{_≡_, refl, sym, ap, _∙_, Option, none, some, ℕ, _<_, arith, decLe, length, take, length-take-le}
 use Rattle.meaning_filter.specs.Matches.{allMatches}
 use Rattle.meaning_filter.proofs.Matches.{all-found}
-use Rattle.meaning_entries.specs.declared.Found.{Found}
-use Rattle.meaning_entries.specs.Refusal.{firstRefusal}
-use Rattle.meaning_entries.specs.Buffers.{filled}
-use Rattle.meaning_entries.specs.Audit.{Passes}
+use Rattle.meaning_entries.specs.{declared.Found.Found, Refusal.firstRefusal, Buffers.filled, Audit.Passes, Demand2.SearchKept, Demand3.pairs}
 use Rattle.meaning_entries.specs.Search.{SearchCall, SearchBuffers, question, listRoom, searchMatches, searchCandidates, searchPlan, searchAnswer, lookedAfter}
-use Rattle.meaning_entries.specs.Demand2.{SearchKept}
-use Rattle.meaning_entries.specs.Demand3.{pairs}
-use Rattle.meaning_entries.proofs.Refusal.{is-passed, openLines, passed-line}
-use Rattle.meaning_entries.proofs.Lines.{query-line, scale-line}
-use Rattle.meaning_entries.proofs.Looked.{plan-refused, plan-all, plan-full}
-use Rattle.meaning_entries.proofs.Listed.{pairs-back}
-use Rattle.meaning_entries.proofs.Passes.{passes-reached}
+use Rattle.meaning_entries.proofs.{Refusal.is-passed, Refusal.openLines, Refusal.passed-line, Lines.query-line, Lines.scale-line, Looked.plan-refused, Looked.plan-all, Looked.plan-full, Listed.pairs-back, Passes.passes-reached}
 
 -- 24: nothing refuses before the search looks, the counts are those meant, and there are more matches than the list holds
 pub record FullAnswered (c : SearchCall) (b : SearchBuffers) (candidates count : ℕ) : Type 0 where

@@ -1,18 +1,7 @@
 -- What is known where a line of a table does not apply; and back, for lines that several tables have.
-use mathlib.Core.Path.{_≡_, refl, ap}
-use mathlib.Core.Bool.{Bool, false, not, _||_}
-use mathlib.Core.List.{List}
-use mathlib.Core.Option.{none}
-use Prim.Native.Nat.{ℕ, _≤_}
-use lib.Dec.{T, ltb, nltb→le}
-use lib.IntN.{ℤ, pos, _-ℤ_}
-use lib.ListN.{length}
-use lib.Signed.{ltZ, ltZ-no, _≤ℤ_}
-use borrow.Author.Tests.{le-ltb}
 use Rattle.meaning_numbers.specs.Order.{within}
-use Rattle.meaning_numbers.proofs.Machine.{le-ltZ}
-use Rattle.meaning_numbers.proofs.Tests.{is-true, is-false, not-not, neither}
 use Rattle.meaning_numbers.proofs.Between.{Between, within-yes}
+use Rattle.meaning_numbers.proofs.Prelude.{_≡_, refl, ap, Bool, false, not, _||_, List, none, ℕ, _≤_, T, ltb, nltb→le, ℤ, pos, _-ℤ_, length, ltZ, ltZ-no, _≤ℤ_, le-ltb, le-ltZ, is-true, is-false, not-not, neither}
 use Rattle.meaning_curves.specs.Limits.{lengthIn, windowIn, widthIn, mergeIn, queryLengthIn, bandIn, thresholdIn, scaleIn, shiftIn, firstOutside}
 use Rattle.meaning_curves.proofs.Values.{AllIn, none-outside}
 use Rattle.meaning_rows.specs.Index.{Index}

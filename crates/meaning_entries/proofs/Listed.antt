@@ -1,19 +1,7 @@
 -- What a search that kept its promise and was not refused has listed: the matches that it means, all of them (`listed-is`). The list's buffer begins with them, as many as the answer says.
-use mathlib.Core.Path.{_≡_, refl, ap}
-use mathlib.Core.Bool.{Bool, true, false}
-use mathlib.Core.List.{List, [], _∷_, _++_, map}
-use mathlib.Core.Option.{Option, none, some}
-use Prim.Native.Nat.{ℕ, _≤_}
-use native.Mathlib.Omega.{arith}
-use lib.Dec.{eqb, ltb, nltb→le}
-use lib.ListN.{length, take}
-use lib.Seq.{take-all}
-use Rattle.meaning_entries.specs.declared.Found.{Found}
-use Rattle.meaning_entries.specs.Refusal.{firstRefusal}
-use Rattle.meaning_entries.specs.Buffers.{filled}
+use Rattle.meaning_numbers.proofs.Prelude.{_≡_, refl, ap, Bool, true, false, List, [], _∷_, _++_, map, Option, none, some, ℕ, _≤_, arith, eqb, ltb, nltb→le, length, take, take-all}
+use Rattle.meaning_entries.specs.{declared.Found.Found, Refusal.firstRefusal, Buffers.filled, Demand2.SearchKept, Demand3.pairs}
 use Rattle.meaning_entries.specs.Search.{SearchCall, SearchBuffers, listRoom, searchMatches, searchCandidates, searchPlan, searchTable, looked, searchRefused, searchAnswer, lookedAfter, searchAfter}
-use Rattle.meaning_entries.specs.Demand2.{SearchKept}
-use Rattle.meaning_entries.specs.Demand3.{pairs}
 use Rattle.meaning_entries.proofs.Refusal.{is-passed, openLines, passed-line, not-if}
 
 -- the first entries of two columns with anything behind them are the pairs that they were made of

@@ -1,35 +1,14 @@
 -- What a build that is not refused makes passes against its series (`build-passes`); so does what an extension makes of an index that passes against the part of the series that it has windows for (`extend-passes`). Each has at most as many rows and runs as windows.
 -- So what the search program lists is all matches (`program-all`).
-use mathlib.Core.Path.{_≡_, refl}
-use mathlib.Core.Bool.{Bool, not}
-use mathlib.Core.List.{List}
-use mathlib.Core.Option.{none}
-use Prim.Native.Nat.{ℕ, _+_, _-_, _≤_}
-use native.Mathlib.Omega.{arith}
-use lib.Dec.{T}
-use lib.IntN.{ℤ, pos, natAbs, _-ℤ_}
-use lib.ListN.{length, take}
-use Rattle.meaning_numbers.proofs.Rep.{zarith, z-add, z-sub}
-use Rattle.meaning_numbers.proofs.Tests.{not-not}
+use Rattle.meaning_numbers.proofs.Prelude.{_≡_, refl, Bool, not, List, none, ℕ, _+_, _-_, _≤_, arith, T, ℤ, pos, natAbs, _-ℤ_, length, take, zarith, z-add, z-sub, not-not}
 use Rattle.meaning_curves.specs.Limits.{mostValues, mostProgramValues, lengthIn, firstOutside}
-use Rattle.meaning_rows.specs.Build.{built}
-use Rattle.meaning_rows.specs.Extend.{extended}
-use Rattle.meaning_rows.proofs.Judge.{is-within, WellFormed}
+use Rattle.meaning_rows.specs.{Build.built, Extend.extended}
+use Rattle.meaning_rows.proofs.{Judge.is-within, Judge.WellFormed, Extend.Extendable, Extend.extended-well-formed, Extend.extended-filed, Extend.extended-most}
 use Rattle.meaning_rows.proofs.BuiltPasses.{Buildable, built-well-formed, built-filed, built-most}
-use Rattle.meaning_rows.proofs.Extend.{Extendable, extended-well-formed, extended-filed, extended-most}
 use Rattle.meaning_filter.specs.Matches.{allMatches}
-use Rattle.meaning_filter.proofs.Candidates.{filed-reached}
-use Rattle.meaning_filter.proofs.Matches.{all-found}
-use Rattle.meaning_entries.specs.Refusal.{atZero, firstRefusal, windowOutside, widthOutside}
-use Rattle.meaning_entries.specs.Buffers.{IndexBuffers}
-use Rattle.meaning_entries.specs.Audit.{Passes}
-use Rattle.meaning_entries.specs.Build.{BuildCall, buildTable, buildRefusal, buildIndex, buildWindows}
-use Rattle.meaning_entries.specs.Search.{question, searchMatches}
-use Rattle.meaning_entries.specs.Program.{textProgram, callLines, programTable, programIndex, programSearch}
-use Rattle.meaning_entries.specs.Extend.{ExtendCall, extendTable, extendRefusal, extendIndex, extendWindows}
-use Rattle.meaning_entries.proofs.Refusal.{is-passed, openLines, passed-line, not-if}
-use Rattle.meaning_entries.proofs.Lines.{long-line, window-line, width-line, formed-line, more-line, query-line, scale-line}
-use Rattle.meaning_entries.proofs.Passes.{Passed, passed, passes}
+use Rattle.meaning_filter.proofs.{Candidates.filed-reached, Matches.all-found}
+use Rattle.meaning_entries.specs.{Refusal.atZero, Refusal.firstRefusal, Refusal.windowOutside, Refusal.widthOutside, Buffers.IndexBuffers, Audit.Passes, Build.BuildCall, Build.buildTable, Build.buildRefusal, Build.buildIndex, Build.buildWindows, Search.question, Search.searchMatches, Program.textProgram, Program.callLines, Program.programTable, Program.programIndex, Program.programSearch, Extend.ExtendCall, Extend.extendTable, Extend.extendRefusal, Extend.extendIndex, Extend.extendWindows}
+use Rattle.meaning_entries.proofs.{Refusal.is-passed, Refusal.openLines, Refusal.passed-line, Refusal.not-if, Lines.long-line, Lines.window-line, Lines.width-line, Lines.formed-line, Lines.more-line, Lines.query-line, Lines.scale-line, Passes.Passed, Passes.passed, Passes.passes}
 
 -- a test that does not refuse where its failing would
 holds : (n : ℕ) (t : Bool) → atZero n (not t) .place ≡ none → T t

@@ -1,31 +1,10 @@
 -- Each promise leaves one outcome: an entry that keeps it gives the answer that is meant and leaves the buffers that are meant. The converse of `Demand2`.
-use mathlib.Core.Path.{_≡_, refl, sym, ap, _∙_}
-use mathlib.Core.List.{List}
-use mathlib.Core.Option.{Option, none, some}
-use Prim.Native.Nat.{ℕ}
-use lib.IntN.{ℤ, pos}
-use Rattle.meaning_filter.specs.declared.Ask.{Ask}
+use Rattle.meaning_numbers.proofs.Prelude.{_≡_, refl, sym, ap, _∙_, List, Option, none, some, ℕ, ℤ, pos}
 use Rattle.meaning_rows.specs.Index.{Index}
-use Rattle.meaning_entries.specs.declared.Built.{Built}
-use Rattle.meaning_entries.specs.declared.Extended.{Extended}
-use Rattle.meaning_entries.specs.declared.Audited.{Audited}
-use Rattle.meaning_entries.specs.declared.Written.{Written}
-use Rattle.meaning_entries.specs.declared.Loaded.{Loaded}
-use Rattle.meaning_entries.specs.declared.Found.{Found}
-use Rattle.meaning_entries.specs.Refusal.{firstRefusal}
-use Rattle.meaning_entries.specs.Buffers.{IndexBuffers}
-use Rattle.meaning_entries.specs.Build.{BuildCall, lentBuild, buildAnswer, buildAfter}
-use Rattle.meaning_entries.specs.Extend.{ExtendCall, extendAnswer, extendAfter}
-use Rattle.meaning_entries.specs.Audit.{AuditCall, auditAnswer}
-use Rattle.meaning_entries.specs.Write.{writeAnswer, writeAfter}
-use Rattle.meaning_entries.specs.Load.{loadAnswer, loadAfter}
-use Rattle.meaning_entries.specs.Search.{SearchCall, SearchBuffers, lentAsk, plainAsk, searchAnswer, searchAfter}
-use Rattle.meaning_entries.specs.AuditText.{auditTextAnswer, auditText, unpack}
-use Rattle.meaning_entries.specs.Program.{programTable, program}
-use Rattle.meaning_entries.specs.Demand1.{ProgramRefuses}
+use Rattle.meaning_filter.specs.declared.Ask.{Ask}
+use Rattle.meaning_entries.specs.{declared.Built.Built, declared.Extended.Extended, declared.Audited.Audited, declared.Written.Written, declared.Loaded.Loaded, declared.Found.Found, Refusal.firstRefusal, Buffers.IndexBuffers, Build.BuildCall, Build.lentBuild, Build.buildAnswer, Build.buildAfter, Extend.ExtendCall, Extend.extendAnswer, Extend.extendAfter, Audit.AuditCall, Audit.auditAnswer, Write.writeAnswer, Write.writeAfter, Load.loadAnswer, Load.loadAfter, Search.SearchCall, Search.SearchBuffers, Search.lentAsk, Search.plainAsk, Search.searchAnswer, Search.searchAfter, AuditText.auditTextAnswer, AuditText.auditText, AuditText.unpack, Program.programTable, Program.program, Demand1.ProgramRefuses}
 use Rattle.meaning_entries.specs.Demand2.{BuildKept, ExtendKept, AuditKept, WriteKept, LoadKept, SearchKept, AuditTextKept, ProgramKept}
-use Rattle.meaning_entries.proofs.Demand1.{program-by, program-free}
-use Rattle.meaning_entries.proofs.Pack.{audit-text-back}
+use Rattle.meaning_entries.proofs.{Demand1.program-by, Demand1.program-free, Pack.audit-text-back}
 
 pub build-only : {c : BuildCall} {b : IndexBuffers} {a : Built} {after : IndexBuffers} → BuildKept c b a after → (a ≡ buildAnswer c b) × (after ≡ buildAfter c b)
 build-only k = (k .answered, λ i. record { rows = k .rows i; left = k .left i; right = k .right i })

@@ -1,24 +1,9 @@
 -- The number of the C entry tells the answer again: `unpack` is inverse to `pack` for every answer that the audit of two texts gives (`audit-text-back`), since the numbers of refusals are below 32 and the offsets of a well-formed index below the most windows.
-use mathlib.Core.Path.{_≡_, refl, sym, ap, ap₂, _∙_, subst}
-use mathlib.Core.Bool.{Bool, true, false, _&&_}
-use mathlib.Core.List.{List, [], _∷_}
-use mathlib.Core.Option.{Option, none, some}
-use Prim.Native.Nat.{ℕ, zero, suc, _+_, _*_, _/_, _%_, _<_}
-use native.Mathlib.Omega.{arith}
-use lib.Dec.{T, eqb, eqb→eq, ltb, ltb→lt}
-use lib.IntN.{ℤ}
-use lib.ListN.{getD}
-use Rattle.meaning_numbers.proofs.Tests.{two-tests}
+use Rattle.meaning_numbers.proofs.Prelude.{_≡_, refl, sym, ap, ap₂, _∙_, subst, Bool, true, false, _&&_, List, [], _∷_, Option, none, some, ℕ, zero, suc, _+_, _*_, _/_, _%_, _<_, arith, T, eqb, eqb→eq, ltb, ltb→lt, ℤ, getD, two-tests}
 use Rattle.meaning_curves.specs.Limits.{mostValues}
-use Rattle.meaning_rows.specs.Index.{zeroRow, Index}
-use Rattle.meaning_rows.specs.Judge.{firstBadRow}
-use Rattle.meaning_rows.specs.Audit.{firstWrong, missing}
-use Rattle.meaning_rows.proofs.Judge.{well-formed, row-at, stands-below}
-use Rattle.meaning_rows.proofs.Audit.{first-wrong}
-use Rattle.meaning_entries.specs.declared.Audited.{Audited}
-use Rattle.meaning_entries.specs.Refusal.{Condition, firstRefusal}
-use Rattle.meaning_entries.specs.Audit.{AuditCall, auditTable, complete, audited}
-use Rattle.meaning_entries.specs.Load.{textIndex}
+use Rattle.meaning_rows.specs.{Index.zeroRow, Index.Index, Judge.firstBadRow, Audit.firstWrong, Audit.missing}
+use Rattle.meaning_rows.proofs.{Judge.well-formed, Judge.row-at, Judge.stands-below, Audit.first-wrong}
+use Rattle.meaning_entries.specs.{declared.Audited.Audited, Refusal.Condition, Refusal.firstRefusal, Audit.AuditCall, Audit.auditTable, Audit.complete, Audit.audited, Load.textIndex}
 use Rattle.meaning_entries.specs.AuditText.{textCall, auditTextTable, auditTextAnswer, packRefusal, pack, unpackBy, unpack, auditText}
 use Rattle.meaning_entries.proofs.Refusal.{First, here, later, is-passed, is-first, openLines, passed-line}
 

@@ -1,26 +1,11 @@
 -- What it says that an index passes against a series (`passed`): it is well formed, it has n - w + 1 windows, and each stands in the row that holds its sum and in no other; and back (`passes`). So every window can be reached by the filter (`passes-reached`), and on a yes the run lengths total the windows (`passes-total`).
-use mathlib.Core.Path.{_≡_, refl}
-use mathlib.Core.List.{List}
-use mathlib.Core.Option.{Option, none, some}
-use Prim.Native.Nat.{ℕ, zero, suc, _+_}
-use native.Mathlib.Omega.{arith}
-use lib.Dec.{T}
-use lib.IntN.{ℤ, pos, natAbs, _-ℤ_}
-use lib.ListN.{length}
-use lib.Signed.{_≤ℤ_}
-use Rattle.meaning_numbers.proofs.Rep.{zarith, z-add, z-sub}
+use Rattle.meaning_numbers.proofs.Prelude.{_≡_, refl, List, Option, none, some, ℕ, zero, suc, _+_, arith, T, ℤ, pos, natAbs, _-ℤ_, length, _≤ℤ_, zarith, z-add, z-sub}
 use Rattle.meaning_curves.specs.Limits.{mostValues, lengthIn, firstOutside}
-use Rattle.meaning_rows.specs.Index.{Index}
-use Rattle.meaning_rows.specs.Audit.{firstWrong, missing}
-use Rattle.meaning_rows.specs.Judge.{lengthTotal}
-use Rattle.meaning_rows.proofs.Judge.{WellFormed, none-bad}
-use Rattle.meaning_rows.proofs.Audit.{Filed, audit-yes, filed-passes, yes-total}
+use Rattle.meaning_rows.specs.{Index.Index, Audit.firstWrong, Audit.missing, Judge.lengthTotal}
+use Rattle.meaning_rows.proofs.{Judge.WellFormed, Judge.none-bad, Audit.Filed, Audit.audit-yes, Audit.filed-passes, Audit.yes-total}
 use Rattle.meaning_filter.proofs.Candidates.{Reached, filed-reached}
-use Rattle.meaning_entries.specs.declared.Audited.{Audited}
-use Rattle.meaning_entries.specs.Refusal.{firstRefusal, illFormed, windowsOf}
-use Rattle.meaning_entries.specs.Audit.{AuditCall, auditTable, complete, audited, auditAnswer, Passes}
-use Rattle.meaning_entries.proofs.Refusal.{more, passed-is, passed-join, is-passed, openLines, passed-line}
-use Rattle.meaning_entries.proofs.Lines.{formed-line, fewer-line, more-line, series-passes, count-passes}
+use Rattle.meaning_entries.specs.{declared.Audited.Audited, Refusal.firstRefusal, Refusal.illFormed, Refusal.windowsOf, Audit.AuditCall, Audit.auditTable, Audit.complete, Audit.audited, Audit.auditAnswer, Audit.Passes}
+use Rattle.meaning_entries.proofs.{Refusal.more, Refusal.passed-is, Refusal.passed-join, Refusal.is-passed, Refusal.openLines, Refusal.passed-line, Lines.formed-line, Lines.fewer-line, Lines.more-line, Lines.series-passes, Lines.count-passes}
 
 -- yes is said where nothing refuses, nothing is filed wrongly and nothing is missing
 record Yes (c : AuditCall) : Type 0 where

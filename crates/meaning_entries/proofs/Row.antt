@@ -1,24 +1,10 @@
 -- Rows of the table of cases that are whole texts: what goes in, and what must come out.
-use mathlib.Core.Bool.{Bool, false}
-use mathlib.Core.List.{List, _++_}
-use Prim.Native.Nat.{ℕ}
 use Prim.Native.String.{String}
-use lib.Dec.{eqb}
-use lib.IntN.{pos}
-use lib.ListN.{replicate}
 use Rattle.meaning_numbers.proofs.Table.{sameList}
+use Rattle.meaning_numbers.proofs.Prelude.{Bool, false, List, _++_, ℕ, eqb, pos, replicate}
 use Rattle.meaning_rows.specs.Index.{zeroRow, Index}
-use Rattle.meaning_text.specs.Bytes.{bytes}
-use Rattle.meaning_text.specs.Number.{spellℤ}
-use Rattle.meaning_text.specs.Form.{both}
-use Rattle.meaning_text.specs.Read.{fine, unfit, readText}
-use Rattle.meaning_text.specs.Texts.{indexForm, seriesForm, indexSaid, indexText, refusedText}
-use Rattle.meaning_entries.specs.declared.Audited.{Audited}
-use Rattle.meaning_entries.specs.declared.Extended.{Extended}
-use Rattle.meaning_entries.specs.Buffers.{IndexBuffers}
-use Rattle.meaning_entries.specs.Extend.{ExtendCall, extendAnswer, extendIndex}
-use Rattle.meaning_entries.specs.AuditText.{auditText, unpack}
-use Rattle.meaning_entries.specs.Program.{program}
+use Rattle.meaning_text.specs.{Bytes.bytes, Number.spellℤ, Form.both, Read.fine, Read.unfit, Read.readText, Texts.indexForm, Texts.seriesForm, Texts.indexSaid, Texts.indexText, Texts.refusedText}
+use Rattle.meaning_entries.specs.{declared.Audited.Audited, declared.Extended.Extended, Buffers.IndexBuffers, Extend.ExtendCall, Extend.extendAnswer, Extend.extendIndex, AuditText.auditText, AuditText.unpack, Program.program}
 
 same : List ℕ → String → Bool
 same t s = sameList eqb t (bytes s)

@@ -1,28 +1,13 @@
 -- What stands in the buffers after a build that answered an index passes against the series (`build-stands`); so does what an extension leaves there, if the old index passes against the part of the series that it has windows for (`extend-stands`).
 -- Each has at most as many rows and runs as windows. Both are laws of the promises, so of every function that keeps them.
-use mathlib.Core.Path.{_≡_, refl, sym, ap, subst, _∙_}
-use mathlib.Core.List.{List, [], _∷_, _++_, map}
-use mathlib.Core.Option.{Option, none, some}
-use Prim.Native.Nat.{ℕ, _+_, _-_, _≤_}
-use native.Mathlib.Omega.{arith}
-use lib.IntN.{ℤ, pos, natAbs}
-use lib.ListN.{length, take, replicate, length-map}
-use lib.Seq.{take-append-seam}
+use Rattle.meaning_numbers.proofs.Prelude.{_≡_, refl, sym, ap, subst, _∙_, List, [], _∷_, _++_, map, Option, none, some, ℕ, _+_, _-_, _≤_, arith, ℤ, pos, natAbs, length, take, replicate, length-map, take-append-seam}
 use Rattle.meaning_curves.specs.Curve.{windowSum, windowCount}
-use Rattle.meaning_rows.specs.declared.Row.{Row}
-use Rattle.meaning_rows.specs.declared.Head.{Head}
-use Rattle.meaning_rows.specs.Runs.{runs}
-use Rattle.meaning_rows.specs.Index.{zeroRow, Index, Entry, entries, lent, laidOut, allRuns}
+use Rattle.meaning_rows.specs.{declared.Row.Row, declared.Head.Head, Runs.runs}
 use Rattle.meaning_rows.specs.Build.{SetRow, filed, merged, entry, withRuns, builtRows, built}
 use Rattle.meaning_rows.specs.Extend.{insertRows, added, newNumbers, grown, extendedRows, extended}
-use Rattle.meaning_entries.specs.declared.Built.{Built}
-use Rattle.meaning_entries.specs.declared.Extended.{Extended}
-use Rattle.meaning_entries.specs.Buffers.{IndexBuffers, filled, lefts, rights, indexIn}
-use Rattle.meaning_entries.specs.Answers.{headOf}
-use Rattle.meaning_entries.specs.Build.{BuildCall, lentBuild, buildIndex, buildHead, buildCounts, buildAfter, buildWindows}
+use Rattle.meaning_rows.specs.Index.{zeroRow, Index, Entry, entries, lent, laidOut, allRuns}
+use Rattle.meaning_entries.specs.{declared.Built.Built, declared.Extended.Extended, Buffers.IndexBuffers, Buffers.filled, Buffers.lefts, Buffers.rights, Buffers.indexIn, Answers.headOf, Build.BuildCall, Build.lentBuild, Build.buildIndex, Build.buildHead, Build.buildCounts, Build.buildAfter, Build.buildWindows, Audit.Passes, Demand2.BuildKept, Demand2.ExtendKept}
 use Rattle.meaning_entries.specs.Extend.{ExtendCall, lentExtend, extendIndex, extendHead, extendCounts, extendAfter, extendWindows}
-use Rattle.meaning_entries.specs.Audit.{Passes}
-use Rattle.meaning_entries.specs.Demand2.{BuildKept, ExtendKept}
 use Rattle.meaning_entries.proofs.Made.{build-passes, build-most, extend-passes, extend-most}
 
 -- an index of n rows and k runs out of buffers

@@ -1,18 +1,7 @@
 -- 01: texts are read first (12), then the lowest number that applies wins. A table's first line that applies is the first by `order`, since the lines of each table follow it. By computation.
-use mathlib.Core.List.{List}
-use Prim.Native.Nat.{ℕ}
-use lib.Dec.{T}
+use Rattle.meaning_numbers.proofs.Prelude.{List, ℕ, T}
 use Rattle.meaning_rows.specs.Index.{Index}
-use Rattle.meaning_entries.specs.Refusal.{order, follows}
-use Rattle.meaning_entries.specs.Buffers.{IndexBuffers}
-use Rattle.meaning_entries.specs.Build.{BuildCall, buildTable}
-use Rattle.meaning_entries.specs.Extend.{ExtendCall, extendTable}
-use Rattle.meaning_entries.specs.Audit.{AuditCall, auditTable}
-use Rattle.meaning_entries.specs.Write.{writeTable}
-use Rattle.meaning_entries.specs.Load.{loadTable}
-use Rattle.meaning_entries.specs.Search.{SearchCall, SearchBuffers, searchPlan, searchTable}
-use Rattle.meaning_entries.specs.AuditText.{auditTextTable}
-use Rattle.meaning_entries.specs.Program.{callLines, programTable}
+use Rattle.meaning_entries.specs.{Refusal.order, Refusal.follows, Buffers.IndexBuffers, Build.BuildCall, Build.buildTable, Extend.ExtendCall, Extend.extendTable, Audit.AuditCall, Audit.auditTable, Write.writeTable, Load.loadTable, Search.SearchCall, Search.SearchBuffers, Search.searchPlan, Search.searchTable, AuditText.auditTextTable, Program.callLines, Program.programTable}
 use Rattle.meaning_entries.proofs.Refusal.{openLines}
 
 unfoldable openTables : Unit {0}

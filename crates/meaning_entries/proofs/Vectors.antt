@@ -1,6 +1,5 @@
 -- Cases from files: made by tests/make_cases.py from tests/vectors, and not edited by hand.
-use mathlib.Core.Bool.{Bool}
-use mathlib.Core.List.{List, [], _∷_}
+use Rattle.meaning_numbers.proofs.Prelude.{Bool, List, [], _∷_}
 use Rattle.meaning_entries.proofs.Row.{prints, audits, extends}
 
 unfoldable pub vectors : List Bool

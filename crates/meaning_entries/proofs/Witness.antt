@@ -1,19 +1,9 @@
 -- Demand 3 is not empty: searches that it speaks of exist. Of the worked series, all four queries, each through two indexes with other w, d and g. By computation.
-use mathlib.Core.Path.{_≡_, refl}
-use mathlib.Core.List.{List, [], _∷_}
-use Prim.Native.Nat.{ℕ}
-use lib.IntN.{ℤ, pos}
-use lib.ListN.{replicate}
-use Rattle.meaning_rows.specs.Index.{Index}
-use Rattle.meaning_rows.specs.Build.{built}
-use Rattle.meaning_filter.specs.declared.Kind.{Kind}
-use Rattle.meaning_filter.specs.declared.Kind.the-variants.{Raw, Normal}
-use Rattle.meaning_entries.specs.declared.Found.{Found}
-use Rattle.meaning_entries.specs.Audit.{Passes}
-use Rattle.meaning_entries.specs.Search.{SearchCall, SearchBuffers, searchAnswer, searchAfter}
-use Rattle.meaning_entries.specs.Demand3.{listIn, Searched}
-use Rattle.meaning_entries.proofs.Open.{openEntries}
-use Rattle.meaning_entries.proofs.Demand2.{search-kept}
+use Rattle.meaning_numbers.proofs.Prelude.{_≡_, refl, List, [], _∷_, ℕ, ℤ, pos, replicate}
+use Rattle.meaning_rows.specs.{Index.Index, Build.built}
+use Rattle.meaning_filter.specs.{declared.Kind.Kind, declared.Kind.the-variants.Raw, declared.Kind.the-variants.Normal}
+use Rattle.meaning_entries.specs.{declared.Found.Found, Audit.Passes, Search.SearchCall, Search.SearchBuffers, Search.searchAnswer, Search.searchAfter, Demand3.listIn, Demand3.Searched}
+use Rattle.meaning_entries.proofs.{Open.openEntries, Demand2.search-kept}
 
 series : List ℤ
 series = pos 1 ∷ pos 2 ∷ pos 4 ∷ pos 3 ∷ pos 1 ∷ []

@@ -1,16 +1,9 @@
 -- Document 01's number, place, counts and values for each case of each answer. A refusal gives counts 0, except 24.
-use mathlib.Core.Option.{Option, none, some}
 use Prim.Native.Nat.{ℕ}
 use lib.IntN.{natAbs}
-use Rattle.meaning_rows.specs.declared.Head.{Head}
-use Rattle.meaning_rows.specs.Index.{Index}
-use Rattle.meaning_entries.specs.declared.Built.{Built}
-use Rattle.meaning_entries.specs.declared.Extended.{Extended}
-use Rattle.meaning_entries.specs.declared.Audited.{Audited}
-use Rattle.meaning_entries.specs.declared.Written.{Written}
-use Rattle.meaning_entries.specs.declared.Loaded.{Loaded}
-use Rattle.meaning_entries.specs.declared.Found.{Found}
-use Rattle.meaning_entries.specs.declared.Both.{Both}
+use mathlib.Core.Option.{Option, none, some}
+use Rattle.meaning_rows.specs.{declared.Head.Head, Index.Index}
+use Rattle.meaning_entries.specs.{declared.Built.Built, declared.Extended.Extended, declared.Audited.Audited, declared.Written.Written, declared.Loaded.Loaded, declared.Found.Found, declared.Both.Both}
 
 -- the head of an index that is well formed
 abbrev pub headOf : Index → Head

@@ -1,17 +1,13 @@
 -- The entry audit, and what it is for an index to pass against a series.
-use mathlib.Core.Path.{_≡_}
-use mathlib.Core.List.{List, _∷_, _++_}
-use mathlib.Core.Option.{Option, none, some}
 use Prim.Native.Nat.{ℕ, zero, suc}
 use lib.IntN.{ℤ}
 use lib.ListN.{length}
+use mathlib.Core.List.{List, _∷_, _++_}
+use mathlib.Core.Option.{Option, none, some}
+use mathlib.Core.Path.{_≡_}
 use Rattle.meaning_curves.specs.Limits.{mostValues}
-use Rattle.meaning_rows.specs.declared.Row.{Row}
-use Rattle.meaning_rows.specs.declared.Head.{Head}
-use Rattle.meaning_rows.specs.Index.{Index, lent}
-use Rattle.meaning_rows.specs.Audit.{firstWrong, missing}
-use Rattle.meaning_entries.specs.declared.Audited.{Audited}
-use Rattle.meaning_entries.specs.Refusal.{Condition, firstRefusal, illFormed, seriesLines, countLines}
+use Rattle.meaning_rows.specs.{declared.Row.Row, declared.Head.Head, Index.Index, Index.lent, Audit.firstWrong, Audit.missing}
+use Rattle.meaning_entries.specs.{declared.Audited.Audited, Refusal.Condition, Refusal.firstRefusal, Refusal.illFormed, Refusal.seriesLines, Refusal.countLines}
 
 -- the series, and the index that is to have its windows
 pub record AuditCall : Type 0 where

@@ -1,18 +1,13 @@
 -- The audit of two texts, as the payout program calls it: index text and series line as bytes, a number as the answer.
-use mathlib.Core.Bool.{true, false}
-use mathlib.Core.List.{List, [], _∷_}
-use mathlib.Core.Option.{none, some}
 use Prim.Native.Nat.{ℕ, zero, suc, _+_, _*_, _/_, _%_}
 use lib.Dec.{eqb}
 use lib.IntN.{ℤ}
+use mathlib.Core.Bool.{true, false}
+use mathlib.Core.List.{List, [], _∷_}
+use mathlib.Core.Option.{none, some}
 use Rattle.meaning_curves.specs.Limits.{mostValues, mostProgramValues}
-use Rattle.meaning_text.specs.Bytes.{newlines}
-use Rattle.meaning_text.specs.Read.{fine, unfit, readText}
-use Rattle.meaning_text.specs.Texts.{indexForm, seriesForm}
-use Rattle.meaning_entries.specs.declared.Audited.{Audited}
-use Rattle.meaning_entries.specs.Refusal.{Condition, firstRefusal, unreadable}
-use Rattle.meaning_entries.specs.Audit.{AuditCall, auditTable, audited}
-use Rattle.meaning_entries.specs.Load.{textIndex}
+use Rattle.meaning_text.specs.{Bytes.newlines, Read.fine, Read.unfit, Read.readText, Texts.indexForm, Texts.seriesForm}
+use Rattle.meaning_entries.specs.{declared.Audited.Audited, Refusal.Condition, Refusal.firstRefusal, Refusal.unreadable, Audit.AuditCall, Audit.auditTable, Audit.audited, Load.textIndex}
 
 -- the series that a line gives; of a line that cannot be read nothing is asked
 unfoldable pub textSeries : List ℕ → List ℤ

@@ -1,21 +1,13 @@
 -- Demand 3 as one call: a series audited against two indexes, and searched for one query through both, each search with buffers of its own. `c` is the first search, `through x c` the same through the other index.
 -- What is answered, in the order in which it is looked at: both audits, then both searches. An audit that does not say yes, or a search that is refused, by 24 too, stands in the way, and the first that does is told.
-use mathlib.Core.Bool.{Bool, true, false, cond}
-use mathlib.Core.Option.{Option, none, some}
 use Prim.Native.Nat.{ℕ}
 use lib.ListN.{length}
+use mathlib.Core.Bool.{Bool, true, false, cond}
+use mathlib.Core.Option.{Option, none, some}
+use mathlib.Core.Path.{_≡_}
 use Rattle.meaning_curves.specs.Limits.{mostValues}
 use Rattle.meaning_rows.specs.Index.{Index}
-use Rattle.meaning_entries.specs.declared.Audited.{Audited}
-use Rattle.meaning_entries.specs.declared.Found.{Found}
-use Rattle.meaning_entries.specs.declared.Both.{Both}
-use Rattle.meaning_entries.specs.Refusal.{firstRefusal}
-use Rattle.meaning_entries.specs.Audit.{AuditCall, auditTable, auditAnswer, auditWrong, auditMissing, Passes}
-use Rattle.meaning_entries.specs.Search.{SearchCall, SearchBuffers, searchMatches, searchRefusal, searchAnswer, searchCounts}
-use Rattle.meaning_entries.specs.Demand3.{through, listIn, SameMatches}
-use mathlib.Core.Path.{_≡_}
-use Rattle.meaning_entries.specs.Answers.{bothRefusal, bothWrong, bothMissing, bothCounts, bothFound}
-use Rattle.meaning_entries.specs.Demand2.{SearchKept}
+use Rattle.meaning_entries.specs.{declared.Audited.Audited, declared.Found.Found, declared.Both.Both, Refusal.firstRefusal, Audit.AuditCall, Audit.auditTable, Audit.auditAnswer, Audit.auditWrong, Audit.auditMissing, Audit.Passes, Search.SearchCall, Search.SearchBuffers, Search.searchMatches, Search.searchRefusal, Search.searchAnswer, Search.searchCounts, Demand3.through, Demand3.listIn, Demand3.SameMatches, Answers.bothRefusal, Answers.bothWrong, Answers.bothMissing, Answers.bothCounts, Answers.bothFound, Demand2.SearchKept}
 
 unfoldable pub yes : Audited → Bool
 yes Audited.Yes = true

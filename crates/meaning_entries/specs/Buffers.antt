@@ -1,10 +1,9 @@
 -- Lent buffers, and what stands in them afterwards: the written entries first, 0 in every unused one (01, after the tables of refusals).
-use mathlib.Core.List.{List, _++_, map}
 use Prim.Native.Nat.{ℕ, _-_, min}
 use lib.IntN.{natAbs}
 use lib.ListN.{length, replicate}
-use Rattle.meaning_rows.specs.declared.Row.{Row}
-use Rattle.meaning_rows.specs.Index.{zeroRow, Index, Entry}
+use mathlib.Core.List.{List, _++_, map}
+use Rattle.meaning_rows.specs.{declared.Row.Row, Index.zeroRow, Index.Index, Index.Entry}
 
 -- a buffer after it was written: the new entries, and 0 in the others
 unfoldable pub filled : {A : Type 0} → A → List A → List A → List A

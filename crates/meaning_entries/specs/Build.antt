@@ -1,18 +1,13 @@
 -- The entry build.
-use mathlib.Core.List.{List, [], _∷_, _++_}
-use mathlib.Core.Option.{Option, none, some}
 use Prim.Native.Nat.{ℕ}
 use lib.IntN.{ℤ, pos, natAbs}
 use lib.ListN.{length}
-use Rattle.meaning_curves.specs.Limits.{mostValues}
-use Rattle.meaning_curves.specs.Curve.{windowCount}
-use Rattle.meaning_rows.specs.declared.Head.{Head}
-use Rattle.meaning_rows.specs.Index.{Index}
-use Rattle.meaning_rows.specs.Build.{built}
-use Rattle.meaning_entries.specs.declared.Built.{Built}
+use mathlib.Core.List.{List, [], _∷_, _++_}
+use mathlib.Core.Option.{Option, none, some}
+use Rattle.meaning_curves.specs.{Limits.mostValues, Curve.windowCount}
+use Rattle.meaning_rows.specs.{declared.Head.Head, Index.Index, Build.built}
+use Rattle.meaning_entries.specs.{declared.Built.Built, Buffers.IndexBuffers, Buffers.runRoom, Buffers.indexIn, Answers.headOf}
 use Rattle.meaning_entries.specs.Refusal.{Condition, firstRefusal, windowOutside, widthOutside, mergeOutside, seriesLines, roomLines}
-use Rattle.meaning_entries.specs.Buffers.{IndexBuffers, runRoom, indexIn}
-use Rattle.meaning_entries.specs.Answers.{headOf}
 
 -- series, window length w, row width d, merge percentage g
 pub record BuildCall : Type 0 where

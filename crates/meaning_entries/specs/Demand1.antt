@@ -1,28 +1,13 @@
 -- Demand 1: an entry refuses by the conditions of its table and by no others, for every input. (That it takes every input and ends is what a proved function without `requires` does.)
-use mathlib.Core.Path.{_≡_}
+use Prim.Native.Nat.{ℕ}
 use mathlib.Core.List.{List}
 use mathlib.Core.Option.{Option, none, some}
-use Prim.Native.Nat.{ℕ}
+use mathlib.Core.Path.{_≡_}
+use Rattle.meaning_curves.specs.Limits.{mostValues}
 use Rattle.meaning_rows.specs.Index.{Index}
 use Rattle.meaning_text.specs.Texts.{refusedText}
-use Rattle.meaning_entries.specs.declared.Built.{Built}
-use Rattle.meaning_entries.specs.declared.Extended.{Extended}
-use Rattle.meaning_entries.specs.declared.Audited.{Audited}
-use Rattle.meaning_entries.specs.declared.Written.{Written}
-use Rattle.meaning_entries.specs.declared.Loaded.{Loaded}
-use Rattle.meaning_entries.specs.declared.Found.{Found}
-use Rattle.meaning_entries.specs.Refusal.{Condition, firstRefusal}
-use Rattle.meaning_entries.specs.Buffers.{IndexBuffers}
+use Rattle.meaning_entries.specs.{declared.Built.Built, declared.Extended.Extended, declared.Audited.Audited, declared.Written.Written, declared.Loaded.Loaded, declared.Found.Found, Refusal.Condition, Refusal.firstRefusal, Buffers.IndexBuffers, Build.BuildCall, Build.buildTable, Extend.ExtendCall, Extend.extendTable, Audit.AuditCall, Audit.auditTable, Write.writeTable, Load.loadTable, Search.SearchCall, Search.SearchBuffers, Search.searchTable, AuditText.auditTextTable, AuditText.unpack, Program.textProgram, Program.programTable, Program.printed}
 use Rattle.meaning_entries.specs.Answers.{builtRefusal, extendedRefusal, auditedRefusal, writtenRefusal, loadedRefusal, foundRefusal}
-use Rattle.meaning_curves.specs.Limits.{mostValues}
-use Rattle.meaning_entries.specs.Build.{BuildCall, buildTable}
-use Rattle.meaning_entries.specs.Extend.{ExtendCall, extendTable}
-use Rattle.meaning_entries.specs.Audit.{AuditCall, auditTable}
-use Rattle.meaning_entries.specs.Write.{writeTable}
-use Rattle.meaning_entries.specs.Load.{loadTable}
-use Rattle.meaning_entries.specs.Search.{SearchCall, SearchBuffers, searchTable}
-use Rattle.meaning_entries.specs.AuditText.{auditTextTable, unpack}
-use Rattle.meaning_entries.specs.Program.{textProgram, programTable, printed}
 
 -- what an answer refuses by, if it does, is the first line of the table that applies, with its number and place; if none applies it does not refuse
 pub record Refuses (table : List Condition) (refusal : Option (ℕ × ℕ)) : Type 0 where

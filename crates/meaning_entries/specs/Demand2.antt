@@ -1,27 +1,12 @@
 -- Demand 2: each entry keeps its promise. A record for each entry: the answer, with this paper's number, place and counts of it, and the content of every lent buffer afterwards, for every call and whatever the buffers held before.
 -- Nothing is left free but how the number of the C entry is packed (`pack`), which is ours to say.
-use mathlib.Core.Path.{_≡_}
-use mathlib.Core.List.{List}
 use Prim.Native.Nat.{ℕ}
+use mathlib.Core.List.{List}
+use mathlib.Core.Path.{_≡_}
 use Rattle.meaning_curves.specs.Limits.{mostValues}
 use Rattle.meaning_rows.specs.Index.{Index}
-use Rattle.meaning_entries.specs.declared.Built.{Built}
-use Rattle.meaning_entries.specs.declared.Extended.{Extended}
-use Rattle.meaning_entries.specs.declared.Audited.{Audited}
-use Rattle.meaning_entries.specs.declared.Written.{Written}
-use Rattle.meaning_entries.specs.declared.Loaded.{Loaded}
-use Rattle.meaning_entries.specs.declared.Found.{Found}
-use Rattle.meaning_entries.specs.Refusal.{firstRefusal}
-use Rattle.meaning_entries.specs.Buffers.{IndexBuffers}
+use Rattle.meaning_entries.specs.{declared.Built.Built, declared.Extended.Extended, declared.Audited.Audited, declared.Written.Written, declared.Loaded.Loaded, declared.Found.Found, Refusal.firstRefusal, Buffers.IndexBuffers, Build.BuildCall, Build.buildRefusal, Build.buildAnswer, Build.buildHead, Build.buildCounts, Build.buildAfter, Extend.ExtendCall, Extend.extendRefusal, Extend.extendAnswer, Extend.extendHead, Extend.extendCounts, Extend.extendAfter, Audit.AuditCall, Audit.auditTable, Audit.auditAnswer, Audit.wrongIn, Audit.missingIn, Audit.auditWrong, Audit.auditMissing, Write.writeRefusal, Write.writeAnswer, Write.writeCount, Write.writeAfter, Load.loadRefusal, Load.loadAnswer, Load.loadHead, Load.loadCounts, Load.loadAfter, Search.SearchCall, Search.SearchBuffers, Search.searchRefusal, Search.searchAnswer, Search.searchCounts, Search.searchAfter, AuditText.auditTextTable, AuditText.textCall, AuditText.auditText, AuditText.unpack, Program.program}
 use Rattle.meaning_entries.specs.Answers.{builtRefusal, builtHead, builtCounts, extendedRefusal, extendedHead, extendedCounts, auditedRefusal, wrongPlace, missingCount, writtenRefusal, writtenCount, loadedRefusal, loadedHead, loadedCounts, foundRefusal, foundCounts}
-use Rattle.meaning_entries.specs.Build.{BuildCall, buildRefusal, buildAnswer, buildHead, buildCounts, buildAfter}
-use Rattle.meaning_entries.specs.Extend.{ExtendCall, extendRefusal, extendAnswer, extendHead, extendCounts, extendAfter}
-use Rattle.meaning_entries.specs.Audit.{AuditCall, auditTable, auditAnswer, wrongIn, missingIn, auditWrong, auditMissing}
-use Rattle.meaning_entries.specs.Write.{writeRefusal, writeAnswer, writeCount, writeAfter}
-use Rattle.meaning_entries.specs.Load.{loadRefusal, loadAnswer, loadHead, loadCounts, loadAfter}
-use Rattle.meaning_entries.specs.Search.{SearchCall, SearchBuffers, searchRefusal, searchAnswer, searchCounts, searchAfter}
-use Rattle.meaning_entries.specs.AuditText.{auditTextTable, textCall, auditText, unpack}
-use Rattle.meaning_entries.specs.Program.{program}
 
 pub record BuildKept (c : BuildCall) (before : IndexBuffers) (answer : Built) (after : IndexBuffers) : Type 0 where
   pub answered : answer ≡ buildAnswer c before

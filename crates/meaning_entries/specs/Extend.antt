@@ -1,19 +1,13 @@
 -- The entry extend: the old index is lent, the result goes to fresh buffers.
-use mathlib.Core.List.{List, _∷_, _++_}
-use mathlib.Core.Option.{Option, none, some}
 use Prim.Native.Nat.{ℕ}
 use lib.IntN.{ℤ, natAbs}
 use lib.ListN.{length}
-use Rattle.meaning_curves.specs.Limits.{mostValues}
-use Rattle.meaning_curves.specs.Curve.{windowCount}
-use Rattle.meaning_rows.specs.declared.Row.{Row}
-use Rattle.meaning_rows.specs.declared.Head.{Head}
-use Rattle.meaning_rows.specs.Index.{Index, lent}
-use Rattle.meaning_rows.specs.Extend.{extended}
-use Rattle.meaning_entries.specs.declared.Extended.{Extended}
+use mathlib.Core.List.{List, _∷_, _++_}
+use mathlib.Core.Option.{Option, none, some}
+use Rattle.meaning_curves.specs.{Limits.mostValues, Curve.windowCount}
+use Rattle.meaning_rows.specs.{declared.Row.Row, declared.Head.Head, Index.Index, Index.lent, Extend.extended}
+use Rattle.meaning_entries.specs.{declared.Extended.Extended, Buffers.IndexBuffers, Buffers.runRoom, Buffers.indexIn, Answers.headOf}
 use Rattle.meaning_entries.specs.Refusal.{Condition, firstRefusal, illFormed, moreWindows, seriesLines, roomLines}
-use Rattle.meaning_entries.specs.Buffers.{IndexBuffers, runRoom, indexIn}
-use Rattle.meaning_entries.specs.Answers.{headOf}
 
 -- the whole, longer series, and the old index
 pub record ExtendCall : Type 0 where

@@ -1,17 +1,12 @@
 -- The entry read: an index text becomes an index in lent buffers.
-use mathlib.Core.List.{List, [], _∷_}
-use mathlib.Core.Option.{Option, none, some}
 use Prim.Native.Nat.{ℕ}
 use lib.IntN.{pos}
 use lib.ListN.{length}
-use Rattle.meaning_rows.specs.declared.Head.{Head}
-use Rattle.meaning_rows.specs.Index.{Index}
-use Rattle.meaning_text.specs.Read.{fine, unfit, readText}
-use Rattle.meaning_text.specs.Texts.{indexForm, indexSaid}
-use Rattle.meaning_entries.specs.declared.Loaded.{Loaded}
-use Rattle.meaning_entries.specs.Refusal.{Condition, firstRefusal, unreadable, illFormed, roomLines}
-use Rattle.meaning_entries.specs.Buffers.{IndexBuffers, runRoom, indexIn}
-use Rattle.meaning_entries.specs.Answers.{headOf}
+use mathlib.Core.List.{List, [], _∷_}
+use mathlib.Core.Option.{Option, none, some}
+use Rattle.meaning_rows.specs.{declared.Head.Head, Index.Index}
+use Rattle.meaning_text.specs.{Read.fine, Read.unfit, Read.readText, Texts.indexForm, Texts.indexSaid}
+use Rattle.meaning_entries.specs.{declared.Loaded.Loaded, Refusal.Condition, Refusal.firstRefusal, Refusal.unreadable, Refusal.illFormed, Refusal.roomLines, Buffers.IndexBuffers, Buffers.runRoom, Buffers.indexIn, Answers.headOf}
 
 -- the index that a text gives; of a text that cannot be read nothing is asked
 unfoldable pub textIndex : List ℕ → Index

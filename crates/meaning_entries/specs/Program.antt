@@ -1,18 +1,14 @@
 -- The search program, from the bytes it reads to the bytes it prints. Build and search are judged together as one call, before anything is printed.
-use mathlib.Core.List.{List, [], _∷_, _++_}
-use mathlib.Core.Option.{none, some}
 use Prim.Native.Nat.{ℕ}
 use lib.IntN.{ℤ, pos}
 use lib.ListN.{length}
+use mathlib.Core.List.{List, [], _∷_, _++_}
+use mathlib.Core.Option.{none, some}
 use Rattle.meaning_curves.specs.Limits.{mostProgramValues}
 use Rattle.meaning_rows.specs.Index.{Index}
 use Rattle.meaning_filter.specs.declared.Kind.the-variants.{Raw}
-use Rattle.meaning_text.specs.Form.{Value}
-use Rattle.meaning_text.specs.Read.{fine, unfit, readText}
-use Rattle.meaning_text.specs.Texts.{programForm, kindSaid, indexText, foundText, refusedText}
-use Rattle.meaning_entries.specs.Refusal.{Condition, firstRefusal, flatQuery, unreadable}
-use Rattle.meaning_entries.specs.Build.{widthLines, buildIndex}
-use Rattle.meaning_entries.specs.Search.{Asking, SearchCall, valueLines, limitLines, searchCandidates, searchMatches}
+use Rattle.meaning_text.specs.{Form.Value, Read.fine, Read.unfit, Read.readText, Texts.programForm, Texts.kindSaid, Texts.indexText, Texts.foundText, Texts.refusedText}
+use Rattle.meaning_entries.specs.{Refusal.Condition, Refusal.firstRefusal, Refusal.flatQuery, Refusal.unreadable, Build.widthLines, Build.buildIndex, Search.Asking, Search.SearchCall, Search.valueLines, Search.limitLines, Search.searchCandidates, Search.searchMatches}
 
 -- what the five lines say
 pub record ProgramCall : Type 0 where

@@ -1,22 +1,18 @@
 -- The conditions under which a call is refused (01, 'Refused for the input', 'Refused for the state'), each with its number and the place that it gives.
 -- An entry's table is a list of them in the order of their numbers (`order`), and the call is refused by the first that applies.
-use mathlib.Core.Bool.{Bool, true, false, not, cond, _||_}
-use mathlib.Core.List.{List, [], _∷_}
-use mathlib.Core.Option.{Option, none, some}
 use Prim.Native.Nat.{ℕ, _+_}
 use lib.Dec.{eqb, ltb}
 use lib.IntN.{ℤ, pos, _+ℤ_, _-ℤ_}
 use lib.ListN.{length}
 use lib.Signed.{ltZ}
+use mathlib.Core.Bool.{Bool, true, false, not, cond, _||_}
+use mathlib.Core.List.{List, [], _∷_}
+use mathlib.Core.Option.{Option, none, some}
+use Rattle.meaning_curves.specs.{Curve.at, Normal.flat}
 use Rattle.meaning_curves.specs.Limits.{lengthIn, windowIn, widthIn, mergeIn, queryLengthIn, bandIn, thresholdIn, scaleIn, shiftIn, firstOutside}
-use Rattle.meaning_curves.specs.Curve.{at}
-use Rattle.meaning_curves.specs.Normal.{flat}
-use Rattle.meaning_rows.specs.Index.{Index}
-use Rattle.meaning_rows.specs.Judge.{firstBadRow}
-use Rattle.meaning_filter.specs.declared.Kind.{Kind}
-use Rattle.meaning_filter.specs.declared.Kind.the-variants.{Raw, Normal}
-use Rattle.meaning_text.specs.Form.{Form}
-use Rattle.meaning_text.specs.Read.{fine, unfit, readText, lineOf}
+use Rattle.meaning_rows.specs.{Index.Index, Judge.firstBadRow}
+use Rattle.meaning_filter.specs.{declared.Kind.Kind, declared.Kind.the-variants.Raw, declared.Kind.the-variants.Normal}
+use Rattle.meaning_text.specs.{Form.Form, Read.fine, Read.unfit, Read.readText, Read.lineOf}
 
 -- a line of a table: its number, and the first place at which it applies, if it does
 pub record Condition : Type 0 where

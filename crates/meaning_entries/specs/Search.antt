@@ -1,23 +1,16 @@
 -- The entry search: one series, one index, one query of either kind, straight or warped.
-use mathlib.Core.Bool.{Bool, true, false}
-use mathlib.Core.List.{List, [], _∷_, _++_, map}
-use mathlib.Core.Option.{Option, none, some}
 use Prim.Native.Nat.{ℕ}
 use lib.Dec.{eqb}
 use lib.IntN.{ℤ, pos, natAbs}
 use lib.ListN.{length, take}
-use Rattle.meaning_curves.specs.Limits.{mostValues}
-use Rattle.meaning_curves.specs.Curve.{windowCount}
-use Rattle.meaning_rows.specs.declared.Row.{Row}
-use Rattle.meaning_rows.specs.declared.Head.{Head}
-use Rattle.meaning_rows.specs.Index.{Index, lent}
-use Rattle.meaning_filter.specs.declared.Kind.{Kind}
-use Rattle.meaning_filter.specs.declared.Limits.{Limits}
-use Rattle.meaning_filter.specs.declared.Ask.{Ask}
-use Rattle.meaning_filter.specs.Matches.{Question, candidateRuns, candidateCount, matchList}
-use Rattle.meaning_entries.specs.declared.Found.{Found}
+use mathlib.Core.Bool.{Bool, true, false}
+use mathlib.Core.List.{List, [], _∷_, _++_, map}
+use mathlib.Core.Option.{Option, none, some}
+use Rattle.meaning_curves.specs.{Limits.mostValues, Curve.windowCount}
+use Rattle.meaning_rows.specs.{declared.Row.Row, declared.Head.Head, Index.Index, Index.lent}
+use Rattle.meaning_filter.specs.{declared.Kind.Kind, declared.Limits.Limits, declared.Ask.Ask, Matches.Question, Matches.candidateRuns, Matches.candidateCount, Matches.matchList}
+use Rattle.meaning_entries.specs.{declared.Found.Found, Buffers.filled, Buffers.pairRoom}
 use Rattle.meaning_entries.specs.Refusal.{Condition, firstRefusal, valueOutside, queryLengthOutside, queryBelowWindow, bandOutside, thresholdOutside, scaleOrShiftOutside, flatQuery, illFormed, listShort, seriesLines, countLines, roomLines}
-use Rattle.meaning_entries.specs.Buffers.{filled, pairRoom}
 
 -- what is asked beside the query. Band b, threshold E, scale limit a, shift limit h are whole numbers, as a text may have any
 pub record Asking : Type 0 where

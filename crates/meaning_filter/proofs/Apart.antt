@@ -1,13 +1,7 @@
 -- What a value in its limits lies outside an envelope whose ends are in them: at most 20,000, its square at most 400,000,000, and so on for sums of such squares.
-use mathlib.Core.Path.{_≡_}
-use mathlib.Core.List.{List}
-use Prim.Native.Nat.{ℕ, _+_, _-_, _*_, _≤_}
-use native.Mathlib.Omega.{arith}
-use lib.IntN.{ℤ, pos, negsuc, _-ℤ_}
 use Rattle.meaning_numbers.specs.Sum.{Σℕ, square}
-use Rattle.meaning_numbers.proofs.Rep.{up, dn, zarith, z-sub}
-use Rattle.meaning_numbers.proofs.Sum.{Σℕ-le}
-use Rattle.meaning_numbers.proofs.Root.{sq-le}
+use Rattle.meaning_numbers.proofs.{Sum.Σℕ-le, Root.sq-le}
+use Rattle.meaning_numbers.proofs.Prelude.{_≡_, List, ℕ, _+_, _-_, _*_, _≤_, arith, ℤ, pos, negsuc, _-ℤ_, up, dn, zarith, z-sub}
 use Rattle.meaning_curves.specs.Curve.{at, stretch}
 use Rattle.meaning_curves.proofs.Values.{InLimits, AllIn}
 use Rattle.meaning_filter.proofs.Bound.{excess, apart}

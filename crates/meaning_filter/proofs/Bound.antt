@@ -1,19 +1,9 @@
 -- The envelope bound: what the values of s lie outside an envelope of q, squared and summed, is at most the total of any path within the band. By induction on the path: a step that keeps i adds something, and one that raises i adds (s(i) - q(j))², at least the square of the excess, as q(j) lies in the envelope at i.
 -- So the sum over the first n places alone is at most the distance (`distance-bound`), and a path's total is at least its total on reaching a row and the squared excesses after that row (`through`): a loop may stop once either passes the threshold.
-use mathlib.Core.Path.{_≡_}
-use Prim.Native.Nat.{ℕ, suc, _+_, _-_, _<_, _≤_, max}
-use native.Mathlib.Omega.{arith}
-use native.Mathlib.Decide.{decLe}
-use lib.IntN.{ℤ, pos, negsuc, _-ℤ_, natAbs}
-use lib.Signed.{_≤ℤ_}
 use Rattle.meaning_numbers.specs.Sum.{Σℕ, square}
-use Rattle.meaning_numbers.proofs.Rep.{up, dn, zarith, z-sub}
-use Rattle.meaning_numbers.proofs.Machine.{z-abs}
-use Rattle.meaning_numbers.proofs.Sum.{Σℕ-fewer}
-use Rattle.meaning_numbers.proofs.Root.{sq-le}
-use Rattle.meaning_curves.specs.Straight.{cost}
-use Rattle.meaning_curves.specs.Warp.{Near, WarpPath, start, first, second, both}
-use Rattle.meaning_curves.specs.Match.{distance}
+use Rattle.meaning_numbers.proofs.{Sum.Σℕ-fewer, Root.sq-le}
+use Rattle.meaning_numbers.proofs.Prelude.{_≡_, ℕ, suc, _+_, _-_, _<_, _≤_, max, arith, decLe, ℤ, pos, negsuc, _-ℤ_, natAbs, _≤ℤ_, up, dn, zarith, z-sub, z-abs}
+use Rattle.meaning_curves.specs.{Straight.cost, Warp.Near, Warp.WarpPath, Warp.start, Warp.first, Warp.second, Warp.both, Match.distance}
 use Rattle.meaning_curves.proofs.Straight.{distance-least}
 use Rattle.meaning_filter.proofs.Envelope.{Envelope}
 

@@ -1,29 +1,11 @@
 -- Every match is a candidate, in an index that files each window of the series in a row that holds its sum (`kept-candidate`). The sum of a part of the stretch is that of a window of the series, it lies in the part's range (`kept`), and so the row that holds it is met (`row-met`).
-use mathlib.Core.Path.{_≡_, sym, subst}
-use mathlib.Core.Bool.{Bool, _&&_}
-use mathlib.Core.List.{List, map}
-use Prim.Native.Nat.{ℕ, zero, suc, _+_, _*_, _/_, _<_, _≤_}
-use native.Mathlib.Omega.{arith}
-use native.Mathlib.Nat.{div-mul-le-self, mul-le-mul-right}
-use lib.Dec.{T}
-use lib.IntN.{ℤ, natAbs}
-use lib.ListN.{length}
-use lib.Signed.{_≤ℤ_, _<ℤ_, leZ, ltZ, leZ-yes, ltZ-yes}
-use Rattle.meaning_numbers.specs.Sum.{Σℤ}
-use Rattle.meaning_numbers.specs.Place.{any, numbersFrom}
-use Rattle.meaning_numbers.proofs.Rep.{zarith}
-use Rattle.meaning_numbers.proofs.Sum.{Σℤ-same}
-use Rattle.meaning_numbers.proofs.Tests.{two-tests, both-tests, of-both}
-use Rattle.meaning_numbers.proofs.Member.{any-weaken, any-mem}
-use Rattle.meaning_numbers.proofs.Between.{Between}
+use Rattle.meaning_numbers.specs.{Sum.Σℤ, Place.any, Place.numbersFrom}
+use Rattle.meaning_numbers.proofs.{Sum.Σℤ-same, Member.any-weaken, Member.any-mem, Between.Between}
+use Rattle.meaning_numbers.proofs.Prelude.{_≡_, sym, subst, Bool, _&&_, List, map, ℕ, zero, suc, _+_, _*_, _/_, _<_, _≤_, arith, div-mul-le-self, mul-le-mul-right, T, ℤ, natAbs, length, _≤ℤ_, _<ℤ_, leZ, ltZ, leZ-yes, ltZ-yes, zarith, two-tests, both-tests, of-both}
 use Rattle.meaning_curves.specs.Curve.{at, stretch, windowSum}
-use Rattle.meaning_rows.specs.declared.Row.{Row}
-use Rattle.meaning_rows.specs.Range.{inside}
-use Rattle.meaning_rows.specs.Index.{Index, stands}
+use Rattle.meaning_rows.specs.{declared.Row.Row, Range.inside, Index.Index, Index.stands}
 use Rattle.meaning_rows.proofs.Audit.{Filed}
-use Rattle.meaning_filter.specs.Range.{rangeOf, ranges}
-use Rattle.meaning_filter.specs.Candidates.{met, admits, candidate}
-use Rattle.meaning_filter.specs.Matches.{Question, queryLength, offsetCount, matchesAt, candidateAt}
+use Rattle.meaning_filter.specs.{Range.rangeOf, Range.ranges, Candidates.met, Candidates.admits, Candidates.candidate, Matches.Question, Matches.queryLength, Matches.offsetCount, Matches.matchesAt, Matches.candidateAt}
 use Rattle.meaning_filter.proofs.Kept.{kept}
 unfoldable pub use Rattle.meaning_numbers.specs.Sum.{count}
 pub use Rattle.meaning_numbers.proofs.Count.{count-cong}

@@ -1,19 +1,10 @@
 -- Small cases of the definitions, in one table that one proof covers. The ends of ranges are those of an independent program.
-use mathlib.Core.Bool.{Bool, _&&_}
-use mathlib.Core.List.{List, [], _∷_, map}
-use Prim.Native.Nat.{ℕ}
-use lib.Dec.{T, eqb}
-use lib.IntN.{ℤ, pos, negsuc}
 use Rattle.meaning_numbers.specs.Place.{numbersFrom}
 use Rattle.meaning_numbers.proofs.Table.{holds, sameℤ, sameList}
-use Rattle.meaning_curves.specs.Curve.{at}
-use Rattle.meaning_curves.specs.Normal.{normalised}
+use Rattle.meaning_numbers.proofs.Prelude.{Bool, _&&_, List, [], _∷_, map, ℕ, T, eqb, ℤ, pos, negsuc}
+use Rattle.meaning_curves.specs.{Curve.at, Normal.normalised}
 use Rattle.meaning_rows.specs.Build.{built}
-use Rattle.meaning_filter.specs.declared.Kind.{Kind}
-use Rattle.meaning_filter.specs.declared.Kind.the-variants.{Raw, Normal}
-use Rattle.meaning_filter.specs.Envelope.{lower, upper}
-use Rattle.meaning_filter.specs.Range.{rawLow, rawHigh, normalLow, normalHigh}
-use Rattle.meaning_filter.specs.Matches.{Question, candidateRuns, candidateCount, matchList, allMatches}
+use Rattle.meaning_filter.specs.{declared.Kind.Kind, declared.Kind.the-variants.Raw, declared.Kind.the-variants.Normal, Envelope.lower, Envelope.upper, Range.rawLow, Range.rawHigh, Range.normalLow, Range.normalHigh, Matches.Question, Matches.candidateRuns, Matches.candidateCount, Matches.matchList, Matches.allMatches}
 use Rattle.meaning_filter.proofs.Open.{openFilter}
 
 samePair : ℕ × ℕ → ℕ × ℕ → Bool

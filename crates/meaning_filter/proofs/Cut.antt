@@ -1,13 +1,8 @@
 -- The cut. t is the greatest number with t² × A ≤ (100 × |c|)². No root of A is needed: for any K let ρ be the root of K² × A. Then t × ρ ≤ 100 × |c| × K < (t + 1) × (ρ + 1),
 -- both by comparing squares (`cut-core`), and the two signs of c give the same bounds around 100 × c × K (`cut-range`).
-use Prim.Native.Nat.{ℕ, suc, _+_, _*_, _<_, _≤_}
-use native.Mathlib.Omega.{arith}
-use native.Mathlib.Nat.{mul-le-mul-left}
-use lib.IntN.{ℤ, pos, negsuc, _+ℤ_, _-ℤ_, _*ℤ_}
 use Rattle.meaning_numbers.specs.Root.{IsRoot}
-use Rattle.meaning_numbers.proofs.Rep.{rep-self, rep-pos, rep-neg, rep-add, rep-sub, rep-mul, rep-le}
-use Rattle.meaning_numbers.proofs.Root.{le-of-sq, le-of-sq-le}
-use Rattle.meaning_numbers.proofs.Between.{Between}
+use Rattle.meaning_numbers.proofs.{Root.le-of-sq, Root.le-of-sq-le, Between.Between}
+use Rattle.meaning_numbers.proofs.Prelude.{ℕ, suc, _+_, _*_, _<_, _≤_, arith, mul-le-mul-left, ℤ, pos, negsuc, _+ℤ_, _-ℤ_, _*ℤ_, rep-self, rep-pos, rep-neg, rep-add, rep-sub, rep-mul, rep-le}
 use Rattle.meaning_curves.specs.Normal.{IsCut, signed}
 
 pub cut-core : (g t A K ρ : ℕ) → t * t * A ≤ g * g → g * g < (t + 1) * (t + 1) * A → IsRoot (K * K * A) ρ

@@ -1,18 +1,9 @@
 -- The envelope encloses every query value within b places that exists (`envelope`), and no tighter: each end is such a value (`lower-one`, `upper-one`), so at band 0 both are the query (`lower-straight`, `upper-straight`). By induction on the number of places.
-use mathlib.Core.Path.{_≡_, refl}
-use mathlib.Core.Logic.{_⊎_, inl, inr, ⊎-elim}
-use Prim.Native.Nat.{ℕ, zero, suc, _+_, _-_, _<_, _≤_}
-use native.Mathlib.Omega.{arith}
-use native.Mathlib.Decide.{decLe}
-use lib.IntN.{ℤ}
-use lib.Signed.{_≤ℤ_, ≤ℤ-refl}
 use Rattle.meaning_numbers.specs.Sum.{Σℤ}
-use Rattle.meaning_numbers.proofs.Rep.{≤ℤ-trans}
-use Rattle.meaning_numbers.proofs.Sum.{Σℤ-same}
-use Rattle.meaning_numbers.proofs.Order.{minℤ-le, maxℤ-le, minℤ-one, maxℤ-one}
+use Rattle.meaning_numbers.proofs.{Sum.Σℤ-same, Order.minℤ-le, Order.maxℤ-le, Order.minℤ-one, Order.maxℤ-one}
+use Rattle.meaning_numbers.proofs.Prelude.{_≡_, refl, _⊎_, inl, inr, ⊎-elim, ℕ, zero, suc, _+_, _-_, _<_, _≤_, arith, decLe, ℤ, _≤ℤ_, ≤ℤ-refl, ≤ℤ-trans}
 use Rattle.meaning_curves.specs.Warp.{Near}
-use Rattle.meaning_filter.specs.Envelope.{leastOf, greatestOf, reachOf, lower, upper}
-use Rattle.meaning_filter.specs.Range.{lowerSum, upperSum}
+use Rattle.meaning_filter.specs.{Envelope.leastOf, Envelope.greatestOf, Envelope.reachOf, Envelope.lower, Envelope.upper, Range.lowerSum, Range.upperSum}
 
 -- L and U enclose, at each place i, every value of q within b places that exists
 pub record Envelope (q : ℕ → ℤ) (m b : ℕ) (L U : ℕ → ℤ) : Type 0 where

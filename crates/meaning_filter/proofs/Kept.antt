@@ -1,31 +1,13 @@
 -- No match is lost: the sums of a match's parts lie in the ranges. A raw match has a path of total at most E (`raw-kept`). A normalised match has one between normalised values, so the sums of its parts' normalised values lie in that range (`raw-kept` again);
 -- the scale and the shift bring it to the sums themselves (`normal-kept`). `kept` says both of a query's kind.
-use Prim.Native.Nat.{ℕ, _+_, _*_, _<_, _≤_}
-use native.Mathlib.Omega.{arith}
-use lib.Dec.{T}
-use lib.IntN.{ℤ, pos, _+ℤ_, _-ℤ_, _*ℤ_}
-use lib.Signed.{_≤ℤ_}
-use Rattle.meaning_numbers.specs.Sum.{Σℤ}
-use Rattle.meaning_numbers.specs.Root.{root}
-use Rattle.meaning_numbers.specs.Order.{minℤ, maxℤ}
-use Rattle.meaning_numbers.proofs.Rep.{zarith, z-add, z-sub}
-use Rattle.meaning_numbers.proofs.Sum.{Σℤ-centred}
-use Rattle.meaning_numbers.proofs.Root.{root-is}
-use Rattle.meaning_numbers.proofs.Between.{Between}
-use Rattle.meaning_curves.specs.Curve.{total, spread}
-use Rattle.meaning_curves.specs.Normal.{centred, cut, normalised}
-use Rattle.meaning_curves.proofs.Normal.{cut-is}
-use Rattle.meaning_curves.proofs.Straight.{distance-least}
-use Rattle.meaning_curves.proofs.Match.{RawMatch, NormalMatch, raw-yes, normal-yes}
-use Rattle.meaning_filter.specs.declared.Kind.{Kind}
-use Rattle.meaning_filter.specs.declared.Kind.the-variants.{Raw, Normal}
-use Rattle.meaning_filter.specs.declared.Limits.{Limits}
+use Rattle.meaning_numbers.specs.{Sum.Σℤ, Root.root, Order.minℤ, Order.maxℤ}
+use Rattle.meaning_numbers.proofs.{Sum.Σℤ-centred, Root.root-is, Between.Between}
+use Rattle.meaning_numbers.proofs.Prelude.{ℕ, _+_, _*_, _<_, _≤_, arith, T, ℤ, pos, _+ℤ_, _-ℤ_, _*ℤ_, _≤ℤ_, zarith, z-add, z-sub}
+use Rattle.meaning_curves.specs.{Curve.total, Curve.spread, Normal.centred, Normal.cut, Normal.normalised}
+use Rattle.meaning_curves.proofs.{Normal.cut-is, Straight.distance-least, Match.RawMatch, Match.NormalMatch, Match.raw-yes, Match.normal-yes}
+use Rattle.meaning_filter.specs.{declared.Kind.Kind, declared.Kind.the-variants.Raw, declared.Kind.the-variants.Normal, declared.Limits.Limits, Matches.matches}
 use Rattle.meaning_filter.specs.Range.{lowerSum, upperSum, rawLow, rawHigh, lowScale, highScale, lowNormal, highNormal, normalLow, normalHigh, rangeOf}
-use Rattle.meaning_filter.specs.Matches.{matches}
-use Rattle.meaning_filter.proofs.Envelope.{envelope}
-use Rattle.meaning_filter.proofs.Range.{path-range}
-use Rattle.meaning_filter.proofs.Scale.{scale-range, low-scale, high-scale}
-use Rattle.meaning_filter.proofs.Shift.{shift-low, shift-high}
+use Rattle.meaning_filter.proofs.{Envelope.envelope, Range.path-range, Scale.scale-range, Scale.low-scale, Scale.high-scale, Shift.shift-low, Shift.shift-high}
 
 pub raw-kept : {s q : ℕ → ℤ} {m b E : ℕ} (p w : ℕ) → 0 < m → p + w ≤ m → RawMatch s q m b E
     → Between (rawLow q m b E p w) (Σℤ w (λ k. s (p + k))) (rawHigh q m b E p w)

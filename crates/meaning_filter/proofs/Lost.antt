@@ -1,19 +1,8 @@
 -- Why X has - w and Y has + w: without, a match is lost. The query 0 0 1000 matches itself, and the sum of its first part, 0, lies below the lower end 4 that Q- - r gives; X = Q- - r - w gives -1. By computation.
-use mathlib.Core.Path.{_≡_, refl}
-use mathlib.Core.List.{[], _∷_}
-use Prim.Native.Nat.{ℕ, _+_, _*_}
-use lib.Dec.{T}
-use lib.IntN.{ℤ, pos, negsuc, _+ℤ_, _-ℤ_, _*ℤ_}
-use lib.Signed.{_<ℤ_}
-use Rattle.meaning_numbers.specs.Sum.{Σℤ}
-use Rattle.meaning_numbers.specs.Order.{minℤ}
-use Rattle.meaning_numbers.specs.Quotient.{ceilℤ}
-use Rattle.meaning_curves.specs.Curve.{at, total, spread}
-use Rattle.meaning_curves.specs.Normal.{normalised}
-use Rattle.meaning_filter.specs.declared.Kind.the-variants.{Normal}
-use Rattle.meaning_filter.specs.declared.Limits.{Limits}
-use Rattle.meaning_filter.specs.Range.{rawLow, lowScale, highScale, rangeOf}
-use Rattle.meaning_filter.specs.Matches.{matches}
+use Rattle.meaning_numbers.specs.{Sum.Σℤ, Order.minℤ, Quotient.ceilℤ}
+use Rattle.meaning_numbers.proofs.Prelude.{_≡_, refl, [], _∷_, ℕ, _+_, _*_, T, ℤ, pos, negsuc, _+ℤ_, _-ℤ_, _*ℤ_, _<ℤ_}
+use Rattle.meaning_curves.specs.{Curve.at, Curve.total, Curve.spread, Normal.normalised}
+use Rattle.meaning_filter.specs.{declared.Kind.the-variants.Normal, declared.Limits.Limits, Range.rawLow, Range.lowScale, Range.highScale, Range.rangeOf, Matches.matches}
 use Rattle.meaning_filter.proofs.Open.{openFilter}
 
 -- the lower end with Q- - r for X

@@ -1,21 +1,11 @@
 -- A search through an index lists all matches, in order and with their distances (`all-found`): every match is a candidate, so looking among the candidates alone loses none.
 -- All matches are exactly those (`all-exactly`): ascending, each once, and an offset stands among them exactly if its stretch matches.
-use mathlib.Core.Path.{_≡_, refl, sym, subst}
-use mathlib.Core.Bool.{Bool}
-use mathlib.Core.List.{List, map}
-use Prim.Native.Nat.{ℕ, zero, suc, _<_, _≤_}
-use native.Mathlib.Omega.{arith}
-use lib.Dec.{T}
 use Rattle.meaning_numbers.specs.Place.{keep, numbersFrom}
-use Rattle.meaning_numbers.proofs.Tests.{by-test}
-use Rattle.meaning_numbers.proofs.Member.{map-mem, mem-map, numbers-mem, mem-numbers}
-use Rattle.meaning_numbers.proofs.Keep.{keep-twice, kept-mem, mem-kept}
-use lib.IntN.{ℤ}
+use Rattle.meaning_numbers.proofs.{Member.map-mem, Member.mem-map, Member.numbers-mem, Member.mem-numbers, Keep.keep-twice, Keep.kept-mem, Keep.mem-kept}
+use Rattle.meaning_numbers.proofs.Prelude.{_≡_, refl, sym, subst, Bool, List, map, ℕ, zero, suc, _<_, _≤_, arith, T, by-test, ℤ}
 use Rattle.meaning_curves.proofs.Match.{raw-yes, normal-yes}
 use Rattle.meaning_rows.specs.Index.{Index}
-use Rattle.meaning_filter.specs.declared.Kind.{Kind}
-use Rattle.meaning_filter.specs.declared.Kind.the-variants.{Raw, Normal}
-use Rattle.meaning_filter.specs.declared.Limits.{Limits}
+use Rattle.meaning_filter.specs.{declared.Kind.Kind, declared.Kind.the-variants.Raw, declared.Kind.the-variants.Normal, declared.Limits.Limits}
 use Rattle.meaning_filter.specs.Matches.{Question, matches, distanceTo, queryLength, offsetCount, matchesAt, listed, candidateAt, allMatches, matchList, Upward, done, next, Exactly}
 use Rattle.meaning_filter.proofs.Candidates.{Reached, kept-candidate}
 

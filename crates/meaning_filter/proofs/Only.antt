@@ -1,9 +1,5 @@
 -- The plain words of demand 3 leave one list: what is exactly all matches is `allMatches` (`exactly-only`), since two upward lists with the same entries are one.
-use mathlib.Core.Path.{_≡_, refl, sym, ap, subst, _∙_}
-use mathlib.Core.Logic.{⊎-elim}
-use mathlib.Core.List.{List, [], _∷_, List·Memᴰ as Mem, List·Memᴰ·head as here, List·Memᴰ·tail as there, List·Memᴰ·not-nil as not-nil, List·Memᴰ·cases-cons as cases}
-use Prim.Native.Nat.{ℕ, suc, _≤_}
-use native.Mathlib.Omega.{arith}
+use Rattle.meaning_numbers.proofs.Prelude.{_≡_, refl, sym, ap, subst, _∙_, ⊎-elim, List, [], _∷_, List·Memᴰ as Mem, List·Memᴰ·head as here, List·Memᴰ·tail as there, List·Memᴰ·not-nil as not-nil, List·Memᴰ·cases-cons as cases, ℕ, suc, _≤_, arith}
 use Rattle.meaning_filter.specs.Matches.{Question, allMatches, Upward, done, next, Exactly}
 use Rattle.meaning_filter.proofs.Matches.{all-exactly}
 

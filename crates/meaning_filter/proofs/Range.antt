@@ -1,21 +1,10 @@
 -- The raw range. A sum of s over a part exceeds the upper envelope's by at most the sum of the excesses there (`above-sum`), and the lower envelope's exceeds it by no more (`below-sum`).
 -- The square of that sum is at most w × E (Cauchy, and a part of a sum of squares is at most the whole), so the sum is at most the root (`excess-sum`).
-use mathlib.Core.Path.{_≡_}
-use Prim.Native.Nat.{ℕ, zero, suc, _+_, _-_, _*_, _<_, _≤_}
-use native.Mathlib.Omega.{arith}
-use native.Mathlib.Nat.{mul-le-mul-left}
-use lib.IntN.{ℤ, pos, _+ℤ_, _-ℤ_}
-use lib.Signed.{_≤ℤ_}
-use Rattle.meaning_numbers.specs.Sum.{Σℤ, Σℕ, square}
-use Rattle.meaning_numbers.specs.Root.{IsRoot}
-use Rattle.meaning_numbers.proofs.Rep.{zarith, z-add, z-sub}
-use Rattle.meaning_numbers.proofs.Sum.{Σℕ-part}
-use Rattle.meaning_numbers.proofs.Cauchy.{cauchy}
-use Rattle.meaning_numbers.proofs.Root.{root-most}
-use Rattle.meaning_numbers.proofs.Between.{Between}
+use Rattle.meaning_numbers.specs.{Sum.Σℤ, Sum.Σℕ, Sum.square, Root.IsRoot}
+use Rattle.meaning_numbers.proofs.{Sum.Σℕ-part, Cauchy.cauchy, Root.root-most, Between.Between}
+use Rattle.meaning_numbers.proofs.Prelude.{_≡_, ℕ, zero, suc, _+_, _-_, _*_, _<_, _≤_, arith, mul-le-mul-left, ℤ, pos, _+ℤ_, _-ℤ_, _≤ℤ_, zarith, z-add, z-sub}
 use Rattle.meaning_curves.specs.Warp.{WarpPath}
-use Rattle.meaning_filter.proofs.Envelope.{Envelope}
-use Rattle.meaning_filter.proofs.Bound.{excess, apart, envelope-bound}
+use Rattle.meaning_filter.proofs.{Envelope.Envelope, Bound.excess, Bound.apart, Bound.envelope-bound}
 
 above-sum : (w : ℕ) (s L U : ℕ → ℤ) → Σℤ w s ≤ℤ (Σℤ w U +ℤ pos (Σℕ w (λ k. excess (L k) (U k) (s k))))
 unfolding Σℤ Σℕ

@@ -1,19 +1,9 @@
 -- The scale. The cut's bounds summed over w places (`sum-low`, `sum-high`): (N - w) × ρ - C ≤ 100 × K × Σc ≤ (N + w) × ρ + C.
 -- With u² ≤ A ≤ v² the root ρ of K² × A lies between K × u and K × v (`root-between`). So K × min(X × u, X × v) ≤ X × ρ ≤ (N - w) × ρ, by the sign of X, and with K = C + 1 all but C is a multiple of K: the rest C is less than one more (`cancel`).
 -- `low-scale` and `high-scale` say that document 01's u and v are such numbers.
-use Prim.Native.Nat.{ℕ, zero, suc, _+_, _*_, _/_, _<_, _≤_}
-use native.Mathlib.Omega.{arith}
-use native.Mathlib.Nat.{mul-le-mul-left, mul-le-mul-right, mul-pos, le-step, le-of-mul-le-mul-right, le-div-iff-mul-le}
-use native.Mathlib.Decide.{decLe}
-use lib.IntN.{ℤ, pos, negsuc, _+ℤ_, _-ℤ_, _*ℤ_}
-use lib.Signed.{_≤ℤ_}
-use Rattle.meaning_numbers.specs.Sum.{Σℤ, Σℕ, square}
-use Rattle.meaning_numbers.specs.Root.{IsRoot, root}
-use Rattle.meaning_numbers.specs.Order.{minℤ, maxℤ}
-use Rattle.meaning_numbers.proofs.Rep.{rep-self, rep-pos, rep-add, rep-sub, rep-mul, rep-le, le-rep, z-le}
-use Rattle.meaning_numbers.proofs.Root.{root-is, root-most, le-of-sq-le}
-use Rattle.meaning_numbers.proofs.Order.{minℤ-le, maxℤ-le}
-use Rattle.meaning_numbers.proofs.Between.{Between}
+use Rattle.meaning_numbers.specs.{Sum.Σℤ, Sum.Σℕ, Sum.square, Root.IsRoot, Root.root, Order.minℤ, Order.maxℤ}
+use Rattle.meaning_numbers.proofs.{Root.root-is, Root.root-most, Root.le-of-sq-le, Order.minℤ-le, Order.maxℤ-le, Between.Between}
+use Rattle.meaning_numbers.proofs.Prelude.{ℕ, zero, suc, _+_, _*_, _/_, _<_, _≤_, arith, mul-le-mul-left, mul-le-mul-right, mul-pos, le-step, le-of-mul-le-mul-right, le-div-iff-mul-le, decLe, ℤ, pos, negsuc, _+ℤ_, _-ℤ_, _*ℤ_, _≤ℤ_, rep-self, rep-pos, rep-add, rep-sub, rep-mul, rep-le, le-rep, z-le}
 use Rattle.meaning_curves.specs.Normal.{IsCut, signed}
 use Rattle.meaning_filter.specs.Range.{lowScale, highScale}
 use Rattle.meaning_filter.proofs.Cut.{cut-range}

@@ -1,13 +1,7 @@
 -- The shift: from bounds of 100 × (m × S - w × T) to a range of the part's sum S. T is within m × h of T(q), so 100 × m × S lies between numbers that the query gives, and as S is whole their quotients by 100 × m may be rounded inward.
-use Prim.Native.Nat.{ℕ, _+_, _*_, _<_, _≤_}
-use native.Mathlib.Omega.{arith}
-use native.Mathlib.Nat.{mul-le-mul-left}
-use lib.IntN.{ℤ, pos, _+ℤ_, _-ℤ_, _*ℤ_, natAbs}
-use lib.Signed.{_≤ℤ_}
 use Rattle.meaning_numbers.specs.Quotient.{floorℤ, ceilℤ}
-use Rattle.meaning_numbers.proofs.Rep.{up, dn, rep-self, rep-pos, rep-add, rep-sub, rep-mul, rep-le, le-rep, zarith, z-sub}
-use Rattle.meaning_numbers.proofs.Machine.{z-abs}
 use Rattle.meaning_numbers.proofs.Quotient.{floor-most, ceil-least}
+use Rattle.meaning_numbers.proofs.Prelude.{ℕ, _+_, _*_, _<_, _≤_, arith, mul-le-mul-left, ℤ, pos, _+ℤ_, _-ℤ_, _*ℤ_, natAbs, _≤ℤ_, up, dn, rep-self, rep-pos, rep-add, rep-sub, rep-mul, rep-le, le-rep, zarith, z-sub, z-abs}
 
 -- S and T are the stretch's sums, of the part and of all, and Q is T(q); M bounds 100 × (m × S - w × T)
 module _ (m w h : ℕ) (S T Q M : ℤ) (long : 0 < m) (near : natAbs (T -ℤ Q) ≤ m * h) where

@@ -1,12 +1,11 @@
 -- Candidates: the offsets that the index does not rule out (01, Candidates).
-use mathlib.Core.Bool.{Bool, true, _&&_}
-use mathlib.Core.List.{List, [], _∷_}
 use Prim.Native.Nat.{ℕ, _+_}
 use lib.IntN.{ℤ, natAbs}
 use lib.Signed.{leZ, ltZ}
+use mathlib.Core.Bool.{Bool, true, _&&_}
+use mathlib.Core.List.{List, [], _∷_}
 use Rattle.meaning_numbers.specs.Place.{any}
-use Rattle.meaning_rows.specs.declared.Row.{Row}
-use Rattle.meaning_rows.specs.Index.{Index, stands}
+use Rattle.meaning_rows.specs.{declared.Row.Row, Index.Index, Index.stands}
 
 -- a row is met by a range if low ≤ upper end and up > lower end
 abbrev pub met : ℤ × ℤ → Row → Bool

@@ -1,23 +1,15 @@
 -- The list of matches, with offset and distance, and what a search through an index finds (01, Candidates).
-use mathlib.Core.Path.{_≡_}
-use mathlib.Core.Bool.{Bool}
-use mathlib.Core.List.{List, [], _∷_, map, List·Memᴰ as Mem}
 use Prim.Native.Nat.{ℕ, suc, _+_, _-_, _<_, _≤_}
 use lib.Dec.{T}
 use lib.IntN.{ℤ, natAbs}
 use lib.ListN.{length}
-use Rattle.meaning_numbers.specs.Sum.{count}
-use Rattle.meaning_numbers.specs.Place.{keep, numbersFrom}
-use Rattle.meaning_curves.specs.Curve.{at, stretch}
-use Rattle.meaning_curves.specs.Match.{distance, normalDistance, rawMatch, normalMatch}
-use Rattle.meaning_rows.specs.Index.{Index}
-use Rattle.meaning_rows.specs.Runs.{runs}
-use Rattle.meaning_filter.specs.declared.Kind.{Kind}
-use Rattle.meaning_filter.specs.declared.Kind.the-variants.{Raw, Normal}
-use Rattle.meaning_filter.specs.declared.Limits.{Limits}
-use Rattle.meaning_filter.specs.declared.Ask.{Ask}
-use Rattle.meaning_filter.specs.Range.{ranges}
-use Rattle.meaning_filter.specs.Candidates.{candidate}
+use mathlib.Core.Bool.{Bool}
+use mathlib.Core.List.{List, [], _∷_, map, List·Memᴰ as Mem}
+use mathlib.Core.Path.{_≡_}
+use Rattle.meaning_numbers.specs.{Sum.count, Place.keep, Place.numbersFrom}
+use Rattle.meaning_curves.specs.{Curve.at, Curve.stretch, Match.distance, Match.normalDistance, Match.rawMatch, Match.normalMatch}
+use Rattle.meaning_rows.specs.{Index.Index, Runs.runs}
+use Rattle.meaning_filter.specs.{declared.Kind.Kind, declared.Kind.the-variants.Raw, declared.Kind.the-variants.Normal, declared.Limits.Limits, declared.Ask.Ask, Range.ranges, Candidates.candidate}
 
 -- what is looked for in a series: a query, and what is asked beside it
 pub record Question : Type 0 where

@@ -1,18 +1,10 @@
 -- The range of sums that a part of the query admits (01, Candidates).
-use mathlib.Core.List.{List, map}
 use Prim.Native.Nat.{ℕ, _+_, _*_, _/_}
 use lib.IntN.{ℤ, pos, _+ℤ_, _-ℤ_, _*ℤ_}
-use Rattle.meaning_numbers.specs.Sum.{Σℤ}
-use Rattle.meaning_numbers.specs.Root.{root}
-use Rattle.meaning_numbers.specs.Quotient.{floorℤ, ceilℤ}
-use Rattle.meaning_numbers.specs.Order.{minℤ, maxℤ}
-use Rattle.meaning_numbers.specs.Place.{numbersFrom}
-use Rattle.meaning_curves.specs.Curve.{total, spread}
-use Rattle.meaning_curves.specs.Normal.{normalised}
-use Rattle.meaning_filter.specs.declared.Kind.{Kind}
-use Rattle.meaning_filter.specs.declared.Kind.the-variants.{Raw, Normal}
-use Rattle.meaning_filter.specs.declared.Limits.{Limits}
-use Rattle.meaning_filter.specs.Envelope.{lower, upper}
+use mathlib.Core.List.{List, map}
+use Rattle.meaning_numbers.specs.{Sum.Σℤ, Root.root, Quotient.floorℤ, Quotient.ceilℤ, Order.minℤ, Order.maxℤ, Place.numbersFrom}
+use Rattle.meaning_curves.specs.{Curve.total, Curve.spread, Normal.normalised}
+use Rattle.meaning_filter.specs.{declared.Kind.Kind, declared.Kind.the-variants.Raw, declared.Kind.the-variants.Normal, declared.Limits.Limits, Envelope.lower, Envelope.upper}
 
 -- p = m / w rounded down; the rest of the query is not filtered
 abbrev pub partCount : ℕ → ℕ → ℕ

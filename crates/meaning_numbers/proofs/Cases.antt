@@ -1,13 +1,10 @@
 -- Small cases of the definitions, in one table that one proof covers.
-use mathlib.Core.Bool.{Bool, not}
-use mathlib.Core.List.{List, [], _∷_}
 use lib.Dec.{T, eqb}
 use lib.IntN.{pos, negsuc}
-use Rattle.meaning_numbers.proofs.Table.{holds, sameℤ}
-use Rattle.meaning_numbers.specs.Root.{root}
-use Rattle.meaning_numbers.specs.Quotient.{floorℤ, ceilℤ, multiple}
-use Rattle.meaning_numbers.specs.Order.{within}
-use Rattle.meaning_numbers.proofs.Open.{openNumbers}
+use mathlib.Core.Bool.{Bool, not}
+use mathlib.Core.List.{List, [], _∷_}
+use Rattle.meaning_numbers.specs.{Root.root, Quotient.floorℤ, Quotient.ceilℤ, Quotient.multiple, Order.within}
+use Rattle.meaning_numbers.proofs.{Table.holds, Table.sameℤ, Open.openNumbers}
 
 cases : List Bool
 cases =

@@ -1,9 +1,9 @@
 -- Sums and squares: the square of a sum of w numbers is at most w times the sum of their squares.
 -- The step asks 2 · x · Σa ≤ w · x² + Σa² (`cross`), which is w times 2 · x · y ≤ x² + y² (`two-products`).
-use mathlib.Core.Path.{_≡_}
 use Prim.Native.Nat.{ℕ, zero, suc, _+_, _-_, _*_, _≤_}
-use native.Mathlib.Omega.{arith}
+use mathlib.Core.Path.{_≡_}
 use native.Mathlib.Decide.{decLe}
+use native.Mathlib.Omega.{arith}
 use Rattle.meaning_numbers.specs.Sum.{Σℕ}
 
 above : (x y d : ℕ) → y ≡ x + d → x * y + x * y ≤ x * x + y * y

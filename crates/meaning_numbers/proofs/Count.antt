@@ -1,12 +1,12 @@
 -- How many of the numbers below n pass a test: a turn of a loop (`count-more`), bounds, sums of counts, none and all. Each is an induction on n.
-use mathlib.Core.Path.{_≡_, refl}
-use mathlib.Core.Bool.{Bool, true, false, not, _&&_, _||_, false≢true}
 use Prim.Native.Nat.{ℕ, zero, suc, _+_, _<_, _≤_}
-use native.Mathlib.Omega.{arith}
-use native.Mathlib.Numerals.{add-one}
-use native.Mathlib.Nat.{le-step}
-use native.Mathlib.Decide.{decLt}
+use mathlib.Core.Bool.{Bool, true, false, not, _&&_, _||_, false≢true}
+use mathlib.Core.Path.{_≡_, refl}
 use mir.Val.{boolByte}
+use native.Mathlib.Decide.{decLt}
+use native.Mathlib.Nat.{le-step}
+use native.Mathlib.Numerals.{add-one}
+use native.Mathlib.Omega.{arith}
 use Rattle.meaning_numbers.specs.Sum.{bit, count}
 
 pub bit-le : (b : Bool) → bit b ≤ 1

@@ -1,11 +1,11 @@
 -- What is kept: the entries that are in the list and pass (`kept-mem`, `mem-kept`). Where each number below k + n that passes p passes c, keeping by c first changes nothing (`keep-twice`).
-use mathlib.Core.Path.{_≡_, refl, sym, subst}
-use mathlib.Core.Logic.{⊎-elim}
+use Prim.Native.Nat.{ℕ, zero, suc, _+_, _<_}
+use lib.Dec.{T}
 use mathlib.Core.Bool.{Bool, true, false, cond}
 use mathlib.Core.List.{List, [], _∷_, List·Memᴰ as Mem, List·Memᴰ·head as here, List·Memᴰ·tail as there, List·Memᴰ·not-nil as not-nil, List·Memᴰ·cases-cons as cases}
-use Prim.Native.Nat.{ℕ, zero, suc, _+_, _<_}
+use mathlib.Core.Logic.{⊎-elim}
+use mathlib.Core.Path.{_≡_, refl, sym, subst}
 use native.Mathlib.Omega.{arith}
-use lib.Dec.{T}
 use Rattle.meaning_numbers.specs.Place.{keep, numbersFrom}
 use Rattle.meaning_numbers.proofs.Tests.{is-true, by-test}
 

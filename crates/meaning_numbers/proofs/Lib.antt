@@ -2,6 +2,7 @@
 pub mod Rep
 pub mod Machine
 pub mod Tests
+pub mod Prelude
 pub mod Between
 pub mod Sum
 pub mod Slide

@@ -1,16 +1,16 @@
 -- What a proof of signed code is asked and told, as rules of `omega`: `omega zmach` reads the flags of signed tests, reads `toZ w (ofZ w x)` as x where x is known to fit, and proves that a number fits an `i64` and that it is not negative.
 -- What it does not find, the sums and sizes in the goal, is listed: `omega (zmach, z-add x y, z-abs z)`.
-use mathlib.Core.Path.{_≡_, refl, sym, subst}
-use mathlib.Core.Bool.{Bool, true, false, not}
 use Prim.Native.Nat.{ℕ, _+_, _-_, _^_, _<_, _≤_}
-use native.Mathlib.Omega.{arith}
 use borrow.Author.Tests.{leb-false}
 use lib.Dec.{T}
 use lib.IntN.{ℤ, pos, negsuc, natAbs}
 use lib.Signed.{_≤ℤ_, _<ℤ_, leZ, ltZ, ltZ-yes, leZ-yes, ltZ-no, clashℤ, nonNeg}
+use mathlib.Core.Bool.{Bool, true, false, not}
+use mathlib.Core.Path.{_≡_, refl, sym, subst}
 use mir.Syntax.{w32, w64}
 use mir.Val.{SFits, toZ, ofZ}
 use mir.ValLaws.{toZ-ofZ, toZ-pos}
+use native.Mathlib.Omega.{arith}
 use Rattle.meaning_numbers.proofs.Rep.{up, dn, zarith, z-le, z-lt, z-eq}
 
 -- ---- a flag and the order that it tests

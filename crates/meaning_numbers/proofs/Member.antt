@@ -1,14 +1,14 @@
 -- Members of lists. Where some entry passes there is one in the list that does (`any-found`), and back (`any-mem`); every entry is so (`All`); the members of a mapped list and of the numbers from k on.
-use mathlib.Core.Path.{_≡_, refl, sym, ap, subst}
-use mathlib.Core.Logic.{⊎-elim}
-use mathlib.Core.Bool.{Bool, true, false, _&&_, _||_, false≢true}
-use mathlib.Core.List.{List, [], _∷_, map, List·Memᴰ as Mem, List·Memᴰ·head as here, List·Memᴰ·tail as there, List·Memᴰ·not-nil as not-nil, List·Memᴰ·cases-cons as cases}
-use mathlib.Core.Option.{none}
 use Prim.Native.Nat.{ℕ, zero, suc, _+_, _<_, _≤_}
-use native.Mathlib.Omega.{arith}
-use native.Mathlib.Decide.{decLe}
 use lib.Dec.{T}
 use lib.ListN.{length, getD}
+use mathlib.Core.Bool.{Bool, true, false, _&&_, _||_, false≢true}
+use mathlib.Core.List.{List, [], _∷_, map, List·Memᴰ as Mem, List·Memᴰ·head as here, List·Memᴰ·tail as there, List·Memᴰ·not-nil as not-nil, List·Memᴰ·cases-cons as cases}
+use mathlib.Core.Logic.{⊎-elim}
+use mathlib.Core.Option.{none}
+use mathlib.Core.Path.{_≡_, refl, sym, ap, subst}
+use native.Mathlib.Decide.{decLe}
+use native.Mathlib.Omega.{arith}
 use Rattle.meaning_numbers.specs.Place.{placeFrom, any, numbersFrom}
 use Rattle.meaning_numbers.proofs.Tests.{by-test, clash}
 

@@ -1,14 +1,14 @@
 -- The first place that passes a test. `First` says what it is and `Nowhere` that there is none; `place-is` and `none-is` say that `firstPlace` answers so.
 -- One or the other holds of every list (`look`), so the answer of `firstPlace` tells which (`is-place`, `is-none`). The default stands for entries past the end and is asked by nothing.
-use mathlib.Core.Path.{_≡_, refl}
+use Prim.Native.Nat.{ℕ, zero, suc, _+_, _<_}
+use lib.Dec.{T}
+use lib.ListN.{length, getD}
 use mathlib.Core.Bool.{Bool, not}
 use mathlib.Core.List.{List, [], _∷_}
 use mathlib.Core.Logic.{_⊎_, inl, inr, ⊎-elim}
 use mathlib.Core.Option.{none, some}
-use Prim.Native.Nat.{ℕ, zero, suc, _+_, _<_}
+use mathlib.Core.Path.{_≡_, refl}
 use native.Mathlib.Omega.{arith}
-use lib.Dec.{T}
-use lib.ListN.{length, getD}
 use Rattle.meaning_numbers.specs.Place.{placeFrom, firstPlace}
 use Rattle.meaning_numbers.proofs.Tests.{is-true, is-false, decided}
 

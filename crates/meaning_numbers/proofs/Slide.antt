@@ -1,10 +1,10 @@
 -- A sum over the places from one on, moved by one place: what enters is added, what leaves is taken away (`Σℕ-slide`, `Σℤ-slide`). One term of a sum of naturals is at most the whole (`Σℕ-term`).
-use mathlib.Core.Path.{_≡_, refl}
 use Prim.Native.Nat.{ℕ, zero, suc, _+_, _<_, _≤_}
-use native.Mathlib.Omega.{arith}
-use native.Mathlib.Nat.{add-zero}
-use native.Mathlib.Decide.{decLe}
 use lib.IntN.{ℤ, _+ℤ_}
+use mathlib.Core.Path.{_≡_, refl}
+use native.Mathlib.Decide.{decLe}
+use native.Mathlib.Nat.{add-zero}
+use native.Mathlib.Omega.{arith}
 use Rattle.meaning_numbers.specs.Sum.{Σℤ, Σℕ}
 use Rattle.meaning_numbers.proofs.Rep.{zarith, z-add, z-eq}
 

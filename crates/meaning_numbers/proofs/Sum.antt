@@ -1,11 +1,11 @@
 -- Laws of sums over the indices below n, over ℤ and over ℕ, and the bridge between them (`rep-Σ`). Each lemma is an induction on the number of terms, one `omega` a step.
 -- `Σℕ-split` cuts a sum in two; a part of a sum of naturals is at most the whole (`Σℕ-part`).
-use mathlib.Core.Path.{_≡_, refl}
 use Prim.Native.Nat.{ℕ, zero, suc, _+_, _-_, _*_, _<_, _≤_}
-use native.Mathlib.Omega.{arith}
-use native.Mathlib.Numerals.{add-one}
-use native.Mathlib.Nat.{le-step, add-suc}
 use lib.IntN.{ℤ, pos, _+ℤ_, _-ℤ_, _*ℤ_}
+use mathlib.Core.Path.{_≡_, refl}
+use native.Mathlib.Nat.{le-step, add-suc}
+use native.Mathlib.Numerals.{add-one}
+use native.Mathlib.Omega.{arith}
 use Rattle.meaning_numbers.specs.Sum.{Σℤ, Σℕ}
 use Rattle.meaning_numbers.proofs.Rep.{Rep, up, dn, rep-self, rep-pos, rep-add, rep-sub, rep-mul, rep-eq}
 

@@ -1,10 +1,10 @@
 -- Cases gathered in a table: each is a test that the checker computes. One proof that the table holds covers them all, and `each` says it of each.
-use mathlib.Core.Bool.{Bool, true, false, _&&_}
-use mathlib.Core.List.{List, [], _∷_}
 use Prim.Native.Nat.{ℕ, zero, suc}
 use lib.Dec.{T, eqb}
 use lib.IntN.{ℤ, pos, negsuc}
 use lib.ListN.{getD}
+use mathlib.Core.Bool.{Bool, true, false, _&&_}
+use mathlib.Core.List.{List, [], _∷_}
 
 -- every test of the table passes
 unfoldable pub holds : List Bool → Bool

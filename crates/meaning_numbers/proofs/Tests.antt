@@ -1,8 +1,8 @@
 -- Tests and what they answer: a test that passes is true (`is-true`), one that fails false (`is-false`), and `x && y` passes exactly where x and y do (`two-tests`, `both-tests`).
-use mathlib.Core.Path.{_≡_, refl, sym, _∙_}
+use lib.Dec.{T}
 use mathlib.Core.Bool.{Bool, true, false, not, _&&_, _||_, false≢true}
 use mathlib.Core.Logic.{_⊎_, inl, inr}
-use lib.Dec.{T}
+use mathlib.Core.Path.{_≡_, refl, sym, _∙_}
 
 pub is-true : (t : Bool) → T t → t ≡ true
 is-true true h = refl

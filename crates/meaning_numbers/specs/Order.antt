@@ -1,7 +1,7 @@
 -- The lesser and the greater of two whole numbers, and a number between two.
-use mathlib.Core.Bool.{Bool, cond, _&&_}
 use lib.IntN.{ℤ}
 use lib.Signed.{leZ, ltZ}
+use mathlib.Core.Bool.{Bool, cond, _&&_}
 
 unfoldable pub minℤ : ℤ → ℤ → ℤ
 minℤ x y = cond (ltZ x y) x y

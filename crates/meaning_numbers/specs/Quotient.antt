@@ -1,8 +1,8 @@
 -- Quotients of whole numbers by a natural number. By 0 they mean nothing, and nothing rests on it.
-use mathlib.Core.Bool.{Bool}
 use Prim.Native.Nat.{ℕ, _/_, _%_}
 use lib.Dec.{eqb}
 use lib.IntN.{ℤ, pos, negsuc, negℤ, natAbs}
+use mathlib.Core.Bool.{Bool}
 
 -- rounded down, for negative numbers too
 unfoldable pub floorℤ : ℤ → ℕ → ℤ

@@ -1,35 +1,13 @@
 -- What the audit says of a well-formed index and a series. Yes (no offset filed wrongly, none missing) exactly if every window stands in a row whose range holds its sum and in no other (`audit-yes`, `filed-passes`).
 -- Else the first row and offset filed wrongly, all before it filed right (`first-wrong`, `wrong-first`); else how many windows stand nowhere, all less the run lengths (`missing-are`).
-use mathlib.Core.Path.{_≡_, refl, sym, ap, _∙_, subst}
-use mathlib.Core.Logic.{_⊎_, inl, inr, ⊎-elim}
-use mathlib.Core.Bool.{Bool, true, false, _&&_, or-true}
-use mathlib.Core.List.{List, [], _∷_, _++_, map, List·Memᴰ as Mem, List·Memᴰ·head as here, List·Memᴰ·tail as there, List·Memᴰ·not-nil as not-nil, List·Memᴰ·cases-cons as cases, List·Memᴰ·append-cases as append-cases, Memᴰ·append-left as in-left, Memᴰ·append-right as in-right}
-use mathlib.Core.Option.{Option, none, some}
-use Prim.Native.Nat.{ℕ, zero, suc, _+_, _-_, _<_, _≤_}
-use native.Mathlib.Omega.{arith}
-use native.Mathlib.Decide.{decLe}
-use lib.Dec.{leb}
-use lib.IntN.{ℤ, natAbs}
-use lib.ListN.{length, getD}
-use lib.Signed.{_≤ℤ_}
-use borrow.Author.Tests.{leb-true, le-leb, not-false}
-use Rattle.meaning_numbers.specs.Sum.{bit}
-use Rattle.meaning_numbers.specs.Place.{any, numbersFrom}
-use Rattle.meaning_numbers.proofs.Rep.{zarith}
+use Rattle.meaning_numbers.specs.{Sum.bit, Place.any, Place.numbersFrom}
 use Rattle.meaning_numbers.proofs.Count.{count-never, never-count, count-not}
-use Rattle.meaning_numbers.proofs.Tests.{by-test, both, clash}
 use Rattle.meaning_numbers.proofs.Member.{any-mem, any-found, any-none, any-map, numbers-mem, mem-numbers, All, all-mem, mem-all, mem-at}
+use Rattle.meaning_numbers.proofs.Prelude.{_≡_, refl, sym, ap, _∙_, subst, _⊎_, inl, inr, ⊎-elim, Bool, true, false, _&&_, or-true, List, [], _∷_, _++_, map, List·Memᴰ as Mem, List·Memᴰ·head as here, List·Memᴰ·tail as there, List·Memᴰ·not-nil as not-nil, List·Memᴰ·cases-cons as cases, List·Memᴰ·append-cases as append-cases, Memᴰ·append-left as in-left, Memᴰ·append-right as in-right, Option, none, some, ℕ, zero, suc, _+_, _-_, _<_, _≤_, arith, decLe, leb, ℤ, natAbs, length, getD, _≤ℤ_, leb-true, le-leb, not-false, zarith, by-test, both, clash}
 use Rattle.meaning_curves.specs.Limits.{lowestEnd}
-use Rattle.meaning_rows.specs.declared.Row.{Row}
-use Rattle.meaning_rows.specs.Range.{inside}
-use Rattle.meaning_rows.specs.Index.{zeroRow, Index, Entry, runsOf, inRun, stands}
-use Rattle.meaning_rows.specs.Build.{entry}
+use Rattle.meaning_rows.specs.{declared.Row.Row, Range.inside, Index.zeroRow, Index.Index, Index.Entry, Index.runsOf, Index.inRun, Index.stands, Build.entry, Judge.lengthTotal}
 use Rattle.meaning_rows.specs.Audit.{offsets, wrongIn, wrongFrom, sums, firstWrong, nowhere, missing}
-use Rattle.meaning_rows.proofs.Range.{is-inside}
-use Rattle.meaning_rows.proofs.Runs.{Apart, held, entries-hold}
-use Rattle.meaning_rows.proofs.Times.{Ascending, times, sizes, sizes-count, none-times}
-use Rattle.meaning_rows.specs.Judge.{lengthTotal}
-use Rattle.meaning_rows.proofs.Judge.{GoodRow, WellFormed, rangeOf, lengths-are, stands-below, each-row, ranges-ascend}
+use Rattle.meaning_rows.proofs.{Range.is-inside, Runs.Apart, Runs.held, Runs.entries-hold, Times.Ascending, Times.times, Times.sizes, Times.sizes-count, Times.none-times, Judge.GoodRow, Judge.WellFormed, Judge.rangeOf, Judge.lengths-are, Judge.stands-below, Judge.each-row, Judge.ranges-ascend}
 
 -- ---- the offsets of runs are those that stand in them, upward
 

@@ -1,32 +1,14 @@
 -- A build's rows hold every window exactly once (`built-once`), each exactly the windows whose sums lie in its range (`built-holds`). They ascend, none is empty (`built-tiled`, `built-occupied`),
 -- and there are at most as many rows and runs as windows (`built-length`, `built-runs`). Filed rows tile the windows, with no window's sum between neighbours, and merging keeps that; so a row
 -- is its range, and merging can be told by ranges alone (`built-range`).
-use mathlib.Core.Path.{_≡_, refl, sym, ap, _∙_, subst}
-use mathlib.Core.Logic.{_⊎_, inl, inr, ⊎-elim}
-use mathlib.Core.Bool.{Bool, true, false, _&&_, or-true}
-use mathlib.Core.List.{List, [], _∷_, map, List·Memᴰ as Mem, List·Memᴰ·head as here, List·Memᴰ·tail as there, List·Memᴰ·not-nil as not-nil, List·Memᴰ·cases-cons as cases}
-use Prim.Native.Nat.{ℕ, zero, suc, _+_, _*_, _<_, _≤_}
-use native.Mathlib.Omega.{arith}
-use native.Mathlib.Nat.{le-step}
-use native.Mathlib.Decide.{decLt}
-use lib.Dec.{ltb}
-use lib.ListN.{length, length-map, length-append}
-use lib.IntN.{ℤ}
-use lib.Signed.{_≤ℤ_, _<ℤ_, ltZ, ≤ℤ-refl}
-use borrow.Author.Tests.{lt-ltb, le-ltb, ltb-true}
-use Rattle.meaning_numbers.specs.Sum.{bit}
-use Rattle.meaning_numbers.specs.Place.{any}
-use Rattle.meaning_numbers.proofs.Rep.{zarith}
-use Rattle.meaning_numbers.proofs.Machine.{ltZ-true, ltZ-false, lt-ltZ, le-ltZ}
+use Rattle.meaning_numbers.specs.{Sum.bit, Place.any}
 use Rattle.meaning_numbers.proofs.Count.{bit-true}
-use Rattle.meaning_numbers.proofs.Tests.{by-test, clash}
 use Rattle.meaning_numbers.proofs.Member.{any-mem, any-map, mem-map, All, all-mem, mem-all, map-mem}
-use Rattle.meaning_rows.specs.Range.{rowNumber, lowOf, upOf, inside}
-use Rattle.meaning_rows.specs.Runs.{runs, runCount}
-use Rattle.meaning_rows.specs.Index.{RangeRow, inRun, allRuns}
+use Rattle.meaning_numbers.proofs.Prelude.{_≡_, refl, sym, ap, _∙_, subst, _⊎_, inl, inr, ⊎-elim, Bool, true, false, _&&_, or-true, List, [], _∷_, map, List·Memᴰ as Mem, List·Memᴰ·head as here, List·Memᴰ·tail as there, List·Memᴰ·not-nil as not-nil, List·Memᴰ·cases-cons as cases, ℕ, zero, suc, _+_, _*_, _<_, _≤_, arith, le-step, decLt, ltb, length, length-map, length-append, ℤ, _≤ℤ_, _<ℤ_, ltZ, ≤ℤ-refl, lt-ltb, le-ltb, ltb-true, zarith, ltZ-true, ltZ-false, lt-ltZ, le-ltZ, by-test, clash}
+use Rattle.meaning_rows.specs.{Range.rowNumber, Range.lowOf, Range.upOf, Range.inside, Runs.runs, Runs.runCount, Index.RangeRow, Index.inRun, Index.allRuns}
 use Rattle.meaning_rows.specs.Build.{SetRow, insert, rowNumbers, rowAt, filed, join, takes, upward, merged, entry, withRuns, builtRows}
-use Rattle.meaning_rows.proofs.Range.{inside-yes, is-inside, inside-join, widen, next-le, row-after, row-before, in-own}
 use Rattle.meaning_rows.proofs.Runs.{runs-cong, runs-le-count, runs-hold, held, entries-of-runs}
+use Rattle.meaning_rows.proofs.Range.{inside-yes, is-inside, inside-join, widen, next-le, row-after, row-before, in-own}
 use Rattle.meaning_rows.proofs.Times.{Range, holds, Ascending, holders, holders-are, times, sizes, sizes-all}
 
 abbrev pub range : SetRow → Range

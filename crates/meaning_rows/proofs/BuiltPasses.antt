@@ -1,26 +1,11 @@
 -- The index that is built of a series passes against it: it is well formed, no offset is filed wrongly and no window is missing (`built-passes`), with at most as many rows and runs as windows.
 -- Its rows ascend and hold each window once, by the laws of the build, and its ends are in their limits, since the window sums are.
-use mathlib.Core.Path.{_≡_, refl, sym, _∙_}
-use mathlib.Core.Bool.{true}
-use mathlib.Core.List.{List}
-use mathlib.Core.Option.{none}
-use Prim.Native.Nat.{ℕ, _<_, _≤_}
-use native.Mathlib.Omega.{arith}
-use lib.IntN.{ℤ, pos}
-use lib.ListN.{length}
-use lib.Signed.{_≤ℤ_}
 use Rattle.meaning_numbers.proofs.Member.{All, all-mem, mem-all}
-use Rattle.meaning_curves.specs.Limits.{windowIn, widthIn, mostValues, firstOutside, lowestEnd}
-use Rattle.meaning_curves.specs.Curve.{windowSum, windowCount}
-use Rattle.meaning_rows.specs.Judge.{firstBadRow}
-use Rattle.meaning_rows.specs.Audit.{firstWrong, missing}
-use Rattle.meaning_rows.specs.Build.{SetRow, builtRows, built}
-use Rattle.meaning_rows.proofs.Times.{sizes-all}
+use Rattle.meaning_numbers.proofs.Prelude.{_≡_, refl, sym, _∙_, true, List, none, ℕ, _<_, _≤_, arith, ℤ, pos, length, _≤ℤ_}
+use Rattle.meaning_curves.specs.{Limits.windowIn, Limits.widthIn, Limits.mostValues, Limits.firstOutside, Limits.lowestEnd, Curve.windowSum, Curve.windowCount}
+use Rattle.meaning_rows.specs.{Judge.firstBadRow, Audit.firstWrong, Audit.missing, Build.SetRow, Build.builtRows, Build.built}
+use Rattle.meaning_rows.proofs.{Times.sizes-all, Judge.Natural, Judge.between, Judge.GoodEnd, Judge.WellFormed, Judge.none-bad, Judge.rows-at-most, Audit.Filed, Audit.filed-passes, Sets.Sound, Sets.sets-well-formed, Sets.sets-home, Sets.once-any, Sets.end-least, Sums.ends-good}
 use Rattle.meaning_rows.proofs.Build.{sets, Ends, Fine, mergedRows, built-tiled, tiled-fine, tiled-ascends, built-once, built-occupied, built-ends, built-runs}
-use Rattle.meaning_rows.proofs.Judge.{Natural, between, GoodEnd, WellFormed, none-bad, rows-at-most}
-use Rattle.meaning_rows.proofs.Audit.{Filed, filed-passes}
-use Rattle.meaning_rows.proofs.Sets.{Sound, sets-well-formed, sets-home, once-any, end-least}
-use Rattle.meaning_rows.proofs.Sums.{ends-good}
 
 -- what a series, a window length and a row width are in their limits
 pub record Buildable (s : List ℤ) (w d : ℕ) : Type 0 where

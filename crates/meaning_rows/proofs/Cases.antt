@@ -1,18 +1,7 @@
 -- Small cases of the definitions, in one table that one proof covers.
-use mathlib.Core.Bool.{Bool, true, false, _&&_}
-use mathlib.Core.List.{List, [], _∷_, _++_}
-use mathlib.Core.Option.{Option, none, some}
-use Prim.Native.Nat.{ℕ}
-use lib.Dec.{T, eqb}
-use lib.IntN.{ℤ, pos, negsuc}
-use lib.ListN.{length}
 use Rattle.meaning_numbers.proofs.Table.{holds, sameℤ, sameList}
-use Rattle.meaning_rows.specs.Range.{rowNumber, lowOf, upOf}
-use Rattle.meaning_rows.specs.Index.{Index, Entry, RangeRow, laidOut, rangeRows}
-use Rattle.meaning_rows.specs.Judge.{firstBadRow}
-use Rattle.meaning_rows.specs.Audit.{firstWrong, missing}
-use Rattle.meaning_rows.specs.Build.{built}
-use Rattle.meaning_rows.specs.Extend.{extended}
+use Rattle.meaning_numbers.proofs.Prelude.{Bool, true, false, _&&_, List, [], _∷_, _++_, Option, none, some, ℕ, T, eqb, ℤ, pos, negsuc, length}
+use Rattle.meaning_rows.specs.{Range.rowNumber, Range.lowOf, Range.upOf, Index.Index, Index.Entry, Index.RangeRow, Index.laidOut, Index.rangeRows, Judge.firstBadRow, Audit.firstWrong, Audit.missing, Build.built, Extend.extended}
 use Rattle.meaning_rows.proofs.Open.{openRows}
 
 -- rows as a flat list of numbers: low, up, how many runs, and the runs

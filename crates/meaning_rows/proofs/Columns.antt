@@ -1,16 +1,8 @@
 -- The run buffer's two columns as a loop writes them: what one more offset does to `lefts (runs p n)` and `rights (runs p n)` in front of what was there.
-use mathlib.Core.Path.{_≡_, refl, sym, ap, _∙_}
-use mathlib.Core.Bool.{Bool, true, false, not, _&&_}
-use mathlib.Core.List.{List, [], _∷_, _++_}
-use Prim.Native.Nat.{ℕ, zero, suc, _+_, _-_, _<_, _≤_}
-use native.Mathlib.Omega.{arith}
-use native.Mathlib.Numerals.{add-one}
-use lib.ListN.{length, set, drop, getD, length-append, length-drop}
-use lib.Seq.{drop-cons, set-at, append-snoc, set-append-left}
 use Rattle.meaning_numbers.specs.Sum.{bit}
-use Rattle.meaning_rows.specs.Runs.{before, reach, takeIn, runs, runCount}
+use Rattle.meaning_numbers.proofs.Prelude.{_≡_, refl, sym, ap, _∙_, Bool, true, false, not, _&&_, List, [], _∷_, _++_, ℕ, zero, suc, _+_, _-_, _<_, _≤_, arith, add-one, length, set, drop, getD, length-append, length-drop, drop-cons, set-at, append-snoc, set-append-left}
+use Rattle.meaning_rows.specs.{Runs.before, Runs.reach, Runs.takeIn, Runs.runs, Runs.runCount, declared.Row.Row}
 use Rattle.meaning_rows.proofs.Runs.{runs-none, runs-more, runCount-more, before-none, before-more, before-some}
-use Rattle.meaning_rows.specs.declared.Row.{Row}
 
 -- the two columns of runs
 unfoldable pub lefts : List (ℕ × ℕ) → List ℕ

@@ -1,20 +1,9 @@
 -- Where the next run of a row is to be written: while a row's part is not full, its last entry in the right column has the number of runs written so far.
 -- So a pass over the runs fills all parts with no room but the parts themselves, with the runs (`filed-run`) or with any two values of each run (`filed-as`).
-use mathlib.Core.Path.{_≡_, sym, ap, _∙_}
-use mathlib.Core.Logic.{_⊎_, inl, inr, ⊎-elim}
-use mathlib.Core.Bool.{Bool, true, false, cond}
-use mathlib.Core.List.{List, [], _∷_, _++_}
-use Prim.Native.Nat.{ℕ, suc, _+_, _-_, _<_, _≤_}
-use native.Mathlib.Omega.{arith}
-use native.Mathlib.Decide.{decLt}
-use lib.Dec.{eqb, ltb}
-use lib.ListN.{length, set, getD, length-set, List·getD-append}
-use lib.Seq.{getD-set-same, getD-set-other, getD-at}
-use borrow.Author.Tests.{eqb-true, eqb-false, ltb-true, lt-ltb}
-use Rattle.meaning_numbers.proofs.Tests.{by-test}
+use Rattle.meaning_numbers.proofs.Prelude.{_≡_, sym, ap, _∙_, _⊎_, inl, inr, ⊎-elim, Bool, true, false, cond, List, [], _∷_, _++_, ℕ, suc, _+_, _-_, _<_, _≤_, arith, decLt, eqb, ltb, length, set, getD, length-set, List·getD-append, getD-set-same, getD-set-other, getD-at, eqb-true, eqb-false, ltb-true, lt-ltb, by-test}
 use Rattle.meaning_rows.specs.Runs.{before, runs, runCount}
-use Rattle.meaning_rows.proofs.Columns.{lefts, rights, lefts-end, rights-end, length-lefts, length-rights, runCount-none, runCount-mono}
 use Rattle.meaning_rows.proofs.Parts.{Laid, Parts, run-count, run-runs, stay-runs}
+use Rattle.meaning_rows.proofs.Columns.{lefts, rights, lefts-end, rights-end, length-lefts, length-rights, runCount-none, runCount-mono}
 
 -- the right column after run number t of a part is written, which ends at v: the part begins at f and has n entries
 unfoldable pub fileRight : List ℕ → ℕ → ℕ → ℕ → ℕ → List ℕ

@@ -1,45 +1,17 @@
 -- Extending a well-formed index over a longer series: old ranges are kept, with their old windows (`extended-kept`), other rows are new (`extended-only`), and each new window stands in
 -- exactly one row, which holds its sum (`extended-new`). The result is well formed (`extended-well-formed`), is filed right if the old index was (`extended-filed`), and for as many windows is
 -- a copy (`extended-copy`). New rows go beside the old, whose ranges are whole numbers of row widths.
-use mathlib.Core.Path.{_≡_, refl, sym, ap, _∙_, subst}
-use mathlib.Core.Logic.{_⊎_, inl, inr, ⊎-elim}
-use mathlib.Core.Bool.{Bool, true, false, _&&_}
-use mathlib.Core.List.{List, [], _∷_, map, List·Memᴰ as Mem, List·Memᴰ·head as here, List·Memᴰ·tail as there, List·Memᴰ·not-nil as not-nil, List·Memᴰ·cases-cons as cases}
-use mathlib.Core.Option.{none}
-use Prim.Native.Nat.{ℕ, zero, suc, _+_, _-_, _<_, _≤_}
-use native.Mathlib.Omega.{arith}
-use native.Mathlib.Decide.{decLt}
-use lib.Dec.{ltb}
-use lib.IntN.{ℤ, pos, natAbs}
-use lib.ListN.{length, take}
-use lib.Signed.{_≤ℤ_, _<ℤ_, ltZ}
-use borrow.Author.Tests.{le-leb, lt-leb, lt-ltb}
-use Rattle.meaning_numbers.specs.Sum.{count}
-use Rattle.meaning_numbers.specs.Place.{any}
-use Rattle.meaning_numbers.proofs.Rep.{zarith, *ℤ-mono}
-use Rattle.meaning_numbers.proofs.Machine.{ltZ-true, ltZ-false}
-use Rattle.meaning_numbers.proofs.Quotient.{floor-most}
-use Rattle.meaning_numbers.proofs.Count.{count-cong, count-never}
-use Rattle.meaning_numbers.proofs.Tests.{by-test, clash}
+use Rattle.meaning_numbers.specs.{Sum.count, Place.any}
+use Rattle.meaning_numbers.proofs.{Quotient.floor-most, Count.count-cong, Count.count-never}
 use Rattle.meaning_numbers.proofs.Member.{any-mem, any-found, none-any, mem-map, map-mem, All, all-mem, mem-all}
-use Rattle.meaning_curves.specs.Limits.{mostValues, firstOutside, lowestEnd}
-use Rattle.meaning_curves.specs.Curve.{windowSum, windowCount}
-use Rattle.meaning_rows.specs.declared.Row.{Row}
-use Rattle.meaning_rows.specs.Range.{rowNumber, lowOf, upOf, inside}
-use Rattle.meaning_rows.specs.Runs.{runs}
-use Rattle.meaning_rows.specs.Index.{Index, Entry, runsOf, inRun, stands, rangeRow, rangeRows, records, allRuns}
-use Rattle.meaning_rows.specs.Build.{SetRow, insert, rowAt, entry, withRuns}
-use Rattle.meaning_rows.specs.Judge.{runLengths, lengthTotal}
+use Rattle.meaning_numbers.proofs.Prelude.{_≡_, refl, sym, ap, _∙_, subst, _⊎_, inl, inr, ⊎-elim, Bool, true, false, _&&_, List, [], _∷_, map, List·Memᴰ as Mem, List·Memᴰ·head as here, List·Memᴰ·tail as there, List·Memᴰ·not-nil as not-nil, List·Memᴰ·cases-cons as cases, none, ℕ, zero, suc, _+_, _-_, _<_, _≤_, arith, decLt, ltb, ℤ, pos, natAbs, length, take, _≤ℤ_, _<ℤ_, ltZ, le-leb, lt-leb, lt-ltb, zarith, *ℤ-mono, ltZ-true, ltZ-false, by-test, clash}
+use Rattle.meaning_curves.specs.{Limits.mostValues, Limits.firstOutside, Limits.lowestEnd, Curve.windowSum, Curve.windowCount}
+use Rattle.meaning_rows.specs.{declared.Row.Row, Range.rowNumber, Range.lowOf, Range.upOf, Range.inside, Runs.runs, Build.SetRow, Build.insert, Build.rowAt, Build.entry, Build.withRuns, Judge.runLengths, Judge.lengthTotal}
 use Rattle.meaning_rows.specs.Extend.{grown, known, newNumbers, added, insertRow, insertRows, extendedRows, extended}
-use Rattle.meaning_rows.proofs.Range.{where-is, inside-yes, widen, next-le, row-before, in-own, multiple-is}
-use Rattle.meaning_rows.proofs.Runs.{Apart, held, runs-cong, apart-runs, entries-hold}
-use Rattle.meaning_rows.proofs.Times.{Ascending, times, sizes, sizes-once}
+use Rattle.meaning_rows.specs.Index.{Index, Entry, runsOf, inRun, stands, rangeRow, rangeRows, records, allRuns}
+use Rattle.meaning_rows.proofs.{Range.where-is, Range.inside-yes, Range.widen, Range.next-le, Range.row-before, Range.in-own, Range.multiple-is, Runs.Apart, Runs.held, Runs.runs-cong, Runs.apart-runs, Runs.entries-hold, Times.Ascending, Times.times, Times.sizes, Times.sizes-once, Audit.Home, Audit.Filed, Laid.rows-back, Laid.laid-again, Laid.length-allRuns, Sets.Sound, Sets.Shows, Sets.sets-well-formed, Sets.sets-home, Sets.shows-row, Sets.row-shows, Sets.once-any, Sets.end-least, Sums.ends-good, Sums.sum-of-part}
 use Rattle.meaning_rows.proofs.Build.{range, sets, covered, Exact, exact-once, Ends, Occupied, Sorted, mem-above, insert-sorted, insert-mem, insert-keeps, insert-only}
 use Rattle.meaning_rows.proofs.Judge.{GoodEnd, GoodRow, WellFormed, rangeOf, lengths-are, length-runsOf, each-row, ranges-ascend, lengths-at-most, rows-at-most, runs-at-most, runTotal}
-use Rattle.meaning_rows.proofs.Audit.{Home, Filed}
-use Rattle.meaning_rows.proofs.Laid.{rows-back, laid-again, length-allRuns}
-use Rattle.meaning_rows.proofs.Sets.{Sound, Shows, sets-well-formed, sets-home, shows-row, row-shows, once-any, end-least}
-use Rattle.meaning_rows.proofs.Sums.{ends-good, sum-of-part}
 
 -- ---- rows put among others
 

@@ -1,29 +1,11 @@
 -- The runs of a row of an extension: below the old window count they are the row's old runs (`old-runs`, `left-at`, `right-at`), and below n as many as these and the runs of its new windows, less one where
 -- the first new run joins the last old one (`onward-count`), which is told by the end of the last old run (`joins-old`).
-use mathlib.Core.Path.{_≡_, refl, sym, ap, _∙_, subst}
-use mathlib.Core.Bool.{Bool, true, false, not, _&&_}
-use mathlib.Core.List.{List, [], _∷_, map}
-use Prim.Native.Nat.{ℕ, zero, suc, _+_, _-_, _<_, _≤_, min}
-use native.Mathlib.Omega.{arith}
-use lib.Dec.{leb, eqb}
-use lib.IntN.{ℤ, pos, natAbs}
-use lib.ListN.{length, getD, take, drop, length-map, List·getD-map}
-use lib.Seq.{getD-take, getD-drop}
-use borrow.Author.Tests.{leb-true, le-leb, lt-leb, eq-eqb, ne-eqb}
-use Rattle.meaning_numbers.specs.Sum.{bit}
-use Rattle.meaning_numbers.specs.Place.{any}
-use Rattle.meaning_numbers.proofs.Tests.{by-test}
+use Rattle.meaning_numbers.specs.{Sum.bit, Place.any}
 use Rattle.meaning_numbers.proofs.Member.{All, all-mem, mem-all}
-use Rattle.meaning_rows.specs.declared.Row.{Row}
-use Rattle.meaning_rows.specs.Runs.{before, runs, runCount}
-use Rattle.meaning_rows.specs.Index.{Index, Entry, entries, runsOf, inRun}
-use Rattle.meaning_rows.specs.Build.{entry}
-use Rattle.meaning_rows.specs.Extend.{grown}
+use Rattle.meaning_numbers.proofs.Prelude.{_≡_, refl, sym, ap, _∙_, subst, Bool, true, false, not, _&&_, List, [], _∷_, map, ℕ, zero, suc, _+_, _-_, _<_, _≤_, min, arith, leb, eqb, ℤ, pos, natAbs, length, getD, take, drop, length-map, List·getD-map, getD-take, getD-drop, leb-true, le-leb, lt-leb, eq-eqb, ne-eqb, by-test}
+use Rattle.meaning_rows.specs.{declared.Row.Row, Runs.before, Runs.runs, Runs.runCount, Index.Index, Index.Entry, Index.entries, Index.runsOf, Index.inRun, Build.entry, Extend.grown}
+use Rattle.meaning_rows.proofs.{Columns.lefts, Columns.rights, Columns.runCount-none, Judge.GoodRuns, Judge.GoodRow, Judge.WellFormed, Judge.length-runsOf, Judge.each-row, Extend.grown-old, Woven.newRow, Woven.woven, Woven.all-woven}
 use Rattle.meaning_rows.proofs.Runs.{Apart, Next, held, entries-hold, runs-cong, apart-runs, runs-next, runCount-more, before-none, before-more}
-use Rattle.meaning_rows.proofs.Columns.{lefts, rights, runCount-none}
-use Rattle.meaning_rows.proofs.Judge.{GoodRuns, GoodRow, WellFormed, length-runsOf, each-row}
-use Rattle.meaning_rows.proofs.Extend.{grown-old}
-use Rattle.meaning_rows.proofs.Woven.{newRow, woven, all-woven}
 
 -- ---- the runs of a set from an offset on
 

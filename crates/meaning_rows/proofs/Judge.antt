@@ -1,36 +1,12 @@
 -- What judging an index means: `firstBadRow` is none exactly if the index is well formed, as a record of facts (`well-formed`, `none-bad`), and else the place of the first bad row (`first-bad`, `bad-first`).
 -- Each test is turned into its fact and back; a well-formed index has at most as many rows as runs, and runs as windows (`rows-at-most`, `runs-at-most`).
-use mathlib.Core.Path.{_≡_, refl, sym, ap, _∙_, subst}
-use mathlib.Core.Logic.{_⊎_, inl, inr, ⊎-elim}
-use mathlib.Core.Bool.{true, false, _&&_}
-use mathlib.Core.List.{List, [], _∷_, map}
-use mathlib.Core.Option.{Option, none, some}
-use Prim.Native.Nat.{ℕ, zero, suc, _+_, _<_, _≤_}
-use native.Mathlib.Omega.{arith}
-use native.Mathlib.Decide.{decLe}
-use lib.Dec.{leb}
-use lib.IntN.{ℤ, pos, negsuc, _+ℤ_, natAbs}
-use lib.ListN.{length, getD, take, drop, length-take, length-drop, drop-of-length-le}
-use lib.Seq.{take-take, drop-cons}
-use lib.Signed.{_≤ℤ_, _<ℤ_, leZ, ltZ}
-use borrow.Author.Tests.{leb-true, eqb-true, le-leb, eq-eqb, lt-ltb, ltb-true}
-use Rattle.meaning_numbers.specs.Order.{within}
-use Rattle.meaning_numbers.specs.Quotient.{multiple}
-use Rattle.meaning_numbers.specs.Sum.{count}
-use Rattle.meaning_numbers.specs.Place.{any}
-use Rattle.meaning_numbers.proofs.Count.{count-cong}
-use Rattle.meaning_numbers.proofs.Rep.{zarith}
-use Rattle.meaning_numbers.proofs.Machine.{ltZ-true, leZ-true, lt-ltZ}
-use Rattle.meaning_numbers.proofs.Tests.{by-test, both, of-both, clash}
-use Rattle.meaning_numbers.proofs.Member.{All, all-mem, mem-at}
+use Rattle.meaning_numbers.specs.{Order.within, Quotient.multiple, Sum.count, Place.any}
+use Rattle.meaning_numbers.proofs.{Count.count-cong, Member.All, Member.all-mem, Member.mem-at}
+use Rattle.meaning_numbers.proofs.Prelude.{_≡_, refl, sym, ap, _∙_, subst, _⊎_, inl, inr, ⊎-elim, true, false, _&&_, List, [], _∷_, map, Option, none, some, ℕ, zero, suc, _+_, _<_, _≤_, arith, decLe, leb, ℤ, pos, negsuc, _+ℤ_, natAbs, length, getD, take, drop, length-take, length-drop, drop-of-length-le, take-take, drop-cons, _≤ℤ_, _<ℤ_, leZ, ltZ, leb-true, eqb-true, le-leb, eq-eqb, lt-ltb, ltb-true, zarith, ltZ-true, leZ-true, lt-ltZ, by-test, both, of-both, clash}
 use Rattle.meaning_curves.specs.Limits.{endIn, lowestEnd, mostValues}
-use Rattle.meaning_rows.specs.declared.Row.{Row}
-use Rattle.meaning_rows.specs.Index.{Index, Entry, runsOf, inRun, stands}
+use Rattle.meaning_rows.specs.{declared.Row.Row, Index.Index, Index.Entry, Index.runsOf, Index.inRun, Index.stands, Build.entry}
 use Rattle.meaning_rows.specs.Judge.{headGood, runsGood, runLengths, rangeGood, partGood, rowGood, badRowFrom, firstBadRow, lengthTotal}
-use Rattle.meaning_rows.specs.Build.{entry}
-use Rattle.meaning_rows.proofs.Range.{le-leZ}
-use Rattle.meaning_rows.proofs.Runs.{Apart, held, entries-hold, held-in, lengths-count}
-use Rattle.meaning_rows.proofs.Times.{Range, Ascending}
+use Rattle.meaning_rows.proofs.{Range.le-leZ, Runs.Apart, Runs.held, Runs.entries-hold, Runs.held-in, Runs.lengths-count, Times.Range, Times.Ascending}
 
 -- ---- limits
 

@@ -1,16 +1,9 @@
 -- Rows laid out and read back are the same rows (`rows-back`): each row's part of the run buffer is its runs, and begins where the row before ends (`first-laid`).
 -- There are as many records as rows and as many run entries as runs (`length-records`, `length-allRuns`), and the rows of a well-formed index are laid out as they stand (`laid-again`).
-use mathlib.Core.Path.{_≡_, refl, sym, ap, _∙_, subst}
-use mathlib.Core.List.{List, [], _∷_, _++_, map, append-assoc}
-use Prim.Native.Nat.{ℕ, zero, suc, _+_, _<_, _≤_}
-use native.Mathlib.Omega.{arith}
-use lib.IntN.{ℤ}
-use lib.ListN.{length, getD, take, drop, length-append}
-use lib.Seq.{take-append-seam, drop-append-seam, take-add, drop-drop}
+use Rattle.meaning_numbers.proofs.Prelude.{_≡_, refl, sym, ap, _∙_, subst, List, [], _∷_, _++_, map, append-assoc, ℕ, zero, suc, _+_, _<_, _≤_, arith, ℤ, length, getD, take, drop, length-append, take-append-seam, drop-append-seam, take-add, drop-drop}
 use Rattle.meaning_curves.specs.Limits.{lowestEnd}
-use Rattle.meaning_rows.specs.declared.Row.{Row}
+use Rattle.meaning_rows.specs.{declared.Row.Row, Judge.runLengths}
 use Rattle.meaning_rows.specs.Index.{Index, Entry, RangeRow, records, allRuns, laidOut, runsOf, rangeRow, rangeRows}
-use Rattle.meaning_rows.specs.Judge.{runLengths}
 use Rattle.meaning_rows.proofs.Judge.{GoodRows, WellFormed, runTotal, length-runsOf}
 
 -- from k on the run buffer has the runs of the rows, one row's after the other's

@@ -1,15 +1,8 @@
 -- Rows laid out in order, by place: record i begins where the parts before end (`records-at`), all parts together are as long as their sizes added up (`runs-total`), and a column of a run buffer whose parts hold the runs of the rows has the rows' run entries in order (`column-at`).
-use mathlib.Core.Path.{_≡_, refl, sym, ap, _∙_}
-use mathlib.Core.List.{List, [], _∷_, _++_, map}
-use Prim.Native.Nat.{ℕ, zero, suc, _+_, _-_, _<_}
-use native.Mathlib.Omega.{arith}
-use native.Mathlib.Decide.{decLt}
-use lib.ListN.{length, getD, length-append, length-map, List·getD-append}
-use lib.Seq.{getD-append-add}
 use Rattle.meaning_numbers.specs.Sum.{Σℕ}
 use Rattle.meaning_numbers.proofs.Sum.{Σℕ-none}
-use Rattle.meaning_rows.specs.declared.Row.{Row}
-use Rattle.meaning_rows.specs.Index.{Entry, RangeRow, records, allRuns}
+use Rattle.meaning_numbers.proofs.Prelude.{_≡_, refl, sym, ap, _∙_, List, [], _∷_, _++_, map, ℕ, zero, suc, _+_, _-_, _<_, arith, decLt, length, getD, length-append, length-map, List·getD-append, getD-append-add}
+use Rattle.meaning_rows.specs.{declared.Row.Row, Index.Entry, Index.RangeRow, Index.records, Index.allRuns}
 
 -- the first summand taken out
 pub Σℕ-shift : (n : ℕ) (f : ℕ → ℕ) → Σℕ (suc n) f ≡ f 0 + Σℕ n (λ k. f (suc k))

@@ -1,15 +1,8 @@
 -- Merging by counts: the touching neighbours of two sets, counted over the runs of one of them, by the offset before a run and the offset after it.
-use mathlib.Core.Path.{_≡_, refl, ap}
-use mathlib.Core.Bool.{Bool, true, false, not, _&&_, _||_}
-use mathlib.Core.List.{List, [], _∷_, _++_}
-use Prim.Native.Nat.{ℕ, zero, suc, _+_, _<_}
-use native.Mathlib.Omega.{arith}
-use native.Mathlib.Nat.{le-step}
 use Rattle.meaning_numbers.specs.Sum.{bit, count}
-use Rattle.meaning_numbers.proofs.Tests.{clash}
+use Rattle.meaning_numbers.proofs.Prelude.{_≡_, refl, ap, Bool, true, false, not, _&&_, _||_, List, [], _∷_, _++_, ℕ, zero, suc, _+_, _<_, arith, le-step, clash}
 use Rattle.meaning_rows.specs.Runs.{before, reach, takeIn, runs, runCount}
-use Rattle.meaning_rows.proofs.Runs.{Next, runs-next, begins, crosses, either, before-apart, runs-union}
-use Rattle.meaning_rows.proofs.Columns.{lefts, rights, lefts-reach, lefts-end, rights-end}
+use Rattle.meaning_rows.proofs.{Runs.Next, Runs.runs-next, Runs.begins, Runs.crosses, Runs.either, Runs.before-apart, Runs.runs-union, Columns.lefts, Columns.rights, Columns.lefts-reach, Columns.lefts-end, Columns.rights-end}
 
 unfoldable pub sumOver : (ℕ → ℕ) → List ℕ → ℕ
 sumOver f [] = 0

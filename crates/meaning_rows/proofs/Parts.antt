@@ -1,14 +1,8 @@
 -- All rows filled in one pass, in series order: row i has the part of the run buffer from first i on. A run is one run more of its row (`run-runs`), and none of another (`stay-runs`). Over plain variables.
-use mathlib.Core.Path.{_≡_, refl, ap}
-use mathlib.Core.Bool.{Bool, true, false, not, _&&_}
-use mathlib.Core.List.{List, [], _∷_, _++_}
-use Prim.Native.Nat.{ℕ, zero, suc, _+_, _<_, _≤_}
-use native.Mathlib.Omega.{arith}
-use lib.ListN.{getD}
 use Rattle.meaning_numbers.specs.Sum.{bit}
+use Rattle.meaning_numbers.proofs.Prelude.{_≡_, refl, ap, Bool, true, false, not, _&&_, List, [], _∷_, _++_, ℕ, zero, suc, _+_, _<_, _≤_, arith, getD}
 use Rattle.meaning_rows.specs.Runs.{before, reach, takeIn, runs, runCount}
-use Rattle.meaning_rows.proofs.Runs.{runs-more, runCount-more, before-more}
-use Rattle.meaning_rows.proofs.Columns.{lefts, rights, runCount-none}
+use Rattle.meaning_rows.proofs.{Runs.runs-more, Runs.runCount-more, Runs.before-more, Columns.lefts, Columns.rights, Columns.runCount-none}
 
 -- ---- the invariant
 

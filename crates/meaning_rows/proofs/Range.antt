@@ -1,19 +1,8 @@
 -- Row k holds exactly its sums, negative ones too: a sum lies in the range of its row number (`row-holds`) and in no other row's (`row-only`), by the two inequalities of the quotient rounded down.
 -- A range test is read as its two orders both ways (`inside-yes`, `is-inside`), and two ranges with nothing between them join (`inside-join`).
-use mathlib.Core.Path.{_≡_, refl, ap}
-use mathlib.Core.Bool.{Bool, true, false, _&&_, _||_, and-false}
-use Prim.Native.Nat.{ℕ, zero, suc, _+_, _*_, _/_, _%_, _<_, _≤_}
-use native.Mathlib.Omega.{arith}
-use native.Mathlib.Nat.{div-mul-le-self, lt-div-mul-add, div-add-mod', mul-mod-left}
-use lib.Dec.{T}
-use lib.IntN.{ℤ, pos, negsuc, negℤ, natAbs, subℕ, _+ℤ_}
-use lib.Signed.{_≤ℤ_, _<ℤ_, leZ, ltZ}
-use borrow.Author.Tests.{eqb-true, eq-eqb}
 use Rattle.meaning_numbers.specs.Quotient.{multiple}
-use Rattle.meaning_numbers.proofs.Rep.{Rep, rep-self, rep-pos, rep-add, rep-mul, rep-eq, rep-le, rep-lt, rep-subℕ, zarith, z-add, *ℤ-mono}
-use Rattle.meaning_numbers.proofs.Machine.{zmach, ltZ-true, ltZ-false, lt-ltZ, le-ltZ}
 use Rattle.meaning_numbers.proofs.Quotient.{floor-is}
-use Rattle.meaning_numbers.proofs.Tests.{by-test, clash}
+use Rattle.meaning_numbers.proofs.Prelude.{_≡_, refl, ap, Bool, true, false, _&&_, _||_, and-false, ℕ, zero, suc, _+_, _*_, _/_, _%_, _<_, _≤_, arith, div-mul-le-self, lt-div-mul-add, div-add-mod', mul-mod-left, T, ℤ, pos, negsuc, negℤ, natAbs, subℕ, _+ℤ_, _≤ℤ_, _<ℤ_, leZ, ltZ, eqb-true, eq-eqb, Rep, rep-self, rep-pos, rep-add, rep-mul, rep-eq, rep-le, rep-lt, rep-subℕ, zarith, z-add, *ℤ-mono, zmach, ltZ-true, ltZ-false, lt-ltZ, le-ltZ, by-test, clash}
 use Rattle.meaning_rows.specs.Range.{rowNumber, lowOf, upOf, inside}
 
 -- ---- ranges

@@ -1,24 +1,9 @@
 -- Runs of a set, given as a test: they have exactly its members (`runs-hold`), ascend and do not touch (`runs-apart`), and are as many as its members whose offset before is none (`runs-are`).
 -- The runs of a union are those of both less the places where the two touch (`runs-of-union`). Each is an induction on the number of offsets, one offset taken in at a time.
-use mathlib.Core.Path.{_≡_, refl, sym, ap, _∙_}
-use mathlib.Core.Bool.{Bool, true, false, not, _&&_, _||_, and-true, and-false, or-false, or-assoc, false≢true}
-use mathlib.Core.List.{List, [], _∷_, _++_, map}
-use Prim.Native.Nat.{ℕ, zero, suc, _+_, _-_, _<_, _≤_, min}
-use native.Mathlib.Omega.{arith}
-use native.Mathlib.Numerals.{add-one}
-use native.Mathlib.Nat.{le-step}
-use native.Mathlib.Decide.{decLe}
-use lib.Dec.{leb, ltb, eqb}
-use lib.ListN.{length, length-append}
-use borrow.Author.Tests.{leb-true, leb-false, ltb-true, ltb-false, eqb-true, eqb-false, lt-ltb, le-ltb, le-leb, lt-leb, ne-eqb}
-use Rattle.meaning_numbers.specs.Sum.{bit, count}
-use Rattle.meaning_numbers.specs.Place.{any}
+use Rattle.meaning_numbers.specs.{Sum.bit, Sum.count, Place.any}
 use Rattle.meaning_numbers.proofs.Count.{bit-or, count-cong, count-le, count-mono, count-add, count-shift, count-never}
-use Rattle.meaning_numbers.proofs.Tests.{by-test, both, clash}
-use Rattle.meaning_rows.specs.Runs.{before, reach, takeIn, runs, runCount}
-use Rattle.meaning_rows.specs.Index.{inRun}
-use Rattle.meaning_rows.specs.Build.{entry}
-use Rattle.meaning_rows.specs.Judge.{runLengths}
+use Rattle.meaning_numbers.proofs.Prelude.{_≡_, refl, sym, ap, _∙_, Bool, true, false, not, _&&_, _||_, and-true, and-false, or-false, or-assoc, false≢true, List, [], _∷_, _++_, map, ℕ, zero, suc, _+_, _-_, _<_, _≤_, min, arith, add-one, le-step, decLe, leb, ltb, eqb, length, length-append, leb-true, leb-false, ltb-true, ltb-false, eqb-true, eqb-false, lt-ltb, le-ltb, le-leb, lt-leb, ne-eqb, by-test, both, clash}
+use Rattle.meaning_rows.specs.{Runs.before, Runs.reach, Runs.takeIn, Runs.runs, Runs.runCount, Index.inRun, Build.entry, Judge.runLengths}
 
 -- ---- how many runs
 

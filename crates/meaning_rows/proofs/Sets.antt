@@ -1,37 +1,12 @@
 -- Rows given by sets of offsets, laid out with their runs. A row has below n exactly the offsets of its set (`row-shows`, `shows-row`). Such an index is well formed if the ranges ascend and
 -- their ends are good, no set is empty, and the sizes total at most the windows (`sets-well-formed`); then a window that its sets hold rightly has a home (`sets-home`).
-use mathlib.Core.Path.{_≡_, refl, sym, ap, _∙_, subst}
-use mathlib.Core.Logic.{⊎-elim}
-use mathlib.Core.Bool.{Bool, true, _&&_}
-use mathlib.Core.List.{List, [], _∷_, map, List·Memᴰ as Mem, List·Memᴰ·head as here, List·Memᴰ·tail as there, List·Memᴰ·not-nil as not-nil, List·Memᴰ·cases-cons as cases}
-use Prim.Native.Nat.{ℕ, _+_, _<_, _≤_}
-use native.Mathlib.Omega.{arith}
-use lib.Dec.{ltb}
-use lib.IntN.{ℤ, pos, natAbs}
-use lib.ListN.{length, length-map}
-use lib.Signed.{_≤ℤ_, leZ}
-use borrow.Author.Tests.{lt-ltb}
-use Rattle.meaning_numbers.specs.Sum.{count}
-use Rattle.meaning_numbers.specs.Place.{any}
-use Rattle.meaning_numbers.specs.Order.{within}
-use Rattle.meaning_numbers.proofs.Machine.{leZ-true}
-use Rattle.meaning_numbers.proofs.Count.{count-cong}
-use Rattle.meaning_numbers.proofs.Tests.{by-test, both, of-both}
-use Rattle.meaning_numbers.proofs.Member.{any-map, any-found, any-mem, All}
-use Rattle.meaning_curves.specs.Limits.{lowestEnd}
-use Rattle.meaning_curves.specs.Curve.{windowSum}
-use Rattle.meaning_rows.specs.declared.Row.{Row}
-use Rattle.meaning_rows.specs.Range.{inside}
+use Rattle.meaning_numbers.specs.{Sum.count, Place.any, Order.within}
+use Rattle.meaning_numbers.proofs.{Count.count-cong, Member.any-map, Member.any-found, Member.any-mem, Member.All}
+use Rattle.meaning_numbers.proofs.Prelude.{_≡_, refl, sym, ap, _∙_, subst, ⊎-elim, Bool, true, _&&_, List, [], _∷_, map, List·Memᴰ as Mem, List·Memᴰ·head as here, List·Memᴰ·tail as there, List·Memᴰ·not-nil as not-nil, List·Memᴰ·cases-cons as cases, ℕ, _+_, _<_, _≤_, arith, ltb, ℤ, pos, natAbs, length, length-map, _≤ℤ_, leZ, lt-ltb, leZ-true, by-test, both, of-both}
+use Rattle.meaning_curves.specs.{Limits.lowestEnd, Curve.windowSum}
+use Rattle.meaning_rows.specs.{declared.Row.Row, Range.inside, Runs.runs, Judge.runLengths, Build.SetRow, Build.entry, Build.withRuns}
 use Rattle.meaning_rows.specs.Index.{Index, Entry, inRun, stands, runsOf, records, laidOut}
-use Rattle.meaning_rows.specs.Runs.{runs}
-use Rattle.meaning_rows.specs.Judge.{runLengths}
-use Rattle.meaning_rows.specs.Build.{SetRow, entry, withRuns}
-use Rattle.meaning_rows.proofs.Runs.{held, runs-apart, runs-hold, entries-of-runs, lengths-count}
-use Rattle.meaning_rows.proofs.Times.{Ascending, times, sizes, none-times}
-use Rattle.meaning_rows.proofs.Judge.{GoodHead, GoodEnd, GoodRows, WellFormed}
-use Rattle.meaning_rows.proofs.Audit.{Home, home-of}
-use Rattle.meaning_rows.proofs.Laid.{Lays, laid}
-use Rattle.meaning_rows.proofs.Build.{range, sets, Ends, Occupied, occupied-runs}
+use Rattle.meaning_rows.proofs.{Runs.held, Runs.runs-apart, Runs.runs-hold, Runs.entries-of-runs, Runs.lengths-count, Times.Ascending, Times.times, Times.sizes, Times.none-times, Judge.GoodHead, Judge.GoodEnd, Judge.GoodRows, Judge.WellFormed, Audit.Home, Audit.home-of, Laid.Lays, Laid.laid, Build.range, Build.sets, Build.Ends, Build.Occupied, Build.occupied-runs}
 
 -- the index of n windows with these rows
 abbrev pub shown : ℤ → ℤ → ℕ → List SetRow → Index

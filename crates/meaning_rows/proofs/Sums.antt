@@ -1,28 +1,11 @@
 -- The limits of window sums: values in their limits have window sums of at most 10,000 w either way (`sum-limits`), so the ends of a sum's row are good ends of a range (`ends-good`).
 -- The windows of a series and of a part from its start have the same sums (`sum-of-part`).
-use mathlib.Core.Path.{_≡_}
-use mathlib.Core.Bool.{true, not}
-use mathlib.Core.List.{List}
-use mathlib.Core.Option.{none}
-use Prim.Native.Nat.{ℕ, _+_, _*_, _<_, _≤_}
-use native.Mathlib.Omega.{arith}
-use native.Mathlib.Decide.{decLt}
-use lib.IntN.{ℤ, pos, negsuc, negℤ, _+ℤ_}
-use lib.ListN.{length, getD, take, List·getD-eq-default}
-use lib.Seq.{getD-take}
-use lib.Signed.{_≤ℤ_, _<ℤ_, leZ}
-use borrow.Author.Tests.{not-false}
 use Rattle.meaning_numbers.specs.Order.{within}
-use Rattle.meaning_numbers.proofs.Rep.{up, dn, rep-pos, rep-neg, rep-le, zarith, z-add, z-neg}
-use Rattle.meaning_numbers.proofs.Machine.{leZ-true}
-use Rattle.meaning_numbers.proofs.Sum.{rep-Σ-self, Σℕ-le, Σℤ-same}
-use Rattle.meaning_numbers.proofs.Tests.{both, of-both}
-use Rattle.meaning_numbers.proofs.Member.{mem-at, place-none}
-use Rattle.meaning_curves.specs.Limits.{valueIn, endIn, lowestEnd, firstOutside}
-use Rattle.meaning_curves.specs.Curve.{stretch, windowSum}
+use Rattle.meaning_numbers.proofs.{Sum.rep-Σ-self, Sum.Σℕ-le, Sum.Σℤ-same, Member.mem-at, Member.place-none}
+use Rattle.meaning_numbers.proofs.Prelude.{_≡_, true, not, List, none, ℕ, _+_, _*_, _<_, _≤_, arith, decLt, ℤ, pos, negsuc, negℤ, _+ℤ_, length, getD, take, List·getD-eq-default, getD-take, _≤ℤ_, _<ℤ_, leZ, not-false, up, dn, rep-pos, rep-neg, rep-le, zarith, z-add, z-neg, leZ-true, both, of-both}
+use Rattle.meaning_curves.specs.{Limits.valueIn, Limits.endIn, Limits.lowestEnd, Limits.firstOutside, Curve.stretch, Curve.windowSum}
 use Rattle.meaning_rows.specs.Range.{rowNumber, lowOf, upOf}
-use Rattle.meaning_rows.proofs.Range.{le-leZ, row-below, row-above, up-is, multiple-of}
-use Rattle.meaning_rows.proofs.Judge.{GoodEnd}
+use Rattle.meaning_rows.proofs.{Range.le-leZ, Range.row-below, Range.row-above, Range.up-is, Range.multiple-of, Judge.GoodEnd}
 
 -- every value of a series in its limits; what stands past the end is 0
 pub value-in : (s : List ℤ) → firstOutside s ≡ none → (k : ℕ) → valueIn (getD s k (pos 0)) ≡ true

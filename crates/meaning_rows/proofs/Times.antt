@@ -1,18 +1,8 @@
 -- A list of sets of offsets, each given as a test: how many of them have an offset (`times`), and their sizes added up (`sizes`), which count each offset as often (`sizes-more`).
 -- And of ranges: where they ascend, at most one holds a sum (`holders-are`).
-use mathlib.Core.Path.{_≡_, refl}
-use mathlib.Core.Bool.{Bool, false}
-use mathlib.Core.List.{List, [], _∷_}
-use Prim.Native.Nat.{ℕ, zero, suc, _+_, _<_, _≤_}
-use native.Mathlib.Omega.{arith}
-use native.Mathlib.Nat.{le-step}
-use lib.IntN.{ℤ}
-use lib.Signed.{_≤ℤ_, _<ℤ_}
-use Rattle.meaning_numbers.specs.Sum.{bit, count}
-use Rattle.meaning_numbers.specs.Place.{any}
-use Rattle.meaning_numbers.proofs.Rep.{zarith}
+use Rattle.meaning_numbers.specs.{Sum.bit, Sum.count, Place.any}
 use Rattle.meaning_numbers.proofs.Count.{bit-false}
-use Rattle.meaning_numbers.proofs.Tests.{by-test, clash}
+use Rattle.meaning_numbers.proofs.Prelude.{_≡_, refl, Bool, false, List, [], _∷_, ℕ, zero, suc, _+_, _<_, _≤_, arith, le-step, ℤ, _≤ℤ_, _<ℤ_, zarith, by-test, clash}
 use Rattle.meaning_rows.specs.Range.{inside}
 use Rattle.meaning_rows.proofs.Range.{inside-below, is-inside}
 

@@ -1,35 +1,13 @@
 -- The rows of an extension as one ascending walk over the old rows and the row numbers of the new windows: a number whose range an old row holds is skipped, any other makes a new row, and an old row
 -- is kept (`weave-inside`, `weave-new`, `weave-old`). Laid out with their runs, the records that the walk makes are the rows of the extension (`woven-extended`).
-use mathlib.Core.Path.{_≡_, refl, sym, ap, _∙_, subst}
-use mathlib.Core.Logic.{⊎-elim}
-use mathlib.Core.Bool.{Bool, true, false, cond, not}
-use mathlib.Core.List.{List, [], _∷_, map, List·Memᴰ as Mem, List·Memᴰ·head as here, List·Memᴰ·tail as there, List·Memᴰ·not-nil as not-nil, List·Memᴰ·cases-cons as cases}
-use Prim.Native.Nat.{ℕ, suc, _+_, _-_, _<_, _≤_}
-use native.Mathlib.Omega.{arith}
-use lib.Dec.{leb}
-use lib.IntN.{ℤ, natAbs}
-use lib.ListN.{length, length-map}
-use lib.Signed.{_≤ℤ_, _<ℤ_, ltZ}
 use Rattle.meaning_numbers.specs.Place.{any}
-use Rattle.meaning_numbers.proofs.Rep.{zarith, *ℤ-mono}
-use Rattle.meaning_numbers.proofs.Machine.{lt-ltZ, le-ltZ}
-use Rattle.meaning_numbers.proofs.Quotient.{floor-most}
-use Rattle.meaning_numbers.proofs.Tests.{by-test, clash}
-use Rattle.meaning_numbers.proofs.Member.{any-cong, any-map, All, all-mem}
-use Rattle.meaning_curves.specs.Limits.{lowestEnd}
-use Rattle.meaning_curves.specs.Curve.{windowSum, windowCount}
-use Rattle.meaning_rows.specs.declared.Row.{Row}
-use Rattle.meaning_rows.specs.Range.{rowNumber, lowOf, upOf, inside}
-use Rattle.meaning_rows.specs.Runs.{runs}
-use Rattle.meaning_rows.specs.Index.{Index, RangeRow}
-use Rattle.meaning_rows.specs.Build.{SetRow, rowNumbers, rowAt, entry, withRuns}
+use Rattle.meaning_numbers.proofs.{Quotient.floor-most, Member.any-cong, Member.any-map, Member.All, Member.all-mem}
+use Rattle.meaning_numbers.proofs.Prelude.{_≡_, refl, sym, ap, _∙_, subst, ⊎-elim, Bool, true, false, cond, not, List, [], _∷_, map, List·Memᴰ as Mem, List·Memᴰ·head as here, List·Memᴰ·tail as there, List·Memᴰ·not-nil as not-nil, List·Memᴰ·cases-cons as cases, ℕ, suc, _+_, _-_, _<_, _≤_, arith, leb, ℤ, natAbs, length, length-map, _≤ℤ_, _<ℤ_, ltZ, zarith, *ℤ-mono, lt-ltZ, le-ltZ, by-test, clash}
+use Rattle.meaning_curves.specs.{Limits.lowestEnd, Curve.windowSum, Curve.windowCount}
+use Rattle.meaning_rows.specs.{declared.Row.Row, Range.rowNumber, Range.lowOf, Range.upOf, Range.inside, Runs.runs, Index.Index, Index.RangeRow, Build.SetRow, Build.rowNumbers, Build.rowAt, Build.entry, Build.withRuns}
 use Rattle.meaning_rows.specs.Extend.{grown, newNumbers, added, insertRow, insertRows, extendedRows, extended}
-use Rattle.meaning_rows.proofs.Range.{inside-yes, is-inside, inside-below, widen, next-le, row-below, multiple-is}
-use Rattle.meaning_rows.proofs.Runs.{runs-cong}
-use Rattle.meaning_rows.proofs.Times.{Range, holds, Ascending}
+use Rattle.meaning_rows.proofs.{Range.inside-yes, Range.is-inside, Range.inside-below, Range.widen, Range.next-le, Range.row-below, Range.multiple-is, Runs.runs-cong, Times.Range, Times.holds, Times.Ascending, Judge.GoodEnd, Judge.GoodRow, Judge.WellFormed, Judge.rangeOf, Judge.each-row, Laid.length-records}
 use Rattle.meaning_rows.proofs.Build.{range, Above, Sorted, mem-above, sorted-unique, numbers-sorted, numbers-mem, numbers-occur}
-use Rattle.meaning_rows.proofs.Judge.{GoodEnd, GoodRow, WellFormed, rangeOf, each-row}
-use Rattle.meaning_rows.proofs.Laid.{length-records}
 use Rattle.meaning_rows.proofs.Extend.{Extendable, rows, ascends, covers-new, extended-most, new-sorted, new-mem, new-occur, beside}
 
 -- the record of a new row, which has no run yet

@@ -1,15 +1,12 @@
 -- The audit of a well-formed index against a series with as many windows (01, Rows).
+use Prim.Native.Nat.{ℕ, suc, _+_, _-_}
+use lib.IntN.{ℤ, natAbs}
 use mathlib.Core.Bool.{Bool, not, cond}
 use mathlib.Core.List.{List, [], _∷_, _++_}
 use mathlib.Core.Option.{Option, none, some}
-use Prim.Native.Nat.{ℕ, suc, _+_, _-_}
-use lib.IntN.{ℤ, natAbs}
-use Rattle.meaning_numbers.specs.Sum.{count}
-use Rattle.meaning_numbers.specs.Place.{any, numbersFrom}
+use Rattle.meaning_numbers.specs.{Sum.count, Place.any, Place.numbersFrom}
 use Rattle.meaning_curves.specs.Curve.{windowSum}
-use Rattle.meaning_rows.specs.declared.Row.{Row}
-use Rattle.meaning_rows.specs.Range.{inside}
-use Rattle.meaning_rows.specs.Index.{Index, Entry, runsOf, stands}
+use Rattle.meaning_rows.specs.{declared.Row.Row, Range.inside, Index.Index, Index.Entry, Index.runsOf, Index.stands}
 
 -- the offsets of runs, upward
 unfoldable pub offsets : List Entry → List ℕ

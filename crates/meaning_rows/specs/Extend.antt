@@ -1,18 +1,15 @@
 -- Extending a well-formed index, audited or not, over a series with at least as many windows (01, Rows). Old ranges are kept; a new window goes to the row whose range holds
 -- its sum, or to a new row of width d; nothing is merged. Windows below the old count are not looked at.
-use mathlib.Core.Bool.{Bool, cond, _&&_}
-use mathlib.Core.List.{List, [], _∷_, map}
 use Prim.Native.Nat.{ℕ, zero, suc, _+_, _-_}
 use lib.Dec.{leb}
 use lib.IntN.{ℤ, pos, natAbs}
 use lib.ListN.{length}
 use lib.Signed.{ltZ}
+use mathlib.Core.Bool.{Bool, cond, _&&_}
+use mathlib.Core.List.{List, [], _∷_, map}
 use Rattle.meaning_numbers.specs.Place.{any}
 use Rattle.meaning_curves.specs.Curve.{windowSum, windowCount}
-use Rattle.meaning_rows.specs.declared.Row.{Row}
-use Rattle.meaning_rows.specs.Range.{rowNumber, inside}
-use Rattle.meaning_rows.specs.Index.{Index, RangeRow, laidOut, stands}
-use Rattle.meaning_rows.specs.Build.{SetRow, insert, rowAt, withRuns}
+use Rattle.meaning_rows.specs.{declared.Row.Row, Range.rowNumber, Range.inside, Index.Index, Index.RangeRow, Index.laidOut, Index.stands, Build.SetRow, Build.insert, Build.rowAt, Build.withRuns}
 
 -- an old row with its old offsets, and the windows from `old` on whose sums its range holds
 unfoldable pub grown : Index → (ℕ → ℤ) → ℕ → Row → SetRow

@@ -1,13 +1,12 @@
 -- The index: head, row records and run entries, as they are lent or as a text spells them. A text may have any whole numbers, so the head and the run entries are whole numbers here.
-use mathlib.Core.Bool.{Bool, _&&_}
-use mathlib.Core.List.{List, [], _∷_, _++_, map}
 use Prim.Native.Nat.{ℕ, _+_}
 use lib.IntN.{ℤ, pos}
 use lib.ListN.{length, take, drop}
 use lib.Signed.{leZ}
+use mathlib.Core.Bool.{Bool, _&&_}
+use mathlib.Core.List.{List, [], _∷_, _++_, map}
 use Rattle.meaning_numbers.specs.Place.{any}
-use Rattle.meaning_rows.specs.declared.Row.{Row}
-use Rattle.meaning_rows.specs.declared.Head.{Head}
+use Rattle.meaning_rows.specs.{declared.Row.Row, declared.Head.Head}
 
 -- the record of zeros
 abbrev pub zeroRow : Row

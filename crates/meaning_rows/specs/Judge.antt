@@ -1,16 +1,15 @@
 -- When an index is well formed, and the first bad row (01, Rows). The head is judged first; a row is judged by itself and against the rows before it.
-use mathlib.Core.Bool.{Bool, true, cond, _&&_}
-use mathlib.Core.List.{List, [], _∷_}
-use mathlib.Core.Option.{Option, none, some}
 use Prim.Native.Nat.{ℕ, suc, _+_, _-_}
 use lib.Dec.{leb, eqb}
 use lib.IntN.{ℤ, pos, _+ℤ_, natAbs}
 use lib.ListN.{length}
 use lib.Signed.{leZ, ltZ}
+use mathlib.Core.Bool.{Bool, true, cond, _&&_}
+use mathlib.Core.List.{List, [], _∷_}
+use mathlib.Core.Option.{Option, none, some}
 use Rattle.meaning_numbers.specs.Quotient.{multiple}
 use Rattle.meaning_curves.specs.Limits.{windowIn, widthIn, windowsIn, endIn, lowestEnd}
-use Rattle.meaning_rows.specs.declared.Row.{Row}
-use Rattle.meaning_rows.specs.Index.{Index, Entry, runsOf}
+use Rattle.meaning_rows.specs.{declared.Row.Row, Index.Index, Index.Entry, Index.runsOf}
 
 -- w and d are in their limits, and it has at least one window, at most 1,048,576
 unfoldable pub headGood : Index → Bool

@@ -1,8 +1,8 @@
 -- Row numbers and ranges of sums.
-use mathlib.Core.Bool.{Bool, _&&_}
 use Prim.Native.Nat.{ℕ}
 use lib.IntN.{ℤ, pos, _+ℤ_, _*ℤ_}
 use lib.Signed.{leZ, ltZ}
+use mathlib.Core.Bool.{Bool, _&&_}
 use Rattle.meaning_numbers.specs.Quotient.{floorℤ}
 
 -- 01, Rows: the number k of the row that holds a sum, rounded down for negative sums too

@@ -1,15 +1,6 @@
 -- Reading byte by byte, for any form: an automaton whose every state has a reader for what is left of the text (`Onward`), such that a byte takes a state to one that reads the rest alike, comes to what `readText` says, whatever the pieces in which the text comes.
-use mathlib.Core.Path.{_≡_, refl, ap, _∙_}
-use mathlib.Core.List.{List, [], _∷_, _++_}
-use mathlib.Core.Option.{Option, none, some}
-use Prim.Native.Nat.{ℕ, suc, _+_, _-_, _<_, _≤_}
-use native.Mathlib.Numerals.{add-one}
-use native.Mathlib.Omega.{arith}
-use lib.ListN.{length, getD, drop, drop-of-length-le}
-use lib.Seq.{drop-cons}
-use Rattle.meaning_text.specs.Number.{Read, got, bad}
-use Rattle.meaning_text.specs.Form.{Form, Value, read}
-use Rattle.meaning_text.specs.Read.{Verdict, fine, unfit, ended, readText}
+use Rattle.meaning_numbers.proofs.Prelude.{_≡_, refl, ap, _∙_, List, [], _∷_, _++_, Option, none, some, ℕ, suc, _+_, _-_, _<_, _≤_, add-one, arith, length, getD, drop, drop-of-length-le, drop-cons}
+use Rattle.meaning_text.specs.{Number.Read, Number.got, Number.bad, Form.Form, Form.Value, Form.read, Read.Verdict, Read.fine, Read.unfit, Read.ended, Read.readText}
 use Rattle.meaning_text.proofs.Onward.{Rest}
 
 -- how far a text has been read: the state after p bytes, or that byte p was refused

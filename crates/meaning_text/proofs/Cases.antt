@@ -1,14 +1,8 @@
 -- Small cases of the definitions, in one table that one proof covers.
-use mathlib.Core.Bool.{Bool, false}
-use mathlib.Core.List.{List, [], _∷_}
-use Prim.Native.Nat.{ℕ}
 use Prim.Native.String.{String}
-use lib.Dec.{T, eqb}
 use Rattle.meaning_numbers.proofs.Table.{holds, sameList}
-use Rattle.meaning_text.specs.Bytes.{bytes}
-use Rattle.meaning_text.specs.Form.{Form, spell}
-use Rattle.meaning_text.specs.Read.{fine, unfit, readText, lineOf}
-use Rattle.meaning_text.specs.Texts.{indexForm, seriesForm, programForm}
+use Rattle.meaning_numbers.proofs.Prelude.{Bool, false, List, [], _∷_, ℕ, T, eqb}
+use Rattle.meaning_text.specs.{Bytes.bytes, Form.Form, Form.spell, Read.fine, Read.unfit, Read.readText, Read.lineOf, Texts.indexForm, Texts.seriesForm, Texts.programForm}
 use Rattle.meaning_text.proofs.Open.{openText}
 
 -- the text is in the form, and spelled again it is the same

@@ -1,23 +1,14 @@
 -- For every form whose next byte decides (`decided`): what is spelled is read back where nothing follows that could go on, nothing else is read, and a refusal comes behind the longest beginning.
 -- By induction on the form; each is put together of readers (`Reading`).
-use mathlib.Core.Path.{_≡_, refl, sym, _∙_}
-use mathlib.Core.List.{List, [], _∷_, _++_, append-assoc}
-use mathlib.Core.Bool.{Bool, true, false, not, _&&_, _||_, or-true}
 use Prim.Native.Char.{code}
-use Prim.Native.Nat.{ℕ, zero, suc, _+_, _<_, _≤_}
 use Prim.Native.String.{String, [] as empty, _∷_ as _before_}
-use native.Mathlib.Omega.{arith}
-use lib.Dec.{eqb}
-use lib.IntN.{ℤ, pos, negsuc}
-use borrow.Author.Tests.{eqb-true, eqb-false, eq-eqb, not-true}
 use Rattle.meaning_numbers.specs.Place.{numbersFrom}
 use Rattle.meaning_numbers.proofs.Member.{every}
-use Rattle.meaning_text.specs.Bytes.{bytes}
-use Rattle.meaning_text.specs.Number.{spellℤ, Read, got, bad, isDigit}
+use Rattle.meaning_numbers.proofs.Prelude.{_≡_, refl, sym, _∙_, List, [], _∷_, _++_, append-assoc, Bool, true, false, not, _&&_, _||_, or-true, ℕ, zero, suc, _+_, _<_, _≤_, arith, eqb, ℤ, pos, negsuc, eqb-true, eqb-false, eq-eqb, not-true}
+use Rattle.meaning_text.specs.{Bytes.bytes, Number.spellℤ, Number.Read, Number.got, Number.bad, Number.isDigit, Read.Viable}
 use Rattle.meaning_text.specs.Form.{Form, number, oneOf, lead, trail, both, many, Value, spellOne, spellMany, spell, end, Spellable, readWord, thenRead, wordStarts, starts, readOne, read}
-use Rattle.meaning_text.specs.Read.{Viable}
-use Rattle.meaning_text.proofs.Reading.{on-flag, false-true, and-true, like, NotNext, Begun, begun, begun-before, begun-as, begun-not, Reader, Taken, Refused, Outcome, refused-here, outcome-as, theWord, word-back, word-read, both-read, many-read, many-back}
 use Rattle.meaning_text.proofs.Number.{leading, is-digit, digit-is, read-spelled, number-read}
+use Rattle.meaning_text.proofs.Reading.{on-flag, false-true, and-true, like, NotNext, Begun, begun, begun-before, begun-as, begun-not, Reader, Taken, Refused, Outcome, refused-here, outcome-as, theWord, word-back, word-read, both-read, many-read, many-back}
 
 -- ---- where the next byte decides
 

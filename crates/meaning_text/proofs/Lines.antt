@@ -1,25 +1,9 @@
 -- Lines: newlines add up, lines count from 1 and grow with the place, and a beginning of an index text has at most one line for 8 of its bytes, but for the last line.
 -- For the last: every byte pays 1 and a newline costs 8; `credit` says what a form's texts leave of a credit, whatever they say.
-use mathlib.Core.Path.{_≡_, refl, ap, _∙_}
-use mathlib.Core.List.{List, [], _∷_, _++_}
-use mathlib.Core.Bool.{true, false, cond}
-use mathlib.Core.Option.{Option, none, some, bind, bind-eq-some-iff}
-use Prim.Native.Nat.{ℕ, suc, _+_, _*_, _-_, _<_, _≤_, min}
-use native.Mathlib.Nat.{le-refl, le-trans}
-use native.Mathlib.Omega.{arith}
-use lib.Dec.{eqb, leb}
-use lib.IntN.{ℤ, pos, negsuc}
-use lib.ListN.{length, getD, take, drop}
-use lib.Seq.{take-suc, take-add, take-append-add, length-take-le}
-use borrow.Author.Tests.{ne-eqb, leb-true}
-use Rattle.meaning_text.specs.Bytes.{bytes, newlines}
-use Rattle.meaning_text.specs.Number.{spellℕ, spellℤ}
+use Rattle.meaning_numbers.proofs.Prelude.{_≡_, refl, ap, _∙_, List, [], _∷_, _++_, true, false, cond, Option, none, some, bind, bind-eq-some-iff, ℕ, suc, _+_, _*_, _-_, _<_, _≤_, min, le-refl, le-trans, arith, eqb, leb, ℤ, pos, negsuc, length, getD, take, drop, take-suc, take-add, take-append-add, length-take-le, ne-eqb, leb-true}
+use Rattle.meaning_text.specs.{Bytes.bytes, Bytes.newlines, Number.spellℕ, Number.spellℤ, Read.lineOf, Read.Viable, Read.Longest, Texts.indexForm}
 use Rattle.meaning_text.specs.Form.{Form, number, oneOf, lead, trail, both, many, Value, spellOne, spellMany, spell}
-use Rattle.meaning_text.specs.Read.{lineOf, Viable, Longest}
-use Rattle.meaning_text.specs.Texts.{indexForm}
-use Rattle.meaning_text.proofs.Open.{openText}
-use Rattle.meaning_text.proofs.Reading.{on-flag}
-use Rattle.meaning_text.proofs.Number.{spell-one, spell-more, by-digits}
+use Rattle.meaning_text.proofs.{Open.openText, Reading.on-flag, Number.spell-one, Number.spell-more, Number.by-digits}
 
 pub newlines-append : (s t : List ℕ) → newlines (s ++ t) ≡ newlines s + newlines t
 unfolding newlines

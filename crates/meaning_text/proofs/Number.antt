@@ -1,17 +1,8 @@
 -- Numbers: their digits; what is spelled is read back where no digit follows, nothing else is read, and a refusal comes behind a beginning of a spelled number.
 -- By induction on the last digit, and over the digits read so far (`Reach`).
-use mathlib.Core.Path.{_≡_, refl, sym, _∙_}
-use mathlib.Core.List.{List, [], _∷_, _++_, append-assoc}
-use mathlib.Core.Bool.{true, false, _&&_}
-use mathlib.Core.Logic.{_⊎_, inl, inr, ⊎-elim}
-use Prim.Native.Nat.{ℕ, zero, suc, _+_, _*_, _-_, _/_, _%_, _<_, _≤_, _^_}
-use native.Mathlib.Nat.{one-le-pow, pow-le-pow-right}
-use native.Mathlib.Omega.{arith}
-use lib.Dec.{eqb, ltb, leb}
-use lib.IntN.{ℤ, pos, negsuc, negℤ}
-use borrow.Author.Tests.{ltb-true, ltb-false, lt-ltb, le-ltb, leb-true, le-leb, eqb-true, ne-eqb}
-use Rattle.meaning_text.specs.Number.{digits, spellℕ, spellℤ, Short, Read, got, bad, isDigit, readDigits, readPositive, withSign, readℤ}
+use Rattle.meaning_numbers.proofs.Prelude.{_≡_, refl, sym, _∙_, List, [], _∷_, _++_, append-assoc, true, false, _&&_, _⊎_, inl, inr, ⊎-elim, ℕ, zero, suc, _+_, _*_, _-_, _/_, _%_, _<_, _≤_, _^_, one-le-pow, pow-le-pow-right, arith, eqb, ltb, leb, ℤ, pos, negsuc, negℤ, ltb-true, ltb-false, lt-ltb, le-ltb, leb-true, le-leb, eqb-true, ne-eqb}
 use Rattle.meaning_text.specs.Form.{readWord, thenRead}
+use Rattle.meaning_text.specs.Number.{digits, spellℕ, spellℤ, Short, Read, got, bad, isDigit, readDigits, readPositive, withSign, readℤ}
 use Rattle.meaning_text.proofs.Reading.{on-flag, and-true, Alike, like, NotNext, Reader, Taken, Refused, Outcome, refused-here, outcome-as, theWord, word-read, both-read}
 
 -- ---- digits

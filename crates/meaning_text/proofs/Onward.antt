@@ -1,18 +1,9 @@
 -- Reading on: a form read, and then what is left of the text by a function of the value. So every place inside a form has its own reader for the rest, and a byte takes one such reader to the next: this is what an automaton follows (`Automaton`).
-use mathlib.Core.Path.{_≡_, refl, ap, _∙_, fun-ext}
-use mathlib.Core.List.{List, [], _∷_, _++_}
-use mathlib.Core.Bool.{Bool, true, false}
-use Prim.Native.Nat.{ℕ, zero, suc, _<_, _≤_}
 use Prim.Native.String.{String}
-use native.Mathlib.Omega.{arith}
-use lib.Dec.{eqb}
-use lib.ListN.{length, getD, drop, drop-of-length-le, length-append}
-use lib.Seq.{drop-cons}
-use Rattle.meaning_text.specs.Bytes.{bytes}
-use Rattle.meaning_text.specs.Number.{Read, got, bad}
+use Rattle.meaning_numbers.proofs.Prelude.{_≡_, refl, ap, _∙_, fun-ext, List, [], _∷_, _++_, Bool, true, false, ℕ, zero, suc, _<_, _≤_, arith, eqb, length, getD, drop, drop-of-length-le, length-append, drop-cons}
+use Rattle.meaning_text.specs.{Bytes.bytes, Number.Read, Number.got, Number.bad}
 use Rattle.meaning_text.specs.Form.{Form, oneOf, lead, trail, both, many, Value, spell, readWord, thenRead, wordStarts, starts, readOne, readMany, read}
-use Rattle.meaning_text.proofs.Reading.{on-flag, Begun, begun, Taken}
-use Rattle.meaning_text.proofs.Form.{decided, theForm, form-read}
+use Rattle.meaning_text.proofs.{Reading.on-flag, Reading.Begun, Reading.begun, Reading.Taken, Form.decided, Form.theForm, Form.form-read}
 
 -- a reader of what is left of a text
 abbrev pub Rest : Type 0 → Type 0

@@ -1,15 +1,7 @@
 -- What reading comes to, for any reader: either a value is taken, and what it is spelled as is taken off the text; or what was read begins some spelled value. Whatever stands behind the next byte does not matter.
 -- Readers are put together: a word, one reader after another, one reader many times.
-use mathlib.Core.Path.{_≡_, refl, ap, _∙_}
-use mathlib.Core.List.{List, [], _∷_, _++_, append-assoc}
-use mathlib.Core.Bool.{Bool, true, false, _&&_}
-use Prim.Native.Nat.{ℕ, zero, suc, _<_, _≤_}
-use native.Mathlib.Omega.{arith}
-use lib.Dec.{eqb}
-use lib.ListN.{length, length-append}
-use borrow.Author.Tests.{eqb-true, eq-eqb}
-use Rattle.meaning_text.specs.Number.{Read, got, bad}
-use Rattle.meaning_text.specs.Form.{spellMany, Each, end, more, readWord, thenRead, readMany}
+use Rattle.meaning_numbers.proofs.Prelude.{_≡_, refl, ap, _∙_, List, [], _∷_, _++_, append-assoc, Bool, true, false, _&&_, ℕ, zero, suc, _<_, _≤_, arith, eqb, length, length-append, eqb-true, eq-eqb}
+use Rattle.meaning_text.specs.{Number.Read, Number.got, Number.bad, Form.spellMany, Form.Each, Form.end, Form.more, Form.readWord, Form.thenRead, Form.readMany}
 pub use Rattle.meaning_numbers.proofs.Tests.{by-test}
 
 -- a test is taken apart with what it says

@@ -1,10 +1,5 @@
 -- Two lists set into a buffer one after the other are set as one.
-use mathlib.Core.Path.{_≡_}
-use mathlib.Core.List.{List, [], _∷_, _++_}
-use Prim.Native.Nat.{ℕ, suc, _+_}
-use native.Mathlib.Omega.{arith}
-use lib.ListN.{length, set}
-use lib.Seq.{sets}
+use Rattle.meaning_numbers.proofs.Prelude.{_≡_, List, [], _∷_, _++_, ℕ, suc, _+_, arith, length, set, sets}
 
 pub sets-append : {A : Type 0} (l m old : List A) (i : ℕ) → sets old i (l ++ m) ≡ sets (sets old i l) (i + length l) m
 sets-append [] m old i = let e : i + 0 ≡ i = omega arith in rw e

@@ -1,19 +1,8 @@
 -- Whole texts of a form whose next byte decides: what is spelled is read back, nothing else is read, and the place of a bad byte is the length of the longest beginning that a text in the form could have.
 -- A refusal does not depend on what stands behind the bad byte (`Form`), so no text in the form goes on with it.
-use mathlib.Core.Path.{_≡_, refl, sym, ap, _∙_}
-use mathlib.Core.List.{List, [], _∷_, _++_, append-assoc, append-nil}
-use mathlib.Core.Bool.{true}
-use Prim.Native.Nat.{ℕ, zero, suc, _+_, _-_, _<_, _≤_}
-use native.Mathlib.Omega.{arith}
-use lib.Dec.{ltb}
-use lib.ListN.{length, take, length-append}
-use lib.Seq.{take-at, take-append-add}
-use borrow.Author.Tests.{ltb-true, ltb-false}
-use Rattle.meaning_text.specs.Number.{Read, got, bad}
-use Rattle.meaning_text.specs.Form.{Form, Value, spell, Spellable, read}
-use Rattle.meaning_text.specs.Read.{Verdict, fine, unfit, ended, readText, Viable, Longest}
-use Rattle.meaning_text.proofs.Reading.{on-flag, Alike, alike, Outcome}
-use Rattle.meaning_text.proofs.Form.{decided, theForm, form-read, spelled-read, refused-viable}
+use Rattle.meaning_numbers.proofs.Prelude.{_≡_, refl, sym, ap, _∙_, List, [], _∷_, _++_, append-assoc, append-nil, true, ℕ, zero, suc, _+_, _-_, _<_, _≤_, arith, ltb, length, take, length-append, take-at, take-append-add, ltb-true, ltb-false}
+use Rattle.meaning_text.specs.{Number.Read, Number.got, Number.bad, Form.Form, Form.Value, Form.spell, Form.Spellable, Form.read, Read.Verdict, Read.fine, Read.unfit, Read.ended, Read.readText, Read.Viable, Read.Longest}
+use Rattle.meaning_text.proofs.{Reading.on-flag, Reading.Alike, Reading.alike, Reading.Outcome, Form.decided, Form.theForm, Form.form-read, Form.spelled-read, Form.refused-viable}
 
 -- two places that both end the longest beginning are the same
 pub longest-only : (f : Form) (t : List ℕ) (m n : ℕ) → Longest f t m → Longest f t n → m ≡ n

@@ -1,17 +1,10 @@
 -- The forms of document 01 are decided by the next byte, so the laws of whole texts hold of each. An index text read and written again is the same text, and a well-formed index written and read again has the same rows and runs.
-use mathlib.Core.Path.{_≡_, refl, sym, ap}
-use mathlib.Core.List.{List, [], _∷_, map}
-use Prim.Native.Nat.{ℕ}
-use lib.ListN.{take}
+use Rattle.meaning_numbers.proofs.Prelude.{_≡_, refl, sym, ap, List, [], _∷_, map, ℕ, take}
 use Rattle.meaning_rows.specs.Index.{Index, RangeRow, laidOut, rangeRows}
-use Rattle.meaning_rows.proofs.Judge.{WellFormed, runTotal}
-use Rattle.meaning_rows.proofs.Laid.{rows-back, laid-again}
-use Rattle.meaning_text.specs.Form.{Value, Spellable}
-use Rattle.meaning_text.specs.Read.{fine, readText}
+use Rattle.meaning_rows.proofs.{Judge.WellFormed, Judge.runTotal, Laid.rows-back, Laid.laid-again}
+use Rattle.meaning_text.specs.{Form.Value, Form.Spellable, Read.fine, Read.readText}
 use Rattle.meaning_text.specs.Texts.{indexForm, seriesForm, findForm, programForm, foundForm, refusedForm, rowForm, rowSaid, sayRow, indexSaid, sayIndex, indexText}
-use Rattle.meaning_text.proofs.Open.{openText}
-use Rattle.meaning_text.proofs.Form.{filled, clearWord, clear, follows, firm, opens, decided}
-use Rattle.meaning_text.proofs.Text.{Lawful, lawful}
+use Rattle.meaning_text.proofs.{Open.openText, Form.filled, Form.clearWord, Form.clear, Form.follows, Form.firm, Form.opens, Form.decided, Text.Lawful, Text.lawful}
 
 unfoldable openDecided : Unit {0}
 unfolding openText filled clearWord clear follows firm opens decided

@@ -1,10 +1,10 @@
 -- Texts are lists of bytes.
-use mathlib.Core.Bool.{cond}
-use mathlib.Core.List.{List, [], _∷_}
 use Prim.Native.Char.{code}
 use Prim.Native.Nat.{ℕ, suc}
 use Prim.Native.String.{String, [] as empty, _∷_ as _before_}
 use lib.Dec.{eqb}
+use mathlib.Core.Bool.{cond}
+use mathlib.Core.List.{List, [], _∷_}
 
 -- the bytes of a quoted text, one for each of its characters
 unfoldable pub bytes : String → List ℕ

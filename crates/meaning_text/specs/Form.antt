@@ -1,12 +1,12 @@
 -- A form describes texts. What can be said in it is its values; `spell` writes a value, `read` takes from a text exactly what `spell` writes. Each place of a form is decided by the next byte.
-use mathlib.Core.Bool.{Bool, true, false, _||_}
-use mathlib.Core.List.{List, [], _∷_, _++_}
 use Prim.Native.Char.{code}
 use Prim.Native.Nat.{ℕ, zero, suc}
 use Prim.Native.String.{String, [] as empty, _∷_ as _before_}
 use lib.Dec.{eqb}
 use lib.IntN.{ℤ}
 use lib.ListN.{length}
+use mathlib.Core.Bool.{Bool, true, false, _||_}
+use mathlib.Core.List.{List, [], _∷_, _++_}
 use Rattle.meaning_text.specs.Bytes.{bytes}
 use Rattle.meaning_text.specs.Number.{spellℤ, Short, Read, got, bad, isDigit, readℤ}
 

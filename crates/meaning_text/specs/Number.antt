@@ -1,9 +1,9 @@
 -- Numbers in base ten of at most 18 digits, without leading zeros or -0.
-use mathlib.Core.Bool.{Bool, true, false, _&&_}
-use mathlib.Core.List.{List, [], _∷_, _++_}
 use Prim.Native.Nat.{ℕ, zero, suc, _+_, _-_, _*_, _/_, _%_, _<_, _^_}
 use lib.Dec.{leb, ltb, eqb}
 use lib.IntN.{ℤ, pos, negsuc, negℤ, natAbs}
+use mathlib.Core.Bool.{Bool, true, false, _&&_}
+use mathlib.Core.List.{List, [], _∷_, _++_}
 
 -- the digits of n, the last one last; k bounds how many are taken off
 unfoldable pub digits : ℕ → ℕ → List ℕ

@@ -1,11 +1,9 @@
 -- Reading a whole text, and the first bad line.
-use mathlib.Core.Path.{_≡_}
-use mathlib.Core.List.{List, [], _∷_, _++_}
 use Prim.Native.Nat.{ℕ, suc, _-_, _<_, _≤_}
 use lib.ListN.{length, take}
-use Rattle.meaning_text.specs.Bytes.{newlines}
-use Rattle.meaning_text.specs.Number.{Read, got, bad}
-use Rattle.meaning_text.specs.Form.{Form, Value, spell, Spellable, read}
+use mathlib.Core.List.{List, [], _∷_, _++_}
+use mathlib.Core.Path.{_≡_}
+use Rattle.meaning_text.specs.{Bytes.newlines, Number.Read, Number.got, Number.bad, Form.Form, Form.Value, Form.spell, Form.Spellable, Form.read}
 
 -- what a text comes to: its value, or the place of its first bad byte; of a text cut short, the place where its next byte is due
 pub data Verdict (A : Type 0) : Type 0 where

@@ -1,11 +1,10 @@
 -- The texts of document 01: the index text, the series line, the search program's input and its two outputs, the refusal.
-use mathlib.Core.Bool.{Bool, true, false}
-use mathlib.Core.List.{List, map}
 use Prim.Native.Nat.{ℕ}
 use lib.IntN.{pos}
+use mathlib.Core.Bool.{Bool, true, false}
+use mathlib.Core.List.{List, map}
 use Rattle.meaning_rows.specs.Index.{Index, RangeRow, laidOut, rangeRows}
-use Rattle.meaning_filter.specs.declared.Kind.{Kind}
-use Rattle.meaning_filter.specs.declared.Kind.the-variants.{Raw, Normal}
+use Rattle.meaning_filter.specs.{declared.Kind.Kind, declared.Kind.the-variants.Raw, declared.Kind.the-variants.Normal}
 use Rattle.meaning_text.specs.Form.{Form, Value, number, oneOf, lead, trail, both, many, spell}
 
 -- a run, l then r, with the space before it: ` (0 0)`

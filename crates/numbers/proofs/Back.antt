@@ -1,17 +1,8 @@
 -- A value that is passed on or stored is the machine's bits read back. In the limits that is the value, so what a callee says of the bits it says of the value.
-use mathlib.Core.Path.{_≡_, refl, sym, _∙_}
-use mathlib.Core.Bool.{Bool, true, false}
-use Prim.Native.Nat.{_+_, _<_, _≤_}
-use native.Mathlib.Omega.{arith}
-use lib.IntN.{ℤ, pos, negsuc, _+ℤ_, _-ℤ_}
-use lib.Signed.{ltZ}
-use mir.Syntax.{Width, w32}
-use mir.Val.{SFits, toZ, ofZ}
-use mir.ValLaws.{toZ-ofZ}
+use mir.Syntax.{Width}
 use Rattle.meaning_numbers.specs.Order.{minℤ, maxℤ}
 use Rattle.meaning_numbers.proofs.Choice.{min-yes, min-no, max-yes, max-no}
-use Rattle.meaning_numbers.proofs.Rep.{up, dn, z-add, z-sub}
-use Rattle.meaning_numbers.proofs.Machine.{zmach32}
+use Rattle.meaning_numbers.proofs.Prelude.{_≡_, refl, sym, _∙_, Bool, true, false, _+_, _<_, _≤_, arith, ℤ, pos, negsuc, _+ℤ_, _-ℤ_, ltZ, w32, SFits, toZ, ofZ, toZ-ofZ, up, dn, z-add, z-sub, zmach32}
 use Rattle.meaning_curves.specs.Straight.{cost}
 use Rattle.meaning_curves.proofs.Values.{InLimits}
 use Rattle.numbers.specs.Raised.{raised}

@@ -1,9 +1,7 @@
 -- A sum that a loop makes in blocks, each at most `most` a term: so much of it is made (`Made`), a block more (`made-more`), and the two ways out (`made-left`, `made-whole`).
-use mathlib.Core.Path.{_≡_, sym}
-use Prim.Native.Nat.{ℕ, _+_, _*_, _<_, _≤_}
-use native.Mathlib.Omega.{arith}
 use Rattle.meaning_numbers.specs.Sum.{Σℕ}
 use Rattle.meaning_numbers.proofs.Sum.{Σℕ-none, Σℕ-split, Σℕ-fewer}
+use Rattle.meaning_numbers.proofs.Prelude.{_≡_, sym, ℕ, _+_, _*_, _<_, _≤_, arith}
 use Rattle.numbers.specs.Within.{Within}
 use Rattle.numbers.proofs.Within.{whole, left-early}
 

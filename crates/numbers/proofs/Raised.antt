@@ -1,6 +1,5 @@
 -- Laws of specs/Raised.
-use lib.IntN.{ℤ}
-use Rattle.meaning_numbers.proofs.Rep.{Rep, zarith}
+use Rattle.meaning_numbers.proofs.Prelude.{ℤ, Rep, zarith}
 use Rattle.meaning_curves.proofs.Values.{InLimits}
 use Rattle.numbers.specs.Raised.{raised}
 

@@ -1,8 +1,6 @@
 -- The row of a sum, told by the quotient of a natural number: of the sum, or of -1 less the sum where that is negative.
-use mathlib.Core.Path.{_≡_, refl}
-use Prim.Native.Nat.{ℕ, _/_}
-use lib.IntN.{ℤ, pos, negsuc}
 use Rattle.meaning_numbers.specs.Quotient.{floorℤ}
+use Rattle.meaning_numbers.proofs.Prelude.{_≡_, refl, ℕ, _/_, ℤ, pos, negsuc}
 use Rattle.meaning_rows.specs.Range.{rowNumber}
 
 pub row-up : {z : ℤ} {n : ℕ} (d : ℕ) → z ≡ pos n → rowNumber d z ≡ pos (n / d)

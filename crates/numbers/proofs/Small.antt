@@ -1,18 +1,7 @@
 -- Sums, differences, products and quotients of small numbers are small, and a small number fits 64 bits.
-use mathlib.Core.Path.{_≡_, sym, subst}
-use mathlib.Core.Logic.{⊎-elim}
-use Prim.Native.Nat.{ℕ, suc, _+_, _*_, _<_, _≤_, _^_}
-use native.Mathlib.Omega.{arith}
-use native.Mathlib.Nat.{mul-le-mul, div-le-self}
-use lib.IntN.{ℤ, pos, negsuc, negℤ, _+ℤ_, _-ℤ_, _*ℤ_}
-use mir.Syntax.{w64}
-use mir.Val.{SFits, toZ, ofZ}
-use mir.ValLaws.{toZ-ofZ, toZ-pos}
-use Rattle.meaning_numbers.specs.Order.{minℤ, maxℤ}
-use Rattle.meaning_numbers.specs.Quotient.{floorℤ}
-use Rattle.meaning_numbers.proofs.Rep.{up, dn, z-add, z-sub, z-neg, to-eq}
+use Rattle.meaning_numbers.specs.{Order.minℤ, Order.maxℤ, Quotient.floorℤ}
 use Rattle.meaning_numbers.proofs.Order.{minℤ-one, maxℤ-one}
-use Rattle.meaning_numbers.proofs.Machine.{to-sfits}
+use Rattle.meaning_numbers.proofs.Prelude.{_≡_, sym, subst, ⊎-elim, ℕ, suc, _+_, _*_, _<_, _≤_, _^_, arith, mul-le-mul, div-le-self, ℤ, pos, negsuc, negℤ, _+ℤ_, _-ℤ_, _*ℤ_, w64, SFits, toZ, ofZ, toZ-ofZ, toZ-pos, up, dn, z-add, z-sub, z-neg, to-eq, to-sfits}
 use Rattle.numbers.specs.Small.{Small}
 
 pub small-pos : (n k : ℕ) → k ≤ n → Small n (pos k)

@@ -1,8 +1,5 @@
 -- Laws of specs/Within.
-use mathlib.Core.Path.{_≡_}
-use Prim.Native.Nat.{ℕ, _<_, _≤_}
-use native.Mathlib.Omega.{arith}
-use native.Mathlib.Decide.{decLe}
+use Rattle.meaning_numbers.proofs.Prelude.{_≡_, ℕ, _<_, _≤_, arith, decLe}
 use Rattle.numbers.specs.Within.{Within}
 
 pub whole : {d limit r : ℕ} → r ≡ d → Within d limit r

@@ -1,8 +1,8 @@
 -- Numbers as narrower ones hold them.
-use mathlib.Core.Bool.{cond}
+use Prim.Native.Nat.{ℕ}
 use lib.IntN.{ℤ, pos, negsuc, natAbs}
 use lib.Signed.{ltZ}
-use Prim.Native.Nat.{ℕ}
+use mathlib.Core.Bool.{cond}
 
 -- the nearest number that an i32 holds
 abbrev pub clamp : ℤ → ℤ

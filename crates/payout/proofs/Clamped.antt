@@ -1,23 +1,11 @@
 -- Values clamped to 32 bits: one outside its limits stays outside and any other is itself, so an audit of clamped values answers as one of the values themselves (`clamped-answer`).
-use mathlib.Core.Path.{_≡_, refl, sym, ap, _∙_}
-use mathlib.Core.Bool.{Bool, true, false, not, cond}
-use mathlib.Core.List.{List, [], _∷_, map}
-use mathlib.Core.Option.{Option, none, some}
-use Prim.Native.Nat.{ℕ, suc}
-use native.Mathlib.Omega.{arith}
-use lib.IntN.{ℤ, pos, negsuc}
-use lib.ListN.{length, length-map}
-use lib.Signed.{ltZ, _≤ℤ_}
-use Rattle.meaning_numbers.specs.Order.{within}
-use Rattle.meaning_numbers.specs.Place.{placeFrom}
-use Rattle.meaning_numbers.proofs.Machine.{zmach, le-ltZ}
+use Rattle.meaning_numbers.specs.{Order.within, Place.placeFrom}
+use Rattle.meaning_numbers.proofs.Prelude.{_≡_, refl, sym, ap, _∙_, Bool, true, false, not, cond, List, [], _∷_, map, Option, none, some, ℕ, suc, arith, ℤ, pos, negsuc, length, length-map, ltZ, _≤ℤ_, zmach, le-ltZ}
 use Rattle.meaning_curves.specs.Limits.{mostValues, lengthIn, valueIn, firstOutside}
 use Rattle.meaning_curves.proofs.Values.{yes-value}
 use Rattle.meaning_rows.specs.Index.{Index}
 use Rattle.meaning_text.proofs.Reading.{on-flag}
-use Rattle.meaning_entries.specs.declared.Audited.{Audited}
-use Rattle.meaning_entries.specs.Refusal.{firstRefusal, lengthOutside, valueOutside}
-use Rattle.meaning_entries.specs.Audit.{auditTable, auditAnswer}
+use Rattle.meaning_entries.specs.{declared.Audited.Audited, Refusal.firstRefusal, Refusal.lengthOutside, Refusal.valueOutside, Audit.auditTable, Audit.auditAnswer}
 use Rattle.numbers.specs.Narrow.{clamp}
 
 in-clamp : (z : ℤ) → valueIn z ≡ true → clamp z ≡ z

@@ -1,29 +1,12 @@
 -- The answer by what the code came to: the index text's first bad byte (`index-stopped`), the series line's (`line-stopped`), or how many values the line has and what stands in the buffer (`line-counted`).
-use mathlib.Core.Path.{_≡_, refl, sym, ap, _∙_}
-use mathlib.Core.Bool.{true, false}
-use mathlib.Core.List.{List}
-use Prim.Native.Nat.{ℕ, suc, _+_, _-_, _≤_}
-use native.Mathlib.Omega.{arith}
-use lib.IntN.{ℤ, pos}
-use lib.ListN.{length, take, replicate, length-take}
-use lib.Seq.{take-all}
+use Rattle.meaning_numbers.proofs.Prelude.{_≡_, refl, sym, ap, _∙_, true, false, List, ℕ, suc, _+_, _-_, _≤_, arith, ℤ, pos, length, take, replicate, length-take, take-all}
 use Rattle.meaning_curves.specs.Limits.{mostProgramValues, lengthIn}
-use Rattle.meaning_rows.specs.declared.Head.{Head}
-use Rattle.meaning_rows.specs.Index.{Index}
-use Rattle.meaning_text.specs.Bytes.{newlines}
-use Rattle.meaning_text.specs.Form.{Value}
-use Rattle.meaning_text.specs.Read.{Verdict, fine, unfit, readText, lineOf}
-use Rattle.meaning_text.specs.Texts.{indexForm, seriesForm}
+use Rattle.meaning_rows.specs.{declared.Head.Head, Index.Index}
+use Rattle.meaning_text.specs.{Bytes.newlines, Form.Value, Read.Verdict, Read.fine, Read.unfit, Read.readText, Read.lineOf, Texts.indexForm, Texts.seriesForm}
 use Rattle.meaning_text.proofs.Lines.{newlines-length}
-use Rattle.meaning_entries.specs.declared.Audited.{Audited}
-use Rattle.meaning_entries.specs.Audit.{auditAnswer}
-use Rattle.meaning_entries.specs.Load.{textIndex}
-use Rattle.meaning_entries.specs.AuditText.{auditTextAnswer}
-use Rattle.text_judge.specs.declared.Rows.{Rows}
-use Rattle.text_judge.specs.declared.Scanned.{Scanned}
-use Rattle.text_judge.specs.Tally.{scanned}
-use Rattle.payout_line.specs.declared.Line.{Line}
-use Rattle.payout_line.specs.Line.{lineRead, Stored}
+use Rattle.meaning_entries.specs.{declared.Audited.Audited, Audit.auditAnswer, Load.textIndex, AuditText.auditTextAnswer}
+use Rattle.text_judge.specs.{declared.Rows.Rows, declared.Scanned.Scanned, Tally.scanned}
+use Rattle.payout_line.specs.{declared.Line.Line, Line.lineRead, Line.Stored}
 use Rattle.payout.specs.Counted.{countedAnswer}
 use Rattle.payout.proofs.Texts.{index-unread, line-unread, both-read}
 

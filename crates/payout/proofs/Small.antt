@@ -1,39 +1,14 @@
 -- The number of an answer fits 64 bits (`number-small`): a line of an index text has at least 8 bytes but the last, a series line is one line, and rows and offsets are no more than windows.
-use mathlib.Core.Path.{_≡_, refl, sym, ap, _∙_}
-use mathlib.Core.Bool.{Bool, true, false, not, cond}
-use mathlib.Core.List.{List, [], _∷_, _++_, append-nil}
-use mathlib.Core.Logic.{⊎-elim}
-use mathlib.Core.Option.{Option, none, some}
-use Prim.Native.Nat.{ℕ, zero, suc, _+_, _*_, _<_, _≤_, _^_}
-use native.Mathlib.Omega.{arith}
-use lib.Dec.{eqb, ltb}
-use lib.IntN.{ℤ, pos, negsuc, natAbs}
-use lib.ListN.{length, getD, take}
-use lib.Seq.{length-take-le}
-use lib.Signed.{ltZ}
-use borrow.Author.Tests.{ne-eqb, ltb-true}
 use Rattle.meaning_numbers.proofs.Member.{All}
+use Rattle.meaning_numbers.proofs.Prelude.{_≡_, refl, sym, ap, _∙_, Bool, true, false, not, cond, List, [], _∷_, _++_, append-nil, ⊎-elim, Option, none, some, ℕ, zero, suc, _+_, _*_, _<_, _≤_, _^_, arith, eqb, ltb, ℤ, pos, negsuc, natAbs, length, getD, take, length-take-le, ltZ, ne-eqb, ltb-true}
 use Rattle.meaning_curves.specs.Limits.{mostValues, mostProgramValues, lengthIn, lowestEnd, firstOutside}
-use Rattle.meaning_rows.specs.Index.{zeroRow, Index, runsOf}
-use Rattle.meaning_rows.specs.Judge.{runLengths, firstBadRow}
-use Rattle.meaning_rows.specs.Audit.{firstWrong, missing}
-use Rattle.meaning_rows.specs.declared.Row.{Row}
-use Rattle.meaning_rows.proofs.Judge.{GoodRows, between, runs-lengths, well-formed, first-bad, rows-at-most, row-at, stands-below}
+use Rattle.meaning_rows.specs.{Index.zeroRow, Index.Index, Index.runsOf, Judge.runLengths, Judge.firstBadRow, Audit.firstWrong, Audit.missing, declared.Row.Row}
 use Rattle.meaning_rows.proofs.Audit.{first-wrong, missing-are}
-use Rattle.meaning_text.specs.Bytes.{bytes, newlines}
-use Rattle.meaning_text.specs.Number.{spellℕ, spellℤ}
-use Rattle.meaning_text.specs.Form.{Value, spellMany, spell}
-use Rattle.meaning_text.specs.Read.{Verdict, fine, unfit, readText, lineOf}
-use Rattle.meaning_text.specs.Texts.{indexForm, seriesForm}
-use Rattle.meaning_text.proofs.Reading.{on-flag}
-use Rattle.meaning_text.proofs.Number.{spell-one, spell-more, by-digits}
-use Rattle.meaning_text.proofs.Texts.{index-laws, series-laws}
-use Rattle.meaning_text.proofs.Lines.{newlines-append, index-lines, bad-line}
-use Rattle.meaning_entries.specs.declared.Audited.{Audited}
+use Rattle.meaning_rows.proofs.Judge.{GoodRows, between, runs-lengths, well-formed, first-bad, rows-at-most, row-at, stands-below}
+use Rattle.meaning_text.specs.{Bytes.bytes, Bytes.newlines, Number.spellℕ, Number.spellℤ, Form.Value, Form.spellMany, Form.spell, Read.Verdict, Read.fine, Read.unfit, Read.readText, Read.lineOf, Texts.indexForm, Texts.seriesForm}
+use Rattle.meaning_text.proofs.{Reading.on-flag, Number.spell-one, Number.spell-more, Number.by-digits, Texts.index-laws, Texts.series-laws, Lines.newlines-append, Lines.index-lines, Lines.bad-line}
+use Rattle.meaning_entries.specs.{declared.Audited.Audited, Audit.AuditCall, Audit.auditTable, Audit.complete, Audit.audited, Load.textIndex, AuditText.packRefusal, AuditText.pack, AuditText.auditTextAnswer}
 use Rattle.meaning_entries.specs.Refusal.{Condition, firstRefusal, lengthOutside, valueOutside, illFormed, windowsOf, fewerWindows, moreWindows}
-use Rattle.meaning_entries.specs.Audit.{AuditCall, auditTable, complete, audited}
-use Rattle.meaning_entries.specs.Load.{textIndex}
-use Rattle.meaning_entries.specs.AuditText.{packRefusal, pack, auditTextAnswer}
 use Rattle.meaning_entries.proofs.Refusal.{First, here, later, is-passed, is-first, openLines, passed-line}
 use Rattle.text_feed.specs.Keep.{leading}
 use Rattle.text_feed.proofs.Keep.{leading-outside}

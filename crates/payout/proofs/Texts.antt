@@ -1,26 +1,11 @@
 -- The audit of two texts by what they come to: the index text cannot be read (`index-unread`); the series line cannot (`line-unread`); both can (`both-read`).
-use mathlib.Core.Path.{_≡_, refl, sym, ap, _∙_}
-use mathlib.Core.Bool.{Bool, true, false}
-use mathlib.Core.List.{List, _++_, map}
-use mathlib.Core.Option.{Option, none, some}
-use Prim.Native.Nat.{ℕ, _+_, _≤_}
-use native.Mathlib.Omega.{arith}
-use lib.IntN.{ℤ, pos}
-use lib.ListN.{length, take, drop, replicate, length-replicate, length-map}
-use lib.Seq.{sets-eq, take-append-seam}
+use Rattle.meaning_numbers.proofs.Prelude.{_≡_, refl, sym, ap, _∙_, Bool, true, false, List, _++_, map, Option, none, some, ℕ, _+_, _≤_, arith, ℤ, pos, length, take, drop, replicate, length-replicate, length-map, sets-eq, take-append-seam}
 use Rattle.meaning_curves.specs.Limits.{mostValues, mostProgramValues, lengthIn}
 use Rattle.meaning_rows.proofs.Judge.{between, is-within}
-use Rattle.meaning_text.specs.Form.{Value}
-use Rattle.meaning_text.specs.Bytes.{newlines}
-use Rattle.meaning_text.specs.Read.{fine, unfit, readText, lineOf}
-use Rattle.meaning_text.specs.Texts.{indexForm, seriesForm}
-use Rattle.meaning_entries.specs.declared.Audited.{Audited}
-use Rattle.meaning_entries.specs.Refusal.{firstRefusal, badLine, unreadable, lengthOutside}
-use Rattle.meaning_entries.specs.Audit.{AuditCall, auditTable, audited, auditAnswer}
-use Rattle.meaning_entries.specs.Load.{textIndex}
-use Rattle.meaning_entries.specs.AuditText.{textSeries, auditTextTable, auditTextAnswer}
-use Rattle.text_feed.specs.Keep.{stored}
+use Rattle.meaning_text.specs.{Form.Value, Bytes.newlines, Read.fine, Read.unfit, Read.readText, Read.lineOf, Texts.indexForm, Texts.seriesForm}
+use Rattle.meaning_entries.specs.{declared.Audited.Audited, Refusal.firstRefusal, Refusal.badLine, Refusal.unreadable, Refusal.lengthOutside, Audit.AuditCall, Audit.auditTable, Audit.audited, Audit.auditAnswer, Load.textIndex, AuditText.textSeries, AuditText.auditTextTable, AuditText.auditTextAnswer}
 use Rattle.numbers.specs.Narrow.{clamp}
+use Rattle.text_feed.specs.Keep.{stored}
 use Rattle.payout.specs.Counted.{countedAnswer}
 use Rattle.payout.proofs.Clamped.{clamped-answer}
 

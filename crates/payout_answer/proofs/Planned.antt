@@ -1,42 +1,26 @@
 -- The audit of an index text against a series: its plan's refusal is that of the table (`plan-is`); what the audit of the rows asks holds where nothing refuses (`goes-sized`), and what is answered is what the meanings say (`stopped-right`, `walked-right`).
-use mathlib.Core.Path.{_≡_, refl, sym, ap, subst, _∙_}
+use Prim.Native.Nat.{ℕ, _+_}
+use lib.IntN.{ℤ, natAbs}
+use lib.ListN.{length}
 use mathlib.Core.Bool.{true}
 use mathlib.Core.List.{List, [], _∷_, _++_}
 use mathlib.Core.Option.{Option, none, some}
-use Prim.Native.Nat.{ℕ, _+_}
+use mathlib.Core.Path.{_≡_, refl, sym, ap, subst, _∙_}
 use native.Mathlib.Omega.{arith}
-use lib.IntN.{ℤ, natAbs}
-use lib.ListN.{length}
 use Rattle.meaning_curves.specs.Limits.{mostValues}
-use Rattle.meaning_rows.specs.declared.Head.{Head}
-use Rattle.meaning_rows.specs.Index.{Index, lent}
-use Rattle.meaning_rows.specs.Judge.{headGood}
-use Rattle.meaning_rows.specs.Audit.{firstWrong, missing}
-use Rattle.meaning_rows.proofs.Judge.{WellFormed, good-head, none-bad}
-use Rattle.meaning_rows.proofs.Audit.{missing-are}
-use Rattle.meaning_text.specs.Form.{Value}
-use Rattle.meaning_text.specs.Read.{Verdict, fine, unfit, readText}
-use Rattle.meaning_text.specs.Texts.{indexForm, indexSaid}
-use Rattle.meaning_entries.specs.declared.Audited.{Audited}
-use Rattle.meaning_entries.specs.Refusal.{firstRefusal, seriesLines, countLines}
-use Rattle.meaning_entries.specs.Audit.{AuditCall, auditTable, auditAnswer}
-use Rattle.meaning_entries.specs.Load.{textIndex}
-use Rattle.meaning_entries.proofs.Again.{text-fine}
-use Rattle.meaning_entries.proofs.Refusal.{AllPass, openLines, passed-line, same-behind}
+use Rattle.meaning_rows.specs.{declared.Head.Head, Index.Index, Index.lent, Judge.headGood, Audit.firstWrong, Audit.missing}
+use Rattle.meaning_rows.proofs.{Judge.WellFormed, Judge.good-head, Judge.none-bad, Audit.missing-are}
+use Rattle.meaning_text.specs.{Form.Value, Read.Verdict, Read.fine, Read.unfit, Read.readText, Texts.indexForm, Texts.indexSaid}
+use Rattle.meaning_entries.specs.{declared.Audited.Audited, Refusal.firstRefusal, Refusal.seriesLines, Refusal.countLines, Audit.AuditCall, Audit.auditTable, Audit.auditAnswer, Load.textIndex}
+use Rattle.meaning_entries.proofs.{Again.text-fine, Refusal.AllPass, Refusal.openLines, Refusal.passed-line, Refusal.same-behind}
 use Rattle.rows_judge.specs.declared.Judged.{Judged}
-use Rattle.entry_audit.specs.declared.AuditPlan.{AuditPlan}
-use Rattle.entry_audit.specs.declared.RowsAudited.{RowsAudited}
-use Rattle.entry_audit.specs.Auditing.{found}
 use Rattle.refusals.specs.Refusal.{refusalOf, asRefusal, judgedLine, judged-line}
-use Rattle.entry_audit.specs.Plan.{tableOf, planOf, answerOf}
+use Rattle.entry_audit.specs.{declared.AuditPlan.AuditPlan, declared.RowsAudited.RowsAudited, Auditing.found, Plan.tableOf, Plan.planOf, Plan.answerOf}
 use Rattle.entry_audit.proofs.Cases.{stopped, values-in, formed, fits, went-wrong, went-right}
-use Rattle.text_judge.specs.declared.Rows.{Rows}
-use Rattle.text_judge.specs.declared.Scanned.{Scanned}
-use Rattle.text_judge.specs.Tally.{noRows, rowsFrom, headHeld, scanned}
+use Rattle.text_judge.specs.{declared.Rows.Rows, declared.Scanned.Scanned, Tally.noRows, Tally.rowsFrom, Tally.headHeld, Tally.scanned, Judged.judgedRows}
 use Rattle.text_judge.proofs.Bad.{head-is, rows-judged, rows-good}
 use Rattle.payout_walk.specs.Walk.{Sized, Walked}
 use Rattle.payout_walk.proofs.Found.{rows-found}
-use Rattle.text_judge.specs.Judged.{judgedRows}
 use Rattle.payout_answer.proofs.Taken.{rows-taken}
 
 module _ (series : List ℤ) (v : Value indexForm) where

@@ -1,21 +1,16 @@
 -- Where all rows of an index text are good, the run lengths that judging added up are those of its index (`rows-taken`).
-use mathlib.Core.Path.{_≡_, refl, sym, ap, subst, _∙_}
+use Prim.Native.Nat.{ℕ, _+_, _≤_}
+use lib.IntN.{natAbs, pos}
 use mathlib.Core.Bool.{true, false≢true}
 use mathlib.Core.List.{List, [], _∷_, map}
-use Prim.Native.Nat.{ℕ, _+_, _≤_}
+use mathlib.Core.Path.{_≡_, refl, sym, ap, subst, _∙_}
 use native.Mathlib.Omega.{arith}
-use lib.IntN.{natAbs, pos}
-use Rattle.meaning_rows.specs.declared.Head.{Head}
-use Rattle.meaning_rows.specs.Index.{Index, lent, records}
-use Rattle.meaning_rows.specs.Judge.{headGood, runLengths, lengthTotal}
+use Rattle.meaning_rows.specs.{declared.Head.Head, Index.Index, Index.lent, Index.records, Judge.headGood, Judge.runLengths, Judge.lengthTotal}
 use Rattle.meaning_rows.proofs.Laid.{Lays, laid}
-use Rattle.meaning_text.specs.Form.{Value}
-use Rattle.meaning_text.specs.Texts.{indexForm, rowForm, rowSaid, indexSaid}
+use Rattle.meaning_text.specs.{Form.Value, Texts.indexForm, Texts.rowForm, Texts.rowSaid, Texts.indexSaid}
 use Rattle.meaning_text.proofs.Reading.{on-flag}
 use Rattle.numbers.specs.Narrow.{clamp}
-use Rattle.text_judge.specs.declared.Runs.{Runs}
-use Rattle.text_judge.specs.declared.Rows.{Rows}
-use Rattle.text_judge.specs.Tally.{noRows, rowFits, rowNext, rowsFrom, headHeld}
+use Rattle.text_judge.specs.{declared.Runs.Runs, declared.Rows.Rows, Tally.noRows, Tally.rowFits, Tally.rowNext, Tally.rowsFrom, Tally.headHeld}
 use Rattle.text_judge.proofs.Bad.{tallied, next-is, next-off, head-is, width-is, windows-is}
 
 module _ (h : Head) (x : Index) (width : natAbs (x .width) ≡ h .width) (windows : x .windows ≡ pos (h .windows)) (most : h .windows ≤ 4294967295) where

@@ -1,22 +1,17 @@
 -- A series line fed in one piece comes to what the form says of it (`line-going`, `line-failed`).
-use mathlib.Core.Path.{_≡_, refl, sym, ap, _∙_}
-use mathlib.Core.List.{List, [], _∷_}
 use Prim.Native.Nat.{ℕ, _<_, _^_}
-use native.Mathlib.Omega.{arith}
 use lib.IntN.{ℤ, pos}
-use Rattle.meaning_text.specs.Read.{fine, unfit, readText}
-use Rattle.meaning_text.specs.Texts.{seriesForm}
+use mathlib.Core.List.{List, [], _∷_}
+use mathlib.Core.Path.{_≡_, refl, sym, ap, _∙_}
+use native.Mathlib.Omega.{arith}
+use Rattle.meaning_text.specs.{Read.fine, Read.unfit, Read.readText, Texts.seriesForm}
 use Rattle.meaning_text.proofs.Automaton.{Fed, going, failed, feed, atEnd, judged}
 use Rattle.text_lines.specs.declared.State.{State}
 use Rattle.text_lines.specs.Follow.{Said, nothingSaid, Reading, at, step, seriesStart, seriesValue}
 use Rattle.text_lines.proofs.Follow.{acceptState, accept, series-good, series-comes}
-use Rattle.text_feed.specs.declared.Progress.{Progress}
-use Rattle.text_feed.specs.declared.Feeding.{Feeding}
-use Rattle.text_feed.specs.Keep.{stored, Holds}
+use Rattle.text_feed.specs.{declared.Progress.Progress, declared.Feeding.Feeding, Keep.stored, Keep.Holds, Feed.Ready, Feed.Shows, Feed.Comes}
 use Rattle.text_feed.proofs.Keep.{kept-none}
-use Rattle.text_feed.specs.Feed.{Ready, Shows, Comes}
-use Rattle.payout_line.specs.declared.Line.{Line}
-use Rattle.payout_line.specs.Line.{startLine, lineEnd, lineRead, Stored}
+use Rattle.payout_line.specs.{declared.Line.Line, Line.startLine, Line.lineEnd, Line.lineRead, Line.Stored}
 
 -- the single numbers before anything is said
 abbrev pub noNumbers : List ℤ

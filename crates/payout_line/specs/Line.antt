@@ -1,15 +1,12 @@
 -- What a series line comes to: the place of its first bad byte, or how many values it has; and the values in a buffer, as far as it has room.
-use mathlib.Core.Path.{_≡_}
-use mathlib.Core.List.{List}
 use Prim.Native.Nat.{ℕ}
 use lib.IntN.{ℤ}
 use lib.ListN.{length}
-use Rattle.meaning_text.specs.Read.{Verdict, fine, unfit, readText}
-use Rattle.meaning_text.specs.Texts.{seriesForm}
-use Rattle.text_lines.specs.declared.Word.{Word}
-use Rattle.text_lines.specs.declared.State.{State}
-use Rattle.text_feed.specs.declared.Progress.{Progress}
-use Rattle.text_feed.specs.Keep.{stored}
+use mathlib.Core.List.{List}
+use mathlib.Core.Path.{_≡_}
+use Rattle.meaning_text.specs.{Read.Verdict, Read.fine, Read.unfit, Read.readText, Texts.seriesForm}
+use Rattle.text_lines.specs.{declared.Word.Word, declared.State.State}
+use Rattle.text_feed.specs.{declared.Progress.Progress, Keep.stored}
 use Rattle.payout_line.specs.declared.Line.{Line}
 
 abbrev pub startLine : Progress

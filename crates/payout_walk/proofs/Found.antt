@@ -1,38 +1,17 @@
 -- The rows of a good index text, audited run by run, come to what is filed wrongly first in its index (`rows-found`).
-use mathlib.Core.Path.{_≡_, refl, sym, ap, subst, _∙_}
-use mathlib.Core.Bool.{true, not, cond}
-use mathlib.Core.List.{List, [], _∷_, _++_, map, append-assoc, append-nil}
-use mathlib.Core.Option.{Option, none, some}
-use Prim.Native.Nat.{ℕ, zero, suc, _+_, _-_, _<_, _≤_}
-use native.Mathlib.Omega.{arith}
-use lib.IntN.{ℤ, pos, natAbs}
-use lib.ListN.{length, replicate}
-use borrow.Author.Tests.{le-leb}
 use Rattle.meaning_numbers.specs.Place.{numbersFrom}
-use Rattle.meaning_numbers.proofs.Tests.{by-test}
 use Rattle.meaning_numbers.proofs.Member.{All}
+use Rattle.meaning_numbers.proofs.Prelude.{_≡_, refl, sym, ap, subst, _∙_, true, not, cond, List, [], _∷_, _++_, map, append-assoc, append-nil, Option, none, some, ℕ, zero, suc, _+_, _-_, _<_, _≤_, arith, ℤ, pos, natAbs, length, replicate, le-leb, by-test}
 use Rattle.meaning_curves.specs.Curve.{windowSum}
-use Rattle.meaning_rows.specs.declared.Row.{Row}
-use Rattle.meaning_rows.specs.declared.Head.{Head}
-use Rattle.meaning_rows.specs.Range.{inside}
-use Rattle.meaning_rows.specs.Index.{Index, entries, lent, runsOf, records}
-use Rattle.meaning_rows.specs.Build.{entry}
-use Rattle.meaning_rows.specs.Judge.{headGood}
-use Rattle.meaning_rows.specs.Audit.{offsets, wrongIn, wrongFrom, firstWrong}
-use Rattle.meaning_rows.proofs.Runs.{Apart}
-use Rattle.meaning_rows.proofs.Judge.{GoodRow, WellFormed, well-formed, each-row}
-use Rattle.meaning_rows.proofs.Laid.{Lays, laid}
-use Rattle.meaning_text.specs.Form.{Value}
-use Rattle.meaning_text.specs.Texts.{indexForm, rowForm, rowSaid, indexSaid}
+use Rattle.meaning_rows.specs.{declared.Row.Row, declared.Head.Head, Range.inside, Index.Index, Index.entries, Index.lent, Index.runsOf, Index.records, Build.entry, Judge.headGood, Audit.offsets, Audit.wrongIn, Audit.wrongFrom, Audit.firstWrong}
+use Rattle.meaning_rows.proofs.{Runs.Apart, Judge.GoodRow, Judge.WellFormed, Judge.well-formed, Judge.each-row, Laid.Lays, Laid.laid}
+use Rattle.meaning_text.specs.{Form.Value, Texts.indexForm, Texts.rowForm, Texts.rowSaid, Texts.indexSaid}
+use Rattle.numbers.specs.Narrow.{clamp, held}
 use Rattle.rows_records.specs.Records.{zeroRow}
-use Rattle.entry_audit.specs.declared.RowsAudited.{RowsAudited}
-use Rattle.entry_audit.specs.Auditing.{found, wrongOf, chunked}
+use Rattle.entry_audit.specs.{declared.RowsAudited.RowsAudited, Auditing.found, Auditing.wrongOf, Auditing.chunked}
 use Rattle.entry_audit.proofs.Chunks.{orElse}
-use Rattle.numbers.specs.Narrow.{clamp}
 use Rattle.text_judge.specs.Tally.{noRows, rowsFrom, headHeld}
-use Rattle.numbers.specs.Narrow.{held}
-use Rattle.text_judge.proofs.Bad.{held-nat, HeadIs, head-is, text-bad}
-use Rattle.text_judge.proofs.Prefix.{row-placed}
+use Rattle.text_judge.proofs.{Bad.held-nat, Bad.HeadIs, Bad.head-is, Bad.text-bad, Prefix.row-placed}
 use Rattle.payout_walk.specs.Walk.{goesOn, oneRun, afterRun, runsWalked, rowsWalked}
 
 -- ---- one after the other

@@ -1,21 +1,9 @@
 -- A run audited as a row of one run: what the audit of a chunk asks holds (`run-ready`), and the state afterwards by the test of the run's ends.
-use mathlib.Core.Path.{_≡_, refl, sym, subst, _∙_}
-use mathlib.Core.Bool.{Bool, true, false, _&&_}
-use mathlib.Core.List.{List, [], _∷_}
-use Prim.Native.Nat.{ℕ, zero, suc, _+_, _<_, _≤_, _^_}
-use native.Mathlib.Omega.{arith}
-use lib.Dec.{leb}
-use lib.IntN.{ℤ}
-use lib.ListN.{length, getD, replicate, getD-replicate}
-use lib.Seq.{getD-set-other}
-use borrow.Author.Tests.{leb-true}
-use Rattle.meaning_numbers.proofs.Tests.{both}
-use Rattle.meaning_rows.specs.declared.Row.{Row}
-use Rattle.meaning_rows.specs.declared.Head.{Head}
+use Rattle.meaning_numbers.proofs.Prelude.{_≡_, refl, sym, subst, _∙_, Bool, true, false, _&&_, List, [], _∷_, ℕ, zero, suc, _+_, _<_, _≤_, _^_, arith, leb, ℤ, length, getD, replicate, getD-replicate, getD-set-other, leb-true, both}
+use Rattle.meaning_rows.specs.{declared.Row.Row, declared.Head.Head}
 use Rattle.rows_records.specs.Records.{zeroRow}
 use Rattle.entry_audit.specs.Auditing.{Reads, Ready, chunked}
-use Rattle.payout_walk.specs.declared.Walk.{Walk}
-use Rattle.payout_walk.specs.Walk.{Sized, oneRun, afterRun}
+use Rattle.payout_walk.specs.{declared.Walk.Walk, Walk.Sized, Walk.oneRun, Walk.afterRun}
 
 one-reads : (n w l r : ℕ) (low up : ℤ) → l ≤ r → r + w ≤ n → (k : ℕ) → k < 64 → Reads n w (l ∷ []) (r ∷ []) (getD (oneRun low up) k zeroRow)
 unfolding oneRun

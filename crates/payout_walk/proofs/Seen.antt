@@ -1,32 +1,14 @@
 -- What is known of the rows is a view of what has been said, so that a pass over a text comes to the text's own rows (`walked-by`); once an offset is filed wrongly nothing changes any more (`walked-stopped`).
-use mathlib.Core.Path.{_≡_, refl, sym, ap, subst, _∙_}
-use mathlib.Core.Bool.{false, _&&_}
-use mathlib.Core.List.{List, [], _∷_, _++_}
-use mathlib.Core.Option.{some}
-use Prim.Native.Nat.{ℕ, suc, _+_, _<_, _≤_}
-use native.Mathlib.Omega.{arith}
-use lib.Dec.{leb}
-use lib.IntN.{ℤ}
-use lib.ListN.{length, getD, drop, length-append}
-use Rattle.meaning_rows.specs.declared.Head.{Head}
-use Rattle.meaning_rows.specs.Index.{Entry}
-use Rattle.meaning_text.specs.Form.{Value}
-use Rattle.meaning_text.specs.Read.{Verdict, fine, unfit, readText}
-use Rattle.meaning_text.specs.Texts.{indexForm, rowForm}
-use Rattle.meaning_text.proofs.Automaton.{going, feed, feed-one, feed-none, atEnd, verdictOf}
+use Rattle.meaning_numbers.proofs.Prelude.{_≡_, refl, sym, ap, subst, _∙_, false, _&&_, List, [], _∷_, _++_, some, ℕ, suc, _+_, _<_, _≤_, arith, leb, ℤ, length, getD, drop, length-append}
+use Rattle.meaning_rows.specs.{declared.Head.Head, Index.Entry}
+use Rattle.meaning_text.specs.{Form.Value, Read.Verdict, Read.fine, Read.unfit, Read.readText, Texts.indexForm, Texts.rowForm}
 use Rattle.meaning_text.proofs.Reading.{on-flag}
-use Rattle.entry_audit.specs.declared.RowsAudited.{RowsAudited}
-use Rattle.entry_audit.specs.Auditing.{chunked}
-use Rattle.numbers.specs.Narrow.{clamp}
-use Rattle.text_index.specs.declared.Field.{Field}
-use Rattle.text_index.specs.declared.Moved.{Moved}
-use Rattle.text_index.specs.declared.State.{State}
-use Rattle.text_index.specs.Step.{indexStep}
-use Rattle.text_index.proofs.Follow.{Said, nothingSaid, told, closed, value}
-use Rattle.text_index.proofs.Order.{placePart, Order}
-use Rattle.text_index.specs.View.{keptAt}
+use Rattle.meaning_text.proofs.Automaton.{going, feed, feed-one, feed-none, atEnd, verdictOf}
+use Rattle.numbers.specs.Narrow.{clamp, held}
+use Rattle.entry_audit.specs.{declared.RowsAudited.RowsAudited, Auditing.chunked}
+use Rattle.text_index.specs.{declared.Field.Field, declared.Moved.Moved, declared.State.State, Step.indexStep, View.keptAt}
+use Rattle.text_index.proofs.{Follow.Said, Follow.nothingSaid, Follow.told, Follow.closed, Follow.value, Order.placePart, Order.Order}
 use Rattle.text_index.proofs.View.{Seen, seen, endOf, movedTo, keep, Whole, text-viewed, Kept, kept-end, kept-refuse}
-use Rattle.numbers.specs.Narrow.{held}
 use Rattle.payout_walk.specs.declared.Walk.{Walk}
 use Rattle.payout_walk.specs.Walk.{goesOn, startWalk, afterRun, tellWalk, shutWalk, runsWalked, rowsWalked, Walked}
 

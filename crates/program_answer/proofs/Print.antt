@@ -1,49 +1,27 @@
 -- Laws of specs/Print.
-use mathlib.Core.Path.{_≡_, refl, sym, ap, _∙_, subst}
-use mathlib.Core.List.{List, [], _∷_, _++_, map}
-use mathlib.Core.Option.{none}
-use Prim.Native.Nat.{ℕ, _+_, _-_, _<_, _≤_, _^_, min}
-use native.Mathlib.Omega.{arith}
-use lib.IntN.{ℤ, pos, natAbs, _-ℤ_}
-use lib.ListN.{length, take, drop, replicate, length-append, length-map, length-replicate}
-use lib.Seq.{take-append-seam}
-use lib.Signed.{_≤ℤ_}
-use borrow.Author.Tests.{le-ltb}
-use Rattle.meaning_numbers.proofs.Rep.{zarith, z-add, z-sub}
-use Rattle.meaning_numbers.proofs.Count.{count-le}
-use Rattle.meaning_numbers.proofs.Between.{yes-within}
-use Rattle.meaning_curves.specs.Limits.{mostValues, mostProgramValues}
-use Rattle.meaning_curves.specs.Curve.{windowCount, windowSum}
-use Rattle.meaning_rows.specs.declared.Row.{Row}
-use Rattle.meaning_rows.specs.Runs.{runs}
-use Rattle.meaning_rows.specs.Index.{zeroRow, Index, Entry, entries, lent, allRuns}
+use Rattle.meaning_numbers.proofs.{Count.count-le, Between.yes-within}
+use Rattle.meaning_numbers.proofs.Prelude.{_≡_, refl, sym, ap, _∙_, subst, List, [], _∷_, _++_, map, none, ℕ, _+_, _-_, _<_, _≤_, _^_, min, arith, ℤ, pos, natAbs, _-ℤ_, length, take, drop, replicate, length-append, length-map, length-replicate, take-append-seam, _≤ℤ_, le-ltb, zarith, z-add, z-sub}
+use Rattle.meaning_curves.specs.{Limits.mostValues, Limits.mostProgramValues, Curve.windowCount, Curve.windowSum}
+use Rattle.meaning_rows.specs.{declared.Row.Row, Runs.runs}
 use Rattle.meaning_rows.specs.Build.{SetRow, entry, withRuns, builtRows, merged, filed, built}
+use Rattle.meaning_rows.specs.Index.{zeroRow, Index, Entry, entries, lent, allRuns}
 use Rattle.meaning_rows.proofs.Judge.{Natural, none-bad}
 use Rattle.meaning_filter.specs.Matches.{allMatches, candidateAt, candidateCount}
-use Rattle.meaning_text.specs.Texts.{indexText, foundText}
-use Rattle.meaning_entries.specs.declared.Built.{Built}
-use Rattle.meaning_entries.specs.declared.Found.{Found}
-use Rattle.meaning_entries.specs.Refusal.{Condition, valueOutside, flatQuery, illFormed, windowsOf, bufferShort, seriesLines}
-use Rattle.meaning_entries.specs.Buffers.{IndexBuffers, filled, lefts, rights, indexIn}
-use Rattle.meaning_entries.specs.Answers.{headOf}
-use Rattle.meaning_entries.specs.Build.{BuildCall, lentBuild, widthLines, buildTable, buildRefusal, buildIndex, buildAnswer, buildAfter}
-use Rattle.meaning_entries.specs.Write.{writeTable, writeRefusal}
-use Rattle.meaning_entries.specs.Search.{SearchCall, SearchBuffers, lentAsk, lentSearch, valueLines, limitLines, searchPlan, searchTable, searchRefusal, searchAnswer, searchMatches, searchCandidates, question}
-use Rattle.meaning_entries.specs.Program.{callLines, programIndex, printed}
-use Rattle.meaning_entries.specs.Demand2.{BuildKept, SearchKept}
-use Rattle.meaning_entries.proofs.Refusal.{AllPass, end, more, passed-is, passed-both, passed-join, openLines, passed-line, passed-behind}
-use Rattle.meaning_entries.proofs.Lines.{long-line, window-line, query-line, threshold-line, scale-line, series-passes, count-passes, room-passes}
-use Rattle.meaning_entries.proofs.Made.{build-passes, build-most}
-use Rattle.meaning_entries.proofs.Passes as Audit
-use Rattle.meaning_entries.proofs.Listed.{listed-is}
 use Rattle.meaning_filter.proofs.Matches.{all-found}
-use Rattle.meaning_entries.specs.Buffers.{indexBuffers}
-use Rattle.program_input.specs.declared.Asked.{Asked}
-use Rattle.program_input.specs.Tables.{callOf}
+use Rattle.meaning_text.specs.Texts.{indexText, foundText}
+use Rattle.meaning_entries.specs.{declared.Built.Built, declared.Found.Found, Buffers.IndexBuffers, Buffers.filled, Buffers.lefts, Buffers.rights, Buffers.indexIn, Answers.headOf, Write.writeTable, Write.writeRefusal, Program.callLines, Program.programIndex, Program.printed, Demand2.BuildKept, Demand2.SearchKept, Buffers.indexBuffers}
+use Rattle.meaning_entries.specs.Build.{BuildCall, lentBuild, widthLines, buildTable, buildRefusal, buildIndex, buildAnswer, buildAfter}
+use Rattle.meaning_entries.specs.Refusal.{Condition, valueOutside, flatQuery, illFormed, windowsOf, bufferShort, seriesLines}
+use Rattle.meaning_entries.specs.Search.{SearchCall, SearchBuffers, lentAsk, lentSearch, valueLines, limitLines, searchPlan, searchTable, searchRefusal, searchAnswer, searchMatches, searchCandidates, question}
+use Rattle.meaning_entries.proofs.{Made.build-passes, Made.build-most, Listed.listed-is}
+use Rattle.meaning_entries.proofs.Lines.{long-line, window-line, query-line, threshold-line, scale-line, series-passes, count-passes, room-passes}
+use Rattle.meaning_entries.proofs.Refusal.{AllPass, end, more, passed-is, passed-both, passed-join, openLines, passed-line, passed-behind}
 use Rattle.text_put.specs.Put.{Put}
 use Rattle.text_put.proofs.Put.{put-room, put-length}
-use Rattle.program_answer.proofs.Sizes.{index-size, all-size}
+use Rattle.program_input.specs.{declared.Asked.Asked, Tables.callOf}
 use Rattle.program_answer.specs.Print.{FoundPut}
+use Rattle.program_answer.proofs.Sizes.{index-size, all-size}
+use Rattle.meaning_entries.proofs.Passes as Audit
 
 -- a line that does not apply
 enough : (room need : ℕ) → need ≤ room → bufferShort room need .place ≡ none

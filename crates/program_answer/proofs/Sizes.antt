@@ -1,28 +1,12 @@
 -- How long the program's texts are at most, so that a buffer of 1,048,576 bytes holds them.
-use mathlib.Core.Path.{_≡_, ap, subst}
-use mathlib.Core.Bool.{true, not, _&&_}
-use mathlib.Core.List.{List, [], _∷_, map}
-use Prim.Native.Nat.{ℕ, zero, suc, _+_, _*_, _<_, _≤_, _^_}
-use native.Mathlib.Omega.{arith}
-use lib.Dec.{leb}
-use lib.IntN.{ℤ, pos, negsuc}
-use lib.ListN.{length, length-append, length-map}
-use borrow.Author.Tests.{leb-true}
 use Rattle.meaning_numbers.specs.Place.{keep, numbersFrom}
-use Rattle.meaning_numbers.proofs.Tests.{by-test, both}
-use Rattle.meaning_curves.specs.Curve.{at, stretch, windowSum, windowCount}
-use Rattle.meaning_curves.specs.Normal.{flat}
-use Rattle.meaning_curves.specs.Match.{distance, normalDistance, scaleNear, shiftNear, rawMatch, normalMatch}
-use Rattle.meaning_rows.specs.Index.{Entry, RangeRow, allRuns, laidOut}
-use Rattle.meaning_rows.specs.Build.{built, builtRows}
-use Rattle.meaning_rows.proofs.Judge.{WellFormed}
-use Rattle.meaning_rows.proofs.Laid.{length-records, rows-back}
-use Rattle.meaning_filter.specs.declared.Kind.{Kind}
-use Rattle.meaning_filter.specs.declared.Kind.the-variants.{Raw, Normal}
-use Rattle.meaning_filter.specs.declared.Limits.{Limits}
+use Rattle.meaning_numbers.proofs.Prelude.{_≡_, ap, subst, true, not, _&&_, List, [], _∷_, map, ℕ, zero, suc, _+_, _*_, _<_, _≤_, _^_, arith, leb, ℤ, pos, negsuc, length, length-append, length-map, leb-true, by-test, both}
+use Rattle.meaning_curves.specs.{Curve.at, Curve.stretch, Curve.windowSum, Curve.windowCount, Normal.flat, Match.distance, Match.normalDistance, Match.scaleNear, Match.shiftNear, Match.rawMatch, Match.normalMatch}
+use Rattle.meaning_rows.specs.{Index.Entry, Index.RangeRow, Index.allRuns, Index.laidOut, Build.built, Build.builtRows}
+use Rattle.meaning_rows.proofs.{Judge.WellFormed, Laid.length-records, Laid.rows-back}
+use Rattle.meaning_filter.specs.{declared.Kind.Kind, declared.Kind.the-variants.Raw, declared.Kind.the-variants.Normal, declared.Limits.Limits}
 use Rattle.meaning_filter.specs.Matches.{Question, matches, distanceTo, matchesAt, listed, allMatches, offsetCount}
-use Rattle.meaning_text.specs.Bytes.{bytes}
-use Rattle.meaning_text.specs.Number.{spellℤ, Short}
+use Rattle.meaning_text.specs.{Bytes.bytes, Number.spellℤ, Number.Short}
 use Rattle.meaning_text.specs.Form.{Value, Spellable, Each, end, more, spell, spellMany}
 use Rattle.meaning_text.specs.Texts.{runForm, rowForm, indexForm, sayRow, sayIndex, indexText, foundText, refusedText}
 use Rattle.meaning_entries.proofs.Again.{spelled}

@@ -1,35 +1,14 @@
 -- The index and the list in the text buffer, where nothing refuses the program (`prints`).
-use mathlib.Core.Path.{_≡_, sym, _∙_, subst}
-use mathlib.Core.Bool.{not, _||_}
-use mathlib.Core.List.{List}
-use Prim.Native.Nat.{ℕ, _≤_}
-use native.Mathlib.Omega.{arith}
-use lib.IntN.{ℤ, pos}
-use lib.ListN.{length, take}
-use lib.Signed.{ltZ}
-use Rattle.meaning_numbers.proofs.Rep.{zarith}
-use Rattle.meaning_numbers.proofs.Tests.{not-not, neither}
 use Rattle.meaning_numbers.proofs.Between.{within-yes}
+use Rattle.meaning_numbers.proofs.Prelude.{_≡_, sym, _∙_, subst, not, _||_, List, ℕ, _≤_, arith, ℤ, pos, length, take, ltZ, zarith, not-not, neither}
 use Rattle.meaning_curves.specs.Limits.{windowIn}
-use Rattle.meaning_rows.specs.declared.Row.{Row}
-use Rattle.meaning_rows.specs.declared.Head.{Head}
-use Rattle.meaning_rows.specs.Index.{Index, lent}
+use Rattle.meaning_rows.specs.{declared.Row.Row, declared.Head.Head, Index.Index, Index.lent}
 use Rattle.meaning_text.specs.Texts.{indexText, foundText}
-use Rattle.meaning_entries.specs.declared.Built.{Built}
-use Rattle.meaning_entries.specs.declared.Written.{Written}
-use Rattle.meaning_entries.specs.Answers.{headOf, writtenCount}
-use Rattle.meaning_entries.specs.Build.{lentBuild}
-use Rattle.meaning_entries.specs.Write.{writeCount, writeAfter}
-use Rattle.meaning_entries.specs.Search.{SearchCall, lentSearch, searchMatches, searchCandidates}
-use Rattle.meaning_entries.specs.Program.{callLines, printed}
-use Rattle.meaning_entries.specs.Demand2.{BuildKept, WriteKept}
-use Rattle.meaning_entries.proofs.Refusal.{AllPass, openLines, passed-line, not-if}
-use Rattle.meaning_entries.proofs.Made.{build-most}
-use Rattle.meaning_entries.specs.Buffers.{indexBuffers}
-use Rattle.program_input.specs.declared.Asked.{Asked}
-use Rattle.program_input.specs.Tables.{callOf}
-use Rattle.program_answer.proofs.Print.{x, few, build-free, stands, lent-is, d, search-is, printed-is, found-few, index-few, write-free, search-free, put-behind}
+use Rattle.meaning_entries.specs.{declared.Built.Built, declared.Written.Written, Answers.headOf, Answers.writtenCount, Build.lentBuild, Write.writeCount, Write.writeAfter, Search.SearchCall, Search.lentSearch, Search.searchMatches, Search.searchCandidates, Program.callLines, Program.printed, Demand2.BuildKept, Demand2.WriteKept, Buffers.indexBuffers}
+use Rattle.meaning_entries.proofs.{Refusal.AllPass, Refusal.openLines, Refusal.passed-line, Refusal.not-if, Made.build-most}
+use Rattle.program_input.specs.{declared.Asked.Asked, Tables.callOf}
 use Rattle.program_answer.specs.Finish.{Listed, Prints}
+use Rattle.program_answer.proofs.Print.{x, few, build-free, stands, lent-is, d, search-is, printed-is, found-few, index-few, write-free, search-free, put-behind}
 
 module _ (s q : List ℤ) (a : Asked) (free : AllPass (callLines (callOf s q a))) where
   window-some : 1 ≤ a .window

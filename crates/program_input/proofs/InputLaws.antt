@@ -1,26 +1,14 @@
 -- Laws of specs/Input.
-use mathlib.Core.Path.{_≡_, refl, sym, ap, _∙_}
-use mathlib.Core.List.{List, [], _∷_, _++_}
-use mathlib.Core.Option.{Option}
-use Prim.Native.Nat.{ℕ, suc, _+_, _-_, _<_, _≤_, _^_}
-use native.Mathlib.Omega.{arith}
-use lib.IntN.{ℤ}
-use lib.ListN.{length, take, length-append, length-take}
-use lib.Seq.{take-append-le, take-length}
-use Rattle.meaning_text.specs.Bytes.{newlines}
-use Rattle.meaning_text.specs.Read.{lineOf}
-use Rattle.meaning_text.proofs.Automaton.{Fed, going, failed, feed, feed-append, feed-failed, on-option}
+use Rattle.meaning_numbers.proofs.Prelude.{_≡_, refl, sym, ap, _∙_, List, [], _∷_, _++_, Option, ℕ, suc, _+_, _-_, _<_, _≤_, _^_, arith, ℤ, length, take, length-append, length-take, take-append-le, take-length}
+use Rattle.meaning_text.specs.{Bytes.newlines, Read.lineOf}
 use Rattle.meaning_text.proofs.Lines.{newlines-length, line-behind}
+use Rattle.meaning_text.proofs.Automaton.{Fed, going, failed, feed, feed-append, feed-failed, on-option}
 use Rattle.text_lines.specs.declared.Word.{Word}
-use Rattle.text_lines.proofs.Step.{word-long}
 use Rattle.text_lines.specs.Follow.{Said, nothingSaid, Reading, step, programStart}
-use Rattle.text_feed.specs.declared.Progress.{Progress}
-use Rattle.text_feed.specs.declared.Feeding.{Feeding}
-use Rattle.text_feed.specs.Keep.{numbersOf}
-use Rattle.text_feed.specs.Feed.{Ready, GoodFeeding, Shows, Comes}
+use Rattle.text_lines.proofs.Step.{word-long}
+use Rattle.text_feed.specs.{declared.Progress.Progress, declared.Feeding.Feeding, Keep.numbersOf, Feed.Ready, Feed.GoodFeeding, Feed.Shows, Feed.Comes}
 use Rattle.text_feed.proofs.Whole.{holds-none, shows-then, shows-failed}
-use Rattle.program_input.specs.declared.Input.{Input}
-use Rattle.program_input.specs.Input.{fed, Stands, Open, start, ReadOn}
+use Rattle.program_input.specs.{declared.Input.Input, Input.fed, Input.Stands, Input.Open, Input.start, Input.ReadOn}
 
 -- where the automaton stands
 abbrev Placed : {S : Type 0} → ℕ → ℕ → Fed S → Type 0

@@ -1,51 +1,22 @@
 -- What the table over what was kept says of the text (`end-is`), and what is asked where nothing refuses (`asked-is`).
-use mathlib.Core.Path.{_≡_, refl, sym, ap, _∙_, subst}
-use mathlib.Core.Bool.{Bool, true, false, cond}
-use mathlib.Core.List.{List, [], _∷_, _++_, map}
-use mathlib.Core.Option.{none, some}
-use Prim.Native.Nat.{ℕ, _+_, _≤_}
-use native.Mathlib.Omega.{arith}
-use lib.Dec.{ltb}
-use lib.IntN.{ℤ, pos, negsuc, natAbs}
-use lib.ListN.{length, take, drop}
-use lib.Seq.{sets-eq, length-sets, take-append-seam}
-use lib.Signed.{_≤ℤ_}
-use borrow.Author.Tests.{ltb-false}
-use Rattle.meaning_numbers.proofs.Rep.{zarith, z-sub}
-use Rattle.meaning_numbers.proofs.Machine.{le-ltZ}
-use Rattle.meaning_numbers.proofs.Tests.{by-test}
+use Rattle.meaning_numbers.proofs.Prelude.{_≡_, refl, sym, ap, _∙_, subst, Bool, true, false, cond, List, [], _∷_, _++_, map, none, some, ℕ, _+_, _≤_, arith, ltb, ℤ, pos, negsuc, natAbs, length, take, drop, sets-eq, length-sets, take-append-seam, _≤ℤ_, ltb-false, zarith, z-sub, le-ltZ, by-test}
 use Rattle.meaning_curves.specs.Limits.{mostProgramValues, valueIn, firstOutside}
 use Rattle.meaning_curves.proofs.Values.{yes-value, none-outside}
-use Rattle.meaning_entries.proofs.Lines.{Natural}
-use Rattle.meaning_text.specs.Read.{readText, fine, unfit, lineOf}
-use Rattle.meaning_text.specs.Texts.{programForm, kindSaid}
-use Rattle.meaning_text.proofs.Automaton.{Fed, going, failed}
-use Rattle.meaning_text.proofs.Reading.{on-flag}
-use Rattle.meaning_entries.specs.Refusal.{valueOutside, flatQuery, badLine, unreadable}
-use Rattle.meaning_entries.specs.Build.{widthLines}
-use Rattle.meaning_entries.specs.Search.{valueLines, limitLines}
-use Rattle.meaning_entries.specs.Program.{ProgramCall, programSaid, textProgram, callLines, programTable}
+use Rattle.meaning_text.specs.{Read.readText, Read.fine, Read.unfit, Read.lineOf, Texts.programForm, Texts.kindSaid}
+use Rattle.meaning_text.proofs.{Automaton.Fed, Automaton.going, Automaton.failed, Reading.on-flag}
+use Rattle.meaning_entries.specs.{Refusal.valueOutside, Refusal.flatQuery, Refusal.badLine, Refusal.unreadable, Build.widthLines, Search.valueLines, Search.limitLines, Program.ProgramCall, Program.programSaid, Program.textProgram, Program.callLines, Program.programTable}
+use Rattle.meaning_entries.proofs.Lines.{Natural, window-line, width-line, merge-line, band-line, threshold-line, scale-line}
 use Rattle.meaning_entries.proofs.Refusal.{AllPass, same-behind, passed-both, openLines, passed-line, passed-behind}
-use Rattle.meaning_entries.proofs.Lines.{window-line, width-line, merge-line, band-line, threshold-line, scale-line}
+use Rattle.numbers.specs.Narrow.{clamp}
 use Rattle.refusals.specs.Refusal.{refusalOf, asRefusal}
 use Rattle.refusals.proofs.RefusalLaws.{place-is, place-none}
-use Rattle.text_lines.specs.declared.State.{State}
-use Rattle.text_lines.specs.Follow.{Said, Reading, programStart, programValue}
+use Rattle.text_lines.specs.{declared.State.State, Follow.Said, Follow.Reading, Follow.programStart, Follow.programValue}
 use Rattle.text_lines.proofs.Follow.{program-comes, acceptState}
-use Rattle.text_feed.specs.declared.Values.{Values}
-use Rattle.text_feed.specs.declared.Progress.{Progress}
-use Rattle.text_feed.specs.declared.Feeding.{Feeding}
-use Rattle.text_feed.specs.Keep.{stored, leading, numbersOf, Kept, Holds}
-use Rattle.text_feed.proofs.Keep.{leading-outside}
-use Rattle.numbers.specs.Narrow.{clamp}
-use Rattle.text_feed.specs.Feed.{Shows}
-use Rattle.text_feed.proofs.Whole.{text-short, program-failed, program-done}
-use Rattle.program_input.specs.declared.Input.{Input}
-use Rattle.program_input.specs.declared.Numbers.{Numbers}
-use Rattle.program_input.specs.Input.{fed, Stands, Open}
-use Rattle.program_input.proofs.InputLaws.{going-is}
+use Rattle.text_feed.specs.{declared.Values.Values, declared.Progress.Progress, declared.Feeding.Feeding, Keep.stored, Keep.leading, Keep.numbersOf, Keep.Kept, Keep.Holds, Feed.Shows}
+use Rattle.text_feed.proofs.{Keep.leading-outside, Whole.text-short, Whole.program-failed, Whole.program-done}
+use Rattle.program_input.specs.{declared.Input.Input, declared.Numbers.Numbers, Input.fed, Input.Stands, Input.Open}
 use Rattle.program_input.specs.Tables.{numbersAt, kindOf, firstOut, valuesTable, numbersTable, callTable, isDone, endTable, SoundEnd, Upto, Limited, askedOf, callOf}
-use Rattle.program_input.proofs.Text.{series-few, series-in, query-in, query-few}
+use Rattle.program_input.proofs.{InputLaws.going-is, Text.series-few, Text.series-in, Text.query-in, Text.query-few}
 
 -- ---- values that were kept
 

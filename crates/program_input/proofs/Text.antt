@@ -1,31 +1,13 @@
 -- What the table over what was kept says of the text.
-use mathlib.Core.Path.{_≡_, refl, sym, ap, _∙_}
-use mathlib.Core.Bool.{true, false, not, cond}
-use mathlib.Core.Option.{none, some}
-use mathlib.Core.List.{List, []}
-use Prim.Native.Nat.{ℕ, _+_, _<_, _≤_, _^_}
-use lib.Dec.{T}
-use native.Mathlib.Omega.{arith}
-use lib.IntN.{ℤ, pos, negsuc}
-use mir.Syntax.{w64}
-use mir.Val.{toZ}
-use lib.ListN.{length}
-use lib.Signed.{ltZ, leZ}
-use Rattle.meaning_numbers.proofs.Machine.{ltZ-true, ltZ-false, z-cast}
-use Rattle.meaning_numbers.proofs.Rep.{up, dn}
-use Rattle.meaning_numbers.proofs.Tests.{by-test}
+use Rattle.meaning_numbers.proofs.Prelude.{_≡_, refl, sym, ap, _∙_, true, false, not, cond, none, some, List, [], ℕ, _+_, _<_, _≤_, _^_, T, arith, ℤ, pos, negsuc, w64, toZ, length, ltZ, leZ, ltZ-true, ltZ-false, z-cast, up, dn, by-test}
 use Rattle.meaning_curves.specs.Limits.{mostProgramValues}
 use Rattle.meaning_entries.specs.Refusal.{Condition, atPlace}
-use Rattle.meaning_entries.proofs.Refusal.{AllPass, openLines, passed-line, passed-behind, lacks}
-use Rattle.meaning_entries.proofs.Lines.{long-line, query-line}
-use Rattle.refusals.specs.declared.Refusal.{Refusal}
-use Rattle.refusals.specs.Refusal.{refusalOf}
+use Rattle.meaning_entries.proofs.{Refusal.AllPass, Refusal.openLines, Refusal.passed-line, Refusal.passed-behind, Refusal.lacks, Lines.long-line, Lines.query-line}
+use Rattle.refusals.specs.{declared.Refusal.Refusal, Refusal.refusalOf}
 use Rattle.refusals.proofs.RefusalLaws.{place-is, place-none}
-use Rattle.text_feed.specs.declared.Values.{Values}
-use Rattle.text_feed.specs.declared.Progress.{Progress}
+use Rattle.text_feed.specs.{declared.Values.Values, declared.Progress.Progress}
 use Rattle.text_feed.proofs.Keep.{gt-leZ, le-leZ}
-use Rattle.program_input.specs.declared.Input.{Input}
-use Rattle.program_input.specs.declared.Numbers.{Numbers}
+use Rattle.program_input.specs.{declared.Input.Input, declared.Numbers.Numbers}
 use Rattle.program_input.specs.Tables.{numbersAt, firstOut, valuesTable, numbersTable, callTable, isDone, endTable, Sound, SoundEnd}
 
 -- a number is above another exactly where it is not at most that

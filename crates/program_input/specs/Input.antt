@@ -1,17 +1,13 @@
 -- Where the program's input stands after some pieces (`Stands`), and what a piece more does to it.
-use mathlib.Core.Path.{_≡_}
-use mathlib.Core.List.{List, _++_}
 use Prim.Native.Nat.{ℕ, _+_, _≤_}
 use lib.IntN.{ℤ}
 use lib.ListN.{length}
+use mathlib.Core.List.{List, _++_}
+use mathlib.Core.Path.{_≡_}
 use Rattle.meaning_text.specs.Read.{lineOf}
 use Rattle.meaning_text.proofs.Automaton.{Fed, going, feed}
-use Rattle.text_lines.specs.declared.State.{State}
-use Rattle.text_lines.specs.declared.Word.{Word}
-use Rattle.text_lines.specs.Follow.{Reading, step, programStart}
-use Rattle.text_feed.specs.declared.Feeding.{Feeding}
-use Rattle.text_feed.specs.Feed.{Ready, Shows}
-use Rattle.text_feed.specs.Whole.{noValues}
+use Rattle.text_lines.specs.{declared.State.State, declared.Word.Word, Follow.Reading, Follow.step, Follow.programStart}
+use Rattle.text_feed.specs.{declared.Feeding.Feeding, Feed.Ready, Feed.Shows, Whole.noValues}
 use Rattle.program_input.specs.declared.Input.{Input}
 
 -- what the automaton comes to

@@ -1,26 +1,21 @@
 -- The program's refusals in order, over what was kept of its lines: counts of values, how many stand before the first outside, the single numbers, the kept query.
-use mathlib.Core.Bool.{Bool, true, false, cond}
-use mathlib.Core.List.{List, [], _∷_, _++_}
-use mathlib.Core.Option.{Option, none, some}
-use mathlib.Core.Path.{_≡_}
 use Prim.Native.Nat.{ℕ, _<_, _≤_, _^_}
 use lib.Dec.{ltb}
 use lib.IntN.{ℤ, pos, natAbs}
 use lib.ListN.{length, getD, take}
 use lib.Signed.{ltZ, _≤ℤ_}
+use mathlib.Core.Bool.{Bool, true, false, cond}
+use mathlib.Core.List.{List, [], _∷_, _++_}
+use mathlib.Core.Option.{Option, none, some}
+use mathlib.Core.Path.{_≡_}
 use Rattle.meaning_curves.specs.Limits.{mostProgramValues}
 use Rattle.meaning_curves.proofs.Values.{AllIn}
 use Rattle.meaning_filter.specs.declared.Kind.{Kind}
 use Rattle.meaning_text.specs.Texts.{kindSaid}
-use Rattle.meaning_entries.specs.Refusal.{Condition, atPlace, lengthOutside, flatQuery}
-use Rattle.meaning_entries.specs.Build.{widthLines}
-use Rattle.meaning_entries.specs.Search.{Asking, lentAsk, plainAsk, limitLines}
-use Rattle.meaning_entries.specs.Program.{ProgramCall}
+use Rattle.meaning_entries.specs.{Refusal.Condition, Refusal.atPlace, Refusal.lengthOutside, Refusal.flatQuery, Build.widthLines, Search.Asking, Search.lentAsk, Search.plainAsk, Search.limitLines, Program.ProgramCall}
 use Rattle.text_lines.specs.declared.State.{State}
 use Rattle.text_feed.specs.declared.Values.{Values}
-use Rattle.program_input.specs.declared.Input.{Input}
-use Rattle.program_input.specs.declared.Numbers.{Numbers}
-use Rattle.program_input.specs.declared.Asked.{Asked}
+use Rattle.program_input.specs.{declared.Input.Input, declared.Numbers.Numbers, declared.Asked.Asked}
 
 -- the numbers at their places
 unfoldable pub numbersAt : List ℤ → Numbers

@@ -1,26 +1,24 @@
 -- The end of the input: what refuses is printed (`refused-end`), and where nothing does, what was read is what the program was asked (`call-free`), and what it prints then is what document 01 says (`printed-end`).
-use mathlib.Core.Path.{_≡_, sym, ap, _∙_, subst}
-use mathlib.Core.List.{List}
 use Prim.Native.Nat.{ℕ, _+_, _<_, _^_}
-use native.Mathlib.Omega.{arith}
 use lib.Dec.{T}
 use lib.IntN.{ℤ}
 use lib.ListN.{length, take, drop}
 use lib.Seq.{take-append-seam}
+use mathlib.Core.List.{List}
+use mathlib.Core.Path.{_≡_, sym, ap, _∙_, subst}
+use native.Mathlib.Omega.{arith}
 use Rattle.meaning_text.specs.Texts.{refusedText}
 use Rattle.meaning_entries.specs.Program.{ProgramCall, callLines, programTable, printed, program}
 use Rattle.meaning_entries.proofs.Refusal.{AllPass, passed-is, openLines, passed-line, lacks, passed-behind}
-use Rattle.refusals.specs.declared.Refusal.{Refusal}
-use Rattle.refusals.specs.Refusal.{refusalOf, passes, refuses}
+use Rattle.refusals.specs.{declared.Refusal.Refusal, Refusal.refusalOf, Refusal.passes, Refusal.refuses}
 use Rattle.text_put.specs.Put.{Put}
 use Rattle.text_put.proofs.Put.{put-room, put-length}
 use Rattle.text_feed.specs.declared.Progress.{Progress}
-use Rattle.program_input.specs.declared.Input.{Input}
-use Rattle.program_input.specs.Input.{Stands}
+use Rattle.program_input.specs.{declared.Input.Input, Input.Stands}
 use Rattle.program_input.specs.Tables.{numbersAt, endTable, SoundEnd, askedOf, callOf, valuesTable, numbersTable, callTable}
 use Rattle.program_input.proofs.Says.{stands-sound, end-is, Given, asked-is}
-use Rattle.program_answer.proofs.Sizes.{refused-size}
 use Rattle.program_answer.specs.Finish.{Prints, Reached, Finishes}
+use Rattle.program_answer.proofs.Sizes.{refused-size}
 
 pub sound-here : (r : Input) (numbers series query : List ℤ) → Reached r numbers series query → SoundEnd r numbers query
 sound-here r numbers series query h = stands-sound (h .kept) (h .asked) (h .text) r numbers series query (h .stands) 0 (h .opened) (omega (arith, h .short))

@@ -1,8 +1,8 @@
 -- The end of the input: what refuses is printed, and where nothing does, what was read is what the program was asked, and what it prints then is what document 01 says.
-use mathlib.Core.List.{List}
 use Prim.Native.Nat.{_≤_}
 use lib.IntN.{ℤ}
 use lib.ListN.{length}
+use mathlib.Core.List.{List}
 use Rattle.program_input.specs.declared.Input.{Input}
 use Rattle.program_answer.specs.Finish.{Reached}
 

@@ -1,14 +1,6 @@
 -- When a query is flat, as code finds it.
-use mathlib.Core.Path.{_≡_, refl, ap, _∙_}
-use mathlib.Core.Bool.{Bool, false}
-use mathlib.Core.List.{List}
-use Prim.Native.Nat.{ℕ}
-use native.Mathlib.Nat.{zero-add}
-use lib.Dec.{eqb}
-use lib.IntN.{ℤ}
-use lib.ListN.{length}
-use Rattle.meaning_curves.specs.Curve.{at, stretch, spread}
-use Rattle.meaning_curves.specs.Normal.{flat}
+use Rattle.meaning_numbers.proofs.Prelude.{_≡_, refl, ap, _∙_, Bool, false, List, ℕ, zero-add, eqb, ℤ, length}
+use Rattle.meaning_curves.specs.{Curve.at, Curve.stretch, Curve.spread, Normal.flat}
 use Rattle.meaning_curves.proofs.Same.{spread-same}
 use Rattle.meaning_filter.specs.declared.Kind.{Kind}
 use Rattle.meaning_entries.specs.Refusal.{normalFlat}

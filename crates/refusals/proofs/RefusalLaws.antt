@@ -1,11 +1,5 @@
 -- Laws of specs/Refusal.
-use mathlib.Core.Path.{_≡_, refl, sym, ap, _∙_}
-use mathlib.Core.Bool.{Bool, true, false, not}
-use mathlib.Core.List.{List, [], _∷_, _++_}
-use mathlib.Core.Option.{Option, none, some}
-use Prim.Native.Nat.{ℕ}
-use lib.IntN.{ℤ}
-use lib.ListN.{length}
+use Rattle.meaning_numbers.proofs.Prelude.{_≡_, refl, sym, ap, _∙_, Bool, true, false, not, List, [], _∷_, _++_, Option, none, some, ℕ, ℤ, length}
 use Rattle.meaning_curves.specs.Limits.{mostValues, lengthIn, firstOutside}
 use Rattle.meaning_entries.specs.Refusal.{Condition, firstRefusal, atZero, lengthOutside, valueOutside, seriesLines}
 use Rattle.meaning_entries.proofs.Refusal.{AllPass, is-first, first-is, first-left, first-right}

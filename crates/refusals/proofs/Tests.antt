@@ -1,18 +1,7 @@
 -- Tests as the code makes them, without a difference that may be negative: window counts (`fewer-is`, `more-is`, `not-more`), the room of a buffer (`short-is`, `not-short`), a band (`band-is`) and limits that begin at 0 (`from-zero`).
-use mathlib.Core.Path.{_≡_, sym, ap, _∙_}
-use mathlib.Core.Bool.{true, false, not}
-use mathlib.Core.Logic.{⊎-elim}
-use Prim.Native.Nat.{ℕ, _+_, _-_, _<_, _≤_}
-use native.Mathlib.Omega.{arith}
-use lib.Dec.{leb, ltb}
-use lib.IntN.{ℤ, pos, _+ℤ_, _-ℤ_}
-use lib.Signed.{ltZ, _<ℤ_, _≤ℤ_}
-use borrow.Author.Tests.{leb-true, leb-false, ltb-true, ltb-false, le-leb, lt-ltb, le-ltb}
-use Rattle.meaning_numbers.proofs.Rep.{zarith, z-add, z-sub}
-use Rattle.meaning_numbers.proofs.Machine.{lt-ltZ, le-ltZ}
 use Rattle.meaning_numbers.specs.Order.{within}
 use Rattle.meaning_numbers.proofs.Between.{within-yes, yes-within}
-use Rattle.meaning_numbers.proofs.Tests.{is-true, is-false, decided, by-test}
+use Rattle.meaning_numbers.proofs.Prelude.{_≡_, sym, ap, _∙_, true, false, not, ⊎-elim, ℕ, _+_, _-_, _<_, _≤_, arith, leb, ltb, ℤ, pos, _+ℤ_, _-ℤ_, ltZ, _<ℤ_, _≤ℤ_, leb-true, leb-false, ltb-true, ltb-false, le-leb, lt-ltb, le-ltb, zarith, z-add, z-sub, lt-ltZ, le-ltZ, is-true, is-false, decided, by-test}
 use Rattle.meaning_curves.specs.Limits.{bandIn}
 
 module _ (a w n : ℕ) where

@@ -1,18 +1,16 @@
 -- What refuses a call, as code has it, by a table of conditions (`refusalOf`): a line of it, what it says (`passes`, `refuses`), and its parts.
-use mathlib.Core.Path.{_≡_, refl, sym, ap, _∙_}
+use Prim.Native.Nat.{ℕ}
+use borrow.Author.Tests.{eq-eqb}
+use lib.Dec.{T}
 use mathlib.Core.Bool.{Bool, cond}
 use mathlib.Core.List.{List}
 use mathlib.Core.Option.{Option, none, some}
-use Prim.Native.Nat.{ℕ}
-use lib.Dec.{T}
-use borrow.Author.Tests.{eq-eqb}
+use mathlib.Core.Path.{_≡_, refl, sym, ap, _∙_}
 use Rattle.meaning_numbers.proofs.Tests.{clash}
-use Rattle.meaning_rows.specs.Index.{Index}
-use Rattle.meaning_rows.specs.Judge.{firstBadRow}
+use Rattle.meaning_rows.specs.{Index.Index, Judge.firstBadRow}
 use Rattle.meaning_entries.specs.Refusal.{Condition, firstRefusal, atPlace, illFormed}
 use Rattle.meaning_entries.proofs.Refusal.{AllPass, is-passed, is-first, lacks, first-lacks}
-use Rattle.rows_judge.specs.declared.Judged.{Judged}
-use Rattle.rows_judge.specs.Judged.{badRow}
+use Rattle.rows_judge.specs.{declared.Judged.Judged, Judged.badRow}
 use Rattle.refusals.specs.declared.Refusal.{Refusal}
 
 -- nothing refuses

@@ -1,16 +1,5 @@
 -- A binary search over plain variables: the invariant, its start, a turn and its end.
-use mathlib.Core.Path.{_≡_}
-use Prim.Native.Nat.{ℕ, _+_, _-_, _*_, _^_, _<_, _≤_}
-use native.Mathlib.Omega.{arith}
-use native.Mathlib.Decide.{decLt}
-use mathlib.Core.Bool.{true, false}
-use mathlib.Core.List.{List}
-use lib.ListN.{getD, length}
-use lib.IntN.{ℤ}
-use lib.Signed.{leZ, _≤ℤ_, _<ℤ_}
-use Rattle.meaning_numbers.proofs.Rep.{zarith}
-use Rattle.meaning_numbers.proofs.Machine.{zmach}
-use Rattle.meaning_numbers.proofs.Tests.{by-test}
+use Rattle.meaning_numbers.proofs.Prelude.{_≡_, ℕ, _+_, _-_, _*_, _^_, _<_, _≤_, arith, decLt, true, false, List, getD, length, ℤ, leZ, _≤ℤ_, _<ℤ_, zarith, zmach, by-test}
 use Rattle.meaning_rows.specs.declared.Row.{Row}
 use Rattle.rows_records.specs.Records.{zeroRow}
 use Rattle.rows_find.specs.Search.{midOf, nextLo, nextHi, Climbs, Found, Reached}

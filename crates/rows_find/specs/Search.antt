@@ -1,11 +1,11 @@
 -- The two ends of a binary search over row records after a turn, and what the search finds.
-use mathlib.Core.Path.{_≡_}
 use Prim.Native.Nat.{ℕ, _+_, _-_, _/_, _<_, _≤_}
+use lib.IntN.{ℤ}
+use lib.ListN.{getD, length}
+use lib.Signed.{leZ, _≤ℤ_, _<ℤ_}
 use mathlib.Core.Bool.{cond}
 use mathlib.Core.List.{List}
-use lib.ListN.{getD, length}
-use lib.IntN.{ℤ}
-use lib.Signed.{leZ, _≤ℤ_, _<ℤ_}
+use mathlib.Core.Path.{_≡_}
 use Rattle.meaning_rows.specs.declared.Row.{Row}
 use Rattle.rows_records.specs.Records.{zeroRow}
 

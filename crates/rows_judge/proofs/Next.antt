@@ -1,18 +1,8 @@
 -- One row more: a row that does not fit ends in the failed state (`next-bad`), and one that fits is judged by its runs (`next-fits`).
-use mathlib.Core.Path.{_≡_, refl, _∙_, ap}
-use mathlib.Core.Bool.{Bool, true, false, cond, _&&_}
-use Prim.Native.Nat.{ℕ, _+_, _≤_}
-use native.Mathlib.Omega.{arith}
-use lib.Dec.{leb, eqb}
-use lib.IntN.{pos, natAbs}
-use lib.ListN.{length}
-use borrow.Author.Tests.{leb-true, eqb-true}
-use Rattle.meaning_rows.specs.declared.Row.{Row}
-use Rattle.meaning_rows.specs.Index.{Index, runsOf}
-use Rattle.meaning_rows.specs.Judge.{runsGood, runLengths, rangeGood, partGood, rowGood}
+use Rattle.meaning_numbers.proofs.Prelude.{_≡_, refl, _∙_, ap, Bool, true, false, cond, _&&_, ℕ, _+_, _≤_, arith, leb, eqb, pos, natAbs, length, leb-true, eqb-true, both}
+use Rattle.meaning_rows.specs.{declared.Row.Row, Index.Index, Index.runsOf, Judge.runsGood, Judge.runLengths, Judge.rangeGood, Judge.partGood, Judge.rowGood}
 use Rattle.rows_judge.specs.declared.RowsJudged.{RowsJudged}
 use Rattle.rows_judge.specs.Judging.{failed, moved, untold, scan, after, next}
-use Rattle.meaning_numbers.proofs.Tests.{both}
 use Rattle.rows_judge.proofs.Scan.{all-four, not-all}
 
 module _ (x : Index) (s : RowsJudged) (r : Row) where

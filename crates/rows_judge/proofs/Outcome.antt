@@ -1,26 +1,10 @@
 -- Judging row after row ends in what the meanings say: `judged` has it for all rows of an index. `Judging` is the invariant of the loop over lent records, with how it starts, moves, stops and ends.
-use mathlib.Core.Path.{_≡_, refl, sym, _∙_, ap}
-use mathlib.Core.Bool.{Bool, true, false, cond, not, _&&_}
-use mathlib.Core.List.{List, [], _∷_}
-use mathlib.Core.Option.{Option, some}
-use Prim.Native.Nat.{ℕ, suc, zero-le, _+_, _<_, _≤_}
-use native.Mathlib.Numerals.{add-one}
-use native.Mathlib.Omega.{arith}
-use lib.Dec.{leb}
-use lib.IntN.{ℤ, pos, natAbs}
-use lib.ListN.{length, getD, drop, drop-of-length-le}
-use borrow.Author.Tests.{not-true, not-false}
-use Rattle.meaning_numbers.proofs.Tests.{by-test, both}
-use Rattle.meaning_rows.specs.declared.Row.{Row}
-use Rattle.meaning_rows.specs.declared.Head.{Head}
-use Rattle.meaning_rows.specs.Index.{Index, lent, runsOf}
+use Rattle.meaning_numbers.proofs.Prelude.{_≡_, refl, sym, _∙_, ap, Bool, true, false, cond, not, _&&_, List, [], _∷_, Option, some, ℕ, suc, zero-le, _+_, _<_, _≤_, add-one, arith, leb, ℤ, pos, natAbs, length, getD, drop, drop-of-length-le, not-true, not-false, by-test, both}
+use Rattle.meaning_rows.specs.{declared.Row.Row, declared.Head.Head, Index.Index, Index.lent, Index.runsOf}
 use Rattle.meaning_rows.specs.Judge.{headGood, runsGood, runLengths, rangeGood, partGood, rowGood, badRowFrom, firstBadRow, lengthTotal}
 use Rattle.rows_records.specs.Records.{zeroRow}
 use Rattle.rows_records.proofs.Walk.{drop-next}
-use Rattle.rows_judge.specs.declared.RowsJudged.{RowsJudged}
-use Rattle.rows_judge.specs.declared.Judged.{Judged}
-use Rattle.rows_judge.specs.Judged.{outcome, judgedOf}
-use Rattle.rows_judge.specs.Judging.{start, failed, moved, next, verdictOf}
+use Rattle.rows_judge.specs.{declared.RowsJudged.RowsJudged, declared.Judged.Judged, Judged.outcome, Judged.judgedOf, Judging.start, Judging.failed, Judging.moved, Judging.next, Judging.verdictOf}
 use Rattle.rows_judge.proofs.Next.{fits-room}
 
 -- ---- rows do not change how a row is judged

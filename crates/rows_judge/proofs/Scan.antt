@@ -1,20 +1,9 @@
 -- RowsJudged a row's runs, one run at a time: `scan-next` for a good run, `scan-bad` for a bad one, `scan-end` where none is left. `part-next` has the first run of a part of the run buffer.
-use mathlib.Core.Path.{_≡_, refl, sym, _∙_, ap}
-use mathlib.Core.Bool.{Bool, true, false, cond, _&&_, _||_, false≢true}
-use mathlib.Core.List.{List, [], _∷_}
-use Prim.Native.Nat.{ℕ, zero, suc, _+_, _-_, _<_, _≤_}
-use native.Mathlib.Omega.{arith}
-use lib.Dec.{leb, ltb}
-use lib.IntN.{ℤ, pos}
-use lib.ListN.{length, getD, take, drop}
-use borrow.Author.Tests.{leb-true, ltb-true, ltb-false, le-leb, lt-leb}
+use Rattle.meaning_numbers.proofs.Prelude.{_≡_, refl, sym, _∙_, ap, Bool, true, false, cond, _&&_, _||_, false≢true, List, [], _∷_, ℕ, zero, suc, _+_, _-_, _<_, _≤_, arith, leb, ltb, ℤ, pos, length, getD, take, drop, leb-true, ltb-true, ltb-false, le-leb, lt-leb, by-test, of-both}
+use Rattle.meaning_rows.specs.{Index.Entry, Index.entries, Judge.runsGood, Judge.runLengths}
+use Rattle.rows_judge.specs.{Judging.untold, Judging.scan, declared.Lengths.Lengths}
 pub use Rattle.meaning_numbers.proofs.Tests.{both}
-use Rattle.meaning_numbers.proofs.Tests.{by-test, of-both}
 pub use Rattle.meaning_rows.proofs.Grown.{length-entries}
-use Rattle.meaning_rows.specs.Index.{Entry, entries}
-use Rattle.meaning_rows.specs.Judge.{runsGood, runLengths}
-use Rattle.rows_judge.specs.Judging.{untold, scan}
-use Rattle.rows_judge.specs.declared.Lengths.{Lengths}
 
 -- ---- a part of the run buffer
 

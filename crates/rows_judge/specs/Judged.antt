@@ -1,9 +1,8 @@
 -- The outcome of judging an index, by the meanings: the first bad row, or that there is none, with the run lengths of all rows added up.
-use mathlib.Core.Path.{_≡_, refl}
-use mathlib.Core.Option.{Option, none, some}
 use Prim.Native.Nat.{ℕ}
-use Rattle.meaning_rows.specs.Index.{Index}
-use Rattle.meaning_rows.specs.Judge.{lengthTotal, firstBadRow}
+use mathlib.Core.Option.{Option, none, some}
+use mathlib.Core.Path.{_≡_, refl}
+use Rattle.meaning_rows.specs.{Index.Index, Judge.lengthTotal, Judge.firstBadRow}
 use Rattle.rows_judge.specs.declared.Judged.{Judged}
 
 -- the first bad row, or else the total

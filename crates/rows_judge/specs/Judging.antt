@@ -1,16 +1,12 @@
 -- The state of judging: what is known after some rows, and how one row moves it.
-use mathlib.Core.Bool.{Bool, true, false, cond, _&&_}
-use mathlib.Core.List.{List}
 use Prim.Native.Nat.{ℕ, _+_}
 use lib.Dec.{leb, eqb}
 use lib.IntN.{ℤ, pos}
+use mathlib.Core.Bool.{Bool, true, false, cond, _&&_}
+use mathlib.Core.List.{List}
 use Rattle.meaning_curves.specs.Limits.{lowestEnd}
-use Rattle.meaning_rows.specs.declared.Row.{Row}
-use Rattle.meaning_rows.specs.Index.{Index, Entry, runsOf}
-use Rattle.meaning_rows.specs.Judge.{headGood, runsGood, runLengths, rangeGood, rowGood}
-use Rattle.rows_judge.specs.declared.RowsJudged.{RowsJudged}
-use Rattle.rows_judge.specs.declared.Lengths.{Lengths}
-use Rattle.rows_judge.specs.declared.Judged.{Judged}
+use Rattle.meaning_rows.specs.{declared.Row.Row, Index.Index, Index.Entry, Index.runsOf, Judge.headGood, Judge.runsGood, Judge.runLengths, Judge.rangeGood, Judge.rowGood}
+use Rattle.rows_judge.specs.{declared.RowsJudged.RowsJudged, declared.Lengths.Lengths, declared.Judged.Judged}
 
 -- before the first row
 abbrev pub start : Index → RowsJudged

@@ -1,15 +1,6 @@
 -- Laws of specs/Packed.
-use mathlib.Core.Path.{_≡_, refl, sym, _∙_}
-use mathlib.Core.List.{List}
-use Prim.Native.Nat.{ℕ, zero, suc, _+_, _<_}
-use native.Mathlib.Numerals.{add-one}
-use native.Mathlib.Omega.{arith}
-use lib.Dec.{eqb}
-use lib.ListN.{length, getD, set, length-set}
-use lib.Seq.{getD-set-same, getD-set-other}
-use borrow.Author.Tests.{eqb-true, eqb-false}
 use Rattle.meaning_numbers.proofs.Sum.{Σℕ-more}
-use Rattle.meaning_numbers.proofs.Tests.{by-test}
+use Rattle.meaning_numbers.proofs.Prelude.{_≡_, refl, sym, _∙_, List, ℕ, zero, suc, _+_, _<_, add-one, arith, eqb, length, getD, set, length-set, getD-set-same, getD-set-other, eqb-true, eqb-false, by-test}
 use Rattle.meaning_rows.specs.declared.Row.{Row}
 use Rattle.rows_pack.specs.Packed.{total, Summed, rowFrom, packed}
 

@@ -1,37 +1,17 @@
 -- What is packed out of the table of a series and the sums of its counts is the records of its build without merging (`built-records`), in front of what was there.
-use mathlib.Core.Path.{_≡_, refl, sym, ap, _∙_}
-use mathlib.Core.List.{List, [], _∷_, _++_, map, List·Memᴰ as Mem}
-use Prim.Native.Nat.{ℕ, zero, suc, _+_, _-_, _*_, _/_, _<_, _≤_}
-use native.Mathlib.Omega.{arith}
-use native.Mathlib.Decide.{decLt}
-use native.Mathlib.Nat.{div-mul-le-self}
-use lib.Dec.{eqb}
-use lib.IntN.{ℤ, pos, _-ℤ_}
-use lib.ListN.{length, getD, take, drop, length-append, length-drop, length-map, List·getD-append}
-use lib.Seq.{ext-getD, getD-append-add, getD-drop, getD-set-same, getD-set-other}
-use borrow.Author.Tests.{eqb-true, eqb-false, ne-eqb}
 use Rattle.meaning_numbers.specs.Sum.{Σℕ}
-use Rattle.meaning_numbers.proofs.Sum.{Σℕ-none, Σℕ-more, Σℕ-same}
-use Rattle.meaning_numbers.proofs.Rep.{rep-pos, rep-sub, rep-mul, rep-add, rep-eq}
-use Rattle.meaning_numbers.proofs.Tests.{by-test}
-use Rattle.meaning_numbers.proofs.Member.{mem-at}
+use Rattle.meaning_numbers.proofs.{Sum.Σℕ-none, Sum.Σℕ-more, Sum.Σℕ-same, Member.mem-at}
+use Rattle.meaning_numbers.proofs.Prelude.{_≡_, refl, sym, ap, _∙_, List, [], _∷_, _++_, map, List·Memᴰ as Mem, ℕ, zero, suc, _+_, _-_, _*_, _/_, _<_, _≤_, arith, decLt, div-mul-le-self, eqb, ℤ, pos, _-ℤ_, length, getD, take, drop, length-append, length-drop, length-map, List·getD-append, ext-getD, getD-append-add, getD-drop, getD-set-same, getD-set-other, eqb-true, eqb-false, ne-eqb, rep-pos, rep-sub, rep-mul, rep-add, rep-eq, by-test}
 use Rattle.meaning_curves.specs.Curve.{windowSum}
-use Rattle.meaning_rows.specs.declared.Row.{Row}
-use Rattle.meaning_rows.specs.Range.{lowOf, upOf, inside}
-use Rattle.meaning_rows.specs.Runs.{runs, runCount}
-use Rattle.meaning_rows.specs.Index.{RangeRow, records, allRuns}
+use Rattle.meaning_rows.specs.{declared.Row.Row, Range.lowOf, Range.upOf, Range.inside, Runs.runs, Runs.runCount, Index.RangeRow, Index.records, Index.allRuns}
 use Rattle.meaning_rows.specs.Build.{SetRow, rowNumbers, rowAt, filed, entry, withRuns, builtRows}
-use Rattle.meaning_rows.proofs.Laid.{length-records}
-use Rattle.meaning_rows.proofs.LaidAt.{records-at, runs-total}
-use Rattle.meaning_rows.proofs.Build.{numbers-length, merged-none, built-runs}
+use Rattle.meaning_rows.proofs.{Laid.length-records, LaidAt.records-at, LaidAt.runs-total, Build.numbers-length, Build.merged-none, Build.built-runs}
 use Rattle.rows_records.specs.Records.{zeroRow}
+use Rattle.sums_slide.specs.Table.{table}
 use Rattle.sums_slide.specs.Levels.{level, rowOf, windowsOf, Lent, level-small}
 use Rattle.sums_slide.proofs.Marks.{yes-met}
-use Rattle.sums_slide.specs.Table.{table}
-use Rattle.sums_count.specs.Tally.{isRow, Counted}
-use Rattle.sums_count.proofs.Rows.{front-at}
-use Rattle.sums_count.specs.Numbers.{lowered}
-use Rattle.sums_count.proofs.Numbers.{table-only, table-numbers, row-runs}
+use Rattle.sums_count.specs.{Tally.isRow, Tally.Counted, Numbers.lowered}
+use Rattle.sums_count.proofs.{Rows.front-at, Numbers.table-only, Numbers.table-numbers, Numbers.row-runs}
 use Rattle.rows_pack.specs.Packed.{total, Summed, startOf, rowFrom, Packable, packed}
 use Rattle.rows_pack.proofs.Packed.{packed-none, packed-more, length-packed}
 

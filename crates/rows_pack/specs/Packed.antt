@@ -1,11 +1,11 @@
 -- The record of a row, from its raised number and the ends of the rows' parts, and the records of all rows.
-use mathlib.Core.Path.{_≡_}
-use mathlib.Core.Bool.{cond}
-use mathlib.Core.List.{List}
 use Prim.Native.Nat.{ℕ, zero, suc, _+_, _-_, _*_, _<_, _≤_}
 use lib.Dec.{eqb}
 use lib.IntN.{pos, _-ℤ_}
 use lib.ListN.{length, getD, set}
+use mathlib.Core.Bool.{cond}
+use mathlib.Core.List.{List}
+use mathlib.Core.Path.{_≡_}
 use Rattle.meaning_numbers.specs.Sum.{Σℕ}
 use Rattle.meaning_rows.specs.declared.Row.{Row}
 

@@ -1,7 +1,7 @@
 -- The records that a chunk holds.
-use mathlib.Core.List.{List}
 use Prim.Native.Nat.{ℕ, zero, suc, _+_, _-_, min}
 use lib.ListN.{getD, set, replicate}
+use mathlib.Core.List.{List}
 use Rattle.meaning_rows.specs.declared.Row.{Row}
 pub use Rattle.meaning_rows.specs.Index.{zeroRow}
 

@@ -1,34 +1,13 @@
 -- Laws of specs/Numbers.
-use mathlib.Core.Path.{_≡_, sym, ap, _∙_, subst}
-use mathlib.Core.Logic.{⊎-elim}
-use mathlib.Core.Bool.{Bool, true}
-use mathlib.Core.List.{List, [], _∷_, map, List·Memᴰ as Mem, List·Memᴰ·not-nil as not-nil, List·Memᴰ·append-cases as append-cases, List·Memᴰ·eq-of-singleton as only}
-use Prim.Native.Nat.{ℕ, zero, suc, _+_, _*_, _<_}
-use native.Mathlib.Omega.{arith}
-use lib.IntN.{ℤ, pos}
-use lib.ListN.{length, getD}
-use lib.Signed.{_<ℤ_}
-use borrow.Author.Tests.{eq-eqb, ne-eqb}
-use Rattle.meaning_numbers.proofs.Rep.{Rep, rep-pos, rep-sub, rep-eq, zarith, z-sub}
-use Rattle.meaning_numbers.proofs.Tests.{by-test, clash}
 use Rattle.meaning_numbers.proofs.Member.{mem-at, mem-map, map-mem}
+use Rattle.meaning_numbers.proofs.Prelude.{_≡_, sym, ap, _∙_, subst, ⊎-elim, Bool, true, List, [], _∷_, map, List·Memᴰ as Mem, List·Memᴰ·not-nil as not-nil, List·Memᴰ·append-cases as append-cases, List·Memᴰ·eq-of-singleton as only, ℕ, zero, suc, _+_, _*_, _<_, arith, ℤ, pos, length, getD, _<ℤ_, eq-eqb, ne-eqb, Rep, rep-pos, rep-sub, rep-eq, zarith, z-sub, by-test, clash}
 use Rattle.meaning_curves.specs.Curve.{windowSum}
-use Rattle.meaning_rows.specs.Range.{rowNumber, lowOf, upOf, inside}
-use Rattle.meaning_rows.specs.Runs.{runs}
-use Rattle.meaning_rows.specs.Build.{rowNumbers}
-use Rattle.meaning_rows.proofs.Range.{row-raised, row-unique, in-own}
-use Rattle.meaning_rows.proofs.Runs.{runs-cong}
-use Rattle.meaning_rows.proofs.Build.{Above, Sorted, sorted-unique, numbers-sorted, numbers-mem, numbers-occur}
-use Rattle.sums_slide.specs.Levels.{level, rowOf, windowsOf, Lent}
-use Rattle.sums_slide.proofs.Levels.{level-is}
-use Rattle.sums_slide.specs.Picked.{picked}
-use Rattle.sums_slide.proofs.Picked.{picked-start, picked-yes, picked-no}
-use Rattle.sums_slide.specs.Marks.{met}
-use Rattle.sums_slide.proofs.Marks.{yes-met}
-use Rattle.sums_slide.specs.Table.{table, top}
-use Rattle.sums_count.specs.Tally.{Rising, isRow}
+use Rattle.meaning_rows.specs.{Range.rowNumber, Range.lowOf, Range.upOf, Range.inside, Runs.runs, Build.rowNumbers}
+use Rattle.meaning_rows.proofs.{Range.row-raised, Range.row-unique, Range.in-own, Runs.runs-cong, Build.Above, Build.Sorted, Build.sorted-unique, Build.numbers-sorted, Build.numbers-mem, Build.numbers-occur}
+use Rattle.sums_slide.specs.{Levels.level, Levels.rowOf, Levels.windowsOf, Levels.Lent, Picked.picked, Marks.met, Table.table, Table.top}
+use Rattle.sums_slide.proofs.{Levels.level-is, Picked.picked-start, Picked.picked-yes, Picked.picked-no, Marks.yes-met}
+use Rattle.sums_count.specs.{Tally.Rising, Tally.isRow, Numbers.lowered}
 use Rattle.sums_count.proofs.Rows.{table-rises, table-has}
-use Rattle.sums_count.specs.Numbers.{lowered}
 
 -- ---- rising numbers, lowered, are sorted
 

@@ -1,21 +1,7 @@
 -- The table of a series rises (`table-rises`), and has the row number of each window (`table-has`).
-use mathlib.Core.Path.{_≡_, refl, sym, ap, _∙_}
-use mathlib.Core.Bool.{Bool, true}
-use mathlib.Core.List.{List, [], _∷_, _++_}
-use Prim.Native.Nat.{ℕ, zero, suc, _+_, _<_}
-use native.Mathlib.Omega.{arith}
-use native.Mathlib.Decide.{decLt}
-use lib.IntN.{ℤ}
-use lib.ListN.{length, getD, take, length-append, List·getD-append}
-use lib.Seq.{getD-at, getD-take}
-use Rattle.meaning_numbers.proofs.Tests.{by-test}
-use Rattle.sums_slide.specs.Levels.{level, rowOf, windowsOf, Lent}
-use Rattle.sums_slide.specs.Picked.{picked}
-use Rattle.sums_slide.proofs.Picked.{picked-start, picked-yes, picked-no}
-use Rattle.sums_slide.specs.Marks.{met}
-use Rattle.sums_slide.proofs.Marks.{met-yes}
-use Rattle.sums_slide.specs.Table.{table, top}
-use Rattle.sums_slide.proofs.Table.{below-top}
+use Rattle.meaning_numbers.proofs.Prelude.{_≡_, refl, sym, ap, _∙_, Bool, true, List, [], _∷_, _++_, ℕ, zero, suc, _+_, _<_, arith, decLt, ℤ, length, getD, take, length-append, List·getD-append, getD-at, getD-take, by-test}
+use Rattle.sums_slide.specs.{Levels.level, Levels.rowOf, Levels.windowsOf, Levels.Lent, Picked.picked, Marks.met, Table.table, Table.top}
+use Rattle.sums_slide.proofs.{Picked.picked-start, Picked.picked-yes, Picked.picked-no, Marks.met-yes, Table.below-top}
 use Rattle.sums_count.specs.Tally.{Rising, Has}
 
 -- a number above all the others put behind them

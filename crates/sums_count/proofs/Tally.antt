@@ -1,20 +1,8 @@
 -- Laws of specs/Tally.
-use mathlib.Core.Path.{_≡_, sym, ap, _∙_}
-use mathlib.Core.Bool.{Bool, true, false}
-use mathlib.Core.List.{List}
-use Prim.Native.Nat.{ℕ, suc, _+_, _-_, _*_, _<_, _≤_}
-use native.Mathlib.Omega.{arith}
-use native.Mathlib.Decide.{decLt}
-use lib.Dec.{leb, eqb}
-use lib.ListN.{length, getD, set}
-use lib.Seq.{getD-set-same, getD-set-other}
-use borrow.Author.Tests.{leb-true, leb-false, eqb-true, eqb-false, eq-eqb, ne-eqb}
 use Rattle.meaning_numbers.specs.Sum.{bit}
-use Rattle.meaning_numbers.proofs.Tests.{by-test}
+use Rattle.meaning_numbers.proofs.Prelude.{_≡_, sym, ap, _∙_, Bool, true, false, List, ℕ, suc, _+_, _-_, _*_, _<_, _≤_, arith, decLt, leb, eqb, length, getD, set, getD-set-same, getD-set-other, leb-true, leb-false, eqb-true, eqb-false, eq-eqb, ne-eqb, by-test}
 use Rattle.meaning_rows.specs.Runs.{before, runCount}
-use Rattle.meaning_rows.proofs.Runs.{before-none, before-more}
-use Rattle.meaning_rows.proofs.Columns.{runCount-none}
-use Rattle.meaning_rows.proofs.Parts.{run-count, stay-runs}
+use Rattle.meaning_rows.proofs.{Runs.before-none, Runs.before-more, Columns.runCount-none, Parts.run-count, Parts.stay-runs}
 use Rattle.sums_slide.specs.Change.{RowRun}
 use Rattle.sums_count.specs.Tally.{Rising, isRow, Counted}
 

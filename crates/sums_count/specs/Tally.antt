@@ -1,10 +1,10 @@
 -- Rising tables, and the runs of each row counted. A turn of the pass takes a whole run in.
-use mathlib.Core.Path.{_≡_}
-use mathlib.Core.Bool.{Bool}
-use mathlib.Core.List.{List}
 use Prim.Native.Nat.{ℕ, _<_}
 use lib.Dec.{eqb}
 use lib.ListN.{length, getD}
+use mathlib.Core.Bool.{Bool}
+use mathlib.Core.List.{List}
+use mathlib.Core.Path.{_≡_}
 use Rattle.meaning_rows.specs.Runs.{runCount}
 
 -- the first n numbers ascend

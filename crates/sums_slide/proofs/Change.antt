@@ -1,15 +1,6 @@
 -- Laws of specs/Change.
-use mathlib.Core.Path.{_≡_}
-use mathlib.Core.Bool.{true, false}
-use Prim.Native.Nat.{ℕ, _+_, _*_, _/_, _<_, _≤_}
-use native.Mathlib.Omega.{arith}
-use native.Mathlib.Decide.{decLt}
-use native.Mathlib.Nat.{div-eq-of-lt-le, div-mul-le-self, lt-div-mul-add}
-use lib.Dec.{leb, ltb}
-use borrow.Author.Tests.{leb-true, ltb-true, le-leb, lt-ltb}
-use Rattle.meaning_numbers.proofs.Tests.{both, clash}
-use Rattle.sums_slide.specs.Levels.{within, rowOf}
-use Rattle.sums_slide.specs.Change.{Stop, NextRow}
+use Rattle.meaning_numbers.proofs.Prelude.{_≡_, true, false, ℕ, _+_, _*_, _/_, _<_, _≤_, arith, decLt, div-eq-of-lt-le, div-mul-le-self, lt-div-mul-add, leb, ltb, leb-true, ltb-true, le-leb, lt-ltb, both, clash}
+use Rattle.sums_slide.specs.{Levels.within, Levels.rowOf, Change.Stop, Change.NextRow}
 
 -- where the windows passed are in the range, what is told from there on is told from the first
 pub stop-from : {lv : ℕ → ℕ} {n lo hi r z : ℕ} (from j : ℕ) → from ≤ j → ((k : ℕ) → k < j → from ≤ k → within lo hi (lv k) ≡ true) → Stop lv n lo hi j r z → Stop lv n lo hi from r z

@@ -1,18 +1,11 @@
 -- Laws of specs/Levels.
-use mathlib.Core.Path.{_≡_, refl}
-use mathlib.Core.List.{List}
-use Prim.Native.Nat.{ℕ, _+_, _*_, min, max}
-use native.Mathlib.Decide.{decLt}
-use native.Mathlib.Omega.{arith}
-use lib.IntN.{ℤ}
 use Rattle.meaning_numbers.specs.Sum.{Σℕ}
-use Rattle.meaning_numbers.proofs.Rep.{Rep, rep-by, rep-eq, rep-sub, rep-pos}
 use Rattle.meaning_numbers.proofs.Slide.{Σℕ-slide}
+use Rattle.meaning_numbers.proofs.Prelude.{_≡_, refl, List, ℕ, _+_, _*_, min, max, decLt, arith, ℤ, Rep, rep-by, rep-eq, rep-sub, rep-pos}
 use Rattle.meaning_curves.specs.Curve.{at, stretch, windowSum}
 use Rattle.numbers.specs.Raised.{raised}
 use Rattle.values.proofs.SumsLaws.{sum-raised}
-use Rattle.sums_slide.specs.declared.Window.{Window}
-use Rattle.sums_slide.specs.Levels.{level, Lent, sumAt, Bounds}
+use Rattle.sums_slide.specs.{declared.Window.Window, Levels.level, Levels.Lent, Levels.sumAt, Levels.Bounds}
 
 -- one number is both ends
 pub bounds-one : {lv : ℕ → ℕ} {z : ℕ} → z ≡ lv 0 → Bounds lv 1 z z

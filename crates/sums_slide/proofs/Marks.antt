@@ -1,20 +1,8 @@
 -- Laws of specs/Marks.
-use mathlib.Core.Path.{_≡_, refl, sym, ap, _∙_}
-use mathlib.Core.Bool.{true, false, cond, or-true}
-use mathlib.Core.List.{List, [], _∷_}
-use Prim.Native.Nat.{ℕ, zero, suc, _+_, _-_, _<_, _≤_}
-use native.Mathlib.Omega.{arith}
-use native.Mathlib.Decide.{decLt}
-use lib.Dec.{leb, eqb}
-use lib.ListN.{getD, length, set, length-set, length-append}
-use lib.Seq.{getD-set-same, getD-set-other}
-use borrow.Author.Tests.{leb-true, leb-false, eqb-true, eqb-false, eq-eqb, ne-eqb}
 use Rattle.meaning_numbers.specs.Sum.{bit}
-use Rattle.meaning_numbers.proofs.Tests.{by-test, clash}
-use Rattle.sums_slide.specs.Change.{RowRun}
-use Rattle.sums_slide.specs.Picked.{picked, Appended}
+use Rattle.meaning_numbers.proofs.Prelude.{_≡_, refl, sym, ap, _∙_, true, false, cond, or-true, List, [], _∷_, ℕ, zero, suc, _+_, _-_, _<_, _≤_, arith, decLt, leb, eqb, getD, length, set, length-set, length-append, getD-set-same, getD-set-other, leb-true, leb-false, eqb-true, eqb-false, eq-eqb, ne-eqb, by-test, clash}
+use Rattle.sums_slide.specs.{Change.RowRun, Picked.picked, Picked.Appended, Marks.met, Marks.flagged, Marks.Flags, Marks.lit}
 use Rattle.sums_slide.proofs.Picked.{picked-cong, picked-yes, picked-no, picked-more, append-one}
-use Rattle.sums_slide.specs.Marks.{met, flagged, Flags, lit}
 
 pub lit-yes : (flags : List ℕ) (base x : ℕ) → (getD flags x 0 ≡ 0 → ⊥) → lit flags base (base + x) ≡ true
 unfolding lit

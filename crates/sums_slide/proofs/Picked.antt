@@ -1,14 +1,6 @@
 -- Laws of specs/Picked.
-use mathlib.Core.Path.{_≡_, refl, sym, ap, _∙_}
-use mathlib.Core.Bool.{Bool, true, false}
-use mathlib.Core.List.{List, [], _∷_, _++_, append-nil, append-assoc}
-use Prim.Native.Nat.{ℕ, zero, suc, _+_, _<_, _≤_}
-use native.Mathlib.Omega.{arith}
-use native.Mathlib.Numerals.{add-one}
-use lib.ListN.{length, take, set, length-append, length-set}
-use lib.Seq.{take-suc-set}
 use Rattle.meaning_numbers.specs.Sum.{count}
-use Rattle.meaning_numbers.proofs.Tests.{by-test}
+use Rattle.meaning_numbers.proofs.Prelude.{_≡_, refl, sym, ap, _∙_, Bool, true, false, List, [], _∷_, _++_, append-nil, append-assoc, ℕ, zero, suc, _+_, _<_, _≤_, arith, add-one, length, take, set, length-append, length-set, take-suc-set, by-test}
 use Rattle.sums_slide.specs.Picked.{picked, Appended}
 
 pub append-none : (k : ℕ) (old : List ℕ) → Appended [] k k old old

@@ -1,19 +1,8 @@
 -- Laws of specs/Table.
-use mathlib.Core.Path.{_≡_, sym, ap, _∙_}
-use mathlib.Core.Bool.{Bool}
-use mathlib.Core.List.{List, [], _++_, append-nil}
-use Prim.Native.Nat.{ℕ, _+_, _-_, _/_, _<_, _≤_}
-use native.Mathlib.Omega.{arith}
-use native.Mathlib.Decide.{decLe}
-use native.Mathlib.Nat.{div-le-self, le-div-iff-mul-le, div-mul-le-self, div-lt-iff-lt-mul}
-use lib.IntN.{ℤ}
-use lib.ListN.{length, length-append}
+use Rattle.meaning_numbers.proofs.Prelude.{_≡_, sym, ap, _∙_, Bool, List, [], _++_, append-nil, ℕ, _+_, _-_, _/_, _<_, _≤_, arith, decLe, div-le-self, le-div-iff-mul-le, div-mul-le-self, div-lt-iff-lt-mul, ℤ, length, length-append}
+use Rattle.sums_slide.specs.{Picked.picked, Picked.Appended, Marks.met, Table.top, Table.table}
 use Rattle.sums_slide.specs.Levels.{level, rowOf, windowsOf, Lent, Bounds, level-small}
-use Rattle.sums_slide.specs.Picked.{picked, Appended}
-use Rattle.sums_slide.proofs.Picked.{append-on, picked-on, picked-none, picked-more}
-use Rattle.sums_slide.specs.Marks.{met}
-use Rattle.sums_slide.proofs.Marks.{met-none}
-use Rattle.sums_slide.specs.Table.{top, table}
+use Rattle.sums_slide.proofs.{Picked.append-on, Picked.picked-on, Picked.picked-none, Picked.picked-more, Marks.met-none}
 
 -- numbers from m on that no window has add nothing
 stays : (row : ℕ → ℕ) (n m k : ℕ) → ((j : ℕ) → j < n → row j < m) → picked (met row n) 0 (m + k) ≡ picked (met row n) 0 m

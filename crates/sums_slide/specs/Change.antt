@@ -1,7 +1,7 @@
 -- The end of a run: the first offset, from one on, that does not pass a test; and of the windows of one row.
-use mathlib.Core.Path.{_≡_}
-use mathlib.Core.Bool.{Bool, true, false}
 use Prim.Native.Nat.{ℕ, _<_, _≤_}
+use mathlib.Core.Bool.{Bool, true, false}
+use mathlib.Core.Path.{_≡_}
 use Rattle.sums_slide.specs.Levels.{within, rowOf}
 
 -- r is the first offset at or after from that does not pass, or n

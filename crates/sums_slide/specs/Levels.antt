@@ -1,11 +1,11 @@
 -- Raised sums: each value of a window raised by 10,000, and e more for the window. They are the windows' sums, and move by one window.
+use Prim.Native.Nat.{ℕ, _+_, _*_, _/_, _<_, _≤_}
+use lib.Dec.{leb, ltb}
+use lib.IntN.{ℤ, pos, _-ℤ_}
+use lib.ListN.{length}
 use mathlib.Core.Bool.{Bool, _&&_}
 use mathlib.Core.List.{List}
-use Prim.Native.Nat.{ℕ, _+_, _*_, _/_, _<_, _≤_}
 use native.Mathlib.Omega.{arith}
-use lib.Dec.{leb, ltb}
-use lib.ListN.{length}
-use lib.IntN.{ℤ, pos, _-ℤ_}
 use Rattle.meaning_numbers.specs.Sum.{Σℕ}
 use Rattle.meaning_numbers.proofs.Sum.{Σℕ-le}
 use Rattle.meaning_curves.specs.Curve.{at, stretch, windowCount}

@@ -1,10 +1,10 @@
 -- Flags for the row numbers that windows have, over raised row numbers.
-use mathlib.Core.Path.{_≡_}
-use mathlib.Core.Bool.{Bool, false, not, cond, _||_}
-use mathlib.Core.List.{List}
 use Prim.Native.Nat.{ℕ, zero, suc, _+_, _-_, _<_}
 use lib.Dec.{leb, eqb}
 use lib.ListN.{getD, length, set}
+use mathlib.Core.Bool.{Bool, false, not, cond, _||_}
+use mathlib.Core.List.{List}
+use mathlib.Core.Path.{_≡_}
 use Rattle.meaning_numbers.specs.Sum.{bit}
 
 -- some window below n has row number k

@@ -1,10 +1,8 @@
 -- The table of the row numbers that windows have, ascending, over raised row numbers. A pass makes it from the least number to the greatest.
-use mathlib.Core.List.{List}
 use Prim.Native.Nat.{ℕ}
 use lib.IntN.{ℤ}
-use Rattle.sums_slide.specs.Levels.{level, rowOf, windowsOf}
-use Rattle.sums_slide.specs.Picked.{picked}
-use Rattle.sums_slide.specs.Marks.{met}
+use mathlib.Core.List.{List}
+use Rattle.sums_slide.specs.{Levels.level, Levels.rowOf, Levels.windowsOf, Picked.picked, Marks.met}
 
 -- above every raised row number
 unfoldable pub top : ℕ

@@ -1,15 +1,12 @@
 -- Laws of specs/Count.
-use mathlib.Core.Path.{_≡_, sym, ap, _∙_}
-use mathlib.Core.List.{List, _++_}
 use Prim.Native.Nat.{ℕ, suc, _+_, _-_, _<_, _≤_, min}
-use native.Mathlib.Omega.{arith}
 use lib.IntN.{pos}
 use lib.ListN.{length, getD, take, drop, length-append, take-append-drop}
+use mathlib.Core.List.{List, _++_}
+use mathlib.Core.Path.{_≡_, sym, ap, _∙_}
+use native.Mathlib.Omega.{arith}
 use Rattle.meaning_rows.specs.declared.Row.{Row}
-use Rattle.meaning_text.specs.Bytes.{bytes}
-use Rattle.meaning_text.specs.Number.{spellℕ, spellℤ}
-use Rattle.meaning_text.specs.Form.{spell, spellMany}
-use Rattle.meaning_text.specs.Texts.{runForm}
+use Rattle.meaning_text.specs.{Bytes.bytes, Number.spellℕ, Number.spellℤ, Form.spell, Form.spellMany, Texts.runForm}
 use Rattle.text_write.specs.Write.{headText, partOf, runsText, rowText}
 use Rattle.text_write.proofs.Write.{runs-more, runs-all, many-both}
 use Rattle.text_count.specs.Count.{Counted}

@@ -1,14 +1,6 @@
 -- Laws of specs/Event.
-use mathlib.Core.Path.{_≡_}
-use mathlib.Core.List.{List}
-use Prim.Native.Nat.{ℕ, _+_, _<_, _≤_}
-use native.Mathlib.Omega.{arith}
-use lib.IntN.{ℤ}
-use lib.ListN.{length, getD}
-use Rattle.text_index.specs.declared.Field.{Field}
-use Rattle.text_index.specs.declared.State.{State}
-use Rattle.text_index.specs.declared.Moved.{Moved}
-use Rattle.text_index.specs.Step.{indexStep}
+use Rattle.meaning_numbers.proofs.Prelude.{_≡_, List, ℕ, _+_, _<_, _≤_, arith, ℤ, length, getD}
+use Rattle.text_index.specs.{declared.Field.Field, declared.State.State, declared.Moved.Moved, Step.indexStep}
 use Rattle.text_event.specs.Event.{Quiet, still, more, ValueAt, ClosedAt, atRuns, atRows, RunAt, OpenAt, RunsFrom, none, one}
 
 -- ---- what an event keeps

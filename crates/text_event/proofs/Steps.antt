@@ -1,20 +1,9 @@
 -- The steps by which runs and the beginnings of rows are read, each by one byte, and what is put together of them (`body-told`, `plain-told`, `first-told`, `range-told`).
-use mathlib.Core.Path.{_≡_, refl}
-use Prim.Native.Nat.{ℕ, zero, suc, _+_, _*_, _-_, _/_, _%_, _<_, _≤_, _^_}
-use mathlib.Core.List.{List}
-use native.Mathlib.Numerals.{add-one}
-use native.Mathlib.Omega.{arith}
-use borrow.Author.Tests.{lt-ltb, eq-eqb, ne-eqb}
-use lib.IntN.{ℤ, pos, negℤ}
-use lib.ListN.{length, getD}
+use Rattle.meaning_numbers.proofs.Prelude.{_≡_, refl, ℕ, zero, suc, _+_, _*_, _-_, _/_, _%_, _<_, _≤_, _^_, List, add-one, arith, lt-ltb, eq-eqb, ne-eqb, ℤ, pos, negℤ, length, getD}
 use Rattle.meaning_text.specs.Bytes.{bytes}
-use Rattle.text_numbers.specs.declared.Numeral.{Numeral}
-use Rattle.text_numbers.specs.Number.{numStep, whole}
+use Rattle.text_numbers.specs.{declared.Numeral.Numeral, Number.numStep, Number.whole}
 use Rattle.text_numbers.proofs.Number.{within-yes}
-use Rattle.text_index.specs.declared.Word.{Word}
-use Rattle.text_index.specs.declared.Field.{Field}
-use Rattle.text_index.specs.declared.State.{State}
-use Rattle.text_index.specs.declared.Moved.{Moved}
+use Rattle.text_index.specs.{declared.Word.Word, declared.Field.Field, declared.State.State, declared.Moved.Moved}
 use Rattle.text_index.specs.Step.{word, behind, turnAfter, pick, reach, closes, wordStep, turnStep, endStep, numberStep, indexStep}
 use Rattle.text_event.specs.declared.Signed.{Signed}
 use Rattle.text_event.specs.Event.{Quiet, still, more, ValueAt, ClosedAt, RunAt, RowAt, inRun, atRuns, atFirst, atRows, inRange, DigitsAt, NumberAt, leftOf, rightOf, lengthOf, PlainAt, BodyAt, Blank, BlankAt, SignedAt, WordAt, Opens, Ends}

@@ -1,11 +1,5 @@
 -- A word that stands in a text, byte by byte.
-use mathlib.Core.Path.{_≡_, sym, ap, _∙_}
-use mathlib.Core.List.{List}
-use Prim.Native.Nat.{ℕ, _+_, _<_, _≤_}
-use native.Mathlib.Decide.{decLt}
-use native.Mathlib.Omega.{arith}
-use lib.ListN.{length, getD, take, drop, length-take, length-drop}
-use lib.Seq.{getD-take, getD-drop, ext-getD}
+use Rattle.meaning_numbers.proofs.Prelude.{_≡_, sym, ap, _∙_, List, ℕ, _+_, _<_, _≤_, decLt, arith, length, getD, take, drop, length-take, length-drop, getD-take, getD-drop, ext-getD}
 use Rattle.text_event.specs.Event.{WordAt}
 
 byte-here : (text : List ℕ) (i n k : ℕ) → k < n → getD (take n (drop i text)) k 0 ≡ getD text (i + k) 0

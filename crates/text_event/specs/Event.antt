@@ -1,20 +1,13 @@
 -- What comes next in an index text, by the steps of its automaton: bytes that say nothing (`Quiet`), then one that ends a number or a row, that is refused, or the text's end. A run is two numbers, a row's beginning two and a run. What every such step keeps, an event keeps.
-use mathlib.Core.Path.{_≡_}
-use mathlib.Core.List.{List}
 use Prim.Native.Nat.{ℕ, _+_, _/_, _%_, _<_, _≤_, _^_}
 use lib.IntN.{ℤ, pos, negℤ}
 use lib.ListN.{length, getD, take, drop}
+use mathlib.Core.List.{List}
+use mathlib.Core.Path.{_≡_}
 use Rattle.meaning_text.specs.Bytes.{bytes}
 use Rattle.text_numbers.specs.declared.Numeral.{Numeral}
-use Rattle.text_index.specs.declared.Word.{Word}
-use Rattle.text_index.specs.declared.Field.{Field}
-use Rattle.text_index.specs.declared.Turn.{Turn}
-use Rattle.text_index.specs.declared.State.{State}
-use Rattle.text_index.specs.declared.Moved.{Moved}
-use Rattle.text_index.specs.Step.{indexStep}
-use Rattle.text_event.specs.declared.Signed.{Signed}
-use Rattle.text_event.specs.declared.Range.{Range}
-use Rattle.text_event.specs.declared.Event.{Event}
+use Rattle.text_index.specs.{declared.Word.Word, declared.Field.Field, declared.Turn.Turn, declared.State.State, declared.Moved.Moved, Step.indexStep}
+use Rattle.text_event.specs.{declared.Signed.Signed, declared.Range.Range, declared.Event.Event}
 
 -- from a state at a place to another over bytes that say nothing
 pub data Quiet (text : List ℕ) (s : State) (i : ℕ) : State → ℕ → Type 0 where

@@ -1,27 +1,12 @@
 -- Laws of specs/Feed.
-use mathlib.Core.Path.{_≡_, refl, ap, _∙_}
-use mathlib.Core.Bool.{Bool, true, false, cond}
-use mathlib.Core.List.{List}
-use mathlib.Core.Option.{some}
-use Prim.Native.Nat.{ℕ, suc, _+_, _<_, _≤_}
-use native.Mathlib.Omega.{arith}
-use lib.IntN.{ℤ}
-use lib.ListN.{length, getD, drop, set, length-set}
+use Rattle.meaning_numbers.proofs.Prelude.{_≡_, refl, ap, _∙_, Bool, true, false, cond, List, some, ℕ, suc, _+_, _<_, _≤_, arith, ℤ, length, getD, drop, set, length-set}
 use Rattle.meaning_text.proofs.Automaton.{going, failed, feed, feed-turn, feed-refuse, feed-end}
-use Rattle.text_lines.specs.declared.Word.{Word}
-use Rattle.text_lines.specs.declared.Field.{Field}
-use Rattle.text_lines.specs.declared.State.{State}
-use Rattle.text_lines.specs.declared.Moved.{Moved}
-use Rattle.text_lines.specs.Step.{lineStep, GoodState}
+use Rattle.numbers.specs.Narrow.{clamp}
+use Rattle.text_lines.specs.{declared.Word.Word, declared.Field.Field, declared.State.State, declared.Moved.Moved, Step.lineStep, Step.GoodState}
 use Rattle.text_lines.specs.Follow.{Said, nothingSaid, told, named, at, moved, step}
 use Rattle.text_lines.proofs.Follow.{stays}
-use Rattle.text_feed.specs.declared.Values.{Values}
-use Rattle.text_feed.specs.declared.Progress.{Progress}
-use Rattle.text_feed.specs.declared.Feeding.{Feeding}
-use Rattle.text_feed.specs.Keep.{valuesMore, placeOf, ofSeries, ofQuery, wordPlace, wordNumber, Holds}
+use Rattle.text_feed.specs.{declared.Values.Values, declared.Progress.Progress, declared.Feeding.Feeding, Keep.valuesMore, Keep.placeOf, Keep.ofSeries, Keep.ofQuery, Keep.wordPlace, Keep.wordNumber, Keep.Holds, Feed.Ready, Feed.Comes}
 use Rattle.text_feed.proofs.Keep.{holds-told, holds-named}
-use Rattle.numbers.specs.Narrow.{clamp}
-use Rattle.text_feed.specs.Feed.{Ready, Comes}
 
 -- ---- the loop over a piece
 

@@ -1,27 +1,11 @@
 -- Laws of specs/Keep.
-use mathlib.Core.Path.{_≡_, refl, sym, ap, _∙_}
-use mathlib.Core.Bool.{true, false, cond, not}
-use mathlib.Core.List.{List, [], _∷_, _++_, map}
-use mathlib.Core.Option.{none, some}
-use Prim.Native.Nat.{ℕ, suc, _+_}
-use native.Mathlib.Omega.{arith}
-use lib.Dec.{eqb, ltb}
-use lib.IntN.{ℤ}
-use lib.ListN.{length, set, length-append, length-map}
-use lib.Seq.{sets}
-use lib.Signed.{leZ, _<ℤ_, _≤ℤ_, clashℤ}
-use borrow.Author.Tests.{eq-eqb, ne-eqb, eqb-true, eqb-false, ltb-true, ltb-false, lt-ltb, le-ltb}
-use Rattle.meaning_curves.specs.Limits.{valueIn, firstOutside}
 use Rattle.meaning_numbers.specs.Place.{placeFrom}
-use Rattle.meaning_numbers.proofs.Rep.{z-le}
-use Rattle.meaning_numbers.proofs.Machine.{leZ-true, f-gt}
-use Rattle.meaning_text.proofs.Reading.{on-flag}
-use Rattle.meaning_text.proofs.Sets.{sets-append}
-use Rattle.text_lines.specs.declared.Word.{Word}
-use Rattle.text_lines.specs.declared.Field.{Field}
-use Rattle.text_lines.specs.Follow.{Said, told, named}
-use Rattle.text_feed.specs.declared.Values.{Values}
+use Rattle.meaning_numbers.proofs.Prelude.{_≡_, refl, sym, ap, _∙_, true, false, cond, not, List, [], _∷_, _++_, map, none, some, ℕ, suc, _+_, arith, eqb, ltb, ℤ, length, set, length-append, length-map, sets, leZ, _<ℤ_, _≤ℤ_, clashℤ, eq-eqb, ne-eqb, eqb-true, eqb-false, ltb-true, ltb-false, lt-ltb, le-ltb, z-le, leZ-true, f-gt}
+use Rattle.meaning_curves.specs.Limits.{valueIn, firstOutside}
+use Rattle.meaning_text.proofs.{Reading.on-flag, Sets.sets-append}
 use Rattle.numbers.specs.Narrow.{clamp}
+use Rattle.text_lines.specs.{declared.Word.Word, declared.Field.Field, Follow.Said, Follow.told, Follow.named}
+use Rattle.text_feed.specs.declared.Values.{Values}
 use Rattle.text_feed.specs.Keep.{stored, leading, valuesMore, placeOf, ofSeries, ofQuery, wordPlace, wordNumber, Kept, Holds}
 
 -- ---- one more

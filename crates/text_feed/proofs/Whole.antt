@@ -1,22 +1,12 @@
 -- Laws of specs/Whole.
-use mathlib.Core.Path.{_≡_, refl, sym, ap, _∙_}
-use mathlib.Core.List.{List}
-use mathlib.Core.Option.{none}
-use Prim.Native.Nat.{ℕ}
-use lib.IntN.{ℤ}
-use Rattle.meaning_text.specs.Form.{Form, Value}
-use Rattle.meaning_text.specs.Read.{fine, unfit, readText}
-use Rattle.meaning_text.specs.Texts.{programForm}
+use Rattle.meaning_numbers.proofs.Prelude.{_≡_, refl, sym, ap, _∙_, List, none, ℕ, ℤ}
+use Rattle.meaning_text.specs.{Form.Form, Form.Value, Read.fine, Read.unfit, Read.readText, Texts.programForm}
 use Rattle.meaning_text.proofs.Automaton.{Fed, going, failed, feed, feed-failed, judged}
 use Rattle.text_lines.specs.declared.State.{State}
 use Rattle.text_lines.specs.Follow.{Said, nothingSaid, Reading, at, step, programStart, programValue}
 use Rattle.text_lines.proofs.Follow.{accept, acceptState, program-comes}
-use Rattle.text_feed.specs.declared.Progress.{Progress}
-use Rattle.text_feed.specs.declared.Feeding.{Feeding}
-use Rattle.text_feed.specs.Keep.{Holds, numbersOf}
+use Rattle.text_feed.specs.{declared.Progress.Progress, declared.Feeding.Feeding, Keep.Holds, Keep.numbersOf, Feed.Shows, Feed.Comes, Whole.noValues}
 use Rattle.text_feed.proofs.Keep.{kept-none}
-use Rattle.text_feed.specs.Feed.{Shows, Comes}
-use Rattle.text_feed.specs.Whole.{noValues}
 
 pub holds-none : (kept asked : List ℤ) → Holds kept asked nothingSaid (numbersOf nothingSaid) noValues noValues kept asked
 holds-none kept asked = record { alone = refl; first = kept-none kept; second = kept-none asked }

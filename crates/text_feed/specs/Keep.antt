@@ -1,18 +1,16 @@
 -- What is kept of the lines: the single numbers at eight places, and of the values of the series and of the query as many as there is room for, clamped to 32 bits, with their count and with how many stand before the first outside its limits.
-use mathlib.Core.Path.{_≡_}
-use mathlib.Core.Bool.{Bool, true, false, cond}
-use mathlib.Core.List.{List, [], _∷_, map}
 use Prim.Native.Nat.{ℕ, suc, _+_}
 use lib.Dec.{eqb}
 use lib.IntN.{ℤ, pos}
 use lib.ListN.{length}
 use lib.Seq.{sets}
+use mathlib.Core.Bool.{Bool, true, false, cond}
+use mathlib.Core.List.{List, [], _∷_, map}
+use mathlib.Core.Path.{_≡_}
 use Rattle.meaning_curves.specs.Limits.{valueIn}
-use Rattle.text_lines.specs.declared.Word.{Word}
-use Rattle.text_lines.specs.declared.Field.{Field}
-use Rattle.text_lines.specs.Follow.{Said}
-use Rattle.text_feed.specs.declared.Values.{Values}
 use Rattle.numbers.specs.Narrow.{clamp}
+use Rattle.text_lines.specs.{declared.Word.Word, declared.Field.Field, Follow.Said}
+use Rattle.text_feed.specs.declared.Values.{Values}
 
 -- the values in a buffer, from its first place on, as far as it has room
 unfoldable pub stored : List ℤ → List ℤ → List ℤ

@@ -1,24 +1,19 @@
 -- Where a text stands tells what has not been said yet: no row and no run before the head's end, and no run between two rows.
-use mathlib.Core.Path.{_≡_, refl}
-use mathlib.Core.Bool.{cond}
-use mathlib.Core.List.{[]}
-use mathlib.Core.Option.{Option, none, some}
 use Prim.Native.Nat.{ℕ, suc, _+_, _<_}
-use native.Mathlib.Omega.{arith}
+use borrow.Author.Tests.{ltb-true, ltb-false}
 use lib.Dec.{ltb, eqb}
 use lib.IntN.{ℤ}
 use lib.ListN.{length, getD}
-use borrow.Author.Tests.{ltb-true, ltb-false}
+use mathlib.Core.Bool.{cond}
+use mathlib.Core.List.{[]}
+use mathlib.Core.Option.{Option, none, some}
+use mathlib.Core.Path.{_≡_, refl}
+use native.Mathlib.Omega.{arith}
 use Rattle.meaning_text.specs.Bytes.{bytes}
 use Rattle.meaning_text.proofs.Reading.{on-flag}
 use Rattle.text_numbers.specs.Number.{numStep, whole}
 use Rattle.text_numbers.proofs.Number.{on-taken, on-whole}
-use Rattle.text_index.specs.declared.Word.{Word}
-use Rattle.text_index.specs.declared.Field.{Field}
-use Rattle.text_index.specs.declared.Turn.{Turn}
-use Rattle.text_index.specs.declared.State.{State}
-use Rattle.text_index.specs.declared.Reached.{Reached}
-use Rattle.text_index.specs.declared.Moved.{Moved}
+use Rattle.text_index.specs.{declared.Word.Word, declared.Field.Field, declared.Turn.Turn, declared.State.State, declared.Reached.Reached, declared.Moved.Moved}
 use Rattle.text_index.specs.Step.{word, behind, turnAfter, pick, reach, closes, led, wordStep, turnStep, endStep, numberStep, indexStep, GoodState}
 use Rattle.text_index.proofs.Step.{word-long}
 use Rattle.text_index.proofs.Follow.{Said, told, closed, Reading, moved, step, turned, led-moved, word-moved, inside, not-first}

@@ -1,10 +1,9 @@
 -- Laws of specs/Step.
 use Prim.Native.Nat.{_<_, _≤_}
-use native.Mathlib.Omega.{arith}
 use lib.ListN.{length}
+use native.Mathlib.Omega.{arith}
 use Rattle.meaning_text.specs.Bytes.{bytes}
-use Rattle.text_index.specs.declared.Word.{Word}
-use Rattle.text_index.specs.Step.{word}
+use Rattle.text_index.specs.{declared.Word.Word, Step.word}
 
 -- ---- the sizes of the words
 

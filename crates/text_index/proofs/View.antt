@@ -1,22 +1,16 @@
 -- Laws of specs/View.
-use mathlib.Core.Path.{_≡_, refl, ap, _∙_}
-use mathlib.Core.List.{List, [], _∷_}
-use mathlib.Core.Option.{Option, none, some}
 use Prim.Native.Nat.{ℕ, suc, _+_, _<_, _≤_}
-use native.Mathlib.Omega.{arith}
 use lib.IntN.{ℤ}
 use lib.ListN.{length, getD, drop}
-use Rattle.meaning_text.specs.Form.{Value}
-use Rattle.meaning_text.specs.Read.{Verdict, fine, unfit, readText}
-use Rattle.meaning_text.specs.Texts.{indexForm}
+use mathlib.Core.List.{List, [], _∷_}
+use mathlib.Core.Option.{Option, none, some}
+use mathlib.Core.Path.{_≡_, refl, ap, _∙_}
+use native.Mathlib.Omega.{arith}
+use Rattle.meaning_text.specs.{Form.Value, Read.Verdict, Read.fine, Read.unfit, Read.readText, Texts.indexForm}
 use Rattle.meaning_text.proofs.Automaton.{Fed, going, failed, feed, feed-failed, feed-turn, feed-refuse, feed-end, on-option, atEnd, judged, verdictOf}
-use Rattle.text_index.specs.declared.Field.{Field}
-use Rattle.text_index.specs.declared.State.{State}
-use Rattle.text_index.specs.declared.Moved.{Moved}
-use Rattle.text_index.specs.Step.{indexStep, GoodState}
-use Rattle.text_index.proofs.Follow.{Said, nothingSaid, told, closed, value, Reading, at, moved, step, accept, acceptState, start, index-good, stays, index-comes}
+use Rattle.text_index.specs.{declared.Field.Field, declared.State.State, declared.Moved.Moved, Step.indexStep, Step.GoodState, View.keptAt}
 use Rattle.text_index.proofs.Order.{placePart, statePart, Order, order-step, order-value}
-use Rattle.text_index.specs.View.{keptAt}
+use Rattle.text_index.proofs.Follow.{Said, nothingSaid, told, closed, value, Reading, at, moved, step, accept, acceptState, start, index-good, stays, index-comes}
 
 -- a state, and what has been kept
 pub record Seen (T : Type 0) : Type 0 where

@@ -1,19 +1,13 @@
 -- What a byte does to an index text: the words with what stands behind each, the numbers with what may come behind each, and the step of a state.
-use mathlib.Core.Bool.{Bool, false, cond}
-use mathlib.Core.List.{List}
 use Prim.Native.Nat.{ℕ, _+_, _<_}
 use lib.Dec.{ltb, eqb}
 use lib.IntN.{ℤ}
 use lib.ListN.{length, getD}
+use mathlib.Core.Bool.{Bool, false, cond}
+use mathlib.Core.List.{List}
 use Rattle.meaning_text.specs.Bytes.{bytes}
-use Rattle.text_numbers.specs.declared.Numeral.{Numeral}
-use Rattle.text_numbers.specs.Number.{numStep, whole, byTaken, byWhole, NumGood}
-use Rattle.text_index.specs.declared.Word.{Word}
-use Rattle.text_index.specs.declared.Field.{Field}
-use Rattle.text_index.specs.declared.Turn.{Turn}
-use Rattle.text_index.specs.declared.State.{State}
-use Rattle.text_index.specs.declared.Reached.{Reached}
-use Rattle.text_index.specs.declared.Moved.{Moved}
+use Rattle.text_numbers.specs.{declared.Numeral.Numeral, Number.numStep, Number.whole, Number.byTaken, Number.byWhole, Number.NumGood}
+use Rattle.text_index.specs.{declared.Word.Word, declared.Field.Field, declared.Turn.Turn, declared.State.State, declared.Reached.Reached, declared.Moved.Moved}
 
 unfoldable pub word : Word → List ℕ
 word Word.Window = bytes "(index (window "

@@ -1,36 +1,18 @@
 -- The tally has the first bad row: numbers that the code's types do not hold become numbers outside every limit, so that a head, a run, a range and a row are judged as the meanings judge them (`text-bad`), and where the rows are good their counts are the text's (`rows-counted`).
-use mathlib.Core.Path.{_≡_, refl, sym, ap, _∙_, subst}
-use mathlib.Core.Bool.{Bool, true, false, cond, _&&_, false≢true}
-use mathlib.Core.List.{List, [], _∷_, map}
-use mathlib.Core.Option.{none, some}
-use Prim.Native.Nat.{ℕ, suc, _+_, _-_, _<_, _≤_}
-use native.Mathlib.Omega.{arith}
-use lib.Dec.{leb, ltb}
-use lib.IntN.{ℤ, pos, negsuc, _+ℤ_, natAbs}
-use lib.ListN.{length, length-append, length-map}
-use lib.Signed.{leZ, ltZ, _≤ℤ_}
-use borrow.Author.Tests.{leb-true, le-leb, ltb-true, ltb-false, lt-ltb, le-ltb, eq-eqb}
-use Rattle.meaning_numbers.specs.Order.{within}
-use Rattle.meaning_numbers.specs.Quotient.{multiple}
-use Rattle.meaning_numbers.proofs.Machine.{zmach, le-ltZ, f-le}
+use Rattle.meaning_numbers.specs.{Order.within, Quotient.multiple}
+use Rattle.meaning_numbers.proofs.Prelude.{_≡_, refl, sym, ap, _∙_, subst, Bool, true, false, cond, _&&_, false≢true, List, [], _∷_, map, none, some, ℕ, suc, _+_, _-_, _<_, _≤_, arith, leb, ltb, ℤ, pos, negsuc, _+ℤ_, natAbs, length, length-append, length-map, leZ, ltZ, _≤ℤ_, leb-true, le-leb, ltb-true, ltb-false, lt-ltb, le-ltb, eq-eqb, zmach, le-ltZ, f-le}
 use Rattle.meaning_curves.specs.Limits.{windowIn, widthIn, windowsIn, endIn, lowestEnd}
-use Rattle.meaning_rows.specs.declared.Head.{Head}
-use Rattle.meaning_rows.specs.declared.Row.{Row}
+use Rattle.meaning_rows.specs.{declared.Head.Head, declared.Row.Row}
 use Rattle.meaning_rows.specs.Index.{Index, Entry, RangeRow, lent, runsOf, records, allRuns}
 use Rattle.meaning_rows.specs.Judge.{headGood, runsGood, runLengths, rangeGood, partGood, rowGood, badRowFrom, firstBadRow}
-use Rattle.meaning_rows.proofs.Judge.{between}
-use Rattle.meaning_rows.proofs.Laid.{Lays, laid, length-records}
-use Rattle.meaning_text.specs.Form.{Value}
-use Rattle.meaning_text.specs.Texts.{indexForm, rowForm, rowSaid, indexSaid}
+use Rattle.meaning_rows.proofs.{Judge.between, Laid.Lays, Laid.laid, Laid.length-records}
+use Rattle.meaning_text.specs.{Form.Value, Texts.indexForm, Texts.rowForm, Texts.rowSaid, Texts.indexSaid}
 use Rattle.meaning_text.proofs.Reading.{on-flag}
+use Rattle.numbers.specs.Narrow.{clamp, held}
 use Rattle.rows_judge.specs.Judged.{badRow}
 use Rattle.rows_judge.proofs.Scan.{both, runGood, good-run}
-use Rattle.numbers.specs.Narrow.{clamp}
-use Rattle.text_judge.specs.declared.Runs.{Runs}
-use Rattle.text_judge.specs.declared.Rows.{Rows}
-use Rattle.text_judge.specs.Judged.{judgedRows}
+use Rattle.text_judge.specs.{declared.Runs.Runs, declared.Rows.Rows, Judged.judgedRows}
 use Rattle.text_judge.specs.Tally.{noRuns, runNext, runsFrom, noRows, rowFits, rowNext, rowsFrom, headHeld}
-use Rattle.numbers.specs.Narrow.{held}
 
 -- two tests that pass in the same cases
 same-flag : (a b : Bool) → (a ≡ true → b ≡ true) → (b ≡ true → a ≡ true) → a ≡ b

@@ -1,22 +1,12 @@
 -- What an event does to the loop that judges a text: what is left of the text comes to what the text comes to, and no count is above the bytes read (`Scanning`).
-use mathlib.Core.Path.{_≡_}
-use mathlib.Core.List.{List}
-use Prim.Native.Nat.{ℕ, _+_, _<_}
-use lib.IntN.{ℤ, pos}
-use lib.ListN.{length, getD}
+use Rattle.meaning_numbers.proofs.Prelude.{_≡_, List, ℕ, _+_, _<_, ℤ, pos, length, getD}
 use Rattle.meaning_text.specs.Read.{unfit}
 use Rattle.meaning_text.proofs.Automaton.{atEnd}
-use Rattle.text_index.specs.declared.Field.{Field}
-use Rattle.text_index.specs.declared.State.{State}
-use Rattle.text_index.specs.declared.Moved.{Moved}
-use Rattle.text_index.specs.Step.{indexStep}
-use Rattle.text_index.specs.View.{keptAt}
+use Rattle.text_index.specs.{declared.Field.Field, declared.State.State, declared.Moved.Moved, Step.indexStep, View.keptAt}
 use Rattle.text_index.proofs.View.{endOf, Whole, Kept, kept-to, kept-value, kept-closed, kept-refuse, kept-end}
-use Rattle.text_event.specs.declared.Event.{Event}
-use Rattle.text_event.specs.Event.{Quiet, RunAt, RunsFrom, EventAt, atRuns}
+use Rattle.text_event.specs.{declared.Event.Event, Event.Quiet, Event.RunAt, Event.RunsFrom, Event.EventAt, Event.atRuns}
 use Rattle.text_event.proofs.EventLaws.{quiet-keeps, value-keeps, run-keeps, row-keeps, runs-keeps}
-use Rattle.text_judge.specs.declared.Tally.{Tally}
-use Rattle.text_judge.specs.Tally.{startTally, tellTally, shutTally, toldRun, Fits}
+use Rattle.text_judge.specs.{declared.Tally.Tally, Tally.startTally, Tally.tellTally, Tally.shutTally, Tally.toldRun, Tally.Fits}
 use Rattle.text_judge.proofs.Seen.{same-fits, tell-fits, shut-fits}
 
 module _ (text : List ℕ) where

@@ -1,26 +1,12 @@
 -- A text whose rows are all good: each row stands where it should and its numbers are held as they are (`row-placed`), and so are the ends of all runs (`runs-held`).
-use mathlib.Core.Path.{_≡_, refl, sym, ap, _∙_, subst}
-use mathlib.Core.Bool.{true, false, _&&_, false≢true}
-use mathlib.Core.List.{List, [], _∷_, _++_, map}
-use Prim.Native.Nat.{ℕ, _+_, _≤_}
-use native.Mathlib.Omega.{arith}
-use lib.Dec.{leb}
-use lib.IntN.{ℤ, pos, _+ℤ_, natAbs}
-use lib.ListN.{length}
-use lib.Signed.{leZ, ltZ}
-use borrow.Author.Tests.{leb-true}
-use Rattle.meaning_rows.specs.declared.Head.{Head}
-use Rattle.meaning_rows.specs.Index.{Entry, lent, allRuns}
-use Rattle.meaning_rows.specs.Judge.{headGood, runsGood, rangeGood}
-use Rattle.meaning_text.specs.Form.{Value}
-use Rattle.meaning_text.specs.Texts.{indexForm, rowForm, rowSaid, indexSaid}
+use Rattle.meaning_numbers.proofs.Prelude.{_≡_, refl, sym, ap, _∙_, subst, true, false, _&&_, false≢true, List, [], _∷_, _++_, map, ℕ, _+_, _≤_, arith, leb, ℤ, pos, _+ℤ_, natAbs, length, leZ, ltZ, leb-true}
+use Rattle.meaning_rows.specs.{declared.Head.Head, Index.Entry, Index.lent, Index.allRuns, Judge.headGood, Judge.runsGood, Judge.rangeGood}
+use Rattle.meaning_text.specs.{Form.Value, Texts.indexForm, Texts.rowForm, Texts.rowSaid, Texts.indexSaid}
 use Rattle.meaning_text.proofs.Reading.{on-flag}
+use Rattle.numbers.specs.Narrow.{clamp, held}
 use Rattle.rows_judge.proofs.Scan.{both, runGood, good-run}
-use Rattle.numbers.specs.Narrow.{clamp}
-use Rattle.text_judge.specs.declared.Runs.{Runs}
-use Rattle.text_judge.specs.declared.Rows.{Rows}
+use Rattle.text_judge.specs.{declared.Runs.Runs, declared.Rows.Rows}
 use Rattle.text_judge.specs.Tally.{noRuns, runNext, runsFrom, noRows, rowFits, rowNext, rowsFrom, headHeld}
-use Rattle.numbers.specs.Narrow.{held}
 use Rattle.text_judge.proofs.Bad.{held-nat, entryGood, good-entry, three, runs-bad, runs-count, runs-are, clamp-end, range-ends, rows-stop, NextIs, next-is, next-off, counted, HeadIs, head-is, width-is, windows-is}
 
 pub map-append : {A B : Type 0} (f : A → B) (a b : List A) → map f (a ++ b) ≡ map f a ++ map f b

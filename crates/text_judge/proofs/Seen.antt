@@ -1,31 +1,14 @@
 -- The tally is a view of what has been said, so that a pass over a text comes to the text's own head and rows (`text-scanned`); its counts stay small (`tell-fits`, `shut-fits`).
-use mathlib.Core.Path.{_≡_, refl, sym, ap, _∙_}
-use mathlib.Core.Bool.{_&&_}
-use mathlib.Core.List.{List, [], _∷_, _++_}
-use Prim.Native.Nat.{ℕ, _+_, _≤_}
-use native.Mathlib.Omega.{arith}
-use lib.IntN.{ℤ, pos}
-use lib.Signed.{ltZ}
-use Rattle.meaning_numbers.proofs.Machine.{zmach, f-ge, z-abs}
-use Rattle.meaning_rows.specs.declared.Head.{Head}
-use Rattle.meaning_rows.specs.Index.{Entry}
-use Rattle.meaning_text.specs.Form.{Value}
-use Rattle.meaning_text.specs.Read.{Verdict, fine, unfit, readText}
-use Rattle.meaning_text.specs.Texts.{indexForm, rowForm}
-use Rattle.meaning_text.proofs.Automaton.{verdictOf}
-use Rattle.meaning_text.proofs.Reading.{on-flag}
+use Rattle.meaning_numbers.proofs.Prelude.{_≡_, refl, sym, ap, _∙_, _&&_, List, [], _∷_, _++_, ℕ, _+_, _≤_, arith, ℤ, pos, ltZ, zmach, f-ge, z-abs}
+use Rattle.meaning_rows.specs.{declared.Head.Head, Index.Entry}
+use Rattle.meaning_text.specs.{Form.Value, Read.Verdict, Read.fine, Read.unfit, Read.readText, Texts.indexForm, Texts.rowForm}
+use Rattle.meaning_text.proofs.{Automaton.verdictOf, Reading.on-flag}
+use Rattle.numbers.specs.Narrow.{clamp, held}
 use Rattle.rows_judge.proofs.Scan.{both, runGood, good-run}
-use Rattle.numbers.specs.Narrow.{clamp}
 use Rattle.text_index.specs.declared.Field.{Field}
-use Rattle.text_index.proofs.Follow.{Said, told, closed, value}
-use Rattle.text_index.proofs.Order.{placePart, Order}
-use Rattle.text_index.proofs.View.{endOf, Whole, text-viewed}
-use Rattle.text_judge.specs.declared.Runs.{Runs}
-use Rattle.text_judge.specs.declared.Rows.{Rows}
-use Rattle.text_judge.specs.declared.Tally.{Tally}
-use Rattle.text_judge.specs.declared.Scanned.{Scanned}
+use Rattle.text_index.proofs.{Follow.Said, Follow.told, Follow.closed, Follow.value, Order.placePart, Order.Order, View.endOf, View.Whole, View.text-viewed}
+use Rattle.text_judge.specs.{declared.Runs.Runs, declared.Rows.Rows, declared.Tally.Tally, declared.Scanned.Scanned}
 use Rattle.text_judge.specs.Tally.{noRuns, runNext, runsFrom, Sound, noRows, rowNext, rowsFrom, startTally, tellTally, shutTally, Fits, headHeld, scannedText, scanned, keptScanned}
-use Rattle.numbers.specs.Narrow.{held}
 
 -- ---- one more at the end
 

@@ -1,9 +1,7 @@
 -- What judging an index text said, by the head and the rows that it came to.
 use mathlib.Core.Bool.{cond}
 use mathlib.Core.List.{[]}
-use Rattle.meaning_rows.specs.declared.Head.{Head}
-use Rattle.meaning_rows.specs.Index.{lent}
-use Rattle.meaning_rows.specs.Judge.{headGood}
+use Rattle.meaning_rows.specs.{declared.Head.Head, Index.lent, Judge.headGood}
 use Rattle.rows_judge.specs.declared.Judged.{Judged}
 use Rattle.text_judge.specs.declared.Rows.{Rows}
 

@@ -1,24 +1,16 @@
 -- What is known of an index text so far: its head, its closed rows and its open row, in numbers of the types that the code has, and how a number and a row's end move it.
-use mathlib.Core.Bool.{Bool, true, false, cond, _&&_}
-use mathlib.Core.List.{List, [], _∷_}
 use Prim.Native.Nat.{ℕ, _+_, _-_, _≤_}
 use lib.Dec.{leb}
 use lib.IntN.{ℤ, pos}
+use mathlib.Core.Bool.{Bool, true, false, cond, _&&_}
+use mathlib.Core.List.{List, [], _∷_}
 use Rattle.meaning_curves.specs.Limits.{lowestEnd}
-use Rattle.meaning_rows.specs.declared.Head.{Head}
-use Rattle.meaning_rows.specs.Index.{Entry, lent}
-use Rattle.meaning_rows.specs.Judge.{rangeGood}
-use Rattle.meaning_text.specs.Form.{Value}
-use Rattle.meaning_text.specs.Read.{Verdict, fine, unfit}
-use Rattle.meaning_text.specs.Texts.{indexForm, rowForm}
-use Rattle.rows_judge.proofs.Scan.{runGood}
+use Rattle.meaning_rows.specs.{declared.Head.Head, Index.Entry, Index.lent, Judge.rangeGood}
+use Rattle.meaning_text.specs.{Form.Value, Read.Verdict, Read.fine, Read.unfit, Texts.indexForm, Texts.rowForm}
 use Rattle.numbers.specs.Narrow.{clamp, held}
+use Rattle.rows_judge.proofs.Scan.{runGood}
 use Rattle.text_index.specs.declared.Field.{Field}
-use Rattle.text_judge.specs.declared.Runs.{Runs}
-use Rattle.text_judge.specs.declared.Open.{Open}
-use Rattle.text_judge.specs.declared.Rows.{Rows}
-use Rattle.text_judge.specs.declared.Tally.{Tally}
-use Rattle.text_judge.specs.declared.Scanned.{Scanned}
+use Rattle.text_judge.specs.{declared.Runs.Runs, declared.Open.Open, declared.Rows.Rows, declared.Tally.Tally, declared.Scanned.Scanned}
 
 -- ---- runs
 

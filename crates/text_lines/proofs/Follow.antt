@@ -1,38 +1,24 @@
 -- The automaton of the lines follows `seriesForm` and `programForm`, each from its own start: each state with what has been said so far has a reader for the rest of the text, and a byte takes it to the next. So the bytes of a text come to what `readText` says.
-use mathlib.Core.Path.{_≡_, refl, ap, _∙_}
-use mathlib.Core.Bool.{Bool, true, false, cond}
-use mathlib.Core.List.{List, [], _∷_, append-assoc, append-nil}
-use mathlib.Core.Option.{Option, none, some}
 use Prim.Native.Nat.{ℕ, suc, _+_, _<_}
-use native.Mathlib.Omega.{arith}
+use borrow.Author.Tests.{ltb-true, ltb-false}
 use lib.Dec.{ltb, eqb}
 use lib.IntN.{ℤ}
 use lib.ListN.{length, getD, drop}
-use borrow.Author.Tests.{ltb-true, ltb-false}
-use Rattle.meaning_text.specs.Bytes.{bytes}
-use Rattle.meaning_text.specs.Number.{got, bad}
-use Rattle.meaning_text.specs.Form.{Value, number, oneOf, lead, read}
-use Rattle.meaning_text.specs.Read.{readText}
-use Rattle.meaning_text.specs.Texts.{valuesForm, seriesForm, programForm}
-use Rattle.meaning_text.proofs.Open.{openText}
-use Rattle.meaning_text.proofs.Form.{filled, clearWord, clear, follows, firm, opens, decided}
-use Rattle.meaning_text.proofs.Reading.{on-flag, begun}
-use Rattle.meaning_text.proofs.Onward.{Rest, wordThen, readThen, word-both, read-alone, lead-then, trail-then, both-then, one-then, one-ends, many-then, many-ends, word-over, word-next, word-off, word-short}
+use mathlib.Core.Bool.{Bool, true, false, cond}
+use mathlib.Core.List.{List, [], _∷_, append-assoc, append-nil}
+use mathlib.Core.Option.{Option, none, some}
+use mathlib.Core.Path.{_≡_, refl, ap, _∙_}
+use native.Mathlib.Omega.{arith}
+use Rattle.meaning_text.specs.{Bytes.bytes, Number.got, Number.bad, Form.Value, Form.number, Form.oneOf, Form.lead, Form.read, Read.readText, Texts.valuesForm, Texts.seriesForm, Texts.programForm}
+use Rattle.meaning_text.proofs.{Open.openText, Form.filled, Form.clearWord, Form.clear, Form.follows, Form.firm, Form.opens, Form.decided, Reading.on-flag, Reading.begun}
 use Rattle.meaning_text.proofs.Automaton.{going, feed, bad-here, over, atRest, Follows, judged, form-comes}
-use Rattle.text_numbers.specs.declared.Numeral.{Numeral}
-use Rattle.text_numbers.specs.Number.{numStep, whole}
-use Rattle.text_numbers.proofs.Number.{good-step, on-taken, on-whole}
-use Rattle.text_numbers.proofs.Onto.{Onto, follows-by}
-use Rattle.text_numbers.proofs.Onward.{numberThen, number-more, number-stop, number-then}
-use Rattle.text_lines.specs.declared.Word.{Word}
-use Rattle.text_lines.specs.declared.Field.{Field}
-use Rattle.text_lines.specs.declared.Turn.{Turn}
-use Rattle.text_lines.specs.declared.State.{State}
-use Rattle.text_lines.specs.declared.Reached.{Reached}
-use Rattle.text_lines.specs.declared.Moved.{Moved}
+use Rattle.meaning_text.proofs.Onward.{Rest, wordThen, readThen, word-both, read-alone, lead-then, trail-then, both-then, one-then, one-ends, many-then, many-ends, word-over, word-next, word-off, word-short}
+use Rattle.text_numbers.specs.{declared.Numeral.Numeral, Number.numStep, Number.whole}
+use Rattle.text_numbers.proofs.{Number.good-step, Number.on-taken, Number.on-whole, Onto.Onto, Onto.follows-by, Onward.numberThen, Onward.number-more, Onward.number-stop, Onward.number-then}
+use Rattle.text_lines.specs.{declared.Word.Word, declared.Field.Field, declared.Turn.Turn, declared.State.State, declared.Reached.Reached, declared.Moved.Moved}
+use Rattle.text_lines.specs.Follow.{Said, nothingSaid, seriesMore, queryMore, told, kindSaid, named, Reading, at, moved, step, programStart, seriesStart, seriesValue, programValue}
 use Rattle.text_lines.specs.Step.{word, behind, turnAfter, pick, reach, led, wordStep, turnStep, endStep, numberStep, lineStep, GoodState}
 use Rattle.text_lines.proofs.Step.{word-long}
-use Rattle.text_lines.specs.Follow.{Said, nothingSaid, seriesMore, queryMore, told, kindSaid, named, Reading, at, moved, step, programStart, seriesStart, seriesValue, programValue}
 
 -- ---- the automaton
 

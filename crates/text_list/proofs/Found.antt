@@ -1,15 +1,12 @@
 -- Laws of specs/Found.
-use mathlib.Core.Path.{_≡_, refl, _∙_}
-use mathlib.Core.List.{List, [], _∷_, _++_, append-assoc, map}
 use Prim.Native.Nat.{ℕ, zero, suc, _+_, _-_, _<_, _≤_, min}
-use native.Mathlib.Omega.{arith}
 use lib.IntN.{ℤ, pos}
 use lib.ListN.{length, getD, take, length-take}
 use lib.Seq.{take-all, getD-take}
-use Rattle.meaning_text.specs.Bytes.{bytes}
-use Rattle.meaning_text.specs.Number.{spellℤ}
-use Rattle.meaning_text.specs.Form.{spell, spellMany}
-use Rattle.meaning_text.specs.Texts.{atForm, foundText}
+use mathlib.Core.List.{List, [], _∷_, _++_, append-assoc, map}
+use mathlib.Core.Path.{_≡_, refl, _∙_}
+use native.Mathlib.Omega.{arith}
+use Rattle.meaning_text.specs.{Bytes.bytes, Number.spellℤ, Form.spell, Form.spellMany, Texts.atForm, Texts.foundText}
 use Rattle.meaning_entries.specs.Demand3.{pairs}
 use Rattle.text_put.specs.Put.{Put}
 use Rattle.text_put.proofs.Put.{put-then}

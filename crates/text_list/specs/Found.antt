@@ -1,9 +1,8 @@
 -- The text of a list of matches, as the code writes it: one match after the other, out of two slices.
-use mathlib.Core.List.{List}
 use Prim.Native.Nat.{ℕ}
 use lib.IntN.{pos}
-use Rattle.meaning_text.specs.Form.{spell, spellMany}
-use Rattle.meaning_text.specs.Texts.{atForm}
+use mathlib.Core.List.{List}
+use Rattle.meaning_text.specs.{Form.spell, Form.spellMany, Texts.atForm}
 
 -- a match: offset and distance
 unfoldable pub matchText : ℕ × ℕ → List ℕ

@@ -1,19 +1,8 @@
 -- Laws of specs/Number.
-use mathlib.Core.Path.{_≡_, refl}
-use mathlib.Core.Bool.{true, false}
-use Prim.Native.Nat.{ℕ, suc, _+_, _*_, _-_, _<_, _≤_, _^_}
-use native.Mathlib.Omega.{arith}
-use lib.Dec.{ltb, eqb}
-use lib.IntN.{ℤ}
-use borrow.Author.Tests.{ltb-true, ltb-false, lt-ltb, le-ltb}
+use Rattle.meaning_numbers.proofs.Prelude.{_≡_, refl, true, false, ℕ, suc, _+_, _*_, _-_, _<_, _≤_, _^_, arith, ltb, eqb, ℤ, ltb-true, ltb-false, lt-ltb, le-ltb}
 use Rattle.meaning_text.proofs.Reading.{on-flag, false-true}
-use Rattle.text_numbers.specs.declared.Numeral.{Numeral}
+use Rattle.text_numbers.specs.{declared.Numeral.Numeral, declared.Taken.Taken, declared.Taken.the-variants.More, declared.Taken.the-variants.Stop, declared.Whole.Whole, declared.Whole.the-variants.Value, declared.Whole.the-variants.Partial, Number.within, Number.fitsBehind, Number.grown, Number.first, Number.numStep, Number.NumGood}
 use Rattle.text_numbers.specs.declared.Numeral.the-variants.{Start, Sign, Zero, Plus, Less}
-use Rattle.text_numbers.specs.declared.Taken.{Taken}
-use Rattle.text_numbers.specs.declared.Taken.the-variants.{More, Stop}
-use Rattle.text_numbers.specs.declared.Whole.{Whole}
-use Rattle.text_numbers.specs.declared.Whole.the-variants.{Value, Partial}
-use Rattle.text_numbers.specs.Number.{within, fitsBehind, grown, first, numStep, NumGood}
 
 -- ---- what the tests say
 

@@ -1,11 +1,7 @@
 -- An automaton follows its form if what a byte does to a state is one fact, for a byte that is taken and for one that is refused (`Onto`).
-use mathlib.Core.Path.{_≡_}
-use mathlib.Core.List.{List, [], _∷_}
-use mathlib.Core.Option.{Option, none, some}
-use Prim.Native.Nat.{ℕ}
+use Rattle.meaning_numbers.proofs.Prelude.{_≡_, List, [], _∷_, Option, none, some, ℕ}
 use Rattle.meaning_text.specs.Number.{Read}
-use Rattle.meaning_text.proofs.Onward.{Rest}
-use Rattle.meaning_text.proofs.Automaton.{Halts, atRest, Follows}
+use Rattle.meaning_text.proofs.{Onward.Rest, Automaton.Halts, Automaton.atRest, Automaton.Follows}
 
 module _ {S A : Type 0} (Good : S → Type 0) (rest : S → Rest A) where
   -- what the state before read of the byte b and t is r

@@ -1,24 +1,11 @@
 -- A number, and then on from there: read byte by byte it comes to what `readℤ` says.
-use mathlib.Core.Path.{_≡_, refl, sym, _∙_, fun-ext}
-use mathlib.Core.List.{List, [], _∷_}
-use mathlib.Core.Bool.{true, false, _&&_}
-use Prim.Native.Nat.{ℕ, zero, suc, _+_, _*_, _-_, _<_, _≤_, _^_}
-use native.Mathlib.Nat.{pow-le-pow-right}
-use native.Mathlib.Omega.{arith}
-use lib.Dec.{ltb, eqb}
-use lib.IntN.{ℤ, pos, negℤ}
-use borrow.Author.Tests.{ltb-true, lt-ltb, le-ltb, le-leb}
-use Rattle.meaning_text.specs.Number.{bad, isDigit, readDigits, readPositive, withSign, readℤ}
+use Rattle.meaning_numbers.proofs.Prelude.{_≡_, refl, sym, _∙_, fun-ext, List, [], _∷_, true, false, _&&_, ℕ, zero, suc, _+_, _*_, _-_, _<_, _≤_, _^_, pow-le-pow-right, arith, ltb, eqb, ℤ, pos, negℤ, ltb-true, lt-ltb, le-ltb, le-leb}
 use Rattle.meaning_text.specs.Form.{number, thenRead, read}
-use Rattle.meaning_text.proofs.Reading.{on-flag, and-true, false-true}
-use Rattle.meaning_text.proofs.Number.{is-digit}
-use Rattle.meaning_text.proofs.Onward.{Rest, readThen}
-use Rattle.text_numbers.specs.declared.Numeral.{Numeral}
-use Rattle.text_numbers.specs.declared.Numeral.the-variants.{Start, Sign, Zero, Plus, Less}
-use Rattle.text_numbers.specs.declared.Taken.the-variants.{More, Stop}
-use Rattle.text_numbers.specs.declared.Whole.{Whole}
-use Rattle.text_numbers.specs.declared.Whole.the-variants.{Value, Partial}
+use Rattle.meaning_text.specs.Number.{bad, isDigit, readDigits, readPositive, withSign, readℤ}
+use Rattle.meaning_text.proofs.{Reading.on-flag, Reading.and-true, Reading.false-true, Number.is-digit, Onward.Rest, Onward.readThen}
+use Rattle.text_numbers.specs.{declared.Numeral.Numeral, declared.Taken.the-variants.More, declared.Taken.the-variants.Stop, declared.Whole.Whole, declared.Whole.the-variants.Value, declared.Whole.the-variants.Partial}
 use Rattle.text_numbers.specs.Number.{numStep, whole, within, grown, first, byTaken, byWhole}
+use Rattle.text_numbers.specs.declared.Numeral.the-variants.{Start, Sign, Zero, Plus, Less}
 use Rattle.text_numbers.proofs.Number.{within-yes, within-false}
 
 -- on from a number that has ended, or a bad byte

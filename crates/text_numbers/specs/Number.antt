@@ -1,14 +1,10 @@
 -- What a byte does to a number that has been read so far, and the value of a number that could end. The state is the magnitude: a 19th digit is one behind 10 ^ 17 or more.
-use mathlib.Core.Bool.{Bool, false, cond}
 use Prim.Native.Nat.{ℕ, suc, _+_, _*_, _-_, _<_, _^_}
 use lib.Dec.{ltb, eqb}
 use lib.IntN.{ℤ, pos, negℤ}
-use Rattle.text_numbers.specs.declared.Numeral.{Numeral}
+use mathlib.Core.Bool.{Bool, false, cond}
+use Rattle.text_numbers.specs.{declared.Numeral.Numeral, declared.Taken.Taken, declared.Taken.the-variants.More, declared.Taken.the-variants.Stop, declared.Whole.Whole, declared.Whole.the-variants.Value, declared.Whole.the-variants.Partial}
 use Rattle.text_numbers.specs.declared.Numeral.the-variants.{Start, Sign, Zero, Plus, Less}
-use Rattle.text_numbers.specs.declared.Taken.{Taken}
-use Rattle.text_numbers.specs.declared.Taken.the-variants.{More, Stop}
-use Rattle.text_numbers.specs.declared.Whole.{Whole}
-use Rattle.text_numbers.specs.declared.Whole.the-variants.{Value, Partial}
 
 -- b lies from lo to hi
 abbrev pub within : ℕ → ℕ → ℕ → Bool

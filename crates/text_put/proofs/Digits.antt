@@ -1,18 +1,7 @@
 -- The digits of a number, as the code writes them: those of a tenth of it and the last, and a '-' before those of a negative one.
-use mathlib.Core.Path.{_≡_, refl, sym, ap, _∙_}
-use mathlib.Core.List.{[], _∷_, _++_}
-use Prim.Native.Nat.{ℕ, zero, suc, _+_, _*_, _/_, _%_, _<_, _≤_, _^_}
-use native.Mathlib.Nat.{one-le-pow, pow-suc}
-use native.Mathlib.Omega.{arith}
-use lib.IntN.{ℤ, pos, negsuc, natAbs}
-use lib.Signed.{_≤ℤ_, _<ℤ_}
-use mir.Syntax.{w32, w64}
-use mir.Val.{SFits}
-use Rattle.meaning_numbers.proofs.Rep.{zarith}
+use Rattle.meaning_numbers.proofs.Prelude.{_≡_, refl, sym, ap, _∙_, [], _∷_, _++_, ℕ, zero, suc, _+_, _*_, _/_, _%_, _<_, _≤_, _^_, one-le-pow, pow-suc, arith, ℤ, pos, negsuc, natAbs, _≤ℤ_, _<ℤ_, w32, w64, SFits, zarith, decLe, length, length-append}
 use Rattle.meaning_text.specs.Number.{spellℕ, spellℤ}
 use Rattle.meaning_text.proofs.Number.{spell-one, spell-more}
-use native.Mathlib.Decide.{decLe}
-use lib.ListN.{length, length-append}
 
 pub spell-split : (n : ℕ) → 10 ≤ n → spellℕ n ≡ spellℕ (n / 10) ++ ((48 + n % 10) ∷ [])
 spell-split n h = let e : 10 * (n / 10) + n % 10 ≡ n = omega arith in ap spellℕ (sym e) ∙ spell-more (n / 10) (n % 10) (omega arith) (omega arith)

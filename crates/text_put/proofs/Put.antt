@@ -1,17 +1,7 @@
 -- Laws of specs/Put.
-use mathlib.Core.Path.{_≡_, refl, sym, _∙_}
-use mathlib.Core.List.{List, [], _∷_, _++_}
-use mathlib.Core.Logic.{_⊎_, inl, inr, ⊎-elim}
-use mathlib.Core.Bool.{true, false}
-use Prim.Native.Nat.{ℕ, suc, _+_, _<_, _≤_, min}
-use native.Mathlib.Omega.{arith}
-use native.Mathlib.Numerals.{add-one}
-use lib.Dec.{ltb}
-use lib.ListN.{length, take, drop, getD, length-append}
-use lib.Seq.{sets, length-sets, sets-eq, set-out, take-suc, take-length}
-use borrow.Author.Tests.{ltb-true, ltb-false}
-use Rattle.text_put.specs.Put.{Put}
+use Rattle.meaning_numbers.proofs.Prelude.{_≡_, refl, sym, _∙_, List, [], _∷_, _++_, _⊎_, inl, inr, ⊎-elim, true, false, ℕ, suc, _+_, _<_, _≤_, min, arith, add-one, ltb, length, take, drop, getD, length-append, sets, length-sets, sets-eq, set-out, take-suc, take-length, ltb-true, ltb-false}
 use Rattle.meaning_text.proofs.Sets.{sets-append}
+use Rattle.text_put.specs.Put.{Put}
 
 sets-out : (l old : List ℕ) (i : ℕ) → length old ≤ i → sets old i l ≡ old
 sets-out [] old i h = refl

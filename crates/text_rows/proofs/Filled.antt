@@ -1,37 +1,26 @@
 -- The rows that a text is read to, line by line, are the row records of its index, and past them records of zeros (`row-at`, `rows-filled`), where the index is well formed. By what has been said after each line.
-use mathlib.Core.Path.{_≡_, refl, sym, ap, _∙_, subst}
-use mathlib.Core.Bool.{true}
-use mathlib.Core.Logic.{_⊎_, inl, inr}
-use mathlib.Core.List.{List, [], _∷_, _++_, map, append-assoc, append-nil}
-use mathlib.Core.Option.{some}
 use Prim.Native.Nat.{ℕ, zero, suc, _+_, _-_, _<_, _≤_, min}
-use native.Mathlib.Decide.{decLe}
-use native.Mathlib.Omega.{arith}
 use lib.IntN.{ℤ}
 use lib.ListN.{length, getD, take, drop, replicate, length-replicate, length-append, length-map, length-take, length-drop, List·getD-eq-default}
 use lib.Seq.{drop-append-seam, drop-drop, getD-set-same, getD-set-other, ext-getD}
-use Rattle.meaning_rows.specs.declared.Head.{Head}
-use Rattle.meaning_rows.specs.declared.Row.{Row}
-use Rattle.meaning_rows.specs.Index.{zeroRow, RangeRow, lent, records, allRuns}
-use Rattle.meaning_rows.specs.Judge.{headGood}
+use mathlib.Core.Bool.{true}
+use mathlib.Core.List.{List, [], _∷_, _++_, map, append-assoc, append-nil}
+use mathlib.Core.Logic.{_⊎_, inl, inr}
+use mathlib.Core.Option.{some}
+use mathlib.Core.Path.{_≡_, refl, sym, ap, _∙_, subst}
+use native.Mathlib.Decide.{decLe}
+use native.Mathlib.Omega.{arith}
+use Rattle.meaning_rows.specs.{declared.Head.Head, declared.Row.Row, Index.zeroRow, Index.RangeRow, Index.lent, Index.records, Index.allRuns, Judge.headGood}
 use Rattle.meaning_rows.proofs.Laid.{length-records}
-use Rattle.meaning_text.specs.Form.{Value}
-use Rattle.meaning_text.specs.Read.{fine, unfit, readText}
-use Rattle.meaning_text.specs.Texts.{indexForm, rowForm, rowSaid}
+use Rattle.meaning_text.specs.{Form.Value, Read.fine, Read.unfit, Read.readText, Texts.indexForm, Texts.rowForm, Texts.rowSaid}
 use Rattle.meaning_text.proofs.Automaton.{going, feed, feed-one, feed-none, on-option, atEnd, judged}
-use Rattle.text_index.specs.declared.Field.{Field}
-use Rattle.text_index.specs.declared.State.{State}
-use Rattle.text_index.specs.declared.Moved.{Moved}
-use Rattle.text_index.specs.Step.{indexStep, GoodState}
-use Rattle.text_index.proofs.Follow.{Said, nothingSaid, told, closed, value, Reading, at, moved, step, accept, acceptState, start, stays, index-comes, some-same, none-some}
-use Rattle.text_index.proofs.Order.{placePart, statePart, Order, order-step, order-value}
 use Rattle.numbers.specs.Narrow.{clamp}
-use Rattle.text_judge.specs.declared.Tally.{Tally}
-use Rattle.text_judge.specs.Tally.{noRuns, runsFrom, noRows, rowsFrom, headHeld}
-use Rattle.text_judge.proofs.Seen.{tallyOf, tells, shuts, start-is}
-use Rattle.text_judge.proofs.Prefix.{map-append, row-placed}
-use Rattle.text_rows.specs.declared.Line.{Line}
-use Rattle.text_rows.specs.Line.{rowMade, lineFrom, nextLine, lineAt, stored}
+use Rattle.text_index.specs.{declared.Field.Field, declared.State.State, declared.Moved.Moved, Step.indexStep, Step.GoodState}
+use Rattle.text_index.proofs.Order.{placePart, statePart, Order, order-step, order-value}
+use Rattle.text_index.proofs.Follow.{Said, nothingSaid, told, closed, value, Reading, at, moved, step, accept, acceptState, start, stays, index-comes, some-same, none-some}
+use Rattle.text_judge.specs.{declared.Tally.Tally, Tally.noRuns, Tally.runsFrom, Tally.noRows, Tally.rowsFrom, Tally.headHeld}
+use Rattle.text_judge.proofs.{Seen.tallyOf, Seen.tells, Seen.shuts, Seen.start-is, Prefix.map-append, Prefix.row-placed}
+use Rattle.text_rows.specs.{declared.Line.Line, Line.rowMade, Line.lineFrom, Line.nextLine, Line.lineAt, Line.stored}
 use Rattle.text_rows.proofs.Turn.{line-byte, line-ready, length-stored}
 
 abbrev Rs : Type 0

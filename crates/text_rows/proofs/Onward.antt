@@ -1,12 +1,11 @@
 -- A reader of a text that stands where a line ended: it can be read on, and gives the next line.
-use mathlib.Core.Path.{_≡_}
-use mathlib.Core.List.{List}
 use Prim.Native.Nat.{ℕ}
-use lib.ListN.{length}
 use denote.Ref.{RefT, now}
+use lib.ListN.{length}
+use mathlib.Core.List.{List}
+use mathlib.Core.Path.{_≡_}
 use Rattle.text_reader.specs.declared.Reader.{Reader}
-use Rattle.text_rows.specs.declared.Line.{Line}
-use Rattle.text_rows.specs.Line.{lineEnd, rowFrom, nextLine, Ready}
+use Rattle.text_rows.specs.{declared.Line.Line, Line.lineEnd, Line.rowFrom, Line.nextLine, Line.Ready}
 
 module _ (text : RefT (List ℕ)) (p : Line) (r : Reader) (here : (r .text ≡ text) × (r .at ≡ p .at)) where
   pub ready-on : Ready (length (now text)) p → Ready (length (now (r .text))) (lineEnd (p .state) (r .at) (p .tally))

@@ -1,24 +1,18 @@
 -- An event of the loop that reads on to the end of a row: what is left of the text comes to the same line (`Going`). A line that has been read can be read on (`next-ready`).
-use mathlib.Core.Path.{_≡_, refl, sym, ap, _∙_, subst}
-use mathlib.Core.List.{List, [], _∷_}
 use Prim.Native.Nat.{ℕ, zero, suc, _+_, _<_, _≤_}
-use native.Mathlib.Numerals.{add-one}
-use native.Mathlib.Omega.{arith}
 use lib.IntN.{ℤ}
 use lib.ListN.{length, getD, set, drop, length-set, drop-of-length-le, length-drop}
 use lib.Seq.{drop-cons}
+use mathlib.Core.List.{List, [], _∷_}
+use mathlib.Core.Path.{_≡_, refl, sym, ap, _∙_, subst}
+use native.Mathlib.Numerals.{add-one}
+use native.Mathlib.Omega.{arith}
 use Rattle.meaning_rows.specs.declared.Row.{Row}
-use Rattle.text_index.specs.declared.Field.{Field}
-use Rattle.text_index.specs.declared.State.{State}
-use Rattle.text_index.specs.declared.Moved.{Moved}
-use Rattle.text_index.specs.Step.{indexStep, GoodState}
-use Rattle.text_index.proofs.Follow.{index-good}
-use Rattle.text_index.proofs.View.{step-good}
-use Rattle.text_event.specs.declared.Event.{Event}
-use Rattle.text_event.specs.Event.{Quiet, RunsFrom, EventAt, atRuns}
+use Rattle.text_index.specs.{declared.Field.Field, declared.State.State, declared.Moved.Moved, Step.indexStep, Step.GoodState}
+use Rattle.text_index.proofs.{Follow.index-good, View.step-good}
+use Rattle.text_event.specs.{declared.Event.Event, Event.Quiet, Event.RunsFrom, Event.EventAt, Event.atRuns}
 use Rattle.text_event.proofs.EventLaws.{quiet-keeps, value-keeps, run-keeps, row-keeps, runs-keeps}
-use Rattle.text_judge.specs.declared.Tally.{Tally}
-use Rattle.text_judge.specs.Tally.{tellTally, shutTally, toldRun, Fits}
+use Rattle.text_judge.specs.{declared.Tally.Tally, Tally.tellTally, Tally.shutTally, Tally.toldRun, Tally.Fits}
 use Rattle.text_judge.proofs.Seen.{start-fits, same-fits, tell-fits, shut-fits}
 use Rattle.text_rows.specs.declared.Line.{Line}
 use Rattle.text_rows.specs.Line.{rowMade, lineEnd, lineFrom, noLine, nextLine, lineAt, stored, Ready}

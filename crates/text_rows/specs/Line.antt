@@ -1,15 +1,10 @@
 -- An index text read on to the end of its next row, as often as rows are wanted.
-use mathlib.Core.List.{List, [], _∷_}
 use Prim.Native.Nat.{ℕ, zero, suc, _≤_, min}
 use lib.ListN.{set, drop}
-use Rattle.meaning_rows.specs.declared.Row.{Row}
-use Rattle.meaning_rows.specs.Index.{zeroRow}
-use Rattle.text_index.specs.declared.Word.{Word}
-use Rattle.text_index.specs.declared.State.{State}
-use Rattle.text_index.specs.declared.Moved.{Moved}
-use Rattle.text_index.specs.Step.{indexStep, GoodState}
-use Rattle.text_judge.specs.declared.Tally.{Tally}
-use Rattle.text_judge.specs.Tally.{startTally, tellTally, shutTally, Fits}
+use mathlib.Core.List.{List, [], _∷_}
+use Rattle.meaning_rows.specs.{declared.Row.Row, Index.zeroRow}
+use Rattle.text_index.specs.{declared.Word.Word, declared.State.State, declared.Moved.Moved, Step.indexStep, Step.GoodState}
+use Rattle.text_judge.specs.{declared.Tally.Tally, Tally.startTally, Tally.tellTally, Tally.shutTally, Tally.Fits}
 use Rattle.text_rows.specs.declared.Line.{Line}
 
 -- the record of the row that is open: its runs begin where those of the rows before end

@@ -1,17 +1,14 @@
 -- Laws of specs/Write.
-use mathlib.Core.Path.{_≡_, refl, _∙_}
-use mathlib.Core.List.{List, [], _∷_, _++_, append-assoc, append-nil, map}
 use Prim.Native.Nat.{ℕ, zero, suc, _+_, _-_, _<_, _≤_, min}
-use native.Mathlib.Numerals.{add-one}
-use native.Mathlib.Omega.{arith}
 use lib.IntN.{pos}
 use lib.ListN.{length, getD, take, drop, length-take, length-drop}
 use lib.Seq.{take-suc, take-all, getD-take, getD-drop}
-use Rattle.meaning_rows.specs.Index.{Index, lent, entries, rangeRow}
-use Rattle.meaning_rows.specs.declared.Row.{Row}
-use Rattle.meaning_rows.specs.declared.Head.{Head}
-use Rattle.meaning_text.specs.Form.{spell, spellMany}
-use Rattle.meaning_text.specs.Texts.{rowForm, runForm, sayRow, sayIndex, indexText}
+use mathlib.Core.List.{List, [], _∷_, _++_, append-assoc, append-nil, map}
+use mathlib.Core.Path.{_≡_, refl, _∙_}
+use native.Mathlib.Numerals.{add-one}
+use native.Mathlib.Omega.{arith}
+use Rattle.meaning_rows.specs.{Index.Index, Index.lent, Index.entries, Index.rangeRow, declared.Row.Row, declared.Head.Head}
+use Rattle.meaning_text.specs.{Form.spell, Form.spellMany, Texts.rowForm, Texts.runForm, Texts.sayRow, Texts.sayIndex, Texts.indexText}
 use Rattle.text_put.specs.Put.{Put}
 use Rattle.text_put.proofs.Put.{put-then}
 use Rattle.text_write.specs.Write.{headText, endText, partOf, runsText, rowText}

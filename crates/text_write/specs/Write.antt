@@ -1,14 +1,10 @@
 -- The parts of an index text: its head, its rows one after the other, its end; together they are the text of the index.
-use mathlib.Core.List.{List, _++_}
 use Prim.Native.Nat.{ℕ}
 use lib.IntN.{ℤ}
 use lib.ListN.{take, drop}
-use Rattle.meaning_rows.specs.Index.{Entry, entries}
-use Rattle.meaning_rows.specs.declared.Row.{Row}
-use Rattle.meaning_text.specs.Bytes.{bytes}
-use Rattle.meaning_text.specs.Number.{spellℤ}
-use Rattle.meaning_text.specs.Form.{spell, spellMany}
-use Rattle.meaning_text.specs.Texts.{rowForm, runForm}
+use mathlib.Core.List.{List, _++_}
+use Rattle.meaning_rows.specs.{Index.Entry, Index.entries, declared.Row.Row}
+use Rattle.meaning_text.specs.{Bytes.bytes, Number.spellℤ, Form.spell, Form.spellMany, Texts.rowForm, Texts.runForm}
 
 -- ---- the parts
 

@@ -1,12 +1,7 @@
 -- Answers taken apart: a place that was found or not (`place-at`, `place-none`), kinds by number (`kind-normal`).
-use mathlib.Core.Path.{_≡_, refl, sym, subst}
-use mathlib.Core.Bool.{Bool, true, false}
-use mathlib.Core.Option.{Option, none, some}
-use Prim.Native.Nat.{ℕ}
-use lib.Dec.{T}
-use Rattle.values.specs.declared.Place.{Place}
+use Rattle.meaning_numbers.proofs.Prelude.{_≡_, refl, sym, subst, Bool, true, false, Option, none, some, ℕ, T}
+use Rattle.values.specs.{declared.Place.Place, Place.placed}
 use Rattle.values.specs.declared.Place.the-variants.{At, Nowhere}
-use Rattle.values.specs.Place.{placed}
 
 abbrev missing : Place → Bool
 missing (At p) = false

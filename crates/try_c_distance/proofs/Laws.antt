@@ -1,15 +1,7 @@
 -- A buffer is written entry by entry (`written-none`, `written-more`), and an outcome is one of two (`outcome-yes`, `outcome-no`). Room holds the last normalised values (`normal-next`).
 use borrow.Author.Count.{below-none, below-more}
-use mathlib.Core.Path.{_≡_, refl, sym, subst, _∙_}
-use mathlib.Core.List.{List}
-use Prim.Native.Nat.{ℕ, _+_, _<_}
-use native.Mathlib.Omega.{arith}
-use native.Mathlib.Decide.{decLt}
-use lib.IntN.{ℤ}
-use lib.ListN.{length, set, length-set}
-use lib.Seq.{getD-set-same, getD-set-other}
-use Rattle.try_c_distance.specs.Outcome.{Written, Outcome}
-use Rattle.try_c_distance.specs.Told.{NormalRoom, LastNormal}
+use Rattle.meaning_numbers.proofs.Prelude.{_≡_, refl, sym, subst, _∙_, List, ℕ, _+_, _<_, arith, decLt, ℤ, length, set, length-set, getD-set-same, getD-set-other}
+use Rattle.try_c_distance.specs.{Outcome.Written, Outcome.Outcome, Told.NormalRoom, Told.LastNormal}
 
 -- ---- entry by entry
 

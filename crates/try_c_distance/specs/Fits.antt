@@ -1,8 +1,8 @@
 -- What is tested once of an input.
-use mathlib.Core.List.{List}
 use Prim.Native.Nat.{ℕ, _+_, _<_, _≤_}
 use lib.IntN.{ℤ}
 use lib.ListN.{length}
+use mathlib.Core.List.{List}
 use Rattle.meaning_curves.specs.Limits.{longestQuery}
 use Rattle.meaning_curves.proofs.Values.{AllIn}
 

@@ -1,8 +1,8 @@
 -- What a call leaves: a buffer whose first entries are written (`Written`), and an answer that tells an input that was taken from one that was refused (`Outcome`).
-use mathlib.Core.Path.{_≡_}
-use mathlib.Core.List.{List}
 use Prim.Native.Nat.{ℕ, _<_, _≤_}
 use lib.ListN.{length, getD}
+use mathlib.Core.List.{List}
+use mathlib.Core.Path.{_≡_}
 
 -- P holds of each of the first n entries, at its place, and those past them are as they were; x is what is read past the end
 pub record Written {A : Type 0} (x : A) (P : ℕ → A → Type 0) (n : ℕ) (old new : List A) : Type 0 where

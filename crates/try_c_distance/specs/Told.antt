@@ -1,22 +1,19 @@
 -- What each function for C tells and leaves, by the meanings: for each, what is asked of its input, the answer, what it does then, and what is kept otherwise.
-use mathlib.Core.Path.{_≡_}
-use mathlib.Core.Bool.{Bool, true, false}
-use mathlib.Core.List.{List}
-use mathlib.Core.Option.{none}
 use Prim.Native.Nat.{ℕ, _<_}
 use lib.IntN.{ℤ}
 use lib.ListN.{length}
+use mathlib.Core.Bool.{Bool, true, false}
+use mathlib.Core.List.{List}
+use mathlib.Core.Option.{none}
+use mathlib.Core.Path.{_≡_}
 use Rattle.meaning_numbers.specs.Sum.{Σℕ}
-use Rattle.meaning_curves.specs.Curve.{at, stretch, windowCount, spread}
-use Rattle.meaning_curves.specs.Straight.{straight}
-use Rattle.meaning_curves.specs.Table.{warped}
+use Rattle.meaning_curves.specs.{Curve.at, Curve.stretch, Curve.windowCount, Curve.spread, Straight.straight, Table.warped}
 use Rattle.meaning_curves.proofs.Values.{AllIn}
-use Rattle.distance_bound.proofs.Excess.{apart}
 use Rattle.numbers.specs.Within.{Within}
 use Rattle.distance_normal.specs.Stretch.{Normalised}
+use Rattle.distance_bound.proofs.Excess.{apart}
 use Rattle.distance_envelope.specs.Envelope.{Envelopes}
-use Rattle.try_c_distance.specs.Fits.{Fits}
-use Rattle.try_c_distance.specs.Outcome.{Written, Outcome}
+use Rattle.try_c_distance.specs.{Fits.Fits, Outcome.Written, Outcome.Outcome}
 
 -- how many stretches of m values s has
 abbrev pub stretches : List ℤ → ℕ → ℕ

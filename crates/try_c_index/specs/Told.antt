@@ -1,13 +1,8 @@
 -- Answers as C is told them: a kind, which is 3 where the call is refused, a head where the answer has one, and two numbers.
-use mathlib.Core.Path.{_≡_}
 use Prim.Native.Nat.{ℕ}
+use mathlib.Core.Path.{_≡_}
 use Rattle.meaning_rows.specs.declared.Head.{Head}
-use Rattle.meaning_entries.specs.declared.Audited.{Audited}
-use Rattle.meaning_entries.specs.declared.Built.{Built}
-use Rattle.meaning_entries.specs.declared.Extended.{Extended}
-use Rattle.meaning_entries.specs.Buffers.{IndexBuffers}
-use Rattle.meaning_entries.specs.Build.{BuildCall, buildAnswer, buildAfter}
-use Rattle.meaning_entries.specs.Extend.{ExtendCall, extendAnswer, extendAfter}
+use Rattle.meaning_entries.specs.{declared.Audited.Audited, declared.Built.Built, declared.Extended.Extended, Buffers.IndexBuffers, Build.BuildCall, Build.buildAnswer, Build.buildAfter, Extend.ExtendCall, Extend.extendAnswer, Extend.extendAfter}
 use Rattle.try_c_index.specs.declared.Answer.{Answer}
 
 abbrev pub noHead : Head

@@ -1,28 +1,20 @@
 -- Pieces one behind another come to what the text to there comes to (`begins`, `goes-on`, `fails`, `ends`), and what a whole text comes to is what is told (`told`).
-use mathlib.Core.Path.{_≡_, refl, sym, ap, subst, _∙_}
-use mathlib.Core.Bool.{Bool, true, false}
-use mathlib.Core.List.{List}
 use Prim.Native.Nat.{ℕ, _+_, _-_, _≤_}
-use native.Mathlib.Omega.{arith}
 use lib.IntN.{ℤ}
 use lib.ListN.{length, take, drop, take-append-drop}
 use lib.Seq.{take-add, take-length}
-use Rattle.meaning_text.specs.Form.{Form, Value}
-use Rattle.meaning_text.specs.Read.{readText}
-use Rattle.meaning_text.specs.Texts.{seriesForm, programForm}
+use mathlib.Core.Bool.{Bool, true, false}
+use mathlib.Core.List.{List}
+use mathlib.Core.Path.{_≡_, refl, sym, ap, subst, _∙_}
+use native.Mathlib.Omega.{arith}
+use Rattle.meaning_text.specs.{Form.Form, Form.Value, Read.readText, Texts.seriesForm, Texts.programForm}
 use Rattle.meaning_text.proofs.Automaton.{going, feed, feed-append, judged}
-use Rattle.text_lines.specs.declared.Word.{Word}
-use Rattle.text_lines.specs.declared.State.{State}
-use Rattle.text_lines.proofs.Step.{word-long}
+use Rattle.text_lines.specs.{declared.Word.Word, declared.State.State}
 use Rattle.text_lines.specs.Follow.{Said, Reading, step, programStart, seriesStart, programValue, seriesValue}
-use Rattle.text_lines.proofs.Follow.{accept, program-comes, series-comes}
-use Rattle.text_feed.specs.declared.Progress.{Progress}
-use Rattle.text_feed.specs.declared.Feeding.{Feeding}
-use Rattle.text_feed.proofs.Keep.{kept-none}
-use Rattle.text_feed.specs.Feed.{Shows, Comes as Takes}
-use Rattle.text_feed.proofs.Whole.{shows-then, shows-failed, text-failed, text-done, text-short}
-use Rattle.try_c_lines.specs.Told.{TextTold, says, bad, LinesTold, answerTold, endTold}
-use Rattle.try_c_lines.specs.Piece.{startOf, begun, Stands, Fed as Piece}
+use Rattle.text_lines.proofs.{Step.word-long, Follow.accept, Follow.program-comes, Follow.series-comes}
+use Rattle.text_feed.specs.{declared.Progress.Progress, declared.Feeding.Feeding, Feed.Shows, Feed.Comes as Takes}
+use Rattle.text_feed.proofs.{Keep.kept-none, Whole.shows-then, Whole.shows-failed, Whole.text-failed, Whole.text-done, Whole.text-short}
+use Rattle.try_c_lines.specs.{Told.TextTold, Told.says, Told.bad, Told.LinesTold, Told.answerTold, Told.endTold, Piece.startOf, Piece.begun, Piece.Stands, Piece.Fed as Piece}
 use Rattle.try_c_lines.proofs.PieceLaws.{Comes}
 
 -- ---- piece by piece

@@ -1,14 +1,12 @@
 -- Laws of specs/Piece.
-use mathlib.Core.Path.{_≡_}
-use mathlib.Core.Bool.{Bool}
-use mathlib.Core.List.{List}
 use Prim.Native.Nat.{ℕ}
 use lib.IntN.{ℤ}
+use mathlib.Core.Bool.{Bool}
+use mathlib.Core.List.{List}
+use mathlib.Core.Path.{_≡_}
 use Rattle.meaning_text.proofs.Automaton.{going, feed}
 use Rattle.text_lines.specs.Follow.{nothingSaid, step}
-use Rattle.text_feed.specs.declared.Feeding.{Feeding}
-use Rattle.text_feed.specs.Keep.{numbersOf}
-use Rattle.text_feed.specs.Feed.{Shows}
+use Rattle.text_feed.specs.{declared.Feeding.Feeding, Keep.numbersOf, Feed.Shows}
 use Rattle.try_c_lines.specs.Piece.{startOf}
 
 -- the answer shows what a text comes to, where the buffers were these at first

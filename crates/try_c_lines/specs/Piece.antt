@@ -1,16 +1,12 @@
 -- A text of which some bytes have been read (`Stands`), and one more piece (`Fed`).
-use mathlib.Core.Path.{_≡_}
-use mathlib.Core.Bool.{Bool, true, false}
-use mathlib.Core.List.{List}
 use Prim.Native.Nat.{ℕ, _-_, _≤_}
 use lib.IntN.{ℤ}
 use lib.ListN.{length, take, drop}
-use Rattle.text_lines.specs.Step.{GoodState}
-use Rattle.text_lines.specs.Follow.{Said, Reading, programStart, seriesStart}
-use Rattle.text_feed.specs.declared.Progress.{Progress}
-use Rattle.text_feed.specs.declared.Feeding.{Feeding}
-use Rattle.text_feed.specs.Feed.{GoodFeeding, Comes as Takes}
-use Rattle.text_feed.specs.Whole.{noValues}
+use mathlib.Core.Bool.{Bool, true, false}
+use mathlib.Core.List.{List}
+use mathlib.Core.Path.{_≡_}
+use Rattle.text_lines.specs.{Step.GoodState, Follow.Said, Follow.Reading, Follow.programStart, Follow.seriesStart}
+use Rattle.text_feed.specs.{declared.Progress.Progress, declared.Feeding.Feeding, Feed.GoodFeeding, Feed.Comes as Takes, Whole.noValues}
 
 -- where the program's lines begin, and a series line
 abbrev pub startOf : Bool → Reading

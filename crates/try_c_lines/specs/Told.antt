@@ -1,18 +1,12 @@
 -- What is told of the program's lines, or of a series line, however the text is cut (`LinesTold`): what the whole text says, or its first bad line.
-use mathlib.Core.Path.{_≡_}
-use mathlib.Core.Bool.{Bool, true, false}
-use mathlib.Core.List.{List}
 use Prim.Native.Nat.{ℕ}
 use lib.IntN.{ℤ}
-use Rattle.meaning_text.specs.Form.{Form, Value}
-use Rattle.meaning_text.specs.Read.{fine, unfit, readText, lineOf}
-use Rattle.meaning_text.specs.Texts.{seriesForm, programForm}
-use Rattle.text_lines.specs.declared.State.{State}
-use Rattle.text_lines.specs.Follow.{Said, nothingSaid, programValue, seriesValue}
-use Rattle.text_feed.specs.declared.Values.{Values}
-use Rattle.text_feed.specs.declared.Progress.{Progress}
-use Rattle.text_feed.specs.declared.Feeding.{Feeding}
-use Rattle.text_feed.specs.Keep.{numbersOf, Holds}
+use mathlib.Core.Bool.{Bool, true, false}
+use mathlib.Core.List.{List}
+use mathlib.Core.Path.{_≡_}
+use Rattle.meaning_text.specs.{Form.Form, Form.Value, Read.fine, Read.unfit, Read.readText, Read.lineOf, Texts.seriesForm, Texts.programForm}
+use Rattle.text_lines.specs.{declared.State.State, Follow.Said, Follow.nothingSaid, Follow.programValue, Follow.seriesValue}
+use Rattle.text_feed.specs.{declared.Values.Values, declared.Progress.Progress, declared.Feeding.Feeding, Keep.numbersOf, Keep.Holds}
 use Rattle.try_c_lines.specs.declared.Lines.{Lines}
 
 -- the first bad line, and nothing of its values

@@ -1,15 +1,10 @@
 -- A place told by a number, and the kind of a query.
-use mathlib.Core.Path.{_≡_, refl, sym, subst, _∙_}
-use mathlib.Core.Bool.{Bool, true, false}
-use mathlib.Core.Option.{Option, none, some}
-use Prim.Native.Nat.{ℕ, zero, suc}
-use lib.Dec.{T}
-use Rattle.meaning_filter.specs.declared.Kind.{Kind}
-use Rattle.meaning_filter.specs.declared.Kind.the-variants.{Raw, Normal}
-use Rattle.values.specs.declared.Place.the-variants.{At, Nowhere}
+use Rattle.meaning_numbers.proofs.Prelude.{_≡_, refl, sym, subst, _∙_, Bool, true, false, Option, none, some, ℕ, zero, suc, T}
+use Rattle.meaning_filter.specs.{declared.Kind.Kind, declared.Kind.the-variants.Raw, declared.Kind.the-variants.Normal}
 use Rattle.values.specs.Place.{placed}
-use Rattle.try_c_match.specs.Told.{placeOr, kindOf}
+use Rattle.values.specs.declared.Place.the-variants.{At, Nowhere}
 use Rattle.try_c_distance.proofs.Answers.{none-placed, some-placed}
+use Rattle.try_c_match.specs.Told.{placeOr, kindOf}
 
 pub place-at : (n : ℕ) (o : Option ℕ) {p : ℕ} → placed o ≡ At p → p ≡ placeOr n o
 place-at n none e = absurd (some-placed refl e)

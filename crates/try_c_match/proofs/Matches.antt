@@ -1,26 +1,10 @@
 -- A match is told as it is: its distance is small (`distance-small`), so that one more does not wrap (`told-wrapped`).
-use mathlib.Core.Path.{_≡_, refl, sym, subst}
-use mathlib.Core.Bool.{Bool, true, false}
-use mathlib.Core.List.{List}
-use Prim.Native.Nat.{ℕ, _+_, _-_, _<_, _≤_}
-use native.Mathlib.Omega.{arith}
-use native.Mathlib.Nat.{mul-le-mul-right}
-use lib.Dec.{T}
-use lib.IntN.{ℤ}
-use lib.ListN.{length}
-use Rattle.meaning_curves.specs.Curve.{at, stretch}
-use Rattle.meaning_curves.specs.Match.{distance}
-use Rattle.meaning_curves.proofs.Values.{InLimits, AllIn, cost-le}
-use Rattle.meaning_curves.proofs.Grid.{path-small}
-use Rattle.meaning_curves.proofs.Table.{warped-is}
-use Rattle.meaning_curves.proofs.Straight.{distance-is}
-use Rattle.meaning_curves.proofs.Match.{normal-yes}
-use Rattle.meaning_filter.specs.declared.Kind.{Kind}
-use Rattle.meaning_filter.specs.declared.Kind.the-variants.{Raw, Normal}
-use Rattle.meaning_filter.specs.declared.Limits.{Limits}
-use Rattle.meaning_filter.specs.Matches.{matches, distanceTo}
-use Rattle.distance_query.proofs.Ready.{value-in}
+use Rattle.meaning_numbers.proofs.Prelude.{_≡_, refl, sym, subst, Bool, true, false, List, ℕ, _+_, _-_, _<_, _≤_, arith, mul-le-mul-right, T, ℤ, length}
+use Rattle.meaning_curves.specs.{Curve.at, Curve.stretch, Match.distance}
+use Rattle.meaning_curves.proofs.{Values.InLimits, Values.AllIn, Values.cost-le, Grid.path-small, Table.warped-is, Straight.distance-is, Match.normal-yes}
+use Rattle.meaning_filter.specs.{declared.Kind.Kind, declared.Kind.the-variants.Raw, declared.Kind.the-variants.Normal, declared.Limits.Limits, Matches.matches, Matches.distanceTo}
 use Rattle.distance_query.specs.Ready.{IsCurve, curveOf}
+use Rattle.distance_query.proofs.Ready.{value-in}
 use Rattle.distance_within.specs.Answer.{answer}
 use Rattle.distance_match.specs.Matched.{matched}
 use Rattle.try_c_match.specs.Told.{toldMatch, wrapped, MatchBuffers, MatchesTold}

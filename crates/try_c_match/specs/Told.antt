@@ -1,25 +1,18 @@
 -- What the functions for C tell, and what they leave in lent buffers.
-use mathlib.Core.Path.{_≡_}
-use mathlib.Core.List.{List}
-use mathlib.Core.Option.{Option, none, some}
 use Prim.Native.Nat.{ℕ, zero, suc, _+_, _%_, _^_, _<_, _≤_}
 use lib.IntN.{ℤ, pos}
 use lib.ListN.{length}
-use Rattle.meaning_curves.specs.Limits.{longestWindow, greatestScale}
-use Rattle.meaning_curves.specs.Curve.{at, stretch, windowSum, spread}
+use mathlib.Core.List.{List}
+use mathlib.Core.Option.{Option, none, some}
+use mathlib.Core.Path.{_≡_}
+use Rattle.meaning_curves.specs.{Limits.longestWindow, Limits.greatestScale, Curve.at, Curve.stretch, Curve.windowSum, Curve.spread}
 use Rattle.meaning_curves.proofs.Values.{AllIn}
 use Rattle.meaning_rows.specs.Range.{rowNumber}
-use Rattle.meaning_filter.specs.declared.Kind.{Kind}
-use Rattle.meaning_filter.specs.declared.Kind.the-variants.{Raw, Normal}
-use Rattle.meaning_filter.specs.declared.Limits.{Limits}
-use Rattle.distance_query.specs.Ready.{Envelopes}
-use Rattle.distance_query.specs.Ready.{IsCurve}
-use Rattle.distance_within.specs.declared.Match.{Match}
-use Rattle.distance_within.specs.declared.Match.the-variants.{Yes, No}
+use Rattle.meaning_filter.specs.{declared.Kind.Kind, declared.Kind.the-variants.Raw, declared.Kind.the-variants.Normal, declared.Limits.Limits}
+use Rattle.distance_query.specs.Ready.{Envelopes, IsCurve}
+use Rattle.distance_within.specs.{declared.Match.Match, declared.Match.the-variants.Yes, declared.Match.the-variants.No}
 use Rattle.distance_match.specs.Matched.{matched}
-use Rattle.try_c_distance.specs.Fits.{Fits}
-use Rattle.try_c_distance.specs.Outcome.{Written, Outcome}
-use Rattle.try_c_distance.specs.Told.{stretches}
+use Rattle.try_c_distance.specs.{Fits.Fits, Outcome.Written, Outcome.Outcome, Told.stretches}
 
 -- a place, or n where there is none
 abbrev pub placeOr : ℕ → Option ℕ → ℕ

@@ -1,15 +1,11 @@
 -- A search as C asks for it and is told its answer: a kind and numbers.
-use mathlib.Core.Path.{_≡_}
-use mathlib.Core.Bool.{true, false}
 use Prim.Native.Nat.{ℕ}
 use lib.Dec.{eqb}
-use Rattle.meaning_filter.specs.declared.Kind.{Kind}
-use Rattle.meaning_filter.specs.declared.Limits.{Limits}
-use Rattle.meaning_filter.specs.declared.Ask.{Ask}
-use Rattle.meaning_entries.specs.declared.Found.{Found}
-use Rattle.meaning_entries.specs.Search.{SearchCall, SearchBuffers, searchAnswer, searchAfter}
-use Rattle.try_c_search.specs.declared.Asked.{Asked}
-use Rattle.try_c_search.specs.declared.Answer.{Answer}
+use mathlib.Core.Bool.{true, false}
+use mathlib.Core.Path.{_≡_}
+use Rattle.meaning_filter.specs.{declared.Kind.Kind, declared.Limits.Limits, declared.Ask.Ask}
+use Rattle.meaning_entries.specs.{declared.Found.Found, Search.SearchCall, Search.SearchBuffers, Search.searchAnswer, Search.searchAfter}
+use Rattle.try_c_search.specs.{declared.Asked.Asked, declared.Answer.Answer}
 
 -- 0: raw; any other number: normalised
 unfoldable pub kindOf : Asked → Kind

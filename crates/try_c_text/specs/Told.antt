@@ -1,15 +1,10 @@
 -- The answers of a reading and of a writing as C is told them, and the buffers they leave.
-use mathlib.Core.Path.{_≡_}
-use mathlib.Core.List.{List}
 use Prim.Native.Nat.{ℕ}
+use mathlib.Core.List.{List}
+use mathlib.Core.Path.{_≡_}
 use Rattle.meaning_rows.specs.Index.{Index}
-use Rattle.meaning_entries.specs.declared.Loaded.{Loaded}
-use Rattle.meaning_entries.specs.declared.Written.{Written}
-use Rattle.meaning_entries.specs.Buffers.{IndexBuffers}
-use Rattle.meaning_entries.specs.Load.{loadAnswer, loadAfter}
-use Rattle.meaning_entries.specs.Write.{writeAnswer, writeAfter}
-use Rattle.try_c_index.specs.declared.Answer.{Answer}
-use Rattle.try_c_index.specs.Told.{numbersOf, indexOf}
+use Rattle.meaning_entries.specs.{declared.Loaded.Loaded, declared.Written.Written, Buffers.IndexBuffers, Load.loadAnswer, Load.loadAfter, Write.writeAnswer, Write.writeAfter}
+use Rattle.try_c_index.specs.{declared.Answer.Answer, Told.numbersOf, Told.indexOf}
 
 -- 0: the index; 3: the refusal's number and place
 unfoldable pub toldLoaded : Loaded → Answer

@@ -1,19 +1,9 @@
 -- Laws of specs/Sums.
-use mathlib.Core.Path.{_≡_}
-use mathlib.Core.List.{List}
-use Prim.Native.Nat.{ℕ, zero, suc, _+_, _*_, _≤_}
-use native.Mathlib.Omega.{arith}
-use native.Mathlib.Nat.{mul-le-mul}
-use lib.IntN.{ℤ, _*ℤ_}
 use Rattle.meaning_numbers.specs.Sum.{Σℕ, Σℤ, square}
-use Rattle.meaning_numbers.proofs.Rep.{Rep, rep-pos, rep-by, rep-add, rep-sub, rep-mul, eq-rep}
-use Rattle.meaning_numbers.proofs.Sum.{Σℕ-le}
-use Rattle.meaning_numbers.proofs.Slide.{Σℕ-slide}
-use Rattle.meaning_numbers.proofs.Root.{sq-le}
-use Rattle.meaning_curves.specs.Curve.{at, stretch, spread}
-use Rattle.meaning_curves.specs.Normal.{centred}
-use Rattle.meaning_curves.proofs.Spread.{spread-is}
-use Rattle.meaning_curves.proofs.Values.{AllIn}
+use Rattle.meaning_numbers.proofs.{Sum.Σℕ-le, Slide.Σℕ-slide, Root.sq-le}
+use Rattle.meaning_numbers.proofs.Prelude.{_≡_, List, ℕ, zero, suc, _+_, _*_, _≤_, arith, mul-le-mul, ℤ, _*ℤ_, Rep, rep-pos, rep-by, rep-add, rep-sub, rep-mul, eq-rep}
+use Rattle.meaning_curves.specs.{Curve.at, Curve.stretch, Curve.spread, Normal.centred}
+use Rattle.meaning_curves.proofs.{Spread.spread-is, Values.AllIn}
 use Rattle.numbers.specs.Raised.{raised, raised-le}
 use Rattle.numbers.proofs.Raised.{raised-is}
 use Rattle.values.specs.Sums.{AreSums}

@@ -1,19 +1,11 @@
 -- The sum of a window: from the sum of its raised values (`window-raised`), how large it gets (`window-small`), from the window before (`window-next`), and with its last or its first value apart (`window-last`, `but-last`, `but-first`).
-use mathlib.Core.Path.{_≡_}
-use mathlib.Core.List.{List}
-use Prim.Native.Nat.{ℕ, suc, _+_, _*_, _≤_}
-use native.Mathlib.Omega.{arith}
-use lib.IntN.{ℤ, pos, _+ℤ_, _-ℤ_}
-use mir.Syntax.{w32}
-use mir.Val.{SFits, toZ, ofZ}
 use Rattle.meaning_numbers.specs.Sum.{Σℕ, Σℤ}
-use Rattle.meaning_numbers.proofs.Rep.{up, dn, rep-self, rep-pos, rep-add, rep-sub, rep-eq, z-rep, z-add, z-eq}
-use Rattle.meaning_numbers.proofs.Sum.{Σℕ-le}
-use Rattle.meaning_numbers.proofs.Slide.{Σℤ-slide}
+use Rattle.meaning_numbers.proofs.{Sum.Σℕ-le, Slide.Σℤ-slide}
+use Rattle.meaning_numbers.proofs.Prelude.{_≡_, List, ℕ, suc, _+_, _*_, _≤_, arith, ℤ, pos, _+ℤ_, _-ℤ_, w32, SFits, toZ, ofZ, up, dn, rep-self, rep-pos, rep-add, rep-sub, rep-eq, z-rep, z-add, z-eq}
 use Rattle.meaning_curves.specs.Curve.{at, stretch, windowSum}
 use Rattle.meaning_curves.proofs.Values.{AllIn}
-use Rattle.numbers.proofs.Back.{plus-fits, plus-back, minus-fits, minus-back}
 use Rattle.numbers.specs.Raised.{raised, raised-le}
+use Rattle.numbers.proofs.Back.{plus-fits, plus-back, minus-fits, minus-back}
 use Rattle.values.proofs.SumsLaws.{sum-raised}
 
 module _ {s : List ℤ} (w j : ℕ) (h : AllIn s) where

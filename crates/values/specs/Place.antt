@@ -1,13 +1,11 @@
 -- A place that may be missing, as code answers it; and values known to be in their limits up to a place.
-use mathlib.Core.List.{List}
-use mathlib.Core.Option.{Option, none, some}
 use Prim.Native.Nat.{ℕ, _<_}
 use lib.Dec.{T}
 use lib.IntN.{ℤ}
-use Rattle.meaning_curves.specs.Curve.{at}
-use Rattle.meaning_curves.specs.Limits.{valueIn}
-use Rattle.values.specs.declared.Place.{Place}
-use Rattle.values.specs.declared.Place.the-variants.{At, Nowhere}
+use mathlib.Core.List.{List}
+use mathlib.Core.Option.{Option, none, some}
+use Rattle.meaning_curves.specs.{Curve.at, Limits.valueIn}
+use Rattle.values.specs.{declared.Place.Place, declared.Place.the-variants.At, declared.Place.the-variants.Nowhere}
 
 abbrev pub placed : Option ℕ → Place
 placed none = Nowhere

@@ -1,21 +1,10 @@
 -- `build_fill::file_turn` meets its contract.
-use borrow.Author.Needs.{needs}
-use mathlib.Core.Path.{_≡_, ap, _∙_}
-use Prim.Native.Nat.{_+_, _*_}
-use native.Mathlib.Omega.{arith}
-use mir.Syntax.{w32}
-use mir.Val.{toZ, ofZ}
-use mir.ValLaws.{toZ-ofZ}
-use Rattle.meaning_numbers.proofs.Machine.{zmach32}
-use Rattle.meaning_rows.specs.declared.Row.{Row}
+use Rattle.meaning_numbers.proofs.Prelude.{needs, _≡_, ap, _∙_, _+_, _*_, arith, w32, toZ, ofZ, toZ-ofZ, zmach32}
 use Rattle.meaning_curves.specs.Curve.{windowSum}
-use Rattle.meaning_rows.specs.Range.{inside}
-use Rattle.sums_slide.specs.Levels.{windowsOf}
-use Rattle.sums_slide.specs.Change.{Change}
-use Rattle.sums_slide.specs.Ends.{raisedEnd}
+use Rattle.meaning_rows.specs.{declared.Row.Row, Range.inside}
+use Rattle.sums_slide.specs.{Levels.windowsOf, Change.Change, Ends.raisedEnd}
 use Rattle.build_fill.specs.Turn.{Small}
-use Rattle.build_fill.proofs.Turn.{stop-held, change-held}
-use Rattle.build_fill.proofs.file_turn.Statement.{statement}
+use Rattle.build_fill.proofs.{Turn.stop-held, Turn.change-held, file_turn.Statement.statement}
 use Rattle.build_fill.proofs.file_turn.Tie as tie
 
 -- an end of a small range, as the machine reads it

@@ -1,15 +1,14 @@
 -- `build_lay::lay_out_by` meets its contract.
-use borrow.Author.Needs.{needs}
-use mathlib.Core.Path.{_≡_, ap}
-use mathlib.Core.List.{List}
 use Prim.Native.Nat.{ℕ}
-use native.Mathlib.Omega.{arith}
+use borrow.Author.Needs.{needs}
 use lib.ListN.{length}
+use mathlib.Core.List.{List}
+use mathlib.Core.Path.{_≡_, ap}
+use native.Mathlib.Omega.{arith}
 use Rattle.sums_slide.specs.Table.{table}
 use Rattle.rows_pack.specs.Packed.{total}
 use Rattle.rows_pack.proofs.Records.{counts-fit}
-use Rattle.build_lay.proofs.Laid.{rows-fit}
-use Rattle.build_lay.proofs.lay_out_by.Statement.{statement}
+use Rattle.build_lay.proofs.{Laid.rows-fit, lay_out_by.Statement.statement}
 use Rattle.build_lay.proofs.lay_out_by.Tie as tie
 
 -- the counts, once they are made

@@ -1,10 +1,7 @@
 -- `build_merge::count_names` meets its contract. The invariant: k of the first t names are in the range.
-use mathlib.Core.Path.{_≡_, sym, ap, _∙_}
-use Prim.Native.Nat.{ℕ, _+_, _-_, _≤_}
-use native.Mathlib.Omega.{arith}
-use borrow.Author.Needs.{needs}
 use Rattle.meaning_numbers.specs.Sum.{count}
 use Rattle.meaning_numbers.proofs.Count.{count-none, count-more, bit-true, bit-false}
+use Rattle.meaning_numbers.proofs.Prelude.{_≡_, sym, ap, _∙_, ℕ, _+_, _-_, _≤_, arith, needs}
 use Rattle.build_merge.specs.Names.{namesOf}
 use Rattle.build_merge.proofs.count_names.Statement.{statement}
 use Rattle.build_merge.proofs.count_names.Tie as tie

@@ -1,15 +1,5 @@
 -- `build_merge::merge_row` meets its contract: in each branch the test on counts is the test of `nextGroup`, and what is stored in a signed field is what it was.
-use borrow.Author.Needs.{needs}
-use borrow.Author.Tests.{lt-ltb, le-ltb}
-use mathlib.Core.Path.{_≡_}
-use Prim.Native.Nat.{ℕ, _+_, _*_, _≤_, _<_, _^_}
-use native.Mathlib.Nat.{mul-le-mul-right}
-use native.Mathlib.Omega.{arith}
-use lib.IntN.{ℤ}
-use lib.Signed.{mag}
-use mir.Syntax.{w32, w64}
-use mir.Val.{toZ, ofZ, Fits}
-use mir.ValLaws.{toZ-ofZ}
+use Rattle.meaning_numbers.proofs.Prelude.{needs, lt-ltb, le-ltb, _≡_, ℕ, _+_, _*_, _≤_, _<_, _^_, mul-le-mul-right, arith, ℤ, mag, w32, w64, toZ, ofZ, Fits, toZ-ofZ}
 use Rattle.build_merge.specs.Group.{nextGroup}
 use Rattle.build_merge.proofs.merge_row.Statement.{statement}
 use Rattle.build_merge.proofs.merge_row.Tie as tie

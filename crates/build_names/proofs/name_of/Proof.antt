@@ -1,7 +1,5 @@
 -- `build_names::name_of` meets its contract: there is a window where as many values follow.
-use borrow.Author.Needs.{needs}
-use borrow.Author.Tests.{lt-ltb, le-ltb}
-use native.Mathlib.Omega.{arith}
+use Rattle.meaning_numbers.proofs.Prelude.{needs, lt-ltb, le-ltb, arith}
 use Rattle.meaning_curves.specs.Curve.{windowCount}
 use Rattle.build_names.specs.Places.{nameFor}
 use Rattle.build_names.proofs.name_of.Statement.{statement}

@@ -1,16 +1,7 @@
 -- `build_names::run_end` meets its contract: the ends of the range are read back as they were passed.
-use borrow.Author.Needs.{needs}
-use mathlib.Core.Path.{_≡_, sym, subst}
-use Prim.Native.Nat.{_<_, _^_}
-use native.Mathlib.Omega.{arith}
-use lib.IntN.{ℤ}
-use lib.Signed.{mag}
-use mir.Syntax.{w32}
-use mir.Val.{toZ, ofZ}
-use mir.ValLaws.{toZ-ofZ}
+use Rattle.meaning_numbers.proofs.Prelude.{needs, _≡_, sym, subst, _<_, _^_, arith, ℤ, mag, w32, toZ, ofZ, toZ-ofZ}
 use Rattle.build_names.specs.Ranges.{Limited}
-use Rattle.build_names.proofs.Ranges.{limited-asks}
-use Rattle.build_names.proofs.run_end.Statement.{statement}
+use Rattle.build_names.proofs.{Ranges.limited-asks, run_end.Statement.statement}
 use Rattle.build_names.proofs.run_end.Tie as tie
 
 back : (z : ℤ) → mag z < 2 ^ 31 → toZ w32 (ofZ w32 z) ≡ z

@@ -1,7 +1,6 @@
 -- `build_parts::file_entry` meets its contract: the row's part of both columns is lent to its writer.
-use borrow.Author.Needs.{needs}
-use Rattle.build_parts.proofs.Lent.{entry-room, left-back, right-back}
-use Rattle.build_parts.proofs.file_entry.Statement.{statement}
+use Rattle.meaning_numbers.proofs.Prelude.{needs}
+use Rattle.build_parts.proofs.{Lent.entry-room, Lent.left-back, Lent.right-back, file_entry.Statement.statement}
 use Rattle.build_parts.proofs.file_entry.Tie as tie
 
 write-entry-requires : tie.Need-write-entry-requires

@@ -1,10 +1,5 @@
 -- `build_parts::write_entry` meets its contract.
-use borrow.Author.Needs.{needs}
-use borrow.Author.Tests.{lt-ltb, le-ltb}
-use mathlib.Core.Path.{refl}
-use native.Mathlib.Omega.{arith}
-use native.Mathlib.Nat.{zero-add}
-use lib.ListN.{length-set}
+use Rattle.meaning_numbers.proofs.Prelude.{needs, lt-ltb, le-ltb, refl, arith, zero-add, length-set}
 use Rattle.meaning_rows.proofs.Cursors.{fileRight}
 use Rattle.build_parts.specs.Part.{writtenIn}
 use Rattle.build_parts.proofs.write_entry.Statement.{statement}

@@ -1,12 +1,8 @@
 -- `build_plan::make_plan` meets its contract: refused, or the bias by the row width.
-use borrow.Author.Needs.{needs}
-use mathlib.Core.Path.{_≡_, refl, ap, _∙_}
-use Prim.Native.Nat.{ℕ, min}
-use native.Mathlib.Omega.{arith}
+use Rattle.meaning_numbers.proofs.Prelude.{needs, _≡_, refl, ap, _∙_, ℕ, min, arith}
 use Rattle.meaning_entries.specs.Build.{lentBuild, buildLines}
 use Rattle.refusals.specs.Refusal.{refusalOf, passes}
-use Rattle.build_plan.proofs.PlanLaws.{Goes, never-0, goes}
-use Rattle.build_plan.proofs.make_plan.Statement.{statement}
+use Rattle.build_plan.proofs.{PlanLaws.Goes, PlanLaws.never-0, PlanLaws.goes, make_plan.Statement.statement}
 use Rattle.build_plan.proofs.make_plan.Tie as tie
 
 -- what refuses

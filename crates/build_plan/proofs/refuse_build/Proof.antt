@@ -1,5 +1,5 @@
 -- `build_plan::refuse_build` meets its contract: each test is a line of the table.
-use borrow.Author.Needs.{needs}
+use Rattle.meaning_numbers.proofs.Prelude.{needs}
 use Rattle.meaning_entries.specs.Refusal.{windowOutside, widthOutside, mergeOutside}
 use Rattle.refusals.proofs.RefusalLaws.{line-before, series-before}
 use Rattle.build_plan.proofs.refuse_build.Statement.{statement}

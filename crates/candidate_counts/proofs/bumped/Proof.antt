@@ -1,6 +1,5 @@
 -- `candidate_counts::bumped` meets its contract.
-use borrow.Author.Needs.{needs}
-use borrow.Author.Tests.{eq-eqb, ne-eqb}
+use Rattle.meaning_numbers.proofs.Prelude.{needs, eq-eqb, ne-eqb}
 use Rattle.candidate_counts.specs.Raise.{bump}
 use Rattle.candidate_counts.proofs.bumped.Statement.{statement}
 use Rattle.candidate_counts.proofs.bumped.Tie as tie

@@ -1,9 +1,8 @@
 -- `candidate_counts::collect` meets its contract: the runs written, cleared behind (`handed`).
-use borrow.Author.Needs.{needs}
+use Rattle.meaning_numbers.proofs.Prelude.{needs}
 use Rattle.meaning_entries.specs.Buffers.{filled}
 use Rattle.clear.specs.Clear.{clearedFrom}
-use Rattle.candidate_counts.proofs.Handed.{handed}
-use Rattle.candidate_counts.proofs.collect.Statement.{statement}
+use Rattle.candidate_counts.proofs.{Handed.handed, collect.Statement.statement}
 use Rattle.candidate_counts.proofs.collect.Tie as tie
 
 abbrev start : tie.After-write-runs → tie.Start

@@ -1,11 +1,8 @@
 -- `candidate_counts::count_at` meets its contract. The invariant: the count so far.
-use mathlib.Core.Path.{_≡_, sym}
-use mathlib.Core.Bool.{Bool}
-use Prim.Native.Nat.{ℕ, _+_, _-_, _≤_}
-use native.Mathlib.Omega.{arith}
 use mir.Val.{boolByte}
 use Rattle.meaning_numbers.specs.Sum.{count}
 use Rattle.meaning_numbers.proofs.Count.{flag-bit, count-none, count-more, count-le}
+use Rattle.meaning_numbers.proofs.Prelude.{_≡_, sym, Bool, ℕ, _+_, _-_, _≤_, arith}
 use Rattle.candidate_counts.specs.Handed.{stood}
 use Rattle.candidate_counts.proofs.count_at.Statement.{statement}
 use Rattle.candidate_counts.proofs.count_at.Tie as tie

@@ -1,11 +1,7 @@
 -- `candidate_counts::put` meets its contract.
-use borrow.Author.Needs.{needs}
-use borrow.Author.Tests.{not-true, not-false}
-use mathlib.Core.Path.{_≡_, refl}
-use mathlib.Core.Bool.{true, not, _&&_}
-use native.Mathlib.Omega.{arith}
 use Rattle.meaning_numbers.specs.Sum.{bit}
 use Rattle.meaning_numbers.proofs.Count.{bit-true}
+use Rattle.meaning_numbers.proofs.Prelude.{needs, not-true, not-false, _≡_, refl, true, not, _&&_, arith}
 use Rattle.meaning_rows.proofs.Columns.{putLeft, putRight}
 use Rattle.candidate_counts.proofs.put.Statement.{statement}
 use Rattle.candidate_counts.proofs.put.Tie as tie

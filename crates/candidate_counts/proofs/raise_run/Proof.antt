@@ -1,10 +1,7 @@
 -- `candidate_counts::raise_run` meets its contract. The invariant: the places passed are raised (`raise-more`).
-use Prim.Native.Nat.{_-_, _<_, _≤_, max}
-use native.Mathlib.Omega.{arith}
-use lib.ListN.{length}
+use Rattle.meaning_numbers.proofs.Prelude.{_-_, _<_, _≤_, max, arith, length}
 use Rattle.candidate_counts.specs.Raise.{between, Raised}
-use Rattle.candidate_counts.proofs.Raise.{raise-starts, raise-more, raise-ends}
-use Rattle.candidate_counts.proofs.raise_run.Statement.{statement}
+use Rattle.candidate_counts.proofs.{Raise.raise-starts, Raise.raise-more, Raise.raise-ends, raise_run.Statement.statement}
 use Rattle.candidate_counts.proofs.raise_run.Tie as tie
 
 abbrev Inv-loop : tie.InvT-loop

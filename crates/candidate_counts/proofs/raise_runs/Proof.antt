@@ -1,11 +1,8 @@
 -- `candidate_counts::raise_runs` meets its contract. The invariant: raising by the runs that are left gives what is to be had (`going-next`).
-use Prim.Native.Nat.{_-_, _<_, _+_}
-use native.Mathlib.Omega.{arith}
-use lib.ListN.{length, getD}
+use Rattle.meaning_numbers.proofs.Prelude.{_-_, _<_, _+_, arith, length, getD}
 use Rattle.rows_judge.proofs.Scan.{part as partOf, part-next, part-none}
 use Rattle.candidate_counts.specs.Raise.{between, Raised}
-use Rattle.candidate_counts.proofs.Raise.{Going, going-starts, going-next, going-ends}
-use Rattle.candidate_counts.proofs.raise_runs.Statement.{statement}
+use Rattle.candidate_counts.proofs.{Raise.Going, Raise.going-starts, Raise.going-next, Raise.going-ends, raise_runs.Statement.statement}
 use Rattle.candidate_counts.proofs.raise_runs.Tie as tie
 
 abbrev Inv-loop : tie.InvT-loop

@@ -1,9 +1,7 @@
 -- `candidate_counts::take_block` meets its contract: a block of which none stands is passed over (`took-none`).
-use borrow.Author.Needs.{needs}
-use native.Mathlib.Omega.{arith}
+use Rattle.meaning_numbers.proofs.Prelude.{needs, arith}
 use Rattle.candidate_counts.specs.Handed.{stood}
-use Rattle.candidate_counts.proofs.Take.{took-none}
-use Rattle.candidate_counts.proofs.take_block.Statement.{statement}
+use Rattle.candidate_counts.proofs.{Take.took-none, take_block.Statement.statement}
 use Rattle.candidate_counts.proofs.take_block.Tie as tie
 
 returns : tie.Need-returns

@@ -1,13 +1,8 @@
 -- `candidate_counts::take_each` meets its contract. The invariant: the offsets passed are taken in (`taking-next`).
-use mathlib.Core.Path.{_≡_, refl}
-use mathlib.Core.Bool.{Bool, not, _&&_}
-use Prim.Native.Nat.{_+_, _-_, _<_, _≤_}
-use native.Mathlib.Omega.{arith}
-use lib.ListN.{length}
 use Rattle.meaning_numbers.proofs.Count.{flag-bit, bit-le}
+use Rattle.meaning_numbers.proofs.Prelude.{_≡_, refl, Bool, not, _&&_, _+_, _-_, _<_, _≤_, arith, length}
 use Rattle.candidate_counts.specs.Handed.{stood}
-use Rattle.candidate_counts.proofs.Take.{Taking, taking-starts, taking-next}
-use Rattle.candidate_counts.proofs.take_each.Statement.{statement}
+use Rattle.candidate_counts.proofs.{Take.Taking, Take.taking-starts, Take.taking-next, take_each.Statement.statement}
 use Rattle.candidate_counts.proofs.take_each.Tie as tie
 
 abbrev Inv-loop : tie.InvT-loop

@@ -1,18 +1,10 @@
 -- `candidate_counts::write_runs` meets its contract. The invariant: the runs of the offsets passed stand at the front, and so many were found; a block takes it on (`Took`).
-use mathlib.Core.Path.{_≡_, sym, ap}
-use mathlib.Core.Bool.{Bool}
-use mathlib.Core.List.{List}
-use Prim.Native.Nat.{ℕ, _+_, _-_, _≤_}
-use native.Mathlib.Omega.{arith}
 use Rattle.meaning_numbers.specs.Sum.{bit, count}
 use Rattle.meaning_numbers.proofs.Count.{count-none, count-le}
-use Rattle.meaning_rows.proofs.Runs.{runs-le, before-some}
-use Rattle.meaning_rows.proofs.Columns.{Filling, filling-starts, filling-left, filling-right}
-use Rattle.candidate_counts.specs.declared.Found.{Found}
-use Rattle.candidate_counts.specs.Handed.{stood, Columns}
-use Rattle.candidate_counts.specs.Take.{TakeReady, Took}
-use Rattle.candidate_counts.proofs.Handed.{left-long, right-long}
-use Rattle.candidate_counts.proofs.write_runs.Statement.{statement}
+use Rattle.meaning_numbers.proofs.Prelude.{_≡_, sym, ap, Bool, List, ℕ, _+_, _-_, _≤_, arith}
+use Rattle.meaning_rows.proofs.{Runs.runs-le, Runs.before-some, Columns.Filling, Columns.filling-starts, Columns.filling-left, Columns.filling-right}
+use Rattle.candidate_counts.specs.{declared.Found.Found, Handed.stood, Handed.Columns, Take.TakeReady, Take.Took}
+use Rattle.candidate_counts.proofs.{Handed.left-long, Handed.right-long, write_runs.Statement.statement}
 use Rattle.candidate_counts.proofs.write_runs.Tie as tie
 
 abbrev Inv-loop : tie.InvT-loop

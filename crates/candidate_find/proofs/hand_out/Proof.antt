@@ -1,8 +1,8 @@
 -- `candidate_find::hand_out` meets its contract: the counts are raised, and the candidates collected.
 use borrow.Author.Needs.{needs}
-use native.Mathlib.Omega.{arith}
-use mathlib.Core.Path.{_≡_, ap, _∙_}
 use lib.ListN.{length}
+use mathlib.Core.Path.{_≡_, ap, _∙_}
+use native.Mathlib.Omega.{arith}
 use Rattle.meaning_entries.specs.Buffers.{filled}
 use Rattle.clear.specs.Clear.{clearedFrom}
 use Rattle.candidate_met.proofs.Meaning.{cleared-same}

@@ -1,10 +1,5 @@
 -- `candidate_met::clamp` meets its contract, by the two tests.
-use lib.IntN.{pos, negsuc}
-use lib.Signed.{_≤ℤ_, _<ℤ_}
-use mir.Syntax.{w32, w64}
-use mir.Val.{SFits}
-use mir.ValLaws.{toZ-ofZ}
-use Rattle.meaning_numbers.proofs.Machine.{zmach, lt-ltZ, le-ltZ, to-sfits32}
+use Rattle.meaning_numbers.proofs.Prelude.{pos, negsuc, _≤ℤ_, _<ℤ_, w32, w64, SFits, toZ-ofZ, zmach, lt-ltZ, le-ltZ, to-sfits32}
 use Rattle.candidate_met.specs.Met.{clampOf}
 use Rattle.candidate_met.proofs.clamp.Statement.{statement}
 use Rattle.candidate_met.proofs.clamp.Tie as tie

@@ -1,8 +1,5 @@
 -- `candidate_met::end_of` meets its contract.
-use borrow.Author.Needs.{needs}
-use mathlib.Core.Path.{refl}
-use native.Mathlib.Omega.{arith}
-use borrow.Author.Tests.{eq-eqb, ne-eqb}
+use Rattle.meaning_numbers.proofs.Prelude.{needs, refl, arith, eq-eqb, ne-eqb}
 use Rattle.candidate_met.proofs.end_of.Statement.{statement}
 use Rattle.candidate_met.proofs.end_of.Tie as tie
 

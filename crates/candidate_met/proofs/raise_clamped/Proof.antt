@@ -1,15 +1,8 @@
 -- `candidate_met::raise_clamped` meets its contract (`clamp-in`).
-use borrow.Author.Needs.{needs}
-use mathlib.Core.Path.{_≡_, sym, ap, _∙_, subst}
-use lib.IntN.{ℤ, pos, negsuc, natAbs, _+ℤ_}
-use mir.Syntax.{w32, w64}
-use mir.Val.{toZ, ofZ}
-use mir.ValLaws.{toZ-ofZ}
 use Rattle.meaning_numbers.proofs.Between.{Between}
-use Rattle.candidate_met.specs.Met.{clampOf}
-use Rattle.candidate_met.specs.Stored.{raisedEnd}
-use Rattle.candidate_met.proofs.Stored.{clamp-in}
-use Rattle.candidate_met.proofs.raise_clamped.Statement.{statement}
+use Rattle.meaning_numbers.proofs.Prelude.{needs, _≡_, sym, ap, _∙_, subst, ℤ, pos, negsuc, natAbs, _+ℤ_, w32, w64, toZ, ofZ, toZ-ofZ}
+use Rattle.candidate_met.specs.{Met.clampOf, Stored.raisedEnd}
+use Rattle.candidate_met.proofs.{Stored.clamp-in, raise_clamped.Statement.statement}
 use Rattle.candidate_met.proofs.raise_clamped.Tie as tie
 
 -- the clamped end, passed on

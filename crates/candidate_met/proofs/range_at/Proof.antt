@@ -1,13 +1,5 @@
 -- `candidate_met::range_at` meets its contract.
-use borrow.Author.Needs.{needs}
-use mathlib.Core.Path.{_≡_, sym, _∙_, subst}
-use Prim.Native.Nat.{ℕ, _≤_}
-use native.Mathlib.Omega.{arith}
-use lib.IntN.{ℤ, pos, _-ℤ_}
-use lib.ListN.{getD}
-use mir.Syntax.{w32}
-use mir.Val.{toZ, ofZ}
-use mir.ValLaws.{toZ-ofZ}
+use Rattle.meaning_numbers.proofs.Prelude.{needs, _≡_, sym, _∙_, subst, ℕ, _≤_, arith, ℤ, pos, _-ℤ_, getD, w32, toZ, ofZ, toZ-ofZ}
 use Rattle.numbers.specs.Small.{Small}
 use Rattle.numbers.proofs.Small.{small-pos, small-sub, small-more, small-fits, small-back}
 use Rattle.candidate_met.proofs.range_at.Statement.{statement}

@@ -1,11 +1,5 @@
 -- `candidate_met::reached_runs` meets its contract.
-use borrow.Author.Needs.{needs}
-use mathlib.Core.Path.{_≡_, refl, sym, _∙_}
-use native.Mathlib.Omega.{arith}
-use lib.Signed.{leZ}
-use mir.Syntax.{w32}
-use mir.Val.{toZ, ofZ}
-use mir.ValLaws.{toZ-ofZ}
+use Rattle.meaning_numbers.proofs.Prelude.{needs, _≡_, refl, sym, _∙_, arith, leZ, w32, toZ, ofZ, toZ-ofZ}
 use Rattle.candidate_met.proofs.reached_runs.Statement.{statement}
 use Rattle.candidate_met.proofs.reached_runs.Tie as tie
 

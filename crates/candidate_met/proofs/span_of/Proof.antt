@@ -1,9 +1,5 @@
 -- `candidate_met::span_of` meets its contract.
-use borrow.Author.Needs.{needs}
-use borrow.Author.Tests.{lt-ltb, le-ltb}
-use native.Mathlib.Omega.{arith}
-use mir.Syntax.{w32}
-use mir.ValLaws.{toZ-ofZ}
+use Rattle.meaning_numbers.proofs.Prelude.{needs, lt-ltb, le-ltb, arith, w32, toZ-ofZ}
 use Rattle.candidate_met.specs.Met.{spanOf}
 use Rattle.candidate_met.proofs.span_of.Statement.{statement}
 use Rattle.candidate_met.proofs.span_of.Tie as tie

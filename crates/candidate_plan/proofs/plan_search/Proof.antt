@@ -1,14 +1,10 @@
 -- `candidate_plan::plan_search` meets its contract: the input, then the state.
-use borrow.Author.Needs.{needs}
-use mathlib.Core.Path.{ap, _∙_}
-use mathlib.Core.List.{List}
-use Prim.Native.Nat.{ℕ, min}
+use Rattle.meaning_numbers.proofs.Prelude.{needs, ap, _∙_, List, ℕ, min}
 use Rattle.meaning_entries.specs.Refusal.{Condition}
 use Rattle.refusals.specs.Refusal.{refusalOf, passes}
 use Rattle.refusals.proofs.RefusalLaws.{part-refuses, part-passes}
 use Rattle.candidate_plan.specs.Tables.{inputTable, stateTable, planOf}
-use Rattle.candidate_plan.proofs.Cases.{input-lacks}
-use Rattle.candidate_plan.proofs.plan_search.Statement.{statement}
+use Rattle.candidate_plan.proofs.{Cases.input-lacks, plan_search.Statement.statement}
 use Rattle.candidate_plan.proofs.plan_search.Tie as tie
 
 -- the parts of the table

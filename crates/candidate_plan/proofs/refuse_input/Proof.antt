@@ -1,13 +1,11 @@
 -- `candidate_plan::refuse_input` meets its contract, one part of the table after the other.
-use borrow.Author.Needs.{needs}
-use mathlib.Core.List.{List, [], _∷_, _++_}
+use Rattle.meaning_numbers.proofs.Prelude.{needs, List, [], _∷_, _++_}
 use Rattle.meaning_entries.specs.Refusal.{Condition, flatQuery}
 use Rattle.meaning_entries.proofs.Refusal.{AllPass}
 use Rattle.refusals.specs.Refusal.{passes}
 use Rattle.refusals.proofs.RefusalLaws.{line-before, part-refuses, part-passes}
 use Rattle.candidate_plan.specs.Tables.{valuesTable, numbersTable, inputTable}
-use Rattle.candidate_plan.proofs.Cases.{values-lack, numbers-lack, values-in, query-few}
-use Rattle.candidate_plan.proofs.refuse_input.Statement.{statement}
+use Rattle.candidate_plan.proofs.{Cases.values-lack, Cases.numbers-lack, Cases.values-in, Cases.query-few, refuse_input.Statement.statement}
 use Rattle.candidate_plan.proofs.refuse_input.Tie as tie
 
 -- the parts of the table

@@ -1,5 +1,5 @@
 -- `candidate_plan::refuse_numbers` meets its contract: each test is a line of the table (`line-before`).
-use borrow.Author.Needs.{needs}
+use Rattle.meaning_numbers.proofs.Prelude.{needs}
 use Rattle.meaning_entries.specs.Refusal.{queryLengthOutside, queryBelowWindow, bandOutside, thresholdOutside, scaleOrShiftOutside}
 use Rattle.refusals.proofs.RefusalLaws.{line-before}
 use Rattle.candidate_plan.specs.Tables.{numbersTable}

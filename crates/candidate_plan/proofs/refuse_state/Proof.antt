@@ -1,5 +1,5 @@
 -- `candidate_plan::refuse_state` meets its contract: what judging said, then the windows (`place-before`).
-use borrow.Author.Needs.{needs}
+use Rattle.meaning_numbers.proofs.Prelude.{needs}
 use Rattle.refusals.specs.Refusal.{judgedLine}
 use Rattle.refusals.proofs.RefusalLaws.{place-before}
 use Rattle.candidate_plan.specs.Tables.{stateTable}

@@ -1,5 +1,5 @@
 -- `candidate_plan::refuse_values` meets its contract: the series, then the query (`series-before`, `place-before`).
-use borrow.Author.Needs.{needs}
+use Rattle.meaning_numbers.proofs.Prelude.{needs}
 use Rattle.meaning_entries.specs.Refusal.{valueOutside}
 use Rattle.refusals.proofs.RefusalLaws.{place-before, series-before}
 use Rattle.candidate_plan.specs.Tables.{valuesTable}

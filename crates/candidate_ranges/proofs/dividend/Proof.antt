@@ -1,17 +1,9 @@
 -- `candidate_ranges::dividend` meets its contract: each step is small (`scaled-small`), so what the callees say of the machine's bits they say of the numbers.
-use borrow.Author.Needs.{needs}
-use mathlib.Core.Path.{_≡_, _∙_}
-use native.Mathlib.Omega.{arith}
-use lib.IntN.{ℤ, _*ℤ_}
-use mir.Syntax.{w64}
-use mir.Val.{toZ, ofZ}
-use mir.ValLaws.{toZ-ofZ}
-use Rattle.distance_envelope.specs.Best.{pick}
+use Rattle.meaning_numbers.proofs.Prelude.{needs, _≡_, _∙_, arith, ℤ, _*ℤ_, w64, toZ, ofZ, toZ-ofZ}
 use Rattle.numbers.specs.Small.{Small}
 use Rattle.numbers.proofs.Small.{small-more, small-back, arg-back}
-use Rattle.candidate_ranges.proofs.Sizes.{small-pick}
-use Rattle.candidate_ranges.proofs.Sizes.{scaled-small}
-use Rattle.candidate_ranges.proofs.dividend.Statement.{statement}
+use Rattle.distance_envelope.specs.Best.{pick}
+use Rattle.candidate_ranges.proofs.{Sizes.small-pick, Sizes.scaled-small, dividend.Statement.statement}
 use Rattle.candidate_ranges.proofs.dividend.Tie as tie
 
 -- a number and a scale, passed on to be multiplied

@@ -1,6 +1,5 @@
 -- `candidate_ranges::frame_of` meets its contract.
-use borrow.Author.Needs.{needs}
-use mathlib.Core.Path.{_≡_}
+use Rattle.meaning_numbers.proofs.Prelude.{needs, _≡_}
 use Rattle.meaning_filter.specs.declared.Kind.the-variants.{Raw, Normal}
 use Rattle.candidate_ranges.specs.Frame.{frameOf}
 use Rattle.candidate_ranges.proofs.frame_of.Statement.{statement}

@@ -1,14 +1,8 @@
 -- `candidate_ranges::high_end` meets its contract: what is divided is small, so what the callees say of the machine's bits they say of the numbers (`dividend-back`).
-use borrow.Author.Needs.{needs}
-use mathlib.Core.Path.{_∙_}
-use mathlib.Core.Bool.{false}
-use lib.IntN.{_+ℤ_}
-use mir.Syntax.{w64}
-use mir.ValLaws.{toZ-ofZ}
+use Rattle.meaning_numbers.proofs.Prelude.{needs, _∙_, false, _+ℤ_, w64, toZ-ofZ}
 use Rattle.numbers.proofs.Small.{small-add}
 use Rattle.candidate_ranges.specs.Frame.{highEnd}
-use Rattle.candidate_ranges.proofs.Sizes.{operands, asks-dividend, dividend-back}
-use Rattle.candidate_ranges.proofs.high_end.Statement.{statement}
+use Rattle.candidate_ranges.proofs.{Sizes.operands, Sizes.asks-dividend, Sizes.dividend-back, high_end.Statement.statement}
 use Rattle.candidate_ranges.proofs.high_end.Tie as tie
 
 dividend-requires : tie.Need-dividend-requires

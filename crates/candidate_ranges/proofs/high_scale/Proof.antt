@@ -1,10 +1,7 @@
 -- `candidate_ranges::high_scale` meets its contract.
-use borrow.Author.Needs.{needs}
-use native.Mathlib.Omega.{arith}
-use Prim.Native.Nat.{_+_, _≤_}
+use Rattle.meaning_numbers.proofs.Prelude.{needs, arith, _+_, _≤_}
 use Rattle.numbers.proofs.Small.{small-pos, small-fits, cast-back}
-use Rattle.candidate_ranges.proofs.Sizes.{square-le, scaled-le, high-scale-le}
-use Rattle.candidate_ranges.proofs.high_scale.Statement.{statement}
+use Rattle.candidate_ranges.proofs.{Sizes.square-le, Sizes.scaled-le, Sizes.high-scale-le, high_scale.Statement.statement}
 use Rattle.candidate_ranges.proofs.high_scale.Tie as tie
 
 small : (c : tie.After-root) → c .root .result + 1 ≤ 204800001

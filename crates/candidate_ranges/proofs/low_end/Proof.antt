@@ -1,14 +1,8 @@
 -- `candidate_ranges::low_end` meets its contract: what is divided is small, so what the callees say of the machine's bits they say of the numbers (`dividend-back`).
-use mathlib.Core.Path.{_∙_}
-use mathlib.Core.Bool.{true}
-use native.Mathlib.Omega.{arith}
-use lib.IntN.{_-ℤ_}
-use mir.Syntax.{w64}
-use mir.ValLaws.{toZ-ofZ}
+use Rattle.meaning_numbers.proofs.Prelude.{_∙_, true, arith, _-ℤ_, w64, toZ-ofZ}
 use Rattle.numbers.proofs.Small.{small-more, arg-back, small-sub}
 use Rattle.candidate_ranges.specs.Frame.{lowEnd}
-use Rattle.candidate_ranges.proofs.Sizes.{operands, asks-dividend, dividend-small, dividend-back}
-use Rattle.candidate_ranges.proofs.low_end.Statement.{statement}
+use Rattle.candidate_ranges.proofs.{Sizes.operands, Sizes.asks-dividend, Sizes.dividend-small, Sizes.dividend-back, low_end.Statement.statement}
 use Rattle.candidate_ranges.proofs.low_end.Tie as tie
 
 dividend-requires : tie.Need-dividend-requires

@@ -1,11 +1,7 @@
 -- `candidate_ranges::low_scale` meets its contract.
-use borrow.Author.Needs.{needs}
-use native.Mathlib.Omega.{arith}
-use native.Mathlib.Nat.{mul-pos}
-use Prim.Native.Nat.{_≤_}
+use Rattle.meaning_numbers.proofs.Prelude.{needs, arith, mul-pos, _≤_}
 use Rattle.numbers.proofs.Small.{small-pos, small-fits, cast-back}
-use Rattle.candidate_ranges.proofs.Sizes.{square-le, low-scale-le}
-use Rattle.candidate_ranges.proofs.low_scale.Statement.{statement}
+use Rattle.candidate_ranges.proofs.{Sizes.square-le, Sizes.low-scale-le, low_scale.Statement.statement}
 use Rattle.candidate_ranges.proofs.low_scale.Tie as tie
 
 small : (c : tie.After-root) → c .root .result ≤ 204800000

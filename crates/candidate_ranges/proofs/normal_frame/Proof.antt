@@ -1,16 +1,8 @@
 -- `candidate_ranges::normal_frame` meets its contract: each step is small, so what the callees say of the machine's bits they say of the numbers.
-use borrow.Author.Needs.{needs}
-use mathlib.Core.Path.{_≡_, _∙_}
-use Prim.Native.Nat.{_+_, _*_, _≤_}
-use native.Mathlib.Omega.{arith}
-use lib.IntN.{ℤ, pos, _+ℤ_, _-ℤ_, _*ℤ_}
-use mir.Syntax.{w64}
-use mir.Val.{toZ, ofZ}
-use mir.ValLaws.{toZ-ofZ}
+use Rattle.meaning_numbers.proofs.Prelude.{needs, _≡_, _∙_, _+_, _*_, _≤_, arith, ℤ, pos, _+ℤ_, _-ℤ_, _*ℤ_, w64, toZ, ofZ, toZ-ofZ}
 use Rattle.numbers.specs.Small.{Small}
 use Rattle.numbers.proofs.Small.{small-pos, small-more, small-fits, small-back, arg-back, cast-back, cast-small}
-use Rattle.candidate_ranges.proofs.Sizes.{product-le, reach-le, most-le, total-small, below-small, above-small}
-use Rattle.candidate_ranges.proofs.normal_frame.Statement.{statement}
+use Rattle.candidate_ranges.proofs.{Sizes.product-le, Sizes.reach-le, Sizes.most-le, Sizes.total-small, Sizes.below-small, Sizes.above-small, normal_frame.Statement.statement}
 use Rattle.candidate_ranges.proofs.normal_frame.Tie as tie
 
 module _ (o : tie.Start) where

@@ -1,18 +1,10 @@
 -- `candidate_ranges::part_range` meets its contract: the sums of w values are small.
-use borrow.Author.Needs.{needs}
-use mathlib.Core.Path.{_≡_, _∙_, sym, subst}
-use mathlib.Core.List.{List}
-use Prim.Native.Nat.{ℕ, _*_, _≤_}
-use native.Mathlib.Omega.{arith}
-use lib.IntN.{ℤ}
-use mir.Syntax.{w32, w64}
-use mir.Val.{toZ, ofZ}
-use mir.ValLaws.{toZ-ofZ}
+use Rattle.meaning_numbers.proofs.Prelude.{needs, _≡_, _∙_, sym, subst, List, ℕ, _*_, _≤_, arith, ℤ, w32, w64, toZ, ofZ, toZ-ofZ}
 use Rattle.meaning_curves.specs.Curve.{windowSum}
 use Rattle.meaning_curves.proofs.Values.{AllIn}
-use Rattle.values.proofs.Window.{window-small}
 use Rattle.numbers.specs.Small.{Small}
 use Rattle.numbers.proofs.Small.{one-side, small-more, small-fits, small-back}
+use Rattle.values.proofs.Window.{window-small}
 use Rattle.candidate_ranges.proofs.part_range.Statement.{statement}
 use Rattle.candidate_ranges.proofs.part_range.Tie as tie
 

@@ -1,8 +1,5 @@
 -- `candidate_ranges::pick_of` meets its contract, by the flag.
-use borrow.Author.Needs.{needs}
-use mathlib.Core.Path.{refl, _∙_}
-use mir.Syntax.{w64}
-use mir.ValLaws.{toZ-ofZ}
+use Rattle.meaning_numbers.proofs.Prelude.{needs, refl, _∙_, w64, toZ-ofZ}
 use Rattle.candidate_ranges.proofs.pick_of.Statement.{statement}
 use Rattle.candidate_ranges.proofs.pick_of.Tie as tie
 

@@ -1,10 +1,7 @@
 -- `candidate_ranges::raw_frame` meets its contract.
-use borrow.Author.Needs.{needs}
-use native.Mathlib.Omega.{arith}
-use Prim.Native.Nat.{_≤_}
+use Rattle.meaning_numbers.proofs.Prelude.{needs, arith, _≤_}
 use Rattle.numbers.proofs.Small.{small-pos, small-fits, cast-back}
-use Rattle.candidate_ranges.proofs.Sizes.{product-le, reach-le}
-use Rattle.candidate_ranges.proofs.raw_frame.Statement.{statement}
+use Rattle.candidate_ranges.proofs.{Sizes.product-le, Sizes.reach-le, raw_frame.Statement.statement}
 use Rattle.candidate_ranges.proofs.raw_frame.Tie as tie
 
 reach : (c : tie.After-root) → c .root .result ≤ 16000000

@@ -1,17 +1,9 @@
 -- `candidate_spans::put_ends` meets its contract. The invariant: the entries of the parts passed are held (`held-next`); the measure is how many parts are left.
-use borrow.Author.Needs.{needs}
-use mathlib.Core.Path.{_≡_, refl, ap, _∙_}
-use Prim.Native.Nat.{_-_, _≤_}
-use native.Mathlib.Omega.{arith}
-use lib.ListN.{length}
-use mir.Syntax.{w64}
-use mir.ValLaws.{toZ-ofZ}
+use Rattle.meaning_numbers.proofs.Prelude.{needs, _≡_, refl, ap, _∙_, _-_, _≤_, arith, length, w64, toZ-ofZ}
 use Rattle.candidate_ranges.specs.declared.Range.{Range}
-use Rattle.candidate_met.specs.Parts.{partRange}
+use Rattle.candidate_met.specs.{Parts.partRange, Stored.raisedEnd}
 use Rattle.candidate_spans.specs.Held.{PartsHeld, lowEnds, highEnds}
-use Rattle.candidate_met.specs.Stored.{raisedEnd}
-use Rattle.candidate_spans.proofs.Held.{none-held, held-next, part-room}
-use Rattle.candidate_spans.proofs.put_ends.Statement.{statement}
+use Rattle.candidate_spans.proofs.{Held.none-held, Held.held-next, Held.part-room, put_ends.Statement.statement}
 use Rattle.candidate_spans.proofs.put_ends.Tie as tie
 
 abbrev Inv-loop : tie.InvT-loop

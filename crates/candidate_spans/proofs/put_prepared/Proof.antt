@@ -1,7 +1,6 @@
 -- `candidate_spans::put_prepared` meets its contract: the ranges of the parts are those of document 01 (`range-is`).
-use borrow.Author.Needs.{needs}
-use Rattle.candidate_spans.proofs.Query.{query-ready, ends-ready, ranges-held}
-use Rattle.candidate_spans.proofs.put_prepared.Statement.{statement}
+use Rattle.meaning_numbers.proofs.Prelude.{needs}
+use Rattle.candidate_spans.proofs.{Query.query-ready, Query.ends-ready, Query.ranges-held, put_prepared.Statement.statement}
 use Rattle.candidate_spans.proofs.put_prepared.Tie as tie
 
 prepare-requires : tie.Need-prepare-requires

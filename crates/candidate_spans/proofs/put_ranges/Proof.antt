@@ -1,5 +1,5 @@
 -- `candidate_spans::put_ranges` meets its contract.
-use borrow.Author.Needs.{needs}
+use Rattle.meaning_numbers.proofs.Prelude.{needs}
 use Rattle.meaning_curves.proofs.Values.{front-long}
 use Rattle.candidate_spans.proofs.put_ranges.Statement.{statement}
 use Rattle.candidate_spans.proofs.put_ranges.Tie as tie

@@ -1,12 +1,7 @@
 -- `candidate_spans::raise_stretches` meets its contract. The invariant is `CountedBy` over the parts passed (`by-next`); the measure is how many parts are left.
-use mathlib.Core.Path.{_≡_, refl, _∙_}
-use Prim.Native.Nat.{_-_, _*_, _<_, _≤_}
-use native.Mathlib.Omega.{arith}
-use native.Mathlib.Nat.{mul-le-mul}
-use lib.ListN.{length}
+use Rattle.meaning_numbers.proofs.Prelude.{_≡_, refl, _∙_, _-_, _*_, _<_, _≤_, arith, mul-le-mul, length}
 use Rattle.candidate_spans.specs.Raised.{CountedBy, stretchHit}
-use Rattle.candidate_spans.proofs.Raised.{by-starts, by-next}
-use Rattle.candidate_spans.proofs.raise_stretches.Statement.{statement}
+use Rattle.candidate_spans.proofs.{Raised.by-starts, Raised.by-next, raise_stretches.Statement.statement}
 use Rattle.candidate_spans.proofs.raise_stretches.Tie as tie
 
 abbrev Inv-loop : tie.InvT-loop

@@ -1,7 +1,6 @@
 -- `candidate_spans::store_pair` meets its contract (`stored`).
-use borrow.Author.Needs.{needs}
-use Rattle.candidate_spans.proofs.Held.{stored}
-use Rattle.candidate_spans.proofs.store_pair.Statement.{statement}
+use Rattle.meaning_numbers.proofs.Prelude.{needs}
+use Rattle.candidate_spans.proofs.{Held.stored, store_pair.Statement.statement}
 use Rattle.candidate_spans.proofs.store_pair.Tie as tie
 
 returns : tie.Need-returns

@@ -3,8 +3,7 @@ use borrow.Author.Needs.{needs}
 use mathlib.Core.Path.{ap, _∙_}
 use native.Mathlib.Omega.{arith}
 use Rattle.check_answer.specs.Answer.{answerOf}
-use Rattle.check_answer.proofs.AnswerLaws.{answer-all, answer-full}
-use Rattle.check_answer.proofs.answer.Statement.{statement}
+use Rattle.check_answer.proofs.{AnswerLaws.answer-all, AnswerLaws.answer-full, answer.Statement.statement}
 use Rattle.check_answer.proofs.answer.Tie as tie
 
 returns : tie.Need-returns

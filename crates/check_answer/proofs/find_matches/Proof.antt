@@ -1,8 +1,7 @@
 -- `check_answer::find_matches` meets its contract (`answers`).
 use borrow.Author.Needs.{needs}
 use Rattle.meaning_curves.proofs.Values.{front-long}
-use Rattle.check_answer.proofs.AnswerLaws.{answers}
-use Rattle.check_answer.proofs.find_matches.Statement.{statement}
+use Rattle.check_answer.proofs.{AnswerLaws.answers, find_matches.Statement.statement}
 use Rattle.check_answer.proofs.find_matches.Tie as tie
 
 check-prepared-requires : tie.Need-check-prepared-requires

@@ -1,12 +1,7 @@
 -- `check_list::check_each` meets its contract. The invariant is `RunsSoFar`, and that the room keeps its length; the measure is how many runs are left.
-use borrow.Author.Needs.{needs}
-use mathlib.Core.Path.{_≡_, refl, _∙_}
-use Prim.Native.Nat.{_-_, _<_}
-use native.Mathlib.Omega.{arith}
-use lib.ListN.{length}
+use Rattle.meaning_numbers.proofs.Prelude.{needs, _≡_, refl, _∙_, _-_, _<_, arith, length}
 use Rattle.check_list.specs.Found.{asked}
-use Rattle.check_list.proofs.Turn.{RunsSoFar, run-inside, runs-start, runs-next, runs-end}
-use Rattle.check_list.proofs.check_each.Statement.{statement}
+use Rattle.check_list.proofs.{Turn.RunsSoFar, Turn.run-inside, Turn.runs-start, Turn.runs-next, Turn.runs-end, check_each.Statement.statement}
 use Rattle.check_list.proofs.check_each.Tie as tie
 
 abbrev Inv-loop : tie.InvT-loop

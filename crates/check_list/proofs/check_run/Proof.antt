@@ -1,10 +1,6 @@
 -- `check_list::check_run` meets its contract. The invariant is `RunSoFar`, and that the room keeps its length; the measure is how many offsets are left.
-use mathlib.Core.Path.{_≡_, refl, _∙_}
-use Prim.Native.Nat.{ℕ, _+_, _-_, _≤_}
-use native.Mathlib.Omega.{arith}
-use lib.ListN.{length}
-use Rattle.check_list.proofs.Turn.{RunSoFar, run-starts, run-next, run-ends}
-use Rattle.check_list.proofs.check_run.Statement.{statement}
+use Rattle.meaning_numbers.proofs.Prelude.{_≡_, refl, _∙_, ℕ, _+_, _-_, _≤_, arith, length}
+use Rattle.check_list.proofs.{Turn.RunSoFar, Turn.run-starts, Turn.run-next, Turn.run-ends, check_run.Statement.statement}
 use Rattle.check_list.proofs.check_run.Tie as tie
 
 abbrev Inv-loop : tie.InvT-loop

@@ -1,9 +1,7 @@
 -- `check_list::check_runs` meets its contract: the list is filled (`list-filled`).
-use borrow.Author.Needs.{needs}
-use native.Mathlib.Omega.{arith}
-use Rattle.check_list.proofs.Listed.{list-filled}
+use Rattle.meaning_numbers.proofs.Prelude.{needs, arith}
 use Rattle.meaning_curves.proofs.Values.{front-long}
-use Rattle.check_list.proofs.check_runs.Statement.{statement}
+use Rattle.check_list.proofs.{Listed.list-filled, check_runs.Statement.statement}
 use Rattle.check_list.proofs.check_runs.Tie as tie
 
 check-each-requires : tie.Need-check-each-requires

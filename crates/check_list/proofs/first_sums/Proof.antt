@@ -1,7 +1,6 @@
 -- `check_list::first_sums` meets its contract: a raw query asks for no sums (`raw-sums`).
-use borrow.Author.Needs.{needs}
-use Rattle.check_list.proofs.Found.{raw-sums}
-use Rattle.check_list.proofs.first_sums.Statement.{statement}
+use Rattle.meaning_numbers.proofs.Prelude.{needs}
+use Rattle.check_list.proofs.{Found.raw-sums, first_sums.Statement.statement}
 use Rattle.check_list.proofs.first_sums.Tie as tie
 
 pub first-sums-spec : {M : Type 1} → statement M

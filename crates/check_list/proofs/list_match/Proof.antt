@@ -1,8 +1,6 @@
 -- `check_list::list_match` meets its contract, by what the test says.
-use borrow.Author.Needs.{needs}
-use Rattle.check_list.proofs.Found.{no-entries, one-entry}
-use Rattle.check_list.proofs.Listed.{list-none}
-use Rattle.check_list.proofs.list_match.Statement.{statement}
+use Rattle.meaning_numbers.proofs.Prelude.{needs}
+use Rattle.check_list.proofs.{Found.no-entries, Found.one-entry, Listed.list-none, list_match.Statement.statement}
 use Rattle.check_list.proofs.list_match.Tie as tie
 
 returns : tie.Need-returns

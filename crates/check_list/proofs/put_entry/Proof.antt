@@ -1,8 +1,6 @@
 -- `check_list::put_entry` meets its contract (`list-put`, `list-full`).
-use borrow.Author.Needs.{needs}
-use native.Mathlib.Omega.{arith}
-use Rattle.check_list.proofs.Listed.{list-put, list-full}
-use Rattle.check_list.proofs.put_entry.Statement.{statement}
+use Rattle.meaning_numbers.proofs.Prelude.{needs, arith}
+use Rattle.check_list.proofs.{Listed.list-put, Listed.list-full, put_entry.Statement.statement}
 use Rattle.check_list.proofs.put_entry.Tie as tie
 
 returns : tie.Need-returns

@@ -1,8 +1,6 @@
 -- `check_list::slide_sums` meets its contract: a raw query asks for no sums (`raw-sums`), and there is no stretch past the last.
-use borrow.Author.Needs.{needs}
-use native.Mathlib.Omega.{arith}
-use Rattle.check_list.proofs.Found.{raw-sums}
-use Rattle.check_list.proofs.slide_sums.Statement.{statement}
+use Rattle.meaning_numbers.proofs.Prelude.{needs, arith}
+use Rattle.check_list.proofs.{Found.raw-sums, slide_sums.Statement.statement}
 use Rattle.check_list.proofs.slide_sums.Tie as tie
 
 next-sums-requires : tie.Need-next-sums-requires

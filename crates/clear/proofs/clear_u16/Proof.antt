@@ -1,9 +1,8 @@
 -- `clear::clear_u16` meets its contract.
 use Prim.Native.Nat.{_-_}
-use native.Mathlib.Omega.{arith}
 use lib.ListN.{length}
-use Rattle.clear.proofs.Clear.{Clearing, clear-starts, clear-next, clear-ends}
-use Rattle.clear.proofs.clear_u16.Statement.{statement}
+use native.Mathlib.Omega.{arith}
+use Rattle.clear.proofs.{Clear.Clearing, Clear.clear-starts, Clear.clear-next, Clear.clear-ends, clear_u16.Statement.statement}
 use Rattle.clear.proofs.clear_u16.Tie as tie
 
 pub clear-u16-spec : {M : Type 1} → statement M

@@ -1,12 +1,9 @@
 -- `demand::tell` meets its contract: its tests are those of the definition.
 use borrow.Author.Needs.{needs}
 use borrow.Author.Tests.{not-true, not-false}
-use mathlib.Core.Path.{_≡_, refl, sym, _∙_}
 use mathlib.Core.Bool.{true, false}
-use Rattle.meaning_entries.specs.declared.Audited.{Audited}
-use Rattle.meaning_entries.specs.declared.Found.{Found}
-use Rattle.meaning_entries.specs.declared.Both.{Both}
-use Rattle.meaning_entries.specs.Both.{yes, toldFound, told}
+use mathlib.Core.Path.{_≡_, refl, sym, _∙_}
+use Rattle.meaning_entries.specs.{declared.Audited.Audited, declared.Found.Found, declared.Both.Both, Both.yes, Both.toldFound, Both.told}
 use Rattle.demand.proofs.tell.Statement.{statement}
 use Rattle.demand.proofs.tell.Tie as tie
 

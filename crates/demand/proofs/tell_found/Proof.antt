@@ -1,8 +1,7 @@
 -- `demand::tell_found` meets its contract, case by case.
 use borrow.Author.Needs.{needs}
 use mathlib.Core.Path.{sym, ap, _∙_}
-use Rattle.meaning_entries.specs.declared.Found.{Found}
-use Rattle.meaning_entries.specs.Both.{toldFound}
+use Rattle.meaning_entries.specs.{declared.Found.Found, Both.toldFound}
 use Rattle.demand.proofs.tell_found.Statement.{statement}
 use Rattle.demand.proofs.tell_found.Tie as tie
 

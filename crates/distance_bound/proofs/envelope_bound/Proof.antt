@@ -1,12 +1,8 @@
 -- `distance_bound::envelope_bound` meets its contract. The invariant: so much of the sum is made. A block adds its part; left early, the total is a part of the bound (`Made`).
-use mathlib.Core.Path.{_≡_}
-use Prim.Native.Nat.{ℕ, _+_, _*_, _-_, _≤_}
-use native.Mathlib.Omega.{arith}
-use lib.ListN.{length}
 use Rattle.meaning_numbers.specs.Sum.{Σℕ}
+use Rattle.meaning_numbers.proofs.Prelude.{_≡_, ℕ, _+_, _*_, _-_, _≤_, arith, length}
 use Rattle.meaning_curves.specs.Curve.{at, stretch}
-use Rattle.meaning_filter.proofs.Bound.{apart}
-use Rattle.meaning_filter.proofs.Apart.{aparts-le}
+use Rattle.meaning_filter.proofs.{Bound.apart, Apart.aparts-le}
 use Rattle.numbers.proofs.Blocks.{Made, made-none, made-more, made-left, made-whole}
 use Rattle.distance_bound.proofs.envelope_bound.Statement.{statement}
 use Rattle.distance_bound.proofs.envelope_bound.Tie as tie

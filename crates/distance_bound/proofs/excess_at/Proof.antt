@@ -1,10 +1,8 @@
 -- `distance_bound::excess_at` meets its contract.
-use mathlib.Core.Path.{_∙_, ap}
-use native.Mathlib.Omega.{arith}
 use Rattle.meaning_numbers.specs.Sum.{square}
+use Rattle.meaning_numbers.proofs.Prelude.{_∙_, ap, arith}
 use Rattle.numbers.proofs.Back.{in-arg}
-use Rattle.distance_bound.proofs.Excess.{excess-back}
-use Rattle.distance_bound.proofs.excess_at.Statement.{statement}
+use Rattle.distance_bound.proofs.{Excess.excess-back, excess_at.Statement.statement}
 use Rattle.distance_bound.proofs.excess_at.Tie as tie
 
 pub excess-at-spec : {M : Type 1} → statement M

@@ -1,14 +1,6 @@
 -- `distance_bound::outside` meets its contract: the greater of the two differences, and 0 where it is negative.
-use mathlib.Core.Path.{_≡_, ap}
-use mathlib.Core.Logic.{⊎-elim}
-use Prim.Native.Nat.{_≤_}
-use lib.IntN.{ℤ, _-ℤ_}
-use mir.Syntax.{w32}
-use mir.Val.{toZ, ofZ}
-use Rattle.meaning_filter.proofs.Apart.{up-is, excess-small}
-use Rattle.meaning_filter.proofs.Bound.{excess}
-use Rattle.meaning_numbers.proofs.Machine.{z-abs, zmach32}
-use Rattle.meaning_numbers.proofs.Rep.{up, dn, z-sub}
+use Rattle.meaning_numbers.proofs.Prelude.{_≡_, ap, ⊎-elim, _≤_, ℤ, _-ℤ_, w32, toZ, ofZ, z-abs, zmach32, up, dn, z-sub}
+use Rattle.meaning_filter.proofs.{Apart.up-is, Apart.excess-small, Bound.excess}
 use Rattle.distance_bound.proofs.outside.Statement.{statement}
 use Rattle.distance_bound.proofs.outside.Tie as tie
 

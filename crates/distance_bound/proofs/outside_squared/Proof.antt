@@ -1,13 +1,8 @@
 -- `distance_bound::outside_squared` meets its contract.
-use borrow.Author.Needs.{needs}
-use mathlib.Core.Path.{_≡_, refl, _∙_}
-use Prim.Native.Nat.{_*_, _≤_}
-use native.Mathlib.Omega.{arith}
-use Rattle.meaning_filter.proofs.Apart.{excess-sq-le}
-use Rattle.meaning_filter.proofs.Bound.{excess}
+use Rattle.meaning_numbers.proofs.Prelude.{needs, _≡_, refl, _∙_, _*_, _≤_, arith}
+use Rattle.meaning_filter.proofs.{Apart.excess-sq-le, Bound.excess}
 use Rattle.numbers.proofs.Back.{in-arg}
-use Rattle.distance_bound.proofs.Excess.{excess-back}
-use Rattle.distance_bound.proofs.outside_squared.Statement.{statement}
+use Rattle.distance_bound.proofs.{Excess.excess-back, outside_squared.Statement.statement}
 use Rattle.distance_bound.proofs.outside_squared.Tie as tie
 
 -- the excess as the meaning has it

@@ -1,7 +1,6 @@
 -- `distance_envelope::envelope` meets its contract (`passes-edge`).
-use borrow.Author.Needs.{needs}
-use Rattle.distance_envelope.proofs.Pass.{passes-edge}
-use Rattle.distance_envelope.proofs.envelope.Statement.{statement}
+use Rattle.meaning_numbers.proofs.Prelude.{needs}
+use Rattle.distance_envelope.proofs.{Pass.passes-edge, envelope.Statement.statement}
 use Rattle.distance_envelope.proofs.envelope.Tie as tie
 
 returns : tie.Need-returns

@@ -1,16 +1,8 @@
 -- `distance_envelope::pass_ahead` meets its contract. The invariant: the pass is made as far as place i (`AheadTo`).
-use borrow.Author.Needs.{needs}
-use mathlib.Core.Path.{_≡_, refl, _∙_}
-use Prim.Native.Nat.{_+_, _-_, _≤_}
-use native.Mathlib.Omega.{arith}
-use lib.ListN.{length, length-set}
-use mir.Syntax.{w32}
-use mir.Val.{toZ, ofZ}
-use mir.ValLaws.{toZ-ofZ}
+use Rattle.meaning_numbers.proofs.Prelude.{needs, _≡_, refl, _∙_, _+_, _-_, _≤_, arith, length, length-set, w32, toZ, ofZ, toZ-ofZ}
 use Rattle.meaning_curves.specs.Curve.{at}
 use Rattle.distance_envelope.specs.Best.{pick}
-use Rattle.distance_envelope.proofs.Pass.{AheadTo, ahead-start, ahead-next, ahead-end}
-use Rattle.distance_envelope.proofs.pass_ahead.Statement.{statement}
+use Rattle.distance_envelope.proofs.{Pass.AheadTo, Pass.ahead-start, Pass.ahead-next, Pass.ahead-end, pass_ahead.Statement.statement}
 use Rattle.distance_envelope.proofs.pass_ahead.Tie as tie
 
 abbrev Inv-loop : tie.InvT-loop

@@ -1,16 +1,8 @@
 -- `distance_envelope::pass_back` meets its contract. The invariant: the pass is made from the end as far as place i (`BackTo`).
-use borrow.Author.Needs.{needs}
-use mathlib.Core.Path.{_≡_, refl, _∙_}
-use Prim.Native.Nat.{_-_, _≤_, min}
-use native.Mathlib.Omega.{arith}
-use lib.ListN.{length, length-set}
-use mir.Syntax.{w32}
-use mir.Val.{toZ, ofZ}
-use mir.ValLaws.{toZ-ofZ}
+use Rattle.meaning_numbers.proofs.Prelude.{needs, _≡_, refl, _∙_, _-_, _≤_, min, arith, length, length-set, w32, toZ, ofZ, toZ-ofZ}
 use Rattle.meaning_curves.specs.Curve.{at}
 use Rattle.distance_envelope.specs.Best.{pick}
-use Rattle.distance_envelope.proofs.Pass.{BackTo, back-start, back-next, back-end}
-use Rattle.distance_envelope.proofs.pass_back.Statement.{statement}
+use Rattle.distance_envelope.proofs.{Pass.BackTo, Pass.back-start, Pass.back-next, Pass.back-end, pass_back.Statement.statement}
 use Rattle.distance_envelope.proofs.pass_back.Tie as tie
 
 abbrev Inv-loop : tie.InvT-loop

@@ -1,8 +1,5 @@
 -- `distance_envelope::pick` meets its contract, by the flag.
-use borrow.Author.Needs.{needs}
-use mathlib.Core.Path.{refl, _∙_}
-use mir.Syntax.{w32}
-use mir.ValLaws.{toZ-ofZ}
+use Rattle.meaning_numbers.proofs.Prelude.{needs, refl, _∙_, w32, toZ-ofZ}
 use Rattle.distance_envelope.proofs.pick.Statement.{statement}
 use Rattle.distance_envelope.proofs.pick.Tie as tie
 

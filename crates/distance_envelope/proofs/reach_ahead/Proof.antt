@@ -1,11 +1,7 @@
 -- `distance_envelope::reach_ahead` meets its contract. The invariant: each value is the best of n places ahead and itself (`Ahead`).
-use borrow.Author.Needs.{needs}
-use mathlib.Core.Path.{_≡_}
-use Prim.Native.Nat.{_-_, _≤_}
-use native.Mathlib.Omega.{arith}
+use Rattle.meaning_numbers.proofs.Prelude.{needs, _≡_, _-_, _≤_, arith}
 use Rattle.distance_envelope.specs.Pass.{Ahead}
-use Rattle.distance_envelope.proofs.Pass.{ahead-none, ahead-pass}
-use Rattle.distance_envelope.proofs.reach_ahead.Statement.{statement}
+use Rattle.distance_envelope.proofs.{Pass.ahead-none, Pass.ahead-pass, reach_ahead.Statement.statement}
 use Rattle.distance_envelope.proofs.reach_ahead.Tie as tie
 
 abbrev Inv-loop : tie.InvT-loop

@@ -1,11 +1,7 @@
 -- `distance_envelope::reach_back` meets its contract. The invariant: each value is the best of n places back and itself (`Back`).
-use borrow.Author.Needs.{needs}
-use mathlib.Core.Path.{_≡_}
-use Prim.Native.Nat.{_-_, _≤_}
-use native.Mathlib.Omega.{arith}
+use Rattle.meaning_numbers.proofs.Prelude.{needs, _≡_, _-_, _≤_, arith}
 use Rattle.distance_envelope.specs.Pass.{Back}
-use Rattle.distance_envelope.proofs.Pass.{back-none, back-pass}
-use Rattle.distance_envelope.proofs.reach_back.Statement.{statement}
+use Rattle.distance_envelope.proofs.{Pass.back-none, Pass.back-pass, reach_back.Statement.statement}
 use Rattle.distance_envelope.proofs.reach_back.Tie as tie
 
 abbrev Inv-loop : tie.InvT-loop

@@ -1,13 +1,7 @@
 -- `distance_match::alike` meets its contract: one test for each fact of `Alike`.
-use borrow.Author.Needs.{needs}
-use mathlib.Core.Path.{sym}
-use Prim.Native.Nat.{ℕ, _*_, _≤_}
-use native.Mathlib.Nat.{mul-le-mul}
-use native.Mathlib.Omega.{arith}
-use lib.Dec.{leb, leb→le, nleb→lt}
 use Rattle.meaning_numbers.proofs.Root.{sq-le}
-use Rattle.distance_match.proofs.AlikeLaws.{says-no, says-flag}
-use Rattle.distance_match.proofs.alike.Statement.{statement}
+use Rattle.meaning_numbers.proofs.Prelude.{needs, sym, ℕ, _*_, _≤_, mul-le-mul, arith, leb, leb→le, nleb→lt}
+use Rattle.distance_match.proofs.{AlikeLaws.says-no, AlikeLaws.says-flag, alike.Statement.statement}
 use Rattle.distance_match.proofs.alike.Tie as tie
 
 -- nothing wraps

@@ -1,18 +1,12 @@
 -- `distance_match::match_at` meets its contract, by the kind: of a raw query the distance decides (`raw-matched`).
-use borrow.Author.Needs.{needs}
-use mathlib.Core.Path.{_≡_, _∙_, ap}
-use Prim.Native.Nat.{ℕ}
-use lib.IntN.{ℤ}
-use lib.ListN.{length}
+use Rattle.meaning_numbers.proofs.Prelude.{needs, _≡_, _∙_, ap, ℕ, ℤ, length}
 use Rattle.meaning_curves.specs.Curve.{at, stretch}
 use Rattle.meaning_curves.proofs.Same.{distance-same}
 use Rattle.meaning_filter.specs.declared.Kind.the-variants.{Raw, Normal}
 use Rattle.distance_query.specs.Ready.{Ready}
 use Rattle.distance_within.specs.Answer.{nearness}
-use Rattle.distance_match.proofs.Matched.{raw-matched}
 use Rattle.distance_within.proofs.Room.{same-self}
-use Rattle.distance_match.proofs.Shift.{of-kind}
-use Rattle.distance_match.proofs.match_at.Statement.{statement}
+use Rattle.distance_match.proofs.{Matched.raw-matched, Shift.of-kind, match_at.Statement.statement}
 use Rattle.distance_match.proofs.match_at.Tie as tie
 
 -- of a raw query

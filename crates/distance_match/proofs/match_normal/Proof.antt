@@ -1,19 +1,11 @@
 -- `distance_match::match_normal` meets its contract: where a cheap test fails the stretch does not match (`unlike-matched`), else the distance decides (`alike-matched`).
-use borrow.Author.Needs.{needs}
-use borrow.Author.Tests.{not-true, not-false}
-use mathlib.Core.Path.{_≡_, _∙_, ap}
-use Prim.Native.Nat.{ℕ, _≤_}
-use lib.IntN.{ℤ, pos, _-ℤ_, natAbs}
-use lib.ListN.{length}
-use Rattle.meaning_curves.specs.Curve.{at, stretch, total, spread}
-use Rattle.meaning_curves.specs.Normal.{normalised}
+use Rattle.meaning_numbers.proofs.Prelude.{needs, not-true, not-false, _≡_, _∙_, ap, ℕ, _≤_, ℤ, pos, _-ℤ_, natAbs, length}
+use Rattle.meaning_curves.specs.{Curve.at, Curve.stretch, Curve.total, Curve.spread, Normal.normalised}
 use Rattle.meaning_curves.proofs.Same.{distance-same}
 use Rattle.values.proofs.SumsLaws.{spread-bound}
 use Rattle.distance_within.specs.Answer.{nearness}
-use Rattle.distance_match.proofs.AlikeLaws.{alike-matched, unlike-matched}
 use Rattle.distance_within.proofs.Room.{same-self}
-use Rattle.distance_match.proofs.Shift.{shift-raised, spread-limit}
-use Rattle.distance_match.proofs.match_normal.Statement.{statement}
+use Rattle.distance_match.proofs.{AlikeLaws.alike-matched, AlikeLaws.unlike-matched, Shift.shift-raised, Shift.spread-limit, match_normal.Statement.statement}
 use Rattle.distance_match.proofs.match_normal.Tie as tie
 
 module _ (c : tie.After-spread-of) where

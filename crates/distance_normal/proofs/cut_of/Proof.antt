@@ -1,10 +1,6 @@
 -- `distance_normal::cut_of` meets its contract: the estimate or one more (`estimate`, `cut-flag`).
-use borrow.Author.Needs.{needs}
-use Prim.Native.Nat.{ℕ, _+_, _*_, _/_}
-use native.Mathlib.Omega.{arith}
-use lib.Dec.{leb}
-use Rattle.distance_normal.proofs.Normal.{Estimate, estimate, product-le, cut-flag, flag-le}
-use Rattle.distance_normal.proofs.cut_of.Statement.{statement}
+use Rattle.meaning_numbers.proofs.Prelude.{needs, ℕ, _+_, _*_, _/_, arith, leb}
+use Rattle.distance_normal.proofs.{Normal.Estimate, Normal.estimate, Normal.product-le, Normal.cut-flag, Normal.flag-le, cut_of.Statement.statement}
 use Rattle.distance_normal.proofs.cut_of.Tie as tie
 
 abbrev e : tie.Start → ℕ

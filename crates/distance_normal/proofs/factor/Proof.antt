@@ -1,7 +1,6 @@
 -- `distance_normal::factor` meets its contract.
-use borrow.Author.Needs.{needs}
-use Rattle.distance_normal.proofs.Normal.{factor-is}
-use Rattle.distance_normal.proofs.factor.Statement.{statement}
+use Rattle.meaning_numbers.proofs.Prelude.{needs}
+use Rattle.distance_normal.proofs.{Normal.factor-is, factor.Statement.statement}
 use Rattle.distance_normal.proofs.factor.Tie as tie
 
 pub factor-spec : {M : Type 1} → statement M

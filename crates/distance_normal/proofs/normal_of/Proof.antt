@@ -1,17 +1,6 @@
 -- `distance_normal::normal_of` meets its contract.
-use borrow.Author.Needs.{needs}
-use mathlib.Core.Path.{_≡_, _∙_}
-use mathlib.Core.Logic.{⊎-elim}
-use Prim.Native.Nat.{_+_, _-_, _≤_}
-use native.Mathlib.Omega.{arith}
-use lib.IntN.{pos, negℤ, _-ℤ_}
-use mir.Syntax.{w32}
-use mir.Val.{toZ}
-use mir.ValLaws.{toZ-ofZ, toZ-pos}
-use Rattle.distance_normal.proofs.Normal.{cut-small, normal-up, normal-down, diff}
-use Rattle.meaning_numbers.proofs.Machine.{zmach32}
-use Rattle.meaning_numbers.proofs.Rep.{z-sub, z-neg, zarith}
-use Rattle.distance_normal.proofs.normal_of.Statement.{statement}
+use Rattle.meaning_numbers.proofs.Prelude.{needs, _≡_, _∙_, ⊎-elim, _+_, _-_, _≤_, arith, pos, negℤ, _-ℤ_, w32, toZ, toZ-ofZ, toZ-pos, zmach32, z-sub, z-neg, zarith}
+use Rattle.distance_normal.proofs.{Normal.cut-small, Normal.normal-up, Normal.normal-down, Normal.diff, normal_of.Statement.statement}
 use Rattle.distance_normal.proofs.normal_of.Tie as tie
 
 size : (c : tie.Joined1) → c .if1 .d ≡ (c .before .args .p - c .before .args .x) + (c .before .args .x - c .before .args .p)

@@ -1,7 +1,5 @@
 -- `distance_normal::normalise` meets its contract: all places are one part.
-use borrow.Author.Needs.{needs}
-use native.Mathlib.Omega.{arith}
-use native.Mathlib.Nat.{zero-add}
+use Rattle.meaning_numbers.proofs.Prelude.{needs, arith, zero-add}
 use Rattle.distance_normal.proofs.normalise.Statement.{statement}
 use Rattle.distance_normal.proofs.normalise.Tie as tie
 

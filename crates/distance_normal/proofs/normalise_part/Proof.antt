@@ -1,23 +1,12 @@
 -- `distance_normal::normalise_part` meets its contract. The invariant: the values so far are normalised, and those before stay.
 use borrow.Author.Count.{below-more}
-use mathlib.Core.Path.{_≡_, refl, _∙_, sym}
-use Prim.Native.Nat.{ℕ, _+_, _*_, _-_, _≤_, _<_}
-use native.Mathlib.Nat.{mul-le-mul}
-use native.Mathlib.Omega.{arith}
-use lib.ListN.{length, getD, length-set}
-use lib.Seq.{getD-set-same, getD-set-other}
-use lib.IntN.{pos}
-use mir.Syntax.{w32}
-use mir.Val.{toZ, ofZ}
-use mir.ValLaws.{toZ-ofZ}
-use Rattle.meaning_curves.specs.Curve.{stretch}
-use Rattle.meaning_curves.specs.Normal.{normalised}
-use Rattle.numbers.proofs.Back.{in-arg, raised-back}
+use Rattle.meaning_numbers.proofs.Prelude.{_≡_, refl, _∙_, sym, ℕ, _+_, _*_, _-_, _≤_, _<_, mul-le-mul, arith, length, getD, length-set, getD-set-same, getD-set-other, pos, w32, toZ, ofZ, toZ-ofZ}
+use Rattle.meaning_curves.specs.{Curve.stretch, Normal.normalised}
 use Rattle.numbers.specs.Raised.{raised, raised-le}
+use Rattle.numbers.proofs.Back.{in-arg, raised-back}
 use Rattle.values.proofs.SumsLaws.{sums-le, spread-bound, centred-raised}
-use Rattle.distance_normal.proofs.Normal.{normalised-is}
 use Rattle.distance_normal.specs.Stretch.{NormalPart}
-use Rattle.distance_normal.proofs.normalise_part.Statement.{statement}
+use Rattle.distance_normal.proofs.{Normal.normalised-is, normalise_part.Statement.statement}
 use Rattle.distance_normal.proofs.normalise_part.Tie as tie
 
 abbrev Inv-loop : tie.InvT-loop

@@ -1,10 +1,7 @@
 -- `distance_query::curve_of` meets its contract, by the kind.
-use borrow.Author.Needs.{needs}
-use mathlib.Core.Path.{_≡_}
-use native.Mathlib.Omega.{arith}
+use Rattle.meaning_numbers.proofs.Prelude.{needs, _≡_, arith}
 use Rattle.meaning_filter.specs.declared.Kind.the-variants.{Raw, Normal}
-use Rattle.distance_query.proofs.Ready.{raw-curve, normal-curve}
-use Rattle.distance_query.proofs.curve_of.Statement.{statement}
+use Rattle.distance_query.proofs.{Ready.raw-curve, Ready.normal-curve, curve_of.Statement.statement}
 use Rattle.distance_query.proofs.curve_of.Tie as tie
 
 raw : (c : tie.After-enum-told) → c .before .before .args .kind ≡ Raw

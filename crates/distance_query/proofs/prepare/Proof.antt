@@ -1,10 +1,7 @@
 -- `distance_query::prepare` meets its contract: what its callees made, over the query's length.
-use borrow.Author.Needs.{needs}
-use mathlib.Core.Path.{_∙_}
-use lib.ListN.{length}
+use Rattle.meaning_numbers.proofs.Prelude.{needs, _∙_, length}
 use Rattle.meaning_curves.proofs.Same.{spread-same}
-use Rattle.distance_query.proofs.Ready.{from-start}
-use Rattle.distance_query.proofs.prepare.Statement.{statement}
+use Rattle.distance_query.proofs.{Ready.from-start, prepare.Statement.statement}
 use Rattle.distance_query.proofs.prepare.Tie as tie
 
 curve-of-requires : tie.Need-curve-of-requires

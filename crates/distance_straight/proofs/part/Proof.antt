@@ -1,12 +1,9 @@
 -- `distance_straight::part` meets its contract. The invariant: the sum so far.
-use mathlib.Core.Path.{_≡_, _∙_}
-use Prim.Native.Nat.{ℕ, _+_, _*_, _-_, _≤_}
-use native.Mathlib.Omega.{arith}
-use Rattle.meaning_curves.proofs.Values.{cost-le}
-use Rattle.meaning_curves.specs.Curve.{at, stretch}
-use Rattle.meaning_curves.specs.Straight.{cost}
-use Rattle.meaning_numbers.proofs.Sum.{Σℕ-none, Σℕ-more}
 use Rattle.meaning_numbers.specs.Sum.{Σℕ}
+use Rattle.meaning_numbers.proofs.Sum.{Σℕ-none, Σℕ-more}
+use Rattle.meaning_numbers.proofs.Prelude.{_≡_, _∙_, ℕ, _+_, _*_, _-_, _≤_, arith}
+use Rattle.meaning_curves.specs.{Curve.at, Curve.stretch, Straight.cost}
+use Rattle.meaning_curves.proofs.Values.{cost-le}
 use Rattle.numbers.proofs.Back.{cost-back, in-arg}
 use Rattle.distance_straight.proofs.part.Statement.{statement}
 use Rattle.distance_straight.proofs.part.Tie as tie

@@ -1,11 +1,7 @@
 -- `distance_straight::straight` meets its contract. The invariant: so much of the sum is made. A block adds its part; left early, the total is a part of the distance (`Made`).
-use mathlib.Core.Path.{_≡_}
-use Prim.Native.Nat.{ℕ, _+_, _*_, _-_, _≤_}
-use native.Mathlib.Omega.{arith}
-use lib.ListN.{length}
 use Rattle.meaning_numbers.specs.Sum.{Σℕ}
-use Rattle.meaning_curves.specs.Curve.{at, stretch}
-use Rattle.meaning_curves.specs.Straight.{cost, straight}
+use Rattle.meaning_numbers.proofs.Prelude.{_≡_, ℕ, _+_, _*_, _-_, _≤_, arith, length}
+use Rattle.meaning_curves.specs.{Curve.at, Curve.stretch, Straight.cost, Straight.straight}
 use Rattle.meaning_curves.proofs.Values.{costs-le}
 use Rattle.numbers.proofs.Blocks.{Made, made-none, made-more, made-left, made-whole}
 use Rattle.distance_straight.proofs.straight.Statement.{statement}

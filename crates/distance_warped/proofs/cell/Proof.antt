@@ -1,6 +1,5 @@
 -- `distance_warped::cell` meets its contract.
-use borrow.Author.Needs.{needs}
-use native.Mathlib.Omega.{arith}
+use Rattle.meaning_numbers.proofs.Prelude.{needs, arith}
 use Rattle.meaning_curves.proofs.Values.{cost-le}
 use Rattle.numbers.proofs.Back.{cost-back, in-arg}
 use Rattle.distance_warped.proofs.cell.Statement.{statement}

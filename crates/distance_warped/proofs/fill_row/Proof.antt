@@ -1,10 +1,6 @@
 -- `distance_warped::fill_row` meets its contract.
 use borrow.Author.Count.{below-more}
-use mathlib.Core.Path.{_≡_, refl, _∙_}
-use Prim.Native.Nat.{ℕ, _+_, _-_, _≤_, _<_}
-use native.Mathlib.Omega.{arith}
-use lib.ListN.{length, getD, length-set}
-use lib.Seq.{getD-set-same, getD-set-other}
+use Rattle.meaning_numbers.proofs.Prelude.{_≡_, refl, _∙_, ℕ, _+_, _-_, _≤_, _<_, arith, length, getD, length-set, getD-set-same, getD-set-other}
 use Rattle.distance_warped.specs.Rows.{big}
 use Rattle.distance_warped.proofs.fill_row.Statement.{statement}
 use Rattle.distance_warped.proofs.fill_row.Tie as tie

@@ -1,16 +1,10 @@
 -- `distance_warped::first_row` meets its contract. The invariant: the row is made as far as cell j (`Halfway`).
-use mathlib.Core.Path.{_≡_, refl, _∙_, sym}
-use Prim.Native.Nat.{ℕ, _+_, _*_, _-_, _≤_, _<_}
-use native.Mathlib.Omega.{arith}
-use lib.ListN.{length, length-set}
-use lib.IntN.{ℤ}
-use Rattle.distance_warped.specs.Rows.{big, before, before-none, before-more, cells, Halfway, first-start, first-end, first-cell}
-use Rattle.distance_warped.proofs.Rows.{halfway-more}
+use Rattle.meaning_numbers.proofs.Prelude.{_≡_, refl, _∙_, sym, ℕ, _+_, _*_, _-_, _≤_, _<_, arith, length, length-set, ℤ}
+use Rattle.meaning_curves.specs.{Curve.at, Curve.stretch, Straight.cost}
 use Rattle.meaning_curves.proofs.Values.{cost-le}
-use Rattle.meaning_curves.specs.Curve.{at, stretch}
-use Rattle.meaning_curves.specs.Straight.{cost}
 use Rattle.numbers.proofs.Back.{cost-back, in-arg}
-use Rattle.distance_warped.proofs.first_row.Statement.{statement}
+use Rattle.distance_warped.specs.Rows.{big, before, before-none, before-more, cells, Halfway, first-start, first-end, first-cell}
+use Rattle.distance_warped.proofs.{Rows.halfway-more, first_row.Statement.statement}
 use Rattle.distance_warped.proofs.first_row.Tie as tie
 
 abbrev Inv-loop : tie.InvT-loop

@@ -1,20 +1,14 @@
 -- `distance_warped::table_within` meets its contract. The invariant: `row` is row i of the table, and `rest` the envelope bound of the rows after it. Left early, the least number of a row with the bound of the rows after it is at most the distance (`rest-least`).
-use mathlib.Core.Path.{_≡_, refl, _∙_}
-use Prim.Native.Nat.{ℕ, _+_, _*_, _-_, _^_, _≤_, _<_}
-use native.Mathlib.Omega.{arith}
-use lib.ListN.{length}
-use lib.IntN.{ℤ}
 use Rattle.meaning_numbers.specs.Sum.{Σℕ}
 use Rattle.meaning_numbers.proofs.Sum.{Σℕ-none, Σℕ-more, Σℕ-fewer}
-use Rattle.meaning_curves.specs.Curve.{at, stretch}
-use Rattle.meaning_curves.specs.Table.{warped}
+use Rattle.meaning_numbers.proofs.Prelude.{_≡_, refl, _∙_, ℕ, _+_, _*_, _-_, _^_, _≤_, _<_, arith, length, ℤ}
+use Rattle.meaning_curves.specs.{Curve.at, Curve.stretch, Table.warped}
 use Rattle.meaning_curves.proofs.Values.{AllIn, cost-le}
 use Rattle.meaning_filter.proofs.Bound.{apart}
 use Rattle.numbers.proofs.Within.{whole, left-early}
 use Rattle.distance_envelope.proofs.EnvelopeLaws.{low-in, high-in}
 use Rattle.distance_warped.specs.Rows.{big, cells, RowIs, LeastOf, cell-le, last-cell}
-use Rattle.distance_warped.proofs.Rest.{rest-least, whole-le}
-use Rattle.distance_warped.proofs.table_within.Statement.{statement}
+use Rattle.distance_warped.proofs.{Rest.rest-least, Rest.whole-le, table_within.Statement.statement}
 use Rattle.distance_warped.proofs.table_within.Tie as tie
 
 abbrev Inv-loop : tie.InvT-loop

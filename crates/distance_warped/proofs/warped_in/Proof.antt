@@ -1,19 +1,13 @@
 -- `distance_warped::warped_in` meets its contract: what the envelope bound passes, the distance passes (`bound-le`).
-use borrow.Author.Needs.{needs}
-use Prim.Native.Nat.{ℕ, _≤_}
-use native.Mathlib.Omega.{arith}
-use lib.ListN.{length}
-use lib.IntN.{ℤ}
 use Rattle.meaning_numbers.specs.Sum.{Σℕ}
-use Rattle.meaning_curves.specs.Curve.{at, stretch}
-use Rattle.meaning_curves.specs.Table.{warped}
+use Rattle.meaning_numbers.proofs.Prelude.{needs, ℕ, _≤_, arith, length, ℤ}
+use Rattle.meaning_curves.specs.{Curve.at, Curve.stretch, Table.warped}
 use Rattle.meaning_curves.proofs.Straight.{distance-is}
 use Rattle.meaning_filter.proofs.Bound.{apart}
 use Rattle.numbers.specs.Within.{Within}
 use Rattle.numbers.proofs.Within.{within-above, within-exact}
 use Rattle.distance_envelope.proofs.EnvelopeLaws.{low-in, high-in}
-use Rattle.distance_warped.proofs.Rest.{bound-le}
-use Rattle.distance_warped.proofs.warped_in.Statement.{statement}
+use Rattle.distance_warped.proofs.{Rest.bound-le, warped_in.Statement.statement}
 use Rattle.distance_warped.proofs.warped_in.Tie as tie
 
 envelope-bound-requires : tie.Need-envelope-bound-requires

@@ -1,15 +1,9 @@
 -- `distance_within::compare` meets its contract: the straight distance is the distance at band 0, and the warped one at any band.
-use borrow.Author.Needs.{needs}
-use mathlib.Core.Path.{_∙_, ap, sym}
-use Prim.Native.Nat.{ℕ}
-use native.Mathlib.Omega.{arith}
-use lib.ListN.{length}
-use lib.IntN.{ℤ}
+use Rattle.meaning_numbers.proofs.Prelude.{needs, _∙_, ap, sym, ℕ, arith, length, ℤ}
 use Rattle.meaning_curves.specs.Curve.{at, stretch}
 use Rattle.meaning_curves.proofs.Straight.{distance-is}
 use Rattle.distance_within.specs.Answer.{nearness}
-use Rattle.distance_within.proofs.Answer.{within-answer, straight-distance}
-use Rattle.distance_within.proofs.compare.Statement.{statement}
+use Rattle.distance_within.proofs.{Answer.within-answer, Answer.straight-distance, compare.Statement.statement}
 use Rattle.distance_within.proofs.compare.Tie as tie
 
 -- the stretch and the curve

@@ -1,26 +1,15 @@
 -- `distance_within::compare_normal` meets its contract: what the envelope bound passes, the distance passes (`bound-le`); else what stands in the room are the normalised values, and the distance asks for no others (`distance-same`).
-use borrow.Author.Needs.{needs}
-use mathlib.Core.Path.{_∙_, ap}
-use mathlib.Core.List.{List}
-use Prim.Native.Nat.{ℕ, _<_, _≤_}
-use native.Mathlib.Omega.{arith}
-use lib.ListN.{length}
-use lib.IntN.{ℤ}
 use Rattle.meaning_numbers.specs.Sum.{Σℕ}
-use Rattle.meaning_curves.specs.Curve.{at, stretch, spread}
-use Rattle.meaning_curves.specs.Normal.{normalised}
-use Rattle.meaning_curves.specs.Match.{distance}
+use Rattle.meaning_numbers.proofs.Prelude.{needs, _∙_, ap, List, ℕ, _<_, _≤_, arith, length, ℤ}
+use Rattle.meaning_curves.specs.{Curve.at, Curve.stretch, Curve.spread, Normal.normalised, Match.distance}
 use Rattle.meaning_curves.proofs.Same.{distance-same}
 use Rattle.meaning_filter.proofs.Bound.{apart}
 use Rattle.numbers.proofs.Within.{within-above}
+use Rattle.distance_normal.proofs.Stretch.{normalised-in}
 use Rattle.distance_envelope.proofs.EnvelopeLaws.{low-in, high-in}
 use Rattle.distance_warped.proofs.Rest.{bound-le}
-use Rattle.distance_normal.proofs.Stretch.{normalised-in}
-use Rattle.distance_within.specs.Answer.{nearness}
-use Rattle.distance_within.proofs.Answer.{no-answer}
-use Rattle.distance_within.proofs.Room.{normal-room, same-self}
-use Rattle.distance_within.specs.Within.{NormalWithin}
-use Rattle.distance_within.proofs.compare_normal.Statement.{statement}
+use Rattle.distance_within.specs.{Answer.nearness, Within.NormalWithin}
+use Rattle.distance_within.proofs.{Answer.no-answer, Room.normal-room, Room.same-self, compare_normal.Statement.statement}
 use Rattle.distance_within.proofs.compare_normal.Tie as tie
 
 normalise-within-requires : tie.Need-normalise-within-requires

@@ -1,6 +1,5 @@
 -- `distance_within::near_enough` meets its contract.
-use Rattle.distance_within.proofs.Answer.{yes-answer, no-answer}
-use Rattle.distance_within.proofs.near_enough.Statement.{statement}
+use Rattle.distance_within.proofs.{Answer.yes-answer, Answer.no-answer, near_enough.Statement.statement}
 use Rattle.distance_within.proofs.near_enough.Tie as tie
 
 pub near-enough-spec : {M : Type 1} → statement M

@@ -1,20 +1,12 @@
 -- `distance_within::normalise_within` meets its contract. The invariant: so many values are normalised, and so much of their bound is made. A block adds its part (`part-more`); left early, the total is a part of the bound.
-use mathlib.Core.Path.{_≡_, refl, sym, _∙_}
-use mathlib.Core.List.{List}
-use Prim.Native.Nat.{ℕ, _+_, _-_, _<_, _≤_}
-use native.Mathlib.Omega.{arith}
-use lib.IntN.{ℤ}
-use lib.ListN.{length, take, length-take}
 use Rattle.meaning_numbers.specs.Sum.{Σℕ}
-use Rattle.meaning_curves.specs.Curve.{at, stretch, spread}
-use Rattle.meaning_curves.specs.Normal.{normalised}
+use Rattle.meaning_numbers.proofs.Prelude.{_≡_, refl, sym, _∙_, List, ℕ, _+_, _-_, _<_, _≤_, arith, ℤ, length, take, length-take}
+use Rattle.meaning_curves.specs.{Curve.at, Curve.stretch, Curve.spread, Normal.normalised}
 use Rattle.meaning_curves.proofs.Values.{AllIn}
 use Rattle.meaning_filter.proofs.Bound.{apart}
 use Rattle.numbers.proofs.Blocks.{Made, made-none, made-left, made-whole}
-use Rattle.distance_normal.specs.Normal.{IsFactor}
-use Rattle.distance_normal.specs.Stretch.{NormalReady, NormalPart}
-use Rattle.distance_within.proofs.Within.{NormalTo, normal-next, normal-all, made-in, part-more}
-use Rattle.distance_within.proofs.normalise_within.Statement.{statement}
+use Rattle.distance_normal.specs.{Normal.IsFactor, Stretch.NormalReady, Stretch.NormalPart}
+use Rattle.distance_within.proofs.{Within.NormalTo, Within.normal-next, Within.normal-all, Within.made-in, Within.part-more, normalise_within.Statement.statement}
 use Rattle.distance_within.proofs.normalise_within.Tie as tie
 
 abbrev Inv-loop : tie.InvT-loop

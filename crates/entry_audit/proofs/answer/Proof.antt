@@ -1,8 +1,6 @@
 -- `entry_audit::answer` meets its contract: its tests are those of the definition.
-use borrow.Author.Tests.{not-true, not-false}
-use mathlib.Core.Path.{_∙_}
-use Rattle.entry_audit.proofs.Cases.{answer-refused, answer-wrong, answer-complete, none-lacking, some-lacking}
-use Rattle.entry_audit.proofs.answer.Statement.{statement}
+use Rattle.meaning_numbers.proofs.Prelude.{not-true, not-false, _∙_}
+use Rattle.entry_audit.proofs.{Cases.answer-refused, Cases.answer-wrong, Cases.answer-complete, Cases.none-lacking, Cases.some-lacking, answer.Statement.statement}
 use Rattle.entry_audit.proofs.answer.Tie as tie
 
 returns : tie.Need-returns

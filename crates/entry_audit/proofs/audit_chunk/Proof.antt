@@ -1,25 +1,12 @@
 -- `entry_audit::audit_chunk` meets its contract. The invariant of each loop: what is filed wrongly first among what is left to audit is what is filed wrongly first in the chunk, and nothing is filed wrongly so far; of the innermost loop, besides, that the part is the sum of the offset's window but for its last value.
 -- The measures are how many rows, runs and offsets are left.
-use borrow.Author.Needs.{needs}
-use borrow.Author.Tests.{not-true, not-false}
-use mathlib.Core.Path.{_≡_, refl, sym, ap, _∙_}
-use mathlib.Core.Bool.{true, false, not}
-use mathlib.Core.List.{List}
-use mathlib.Core.Option.{Option, none, some}
-use Prim.Native.Nat.{ℕ, _+_, _-_, _<_, _≤_}
-use native.Mathlib.Omega.{arith}
-use lib.ListN.{length, getD, drop}
-use mir.Syntax.{w32}
-use mir.Val.{toZ, ofZ}
-use mir.ValLaws.{toZ-ofZ}
+use Rattle.meaning_numbers.proofs.Prelude.{needs, not-true, not-false, _≡_, refl, sym, ap, _∙_, true, false, not, List, Option, none, some, ℕ, _+_, _-_, _<_, _≤_, arith, length, getD, drop, w32, toZ, ofZ, toZ-ofZ, ℤ}
 use Rattle.meaning_curves.specs.Curve.{windowSum}
-use lib.IntN.{ℤ}
-use Rattle.meaning_rows.specs.declared.Row.{Row}
-use Rattle.meaning_rows.specs.Range.{inside}
+use Rattle.meaning_rows.specs.{declared.Row.Row, Range.inside}
 use Rattle.rows_records.specs.Records.{zeroRow}
 use Rattle.entry_audit.specs.Auditing.{found, Reads, Ready, wrongOf}
-use Rattle.entry_audit.proofs.Turn.{chunk-off, chunk-found, still-found, wrong-found, Still, inRuns, inOffsets, later, row-begins, row-ends, run-begins, run-ends, filed-right, filed-wrong, none-left}
 use Rattle.entry_audit.proofs.audit_chunk.Statement.{statement}
+use Rattle.entry_audit.proofs.Turn.{chunk-off, chunk-found, still-found, wrong-found, Still, inRuns, inOffsets, later, row-begins, row-ends, run-begins, run-ends, filed-right, filed-wrong, none-left}
 use Rattle.entry_audit.proofs.audit_chunk.Tie as tie
 
 abbrev Inv-offsets : tie.InvT-offsets

@@ -1,6 +1,6 @@
 -- `entry_audit::holds` meets its contract: its two tests are those of the definition.
+use Rattle.meaning_numbers.proofs.Prelude.{needs}
 use Rattle.meaning_rows.specs.Range.{inside}
-use borrow.Author.Needs.{needs}
 use Rattle.entry_audit.proofs.holds.Statement.{statement}
 use Rattle.entry_audit.proofs.holds.Tie as tie
 

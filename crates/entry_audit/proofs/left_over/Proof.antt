@@ -1,6 +1,5 @@
 -- `entry_audit::left_over` meets its contract, by what judging said.
-use borrow.Author.Needs.{needs}
-use mathlib.Core.Path.{sym, ap, _∙_}
+use Rattle.meaning_numbers.proofs.Prelude.{needs, sym, ap, _∙_}
 use Rattle.entry_audit.specs.Plan.{leftOver}
 use Rattle.entry_audit.proofs.left_over.Statement.{statement}
 use Rattle.entry_audit.proofs.left_over.Tie as tie

@@ -1,5 +1,5 @@
 -- `entry_audit::make_plan` meets its contract.
-use borrow.Author.Needs.{needs}
+use Rattle.meaning_numbers.proofs.Prelude.{needs}
 use Rattle.entry_audit.specs.Plan.{planOf}
 use Rattle.entry_audit.proofs.make_plan.Statement.{statement}
 use Rattle.entry_audit.proofs.make_plan.Tie as tie

@@ -1,11 +1,5 @@
 -- `entry_audit::part_sum` meets its contract (`but-last`); nothing wraps, as no window's sum is large (`out-fits`).
-use borrow.Author.Needs.{needs}
-use mathlib.Core.Path.{_≡_, _∙_}
-use Prim.Native.Nat.{_+_}
-use native.Mathlib.Omega.{arith}
-use mir.Syntax.{w32}
-use mir.Val.{toZ, ofZ}
-use mir.ValLaws.{toZ-ofZ}
+use Rattle.meaning_numbers.proofs.Prelude.{needs, _≡_, _∙_, _+_, arith, w32, toZ, ofZ, toZ-ofZ}
 use Rattle.meaning_curves.specs.Curve.{windowSum}
 use Rattle.values.proofs.Window.{out-fits, out-sum, but-last}
 use Rattle.entry_audit.proofs.part_sum.Statement.{statement}

@@ -1,5 +1,5 @@
 -- `entry_audit::refuse_audit` meets its contract: each test is a line of the table.
-use borrow.Author.Needs.{needs}
+use Rattle.meaning_numbers.proofs.Prelude.{needs}
 use Rattle.meaning_entries.specs.Refusal.{fewerWindows, moreWindows}
 use Rattle.refusals.specs.Refusal.{judgedLine}
 use Rattle.refusals.proofs.RefusalLaws.{line-before, place-before, series-before}

@@ -1,6 +1,6 @@
 -- `entry_read::answer` meets its contract. By the number of the plan.
-use mathlib.Core.Path.{refl}
 use borrow.Author.Tests.{eq-eqb, ne-eqb}
+use mathlib.Core.Path.{refl}
 use Rattle.entry_read.specs.Plan.{planAnswer}
 use Rattle.entry_read.proofs.answer.Statement.{statement}
 use Rattle.entry_read.proofs.answer.Tie as tie

@@ -1,6 +1,6 @@
 -- `entry_read::count_if` meets its contract. By the test.
-use mathlib.Core.Path.{refl}
 use borrow.Author.Needs.{needs}
+use mathlib.Core.Path.{refl}
 use Rattle.entry_read.proofs.count_if.Statement.{statement}
 use Rattle.entry_read.proofs.count_if.Tie as tie
 

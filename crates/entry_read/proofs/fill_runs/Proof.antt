@@ -1,15 +1,15 @@
 -- `entry_read::fill_runs` meets its contract. The invariant: the columns after i bytes are a view of what has been said (`Filling`). The measure is what is left of the text.
-use mathlib.Core.Path.{_≡_}
 use Prim.Native.Nat.{_-_}
-use native.Mathlib.Omega.{arith}
+use borrow.Author.Needs.{needs}
 use lib.ListN.{length}
+use mathlib.Core.Path.{_≡_}
 use mir.Syntax.{w64}
 use mir.Val.{toZ, ofZ}
 use mir.ValLaws.{toZ-ofZ}
+use native.Mathlib.Omega.{arith}
 use Rattle.text_event.proofs.EventLaws.{row-up, run-up, runs-up, value-up, closed-up}
-use Rattle.entry_read.proofs.Columns.{Filling, filling-start, filling-run, filling-row, filling-runs, filling-value, filling-closed, filling-refuse, filling-end}
-use borrow.Author.Needs.{needs}
 use Rattle.entry_read.proofs.fill_runs.Statement.{statement}
+use Rattle.entry_read.proofs.Columns.{Filling, filling-start, filling-run, filling-row, filling-runs, filling-value, filling-closed, filling-refuse, filling-end}
 use Rattle.entry_read.proofs.fill_runs.Tie as tie
 
 abbrev Inv-loop : tie.InvT-loop

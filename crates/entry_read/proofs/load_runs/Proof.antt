@@ -1,10 +1,9 @@
 -- `entry_read::load_runs` meets its contract. By the number of the plan: nothing is altered, or the columns were cleared and filled.
+use borrow.Author.Needs.{needs}
 use mathlib.Core.Path.{ap, _∙_}
 use Rattle.clear.proofs.Clear.{cleared-all}
 use Rattle.entry_read.specs.Plan.{planFor}
-use Rattle.entry_read.proofs.Planned.{column-stays, column-filled}
-use borrow.Author.Needs.{needs}
-use Rattle.entry_read.proofs.load_runs.Statement.{statement}
+use Rattle.entry_read.proofs.{Planned.column-stays, Planned.column-filled, load_runs.Statement.statement}
 use Rattle.entry_read.proofs.load_runs.Tie as tie
 
 returns : tie.Need-returns

@@ -1,7 +1,7 @@
 -- `entry_read::make_plan` meets its contract. By what the text comes to.
+use borrow.Author.Needs.{needs}
 use mathlib.Core.Path.{refl, sym, ap, _∙_}
 use Rattle.entry_read.specs.Plan.{planScanned}
-use borrow.Author.Needs.{needs}
 use Rattle.entry_read.proofs.make_plan.Statement.{statement}
 use Rattle.entry_read.proofs.make_plan.Tie as tie
 

@@ -1,8 +1,8 @@
 -- `entry_read::plan_fine` meets its contract, by what refuses.
+use Prim.Native.Nat.{ℕ}
 use borrow.Author.Needs.{needs}
 use borrow.Author.Tests.{eq-eqb, ne-eqb}
 use mathlib.Core.Path.{_≡_, refl, ap, _∙_}
-use Prim.Native.Nat.{ℕ}
 use Rattle.meaning_rows.specs.declared.Head.{Head}
 use Rattle.refusals.specs.declared.Refusal.{Refusal}
 use Rattle.text_judge.specs.declared.Rows.{Rows}

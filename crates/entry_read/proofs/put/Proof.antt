@@ -1,7 +1,7 @@
 -- `entry_read::put` meets its contract: a place that there is not changes nothing.
-use mathlib.Core.Path.{sym}
-use lib.Seq.{set-out}
 use borrow.Author.Needs.{needs}
+use lib.Seq.{set-out}
+use mathlib.Core.Path.{sym}
 use Rattle.entry_read.proofs.put.Statement.{statement}
 use Rattle.entry_read.proofs.put.Tie as tie
 

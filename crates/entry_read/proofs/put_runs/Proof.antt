@@ -1,14 +1,13 @@
 -- `entry_read::put_runs` meets its contract. The invariant: the columns are what the runs so far make of those at the beginning (`RunsFrom`). The measure is what is left of the text.
-use mathlib.Core.Path.{_≡_, refl, ap, _∙_}
 use Prim.Native.Nat.{_-_, _≤_}
-use native.Mathlib.Omega.{arith}
+use borrow.Author.Needs.{needs}
 use lib.ListN.{length, length-set}
+use mathlib.Core.Path.{_≡_, refl, ap, _∙_}
+use native.Mathlib.Omega.{arith}
 use Rattle.text_event.specs.Event.{RunsFrom, none, one, leftOf, rightOf}
 use Rattle.text_event.proofs.EventLaws.{run-up}
 use Rattle.entry_read.specs.Runs.{Columns, tellColumns}
-use Rattle.entry_read.proofs.Columns.{run-stored}
-use borrow.Author.Needs.{needs}
-use Rattle.entry_read.proofs.put_runs.Statement.{statement}
+use Rattle.entry_read.proofs.{Columns.run-stored, put_runs.Statement.statement}
 use Rattle.entry_read.proofs.put_runs.Tie as tie
 
 abbrev Inv-loop : tie.InvT-loop

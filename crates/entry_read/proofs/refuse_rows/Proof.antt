@@ -1,7 +1,7 @@
 -- `entry_read::refuse_rows` meets its contract: each test is a line of the table.
 use borrow.Author.Needs.{needs}
-use mathlib.Core.Path.{refl}
 use lib.Dec.{ltb}
+use mathlib.Core.Path.{refl}
 use Rattle.meaning_entries.specs.Refusal.{bufferShort}
 use Rattle.refusals.specs.Refusal.{judgedLine}
 use Rattle.refusals.proofs.RefusalLaws.{line-before, place-before}

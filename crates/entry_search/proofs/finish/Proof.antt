@@ -1,6 +1,5 @@
 -- `entry_search::finish` meets its contract: what refused, or what is found.
-use borrow.Author.Needs.{needs}
-use mathlib.Core.Path.{refl}
+use Rattle.meaning_numbers.proofs.Prelude.{needs, refl}
 use Rattle.entry_search.proofs.finish.Statement.{statement}
 use Rattle.entry_search.proofs.finish.Tie as tie
 

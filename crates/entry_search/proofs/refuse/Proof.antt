@@ -1,5 +1,5 @@
 -- `entry_search::refuse` meets its contract.
-use mathlib.Core.Path.{refl}
+use Rattle.meaning_numbers.proofs.Prelude.{refl}
 use Rattle.entry_search.specs.Refused.{refusedAs}
 use Rattle.entry_search.proofs.refuse.Statement.{statement}
 use Rattle.entry_search.proofs.refuse.Tie as tie

@@ -1,8 +1,5 @@
 -- `entry_write::answer` meets its contract, by what refuses.
-use borrow.Author.Needs.{needs}
-use borrow.Author.Tests.{eq-eqb, ne-eqb}
-use mathlib.Core.Path.{_≡_, refl, ap, _∙_}
-use Prim.Native.Nat.{ℕ}
+use Rattle.meaning_numbers.proofs.Prelude.{needs, eq-eqb, ne-eqb, _≡_, refl, ap, _∙_, ℕ}
 use Rattle.meaning_entries.specs.declared.Written.{Written}
 use Rattle.refusals.specs.declared.Refusal.{Refusal}
 use Rattle.entry_write.specs.Answer.{answerBy, answerOf}

@@ -1,6 +1,6 @@
 -- `entry_write::is_refused` meets its contract. By cases.
+use Rattle.meaning_numbers.proofs.Prelude.{needs}
 use Rattle.entry_write.specs.Answer.{isRefused}
-use borrow.Author.Needs.{needs}
 use Rattle.entry_write.proofs.is_refused.Statement.{statement}
 use Rattle.entry_write.proofs.is_refused.Tie as tie
 

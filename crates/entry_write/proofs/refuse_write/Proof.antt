@@ -1,7 +1,5 @@
 -- `entry_write::refuse_write` meets its contract: each test is a line of the table.
-use borrow.Author.Needs.{needs}
-use mathlib.Core.Path.{refl}
-use lib.Dec.{ltb}
+use Rattle.meaning_numbers.proofs.Prelude.{needs, refl, ltb}
 use Rattle.meaning_entries.specs.Refusal.{bufferShort}
 use Rattle.refusals.specs.Refusal.{judgedLine}
 use Rattle.refusals.proofs.RefusalLaws.{line-before, place-before}

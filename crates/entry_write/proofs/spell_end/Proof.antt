@@ -1,7 +1,6 @@
 -- `entry_write::spell_end` meets its contract. By the flag: written and cleared behind, or counted.
-use Rattle.entry_write.proofs.Spell.{ended-stored, ended-only}
-use borrow.Author.Needs.{needs}
-use Rattle.entry_write.proofs.spell_end.Statement.{statement}
+use Rattle.meaning_numbers.proofs.Prelude.{needs}
+use Rattle.entry_write.proofs.{Spell.ended-stored, Spell.ended-only, spell_end.Statement.statement}
 use Rattle.entry_write.proofs.spell_end.Tie as tie
 
 returns : tie.Need-returns

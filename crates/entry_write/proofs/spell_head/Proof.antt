@@ -1,7 +1,6 @@
 -- `entry_write::spell_head` meets its contract. By the flag: written, or counted.
-use Rattle.entry_write.proofs.Spell.{spelled-stored, spelled-only}
-use borrow.Author.Needs.{needs}
-use Rattle.entry_write.proofs.spell_head.Statement.{statement}
+use Rattle.meaning_numbers.proofs.Prelude.{needs}
+use Rattle.entry_write.proofs.{Spell.spelled-stored, Spell.spelled-only, spell_head.Statement.statement}
 use Rattle.entry_write.proofs.spell_head.Tie as tie
 
 returns : tie.Need-returns

@@ -1,7 +1,6 @@
 -- `entry_write::spell_row` meets its contract. By the flag: written, or counted.
-use Rattle.entry_write.proofs.Spell.{spelled-stored, spelled-only}
-use borrow.Author.Needs.{needs}
-use Rattle.entry_write.proofs.spell_row.Statement.{statement}
+use Rattle.meaning_numbers.proofs.Prelude.{needs}
+use Rattle.entry_write.proofs.{Spell.spelled-stored, Spell.spelled-only, spell_row.Statement.statement}
 use Rattle.entry_write.proofs.spell_row.Tie as tie
 
 returns : tie.Need-returns

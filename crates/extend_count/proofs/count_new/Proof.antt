@@ -1,18 +1,12 @@
 -- `extend_count::count_new` meets its contract. The invariant: the runs of the windows passed are counted, and the next window begins a run (`counted-turn`, `fresh-next`).
-use mathlib.Core.Path.{_≡_, sym, ap, _∙_, subst}
-use Prim.Native.Nat.{ℕ, _-_, _≤_, _<_}
-use native.Mathlib.Omega.{arith}
-use lib.ListN.{length, getD}
+use Rattle.meaning_numbers.proofs.Prelude.{_≡_, sym, ap, _∙_, subst, ℕ, _-_, _≤_, _<_, arith, length, getD}
 use Rattle.meaning_rows.proofs.Runs.{runs-le}
-use Rattle.sums_slide.specs.Levels.{level, windowsOf}
-use Rattle.sums_slide.specs.Change.{RowRun}
+use Rattle.sums_slide.specs.{Levels.level, Levels.windowsOf, Change.RowRun}
 use Rattle.sums_count.specs.Tally.{isRow}
 use Rattle.sums_count.proofs.Tally.{Fresh, fresh-next}
 use Rattle.rows_pack.specs.Packed.{startOf}
-use Rattle.extend_count.specs.Rank.{rank}
-use Rattle.extend_count.specs.Count.{rowFrom, Counted}
-use Rattle.extend_count.proofs.Count.{row-new, counted-starts, fresh-old, next-run, counted-turn}
-use Rattle.extend_count.proofs.count_new.Statement.{statement}
+use Rattle.extend_count.specs.{Rank.rank, Count.rowFrom, Count.Counted}
+use Rattle.extend_count.proofs.{Count.row-new, Count.counted-starts, Count.fresh-old, Count.next-run, Count.counted-turn, count_new.Statement.statement}
 use Rattle.extend_count.proofs.count_new.Tie as tie
 
 abbrev Inv-loop : tie.InvT-loop

@@ -1,11 +1,7 @@
 -- `extend_count::find_above` meets its contract. The invariant: the ends before lo are at most the number, and those from hi on are above it.
-use mathlib.Core.Path.{sym}
-use Prim.Native.Nat.{ℕ, _+_, _-_, _/_, _≤_, _<_}
-use native.Mathlib.Omega.{arith}
-use lib.ListN.{getD}
+use Rattle.meaning_numbers.proofs.Prelude.{sym, ℕ, _+_, _-_, _/_, _≤_, _<_, arith, getD}
 use Rattle.extend_count.specs.Rank.{rank}
-use Rattle.extend_count.proofs.Rank.{rank-is}
-use Rattle.extend_count.proofs.find_above.Statement.{statement}
+use Rattle.extend_count.proofs.{Rank.rank-is, find_above.Statement.statement}
 use Rattle.extend_count.proofs.find_above.Tie as tie
 
 abbrev Inv-loop : tie.InvT-loop

@@ -1,9 +1,5 @@
 -- `extend_count::last_ends` meets its contract.
-use borrow.Author.Needs.{needs}
-use mathlib.Core.Path.{_≡_}
-use Prim.Native.Nat.{ℕ, _+_, _-_, _≤_}
-use native.Mathlib.Omega.{arith}
-use borrow.Author.Tests.{le-leb, lt-leb}
+use Rattle.meaning_numbers.proofs.Prelude.{needs, _≡_, ℕ, _+_, _-_, _≤_, arith, le-leb, lt-leb}
 use Rattle.meaning_rows.proofs.Grown.{lastEnds}
 use Rattle.extend_count.proofs.last_ends.Statement.{statement}
 use Rattle.extend_count.proofs.last_ends.Tie as tie

@@ -1,8 +1,5 @@
 -- `extend_count::level_at` meets its contract.
-use borrow.Author.Needs.{needs}
-use mathlib.Core.Path.{_≡_, ap}
-use Prim.Native.Nat.{ℕ, _+_}
-use native.Mathlib.Omega.{arith}
+use Rattle.meaning_numbers.proofs.Prelude.{needs, _≡_, ap, ℕ, _+_, arith}
 use Rattle.sums_slide.specs.Levels.{level, level-small}
 use Rattle.extend_count.proofs.level_at.Statement.{statement}
 use Rattle.extend_count.proofs.level_at.Tie as tie

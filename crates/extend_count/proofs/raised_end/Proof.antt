@@ -1,10 +1,5 @@
 -- `extend_count::raised_end` meets its contract: the raised end fits.
-use mathlib.Core.Path.{_≡_, ap, _∙_}
-use lib.IntN.{pos}
-use mir.Syntax.{w32}
-use mir.Val.{toZ, ofZ}
-use mir.ValLaws.{toZ-ofZ}
-use Rattle.meaning_numbers.proofs.Rep.{zarith, z-sub}
+use Rattle.meaning_numbers.proofs.Prelude.{_≡_, ap, _∙_, pos, w32, toZ, ofZ, toZ-ofZ, zarith, z-sub}
 use Rattle.sums_slide.specs.Ends.{raisedEnd}
 use Rattle.extend_count.proofs.raised_end.Statement.{statement}
 use Rattle.extend_count.proofs.raised_end.Tie as tie

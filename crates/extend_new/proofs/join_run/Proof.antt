@@ -1,13 +1,6 @@
 -- `extend_new::join_run` meets its contract: the window's sum is in the range, so the run ends after it.
-use borrow.Author.Needs.{needs}
-use borrow.Author.Tests.{not-true, not-false}
-use mathlib.Core.Path.{_≡_, refl}
-use mathlib.Core.Bool.{true}
-use Prim.Native.Nat.{_<_}
-use native.Mathlib.Omega.{arith}
-use Rattle.meaning_numbers.proofs.Tests.{clash}
-use Rattle.extend_new.proofs.Join.{stop-ahead}
-use Rattle.extend_new.proofs.join_run.Statement.{statement}
+use Rattle.meaning_numbers.proofs.Prelude.{needs, not-true, not-false, _≡_, refl, true, _<_, arith, clash}
+use Rattle.extend_new.proofs.{Join.stop-ahead, join_run.Statement.statement}
 use Rattle.extend_new.proofs.join_run.Tie as tie
 
 returns : tie.Need-returns

@@ -1,11 +1,9 @@
 -- `extend_new::list_new` meets its contract: the new windows are those of the rest of the series, which is lent as a part.
-use borrow.Author.Needs.{needs}
-use borrow.Author.Tests.{lt-ltb, le-ltb}
+use Rattle.meaning_numbers.proofs.Prelude.{needs, lt-ltb, le-ltb}
 use Rattle.sums_slide.specs.Levels.{windowsOf}
 use Rattle.sums_slide.proofs.Picked.{append-none}
 use Rattle.extend_new.specs.New.{newTable}
-use Rattle.extend_new.proofs.New.{rest-lent, rest-whole}
-use Rattle.extend_new.proofs.list_new.Statement.{statement}
+use Rattle.extend_new.proofs.{New.rest-lent, New.rest-whole, list_new.Statement.statement}
 use Rattle.extend_new.proofs.list_new.Tie as tie
 
 list-rows-requires : tie.Need-list-rows-requires

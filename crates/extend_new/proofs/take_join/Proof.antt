@@ -1,6 +1,5 @@
 -- `extend_new::take_join` meets its contract.
-use borrow.Author.Needs.{needs}
-use native.Mathlib.Omega.{arith}
+use Rattle.meaning_numbers.proofs.Prelude.{needs, arith}
 use Rattle.extend_new.specs.New.{lessJoin}
 use Rattle.extend_new.proofs.take_join.Statement.{statement}
 use Rattle.extend_new.proofs.take_join.Tie as tie

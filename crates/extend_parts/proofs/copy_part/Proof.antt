@@ -1,8 +1,7 @@
 -- `extend_parts::copy_part` meets its contract: the row's part of the column is lent to its writer.
-use borrow.Author.Needs.{needs}
+use Rattle.meaning_numbers.proofs.Prelude.{needs}
 use Rattle.extend_parts.specs.Copy.{partSize, partCopied}
-use Rattle.extend_parts.proofs.Copy.{part-back}
-use Rattle.extend_parts.proofs.copy_part.Statement.{statement}
+use Rattle.extend_parts.proofs.{Copy.part-back, copy_part.Statement.statement}
 use Rattle.extend_parts.proofs.copy_part.Tie as tie
 
 returns : tie.Need-returns

@@ -1,10 +1,5 @@
 -- `extend_parts::old_passed` meets its contract: its test is that of the definition.
-use mathlib.Core.Path.{_≡_, sym, _∙_}
-use native.Mathlib.Omega.{arith}
-use lib.Signed.{leZ}
-use mir.Syntax.{w32}
-use mir.Val.{toZ, ofZ}
-use mir.ValLaws.{toZ-ofZ}
+use Rattle.meaning_numbers.proofs.Prelude.{_≡_, sym, _∙_, arith, leZ, w32, toZ, ofZ, toZ-ofZ}
 use Rattle.extend_parts.specs.Copy.{oldPassed}
 use Rattle.extend_parts.proofs.old_passed.Statement.{statement}
 use Rattle.extend_parts.proofs.old_passed.Tie as tie

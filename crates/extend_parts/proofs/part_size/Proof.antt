@@ -1,9 +1,5 @@
 -- `extend_parts::part_size` meets its contract: its test is that of the definition.
-use mathlib.Core.Path.{_≡_, sym, _∙_}
-use lib.Signed.{leZ}
-use mir.Syntax.{w32}
-use mir.Val.{toZ, ofZ}
-use mir.ValLaws.{toZ-ofZ}
+use Rattle.meaning_numbers.proofs.Prelude.{_≡_, sym, _∙_, leZ, w32, toZ, ofZ, toZ-ofZ}
 use Rattle.extend_parts.specs.Copy.{partSize}
 use Rattle.extend_parts.proofs.part_size.Statement.{statement}
 use Rattle.extend_parts.proofs.part_size.Tie as tie

@@ -1,9 +1,5 @@
 -- `extend_parts::with_part` meets its contract.
-use borrow.Author.Needs.{needs}
-use Prim.Native.Nat.{_-_}
-use lib.ListN.{getD}
-use mir.Syntax.{w32}
-use mir.ValLaws.{toZ-ofZ}
+use Rattle.meaning_numbers.proofs.Prelude.{needs, _-_, getD, w32, toZ-ofZ}
 use Rattle.extend_parts.proofs.with_part.Statement.{statement}
 use Rattle.extend_parts.proofs.with_part.Tie as tie
 

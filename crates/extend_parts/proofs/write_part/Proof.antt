@@ -1,14 +1,7 @@
 -- `extend_parts::write_part` meets its contract. The invariant: the first numbers are copied (`paste-suc`).
-use mathlib.Core.Path.{_≡_, ap, _∙_}
-use Prim.Native.Nat.{ℕ, _-_, _≤_}
-use native.Mathlib.Omega.{arith}
-use mathlib.Core.List.{List}
-use lib.ListN.{length, getD, set, length-set}
-use lib.Seq.{paste, paste-zero, length-paste}
-use borrow.Author.Tests.{lt-ltb, le-ltb}
+use Rattle.meaning_numbers.proofs.Prelude.{_≡_, ap, _∙_, ℕ, _-_, _≤_, arith, List, length, getD, set, length-set, paste, paste-zero, length-paste, lt-ltb, le-ltb}
 use Rattle.extend_parts.specs.Copy.{written}
-use Rattle.extend_parts.proofs.Copy.{paste-more}
-use Rattle.extend_parts.proofs.write_part.Statement.{statement}
+use Rattle.extend_parts.proofs.{Copy.paste-more, write_part.Statement.statement}
 use Rattle.extend_parts.proofs.write_part.Tie as tie
 
 abbrev Inv-loop : tie.InvT-loop

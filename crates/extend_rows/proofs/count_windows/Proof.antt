@@ -1,7 +1,5 @@
 -- `extend_rows::count_windows` meets its contract.
-use borrow.Author.Needs.{needs}
-use mathlib.Core.Path.{refl, ap, _∙_}
-use native.Mathlib.Omega.{arith}
+use Rattle.meaning_numbers.proofs.Prelude.{needs, refl, ap, _∙_, arith}
 use Rattle.extend_count.specs.Rank.{rank}
 use Rattle.extend_rows.proofs.count_windows.Statement.{statement}
 use Rattle.extend_rows.proofs.count_windows.Tie as tie

@@ -1,6 +1,5 @@
 -- `extend_rows::first_new` meets its contract.
-use borrow.Author.Needs.{needs}
-use borrow.Author.Tests.{lt-ltb, le-ltb}
+use Rattle.meaning_numbers.proofs.Prelude.{needs, lt-ltb, le-ltb}
 use Rattle.sums_slide.specs.Levels.{windowsOf}
 use Rattle.extend_rows.specs.Steps.{firstNew}
 use Rattle.extend_rows.proofs.first_new.Statement.{statement}

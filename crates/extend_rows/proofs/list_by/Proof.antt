@@ -1,8 +1,5 @@
 -- `extend_rows::list_by` meets its contract.
-use borrow.Author.Needs.{needs}
-use mathlib.Core.Path.{_≡_}
-use native.Mathlib.Omega.{arith}
-use lib.ListN.{length}
+use Rattle.meaning_numbers.proofs.Prelude.{needs, _≡_, arith, length}
 use Rattle.extend_rows.proofs.list_by.Statement.{statement}
 use Rattle.extend_rows.proofs.list_by.Tie as tie
 

@@ -1,17 +1,10 @@
 -- `extend_rows::sum_joined` meets its contract.
-use borrow.Author.Needs.{needs}
-use mathlib.Core.Path.{_≡_, sym, ap, _∙_, subst}
-use mathlib.Core.Bool.{Bool}
-use mathlib.Core.List.{List}
-use Prim.Native.Nat.{ℕ}
-use native.Mathlib.Omega.{arith}
-use lib.ListN.{length}
+use Rattle.meaning_numbers.proofs.Prelude.{needs, _≡_, sym, ap, _∙_, subst, Bool, List, ℕ, arith, length}
 use Rattle.meaning_rows.proofs.Grown.{lastEnds}
 use Rattle.rows_pack.specs.Packed.{total, Summed}
 use Rattle.extend_new.specs.New.{lessJoin}
 use Rattle.extend_rows.specs.Steps.{joinsOf}
-use Rattle.extend_rows.proofs.Steps.{less-long}
-use Rattle.extend_rows.proofs.sum_joined.Statement.{statement}
+use Rattle.extend_rows.proofs.{Steps.less-long, sum_joined.Statement.statement}
 use Rattle.extend_rows.proofs.sum_joined.Tie as tie
 
 -- whether the run joins, as it is asked

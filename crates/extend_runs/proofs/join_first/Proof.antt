@@ -1,22 +1,11 @@
 -- `extend_runs::join_first` meets its contract.
-use borrow.Author.Needs.{needs}
-use mathlib.Core.Path.{_≡_, ap, _∙_}
-use Prim.Native.Nat.{ℕ, _+_, _*_}
-use native.Mathlib.Omega.{arith}
-use lib.IntN.{ℤ, pos, negsuc}
-use lib.Signed.{_≤ℤ_}
-use mir.Syntax.{w32}
-use mir.Val.{ofZ, toZ}
-use mir.ValLaws.{toZ-ofZ}
-use Rattle.meaning_numbers.proofs.Rep.{zarith}
-use Rattle.meaning_numbers.proofs.Machine.{zmach32}
+use Rattle.meaning_numbers.proofs.Prelude.{needs, _≡_, ap, _∙_, ℕ, _+_, _*_, arith, ℤ, pos, negsuc, _≤ℤ_, w32, ofZ, toZ, toZ-ofZ, zarith, zmach32}
 use Rattle.meaning_rows.specs.declared.Row.{Row}
 use Rattle.meaning_rows.proofs.Grown.{lastEnds}
 use Rattle.sums_slide.specs.Ends.{raisedEnd}
 use Rattle.build_fill.specs.Turn.{Small}
 use Rattle.extend_rows.specs.Steps.{joinsOf}
-use Rattle.extend_runs.proofs.Joining.{joinable-as, joined-as, joins-some, joinable-lent, joined-back}
-use Rattle.extend_runs.proofs.join_first.Statement.{statement}
+use Rattle.extend_runs.proofs.{Joining.joinable-as, Joining.joined-as, Joining.joins-some, Joining.joinable-lent, Joining.joined-back, join_first.Statement.statement}
 use Rattle.extend_runs.proofs.join_first.Tie as tie
 
 -- an end of a range, as the machine reads it

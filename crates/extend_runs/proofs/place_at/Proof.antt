@@ -1,8 +1,5 @@
 -- `extend_runs::place_at` meets its contract: past the last window the sum slides on from it.
-use borrow.Author.Needs.{needs}
-use mathlib.Core.Path.{_≡_, refl, ap, _∙_}
-use Prim.Native.Nat.{_+_, _-_}
-use native.Mathlib.Omega.{arith}
+use Rattle.meaning_numbers.proofs.Prelude.{needs, _≡_, refl, ap, _∙_, _+_, _-_, arith}
 use Rattle.sums_slide.specs.Levels.{level}
 use Rattle.extend_runs.proofs.place_at.Statement.{statement}
 use Rattle.extend_runs.proofs.place_at.Tie as tie

@@ -1,14 +1,5 @@
 -- `extend_weave::chosen` meets its contract: its test is that of the definition, and no end wraps.
-use borrow.Author.Needs.{needs}
-use mathlib.Core.Path.{_≡_, sym, _∙_}
-use native.Mathlib.Omega.{arith}
-use lib.IntN.{ℤ, pos, _+ℤ_}
-use lib.Signed.{ltZ}
-use mir.Syntax.{w32}
-use mir.Val.{toZ, ofZ, SFits}
-use mir.ValLaws.{toZ-ofZ, toZ-pos}
-use Rattle.meaning_numbers.proofs.Rep.{z-add, z-sub}
-use Rattle.meaning_numbers.proofs.Machine.{zmach32}
+use Rattle.meaning_numbers.proofs.Prelude.{needs, _≡_, sym, _∙_, arith, ℤ, pos, _+ℤ_, ltZ, w32, toZ, ofZ, SFits, toZ-ofZ, toZ-pos, z-add, z-sub, zmach32}
 use Rattle.extend_weave.specs.Turn.{chosenOf, Cell}
 use Rattle.extend_weave.proofs.chosen.Statement.{statement}
 use Rattle.extend_weave.proofs.chosen.Tie as tie

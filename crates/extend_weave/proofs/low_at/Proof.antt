@@ -1,10 +1,5 @@
 -- `extend_weave::low_at` meets its contract: no product wraps, as the ranges are small.
-use borrow.Author.Needs.{needs}
-use mathlib.Core.Path.{_∙_}
-use native.Mathlib.Omega.{arith}
-use mir.Syntax.{w32}
-use mir.ValLaws.{toZ-ofZ}
-use borrow.Author.Tests.{lt-ltb, le-ltb}
+use Rattle.meaning_numbers.proofs.Prelude.{needs, _∙_, arith, w32, toZ-ofZ, lt-ltb, le-ltb}
 use Rattle.extend_weave.specs.Turn.{lowAt}
 use Rattle.extend_weave.proofs.low_at.Statement.{statement}
 use Rattle.extend_weave.proofs.low_at.Tie as tie

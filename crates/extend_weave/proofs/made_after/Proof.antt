@@ -1,10 +1,5 @@
 -- `extend_weave::made_after` meets its contract: its tests are those of the definition.
-use mathlib.Core.Path.{_≡_, sym, _∙_}
-use native.Mathlib.Omega.{arith}
-use lib.Signed.{leZ, ltZ}
-use mir.Syntax.{w32}
-use mir.Val.{toZ, ofZ}
-use mir.ValLaws.{toZ-ofZ}
+use Rattle.meaning_numbers.proofs.Prelude.{_≡_, sym, _∙_, arith, leZ, ltZ, w32, toZ, ofZ, toZ-ofZ}
 use Rattle.extend_weave.specs.Turn.{madeAfter}
 use Rattle.extend_weave.proofs.made_after.Statement.{statement}
 use Rattle.extend_weave.proofs.made_after.Tie as tie

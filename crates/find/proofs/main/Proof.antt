@@ -1,10 +1,9 @@
 -- `find::main` meets its contract: it is safe, and each function that it calls is given what it asks (`starts`, `ends`).
-use native.Mathlib.Omega.{arith}
+use borrow.Author.Needs.{needs}
 use lib.IntN.{ℤ, pos}
 use lib.ListN.{length-replicate}
-use Rattle.find.proofs.Reading.{starts, ends}
-use borrow.Author.Needs.{needs}
-use Rattle.find.proofs.main.Statement.{statement}
+use native.Mathlib.Omega.{arith}
+use Rattle.find.proofs.{Reading.starts, Reading.ends, main.Statement.statement}
 use Rattle.find.proofs.main.Tie as tie
 
 read-all-requires : tie.Need-read-all-requires

@@ -1,7 +1,7 @@
 -- `find::print_first` meets its contract.
-use native.Mathlib.Omega.{arith}
-use lib.ListN.{length-take}
 use borrow.Author.Needs.{needs}
+use lib.ListN.{length-take}
+use native.Mathlib.Omega.{arith}
 use Rattle.find.proofs.print_first.Statement.{statement}
 use Rattle.find.proofs.print_first.Tie as tie
 

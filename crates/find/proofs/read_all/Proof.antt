@@ -1,12 +1,11 @@
 -- `find::read_all` meets its contract. The invariant: some text has been read, and as many bytes more can be as the turns that are left bring. The measure is the turns that are left.
 use Prim.Native.Nat.{_*_, _-_}
-use Rattle.find.specs.Reading.{ReadTo}
-use Rattle.find.proofs.Reading.{inputOf, open-less, step-goes, read-less}
 use borrow.Author.Needs.{needs}
 use lib.ListN.{length}
 use mathlib.Core.Path.{_≡_, refl, ap, _∙_}
 use native.Mathlib.Omega.{arith}
-use Rattle.find.proofs.read_all.Statement.{statement}
+use Rattle.find.specs.Reading.{ReadTo}
+use Rattle.find.proofs.{Reading.inputOf, Reading.open-less, Reading.step-goes, Reading.read-less, read_all.Statement.statement}
 use Rattle.find.proofs.read_all.Tie as tie
 
 abbrev Inv-loop : tie.InvT-loop

@@ -1,8 +1,7 @@
 -- `find::read_on` meets its contract: a step by the piece that the read brought.
 use borrow.Author.Needs.{needs}
 use native.Mathlib.Omega.{arith}
-use Rattle.find.proofs.Reading.{stepped}
-use Rattle.find.proofs.read_on.Statement.{statement}
+use Rattle.find.proofs.{Reading.stepped, read_on.Statement.statement}
 use Rattle.find.proofs.read_on.Tie as tie
 
 take-read-requires : tie.Need-take-read-requires

@@ -1,9 +1,8 @@
 -- `find::take_read` meets its contract: the piece has a byte, or none.
 use borrow.Author.Needs.{needs}
-use native.Mathlib.Omega.{arith}
 use lib.ListN.{length-take}
-use Rattle.find.proofs.Reading.{open-less}
-use Rattle.find.proofs.take_read.Statement.{statement}
+use native.Mathlib.Omega.{arith}
+use Rattle.find.proofs.{Reading.open-less, take_read.Statement.statement}
 use Rattle.find.proofs.take_read.Tie as tie
 
 slice-aggregate-read-piece : tie.Need-slice-aggregate-read-piece

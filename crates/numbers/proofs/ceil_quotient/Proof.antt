@@ -1,15 +1,8 @@
 -- `numbers::ceil_quotient` meets its contract: 0 less the floor of 0 less the number.
-use borrow.Author.Needs.{needs}
-use mathlib.Core.Path.{_≡_, _∙_, ap}
-use native.Mathlib.Omega.{arith}
-use lib.IntN.{ℤ, negℤ}
-use mir.Syntax.{w64}
-use mir.Val.{toZ, ofZ}
-use mir.ValLaws.{toZ-ofZ}
 use Rattle.meaning_numbers.specs.Quotient.{floorℤ, ceilℤ}
+use Rattle.meaning_numbers.proofs.Prelude.{needs, _≡_, _∙_, ap, arith, ℤ, negℤ, w64, toZ, ofZ, toZ-ofZ}
 use Rattle.numbers.specs.Small.{Small}
-use Rattle.numbers.proofs.Small.{small-neg, small-floor, small-fits, small-back, zero-less}
-use Rattle.numbers.proofs.ceil_quotient.Statement.{statement}
+use Rattle.numbers.proofs.{Small.small-neg, Small.small-floor, Small.small-fits, Small.small-back, Small.zero-less, ceil_quotient.Statement.statement}
 use Rattle.numbers.proofs.ceil_quotient.Tie as tie
 
 sub-floor-quotient : tie.Need-sub-floor-quotient

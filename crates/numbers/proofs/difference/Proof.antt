@@ -1,8 +1,5 @@
 -- `numbers::difference` meets its contract.
-use borrow.Author.Needs.{needs}
-use lib.IntN.{pos, _-ℤ_}
-use Rattle.meaning_numbers.proofs.Rep.{zarith, z-sub}
-use Rattle.meaning_numbers.proofs.Machine.{z-abs}
+use Rattle.meaning_numbers.proofs.Prelude.{needs, pos, _-ℤ_, zarith, z-sub, z-abs}
 use Rattle.numbers.proofs.difference.Statement.{statement}
 use Rattle.numbers.proofs.difference.Tie as tie
 

@@ -1,15 +1,6 @@
 -- `numbers::floor_quotient` meets its contract: of a negative z the number -1 - z is not negative, and its quotient is -1 less the floor of z's.
-use borrow.Author.Needs.{needs}
-use mathlib.Core.Path.{_≡_}
-use Prim.Native.Nat.{_/_, _<_, _^_}
-use native.Mathlib.Nat.{div-le-self}
-use lib.IntN.{ℤ, pos, negsuc, _-ℤ_, natAbs}
-use mir.Syntax.{w64}
-use mir.Val.{toZ, ofZ}
-use Rattle.meaning_numbers.proofs.Rep.{z-sub}
-use Rattle.meaning_numbers.proofs.Machine.{zmach, z-abs, z-cast, z-fits}
-use Rattle.numbers.proofs.Row.{row-up, row-down}
-use Rattle.numbers.proofs.floor_quotient.Statement.{statement}
+use Rattle.meaning_numbers.proofs.Prelude.{needs, _≡_, _/_, _<_, _^_, div-le-self, ℤ, pos, negsuc, _-ℤ_, natAbs, w64, toZ, ofZ, z-sub, zmach, z-abs, z-cast, z-fits}
+use Rattle.numbers.proofs.{Row.row-up, Row.row-down, floor_quotient.Statement.statement}
 use Rattle.numbers.proofs.floor_quotient.Tie as tie
 
 -- the number, and -1 less it, as the machine reads them

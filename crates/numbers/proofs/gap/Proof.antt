@@ -1,9 +1,5 @@
 -- `numbers::gap` meets its contract: both ways are the size of x - y, whose range follows from the limits.
-use lib.IntN.{ℤ, pos, _-ℤ_}
-use mir.Syntax.{w32}
-use mir.Val.{toZ, ofZ}
-use Rattle.meaning_numbers.proofs.Machine.{z-abs, zmach32}
-use Rattle.meaning_numbers.proofs.Rep.{z-sub}
+use Rattle.meaning_numbers.proofs.Prelude.{ℤ, pos, _-ℤ_, w32, toZ, ofZ, z-abs, zmach32, z-sub}
 use Rattle.numbers.proofs.gap.Statement.{statement}
 use Rattle.numbers.proofs.gap.Tie as tie
 

@@ -1,7 +1,6 @@
 -- `numbers::greater_of` meets its contract, by the flag of its test.
-use mir.Syntax.{w64}
-use Rattle.numbers.proofs.Back.{greater-second, greater-first}
-use Rattle.numbers.proofs.greater_of.Statement.{statement}
+use Rattle.meaning_numbers.proofs.Prelude.{w64}
+use Rattle.numbers.proofs.{Back.greater-second, Back.greater-first, greater_of.Statement.statement}
 use Rattle.numbers.proofs.greater_of.Tie as tie
 
 pub greater-of-spec : {M : Type 1} → statement M

@@ -1,7 +1,6 @@
 -- `numbers::greater_value` meets its contract, by the flag of its test.
-use mir.Syntax.{w32}
-use Rattle.numbers.proofs.Back.{greater-second, greater-first}
-use Rattle.numbers.proofs.greater_value.Statement.{statement}
+use Rattle.meaning_numbers.proofs.Prelude.{w32}
+use Rattle.numbers.proofs.{Back.greater-second, Back.greater-first, greater_value.Statement.statement}
 use Rattle.numbers.proofs.greater_value.Tie as tie
 
 pub greater-value-spec : {M : Type 1} → statement M

@@ -1,9 +1,5 @@
 -- `numbers::hold` meets its contract. By the two tests.
-use lib.IntN.{pos}
-use lib.Signed.{_≤ℤ_, _<ℤ_}
-use mir.Syntax.{w64}
-use mir.ValLaws.{toZ-ofZ}
-use Rattle.meaning_numbers.proofs.Machine.{zmach, lt-ltZ, le-ltZ, z-abs}
+use Rattle.meaning_numbers.proofs.Prelude.{pos, _≤ℤ_, _<ℤ_, w64, toZ-ofZ, zmach, lt-ltZ, le-ltZ, z-abs}
 use Rattle.numbers.specs.Narrow.{held}
 use Rattle.numbers.proofs.hold.Statement.{statement}
 use Rattle.numbers.proofs.hold.Tie as tie

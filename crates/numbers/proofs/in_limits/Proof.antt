@@ -1,6 +1,5 @@
 -- `numbers::in_limits` meets its contract.
-use mathlib.Core.Path.{sym}
-use Rattle.meaning_numbers.proofs.Machine.{zmach32}
+use Rattle.meaning_numbers.proofs.Prelude.{sym, zmach32}
 use Rattle.meaning_curves.proofs.Values.{value-yes, value-no}
 use Rattle.numbers.proofs.in_limits.Statement.{statement}
 use Rattle.numbers.proofs.in_limits.Tie as tie

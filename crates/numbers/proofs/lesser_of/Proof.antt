@@ -1,7 +1,6 @@
 -- `numbers::lesser_of` meets its contract, by the flag of its test.
-use mir.Syntax.{w64}
-use Rattle.numbers.proofs.Back.{lesser-first, lesser-second}
-use Rattle.numbers.proofs.lesser_of.Statement.{statement}
+use Rattle.meaning_numbers.proofs.Prelude.{w64}
+use Rattle.numbers.proofs.{Back.lesser-first, Back.lesser-second, lesser_of.Statement.statement}
 use Rattle.numbers.proofs.lesser_of.Tie as tie
 
 pub lesser-of-spec : {M : Type 1} → statement M

@@ -1,7 +1,6 @@
 -- `numbers::lesser_value` meets its contract, by the flag of its test.
-use mir.Syntax.{w32}
-use Rattle.numbers.proofs.Back.{lesser-first, lesser-second}
-use Rattle.numbers.proofs.lesser_value.Statement.{statement}
+use Rattle.meaning_numbers.proofs.Prelude.{w32}
+use Rattle.numbers.proofs.{Back.lesser-first, Back.lesser-second, lesser_value.Statement.statement}
 use Rattle.numbers.proofs.lesser_value.Tie as tie
 
 pub lesser-value-spec : {M : Type 1} → statement M

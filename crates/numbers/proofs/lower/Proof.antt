@@ -1,10 +1,5 @@
 -- `numbers::lower` meets its contract.
-use borrow.Author.Needs.{needs}
-use native.Mathlib.Omega.{arith}
-use mir.Syntax.{w32}
-use mir.Val.{toZ}
-use Rattle.meaning_numbers.proofs.Rep.{z-sub}
-use Rattle.meaning_numbers.proofs.Machine.{zmach32, z-cast32}
+use Rattle.meaning_numbers.proofs.Prelude.{needs, arith, w32, toZ, z-sub, zmach32, z-cast32}
 use Rattle.numbers.proofs.lower.Statement.{statement}
 use Rattle.numbers.proofs.lower.Tie as tie
 

@@ -1,12 +1,5 @@
 -- `numbers::magnitude` meets its contract. Of a negative number one less is turned, so that the least i32 is no exception.
-use borrow.Author.Needs.{needs}
-use native.Mathlib.Omega.{arith}
-use Prim.Native.Nat.{_<_, _≤_, _^_}
-use lib.IntN.{ℤ, pos, negsuc, _+ℤ_, _-ℤ_}
-use mir.Syntax.{w32}
-use mir.Val.{SFits, toZ, ofZ}
-use Rattle.meaning_numbers.proofs.Rep.{up, dn, z-add, z-sub}
-use Rattle.meaning_numbers.proofs.Machine.{zmach32, z-abs}
+use Rattle.meaning_numbers.proofs.Prelude.{needs, arith, _<_, _≤_, _^_, ℤ, pos, negsuc, _+ℤ_, _-ℤ_, w32, SFits, toZ, ofZ, up, dn, z-add, z-sub, zmach32, z-abs}
 use Rattle.numbers.proofs.magnitude.Statement.{statement}
 use Rattle.numbers.proofs.magnitude.Tie as tie
 

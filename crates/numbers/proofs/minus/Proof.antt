@@ -1,9 +1,6 @@
 -- `numbers::minus` meets its contract: the numbers are small.
-use native.Mathlib.Omega.{arith}
-use mir.Syntax.{w64}
-use mir.ValLaws.{toZ-ofZ}
-use Rattle.numbers.proofs.Small.{small-sub, small-fits, small-back}
-use Rattle.numbers.proofs.minus.Statement.{statement}
+use Rattle.meaning_numbers.proofs.Prelude.{arith, w64, toZ-ofZ}
+use Rattle.numbers.proofs.{Small.small-sub, Small.small-fits, Small.small-back, minus.Statement.statement}
 use Rattle.numbers.proofs.minus.Tie as tie
 
 sub-result : tie.Need-sub-result

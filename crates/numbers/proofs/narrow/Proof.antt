@@ -1,10 +1,5 @@
 -- `numbers::narrow` meets its contract. By the two tests.
-use lib.IntN.{pos, negsuc}
-use lib.Signed.{_≤ℤ_, _<ℤ_}
-use mir.Syntax.{w32, w64}
-use mir.Val.{toZ, ofZ, SFits}
-use mir.ValLaws.{toZ-ofZ}
-use Rattle.meaning_numbers.proofs.Machine.{zmach, lt-ltZ, le-ltZ, to-sfits32}
+use Rattle.meaning_numbers.proofs.Prelude.{pos, negsuc, _≤ℤ_, _<ℤ_, w32, w64, toZ, ofZ, SFits, toZ-ofZ, zmach, lt-ltZ, le-ltZ, to-sfits32}
 use Rattle.numbers.proofs.narrow.Statement.{statement}
 use Rattle.numbers.proofs.narrow.Tie as tie
 

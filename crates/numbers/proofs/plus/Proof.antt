@@ -1,9 +1,6 @@
 -- `numbers::plus` meets its contract: the numbers are small.
-use native.Mathlib.Omega.{arith}
-use mir.Syntax.{w64}
-use mir.ValLaws.{toZ-ofZ}
-use Rattle.numbers.proofs.Small.{small-add, small-fits, small-back}
-use Rattle.numbers.proofs.plus.Statement.{statement}
+use Rattle.meaning_numbers.proofs.Prelude.{arith, w64, toZ-ofZ}
+use Rattle.numbers.proofs.{Small.small-add, Small.small-fits, Small.small-back, plus.Statement.statement}
 use Rattle.numbers.proofs.plus.Tie as tie
 
 add-result : tie.Need-add-result

@@ -1,8 +1,5 @@
 -- `numbers::quotient` meets its contract.
-use borrow.Author.Needs.{needs}
-use mathlib.Core.Path.{_≡_, sym}
-use native.Mathlib.Nat.{div-zero}
-use native.Mathlib.Omega.{arith}
+use Rattle.meaning_numbers.proofs.Prelude.{needs, _≡_, sym, div-zero, arith}
 use Rattle.numbers.proofs.quotient.Statement.{statement}
 use Rattle.numbers.proofs.quotient.Tie as tie
 

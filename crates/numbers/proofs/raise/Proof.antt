@@ -1,9 +1,5 @@
 -- `numbers::raise` meets its contract.
-use lib.IntN.{ℤ, pos, _+ℤ_}
-use mir.Syntax.{w32}
-use mir.Val.{toZ, ofZ}
-use Rattle.meaning_numbers.proofs.Machine.{z-abs, zmach32}
-use Rattle.meaning_numbers.proofs.Rep.{z-add}
+use Rattle.meaning_numbers.proofs.Prelude.{ℤ, pos, _+ℤ_, w32, toZ, ofZ, z-abs, zmach32, z-add}
 use Rattle.numbers.proofs.raise.Statement.{statement}
 use Rattle.numbers.proofs.raise.Tie as tie
 

@@ -1,9 +1,6 @@
 -- `numbers::root` meets its contract. The invariant: the root lies from r to below r + width, which is at most 2 ^ 32.
-use mathlib.Core.Path.{_≡_}
-use mathlib.Core.Logic.{⊎-elim}
-use Prim.Native.Nat.{_+_, _*_, _-_, _/_, _≤_, _<_}
-use native.Mathlib.Omega.{arith}
 use Rattle.meaning_numbers.proofs.Root.{sq-le, root-only, root-is}
+use Rattle.meaning_numbers.proofs.Prelude.{_≡_, ⊎-elim, _+_, _*_, _-_, _/_, _≤_, _<_, arith}
 use Rattle.numbers.proofs.root.Statement.{statement}
 use Rattle.numbers.proofs.root.Tie as tie
 

@@ -1,16 +1,6 @@
 -- `numbers::row_number` meets its contract: of a negative sum z the number -1 - z is not negative, and its quotient is -1 less the row's number.
-use borrow.Author.Needs.{needs}
-use mathlib.Core.Path.{_≡_, sym}
-use Prim.Native.Nat.{_<_}
-use native.Mathlib.Nat.{div-le-self}
-use lib.IntN.{ℤ, pos, negsuc, _-ℤ_, natAbs}
-use mir.Syntax.{w32}
-use mir.Val.{toZ, ofZ}
-use Rattle.meaning_numbers.proofs.Rep.{z-sub}
-use Rattle.meaning_numbers.proofs.Machine.{zmach32, z-abs, z-cast32}
-use Rattle.numbers.proofs.Back.{z-fits32}
-use Rattle.numbers.proofs.Row.{row-up, row-down}
-use Rattle.numbers.proofs.row_number.Statement.{statement}
+use Rattle.meaning_numbers.proofs.Prelude.{needs, _≡_, sym, _<_, div-le-self, ℤ, pos, negsuc, _-ℤ_, natAbs, w32, toZ, ofZ, z-sub, zmach32, z-abs, z-cast32}
+use Rattle.numbers.proofs.{Back.z-fits32, Row.row-up, Row.row-down, row_number.Statement.statement}
 use Rattle.numbers.proofs.row_number.Tie as tie
 
 -- the sum, and -1 less it, as the machine reads them

@@ -1,12 +1,7 @@
 -- `numbers::squared` meets its contract.
-use borrow.Author.Needs.{needs}
-use mathlib.Core.Path.{_≡_, refl, _∙_}
-use Prim.Native.Nat.{_*_, _≤_}
-use lib.IntN.{_-ℤ_, natAbs}
-use native.Mathlib.Omega.{arith}
+use Rattle.meaning_numbers.proofs.Prelude.{needs, _≡_, refl, _∙_, _*_, _≤_, _-ℤ_, natAbs, arith}
 use Rattle.meaning_curves.proofs.Values.{cost-le}
-use Rattle.numbers.proofs.Back.{in-back, in-arg}
-use Rattle.numbers.proofs.squared.Statement.{statement}
+use Rattle.numbers.proofs.{Back.in-back, Back.in-arg, squared.Statement.statement}
 use Rattle.numbers.proofs.squared.Tie as tie
 
 -- the difference as the meaning has it

@@ -1,9 +1,6 @@
 -- `numbers::times` meets its contract: the numbers are small.
-use native.Mathlib.Omega.{arith}
-use mir.Syntax.{w64}
-use mir.ValLaws.{toZ-ofZ}
-use Rattle.numbers.proofs.Small.{small-mul, small-fits, small-back}
-use Rattle.numbers.proofs.times.Statement.{statement}
+use Rattle.meaning_numbers.proofs.Prelude.{arith, w64, toZ-ofZ}
+use Rattle.numbers.proofs.{Small.small-mul, Small.small-fits, Small.small-back, times.Statement.statement}
 use Rattle.numbers.proofs.times.Tie as tie
 
 mul-result : tie.Need-mul-result

@@ -1,12 +1,8 @@
 -- `payout::audit_line` meets its contract. By what the line came to.
-use mathlib.Core.Path.{sym, ap, _∙_}
-use Prim.Native.Nat.{_+_}
-use native.Mathlib.Omega.{arith}
+use Rattle.meaning_numbers.proofs.Prelude.{sym, ap, _∙_, _+_, arith, needs}
 use Rattle.meaning_text.proofs.Lines.{newlines-length}
 use Rattle.meaning_entries.specs.declared.Audited.{Audited}
-use Rattle.payout.proofs.Outcome.{line-most, line-stopped, line-counted}
-use borrow.Author.Needs.{needs}
-use Rattle.payout.proofs.audit_line.Statement.{statement}
+use Rattle.payout.proofs.{Outcome.line-most, Outcome.line-stopped, Outcome.line-counted, audit_line.Statement.statement}
 use Rattle.payout.proofs.audit_line.Tie as tie
 
 pub audit-line-spec : {M : Type 1} → statement M

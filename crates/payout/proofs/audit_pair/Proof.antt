@@ -1,9 +1,7 @@
 -- `payout::audit_pair` meets its contract. By what the index text came to.
-use mathlib.Core.Path.{sym, ap, _∙_}
+use Rattle.meaning_numbers.proofs.Prelude.{sym, ap, _∙_, needs}
 use Rattle.meaning_entries.specs.declared.Audited.{Audited}
-use Rattle.payout.proofs.Outcome.{index-stopped}
-use borrow.Author.Needs.{needs}
-use Rattle.payout.proofs.audit_pair.Statement.{statement}
+use Rattle.payout.proofs.{Outcome.index-stopped, audit_pair.Statement.statement}
 use Rattle.payout.proofs.audit_pair.Tie as tie
 
 pub audit-pair-spec : {M : Type 1} → statement M

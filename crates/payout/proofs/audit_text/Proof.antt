@@ -1,13 +1,8 @@
 -- `payout::audit_text` meets its contract: its number is the answer packed, which fits.
-use mathlib.Core.Path.{sym, ap, subst, _∙_}
-use Prim.Native.Nat.{_<_, _^_}
-use native.Mathlib.Omega.{arith}
-use Rattle.meaning_entries.specs.declared.Audited.{Audited}
-use Rattle.meaning_entries.specs.AuditText.{pack, auditText}
+use Rattle.meaning_numbers.proofs.Prelude.{sym, ap, subst, _∙_, _<_, _^_, arith, needs}
+use Rattle.meaning_entries.specs.{declared.Audited.Audited, AuditText.pack, AuditText.auditText}
 use Rattle.meaning_entries.proofs.Demand2.{audit-text-kept}
-use Rattle.payout.proofs.Small.{number-small}
-use borrow.Author.Needs.{needs}
-use Rattle.payout.proofs.audit_text.Statement.{statement}
+use Rattle.payout.proofs.{Small.number-small, audit_text.Statement.statement}
 use Rattle.payout.proofs.audit_text.Tie as tie
 
 number-of-requires : tie.Need-number-of-requires

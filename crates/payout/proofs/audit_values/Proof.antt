@@ -1,17 +1,9 @@
 -- `payout::audit_values` meets its contract: the limit on n first.
-use mathlib.Core.Path.{sym, _∙_}
-use Prim.Native.Nat.{_≤_}
-use native.Mathlib.Omega.{arith}
-use lib.IntN.{pos}
-use lib.ListN.{length}
-use lib.Seq.{length-take-le}
-use borrow.Author.Tests.{not-true, not-false}
+use Rattle.meaning_numbers.proofs.Prelude.{sym, _∙_, _≤_, arith, pos, length, length-take-le, not-true, not-false, needs}
 use Rattle.meaning_curves.specs.Limits.{mostProgramValues}
 use Rattle.meaning_rows.proofs.Judge.{between}
 use Rattle.meaning_entries.specs.Load.{textIndex}
-use Rattle.payout.proofs.Outcome.{counted-outside, counted-inside}
-use borrow.Author.Needs.{needs}
-use Rattle.payout.proofs.audit_values.Statement.{statement}
+use Rattle.payout.proofs.{Outcome.counted-outside, Outcome.counted-inside, audit_values.Statement.statement}
 use Rattle.payout.proofs.audit_values.Tie as tie
 
 pub audit-values-spec : {M : Type 1} → statement M

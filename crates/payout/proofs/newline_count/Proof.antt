@@ -1,12 +1,7 @@
 -- `payout::newline_count` meets its contract: the last line has every newline before it.
-use mathlib.Core.Path.{ap, _∙_}
-use Prim.Native.Nat.{ℕ, _-_}
-use native.Mathlib.Omega.{arith}
-use lib.ListN.{length}
+use Rattle.meaning_numbers.proofs.Prelude.{ap, _∙_, ℕ, _-_, arith, length, needs}
 use Rattle.meaning_text.proofs.Lines.{line-counts}
-use Rattle.payout.proofs.Outcome.{last-line}
-use borrow.Author.Needs.{needs}
-use Rattle.payout.proofs.newline_count.Statement.{statement}
+use Rattle.payout.proofs.{Outcome.last-line, newline_count.Statement.statement}
 use Rattle.payout.proofs.newline_count.Tie as tie
 
 sub-result : tie.Need-sub-result

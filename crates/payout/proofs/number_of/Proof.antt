@@ -1,9 +1,6 @@
 -- `payout::number_of` meets its contract. By the kind of answer.
-use mathlib.Core.Path.{refl, sym, ap, subst, _∙_}
-use Prim.Native.Nat.{_<_, _^_}
-use Rattle.meaning_entries.specs.declared.Audited.{Audited}
-use Rattle.meaning_entries.specs.AuditText.{pack}
-use borrow.Author.Needs.{needs}
+use Rattle.meaning_numbers.proofs.Prelude.{refl, sym, ap, subst, _∙_, _<_, _^_, needs}
+use Rattle.meaning_entries.specs.{declared.Audited.Audited, AuditText.pack}
 use Rattle.payout.proofs.number_of.Statement.{statement}
 use Rattle.payout.proofs.number_of.Tie as tie
 

@@ -1,8 +1,6 @@
 -- `payout::refused_number` meets its contract. By the number.
-use mathlib.Core.Path.{sym, subst, _∙_}
-use Prim.Native.Nat.{ℕ, _<_, _^_}
-use Rattle.payout.proofs.Small.{packed-unread, packed-other}
-use Rattle.payout.proofs.refused_number.Statement.{statement}
+use Rattle.meaning_numbers.proofs.Prelude.{sym, subst, _∙_, ℕ, _<_, _^_}
+use Rattle.payout.proofs.{Small.packed-unread, Small.packed-other, refused_number.Statement.statement}
 use Rattle.payout.proofs.refused_number.Tie as tie
 
 unread-number-requires : tie.Need-unread-number-requires

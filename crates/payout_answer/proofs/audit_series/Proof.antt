@@ -1,11 +1,9 @@
 -- `payout_answer::audit_series` meets its contract: the answer by the plan, and where nothing refuses by the walk over the rows.
-use mathlib.Core.Path.{_≡_, sym, ap, _∙_}
-use Rattle.entry_audit.specs.declared.AuditPlan.{AuditPlan}
-use Rattle.entry_audit.specs.Plan.{planOf, answerOf}
-use Rattle.text_judge.specs.Judged.{judgedRows}
-use Rattle.payout_answer.proofs.Planned.{stopped-right, goes-sized, walked-right}
 use borrow.Author.Needs.{needs}
-use Rattle.payout_answer.proofs.audit_series.Statement.{statement}
+use mathlib.Core.Path.{_≡_, sym, ap, _∙_}
+use Rattle.entry_audit.specs.{declared.AuditPlan.AuditPlan, Plan.planOf, Plan.answerOf}
+use Rattle.text_judge.specs.Judged.{judgedRows}
+use Rattle.payout_answer.proofs.{Planned.stopped-right, Planned.goes-sized, Planned.walked-right, audit_series.Statement.statement}
 use Rattle.payout_answer.proofs.audit_series.Tie as tie
 
 -- the plan

@@ -1,12 +1,11 @@
 -- `payout_line::read_line` meets its contract: the line is fed in one piece.
-use mathlib.Core.Path.{_∙_}
-use mathlib.Core.List.{[], _∷_}
-use native.Mathlib.Omega.{arith}
-use lib.IntN.{pos}
-use Rattle.text_lines.specs.Follow.{nothingSaid}
-use Rattle.payout_line.proofs.Whole.{start-ready, line-failed, line-going}
 use borrow.Author.Needs.{needs}
-use Rattle.payout_line.proofs.read_line.Statement.{statement}
+use lib.IntN.{pos}
+use mathlib.Core.List.{[], _∷_}
+use mathlib.Core.Path.{_∙_}
+use native.Mathlib.Omega.{arith}
+use Rattle.text_lines.specs.Follow.{nothingSaid}
+use Rattle.payout_line.proofs.{Whole.start-ready, Whole.line-failed, Whole.line-going, read_line.Statement.statement}
 use Rattle.payout_line.proofs.read_line.Tie as tie
 
 pub read-line-spec : {M : Type 1} → statement M

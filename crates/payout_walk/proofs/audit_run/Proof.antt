@@ -1,12 +1,7 @@
 -- `payout_walk::audit_run` meets its contract: the run as a row of one run.
-use borrow.Author.Tests.{not-true, not-false}
-use mathlib.Core.Path.{sym, _∙_}
-use mir.Syntax.{w32}
-use mir.ValLaws.{toZ-ofZ}
+use Rattle.meaning_numbers.proofs.Prelude.{not-true, not-false, sym, _∙_, w32, toZ-ofZ, needs}
 use Rattle.payout_walk.specs.Walk.{oneRun}
-use Rattle.payout_walk.proofs.Run.{run-ready, run-off, run-on}
-use borrow.Author.Needs.{needs}
-use Rattle.payout_walk.proofs.audit_run.Statement.{statement}
+use Rattle.payout_walk.proofs.{Run.run-ready, Run.run-off, Run.run-on, audit_run.Statement.statement}
 use Rattle.payout_walk.proofs.audit_run.Tie as tie
 
 audit-chunk-requires : tie.Need-audit-chunk-requires

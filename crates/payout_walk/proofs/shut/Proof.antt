@@ -1,5 +1,5 @@
 -- `payout_walk::shut` meets its contract.
-use borrow.Author.Needs.{needs}
+use Rattle.meaning_numbers.proofs.Prelude.{needs}
 use Rattle.payout_walk.specs.Walk.{shutWalk}
 use Rattle.payout_walk.proofs.shut.Statement.{statement}
 use Rattle.payout_walk.proofs.shut.Tie as tie

@@ -1,9 +1,6 @@
 -- `payout_walk::tell` meets its contract. By the place of the number.
-use mathlib.Core.Path.{refl}
-use mir.Syntax.{w32, w64}
-use mir.ValLaws.{toZ-ofZ}
+use Rattle.meaning_numbers.proofs.Prelude.{refl, w32, w64, toZ-ofZ, needs}
 use Rattle.payout_walk.specs.Walk.{tellWalk}
-use borrow.Author.Needs.{needs}
 use Rattle.payout_walk.proofs.tell.Statement.{statement}
 use Rattle.payout_walk.proofs.tell.Tie as tie
 

@@ -1,20 +1,9 @@
 -- `payout_walk::walk_rows` meets its contract. The invariant: what is left of the text comes to what the text comes to (`Kept`), and no more rows are closed than bytes were read. The measure is what is left of the text.
-use mathlib.Core.Path.{_≡_, sym, _∙_}
-use mathlib.Core.List.{List}
-use Prim.Native.Nat.{_+_, _-_, _≤_}
-use native.Mathlib.Omega.{arith}
-use borrow.Author.Needs.{needs}
-use borrow.Author.Tests.{not-true}
-use lib.IntN.{ℤ}
-use lib.ListN.{length}
-use mir.Syntax.{w64}
-use mir.Val.{toZ, ofZ}
-use mir.ValLaws.{toZ-ofZ}
+use Rattle.meaning_numbers.proofs.Prelude.{_≡_, sym, _∙_, List, _+_, _-_, _≤_, arith, needs, not-true, ℤ, length, w64, toZ, ofZ, toZ-ofZ}
 use Rattle.meaning_rows.specs.declared.Head.{Head}
 use Rattle.text_index.proofs.View.{Kept, kept-start, kept-to, kept-value, kept-closed}
 use Rattle.payout_walk.specs.Walk.{startWalk, tellWalk, shutWalk}
-use Rattle.payout_walk.proofs.Seen.{walked-end, walked-refuse, walked-stopped, tell-rows, shut-rows}
-use Rattle.payout_walk.proofs.walk_rows.Statement.{statement}
+use Rattle.payout_walk.proofs.{Seen.walked-end, Seen.walked-refuse, Seen.walked-stopped, Seen.tell-rows, Seen.shut-rows, walk_rows.Statement.statement}
 use Rattle.payout_walk.proofs.walk_rows.Tie as tie
 
 abbrev Inv-loop : tie.InvT-loop

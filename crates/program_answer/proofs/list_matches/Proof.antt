@@ -1,9 +1,6 @@
 -- `program_answer::list_matches` meets its contract: the list of a search that is not refused (`list-put`).
-use borrow.Author.Needs.{needs}
-use Prim.Native.Nat.{ℕ}
-use Rattle.program_answer.proofs.Print.{list-put}
-use lib.ListN.{length-replicate}
-use Rattle.program_answer.proofs.list_matches.Statement.{statement}
+use Rattle.meaning_numbers.proofs.Prelude.{needs, ℕ, length-replicate}
+use Rattle.program_answer.proofs.{Print.list-put, list_matches.Statement.statement}
 use Rattle.program_answer.proofs.list_matches.Tie as tie
 
 returns : tie.Need-returns

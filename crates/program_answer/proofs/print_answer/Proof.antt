@@ -1,11 +1,7 @@
 -- `program_answer::print_answer` meets its contract: the build, its text and the list behind it (`prints`).
-use borrow.Author.Needs.{needs}
-use Prim.Native.Nat.{ℕ}
+use Rattle.meaning_numbers.proofs.Prelude.{needs, ℕ, length-take, length-replicate, arith}
 use Rattle.meaning_rows.specs.Index.{zeroRow}
-use Rattle.program_answer.proofs.Whole.{not-refused, rows-few, runs-few, prints}
-use lib.ListN.{length-take, length-replicate}
-use native.Mathlib.Omega.{arith}
-use Rattle.program_answer.proofs.print_answer.Statement.{statement}
+use Rattle.program_answer.proofs.{Whole.not-refused, Whole.rows-few, Whole.runs-few, Whole.prints, print_answer.Statement.statement}
 use Rattle.program_answer.proofs.print_answer.Tie as tie
 
 array-share-prefix-left : tie.Need-array-share-prefix-left

@@ -1,5 +1,5 @@
 -- `program_answer::put_found` meets its contract, by the answer.
-use borrow.Author.Needs.{needs}
+use Rattle.meaning_numbers.proofs.Prelude.{needs}
 use Rattle.program_answer.proofs.put_found.Statement.{statement}
 use Rattle.program_answer.proofs.put_found.Tie as tie
 

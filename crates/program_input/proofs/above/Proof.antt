@@ -1,9 +1,6 @@
 -- `program_input::above` meets its contract.
-use borrow.Author.Needs.{needs}
-use Rattle.program_input.proofs.Text.{cast-is}
-use mir.Syntax.{w64}
-use mir.ValLaws.{toZ-ofZ}
-use Rattle.program_input.proofs.above.Statement.{statement}
+use Rattle.meaning_numbers.proofs.Prelude.{needs, w64, toZ-ofZ}
+use Rattle.program_input.proofs.{Text.cast-is, above.Statement.statement}
 use Rattle.program_input.proofs.above.Tie as tie
 
 returns : tie.Need-returns

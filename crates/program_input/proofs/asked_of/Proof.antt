@@ -1,9 +1,6 @@
 -- `program_input::asked_of` meets its contract: each number fits its type.
-use borrow.Author.Needs.{needs}
+use Rattle.meaning_numbers.proofs.Prelude.{needs, zarith, w64, toZ-ofZ}
 use Rattle.program_input.specs.Tables.{askedOf}
-use Rattle.meaning_numbers.proofs.Rep.{zarith}
-use mir.Syntax.{w64}
-use mir.ValLaws.{toZ-ofZ}
 use Rattle.program_input.proofs.asked_of.Statement.{statement}
 use Rattle.program_input.proofs.asked_of.Tie as tie
 

@@ -1,14 +1,6 @@
 -- `program_input::band_outside` meets its contract.
-use borrow.Author.Needs.{needs}
-use Rattle.program_input.proofs.Text.{cast-is}
-use Rattle.meaning_numbers.proofs.Machine.{zmach}
-use Rattle.meaning_numbers.proofs.Rep.{z-sub}
-use lib.IntN.{pos, _-ℤ_}
-use mathlib.Core.Path.{_∙_}
-use mir.Syntax.{w64}
-use mir.Val.{SFits}
-use mir.ValLaws.{toZ-ofZ}
-use Rattle.program_input.proofs.band_outside.Statement.{statement}
+use Rattle.meaning_numbers.proofs.Prelude.{needs, zmach, z-sub, pos, _-ℤ_, _∙_, w64, SFits, toZ-ofZ}
+use Rattle.program_input.proofs.{Text.cast-is, band_outside.Statement.statement}
 use Rattle.program_input.proofs.band_outside.Tie as tie
 
 sub-most : tie.Need-sub-most

@@ -1,10 +1,5 @@
 -- `program_input::held` meets its contract.
-use borrow.Author.Needs.{needs}
-use Rattle.meaning_numbers.proofs.Machine.{zmach, z-abs}
-use lib.IntN.{pos}
-use lib.Signed.{_≤ℤ_}
-use mir.Syntax.{w64}
-use mir.ValLaws.{toZ-ofZ}
+use Rattle.meaning_numbers.proofs.Prelude.{needs, zmach, z-abs, pos, _≤ℤ_, w64, toZ-ofZ}
 use Rattle.program_input.proofs.held.Statement.{statement}
 use Rattle.program_input.proofs.held.Tie as tie
 

@@ -1,8 +1,6 @@
 -- `program_input::line_in` meets its contract.
-use borrow.Author.Needs.{needs}
-use Rattle.program_input.proofs.InputLaws.{line-most}
-use native.Mathlib.Omega.{arith}
-use Rattle.program_input.proofs.line_in.Statement.{statement}
+use Rattle.meaning_numbers.proofs.Prelude.{needs, arith}
+use Rattle.program_input.proofs.{InputLaws.line-most, line_in.Statement.statement}
 use Rattle.program_input.proofs.line_in.Tie as tie
 
 add-result : tie.Need-add-result

@@ -1,5 +1,5 @@
 -- `program_input::numbers_of` meets its contract: each number is read at its place.
-use borrow.Author.Needs.{needs}
+use Rattle.meaning_numbers.proofs.Prelude.{needs}
 use Rattle.program_input.specs.Tables.{numbersAt}
 use Rattle.program_input.proofs.numbers_of.Statement.{statement}
 use Rattle.program_input.proofs.numbers_of.Tie as tie

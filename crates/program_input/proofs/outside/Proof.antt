@@ -1,13 +1,8 @@
 -- `program_input::outside` meets its contract, by the two tests.
-use Rattle.program_input.proofs.Text.{not-le}
-use Rattle.meaning_numbers.proofs.Machine.{zmach}
 use Rattle.meaning_numbers.specs.Order.{within}
+use Rattle.meaning_numbers.proofs.Prelude.{zmach, ℤ, _≤ℤ_, _<ℤ_, w64, toZ-ofZ}
 use Rattle.text_feed.proofs.Keep.{gt-leZ, le-leZ}
-use lib.IntN.{ℤ}
-use lib.Signed.{_≤ℤ_, _<ℤ_}
-use mir.Syntax.{w64}
-use mir.ValLaws.{toZ-ofZ}
-use Rattle.program_input.proofs.outside.Statement.{statement}
+use Rattle.program_input.proofs.{Text.not-le, outside.Statement.statement}
 use Rattle.program_input.proofs.outside.Tie as tie
 
 returns : tie.Need-returns

@@ -1,7 +1,6 @@
 -- `program_input::read_piece` meets its contract, by what feeding comes to.
-use borrow.Author.Needs.{needs}
-use Rattle.program_input.proofs.InputLaws.{open-ready, read-still, read-going, read-failed}
-use Rattle.program_input.proofs.read_piece.Statement.{statement}
+use Rattle.meaning_numbers.proofs.Prelude.{needs}
+use Rattle.program_input.proofs.{InputLaws.open-ready, InputLaws.read-still, InputLaws.read-going, InputLaws.read-failed, read_piece.Statement.statement}
 use Rattle.program_input.proofs.read_piece.Tie as tie
 
 returns-2 : tie.Need-returns-2

@@ -1,9 +1,6 @@
 -- `program_input::refuse` meets its contract, by where the input stands.
-use borrow.Author.Needs.{needs}
-use Rattle.program_input.proofs.Text.{end-failed, end-short, end-done, sound-end}
-use borrow.Author.Tests.{not-true, not-false}
-use mathlib.Core.Path.{sym, _∙_}
-use Rattle.program_input.proofs.refuse.Statement.{statement}
+use Rattle.meaning_numbers.proofs.Prelude.{needs, not-true, not-false, sym, _∙_}
+use Rattle.program_input.proofs.{Text.end-failed, Text.end-short, Text.end-done, Text.sound-end, refuse.Statement.statement}
 use Rattle.program_input.proofs.refuse.Tie as tie
 
 returns-3 : tie.Need-returns-3

@@ -1,19 +1,11 @@
 -- `program_input::refuse_call` meets its contract, one part of the table after the other.
-use borrow.Author.Needs.{needs}
-use Prim.Native.Nat.{_≤_}
+use Rattle.meaning_numbers.proofs.Prelude.{needs, _≤_, length, take, length-take, List, [], _∷_, _++_, _∙_, w64, toZ-ofZ, arith}
+use Rattle.meaning_entries.specs.Refusal.{Condition, flatQuery, normalFlat}
+use Rattle.meaning_entries.proofs.Refusal.{AllPass}
 use Rattle.refusals.specs.Refusal.{passes}
 use Rattle.refusals.proofs.RefusalLaws.{line-before, part-refuses, part-passes}
 use Rattle.program_input.specs.Tables.{kindOf, valuesTable, numbersTable, callTable}
-use Rattle.program_input.proofs.Text.{values-lack, numbers-lack, series-few, query-in, query-few}
-use Rattle.meaning_entries.proofs.Refusal.{AllPass}
-use Rattle.meaning_entries.specs.Refusal.{Condition, flatQuery, normalFlat}
-use lib.ListN.{length, take, length-take}
-use mathlib.Core.List.{List, [], _∷_, _++_}
-use mathlib.Core.Path.{_∙_}
-use mir.Syntax.{w64}
-use mir.ValLaws.{toZ-ofZ}
-use native.Mathlib.Omega.{arith}
-use Rattle.program_input.proofs.refuse_call.Statement.{statement}
+use Rattle.program_input.proofs.{Text.values-lack, Text.numbers-lack, Text.series-few, Text.query-in, Text.query-few, refuse_call.Statement.statement}
 use Rattle.program_input.proofs.refuse_call.Tie as tie
 
 -- the parts of the table

@@ -1,11 +1,8 @@
 -- `program_input::refuse_numbers` meets its contract: each test is a line of the table (`line-before`).
-use borrow.Author.Needs.{needs}
+use Rattle.meaning_numbers.proofs.Prelude.{needs, _||_, w64, toZ-ofZ}
+use Rattle.meaning_entries.proofs.Refusal.{openLines}
 use Rattle.refusals.proofs.RefusalLaws.{line-before}
 use Rattle.program_input.specs.Tables.{numbersTable}
-use Rattle.meaning_entries.proofs.Refusal.{openLines}
-use mathlib.Core.Bool.{_||_}
-use mir.Syntax.{w64}
-use mir.ValLaws.{toZ-ofZ}
 use Rattle.program_input.proofs.refuse_numbers.Statement.{statement}
 use Rattle.program_input.proofs.refuse_numbers.Tie as tie
 

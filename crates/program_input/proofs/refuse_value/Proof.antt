@@ -1,6 +1,5 @@
 -- `program_input::refuse_value` meets its contract, by its test.
-use borrow.Author.Tests.{lt-ltb, le-ltb}
-use mathlib.Core.Path.{refl}
+use Rattle.meaning_numbers.proofs.Prelude.{lt-ltb, le-ltb, refl}
 use Rattle.refusals.specs.Refusal.{refuseAt}
 use Rattle.program_input.proofs.refuse_value.Statement.{statement}
 use Rattle.program_input.proofs.refuse_value.Tie as tie

@@ -1,7 +1,5 @@
 -- `program_input::refuse_values` meets its contract: each test is a line of the table.
-use borrow.Author.Needs.{needs}
-use mathlib.Core.Path.{ap}
-use mathlib.Core.Bool.{not}
+use Rattle.meaning_numbers.proofs.Prelude.{needs, ap, not}
 use Rattle.meaning_entries.specs.Refusal.{atPlace, lengthOutside}
 use Rattle.refusals.proofs.RefusalLaws.{line-before, place-before}
 use Rattle.program_input.specs.Tables.{firstOut, valuesTable}

@@ -1,9 +1,8 @@
 -- `program_print::finish` meets its contract, by what refuses.
 use borrow.Author.Needs.{needs}
-use Rattle.program_print.proofs.End.{sound-here, refused-end, not-failed, given-here, call-free, printed-end}
 use lib.ListN.{length-take}
 use native.Mathlib.Omega.{arith}
-use Rattle.program_print.proofs.finish.Statement.{statement}
+use Rattle.program_print.proofs.{End.sound-here, End.refused-end, End.not-failed, End.given-here, End.call-free, End.printed-end, finish.Statement.statement}
 use Rattle.program_print.proofs.finish.Tie as tie
 
 refuse-requires : tie.Need-refuse-requires

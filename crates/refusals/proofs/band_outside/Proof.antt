@@ -1,6 +1,5 @@
 -- `refusals::band_outside` meets its contract (`band-is`).
-use Rattle.refusals.proofs.Tests.{band-is}
-use Rattle.refusals.proofs.band_outside.Statement.{statement}
+use Rattle.refusals.proofs.{Tests.band-is, band_outside.Statement.statement}
 use Rattle.refusals.proofs.band_outside.Tie as tie
 
 returns : tie.Need-returns

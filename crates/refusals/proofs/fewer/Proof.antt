@@ -1,7 +1,6 @@
 -- `refusals::fewer` meets its contract (`fewer-is`).
-use borrow.Author.Needs.{needs}
-use Rattle.refusals.proofs.Tests.{fewer-is}
-use Rattle.refusals.proofs.fewer.Statement.{statement}
+use Rattle.meaning_numbers.proofs.Prelude.{needs}
+use Rattle.refusals.proofs.{Tests.fewer-is, fewer.Statement.statement}
 use Rattle.refusals.proofs.fewer.Tie as tie
 
 returns : tie.Need-returns

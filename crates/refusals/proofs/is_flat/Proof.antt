@@ -1,7 +1,6 @@
 -- `refusals::is_flat` meets its contract (`flat-is`).
-use borrow.Author.Needs.{needs}
-use Rattle.refusals.proofs.Flat.{flat-is}
-use Rattle.refusals.proofs.is_flat.Statement.{statement}
+use Rattle.meaning_numbers.proofs.Prelude.{needs}
+use Rattle.refusals.proofs.{Flat.flat-is, is_flat.Statement.statement}
 use Rattle.refusals.proofs.is_flat.Tie as tie
 
 returns : tie.Need-returns

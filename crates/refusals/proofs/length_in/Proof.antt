@@ -1,6 +1,6 @@
 -- `refusals::length_in` meets its contract: its two tests are those of the definition.
 use Rattle.meaning_numbers.specs.Order.{within}
-use borrow.Author.Needs.{needs}
+use Rattle.meaning_numbers.proofs.Prelude.{needs}
 use Rattle.refusals.proofs.length_in.Statement.{statement}
 use Rattle.refusals.proofs.length_in.Tie as tie
 

@@ -1,8 +1,6 @@
 -- `refusals::merge_outside` meets its contract (`from-zero`).
-use mathlib.Core.Path.{ap}
-use mathlib.Core.Bool.{not}
-use Rattle.refusals.proofs.Tests.{from-zero}
-use Rattle.refusals.proofs.merge_outside.Statement.{statement}
+use Rattle.meaning_numbers.proofs.Prelude.{ap, not}
+use Rattle.refusals.proofs.{Tests.from-zero, merge_outside.Statement.statement}
 use Rattle.refusals.proofs.merge_outside.Tie as tie
 
 returns : tie.Need-returns

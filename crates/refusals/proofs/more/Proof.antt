@@ -1,7 +1,6 @@
 -- `refusals::more` meets its contract (`more-is`, `not-more`).
-use borrow.Author.Needs.{needs}
-use Rattle.refusals.proofs.Tests.{more-is, not-more}
-use Rattle.refusals.proofs.more.Statement.{statement}
+use Rattle.meaning_numbers.proofs.Prelude.{needs}
+use Rattle.refusals.proofs.{Tests.more-is, Tests.not-more, more.Statement.statement}
 use Rattle.refusals.proofs.more.Tie as tie
 
 returns : tie.Need-returns

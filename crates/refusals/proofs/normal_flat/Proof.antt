@@ -1,7 +1,6 @@
 -- `refusals::normal_flat` meets its contract, by the kind.
-use borrow.Author.Needs.{needs}
-use Rattle.refusals.proofs.Flat.{raw-flat, normal-is-flat}
-use Rattle.refusals.proofs.normal_flat.Statement.{statement}
+use Rattle.meaning_numbers.proofs.Prelude.{needs}
+use Rattle.refusals.proofs.{Flat.raw-flat, Flat.normal-is-flat, normal_flat.Statement.statement}
 use Rattle.refusals.proofs.normal_flat.Tie as tie
 
 returns : tie.Need-returns

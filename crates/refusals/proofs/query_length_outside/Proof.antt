@@ -1,6 +1,6 @@
 -- `refusals::query_length_outside` meets its contract: its tests are those of the definition.
 use Rattle.meaning_numbers.specs.Order.{within}
-use borrow.Author.Needs.{needs}
+use Rattle.meaning_numbers.proofs.Prelude.{needs}
 use Rattle.refusals.proofs.query_length_outside.Statement.{statement}
 use Rattle.refusals.proofs.query_length_outside.Tie as tie
 

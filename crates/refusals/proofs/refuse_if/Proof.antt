@@ -1,6 +1,5 @@
 -- `refusals::refuse_if` meets its contract, by the test.
-use mathlib.Core.Path.{sym, ap}
-use mathlib.Core.Bool.{Bool}
+use Rattle.meaning_numbers.proofs.Prelude.{sym, ap, Bool}
 use Rattle.refusals.specs.Refusal.{refuseIf}
 use Rattle.refusals.proofs.refuse_if.Statement.{statement}
 use Rattle.refusals.proofs.refuse_if.Tie as tie

@@ -1,8 +1,6 @@
 -- `refusals::refuse_judged` meets its contract, by what judging said.
-use borrow.Author.Needs.{needs}
-use mathlib.Core.Path.{sym, ap}
-use Rattle.rows_judge.specs.declared.Judged.{Judged}
-use Rattle.rows_judge.specs.Judged.{badRow}
+use Rattle.meaning_numbers.proofs.Prelude.{needs, sym, ap}
+use Rattle.rows_judge.specs.{declared.Judged.Judged, Judged.badRow}
 use Rattle.refusals.specs.Refusal.{refuseAt}
 use Rattle.refusals.proofs.refuse_judged.Statement.{statement}
 use Rattle.refusals.proofs.refuse_judged.Tie as tie

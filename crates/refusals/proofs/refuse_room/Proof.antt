@@ -1,8 +1,7 @@
 -- `refusals::refuse_room` meets its contract: each test is a line of the table (`line-before`).
-use borrow.Author.Needs.{needs}
+use Rattle.meaning_numbers.proofs.Prelude.{needs}
 use Rattle.meaning_entries.specs.Refusal.{bufferShort}
-use Rattle.refusals.proofs.RefusalLaws.{line-before}
-use Rattle.refusals.proofs.refuse_room.Statement.{statement}
+use Rattle.refusals.proofs.{RefusalLaws.line-before, refuse_room.Statement.statement}
 use Rattle.refusals.proofs.refuse_room.Tie as tie
 
 returns : tie.Need-returns

@@ -1,7 +1,5 @@
 -- `refusals::refuse_series` meets its contract, by the length.
-use borrow.Author.Needs.{needs}
-use mathlib.Core.Path.{sym, ap, _∙_}
-use mathlib.Core.Bool.{Bool, not}
+use Rattle.meaning_numbers.proofs.Prelude.{needs, sym, ap, _∙_, Bool, not}
 use Rattle.meaning_curves.specs.Limits.{firstOutside}
 use Rattle.refusals.specs.Refusal.{refuseIf, refuseAt}
 use Rattle.refusals.proofs.refuse_series.Statement.{statement}

@@ -1,12 +1,8 @@
 -- `refusals::refuse_value` meets its contract, by the first value outside.
-use borrow.Author.Needs.{needs}
-use mathlib.Core.Path.{_≡_, refl, sym, ap, _∙_}
-use mathlib.Core.Option.{Option, none, some}
-use Prim.Native.Nat.{ℕ}
+use Rattle.meaning_numbers.proofs.Prelude.{needs, _≡_, refl, sym, ap, _∙_, Option, none, some, ℕ}
 use Rattle.meaning_curves.specs.Limits.{firstOutside}
-use Rattle.values.specs.declared.Place.{Place}
+use Rattle.values.specs.{declared.Place.Place, Place.placed}
 use Rattle.values.specs.declared.Place.the-variants.{At, Nowhere}
-use Rattle.values.specs.Place.{placed}
 use Rattle.refusals.specs.Refusal.{refuseAt}
 use Rattle.refusals.proofs.refuse_value.Statement.{statement}
 use Rattle.refusals.proofs.refuse_value.Tie as tie

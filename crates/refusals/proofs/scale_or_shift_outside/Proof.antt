@@ -1,11 +1,8 @@
 -- `refusals::scale_or_shift_outside` meets its contract (`from-zero`).
-use mathlib.Core.Path.{ap}
-use mathlib.Core.Bool.{Bool, not, _||_}
-use lib.IntN.{pos}
 use Rattle.meaning_numbers.specs.Order.{within}
+use Rattle.meaning_numbers.proofs.Prelude.{ap, Bool, not, _||_, pos}
 use Rattle.meaning_curves.specs.Limits.{scaleIn}
-use Rattle.refusals.proofs.Tests.{from-zero}
-use Rattle.refusals.proofs.scale_or_shift_outside.Statement.{statement}
+use Rattle.refusals.proofs.{Tests.from-zero, scale_or_shift_outside.Statement.statement}
 use Rattle.refusals.proofs.scale_or_shift_outside.Tie as tie
 
 returns : tie.Need-returns

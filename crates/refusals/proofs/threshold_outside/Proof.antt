@@ -1,8 +1,6 @@
 -- `refusals::threshold_outside` meets its contract (`from-zero`).
-use mathlib.Core.Path.{ap}
-use mathlib.Core.Bool.{not}
-use Rattle.refusals.proofs.Tests.{from-zero}
-use Rattle.refusals.proofs.threshold_outside.Statement.{statement}
+use Rattle.meaning_numbers.proofs.Prelude.{ap, not}
+use Rattle.refusals.proofs.{Tests.from-zero, threshold_outside.Statement.statement}
 use Rattle.refusals.proofs.threshold_outside.Tie as tie
 
 returns : tie.Need-returns

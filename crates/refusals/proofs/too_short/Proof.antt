@@ -1,6 +1,5 @@
 -- `refusals::too_short` meets its contract (`short-is`, `not-short`).
-use Rattle.refusals.proofs.Tests.{short-is, not-short}
-use Rattle.refusals.proofs.too_short.Statement.{statement}
+use Rattle.refusals.proofs.{Tests.short-is, Tests.not-short, too_short.Statement.statement}
 use Rattle.refusals.proofs.too_short.Tie as tie
 
 returns : tie.Need-returns

@@ -1,7 +1,6 @@
 -- `refusals::unrefused` meets its contract (`none-is`).
-use mathlib.Core.Path.{sym}
-use Rattle.refusals.proofs.RefusalLaws.{none-is}
-use Rattle.refusals.proofs.unrefused.Statement.{statement}
+use Rattle.meaning_numbers.proofs.Prelude.{sym}
+use Rattle.refusals.proofs.{RefusalLaws.none-is, unrefused.Statement.statement}
 use Rattle.refusals.proofs.unrefused.Tie as tie
 
 returns : tie.Need-returns

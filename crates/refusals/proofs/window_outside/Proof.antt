@@ -1,6 +1,6 @@
 -- `refusals::window_outside` meets its contract: its tests are those of the definition.
-use borrow.Author.Needs.{needs}
 use Rattle.meaning_numbers.specs.Order.{within}
+use Rattle.meaning_numbers.proofs.Prelude.{needs}
 use Rattle.refusals.proofs.window_outside.Statement.{statement}
 use Rattle.refusals.proofs.window_outside.Tie as tie
 

@@ -1,9 +1,5 @@
 -- `rows_find::next_hi` meets its contract.
-use mathlib.Core.Path.{_≡_, sym, _∙_}
-use lib.Signed.{leZ}
-use mir.Syntax.{w32}
-use mir.Val.{toZ, ofZ}
-use mir.ValLaws.{toZ-ofZ}
+use Rattle.meaning_numbers.proofs.Prelude.{_≡_, sym, _∙_, leZ, w32, toZ, ofZ, toZ-ofZ}
 use Rattle.rows_find.proofs.next_hi.Statement.{statement}
 use Rattle.rows_find.proofs.next_hi.Tie as tie
 

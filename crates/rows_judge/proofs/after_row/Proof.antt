@@ -1,14 +1,5 @@
 -- `rows_judge::after_row` meets its contract. Where the total is good, it is at most the windows, so that the sum fits.
-use mathlib.Core.Path.{_≡_, refl, sym, _∙_, ap}
-use mathlib.Core.Bool.{Bool, true, false, _&&_}
-use Prim.Native.Nat.{_+_}
-use native.Mathlib.Omega.{arith}
-use lib.Dec.{leb}
-use mir.Syntax.{w32}
-use mir.ValLaws.{toZ-ofZ}
-use borrow.Author.Tests.{leb-true}
-use Rattle.meaning_numbers.proofs.Tests.{both}
-use borrow.Author.Needs.{needs}
+use Rattle.meaning_numbers.proofs.Prelude.{_≡_, refl, sym, _∙_, ap, Bool, true, false, _&&_, _+_, arith, leb, w32, toZ-ofZ, leb-true, both, needs}
 use Rattle.rows_judge.proofs.after_row.Statement.{statement}
 use Rattle.rows_judge.proofs.after_row.Tie as tie
 

@@ -1,17 +1,6 @@
 -- `rows_judge::are_multiples` meets its contract: what lies d above a multiple is one (`next-multiple`); in 64 bits no sum wraps.
-use mathlib.Core.Path.{_≡_, refl, sym, _∙_, ap}
-use mathlib.Core.Bool.{true, _&&_}
-use Prim.Native.Nat.{ℕ, _<_, _^_}
-use native.Mathlib.Omega.{arith}
-use lib.IntN.{ℤ, pos, negsuc, _+ℤ_}
-use mir.Syntax.{w32, w64}
-use mir.Val.{SFits, toZ, ofZ}
-use mir.ValLaws.{toZ-ofZ, toZ-pos}
-use borrow.Author.Needs.{needs}
 use Rattle.meaning_numbers.specs.Quotient.{multiple}
-use Rattle.meaning_numbers.proofs.Rep.{z-add}
-use Rattle.meaning_numbers.proofs.Machine.{zmach}
-use Rattle.meaning_numbers.proofs.Tests.{by-test}
+use Rattle.meaning_numbers.proofs.Prelude.{_≡_, refl, sym, _∙_, ap, true, _&&_, ℕ, _<_, _^_, arith, ℤ, pos, negsuc, _+ℤ_, w32, w64, SFits, toZ, ofZ, toZ-ofZ, toZ-pos, needs, z-add, zmach, by-test}
 use Rattle.meaning_rows.proofs.Range.{multiple-is, multiple-of, up-is}
 use Rattle.rows_judge.proofs.are_multiples.Statement.{statement}
 use Rattle.rows_judge.proofs.are_multiples.Tie as tie

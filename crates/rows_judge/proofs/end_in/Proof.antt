@@ -1,6 +1,6 @@
 -- `rows_judge::end_in` meets its contract: its two tests are those of the definition.
 use Rattle.meaning_numbers.specs.Order.{within}
-use borrow.Author.Needs.{needs}
+use Rattle.meaning_numbers.proofs.Prelude.{needs}
 use Rattle.rows_judge.proofs.end_in.Statement.{statement}
 use Rattle.rows_judge.proofs.end_in.Tie as tie
 

@@ -1,7 +1,5 @@
 -- `rows_judge::ends_good` meets its contract: its tests are those that it states, on numbers that the machine reads back as they are.
-use mir.Syntax.{w32}
-use mir.ValLaws.{toZ-ofZ}
-use borrow.Author.Needs.{needs}
+use Rattle.meaning_numbers.proofs.Prelude.{w32, toZ-ofZ, needs}
 use Rattle.rows_judge.proofs.ends_good.Statement.{statement}
 use Rattle.rows_judge.proofs.ends_good.Tie as tie
 

@@ -1,7 +1,7 @@
 -- `rows_judge::head_good` meets its contract: its tests are those of the definition.
 use Rattle.meaning_numbers.specs.Order.{within}
+use Rattle.meaning_numbers.proofs.Prelude.{needs}
 use Rattle.meaning_rows.specs.Judge.{headGood}
-use borrow.Author.Needs.{needs}
 use Rattle.rows_judge.proofs.head_good.Statement.{statement}
 use Rattle.rows_judge.proofs.head_good.Tie as tie
 

@@ -1,13 +1,6 @@
 -- `rows_judge::is_multiple` meets its contract. By 0 a number leaves itself.
-use mathlib.Core.Path.{_≡_, sym, _∙_, ap}
-use Prim.Native.Nat.{ℕ, _%_}
-use native.Mathlib.Nat.{mod-zero}
-use lib.Dec.{eqb}
-use lib.IntN.{natAbs}
-use mir.Syntax.{w32}
-use mir.ValLaws.{toZ-ofZ}
 use Rattle.meaning_numbers.specs.Quotient.{multiple}
-use borrow.Author.Needs.{needs}
+use Rattle.meaning_numbers.proofs.Prelude.{_≡_, sym, _∙_, ap, ℕ, _%_, mod-zero, eqb, natAbs, w32, toZ-ofZ, needs}
 use Rattle.rows_judge.proofs.is_multiple.Statement.{statement}
 use Rattle.rows_judge.proofs.is_multiple.Tie as tie
 

@@ -1,8 +1,6 @@
 -- `rows_judge::judge_head` meets its contract.
-use mathlib.Core.Path.{ap}
-use mathlib.Core.Bool.{Bool}
+use Rattle.meaning_numbers.proofs.Prelude.{ap, Bool, needs}
 use Rattle.meaning_curves.specs.Limits.{lowestEnd}
-use borrow.Author.Needs.{needs}
 use Rattle.rows_judge.proofs.judge_head.Statement.{statement}
 use Rattle.rows_judge.proofs.judge_head.Tie as tie
 

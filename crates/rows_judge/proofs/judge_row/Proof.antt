@@ -1,19 +1,9 @@
 -- `rows_judge::judge_row` meets its contract: a row that does not fit ends in the failed state, and one that fits is judged by its runs, which lie inside the run buffer.
-use mathlib.Core.Path.{_≡_, sym, _∙_, ap}
-use mathlib.Core.Bool.{_&&_}
-use mathlib.Core.List.{[]}
-use Prim.Native.Nat.{ℕ, _+_, _-_, _≤_, min}
-use native.Mathlib.Omega.{arith}
-use lib.IntN.{pos}
-use lib.ListN.{length, take, drop}
-use borrow.Author.Tests.{not-true, not-false}
-use Rattle.meaning_rows.specs.Index.{Index, lent, entries, runsOf}
-use Rattle.meaning_rows.specs.Judge.{rangeGood, partGood}
-use Rattle.rows_judge.specs.Judging.{room, scan, after}
+use Rattle.meaning_numbers.proofs.Prelude.{_≡_, sym, _∙_, ap, _&&_, [], ℕ, _+_, _-_, _≤_, min, arith, pos, length, take, drop, not-true, not-false, needs}
+use Rattle.meaning_rows.specs.{Index.Index, Index.lent, Index.entries, Index.runsOf, Judge.rangeGood, Judge.partGood}
 use Rattle.meaning_rows.proofs.Grown.{length-entries}
-use Rattle.rows_judge.proofs.Next.{fitting, fits-room, next-bad, next-fits}
-use borrow.Author.Needs.{needs}
-use Rattle.rows_judge.proofs.judge_row.Statement.{statement}
+use Rattle.rows_judge.specs.Judging.{room, scan, after}
+use Rattle.rows_judge.proofs.{Next.fitting, Next.fits-room, Next.next-bad, Next.next-fits, judge_row.Statement.statement}
 use Rattle.rows_judge.proofs.judge_row.Tie as tie
 
 -- the index as far as a row needs it

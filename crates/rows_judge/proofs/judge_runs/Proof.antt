@@ -1,20 +1,10 @@
 -- `rows_judge::judge_runs` meets its contract. The loop's invariant: judging the runs that are left, from where the last run ended, gives what is to be returned, unless the last run ends outside the windows; and the lengths so far total at most what is passed, so that no sum wraps.
 -- The measure is how many runs are left.
-use mathlib.Core.Path.{_≡_, refl, sym, _∙_, ap}
-use mathlib.Core.Bool.{true}
-use Prim.Native.Nat.{ℕ, _+_, _-_, _<_, _≤_}
-use mathlib.Core.List.{List, [], _∷_}
-use native.Mathlib.Omega.{arith}
-use lib.IntN.{pos}
-use lib.ListN.{getD}
-use mir.Syntax.{w32}
-use mir.Val.{Fits}
-use borrow.Author.Tests.{le-leb, lt-leb}
+use Rattle.meaning_numbers.proofs.Prelude.{_≡_, refl, sym, _∙_, ap, true, ℕ, _+_, _-_, _<_, _≤_, List, [], _∷_, arith, pos, getD, w32, Fits, le-leb, lt-leb}
 use Rattle.meaning_rows.specs.Index.{Entry}
-use Rattle.rows_judge.specs.declared.Lengths.{Lengths}
-use Rattle.rows_judge.specs.Judging.{untold, scan}
-use Rattle.rows_judge.proofs.Scan.{part, part-next, part-none, inside, Follows, follows, inside-next, inside-bad, scan-end}
+use Rattle.rows_judge.specs.{declared.Lengths.Lengths, Judging.untold, Judging.scan}
 use Rattle.rows_judge.proofs.judge_runs.Statement.{statement}
+use Rattle.rows_judge.proofs.Scan.{part, part-next, part-none, inside, Follows, follows, inside-next, inside-bad, scan-end}
 use Rattle.rows_judge.proofs.judge_runs.Tie as tie
 use Rattle.rows_judge.proofs.judge_runs.Reads as reads
 use Rattle.rows_judge.proofs.judge_runs.Lts as lts

@@ -1,13 +1,8 @@
 -- `rows_judge::range_good` meets its contract: its tests are those of the definition in another order, on numbers that the machine reads back as they are.
-use mathlib.Core.Path.{_≡_, refl}
-use mathlib.Core.Bool.{Bool, true, false, _&&_}
-use mir.Syntax.{w32}
-use mir.ValLaws.{toZ-ofZ}
-use Rattle.meaning_rows.specs.Judge.{rangeGood}
-use lib.Signed.{leZ, ltZ}
 use Rattle.meaning_numbers.specs.Quotient.{multiple}
+use Rattle.meaning_numbers.proofs.Prelude.{_≡_, refl, Bool, true, false, _&&_, w32, toZ-ofZ, leZ, ltZ, needs}
 use Rattle.meaning_curves.specs.Limits.{endIn}
-use borrow.Author.Needs.{needs}
+use Rattle.meaning_rows.specs.Judge.{rangeGood}
 use Rattle.rows_judge.proofs.range_good.Statement.{statement}
 use Rattle.rows_judge.proofs.range_good.Tie as tie
 

@@ -1,7 +1,5 @@
 -- `rows_judge::row_fits` meets its contract.
-use mir.Syntax.{w32}
-use mir.ValLaws.{toZ-ofZ}
-use borrow.Author.Needs.{needs}
+use Rattle.meaning_numbers.proofs.Prelude.{w32, toZ-ofZ, needs}
 use Rattle.rows_judge.proofs.row_fits.Statement.{statement}
 use Rattle.rows_judge.proofs.row_fits.Tie as tie
 

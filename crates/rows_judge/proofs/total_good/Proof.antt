@@ -1,10 +1,5 @@
 -- `rows_judge::total_good` meets its contract.
-use mathlib.Core.Path.{_≡_, sym}
-use Prim.Native.Nat.{ℕ, _+_, _-_, _≤_}
-use native.Mathlib.Decide.{decLe}
-use native.Mathlib.Omega.{arith}
-use lib.Dec.{leb}
-use borrow.Author.Tests.{le-leb, lt-leb}
+use Rattle.meaning_numbers.proofs.Prelude.{_≡_, sym, ℕ, _+_, _-_, _≤_, decLe, arith, leb, le-leb, lt-leb}
 use Rattle.rows_judge.proofs.total_good.Statement.{statement}
 use Rattle.rows_judge.proofs.total_good.Tie as tie
 

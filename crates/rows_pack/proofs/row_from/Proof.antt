@@ -1,11 +1,5 @@
 -- `rows_pack::row_from` meets its contract.
-use borrow.Author.Needs.{needs}
-use mathlib.Core.Path.{_∙_}
-use Prim.Native.Nat.{_-_}
-use native.Mathlib.Omega.{arith}
-use lib.ListN.{getD}
-use mir.Syntax.{w32}
-use mir.ValLaws.{toZ-ofZ}
+use Rattle.meaning_numbers.proofs.Prelude.{needs, _∙_, _-_, arith, getD, w32, toZ-ofZ}
 use Rattle.rows_pack.proofs.row_from.Statement.{statement}
 use Rattle.rows_pack.proofs.row_from.Tie as tie
 

@@ -1,6 +1,5 @@
 -- `rows_pack::start_of` meets its contract.
-use borrow.Author.Needs.{needs}
-use borrow.Author.Tests.{eq-eqb, ne-eqb}
+use Rattle.meaning_numbers.proofs.Prelude.{needs, eq-eqb, ne-eqb}
 use Rattle.rows_pack.specs.Packed.{startOf}
 use Rattle.rows_pack.proofs.start_of.Statement.{statement}
 use Rattle.rows_pack.proofs.start_of.Tie as tie

@@ -1,12 +1,8 @@
 -- `rows_pack::sum_up` meets its contract. The invariant: the counts passed are sums, and the sum so far is theirs (`summed-more`).
-use mathlib.Core.Path.{_≡_, sym, _∙_}
-use Prim.Native.Nat.{ℕ, _+_, _-_, _≤_, _<_}
-use native.Mathlib.Omega.{arith}
-use lib.ListN.{length, getD}
 use Rattle.meaning_numbers.proofs.Sum.{Σℕ-none, Σℕ-more, Σℕ-fewer}
+use Rattle.meaning_numbers.proofs.Prelude.{_≡_, sym, _∙_, ℕ, _+_, _-_, _≤_, _<_, arith, length, getD}
 use Rattle.rows_pack.specs.Packed.{total, Summed}
-use Rattle.rows_pack.proofs.Packed.{summed-start, summed-more}
-use Rattle.rows_pack.proofs.sum_up.Statement.{statement}
+use Rattle.rows_pack.proofs.{Packed.summed-start, Packed.summed-more, sum_up.Statement.statement}
 use Rattle.rows_pack.proofs.sum_up.Tie as tie
 
 abbrev Inv-loop : tie.InvT-loop

@@ -1,12 +1,6 @@
 -- `sums_count::at_most` meets its contract: k + 2^32 - x is from 2^32 up to below twice that exactly if x is at most k.
-use borrow.Author.Needs.{needs}
-use borrow.Author.Tests.{leb-true, leb-false}
-use mathlib.Core.Path.{_≡_}
-use Prim.Native.Nat.{ℕ, _+_, _-_, _/_, _<_}
-use native.Mathlib.Omega.{arith}
-use lib.Dec.{leb}
 use Rattle.meaning_numbers.specs.Sum.{bit}
-use Rattle.meaning_numbers.proofs.Tests.{by-test}
+use Rattle.meaning_numbers.proofs.Prelude.{needs, leb-true, leb-false, _≡_, ℕ, _+_, _-_, _/_, _<_, arith, leb, by-test}
 use Rattle.sums_count.proofs.at_most.Statement.{statement}
 use Rattle.sums_count.proofs.at_most.Tie as tie
 

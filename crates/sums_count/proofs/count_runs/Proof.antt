@@ -1,15 +1,9 @@
 -- `sums_count::count_runs` meets its contract. The invariant: the runs of the windows passed are counted, and the next window begins a run (`counted-run`, `fresh-next`).
-use mathlib.Core.Path.{_≡_, refl, sym, ap, _∙_}
-use Prim.Native.Nat.{ℕ, _+_, _-_, _/_, _≤_, _<_}
-use native.Mathlib.Omega.{arith}
-use lib.ListN.{length, getD, length-set}
+use Rattle.meaning_numbers.proofs.Prelude.{_≡_, refl, sym, ap, _∙_, ℕ, _+_, _-_, _/_, _≤_, _<_, arith, length, getD, length-set}
 use Rattle.meaning_rows.proofs.Runs.{runs-le}
-use Rattle.sums_slide.specs.Levels.{level, rowOf, windowsOf, level-small}
-use Rattle.sums_slide.specs.Table.{table}
+use Rattle.sums_slide.specs.{Levels.level, Levels.rowOf, Levels.windowsOf, Levels.level-small, Table.table}
 use Rattle.sums_count.specs.Tally.{isRow, Counted}
-use Rattle.sums_count.proofs.Tally.{Fresh, fresh-start, fresh-next, counted-start, counted-run}
-use Rattle.sums_count.proofs.Rows.{table-rises, table-has, front-at, front-rising, front-has}
-use Rattle.sums_count.proofs.count_runs.Statement.{statement}
+use Rattle.sums_count.proofs.{Tally.Fresh, Tally.fresh-start, Tally.fresh-next, Tally.counted-start, Tally.counted-run, Rows.table-rises, Rows.table-has, Rows.front-at, Rows.front-rising, Rows.front-has, count_runs.Statement.statement}
 use Rattle.sums_count.proofs.count_runs.Tie as tie
 
 abbrev Inv-loop : tie.InvT-loop

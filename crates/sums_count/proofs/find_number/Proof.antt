@@ -1,9 +1,6 @@
 -- `sums_count::find_number` meets its contract. The invariant: wherever the number stands, it is one of the places left (`sought-half`).
-use mathlib.Core.Path.{_≡_}
-use Prim.Native.Nat.{_*_, _/_, _≤_}
-use native.Mathlib.Omega.{arith}
-use Rattle.sums_count.proofs.Tally.{Sought, half-or-none, sought-half}
-use Rattle.sums_count.proofs.find_number.Statement.{statement}
+use Rattle.meaning_numbers.proofs.Prelude.{_≡_, _*_, _/_, _≤_, arith}
+use Rattle.sums_count.proofs.{Tally.Sought, Tally.half-or-none, Tally.sought-half, find_number.Statement.statement}
 use Rattle.sums_count.proofs.find_number.Tie as tie
 
 abbrev Inv-loop : tie.InvT-loop

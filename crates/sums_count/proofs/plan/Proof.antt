@@ -1,6 +1,5 @@
 -- `sums_count::plan` meets its contract: what it asks of each part, the part before has ensured.
-use borrow.Author.Needs.{needs}
-use native.Mathlib.Omega.{arith}
+use Rattle.meaning_numbers.proofs.Prelude.{needs, arith}
 use Rattle.clear.proofs.Clear.{cleared-zero}
 use Rattle.sums_count.proofs.plan.Statement.{statement}
 use Rattle.sums_count.proofs.plan.Tie as tie

@@ -1,13 +1,7 @@
 -- `sums_slide::collect` meets its contract. The invariant: the numbers passed whose flags are set stand behind the first k (`collect-yes`, `collect-no`).
-use mathlib.Core.Path.{_≡_}
-use Prim.Native.Nat.{_-_, _≤_}
-use native.Mathlib.Omega.{arith}
-use lib.ListN.{length}
-use Rattle.sums_slide.specs.Marks.{lit}
-use Rattle.sums_slide.proofs.Marks.{collect-room, collect-yes, collect-no}
-use Rattle.sums_slide.specs.Picked.{picked, Appended}
-use Rattle.sums_slide.proofs.Picked.{append-none, picked-start}
-use Rattle.sums_slide.proofs.collect.Statement.{statement}
+use Rattle.meaning_numbers.proofs.Prelude.{_≡_, _-_, _≤_, arith, length}
+use Rattle.sums_slide.specs.{Marks.lit, Picked.picked, Picked.Appended}
+use Rattle.sums_slide.proofs.{Marks.collect-room, Marks.collect-yes, Marks.collect-no, Picked.append-none, Picked.picked-start, collect.Statement.statement}
 use Rattle.sums_slide.proofs.collect.Tie as tie
 
 abbrev Inv-loop : tie.InvT-loop

@@ -1,8 +1,7 @@
 -- `sums_slide::first_level` meets its contract.
-use native.Mathlib.Omega.{arith}
+use Rattle.meaning_numbers.proofs.Prelude.{arith}
 use Rattle.sums_slide.specs.Levels.{level-small}
-use Rattle.sums_slide.proofs.Levels.{level-first}
-use Rattle.sums_slide.proofs.first_level.Statement.{statement}
+use Rattle.sums_slide.proofs.{Levels.level-first, first_level.Statement.statement}
 use Rattle.sums_slide.proofs.first_level.Tie as tie
 
 raised-sum-requires : tie.Need-raised-sum-requires

@@ -1,5 +1,5 @@
 -- `sums_slide::first_place` meets its contract.
-use borrow.Author.Needs.{needs}
+use Rattle.meaning_numbers.proofs.Prelude.{needs}
 use Rattle.sums_slide.proofs.first_place.Statement.{statement}
 use Rattle.sums_slide.proofs.first_place.Tie as tie
 

@@ -1,5 +1,5 @@
 -- `sums_slide::in_range` meets its contract.
-use borrow.Author.Tests.{le-leb, lt-leb}
+use Rattle.meaning_numbers.proofs.Prelude.{le-leb, lt-leb}
 use Rattle.sums_slide.specs.Levels.{within}
 use Rattle.sums_slide.proofs.in_range.Statement.{statement}
 use Rattle.sums_slide.proofs.in_range.Tie as tie

@@ -1,11 +1,7 @@
 -- `sums_slide::last_out` meets its contract (`stop-here`, `stop-one`).
-use borrow.Author.Needs.{needs}
-use borrow.Author.Tests.{not-true, not-false}
-use mathlib.Core.Path.{_≡_, sym, ap, _∙_}
-use native.Mathlib.Omega.{arith}
+use Rattle.meaning_numbers.proofs.Prelude.{needs, not-true, not-false, _≡_, sym, ap, _∙_, arith}
 use Rattle.sums_slide.specs.Levels.{level, within}
-use Rattle.sums_slide.proofs.Change.{stop-here, stop-one}
-use Rattle.sums_slide.proofs.last_out.Statement.{statement}
+use Rattle.sums_slide.proofs.{Change.stop-here, Change.stop-one, last_out.Statement.statement}
 use Rattle.sums_slide.proofs.last_out.Tie as tie
 
 -- the answer speaks of the window at hand

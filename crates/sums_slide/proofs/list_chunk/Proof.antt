@@ -1,16 +1,8 @@
 -- `sums_slide::list_chunk` meets its contract: the flags of all windows tell the numbers that are met (`lit-picked`).
-use borrow.Author.Needs.{needs}
-use mathlib.Core.Path.{_≡_, sym, _∙_}
-use Prim.Native.Nat.{ℕ}
-use native.Mathlib.Omega.{arith}
-use lib.ListN.{length}
-use mathlib.Core.List.{List}
+use Rattle.meaning_numbers.proofs.Prelude.{needs, _≡_, sym, _∙_, ℕ, arith, length, List}
 use Rattle.clear.proofs.Clear.{cleared-zero}
-use Rattle.sums_slide.specs.Levels.{level, rowOf, windowsOf}
-use Rattle.sums_slide.specs.Marks.{met, lit}
-use Rattle.sums_slide.proofs.Marks.{lit-picked}
-use Rattle.sums_slide.specs.Picked.{picked}
-use Rattle.sums_slide.proofs.list_chunk.Statement.{statement}
+use Rattle.sums_slide.specs.{Levels.level, Levels.rowOf, Levels.windowsOf, Marks.met, Marks.lit, Picked.picked}
+use Rattle.sums_slide.proofs.{Marks.lit-picked, list_chunk.Statement.statement}
 use Rattle.sums_slide.proofs.list_chunk.Tie as tie
 
 module _ (c : tie.After-collect-arg2) where

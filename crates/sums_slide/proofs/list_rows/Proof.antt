@@ -1,16 +1,7 @@
 -- `sums_slide::list_rows` meets its contract. The invariant: the row numbers below the next chunk's first are listed.
-use mathlib.Core.Path.{_≡_, refl, _∙_}
-use Prim.Native.Nat.{_+_, _-_, _≤_}
-use native.Mathlib.Omega.{arith}
-use native.Mathlib.Nat.{div-le-self}
-use lib.ListN.{length}
-use Rattle.sums_slide.specs.Levels.{level, rowOf, windowsOf}
-use Rattle.sums_slide.specs.Marks.{met}
-use Rattle.sums_slide.specs.Picked.{picked, Appended}
-use Rattle.sums_slide.proofs.Picked.{append-none}
-use Rattle.sums_slide.specs.Table.{table}
-use Rattle.sums_slide.proofs.Table.{chunk-next, chunk-room, table-start, table-end}
-use Rattle.sums_slide.proofs.list_rows.Statement.{statement}
+use Rattle.meaning_numbers.proofs.Prelude.{_≡_, refl, _∙_, _+_, _-_, _≤_, arith, div-le-self, length}
+use Rattle.sums_slide.specs.{Levels.level, Levels.rowOf, Levels.windowsOf, Marks.met, Picked.picked, Picked.Appended, Table.table}
+use Rattle.sums_slide.proofs.{Picked.append-none, Table.chunk-next, Table.chunk-room, Table.table-start, Table.table-end, list_rows.Statement.statement}
 use Rattle.sums_slide.proofs.list_rows.Tie as tie
 
 abbrev Inv-loop : tie.InvT-loop

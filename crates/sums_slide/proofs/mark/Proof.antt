@@ -1,13 +1,7 @@
 -- `sums_slide::mark` meets its contract. The invariant: the flags tell the row numbers of the windows passed (`flags-run`).
-use borrow.Author.Needs.{needs}
-use mathlib.Core.Path.{_≡_, refl, ap, _∙_}
-use Prim.Native.Nat.{ℕ, _-_, _/_, _≤_}
-use native.Mathlib.Omega.{arith}
-use lib.ListN.{length}
-use Rattle.sums_slide.specs.Levels.{level, rowOf, windowsOf, level-small}
-use Rattle.sums_slide.specs.Marks.{Flags}
-use Rattle.sums_slide.proofs.Marks.{flags-start, flags-run, length-flagged}
-use Rattle.sums_slide.proofs.mark.Statement.{statement}
+use Rattle.meaning_numbers.proofs.Prelude.{needs, _≡_, refl, ap, _∙_, ℕ, _-_, _/_, _≤_, arith, length}
+use Rattle.sums_slide.specs.{Levels.level, Levels.rowOf, Levels.windowsOf, Levels.level-small, Marks.Flags}
+use Rattle.sums_slide.proofs.{Marks.flags-start, Marks.flags-run, Marks.length-flagged, mark.Statement.statement}
 use Rattle.sums_slide.proofs.mark.Tie as tie
 
 abbrev Inv-loop : tie.InvT-loop

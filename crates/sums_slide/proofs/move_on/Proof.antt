@@ -1,14 +1,10 @@
 -- `sums_slide::move_on` meets its contract (`level-next`).
-use borrow.Author.Needs.{needs}
-use mathlib.Core.Path.{_≡_, _∙_}
-use Prim.Native.Nat.{_+_}
-use native.Mathlib.Omega.{arith}
+use Rattle.meaning_numbers.proofs.Prelude.{needs, _≡_, _∙_, _+_, arith}
 use Rattle.meaning_curves.specs.Curve.{at}
 use Rattle.numbers.specs.Raised.{raised, raised-le}
 use Rattle.numbers.proofs.Back.{in-arg, raised-back}
 use Rattle.sums_slide.specs.Levels.{level, level-small}
-use Rattle.sums_slide.proofs.Levels.{level-next}
-use Rattle.sums_slide.proofs.move_on.Statement.{statement}
+use Rattle.sums_slide.proofs.{Levels.level-next, move_on.Statement.statement}
 use Rattle.sums_slide.proofs.move_on.Tie as tie
 
 -- the value that comes in

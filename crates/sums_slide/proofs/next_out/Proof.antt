@@ -1,14 +1,8 @@
 -- `sums_slide::next_out` meets its contract. The invariant: every window passed is in the range.
-use borrow.Author.Needs.{needs}
-use borrow.Author.Tests.{not-true, not-false}
 use borrow.Author.Count.{below-more}
-use mathlib.Core.Path.{_≡_, sym, ap, _∙_}
-use mathlib.Core.Bool.{true}
-use Prim.Native.Nat.{ℕ, _-_, _≤_, _<_}
-use native.Mathlib.Omega.{arith}
+use Rattle.meaning_numbers.proofs.Prelude.{needs, not-true, not-false, _≡_, sym, ap, _∙_, true, ℕ, _-_, _≤_, _<_, arith}
 use Rattle.sums_slide.specs.Levels.{level, within, windowsOf}
-use Rattle.sums_slide.proofs.Change.{stop-from, stop-here}
-use Rattle.sums_slide.proofs.next_out.Statement.{statement}
+use Rattle.sums_slide.proofs.{Change.stop-from, Change.stop-here, next_out.Statement.statement}
 use Rattle.sums_slide.proofs.next_out.Tie as tie
 
 abbrev Inv-loop : tie.InvT-loop

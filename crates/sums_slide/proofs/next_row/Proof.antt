@@ -1,10 +1,7 @@
 -- `sums_slide::next_row` meets its contract (`next-row`).
-use Prim.Native.Nat.{_*_, _≤_}
-use native.Mathlib.Omega.{arith}
-use native.Mathlib.Nat.{div-mul-le-self}
+use Rattle.meaning_numbers.proofs.Prelude.{_*_, _≤_, arith, div-mul-le-self}
 use Rattle.sums_slide.specs.Levels.{level, rowOf, level-small}
-use Rattle.sums_slide.proofs.Change.{next-row}
-use Rattle.sums_slide.proofs.next_row.Statement.{statement}
+use Rattle.sums_slide.proofs.{Change.next-row, next_row.Statement.statement}
 use Rattle.sums_slide.proofs.next_row.Tie as tie
 
 low-small : (c : tie.Start) → c .args .k * c .args .d ≤ 6120000

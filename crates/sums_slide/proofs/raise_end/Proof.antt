@@ -1,10 +1,5 @@
 -- `sums_slide::raise_end` meets its contract.
-use native.Mathlib.Omega.{arith}
-use lib.IntN.{ℤ, _+ℤ_}
-use mir.Syntax.{w32}
-use mir.Val.{SFits, toZ, ofZ}
-use Rattle.meaning_numbers.proofs.Rep.{z-add}
-use Rattle.meaning_numbers.proofs.Machine.{zmach32, z-cast32, z-abs}
+use Rattle.meaning_numbers.proofs.Prelude.{arith, ℤ, _+ℤ_, w32, SFits, toZ, ofZ, z-add, zmach32, z-cast32, z-abs}
 use Rattle.sums_slide.proofs.raise_end.Statement.{statement}
 use Rattle.sums_slide.proofs.raise_end.Tie as tie
 

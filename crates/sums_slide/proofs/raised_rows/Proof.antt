@@ -1,8 +1,5 @@
 -- `sums_slide::raised_rows` meets its contract, by the two inequalities of a quotient.
-use borrow.Author.Needs.{needs}
-use Prim.Native.Nat.{_+_, _-_, _*_}
-use native.Mathlib.Omega.{arith}
-use native.Mathlib.Nat.{div-mul-le-self, lt-div-mul-add}
+use Rattle.meaning_numbers.proofs.Prelude.{needs, _+_, _-_, _*_, arith, div-mul-le-self, lt-div-mul-add}
 use Rattle.sums_slide.proofs.raised_rows.Statement.{statement}
 use Rattle.sums_slide.proofs.raised_rows.Tie as tie
 

@@ -1,8 +1,5 @@
 -- `sums_slide::set_flag` meets its contract.
-use borrow.Author.Needs.{needs}
-use borrow.Author.Tests.{le-leb, lt-leb}
-use mathlib.Core.Path.{sym}
-use lib.Seq.{set-out}
+use Rattle.meaning_numbers.proofs.Prelude.{needs, le-leb, lt-leb, sym, set-out}
 use Rattle.sums_slide.specs.Marks.{flagged}
 use Rattle.sums_slide.proofs.set_flag.Statement.{statement}
 use Rattle.sums_slide.proofs.set_flag.Tie as tie

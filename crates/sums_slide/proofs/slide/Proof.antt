@@ -1,11 +1,8 @@
 -- `sums_slide::slide` meets its contract (`level-next`).
-use mathlib.Core.Path.{_≡_}
-use Prim.Native.Nat.{_+_}
-use native.Mathlib.Omega.{arith}
+use Rattle.meaning_numbers.proofs.Prelude.{_≡_, _+_, arith}
 use Rattle.numbers.specs.Raised.{raised-le}
 use Rattle.sums_slide.specs.Levels.{level, level-small}
-use Rattle.sums_slide.proofs.Levels.{level-next}
-use Rattle.sums_slide.proofs.slide.Statement.{statement}
+use Rattle.sums_slide.proofs.{Levels.level-next, slide.Statement.statement}
 use Rattle.sums_slide.proofs.slide.Tie as tie
 
 add-result : tie.Need-add-result

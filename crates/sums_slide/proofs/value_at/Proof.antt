@@ -1,10 +1,5 @@
 -- `sums_slide::value_at` meets its contract; past the end of the series stands 0.
-use borrow.Author.Needs.{needs}
-use mathlib.Core.Path.{_∙_}
-use Prim.Native.Nat.{_≤_}
-use native.Mathlib.Omega.{arith}
-use lib.ListN.{length, List·getD-eq-default}
-use lib.IntN.{pos}
+use Rattle.meaning_numbers.proofs.Prelude.{needs, _∙_, _≤_, arith, length, List·getD-eq-default, pos}
 use Rattle.numbers.proofs.Back.{in-arg, raised-back}
 use Rattle.sums_slide.proofs.value_at.Statement.{statement}
 use Rattle.sums_slide.proofs.value_at.Tie as tie

@@ -1,7 +1,7 @@
 -- `text_count::count_end` meets its contract.
+use borrow.Author.Needs.{needs}
 use Rattle.meaning_text.specs.Bytes.{bytes}
 use Rattle.text_write.specs.Write.{endText}
-use borrow.Author.Needs.{needs}
 use Rattle.text_count.proofs.count_end.Statement.{statement}
 use Rattle.text_count.proofs.count_end.Tie as tie
 

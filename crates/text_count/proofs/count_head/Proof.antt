@@ -1,10 +1,9 @@
 -- `text_count::count_head` meets its contract.
-use native.Mathlib.Omega.{arith}
-use lib.IntN.{pos}
-use Rattle.text_write.specs.Write.{headText}
-use Rattle.text_count.proofs.Count.{counted-is, head-length}
 use borrow.Author.Needs.{needs}
-use Rattle.text_count.proofs.count_head.Statement.{statement}
+use lib.IntN.{pos}
+use native.Mathlib.Omega.{arith}
+use Rattle.text_write.specs.Write.{headText}
+use Rattle.text_count.proofs.{Count.counted-is, Count.head-length, count_head.Statement.statement}
 use Rattle.text_count.proofs.count_head.Tie as tie
 
 pub count-head-spec : {M : Type 1} → statement M

@@ -1,15 +1,14 @@
 -- `text_count::count_row` meets its contract. Its range, its runs and its end, one after the other.
-use mathlib.Core.Path.{_≡_, ap}
-use native.Mathlib.Omega.{arith}
+use borrow.Author.Needs.{needs}
 use lib.IntN.{ℤ}
 use lib.ListN.{length}
+use mathlib.Core.Path.{_≡_, ap}
 use mir.Syntax.{w32}
 use mir.Val.{toZ, ofZ}
 use mir.ValLaws.{toZ-ofZ}
+use native.Mathlib.Omega.{arith}
 use Rattle.meaning_text.specs.Number.{spellℤ}
-use Rattle.text_count.proofs.Count.{row-counted}
-use borrow.Author.Needs.{needs}
-use Rattle.text_count.proofs.count_row.Statement.{statement}
+use Rattle.text_count.proofs.{Count.row-counted, count_row.Statement.statement}
 use Rattle.text_count.proofs.count_row.Tie as tie
 
 returns : tie.Need-returns

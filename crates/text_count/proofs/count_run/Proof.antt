@@ -1,11 +1,9 @@
 -- `text_count::count_run` meets its contract.
-use native.Mathlib.Omega.{arith}
-use Rattle.text_count.proofs.Count.{counted-is, run-length}
-use lib.IntN.{pos}
-use Rattle.meaning_text.specs.Form.{spell}
-use Rattle.meaning_text.specs.Texts.{runForm}
 use borrow.Author.Needs.{needs}
-use Rattle.text_count.proofs.count_run.Statement.{statement}
+use lib.IntN.{pos}
+use native.Mathlib.Omega.{arith}
+use Rattle.meaning_text.specs.{Form.spell, Texts.runForm}
+use Rattle.text_count.proofs.{Count.counted-is, Count.run-length, count_run.Statement.statement}
 use Rattle.text_count.proofs.count_run.Tie as tie
 
 pub count-run-spec : {M : Type 1} → statement M

@@ -1,9 +1,8 @@
 -- `text_count::count_runs` meets its contract. The invariant: the first i runs of the part are counted (`Runs`).
 use Prim.Native.Nat.{_-_}
-use native.Mathlib.Omega.{arith}
-use Rattle.text_count.proofs.Count.{Runs, runs-start, runs-turn, runs-end, runs-past}
 use borrow.Author.Needs.{needs}
-use Rattle.text_count.proofs.count_runs.Statement.{statement}
+use native.Mathlib.Omega.{arith}
+use Rattle.text_count.proofs.{Count.Runs, Count.runs-start, Count.runs-turn, Count.runs-end, Count.runs-past, count_runs.Statement.statement}
 use Rattle.text_count.proofs.count_runs.Tie as tie
 
 abbrev Inv-loop : tie.InvT-loop

@@ -1,14 +1,6 @@
 -- `text_event::byte_event` meets its contract. The invariant: the bytes so far say nothing. The measure is what is left of the text.
-use mathlib.Core.Path.{_≡_, refl, sym, _∙_}
-use Prim.Native.Nat.{_-_}
-use native.Mathlib.Omega.{arith}
-use borrow.Author.Needs.{needs}
-use lib.ListN.{length}
-use mir.Syntax.{w64}
-use mir.Val.{toZ, ofZ}
-use mir.ValLaws.{toZ-ofZ}
-use Rattle.text_index.specs.declared.Moved.{Moved}
-use Rattle.text_index.specs.Step.{GoodState}
+use Rattle.meaning_numbers.proofs.Prelude.{_≡_, refl, sym, _∙_, _-_, arith, needs, length, w64, toZ, ofZ, toZ-ofZ}
+use Rattle.text_index.specs.{declared.Moved.Moved, Step.GoodState}
 use Rattle.text_index.proofs.View.{step-good}
 use Rattle.text_event.specs.Event.{Quiet, still, more}
 use Rattle.text_event.proofs.byte_event.Statement.{statement}

@@ -1,14 +1,10 @@
 -- `text_event::digits` meets its contract. The invariant: the digits so far say nothing, and their number is below the bound for so many (`top`). The measure is how many may still come.
-use Prim.Native.Nat.{_+_, _-_, _<_, _≤_}
-use native.Mathlib.Omega.{arith}
-use borrow.Author.Needs.{needs}
-use lib.ListN.{length}
+use Rattle.meaning_numbers.proofs.Prelude.{_+_, _-_, _<_, _≤_, arith, needs, length}
 use Rattle.text_numbers.specs.declared.Numeral.{Numeral}
-use Rattle.text_index.specs.declared.Field.{Field}
-use Rattle.text_index.specs.declared.State.{State}
+use Rattle.text_index.specs.{declared.Field.Field, declared.State.State}
 use Rattle.text_event.specs.Event.{Quiet}
-use Rattle.text_event.proofs.Steps.{still-here, more-here, next-digit, next-less, top, top-more, top-most, digits-told}
 use Rattle.text_event.proofs.digits.Statement.{statement}
+use Rattle.text_event.proofs.Steps.{still-here, more-here, next-digit, next-less, top, top-more, top-most, digits-told}
 use Rattle.text_event.proofs.digits.Tie as tie
 
 abbrev Inv-loop : tie.InvT-loop

@@ -1,9 +1,6 @@
 -- `text_event::ends` meets its contract: room, and the word.
-use native.Mathlib.Omega.{arith}
-use mathlib.Core.Bool.{false≢true}
-use borrow.Author.Tests.{not-false}
+use Rattle.meaning_numbers.proofs.Prelude.{arith, false≢true, not-false, needs}
 use Rattle.meaning_text.specs.Bytes.{bytes}
-use borrow.Author.Needs.{needs}
 use Rattle.text_event.proofs.ends.Statement.{statement}
 use Rattle.text_event.proofs.ends.Tie as tie
 

@@ -1,10 +1,7 @@
 -- `text_event::first_run` meets its contract: a bracket, and the run behind it.
-use native.Mathlib.Omega.{arith}
-use borrow.Author.Tests.{not-false}
+use Rattle.meaning_numbers.proofs.Prelude.{arith, not-false, needs}
 use Rattle.meaning_text.specs.Bytes.{bytes}
-use Rattle.text_event.proofs.Steps.{first-told}
-use borrow.Author.Needs.{needs}
-use Rattle.text_event.proofs.first_run.Statement.{statement}
+use Rattle.text_event.proofs.{Steps.first-told, first_run.Statement.statement}
 use Rattle.text_event.proofs.first_run.Tie as tie
 
 pub first-run-spec : {M : Type 1} → statement M

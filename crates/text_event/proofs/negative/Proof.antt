@@ -1,11 +1,5 @@
 -- `text_event::negative` meets its contract.
-use native.Mathlib.Omega.{arith}
-use lib.IntN.{pos}
-use mir.Syntax.{w64}
-use mir.Val.{toZ}
-use Rattle.meaning_numbers.proofs.Rep.{z-sub, z-neg}
-use Rattle.meaning_numbers.proofs.Machine.{zmach, z-cast}
-use borrow.Author.Needs.{needs}
+use Rattle.meaning_numbers.proofs.Prelude.{arith, pos, w64, toZ, z-sub, z-neg, zmach, z-cast, needs}
 use Rattle.text_event.proofs.negative.Statement.{statement}
 use Rattle.text_event.proofs.negative.Tie as tie
 

@@ -1,8 +1,6 @@
 -- `text_event::next_event` meets its contract. By the state.
-use mathlib.Core.Path.{ap, _∙_}
-use Rattle.text_index.specs.declared.Turn.{Turn}
-use Rattle.text_index.specs.declared.State.{State}
-use borrow.Author.Needs.{needs}
+use Rattle.meaning_numbers.proofs.Prelude.{ap, _∙_, needs}
+use Rattle.text_index.specs.{declared.Turn.Turn, declared.State.State}
 use Rattle.text_event.proofs.next_event.Statement.{statement}
 use Rattle.text_event.proofs.next_event.Tie as tie
 

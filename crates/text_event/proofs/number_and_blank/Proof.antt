@@ -1,8 +1,6 @@
 -- `text_event::number_and_blank` meets its contract: a number, and a blank.
-use native.Mathlib.Omega.{arith}
-use borrow.Author.Tests.{not-false}
+use Rattle.meaning_numbers.proofs.Prelude.{arith, not-false, needs}
 use Rattle.meaning_text.specs.Bytes.{bytes}
-use borrow.Author.Needs.{needs}
 use Rattle.text_event.proofs.number_and_blank.Statement.{statement}
 use Rattle.text_event.proofs.number_and_blank.Tie as tie
 

@@ -1,9 +1,6 @@
 -- `text_event::number_at` meets its contract: the first digit, and those behind it.
-use mathlib.Core.Path.{refl}
-use native.Mathlib.Omega.{arith}
-use Rattle.text_event.proofs.Steps.{number-told}
-use borrow.Author.Needs.{needs}
-use Rattle.text_event.proofs.number_at.Statement.{statement}
+use Rattle.meaning_numbers.proofs.Prelude.{refl, arith, needs}
+use Rattle.text_event.proofs.{Steps.number-told, number_at.Statement.statement}
 use Rattle.text_event.proofs.number_at.Tie as tie
 
 pub number-at-spec : {M : Type 1} → statement M

@@ -1,10 +1,7 @@
 -- `text_event::plain_run` meets its contract: a blank and a bracket, and the run behind them.
-use native.Mathlib.Omega.{arith}
-use borrow.Author.Tests.{not-false}
+use Rattle.meaning_numbers.proofs.Prelude.{arith, not-false, needs}
 use Rattle.meaning_text.specs.Bytes.{bytes}
-use Rattle.text_event.proofs.Steps.{plain-told}
-use borrow.Author.Needs.{needs}
-use Rattle.text_event.proofs.plain_run.Statement.{statement}
+use Rattle.text_event.proofs.{Steps.plain-told, plain_run.Statement.statement}
 use Rattle.text_event.proofs.plain_run.Tie as tie
 
 pub plain-run-spec : {M : Type 1} → statement M

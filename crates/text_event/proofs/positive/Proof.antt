@@ -1,8 +1,5 @@
 -- `text_event::positive` meets its contract.
-use native.Mathlib.Omega.{arith}
-use mir.Syntax.{w64}
-use mir.ValLaws.{toZ-pos}
-use borrow.Author.Needs.{needs}
+use Rattle.meaning_numbers.proofs.Prelude.{arith, w64, toZ-pos, needs}
 use Rattle.text_event.proofs.positive.Statement.{statement}
 use Rattle.text_event.proofs.positive.Tie as tie
 

@@ -1,13 +1,6 @@
 -- `text_event::range_at` meets its contract: `(row `, and two numbers.
-use native.Mathlib.Omega.{arith}
-use mathlib.Core.Path.{_≡_}
-use mir.Syntax.{w64}
-use mir.Val.{toZ, ofZ}
-use mir.ValLaws.{toZ-ofZ}
-use borrow.Author.Tests.{not-false}
-use Rattle.text_event.proofs.Steps.{range-told}
-use borrow.Author.Needs.{needs}
-use Rattle.text_event.proofs.range_at.Statement.{statement}
+use Rattle.meaning_numbers.proofs.Prelude.{arith, _≡_, w64, toZ, ofZ, toZ-ofZ, not-false, needs}
+use Rattle.text_event.proofs.{Steps.range-told, range_at.Statement.statement}
 use Rattle.text_event.proofs.range_at.Tie as tie
 
 returns-2 : tie.Need-returns-2

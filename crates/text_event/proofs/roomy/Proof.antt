@@ -1,10 +1,5 @@
 -- `text_event::roomy` meets its contract. By its test.
-use Prim.Native.Nat.{_-_}
-use native.Mathlib.Omega.{arith}
-use lib.ListN.{length}
-use mathlib.Core.Bool.{false≢true}
-use borrow.Author.Tests.{leb-true}
-use borrow.Author.Needs.{needs}
+use Rattle.meaning_numbers.proofs.Prelude.{_-_, arith, length, false≢true, leb-true, needs}
 use Rattle.text_event.proofs.roomy.Statement.{statement}
 use Rattle.text_event.proofs.roomy.Tie as tie
 

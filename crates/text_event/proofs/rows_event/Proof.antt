@@ -1,12 +1,6 @@
 -- `text_event::rows_event` meets its contract: a range and a run, or what comes byte by byte.
-use native.Mathlib.Omega.{arith}
-use mathlib.Core.Path.{_≡_, refl}
-use mir.Syntax.{w64}
-use mir.Val.{toZ, ofZ}
-use mir.ValLaws.{toZ-ofZ}
-use Rattle.text_event.proofs.EventLaws.{run-up}
-use borrow.Author.Needs.{needs}
-use Rattle.text_event.proofs.rows_event.Statement.{statement}
+use Rattle.meaning_numbers.proofs.Prelude.{arith, _≡_, refl, w64, toZ, ofZ, toZ-ofZ, needs}
+use Rattle.text_event.proofs.{EventLaws.run-up, rows_event.Statement.statement}
 use Rattle.text_event.proofs.rows_event.Tie as tie
 
 returns-2 : tie.Need-returns-2

@@ -1,10 +1,7 @@
 -- `text_event::run_body` meets its contract: two numbers, and the bytes behind them.
-use native.Mathlib.Omega.{arith}
-use borrow.Author.Tests.{not-false}
+use Rattle.meaning_numbers.proofs.Prelude.{arith, not-false, needs}
 use Rattle.meaning_text.specs.Bytes.{bytes}
-use Rattle.text_event.proofs.Steps.{body-told}
-use borrow.Author.Needs.{needs}
-use Rattle.text_event.proofs.run_body.Statement.{statement}
+use Rattle.text_event.proofs.{Steps.body-told, run_body.Statement.statement}
 use Rattle.text_event.proofs.run_body.Tie as tie
 
 returns-5 : tie.Need-returns-5

@@ -1,10 +1,6 @@
 -- `text_event::runs_event` meets its contract: a run, a row's end, or what comes byte by byte.
-use mathlib.Core.Path.{refl}
-use native.Mathlib.Omega.{arith}
-use Rattle.text_event.proofs.EventLaws.{run-up, closed-up}
-use Rattle.text_event.proofs.Steps.{ends-told}
-use borrow.Author.Needs.{needs}
-use Rattle.text_event.proofs.runs_event.Statement.{statement}
+use Rattle.meaning_numbers.proofs.Prelude.{refl, arith, needs}
+use Rattle.text_event.proofs.{EventLaws.run-up, EventLaws.closed-up, Steps.ends-told, runs_event.Statement.statement}
 use Rattle.text_event.proofs.runs_event.Tie as tie
 
 pub runs-event-spec : {M : Type 1} → statement M

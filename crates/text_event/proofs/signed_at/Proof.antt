@@ -1,16 +1,6 @@
 -- `text_event::signed_at` meets its contract. By its first byte.
-use mathlib.Core.Path.{_≡_}
-use Prim.Native.Nat.{_/_}
-use native.Mathlib.Omega.{arith}
-use lib.IntN.{pos}
-use mir.Syntax.{w64}
-use mir.Val.{toZ, ofZ}
-use mir.ValLaws.{toZ-ofZ}
-use Rattle.meaning_numbers.proofs.Machine.{zmach}
-use Rattle.meaning_numbers.proofs.Rep.{z-neg}
-use Rattle.text_event.proofs.Steps.{plus-told, less-told}
-use borrow.Author.Needs.{needs}
-use Rattle.text_event.proofs.signed_at.Statement.{statement}
+use Rattle.meaning_numbers.proofs.Prelude.{_≡_, _/_, arith, pos, w64, toZ, ofZ, toZ-ofZ, zmach, z-neg, needs}
+use Rattle.text_event.proofs.{Steps.plus-told, Steps.less-told, signed_at.Statement.statement}
 use Rattle.text_event.proofs.signed_at.Tie as tie
 
 returns-2 : tie.Need-returns-2

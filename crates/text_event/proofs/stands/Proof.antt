@@ -1,12 +1,6 @@
 -- `text_event::stands` meets its contract. The invariant: the first k bytes of the word are there. The measure is how many are left.
-use mathlib.Core.Path.{_≡_, refl}
-use mathlib.Core.Bool.{false≢true}
-use Prim.Native.Nat.{ℕ, _+_, _-_, _<_, _≤_}
-use native.Mathlib.Omega.{arith}
-use lib.ListN.{length, getD}
-use Rattle.text_event.proofs.Words.{stands-byte, stands-all, same-more}
-use borrow.Author.Needs.{needs}
-use Rattle.text_event.proofs.stands.Statement.{statement}
+use Rattle.meaning_numbers.proofs.Prelude.{_≡_, refl, false≢true, ℕ, _+_, _-_, _<_, _≤_, arith, length, getD, needs}
+use Rattle.text_event.proofs.{Words.stands-byte, Words.stands-all, Words.same-more, stands.Statement.statement}
 use Rattle.text_event.proofs.stands.Tie as tie
 
 abbrev Inv-loop : tie.InvT-loop

@@ -1,11 +1,6 @@
 -- `text_feed::counted` meets its contract. By the two tests.
-use mathlib.Core.Path.{_≡_, sym, _∙_}
-use borrow.Author.Tests.{eq-eqb, ne-eqb}
-use mir.Syntax.{w64}
-use mir.Val.{toZ, ofZ}
-use mir.ValLaws.{toZ-ofZ}
+use Rattle.meaning_numbers.proofs.Prelude.{_≡_, sym, _∙_, eq-eqb, ne-eqb, w64, toZ, ofZ, toZ-ofZ, needs}
 use Rattle.text_feed.specs.Keep.{valuesMore}
-use borrow.Author.Needs.{needs}
 use Rattle.text_feed.proofs.counted.Statement.{statement}
 use Rattle.text_feed.proofs.counted.Tie as tie
 

@@ -1,14 +1,7 @@
 -- `text_feed::feed` meets its contract. The invariant: what is kept after i bytes holds what the automaton has been told (`Sofar`). The measure is what is left of the piece.
-use mathlib.Core.Path.{_≡_, sym, _∙_}
-use Prim.Native.Nat.{_-_}
-use native.Mathlib.Omega.{arith}
-use borrow.Author.Needs.{needs}
-use lib.ListN.{length}
-use mir.Syntax.{w64}
-use mir.Val.{toZ, ofZ}
-use mir.ValLaws.{toZ-ofZ}
-use Rattle.text_feed.proofs.FeedLaws.{Sofar, sofar-start, sofar-to, sofar-value, sofar-ended, sofar-refuse, comes-failed, comes-going}
+use Rattle.meaning_numbers.proofs.Prelude.{_≡_, sym, _∙_, _-_, arith, needs, length, w64, toZ, ofZ, toZ-ofZ}
 use Rattle.text_feed.proofs.feed.Statement.{statement}
+use Rattle.text_feed.proofs.FeedLaws.{Sofar, sofar-start, sofar-to, sofar-value, sofar-ended, sofar-refuse, comes-failed, comes-going}
 use Rattle.text_feed.proofs.feed.Tie as tie
 
 abbrev Inv-loop : tie.InvT-loop

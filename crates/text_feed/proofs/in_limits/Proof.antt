@@ -1,13 +1,7 @@
 -- `text_feed::in_limits` meets its contract. By the two tests.
-use lib.IntN.{negsuc}
-use lib.Signed.{_≤ℤ_, _<ℤ_}
-use mir.Syntax.{w64}
-use mir.Val.{toZ, ofZ}
-use mir.ValLaws.{toZ-ofZ}
 use Rattle.meaning_numbers.specs.Order.{within}
-use Rattle.meaning_numbers.proofs.Machine.{zmach}
-use Rattle.text_feed.proofs.Keep.{gt-leZ, le-leZ}
-use Rattle.text_feed.proofs.in_limits.Statement.{statement}
+use Rattle.meaning_numbers.proofs.Prelude.{negsuc, _≤ℤ_, _<ℤ_, w64, toZ, ofZ, toZ-ofZ, zmach}
+use Rattle.text_feed.proofs.{Keep.gt-leZ, Keep.le-leZ, in_limits.Statement.statement}
 use Rattle.text_feed.proofs.in_limits.Tie as tie
 
 returns : tie.Need-returns

@@ -1,9 +1,5 @@
 -- `text_feed::kept` meets its contract. By whether the value is one of these.
-use mathlib.Core.Path.{_≡_}
-use mir.Syntax.{w64}
-use mir.Val.{toZ, ofZ}
-use mir.ValLaws.{toZ-ofZ}
-use borrow.Author.Needs.{needs}
+use Rattle.meaning_numbers.proofs.Prelude.{_≡_, w64, toZ, ofZ, toZ-ofZ, needs}
 use Rattle.text_feed.proofs.kept.Statement.{statement}
 use Rattle.text_feed.proofs.kept.Tie as tie
 

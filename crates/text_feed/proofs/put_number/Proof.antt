@@ -1,7 +1,5 @@
 -- `text_feed::put_number` meets its contract. A place that there is not changes nothing.
-use mathlib.Core.Path.{sym}
-use lib.Seq.{set-out}
-use borrow.Author.Needs.{needs}
+use Rattle.meaning_numbers.proofs.Prelude.{sym, set-out, needs}
 use Rattle.text_feed.proofs.put_number.Statement.{statement}
 use Rattle.text_feed.proofs.put_number.Tie as tie
 

@@ -1,12 +1,6 @@
 -- `text_feed::store` meets its contract. A place that there is not changes nothing.
-use mathlib.Core.Path.{sym, ap, _∙_}
-use mir.Syntax.{w32, w64}
-use mir.Val.{toZ, ofZ}
-use mir.ValLaws.{toZ-ofZ}
-use lib.ListN.{set}
-use lib.Seq.{set-out}
+use Rattle.meaning_numbers.proofs.Prelude.{sym, ap, _∙_, w32, w64, toZ, ofZ, toZ-ofZ, set, set-out, needs}
 use Rattle.numbers.specs.Narrow.{clamp}
-use borrow.Author.Needs.{needs}
 use Rattle.text_feed.proofs.store.Statement.{statement}
 use Rattle.text_feed.proofs.store.Tie as tie
 

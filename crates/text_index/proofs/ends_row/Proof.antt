@@ -1,6 +1,6 @@
 -- `text_index::ends_row` meets its contract. By the case.
-use Rattle.text_index.specs.Step.{closes}
 use borrow.Author.Needs.{needs}
+use Rattle.text_index.specs.Step.{closes}
 use Rattle.text_index.proofs.ends_row.Statement.{statement}
 use Rattle.text_index.proofs.ends_row.Tie as tie
 

@@ -1,6 +1,6 @@
 -- `text_index::index_step` meets its contract. By the state.
-use Rattle.text_index.specs.Step.{indexStep}
 use borrow.Author.Needs.{needs}
+use Rattle.text_index.specs.Step.{indexStep}
 use Rattle.text_index.proofs.index_step.Statement.{statement}
 use Rattle.text_index.proofs.index_step.Tie as tie
 

@@ -1,13 +1,11 @@
 -- `text_index::step_end` meets its contract. The word that the byte picks behind the number is tried.
+use borrow.Author.Needs.{needs}
 use mathlib.Core.Path.{_≡_, sym, _∙_}
 use mir.Syntax.{w64}
 use mir.Val.{toZ, ofZ}
 use mir.ValLaws.{toZ-ofZ}
 use Rattle.text_index.specs.Step.{endStep}
-use Rattle.text_index.proofs.Step.{word-long}
-use mathlib.Core.Path.{sym, _∙_}
-use borrow.Author.Needs.{needs}
-use Rattle.text_index.proofs.step_end.Statement.{statement}
+use Rattle.text_index.proofs.{Step.word-long, step_end.Statement.statement}
 use Rattle.text_index.proofs.step_end.Tie as tie
 
 pub step-end-spec : {M : Type 1} → statement M

@@ -1,10 +1,8 @@
 -- `text_index::step_turn` meets its contract. The word that the byte picks is tried.
+use borrow.Author.Needs.{needs}
 use mathlib.Core.Path.{sym, _∙_}
 use Rattle.text_index.specs.Step.{turnStep}
-use Rattle.text_index.proofs.Step.{word-long}
-use mathlib.Core.Path.{sym, _∙_}
-use borrow.Author.Needs.{needs}
-use Rattle.text_index.proofs.step_turn.Statement.{statement}
+use Rattle.text_index.proofs.{Step.word-long, step_turn.Statement.statement}
 use Rattle.text_index.proofs.step_turn.Tie as tie
 
 pub step-turn-spec : {M : Type 1} → statement M

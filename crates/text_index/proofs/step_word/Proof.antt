@@ -1,8 +1,7 @@
 -- `text_index::step_word` meets its contract. By where the byte leads, and whether it ends a row.
+use borrow.Author.Needs.{needs}
 use mathlib.Core.Path.{sym, _∙_}
 use Rattle.text_index.specs.Step.{wordStep}
-use mathlib.Core.Path.{sym, _∙_}
-use borrow.Author.Needs.{needs}
 use Rattle.text_index.proofs.step_word.Statement.{statement}
 use Rattle.text_index.proofs.step_word.Tie as tie
 

@@ -1,7 +1,7 @@
 -- `text_index::word_byte` meets its contract. By the case.
-use Rattle.text_index.specs.Step.{word}
-use Rattle.meaning_text.specs.Bytes.{bytes}
 use borrow.Author.Needs.{needs}
+use Rattle.meaning_text.specs.Bytes.{bytes}
+use Rattle.text_index.specs.Step.{word}
 use Rattle.text_index.proofs.word_byte.Statement.{statement}
 use Rattle.text_index.proofs.word_byte.Tie as tie
 

@@ -1,16 +1,7 @@
 -- `text_judge::close_row` meets its contract. Its tests are those of the definition, on numbers that the machine reads back as they are; where the total is good it is at most the windows, so that the sum fits.
-use mathlib.Core.Bool.{Bool, true, _&&_}
-use lib.Dec.{leb}
-use mir.Val.{toZ, ofZ}
-use mathlib.Core.Path.{_≡_, refl, sym, _∙_}
-use native.Mathlib.Omega.{arith}
-use Prim.Native.Nat.{_+_}
-use mir.Syntax.{w32}
-use mir.ValLaws.{toZ-ofZ}
-use borrow.Author.Tests.{leb-true}
+use Rattle.meaning_numbers.proofs.Prelude.{Bool, true, _&&_, leb, toZ, ofZ, _≡_, refl, sym, _∙_, arith, _+_, w32, toZ-ofZ, leb-true, needs}
 use Rattle.rows_judge.proofs.Scan.{both}
 use Rattle.text_judge.specs.Tally.{rowNext}
-use borrow.Author.Needs.{needs}
 use Rattle.text_judge.proofs.close_row.Statement.{statement}
 use Rattle.text_judge.proofs.close_row.Tie as tie
 

@@ -1,8 +1,6 @@
 -- `text_judge::judged_rows` meets its contract. By its tests, in the order of the definition.
-use mathlib.Core.Path.{refl, sym, _∙_}
-use borrow.Author.Tests.{not-true, not-false}
+use Rattle.meaning_numbers.proofs.Prelude.{refl, sym, _∙_, not-true, not-false, needs}
 use Rattle.text_judge.specs.Judged.{judgedRows}
-use borrow.Author.Needs.{needs}
 use Rattle.text_judge.proofs.judged_rows.Statement.{statement}
 use Rattle.text_judge.proofs.judged_rows.Tie as tie
 

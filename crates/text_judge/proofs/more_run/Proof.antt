@@ -1,9 +1,7 @@
 -- `text_judge::more_run` meets its contract. By whether the run is good after those before it; then its right end is not below its left.
-use mathlib.Core.Path.{refl, sym, _∙_}
-use native.Mathlib.Omega.{arith}
+use Rattle.meaning_numbers.proofs.Prelude.{refl, sym, _∙_, arith, needs}
 use Rattle.rows_judge.proofs.Scan.{both, good-run}
 use Rattle.text_judge.specs.Tally.{runNext}
-use borrow.Author.Needs.{needs}
 use Rattle.text_judge.proofs.more_run.Statement.{statement}
 use Rattle.text_judge.proofs.more_run.Tie as tie
 

@@ -1,6 +1,5 @@
 -- `text_judge::no_tally` meets its contract. By what its parts are.
-use mathlib.Core.Path.{refl}
-use borrow.Author.Needs.{needs}
+use Rattle.meaning_numbers.proofs.Prelude.{refl, needs}
 use Rattle.text_judge.proofs.no_tally.Statement.{statement}
 use Rattle.text_judge.proofs.no_tally.Tie as tie
 

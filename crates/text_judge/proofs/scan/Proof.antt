@@ -1,18 +1,10 @@
 -- `text_judge::scan` meets its contract. The invariant: what is left of the text comes to what the text comes to, and no count is above the bytes read (`Scanning`). The measure is what is left of the text.
-use mathlib.Core.Path.{_≡_, sym, ap, _∙_}
-use Prim.Native.Nat.{_-_}
-use native.Mathlib.Omega.{arith}
-use lib.ListN.{length}
-use mir.Syntax.{w64}
-use mir.Val.{toZ, ofZ}
-use mir.ValLaws.{toZ-ofZ}
+use Rattle.meaning_numbers.proofs.Prelude.{_≡_, sym, ap, _∙_, _-_, arith, length, w64, toZ, ofZ, toZ-ofZ, needs}
 use Rattle.text_index.proofs.View.{kept-start}
 use Rattle.text_event.proofs.EventLaws.{row-up, runs-up, run-up, value-up, closed-up}
 use Rattle.text_judge.specs.Tally.{startTally, tellTally, shutTally, keptScanned}
-use Rattle.text_judge.proofs.Seen.{text-scanned, start-fits}
+use Rattle.text_judge.proofs.{Seen.text-scanned, Seen.start-fits, scan.Statement.statement}
 use Rattle.text_judge.proofs.Events.{Scanning, scan-runs, scan-run, scan-row, scan-value, scan-closed, scan-refuse, scan-stop}
-use borrow.Author.Needs.{needs}
-use Rattle.text_judge.proofs.scan.Statement.{statement}
 use Rattle.text_judge.proofs.scan.Tie as tie
 
 abbrev Inv-loop : tie.InvT-loop

@@ -1,5 +1,5 @@
 -- `text_judge::scan_end` meets its contract. By the case.
-use borrow.Author.Needs.{needs}
+use Rattle.meaning_numbers.proofs.Prelude.{needs}
 use Rattle.text_judge.proofs.scan_end.Statement.{statement}
 use Rattle.text_judge.proofs.scan_end.Tie as tie
 

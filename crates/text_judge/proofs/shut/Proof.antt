@@ -1,9 +1,6 @@
 -- `text_judge::shut` meets its contract. By what closing the row gives.
-use mathlib.Core.Path.{refl}
-use mir.Syntax.{w32}
-use mir.ValLaws.{toZ-ofZ}
+use Rattle.meaning_numbers.proofs.Prelude.{refl, w32, toZ-ofZ, needs}
 use Rattle.text_judge.specs.Tally.{shutTally}
-use borrow.Author.Needs.{needs}
 use Rattle.text_judge.proofs.shut.Statement.{statement}
 use Rattle.text_judge.proofs.shut.Tie as tie
 

@@ -1,9 +1,6 @@
 -- `text_judge::tell` meets its contract. By the place of the number.
-use mathlib.Core.Path.{refl, _∙_}
-use mir.Syntax.{w32, w64}
-use mir.ValLaws.{toZ-ofZ}
+use Rattle.meaning_numbers.proofs.Prelude.{refl, _∙_, w32, w64, toZ-ofZ, needs}
 use Rattle.text_judge.specs.Tally.{tellTally}
-use borrow.Author.Needs.{needs}
 use Rattle.text_judge.proofs.tell.Statement.{statement}
 use Rattle.text_judge.proofs.tell.Tie as tie
 

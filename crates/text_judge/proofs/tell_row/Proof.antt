@@ -1,11 +1,7 @@
 -- `text_judge::tell_row` meets its contract: the numbers one after the other.
-use mathlib.Core.Path.{ap, _∙_}
-use native.Mathlib.Omega.{arith}
-use mir.Syntax.{w64}
-use mir.ValLaws.{toZ-ofZ}
+use Rattle.meaning_numbers.proofs.Prelude.{ap, _∙_, arith, w64, toZ-ofZ, needs}
 use Rattle.text_index.specs.declared.Field.{Field}
 use Rattle.text_judge.specs.Tally.{tellTally, toldRun}
-use borrow.Author.Needs.{needs}
 use Rattle.text_judge.proofs.tell_row.Statement.{statement}
 use Rattle.text_judge.proofs.tell_row.Tie as tie
 

@@ -1,12 +1,7 @@
 -- `text_judge::tell_run` meets its contract: the left end, then the right, as they are.
-use mathlib.Core.Path.{refl, _∙_}
-use native.Mathlib.Omega.{arith}
-use mir.Syntax.{w32}
-use mir.ValLaws.{toZ-ofZ}
+use Rattle.meaning_numbers.proofs.Prelude.{refl, _∙_, arith, w32, toZ-ofZ, needs}
 use Rattle.text_judge.specs.Tally.{tellTally}
-use Rattle.text_judge.proofs.Bad.{held-pos}
-use borrow.Author.Needs.{needs}
-use Rattle.text_judge.proofs.tell_run.Statement.{statement}
+use Rattle.text_judge.proofs.{Bad.held-pos, tell_run.Statement.statement}
 use Rattle.text_judge.proofs.tell_run.Tie as tie
 
 returns : tie.Need-returns

@@ -1,13 +1,9 @@
 -- `text_judge::tell_runs` meets its contract. The invariant: the runs so far say what is known (`RunsFrom`), and the counts are small. The measure is what is left of the text.
-use Prim.Native.Nat.{_-_, _≤_}
-use native.Mathlib.Omega.{arith}
-use lib.ListN.{length}
+use Rattle.meaning_numbers.proofs.Prelude.{_-_, _≤_, arith, length, needs}
 use Rattle.text_event.specs.Event.{RunsFrom, none, one}
 use Rattle.text_event.proofs.EventLaws.{run-up}
 use Rattle.text_judge.specs.Tally.{tellTally, Fits}
-use Rattle.text_judge.proofs.Events.{run-fits}
-use borrow.Author.Needs.{needs}
-use Rattle.text_judge.proofs.tell_runs.Statement.{statement}
+use Rattle.text_judge.proofs.{Events.run-fits, tell_runs.Statement.statement}
 use Rattle.text_judge.proofs.tell_runs.Tie as tie
 
 abbrev Inv-loop : tie.InvT-loop

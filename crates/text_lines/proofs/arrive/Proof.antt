@@ -1,11 +1,10 @@
 -- `text_lines::arrive` meets its contract. By the two tests.
+use borrow.Author.Needs.{needs}
+use borrow.Author.Tests.{eq-eqb, ne-eqb, lt-ltb, le-ltb}
 use mathlib.Core.Path.{sym, _∙_}
 use native.Mathlib.Omega.{arith}
-use borrow.Author.Tests.{eq-eqb, ne-eqb, lt-ltb, le-ltb}
 use Rattle.text_lines.specs.Step.{reach}
-use Rattle.text_lines.proofs.Step.{word-short}
-use borrow.Author.Needs.{needs}
-use Rattle.text_lines.proofs.arrive.Statement.{statement}
+use Rattle.text_lines.proofs.{Step.word-short, arrive.Statement.statement}
 use Rattle.text_lines.proofs.arrive.Tie as tie
 
 pub arrive-spec : {M : Type 1} → statement M

@@ -1,6 +1,6 @@
 -- `text_lines::line_step` meets its contract. By the state.
-use Rattle.text_lines.specs.Step.{lineStep}
 use borrow.Author.Needs.{needs}
+use Rattle.text_lines.specs.Step.{lineStep}
 use Rattle.text_lines.proofs.line_step.Statement.{statement}
 use Rattle.text_lines.proofs.line_step.Tie as tie
 

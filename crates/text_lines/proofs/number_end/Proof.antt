@@ -1,6 +1,6 @@
 -- `text_lines::number_end` meets its contract. By the case.
-use Rattle.text_lines.specs.Step.{turnAfter}
 use borrow.Author.Needs.{needs}
+use Rattle.text_lines.specs.Step.{turnAfter}
 use Rattle.text_lines.proofs.number_end.Statement.{statement}
 use Rattle.text_lines.proofs.number_end.Tie as tie
 

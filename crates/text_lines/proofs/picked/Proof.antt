@@ -1,7 +1,7 @@
 -- `text_lines::picked` meets its contract. By the case and the byte.
+use borrow.Author.Needs.{needs}
 use borrow.Author.Tests.{eq-eqb, ne-eqb}
 use Rattle.text_lines.specs.Step.{pick}
-use borrow.Author.Needs.{needs}
 use Rattle.text_lines.proofs.picked.Statement.{statement}
 use Rattle.text_lines.proofs.picked.Tie as tie
 

@@ -1,12 +1,11 @@
 -- `text_lines::step_end` meets its contract. The word that the byte picks behind the number is tried.
+use borrow.Author.Needs.{needs}
 use mathlib.Core.Path.{_≡_, sym, _∙_}
 use mir.Syntax.{w64}
 use mir.Val.{toZ, ofZ}
 use mir.ValLaws.{toZ-ofZ}
 use Rattle.text_lines.specs.Step.{endStep}
-use Rattle.text_lines.proofs.Step.{word-long}
-use borrow.Author.Needs.{needs}
-use Rattle.text_lines.proofs.step_end.Statement.{statement}
+use Rattle.text_lines.proofs.{Step.word-long, step_end.Statement.statement}
 use Rattle.text_lines.proofs.step_end.Tie as tie
 
 pub step-end-spec : {M : Type 1} → statement M

@@ -1,9 +1,9 @@
 -- `text_lines::step_number` meets its contract. By what the byte does to the number.
+use borrow.Author.Needs.{needs}
 use mathlib.Core.Path.{sym, _∙_}
 use mir.Syntax.{w64}
 use mir.ValLaws.{toZ-ofZ}
 use Rattle.text_lines.specs.Step.{numberStep}
-use borrow.Author.Needs.{needs}
 use Rattle.text_lines.proofs.step_number.Statement.{statement}
 use Rattle.text_lines.proofs.step_number.Tie as tie
 

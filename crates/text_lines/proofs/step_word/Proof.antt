@@ -1,11 +1,10 @@
 -- `text_lines::step_word` meets its contract. By where the byte leads, and whether it is the last of the word.
+use borrow.Author.Needs.{needs}
+use borrow.Author.Tests.{lt-ltb, le-ltb}
 use mathlib.Core.Path.{sym, _∙_}
 use native.Mathlib.Omega.{arith}
-use borrow.Author.Tests.{lt-ltb, le-ltb}
 use Rattle.text_lines.specs.Step.{wordStep}
-use Rattle.text_lines.proofs.Step.{word-short}
-use borrow.Author.Needs.{needs}
-use Rattle.text_lines.proofs.step_word.Statement.{statement}
+use Rattle.text_lines.proofs.{Step.word-short, step_word.Statement.statement}
 use Rattle.text_lines.proofs.step_word.Tie as tie
 
 pub step-word-spec : {M : Type 1} → statement M

@@ -1,6 +1,6 @@
 -- `text_lines::word_end` meets its contract. By the case.
-use Rattle.text_lines.specs.Step.{behind}
 use borrow.Author.Needs.{needs}
+use Rattle.text_lines.specs.Step.{behind}
 use Rattle.text_lines.proofs.word_end.Statement.{statement}
 use Rattle.text_lines.proofs.word_end.Tie as tie
 

@@ -1,7 +1,7 @@
 -- `text_lines::word_length` meets its contract. By the case.
-use Rattle.text_lines.specs.Step.{word}
-use Rattle.meaning_text.specs.Bytes.{bytes}
 use borrow.Author.Needs.{needs}
+use Rattle.meaning_text.specs.Bytes.{bytes}
+use Rattle.text_lines.specs.Step.{word}
 use Rattle.text_lines.proofs.word_length.Statement.{statement}
 use Rattle.text_lines.proofs.word_length.Tie as tie
 

@@ -1,11 +1,10 @@
 -- `text_list::write_found` meets its contract. Words, numbers and matches in order are the text of the list (`found-parts`).
+use borrow.Author.Needs.{needs}
 use lib.ListN.{take}
 use Rattle.meaning_text.specs.Bytes.{bytes}
 use Rattle.meaning_entries.specs.Demand3.{pairs}
 use Rattle.text_put.proofs.Put.{put-then}
-use Rattle.text_list.proofs.Found.{found-parts}
-use borrow.Author.Needs.{needs}
-use Rattle.text_list.proofs.write_found.Statement.{statement}
+use Rattle.text_list.proofs.{Found.found-parts, write_found.Statement.statement}
 use Rattle.text_list.proofs.write_found.Tie as tie
 
 returns : tie.Need-returns

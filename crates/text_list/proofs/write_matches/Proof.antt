@@ -1,11 +1,10 @@
 -- `text_list::write_matches` meets its contract. The invariant: the first i matches stand in the buffer (`Matches`).
-use mathlib.Core.Path.{_∙_}
 use Prim.Native.Nat.{_-_}
+use borrow.Author.Needs.{needs}
+use mathlib.Core.Path.{_∙_}
 use native.Mathlib.Omega.{arith}
 use Rattle.text_put.proofs.Put.{put-then, put-stays, put-length}
-use Rattle.text_list.proofs.Found.{Matches, matches-start, matches-turn, matches-end}
-use borrow.Author.Needs.{needs}
-use Rattle.text_list.proofs.write_matches.Statement.{statement}
+use Rattle.text_list.proofs.{Found.Matches, Found.matches-start, Found.matches-turn, Found.matches-end, write_matches.Statement.statement}
 use Rattle.text_list.proofs.write_matches.Tie as tie
 
 abbrev Inv-loop : tie.InvT-loop

@@ -1,6 +1,5 @@
 -- `text_numbers::digit_behind` meets its contract.
-use mathlib.Core.Path.{sym, _∙_}
-use borrow.Author.Needs.{needs}
+use Rattle.meaning_numbers.proofs.Prelude.{sym, _∙_, needs}
 use Rattle.text_numbers.proofs.digit_behind.Statement.{statement}
 use Rattle.text_numbers.proofs.digit_behind.Tie as tie
 

@@ -1,7 +1,5 @@
 -- `text_numbers::letter` meets its contract: behind the last byte `getD` gives its default.
-use mathlib.Core.Path.{sym}
-use borrow.Author.Needs.{needs}
-use lib.ListN.{List·getD-eq-default}
+use Rattle.meaning_numbers.proofs.Prelude.{sym, needs, List·getD-eq-default}
 use Rattle.text_numbers.proofs.letter.Statement.{statement}
 use Rattle.text_numbers.proofs.letter.Tie as tie
 

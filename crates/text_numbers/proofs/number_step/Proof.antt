@@ -1,11 +1,7 @@
 -- `text_numbers::number_step` meets its contract. By the state of the number and the byte.
-use mathlib.Core.Path.{sym, _∙_}
-use native.Mathlib.Omega.{arith}
-use borrow.Author.Tests.{eq-eqb, ne-eqb}
-use borrow.Author.Needs.{needs}
+use Rattle.meaning_numbers.proofs.Prelude.{sym, _∙_, arith, eq-eqb, ne-eqb, needs}
 use Rattle.text_numbers.specs.Number.{numStep}
-use Rattle.text_numbers.proofs.Number.{within-true}
-use Rattle.text_numbers.proofs.number_step.Statement.{statement}
+use Rattle.text_numbers.proofs.{Number.within-true, number_step.Statement.statement}
 use Rattle.text_numbers.proofs.number_step.Tie as tie
 
 pub number-step-spec : {M : Type 1} → statement M

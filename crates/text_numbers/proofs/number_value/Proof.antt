@@ -1,14 +1,6 @@
 -- `text_numbers::number_value` meets its contract. By the state of the number; its magnitude is below 10 ^ 18.
-use mathlib.Core.Path.{_≡_}
-use native.Mathlib.Omega.{arith}
-use lib.IntN.{pos, negℤ, _-ℤ_}
-use mir.Syntax.{w64}
-use mir.Val.{toZ, ofZ}
-use mir.ValLaws.{toZ-pos}
-use Rattle.meaning_numbers.proofs.Rep.{z-sub, z-neg}
-use Rattle.meaning_numbers.proofs.Machine.{zmach, z-cast}
+use Rattle.meaning_numbers.proofs.Prelude.{_≡_, arith, pos, negℤ, _-ℤ_, w64, toZ, ofZ, toZ-pos, z-sub, z-neg, zmach, z-cast, needs}
 use Rattle.text_numbers.specs.Number.{whole}
-use borrow.Author.Needs.{needs}
 use Rattle.text_numbers.proofs.number_value.Statement.{statement}
 use Rattle.text_numbers.proofs.number_value.Tie as tie
 

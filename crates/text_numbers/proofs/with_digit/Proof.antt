@@ -1,8 +1,6 @@
 -- `text_numbers::with_digit` meets its contract: a number of at most 18 digits fits.
-use native.Mathlib.Omega.{arith}
-use borrow.Author.Needs.{needs}
-use Rattle.text_numbers.proofs.Number.{behind-true}
-use Rattle.text_numbers.proofs.with_digit.Statement.{statement}
+use Rattle.meaning_numbers.proofs.Prelude.{arith, needs}
+use Rattle.text_numbers.proofs.{Number.behind-true, with_digit.Statement.statement}
 use Rattle.text_numbers.proofs.with_digit.Tie as tie
 
 mul-result : tie.Need-mul-result

@@ -1,19 +1,13 @@
 -- `text_put::put_digits` meets its contract: one digit, or those of a tenth and the last. The measure is the number.
-use mathlib.Core.Path.{_∙_}
-use native.Mathlib.Omega.{arith}
-use borrow.Author.Needs.{needs}
-use Rattle.meaning_text.proofs.Number.{spell-one}
-use Rattle.text_put.proofs.Digits.{spell-split}
-use Rattle.text_put.proofs.Put.{put-then}
-use Prim.Native.Nat.{ℕ, _<_}
 use borrow.Fn.Kinds.{In}
 use borrow.Fn.PlainCycle.{Measures, is, falls, and}
+use Rattle.meaning_numbers.proofs.Prelude.{_∙_, arith, needs, ℕ, _<_}
+use Rattle.meaning_text.proofs.Number.{spell-one}
+use Rattle.text_put.proofs.{Digits.spell-split, Put.put-then, +put_digits.statement, +put_digits.Tie.close}
 use Rattle.text_put.proofs.put_digits.Reads as put-digits
 use Rattle.text_put.proofs.put_digits.Kinds as put-digits-kinds
 use Rattle.text_put.proofs.+put_digits.Lts-put_digits as put-digits-lts
 use Rattle.text_put.proofs.put_byte.Reads as put-byte-reads
-use Rattle.text_put.proofs.+put_digits.{statement}
-use Rattle.text_put.proofs.+put_digits.Tie.{close}
 
 abbrev μ-put-digits : Measures 1 put-digits-kinds.ps ℕ
 μ-put-digits κs a = a .1 .1 .0

@@ -1,9 +1,6 @@
 -- `text_put::digit_count` meets its contract: five digits are taken off at once.
-use Prim.Native.Nat.{_/_}
-use native.Mathlib.Omega.{arith}
-use Rattle.text_put.proofs.Digits.{length-five, length-most}
-use borrow.Author.Needs.{needs}
-use Rattle.text_put.proofs.digit_count.Statement.{statement}
+use Rattle.meaning_numbers.proofs.Prelude.{_/_, arith, needs}
+use Rattle.text_put.proofs.{Digits.length-five, Digits.length-most, digit_count.Statement.statement}
 use Rattle.text_put.proofs.digit_count.Tie as tie
 
 returns : tie.Need-returns

@@ -1,9 +1,7 @@
 -- `text_put::few_digits` meets its contract: each test is against the next power of ten.
-use native.Mathlib.Omega.{arith}
-use Rattle.text_put.proofs.Digits.{length-one, length-between}
-use Rattle.text_put.proofs.few_digits.Statement.{statement}
+use Rattle.meaning_numbers.proofs.Prelude.{arith, sym}
+use Rattle.text_put.proofs.{Digits.length-one, Digits.length-between, few_digits.Statement.statement}
 use Rattle.text_put.proofs.few_digits.Tie as tie
-use mathlib.Core.Path.{sym}
 
 returns : tie.Need-returns
 returns c = sym (length-one (c .before .args .n) (omega arith))

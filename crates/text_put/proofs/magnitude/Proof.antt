@@ -1,9 +1,5 @@
 -- `text_put::magnitude` meets its contract. By the sign.
-use lib.IntN.{pos, _+ℤ_, _-ℤ_}
-use mir.Syntax.{w64}
-use mir.Val.{toZ, ofZ}
-use Rattle.meaning_numbers.proofs.Rep.{z-add, z-sub}
-use Rattle.meaning_numbers.proofs.Machine.{zmach, z-abs, z-fits}
+use Rattle.meaning_numbers.proofs.Prelude.{pos, _+ℤ_, _-ℤ_, w64, toZ, ofZ, z-add, z-sub, zmach, z-abs, z-fits}
 use Rattle.text_put.proofs.magnitude.Statement.{statement}
 use Rattle.text_put.proofs.magnitude.Tie as tie
 

@@ -1,18 +1,7 @@
 -- `text_put::number_length` meets its contract: the digits, and the sign of a number below 0.
-use mathlib.Core.Path.{_≡_, sym, ap, _∙_}
-use Prim.Native.Nat.{ℕ, _≤_}
-use native.Mathlib.Omega.{arith}
-use lib.IntN.{ℤ, pos, natAbs}
-use lib.ListN.{length}
-use lib.Signed.{_≤ℤ_, _<ℤ_}
-use mir.Syntax.{w32, w64}
-use mir.Val.{toZ, ofZ}
-use mir.ValLaws.{toZ-ofZ}
-use Rattle.meaning_numbers.proofs.Machine.{zmach32}
+use Rattle.meaning_numbers.proofs.Prelude.{_≡_, sym, ap, _∙_, ℕ, _≤_, arith, ℤ, pos, natAbs, length, _≤ℤ_, _<ℤ_, w32, w64, toZ, ofZ, toZ-ofZ, zmach32, needs}
 use Rattle.meaning_text.specs.Number.{spellℕ}
-use Rattle.text_put.proofs.Digits.{sfits-wide, abs-small, spell-minus, spell-plus}
-use borrow.Author.Needs.{needs}
-use Rattle.text_put.proofs.number_length.Statement.{statement}
+use Rattle.text_put.proofs.{Digits.sfits-wide, Digits.abs-small, Digits.spell-minus, Digits.spell-plus, number_length.Statement.statement}
 use Rattle.text_put.proofs.number_length.Tie as tie
 
 -- the number, as the machine reads it at 64 bits

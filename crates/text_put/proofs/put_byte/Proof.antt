@@ -1,7 +1,6 @@
 -- `text_put::put_byte` meets its contract. There is room, or there is none.
-use Rattle.text_put.proofs.Put.{put-out}
-use borrow.Author.Needs.{needs}
-use Rattle.text_put.proofs.put_byte.Statement.{statement}
+use Rattle.meaning_numbers.proofs.Prelude.{needs}
+use Rattle.text_put.proofs.{Put.put-out, put_byte.Statement.statement}
 use Rattle.text_put.proofs.put_byte.Tie as tie
 
 returns-2 : tie.Need-returns-2

@@ -1,11 +1,7 @@
 -- `text_put::put_word` meets its contract. The invariant: the first i bytes of the word stand in the buffer.
-use Prim.Native.Nat.{_-_, _≤_}
-use native.Mathlib.Omega.{arith}
-use borrow.Author.Needs.{needs}
-use lib.ListN.{length, take}
+use Rattle.meaning_numbers.proofs.Prelude.{_-_, _≤_, arith, needs, length, take}
 use Rattle.text_put.specs.Put.{Put}
-use Rattle.text_put.proofs.Put.{put-none, put-turn, put-all, put-length}
-use Rattle.text_put.proofs.put_word.Statement.{statement}
+use Rattle.text_put.proofs.{Put.put-none, Put.put-turn, Put.put-all, Put.put-length, put_word.Statement.statement}
 use Rattle.text_put.proofs.put_word.Tie as tie
 
 abbrev Inv-loop : tie.InvT-loop

@@ -1,11 +1,6 @@
 -- `text_put::write_i32` meets its contract. A number of 32 bits is read as itself.
-use mathlib.Core.Path.{_≡_}
-use mir.Syntax.{w32, w64}
-use mir.Val.{toZ, ofZ}
-use mir.ValLaws.{toZ-ofZ}
-use Rattle.text_put.proofs.Digits.{sfits-wide}
-use borrow.Author.Needs.{needs}
-use Rattle.text_put.proofs.write_i32.Statement.{statement}
+use Rattle.meaning_numbers.proofs.Prelude.{_≡_, w32, w64, toZ, ofZ, toZ-ofZ, needs}
+use Rattle.text_put.proofs.{Digits.sfits-wide, write_i32.Statement.statement}
 use Rattle.text_put.proofs.write_i32.Tie as tie
 
 cast-write-number : tie.Need-cast-write-number

@@ -1,14 +1,6 @@
 -- `text_put::write_number` meets its contract. By the sign: a minus and the digits, or the digits.
-use mathlib.Core.Path.{_≡_}
-use lib.IntN.{pos, natAbs}
-use lib.Signed.{_≤ℤ_, _<ℤ_}
-use mir.Syntax.{w64}
-use mir.Val.{toZ, ofZ}
-use Rattle.meaning_numbers.proofs.Machine.{zmach, z-abs}
-use Rattle.text_put.proofs.Digits.{spell-minus, spell-plus}
-use Rattle.text_put.proofs.Put.{put-then}
-use borrow.Author.Needs.{needs}
-use Rattle.text_put.proofs.write_number.Statement.{statement}
+use Rattle.meaning_numbers.proofs.Prelude.{_≡_, pos, natAbs, _≤ℤ_, _<ℤ_, w64, toZ, ofZ, zmach, z-abs, needs}
+use Rattle.text_put.proofs.{Digits.spell-minus, Digits.spell-plus, Put.put-then, write_number.Statement.statement}
 use Rattle.text_put.proofs.write_number.Tie as tie
 
 pub write-number-spec : {M : Type 1} → statement M

@@ -1,11 +1,5 @@
 -- `text_put::write_u32` meets its contract. An unsigned number of 32 bits is read as itself.
-use mathlib.Core.Path.{_≡_, sym}
-use native.Mathlib.Omega.{arith}
-use lib.IntN.{pos}
-use mir.Syntax.{w64}
-use mir.Val.{toZ}
-use mir.ValLaws.{toZ-pos}
-use borrow.Author.Needs.{needs}
+use Rattle.meaning_numbers.proofs.Prelude.{_≡_, sym, arith, pos, w64, toZ, toZ-pos, needs}
 use Rattle.text_put.proofs.write_u32.Statement.{statement}
 use Rattle.text_put.proofs.write_u32.Tie as tie
 

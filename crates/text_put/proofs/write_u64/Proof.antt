@@ -1,6 +1,6 @@
 -- `text_put::write_u64` meets its contract.
+use Rattle.meaning_numbers.proofs.Prelude.{needs}
 use Rattle.meaning_text.specs.Number.{spellℤ}
-use borrow.Author.Needs.{needs}
 use Rattle.text_put.proofs.write_u64.Statement.{statement}
 use Rattle.text_put.proofs.write_u64.Tie as tie
 

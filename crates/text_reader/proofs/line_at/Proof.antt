@@ -1,12 +1,11 @@
 -- `text_reader::line_at` meets its contract. The invariant: n is the line of place i, and at most i + 1. The measure is how far `at` is.
-use mathlib.Core.Path.{_≡_, sym, ap, _∙_}
 use Prim.Native.Nat.{suc, _-_, _≤_}
-use native.Mathlib.Omega.{arith}
-use native.Mathlib.Numerals.{add-one}
-use lib.Seq.{take-all}
 use borrow.Author.Tests.{eq-eqb, ne-eqb}
-use Rattle.meaning_text.specs.Bytes.{newlines}
-use Rattle.meaning_text.specs.Read.{lineOf}
+use lib.Seq.{take-all}
+use mathlib.Core.Path.{_≡_, sym, ap, _∙_}
+use native.Mathlib.Numerals.{add-one}
+use native.Mathlib.Omega.{arith}
+use Rattle.meaning_text.specs.{Bytes.newlines, Read.lineOf}
 use Rattle.meaning_text.proofs.Lines.{line-start, line-next}
 use Rattle.text_reader.proofs.line_at.Statement.{statement}
 use Rattle.text_reader.proofs.line_at.Tie as tie

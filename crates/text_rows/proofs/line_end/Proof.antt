@@ -1,6 +1,6 @@
 -- `text_rows::line_end` meets its contract.
-use mathlib.Core.Path.{refl}
 use borrow.Author.Needs.{needs}
+use mathlib.Core.Path.{refl}
 use Rattle.text_rows.proofs.line_end.Statement.{statement}
 use Rattle.text_rows.proofs.line_end.Tie as tie
 

@@ -1,9 +1,9 @@
 -- `text_rows::make_row` meets its contract. On numbers that the machine reads back as they are.
+use borrow.Author.Needs.{needs}
 use mathlib.Core.Path.{refl}
 use mir.Syntax.{w32}
 use mir.ValLaws.{toZ-ofZ}
 use Rattle.text_rows.specs.Line.{rowMade}
-use borrow.Author.Needs.{needs}
 use Rattle.text_rows.proofs.make_row.Statement.{statement}
 use Rattle.text_rows.proofs.make_row.Tie as tie
 

@@ -1,6 +1,6 @@
 -- `text_rows::no_line` meets its contract. By what its parts are.
-use mathlib.Core.Path.{refl}
 use borrow.Author.Needs.{needs}
+use mathlib.Core.Path.{refl}
 use Rattle.text_rows.proofs.no_line.Statement.{statement}
 use Rattle.text_rows.proofs.no_line.Tie as tie
 

@@ -1,15 +1,15 @@
 -- `text_rows::row_from` meets its contract. The invariant: what is left of the text comes to the same line (`Going`). The measure is what is left of the text.
-use mathlib.Core.Path.{_≡_, _∙_}
 use Prim.Native.Nat.{_-_}
-use native.Mathlib.Omega.{arith}
+use borrow.Author.Needs.{needs}
 use lib.ListN.{length}
+use mathlib.Core.Path.{_≡_, _∙_}
 use mir.Syntax.{w64}
 use mir.Val.{toZ, ofZ}
 use mir.ValLaws.{toZ-ofZ}
+use native.Mathlib.Omega.{arith}
 use Rattle.text_event.proofs.EventLaws.{row-up, runs-up, run-up, value-up}
-use Rattle.text_rows.proofs.Turn.{Going, going-start, line-run, line-row, line-runs, line-value, line-closed, line-refuse, line-stop}
-use borrow.Author.Needs.{needs}
 use Rattle.text_rows.proofs.row_from.Statement.{statement}
+use Rattle.text_rows.proofs.Turn.{Going, going-start, line-run, line-row, line-runs, line-value, line-closed, line-refuse, line-stop}
 use Rattle.text_rows.proofs.row_from.Tie as tie
 
 abbrev Inv-loop : tie.InvT-loop

@@ -1,7 +1,7 @@
 -- `text_write::write_end` meets its contract. The word is written.
+use borrow.Author.Needs.{needs}
 use Rattle.meaning_text.specs.Bytes.{bytes}
 use Rattle.text_write.specs.Write.{endText}
-use borrow.Author.Needs.{needs}
 use Rattle.text_write.proofs.write_end.Statement.{statement}
 use Rattle.text_write.proofs.write_end.Tie as tie
 

@@ -1,8 +1,8 @@
 -- `text_write::write_head` meets its contract. Words and numbers in order.
+use borrow.Author.Needs.{needs}
 use Rattle.meaning_text.specs.Bytes.{bytes}
 use Rattle.text_put.proofs.Put.{put-then}
 use Rattle.text_write.specs.Write.{headText}
-use borrow.Author.Needs.{needs}
 use Rattle.text_write.proofs.write_head.Statement.{statement}
 use Rattle.text_write.proofs.write_head.Tie as tie
 

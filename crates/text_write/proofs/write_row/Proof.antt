@@ -1,13 +1,12 @@
 -- `text_write::write_row` meets its contract. Words, numbers and runs in order, put together as they are spelled.
-use Rattle.meaning_text.specs.Bytes.{bytes}
-use Rattle.meaning_text.specs.Form.{spell}
-use Rattle.text_put.proofs.Put.{put-then, put-length}
-use Rattle.text_write.specs.Write.{runsText, rowText}
+use borrow.Author.Needs.{needs}
 use mathlib.Core.Path.{_≡_, sym}
 use mir.Syntax.{w32}
 use mir.Val.{toZ, ofZ}
 use mir.ValLaws.{toZ-ofZ}
-use borrow.Author.Needs.{needs}
+use Rattle.meaning_text.specs.{Bytes.bytes, Form.spell}
+use Rattle.text_put.proofs.Put.{put-then, put-length}
+use Rattle.text_write.specs.Write.{runsText, rowText}
 use Rattle.text_write.proofs.write_row.Statement.{statement}
 use Rattle.text_write.proofs.write_row.Tie as tie
 

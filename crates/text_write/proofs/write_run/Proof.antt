@@ -1,8 +1,7 @@
 -- `text_write::write_run` meets its contract. Words and numbers in order, put together as they are spelled.
-use Rattle.meaning_text.specs.Bytes.{bytes}
-use Rattle.meaning_text.specs.Form.{spell}
-use Rattle.text_put.proofs.Put.{put-then}
 use borrow.Author.Needs.{needs}
+use Rattle.meaning_text.specs.{Bytes.bytes, Form.spell}
+use Rattle.text_put.proofs.Put.{put-then}
 use Rattle.text_write.proofs.write_run.Statement.{statement}
 use Rattle.text_write.proofs.write_run.Tie as tie
 

@@ -1,11 +1,10 @@
 -- `text_write::write_runs` meets its contract. The invariant: the first i runs of the part stand in the buffer (`Runs`).
-use mathlib.Core.Path.{_∙_}
 use Prim.Native.Nat.{_-_}
-use native.Mathlib.Omega.{arith}
 use borrow.Author.Needs.{needs}
+use mathlib.Core.Path.{_∙_}
+use native.Mathlib.Omega.{arith}
 use Rattle.text_put.proofs.Put.{put-then, put-stays, put-length}
-use Rattle.text_write.proofs.Write.{Runs, runs-start, runs-turn, runs-end}
-use Rattle.text_write.proofs.write_runs.Statement.{statement}
+use Rattle.text_write.proofs.{Write.Runs, Write.runs-start, Write.runs-turn, Write.runs-end, write_runs.Statement.statement}
 use Rattle.text_write.proofs.write_runs.Tie as tie
 
 abbrev Inv-loop : tie.InvT-loop

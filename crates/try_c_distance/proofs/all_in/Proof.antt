@@ -1,10 +1,8 @@
 -- `try_c_distance::all_in` meets its contract.
-use borrow.Author.Needs.{needs}
-use mathlib.Core.Path.{sym, _∙_}
+use Rattle.meaning_numbers.proofs.Prelude.{needs, sym, _∙_}
 use Rattle.meaning_curves.proofs.Values.{none-outside, outside-none}
 use Rattle.distance_match.proofs.AlikeLaws.{says-yes, says-no}
-use Rattle.try_c_distance.proofs.Answers.{none-placed, some-placed}
-use Rattle.try_c_distance.proofs.all_in.Statement.{statement}
+use Rattle.try_c_distance.proofs.{Answers.none-placed, Answers.some-placed, all_in.Statement.statement}
 use Rattle.try_c_distance.proofs.all_in.Tie as tie
 
 returns : tie.Need-returns

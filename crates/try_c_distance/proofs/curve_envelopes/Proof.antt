@@ -1,10 +1,6 @@
 -- `try_c_distance::curve_envelopes` meets its contract.
-use borrow.Author.Needs.{needs}
-use borrow.Author.Tests.{not-true, not-false}
-use mathlib.Core.Path.{refl}
-use native.Mathlib.Omega.{arith}
-use Rattle.try_c_distance.proofs.Laws.{outcome-yes, outcome-no}
-use Rattle.try_c_distance.proofs.curve_envelopes.Statement.{statement}
+use Rattle.meaning_numbers.proofs.Prelude.{needs, not-true, not-false, refl, arith}
+use Rattle.try_c_distance.proofs.{Laws.outcome-yes, Laws.outcome-no, curve_envelopes.Statement.statement}
 use Rattle.try_c_distance.proofs.curve_envelopes.Tie as tie
 
 returns-4 : tie.Need-returns-4

@@ -1,16 +1,8 @@
 -- `try_c_distance::curve_normal` meets its contract. The invariant: the spreads so far are written, and room holds the last normalised values.
-use borrow.Author.Needs.{needs}
-use borrow.Author.Tests.{not-true, not-false}
-use mathlib.Core.Path.{_≡_, refl, _∙_}
-use Prim.Native.Nat.{_+_, _-_, _≤_}
-use native.Mathlib.Omega.{arith}
-use lib.ListN.{length}
+use Rattle.meaning_numbers.proofs.Prelude.{needs, not-true, not-false, _≡_, refl, _∙_, _+_, _-_, _≤_, arith, length}
 use Rattle.values.specs.Sums.{AreSums}
-use Rattle.try_c_distance.specs.Fits.{Fits}
-use Rattle.try_c_distance.specs.Outcome.{Written}
-use Rattle.try_c_distance.specs.Told.{LastNormal, SpreadAt}
-use Rattle.try_c_distance.proofs.Laws.{written-none, written-more, written-all, outcome-yes, outcome-no, normal-none, normal-next, normal-all}
-use Rattle.try_c_distance.proofs.curve_normal.Statement.{statement}
+use Rattle.try_c_distance.specs.{Fits.Fits, Outcome.Written, Told.LastNormal, Told.SpreadAt}
+use Rattle.try_c_distance.proofs.{Laws.written-none, Laws.written-more, Laws.written-all, Laws.outcome-yes, Laws.outcome-no, Laws.normal-none, Laws.normal-next, Laws.normal-all, curve_normal.Statement.statement}
 use Rattle.try_c_distance.proofs.curve_normal.Tie as tie
 
 abbrev Inv-loop : tie.InvT-loop

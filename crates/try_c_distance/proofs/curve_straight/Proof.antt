@@ -1,16 +1,8 @@
 -- `try_c_distance::curve_straight` meets its contract: what `straight` requires was tested. The invariant: the numbers so far are written.
-use borrow.Author.Needs.{needs}
-use borrow.Author.Tests.{not-true, not-false}
-use mathlib.Core.Path.{_≡_, refl}
-use Prim.Native.Nat.{_+_, _-_, _≤_}
-use native.Mathlib.Omega.{arith}
-use lib.ListN.{length}
+use Rattle.meaning_numbers.proofs.Prelude.{needs, not-true, not-false, _≡_, refl, _+_, _-_, _≤_, arith, length}
 use Rattle.meaning_curves.proofs.Values.{AllIn}
-use Rattle.try_c_distance.specs.Fits.{Fits}
-use Rattle.try_c_distance.specs.Outcome.{Written}
-use Rattle.try_c_distance.specs.Told.{StraightAt}
-use Rattle.try_c_distance.proofs.Laws.{written-none, written-more, written-all, outcome-yes, outcome-no}
-use Rattle.try_c_distance.proofs.curve_straight.Statement.{statement}
+use Rattle.try_c_distance.specs.{Fits.Fits, Outcome.Written, Told.StraightAt}
+use Rattle.try_c_distance.proofs.{Laws.written-none, Laws.written-more, Laws.written-all, Laws.outcome-yes, Laws.outcome-no, curve_straight.Statement.statement}
 use Rattle.try_c_distance.proofs.curve_straight.Tie as tie
 
 abbrev Inv-loop : tie.InvT-loop

@@ -1,10 +1,6 @@
 -- `try_c_distance::curve_warped` meets its contract: what its callees require was tested.
-use borrow.Author.Needs.{needs}
-use borrow.Author.Tests.{not-true, not-false}
-use mathlib.Core.Path.{refl}
-use native.Mathlib.Omega.{arith}
-use Rattle.try_c_distance.proofs.Laws.{outcome-yes, outcome-no}
-use Rattle.try_c_distance.proofs.curve_warped.Statement.{statement}
+use Rattle.meaning_numbers.proofs.Prelude.{needs, not-true, not-false, refl, arith}
+use Rattle.try_c_distance.proofs.{Laws.outcome-yes, Laws.outcome-no, curve_warped.Statement.statement}
 use Rattle.try_c_distance.proofs.curve_warped.Tie as tie
 
 each-warped-requires : tie.Need-each-warped-requires

@@ -1,15 +1,9 @@
 -- `try_c_distance::each_warped` meets its contract. The invariant: the numbers so far are written.
-use mathlib.Core.Path.{_≡_, refl, _∙_, sym}
-use Prim.Native.Nat.{_+_, _-_, _≤_}
-use native.Mathlib.Omega.{arith}
-use lib.ListN.{length}
+use Rattle.meaning_numbers.proofs.Prelude.{_≡_, refl, _∙_, sym, _+_, _-_, _≤_, arith, length}
 use Rattle.meaning_curves.proofs.Values.{AllIn}
 use Rattle.distance_envelope.specs.Envelope.{Envelopes}
-use Rattle.try_c_distance.specs.Fits.{Fits}
-use Rattle.try_c_distance.specs.Outcome.{Written}
-use Rattle.try_c_distance.specs.Told.{WarpedAt}
-use Rattle.try_c_distance.proofs.Laws.{written-none, written-more, written-all}
-use Rattle.try_c_distance.proofs.each_warped.Statement.{statement}
+use Rattle.try_c_distance.specs.{Fits.Fits, Outcome.Written, Told.WarpedAt}
+use Rattle.try_c_distance.proofs.{Laws.written-none, Laws.written-more, Laws.written-all, each_warped.Statement.statement}
 use Rattle.try_c_distance.proofs.each_warped.Tie as tie
 
 abbrev Inv-loop : tie.InvT-loop

@@ -1,6 +1,5 @@
 -- `try_c_distance::fits` meets its contract.
-use borrow.Author.Needs.{needs}
-use native.Mathlib.Omega.{arith}
+use Rattle.meaning_numbers.proofs.Prelude.{needs, arith}
 use Rattle.distance_match.proofs.AlikeLaws.{says-no}
 use Rattle.try_c_distance.proofs.fits.Statement.{statement}
 use Rattle.try_c_distance.proofs.fits.Tie as tie

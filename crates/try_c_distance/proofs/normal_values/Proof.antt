@@ -1,7 +1,5 @@
 -- `try_c_distance::normal_values` meets its contract.
-use borrow.Author.Needs.{needs}
-use mathlib.Core.Path.{refl}
-use native.Mathlib.Omega.{arith}
+use Rattle.meaning_numbers.proofs.Prelude.{needs, refl, arith}
 use Rattle.try_c_distance.proofs.normal_values.Statement.{statement}
 use Rattle.try_c_distance.proofs.normal_values.Tie as tie
 

@@ -1,14 +1,12 @@
 -- `try_c_lines::lines_read` meets its contract. The invariant: the text has been read up to a place inside it, and what is kept is what it comes to.
-use borrow.Author.Needs.{needs}
-use mathlib.Core.Path.{_≡_, refl, _∙_}
 use Prim.Native.Nat.{_-_}
-use native.Mathlib.Omega.{arith}
+use borrow.Author.Needs.{needs}
 use lib.ListN.{length, take}
+use mathlib.Core.Path.{_≡_, refl, _∙_}
+use native.Mathlib.Omega.{arith}
 use Rattle.text_feed.specs.declared.Feeding.{Feeding}
 use Rattle.try_c_lines.specs.Piece.{Stands}
-use Rattle.try_c_lines.proofs.PieceLaws.{Comes}
-use Rattle.try_c_lines.proofs.Laws.{begins, goes-on, fails, ends, told}
-use Rattle.try_c_lines.proofs.lines_read.Statement.{statement}
+use Rattle.try_c_lines.proofs.{PieceLaws.Comes, Laws.begins, Laws.goes-on, Laws.fails, Laws.ends, Laws.told, lines_read.Statement.statement}
 use Rattle.try_c_lines.proofs.lines_read.Tie as tie
 
 abbrev Inv-loop : tie.InvT-loop

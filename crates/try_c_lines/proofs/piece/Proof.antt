@@ -1,9 +1,9 @@
 -- `try_c_lines::piece` meets its contract: the piece ends inside the text.
-use borrow.Author.Needs.{needs}
-use mathlib.Core.Path.{subst}
 use Prim.Native.Nat.{ℕ}
-use native.Mathlib.Omega.{arith}
+use borrow.Author.Needs.{needs}
 use lib.ListN.{length-take, length-drop}
+use mathlib.Core.Path.{subst}
+use native.Mathlib.Omega.{arith}
 use Rattle.text_feed.specs.Feed.{GoodFeeding}
 use Rattle.try_c_lines.proofs.piece.Statement.{statement}
 use Rattle.try_c_lines.proofs.piece.Tie as tie

@@ -1,13 +1,9 @@
 -- `try_c_match::can_prepare` meets its contract.
-use borrow.Author.Needs.{needs}
-use mathlib.Core.Path.{sym, _∙_}
-use native.Mathlib.Omega.{arith}
-use lib.ListN.{length}
+use Rattle.meaning_numbers.proofs.Prelude.{needs, sym, _∙_, arith, length}
 use Rattle.meaning_curves.proofs.Same.{spread-same}
 use Rattle.distance_query.proofs.Ready.{from-start}
 use Rattle.distance_match.proofs.AlikeLaws.{says-yes, says-no}
-use Rattle.try_c_match.proofs.Answers.{raw-normal}
-use Rattle.try_c_match.proofs.can_prepare.Statement.{statement}
+use Rattle.try_c_match.proofs.{Answers.raw-normal, can_prepare.Statement.statement}
 use Rattle.try_c_match.proofs.can_prepare.Tie as tie
 
 flat : tie.Need-returns

@@ -1,11 +1,7 @@
 -- `try_c_match::curve_matches` meets its contract: what its callees require was tested.
-use borrow.Author.Needs.{needs}
-use borrow.Author.Tests.{not-true, not-false}
-use mathlib.Core.Path.{refl}
-use native.Mathlib.Omega.{arith}
+use Rattle.meaning_numbers.proofs.Prelude.{needs, not-true, not-false, refl, arith}
 use Rattle.try_c_distance.proofs.Laws.{outcome-yes, outcome-no}
-use Rattle.try_c_match.proofs.Matches.{of-kind}
-use Rattle.try_c_match.proofs.curve_matches.Statement.{statement}
+use Rattle.try_c_match.proofs.{Matches.of-kind, curve_matches.Statement.statement}
 use Rattle.try_c_match.proofs.curve_matches.Tie as tie
 
 can-prepare-requires : tie.Need-can-prepare-requires

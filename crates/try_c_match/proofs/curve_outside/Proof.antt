@@ -1,10 +1,7 @@
 -- `try_c_match::curve_outside` meets its contract.
-use borrow.Author.Needs.{needs}
-use mathlib.Core.Path.{sym, _∙_}
-use lib.ListN.{length}
+use Rattle.meaning_numbers.proofs.Prelude.{needs, sym, _∙_, length}
 use Rattle.meaning_curves.specs.Limits.{firstOutside}
-use Rattle.try_c_match.proofs.Answers.{place-at, place-none}
-use Rattle.try_c_match.proofs.curve_outside.Statement.{statement}
+use Rattle.try_c_match.proofs.{Answers.place-at, Answers.place-none, curve_outside.Statement.statement}
 use Rattle.try_c_match.proofs.curve_outside.Tie as tie
 
 returns : tie.Need-returns

@@ -1,20 +1,10 @@
 -- `try_c_match::curve_windows` meets its contract. The invariant: the sums and rows so far are written, and the next sum is at hand.
-use borrow.Author.Needs.{needs}
-use borrow.Author.Tests.{not-true, not-false}
-use mathlib.Core.Path.{_≡_, refl, ap, _∙_}
-use Prim.Native.Nat.{_+_, _-_, _≤_}
-use native.Mathlib.Omega.{arith}
-use lib.IntN.{pos}
-use lib.ListN.{length}
-use mir.Syntax.{w32}
-use mir.Val.{toZ}
-use mir.ValLaws.{toZ-ofZ}
+use Rattle.meaning_numbers.proofs.Prelude.{needs, not-true, not-false, _≡_, refl, ap, _∙_, _+_, _-_, _≤_, arith, pos, length, w32, toZ, toZ-ofZ}
 use Rattle.meaning_curves.specs.Curve.{windowSum}
 use Rattle.meaning_rows.specs.Range.{rowNumber}
-use Rattle.try_c_distance.specs.Fits.{Fits}
-use Rattle.try_c_distance.specs.Outcome.{Written}
-use Rattle.try_c_match.specs.Told.{SumAt, RowAt}
+use Rattle.try_c_distance.specs.{Fits.Fits, Outcome.Written}
 use Rattle.try_c_distance.proofs.Laws.{written-none, written-more, written-all, outcome-yes, outcome-no}
+use Rattle.try_c_match.specs.Told.{SumAt, RowAt}
 use Rattle.try_c_match.proofs.curve_windows.Statement.{statement}
 use Rattle.try_c_match.proofs.curve_windows.Tie as tie
 

@@ -1,18 +1,12 @@
 -- `try_c_match::each_match` meets its contract. The invariant: the answers so far are written.
-use borrow.Author.Needs.{needs}
-use mathlib.Core.Path.{_≡_, ap, _∙_}
-use Prim.Native.Nat.{_+_, _-_, _≤_, _<_}
-use native.Mathlib.Omega.{arith}
-use lib.ListN.{length}
+use Rattle.meaning_numbers.proofs.Prelude.{needs, _≡_, ap, _∙_, _+_, _-_, _≤_, _<_, arith, length}
 use Rattle.meaning_curves.proofs.Values.{AllIn}
-use Rattle.try_c_distance.specs.Fits.{Fits}
-use Rattle.try_c_distance.specs.Outcome.{Written}
-use Rattle.try_c_match.specs.Told.{MatchAt, wrapped}
-use Rattle.try_c_distance.proofs.Laws.{written-none, written-more, written-all}
-use Rattle.try_c_match.proofs.Matches.{told-wrapped}
 use Rattle.values.specs.Sums.{AreSums}
 use Rattle.distance_query.specs.Ready.{Ready}
-use Rattle.try_c_match.proofs.each_match.Statement.{statement}
+use Rattle.try_c_distance.specs.{Fits.Fits, Outcome.Written}
+use Rattle.try_c_distance.proofs.Laws.{written-none, written-more, written-all}
+use Rattle.try_c_match.specs.Told.{MatchAt, wrapped}
+use Rattle.try_c_match.proofs.{Matches.told-wrapped, each_match.Statement.statement}
 use Rattle.try_c_match.proofs.each_match.Tie as tie
 
 abbrev Inv-loop : tie.InvT-loop

@@ -1,7 +1,6 @@
 -- `try_c_match::kind_of` meets its contract.
-use borrow.Author.Needs.{needs}
-use Rattle.try_c_match.proofs.Answers.{kind-normal}
-use Rattle.try_c_match.proofs.kind_of.Statement.{statement}
+use Rattle.meaning_numbers.proofs.Prelude.{needs}
+use Rattle.try_c_match.proofs.{Answers.kind-normal, kind_of.Statement.statement}
 use Rattle.try_c_match.proofs.kind_of.Tie as tie
 
 pub kind-of-spec : {M : Type 1} → statement M

@@ -1,5 +1,5 @@
 -- `try_c_match::told` meets its contract.
-use borrow.Author.Needs.{needs}
+use Rattle.meaning_numbers.proofs.Prelude.{needs}
 use Rattle.try_c_match.proofs.told.Statement.{statement}
 use Rattle.try_c_match.proofs.told.Tie as tie
 

@@ -1,6 +1,5 @@
 -- `try_c_match::window_after` meets its contract.
-use borrow.Author.Needs.{needs}
-use native.Mathlib.Omega.{arith}
+use Rattle.meaning_numbers.proofs.Prelude.{needs, arith}
 use Rattle.try_c_match.proofs.window_after.Statement.{statement}
 use Rattle.try_c_match.proofs.window_after.Tie as tie
 

@@ -1,8 +1,8 @@
 -- `try_distance::agree_values` meets its contract.
-use borrow.Author.Needs.{needs}
 use Prim.Native.Nat.{_-_, _≤_}
-use native.Mathlib.Omega.{arith}
+use borrow.Author.Needs.{needs}
 use lib.ListN.{length}
+use native.Mathlib.Omega.{arith}
 use Rattle.try_distance.proofs.agree_values.Statement.{statement}
 use Rattle.try_distance.proofs.agree_values.Tie as tie
 

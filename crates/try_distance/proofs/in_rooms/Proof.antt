@@ -1,9 +1,9 @@
 -- `try_distance::in_rooms` meets its contract.
-use native.Mathlib.Omega.{arith}
-use mathlib.Core.Path.{sym}
+use borrow.Author.Needs.{needs}
 use lib.ListN.{length-take}
 use lib.Seq.{length-take-le}
-use borrow.Author.Needs.{needs}
+use mathlib.Core.Path.{sym}
+use native.Mathlib.Omega.{arith}
 use Rattle.try_distance.proofs.in_rooms.Statement.{statement}
 use Rattle.try_distance.proofs.in_rooms.Tie as tie
 

@@ -1,8 +1,8 @@
 -- `try_index::agree_numbers` meets its contract.
-use borrow.Author.Needs.{needs}
 use Prim.Native.Nat.{_-_, _≤_}
-use native.Mathlib.Omega.{arith}
+use borrow.Author.Needs.{needs}
 use lib.ListN.{length}
+use native.Mathlib.Omega.{arith}
 use Rattle.try_index.proofs.agree_numbers.Statement.{statement}
 use Rattle.try_index.proofs.agree_numbers.Tie as tie
 

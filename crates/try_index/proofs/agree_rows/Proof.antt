@@ -1,6 +1,6 @@
 -- `try_index::agree_rows` meets its contract.
-use borrow.Author.Needs.{needs}
 use Prim.Native.Nat.{_-_, _≤_}
+use borrow.Author.Needs.{needs}
 use native.Mathlib.Omega.{arith}
 use Rattle.try_index.proofs.agree_rows.Statement.{statement}
 use Rattle.try_index.proofs.agree_rows.Tie as tie

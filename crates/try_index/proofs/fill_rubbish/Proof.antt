@@ -1,9 +1,9 @@
 -- `try_index::fill_rubbish` meets its contract.
-use borrow.Author.Needs.{needs}
-use mathlib.Core.Path.{_≡_}
 use Prim.Native.Nat.{_-_, _≤_}
-use native.Mathlib.Omega.{arith}
+use borrow.Author.Needs.{needs}
 use lib.ListN.{length, length-set}
+use mathlib.Core.Path.{_≡_}
+use native.Mathlib.Omega.{arith}
 use Rattle.try_index.proofs.fill_rubbish.Statement.{statement}
 use Rattle.try_index.proofs.fill_rubbish.Tie as tie
 

@@ -1,7 +1,7 @@
 -- `try_index::try_audit` meets its contract.
 use borrow.Author.Needs.{needs}
-use native.Mathlib.Omega.{arith}
 use lib.ListN.{length-take}
+use native.Mathlib.Omega.{arith}
 use Rattle.try_index.proofs.try_audit.Statement.{statement}
 use Rattle.try_index.proofs.try_audit.Tie as tie
 

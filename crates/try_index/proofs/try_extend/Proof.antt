@@ -1,9 +1,9 @@
 -- `try_index::try_extend` meets its contract.
 use borrow.Author.Needs.{needs}
-use native.Mathlib.Omega.{arith}
-use mathlib.Core.Path.{sym}
 use lib.ListN.{length-take}
 use lib.Seq.{length-take-le}
+use mathlib.Core.Path.{sym}
+use native.Mathlib.Omega.{arith}
 use Rattle.try_index.proofs.try_extend.Statement.{statement}
 use Rattle.try_index.proofs.try_extend.Tie as tie
 

@@ -1,8 +1,8 @@
 -- `try_search::agree_distances` meets its contract.
-use borrow.Author.Needs.{needs}
 use Prim.Native.Nat.{_-_, _≤_}
-use native.Mathlib.Omega.{arith}
+use borrow.Author.Needs.{needs}
 use lib.ListN.{length}
+use native.Mathlib.Omega.{arith}
 use Rattle.try_search.proofs.agree_distances.Statement.{statement}
 use Rattle.try_search.proofs.agree_distances.Tie as tie
 

@@ -1,6 +1,6 @@
 -- `try_search::get_rows` meets its contract.
-use borrow.Author.Needs.{needs}
 use Prim.Native.Nat.{_-_, _≤_}
+use borrow.Author.Needs.{needs}
 use native.Mathlib.Omega.{arith}
 use Rattle.try_search.proofs.get_rows.Statement.{statement}
 use Rattle.try_search.proofs.get_rows.Tie as tie

@@ -1,6 +1,6 @@
 -- `try_search::run` meets its contract.
-use borrow.Author.Needs.{needs}
 use Prim.Native.Nat.{_≤_}
+use borrow.Author.Needs.{needs}
 use native.Mathlib.Omega.{arith}
 use Rattle.try_search.proofs.run.Statement.{statement}
 use Rattle.try_search.proofs.run.Tie as tie

@@ -1,7 +1,7 @@
 -- `try_search::search_one` meets its contract.
 use borrow.Author.Needs.{needs}
-use mathlib.Core.Path.{sym}
 use lib.Seq.{length-take-le}
+use mathlib.Core.Path.{sym}
 use Rattle.try_search.proofs.search_one.Statement.{statement}
 use Rattle.try_search.proofs.search_one.Tie as tie
 

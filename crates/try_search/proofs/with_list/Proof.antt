@@ -1,7 +1,7 @@
 -- `try_search::with_list` meets its contract.
 use borrow.Author.Needs.{needs}
-use mathlib.Core.Path.{sym}
 use lib.Seq.{length-take-le}
+use mathlib.Core.Path.{sym}
 use Rattle.try_search.proofs.with_list.Statement.{statement}
 use Rattle.try_search.proofs.with_list.Tie as tie
 

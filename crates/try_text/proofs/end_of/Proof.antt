@@ -1,7 +1,7 @@
 -- `try_text::end_of` meets its contract.
 use Prim.Native.Nat.{_-_, _≤_}
-use native.Mathlib.Omega.{arith}
 use lib.ListN.{length}
+use native.Mathlib.Omega.{arith}
 use Rattle.try_text.proofs.end_of.Statement.{statement}
 use Rattle.try_text.proofs.end_of.Tie as tie
 

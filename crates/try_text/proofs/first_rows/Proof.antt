@@ -1,10 +1,10 @@
 -- `try_text::first_rows` meets its contract: each line can be read on from the line before.
+use borrow.Author.Needs.{needs}
 use native.Mathlib.Omega.{arith}
 use Rattle.text_index.proofs.Follow.{index-good}
 use Rattle.text_judge.proofs.Seen.{start-fits}
 use Rattle.text_rows.specs.Line.{lineAt}
 use Rattle.text_rows.proofs.Turn.{line-ready}
-use borrow.Author.Needs.{needs}
 use Rattle.try_text.proofs.first_rows.Statement.{statement}
 use Rattle.try_text.proofs.first_rows.Tie as tie
 

@@ -1,8 +1,8 @@
 -- `try_text::run` meets its contract.
 use Prim.Native.Nat.{_+_, _-_, _≤_}
-use native.Mathlib.Omega.{arith}
-use lib.ListN.{length}
 use borrow.Author.Needs.{needs}
+use lib.ListN.{length}
+use native.Mathlib.Omega.{arith}
 use Rattle.try_text.proofs.run.Statement.{statement}
 use Rattle.try_text.proofs.run.Tie as tie
 

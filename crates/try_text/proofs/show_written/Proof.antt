@@ -1,7 +1,7 @@
 -- `try_text::show_written` meets its contract.
-use native.Mathlib.Omega.{arith}
-use lib.ListN.{length-take}
 use borrow.Author.Needs.{needs}
+use lib.ListN.{length-take}
+use native.Mathlib.Omega.{arith}
 use Rattle.try_text.proofs.show_written.Statement.{statement}
 use Rattle.try_text.proofs.show_written.Tie as tie
 

@@ -1,8 +1,8 @@
 -- `try_text::truncations` meets its contract.
 use Prim.Native.Nat.{_-_, _≤_}
-use native.Mathlib.Omega.{arith}
-use lib.ListN.{length, length-take}
 use borrow.Author.Needs.{needs}
+use lib.ListN.{length, length-take}
+use native.Mathlib.Omega.{arith}
 use Rattle.try_text.proofs.truncations.Statement.{statement}
 use Rattle.try_text.proofs.truncations.Tie as tie
 

@@ -1,9 +1,9 @@
 -- `try_vectors::read_numbers` meets its contract.
-use borrow.Author.Needs.{needs}
-use mathlib.Core.Path.{_≡_}
 use Prim.Native.Nat.{_-_, _≤_}
-use native.Mathlib.Omega.{arith}
+use borrow.Author.Needs.{needs}
 use lib.ListN.{length}
+use mathlib.Core.Path.{_≡_}
+use native.Mathlib.Omega.{arith}
 use Rattle.try_vectors.proofs.read_numbers.Statement.{statement}
 use Rattle.try_vectors.proofs.read_numbers.Tie as tie
 

@@ -1,14 +1,6 @@
 -- `values::copy_values` meets its contract. The invariant: the values so far are those of q.
-use borrow.Author.Needs.{needs}
 use borrow.Author.Count.{below-more}
-use mathlib.Core.Path.{_≡_, refl, _∙_}
-use Prim.Native.Nat.{ℕ, _-_, _≤_, _<_}
-use native.Mathlib.Omega.{arith}
-use lib.IntN.{pos}
-use lib.ListN.{length, length-set}
-use lib.Seq.{getD-set-same, getD-set-other}
-use mir.Syntax.{w32}
-use mir.ValLaws.{toZ-ofZ}
+use Rattle.meaning_numbers.proofs.Prelude.{needs, _≡_, refl, _∙_, ℕ, _-_, _≤_, _<_, arith, pos, length, length-set, getD-set-same, getD-set-other, w32, toZ-ofZ}
 use Rattle.meaning_curves.specs.Curve.{at}
 use Rattle.values.proofs.copy_values.Statement.{statement}
 use Rattle.values.proofs.copy_values.Tie as tie

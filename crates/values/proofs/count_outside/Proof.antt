@@ -1,16 +1,9 @@
 -- `values::count_outside` meets its contract. The invariant: the count so far.
-use mathlib.Core.Path.{_≡_, _∙_, ap, sym}
-use mathlib.Core.Bool.{Bool, not}
-use Prim.Native.Nat.{ℕ, _+_, _-_, _≤_}
-use native.Mathlib.Omega.{arith}
-use borrow.Author.Needs.{needs}
-use mir.Syntax.{w32}
 use mir.Val.{boolByte}
-use mir.ValLaws.{toZ-ofZ}
 use Rattle.meaning_numbers.specs.Sum.{count}
 use Rattle.meaning_numbers.proofs.Count.{flag-bit, count-none, count-more, count-le}
-use Rattle.meaning_curves.specs.Curve.{stretch}
-use Rattle.meaning_curves.specs.Limits.{valueIn}
+use Rattle.meaning_numbers.proofs.Prelude.{_≡_, _∙_, ap, sym, Bool, not, ℕ, _+_, _-_, _≤_, arith, needs, w32, toZ-ofZ}
+use Rattle.meaning_curves.specs.{Curve.stretch, Limits.valueIn}
 use Rattle.values.proofs.count_outside.Statement.{statement}
 use Rattle.values.proofs.count_outside.Tie as tie
 

@@ -1,19 +1,8 @@
 -- `values::first_outside` meets its contract. The invariant: every value passed is in its limits; a block that counts none adds its values (`block-in`).
-use borrow.Author.Needs.{needs}
-use borrow.Author.Tests.{not-false}
-use mathlib.Core.Path.{_≡_, sym, subst}
-use mathlib.Core.Bool.{not}
-use mathlib.Core.List.{List}
-use Prim.Native.Nat.{ℕ, _+_, _-_, _≤_}
-use native.Mathlib.Omega.{arith}
-use native.Mathlib.Decide.{decLt}
-use lib.Dec.{T}
-use lib.IntN.{ℤ}
-use lib.ListN.{length}
 use Rattle.meaning_numbers.specs.Sum.{count}
 use Rattle.meaning_numbers.proofs.Count.{never-count}
-use Rattle.meaning_curves.specs.Curve.{at, stretch}
-use Rattle.meaning_curves.specs.Limits.{valueIn}
+use Rattle.meaning_numbers.proofs.Prelude.{needs, not-false, _≡_, sym, subst, not, List, ℕ, _+_, _-_, _≤_, arith, decLt, T, ℤ, length}
+use Rattle.meaning_curves.specs.{Curve.at, Curve.stretch, Limits.valueIn}
 use Rattle.values.specs.Place.{InTo}
 use Rattle.values.proofs.first_outside.Statement.{statement}
 use Rattle.values.proofs.first_outside.Tie as tie

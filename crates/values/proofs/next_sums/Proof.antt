@@ -1,14 +1,10 @@
 -- `values::next_sums` meets its contract (`slide-values`, `slide-squares`).
-use borrow.Author.Needs.{needs}
-use mathlib.Core.Path.{_≡_, _∙_, sym}
-use Prim.Native.Nat.{_+_, _*_, _≤_}
-use native.Mathlib.Omega.{arith}
-use Rattle.meaning_curves.specs.Curve.{at}
 use Rattle.meaning_numbers.proofs.Root.{sq-le}
-use Rattle.numbers.proofs.Back.{in-arg, raised-back}
+use Rattle.meaning_numbers.proofs.Prelude.{needs, _≡_, _∙_, sym, _+_, _*_, _≤_, arith}
+use Rattle.meaning_curves.specs.Curve.{at}
 use Rattle.numbers.specs.Raised.{raised, raised-le}
-use Rattle.values.proofs.SumsLaws.{sums-le, slide-values, slide-squares}
-use Rattle.values.proofs.next_sums.Statement.{statement}
+use Rattle.numbers.proofs.Back.{in-arg, raised-back}
+use Rattle.values.proofs.{SumsLaws.sums-le, SumsLaws.slide-values, SumsLaws.slide-squares, next_sums.Statement.statement}
 use Rattle.values.proofs.next_sums.Tie as tie
 
 module _ (c : tie.After-raise2) where

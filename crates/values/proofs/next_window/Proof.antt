@@ -1,16 +1,8 @@
 -- `values::next_window` meets its contract (`moved-on`); nothing wraps, as no window's sum is large (`out-fits`).
-use borrow.Author.Needs.{needs}
-use mathlib.Core.Path.{_≡_, _∙_}
-use Prim.Native.Nat.{_+_, _≤_}
-use lib.IntN.{ℤ, _-ℤ_}
-use mir.Syntax.{w32}
-use mir.Val.{toZ, ofZ}
-use mir.ValLaws.{toZ-ofZ}
-use Rattle.meaning_numbers.proofs.Rep.{up, dn, zarith, z-sub}
+use Rattle.meaning_numbers.proofs.Prelude.{needs, _≡_, _∙_, _+_, _≤_, ℤ, _-ℤ_, w32, toZ, ofZ, toZ-ofZ, up, dn, zarith, z-sub}
 use Rattle.meaning_curves.specs.Curve.{at, windowSum}
 use Rattle.numbers.proofs.Back.{plus-fits, plus-back}
-use Rattle.values.proofs.Window.{window-small, out-fits, out-sum, moved-on}
-use Rattle.values.proofs.next_window.Statement.{statement}
+use Rattle.values.proofs.{Window.window-small, Window.out-fits, Window.out-sum, Window.moved-on, next_window.Statement.statement}
 use Rattle.values.proofs.next_window.Tie as tie
 
 module _ (c : tie.After-y) where

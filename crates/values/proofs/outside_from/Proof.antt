@@ -1,18 +1,8 @@
 -- `values::outside_from` meets its contract. The invariant: every value passed is in its limits, and so is every value before.
-use borrow.Author.Needs.{needs}
 use borrow.Author.Count.{below-more}
-use borrow.Author.Tests.{not-true, not-false}
-use mathlib.Core.Path.{_≡_, sym, ap, subst, _∙_}
-use Prim.Native.Nat.{ℕ, _-_, _≤_, _<_}
-use native.Mathlib.Omega.{arith}
-use lib.Dec.{T}
-use lib.ListN.{length}
-use mir.Syntax.{w32}
-use mir.ValLaws.{toZ-ofZ}
-use Rattle.meaning_curves.specs.Curve.{at}
-use Rattle.meaning_curves.specs.Limits.{valueIn}
-use Rattle.meaning_curves.proofs.Limits.{outside-is, in-values}
-use Rattle.meaning_curves.proofs.Values.{no-value}
+use Rattle.meaning_numbers.proofs.Prelude.{needs, not-true, not-false, _≡_, sym, ap, subst, _∙_, ℕ, _-_, _≤_, _<_, arith, T, length, w32, toZ-ofZ}
+use Rattle.meaning_curves.specs.{Curve.at, Limits.valueIn}
+use Rattle.meaning_curves.proofs.{Limits.outside-is, Limits.in-values, Values.no-value}
 use Rattle.values.specs.Place.{placed}
 use Rattle.values.proofs.outside_from.Statement.{statement}
 use Rattle.values.proofs.outside_from.Tie as tie

@@ -1,9 +1,7 @@
 -- `values::raised_sum` meets its contract. The invariant: the sum so far.
-use mathlib.Core.Path.{_≡_, _∙_}
-use Prim.Native.Nat.{_*_, _-_, _≤_}
-use native.Mathlib.Omega.{arith}
 use Rattle.meaning_numbers.specs.Sum.{Σℕ}
 use Rattle.meaning_numbers.proofs.Sum.{Σℕ-none, Σℕ-more}
+use Rattle.meaning_numbers.proofs.Prelude.{_≡_, _∙_, _*_, _-_, _≤_, arith}
 use Rattle.meaning_curves.specs.Curve.{stretch}
 use Rattle.numbers.specs.Raised.{raised, raised-le}
 use Rattle.numbers.proofs.Back.{in-arg, raised-back}

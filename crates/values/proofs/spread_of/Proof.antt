@@ -1,7 +1,6 @@
 -- `values::spread_of` meets its contract (`spread-raised`).
-use native.Mathlib.Omega.{arith}
-use Rattle.values.proofs.SumsLaws.{spread-small, spread-raised}
-use Rattle.values.proofs.spread_of.Statement.{statement}
+use Rattle.meaning_numbers.proofs.Prelude.{arith}
+use Rattle.values.proofs.{SumsLaws.spread-small, SumsLaws.spread-raised, spread_of.Statement.statement}
 use Rattle.values.proofs.spread_of.Tie as tie
 
 pub spread-of-spec : {M : Type 1} → statement M

@@ -1,13 +1,10 @@
 -- `values::sums_at` meets its contract. The invariant: both sums so far.
-use mathlib.Core.Path.{_≡_, _∙_}
-use Prim.Native.Nat.{_*_, _-_, _≤_}
-use native.Mathlib.Omega.{arith}
-use Rattle.meaning_curves.specs.Curve.{stretch}
-use Rattle.meaning_numbers.proofs.Root.{sq-le}
-use Rattle.meaning_numbers.proofs.Sum.{Σℕ-none, Σℕ-more}
 use Rattle.meaning_numbers.specs.Sum.{Σℕ, square}
-use Rattle.numbers.proofs.Back.{in-arg, raised-back}
+use Rattle.meaning_numbers.proofs.{Root.sq-le, Sum.Σℕ-none, Sum.Σℕ-more}
+use Rattle.meaning_numbers.proofs.Prelude.{_≡_, _∙_, _*_, _-_, _≤_, arith}
+use Rattle.meaning_curves.specs.Curve.{stretch}
 use Rattle.numbers.specs.Raised.{raised, raised-le}
+use Rattle.numbers.proofs.Back.{in-arg, raised-back}
 use Rattle.values.proofs.sums_at.Statement.{statement}
 use Rattle.values.proofs.sums_at.Tie as tie
 

@@ -1,16 +1,9 @@
 -- `values::window_sum` meets its contract: the raised sum less the bias (`window-raised`).
-use borrow.Author.Needs.{needs}
-use mathlib.Core.Path.{_∙_, ap}
-use Prim.Native.Nat.{ℕ, _*_}
-use native.Mathlib.Omega.{arith}
-use lib.IntN.{pos, _-ℤ_}
-use mir.Syntax.{w32}
-use mir.ValLaws.{toZ-ofZ}
 use Rattle.meaning_numbers.proofs.Sum.{Σℕ-le}
+use Rattle.meaning_numbers.proofs.Prelude.{needs, _∙_, ap, ℕ, _*_, arith, pos, _-ℤ_, w32, toZ-ofZ}
 use Rattle.meaning_curves.specs.Curve.{stretch}
 use Rattle.numbers.specs.Raised.{raised, raised-le}
-use Rattle.values.proofs.Window.{window-raised}
-use Rattle.values.proofs.window_sum.Statement.{statement}
+use Rattle.values.proofs.{Window.window-raised, window_sum.Statement.statement}
 use Rattle.values.proofs.window_sum.Tie as tie
 
 lower-requires : tie.Need-lower-requires
