@@ -15,9 +15,8 @@ vectors = top / "tests" / "vectors"
 target = top / "crates" / "meaning_entries" / "proofs" / "Vectors.antt"
 
 HEAD = """\
--- Cases from files: made by tests/make_cases.py from tests/vectors, and not edited by hand. Assumes nothing.
-use mathlib.Core.Bool.{Bool}
-use mathlib.Core.List.{List, [], _∷_}
+-- Cases from files: made by tests/make_cases.py from tests/vectors, and not edited by hand.
+use Rattle.meaning_numbers.proofs.Prelude.{Bool, List, [], _∷_}
 use Rattle.meaning_entries.proofs.Row.{prints, audits, extends}
 
 unfoldable pub vectors : List Bool
