@@ -26,7 +26,7 @@ module _ {P : ℕ → ℕ → Bool} {sum : ℕ → ℤ} {from windows : ℕ} {ro
     pub rowed-reached : Reached rows n (sum j)
     rowed-reached =
         let o = h .home j a b in
-        record { at = o .at; below = o .below; above = is-inside (getD rows (o .at) zeroRow .low) (getD rows (o .at) zeroRow .up) (sum j) (sym (h .holds (o .at) j (o .below) a b) ∙ o .is) .1 }
+        record { at = o .at; below = o .below; above = is-inside (getD rows (o .at) zeroRow .low) _ (sum j) (sym (h .holds (o .at) j (o .below) a b) ∙ o .is) .1 }
 
     module _ {r : Row} (f : FoundRow rows n (sum j) r) where
       abbrev k : ℕ
@@ -37,9 +37,9 @@ module _ {P : ℕ → ℕ → Bool} {sum : ℕ → ℤ} {from windows : ℕ} {ro
       found-home =
           let o = h .home j a b in
           let i = o .at in
-          let in-i : (getD rows i zeroRow .low ≤ℤ sum j) × (sum j <ℤ getD rows i zeroRow .up) = is-inside (getD rows i zeroRow .low) (getD rows i zeroRow .up) (sum j) (sym (h .holds i j (o .below) a b) ∙ o .is) in
+          let in-i = is-inside _ _ (sum j) (sym (h .holds i j (o .below) a b) ∙ o .is) in
           elim (decLt i k) [
-            | yes l ↦ let p : getD rows i zeroRow .up ≤ℤ sum j = f .found .before i l in absurd (omega (zarith, in-i .1))
+            | yes l ↦ let p = f .found .before i l in absurd (omega zarith)
             | no x ↦ elim (decLt k i) [
               | yes l ↦ let p : getD rows k zeroRow .up ≤ℤ getD rows i zeroRow .low = h .apart k i l (o .below) in
                   let q : sum j <ℤ getD rows k zeroRow .up = f .found .at (f .below) in absurd (omega (zarith, in-i .0))
@@ -58,9 +58,9 @@ module _ {P : ℕ → ℕ → Bool} {sum : ℕ → ℤ} {from windows : ℕ} {ro
   rowed-once i k j l m a b t f =
       let low : ℕ → ℤ = λ x. getD rows x zeroRow .low in
       let top : ℕ → ℤ = λ x. getD rows x zeroRow .up in
-      let in-i : (low i ≤ℤ sum j) × (sum j <ℤ top i) = is-inside (low i) (top i) (sum j) (sym (h .holds i j l a b) ∙ t) in
+      let in-i = is-inside (low i) (top i) (sum j) (sym (h .holds i j l a b) ∙ t) in
       h .holds k j m a b ∙ elim (decLt i k) [
-        | yes x ↦ let p : top i ≤ℤ low k = h .apart i k x m in inside-below (low k) (top k) (sum j) (omega (zarith, in-i .1))
+        | yes x ↦ let p = h .apart i k x m in inside-below (low k) (top k) (sum j) (omega zarith)
         | no x ↦ let y : k < i = elim (decLt k i) [ yes z ↦ z | no z ↦ absurd (f (omega arith)) ] in
             let p : top k ≤ℤ low i = h .apart k i y l in inside-above (low k) (top k) (sum j) (omega (zarith, in-i .0))
       ]
@@ -97,14 +97,14 @@ module _ {P : ℕ → ℕ → Bool} {s : List ℤ} {w e : ℕ} {from : Window} {
     -- a run of the row's windows
     run-of : (t : ℕ) → Change (λ x. inside (r .low) (r .up) (windowSum s w x)) j W t → RunOf n W P left₀ right₀ i j t
     run-of t c =
-        let is : (x : ℕ) → j ≤ x → x < W → P i x ≡ inside (r .low) (r .up) (windowSum s w x) = λ x a b. h .rowed .holds i x (f .below) (omega (arith, g .after)) b ∙ ap (λ (q : Row). inside (q .low) (q .up) (windowSum s w x)) (sym (f .is)) in
-        let mine : (x : ℕ) → j ≤ x → x < t → P i x ≡ true = λ x a b. is x a (omega (arith, c .below)) ∙ c .same x b a in
+        let is : (x : ℕ) → j ≤ x → x < W → P i x ≡ inside (r .low) (r .up) (windowSum s w x) = λ x a b. h .rowed .holds i x (f .below) (omega arith) b ∙ rw (sym (f .is)) in
+        let mine : (x : ℕ) → j ≤ x → x < t → P i x ≡ true = λ x a b. is x a (omega arith) ∙ c .same x b a in
         record {
           row = f .below;
           ahead = change-held less (found-holds (h .rowed) j (g .after) less f) c;
           below = c .below;
           mine = mine;
-          others = λ x k a b m q. rowed-once (h .rowed) i k x (f .below) m (omega (arith, g .after)) (omega (arith, c .below)) (mine x a b) q;
+          others = λ x k a b m q. rowed-once (h .rowed) i k x (f .below) m (omega arith) (omega arith) (mine x a b) q;
           stops = λ l. is t (c .above) l ∙ c .other l;
         }
 
@@ -136,12 +136,12 @@ module _ {P : ℕ → ℕ → Bool} {s : List ℤ} {w e : ℕ} {from : Window} {
 
     pub going-next : {t : Window} {left′ right′ : List ℕ} → Turned s w e j r left right t left′ right′ → Going t left′ right′
     going-next {t} {left′} {right′} v =
-        let o : RunOf n W P left₀ right₀ i j (t .offset) = run-of (t .offset) (v .change) in
+        let o = run-of (t .offset) (v .change) in
         let b : r .first + written r right ≡ partStart n W P i + runCount (P i) j = omega (arith, first-is, written-is) in
-        let l : left′ ≡ set left (partStart n W P i + runCount (P i) j) j = v .left-is ∙ ap (λ (x : ℕ). set left x j) b in
-        let m : right′ ≡ fileRight right (partStart n W P i) (runCount (P i) W) (runCount (P i) j) (t .offset - 1) = v .right-is ∙ (λ k. fileRight right (first-is k) (runs-is k) (written-is k) (t .offset - 1)) in
+        let l = v .left-is ∙ ap (λ (x : ℕ). set left x j) b in
+        let m = v .right-is ∙ (λ k. fileRight right (first-is k) (runs-is k) (written-is k) (t .offset - 1)) in
         record {
           place = record { lent = g .place .lent; below = v .change .below; sum = v .sum };
-          after = omega (arith, g .after, v .change .above);
+          after = omega arith;
           filling = rw (l, m) (filling-run n W P left₀ right₀ o left right (g .filling));
         }

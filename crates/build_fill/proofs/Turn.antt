@@ -26,4 +26,4 @@ stop-held low high h p q t = change-same (λ j. rw (p, q) (within-is low high (l
 
 -- where the first passes, the change comes later
 pub change-held : {p : ℕ → Bool} {from n r : ℕ} → from < n → p from ≡ true → Change p from n r → from < r
-change-held {p} {from} {n} {r} l t c = elim (decLt from r) [ yes m ↦ m | no f ↦ let e : r ≡ from = omega (arith, c .above) in clash t (rw e at (c .other (omega arith))) ]
+change-held {p} {from} {n} {r} l t c = elim (decLt from r) [ yes m ↦ m | no f ↦ let e : r ≡ from = omega arith in clash t (rw e at (c .other (omega arith))) ]

@@ -88,7 +88,7 @@ module _ (t : Rows) (count : ℕ) (left right : List ℕ) (g : ℕ) where
       less = omega (arith, z .many)
 
       opened : getD rows i zeroRow ∷ take (length ahead) (drop (suc i) rows) ≡ recordOf n (partAt row n i) s ∷ records (partAt row n i + runCount (s .has) n) (map (withRuns n) ahead)
-      opened = let e = rw (drop-cons rows i zeroRow (omega (arith, less, z .long)), records-first n (partAt row n i) s ahead) at (z .rest) in e
+      opened = let e = rw (drop-cons rows i zeroRow (omega (arith, less)), records-first n (partAt row n i) s ahead) at (z .rest) in e
 
       -- the record at i
       record-is : getD rows i zeroRow ≡ recordOf n (partAt row n i) s
@@ -134,12 +134,12 @@ module _ (t : Rows) (count : ℕ) (left right : List ℕ) (g : ℕ) where
           let at = m′ .place in
           record {
             so-far = so;
-            many = omega (arith, z .many);
+            many = omega arith;
             numbered = z .numbered .1;
             rest = rw (drop-set-lt (i + 1) rows at (m′ .row) (omega arith), add-one i, ← add-one i, part-next) ahead-is;
             has = h;
             front = take-set-le at rows at (m′ .row) (omega arith) ∙ f;
-            done = rw (add-one at, take-suc-set rows at (m′ .row) (omega (arith, less, z .long)), f);
+            done = rw (add-one at, take-suc-set rows at (m′ .row) (omega (arith, z .long)), f);
             place-is = p;
             row-is = r;
             behind = omega (arith, b, part-next);
@@ -161,7 +161,7 @@ module _ (t : Rows) (count : ℕ) (left right : List ℕ) (g : ℕ) where
       joins : takes g n current s ≡ true → Stand closed (join current s) ahead (i + 1) (set rows (m .place) (joined m here union .row)) (joined m here union)
       unfolding join
       joins e = moved closed (join current s) (joined m here union) (z .so-far ∙ ap (λ (l : List SetRow). closed ++ l) (upward-yes g n current s ahead e))
-          joined-has (z .front) (z .place-is) (rw (union-is, record-is, z .row-is)) (omega (arith, counted, z .behind)) (omega (arith, z .place-below)) (omega (arith, z .from-below))
+          joined-has (z .front) (z .place-is) (rw (union-is, record-is, z .row-is)) (omega (arith, counted)) (omega (arith, z .place-below)) (omega (arith, z .from-below))
 
       -- or begins the next group
       begins : takes g n current s ≡ false → Stand (closed ++ (current ∷ [])) s ahead (i + 1) (set rows (m .place + 1) (begun m i here .row)) (begun m i here)
@@ -184,7 +184,7 @@ module _ (t : Rows) (count : ℕ) (left right : List ℕ) (g : ℕ) where
       able short il ir few percent =
           let room : partAt row n i + runCount (s .has) n ≤ partAt row n count = omega (arith, part-next, Σℕ-fewer (i + 1) count (λ x. runCount (isRow row x) n) (omega (arith, less))) in
           rw record-is (record {
-            in-left = omega (arith, room);
+            in-left = omega arith;
             in-right = omega (arith, room);
             behind = rw (z .row-is) (z .behind);
             few = rw (z .row-is) (omega (arith, runs-le (current .has) n, runs-le (s .has) n));
@@ -219,17 +219,16 @@ module _ (t : Rows) (count : ℕ) (left right : List ℕ) (g : ℕ) where
     unfolding Numbered merged runTotal
     first-stand s l e =
         let many : count ≡ suc (length l) = r .packed .many ∙ ap length e in
-        let long : 0 < length rows = omega (arith, r .packed .within, r .some) in
+        let long : 0 < length rows = omega arith in
         let numbered : Numbered row n 0 (s ∷ l) = rw e at (r .numbered) in
         let all : take (suc (length l)) rows ≡ records 0 (map (withRuns n) (s ∷ l)) = rw (many, e) at (r .packed .front) in
-        let opened : getD rows 0 zeroRow ∷ take (length l) (drop 1 rows) ≡ recordOf n 0 s ∷ records (0 + runCount (s .has) n) (map (withRuns n) l)
-        = ap (λ (x : List Row). take (suc (length l)) x) (sym (drop-cons rows 0 zeroRow long)) ∙ all ∙ records-first n 0 s l in
+        let opened = ap (λ (x : List Row). take (suc (length l)) x) (sym (drop-cons rows 0 zeroRow long)) ∙ all ∙ records-first n 0 s l in
         let here : getD rows 0 zeroRow ≡ recordOf n 0 s = ap (λ (x : List Row). getD x 0 zeroRow) opened in
         let same : runCount (s .has) n ≡ runCount (isRow row 0) n = ap length (runs-cong (s .has) (isRow row 0) n (numbered .0)) in
         let part : partAt row n 1 ≡ 0 + runCount (s .has) n = omega (arith, Σℕ-more 0 (λ x. runCount (isRow row x) n), Σℕ-none (λ x. runCount (isRow row x) n), same) in
         record {
           so-far = rw e;
-          many = omega (arith, many);
+          many = omega arith;
           numbered = numbered .1;
           rest = rw part (ap (λ (x : List Row). drop 1 x) opened);
           has = λ j b. numbered .0 j b ∙ group-one row n 0 j b;
@@ -258,9 +257,9 @@ module _ (t : Rows) (count : ℕ) (left right : List ℕ) (g : ℕ) where
       last y = y .so-far
 
       go : (ahead : List SetRow) → Stand (z .closed) (z .current) ahead count rows m → PackedAs n (merged g n (t .list)) rows (m .place + 1)
-      go (s ∷ ahead) y = absurd (omega (arith, y .many))
+      go (s ∷ ahead) y = absurd (omega arith)
       go [] y = record {
-        many = omega (arith, y .place-is, ap length (last y), length-append (z .closed) (z .current ∷ []));
-        within = omega (arith, y .long, y .place-below);
+        many = omega (arith, ap length (last y), length-append (z .closed) (z .current ∷ []));
+        within = omega arith;
         front = y .done ∙ rw (last y) (records-closed n (z .closed) (z .current) (m .row) (y .row-is));
       }

@@ -1,7 +1,7 @@
 -- Laws of specs/Names.
 use Rattle.meaning_numbers.specs.Sum.{bit, count}
 use Rattle.meaning_numbers.proofs.Count.{count-shift}
-use Rattle.meaning_numbers.proofs.Prelude.{_≡_, refl, sym, ap, Bool, false, _&&_, _||_, and-false, List, [], _∷_, ℕ, zero, suc, _+_, _<_, _≤_, arith, decLe, leb, ltb, eqb, length, getD, leb-true, leb-false, ltb-true, ltb-false, eqb-true, eqb-false, lt-ltb, le-ltb, le-leb, lt-leb, by-test}
+use Rattle.meaning_numbers.proofs.Prelude.{_≡_, refl, sym, ap, Bool, false, _&&_, _||_, and-false, List, [], _∷_, ℕ, zero, suc, _+_, _<_, _≤_, arith, decLe, leb, ltb, length, getD, leb-true, leb-false, ltb-true, ltb-false, eqb-true, eqb-false, lt-ltb, le-ltb, le-leb, lt-leb, by-test}
 use Rattle.meaning_rows.specs.Runs.{before, runs, runCount}
 use Rattle.meaning_rows.proofs.{Runs.either, Runs.runs-cong, Columns.lefts, Columns.rights, Columns.length-lefts, Columns.length-rights, Neighbours.sumOver, Neighbours.runs-joined}
 use Rattle.sums_slide.specs.Levels.{within}
@@ -14,8 +14,8 @@ group row n a b j = ltb j n && within a b (row j)
 
 within-more : (a b x : ℕ) → within (a + 1) (b + 1) (x + 1) ≡ within a b x
 unfolding within
-within-more a b x = by-test (leb a x)
-    (λ t. by-test (ltb x b)
+within-more a b x = by-test _
+    (λ t. by-test _
     (λ u. rw (t, u, le-leb (a + 1) (x + 1) (omega (arith, leb-true a x t)), lt-ltb (x + 1) (b + 1) (omega (arith, ltb-true x b u))))
     (λ u. rw (t, u, le-ltb (x + 1) (b + 1) (omega (arith, ltb-false x b u))) (and-false (leb (a + 1) (x + 1)))))
     (λ t. rw (t, lt-leb (a + 1) (x + 1) (omega (arith, leb-false a x t))))
@@ -38,9 +38,9 @@ module _ (row : ℕ → ℕ) (n a b : ℕ) where
 -- the group of one row
 pub group-one : (row : ℕ → ℕ) (n i j : ℕ) → j < n → isRow row i j ≡ group row n i (i + 1) j
 unfolding group isRow within
-group-one row n i j l = rw (lt-ltb j n l) (by-test (eqb (row j) i)
+group-one row n i j l = rw (lt-ltb j n l) (by-test _
     (λ t. let e = eqb-true (row j) i t in rw (t, le-leb i (row j) (omega arith), lt-ltb (row j) (i + 1) (omega arith)))
-    (λ f. let e : (row j ≡ i) → ⊥ = eqb-false (row j) i f in rw f (by-test (leb i (row j))
+    (λ f. let e = eqb-false (row j) i f in rw f (by-test _
     (λ t. let b = leb-true i (row j) t in rw (t, le-ltb (row j) (i + 1) (elim (decLe (i + 1) (row j)) [ yes k ↦ k | no k ↦ absurd (e (omega arith)) ])))
     (λ t. rw t))))
 
@@ -53,20 +53,20 @@ sum-count h p (x ∷ xs) k = omega (arith, k 0 (omega arith), sum-count h (λ t.
 module _ (row : ℕ → ℕ) (n a i : ℕ) (order : a ≤ i) where
   apart : (j : ℕ) → j < n → (group row n a i j && isRow row i j) ≡ false
   unfolding group isRow within
-  apart j l = by-test (eqb (row j) i)
-      (λ t. let e = eqb-true (row j) i t in rw (le-ltb (row j) i (omega arith), and-false (leb a (row j)), and-false (ltb j n)))
+  apart j l = by-test _
+      (λ t. let e = eqb-true (row j) i t in rw (le-ltb (row j) i (omega arith), and-false _, and-false _))
       (λ f. rw f (and-false (ltb j n && (leb a (row j) && ltb (row j) i))))
 
   -- a group and the row behind it
   pub group-more : (j : ℕ) → j < n → (group row n a i j || isRow row i j) ≡ group row n a (i + 1) j
   unfolding group isRow within
-  group-more j l = rw (lt-ltb j n l) (by-test (eqb (row j) i)
-      (λ t. let e = eqb-true (row j) i t in rw (t, le-ltb (row j) i (omega arith), and-false (leb a (row j)), le-leb a (row j) (omega arith), lt-ltb (row j) (i + 1) (omega arith)))
-      (λ f. let e : (row j ≡ i) → ⊥ = eqb-false (row j) i f in rw f (by-test (ltb (row j) i)
+  group-more j l = rw (lt-ltb j n l) (by-test _
+      (λ t. let e = eqb-true (row j) i t in rw (t, le-ltb (row j) i (omega arith), and-false _, le-leb a (row j) (omega arith), lt-ltb (row j) (i + 1) (omega arith)))
+      (λ f. let e : (row j ≡ i) → ⊥ = eqb-false (row j) i f in rw f (by-test _
       (λ t. let b = ltb-true (row j) i t in by-test (leb a (row j))
       (λ u. rw (t, u, lt-ltb (row j) (i + 1) (omega arith)))
       (λ u. rw (t, u)))
-      (λ u. let b = ltb-false (row j) i u in rw (u, le-ltb (row j) (i + 1) (omega arith), and-false (leb a (row j)))))))
+      (λ u. let b = ltb-false (row j) i u in rw (u, le-ltb (row j) (i + 1) (omega arith), and-false _)))))
 
   past : group row n a i n ≡ false
   unfolding group
@@ -84,10 +84,10 @@ module _ (row : ℕ → ℕ) (n a i : ℕ) (order : a ≤ i) where
   runs-merged first left right h =
       let p = group row n a i in
       let q = isRow row i in
-      let same : runs (either p q) n ≡ runs (group row n a (i + 1)) n = runs-cong (either p q) (group row n a (i + 1)) n either-more in
+      let same = runs-cong _ _ n either-more in
       let ll = length-lefts (runs q n) in
       let lr = length-rights (runs q n) in
-      let one : sumOver (λ l. bit (before p l)) (lefts (runs q n)) ≡ count (namesOf left first (a + 1) (i + 1)) (length (lefts (runs q n))) = sum-count (λ l. bit (before p l)) (namesOf left first (a + 1) (i + 1)) (lefts (runs q n))
+      let one = sum-count (λ l. bit (before p l)) (namesOf left first (a + 1) (i + 1)) (lefts (runs q n))
       (λ t l. ap bit (sym (rw (h .left-is t (omega (arith, ll))) (before-within row n a i (getD (lefts (runs q n)) t 0))))) in
       let two : sumOver (λ r. bit (p (suc r))) (rights (runs q n)) ≡ count (namesOf right first (a + 1) (i + 1)) (length (rights (runs q n))) = sum-count (λ r. bit (p (suc r))) (namesOf right first (a + 1) (i + 1)) (rights (runs q n))
       (λ t l. ap bit (sym (rw (h .right-is t (omega (arith, lr))) (name-within row n a i (suc (getD (rights (runs q n)) t 0)))))) in

@@ -19,7 +19,7 @@ module _ (ys : List Row) (n : ℕ) (us ws : List ℕ) (g : ℕ) (asked : Mergeab
     pub upto : i ≤ n
 
   pub first-in : 0 < length ys
-  first-in = omega (arith, r₀ .some, r₀ .packed .within)
+  first-in = omega arith
 
   pub started : {m : Group} → m ≡ firstGroup (getD ys 0 zeroRow) → Kept m 1 ys
   started e = record { merging = λ t r. rw e (merging-start t n us ws g ys r); upto = r₀ .some }
@@ -29,12 +29,12 @@ module _ (ys : List Row) (n : ℕ) (us ws : List ℕ) (g : ℕ) (asked : Mergeab
 
   pub ended : {m : Group} {i : ℕ} {l : List Row} → Kept m i l → n ≤ i → (t : Rows) → Ready t ys n us ws → PackedAs (t .windows) (merged g (t .windows) (t .list)) l (m .place + 1)
   ended {m} {i} {l} k done t r =
-      let e : i ≡ n = omega (arith, k .upto) in
-      merging-end t n us ws g l m (subst (λ (j : ℕ). Merging t n us ws g j l m) e (k .merging t r))
+      let e : i ≡ n = omega arith in
+      merging-end t n us ws g l m (rw e at (k .merging t r))
 
   module _ {m : Group} {i : ℕ} {l : List Row} (k : Kept m i l) (less : i < n) where
     pub in-rows : i < length ys
-    in-rows = omega (arith, less, r₀ .packed .within)
+    in-rows = omega arith
 
     pub able : Joinable m i (getD l i zeroRow) us ws g
     able = merging-joinable t₀ n us ws g (r₀ .names) (r₀ .short) (r₀ .in-left) (r₀ .in-right) (r₀ .few) (asked .1) i l m (k .merging t₀ r₀) less
@@ -44,4 +44,4 @@ module _ (ys : List Row) (n : ℕ) (us ws : List ℕ) (g : ℕ) (asked : Mergeab
       in-place long = subst (λ (c : ℕ). m′ .place < c) long (rw e (merging-place t₀ n us ws g (r₀ .names) i l m (k .merging t₀ r₀) less))
 
       pub turned : Kept m′ (i + 1) (set l (m′ .place) (m′ .row))
-      turned = record { merging = λ t r. rw e (merging-turn t n us ws g (r .names) i l m (k .merging t r) less); upto = omega (arith, less) }
+      turned = record { merging = λ t r. rw e (merging-turn t n us ws g (r .names) i l m (k .merging t r) less); upto = omega arith }

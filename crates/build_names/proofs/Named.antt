@@ -3,8 +3,8 @@ use Rattle.meaning_numbers.proofs.Prelude.{_≡_, ap, _∙_, List, ℕ, _≤_, 
 use Rattle.meaning_rows.specs.declared.Row.{Row}
 use Rattle.sums_slide.specs.{declared.Window.Window, Levels.sumAt}
 use Rattle.rows_find.specs.Search.{Found}
-use Rattle.build_names.specs.{Ranges.placeIn, Ranges.endsBy, Places.Nameable}
-use Rattle.build_names.proofs.Ranges.{first-le, found-place}
+use Rattle.build_names.specs.{Ranges.placeIn, Places.Nameable}
+use Rattle.build_names.proofs.Ranges.{found-place}
 
 module _ {rows : List Row} {count w e : ℕ} {at : Window} (y : Nameable rows count w e at) {sum : ℤ} {i : ℕ} (sum-is : sum ≡ sumAt w e at) (found : Found rows count sum i) where
   pub place-is : i ≡ placeIn rows count (sumAt w e at)
@@ -12,4 +12,4 @@ module _ {rows : List Row} {count w e : ℕ} {at : Window} (y : Nameable rows co
 
   pub place-few : i ≤ 4294967294
   unfolding placeIn
-  place-few = omega (arith, place-is, y .few, first-le (endsBy rows (sumAt w e at)) count)
+  place-few = omega arith

@@ -1,6 +1,6 @@
 -- The pass that names the neighbours of all runs, by runs: what holds after the windows below j (`Naming`), how it begins, a turn, which names the neighbours of one run in the part of its row (`naming-run`), and the end (`naming-end`).
 use Rattle.meaning_numbers.proofs.Prelude.{_≡_, sym, _∙_, true, false, List, ℕ, suc, _+_, _-_, _<_, _≤_, arith, length, getD, set, length-set, eq-eqb, ne-eqb}
-use Rattle.meaning_rows.specs.Runs.{before, runCount}
+use Rattle.meaning_rows.specs.Runs.{runCount}
 use Rattle.meaning_rows.proofs.{Parts.Laid, Columns.runCount-mono}
 use Rattle.meaning_rows.proofs.Cursors.{Cursors, PartsAs, parts-as-start, cursors-start, fileRight, length-file, filed-as, cursors-run}
 use Rattle.sums_slide.specs.Change.{RowRun}
@@ -20,8 +20,8 @@ module _ (row : ℕ → ℕ) (n R : ℕ) where
   -- buffers long enough, the right one of zeros
   pub naming-start : (left right : List ℕ) → ((x : ℕ) → getD right x 0 ≡ 0) → partAt row n R ≤ length left → partAt row n R ≤ length right → Naming 0 left right
   naming-start left right z a b = record {
-    parts = parts-as-start R n (isRow row) (partAt row n) (nameBefore row n) (nameAfter row n) left right;
-    cursors = cursors-start R n (isRow row) (partAt row n) right z;
+    parts = parts-as-start R n _ _ _ _ left right;
+    cursors = cursors-start R n _ _ right z;
     fresh = fresh-start row n;
     in-left = a;
     in-right = b;
@@ -61,13 +61,13 @@ module _ (row : ℕ → ℕ) (n R : ℕ) where
     unfolding isRow
     naming-run =
         let d = r - from - 1 in
-        let end : from + suc d ≡ r = omega (arith, h .ahead) in
-        let next : suc (from + d) ≡ r = omega (arith, h .ahead) in
-        let cut : before (isRow row i) from ≡ false = f .fresh .cut (omega (arith, h .ahead, h .below)) in
+        let end : from + suc d ≡ r = omega arith in
+        let next : suc (from + d) ≡ r = omega arith in
+        let cut = f .fresh .cut (omega arith) in
         let mine : (j : ℕ) → from ≤ j → j < from + suc d → isRow row i j ≡ true = λ j a b. eq-eqb (row j) i (h .same j (omega arith) a) in
         let others : (j k : ℕ) → from ≤ j → j < from + suc d → k < R → (k ≡ i → ⊥) → isRow row k j ≡ false = λ j k a b m q. ne-eqb (row j) k (λ e. q (sym e ∙ h .same j (omega arith) a)) in
-        let p = filed-as R n (isRow row) (partAt row n) (partAt row n R) laid i from d l cut (omega (arith, h .below)) mine others (nameBefore row n) (nameAfter row n) left right (f .in-left) (f .in-right) (f .parts) in
-        let c = cursors-run R n (isRow row) (partAt row n) (partAt row n R) laid i from d l cut (omega (arith, h .below)) mine others right (nameAfter row n (from + d)) (f .in-right) (f .cursors) in
+        let p = filed-as R n _ _ _ laid i from d l cut (omega arith) mine others _ _ left right (f .in-left) (f .in-right) (f .parts) in
+        let c = cursors-run R n _ _ _ laid i from d l cut (omega arith) mine others right (nameAfter row n (from + d)) (f .in-right) (f .cursors) in
         record {
           parts = rw (end, next) at p;
           cursors = rw (end, next) at c;

@@ -7,7 +7,7 @@ use Rattle.meaning_rows.specs.{declared.Row.Row, Range.rowNumber, Range.lowOf, 
 use Rattle.meaning_rows.proofs.{Range.is-inside, Range.row-below, Range.row-above, Runs.runs-cong, LaidAt.Σℕ-shift}
 use Rattle.meaning_rows.proofs.Build.{Fine, Chain, Tiled, Ends, covered, mergedRows, built-tiled, built-covers, built-ends, built-length, built-runs, merged-none}
 use Rattle.rows_records.specs.Records.{zeroRow}
-use Rattle.sums_slide.specs.Levels.{level, Lent, windowsOf, level-le}
+use Rattle.sums_slide.specs.Levels.{Lent, windowsOf, level-le}
 use Rattle.sums_slide.proofs.Levels.{level-is}
 use Rattle.sums_count.specs.Tally.{isRow}
 use Rattle.rows_pack.specs.PackedAs.{PackedAs}
@@ -33,7 +33,7 @@ record-at n k (s ∷ l) zero h =
     ap (λ (r : List Row). getD r 0 zeroRow) (records-first n k s l) ∙ ap (λ (f : ℕ). recordOf n f s) e
 record-at n k (s ∷ l) (suc i) h =
     let e : k + runCount (s .has) n + Σℕ i (λ x. runCount (nth l x .has) n) ≡ k + Σℕ (suc i) (λ x. runCount (nth (s ∷ l) x .has) n) = omega (arith, Σℕ-shift i (λ x. runCount (nth (s ∷ l) x .has) n)) in
-    ap (λ (r : List Row). getD r (suc i) zeroRow) (records-first n k s l) ∙ record-at n (k + runCount (s .has) n) l i (omega arith) ∙ ap (λ (f : ℕ). recordOf n f (nth l i)) e
+    ap (λ (r : List Row). getD r (suc i) zeroRow) (records-first n k s l) ∙ record-at n _ l i (omega arith) ∙ rw e
 
 runs-total : (n : ℕ) (l : List SetRow) → length (allRuns (map (withRuns n) l)) ≡ Σℕ (length l) (λ x. runCount (nth l x .has) n)
 unfolding allRuns withRuns Σℕ
@@ -50,8 +50,8 @@ numbered-by : (row : ℕ → ℕ) (n k : ℕ) (l : List SetRow) → ((i j : ℕ)
 unfolding Numbered
 numbered-by row n k [] h = tt
 numbered-by row n k (s ∷ l) h = (
-  λ j b. let z : k + 0 ≡ k = omega arith in h 0 j (omega arith) b ∙ ap (λ (x : ℕ). isRow row x j) z,
-  numbered-by row n (k + 1) l (λ i j a b. let z : k + suc i ≡ k + 1 + i = omega arith in h (suc i) j (omega arith) b ∙ ap (λ (x : ℕ). isRow row x j) z),
+  λ j b. let z : k + 0 ≡ k = omega arith in h 0 j (omega arith) b ∙ rw z,
+  numbered-by row n (k + 1) l (λ i j a b. let z : k + suc i ≡ k + 1 + i = omega arith in h (suc i) j (omega arith) b ∙ rw z),
 )
 
 -- the row that holds z
@@ -63,9 +63,9 @@ pub record At (z : ℤ) (l : List SetRow) : Type 0 where
 covered-at : (z : ℤ) (l : List SetRow) → covered z l ≡ true → At z l
 unfolding any
 covered-at z [] e = clash e refl
-covered-at z (s ∷ l) e = by-test (inside (s .low) (s .up) z)
+covered-at z (s ∷ l) e = by-test _
     (λ t. record { place = 0; below = omega arith; is = t })
-    (λ f. let r = covered-at z l (rw f at e) in record { place = suc (r .place); below = omega (arith, r .below); is = r .is })
+    (λ f. let r = covered-at z l (rw f at e) in record { place = suc _; below = omega arith; is = r .is })
 
 ends-at : (P : ℤ → Type 0) (l : List SetRow) → All (Ends P) l → (i : ℕ) → i < length l → Ends P (nth l i)
 unfolding All
@@ -115,7 +115,7 @@ module _ (sum : ℕ → ℤ) (n : ℕ) where
     partsOf i = Σℕ i (λ x. runCount (nth l x .has) n)
 
     in-list : (i : ℕ) → i < count → i < length l
-    in-list i h = omega (arith, p .many)
+    in-list i h = omega arith
 
     packed-at : (i : ℕ) → i < count → getD rows i zeroRow ≡ recordOf n (0 + partsOf i) (nth l i)
     packed-at i h = sym (getD-take count rows i zeroRow h) ∙ ap (λ (r : List Row). getD r i zeroRow) (p .front) ∙ record-at n 0 l i (in-list i h)
@@ -125,9 +125,7 @@ module _ (sum : ℕ → ℤ) (n : ℕ) where
     unfolding rowIn placeIn endsBy
     found j b =
         let a = covered-at (sum j) l (s .covers j b) in
-        let k = is-inside (nth l (a .place) .low) (nth l (a .place) .up) (sum j) (a .is) in
-        let low = k .0 in
-        let high = k .1 in
+        let k = is-inside _ (nth l (a .place) .up) (sum j) (a .is) in
         let in-count : a .place < count = omega (arith, a .below, p .many) in
         let not-above : row j ≤ a .place = elim (decLt (a .place) (row j)) [
           | yes h ↦ let e : getD rows (a .place) zeroRow .up ≤ℤ sum j = leZ-true (first-passes (endsBy rows (sum j)) count (a .place) h) in
@@ -173,7 +171,7 @@ module _ (sum : ℕ → ℤ) (n : ℕ) where
     }
 
     pub packed-numbered : Numbered row n 0 l
-    packed-numbered = numbered-by row n 0 l (λ i j a b. let z : 0 + i ≡ i = omega arith in has-row i j (omega (arith, p .many)) b ∙ ap (λ (x : ℕ). isRow row x j) (sym z))
+    packed-numbered = numbered-by row n 0 l (λ i j a b. let z : 0 + i ≡ i = omega arith in has-row i j (omega arith) b ∙ ap (λ (x : ℕ). isRow row x j) (sym z))
 
     pub packed-total : partAt row n count ≤ n
     packed-total = omega (arith, sym (parts-are count (omega arith)), runs-total n l, s .total, ap (λ (x : ℕ). Σℕ x (λ y. runCount (nth l y .has) n)) (p .many))
@@ -192,10 +190,10 @@ module _ (s : List ℤ) (w e : ℕ) (h : Lent s w e) where
   windows = windowsOf s w
 
   windows-few : windows ≤ 1048576
-  windows-few = omega (arith, h .long, h .some)
+  windows-few = omega arith
 
   windows-some : 0 < windows
-  windows-some = omega (arith, h .fits)
+  windows-some = omega arith
 
   module _ (l : List SetRow) (rows : List Row) (count : ℕ) (g : Sound sums windows l) (p : PackedAs windows l rows count) (left right : List ℕ) (in-left : windows ≤ length left) (in-right : windows ≤ length right) where
     -- where the parts are empty, the rows can be named
@@ -214,7 +212,7 @@ module _ (s : List ℤ) (w e : ℕ) (h : Lent s w e) where
         → Ready (record { windows = windows; list = l; row = rowIn rows count sums }) rows count left right
     packed-ready names = record {
       some = omega (arith, p .many, covered-at (sums 0) l (g .covers 0 windows-some) .below);
-      few = omega (arith, p .many, g .few, windows-few);
+      few = omega arith;
       short = windows-few;
       packed = p;
       numbered = packed-numbered sums windows l rows count g p;
@@ -230,12 +228,10 @@ module _ (s : List ℤ) (w e : ℕ) (h : Lent s w e) where
     -- the ends of a row that has a window are near its sum
     near : (low high z : ℤ) (m : ℕ) → Rep z m (10000 * w + e) → m ≤ 20000 * w + e → low ≤ℤ z → z <ℤ high → high ≡ low +ℤ pos d → Limited low × Limited high
     near low high z m r b a c q =
-        let u = h .most in
-        let v = h .small in
         (limited-by low (omega zarith) (omega zarith), limited-by high (omega zarith) (omega zarith))
 
     limited-ends : (j : ℕ) → j < windows → Limited (lowOf d (rowNumber d (sums j))) × Limited (upOf d (rowNumber d (sums j)))
-    limited-ends j b = near (lowOf d (rowNumber d (sums j))) (upOf d (rowNumber d (sums j))) (sums j) (level s w e j) (level-is j h) (level-le j h) (row-below d (sums j) one) (row-above d (sums j) one) (up-low (rowNumber d (sums j)))
+    limited-ends j b = near _ _ _ _ (level-is j h) (level-le j h) (row-below d _ one) (row-above d _ one) (up-low (rowNumber d _))
 
     -- the rows of a build
     pub merged-sound : (g : ℕ) → Sound sums windows (mergedRows sums d g windows)
@@ -250,4 +246,4 @@ module _ (s : List ℤ) (w e : ℕ) (h : Lent s w e) where
 
     -- before they are merged
     pub filed-sound : Sound sums windows (filed sums d windows)
-    filed-sound = subst (Sound sums windows) (merged-none windows (filed sums d windows)) (merged-sound 0)
+    filed-sound = subst (Sound sums windows) (merged-none windows _) (merged-sound 0)

@@ -1,5 +1,5 @@
 -- Laws of specs/Places.
-use Rattle.meaning_numbers.proofs.Prelude.{_≡_, refl, sym, ap, _∙_, subst, List, ℕ, zero, suc, _+_, _-_, _*_, _<_, _≤_, arith, ltb, ℤ, length, getD, set, length-set, lt-ltb, ltb-true, ltb-false, by-test}
+use Rattle.meaning_numbers.proofs.Prelude.{_≡_, refl, sym, ap, _∙_, List, ℕ, zero, suc, _+_, _-_, _*_, _<_, _≤_, arith, ltb, ℤ, length, getD, set, length-set, lt-ltb, ltb-true, ltb-false, by-test}
 use Rattle.meaning_curves.specs.Curve.{windowSum}
 use Rattle.meaning_rows.specs.{declared.Row.Row, Runs.runCount}
 use Rattle.meaning_rows.proofs.Cursors.{fileRight, length-file}
@@ -30,7 +30,7 @@ module _ (s : List ℤ) (w e : ℕ) (rows : List Row) (count : ℕ) where
 
   module _ (left₀ right₀ : List ℕ) (u : Unnamed s w e rows count left₀ right₀) where
     windows-few : n ≤ 1048576
-    windows-few = omega (arith, u .lent .long, u .lent .some)
+    windows-few = omega arith
 
     -- a row's name is small
     small-name : (j : ℕ) → nameAt row n j ≤ 4294967295
@@ -61,7 +61,7 @@ module _ (s : List ℤ) (w e : ℕ) (rows : List Row) (count : ℕ) where
       most = u .lent .most;
       small = u .lent .small;
       level-small = omega (arith, l, level-small (at .offset) (u .lent));
-      offset-small = omega (arith, b, windows-few);
+      offset-small = omega (arith, b);
       few = u .few;
     }
 
@@ -72,7 +72,7 @@ module _ (s : List ℤ) (w e : ℕ) (rows : List Row) (count : ℕ) where
       below = omega arith;
       level-is = refl;
       before-is = refl;
-      name-is = named-is (placeFrom s w e 0) (u .lent) refl;
+      name-is = named-is _ (u .lent) refl;
       long-left = refl;
       long-right = refl;
     })
@@ -84,17 +84,17 @@ module _ (s : List ℤ) (w e : ℕ) (rows : List Row) (count : ℕ) where
       -- past the last window no row is named
       pub underway-end : name ≡ 0 → (i : ℕ) → i < count → NamedRow row n i (partAt row n i) left right
       unfolding nameAt
-      underway-end e = naming-end row n count left right (subst (λ (k : ℕ). Naming row n count k left right) last (z .naming))
+      underway-end e = naming-end row n count left right (rw last at (z .naming))
         where
           last : at .offset ≡ n
-          last = by-test (ltb (at .offset) n)
+          last = by-test _
               (λ t. let q : name ≡ row (at .offset) + 1 = z .name-is ∙ rw t in absurd (omega arith))
               (λ f. omega (arith, z .below, ltb-false (at .offset) n f))
 
       module _ (some : (name ≡ 0) → ⊥) where
         less : j < n
         unfolding nameAt
-        less = by-test (ltb j n) (λ t. ltb-true j n t) (λ f. let q : name ≡ 0 = z .name-is ∙ rw f in absurd (some q))
+        less = by-test _ (λ t. ltb-true j n t) (λ f. let q = z .name-is ∙ rw f in absurd (some q))
 
         name-row : name ≡ row j + 1
         unfolding nameAt
@@ -161,8 +161,8 @@ module _ (s : List ℤ) (w e : ℕ) (rows : List Row) (count : ℕ) where
           before-next =
               let k = next .offset - 1 in
               let q : next .offset ≡ suc k = omega (arith, run .ahead) in
-              let b : k < n = omega (arith, run .below, run .ahead) in
-              rw (q, lt-ltb k n b) (name-row ∙ ap (λ (x : ℕ). x + 1) (sym (run .same k (omega (arith, run .ahead)) (omega (arith, run .ahead)))))
+              let b : k < n = omega arith in
+              rw (q, lt-ltb k n b) (name-row ∙ ap (λ (x : ℕ). x + 1) (sym (run .same k (omega arith) (omega (arith, run .ahead)))))
 
           pub underway-turn : (left′ right′ : List ℕ) → left′ ≡ set left (here .first + written here right) before → right′ ≡ fileRight right (here .first) (here .runs) (written here right) after
               → Underway next name after left′ right′

@@ -77,7 +77,7 @@ module _ (sum : ℕ → ℤ) (n : ℕ) (rows : List Row) (count : ℕ) (r : Rang
   held-row i j b l = by-test (eqb (row j) i)
       (λ t. let e = eqb-true (row j) i t in rw (t, ← e) (inside-yes _ _ (sum j) (r .holds j l) (below-up j l)))
       (λ f. let q : (row j ≡ i) → ⊥ = eqb-false (row j) i f in rw f (by-test (inside (getD rows i zeroRow .low) (getD rows i zeroRow .up) (sum j))
-      (λ t. let k = is-inside _ _ (sum j) t in let k0 = k .0 in let k1 = k .1 in absurd (elim (decLt i (row j)) [
+      (λ t. let k = is-inside _ _ (sum j) t in absurd (elim (decLt i (row j)) [
         | yes h ↦ let a = above-others j i h in omega zarith
         | no h ↦ let c : row j < i = elim (decLt (row j) i) [ yes m ↦ m | no m ↦ absurd (q (omega arith)) ] in
             let a = r .order (row j) i c b in let d = below-up j l in omega zarith
@@ -88,7 +88,7 @@ module _ (sum : ℕ → ℤ) (n : ℕ) (rows : List Row) (count : ℕ) (r : Rang
 
 -- what `raise_end` asks of an end
 pub limited-asks : {x : ℤ} → Limited x → (negsuc 999999999 ≤ℤ x) × (x ≤ℤ pos 1000000000)
-limited-asks h = (omega (zarith, h .least), omega (zarith, h .most))
+limited-asks h = (omega zarith, omega zarith)
 
 -- a run of raised sums in the range of its row is a run of the row's windows
 pub stop-run : (sum : ℕ → ℤ) (lv : ℕ → ℕ) (k n : ℕ) (rows : List Row) (count : ℕ) → Ranged sum n rows count → ((j : ℕ) → Rep (sum j) (lv j) k) → (from r z : ℕ) → from < n
@@ -97,10 +97,10 @@ unfolding isRow
 stop-run sum lv k n rows count h lv-is from r z less s = record {
   ahead = elim (decLt from r) [
     | yes l ↦ l
-    | no f ↦ let e : r ≡ from = omega (arith, c .above) in clash (mine from less ∙ eq-eqb (row from) (row from) refl) (rw e at (c .other (omega arith)))
+    | no f ↦ let e : r ≡ from = omega arith in clash (mine from less ∙ eq-eqb (row from) (row from) refl) (rw e at (c .other (omega arith)))
   ];
   below = c .below;
-  same = λ j a b. eqb-true (row j) (row from) (sym (mine j (omega (arith, c .below))) ∙ c .same j a b);
+  same = λ j a b. eqb-true (row j) (row from) (sym (mine j (omega arith)) ∙ c .same j a b);
   other = λ l e. clash (mine r l ∙ eq-eqb (row r) (row from) e) (c .other l);
 }
   where

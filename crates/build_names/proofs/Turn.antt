@@ -15,7 +15,7 @@ module _ (ss : List ℤ) (w e : ℕ) (rows : List Row) (n : ℕ) (ls ks : List �
   Way = Underway ss w e rows n ls ks asked
 
   pub first-nameable : {p : Window} → p ≡ placeFrom ss w e 0 → Nameable rows n w e p
-  first-nameable q = rw q (nameable ss w e rows n ls ks asked (placeFrom ss w e 0) (omega arith) refl)
+  first-nameable q = rw q (nameable ss w e rows n ls ks asked _ (omega arith) refl)
 
   pub started : {p : Window} {name : ℕ} → p ≡ placeFrom ss w e 0 → name ≡ nameIn rows n (length ss) w e p → Way p 0 name ls ks
   started {p} is q = rw q (underway-start ss w e rows n ls ks asked p is)
@@ -26,7 +26,7 @@ module _ (ss : List ℤ) (w e : ℕ) (rows : List Row) (n : ℕ) (ls ks : List �
 
     module _ (more : 0 < name) where
       some : name ≡ 0 → ⊥
-      some z = omega (arith, more)
+      some z = omega arith
 
       pub place-in : name - 1 < length rows
       place-in = turn-place ss w e rows n ls ks asked at before name left right way some

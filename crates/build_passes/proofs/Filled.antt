@@ -19,7 +19,7 @@ use Rattle.meaning_rows.proofs.Columns as Columns
 -- where no row is laid out, a record of zeros stands first
 no-part : {X : Type 0} (G : X → RangeRow) (old : List Row) → let r = getD (filled zeroRow (records 0 (map G [])) old) 0 zeroRow in r .first + r .runs ≡ length (allRuns (map G []))
 unfolding filled records allRuns
-no-part G old = ap (λ (r : Row). r .first + r .runs) (zeros zeroRow (length old - 0) 0)
+no-part G old = rw (zeros zeroRow _ 0)
 
 -- of rows laid out in a buffer, the part of the last ends where all parts end
 pub last-part : {X : Type 0} (o : X) (G : X → RangeRow) (t : List X) (old : List Row) → let r = getD (filled zeroRow (records 0 (map G t)) old) (length t - 1) zeroRow in r .first + r .runs ≡ length (allRuns (map G t))
@@ -27,11 +27,11 @@ unfolding filled
 last-part o G [] old = no-part G old
 last-part o G (x ∷ l) old =
     let t = x ∷ l in
-    let made = records 0 (map G t) in
+    let made = records 0 _ in
     let i : length t - 1 < length t = omega arith in
     let f : ℕ → ℕ = λ y. length (G (getD t y o) .runs) in
     let c : length t - 1 + 1 ≡ length t = omega arith in
-    let r = List·getD-append made (replicate (length old - length made) zeroRow) zeroRow (length t - 1) (omega (arith, i, length-records 0 (map G t), length-map t G)) ∙ records-at o G zeroRow 0 t (length t - 1) i in
+    let r = List·getD-append made (replicate (length old - length made) zeroRow) zeroRow _ (omega (arith, i, length-records 0 (map G t), length-map t G)) ∙ records-at o G zeroRow 0 t _ i in
     omega (arith, ap (λ (q : Row). q .first) r, ap (λ (q : Row). q .runs) r, Σℕ-more (length t - 1) f, ap (λ (y : ℕ). Σℕ y f) c, runs-total o G t)
 
 module _ {d g : ℕ} {s : List ℤ} {w e : ℕ} {rows : List Row} {n : ℕ} {left₀ right₀ : List ℕ} (h : Fillable d g s w e rows n left₀ right₀) where
@@ -43,12 +43,12 @@ module _ {d g : ℕ} {s : List ℤ} {w e : ℕ} {rows : List Row} {n : ℕ} {lef
 
   size-is : (i : ℕ) → length (withRuns W (getD l i noRow) .runs) ≡ runCount (tests l i) W
   unfolding withRuns
-  size-is i = length-map (runs (tests l i) W) entry
+  size-is i = length-map (runs _ W) entry
 
   total-is : length (allRuns (map (withRuns W) l)) ≡ partsTotal n W (tests l)
   total-is =
-      runs-total noRow (withRuns W) l ∙ Σℕ-same (length l) (λ y. length (withRuns W (getD l y noRow) .runs)) (λ y. runCount (tests l y) W) (λ y b. size-is y)
-      ∙ ap (λ (x : ℕ). Σℕ x (λ y. runCount (tests l y) W)) (sym (h .packed .many))
+      runs-total noRow _ l ∙ Σℕ-same _ (λ y. length (withRuns W _ .runs)) (λ y. runCount _ W) (λ y b. size-is y)
+      ∙ rw (sym (h .packed .many))
 
   total-fits : partsTotal n W (tests l) ≤ W
   unfolding builtRows
@@ -63,11 +63,11 @@ module _ {d g : ℕ} {s : List ℤ} {w e : ℕ} {rows : List Row} {n : ℕ} {lef
 
   cleared-packed : PackedAs W l cleared n
   cleared-packed =
-      let rest : List Row = replicate (length rows - n) zeroRow in
+      let rest = replicate (length rows - n) zeroRow in
       record {
         many = h .packed .many;
         within = omega (arith, front-long, length-append (take n rows) rest);
-        front = ap (λ (x : ℕ). take x cleared) (sym front-long) ∙ take-append-seam (take n rows) rest ∙ h .packed .front;
+        front = ap (λ (x : ℕ). take x cleared) (sym front-long) ∙ take-append-seam _ rest ∙ h .packed .front;
       }
 
   module _ {left right : List ℕ} (cl : Cleared left₀ left) (cr : Cleared right₀ right) where
@@ -76,37 +76,37 @@ module _ {d g : ℕ} {s : List ℤ} {w e : ℕ} {rows : List Row} {n : ℕ} {lef
     starts {p} a z = record {
       place = a;
       rowed = rw z (built-rowed d g (h .least) (h .most) (h .lent) cleared-packed);
-      filling = rw z (filling-start n W (tests l) left right (cr .zero) (omega (arith, total-fits, cl .long, h .in-left)) (omega (arith, total-fits, cr .long, h .in-right)));
+      filling = rw z (filling-start n W _ left right (cr .zero) (omega (arith, total-fits, cl .long, h .in-left)) (omega (arith, total-fits)));
     }
 
     -- and where it ends
     module _ {left′ right′ : List ℕ} (f : PassMade (tests l) s w n left right left′ right′) where
       start-is : (i : ℕ) → Σℕ i (λ y. length (withRuns W (getD l y noRow) .runs)) ≡ partStart n W (tests l) i
-      start-is i = Σℕ-same i (λ y. length (withRuns W (getD l y noRow) .runs)) (λ y. runCount (tests l y) W) (λ y b. size-is y)
+      start-is i = Σℕ-same i (λ y. length (withRuns W _ .runs)) (λ y. runCount _ W) (λ y b. size-is y)
 
       left-is : left′ ≡ filled 0 (lefts (allRuns (map (withRuns W) l))) left₀
       unfolding withRuns
       left-is =
           let m = length-map (allRuns (map (withRuns W) l)) (λ e. natAbs (e .0)) in
-          filled-is (lefts (allRuns (map (withRuns W) l))) left₀ left′ (f .long-left ∙ cl .long) (omega (arith, m, total-is, total-fits, h .in-left))
-          (λ x b. column-at noRow (withRuns W) (λ e. natAbs (e .0)) left′ l
-          (λ i u a c. rw (start-is i, lefts-entry (runs (tests l i) W)) (f .parts .left-is i u (omega (arith, h .packed .many)) (omega (arith, size-is i)))) x (omega (arith, m)))
+          filled-is _ left₀ left′ (f .long-left ∙ cl .long) (omega (arith, m, total-is, total-fits, h .in-left))
+          (λ x b. column-at noRow _ (λ e. natAbs (e .0)) left′ l
+          (λ i u a c. rw (start-is i, lefts-entry _) (f .parts .left-is i u (omega arith) (omega (arith, size-is i)))) x (omega (arith, m)))
           (λ x b. f .past-left x (omega (arith, m, total-is)) ∙ cl .zero x)
 
       right-is : right′ ≡ filled 0 (rights (allRuns (map (withRuns W) l))) right₀
       unfolding withRuns
       right-is =
           let m = length-map (allRuns (map (withRuns W) l)) (λ e. natAbs (e .1)) in
-          filled-is (rights (allRuns (map (withRuns W) l))) right₀ right′ (f .long-right ∙ cr .long) (omega (arith, m, total-is, total-fits, h .in-right))
-          (λ x b. column-at noRow (withRuns W) (λ e. natAbs (e .1)) right′ l
-          (λ i u a c. rw (start-is i, rights-entry (runs (tests l i) W)) (f .parts .right-is i u (omega (arith, h .packed .many)) (omega (arith, size-is i)))) x (omega (arith, m)))
+          filled-is _ right₀ right′ (f .long-right ∙ cr .long) (omega (arith, m, total-is, total-fits, h .in-right))
+          (λ x b. column-at noRow _ (λ e. natAbs (e .1)) right′ l
+          (λ i u a c. rw (start-is i, rights-entry _) (f .parts .right-is i u (omega arith) (omega (arith, size-is i)))) x (omega (arith, m)))
           (λ x b. f .past-right x (omega (arith, m, total-is)) ∙ cr .zero x)
 
       rows-is : cleared ≡ filled zeroRow (records 0 (map (withRuns W) l)) rows
       unfolding filled
       rows-is =
-          let a = records 0 (map (withRuns W) l) in
-          let long : n ≡ length a = h .packed .many ∙ sym (length-records 0 (map (withRuns W) l) ∙ length-map l (withRuns W)) in
+          let a = records 0 _ in
+          let long = h .packed .many ∙ sym (length-records 0 _ ∙ length-map l _) in
           ap (λ (m : List Row). m ++ replicate (length rows - n) zeroRow) (h .packed .front) ∙ ap (λ (x : ℕ). a ++ replicate (length rows - x) zeroRow) long
 
       pub finished : Holds d g s w (indexBuffers rows left₀ right₀) (indexBuffers cleared left′ right′)
@@ -128,4 +128,4 @@ holds-same d g s w rows rows₀ left left₀ right right₀ a b c h =
 -- the rows of a build, counted
 pub rows-counted : {n : ℕ} (d g : ℕ) (s : List ℤ) (w : ℕ) → n ≡ length (mergedRows (windowSum s w) d g (windowsOf s w)) → n ≡ length (built s w d g .rows)
 unfolding built builtRows
-rows-counted {n} d g s w e = let l = mergedRows (windowSum s w) d g (windowsOf s w) in e ∙ sym (length-records 0 (map (withRuns (windowsOf s w)) l) ∙ length-map l (withRuns (windowsOf s w)))
+rows-counted {n} d g s w e = let l = mergedRows _ d g _ in e ∙ sym (length-records 0 _ ∙ length-map l _)

@@ -1,7 +1,7 @@
 -- Rows that tile the sums, packed as records, are rows that the pass can fill (`packed-rowed`).
 use Rattle.meaning_numbers.specs.{Place.any, Sum.Σℕ}
 use Rattle.meaning_numbers.proofs.{Sum.Σℕ-same, Member.All, Member.all-mem, Member.mem-at}
-use Rattle.meaning_numbers.proofs.Prelude.{_≡_, refl, sym, ap, _∙_, Bool, true, false, List, [], _∷_, ℕ, zero, suc, _+_, _<_, _≤_, arith, ℤ, pos, negsuc, _+ℤ_, length, getD, length-map, getD-take, _≤ℤ_, _<ℤ_, Rep, zarith, by-test, clash}
+use Rattle.meaning_numbers.proofs.Prelude.{_≡_, refl, sym, ap, _∙_, Bool, true, false, List, [], _∷_, ℕ, zero, suc, _+_, _<_, _≤_, arith, ℤ, pos, negsuc, length, getD, length-map, getD-take, _≤ℤ_, _<ℤ_, zarith, by-test, clash}
 use Rattle.meaning_curves.specs.Curve.{windowSum}
 use Rattle.meaning_rows.specs.{declared.Row.Row, Range.inside, Range.lowOf, Range.upOf, Range.rowNumber, Runs.runs, Runs.runCount, Build.SetRow, Build.entry, Build.withRuns}
 use Rattle.meaning_rows.proofs.{Range.row-below, Range.row-above, Range.up-is, LaidAt.records-at}
@@ -38,11 +38,11 @@ unfolding any
 any-at p [] h = clash h refl
 any-at p (x ∷ l) h = by-test (p x)
     (λ t. record { place = 0; below = omega arith; is = t })
-    (λ f. let o = any-at p l (rw f at h) in record { place = suc (o .place); below = omega (arith, o .below); is = o .is })
+    (λ f. let o = any-at p l (rw f at h) in record { place = suc _; below = omega arith; is = o .is })
 
 module _ (sum : ℕ → ℤ) (n : ℕ) where
   all-fine : (l : List SetRow) → Tiled sum n l → (i : ℕ) → i < length l → Fine sum n (getD l i noRow)
-  all-fine l t i h = all-mem (Fine sum n) l (tiled-fine sum n l t) (mem-at noRow l i h)
+  all-fine l t i h = all-mem _ l (tiled-fine sum n l t) (mem-at noRow l i h)
 
   tail-tiled : (r : SetRow) (l : List SetRow) → Tiled sum n (r ∷ l) → Tiled sum n l
   unfolding Tiled Chain
@@ -72,23 +72,23 @@ module _ (sum : ℕ → ℤ) (n : ℕ) where
 module _ {n count : ℕ} {l : List SetRow} {rows : List Row} (p : PackedAs n l rows count) where
   size-is : (i : ℕ) → length (withRuns n (getD l i noRow) .runs) ≡ runCount (tests l i) n
   unfolding withRuns
-  size-is i = length-map (runs (tests l i) n) entry
+  size-is i = length-map (runs _ n) entry
 
   record-at : (i : ℕ) → i < count → getD rows i zeroRow ≡ record { low = withRuns n (getD l i noRow) .low; up = withRuns n (getD l i noRow) .up; first = 0 + Σℕ i (λ y. length (withRuns n (getD l y noRow) .runs)); runs = length (withRuns n (getD l i noRow) .runs) }
-  record-at i h = sym (getD-take count rows i zeroRow h) ∙ ap (λ (m : List Row). getD m i zeroRow) (p .front) ∙ records-at noRow (withRuns n) zeroRow 0 l i (omega (arith, p .many))
+  record-at i h = sym (getD-take count rows i zeroRow h) ∙ ap (λ (m : List Row). getD m i zeroRow) (p .front) ∙ records-at noRow _ zeroRow 0 l i (omega arith)
 
   low-at : (i : ℕ) → i < count → getD rows i zeroRow .low ≡ getD l i noRow .low
   unfolding withRuns
-  low-at i h = ap (λ (r : Row). r .low) (record-at i h)
+  low-at i h = rw (record-at i h)
 
   up-at : (i : ℕ) → i < count → getD rows i zeroRow .up ≡ getD l i noRow .up
   unfolding withRuns
-  up-at i h = ap (λ (r : Row). r .up) (record-at i h)
+  up-at i h = rw (record-at i h)
 
   first-at : (i : ℕ) → i < count → getD rows i zeroRow .first ≡ partStart count n (tests l) i
   first-at i h =
       let e : 0 + Σℕ i (λ y. length (withRuns n (getD l y noRow) .runs)) ≡ Σℕ i (λ y. length (withRuns n (getD l y noRow) .runs)) = omega arith in
-      ap (λ (r : Row). r .first) (record-at i h) ∙ e ∙ Σℕ-same i (λ y. length (withRuns n (getD l y noRow) .runs)) (λ y. runCount (tests l y) n) (λ y b. size-is y)
+      ap (λ (r : Row). r .first) (record-at i h) ∙ e ∙ Σℕ-same i (λ y. length (withRuns n _ .runs)) (λ y. runCount _ n) (λ y b. size-is y)
 
   runs-at : (i : ℕ) → i < count → getD rows i zeroRow .runs ≡ runCount (tests l i) n
   runs-at i h = ap (λ (r : Row). r .runs) (record-at i h) ∙ size-is i
@@ -97,14 +97,14 @@ module _ {n count : ℕ} {l : List SetRow} {rows : List Row} (p : PackedAs n l r
   packed-rowed sum t c e = record {
     within = p .within;
     small = λ i h.
-        let m : i < length l = omega (arith, p .many) in
-        let a : Ends Near (getD l i noRow) = all-mem (Ends Near) l e (mem-at noRow l i m) in
+        let m : i < length l = omega arith in
+        let a = all-mem _ l e (mem-at noRow l i m) in
         let w : getD l i noRow .low <ℤ getD l i noRow .up = all-fine sum n l t i m .wide in
         record { least = rw (low-at i h) (a .low-end .least); order = rw (low-at i h, up-at i h) (omega zarith); most = rw (up-at i h) (a .up-end .most) };
-    apart = λ i k a b. rw (up-at i (omega arith), low-at k b) (tiled-apart sum n l t i k a (omega (arith, p .many)));
-    holds = λ i j h a b. all-fine sum n l t i (omega (arith, p .many)) .exact j b ∙ sym (rw (low-at i h, up-at i h));
-    home = λ j a b. let o = any-at (λ r. inside (r .low) (r .up) (sum j)) l (c j b) in
-        record { at = o .place; below = omega (arith, o .below, p .many); is = all-fine sum n l t (o .place) (o .below) .exact j b ∙ o .is };
+    apart = λ i k a b. rw (up-at i (omega arith), low-at k b) (tiled-apart sum n l t i k a (omega arith));
+    holds = λ i j h a b. all-fine sum n l t i (omega arith) .exact j b ∙ sym (rw (low-at i h, up-at i h));
+    home = λ j a b. let o = any-at (λ r. inside _ (r .up) (sum j)) l (c j b) in
+        record { at = o .place; below = omega arith; is = all-fine sum n l t _ (o .below) .exact j b ∙ o .is };
     first = first-at;
     runs = runs-at;
   }
@@ -115,18 +115,16 @@ module _ {s : List ℤ} {w e : ℕ} (d g : ℕ) (one : 1 ≤ d) (most : d ≤ 10
   near-ends : (j : ℕ) → Near (lowOf d (rowNumber d (windowSum s w j))) × Near (upOf d (rowNumber d (windowSum s w j)))
   near-ends j =
       let z = windowSum s w j in
-      let low : ℤ = lowOf d (rowNumber d z) in
-      let high : ℤ = upOf d (rowNumber d z) in
-      let a : low ≤ℤ z = row-below d z one in
-      let b : z <ℤ high = row-above d z one in
-      let u : high ≡ low +ℤ pos d = up-is d (rowNumber d z) in
-      let r : Rep z _ _ = level-is j h in
+      let a = row-below d z one in
+      let b = row-above d z one in
+      let u = up-is d (rowNumber d z) in
+      let r = level-is j h in
       let v = level-small j h in (
-        record { least = omega (zarith, a, b, u, r, v, most, h .most, h .small); most = omega (zarith, a, b, u, r, v, most) },
-        record { least = omega (zarith, a, b, u, r, v, most, h .most, h .small); most = omega (zarith, a, b, u, r, v, most) },
+        record { least = omega (zarith, a, b, u, r, v); most = omega (zarith, a, b, u, r, v) },
+        record { least = omega (zarith, a, b, u, r, v); most = omega (zarith, a, b, u, r, v) },
       )
 
   pub built-rowed : {rows : List Row} {count : ℕ} → PackedAs (windowsOf s w) (mergedRows (windowSum s w) d g (windowsOf s w)) rows count
       → Rowed (tests (mergedRows (windowSum s w) d g (windowsOf s w))) (windowSum s w) 0 (windowsOf s w) rows count
-  built-rowed p = packed-rowed p (windowSum s w) (built-tiled (windowSum s w) d (windowsOf s w) one g) (built-covers (windowSum s w) d (windowsOf s w) one g)
-      (built-ends (windowSum s w) d (windowsOf s w) one g Near (λ j b. near-ends j))
+  built-rowed p = packed-rowed p _ (built-tiled _ d _ one g) (built-covers _ d _ one g)
+      (built-ends _ d _ one g Near (λ j b. near-ends j))

@@ -1,5 +1,5 @@
 -- What each stage of a build asks, by what the stages before it left: rows that are laid out, merged, filled.
-use Rattle.meaning_numbers.proofs.Prelude.{_≡_, sym, subst, true, List, ℕ, arith, eqb, ℤ, length, eqb-true}
+use Rattle.meaning_numbers.proofs.Prelude.{_≡_, true, List, ℕ, arith, eqb, ℤ, length, eqb-true}
 use Rattle.meaning_curves.specs.Curve.{windowSum}
 use Rattle.meaning_rows.specs.{declared.Row.Row, Build.SetRow, Build.filed, Build.merged}
 use Rattle.meaning_rows.proofs.Build.{merged-none}
@@ -17,7 +17,7 @@ abbrev Laid : List ℤ → ℕ → ℕ → List SetRow
 Laid s w d = filed (windowSum s w) d (windowsOf s w)
 
 pub laid-unmerged : (s : List ℤ) (w d : ℕ) {n : ℕ} {rows : List Row} → PackedAs (windowsOf s w) (Laid s w d) rows n → MergedAs d 0 s w rows n
-laid-unmerged s w d {n} {rows} p = subst (λ (l : List SetRow). PackedAs (windowsOf s w) l rows n) (sym (merged-none (windowsOf s w) (Laid s w d))) p
+laid-unmerged s w d {n} {rows} p = rw (merged-none _ _) p
 
 pub fillable : (h : ℕ) {s : List ℤ} {w e d k : ℕ} {left right l r : List ℕ} {rows : List Row} → LayAsked s w e d left right → MergedAs d h s w rows k → length l ≡ length left → length r ≡ length right → Fillable d h s w e rows k l r
 fillable h a packed long-l long-r = record {
@@ -25,8 +25,8 @@ fillable h a packed long-l long-r = record {
   least = a .least;
   most = a .most;
   packed = packed;
-  in-left = omega (arith, a .in-left, long-l);
-  in-right = omega (arith, a .in-right, long-r);
+  in-left = omega arith;
+  in-right = omega arith;
 }
 
 module _ {s : List ℤ} {w e d n : ℕ} {rows : List Row} {left right : List ℕ} (a : Fillable d 0 s w e rows n left right) where
@@ -35,10 +35,10 @@ module _ {s : List ℤ} {w e d n : ℕ} {rows : List Row} {left right : List ℕ
   none-merged g z = rw (eqb-true g 0 z) (a .packed)
 
   laid : PackedAs (windowsOf s w) (Laid s w d) rows n
-  laid = subst (λ (l : List SetRow). PackedAs (windowsOf s w) l rows n) (merged-none (windowsOf s w) (Laid s w d)) (a .packed)
+  laid = rw (merged-none _ _) at (a .packed)
 
   pub merge-standing : {l r : List ℕ} → Cleared left l × Cleared right r → Standing s w e rows n l r
-  merge-standing {l} {r} c = filed-standing d (a .least) (a .lent) rows n laid (a .most) l r (omega (arith, a .in-left, c .0 .long)) (omega (arith, a .in-right, c .1 .long)) (c .1 .zero)
+  merge-standing {l} {r} c = filed-standing d (a .least) (a .lent) rows n laid (a .most) l r (omega arith) (omega arith) (c .1 .zero)
 
   pub merged-as : (g : ℕ) {rows′ : List Row} {k : ℕ} → ((l : List SetRow) → Sound (windowSum s w) (windowsOf s w) l → PackedAs (windowsOf s w) l rows n → PackedAs (windowsOf s w) (merged g (windowsOf s w) l) rows′ k) → MergedAs d g s w rows′ k
-  merged-as g said = said (Laid s w d) (filed-sound s w e (a .lent) d (a .least) (a .most)) laid
+  merged-as g said = said _ (filed-sound s w e (a .lent) d (a .least) (a .most)) laid

@@ -21,7 +21,7 @@ module _ (x : Index) (range : ℕ → ℤ × ℤ) where
   unfolding candidate numbersFrom
   candidate-more k zero j =
       let e : k + 0 ≡ k = omega arith in let f : j + 0 * w ≡ j = omega arith in
-      rw (e, f) (and-true (admits x (range k) j))
+      rw (e, f) (and-true _)
   candidate-more k (suc n) j =
       let e : suc k + n ≡ k + suc n = omega arith in let f : j + w + n * w ≡ j + suc n * w = omega arith in
       ap (λ (t : Bool). admits x (range k) j && t) (candidate-more (suc k) n (j + w))
@@ -38,5 +38,5 @@ module _ (x : Index) (range : ℕ → ℤ × ℤ) where
   unfolding leading candidate numbersFrom
   leading-all zero j = refl
   leading-all (suc i) j =
-      let a = admits x (range i) (j + i * w) in
-      turn a i (leading x range i j) (leading-le i j) ∙ ap (λ (t : Bool). t && a) (leading-all i j) ∙ sym (candidate-more 0 i j ∙ rw (zero-add i))
+      let a = admits x (range i) _ in
+      turn a i _ (leading-le i j) ∙ ap (λ (t : Bool). t && a) (leading-all i j) ∙ sym (candidate-more 0 i j ∙ rw (zero-add i))

@@ -16,21 +16,21 @@ bump-twice true b part n = by-test (eqb n part)
     (λ f. rw (f, f, and-false b))
 
 pub raised-none : (part : ℕ) (l : List ℕ) (hit : ℕ → Bool) → ((j : ℕ) → hit j ≡ false) → Raised part hit l l
-raised-none part l hit h = record { long = refl; at = λ j. rw (h j) (sym (bump-none part (getD l j 0))) }
+raised-none part l hit h = record { long = refl; at = λ j. rw (h j) (sym (bump-none part _)) }
 
 -- ---- a turn over places
 
 between-none : (from j : ℕ) → between from from j ≡ false
-between-none from j = by-test (leb from j) (λ t. rw (t, le-ltb j from (leb-true from j t))) (λ f. rw f)
+between-none from j = by-test _ (λ t. rw (t, le-ltb j from (leb-true from j t))) (λ f. rw f)
 
 pub raise-starts : (part from : ℕ) (l : List ℕ) → Raised part (between from from) l l
-raise-starts part from l = raised-none part l (between from from) (between-none from)
+raise-starts part from l = raised-none part l _ (between-none from)
 
 between-here : (from i : ℕ) → from ≤ i → between from (i + 1) i ≡ true
 between-here from i h = rw (le-leb from i h, lt-ltb i (i + 1) (omega arith))
 
 between-before : (from i j : ℕ) → (j ≡ i → ⊥) → between from (i + 1) j ≡ between from i j
-between-before from i j n = by-test (ltb j i)
+between-before from i j n = by-test _
     (λ t. rw (t, lt-ltb j (i + 1) (omega (arith, ltb-true j i t))))
     (λ f. rw (f, le-ltb j (i + 1) (omega (arith, ltb-false j i f, n))))
 
@@ -41,29 +41,29 @@ pub raise-more : (part from i v : ℕ) (old now : List ℕ) → from ≤ i → i
     → Raised part (between from (i + 1)) old (set now i v)
 raise-more part from i v old now h l r e = record {
   long = length-set now i v ∙ r .long;
-  at = λ j. by-test (eqb j i)
-      (λ t. let s = eqb-true j i t in rw (s, getD-set-same now i v 0 l, e, r .at i, between-past from i, between-here from i h, bump-none part (getD old i 0)))
-      (λ f. let n : (j ≡ i → ⊥) = eqb-false j i f in rw (getD-set-other now i j v 0 n, between-before from i j n) (r .at j));
+  at = λ j. by-test _
+      (λ t. let s = eqb-true j i t in rw (s, getD-set-same now i v 0 l, e, r .at i, between-past from i, between-here from i h, bump-none part _))
+      (λ f. let n = eqb-false j i f in rw (getD-set-other now i j v 0 n, between-before from i j n) (r .at j));
 }
 
 pub raised-cong : (part : ℕ) (p q : ℕ → Bool) (old new : List ℕ) → ((j : ℕ) → p j ≡ q j) → Raised part p old new → Raised part q old new
 raised-cong part p q old new h r = record { long = r .long; at = λ j. rw (sym (h j)) (r .at j) }
 
 same-end : (from i to j : ℕ) → to ≤ i → i ≤ max from to → between from i j ≡ between from to j
-same-end from i to j h k = by-test (leb from j)
-    (λ t. let l = leb-true from j t in by-test (ltb j to) (λ b. rw (t, b, lt-ltb j i (omega (arith, ltb-true j to b)))) (λ g. rw (t, g, le-ltb j i (omega (arith, ltb-false j to g)))))
+same-end from i to j h k = by-test _
+    (λ t. let l = leb-true from j t in by-test _ (λ b. rw (t, b, lt-ltb j i (omega (arith, ltb-true j to b)))) (λ g. rw (t, g, le-ltb j i (omega (arith, ltb-false j to g)))))
     (λ f. rw f)
 
 pub raise-ends : (part from i to : ℕ) (old new : List ℕ) → to ≤ i → i ≤ max from to → Raised part (between from i) old new → Raised part (between from to) old new
-raise-ends part from i to old new h k = raised-cong part (between from i) (between from to) old new (λ j. same-end from i to j h k)
+raise-ends part from i to old new h k = raised-cong part _ _ old new (λ j. same-end from i to j h k)
 
 -- ---- a turn over runs
 
 -- the places of a run, moved down and clipped, are the offsets whose windows it has
 run-reached : (offsets shift l r j : ℕ) → between (min (l - shift) offsets) (min (r + 1 - shift) offsets) j ≡ (ltb j offsets && inRun (j + shift) (pos l, pos r))
-run-reached offsets shift l r j = by-test (ltb j offsets)
+run-reached offsets shift l r j = by-test _
     (λ t. let b = ltb-true j offsets t in rw t (both-ends b))
-    (λ f. let b = ltb-false j offsets f in rw (f, le-ltb j (min (r + 1 - shift) offsets) (omega arith)) (and-false (leb (min (l - shift) offsets) j)))
+    (λ f. let b = ltb-false j offsets f in rw (f, le-ltb j (min (r + 1 - shift) offsets) (omega arith)) (and-false (leb (min _ offsets) j)))
   where
     both-ends : j < offsets → between (min (l - shift) offsets) (min (r + 1 - shift) offsets) j ≡ (leb l (j + shift) && leb (j + shift) r)
     both-ends b = by-test (leb l (j + shift))
@@ -96,5 +96,5 @@ pub going-ends : (part offsets shift : ℕ) (all : List Entry) (old new : List �
 unfolding any
 going-ends part offsets shift all old new g = record {
   long = g .long;
-  at = λ j. sym (bump-none part (getD new j 0)) ∙ rw (sym (and-false (ltb j offsets))) (g .at j);
+  at = λ j. sym (bump-none part _) ∙ rw (sym (and-false (ltb j offsets))) (g .at j);
 }

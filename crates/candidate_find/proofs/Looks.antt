@@ -79,7 +79,7 @@ module _ (s : List ℤ) (h : Head) (rows : List Row) (left right : List ℕ) (as
 
   pub put-asked : RangesReady (ask .kind) q (ask .limits) w (b .left) (b .right)
   put-asked =
-      let k = parts-le m w (length s) (window-in .0) (a .window) (a .inside) in
+      let k = parts-le m w _ (window-in .0) (a .window) (a .inside) in
       record {
         values = a .query;
         some = a .some;
@@ -99,8 +99,8 @@ module _ (s : List ℤ) (h : Head) (rows : List Row) (left right : List ℕ) (as
       ends = λ i k. record {
         in-first = omega (arith, held .first-long, put-asked .first-room);
         in-last = omega (arith, held .last-long, put-asked .last-room);
-        first-most = rw (held .held .first-at i (omega arith) k) (raised-most (range i .0));
-        last-most = rw (held .held .last-at i (omega arith) k) (raised-most (range i .1));
+        first-most = rw (held .held .first-at i (omega arith) k) (raised-most _);
+        last-most = rw (held .held .last-at i (omega arith) k) (raised-most _);
       };
     }
 
@@ -108,17 +108,17 @@ module _ (s : List ℤ) (h : Head) (rows : List Row) (left right : List ℕ) (as
     met i = metSpan rows (clampOf (range i .0)) (clampOf (range i .1))
 
     span-is : (i : ℕ) → i < p → spanAt rows first₁ last₁ i ≡ met i
-    span-is i k = rw (held .held .first-at i (omega arith) k, held .held .last-at i (omega arith) k, lowered (range i .0), lowered (range i .1))
+    span-is i k = rw (held .held .first-at i (omega arith) k, held .held .last-at i (omega arith) k, lowered _, lowered _)
 
     module _ {first₂ last₂ : List ℕ} (all : AllMet rows p first₁ last₁ first₂ last₂) where
       from-is : (i : ℕ) → i < p → getD first₂ i 0 ≡ met i .from
-      from-is i k = all .held .first-at i (omega arith) k ∙ ap (λ (t : Span). t .from) (span-is i k)
+      from-is i k = all .held .first-at i (omega arith) k ∙ rw (span-is i k)
 
       to-is : (i : ℕ) → i < p → getD last₂ i 0 ≡ met i .to
-      to-is i k = all .held .last-at i (omega arith) k ∙ ap (λ (t : Span). t .to) (span-is i k)
+      to-is i k = all .held .last-at i (omega arith) k ∙ rw (span-is i k)
 
       inside : (i : ℕ) → i < p → getD last₂ i 0 ≤ length (entries left right)
-      inside i k = rw (to-is i k) (span-inside x (a .formed) (clampOf (range i .0)) (clampOf (range i .1)))
+      inside i k = rw (to-is i k) (span-inside x (a .formed) _ _)
 
       pub hand-asked : HandReady s h left right q first₂ last₂ (b .scratch)
       hand-asked = record {
@@ -135,7 +135,7 @@ module _ (s : List ℤ) (h : Head) (rows : List Row) (left right : List ℕ) (as
           inside-left = λ i k. omega (arith, inside i k, length-entries left right);
           inside-right = λ i k. omega (arith, inside i k, length-entries left right);
           room = omega (arith, length-cleared (b .scratch), a .scratch-fits, a .window);
-          zeros = cleared-zeros (b .scratch);
+          zeros = cleared-zeros _;
         };
         room = omega (arith, a .scratch-fits, a .window);
         first-room = omega (arith, all .first-long, held .first-long, a .candidates-fit, a .window);
@@ -143,14 +143,14 @@ module _ (s : List ℤ) (h : Head) (rows : List Row) (left right : List ℕ) (as
       }
 
       hit-is : (i j : ℕ) → i < p → stretchHit left right first₂ last₂ w i j ≡ admits x (range i) (j + i * w)
-      hit-is i j k = rw (from-is i k, to-is i k) (span-admits x (a .formed) (clampOf (range i .0)) (clampOf (range i .1)) (j + i * w) ∙ clamp-admits x (a .formed) (range i) (j + i * w))
+      hit-is i j k = rw (from-is i k, to-is i k) (span-admits x (a .formed) _ _ _ ∙ clamp-admits x (a .formed) _ _)
 
       module _ {t : Sought} {left′ right′ scratch : List ℕ} (e : HandedOut s h left right q first₂ last₂ (b .scratch) t left′ right′ scratch) where
         counted : Counted x range n p (e .counts)
-        counted = counted-all x range (stretchHit left right first₂ last₂ w) n p (e .counts) hit-is (e .counted)
+        counted = counted-all x range _ n p _ hit-is (e .counted)
 
         found : FoundAll x range p n first₂ last₂ left′ right′ (t .runs) (t .candidates)
-        found = found-all x range p n (e .counts) counted (e .handed)
+        found = found-all x range p n _ counted (e .handed)
 
         abbrev lead : ℕ → Bool
         lead j = eqb (leading x range p j) p
@@ -161,19 +161,19 @@ module _ (s : List ℤ) (h : Head) (rows : List Row) (left right : List ℕ) (as
 
         runs-are : runs lead n ≡ candidateRuns x (question call)
         unfolding candidateRuns question
-        runs-are = runs-cong lead (candidateAt x (question call)) n (λ j _. lead-is j)
+        runs-are = runs-cong lead _ n (λ j _. lead-is j)
 
         count-is : count lead n ≡ candidateCount x (question call)
         unfolding candidateCount question
-        count-is = count-cong lead (candidateAt x (question call)) n (λ j _. lead-is j)
+        count-is = count-cong lead _ n (λ j _. lead-is j)
 
         left-is : left′ ≡ lookedAfter call b .left
         unfolding lookedAfter
-        left-is = found .left-is ∙ ap (λ (y : List (ℕ × ℕ)). filled 0 (map (λ t. t .0) y) first₂) runs-are ∙ filled-same _ first₂ (b .left) (all .first-long ∙ held .first-long)
+        left-is = found .left-is ∙ ap (λ (y : List (ℕ × ℕ)). filled 0 (map (λ t. t .0) y) first₂) runs-are ∙ filled-same _ first₂ _ (all .first-long ∙ held .first-long)
 
         right-is : right′ ≡ lookedAfter call b .right
         unfolding lookedAfter
-        right-is = found .right-is ∙ ap (λ (y : List (ℕ × ℕ)). filled 0 (map (λ t. t .1) y) last₂) runs-are ∙ filled-same _ last₂ (b .right) (all .last-long ∙ held .last-long)
+        right-is = found .right-is ∙ ap (λ (y : List (ℕ × ℕ)). filled 0 (map (λ t. t .1) y) last₂) runs-are ∙ filled-same _ last₂ _ (all .last-long ∙ held .last-long)
 
         -- nothing refuses
         unrefused : t .refusal ≡ refusalOf (searchPlan call b)
@@ -199,8 +199,8 @@ module _ (s : List ℤ) (h : Head) (rows : List Row) (left right : List ℕ) (as
     pub gathered : {t : Sought} {first′ last′ scratch′ : List ℕ} → HandedOut s h left right q first₂ last₂ scratch t first′ last′ scratch′ → SoughtKept C first last scratch t first′ last′ scratch′
     gathered {t} e = record {
       judged = unrefused s h rows left right ask q B z held all e;
-      stays = λ f. absurd (f (ap (λ (r : Refusal). r .number) (e .goes-on)));
-      uncounted = λ f. absurd (f (ap (λ (r : Refusal). r .number) (e .goes-on)));
+      stays = λ f. absurd (f (rw (e .goes-on)));
+      uncounted = λ f. absurd (f (rw (e .goes-on)));
       counted = λ _. counted-so s h rows left right ask q B z held all e;
       handed = λ _. (left-is s h rows left right ask q B z held all e, right-is s h rows left right ask q B z held all e, cleared-so s h rows left right ask q B z held all e);
     }
@@ -217,10 +217,10 @@ module _ (s : List ℤ) (h : Head) (rows : List Row) (left right : List ℕ) (as
 
 module _ (s : List ℤ) (h : Head) (rows : List Row) (left right : List ℕ) (ask : Ask) (q : List ℤ) (first last scratch : List ℕ) {j : Judged} {p : Refusal} (judged : j ≡ judgedOf (lent h rows left right)) (planned : p ≡ planOf s h j ask q (min (length first) (length last)) (length scratch)) where
   plan-here : p ≡ thePlan s h rows left right ask q (searchBuffers first last scratch [] [])
-  plan-here = planned ∙ ap (λ (i : Judged). planOf s h i ask q (min (length first) (length last)) (length scratch)) judged
+  plan-here = planned ∙ rw judged
 
   pub halts : not (eqb (p .number) 0) ≡ true → {t : Sought} → t ≡ stopped p → SoughtKept (lentSearch s h rows left right ask q) first last scratch t first last scratch
-  halts f e = rw (e, plan-here) (halted s h rows left right ask q first last scratch (λ z. eqb-false (p .number) 0 (not-true (eqb (p .number) 0) f) (ap (λ (r : Refusal). r .number) plan-here ∙ z)))
+  halts f e = rw (e, plan-here) (halted s h rows left right ask q first last scratch (λ z. eqb-false _ 0 (not-true _ f) (ap (λ (r : Refusal). r .number) plan-here ∙ z)))
 
   pub goes : not (eqb (p .number) 0) ≡ false → thePlan s h rows left right ask q (searchBuffers first last scratch [] []) .number ≡ 0
-  goes f = sym (ap (λ (r : Refusal). r .number) plan-here) ∙ eqb-true (p .number) 0 (not-false (eqb (p .number) 0) f)
+  goes f = sym (ap (λ (r : Refusal). r .number) plan-here) ∙ eqb-true _ 0 (not-false _ f)

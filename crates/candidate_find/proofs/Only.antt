@@ -1,7 +1,6 @@
 -- The promise of finding candidates leaves one outcome.
 use Prim.Native.Nat.{ℕ}
 use borrow.Author.Tests.{eqb-true, eqb-false}
-use lib.Dec.{eqb}
 use mathlib.Core.List.{List}
 use mathlib.Core.Path.{_≡_, _∙_, sym, ap}
 use Rattle.meaning_filter.proofs.Candidates.{by-test}
@@ -12,11 +11,11 @@ use Rattle.candidate_find.specs.{declared.Sought.Sought, Sought.SoughtKe
 module _ (c : SearchCall) (left right scratch : List ℕ) {t u : Sought} {left′ right′ scratch′ left″ right″ scratch″ : List ℕ} where
   pub sought-only : SoughtKept c left right scratch t left′ right′ scratch′ → SoughtKept c left right scratch u left″ right″ scratch″ → (t ≡ u) × (left′ ≡ left″) × (right′ ≡ right″) × (scratch′ ≡ scratch″)
   sought-only k l =
-      let same : t .refusal ≡ u .refusal = k .judged ∙ sym (l .judged) in
-      let number : u .refusal .number ≡ t .refusal .number = sym (ap (λ (r : Refusal). r .number) same) in
-      by-test (eqb (t .refusal .number) 0)
+      let same = k .judged ∙ sym (l .judged) in
+      let number = sym (ap (λ (r : Refusal). r .number) same) in
+      by-test _
       (λ yes.
-      let z = eqb-true (t .refusal .number) 0 yes in
+      let z = eqb-true _ 0 yes in
       let y = number ∙ z in
       let runs = k .counted z .0 ∙ sym (l .counted y .0) in
       let candidates = k .counted z .1 ∙ sym (l .counted y .1) in (
@@ -26,7 +25,7 @@ module _ (c : SearchCall) (left right scratch : List ℕ) {t u : Sought} {left�
         k .handed z .2 ∙ sym (l .handed y .2),
       ))
       (λ no.
-      let z = eqb-false (t .refusal .number) 0 no in
+      let z = eqb-false _ 0 no in
       let y : u .refusal .number ≡ 0 → ⊥ = λ e. z (sym number ∙ e) in
       let runs = k .uncounted z .0 ∙ sym (l .uncounted y .0) in
       let candidates = k .uncounted z .1 ∙ sym (l .uncounted y .1) in (

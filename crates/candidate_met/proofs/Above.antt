@@ -1,5 +1,5 @@
 -- The first row whose upper end is above a number: what a search finds is that place (`found-above`); every row before it ends at or below the number (`above-before`), and that row ends above it (`above-at`).
-use Rattle.meaning_numbers.proofs.Prelude.{_≡_, true, false, List, [], _∷_, ℕ, zero, suc, _<_, _≤_, arith, decLt, ℤ, length, getD, leZ, _≤ℤ_, _<ℤ_, zmach, leZ-true, by-test}
+use Rattle.meaning_numbers.proofs.Prelude.{_≡_, false, List, [], _∷_, ℕ, zero, suc, _<_, _≤_, arith, decLt, ℤ, length, getD, leZ, _≤ℤ_, _<ℤ_, zmach, leZ-true, by-test}
 use Rattle.meaning_rows.specs.declared.Row.{Row}
 use Rattle.rows_records.specs.Records.{zeroRow}
 use Rattle.rows_find.specs.Search.{Found}
@@ -17,7 +17,7 @@ above-le (r ∷ l) z = by-test (leZ (r .up) z) (λ t. rw t (omega (arith, above-
 pub above-before : (l : List Row) (z : ℤ) (k : ℕ) → k < firstAbove l z → getD l k zeroRow .up ≤ℤ z
 unfolding firstAbove
 above-before [] z k h = absurd (omega arith)
-above-before (r ∷ l) z zero h = by-test (leZ (r .up) z) (λ t. leZ-true t) (λ f. let e : 0 < 0 = rw f at h in absurd (omega arith))
+above-before (r ∷ l) z zero h = by-test _ (λ t. leZ-true t) (λ f. let e : 0 < 0 = rw f at h in absurd (omega arith))
 above-before (r ∷ l) z (suc k) h =
     by-test (leZ (r .up) z) (λ t. let e : suc k < suc (firstAbove l z) = rw t at h in above-before l z k (omega arith)) (λ f. let e : suc k < 0 = rw f at h in absurd (omega arith))
 
@@ -32,7 +32,7 @@ pub found-above : (l : List Row) (z : ℤ) (k : ℕ) → Found l (length l) z k 
 found-above l z k f = elim (decLt k (firstAbove l z)) [
   | yes h ↦ let a = above-before l z k h in let b = f .at (omega (arith, above-le l z)) in absurd (omega zmach)
   | no n ↦ elim (decLt (firstAbove l z) k) [
-    | yes h ↦ let a = f .before (firstAbove l z) h in let b = above-at l z (omega (arith, f .within)) in absurd (omega zmach)
+    | yes h ↦ let a = f .before _ h in let b = above-at l z (omega arith) in absurd (omega zmach)
     | no m ↦ omega arith
   ]
 ]

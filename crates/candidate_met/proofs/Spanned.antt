@@ -2,8 +2,8 @@
 -- The rows met are those from row a up to row e: they begin after the rows that end at or below the range, and end before those that begin above it. Their runs stand side by side.
 use Rattle.meaning_numbers.specs.Place.{any}
 use Rattle.meaning_numbers.proofs.Member.{any-mem, any-cong, all-mem, mem-at}
-use Rattle.meaning_numbers.proofs.Prelude.{_≡_, refl, sym, ap, _∙_, subst, Bool, true, false, cond, _&&_, false≢true, List, [], _∷_, ℕ, zero, suc, _+_, _-_, _<_, _≤_, arith, decLt, decLe, eqb, ltb, ℤ, pos, natAbs, length, getD, take, drop, length-take, length-drop, List·getD-eq-default, getD-take, getD-drop, take-length, leZ, ltZ, _≤ℤ_, _<ℤ_, ltb-true, ltb-false, lt-ltb, le-ltb, ne-eqb, zmach, lt-ltZ, leZ-true, ltZ-true, by-test, both, of-both}
-use Rattle.meaning_rows.specs.{declared.Row.Row, Index.Index, Index.Entry, Index.inRun, Index.stands, Index.runsOf}
+use Rattle.meaning_numbers.proofs.Prelude.{_≡_, refl, sym, ap, _∙_, subst, Bool, true, false, cond, _&&_, false≢true, List, [], _∷_, ℕ, zero, suc, _+_, _-_, _<_, _≤_, arith, decLt, decLe, ltb, ℤ, pos, natAbs, length, getD, take, drop, length-take, length-drop, List·getD-eq-default, getD-take, getD-drop, take-length, leZ, ltZ, _≤ℤ_, _<ℤ_, ltb-true, ltb-false, lt-ltb, le-ltb, ne-eqb, zmach, lt-ltZ, leZ-true, ltZ-true, by-test, both, of-both}
+use Rattle.meaning_rows.specs.{declared.Row.Row, Index.Index, Index.Entry, Index.inRun, Index.stands}
 use Rattle.meaning_rows.proofs.Range.{le-leZ}
 use Rattle.meaning_rows.proofs.Judge.{WellFormed, GoodRow, runTotal, each-row, row-at, order-at, first-at, runs-at-most, length-runsOf}
 use Rattle.meaning_filter.specs.Candidates.{met, admits}
@@ -23,7 +23,7 @@ some-place : {A : Type 0} (p : A → Bool) (o : A) (l : List A) → any p l ≡ 
 unfolding any
 some-place p o [] h = absurd (false≢true h)
 some-place p o (x ∷ l) h = by-test (p x) (λ t. record { at = 0; inside = omega arith; passes = t })
-    (λ f. let r = some-place p o l (rw f at h) in record { at = suc (r .at); inside = omega (arith, r .inside); passes = r .passes })
+    (λ f. let r = some-place p o l (rw f at h) in record { at = suc (r .at); inside = omega arith; passes = r .passes })
 
 place-some : {A : Type 0} (p : A → Bool) (o : A) (l : List A) (k : ℕ) → k < length l → p (getD l k o) ≡ true → any p l ≡ true
 place-some p o l k h t = any-mem p (mem-at o l k h) t
@@ -71,13 +71,13 @@ module _ (x : Index) (f : WellFormed x) where
 
   -- and there are at most as many as windows
   F-few : (k : ℕ) → k ≤ length rows → F k ≤ natAbs (x .windows)
-  F-few k h = omega (arith, F-mono k (length rows) h (omega arith), ap runTotal (take-length rows), runs-at-most x f)
+  F-few k h = omega (arith, F-mono k _ h (omega arith), ap runTotal (take-length rows), runs-at-most x f)
 
   -- the row that has run g
   row-of : (a d g : ℕ) → a + d ≤ length rows → F a ≤ g → g < F (a + d) → (k : ℕ) × (a ≤ k) × (k < a + d) × (F k ≤ g) × (g < F (suc k))
   row-of a zero g n h l = let e : a + 0 ≡ a = omega arith in let l′ : g < F a = rw e at l in absurd (omega arith)
   row-of a (suc d) g n h l = elim (decLt g (F (a + d))) [
-    | yes y ↦ let r = row-of a d g (omega arith) h y in (r .0, r .1, omega (arith, r .2), r .3, r .4)
+    | yes y ↦ let r = row-of a d g (omega arith) h y in (r .0, r .1, omega arith, r .3, r .4)
     | no m ↦ let e : a + suc d ≡ suc (a + d) = omega arith in (a + d, omega arith, omega arith, omega arith, rw e at l)
   ]
 
@@ -97,10 +97,10 @@ module _ (x : Index) (f : WellFormed x) where
     into : Stands → any (inRun j) stretch ≡ true
     into s =
         let k = s .at in
-        let n : k < length rows = omega (arith, s .high) in
-        let t = some-place (inRun j) none (runsOf x (row k)) (s .is) in
+        let n : k < length rows = omega arith in
+        let t = some-place _ none _ (s .is) in
         let u : t .at < row k .runs = omega (arith, t .inside, length-runsOf x (row k) (row-at x f zeroRow k n .fits)) in
-        let g : getD (runsOf x (row k)) (t .at) none ≡ getD (x .runs) (row k .first + t .at) none = getD-take (row k .runs) (drop (row k .first) (x .runs)) (t .at) none u ∙ getD-drop (row k .first) (x .runs) (t .at) none in
+        let g = getD-take _ _ (t .at) none u ∙ getD-drop (row k .first) (x .runs) (t .at) none in
         let m = F-more k n in
         let c = first-at x f zeroRow k n in
         let y = F-mono a k (s .low) (omega arith) in
@@ -112,23 +112,23 @@ module _ (x : Index) (f : WellFormed x) where
 
     out : any (inRun j) stretch ≡ true → Stands
     out h =
-        let t = some-place (inRun j) none stretch h in
+        let t = some-place _ none stretch h in
         let i = t .at in
         let b : i < F e - F a = omega (arith, simp (length-take, length-drop) at (t .inside)) in
         let o : a ≤ e = order i b in
         let n : a + (e - a) ≡ e = omega arith in
         let r = row-of a (e - a) (F a + i) (omega arith) (omega arith) (rw n (omega arith)) in
         let k = r .0 in
-        let kn : k < length rows = omega (arith, r .2) in
+        let kn : k < length rows = omega arith in
         let c = first-at x f zeroRow k kn in
         let m = F-more k kn in
-        let u : F a + i - F k < row k .runs = omega (arith, r .3, r .4) in
-        let same : row k .first + (F a + i - F k) ≡ F a + i = omega (arith, r .3) in
+        let u : F a + i - F k < row k .runs = omega arith in
+        let same : row k .first + (F a + i - F k) ≡ F a + i = omega arith in
         record {
           at = k;
           low = r .1;
-          high = omega (arith, r .2);
-          is = place-some (inRun j) none (runsOf x (row k)) (F a + i - F k) (omega (arith, length-runsOf x (row k) (row-at x f zeroRow k kn .fits)))
+          high = omega arith;
+          is = place-some _ none _ (F a + i - F k) (omega (arith, length-runsOf x (row k) (row-at x f zeroRow k kn .fits)))
               (rw (getD-take (row k .runs) (drop (row k .first) (x .runs)) (F a + i - F k) none u, getD-drop (row k .first) (x .runs) (F a + i - F k) none, same)
               (rw (getD-take (F e - F a) (drop (F a) (x .runs)) i none b, getD-drop (F a) (x .runs) i none) at (t .passes)));
         }
@@ -185,7 +185,7 @@ module _ (x : Index) (f : WellFormed x) where
     met-low : (k : ℕ) → k < n → met (low, high) (row k) ≡ true → a ≤ k
     met-low k h t = elim (decLe a k) [
       | yes y ↦ y
-      | no m ↦ let u = above-before rows low k (omega arith) in let v = ltZ-true {a = low} {b = row k .up} (both (leZ (row k .low) high) (ltZ low (row k .up)) t .1) in absurd (omega zmach)
+      | no m ↦ let u = above-before rows low k (omega arith) in let v = ltZ-true {a = low} (both (leZ (row k .low) high) (ltZ low (row k .up)) t .1) in absurd (omega zmach)
     ]
 
     -- a row past row b begins above the range
@@ -194,19 +194,19 @@ module _ (x : Index) (f : WellFormed x) where
 
     met-high : (k : ℕ) → k < n → met (low, high) (row k) ≡ true → k < e
     met-high k h t =
-        let v = leZ-true {a = row k .low} {b = high} (both (leZ (row k .low) high) (ltZ low (row k .up)) t .0) in
+        let v = leZ-true {a = row k .low} (both _ _ t .0) in
         elim (decLt k b) [
           | yes y ↦ by-last (λ h t s. omega (arith, s)) (λ s t. omega (arith, s))
           | no m ↦ elim (decLt b k) [
             | yes y ↦ let u = past k y h in absurd (omega zmach)
-            | no w ↦ let same : k ≡ b = omega arith in by-last (λ h t s. omega (arith, s)) (λ s q. absurd (false≢true (sym (q (omega arith)) ∙ subst (λ (i : ℕ). leZ (row i .low) high ≡ true) same (le-leZ v))))
+            | no w ↦ let same : k ≡ b = omega arith in by-last (λ h t s. omega (arith, s)) (λ s q. absurd (false≢true (sym (q (omega arith)) ∙ rw same at (le-leZ v))))
           ]
         ]
 
     above-low : (k : ℕ) → a ≤ k → k < n → low <ℤ row k .up
     above-low k l h = elim (decLt a k) [
       | yes y ↦ let u = above-at rows low (omega arith) in let v = order-at x f zeroRow a k y h in let w = row-at x f zeroRow k h .wide in omega zmach
-      | no m ↦ let same : a ≡ k = omega arith in subst (λ (i : ℕ). low <ℤ row i .up) same (above-at rows low (omega arith))
+      | no m ↦ let same : a ≡ k = omega arith in rw same at (above-at rows low (omega arith))
     ]
 
     below-high : (k : ℕ) → k < e → row k .low ≤ℤ high
@@ -229,7 +229,7 @@ module _ (x : Index) (f : WellFormed x) where
 
     to-is : endOf b (row (b - 1)) + reachedRuns (row b) high ≡ F e
     to-is = by-last (λ h t s. rw (s, t, end-is) (sym (F-more b h)))
-        (λ s t. rw (s, end-is) (elim (decLt b n) [ yes h ↦ rw (t h) (omega arith) | no m ↦ let z : reachedRuns (row b) high ≡ 0 = none-reached (row b) high (List·getD-eq-default rows zeroRow {n = b} (omega arith)) in omega (arith, z) ]))
+        (λ s t. rw (s, end-is) (elim (decLt b n) [ yes h ↦ rw (t h) (omega arith) | no m ↦ let z = none-reached (row b) high (List·getD-eq-default rows zeroRow (omega arith)) in omega (arith, z) ]))
 
     abbrev admitted : ℕ → Bool
     admitted j = admits x (low, high) j
@@ -237,7 +237,7 @@ module _ (x : Index) (f : WellFormed x) where
     found : (j : ℕ) → admitted j ≡ true → Stands j a e e-le (above-le rows low)
     found j t =
         let p = some-place (λ r. met (low, high) r && stands x r j) zeroRow rows t in
-        let h = both (met (low, high) (row (p .at))) (stands x (row (p .at)) j) (p .passes) in
+        let h = both _ _ (p .passes) in
         record { at = p .at; low = met-low (p .at) (p .inside) (h .0); high = met-high (p .at) (p .inside) (h .0); is = h .1 }
 
     shown : (j : ℕ) → Stands j a e e-le (above-le rows low) → admitted j ≡ true
@@ -257,19 +257,19 @@ module _ (x : Index) (f : WellFormed x) where
     pub span-few : (metSpan rows low high .from ≤ natAbs (x .windows)) × (metSpan rows low high .to ≤ natAbs (x .windows))
     unfolding metSpan spanOf
     span-few = (
-      by-test (ltb a n) (λ t. rw (t, first-at x f zeroRow a (ltb-true a n t)) (F-few a (above-le rows low))) (λ t. rw (t, to-is) (F-few e e-le)),
+      by-test _ (λ t. rw (t, first-at x f zeroRow a (ltb-true a n t)) (F-few a (above-le rows low))) (λ t. rw (t, to-is) (F-few e e-le)),
       rw to-is (F-few e e-le),
     )
 
   -- ---- a range whose ends are clamped meets the same rows
 
   clamp-met : (range : ℤ × ℤ) (r : Row) → GoodRow x r → met (clampOf (range .0), clampOf (range .1)) r ≡ met range r
-  clamp-met range r g = rw (clamp-le (row-end (r .low) (g .low-end .limited)) (range .1), clamp-lt (row-end (r .up) (g .up-end .limited)) (range .0))
+  clamp-met range r g = rw (clamp-le (row-end _ (g .low-end .limited)) (range .1), clamp-lt (row-end (r .up) (g .up-end .limited)) (range .0))
 
   pub clamp-admits : (range : ℤ × ℤ) (j : ℕ) → admits x (clampOf (range .0), clampOf (range .1)) j ≡ admits x range j
   clamp-admits range j =
-      any-cong (λ r. met (clampOf (range .0), clampOf (range .1)) r && stands x r j) (λ r. met range r && stands x r j) rows
-      (λ r m. ap (λ (t : Bool). t && stands x r j) (clamp-met range r (all-mem (GoodRow x) rows (each-row x f) m)))
+      any-cong (λ r. met (clampOf _, clampOf _) r && stands x r j) (λ r. met range r && stands x r j) rows
+      (λ r m. rw (clamp-met range r (all-mem (GoodRow x) rows (each-row x f) m)))
 
   -- ---- the upper ends of the rows ascend
 

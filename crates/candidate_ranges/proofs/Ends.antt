@@ -1,8 +1,8 @@
 -- The ends of a part's range, as code makes them of a frame and the envelopes' sums, are the range of document 01 (`range-is`).
-use Rattle.meaning_numbers.specs.{Sum.Σℤ, Root.root, Order.minℤ, Order.maxℤ, Quotient.floorℤ, Quotient.ceilℤ}
+use Rattle.meaning_numbers.specs.{Root.root, Order.minℤ, Order.maxℤ, Quotient.floorℤ, Quotient.ceilℤ}
 use Rattle.meaning_numbers.proofs.Sum.{Σℤ-same}
 use Rattle.meaning_numbers.proofs.Prelude.{_≡_, ap, _∙_, List, ℕ, _+_, _*_, _≤_, arith, ℤ, pos, negsuc, negℤ, _+ℤ_, _-ℤ_, _*ℤ_, length, ltZ, rep-self, rep-pos, rep-add, rep-sub, rep-mul, rep-neg, rep-eq, by-test}
-use Rattle.meaning_curves.specs.{Curve.at, Curve.stretch, Curve.windowSum, Curve.total, Curve.spread, Normal.normalised}
+use Rattle.meaning_curves.specs.{Curve.at, Curve.windowSum, Curve.total, Curve.spread, Normal.normalised}
 use Rattle.meaning_curves.proofs.Values.{AllIn}
 use Rattle.meaning_filter.specs.{declared.Kind.Kind, declared.Kind.the-variants.Raw, declared.Kind.the-variants.Normal, declared.Limits.Limits}
 use Rattle.meaning_filter.specs.Range.{lowerSum, upperSum, rawLow, rawHigh, normalLow, normalHigh, rangeOf}
@@ -35,7 +35,7 @@ floor-one (negsuc n) = ap negsuc (omega arith)
 
 ceil-one : (x : ℤ) → ceilℤ x 1 ≡ x
 unfolding ceilℤ
-ceil-one x = ap negℤ (floor-one (negℤ x)) ∙ rep-eq (rep-neg (rep-neg (rep-self x))) (rep-self x) (omega arith)
+ceil-one x = ap negℤ (floor-one _) ∙ rep-eq (rep-neg (rep-neg (rep-self x))) (rep-self x) (omega arith)
 
 module _ (q : ℕ → ℤ) (m : ℕ) (l : Limits) (w from : ℕ) where
   raw-low : lowEnd (rawFrame l w) (lowerSum q m (l .band) from w) ≡ rawLow q m (l .band) (l .threshold) from w
@@ -57,11 +57,11 @@ both-more x r w = rep-eq (rep-add (rep-self x) (rep-pos (r + w))) (rep-add (rep-
 module _ (q : ℕ → ℤ) (m : ℕ) (l : Limits) (w from : ℕ) where
   normal-low : lowEnd (normalFrame (spread q m) (total q m) m l w) (lowerSum (normalised q m) m (l .band) from w) ≡ normalLow q m (l .band) (l .threshold) (l .scale) (l .shift) from w
   unfolding lowEnd normalLow rawLow
-  normal-low = rw (both-less (lowerSum (normalised q m) m (l .band) from w) (root (w * l .threshold)) w)
+  normal-low = rw (both-less _ _ w)
 
   normal-high : highEnd (normalFrame (spread q m) (total q m) m l w) (upperSum (normalised q m) m (l .band) from w) ≡ normalHigh q m (l .band) (l .threshold) (l .scale) (l .shift) from w
   unfolding highEnd normalHigh rawHigh
-  normal-high = rw (both-more (upperSum (normalised q m) m (l .band) from w) (root (w * l .threshold)) w)
+  normal-high = rw (both-more _ _ w)
 
 -- ---- the range
 
@@ -79,11 +79,11 @@ ends-are Normal q m l w i = let a = normal-low q m l w (i * w) in let b = normal
 pub total-is : {kind : Kind} {q curve low high : List ℤ} {b p A : ℕ} → AllIn q → Ready kind q b curve low high p A → pos p -ℤ pos (10000 * length q) ≡ total (at q) (length q)
 total-is {q = q} {p = p} h r =
     let m = length q in
-    rep-eq (rep-sub (rep-pos p) (rep-pos (10000 * m))) (sum-raised 0 m h) (omega (arith, r .values)) ∙ Σℤ-same m (stretch q 0) (at q) (from-start q m .at)
+    rep-eq (rep-sub (rep-pos p) (rep-pos (10000 * m))) (sum-raised 0 m h) (omega arith) ∙ Σℤ-same m _ (at q) (from-start q m .at)
 
 pub range-is : {kind : Kind} {q curve low high : List ℤ} {p A : ℕ} (l : Limits) (w i : ℕ) → AllIn q → Ready kind q (l .band) curve low high p A → i * w + w ≤ length q
     → let m = length q in let f = frameOf kind A (pos p -ℤ pos (10000 * m)) m l w in
     _≡_ {A = Pair} (lowEnd f (windowSum low w (i * w)), highEnd f (windowSum high w (i * w))) (rangeOf kind (at q) m l w i)
 range-is {kind} {q} l w i h r fits =
     let c = r .curve-is .same in
-    rw (total-is h r, r .spread, low-sum (i * w) w c (r .envelopes) fits, high-sum (i * w) w c (r .envelopes) fits) (ends-are kind (at q) (length q) l w i)
+    rw (total-is h r, r .spread, low-sum (i * w) w c (r .envelopes) fits, high-sum (i * w) w c (r .envelopes) fits) (ends-are kind (at q) _ l w i)

@@ -14,7 +14,7 @@ small-pick true = small-min
 small-pick false = small-max
 
 root-le : (y k : ℕ) → y ≤ k * k → root y ≤ k
-root-le y k h = le-of-sq-le {x = root y} {r = k} (omega (arith, root-is y .low))
+root-le y k h = le-of-sq-le (omega (arith, root-is y .low))
 
 pub product-le : (w E : ℕ) → w ≤ 256 → E ≤ 1000000000000 → w * E ≤ 256000000000000
 product-le w E h k = omega (arith, mul-le-mul h k)
@@ -29,10 +29,10 @@ pub scaled-le : (A a : ℕ) → A ≤ 419430400000000 → a ≤ 100 → a * a * 
 scaled-le A a h k = omega (arith, mul-le-mul (square-le a k) h)
 
 pub low-scale-le : (A a : ℕ) → A ≤ 419430400000000 → lowScale A a ≤ 204800000
-low-scale-le A a h = root-le (100 * A / (a * a)) 204800000 (omega (arith, div-le-self (100 * A) (a * a)))
+low-scale-le A a h = root-le _ 204800000 (omega (arith, div-le-self (100 * A) (a * a)))
 
 pub high-scale-le : (A a : ℕ) → A ≤ 419430400000000 → a ≤ 100 → root (a * a * A / 100) ≤ 204800000
-high-scale-le A a h k = root-le (a * a * A / 100) 204800000 (let e = scaled-le A a h k in omega arith)
+high-scale-le A a h k = root-le _ 204800000 (let e = scaled-le A a h k in omega arith)
 
 pub most-le : (m h : ℕ) → m ≤ 1024 → h ≤ 20000 → m * h ≤ 20480000
 most-le m h l k = omega (arith, mul-le-mul l k)
@@ -42,25 +42,25 @@ module _ {m w : ℕ} {l : Limits} {values spread : ℕ} (q : QueryIn m w l value
   total = pos values -ℤ pos (10000 * m)
 
   pub total-small : Small 30720000 total
-  total-small = small-more 30720000 (omega arith) (small-sub (pos values) (pos (10000 * m)) (small-pos 20480000 values (omega (arith, q .values-most, q .most))) (small-pos 10240000 (10000 * m) (omega (arith, q .most))))
+  total-small = small-more 30720000 (omega arith) (small-sub _ _ (small-pos 20480000 values (omega arith)) (small-pos 10240000 (10000 * m) (omega arith)))
 
   shifted : (z : ℤ) → Small 51200000 z → Small 1310720000000 (pos (100 * w) *ℤ z)
-  shifted z h = small-more 1310720000000 (omega arith) (small-mul (pos (100 * w)) z (small-pos 25600 (100 * w) (omega (arith, q .window))) h)
+  shifted z h = small-more 1310720000000 (omega arith) (small-mul _ z (small-pos 25600 _ (omega arith)) h)
 
   most : Small 20480000 (pos (m * l .shift))
-  most = small-pos 20480000 (m * l .shift) (most-le m (l .shift) (q .most) (q .shift))
+  most = small-pos 20480000 _ (most-le m _ (q .most) (q .shift))
 
   pub below-small : Small 51200000 (total -ℤ pos (m * l .shift))
-  below-small = small-sub total (pos (m * l .shift)) total-small most
+  below-small = small-sub total _ total-small most
 
   pub above-small : Small 51200000 (total +ℤ pos (m * l .shift))
-  above-small = small-add total (pos (m * l .shift)) total-small most
+  above-small = small-add total _ total-small most
 
   -- the numbers of a frame have their sizes
   pub frame-in : (kind : Kind) → FrameIn (frameOf kind spread total m l w)
   unfolding frameOf
   frame-in Raw = record {
-    reach = small-pos 16000256 (root (w * l .threshold)) (omega (arith, reach-le w (l .threshold) (q .window) (q .threshold)));
+    reach = small-pos 16000256 _ (omega (arith, reach-le w _ (q .window) (q .threshold)));
     narrow = small-pos 204800001 1 (omega arith);
     wide = small-pos 204800001 1 (omega arith);
     fall = small-pos 1310720000000 0 (omega arith);
@@ -68,12 +68,12 @@ module _ {m w : ℕ} {l : Limits} {values spread : ℕ} (q : QueryIn m w l value
     some = omega arith;
   }
   frame-in Normal = record {
-    reach = small-pos 16000256 (root (w * l .threshold) + w) (omega (arith, reach-le w (l .threshold) (q .window) (q .threshold), q .window));
-    narrow = small-pos 204800001 (lowScale spread (l .scale)) (omega (arith, low-scale-le spread (l .scale) (q .spread-most)));
+    reach = small-pos 16000256 _ (omega (arith, reach-le w _ (q .window) (q .threshold), q .window));
+    narrow = small-pos 204800001 _ (omega (arith, low-scale-le spread (l .scale) (q .spread-most)));
     wide = small-pos 204800001 (highScale spread (l .scale)) (omega (arith, high-scale-le spread (l .scale) (q .spread-most) (q .scale-most)));
     fall = shifted (total -ℤ pos (m * l .shift)) below-small;
     rise = shifted (total +ℤ pos (m * l .shift)) above-small;
-    some = omega (arith, q .some);
+    some = omega arith;
   }
 
 -- ---- a part's numbers
@@ -89,7 +89,7 @@ operands {sum} {reach} h k = (arg-back sum (omega arith) (small-more 40000000000
 -- X or Y is x, as a callee makes it of the machine's bits: what is divided at that end is small, and so the bits of what is told of it are those of the number
 module _ {f : Frame} {sum more x : ℤ} (step : ℤ → ℤ → ℤ) (i : FrameIn f) (h : Small 2560000 sum) (k : Small 1310720000000 more) (s : Small 18560256 (step sum (f .reach))) (e : x ≡ step (toZ w64 (ofZ w64 sum)) (toZ w64 (ofZ w64 (f .reach)))) where
   moved : toZ w64 (ofZ w64 x) ≡ step sum (f .reach)
-  moved = rw (e, small-back sum (omega arith) h, small-back (f .reach) (omega arith) (i .reach)) (small-back (step sum (f .reach)) (omega arith) s)
+  moved = rw (e, small-back sum (omega arith) h, small-back _ (omega arith) (i .reach)) (small-back _ (omega arith) s)
 
   pub asks-dividend : FrameIn f × Small 18560256 (toZ w64 (ofZ w64 x)) × Small 1310720000000 (toZ w64 (ofZ w64 more))
   asks-dividend = (i, rw moved s, arg-back more (omega arith) k)
@@ -106,8 +106,8 @@ module _ {f : Frame} {sum more x : ℤ} (step : ℤ → ℤ → ℤ) (i : FrameI
 
     pub dividend-small : Small 3802451167360256 n
     dividend-small =
-        let z = scaled-small (step sum (f .reach)) (f .narrow) (f .wide) s (i .narrow) (i .wide) in
-        rw dividend-is (small-add (pick low near far) more (small-pick low near far (z .0) (z .1)) k)
+        let z = scaled-small _ _ _ s (i .narrow) (i .wide) in
+        rw dividend-is (small-add _ more (small-pick low near far (z .0) (z .1)) k)
 
     pub dividend-back : toZ w64 (ofZ w64 n) ≡ pick low near far +ℤ more
     dividend-back = rw (small-back n (omega arith) dividend-small) dividend-is

@@ -1,7 +1,6 @@
 -- Laws of specs/Held.
-use Rattle.meaning_numbers.proofs.Prelude.{_≡_, ap, _∙_, List, ℕ, suc, _+_, _*_, _<_, _≤_, arith, mul-le-mul-right, decLt, ℤ, length, set, length-set, getD-set-same, getD-set-other}
+use Rattle.meaning_numbers.proofs.Prelude.{_≡_, _∙_, List, ℕ, suc, _+_, _*_, _<_, _≤_, arith, mul-le-mul-right, decLt, ℤ, length, set, length-set, getD-set-same, getD-set-other}
 use Rattle.candidate_ranges.specs.declared.Frame.{Frame}
-use Rattle.candidate_met.specs.Stored.{raisedEnd}
 use Rattle.candidate_spans.specs.Held.{lowEnds, highEnds, PartsHeld, Stored, EndsReady}
 
 pub stored : (i a b : ℕ) (first last : List ℕ) → i < length first → i < length last → Stored i a b first last (set first i a) (set last i b)
@@ -41,8 +40,8 @@ module _ {i a b : ℕ} {first last first′ last′ : List ℕ} (s : Stored i a 
 -- ranges that agree have the same ends
 pub held-same : {r s : ℕ → ℤ × ℤ} {n : ℕ} {first last : List ℕ} → ((i : ℕ) → i < n → r i ≡ s i) → PartsHeld (lowEnds r) (highEnds r) 0 n first last → PartsHeld (lowEnds s) (highEnds s) 0 n first last
 held-same e h = record {
-  first-at = λ i l u. h .first-at i l u ∙ ap (λ (t : ℤ × ℤ). raisedEnd (t .0)) (e i u);
-  last-at = λ i l u. h .last-at i l u ∙ ap (λ (t : ℤ × ℤ). raisedEnd (t .1)) (e i u);
+  first-at = λ i l u. h .first-at i l u ∙ rw (e i u);
+  last-at = λ i l u. h .last-at i l u ∙ rw (e i u);
 }
 
 -- a part's places

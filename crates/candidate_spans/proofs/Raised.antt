@@ -1,5 +1,5 @@
 -- Laws of specs/Raised.
-use Rattle.meaning_numbers.proofs.Prelude.{_≡_, refl, ap, _∙_, Bool, cond, _&&_, List, ℕ, zero, suc, _+_, _*_, _<_, arith, le-step, ltb, ℤ, natAbs, getD, by-test}
+use Rattle.meaning_numbers.proofs.Prelude.{_≡_, refl, _∙_, Bool, _&&_, List, ℕ, zero, suc, _+_, _*_, _<_, arith, le-step, ltb, ℤ, natAbs, getD, by-test}
 use Rattle.meaning_rows.specs.Index.{Index}
 use Rattle.meaning_filter.specs.Candidates.{admits}
 use Rattle.candidate_counts.specs.Raise.{bump, Raised}
@@ -26,4 +26,4 @@ leading-by x range hit (suc p) j h = rw (h p (omega arith), leading-by x range h
 
 pub counted-all : (x : Index) (range : ℕ → ℤ × ℤ) (hit : ℕ → ℕ → Bool) (offsets p : ℕ) (scratch : List ℕ)
     → ((i j : ℕ) → i < p → hit i j ≡ admits x (range i) (j + i * natAbs (x .window))) → CountedBy hit offsets p scratch → Counted x range offsets p scratch
-counted-all x range hit offsets p scratch h c = record { at = λ j. c .at j ∙ ap (λ (k : ℕ). cond (ltb j offsets) k 0) (leading-by x range hit p j (λ i l. h i j l)) }
+counted-all x range hit offsets p scratch h c = record { at = λ j. c .at j ∙ rw (leading-by x range hit p j (λ i l. h i j l)) }

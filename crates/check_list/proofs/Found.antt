@@ -1,6 +1,6 @@
 -- Laws of specs/Found.
 use Rattle.meaning_numbers.specs.Place.{keep, numbersFrom}
-use Rattle.meaning_numbers.proofs.Prelude.{_≡_, refl, sym, ap, Bool, true, false, cond, List, [], _∷_, _++_, map, append-nil, ℕ, zero, suc, _+_, _-_, _<_, _≤_, arith, add-one, ℤ, length, length-map, getD, take, take-suc}
+use Rattle.meaning_numbers.proofs.Prelude.{_≡_, refl, sym, Bool, true, false, cond, List, [], _∷_, _++_, map, append-nil, ℕ, zero, suc, _+_, _-_, _<_, _≤_, arith, add-one, ℤ, length, length-map, getD, take-suc}
 use Rattle.meaning_curves.specs.Curve.{at, stretch}
 use Rattle.meaning_rows.specs.Index.{Index}
 use Rattle.meaning_filter.specs.{declared.Kind.Kind, declared.Limits.Limits}
@@ -22,11 +22,11 @@ found-among x z = rw (sym (kept-members (candidateAt x z) (offsetCount z)))
 
 map-append : {A B : Type 0} (f : A → B) (l m : List A) → map f (l ++ m) ≡ map f l ++ map f m
 map-append f [] m = refl
-map-append {B = B} f (x ∷ l) m = ap (λ (t : List B). f x ∷ t) (map-append f l m)
+map-append {B = B} f (x ∷ l) m = rw (map-append f l m)
 
 pub found-on : (z : Question) (l m : List ℕ) → found z (l ++ m) ≡ found z l ++ found z m
 unfolding found
-found-on z l m = rw (keep-append (matchesAt z) l m) (map-append (listed z) (keep (matchesAt z) l) (keep (matchesAt z) m))
+found-on z l m = rw (keep-append _ l m) (map-append (listed z) (keep _ l) (keep _ m))
 
 pub found-few : (z : Question) (k n : ℕ) → length (found z (numbersFrom k n)) ≤ n
 unfolding found
@@ -40,7 +40,7 @@ entries-answer false j d f e = refl
 -- one offset
 pub found-one : (kind : Kind) (s q : List ℤ) (l : Limits) (j : ℕ) → entriesOf j (matched kind (stretch s j) (at q) (length q) l) ≡ found (asked kind s q l) (j ∷ [])
 unfolding found keep matched
-found-one kind s q l j = entries-answer (matchesAt (asked kind s q l) j) j (distanceTo kind (stretch s j) (at q) (length q) l) (listed (asked kind s q l)) refl
+found-one kind s q l j = entries-answer (matchesAt (asked kind s q l) j) j (distanceTo kind _ (at q) (length q) l) (listed (asked kind s q l)) refl
 
 pub entries-few : (j : ℕ) (m : Match) → length (entriesOf j m) ≤ 1
 unfolding entriesOf
@@ -67,7 +67,7 @@ run-more kind s q l from j h =
     let z = asked kind s q l in
     let e : j + 1 - from ≡ suc (j - from) = omega arith in
     let f : from + (j - from) ≡ j = omega arith in
-    rw (e, numbers-end from (j - from), f, found-on z (numbersFrom from (j - from)) (j ∷ []), found-one kind s q l j)
+    rw (e, numbers-end from _, f, found-on z _ _, found-one kind s q l j)
 
 -- ---- a turn of the loop over the runs
 
@@ -85,7 +85,7 @@ runs-none z left right = refl
 -- the members of one run more
 one-run : (z : Question) (l : List (ℕ × ℕ)) (x : ℕ × ℕ) → found z (members (l ++ (x ∷ []))) ≡ found z (members l) ++ found z (between x)
 unfolding members
-one-run z l x = rw (members-append l (x ∷ []), append-nil) (found-on z (members l) (between x))
+one-run z l x = rw (members-append l _, append-nil) (found-on z _ _)
 
 pub runs-more : (z : Question) (left right : List ℕ) (i : ℕ) → i < length left → i < length right
     → found z (members (lentRuns left right (i + 1)))
@@ -93,4 +93,4 @@ pub runs-more : (z : Question) (left right : List ℕ) (i : ℕ) → i < length 
 runs-more z left right i g h =
     let P = pairs left right in
     rw (add-one i, take-suc P i (0, 0) (omega (arith, length-pairs left right)), getD-pairs left right i g h)
-    (one-run z (take i P) (getD left i 0, getD right i 0))
+    (one-run z _ (getD left i 0, getD right i 0))

@@ -1,7 +1,7 @@
 -- Laws of specs/Members.
 use Rattle.meaning_numbers.specs.Place.{keep, numbersFrom}
 use Rattle.meaning_numbers.proofs.Prelude.{_≡_, refl, sym, ap, _∙_, Bool, true, false, cond, List, [], _∷_, _++_, append-nil, append-assoc, ℕ, zero, suc, _+_, _-_, _≤_, arith, zero-add, length, by-test}
-use Rattle.meaning_rows.specs.Runs.{before, reach, takeIn, runs}
+use Rattle.meaning_rows.specs.Runs.{reach, takeIn, runs}
 use Rattle.meaning_rows.proofs.Runs.{Apart, Next, runs-apart, runs-next}
 use Rattle.check_list.specs.Members.{between, members}
 
@@ -10,7 +10,7 @@ use Rattle.check_list.specs.Members.{between, members}
 pub numbers-end : (k n : ℕ) → numbersFrom k (suc n) ≡ numbersFrom k n ++ ((k + n) ∷ [])
 unfolding numbersFrom
 numbers-end k zero = let e : k + 0 ≡ k = omega arith in rw e
-numbers-end k (suc n) = let e : k + suc n ≡ suc k + n = omega arith in rw e (ap (λ (l : List ℕ). k ∷ l) (numbers-end (suc k) n))
+numbers-end k (suc n) = let e : k + suc n ≡ suc k + n = omega arith in rw e (rw (numbers-end (suc k) n))
 
 pub length-numbers : (k n : ℕ) → length (numbersFrom k n) ≡ n
 unfolding numbersFrom
@@ -45,18 +45,18 @@ longer : (l r n : ℕ) → l ≤ r → r + 1 ≡ n → between (l, n) ≡ betwee
 longer l r n h e =
     let f : n + 1 - l ≡ suc (r + 1 - l) = omega arith in
     let g : l + (r + 1 - l) ≡ n = omega arith in
-    rw f (numbers-end l (r + 1 - l) ∙ rw g)
+    rw f (numbers-end l _ ∙ rw g)
 
 members-reach : (n a : ℕ) (l : List (ℕ × ℕ)) → Apart n a l → Next true l n → members (reach l n) ≡ members l ++ (n ∷ [])
 unfolding members reach Apart Next
 members-reach n a [] p h = absurd h
-members-reach n a (x ∷ []) p h = rw (longer (x .0) (x .1) n (p .1) h, append-nil (between x ++ (n ∷ [])), append-nil (between x)) refl
-members-reach n a (x ∷ y ∷ l) p h = rw (members-reach n (x .1 + 2) (y ∷ l) (p .3) h) (sym (append-assoc (between x) (members (y ∷ l)) (n ∷ [])))
+members-reach n a (x ∷ []) p h = rw (longer (x .0) (x .1) n (p .1) h, append-nil _, append-nil _) refl
+members-reach n a (x ∷ y ∷ l) p h = rw (members-reach n _ (y ∷ l) (p .3) h) (sym (append-assoc (between x) (members (y ∷ l)) (n ∷ [])))
 
 members-takeIn : (a b : Bool) (l : List (ℕ × ℕ)) (n : ℕ) → Apart n 0 l → Next b l n → members (takeIn a b l n) ≡ members l ++ cond a (n ∷ []) []
 unfolding takeIn members
-members-takeIn false b l n p h = sym (append-nil (members l))
-members-takeIn true false l n p h = members-append l ((n, n) ∷ []) ∙ ap (λ (k : List ℕ). members l ++ k) (append-nil (between (n, n)) ∙ point n)
+members-takeIn false b l n p h = sym (append-nil _)
+members-takeIn true false l n p h = members-append l ((n, n) ∷ []) ∙ rw (append-nil _ ∙ point n)
 members-takeIn true true l n p h = members-reach n 0 l p h
 
 kept-one : (p : ℕ → Bool) (n : ℕ) → keep p (n ∷ []) ≡ cond (p n) (n ∷ []) []
@@ -68,4 +68,4 @@ unfolding keep numbersFrom runs members
 kept-members p zero = refl
 kept-members p (suc n) =
     ap (keep p) (numbers-end 0 n) ∙ keep-append p (numbersFrom 0 n) ((0 + n) ∷ []) ∙ rw (zero-add n, kept-one p n, kept-members p n)
-    (sym (members-takeIn (p n) (before p n) (runs p n) n (runs-apart p n) (runs-next p n)))
+    (sym (members-takeIn (p n) _ _ n (runs-apart p n) (runs-next p n)))

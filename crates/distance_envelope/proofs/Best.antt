@@ -30,7 +30,7 @@ best-one t q {lo} {hi} {i} e f =
 
 -- the same places by other ends
 best-ends : {t : Bool} {q : ℕ → ℤ} {lo hi lo' hi' : ℕ} {z : ℤ} → Best t q lo hi z → lo ≡ lo' → hi ≡ hi' → Best t q lo' hi' z
-best-ends b e f = record { place = b .place; from = omega (arith, b .from); to = omega (arith, b .to); same = b .same; all = λ j h k. b .all j (omega arith) (omega arith) }
+best-ends b e f = record { place = b .place; from = omega arith; to = omega arith; same = b .same; all = λ j h k. b .all j (omega arith) (omega arith) }
 
 -- the same value, and values that are the same at these places
 pub best-same : {t : Bool} {q : ℕ → ℤ} {lo hi : ℕ} {y z : ℤ} → z ≡ y → Best t q lo hi y → Best t q lo hi z
@@ -41,7 +41,7 @@ best-of f b h = record {
   place = b .place;
   from = b .from;
   to = b .to;
-  same = b .same ∙ f (b .place) (omega (arith, b .to));
+  same = b .same ∙ f (b .place) (omega arith);
   all = λ j u v. rw (f j (omega arith)) at (b .all j u v);
 }
 
@@ -54,8 +54,8 @@ best-join {t} {q} {l} {h} {l'} {h'} {x} {y} a b first touch last =
       | no f ↦ out-trans t (pick t x y) y (q j) (p .1) (b .all j (omega arith) v)
     ] in
     ⊎-elim
-    (λ e. record { place = a .place; from = a .from; to = omega (arith, a .to); same = rw e (a .same); all = all })
-    (λ e. record { place = b .place; from = omega (arith, b .from); to = b .to; same = rw e (b .same); all = all })
+    (λ e. record { place = a .place; from = a .from; to = omega arith; same = rw e (a .same); all = all })
+    (λ e. record { place = b .place; from = omega arith; to = b .to; same = rw e (b .same); all = all })
     (pick-one t x y)
 
 -- ---- windows that reach n places ahead, and back
@@ -78,13 +78,13 @@ module _ {t : Bool} {q X : ℕ → ℤ} (m n d : ℕ) (far : d ≤ n + 1) where
 module _ {t : Bool} {q X : ℕ → ℤ} {z : ℤ} (m b i : ℕ) where
   pub best-through : ((j : ℕ) → j < m → Best t q j (min (j + b) (m - 1)) (X j)) → i < m → Best t X (i - b) i z → Best t q (i - b) (min (i + b) (m - 1)) z
   best-through h l y =
-      let x = h (y .place) (omega (arith, y .to)) in
+      let x = h (y .place) (omega arith) in
       let over : (j k : ℕ) → i - b ≤ j → j ≤ i → j ≤ k → k ≤ j + b → k < m → out t z (q k) =
       λ j k u v lo hi in-m. out-trans t z (X j) (q k) (y .all j u v) (h j (omega arith) .all k lo (omega arith)) in
       record {
         place = x .place;
-        from = omega (arith, x .from, y .from);
-        to = omega (arith, x .to, y .to);
+        from = omega arith;
+        to = omega arith;
         same = y .same ∙ x .same;
         all = λ j u v. elim (decLe j i) [
           | yes k ↦ over j j u k (omega arith) (omega arith) (omega arith)
@@ -97,10 +97,10 @@ pub best-edge : (t : Bool) (q : ℕ → ℤ) (m b i : ℕ) {z : ℤ} → i < m �
 best-edge true q m b i {z} l a =
     let e = envelope q m b in
     let o = lower-one q m b i l in
-    let near : Near b i (a .place) = record { first = omega (arith, a .from); second = omega (arith, a .to) } in
-    ≤ℤ-antisym (rw (o .3) (a .all (o .0) (omega (arith, o .2 .first)) (omega (arith, o .1, o .2 .second)))) (rw (a .same) (e .low i (a .place) (omega (arith, a .to)) near))
+    let near : Near b i (a .place) = record { first = omega arith; second = omega arith } in
+    ≤ℤ-antisym (rw (o .3) (a .all (o .0) (omega arith) (omega arith))) (rw (a .same) (e .low i _ (omega arith) near))
 best-edge false q m b i {z} l a =
     let e = envelope q m b in
     let o = upper-one q m b i l in
-    let near : Near b i (a .place) = record { first = omega (arith, a .from); second = omega (arith, a .to) } in
-    ≤ℤ-antisym (rw (a .same) (e .high i (a .place) (omega (arith, a .to)) near)) (rw (o .3) (a .all (o .0) (omega (arith, o .2 .first)) (omega (arith, o .1, o .2 .second))))
+    let near : Near b i (a .place) = record { first = omega arith; second = omega arith } in
+    ≤ℤ-antisym (rw (a .same) (e .high i _ (omega arith) near)) (rw (o .3) (a .all (o .0) (omega arith) (omega arith)))

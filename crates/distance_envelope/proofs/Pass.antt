@@ -18,8 +18,8 @@ pub ahead-pass : {t : Bool} {n d : ℕ} {old mid new : List ℤ} → Ahead t n o
 ahead-pass {t} {n} {d} {old} {mid} a p far = record {
   long = p .long ∙ a .long;
   best = λ i h. elim (decLe (suc (i + d)) (length old)) [
-    | yes k ↦ best-same (p .moved i (omega (arith, a .long))) (ahead-more (length old) n d far (a .best) i k)
-    | no f ↦ best-same (p .kept i (omega (arith, a .long))) (ahead-kept (length old) n d far (a .best) i h (omega arith))
+    | yes k ↦ best-same (p .moved i (omega arith)) (ahead-more _ n d far (a .best) i k)
+    | no f ↦ best-same (p .kept i (omega arith)) (ahead-kept _ n d far (a .best) i h (omega arith))
   ];
 }
 
@@ -27,8 +27,8 @@ pub back-pass : {t : Bool} {n d : ℕ} {old mid new : List ℤ} → Back t n old
 back-pass {t} {n} {d} {old} {mid} a p far = record {
   long = p .long ∙ a .long;
   best = λ i h. elim (decLe d i) [
-    | yes k ↦ best-same (p .moved i (omega (arith, a .long)) k) (back-more (length old) n d far (a .best) i h k)
-    | no f ↦ best-same (p .kept i (omega (arith, a .long)) (omega arith)) (back-kept (length old) n d far (a .best) i h (omega arith))
+    | yes k ↦ best-same (p .moved i (omega arith) k) (back-more _ n d far (a .best) i h k)
+    | no f ↦ best-same (p .kept i (omega arith) (omega arith)) (back-kept _ n d far (a .best) i h (omega arith))
   ];
 }
 
@@ -38,8 +38,8 @@ pub passes-edge : {t : Bool} {b : ℕ} {q copy mid new : List ℤ} → Copied q 
 passes-edge {t} {b} {q} {copy} {mid} c a k = record {
   long = k .long ∙ a .long ∙ c .long;
   at = λ i h.
-      best-edge t (at q) (length q) b i h
-      (best-through (length q) b i (λ j l. best-of (c .at) (rw (c .long) at (a .best j (omega (arith, c .long)))) (omega arith)) h (k .best i (omega (arith, a .long, c .long))));
+      best-edge t (at q) _ b i h
+      (best-through _ b i (λ j l. best-of (c .at) (rw (c .long) at (a .best j (omega arith))) (omega arith)) h (k .best i (omega arith)));
 }
 
 -- ---- a pass that is half made

@@ -15,7 +15,7 @@ use Rattle.distance_query.proofs.Ready.{from-start}
 pub shift-raised : {s q : List ℤ} {p r : ℕ} (from m : ℕ) → AllIn s → AllIn q → p ≡ Σℕ m (λ k. raised (stretch s from k)) → r ≡ Σℕ m (λ k. raised (stretch q 0 k))
     → natAbs (pos p -ℤ pos r) ≡ natAbs (total (stretch s from) m -ℤ total (at q) m)
 shift-raised {q = q} {p} {r} from m h k e f =
-    rw (sym (Σℤ-same m (stretch q 0) (at q) (from-start q m .at)))
+    rw (sym (Σℤ-same m _ (at q) (from-start q m .at)))
     (ap natAbs (rep-eq (rep-sub (rep-pos p) (rep-pos r)) (rep-sub (sum-raised from m h) (sum-raised 0 m k)) (omega arith)))
 
 -- ---- how large a spread gets

@@ -23,10 +23,10 @@ estimate-high {A} {F} g e f some small h =
 -- ---- sizes
 
 factor-le : {A F : ℕ} → 0 < A → IsFactor A F → F ≤ 2147483648
-factor-le {A} {F} some f = le-of-sq-le {x = F} {r = 2147483648} (omega (arith, f .low, mul-le-mul-left (F * F) some))
+factor-le {A} {F} some f = le-of-sq-le (omega (arith, f .low, mul-le-mul-left (F * F) some))
 
 size-le : (A e g : ℕ) → 0 < A → e * e * A ≤ g * g → e ≤ g
-size-le A e g some h = le-of-sq-le {x = e} {r = g} (omega (arith, mul-le-mul-left (e * e) some))
+size-le A e g some h = le-of-sq-le (omega (arith, mul-le-mul-left (e * e) some))
 
 twice : (e : ℕ) → 2 * e ≤ 3 * (e * e)
 twice zero = omega arith
@@ -71,7 +71,7 @@ cut-same : {A t : ℕ} (c : ℤ) → 0 < A → CutOf A (natAbs c) t → t ≡ cu
 cut-same c some h = cut-only (record { low = h .low; high = h .high }) (cut-is c some)
 
 pub cut-small : {A d t : ℕ} → 0 < A → CutOf A d t → t ≤ 100 * d
-cut-small {A} {d} {t} some h = size-le A t (100 * d) some (h .low)
+cut-small {A} {d} {t} some h = size-le A t _ some (h .low)
 
 pub centred-diff : {c : ℤ} {a b : ℕ} → Rep c a b → pos a -ℤ pos b ≡ c
 centred-diff {c} {a} {b} h = rep-eq (rep-sub (rep-pos a) (rep-pos b)) h (omega arith)
@@ -94,23 +94,23 @@ flag-le true = omega arith
 flag-le false = omega arith
 
 pub cut-flag : {A F d e : ℕ} → Estimate A F (100 * d) e → CutOf A d (e + boolByte (leb ((e + 1) * (e + 1) * A) (100 * d * (100 * d))))
-cut-flag {A} {F} {d} {e} s = flag-cut (leb ((e + 1) * (e + 1) * A) (100 * d * (100 * d))) (λ t. cut-next s (leb→le _ _ t)) (λ t. cut-here s (nleb→lt _ _ t))
+cut-flag {A} {F} {d} {e} s = flag-cut (leb ((e + 1) * (e + 1) * A) _) (λ t. cut-next s (leb→le _ _ t)) (λ t. cut-here s (nleb→lt _ _ t))
 
 -- ---- with its sign
 
 pub normal-down : {A t x p : ℕ} (c : ℤ) → Rep c x p → 0 < A → x < p → CutOf A (p - x) t → negℤ (pos t) ≡ normal A c
 unfolding normal
-normal-down (pos n) r some h k = absurd (omega (arith, r .is))
+normal-down (pos n) r some h k = absurd (omega arith)
 normal-down {A} {t} {x} {p} (negsuc n) r some h k =
-    let e : p - x ≡ suc n = omega (arith, r .is) in
-    ap (λ (t : ℕ). negℤ (pos t)) (cut-same (negsuc n) some (rw e at k))
+    let e : p - x ≡ suc n = omega arith in
+    rw (cut-same (negsuc n) some (rw e at k))
 
 pub normal-up : {A t x p : ℕ} (c : ℤ) → Rep c x p → 0 < A → p ≤ x → CutOf A (x - p) t → pos t ≡ normal A c
 unfolding normal
 normal-up {A} {t} {x} {p} (pos n) r some h k =
-    let e : x - p ≡ n = omega (arith, r .is) in
+    let e : x - p ≡ n = omega arith in
     ap pos (cut-same (pos n) some (rw e at k))
-normal-up (negsuc n) r some h k = absurd (omega (arith, r .is))
+normal-up (negsuc n) r some h k = absurd (omega arith)
 
 pub diff : (x p : ℕ) → Rep (pos x -ℤ pos p) x p
 diff x p = rep-by (rep-sub (rep-pos x) (rep-pos p)) (omega arith)

@@ -31,7 +31,7 @@ module _ {s : ℕ → ℤ} {m e : ℕ} {out : List ℤ} (some : 0 < spread s m) 
   made-at k h = getD-take e out k (pos 0) h ∙ t .at k h
 
   pub made-in : AllIn (take e out)
-  made-in = all-in (take e out) (λ k l. let b : k < e = omega (arith, length-take e out) in rw (made-at k b) (value-in s m k some (omega arith) short))
+  made-in = all-in _ (λ k l. let b : k < e = omega (arith, length-take e out) in rw (made-at k b) (value-in s m k some (omega arith) short))
 
   -- what a block adds
   module _ {low high : List ℤ} (i n : ℕ) {r : ℕ} (is : e ≡ i + n) (l : AllIn low) (h : AllIn high) (told : r ≡ Σℕ n (λ k. apart (stretch (take e out) 0) (at low) (at high) (i + k))) where

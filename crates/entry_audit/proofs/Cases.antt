@@ -12,15 +12,15 @@ use Rattle.entry_audit.specs.{declared.AuditPlan.AuditPlan, declared.Row
 module _ (p : AuditPlan) (s : RowsAudited) where
   pub answer-refused : (p .refusal .number ≡ 0 → ⊥) → Audited.Refused (p .refusal .number) (p .refusal .place) ≡ answerOf p s
   unfolding answerOf
-  answer-refused f = rw (ne-eqb (p .refusal .number) 0 f) refl
+  answer-refused f = rw (ne-eqb _ 0 f) refl
 
   pub answer-wrong : p .refusal .number ≡ 0 → s .go ≡ false → Audited.Wrong (s .row) (s .offset) ≡ answerOf p s
   unfolding answerOf
-  answer-wrong e g = rw (eq-eqb (p .refusal .number) 0 e, g) refl
+  answer-wrong e g = rw (eq-eqb _ 0 e, g) refl
 
   pub answer-complete : p .refusal .number ≡ 0 → s .go ≡ true → complete (p .lacking) ≡ answerOf p s
   unfolding answerOf
-  answer-complete e g = rw (eq-eqb (p .refusal .number) 0 e, g) refl
+  answer-complete e g = rw (eq-eqb _ 0 e, g) refl
 
 pub none-lacking : (n : ℕ) → n ≡ 0 → Audited.Yes ≡ complete n
 unfolding complete
@@ -35,7 +35,7 @@ some-lacking (suc n) f = refl
 module _ (c : AuditCall) (p : AuditPlan) (is : p .refusal ≡ refusalOf (auditTable mostValues c)) where
   pub stopped : (s : RowsAudited) → (p .refusal .number ≡ 0 → ⊥) → answerOf p s ≡ auditAnswer c
   unfolding auditAnswer
-  stopped s f = sym (answer-refused p s f) ∙ rw (auditAnswer, refuses (auditTable mostValues c) is f) refl
+  stopped s f = sym (answer-refused p s f) ∙ rw (auditAnswer, refuses _ is f) refl
 
   never-0 : T (lacks 0 (auditTable mostValues c))
   unfolding openLines auditTable lacks
@@ -44,7 +44,7 @@ module _ (c : AuditCall) (p : AuditPlan) (is : p .refusal ≡ refusalOf (auditTa
   -- that refuses nothing
   module _ (z : p .refusal .number ≡ 0) where
     t : AllPass (auditTable mostValues c)
-    t = passes (auditTable mostValues c) never-0 is z
+    t = passes _ never-0 is z
 
     unrefused : firstRefusal (auditTable mostValues c) ≡ none
     unrefused = passed-is t
@@ -63,7 +63,7 @@ module _ (c : AuditCall) (p : AuditPlan) (is : p .refusal ≡ refusalOf (auditTa
 
     pub went-wrong : (k j : ℕ) → firstWrong (c .index) (c .series) ≡ some (k, j) → answerOf p (found (some (k, j))) ≡ auditAnswer c
     unfolding auditAnswer audited found
-    went-wrong k j e = sym (answer-wrong p (found (some (k, j))) z refl) ∙ rw (auditAnswer, unrefused) (rw (audited, e) refl)
+    went-wrong k j e = sym (answer-wrong p _ z refl) ∙ rw (auditAnswer, unrefused) (rw (audited, e) refl)
 
     pub went-right : (s : RowsAudited) → s .go ≡ true → firstWrong (c .index) (c .series) ≡ none → p .lacking ≡ missing (c .index) → answerOf p s ≡ auditAnswer c
     unfolding auditAnswer audited

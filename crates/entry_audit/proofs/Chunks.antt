@@ -77,7 +77,7 @@ module _ (series : List ℤ) (h : Head) (rows : List Row) (left right : List ℕ
   same-from : (n : ℕ) (l : List Row) → wrongOf series (h .window) left right n l ≡ wrongFrom (lent h rows left right) (sums (lent h rows left right) series) n l
   unfolding wrongFrom
   same-from n [] = refl
-  same-from n (r ∷ l) = ap (wrongIn (windowSum series (h .window)) n r (offsets (runsOf (onlyRuns left right) r))) (same-from (suc n) l)
+  same-from n (r ∷ l) = ap (wrongIn _ n r _) (same-from (suc n) l)
 
   pub same-wrong : wrongOf series (h .window) left right 0 rows ≡ firstWrong (lent h rows left right) series
   unfolding firstWrong
@@ -95,10 +95,10 @@ runs-say windows left right end hl hr (suc m) i least e g t a b =
     let y = getD right i 0 in
     let q = part left right (i + 1) end in
     let g′ : (leb least x && (leb x y && (ltb y windows && runsGood (pos windows) (pos (y + 2)) q))) ≡ true =
-    subst (λ (l : List (ℤ × ℤ)). runsGood (pos windows) (pos least) l ≡ true) (part-next left right i end (omega arith) hl hr) g in
+    rw (part-next left right i end (omega arith) hl hr) at g in
     let c = both (leb least x) (leb x y && (ltb y windows && runsGood (pos windows) (pos (y + 2)) q)) g′ in
     let d = both (leb x y) (ltb y windows && runsGood (pos windows) (pos (y + 2)) q) (c .1) in
-    let f = both (ltb y windows) (runsGood (pos windows) (pos (y + 2)) q) (d .1) in
+    let f = both (ltb y windows) _ (d .1) in
     elim (decLe (suc i) t) [
       | yes k ↦ runs-say windows left right end hl hr m (i + 1) (y + 2) (omega arith) (f .1) t (omega arith) b
       | no k ↦ let s : i ≡ t = omega arith in subst (λ (t : ℕ). (getD left t 0 ≤ getD right t 0) × (getD right t 0 < windows)) s (leb-true x y (d .0), ltb-true y windows (f .0))
@@ -111,22 +111,22 @@ module _ (series : List ℤ) (h : Head) (rows : List Row) (left right : List ℕ
   pub good-reads : (r : Row) → GoodRow X r → Reads (length series) (h .window) left right r
   good-reads r g =
       let e = length-entries left right in
-      let hl : r .first + r .runs ≤ length left = omega (arith, g .fits, e) in
-      let hr : r .first + r .runs ≤ length right = omega (arith, g .fits, e) in
+      let hl : r .first + r .runs ≤ length left = omega (arith, e) in
+      let hr : r .first + r .runs ≤ length right = omega (arith, e) in
       let n : r .first + r .runs - r .first ≡ r .runs = omega arith in
       let good : runsGood (pos (h .windows)) (pos 0) (part left right (r .first) (r .first + r .runs)) ≡ true = rw n (runs-good (h .windows) 0 (runsOf X r) (g .good)) in
       record {
         in-left = hl;
         in-right = hr;
         upward = λ i a b. runs-say (h .windows) left right (r .first + r .runs) hl hr (r .runs) (r .first) 0 refl good i a b .0;
-        inside = λ i a b. let s = runs-say (h .windows) left right (r .first + r .runs) hl hr (r .runs) (r .first) 0 refl good i a b .1 in omega (arith, s, fits);
+        inside = λ i a b. let s = runs-say (h .windows) left right (r .first + r .runs) hl hr (r .runs) (r .first) 0 refl good i a b .1 in omega (arith, s);
       }
 
   zero-reads : Reads (length series) (h .window) left right zeroRow
   zero-reads = record { in-left = omega arith; in-right = omega arith; upward = λ i a b. absurd (omega arith); inside = λ i a b. absurd (omega arith) }
 
   pub chunk-reads : WellFormed X → (from k : ℕ) → k < 64 → Reads (length series) (h .window) left right (getD (chunkOf rows from) k zeroRow)
-  chunk-reads f from k b = subst (Reads (length series) (h .window) left right) (sym (chunk-at rows from k b)) (elim (decLe (suc (from + k)) (length rows)) [
+  chunk-reads f from k b = subst (Reads _ (h .window) left right) (sym (chunk-at rows from k b)) (elim (decLe (suc (from + k)) (length rows)) [
     | yes l ↦ good-reads (getD rows (from + k) zeroRow) (row-at X f zeroRow (from + k) l)
-    | no n ↦ subst (Reads (length series) (h .window) left right) (sym (List·getD-eq-default rows zeroRow {n = from + k} (omega arith))) zero-reads
+    | no n ↦ subst (Reads _ (h .window) left right) (sym (List·getD-eq-default rows zeroRow (omega arith))) zero-reads
   ])

@@ -42,8 +42,8 @@ module _ (series : List ℤ) (h : Head) (rows : List Row) (left right : List ℕ
 
   starts-at : Auditing (began thePlan) 0
   starts-at = record {
-    on = λ t. record { free = eqb-true (thePlan .refusal .number) 0 t; left-over = same-wrong series h rows left right };
-    off = λ f. stopped call thePlan plan-is (began thePlan) (eqb-false (thePlan .refusal .number) 0 f);
+    on = λ t. record { free = eqb-true _ 0 t; left-over = same-wrong series h rows left right };
+    off = λ f. stopped call thePlan plan-is _ (eqb-false _ 0 f);
   }
 
   ready-at : (s : RowsAudited) (from : ℕ) → from + 64 < 2 ^ 64 → Auditing s from → s .go ≡ true → Ready series h left right (chunkOf rows from) from
@@ -131,7 +131,7 @@ module _ (series : List ℤ) (h : Head) (rows : List Row) (left right : List ℕ
   auditing-ends {s} {from} a l = by-test (s .go)
       (λ e.
       let g = a .on e in
-      let r : firstWrong X series ≡ none = sym (g .left-over) ∙ none-after from l in
+      let r = sym (g .left-over) ∙ none-after from l in
       let f = formed call thePlan plan-is (g .free) in
       went-right call thePlan plan-is (g .free) s e r (lacking-is f ∙ omega (arith, missing-are X series f r)))
       (λ f. a .off f)
@@ -145,11 +145,11 @@ module _ (series : List ℤ) (h : Head) (rows : List Row) (left right : List ℕ
   answers {p} s {a} is-p is-a e = audit-kept call a (is-a ∙ ap (λ (p : AuditPlan). answerOf p s) is-p ∙ e)
 
   pub chunk-fits : (from : ℕ) → from < length rows → length rows * 16 < 2 ^ 63 → from + 64 < 2 ^ 64
-  chunk-fits from less room = omega (arith, less, room)
+  chunk-fits from less room = omega arith
 
   -- the next chunk begins at most 64 records past the end
   pub chunk-nearer : (from : ℕ) → from < length rows → length rows + 64 - (from + 64) < length rows + 64 - from
-  chunk-nearer from less = omega (arith, less)
+  chunk-nearer from less = omega arith
 
   module _ {s : RowsAudited} {from : ℕ} {c : List Row} (a : Auditing s from) (is-c : c ≡ chunkOf rows from) where
     pub auditing-ready : from + 64 < 2 ^ 64 → s .go ≡ true → Ready series h left right c from

@@ -1,7 +1,7 @@
 -- The turns of the loops over a chunk's rows, their runs and the offsets of a run: what is filed wrongly first among what is left. A row begins (`row-begins`) and ends (`row-ends`), a run begins (`run-begins`) and ends (`run-ends`),
 -- an offset is filed right (`filed-right`) or wrongly (`filed-wrong`), and where no row is left none is (`none-left`).
 use Rattle.meaning_numbers.specs.Place.{numbersFrom}
-use Rattle.meaning_numbers.proofs.Prelude.{_≡_, refl, sym, ap, _∙_, Bool, true, false, cond, List, [], _∷_, _++_, Option, none, some, ℕ, suc, _+_, _-_, _<_, _≤_, arith, ℤ, length, getD, drop, drop-of-length-le}
+use Rattle.meaning_numbers.proofs.Prelude.{_≡_, refl, sym, ap, _∙_, Bool, true, false, List, [], _∷_, _++_, Option, none, some, ℕ, suc, _+_, _-_, _<_, _≤_, arith, ℤ, length, getD, drop, drop-of-length-le}
 use Rattle.meaning_curves.specs.Curve.{windowSum}
 use Rattle.meaning_rows.specs.{declared.Row.Row, declared.Head.Head, Range.inside, Audit.offsets, Audit.wrongIn, Audit.wrongFrom}
 use Rattle.rows_records.specs.Records.{zeroRow}
@@ -80,11 +80,11 @@ module _ (series : List ℤ) (w : ℕ) (left right : List ℕ) where
 module _ (series : List ℤ) (h : Head) (left right : List ℕ) (s : RowsAudited) (from : ℕ) (chunk : List Row) where
   pub chunk-off : s .go ≡ false → s ≡ chunked series h left right s from chunk
   unfolding chunked
-  chunk-off e = sym (ap (λ (t : Bool). cond t (found (wrongOf series (h .window) left right from chunk)) s) e)
+  chunk-off e = sym (rw e)
 
   pub chunk-found : s .go ≡ true → (o : Option (ℕ × ℕ)) → o ≡ wrongOf series (h .window) left right from chunk → found o ≡ chunked series h left right s from chunk
   unfolding chunked
-  chunk-found e o p = ap found p ∙ sym (ap (λ (t : Bool). cond t (found (wrongOf series (h .window) left right from chunk)) s) e)
+  chunk-found e o p = ap found p ∙ sym (rw e)
 
 pub still-found : (go : Bool) (row offset : ℕ) → Still go row offset → record { go = go; row = row; offset = offset } ≡ found none
 unfolding found

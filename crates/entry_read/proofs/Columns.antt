@@ -49,19 +49,19 @@ module _ (left right : List ℕ) where
   tells Field.Up z g o = rw o refl
   tells Field.Left z g o = refl
   tells Field.Right z g o =
-      let a : allRuns (map rowSaid (g .rows)) ++ (g .runs ++ ((g .left, z) ∷ [])) ≡ entriesOf g ++ ((g .left, z) ∷ []) = sym (append-assoc (allRuns (map rowSaid (g .rows))) (g .runs) ((g .left, z) ∷ [])) in
+      let a = sym (append-assoc (allRuns (map rowSaid (g .rows))) (g .runs) ((g .left, z) ∷ [])) in
       rw (a, length-append (entriesOf g) ((g .left, z) ∷ []), column-more (λ e. held (e .0)) left (entriesOf g) (g .left, z), column-more (λ e. held (e .1)) right (entriesOf g) (g .left, z)) refl
 
   closed-same : (g : Said) → entriesOf (closed g) ≡ entriesOf g
   unfolding allRuns
   closed-same g =
-      append-nil (allRuns (map rowSaid (closed g .rows)))
+      append-nil _
       ∙ ap allRuns (map-append rowSaid (g .rows) ((g .low, (g .up, g .runs)) ∷ []))
       ∙ runs-append (map rowSaid (g .rows)) (rowSaid (g .low, (g .up, g .runs)) ∷ [])
       ∙ ap (λ (l : List Entry). allRuns (map rowSaid (g .rows)) ++ l) (append-nil (g .runs))
 
   shuts : (g : Said) → columnsOf (closed g) ≡ shutColumns (columnsOf g)
-  shuts g = ap (λ (l : List Entry). record { left = held (g .left); count = length l; lefts = sets left 0 (heldLefts l); rights = sets right 0 (heldRights l) }) (closed-same g)
+  shuts g = rw (closed-same g)
 
   abbrev outOf : Columns → List ℕ × List ℕ
   outOf t = (t .lefts, t .rights)
@@ -72,7 +72,7 @@ module _ (left right : List ℕ) where
   ended : (g : Said) → g .runs ≡ [] → outOf (columnsOf g) ≡ say (value g)
   unfolding indexSaid
   ended g o =
-      let e : entriesOf g ≡ allRuns (map rowSaid (g .rows)) = ap (λ (l : List Entry). allRuns (map rowSaid (g .rows)) ++ l) o ∙ append-nil (allRuns (map rowSaid (g .rows))) in
+      let e = ap (λ (l : List Entry). allRuns (map rowSaid (g .rows)) ++ l) o ∙ append-nil (allRuns _) in
       ap (λ (l : List Entry). (sets left 0 (heldLefts l), sets right 0 (heldRights l))) e
 
   start-is : columnsOf nothingSaid ≡ startColumns left right
@@ -92,7 +92,7 @@ module _ (left right : List ℕ) where
   pub filled-by : (t : List ℕ) (x : Columns) → ReadTo t ≡ fine x → FilledRuns t left right (x .lefts) (x .rights)
   unfolding FilledRuns
   filled-by t x e v h =
-      let q : fine (outOf x) ≡ fine (say v) = sym (ap (verdictOf outOf) e) ∙ text-columns t ∙ ap (verdictOf say) h in
+      let q = sym (ap (verdictOf outOf) e) ∙ text-columns t ∙ ap (verdictOf say) h in
       let s = fine-same q in
       (ap (λ (y : List ℕ × List ℕ). y .0) s, ap (λ (y : List ℕ × List ℕ). y .1) s)
     where
@@ -117,7 +117,7 @@ pub record Filling (text left₀ right₀ left right : List ℕ) (s : State) (l 
   pub right-long : length right ≡ length right₀
 
 pub filling-start : (text left right : List ℕ) → Filling text left right left right (start .state) 0 0 0
-filling-start text left right = record { kept = kept-start tellColumns shutColumns (startColumns left right) text; count = omega arith; left-long = refl; right-long = refl }
+filling-start text left right = record { kept = kept-start tellColumns shutColumns _ text; count = omega arith; left-long = refl; right-long = refl }
 
 -- a run of numbers that are held as they are
 pub run-stored : (a b : ℕ) (t : Columns) → a < 2 ^ 32 → b < 2 ^ 32 → tellColumns Field.Right (pos b) (tellColumns Field.Left (pos a) t) ≡ runStored a b (t .count) (t .lefts) (t .rights)
@@ -141,7 +141,7 @@ module _ (text left₀ right₀ : List ℕ) where
   Fill s t i = Filling text left₀ right₀ (t .lefts) (t .rights) s (t .left) (t .count) i
 
   to : (s : State) (t : Columns) (i : ℕ) → Fill s t i → i < length text → (n : State) → indexStep s (getD text i 0) ≡ Moved.To n → Fill n t (i + 1)
-  to s t i r h n e = record { kept = kept-to tellColumns shutColumns at-start text s t i (r .kept) h n e; count = omega (arith, r .count); left-long = r .left-long; right-long = r .right-long }
+  to s t i r h n e = record { kept = kept-to tellColumns shutColumns at-start text s t i (r .kept) h n e; count = omega arith; left-long = r .left-long; right-long = r .right-long }
 
   value-to : (s : State) (t : Columns) (i : ℕ) → Fill s t i → i < length text → (n : State) (p : Field) (z : ℤ) → indexStep s (getD text i 0) ≡ Moved.Value n p z → Fill n (tellColumns p z t) (i + 1)
   unfolding tellColumns
@@ -179,7 +179,7 @@ module _ (text left₀ right₀ : List ℕ) where
     pub filling-closed : (n : State) (j : ℕ) → EventAt text s i (Event.Closed n j) → Filling text left₀ right₀ left right n l k j
     filling-closed n j e =
         let q = quiet (e .quiet) in
-        rw (e .next) (record { kept = kept-closed tellColumns shutColumns at-start text (e .last) here (e .place) (q .kept) (e .inside) n (e .ends); count = omega (arith, q .count); left-long = r .left-long; right-long = r .right-long })
+        rw (e .next) (record { kept = kept-closed tellColumns shutColumns at-start text (e .last) here (e .place) (q .kept) (e .inside) n (e .ends); count = omega arith; left-long = r .left-long; right-long = r .right-long })
 
     pub filling-refuse : (n : State) (j : ℕ) → EventAt text s i (Event.Refuse n j) → FilledRuns text left₀ right₀ left right
     filling-refuse n j e = filled-none left₀ right₀ text j left right (kept-refuse tellColumns shutColumns at-start text n here j (quiet (e .0) .kept) (e .1) (e .2))

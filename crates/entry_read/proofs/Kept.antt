@@ -46,10 +46,10 @@ record Outcome (t : List ℕ) (b : IndexBuffers) (p : ReadPlan) : Type 0 where
 refused : (t : List ℕ) (b : IndexBuffers) (r : Refusal) → (r .number ≡ 0 → ⊥) → r ≡ refusalOf (loadTable t b) → Outcome t b (refusedPlan r (length (b .rows)))
 unfolding planAnswer loadAnswer loadAfter columnAfter
 refused t b r h is =
-    let e = refuses (loadTable t b) is h in
+    let e = refuses _ is h in
     record {
       answer = rw (e, ne-eqb (r .number) 0 h, loadAnswer) refl;
-      rows = stored-none t (zerosFrom (length (b .rows)) (b .rows)) ∙ none-zeros (b .rows) ∙ rw (e, loadAfter) refl;
+      rows = stored-none t _ ∙ none-zeros (b .rows) ∙ rw (e, loadAfter) refl;
       left = rw (e, ne-eqb (r .number) 0 h, loadAfter) refl;
       right = rw (e, ne-eqb (r .number) 0 h, loadAfter) refl;
     }
@@ -64,7 +64,7 @@ column : (new old : List ℕ) → length new ≤ length old → sets (replicate 
 unfolding filled
 column new old h =
     let e : 0 + length new ≡ length new = omega arith in
-    sets-eq new (replicate (length old) 0) 0 (omega (arith, length-replicate {A = ℕ} (length old) 0, h)) ∙ rw (e, drop-zeros (length new) (length old)) refl
+    sets-eq new _ 0 (omega (arith, length-replicate {A = ℕ} (length old) 0, h)) ∙ rw (e, drop-zeros (length new) (length old)) refl
 
 -- a text that cannot be read
 unread : (t : List ℕ) (b : IndexBuffers) (q : ℕ) → readText indexForm t ≡ unfit q → record { number = 12; place = lineOf t q } ≡ refusalOf (loadTable t b)
@@ -99,7 +99,7 @@ module _ (t : List ℕ) (b : IndexBuffers) (v : Value indexForm) (e : readText i
 
   refusal-is : r ≡ refusalOf (loadTable t b)
   unfolding rowsTable loadTable
-  refusal-is = ap asRefusal (same-behind (judgedLine (judgedRows h c) ∷ []) _ _ (λ p. ap firstRefusal (same-room p))) ∙ rw (judged-line X (judgedRows h c) (rows-judged v), ← text-fine t v e) (sym (place-none (unreadable indexForm 0 t) _ can-read))
+  refusal-is = ap asRefusal (same-behind _ _ _ (λ p. ap firstRefusal (same-room p))) ∙ rw (judged-line X _ (rows-judged v), ← text-fine t v e) (sym (place-none _ _ can-read))
 
   never-0 : T (lacks 0 (loadTable t b))
   unfolding openLines loadTable lacks
@@ -134,21 +134,21 @@ module _ (t : List ℕ) (b : IndexBuffers) (v : Value indexForm) (e : readText i
 
     rows-fit : length (X .rows) ≤ length (b .rows)
     unfolding openLines loadTable
-    rows-fit = omega (arith, room-line (length (b .rows)) (length (textIndex t .rows)) (passed-line passed 23), ap (λ (x : Index). length (x .rows)) (text-fine t v e))
+    rows-fit = omega (arith, room-line _ (length (textIndex t .rows)) (passed-line passed 23), ap (λ (x : Index). length (x .rows)) (text-fine t v e))
 
     runs-fit : length (X .runs) ≤ runRoom b
     unfolding openLines loadTable
-    runs-fit = omega (arith, room-line (runRoom b) (length (textIndex t .runs)) (passed-line (passed-behind passed 23) 23), ap (λ (x : Index). length (x .runs)) (text-fine t v e))
+    runs-fit = omega (arith, room-line (runRoom b) _ (passed-line (passed-behind passed 23) 23), ap (λ (x : Index). length (x .runs)) (text-fine t v e))
 
     rows-right : stored t (c .rows) (zerosFrom (c .rows) (b .rows)) ≡ filled zeroRow (X .rows) (b .rows)
     unfolding filled indexSaid
     rows-right = rows-filled t v e (good .0) (good .1) (c .rows) (b .rows) (counts .0) rows-fit
 
     left-right : sets (replicate (length (b .left)) 0) 0 (heldLefts (X .runs)) ≡ filled 0 (lefts (X .runs)) (b .left)
-    left-right = ap (sets (replicate (length (b .left)) 0) 0) (runs-held v (good .0) (good .1) .0) ∙ column (lefts (X .runs)) (b .left) (omega (arith, length-map (X .runs) (λ (x : Entry). natAbs (x .0)), runs-fit))
+    left-right = ap (sets (replicate (length (b .left)) 0) 0) (runs-held v (good .0) (good .1) .0) ∙ column _ (b .left) (omega (arith, length-map (X .runs) (λ (x : Entry). natAbs (x .0)), runs-fit))
 
     right-right : sets (replicate (length (b .right)) 0) 0 (heldRights (X .runs)) ≡ filled 0 (rights (X .runs)) (b .right)
-    right-right = ap (sets (replicate (length (b .right)) 0) 0) (runs-held v (good .0) (good .1) .1) ∙ column (rights (X .runs)) (b .right) (omega (arith, length-map (X .runs) (λ (x : Entry). natAbs (x .1)), runs-fit))
+    right-right = ap (sets (replicate (length (b .right)) 0) 0) (runs-held v (good .0) (good .1) .1) ∙ column _ (b .right) (omega (arith, length-map (X .runs) (λ (x : Entry). natAbs (x .1)), runs-fit))
 
     runs-are : textRuns t ≡ X .runs
     runs-are = ap (λ (x : Index). x .runs) (text-fine t v e)
@@ -158,8 +158,8 @@ module _ (t : List ℕ) (b : IndexBuffers) (v : Value indexForm) (e : readText i
     loaded = record {
       answer = rw (eq-eqb (r .number) 0 z, none-refuses, loadAnswer, text-fine t v e, ← head-right, ← counts .0, ← counts .1) refl;
       rows = rows-right ∙ rw (none-refuses, loadAfter, text-fine t v e) refl;
-      left = rw (eq-eqb (r .number) 0 z) (ap (sets (replicate (length (b .left)) 0) 0) (ap heldLefts runs-are) ∙ left-right ∙ rw (none-refuses, loadAfter, text-fine t v e) refl);
-      right = rw (eq-eqb (r .number) 0 z) (ap (sets (replicate (length (b .right)) 0) 0) (ap heldRights runs-are) ∙ right-right ∙ rw (none-refuses, loadAfter, text-fine t v e) refl);
+      left = rw (eq-eqb (r .number) 0 z) (ap (sets _ 0) (ap heldLefts runs-are) ∙ left-right ∙ rw (none-refuses, loadAfter, text-fine t v e) refl);
+      right = rw (eq-eqb (r .number) 0 z) (ap (sets _ 0) (ap heldRights runs-are) ∙ right-right ∙ rw (none-refuses, loadAfter, text-fine t v e) refl);
     }
 
   by-refusal : Outcome t b (fitPlan h c (length (b .rows)) (runRoom b))
@@ -181,7 +181,7 @@ pub record Inside (p : ReadPlan) (room : ℕ) : Type 0 where
 fit-inside : (h : Head) (c : Rows) (rows runs : ℕ) → Inside (fitPlan h c rows runs) rows
 unfolding openLines lacks rowsTable fitPlan
 fit-inside h c rows runs =
-    let n = refusalOf (rowsTable h c rows runs) .number in
+    let n = refusalOf _ .number in
     by-test (eqb n 0)
     (λ f. let l = room-line rows (c .rows) (passed-line (passes (rowsTable h c rows runs) tt refl (eqb-true n 0 f)) 23) in rw f (record { rows = l; from = l }))
     (λ f. rw f (record { rows = omega arith; from = omega arith }))
@@ -190,7 +190,7 @@ pub plan-inside : (t : List ℕ) (rows runs : ℕ) → Inside (planFor t rows ru
 unfolding planScanned
 plan-inside t rows runs =
     on-verdict (readText indexForm t)
-    (λ v e. rw e (fit-inside (headHeld v) (rowsFrom (headHeld v) noRows (v .1 .1 .1)) rows runs))
+    (λ v e. rw e (fit-inside (headHeld v) _ rows runs))
     (λ q e. rw e (record { rows = omega arith; from = omega arith }))
 
 -- the entry keeps its promise
@@ -201,7 +201,7 @@ load-right t rows rows' left right left' right' p a l r s =
     let o = outcome t b in
     let q = l .planned in
     load-kept t b a (record { rows = rows'; left = left'; right = right' }) (s ∙ ap planAnswer q ∙ o .answer)
-    (same-buffers (loadAfter t b) rows' left' right' (r ∙ ap (λ (x : ReadPlan). stored t (x .rows) (zerosFrom (x .from) rows)) q ∙ o .rows) (l .lefts ∙ ap (λ (x : ReadPlan). columnAfter (x .refusal .number) (heldLefts (textRuns t)) left) q ∙ o .left) (l .rights ∙ ap (λ (x : ReadPlan). columnAfter (x .refusal .number) (heldRights (textRuns t)) right) q ∙ o .right))
+    (same-buffers _ rows' left' right' (r ∙ ap (λ (x : ReadPlan). stored t (x .rows) (zerosFrom (x .from) rows)) q ∙ o .rows) (l .lefts ∙ ap (λ (x : ReadPlan). columnAfter (x .refusal .number) (heldLefts (textRuns t)) left) q ∙ o .left) (l .rights ∙ ap (λ (x : ReadPlan). columnAfter (x .refusal .number) (heldRights (textRuns t)) right) q ∙ o .right))
   where
     same-buffers : (x : IndexBuffers) (rows : List Row) (left right : List ℕ) → rows ≡ x .rows → left ≡ x .left → right ≡ x .right → record { rows = rows; left = left; right = right } ≡ x
     same-buffers x rows left right e f g = λ i. record { rows = e i; left = f i; right = g i }

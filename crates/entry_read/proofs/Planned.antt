@@ -6,7 +6,7 @@ use mathlib.Core.List.{List}
 use mathlib.Core.Path.{_≡_, refl, sym, ap, _∙_}
 use native.Mathlib.Omega.{arith}
 use Rattle.meaning_rows.specs.Index.{Index}
-use Rattle.meaning_text.specs.{Form.Value, Read.Verdict, Read.fine, Read.unfit, Read.readText, Texts.indexForm, Texts.indexSaid}
+use Rattle.meaning_text.specs.{Form.Value, Read.Verdict, Read.fine, Read.unfit, Read.readText, Texts.indexForm}
 use Rattle.meaning_entries.proofs.Again.{text-fine}
 use Rattle.entry_read.specs.{declared.ReadPlan.ReadPlan, Plan.planScanned, Plan.planFor, Plan.textRuns, Plan.heldLefts, Plan.heldRights, Plan.columnAfter, Runs.FilledRuns}
 
@@ -17,7 +17,7 @@ on-verdict (unfit p) f g = g p refl
 pub readable : (t : List ℕ) (rows runs : ℕ) → planFor t rows runs .refusal .number ≡ 0 → (v : Value indexForm) × (readText indexForm t ≡ fine v)
 unfolding planScanned
 readable t rows runs h =
-    on-verdict (readText indexForm t)
+    on-verdict _
     (λ v e. (v, e))
     (λ p e. let q : 12 ≡ 0 = rw e at h in absurd (omega arith))
 
@@ -31,7 +31,7 @@ module _ (t left right : List ℕ) (p : ReadPlan) (rows runs : ℕ) (e : p ≡ p
   pub column-filled : (left' ≡ columnAfter (p .refusal .number) (heldLefts (textRuns t)) left) × (right' ≡ columnAfter (p .refusal .number) (heldRights (textRuns t)) right)
   unfolding columnAfter FilledRuns
   column-filled =
-      let v = readable t rows runs (sym (ap (λ (q : ReadPlan). q .refusal .number) e) ∙ h) in
+      let v = readable t rows runs (sym (rw e) ∙ h) in
       let g = f (v .0) (v .1) in
-      let r : textRuns t ≡ indexSaid (v .0) .runs = ap (λ (x : Index). x .runs) (text-fine t (v .0) (v .1)) in
-      rw (eq-eqb (p .refusal .number) 0 h, r, ← a, ← b) (g .0, g .1)
+      let r = ap (λ (x : Index). x .runs) (text-fine t (v .0) (v .1)) in
+      rw (eq-eqb _ 0 h, r, ← a, ← b) (g .0, g .1)

@@ -24,7 +24,7 @@ pub spelled-only : {store : Bool} {old l : List ℕ} {from to : ℕ} → store �
 spelled-only e p = rw e (spelled-counted p)
 
 pub spelled-then : {store : Bool} {a b c l m : List ℕ} {i j k : ℕ} → Spelled store a i l b j → Spelled store b j m c k → Spelled store a i (l ++ m) c k
-spelled-then {store = true} {l = l} {m = m} p q = spelled-put (put-then {l = l} {m = m} (record { holds = p .holds; ends = p .ends }) (record { holds = q .holds; ends = q .ends }))
+spelled-then {store = true} {l = l} {m = m} p q = spelled-put (put-then {l = l} (record { holds = p .holds; ends = p .ends }) (record { holds = q .holds; ends = q .ends }))
 spelled-then {store = false} {l = l} {m = m} p q = record { holds = q .holds ∙ p .holds; ends = omega (arith, p .ends, q .ends, ap length (p .holds), length-append l m) }
 
 pub ended-stored : {store : Bool} {old l mid new : List ℕ} {from to : ℕ} → store ≡ true → Put old from l mid to → new ≡ clearedFrom to mid → Ended store old from l new to
@@ -36,10 +36,10 @@ ended-only e p = rw e (record { holds = refl; ends = p .ends })
 -- a text and then its end
 pub spelled-ended : {store : Bool} {a b c l m : List ℕ} {i j k : ℕ} → Spelled store a i l b j → Ended store b j m c k → Ended store a i (l ++ m) c k
 spelled-ended {store = true} {b = b} {l = l} {m = m} {j = j} {k = k} p q =
-    let s = spelled-then {l = l} {m = m} p (record { holds = refl; ends = q .ends }) in
+    let s = spelled-then p (record { holds = refl; ends = q .ends }) in
     record { holds = q .holds ∙ ap (clearedFrom k) (s .holds); ends = s .ends }
 spelled-ended {store = false} {b = b} {l = l} {m = m} {j = j} {k = k} p q =
-    let s = spelled-then {l = l} {m = m} p (record { holds = refl; ends = q .ends }) in
+    let s = spelled-then p (record { holds = refl; ends = q .ends }) in
     record { holds = q .holds ∙ p .holds; ends = s .ends }
 
 -- ---- the loop over the row records

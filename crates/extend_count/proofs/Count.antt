@@ -1,5 +1,5 @@
 -- Laws of specs/Count.
-use Rattle.meaning_numbers.proofs.Prelude.{_≡_, refl, sym, ap, _∙_, subst, true, false, List, ℕ, zero, suc, _+_, _-_, _<_, _≤_, arith, decLt, leb, eqb, ℤ, length, getD, set, length-set, getD-set-same, getD-set-other, leb-true, ltb-true, le-leb, lt-leb, lt-ltb, eqb-true, eqb-false, ne-eqb, by-test, both, clash}
+use Rattle.meaning_numbers.proofs.Prelude.{_≡_, refl, sym, ap, _∙_, subst, true, false, List, ℕ, zero, suc, _+_, _-_, _<_, _≤_, arith, decLt, ℤ, length, getD, set, length-set, getD-set-same, getD-set-other, leb-true, ltb-true, le-leb, lt-leb, lt-ltb, eqb-true, eqb-false, ne-eqb, by-test, both, clash}
 use Rattle.meaning_rows.specs.Runs.{before, runCount}
 use Rattle.meaning_rows.proofs.{Runs.before-none, Runs.before-more, Parts.stay-runs, Columns.runCount-none}
 use Rattle.sums_slide.specs.{Levels.level, Levels.windowsOf, Levels.within, Change.Stop, Change.RowRun}
@@ -36,25 +36,25 @@ module _ (s : List ℤ) (w e old : ℕ) (ups : List ℕ) (n : ℕ) where
   pub counted-starts : (counts : List ℕ) → Counted s w e old ups n counts old counts
   counted-starts counts = record {
     count = λ i l. let z : 0 + old ≡ old = omega arith in
-        let none : runCount (isRow row i) old ≡ 0 = rw z at (ap length (stay-runs (isRow row i) 0 old (λ j a b. none-old i j l (omega arith))) ∙ runCount-none (isRow row i)) in omega arith;
+        let none : runCount (isRow row i) old ≡ 0 = rw z at (ap length (stay-runs _ 0 old (λ j a b. none-old i j l (omega arith))) ∙ runCount-none _) in omega arith;
     long = refl;
   }
 
   module _ (can : (j : ℕ) → old ≤ j → j < windowsOf s w → rank ups n (level s w e j) < n) where
     pub fresh-old : Fresh row (windowsOf s w) old
-    fresh-old = record { cut = λ l. first old refl (row old) (subst (λ (k : ℕ). k < n) (sym (row-new old (omega arith))) (can old (omega arith) l)) }
+    fresh-old = record { cut = λ l. first old refl _ (rw (row-new old (omega arith)) (can old (omega arith) l)) }
       where
         first : (k : ℕ) → k ≡ old → (i : ℕ) → i < n → before (isRow row i) k ≡ false
-        first zero q i h = before-none (isRow row i)
-        first (suc k) q i h = let m : suc k ≡ k + 1 = omega arith in rw m (before-more (isRow row i) k ∙ none-old i k h (omega arith))
+        first zero q i h = before-none _
+        first (suc k) q i h = let m : suc k ≡ k + 1 = omega arith in rw m (before-more _ k ∙ none-old i k h (omega arith))
 
     -- a number is of rank i exactly if it lies from where the row before ends up to the row's end
     rank-in : Climbing ups n → (i x : ℕ) → i < n → within (startOf ups i) (getD ups i 0) x ≡ true → rank ups n x ≡ i
     unfolding within startOf
     rank-in c i x h t =
-        let b = both (leb (startOf ups i) x) _ t in
-        let low = leb-true (startOf ups i) x (b .0) in
-        let up = ltb-true x (getD ups i 0) (b .1) in
+        let b = both _ _ t in
+        let low = leb-true _ x (b .0) in
+        let up = ltb-true x _ (b .1) in
         rank-is ups n x i (omega arith) (λ k l. under c i x k h l low) (λ k l m. omega (arith, c .up i k l m))
       where
         under : Climbing ups n → (i x k : ℕ) → i < n → k < i → startOf ups i ≤ x → getD ups k 0 ≤ x
@@ -63,7 +63,7 @@ module _ (s : List ℤ) (w e old : ℕ) (ups : List ℕ) (n : ℕ) where
 
     within-own : Climbing ups n → (x : ℕ) → rank ups n x < n → ((i : ℕ) → i < rank ups n x → getD ups i 0 ≤ x) → x < getD ups (rank ups n x) 0 → within (startOf ups (rank ups n x)) (getD ups (rank ups n x) 0) x ≡ true
     unfolding within
-    within-own c x h a b = rw (le-leb (startOf ups (rank ups n x)) x (low (rank ups n x) h a), lt-ltb x (getD ups (rank ups n x) 0) b)
+    within-own c x h a b = rw (le-leb _ x (low _ h a), lt-ltb x _ b)
       where
         low : (i : ℕ) → i < n → ((k : ℕ) → k < i → getD ups k 0 ≤ x) → startOf ups i ≤ x
         low zero h a = rw (start-first ups) (omega arith)
@@ -74,22 +74,22 @@ module _ (s : List ℤ) (w e old : ℕ) (ups : List ℕ) (n : ℕ) where
     next-run c {from} {r} {z} h l t =
         let i = row from in
         let q = row-new from h in
-        let here : i < n = subst (λ (k : ℕ). k < n) (sym q) (can from h l) in
+        let here = subst (λ (k : ℕ). k < n) (sym q) (can from h l) in
         let x = level s w e from in
-        let own : within (startOf ups i) (getD ups i 0) x ≡ true = subst (λ (k : ℕ). within (startOf ups k) (getD ups k 0) x ≡ true) (sym q) (within-own c x (can from h l) (rank-under c x) (rank-over c x (can from h l))) in
+        let own = subst (λ (k : ℕ). within (startOf ups k) (getD ups k 0) x ≡ true) (sym q) (within-own c x (can from h l) (rank-under c x) (rank-over c x (can from h l))) in
         let d = t .change in
         let ahead : from < r = elim (decLt from r) [
           | yes m ↦ m
-          | no f ↦ let g : r ≡ from = omega (arith, d .above) in clash own (rw g at (d .other (omega arith)))
+          | no f ↦ let g : r ≡ from = omega arith in clash own (rw g at (d .other (omega arith)))
         ] in
         record {
           ahead = ahead;
           below = d .below;
-          same = λ j a b. row-new j (omega arith) ∙ rank-in c i (level s w e j) here (d .same j a b);
+          same = λ j a b. row-new j (omega arith) ∙ rank-in c i _ here (d .same j a b);
           other = λ m g.
               let y = level s w e r in
-              let k : rank ups n y ≡ i = sym (row-new r (omega arith)) ∙ g in
-              let in-r = subst (λ (k : ℕ). within (startOf ups k) (getD ups k 0) y ≡ true) k (within-own c y (can r (omega arith) m) (rank-under c y) (rank-over c y (can r (omega arith) m))) in
+              let k = sym (row-new r (omega arith)) ∙ g in
+              let in-r = rw k at (within-own c y (can r (omega arith) m) (rank-under c y) (rank-over c y (can r (omega arith) m))) in
               clash in-r (d .other m);
         }
 
@@ -101,9 +101,9 @@ module _ (s : List ℤ) (w e old : ℕ) (ups : List ℕ) (n : ℕ) where
   counted-turn {before} {counts} {from} {r} h f l m c =
       let k = rowFrom s w e old ups n from in
       record {
-        count = λ i b. by-test (eqb i k)
-            (λ q. let g = eqb-true i k q in rw g (getD-set-same counts k (getD counts k 0 + 1) 0 (omega arith) ∙ omega (arith, c .count k l, run-mine (rowFrom s w e old ups n) (windowsOf s w) from r h f)))
-            (λ q. let g : (i ≡ k) → ⊥ = eqb-false i k q in
-            getD-set-other counts k i (getD counts k 0 + 1) 0 g ∙ omega (arith, c .count i b, run-other (rowFrom s w e old ups n) (windowsOf s w) from r h i (λ d. g (sym d))));
-        long = length-set counts k (getD counts k 0 + 1) ∙ c .long;
+        count = λ i b. by-test _
+            (λ q. let g = eqb-true i k q in rw g (getD-set-same counts k _ 0 (omega arith) ∙ omega (arith, c .count k l, run-mine _ _ from r h f)))
+            (λ q. let g = eqb-false i k q in
+            getD-set-other counts k i _ 0 g ∙ omega (arith, c .count i b, run-other _ _ from r h i (λ d. g (sym d))));
+        long = length-set counts k _ ∙ c .long;
       }

@@ -1,9 +1,9 @@
 -- The counts of an extension are right: counting by rank, from each row's old runs on, gives the runs of the extension's rows, but for the first new run where it joins an old one (`counts-are`).
 use Rattle.meaning_numbers.specs.{Sum.bit, Place.any}
 use Rattle.meaning_numbers.proofs.{Count.bit-false, Member.all-mem, Member.mem-at}
-use Rattle.meaning_numbers.proofs.Prelude.{_≡_, refl, sym, ap, _∙_, subst, Bool, true, false, _&&_, and-false, and-true, List, [], _∷_, map, ℕ, zero, suc, _+_, _-_, _*_, _<_, _≤_, arith, decLt, eqb, ℤ, natAbs, length, getD, _≤ℤ_, _<ℤ_, eq-eqb, ne-eqb, le-leb, lt-leb, Rep, zarith, by-test, clash}
+use Rattle.meaning_numbers.proofs.Prelude.{_≡_, refl, sym, ap, _∙_, Bool, true, false, _&&_, and-false, and-true, List, [], _∷_, map, ℕ, zero, suc, _+_, _-_, _*_, _<_, _≤_, arith, decLt, eqb, ℤ, natAbs, length, getD, _≤ℤ_, _<ℤ_, eq-eqb, ne-eqb, le-leb, lt-leb, Rep, zarith, by-test, clash}
 use Rattle.meaning_curves.specs.{Limits.lowestEnd, Curve.windowSum, Curve.windowCount}
-use Rattle.meaning_rows.specs.{declared.Row.Row, Range.inside, Runs.before, Runs.runCount, Index.Index, Index.entries, Build.rowNumbers, Extend.grown}
+use Rattle.meaning_rows.specs.{declared.Row.Row, Range.inside, Runs.before, Runs.runCount, Index.Index, Index.entries, Extend.grown}
 use Rattle.meaning_rows.proofs.{Range.is-inside, Runs.runs-cong, Times.Ascending, Judge.WellFormed, Judge.rangeOf, Extend.Extendable, Extend.grown-new, Woven.wovenRows, Woven.woven-ascends, Woven.woven-covers}
 use Rattle.meaning_rows.proofs.Grown.{onward, onward-count, lastEnds, Begun, begun-woven, old-count, joins-old}
 use Rattle.rows_records.specs.Records.{zeroRow}
@@ -29,7 +29,7 @@ pub low-from : (a : ℤ) (l : List Row) (k : ℕ) → k < length l → Ascending
 unfolding Ascending
 low-from a [] k h p = absurd (omega arith)
 low-from a (r ∷ l) zero h p = (p .0, p .1)
-low-from a (r ∷ l) (suc k) h p = let b = p .0 in let c = p .1 in let e = low-from (r .up) l k (omega arith) (p .2) in let f = e .0 in (omega zarith, e .1)
+low-from a (r ∷ l) (suc k) h p = let e = low-from (r .up) l k (omega arith) (p .2) in (omega zarith, e .1)
 
 pub in-order : (a : ℤ) (l : List Row) (i k : ℕ) → i < k → k < length l → Ascending a (map rangeOf l) → getD l i zeroRow .up ≤ℤ getD l k zeroRow .low
 unfolding Ascending
@@ -46,9 +46,9 @@ pub record Holder (l : List Row) (z : ℤ) : Type 0 where
 pub holder : (l : List Row) (z : ℤ) → any (λ r. inside (r .low) (r .up) z) l ≡ true → Holder l z
 unfolding any
 holder [] z e = clash e refl
-holder (r ∷ l) z e = by-test (inside (r .low) (r .up) z)
+holder (r ∷ l) z e = by-test _
     (λ t. record { at = 0; below = omega arith; holds = t })
-    (λ f. let h = holder l z (rw f at e) in record { at = suc (h .at); below = omega (arith, h .below); holds = h .holds })
+    (λ f. let h = holder l z (rw f at e) in record { at = suc (h .at); below = omega arith; holds = h .holds })
 
 -- the raised upper ends of the rows
 pub record Ends (rows : List Row) (bias : ℕ) (ups : List ℕ) : Type 0 where
@@ -62,15 +62,13 @@ module _ (rows : List Row) (bias : ℕ) (ups : List ℕ) (asc : Ascending lowest
   ]
 
   pub climbs : Climbing ups (length rows)
-  climbs = record { up = λ i k h l. rw (ends .end i (omega arith), ends .end k l) (raised-mono (getD rows i zeroRow .up) (getD rows k zeroRow .up) bias (ups-order i k h l)) }
+  climbs = record { up = λ i k h l. rw (ends .end i (omega arith), ends .end k l) (raised-mono _ _ bias (ups-order i k h l)) }
 
   -- a sum's rank is the row that holds it
   rank-row : (z : ℤ) (n i : ℕ) → Rep z n bias → i < length rows → inside (getD rows i zeroRow .low) (getD rows i zeroRow .up) z ≡ true → rank ups (length rows) n ≡ i
   rank-row z n i r l t =
-      let b = is-inside (getD rows i zeroRow .low) (getD rows i zeroRow .up) z t in
-      let low = b .0 in
-      let up = b .1 in
-      rank-is ups (length rows) n i (omega arith)
+      let b = is-inside _ _ z t in
+      rank-is ups _ n i (omega arith)
       (λ k h. let a = in-order lowestEnd rows k i h l asc in rw (ends .end k (omega arith)) (raised-le (getD rows k zeroRow .up) z bias n r (omega zarith)))
       (λ k h m. let a = ups-order i k h m in rw (ends .end k m) (raised-gt (getD rows k zeroRow .up) z bias n r (omega zarith)))
 
@@ -78,9 +76,9 @@ module _ (rows : List Row) (bias : ℕ) (ups : List ℕ) (asc : Ascending lowest
   one-row : (z : ℤ) (n i : ℕ) → Rep z n bias → i < length rows → any (λ r. inside (r .low) (r .up) z) rows ≡ true → eqb (rank ups (length rows) n) i ≡ inside (getD rows i zeroRow .low) (getD rows i zeroRow .up) z
   one-row z n i r l e =
       let h = holder rows z e in
-      by-test (inside (getD rows i zeroRow .low) (getD rows i zeroRow .up) z)
-      (λ t. eq-eqb (rank ups (length rows) n) i (rank-row z n i r l t) ∙ sym t)
-      (λ f. ne-eqb (rank ups (length rows) n) i (λ q. let s : h .at ≡ i = sym (rank-row z n (h .at) r (h .below) (h .holds)) ∙ q in clash (subst (λ (k : ℕ). inside (getD rows k zeroRow .low) (getD rows k zeroRow .up) z ≡ true) s (h .holds)) f) ∙ sym f)
+      by-test _
+      (λ t. eq-eqb _ i (rank-row z n i r l t) ∙ sym t)
+      (λ f. ne-eqb _ i (λ q. let s = sym (rank-row z n (h .at) r (h .below) (h .holds)) ∙ q in clash (rw s at (h .holds)) f) ∙ sym f)
 
   has-rank : (z : ℤ) (n : ℕ) → Rep z n bias → any (λ r. inside (r .low) (r .up) z) rows ≡ true → rank ups (length rows) n < length rows
   has-rank z n r e = let h = holder rows z e in rw (rank-row z n (h .at) r (h .below) (h .holds)) (h .below)
@@ -118,7 +116,7 @@ module _ (x : Index) (s : List ℤ) (g : WellFormed x) (long : Extendable x s) (
   asc = woven-ascends x s g long
 
   pub new-row : (j : ℕ) → old ≤ j → j < n → rank ups size (level s w e j) < size
-  new-row j a b = has-rank rows bias ups asc ends (sum j) (level s w e j) (level-is j lent) (woven-covers x s g long j a b)
+  new-row j a b = has-rank rows bias ups asc ends (sum j) _ (level-is j lent) (woven-covers x s g long j a b)
 
   -- a new window is of row i by rank exactly if it is the row's
   same-test : (i j : ℕ) → i < size → j < n → isRow (rowFrom s w e old ups size) i j ≡ onward old (has i) j
@@ -127,12 +125,12 @@ module _ (x : Index) (s : List ℤ) (g : WellFormed x) (long : Extendable x s) (
     | yes m ↦ rw (row-old s w e old ups size j m) (ne-eqb size i (λ q. omega arith)) ∙ sym (onward-not (has i) old j m)
     | no f ↦
         let a : old ≤ j = omega arith in
-        ap (λ (k : ℕ). eqb k i) (row-new s w e old ups size j a) ∙ one-row rows bias ups asc ends (sum j) (level s w e j) i (level-is j lent) l (woven-covers x s g long j a b)
-        ∙ sym (grown-new x sum old (getD rows i zeroRow) j a) ∙ sym (onward-is (has i) old j a)
+        ap (λ (k : ℕ). eqb k i) (row-new s w e old ups size j a) ∙ one-row rows bias ups asc ends (sum j) _ i (level-is j lent) l (woven-covers x s g long j a b)
+        ∙ sym (grown-new x sum old _ j a) ∙ sym (onward-is (has i) old j a)
   ]
 
   pub begun : (i : ℕ) → i < size → Begun x (getD rows i zeroRow)
-  begun i l = all-mem (Begun x) rows (begun-woven x g (natAbs (x .width)) (rowNumbers (λ j. sum (old + j)) (natAbs (x .width)) (n - old))) (mem-at zeroRow rows i l)
+  begun i l = all-mem _ rows (begun-woven x g _ _) (mem-at zeroRow rows i l)
 
   module _ (start counts : List ℕ) (sizes : (i : ℕ) → i < size → getD start i 0 ≡ getD rows i zeroRow .runs) (c : Counted s w e old ups size start n counts) (some : old < n) where
     -- the first new run is counted once too often where it joins
@@ -145,9 +143,9 @@ module _ (x : Index) (s : List ℤ) (g : WellFormed x) (long : Extendable x s) (
           arith,
           c .count i l,
           sizes i l,
-          ap length (runs-cong (isRow (rowFrom s w e old ups size) i) (onward old (has i)) n (λ j b. same-test i j l b)),
+          ap length (runs-cong _ _ n (λ j b. same-test i j l b)),
           all,
-          old-count x sum (getD rows i zeroRow) (begun i l),
+          old-count x sum _ (begun i l),
         )
 
     module _ (left right : List ℕ) (is : x .runs ≡ entries left right) where
@@ -163,11 +161,11 @@ module _ (x : Index) (s : List ℤ) (g : WellFormed x) (long : Extendable x s) (
 
       pub has-first : (i : ℕ) → i < size → has i old ≡ eqb first i
       has-first i l =
-          grown-new x sum old (getD rows i zeroRow) old (omega arith)
-          ∙ sym (one-row rows bias ups asc ends (sum old) (level s w e old) i (level-is old lent) l (woven-covers x s g long old (omega arith) some))
+          grown-new x sum old _ old (omega arith)
+          ∙ sym (one-row rows bias ups asc ends _ _ i (level-is old lent) l (woven-covers x s g long old (omega arith) some))
 
       pub first-joins : before (has first) old ≡ joins
-      first-joins = joins-old x left right is (getD rows first zeroRow) (begun first first-in) sum
+      first-joins = joins-old x left right is _ (begun first first-in) sum
 
       -- of the other rows, the counts are the runs
       pub other-counts : (i : ℕ) → i < size → (i ≡ first → ⊥) → getD counts i 0 ≡ runCount (has i) n
@@ -179,4 +177,4 @@ module _ (x : Index) (s : List ℤ) (g : WellFormed x) (long : Extendable x s) (
       pub first-count : getD counts first 0 ≡ runCount (has first) n + bit joins
       first-count =
           let z : (before (has first) old && has first old) ≡ joins = rw (has-first first first-in, eq-eqb first first refl, first-joins) (and-true joins) in
-          counts-are first first-in ∙ ap (λ (t : Bool). runCount (has first) n + bit t) z
+          counts-are first first-in ∙ rw z

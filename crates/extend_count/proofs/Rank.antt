@@ -16,9 +16,9 @@ count-first r (suc n) h =
 pub rank-is : (ups : List ℕ) (n x r : ℕ) → r ≤ n → ((i : ℕ) → i < r → getD ups i 0 ≤ x) → ((i : ℕ) → r ≤ i → i < n → x < getD ups i 0) → rank ups n x ≡ r
 unfolding rank
 rank-is ups n x r h a b =
-    count-cong (λ i. leb (getD ups i 0) x) (λ i. ltb i r) n (λ i l. elim (decLt i r) [
-      | yes s ↦ le-leb (getD ups i 0) x (a i s) ∙ sym (lt-ltb i r s)
-      | no f ↦ lt-leb (getD ups i 0) x (b i (omega arith) l) ∙ sym (le-ltb i r (omega arith))
+    count-cong (λ i. leb _ x) (λ i. ltb i r) n (λ i l. elim (decLt i r) [
+      | yes s ↦ le-leb _ x (a i s) ∙ sym (lt-ltb i r s)
+      | no f ↦ lt-leb _ x (b i (omega arith) l) ∙ sym (le-ltb i r (omega arith))
     ]) ∙ count-first r n h
 
 -- what the rank says: the ends before it are at most the number, and its own is above
@@ -35,7 +35,7 @@ module _ {ups : List ℕ} {n : ℕ} (c : Climbing ups n) (x : ℕ) where
   first (suc m) h =
       let f = first m (omega arith) in
       elim (decLt x (getD ups m 0)) [
-        | yes l ↦ record { at = f .at; within = omega (arith, f .within); under = f .under; over = λ i a b. elim (decLt i m) [ yes k ↦ f .over i a k | no k ↦ let e : i ≡ m = omega arith in rw e l ] }
+        | yes l ↦ record { at = f .at; within = omega arith; under = f .under; over = λ i a b. elim (decLt i m) [ yes k ↦ f .over i a k | no k ↦ let e : i ≡ m = omega arith in rw e l ] }
         | no l ↦ record { at = suc m; within = omega arith; under = λ i b. omega (arith, c .up i m (omega arith) (omega arith)); over = λ i a b. absurd (omega arith) }
       ]
 
@@ -49,4 +49,4 @@ module _ {ups : List ℕ} {n : ℕ} (c : Climbing ups n) (x : ℕ) where
   rank-under i l = of-all .under i (omega (arith, rank-first))
 
   pub rank-over : rank ups n x < n → x < getD ups (rank ups n x) 0
-  rank-over l = of-all .over (rank ups n x) (omega (arith, rank-first)) l
+  rank-over l = of-all .over _ (omega (arith, rank-first)) l

@@ -8,14 +8,14 @@ use Rattle.extend_parts.proofs.Copy.{length-column}
 -- ---- a part
 
 paste-front : (d s : List ℕ) (n y : ℕ) → y < n → n ≤ length s → getD (paste d 0 s n) y 0 ≡ getD s y 0
-paste-front d s n y h f = List·getD-append (take n s) (drop (0 + n) d) 0 y (omega (arith, length-take-le n s f)) ∙ getD-take n s y 0 h
+paste-front d s n y h f = List·getD-append (take n s) _ 0 y (omega (arith, length-take-le n s f)) ∙ getD-take n s y 0 h
 
 paste-rest : (d s : List ℕ) (n y : ℕ) → n ≤ y → n ≤ length s → getD (paste d 0 s n) y 0 ≡ getD d y 0
 paste-rest d s n y h f =
     let l = length-take-le n s f in
     let e : length (take n s) + (y - n) ≡ y = omega arith in
     let q : 0 + n + (y - n) ≡ y = omega arith in
-    ap (λ (i : ℕ). getD (take n s ++ drop (0 + n) d) i 0) (sym e) ∙ getD-append-add (take n s) (drop (0 + n) d) (y - n) 0 ∙ getD-drop (0 + n) d (y - n) 0 ∙ ap (λ (i : ℕ). getD d i 0) q
+    ap (λ (i : ℕ). getD (take n s ++ drop (0 + n) d) i 0) (sym e) ∙ getD-append-add (take n s) _ (y - n) 0 ∙ getD-drop (0 + n) d (y - n) 0 ∙ rw q
 
 module _ (n size : ℕ) (numbers part : List ℕ) (f : n ≤ length numbers) (g : n ≤ size) (room : size ≤ length part) where
   written-front : (y : ℕ) → y < n → getD (written n size numbers part) y 0 ≡ getD numbers y 0
@@ -52,28 +52,28 @@ module _ (o r : Row) (from to : List ℕ) (c : CopyRoom o r (length from) (lengt
   at-piece : (y : ℕ) → getD (partCopied o r from to) (r .first + y) 0 ≡ getD piece y 0
   unfolding partCopied
   at-piece y =
-      let l : length (take (r .first) to) ≡ r .first = length-take-le (r .first) to (omega (arith, c .room)) in
+      let l : length (take (r .first) to) ≡ r .first = length-take-le (r .first) to (omega arith) in
       let e : r .first + y ≡ length (take (r .first) to) + y = omega arith in
       ap (λ (i : ℕ). getD (take (r .first) to ++ piece) i 0) e ∙ getD-append-add (take (r .first) to) piece y 0
 
   part-front : (t : ℕ) → t < n → getD (partCopied o r from to) (r .first + t) 0 ≡ getD from (o .first + t) 0
-  part-front t h = at-piece t ∙ written-front n (r .runs) (drop (o .first) from) (drop (r .first) to) in-numbers (c .fits) in-part t h ∙ getD-drop (o .first) from t 0
+  part-front t h = at-piece t ∙ written-front n (r .runs) _ _ in-numbers (c .fits) in-part t h ∙ getD-drop (o .first) from t 0
 
   part-cursor : n < r .runs → getD (partCopied o r from to) (r .first + r .runs - 1) 0 ≡ n
   part-cursor h =
       let e : r .first + r .runs - 1 ≡ r .first + (r .runs - 1) = omega arith in
-      rw e (at-piece (r .runs - 1) ∙ written-cursor n (r .runs) (drop (o .first) from) (drop (r .first) to) in-numbers (c .fits) in-part h)
+      rw e (at-piece (r .runs - 1) ∙ written-cursor n (r .runs) _ _ in-numbers (c .fits) in-part h)
 
   -- elsewhere the column stays
   part-away : (x : ℕ) → (r .first ≤ x → r .first + r .runs ≤ x) → getD (partCopied o r from to) x 0 ≡ getD to x 0
   unfolding partCopied
   part-away x h = elim (decLt x (r .first)) [
-    | yes l ↦ List·getD-append (take (r .first) to) piece 0 x (omega (arith, length-take-le (r .first) to (omega (arith, c .room)))) ∙ getD-take (r .first) to x 0 l
+    | yes l ↦ List·getD-append (take (r .first) to) piece 0 x (omega (arith, length-take-le (r .first) to (omega arith))) ∙ getD-take (r .first) to x 0 l
     | no f ↦
         let past = h (omega arith) in
         let e : x ≡ r .first + (x - r .first) = omega arith in
         ap (λ (i : ℕ). getD (take (r .first) to ++ piece) i 0) e ∙ at-piece (x - r .first)
-        ∙ written-past n (r .runs) (drop (o .first) from) (drop (r .first) to) in-numbers (c .fits) in-part (x - r .first) (omega arith) ∙ getD-drop (r .first) to (x - r .first) 0 ∙ ap (λ (i : ℕ). getD to i 0) (sym e)
+        ∙ written-past n (r .runs) _ _ in-numbers (c .fits) in-part (x - r .first) (omega arith) ∙ getD-drop (r .first) to (x - r .first) 0 ∙ rw (sym e)
   ]
 
 -- ---- a column after all rows
@@ -108,7 +108,7 @@ module _ (old : List Row) (from : List ℕ) (rows : List Row) (count : ℕ) (to 
   unfolding columnTo
   column-front i t l h =
       let c = room i l in
-      stays i count (at i .first + t) l (omega arith) (omega arith) (omega (arith, c .fits)) ∙ part-front (next i) (at i) from (column i) c t h
+      stays i count _ l (omega arith) (omega arith) (omega arith) ∙ part-front (next i) (at i) from (column i) c t h
 
   pub column-cursor : (i : ℕ) → i < count → size i < at i .runs → getD (column count) (at i .first + at i .runs - 1) 0 ≡ size i
   unfolding columnTo

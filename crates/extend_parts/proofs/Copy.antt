@@ -28,7 +28,7 @@ length-copied o r from to c =
     omega (
       arith,
       length-append (take (r .first) to) w,
-      length-take-le (r .first) to (omega (arith, c .room)),
+      length-take-le (r .first) to (omega arith),
       length-written (partSize o r) (r .runs) (drop (o .first) from) (drop (r .first) to) (omega (arith, length-drop (o .first) from, c .source)) (omega (arith, length-drop (r .first) to, c .room, c .fits)),
       length-drop (r .first) to,
       c .room,
@@ -55,4 +55,4 @@ unfolding columnTo
 length-column old from rows count to c zero h = refl
 length-column old from rows count to c (suc i) h =
     let e = length-column old from rows count to c i (omega arith) in
-    length-copied (nextOld old rows i) (getD rows i zeroRow) from (columnTo old from rows i to) (rw e (c .room i (omega arith))) ∙ e
+    length-copied _ _ from _ (rw e (c .room i (omega arith))) ∙ e

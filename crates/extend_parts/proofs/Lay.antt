@@ -29,5 +29,5 @@ laid-at ends zero rows h i l = absurd (omega arith)
 laid-at ends (suc n) rows h i l = elim (decLt i n) [
   | yes b ↦ getD-set-other (laidTo ends n rows) n i (withPart (getD (laidTo ends n rows) n zeroRow) ends n) zeroRow (λ e. omega arith) ∙ laid-at ends n rows (omega arith) i b
   | no f ↦ let e : i ≡ n = omega arith in
-      rw (e, getD-set-same (laidTo ends n rows) n (withPart (getD (laidTo ends n rows) n zeroRow) ends n) zeroRow (omega (arith, length-laid ends n rows)), laid-past ends n rows n (omega arith))
+      rw (e, getD-set-same (laidTo ends n rows) n _ zeroRow (omega (arith, length-laid ends n rows)), laid-past ends n rows n (omega arith))
 ]

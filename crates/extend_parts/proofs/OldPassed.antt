@@ -17,11 +17,11 @@ data Shape (d : ℕ) (rs : List Row) (out : List Row) : Type 0 where
 lows-above : (z a : ℤ) (l : List Row) → z <ℤ a → Ascending a (map rangeOf l) → All (λ r. z <ℤ r .low) l
 unfolding Ascending All
 lows-above z a [] h p = tt
-lows-above z a (r ∷ l) h p = let x = p .0 in let y = p .1 in (omega zarith, lows-above z (r .up) l (omega zarith) (p .2))
+lows-above z a (r ∷ l) h p = (omega zarith, lows-above z (r .up) l (omega zarith) (p .2))
 
 first-above : (z : ℤ) (r : Row) (l : List Row) (a : ℤ) → z <ℤ r .low → Ascending a (map rangeOf (r ∷ l)) → All (λ q. z <ℤ q .low) (r ∷ l)
 unfolding Ascending All
-first-above z r l a h p = let w = p .1 in (h, lows-above z (r .up) l (omega zarith) (p .2))
+first-above z r l a h p = (h, lows-above z (r .up) l (omega zarith) (p .2))
 
 above-all : (d : ℕ) → 0 < d → (k : ℤ) (ks : List ℤ) (up : ℤ) → Sorted (k ∷ ks) → up ≤ℤ lowOf d k → (z : ℤ) → Mem z (k ∷ ks) → up ≤ℤ lowOf d z
 unfolding Sorted
@@ -93,9 +93,9 @@ module _ (d : ℕ) (one : 0 < d) (a₀ : ℤ) (old : List Row) (asc : Ascending 
   unfolding newRow All
   below i k l all p = elim (decLt (passed i) (length old)) [
     | yes m ↦
-        let h : All (λ r. lowOf d k <ℤ r .low) (next i ∷ drop (suc (passed i)) old) = subst (All (λ r. lowOf d k <ℤ r .low)) (drop-cons old (passed i) endRow m) all in
-        subst (λ (z : ℤ). z <ℤ next i .low) (sym (ap (λ (r : Row). r .low) p)) (h .0)
-    | no f ↦ subst (λ (r : Row). at i .low <ℤ r .low) (sym (past endRow old (passed i) (omega arith))) (all-at (λ r. r .low <ℤ endLow) zeroRow made i small l)
+        let h = subst (All (λ r. lowOf d k <ℤ r .low)) (drop-cons old (passed i) endRow m) all in
+        subst (λ (z : ℤ). z <ℤ next i .low) (sym (rw p)) (h .0)
+    | no f ↦ rw (past endRow old (passed i) (omega arith)) (all-at (λ r. r .low <ℤ endLow) zeroRow made i small l)
   ]
 
   first-runs : (k : ℤ) → (newRow d k .first ≡ 0) × (newRow d k .runs ≡ 0)
@@ -106,15 +106,15 @@ module _ (d : ℕ) (one : 0 < d) (a₀ : ℤ) (old : List Row) (asc : Ascending 
   kept-next : (i : ℕ) (r : Row) (rest : List Row) → drop (passed i) old ≡ r ∷ rest → (passed i < length old) × (next i ≡ r) × (drop (suc (passed i)) old ≡ rest)
   kept-next i r rest e =
       let m : passed i < length old = omega (arith, length-drop (passed i) old, ap length e) in
-      let h = same-head (next i) r (drop (suc (passed i)) old) rest (sym (drop-cons old (passed i) endRow m) ∙ e) in
+      let h = same-head (next i) r _ rest (sym (drop-cons old (passed i) endRow m) ∙ e) in
       (m, h .0, h .1)
 
   module _ (i : ℕ) (l : i < length made) (in-old : passed i ≤ length old) (q : getD rows i zeroRow .low ≡ at i .low) (s : passed (suc i) ≡ oldPassed (passed i) (next i) (getD rows i zeroRow)) where
     by-shape : (out : List Row) → at i ∷ drop (suc i) made ≡ out → Shape d (drop (passed i) old) out → PassedRow (next i) (at i) × Beside d old made (suc i) (passed (suc i))
     unfolding oldPassed
-    by-shape out e (ended o r) = absurd (not-none (at i) (drop (suc i) made) (e ∙ o))
+    by-shape out e (ended o r) = absurd (not-none (at i) _ (e ∙ o))
     by-shape out e (fresh k ns t all o) =
-        let h = same-head (at i) (newRow d k) (drop (suc i) made) (woven d (drop (passed i) old) ns) (e ∙ o) in
+        let h = same-head (at i) (newRow d k) _ _ (e ∙ o) in
         let low = below i k l all (h .0) in
         let stays : passed (suc i) ≡ passed i = s ∙ rw (lt-leZ (subst (λ (z : ℤ). z <ℤ next i .low) (sym q) low)) in (
           new (ap (λ (r : Row). r .first) (h .0) ∙ first-runs k .0) (ap (λ (r : Row). r .runs) (h .0) ∙ first-runs k .1) low,
@@ -126,13 +126,13 @@ module _ (d : ℕ) (one : 0 < d) (a₀ : ℤ) (old : List Row) (asc : Ascending 
         let same-row : next i ≡ at i = k .1 ∙ sym (h .0) in
         let low : next i .low ≤ℤ getD rows i zeroRow .low = subst (λ (z : ℤ). next i .low ≤ℤ z) (ap (λ (r : Row). r .low) same-row ∙ sym q) (≤ℤ-refl (next i .low)) in
         let goes : passed (suc i) ≡ suc (passed i) = s ∙ rw (le-leZ low) (add-one (passed i)) in
-        (own same-row, record { in-old = rw goes (omega (arith, k .0)); numbers = ns; sorted = t; rest = h .1 ∙ rw (goes, k .2) })
+        (own same-row, record { in-old = rw goes (omega arith); numbers = ns; sorted = t; rest = h .1 ∙ rw (goes, k .2) })
 
   -- a turn: what row i is, and what stands beside it afterwards
   turn : (i : ℕ) → i < length made → Beside d old made i (passed i) → PassedRow (next i) (at i) × Beside d old made (suc i) (passed (suc i))
   turn i l b =
       let up = ascends-from old (passed i) a₀ asc in
-      by-shape i l (b .in-old) (same i l) (ap passed (sym (add-one i)) ∙ passed-more old rows i) (woven d (drop (passed i) old) (b .numbers))
+      by-shape i l (b .in-old) (same i l) (ap passed (sym (add-one i)) ∙ passed-more old rows i) _
       (sym (drop-cons made i zeroRow l) ∙ b .rest) (shape d one (up .0) (drop (passed i) old) (b .numbers) (up .1) (b .sorted))
 
   beside : (i : ℕ) → i ≤ length made → Beside d old made i (passed i)
@@ -151,5 +151,5 @@ module _ (d : ℕ) (one : 0 < d) (a₀ : ℤ) (old : List Row) (asc : Ascending 
   passed-size i l = by (passed-row i l)
     where
       by : PassedRow (next i) (at i) → partSize (next i) (getD rows i zeroRow) ≡ at i .runs
-      by (own e) = rw (le-leZ (subst (λ (z : ℤ). next i .low ≤ℤ z) (ap (λ (r : Row). r .low) e ∙ sym (same i l)) (≤ℤ-refl (next i .low)))) (ap (λ (r : Row). r .runs) e)
+      by (own e) = rw (le-leZ (subst (λ (z : ℤ). next i .low ≤ℤ z) (ap (λ (r : Row). r .low) e ∙ sym (same i l)) (≤ℤ-refl (next i .low)))) (rw e)
       by (new f r low) = rw (lt-leZ (subst (λ (z : ℤ). z <ℤ next i .low) (sym (same i l)) low)) (sym r)

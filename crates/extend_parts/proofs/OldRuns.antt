@@ -2,7 +2,7 @@
 -- windows can go on from there.
 use Rattle.meaning_numbers.specs.Order.{within}
 use Rattle.meaning_numbers.proofs.Member.{All, all-mem, mem-all, mem-at}
-use Rattle.meaning_numbers.proofs.Prelude.{_≡_, refl, sym, ap, _∙_, subst, Bool, List, [], _∷_, ℕ, zero, suc, _+_, _-_, _<_, _≤_, arith, decLt, ℤ, pos, natAbs, length, getD, _≤ℤ_, _<ℤ_, leZ, zarith, leZ-true, both}
+use Rattle.meaning_numbers.proofs.Prelude.{_≡_, refl, sym, ap, _∙_, Bool, List, [], _∷_, ℕ, zero, suc, _+_, _-_, _<_, _≤_, arith, decLt, ℤ, pos, natAbs, length, getD, _≤ℤ_, _<ℤ_, leZ, zarith, leZ-true, both}
 use Rattle.meaning_curves.specs.{Limits.lowestEnd, Curve.windowSum, Curve.windowCount}
 use Rattle.meaning_rows.specs.{declared.Row.Row, Range.lowOf, Runs.runs, Runs.runCount, Index.Index, Index.entries, Build.rowNumbers, Extend.grown}
 use Rattle.meaning_rows.proofs.{Judge.GoodEnd, Judge.GoodRow, Judge.WellFormed, Judge.each-row, Judge.ranges-ascend, Build.numbers-sorted, Build.numbers-occur, Sums.ends-good, Columns.lefts, Columns.rights, Columns.runCount-mono, Parts.Parts, Cursors.Cursors, Extend.Extendable, Woven.newRow, Woven.all-woven, Woven.wovenRows}
@@ -47,7 +47,7 @@ module _ (x : Index) (s : List ℤ) (g : WellFormed x) (long : Extendable x s) w
   rowHas i = grown x sum old (at i) .has
 
   one : 0 < d
-  one = omega (arith, g .head .width .least)
+  one = omega arith
 
   new-low : (k : ℤ) → GoodEnd d (lowOf d k) → newRow d k .low <ℤ endLow
   unfolding newRow
@@ -57,7 +57,7 @@ module _ (x : Index) (s : List ℤ) (g : WellFormed x) (long : Extendable x s) w
   small = all-woven d (λ r. r .low <ℤ endLow) (x .rows) numbers
       (mem-all (λ r. r .low <ℤ endLow) (x .rows) (λ r m. end-below d (r .low) (all-mem (GoodRow x) (x .rows) (each-row x g) m .low-end)))
       (λ k m. let o = numbers-occur (λ j. sum (old + j)) d (n - old) k m in
-      new-low k (subst (λ (t : ℤ). GoodEnd d (lowOf d t)) (o .is) (ends-good s w d (old + o .at) (long .values) (g .head .window .most) one (g .head .width .most) .0)))
+      new-low k (rw (o .is) at (ends-good s w d (old + o .at) (long .values) (g .head .window .most) one (g .head .width .most) .0)))
 
   begun : (i : ℕ) → i < length made → Begun x (at i)
   begun i l = all-mem (Begun x) made (begun-woven x g d numbers) (mem-at zeroRow made i l)
@@ -86,7 +86,7 @@ module _ (x : Index) (s : List ℤ) (g : WellFormed x) (long : Extendable x s) w
 
     next-begins : (i : ℕ) → next i .first ≤ length (x .runs)
     next-begins i = elim (decLt (passedTo (x .rows) rows i) (length (x .rows))) [
-      | yes l ↦ omega (arith, all-mem (GoodRow x) (x .rows) (each-row x g) (mem-at endRow (x .rows) (passedTo (x .rows) rows i) l) .fits)
+      | yes l ↦ omega (arith, all-mem (GoodRow x) (x .rows) (each-row x g) (mem-at endRow (x .rows) _ l) .fits)
       | no f ↦ rw (past (x .rows) (passedTo (x .rows) rows i) (omega arith)) (omega arith)
     ]
       where
@@ -130,14 +130,14 @@ module _ (x : Index) (s : List ℤ) (g : WellFormed x) (long : Extendable x s) w
       own-left i t l h = by (passes i l)
         where
           by : PassedRow (next i) (at i) → getD left (next i .first + t) 0 ≡ getD (lefts (runs (rowHas i) old)) t 0
-          by (own e) = ap (λ (r : Row). getD left (r .first + t) 0) e ∙ left-at x left right is (at i) (begun i l) t h ∙ ap (λ (m : List (ℕ × ℕ)). getD (lefts m) t 0) (sym (old-runs x sum (at i) (begun i l)))
+          by (own e) = ap (λ (r : Row). getD left (r .first + t) 0) e ∙ left-at x left right is (at i) (begun i l) t h ∙ rw (sym (old-runs x sum (at i) (begun i l)))
           by (new p q c) = absurd (omega arith)
 
       own-right : (i t : ℕ) → i < length made → t < at i .runs → getD right (next i .first + t) 0 ≡ getD (rights (runs (rowHas i) old)) t 0
       own-right i t l h = by (passes i l)
         where
           by : PassedRow (next i) (at i) → getD right (next i .first + t) 0 ≡ getD (rights (runs (rowHas i) old)) t 0
-          by (own e) = ap (λ (r : Row). getD right (r .first + t) 0) e ∙ right-at x left right is (at i) (begun i l) t h ∙ ap (λ (m : List (ℕ × ℕ)). getD (rights m) t 0) (sym (old-runs x sum (at i) (begun i l)))
+          by (own e) = ap (λ (r : Row). getD right (r .first + t) 0) e ∙ right-at x left right is (at i) (begun i l) t h ∙ rw (sym (old-runs x sum (at i) (begun i l)))
           by (new p q c) = absurd (omega arith)
 
       pub old-parts : Parts (length made) n rowHas first old L R

@@ -25,7 +25,7 @@ record-at k [] i h = absurd (omega arith)
 record-at k (r ∷ l) zero h = let e : k ≡ k + Σℕ 0 (sizeAt (r ∷ l)) = omega (arith, Σℕ-none (sizeAt (r ∷ l))) in λ j. record { low = r .low; up = r .up; first = e j; runs = length (r .runs) }
 record-at k (r ∷ l) (suc i) h =
     let e : k + length (r .runs) + Σℕ i (sizeAt l) ≡ k + Σℕ (suc i) (sizeAt (r ∷ l)) = omega (arith, Σℕ-shift i (sizeAt (r ∷ l))) in
-    record-at (k + length (r .runs)) l i (omega arith) ∙ (λ j. record { low = getD l i noRow .low; up = getD l i noRow .up; first = e j; runs = sizeAt l i })
+    record-at _ l i (omega arith) ∙ (λ j. record { low = getD l i noRow .low; up = getD l i noRow .up; first = e j; runs = sizeAt l i })
 
 -- rows, and counts beside them, go with rows with their runs
 pub record Matches (l : List RangeRow) (rows : List Row) (counts : List ℕ) : Type 0 where
@@ -49,11 +49,11 @@ module _ (l : List RangeRow) (rows : List Row) (counts ends : List ℕ) (m : Mat
   pub laid-records : length l ≤ length rows → take (length l) (laidTo ends (length l) rows) ≡ records 0 l
   laid-records fits =
       let n = length l in
-      let long : length (take n (laidTo ends n rows)) ≡ n = length-take-le n (laidTo ends n rows) (omega (arith, length-laid ends n rows)) in
-      ext-getD zeroRow (take n (laidTo ends n rows)) (records 0 l) (long ∙ sym (length-records 0 l)) (λ i b.
+      let long = length-take-le n (laidTo ends n rows) (omega (arith, length-laid ends n rows)) in
+      ext-getD zeroRow _ (records 0 l) (long ∙ sym (length-records 0 l)) (λ i b.
       let h : i < n = omega arith in
       let low = m .low i h in
       let up = m .up i h in
       let first = start-at i h in
       let size = size-at i h in
-      getD-take n (laidTo ends n rows) i zeroRow h ∙ laid-at ends n rows fits i h ∙ (λ j. record { low = low j; up = up j; first = first j; runs = size j }) ∙ sym (record-at 0 l i h))
+      getD-take n _ i zeroRow h ∙ laid-at ends n rows fits i h ∙ (λ j. record { low = low j; up = up j; first = first j; runs = size j }) ∙ sym (record-at 0 l i h))

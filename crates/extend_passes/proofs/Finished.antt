@@ -1,14 +1,14 @@
 -- What stands in the indexBuffers once all windows are filed is the extended index (`finished`).
 use Rattle.meaning_numbers.proofs.Prelude.{_≡_, sym, ap, _∙_, Bool, List, map, ℕ, _≤_, arith, ℤ, natAbs, length, getD, length-map}
 use Rattle.meaning_curves.specs.Curve.{windowSum, windowCount}
-use Rattle.meaning_rows.specs.{declared.Row.Row, Runs.runs, Index.Index, Index.RangeRow, Index.records, Index.allRuns, Build.withRuns, Extend.extended}
+use Rattle.meaning_rows.specs.{declared.Row.Row, Index.Index, Index.RangeRow, Index.records, Index.allRuns, Build.withRuns, Extend.extended}
 use Rattle.meaning_rows.proofs.{Judge.WellFormed, Extend.Extendable, Woven.wovenRows, Woven.grownRuns, LaidAt.column-at}
 use Rattle.meaning_entries.specs.Buffers.{filled, indexIn, lefts, rights, indexBuffers}
 use Rattle.meaning_entries.proofs.Filled.{filled-is, lefts-entry, rights-entry}
 use Rattle.rows_records.specs.Records.{zeroRow}
 use Rattle.build_fill.specs.Pass.{partsTotal, PassMade}
 use Rattle.extend_parts.proofs.OldRuns.{rowHas}
-use Rattle.extend_runs.proofs.Rowed.{rows-are, size-is, start-is, total-is, total-most}
+use Rattle.extend_runs.proofs.Rowed.{rows-are, size-is, start-is, total-is}
 use Rattle.extend_passes.specs.Finished.{HoldsExtended}
 
 -- a column that is 0 behind all parts, as long as another
@@ -45,9 +45,9 @@ module _ (x : Index) (s : List ℤ) (g : WellFormed x) (long : Extendable x s) w
     left-is =
         let m = length-map (allRuns (map G made)) (λ e. natAbs (e .0)) in
         let t = total-is x s g long in
-        filled-is (lefts (allRuns (map G made))) left₀ left′ (f .long-left ∙ bl .long) (omega (arith, m, t, total-most x s g long, in-left))
+        filled-is _ left₀ left′ (f .long-left ∙ bl .long) (omega (arith, m, t))
         (λ y b. column-at zeroRow G (λ e. natAbs (e .0)) left′ made
-        (λ i u a c. rw (start-is x s g long i, lefts-entry (runs (P i) n)) (f .parts .left-is i u a (omega (arith, size-is x s g long i)))) y (omega (arith, m)))
+        (λ i u a c. rw (start-is x s g long i, lefts-entry _) (f .parts .left-is i u a (omega (arith, size-is x s g long i)))) y (omega (arith, m)))
         (λ y b. f .past-left y (omega (arith, m, t)) ∙ bl .zero y (omega (arith, m, t)))
 
     right-is : right′ ≡ filled 0 (rights (allRuns (map G made))) right₀
@@ -55,16 +55,16 @@ module _ (x : Index) (s : List ℤ) (g : WellFormed x) (long : Extendable x s) w
     right-is =
         let m = length-map (allRuns (map G made)) (λ e. natAbs (e .1)) in
         let t = total-is x s g long in
-        filled-is (rights (allRuns (map G made))) right₀ right′ (f .long-right ∙ br .long) (omega (arith, m, t, total-most x s g long, in-right))
+        filled-is _ right₀ right′ (f .long-right ∙ br .long) (omega (arith, m, t))
         (λ y b. column-at zeroRow G (λ e. natAbs (e .1)) right′ made
-        (λ i u a c. rw (start-is x s g long i, rights-entry (runs (P i) n)) (f .parts .right-is i u a (omega (arith, size-is x s g long i)))) y (omega (arith, m)))
+        (λ i u a c. rw (start-is x s g long i, rights-entry _) (f .parts .right-is i u a (omega (arith, size-is x s g long i)))) y (omega (arith, m)))
         (λ y b. f .past-right y (omega (arith, m, t)) ∙ br .zero y (omega (arith, m, t)))
 
     pub finished : {rows : List Row} → rows ≡ filled zeroRow (records 0 (map G made)) rows₀ → HoldsExtended x s (indexBuffers rows₀ left₀ right₀) (indexBuffers rows left′ right′)
     unfolding indexIn extended
     finished {rows} e =
         let q = sym (rows-are x s g long) in
-        let a : rows ≡ filled zeroRow (extended x s .rows) rows₀ = e ∙ ap (λ (l : List RangeRow). filled zeroRow (records 0 l) rows₀) q in
-        let b : left′ ≡ filled 0 (lefts (extended x s .runs)) left₀ = left-is ∙ ap (λ (l : List RangeRow). filled 0 (lefts (allRuns l)) left₀) q in
-        let c : right′ ≡ filled 0 (rights (extended x s .runs)) right₀ = right-is ∙ ap (λ (l : List RangeRow). filled 0 (rights (allRuns l)) right₀) q in
+        let a = e ∙ ap (λ (l : List RangeRow). filled zeroRow (records 0 l) rows₀) q in
+        let b = left-is ∙ ap (λ (l : List RangeRow). filled 0 (lefts (allRuns l)) left₀) q in
+        let c = right-is ∙ ap (λ (l : List RangeRow). filled 0 (rights (allRuns l)) right₀) q in
         λ i. record { rows = a i; left = b i; right = c i }

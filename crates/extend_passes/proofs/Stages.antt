@@ -25,7 +25,7 @@ module _ {s : List ℤ} {w e d base bias old : ℕ} {from : List Row} {lefts rig
 
     module _ {i : ℕ} {vl vr : List ℕ} (counted : CountedAs s w e bias old ua n ul right i vl vr) where
       counted′ : CountedAs s w e (10000 * w + e) old ua size ul right i vl vr
-      counted′ = subst (λ (b : ℕ). CountedAs s w e b old ua size ul right i vl vr) (asked .1) (subst (λ (m : ℕ). CountedAs s w e bias old ua m ul right i vl vr) (woven .0) counted)
+      counted′ = rw (asked .1) at (rw (woven .0) at counted)
 
       pub in-rows : i < length ua
       in-rows = first-in (asked .0) ul long-ul ua n woven i vl vr counted′
@@ -36,7 +36,7 @@ module _ {s : List ℤ} {w e d base bias old : ℕ} {from : List Row} {lefts rig
 
         module _ {za : List Row} (laid : LaidBy s w old row rights i ua n vl za) where
           laid′ : LaidBy s w old (getD ua i zeroRow) rights i ua size vl za
-          laid′ = subst (λ (q : Row). LaidBy s w old q rights i ua size vl za) is-row (subst (λ (m : ℕ). LaidBy s w old row rights i ua m vl za) (woven .0) laid)
+          laid′ = rw is-row at (rw (woven .0) at laid)
 
           module _ {wl : List ℕ} (long-wl : length wl ≡ length left) (long-vr : length vr ≡ length right) where
             pub copies : CopyAsked from lefts rights za n wl vr
@@ -44,7 +44,7 @@ module _ {s : List ℤ} {w e d base bias old : ℕ} {from : List Row} {lefts rig
 
             module _ {kl kr : List ℕ} (copied : CopiedAs from lefts rights za n wl vr kl kr) where
               copied′ : CopiedAs from lefts rights za size wl vr kl kr
-              copied′ = subst (λ (m : ℕ). CopiedAs from lefts rights za m wl vr kl kr) (woven .0) copied
+              copied′ = rw (woven .0) at copied
 
               module _ {q : Row} (is-q : q ≡ getD za i zeroRow) where
                 pub joins : (row .first + row .runs ≤ length rights) × JoinAsked s w e old (joinsOf s w old row rights) q row (length kr)
@@ -52,7 +52,7 @@ module _ {s : List ℤ} {w e d base bias old : ℕ} {from : List Row} {lefts rig
 
                 module _ {t : Window} {jr : List ℕ} (joined : JoinedAt s w e old (joinsOf s w old row rights) q row kr t jr) where
                   joined′ : JoinedAt s w e old (joinsOf s w old (getD ua i zeroRow) rights) (getD za i zeroRow) (getD ua i zeroRow) kr t jr
-                  joined′ = subst (λ (p : Row). JoinedAt s w e old (joinsOf s w old (getD ua i zeroRow) rights) p (getD ua i zeroRow) kr t jr) is-q (subst (λ (p : Row). JoinedAt s w e old (joinsOf s w old p rights) q p kr t jr) is-row joined)
+                  joined′ = rw is-q at (rw is-row at joined)
 
                   pub fills : Passable has s w e t za n kl jr
                   fills = rw (woven .0) (fill-asked (asked .0) ul long-ul ua n woven i vl vr counted′ za laid′ wl vr long-wl long-vr kl kr copied′ t jr joined′)

@@ -1,5 +1,5 @@
 -- The records of the extension's rows, laid out by the sums of their counts (`laid-front`, `laid-rows`).
-use Rattle.meaning_numbers.proofs.Prelude.{_≡_, refl, sym, ap, _∙_, subst, List, _++_, map, ℕ, zero, suc, _+_, _-_, _<_, _≤_, arith, decLt, length, getD, take, replicate, length-map, length-append, length-replicate, List·getD-append, ext-getD, getD-take, getD-append-add}
+use Rattle.meaning_numbers.proofs.Prelude.{_≡_, refl, sym, ap, _∙_, List, _++_, map, ℕ, zero, suc, _+_, _-_, _<_, _≤_, arith, decLt, length, getD, take, replicate, length-map, length-append, length-replicate, List·getD-append, ext-getD, getD-take, getD-append-add}
 use Rattle.meaning_rows.specs.{declared.Row.Row, Index.RangeRow, Index.records}
 use Rattle.meaning_rows.proofs.{Laid.length-records, Columns.getD-past}
 use Rattle.meaning_entries.specs.Buffers.{filled}
@@ -24,10 +24,10 @@ module _ (G : Row → RangeRow) (made rows₀ rows : List Row) (is : rows ≡ fi
 
   -- what laying asks
   pub lay-asked : n ≤ length ends → (n ≤ length rows) × ((i : ℕ) → i < n → EndsRoom ends i)
-  lay-asked h = (omega arith, λ i l. ends-room (map G made) rows counts ends m summed (omega (arith, same)) i (omega (arith, same)))
+  lay-asked h = (omega arith, λ i l. ends-room _ rows counts ends m summed (omega (arith, same)) i (omega (arith, same)))
 
   pub laid-front : take n laid ≡ records 0 (map G made)
-  laid-front = subst (λ (k : ℕ). take k (laidTo ends k rows) ≡ records 0 (map G made)) same (laid-records (map G made) rows counts ends m summed (omega (arith, same)))
+  laid-front = rw same at (laid-records _ rows counts ends m summed (omega (arith, same)))
 
   pub laid-long : length laid ≡ length rows₀
   laid-long = length-laid ends n rows ∙ long
@@ -35,12 +35,12 @@ module _ (G : Row → RangeRow) (made rows₀ rows : List Row) (is : rows ≡ fi
   pub laid-rows : laid ≡ filled zeroRow (records 0 (map G made)) rows₀
   unfolding filled
   laid-rows =
-      let a = records 0 (map G made) in
-      let many : length a ≡ n = length-records 0 (map G made) ∙ same in
-      let r : List Row = replicate (length rows₀ - length a) zeroRow in
-      ext-getD zeroRow laid (a ++ r) (omega (arith, laid-long, length-append a r, length-replicate {A = Row} (length rows₀ - length a) zeroRow)) (λ i l. elim (decLt i n) [
-        | yes b ↦ sym (getD-take n laid i zeroRow b) ∙ ap (λ (k : List Row). getD k i zeroRow) laid-front ∙ sym (List·getD-append a r zeroRow i (omega (arith, many)))
-        | no f ↦ let q : length a + (i - length a) ≡ i = omega (arith, many) in
+      let a = records 0 _ in
+      let many : length a ≡ n = length-records 0 _ ∙ same in
+      let r = replicate (length rows₀ - length a) zeroRow in
+      ext-getD zeroRow laid _ (omega (arith, laid-long, length-append a r, length-replicate (length rows₀ - length a) zeroRow)) (λ i l. elim (decLt i n) [
+        | yes b ↦ sym (getD-take n laid i zeroRow b) ∙ ap (λ (k : List Row). getD k i zeroRow) laid-front ∙ sym (List·getD-append a r zeroRow i (omega arith))
+        | no f ↦ let q : length a + (i - length a) ≡ i = omega arith in
             laid-past ends n rows i (omega arith) ∙ row-at i ∙ getD-past zeroRow made i (omega arith) ∙ sym (none (length rows₀ - length a) (i - length a)) ∙ sym (getD-append-add a r (i - length a) zeroRow) ∙ ap (λ (k : ℕ). getD (a ++ r) k zeroRow) q
       ])
     where

@@ -30,7 +30,7 @@ module _ {x : Index} {s : List ℤ} {w e d b old : ℕ} {from rows : List Row} {
     fits = omega (arith, a .count, a .long, lists .3)
 
     pub weaves : Weavable from left′ k d b (length rows)
-    weaves = rw (can .width, can .rows-are) (weavable x s (can .formed) (can .longer) e b (can .lent) (can .bias) listed fits (length rows) (omega (arith, ap (windowsOf s) (can .window), h .in-rows)))
+    weaves = rw (can .width, can .rows-are) (weavable x s (can .formed) (can .longer) e b (can .lent) (can .bias) listed fits _ (omega arith))
 
     module _ {count : ℕ} {rows′ : List Row} (m : Made from left′ k d b rows count rows′) where
       made : Made (x .rows) left′ k (natAbs (x .width)) b rows count rows′

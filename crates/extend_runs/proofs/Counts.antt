@@ -1,12 +1,12 @@
 -- The runs of the extension's rows counted: what the counting asks (`countable`), whether the first new run joins (`joins`), and that the counts, less one where it does, are those of the extension's rows (`matches`).
 use Rattle.meaning_numbers.specs.Sum.{bit}
 use Rattle.meaning_numbers.proofs.{Sum.Σℕ-same, Count.bit-true, Count.bit-false}
-use Rattle.meaning_numbers.proofs.Prelude.{_≡_, refl, sym, ap, _∙_, Bool, true, false, and-false, List, [], _∷_, map, ℕ, zero, suc, _+_, _-_, _*_, _<_, _≤_, arith, decLt, leb, eqb, ℤ, pos, natAbs, length, getD, set, length-map, getD-set-same, getD-set-other, lt-ltb, le-ltb, eqb-true, eqb-false, eq-eqb, ne-eqb, zarith, z-sub, by-test, clash}
+use Rattle.meaning_numbers.proofs.Prelude.{_≡_, refl, sym, ap, _∙_, Bool, true, false, and-false, List, [], _∷_, map, ℕ, zero, suc, _+_, _-_, _*_, _<_, _≤_, arith, decLt, leb, eqb, ℤ, natAbs, length, getD, set, length-map, getD-set-same, getD-set-other, lt-ltb, le-ltb, eqb-true, eqb-false, eq-eqb, ne-eqb, zarith, by-test, clash}
 use Rattle.meaning_curves.specs.Curve.{windowSum, windowCount}
 use Rattle.meaning_rows.specs.{declared.Row.Row, Runs.before, Runs.runCount, Index.Index, Index.RangeRow, Index.entries, Build.withRuns, Extend.grown}
 use Rattle.meaning_rows.proofs.{Judge.WellFormed, Runs.runs-le, Extend.Extendable, Woven.wovenRows, Woven.woven-ascends, Woven.grownRuns, Grown.lastEnds, Grown.old-count, Grown.length-entries, Columns.getD-past}
 use Rattle.rows_records.specs.Records.{zeroRow}
-use Rattle.sums_slide.specs.{Levels.level, Levels.Lent, Ends.raisedEnd}
+use Rattle.sums_slide.specs.{Levels.level, Levels.Lent}
 use Rattle.extend_new.specs.New.{lessJoin}
 use Rattle.extend_count.specs.{Count.isRow, Rank.rank, Count.rowFrom, Count.Countable, Count.Counted, Listed.listed, Listed.endOf, Listed.sizeOf, Listed.Listable}
 use Rattle.extend_count.proofs.{Count.counted-starts, Listed.listed-at, Listed.length-listed}
@@ -67,15 +67,15 @@ module _ (x : Index) (s : List ℤ) (g : WellFormed x) (long : Extendable x s) (
     in-ups = a;
     in-counts = b;
     ends = λ i l. let q = ends-limits x s g long i l .1 in let lo = q .0 in let hi = q .1 in
-        rw (row-at i) (record { least = omega (zarith, lo, z-sub (pos 0) (pos 4000000)); most = hi; small = omega (arith, lent .most, lent .small) });
+        rw (row-at i) (record { least = omega (zarith, lo); most = hi; small = omega arith });
   }
 
   module _ (ups counts right₁ left₁ : List ℕ) (lu : ups ≡ listed (endOf rows bias) size right₁) (lc : counts ≡ listed (sizeOf rows) size left₁) (in-ups : size ≤ length right₁) (in-counts : size ≤ length left₁) where
     ends : Ends made bias ups
-    ends = record { end = λ i l. ap (λ (m : List ℕ). getD m i 0) lu ∙ listed-at (endOf rows bias) size right₁ in-ups i l ∙ ap (λ (r : Row). raisedEnd bias (r .up)) (row-at i) }
+    ends = record { end = λ i l. ap (λ (m : List ℕ). getD m i 0) lu ∙ listed-at _ size right₁ in-ups i l ∙ rw (row-at i) }
 
     sizes : (i : ℕ) → i < size → getD counts i 0 ≡ at i .runs
-    sizes i l = ap (λ (m : List ℕ). getD m i 0) lc ∙ listed-at (sizeOf rows) size left₁ in-counts i l ∙ ap (λ (r : Row). r .runs) (row-at i)
+    sizes i l = ap (λ (m : List ℕ). getD m i 0) lc ∙ listed-at _ size left₁ in-counts i l ∙ ap (λ (r : Row). r .runs) (row-at i)
 
     pub old-size : (i : ℕ) → i < size → runCount (P i) old ≡ at i .runs
     old-size i l = old-count x sum (at i) (begun x s g long e lent ups ends i l)
@@ -117,7 +117,7 @@ module _ (x : Index) (s : List ℤ) (g : WellFormed x) (long : Extendable x s) (
 
         ends-is : J ≡ lastEnds (getD made first zeroRow) right old
         unfolding joinsOf firstNew
-        ends-is = rw (lt-ltb old n some) (ap (λ (q : Row). lastEnds q right old) (row-at i) ∙ ap (λ (k : ℕ). lastEnds (getD made k zeroRow) right old) (first-new some))
+        ends-is = rw (lt-ltb old n some) (ap (λ (q : Row). lastEnds q right old) (row-at i) ∙ rw (first-new some))
 
         before-is : before (P i) old ≡ J
         before-is = ap (λ (k : ℕ). before (P k) old) (first-new some) ∙ first-joins x s g long e lent ups ends counts counts′ sizes c some left right is ∙ sym ends-is
@@ -131,7 +131,7 @@ module _ (x : Index) (s : List ℤ) (g : WellFormed x) (long : Extendable x s) (
           row = λ t. row-in;
           holds = λ t. has-is i row-in ∙ eq-eqb first i (sym (first-new some));
           goes-on = λ t. before-is ∙ t;
-          fresh = λ f k l m t. let q : k ≡ i = sym (eqb-true first k (sym (has-is k l) ∙ t)) ∙ sym (first-new some) in ap (λ (k : ℕ). before (P k) old) q ∙ before-is ∙ f;
+          fresh = λ f k l m t. let q = sym (eqb-true first k (sym (has-is k l) ∙ t)) ∙ sym (first-new some) in ap (λ (k : ℕ). before (P k) old) q ∙ before-is ∙ f;
         }
 
         own-count : getD counts′ i 0 ≡ runCount (P i) n + bit J
@@ -141,19 +141,19 @@ module _ (x : Index) (s : List ℤ) (g : WellFormed x) (long : Extendable x s) (
             ap (λ (k : ℕ). getD counts′ k 0) (first-new some) ∙ first-count x s g long e lent ups ends counts counts′ sizes c some left right is ∙ (λ j. runCount (P (a j)) n + bit (b j))
 
         count-new : (k : ℕ) → k < size → getD (lessJoin J i counts′) k 0 ≡ runCount (P k) n
-        count-new k l = by-test (eqb k i)
+        count-new k l = by-test _
             (λ t. let q = eqb-true k i t in rw q (by-test J
-            (λ y. rw (less-yes i counts′ y) (getD-set-same counts′ i (getD counts′ i 0 - 1) 0 (omega (arith, row-in, c .long, ap length lc, length-listed (sizeOf rows) size left₁)) ∙ omega (arith, own-count, bit-true y)))
+            (λ y. rw (less-yes i counts′ y) (getD-set-same counts′ i _ 0 (omega (arith, row-in, c .long, ap length lc, length-listed (sizeOf rows) size left₁)) ∙ omega (arith, own-count, bit-true y)))
             (λ f. rw (less-no i counts′ f) (omega (arith, own-count, bit-false f)))))
-            (λ f. let q : (k ≡ i) → ⊥ = eqb-false k i f in
+            (λ f. let q = eqb-false k i f in
             let o = other-counts x s g long e lent ups ends counts counts′ sizes c some left right is k l (λ p. q (p ∙ sym (first-new some))) in
             by-test J
-            (λ y. rw (less-yes i counts′ y) (getD-set-other counts′ i k (getD counts′ i 0 - 1) 0 q ∙ o))
+            (λ y. rw (less-yes i counts′ y) (getD-set-other counts′ i k _ 0 q ∙ o))
             (λ h. rw (less-no i counts′ h) o))
 
       count-old : n ≤ old → (k : ℕ) → k < size → getD (lessJoin J i counts′) k 0 ≡ runCount (P k) n
       count-old h k l =
-          let q : n ≡ old = omega (arith, long .longer) in
+          let q : n ≡ old = omega arith in
           let none = counted-starts s w e old ups size counts .count k l in
           rw (less-no i counts′ (no-join h)) (omega (arith, c .count k l, ap (runCount (isRow (rowFrom s w e old ups size) k)) q, none, sizes k l, old-size k l, ap (runCount (P k)) q))
 
@@ -185,7 +185,7 @@ module _ (x : Index) (s : List ℤ) (g : WellFormed x) (long : Extendable x s) (
       pub matches : Matches (map G made) rows (lessJoin J i counts′)
       unfolding withRuns grown
       matches = record {
-        low = λ k l. let m : k < size = omega (arith, length-map made G) in ap (λ (q : Row). q .low) (row-at k) ∙ sym (ap (λ (q : RangeRow). q .low) (map-at G _ made k m));
-        up = λ k l. let m : k < size = omega (arith, length-map made G) in ap (λ (q : Row). q .up) (row-at k) ∙ sym (ap (λ (q : RangeRow). q .up) (map-at G _ made k m));
-        count = λ k l. let m : k < size = omega (arith, length-map made G) in count-is k m ∙ sym (size-is x s g long k) ∙ sym (ap (λ (q : RangeRow). length (q .runs)) (map-at G _ made k m));
+        low = λ k l. let m : k < size = omega (arith, length-map made G) in ap (λ (q : Row). q .low) (row-at k) ∙ sym (rw (map-at G _ made k m));
+        up = λ k l. let m : k < size = omega (arith, length-map made G) in ap (λ (q : Row). q .up) (row-at k) ∙ sym (rw (map-at G _ made k m));
+        count = λ k l. let m : k < size = omega (arith, length-map made G) in count-is k m ∙ sym (size-is x s g long k) ∙ sym (rw (map-at G _ made k m));
       }

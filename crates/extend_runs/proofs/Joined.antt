@@ -90,25 +90,25 @@ module _ (x : Index) (s : List ℤ) (g : WellFormed x) (long : Extendable x s) w
     shorter = let e = ap length is in (omega (arith, length-entries left right), omega (arith, length-entries left right))
 
     pub copies-left : Copyable (x .rows) rows size (length left) (length left₀)
-    copies-left = copyable x s g long left right is rows total laid (length left) (length left₀) (shorter .0) room-left
+    copies-left = copyable x s g long left right is rows total laid _ _ (shorter .0) room-left
 
     pub copies-right : Copyable (x .rows) rows size (length right) (length right₀)
-    copies-right = copyable x s g long left right is rows total laid (length right) (length right₀) (shorter .1) room-right
+    copies-right = copyable x s g long left right is rows total laid _ _ (shorter .1) room-right
 
     long-left : length oldLeft ≡ length left₀
-    long-left = length-column (x .rows) left rows size left₀ copies-left size (omega arith)
+    long-left = length-column _ left rows size left₀ copies-left size (omega arith)
 
     long-right : length oldRight ≡ length right₀
-    long-right = length-column (x .rows) right rows size right₀ copies-right size (omega arith)
+    long-right = length-column _ right rows size right₀ copies-right size (omega arith)
 
     past : (y : ℕ) → total ≤ y → (i : ℕ) → i < size → getD rows i zeroRow .first + getD rows i zeroRow .runs ≤ y
     past y h i l = omega (arith, laid .fits i l)
 
     past-left : (y : ℕ) → total ≤ y → getD oldLeft y 0 ≡ getD left₀ y 0
-    past-left y h = column-past (x .rows) left rows size left₀ copies-left (laid .apart) y (past y h) size (omega arith)
+    past-left y h = column-past _ left rows size left₀ copies-left (laid .apart) y (past y h) size (omega arith)
 
     past-right : (y : ℕ) → total ≤ y → getD oldRight y 0 ≡ getD right₀ y 0
-    past-right y h = column-past (x .rows) right rows size right₀ copies-right (laid .apart) y (past y h) size (omega arith)
+    past-right y h = column-past _ right rows size right₀ copies-right (laid .apart) y (past y h) size (omega arith)
 
     parts : Parts size n P (partStart size n P) old oldLeft oldRight
     parts = parts-first (first-at x s g long rows fits front) (old-parts x s g long left right is rows total laid left₀ right₀ room-left room-right)
@@ -173,10 +173,10 @@ module _ (x : Index) (s : List ℤ) (g : WellFormed x) (long : Extendable x s) w
         fresh q l b v =
             let z : r ≡ (r - 1) + 1 = omega (arith, ahead) in
             let other : (q ≡ i) → ⊥ = λ p. clash (ap (λ (k : ℕ). P k r) (sym p) ∙ v) (rowed .holds i r (j .row y) (omega (arith, ahead)) b ∙ change .other b) in
-            ap (before (P q)) z ∙ before-more (P q) (r - 1) ∙ others (r - 1) q (omega (arith, ahead)) (omega (arith, ahead)) l other
+            ap (before (P q)) z ∙ before-more (P q) (r - 1) ∙ others (r - 1) q (omega (arith, ahead)) (omega arith) l other
 
         wrote : right′ ≡ set oldRight (partStart size n P i + runCount (P i) old - 1) (old + m)
-        wrote = h .wrote y ∙ ap (λ (k : ℕ). set oldRight k (r - 1)) (where-is y) ∙ ap (set oldRight (partStart size n P i + runCount (P i) old - 1)) (sym last)
+        wrote = h .wrote y ∙ ap (λ (k : ℕ). set oldRight k (r - 1)) (where-is y) ∙ ap (set oldRight _) (sym last)
 
         rl : total ≤ length oldLeft
         rl = omega (arith, room-left, long-left)
@@ -185,15 +185,15 @@ module _ (x : Index) (s : List ℤ) (g : WellFormed x) (long : Extendable x s) w
         rr = omega (arith, room-right, long-right)
 
         joined : Parts size n P (partStart size n P) r oldLeft right′
-        joined = rw (end, sym wrote) at (joined-parts size n P (partStart size n P) total (parts-laid size n P) i old (j .row y) (j .goes-on y) oldLeft oldRight rl rr parts m (omega (arith, end, change .below))
+        joined = rw (end, sym wrote) at (joined-parts size n P _ total (parts-laid size n P) i old (j .row y) (j .goes-on y) oldLeft oldRight rl rr parts m (omega (arith, end, change .below))
             (λ k a b. mine k a (omega (arith, end))) (λ k q a b. others k q a (omega (arith, end))))
 
         joined-cursor : Cursors size n P (partStart size n P) r right′
-        joined-cursor = rw (end, sym wrote) at (joined-cursors size n P (partStart size n P) total (parts-laid size n P) i old (j .row y) (j .goes-on y) oldLeft oldRight rl rr cursors m (omega (arith, end, change .below))
+        joined-cursor = rw (end, sym wrote) at (joined-cursors size n P _ total (parts-laid size n P) i old (j .row y) (j .goes-on y) oldLeft oldRight rl rr cursors m (omega (arith, end, change .below))
             (λ k a b. mine k a (omega (arith, end))) (λ k q a b. others k q a (omega (arith, end))))
 
         same-long : length right′ ≡ length oldRight
-        same-long = ap length wrote ∙ length-set oldRight (partStart size n P i + runCount (P i) old - 1) (old + m)
+        same-long = ap length wrote ∙ length-set oldRight _ _
 
         passable-joined : Passable P s w e t rows size oldLeft right′
         passable-joined = record {
@@ -229,7 +229,7 @@ module _ (x : Index) (s : List ℤ) (g : WellFormed x) (long : Extendable x s) w
           let a = parts-laid size n P .room i (j .row v) in
           let b = runCount-mono (P i) old n (long .longer) in
           let c = some-before (P i) old (j .goes-on v) in
-          ap (λ (k : List ℕ). getD k y 0) (wrote v) ∙ getD-set-other oldRight (partStart size n P i + runCount (P i) old - 1) y (old + m v) 0 (λ q. omega arith) ∙ past-right y l
+          ap (λ (k : List ℕ). getD k y 0) (wrote v) ∙ getD-set-other oldRight _ y _ 0 (λ q. omega arith) ∙ past-right y l
 
       pub past-both : (y : ℕ) → total ≤ y → (getD oldLeft y 0 ≡ getD left₀ y 0) × (getD right′ y 0 ≡ getD right₀ y 0)
       past-both y l = (past-left y l, by-test joins (λ v. past-joined v y l) (λ f. ap (λ (k : List ℕ). getD k y 0) (h .stays f .1) ∙ past-right y l))

@@ -1,5 +1,5 @@
 -- Laws of specs/Joining.
-use Rattle.meaning_numbers.proofs.Prelude.{_≡_, ap, _∙_, Bool, true, List, ℕ, _+_, _-_, _≤_, arith, leb, ℤ, length, set, length-drop, leb-true, by-test, clash}
+use Rattle.meaning_numbers.proofs.Prelude.{_≡_, ap, _∙_, Bool, true, List, ℕ, _+_, _-_, _≤_, arith, ℤ, length, set, length-drop, leb-true, by-test, clash}
 use Rattle.meaning_rows.specs.declared.Row.{Row}
 use Rattle.meaning_rows.proofs.Grown.{lastEnds}
 use Rattle.sums_slide.specs.declared.Window.{Window}
@@ -18,7 +18,7 @@ joined-as a c d f h = rw (← a, ← c, ← d, ← f) h
 -- a row that is joined has a run
 pub joins-some : (s : List ℤ) (w old : ℕ) (r : Row) (right : List ℕ) → joinsOf s w old r right ≡ true → 1 ≤ r .runs
 unfolding joinsOf lastEnds
-joins-some s w old r right h = by-test (leb 1 (r .runs)) (λ t. leb-true 1 (r .runs) t) (λ f. clash h (rw f))
+joins-some s w old r right h = by-test _ (λ t. leb-true 1 _ t) (λ f. clash h (rw f))
 
 -- the row's part, lent and put back
 module _ {s : List ℤ} {w e : ℕ} {p : Window} {joins : Bool} {lo hi : ℕ} (q r : Row) (right : List ℕ) (some : joins ≡ true → 1 ≤ r .runs) where
@@ -37,5 +37,5 @@ module _ {s : List ℤ} {w e : ℕ} {p : Window} {joins : Bool} {lo hi : ℕ} (q
     ahead = h .ahead;
     wrote = λ v.
         let z : q .first + (r .runs - 1) ≡ spotOf q r = omega (arith, some v) in
-        back-set (q .first) right last (r .runs - 1) (t .offset - 1) (h .wrote v) ∙ ap (λ (k : ℕ). set right k (t .offset - 1)) z;
+        back-set _ right last _ _ (h .wrote v) ∙ ap (λ (k : ℕ). set right k (t .offset - 1)) z;
   }

@@ -1,10 +1,10 @@
 -- The rows of an extension, laid out as records, are rows that the pass can fill from the old window count on (`extended-rowed`), and rows that the old runs can be copied to (`extended-laid`).
 use Rattle.meaning_numbers.specs.{Order.within, Sum.Σℕ}
 use Rattle.meaning_numbers.proofs.{Sum.Σℕ-same, Member.all-mem, Member.mem-all, Member.mem-at}
-use Rattle.meaning_numbers.proofs.Prelude.{_≡_, refl, sym, ap, _∙_, subst, Bool, List, map, ℕ, _+_, _-_, _<_, _≤_, arith, ℤ, pos, natAbs, length, getD, take, length-map, getD-take, _≤ℤ_, leZ, zarith, leZ-true, both}
+use Rattle.meaning_numbers.proofs.Prelude.{_≡_, refl, sym, ap, _∙_, subst, Bool, List, map, ℕ, _+_, _-_, _<_, _≤_, arith, ℤ, pos, natAbs, length, getD, take, length-map, getD-take, _≤ℤ_, zarith, leZ-true, both}
 use Rattle.meaning_curves.specs.{Limits.lowestEnd, Curve.windowSum, Curve.windowCount}
-use Rattle.meaning_rows.specs.{declared.Row.Row, Range.lowOf, Range.upOf, Runs.runs, Runs.runCount, Index.Index, Index.RangeRow, Index.records, Index.allRuns, Build.entry, Build.rowNumbers, Build.withRuns, Extend.grown, Extend.extendedRows, Extend.extended}
-use Rattle.meaning_rows.proofs.{Judge.GoodEnd, Judge.GoodRow, Judge.WellFormed, Judge.each-row, Build.numbers-occur, Sums.ends-good, Extend.Extendable, Extend.grown-new, Extend.extended-most, LaidAt.records-at, LaidAt.runs-total}
+use Rattle.meaning_rows.specs.{declared.Row.Row, Range.lowOf, Range.upOf, Runs.runs, Runs.runCount, Index.Index, Index.RangeRow, Index.records, Index.allRuns, Build.entry, Build.withRuns, Extend.grown, Extend.extendedRows, Extend.extended}
+use Rattle.meaning_rows.proofs.{Judge.GoodEnd, Judge.WellFormed, Judge.each-row, Build.numbers-occur, Sums.ends-good, Extend.Extendable, Extend.grown-new, Extend.extended-most, LaidAt.records-at, LaidAt.runs-total}
 use Rattle.meaning_rows.proofs.Woven.{newRow, all-woven, wovenRows, grownRuns, woven-extended, woven-ascends, woven-covers}
 use Rattle.rows_records.specs.Records.{zeroRow}
 use Rattle.build_fill.specs.Pass.{partStart, partsTotal, parts-laid, Rowed}
@@ -18,7 +18,7 @@ pub record GoodEnds (d : ℕ) (r : Row) : Type 0 where
 
 end-limits : (d : ℕ) (z : ℤ) → GoodEnd d z → (lowestEnd ≤ℤ z) × (z ≤ℤ pos 4000000)
 unfolding within
-end-limits d z e = let b = both (leZ lowestEnd z) (leZ z (pos 4000000)) (e .limited) in (leZ-true (b .0), leZ-true (b .1))
+end-limits d z e = let b = both _ _ (e .limited) in (leZ-true (b .0), leZ-true (b .1))
 
 module _ (x : Index) (s : List ℤ) (g : WellFormed x) (long : Extendable x s) where
   abbrev w : ℕ
@@ -52,21 +52,21 @@ module _ (x : Index) (s : List ℤ) (g : WellFormed x) (long : Extendable x s) w
   G = grownRuns x sum old n
 
   one : 0 < d
-  one = omega (arith, g .head .width .least)
+  one = omega arith
 
   new-ends : (k : ℤ) → GoodEnd d (lowOf d k) → GoodEnd d (upOf d k) → GoodEnds d (newRow d k)
   unfolding newRow
   new-ends k a b = record { low = a; up = b }
 
   pub good-ends : (i : ℕ) → i < size → GoodEnds d (at i)
-  good-ends i l = all-mem (GoodEnds d) made (all-woven d (GoodEnds d) (x .rows) (rowNumbers (λ j. sum (old + j)) d (n - old))
-      (mem-all (GoodEnds d) (x .rows) (λ r m. let o = all-mem (GoodRow x) (x .rows) (each-row x g) m in record { low = o .low-end; up = o .up-end }))
-      (λ k m. let o = numbers-occur (λ j. sum (old + j)) d (n - old) k m in
-      let b = ends-good s w d (old + o .at) (long .values) (g .head .window .most) one (g .head .width .most) in
+  good-ends i l = all-mem _ made (all-woven d _ _ _
+      (mem-all (GoodEnds d) _ (λ r m. let o = all-mem _ _ (each-row x g) m in record { low = o .low-end; up = o .up-end }))
+      (λ k m. let o = numbers-occur (λ j. sum _) d _ k m in
+      let b = ends-good s w d _ (long .values) (g .head .window .most) one (g .head .width .most) in
       subst (λ (t : ℤ). GoodEnds d (newRow d t)) (o .is) (new-ends _ (b .0) (b .1)))) (mem-at zeroRow made i l)
 
   pub ends-limits : (i : ℕ) → i < size → ((lowestEnd ≤ℤ at i .low) × (at i .low ≤ℤ pos 4000000)) × ((lowestEnd ≤ℤ at i .up) × (at i .up ≤ℤ pos 4000000))
-  ends-limits i l = (end-limits d (at i .low) (good-ends i l .low), end-limits d (at i .up) (good-ends i l .up))
+  ends-limits i l = (end-limits d _ (good-ends i l .low), end-limits d _ (good-ends i l .up))
 
   pub rows-are : extendedRows x sum n ≡ map G made
   rows-are = woven-extended x sum n g
@@ -91,11 +91,11 @@ module _ (x : Index) (s : List ℤ) (g : WellFormed x) (long : Extendable x s) w
 
     pub low-at : (i : ℕ) → i < size → getD rows i zeroRow .low ≡ at i .low
     unfolding withRuns grown
-    low-at i l = ap (λ (r : Row). r .low) (record-at i l)
+    low-at i l = rw (record-at i l)
 
     pub up-at : (i : ℕ) → i < size → getD rows i zeroRow .up ≡ at i .up
     unfolding withRuns grown
-    up-at i l = ap (λ (r : Row). r .up) (record-at i l)
+    up-at i l = rw (record-at i l)
 
     pub first-at : (i : ℕ) → i < size → getD rows i zeroRow .first ≡ partStart size n P i
     first-at i l =
@@ -113,11 +113,11 @@ module _ (x : Index) (s : List ℤ) (g : WellFormed x) (long : Extendable x s) w
           let lo = b .0 .0 in
           let hi = b .1 .1 in
           let wide = low-from lowestEnd made i l (woven-ascends x s g long) .1 in
-          record { least = rw (low-at i l) (omega (zarith, lo, hi)); order = rw (low-at i l, up-at i l) (omega (zarith, wide)); most = rw (up-at i l) (omega (zarith, hi)) };
+          record { least = rw (low-at i l) (omega (zarith, lo, hi)); order = rw (low-at i l, up-at i l) (omega zarith); most = rw (up-at i l) (omega (zarith, hi)) };
       apart = λ i k a b. rw (up-at i (omega arith), low-at k b) (in-order lowestEnd made i k a b (woven-ascends x s g long));
       holds = λ i j l a b. grown-new x sum old (at i) j a ∙ sym (rw (low-at i l, up-at i l) refl);
       home = λ j a b. let h = holder made (sum j) (woven-covers x s g long j a b) in
-          record { at = h .at; below = h .below; is = grown-new x sum old (at (h .at)) j a ∙ h .holds };
+          record { at = h .at; below = h .below; is = grown-new x sum old _ j a ∙ h .holds };
       first = first-at;
       runs = runs-at;
     }

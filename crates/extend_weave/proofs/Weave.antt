@@ -2,7 +2,7 @@
 use Rattle.meaning_numbers.proofs.Member.{All}
 use Rattle.meaning_numbers.proofs.Prelude.{_≡_, refl, sym, ap, _∙_, subst, ⊎-elim, List, [], _∷_, _++_, map, List·Memᴰ as Mem, List·Memᴰ·cases-cons as cases, List·Memᴰ·not-nil as not-nil, append-nil, append-assoc, ℕ, zero, suc, _+_, _-_, _*_, _<_, _≤_, arith, add-one, decLt, ℤ, pos, _+ℤ_, length, getD, set, take, drop, length-set, length-map, length-append, length-drop, drop-of-length-le, List·getD-map, drop-cons, take-suc-set, take-set-le, getD-take, length-take-le, _≤ℤ_, _<ℤ_, ≤ℤ-refl, lt-ltb, le-ltb, zarith, z-sub, rep-eq, rep-pos, rep-sub, rep-mul, lt-ltZ, le-ltZ}
 use Rattle.meaning_curves.specs.Limits.{lowestEnd}
-use Rattle.meaning_rows.specs.{declared.Row.Row, Range.lowOf, Range.upOf}
+use Rattle.meaning_rows.specs.{declared.Row.Row, Range.lowOf}
 use Rattle.meaning_rows.proofs.{Range.where-is, Range.le-leZ, Range.lt-leZ, Range.next-le, Range.widen, Range.up-is, Times.Ascending, Build.Above, Build.Sorted, Build.mem-above, Judge.rangeOf, Columns.getD-past}
 use Rattle.meaning_rows.proofs.Woven.{newRow, woven, woven-long, weave-none, weave-inside, weave-new, weave-old}
 use Rattle.sums_count.specs.Numbers.{lowered}
@@ -26,7 +26,7 @@ sorted-drop (suc i) (x ∷ l) s = sorted-drop i l (s .1)
 lows-above : (z a : ℤ) (l : List Row) → z <ℤ a → Ascending a (map rangeOf l) → All (λ r. z <ℤ r .low) l
 unfolding Ascending All
 lows-above z a [] h p = tt
-lows-above z a (r ∷ l) h p = let x = p .0 in let y = p .1 in (omega zarith, lows-above z (r .up) l (omega zarith) (p .2))
+lows-above z a (r ∷ l) h p = (omega zarith, lows-above z (r .up) l (omega zarith) (p .2))
 
 all-at : (P : Row → Type 0) (o : Row) (l : List Row) (i : ℕ) → All P l → i < length l → P (getD l i o)
 unfolding All
@@ -40,12 +40,12 @@ wides a [] p = tt
 wides a (r ∷ l) p = (p .1, wides (r .up) l (p .2))
 
 heads-above : (z : ℤ) (r : Row) (l : List Row) → z <ℤ r .low → Ascending (r .low) (map rangeOf (r ∷ l)) → All (λ q. z <ℤ q .low) (r ∷ l)
-heads-above z r l h p = lows-above z (r .low) (r ∷ l) h p
+heads-above z r l h p = lows-above z _ (r ∷ l) h p
 
 ascends-from : (l : List Row) (i : ℕ) (a : ℤ) (o : Row) → i < length l → Ascending a (map rangeOf l) → Ascending (getD l i o .low) (map rangeOf (getD l i o ∷ drop (suc i) l))
 unfolding Ascending
 ascends-from [] i a o h p = absurd (omega arith)
-ascends-from (r ∷ l) zero a o h p = (≤ℤ-refl (r .low), p .1, p .2)
+ascends-from (r ∷ l) zero a o h p = (≤ℤ-refl _, p .1, p .2)
 ascends-from (r ∷ l) (suc i) a o h p = ascends-from l i (r .up) o (omega arith) (p .2)
 
 none-all : (P : Row → Type 0) → All P []
@@ -67,7 +67,7 @@ module _ (old : List Row) (numbers : List ℕ) (count d base : ℕ) (before : Li
   long-ks = omega (arith, length-map (take count numbers) (lowered base), length-take-le count numbers (can .cells .fits))
 
   one : 0 < d
-  one = omega (arith, can .width .0)
+  one = omega arith
 
   sorted : Sorted ks
   sorted = rising-sorted base (take count numbers) (record {
@@ -80,11 +80,11 @@ module _ (old : List Row) (numbers : List ℕ) (count d base : ℕ) (before : Li
   key b = lowered base (getD numbers b 0)
 
   drop-key : (b : ℕ) → b < count → drop b ks ≡ key b ∷ drop (suc b) ks
-  drop-key b h = drop-cons ks b (lowered base 0) (omega (arith, long-ks)) ∙ rw (List·getD-map (lowered base) (take count numbers) b 0, getD-take count numbers b 0 h)
+  drop-key b h = drop-cons ks b (lowered base 0) (omega (arith, long-ks)) ∙ rw (List·getD-map (lowered base) _ b 0, getD-take count numbers b 0 h)
 
   low-in : (b : ℕ) → b < count → lowAt numbers count d base b ≡ lowOf d (key b)
   unfolding lowAt lowered
-  low-in b h = rw (lt-ltb b count h) (rep-eq (rep-sub (rep-pos (getD numbers b 0 * d)) (rep-pos (base * d))) (rep-mul (rep-sub (rep-pos (getD numbers b 0)) (rep-pos base)) (rep-pos d)) (omega arith))
+  low-in b h = rw (lt-ltb b count h) (rep-eq (rep-sub (rep-pos _) (rep-pos (base * d))) (rep-mul (rep-sub (rep-pos _) (rep-pos base)) (rep-pos d)) (omega arith))
 
   low-end : (b : ℕ) → count ≤ b → lowAt numbers count d base b ≡ endLow
   unfolding lowAt
@@ -102,7 +102,7 @@ module _ (old : List Row) (numbers : List ℕ) (count d base : ℕ) (before : Li
       most = rw (lt-ltb b count l) (omega (zarith, z-sub (pos (getD numbers b 0 * d)) (pos (base * d)), can .cells .small b l));
       width = can .width .1;
     }
-    | no f ↦ record { least = rw (le-ltb b count (omega arith)) (omega (zarith, z-sub (pos 0) (pos 1000000000))); most = rw (le-ltb b count (omega arith)) (omega zarith); width = can .width .1 }
+    | no f ↦ record { least = rw (le-ltb b count (omega arith)) (omega zarith); most = rw (le-ltb b count (omega arith)) (omega zarith); width = can .width .1 }
   ]
 
   pub weaving-starts : Weaving old numbers count d base before 0 0 0 before
@@ -112,7 +112,7 @@ module _ (old : List Row) (numbers : List ℕ) (count d base : ℕ) (before : Li
     pub weaving-ends : length old + count ≤ a + b → Made old numbers count d base before k rows
     weaving-ends h =
         let rest : woven d (drop a old) (drop b ks) ≡ [] = rw (drop-of-length-le old {i = a} (omega (arith, w .in-old, w .in-numbers)), drop-of-length-le ks {i = b} (omega (arith, w .in-old, w .in-numbers, long-ks))) (weave-none d []) in
-        let all : take k rows ≡ woven d old ks = sym (append-nil (take k rows)) ∙ ap (λ (l : List Row). take k rows ++ l) (sym rest) ∙ w .done in
+        let all = sym (append-nil _) ∙ ap (λ (l : List Row). take k rows ++ l) (sym rest) ∙ w .done in
         record { count-is = sym (length-take-le k rows (w .in-rows)) ∙ ap length all; rows-are = all; long = w .long }
 
     -- what is still to be made
@@ -125,7 +125,7 @@ module _ (old : List Row) (numbers : List ℕ) (count d base : ℕ) (before : Li
     makes : (r : Row) (more : List Row) → rest ≡ r ∷ more → take (k + 1) (set rows k r) ++ more ≡ woven d old ks
     makes r more e =
         let l : k < length rows = omega (arith, room, ap length e) in
-        rw (add-one k, take-suc-set rows k r l, append-assoc (take k rows) (r ∷ []) more) (ap (λ (m : List Row). take k rows ++ m) (sym e) ∙ w .done)
+        rw (add-one k, take-suc-set rows k r l, append-assoc _ _ more) (ap (λ (m : List Row). take k rows ++ m) (sym e) ∙ w .done)
 
     -- the next old row, and the low end of the next number's range
     abbrev next : Row
@@ -161,8 +161,8 @@ module _ (old : List Row) (numbers : List ℕ) (count d base : ℕ) (before : Li
       | yes l ↦
           let s = subst Sorted (drop-key b l) (sorted-drop b ks sorted) in
           let e = low-in b l in
-          ⊎-elim (λ q. subst (λ (t : ℤ). next .up ≤ℤ lowOf d t) (sym q) (subst (λ (t : ℤ). next .up ≤ℤ t) e h))
-          (λ o. let p = next-le d (key b) z (mem-above z (key b) (drop (suc b) ks) (first-above (key b) (drop (suc b) ks) s) o) in let wide = widen d (key b) one in omega zarith)
+          ⊎-elim (λ q. rw q (rw e at h))
+          (λ o. let p = next-le d (key b) z (mem-above z (key b) _ (first-above (key b) _ s) o) in let wide = widen d (key b) one in omega zarith)
           (cases (subst (Mem z) (drop-key b l) m))
       | no f ↦ absurd (none-left z (subst (Mem z) (drop-of-length-le ks {i = b} (omega (arith, long-ks))) m))
     ]
@@ -170,14 +170,14 @@ module _ (old : List Row) (numbers : List ℕ) (count d base : ℕ) (before : Li
     -- by where the number's range lies: below the next old row, in it, or past it
     module _ {X : Type 0} (left : a + b < length old + count) (new : low <ℤ next .low → b < count → X) (held : next .low ≤ℤ low → low <ℤ next .up → a < length old → b < count → X) (kept : next .up ≤ℤ low → a < length old → X) where
       by-place : X
-      by-place = where-is (next .low) (next .up) low
+      by-place = where-is _ _ low
           (λ h. let o = row-order in let m = row-most in new h (number-left (omega zarith)))
           (λ h l. let m = row-most in held h l (row-left (omega zarith)) (number-left (omega zarith)))
           (λ h l. kept l (elim (decLt a (length old)) [
             | yes s ↦ s
             | no f ↦
                 let e = ap (λ (r : Row). r .up) (getD-past endRow old a (omega arith)) in
-                let c : b < count = omega (arith, w .in-old) in
+                let c : b < count = omega arith in
                 let m = low-least b c in
                 absurd (omega zarith)
           ]))
@@ -186,7 +186,7 @@ module _ (old : List Row) (numbers : List ℕ) (count d base : ℕ) (before : Li
     unfolding chosenOf newRow
     new-row h l =
         let e = low-in b l in
-        let u : low +ℤ pos d ≡ upOf d (key b) = ap (λ (z : ℤ). z +ℤ pos d) e ∙ sym (up-is d (key b)) in
+        let u = ap (λ (z : ℤ). z +ℤ pos d) e ∙ sym (up-is d (key b)) in
         rw (lt-ltZ h) (λ i. record { low = e i; up = u i; first = 0; runs = 0 })
 
     old-row : next .low ≤ℤ low → chosenOf next low d ≡ next
@@ -196,23 +196,23 @@ module _ (old : List Row) (numbers : List ℕ) (count d base : ℕ) (before : Li
     new-rest : low <ℤ next .low → b < count → rest ≡ newRow d (key b) ∷ woven d (drop a old) (drop (suc b) ks)
     new-rest h l =
         let s = subst Sorted (drop-key b l) (sorted-drop b ks sorted) in
-        let z : lowOf d (key b) <ℤ next .low = subst (λ (t : ℤ). t <ℤ next .low) (low-in b l) h in
-        ap (woven d (drop a old)) (drop-key b l) ∙ weave-new d one (drop a old) (key b) (drop (suc b) ks) (all-above z) (first-above (key b) (drop (suc b) ks) s)
+        let z = rw (low-in b l) at h in
+        ap (woven d (drop a old)) (drop-key b l) ∙ weave-new d one _ (key b) _ (all-above z) (first-above (key b) _ s)
       where
         all-above : lowOf d (key b) <ℤ next .low → All (λ r. lowOf d (key b) <ℤ r .low) (drop a old)
         all-above z = elim (decLt a (length old)) [
-          | yes m ↦ subst (All (λ r. lowOf d (key b) <ℤ r .low)) (sym (drop-cons old a endRow m)) (heads-above (lowOf d (key b)) next (drop (suc a) old) z (ascends-from old a lowestEnd endRow m (can .ascending)))
+          | yes m ↦ subst (All (λ r. lowOf d (key b) <ℤ r .low)) (sym (drop-cons old a endRow m)) (heads-above _ next _ z (ascends-from old a lowestEnd endRow m (can .ascending)))
           | no f ↦ subst (All (λ r. lowOf d (key b) <ℤ r .low)) (sym (drop-of-length-le old {i = a} (omega arith))) (none-all (λ r. lowOf d (key b) <ℤ r .low))
         ]
 
     held-rest : next .low ≤ℤ low → low <ℤ next .up → a < length old → b < count → rest ≡ woven d (drop a old) (drop (suc b) ks)
     held-rest h u m l =
-        let p : next .low ≤ℤ lowOf d (key b) = subst (λ (t : ℤ). next .low ≤ℤ t) (low-in b l) h in
-        let q : lowOf d (key b) <ℤ next .up = subst (λ (t : ℤ). t <ℤ next .up) (low-in b l) u in
-        rw (drop-key b l, drop-cons old a endRow m) (weave-inside d next (drop (suc a) old) (key b) (drop (suc b) ks) p q)
+        let p = rw (low-in b l) at h in
+        let q = rw (low-in b l) at u in
+        rw (drop-key b l, drop-cons old a endRow m) (weave-inside d next _ (key b) _ p q)
 
     kept-rest : next .up ≤ℤ low → a < length old → rest ≡ next ∷ woven d (drop (suc a) old) (drop b ks)
-    kept-rest h m = rw (drop-cons old a endRow m) (weave-old d one next (drop (suc a) old) (drop b ks) (row-wide m .0) (λ z o. keys-above z o h))
+    kept-rest h m = rw (drop-cons old a endRow m) (weave-old d one next _ _ (row-wide m .0) (λ z o. keys-above z o h))
 
     -- a turn makes the next record, and passes an old row or a number
     pub weaving-room : a + b < length old + count → k < length rows

@@ -1,14 +1,14 @@
 -- The row numbers of the new windows can be woven among the old rows (`weavable`), and the records made and cleared are the rows of the extension (`woven-rows`, `row-is`).
 use Rattle.meaning_numbers.specs.Order.{within}
 use Rattle.meaning_numbers.proofs.Member.{all-mem, mem-all, mem-at}
-use Rattle.meaning_numbers.proofs.Prelude.{_≡_, refl, sym, ap, _∙_, List, _++_, map, ℕ, zero, suc, _+_, _-_, _*_, _<_, _≤_, arith, decLt, div-mul-le-self, ltb, ℤ, pos, natAbs, length, getD, take, drop, replicate, length-map, length-append, length-replicate, List·getD-append, getD-take, getD-append-add, _≤ℤ_, _<ℤ_, leZ, ltb-true, zarith, leZ-true, by-test, both}
+use Rattle.meaning_numbers.proofs.Prelude.{_≡_, refl, sym, ap, _∙_, List, _++_, map, ℕ, zero, suc, _+_, _-_, _*_, _<_, _≤_, arith, decLt, div-mul-le-self, ltb, ℤ, pos, natAbs, length, getD, take, replicate, length-map, length-append, length-replicate, List·getD-append, getD-take, getD-append-add, _≤ℤ_, _<ℤ_, leZ, ltb-true, zarith, leZ-true, by-test, both}
 use Rattle.meaning_curves.specs.{Limits.lowestEnd, Curve.windowSum, Curve.windowCount}
 use Rattle.meaning_rows.specs.{declared.Row.Row, Index.Index}
-use Rattle.meaning_rows.proofs.{Judge.GoodEnd, Judge.GoodRow, Judge.WellFormed, Judge.each-row, Judge.ranges-ascend, Build.numbers-length, Extend.Extendable, Woven.woven, Woven.wovenRows, Woven.woven-most, Columns.getD-past}
+use Rattle.meaning_rows.proofs.{Judge.GoodEnd, Judge.WellFormed, Judge.each-row, Judge.ranges-ascend, Build.numbers-length, Extend.Extendable, Woven.woven, Woven.wovenRows, Woven.woven-most, Columns.getD-past}
 use Rattle.meaning_entries.specs.Buffers.{filled}
 use Rattle.rows_records.specs.Records.{zeroRow}
 use Rattle.sums_slide.specs.{Table.table, Picked.Appended}
-use Rattle.sums_slide.specs.Levels.{level, level-small, rowOf, Lent, windowsOf}
+use Rattle.sums_slide.specs.Levels.{level-small, rowOf, Lent, windowsOf}
 use Rattle.sums_slide.proofs.Marks.{yes-met}
 use Rattle.sums_count.specs.{Numbers.lowered, Tally.Rising}
 use Rattle.sums_count.proofs.{Numbers.table-only, Rows.table-rises}
@@ -23,7 +23,7 @@ end-below d z e = let h : z ≤ℤ pos 4000000 = leZ-true (both (leZ lowestEnd z
 -- the table of the new windows rises
 new-rises : (s : List ℤ) (old w e d : ℕ) → Rising (newTable s old w e d) (length (newTable s old w e d))
 unfolding newTable
-new-rises s old w e d = by-test (ltb old (windowsOf s w)) (λ t. rw t (table-rises (drop old s) w e d)) (λ f. rw f (record { up = λ i k a h. absurd (omega arith) }))
+new-rises s old w e d = by-test (ltb old (windowsOf s w)) (λ t. rw t (table-rises _ w e d)) (λ f. rw f (record { up = λ i k a h. absurd (omega arith) }))
 
 row-small : (lv : ℕ → ℕ) (d j k : ℕ) → rowOf lv d j ≡ k → lv j ≤ 6120000 → k * d ≤ 1000000000
 unfolding rowOf
@@ -32,13 +32,13 @@ row-small lv d j k e h = rw (← e) (omega (arith, div-mul-le-self (lv j) d))
 module _ {s : List ℤ} {w e : ℕ} (d b : ℕ) (one : 0 < d) (bias : 10000 * w + e ≡ b * d) (lent : Lent s w e) where
   table-small : (i : ℕ) → i < length (table s w e d) → getD (table s w e d) i 0 * d ≤ 1000000000
   table-small i l =
-      let m = yes-met (rowOf (level s w e) d) (windowsOf s w) (getD (table s w e d) i 0) (table-only d b one bias lent (getD (table s w e d) i 0) (mem-at 0 (table s w e d) i l)) in
-      row-small (level s w e) d (m .at) (getD (table s w e d) i 0) (m .is) (level-small (m .at) lent)
+      let m = yes-met _ _ _ (table-only d b one bias lent _ (mem-at 0 _ i l)) in
+      row-small _ d (m .at) _ (m .is) (level-small (m .at) lent)
 
 new-small : {s : List ℤ} {w e : ℕ} (old d b : ℕ) → 0 < d → 10000 * w + e ≡ b * d → Lent s w e → (i : ℕ) → i < length (newTable s old w e d) → getD (newTable s old w e d) i 0 * d ≤ 1000000000
 unfolding newTable
 new-small {s} {w} {e} old d b one bias lent i = by-test (ltb old (windowsOf s w))
-    (λ t. rw t (λ l. table-small d b one bias (rest-lent old (ltb-true old (windowsOf s w) t) lent) i l))
+    (λ t. rw t (λ l. table-small d b one bias (rest-lent old (ltb-true old _ t) lent) i l))
     (λ f. rw f (λ l. absurd (omega arith)))
 
 module _ (x : Index) (s : List ℤ) (g : WellFormed x) (long : Extendable x s) (e b : ℕ) (lent : Lent s (natAbs (x .window)) e) (bias : 10000 * natAbs (x .window) + e ≡ b * natAbs (x .width)) where
@@ -61,7 +61,7 @@ module _ (x : Index) (s : List ℤ) (g : WellFormed x) (long : Extendable x s) (
   size = length made
 
   one : 0 < d
-  one = omega (arith, g .head .width .least)
+  one = omega arith
 
   -- there is room for the row numbers where there is room for the windows
   pub table-fits : length (newTable s old w e d) ≤ n
@@ -69,25 +69,25 @@ module _ (x : Index) (s : List ℤ) (g : WellFormed x) (long : Extendable x s) (
 
   module _ {k : ℕ} {left₀ left : List ℕ} (a : Appended (newTable s old w e d) 0 k left₀ left) (fits : k ≤ length left) where
     many : k ≡ length (newTable s old w e d)
-    many = omega (arith, a .count)
+    many = omega arith
 
     number-is : (i : ℕ) → i < k → getD left i 0 ≡ getD (newTable s old w e d) i 0
-    number-is i l = sym (getD-take k left i 0 l) ∙ ap (λ (m : List ℕ). getD m i 0) (a .front)
+    number-is i l = sym (getD-take k left i 0 l) ∙ rw (a .front)
 
     made-is : woven d (x .rows) (numbersOf left k b) ≡ made
-    made-is = ap (woven d (x .rows)) (ap (map (lowered b)) (a .front) ∙ new-numbers old d b one bias lent)
+    made-is = ap (woven d _) (ap (map _) (a .front) ∙ new-numbers old d b one bias lent)
 
     pub weavable : (room : ℕ) → n ≤ room → Weavable (x .rows) left k d b room
     weavable room h = record {
       width = (g .head .width .least, g .head .width .most);
       cells = record {
         fits = fits;
-        small = λ i l. rw (number-is i l) (new-small old d b one bias lent i (omega (arith, many)));
-        low-base = omega (arith, bias, lent .most, lent .small);
+        small = λ i l. rw (number-is i l) (new-small old d b one bias lent i (omega arith));
+        low-base = omega arith;
       };
-      rising = record { up = λ i j l m. rw (number-is i (omega arith), number-is j m) (new-rises s old w e d .up i j l (omega (arith, many))) };
+      rising = record { up = λ i j l m. rw (number-is i (omega arith), number-is j m) (new-rises s old w e d .up i j l (omega arith)) };
       ascending = ranges-ascend x g;
-      below = mem-all (λ r. r .up <ℤ endLow) (x .rows) (λ r m. end-below d (r .up) (all-mem (GoodRow x) (x .rows) (each-row x g) m .up-end));
+      below = mem-all (λ r. r .up <ℤ endLow) _ (λ r m. end-below d (r .up) (all-mem _ _ (each-row x g) m .up-end));
       room = rw made-is (omega (arith, woven-most x s g long));
     }
 
@@ -103,14 +103,14 @@ module _ (x : Index) (s : List ℤ) (g : WellFormed x) (long : Extendable x s) (
   pub row-is : (rows₀ : List Row) (i : ℕ) → getD (filled zeroRow made rows₀) i zeroRow ≡ getD made i zeroRow
   unfolding filled
   row-is rows₀ i =
-      let r : List Row = replicate (length rows₀ - size) zeroRow in
+      let r = replicate (length rows₀ - size) zeroRow in
       elim (decLt i size) [
         | yes l ↦ List·getD-append made r zeroRow i l
         | no f ↦ let q : size + (i - size) ≡ i = omega arith in
-            ap (λ (z : ℕ). getD (made ++ r) z zeroRow) (sym q) ∙ getD-append-add made r (i - size) zeroRow ∙ none (length rows₀ - size) (i - size) ∙ sym (getD-past zeroRow made i (omega arith))
+            ap (λ (z : ℕ). getD (made ++ r) z zeroRow) (sym q) ∙ getD-append-add made r _ zeroRow ∙ none (length rows₀ - size) (i - size) ∙ sym (getD-past zeroRow made i (omega arith))
       ]
     where
-      none : (k i : ℕ) → let l : List Row = replicate k zeroRow in getD l i zeroRow ≡ zeroRow
+      none : (k i : ℕ) → let l = replicate k zeroRow in getD l i zeroRow ≡ zeroRow
       none zero i = refl
       none (suc k) zero = refl
       none (suc k) (suc i) = none k i

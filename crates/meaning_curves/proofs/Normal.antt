@@ -23,4 +23,4 @@ cut-only i k = omega (arith, cut-most i k, cut-most k i)
 
 pub normalised-is : (s : ℕ → ℤ) (m j : ℕ) → 0 < spread s m → (t : ℕ) × IsCut (spread s m) (centred s m j) t × (normalised s m j ≡ signed (centred s m j) t)
 unfolding normalised
-normalised-is s m j h = (cut (spread s m) (centred s m j), cut-is (centred s m j) h, refl)
+normalised-is s m j h = (cut _ _, cut-is _ h, refl)

@@ -26,8 +26,8 @@ squares-of m (suc w) t s =
     let B = rep-self (pos (2 * m) *ℤ t) in
     let T = rep-self (t *ℤ t) in
     let X = rep-self (s w) in
-    let X² = rep-self (s w *ℤ s w) in
-    let S = rep-self (Σℤ w s) in
+    let X² = rep-self _ in
+    let S = rep-self _ in
     let Q = rep-self (Σℤ w (λ k. s k *ℤ s k)) in
     rw (squares-of m w t s, square-of m (s w) t)
     (rep-eq (rep-add (rep-add (rep-sub (rep-mul M Q) (rep-mul B S)) (rep-mul (rep-pos w) T)) (rep-add (rep-sub (rep-mul M X²) (rep-mul B X)) T))
@@ -37,7 +37,7 @@ pub centred-sum : (s : ℕ → ℤ) (m : ℕ) → Σℕ m (λ k. square (natAbs 
 centred-sum s m =
     let T = rep-self (Σℤ m s) in
     let Q = rep-self (Σℤ m (λ k. s k *ℤ s k)) in
-    let a = ap (λ (x : ℕ). m * x) (eq-rep (rep-pos (spread s m)) (rep-sub (rep-mul (rep-pos m) Q) (rep-mul T T)) (spread-is s m)) in
+    let a = ap (λ (x : ℕ). m * x) (eq-rep (rep-pos _) (rep-sub (rep-mul (rep-pos m) Q) (rep-mul T T)) (spread-is s m)) in
     let right = rep-add (rep-sub (rep-mul (rep-pos (m * m)) Q) (rep-mul (rep-mul (rep-pos (2 * m)) T) T)) (rep-mul (rep-pos m) (rep-mul T T)) in
     let b = eq-rep (rep-pos (Σℕ m (λ k. square (natAbs (centred s m k))))) right (sym (squares m (centred s m)) ∙ squares-of m m (Σℤ m s) s) in
     omega arith
@@ -56,16 +56,16 @@ normal-square s m k some h =
     let c = centred s m k in
     let t = cut A c in
     let i = cut-is c some in
-    let e : t * t ≤ 10000 * m = le-of-mul-le-mul-right {m = t * t} {n = 10000 * m} {k = A}
+    let e : t * t ≤ 10000 * m = le-of-mul-le-mul-right
     (omega (arith, i .low, centred-sum s m, Σℕ-term m k (λ j. square (natAbs (centred s m j))) h)) some in
     rw (natAbs-signed c t) e
 
 pub normal-small : (s : ℕ → ℤ) (m k : ℕ) → 0 < spread s m → k < m → m ≤ 1024 → natAbs (normalised s m k) ≤ 3200
-normal-small s m k some h short = le-of-sq-le {x = natAbs (normalised s m k)} {r = 3200} (omega (arith, normal-square s m k some h))
+normal-small s m k some h short = le-of-sq-le (omega (arith, normal-square s m k some h))
 
 -- ---- the spread
 
 pub spread-le : (s : ℕ → ℤ) (m v : ℕ) → ((k : ℕ) → k < m → natAbs (s k) ≤ v) → spread s m ≤ m * v * (m * v)
 unfolding spread
 spread-le s m v h =
-    omega (arith, mul-le-mul-left m (Σℕ-le m (v * v) (λ k. square (natAbs (s k))) (λ k l. sq-le (h k l))))
+    omega (arith, mul-le-mul-left m (Σℕ-le m (v * v) (λ k. square _) (λ k l. sq-le (h k l))))

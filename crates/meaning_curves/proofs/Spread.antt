@@ -23,8 +23,8 @@ sizes (suc m) s = omega (arith, sizes m s, z-add (Σℤ m s) (s m), z-abs (Σℤ
 pub spread-is : (s : ℕ → ℤ) (m : ℕ) → pos (spread s m) ≡ pos m *ℤ Σℤ m (λ k. s k *ℤ s k) -ℤ total s m *ℤ total s m
 unfolding spread
 spread-is s m =
-    let Q = Σℕ m (λ k. square (natAbs (s k))) in
+    let Q = Σℕ m (λ k. square _) in
     let t = natAbs (total s m) in
-    rw (squares m s, squareℤ (total s m))
-    (rep-eq (rep-pos (m * Q - square t)) (rep-sub (rep-mul (rep-pos m) (rep-pos Q)) (rep-pos (square t)))
+    rw (squares m s, squareℤ _)
+    (rep-eq (rep-pos _) (rep-sub (rep-mul (rep-pos m) (rep-pos Q)) (rep-pos (square t)))
     (omega (arith, sq-le (sizes m s), cauchy m (λ k. natAbs (s k)))))

@@ -7,9 +7,9 @@ use Rattle.meaning_curves.proofs.Table.{warped-is}
 pub diagonal : {s q : ℕ → ℤ} {i j t : ℕ} → WarpPath s q 0 i j t → (i ≡ j) × (t ≡ straight s q (suc i))
 unfolding straight Σℕ
 diagonal start = (refl, omega arith)
-diagonal (first p n) = let d = diagonal p in absurd (omega (arith, n .first, d .0))
-diagonal (second p n) = let d = diagonal p in absurd (omega (arith, n .second, d .0))
-diagonal {s} (both {i} {j} p n) = let d = diagonal p in let e : j ≡ i = omega arith in rw e (refl, omega (arith, d .1))
+diagonal (first p n) = let d = diagonal p in absurd (omega arith)
+diagonal (second p n) = let d = diagonal p in absurd (omega arith)
+diagonal {s} (both {i} {j} p n) = let d = diagonal p in let e : j ≡ i = omega arith in rw e (refl, omega arith)
 
 pub diagonal-path : (s q : ℕ → ℤ) (i : ℕ) → WarpPath s q 0 i i (straight s q (suc i))
 unfolding straight Σℕ

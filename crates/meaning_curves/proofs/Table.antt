@@ -97,7 +97,7 @@ module _ (s q : ℕ → ℤ) (b : ℕ) where
 
   step-all : (i j : ℕ) {P : ℕ → Type 0} {o : Option ℕ} → (Near b i j → All (λ t. P (t + cost (s i) (q j))) o) → All P (step s q b i j o)
   unfolding step
-  step-all i j f = when-all (near b i j) (λ t. plus-all (cost (s i) (q j)) (f (near-yes b i j t)))
+  step-all i j f = when-all _ (λ t. plus-all _ (f (near-yes b i j t)))
 
   first-row-all : (j : ℕ) → All (WarpPath s q b 0 j) (firstRow s q b j)
   unfolding firstRow
@@ -113,27 +113,27 @@ module _ (s q : ℕ → ℤ) (b : ℕ) where
   pub attained : (i j : ℕ) → All (WarpPath s q b i j) (table s q b i j)
   unfolding table
   attained zero j = first-row-all j
-  attained (suc i) j = next-row-all i j (table s q b i) (attained i)
+  attained (suc i) j = next-row-all i j _ (attained i)
 
   -- ---- and least
 
   step-under : {i j n : ℕ} {o : Option ℕ} → Near b i j → Under o n → Under (step s q b i j o) (n + cost (s i) (q j))
   unfolding step
-  step-under {i} {j} h k = when-under (near b i j) (yes-near h) (plus-under (cost (s i) (q j)) k)
+  step-under {i} {j} h k = when-under _ (yes-near h) (plus-under _ k)
 
   after-first : (i j : ℕ) {n : ℕ} → Near b (suc i) j → Under (table s q b i j) n → Under (table s q b (suc i) j) (n + cost (s (suc i)) (q j))
   unfolding table nextRow
   after-first i zero h k = step-under h k
-  after-first i (suc j) h k = step-under h (least-right (table s q b i j) (least-left (table s q b (suc i) j) k))
+  after-first i (suc j) h k = step-under h (least-right _ (least-left _ k))
 
   after-second : (i j : ℕ) {n : ℕ} → Near b i (suc j) → Under (table s q b i j) n → Under (table s q b i (suc j)) (n + cost (s i) (q (suc j)))
   unfolding table firstRow nextRow
   after-second zero j h k = step-under h k
-  after-second (suc i) j h k = step-under h (least-right (table s q b i j) (least-right (table s q b i (suc j)) k))
+  after-second (suc i) j h k = step-under h (least-right _ (least-right _ k))
 
   after-both : (i j : ℕ) {n : ℕ} → Near b (suc i) (suc j) → Under (table s q b i j) n → Under (table s q b (suc i) (suc j)) (n + cost (s (suc i)) (q (suc j)))
   unfolding table nextRow
-  after-both i j h k = step-under h (least-left (least (table s q b i (suc j)) (table s q b (suc i) j)) k)
+  after-both i j h k = step-under h (least-left _ k)
 
   pub least-total : {i j n : ℕ} → WarpPath s q b i j n → Under (table s q b i j) n
   unfolding table firstRow

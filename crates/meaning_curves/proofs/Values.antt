@@ -1,7 +1,7 @@
 -- A value in its limits, and every value of a list: by place, with a default that lies in the limits, so that no length is asked. What two such values are apart is at most 20,000, and its square at most 400,000,000.
 use Rattle.meaning_numbers.specs.Sum.{Σℕ}
 use Rattle.meaning_numbers.proofs.{Sum.Σℕ-le, Root.sq-le, Between.Between, Between.within-yes, Between.yes-within}
-use Rattle.meaning_numbers.proofs.Prelude.{_≡_, sym, subst, Bool, true, false, not, ⊎-elim, List, none, ℕ, suc, _+_, _*_, _<_, _≤_, _-_, decLe, arith, T, length, List·getD-eq-default, take, length-take, ℤ, pos, negsuc, _-ℤ_, natAbs, zarith, z-sub, z-abs, is-true, is-false, decided}
+use Rattle.meaning_numbers.proofs.Prelude.{_≡_, sym, subst, true, false, not, ⊎-elim, List, none, ℕ, suc, _+_, _*_, _<_, _≤_, _-_, decLe, arith, T, length, List·getD-eq-default, take, length-take, ℤ, pos, negsuc, _-ℤ_, natAbs, zarith, z-sub, z-abs, is-true, is-false, decided}
 use Rattle.meaning_curves.specs.{Limits.valueIn, Limits.firstOutside, Curve.at, Curve.stretch, Straight.cost}
 use Rattle.meaning_curves.proofs.Limits.{values-in, in-values}
 
@@ -25,17 +25,17 @@ pub value-yes : {x : ℤ} → InLimits x → valueIn x ≡ true
 value-yes h = is-true _ (yes-within h)
 
 pub value-no : (x : ℤ) → (InLimits x → ⊥) → valueIn x ≡ false
-value-no x f = ⊎-elim (λ t. absurd (f (within-yes (negsuc 9999) (pos 10000) x t))) (is-false _) (decided (valueIn x))
+value-no x f = ⊎-elim (λ t. absurd (f (within-yes _ _ x t))) (is-false _) (decided (valueIn x))
 
 pub yes-value : (x : ℤ) → valueIn x ≡ true → InLimits x
-yes-value x e = within-yes (negsuc 9999) (pos 10000) x (subst T (sym e) tt)
+yes-value x e = within-yes _ _ x (subst T (sym e) tt)
 
 pub no-value : (x : ℤ) → valueIn x ≡ false → T (not (valueIn x))
-no-value x e = subst (λ (t : Bool). T (not t)) (sym e) tt
+no-value x e = rw e tt
 
 -- no value is outside exactly where all are in
 pub none-outside : (s : List ℤ) → firstOutside s ≡ none → AllIn s
-none-outside s e = record { at = λ k. within-yes (negsuc 9999) (pos 10000) (at s k) (values-in s e k) }
+none-outside s e = record { at = λ k. within-yes _ _ _ (values-in s e k) }
 
 pub outside-none : {s : List ℤ} → AllIn s → firstOutside s ≡ none
 outside-none {s} h = in-values s (λ j l. yes-within (h .at j))
@@ -53,7 +53,7 @@ cost-le h k = omega (arith, sq-le (gap-le h k))
 
 -- n squared differences from place p on
 pub costs-le : {s q : List ℤ} → AllIn s → AllIn q → (from p n : ℕ) → Σℕ n (λ k. cost (stretch s from (p + k)) (at q (p + k))) ≤ 400000000 * n
-costs-le {s} {q} h i from p n = Σℕ-le n 400000000 (λ k. cost (stretch s from (p + k)) (at q (p + k))) (λ k l. cost-le (h .at (from + (p + k))) (i .at (p + k)))
+costs-le {s} {q} h i from p n = Σℕ-le n 400000000 (λ k. cost (stretch s from (p + k)) (at q (p + k))) (λ k l. cost-le (h .at _) (i .at (p + k)))
 
 pub front-long : (n : ℕ) (l : List ℤ) → n ≤ length l → length (take (n - 0) l) ≡ n
 front-long n l h = omega (arith, length-take (n - 0) l)

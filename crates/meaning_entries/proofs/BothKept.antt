@@ -13,9 +13,9 @@ module _ (c : SearchCall) (x : Index) (before₁ before₂ after₁ after₂ : S
       count₁ = length (searchMatches c);
       count₂ = length (searchMatches (through x c));
       answered = both-listed c x before₁ before₂ p q e f;
-      same = demand3 c x (length (searchMatches c)) (length (searchMatches (through x c))) _ _
-          (record { passes = p; before = before₁; after = after₁; candidates = searchCandidates c; kept = subst (λ (a : Found). SearchKept c before₁ a after₁) (all-told c before₁ e) search₁; listed = refl })
-          (record { passes = q; before = before₂; after = after₂; candidates = searchCandidates (through x c); kept = subst (λ (a : Found). SearchKept (through x c) before₂ a after₂) (all-told (through x c) before₂ f) search₂; listed = refl });
+      same = demand3 c x _ _ _ _
+          (record { passes = p; before = before₁; after = after₁; candidates = searchCandidates c; kept = rw (all-told c before₁ e) at search₁; listed = refl })
+          (record { passes = q; before = before₂; after = after₂; candidates = searchCandidates (through x c); kept = rw (all-told (through x c) before₂ f) at search₂; listed = refl });
     }
 
     meant-kept : Demand3Kept c x before₁ before₂ (demandAnswer c x before₁ before₂) after₁ after₂
@@ -43,4 +43,4 @@ module _ (c : SearchCall) (x : Index) (before₁ before₂ after₁ after₂ : S
     pub demand3-kept : Demand3Kept c x before₁ before₂ (told one two first second) after₁ after₂
     demand3-kept =
         subst (λ (a : Both). Demand3Kept c x before₁ before₂ a after₁ after₂) (sym told-meant)
-        (meant-kept (subst (λ (a : Found). SearchKept c before₁ a after₁) (search₁ .answered) search₁) (subst (λ (a : Found). SearchKept (through x c) before₂ a after₂) (search₂ .answered) search₂))
+        (meant-kept (rw (search₁ .answered) at search₁) (rw (search₂ .answered) at search₂))

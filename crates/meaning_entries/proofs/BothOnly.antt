@@ -1,7 +1,7 @@
 -- The promise of demand 3 leaves one outcome: one answer, and one content of every buffer.
 use Rattle.meaning_numbers.proofs.Prelude.{_≡_, refl, sym, _∙_, ap, false≢true, Option, none, some, Option·some-ne-none, ℕ}
 use Rattle.meaning_rows.specs.Index.{Index}
-use Rattle.meaning_entries.specs.{declared.Audited.Audited, declared.Both.Both, Answers.bothCounts, Audit.auditAnswer, Audit.Passes, Search.SearchCall, Search.SearchBuffers, Search.searchRefusal, Search.searchAfter, Demand3.through, Both.yes, Both.auditOf, Both.demandAnswer, Both.Demand3Kept}
+use Rattle.meaning_entries.specs.{declared.Audited.Audited, declared.Both.Both, Answers.bothCounts, Audit.Passes, Search.SearchCall, Search.SearchBuffers, Search.searchRefusal, Search.searchAfter, Demand3.through, Both.yes, Both.demandAnswer, Both.Demand3Kept}
 use Rattle.meaning_entries.proofs.BothTold.{first-audit, second-audit, first-search, second-search, both-listed, demand-counts}
 
 -- whether an audit says yes, and whether a search is refused, is known
@@ -26,10 +26,10 @@ module _ (c : SearchCall) (x : Index) (b₁ b₂ : SearchBuffers) (answer : Both
 
   answer-only : answer ≡ demandAnswer c x b₁ b₂
   answer-only =
-      by-audit (auditAnswer (auditOf c))
-      (λ p. by-audit (auditAnswer (auditOf (through x c)))
-      (λ q. by-refusal (searchRefusal c b₁)
-      (λ e. by-refusal (searchRefusal (through x c) b₂) (listed-only p q e) (λ n. k .second-search p q e n ∙ sym (second-search c x b₁ b₂ p q e n)))
+      by-audit _
+      (λ p. by-audit _
+      (λ q. by-refusal _
+      (λ e. by-refusal _ (listed-only p q e) (λ n. k .second-search p q e n ∙ sym (second-search c x b₁ b₂ p q e n)))
       (λ n. k .first-search p q n ∙ sym (first-search c x b₁ b₂ p q n)))
       (λ n. k .second-audit p n ∙ sym (second-audit c x b₁ b₂ p n)))
       (λ n. k .first-audit n ∙ sym (first-audit c x b₁ b₂ n))

@@ -38,10 +38,10 @@ unfolding searchAnswer
 all-told c b e = rw (e, searchAnswer) refl
 
 kept : (c : SearchCall) (b : SearchBuffers) → SearchKept c b (searchAnswer c b) (searchAfter c b)
-kept c b = search-kept c b (searchAnswer c b) (searchAfter c b) refl refl
+kept c b = search-kept c b _ _ refl refl
 
 audit : (c : AuditCall) → AuditKept c (auditAnswer c)
-audit c = audit-kept c (auditAnswer c) refl
+audit c = audit-kept c _ refl
 
 module _ (c : SearchCall) (x : Index) (b₁ b₂ : SearchBuffers) where
   abbrev one : Audited
@@ -63,8 +63,8 @@ module _ (c : SearchCall) (x : Index) (b₁ b₂ : SearchBuffers) where
       → _≡_ {A = A} (F (toldFound first second)) (elim o [ some r ↦ F (Both.FirstSearch first) | none ↦ elim p [ some r ↦ F (Both.SecondSearch second) | none ↦ F listed ] ])
   unfolding toldFound toldSecond
   searches-by F (some r) p e h = ap F (first-refused first second r (kept c b₁ .refused ∙ e))
-  searches-by F none (some r) e h = ap F (ap (λ (f : Found). toldFound f second) (all-told c b₁ e) ∙ second-refused (length (searchMatches c)) second r (kept (through x c) b₂ .refused ∙ h))
-  searches-by F none none e h = ap F (rw (all-told c b₁ e, all-told (through x c) b₂ h) refl)
+  searches-by F none (some r) e h = ap F (ap (λ (f : Found). toldFound f second) (all-told c b₁ e) ∙ second-refused _ second r (kept _ b₂ .refused ∙ h))
+  searches-by F none none e h = ap F (rw (all-told c b₁ e, all-told _ b₂ h) refl)
 
   told-by : {A : Type 0} (F : Both → A) (s t : Bool) → yes one ≡ s → yes two ≡ t → F (told one two first second) ≡ cond s (cond t (F (toldFound first second)) (F (Both.SecondAudit two))) (F (Both.FirstAudit one))
   unfolding told
@@ -75,7 +75,7 @@ module _ (c : SearchCall) (x : Index) (b₁ b₂ : SearchBuffers) where
   -- what is said of the answer is said of the first that stands in the way
   pub demand-by : {A : Type 0} (F : Both → A) → F (demandAnswer c x b₁ b₂) ≡ inTurn c x b₁ b₂ (F (Both.FirstAudit one)) (F (Both.SecondAudit two)) (F (Both.FirstSearch first)) (F (Both.SecondSearch second)) (F listed)
   unfolding demandAnswer inTurn
-  demand-by {A} F = told-by F (yes one) (yes two) refl refl ∙ ap (λ (a : A). cond (yes one) (cond (yes two) a (F (Both.SecondAudit two))) (F (Both.FirstAudit one))) (searches-by F (searchRefusal c b₁) (searchRefusal (through x c) b₂) refl refl)
+  demand-by {A} F = told-by F _ _ refl refl ∙ rw (searches-by F _ _ refl refl)
 
   -- ---- case by case
 
@@ -92,11 +92,11 @@ module _ (c : SearchCall) (x : Index) (b₁ b₂ : SearchBuffers) where
 
   pub first-search : Passes (c .index) (c .series) → Passes x (c .series) → (searchRefusal c b₁ ≡ none → ⊥) → demandAnswer c x b₁ b₂ ≡ Both.FirstSearch first
   unfolding yes inTurn
-  first-search p q fails = let r = is-some (searchRefusal c b₁) fails in said ∙ rw (p, q, r .1, inTurn) refl
+  first-search p q fails = let r = is-some _ fails in said ∙ rw (p, q, r .1, inTurn) refl
 
   pub second-search : Passes (c .index) (c .series) → Passes x (c .series) → searchRefusal c b₁ ≡ none → (searchRefusal (through x c) b₂ ≡ none → ⊥) → demandAnswer c x b₁ b₂ ≡ Both.SecondSearch second
   unfolding yes inTurn
-  second-search p q e fails = let r = is-some (searchRefusal (through x c) b₂) fails in said ∙ rw (p, q, e, r .1, inTurn) refl
+  second-search p q e fails = let r = is-some _ fails in said ∙ rw (p, q, e, r .1, inTurn) refl
 
   pub both-listed : Passes (c .index) (c .series) → Passes x (c .series) → searchRefusal c b₁ ≡ none → searchRefusal (through x c) b₂ ≡ none → demandAnswer c x b₁ b₂ ≡ listed
   unfolding yes inTurn
@@ -105,16 +105,16 @@ module _ (c : SearchCall) (x : Index) (b₁ b₂ : SearchBuffers) where
   -- ---- in this paper's numbers
 
   pub demand-refusal : bothRefusal (demandAnswer c x b₁ b₂) ≡ demandRefusal c x b₁ b₂
-  demand-refusal = demand-by bothRefusal ∙ rw (audit (auditOf c) .refused, audit (auditOf (through x c)) .refused, kept c b₁ .refused, kept (through x c) b₂ .refused) refl
+  demand-refusal = demand-by bothRefusal ∙ rw (audit _ .refused, audit _ .refused, kept c b₁ .refused, kept _ b₂ .refused) refl
 
   pub demand-wrong : bothWrong (demandAnswer c x b₁ b₂) ≡ demandWrong c x b₁ b₂
-  demand-wrong = demand-by bothWrong ∙ rw (audit (auditOf c) .wrong, audit (auditOf (through x c)) .wrong) refl
+  demand-wrong = demand-by bothWrong ∙ rw (audit _ .wrong, audit _ .wrong) refl
 
   pub demand-missing : bothMissing (demandAnswer c x b₁ b₂) ≡ demandMissing c x b₁ b₂
-  demand-missing = demand-by bothMissing ∙ rw (audit (auditOf c) .missing, audit (auditOf (through x c)) .missing) refl
+  demand-missing = demand-by bothMissing ∙ rw (audit _ .missing, audit _ .missing) refl
 
   pub demand-counts : bothCounts (demandAnswer c x b₁ b₂) ≡ demandCounts c x b₁ b₂
   demand-counts = demand-by bothCounts
 
   pub demand-found : bothFound (demandAnswer c x b₁ b₂) ≡ demandFound c x b₁ b₂
-  demand-found = demand-by bothFound ∙ rw (kept c b₁ .counted, kept (through x c) b₂ .counted) refl
+  demand-found = demand-by bothFound ∙ rw (kept c b₁ .counted, kept _ b₂ .counted) refl

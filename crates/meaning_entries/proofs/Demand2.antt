@@ -1,10 +1,9 @@
 -- Demand 2 for code: an entry that gives the answer that is meant and leaves the buffers that are meant keeps its promise; number, place and counts follow from the answer. By cases on the refusal.
 use Rattle.meaning_numbers.proofs.Prelude.{_≡_, refl, ap, _∙_, Bool, true, false, List, Option, none, some, ℕ, zero, suc, eqb}
-use Rattle.meaning_curves.specs.Limits.{mostValues}
 use Rattle.meaning_rows.specs.{Index.Index, Audit.firstWrong, Audit.missing}
-use Rattle.meaning_entries.specs.{Refusal.firstRefusal, declared.Built.Built, declared.Extended.Extended, declared.Audited.Audited, declared.Written.Written, declared.Loaded.Loaded, declared.Found.Found, Buffers.IndexBuffers, Build.BuildCall, Build.buildRefusal, Build.buildAnswer, Build.buildHead, Build.buildCounts, Build.buildAfter, Extend.ExtendCall, Extend.extendRefusal, Extend.extendAnswer, Extend.extendHead, Extend.extendCounts, Extend.extendAfter, Audit.AuditCall, Audit.auditTable, Audit.complete, Audit.audited, Audit.auditAnswer, Audit.wrongIn, Audit.missingIn, Write.writeRefusal, Write.writeAnswer, Write.writeCount, Write.writeAfter, Load.loadRefusal, Load.loadAnswer, Load.loadHead, Load.loadCounts, Load.loadAfter}
+use Rattle.meaning_entries.specs.{Refusal.firstRefusal, declared.Built.Built, declared.Extended.Extended, declared.Audited.Audited, declared.Written.Written, declared.Loaded.Loaded, declared.Found.Found, Buffers.IndexBuffers, Build.BuildCall, Build.buildRefusal, Build.buildAnswer, Build.buildHead, Build.buildCounts, Build.buildAfter, Extend.ExtendCall, Extend.extendRefusal, Extend.extendAnswer, Extend.extendHead, Extend.extendCounts, Extend.extendAfter, Audit.AuditCall, Audit.complete, Audit.audited, Audit.auditAnswer, Audit.wrongIn, Audit.missingIn, Write.writeRefusal, Write.writeAnswer, Write.writeCount, Write.writeAfter, Load.loadRefusal, Load.loadAnswer, Load.loadHead, Load.loadCounts, Load.loadAfter}
 use Rattle.meaning_entries.specs.Answers.{builtRefusal, builtHead, builtCounts, extendedRefusal, extendedHead, extendedCounts, auditedRefusal, wrongPlace, missingCount, writtenRefusal, writtenCount, loadedRefusal, loadedHead, loadedCounts, foundRefusal, foundCounts}
-use Rattle.meaning_entries.specs.AuditText.{auditTextTable, textCall, auditTextAnswer, unpack, auditText}
+use Rattle.meaning_entries.specs.AuditText.{auditTextAnswer, unpack, auditText}
 use Rattle.meaning_entries.specs.Demand2.{BuildKept, ExtendKept, AuditKept, WriteKept, LoadKept, SearchKept, AuditTextKept}
 use Rattle.meaning_entries.specs.Search.{SearchCall, SearchBuffers, searchRefusal, looked, searchRefused, searchAnswer, searchCounts, searchAfter}
 use Rattle.meaning_entries.proofs.Pack.{audit-text-back}
@@ -24,11 +23,11 @@ pub build-kept : (c : BuildCall) (b : IndexBuffers) (a : Built) (after : IndexBu
 build-kept c b a after h k = record {
   answered = h;
   refused = ap builtRefusal h ∙ build-refuses c b .same;
-  headed = ap builtHead h ∙ build-head c b (buildRefusal c b) refl;
-  counted = ap builtCounts h ∙ build-by c b (buildRefusal c b) refl;
-  rows = ap (λ (x : IndexBuffers). x .rows) k;
-  left = ap (λ (x : IndexBuffers). x .left) k;
-  right = ap (λ (x : IndexBuffers). x .right) k;
+  headed = ap builtHead h ∙ build-head c b _ refl;
+  counted = ap builtCounts h ∙ build-by c b _ refl;
+  rows = rw k;
+  left = rw k;
+  right = rw k;
 }
 
 extend-by : (c : ExtendCall) (b : IndexBuffers) (o : Option (ℕ × ℕ)) → extendRefusal c b ≡ o → extendedCounts (extendAnswer c b) ≡ extendCounts c b
@@ -45,11 +44,11 @@ pub extend-kept : (c : ExtendCall) (b : IndexBuffers) (a : Extended) (after : In
 extend-kept c b a after h k = record {
   answered = h;
   refused = ap extendedRefusal h ∙ extend-refuses c b .same;
-  headed = ap extendedHead h ∙ extend-head c b (extendRefusal c b) refl;
-  counted = ap extendedCounts h ∙ extend-by c b (extendRefusal c b) refl;
-  rows = ap (λ (x : IndexBuffers). x .rows) k;
-  left = ap (λ (x : IndexBuffers). x .left) k;
-  right = ap (λ (x : IndexBuffers). x .right) k;
+  headed = ap extendedHead h ∙ extend-head c b _ refl;
+  counted = ap extendedCounts h ∙ extend-by c b _ refl;
+  rows = rw k;
+  left = rw k;
+  right = rw k;
 }
 
 load-by : (t : List ℕ) (b : IndexBuffers) (o : Option (ℕ × ℕ)) → loadRefusal t b ≡ o → loadedCounts (loadAnswer t b) ≡ loadCounts t b
@@ -66,11 +65,11 @@ pub load-kept : (t : List ℕ) (b : IndexBuffers) (a : Loaded) (after : IndexBuf
 load-kept t b a after h k = record {
   answered = h;
   refused = ap loadedRefusal h ∙ load-refuses t b .same;
-  headed = ap loadedHead h ∙ load-head t b (loadRefusal t b) refl;
-  counted = ap loadedCounts h ∙ load-by t b (loadRefusal t b) refl;
-  rows = ap (λ (x : IndexBuffers). x .rows) k;
-  left = ap (λ (x : IndexBuffers). x .left) k;
-  right = ap (λ (x : IndexBuffers). x .right) k;
+  headed = ap loadedHead h ∙ load-head t b _ refl;
+  counted = ap loadedCounts h ∙ load-by t b _ refl;
+  rows = rw k;
+  left = rw k;
+  right = rw k;
 }
 
 complete-right : (n : ℕ) → wrongPlace (complete n) ≡ none
@@ -85,12 +84,12 @@ complete-counts (suc n) = refl
 
 audited-wrong : (c : AuditCall) (o : Option (ℕ × ℕ)) → firstWrong (c .index) (c .series) ≡ o → wrongPlace (audited c) ≡ o
 unfolding audited
-audited-wrong c none e = rw (e, audited) (complete-right (missing (c .index)))
+audited-wrong c none e = rw (e, audited) (complete-right _)
 audited-wrong c (some x) e = rw (e, audited)
 
 audited-counts : (c : AuditCall) (o : Option (ℕ × ℕ)) → firstWrong (c .index) (c .series) ≡ o → missingCount (audited c) ≡ missingIn none c
 unfolding audited missingIn
-audited-counts c none e = rw (e, audited, missingIn) (complete-counts (missing (c .index)))
+audited-counts c none e = rw (e, audited, missingIn) (complete-counts _)
 audited-counts c (some x) e = rw (e, audited, missingIn)
 
 -- what an audit says, refused or not
@@ -99,26 +98,26 @@ says o c = elim o [ some r ↦ Audited.Refused (r .0) (r .1) | none ↦ audited 
 
 says-wrong : (o : Option (ℕ × ℕ)) (c : AuditCall) → wrongPlace (says o c) ≡ wrongIn o c
 unfolding wrongIn
-says-wrong none c = audited-wrong c (firstWrong (c .index) (c .series)) refl
+says-wrong none c = audited-wrong c _ refl
 says-wrong (some r) c = refl
 
 says-counts : (o : Option (ℕ × ℕ)) (c : AuditCall) → missingCount (says o c) ≡ missingIn o c
 unfolding missingIn
-says-counts none c = audited-counts c (firstWrong (c .index) (c .series)) refl
+says-counts none c = audited-counts c _ refl
 says-counts (some r) c = refl
 
 pub audit-kept : (c : AuditCall) (a : Audited) → a ≡ auditAnswer c → AuditKept c a
 unfolding auditAnswer
 audit-kept c a h =
-    let o = firstRefusal (auditTable mostValues c) in
+    let o = firstRefusal _ in
     record { answered = h; refused = ap auditedRefusal h ∙ audit-refuses c .same; wrong = ap wrongPlace h ∙ says-wrong o c; missing = ap missingCount h ∙ says-counts o c }
 
 pub audit-text-kept : (x s : List ℕ) (a : ℕ) → a ≡ auditText x s → AuditTextKept x s a
 unfolding auditTextAnswer
 audit-text-kept x s a h =
-    let o = firstRefusal (auditTextTable x s) in
-    let told : unpack a ≡ auditTextAnswer x s = ap unpack h ∙ audit-text-back x s in
-    record { answered = h; refused = ap (λ (n : ℕ). auditedRefusal (unpack n)) h ∙ audit-text-refuses x s .same; wrong = ap wrongPlace told ∙ says-wrong o (textCall x s); missing = ap missingCount told ∙ says-counts o (textCall x s) }
+    let o = firstRefusal _ in
+    let told = ap unpack h ∙ audit-text-back x s in
+    record { answered = h; refused = ap (λ (n : ℕ). auditedRefusal (unpack n)) h ∙ audit-text-refuses x s .same; wrong = ap wrongPlace told ∙ says-wrong o _; missing = ap missingCount told ∙ says-counts o _ }
 
 write-by : (x : Index) (t : List ℕ) (o : Option (ℕ × ℕ)) → writeRefusal x t ≡ o → writtenCount (writeAnswer x t) ≡ writeCount x t
 unfolding writeAnswer writeCount
@@ -129,7 +128,7 @@ pub write-kept : (x : Index) (t : List ℕ) (a : Written) (after : List ℕ) →
 write-kept x t a after h k = record {
   answered = h;
   refused = ap writtenRefusal h ∙ write-refuses x t .same;
-  counted = ap writtenCount h ∙ write-by x t (writeRefusal x t) refl;
+  counted = ap writtenCount h ∙ write-by x t _ refl;
   text = k;
 }
 
@@ -141,16 +140,16 @@ refused-counts c b r false e h = rw (e, h, searchRefused, searchCounts)
 search-by : (c : SearchCall) (b : SearchBuffers) (o : Option (ℕ × ℕ)) → searchRefusal c b ≡ o → foundCounts (searchAnswer c b) ≡ searchCounts c b
 unfolding searchAnswer searchCounts looked
 search-by c b none h = rw (h, searchAnswer, searchCounts)
-search-by c b (some r) h = rw (h, searchAnswer) (refused-counts c b r (eqb (r .0) 24) h refl)
+search-by c b (some r) h = rw (h, searchAnswer) (refused-counts c b r _ h refl)
 
 pub search-kept : (c : SearchCall) (b : SearchBuffers) (a : Found) (after : SearchBuffers) → a ≡ searchAnswer c b → after ≡ searchAfter c b → SearchKept c b a after
 search-kept c b a after h k = record {
   answered = h;
   refused = ap foundRefusal h ∙ search-refuses c b .same;
-  counted = ap foundCounts h ∙ search-by c b (searchRefusal c b) refl;
-  left = ap (λ (x : SearchBuffers). x .left) k;
-  right = ap (λ (x : SearchBuffers). x .right) k;
-  scratch = ap (λ (x : SearchBuffers). x .scratch) k;
-  offsets = ap (λ (x : SearchBuffers). x .offsets) k;
-  distances = ap (λ (x : SearchBuffers). x .distances) k;
+  counted = ap foundCounts h ∙ search-by c b _ refl;
+  left = rw k;
+  right = rw k;
+  scratch = rw k;
+  offsets = rw k;
+  distances = rw k;
 }

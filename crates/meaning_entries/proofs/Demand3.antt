@@ -11,8 +11,8 @@ all-listed : (c : SearchCall) (n : ℕ) (l : List (ℕ × ℕ)) → Searched c n
 unfolding openLines question searchPlan searchTable
 all-listed c n l s =
     let a = answered c (s .before) (s .kept .answered) in
-    let t = is-passed (searchTable c (s .before)) (a .passed) in
-    let f = all-found (c .index) (question c) (passes-reached (c .index) (c .series) (s .passes)) (query-line (length (c .query)) (length (c .series)) (passed-line t 6) .0 .least) (omega (arith, scale-line (c .ask .scale) (c .ask .shift) (passed-line t 10) .0 .least)) in
+    let t = is-passed _ (a .passed) in
+    let f = all-found (c .index) (question c) (passes-reached (c .index) (c .series) (s .passes)) (query-line _ _ (passed-line t 6) .0 .least) (omega (arith, scale-line _ _ (passed-line t 10) .0 .least)) in
     (s .listed ∙ listed-is c (s .before) (s .after) (s .kept) ∙ f, a .counted ∙ ap length f)
 
 pub demand3 : Demand3

@@ -14,19 +14,19 @@ pub filled-is : (new old col : List ℕ) → length col ≡ length old → lengt
 unfolding filled
 filled-is new old col long fits front past =
     let rest : List ℕ = replicate (length old - length new) 0 in
-    ext-getD 0 col (new ++ rest) (omega (arith, length-append new rest, length-replicate {A = ℕ} (length old - length new) 0))
+    ext-getD 0 col _ (omega (arith, length-append new rest, length-replicate {A = ℕ} (length old - length new) 0))
     (λ x l. elim (decLt x (length new)) [
       | yes b ↦ front x b ∙ sym (List·getD-append new rest 0 x b)
       | no f ↦ let q : length new + (x - length new) ≡ x = omega arith in
-          past x (omega arith) ∙ sym (zeros 0 (length old - length new) (x - length new)) ∙ sym (getD-append-add new rest (x - length new) 0) ∙ ap (λ (z : ℕ). getD (new ++ rest) z 0) q
+          past x (omega arith) ∙ sym (zeros 0 (length old - length new) (x - length new)) ∙ sym (getD-append-add new rest _ 0) ∙ ap (λ (z : ℕ). getD (new ++ rest) z 0) q
     ])
 
 pub lefts-entry : (l : List (ℕ × ℕ)) → lefts (map entry l) ≡ Columns.lefts l
 unfolding Columns.lefts
 lefts-entry [] = refl
-lefts-entry (x ∷ l) = ap (λ (m : List ℕ). x .0 ∷ m) (lefts-entry l)
+lefts-entry (x ∷ l) = rw (lefts-entry l)
 
 pub rights-entry : (l : List (ℕ × ℕ)) → rights (map entry l) ≡ Columns.rights l
 unfolding Columns.rights
 rights-entry [] = refl
-rights-entry (x ∷ l) = ap (λ (m : List ℕ). x .1 ∷ m) (rights-entry l)
+rights-entry (x ∷ l) = rw (rights-entry l)

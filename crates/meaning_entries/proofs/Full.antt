@@ -21,7 +21,7 @@ not-all e = let z : _≡_ {A = ℕ} 0 1 = cc in absurd (omega arith)
 
 module _ (c : SearchCall) (b : SearchBuffers) {a n : ℕ} (h : Found.Full a n ≡ searchAnswer c b) where
   answered-by : (o : Option (ℕ × ℕ)) → firstRefusal (searchPlan c b) ≡ o → FullAnswered c b a n
-  answered-by (some r) e = other-answer (h ∙ plan-refused c b {n = r .0} {p = r .1} e .0)
+  answered-by (some r) e = other-answer (h ∙ plan-refused c b e .0)
   answered-by none e = elim (decLe (length (searchMatches c)) (listRoom b)) [
     | yes l ↦ not-all (h ∙ plan-all c b e l .0)
     | no f ↦
@@ -31,7 +31,7 @@ module _ (c : SearchCall) (b : SearchBuffers) {a n : ℕ} (h : Found.Full a n �
   ]
 
   pub full-answered : FullAnswered c b a n
-  full-answered = answered-by (firstRefusal (searchPlan c b)) refl
+  full-answered = answered-by _ refl
 
 module _ (c : SearchCall) (before after : SearchBuffers) {a n : ℕ} (k : SearchKept c before (Found.Full a n) after) where
   f : FullAnswered c before a n
@@ -41,8 +41,8 @@ module _ (c : SearchCall) (before after : SearchBuffers) {a n : ℕ} (k : Search
   unfolding lookedAfter filled
   full-listed =
       let l = plan-full c before (f .unrefused) (f .short) .1 in
-      let list = take (listRoom before) (searchMatches c) in
-      let e : length list ≡ listRoom before = length-take-le (listRoom before) (searchMatches c) (omega (arith, f .short)) in
+      let list = take (listRoom before) _ in
+      let e = length-take-le (listRoom before) (searchMatches c) (omega (arith, f .short)) in
       rw (k .offsets, k .distances, l) (ap (λ (r : ℕ). take r (pairs (lookedAfter c before .offsets) (lookedAfter c before .distances))) (sym e) ∙ pairs-back list _ _)
 
   -- through an index that passes the audit
@@ -50,8 +50,8 @@ module _ (c : SearchCall) (before after : SearchBuffers) {a n : ℕ} (k : Search
     all : searchMatches c ≡ allMatches (question c)
     unfolding openLines question searchPlan
     all =
-        let t = is-passed (searchPlan c before) (f .unrefused) in
-        all-found (c .index) (question c) (passes-reached (c .index) (c .series) p) (query-line (length (c .query)) (length (c .series)) (passed-line t 6) .0 .least) (omega (arith, scale-line (c .ask .scale) (c .ask .shift) (passed-line t 10) .0 .least))
+        let t = is-passed _ (f .unrefused) in
+        all-found _ _ (passes-reached _ _ p) (query-line _ _ (passed-line t 6) .0 .least) (omega (arith, scale-line _ _ (passed-line t 10) .0 .least))
 
     pub full-all : (take (listRoom before) (pairs (after .offsets) (after .distances)) ≡ take (listRoom before) (allMatches (question c))) × (n ≡ length (allMatches (question c)))
     full-all = (full-listed ∙ ap (take (listRoom before)) all, f .counted ∙ ap length all)

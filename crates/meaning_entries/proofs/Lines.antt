@@ -13,7 +13,7 @@ pub use Rattle.meaning_rows.proofs.Judge.{Natural}
 
 -- limits that are not passed
 inside : (low high : ℕ) (z : ℤ) → T (not (not (within (pos low) (pos high) z))) → Natural low high z
-inside low high z t = between low high z (is-true _ (not-not (within (pos low) (pos high) z) t))
+inside low high z t = between low high z (is-true _ (not-not (within _ _ z) t))
 
 pub long-line : (most n : ℕ) → lengthOutside most n .place ≡ none → Natural 1 most (pos n)
 unfolding lengthOutside
@@ -47,7 +47,7 @@ below-line m w e = ltZ-no (not-if 7 (ltZ (pos m) w) e)
 
 pub band-line : (m : ℕ) (b : ℤ) → bandOutside m b .place ≡ none → Between (pos 0) b (pos m -ℤ pos 1)
 unfolding bandOutside
-band-line m b e = within-yes (pos 0) (pos m -ℤ pos 1) b (not-not (bandIn m b) (not-if 8 (not (bandIn m b)) e))
+band-line m b e = within-yes (pos 0) _ b (not-not (bandIn m b) (not-if 8 (not (bandIn m b)) e))
 
 pub threshold-line : (E : ℤ) → thresholdOutside E .place ≡ none → Natural 0 1000000000000 E
 unfolding thresholdOutside
@@ -59,7 +59,7 @@ scale-line a h e = let t = neither (not (scaleIn a)) (not (shiftIn h)) (not-if 1
 
 pub flat-line : (kind : Kind) (q : List ℤ) → flatQuery kind q .place ≡ none → normalFlat kind q ≡ false
 unfolding flatQuery
-flat-line kind q e = is-false (normalFlat kind q) (not-if 11 (normalFlat kind q) e)
+flat-line kind q e = is-false _ (not-if 11 (normalFlat kind q) e)
 
 pub formed-line : (x : Index) → illFormed x .place ≡ none → WellFormed x
 unfolding illFormed
@@ -67,7 +67,7 @@ formed-line x e = well-formed x e
 
 pub fewer-line : (x : Index) (n : ℕ) → fewerWindows x n .place ≡ none → windowsOf x n ≤ℤ x .windows
 unfolding fewerWindows
-fewer-line x n e = ltZ-no (not-if 21 (ltZ (x .windows) (windowsOf x n)) e)
+fewer-line x n e = ltZ-no (not-if 21 (ltZ (x .windows) _) e)
 
 pub more-line : (x : Index) (n : ℕ) → moreWindows x n .place ≡ none → x .windows ≤ℤ windowsOf x n
 unfolding moreWindows
@@ -84,12 +84,12 @@ not-applies n t e = rw e refl
 
 pub series-passes : (most : ℕ) (s : List ℤ) → T (lengthIn most (length s)) → firstOutside s ≡ none → AllPass (seriesLines most s)
 unfolding lengthOutside valueOutside
-series-passes most s t e = more (not-applies 1 (not (lengthIn most (length s))) (ap not (is-true (lengthIn most (length s)) t))) (more e end)
+series-passes most s t e = more (not-applies 1 _ (ap not (is-true (lengthIn most _) t))) (more e end)
 
 pub count-passes : (n : ℕ) (x : Index) → windowsOf x n ≤ℤ x .windows → x .windows ≤ℤ windowsOf x n → AllPass (countLines n x)
 unfolding fewerWindows moreWindows
-count-passes n x h k = more (not-applies 21 (ltZ (x .windows) (windowsOf x n)) (le-ltZ h)) (more (not-applies 22 (ltZ (windowsOf x n) (x .windows)) (le-ltZ k)) end)
+count-passes n x h k = more (not-applies 21 _ (le-ltZ h)) (more (not-applies 22 _ (le-ltZ k)) end)
 
 pub room-passes : {one needed other wanted : ℕ} → needed ≤ one → wanted ≤ other → AllPass (roomLines one needed other wanted)
 unfolding bufferShort
-room-passes {one} {needed} {other} {wanted} h k = more (not-applies 23 (ltb one needed) (le-ltb one needed h)) (more (not-applies 23 (ltb other wanted) (le-ltb other wanted k)) end)
+room-passes {one} {needed} {other} {wanted} h k = more (not-applies 23 _ (le-ltb one needed h)) (more (not-applies 23 _ (le-ltb other wanted k)) end)

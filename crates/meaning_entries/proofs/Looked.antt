@@ -26,11 +26,11 @@ module _ (c : SearchCall) (b : SearchBuffers) where
   -- refused before it looks
   module _ {n p : ℕ} (e : firstRefusal (searchPlan c b) ≡ some (n, p)) where
     f : First (searchPlan c b) n p
-    f = is-first (searchPlan c b) n p e
+    f = is-first _ n p e
 
     pub plan-refusal : searchRefusal c b ≡ some (n, p)
     unfolding searchTable
-    plan-refusal = first-is (first-left (lastLine c b ∷ []) f)
+    plan-refusal = first-is (first-left _ f)
 
     other : eqb n 24 ≡ false
     other = first-lacks 24 (not-24 c b) f
@@ -43,12 +43,12 @@ module _ (c : SearchCall) (b : SearchBuffers) where
   module _ (e : firstRefusal (searchPlan c b) ≡ none) where
     last-decides : searchRefusal c b ≡ firstRefusal (lastLine c b ∷ [])
     unfolding searchTable
-    last-decides = first-right (lastLine c b ∷ []) (is-passed (searchPlan c b) e)
+    last-decides = first-right _ (is-passed _ e)
 
     pub plan-all : length (searchMatches c) ≤ listRoom b → (searchAnswer c b ≡ Found.All (searchCandidates c) (length (searchMatches c))) × (searchAfter c b ≡ lookedAfter c b)
     unfolding searchAnswer searchAfter looked
-    plan-all h = let f = last-decides ∙ list-holds (listRoom b) (length (searchMatches c)) h in (rw (f, searchAnswer), rw (f, searchAfter))
+    plan-all h = let f = last-decides ∙ list-holds _ _ h in (rw (f, searchAnswer), rw (f, searchAfter))
 
     pub plan-full : listRoom b < length (searchMatches c) → (searchAnswer c b ≡ Found.Full (searchCandidates c) (length (searchMatches c))) × (searchAfter c b ≡ lookedAfter c b)
     unfolding searchAnswer searchAfter searchRefused looked
-    plan-full h = let f = last-decides ∙ list-short (listRoom b) (length (searchMatches c)) h in (rw (f, searchAnswer, searchRefused), rw (f, searchAfter))
+    plan-full h = let f = last-decides ∙ list-short _ _ h in (rw (f, searchAnswer, searchRefused), rw (f, searchAfter))

@@ -19,12 +19,12 @@ holds n t e = not-not t (not-if n (not t) e)
 -- numbers in their limits, as their lines of a table say
 limits-buildable : (s : List ℤ) (w d : ℤ) → length s ≤ mostValues → firstOutside s ≡ none → windowOutside w (length s) .place ≡ none → widthOutside d .place ≡ none → Buildable s (natAbs w) (natAbs d)
 limits-buildable s w d short values t u =
-    let i = window-line w (length s) t in
+    let i = window-line w _ t in
     let j = width-line d u in
     record {
-      window = is-within 1 256 (pos (natAbs w)) (record { is = refl; least = i .0 .least; most = i .0 .most });
-      width = is-within 1 1000000 (pos (natAbs d)) (record { is = refl; least = j .least; most = j .most });
-      long = omega (zarith, i .0 .is, i .1);
+      window = is-within 1 256 _ (record { is = refl; least = i .0 .least; most = i .0 .most });
+      width = is-within 1 1000000 _ (record { is = refl; least = j .least; most = j .most });
+      long = omega zarith;
       short = short;
       values = values;
     }
@@ -32,47 +32,47 @@ limits-buildable s w d short values t u =
 -- what is built of them
 built-passed : (s : List ℤ) (w d g : ℕ) → Buildable s w d → Passed (built s w d g) s
 unfolding built
-built-passed s w d g k = record { formed = built-well-formed s w d g k; windows = omega (arith, k .long); filed = built-filed s w d g k }
+built-passed s w d g k = record { formed = built-well-formed s w d g k; windows = omega arith; filed = built-filed s w d g k }
 
 build-long : (c : BuildCall) (b : IndexBuffers) → buildRefusal c b ≡ none → T (lengthIn mostValues (length (c .series)))
 unfolding openLines buildTable
-build-long c b e = holds 1 (lengthIn mostValues (length (c .series))) (passed-line (is-passed (buildTable c b) e) 1)
+build-long c b e = holds 1 (lengthIn mostValues _) (passed-line (is-passed _ e) 1)
 
 buildable : (c : BuildCall) (b : IndexBuffers) → buildRefusal c b ≡ none → Buildable (c .series) (natAbs (c .window)) (natAbs (c .width))
 unfolding openLines buildTable
 buildable c b e =
-    let t = is-passed (buildTable c b) e in
+    let t = is-passed _ e in
     let s = c .series in
-    limits-buildable s (c .window) (c .width) (long-line mostValues (length s) (passed-line t 1) .most) (passed-line t 2) (passed-line t 3) (passed-line t 4)
+    limits-buildable s _ _ (long-line mostValues _ (passed-line t 1) .most) (passed-line t 2) (passed-line t 3) (passed-line t 4)
 
 pub build-passes : (c : BuildCall) (b : IndexBuffers) → buildRefusal c b ≡ none → Passes (buildIndex c) (c .series)
 unfolding buildIndex
 build-passes c b e =
     let k = buildable c b e in
-    passes (buildIndex c) (c .series) (build-long c b e) (k .values) (built-passed (c .series) (natAbs (c .window)) (natAbs (c .width)) (natAbs (c .merge)) k)
+    passes _ _ (build-long c b e) (k .values) (built-passed _ _ _ _ k)
 
 pub build-most : (c : BuildCall) (b : IndexBuffers) → buildRefusal c b ≡ none → (length (buildIndex c .rows) ≤ buildWindows c) × (length (buildIndex c .runs) ≤ buildWindows c)
 unfolding buildIndex
-build-most c b e = built-most (c .series) (natAbs (c .window)) (natAbs (c .width)) (natAbs (c .merge)) (buildable c b e)
+build-most c b e = built-most _ _ _ _ (buildable c b e)
 
 -- ---- an extension
 
 module _ (c : ExtendCall) (b : IndexBuffers) (e : extendRefusal c b ≡ none) where
   pub extend-formed : WellFormed (c .index)
   unfolding openLines extendTable
-  extend-formed = formed-line (c .index) (passed-line (is-passed (extendTable c b) e) 20)
+  extend-formed = formed-line _ (passed-line (is-passed _ e) 20)
 
   extend-long : T (lengthIn mostValues (length (c .series)))
   unfolding openLines extendTable
-  extend-long = holds 1 (lengthIn mostValues (length (c .series))) (passed-line (is-passed (extendTable c b) e) 1)
+  extend-long = holds 1 (lengthIn mostValues _) (passed-line (is-passed _ e) 1)
 
   pub extendable : Extendable (c .index) (c .series)
   unfolding openLines extendTable
   extendable =
-      let t = is-passed (extendTable c b) e in
+      let t = is-passed _ e in
       let x = c .index in
       let s = c .series in
-      let n = more-line x (length s) (passed-line t 22) in
+      let n = more-line x _ (passed-line t 22) in
       let p : x .window ≡ pos (natAbs (x .window)) = extend-formed .head .window .is in
       let q : x .windows ≡ pos (natAbs (x .windows)) = extend-formed .head .windows .is in
       record {
@@ -86,32 +86,30 @@ module _ (c : ExtendCall) (b : IndexBuffers) (e : extendRefusal c b ≡ none) wh
   extend-passes p =
       let x = c .index in
       let s = c .series in
-      passes (extendIndex c) s extend-long (extendable .values) (record {
+      passes _ s extend-long (extendable .values) (record {
         formed = extended-well-formed x s extend-formed extendable;
         windows = omega (arith, extendable .longer, extend-formed .head .windows .least);
-        filed = extended-filed x s extend-formed extendable (passed x (take (natAbs (x .windows) + natAbs (x .window) - 1) s) p .filed);
+        filed = extended-filed x s extend-formed extendable (passed x _ p .filed);
       })
 
   pub extend-most : (length (extendIndex c .rows) ≤ extendWindows c) × (length (extendIndex c .runs) ≤ extendWindows c)
   unfolding extendIndex
-  extend-most = extended-most (c .index) (c .series) extend-formed extendable
+  extend-most = extended-most _ _ extend-formed extendable
 
 -- ---- the search program
 
 program-buildable : (t : List ℕ) → firstRefusal (programTable t) ≡ none → let c = textProgram t in Buildable (c .series) (natAbs (c .window)) (natAbs (c .width))
 unfolding openLines callLines programTable
 program-buildable t e =
-    let c = textProgram t in
-    let p = is-passed (programTable t) e in
-    limits-buildable (c .series) (c .window) (c .width) (omega (arith, long-line mostProgramValues (length (c .series)) (passed-line p 1) .most)) (passed-line p 2) (passed-line p 3) (passed-line p 4)
+    let p = is-passed _ e in
+    limits-buildable _ _ _ (omega (arith, long-line mostProgramValues _ (passed-line p 1) .most)) (passed-line p 2) (passed-line p 3) (passed-line p 4)
 
 -- what it lists, where it does not refuse, is all matches
 pub program-all : (t : List ℕ) → firstRefusal (programTable t) ≡ none → let x = programSearch (textProgram t) in searchMatches x ≡ allMatches (question x)
 unfolding openLines programIndex buildIndex question callLines programTable
 program-all t e =
     let c = textProgram t in
-    let x = programSearch c in
-    let p = is-passed (programTable t) e in
-    let y = built-passed (c .series) (natAbs (c .window)) (natAbs (c .width)) (natAbs (c .merge)) (program-buildable t e) in
-    all-found (x .index) (question x) (filed-reached (x .index) (c .series) (y .filed) (y .windows))
-    (query-line (length (c .query)) (length (c .series)) (passed-line p 6) .0 .least) (omega (arith, scale-line (c .ask .scale) (c .ask .shift) (passed-line p 10) .0 .least))
+    let p = is-passed _ e in
+    let y = built-passed _ _ _ _ (program-buildable t e) in
+    all-found _ _ (filed-reached _ _ (y .filed) (y .windows))
+    (query-line _ _ (passed-line p 6) .0 .least) (omega (arith, scale-line _ _ (passed-line p 10) .0 .least))

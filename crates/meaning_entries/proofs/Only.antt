@@ -32,7 +32,7 @@ program-only k = k .printed
 
 -- of the program demand 1 says as much
 pub program-refuses-only : {t out : List ℕ} → ProgramRefuses t out → out ≡ program t
-program-refuses-only {t} {out} k = by (firstRefusal (programTable t)) refl
+program-refuses-only {t} {out} k = by _ refl
   where
     by : (o : Option (ℕ × ℕ)) → firstRefusal (programTable t) ≡ o → out ≡ program t
     by none e = k .free e ∙ sym (program-free t e)

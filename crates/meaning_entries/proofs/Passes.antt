@@ -20,13 +20,13 @@ complete-yes (suc n) e = let z : _≡_ {A = ℕ} 0 1 = cc in absurd (omega arith
 
 yes-right : (c : AuditCall) → firstRefusal (auditTable mostValues c) ≡ none → (o : Option (ℕ × ℕ)) → firstWrong (c .index) (c .series) ≡ o → audited c ≡ Audited.Yes → Yes c
 unfolding audited
-yes-right c free none e h = record { free = free; right = e; full = complete-yes (missing (c .index)) (rw (e, audited) at h) }
-yes-right c free (some x) e h = let g = rw (e, audited) at h in let z : _≡_ {A = ℕ} 0 1 = cc in absurd (omega arith)
+yes-right c free none e h = record { free = free; right = e; full = complete-yes _ (rw (e, audited) at h) }
+yes-right c free (some x) e h = let z : _≡_ {A = ℕ} 0 1 = cc in absurd (omega arith)
 
 yes-free : (c : AuditCall) (o : Option (ℕ × ℕ)) → firstRefusal (auditTable mostValues c) ≡ o → auditAnswer c ≡ Audited.Yes → Yes c
 unfolding auditAnswer
-yes-free c none e h = yes-right c e (firstWrong (c .index) (c .series)) refl (rw (e, auditAnswer) at h)
-yes-free c (some r) e h = let g = rw (e, auditAnswer) at h in let z : _≡_ {A = ℕ} 0 1 = cc in absurd (omega arith)
+yes-free c none e h = yes-right c e _ refl (rw (e, auditAnswer) at h)
+yes-free c (some r) e h = let z : _≡_ {A = ℕ} 0 1 = cc in absurd (omega arith)
 
 -- an index that passes
 pub record Passed (x : Index) (s : List ℤ) : Type 0 where
@@ -45,12 +45,12 @@ pub passed : (x : Index) (s : List ℤ) → Passes x s → Passed x s
 unfolding openLines auditTable
 passed x s p =
     let c : AuditCall = record { series = s; index = x } in
-    let y = yes-free c (firstRefusal (auditTable mostValues c)) refl p in
-    let t = is-passed (auditTable mostValues c) (y .free) in
+    let y = yes-free c _ refl p in
+    let t = is-passed _ (y .free) in
     let g = formed-line x (passed-line t 20) in
     record {
       formed = g;
-      windows = same-windows x s g (fewer-line x (length s) (passed-line t 21)) (more-line x (length s) (passed-line t 22));
+      windows = same-windows x s g (fewer-line x _ (passed-line t 21)) (more-line x _ (passed-line t 22));
       filed = audit-yes x s g (y .right) (y .full);
     }
 
@@ -71,11 +71,8 @@ unfolding auditTable illFormed
 passes x s long values p =
     let c : AuditCall = record { series = s; index = x } in
     let f = filed-passes x s (p .formed) (p .filed) in
-    let w : x .window ≡ pos (natAbs (x .window)) = p .formed .head .window .is in
-    let n : x .windows ≡ pos (natAbs (x .windows)) = p .formed .head .windows .is in
-    let e = p .windows in
     let a = z-add (pos (length s) -ℤ x .window) (pos 1) in
     let b = z-sub (pos (length s)) (x .window) in
     yes-said c
-    (passed-is (passed-join (series-passes mostValues s long values) (more (none-bad x (p .formed)) (count-passes (length s) x (omega (zarith, a, b)) (omega (zarith, a, b))))))
+    (passed-is (passed-join (series-passes mostValues s long values) (more (none-bad x (p .formed)) (count-passes _ x (omega (zarith, a, b)) (omega (zarith, a, b))))))
     (f .0) (f .1)

@@ -1,5 +1,5 @@
 -- The tables of refusals are total and exclusive: a call is refused by exactly one line, the first that applies, or by none, and then no line applies. A table in two parts is refused by the first part or else by the second (`first-left`, `first-right`). By induction on the table.
-use Rattle.meaning_numbers.proofs.Prelude.{_≡_, refl, sym, _∙_, ap, subst₂, Bool, true, false, not, cond, _&&_, List, [], _∷_, _++_, _⊎_, inl, inr, Option, none, some, ℕ, arith, T, eqb, is-false, two-tests}
+use Rattle.meaning_numbers.proofs.Prelude.{_≡_, refl, sym, _∙_, subst₂, Bool, true, false, not, cond, _&&_, List, [], _∷_, _++_, _⊎_, inl, inr, Option, none, some, ℕ, arith, T, eqb, is-false, two-tests}
 use Rattle.meaning_entries.specs.Refusal.{Condition, firstRefusal, atZero, lengthOutside, valueOutside, windowOutside, widthOutside, mergeOutside, queryLengthOutside, queryBelowWindow, bandOutside, thresholdOutside, scaleOrShiftOutside, flatQuery, unreadable, illFormed, fewerWindows, moreWindows, bufferShort, listShort}
 
 -- no line applies
@@ -32,7 +32,7 @@ first-is (later {c} {l} e h) = first-no c l e ∙ first-is h
 -- one of the two holds
 pub judged : (l : List Condition) → AllPass l ⊎ ((n : ℕ) × (p : ℕ) × First l n p)
 judged [] = inl end
-judged (c ∷ l) = by (c .place) refl (judged l)
+judged (c ∷ l) = by _ refl (judged l)
   where
     by : (o : Option ℕ) → c .place ≡ o → AllPass l ⊎ ((n : ℕ) × (p : ℕ) × First l n p) → AllPass (c ∷ l) ⊎ ((n : ℕ) × (p : ℕ) × First (c ∷ l) n p)
     by (some p) e r = inr (c .number, p, here e)
@@ -52,7 +52,7 @@ is-passed l e = by (judged l)
 
 -- two refusals that are the same have the same number and the same place
 same-refusal : {r t : ℕ × ℕ} → some r ≡ some t → (r .0 ≡ t .0) × (r .1 ≡ t .1)
-same-refusal {r} {t} e = let q : r ≡ t = cc in (ap (λ (x : ℕ × ℕ). x .0) q, ap (λ (x : ℕ × ℕ). x .1) q)
+same-refusal {r} {t} e = let q : r ≡ t = cc in (rw q, rw q)
 
 pub is-first : (l : List Condition) (n p : ℕ) → firstRefusal l ≡ some (n, p) → First l n p
 is-first l n p e = by (judged l)
@@ -76,7 +76,7 @@ first-left b (later e f) = later e (first-left b f)
 
 pub first-right : {a : List Condition} (b : List Condition) → AllPass a → firstRefusal (a ++ b) ≡ firstRefusal b
 first-right b end = refl
-first-right b (more {c} {l} e h) = first-no c (l ++ b) e ∙ first-right b h
+first-right b (more {c} {l} e h) = first-no c _ e ∙ first-right b h
 
 -- the first line that has the number n
 unfoldable pub numbered : ℕ → List Condition → Condition
@@ -95,7 +95,7 @@ lacks n (c ∷ l) = not (eqb (c .number) n) && lacks n l
 
 pub first-lacks : {l : List Condition} {n p : ℕ} (k : ℕ) → T (lacks k l) → First l n p → eqb n k ≡ false
 unfolding lacks
-first-lacks k t (here {c} {l} e) = is-false (eqb (c .number) k) (two-tests (not (eqb (c .number) k)) (lacks k l) t .0)
+first-lacks k t (here {c} {l} e) = is-false _ (two-tests (not (eqb (c .number) k)) (lacks k l) t .0)
 first-lacks k t (later {c} {l} e f) = first-lacks k (two-tests (not (eqb (c .number) k)) (lacks k l) t .1) f
 
 -- a table in two parts passes where both do
@@ -129,7 +129,7 @@ one-of false c d e f = f
 pub passed-line : {l : List Condition} → AllPass l → (n : ℕ) → numbered n l .place ≡ none
 unfolding numbered
 passed-line end n = refl
-passed-line (more {c} {l} e h) n = one-of (eqb (c .number) n) c (numbered n l) e (passed-line h n)
+passed-line (more {c} {l} e h) n = one-of (eqb _ n) c (numbered n l) e (passed-line h n)
 
 either : (t : Bool) (l m : List Condition) → AllPass l → AllPass m → AllPass (cond t l m)
 either true l m h k = h
@@ -139,7 +139,7 @@ either false l m h k = k
 pub passed-behind : {l : List Condition} → AllPass l → (n : ℕ) → AllPass (behind n l)
 unfolding behind
 passed-behind end n = end
-passed-behind (more {c} {l} e h) n = either (eqb (c .number) n) l (behind n l) h (passed-behind h n)
+passed-behind (more {c} {l} e h) n = either (eqb _ n) l _ h (passed-behind h n)
 
 -- a condition whose place is 0 and that does not apply: its test fails
 pub not-if : (n : ℕ) (t : Bool) → atZero n t .place ≡ none → T (not t)

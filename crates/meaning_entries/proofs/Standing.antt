@@ -1,10 +1,10 @@
 -- What stands in the buffers after a build that answered an index passes against the series (`build-stands`); so does what an extension leaves there, if the old index passes against the part of the series that it has windows for (`extend-stands`).
 -- Each has at most as many rows and runs as windows. Both are laws of the promises, so of every function that keeps them.
-use Rattle.meaning_numbers.proofs.Prelude.{_≡_, refl, sym, ap, subst, _∙_, List, [], _∷_, _++_, map, Option, none, some, ℕ, _+_, _-_, _≤_, arith, ℤ, pos, natAbs, length, take, replicate, length-map, take-append-seam}
-use Rattle.meaning_curves.specs.Curve.{windowSum, windowCount}
+use Rattle.meaning_numbers.proofs.Prelude.{_≡_, refl, sym, ap, _∙_, List, [], _∷_, _++_, map, Option, none, some, ℕ, _+_, _-_, _≤_, arith, ℤ, pos, natAbs, length, take, length-map, take-append-seam}
+use Rattle.meaning_curves.specs.Curve.{windowCount}
 use Rattle.meaning_rows.specs.{declared.Row.Row, declared.Head.Head, Runs.runs}
-use Rattle.meaning_rows.specs.Build.{SetRow, filed, merged, entry, withRuns, builtRows, built}
-use Rattle.meaning_rows.specs.Extend.{insertRows, added, newNumbers, grown, extendedRows, extended}
+use Rattle.meaning_rows.specs.Build.{SetRow, merged, entry, withRuns, builtRows, built}
+use Rattle.meaning_rows.specs.Extend.{insertRows, extendedRows, extended}
 use Rattle.meaning_rows.specs.Index.{zeroRow, Index, Entry, entries, lent, laidOut, allRuns}
 use Rattle.meaning_entries.specs.{declared.Built.Built, declared.Extended.Extended, Buffers.IndexBuffers, Buffers.filled, Buffers.lefts, Buffers.rights, Buffers.indexIn, Answers.headOf, Build.BuildCall, Build.lentBuild, Build.buildIndex, Build.buildHead, Build.buildCounts, Build.buildAfter, Build.buildWindows, Audit.Passes, Demand2.BuildKept, Demand2.ExtendKept}
 use Rattle.meaning_entries.specs.Extend.{ExtendCall, lentExtend, extendIndex, extendHead, extendCounts, extendAfter, extendWindows}
@@ -23,31 +23,31 @@ pub record Stands (x : Index) (s : List ℤ) (windows n k : ℕ) : Type 0 where
 -- the written entries of a buffer
 take-filled : {A : Type 0} (z : A) (new old : List A) (n : ℕ) → n ≡ length new → take n (filled z new old) ≡ new
 unfolding filled
-take-filled z new old n e = rw e (take-append-seam new (replicate (length old - length new) z))
+take-filled z new old n e = rw e (take-append-seam new _)
 
 -- entries of offsets are the pairs of their two columns
 paired-runs : (xs : List (ℕ × ℕ)) (l : List Entry) → entries (lefts l) (rights l) ≡ l → entries (lefts (map entry xs ++ l)) (rights (map entry xs ++ l)) ≡ map entry xs ++ l
 unfolding entries
 paired-runs [] l h = h
-paired-runs (x ∷ xs) l h = ap (λ (r : List Entry). entry x ∷ r) (paired-runs xs l h)
+paired-runs (x ∷ xs) l h = rw (paired-runs xs l h)
 
 paired : (n : ℕ) (rows : List SetRow) → let l = allRuns (map (withRuns n) rows) in entries (lefts l) (rights l) ≡ l
 unfolding allRuns withRuns entries
 paired n [] = refl
-paired n (r ∷ rows) = paired-runs (runs (r .has) n) (allRuns (map (withRuns n) rows)) (paired n rows)
+paired n (r ∷ rows) = paired-runs (runs _ n) (allRuns (map (withRuns n) rows)) (paired n rows)
 
 -- an index with the runs of sets of offsets, out of the buffers that it was put into
 read-back : (w d n : ℕ) (rows : List SetRow) (b : IndexBuffers) → let x = laidOut (pos w) (pos d) (pos n) (map (withRuns n) rows) in indexOf (headOf x) (length (x .rows)) (length (x .runs)) (indexIn x b) ≡ x
 unfolding indexIn
 read-back w d n rows b =
-    let x = laidOut (pos w) (pos d) (pos n) (map (withRuns n) rows) in
-    let l = take-filled 0 (lefts (x .runs)) (b .left) (length (x .runs)) (sym (length-map (x .runs) (λ (y : Entry). natAbs (y .0)))) in
-    let r = take-filled 0 (rights (x .runs)) (b .right) (length (x .runs)) (sym (length-map (x .runs) (λ (y : Entry). natAbs (y .1)))) in
+    let x = laidOut (pos w) (pos d) (pos n) _ in
+    let l = take-filled 0 _ (b .left) _ (sym (length-map (x .runs) (λ (y : Entry). natAbs (y .0)))) in
+    let r = take-filled 0 _ (b .right) _ (sym (length-map (x .runs) (λ (y : Entry). natAbs (y .1)))) in
     λ i. record {
       window = pos w;
       width = pos d;
       windows = pos n;
-      rows = take-filled zeroRow (x .rows) (b .rows) (length (x .rows)) refl i;
+      rows = take-filled zeroRow (x .rows) (b .rows) _ refl i;
       runs = ((λ j. entries (l j) (r j)) ∙ paired n rows) i;
     }
 
@@ -57,7 +57,7 @@ stood : (x : Index) (s : List ℤ) (windows : ℕ) (before after : IndexBuffers)
 stood x s windows before after h n k p c b whole passes most =
     let q : h ≡ headOf x = ap (λ (o : Option Head). elim o [ some y ↦ y | none ↦ h ]) p in
     record {
-      passes = subst (λ (y : Index). Passes y s) (sym ((λ i. indexOf (q i) (c i .0) (c i .1) (b i)) ∙ whole)) passes;
+      passes = rw ((λ i. indexOf (q i) (c i .0) (c i .1) (b i)) ∙ whole) passes;
       few-rows = omega (arith, ap (λ (z : ℕ × ℕ). z .0) c, most .0);
       few-runs = omega (arith, ap (λ (z : ℕ × ℕ). z .1) c, most .1);
     }
@@ -68,13 +68,13 @@ module _ (s : List ℤ) (w d g : ℕ) (before : IndexBuffers) where
 
   build-whole : let x = buildIndex build in indexOf (headOf x) (length (x .rows)) (length (x .runs)) (indexIn x before) ≡ x
   unfolding buildIndex built builtRows
-  build-whole = let m = windowCount (length s) w in read-back w d m (merged g m (filed (windowSum s w) d m)) before
+  build-whole = let m = windowCount _ w in read-back w d m (merged g m _) before
 
   pub build-stands : (after : IndexBuffers) (h : Head) (n k : ℕ) → BuildKept build before (Built.Index h n k) after → Stands (indexOf h n k after) s (buildWindows build) n k
   unfolding buildHead buildCounts buildAfter
   build-stands after h n k kept =
       let e = sym (kept .refused) in
-      stood (buildIndex build) s (buildWindows build) before after h n k (kept .headed ∙ rw (e, buildHead)) (kept .counted ∙ rw (e, buildCounts)) ((λ i. record { rows = kept .rows i; left = kept .left i; right = kept .right i }) ∙ rw (e, buildAfter))
+      stood _ s _ before after h n k (kept .headed ∙ rw (e, buildHead)) (kept .counted ∙ rw (e, buildCounts)) ((λ i. record { rows = kept .rows i; left = kept .left i; right = kept .right i }) ∙ rw (e, buildAfter))
       build-whole (build-passes build before e) (build-most build before e)
 
 module _ (s : List ℤ) (head : Head) (from : List Row) (olds : List ℕ) (ends : List ℕ) (before : IndexBuffers) where
@@ -85,15 +85,13 @@ module _ (s : List ℤ) (head : Head) (from : List Row) (olds : List ℕ) (ends 
   unfolding extendIndex extended extendedRows
   extend-whole =
       let d = head .width in
-      let old = head .windows in
-      let sum = windowSum s (head .window) in
-      let n = windowCount (length s) (head .window) in
-      read-back (head .window) d n (insertRows (map (added sum d old) (newNumbers (extend .index) sum d old (n - old))) (map (grown (extend .index) sum old) from)) before
+      let n = windowCount _ _ in
+      read-back _ d n (insertRows _ _) before
 
   pub extend-stands : (after : IndexBuffers) (h : Head) (n k : ℕ) → ExtendKept extend before (Extended.Index h n k) after
       → Passes (extend .index) (take (natAbs (extend .index .windows) + natAbs (extend .index .window) - 1) s) → Stands (indexOf h n k after) s (extendWindows extend) n k
   unfolding extendHead extendCounts extendAfter
   extend-stands after h n k kept p =
       let e = sym (kept .refused) in
-      stood (extendIndex extend) s (extendWindows extend) before after h n k (kept .headed ∙ rw (e, extendHead)) (kept .counted ∙ rw (e, extendCounts)) ((λ i. record { rows = kept .rows i; left = kept .left i; right = kept .right i }) ∙ rw (e, extendAfter))
+      stood _ s _ before after h n k (kept .headed ∙ rw (e, extendHead)) (kept .counted ∙ rw (e, extendCounts)) ((λ i. record { rows = kept .rows i; left = kept .left i; right = kept .right i }) ∙ rw (e, extendAfter))
       extend-whole (extend-passes extend before e p) (extend-most extend before e)

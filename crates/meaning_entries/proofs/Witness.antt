@@ -37,7 +37,7 @@ openWitness = tt
 searched : (c : SearchCall) (candidates count : ℕ) (list : List (ℕ × ℕ)) → Passes (c .index) (c .series) → Found.All candidates count ≡ searchAnswer c room →
     list ≡ listIn count (searchAfter c room) → Searched c count list
 searched c candidates count list p e l =
-    record { passes = p; before = room; after = searchAfter c room; candidates = candidates; kept = search-kept c room (Found.All candidates count) (searchAfter c room) e refl; listed = l }
+    record { passes = p; before = room; after = searchAfter c room; candidates = candidates; kept = search-kept c room _ _ e refl; listed = l }
 
 raw-straight : Searched (search merged Raw (pos 0) (pos 5) (pos 0)) 3 ((0, 5) ∷ (1, 0) ∷ (2, 5) ∷ [])
 unfolding openWitness

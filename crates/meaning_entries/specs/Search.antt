@@ -8,7 +8,7 @@ use mathlib.Core.List.{List, [], _∷_, _++_, map}
 use mathlib.Core.Option.{Option, none, some}
 use Rattle.meaning_curves.specs.{Limits.mostValues, Curve.windowCount}
 use Rattle.meaning_rows.specs.{declared.Row.Row, declared.Head.Head, Index.Index, Index.lent}
-use Rattle.meaning_filter.specs.{declared.Kind.Kind, declared.Limits.Limits, declared.Ask.Ask, Matches.Question, Matches.candidateRuns, Matches.candidateCount, Matches.matchList}
+use Rattle.meaning_filter.specs.{declared.Kind.Kind, declared.Ask.Ask, Matches.Question, Matches.candidateRuns, Matches.candidateCount, Matches.matchList}
 use Rattle.meaning_entries.specs.{declared.Found.Found, Buffers.filled, Buffers.pairRoom}
 use Rattle.meaning_entries.specs.Refusal.{Condition, firstRefusal, valueOutside, queryLengthOutside, queryBelowWindow, bandOutside, thresholdOutside, scaleOrShiftOutside, flatQuery, illFormed, listShort, seriesLines, countLines, roomLines}
 

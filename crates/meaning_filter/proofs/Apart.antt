@@ -20,4 +20,4 @@ excess-sq-le h k i = omega (arith, sq-le (excess-small h k i))
 -- n squares from place p on
 pub aparts-le : {s low high : List ℤ} → AllIn s → AllIn low → AllIn high → (from p n : ℕ) → Σℕ n (λ k. apart (stretch s from) (at low) (at high) (p + k)) ≤ 400000000 * n
 aparts-le {s} {low} {high} h k i from p n =
-    Σℕ-le n 400000000 (λ j. apart (stretch s from) (at low) (at high) (p + j)) (λ j l. excess-sq-le (k .at (p + j)) (i .at (p + j)) (h .at (from + (p + j))))
+    Σℕ-le n 400000000 (λ j. apart (stretch s from) (at low) (at high) (p + j)) (λ j l. excess-sq-le (k .at (p + j)) (i .at (p + j)) (h .at _))

@@ -28,7 +28,7 @@ apart-le {i = i} {j} s e h n = sq-le (excess-le (s i) (e .low i j h n) (e .high 
 
 pub envelope-bound : {s q L U : ℕ → ℤ} {m b i j t : ℕ} → Envelope q m b L U → WarpPath s q b i j t → j < m → Σℕ (suc i) (apart s L U) ≤ t
 unfolding Σℕ
-envelope-bound {s} e start h = omega (arith, apart-le {i = 0} {j = 0} s e h (omega arith))
+envelope-bound {s} e start h = omega (arith, apart-le {i = 0} s e h (omega arith))
 envelope-bound {s} e (first p n) h = omega (arith, envelope-bound e p h, apart-le s e h n)
 envelope-bound e (second p n) h = omega (arith, envelope-bound e p (omega arith))
 envelope-bound {s} e (both p n) h = omega (arith, envelope-bound e p (omega arith), apart-le s e h n)
@@ -52,11 +52,11 @@ pub record Through (s q L U : ℕ → ℤ) (m b k i d : ℕ) : Type 0 where
 
 -- a step on in a row, and to the next row
 along : {s q L U : ℕ → ℤ} {m b k i d : ℕ} (c : ℕ) → Through s q L U m b k i d → Through s q L U m b k i (d + c)
-along c o = record { place = o .place; total = o .total; path = o .path; there = o .there; rest = omega (arith, o .rest) }
+along c o = record { place = o .place; total = o .total; path = o .path; there = o .there; rest = omega arith }
 
 down : {s q L U : ℕ → ℤ} {m b k i d : ℕ} (c : ℕ) → apart s L U (suc i) ≤ c → Through s q L U m b k i d → Through s q L U m b k (suc i) (d + c)
 unfolding Σℕ
-down c h o = record { place = o .place; total = o .total; path = o .path; there = o .there; rest = omega (arith, o .rest) }
+down c h o = record { place = o .place; total = o .total; path = o .path; there = o .there; rest = omega arith }
 
 -- a path that is in row k
 here : {s q L U : ℕ → ℤ} {m b k j d : ℕ} → WarpPath s q b k j d → j < m → Through s q L U m b k k d

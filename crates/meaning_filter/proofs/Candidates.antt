@@ -24,8 +24,8 @@ pub filed-reached : (x : Index) (s : List ℤ) → Filed x s → natAbs (x .wind
 filed-reached x s f e = record {
   at = λ j h.
       let o = f .home j (omega arith) in
-      let z = windowSum s (natAbs (x .window)) j in
-      subst T (sym (any-mem (λ r. inside (r .low) (r .up) z && stands x r j) (o .is) (of-both (o .holds-it) (o .stands-there)))) tt;
+      let z = windowSum s _ j in
+      subst T (sym (any-mem (λ r. inside _ (r .up) z && stands x r j) (o .is) (of-both (o .holds-it) (o .stands-there)))) tt;
 }
 
 -- a row that holds a sum in the range is met
@@ -36,12 +36,12 @@ met-holding : (range : ℤ × ℤ) (z : ℤ) (r : Row) → Between (range .0) z 
 unfolding inside
 met-holding range z r b t =
     let h = two-tests (leZ (r .low) z) (ltZ z (r .up)) t in
-    let m = row-met b (leZ-yes {a = r .low} {b = z} (h .0)) (ltZ-yes {a = z} {b = r .up} (h .1)) in
+    let m = row-met b (leZ-yes {a = r .low} (h .0)) (ltZ-yes (h .1)) in
     both-tests (leZ (r .low) (range .1)) (ltZ (range .0) (r .up)) (m .0 .le) (m .1 .lt)
 
 pub filed-admits : (x : Index) (range : ℤ × ℤ) (z : ℤ) (j : ℕ) → Between (range .0) z (range .1) → T (filedAt x z j) → T (admits x range j)
-filed-admits x range z j b = any-weaken (λ r. inside (r .low) (r .up) z && stands x r j) (λ r. met range r && stands x r j)
-    (λ r t. let h = two-tests (inside (r .low) (r .up) z) (stands x r j) t in both-tests (met range r) (stands x r j) (met-holding range z r b (h .0)) (h .1))
+filed-admits x range z j b = any-weaken (λ r. inside _ (r .up) z && stands x r j) (λ r. met range r && stands x r j)
+    (λ r t. let h = two-tests (inside _ (r .up) z) (stands x r j) t in both-tests (met range r) (stands x r j) (met-holding range z r b (h .0)) (h .1))
     (x .rows)
 
 -- ---- the parts, in order
@@ -53,7 +53,7 @@ all-admitted x f j k zero h = tt
 all-admitted x f j k (suc n) h =
     let w = natAbs (x .window) in
     let e : j + k * w + w ≡ j + suc k * w = omega arith in
-    both-tests (admits x (f k) (j + k * w)) (candidate x (map f (numbersFrom (suc k) n)) (j + k * w + w)) (h k (omega arith))
+    both-tests (admits x (f k) _) _ (h k (omega arith))
     (rw e (all-admitted x f j (suc k) n (λ i l. h i (omega arith))))
 
 part-fits : (m w i : ℕ) → i < m / w → i * w + w ≤ m
@@ -62,7 +62,7 @@ part-fits m w i h = omega (arith, div-mul-le-self m w, mul-le-mul-right w h)
 -- the sum of the part at p of the stretch of offset j is that of window j + p
 part-sum : (s : List ℤ) (j p w : ℕ) → Σℤ w (λ k. stretch s j (p + k)) ≡ windowSum s w (j + p)
 unfolding windowSum
-part-sum s j p w = Σℤ-same w (λ k. stretch s j (p + k)) (stretch s (j + p)) (λ k l. let e : j + (p + k) ≡ j + p + k = omega arith in rw e)
+part-sum s j p w = Σℤ-same w (λ k. stretch s j (p + k)) _ (λ k l. let e : j + (p + k) ≡ j + p + k = omega arith in rw e)
 
 pub kept-candidate : (x : Index) (z : Question) (j : ℕ) → Reached x (z .series) → 0 < queryLength z → 0 < z .ask .limits .scale → j < offsetCount z → T (matchesAt z j) → T (candidateAt x z j)
 unfolding candidateAt ranges
@@ -70,10 +70,10 @@ kept-candidate x z j filed long one there t =
     let w = natAbs (x .window) in
     let m = queryLength z in
     let s = z .series in
-    let range = rangeOf (z .ask .kind) (at (z .query)) m (z .ask .limits) w in
+    let range = rangeOf (z .ask .kind) _ m _ w in
     let e : j + 0 * w ≡ j = omega arith in
     rw e at (all-admitted x range j 0 (m / w) (λ i l.
     let fits = part-fits m w i (omega arith) in
-    filed-admits x (range i) (windowSum s w (j + i * w)) (j + i * w)
-    (rw (part-sum s j (i * w) w) at (kept (z .ask .kind) (stretch s j) (at (z .query)) m (z .ask .limits) w i long one fits t))
+    filed-admits x (range i) _ (j + i * w)
+    (rw (part-sum s j (i * w) w) at (kept (z .ask .kind) (stretch s j) _ m _ w i long one fits t))
     (filed .at (j + i * w) (omega arith))))

@@ -8,14 +8,14 @@ use Rattle.meaning_rows.proofs.Runs as Runs
 module _ (x : Index) (z : Question) where
   pub runs-apart : Runs.Apart (offsetCount z) 0 (candidateRuns x z)
   unfolding candidateRuns
-  runs-apart = Runs.runs-apart (candidateAt x z) (offsetCount z)
+  runs-apart = Runs.runs-apart _ _
 
   pub runs-hold : (j : ℕ) → Runs.held (candidateRuns x z) j ≡ (ltb j (offsetCount z) && candidateAt x z j)
   unfolding candidateRuns
-  runs-hold j = Runs.runs-hold (candidateAt x z) (offsetCount z) j
+  runs-hold j = Runs.runs-hold _ _ j
 
   pub runs-count : runLengths (map entry (candidateRuns x z)) ≡ candidateCount x z
   unfolding candidateCount
   runs-count =
-      Runs.lengths-count (offsetCount z) 0 (candidateRuns x z) runs-apart
-      ∙ count-cong (Runs.held (candidateRuns x z)) (candidateAt x z) (offsetCount z) (λ j l. runs-hold j ∙ rw (lt-ltb j (offsetCount z) l))
+      Runs.lengths-count _ 0 _ runs-apart
+      ∙ count-cong _ _ _ (λ j l. runs-hold j ∙ rw (lt-ltb j _ l))

@@ -1,8 +1,8 @@
 -- No match is lost: the sums of a match's parts lie in the ranges. A raw match has a path of total at most E (`raw-kept`). A normalised match has one between normalised values, so the sums of its parts' normalised values lie in that range (`raw-kept` again);
 -- the scale and the shift bring it to the sums themselves (`normal-kept`). `kept` says both of a query's kind.
-use Rattle.meaning_numbers.specs.{Sum.Σℤ, Root.root, Order.minℤ, Order.maxℤ}
+use Rattle.meaning_numbers.specs.{Sum.Σℤ, Order.minℤ, Order.maxℤ}
 use Rattle.meaning_numbers.proofs.{Sum.Σℤ-centred, Root.root-is, Between.Between}
-use Rattle.meaning_numbers.proofs.Prelude.{ℕ, _+_, _*_, _<_, _≤_, arith, T, ℤ, pos, _+ℤ_, _-ℤ_, _*ℤ_, _≤ℤ_, zarith, z-add, z-sub}
+use Rattle.meaning_numbers.proofs.Prelude.{ℕ, _+_, _*_, _<_, _≤_, arith, T, ℤ, pos, _+ℤ_, _-ℤ_, _*ℤ_, zarith, z-add, z-sub}
 use Rattle.meaning_curves.specs.{Curve.total, Curve.spread, Normal.centred, Normal.cut, Normal.normalised}
 use Rattle.meaning_curves.proofs.{Normal.cut-is, Straight.distance-least, Match.RawMatch, Match.NormalMatch, Match.raw-yes, Match.normal-yes}
 use Rattle.meaning_filter.specs.{declared.Kind.Kind, declared.Kind.the-variants.Raw, declared.Kind.the-variants.Normal, declared.Limits.Limits, Matches.matches}
@@ -12,12 +12,12 @@ use Rattle.meaning_filter.proofs.{Envelope.envelope, Range.path-range, 
 pub raw-kept : {s q : ℕ → ℤ} {m b E : ℕ} (p w : ℕ) → 0 < m → p + w ≤ m → RawMatch s q m b E
     → Between (rawLow q m b E p w) (Σℤ w (λ k. s (p + k))) (rawHigh q m b E p w)
 unfolding rawLow rawHigh lowerSum upperSum
-raw-kept {s} {q} {m} {b} {E} p w long fits c = path-range m p w E (root (w * E)) long fits (envelope q m b) (distance-least s q b m long .attained) (c .near) (root-is (w * E))
+raw-kept {s} {q} {m} {b} {E} p w long fits c = path-range m p w E _ long fits (envelope q m b) (distance-least s q b m long .attained) (c .near) (root-is (w * E))
 
 -- the sum of a part's normalised values
 pub normal-range : {s q : ℕ → ℤ} {m b E a h : ℕ} (p w : ℕ) → 0 < m → p + w ≤ m → NormalMatch s q m b E a h
     → Between (rawLow (normalised q m) m b E p w) (Σℤ w (λ k. normalised s m (p + k))) (rawHigh (normalised q m) m b E p w)
-normal-range {s} {q} {m} p w long fits c = raw-kept {s = normalised s m} {q = normalised q m} p w long fits (record { near = c .near })
+normal-range {s} {q} {m} p w long fits c = raw-kept p w long fits (record { near = c .near })
 
 -- the sum of its centred values, a hundred times
 pub centred-range : {s q : ℕ → ℤ} {m b E a h : ℕ} (p w : ℕ) → 0 < m → 0 < a → p + w ≤ m → NormalMatch s q m b E a h
@@ -27,14 +27,12 @@ unfolding normalised
 centred-range {s} {q} {m} {b} {E} {a} p w long one fits c =
     let A = spread s m in
     let B = spread q m in
-    let lo = rawLow (normalised q m) m b E p w in
-    let hi = rawHigh (normalised q m) m b E p w in
+    let lo = rawLow _ m b E p w in
+    let hi = rawHigh _ m b E p w in
     let N = Σℤ w (λ k. normalised s m (p + k)) in
     let r = normal-range p w long fits c in
-    let rl : lo ≤ℤ N = r .low in
-    let rh : N ≤ℤ hi = r .high in
-    scale-range w (λ k. centred s m (p + k)) (λ k. cut A (centred s m (p + k))) (λ k l. cut-is (centred s m (p + k)) (c .not-flat))
-    (lowScale B a) (highScale B a) (lo -ℤ pos w) (hi +ℤ pos w) (low-scale A B a one (c .down)) (omega (arith, high-scale A B a (c .up)))
+    scale-range w (λ k. centred s m (p + k)) (λ k. cut A _) (λ k l. cut-is _ (c .not-flat))
+    (lowScale B a) _ (lo -ℤ pos w) (hi +ℤ pos w) (low-scale A B a one (c .down)) (omega (arith, high-scale A B a (c .up)))
     (omega (zarith, z-sub lo (pos w), z-sub N (pos w))) (omega (zarith, z-add hi (pos w), z-add N (pos w)))
 
 pub normal-kept : {s q : ℕ → ℤ} {m b E a h : ℕ} (p w : ℕ) → 0 < m → 0 < a → p + w ≤ m → NormalMatch s q m b E a h

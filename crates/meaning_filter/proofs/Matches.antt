@@ -6,13 +6,13 @@ use Rattle.meaning_numbers.proofs.Prelude.{_≡_, refl, sym, subst, Bool, List,
 use Rattle.meaning_curves.proofs.Match.{raw-yes, normal-yes}
 use Rattle.meaning_rows.specs.Index.{Index}
 use Rattle.meaning_filter.specs.{declared.Kind.Kind, declared.Kind.the-variants.Raw, declared.Kind.the-variants.Normal, declared.Limits.Limits}
-use Rattle.meaning_filter.specs.Matches.{Question, matches, distanceTo, queryLength, offsetCount, matchesAt, listed, candidateAt, allMatches, matchList, Upward, done, next, Exactly}
+use Rattle.meaning_filter.specs.Matches.{Question, matches, distanceTo, queryLength, offsetCount, matchesAt, allMatches, matchList, Upward, done, next, Exactly}
 use Rattle.meaning_filter.proofs.Candidates.{Reached, kept-candidate}
 
 pub all-found : (x : Index) (z : Question) → Reached x (z .series) → 0 < queryLength z → 0 < z .ask .limits .scale → matchList x z ≡ allMatches z
 unfolding matchList allMatches
 all-found x z filed long one =
-    rw (keep-twice (matchesAt z) (candidateAt x z) 0 (offsetCount z) (λ j l. kept-candidate x z j filed long one (omega arith)))
+    rw (keep-twice (matchesAt z) _ 0 (offsetCount z) (λ j l. kept-candidate x z j filed long one (omega arith)))
 
 -- the numbers from k on that pass a test, with something beside each, are upward
 kept-upward : (p : ℕ → Bool) (f : ℕ → ℕ × ℕ) → ((j : ℕ) → f j .0 ≡ j) → (k n : ℕ) → Upward k (map f (keep p (numbersFrom k n)))
@@ -29,17 +29,17 @@ kept-upward p f e k (suc n) = by-test (p k)
 pub all-exactly : (z : Question) → Exactly z (allMatches z)
 unfolding allMatches
 all-exactly z = record {
-  ascending = kept-upward (matchesAt z) (listed z) (λ j. refl) 0 (offsetCount z);
+  ascending = kept-upward _ _ (λ j. refl) 0 _;
   only = λ e m.
-      let i = map-mem (listed z) (keep (matchesAt z) (numbersFrom 0 (offsetCount z))) m in
-      let k = kept-mem (matchesAt z) (numbersFrom 0 (offsetCount z)) (i .is) in
-      let b = numbers-mem 0 (offsetCount z) (i .entry) (k .0) in
-      subst (λ (x : ℕ × ℕ). (x .0 < offsetCount z) × T (matchesAt z (x .0)) × (x ≡ listed z (x .0))) (sym (i .same)) (omega (arith, b .1), k .1, refl);
-  every = λ j h t. mem-map (listed z) (mem-kept (matchesAt z) (mem-numbers 0 (offsetCount z) j (omega arith) (omega arith)) t);
+      let i = map-mem _ _ m in
+      let k = kept-mem _ _ (i .is) in
+      let b = numbers-mem 0 _ _ (k .0) in
+      rw (i .same) (omega arith, k .1, refl);
+  every = λ j h t. mem-map _ (mem-kept _ (mem-numbers 0 _ j (omega arith) (omega arith)) t);
 }
 
 -- the distance of a match is at most E
 pub listed-within : (k : Kind) (s q : ℕ → ℤ) (m : ℕ) (l : Limits) → T (matches k s q m l) → distanceTo k s q m l ≤ l .threshold
 unfolding matches distanceTo
-listed-within Raw s q m l t = raw-yes s q m (l .band) (l .threshold) t .near
-listed-within Normal s q m l t = normal-yes s q m (l .band) (l .threshold) (l .scale) (l .shift) t .near
+listed-within Raw s q m l t = raw-yes s q m _ _ t .near
+listed-within Normal s q m l t = normal-yes s q m _ _ _ _ t .near

@@ -35,15 +35,15 @@ sum-high (suc w) H ρ n c t h =
     let Y = rep-self (c w) in
     let C = Σℕ w (λ k. t k + 1) in
     let before = le-rep (rep-mul (rep-pos H) S) (rep-add (rep-mul (rep-add N (rep-pos w)) (rep-pos ρ)) (rep-pos C)) (sum-high w H ρ n c t (λ k l. h k (le-step l))) in
-    let last = le-rep (rep-mul (rep-pos H) Y) (rep-add (rep-mul (rep-add X (rep-pos 1)) (rep-pos ρ)) (rep-pos (t w + 1))) (h w (omega arith)) in
-    rep-le (rep-mul (rep-pos H) (rep-add S Y)) (rep-add (rep-mul (rep-add (rep-add N X) (rep-pos (suc w))) (rep-pos ρ)) (rep-pos (C + (t w + 1)))) (omega arith)
+    let last = le-rep (rep-mul (rep-pos H) Y) (rep-add (rep-mul (rep-add X (rep-pos 1)) (rep-pos ρ)) (rep-pos _)) (h w (omega arith)) in
+    rep-le (rep-mul (rep-pos H) (rep-add S Y)) (rep-add (rep-mul (rep-add (rep-add N X) (rep-pos (suc w))) (rep-pos ρ)) (rep-pos _)) (omega arith)
 
 -- ---- the root of K² × A
 
 pub root-between : {A ρ : ℕ} (u v K : ℕ) → u * u ≤ A → A ≤ v * v → IsRoot (K * K * A) ρ → (K * u ≤ ρ) × (ρ ≤ K * v)
 root-between {A} {ρ} u v K hu hv i = (
   root-most i (omega (arith, mul-le-mul-left (K * K) hu)),
-  le-of-sq-le {x = ρ} {r = K * v} (omega (arith, i .low, mul-le-mul-left (K * K) hv)),
+  le-of-sq-le (omega (arith, i .low, mul-le-mul-left (K * K) hv)),
 )
 
 cancel : (C a b : ℕ) → (C + 1) * a ≤ (C + 1) * b + C → a ≤ b
@@ -55,14 +55,14 @@ pub scale-low : (C ρ u v : ℕ) (X Z : ℤ) {W M : ℤ} → (C + 1) * u ≤ ρ 
     → M ≤ℤ (X *ℤ pos u) → M ≤ℤ (X *ℤ pos v) → M ≤ℤ (pos 100 *ℤ Z)
 scale-low C ρ u v (pos x) Z {W} {M} hu hv le sum Mu Mv =
     let K = C + 1 in
-    let s = le-rep (rep-sub (rep-mul (rep-self W) (rep-pos ρ)) (rep-pos C)) (rep-mul (rep-pos (100 * K)) (rep-self Z)) sum in
+    let s = le-rep (rep-sub (rep-mul (rep-self W) (rep-pos ρ)) (rep-pos C)) (rep-mul (rep-pos _) (rep-self Z)) sum in
     let l = mul-le-mul-right ρ (z-le le) in
     let m = mul-le-mul-left K (le-rep (rep-self M) (rep-mul (rep-pos x) (rep-pos u)) Mu) in
     let k = mul-le-mul-left x hu in
     rep-le (rep-self M) (rep-mul (rep-pos 100) (rep-self Z)) (cancel C _ _ (omega arith))
 scale-low C ρ u v (negsuc x) Z {W} {M} hu hv le sum Mu Mv =
     let K = C + 1 in
-    let s = le-rep (rep-sub (rep-mul (rep-self W) (rep-pos ρ)) (rep-pos C)) (rep-mul (rep-pos (100 * K)) (rep-self Z)) sum in
+    let s = le-rep (rep-sub (rep-mul (rep-self W) (rep-pos ρ)) (rep-pos C)) (rep-mul (rep-pos _) (rep-self Z)) sum in
     let l = mul-le-mul-right ρ (z-le le) in
     let m = mul-le-mul-left K (le-rep (rep-self M) (rep-mul (rep-self (negsuc x)) (rep-pos v)) Mv) in
     let k = mul-le-mul-left (suc x) hv in
@@ -72,14 +72,14 @@ pub scale-high : (C ρ u v : ℕ) (Y Z : ℤ) {W M : ℤ} → (C + 1) * u ≤ ρ
     → (Y *ℤ pos u) ≤ℤ M → (Y *ℤ pos v) ≤ℤ M → (pos 100 *ℤ Z) ≤ℤ M
 scale-high C ρ u v (pos y) Z {W} {M} hu hv le sum Mu Mv =
     let K = C + 1 in
-    let s = le-rep (rep-mul (rep-pos (100 * K)) (rep-self Z)) (rep-add (rep-mul (rep-self W) (rep-pos ρ)) (rep-pos C)) sum in
+    let s = le-rep (rep-mul (rep-pos _) (rep-self Z)) (rep-add (rep-mul (rep-self W) (rep-pos ρ)) (rep-pos C)) sum in
     let l = mul-le-mul-right ρ (z-le le) in
     let m = mul-le-mul-left K (le-rep (rep-mul (rep-pos y) (rep-pos v)) (rep-self M) Mv) in
     let k = mul-le-mul-left y hv in
     rep-le (rep-mul (rep-pos 100) (rep-self Z)) (rep-self M) (cancel C _ _ (omega arith))
 scale-high C ρ u v (negsuc y) Z {W} {M} hu hv le sum Mu Mv =
     let K = C + 1 in
-    let s = le-rep (rep-mul (rep-pos (100 * K)) (rep-self Z)) (rep-add (rep-mul (rep-self W) (rep-pos ρ)) (rep-pos C)) sum in
+    let s = le-rep (rep-mul (rep-pos _) (rep-self Z)) (rep-add (rep-mul (rep-self W) (rep-pos ρ)) (rep-pos C)) sum in
     let l = mul-le-mul-right ρ (z-le le) in
     let m = mul-le-mul-left K (le-rep (rep-mul (rep-self (negsuc y)) (rep-pos u)) (rep-self M) Mu) in
     let k = mul-le-mul-left (suc y) hu in
@@ -94,8 +94,8 @@ module _ {A : ℕ} (w : ℕ) (c : ℕ → ℤ) (t : ℕ → ℕ) (cuts : (k : �
       → Between ((Σℤ w (λ k. signed (c k) (t k)) -ℤ pos w) *ℤ pos ρ -ℤ pos (Σℕ w (λ k. t k + 1))) (pos (100 * K) *ℤ Σℤ w c)
       ((Σℤ w (λ k. signed (c k) (t k)) +ℤ pos w) *ℤ pos ρ +ℤ pos (Σℕ w (λ k. t k + 1)))
   sum-range {ρ} K i = record {
-    low = sum-low w (100 * K) ρ (λ k. signed (c k) (t k)) c t (λ k l. cut-range K (c k) (cuts k l) i .low);
-    high = sum-high w (100 * K) ρ (λ k. signed (c k) (t k)) c t (λ k l. cut-range K (c k) (cuts k l) i .high);
+    low = sum-low w _ ρ (λ k. signed (c k) (t k)) c t (λ k l. cut-range K (c k) (cuts k l) i .low);
+    high = sum-high w _ ρ (λ k. signed (c k) (t k)) c t (λ k l. cut-range K (c k) (cuts k l) i .high);
   }
 
   -- the two ends
@@ -104,12 +104,12 @@ module _ {A : ℕ} (w : ℕ) (c : ℕ → ℤ) (t : ℕ → ℕ) (cuts : (k : �
   scale-range u v X Y hu hv hX hY =
       let C = Σℕ w (λ k. t k + 1) in
       let K = C + 1 in
-      let ρ = root (K * K * A) in
-      let i = root-is (K * K * A) in
+      let ρ = root _ in
+      let i = root-is _ in
       let e = root-between u v K hu hv i in
       let sum = sum-range K i in
-      let lo = minℤ-le (X *ℤ pos u) (X *ℤ pos v) in
-      let hi = maxℤ-le (Y *ℤ pos u) (Y *ℤ pos v) in
+      let lo = minℤ-le _ _ in
+      let hi = maxℤ-le _ _ in
       record {
         low = scale-low C ρ u v X (Σℤ w c) (e .0) (e .1) hX (sum .low) (lo .0) (lo .1);
         high = scale-high C ρ u v Y (Σℤ w c) (e .0) (e .1) hY (sum .high) (hi .0) (hi .1);
@@ -120,9 +120,9 @@ module _ {A : ℕ} (w : ℕ) (c : ℕ → ℤ) (t : ℕ → ℕ) (cuts : (k : �
 pub low-scale : (A B a : ℕ) → 0 < a → 100 * B ≤ a * a * A → square (lowScale B a) ≤ A
 low-scale A B a some h =
     let u = lowScale B a in
-    let one : 0 < a * a = mul-pos some some in
-    let k : u * u * (a * a) ≤ 100 * B = le-div-iff-mul-le one .0 (root-is (100 * B / (a * a)) .low) in
-    le-of-mul-le-mul-right {m = u * u} {n = A} {k = a * a} (omega arith) one
+    let one = mul-pos some some in
+    let k : u * u * (a * a) ≤ 100 * B = le-div-iff-mul-le one .0 (root-is _ .low) in
+    le-of-mul-le-mul-right (omega arith) one
 
 pub high-scale : (A B a : ℕ) → 100 * A ≤ a * a * B → A < square (highScale B a)
 high-scale A B a h = omega (arith, root-is (a * a * B / 100) .high)

@@ -10,13 +10,13 @@ module _ (m w h : ℕ) (S T Q M : ℤ) (long : 0 < m) (near : natAbs (T -ℤ Q) 
       let k : up Q + dn T ≤ up T + dn Q + m * h = omega (zarith, z-abs (T -ℤ Q), z-sub T Q) in
       let R = rep-self S in
       let a = le-rep (rep-self M) (rep-mul (rep-pos 100) (rep-sub (rep-mul (rep-pos m) R) (rep-mul (rep-pos w) (rep-self T)))) le in
-      ceil-least S (M +ℤ pos (100 * w) *ℤ (Q -ℤ pos (m * h))) (100 * m) (omega arith)
-      (rep-le (rep-add (rep-self M) (rep-mul (rep-pos (100 * w)) (rep-sub (rep-self Q) (rep-pos (m * h))))) (rep-mul R (rep-pos (100 * m))) (omega (arith, mul-le-mul-left w k)))
+      ceil-least S _ _ (omega arith)
+      (rep-le (rep-add (rep-self M) (rep-mul (rep-pos _) (rep-sub (rep-self Q) (rep-pos (m * h))))) (rep-mul R (rep-pos _)) (omega (arith, mul-le-mul-left w k)))
 
   pub shift-high : (pos 100 *ℤ (pos m *ℤ S -ℤ pos w *ℤ T)) ≤ℤ M → S ≤ℤ floorℤ (M +ℤ pos (100 * w) *ℤ (Q +ℤ pos (m * h))) (100 * m)
   shift-high le =
       let k : up T + dn Q ≤ up Q + dn T + m * h = omega (zarith, z-abs (T -ℤ Q), z-sub T Q) in
       let R = rep-self S in
       let a = le-rep (rep-mul (rep-pos 100) (rep-sub (rep-mul (rep-pos m) R) (rep-mul (rep-pos w) (rep-self T)))) (rep-self M) le in
-      floor-most S (M +ℤ pos (100 * w) *ℤ (Q +ℤ pos (m * h))) (100 * m) (omega arith)
-      (rep-le (rep-mul R (rep-pos (100 * m))) (rep-add (rep-self M) (rep-mul (rep-pos (100 * w)) (rep-add (rep-self Q) (rep-pos (m * h))))) (omega (arith, mul-le-mul-left w k)))
+      floor-most S _ _ (omega arith)
+      (rep-le (rep-mul R (rep-pos _)) (rep-add (rep-self M) (rep-mul (rep-pos _) (rep-add (rep-self Q) (rep-pos (m * h))))) (omega (arith, mul-le-mul-left w k)))

@@ -76,7 +76,7 @@ count-add a b c d (suc n) h = omega (arith, count-add a b c d n (λ j l. h j (le
 pub count-shift : (p : ℕ → Bool) (n : ℕ) → count p (suc n) ≡ bit (p 0) + count (λ j. p (suc j)) n
 unfolding count
 count-shift p zero = omega arith
-count-shift p (suc n) = let h : count p (suc n) ≡ bit (p 0) + count (λ j. p (suc j)) n = count-shift p n in omega (arith, h)
+count-shift p (suc n) = let h = count-shift p n in omega (arith, h)
 
 -- each number passes or does not
 pub count-not : (p : ℕ → Bool) (n : ℕ) → count (λ j. not (p j)) n + count p n ≡ n

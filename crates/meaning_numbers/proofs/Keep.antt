@@ -20,7 +20,7 @@ pub keep-twice : (p c : ℕ → Bool) (k n : ℕ) → ((j : ℕ) → j < k + n �
 unfolding keep numbersFrom
 keep-twice p c k zero f = refl
 keep-twice p c k (suc n) f =
-    keep-one p (p k) (c k) k (keep c (numbersFrom (suc k) n)) (keep p (numbersFrom (suc k) n)) refl (f k (omega arith)) (keep-twice p c (suc k) n (λ j l. f j (omega arith)))
+    keep-one p (p k) (c k) k _ _ refl (f k (omega arith)) (keep-twice p c (suc k) n (λ j l. f j (omega arith)))
 
 -- ---- members
 
@@ -28,10 +28,10 @@ pub kept-mem : {A : Type 0} (p : A → Bool) {x : A} (l : List A) → Mem x (kee
 unfolding keep
 kept-mem p [] m = absurd (not-nil m)
 kept-mem {A} p {x} (y ∷ l) m = by-test (p y)
-    (λ t. ⊎-elim (λ e. (here e, subst (λ (z : A). T (p z)) (sym e) (subst T (sym t) tt))) (λ n. let h = kept-mem p l n in (there (h .0), h .1)) (cases (rw t at m)))
+    (λ t. ⊎-elim (λ e. (here e, rw e (subst T (sym t) tt))) (λ n. let h = kept-mem p l n in (there (h .0), h .1)) (cases (rw t at m)))
     (λ f. let h = kept-mem p l (rw f at m) in (there (h .0), h .1))
 
 pub mem-kept : {A : Type 0} (p : A → Bool) {x : A} {l : List A} → Mem x l → T (p x) → Mem x (keep p l)
 unfolding keep
-mem-kept {A} p {x} (here {xs = l} e) h = rw (is-true (p _) (subst (λ (z : A). T (p z)) e h)) (here e)
+mem-kept {A} p {x} (here {xs = l} e) h = rw (is-true (p _) (rw e at h)) (here e)
 mem-kept p (there {x = y} {xs = l} m) h = by-test (p y) (λ t. rw t (there (mem-kept p m h))) (λ f. rw f (mem-kept p m h))

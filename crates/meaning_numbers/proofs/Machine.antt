@@ -5,7 +5,7 @@ use borrow.Author.Tests.{leb-false}
 use lib.Dec.{T}
 use lib.IntN.{ℤ, pos, negsuc, natAbs}
 use lib.Signed.{_≤ℤ_, _<ℤ_, leZ, ltZ, ltZ-yes, leZ-yes, ltZ-no, clashℤ, nonNeg}
-use mathlib.Core.Bool.{Bool, true, false, not}
+use mathlib.Core.Bool.{Bool, true, false}
 use mathlib.Core.Path.{_≡_, refl, sym, subst}
 use mir.Syntax.{w32, w64}
 use mir.Val.{SFits, toZ, ofZ}
@@ -19,7 +19,7 @@ pub ltZ-true : {a b : ℤ} → ltZ a b ≡ true → a <ℤ b
 ltZ-true e = ltZ-yes (subst T (sym e) tt)
 
 pub ltZ-false : {a b : ℤ} → ltZ a b ≡ false → b ≤ℤ a
-ltZ-false e = ltZ-no (subst (λ (t : Bool). T (not t)) (sym e) tt)
+ltZ-false e = ltZ-no (rw e tt)
 
 pub leZ-true : {a b : ℤ} → leZ a b ≡ true → a ≤ℤ b
 leZ-true e = leZ-yes (subst T (sym e) tt)
@@ -41,13 +41,13 @@ le-ltZ h = is-false _ (λ t. clashℤ (ltZ-yes t) h)
 -- ---- the rules
 
 pub f-lt : (a b : ℤ) → ltZ a b ≡ true → up a + dn b < up b + dn a
-f-lt a b e = z-lt {x = a} {y = b} (ltZ-true e)
+f-lt a b e = z-lt {x = a} (ltZ-true e)
 
 pub f-ge : (a b : ℤ) → ltZ a b ≡ false → up b + dn a ≤ up a + dn b
-f-ge a b e = z-le {x = b} {y = a} (ltZ-false e)
+f-ge a b e = z-le {y = a} (ltZ-false e)
 
 pub f-le : (a b : ℤ) → leZ a b ≡ true → up a + dn b ≤ up b + dn a
-f-le a b e = z-le {x = a} {y = b} (leZ-true e)
+f-le a b e = z-le {x = a} (leZ-true e)
 
 pub f-gt : (a b : ℤ) → leZ a b ≡ false → up b + dn a < up a + dn b
 f-gt (pos m) (pos n) e = omega (arith, leb-false m n e)
@@ -96,5 +96,5 @@ pub ruleset zmach32 = (zarith, f-lt, f-ge, f-le, f-gt, z-read32, to-sfits32, to-
 
 -- to be listed: the limits of a number that fits
 pub z-fits : {z : ℤ} → SFits w64 z → (up z < 2 ^ 63) × (dn z ≤ 2 ^ 63)
-z-fits {z = pos n} h = (omega (arith, h .sfits), omega arith)
-z-fits {z = negsuc n} h = (omega arith, omega (arith, h .sfits))
+z-fits {z = pos n} h = (omega arith, omega arith)
+z-fits {z = negsuc n} h = (omega arith, omega arith)

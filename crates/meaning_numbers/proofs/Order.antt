@@ -13,11 +13,11 @@ pick {x} {y} false f g = let h = g refl in ((omega zarith, omega zarith), (omega
 
 pub minℤ-le : (x y : ℤ) → (minℤ x y ≤ℤ x) × (minℤ x y ≤ℤ y)
 unfolding minℤ
-minℤ-le x y = pick {x = x} {y = y} (ltZ x y) ltZ-true ltZ-false .0
+minℤ-le x y = pick (ltZ x y) ltZ-true ltZ-false .0
 
 pub maxℤ-le : (x y : ℤ) → (x ≤ℤ maxℤ x y) × (y ≤ℤ maxℤ x y)
 unfolding maxℤ
-maxℤ-le x y = pick {x = x} {y = y} (ltZ x y) ltZ-true ltZ-false .1
+maxℤ-le x y = pick (ltZ x y) ltZ-true ltZ-false .1
 
 either : (t : Bool) (x y : ℤ) → (cond t x y ≡ x) ⊎ (cond t x y ≡ y)
 either true x y = inl refl

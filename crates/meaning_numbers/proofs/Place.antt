@@ -26,7 +26,7 @@ module _ {A : Type 0} (p : A → Bool) (d : A) where
   -- ---- the entries after the first
 
   first-after : {x : A} {l : List A} {n : ℕ} → First p d (x ∷ l) (suc n) → First p d l n
-  first-after f = record { inside = omega (arith, f .inside); passes = f .passes; before = λ j h. f .before (suc j) (omega arith) }
+  first-after f = record { inside = omega arith; passes = f .passes; before = λ j h. f .before (suc j) (omega arith) }
 
   nowhere-after : {x : A} {l : List A} → Nowhere p d (x ∷ l) → Nowhere p d l
   nowhere-after f = record { fails = λ j h. f .fails (suc j) (omega arith) }
@@ -36,13 +36,13 @@ module _ {A : Type 0} (p : A → Bool) (d : A) where
   fails-more x l n t f (suc j) h = f j (omega arith)
 
   first-more : {x : A} {l : List A} {n : ℕ} → T (not (p x)) → First p d l n → First p d (x ∷ l) (suc n)
-  first-more {x} {l} {n} t f = record { inside = omega (arith, f .inside); passes = f .passes; before = fails-more x l n t (f .before) }
+  first-more {x} {l} {n} t f = record { inside = omega arith; passes = f .passes; before = fails-more x l n t (f .before) }
 
   -- ---- what is first is found
 
   place-from : (k : ℕ) (l : List A) (n : ℕ) → First p d l n → placeFrom k p l ≡ some (k + n)
   unfolding placeFrom
-  place-from k [] n f = absurd (omega (arith, f .inside))
+  place-from k [] n f = absurd (omega arith)
   place-from k (x ∷ l) zero f = let e : k + 0 ≡ k = omega arith in rw (is-true (p x) (f .passes), e)
   place-from k (x ∷ l) (suc n) f =
       let e : suc k + n ≡ k + suc n = omega arith in

@@ -1,6 +1,6 @@
 -- `root` is the whole square root (`root-is`), the greatest number whose square does not pass (`root-most`), and the only such number (`root-only`).
 use Prim.Native.Nat.{ℕ, zero, suc, _+_, _*_, _/_, _<_, _≤_}
-use lib.Dec.{T, ltb, ltb→lt, nltb→le}
+use lib.Dec.{T, ltb→lt, nltb→le}
 use mathlib.Core.Bool.{Bool, true, false, not}
 use mathlib.Core.Path.{_≡_}
 use native.Mathlib.Decide.{decLe}
@@ -17,10 +17,10 @@ pub le-of-sq : {x r : ℕ} → x * x < (r + 1) * (r + 1) → x ≤ r
 le-of-sq {x} {r} h = elim (decLe x r) [ yes l ↦ l | no f ↦ absurd (omega (arith, sq-le {x = r + 1} {y = x} (omega arith))) ]
 
 pub le-of-sq-le : {x r : ℕ} → x * x ≤ r * r → x ≤ r
-le-of-sq-le {x} {r} h = le-of-sq {x = x} {r = r} (omega arith)
+le-of-sq-le {x} {r} h = le-of-sq (omega arith)
 
 pub root-most : {x y r : ℕ} → IsRoot y r → x * x ≤ y → x ≤ r
-root-most {x} {y} {r} i h = le-of-sq {x = x} {r = r} (omega (arith, i .high))
+root-most {x} {y} {r} i h = le-of-sq (omega arith)
 
 pub root-only : {y r t : ℕ} → IsRoot y r → IsRoot y t → r ≡ t
 root-only {y} {r} {t} i k = omega (arith, root-most i (k .low), root-most k (i .low))
@@ -40,7 +40,7 @@ root-within-is (suc n) zero h = omega arith
 root-within-is (suc n) (suc y) h =
     let k = rootWithin n (suc y / 4) in
     let i = root-within-is n (suc y / 4) (omega arith) in
-    next-bit-is (ltb (suc y) ((2 * k + 1) * (2 * k + 1))) (suc y) (2 * k) (ltb→lt _ _) (nltb→le _ _) (omega (arith, i .low)) (omega (arith, i .high))
+    next-bit-is _ (suc y) (2 * k) (ltb→lt _ _) (nltb→le _ _) (omega arith) (omega arith)
 
 pub root-is : (y : ℕ) → IsRoot y (root y)
 unfolding root

@@ -1,21 +1,13 @@
 -- Laws of sums over the indices below n, over ℤ and over ℕ, and the bridge between them (`rep-Σ`). Each lemma is an induction on the number of terms, one `omega` a step.
 -- `Σℕ-split` cuts a sum in two; a part of a sum of naturals is at most the whole (`Σℕ-part`).
 use Prim.Native.Nat.{ℕ, zero, suc, _+_, _-_, _*_, _<_, _≤_}
-use lib.IntN.{ℤ, pos, _+ℤ_, _-ℤ_, _*ℤ_}
+use lib.IntN.{ℤ, pos, _-ℤ_, _*ℤ_}
 use mathlib.Core.Path.{_≡_, refl}
 use native.Mathlib.Nat.{le-step, add-suc}
 use native.Mathlib.Numerals.{add-one}
 use native.Mathlib.Omega.{arith}
 use Rattle.meaning_numbers.specs.Sum.{Σℤ, Σℕ}
 use Rattle.meaning_numbers.proofs.Rep.{Rep, up, dn, rep-self, rep-pos, rep-add, rep-sub, rep-mul, rep-eq}
-
-pub Σℤ-none : (f : ℕ → ℤ) → Σℤ 0 f ≡ pos 0
-unfolding Σℤ
-Σℤ-none f = refl
-
-pub Σℤ-more : (n : ℕ) (f : ℕ → ℤ) → Σℤ (n + 1) f ≡ Σℤ n f +ℤ f n
-unfolding Σℤ
-Σℤ-more n f = rw (add-one n)
 
 pub Σℕ-none : (f : ℕ → ℕ) → Σℕ 0 f ≡ 0
 unfolding Σℕ

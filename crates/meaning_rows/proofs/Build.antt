@@ -1,15 +1,14 @@
 -- A build's rows hold every window exactly once (`built-once`), each exactly the windows whose sums lie in its range (`built-holds`). They ascend, none is empty (`built-tiled`, `built-occupied`),
--- and there are at most as many rows and runs as windows (`built-length`, `built-runs`). Filed rows tile the windows, with no window's sum between neighbours, and merging keeps that; so a row
--- is its range, and merging can be told by ranges alone (`built-range`).
+-- and there are at most as many rows and runs as windows (`built-length`, `built-runs`). Filed rows tile the windows, with no window's sum between neighbours, and merging keeps that.
 use Rattle.meaning_numbers.specs.{Sum.bit, Place.any}
 use Rattle.meaning_numbers.proofs.Count.{bit-true}
 use Rattle.meaning_numbers.proofs.Member.{any-mem, any-map, mem-map, All, all-mem, mem-all, map-mem}
 use Rattle.meaning_numbers.proofs.Prelude.{_≡_, refl, sym, ap, _∙_, subst, _⊎_, inl, inr, ⊎-elim, Bool, true, false, _&&_, or-true, List, [], _∷_, map, List·Memᴰ as Mem, List·Memᴰ·head as here, List·Memᴰ·tail as there, List·Memᴰ·not-nil as not-nil, List·Memᴰ·cases-cons as cases, ℕ, zero, suc, _+_, _*_, _<_, _≤_, arith, le-step, decLt, ltb, length, length-map, length-append, ℤ, _≤ℤ_, _<ℤ_, ltZ, ≤ℤ-refl, lt-ltb, le-ltb, ltb-true, zarith, ltZ-true, ltZ-false, lt-ltZ, le-ltZ, by-test, clash}
 use Rattle.meaning_rows.specs.{Range.rowNumber, Range.lowOf, Range.upOf, Range.inside, Runs.runs, Runs.runCount, Index.RangeRow, Index.inRun, Index.allRuns}
 use Rattle.meaning_rows.specs.Build.{SetRow, insert, rowNumbers, rowAt, filed, join, takes, upward, merged, entry, withRuns, builtRows}
-use Rattle.meaning_rows.proofs.Runs.{runs-cong, runs-le-count, runs-hold, held, entries-of-runs}
+use Rattle.meaning_rows.proofs.Runs.{runs-le-count, runs-hold, held, entries-of-runs}
 use Rattle.meaning_rows.proofs.Range.{inside-yes, is-inside, inside-join, widen, next-le, row-after, row-before, in-own}
-use Rattle.meaning_rows.proofs.Times.{Range, holds, Ascending, holders, holders-are, times, sizes, sizes-all}
+use Rattle.meaning_rows.proofs.Times.{Range, Ascending, holders, holders-are, times, sizes, sizes-all}
 
 abbrev pub range : SetRow → Range
 range r = (r .low, r .up)
@@ -33,7 +32,7 @@ exact-times z j (r ∷ rest) h = rw (h .0, exact-times z j rest (h .1))
 
 -- where rows ascend and one holds its sum, an offset stands in one row
 pub exact-once : (a z : ℤ) (j : ℕ) (rows : List SetRow) → Ascending a (map range rows) → All (Exact z j) rows → covered z rows ≡ true → times (sets rows) j ≡ 1
-exact-once a z j rows p h e = exact-times z j rows h ∙ holders-are a z (map range rows) p ∙ rw (any-map (holds z) range rows, e) (bit-true refl)
+exact-once a z j rows p h e = exact-times z j rows h ∙ holders-are a z _ p ∙ rw (any-map _ range rows, e) (bit-true refl)
 
 -- ---- rows that tile the windows
 
@@ -82,10 +81,10 @@ module _ (sum : ℕ → ℤ) (n : ℕ) where
   fine-join : (r s : SetRow) → Fine sum n r → Fine sum n s → Gap sum n (r .up) (s .low) → Fine sum n (join r s)
   unfolding join
   fine-join r s f g gap =
-      let a = f .wide in let b = g .wide in let o = gap .order in
+      let o = gap .order in
       record {
         wide = omega zarith;
-        exact = λ j l. rw (f .exact j l, g .exact j l) (inside-join (r .low) (r .up) (s .low) (s .up) (sum j) (omega zarith) o (omega zarith) (gap .none j l));
+        exact = λ j l. rw (f .exact j l, g .exact j l) (inside-join _ (r .up) _ (s .up) (sum j) (omega zarith) o (omega zarith) (gap .none j l));
       }
 
   chain-join : (r s : SetRow) (rest : List SetRow) → Chain sum n r (s ∷ rest) → Chain sum n (join r s) rest
@@ -96,36 +95,35 @@ module _ (sum : ℕ → ℤ) (n : ℕ) where
   chain-cons : (r : SetRow) (low : ℤ) (rows : List SetRow) → Fine sum n r → Gap sum n (r .up) low → From sum n low rows → Chain sum n r rows
   unfolding Chain From
   chain-cons r low [] f g h = absurd h
-  chain-cons r low (s ∷ rest) f g h = (f, subst (λ (l : ℤ). Gap sum n (r .up) l) (sym (h .0)) g, h .1)
+  chain-cons r low (s ∷ rest) f g h = (f, rw (h .0) g, h .1)
 
   upward-from : (g : ℕ) (r : SetRow) (rest : List SetRow) → Chain sum n r rest → From sum n (r .low) (upward g n r rest)
   unfolding upward From Chain join
   upward-from g r [] c = (refl, c)
-  upward-from g r (s ∷ rest) c = by-test (takes g n r s)
-      (λ t. rw (upward-yes g n r s rest t) (upward-from g (join r s) rest (chain-join r s rest c)))
-      (λ f. rw (upward-no g n r s rest f) (refl, chain-cons r (s .low) (upward g n s rest) (c .0) (c .1) (upward-from g s rest (c .2))))
+  upward-from g r (s ∷ rest) c = by-test _
+      (λ t. rw (upward-yes g n r s rest t) (upward-from g _ rest (chain-join r s rest c)))
+      (λ f. rw (upward-no g n r s rest f) (refl, chain-cons r _ (upward g n s rest) (c .0) (c .1) (upward-from g s rest (c .2))))
 
   pub merged-tiled : (g : ℕ) (rows : List SetRow) → Tiled sum n rows → Tiled sum n (merged g n rows)
   unfolding merged Tiled
   merged-tiled g [] t = tt
-  merged-tiled g (r ∷ rest) t = from-tiled sum n (r .low) (upward g n r rest) (upward-from g r rest t)
+  merged-tiled g (r ∷ rest) t = from-tiled sum n _ _ (upward-from g r rest t)
 
   -- what a range holds, a range holds after merging
   join-covers : (z : ℤ) (r s : SetRow) (rest : List SetRow) → Chain sum n r (s ∷ rest) → covered z (r ∷ s ∷ rest) ≡ true → covered z (join r s ∷ rest) ≡ true
   unfolding any join Chain
   join-covers z r s rest c e =
-      let a = c .0 .wide in let b = fine-first s rest (c .2) .wide in let o = c .1 .order in
-      by-test (inside (r .low) (r .up) z)
-      (λ t. let i = is-inside (r .low) (r .up) z t in let k = i .0 in let l = i .1 in rw (inside-yes (r .low) (s .up) z k (omega zarith)))
-      (λ f. by-test (inside (s .low) (s .up) z)
+      let b = fine-first s rest (c .2) .wide in by-test _
+      (λ t. let i = is-inside _ (r .up) z t in let k = i .0 in let l = i .1 in rw (inside-yes (r .low) (s .up) z k (omega zarith)))
+      (λ f. by-test _
       (λ t. let i = is-inside (s .low) (s .up) z t in let k = i .0 in let l = i .1 in rw (inside-yes (r .low) (s .up) z (omega zarith) l))
       (λ g. let k : covered z rest ≡ true = rw (f, g) at e in rw k (or-true (inside (r .low) (s .up) z))))
 
   upward-covers : (g : ℕ) (z : ℤ) (r : SetRow) (rest : List SetRow) → Chain sum n r rest → covered z (r ∷ rest) ≡ true → covered z (upward g n r rest) ≡ true
   unfolding upward any Chain
   upward-covers g z r [] c e = e
-  upward-covers g z r (s ∷ rest) c e = by-test (takes g n r s)
-      (λ t. rw (upward-yes g n r s rest t) (upward-covers g z (join r s) rest (chain-join r s rest c) (join-covers z r s rest c e)))
+  upward-covers g z r (s ∷ rest) c e = by-test _
+      (λ t. rw (upward-yes g n r s rest t) (upward-covers g z _ rest (chain-join r s rest c) (join-covers z r s rest c e)))
       (λ f. rw (upward-no g n r s rest f) (by-test (inside (r .low) (r .up) z) (λ t. rw t) (λ u. rw u (upward-covers g z s rest (c .2) (rw u at e)))))
 
   pub merged-covers : (g : ℕ) (z : ℤ) (rows : List SetRow) → Tiled sum n rows → covered z rows ≡ true → covered z (merged g n rows) ≡ true
@@ -147,14 +145,14 @@ module _ (sum : ℕ → ℤ) (n : ℕ) where
   pub tiled-fine : (rows : List SetRow) → Tiled sum n rows → All (Fine sum n) rows
   unfolding Tiled All
   tiled-fine [] t = tt
-  tiled-fine (r ∷ rest) t = chain-ascends (r .low) r rest (≤ℤ-refl (r .low)) t .1
+  tiled-fine (r ∷ rest) t = chain-ascends _ r rest (≤ℤ-refl _) t .1
 
   pub tiled-once : (j : ℕ) → j < n → (rows : List SetRow) → Tiled sum n rows → covered (sum j) rows ≡ true → times (sets rows) j ≡ 1
   unfolding Tiled any bit
   tiled-once j b [] t e = clash e refl
   tiled-once j b (r ∷ rest) t e =
-      let k = chain-ascends (r .low) r rest (≤ℤ-refl (r .low)) t in
-      exact-once (r .low) (sum j) j (r ∷ rest) (k .0) (mem-all (Exact (sum j) j) (r ∷ rest) (λ q m. all-mem (Fine sum n) (r ∷ rest) (k .1) m .exact j b)) e
+      let k = chain-ascends _ r rest (≤ℤ-refl _) t in
+      exact-once _ (sum j) j _ (k .0) (mem-all _ _ (λ q m. all-mem _ _ (k .1) m .exact j b)) e
 
 -- ---- what both rows of a join have, it has
 
@@ -162,8 +160,8 @@ module _ (P : SetRow → Type 0) (joins : (r s : SetRow) → P r → P s → P (
   upward-all : (r : SetRow) (rest : List SetRow) → P r → All P rest → All P (upward g n r rest)
   unfolding upward All
   upward-all r [] o a = (o, tt)
-  upward-all r (s ∷ rest) o a = by-test (takes g n r s)
-      (λ t. rw (upward-yes g n r s rest t) (upward-all (join r s) rest (joins r s o (a .0)) (a .1)))
+  upward-all r (s ∷ rest) o a = by-test _
+      (λ t. rw (upward-yes g n r s rest t) (upward-all _ rest (joins r s o (a .0)) (a .1)))
       (λ f. rw (upward-no g n r s rest f) (o, upward-all s rest (a .0) (a .1)))
 
   pub merged-all : (rows : List SetRow) → All P rows → All P (merged g n rows)
@@ -174,7 +172,7 @@ module _ (P : SetRow → Type 0) (joins : (r s : SetRow) → P r → P s → P (
 upward-length : (g n : ℕ) (r : SetRow) (rest : List SetRow) → length (upward g n r rest) ≤ suc (length rest)
 unfolding upward
 upward-length g n r [] = omega arith
-upward-length g n r (s ∷ rest) = by-test (takes g n r s)
+upward-length g n r (s ∷ rest) = by-test _
     (λ t. rw (upward-yes g n r s rest t) (omega (arith, upward-length g n (join r s) rest)))
     (λ f. rw (upward-no g n r s rest f) (omega (arith, upward-length g n s rest)))
 
@@ -196,7 +194,7 @@ Sorted (x ∷ l) = Above x l × Sorted l
 above-less : (k x : ℤ) (l : List ℤ) → k <ℤ x → Above x l → Above k l
 unfolding Above
 above-less k x [] h a = tt
-above-less k x (y ∷ l) h a = let b = a .0 in (omega zarith, above-less k x l h (a .1))
+above-less k x (y ∷ l) h a = (omega zarith, above-less k x l h (a .1))
 
 pub mem-above : (z x : ℤ) (l : List ℤ) → Above x l → Mem z l → x <ℤ z
 unfolding Above
@@ -271,14 +269,14 @@ insert-length k (y ∷ l) = three k y
 pub numbers-sorted : (sum : ℕ → ℤ) (d n : ℕ) → Sorted (rowNumbers sum d n)
 unfolding rowNumbers Sorted
 numbers-sorted sum d zero = tt
-numbers-sorted sum d (suc n) = insert-sorted (rowNumber d (sum n)) (rowNumbers sum d n) (numbers-sorted sum d n)
+numbers-sorted sum d (suc n) = insert-sorted _ _ (numbers-sorted sum d n)
 
 pub numbers-mem : (sum : ℕ → ℤ) (d n j : ℕ) → j < n → Mem (rowNumber d (sum j)) (rowNumbers sum d n)
 unfolding rowNumbers
 numbers-mem sum d zero j l = absurd (omega arith)
 numbers-mem sum d (suc n) j l = elim (decLt j n) [
-  | yes h ↦ insert-keeps (rowNumber d (sum j)) (rowNumber d (sum n)) (rowNumbers sum d n) (numbers-mem sum d n j h)
-  | no f ↦ let e : j ≡ n = omega arith in rw e (insert-mem (rowNumber d (sum n)) (rowNumbers sum d n))
+  | yes h ↦ insert-keeps _ _ _ (numbers-mem sum d n j h)
+  | no f ↦ let e : j ≡ n = omega arith in rw e (insert-mem _ _)
 ]
 
 pub numbers-length : (sum : ℕ → ℤ) (d n : ℕ) → length (rowNumbers sum d n) ≤ n
@@ -298,7 +296,7 @@ numbers-occur sum d zero z m = absurd (not-nil m)
 numbers-occur sum d (suc n) z m = ⊎-elim
     (λ e. record { at = n; below = omega arith; is = sym e })
     (λ o. let r = numbers-occur sum d n z o in record { at = r .at; below = le-step (r .below); is = r .is })
-    (insert-only z (rowNumber d (sum n)) (rowNumbers sum d n) m)
+    (insert-only z _ _ m)
 
 -- two ascending lists with the same members are the same
 pub sorted-unique : (l m : List ℤ) → Sorted l → Sorted m → ((z : ℤ) → Mem z l → Mem z m) → ((z : ℤ) → Mem z m → Mem z l) → l ≡ m
@@ -307,12 +305,12 @@ sorted-unique [] [] s t f g = refl
 sorted-unique [] (y ∷ m) s t f g = absurd (not-nil (g y (here refl)))
 sorted-unique (x ∷ l) [] s t f g = absurd (not-nil (f x (here refl)))
 sorted-unique (x ∷ l) (y ∷ m) s t f g =
-    let e : x ≡ y = ⊎-elim (λ e. e) (λ o. ⊎-elim (λ e. sym e)
-    (λ n. let a : y <ℤ x = mem-above x y m (t .0) o in let b : x <ℤ y = mem-above y x l (s .0) n in absurd (omega zarith)) (cases (g y (here refl)))) (cases (f x (here refl))) in
+    let e = ⊎-elim (λ e. e) (λ o. ⊎-elim (λ e. sym e)
+    (λ n. let a = mem-above x y m (t .0) o in let b : x <ℤ y = mem-above y x l (s .0) n in absurd (omega zarith)) (cases (g y (here refl)))) (cases (f x (here refl))) in
     cc (
       e,
       sorted-unique l m (s .1) (t .1)
-          (λ z o. ⊎-elim (λ q. let a : x <ℤ z = mem-above z x l (s .0) o in absurd (omega zarith)) (λ n. n) (cases (f z (there o))))
+          (λ z o. ⊎-elim (λ q. let a = mem-above z x l (s .0) o in absurd (omega zarith)) (λ n. n) (cases (f z (there o))))
           (λ z o. ⊎-elim (λ q. let a : y <ℤ z = mem-above z y m (t .0) o in absurd (omega zarith)) (λ n. n) (cases (g z (there o)))),
     )
 
@@ -333,7 +331,7 @@ some-held [] j e = clash e refl
 some-held (x ∷ l) j e = omega arith
 
 pub occupied-runs : (n : ℕ) (r : SetRow) → Occupied n r → 1 ≤ runCount (r .has) n
-occupied-runs n r o = some-held (runs (r .has) n) (o .at) (runs-hold (r .has) n (o .at) ∙ rw (lt-ltb (o .at) n (o .below), o .member))
+occupied-runs n r o = some-held _ (o .at) (runs-hold _ n (o .at) ∙ rw (lt-ltb (o .at) n (o .below), o .member))
 
 -- both ends of a range are so
 pub record Ends (P : ℤ → Type 0) (r : SetRow) : Type 0 where
@@ -380,7 +378,7 @@ module _ (sum : ℕ → ℤ) (d n : ℕ) (one : 0 < d) where
           none = λ j b h t. let up : k <ℤ rowNumber d (sum j) = row-after d k (sum j) one h in
               let dn : rowNumber d (sum j) <ℤ l = row-before d l (sum j) one t in
               ⊎-elim (λ low. omega zarith)
-              (λ o. ⊎-elim (λ e. omega zarith) (λ q. let x : l <ℤ rowNumber d (sum j) = mem-above (rowNumber d (sum j)) l ks (s .1 .0) q in omega zarith) (cases o)) (m j b);
+              (λ o. ⊎-elim (λ e. omega zarith) (λ q. let x : l <ℤ rowNumber d (sum j) = mem-above _ l ks (s .1 .0) q in omega zarith) (cases o)) (m j b);
         },
         filed-chain l ks (s .1) (λ j b. ⊎-elim (λ low. inl (omega zarith)) (λ o. ⊎-elim (λ e. inl (omega zarith)) (λ q. inr q) (cases o)) (m j b)),
       )
@@ -392,45 +390,45 @@ module _ (sum : ℕ → ℤ) (d n : ℕ) (one : 0 < d) where
 
   pub filed-tiled : Tiled sum n (filed sum d n)
   unfolding filed
-  filed-tiled = tiled-of (rowNumbers sum d n) (numbers-sorted sum d n) (λ j b. numbers-mem sum d n j b)
+  filed-tiled = tiled-of _ (numbers-sorted sum d n) (λ j b. numbers-mem sum d n j b)
 
   pub filed-covers : (j : ℕ) → j < n → covered (sum j) (filed sum d n) ≡ true
   unfolding filed rowAt
-  filed-covers j b = any-mem (λ r. inside (r .low) (r .up) (sum j)) (mem-map (rowAt sum d) (numbers-mem sum d n j b)) (in-own d (sum j) one)
+  filed-covers j b = any-mem (λ r. inside _ (r .up) (sum j)) (mem-map _ (numbers-mem sum d n j b)) (in-own d (sum j) one)
 
   filed-all : (P : SetRow → Type 0) → ((j : ℕ) → j < n → P (rowAt sum d (rowNumber d (sum j)))) → All P (filed sum d n)
   unfolding filed
-  filed-all P h = mem-all P (map (rowAt sum d) (rowNumbers sum d n)) (λ r m.
-      let i = map-mem (rowAt sum d) (rowNumbers sum d n) m in
-      let o = numbers-occur sum d n (i .entry) (i .is) in
+  filed-all P h = mem-all P _ (λ r m.
+      let i = map-mem _ _ m in
+      let o = numbers-occur sum d n _ (i .is) in
       subst P (sym (i .same ∙ ap (rowAt sum d) (sym (o .is)))) (h (o .at) (o .below)))
 
   module _ (g : ℕ) where
     pub built-tiled : Tiled sum n (mergedRows sum d g n)
-    built-tiled = merged-tiled sum n g (filed sum d n) filed-tiled
+    built-tiled = merged-tiled sum n g _ filed-tiled
 
     pub built-covers : (j : ℕ) → j < n → covered (sum j) (mergedRows sum d g n) ≡ true
-    built-covers j b = merged-covers sum n g (sum j) (filed sum d n) filed-tiled (filed-covers j b)
+    built-covers j b = merged-covers sum n g (sum j) _ filed-tiled (filed-covers j b)
 
     pub built-once : (j : ℕ) → j < n → times (sets (mergedRows sum d g n)) j ≡ 1
-    built-once j b = tiled-once sum n j b (mergedRows sum d g n) built-tiled (built-covers j b)
+    built-once j b = tiled-once sum n j b _ built-tiled (built-covers j b)
 
     pub built-occupied : All (Occupied n) (mergedRows sum d g n)
     unfolding rowAt
-    built-occupied = merged-all (Occupied n) (occupied-join n) g n (filed sum d n)
-        (filed-all (Occupied n) (λ j b. record { at = j; below = b; member = in-own d (sum j) one }))
+    built-occupied = merged-all _ (occupied-join n) g n _
+        (filed-all _ (λ j b. record { at = j; below = b; member = in-own d (sum j) one }))
 
     pub built-ends : (P : ℤ → Type 0) → ((j : ℕ) → j < n → P (lowOf d (rowNumber d (sum j))) × P (upOf d (rowNumber d (sum j)))) → All (Ends P) (mergedRows sum d g n)
     unfolding rowAt
-    built-ends P h = merged-all (Ends P) (ends-join P) g n (filed sum d n) (filed-all (Ends P) (λ j b. record { low-end = h j b .0; up-end = h j b .1 }))
+    built-ends P h = merged-all _ (ends-join P) g n _ (filed-all _ (λ j b. record { low-end = h j b .0; up-end = h j b .1 }))
 
     -- a row of a build has exactly the windows whose sums its range holds
     pub built-holds : (r : RangeRow) (j : ℕ) → Mem r (builtRows sum d g n) → any (inRun j) (r .runs) ≡ (ltb j n && inside (r .low) (r .up) (sum j))
     unfolding builtRows withRuns
     built-holds r j m =
-        let i = map-mem (withRuns n) (mergedRows sum d g n) m in
+        let i = map-mem _ _ m in
         let q = i .entry in
-        let f = all-mem (Fine sum n) (mergedRows sum d g n) (tiled-fine sum n (mergedRows sum d g n) built-tiled) (i .is) in
+        let f = all-mem _ _ (tiled-fine sum n _ built-tiled) (i .is) in
         subst (λ (t : RangeRow). any (inRun j) (t .runs) ≡ (ltb j n && inside (t .low) (t .up) (sum j))) (sym (i .same))
         (entries-of-runs (q .has) n j ∙ by-test (ltb j n) (λ t. rw (t, f .exact j (ltb-true j n t))) (λ u. rw u))
 
@@ -446,74 +444,20 @@ module _ (sum : ℕ → ℤ) (d n : ℕ) (one : 0 < d) where
 
     pub built-runs : length (allRuns (builtRows sum d g n)) ≤ n
     unfolding builtRows
-    built-runs = omega (arith, runs-sizes n (mergedRows sum d g n), sizes-all (sets (mergedRows sum d g n)) n built-once)
+    built-runs = omega (arith, runs-sizes n (mergedRows sum d g n), sizes-all _ n built-once)
 
 -- ---- at g = 0 nothing is merged
 
 takes-none : (n : ℕ) (r s : SetRow) → takes 0 n r s ≡ false
 unfolding takes
-takes-none n r s = le-ltb (100 * runCount (join r s .has) n) (0 * (runCount (r .has) n + runCount (s .has) n)) (omega arith)
+takes-none n r s = le-ltb _ (0 * (runCount _ n + runCount _ n)) (omega arith)
 
 upward-none : (n : ℕ) (r : SetRow) (l : List SetRow) → upward 0 n r l ≡ r ∷ l
 unfolding upward
 upward-none n r [] = refl
-upward-none n r (s ∷ l) = rw (takes-none n r s, upward) (ap (λ (m : List SetRow). r ∷ m) (upward-none n s l))
+upward-none n r (s ∷ l) = rw (takes-none n r s, upward) (rw (upward-none n s l))
 
 pub merged-none : (n : ℕ) (l : List SetRow) → merged 0 n l ≡ l
 unfolding merged
 merged-none n [] = refl
 merged-none n (r ∷ l) = upward-none n r l
-
--- ---- merging told by ranges alone
-
--- the windows whose sums a range holds
-abbrev pub heldBy : (ℕ → ℤ) → Range → ℕ → Bool
-heldBy sum r j = inside (r .0) (r .1) (sum j)
-
-unfoldable pub takesRange : (ℕ → ℤ) → ℕ → ℕ → Range → Range → Bool
-takesRange sum g n r s = ltb (100 * runCount (heldBy sum (r .0, s .1)) n) (g * (runCount (heldBy sum r) n + runCount (heldBy sum s) n))
-
-unfoldable pub upwardRange : (ℕ → ℤ) → ℕ → ℕ → Range → List Range → List Range
-upwardRange sum g n r [] = r ∷ []
-upwardRange sum g n r (s ∷ rest) = elim (takesRange sum g n r s) [ true ↦ upwardRange sum g n (r .0, s .1) rest | false ↦ r ∷ upwardRange sum g n s rest ]
-
-unfoldable pub mergedRange : (ℕ → ℤ) → ℕ → ℕ → List Range → List Range
-mergedRange sum g n [] = []
-mergedRange sum g n (r ∷ rest) = upwardRange sum g n r rest
-
-pub range-yes : (sum : ℕ → ℤ) (g n : ℕ) (r s : Range) (rest : List Range) → takesRange sum g n r s ≡ true → upwardRange sum g n r (s ∷ rest) ≡ upwardRange sum g n (r .0, s .1) rest
-unfolding upwardRange
-range-yes sum g n r s rest t = rw (t, upwardRange)
-
-pub range-no : (sum : ℕ → ℤ) (g n : ℕ) (r s : Range) (rest : List Range) → takesRange sum g n r s ≡ false → upwardRange sum g n r (s ∷ rest) ≡ r ∷ upwardRange sum g n s rest
-unfolding upwardRange
-range-no sum g n r s rest f = rw (f, upwardRange)
-
-module _ (sum : ℕ → ℤ) (n : ℕ) where
-  -- a row's runs are the runs of the windows whose sums its range holds
-  pub fine-runs : (r : SetRow) → Fine sum n r → runs (r .has) n ≡ runs (heldBy sum (range r)) n
-  fine-runs r f = runs-cong (r .has) (heldBy sum (range r)) n (f .exact)
-
-  takes-range : (g : ℕ) (r s : SetRow) → Fine sum n r → Fine sum n s → Gap sum n (r .up) (s .low) → takes g n r s ≡ takesRange sum g n (range r) (range s)
-  unfolding takes takesRange join
-  takes-range g r s f h gap = rw (fine-runs (join r s) (fine-join sum n r s f h gap), fine-runs r f, fine-runs s h)
-
-  upward-range : (g : ℕ) (r : SetRow) (rest : List SetRow) → Chain sum n r rest → map range (upward g n r rest) ≡ upwardRange sum g n (range r) (map range rest)
-  unfolding upward upwardRange Chain join
-  upward-range g r [] c = refl
-  upward-range g r (s ∷ rest) c = by-test (takes g n r s)
-      (λ t. let e : takesRange sum g n (range r) (range s) ≡ true = sym (same c) ∙ t in
-      rw (upward-yes g n r s rest t) (upward-range g (join r s) rest (chain-join sum n r s rest c) ∙ sym (range-yes sum g n (range r) (range s) (map range rest) e)))
-      (λ t. let e : takesRange sum g n (range r) (range s) ≡ false = sym (same c) ∙ t in
-      rw (upward-no g n r s rest t) (ap (λ (l : List Range). range r ∷ l) (upward-range g s rest (c .2)) ∙ sym (range-no sum g n (range r) (range s) (map range rest) e)))
-    where
-      same : Chain sum n r (s ∷ rest) → takes g n r s ≡ takesRange sum g n (range r) (range s)
-      same c = takes-range g r s (c .0) (fine-first sum n s rest (c .2)) (c .1)
-
-  pub merged-range : (g : ℕ) (rows : List SetRow) → Tiled sum n rows → map range (merged g n rows) ≡ mergedRange sum g n (map range rows)
-  unfolding merged mergedRange Tiled
-  merged-range g [] t = refl
-  merged-range g (r ∷ rest) t = upward-range g r rest t
-
-pub built-range : (sum : ℕ → ℤ) (d g n : ℕ) → 0 < d → map range (mergedRows sum d g n) ≡ mergedRange sum g n (map range (filed sum d n))
-built-range sum d g n one = merged-range sum n g (filed sum d n) (filed-tiled sum d n one)

@@ -5,7 +5,7 @@ use Rattle.meaning_numbers.proofs.Prelude.{_≡_, refl, sym, _∙_, true, List,
 use Rattle.meaning_curves.specs.{Limits.windowIn, Limits.widthIn, Limits.mostValues, Limits.firstOutside, Limits.lowestEnd, Curve.windowSum, Curve.windowCount}
 use Rattle.meaning_rows.specs.{Judge.firstBadRow, Audit.firstWrong, Audit.missing, Build.SetRow, Build.builtRows, Build.built}
 use Rattle.meaning_rows.proofs.{Times.sizes-all, Judge.Natural, Judge.between, Judge.GoodEnd, Judge.WellFormed, Judge.none-bad, Judge.rows-at-most, Audit.Filed, Audit.filed-passes, Sets.Sound, Sets.sets-well-formed, Sets.sets-home, Sets.once-any, Sets.end-least, Sums.ends-good}
-use Rattle.meaning_rows.proofs.Build.{sets, Ends, Fine, mergedRows, built-tiled, tiled-fine, tiled-ascends, built-once, built-occupied, built-ends, built-runs}
+use Rattle.meaning_rows.proofs.Build.{Ends, Fine, mergedRows, built-tiled, tiled-fine, tiled-ascends, built-once, built-occupied, built-ends, built-runs}
 
 -- what a series, a window length and a row width are in their limits
 pub record Buildable (s : List ℤ) (w d : ℕ) : Type 0 where
@@ -35,15 +35,15 @@ module _ (s : List ℤ) (w d g : ℕ) (b : Buildable s w d) where
   one = omega (arith, d-in .least)
 
   good-ends : All (Ends (GoodEnd d)) rows
-  good-ends = built-ends sum d count one g (GoodEnd d) (λ j _. ends-good s w d j (b .values) (w-in .most) one (d-in .most))
+  good-ends = built-ends sum d count one g _ (λ j _. ends-good s w d j (b .values) (w-in .most) one (d-in .most))
 
   sound : Sound d count rows
   sound = record {
     ascending = tiled-ascends sum count lowestEnd rows
-        (mem-all (λ r. lowestEnd ≤ℤ r .low) rows (λ r m. end-least d (r .low) (all-mem (Ends (GoodEnd d)) rows good-ends m .low-end))) (built-tiled sum d count one g);
+        (mem-all (λ r. lowestEnd ≤ℤ r .low) rows (λ r m. end-least d _ (all-mem _ rows good-ends m .low-end))) (built-tiled sum d count one g);
     ends = good-ends;
     occupied = built-occupied sum d count one g;
-    total = omega (arith, sizes-all (sets rows) count (built-once sum d count one g));
+    total = omega (arith, sizes-all _ count (built-once sum d count one g));
   }
 
   pub built-well-formed : WellFormed (built s w d g)

@@ -17,7 +17,7 @@ pub lefts-reach : (l : List (ℕ × ℕ)) (n : ℕ) → lefts (reach l n) ≡ le
 unfolding lefts reach
 lefts-reach [] n = refl
 lefts-reach (x ∷ []) n = refl
-lefts-reach (x ∷ y ∷ l) n = ap (λ (k : List ℕ). x .0 ∷ k) (lefts-reach (y ∷ l) n)
+lefts-reach (x ∷ y ∷ l) n = rw (lefts-reach (y ∷ l) n)
 
 pub rights-reach : (l : List (ℕ × ℕ)) (n : ℕ) → rights (reach l n) ≡ set (rights l) (length l - 1) n
 unfolding rights reach
@@ -25,17 +25,17 @@ rights-reach [] n = refl
 rights-reach (x ∷ []) n = refl
 rights-reach (x ∷ y ∷ l) n =
     let e : length (x ∷ y ∷ l) - 1 ≡ suc (length (y ∷ l) - 1) = omega arith in
-    rw e (ap (λ (k : List ℕ). x .1 ∷ k) (rights-reach (y ∷ l) n))
+    rw e (rw (rights-reach (y ∷ l) n))
 
 pub lefts-end : (l : List (ℕ × ℕ)) (x : ℕ × ℕ) → lefts (l ++ (x ∷ [])) ≡ lefts l ++ (x .0 ∷ [])
 unfolding lefts
 lefts-end [] x = refl
-lefts-end (y ∷ l) x = ap (λ (k : List ℕ). y .0 ∷ k) (lefts-end l x)
+lefts-end (y ∷ l) x = rw (lefts-end l x)
 
 pub rights-end : (l : List (ℕ × ℕ)) (x : ℕ × ℕ) → rights (l ++ (x ∷ [])) ≡ rights l ++ (x .1 ∷ [])
 unfolding rights
 rights-end [] x = refl
-rights-end (y ∷ l) x = ap (λ (k : List ℕ). y .1 ∷ k) (rights-end l x)
+rights-end (y ∷ l) x = rw (rights-end l x)
 
 pub length-lefts : (l : List (ℕ × ℕ)) → length (lefts l) ≡ length l
 unfolding lefts
@@ -63,7 +63,7 @@ putRight true false l k j = set l k j
 
 -- v written behind the front part
 pub set-next : (xs old : List ℕ) (k v : ℕ) → length xs ≡ k → k < length old → set (xs ++ drop k old) k v ≡ (xs ++ (v ∷ [])) ++ drop (k + 1) old
-set-next xs old k v e h = rw (drop-cons old k 0 h, set-at xs (getD old k 0) (drop (suc k) old) v k e, add-one k) (sym (append-snoc xs v (drop (suc k) old)))
+set-next xs old k v e h = rw (drop-cons old k 0 h, set-at xs _ _ v k e, add-one k) (sym (append-snoc xs v _))
 
 pub put-left : (a b : Bool) (xs : List (ℕ × ℕ)) (old : List ℕ) (k j : ℕ) → length xs ≡ k → k + bit (a && not b) ≤ length old
     → putLeft a b (lefts xs ++ drop k old) k j ≡ lefts (takeIn a b xs j) ++ drop (k + bit (a && not b)) old
@@ -136,8 +136,8 @@ module _ {p : ℕ → Bool} {left₀ right₀ : List ℕ} {j k : ℕ} {prev : Bo
       filling-next ek el er = record {
         prev-is = is ∙ sym (before-more p j);
         count-is = ek ∙ next-count;
-        left-is = el ∙ rw (f .left-is, put-left here prev (runs p j) left₀ k j runs-long fits-left, runs-more p j, ← is, ← f .prev-is, ek);
-        right-is = er ∙ rw (f .right-is, put-right here prev (runs p j) right₀ k j runs-long fits-right prev-le, runs-more p j, ← is, ← f .prev-is, ek);
+        left-is = el ∙ rw (f .left-is, put-left here prev _ left₀ k j runs-long fits-left, runs-more p j, ← is, ← f .prev-is, ek);
+        right-is = er ∙ rw (f .right-is, put-right here prev _ right₀ k j runs-long fits-right prev-le, runs-more p j, ← is, ← f .prev-is, ek);
       }
 
 pub getD-past : (o : Row) (l : List Row) (i : ℕ) → length l ≤ i → getD l i o ≡ o

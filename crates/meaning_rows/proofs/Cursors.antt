@@ -87,7 +87,7 @@ module _ (R W : ℕ) (P : ℕ → ℕ → Bool) (first : ℕ → ℕ) where
         cursor-mine : (k : ℕ) → k ≡ i → runCount (P k) (from + suc d) < runCount (P k) W → getD (fileRight right (first i) n t v) (first k + runCount (P k) W - 1) 0 ≡ runCount (P k) (from + suc d)
         cursor-mine k q m =
             let m′ : runCount (P i) (from + suc d) < n = rw q at m in
-            rw q (filed-cursor right (first i) n t v (omega (arith, one-more)) (omega (arith, laid .room i iR)) ∙ sym one-more)
+            rw q (filed-cursor right _ n t v (omega (arith, one-more)) (omega (arith, laid .room i iR)) ∙ sym one-more)
 
         cursor-away : (k : ℕ) → k < R → (k ≡ i → ⊥) → runCount (P k) (from + suc d) < runCount (P k) W
             → getD (fileRight right (first i) n t v) (first k + runCount (P k) W - 1) 0 ≡ runCount (P k) (from + suc d)
@@ -97,7 +97,7 @@ module _ (R W : ℕ) (P : ℕ → ℕ → Bool) (first : ℕ → ℕ) where
             let e : first k + runCount (P k) W - 1 ≡ first k + u = omega arith in
             let less : u < runCount (P k) W = omega arith in
             let was = c .cursor k h (omega (arith, stay)) in
-            rw e (filed-other right (first i) n t v (first k + u) (not-here k u h f less) (not-last k u h f less) ∙ (rw e at was) ∙ sym stay)
+            rw e (filed-other right (first i) n t v _ (not-here k u h f less) (not-last k u h f less) ∙ (rw e at was) ∙ sym stay)
 
     -- the run's entry is what f and g make of its ends
     pub filed-as : (f g : ℕ → ℕ) (left right : List ℕ) → total ≤ length left → total ≤ length right → PartsAs f g from left right
@@ -126,16 +126,16 @@ module _ (R W : ℕ) (P : ℕ → ℕ → Bool) (first : ℕ → ℕ) where
         left-mine : (k u : ℕ) → k ≡ i → u < runCount (P k) (from + suc d) → getD (set left (first i + t) (f from)) (first k + u) 0 ≡ f (getD (lefts (runs (P k) (from + suc d))) u 0)
         left-mine k u q m =
             let m′ : u < t + 1 = omega (arith, ap (λ (x : ℕ). runCount (P x) (from + suc d)) q, one-more) in
-            rw (q, mine-runs, lefts-end (runs (P i) from) (from, from + d)) (⊎-elim
-            (λ a. rw (a .1, a .0) (getD-set-same left (first i + t) (f from) 0 (omega (arith, room, some-left))))
+            rw (q, mine-runs, lefts-end _ (from, from + d)) (⊎-elim
+            (λ a. rw (a .1, a .0) (getD-set-same left _ _ 0 (omega (arith, room, some-left))))
             (λ a. rw (a .1) (getD-set-other left (first i + t) (first i + u) (f from) 0 (λ e. omega (arith, a .0)) ∙ p .left-as i u iR (a .0)))
             (ending (lefts (runs (P i) from)) from u (length-lefts (runs (P i) from)) m′))
 
         right-mine : (k u : ℕ) → k ≡ i → u < runCount (P k) (from + suc d) → getD (fileRight right (first i) n t (g (from + d))) (first k + u) 0 ≡ g (getD (rights (runs (P k) (from + suc d))) u 0)
         right-mine k u q m =
             let m′ : u < t + 1 = omega (arith, ap (λ (x : ℕ). runCount (P x) (from + suc d)) q, one-more) in
-            rw (q, mine-runs, rights-end (runs (P i) from) (from, from + d)) (filed-inner right (first i) n t (g (from + d)) u m′ ∙ ⊎-elim
-            (λ a. rw (a .1, a .0) (getD-set-same right (first i + t) (g (from + d)) 0 (omega (arith, room, some-left))))
+            rw (q, mine-runs, rights-end _ (from, from + d)) (filed-inner right _ n t _ u m′ ∙ ⊎-elim
+            (λ a. rw (a .1, a .0) (getD-set-same right _ _ 0 (omega (arith, room, some-left))))
             (λ a. rw (a .1) (getD-set-other right (first i + t) (first i + u) (g (from + d)) 0 (λ e. omega (arith, a .0)) ∙ p .right-as i u iR (a .0)))
             (ending (rights (runs (P i) from)) (from + d) u (length-rights (runs (P i) from)) m′))
 
@@ -145,12 +145,12 @@ module _ (R W : ℕ) (P : ℕ → ℕ → Bool) (first : ℕ → ℕ) where
         left-away : (k u : ℕ) → (k ≡ i → ⊥) → k < R → u < runCount (P k) (from + suc d) → getD (set left (first i + t) (f from)) (first k + u) 0 ≡ f (getD (lefts (runs (P k) (from + suc d))) u 0)
         left-away k u q h m =
             let b = below k u h q m in
-            rw (stay k h q) (getD-set-other left (first i + t) (first k + u) (f from) 0 (not-here k u h q (b .1)) ∙ p .left-as k u h (b .0))
+            rw (stay k h q) (getD-set-other left (first i + t) (first k + u) _ 0 (not-here k u h q (b .1)) ∙ p .left-as k u h (b .0))
 
         right-away : (k u : ℕ) → (k ≡ i → ⊥) → k < R → u < runCount (P k) (from + suc d) → getD (fileRight right (first i) n t (g (from + d))) (first k + u) 0 ≡ g (getD (rights (runs (P k) (from + suc d))) u 0)
         right-away k u q h m =
             let b = below k u h q m in
-            rw (stay k h q) (filed-other right (first i) n t (g (from + d)) (first k + u) (not-here k u h q (b .1)) (not-last k u h q (b .1)) ∙ p .right-as k u h (b .0))
+            rw (stay k h q) (filed-other right (first i) n t (g (from + d)) _ (not-here k u h q (b .1)) (not-last k u h q (b .1)) ∙ p .right-as k u h (b .0))
 
     -- the run itself is filed
     pub filed-run : (left right : List ℕ) → total ≤ length left → total ≤ length right → Parts R W P first from left right → Cursors from right

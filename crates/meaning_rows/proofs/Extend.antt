@@ -26,30 +26,30 @@ insert-later r q l f = rw f
 all-insert : (P : SetRow → Type 0) (r : SetRow) (l : List SetRow) → P r → All P l → All P (insertRow r l)
 unfolding insertRow All
 all-insert P r [] h a = (h, tt)
-all-insert P r (q ∷ l) h a = by-test (ltZ (r .low) (q .low)) (λ t. rw (insert-here r q l t) (h, a)) (λ f. rw (insert-later r q l f) (a .0, all-insert P r l h (a .1)))
+all-insert P r (q ∷ l) h a = by-test _ (λ t. rw (insert-here r q l t) (h, a)) (λ f. rw (insert-later r q l f) (a .0, all-insert P r l h (a .1)))
 
 all-inserts : (P : SetRow → Type 0) (new old : List SetRow) → All P new → All P old → All P (insertRows new old)
 unfolding insertRows All
 all-inserts P [] old a b = b
-all-inserts P (r ∷ new) old a b = all-insert P r (insertRows new old) (a .0) (all-inserts P new old (a .1) b)
+all-inserts P (r ∷ new) old a b = all-insert P r _ (a .0) (all-inserts P new old (a .1) b)
 
 mem-insert : (q r : SetRow) (l : List SetRow) → (q ≡ r) ⊎ Mem q l → Mem q (insertRow r l)
 unfolding insertRow
 mem-insert q r [] m = ⊎-elim here there m
-mem-insert q r (p ∷ l) m = by-test (ltZ (r .low) (p .low))
+mem-insert q r (p ∷ l) m = by-test _
     (λ t. rw (insert-here r p l t) (⊎-elim here there m))
     (λ f. rw (insert-later r p l f) (⊎-elim (λ e. there (mem-insert q r l (inl e))) (λ n. ⊎-elim here (λ o. there (mem-insert q r l (inr o))) (cases n)) m))
 
 mem-inserts : (q : SetRow) (new old : List SetRow) → Mem q new ⊎ Mem q old → Mem q (insertRows new old)
 unfolding insertRows
 mem-inserts q [] old m = ⊎-elim (λ n. absurd (not-nil n)) (λ o. o) m
-mem-inserts q (r ∷ new) old m = mem-insert q r (insertRows new old)
+mem-inserts q (r ∷ new) old m = mem-insert q r _
     (⊎-elim (λ n. ⊎-elim inl (λ o. inr (mem-inserts q new old (inl o))) (cases n)) (λ o. inr (mem-inserts q new old (inr o))) m)
 
 sizes-insert : (n : ℕ) (r : SetRow) (l : List SetRow) → sizes (sets (insertRow r l)) n ≡ count (r .has) n + sizes (sets l) n
 unfolding insertRow sizes
 sizes-insert n r [] = refl
-sizes-insert n r (q ∷ l) = by-test (ltZ (r .low) (q .low)) (λ t. rw (insert-here r q l t)) (λ f. rw (insert-later r q l f) (omega (arith, sizes-insert n r l)))
+sizes-insert n r (q ∷ l) = by-test _ (λ t. rw (insert-here r q l t)) (λ f. rw (insert-later r q l f) (omega (arith, sizes-insert n r l)))
 
 sizes-inserts : (n : ℕ) (new old : List SetRow) → sizes (sets (insertRows new old)) n ≡ sizes (sets new) n + sizes (sets old) n
 unfolding insertRows sizes
@@ -63,9 +63,9 @@ Beside r q = (r .up ≤ℤ q .low) ⊎ (q .up ≤ℤ r .low)
 insert-ascends : (a : ℤ) (r : SetRow) (l : List SetRow) → a ≤ℤ r .low → r .low <ℤ r .up → All (Beside r) l → Ascending a (map range l) → Ascending a (map range (insertRow r l))
 unfolding insertRow Ascending All
 insert-ascends a r [] h w b p = (h, w, tt)
-insert-ascends a r (q ∷ l) h w b p = let wide = p .1 in by-test (ltZ (r .low) (q .low))
-    (λ t. let c = ltZ-true {a = r .low} {b = q .low} t in let e : r .up ≤ℤ q .low = ⊎-elim (λ e. e) (λ e. absurd (omega zarith)) (b .0) in rw (insert-here r q l t) (h, w, (e, p .1, p .2)))
-    (λ f. let c = ltZ-false {a = r .low} {b = q .low} f in let e : q .up ≤ℤ r .low = ⊎-elim (λ e. absurd (omega zarith)) (λ e. e) (b .0) in
+insert-ascends a r (q ∷ l) h w b p = by-test _
+    (λ t. let c = ltZ-true {a = r .low} t in let e = ⊎-elim (λ e. e) (λ e. absurd (omega zarith)) (b .0) in rw (insert-here r q l t) (h, w, (e, p .1, p .2)))
+    (λ f. let c = ltZ-false {a = r .low} f in let e = ⊎-elim (λ e. absurd (omega zarith)) (λ e. e) (b .0) in
     rw (insert-later r q l f) (p .0, p .1, insert-ascends (q .up) r l e w (b .1) (p .2)))
 
 -- ---- the row numbers of new windows that no old range holds
@@ -89,31 +89,31 @@ module _ (x : Index) (sum : ℕ → ℤ) (d old : ℕ) where
   pub new-sorted : (more : ℕ) → Sorted (newNumbers x sum d old more)
   unfolding newNumbers Sorted
   new-sorted zero = tt
-  new-sorted (suc more) = by-test (known x (sum (old + more)))
+  new-sorted (suc more) = by-test _
       (λ t. rw (new-known more t) (new-sorted more))
-      (λ f. rw (new-unknown more f) (insert-sorted (rowNumber d (sum (old + more))) (newNumbers x sum d old more) (new-sorted more)))
+      (λ f. rw (new-unknown more f) (insert-sorted _ _ (new-sorted more)))
 
   pub new-mem : (more j : ℕ) → old ≤ j → j < old + more → known x (sum j) ≡ false → Mem (rowNumber d (sum j)) (newNumbers x sum d old more)
   unfolding newNumbers
   new-mem zero j a b u = absurd (omega arith)
   new-mem (suc more) j a b u =
-      let k = rowNumber d (sum (old + more)) in
+      let k = rowNumber d _ in
       let l = newNumbers x sum d old more in
       elim (decLt j (old + more)) [
-        | yes h ↦ by-test (known x (sum (old + more))) (λ t. rw (new-known more t) (new-mem more j a h u)) (λ f. rw (new-unknown more f) (insert-keeps (rowNumber d (sum j)) k l (new-mem more j a h u)))
+        | yes h ↦ by-test _ (λ t. rw (new-known more t) (new-mem more j a h u)) (λ f. rw (new-unknown more f) (insert-keeps _ k l (new-mem more j a h u)))
         | no f ↦ let e : j ≡ old + more = omega arith in rw (new-unknown more (rw e at u), e) (insert-mem k l)
       ]
 
   pub new-occur : (more : ℕ) (k : ℤ) → Mem k (newNumbers x sum d old more) → NewAt x sum d old (old + more) k
   unfolding newNumbers
   new-occur zero k m = absurd (not-nil m)
-  new-occur (suc more) k m = by-test (known x (sum (old + more)))
+  new-occur (suc more) k m = by-test _
       (λ t. later (new-occur more k (rw (new-known more t) at m)))
       (λ f. ⊎-elim (λ e. record { at = old + more; new = omega arith; below = omega arith; unknown = f; is = sym e }) (λ o. later (new-occur more k o))
-      (insert-only k (rowNumber d (sum (old + more))) (newNumbers x sum d old more) (rw (new-unknown more f) at m)))
+      (insert-only k _ _ (rw (new-unknown more f) at m)))
     where
       later : NewAt x sum d old (old + more) k → NewAt x sum d old (old + suc more) k
-      later r = record { at = r .at; new = r .new; below = omega (arith, r .below); unknown = r .unknown; is = r .is }
+      later r = record { at = r .at; new = r .new; below = omega arith; unknown = r .unknown; is = r .is }
 
 -- ---- old rows and new rows
 
@@ -132,7 +132,7 @@ some-member n (e ∷ l) p h = (e .0, omega arith, rw (le-leb (e .0) (e .0) (omeg
 good-member : (x : Index) (r : Row) → GoodRow x r → (j : ℕ) × (j < natAbs (x .windows)) × (stands x r j ≡ true)
 good-member x r g =
     let m = g .good .plain in
-    let h = some-member (natAbs (x .windows)) m (g .good .apart) (subst (λ (l : List Entry). 1 ≤ length l) (g .good .is) (omega (arith, length-runsOf x r (g .fits), g .some-run))) in
+    let h = some-member _ m (g .good .apart) (subst (λ (l : List Entry). 1 ≤ length l) (g .good .is) (omega (arith, length-runsOf x r (g .fits), g .some-run))) in
     (h .0, h .1, subst (λ (l : List Entry). any (inRun (h .0)) l ≡ true) (sym (g .good .is)) (entries-hold m (h .0) ∙ h .2))
 
 module _ (x : Index) (sum : ℕ → ℤ) (old : ℕ) where
@@ -160,14 +160,14 @@ module _ (x : Index) (sum : ℕ → ℤ) (old : ℕ) where
   sizes-added : (d : ℕ) (ks : List ℤ) → sizes (sets (map (added sum d old) ks)) old ≡ 0
   unfolding sizes
   sizes-added d [] = refl
-  sizes-added d (k ∷ ks) = omega (arith, count-never (added sum d old k .has) old (λ j b. added-old d k j b), sizes-added d ks)
+  sizes-added d (k ∷ ks) = omega (arith, count-never _ old (λ j b. added-old d k j b), sizes-added d ks)
 
   sizes-grown : (l : List Row) → natAbs (x .windows) ≡ old → All (GoodRow x) l → sizes (sets (map (grown x sum old) l)) old ≡ lengthTotal x l
   unfolding sizes All lengthTotal
   sizes-grown [] e g = refl
   sizes-grown (r ∷ l) e g =
       let h : runLengths (runsOf x r) ≡ count (stands x r) old = rw e at (lengths-are x r (g .0)) in
-      omega (arith, h, count-cong (grown x sum old r .has) (stands x r) old (λ j b. grown-old r j b), sizes-grown l e (g .1))
+      omega (arith, h, count-cong _ _ old (λ j b. grown-old r j b), sizes-grown l e (g .1))
 
 -- a new row lies beside each row whose range does not hold the sum that it was made for
 pub beside : (d : ℕ) (low up z : ℤ) → 0 < d → GoodEnd d low → GoodEnd d up → inside low up z ≡ false
@@ -177,9 +177,9 @@ beside d low up z one a b f =
     let q = multiple-is d up (b .divides) in
     let k = rowNumber d z in
     where-is low up z
-    (λ h. inl (subst (λ (t : ℤ). upOf d k ≤ℤ t) (sym (p .1)) (next-le d k (p .0) (row-before d (p .0) z one (subst (λ (t : ℤ). z <ℤ t) (p .1) h)))))
+    (λ h. inl (rw (p .1) (next-le d k (p .0) (row-before d (p .0) z one (rw (p .1) at h)))))
     (λ h l. clash (inside-yes low up z h l) f)
-    (λ h l. inr (subst (λ (t : ℤ). t ≤ℤ lowOf d k) (sym (q .1)) (*ℤ-mono {x = q .0} {y = k} d (floor-most (q .0) z d one (subst (λ (t : ℤ). t ≤ℤ z) (q .1) l)))))
+    (λ h l. inr (rw (q .1) (*ℤ-mono d (floor-most (q .0) z d one (rw (q .1) at l)))))
 
 module _ (sum : ℕ → ℤ) (d old : ℕ) (one : 0 < d) (rows : List SetRow) where
   inserts-ascends : (a : ℤ) (ks : List ℤ) → Sorted ks → ((k : ℤ) → Mem k ks → (a ≤ℤ lowOf d k) × All (Beside (added sum d old k)) rows)
@@ -189,10 +189,10 @@ module _ (sum : ℕ → ℤ) (d old : ℕ) (one : 0 < d) (rows : List SetRow) wh
   inserts-ascends a (k ∷ ks) s h p =
       let r = added sum d old k in
       let f = h k (here refl) in
-      insert-ascends a r (insertRows (map (added sum d old) ks) rows) (f .0) (widen d k one)
-      (all-inserts (Beside r) (map (added sum d old) ks) rows
-      (mem-all (Beside r) (map (added sum d old) ks) (λ q m. let i = map-mem (added sum d old) ks m in
-      subst (Beside r) (sym (i .same)) (inl (next-le d k (i .entry) (mem-above (i .entry) k ks (s .0) (i .is))))))
+      insert-ascends a r _ (f .0) (widen d k one)
+      (all-inserts _ _ rows
+      (mem-all _ _ (λ q m. let i = map-mem (added sum d old) ks m in
+      subst (Beside r) (sym (i .same)) (inl (next-le d k _ (mem-above _ k ks (s .0) (i .is))))))
       (f .1))
       (inserts-ascends a ks (s .1) (λ l m. h l (there m)) p)
 
@@ -238,48 +238,47 @@ module _ (x : Index) (s : List ℤ) (g : WellFormed x) (e : Extendable x s) wher
   rows = insertRows news olds
 
   one : 0 < d
-  one = omega (arith, g .head .width .least)
+  one = omega arith
 
   end-is : old + (n - old) ≡ n
-  end-is = omega (arith, e .longer)
+  end-is = omega arith
 
   each-new : (P : SetRow → Type 0) → ((k : ℤ) → NewAt x sum d old n k → P (added sum d old k)) → All P news
-  each-new P h = mem-all P news (λ q m. let i = map-mem (added sum d old) numbers m in
-      subst P (sym (i .same)) (h (i .entry) (subst (λ (end : ℕ). NewAt x sum d old end (i .entry)) end-is (new-occur x sum d old (n - old) (i .entry) (i .is)))))
+  each-new P h = mem-all P news (λ q m. let i = map-mem _ numbers m in
+      subst P (sym (i .same)) (h _ (rw end-is at (new-occur x sum d old _ _ (i .is)))))
 
   each-old : (P : SetRow → Type 0) → ((r : Row) → Mem r (x .rows) → GoodRow x r → P (grown x sum old r)) → All P olds
-  each-old P h = mem-all P olds (λ q m. let i = map-mem (grown x sum old) (x .rows) m in
-      subst P (sym (i .same)) (h (i .entry) (i .is) (all-mem (GoodRow x) (x .rows) (each-row x g) (i .is))))
+  each-old P h = mem-all P olds (λ q m. let i = map-mem _ (x .rows) m in
+      subst P (sym (i .same)) (h _ (i .is) (all-mem _ (x .rows) (each-row x g) (i .is))))
 
   each : (P : SetRow → Type 0) → ((k : ℤ) → NewAt x sum d old n k → P (added sum d old k)) → ((r : Row) → Mem r (x .rows) → GoodRow x r → P (grown x sum old r)) → All P rows
   each P f h = all-inserts P news olds (each-new P f) (each-old P h)
 
   new-ends : (k : ℤ) → NewAt x sum d old n k → GoodEnd d (lowOf d k) × GoodEnd d (upOf d k)
-  new-ends k a = subst (λ (t : ℤ). GoodEnd d (lowOf d t) × GoodEnd d (upOf d t)) (a .is) (ends-good s w d (a .at) (e .values) (g .head .window .most) one (g .head .width .most))
+  new-ends k a = rw (a .is) at (ends-good s w d (a .at) (e .values) (g .head .window .most) one (g .head .width .most))
 
   new-beside : (k : ℤ) → NewAt x sum d old n k → All (Beside (added sum d old k)) olds
   unfolding grown added rowAt
-  new-beside k a = each-old (Beside (added sum d old k)) (λ r m o.
+  new-beside k a = each-old _ (λ r m o.
       subst (λ (t : ℤ). (upOf d t ≤ℤ r .low) ⊎ (r .up ≤ℤ lowOf d t)) (a .is)
-      (beside d (r .low) (r .up) (sum (a .at)) one (o .low-end) (o .up-end) (none-any (λ q. inside (q .low) (q .up) (sum (a .at))) (a .unknown) m)))
+      (beside d _ (r .up) _ one (o .low-end) (o .up-end) (none-any (λ q. inside (q .low) (q .up) (sum (a .at))) (a .unknown) m)))
 
   pub ascends : Ascending lowestEnd (map range rows)
-  ascends = inserts-ascends sum d old one olds lowestEnd numbers (new-sorted x sum d old (n - old))
-      (λ k m. let a = subst (λ (end : ℕ). NewAt x sum d old end k) end-is (new-occur x sum d old (n - old) k m) in (end-least d (lowOf d k) (new-ends k a .0), new-beside k a))
-      (rw (grown-ranges x sum old (x .rows)) (ranges-ascend x g))
+  ascends = inserts-ascends sum d old one olds lowestEnd numbers (new-sorted x sum d old _)
+      (λ k m. let a = rw end-is at (new-occur x sum d old _ k m) in (end-least d _ (new-ends k a .0), new-beside k a))
+      (rw (grown-ranges x sum old _) (ranges-ascend x g))
 
   -- a new window stands in exactly the rows that hold its sum, and in one
   exact-new : (j : ℕ) → old ≤ j → All (Exact (sum j) j) rows
   unfolding grown added rowAt
-  exact-new j h = each (Exact (sum j) j) (λ k a. added-new x sum old d k j h) (λ r m o. grown-new x sum old r j h)
+  exact-new j h = each _ (λ k a. added-new x sum old d k j h) (λ r m o. grown-new x sum old r j h)
 
   pub covers-new : (j : ℕ) → old ≤ j → j < n → covered (sum j) rows ≡ true
   unfolding grown added rowAt
-  covers-new j a b = by-test (known x (sum j))
-      (λ t. let f = any-found (λ r. inside (r .low) (r .up) (sum j)) (x .rows) t in
-      any-mem (λ q. inside (q .low) (q .up) (sum j)) (mem-inserts (grown x sum old (f .entry)) news olds (inr (mem-map (grown x sum old) (f .is)))) (f .passes))
-      (λ f. let k = rowNumber d (sum j) in
-      any-mem (λ q. inside (q .low) (q .up) (sum j)) (mem-inserts (added sum d old k) news olds (inl (mem-map (added sum d old) (new-mem x sum d old (n - old) j a (omega (arith, end-is)) f)))) (in-own d (sum j) one))
+  covers-new j a b = by-test _
+      (λ t. let f = any-found (λ r. inside _ (r .up) (sum j)) _ t in
+      any-mem (λ q. inside _ (q .up) (sum j)) (mem-inserts _ news olds (inr (mem-map _ (f .is)))) (f .passes))
+      (λ f. any-mem (λ q. inside _ (q .up) (sum j)) (mem-inserts _ news olds (inl (mem-map _ (new-mem x sum d old _ j a (omega arith) f)))) (in-own d (sum j) one))
 
   once-new : (j : ℕ) → old ≤ j → j < n → times (sets rows) j ≡ 1
   once-new j a b = exact-once lowestEnd (sum j) j rows ascends (exact-new j a) (covers-new j a b)
@@ -287,10 +286,10 @@ module _ (x : Index) (s : List ℤ) (g : WellFormed x) (e : Extendable x s) wher
   total : sizes (sets rows) n ≤ n
   total = omega (
     arith,
-    rw end-is at (sizes-once (sets rows) old (n - old) (λ j a b. once-new j a (omega (arith, end-is)))),
+    rw end-is at (sizes-once _ old (n - old) (λ j a b. once-new j a (omega arith))),
     sizes-inserts old news olds,
     sizes-added x sum old d numbers,
-    sizes-grown x sum old (x .rows) refl (each-row x g),
+    sizes-grown x sum old _ refl (each-row x g),
     lengths-at-most x g,
     e .longer,
   )
@@ -302,7 +301,7 @@ module _ (x : Index) (s : List ℤ) (g : WellFormed x) (e : Extendable x s) wher
     ends = each (Ends (GoodEnd d)) (λ k a. record { low-end = new-ends k a .0; up-end = new-ends k a .1 }) (λ r m o. record { low-end = o .low-end; up-end = o .up-end });
     occupied = each (Occupied n)
         (λ k a. record { at = a .at; below = a .below; member = added-new x sum old d k (a .at) (a .new) ∙ rw (← (a .is)) (in-own d (sum (a .at)) one) })
-        (λ r m o. let i = good-member x r o in record { at = i .0; below = omega (arith, i .1, e .longer); member = grown-old x sum old r (i .0) (i .1) ∙ i .2 });
+        (λ r m o. let i = good-member x r o in record { at = i .0; below = omega arith; member = grown-old x sum old r (i .0) (i .1) ∙ i .2 });
     total = total;
   }
 
@@ -312,7 +311,7 @@ module _ (x : Index) (s : List ℤ) (g : WellFormed x) (e : Extendable x s) wher
       (record {
         window = g .head .window;
         width = g .head .width;
-        windows = record { is = refl; least = omega (arith, e .longer, g .head .windows .least); most = omega (arith, e .short, g .head .window .least) };
+        windows = record { is = refl; least = omega (arith, e .longer, g .head .windows .least); most = omega (arith, e .short) };
       }) sound
 
   -- each new window stands in exactly one row, which holds its sum
@@ -322,21 +321,21 @@ module _ (x : Index) (s : List ℤ) (g : WellFormed x) (e : Extendable x s) wher
       (λ q m t. sym (all-mem (Exact (sum j) j) rows (exact-new j a) m) ∙ t) (once-any j rows (once-new j a b))
 
   old-below : (j : ℕ) (t : Bool) → j < old → (ltb j n && t) ≡ t
-  old-below j t b = rw (lt-ltb j n (omega (arith, e .longer)))
+  old-below j t b = rw (lt-ltb j n (omega arith))
 
   kept-by : (r q : Row) → Shows (extended x s) n (grown x sum old r) q → Kept x (extended x s) r q
   unfolding grown
-  kept-by r q h = record { low = h .low; up = h .up; windows = λ j b. h .has j ∙ old-below j (grown x sum old r .has j) b ∙ grown-old x sum old r j b }
+  kept-by r q h = record { low = h .low; up = h .up; windows = λ j b. h .has j ∙ old-below j _ b ∙ grown-old x sum old r j b }
 
   -- every old row is kept
   pub extended-kept : (r : Row) → Mem r (x .rows) → (q : Row) × Mem q (extended x s .rows) × Kept x (extended x s) r q
   unfolding extended extendedRows
-  extended-kept r m = let f = shows-row (x .window) (x .width) n rows (grown x sum old r) (mem-inserts (grown x sum old r) news olds (inr (mem-map (grown x sum old) m))) in
-      (f .row, f .is, kept-by r (f .row) (f .shows))
+  extended-kept r m = let f = shows-row (x .window) (x .width) n rows _ (mem-inserts _ news olds (inr (mem-map _ m))) in
+      (f .row, f .is, kept-by r _ (f .shows))
 
   new-by : (k : ℤ) (q : Row) → Shows (extended x s) n (added sum d old k) q → NewRow x (extended x s) q
   unfolding added rowAt
-  new-by k q h = record { number = k; low = h .low; up = h .up; no-old = λ j b. h .has j ∙ old-below j (added sum d old k .has j) b ∙ added-old x sum old d k j b }
+  new-by k q h = record { number = k; low = h .low; up = h .up; no-old = λ j b. h .has j ∙ old-below j _ b ∙ added-old x sum old d k j b }
 
   -- and any other row is a new one
   pub extended-only : (q : Row) → Mem q (extended x s .rows) → ((r : Row) × Mem r (x .rows) × Kept x (extended x s) r q) ⊎ NewRow x (extended x s) q
@@ -383,7 +382,7 @@ grown-copy x sum r g =
     let m = g .good .plain in
     let q = grown x sum n r in
     let member : (j : ℕ) → j < n → q .has j ≡ held m j = λ j b. grown-old x sum n r j b ∙ ap (λ (l : List Entry). any (inRun j) l) (g .good .is) ∙ entries-hold m j in
-    let e : map entry (runs (q .has) n) ≡ runsOf x r = ap (map entry) (runs-cong (q .has) (held m) n member ∙ apart-runs n 0 m (g .good .apart)) ∙ sym (g .good .is) in
+    let e = ap (map entry) (runs-cong (q .has) (held m) n member ∙ apart-runs n 0 m (g .good .apart)) ∙ sym (g .good .is) in
     λ i. record { low = r .low; up = r .up; runs = e i }
 
 grown-copies : (x : Index) (sum : ℕ → ℤ) (l : List Row) → All (GoodRow x) l → map (withRuns (natAbs (x .windows))) (map (grown x sum (natAbs (x .windows))) l) ≡ map (rangeRow x) l
@@ -401,6 +400,6 @@ unfolding extended
 extended-copy x s g e =
     let w = natAbs (x .window) in
     let n = windowCount (length s) w in
-    let same = copy-rows x (windowSum s w) n g e in
+    let same = copy-rows x _ n g e in
     let again = laid-again x g in
-    (ap (records 0) same ∙ again .0, ap allRuns same ∙ again .1, rows-back (x .window) (x .width) (pos n) (extendedRows x (windowSum s w) n) ∙ same)
+    (ap (records 0) same ∙ again .0, ap allRuns same ∙ again .1, rows-back (x .window) (x .width) (pos n) _ ∙ same)

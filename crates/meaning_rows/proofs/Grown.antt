@@ -2,10 +2,10 @@
 -- the first new run joins the last old one (`onward-count`), which is told by the end of the last old run (`joins-old`).
 use Rattle.meaning_numbers.specs.{Sum.bit, Place.any}
 use Rattle.meaning_numbers.proofs.Member.{All, all-mem, mem-all}
-use Rattle.meaning_numbers.proofs.Prelude.{_≡_, refl, sym, ap, _∙_, subst, Bool, true, false, not, _&&_, List, [], _∷_, map, ℕ, zero, suc, _+_, _-_, _<_, _≤_, min, arith, leb, eqb, ℤ, pos, natAbs, length, getD, take, drop, length-map, List·getD-map, getD-take, getD-drop, leb-true, le-leb, lt-leb, eq-eqb, ne-eqb, by-test}
+use Rattle.meaning_numbers.proofs.Prelude.{_≡_, refl, sym, ap, _∙_, subst, Bool, true, false, not, _&&_, List, [], _∷_, ℕ, zero, suc, _+_, _-_, _<_, _≤_, min, arith, leb, eqb, ℤ, pos, natAbs, length, getD, length-map, List·getD-map, getD-take, getD-drop, leb-true, le-leb, lt-leb, eq-eqb, ne-eqb, by-test}
 use Rattle.meaning_rows.specs.{declared.Row.Row, Runs.before, Runs.runs, Runs.runCount, Index.Index, Index.Entry, Index.entries, Index.runsOf, Index.inRun, Build.entry, Extend.grown}
-use Rattle.meaning_rows.proofs.{Columns.lefts, Columns.rights, Columns.runCount-none, Judge.GoodRuns, Judge.GoodRow, Judge.WellFormed, Judge.length-runsOf, Judge.each-row, Extend.grown-old, Woven.newRow, Woven.woven, Woven.all-woven}
-use Rattle.meaning_rows.proofs.Runs.{Apart, Next, held, entries-hold, runs-cong, apart-runs, runs-next, runCount-more, before-none, before-more}
+use Rattle.meaning_rows.proofs.{Columns.lefts, Columns.rights, Columns.runCount-none, Judge.GoodRuns, Judge.WellFormed, Judge.length-runsOf, Judge.each-row, Extend.grown-old, Woven.newRow, Woven.woven, Woven.all-woven}
+use Rattle.meaning_rows.proofs.Runs.{Apart, Next, entries-hold, runs-cong, apart-runs, runs-next, runCount-more, before-none, before-more}
 
 -- ---- the runs of a set from an offset on
 
@@ -24,7 +24,7 @@ module _ (p : ℕ → Bool) (old : ℕ) where
 
   none-onward : (n : ℕ) → n ≤ old → runCount (onward old p) n ≡ 0
   unfolding bit
-  none-onward zero h = runCount-none (onward old p)
+  none-onward zero h = runCount-none _
   none-onward (suc n) h = let e : suc n ≡ n + 1 = omega arith in
       let b : bit (onward old p n && not (before (onward old p) n)) ≡ 0 = rw (onward-not n (omega arith)) in
       rw e (omega (arith, runCount-more (onward old p) n, none-onward n (omega arith), b))
@@ -33,8 +33,8 @@ module _ (p : ℕ → Bool) (old : ℕ) where
   before-onward = first old refl
     where
       first : (k : ℕ) → k ≡ old → before (onward old p) k ≡ false
-      first zero e = before-none (onward old p)
-      first (suc k) e = let s : suc k ≡ k + 1 = omega arith in rw s (before-more (onward old p) k ∙ onward-not k (omega arith))
+      first zero e = before-none _
+      first (suc k) e = let s : suc k ≡ k + 1 = omega arith in rw s (before-more _ k ∙ onward-not k (omega arith))
 
   same-before : (m : ℕ) → before (onward old p) (old + suc m) ≡ before p (old + suc m)
   same-before m = let e : old + suc m ≡ (old + m) + 1 = omega arith in rw e (before-more (onward old p) (old + m) ∙ onward-is (old + m) (omega arith) ∙ sym (before-more p (old + m)))
@@ -66,8 +66,8 @@ last-next : (b : Bool) (l : List (ℕ × ℕ)) (n : ℕ) → Next b l n → b �
 unfolding Next rights
 last-next true [] n h = absurd h
 last-next false [] n h = refl
-last-next true (x ∷ []) n h = sym (eq-eqb (x .1 + 1) n h)
-last-next false (x ∷ []) n h = sym (ne-eqb (x .1 + 1) n (λ e. omega arith))
+last-next true (x ∷ []) n h = sym (eq-eqb _ n h)
+last-next false (x ∷ []) n h = sym (ne-eqb _ n (λ e. omega arith))
 last-next b (x ∷ y ∷ l) n h =
     let e : length (x ∷ y ∷ l) - 1 ≡ suc (length (y ∷ l) - 1) = omega arith in
     last-next b (y ∷ l) n h ∙ rw (le-leb 1 (length (y ∷ l)) (omega arith), le-leb 1 (length (x ∷ y ∷ l)) (omega arith), e)
@@ -84,8 +84,8 @@ unfolding newRow Apart
 begun-new x d k = record { fits = omega arith; good = record { plain = []; is = refl; apart = tt } }
 
 pub begun-woven : (x : Index) → WellFormed x → (d : ℕ) (ks : List ℤ) → All (Begun x) (woven d (x .rows) ks)
-begun-woven x g d ks = all-woven d (Begun x) (x .rows) ks
-    (mem-all (Begun x) (x .rows) (λ r m. let o = all-mem (GoodRow x) (x .rows) (each-row x g) m in record { fits = o .fits; good = o .good })) (λ k m. begun-new x d k)
+begun-woven x g d ks = all-woven d _ _ ks
+    (mem-all _ _ (λ r m. let o = all-mem _ _ (each-row x g) m in record { fits = o .fits; good = o .good })) (λ k m. begun-new x d k)
 
 module _ (x : Index) (sum : ℕ → ℤ) (r : Row) (b : Begun x r) where
   abbrev old : ℕ
@@ -98,7 +98,7 @@ module _ (x : Index) (sum : ℕ → ℤ) (r : Row) (b : Begun x r) where
   pub old-runs : runs has old ≡ b .good .plain
   old-runs =
       let m = b .good .plain in
-      runs-cong has (held m) old (λ j l. grown-old x sum old r j l ∙ ap (λ (l : List Entry). any (inRun j) l) (b .good .is) ∙ entries-hold m j) ∙ apart-runs old 0 m (b .good .apart)
+      runs-cong has _ old (λ j l. grown-old x sum old r j l ∙ ap (λ (l : List Entry). any (inRun j) l) (b .good .is) ∙ entries-hold m j) ∙ apart-runs old 0 m (b .good .apart)
 
   pub old-size : length (b .good .plain) ≡ r .runs
   old-size = sym (length-map (b .good .plain) entry) ∙ ap length (sym (b .good .is)) ∙ length-runsOf x r (b .fits)
@@ -139,9 +139,9 @@ module _ (x : Index) (left right : List ℕ) (is : x .runs ≡ entries left righ
 
   own-entry : (t : ℕ) → t < r .runs → _≡_ {A = Entry} (pos (getD left (r .first + t) 0), pos (getD right (r .first + t) 0)) (entry (getD plain t (0, 0)))
   own-entry t l =
-      sym (entry-at left right (r .first + t) (omega (arith, b .fits, ap length is)))
+      sym (entry-at left right _ (omega (arith, b .fits, ap length is)))
       ∙ ap (λ (m : List Entry). getD m (r .first + t) (pos 0, pos 0)) (sym is)
-      ∙ sym (getD-drop (r .first) (x .runs) t (pos 0, pos 0)) ∙ sym (getD-take (r .runs) (drop (r .first) (x .runs)) t (pos 0, pos 0) l)
+      ∙ sym (getD-drop _ (x .runs) t (pos 0, pos 0)) ∙ sym (getD-take _ _ t (pos 0, pos 0) l)
       ∙ ap (λ (m : List Entry). getD m t (pos 0, pos 0)) (b .good .is) ∙ List·getD-map entry plain t (0, 0)
 
   -- the row's part of each column is that of its old runs

@@ -2,11 +2,11 @@
 -- Each test is turned into its fact and back; a well-formed index has at most as many rows as runs, and runs as windows (`rows-at-most`, `runs-at-most`).
 use Rattle.meaning_numbers.specs.{Order.within, Quotient.multiple, Sum.count, Place.any}
 use Rattle.meaning_numbers.proofs.{Count.count-cong, Member.All, Member.all-mem, Member.mem-at}
-use Rattle.meaning_numbers.proofs.Prelude.{_≡_, refl, sym, ap, _∙_, subst, _⊎_, inl, inr, ⊎-elim, true, false, _&&_, List, [], _∷_, map, Option, none, some, ℕ, zero, suc, _+_, _<_, _≤_, arith, decLe, leb, ℤ, pos, negsuc, _+ℤ_, natAbs, length, getD, take, drop, length-take, length-drop, drop-of-length-le, take-take, drop-cons, _≤ℤ_, _<ℤ_, leZ, ltZ, leb-true, eqb-true, le-leb, eq-eqb, lt-ltb, ltb-true, zarith, ltZ-true, leZ-true, lt-ltZ, by-test, both, of-both, clash}
+use Rattle.meaning_numbers.proofs.Prelude.{_≡_, refl, sym, ap, _∙_, subst, _⊎_, inl, inr, ⊎-elim, true, List, [], _∷_, map, Option, none, some, ℕ, zero, suc, _+_, _<_, _≤_, arith, decLe, ℤ, pos, negsuc, _+ℤ_, natAbs, length, getD, take, length-take, length-drop, take-take, _≤ℤ_, _<ℤ_, leZ, ltZ, leb-true, eqb-true, le-leb, eq-eqb, lt-ltb, ltb-true, zarith, ltZ-true, leZ-true, lt-ltZ, by-test, both, of-both, clash}
 use Rattle.meaning_curves.specs.Limits.{endIn, lowestEnd, mostValues}
 use Rattle.meaning_rows.specs.{declared.Row.Row, Index.Index, Index.Entry, Index.runsOf, Index.inRun, Index.stands, Build.entry}
 use Rattle.meaning_rows.specs.Judge.{headGood, runsGood, runLengths, rangeGood, partGood, rowGood, badRowFrom, firstBadRow, lengthTotal}
-use Rattle.meaning_rows.proofs.{Range.le-leZ, Runs.Apart, Runs.held, Runs.entries-hold, Runs.held-in, Runs.lengths-count, Times.Range, Times.Ascending}
+use Rattle.meaning_rows.proofs.{Range.le-leZ, Runs.Apart, Runs.entries-hold, Runs.held-in, Runs.lengths-count, Times.Range, Times.Ascending}
 
 -- ---- limits
 
@@ -18,7 +18,7 @@ pub record Natural (low high : ℕ) (z : ℤ) : Type 0 where
 
 pub between : (low high : ℕ) (z : ℤ) → within (pos low) (pos high) z ≡ true → Natural low high z
 unfolding within
-between low high (pos n) e = let b = both (leb low n) (leb n high) e in record { is = refl; least = leb-true low n (b .0); most = leb-true n high (b .1) }
+between low high (pos n) e = let b = both _ _ e in record { is = refl; least = leb-true low n (b .0); most = leb-true n high (b .1) }
 between low high (negsuc n) e = clash e refl
 
 pub is-within : (low high : ℕ) (z : ℤ) → Natural low high z → within (pos low) (pos high) z ≡ true
@@ -36,12 +36,12 @@ unfolding headGood
 good-head x e =
     let b = both _ _ e in
     let c = both _ _ (b .1) in
-    record { window = between 1 256 (x .window) (b .0); width = between 1 1000000 (x .width) (c .0); windows = between 1 mostValues (x .windows) (c .1) }
+    record { window = between 1 256 _ (b .0); width = between 1 1000000 _ (c .0); windows = between 1 mostValues _ (c .1) }
 
 pub head-good : (x : Index) → GoodHead x → headGood x ≡ true
 unfolding headGood
 head-good x h =
-    of-both (is-within 1 256 (x .window) (h .window)) (of-both (is-within 1 1000000 (x .width) (h .width)) (is-within 1 mostValues (x .windows) (h .windows)))
+    of-both (is-within 1 256 _ (h .window)) (of-both (is-within 1 1000000 _ (h .width)) (is-within 1 mostValues _ (h .windows)))
 
 -- ---- runs
 
@@ -59,27 +59,27 @@ pub good-runs : (n a : ℕ) (l : List Entry) → runsGood (pos n) (pos a) l ≡ 
 unfolding runsGood Apart
 good-runs n a [] e = record { plain = []; is = refl; apart = tt }
 good-runs n a (x ∷ l) e =
-    let rest = runsGood (pos n) (x .1 +ℤ pos 2) l in
-    let b = both (leZ (pos a) (x .0)) (leZ (x .0) (x .1) && (ltZ (x .1) (pos n) && rest)) e in
-    let c = both (leZ (x .0) (x .1)) (ltZ (x .1) (pos n) && rest) (b .1) in
+    let rest = runsGood (pos n) _ l in
+    let b = both _ _ e in
+    let c = both _ _ (b .1) in
     let d = both (ltZ (x .1) (pos n)) rest (c .1) in
     let left = at-least a (x .0) (b .0) in
-    let right = at-least (natAbs (x .0)) (x .1) (subst (λ (z : ℤ). leZ z (x .1) ≡ true) (left .0) (c .0)) in
-    let after = good-runs n (natAbs (x .1) + 2) l (subst (λ (z : ℤ). runsGood (pos n) (z +ℤ pos 2) l ≡ true) (right .0) (d .1)) in
+    let right = at-least _ (x .1) (subst (λ (z : ℤ). leZ z (x .1) ≡ true) (left .0) (c .0)) in
+    let after = good-runs n _ l (subst (λ (z : ℤ). runsGood (pos n) (z +ℤ pos 2) l ≡ true) (right .0) (d .1)) in
     let p = left .0 in
     let q = right .0 in
     let same : x ≡ entry (natAbs (x .0), natAbs (x .1)) = λ i. (p i, q i) in
     record {
       plain = (natAbs (x .0), natAbs (x .1)) ∷ after .plain;
       is = cc (same, after .is);
-      apart = (left .1, right .1, ltb-true (natAbs (x .1)) n (subst (λ (z : ℤ). ltZ z (pos n) ≡ true) (right .0) (d .0)), after .apart);
+      apart = (left .1, right .1, ltb-true _ n (rw (right .0) at (d .0)), after .apart);
     }
 
 apart-good : (n a : ℕ) (l : List (ℕ × ℕ)) → Apart n a l → runsGood (pos n) (pos a) (map entry l) ≡ true
 unfolding runsGood Apart
 apart-good n a [] p = refl
 apart-good n a (x ∷ l) p =
-    of-both (le-leb a (x .0) (p .0)) (of-both (le-leb (x .0) (x .1) (p .1)) (of-both (lt-ltb (x .1) n (p .2)) (apart-good n (x .1 + 2) l (p .3))))
+    of-both (le-leb a (x .0) (p .0)) (of-both (le-leb (x .0) (x .1) (p .1)) (of-both (lt-ltb (x .1) n (p .2)) (apart-good n _ l (p .3))))
 
 pub runs-good : (n a : ℕ) (l : List Entry) → GoodRuns n a l → runsGood (pos n) (pos a) l ≡ true
 runs-good n a l g = rw (g .is) (apart-good n a (g .plain) (g .apart))
@@ -142,7 +142,7 @@ module _ (x : Index) (h : GoodHead x) where
           up-end = record { divides = d .0; limited = g .0 };
           some-run = leb-true _ _ (l .0);
           fits = leb-true _ _ (m .1);
-          good = good-runs (natAbs (x .windows)) 0 (runsOf x r) (subst (λ (z : ℤ). runsGood z (pos 0) (runsOf x r) ≡ true) (h .windows .is) (n .0));
+          good = good-runs _ 0 _ (subst (λ (z : ℤ). runsGood z (pos 0) (runsOf x r) ≡ true) (h .windows .is) (n .0));
         };
         order = leZ-true (g .1);
         begins = eqb-true _ _ (m .0);
@@ -156,39 +156,39 @@ module _ (x : Index) (h : GoodHead x) where
       of-both
       (of-both (lt-ltZ (o .wide)) (of-both (o .low-end .divides) (of-both (o .up-end .divides) (of-both (o .low-end .limited) (of-both (o .up-end .limited) (le-leZ (g .order)))))))
       (of-both (of-both (le-leb _ _ (o .some-run)) (of-both (eq-eqb _ _ (g .begins)) (le-leb _ _ (o .fits))))
-      (of-both (subst (λ (z : ℤ). runsGood z (pos 0) (runsOf x r) ≡ true) (sym (h .windows .is)) (runs-good (natAbs (x .windows)) 0 (runsOf x r) (o .good))) (le-leb _ _ (g .total))))
+      (of-both (subst (λ (z : ℤ). runsGood z (pos 0) (runsOf x r) ≡ true) (sym (h .windows .is)) (runs-good _ 0 _ (o .good))) (le-leb _ _ (g .total))))
 
   good-from : (k : ℕ) (least : ℤ) (first taken : ℕ) (l : List Row) → badRowFrom x k least first taken l ≡ none → GoodRows x least first taken l
   unfolding badRowFrom GoodRows
   good-from k least first taken [] e = tt
-  good-from k least first taken (r ∷ l) e = by-test (rowGood x least first taken r)
-      (λ t. (next-row least first taken r t, good-from (suc k) (r .up) (first + r .runs) (taken + runLengths (runsOf x r)) l (rw t at e)))
+  good-from k least first taken (r ∷ l) e = by-test _
+      (λ t. (next-row least first taken r t, good-from (suc k) (r .up) _ _ l (rw t at e)))
       (λ f. absurd (is-some (rw f at e)))
 
   from-good : (k : ℕ) (least : ℤ) (first taken : ℕ) (l : List Row) → GoodRows x least first taken l → badRowFrom x k least first taken l ≡ none
   unfolding badRowFrom GoodRows
   from-good k least first taken [] g = refl
-  from-good k least first taken (r ∷ l) g = rw (row-next least first taken r (g .0)) (from-good (suc k) (r .up) (first + r .runs) (taken + runLengths (runsOf x r)) l (g .1))
+  from-good k least first taken (r ∷ l) g = rw (row-next least first taken r (g .0)) (from-good (suc k) (r .up) _ _ l (g .1))
 
   -- the rows before the i-th are good, and with it they are not
   bad-from : (k m : ℕ) (least : ℤ) (first taken : ℕ) (l : List Row) → badRowFrom x k least first taken l ≡ some m
       → (i : ℕ) × (m ≡ k + i) × (i < length l) × GoodRows x least first taken (take i l) × (GoodRows x least first taken (take (suc i) l) → ⊥)
   unfolding badRowFrom GoodRows
   bad-from k m least first taken [] e = absurd (is-some (sym e))
-  bad-from k m least first taken (r ∷ l) e = by-test (rowGood x least first taken r)
-      (λ t. let b = bad-from (suc k) m (r .up) (first + r .runs) (taken + runLengths (runsOf x r)) l (rw t at e) in
-      (suc (b .0), omega (arith, b .1), omega (arith, b .2), (next-row least first taken r t, b .3), λ g. b .4 (g .1)))
+  bad-from k m least first taken (r ∷ l) e = by-test _
+      (λ t. let b = bad-from (suc k) m (r .up) _ _ l (rw t at e) in
+      (suc (b .0), omega arith, omega arith, (next-row least first taken r t, b .3), λ g. b .4 (g .1)))
       (λ f. let i = same-some (rw f at e) in (0, omega arith, omega arith, tt, λ g. clash (row-next least first taken r (g .0)) f))
 
 pub well-formed : (x : Index) → firstBadRow x ≡ none → WellFormed x
 unfolding firstBadRow
-well-formed x e = by-test (headGood x)
-    (λ t. let h = good-head x t in record { head = h; rows = good-from x h 0 lowestEnd 0 0 (x .rows) (rw t at e) })
+well-formed x e = by-test _
+    (λ t. let h = good-head x t in record { head = h; rows = good-from x h 0 lowestEnd 0 0 _ (rw t at e) })
     (λ f. absurd (is-some (rw f at e)))
 
 pub none-bad : (x : Index) → WellFormed x → firstBadRow x ≡ none
 unfolding firstBadRow
-none-bad x g = rw (head-good x (g .head)) (from-good x (g .head) 0 lowestEnd 0 0 (x .rows) (g .rows))
+none-bad x g = rw (head-good x (g .head)) (from-good x (g .head) 0 lowestEnd 0 0 _ (g .rows))
 
 -- the rows up to but not including k are good rows, and those up to and including k are not
 pub record FirstBad (x : Index) (k : ℕ) : Type 0 where
@@ -199,9 +199,9 @@ pub record FirstBad (x : Index) (k : ℕ) : Type 0 where
 
 pub first-bad : (x : Index) (k : ℕ) → firstBadRow x ≡ some k → ((k ≡ 0) × (GoodHead x → ⊥)) ⊎ FirstBad x k
 unfolding firstBadRow
-first-bad x k e = by-test (headGood x)
-    (λ t. let h = good-head x t in let b = bad-from x h 0 k lowestEnd 0 0 (x .rows) (rw t at e) in
-    let i : b .0 ≡ k = omega (arith, b .1) in
+first-bad x k e = by-test _
+    (λ t. let h = good-head x t in let b = bad-from x h 0 k lowestEnd 0 0 _ (rw t at e) in
+    let i : b .0 ≡ k = omega arith in
     inr record { head = h; is-row = rw i at (b .2); before = rw i at (b .3); bad = rw i at (b .4) })
     (λ f. inl (same-some (rw f at e), λ h. clash (head-good x h) f))
 
@@ -209,41 +209,22 @@ good-part : (x : Index) (i : ℕ) (least : ℤ) (first taken : ℕ) (l : List Ro
 unfolding GoodRows
 good-part x zero least first taken l g = tt
 good-part x (suc i) least first taken [] g = tt
-good-part x (suc i) least first taken (r ∷ l) g = (g .0, good-part x i (r .up) (first + r .runs) (taken + runLengths (runsOf x r)) l (g .1))
+good-part x (suc i) least first taken (r ∷ l) g = (g .0, good-part x i (r .up) _ _ l (g .1))
 
 not-after : (x : Index) (k m : ℕ) → FirstBad x k → FirstBad x m → k ≤ m
 not-after x k m f b = elim (decLe k m) [
   | yes h ↦ h
-  | no n ↦ let h : suc m ≤ k = omega arith in absurd (b .bad (rw (take-take (suc m) k (x .rows)) at (good-part x (suc m) lowestEnd 0 0 (take k (x .rows)) (f .before))))
+  | no n ↦ let h : suc m ≤ k = omega arith in absurd (b .bad (rw (take-take (suc m) k _) at (good-part x (suc m) lowestEnd 0 0 _ (f .before))))
 ]
 
 -- there is one first bad row, and it is said
 pub bad-first : (x : Index) (k : ℕ) → FirstBad x k → firstBadRow x ≡ some k
-bad-first x k f = said (firstBadRow x) refl
+bad-first x k f = said _ refl
   where
     said : (o : Option ℕ) → firstBadRow x ≡ o → firstBadRow x ≡ some k
     said none e = absurd (f .bad (good-part x (suc k) lowestEnd 0 0 (x .rows) (well-formed x e .rows)))
     said (some m) e = ⊎-elim (λ h. absurd (h .1 (f .head)))
         (λ b. let a = not-after x k m f b in let c = not-after x m k b f in let same : m ≡ k = omega arith in e ∙ ap some same) (first-bad x m e)
-
-pub bad-head : (x : Index) → (GoodHead x → ⊥) → firstBadRow x ≡ some 0
-unfolding firstBadRow
-bad-head x h = by-test (headGood x) (λ t. absurd (h (good-head x t))) (λ f. rw f)
-
--- one turn of a loop over the rows
-module _ (x : Index) (o : Row) (k : ℕ) (least : ℤ) (first taken : ℕ) where
-  pub judge-end : length (x .rows) ≤ k → badRowFrom x k least first taken (drop k (x .rows)) ≡ none
-  unfolding badRowFrom
-  judge-end h = rw (drop-of-length-le (x .rows) h)
-
-  pub judge-more : k < length (x .rows) → let r = getD (x .rows) k o in rowGood x least first taken r ≡ true
-      → badRowFrom x k least first taken (drop k (x .rows)) ≡ badRowFrom x (suc k) (r .up) (first + r .runs) (taken + runLengths (runsOf x r)) (drop (suc k) (x .rows))
-  unfolding badRowFrom
-  judge-more h t = rw (drop-cons (x .rows) k o h, t)
-
-  pub judge-stop : k < length (x .rows) → rowGood x least first taken (getD (x .rows) k o) ≡ false → badRowFrom x k least first taken (drop k (x .rows)) ≡ some k
-  unfolding badRowFrom
-  judge-stop h t = rw (drop-cons (x .rows) k o h, t)
 
 -- ---- what follows for the rows of a well-formed index
 
@@ -258,7 +239,7 @@ runTotal (r ∷ l) = r .runs + runTotal l
 length-apart : (n a : ℕ) (l : List (ℕ × ℕ)) → Apart n a l → length (map entry l) ≤ runLengths (map entry l)
 unfolding Apart runLengths
 length-apart n a [] p = omega arith
-length-apart n a (x ∷ l) p = omega (arith, length-apart n (x .1 + 2) l (p .3))
+length-apart n a (x ∷ l) p = omega (arith, length-apart n _ l (p .3))
 
 module _ (x : Index) where
   pub length-runsOf : (r : Row) → r .first + r .runs ≤ length (x .runs) → length (runsOf x r) ≡ r .runs
@@ -276,23 +257,23 @@ module _ (x : Index) where
       let n = natAbs (x .windows) in
       let m = g .good .plain in
       subst (λ (l : List Entry). runLengths l ≡ count (λ j. any (inRun j) l) n) (sym (g .good .is))
-      (lengths-count n 0 m (g .good .apart) ∙ count-cong (held m) (λ j. any (inRun j) (map entry m)) n (λ j b. sym (entries-hold m j)))
+      (lengths-count n 0 m (g .good .apart) ∙ count-cong _ (λ j. any (inRun j) _) n (λ j b. sym (entries-hold m j)))
 
   -- a window that stands in a row is below the window count
   pub stands-below : (r : Row) (j : ℕ) → GoodRow x r → stands x r j ≡ true → j < natAbs (x .windows)
   stands-below r j g t =
       let m = g .good .plain in
-      held-in (natAbs (x .windows)) 0 m j (g .good .apart) (sym (entries-hold m j) ∙ subst (λ (l : List Entry). any (inRun j) l ≡ true) (g .good .is) t) .1
+      held-in _ 0 m j (g .good .apart) (sym (entries-hold m j) ∙ rw (g .good .is) at t) .1
 
   pub each-good : (least : ℤ) (first taken : ℕ) (l : List Row) → GoodRows x least first taken l → All (GoodRow x) l
   unfolding GoodRows All
   each-good least first taken [] g = tt
-  each-good least first taken (r ∷ l) g = (g .0 .row, each-good (r .up) (first + r .runs) (taken + runLengths (runsOf x r)) l (g .1))
+  each-good least first taken (r ∷ l) g = (g .0 .row, each-good (r .up) _ _ l (g .1))
 
   pub rows-ascend : (least : ℤ) (first taken : ℕ) (l : List Row) → GoodRows x least first taken l → Ascending least (map rangeOf l)
   unfolding GoodRows Ascending
   rows-ascend least first taken [] g = tt
-  rows-ascend least first taken (r ∷ l) g = (g .0 .order, g .0 .row .wide, rows-ascend (r .up) (first + r .runs) (taken + runLengths (runsOf x r)) l (g .1))
+  rows-ascend least first taken (r ∷ l) g = (g .0 .order, g .0 .row .wide, rows-ascend (r .up) _ _ l (g .1))
 
   -- a row begins at or after the end of each row before it
   begins-after : (o : Row) (a : ℤ) (k : ℕ) (l : List Row) → k < length l → Ascending a (map rangeOf l) → a ≤ℤ getD l k o .low
@@ -312,7 +293,7 @@ module _ (x : Index) where
   unfolding GoodRows lengthTotal
   lengths-within least first taken [] h g = omega arith
   lengths-within least first taken (r ∷ l) h g =
-      omega (arith, lengths-within (r .up) (first + r .runs) (taken + runLengths (runsOf x r)) l (g .0 .total) (g .1))
+      omega (arith, lengths-within (r .up) _ _ l (g .0 .total) (g .1))
 
   runs-within : (l : List Row) → All (GoodRow x) l → (length l ≤ runTotal l) × (runTotal l ≤ lengthTotal x l)
   unfolding All runTotal lengthTotal
@@ -322,32 +303,32 @@ module _ (x : Index) where
   parts : (o : Row) (k : ℕ) (least : ℤ) (first taken : ℕ) (l : List Row) → k < length l → GoodRows x least first taken l → getD l k o .first ≡ first + runTotal (take k l)
   unfolding GoodRows runTotal
   parts o k least first taken [] h g = absurd (omega arith)
-  parts o zero least first taken (r ∷ l) h g = omega (arith, g .0 .begins)
-  parts o (suc k) least first taken (r ∷ l) h g = omega (arith, parts o k (r .up) (first + r .runs) (taken + runLengths (runsOf x r)) l (omega arith) (g .1))
+  parts o zero least first taken (r ∷ l) h g = omega arith
+  parts o (suc k) least first taken (r ∷ l) h g = omega (arith, parts o k (r .up) _ _ l (omega arith) (g .1))
 
   module _ (f : WellFormed x) where
     pub each-row : All (GoodRow x) (x .rows)
-    each-row = each-good lowestEnd 0 0 (x .rows) (f .rows)
+    each-row = each-good lowestEnd 0 0 _ (f .rows)
 
     pub ranges-ascend : Ascending lowestEnd (map rangeOf (x .rows))
     ranges-ascend = rows-ascend lowestEnd 0 0 (x .rows) (f .rows)
 
     pub row-at : (o : Row) (k : ℕ) → k < length (x .rows) → GoodRow x (getD (x .rows) k o)
-    row-at o k h = all-mem (GoodRow x) (x .rows) each-row (mem-at o (x .rows) k h)
+    row-at o k h = all-mem _ _ each-row (mem-at o _ k h)
 
     pub order-at : (o : Row) (i k : ℕ) → i < k → k < length (x .rows) → getD (x .rows) i o .up ≤ℤ getD (x .rows) k o .low
     order-at o i k b h = in-order o lowestEnd i k (x .rows) b h ranges-ascend
 
     -- a row's runs begin where those of the rows before end
     pub first-at : (o : Row) (k : ℕ) → k < length (x .rows) → getD (x .rows) k o .first ≡ runTotal (take k (x .rows))
-    first-at o k h = omega (arith, parts o k lowestEnd 0 0 (x .rows) h (f .rows))
+    first-at o k h = omega (arith, parts o k lowestEnd 0 0 _ h (f .rows))
 
     -- run lengths total at most the windows
     pub lengths-at-most : lengthTotal x (x .rows) ≤ natAbs (x .windows)
-    lengths-at-most = omega (arith, lengths-within lowestEnd 0 0 (x .rows) (omega arith) (f .rows))
+    lengths-at-most = omega (arith, lengths-within lowestEnd 0 0 _ (omega arith) (f .rows))
 
     pub rows-at-most : length (x .rows) ≤ natAbs (x .windows)
-    rows-at-most = omega (arith, runs-within (x .rows) each-row, lengths-at-most)
+    rows-at-most = omega (arith, runs-within _ each-row, lengths-at-most)
 
     pub runs-at-most : runTotal (x .rows) ≤ natAbs (x .windows)
-    runs-at-most = omega (arith, runs-within (x .rows) each-row, lengths-at-most)
+    runs-at-most = omega (arith, runs-within _ each-row, lengths-at-most)

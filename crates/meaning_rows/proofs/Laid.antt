@@ -1,8 +1,8 @@
 -- Rows laid out and read back are the same rows (`rows-back`): each row's part of the run buffer is its runs, and begins where the row before ends (`first-laid`).
 -- There are as many records as rows and as many run entries as runs (`length-records`, `length-allRuns`), and the rows of a well-formed index are laid out as they stand (`laid-again`).
-use Rattle.meaning_numbers.proofs.Prelude.{_≡_, refl, sym, ap, _∙_, subst, List, [], _∷_, _++_, map, append-assoc, ℕ, zero, suc, _+_, _<_, _≤_, arith, ℤ, length, getD, take, drop, length-append, take-append-seam, drop-append-seam, take-add, drop-drop}
+use Rattle.meaning_numbers.proofs.Prelude.{_≡_, refl, sym, ap, _∙_, List, [], _∷_, _++_, map, append-assoc, ℕ, zero, suc, _+_, _<_, _≤_, arith, ℤ, length, getD, take, drop, length-append, take-append-seam, drop-append-seam, take-add, drop-drop}
 use Rattle.meaning_curves.specs.Limits.{lowestEnd}
-use Rattle.meaning_rows.specs.{declared.Row.Row, Judge.runLengths}
+use Rattle.meaning_rows.specs.{declared.Row.Row}
 use Rattle.meaning_rows.specs.Index.{Index, Entry, RangeRow, records, allRuns, laidOut, runsOf, rangeRow, rangeRows}
 use Rattle.meaning_rows.proofs.Judge.{GoodRows, WellFormed, runTotal, length-runsOf}
 
@@ -18,12 +18,12 @@ lays-after b front (r ∷ l) e =
     let rest = allRuns l in
     let longer = length-append front (r .runs) in (
       rw e (omega (arith, length-append front (r .runs ++ rest), length-append (r .runs) rest)),
-      rw (e, drop-append-seam front (r .runs ++ rest)) (take-append-seam (r .runs) rest),
-      subst (λ (k : ℕ). Lays b k l) longer (lays-after b (front ++ r .runs) l (e ∙ sym (append-assoc front (r .runs) rest))),
+      rw (e, drop-append-seam front _) (take-append-seam _ rest),
+      rw longer at (lays-after b (front ++ r .runs) l (e ∙ sym (append-assoc front _ rest))),
     )
 
 pub laid : (l : List RangeRow) → Lays (allRuns l) 0 l
-laid l = lays-after (allRuns l) [] l refl
+laid l = lays-after _ [] l refl
 
 read-back : (x : Index) (k : ℕ) (l : List RangeRow) → Lays (x .runs) k l → map (rangeRow x) (records k l) ≡ l
 unfolding Lays records
@@ -31,12 +31,12 @@ read-back x k [] h = refl
 read-back x k (r ∷ l) h =
     let e = h .1 in
     let first : rangeRow x (record { low = r .low; up = r .up; first = k; runs = length (r .runs) }) ≡ r = λ i. record { low = r .low; up = r .up; runs = e i } in
-    cc (first, read-back x (k + length (r .runs)) l (h .2))
+    cc (first, read-back x _ l (h .2))
 
 pub length-records : (k : ℕ) (l : List RangeRow) → length (records k l) ≡ length l
 unfolding records
 length-records k [] = refl
-length-records k (r ∷ l) = ap suc (length-records (k + length (r .runs)) l)
+length-records k (r ∷ l) = ap suc (length-records _ l)
 
 pub length-allRuns : (k : ℕ) (l : List RangeRow) → length (allRuns l) ≡ runTotal (records k l)
 unfolding records allRuns runTotal
@@ -67,13 +67,13 @@ module _ (x : Index) where
       let e = sym (g .0 .begins) in
       let f = length-runsOf x r (g .0 .row .fits) in
       let same : record { low = r .low; up = r .up; first = first; runs = length (runsOf x r) } ≡ r = λ i. record { low = r .low; up = r .up; first = e i; runs = f i } in
-      cc (same, f, records-again (r .up) (first + r .runs) (taken + runLengths (runsOf x r)) l (g .1))
+      cc (same, f, records-again (r .up) _ _ l (g .1))
 
   runs-again : (least : ℤ) (first taken : ℕ) (l : List Row) → GoodRows x least first taken l → allRuns (map (rangeRow x) l) ≡ take (runTotal l) (drop first (x .runs))
   unfolding GoodRows allRuns runTotal
   runs-again least first taken [] g = refl
   runs-again least first taken (r ∷ l) g =
-      rw (take-add (r .runs) (runTotal l) (drop first (x .runs)), drop-drop (r .runs) first (x .runs), runs-again (r .up) (first + r .runs) (taken + runLengths (runsOf x r)) l (g .1), g .0 .begins)
+      rw (take-add _ _ _, drop-drop _ first _, runs-again (r .up) _ _ l (g .1), g .0 .begins)
 
   pub laid-again : WellFormed x → (records 0 (rangeRows x) ≡ x .rows) × (allRuns (rangeRows x) ≡ take (runTotal (x .rows)) (x .runs))
-  laid-again g = (records-again lowestEnd 0 0 (x .rows) (g .rows), runs-again lowestEnd 0 0 (x .rows) (g .rows))
+  laid-again g = (records-again lowestEnd 0 0 _ (g .rows), runs-again lowestEnd 0 0 _ (g .rows))

@@ -12,7 +12,7 @@ unfolding Σℕ
 
 map-append : (f : Entry → ℕ) (a b : List Entry) → map f (a ++ b) ≡ map f a ++ map f b
 map-append f [] b = refl
-map-append f (x ∷ a) b = ap (λ (l : List ℕ). f x ∷ l) (map-append f a b)
+map-append f (x ∷ a) b = rw (map-append f a b)
 
 -- the rows are made of the entries of a list
 module _ {X : Type 0} (x₀ : X) (G : X → RangeRow) where
@@ -31,11 +31,11 @@ module _ {X : Type 0} (x₀ : X) (G : X → RangeRow) where
       λ j. record { low = G x .low; up = G x .up; first = e j; runs = size x }
   records-at o k (x ∷ t) (suc i) h =
       let e : k + size x + start t i ≡ k + start (x ∷ t) (suc i) = omega (arith, Σℕ-shift i (λ y. size (getD (x ∷ t) y x₀))) in
-      records-at o (k + size x) t i (omega arith) ∙ (λ j. record { low = G (getD t i x₀) .low; up = G (getD t i x₀) .up; first = e j; runs = size (getD t i x₀) })
+      records-at o _ t i (omega arith) ∙ (λ j. record { low = G (getD t i x₀) .low; up = G (getD t i x₀) .up; first = e j; runs = size (getD t i x₀) })
 
   pub runs-total : (t : List X) → length (allRuns (map G t)) ≡ start t (length t)
   unfolding allRuns
-  runs-total [] = sym (Σℕ-none (λ y. size (getD [] y x₀)))
+  runs-total [] = sym (Σℕ-none (λ y. size _))
   runs-total (x ∷ t) = omega (arith, length-append (G x .runs) (allRuns (map G t)), runs-total t, Σℕ-shift (length t) (λ y. size (getD (x ∷ t) y x₀)))
 
   module _ (f : Entry → ℕ) (column : List ℕ) where
@@ -51,12 +51,12 @@ module _ {X : Type 0} (x₀ : X) (G : X → RangeRow) where
         let m = length-map a f in
         rw (map-append f a b) (elim (decLt x (length a)) [
           | yes s ↦ let e : k + x ≡ k + start (y ∷ t) 0 + x = omega (arith, Σℕ-none (λ z. size (getD (y ∷ t) z x₀))) in
-              ap (λ (z : ℕ). getD column z 0) e ∙ h 0 x (omega arith) s ∙ sym (List·getD-append (map f a) (map f b) 0 x (omega (arith, m)))
+              ap (λ (z : ℕ). getD column z 0) e ∙ h 0 x (omega arith) s ∙ sym (List·getD-append (map f a) _ 0 x (omega (arith, m)))
           | no s ↦ let e : k + x ≡ k + size y + (x - size y) = omega arith in
               let q : length (map f a) + (x - size y) ≡ x = omega (arith, m) in
               ap (λ (z : ℕ). getD column z 0) e
-              ∙ column-from (k + size y) t (λ i u p r. let g : k + size y + start t i + u ≡ k + start (y ∷ t) (suc i) + u = omega (arith, Σℕ-shift i (λ z. size (getD (y ∷ t) z x₀))) in ap (λ (z : ℕ). getD column z 0) g ∙ h (suc i) u (omega arith) r) (x - size y) (omega arith)
-              ∙ sym (getD-append-add (map f a) (map f b) (x - size y) 0) ∙ ap (λ (z : ℕ). getD (map f a ++ map f b) z 0) q
+              ∙ column-from _ t (λ i u p r. let g : k + size y + start t i + u ≡ k + start (y ∷ t) (suc i) + u = omega (arith, Σℕ-shift i (λ z. size (getD (y ∷ t) z x₀))) in ap (λ (z : ℕ). getD column z 0) g ∙ h (suc i) u (omega arith) r) (x - size y) (omega arith)
+              ∙ sym (getD-append-add (map f a) (map f b) (x - size y) 0) ∙ rw q
         ])
 
     pub column-at : (t : List X) → ((i u : ℕ) → i < length t → u < size (getD t i x₀) → getD column (start t i + u) 0 ≡ getD (map f (G (getD t i x₀) .runs)) u 0)

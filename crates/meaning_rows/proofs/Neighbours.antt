@@ -26,7 +26,7 @@ module _ (p : ℕ → Bool) where
   unfolding takeIn bit
   lefts-sum false b xs n = omega arith
   lefts-sum true true xs n = rw (lefts-reach xs n) (omega arith)
-  lefts-sum true false xs n = rw (lefts-end xs (n, n)) (sum-end pre (lefts xs) n)
+  lefts-sum true false xs n = rw (lefts-end xs (n, n)) (sum-end pre _ n)
 
   starts-sum : (q : ℕ → Bool) (n : ℕ) → sumOver pre (lefts (runs q n)) ≡ count (λ j. begins q j && before p j) n
   unfolding runs lefts sumOver count begins
@@ -55,7 +55,7 @@ module _ (p : ℕ → Bool) where
   ends-sum : (q : ℕ → Bool) (n : ℕ) → sumOver post (rights (runs q n)) ≡ count (ends q) n + bit (before q n && p n)
   unfolding runs rights sumOver count ends before bit
   ends-sum q zero = refl
-  ends-sum q (suc n) = rights-sum (q n) (before q n) (runs q n) n (count (ends q) n) (runs-next q n) (ends-sum q n)
+  ends-sum q (suc n) = rights-sum (q n) _ _ n _ (runs-next q n) (ends-sum q n)
 
 -- ---- together
 
@@ -79,7 +79,7 @@ count-split : (p q : ℕ → Bool) (n : ℕ) → ((j : ℕ) → j < n → (p j &
 unfolding count crosses begins ends
 count-split p q zero h = refl
 count-split p q (suc n) h =
-    omega (arith, count-split p q n (λ j l. h j (le-step l)), one-point (p n) (q n) (before p n) (before q n) (h n (omega arith)) (before-apart p q n h))
+    omega (arith, count-split p q n (λ j l. h j (le-step l)), one-point (p n) (q n) (before p n) _ (h n (omega arith)) (before-apart p q n h))
 
 -- the touching neighbours of p and q are those before and after the runs of q that stand in p. (What stands at W is no window: where p does not hold there, the last term is 0.)
 pub neighbours : (p q : ℕ → Bool) (W : ℕ) → ((j : ℕ) → j < W → (p j && q j) ≡ false)

@@ -1,6 +1,6 @@
 -- All rows filled in one pass, in series order: row i has the part of the run buffer from first i on. A run is one run more of its row (`run-runs`), and none of another (`stay-runs`). Over plain variables.
 use Rattle.meaning_numbers.specs.Sum.{bit}
-use Rattle.meaning_numbers.proofs.Prelude.{_≡_, refl, ap, Bool, true, false, not, _&&_, List, [], _∷_, _++_, ℕ, zero, suc, _+_, _<_, _≤_, arith, getD}
+use Rattle.meaning_numbers.proofs.Prelude.{_≡_, refl, Bool, true, false, not, _&&_, List, [], _∷_, _++_, ℕ, zero, suc, _+_, _<_, _≤_, arith, getD}
 use Rattle.meaning_rows.specs.Runs.{before, reach, takeIn, runs, runCount}
 use Rattle.meaning_rows.proofs.{Runs.runs-more, Runs.runCount-more, Runs.before-more, Columns.lefts, Columns.rights, Columns.runCount-none}
 
@@ -33,7 +33,7 @@ run-count p from zero e h =
     omega (arith, runCount-more p from, s)
 run-count p from (suc d) e h =
     let q : from + suc (suc d) ≡ (from + suc d) + 1 = omega arith in
-    let b : before p (from + suc d) ≡ true = let w : from + suc d ≡ (from + d) + 1 = omega arith in rw (w, before-more p (from + d)) (h (from + d) (omega arith) (omega arith)) in
+    let b : before p (from + suc d) ≡ true = let w : from + suc d ≡ (from + d) + 1 = omega arith in rw (w, before-more p _) (h _ (omega arith) (omega arith)) in
     let s : bit (p (from + suc d) && not (before p (from + suc d))) ≡ 0 = rw (h (from + suc d) (omega arith) (omega arith), b) in
     rw q (omega (arith, runCount-more p (from + suc d), s, run-count p from d e (λ j a l. h j a (omega arith))))
 
@@ -41,7 +41,7 @@ reach-end : (l : List (ℕ × ℕ)) (x : ℕ × ℕ) (n : ℕ) → reach (l ++ (
 unfolding reach
 reach-end [] x n = refl
 reach-end (y ∷ []) x n = refl
-reach-end (y ∷ z ∷ l) x n = ap (λ (k : List (ℕ × ℕ)). y ∷ k) (reach-end (z ∷ l) x n)
+reach-end (y ∷ z ∷ l) x n = rw (reach-end (z ∷ l) x n)
 
 pub run-runs : (p : ℕ → Bool) (from d : ℕ) → before p from ≡ false → ((j : ℕ) → from ≤ j → j < from + suc d → p j ≡ true) → runs p (from + suc d) ≡ runs p from ++ ((from, from + d) ∷ [])
 unfolding takeIn
@@ -51,8 +51,8 @@ run-runs p from zero e h =
     rw (q, z, runs-more p from, h from (omega arith) (omega arith), e)
 run-runs p from (suc d) e h =
     let q : from + suc (suc d) ≡ (from + suc d) + 1 = omega arith in
-    let b : before p (from + suc d) ≡ true = let w : from + suc d ≡ (from + d) + 1 = omega arith in rw (w, before-more p (from + d)) (h (from + d) (omega arith) (omega arith)) in
-    rw (q, runs-more p (from + suc d), h (from + suc d) (omega arith) (omega arith), b, run-runs p from d e (λ j a l. h j a (omega arith))) (reach-end (runs p from) (from, from + d) (from + suc d))
+    let b : before p (from + suc d) ≡ true = let w : from + suc d ≡ (from + d) + 1 = omega arith in rw (w, before-more p _) (h _ (omega arith) (omega arith)) in
+    rw (q, runs-more p _, h (from + suc d) (omega arith) (omega arith), b, run-runs p from d e (λ j a l. h j a (omega arith))) (reach-end (runs p from) (from, from + d) (from + suc d))
 
 -- and where no window stands in a row, its runs stay
 pub stay-runs : (p : ℕ → Bool) (from d : ℕ) → ((j : ℕ) → from ≤ j → j < from + d → p j ≡ false) → runs p (from + d) ≡ runs p from
@@ -60,4 +60,4 @@ unfolding takeIn
 stay-runs p from zero h = let e : from + 0 ≡ from = omega arith in rw e
 stay-runs p from (suc d) h =
     let e : from + suc d ≡ (from + d) + 1 = omega arith in
-    rw (e, runs-more p (from + d), h (from + d) (omega arith) (omega arith)) (stay-runs p from d (λ j a l. h j a (omega arith)))
+    rw (e, runs-more p _, h (from + d) (omega arith) (omega arith)) (stay-runs p from d (λ j a l. h j a (omega arith)))

@@ -1,7 +1,7 @@
 -- Runs of a set, given as a test: they have exactly its members (`runs-hold`), ascend and do not touch (`runs-apart`), and are as many as its members whose offset before is none (`runs-are`).
--- The runs of a union are those of both less the places where the two touch (`runs-of-union`). Each is an induction on the number of offsets, one offset taken in at a time.
+-- Each is an induction on the number of offsets, one offset taken in at a time.
 use Rattle.meaning_numbers.specs.{Sum.bit, Sum.count, Place.any}
-use Rattle.meaning_numbers.proofs.Count.{bit-or, count-cong, count-le, count-mono, count-add, count-shift, count-never}
+use Rattle.meaning_numbers.proofs.Count.{bit-or, count-le, count-mono, count-add, count-never}
 use Rattle.meaning_numbers.proofs.Prelude.{_≡_, refl, sym, ap, _∙_, Bool, true, false, not, _&&_, _||_, and-true, and-false, or-false, or-assoc, false≢true, List, [], _∷_, _++_, map, ℕ, zero, suc, _+_, _-_, _<_, _≤_, min, arith, add-one, le-step, decLe, leb, ltb, eqb, length, length-append, leb-true, leb-false, ltb-true, ltb-false, eqb-true, eqb-false, lt-ltb, le-ltb, le-leb, lt-leb, ne-eqb, by-test, both, clash}
 use Rattle.meaning_rows.specs.{Runs.before, Runs.reach, Runs.takeIn, Runs.runs, Runs.runCount, Index.inRun, Build.entry, Judge.runLengths}
 
@@ -26,7 +26,7 @@ length-takeIn true true l n = omega (arith, length-reach l n)
 pub runs-are : (p : ℕ → Bool) (n : ℕ) → runCount p n ≡ count (begins p) n
 unfolding runs count begins
 runs-are p zero = refl
-runs-are p (suc n) = length-takeIn (p n) (before p n) (runs p n) n ∙ ap (λ (k : ℕ). k + bit (p n && not (before p n))) (runs-are p n)
+runs-are p (suc n) = length-takeIn (p n) _ _ n ∙ rw (runs-are p n)
 
 pub before-cong : (p q : ℕ → Bool) (n : ℕ) → ((j : ℕ) → j < n → p j ≡ q j) → before p n ≡ before q n
 unfolding before
@@ -46,7 +46,7 @@ low-bit false b = omega arith
 
 pub runs-le-count : (p : ℕ → Bool) (n : ℕ) → runCount p n ≤ count p n
 unfolding begins
-runs-le-count p n = rw (runs-are p n) (count-mono (begins p) p n (λ j _. low-bit (p j) (before p j)))
+runs-le-count p n = rw (runs-are p n) (count-mono _ p n (λ j _. low-bit (p j) (before p j)))
 
 pub runs-le : (p : ℕ → Bool) (n : ℕ) → runCount p n ≤ n
 runs-le p n = omega (arith, runs-le-count p n, count-le p n)
@@ -62,7 +62,7 @@ unfolding runs
 runs-more p n = rw (add-one n)
 
 pub runCount-more : (p : ℕ → Bool) (n : ℕ) → runCount p (n + 1) ≡ runCount p n + bit (p n && not (before p n))
-runCount-more p n = rw (runs-more p n) (length-takeIn (p n) (before p n) (runs p n) n)
+runCount-more p n = rw (runs-more p n) (length-takeIn (p n) _ _ n)
 
 pub before-none : (p : ℕ → Bool) → before p 0 ≡ false
 unfolding before
@@ -80,10 +80,6 @@ either p q j = p j || q j
 -- j and the offset before it stand in different ones of the two sets
 unfoldable pub crosses : (ℕ → Bool) → (ℕ → Bool) → ℕ → Bool
 crosses p q j = (before p j && q j) || (before q j && p j)
-
--- the same by the lower of the two neighbours
-unfoldable pub touches : (ℕ → Bool) → (ℕ → Bool) → ℕ → Bool
-touches p q j = (p j && q (suc j)) || (q j && p (suc j))
 
 at-one : (a b c d : Bool) → (a && b) ≡ false → (c && d) ≡ false
     → bit ((a || b) && not (c || d)) + bit ((c && b) || (d && a)) ≡ bit (a && not c) + bit (b && not d)
@@ -120,25 +116,8 @@ at-j p q j h = rw (before-either p q j) (at-one (p j) (q j) (before p j) (before
 pub runs-union : (p q : ℕ → Bool) (n : ℕ) → ((j : ℕ) → j < n → (p j && q j) ≡ false)
     → runCount (either p q) n + count (crosses p q) n ≡ runCount p n + runCount q n
 runs-union p q n h =
-    rw (runs-are (either p q) n, runs-are p n, runs-are q n)
-    (count-add (begins (either p q)) (crosses p q) (begins p) (begins q) n (λ j l. at-j p q j (λ i k. h i (omega arith))))
-
-crosses-zero : (p q : ℕ → Bool) → bit (crosses p q 0) ≡ 0
-unfolding crosses before bit
-crosses-zero p q = refl
-
-crosses-suc : (p q : ℕ → Bool) (j : ℕ) → crosses p q (suc j) ≡ touches p q j
-unfolding crosses touches before
-crosses-suc p q j = refl
-
--- by neighbours j, j + 1 with j + 1 < n
-pub crosses-are : (p q : ℕ → Bool) (n : ℕ) → count (crosses p q) (suc n) ≡ count (touches p q) n
-crosses-are p q n =
-    omega (arith, count-shift (crosses p q) n, crosses-zero p q, count-cong (λ j. crosses p q (suc j)) (touches p q) n (λ j _. crosses-suc p q j))
-
-pub runs-of-union : (p q : ℕ → Bool) (n : ℕ) → ((j : ℕ) → j < suc n → (p j && q j) ≡ false)
-    → runCount (either p q) (suc n) ≡ runCount p (suc n) + runCount q (suc n) - count (touches p q) n
-runs-of-union p q n h = omega (arith, runs-union p q (suc n) h, crosses-are p q n)
+    rw (runs-are _ n, runs-are p n, runs-are q n)
+    (count-add _ _ _ _ n (λ j l. at-j p q j (λ i k. h i (omega arith))))
 
 -- ---- ascending, not touching
 
@@ -166,7 +145,7 @@ open-next b (x ∷ y ∷ l) n h = open-next b (y ∷ l) n h
 open-apart : (n a : ℕ) (l : List (ℕ × ℕ)) → Apart n a l → Apart (suc n) a l
 unfolding Apart
 open-apart n a [] h = tt
-open-apart n a (x ∷ l) h = (h .0, h .1, omega arith, open-apart n (x .1 + 2) l (h .3))
+open-apart n a (x ∷ l) h = (h .0, h .1, omega arith, open-apart n _ l (h .3))
 
 reach-next : (l : List (ℕ × ℕ)) (n : ℕ) → Next true l n → Next true (reach l n) (suc n)
 unfolding Next reach
@@ -179,7 +158,7 @@ reach-apart : (n a : ℕ) (l : List (ℕ × ℕ)) → Apart n a l → Next true 
 unfolding Apart Next reach
 reach-apart n a [] p h = tt
 reach-apart n a (x ∷ []) p h = (p .0, omega arith, omega arith, tt)
-reach-apart n a (x ∷ y ∷ l) p h = (p .0, p .1, omega arith, reach-apart n (x .1 + 2) (y ∷ l) (p .3) h)
+reach-apart n a (x ∷ y ∷ l) p h = (p .0, p .1, omega arith, reach-apart n _ (y ∷ l) (p .3) h)
 
 end-next : (l : List (ℕ × ℕ)) (n : ℕ) → Next true (l ++ ((n, n) ∷ [])) (suc n)
 unfolding Next
@@ -191,7 +170,7 @@ end-apart : (n a : ℕ) (l : List (ℕ × ℕ)) → a ≤ n → Apart n a l → 
 unfolding Apart Next
 end-apart n a [] b p h = (b, omega arith, omega arith, tt)
 end-apart n a (x ∷ []) b p h = (p .0, p .1, omega arith, (omega arith, omega arith, omega arith, tt))
-end-apart n a (x ∷ y ∷ l) b p h = (p .0, p .1, omega arith, end-apart n (x .1 + 2) (y ∷ l) (omega (arith, p .3 .0, p .3 .1, p .3 .2)) (p .3) h)
+end-apart n a (x ∷ y ∷ l) b p h = (p .0, p .1, omega arith, end-apart n _ (y ∷ l) (omega arith) (p .3) h)
 
 takeIn-apart : (a b : Bool) (l : List (ℕ × ℕ)) (n : ℕ) → Apart n 0 l → Next b l n → Apart (suc n) 0 (takeIn a b l n) × Next a (takeIn a b l n) (suc n)
 unfolding takeIn
@@ -202,7 +181,7 @@ takeIn-apart true false l n p h = (end-apart n 0 l (omega arith) p h, end-next l
 apart-next : (p : ℕ → Bool) (n : ℕ) → Apart n 0 (runs p n) × Next (before p n) (runs p n) n
 unfolding runs before Apart Next
 apart-next p zero = (tt, tt)
-apart-next p (suc n) = let h = apart-next p n in takeIn-apart (p n) (before p n) (runs p n) n (h .0) (h .1)
+apart-next p (suc n) = let h = apart-next p n in takeIn-apart (p n) _ _ n (h .0) (h .1)
 
 pub runs-apart : (p : ℕ → Bool) (n : ℕ) → Apart n 0 (runs p n)
 runs-apart p n = apart-next p n .0
@@ -219,7 +198,7 @@ next-some true (x ∷ l) n h = omega arith
 next-some false (x ∷ l) n h = omega arith
 
 pub before-some : (p : ℕ → Bool) (n : ℕ) → bit (before p n) ≤ runCount p n
-before-some p n = next-some (before p n) (runs p n) n (runs-next p n)
+before-some p n = next-some _ _ n (runs-next p n)
 
 -- ---- members
 
@@ -236,28 +215,28 @@ entries-hold (x ∷ l) j = rw (entries-hold l j)
 
 in-reach : (l r n j : ℕ) → l ≤ r → r + 1 ≡ n → (leb l j && leb j n) ≡ ((leb l j && leb j r) || eqb j n)
 in-reach l r n j h e =
-    by-test (leb j r) (λ t. rw (t, le-leb j n (omega (arith, leb-true j r t)), ne-eqb j n (λ q. omega (arith, leb-true j r t))) (sym (or-false (leb l j && true))))
-    (λ f. by-test (eqb j n) (λ t. rw (f, t, le-leb j n (omega (arith, eqb-true j n t)), le-leb l j (omega (arith, eqb-true j n t))))
-    (λ g. let d : (j ≡ n) → ⊥ = eqb-false j n g in rw (f, g, lt-leb j n (omega (arith, leb-false j r f, d))) (sym (or-false (leb l j && false)))))
+    by-test _ (λ t. rw (t, le-leb j n (omega (arith, leb-true j r t)), ne-eqb j n (λ q. omega (arith, leb-true j r t))) (sym (or-false _)))
+    (λ f. by-test _ (λ t. rw (f, t, le-leb j n (omega (arith, eqb-true j n t)), le-leb l j (omega (arith, eqb-true j n t))))
+    (λ g. let d = eqb-false j n g in rw (f, g, lt-leb j n (omega (arith, leb-false j r f, d))) (sym (or-false _))))
 
 held-reach : (n a : ℕ) (l : List (ℕ × ℕ)) (j : ℕ) → Apart n a l → Next true l n → held (reach l n) j ≡ (held l j || eqb j n)
 unfolding held reach Next Apart
 held-reach n a [] j p h = absurd h
 held-reach n a (x ∷ []) j p h = rw (in-reach (x .0) (x .1) n j (p .1) h) (simp or-false)
-held-reach n a (x ∷ y ∷ l) j p h = rw (held-reach n (x .1 + 2) (y ∷ l) j (p .3) h) (sym (or-assoc (leb (x .0) j && leb j (x .1)) (held (y ∷ l) j) (eqb j n)))
+held-reach n a (x ∷ y ∷ l) j p h = rw (held-reach n _ (y ∷ l) j (p .3) h) (sym (or-assoc (leb (x .0) j && leb j (x .1)) (held (y ∷ l) j) (eqb j n)))
 
 point : (n j : ℕ) → (leb n j && leb j n) ≡ eqb j n
-point n j = by-test (eqb j n) (λ t. rw (t, le-leb n j (omega (arith, eqb-true j n t)), le-leb j n (omega (arith, eqb-true j n t))))
-    (λ f. let d : (j ≡ n) → ⊥ = eqb-false j n f in by-test (leb n j) (λ t. rw (f, t, lt-leb j n (omega (arith, leb-true n j t, d)))) (λ g. rw (f, g)))
+point n j = by-test _ (λ t. rw (t, le-leb n j (omega (arith, eqb-true j n t)), le-leb j n (omega (arith, eqb-true j n t))))
+    (λ f. let d = eqb-false j n f in by-test _ (λ t. rw (f, t, lt-leb j n (omega (arith, leb-true n j t, d)))) (λ g. rw (f, g)))
 
 held-end : (l : List (ℕ × ℕ)) (n j : ℕ) → held (l ++ ((n, n) ∷ [])) j ≡ (held l j || eqb j n)
 unfolding held
-held-end [] n j = rw (point n j) (or-false (eqb j n))
+held-end [] n j = rw (point n j) (or-false _)
 held-end (x ∷ l) n j = rw (held-end l n j) (sym (or-assoc (leb (x .0) j && leb j (x .1)) (held l j) (eqb j n)))
 
 held-takeIn : (a b : Bool) (l : List (ℕ × ℕ)) (n j : ℕ) → Apart n 0 l → Next b l n → held (takeIn a b l n) j ≡ (held l j || (a && eqb j n))
 unfolding takeIn
-held-takeIn false b l n j p h = sym (or-false (held l j))
+held-takeIn false b l n j p h = sym (or-false _)
 held-takeIn true false l n j p h = held-end l n j
 held-takeIn true true l n j p h = held-reach n 0 l j p h
 
@@ -266,18 +245,18 @@ or-none a b = rw (and-false b) (or-false a)
 
 one-more : (p : ℕ → Bool) (n j : ℕ) → ((ltb j n && p j) || (p n && eqb j n)) ≡ (ltb j (suc n) && p j)
 one-more p n j =
-    by-test (eqb j n)
+    by-test _
     (λ t. rw (t, eqb-true j n t, le-ltb n n (omega arith), lt-ltb n (suc n) (omega arith)) (and-true (p n)))
-    (λ f. let d : (j ≡ n) → ⊥ = eqb-false j n f in by-test (ltb j n) (λ t. rw (f, t, lt-ltb j (suc n) (omega (arith, ltb-true j n t))) (or-none (p j) (p n)))
+    (λ f. let d = eqb-false j n f in by-test _ (λ t. rw (f, t, lt-ltb j (suc n) (omega (arith, ltb-true j n t))) (or-none (p j) (p n)))
     (λ g. rw (f, g, le-ltb j (suc n) (omega (arith, ltb-false j n g, d))) (and-false (p n))))
 
 pub runs-hold : (p : ℕ → Bool) (n j : ℕ) → held (runs p n) j ≡ (ltb j n && p j)
 unfolding runs held
 runs-hold p zero j = rw (le-ltb j 0 (omega arith))
-runs-hold p (suc n) j = held-takeIn (p n) (before p n) (runs p n) n j (runs-apart p n) (runs-next p n) ∙ rw (runs-hold p n j) (one-more p n j)
+runs-hold p (suc n) j = held-takeIn (p n) _ _ n j (runs-apart p n) (runs-next p n) ∙ rw (runs-hold p n j) (one-more p n j)
 
 pub entries-of-runs : (p : ℕ → Bool) (n j : ℕ) → any (inRun j) (map entry (runs p n)) ≡ (ltb j n && p j)
-entries-of-runs p n j = entries-hold (runs p n) j ∙ runs-hold p n j
+entries-of-runs p n j = entries-hold _ j ∙ runs-hold p n j
 
 -- ---- runs are told by their members
 
@@ -287,17 +266,17 @@ in-run x l j a b = rw (le-leb (x .0) j a, le-leb j (x .1) b)
 
 past-run : (x : ℕ × ℕ) (l : List (ℕ × ℕ)) (j : ℕ) → x .1 < j → held (x ∷ l) j ≡ held l j
 unfolding held
-past-run x l j b = rw (lt-leb j (x .1) b, and-false (leb (x .0) j))
+past-run x l j b = rw (lt-leb j (x .1) b, and-false _)
 
 pub held-in : (n a : ℕ) (l : List (ℕ × ℕ)) (j : ℕ) → Apart n a l → held l j ≡ true → (a ≤ j) × (j < n)
 unfolding Apart held
 held-in n a [] j p h = absurd (false≢true h)
-held-in n a (x ∷ l) j p h = by-test (leb (x .0) j && leb j (x .1))
-    (λ t. let b = both (leb (x .0) j) (leb j (x .1)) t in let c = leb-true (x .0) j (b .0) in let e = leb-true j (x .1) (b .1) in (omega arith, omega arith))
-    (λ f. let r = held-in n (x .1 + 2) l j (p .3) (rw f at h) in (omega arith, r .1))
+held-in n a (x ∷ l) j p h = by-test _
+    (λ t. let b = both _ _ t in let c = leb-true (x .0) j (b .0) in let e = leb-true j (x .1) (b .1) in (omega arith, omega arith))
+    (λ f. let r = held-in n _ l j (p .3) (rw f at h) in (omega arith, r .1))
 
 not-held : (n a : ℕ) (l : List (ℕ × ℕ)) (j : ℕ) → Apart n a l → (a ≤ j → j < n → ⊥) → held l j ≡ false
-not-held n a l j p f = by-test (held l j) (λ t. let r = held-in n a l j p t in absurd (f (r .0) (r .1))) (λ g. g)
+not-held n a l j p f = by-test _ (λ t. let r = held-in n a l j p t in absurd (f (r .0) (r .1))) (λ g. g)
 
 no-less : (n a b : ℕ) (x y : ℕ × ℕ) (l m : List (ℕ × ℕ)) → Apart n a (x ∷ l) → Apart n b (y ∷ m) → ((j : ℕ) → held (x ∷ l) j ≡ held (y ∷ m) j) → (y .0 ≤ x .0) × (x .0 ≡ y .0 → y .1 ≤ x .1)
 unfolding Apart
@@ -305,8 +284,8 @@ no-less n a b x y l m p q h = (
   held-in n (y .0) (y ∷ m) (x .0) (omega arith, q .1, q .2, q .3) (sym (h (x .0)) ∙ in-run x l (x .0) (omega arith) (p .1)) .0,
   λ e. elim (decLe (y .1) (x .1)) [
     | yes g ↦ g
-    | no f ↦ clash (h (x .1 + 1) ∙ in-run y m (x .1 + 1) (omega arith) (omega arith))
-        (past-run x l (x .1 + 1) (omega arith) ∙ not-held n (x .1 + 2) l (x .1 + 1) (p .3) (λ c d. omega arith))
+    | no f ↦ clash (h _ ∙ in-run y m _ (omega arith) (omega arith))
+        (past-run x l _ (omega arith) ∙ not-held n _ l (x .1 + 1) (p .3) (λ c d. omega arith))
   ],
 )
 
@@ -325,17 +304,17 @@ apart-unique n a b (x ∷ l) (y ∷ m) p q h =
     let same : x ≡ y = λ i. (e i, s i) in
     cc (
       same,
-      apart-unique n (x .1 + 2) (y .1 + 2) l m (p .3) (q .3)
+      apart-unique n _ _ l m (p .3) (q .3)
           (λ j. elim (decLe (x .1 + 2) j) [
             | yes k ↦ sym (past-run x l j (omega arith)) ∙ h j ∙ past-run y m j (omega arith)
-            | no k ↦ not-held n (x .1 + 2) l j (p .3) (λ u v. omega arith) ∙ sym (not-held n (y .1 + 2) m j (q .3) (λ u v. omega arith))
+            | no k ↦ not-held n _ l j (p .3) (λ u v. omega arith) ∙ sym (not-held n _ m j (q .3) (λ u v. omega arith))
           ]),
     )
 
 -- runs that are apart are the runs of their members
 pub apart-runs : (n a : ℕ) (l : List (ℕ × ℕ)) → Apart n a l → runs (held l) n ≡ l
-apart-runs n a l p = apart-unique n 0 a (runs (held l) n) l (runs-apart (held l) n) p
-    (λ j. runs-hold (held l) n j ∙ by-test (held l j) (λ t. rw (t, lt-ltb j n (held-in n a l j p t .1))) (λ f. rw f (and-false (ltb j n))))
+apart-runs n a l p = apart-unique n 0 a _ l (runs-apart _ n) p
+    (λ j. runs-hold _ n j ∙ by-test _ (λ t. rw (t, lt-ltb j n (held-in n a l j p t .1))) (λ f. rw f (and-false (ltb j n))))
 
 -- ---- and have as many members as their lengths add up to
 
@@ -351,19 +330,19 @@ count-range l r (suc n) = by-test (leb l n)
 -- of the first run and the rest, at most one has j
 first-or-rest : (n a : ℕ) (x : ℕ × ℕ) (l : List (ℕ × ℕ)) (j : ℕ) → Apart n a (x ∷ l) → ((leb (x .0) j && leb j (x .1)) && held l j) ≡ false
 unfolding Apart
-first-or-rest n a x l j p = by-test (held l j)
-    (λ t. let b = held-in n (x .1 + 2) l j (p .3) t .0 in rw (lt-leb j (x .1) (omega arith), and-false (leb (x .0) j)))
+first-or-rest n a x l j p = by-test _
+    (λ t. let b = held-in n _ l j (p .3) t .0 in rw (lt-leb j (x .1) (omega arith), and-false _))
     (λ f. rw f (and-false (leb (x .0) j && leb j (x .1))))
 
 pub lengths-count : (n a : ℕ) (l : List (ℕ × ℕ)) → Apart n a l → runLengths (map entry l) ≡ count (held l) n
 unfolding Apart runLengths held bit
-lengths-count n a [] p = sym (count-never (held []) n (λ j b. refl))
+lengths-count n a [] p = sym (count-never _ n (λ j b. refl))
 lengths-count n a (x ∷ l) p =
     let first : ℕ → Bool = λ j. leb (x .0) j && leb j (x .1) in
     omega (
       arith,
-      lengths-count n (x .1 + 2) l (p .3),
+      lengths-count n _ l (p .3),
       count-range (x .0) (x .1) n,
       count-never (λ j. false) n (λ j b. refl),
-      count-add (held (x ∷ l)) (λ j. false) first (held l) n (λ j b. omega (arith, bit-or (first j) (held l j) (first-or-rest n a x l j p))),
+      count-add (held (x ∷ l)) (λ j. false) first (held l) n (λ j b. omega (arith, bit-or (first j) _ (first-or-rest n a x l j p))),
     )

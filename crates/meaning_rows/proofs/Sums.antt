@@ -2,7 +2,7 @@
 -- The windows of a series and of a part from its start have the same sums (`sum-of-part`).
 use Rattle.meaning_numbers.specs.Order.{within}
 use Rattle.meaning_numbers.proofs.{Sum.rep-Σ-self, Sum.Σℕ-le, Sum.Σℤ-same, Member.mem-at, Member.place-none}
-use Rattle.meaning_numbers.proofs.Prelude.{_≡_, true, not, List, none, ℕ, _+_, _*_, _<_, _≤_, arith, decLt, ℤ, pos, negsuc, negℤ, _+ℤ_, length, getD, take, List·getD-eq-default, getD-take, _≤ℤ_, _<ℤ_, leZ, not-false, up, dn, rep-pos, rep-neg, rep-le, zarith, z-add, z-neg, leZ-true, both, of-both}
+use Rattle.meaning_numbers.proofs.Prelude.{_≡_, true, not, List, none, ℕ, _+_, _*_, _<_, _≤_, arith, decLt, ℤ, pos, negsuc, negℤ, _+ℤ_, length, getD, take, List·getD-eq-default, getD-take, _≤ℤ_, _<ℤ_, not-false, up, dn, rep-pos, rep-neg, rep-le, zarith, z-neg, leZ-true, both, of-both}
 use Rattle.meaning_curves.specs.{Limits.valueIn, Limits.endIn, Limits.lowestEnd, Limits.firstOutside, Curve.stretch, Curve.windowSum}
 use Rattle.meaning_rows.specs.Range.{rowNumber, lowOf, upOf}
 use Rattle.meaning_rows.proofs.{Range.le-leZ, Range.row-below, Range.row-above, Range.up-is, Range.multiple-of, Judge.GoodEnd}
@@ -11,16 +11,16 @@ use Rattle.meaning_rows.proofs.{Range.le-leZ, Range.row-below, Range.ro
 pub value-in : (s : List ℤ) → firstOutside s ≡ none → (k : ℕ) → valueIn (getD s k (pos 0)) ≡ true
 unfolding firstOutside within
 value-in s e k = elim (decLt k (length s)) [
-  | yes h ↦ not-false (valueIn (getD s k (pos 0))) (place-none 0 (λ x. not (valueIn x)) s e (getD s k (pos 0)) (mem-at (pos 0) s k h))
+  | yes h ↦ not-false _ (place-none 0 (λ x. not (valueIn x)) s e _ (mem-at (pos 0) s k h))
   | no f ↦ let h : length s ≤ k = omega arith in rw (List·getD-eq-default s (pos 0) h)
 ]
 
 value-limits : (x : ℤ) → valueIn x ≡ true → (up x ≤ 10000) × (dn x ≤ 10000)
 unfolding within
 value-limits x e =
-    let b = both (leZ (negsuc 9999) x) (leZ x (pos 10000)) e in
-    let lo : negsuc 9999 ≤ℤ x = leZ-true (b .0) in
-    let hi : x ≤ℤ pos 10000 = leZ-true (b .1) in
+    let b = both _ _ e in
+    let lo = leZ-true (b .0) in
+    let hi = leZ-true (b .1) in
     sizes x lo hi
   where
     sizes : (z : ℤ) → negsuc 9999 ≤ℤ z → z ≤ℤ pos 10000 → (up z ≤ 10000) × (dn z ≤ 10000)
@@ -33,7 +33,7 @@ sum-limits s w j e =
     let f = stretch s j in
     let a = Σℕ-le w 10000 (λ k. up (f k)) (λ k b. value-limits (f k) (value-in s e (j + k)) .0) in
     let b = Σℕ-le w 10000 (λ k. dn (f k)) (λ k b. value-limits (f k) (value-in s e (j + k)) .1) in
-    (rep-le (rep-neg (rep-pos (10000 * w))) (rep-Σ-self w f) (omega arith), rep-le (rep-Σ-self w f) (rep-pos (10000 * w)) (omega arith))
+    (rep-le (rep-neg (rep-pos (10000 * w))) (rep-Σ-self w f) (omega arith), rep-le (rep-Σ-self w f) (rep-pos _) (omega arith))
 
 end-in : (z : ℤ) → lowestEnd ≤ℤ z → z ≤ℤ pos 4000000 → endIn z ≡ true
 unfolding within
@@ -46,17 +46,14 @@ ends-good s w d j e small one most =
     let z = windowSum s w j in
     let k = rowNumber d z in
     let l = sum-limits s w j e in
-    let lo : negℤ (pos (10000 * w)) ≤ℤ z = l .0 in
-    let hi : z ≤ℤ pos (10000 * w) = l .1 in
     let a : lowOf d k ≤ℤ z = row-below d z one in
     let b : z <ℤ upOf d k = row-above d z one in
     let c = up-is d k in
-    let n = z-neg (pos (10000 * w)) in
-    let m = z-add (lowOf d k) (pos d) in (
-      record { divides = multiple-of d k; limited = end-in (lowOf d k) (omega zarith) (omega zarith) },
-      record { divides = multiple-of d (k +ℤ pos 1); limited = end-in (upOf d k) (omega zarith) (omega zarith) },
+    let n = z-neg (pos (10000 * w)) in (
+      record { divides = multiple-of d k; limited = end-in _ (omega zarith) (omega zarith) },
+      record { divides = multiple-of d (k +ℤ pos 1); limited = end-in _ (omega zarith) (omega zarith) },
     )
 
 pub sum-of-part : (s : List ℤ) (m w j : ℕ) → j + w ≤ m → windowSum (take m s) w j ≡ windowSum s w j
 unfolding windowSum
-sum-of-part s m w j h = Σℤ-same w (stretch (take m s) j) (stretch s j) (λ k b. let l : j + k < m = omega arith in getD-take m s (j + k) (pos 0) l)
+sum-of-part s m w j h = Σℤ-same w _ _ (λ k b. let l : j + k < m = omega arith in getD-take m s (j + k) (pos 0) l)

@@ -73,7 +73,7 @@ pub holders-below : (a z : ℤ) (l : List Range) → Ascending a l → z <ℤ a 
 unfolding Ascending holders bit
 holders-below a z [] p h = refl
 holders-below a z (r ∷ l) p h =
-    let b = p .0 in let c = p .1 in let e : z <ℤ r .0 = omega zarith in
+    let e : z <ℤ r .0 = omega zarith in
     rw (inside-below (r .0) (r .1) z e) (omega (arith, holders-below (r .1) z l (p .2) (omega zarith)))
 
 pub holders-are : (a z : ℤ) (l : List Range) → Ascending a l → holders l z ≡ bit (any (holds z) l)

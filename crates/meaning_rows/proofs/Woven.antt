@@ -6,7 +6,7 @@ use Rattle.meaning_numbers.proofs.Prelude.{_≡_, refl, sym, ap, _∙_, subst, 
 use Rattle.meaning_curves.specs.{Limits.lowestEnd, Curve.windowSum, Curve.windowCount}
 use Rattle.meaning_rows.specs.{declared.Row.Row, Range.rowNumber, Range.lowOf, Range.upOf, Range.inside, Runs.runs, Index.Index, Index.RangeRow, Build.SetRow, Build.rowNumbers, Build.rowAt, Build.entry, Build.withRuns}
 use Rattle.meaning_rows.specs.Extend.{grown, newNumbers, added, insertRow, insertRows, extendedRows, extended}
-use Rattle.meaning_rows.proofs.{Range.inside-yes, Range.is-inside, Range.inside-below, Range.widen, Range.next-le, Range.row-below, Range.multiple-is, Runs.runs-cong, Times.Range, Times.holds, Times.Ascending, Judge.GoodEnd, Judge.GoodRow, Judge.WellFormed, Judge.rangeOf, Judge.each-row, Laid.length-records}
+use Rattle.meaning_rows.proofs.{Range.inside-yes, Range.is-inside, Range.inside-below, Range.widen, Range.next-le, Range.row-below, Range.multiple-is, Runs.runs-cong, Times.Range, Times.holds, Times.Ascending, Judge.GoodEnd, Judge.WellFormed, Judge.rangeOf, Judge.each-row, Laid.length-records}
 use Rattle.meaning_rows.proofs.Build.{range, Above, Sorted, mem-above, sorted-unique, numbers-sorted, numbers-mem, numbers-occur}
 use Rattle.meaning_rows.proofs.Extend.{Extendable, rows, ascends, covers-new, extended-most, new-sorted, new-mem, new-occur, beside}
 
@@ -46,7 +46,7 @@ put-first r (q ∷ l) a = put-here r q l (lt-ltZ (a .0))
 all-put : (P : Row → Type 0) (r : Row) (l : List Row) → P r → All P l → All P (put r l)
 unfolding put All
 all-put P r [] h a = (h, tt)
-all-put P r (q ∷ l) h a = by-test (ltZ (r .low) (q .low)) (λ t. rw (put-here r q l t) (h, a)) (λ f. rw (put-later r q l f) (a .0, all-put P r l h (a .1)))
+all-put P r (q ∷ l) h a = by-test _ (λ t. rw (put-here r q l t) (h, a)) (λ f. rw (put-later r q l f) (a .0, all-put P r l h (a .1)))
 
 module _ (d : ℕ) where
   woven-held : (rows : List Row) (k : ℤ) (ks : List ℤ) → heldBy rows (lowOf d k) ≡ true → woven d rows (k ∷ ks) ≡ woven d rows ks
@@ -64,32 +64,32 @@ module _ (d : ℕ) where
   pub all-woven : (P : Row → Type 0) (rows : List Row) (ks : List ℤ) → All P rows → ((k : ℤ) → Mem k ks → P (newRow d k)) → All P (woven d rows ks)
   unfolding woven
   all-woven P rows [] a h = a
-  all-woven P rows (k ∷ ks) a h = by-test (heldBy rows (lowOf d k))
+  all-woven P rows (k ∷ ks) a h = by-test _
       (λ t. rw (woven-held rows k ks t) (all-woven P rows ks a (λ z m. h z (there m))))
-      (λ f. rw (woven-free rows k ks f) (all-put P (newRow d k) (woven d rows ks) (h k (here refl)) (all-woven P rows ks a (λ z m. h z (there m)))))
+      (λ f. rw (woven-free rows k ks f) (all-put P _ _ (h k (here refl)) (all-woven P rows ks a (λ z m. h z (there m)))))
 
   length-put : (r : Row) (l : List Row) → length (put r l) ≡ suc (length l)
   unfolding put
   length-put r [] = refl
-  length-put r (q ∷ l) = by-test (ltZ (r .low) (q .low)) (λ t. rw (put-here r q l t)) (λ f. rw (put-later r q l f) (ap suc (length-put r l)))
+  length-put r (q ∷ l) = by-test _ (λ t. rw (put-here r q l t)) (λ f. rw (put-later r q l f) (ap suc (length-put r l)))
 
   -- no row is lost
   pub woven-long : (rows : List Row) (ks : List ℤ) → length rows ≤ length (woven d rows ks)
   unfolding woven
   woven-long rows [] = omega arith
-  woven-long rows (k ∷ ks) = by-test (heldBy rows (lowOf d k))
+  woven-long rows (k ∷ ks) = by-test _
       (λ t. rw (woven-held rows k ks t) (woven-long rows ks))
       (λ f. rw (woven-free rows k ks f) (omega (arith, length-put (newRow d k) (woven d rows ks), woven-long rows ks)))
 
   -- a number whose range the next row holds is skipped
   pub weave-inside : (r : Row) (rows : List Row) (k : ℤ) (ks : List ℤ) → r .low ≤ℤ lowOf d k → lowOf d k <ℤ r .up → woven d (r ∷ rows) (k ∷ ks) ≡ woven d (r ∷ rows) ks
   unfolding any
-  weave-inside r rows k ks a b = woven-held (r ∷ rows) k ks (rw (inside-yes (r .low) (r .up) (lowOf d k) a b))
+  weave-inside r rows k ks a b = woven-held _ k ks (rw (inside-yes _ (r .up) _ a b))
 
   free-below : (rows : List Row) (z : ℤ) → All (λ r. z <ℤ r .low) rows → heldBy rows z ≡ false
   unfolding any All
   free-below [] z a = refl
-  free-below (r ∷ rows) z a = rw (inside-below (r .low) (r .up) z (a .0)) (free-below rows z (a .1))
+  free-below (r ∷ rows) z a = rw (inside-below _ (r .up) z (a .0)) (free-below rows z (a .1))
 
   skips : (r : Row) (rows : List Row) (z : ℤ) → inside (r .low) (r .up) z ≡ false → heldBy (r ∷ rows) z ≡ heldBy rows z
   unfolding any
@@ -97,7 +97,7 @@ module _ (d : ℕ) where
 
   goes-later : (r : Row) (l : List Row) (k : ℤ) → r .low ≤ℤ lowOf d k → put (newRow d k) (r ∷ l) ≡ r ∷ put (newRow d k) l
   unfolding newRow
-  goes-later r l k h = put-later (newRow d k) r l (le-ltZ h)
+  goes-later r l k h = put-later _ r l (le-ltZ h)
 
   module _ (one : 0 < d) where
     low-up : (k z : ℤ) → k <ℤ z → lowOf d k <ℤ lowOf d z
@@ -106,8 +106,8 @@ module _ (d : ℕ) where
     -- a number below the next row makes a new row
     pub weave-new : (rows : List Row) (k : ℤ) (ks : List ℤ) → All (λ r. lowOf d k <ℤ r .low) rows → Above k ks → woven d rows (k ∷ ks) ≡ newRow d k ∷ woven d rows ks
     unfolding newRow
-    weave-new rows k ks a s = woven-free rows k ks (free-below rows (lowOf d k) a)
-        ∙ put-first (newRow d k) (woven d rows ks) (all-woven (λ q. lowOf d k <ℤ q .low) rows ks a (λ z m. low-up k z (mem-above z k ks s m)))
+    weave-new rows k ks a s = woven-free rows k ks (free-below rows _ a)
+        ∙ put-first _ _ (all-woven (λ q. lowOf d k <ℤ q .low) rows ks a (λ z m. low-up k z (mem-above z k ks s m)))
 
     -- where all numbers lie above the next row, it is kept
     pub weave-old : (r : Row) (rows : List Row) (ks : List ℤ) → r .low <ℤ r .up → ((k : ℤ) → Mem k ks → r .up ≤ℤ lowOf d k) → woven d (r ∷ rows) ks ≡ r ∷ woven d rows ks
@@ -117,10 +117,10 @@ module _ (d : ℕ) where
         let u = h k (here refl) in
         let low : r .low ≤ℤ lowOf d k = omega zarith in
         let rest = weave-old r rows ks w (λ z m. h z (there m)) in
-        let out : inside (r .low) (r .up) (lowOf d k) ≡ false = by-test (inside (r .low) (r .up) (lowOf d k)) (λ t. let i = is-inside (r .low) (r .up) (lowOf d k) t .1 in absurd (omega zarith)) (λ f. f) in
-        by-test (heldBy rows (lowOf d k))
-        (λ t. woven-held (r ∷ rows) k ks (skips r rows (lowOf d k) out ∙ t) ∙ rest ∙ ap (λ (l : List Row). r ∷ l) (sym (woven-held rows k ks t)))
-        (λ f. woven-free (r ∷ rows) k ks (skips r rows (lowOf d k) out ∙ f) ∙ ap (put (newRow d k)) rest ∙ goes-later r (woven d rows ks) k low ∙ ap (λ (l : List Row). r ∷ l) (sym (woven-free rows k ks f)))
+        let out : inside (r .low) (r .up) (lowOf d k) ≡ false = by-test _ (λ t. let i = is-inside _ (r .up) _ t .1 in absurd (omega zarith)) (λ f. f) in
+        by-test _
+        (λ t. woven-held _ k ks (skips r rows _ out ∙ t) ∙ rest ∙ ap (λ (l : List Row). r ∷ l) (sym (woven-held rows k ks t)))
+        (λ f. woven-free _ k ks (skips r rows _ out ∙ f) ∙ ap (put _) rest ∙ goes-later r _ k low ∙ ap (λ (l : List Row). r ∷ l) (sym (woven-free rows k ks f)))
 
 -- ---- the row numbers that no old range holds are those of the new windows that no old range holds
 
@@ -170,14 +170,13 @@ cell d low up z one a b =
     let k = rowNumber d z in
     let p = multiple-is d low (a .divides) in
     let wide = widen d k one in
-    by-test (inside low up z)
+    by-test _
     (λ t. let i = is-inside low up z t in
-    let l : low ≤ℤ lowOf d k = subst (λ (t : ℤ). t ≤ℤ lowOf d k) (sym (p .1)) (*ℤ-mono {x = p .0} {y = k} d (floor-most (p .0) z d one (subst (λ (t : ℤ). t ≤ℤ z) (p .1) (i .0)))) in
+    let l = subst (λ (t : ℤ). t ≤ℤ lowOf d k) (sym (p .1)) (*ℤ-mono d (floor-most (p .0) z d one (rw (p .1) at (i .0)))) in
     let under = row-below d z one in
-    let above = i .1 in
-    t ∙ sym (inside-yes low up (lowOf d k) l (omega zarith)))
-    (λ f. f ∙ sym (by-test (inside low up (lowOf d k))
-    (λ t. let i = is-inside low up (lowOf d k) t in let h = i .0 in let j = i .1 in absurd (⊎-elim (λ e. omega zarith) (λ e. omega zarith) (beside d low up z one a b f)))
+    t ∙ sym (inside-yes low up _ l (omega zarith)))
+    (λ f. f ∙ sym (by-test _
+    (λ t. let i = is-inside low up (lowOf d k) t in absurd (⊎-elim (λ e. omega zarith) (λ e. omega zarith) (beside d low up z one a b f)))
     (λ g. g)))
 
 module _ (x : Index) (g : WellFormed x) where
@@ -185,13 +184,13 @@ module _ (x : Index) (g : WellFormed x) where
   d = natAbs (x .width)
 
   one : 0 < d
-  one = omega (arith, g .head .width .least)
+  one = omega arith
 
   abbrev free : ℤ → Bool
   free k = not (heldBy (x .rows) (lowOf d k))
 
   held-cell : (z : ℤ) → heldBy (x .rows) z ≡ heldBy (x .rows) (lowOf d (rowNumber d z))
-  held-cell z = any-cong _ _ (x .rows) (λ r m. let o = all-mem (GoodRow x) (x .rows) (each-row x g) m in cell d (r .low) (r .up) z one (o .low-end) (o .up-end))
+  held-cell z = any-cong _ _ _ (λ r m. let o = all-mem _ _ (each-row x g) m in cell d _ (r .up) z one (o .low-end) (o .up-end))
 
   module _ (sum : ℕ → ℤ) (old : ℕ) where
     free-numbers : (more : ℕ) → newNumbers x sum d old more ≡ keep free (rowNumbers (λ j. sum (old + j)) d more)
@@ -200,14 +199,14 @@ module _ (x : Index) (g : WellFormed x) where
         sorted-unique (newNumbers x sum d old more) (keep free (rowNumbers later d more)) (new-sorted x sum d old more) (keep-sorted free (rowNumbers later d more) (numbers-sorted later d more))
         (λ z m. let a = new-occur x sum d old more z m in
         let j = a .at - old in
-        let e : old + j ≡ a .at = omega (arith, a .new) in
+        let e : old + j ≡ a .at = omega arith in
         let is : rowNumber d (later j) ≡ z = rw e (a .is) in
-        mem-keep free z (rowNumbers later d more) (subst (λ (t : ℤ). Mem t (rowNumbers later d more)) is (numbers-mem later d more j (omega (arith, a .below, a .new))))
+        mem-keep free z (rowNumbers later d more) (rw is at (numbers-mem later d more j (omega arith)))
         (ap not (ap (λ (t : ℤ). heldBy (x .rows) (lowOf d t)) (sym (a .is)) ∙ sym (held-cell (sum (a .at))) ∙ a .unknown)))
         (λ z m. let k = keep-mem free z (rowNumbers later d more) m in
         let o = numbers-occur later d more z (k .0) in
         subst (λ (t : ℤ). Mem t (newNumbers x sum d old more)) (o .is)
-        (new-mem x sum d old more (old + o .at) (omega arith) (omega (arith, o .below))
+        (new-mem x sum d old more (old + o .at) (omega arith) (omega arith)
         (held-cell (later (o .at)) ∙ ap (λ (t : ℤ). heldBy (x .rows) (lowOf d t)) (o .is) ∙ not-true (heldBy (x .rows) (lowOf d z)) (k .1))))
 
 -- ---- laid out with their runs
@@ -220,7 +219,7 @@ among r (q ∷ l) = cond (ltZ (r .low) (q .low)) (r ∷ q ∷ l) (q ∷ among r 
 insert-among : (n : ℕ) (r : SetRow) (l : List SetRow) → map (withRuns n) (insertRow r l) ≡ among (withRuns n r) (map (withRuns n) l)
 unfolding insertRow among withRuns
 insert-among n r [] = refl
-insert-among n r (q ∷ l) = by-test (ltZ (r .low) (q .low)) (λ t. rw t) (λ f. rw f (ap (λ (m : List RangeRow). withRuns n q ∷ m) (insert-among n r l)))
+insert-among n r (q ∷ l) = by-test (ltZ (r .low) (q .low)) (λ t. rw t) (λ f. rw f (rw (insert-among n r l)))
 
 module _ (x : Index) (sum : ℕ → ℤ) (old n : ℕ) where
   -- a row record with the runs of its old offsets and of the new windows that its range holds
@@ -230,7 +229,7 @@ module _ (x : Index) (sum : ℕ → ℤ) (old n : ℕ) where
   put-among : (r : Row) (l : List Row) → map grownRuns (put r l) ≡ among (grownRuns r) (map grownRuns l)
   unfolding put among withRuns grown
   put-among r [] = refl
-  put-among r (q ∷ l) = by-test (ltZ (r .low) (q .low)) (λ t. rw t) (λ f. rw f (ap (λ (m : List RangeRow). grownRuns q ∷ m) (put-among r l)))
+  put-among r (q ∷ l) = by-test (ltZ (r .low) (q .low)) (λ t. rw t) (λ f. rw f (rw (put-among r l)))
 
   -- a new row has the new windows that its range holds
   new-has : (d : ℕ) (k : ℤ) (j : ℕ) → added sum d old k .has j ≡ grown x sum old (newRow d k) .has j
@@ -240,7 +239,7 @@ module _ (x : Index) (sum : ℕ → ℤ) (old n : ℕ) where
   new-grown : (d : ℕ) (k : ℤ) → withRuns n (added sum d old k) ≡ grownRuns (newRow d k)
   unfolding withRuns added rowAt grown newRow
   new-grown d k =
-      let e = ap (map entry) (runs-cong (added sum d old k .has) (grown x sum old (newRow d k) .has) n (λ j b. new-has d k j)) in
+      let e = ap (map entry) (runs-cong _ _ n (λ j b. new-has d k j)) in
       λ i. record { low = lowOf d k; up = upOf d k; runs = e i }
 
   weaves : (d : ℕ) (rows : List Row) (ks : List ℤ)
@@ -250,15 +249,14 @@ module _ (x : Index) (sum : ℕ → ℤ) (old n : ℕ) where
     where
       map-twice : (l : List Row) → map (withRuns n) (map (grown x sum old) l) ≡ map grownRuns l
       map-twice [] = refl
-      map-twice (r ∷ l) = ap (λ (m : List RangeRow). grownRuns r ∷ m) (map-twice l)
+      map-twice (r ∷ l) = rw (map-twice l)
   weaves d rows (k ∷ ks) =
       let p : ℤ → Bool = λ k. not (heldBy rows (lowOf d k)) in
-      let olds = map (grown x sum old) rows in
-      by-test (heldBy rows (lowOf d k))
+      by-test _
       (λ t. rw (keep-no p k ks (ap not t), woven-held d rows k ks t) (weaves d rows ks))
       (λ f. rw (keep-yes p k ks (ap not f), woven-free d rows k ks f)
-      (insert-among n (added sum d old k) (insertRows (map (added sum d old) (keep p ks)) olds)
-      ∙ ap (among (withRuns n (added sum d old k))) (weaves d rows ks)
+      (insert-among n _ _
+      ∙ ap (among _) (weaves d rows ks)
       ∙ ap (λ (r : RangeRow). among r (map grownRuns (woven d rows ks))) (new-grown d k)
       ∙ sym (put-among (newRow d k) (woven d rows ks))))
 
@@ -281,12 +279,12 @@ ends q = (q .low, q .up)
 ends-runs : (n : ℕ) (l : List SetRow) → map range l ≡ map ends (map (withRuns n) l)
 unfolding withRuns
 ends-runs n [] = refl
-ends-runs n (r ∷ l) = ap (λ (m : List Range). range r ∷ m) (ends-runs n l)
+ends-runs n (r ∷ l) = rw (ends-runs n l)
 
 ends-grown : (x : Index) (sum : ℕ → ℤ) (old n : ℕ) (l : List Row) → map rangeOf l ≡ map ends (map (grownRuns x sum old n) l)
 unfolding withRuns grown
 ends-grown x sum old n [] = refl
-ends-grown x sum old n (r ∷ l) = ap (λ (m : List Range). rangeOf r ∷ m) (ends-grown x sum old n l)
+ends-grown x sum old n (r ∷ l) = rw (ends-grown x sum old n l)
 
 module _ (x : Index) (s : List ℤ) (g : WellFormed x) (e : Extendable x s) where
   abbrev sums : ℕ → ℤ

@@ -31,7 +31,7 @@ module _ {S : Type 0} (step : S → ℕ → Option S) where
   pub feed-append : (a b : List ℕ) (x : Fed S) → feed x (a ++ b) ≡ feed (feed x a) b
   unfolding feed
   feed-append [] b x = refl
-  feed-append (c ∷ a) b x = feed-append a b (feedByte x c)
+  feed-append (c ∷ a) b x = feed-append a b _
 
   pub feed-failed : (t : List ℕ) (p : ℕ) → feed (failed p) t ≡ failed p
   unfolding feed
@@ -48,10 +48,10 @@ module _ {S : Type 0} (step : S → ℕ → Option S) where
 
   -- for a loop over a slice: a turn, a refusal, the end
   pub feed-turn : (s m : S) (t : List ℕ) (i p : ℕ) → i < length t → step s (getD t i 0) ≡ some m → feed (going s p) (drop i t) ≡ feed (going m (suc p)) (drop (i + 1) t)
-  feed-turn s m t i p h e = ap (feed (going s p)) (drop-cons t i 0 h) ∙ feed-one s m (getD t i 0) (drop (suc i) t) p e ∙ rw (add-one i)
+  feed-turn s m t i p h e = ap (feed (going s p)) (drop-cons t i 0 h) ∙ feed-one s m _ _ p e ∙ rw (add-one i)
 
   pub feed-refuse : (s : S) (t : List ℕ) (i p : ℕ) → i < length t → step s (getD t i 0) ≡ none → feed (going s p) (drop i t) ≡ failed p
-  feed-refuse s t i p h e = ap (feed (going s p)) (drop-cons t i 0 h) ∙ feed-none s (getD t i 0) (drop (suc i) t) p e
+  feed-refuse s t i p h e = ap (feed (going s p)) (drop-cons t i 0 h) ∙ feed-none s _ (drop (suc i) t) p e
 
   pub feed-end : (x : Fed S) (t : List ℕ) (i : ℕ) → length t ≤ i → feed x (drop i t) ≡ x
   unfolding feed
@@ -117,16 +117,16 @@ module _ {S A : Type 0} (step : S → ℕ → Option S) (accept : S → Option A
     unfolding feed
     fed-comes [] s p g = rw (L .ends s g) (end-judged (accept s) p)
     fed-comes (b ∷ t) s p g =
-        on-option (step s b)
+        on-option _
         (λ n e. let q : p + suc (length t) ≡ suc p + length t = omega arith in rw (q, L .goes-on s b n g e t, e) (fed-comes t n (suc p) (L .stays-good s b n g e)))
-        (λ e. let q : p + suc (length t) - suc (length t) ≡ p = omega arith in rw (e, feed-failed step t p) (halts-unfit b t (p + suc (length t)) (L .halts s b g e t) ∙ ap unfit q))
+        (λ e. let q : p + suc (length t) - suc (length t) ≡ p = omega arith in rw (e, feed-failed step t p) (halts-unfit b t _ (L .halts s b g e t) ∙ ap unfit q))
 
     -- the text of a form, where the automaton begins as the form is read
     pub text-comes : (f : Form) (out : A → Value f) (start : S) → Good start → ((t : List ℕ) → read f t ≡ readOf out (rest start t)) → (t : List ℕ) → readText f t ≡ verdictOf out (judged accept (feed step (going start 0) t))
     unfolding readText
     text-comes f out start g e t =
         let q : 0 + length t ≡ length t = omega arith in
-        rw (e t) (ended-of out (length t) (rest start t) ∙ ap (verdictOf out) (rw q at (fed-comes t start 0 g)))
+        rw (e t) (ended-of out _ (rest start t) ∙ ap (verdictOf out) (rw q at (fed-comes t start 0 g)))
 
 -- where the automaton accepts the form's own values
 module _ (f : Form) {S : Type 0} (step : S → ℕ → Option S) (accept : S → Option (Value f)) (Good : S → Type 0) (rest : S → Rest (Value f)) (L : Follows step accept Good rest) where
@@ -139,4 +139,4 @@ module _ (f : Form) {S : Type 0} (step : S → ℕ → Option S) (accept : S →
   read-same (bad t) = refl
 
   pub form-comes : (start : S) → Good start → ((t : List ℕ) → read f t ≡ rest start t) → (t : List ℕ) → readText f t ≡ judged accept (feed step (going start 0) t)
-  form-comes start g e t = text-comes step accept Good rest L f (λ v. v) start g (λ t. e t ∙ read-same (rest start t)) t ∙ verdict-same (judged accept (feed step (going start 0) t))
+  form-comes start g e t = text-comes step accept Good rest L f (λ v. v) start g (λ t. e t ∙ read-same _) t ∙ verdict-same _

@@ -8,7 +8,7 @@ use Rattle.meaning_numbers.proofs.Prelude.{_≡_, refl, sym, _∙_, List, [], _
 use Rattle.meaning_text.specs.{Bytes.bytes, Number.spellℤ, Number.Read, Number.got, Number.bad, Number.isDigit, Read.Viable}
 use Rattle.meaning_text.specs.Form.{Form, number, oneOf, lead, trail, both, many, Value, spellOne, spellMany, spell, end, Spellable, readWord, thenRead, wordStarts, starts, readOne, read}
 use Rattle.meaning_text.proofs.Number.{leading, is-digit, digit-is, read-spelled, number-read}
-use Rattle.meaning_text.proofs.Reading.{on-flag, false-true, and-true, like, NotNext, Begun, begun, begun-before, begun-as, begun-not, Reader, Taken, Refused, Outcome, refused-here, outcome-as, theWord, word-back, word-read, both-read, many-read, many-back}
+use Rattle.meaning_text.proofs.Reading.{on-flag, false-true, and-true, like, NotNext, Begun, begun, begun-before, begun-as, begun-not, Reader, Taken, Refused, Outcome, refused-here, outcome-as, word-back, word-read, both-read, many-read, many-back}
 
 -- ---- where the next byte decides
 
@@ -85,27 +85,27 @@ module _ (p : ℕ → Bool) where
   clear-word : (w : String) (b : ℕ) → clearWord p w ≡ true → wordStarts w b ≡ true → p b ≡ false
   unfolding clearWord wordStarts
   clear-word empty b c e = false-true e
-  clear-word (c before w) b h e = rw (eqb-true b (code c) e) (not-true (p (code c)) h)
+  clear-word (c before w) b h e = rw (eqb-true b _ e) (not-true _ h)
 
   clear-numbers : (k n b : ℕ) → every (λ b. not (p b)) (numbersFrom k n) ≡ true → k ≤ b → b < k + n → p b ≡ false
   unfolding every numbersFrom
   clear-numbers k zero b e h g = absurd (omega arith)
   clear-numbers k (suc n) b e h g =
-      let s = and-true (not (p k)) (every (λ b. not (p b)) (numbersFrom (suc k) n)) e in
-      on-flag (eqb b k)
+      let s = and-true _ _ e in
+      on-flag _
       (λ t. rw (eqb-true b k t) (not-true (p k) (s .0)))
       (λ t. clear-numbers (suc k) n b (s .1) (omega (arith, eqb-false b k t)) (omega arith))
 
   clear-first : (f : Form) (b : ℕ) → clear p f ≡ true → starts f b ≡ true → p b ≡ false
   unfolding clear starts
   clear-first number b c e =
-      let s = and-true (not (p 45)) (every (λ b. not (p b)) (numbersFrom 48 10)) c in
-      on-or (eqb b 45) (isDigit b) e
+      let s = and-true _ _ c in
+      on-or _ (isDigit b) e
       (λ t. rw (eqb-true b 45 t) (not-true (p 45) (s .0)))
-      (λ t. let d = is-digit b t in clear-numbers 48 10 b (s .1) (d .0) (omega (arith, d .1)))
+      (λ t. let d = is-digit b t in clear-numbers 48 10 b (s .1) (d .0) (omega arith))
   clear-first (oneOf v w) b c e =
-      let s = and-true (clearWord p v) (clearWord p w) c in
-      on-or (wordStarts v b) (wordStarts w b) e (clear-word v b (s .0)) (clear-word w b (s .1))
+      let s = and-true _ _ c in
+      on-or _ _ e (clear-word v b (s .0)) (clear-word w b (s .1))
   clear-first (lead w f) b c e = clear-word w b c e
   clear-first (trail f w) b c e = clear-first f b c e
   clear-first (both f g) b c e = clear-first f b c e
@@ -137,11 +137,11 @@ many-parts f d = let s = and-true _ _ d in let r = and-true _ _ (s .1) in (s .0,
 word-begun : (w : String) → filled w ≡ true → Begun (wordStarts w) (bytes w)
 unfolding filled wordStarts bytes
 word-begun empty e = false-true e
-word-begun (c before w) e = begun (eq-eqb (code c) (code c) refl)
+word-begun (c before w) e = begun (eq-eqb (code c) _ refl)
 
 number-begun : (z : ℤ) → Begun (starts number) (spellℤ z)
 unfolding starts spellℤ
-number-begun (pos n) = let l = leading n in rw (l .spelled) (begun {b = 48 + l .digit} (rw (digit-is (l .digit) (l .small)) (or-true (eqb (48 + l .digit) 45))))
+number-begun (pos n) = let l = leading n in rw (l .spelled) (begun {b = 48 + l .digit} (rw (digit-is _ (l .small)) (or-true (eqb (48 + l .digit) 45))))
 number-begun (negsuc n) = begun refl
 
 firm-begun : (f : Form) → decided f ≡ true → firm f ≡ true → (v : Value f) → Begun (starts f) (spell f v)
@@ -151,7 +151,7 @@ firm-begun (oneOf v w) d e true = begun-as (λ b h. rw h) (word-begun v (one-par
 firm-begun (oneOf v w) d e false = begun-as (λ b h. rw h (or-true (wordStarts v b))) (word-begun w (one-parts v w d .1))
 firm-begun (lead w f) d e x = begun-before (spell f x) (word-begun w (lead-parts w f d .0))
 firm-begun (trail f w) d e x = begun-before (bytes w) (firm-begun f (trail-parts f w d .0) e x)
-firm-begun (both f g) d e x = begun-before (spell g (x .1)) (firm-begun f (both-parts f g d .0) e (x .0))
+firm-begun (both f g) d e x = begun-before _ (firm-begun f (both-parts f g d .0) e (x .0))
 firm-begun (many f) d e x = false-true e
 
 firm-not : (p : ℕ → Bool) (f : Form) → decided f ≡ true → firm f ≡ true → clear p f ≡ true → (v : Value f) (t : List ℕ) → NotNext p (spell f v ++ t)
@@ -166,7 +166,7 @@ next-not p (lead w f) d e c x t h = firm-not p (lead w f) d refl c x t
 next-not p (trail f w) d e c x t h = firm-not p (trail f w) d e c x t
 next-not p (both f g) d e c x t h = firm-not p (both f g) d e c x t
 next-not p (many f) d e c [] t h = h
-next-not p (many f) d e c (x ∷ l) t h = let s = many-parts f d in rw append-assoc (firm-not p f (s .0) (s .1) c x (spellMany (spell f) l ++ t))
+next-not p (many f) d e c (x ∷ l) t h = let s = many-parts f d in rw append-assoc (firm-not p f (s .0) (s .1) c x _)
 
 -- ---- what reading comes to
 
@@ -199,9 +199,9 @@ one-read v w [] = refused-here (oneWord v w) true tt [] (λ w l. elim l [ ])
 one-read v w (b ∷ t) =
     on-flag (wordStarts v b)
     (λ e. rw (e, readOne)
-    (outcome-as (theWord (bytes v) true) (oneWord v w) (λ x h. rw h (tt, refl)) (b ∷ t) (like (λ s. readOne v w s ≡ readWord (bytes v) true s) (λ r. rw (e, readOne))) (readWord (bytes v) true (b ∷ t)) (word-read (bytes v) true (b ∷ t))))
+    (outcome-as _ (oneWord v w) (λ x h. rw h (tt, refl)) (b ∷ t) (like (λ s. readOne v w s ≡ readWord (bytes v) true s) (λ r. rw (e, readOne))) (readWord (bytes v) true (b ∷ t)) (word-read (bytes v) true (b ∷ t))))
     (λ e. rw (e, readOne)
-    (outcome-as (theWord (bytes w) false) (oneWord v w) (λ x h. rw h (tt, refl)) (b ∷ t) (like (λ s. readOne v w s ≡ readWord (bytes w) false s) (λ r. rw (e, readOne))) (readWord (bytes w) false (b ∷ t)) (word-read (bytes w) false (b ∷ t))))
+    (outcome-as _ (oneWord v w) (λ x h. rw h (tt, refl)) (b ∷ t) (like (λ s. readOne v w s ≡ readWord (bytes w) false s) (λ r. rw (e, readOne))) (readWord (bytes w) false (b ∷ t)) (word-read _ false (b ∷ t))))
 
 abbrev pub theForm : (f : Form) → Reader (Value f)
 theForm f = record { reads = read f; spells = spell f; Good = Spellable f }
@@ -211,14 +211,14 @@ unfolding read spell
 form-read number d t = number-read t
 form-read (oneOf v w) d t = one-read v w t
 form-read (lead w f) d t =
-    both-read (theWord (bytes w) true) (theForm f) (theForm (lead w f)) (λ _ x. x) (λ _ x _ g. (g, refl)) (some-value f) (λ _ u. read f u) (λ _ u. then-got (read f u)) t (λ s l. refl)
+    both-read _ (theForm f) _ (λ _ x. x) (λ _ x _ g. (g, refl)) (some-value f) (λ _ u. read f u) (λ _ u. then-got (read f u)) t (λ s l. refl)
     (readWord (bytes w) true t) (word-read (bytes w) true t) (λ _ u _. form-read f (lead-parts w f d .1) u)
 form-read (trail f w) d t =
-    both-read (theForm f) (theWord (bytes w) true) (theForm (trail f w)) (λ x _. x) (λ x _ g _. (g, refl)) (true, refl) (λ x u. readWord (bytes w) x u) (λ x u. word-then (bytes w) x u) t (λ s l. refl)
+    both-read (theForm f) _ _ (λ x _. x) (λ x _ g _. (g, refl)) (true, refl) (λ x u. readWord (bytes w) x u) (λ x u. word-then (bytes w) x u) t (λ s l. refl)
     (read f t) (form-read f (trail-parts f w d .0) t) (λ _ u _. word-read (bytes w) true u)
 form-read (both f g) d t =
     let s = both-parts f g d in
-    both-read (theForm f) (theForm g) (theForm (both f g)) (λ x y. (x, y)) (λ x y i j. ((i, j), refl)) (some-value g) (λ x u. thenRead (read g u) (λ y v. got (x, y) v)) (λ x u. refl) t (λ s l. refl)
+    both-read (theForm f) (theForm g) _ (λ x y. (x, y)) (λ x y i j. ((i, j), refl)) (some-value g) (λ x u. thenRead (read g u) (λ y v. got (x, y) v)) (λ x u. refl) t (λ s l. refl)
     (read f t) (form-read f (s .0) t) (λ _ u _. form-read g (s .1) u)
 form-read (many f) d t = let s = many-parts f d in many-read (starts f) (theForm f) (form-read f (s .0)) (λ v g. firm-begun f (s .0) (s .1) v) t
 
@@ -237,8 +237,8 @@ one-second v w c (begun {b = b} e) = rw (clear-word (wordStarts v) w b c e, read
 
 one-back : (v w : String) → decided (oneOf v w) ≡ true → (x : Bool) (t : List ℕ) → readOne v w (spellOne v w x ++ t) ≡ got x t
 unfolding spellOne
-one-back v w d true t = one-first v w (begun-before t (word-begun v (one-parts v w d .0))) ∙ word-back (bytes v) true t
-one-back v w d false t = let s = one-parts v w d in one-second v w (s .2) (begun-before t (word-begun w (s .1))) ∙ word-back (bytes w) false t
+one-back v w d true t = one-first v w (begun-before t (word-begun v (one-parts v w d .0))) ∙ word-back _ true t
+one-back v w d false t = let s = one-parts v w d in one-second v w (s .2) (begun-before t (word-begun w (s .1))) ∙ word-back _ false t
 
 not-or : (p q : ℕ → Bool) (t : List ℕ) → NotNext (λ b. p b || q b) t → NotNext p t × NotNext q t
 not-or p q [] h = (tt, tt)
@@ -248,14 +248,14 @@ pub spelled-read : (f : Form) → decided f ≡ true → (v : Value f) → Spell
 unfolding read spell follows thenRead
 spelled-read number d v g t h = read-spelled v g t h
 spelled-read (oneOf v w) d x g t h = one-back v w d x t
-spelled-read (lead w f) d v g t h = rw (append-assoc, word-back (bytes w) true (spell f v ++ t)) (spelled-read f (lead-parts w f d .1) v g t h)
+spelled-read (lead w f) d v g t h = rw (append-assoc, word-back (bytes w) true _) (spelled-read f (lead-parts w f d .1) v g t h)
 spelled-read (trail f w) d v g t h =
     let s = trail-parts f w d in
     rw (append-assoc, spelled-read f (s .0) v g (bytes w ++ t) (word-next (follows f) w (s .1) (s .2) t)) (word-back (bytes w) v t)
 spelled-read (both f g) d v i t h =
     let s = both-parts f g d in
     let n = not-or (follows f) (follows g) t h in
-    rw (append-assoc, spelled-read f (s .0) (v .0) (i .0) (spell g (v .1) ++ t) (next-not (follows f) g (s .1) (s .2) (s .3) (v .1) t (n .0)), spelled-read g (s .1) (v .1) (i .1) t (n .1))
+    rw (append-assoc, spelled-read f (s .0) (v .0) (i .0) _ (next-not (follows f) g (s .1) (s .2) (s .3) (v .1) t (n .0)), spelled-read g (s .1) (v .1) (i .1) t (n .1))
 spelled-read (many f) d v g t h =
     let s = many-parts f d in
     let n = not-or (starts f) (follows f) t h in

@@ -1,6 +1,6 @@
 -- Lines: newlines add up, lines count from 1 and grow with the place, and a beginning of an index text has at most one line for 8 of its bytes, but for the last line.
 -- For the last: every byte pays 1 and a newline costs 8; `credit` says what a form's texts leave of a credit, whatever they say.
-use Rattle.meaning_numbers.proofs.Prelude.{_≡_, refl, ap, _∙_, List, [], _∷_, _++_, true, false, cond, Option, none, some, bind, bind-eq-some-iff, ℕ, suc, _+_, _*_, _-_, _<_, _≤_, min, le-refl, le-trans, arith, eqb, leb, ℤ, pos, negsuc, length, getD, take, drop, take-suc, take-add, take-append-add, length-take-le, ne-eqb, leb-true}
+use Rattle.meaning_numbers.proofs.Prelude.{_≡_, refl, List, [], _∷_, _++_, true, false, cond, Option, none, some, bind, bind-eq-some-iff, ℕ, suc, _+_, _*_, _-_, _<_, _≤_, min, le-refl, le-trans, arith, eqb, leb, ℤ, pos, negsuc, length, getD, take, take-suc, take-append-add, length-take-le, ne-eqb, leb-true}
 use Rattle.meaning_text.specs.{Bytes.bytes, Bytes.newlines, Number.spellℕ, Number.spellℤ, Read.lineOf, Read.Viable, Read.Longest, Texts.indexForm}
 use Rattle.meaning_text.specs.Form.{Form, number, oneOf, lead, trail, both, many, Value, spellOne, spellMany, spell}
 use Rattle.meaning_text.proofs.{Open.openText, Reading.on-flag, Number.spell-one, Number.spell-more, Number.by-digits}
@@ -23,14 +23,6 @@ line-counts t n = omega arith
 pub line-start : (t : List ℕ) → lineOf t 0 ≡ 1
 unfolding lineOf newlines
 line-start t = refl
-
--- a later place is on no earlier line
-pub line-grows : (t : List ℕ) (m n : ℕ) → m ≤ n → lineOf t m ≤ lineOf t n
-unfolding lineOf
-line-grows t m n h =
-    let k : n ≡ m + (n - m) = omega arith in
-    let e : take n t ≡ take m t ++ take (n - m) (drop m t) = ap (λ (j : ℕ). take j t) k ∙ take-add m (n - m) t in
-    rw e (omega (arith, newlines-append (take m t) (take (n - m) (drop m t))))
 
 -- the line of the next place
 pub line-next : (t : List ℕ) (n : ℕ) → n < length t → lineOf t (suc n) ≡ cond (eqb (getD t n 0) 10) (suc (lineOf t n)) (lineOf t n)
@@ -97,8 +89,8 @@ word-paid : (w : List ℕ) (c d : ℕ) → creditWord w c ≡ some d → Paid c 
 unfolding creditWord
 word-paid [] c d e = rw (← some-same e) (settled (le-refl c))
 word-paid (b ∷ w) c d e =
-    on-flag (eqb b 10)
-    (λ t. on-flag (leb 7 c)
+    on-flag _
+    (λ t. on-flag _
     (λ l. pays (leb-true 7 c l) (word-paid w (c - 7) d (rw (t, creditWord, l) at e)))
     (λ l. none-some (rw (t, creditWord, l) at e)))
     (λ t. earns t (word-paid w (suc c) d (rw (t, creditWord) at e)))
@@ -124,8 +116,8 @@ many-paid spells c h (v ∷ l) = paid-then (h v) (many-paid spells c h l)
 
 words-paid : (v w : List ℕ) (c d : ℕ) → bind (creditWord v c) (λ i. bind (creditWord w c) (λ j. some (min i j))) ≡ some d → Paid c v d × Paid c w d
 words-paid v w c d e =
-    let s = bind-eq-some-iff (creditWord v c) _ .0 e in
-    let r = bind-eq-some-iff (creditWord w c) _ .0 (s .2) in
+    let s = bind-eq-some-iff _ _ .0 e in
+    let r = bind-eq-some-iff _ _ .0 (s .2) in
     let m : min (s .0) (r .0) ≡ d = some-same (r .2) in
     (paid-less d (omega arith) (word-paid v c (s .0) (s .1)), paid-less d (omega arith) (word-paid w c (r .0) (r .1)))
 
@@ -134,13 +126,13 @@ unfolding credit spell spellOne
 credit-paid number c d e z = paid-less d (omega (arith, some-same e)) (number-paid z c)
 credit-paid (oneOf v w) c d e true = words-paid (bytes v) (bytes w) c d e .0
 credit-paid (oneOf v w) c d e false = words-paid (bytes v) (bytes w) c d e .1
-credit-paid (lead w f) c d e x = let s = bind-eq-some-iff (creditWord (bytes w) c) (credit f) .0 e in paid-then (word-paid (bytes w) c (s .0) (s .1)) (credit-paid f (s .0) d (s .2) x)
-credit-paid (trail f w) c d e x = let s = bind-eq-some-iff (credit f c) (creditWord (bytes w)) .0 e in paid-then (credit-paid f c (s .0) (s .1) x) (word-paid (bytes w) (s .0) d (s .2))
+credit-paid (lead w f) c d e x = let s = bind-eq-some-iff _ _ .0 e in paid-then (word-paid (bytes w) c (s .0) (s .1)) (credit-paid f (s .0) d (s .2) x)
+credit-paid (trail f w) c d e x = let s = bind-eq-some-iff (credit f c) _ .0 e in paid-then (credit-paid f c (s .0) (s .1) x) (word-paid (bytes w) (s .0) d (s .2))
 credit-paid (both f g) c d e x = let s = bind-eq-some-iff (credit f c) (credit g) .0 e in paid-then (credit-paid f c (s .0) (s .1) (x .0)) (credit-paid g (s .0) d (s .2) (x .1))
 credit-paid (many f) c d e l =
     let s = bind-eq-some-iff (credit f c) _ .0 e in
     on-flag (leb c (s .0))
-    (λ t. let h : c ≡ d = some-same (rw t at (s .2)) in rw (← h) (many-paid (spell f) c (λ v. paid-less c (leb-true c (s .0) t) (credit-paid f c (s .0) (s .1) v)) l))
+    (λ t. let h = some-same (rw t at (s .2)) in rw (← h) (many-paid (spell f) c (λ v. paid-less c (leb-true c (s .0) t) (credit-paid f c (s .0) (s .1) v)) l))
     (λ t. none-some (rw t at (s .2)))
 
 few-lines : (f : Form) (d : ℕ) → credit f 0 ≡ some d → (p : List ℕ) → Viable f p → newlines p * 8 ≤ length p

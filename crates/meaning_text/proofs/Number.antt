@@ -1,9 +1,9 @@
 -- Numbers: their digits; what is spelled is read back where no digit follows, nothing else is read, and a refusal comes behind a beginning of a spelled number.
 -- By induction on the last digit, and over the digits read so far (`Reach`).
-use Rattle.meaning_numbers.proofs.Prelude.{_≡_, refl, sym, _∙_, List, [], _∷_, _++_, append-assoc, true, false, _&&_, _⊎_, inl, inr, ⊎-elim, ℕ, zero, suc, _+_, _*_, _-_, _/_, _%_, _<_, _≤_, _^_, one-le-pow, pow-le-pow-right, arith, eqb, ltb, leb, ℤ, pos, negsuc, negℤ, ltb-true, ltb-false, lt-ltb, le-ltb, leb-true, le-leb, eqb-true, ne-eqb}
+use Rattle.meaning_numbers.proofs.Prelude.{_≡_, refl, sym, _∙_, List, [], _∷_, _++_, append-assoc, true, false, _&&_, _⊎_, inl, inr, ⊎-elim, ℕ, zero, suc, _+_, _*_, _-_, _/_, _%_, _<_, _≤_, _^_, pow-le-pow-right, arith, eqb, ltb, ℤ, pos, negsuc, negℤ, ltb-true, ltb-false, lt-ltb, le-ltb, leb-true, le-leb, eqb-true, ne-eqb}
 use Rattle.meaning_text.specs.Form.{readWord, thenRead}
 use Rattle.meaning_text.specs.Number.{digits, spellℕ, spellℤ, Short, Read, got, bad, isDigit, readDigits, readPositive, withSign, readℤ}
-use Rattle.meaning_text.proofs.Reading.{on-flag, and-true, Alike, like, NotNext, Reader, Taken, Refused, Outcome, refused-here, outcome-as, theWord, word-read, both-read}
+use Rattle.meaning_text.proofs.Reading.{on-flag, and-true, Alike, like, NotNext, Reader, Taken, Refused, Outcome, refused-here, outcome-as, word-read, both-read}
 
 -- ---- digits
 
@@ -17,7 +17,7 @@ unfolding digits
 digits-high k n h = rw (le-ltb n 10 h, digits)
 
 split10 : (n : ℕ) → (n < 10) ⊎ (10 ≤ n)
-split10 n = on-flag (ltb n 10) (λ e. inl (ltb-true n 10 e)) (λ e. inr (ltb-false n 10 e))
+split10 n = on-flag _ (λ e. inl (ltb-true n 10 e)) (λ e. inr (ltb-false n 10 e))
 
 digits-fuel : (k j n : ℕ) → n ≤ k → n ≤ j → digits k n ≡ digits j n
 digits-fuel zero j n h g = digits-low zero n (omega arith) ∙ sym (digits-low j n (omega arith))
@@ -37,7 +37,7 @@ unfolding spellℕ
 spell-more m d h l =
     let q : (10 * m + d) / 10 ≡ m = omega arith in
     let r : (10 * m + d) % 10 ≡ d = omega arith in
-    digits-fuel (10 * m + d) (suc (10 * m + d)) (10 * m + d) (omega arith) (omega arith)
+    digits-fuel _ _ _ (omega arith) (omega arith)
     ∙ digits-high (10 * m + d) (10 * m + d) (omega arith)
     ∙ rw (q, r, digits-fuel (10 * m + d) m m (omega arith) (omega arith))
 
@@ -47,7 +47,7 @@ module _ (P : ℕ → Type 0) (one : (d : ℕ) → d < 10 → P d) (more : (m d 
   by-digits-to zero n h = one n (omega arith)
   by-digits-to (suc k) n h =
       ⊎-elim (λ l. one n l)
-      (λ l. let e : 10 * (n / 10) + n % 10 ≡ n = omega arith in rw e at (more (n / 10) (n % 10) (omega arith) (omega arith) (by-digits-to k (n / 10) (omega arith))))
+      (λ l. let e : 10 * (n / 10) + n % 10 ≡ n = omega arith in rw e at (more _ (n % 10) (omega arith) (omega arith) (by-digits-to k (n / 10) (omega arith))))
       (split10 n)
 
   pub by-digits : (n : ℕ) → P n
@@ -70,7 +70,7 @@ leading =
 -- ---- a number above 0
 
 pub is-digit : (b : ℕ) → isDigit b ≡ true → (48 ≤ b) × (b ≤ 57)
-is-digit b e = let h = and-true (leb 48 b) (leb b 57) e in (leb-true 48 b (h .0), leb-true b 57 (h .1))
+is-digit b e = let h = and-true _ _ e in (leb-true 48 b (h .0), leb-true b 57 (h .1))
 
 pub digit-is : (d : ℕ) → d < 10 → isDigit (48 + d) ≡ true
 digit-is d h = rw (le-leb 48 (48 + d) (omega arith), le-leb (48 + d) 57 (omega arith))
@@ -97,12 +97,12 @@ reach-more : (m d k : ℕ) → d < 10 → Reach m (suc k) → Reach (10 * m + d)
 unfolding readDigits
 reach-more m d k l r =
     let e : 48 + d - 48 ≡ d = omega arith in
-    let h : 0 < m = omega (arith, r .low, one-le-pow (r .count) 10 (omega arith)) in
+    let h : 0 < m = omega arith in
     record {
       count = suc (r .count);
-      all = omega (arith, r .all);
-      low = omega (arith, r .low);
-      high = omega (arith, r .high);
+      all = omega arith;
+      low = omega arith;
+      high = omega arith;
       reads = λ t. rw (spell-more m d h l, append-assoc, r .reads, digit-is d l, readDigits, e);
     }
 
@@ -113,11 +113,11 @@ reach =
     (λ m d p l i h. more m d l (h .1) (i (p, omega arith)))
   where
     more : (m d : ℕ) → d < 10 → 10 * m + d < 10 ^ 18 → (k : ℕ) × Reach m k → (k : ℕ) × Reach (10 * m + d) k
-    more m d l h (zero, r) = let e : r .count ≡ 17 = omega (arith, r .all) in absurd (omega (arith, rw e at (r .low)))
+    more m d l h (zero, r) = let e : r .count ≡ 17 = omega arith in absurd (omega (arith, rw e at (r .low)))
     more m d l h (suc k, r) = (k, reach-more m d k l r)
 
 reach-good : (n k : ℕ) → Reach n k → Positive n
-reach-good n k r = (omega (arith, r .low, one-le-pow (r .count) 10 (omega arith)), omega (arith, r .high, pow-le-pow-right {n = 10} (omega arith) {i = suc (r .count)} {j = 18} (omega (arith, r .all))))
+reach-good n k r = (omega arith, omega (arith, r .high, pow-le-pow-right {n = 10} (omega arith) {i = suc (r .count)} {j = 18} (omega (arith, r .all))))
 
 digits-stop : (k n : ℕ) (t : List ℕ) → NotNext isDigit t → readDigits k n t ≡ got n t
 unfolding readDigits
@@ -135,11 +135,11 @@ digits-read (suc k) n [] r = record { good = reach-good n (suc k) r; parts = ref
 digits-read (suc k) n (b ∷ t) r =
     on-flag (isDigit b)
     (λ e. let h = is-digit b e in
-    let l : b - 48 < 10 = omega (arith, h .0, h .1) in
-    let c : 48 + (b - 48) ≡ b = omega (arith, h .0) in
+    let l : b - 48 < 10 = omega arith in
+    let c : 48 + (b - 48) ≡ b = omega arith in
     let p : spellℕ (10 * n + (b - 48)) ++ t ≡ spellℕ n ++ (b ∷ t) = rw (spell-more n (b - 48) (reach-good n (suc k) r .0) l, append-assoc, c) in
-    rw (e, readDigits) (rw p at (digits-read k (10 * n + (b - 48)) t (reach-more n (b - 48) k l r))))
-    (λ e. rw (e, readDigits) (record { good = reach-good n (suc k) r; parts = refl; steady = like (λ w. readPositive (spellℕ n ++ w) ≡ got n w) (λ w. r .reads (b ∷ w) ∙ digits-stop (suc k) n (b ∷ w) e) }))
+    rw (e, readDigits) (rw p at (digits-read k _ t (reach-more n (b - 48) k l r))))
+    (λ e. rw (e, readDigits) (record { good = reach-good n (suc k) r; parts = refl; steady = like (λ w. readPositive _ ≡ got n w) (λ w. r .reads (b ∷ w) ∙ digits-stop (suc k) n (b ∷ w) e) }))
 
 positive-not : (t : List ℕ) → ((w : List ℕ) → Alike t w → readPositive w ≡ bad w) → Refused above t t
 positive-not t h = refused-here above 1 (omega arith, omega arith) t h
@@ -148,12 +148,12 @@ positive-read : (t : List ℕ) → Outcome above t (readPositive t)
 unfolding readPositive
 positive-read [] = positive-not [] (λ w l. elim l [ ])
 positive-read (b ∷ t) =
-    on-flag (isDigit b && ltb 48 b)
+    on-flag _
     (λ e. let h = and-true (isDigit b) (ltb 48 b) e in
     let g = is-digit b (h .0) in
-    let l : b - 48 < 10 = omega (arith, g .0, g .1) in
+    let l : b - 48 < 10 = omega arith in
     let a : 0 < b - 48 = omega (arith, ltb-true 48 b (h .1)) in
-    let c : 48 + (b - 48) ≡ b = omega (arith, g .0) in
+    let c : 48 + (b - 48) ≡ b = omega arith in
     rw (e, readPositive) (rw (spell-one (b - 48) l, c) at (digits-read 17 (b - 48) t (reach-one (b - 48) a l))))
     (λ e. rw (e, readPositive) (positive-not (b ∷ t) (like (λ w. readPositive w ≡ bad w) (λ w. rw (e, readPositive)))))
 
@@ -178,7 +178,7 @@ read-spelled (pos zero) h t f = rw (spell-one 0 (omega arith))
 read-spelled (pos (suc n)) h t f =
     let l = leading (suc n) in
     let a : 0 < l .digit = l .no-zero (omega arith) in
-    let e : readℤ (spellℕ (suc n) ++ t) ≡ withSign pos (readPositive (spellℕ (suc n) ++ t)) = rw (l .spelled) (read-plain (48 + l .digit) (ne-eqb (48 + l .digit) 45 (λ e. omega arith)) (ne-eqb (48 + l .digit) 48 (λ e. omega arith)) (l .rest ++ t)) in
+    let e : readℤ (spellℕ (suc n) ++ t) ≡ withSign pos (readPositive (spellℕ (suc n) ++ t)) = rw (l .spelled) (read-plain _ (ne-eqb (48 + l .digit) 45 (λ e. omega arith)) (ne-eqb (48 + l .digit) 48 (λ e. omega arith)) (l .rest ++ t)) in
     e ∙ rw (positive-back (suc n) (omega arith, h) t f)
 read-spelled (negsuc n) h t f = rw (positive-back (suc n) (omega arith, h) t f)
 
@@ -192,8 +192,8 @@ signThen sign f t = thenRead (readWord sign true t) (λ _ u. withSign f (readPos
 module _ (sign : List ℕ) (f : ℕ → ℤ) (made : (n : ℕ) → Positive n → Short (f n) × (spellℤ (f n) ≡ sign ++ spellℕ n)) where
   signed : (t : List ℕ) → ((s : List ℕ) → Alike t s → readℤ s ≡ signThen sign f s) → Outcome theNumber t (signThen sign f t)
   signed t agree =
-      both-read (theWord sign true) above theNumber (λ _ n. f n) (λ _ n _ g. made n g) (1, (omega arith, omega arith))
-      (λ _ u. withSign f (readPositive u)) (λ _ u. sign-then f (readPositive u)) t agree (readWord sign true t) (word-read sign true t) (λ _ u _. positive-read u)
+      both-read _ above theNumber (λ _ n. f n) (λ _ n _ g. made n g) (1, (omega arith, omega arith))
+      (λ _ u. withSign f _) (λ _ u. sign-then f _) t agree _ (word-read sign true t) (λ _ u _. positive-read u)
 
 minus-made : (n : ℕ) → Positive n → Short (negℤ (pos n)) × (spellℤ (negℤ (pos n)) ≡ 45 ∷ spellℕ n)
 unfolding spellℤ
@@ -209,7 +209,7 @@ number-read (b ∷ t) =
     (λ e. rw (eqb-true b 45 e) (signed (45 ∷ []) (λ n. negℤ (pos n)) minus-made (45 ∷ t) (like (λ s. readℤ s ≡ signThen (45 ∷ []) (λ n. negℤ (pos n)) s) (λ r. refl))))
     (λ e. on-flag (eqb b 48)
     (λ f. rw (eqb-true b 48 f)
-    (outcome-as (theWord (48 ∷ []) (pos 0)) theNumber (λ v h. rw h (omega arith, sym (spell-one 0 (omega arith)))) (48 ∷ t)
+    (outcome-as _ theNumber (λ v h. rw h (omega arith, sym (spell-one 0 (omega arith)))) (48 ∷ t)
     (like (λ s. readℤ s ≡ readWord (48 ∷ []) (pos 0) s) (λ r. refl)) (got (pos 0) t) (word-read (48 ∷ []) (pos 0) (48 ∷ t))))
     (λ f. rw (read-plain b e f t) (signed [] pos (λ n g. (g .1, refl)) (b ∷ t) (like (λ s. readℤ s ≡ signThen [] pos s) (λ r. read-plain b e f r)))))
 

@@ -52,7 +52,7 @@ read-alone f t = alone (read f t)
 module _ {A : Type 0} where
   pub lead-then : (w : String) (f : Form) (k : Value f → Rest A) → readThen (lead w f) k ≡ wordThen (bytes w) (readThen f k)
   unfolding read readThen
-  lead-then w f k = fun-ext (λ t. then-then (readWord (bytes w) true t) (λ _ u. read f u) k ∙ word-on (bytes w) true (λ _. readThen f k) t)
+  lead-then w f k = fun-ext (λ t. then-then _ (λ _ u. read f u) k ∙ word-on (bytes w) true (λ _. readThen f k) t)
 
   pub trail-then : (f : Form) (w : String) (k : Value f → Rest A) → readThen (trail f w) k ≡ readThen f (λ x. wordThen (bytes w) (k x))
   unfolding read readThen
@@ -104,7 +104,7 @@ module _ (f : Form) (d : decided f ≡ true) (first : (v : Value f) → Begun (s
   enough (suc k) (suc j) [] h g = refl
   enough (suc k) (suc j) (b ∷ t) h g =
       on-flag (starts f b)
-      (λ e. rw (e, readMany) (then-same (read f (b ∷ t)) _ _ (λ a u o. let l = shorter (b ∷ t) u a o in rw (enough k j u (omega arith) (omega arith)))))
+      (λ e. rw (e, readMany) (then-same _ _ _ (λ a u o. let l = shorter (b ∷ t) u a o in rw (enough k j u (omega arith) (omega arith)))))
       (λ e. rw (e, readMany))
 
   module _ {A : Type 0} (k : List (Value f) → Rest A) where

@@ -89,7 +89,7 @@ module _ {A : Type 0} (R S : Reader A) (same : (v : A) → R .Good v → S .Good
   outcome-as (got v u) o =
       let e = same v (o .good) in
       let p : t ≡ S .spells v ++ u = rw (← e .1) (o .parts) in
-      record { good = e .0; parts = p; steady = λ w a. agree (S .spells v ++ w) (alike-from (S .spells v) p a) ∙ rw (← e .1) (o .steady w a) }
+      record { good = e .0; parts = p; steady = λ w a. agree _ (alike-from (S .spells v) p a) ∙ rw (← e .1) (o .steady w a) }
   outcome-as (bad u) o =
       let e = same (o .value) (o .good) in
       record {
@@ -99,7 +99,7 @@ module _ {A : Type 0} (R S : Reader A) (same : (v : A) → R .Good v → S .Good
         good = e .0;
         parts = o .parts;
         begins = o .begins ∙ e .1;
-        steady = λ w a. agree (o .before ++ w) (alike-from (o .before) (o .parts) a) ∙ o .steady w a;
+        steady = λ w a. agree _ (alike-from (o .before) (o .parts) a) ∙ o .steady w a;
       }
 
 -- ---- a word
@@ -129,11 +129,11 @@ module _ {A : Type 0} (w : List ℕ) (a : A) (c : ℕ) where
 pub word-read : {A : Type 0} (w : List ℕ) (a : A) (t : List ℕ) → Outcome (theWord w a) t (readWord w a t)
 unfolding readWord
 word-read [] a t = record { good = refl; parts = refl; steady = λ s l. refl }
-word-read (c ∷ w) a [] = refused-here (theWord (c ∷ w) a) a refl [] (λ s l. elim l [ ])
+word-read (c ∷ w) a [] = refused-here _ a refl [] (λ s l. elim l [ ])
 word-read (c ∷ w) a (b ∷ t) =
     on-flag (eqb b c)
     (λ e. rw (e, readWord) (rw (eqb-true b c e) (word-more w a c t (readWord w a t) (word-read w a t))))
-    (λ e. rw (e, readWord) (refused-here (theWord (c ∷ w) a) a refl (b ∷ t) (like (λ s. readWord (c ∷ w) a s ≡ bad s) (λ r. rw (e, readWord)))))
+    (λ e. rw (e, readWord) (refused-here _ a refl (b ∷ t) (like (λ s. readWord (c ∷ w) a s ≡ bad s) (λ r. rw (e, readWord)))))
 
 -- ---- one reader after another
 
@@ -152,8 +152,8 @@ module _
     unfolding thenRead
     second-is l w v e h =
         agree ((R .spells a ++ l) ++ w) (alike-from (R .spells a ++ l) (parted l v e) h)
-        ∙ rw (append-assoc (R .spells a) l w, k .steady (l ++ w) (alike-from l e h))
-        (next-is a (l ++ w))
+        ∙ rw (append-assoc _ l w, k .steady _ (alike-from l e h))
+        (next-is a _)
 
     second : (y : Read B) → Outcome S u y → Outcome P t (thenRead y (λ b v. got (make a b) v))
     unfolding thenRead
@@ -161,11 +161,11 @@ module _
         let m = made a b (k .good) (o .good) in
         record {
           good = m .0;
-          parts = rw (m .1) (parted (S .spells b) v (o .parts));
-          steady = λ w h. rw (m .1) (second-is (S .spells b) w v (o .parts) h ∙ rw (o .steady w h));
+          parts = rw (m .1) (parted _ v (o .parts));
+          steady = λ w h. rw (m .1) (second-is _ w v (o .parts) h ∙ rw (o .steady w h));
         }
     second (bad v) o =
-        let m = made a (o .value) (k .good) (o .good) in
+        let m = made a _ (k .good) (o .good) in
         record {
           before = R .spells a ++ o .before;
           after = o .after;
@@ -180,7 +180,7 @@ module _
   unfolding thenRead
   both-read (got a u) o f = rw next-is (second a u o (S .reads u) (f a u o))
   both-read (bad u) o f =
-      let m = made (o .value) (some .0) (o .good) (some .1) in
+      let m = made _ _ (o .good) (some .1) in
       record {
         before = o .before;
         after = o .after ++ S .spells (some .0);
@@ -188,7 +188,7 @@ module _
         good = m .0;
         parts = o .parts;
         begins = rw (m .1, ← o .begins, append-assoc);
-        steady = λ w h. agree (o .before ++ w) (alike-from (o .before) (o .parts) h) ∙ rw (o .steady w h);
+        steady = λ w h. agree _ (alike-from (o .before) (o .parts) h) ∙ rw (o .steady w h);
       }
 
 -- ---- one reader many times
@@ -220,7 +220,7 @@ module _ {A : Type 0} (begins : ℕ → Bool) (R : Reader A) (read-one : (t : Li
   enough (suc k) (suc j) [] h g = refl
   enough (suc k) (suc j) (b ∷ t) h g =
       on-flag (begins b)
-      (λ e. rw (e, readMany) (then-same (R .reads (b ∷ t)) _ _ (λ a u o. let l = shorter (b ∷ t) u a (rw o at (read-one (b ∷ t))) in rw (enough k j u (omega arith) (omega arith)))))
+      (λ e. rw (e, readMany) (then-same _ _ _ (λ a u o. let l = shorter (b ∷ t) u a (rw o at (read-one (b ∷ t))) in rw (enough k j u (omega arith) (omega arith)))))
       (λ e. rw (e, readMany))
 
   abbrev next : A → List ℕ → Read (List A)
@@ -231,7 +231,7 @@ module _ {A : Type 0} (begins : ℕ → Bool) (R : Reader A) (read-one : (t : Li
   unfolding readMany
   many-more b t e =
       rw (e, readMany)
-      (then-same (R .reads (b ∷ t)) _ next (λ a u o. let l = shorter (b ∷ t) u a (rw o at (read-one (b ∷ t))) in rw (enough (length t) (length u) u (omega arith) (omega arith))))
+      (then-same _ _ next (λ a u o. let l = shorter (b ∷ t) u a (rw o at (read-one (b ∷ t))) in rw (enough (length t) (length u) u (omega arith) (omega arith))))
 
   -- and no more
   many-end : (t : List ℕ) → NotNext begins t → readAll begins R t ≡ got [] t
@@ -251,8 +251,8 @@ module _ {A : Type 0} (begins : ℕ → Bool) (R : Reader A) (read-one : (t : Li
   many-to (suc k) (b ∷ t) h =
       on-flag (begins b)
       (λ e. rw (many-more b t e)
-      (both-read R (times begins R) (times begins R) _∷_ (λ a l g i. (more g i, refl)) ([], end) next (λ a u. refl) (b ∷ t)
-      (like (λ s. readAll begins R s ≡ thenRead (R .reads s) next) (λ r. many-more b r e)) (R .reads (b ∷ t)) (read-one (b ∷ t)) (λ a u o. many-to k u (omega (arith, shorter (b ∷ t) u a o)))))
+      (both-read R _ _ _∷_ (λ a l g i. (more g i, refl)) ([], end) next (λ a u. refl) (b ∷ t)
+      (like (λ s. readAll begins R s ≡ thenRead (R .reads s) next) (λ r. many-more b r e)) _ (read-one (b ∷ t)) (λ a u o. many-to k u (omega (arith, shorter (b ∷ t) u a o)))))
       (λ e. rw (many-end (b ∷ t) e) (many-none (b ∷ t) (like (λ s. readAll begins R s ≡ got [] s) (λ r. many-end (b ∷ r) e))))
 
   pub many-read : (t : List ℕ) → Outcome (times begins R) t (readAll begins R t)
@@ -262,7 +262,7 @@ module _ {A : Type 0} (begins : ℕ → Bool) (R : Reader A) (read-one : (t : Li
     many-next : (l : List A) → Each (R .Good) l → (t : List ℕ) → NotNext follows t → NotNext follows (spellMany (R .spells) l ++ t)
     unfolding spellMany
     many-next [] end t f = f
-    many-next (x ∷ l) (more g i) t f = begun-not apart (begun-before t (begun-before (spellMany (R .spells) l) (first x g)))
+    many-next (x ∷ l) (more g i) t f = begun-not apart (begun-before t (begun-before _ (first x g)))
 
     begun-more : {s : List ℕ} → Begun begins s → readAll begins R s ≡ thenRead (R .reads s) next
     begun-more (begun {b = b} {r = r} e) = many-more b r e

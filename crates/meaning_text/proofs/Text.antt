@@ -1,15 +1,15 @@
 -- Whole texts of a form whose next byte decides: what is spelled is read back, nothing else is read, and the place of a bad byte is the length of the longest beginning that a text in the form could have.
 -- A refusal does not depend on what stands behind the bad byte (`Form`), so no text in the form goes on with it.
-use Rattle.meaning_numbers.proofs.Prelude.{_≡_, refl, sym, ap, _∙_, List, [], _∷_, _++_, append-assoc, append-nil, true, ℕ, zero, suc, _+_, _-_, _<_, _≤_, arith, ltb, length, take, length-append, take-at, take-append-add, ltb-true, ltb-false}
+use Rattle.meaning_numbers.proofs.Prelude.{_≡_, refl, sym, ap, _∙_, List, [], _∷_, _++_, append-assoc, append-nil, true, ℕ, zero, suc, _+_, _-_, _<_, _≤_, arith, length, take, length-append, take-at, take-append-add, ltb-true, ltb-false}
 use Rattle.meaning_text.specs.{Number.Read, Number.got, Number.bad, Form.Form, Form.Value, Form.spell, Form.Spellable, Form.read, Read.Verdict, Read.fine, Read.unfit, Read.ended, Read.readText, Read.Viable, Read.Longest}
 use Rattle.meaning_text.proofs.{Reading.on-flag, Reading.Alike, Reading.alike, Reading.Outcome, Form.decided, Form.theForm, Form.form-read, Form.spelled-read, Form.refused-viable}
 
 -- two places that both end the longest beginning are the same
 pub longest-only : (f : Form) (t : List ℕ) (m n : ℕ) → Longest f t m → Longest f t n → m ≡ n
 longest-only f t m n a b =
-    on-flag (ltb m n)
+    on-flag _
     (λ e. absurd (a .longest n (ltb-true m n e) (b .inside) (b .viable)))
-    (λ e. on-flag (ltb n m)
+    (λ e. on-flag _
     (λ g. absurd (b .longest m (ltb-true n m g) (a .inside) (a .viable)))
     (λ g. omega (arith, ltb-false m n e, ltb-false n m g)))
 
@@ -36,18 +36,18 @@ module _ (f : Form) (t p u : List ℕ) (parts : t ≡ p ++ u) (viable : Viable f
   longer : (r : List ℕ) → u ≡ r → (k : ℕ) → 0 < k → k ≤ length r → Viable f (p ++ take k r) → ⊥
   longer [] e k h g s = omega arith
   longer (b ∷ r) e zero h g s = omega arith
-  longer (b ∷ r) e (suc k) h g s = stops (b ∷ (take k r ++ s .0)) (rw e alike) (s .1) (s .2) (rw append-assoc at (s .3))
+  longer (b ∷ r) e (suc k) h g s = stops _ (rw e alike) (s .1) (s .2) (rw append-assoc at (s .3))
 
   longest-at : Longest f t (length t - length u)
   longest-at =
       let l : length t - length u ≡ length p = omega (arith, simp length-append at (ap length parts)) in
       rw l (record {
         inside = omega arith;
-        viable = rw (parts, take-at p u (length p) refl) viable;
+        viable = rw (parts, take-at p u _ refl) viable;
         longest = λ m a b s.
             let k : m ≡ length p + (m - length p) = omega arith in
             let c : take m t ≡ p ++ take (m - length p) u = rw parts (ap (λ (j : ℕ). take j (p ++ u)) k ∙ take-append-add p u (m - length p)) in
-            longer u refl (m - length p) (omega arith) (omega (arith, simp length-append at (ap length parts))) (rw c at s);
+            longer u refl (m - length p) (omega arith) (omega arith) (rw c at s);
       })
 
 -- the laws of a form's whole texts

@@ -9,11 +9,11 @@ use Rattle.numbers.specs.Raised.{raised}
 
 -- to be listed: the limits of a number that fits
 pub z-fits32 : {z : ℤ} → SFits w32 z → (up z < 2147483648) × (dn z ≤ 2147483648)
-z-fits32 {z = pos n} h = (omega (arith, h .sfits), omega arith)
-z-fits32 {z = negsuc n} h = (omega arith, omega (arith, h .sfits))
+z-fits32 {z = pos n} h = (omega arith, omega arith)
+z-fits32 {z = negsuc n} h = (omega arith, omega arith)
 
 pub in-back : {x : ℤ} → InLimits x → toZ w32 (ofZ w32 x) ≡ x
-in-back {x} h = toZ-ofZ w32 x (omega (zmach32, h .low, h .high))
+in-back {x} h = toZ-ofZ w32 x (omega zmach32)
 
 pub in-arg : {x : ℤ} → InLimits x → InLimits (toZ w32 (ofZ w32 x))
 in-arg h = rw (in-back h) h

@@ -14,7 +14,7 @@ pub made-none : (f : ℕ → ℕ) (most : ℕ) → Made f most 0 0
 made-none f most = record { sum = sym (Σℕ-none f); small = omega arith }
 
 pub made-more : {f : ℕ → ℕ} {most i total : ℕ} (n p : ℕ) → Made f most i total → p ≡ Σℕ n (λ k. f (i + k)) → p ≤ most * n → Made f most (i + n) (total + p)
-made-more {f} {most} {i} n p d e h = record { sum = omega (arith, d .sum, Σℕ-split i n f); small = omega (arith, d .small) }
+made-more {f} {most} {i} n p d e h = record { sum = omega (arith, d .sum, Σℕ-split i n f); small = omega arith }
 
 pub made-left : {f : ℕ → ℕ} {most i total m limit : ℕ} → Made f most i total → i ≤ m → limit < total → Within (Σℕ m f) limit total
 made-left {f} {most} {i} {total} {m} d h k = left-early (omega (arith, d .sum, Σℕ-fewer i m f h)) k

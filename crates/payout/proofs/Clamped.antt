@@ -11,8 +11,8 @@ use Rattle.numbers.specs.Narrow.{clamp}
 in-clamp : (z : ℤ) → valueIn z ≡ true → clamp z ≡ z
 in-clamp z e =
     let b = yes-value z e in
-    let low : negsuc 2147483647 ≤ℤ z = omega (zmach, b .low) in
-    let high : z ≤ℤ pos 2147483647 = omega (zmach, b .high) in
+    let low : negsuc 2147483647 ≤ℤ z = omega zmach in
+    let high : z ≤ℤ pos 2147483647 = omega zmach in
     rw (le-ltZ low, le-ltZ high) refl
 
 value-clamp : (z : ℤ) → valueIn (clamp z) ≡ valueIn z
@@ -65,7 +65,7 @@ module _ (x : Index) where
 
   by-outside : (vs : List ℤ) (o : Option ℕ) → firstOutside vs ≡ o → answer (map clamp vs) ≡ answer vs
   by-outside vs none e = ap answer (all-clamp vs e)
-  by-outside vs (some k) e = by-length vs k (lengthIn mostValues (length vs)) e refl
+  by-outside vs (some k) e = by-length vs k (lengthIn mostValues _) e refl
 
   pub clamped-answer : (vs : List ℤ) → answer (map clamp vs) ≡ answer vs
   clamped-answer vs = by-outside vs (firstOutside vs) refl

@@ -34,11 +34,11 @@ counted-inside x values n e = rw e refl
 
 module _ (x s : List ℕ) where
   pub index-stopped : (q : ℕ) → Scanned.Bad q ≡ scanned (readText indexForm x) → Audited.Refused 12 (lineOf x q) ≡ auditTextAnswer x s
-  index-stopped q came = by (readText indexForm x) refl
+  index-stopped q came = by _ refl
     where
       by : (v : Verdict (Value indexForm)) → readText indexForm x ≡ v → Audited.Refused 12 (lineOf x q) ≡ auditTextAnswer x s
       by (fine v) e = let f = came ∙ ap scanned e in let z : _≡_ {A = ℕ} 0 1 = cc in absurd (omega arith)
-      by (unfit p) e = let f : Scanned.Bad q ≡ Scanned.Bad p = came ∙ ap scanned e in let z : q ≡ p = cc in ap (λ (k : ℕ). Audited.Refused 12 (lineOf x k)) z ∙ sym (index-unread x s p e)
+      by (unfit p) e = let z : q ≡ p = cc in ap (λ (k : ℕ). Audited.Refused 12 (lineOf x k)) z ∙ sym (index-unread x s p e)
 
   module _ (h : Head) (c : Rows) (came : Scanned.Fine h c ≡ scanned (readText indexForm x)) where
     record Readable : Type 0 where
@@ -46,14 +46,14 @@ module _ (x s : List ℕ) where
       read : readText indexForm x ≡ fine value
 
     readable : Readable
-    readable = by (readText indexForm x) refl
+    readable = by _ refl
       where
         by : (v : Verdict (Value indexForm)) → readText indexForm x ≡ v → Readable
         by (fine v) e = record { value = v; read = e }
         by (unfit p) e = let f = came ∙ ap scanned e in let z : _≡_ {A = ℕ} 0 1 = cc in absurd (omega arith)
 
     pub line-stopped : (q : ℕ) → Line.Bad q ≡ lineRead (readText seriesForm s) → Audited.Refused 12 (newlines x + lineOf s q) ≡ auditTextAnswer x s
-    line-stopped q l = by (readText seriesForm s) refl
+    line-stopped q l = by _ refl
       where
         by : (w : Verdict (List ℤ)) → readText seriesForm s ≡ w → Audited.Refused 12 (newlines x + lineOf s q) ≡ auditTextAnswer x s
         by (fine w) e = let f = l ∙ ap lineRead e in let z : _≡_ {A = ℕ} 0 1 = cc in absurd (omega arith)

@@ -2,7 +2,7 @@
 use Rattle.meaning_numbers.proofs.Member.{All}
 use Rattle.meaning_numbers.proofs.Prelude.{_≡_, refl, sym, ap, _∙_, Bool, true, false, not, cond, List, [], _∷_, _++_, append-nil, ⊎-elim, Option, none, some, ℕ, zero, suc, _+_, _*_, _<_, _≤_, _^_, arith, eqb, ltb, ℤ, pos, negsuc, natAbs, length, getD, take, length-take-le, ltZ, ne-eqb, ltb-true}
 use Rattle.meaning_curves.specs.Limits.{mostValues, mostProgramValues, lengthIn, lowestEnd, firstOutside}
-use Rattle.meaning_rows.specs.{Index.zeroRow, Index.Index, Index.runsOf, Judge.runLengths, Judge.firstBadRow, Audit.firstWrong, Audit.missing, declared.Row.Row}
+use Rattle.meaning_rows.specs.{Index.zeroRow, Index.Index, Judge.firstBadRow, Audit.firstWrong, declared.Row.Row}
 use Rattle.meaning_rows.proofs.Audit.{first-wrong, missing-are}
 use Rattle.meaning_rows.proofs.Judge.{GoodRows, between, runs-lengths, well-formed, first-bad, rows-at-most, row-at, stands-below}
 use Rattle.meaning_text.specs.{Bytes.bytes, Bytes.newlines, Number.spellℕ, Number.spellℤ, Form.Value, Form.spellMany, Form.spell, Read.Verdict, Read.fine, Read.unfit, Read.readText, Read.lineOf, Texts.indexForm, Texts.seriesForm}
@@ -58,13 +58,13 @@ unfolding GoodRows
 rows-few x least first taken [] h g = omega arith
 rows-few x least first taken (r ∷ l) h g =
     let n = g .0 in
-    omega (arith, rows-few x (r .up) (first + r .runs) (taken + runLengths (runsOf x r)) l (n .total) (g .1), runs-lengths x r (n .row), n .row .some-run)
+    omega (arith, rows-few x (r .up) _ _ l (n .total) (g .1), runs-lengths x r (n .row), n .row .some-run)
 
 bad-row-few : (x : Index) (k : ℕ) → firstBadRow x ≡ some k → k ≤ mostValues
 bad-row-few x k e = ⊎-elim
     (λ z. omega (arith, z .0))
     (λ b. let w = b .head .windows in
-    omega (arith, rows-few x lowestEnd 0 0 (take k (x .rows)) (omega arith) (b .before), length-take-le k (x .rows) (omega (arith, b .is-row)), w .most))
+    omega (arith, rows-few x lowestEnd 0 0 _ (omega arith) (b .before), length-take-le k (x .rows) (omega (arith, b .is-row)), w .most))
     (first-bad x k e)
 
 -- ---- refusals
@@ -145,12 +145,12 @@ module _ (c : AuditCall) where
 
   small-audited : firstBadRow (c .index) ≡ none → pack (audited c) < 2 ^ 64
   unfolding audited pack
-  small-audited h = by (firstWrong (c .index) (c .series)) refl
+  small-audited h = by _ refl
     where
       by : (o : Option (ℕ × ℕ)) → firstWrong (c .index) (c .series) ≡ o → pack (audited c) < 2 ^ 64
       by none e =
           let g = well-formed (c .index) h in
-          rw (e, audited) (small-complete (missing (c .index)) (omega (arith, missing-are (c .index) (c .series) g e, g .head .windows .most)))
+          rw (e, audited) (small-complete _ (omega (arith, missing-are (c .index) (c .series) g e, g .head .windows .most)))
       by (some p) e =
           let g = well-formed (c .index) h in
           let w = first-wrong (c .index) (c .series) g zeroRow (p .0) (p .1) e in
@@ -187,4 +187,4 @@ module _ (x s : List ℕ) (few : length x < 2 ^ 63) where
   small-by (fine v) (fine w) e f = by-length v e w f (lengthIn mostProgramValues (length w)) refl (firstRefusal (auditTable mostProgramValues (record { series = w; index = textIndex x }))) refl
 
   pub number-small : pack (auditTextAnswer x s) < 2 ^ 64
-  number-small = small-by (readText indexForm x) (readText seriesForm s) refl refl
+  number-small = small-by _ (readText seriesForm s) refl refl

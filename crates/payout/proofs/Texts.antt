@@ -50,7 +50,7 @@ module _ (x s : List ℕ) where
       none-refuses e = rw (e, auditTextAnswer, series-is) refl
 
       library : lengthIn mostProgramValues (length w) ≡ true → lengthIn mostValues (length w) ≡ true
-      library e = let b = between 1 mostProgramValues (pos (length w)) e in is-within 1 mostValues (pos (length w)) (record { is = refl; least = b .least; most = omega (arith, b .most) })
+      library e = let b = between 1 mostProgramValues _ e in is-within 1 mostValues _ (record { is = refl; least = b .least; most = omega arith })
 
       inside : lengthIn mostProgramValues (length w) ≡ true → firstRefusal (auditTable mostProgramValues call) ≡ firstRefusal (auditTable mostValues call)
       unfolding firstRefusal auditTable lengthOutside
@@ -68,11 +68,11 @@ module _ (x s : List ℕ) where
           let m = length-map w clamp in
           let z = replicate n (pos 0) in
           let k : 0 + length (map clamp w) ≤ length z = omega (arith, m, h, length-replicate n (pos 0)) in
-          rw (sets-eq (map clamp w) z 0 k) (ap (λ (j : ℕ). take j (map clamp w ++ drop (0 + length (map clamp w)) z)) (sym m) ∙ take-append-seam (map clamp w) (drop (0 + length (map clamp w)) z))
+          rw (sets-eq _ z 0 k) (ap (λ (j : ℕ). take j (map clamp w ++ drop (0 + length (map clamp w)) z)) (sym m) ∙ take-append-seam _ _)
 
       pub both-read : (buffer : List ℤ) → buffer ≡ stored (replicate 4096 (pos 0)) w → countedAnswer (textIndex x) buffer (length w) ≡ auditTextAnswer x s
       unfolding countedAnswer
-      both-read buffer e = by (lengthIn mostProgramValues (length w)) refl
+      both-read buffer e = by _ refl
         where
           by : (t : Bool) → lengthIn mostProgramValues (length w) ≡ t → countedAnswer (textIndex x) buffer (length w) ≡ auditTextAnswer x s
           by true f =

@@ -51,7 +51,7 @@ module _ (series : List ℤ) (v : Value indexForm) where
 
   plan-is : thePlan .refusal ≡ refusalOf (auditTable mostValues call)
   unfolding planOf tableOf auditTable
-  plan-is = ap asRefusal (same-behind (seriesLines mostValues series ++ (judgedLine j ∷ [])) (countLines (length series) (lent h [] [] [])) (countLines (length series) X) (λ t. ap firstRefusal (same-counts t))) ∙ rw (judged-line X j (rows-judged v)) refl
+  plan-is = ap asRefusal (same-behind _ _ _ (λ t. ap firstRefusal (same-counts t))) ∙ rw (judged-line X j (rows-judged v)) refl
 
   pub stopped-by : (s : RowsAudited) → (thePlan .refusal .number ≡ 0 → ⊥) → answerOf thePlan s ≡ auditAnswer call
   stopped-by s f = stopped call thePlan plan-is s f
@@ -74,7 +74,7 @@ module _ (series : List ℤ) (v : Value indexForm) where
 
     went : (o : Option (ℕ × ℕ)) → firstWrong X series ≡ o → answerOf thePlan (found o) ≡ auditAnswer call
     unfolding found
-    went none e = went-right call thePlan plan-is z (found none) refl e (lacking-is e)
+    went none e = went-right call thePlan plan-is z _ refl e (lacking-is e)
     went (some w) e = went-wrong call thePlan plan-is z (w .0) (w .1) e
 
     pub walked-by : (t : List ℕ) (s : RowsAudited) → readText indexForm t ≡ fine v → Walked series h t s → answerOf thePlan s ≡ auditAnswer call
@@ -82,7 +82,7 @@ module _ (series : List ℤ) (v : Value indexForm) where
     walked-by t s r w =
         let i = head-is v (good .0) in
         let n : h .windows + h .window ≡ length series + 1 = omega (arith, fits call thePlan plan-is z, ap natAbs (i .windows), ap natAbs (i .window)) in
-        ap (answerOf thePlan) (w v r ∙ rows-found series v (good .0) (good .1) n) ∙ went (firstWrong X series) refl
+        ap (answerOf thePlan) (w v r ∙ rows-found series v (good .0) (good .1) n) ∙ went _ refl
 
 -- ---- a text whose head and rows came to h and c
 
@@ -101,11 +101,11 @@ module _ (t : List ℕ) (series : List ℤ) (h : Head) (c : Rows) (came : Scanne
     rows : c ≡ rowsFrom (headHeld value) noRows (value .1 .1 .1)
 
   told : AnswerTold
-  told = by (readText indexForm t) refl
+  told = by _ refl
     where
       by : (x : Verdict (Value indexForm)) → readText indexForm t ≡ x → AnswerTold
-      by (fine v) e = let q : Scanned.Fine h c ≡ Scanned.Fine (headHeld v) (rowsFrom (headHeld v) noRows (v .1 .1 .1)) = came ∙ ap scanned e in record { value = v; read = e; head = cc; rows = cc }
-      by (unfit p) e = let q : Scanned.Fine h c ≡ Scanned.Bad p = came ∙ ap scanned e in let z : _≡_ {A = ℕ} 0 1 = cc in absurd (omega arith)
+      by (fine v) e = record { value = v; read = e; head = cc; rows = cc }
+      by (unfit p) e = let z : _≡_ {A = ℕ} 0 1 = cc in absurd (omega arith)
 
   abbrev v : Value indexForm
   v = told .value
@@ -114,10 +114,10 @@ module _ (t : List ℕ) (series : List ℤ) (h : Head) (c : Rows) (came : Scanne
   same-plan = ap (λ (u : Head). planOf series u (judgedRows u c)) (told .head) ∙ ap (λ (d : Rows). planOf series (headHeld v) (judgedRows (headHeld v) d)) (told .rows)
 
   same-answer : auditAnswer (record { series = series; index = indexSaid v }) ≡ answered
-  same-answer = ap (λ (x : Index). auditAnswer (record { series = series; index = x })) (sym (text-fine t v (told .read)))
+  same-answer = rw (sym (text-fine t v (told .read)))
 
   number-is : plan .refusal .number ≡ 0 → planOf series (headHeld v) (judgedRows (headHeld v) (rowsFrom (headHeld v) noRows (v .1 .1 .1))) .refusal .number ≡ 0
-  number-is z = sym (ap (λ (u : AuditPlan). u .refusal .number) same-plan) ∙ z
+  number-is z = sym (rw same-plan) ∙ z
 
   pub stopped-right : (s : RowsAudited) → (plan .refusal .number ≡ 0 → ⊥) → answerOf plan s ≡ answered
   stopped-right s z = ap (λ (u : AuditPlan). answerOf u s) same-plan ∙ stopped-by series v s (λ e. z (ap (λ (u : AuditPlan). u .refusal .number) same-plan ∙ e)) ∙ same-answer

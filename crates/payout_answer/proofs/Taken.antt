@@ -3,14 +3,13 @@ use Prim.Native.Nat.{ℕ, _+_, _≤_}
 use lib.IntN.{natAbs, pos}
 use mathlib.Core.Bool.{true, false≢true}
 use mathlib.Core.List.{List, [], _∷_, map}
-use mathlib.Core.Path.{_≡_, refl, sym, ap, subst, _∙_}
+use mathlib.Core.Path.{_≡_, refl, sym, ap, _∙_}
 use native.Mathlib.Omega.{arith}
 use Rattle.meaning_rows.specs.{declared.Head.Head, Index.Index, Index.lent, Index.records, Judge.headGood, Judge.runLengths, Judge.lengthTotal}
 use Rattle.meaning_rows.proofs.Laid.{Lays, laid}
 use Rattle.meaning_text.specs.{Form.Value, Texts.indexForm, Texts.rowForm, Texts.rowSaid, Texts.indexSaid}
 use Rattle.meaning_text.proofs.Reading.{on-flag}
-use Rattle.numbers.specs.Narrow.{clamp}
-use Rattle.text_judge.specs.{declared.Runs.Runs, declared.Rows.Rows, Tally.noRows, Tally.rowFits, Tally.rowNext, Tally.rowsFrom, Tally.headHeld}
+use Rattle.text_judge.specs.{declared.Runs.Runs, declared.Rows.Rows, Tally.noRows, Tally.rowNext, Tally.rowsFrom, Tally.headHeld}
 use Rattle.text_judge.proofs.Bad.{tallied, next-is, next-off, head-is, width-is, windows-is}
 
 module _ (h : Head) (x : Index) (width : natAbs (x .width) ≡ h .width) (windows : x .windows ≡ pos (h .windows)) (most : h .windows ≤ 4294967295) where
@@ -22,15 +21,15 @@ module _ (h : Head) (x : Index) (width : natAbs (x .width) ≡ h .width) (window
   unfolding rowsFrom records lengthTotal Lays
   taken-from [] c g s e = omega arith
   taken-from (r ∷ l) c g s e =
-      on-flag (rowFits h c (clamp (r .0)) (clamp (r .1 .0)) (runs-in r))
+      on-flag _
       (λ t.
       let i = next-is h x width windows most c r g t in
-      let n = rowNext h c (clamp (r .0)) (clamp (r .1 .0)) (runs-in r) in
+      let n = rowNext h c _ _ (runs-in r) in
       let more = map rowSaid l in
-      let j = taken-from l n (i .good) (subst (λ (k : ℕ). Lays (x .runs) k more) (sym (i .runs)) (s .2)) e in
+      let j = taken-from l n (i .good) (rw (i .runs) (s .2)) e in
       let d = ap (λ (k : ℕ). lengthTotal x (records k more)) (i .runs) in
       let q = ap runLengths (s .1) in
-      omega (arith, j, i .taken, d, q))
+      omega (arith, j, d, q))
       (λ t. absurd (false≢true (sym (next-off h x width windows most c r l t .0) ∙ e)))
 
 pub rows-taken : (v : Value indexForm) → headGood (lent (headHeld v) [] [] []) ≡ true → rowsFrom (headHeld v) noRows (v .1 .1 .1) .good ≡ true
@@ -38,5 +37,5 @@ pub rows-taken : (v : Value indexForm) → headGood (lent (headHeld v) [] [] [])
 unfolding indexSaid
 rows-taken v head good =
     let i = head-is v head in
-    let q = taken-from (headHeld v) (indexSaid v) (width-is v i) (windows-is v i) (omega (arith, i .most)) (v .1 .1 .1) noRows refl (laid (map rowSaid (v .1 .1 .1))) good in
+    let q = taken-from _ (indexSaid v) (width-is v i) (windows-is v i) (omega arith) _ noRows refl (laid _) good in
     omega (arith, q)

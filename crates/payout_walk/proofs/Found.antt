@@ -58,7 +58,7 @@ module _ (series : List ℤ) (h : Head) where
 
   one-wrong : (low up : ℤ) (l r k : ℕ) → wrongOf series (h .window) (l ∷ []) (r ∷ []) k (oneRun low up) ≡ wrongIn sum k (ranged low up) (numbersFrom l (r + 1 - l)) none
   unfolding wrongFrom oneRun offsets entries
-  one-wrong low up l r k = rw (zeros-right (l ∷ []) (r ∷ []) 63 (suc k), append-nil (numbersFrom l (r + 1 - l))) refl
+  one-wrong low up l r k = rw (zeros-right _ _ 63 (suc k), append-nil _) refl
 
   found-go : (o : Option (ℕ × ℕ)) (w : Option (ℕ × ℕ)) → cond (found o .go) (found w) (found o) ≡ found (orElse o w)
   unfolding found orElse
@@ -69,7 +69,7 @@ module _ (series : List ℤ) (h : Head) where
       → afterRun series h (record { low = low; up = up; left = l; rows = k; found = found o }) r ≡ found (orElse o (wrongIn sum k (ranged low up) (numbersFrom l (r + 1 - l)) none))
   unfolding afterRun chunked
   run-found k low up o l r a b =
-      rw (le-leb l r a, le-leb (r + h .window) (length series) b, one-wrong low up l r k) (found-go o (wrongIn sum k (ranged low up) (numbersFrom l (r + 1 - l)) none))
+      rw (le-leb l r a, le-leb _ _ b, one-wrong low up l r k) (found-go o _)
 
   -- ---- the runs of a row
 
@@ -85,11 +85,11 @@ module _ (series : List ℤ) (h : Head) where
   unfolding runsWalked Apart offsets wrongIn
   runs-found W a k low up o [] m s p = ap found (sym (else-none o))
   runs-found W a k low up o (x ∷ l) m s p =
-      let w = wrongIn sum k (ranged low up) (numbersFrom (x .0) (x .1 + 1 - x .0)) none in
+      let w = wrongIn sum k (ranged low up) (numbersFrom (x .0) _) none in
       ap (λ (u : RowsAudited). runsWalked series h k low up u (map entry l)) (run-held W k low up o (x .0) (x .1) m s (p .1) (p .2))
-      ∙ runs-found W (x .1 + 2) k low up (orElse o w) l m s (p .3)
-      ∙ ap found (else-assoc o w (wrongIn sum k (ranged low up) (offsets (map entry l)) none)
-      ∙ ap (orElse o) (sym (wrong-append sum k (ranged low up) (numbersFrom (x .0) (x .1 + 1 - x .0)) (offsets (map entry l)) none)))
+      ∙ runs-found W _ k low up _ l m s (p .3)
+      ∙ ap found (else-assoc o w _
+      ∙ ap (orElse o) (sym (wrong-append sum k (ranged low up) (numbersFrom (x .0) _) (offsets (map entry l)) none)))
 
 -- ---- the rows
 
@@ -124,7 +124,7 @@ module _ (series : List ℤ) (v : Value indexForm) (head : headGood (lent (headH
       let p = row-placed v head good a r b e in
       let m = g .good .plain in
       let n : r .1 .1 ≡ map entry m = sym s ∙ g .good .is in
-      let w = windowSum series (h .window) in
+      let w = windowSum series _ in
       let t : offsets (runsOf X row) ≡ offsets (map entry m) = ap offsets (g .good .is) in
       rw (p .low, p .up, t, n)
       (runs-found series h (h .windows) 0 k (r .0) (r .1 .0) o m (omega (arith, i .most)) (omega (arith, fits)) (subst (λ (c : ℕ). Apart c 0 m) windows (g .good .apart))
@@ -136,12 +136,12 @@ module _ (series : List ℤ) (v : Value indexForm) (head : headGood (lent (headH
   rows-from a [] f k o e s g = ap found (sym (else-none o))
   rows-from a (r ∷ l) f k o e s g =
       let row : Row = record { low = r .0; up = r .1 .0; first = f; runs = length (r .1 .1) } in
-      let w = windowSum series (h .window) in
-      let q = wrongIn w k row (offsets (runsOf X row)) none in
-      let later = wrongFrom X w (suc k) (records (f + length (r .1 .1)) (map rowSaid l)) in
-      let d : v .1 .1 .1 ≡ (a ++ (r ∷ [])) ++ l = e ∙ sym (append-assoc a (r ∷ []) l) in
+      let w = windowSum series _ in
+      let q = wrongIn w k row _ none in
+      let later = wrongFrom X w (suc k) (records _ (map rowSaid l)) in
+      let d = e ∙ sym (append-assoc a _ l) in
       ap (λ (u : RowsAudited). rowsWalked series h (suc k) u l) (row-found a r l f k o e (g .0) (s .1))
-      ∙ rows-from (a ++ (r ∷ [])) l (f + length (r .1 .1)) (suc k) (orElse o q) d (s .2) (g .1)
+      ∙ rows-from (a ++ (r ∷ [])) l _ (suc k) (orElse o q) d (s .2) (g .1)
       ∙ ap found (else-assoc o q later ∙ ap (orElse o) (sym (wrong-else w k row (offsets (runsOf X row)) later)))
 
   rows-are : X .rows ≡ records 0 (map rowSaid (v .1 .1 .1))
@@ -150,11 +150,11 @@ module _ (series : List ℤ) (v : Value indexForm) (head : headGood (lent (headH
 
   runs-lay : Lays (X .runs) 0 (map rowSaid (v .1 .1 .1))
   unfolding indexSaid
-  runs-lay = laid (map rowSaid (v .1 .1 .1))
+  runs-lay = laid _
 
   -- what is filed wrongly first
   pub rows-found : rowsWalked series h 0 goesOn (v .1 .1 .1) ≡ found (firstWrong X series)
   unfolding firstWrong found orElse
   rows-found =
-      rows-from [] (v .1 .1 .1) 0 0 none refl runs-lay (subst (All (GoodRow X)) rows-are (each-row X formed))
-      ∙ ap found (ap (wrongFrom X (windowSum series (h .window)) 0) (sym rows-are) ∙ ap (λ (c : ℕ). wrongFrom X (windowSum series c) 0 (X .rows)) (sym window))
+      rows-from [] (v .1 .1 .1) 0 0 none refl runs-lay (subst (All _) rows-are (each-row X formed))
+      ∙ ap found (ap (wrongFrom X _ 0) (sym rows-are) ∙ ap (λ (c : ℕ). wrongFrom X (windowSum series c) 0 (X .rows)) (sym window))

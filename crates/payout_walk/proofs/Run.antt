@@ -15,8 +15,8 @@ one-reads n w l r low up a b zero h = record {
 }
 one-reads n w l r low up a b (suc k) h =
     let x : Row = record { low = low; up = up; first = 0; runs = 1 } in
-    let e : getD (oneRun low up) (suc k) zeroRow ≡ zeroRow = getD-set-other (replicate 64 zeroRow) 0 (suc k) x zeroRow (λ z. omega arith) ∙ getD-replicate 64 (suc k) zeroRow zeroRow h in
-    subst (Reads n w (l ∷ []) (r ∷ [])) (sym e) (record { in-left = omega arith; in-right = omega arith; upward = λ i p q. absurd (omega arith); inside = λ i p q. absurd (omega arith) })
+    let e = getD-set-other (replicate 64 zeroRow) 0 (suc k) x zeroRow (λ z. omega arith) ∙ getD-replicate 64 (suc k) zeroRow zeroRow h in
+    subst (Reads n w _ _) (sym e) (record { in-left = omega arith; in-right = omega arith; upward = λ i p q. absurd (omega arith); inside = λ i p q. absurd (omega arith) })
 
 module _ (series : List ℤ) (h : Head) (t : Walk) (r : ℕ) where
   -- the run's windows lie in the series
@@ -26,14 +26,14 @@ module _ (series : List ℤ) (h : Head) (t : Walk) (r : ℕ) where
   pub run-ready : Sized series h → t .rows < 2 ^ 63 → fits ≡ true → Ready series h (t .left ∷ []) (r ∷ []) (oneRun (t .low) (t .up)) (t .rows)
   unfolding oneRun
   run-ready z f e =
-      let a = both (leb (t .left) r) (leb (r + h .window) (length series)) e in
+      let a = both _ _ e in
       record {
         values = z .values;
         least = z .least;
         window = z .window;
         far = omega (arith, f);
         size = refl;
-        rows = λ k b. one-reads (length series) (h .window) (t .left) r (t .low) (t .up) (leb-true (t .left) r (a .0)) (leb-true (r + h .window) (length series) (a .1)) k b;
+        rows = λ k b. one-reads _ _ _ r _ (t .up) (leb-true _ r (a .0)) (leb-true _ _ (a .1)) k b;
       }
 
   pub run-off : fits ≡ false → t .found ≡ afterRun series h t r

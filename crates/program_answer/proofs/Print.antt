@@ -1,6 +1,6 @@
 -- Laws of specs/Print.
 use Rattle.meaning_numbers.proofs.{Count.count-le, Between.yes-within}
-use Rattle.meaning_numbers.proofs.Prelude.{_≡_, refl, sym, ap, _∙_, subst, List, [], _∷_, _++_, map, none, ℕ, _+_, _-_, _<_, _≤_, _^_, min, arith, ℤ, pos, natAbs, _-ℤ_, length, take, drop, replicate, length-append, length-map, length-replicate, take-append-seam, _≤ℤ_, le-ltb, zarith, z-add, z-sub}
+use Rattle.meaning_numbers.proofs.Prelude.{_≡_, refl, sym, ap, _∙_, List, [], _∷_, _++_, map, none, ℕ, _+_, _-_, _<_, _≤_, _^_, min, arith, ℤ, pos, natAbs, _-ℤ_, length, take, drop, replicate, length-append, length-map, length-replicate, take-append-seam, _≤ℤ_, le-ltb, zarith, z-add, z-sub}
 use Rattle.meaning_curves.specs.{Limits.mostValues, Limits.mostProgramValues, Curve.windowCount, Curve.windowSum}
 use Rattle.meaning_rows.specs.{declared.Row.Row, Runs.runs}
 use Rattle.meaning_rows.specs.Build.{SetRow, entry, withRuns, builtRows, merged, filed, built}
@@ -11,7 +11,7 @@ use Rattle.meaning_filter.proofs.Matches.{all-found}
 use Rattle.meaning_text.specs.Texts.{indexText, foundText}
 use Rattle.meaning_entries.specs.{declared.Built.Built, declared.Found.Found, Buffers.IndexBuffers, Buffers.filled, Buffers.lefts, Buffers.rights, Buffers.indexIn, Answers.headOf, Write.writeTable, Write.writeRefusal, Program.callLines, Program.programIndex, Program.printed, Demand2.BuildKept, Demand2.SearchKept, Buffers.indexBuffers}
 use Rattle.meaning_entries.specs.Build.{BuildCall, lentBuild, widthLines, buildTable, buildRefusal, buildIndex, buildAnswer, buildAfter}
-use Rattle.meaning_entries.specs.Refusal.{Condition, valueOutside, flatQuery, illFormed, windowsOf, bufferShort, seriesLines}
+use Rattle.meaning_entries.specs.Refusal.{Condition, flatQuery, illFormed, windowsOf, bufferShort, seriesLines}
 use Rattle.meaning_entries.specs.Search.{SearchCall, SearchBuffers, lentAsk, lentSearch, valueLines, limitLines, searchPlan, searchTable, searchRefusal, searchAnswer, searchMatches, searchCandidates, question}
 use Rattle.meaning_entries.proofs.{Made.build-passes, Made.build-most, Listed.listed-is}
 use Rattle.meaning_entries.proofs.Lines.{long-line, window-line, query-line, threshold-line, scale-line, series-passes, count-passes, room-passes}
@@ -33,17 +33,17 @@ enough room need h = rw (le-ltb room need h)
 columns-both : (a b : List Entry) → entries (lefts (a ++ b)) (rights (a ++ b)) ≡ entries (lefts a) (rights a) ++ entries (lefts b) (rights b)
 unfolding entries
 columns-both [] b = refl
-columns-both (x ∷ a) b = ap (λ (l : List Entry). (pos (natAbs (x .0)), pos (natAbs (x .1))) ∷ l) (columns-both a b)
+columns-both (x ∷ a) b = rw (columns-both a b)
 
 columns-entry : (l : List (ℕ × ℕ)) → entries (lefts (map entry l)) (rights (map entry l)) ≡ map entry l
 unfolding entries
 columns-entry [] = refl
-columns-entry (x ∷ l) = ap (λ (m : List Entry). entry x ∷ m) (columns-entry l)
+columns-entry (x ∷ l) = rw (columns-entry l)
 
 columns-rows : (n : ℕ) (l : List SetRow) → entries (lefts (allRuns (map (withRuns n) l))) (rights (allRuns (map (withRuns n) l))) ≡ allRuns (map (withRuns n) l)
 unfolding entries allRuns withRuns
 columns-rows n [] = refl
-columns-rows n (r ∷ l) = columns-both (withRuns n r .runs) (allRuns (map (withRuns n) l)) ∙ rw (columns-rows n l) (ap (λ (m : List Entry). m ++ allRuns (map (withRuns n) l)) (columns-entry (runs (r .has) n)))
+columns-rows n (r ∷ l) = columns-both (withRuns n r .runs) _ ∙ rw (columns-rows n l) (rw (columns-entry _))
 
 -- ---- a program that nothing refuses
 
@@ -59,7 +59,7 @@ module _ (s q : List ℤ) (a : Asked) (free : AllPass (callLines (callOf s q a))
 
   length-in : Natural 1 mostProgramValues (pos (length s))
   unfolding openLines callLines callOf
-  length-in = long-line mostProgramValues (length s) (passed-line free 1)
+  length-in = long-line mostProgramValues _ (passed-line free 1)
 
   pub few : length s ≤ 4096
   few = length-in .most
@@ -80,17 +80,17 @@ module _ (s q : List ℤ) (a : Asked) (free : AllPass (callLines (callOf s q a))
 
   number-parts : AllPass widths × AllPass rest
   unfolding callLines callOf
-  number-parts = passed-both widths rest (passed-both (valueLines mostProgramValues s q) (widths ++ rest) free .1)
+  number-parts = passed-both widths rest (passed-both (valueLines mostProgramValues s q) _ free .1)
 
   width-part : AllPass widths
   width-part = number-parts .0
 
   limit-part : AllPass limits
-  limit-part = passed-both limits (flatQuery (a .ask .kind) q ∷ []) (number-parts .1) .0
+  limit-part = passed-both limits _ (number-parts .1) .0
 
   window-in : (1 ≤ w) × (w ≤ length s)
   unfolding openLines
-  window-in = let t = window-line (pos w) (length s) (passed-line width-part 3) in (t .0 .least, omega (zarith, t .1))
+  window-in = let t = window-line (pos w) _ (passed-line width-part 3) in (t .0 .least, omega zarith)
 
   windows-few : windowCount (length s) w ≤ 4096
   windows-few = omega (arith, few, window-in .0)
@@ -119,7 +119,7 @@ module _ (s q : List ℤ) (a : Asked) (free : AllPass (callLines (callOf s q a))
 
     filled-front : {A : Type 0} (z : A) (new old : List A) (n : ℕ) → n ≡ length new → take n (filled z new old) ≡ new
     unfolding filled
-    filled-front z new old n e = rw e (take-append-seam new (replicate (length old - length new) z))
+    filled-front z new old n e = rw e (take-append-seam new _)
 
     pub stands : {answer : Built} {rows′ : List Row} {left′ right′ : List ℕ} → BuildKept c b answer (indexBuffers rows′ left′ right′) → Stands answer rows′ left′ right′
     unfolding buildAnswer buildAfter indexIn
@@ -127,8 +127,8 @@ module _ (s q : List ℤ) (a : Asked) (free : AllPass (callLines (callOf s q a))
         let e = build-free in
         record {
           answered = h .answered ∙ rw (e, buildAnswer);
-          table = ap (take (length (x .rows))) (h .rows ∙ rw (e, buildAfter)) ∙ filled-front zeroRow (x .rows) rows (length (x .rows)) refl;
-          first = ap (take (length (x .runs))) (h .left ∙ rw (e, buildAfter)) ∙ filled-front 0 (lefts (x .runs)) left (length (x .runs)) (sym (length-map (x .runs) (λ y. natAbs (y .0))));
+          table = ap (take (length (x .rows))) (h .rows ∙ rw (e, buildAfter)) ∙ filled-front zeroRow _ rows _ refl;
+          first = ap (take (length (x .runs))) (h .left ∙ rw (e, buildAfter)) ∙ filled-front 0 _ left _ (sym (length-map (x .runs) (λ y. natAbs (y .0))));
           last = ap (take (length (x .runs))) (h .right ∙ rw (e, buildAfter)) ∙ filled-front 0 (rights (x .runs)) right (length (x .runs)) (sym (length-map (x .runs) (λ y. natAbs (y .1))));
         }
 
@@ -144,7 +144,7 @@ module _ (s q : List ℤ) (a : Asked) (free : AllPass (callLines (callOf s q a))
 
   -- the search through what is lent is that through what was built
   pub search-is : lentSearch s (headOf x) (x .rows) (lefts (x .runs)) (rights (x .runs)) (a .ask) q ≡ d
-  search-is = ap (λ (y : Index). record { series = s; index = y; query = q; ask = lentAsk (a .ask) }) lent-is
+  search-is = rw lent-is
 
   pub printed-is : printed (callOf s q a) ≡ indexText x ++ foundText (length (searchMatches d)) (searchCandidates d) (searchMatches d)
   unfolding printed programIndex callOf
@@ -152,11 +152,11 @@ module _ (s q : List ℤ) (a : Asked) (free : AllPass (callLines (callOf s q a))
 
   query-some-here : 1 ≤ length q
   unfolding openLines callLines callOf
-  query-some-here = query-line (length q) (length s) (passed-line limit-part 6) .0 .least
+  query-some-here = query-line _ _ (passed-line limit-part 6) .0 .least
 
   near : a .ask .limits .threshold ≤ 1000000000000
   unfolding openLines callLines callOf
-  near = threshold-line (pos (a .ask .limits .threshold)) (passed-line limit-part 9) .most
+  near = threshold-line _ (passed-line limit-part 9) .most
 
   candidates-few : searchCandidates d < 10 ^ 18
   unfolding candidateCount question
@@ -179,11 +179,11 @@ module _ (s q : List ℤ) (a : Asked) (free : AllPass (callLines (callOf s q a))
 
   all-here : searchMatches d ≡ allMatches (question d)
   unfolding openLines callLines callOf question
-  all-here = all-found x (question d) (Audit.passes-reached x s (build-passes c (indexBuffers no-rows zeros zeros) (build-free no-rows zeros zeros rows-long zeros-long zeros-long))) query-some-here (omega (arith, scale-line (pos (a .ask .limits .scale)) (pos (a .ask .limits .shift)) (passed-line limit-part 10) .0 .least))
+  all-here = all-found x _ (Audit.passes-reached x s (build-passes c _ (build-free no-rows zeros zeros rows-long zeros-long zeros-long))) query-some-here (omega (arith, scale-line _ _ (passed-line limit-part 10) .0 .least))
 
   sizes-here : (length (allMatches (question d)) ≤ 4096) × (length (foundText (length (allMatches (question d))) (searchCandidates d) (allMatches (question d))) ≤ 200000)
   unfolding question
-  sizes-here = all-size (question d) (searchCandidates d) (omega (arith, few, query-some-here)) near candidates-few
+  sizes-here = all-size _ _ (omega (arith, few, query-some-here)) near candidates-few
 
   pub matches-few : length (searchMatches d) ≤ 4096
   matches-few = omega (arith, ap length all-here, sizes-here .0)
@@ -193,7 +193,7 @@ module _ (s q : List ℤ) (a : Asked) (free : AllPass (callLines (callOf s q a))
 
   pub index-few : length (indexText x) ≤ 400000
   unfolding buildIndex
-  index-few = let m = most-x no-rows zeros zeros rows-long zeros-long zeros-long in index-size s w (a .width) (a .merge) (passed-here .formed) (m .0) (m .1)
+  index-few = let m = most-x no-rows zeros zeros rows-long zeros-long zeros-long in index-size s w _ _ (passed-here .formed) (m .0) (m .1)
 
   -- the text has room
   pub write-free : (text : List ℕ) → 1048576 ≤ length text → writeRefusal x text ≡ none
@@ -206,13 +206,13 @@ module _ (s q : List ℤ) (a : Asked) (free : AllPass (callLines (callOf s q a))
   windows-are =
       let h = z-add (pos (length s) -ℤ pos w) (pos 1) in
       let k = z-sub (pos (length s)) (pos w) in
-      (omega (zarith, h, k, window-in .1), omega (zarith, h, k, window-in .1))
+      (omega (zarith, h, k), omega (zarith, h, k, window-in .1))
 
   pub search-free : (before : SearchBuffers) → length (before .left) ≡ 4096 → length (before .right) ≡ 4096 → length (before .scratch) ≡ 4096 → length (before .offsets) ≡ 4096 → length (before .distances) ≡ 4096 → searchRefusal d before ≡ none
   unfolding openLines searchPlan searchTable callLines callOf buildIndex built
   search-free before hl hr hc ho hd =
-      let value-part = passed-join series-part (more {c = valueOutside q} (passed-line (passed-behind free 2) 2) end) in
-      let count-part = count-passes (length s) x (windows-are .0) (windows-are .1) in
+      let value-part = passed-join series-part (more (passed-line (passed-behind free 2) 2) end) in
+      let count-part = count-passes _ x (windows-are .0) (windows-are .1) in
       let n = windowCount (length s) w in
       let room-part = room-passes {one = min (length (before .left)) (length (before .right))} {needed = n} {other = length (before .scratch)} {wanted = n} (omega (arith, hl, hr, windows-few)) (omega (arith, hc, windows-few)) in
       passed-is (passed-join (passed-join value-part (passed-join limit-part (more (passed-line free 11) (more (none-bad x (passed-here .formed)) (passed-join count-part room-part)))))
@@ -225,17 +225,17 @@ pub list-put : (d : SearchCall) (before after : SearchBuffers) (t : Found) (text
 unfolding searchAnswer
 list-put d before after t text at new to h e p =
     let k : t ≡ Found.All (searchCandidates d) (length (searchMatches d)) = h .answered ∙ rw (e, searchAnswer) in
-    let g = subst (λ (f : Found). SearchKept d before f after) k h in
-    rw (listed-is d before after g) at (subst (λ (f : Found). FoundPut f text at (after .offsets) (after .distances) new to) k p)
+    let g = rw k at h in
+    rw (listed-is d before after g) at (rw k at p)
 
 -- a text behind another in a buffer that has room
 pub put-behind : (t l old mid new : List ℕ) (at to : ℕ) → mid ≡ filled 0 t old → at ≡ length t → Put mid at l new to → length t + length l ≤ length old → (to ≤ length new) × (take to new ≡ t ++ l)
 unfolding filled
 put-behind t l old mid new at to e f p h =
     let z : List ℕ = replicate (length old - length t) 0 in
-    let m : length mid ≡ length old = ap length e ∙ length-append t z ∙ rw (length-replicate {A = ℕ} (length old - length t) 0) (omega (arith, h)) in
-    let r = put-room p (omega (arith, p .ends, m, f, h)) in
+    let m : length mid ≡ length old = ap length e ∙ length-append t z ∙ rw (length-replicate {A = ℕ} _ 0) (omega (arith, h)) in
+    let r = put-room p (omega (arith, m, f, h)) in
     let b : take at mid ≡ t = rw (f, e) (take-append-seam t z) in
     let n : new ≡ (t ++ l) ++ drop (at + length l) mid = r .1 ∙ rw b in
-    let q : to ≡ length (t ++ l) = omega (arith, r .0, f, length-append t l) in
-    (omega (arith, put-length p, r .0, f, m, h), rw (n, q) (take-append-seam (t ++ l) _))
+    let q : to ≡ length (t ++ l) = omega (arith, f, length-append t l) in
+    (omega (arith, put-length p, f, m, h), rw (n, q) (take-append-seam _ _))

@@ -1,7 +1,7 @@
 -- How long the program's texts are at most, so that a buffer of 1,048,576 bytes holds them.
 use Rattle.meaning_numbers.specs.Place.{keep, numbersFrom}
 use Rattle.meaning_numbers.proofs.Prelude.{_≡_, ap, subst, true, not, _&&_, List, [], _∷_, map, ℕ, zero, suc, _+_, _*_, _<_, _≤_, _^_, arith, leb, ℤ, pos, negsuc, length, length-append, length-map, leb-true, by-test, both}
-use Rattle.meaning_curves.specs.{Curve.at, Curve.stretch, Curve.windowSum, Curve.windowCount, Normal.flat, Match.distance, Match.normalDistance, Match.scaleNear, Match.shiftNear, Match.rawMatch, Match.normalMatch}
+use Rattle.meaning_curves.specs.{Curve.windowCount, Normal.flat, Match.normalDistance, Match.scaleNear, Match.shiftNear, Match.rawMatch, Match.normalMatch}
 use Rattle.meaning_rows.specs.{Index.Entry, Index.RangeRow, Index.allRuns, Index.laidOut, Build.built, Build.builtRows}
 use Rattle.meaning_rows.proofs.{Judge.WellFormed, Laid.length-records, Laid.rows-back}
 use Rattle.meaning_filter.specs.{declared.Kind.Kind, declared.Kind.the-variants.Raw, declared.Kind.the-variants.Normal, declared.Limits.Limits}
@@ -32,7 +32,7 @@ runs-size (e ∷ l) (more h k) = simp length-append (omega (arith, run-size e h,
 
 row-size : (r : RangeRow) → Spellable rowForm (sayRow r) → length (spell rowForm (sayRow r)) ≤ 46 + 42 * length (r .runs)
 unfolding spell bytes
-row-size r h = simp length-append (omega (arith, number-size (r .low) (h .0), number-size (r .up) (h .1 .0), runs-size (r .runs) (h .1 .1)))
+row-size r h = simp length-append (omega (arith, number-size (r .low) (h .0), number-size (r .up) (h .1 .0), runs-size _ (h .1 .1)))
 
 rows-size : (l : List RangeRow) → Each (Spellable rowForm) (map sayRow l) → length (spellMany (spell rowForm) (map sayRow l)) ≤ 46 * length l + 42 * length (allRuns l)
 unfolding spellMany allRuns
@@ -45,7 +45,7 @@ value-size w d n l h i k = simp length-append (omega (arith, number-size w h, nu
 
 said-is : (w d n : ℤ) (l : List RangeRow) → sayIndex (laidOut w d n l) ≡ (w, (d, (n, map sayRow l)))
 unfolding sayIndex
-said-is w d n l = ap (λ (m : List RangeRow). (w, (d, (n, map sayRow m)))) (rows-back w d n l)
+said-is w d n l = rw (rows-back w d n l)
 
 laid-size : (w d n : ℤ) (l : List RangeRow) → Spellable indexForm (sayIndex (laidOut w d n l)) → length (indexText (laidOut w d n l)) ≤ 96 + 46 * length l + 42 * length (allRuns l)
 unfolding indexText
@@ -57,9 +57,9 @@ laid-size w d n l h =
 pub index-size : (s : List ℤ) (w d g : ℕ) → WellFormed (built s w d g) → length (built s w d g .rows) ≤ 4096 → length (built s w d g .runs) ≤ 4096 → length (indexText (built s w d g)) ≤ 400000
 unfolding built
 index-size s w d g h a b =
-    let n = windowCount (length s) w in
-    let l = builtRows (windowSum s w) d g n in
-    omega (arith, laid-size (pos w) (pos d) (pos n) l (spelled (built s w d g) h), length-records 0 l, a, b)
+    let n = windowCount _ w in
+    let l = builtRows _ d g n in
+    omega (arith, laid-size (pos w) (pos d) (pos n) l (spelled _ h), length-records 0 l, a, b)
 
 -- ---- the list's text
 
@@ -83,15 +83,15 @@ found-size m c l h k s = rw (← found-parts m c l) (simp length-append (omega (
 -- what matches is at most the threshold away
 near : (k : Kind) (s q : ℕ → ℤ) (m : ℕ) (l : Limits) → matches k s q m l ≡ true → distanceTo k s q m l ≤ l .threshold
 unfolding matches distanceTo rawMatch normalMatch
-near Raw s q m l e = leb-true (distance s q (l .band) m) (l .threshold) e
+near Raw s q m l e = leb-true _ _ e
 near Normal s q m l e =
-    let d = leb (normalDistance s q (l .band) m) (l .threshold) in
+    let d = leb (normalDistance s q _ m) (l .threshold) in
     let c = shiftNear s q m (l .shift) in
     let b = scaleNear s q m (l .scale) in
-    leb-true (normalDistance s q (l .band) m) (l .threshold) (both c d (both b (c && d) (both (not (flat s m)) (b && (c && d)) e .1) .1) .1)
+    leb-true _ _ (both c d (both b (c && d) (both (not (flat s m)) (b && (c && d)) e .1) .1) .1)
 
 match-near : (z : Question) (j : ℕ) → matchesAt z j ≡ true → listed z j .1 ≤ z .ask .limits .threshold
-match-near z j e = near (z .ask .kind) (stretch (z .series) j) (at (z .query)) (length (z .query)) (z .ask .limits) e
+match-near z j e = near _ _ _ _ _ e
 
 small-kept : (z : Question) (k n : ℕ) → k + n ≤ 4097 → z .ask .limits .threshold ≤ 1000000000000 → Each Small (map (listed z) (keep (matchesAt z) (numbersFrom k n))) × (length (keep (matchesAt z) (numbersFrom k n)) ≤ n)
 unfolding keep numbersFrom
@@ -99,8 +99,8 @@ small-kept z k zero h t = (end, omega arith)
 small-kept z k (suc n) h t =
     let r = small-kept z (suc k) n (omega (arith, h)) t in
     by-test (matchesAt z k)
-    (λ e. rw e (more {x = listed z k} (omega (arith, h), omega (arith, match-near z k e, t)) (r .0), omega (arith, r .1)))
-    (λ e. rw e (r .0, omega (arith, r .1)))
+    (λ e. rw e (more {x = listed z k} (omega (arith, h), omega (arith, match-near z k e, t)) (r .0), omega arith))
+    (λ e. rw e (r .0, omega arith))
 
 -- the list of all matches
 pub all-size : (z : Question) (c : ℕ) → offsetCount z ≤ 4096 → z .ask .limits .threshold ≤ 1000000000000 → c < 10 ^ 18 → (length (allMatches z) ≤ 4096) × (length (foundText (length (allMatches z)) c (allMatches z)) ≤ 200000)
@@ -109,7 +109,7 @@ all-size z c h t k =
     let r = small-kept z 0 (offsetCount z) (omega (arith, h)) t in
     let l = keep (matchesAt z) (numbersFrom 0 (offsetCount z)) in
     let m = length-map l (listed z) in
-    (omega (arith, m, r .1, h), omega (arith, found-size (length (map (listed z) l)) c (map (listed z) l) (omega (arith, m, r .1, h)) k (r .0), m, r .1, h))
+    (omega (arith, m, r .1, h), omega (arith, found-size (length (map (listed z) l)) c _ (omega (arith, m, r .1, h)) k (r .0), m, r .1, h))
 
 -- ---- a refusal's text
 

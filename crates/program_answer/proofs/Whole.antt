@@ -14,9 +14,9 @@ module _ (s q : List ℤ) (a : Asked) (free : AllPass (callLines (callOf s q a))
   window-some : 1 ≤ a .window
   unfolding openLines callLines callOf
   window-some =
-      let w = pos (a .window) in
-      let t = neither (not (windowIn w)) (ltZ (pos (length s)) w) (not-if 3 (not (windowIn w) || ltZ (pos (length s)) w) (passed-line free 3)) in
-      omega (zarith, within-yes (pos 1) (pos 256) w (not-not (windowIn w) (t .0)) .low)
+      let w = pos _ in
+      let t = neither (not (windowIn w)) _ (not-if 3 (not (windowIn w) || ltZ (pos (length s)) w) (passed-line free 3)) in
+      omega (zarith, within-yes (pos 1) _ w (not-not (windowIn w) (t .0)) .low)
 
   abbrev y : Index
   y = x s q a free
@@ -44,10 +44,10 @@ module _ (s q : List ℤ) (a : Asked) (free : AllPass (callLines (callOf s q a))
       runs-are = let g = index-same in cc
 
       pub rows-few : n ≤ 4096
-      rows-few = omega (arith, rows-are, build-most (lentBuild s (a .window) (a .width) (a .merge)) (indexBuffers rows left right) (build-free s q a free rows left right r l k) .0, few s q a free, window-some)
+      rows-few = omega (arith, rows-are, build-most _ _ (build-free s q a free rows left right r l k) .0, few s q a free, window-some)
 
       pub runs-few : m ≤ 4096
-      runs-few = omega (arith, runs-are, build-most (lentBuild s (a .window) (a .width) (a .merge)) (indexBuffers rows left right) (build-free s q a free rows left right r l k) .1, few s q a free, window-some)
+      runs-few = omega (arith, runs-are, build-most _ _ (build-free s q a free rows left right r l k) .1, few s q a free, window-some)
 
       lent-here : lent head (take n rows′) (take m left′) (take m right′) ≡ y
       lent-here = let st = stands s q a free rows left right r l k h in rw (head-is, rows-are, runs-are, st .table, st .first, st .last) (lent-is s q a free)

@@ -17,18 +17,18 @@ Placed k n (failed m) = (k ≤ m) × (m < k + n)
 
 placed-suc : {S : Type 0} (k n : ℕ) (x : Fed S) → Placed (suc k) n x → Placed k (suc n) x
 placed-suc k n (going s p) h = omega (arith, h)
-placed-suc k n (failed m) h = (omega (arith, h .0), omega (arith, h .1))
+placed-suc k n (failed m) h = (omega arith, omega arith)
 
 placed : {S : Type 0} (f : S → ℕ → Option S) (t : List ℕ) (s : S) (k : ℕ) → Placed k (length t) (feed f (going s k) t)
 unfolding feed
 placed f [] s k = omega arith
 placed f (b ∷ t) s k =
     on-option (f s b)
-    (λ n e. rw e (placed-suc k (length t) (feed f (going n (suc k)) t) (placed f t n (suc k))))
+    (λ n e. rw e (placed-suc k (length t) (feed f _ t) (placed f t n (suc k))))
     (λ e. rw (e, feed-failed f t k) (omega arith, omega arith))
 
 fed-both : (t piece : List ℕ) → feed step (fed t) piece ≡ fed (t ++ piece)
-fed-both t piece = sym (feed-append step t piece (going programStart 0))
+fed-both t piece = sym (feed-append step t piece _)
 
 -- lines
 line-end : (t : List ℕ) → lineOf t (length t) ≡ suc (newlines t)
@@ -63,19 +63,19 @@ start-open n h = (record { good = word-long Word.Window; series = omega arith; q
 
 module _ (kept asked : List ℤ) (t piece : List ℕ) (numbers series query numbers' series' query' : List ℤ) where
   going-at : (p : Progress) (x : Fed Reading) → Placed 0 (length t) x → Shows kept asked (Feeding.Going p) x numbers series query → p .at ≡ length t
-  going-at p (going y n) h s = omega (arith, h, s .1)
+  going-at p (going y n) h s = omega (arith, h)
   going-at p (failed n) h s = absurd s
 
   failed-at : (m : ℕ) (x : Fed Reading) (k n : ℕ) → Placed k n x → Shows kept asked (Feeding.Failed m) x numbers series query → (k ≤ m) × (m ≤ k + n)
   failed-at m (going y p) k n h s = absurd s
-  failed-at m (failed p) k n h s = (omega (arith, h .0, s), omega (arith, h .1, s))
+  failed-at m (failed p) k n h s = (omega (arith, s), omega (arith, s))
 
   failed-behind : (m : ℕ) (p : Progress) (x : Fed Reading) → Placed 0 (length t) x → Shows kept asked (Feeding.Going p) x numbers series query → Shows kept asked (Feeding.Failed m) (feed step x piece) numbers' series' query' → length t ≤ m
   failed-behind m p (going y n) h s f = by (feed step (going y n) piece) (placed step piece y n) f
     where
       by : (z : Fed Reading) → Placed n (length piece) z → Shows kept asked (Feeding.Failed m) z numbers' series' query' → length t ≤ m
       by (going y′ q) g e = absurd e
-      by (failed q) g e = omega (arith, h, g .0, e)
+      by (failed q) g e = omega (arith, h, e)
   failed-behind m p (failed n) h s f = absurd s
 
   module _ (p : Progress) (line : ℕ) (s : Stands kept asked t (Input.Going p line) numbers series query) where
@@ -88,13 +88,13 @@ module _ (kept asked : List ℤ) (t piece : List ℕ) (numbers series query numb
         → next ≡ line - 1 + lineOf piece (length piece) → Stands kept asked (t ++ piece) (Input.Going n next) numbers' series' query'
     unfolding Stands
     stands-going n next c e =
-        (rw (fed-both t piece) at (shows-then kept asked p (fed t) piece numbers series query (Feeding.Going n) numbers' series' query' before c), e ∙ line-of t piece line (length piece) (s .1) ∙ ap (lineOf (t ++ piece)) (sym (length-append t piece)))
+        (rw (fed-both t piece) at (shows-then kept asked p (fed t) piece numbers series query _ numbers' series' query' before c), e ∙ line-of t piece line (length piece) (s .1) ∙ ap (lineOf (t ++ piece)) (sym (length-append t piece)))
 
     pub stands-failed : (m bad : ℕ) → ((g : Said) → Comes p g kept asked piece numbers series query (Feeding.Failed m) numbers' series' query')
         → bad ≡ line - 1 + lineOf piece (m - p .at) → Stands kept asked (t ++ piece) (Input.Failed bad) numbers' series' query'
     unfolding Stands
     stands-failed m bad c e =
-        let f = shows-then kept asked p (fed t) piece numbers series query (Feeding.Failed m) numbers' series' query' before c in
+        let f = shows-then kept asked p (fed t) piece numbers series query _ numbers' series' query' before c in
         let l = placed step t programStart 0 in
         let b = failed-behind m p (fed t) l before f in
         let q : length t + (m - p .at) ≡ m = omega (arith, going-at p (fed t) l before, b) in
@@ -113,7 +113,7 @@ going-is kept asked t numbers series query p s = going-at kept asked t [] number
 
 pub open-ready : {r : Input} {p : Progress} {line n : ℕ} → r ≡ Input.Going p line → Open r n → Ready p n × (1 ≤ line) × (line + n < 2 ^ 63 + 2)
 unfolding Open
-open-ready {r} {p} {line} {n} e o = let h = rw (e, Open) at o in (h .0, h .1, omega (arith, h .2, h .0 .room))
+open-ready {r} {p} {line} {n} e o = let h = rw (e, Open) at o in (h .0, h .1, omega arith)
 
 pub read-still : {r : Input} {line : ℕ} (piece : List ℕ) (numbers series query : List ℤ) → r ≡ Input.Failed line → ReadOn piece r numbers series query (Input.Failed line) numbers series query
 unfolding Open
@@ -125,7 +125,7 @@ read-still {r} {line} piece numbers series query e = rw e (record {
 next-open : (p : Progress) (line : ℕ) (piece : List ℕ) (n : Progress) (next k : ℕ) → GoodFeeding (p .at + length piece) (Feeding.Going n) → next ≡ line - 1 + lineOf piece (length piece) → Open (Input.Going p line) (length piece + k) → Open (Input.Going n next) k
 unfolding Open
 next-open p line piece n next k g l o = (
-  record { good = g .0; series = g .1; query = g .2; room = omega (arith, g .3, o .0 .room) },
+  record { good = g .0; series = g .1; query = g .2; room = omega arith },
   omega (arith, l, line-some piece (length piece)),
   omega (arith, l, line-most piece (length piece), g .3, o .1, o .2),
 )

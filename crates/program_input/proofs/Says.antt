@@ -23,8 +23,8 @@ use Rattle.program_input.proofs.{InputLaws.going-is, Text.series-few, T
 clamp-in : (z : ℤ) → valueIn z ≡ true → clamp z ≡ z
 clamp-in z e =
     let h = yes-value z e in
-    let l : negsuc 2147483647 ≤ℤ z = omega (zarith, h .low) in
-    let k : z ≤ℤ pos 2147483647 = omega (zarith, h .high) in
+    let l : negsuc 2147483647 ≤ℤ z = omega zarith in
+    let k : z ≤ℤ pos 2147483647 = omega zarith in
     rw (le-ltZ l, le-ltZ k)
 
 map-clamp : (vs : List ℤ) → length vs ≤ leading vs → map clamp vs ≡ vs
@@ -33,7 +33,7 @@ map-clamp [] h = refl
 map-clamp (x ∷ vs) h = on-flag (valueIn x) (λ e. let k = rw e at h in let r = map-clamp vs (omega (arith, k)) in rw (clamp-in x e, r)) (λ e. let k = rw e at h in absurd (omega (arith, k)))
 
 out-none : (v : Values) → firstOut v ≡ none → v .count ≤ v .inside
-out-none v e = by-test (ltb (v .inside) (v .count)) (λ t. let k = rw t at e in let z : _≡_ {A = ℕ} 0 1 = cc in absurd (omega arith)) (λ f. ltb-false (v .inside) (v .count) f)
+out-none v e = by-test (ltb (v .inside) (v .count)) (λ t. let z : _≡_ {A = ℕ} 0 1 = cc in absurd (omega arith)) (λ f. ltb-false (v .inside) (v .count) f)
 
 module _ {base vs : List ℤ} {v : Values} {buf : List ℤ} (k : Kept base vs v buf) where
   out-is : firstOut v ≡ firstOutside vs
@@ -44,7 +44,7 @@ module _ {base vs : List ℤ} {v : Values} {buf : List ℤ} (k : Kept base vs v 
   unfolding stored
   all-kept e l =
       let c = map-clamp vs (omega (arith, out-none v e, k .count, k .inside)) in
-      rw (k .count, k .lies, stored, c, sets-eq vs base 0 (omega (arith, k .count, l))) (take-append-seam vs (drop (0 + length vs) base))
+      rw (k .count, k .lies, stored, c, sets-eq vs base 0 (omega (arith, l))) (take-append-seam vs (drop (0 + length vs) base))
 
   long-kept : length buf ≡ length base
   unfolding stored
@@ -134,9 +134,9 @@ module _ (kept asked : List ℤ) (t : List ℕ) (r : Input) (numbers series quer
           let d = holds-of kept asked numbers series query p (fed t) (h .0) in
           let z = d .1 .second in (
             record {
-              few = omega (arith, k .0 .query, k .0 .room);
+              few = omega arith;
               long = omega (arith, long-kept z, room);
-              inside = λ e l. rw (all-kept z e (omega (arith, l, room))) (none-outside (d .0 .query) (sym (out-is z) ∙ e));
+              inside = λ e l. rw (all-kept z e (omega (arith, l))) (none-outside (d .0 .query) (sym (out-is z) ∙ e));
             },
             rw (d .1 .alone) (omega arith),
           )
@@ -163,7 +163,7 @@ module _ (kept asked : List ℤ) (t : List ℕ) (r : Input) (numbers series quer
 -- ---- what is asked
 
 upto : {low k : ℕ} {z : ℤ} → Natural low k z → Upto k z
-upto n = record { least = omega (zarith, n .is); most = omega (zarith, n .is, n .most) }
+upto n = record { least = omega zarith; most = omega zarith }
 
 pub passed-limited : (n m : ℕ) (x : Numbers) → AllPass (numbersTable n m x) → Limited x
 unfolding openLines numbersTable
@@ -186,7 +186,7 @@ passed-limited n m x h =
 
 natural : {k : ℕ} (z : ℤ) → Upto k z → pos (natAbs z) ≡ z
 natural (pos n) h = refl
-natural {k} (negsuc n) h = absurd (omega (zarith, h .least))
+natural {k} (negsuc n) h = absurd (omega zarith)
 
 -- nothing refuses: the call that the text gives
 pub record Given (kept asked : List ℤ) (t : List ℕ) (p : Progress) (numbers series query : List ℤ) : Type 0 where

@@ -1,7 +1,7 @@
 -- What the table over what was kept says of the text.
-use Rattle.meaning_numbers.proofs.Prelude.{_≡_, refl, sym, ap, _∙_, true, false, not, cond, none, some, List, [], ℕ, _+_, _<_, _≤_, _^_, T, arith, ℤ, pos, negsuc, w64, toZ, length, ltZ, leZ, ltZ-true, ltZ-false, z-cast, up, dn, by-test}
+use Rattle.meaning_numbers.proofs.Prelude.{_≡_, refl, sym, ap, _∙_, true, false, not, none, List, [], ℕ, _+_, _<_, _≤_, _^_, T, arith, ℤ, pos, negsuc, w64, toZ, length, ltZ, leZ, ltZ-true, ltZ-false, z-cast, up, dn, by-test}
 use Rattle.meaning_curves.specs.Limits.{mostProgramValues}
-use Rattle.meaning_entries.specs.Refusal.{Condition, atPlace}
+use Rattle.meaning_entries.specs.Refusal.{Condition}
 use Rattle.meaning_entries.proofs.{Refusal.AllPass, Refusal.openLines, Refusal.passed-line, Refusal.passed-behind, Refusal.lacks, Lines.long-line, Lines.query-line}
 use Rattle.refusals.specs.{declared.Refusal.Refusal, Refusal.refusalOf}
 use Rattle.refusals.proofs.RefusalLaws.{place-is, place-none}
@@ -52,7 +52,7 @@ query-few n m x h = query-line m n (passed-line h 6) .0 .most
 module _ {r : Input} (numbers query : List ℤ) where
   pub end-failed : {line : ℕ} → r ≡ Input.Failed line → record { number = 12; place = line } ≡ refusalOf (endTable r numbers query)
   unfolding endTable
-  end-failed {line} e = rw (e, endTable) (sym (place-is (atPlace 12 (some line)) [] refl))
+  end-failed {line} e = rw (e, endTable) (sym (place-is _ [] refl))
 
   module _ {p : Progress} {line : ℕ} (e : r ≡ Input.Going p line) where
     abbrev rest : List Condition
@@ -60,11 +60,11 @@ module _ {r : Input} (numbers query : List ℤ) where
 
     pub end-short : isDone (p .state) ≡ false → record { number = 12; place = line } ≡ refusalOf (endTable r numbers query)
     unfolding endTable
-    end-short d = rw (e, endTable) (sym (place-is (atPlace 12 (cond (isDone (p .state)) none (some line))) rest (rw d)))
+    end-short d = rw (e, endTable) (sym (place-is _ rest (rw d)))
 
     pub end-done : {w : Refusal} → isDone (p .state) ≡ true → w ≡ refusalOf rest → w ≡ refusalOf (endTable r numbers query)
     unfolding endTable
-    end-done d f = f ∙ rw (e, endTable) (sym (place-none (atPlace 12 (cond (isDone (p .state)) none (some line))) rest (rw d)))
+    end-done d f = f ∙ rw (e, endTable) (sym (place-none _ rest (rw d)))
 
     pub sound-end : SoundEnd r numbers query → Sound (p .query) query × (8 ≤ length numbers)
     sound-end h = rw e at h

@@ -2,7 +2,7 @@
 use Prim.Native.Nat.{ℕ, _+_, _<_, _^_}
 use lib.Dec.{T}
 use lib.IntN.{ℤ}
-use lib.ListN.{length, take, drop}
+use lib.ListN.{length, take}
 use lib.Seq.{take-append-seam}
 use mathlib.Core.List.{List}
 use mathlib.Core.Path.{_≡_, sym, ap, _∙_, subst}
@@ -21,7 +21,7 @@ use Rattle.program_answer.specs.Finish.{Prints, Reached, Finishes}
 use Rattle.program_answer.proofs.Sizes.{refused-size}
 
 pub sound-here : (r : Input) (numbers series query : List ℤ) → Reached r numbers series query → SoundEnd r numbers query
-sound-here r numbers series query h = stands-sound (h .kept) (h .asked) (h .text) r numbers series query (h .stands) 0 (h .opened) (omega (arith, h .short))
+sound-here r numbers series query h = stands-sound _ _ _ r numbers series query (h .stands) 0 (h .opened) (omega arith)
 
 -- a refusal
 pub refused-end : (r : Input) (numbers series query : List ℤ) (w : Refusal) (old new : List ℕ) (to : ℕ) → w ≡ refusalOf (endTable r numbers query) → (w .number ≡ 0 → ⊥) → w .number < 2 ^ 32 → w .place < 2 ^ 64
@@ -29,15 +29,15 @@ pub refused-end : (r : Input) (numbers series query : List ℤ) (w : Refusal) (o
 unfolding program
 refused-end r numbers series query w old new to e f n p long put =
     let room = refused-size (w .number) (w .place) n p in
-    let z = put-room put (omega (arith, put .ends, room, long)) in
-    let l : length new ≡ length old = put-length put in
+    let z = put-room put (omega arith) in
+    let l = put-length put in
     record {
-      within = omega (arith, z .0, l, room, long);
+      within = omega (arith, l);
       is = λ kept asked t hk ha s.
-          let g = refuses (programTable t) (e ∙ end-is kept asked t r numbers series query s (omega (arith, ha))) f in
+          let g = refuses _ (e ∙ end-is kept asked t r numbers series query s (omega (arith, ha))) f in
           let text = refusedText (w .number) (w .place) in
           let o : 0 + length text ≡ length text = omega arith in
-          let b : take to new ≡ text = rw (z .1, z .0, o) (take-append-seam text (drop (length text) old)) in
+          let b : take to new ≡ text = rw (z .1, z .0, o) (take-append-seam text _) in
           let q : program t ≡ text = rw (g, program) in
           record { printed = b ∙ sym q };
     }
@@ -55,7 +55,7 @@ program-lacks t = tt
 
 module _ (r : Input) (numbers series query : List ℤ) (w : Refusal) (e : w ≡ refusalOf (endTable r numbers query)) (z : w .number ≡ 0) where
   free : AllPass (endTable r numbers query)
-  free = passes (endTable r numbers query) (end-lacks r numbers query) e z
+  free = passes _ (end-lacks r numbers query) e z
 
   pub not-failed : {line : ℕ} {B : Type 0} → r ≡ Input.Failed line → B
   unfolding openLines endTable
@@ -64,18 +64,18 @@ module _ (r : Input) (numbers series query : List ℤ) (w : Refusal) (e : w ≡ 
   module _ {p : Progress} {line : ℕ} (g : r ≡ Input.Going p line) where
     module _ (kept asked : List ℤ) (t : List ℕ) (long : length kept ≡ 4096) (short : length asked ≡ 1024) (s : Stands kept asked t r numbers series query) where
       given : Given kept asked t p numbers series query
-      given = asked-is kept asked t p line numbers series query (subst (λ (i : Input). Stands kept asked t i numbers series query) g s) (omega (arith, long)) (omega (arith, short)) (subst (λ (i : Input). AllPass (endTable i numbers query)) g free)
+      given = asked-is kept asked t p line numbers series query (rw g at s) (omega arith) (omega arith) (rw g at free)
 
       program-free : AllPass (programTable t)
-      program-free = passes (programTable t) (program-lacks t) (e ∙ end-is kept asked t r numbers series query s (omega (arith, short))) z
+      program-free = passes _ (program-lacks t) (e ∙ end-is kept asked t r numbers series query s (omega arith)) z
 
     pub given-here : (h : Reached r numbers series query) → Given (h .kept) (h .asked) (h .text) p numbers series query
-    given-here h = given (h .kept) (h .asked) (h .text) (h .long) (h .short) (h .stands)
+    given-here h = given _ _ _ (h .long) (h .short) (h .stands)
 
     pub call-free : Reached r numbers series query → AllPass (callLines (callOf (take (p .series .count) series) (take (p .query .count) query) (askedOf (numbersAt numbers))))
     unfolding openLines programTable
     call-free h =
-        let f = program-free (h .kept) (h .asked) (h .text) (h .long) (h .short) (h .stands) in
+        let f = program-free (h .kept) (h .asked) _ (h .long) (h .short) (h .stands) in
         subst (λ (c : ProgramCall). AllPass (callLines c)) (given-here h .call) (passed-behind f 12)
 
     pub printed-end : (new : List ℕ) (to : ℕ) → Prints (printed (callOf (take (p .series .count) series) (take (p .query .count) query) (askedOf (numbersAt numbers)))) new to → Finishes r numbers series query new to

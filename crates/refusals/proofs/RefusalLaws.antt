@@ -26,7 +26,7 @@ place-none c l e = rw (e, firstRefusal)
 
 pub place-before : {r r′ : Refusal} (c : Condition) (l : List Condition) → r ≡ refusalOf l → r′ ≡ refuseAt (c .number) (c .place) r → r′ ≡ refusalOf (c ∷ l)
 unfolding refuseAt
-place-before {r} {r′} c l e f = by (c .place) refl
+place-before {r} {r′} c l e f = by _ refl
   where
     by : (o : Option ℕ) → c .place ≡ o → r′ ≡ refusalOf (c ∷ l)
     by none h = f ∙ ap (λ (o : Option ℕ). refuseAt (c .number) o r) h ∙ e ∙ sym (place-none c l h)
@@ -39,13 +39,13 @@ line-before n t l e f g = cc (e, f, g, line-is n t l)
 -- the length of a series, and its values, before what a table says
 pub series-before : {r r′ : Refusal} (s : List ℤ) (l : List Condition) → r ≡ refusalOf l → r′ ≡ refuseIf (not (lengthIn mostValues (length s))) 1 (refuseAt 2 (firstOutside s) r) → r′ ≡ refusalOf (seriesLines mostValues s ++ l)
 unfolding lengthOutside valueOutside
-series-before s l e f = line-before 1 {b = not (lengthIn mostValues (length s))} _ (valueOutside s ∷ l) (place-before (valueOutside s) l e refl) refl f
+series-before s l e f = line-before 1 {b = not (lengthIn mostValues (length s))} _ _ (place-before (valueOutside s) l e refl) refl f
 
 -- the first part of a table refuses
 pub part-refuses : {r : Refusal} (a b : List Condition) → r ≡ refusalOf a → (r .number ≡ 0 → ⊥) → r ≡ refusalOf (a ++ b)
 part-refuses {r} a b e f =
     let h = refuses a e f in
-    e ∙ ap asRefusal (h ∙ sym (first-is (first-left b (is-first a (r .number) (r .place) h))))
+    e ∙ ap asRefusal (h ∙ sym (first-is (first-left b (is-first a _ _ h))))
 
 -- or it does not
 pub part-passes : {r : Refusal} {a : List Condition} (b : List Condition) → AllPass a → r ≡ refusalOf b → r ≡ refusalOf (a ++ b)

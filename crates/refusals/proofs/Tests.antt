@@ -10,12 +10,12 @@ module _ (a w n : ℕ) where
   had = pos n -ℤ pos w +ℤ pos 1
 
   pub fewer-is : leb (a + w) n ≡ ltZ (pos a) had
-  fewer-is = by-test (leb (a + w) n)
+  fewer-is = by-test _
       (λ t. let h = leb-true (a + w) n t in let g : pos a <ℤ had = omega (zarith, h, z-add (pos n -ℤ pos w) (pos 1), z-sub (pos n) (pos w)) in t ∙ sym (lt-ltZ g))
       (λ f. let h = leb-false (a + w) n f in let g : had ≤ℤ pos a = omega (zarith, h, z-add (pos n -ℤ pos w) (pos 1), z-sub (pos n) (pos w)) in f ∙ sym (le-ltZ g))
 
   pub more-is : ltb (n + 1) (a + w) ≡ ltZ had (pos a)
-  more-is = by-test (ltb (n + 1) (a + w))
+  more-is = by-test _
       (λ t. let h = ltb-true (n + 1) (a + w) t in let g : had <ℤ pos a = omega (zarith, h, z-add (pos n -ℤ pos w) (pos 1), z-sub (pos n) (pos w)) in t ∙ sym (lt-ltZ g))
       (λ f. let h = ltb-false (n + 1) (a + w) f in let g : pos a ≤ℤ had = omega (zarith, h, z-add (pos n -ℤ pos w) (pos 1), z-sub (pos n) (pos w)) in f ∙ sym (le-ltZ g))
 
@@ -24,22 +24,22 @@ module _ (a w n : ℕ) where
 
 module _ (room w n : ℕ) where
   pub short-is : w ≤ n → leb room (n - w) ≡ ltb room (n + 1 - w)
-  short-is h = by-test (leb room (n - w))
-      (λ t. t ∙ sym (lt-ltb room (n + 1 - w) (omega (arith, leb-true room (n - w) t))))
-      (λ f. f ∙ sym (le-ltb room (n + 1 - w) (omega (arith, leb-false room (n - w) f))))
+  short-is h = by-test _
+      (λ t. t ∙ sym (lt-ltb room _ (omega (arith, leb-true room (n - w) t))))
+      (λ f. f ∙ sym (le-ltb room _ (omega (arith, leb-false room (n - w) f))))
 
   pub not-short : n < w → false ≡ ltb room (n + 1 - w)
-  not-short h = sym (le-ltb room (n + 1 - w) (omega arith))
+  not-short h = sym (le-ltb room _ (omega arith))
 
 module _ (m b : ℕ) where
   band-in : b < m → bandIn m (pos b) ≡ true
   band-in h = is-true _ (yes-within (record { low = omega zarith; high = omega (zarith, z-sub (pos m) (pos 1)) }))
 
   band-out : m ≤ b → bandIn m (pos b) ≡ false
-  band-out h = ⊎-elim (λ t. absurd (omega (zarith, within-yes (pos 0) (pos m -ℤ pos 1) (pos b) t .high, z-sub (pos m) (pos 1)))) (is-false _) (decided (bandIn m (pos b)))
+  band-out h = ⊎-elim (λ t. absurd (omega (zarith, within-yes (pos 0) _ (pos b) t .high, z-sub (pos m) (pos 1)))) (is-false _) (decided (bandIn m (pos b)))
 
   pub band-is : leb m b ≡ not (bandIn m (pos b))
-  band-is = by-test (leb m b) (λ t. t ∙ sym (ap not (band-out (leb-true m b t)))) (λ f. f ∙ sym (ap not (band-in (leb-false m b f))))
+  band-is = by-test _ (λ t. t ∙ sym (ap not (band-out (leb-true m b t)))) (λ f. f ∙ sym (ap not (band-in (leb-false m b f))))
 
 -- limits that begin at 0
 pub from-zero : (most n : ℕ) → leb n most ≡ within (pos 0) (pos most) (pos n)

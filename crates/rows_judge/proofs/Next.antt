@@ -1,5 +1,5 @@
 -- One row more: a row that does not fit ends in the failed state (`next-bad`), and one that fits is judged by its runs (`next-fits`).
-use Rattle.meaning_numbers.proofs.Prelude.{_≡_, refl, _∙_, ap, Bool, true, false, cond, _&&_, ℕ, _+_, _≤_, arith, leb, eqb, pos, natAbs, length, leb-true, eqb-true, both}
+use Rattle.meaning_numbers.proofs.Prelude.{_≡_, refl, _∙_, ap, Bool, true, false, cond, _&&_, ℕ, _+_, _≤_, arith, leb, pos, natAbs, length, leb-true, eqb-true, both}
 use Rattle.meaning_rows.specs.{declared.Row.Row, Index.Index, Index.runsOf, Judge.runsGood, Judge.runLengths, Judge.rangeGood, Judge.partGood, Judge.rowGood}
 use Rattle.rows_judge.specs.declared.RowsJudged.{RowsJudged}
 use Rattle.rows_judge.specs.Judging.{failed, moved, untold, scan, after, next}
@@ -14,17 +14,17 @@ module _ (x : Index) (s : RowsJudged) (r : Row) where
   pub fits-room : fitting ≡ true → (r .first ≡ s .first) × (r .first + r .runs ≤ length (x .runs))
   unfolding partGood
   fits-room e =
-      let a = both (s .good) (rangeGood x (s .least) r && partGood x (s .first) r) e in
-      let b = both (rangeGood x (s .least) r) (partGood x (s .first) r) (a .1) in
-      let c = both (leb 1 (r .runs)) (eqb (r .first) (s .first) && leb (r .first + r .runs) (length (x .runs))) (b .1) in
-      let d = both (eqb (r .first) (s .first)) (leb (r .first + r .runs) (length (x .runs))) (c .1) in
-      (eqb-true (r .first) (s .first) (d .0), leb-true (r .first + r .runs) (length (x .runs)) (d .1))
+      let a = both (s .good) _ e in
+      let b = both (rangeGood x _ r) _ (a .1) in
+      let c = both (leb 1 (r .runs)) _ (b .1) in
+      let d = both _ _ (c .1) in
+      (eqb-true _ _ (d .0), leb-true _ _ (d .1))
 
   pub next-bad : fitting ≡ false → next x s r ≡ failed
   unfolding next rowGood
   next-bad e =
       ap (λ (t : Bool). cond t (moved s r (runLengths (runsOf x r))) failed)
-      (not-all (s .good) (rangeGood x (s .least) r) (partGood x (s .first) r) (runsGood (x .windows) (pos 0) (runsOf x r) && leb (s .taken + runLengths (runsOf x r)) (natAbs (x .windows))) e)
+      (not-all (s .good) (rangeGood x _ r) (partGood x _ r) (runsGood _ (pos 0) _ && leb (s .taken + runLengths (runsOf x r)) (natAbs (x .windows))) e)
 
   -- the run lengths count only where the runs are good
   by-runs : (t : Bool) (l w : ℕ) → cond (t && leb (s .taken + l) w) (moved s r l) failed ≡ after w s r (cond t (record { good = true; total = 0 + l }) untold)
@@ -35,5 +35,5 @@ module _ (x : Index) (s : RowsJudged) (r : Row) where
   unfolding next rowGood scan
   next-fits e =
       ap (λ (t : Bool). cond t (moved s r (runLengths (runsOf x r))) failed)
-      (all-four (s .good) (rangeGood x (s .least) r) (partGood x (s .first) r) (runsGood (x .windows) (pos 0) (runsOf x r) && leb (s .taken + runLengths (runsOf x r)) (natAbs (x .windows))) e)
-      ∙ by-runs (runsGood (x .windows) (pos 0) (runsOf x r)) (runLengths (runsOf x r)) (natAbs (x .windows))
+      (all-four (s .good) (rangeGood x _ r) _ _ e)
+      ∙ by-runs (runsGood _ (pos 0) _) (runLengths _) (natAbs (x .windows))

@@ -1,7 +1,7 @@
 -- Judging row after row ends in what the meanings say: `judged` has it for all rows of an index. `Judging` is the invariant of the loop over lent records, with how it starts, moves, stops and ends.
-use Rattle.meaning_numbers.proofs.Prelude.{_≡_, refl, sym, _∙_, ap, Bool, true, false, cond, not, _&&_, List, [], _∷_, Option, some, ℕ, suc, zero-le, _+_, _<_, _≤_, add-one, arith, leb, ℤ, pos, natAbs, length, getD, drop, drop-of-length-le, not-true, not-false, by-test, both}
+use Rattle.meaning_numbers.proofs.Prelude.{_≡_, refl, sym, _∙_, ap, Bool, true, false, cond, not, _&&_, List, [], _∷_, Option, some, ℕ, suc, zero-le, _+_, _<_, _≤_, add-one, arith, ℤ, length, getD, drop, drop-of-length-le, not-true, not-false, by-test, both}
 use Rattle.meaning_rows.specs.{declared.Row.Row, declared.Head.Head, Index.Index, Index.lent, Index.runsOf}
-use Rattle.meaning_rows.specs.Judge.{headGood, runsGood, runLengths, rangeGood, partGood, rowGood, badRowFrom, firstBadRow, lengthTotal}
+use Rattle.meaning_rows.specs.Judge.{headGood, runLengths, rangeGood, partGood, rowGood, badRowFrom, firstBadRow, lengthTotal}
 use Rattle.rows_records.specs.Records.{zeroRow}
 use Rattle.rows_records.proofs.Walk.{drop-next}
 use Rattle.rows_judge.specs.{declared.RowsJudged.RowsJudged, declared.Judged.Judged, Judged.outcome, Judged.judgedOf, Judging.start, Judging.failed, Judging.moved, Judging.next, Judging.verdictOf}
@@ -47,7 +47,7 @@ module _ (x : Index) where
 
   next-failed : (s : RowsJudged) (r : Row) → tested s r ≡ false → next x s r ≡ failed
   unfolding next
-  next-failed s r e = rw e (ap (λ (t : Bool). cond t (moved s r (runLengths (runsOf x r))) failed) (none-of (s .good)))
+  next-failed s r e = rw e (rw (none-of _))
     where
       none-of : (t : Bool) → (t && false) ≡ false
       none-of true = refl
@@ -56,8 +56,8 @@ module _ (x : Index) where
   begins : (s : RowsJudged) (r : Row) → s .good ≡ true → tested s r ≡ true → r .first ≡ s .first
   unfolding rowGood
   begins s r g e =
-      let a = both (rangeGood x (s .least) r) (partGood x (s .first) r && (runsGood (x .windows) (pos 0) (runsOf x r) && leb (s .taken + runLengths (runsOf x r)) (natAbs (x .windows)))) e in
-      let b = both (partGood x (s .first) r) (runsGood (x .windows) (pos 0) (runsOf x r) && leb (s .taken + runLengths (runsOf x r)) (natAbs (x .windows))) (a .1) in
+      let a = both (rangeGood x _ r) _ e in
+      let b = both (partGood x _ r) _ (a .1) in
       fits-room x s r (rw (g, a .0, b .0) refl) .0
 
   -- ---- all rows
@@ -81,12 +81,12 @@ module _ (x : Index) where
   from-state : (l : List Row) (k : ℕ) (s : RowsJudged) → s .good ≡ true → judgedFrom k s l ≡ found k (s .least) (s .first) (s .taken) l
   unfolding lengthTotal outcome
   from-state [] k s g = sym (turn-none k s) ∙ none-left k s g
-  from-state (r ∷ l) k s g = by-test (tested s r)
+  from-state (r ∷ l) k s g = by-test _
       (λ t.
       let n = next-good s r g t in
-      let m = runLengths (runsOf x r) in
+      let m = runLengths _ in
       let total : s .taken + m + lengthTotal x l ≡ s .taken + (m + lengthTotal x l) = omega arith in
-      sym (turn-on k s r l (ap (λ (u : RowsJudged). u .good) n)) ∙ ap (λ (u : RowsJudged). judgedFrom (suc k) u l) n ∙ from-state l (suc k) (moved s r m) refl
+      sym (turn-on k s r l (rw n)) ∙ ap (λ (u : RowsJudged). judgedFrom (suc k) u l) n ∙ from-state l (suc k) _ refl
       ∙ ap (λ (f : ℕ). found (suc k) (r .up) (f + r .runs) (s .taken + m) l) (begins s r g t)
       ∙ ap (outcome (badRowFrom x (suc k) (r .up) (s .first + r .runs) (s .taken + m) l)) total
       ∙ ap (λ (o : Option ℕ). outcome o (s .taken + (m + lengthTotal x l))) (sym (row-on k s r l t)))
@@ -101,16 +101,16 @@ module _ (x : Index) where
 
   -- an ill-formed head is charged to row 0
   ill : (l : List Row) → headGood x ≡ false → judgedFrom 0 (start x) l ≡ Judged.Bad 0
-  ill [] f = sym (turn-none 0 (start x)) ∙ ap (λ (t : Bool). cond t (Judged.Fine 0) (Judged.Bad 0)) f
+  ill [] f = sym (turn-none 0 _) ∙ rw f
   ill (r ∷ l) f =
-      let n : next x (start x) r ≡ failed = head-failed r f in
-      sym (turn-off 0 (start x) r l (ap (λ (u : RowsJudged). u .good) n)) ∙ ap (λ (u : RowsJudged). verdictOf u 0) n
+      let n = head-failed r f in
+      sym (turn-off 0 _ r l (rw n)) ∙ rw n
 
   pub judged : judgedFrom 0 (start x) (x .rows) ≡ judgedOf x
   unfolding judgedOf firstBadRow outcome
-  judged = by-test (headGood x)
-      (λ t. from-state (x .rows) 0 (start x) t ∙ (let e : 0 + lengthTotal x (x .rows) ≡ lengthTotal x (x .rows) = omega arith in rw (t, e) refl))
-      (λ f. ill (x .rows) f ∙ (rw f refl))
+  judged = by-test _
+      (λ t. from-state _ 0 _ t ∙ (let e : 0 + lengthTotal x (x .rows) ≡ lengthTotal x (x .rows) = omega arith in rw (t, e) refl))
+      (λ f. ill _ f ∙ (rw f refl))
 
 -- ---- the loop over lent rows, at record k
 
@@ -129,7 +129,7 @@ module _ (h : Head) (rows : List Row) (left right : List ℕ) where
   -- where t is the state after record k, r
   module _ {s t : RowsJudged} {k : ℕ} {r : Row} (j : Judging s k) (is-r : r ≡ getD rows k zeroRow) (is-t : t ≡ next (lent h [] left right) s r) (l : k < length rows) where
     as-next : t ≡ next X s (getD rows k zeroRow)
-    as-next = is-t ∙ ap (next (lent h [] left right) s) is-r ∙ same-next h rows left right s (getD rows k zeroRow)
+    as-next = is-t ∙ ap (next _ s) is-r ∙ same-next h rows left right s _
 
     first-left : judgedFrom X k s (getD rows k zeroRow ∷ drop (suc k) rows) ≡ judgedOf X
     first-left = ap (judgedFrom X k s) (sym (drop-next rows k zeroRow l)) ∙ j .gives
@@ -138,11 +138,11 @@ module _ (h : Head) (rows : List Row) (left right : List ℕ) where
     judging-next e = record {
       upto = omega (arith, l);
       gives = rw (add-one k) (ap (λ (u : RowsJudged). judgedFrom X (suc k) u (drop (suc k) rows)) as-next
-          ∙ turn-on X k s (getD rows k zeroRow) (drop (suc k) rows) (ap (λ (u : RowsJudged). u .good) (sym as-next) ∙ not-false (t .good) e) ∙ first-left);
+          ∙ turn-on X k s _ _ (ap (λ (u : RowsJudged). u .good) (sym as-next) ∙ not-false _ e) ∙ first-left);
     }
 
     pub judging-stops : not (t .good) ≡ true → verdictOf t k ≡ judgedOf X
-    judging-stops e = ap (λ (u : RowsJudged). verdictOf u k) as-next ∙ turn-off X k s (getD rows k zeroRow) (drop (suc k) rows) (ap (λ (u : RowsJudged). u .good) (sym as-next) ∙ not-true (t .good) e) ∙ first-left
+    judging-stops e = ap (λ (u : RowsJudged). verdictOf u k) as-next ∙ turn-off X k s _ _ (ap (λ (u : RowsJudged). u .good) (sym as-next) ∙ not-true _ e) ∙ first-left
 
   pub judging-ends : {s : RowsJudged} {k : ℕ} → Judging s k → length rows ≤ k → verdictOf s k ≡ judgedOf X
   judging-ends {s} {k} j l = turn-none X k s ∙ ap (judgedFrom X k s) (sym (drop-of-length-le rows l)) ∙ j .gives

@@ -43,7 +43,7 @@ pub record GoodRun (windows least l r : ℕ) : Type 0 where
 
 pub good-run : (windows least l r : ℕ) → runGood windows least l r ≡ true → GoodRun windows least l r
 good-run windows least l r e =
-    let a = both (leb least l) (leb l r && ltb r windows) e in let b = both (leb l r) (ltb r windows) (a .1) in
+    let a = both _ _ e in let b = both _ _ (a .1) in
     record { below = leb-true least l (a .0); order = leb-true l r (b .0); inside = ltb-true r windows (b .1) }
 
 pub all-four : (a b c d : Bool) → (a && (b && c)) ≡ true → (a && (b && (c && d))) ≡ d
@@ -63,11 +63,11 @@ module _ (windows least total l r : ℕ) (rest : List Entry) where
   unfolding scan runsGood runLengths
   scan-next e =
       let n : total + (r + 1 - l + runLengths rest) ≡ total + (r + 1 - l) + runLengths rest = omega arith in
-      rw (all-four (leb least l) (leb l r) (ltb r windows) (runsGood (pos windows) (pos (r + 2)) rest) e, n) refl
+      rw (all-four _ (leb l r) _ _ e, n) refl
 
   pub scan-bad : runGood windows least l r ≡ false → scan (pos windows) (pos least) total ((pos l, pos r) ∷ rest) ≡ untold
   unfolding scan runsGood
-  scan-bad e = rw (not-all (leb least l) (leb l r) (ltb r windows) (runsGood (pos windows) (pos (r + 2)) rest) e) refl
+  scan-bad e = rw (not-all _ (leb l r) _ _ e) refl
 
 pub scan-end : (windows least : ℤ) (total : ℕ) → scan windows least total [] ≡ record { good = true; total = total }
 unfolding scan runsGood runLengths
@@ -100,11 +100,11 @@ pub record Follows (least l r : ℕ) : Type 0 where
   pub order : l ≤ r
 
 pub follows : (least l r : ℕ) → (ltb l least || ltb r l) ≡ false → Follows least l r
-follows least l r e = let p = neither-is (ltb l least) (ltb r l) e in record { below = ltb-false l least (p .0); order = ltb-false r l (p .1) }
+follows least l r e = let p = neither-is _ _ e in record { below = ltb-false l least (p .0); order = ltb-false r l (p .1) }
 
 module _ (windows least total l r : ℕ) (rest : List Entry) where
   pub inside-bad : (ltb l least || ltb r l) ≡ true → inside windows least (scan (pos windows) (pos least) total ((pos l, pos r) ∷ rest)) ≡ untold
-  inside-bad e = let n = scan-bad windows least total l r rest (stray windows least l r e) in ap (inside windows least) n ∙ cond-same (leb least (windows + 1)) untold
+  inside-bad e = let n = scan-bad windows least total l r rest (stray windows least l r e) in ap (inside windows least) n ∙ cond-same (leb least _) untold
 
   pub inside-next : Follows least l r
       → inside windows (r + 2) (scan (pos windows) (pos (r + 2)) (total + (r + 1 - l)) rest) ≡ inside windows least (scan (pos windows) (pos least) total ((pos l, pos r) ∷ rest))

@@ -1,10 +1,10 @@
 -- What is packed out of the table of a series and the sums of its counts is the records of its build without merging (`built-records`), in front of what was there.
 use Rattle.meaning_numbers.specs.Sum.{Σℕ}
 use Rattle.meaning_numbers.proofs.{Sum.Σℕ-none, Sum.Σℕ-more, Sum.Σℕ-same, Member.mem-at}
-use Rattle.meaning_numbers.proofs.Prelude.{_≡_, refl, sym, ap, _∙_, List, [], _∷_, _++_, map, List·Memᴰ as Mem, ℕ, zero, suc, _+_, _-_, _*_, _/_, _<_, _≤_, arith, decLt, div-mul-le-self, eqb, ℤ, pos, _-ℤ_, length, getD, take, drop, length-append, length-drop, length-map, List·getD-append, ext-getD, getD-append-add, getD-drop, getD-set-same, getD-set-other, eqb-true, eqb-false, ne-eqb, rep-pos, rep-sub, rep-mul, rep-add, rep-eq, by-test}
+use Rattle.meaning_numbers.proofs.Prelude.{_≡_, refl, sym, ap, _∙_, List, [], _∷_, _++_, map, List·Memᴰ as Mem, ℕ, zero, suc, _+_, _-_, _*_, _<_, _≤_, arith, decLt, div-mul-le-self, ℤ, pos, _-ℤ_, length, getD, take, drop, length-append, length-drop, length-map, List·getD-append, ext-getD, getD-append-add, getD-drop, getD-set-same, getD-set-other, eqb-true, eqb-false, ne-eqb, rep-pos, rep-sub, rep-mul, rep-add, rep-eq, by-test}
 use Rattle.meaning_curves.specs.Curve.{windowSum}
-use Rattle.meaning_rows.specs.{declared.Row.Row, Range.lowOf, Range.upOf, Range.inside, Runs.runs, Runs.runCount, Index.RangeRow, Index.records, Index.allRuns}
-use Rattle.meaning_rows.specs.Build.{SetRow, rowNumbers, rowAt, filed, entry, withRuns, builtRows}
+use Rattle.meaning_rows.specs.{declared.Row.Row, Range.inside, Runs.runs, Runs.runCount, Index.RangeRow, Index.records, Index.allRuns}
+use Rattle.meaning_rows.specs.Build.{SetRow, rowAt, filed, entry, withRuns, builtRows}
 use Rattle.meaning_rows.proofs.{Laid.length-records, LaidAt.records-at, LaidAt.runs-total, Build.numbers-length, Build.merged-none, Build.built-runs}
 use Rattle.rows_records.specs.Records.{zeroRow}
 use Rattle.sums_slide.specs.Table.{table}
@@ -22,9 +22,9 @@ packed-at numbers ends d bias zero rows h i l = absurd (omega arith)
 packed-at numbers ends d bias (suc n) rows h i l =
     let s : suc n ≡ n + 1 = omega arith in
     let p = packed numbers ends d bias n rows in
-    rw (s, packed-more numbers ends d bias n rows) (by-test (eqb i n)
-    (λ t. let q = eqb-true i n t in rw q (getD-set-same p n (rowFrom numbers ends d bias n) zeroRow (omega (arith, length-packed numbers ends d bias n rows))))
-    (λ t. let q : (i ≡ n) → ⊥ = eqb-false i n t in getD-set-other p n i (rowFrom numbers ends d bias n) zeroRow q ∙ packed-at numbers ends d bias n rows (omega arith) i (omega arith)))
+    rw (s, packed-more numbers ends d bias n rows) (by-test _
+    (λ t. let q = eqb-true i n t in rw q (getD-set-same p n _ zeroRow (omega (arith, length-packed numbers ends d bias n rows))))
+    (λ t. let q = eqb-false i n t in getD-set-other p n i _ zeroRow q ∙ packed-at numbers ends d bias n rows (omega arith) i (omega arith)))
 
 pub packed-past : (numbers ends : List ℕ) (d bias n : ℕ) (rows : List Row) (i : ℕ) → n ≤ i → getD (packed numbers ends d bias n rows) i zeroRow ≡ getD rows i zeroRow
 packed-past numbers ends d bias zero rows i l = rw (packed-none numbers ends d bias rows)
@@ -35,7 +35,7 @@ packed-past numbers ends d bias (suc n) rows i l =
 -- what stands behind a front part
 past : (l rows : List Row) (n i : ℕ) → length l ≡ n → i ≡ n + (i - n) → getD rows i zeroRow ≡ getD (l ++ drop n rows) i zeroRow
 past l rows n i long q =
-    let at : getD (l ++ drop n rows) (length l + (i - n)) zeroRow ≡ getD (drop n rows) (i - n) zeroRow = getD-append-add l (drop n rows) (i - n) zeroRow in
+    let at = getD-append-add l _ (i - n) zeroRow in
     let e : length l + (i - n) ≡ i = omega arith in
     ap (λ (x : ℕ). getD rows x zeroRow) q ∙ sym (getD-drop n rows (i - n) zeroRow) ∙ sym at ∙ ap (λ (x : ℕ). getD (l ++ drop n rows) x zeroRow) e
 
@@ -43,7 +43,7 @@ past l rows n i long q =
 
 map-three : (f : SetRow → RangeRow) (g : ℤ → SetRow) (h : ℕ → ℤ) (t : List ℕ) → map f (map g (map h t)) ≡ map (λ k. f (g (h k))) t
 map-three f g h [] = refl
-map-three f g h (x ∷ t) = ap (λ (l : List RangeRow). f (g (h x)) ∷ l) (map-three f g h t)
+map-three f g h (x ∷ t) = rw (map-three f g h t)
 
 -- where a part begins: at the sum of the counts before
 pub start-is : {n : ℕ} {counts ends : List ℕ} → Summed n counts ends → (i : ℕ) → i < n → startOf ends i ≡ total counts i
@@ -62,30 +62,30 @@ module _ {s : List ℤ} {w e : ℕ} (d b : ℕ) (one : 0 < d) (bias : 10000 * w 
   built-is : builtRows (windowSum s w) d 0 (windowsOf s w) ≡ map row (table s w e d)
   unfolding builtRows filed row
   built-is =
-      rw (merged-none (windowsOf s w) (map (rowAt (windowSum s w) d) (rowNumbers (windowSum s w) d (windowsOf s w))), ← table-numbers d b one bias h)
-      (map-three (withRuns (windowsOf s w)) (rowAt (windowSum s w) d) (lowered b) (table s w e d))
+      rw (merged-none _ _, ← table-numbers d b one bias h)
+      (map-three (withRuns _) (rowAt _ d) (lowered b) (table s w e d))
 
   -- a row number of the table is that of a window
   small-row : (k : ℕ) → Mem k (table s w e d) → d ≤ 1000000 → k * d + d ≤ 1000000000
   unfolding rowOf
   small-row k m most =
-      let q = yes-met (rowOf (level s w e) d) (windowsOf s w) k (table-only d b one bias h k m) in
-      let e′ : level s w e (q .at) / d ≡ k = q .is in
+      let q = yes-met _ _ k (table-only d b one bias h k m) in
+      let e′ = q .is in
       rw (← e′) (omega (arith, div-mul-le-self (level s w e (q .at)) d, level-small (q .at) h))
 
   size-is : (k : ℕ) → length (row k .runs) ≡ runCount (isRow (rowOf (level s w e) d) k) (windowsOf s w)
   unfolding row withRuns rowAt
   size-is k =
-      length-map (runs (λ j. inside (lowOf d (lowered b k)) (upOf d (lowered b k)) (windowSum s w j)) (windowsOf s w)) entry
-      ∙ sym (ap length (row-runs d b one bias h k (windowsOf s w)))
+      length-map (runs (λ j. inside _ _ _) _) entry
+      ∙ sym (ap length (row-runs d b one bias h k _))
 
   low-is : (k : ℕ) → pos (k * d) -ℤ pos (10000 * w + e) ≡ row k .low
   unfolding row withRuns rowAt lowered
-  low-is k = rep-eq (rep-sub (rep-pos (k * d)) (rep-pos (10000 * w + e))) (rep-mul (rep-sub (rep-pos k) (rep-pos b)) (rep-pos d)) (omega (arith, bias))
+  low-is k = rep-eq (rep-sub (rep-pos (k * d)) (rep-pos (10000 * w + e))) (rep-mul (rep-sub (rep-pos k) (rep-pos b)) (rep-pos d)) (omega arith)
 
   up-is : (k : ℕ) → pos (k * d + d) -ℤ pos (10000 * w + e) ≡ row k .up
   unfolding row withRuns rowAt lowered
-  up-is k = rep-eq (rep-sub (rep-pos (k * d + d)) (rep-pos (10000 * w + e))) (rep-mul (rep-add (rep-sub (rep-pos k) (rep-pos b)) (rep-pos 1)) (rep-pos d)) (omega (arith, bias))
+  up-is k = rep-eq (rep-sub (rep-pos _) (rep-pos (10000 * w + e))) (rep-mul (rep-add (rep-sub (rep-pos k) (rep-pos b)) (rep-pos 1)) (rep-pos d)) (omega arith)
 
   -- at most as many rows as windows, and as many runs
   pub table-fits : length (table s w e d) ≤ windowsOf s w
@@ -94,7 +94,7 @@ module _ {s : List ℤ} {w e : ℕ} (d b : ℕ) (one : 0 < d) (bias : 10000 * w 
   pub counts-fit : {counts : List ℕ} → Counted (rowOf (level s w e) d) (windowsOf s w) (table s w e d) counts → total counts (length (table s w e d)) ≤ windowsOf s w
   counts-fit {counts} c =
       let t = table s w e d in
-      let same : total counts (length t) ≡ Σℕ (length t) (λ x. length (row (getD t x 0) .runs)) = Σℕ-same (length t) (λ x. getD counts x 0) (λ x. length (row (getD t x 0) .runs)) (λ x l. c .count x l ∙ sym (size-is (getD t x 0))) in
+      let same = Σℕ-same _ (λ x. getD counts x 0) (λ x. length (row _ .runs)) (λ x l. c .count x l ∙ sym (size-is _)) in
       omega (arith, same, runs-total 0 row t, ap (λ (l : List RangeRow). length (allRuns l)) built-is, built-runs (windowSum s w) d (windowsOf s w) one 0)
 
   -- what is packed of the table can be made
@@ -104,8 +104,8 @@ module _ {s : List ℤ} {w e : ℕ} (d b : ℕ) (one : 0 < d) (bias : 10000 * w 
     row = λ i l. record {
       in-numbers = omega arith;
       in-ends = omega arith;
-      small = rw (front-at numbers (table s w e d) (length (table s w e d)) front refl i l) (small-row (getD (table s w e d) i 0) (mem-at 0 (table s w e d) i l) most);
-      low-bias = omega (arith, h .most, h .small);
+      small = rw (front-at numbers _ _ front refl i l) (small-row _ (mem-at 0 _ i l) most);
+      low-bias = omega arith;
       order = omega (arith, m .end i l, Σℕ-more i (λ k. getD counts k 0), start-is m i l);
     };
   }
@@ -116,12 +116,12 @@ module _ {s : List ℤ} {w e : ℕ} (d b : ℕ) (one : 0 < d) (bias : 10000 * w 
     t = table s w e d
 
     count-is : (i : ℕ) → i < length t → getD counts i 0 ≡ length (row (getD t i 0) .runs)
-    count-is i l = c .count i l ∙ sym (size-is (getD t i 0))
+    count-is i l = c .count i l ∙ sym (size-is _)
 
     first-is : (i : ℕ) → i < length t → startOf ends i ≡ 0 + Σℕ i (λ x. length (row (getD t x 0) .runs))
     first-is i l =
         let z : Σℕ i (λ x. length (row (getD t x 0) .runs)) ≡ 0 + Σℕ i (λ x. length (row (getD t x 0) .runs)) = omega arith in
-        start-is m i l ∙ Σℕ-same i (λ x. getD counts x 0) (λ x. length (row (getD t x 0) .runs)) (λ x b. count-is x (omega arith)) ∙ z
+        start-is m i l ∙ Σℕ-same i (λ x. getD counts x 0) (λ x. length (row _ .runs)) (λ x b. count-is x (omega arith)) ∙ z
 
     runs-is : (i : ℕ) → i < length t → getD ends i 0 - startOf ends i ≡ length (row (getD t i 0) .runs)
     runs-is i l = omega (arith, m .end i l, Σℕ-more i (λ k. getD counts k 0), start-is m i l, count-is i l)
@@ -129,7 +129,7 @@ module _ {s : List ℤ} {w e : ℕ} (d b : ℕ) (one : 0 < d) (bias : 10000 * w 
     row-same : (i : ℕ) → i < length t → rowFrom numbers ends d (10000 * w + e) i ≡ getD (records 0 (map row t)) i zeroRow
     row-same i l =
         let k = getD t i 0 in
-        let f = front-at numbers t (length t) front refl i l in
+        let f = front-at numbers t _ front refl i l in
         let low = ap (λ (x : ℕ). pos (x * d) -ℤ pos (10000 * w + e)) f ∙ low-is k in
         let up = ap (λ (x : ℕ). pos (x * d + d) -ℤ pos (10000 * w + e)) f ∙ up-is k in
         let first = first-is i l in
@@ -140,12 +140,12 @@ module _ {s : List ℤ} {w e : ℕ} (d b : ℕ) (one : 0 < d) (bias : 10000 * w 
         → packed numbers ends d (10000 * w + e) (length t) rows ≡ records 0 (builtRows (windowSum s w) d 0 (windowsOf s w)) ++ drop (length t) rows
     built-records rows fits =
         let n = length t in
-        let l = records 0 (map row t) in
-        let long : length l ≡ n = length-records 0 (map row t) ∙ length-map t row in
-        rw built-is (ext-getD zeroRow (packed numbers ends d (10000 * w + e) n rows) (l ++ drop n rows)
+        let l = records 0 _ in
+        let long = length-records 0 _ ∙ length-map t row in
+        rw built-is (ext-getD zeroRow _ _
         (omega (arith, length-packed numbers ends d (10000 * w + e) n rows, length-append l (drop n rows), length-drop n rows, long))
         (λ i a. elim (decLt i n) [
-          | yes b ↦ packed-at numbers ends d (10000 * w + e) n rows fits i b ∙ row-same i b ∙ sym (List·getD-append l (drop n rows) zeroRow i (omega (arith, long)))
+          | yes b ↦ packed-at numbers ends d _ n rows fits i b ∙ row-same i b ∙ sym (List·getD-append l _ zeroRow i (omega arith))
           | no f ↦ let q : i ≡ n + (i - n) = omega arith in
-              packed-past numbers ends d (10000 * w + e) n rows i (omega arith) ∙ past l rows n i long q
+              packed-past numbers ends d _ n rows i (omega arith) ∙ past l rows n i long q
         ]))

@@ -30,7 +30,7 @@ module _ (rows : List Row) (from : ℕ) where
   copied-at zero k out h l = absurd (omega arith)
   copied-at (suc n) k out h l = elim (decLe (suc k) n) [
     | yes m ↦ getD-set-other (copied rows from n out) n k (getD rows (from + n) zeroRow) zeroRow (λ e. omega (arith, e, m)) ∙ copied-at n k out m (omega arith)
-    | no f ↦ let e : k ≡ n = omega arith in rw e (getD-set-same (copied rows from n out) n (getD rows (from + n) zeroRow) zeroRow (omega (arith, length-copied n out)))
+    | no f ↦ let e : k ≡ n = omega arith in rw e (getD-set-same (copied rows from n out) n _ zeroRow (omega (arith, length-copied n out)))
   ]
 
   pub copied-past : (n k : ℕ) (out : List Row) → n ≤ k → getD (copied rows from n out) k zeroRow ≡ getD out k zeroRow
@@ -40,11 +40,11 @@ module _ (rows : List Row) (from : ℕ) where
 
   pub chunk-length : length (chunkOf rows from) ≡ 64
   unfolding chunkOf
-  chunk-length = length-copied 64 (replicate 64 zeroRow)
+  chunk-length = length-copied 64 _
 
   pub chunk-at : (k : ℕ) → k < 64 → getD (chunkOf rows from) k zeroRow ≡ getD rows (from + k) zeroRow
   unfolding chunkOf
-  chunk-at k h = copied-at 64 k (replicate 64 zeroRow) h (omega (arith, length-replicate 64 zeroRow))
+  chunk-at k h = copied-at 64 k _ h (omega arith)
 
   -- what the loop of `copy_rows` keeps: i, and the list then
   pub record Copying (n : ℕ) (out : List Row) (i : ℕ) (l : List Row) : Type 0 where
@@ -52,13 +52,13 @@ module _ (rows : List Row) (from : ℕ) where
     pub is : l ≡ copied rows from i out
 
   pub there : (i n : ℕ) → i < n → n ≤ length rows - from → from + i < length rows
-  there i n less within = omega (arith, less, within)
+  there i n less within = omega arith
 
   pub copying-turn : {n i : ℕ} {out l : List Row} → Copying n out i l → i < n → Copying n out (i + 1) (set l i (getD rows (from + i) zeroRow))
-  copying-turn {n} {i} {out} k less = record { upto = omega (arith, less); is = rw (k .is) (sym (copied-more i out)) }
+  copying-turn {n} {i} {out} k less = record { upto = omega arith; is = rw (k .is) (sym (copied-more i out)) }
 
   pub copying-ends : {n i : ℕ} {out l : List Row} → Copying n out i l → n ≤ i → l ≡ copied rows from n out
-  copying-ends {n} {i} {out} k end = let e : i ≡ n = omega (arith, k .upto, end) in k .is ∙ rw e refl
+  copying-ends {n} {i} {out} k end = let e : i ≡ n = omega (arith, end) in k .is ∙ rw e refl
 
   -- ---- the code copies only what is there
 
@@ -73,9 +73,9 @@ module _ (rows : List Row) (from : ℕ) where
 
   pub chunk-copied : (n : ℕ) → CountIs n → copied rows from n (replicate 64 zeroRow) ≡ chunkOf rows from
   chunk-copied n c =
-      ext-getD zeroRow (copied rows from n (replicate 64 zeroRow)) (chunkOf rows from) (length-copied n (replicate 64 zeroRow) ∙ length-replicate 64 zeroRow ∙ sym chunk-length)
+      ext-getD zeroRow _ _ (length-copied n _ ∙ length-replicate 64 zeroRow ∙ sym chunk-length)
       (λ k h. let b : k < 64 = omega (arith, h, length-copied n (replicate 64 zeroRow), length-replicate 64 zeroRow) in elim (decLe (suc k) n) [
-        | yes m ↦ copied-at n k (replicate 64 zeroRow) m (omega (arith, c .most, length-replicate 64 zeroRow)) ∙ sym (chunk-at k b)
+        | yes m ↦ copied-at n k (replicate 64 zeroRow) m (omega arith) ∙ sym (chunk-at k b)
         | no f ↦ copied-past n k (replicate 64 zeroRow) (omega arith) ∙ getD-replicate 64 k zeroRow zeroRow b
             ∙ sym (chunk-at k b ∙ List·getD-eq-default rows zeroRow (omega (arith, c .all (omega arith))))
       ])

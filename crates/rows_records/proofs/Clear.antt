@@ -20,25 +20,25 @@ cleared (suc f) (suc i) (y ∷ ys) = y ∷ cleared f i ys
 cleared-none : (f : ℕ) (ys : List Row) → cleared f f ys ≡ ys
 cleared-none f [] = refl
 cleared-none zero (y ∷ ys) = refl
-cleared-none (suc f) (y ∷ ys) = ap (λ (l : List Row). y ∷ l) (cleared-none f ys)
+cleared-none (suc f) (y ∷ ys) = rw (cleared-none f ys)
 
 -- one more
 cleared-suc : (f i : ℕ) (ys : List Row) → f ≤ i → i < length ys → set (cleared f i ys) i zeroRow ≡ cleared f (suc i) ys
 cleared-suc f i [] l w = absurd (not-suc-le-zero w)
 cleared-suc zero zero (y ∷ ys) l w = ap (λ (t : List Row). zeroRow ∷ t) (sym (cleared-none zero ys))
-cleared-suc zero (suc i) (y ∷ ys) l w = ap (λ (t : List Row). zeroRow ∷ t) (cleared-suc zero i ys (omega arith) (le-of-suc-le-suc w))
+cleared-suc zero (suc i) (y ∷ ys) l w = rw (cleared-suc zero i ys (omega arith) (le-of-suc-le-suc w))
 cleared-suc (suc f) zero (y ∷ ys) l w = absurd (not-suc-le-zero l)
-cleared-suc (suc f) (suc i) (y ∷ ys) l w = ap (λ (t : List Row). y ∷ t) (cleared-suc f i ys (le-of-suc-le-suc l) (le-of-suc-le-suc w))
+cleared-suc (suc f) (suc i) (y ∷ ys) l w = rw (cleared-suc f i ys (le-of-suc-le-suc l) (le-of-suc-le-suc w))
 
 -- all
 zeros : (ys : List Row) → cleared zero (length ys) ys ≡ replicate (length ys) zeroRow
 zeros [] = refl
-zeros (y ∷ ys) = ap (λ (t : List Row). zeroRow ∷ t) (zeros ys)
+zeros (y ∷ ys) = rw (zeros ys)
 
 cleared-all : (f : ℕ) (ys : List Row) → f ≤ length ys → cleared f (length ys) ys ≡ take f ys ++ replicate (length ys - f) zeroRow
 cleared-all zero ys l = zeros ys ∙ ap (λ (m : ℕ). replicate m zeroRow) (sym (sub-zero (length ys)))
 cleared-all (suc f) [] l = absurd (not-suc-le-zero l)
-cleared-all (suc f) (y ∷ ys) l = ap (λ (t : List Row). y ∷ t) (cleared-all f ys (le-of-suc-le-suc l) ∙ ap (λ (m : ℕ). take f ys ++ replicate m zeroRow) (sym (suc-sub-suc (length ys) f)))
+cleared-all (suc f) (y ∷ ys) l = rw (cleared-all f ys (le-of-suc-le-suc l) ∙ ap (λ (m : ℕ). take f ys ++ replicate m zeroRow) (sym (suc-sub-suc (length ys) f)))
 
 -- what the loop keeps: i, and the list then
 pub record Clearing (f : ℕ) (ys : List Row) (i : ℕ) (l : List Row) : Type 0 where
@@ -51,7 +51,7 @@ module _ (f : ℕ) (ys : List Row) where
   clearing-starts below = record { past = le-refl f; upto = below; is = sym (cleared-none f ys) }
 
   pub clearing-turn : {i : ℕ} {l : List Row} → Clearing f ys i l → i < length ys → Clearing f ys (i + 1) (set l i zeroRow)
-  clearing-turn {i} k less = record { past = omega (arith, k .past); upto = omega (arith, less); is = rw (k .is) (cleared-suc f i ys (k .past) less ∙ ap (λ (j : ℕ). cleared f j ys) (sym (add-one i))) }
+  clearing-turn {i} k less = record { past = omega arith; upto = omega arith; is = rw (k .is) (cleared-suc f i ys (k .past) less ∙ rw (sym (add-one i))) }
 
   pub clearing-ends : {i : ℕ} {l : List Row} → Clearing f ys i l → f ≤ length ys → length ys ≤ i → l ≡ take f ys ++ replicate (length ys - f) zeroRow
-  clearing-ends {i} k below end = k .is ∙ ap (λ (j : ℕ). cleared f j ys) (omega (arith, k .upto, end)) ∙ cleared-all f ys below
+  clearing-ends {i} k below end = k .is ∙ ap (λ (j : ℕ). cleared f j ys) (omega (arith, end)) ∙ cleared-all f ys below

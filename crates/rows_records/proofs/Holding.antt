@@ -46,9 +46,9 @@ module _ {M : Type 1} (𝓤 : URA M) (H : Heap 𝓤) (A : Atoms 𝓤) (W : Given
     in-struct {P} x pure known slice =
         qed W (raw P ∷ []) ∵ use1 W (‵ (ownAt (N .parts) L k x)) slice $ use0 W (‵ (rest (N .parts) L k v)) (makes-shadow 𝓤 H A (rest (N .parts) L k v) pure known) $ move ! (1 ∷ 0 ∷ []) $
         use2 W (‵ (all-own (N .parts) L (putAt (N .parts) k x v))) (own-in 𝓤 H A W (N .parts) L k x v) $
-        use1 W (‵ (Struct (shape N) .own (intos (N .parts) (putAt (N .parts) k x v)) (vstruct (spelled (N .parts) L (putAt (N .parts) k x v)) ∷ []))) (own-shut 𝓤 H A W N L (putAt (N .parts) k x v)) $ done !
+        use1 W (‵ (Struct (shape N) .own _ _)) (own-shut 𝓤 H A W N L (putAt (N .parts) k x v)) $ done !
 
     pub of-struct : (w : Val) → ent 𝓤 (sem 𝓤 H A (Struct (shape N) .own (intos (N .parts) v) (w ∷ []))) (sem 𝓤 H A (ownAt (N .parts) L k (getAt (N .parts) k v)))
     of-struct w =
-        qed W (‵ (Struct (shape N) .own (intos (N .parts) v) (w ∷ [])) ∷ []) ∵ use1 W (given (w ∷ [] ≡ vstruct (spelled (N .parts) L v) ∷ []) (‵ (all-own (N .parts) L v))) (own-open 𝓤 H A W N L v w) $ learn ! (λ _.
-        use1 W (‵ (ownAt (N .parts) L k (getAt (N .parts) k v)) ⊛ ‵ (rest (N .parts) L k v)) (own-out 𝓤 H A W (N .parts) L k v) $ split ! $ keep ! (0 ∷ []) $ done !)
+        qed W (‵ (Struct (shape N) .own _ (w ∷ [])) ∷ []) ∵ use1 W (given _ (‵ (all-own (N .parts) L v))) (own-open 𝓤 H A W N L v w) $ learn ! (λ _.
+        use1 W (‵ (ownAt (N .parts) L k _) ⊛ ‵ (rest (N .parts) L k v)) (own-out 𝓤 H A W (N .parts) L k v) $ split ! $ keep ! (0 ∷ []) $ done !)

@@ -23,7 +23,7 @@ use mathlib.Core.List.{List, [], _∷_}
 use mathlib.Core.Path.{_≡_, refl, sym, subst}
 use mir.Syntax.{Lifetime}
 use prog.Wp.{Heap}
-use types.Kit.{Goal, Soaks, Given, Item, ‵, _⊛_, some, later, Seq, Step, step, _$_, move, use1, use2, use3, drop, split, pick, rewrite, fsplit, fjoin, feqI, feqL, await}
+use types.Kit.{Goal, Soaks, Given, Item, ‵, Seq, Step, step, _$_, move, use1, use2, use3, drop, split, pick, rewrite, fsplit, fjoin, feqI, feqL, await}
 use types.Share.{arr-parts}
 use types.Tokens.{lft-new, lft-end, lent-back}
 use Rattle.rows_records.proofs.Again.{LentAgain, lends-again, comes-back}
@@ -45,13 +45,13 @@ module _ (R : RattleType) (b o m : ℕ) where
     pub lend : K → Soaks G → ((ν : ℕ) (δ : GName) → Seq K W (‵ (flft (ν ∷ []) fullShare) ∷ ‵ (Own ℓ′ (ν ∷ []) δ ys) ∷ ‵ (LentAgain R κ (ν ∷ []) q γ b o δ ys) ∷ Γ) G) → Seq K W (‵ (Own ℓ κ γ ys) ∷ ‵ (flft κ q) ∷ Γ) G
     lend t z k =
         lft-new t z (λ ν. rewrite t 1 (λ (c : ℕ). ‵ (MutSlice ℓ κ R .own (at γ ys) (sliceVal (b, o) c ∷ []))) (sym e) refl $ move t (1 ∷ 2 ∷ []) $
-        use2 W (later (some (λ (δ : GName). ‵ (MutSlice ℓ′ (ν ∷ []) R .own (at δ ys) (sliceVal (b, o) (length ys) ∷ [])) ⊛ ‵ (LentAgain R κ (ν ∷ []) q γ b o δ ys)))) (lends-again R κ (ν ∷ []) q γ b o 𝓤 H A W ℓ ℓ′ ys) $
+        use2 W _ (lends-again R κ (ν ∷ []) q γ b o 𝓤 H A W ℓ ℓ′ ys) $
         await t z $ pick t (λ δ. split t $ rewrite t 0 (λ (c : ℕ). ‵ (MutSlice ℓ′ (ν ∷ []) R .own (at δ ys) (sliceVal (b, o) c ∷ []))) e refl $ move t (2 ∷ 0 ∷ []) $ k ν δ))
 
     pub back : K → Soaks G → (ν : ℕ) (δ : GName) (zs : List (R .Denot)) → Room R m → length zs ≡ length ys
         → Step K W (‵ (Own ℓ κ γ zs) ∷ ‵ (flft κ q) ∷ Γ) G (‵ (flft (ν ∷ []) fullShare) ∷ ‵ (LentAgain R κ (ν ∷ []) q γ b o δ ys) ∷ ‵ (finally R δ zs) ∷ Γ) G
     back t z ν δ zs room l = step (λ k. lft-end t z $
-        use3 W (later (‵ (MutSlice ℓ κ R .own (at γ zs) (sliceVal (b, o) (length ys) ∷ [])) ⊛ ‵ (flft κ q))) (comes-back R κ (ν ∷ []) q γ b o 𝓤 H A W ℓ ℓ′ ys δ zs (subst (Room R) (sym e) room) l) $ await t z $ split t $
+        use3 W _ (comes-back R κ (ν ∷ []) q γ b o 𝓤 H A W ℓ ℓ′ ys δ zs (subst (Room R) (sym e) room) l) $ await t z $ split t $
         rewrite t 0 (λ (c : ℕ). ‵ (MutSlice ℓ κ R .own (at γ zs) (sliceVal (b, o) c ∷ []))) e refl $ k)
 
     pub comes : K → Soaks G → (ν : ℕ) (δ : GName) (zs : List (R .Denot)) → Room R m → (length zs ≡ length ys → Seq K W (‵ (Own ℓ κ γ zs) ∷ ‵ (flft κ q) ∷ Γ) G)
@@ -60,9 +60,9 @@ module _ (R : RattleType) (b o m : ℕ) where
 
     pub share : K → Soaks G → ((ν : ℕ) (δ : GName) → Seq K W (‵ (flft (ν ∷ []) fullShare) ∷ ‵ (Shr ℓ′ (ν ∷ []) δ ys) ∷ ‵ (SharedAgain κ (ν ∷ []) q γ ys) ∷ Γ) G) → Seq K W (‵ (Own ℓ κ γ ys) ∷ ‵ (flft κ q) ∷ Γ) G
     share t z k =
-        lft-new t z (λ ν. rewrite t 1 (λ (c : ℕ). ‵ (MutSlice ℓ κ R .own (at γ ys) (sliceVal (b, o) c ∷ []))) (sym e) refl $ move t (1 ∷ []) $ fsplit t $ pureL t (at-slice R (at γ ys) (sliceVal (b, o) (length ys) ∷ [])) (λ p. fsplit t $
+        lft-new t z (λ ν. rewrite t 1 (λ (c : ℕ). ‵ (MutSlice ℓ κ R .own (at γ ys) (sliceVal (b, o) c ∷ []))) (sym e) refl $ move t (1 ∷ []) $ fsplit t $ pureL t (at-slice R (at γ ys) _) (λ p. fsplit t $
         move t (0 ∷ 1 ∷ 3 ∷ []) $ opens-slice t z R ys b o $ feqI t ℕ (length ys) (length ys) refl $ fjoin t $
-        use1 W (later (some (λ (δ : GName). ‵ (ShrSlice ℓ′ (ν ∷ []) R .own (at δ ys) (sliceVal (b, o) (length ys) ∷ [])) ⊛ ‵ (flent (ν ∷ []) (arr-parts (shares R) (length ys) .part fullShare ys b o))))) (lends-shr-slice 𝓤 H A W R ℓ′ (ν ∷ []) fullShare ys b o (p .1)) $
+        use1 W _ (lends-shr-slice 𝓤 H A W R ℓ′ (ν ∷ []) fullShare ys b o (p .1)) $
         await t z $ pick t (λ δ. split t $ rewrite t 0 (λ (c : ℕ). ‵ (ShrSlice ℓ′ (ν ∷ []) R .own (at δ ys) (sliceVal (b, o) c ∷ []))) e refl $
         -- [what is lent; the lender's part; the open borrow; obs; auth; [ν]]
         move t (3 ∷ 4 ∷ []) $ fjoin t $ move t (3 ∷ 0 ∷ []) $ fjoin t $ move t (2 ∷ 0 ∷ []) $ fjoin t $ move t (2 ∷ 1 ∷ 0 ∷ []) $ k ν δ)))
@@ -76,4 +76,4 @@ module _ (R : RattleType) (b o m : ℕ) where
 module _ {M : Type 1} {𝓤 : URA M} {H : Heap 𝓤} {A : Atoms 𝓤} {K : Type 0} {W : Given 𝓤 H A} {Γ : List (Item 𝓤)} {G : Goal 𝓤 H} where
   pub twin : K → (R : RattleType) (ℓ : Lifetime) (κ : Lft) (v : RefT (List (R .Denot)))
       → Step K W (‵ (ShrSlice ℓ κ R .own v (slice-vals v)) ∷ ‵ (ShrSlice ℓ κ R .own v (slice-vals v)) ∷ Γ) G (‵ (ShrSlice ℓ κ R .own v (slice-vals v)) ∷ Γ) G
-  twin t R ℓ κ v = step (λ k. use1 W (‵ (ShrSlice ℓ κ R .own v (slice-vals v)) ⊛ ‵ (ShrSlice ℓ κ R .own v (slice-vals v))) (shr-slice-copy 𝓤 H A W ℓ κ R .twice v (slice-vals v)) $ split t $ k)
+  twin t R ℓ κ v = step (λ k. use1 W _ (shr-slice-copy 𝓤 H A W ℓ κ R .twice v (slice-vals v)) $ split t $ k)

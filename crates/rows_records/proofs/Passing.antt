@@ -44,11 +44,11 @@ use mir.Fields.{getV, setV}
 use mir.Syntax.{Width, Ty, Name, Place, place, field, deref, Opd as Operand, copy, Rv as RValue, addrOf, Body, assign, seq, call, erased}
 use mir.Val.{Val, Vals as MirVals, vstruct, ofList, ofZ, vint, vbool, vunit, vptr, hasTy, WT}
 use prog.Memory.{fieldOf, fieldAt}
-use prog.Wp.{Heap, Env, Spot, spotOf, Calls, Loops}
+use prog.Wp.{Heap, Env, spotOf, Calls, Loops}
 use sound.WpLaws.{FmC}
 use types.Kit.{Given, Item, nth, put, mean, ‵, raw, _⊛_, some, given, later, ⋆, push, pop, ⊢++, Post, lands, runs, Seq, Step, _$_, _∵_, !, qed, by, cut, use0, use1, use2, use3, split, split3, join, fsplit, fjoin, feqI, move, keep, pick, learn, await, check, updating, now as at-once, show, frame, done, Goal, frees, step, ++⊢}
 use types.Part.{Part, look-in, sub, whole}
-use types.Run.{Opd, Opds, Rv, Walks, look, init, stop, hop, fld, from, load, addr, assigns, forget, free1, free0}
+use types.Run.{Opd, Opds, Rv, look, init, stop, hop, fld, from, load, addr, assigns, forget, free1, free0}
 use Rattle.rows_records.proofs.{Again.LentAgain, Lends.Own, Lends.Shr, Lends.SharedAgain, Lends.lend, Lends.comes, Lends.share, Lends.unshare, Told.Tokens, Told.End, Told.Ends, Told.calls-ended, Walk.Owned, Walk.AtEntry, Walk.at-entry}
 use denote.Struct.Laws as LL
 use denote.Enum.Laws as EL
@@ -195,7 +195,7 @@ module _ {M : Type 1} (𝓤 : URA M) (H : Heap 𝓤) (A : Atoms 𝓤) where
     Opened xs = later (some (λ (fs : Fresh xs). raw (⋆ 𝓤 H A (Toks xs fs)) ⊛ raw (⋆ 𝓤 H A (Owns xs fs)) ⊛ raw (⋆ 𝓤 H A (Keeps xs fs))))
 
     opened : (xs : List Arg) → ent 𝓤 (⋆ 𝓤 H A (Had xs)) (mean 𝓤 H A (Opened xs))
-    opened [] = qed W [] ∵ updating ! $ at-once ! $ show ! (λ (fs : Unit {0}). mean 𝓤 H A (raw (emp 𝓤) ⊛ raw (emp 𝓤) ⊛ raw (emp 𝓤))) tt $ use0 W (raw (emp 𝓤)) (id⊢ 𝓤 (emp 𝓤)) $ frame ! $ use0 W (raw (emp 𝓤)) (id⊢ 𝓤 (emp 𝓤)) $ frame ! $ done !
+    opened [] = qed W [] ∵ updating ! $ at-once ! $ show ! (λ _. mean 𝓤 H A (raw (emp 𝓤) ⊛ raw (emp 𝓤) ⊛ raw (emp 𝓤))) tt $ use0 W (raw (emp 𝓤)) _ $ frame ! $ use0 W (raw (emp 𝓤)) _ $ frame ! $ done !
     opened (value D x is ∷ xs) =
         qed W (raw (⋆ 𝓤 H A (Had xs)) ∷ []) ∵ updating ! $ use1 W (Opened xs) (opened xs) $ await ! tt $ pick ! (λ fs. split3 ! $ move ! (1 ∷ []) $
         use0 W (‵ (D .row .own x (D .val x ∷ []))) (D .makes x (D .val x ∷ []) is) $ use2 W (raw (⋆ 𝓤 H A (‵ (D .row .own x (D .val x ∷ [])) ∷ Owns xs fs))) (push 𝓤 H A (‵ (D .row .own x (D .val x ∷ []))) (Owns xs fs)) $ move ! (1 ∷ 0 ∷ 2 ∷ []) $
@@ -277,11 +277,11 @@ module _ {M : Type 1} (𝓤 : URA M) (H : Heap 𝓤) (A : Atoms 𝓤) where
 
     -- what the contract says of the parameters, and their tokens
     goes-out : (xs : List Arg) → ent 𝓤 (⋆ 𝓤 H A (Had xs)) (H .⇛ (⋆ 𝓤 H A (raw (⋆ 𝓤 H A (Tokens′ xs)) ∷ raw (⋆ 𝓤 H A (Left xs)) ∷ [])))
-    goes-out [] = qed W [] ∵ updating ! $ at-once ! $ use0 W (raw (emp 𝓤)) (id⊢ 𝓤 (emp 𝓤)) $ frame ! $ done !
+    goes-out [] = qed W [] ∵ updating ! $ at-once ! $ use0 W (raw (emp 𝓤)) _ $ frame ! $ done !
     goes-out (value D x is ∷ xs) = goes-out xs
     goes-out (views p T x vs v ∷ xs) =
         via 𝓤 (⋆ 𝓤 H A (token p ∷ viewed p ∷ raw (⋆ 𝓤 H A (Had xs)) ∷ [])) (two (token p) (viewed p) (Had xs))
-        (qed W (token p ∷ viewed p ∷ raw (⋆ 𝓤 H A (Had xs)) ∷ []) ∵ updating ! $ move ! (2 ∷ []) $ use1 W (later (raw (⋆ 𝓤 H A (Tokens′ xs)) ⊛ raw (⋆ 𝓤 H A (Left xs)))) (goes-out xs) $ await ! tt $ split ! $
+        (qed W (token p ∷ viewed p ∷ raw _ ∷ []) ∵ updating ! $ move ! (2 ∷ []) $ use1 W (later (raw (⋆ 𝓤 H A (Tokens′ xs)) ⊛ raw (⋆ 𝓤 H A (Left xs)))) (goes-out xs) $ await ! tt $ split ! $
         move ! (2 ∷ 0 ∷ []) $ use2 W (raw (⋆ 𝓤 H A (token p ∷ Tokens′ xs))) (push 𝓤 H A (token p) (Tokens′ xs)) $ keep ! (0 ∷ 1 ∷ []) $ at-once ! $ done !)
     goes-out (lends p l e ∷ xs) =
         let said : Item 𝓤 = ‵ (fsep (finally (p .row) (p .ref .name) l) (feq ℕ (length l) (length (p .ref .now)))) in
@@ -321,16 +321,16 @@ module _ {M : Type 1} (𝓤 : URA M) (H : Heap 𝓤) (A : Atoms 𝓤) where
   pre-from : (S : Signature) (s : Spec 𝓤 S) (y : tripleOf 𝓤 H A S s .Ghost) {ts ps : List (Item 𝓤)} → Tokens 𝓤 H A (S .lifetimes) (y .0 .0) (y .0 .1) ≡ ts → Owned 𝓤 H A (typesAt (S .params) (y .0 .0)) (y .0 .3) (y .0 .4) ≡ ps
       → ent 𝓤 (emp 𝓤) (s (y .0 .0) (y .0 .3) .requires (y .1)) → ent 𝓤 (sep 𝓤 (⋆ 𝓤 H A ts) (⋆ 𝓤 H A ps)) (tripleOf 𝓤 H A S s .pre y)
   pre-from S s y {ts} {ps} tok own owes =
-      let P : SProp 𝓤 = sep 𝓤 (⋆ 𝓤 H A ts) (⋆ 𝓤 H A ps) in
-      let N : SProp 𝓤 = s (y .0 .0) (y .0 .3) .requires (y .1) in
-      let B : SProp 𝓤 = onEntry 𝓤 H A S (y .0 .0) (y .0 .1) (y .0 .3) (y .0 .4) in
-      via 𝓤 (sep 𝓤 (emp 𝓤) P) (emp∗ 𝓤 P) (via 𝓤 (sep 𝓤 N B) (mono∗ 𝓤 owes (mono∗ 𝓤
-      (subst (λ (l : List (Item 𝓤)). ent 𝓤 (⋆ 𝓤 H A l) (alive 𝓤 H A S (y .0 .0) (y .0 .1))) tok (alive-from (S .lifetimes) (y .0 .0) (y .0 .1)))
-      (subst (λ (l : List (Item 𝓤)). ent 𝓤 (⋆ 𝓤 H A l) (sem 𝓤 H A (owns (typesAt (S .params) (y .0 .0)) (y .0 .3) (y .0 .4)))) own (owns-from (typesAt (S .params) (y .0 .0)) (y .0 .3) (y .0 .4))))) (comm∗ 𝓤 N B))
+      let P = sep 𝓤 (⋆ 𝓤 H A ts) (⋆ 𝓤 H A ps) in
+      let N = s (y .0 .0) (y .0 .3) .requires (y .1) in
+      let B = onEntry 𝓤 H A S (y .0 .0) (y .0 .1) (y .0 .3) (y .0 .4) in
+      via 𝓤 _ (emp∗ 𝓤 P) (via 𝓤 (sep 𝓤 N B) (mono∗ 𝓤 owes (mono∗ 𝓤
+      (rw tok at (alive-from (S .lifetimes) (y .0 .0) (y .0 .1)))
+      (rw own at (owns-from (typesAt (S .params) (y .0 .0)) (y .0 .3) (y .0 .4))))) (comm∗ 𝓤 N B))
 
   -- two lists of entries, each as one entry, written another way
   parted : (Δ Δ′ : List (Item 𝓤)) {Θ Θ′ : List (Item 𝓤)} → Δ ≡ Θ → Δ′ ≡ Θ′ → ent 𝓤 (⋆ 𝓤 H A (Δ ++ Δ′)) (sep 𝓤 (⋆ 𝓤 H A Θ) (⋆ 𝓤 H A Θ′))
-  parted Δ Δ′ e e′ = via 𝓤 (sep 𝓤 (⋆ 𝓤 H A Δ) (⋆ 𝓤 H A Δ′)) (⊢++ 𝓤 H A Δ Δ′)
+  parted Δ Δ′ e e′ = via 𝓤 _ (⊢++ 𝓤 H A Δ Δ′)
       (mono∗ 𝓤 (subst (λ (l : List (Item 𝓤)). ent 𝓤 (⋆ 𝓤 H A Δ) (⋆ 𝓤 H A l)) e (id⊢ 𝓤 (⋆ 𝓤 H A Δ))) (subst (λ (l : List (Item 𝓤)). ent 𝓤 (⋆ 𝓤 H A Δ′) (⋆ 𝓤 H A l)) e′ (id⊢ 𝓤 (⋆ 𝓤 H A Δ′))))
 
   -- what is said of last values, from entries of a context
@@ -340,8 +340,8 @@ module _ {M : Type 1} (𝓤 : URA M) (H : Heap 𝓤) (A : Atoms 𝓤) where
 
   ends-from : {n : ℕ} (κs : Lfts n) (ss : List (Slot n)) (ks : Kepts ss) (a : Denots (typesAt ss κs)) (ws : Fins κs ss ks a) → ent 𝓤 (⋆ 𝓤 H A (Ends 𝓤 H A κs ss ks a ws)) (sem 𝓤 H A (lastsOf κs ss ks a ws))
   ends-from κs [] ks a ws = id⊢ 𝓤 (emp 𝓤)
-  ends-from κs (s ∷ ss) ks a ws = let F : SProp 𝓤 = sem 𝓤 H A (left (s .row κs .exit (ks .0)) (a .0) (ws .0)) in
-      via 𝓤 (sep 𝓤 F (⋆ 𝓤 H A (Ends 𝓤 H A κs ss (ks .1) (a .1) (ws .1)))) (end-from (s .row κs .exit (ks .0)) (a .0) (ws .0) (Ends 𝓤 H A κs ss (ks .1) (a .1) (ws .1))) (monoR 𝓤 F (ends-from κs ss (ks .1) (a .1) (ws .1)))
+  ends-from κs (s ∷ ss) ks a ws = let F = sem 𝓤 H A (left (s .row κs .exit (ks .0)) (a .0) (ws .0)) in
+      via 𝓤 _ (end-from (s .row κs .exit (ks .0)) (a .0) (ws .0) (Ends 𝓤 H A κs ss (ks .1) (a .1) (ws .1))) (monoR 𝓤 F (ends-from κs ss (ks .1) (a .1) (ws .1)))
 
   -- the walk's end, at a result and last values that the prover names
   module _ (W : Given 𝓤 H A) (T : Ended) (c : Clauses 𝓤 T) (y : tripleOf 𝓤 H A (T .signature) (closing 𝓤 H A T c) .Ghost) where
@@ -380,11 +380,11 @@ module _ {M : Type 1} (𝓤 : URA M) (H : Heap 𝓤) (A : Atoms 𝓤) where
         (run (flat (typesAt (S .params) κs) (valss (typesAt (S .params) κs) (sp κs) a)) (tripleOf 𝓤 H A S (closing 𝓤 H A T c) .post ((κs, qs, bounds, a, valss (typesAt (S .params) κs) (sp κs) a), g))))
         → Meets 𝓤 H A S run (closing 𝓤 H A T c)
     meets-with sp tl k y =
-        let R : SProp 𝓤 = c (y .0 .0) (y .0 .3) .requires (y .1) in
+        let R = c (y .0 .0) (y .0 .3) .requires (y .1) in
         let Q : Vals S (y .0 .0) → SProp 𝓤 = λ us. run (flat (typesAt (S .params) (y .0 .0)) us) (tripleOf 𝓤 H A S (closing 𝓤 H A T c) .post ((y .0 .0, y .0 .1, y .0 .2, y .0 .3, us), y .1)) in
-        let vs : Vals S (y .0 .0) = valss (typesAt (S .params) (y .0 .0)) (sp (y .0 .0)) (y .0 .3) in
-        via 𝓤 (sep 𝓤 R (wand 𝓤 R (Q (y .0 .4))))
-        (via 𝓤 (sep 𝓤 (wand 𝓤 R (Q (y .0 .4))) R)
+        let vs = valss (typesAt (S .params) (y .0 .0)) (sp (y .0 .0)) (y .0 .3) in
+        via 𝓤 _
+        (via 𝓤 _
         (monoL 𝓤 R (said 𝓤 H A S (y .0 .0) (y .0 .1) (sp (y .0 .0)) (tl (y .0 .0)) (y .0 .3) (λ us. wand 𝓤 R (Q us)) (y .0 .4) (λ are. wandI 𝓤 _ R _
         (via 𝓤 (sep 𝓤 (⋆ 𝓤 H A (AtEntry 𝓤 H A S (y .0 .0) (y .0 .1) (y .0 .3) vs)) R) (monoL 𝓤 R (at-entry 𝓤 H A S (y .0 .0) (y .0 .1) (y .0 .3) vs)) (k (y .0 .0) (y .0 .1) (y .0 .2) (y .0 .3) (y .1) are)))))
         (comm∗ 𝓤 (wand 𝓤 R (Q (y .0 .4))) R))
@@ -432,7 +432,7 @@ module _ {M : Type 1} {𝓤 : URA M} {H : Heap 𝓤} {A : Atoms 𝓤} {K : Type 
   pub part-of : K → (n k : ℕ) (T : Declared) (L : LL.Laws T) (x : T .D) {i b d : ℕ} {τ : Ty} {q : Share} → spotOf 𝓤 H E i ≡ (layout (declared-shape T), b, zero) → nth 𝓤 H A n Γ ≡ ‵ (fat q (layout (declared-shape T)) b zero (LL.val T L x))
       → fieldAt zero (toTys (mirs (fields T))) k ≡ just (τ, d) → Opd K W Γ E (copy (place i (field k ∷ []))) (getV (field-vals T L x) k)
   part-of t n k T L x {i} {b} {d} {τ} {q} e₁ e₂ e₃ =
-      load t (from t (subst (λ (s : Spot 𝓤 H). Walks K W Γ E s (field k ∷ []) (τ, b, zero + d)) (sym e₁) (fld t e₃ (stop t))))
+      load t (from t (rw e₁ (fld t e₃ (stop t))))
       (look-in t n (subst (λ (j : Item 𝓤). Part K W j q τ b (zero + d) (getV (field-vals T L x) k) (λ u. ‵ (fat q (layout (declared-shape T)) b zero (vstruct (setV (field-vals T L x) k u))))) (sym e₂) (sub t k e₃ (whole t))))
 
   pub start : K → (n : ℕ) {i k : ℕ} {ρ τ : Ty} {d : ℕ} {q : Share} {b o : ℕ} {back : Val → Item 𝓤} → fieldOf (spotOf 𝓤 H E i .0) k ≡ just (ρ, d) → Part K W (nth 𝓤 H A n Γ) q ρ (spotOf 𝓤 H E i .1) (spotOf 𝓤 H E i .2 + d) (vptr b o) back
@@ -471,10 +471,10 @@ module _ {M : Type 1} {𝓤 : URA M} {H : Heap 𝓤} {A : Atoms 𝓤} {K : Type 
   -- all locals are freed, behind what else there is
   pub frees-all : K → {E : Env 𝓤 H} (Γ : List (Item 𝓤)) (cs : List Cell) → Covers 𝓤 H E cs → Step K W Γ g (Γ ++ Cells 𝓤 H E cs) (frees E g)
   frees-all t {E} Γ cs c = step (λ s. by t
-      (via 𝓤 (sep 𝓤 (⋆ 𝓤 H A Γ) (⋆ 𝓤 H A (Cells 𝓤 H E cs))) (⊢++ 𝓤 H A Γ (Cells 𝓤 H E cs)) (via 𝓤 (sep 𝓤 (⋆ 𝓤 H A (Cells 𝓤 H E cs)) (⋆ 𝓤 H A Γ)) (comm∗ 𝓤 (⋆ 𝓤 H A Γ) (⋆ 𝓤 H A (Cells 𝓤 H E cs)))
-      (via 𝓤 (⋆ 𝓤 H A (Cells 𝓤 H E cs ++ Γ)) (++⊢ 𝓤 H A (Cells 𝓤 H E cs) Γ) (free-cells t E cs c s .prf)))))
+      (via 𝓤 (sep 𝓤 (⋆ 𝓤 H A Γ) (⋆ 𝓤 H A (Cells 𝓤 H E cs))) (⊢++ 𝓤 H A Γ _) (via 𝓤 (sep 𝓤 (⋆ 𝓤 H A (Cells 𝓤 H E cs)) (⋆ 𝓤 H A Γ)) (comm∗ 𝓤 (⋆ 𝓤 H A Γ) (⋆ 𝓤 H A (Cells 𝓤 H E cs)))
+      (via 𝓤 _ (++⊢ 𝓤 H A (Cells 𝓤 H E cs) Γ) (free-cells t E cs c s .prf)))))
 
 module _ {M : Type 1} {𝓤 : URA M} {H : Heap 𝓤} {A : Atoms 𝓤} {K : Type 0} {W : Given 𝓤 H A} {Γ : List (Item 𝓤)} where
   -- the context written out: what else there is, and the locals in their order
   pub tidy : K → {C : Calls 𝓤 H} {Λ : Loops 𝓤 H} {E : Env 𝓤 H} {b : Body} {q : Post 𝓤 H} (Δ : List (Item 𝓤)) (cs : List Cell) → Γ ≡ Δ ++ Cells 𝓤 H E cs → Step K W (Δ ++ Cells 𝓤 H E cs) (runs C Λ E b q) Γ (runs C Λ E b q)
-  tidy t {C} {Λ} {E} {b} {q} Δ cs e = step (λ s. subst (λ (Θ : List (Item 𝓤)). Seq K W Θ (runs C Λ E b q)) (sym e) s)
+  tidy t {C} {Λ} {E} {b} {q} Δ cs e = step (λ s. rw e s)

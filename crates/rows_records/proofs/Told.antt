@@ -1,12 +1,10 @@
--- Calls in a walk by hand, whatever the callee's `ensures` says. Nothing here names a type or a function. A crate above says `use Rattle.rows_records.proofs.Told.{..}`.
+-- Calls in a walk, whatever the callee's `ensures` says. Nothing here names a type or a function. A crate above says `use Rattle.rows_records.proofs.Told.{..}`.
 --     calls-ensured    the result is some r, its machine value written out. What stands at the head gives the callee's `pre`, and the tokens come back there, beside what the callee ensures
 --     calls-ended      the same where the `ensures` says the fact Q of the result and of the last values ls: Q is known, and what is left of each `&mut` stands at the head (`Ends`), then the tokens (`Tokens`), each as an entry of its own
---     calls-free       the same where the callee's `pre` is had for nothing, as of numbers and structs of numbers
---     calls-told       the same where nothing is asked of last values: Q is known of the result, and the tokens come back as one entry
 -- Assumes `Given`, and that the table of calls is monotone under a frame, as every `Tables` is.
 use Prim.Native.Nat.{ℕ, zero, suc}
 use base.Fml.{flft}
-use base.Logic.{SProp, ent, sep, emp, id⊢, via, mono∗, monoR, snd∗}
+use base.Logic.{ent, sep, emp, id⊢, via, mono∗, monoR, snd∗}
 use contract.Lifetimes.{Lfts, Shares, toks}
 use contract.Monad.{fact}
 use denote.Exit.{Exit, unchanged, leaves, Last, left}
@@ -28,7 +26,7 @@ use mir.Syntax.{Name, Place, Opd as Operand, Body, seq, call}
 use mir.Val.{Val}
 use prog.Wp.{Heap, Env, Calls, Loops}
 use sound.WpLaws.{FmC}
-use types.Kit.{Given, Item, mean, ‵, raw, _⊛_, ⋆, push, ++⊢, some, later, Post, lands, runs, Seq, _$_, cut, use0, use1, split, move, pick, await}
+use types.Kit.{Given, Item, mean, ‵, raw, _⊛_, ⋆, push, ++⊢, some, Post, lands, runs, Seq, _$_, cut, use1, split, move, pick, await}
 use types.Run.{Opds}
 
 module _ {M : Type 1} (𝓤 : URA M) (H : Heap 𝓤) (A : Atoms 𝓤) where
@@ -56,7 +54,7 @@ module _ {M : Type 1} (𝓤 : URA M) (H : Heap 𝓤) (A : Atoms 𝓤) where
 
   ends : {n : ℕ} (κs : Lfts n) (ss : List (Slot n)) (ks : Kepts ss) (a : Denots (typesAt ss κs)) (ws : Fins κs ss ks a) → ent 𝓤 (sem 𝓤 H A (lastsOf κs ss ks a ws)) (⋆ 𝓤 H A (Ends κs ss ks a ws))
   ends κs [] ks a ws = id⊢ 𝓤 (emp 𝓤)
-  ends κs (s ∷ ss) ks a ws = let F : SProp 𝓤 = sem 𝓤 H A (left (s .row κs .exit (ks .0)) (a .0) (ws .0)) in
+  ends κs (s ∷ ss) ks a ws = let F = sem 𝓤 H A (left (s .row κs .exit (ks .0)) (a .0) (ws .0)) in
       via 𝓤 (sep 𝓤 F (⋆ 𝓤 H A (Ends κs ss (ks .1) (a .1) (ws .1)))) (monoR 𝓤 F (ends κs ss (ks .1) (a .1) (ws .1))) (end (s .row κs .exit (ks .0)) (a .0) (ws .0) (Ends κs ss (ks .1) (a .1) (ws .1)))
 
   both : (T : Ended) (κs : Lfts (T .signature .lifetimes)) (qs : Shares (T .signature .lifetimes)) (a : Args (T .signature) κs) (ls : Lasts T κs a)
@@ -71,8 +69,8 @@ module _ {M : Type 1} {𝓤 : URA M} {H : Heap 𝓤} {A : Atoms 𝓤} {K : Type 
       → ((r : Res S (y .0 .0)) → Is (typeAt (S .result) (y .0 .0)) r (val r ∷ []) → Seq K W (raw (alive 𝓤 H A S (y .0 .0) (y .0 .1)) ∷ raw (s (y .0 .0) (y .0 .3) .ensures (y .1) r) ∷ Γ) (lands C Λ E d (val r) rest q))
       → Seq K W (i ∷ Γ) (runs C Λ E (seq (call f xs d) rest) q)
   calls-ensured t fm S s met y asks val tl os k =
-      use1 W (raw (tripleOf 𝓤 H A S s .pre y)) asks $ calls-at t fm (tripleOf 𝓤 H A S s) met y os (λ u.
-      use1 W (later (some (λ (r : Res S (y .0 .0)). (raw (alive 𝓤 H A S (y .0 .0) (y .0 .1)) ⊛ ‵ (typeAt (S .result) (y .0 .0) .own r (u ∷ []))) ⊛ raw (s (y .0 .0) (y .0 .3) .ensures (y .1) r)))) (id⊢ 𝓤 _) $
+      use1 W _ asks $ calls-at t fm _ met y os (λ u.
+      use1 W _ (id⊢ 𝓤 _) $
       await t tt $ pick t (λ r. split t $ split t $ move t (1 ∷ []) $
       facts t (typeAt (S .result) (y .0 .0)) (Is (typeAt (S .result) (y .0 .0))) (shows 𝓤 H A (typeAt (S .result) (y .0 .0))) r (u ∷ []) (λ is.
       subst (λ (v : Val). Seq K W (raw (alive 𝓤 H A S (y .0 .0) (y .0 .1)) ∷ raw (s (y .0 .0) (y .0 .3) .ensures (y .1) r) ∷ Γ) (lands C Λ E d v rest q)) (sym (ap only (tl r (u ∷ []) is)))
@@ -88,26 +86,7 @@ module _ {M : Type 1} {𝓤 : URA M} {H : Heap 𝓤} {A : Atoms 𝓤} {K : Type 
       → Seq K W (i ∷ Γ) (runs C Λ E (seq (call f xs d) rest) q)
   calls-ended t fm T c met y asks Q says val tl os k =
       calls-ensured t fm (T .signature) (closing 𝓤 H A T c) met y asks val tl os (λ r is.
-      move t (1 ∷ []) $ use1 W (some (λ (ls : Lasts T (y .0 .0) (y .0 .3)). ‵ (lasts T (y .0 .0) (y .0 .3) ls) ⊛ raw (c (y .0 .0) (y .0 .3) .ensures (y .1) r (atExit T (y .0 .0) (y .0 .3) ls)))) (id⊢ 𝓤 _) $
-      pick t (λ ls. split t $ move t (1 ∷ []) $ use1 W (raw (fact 𝓤 (Q r ls))) (says r ls) $ heard t (Q r ls) (λ said.
-      cut (‵ (lasts T (y .0 .0) (y .0 .3) ls) ∷ raw (alive 𝓤 H A (T .signature) (y .0 .0) (y .0 .1)) ∷ []) (Ends 𝓤 H A (y .0 .0) (T .signature .params) (T .kept) (y .0 .3) ls ++ Tokens 𝓤 H A (T .signature .lifetimes) (y .0 .0) (y .0 .1)) Γ
+      move t (1 ∷ []) $ use1 W (some (λ (ls : Lasts T (y .0 .0) (y .0 .3)). ‵ (lasts T (y .0 .0) (y .0 .3) ls) ⊛ raw _)) (id⊢ 𝓤 _) $
+      pick t (λ ls. split t $ move t (1 ∷ []) $ use1 W _ (says r ls) $ heard t (Q r ls) (λ said.
+      cut (‵ (lasts T (y .0 .0) (y .0 .3) ls) ∷ raw _ ∷ []) (Ends 𝓤 H A (y .0 .0) (T .signature .params) (T .kept) (y .0 .3) ls ++ Tokens 𝓤 H A (T .signature .lifetimes) (y .0 .0) (y .0 .1)) Γ
       (both 𝓤 H A T (y .0 .0) (y .0 .1) (y .0 .3) ls) $ k r ls said is)))
-
-  pub calls-free : K → FmC 𝓤 H (W .laws) C → (T : Ended) (c : Clauses 𝓤 T) → Triple 𝓤 (C f) (tripleOf 𝓤 H A (T .signature) (closing 𝓤 H A T c)) → (y : tripleOf 𝓤 H A (T .signature) (closing 𝓤 H A T c) .Ghost)
-      → ent 𝓤 (emp 𝓤) (tripleOf 𝓤 H A (T .signature) (closing 𝓤 H A T c) .pre y) → (Q : Res (T .signature) (y .0 .0) → Lasts T (y .0 .0) (y .0 .3) → Type 0)
-      → ((r : Res (T .signature) (y .0 .0)) (ls : Lasts T (y .0 .0) (y .0 .3)) → ent 𝓤 (c (y .0 .0) (y .0 .3) .ensures (y .1) r (atExit T (y .0 .0) (y .0 .3) ls)) (fact 𝓤 (Q r ls)))
-      → (val : Res (T .signature) (y .0 .0) → Val) → Tells (typeAt (T .signature .result) (y .0 .0)) (Is (typeAt (T .signature .result) (y .0 .0))) (λ r. val r ∷ [])
-      → Opds K W (raw (tripleOf 𝓤 H A (T .signature) (closing 𝓤 H A T c) .pre y) ∷ Γ) E xs (tripleOf 𝓤 H A (T .signature) (closing 𝓤 H A T c) .args y)
-      → ((r : Res (T .signature) (y .0 .0)) (ls : Lasts T (y .0 .0) (y .0 .3)) → Q r ls → Is (typeAt (T .signature .result) (y .0 .0)) r (val r ∷ [])
-      → Seq K W ((Ends 𝓤 H A (y .0 .0) (T .signature .params) (T .kept) (y .0 .3) ls ++ Tokens 𝓤 H A (T .signature .lifetimes) (y .0 .0) (y .0 .1)) ++ Γ) (lands C Λ E d (val r) rest q))
-      → Seq K W Γ (runs C Λ E (seq (call f xs d) rest) q)
-  calls-free t fm T c met y asks Q says val tl os k = use0 W (raw (tripleOf 𝓤 H A (T .signature) (closing 𝓤 H A T c) .pre y)) asks $ calls-ended t fm T c met y (id⊢ 𝓤 _) Q says val tl os k
-
-  pub calls-told : K → FmC 𝓤 H (W .laws) C → (S : Signature) (s : Spec 𝓤 S) → Triple 𝓤 (C f) (tripleOf 𝓤 H A S s) → (y : tripleOf 𝓤 H A S s .Ghost)
-      → (Q : Res S (y .0 .0) → Type 0) (val : Res S (y .0 .0) → Val) → Tells (typeAt (S .result) (y .0 .0)) (Is (typeAt (S .result) (y .0 .0))) (λ r. val r ∷ [])
-      → ((r : Res S (y .0 .0)) → ent 𝓤 (s (y .0 .0) (y .0 .3) .ensures (y .1) r) (fact 𝓤 (Q r)))
-      → Opds K W (raw (tripleOf 𝓤 H A S s .pre y) ∷ Γ) E xs (tripleOf 𝓤 H A S s .args y)
-      → ((r : Res S (y .0 .0)) → Q r → Is (typeAt (S .result) (y .0 .0)) r (val r ∷ []) → Seq K W (raw (alive 𝓤 H A S (y .0 .0) (y .0 .1)) ∷ Γ) (lands C Λ E d (val r) rest q))
-      → Seq K W (raw (tripleOf 𝓤 H A S s .pre y) ∷ Γ) (runs C Λ E (seq (call f xs d) rest) q)
-  calls-told t fm S s met y Q val tl says os k =
-      calls-ensured t fm S s met y (id⊢ 𝓤 _) val tl os (λ r is. move t (1 ∷ []) $ use1 W (raw (fact 𝓤 (Q r))) (says r) $ heard t (Q r) (λ said. k r said is))

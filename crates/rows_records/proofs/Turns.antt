@@ -28,8 +28,8 @@ use mir.Syntax.{Ty, Opd as Operand, copy, rvOpd, place, deref, Body, assign, seq
 use mir.Val.{Val, vptr, hasTy, WT}
 use native.Mathlib.Nat.{mul-le-mul-right, le-of-lt}
 use native.Mathlib.Omega.{arith}
-use prog.Wp.{Heap, Out, next, exits, Env, spotOf, Calls, Loops, Tables, Wp, afterSeq, afterBlock, afterTurn}
-use types.Kit.{Given, Goal, Soaks, Item, nth, put, ‵, _⊛_, ⋆, Post, anyQ, post, prop, runs, Seq, Step, step, _$_, move, drop, split, use1, rewrite, fsplit, fjoin}
+use prog.Wp.{Heap, Out, next, exits, Env, spotOf, Calls, Loops, Tables, afterBlock, afterTurn}
+use types.Kit.{Given, Goal, Soaks, Item, nth, put, ‵, _⊛_, ⋆, Post, anyQ, prop, runs, Seq, Step, step, _$_, move, drop, split, use1, rewrite, fsplit, fjoin}
 use types.Run.{Opd, look, init, stop, hop, from, load, of-opd, assigns}
 use Rattle.rows_records.proofs.{Elem.Elem, Elem.knows, Elem.look-elem, Elem.store-elem, Lends.Own, Passing.Data, Passing.Cell, Passing.Cells, Walk.loops-by}
 
@@ -44,19 +44,19 @@ sub-fits a b l = omega (arith, l)
 
 -- ---- counting up to n
 pub next-fits : {m : ℕ} (i n : ℕ) → i < n → n < m → i + 1 < m
-next-fits i n less l = omega (arith, less, l)
+next-fits i n less l = omega (arith, l)
 
 pub next-upto : (i n : ℕ) → i < n → i + 1 ≤ n
-next-upto i n less = omega (arith, less)
+next-upto i n less = omega arith
 
 pub nearer : (i n : ℕ) → i < n → n - (i + 1) < n - i
-nearer i n less = omega (arith, less)
+nearer i n less = omega arith
 
 pub nearer-to : (i j n : ℕ) → i < j → i < n → n - j < n - i
-nearer-to i j n further less = omega (arith, further, less)
+nearer-to i j n further less = omega arith
 
 pub upto-end : (i n : ℕ) → i ≤ n → n ≤ i → i ≡ n
-upto-end i n most past = omega (arith, most, past)
+upto-end i n most past = omega arith
 
 -- ---- a loop
 module _ {M : Type 1} {𝓤 : URA M} {H : Heap 𝓤} {A : Atoms 𝓤} {K : Type 0} {W : Given 𝓤 H A} {Γ : List (Item 𝓤)} {E : Env 𝓤 H} {q : Post 𝓤 H} {turn rest : Body} where
@@ -67,9 +67,9 @@ module _ {M : Type 1} {𝓤 : URA M} {H : Heap 𝓤} {A : Atoms 𝓤} {K : Type 
       → Seq K W Γ (runs (𝓣 .C) (𝓣 .Λ) E (seq (block (loop turn)) rest) q)
   unfolding afterTurn
   loops t 𝓣 μ F Δ cs s f e each =
-      let Left : Out → SProp 𝓤 = afterBlock 𝓤 H (afterSeq 𝓤 H (Wp 𝓤 H (𝓣 .C) (𝓣 .Λ) E rest (post 𝓤 H q)) (post 𝓤 H q)) in
-      let all : ent 𝓤 (⋆ 𝓤 H A (Δ s ++ Cells 𝓤 H E (cs s))) (Wp 𝓤 H (𝓣 .C) (𝓣 .Λ) E (loop turn) Left) = loops-by 𝓤 H A W 𝓣 E turn Left μ F (λ s. Δ s ++ Cells 𝓤 H E (cs s)) (λ s f X on. each s f (afterTurn 𝓤 H X Left) on (λ Θ. step (λ r. record { prf = r .prf })) .prf) s f in
-      record { prf = subst (λ (Θ : List (Item 𝓤)). ent 𝓤 (⋆ 𝓤 H A Θ) (Wp 𝓤 H (𝓣 .C) (𝓣 .Λ) E (loop turn) Left)) (sym e) all }
+      let Left = afterBlock 𝓤 H _ in
+      let all = loops-by 𝓤 H A W 𝓣 E turn Left μ F (λ s. Δ s ++ Cells 𝓤 H E (cs s)) (λ s f X on. each s f _ on (λ Θ. step (λ r. record { prf = r .prf })) .prf) s f in
+      record { prf = rw e all }
 
 -- ---- elements
 module _ (R : RattleType) (x : RefT (List (R .Denot))) where
@@ -88,13 +88,13 @@ module _ (R : RattleType) (x : RefT (List (R .Denot))) (l : List (R .Denot)) {M 
       → Step K W (‵ (row R fullShare l (b R x) (o R x)) ∷ ‵ (fobor κ s (Held R (length l) (b R x) (o R x) (x .name))) ∷ ‵ (fobs (x .name) (codedHoleys R .code (heres R l))) ∷ ‵ (fauth (x .name) (codedHoleys R .code (heres R l))) ∷ Γ) G
       (‵ (flft κ s) ∷ ‵ (Own R (b R x) (o R x) (length (now x)) erased κ (x .name) l) ∷ Γ) G
   opens t z e = step (λ k. rewrite t 1 (λ (c : ℕ). ‵ (MutSlice erased κ R .own (at R x l) (sliceVal (b R x, o R x) c ∷ []))) (sym e) refl $ move t (1 ∷ []) $ fsplit t $
-      pureL t (at-slice R (at R x l) (sliceVal (b R x, o R x) (length l) ∷ [])) (λ p. fsplit t $ opens-slice t z R l (b R x) (o R x) $ k))
+      pureL t (at-slice R (at R x l) _) (λ p. fsplit t $ opens-slice t z R l (b R x) (o R x) $ k))
 
   closes : K → Soaks G → (l′ : List (R .Denot)) → length l′ ≡ length l → length l ≡ length (now x) → Room R (length (now x))
       → Step K W (‵ (flft κ s) ∷ ‵ (Own R (b R x) (o R x) (length (now x)) erased κ (x .name) l′) ∷ Γ) G
       (‵ (row R fullShare l′ (b R x) (o R x)) ∷ ‵ (fobor κ s (Held R (length l) (b R x) (o R x) (x .name))) ∷ ‵ (fobs (x .name) (codedHoleys R .code (heres R l))) ∷ ‵ (fauth (x .name) (codedHoleys R .code (heres R l))) ∷ Γ) G
   closes t z l′ e′ e room = step (λ k. closes-slice t z R l l′ e′ (b R x) (o R x) $ fjoin t $
-      pureI t (at-slice R (at R x l′) (sliceVal (b R x, o R x) (length l′) ∷ [])) (tt, (tt, tt)) (refl, subst (Room R) (sym (e′ ∙ e)) room) $ fjoin t $
+      pureI t (at-slice R (at R x l′) _) (tt, (tt, tt)) (refl, subst (Room R) (sym (e′ ∙ e)) room) $ fjoin t $
       rewrite t 0 (λ (c : ℕ). ‵ (MutSlice erased κ R .own (at R x l′) (sliceVal (b R x, o R x) c ∷ []))) (e′ ∙ e) refl $ move t (1 ∷ 0 ∷ []) $ k)
 
 module _ {M : Type 1} (𝓤 : URA M) (H : Heap 𝓤) (A : Atoms 𝓤) (D : Data 𝓤 H A) where
@@ -145,5 +145,5 @@ module _ {M : Type 1} {𝓤 : URA M} {H : Heap 𝓤} {A : Atoms 𝓤} {K : Type 
       (‵ (flft κ s) ∷ ‵ (Own (D .row) (x .ptr .0) (x .ptr .1) (length (now x)) erased κ (x .name) l) ∷ Γ) (runs C Λ E (seq (assign (place j (deref τ ∷ [])) (rvOpd u)) rest) q)
   writes-lent t D x l i y cell room long below n at-ptr is typed u = step (λ k.
       opens (D .row) x l t tt long $
-      assigns t (of-opd t u) (from t (hop t (look t (suc (suc (suc (suc n)))) at-ptr) (stop t))) (store-elem t (elem 𝓤 H A D cell) (D .makes) 0 l i y (x .ptr .0) (x .ptr .1) (subst (λ (c : ℕ). i < c) (sym long) below) typed is refl) $
+      assigns t (of-opd t u) (from t (hop t (look t (suc (suc (suc (suc n)))) at-ptr) (stop t))) (store-elem t (elem 𝓤 H A D cell) (D .makes) 0 l i y (x .ptr .0) (x .ptr .1) (rw long below) typed is refl) $
       closes (D .row) x l t tt (set l i y) (length-set l i y) long room $ k)

@@ -1,4 +1,4 @@
--- Steps for a walk by hand, for any crate: nothing here names a type or a function. A crate above says `use Rattle.rows_records.proofs.Walk.{..}`; `rows_judge::judge` is a walk that does.
+-- Steps for a walk, for any crate: nothing here names a type or a function. A crate above says `use Rattle.rows_records.proofs.Walk.{..}`; `rows_judge::judge` is a walk that does.
 --     calls-says       a call of a function whose `ensures` says which value it returns, and whose result is plain data: the result is that value, written out. The callee's `pre` is at the head, and the tokens come back there
 --     calls-kept       the same where the callee takes slices, `&[T]`, and plain data: the lifetimes' tokens, as one entry, and what the slices own, as one entry, are at the head, and stay there
 --     calls-plain      the same where the callee names no lifetime and its `pre` is had for nothing, as of numbers and structs of numbers: the context stays as it was
@@ -22,7 +22,7 @@ use lib.ListN.{length, getD}
 use lib.WfN.{Nat·lt-wfRel}
 use mathlib.Core.Bool.{Bool, true, false}
 use mathlib.Core.List.{List, [], _∷_, _++_}
-use mathlib.Core.Path.{_≡_, refl, subst}
+use mathlib.Core.Path.{_≡_, refl}
 use mir.Syntax.{Opd as Operand, Body, seq, loop, cond, skip}
 use mir.Val.{vbool}
 use native.Mathlib.Nat.{not-suc-le-zero, le-of-suc-le-suc}
@@ -49,7 +49,7 @@ module _ {M : Type 1} (𝓤 : URA M) (H : Heap 𝓤) (A : Atoms 𝓤) where
 
   owned : (Ts : List RattleType) (a : Denots Ts) (vss : Valss Ts) → ent 𝓤 (sem 𝓤 H A (owns Ts a vss)) (⋆ 𝓤 H A (Owned Ts a vss))
   owned [] a vss = id⊢ 𝓤 (emp 𝓤)
-  owned (T ∷ Ts) a vss = let F : SProp 𝓤 = sem 𝓤 H A (T .own (a .0) (vss .0)) in
+  owned (T ∷ Ts) a vss = let F = sem 𝓤 H A (T .own (a .0) (vss .0)) in
       via 𝓤 (sep 𝓤 F (⋆ 𝓤 H A (Owned Ts (a .1) (vss .1)))) (monoR 𝓤 F (owned Ts (a .1) (vss .1))) (push 𝓤 H A (‵ (T .own (a .0) (vss .0))) (Owned Ts (a .1) (vss .1)))
 
   abbrev pub AtEntry : (S : Signature) (κs : Lfts (S .lifetimes)) → Shares (S .lifetimes) → Args S κs → Vals S κs → List (Item 𝓤)
@@ -77,7 +77,7 @@ module _ {M : Type 1} (𝓤 : URA M) (H : Heap 𝓤) (A : Atoms 𝓤) (W : Given
   Below t = ex 𝓤 (λ (t′ : ℕ). guard 𝓤 (t′ < t) (Inv t′))
 
   into : (s : S) → F s → ent 𝓤 (⋆ 𝓤 H A (At s)) (Inv (μ s))
-  into s f = via 𝓤 (guard 𝓤 (Known (μ s) s) (⋆ 𝓤 H A (At s))) (guardI 𝓤 (Known (μ s) s) (⋆ 𝓤 H A (At s)) (refl, f)) (exI 𝓤 (λ (s′ : S). guard 𝓤 (Known (μ s) s′) (⋆ 𝓤 H A (At s′))) s)
+  into s f = via 𝓤 (guard 𝓤 _ (⋆ 𝓤 H A (At s))) (guardI 𝓤 _ _ (refl, f)) (exI 𝓤 (λ (s′ : S). guard 𝓤 _ (⋆ 𝓤 H A (At s′))) s)
 
   below : (t : ℕ) (s : S) → μ s < t → F s → ent 𝓤 (⋆ 𝓤 H A (At s)) (Below t)
   below t s l f = via 𝓤 (Inv (μ s)) (into s f) (via 𝓤 (guard 𝓤 (μ s < t) (Inv (μ s))) (guardI 𝓤 (μ s < t) (Inv (μ s)) l) (exI 𝓤 (λ (t′ : ℕ). guard 𝓤 (t′ < t) (Inv t′)) (μ s)))
@@ -85,5 +85,5 @@ module _ {M : Type 1} (𝓤 : URA M) (H : Heap 𝓤) (A : Atoms 𝓤) (W : Given
   pub loops-by : ((s : S) → F s → (X : SProp 𝓤) → ((s′ : S) → μ s′ < μ s → F s′ → ent 𝓤 (⋆ 𝓤 H A (At s′)) X) → ent 𝓤 (⋆ 𝓤 H A (At s)) (Wp 𝓤 H (𝓣 .C) (𝓣 .Λ) E turn (afterTurn 𝓤 H X Q)))
       → (s : S) → F s → ent 𝓤 (⋆ 𝓤 H A (At s)) (Wp 𝓤 H (𝓣 .C) (𝓣 .Λ) E (loop turn) Q)
   loops-by each s f = via 𝓤 (Inv (μ s)) (into s f) (loop-rule 𝓤 H (W .laws) 𝓣 _<_ (Nat·lt-wfRel .wf) E turn Q Inv
-      (λ t. exE 𝓤 (λ (s′ : S). guard 𝓤 (Known t s′) (⋆ 𝓤 H A (At s′))) (λ s′. guardE 𝓤 (Known t s′) (⋆ 𝓤 H A (At s′)) (λ k.
-      each s′ (k .1) (Below t) (λ s″ l g. below t s″ (subst (λ (u : ℕ). μ s″ < u) (k .0) l) g)))) (μ s))
+      (λ t. exE 𝓤 (λ (s′ : S). guard 𝓤 (Known t s′) (⋆ 𝓤 H A (At s′))) (λ s′. guardE 𝓤 (Known t s′) _ (λ k.
+      each s′ (k .1) (Below t) (λ s″ l g. below t s″ (rw (k .0) at l) g)))) (μ s))

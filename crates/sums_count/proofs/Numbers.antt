@@ -34,8 +34,8 @@ picked-only : (p : ℕ → Bool) (base m k : ℕ) → Mem k (picked p base m) �
 picked-only p base zero k h = absurd (not-nil (subst (Mem k) (picked-start p base) h))
 picked-only p base (suc m) k h =
     let s : suc m ≡ m + 1 = omega arith in
-    by-test (p (base + m))
-    (λ t. ⊎-elim (λ o. picked-only p base m k o) (λ o. ap p (only o) ∙ t) (append-cases (picked p base m) (subst (Mem k) (ap (picked p base) s ∙ picked-yes p base m t) h)))
+    by-test _
+    (λ t. ⊎-elim (λ o. picked-only p base m k o) (λ o. ap p (only o) ∙ t) (append-cases _ (subst (Mem k) (ap (picked p base) s ∙ picked-yes p base m t) h)))
     (λ t. picked-only p base m k (subst (Mem k) (ap (picked p base) s ∙ picked-no p base m t) h))
 
 module _ {s : List ℤ} {w e : ℕ} (d b : ℕ) (one : 0 < d) (bias : 10000 * w + e ≡ b * d) (h : Lent s w e) where
@@ -44,25 +44,25 @@ module _ {s : List ℤ} {w e : ℕ} (d b : ℕ) (one : 0 < d) (bias : 10000 * w 
   unfolding rowOf
   row-is j =
       let z : level s w e j + 0 ≡ level s w e j = omega arith in
-      rw z at (row-raised (level s w e j) (10000 * w + e) 0 b d (level-is j h) (omega arith) one)
+      rw z at (row-raised _ _ 0 b d (level-is j h) (omega arith) one)
 
   pub row-lowered : (j : ℕ) → lowered b (rowOf (level s w e) d j) ≡ rowNumber d (windowSum s w j)
   unfolding lowered
-  row-lowered j = rep-eq (rep-sub (rep-pos (rowOf (level s w e) d j)) (rep-pos b)) (row-is j) (omega arith)
+  row-lowered j = rep-eq (rep-sub (rep-pos _) (rep-pos b)) (row-is j) (omega arith)
 
   pub table-only : (k : ℕ) → Mem k (table s w e d) → met (rowOf (level s w e) d) (windowsOf s w) k ≡ true
   unfolding table
-  table-only k m = picked-only (met (rowOf (level s w e) d) (windowsOf s w)) 0 top k m
+  table-only k m = picked-only _ 0 top k m
 
   pub table-numbers : map (lowered b) (table s w e d) ≡ rowNumbers (windowSum s w) d (windowsOf s w)
   table-numbers =
       let sum = windowSum s w in
       let n = windowsOf s w in
       let t = table s w e d in
-      sorted-unique (map (lowered b) t) (rowNumbers sum d n) (rising-sorted b t (table-rises s w e d)) (numbers-sorted sum d n)
-      (λ z m. let i = map-mem (lowered b) t m in
-      let q = yes-met (rowOf (level s w e) d) n (i .entry) (table-only (i .entry) (i .is)) in
-      subst (λ (x : ℤ). Mem x (rowNumbers sum d n)) (sym (i .same ∙ ap (lowered b) (sym (q .is)) ∙ row-lowered (q .at))) (numbers-mem sum d n (q .at) (q .below)))
+      sorted-unique _ _ (rising-sorted b t (table-rises s w e d)) (numbers-sorted sum d n)
+      (λ z m. let i = map-mem _ t m in
+      let q = yes-met _ n _ (table-only _ (i .is)) in
+      rw (i .same ∙ ap (lowered b) (sym (q .is)) ∙ row-lowered (q .at)) (numbers-mem sum d n (q .at) (q .below)))
       (λ z m. let o = numbers-occur sum d n z m in
       let q = table-has d h (o .at) (o .below) in
       subst (λ (x : ℤ). Mem x (map (lowered b) t)) (ap (lowered b) (q .is) ∙ row-lowered (o .at) ∙ o .is) (mem-map (lowered b) (mem-at 0 t (q .at) (q .below))))
@@ -74,9 +74,9 @@ module _ {s : List ℤ} {w e : ℕ} (d b : ℕ) (one : 0 < d) (bias : 10000 * w 
   -- a window has a number exactly if its sum lies in the row's range
   same-row : (k j : ℕ) → isRow (rowOf (level s w e) d) k j ≡ inside (lowOf d (lowered b k)) (upOf d (lowered b k)) (windowSum s w j)
   unfolding isRow
-  same-row k j = by-test (inside (lowOf d (lowered b k)) (upOf d (lowered b k)) (windowSum s w j))
-      (λ t. eq-eqb (rowOf (level s w e) d j) k (back k j (row-unique d (lowered b k) (windowSum s w j) one t)) ∙ sym t)
-      (λ t. ne-eqb (rowOf (level s w e) d j) k (λ q. clash (subst (λ (x : ℤ). inside (lowOf d x) (upOf d x) (windowSum s w j) ≡ true) (sym (ap (lowered b) (sym q) ∙ row-lowered j)) (in-own d (windowSum s w j) one)) t) ∙ sym t)
+  same-row k j = by-test _
+      (λ t. eq-eqb _ k (back k j (row-unique d _ _ one t)) ∙ sym t)
+      (λ t. ne-eqb _ k (λ q. clash (subst (λ (x : ℤ). inside (lowOf d x) (upOf d x) (windowSum s w j) ≡ true) (sym (ap (lowered b) (sym q) ∙ row-lowered j)) (in-own d (windowSum s w j) one)) t) ∙ sym t)
 
   pub row-runs : (k n : ℕ) → runs (isRow (rowOf (level s w e) d) k) n ≡ runs (λ j. inside (lowOf d (lowered b k)) (upOf d (lowered b k)) (windowSum s w j)) n
   row-runs k n = runs-cong _ _ n (λ j l. same-row k j)

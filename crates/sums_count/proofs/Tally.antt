@@ -1,6 +1,6 @@
 -- Laws of specs/Tally.
 use Rattle.meaning_numbers.specs.Sum.{bit}
-use Rattle.meaning_numbers.proofs.Prelude.{_≡_, sym, ap, _∙_, Bool, true, false, List, ℕ, suc, _+_, _-_, _*_, _<_, _≤_, arith, decLt, leb, eqb, length, getD, set, getD-set-same, getD-set-other, leb-true, leb-false, eqb-true, eqb-false, eq-eqb, ne-eqb, by-test}
+use Rattle.meaning_numbers.proofs.Prelude.{_≡_, sym, ap, _∙_, Bool, true, false, List, ℕ, suc, _+_, _-_, _*_, _<_, _≤_, arith, decLt, leb, length, getD, set, getD-set-same, getD-set-other, leb-true, leb-false, eqb-true, eqb-false, eq-eqb, ne-eqb, by-test}
 use Rattle.meaning_rows.specs.Runs.{before, runCount}
 use Rattle.meaning_rows.proofs.{Runs.before-none, Runs.before-more, Columns.runCount-none, Parts.run-count, Parts.stay-runs}
 use Rattle.sums_slide.specs.Change.{RowRun}
@@ -33,51 +33,51 @@ half-or-none half b false e = rw e (omega arith)
 -- one number asked leaves the half that it is in
 pub sought-half : {t : List ℕ} {n k lo size half b : ℕ} → Rising t n → half + half ≤ size → half < size → b ≡ bit (leb (getD t (lo + half) 0) k) → Sought t n k lo size → Sought t n k (lo + half * b) (size - half)
 unfolding bit
-sought-half {t} {n} {k} {lo} {size} {half} {b} r two less e s = by-test (leb (getD t (lo + half) 0) k)
-    (λ y. let one : b ≡ 1 = rw y at e in let q : lo + half * b ≡ lo + half = rw one (omega arith) in let u = leb-true (getD t (lo + half) 0) k y in
-    rw q (record { fits = omega (arith, s .fits); place = λ i l h. (rising-le r i (lo + half) l (omega (arith, s .fits)) (omega arith), omega (arith, s .place i l h .1)) }))
+sought-half {t} {n} {k} {lo} {size} {half} {b} r two less e s = by-test _
+    (λ y. let one : b ≡ 1 = rw y at e in let q : lo + half * b ≡ lo + half = rw one (omega arith) in let u = leb-true _ k y in
+    rw q (record { fits = omega arith; place = λ i l h. (rising-le r i _ l (omega arith) (omega arith), omega (arith, s .place i l h .1)) }))
     (λ y. let none : b ≡ 0 = rw y at e in let q : lo + half * b ≡ lo = rw none (omega arith) in let u = leb-false (getD t (lo + half) 0) k y in
-    rw q (record { fits = omega (arith, s .fits); place = λ i l h. (s .place i l h .0, omega (arith, rising-gt r i (lo + half) l (omega (arith, s .fits)) (omega arith))) }))
+    rw q (record { fits = omega arith; place = λ i l h. (s .place i l h .0, omega (arith, rising-gt r i (lo + half) l (omega (arith, s .fits)) (omega arith))) }))
 
 pub fresh-start : (row : ℕ → ℕ) (n : ℕ) → Fresh row n 0
-fresh-start row n = record { cut = λ l. before-none (isRow row (row 0)) }
+fresh-start row n = record { cut = λ l. before-none _ }
 
 module _ (row : ℕ → ℕ) (n from r : ℕ) (h : RowRun row n from r) where
   pub fresh-next : Fresh row n r
   unfolding isRow
   fresh-next = record {
-    cut = λ l. let e : r ≡ (r - 1) + 1 = omega (arith, h .ahead) in
-        rw e (before-more (isRow row (row (r - 1 + 1))) (r - 1) ∙ ne-eqb (row (r - 1)) (row (r - 1 + 1))
-        (λ q. h .other l (ap row e ∙ sym q ∙ h .same (r - 1) (omega (arith, h .ahead)) (omega (arith, h .ahead)))));
+    cut = λ l. let e : r ≡ (r - 1) + 1 = omega arith in
+        rw e (before-more _ (r - 1) ∙ ne-eqb _ _
+        (λ q. h .other l (ap row e ∙ sym q ∙ h .same (r - 1) (omega arith) (omega arith))));
   }
 
   abbrev more : ℕ
   more = r - from - 1
 
   all-of : r ≡ from + suc more
-  all-of = omega (arith, h .ahead)
+  all-of = omega arith
 
   pub run-mine : Fresh row n from → runCount (isRow row (row from)) r ≡ runCount (isRow row (row from)) from + 1
   unfolding isRow
-  run-mine f = rw all-of (run-count (isRow row (row from)) from more (f .cut (omega (arith, h .ahead, h .below)))
-      (λ j a l. eq-eqb (row j) (row from) (h .same j (omega (arith, all-of)) a)))
+  run-mine f = rw all-of (run-count _ from more (f .cut (omega arith))
+      (λ j a l. eq-eqb (row j) _ (h .same j (omega arith) a)))
 
   pub run-other : (k : ℕ) → (row from ≡ k → ⊥) → runCount (isRow row k) r ≡ runCount (isRow row k) from
   unfolding isRow
-  run-other k f = rw all-of (ap length (stay-runs (isRow row k) from (suc more) (λ j a l. ne-eqb (row j) k (λ e. f (sym (h .same j (omega (arith, all-of)) a) ∙ e)))))
+  run-other k f = rw all-of (ap length (stay-runs _ from _ (λ j a l. ne-eqb (row j) k (λ e. f (sym (h .same j (omega arith) a) ∙ e)))))
 
   pub counted-run : {t counts : List ℕ} → Fresh row n from → Rising t (length t) → (i : ℕ) → i < length t → i < length counts → getD t i 0 ≡ row from
       → Counted row from t counts → Counted row r t (set counts i (getD counts i 0 + 1))
   counted-run {t} {counts} f rising i a b e c = record {
-    count = λ k l. by-test (eqb k i)
-        (λ q. let s = eqb-true k i q in rw s (getD-set-same counts i (getD counts i 0 + 1) 0 b ∙ rw (e, run-mine f, c .count i a, e)))
-        (λ q. let s : (k ≡ i) → ⊥ = eqb-false k i q in
-        getD-set-other counts i k (getD counts i 0 + 1) 0 s ∙ c .count k l
-        ∙ sym (run-other (getD t k 0) (λ d. s (apart k i l a (sym d ∙ sym e)))));
+    count = λ k l. by-test _
+        (λ q. let s = eqb-true k i q in rw s (getD-set-same counts i _ 0 b ∙ rw (e, run-mine f, c .count i a, e)))
+        (λ q. let s = eqb-false k i q in
+        getD-set-other counts i k _ 0 s ∙ c .count k l
+        ∙ sym (run-other _ (λ d. s (apart k i l a (sym d ∙ sym e)))));
   }
     where
       apart : (k i : ℕ) → k < length t → i < length t → getD t k 0 ≡ getD t i 0 → k ≡ i
       apart k i l a d = omega (arith, rising-le rising i k a l (omega arith), rising-le rising k i l a (omega arith))
 
 pub counted-start : (row : ℕ → ℕ) (t counts : List ℕ) → ((x : ℕ) → getD counts x 0 ≡ 0) → Counted row 0 t counts
-counted-start row t counts z = record { count = λ i l. z i ∙ sym (runCount-none (isRow row (getD t i 0))) }
+counted-start row t counts z = record { count = λ i l. z i ∙ sym (runCount-none _) }

@@ -32,7 +32,7 @@ picked-on p base m (suc k) =
     let e : m + suc k ≡ (m + k) + 1 = omega arith in
     let f : suc k ≡ k + 1 = omega arith in
     let g : base + (m + k) ≡ base + m + k = omega arith in
-    rw (e, f) (by-test (p (base + m + k))
+    rw (e, f) (by-test _
     (λ t. rw (picked-yes p base (m + k) (ap p g ∙ t), picked-yes p (base + m) k t, picked-on p base m k, g) (append-assoc (picked p base m) (picked p (base + m) k) ((base + m + k) ∷ [])))
     (λ t. rw (picked-no p base (m + k) (ap p g ∙ t), picked-no p (base + m) k t) (picked-on p base m k)))
 

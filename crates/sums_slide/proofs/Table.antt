@@ -28,12 +28,12 @@ module _ {s : List ℤ} {w e : ℕ} (d : ℕ) (h : Lent s w e) where
   -- there is room for what is listed so far, however far
   pub table-room : (m : ℕ) → length (picked (met (rowOf (level s w e) d) (windowsOf s w)) 0 m) ≤ length (table s w e d)
   unfolding table
-  table-room m = at-most (rowOf (level s w e) d) (windowsOf s w) m top (λ j b. below-top j)
+  table-room m = at-most _ _ m top (λ j b. below-top j)
 
   module _ {least greatest : ℕ} (one : 0 < d) (b : Bounds (level s w e) (windowsOf s w) least greatest) where
     pub table-start : picked (met (rowOf (level s w e) d) (windowsOf s w)) 0 (least / d) ≡ []
     unfolding rowOf
-    table-start = picked-none _ 0 (least / d) (λ x l. met-none (rowOf (level s w e) d) (windowsOf s w) (0 + x) (λ j k q.
+    table-start = picked-none _ 0 (least / d) (λ x l. met-none _ _ (0 + x) (λ j k q.
         let m : least / d ≤ level s w e j / d = le-div-iff-mul-le one .1 (omega (arith, div-mul-le-self least d, b .bound j k)) in omega arith))
 
     in-few : (m : ℕ) → greatest / d < m → (j : ℕ) → j < windowsOf s w → rowOf (level s w e) d j < m

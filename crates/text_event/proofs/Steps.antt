@@ -115,14 +115,14 @@ digits-told text i first m k h l plus less =
 
 pub number-told : (text : List ℕ) (i b q : ℕ) → i < length text → b ≡ getD text i 0 → 49 ≤ b → b ≤ 57 → DigitsAt text (i + 1) (b - 48) q → NumberAt text i (q + 1)
 number-told text i b q l e h k d =
-    let x : (q + 1) / 16 ≡ q / 16 = omega (arith, d .short) in
-    let y : (q + 1) % 16 ≡ q % 16 + 1 = omega (arith, d .short) in
+    let x : (q + 1) / 16 ≡ q / 16 = omega arith in
+    let y : (q + 1) % 16 ≡ q % 16 + 1 = omega arith in
     let z : i + (q % 16 + 1) ≡ i + 1 + q % 16 = omega arith in
     record {
-      small = omega (arith, x, d .small);
-      short = omega (arith, y, d .short);
-      plus = λ p. rw (x, y, z) (quiet-before {m = State.At p (Numeral.Plus (b - 48))} l (rw (← e) (first-digit p b h k)) (d .plus p));
-      less = λ p. rw (x, y, z) (quiet-before {m = State.At p (Numeral.Less (b - 48))} l (rw (← e) (first-less p b h k)) (d .less p));
+      small = omega (arith, x);
+      short = omega (arith, y);
+      plus = λ p. rw (x, y, z) (quiet-before l (rw (← e) (first-digit p b h k)) (d .plus p));
+      less = λ p. rw (x, y, z) (quiet-before l (rw (← e) (first-less p b h k)) (d .less p));
     }
 
 -- ---- runs
@@ -132,9 +132,9 @@ pub body-told : (text : List ℕ) (i a b : ℕ) → NumberAt text i a → WordAt
 unfolding bytes
 body-told text i a b x e y f =
     let q = ((a / 16) * 134217728 + b / 16) * 32 + (a % 16 + b % 16 + 1 + 1) in
-    let l : leftOf q ≡ a / 16 = omega (arith, x .short, y .short, y .small) in
-    let r : rightOf q ≡ b / 16 = omega (arith, x .short, y .short, y .small) in
-    let n : lengthOf q ≡ a % 16 + b % 16 + 1 + 1 = omega (arith, x .short, y .short) in
+    let l : leftOf q ≡ a / 16 = omega arith in
+    let r : rightOf q ≡ b / 16 = omega arith in
+    let n : lengthOf q ≡ a % 16 + b % 16 + 1 + 1 = omega arith in
     let c = stands-byte e 0 (i + a % 16) (omega arith) (omega arith) in
     let d = stands-byte f 0 (i + a % 16 + 1 + b % 16) (omega arith) (omega arith) in
     let v : i + (a % 16 + b % 16 + 1 + 1) ≡ i + a % 16 + 1 + b % 16 + 1 = omega arith in
@@ -143,34 +143,34 @@ body-told text i a b x e y f =
       left = record { last = State.At Field.Left (Numeral.Plus (a / 16)); place = i + a % 16; quiet = x .plus Field.Left; inside = c .0; ends = rw (c .1) (left-ends (a / 16)); next = refl };
       right = record { last = State.At Field.Right (Numeral.Plus (b / 16)); place = i + a % 16 + 1 + b % 16; quiet = y .plus Field.Right; inside = d .0; ends = rw (d .1) (right-ends (b / 16)); next = refl };
     } in
-    record { plain = record { small = omega (arith, x .small, y .small, x .short, y .short); short = omega (arith, n, x .short, y .short); run = rw (l, r, n, v) w }; least = omega (arith, n, x .short, y .short); tiny = omega (arith, x .small, y .small, x .short, y .short) }
+    record { plain = record { small = omega arith; short = omega (arith, n); run = rw (l, r, n, v) w }; least = omega (arith, n); tiny = omega arith }
 
 -- a byte in front of a run
 run-before : (text : List ℕ) (s m : State) (i : ℕ) (l r : ℤ) (j : ℕ) → i < length text → indexStep s (getD text i 0) ≡ Moved.To m → RunAt text m (i + 1) l r j → RunAt text s i l r j
-run-before text s m i l r j h e v = record { middle = v .middle; left = value-before {m = m} h e (v .left); right = v .right }
+run-before text s m i l r j h e v = record { middle = v .middle; left = value-before h e (v .left); right = v .right }
 
 pub first-told : (text : List ℕ) (i q : ℕ) → WordAt text i (bytes "(") → BodyAt text (i + 1) q → PlainAt text atFirst i (q + 1)
 unfolding bytes
 first-told text i q e b =
     let c = stands-byte e 0 i (omega arith) (omega arith) in
-    let l : leftOf (q + 1) ≡ leftOf q = omega (arith, b .least) in
-    let r : rightOf (q + 1) ≡ rightOf q = omega (arith, b .least) in
-    let n : lengthOf (q + 1) ≡ lengthOf q + 1 = omega (arith, b .least) in
+    let l : leftOf (q + 1) ≡ leftOf q = omega arith in
+    let r : rightOf (q + 1) ≡ rightOf q = omega arith in
+    let n : lengthOf (q + 1) ≡ lengthOf q + 1 = omega arith in
     let z : i + (lengthOf q + 1) ≡ i + 1 + lengthOf q = omega arith in
-    record { small = omega (arith, b .tiny); short = omega (arith, n, b .least); run = rw (l, r, n, z) (run-before text atFirst (State.At Field.Left Numeral.Start) i _ _ _ (c .0) (rw (c .1) run-bracket) (b .plain .run)) }
+    record { small = omega arith; short = omega (arith, n); run = rw (l, r, n, z) (run-before text atFirst (State.At Field.Left Numeral.Start) i _ _ _ (c .0) (rw (c .1) run-bracket) (b .plain .run)) }
 
 pub plain-told : (text : List ℕ) (i q : ℕ) → WordAt text i (bytes " (") → BodyAt text (i + 2) q → PlainAt text atRuns i (q + 2)
 unfolding bytes
 plain-told text i q e b =
     let c = stands-byte e 0 i (omega arith) (omega arith) in
     let d = stands-byte e 1 (i + 1) (omega arith) (omega arith) in
-    let l : leftOf (q + 2) ≡ leftOf q = omega (arith, b .least) in
-    let r : rightOf (q + 2) ≡ rightOf q = omega (arith, b .least) in
-    let n : lengthOf (q + 2) ≡ lengthOf q + 2 = omega (arith, b .least) in
+    let l : leftOf (q + 2) ≡ leftOf q = omega arith in
+    let r : rightOf (q + 2) ≡ rightOf q = omega arith in
+    let n : lengthOf (q + 2) ≡ lengthOf q + 2 = omega arith in
     let z : i + (lengthOf q + 2) ≡ i + 1 + 1 + lengthOf q = omega arith in
     let y : i + 2 ≡ i + 1 + 1 = omega arith in
     let v : RunAt text (State.At Field.Left Numeral.Start) (i + 1 + 1) (pos (leftOf q)) (pos (rightOf q)) (i + 1 + 1 + lengthOf q) = rw y at (b .plain .run) in
-    record { small = omega (arith, b .tiny); short = omega (arith, n, b .least); run = rw (l, r, n, z) (run-before text atRuns atFirst i _ _ _ (c .0) (rw (c .1) run-space) (run-before text atFirst (State.At Field.Left Numeral.Start) (i + 1) _ _ _ (d .0) (rw (d .1) run-bracket) v)) }
+    record { small = omega arith; short = omega (arith, n); run = rw (l, r, n, z) (run-before text atRuns atFirst i _ _ _ (c .0) (rw (c .1) run-space) (run-before text atFirst (State.At Field.Left Numeral.Start) (i + 1) _ _ _ (d .0) (rw (d .1) run-bracket) v)) }
 
 -- ---- the beginnings of rows
 
@@ -179,15 +179,15 @@ unfolding bytes
 plus-told text i q x =
     let y = x .number in
     let c = stands-byte (x .blank) 0 (i + q % 16) (omega arith) (omega arith) in
-    (omega (arith, y .short), λ p n b. record { last = State.At p (Numeral.Plus (q / 16)); place = i + q % 16; quiet = y .plus p; inside = c .0; ends = rw (c .1) (b .plus (q / 16)); next = refl })
+    (omega arith, λ p n b. record { last = State.At p (Numeral.Plus (q / 16)); place = i + q % 16; quiet = y .plus p; inside = c .0; ends = rw (c .1) (b .plus (q / 16)); next = refl })
 
 pub less-told : (text : List ℕ) (i q : ℕ) → i < length text → getD text i 0 ≡ 45 → BlankAt text (i + 1) q → SignedAt text i (Signed.Read (negℤ (pos (q / 16))) (i + 1 + q % 16 + 1))
 unfolding bytes
 less-told text i q h e x =
     let y = x .number in
     let c = stands-byte (x .blank) 0 (i + 1 + q % 16) (omega arith) (omega arith) in (
-      omega (arith, y .short),
-      λ p n b. value-before {m = State.At p Numeral.Sign} h (rw e (sign p))
+      omega arith,
+      λ p n b. value-before h (rw e (sign p))
           (record { last = State.At p (Numeral.Less (q / 16)); place = i + 1 + q % 16; quiet = y .less p; inside = c .0; ends = rw (c .1) (b .less (q / 16)); next = refl }),
     )
 
@@ -208,7 +208,7 @@ range-told text i low up j k o x y =
           (value-before {m = State.In Word.Row 2} (b .0) (rw (b .1) (row-more 1 (omega arith)))
           (value-before {m = State.In Word.Row 3} (c .0) (rw (c .1) (row-more 2 (omega arith)))
           (value-before {m = State.In Word.Row 4} (d .0) (rw (d .1) (row-more 3 (omega arith)))
-          (value-before {m = State.At Field.Low Numeral.Start} (e .0) (rw (e .1) row-last) v))));
+          (value-before (e .0) (rw (e .1) row-last) v))));
       upper = y .1 Field.Up atFirst up-blank;
     }
 

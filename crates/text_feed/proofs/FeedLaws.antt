@@ -1,5 +1,5 @@
 -- Laws of specs/Feed.
-use Rattle.meaning_numbers.proofs.Prelude.{_≡_, refl, ap, _∙_, Bool, true, false, cond, List, some, ℕ, suc, _+_, _<_, _≤_, arith, ℤ, length, getD, drop, set, length-set}
+use Rattle.meaning_numbers.proofs.Prelude.{_≡_, refl, _∙_, Bool, true, false, cond, List, some, ℕ, suc, _+_, _<_, _≤_, arith, ℤ, length, getD, drop, set, length-set}
 use Rattle.meaning_text.proofs.Automaton.{going, failed, feed, feed-turn, feed-refuse, feed-end}
 use Rattle.numbers.specs.Narrow.{clamp}
 use Rattle.text_lines.specs.{declared.Word.Word, declared.Field.Field, declared.State.State, declared.Moved.Moved, Step.lineStep, Step.GoodState}
@@ -27,8 +27,8 @@ sofar-start p piece numbers series query r =
     let z : p .at + 0 ≡ p .at = omega arith in
     record {
       good = r .good;
-      first = omega (arith, r .series);
-      second = omega (arith, r .query);
+      first = omega arith;
+      second = omega arith;
       within = omega arith;
       alone-long = refl;
       first-long = refl;
@@ -55,27 +55,27 @@ module _ {piece : List ℕ} {numbers₀ series₀ query₀ : List ℤ} {s₀ : S
 
   stay : (m : State) (n k : Said) → moved (lineStep s (getD piece i 0)) n ≡ some (at m k) → GoodState m
   unfolding step
-  stay m n k e = stays (at s n) (getD piece i 0) (at m k) (r .good) e
+  stay m n k e = stays _ _ _ (r .good) e
 
   by : (m : Moved) (n : Said) → lineStep s (getD piece i 0) ≡ m → moved (lineStep s (getD piece i 0)) n ≡ moved m n
-  by m n e = ap (λ (x : Moved). moved x n) e
+  by m n e = rw e
 
   pub sofar-to : (m : State) → lineStep s (getD piece i 0) ≡ Moved.To m → Sofar piece numbers₀ series₀ query₀ s₀ v₀ q₀ start numbers series query m v q (i + 1)
   sofar-to m e = record {
-    good = stay m nothingSaid nothingSaid (by (Moved.To m) nothingSaid e);
-    first = omega (arith, r .first);
-    second = omega (arith, r .second);
+    good = stay m nothingSaid nothingSaid (by _ nothingSaid e);
+    first = omega arith;
+    second = omega arith;
     within = omega arith;
     alone-long = r .alone-long;
     first-long = r .first-long;
     second-long = r .second-long;
-    comes = λ g kept asked o. let c = r .comes g kept asked o in (c .0, c .1, turn g (c .0) m (c .0) (by (Moved.To m) (c .0) e) (c .2));
+    comes = λ g kept asked o. let c = r .comes g kept asked o in (c .0, c .1, turn g (c .0) m (c .0) (by _ (c .0) e) (c .2));
   }
 
   pub sofar-value : (m : State) (p : Field) (z : ℤ) → lineStep s (getD piece i 0) ≡ Moved.Value m p z
       → Sofar piece numbers₀ series₀ query₀ s₀ v₀ q₀ start (set numbers (placeOf p) z) (cond (ofSeries p) (set series (v .count) (clamp z)) series) (cond (ofQuery p) (set query (q .count) (clamp z)) query) m (cond (ofSeries p) (valuesMore v z) v) (cond (ofQuery p) (valuesMore q z) q) (i + 1)
   sofar-value m p z e = record {
-    good = stay m nothingSaid (told p z nothingSaid) (by (Moved.Value m p z) nothingSaid e);
+    good = stay m nothingSaid _ (by (Moved.Value m p z) nothingSaid e);
     first = omega (arith, r .first, count-more (ofSeries p) v z);
     second = omega (arith, r .second, count-more (ofQuery p) q z);
     within = omega arith;
@@ -87,19 +87,19 @@ module _ {piece : List ℕ} {numbers₀ series₀ query₀ : List ℤ} {s₀ : S
 
   pub sofar-ended : (m : State) (w : Word) → lineStep s (getD piece i 0) ≡ Moved.Ended m w → Sofar piece numbers₀ series₀ query₀ s₀ v₀ q₀ start (set numbers (wordPlace w) (wordNumber w)) series query m v q (i + 1)
   sofar-ended m w e = record {
-    good = stay m nothingSaid (named w nothingSaid) (by (Moved.Ended m w) nothingSaid e);
-    first = omega (arith, r .first);
-    second = omega (arith, r .second);
+    good = stay m nothingSaid (named w nothingSaid) (by _ nothingSaid e);
+    first = omega arith;
+    second = omega arith;
     within = omega arith;
-    alone-long = length-set numbers (wordPlace w) (wordNumber w) ∙ r .alone-long;
+    alone-long = length-set numbers _ _ ∙ r .alone-long;
     first-long = r .first-long;
     second-long = r .second-long;
-    comes = λ g kept asked o. let c = r .comes g kept asked o in (named w (c .0), holds-named (c .1) w, turn g (c .0) m (named w (c .0)) (by (Moved.Ended m w) (c .0) e) (c .2));
+    comes = λ g kept asked o. let c = r .comes g kept asked o in (named w (c .0), holds-named (c .1) w, turn g (c .0) m _ (by _ (c .0) e) (c .2));
   }
 
   pub sofar-refuse : lineStep s (getD piece i 0) ≡ Moved.Refuse → (g : Said) (kept asked : List ℤ) → Holds kept asked g numbers₀ v₀ q₀ series₀ query₀ → feed step (going (at s₀ g) start) piece ≡ failed (start + i)
   unfolding step
-  sofar-refuse e g kept asked o = let c = r .comes g kept asked o in c .2 ∙ feed-refuse step (at s (c .0)) piece i (start + i) h (by Moved.Refuse (c .0) e)
+  sofar-refuse e g kept asked o = let c = r .comes g kept asked o in c .2 ∙ feed-refuse step _ piece i _ h (by Moved.Refuse (c .0) e)
 
 -- ---- the answers
 
@@ -115,4 +115,4 @@ pub comes-going : (p : Progress) (piece : List ℕ) (numbers series query number
 unfolding Comes
 comes-going p piece numbers series query numbers' series' query' s v q i r h g kept asked o =
     let c = r .comes g kept asked o in
-    rw (c .2, feed-end step (going (at s (c .0)) (p .at + i)) piece i h) (refl, refl, c .1)
+    rw (c .2, feed-end step _ piece i h) (refl, refl, c .1)

@@ -48,7 +48,7 @@ leading-outside vs = let e : 0 + leading vs ≡ leading vs = omega arith in from
     from (x ∷ vs) k =
         let e : k + suc (leading vs) ≡ suc k + leading vs = omega arith in
         on-flag (valueIn x)
-        (λ f. rw (f, from vs (suc k), e) (on-flag (ltb (leading vs) (length vs)) (λ t. rw (t, lt-ltb (suc (leading vs)) (suc (length vs)) (omega (arith, ltb-true (leading vs) (length vs) t)))) (λ t. rw (t, le-ltb (suc (leading vs)) (suc (length vs)) (omega (arith, ltb-false (leading vs) (length vs) t))))))
+        (λ f. rw (f, from vs (suc k), e) (on-flag (ltb (leading vs) (length vs)) (λ t. rw (t, lt-ltb (suc (leading vs)) (suc (length vs)) (omega (arith, ltb-true _ (length vs) t)))) (λ t. rw (t, le-ltb (suc (leading vs)) (suc (length vs)) (omega (arith, ltb-false (leading vs) (length vs) t))))))
         (λ f. let z : k + 0 ≡ k = omega arith in rw (f, lt-ltb 0 (suc (length vs)) (omega arith), z))
 
 pub kept-none : (base : List ℤ) → Kept base [] (record { count = 0; inside = 0 }) base

@@ -1,13 +1,13 @@
 -- The automaton of the index text follows `indexForm`: each state with what has been said so far has a reader for the rest of the text, and a byte takes it to the next. So the bytes of a text come to what `readText` says.
 use Prim.Native.Nat.{ℕ, suc, _+_, _<_}
 use borrow.Author.Tests.{ltb-true, ltb-false}
-use lib.Dec.{ltb, eqb}
+use lib.Dec.{eqb}
 use lib.IntN.{ℤ, pos}
-use lib.ListN.{length, getD, drop}
+use lib.ListN.{length, drop}
 use mathlib.Core.Bool.{Bool, true, false, cond}
 use mathlib.Core.List.{List, [], _∷_, _++_, append-assoc, append-nil}
 use mathlib.Core.Option.{Option, none, some}
-use mathlib.Core.Path.{_≡_, refl, ap, _∙_}
+use mathlib.Core.Path.{_≡_, refl, _∙_}
 use native.Mathlib.Omega.{arith}
 use Rattle.meaning_text.specs.{Bytes.bytes, Number.got, Number.bad, Form.Value, Form.many, Form.read, Read.readText, Texts.indexForm, Texts.rowForm, Texts.runForm}
 use Rattle.meaning_text.proofs.{Open.openText, Form.filled, Form.clearWord, Form.clear, Form.follows, Form.firm, Form.opens, Form.decided, Reading.on-flag, Reading.begun}
@@ -229,14 +229,14 @@ Good x = GoodState (x .state)
 word-onto : (w : Word) (k b : ℕ) → k < length (word w) → (g : Said) (t : List ℕ) → Onto Good rest (turned (reach w k b) (cond (closes w k) (closed g) g)) b t (wordThen (drop k (word w)) (behindThen w g) (b ∷ t))
 unfolding reach rest
 word-onto w k b h g t =
-    on-flag (eqb b (getD (word w) k 0))
-    (λ e. on-flag (ltb (k + 1) (length (word w)))
+    on-flag _
+    (λ e. on-flag _
     (λ u. let a : suc k ≡ k + 1 = omega arith in
-    rw (e, u, inside w k (omega (arith, ltb-true (k + 1) (length (word w)) u))) (ltb-true (k + 1) (length (word w)) u, word-next (word w) (behindThen w g) k h b t e ∙ rw a))
-    (λ u. let l : suc k ≡ length (word w) = omega (arith, ltb-false (k + 1) (length (word w)) u) in
+    rw (e, u, inside w k (omega (arith, ltb-true (k + 1) (length (word w)) u))) (ltb-true (k + 1) _ u, word-next (word w) _ k h b t e ∙ rw a))
+    (λ u. let l : suc k ≡ length (word w) = omega (arith, ltb-false (k + 1) _ u) in
     let n = behind-then w k g l in
-    rw (e, u) (n .0, word-next (word w) (behindThen w g) k h b t e ∙ ap (λ (f : Rest V'). f t) (word-over (word w) (behindThen w g) (suc k) (omega arith) ∙ n .1))))
-    (λ e. rw (e, word-off (word w) (behindThen w g) k h b t e) bad-here)
+    rw (e, u) (n .0, word-next (word w) _ k h b t e ∙ rw (word-over (word w) _ (suc k) (omega arith) ∙ n .1))))
+    (λ e. rw (e, word-off (word w) _ k h b t e) bad-here)
 
 -- ---- a row or the end, a run or the row's end
 
@@ -256,7 +256,7 @@ rows-pick : (g : Said) (b : ℕ) (u : List ℕ) → restRows g (b ∷ u) ≡ wor
 unfolding restRows pick openDecided
 rows-pick g b u =
     many-then rowForm refl (λ v. begun refl) _ b u
-    ∙ on-flag (eqb b 40) (λ e. rw e (ap (λ (r : Rest V'). r (b ∷ u)) (row-then g))) (λ e. rw e (ap (λ (r : Rest V'). r (b ∷ u)) (end-then g)))
+    ∙ on-flag (eqb b 40) (λ e. rw e (rw (row-then g))) (λ e. rw e (rw (end-then g)))
 
 run-then : (g : Said) → readThen runForm (λ x. readThen (many runForm) (λ l. wordThen (word Word.RowEnd) (restRows (closedWith g (x ∷ l))))) ≡ wordThen (word Word.Run) (behindThen Word.Run g)
 unfolding word behindThen after afterLeft afterRight restRuns restRows
@@ -270,7 +270,7 @@ runs-pick : (g : Said) (b : ℕ) (u : List ℕ) → restRuns g (b ∷ u) ≡ wor
 unfolding restRuns pick openDecided
 runs-pick g b u =
     many-then runForm refl (λ v. begun refl) _ b u
-    ∙ on-flag (eqb b 32) (λ e. rw e (ap (λ (r : Rest V'). r (b ∷ u)) (run-then g))) (λ e. rw e (ap (λ (r : Rest V'). r (b ∷ u)) (row-end-then g)))
+    ∙ on-flag (eqb b 32) (λ e. rw e (rw (run-then g))) (λ e. rw e (rw (row-end-then g)))
 
 turn-pick : (t : Turn) (g : Said) (b : ℕ) (u : List ℕ) → restTurn t g (b ∷ u) ≡ wordThen (word (pick t b)) (behindThen (pick t b) g) (b ∷ u)
 unfolding pick
@@ -281,9 +281,9 @@ turn-pick Turn.Runs g b u = runs-pick g b u
 -- a text may not end between two words
 turn-ends : (t : Turn) (g : Said) → restTurn t g [] ≡ bad []
 unfolding restRows restRuns openDecided
-turn-ends (Turn.One w) g = word-short (word w) (behindThen w g) 0 (word-long w)
-turn-ends Turn.Rows g = many-ends rowForm refl (λ v. begun refl) _ ∙ word-short (word Word.End) _ 0 (word-long Word.End)
-turn-ends Turn.Runs g = many-ends runForm refl (λ v. begun refl) _ ∙ word-short (word Word.RowEnd) _ 0 (word-long Word.RowEnd)
+turn-ends (Turn.One w) g = word-short (word w) _ 0 (word-long w)
+turn-ends Turn.Rows g = many-ends rowForm refl (λ v. begun refl) _ ∙ word-short _ _ 0 (word-long Word.End)
+turn-ends Turn.Runs g = many-ends runForm refl (λ v. begun refl) _ ∙ word-short _ _ 0 (word-long Word.RowEnd)
 
 -- behind a number comes its turn
 after-turn : (p : Field) (g : Said) → after p g ≡ restTurn (turnAfter p) g
@@ -316,15 +316,15 @@ onto (State.At p m) g b t h =
     on-taken (numStep m b)
     (λ q i. rw (i, number-more f m b q t i) (good-step m b q i, refl))
     (λ i. on-whole (whole m)
-    (λ z j. rw (i, j, number-stop f m b t i, j, led-moved (reach (pick (turnAfter p) b) 0 b) _ g (told p z g) (λ s. refl), after-turn p (told p z g)) (turn-onto (turnAfter p) (told p z g) b t))
+    (λ z j. rw (i, j, number-stop f m b t i, j, led-moved _ _ g (told p z g) (λ s. refl), after-turn p (told p z g)) (turn-onto (turnAfter p) (told p z g) b t))
     (λ j. rw (i, j, number-stop f m b t i, j) bad-here))
-onto (State.Before s) g b t h = rw (led-moved (reach (pick s b) 0 b) _ g g (λ s. refl)) (turn-onto s g b t)
+onto (State.Before s) g b t h = rw (led-moved _ _ g g (λ s. refl)) (turn-onto s g b t)
 onto State.Done g b t h = over
 
 -- the text's end
 ends : (s : State) (g : Said) → GoodState s → restState s g [] ≡ atRest (acceptState s g)
 unfolding numberThen
-ends (State.In w k) g h = word-short (word w) (behindThen w g) k h
+ends (State.In w k) g h = word-short (word w) _ k h
 ends (State.At p n) g h =
     on-whole (whole n)
     (λ z j. rw (j, after-turn p (told p z g)) (turn-ends (turnAfter p) (told p z g)))
@@ -342,7 +342,7 @@ index-then = simp (trail-then, both-then, lead-then, number-then)
 
 begins : (t : List ℕ) → read indexForm t ≡ rest start t
 unfolding rest
-begins t = read-alone indexForm t ∙ ap (λ (r : Rest V'). r t) index-then
+begins t = read-alone indexForm t ∙ rw index-then
 
 pub index-good : Good start
 index-good = word-long Word.Window

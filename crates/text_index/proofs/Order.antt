@@ -1,7 +1,7 @@
 -- Where a text stands tells what has not been said yet: no row and no run before the head's end, and no run between two rows.
 use Prim.Native.Nat.{ℕ, suc, _+_, _<_}
 use borrow.Author.Tests.{ltb-true, ltb-false}
-use lib.Dec.{ltb, eqb}
+use lib.Dec.{eqb}
 use lib.IntN.{ℤ}
 use lib.ListN.{length, getD}
 use mathlib.Core.Bool.{cond}
@@ -87,9 +87,9 @@ word-order : (w : Word) (k b : ℕ) → k < length (word w) → (g : Said) → O
 unfolding reach
 word-order w k b h g o =
     on-flag (eqb b (getD (word w) k 0))
-    (λ t. on-flag (ltb (k + 1) (length (word w)))
+    (λ t. on-flag _
     (λ u. rw (t, u, inside w k (omega (arith, ltb-true (k + 1) (length (word w)) u))) o)
-    (λ u. rw (t, u) (order-behind w k g (omega (arith, ltb-false (k + 1) (length (word w)) u)) o)))
+    (λ u. rw (t, u) (order-behind w k g (omega (arith, ltb-false (k + 1) _ u)) o)))
     (λ t. rw t tt)
 
 order-pick : (t : Turn) (b : ℕ) (g : Said) → Order (turnPart t) g → Order (wordPart (pick t b)) g
@@ -120,9 +120,9 @@ order-by (State.At p m) g b h o =
     on-taken (numStep m b)
     (λ q i. rw i o)
     (λ i. on-whole (whole m)
-    (λ z j. rw (i, j, led-moved (reach (pick (turnAfter p) b) 0 b) _ g (told p z g) (λ s. refl)) (turn-order (turnAfter p) b (told p z g) (order-told p z g o)))
+    (λ z j. rw (i, j, led-moved _ _ g (told p z g) (λ s. refl)) (turn-order (turnAfter p) b (told p z g) (order-told p z g o)))
     (λ j. rw (i, j) tt))
-order-by (State.Before t) g b h o = rw (led-moved (reach (pick t b) 0 b) _ g g (λ s. refl)) (turn-order t b g o)
+order-by (State.Before t) g b h o = rw (led-moved _ _ g g (λ s. refl)) (turn-order t b g o)
 order-by State.Done g b h o = tt
 
 -- a byte keeps the order
@@ -147,7 +147,7 @@ told-by (State.In w k) b g o = told-led g (reach w k b) _ (λ s. on-flag (closes
 told-by (State.At p m) b g o =
     on-taken (numStep m b)
     (λ r i. rw i tt)
-    (λ i. on-whole (whole m) (λ z j. rw (i, j) (told-led g (reach (pick (turnAfter p) b) 0 b) _ (λ s. o))) (λ j. rw (i, j) tt))
+    (λ i. on-whole (whole m) (λ z j. rw (i, j) (told-led g (reach _ 0 b) _ (λ s. o))) (λ j. rw (i, j) tt))
 told-by (State.Before t) b g o = told-led g (reach (pick t b) 0 b) _ (λ s. tt)
 told-by State.Done b g o = tt
 

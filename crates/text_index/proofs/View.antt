@@ -10,7 +10,7 @@ use Rattle.meaning_text.specs.{Form.Value, Read.Verdict, Read.fine, Read.unfit,
 use Rattle.meaning_text.proofs.Automaton.{Fed, going, failed, feed, feed-failed, feed-turn, feed-refuse, feed-end, on-option, atEnd, judged, verdictOf}
 use Rattle.text_index.specs.{declared.Field.Field, declared.State.State, declared.Moved.Moved, Step.indexStep, Step.GoodState, View.keptAt}
 use Rattle.text_index.proofs.Order.{placePart, statePart, Order, order-step, order-value}
-use Rattle.text_index.proofs.Follow.{Said, nothingSaid, told, closed, value, Reading, at, moved, step, accept, acceptState, start, index-good, stays, index-comes}
+use Rattle.text_index.proofs.Follow.{Said, nothingSaid, told, closed, value, Reading, moved, step, accept, acceptState, start, index-good, stays, index-comes}
 
 -- a state, and what has been kept
 pub record Seen (T : Type 0) : Type 0 where
@@ -67,7 +67,7 @@ module _ {T : Type 0} (tell : Field → ℤ → T → T) (shut : T → T) where
 
     step-seen : (x : Reading) (b : ℕ) → Order (statePart (x .state)) (x .said) → keep (seenOf x) b ≡ seenMaybe (step x b)
     unfolding keep step
-    step-seen x b o = moved-seen (x .state) b (x .said) (indexStep (x .state) b) refl o
+    step-seen x b o = moved-seen (x .state) b (x .said) _ refl o
 
     fed-seen : (l : List ℕ) (x : Reading) (p : ℕ) → GoodState (x .state) → Order (statePart (x .state)) (x .said) → feed keep (going (seenOf x) p) l ≡ seenFed (feed step (going x p) l)
     unfolding feed
@@ -90,7 +90,7 @@ module _ {T : Type 0} (tell : Field → ℤ → T → T) (shut : T → T) where
       ends-by (failed p) o = refl
 
       pub text-viewed : (t : List ℕ) → verdictOf out (endOf (feed keep (going (seenOf start) 0) t)) ≡ verdictOf say (readText indexForm t)
-      text-viewed t = rw (index-comes t, fed-seen t start 0 index-good (refl, refl)) (ends-by (feed step (going start 0) t) (fed-ordered t start 0 index-good (refl, refl)))
+      text-viewed t = rw (index-comes t, fed-seen t start 0 index-good (refl, refl)) (ends-by (feed step _ t) (fed-ordered t start 0 index-good (refl, refl)))
 
 -- ---- a loop over the bytes
 
@@ -103,9 +103,9 @@ GoodMoved Moved.Refuse = Unit {0}
 
 pub step-good : (s : State) (b : ℕ) (m : Moved) → GoodState s → indexStep s b ≡ m → GoodMoved m
 unfolding step
-step-good s b (Moved.To n) h e = stays (at s nothingSaid) b (at n nothingSaid) h (ap (λ (m : Moved). moved m nothingSaid) e)
-step-good s b (Moved.Value n p z) h e = stays (at s nothingSaid) b (at n (told p z nothingSaid)) h (ap (λ (m : Moved). moved m nothingSaid) e)
-step-good s b (Moved.Closed n) h e = stays (at s nothingSaid) b (at n (closed nothingSaid)) h (ap (λ (m : Moved). moved m nothingSaid) e)
+step-good s b (Moved.To n) h e = stays _ b _ h (ap (λ (m : Moved). moved m nothingSaid) e)
+step-good s b (Moved.Value n p z) h e = stays _ b _ h (ap (λ (m : Moved). moved m nothingSaid) e)
+step-good s b (Moved.Closed n) h e = stays _ b _ h (ap (λ (m : Moved). moved m nothingSaid) e)
 step-good s b Moved.Refuse h e = tt
 
 module _ {T : Type 0} (tell : Field → ℤ → T → T) (shut : T → T) (t₀ : T) (text : List ℕ) where
@@ -130,21 +130,21 @@ module _ {T : Type 0} (tell : Field → ℤ → T → T) (shut : T → T) (t₀ 
         record {
           good = g;
           inside = omega arith;
-          same = r .same ∙ feed-turn (keep tell shut) (seen s t) (seen n u) text i i h (ap (λ (x : Moved). movedTo tell shut x t) e ∙ k) ∙ rw q;
+          same = r .same ∙ feed-turn _ (seen s t) (seen n u) text i i h (ap (λ (x : Moved). movedTo tell shut x t) e ∙ k) ∙ rw q;
         }
 
     pub kept-to : (n : State) → indexStep s (getD text i 0) ≡ Moved.To n → Kept n t (i + 1)
-    kept-to n e = kept-on (Moved.To n) n t e (step-good s (getD text i 0) (Moved.To n) (r .good) e) refl
+    kept-to n e = kept-on (Moved.To n) n t e (step-good s _ (Moved.To n) (r .good) e) refl
 
     pub kept-value : (n : State) (p : Field) (z : ℤ) → indexStep s (getD text i 0) ≡ Moved.Value n p z → Kept n (tell p z t) (i + 1)
-    kept-value n p z e = kept-on (Moved.Value n p z) n (tell p z t) e (step-good s (getD text i 0) (Moved.Value n p z) (r .good) e) refl
+    kept-value n p z e = kept-on _ n (tell p z t) e (step-good s _ _ (r .good) e) refl
 
     pub kept-closed : (n : State) → indexStep s (getD text i 0) ≡ Moved.Closed n → Kept n (shut t) (i + 1)
-    kept-closed n e = kept-on (Moved.Closed n) n (shut t) e (step-good s (getD text i 0) (Moved.Closed n) (r .good) e) refl
+    kept-closed n e = kept-on _ n (shut t) e (step-good s _ _ (r .good) e) refl
 
     pub kept-refuse : indexStep s (getD text i 0) ≡ Moved.Refuse → endOf Whole ≡ unfit i
     unfolding keep
-    kept-refuse e = ap endOf (r .same ∙ feed-refuse (keep tell shut) (seen s t) text i i h (ap (λ (x : Moved). movedTo tell shut x t) e))
+    kept-refuse e = ap endOf (r .same ∙ feed-refuse _ (seen s t) text i i h (rw e))
 
   pub kept-end : (s : State) (t : T) (i : ℕ) → Kept s t i → length text ≤ i → endOf Whole ≡ atEnd (keptAt s t) i
-  kept-end s t i r h = ap endOf (r .same ∙ feed-end (keep tell shut) (going (seen s t) i) text i h)
+  kept-end s t i r h = ap endOf (r .same ∙ feed-end _ _ text i h)

@@ -1,7 +1,7 @@
 -- The tally has the first bad row: numbers that the code's types do not hold become numbers outside every limit, so that a head, a run, a range and a row are judged as the meanings judge them (`text-bad`), and where the rows are good their counts are the text's (`rows-counted`).
 use Rattle.meaning_numbers.specs.{Order.within, Quotient.multiple}
-use Rattle.meaning_numbers.proofs.Prelude.{_≡_, refl, sym, ap, _∙_, subst, Bool, true, false, cond, _&&_, false≢true, List, [], _∷_, map, none, some, ℕ, suc, _+_, _-_, _<_, _≤_, arith, leb, ltb, ℤ, pos, negsuc, _+ℤ_, natAbs, length, length-append, length-map, leZ, ltZ, _≤ℤ_, leb-true, le-leb, ltb-true, ltb-false, lt-ltb, le-ltb, eq-eqb, zmach, le-ltZ, f-le}
-use Rattle.meaning_curves.specs.Limits.{windowIn, widthIn, windowsIn, endIn, lowestEnd}
+use Rattle.meaning_numbers.proofs.Prelude.{_≡_, refl, sym, ap, _∙_, subst, Bool, true, false, cond, _&&_, false≢true, List, [], _∷_, map, none, some, ℕ, suc, _+_, _-_, _<_, _≤_, arith, leb, ltb, ℤ, pos, negsuc, _+ℤ_, natAbs, length, length-append, length-map, leZ, ltZ, _≤ℤ_, leb-true, le-leb, ltb-true, ltb-false, lt-ltb, le-ltb, eq-eqb, zmach, le-ltZ}
+use Rattle.meaning_curves.specs.Limits.{endIn, lowestEnd}
 use Rattle.meaning_rows.specs.{declared.Head.Head, declared.Row.Row}
 use Rattle.meaning_rows.specs.Index.{Index, Entry, RangeRow, lent, runsOf, records, allRuns}
 use Rattle.meaning_rows.specs.Judge.{headGood, runsGood, runLengths, rangeGood, partGood, rowGood, badRowFrom, firstBadRow}
@@ -40,7 +40,7 @@ held-below n = refl
 -- a number that is held and is not the greatest is itself
 pub held-is : (z : ℤ) → held z < 4294967295 → z ≡ pos (held z)
 held-is (pos n) h =
-    on-flag (ltb 4294967295 n)
+    on-flag _
     (λ e. absurd (omega (arith, held-high n e, h)))
     (λ e. ap pos (sym (held-pos n (ltb-false 4294967295 n e))))
 held-is (negsuc n) h = absurd (omega (arith, held-below n, h))
@@ -55,9 +55,9 @@ held-nat z e h = ap held e ∙ held-pos (natAbs z) h
 -- a number in limits below the greatest is in them as it is held
 within-held : (low high : ℕ) (z : ℤ) → high < 4294967295 → within (pos low) (pos high) z ≡ within (pos low) (pos high) (pos (held z))
 within-held low high z h =
-    same-flag (within (pos low) (pos high) z) (within (pos low) (pos high) (pos (held z)))
-    (λ e. let b = between low high z e in subst (λ (y : ℤ). within (pos low) (pos high) y ≡ true) (b .is ∙ ap pos (sym (held-nat z (b .is) (omega (arith, b .most, h))))) e)
-    (λ e. let b = between low high (pos (held z)) e in subst (λ (y : ℤ). within (pos low) (pos high) y ≡ true) (sym (held-is z (omega (arith, b .most, h)))) e)
+    same-flag _ _
+    (λ e. let b = between low high z e in rw (b .is ∙ ap pos (sym (held-nat z (b .is) (omega (arith, h))))) at e)
+    (λ e. let b = between low high (pos (held z)) e in subst (λ (y : ℤ). within (pos low) (pos high) y ≡ true) (sym (held-is z (omega (arith, h)))) e)
 
 -- ---- runs
 
@@ -68,7 +68,7 @@ entryGood W a l r = leZ (pos a) l && (leZ l r && ltZ r (pos W))
 run-to : (W a : ℕ) (l r : ℤ) → W ≤ 4294967295 → runGood W a (held l) (held r) ≡ true → entryGood W a l r ≡ true
 run-to W a l r h e =
     let g = good-run W a (held l) (held r) e in
-    rw (held-is l (omega (arith, g .order, g .inside, h)), held-is r (omega (arith, g .inside, h)))
+    rw (held-is l (omega (arith, h)), held-is r (omega (arith, h)))
     (of-both (le-leb a (held l) (g .below)) (of-both (le-leb (held l) (held r) (g .order)) (lt-ltb (held r) W (g .inside))))
 
 -- what a good run of whole numbers is
@@ -81,20 +81,20 @@ pub record GoodEntry (W a : ℕ) (l r : ℤ) : Type 0 where
 
 pub good-entry : (W a : ℕ) (l r : ℤ) → entryGood W a l r ≡ true → GoodEntry W a l r
 good-entry W a l r e =
-    let b = both (leZ (pos a) l) (leZ l r && ltZ r (pos W)) e in
-    let c = both (leZ l r) (ltZ r (pos W)) (b .1) in
+    let b = both _ _ e in
+    let c = both (leZ l r) _ (b .1) in
     let x = at-least a l (b .0) in
-    let y = at-least (natAbs l) r (subst (λ (z : ℤ). leZ z r ≡ true) (x .0) (c .0)) in
-    record { left = x .0; right = y .0; below = x .1; order = y .1; inside = ltb-true (natAbs r) W (subst (λ (z : ℤ). ltZ z (pos W) ≡ true) (y .0) (c .1)) }
+    let y = at-least (natAbs l) r (rw (x .0) at (c .0)) in
+    record { left = x .0; right = y .0; below = x .1; order = y .1; inside = ltb-true (natAbs r) W (rw (y .0) at (c .1)) }
 
 run-from : (W a : ℕ) (l r : ℤ) → W ≤ 4294967295 → entryGood W a l r ≡ true → runGood W a (held l) (held r) ≡ true
 run-from W a l r h e =
     let g = good-entry W a l r e in
-    rw (held-nat l (g .left) (omega (arith, g .order, g .inside, h)), held-nat r (g .right) (omega (arith, g .inside, h)))
+    rw (held-nat l (g .left) (omega (arith, h)), held-nat r (g .right) (omega (arith, h)))
     (of-both (le-leb a (natAbs l) (g .below)) (of-both (le-leb (natAbs l) (natAbs r) (g .order)) (lt-ltb (natAbs r) W (g .inside))))
 
 run-same : (W a : ℕ) (l r : ℤ) → W ≤ 4294967295 → runGood W a (held l) (held r) ≡ entryGood W a l r
-run-same W a l r h = same-flag (runGood W a (held l) (held r)) (entryGood W a l r) (run-to W a l r h) (run-from W a l r h)
+run-same W a l r h = same-flag _ _ (run-to W a l r h) (run-from W a l r h)
 
 -- tests in another order of brackets
 pub three : (a b c d : Bool) → (a && (b && (c && d))) ≡ ((a && (b && c)) && d)
@@ -125,17 +125,17 @@ unfolding runsFrom runNext runsGood runLengths
 runs-are W s [] h g = record { good = g; total = λ e. omega arith }
 runs-are W s (x ∷ l) h g =
     let m = run-same W (s .least) (x .0) (x .1) h in
-    let more = three (leZ (pos (s .least)) (x .0)) (leZ (x .0) (x .1)) (ltZ (x .1) (pos W)) (runsGood (pos W) (x .1 +ℤ pos 2) l) in
-    on-flag (entryGood W (s .least) (x .0) (x .1))
+    let more = three (leZ (pos (s .least)) (x .0)) (leZ (x .0) (x .1)) (ltZ (x .1) (pos W)) _ in
+    on-flag _
     (λ e.
     let b = good-entry W (s .least) (x .0) (x .1) e in
-    let hl = held-nat (x .0) (b .left) (omega (arith, b .order, b .inside, h)) in
-    let hr = held-nat (x .1) (b .right) (omega (arith, b .inside, h)) in
+    let hl = held-nat (x .0) (b .left) (omega (arith, h)) in
+    let hr = held-nat (x .1) (b .right) (omega (arith, h)) in
     let n : Runs = record { count = s .count + 1; good = true; least = held (x .1) + 2; total = s .total + (held (x .1) + 1 - held (x .0)) } in
     let i = runs-are W n l h refl in
     let k : runNext W s (held (x .0)) (held (x .1)) ≡ n = rw (g, m ∙ e) refl in
-    let q : x .1 +ℤ pos 2 ≡ pos (held (x .1) + 2) = ap (λ (z : ℤ). z +ℤ pos 2) (b .right ∙ ap pos (sym hr)) in
-    let f : runsGood (pos W) (pos (s .least)) (x ∷ l) ≡ runsGood (pos W) (pos (held (x .1) + 2)) l = more ∙ rw (e, q) refl in
+    let q = ap (λ (z : ℤ). z +ℤ pos 2) (b .right ∙ ap pos (sym hr)) in
+    let f = more ∙ rw (e, q) refl in
     record {
       good = ap (λ (u : Runs). runsFrom W u l .good) k ∙ i .good ∙ sym f;
       total = λ t. ap (λ (u : Runs). runsFrom W u l .total) k ∙ i .total (sym f ∙ t) ∙ rw (hl, hr) (omega arith);
@@ -152,9 +152,9 @@ runs-are W s (x ∷ l) h g =
 end-clamp : (z : ℤ) → endIn z ≡ true → clamp z ≡ z
 unfolding within
 end-clamp z e =
-    let b = both (leZ lowestEnd z) (leZ z (pos 4000000)) e in
-    let low : negsuc 2147483647 ≤ℤ z = omega (zmach, f-le lowestEnd z (b .0)) in
-    let high : z ≤ℤ pos 2147483647 = omega (zmach, f-le z (pos 4000000) (b .1)) in
+    let b = both (leZ lowestEnd z) _ e in
+    let low : negsuc 2147483647 ≤ℤ z = omega zmach in
+    let high : z ≤ℤ pos 2147483647 = omega zmach in
     rw (le-ltZ low, le-ltZ high) refl
 
 pub clamp-end : (z : ℤ) → endIn (clamp z) ≡ true → clamp z ≡ z
@@ -169,10 +169,10 @@ pub range-ends : (x : Index) (least : ℤ) (r : Row) → rangeGood x least r ≡
 unfolding rangeGood
 range-ends x least r e =
     let a = both (ltZ (r .low) (r .up)) _ e in
-    let b = both (multiple (natAbs (x .width)) (r .low)) _ (a .1) in
-    let c = both (multiple (natAbs (x .width)) (r .up)) _ (b .1) in
-    let d = both (endIn (r .low)) _ (c .1) in
-    (d .0, both (endIn (r .up)) (leZ least (r .low)) (d .1) .0)
+    let b = both (multiple _ (r .low)) _ (a .1) in
+    let c = both (multiple _ (r .up)) _ (b .1) in
+    let d = both _ _ (c .1) in
+    (d .0, both _ (leZ least (r .low)) (d .1) .0)
 
 module _ (h : Head) (x : Index) (width : natAbs (x .width) ≡ h .width) (low up least : ℤ) (first runs : ℕ) where
   abbrev as-said : Row
@@ -187,9 +187,9 @@ module _ (h : Head) (x : Index) (width : natAbs (x .width) ≡ h .width) (low up
 
   range-same : rangeGood x least as-said ≡ rangeGood (lent h [] [] []) least (as-held (clamp low) (clamp up))
   range-same =
-      same-flag (rangeGood x least as-said) (rangeGood (lent h [] [] []) least (as-held (clamp low) (clamp up)))
+      same-flag _ _
       (λ e. let b = range-ends x least as-said e in ap (λ (a : ℤ). rangeGood (lent h [] [] []) least (as-held a (clamp up))) (end-clamp low (b .0)) ∙ ap (λ (a : ℤ). rangeGood (lent h [] [] []) least (as-held low a)) (end-clamp up (b .1)) ∙ sym same-width ∙ e)
-      (λ e. let b = range-ends (lent h [] [] []) least (as-held (clamp low) (clamp up)) e in
+      (λ e. let b = range-ends _ least (as-held (clamp low) (clamp up)) e in
       same-width ∙ sym (ap (λ (a : ℤ). rangeGood (lent h [] [] []) least (as-held a (clamp up))) (clamp-end low (b .0)) ∙ ap (λ (a : ℤ). rangeGood (lent h [] [] []) least (as-held low a)) (clamp-end up (b .1))) ∙ e)
 
 -- ---- rows
@@ -212,8 +212,8 @@ module _ (h : Head) (x : Index) (width : natAbs (x .width) ≡ h .width) (window
   total-same taken r =
       let a = runs-are (h .windows) noRuns (r .1 .1) most refl in
       rw (windows, a .good)
-      (on-flag (runsGood (pos (h .windows)) (pos 0) (r .1 .1))
-      (λ e. let t : tallied r .total ≡ runLengths (r .1 .1) = a .total e ∙ omega arith in rw (e, t) refl)
+      (on-flag _
+      (λ e. let t = a .total e ∙ omega arith in rw (e, t) refl)
       (λ e. rw e refl))
 
   -- a row of the text is judged as the tally judges it
@@ -310,7 +310,7 @@ module _ (h : Head) (x : Index) (width : natAbs (x .width) ≡ h .width) (window
       (λ t.
       let i = next-is c r g t in
       let j = counted l (rowNext h c (clamp (r .0)) (clamp (r .1 .0)) (tallied r)) (i .good) e in
-      (omega (arith, j .0, i .rows), omega (arith, j .1, i .runs, length-append (r .1 .1) (allRuns (map rowSaid l)))))
+      (omega arith, omega (arith, j .1, i .runs, length-append (r .1 .1) (allRuns (map rowSaid l)))))
       (λ t. absurd (false≢true (sym (next-off c r l t .0) ∙ e)))
 
 -- ---- the whole text
@@ -340,15 +340,15 @@ module _ (v : Value indexForm) where
   pub head-is : headGood (lent h [] [] []) ≡ true → HeadIs
   unfolding headGood
   head-is e =
-      let a = both (windowIn (pos (h .window))) (widthIn (pos (h .width)) && windowsIn (pos (h .windows))) e in
-      let b = both (widthIn (pos (h .width))) (windowsIn (pos (h .windows))) (a .1) in
-      let x = between 1 256 (pos (h .window)) (a .0) in
-      let y = between 1 1000000 (pos (h .width)) (b .0) in
-      let z = between 1 1048576 (pos (h .windows)) (b .1) in
+      let a = both _ _ e in
+      let b = both _ _ (a .1) in
+      let x = between 1 256 _ (a .0) in
+      let y = between 1 1000000 _ (b .0) in
+      let z = between 1 1048576 _ (b .1) in
       record {
-        window = held-is (v .0) (omega (arith, x .most));
-        width = held-is (v .1 .0) (omega (arith, y .most));
-        windows = held-is (v .1 .1 .0) (omega (arith, z .most));
+        window = held-is (v .0) (omega arith);
+        width = held-is (v .1 .0) (omega arith);
+        windows = held-is (v .1 .1 .0) (omega arith);
         most = z .most;
       }
 
@@ -362,7 +362,7 @@ module _ (v : Value indexForm) where
 
   rows-lay : Lays (X .runs) 0 (map rowSaid (v .1 .1 .1))
   unfolding indexSaid
-  rows-lay = laid (map rowSaid (v .1 .1 .1))
+  rows-lay = laid _
 
   rows-are : X .rows ≡ records 0 (map rowSaid (v .1 .1 .1))
   unfolding indexSaid
@@ -374,7 +374,7 @@ module _ (v : Value indexForm) where
   text-bad =
       rw head-same
       (on-flag (headGood (lent h [] [] []))
-      (λ e. let i = head-is e in rw e (ap (badRowFrom X 0 lowestEnd 0 0) rows-are ∙ found h X (width-is i) (windows-is i) (omega (arith, i .most)) (v .1 .1 .1) noRows refl rows-lay))
+      (λ e. let i = head-is e in rw e (ap (badRowFrom X 0 lowestEnd 0 0) rows-are ∙ found h X (width-is i) (windows-is i) (omega arith) (v .1 .1 .1) noRows refl rows-lay))
       (λ e. rw e refl))
 
   -- what judging the text said is the first bad row
@@ -392,5 +392,5 @@ module _ (v : Value indexForm) where
   unfolding indexSaid
   rows-counted e g =
       let i = head-is e in
-      let n = counted h X (width-is i) (windows-is i) (omega (arith, i .most)) (v .1 .1 .1) noRows refl g in
+      let n = counted h X (width-is i) (windows-is i) (omega arith) (v .1 .1 .1) noRows refl g in
       (n .0 ∙ omega (arith, length-records 0 (map rowSaid (v .1 .1 .1)), length-map (v .1 .1 .1) rowSaid), n .1 ∙ omega arith)

@@ -1,5 +1,5 @@
 -- A text whose rows are all good: each row stands where it should and its numbers are held as they are (`row-placed`), and so are the ends of all runs (`runs-held`).
-use Rattle.meaning_numbers.proofs.Prelude.{_≡_, refl, sym, ap, _∙_, subst, true, false, _&&_, false≢true, List, [], _∷_, _++_, map, ℕ, _+_, _≤_, arith, leb, ℤ, pos, _+ℤ_, natAbs, length, leZ, ltZ, leb-true}
+use Rattle.meaning_numbers.proofs.Prelude.{_≡_, refl, sym, ap, _∙_, subst, true, false, _&&_, false≢true, List, [], _∷_, _++_, map, ℕ, _+_, _≤_, arith, leb, ℤ, pos, _+ℤ_, natAbs, length, leZ, leb-true}
 use Rattle.meaning_rows.specs.{declared.Head.Head, Index.Entry, Index.lent, Index.allRuns, Judge.headGood, Judge.runsGood, Judge.rangeGood}
 use Rattle.meaning_text.specs.{Form.Value, Texts.indexForm, Texts.rowForm, Texts.rowSaid, Texts.indexSaid}
 use Rattle.meaning_text.proofs.Reading.{on-flag}
@@ -7,7 +7,7 @@ use Rattle.numbers.specs.Narrow.{clamp, held}
 use Rattle.rows_judge.proofs.Scan.{both, runGood, good-run}
 use Rattle.text_judge.specs.{declared.Runs.Runs, declared.Rows.Rows}
 use Rattle.text_judge.specs.Tally.{noRuns, runNext, runsFrom, noRows, rowFits, rowNext, rowsFrom, headHeld}
-use Rattle.text_judge.proofs.Bad.{held-nat, entryGood, good-entry, three, runs-bad, runs-count, runs-are, clamp-end, range-ends, rows-stop, NextIs, next-is, next-off, counted, HeadIs, head-is, width-is, windows-is}
+use Rattle.text_judge.proofs.Bad.{held-nat, good-entry, three, runs-bad, runs-count, runs-are, clamp-end, range-ends, rows-stop, NextIs, next-is, next-off, counted, HeadIs, head-is, width-is, windows-is}
 
 pub map-append : {A B : Type 0} (f : A → B) (a b : List A) → map f (a ++ b) ≡ map f a ++ map f b
 map-append f [] b = refl
@@ -17,7 +17,7 @@ map-append f (x ∷ a) b = rw (map-append f a b) refl
 
 next-more : (W : ℕ) (s : Runs) (a b : ℕ) → (s .good && runGood W (s .least) a b) ≡ true → s .count ≤ s .total → runNext W s a b .count ≤ runNext W s a b .total
 unfolding runNext
-next-more W s a b e h = let g = good-run W (s .least) a b (both (s .good) (runGood W (s .least) a b) e .1) in rw e (omega (arith, g .order, h))
+next-more W s a b e h = let g = good-run W (s .least) a b (both (s .good) (runGood W (s .least) a b) e .1) in rw e (omega (arith, h))
 
 next-bad : (W : ℕ) (s : Runs) (a b : ℕ) → (s .good && runGood W (s .least) a b) ≡ false → runNext W s a b .good ≡ false
 unfolding runNext
@@ -29,7 +29,7 @@ unfolding runsFrom
 count-total W s [] h g = h
 count-total W s (x ∷ l) h g =
     let n = runNext W s (held (x .0)) (held (x .1)) in
-    on-flag (s .good && runGood W (s .least) (held (x .0)) (held (x .1)))
+    on-flag _
     (λ e. count-total W n l (next-more W s (held (x .0)) (held (x .1)) e h) g)
     (λ e. absurd (false≢true (sym (runs-bad W n l (next-bad W s (held (x .0)) (held (x .1)) e)) ∙ g)))
 
@@ -38,25 +38,25 @@ entries-held : (W a : ℕ) (l : List Entry) → W ≤ 4294967295 → runsGood (p
 unfolding runsGood
 entries-held W a [] h g = (refl, refl)
 entries-held W a (x ∷ l) h g =
-    let more = three (leZ (pos a) (x .0)) (leZ (x .0) (x .1)) (ltZ (x .1) (pos W)) (runsGood (pos W) (x .1 +ℤ pos 2) l) in
-    let b = both (entryGood W a (x .0) (x .1)) (runsGood (pos W) (x .1 +ℤ pos 2) l) (sym more ∙ g) in
+    let more = three (leZ (pos a) (x .0)) (leZ (x .0) (x .1)) _ _ in
+    let b = both _ _ (sym more ∙ g) in
     let e = good-entry W a (x .0) (x .1) (b .0) in
-    let i = entries-held W (natAbs (x .1) + 2) l h (subst (λ (z : ℤ). runsGood (pos W) (z +ℤ pos 2) l ≡ true) (e .right) (b .1)) in
-    (rw (held-nat (x .0) (e .left) (omega (arith, e .order, e .inside, h)), i .0) refl, rw (held-nat (x .1) (e .right) (omega (arith, e .inside, h)), i .1) refl)
+    let i = entries-held W _ l h (subst (λ (z : ℤ). runsGood (pos W) (z +ℤ pos 2) l ≡ true) (e .right) (b .1)) in
+    (rw (held-nat (x .0) (e .left) (omega (arith, h)), i .0) refl, rw (held-nat (x .1) (e .right) (omega (arith, h)), i .1) refl)
 
 -- ---- rows
 
 rows-split : (h : Head) (c : Rows) (a b : List (Value rowForm)) → rowsFrom h c (a ++ b) ≡ rowsFrom h (rowsFrom h c a) b
 unfolding rowsFrom
 rows-split h c [] b = refl
-rows-split h c (r ∷ a) b = rows-split h (rowNext h c (clamp (r .0)) (clamp (r .1 .0)) (runsFrom (h .windows) noRuns (r .1 .1))) a b
+rows-split h c (r ∷ a) b = rows-split h _ a b
 
 -- the rows before good rows are good
 before-good : (h : Head) (c : Rows) (a b : List (Value rowForm)) → rowsFrom h c (a ++ b) .good ≡ true → rowsFrom h c a .good ≡ true
 before-good h c a b g =
-    on-flag (rowsFrom h c a .good)
+    on-flag _
     (λ e. e)
-    (λ e. absurd (false≢true (sym (rows-stop h (rowsFrom h c a) b e .0) ∙ sym (ap (λ (d : Rows). d .good) (rows-split h c a b)) ∙ g)))
+    (λ e. absurd (false≢true (sym (rows-stop h _ b e .0) ∙ sym (ap (λ (d : Rows). d .good) (rows-split h c a b)) ∙ g)))
 
 module _ (v : Value indexForm) (head : headGood (lent (headHeld v) [] [] []) ≡ true) where
   abbrev h : Head
@@ -74,7 +74,7 @@ module _ (v : Value indexForm) (head : headGood (lent (headHeld v) [] [] []) ≡
   -- a row that is closed and leaves the rows good is good
   fits-by : (c : Rows) (r : Value rowForm) (l : List (Value rowForm)) → rowsFrom h c (r ∷ l) .good ≡ true → rowFits h c (clamp (r .0)) (clamp (r .1 .0)) (runs-of r) ≡ true
   fits-by c r l g =
-      on-flag (rowFits h c (clamp (r .0)) (clamp (r .1 .0)) (runs-of r))
+      on-flag _
       (λ e. e)
       (λ e. absurd (false≢true (sym (next-off h (indexSaid v) (width-is v i) (windows-is v i) most c r l e .0) ∙ g)))
 
@@ -86,10 +86,10 @@ module _ (v : Value indexForm) (head : headGood (lent (headHeld v) [] [] []) ≡
 
   tested : (c : Rows) (r : Value rowForm) → rowFits h c (clamp (r .0)) (clamp (r .1 .0)) (runs-of r) ≡ true → Tested c r
   tested c r e =
-      let a = both (rangeGood (lent h [] [] []) (c .least) (record { low = clamp (r .0); up = clamp (r .1 .0); first = 0; runs = 0 })) (leb 1 (runs-of r .count) && (runs-of r .good && leb (c .taken + runs-of r .total) (h .windows))) e in
-      let b = both (leb 1 (runs-of r .count)) (runs-of r .good && leb (c .taken + runs-of r .total) (h .windows)) (a .1) in
-      let d = both (runs-of r .good) (leb (c .taken + runs-of r .total) (h .windows)) (b .1) in
-      record { range = a .0; runs = d .0; total = leb-true (c .taken + runs-of r .total) (h .windows) (d .1) }
+      let a = both _ _ e in
+      let b = both (leb 1 (runs-of r .count)) (runs-of r .good && leb _ (h .windows)) (a .1) in
+      let d = both (runs-of r .good) _ (b .1) in
+      record { range = a .0; runs = d .0; total = leb-true _ (h .windows) (d .1) }
 
   next : (c : Rows) (r : Value rowForm) → c .good ≡ true → rowFits h c (clamp (r .0)) (clamp (r .1 .0)) (runs-of r) ≡ true
       → NextIs h (indexSaid v) (width-is v i) (windows-is v i) most c r (rowNext h c (clamp (r .0)) (clamp (r .1 .0)) (runs-of r))
@@ -105,7 +105,7 @@ module _ (v : Value indexForm) (head : headGood (lent (headHeld v) [] [] []) ≡
   small-next c r g e s =
       let t = tested c r e in
       let n = count-total (h .windows) noRuns (r .1 .1) (omega arith) (t .runs) in
-      rw (g, e) (record { runs = omega (arith, s .runs, n); taken = t .total })
+      rw (g, e) (record { runs = omega (arith, n); taken = t .total })
 
   small-from : (l : List (Value rowForm)) (c : Rows) → c .good ≡ true → Small c → rowsFrom h c l .good ≡ true → Small (rowsFrom h c l)
   unfolding rowsFrom

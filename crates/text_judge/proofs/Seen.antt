@@ -15,13 +15,13 @@ use Rattle.text_judge.specs.Tally.{noRuns, runNext, runsFrom, Sound, noR
 pub runs-more : (W : ℕ) (s : Runs) (l : List Entry) (e : Entry) → runsFrom W s (l ++ (e ∷ [])) ≡ runNext W (runsFrom W s l) (held (e .0)) (held (e .1))
 unfolding runsFrom
 runs-more W s [] e = refl
-runs-more W s (x ∷ l) e = runs-more W (runNext W s (held (x .0)) (held (x .1))) l e
+runs-more W s (x ∷ l) e = runs-more W _ l e
 
 pub rows-more : (h : Head) (s : Rows) (l : List (Value rowForm)) (r : Value rowForm)
     → rowsFrom h s (l ++ (r ∷ [])) ≡ rowNext h (rowsFrom h s l) (clamp (r .0)) (clamp (r .1 .0)) (runsFrom (h .windows) noRuns (r .1 .1))
 unfolding rowsFrom
 rows-more h s [] r = refl
-rows-more h s (x ∷ l) r = rows-more h (rowNext h s (clamp (x .0)) (clamp (x .1 .0)) (runsFrom (h .windows) noRuns (x .1 .1))) l r
+rows-more h s (x ∷ l) r = rows-more h _ l r
 
 -- ---- the view
 
@@ -40,11 +40,11 @@ tells Field.Windows z g o = rw (o .0, o .1) refl
 tells Field.Low z g o = refl
 tells Field.Up z g o = refl
 tells Field.Left z g o = refl
-tells Field.Right z g o = rw (runs-more (held (g .windows)) noRuns (g .runs) (g .left, z)) refl
+tells Field.Right z g o = rw (runs-more _ noRuns (g .runs) (g .left, z)) refl
 
 pub shuts : (g : Said) → tallyOf (closed g) ≡ shutTally (tallyOf g)
 unfolding shutTally runsFrom
-shuts g = rw (rows-more (headHeld (value g)) noRows (g .rows) (g .low, (g .up, g .runs))) refl
+shuts g = rw (rows-more _ noRows (g .rows) (g .low, (g .up, g .runs))) refl
 
 abbrev outOf : Tally → Scanned
 outOf t = Scanned.Fine (t .head) (t .rows)
@@ -85,9 +85,9 @@ held-most z =
 sound-next : (W : ℕ) (s : Runs) (l r : ℕ) → r ≤ 4294967295 → Sound s → Sound (runNext W s l r)
 unfolding runNext
 sound-next W s l r h o =
-    on-flag (s .good && runGood W (s .least) l r)
+    on-flag _
     (λ e. let g = good-run W (s .least) l r (both (s .good) (runGood W (s .least) l r) e .1) in
-    rw e (record { total = omega (arith, o .total, g .below, g .order); least = omega arith }))
+    rw e (record { total = omega arith; least = omega arith }))
     (λ e. rw e (record { total = omega arith; least = omega arith }))
 
 count-next : (W : ℕ) (s : Runs) (l r : ℕ) → runNext W s l r .count ≡ s .count + 1
@@ -101,19 +101,19 @@ pub start-fits : Fits startTally 0
 start-fits = record { sound = no-sound; rows = omega arith; runs = omega arith }
 
 pub same-fits : (t : Tally) (i : ℕ) → Fits t i → Fits t (i + 1)
-same-fits t i f = record { sound = f .sound; rows = omega (arith, f .rows); runs = omega (arith, f .runs) }
+same-fits t i f = record { sound = f .sound; rows = omega arith; runs = omega arith }
 
 pub tell-fits : (p : Field) (z : ℤ) (t : Tally) (i : ℕ) → Fits t i → Fits (tellTally p z t) (i + 1)
 unfolding tellTally
-tell-fits Field.Window z t i f = record { sound = f .sound; rows = omega (arith, f .rows); runs = omega (arith, f .runs) }
-tell-fits Field.Width z t i f = record { sound = f .sound; rows = omega (arith, f .rows); runs = omega (arith, f .runs) }
-tell-fits Field.Windows z t i f = record { sound = f .sound; rows = omega (arith, f .rows); runs = omega (arith, f .runs) }
-tell-fits Field.Low z t i f = record { sound = f .sound; rows = omega (arith, f .rows); runs = omega (arith, f .runs) }
-tell-fits Field.Up z t i f = record { sound = no-sound; rows = omega (arith, f .rows); runs = omega (arith, f .runs) }
-tell-fits Field.Left z t i f = record { sound = f .sound; rows = omega (arith, f .rows); runs = omega (arith, f .runs) }
+tell-fits Field.Window z t i f = record { sound = f .sound; rows = omega arith; runs = omega arith }
+tell-fits Field.Width z t i f = record { sound = f .sound; rows = omega arith; runs = omega arith }
+tell-fits Field.Windows z t i f = record { sound = f .sound; rows = omega arith; runs = omega arith }
+tell-fits Field.Low z t i f = record { sound = f .sound; rows = omega arith; runs = omega arith }
+tell-fits Field.Up z t i f = record { sound = no-sound; rows = omega arith; runs = omega arith }
+tell-fits Field.Left z t i f = record { sound = f .sound; rows = omega arith; runs = omega arith }
 tell-fits Field.Right z t i f =
     let n = count-next (t .head .windows) (t .row .runs) (t .row .left) (held z) in
-    record { sound = sound-next (t .head .windows) (t .row .runs) (t .row .left) (held z) (held-most z) (f .sound); rows = omega (arith, f .rows); runs = omega (arith, f .runs, n) }
+    record { sound = sound-next _ (t .row .runs) (t .row .left) (held z) (held-most z) (f .sound); rows = omega arith; runs = omega (arith, n) }
 
 row-counts : (h : Head) (s : Rows) (low up : ℤ) (o : Runs) → (rowNext h s low up o .rows ≤ s .rows + 1) × (rowNext h s low up o .runs ≤ s .runs + o .count)
 unfolding rowNext
@@ -123,4 +123,4 @@ pub shut-fits : (t : Tally) (i : ℕ) → Fits t i → Fits (shutTally t) (i + 1
 unfolding shutTally
 shut-fits t i f =
     let n = row-counts (t .head) (t .rows) (t .row .low) (t .row .up) (t .row .runs) in
-    record { sound = no-sound; rows = omega (arith, f .rows, n .0); runs = omega (arith, f .runs, n .1) }
+    record { sound = no-sound; rows = omega arith; runs = omega arith }

@@ -3,13 +3,13 @@ use Prim.Native.Nat.{ℕ, suc, _+_, _<_}
 use borrow.Author.Tests.{ltb-true, ltb-false}
 use lib.Dec.{ltb, eqb}
 use lib.IntN.{ℤ}
-use lib.ListN.{length, getD, drop}
+use lib.ListN.{length, drop}
 use mathlib.Core.Bool.{Bool, true, false, cond}
 use mathlib.Core.List.{List, [], _∷_, append-assoc, append-nil}
 use mathlib.Core.Option.{Option, none, some}
-use mathlib.Core.Path.{_≡_, refl, ap, _∙_}
+use mathlib.Core.Path.{_≡_, refl, _∙_}
 use native.Mathlib.Omega.{arith}
-use Rattle.meaning_text.specs.{Bytes.bytes, Number.got, Number.bad, Form.Value, Form.number, Form.oneOf, Form.lead, Form.read, Read.readText, Texts.valuesForm, Texts.seriesForm, Texts.programForm}
+use Rattle.meaning_text.specs.{Bytes.bytes, Number.got, Number.bad, Form.number, Form.oneOf, Form.lead, Form.read, Read.readText, Texts.valuesForm, Texts.seriesForm, Texts.programForm}
 use Rattle.meaning_text.proofs.{Open.openText, Form.filled, Form.clearWord, Form.clear, Form.follows, Form.firm, Form.opens, Form.decided, Reading.on-flag, Reading.begun}
 use Rattle.meaning_text.proofs.Automaton.{going, feed, bad-here, over, atRest, Follows, judged, form-comes}
 use Rattle.meaning_text.proofs.Onward.{Rest, wordThen, readThen, word-both, read-alone, lead-then, trail-then, both-then, one-then, one-ends, many-then, many-ends, word-over, word-next, word-off, word-short}
@@ -133,7 +133,7 @@ led-moved Reached.Not f g h e = refl
 
 word-moved : (x : Reached) (more : Bool) (w : Word) (g : Said) → moved (led x (λ s. cond more (Moved.To s) (Moved.Ended s w))) g ≡ turned x (cond more g (named w g))
 word-moved x true w g = led-moved x _ g g (λ s. refl)
-word-moved x false w g = led-moved x _ g (named w g) (λ s. refl)
+word-moved x false w g = led-moved x _ g _ (λ s. refl)
 
 module _ {A : Type 0} (fin : Said → A) where
   behind-then : (w : Word) (g : Said) → GoodState (behind w) × (behindThen fin w g ≡ restState fin (behind w) (named w g))
@@ -171,12 +171,12 @@ module _ {A : Type 0} (fin : Said → A) where
   word-onto : (w : Word) (k b : ℕ) → k < length (word w) → (g : Said) (t : List ℕ) → Onto Good (rest fin) (turned (reach w k b) (cond (ltb (k + 1) (length (word w))) g (named w g))) b t (wordThen (drop k (word w)) (behindThen fin w g) (b ∷ t))
   unfolding reach rest
   word-onto w k b h g t =
-      on-flag (eqb b (getD (word w) k 0))
+      on-flag _
       (λ e. on-flag (ltb (k + 1) (length (word w)))
       (λ u. let a : suc k ≡ k + 1 = omega arith in
-      rw (e, u) (ltb-true (k + 1) (length (word w)) u, word-next (word w) (behindThen fin w g) k h b t e ∙ rw a))
+      rw (e, u) (ltb-true (k + 1) _ u, word-next _ _ k h b t e ∙ rw a))
       (λ u. let n = behind-then w g in
-      rw (e, u) (n .0, word-next (word w) (behindThen fin w g) k h b t e ∙ ap (λ (f : Rest A). f t) (word-over (word w) (behindThen fin w g) (suc k) (omega (arith, ltb-false (k + 1) (length (word w)) u)) ∙ n .1))))
+      rw (e, u) (n .0, word-next _ _ k h b t e ∙ rw (word-over (word w) (behindThen fin w g) (suc k) (omega (arith, ltb-false (k + 1) (length (word w)) u)) ∙ n .1))))
       (λ e. rw (e, word-off (word w) (behindThen fin w g) k h b t e) bad-here)
 
   -- ---- between two words
@@ -193,12 +193,12 @@ module _ {A : Type 0} (fin : Said → A) where
     values-then : (b : ℕ) (u : List ℕ) → readThen valuesForm k (b ∷ u) ≡ cond (eqb b 32) (wordThen (bytes " ") (numberThen Numeral.Start (λ x. readThen valuesForm (λ l. k (x ∷ l)))) (b ∷ u)) (k [] (b ∷ u))
     unfolding openDecided
     values-then b u =
-        many-then (lead " " number) refl (λ v. begun refl) k b u
-        ∙ on-flag (eqb b 32) (λ e. rw e (ap (λ (r : Rest A). r (b ∷ u)) value-then)) (λ e. rw e)
+        many-then _ refl (λ v. begun refl) k b u
+        ∙ on-flag (eqb b 32) (λ e. rw e (rw value-then)) (λ e. rw e)
 
     values-end : readThen valuesForm k [] ≡ k [] []
     unfolding openDecided
-    values-end = many-ends (lead " " number) refl (λ v. begun refl) k
+    values-end = many-ends _ refl (λ v. begun refl) k
 
   series-pick : (g : Said) (b : ℕ) (u : List ℕ) → restSeries fin g (b ∷ u) ≡ wordThen (word (pick Turn.Series b)) (behindThen fin (pick Turn.Series b) g) (b ∷ u)
   unfolding restSeries pick behindThen after word
@@ -227,11 +227,11 @@ module _ {A : Type 0} (fin : Said → A) where
   -- a text may not end between two words
   turn-ends : (t : Turn) (g : Said) → restTurn fin t g [] ≡ bad []
   unfolding restSeries restQuery restKind restLine
-  turn-ends (Turn.One w) g = word-short (word w) (behindThen fin w g) 0 (word-long w)
-  turn-ends Turn.Series g = values-end _ ∙ word-short (word Word.Find) _ 0 (word-long Word.Find)
+  turn-ends (Turn.One w) g = word-short _ _ 0 (word-long w)
+  turn-ends Turn.Series g = values-end _ ∙ word-short _ _ 0 (word-long Word.Find)
   turn-ends Turn.Kind g = one-ends "raw" "normal" _
-  turn-ends Turn.Query g = values-end _ ∙ word-short (word Word.End) _ 0 (word-long Word.End)
-  turn-ends Turn.Line g = values-end _ ∙ word-short (word Word.LineEnd) _ 0 (word-long Word.LineEnd)
+  turn-ends Turn.Query g = values-end _ ∙ word-short _ _ 0 (word-long Word.End)
+  turn-ends Turn.Line g = values-end _ ∙ word-short _ _ 0 (word-long Word.LineEnd)
 
   -- behind a number comes its turn
   after-turn : (p : Field) (g : Said) → after fin p g ≡ restTurn fin (turnAfter p) g
@@ -253,7 +253,7 @@ module _ {A : Type 0} (fin : Said → A) where
 
   onto : (s : State) (g : Said) (b : ℕ) (t : List ℕ) → GoodState s → Onto Good (rest fin) (moved (lineStep s b) g) b t (restState fin s g (b ∷ t))
   unfolding lineStep wordStep turnStep endStep numberStep rest
-  onto (State.In w k) g b t h = rw (word-moved (reach w k b) (ltb (k + 1) (length (word w))) w g) (word-onto w k b h g t)
+  onto (State.In w k) g b t h = rw (word-moved _ (ltb (k + 1) (length (word w))) w g) (word-onto w k b h g t)
   onto (State.At p m) g b t h =
       let f : ℤ → Rest A = λ z. after fin p (told p z g) in
       on-taken (numStep m b)
@@ -267,10 +267,10 @@ module _ {A : Type 0} (fin : Said → A) where
   -- the text's end
   ends : (s : State) (g : Said) → GoodState s → restState fin s g [] ≡ atRest (acceptState fin s g)
   unfolding numberThen
-  ends (State.In w k) g h = word-short (word w) (behindThen fin w g) k h
+  ends (State.In w k) g h = word-short _ _ k h
   ends (State.At p n) g h =
       on-whole (whole n)
-      (λ z j. rw (j, after-turn p (told p z g)) (turn-ends (turnAfter p) (told p z g)))
+      (λ z j. rw (j, after-turn p _) (turn-ends (turnAfter p) _))
       (λ j. rw j)
   ends (State.Before t) g h = turn-ends t g
   ends State.Done g h = refl
@@ -296,7 +296,7 @@ series-then = simp (lead-then, trail-then)
 
 series-begins : (t : List ℕ) → read seriesForm t ≡ rest seriesValue seriesStart t
 unfolding rest
-series-begins t = read-alone seriesForm t ∙ ap (λ (r : Rest (Value seriesForm)). r t) series-then
+series-begins t = read-alone seriesForm t ∙ rw series-then
 
 program-then : readThen programForm (λ v u. got v u) ≡ wordThen (word Word.Window) (behindThen programValue Word.Window nothingSaid)
 unfolding word bytes behindThen after afterWindow afterWidth afterMerge restSeries restKind afterKind afterBand afterThreshold afterScale afterShift restQuery
@@ -304,7 +304,7 @@ program-then = simp (trail-then, both-then, lead-then, number-then, word-both)
 
 program-begins : (t : List ℕ) → read programForm t ≡ rest programValue programStart t
 unfolding rest
-program-begins t = read-alone programForm t ∙ ap (λ (r : Rest (Value programForm)). r t) program-then
+program-begins t = read-alone programForm t ∙ rw program-then
 
 -- feeding a text, whatever its pieces, comes to what the form says of it
 pub series-comes : (t : List ℕ) → readText seriesForm t ≡ judged (accept seriesValue) (feed step (going seriesStart 0) t)

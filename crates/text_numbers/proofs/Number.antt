@@ -1,5 +1,5 @@
 -- Laws of specs/Number.
-use Rattle.meaning_numbers.proofs.Prelude.{_≡_, refl, true, false, ℕ, suc, _+_, _*_, _-_, _<_, _≤_, _^_, arith, ltb, eqb, ℤ, ltb-true, ltb-false, lt-ltb, le-ltb}
+use Rattle.meaning_numbers.proofs.Prelude.{_≡_, refl, true, false, ℕ, suc, _-_, _<_, _≤_, _^_, arith, ltb, eqb, ℤ, ltb-true, ltb-false, lt-ltb, le-ltb}
 use Rattle.meaning_text.proofs.Reading.{on-flag, false-true}
 use Rattle.text_numbers.specs.{declared.Numeral.Numeral, declared.Taken.Taken, declared.Taken.the-variants.More, declared.Taken.the-variants.Stop, declared.Whole.Whole, declared.Whole.the-variants.Value, declared.Whole.the-variants.Partial, Number.within, Number.fitsBehind, Number.grown, Number.first, Number.numStep, Number.NumGood}
 use Rattle.text_numbers.specs.declared.Numeral.the-variants.{Start, Sign, Zero, Plus, Less}
@@ -8,19 +8,19 @@ use Rattle.text_numbers.specs.declared.Numeral.the-variants.{Start, Sign
 
 pub within-true : (lo hi b : ℕ) → within lo hi b ≡ true → (lo ≤ b) × (b ≤ hi)
 within-true lo hi b e =
-    on-flag (ltb b lo)
+    on-flag _
     (λ t. false-true (rw t at e))
-    (λ f. let g : ltb b (suc hi) ≡ true = rw f at e in (ltb-false b lo f, omega (arith, ltb-true b (suc hi) g)))
+    (λ f. let g : ltb b (suc hi) ≡ true = rw f at e in (ltb-false b lo f, omega (arith, ltb-true b _ g)))
 
 pub within-yes : (lo hi b : ℕ) → lo ≤ b → b ≤ hi → within lo hi b ≡ true
-within-yes lo hi b h k = rw (le-ltb b lo h) (lt-ltb b (suc hi) (omega arith))
+within-yes lo hi b h k = rw (le-ltb b lo h) (lt-ltb b _ (omega arith))
 
 pub within-false : (lo hi b : ℕ) → ((lo ≤ b) × (b ≤ hi) → ⊥) → within lo hi b ≡ false
-within-false lo hi b h = on-flag (within lo hi b) (λ e. absurd (h (within-true lo hi b e))) (λ e. e)
+within-false lo hi b h = on-flag _ (λ e. absurd (h (within-true lo hi b e))) (λ e. e)
 
 pub behind-true : (m b : ℕ) → fitsBehind m b ≡ true → (48 ≤ b) × (b ≤ 57) × (m < 100000000000000000)
 behind-true m b e =
-    on-flag (within 48 57 b)
+    on-flag _
     (λ t. let d = within-true 48 57 b t in (d .0, d .1, ltb-true m 100000000000000000 (rw t at e)))
     (λ f. false-true (rw f at e))
 
@@ -36,13 +36,13 @@ module _ (f : ℕ → Numeral) (good : (m : ℕ) → m < 10 ^ 18 → NumGood (f 
   first-good : (b : ℕ) (n : Numeral) → first f b ≡ More n → NumGood n
   first-good b n e =
       on-flag (within 49 57 b)
-      (λ t. rw (← more-same (rw t at e)) (good (b - 48) (omega (arith, within-true 49 57 b t .1))))
+      (λ t. rw (← more-same (rw t at e)) (good _ (omega (arith, within-true 49 57 b t .1))))
       (λ t. stop-more (rw t at e))
 
   grown-good : (m b : ℕ) (n : Numeral) → grown f m b ≡ More n → NumGood n
   grown-good m b n e =
       on-flag (fitsBehind m b)
-      (λ t. rw (← more-same (rw t at e)) (good (10 * m + (b - 48)) (omega (arith, behind-true m b t .1, behind-true m b t .2))))
+      (λ t. rw (← more-same (rw t at e)) (good _ (omega (arith, behind-true m b t .1, behind-true m b t .2))))
       (λ t. stop-more (rw t at e))
 
 pub good-step : (s : Numeral) (b : ℕ) (n : Numeral) → numStep s b ≡ More n → NumGood n

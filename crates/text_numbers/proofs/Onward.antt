@@ -1,5 +1,5 @@
 -- A number, and then on from there: read byte by byte it comes to what `readℤ` says.
-use Rattle.meaning_numbers.proofs.Prelude.{_≡_, refl, sym, _∙_, fun-ext, List, [], _∷_, true, false, _&&_, ℕ, zero, suc, _+_, _*_, _-_, _<_, _≤_, _^_, pow-le-pow-right, arith, ltb, eqb, ℤ, pos, negℤ, ltb-true, lt-ltb, le-ltb, le-leb}
+use Rattle.meaning_numbers.proofs.Prelude.{_≡_, refl, sym, _∙_, fun-ext, List, [], _∷_, true, false, ℕ, zero, suc, _+_, _*_, _-_, _<_, _≤_, _^_, pow-le-pow-right, arith, eqb, ℤ, pos, negℤ, ltb-true, lt-ltb, le-ltb, le-leb}
 use Rattle.meaning_text.specs.Form.{number, thenRead, read}
 use Rattle.meaning_text.specs.Number.{bad, isDigit, readDigits, readPositive, withSign, readℤ}
 use Rattle.meaning_text.proofs.{Reading.on-flag, Reading.and-true, Reading.false-true, Number.is-digit, Onward.Rest, Onward.readThen}
@@ -39,7 +39,7 @@ left-one : (d : ℕ) → 0 < d → d < 10 → Left d 17
 left-one d h l = record { count = 0; all = refl; low = h; high = l }
 
 left-more : (m d k : ℕ) → d < 10 → Left m (suc k) → Left (10 * m + d) k
-left-more m d k l r = record { count = suc (r .count); all = omega (arith, r .all); low = omega (arith, r .low); high = omega (arith, r .high) }
+left-more m d k l r = record { count = suc (r .count); all = omega arith; low = omega arith; high = omega arith }
 
 left-room : (m k : ℕ) → Left m (suc k) → m < 100000000000000000
 left-room m k r = omega (arith, r .high, pow-le-pow-right {n = 10} (omega arith) {i = suc (r .count)} {j = 17} (omega (arith, r .all)))
@@ -70,10 +70,10 @@ module _ {A : Type 0} (k : ℤ → Rest A) (f : ℕ → Numeral) (g : ℕ → �
   digits-then [] m (suc j) r = rw (is m)
   digits-then (b ∷ t) m zero r = sym (stops m b t (full m b r))
   digits-then (b ∷ t) m (suc j) r =
-      on-flag (isDigit b)
+      on-flag _
       (λ e. let h = is-digit b e in
       let s : grown f m b ≡ More (f (10 * m + (b - 48))) = rw (digit-within b e, lt-ltb m 100000000000000000 (left-room m j r)) in
-      rw (e, readDigits) (digits-then t (10 * m + (b - 48)) j (left-more m (b - 48) j (omega (arith, h .1)) r) ∙ sym (number-more k (f m) b (f (10 * m + (b - 48))) t (steps m b ∙ s))))
+      rw (e, readDigits) (digits-then t _ j (left-more m _ j (omega arith) r) ∙ sym (number-more k (f m) b _ t (steps m b ∙ s))))
       (λ e. rw (e, readDigits) (sym (stops m b t (rw (no-digit-within b e)))))
 
   -- the first digit
@@ -81,13 +81,13 @@ module _ {A : Type 0} (k : ℤ → Rest A) (f : ℕ → Numeral) (g : ℕ → �
     first-then : (b : ℕ) (t : List ℕ) → numStep s b ≡ first f b → thenRead (withSign g (readPositive (b ∷ t))) k ≡ numberThen s k (b ∷ t)
     unfolding readPositive withSign thenRead
     first-then b t e =
-        on-flag (isDigit b && ltb 48 b)
-        (λ h. let i = and-true (isDigit b) (ltb 48 b) h in
+        on-flag _
+        (λ h. let i = and-true _ _ h in
         let d = is-digit b (i .0) in
         let p : 48 < b = ltb-true 48 b (i .1) in
         let q : first f b ≡ More (f (b - 48)) = rw (within-yes 49 57 b (omega arith) (d .1)) in
-        rw (h, readPositive) (digits-then t (b - 48) 17 (left-one (b - 48) (omega arith) (omega (arith, d .1))) ∙ sym (number-more k s b (f (b - 48)) t (e ∙ q))))
-        (λ h. let q : within 49 57 b ≡ false = within-false 49 57 b (λ d. true-false (rw (le-leb 48 b (omega (arith, d .0)), le-leb b 57 (d .1), lt-ltb 48 b (omega (arith, d .0))) at h)) in
+        rw (h, readPositive) (digits-then t _ 17 (left-one _ (omega arith) (omega arith)) ∙ sym (number-more k s b _ t (e ∙ q))))
+        (λ h. let q = within-false 49 57 b (λ d. true-false (rw (le-leb 48 b (omega arith), le-leb b 57 (d .1), lt-ltb 48 b (omega arith)) at h)) in
         rw (h, readPositive) (sym (number-stop k s b t (e ∙ rw q) ∙ rw partial)))
       where
         true-false : true ≡ false → ⊥

@@ -1,5 +1,5 @@
 -- The digits of a number, as the code writes them: those of a tenth of it and the last, and a '-' before those of a negative one.
-use Rattle.meaning_numbers.proofs.Prelude.{_≡_, refl, sym, ap, _∙_, [], _∷_, _++_, ℕ, zero, suc, _+_, _*_, _/_, _%_, _<_, _≤_, _^_, one-le-pow, pow-suc, arith, ℤ, pos, negsuc, natAbs, _≤ℤ_, _<ℤ_, w32, w64, SFits, zarith, decLe, length, length-append}
+use Rattle.meaning_numbers.proofs.Prelude.{_≡_, refl, sym, ap, _∙_, [], _∷_, _++_, ℕ, zero, suc, _+_, _*_, _/_, _%_, _<_, _≤_, _^_, pow-suc, arith, ℤ, pos, negsuc, natAbs, _≤ℤ_, _<ℤ_, w32, w64, SFits, zarith, decLe, length, length-append}
 use Rattle.meaning_text.specs.Number.{spellℕ, spellℤ}
 use Rattle.meaning_text.proofs.Number.{spell-one, spell-more}
 
@@ -19,17 +19,17 @@ spell-plus (negsuc n) h = absurd (omega zarith)
 -- ---- an i32 as an i64
 
 pub sfits-wide : {z : ℤ} → SFits w32 z → SFits w64 z
-sfits-wide {z = pos n} h = record { sfits = omega (arith, h .sfits) }
-sfits-wide {z = negsuc n} h = record { sfits = omega (arith, h .sfits) }
+sfits-wide {z = pos n} h = record { sfits = omega arith }
+sfits-wide {z = negsuc n} h = record { sfits = omega arith }
 
 pub abs-small : {z : ℤ} → SFits w32 z → natAbs z ≤ 2147483648
-abs-small {z = pos n} h = omega (arith, h .sfits)
-abs-small {z = negsuc n} h = omega (arith, h .sfits)
+abs-small {z = pos n} h = omega arith
+abs-small {z = negsuc n} h = omega arith
 
 -- ---- how many digits there are
 
 length-split : (n : ℕ) → 10 ≤ n → length (spellℕ n) ≡ length (spellℕ (n / 10)) + 1
-length-split n h = ap length (spell-split n h) ∙ length-append (spellℕ (n / 10)) ((48 + n % 10) ∷ [])
+length-split n h = ap length (spell-split n h) ∙ length-append (spellℕ _) ((48 + n % 10) ∷ [])
 
 pub length-one : (n : ℕ) → n < 10 → length (spellℕ n) ≡ 1
 length-one n h = ap length (spell-one n h)
@@ -38,9 +38,8 @@ length-one n h = ap length (spell-one n h)
 pub length-between : (k n : ℕ) → 10 ^ k ≤ n → n < 10 ^ suc k → length (spellℕ n) ≡ suc k
 length-between zero n h g = length-one n g
 length-between (suc k) n h g =
-    let o = one-le-pow k 10 (omega arith) in
-    let below = length-between k (n / 10) (omega (arith, pow-suc 10 k)) (omega (arith, pow-suc 10 (suc k))) in
-    omega (arith, below, length-split n (omega (arith, pow-suc 10 k)))
+    let below = length-between k (n / 10) (omega arith) (omega arith) in
+    omega (arith, below, length-split n (omega arith))
 
 pub length-most : (k n : ℕ) → n < 10 ^ suc k → length (spellℕ n) ≤ suc k
 length-most zero n g = omega (arith, length-one n g)

@@ -14,7 +14,7 @@ sets-capped : (l old : List ℕ) (i : ℕ) → sets old (min i (suc (length old)
 sets-capped l old i =
     ⊎-elim
     (λ h. let e : min i (suc (length old)) ≡ i = omega arith in rw e)
-    (λ h. let e : min i (suc (length old)) ≡ suc (length old) = omega arith in rw e (sets-out l old (suc (length old)) (omega arith) ∙ sym (sets-out l old i (omega arith))))
+    (λ h. let e : min i (suc (length old)) ≡ suc (length old) = omega arith in rw e (sets-out l old _ (omega arith) ∙ sym (sets-out l old i (omega arith))))
     (lt-or i (suc (length old)))
 
 pub put-none : (old : List ℕ) (i j : ℕ) → j ≡ min i (suc (length old)) → Put old i [] old j
@@ -23,9 +23,9 @@ put-none old i j e = record { holds = refl; ends = omega arith }
 pub put-then : {a b c l m : List ℕ} {i j k : ℕ} → Put a i l b j → Put b j m c k → Put a i (l ++ m) c k
 put-then {a} {b} {c} {l} {m} {i} {j} {k} p q =
     let len : length b ≡ length a = rw (p .holds) (length-sets a i l) in
-    let len2 : length (sets a i l) ≡ length a = length-sets a i l in
+    let len2 = length-sets a i l in
     record {
-      holds = q .holds ∙ rw (p .holds, p .ends, ← len2) (sets-capped m (sets a i l) (i + length l)) ∙ sym (sets-append l m a i);
+      holds = q .holds ∙ rw (p .holds, p .ends, ← len2) (sets-capped m _ _) ∙ sym (sets-append l m a i);
       ends = q .ends ∙ rw (len, p .ends, length-append l m) (omega arith);
     }
 
@@ -36,7 +36,7 @@ put-out old i b h = record { holds = sym (set-out old i b h); ends = omega arith
 -- where there was room
 pub put-room : {old l new : List ℕ} {i j : ℕ} → Put old i l new j → j ≤ length old → (j ≡ i + length l) × (new ≡ take i old ++ l ++ drop (i + length l) old)
 put-room {old} {l} {new} {i} {j} p h =
-    let e : j ≡ i + length l = omega (arith, p .ends) in
+    let e : j ≡ i + length l = omega arith in
     (e, p .holds ∙ sets-eq l old i (omega arith))
 
 -- a loop's turn: one byte more of a word

@@ -62,20 +62,20 @@ grows-as : {g : Said} {n m : Reading} → n ≡ m → Grows g (n .said) → Grow
 grows-as e h = rw (← e) h
 
 grows : (g : Said) (m : Moved) (n : Reading) → moved m g ≡ some n → Grows g (n .said)
-grows g (Moved.To s) n e = grows-as (some-same e) (record { more = []; rows = sym (append-nil (g .rows)) })
-grows g (Moved.Value s p z) n e = grows-as (some-same e) (record { more = []; rows = told-rows p z g ∙ sym (append-nil (g .rows)) })
+grows g (Moved.To s) n e = grows-as (some-same e) (record { more = []; rows = sym (append-nil _) })
+grows g (Moved.Value s p z) n e = grows-as (some-same e) (record { more = []; rows = told-rows p z g ∙ sym (append-nil _) })
 grows g (Moved.Closed s) n e = grows-as (some-same e) (record { more = (g .low, (g .up, g .runs)) ∷ []; rows = refl })
 grows g Moved.Refuse n e = none-some e
 
 -- the rows so far are the first of the text's
 rows-begin : (l : List ℕ) (x : Reading) (p : ℕ) (v : Value indexForm) → judged accept (feed step (going x p) l) ≡ fine v → (rest : Rs) × (rowsIn v ≡ x .said .rows ++ rest)
 unfolding feed accept step
-rows-begin [] x p v e = ([], sym (ap rowsIn (value-end (x .state) (x .said) p v e)) ∙ sym (append-nil (x .said .rows)))
+rows-begin [] x p v e = ([], sym (ap rowsIn (value-end (x .state) (x .said) p v e)) ∙ sym (append-nil _))
 rows-begin (b ∷ l) x p v e =
-    on-option (step x b)
+    on-option _
     (λ n i.
     let r = rows-begin l n (suc p) v (ap (judged accept) (sym (feed-one step x n b l p i)) ∙ e) in
-    let g = grows (x .said) (indexStep (x .state) b) n i in
+    let g = grows _ (indexStep (x .state) b) n i in
     (g .more ++ r .0, r .1 ∙ ap (λ (q : Rs). q ++ r .0) (g .rows) ∙ append-assoc (x .said .rows) (g .more) (r .0)))
     (λ i. unfit-fine (sym (ap (judged accept) (feed-none step x b l p i)) ∙ e))
 
@@ -93,7 +93,7 @@ told-head Field.Left z g o h = refl
 told-head Field.Right z g o h = refl
 
 head-as : (g : Said) {n m : Reading} → n ≡ m → SameHead g (n .said) → SameHead g (m .said)
-head-as g e h = h ∙ ap (λ (x : Reading). headHeld (value (x .said))) e
+head-as g e h = h ∙ rw e
 
 head-moved : (s : State) (b : ℕ) (g : Said) (m : Moved) (n : Reading) → indexStep s b ≡ m → moved m g ≡ some n → Order (statePart s) g → (g .rows ≡ [] → ⊥) → SameHead g (n .said)
 head-moved s b g (Moved.To q) n i e o h = head-as g (some-same e) refl
@@ -109,11 +109,11 @@ head-stays : (l : List ℕ) (x : Reading) (p : ℕ) (v : Value indexForm) → ju
 unfolding feed accept step
 head-stays [] x p v e g o h = ap headHeld (value-end (x .state) (x .said) p v e)
 head-stays (b ∷ l) x p v e g o h =
-    on-option (step x b)
+    on-option _
     (λ n i.
     let r = grows (x .said) (indexStep (x .state) b) n i in
-    head-moved (x .state) b (x .said) (indexStep (x .state) b) n refl i o h
-    ∙ head-stays l n (suc p) v (ap (judged accept) (sym (feed-one step x n b l p i)) ∙ e) (stays x b n g i) (order-step x b n g o i) (nonempty (x .said .rows) (r .more) (n .said .rows) (r .rows) h))
+    head-moved _ b _ _ n refl i o h
+    ∙ head-stays l n (suc p) v (ap (judged accept) (sym (feed-one step x n b l p i)) ∙ e) (stays x b n g i) (order-step x b n g o i) (nonempty _ (r .more) _ (r .rows) h))
     (λ i. unfit-fine (sym (ap (judged accept) (feed-none step x b l p i)) ∙ e))
 
 -- ---- one line
@@ -151,9 +151,9 @@ line-before s n g h i b l v p e q r = record {
   rest = r .rest;
   tally = r .tally;
   order = r .order;
-  bytes = ap (λ (t : List ℕ). b ∷ t) (r .bytes);
+  bytes = rw (r .bytes);
   place = r .place ∙ omega arith;
-  same = feed-one step (at s g) (at n h) b l i e ∙ r .same;
+  same = feed-one step _ _ b l i e ∙ r .same;
   row = before-row (r .row);
 }
   where
@@ -166,7 +166,7 @@ line-move : (l : List ℕ) (v : Value indexForm) → ((s : State) (g : Said) (i 
     → (s : State) (g : Said) (i b : ℕ) (m : Moved) → indexStep s b ≡ m → GoodState s → Order (statePart s) g → judged accept (feed step (going (at s g) i) (b ∷ l)) ≡ fine v → LineIs s g i (b ∷ l) v (lineFrom s (tallyOf g) i (b ∷ l))
 unfolding step
 line-move l v on s g i b (Moved.To n) e h o j =
-    let q : step (at s g) b ≡ some (at n g) = ap (λ (m : Moved). moved m g) e in
+    let q = ap (λ (m : Moved). moved m g) e in
     subst (LineIs s g i (b ∷ l) v) (sym (line-byte s (tallyOf g) i b l (Moved.To n) e))
     (line-before s n g g i b l v (lineFrom n (tallyOf g) (suc i) l) q refl
     (on n g (suc i) (stays (at s g) b (at n g) h q) (order-step (at s g) b (at n g) h o q) (ap (judged accept) (sym (feed-one step (at s g) (at n g) b l i q)) ∙ j)))
@@ -206,7 +206,7 @@ line-one [] v s g i h o j = record {
   same = refl;
   row = inr (record { rows = refl; all = sym (ap rowsIn (value-end s g i v j)); zeros = refl });
 }
-line-one (b ∷ l) v s g i h o j = line-move l v (line-one l v) s g i b (indexStep s b) refl h o j
+line-one (b ∷ l) v s g i h o j = line-move l v (line-one l v) s g i b _ refl h o j
 
 -- ---- lists
 
@@ -235,7 +235,7 @@ unfolding records allRuns
 record-at [] r b k = let e : k + 0 ≡ k = omega arith in rw e refl
 record-at (x ∷ a) r b k =
     let e : k + length (x .runs) + length (allRuns a) ≡ k + length (x .runs ++ allRuns a) = omega (arith, length-append (x .runs) (allRuns a)) in
-    record-at a r b (k + length (x .runs)) ∙ rw e refl
+    record-at a r b _ ∙ rw e refl
 
 -- zeros behind a list are what stands past its end
 zeros-more : (n k : ℕ) → getD (replicate n zeroRow) k zeroRow ≡ zeroRow
@@ -278,10 +278,10 @@ module _ (t : List ℕ) (v : Value indexForm) (readable : readText indexForm t �
   behind : (k : ℕ) (r : Reached k) (n : Next k r) → n .rest ≡ drop (lineAt t (suc k) .at) t
   behind k r n =
       let i = lineAt t k .at in
-      sym (drop-append-seam (n .read) (n .rest)) ∙ ap (drop (length (n .read))) (sym (n .bytes)) ∙ drop-drop (length (n .read)) i t ∙ ap (λ (m : ℕ). drop m t) (sym (n .place))
+      sym (drop-append-seam (n .read) _) ∙ ap (drop (length (n .read))) (sym (n .bytes)) ∙ drop-drop _ i t ∙ ap (λ (m : ℕ). drop m t) (sym (n .place))
 
   same-next : (k : ℕ) (r : Reached k) (n : Next k r) → feed step (going start 0) t ≡ feed step (going (at (lineAt t (suc k) .state) (n .said)) (lineAt t (suc k) .at)) (drop (lineAt t (suc k) .at) t)
-  same-next k r n = r .same ∙ n .same ∙ ap (feed step (going (at (lineAt t (suc k) .state) (n .said)) (lineAt t (suc k) .at))) (behind k r n)
+  same-next k r n = r .same ∙ n .same ∙ ap (feed step _) (behind k r n)
 
   -- the row that a line closed is the next of the text's
   record Closed (k : ℕ) (r : Reached k) (g : Said) : Type 0 where
@@ -293,9 +293,9 @@ module _ (t : List ℕ) (v : Value indexForm) (readable : readText indexForm t �
   is-closed k r n c =
       let g = c .before in
       let p = lineAt t (suc k) in
-      let j : judged accept (feed step (going (at (p .state) (n .said)) (p .at)) (drop (p .at) t)) ≡ fine v = ap (judged accept) (sym (same-next k r n)) ∙ comes in
-      let b = rows-begin (drop (p .at) t) (at (p .state) (n .said)) (p .at) v j in
-      let a : n .said .rows ≡ r .said .rows ++ ((g .low, (g .up, g .runs)) ∷ []) = ap (λ (x : Said). x .rows) (c .said) ∙ ap (λ (q : Rs). q ++ ((g .low, (g .up, g .runs)) ∷ [])) (c .rows) in
+      let j = ap (judged accept) (sym (same-next k r n)) ∙ comes in
+      let b = rows-begin (drop (p .at) t) (at _ _) (p .at) v j in
+      let a = ap (λ (x : Said). x .rows) (c .said) ∙ ap (λ (q : Rs). q ++ ((g .low, (g .up, g .runs)) ∷ [])) (c .rows) in
       let e : rowsIn v ≡ r .said .rows ++ ((g .low, (g .up, g .runs)) ∷ b .0) = b .1 ∙ ap (λ (q : Rs). q ++ b .0) a ∙ append-assoc (r .said .rows) ((g .low, (g .up, g .runs)) ∷ []) (b .0) in
       let some-row : n .said .rows ≡ [] → ⊥ = λ z. let q : length (r .said .rows) + 1 ≡ 0 = sym (length-append (r .said .rows) ((g .low, (g .up, g .runs)) ∷ [])) ∙ ap length (sym a ∙ z) in omega arith in
       record {
@@ -306,13 +306,13 @@ module _ (t : List ℕ) (v : Value indexForm) (readable : readText indexForm t �
 
   -- after the last row nothing is left
   none-left : (k : ℕ) (r : Reached k) (n : Next k r) → Ends (r .said) (n .said) v (lineAt t (suc k) .row) → drop k (rowsIn v) ≡ []
-  none-left k r n d = cancel (r .said .rows) (drop k (rowsIn v)) [] (sym (r .rows) ∙ d .all ∙ sym (append-nil (r .said .rows)))
+  none-left k r n d = cancel (r .said .rows) _ [] (sym (r .rows) ∙ d .all ∙ sym (append-nil _))
 
   rows-next : (k : ℕ) (r : Reached k) (n : Next k r) → Closes (r .said) (n .said) (lineAt t (suc k) .row) ⊎ Ends (r .said) (n .said) v (lineAt t (suc k) .row) → rowsIn v ≡ n .said .rows ++ drop (suc k) (rowsIn v)
   rows-next k r n (inl c) =
       let g = c .before in
       let w = is-closed k r n c in
-      let a : n .said .rows ≡ r .said .rows ++ ((g .low, (g .up, g .runs)) ∷ []) = ap (λ (x : Said). x .rows) (c .said) ∙ ap (λ (q : Rs). q ++ ((g .low, (g .up, g .runs)) ∷ [])) (c .rows) in
+      let a = ap (λ (x : Said). x .rows) (c .said) ∙ ap (λ (q : Rs). q ++ ((g .low, (g .up, g .runs)) ∷ [])) (c .rows) in
       r .rows ∙ ap (λ (q : Rs). r .said .rows ++ q) (w .left)
       ∙ sym (ap (λ (q : Rs). q ++ drop (suc k) (rowsIn v)) a ∙ append-assoc (r .said .rows) ((g .low, (g .up, g .runs)) ∷ []) (drop (suc k) (rowsIn v)) ∙ ap (λ (q : Rs). r .said .rows ++ ((g .low, (g .up, g .runs)) ∷ q)) (drop-tail (rowsIn v) k (g .low, (g .up, g .runs)) (w .rest) (w .left)))
   rows-next k r n (inr d) =
@@ -343,8 +343,8 @@ module _ (t : List ℕ) (v : Value indexForm) (readable : readText indexForm t �
     made-right : (a : Rs) (r : Value rowForm) (b : Rs) → rowsIn v ≡ a ++ (r ∷ b) → madeBy (headHeld v) a r ≡ record { low = r .0; up = r .1 .0; first = 0 + length (allRuns (map rowSaid a)); runs = length (r .1 .1) }
     made-right a r b e =
         let p = row-placed v head good a r b e in
-        let f : min (rowsFrom (headHeld v) noRows a .runs) 4294967295 ≡ 0 + length (allRuns (map rowSaid a)) = omega (arith, p .first, p .small) in
-        let c : min (runsFrom (headHeld v .windows) noRuns (r .1 .1) .count) 4294967295 ≡ length (r .1 .1) = omega (arith, p .count, p .small) in
+        let f : min (rowsFrom (headHeld v) noRows a .runs) 4294967295 ≡ 0 + length (allRuns (map rowSaid a)) = omega arith in
+        let c : min (runsFrom (headHeld v .windows) noRuns (r .1 .1) .count) 4294967295 ≡ length (r .1 .1) = omega arith in
         rw (p .low, p .up, f, c) refl
 
     by-line : (k : ℕ) (r : Reached k) (n : Next k r) → Closes (r .said) (n .said) (lineAt t (suc k) .row) ⊎ Ends (r .said) (n .said) v (lineAt t (suc k) .row) → lineAt t (suc k) .row ≡ getD recs k zeroRow
@@ -389,7 +389,7 @@ module _ (t : List ℕ) (v : Value indexForm) (readable : readText indexForm t �
         let long : length z ≡ length rows = omega (arith, length-append (take n rows) (replicate (length rows - n) zeroRow), length-take n rows, length-replicate (length rows - n) zeroRow, e, h) in
         ext-getD zeroRow (stored t n z) (recs ++ replicate m zeroRow) (omega (arith, length-stored t n z, long, length-append recs (replicate m zeroRow), length-replicate m zeroRow, h))
         (λ k b. elim (decLe (suc k) n) [
-          | yes l ↦ stored-at n k z l (omega (arith, long, e, h)) ∙ sym (zeros-behind recs m k)
+          | yes l ↦ stored-at n k z l (omega (arith, e, h)) ∙ sym (zeros-behind recs m k)
           | no f ↦
               stored-behind n k z (omega arith) ∙ zeros-behind (take n rows) (length rows - n) k ∙ List·getD-eq-default (take n rows) zeroRow (omega (arith, length-take n rows))
               ∙ sym (zeros-behind recs m k ∙ List·getD-eq-default recs zeroRow (omega (arith, e)))

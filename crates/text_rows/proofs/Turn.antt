@@ -49,7 +49,7 @@ module _ (text : List ℕ) (s₀ : State) (t₀ : Tally) (i₀ : ℕ) where
 
   module _ (s : State) (t : Tally) (i : ℕ) (r : Going s t i) (h : i < length text) where
     turn : (m : Moved) → indexStep s (getD text i 0) ≡ m → lineMoved m s t i (drop (suc i) text) ≡ whole
-    turn m e = sym (line-byte s t i (getD text i 0) (drop (suc i) text) m e) ∙ ap (lineFrom s t i) (sym (drop-cons text i 0 h)) ∙ r .same
+    turn m e = sym (line-byte s t i _ _ m e) ∙ ap (lineFrom s t i) (sym (drop-cons text i 0 h)) ∙ r .same
 
     next : (m : Moved) (n : State) (u : Tally) → indexStep s (getD text i 0) ≡ m → GoodState n → Fits u (i + 1) → lineMoved m s t i (drop (suc i) text) ≡ lineFrom n u (suc i) (drop (suc i) text) → Going n u (i + 1)
     next m n u e g f k =
@@ -57,10 +57,10 @@ module _ (text : List ℕ) (s₀ : State) (t₀ : Tally) (i₀ : ℕ) where
         record { good = g; fits = f; inside = omega arith; same = rw q (sym k ∙ turn m e) }
 
     going-to : (n : State) → indexStep s (getD text i 0) ≡ Moved.To n → Going n t (i + 1)
-    going-to n e = next (Moved.To n) n t e (step-good s (getD text i 0) (Moved.To n) (r .good) e) (same-fits t i (r .fits)) refl
+    going-to n e = next _ n t e (step-good s _ _ (r .good) e) (same-fits t i (r .fits)) refl
 
     going-value : (n : State) (q : Field) (z : ℤ) → indexStep s (getD text i 0) ≡ Moved.Value n q z → Going n (tellTally q z t) (i + 1)
-    going-value n q z e = next (Moved.Value n q z) n (tellTally q z t) e (step-good s (getD text i 0) (Moved.Value n q z) (r .good) e) (tell-fits q z t i (r .fits)) refl
+    going-value n q z e = next _ n _ e (step-good s _ _ (r .good) e) (tell-fits q z t i (r .fits)) refl
 
     going-closed : (n : State) → indexStep s (getD text i 0) ≡ Moved.Closed n → record { state = n; at = i + 1; tally = shutTally t; row = rowMade t } ≡ whole
     going-closed n e = let q : i + 1 ≡ suc i = omega arith in rw q (turn (Moved.Closed n) e)
@@ -90,7 +90,7 @@ module _ (text : List ℕ) (s₀ : State) (t₀ : Tally) (i₀ : ℕ) where
     line-value n p z j e = value-keeps tellTally text Going going-to going-value t e r
 
     pub line-closed : (n : State) (j : ℕ) → EventAt text s i (Event.Closed n j) → record { state = n; at = j; tally = shutTally t; row = rowMade t } ≡ whole
-    line-closed n j e = rw (e .next) (going-closed (e .last) t (e .place) (quiet (e .quiet)) (e .inside) n (e .ends))
+    line-closed n j e = rw (e .next) (going-closed (e .last) t _ (quiet (e .quiet)) (e .inside) n (e .ends))
 
     pub line-refuse : (n : State) (j : ℕ) → EventAt text s i (Event.Refuse n j) → lineEnd n j t ≡ whole
     line-refuse n j e = going-refuse n t j (quiet (e .0)) (e .1) (e .2)
@@ -105,24 +105,24 @@ one-more t i f = subst (Fits t) (add-one i) f
 
 ready-move : (n : ℕ) (l : List ℕ) → ((s : State) (t : Tally) (i : ℕ) → i + length l ≡ n → GoodState s → Fits t i → Ready n (lineFrom s t i l))
     → (s : State) (t : Tally) (i b : ℕ) (m : Moved) → indexStep s b ≡ m → i + suc (length l) ≡ n → GoodState s → Fits t i → Ready n (lineMoved m s t i l)
-ready-move n l on s t i b (Moved.To q) e h g f = on q t (suc i) (omega arith) (step-good s b (Moved.To q) g e) (one-more t i (same-fits t i f))
-ready-move n l on s t i b (Moved.Value q p z) e h g f = on q (tellTally p z t) (suc i) (omega arith) (step-good s b (Moved.Value q p z) g e) (one-more (tellTally p z t) i (tell-fits p z t i f))
-ready-move n l on s t i b (Moved.Closed q) e h g f = record { good = step-good s b (Moved.Closed q) g e; fits = one-more (shutTally t) i (shut-fits t i f); inside = omega arith }
+ready-move n l on s t i b (Moved.To q) e h g f = on q t (suc i) (omega arith) (step-good s b _ g e) (one-more t i (same-fits t i f))
+ready-move n l on s t i b (Moved.Value q p z) e h g f = on q _ (suc i) (omega arith) (step-good s b _ g e) (one-more _ i (tell-fits p z t i f))
+ready-move n l on s t i b (Moved.Closed q) e h g f = record { good = step-good s b _ g e; fits = one-more _ i (shut-fits t i f); inside = omega arith }
 ready-move n l on s t i b Moved.Refuse e h g f = record { good = g; fits = f; inside = omega arith }
 
 ready-from : (n : ℕ) (l : List ℕ) (s : State) (t : Tally) (i : ℕ) → i + length l ≡ n → GoodState s → Fits t i → Ready n (lineFrom s t i l)
 unfolding lineFrom
 ready-from n [] s t i h g f = record { good = g; fits = f; inside = omega arith }
-ready-from n (b ∷ l) s t i h g f = subst (Ready n) (sym (line-byte s t i b l (indexStep s b) refl)) (ready-move n l (ready-from n l) s t i b (indexStep s b) refl h g f)
+ready-from n (b ∷ l) s t i h g f = subst (Ready n) (sym (line-byte s t i b l _ refl)) (ready-move n l (ready-from n l) s t i b _ refl h g f)
 
 pub next-ready : (text : List ℕ) (p : Line) → Ready (length text) p → Ready (length text) (nextLine text p)
 unfolding nextLine
-next-ready text p r = ready-from (length text) (drop (p .at) text) (p .state) (p .tally) (p .at) (omega (arith, length-drop (p .at) text, r .inside)) (r .good) (r .fits)
+next-ready text p r = ready-from _ _ _ _ (p .at) (omega (arith, length-drop (p .at) text, r .inside)) (r .good) (r .fits)
 
 pub line-ready : (text : List ℕ) (k : ℕ) → Ready (length text) (lineAt text k)
 unfolding lineAt
 line-ready text zero = record { good = index-good; fits = start-fits; inside = omega arith }
-line-ready text (suc k) = next-ready text (lineAt text k) (line-ready text k)
+line-ready text (suc k) = next-ready text _ (line-ready text k)
 
 -- ---- the records
 

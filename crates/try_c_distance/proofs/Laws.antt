@@ -11,14 +11,14 @@ module _ {A : Type 0} {x : A} {P : ℕ → A → Type 0} where
 
   pub written-more : {n : ℕ} {old new : List A} (v : A) → Written x P n old new → n < length old → P n v → Written x P (n + 1) old (set new n v)
   written-more {n} {old} {new} v w room h =
-      let here : n < length new = omega (arith, w .long) in record {
+      let here : n < length new = omega arith in record {
         long = length-set new n v ∙ w .long;
         made = below-more _ n (λ j l. subst (P j) (sym (getD-set-other new n j v x (λ e. omega arith))) (w .made j l)) (subst (P n) (sym (getD-set-same new n v x here)) h);
         rest = λ j l. getD-set-other new n j v x (λ e. omega arith) ∙ w .rest j (omega arith);
       }
 
   pub written-all : {n k : ℕ} {old new : List A} → n ≡ k → Written x P n old new → Written x P k old new
-  written-all {old = old} {new} e w = subst (λ (i : ℕ). Written x P i old new) e w
+  written-all {old = old} {new} e w = rw e at w
 
 -- ---- the two outcomes
 
@@ -44,4 +44,4 @@ normal-next {s} {m} {n} a h = record {
 }
 
 pub normal-all : {s : List ℤ} {m n k : ℕ} {old new : List ℤ} → n ≡ k → LastNormal s m n old new → LastNormal s m k old new
-normal-all {s} {m} {old = old} {new} e a = subst (λ (i : ℕ). LastNormal s m i old new) e a
+normal-all {s} {m} {old = old} {new} e a = rw e at a

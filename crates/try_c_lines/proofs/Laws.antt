@@ -33,9 +33,8 @@ module _ (program : Bool) (text : List ℕ) {numbers₀ series₀ query₀ numbe
     shows = λ h.
         let k = end - p .at in
         let e : p .at + k ≡ end = omega arith in
-        let s = shows-then series₀ query₀ p (feed step (going (startOf program) 0) (take (p .at) text)) (take k (drop (p .at) text)) numbers series query r numbers' series' query' (c .shows h) (λ g. d g series₀ query₀) in
-        let q : feed step (feed step (going (startOf program) 0) (take (p .at) text)) (take k (drop (p .at) text)) ≡ feed step (going (startOf program) 0) (take end text)
-        = sym (feed-append step (take (p .at) text) (take k (drop (p .at) text)) (going (startOf program) 0)) ∙ ap (feed step (going (startOf program) 0)) (sym (take-add (p .at) k text) ∙ ap (λ (n : ℕ). take n text) e) in
+        let s = shows-then series₀ query₀ p (feed step _ (take (p .at) text)) _ numbers series query r numbers' series' query' (c .shows h) (λ g. d g series₀ query₀) in
+        let q = sym (feed-append step (take (p .at) text) _ _) ∙ ap (feed step (going (startOf program) 0)) (sym (take-add (p .at) k text) ∙ ap (λ (n : ℕ). take n text) e) in
         rw q at s;
   }
 
@@ -44,8 +43,8 @@ pub failed-comes : (program : Bool) (text : List ℕ) {numbers series query numb
     → Comes program text numbers series query (Feeding.Failed m) numbers' series' query'
 failed-comes program text {series = series} {query} {numbers'} {series'} {query'} end m c = record {
   shows = λ h.
-      let s = shows-failed series query m (feed step (going (startOf program) 0) (take end text)) (drop end text) numbers' series' query' numbers' series' query' (c .shows h) in
-      rw (sym (feed-append step (take end text) (drop end text) (going (startOf program) 0)) ∙ ap (feed step (going (startOf program) 0)) (take-append-drop end text)) at s;
+      let s = shows-failed series query m (feed step _ (take end text)) (drop end text) numbers' series' query' numbers' series' query' (c .shows h) in
+      rw (sym (feed-append step (take end text) _ _) ∙ ap (feed step (going (startOf program) 0)) (take-append-drop end text)) at s;
 }
 
 -- ---- the whole text
@@ -58,7 +57,7 @@ module _ (f : Form) (value : Said → Value f) (start : Reading) (comes : (t : L
   text-end p State.Done e c = let d = text-done f value start comes series query text numbers' series' query' p e c in says (d .0) (d .1) refl (d .2)
 
   text-told : (r : Feeding) → Shows series query r (feed step (going start 0) text) numbers' series' query' → TextTold f value text series query (answerTold text r) numbers' series' query'
-  text-told (Feeding.Going p) c = text-end p (p .state) refl c
+  text-told (Feeding.Going p) c = text-end p _ refl c
   text-told (Feeding.Failed m) c = bad m (text-failed f value start comes series query text numbers' series' query' m c) refl
 
 -- what is told of what a text comes to
@@ -73,7 +72,7 @@ begun-stands true n = record { good = word-long Word.Window; series = omega arit
 begun-stands false n = record { good = word-long Word.Line; series = omega arith; query = omega arith; inside = omega arith }
 
 pub begins : {p : Progress} (program : Bool) (text : List ℕ) (numbers series query : List ℤ) → p ≡ begun program → Stands (length text) p × Comes program (take (p .at) text) numbers series query (Feeding.Going p) numbers series query
-begins program text numbers series query e = rw e (begun-stands program (length text), begun-comes program text numbers series query)
+begins program text numbers series query e = rw e (begun-stands program _, begun-comes program text numbers series query)
 
 module _ {program : Bool} {text : List ℕ} {numbers₀ series₀ query₀ numbers series query numbers' series' query' : List ℤ} {p : Progress} {r : Feeding} {end : ℕ}
     (c : Comes program (take (p .at) text) numbers₀ series₀ query₀ (Feeding.Going p) numbers series query) (f : Piece text end p r numbers series query numbers' series' query') (l : p .at ≤ end) where
@@ -83,7 +82,7 @@ module _ {program : Bool} {text : List ℕ} {numbers₀ series₀ query₀ numbe
   pub goes-on : {n : Progress} → r ≡ Feeding.Going n → end ≤ length text → Stands (length text) n × Comes program (take (n .at) text) numbers₀ series₀ query₀ (Feeding.Going n) numbers' series' query'
   goes-on {n} e i =
       let g = rw e at (f .good) in
-      (record { good = g .0; series = g .1; query = g .2; inside = omega (arith, g .3) }, subst (λ (k : ℕ). Comes program (take k text) numbers₀ series₀ query₀ (Feeding.Going n) numbers' series' query') (sym (g .3)) (rw e at fed-comes))
+      (record { good = g .0; series = g .1; query = g .2; inside = omega arith }, subst (λ (k : ℕ). Comes program (take k text) numbers₀ series₀ query₀ (Feeding.Going n) numbers' series' query') (sym (g .3)) (rw e at fed-comes))
 
   pub fails : {m : ℕ} → r ≡ Feeding.Failed m → Comes program text numbers₀ series₀ query₀ (Feeding.Failed m) numbers' series' query'
   fails {m} e = failed-comes program text end m (rw e at fed-comes)

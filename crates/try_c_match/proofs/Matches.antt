@@ -1,5 +1,5 @@
 -- A match is told as it is: its distance is small (`distance-small`), so that one more does not wrap (`told-wrapped`).
-use Rattle.meaning_numbers.proofs.Prelude.{_≡_, refl, sym, subst, Bool, true, false, List, ℕ, _+_, _-_, _<_, _≤_, arith, mul-le-mul-right, T, ℤ, length}
+use Rattle.meaning_numbers.proofs.Prelude.{_≡_, refl, sym, Bool, true, false, List, ℕ, _+_, _-_, _<_, _≤_, arith, mul-le-mul-right, T, ℤ, length}
 use Rattle.meaning_curves.specs.{Curve.at, Curve.stretch, Match.distance}
 use Rattle.meaning_curves.proofs.{Values.InLimits, Values.AllIn, Values.cost-le, Grid.path-small, Table.warped-is, Straight.distance-is, Match.normal-yes}
 use Rattle.meaning_filter.specs.{declared.Kind.Kind, declared.Kind.the-variants.Raw, declared.Kind.the-variants.Normal, declared.Limits.Limits, Matches.matches, Matches.distanceTo}
@@ -26,11 +26,11 @@ module _ {s q curve : List ℤ} (j : ℕ) (l : Limits) (h : AllIn s) (some : 0 <
 
   pub told-wrapped : (kind : Kind) → IsCurve kind q curve → wrapped (matched kind (stretch s j) (at q) (length q) l) ≡ toldMatch (matched kind (stretch s j) (at q) (length q) l)
   unfolding matched matches distanceTo
-  told-wrapped Raw c = wrapped-small (matches Raw (stretch s j) (at q) (length q) l) _ (λ t. distance-small (stretch s j) (at q) (l .band) (length q) some short (λ x u. h .at (j + x)) (query-in Raw c))
+  told-wrapped Raw c = wrapped-small (matches Raw (stretch s j) (at q) (length q) l) _ (λ t. distance-small _ (at q) (l .band) _ some short (λ x u. h .at (j + x)) (query-in Raw c))
   told-wrapped Normal c =
       wrapped-small (matches Normal (stretch s j) (at q) (length q) l) _
       (λ t. let y = normal-yes (stretch s j) (at q) (length q) (l .band) (l .threshold) (l .scale) (l .shift) t in
-      distance-small _ _ (l .band) (length q) some short (λ x u. value-in (stretch s j) (length q) x (y .not-flat) u short) (query-in Normal c))
+      distance-small _ _ (l .band) _ some short (λ x u. value-in (stretch s j) _ x (y .not-flat) u short) (query-in Normal c))
 
 pub of-kind : {k kind : Kind} {s q : List ℤ} {l : Limits} {b b' : MatchBuffers} {r : ℕ} → k ≡ kind → MatchesTold k s q l b r b' → MatchesTold kind s q l b r b'
-of-kind {s = s} {q} {l} {b} {b'} {r} e t = subst (λ (k : Kind). MatchesTold k s q l b r b') e t
+of-kind {s = s} {q} {l} {b} {b'} {r} e t = rw e at t

@@ -12,7 +12,7 @@ use Rattle.values.specs.Sums.{AreSums}
 
 pub sums-le : {s : List ℤ} {from m p w : ℕ} → AllIn s → AreSums s from m p w → (p ≤ 20000 * m) × (w ≤ 400000000 * m)
 sums-le {s} {from} {m} h a = (
-  omega (arith, a .values, Σℕ-le m 20000 (λ k. raised (stretch s from k)) (λ k l. raised-le (h .at (from + k)))),
+  omega (arith, a .values, Σℕ-le m 20000 (λ k. raised (stretch s from k)) (λ k l. raised-le (h .at _))),
   omega (arith, a .squares, Σℕ-le m 400000000 (λ k. square (raised (stretch s from k))) (λ k l. omega (arith, sq-le (raised-le (h .at (from + k)))))),
 )
 
@@ -21,25 +21,24 @@ sums-le {s} {from} {m} h a = (
 pub sum-raised : {s : List ℤ} (from m : ℕ) → AllIn s → Rep (Σℤ m (stretch s from)) (Σℕ m (λ k. raised (stretch s from k))) (10000 * m)
 unfolding Σℤ Σℕ
 sum-raised from zero h = rep-by (rep-pos 0) (omega arith)
-sum-raised from (suc m) h = rep-by (rep-add (sum-raised from m h) (raised-is (h .at (from + m)))) (omega arith)
+sum-raised from (suc m) h = rep-by (rep-add (sum-raised from m h) (raised-is (h .at _))) (omega arith)
 
 squares-raised : {s : List ℤ} (from m : ℕ) → AllIn s → Rep (Σℤ m (λ k. stretch s from k *ℤ stretch s from k))
     (Σℕ m (λ k. square (raised (stretch s from k))) + 100000000 * m) (20000 * Σℕ m (λ k. raised (stretch s from k)))
 unfolding Σℤ Σℕ
 squares-raised from zero h = rep-by (rep-pos 0) (omega arith)
 squares-raised from (suc m) h =
-    let x = raised-is (h .at (from + m)) in
+    let x = raised-is (h .at _) in
     rep-by (rep-add (squares-raised from m h) (rep-mul x x)) (omega arith)
 
 pub spread-raised : {s : List ℤ} {from m p w : ℕ} → AllIn s → AreSums s from m p w → spread (stretch s from) m + p * p ≡ m * w
 spread-raised {s} {from} {m} {p} {w} h a =
-    let P = Σℕ m (λ k. raised (stretch s from k)) in
-    let e = eq-rep (rep-pos (spread (stretch s from) m)) (rep-sub (rep-mul (rep-pos m) (squares-raised from m h)) (rep-mul (sum-raised from m h) (sum-raised from m h))) (spread-is (stretch s from) m) in
+    let e = eq-rep (rep-pos _) (rep-sub (rep-mul (rep-pos m) (squares-raised from m h)) (rep-mul (sum-raised from m h) (sum-raised from m h))) (spread-is (stretch s from) m) in
     rw (a .values, a .squares) (omega arith)
 
 pub centred-raised : {s : List ℤ} {from m p w : ℕ} (k : ℕ) → AllIn s → AreSums s from m p w → Rep (centred (stretch s from) m k) (m * raised (stretch s from k)) p
 centred-raised {from = from} {m} {p} k h a =
-    rep-by (rep-sub (rep-mul (rep-pos m) (raised-is (h .at (from + k)))) (sum-raised from m h)) (omega (arith, a .values))
+    rep-by (rep-sub (rep-mul (rep-pos m) (raised-is (h .at _))) (sum-raised from m h)) (omega arith)
 
 -- ---- the sums of the next stretch
 

@@ -11,7 +11,7 @@ use Rattle.values.proofs.SumsLaws.{sum-raised}
 module _ {s : List ℤ} (w j : ℕ) (h : AllIn s) where
   pub window-raised : pos (Σℕ w (λ k. raised (stretch s j k))) -ℤ pos (10000 * w) ≡ windowSum s w j
   unfolding windowSum
-  window-raised = rep-eq (rep-sub (rep-pos (Σℕ w (λ k. raised (stretch s j k)))) (rep-pos (10000 * w))) (sum-raised j w h) (omega arith)
+  window-raised = rep-eq (rep-sub (rep-pos _) (rep-pos (10000 * w))) (sum-raised j w h) (omega arith)
 
   pub window-small : (up (windowSum s w j) ≤ dn (windowSum s w j) + 10000 * w) × (dn (windowSum s w j) ≤ up (windowSum s w j) + 10000 * w)
   unfolding windowSum
@@ -51,17 +51,17 @@ unfolding windowSum Σℤ
 window-last s w j = let e : w + 1 ≡ suc w = omega arith in rw e
 
 pub but-last : (s : List ℤ) (w j : ℕ) → windowSum s (w + 1) j -ℤ at s (j + w) ≡ windowSum s w j
-but-last s w j = rw (← window-last s w j) (rep-eq (rep-sub (rep-add (rep-self (windowSum s w j)) (rep-self (at s (j + w)))) (rep-self (at s (j + w)))) (rep-self (windowSum s w j)) (omega arith))
+but-last s w j = rw (← window-last s w j) (rep-eq (rep-sub (rep-add (rep-self (windowSum s w j)) (rep-self _)) (rep-self (at s (j + w)))) (rep-self _) (omega arith))
 
 -- the first goes out, and one comes in behind the last
 pub moved-on : (s : List ℤ) (w j : ℕ) → windowSum s w j -ℤ at s j +ℤ at s (j + w) ≡ windowSum s w (j + 1)
 moved-on s w j =
     let W = windowSum s w j in
-    rep-eq (rep-add (rep-sub (rep-self W) (rep-self (at s j))) (rep-self (at s (j + w)))) (rep-self (windowSum s w (j + 1)))
+    rep-eq (rep-add (rep-sub (rep-self W) (rep-self (at s j))) (rep-self _)) (rep-self _)
     (omega (arith, z-eq (window-next s w j), z-add (windowSum s w (j + 1)) (at s j), z-add W (at s (j + w))))
 
 pub but-first : (s : List ℤ) (w j : ℕ) → windowSum s (w + 1) j -ℤ at s j ≡ windowSum s w (j + 1)
 but-first s w j =
     let W = windowSum s (w + 1) j in
-    rep-eq (rep-sub (rep-self W) (rep-self (at s j))) (rep-self (windowSum s w (j + 1)))
+    rep-eq (rep-sub (rep-self W) (rep-self (at s j))) (rep-self _)
     (omega (arith, z-eq (window-next s w j), z-add (windowSum s w (j + 1)) (at s j), z-eq (window-last s w j), z-add (windowSum s w j) (at s (j + w))))

@@ -1,4 +1,4 @@
--- `build_lay::clear_runs` meets its contract.
+-- `clear_runs` meets its contract.
 use borrow.Author.Needs.{needs}
 use Rattle.clear.proofs.Clear.{cleared-zero}
 use Rattle.build_lay.proofs.clear_runs.Statement.{statement}

@@ -1,4 +1,4 @@
--- `build_lay::lay_out_by` meets its contract.
+-- `lay_out_by` meets its contract.
 use Prim.Native.Nat.{ℕ}
 use borrow.Author.Needs.{needs}
 use lib.ListN.{length}

@@ -1,4 +1,4 @@
--- `build_merge::count_names` meets its contract. The invariant: k of the first t names are in the range.
+-- `count_names` meets its contract. The invariant: k of the first t names are in the range.
 use Rattle.meaning_numbers.specs.Sum.{count}
 use Rattle.meaning_numbers.proofs.Count.{count-none, count-more, bit-true, bit-false}
 use Rattle.meaning_numbers.proofs.Prelude.{_≡_, sym, ap, _∙_, ℕ, _+_, _-_, _≤_, arith, needs}
@@ -12,16 +12,13 @@ Inv-loop names first n lo hi k₀ t₀ k t = (k ≤ t) × (t ≤ n) × (k ≡ co
 abbrev μ-loop : tie.MeasureT-loop
 μ-loop names first n lo hi k₀ t₀ k t = n - t
 
-loop-holds : tie.Need-loop-holds Inv-loop μ-loop
-loop-holds c = (omega arith, omega arith, sym (count-none _))
-
 loop-again : tie.Need-loop-again Inv-loop μ-loop
 unfolding namesOf
 loop-again c =
     let l = c .before .before .before .before in
     let a = l .before .before .args in
     let p = namesOf (a .names .now) (a .first) (a .lo) (a .hi) in
-    (omega arith, omega arith, ap (λ (x : ℕ). x + 1) (l .loop .inv .2) ∙ sym (count-more p (l .loop .t) ∙ ap (λ (x : ℕ). count p (l .loop .t) + x) (bit-true (sym (c .before .in-range .ensures) ∙ c .if1 .taken))))
+    (omega arith, omega arith, ap (λ (x : ℕ). x + 1) (l .loop .inv .2) ∙ sym (count-more p _ ∙ rw (bit-true (sym (c .before .in-range .ensures) ∙ c .if1 .taken))))
 
 loop-again-2 : tie.Need-loop-again-2 Inv-loop μ-loop
 unfolding namesOf
@@ -35,11 +32,11 @@ returns : tie.Need-returns Inv-loop μ-loop
 returns c =
     let l = c .before in
     let a = l .before .before .args in
-    let e : l .loop .t ≡ a .n = omega (arith, c .loop-test .left, l .loop .inv .1) in
+    let e : l .loop .t ≡ a .n = omega arith in
     (rw e at (l .loop .inv .2), omega arith)
 
 pub count-names-spec : {M : Type 1} → statement M
 count-names-spec =
-    tie.close (tie.spec Inv-loop μ-loop loop-holds (λ c. search needs) (λ c. search needs) (λ c. search needs)
+    tie.close (tie.spec Inv-loop μ-loop (λ c. (omega arith, omega arith, sym (count-none _))) (λ c. search needs) (λ c. search needs) (λ c. search needs)
     (λ c. omega (arith, c .shared-slice-known2 .given (c .before .before .before .before .args .first + c .before .before .loop .t))) (λ c κs. search needs) (λ c. omega arith) (λ c. omega arith)
     (λ c. omega arith) loop-again (λ c. omega arith) (λ c. omega arith) loop-again-2 returns)

@@ -1,4 +1,4 @@
--- `build_names::name_of` meets its contract: there is a window where as many values follow.
+-- `name_of` meets its contract: there is a window where as many values follow.
 use Rattle.meaning_numbers.proofs.Prelude.{needs, lt-ltb, le-ltb, arith}
 use Rattle.meaning_curves.specs.Curve.{windowCount}
 use Rattle.build_names.specs.Places.{nameFor}

@@ -1,4 +1,4 @@
--- `build_parts::file_entry` meets its contract: the row's part of both columns is lent to its writer.
+-- `file_entry` meets its contract: the row's part of both columns is lent to its writer.
 use Rattle.meaning_numbers.proofs.Prelude.{needs}
 use Rattle.build_parts.proofs.{Lent.entry-room, Lent.left-back, Lent.right-back, file_entry.Statement.statement}
 use Rattle.build_parts.proofs.file_entry.Tie as tie

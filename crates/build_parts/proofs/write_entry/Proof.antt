@@ -1,4 +1,4 @@
--- `build_parts::write_entry` meets its contract.
+-- `write_entry` meets its contract.
 use Rattle.meaning_numbers.proofs.Prelude.{needs, lt-ltb, le-ltb, refl, arith, zero-add, length-set}
 use Rattle.meaning_rows.proofs.Cursors.{fileRight}
 use Rattle.build_parts.specs.Part.{writtenIn}

@@ -1,4 +1,4 @@
--- `build_plan::make_plan` meets its contract: refused, or the bias by the row width.
+-- `make_plan` meets its contract: refused, or the bias by the row width.
 use Rattle.meaning_numbers.proofs.Prelude.{needs, _≡_, refl, ap, _∙_, ℕ, min, arith}
 use Rattle.meaning_entries.specs.Build.{lentBuild, buildLines}
 use Rattle.refusals.specs.Refusal.{refusalOf, passes}

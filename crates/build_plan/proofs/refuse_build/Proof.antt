@@ -1,4 +1,4 @@
--- `build_plan::refuse_build` meets its contract: each test is a line of the table.
+-- `refuse_build` meets its contract: each test is a line of the table.
 use Rattle.meaning_numbers.proofs.Prelude.{needs}
 use Rattle.meaning_entries.specs.Refusal.{windowOutside, widthOutside, mergeOutside}
 use Rattle.refusals.proofs.RefusalLaws.{line-before, series-before}

@@ -1,4 +1,4 @@
--- `candidate_counts::collect` meets its contract: the runs written, cleared behind (`handed`).
+-- `collect` meets its contract: the runs written, cleared behind (`handed`).
 use Rattle.meaning_numbers.proofs.Prelude.{needs}
 use Rattle.meaning_entries.specs.Buffers.{filled}
 use Rattle.clear.specs.Clear.{clearedFrom}
@@ -6,7 +6,7 @@ use Rattle.candidate_counts.proofs.{Handed.handed, collect.Statement.st
 use Rattle.candidate_counts.proofs.collect.Tie as tie
 
 abbrev start : tie.After-write-runs → tie.Start
-start c = c .before .before .before .before .before .before .before
+start c = (search needs)
 
 returns : tie.Need-returns
 unfolding filled clearedFrom
@@ -14,7 +14,7 @@ returns c =
     let two = c .before .before .before .before .before .before in
     let one = two .before .before .before .before in
     let o = one .before .before .before .before .before .before in
-    (handed (o .write-runs .ensures) (start o .pre .1) (start o .pre .2) (one .clear-u32 .ensures) (two .clear-u322 .ensures), c .before .before .clear-u16 .ensures)
+    (handed (o .write-runs .ensures) (start o .pre .1) (start o .pre .2) (one .clear-u32 .ensures) (two .clear-u322 .ensures), search needs)
 
 pub collect-spec : {M : Type 1} → statement M
 collect-spec = tie.close (tie.spec (λ c κs. search needs) (λ c κs. search needs) (λ c κs. search needs) (λ c κs. search needs) (λ c. search needs) (λ c. search needs) (λ c. search needs) returns)

@@ -1,4 +1,4 @@
--- `candidate_counts::count_at` meets its contract. The invariant: the count so far.
+-- `count_at` meets its contract. The invariant: the count so far.
 use mir.Val.{boolByte}
 use Rattle.meaning_numbers.specs.Sum.{count}
 use Rattle.meaning_numbers.proofs.Count.{flag-bit, count-none, count-more, count-le}

@@ -1,4 +1,4 @@
--- `candidate_counts::put` meets its contract.
+-- `put` meets its contract.
 use Rattle.meaning_numbers.specs.Sum.{bit}
 use Rattle.meaning_numbers.proofs.Count.{bit-true}
 use Rattle.meaning_numbers.proofs.Prelude.{needs, not-true, not-false, _≡_, refl, true, not, _&&_, arith}
@@ -8,12 +8,12 @@ use Rattle.candidate_counts.proofs.put.Tie as tie
 
 -- the offset is taken in
 taken : (c : tie.Else1) → c .before .args .here ≡ true
-taken c = not-false (c .before .args .here) (c .if1 .left)
+taken c = not-false _ (c .if1 .left)
 
 -- and begins a run
 one : (c : tie.Else2) → bit (c .before .before .args .here && not (c .before .before .args .prev)) ≡ 1
 unfolding bit
-one c = rw (taken (c .before), c .if2 .left)
+one c = rw (taken _, c .if2 .left)
 
 returns : tie.Need-returns
 unfolding bit putLeft putRight
@@ -21,11 +21,11 @@ returns c = rw (not-true (c .before .args .here) (c .if1 .taken)) (omega arith, 
 
 returns-2 : tie.Need-returns-2
 unfolding bit putLeft putRight
-returns-2 c = rw (taken (c .before), c .if2 .taken) (omega arith, (refl, refl))
+returns-2 c = rw (taken _, c .if2 .taken) (omega arith, (refl, refl))
 
 returns-3 : tie.Need-returns-3
 unfolding bit putLeft putRight
-returns-3 c = rw (taken (c .before), c .if2 .left) (omega arith, (refl, refl))
+returns-3 c = rw (taken _, c .if2 .left) (omega arith, (refl, refl))
 
 pub put-spec : {M : Type 1} → statement M
 put-spec =

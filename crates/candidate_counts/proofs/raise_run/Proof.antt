@@ -1,4 +1,4 @@
--- `candidate_counts::raise_run` meets its contract. The invariant: the places passed are raised (`raise-more`).
+-- `raise_run` meets its contract. The invariant: the places passed are raised (`raise-more`).
 use Rattle.meaning_numbers.proofs.Prelude.{_-_, _<_, _≤_, max, arith, length}
 use Rattle.candidate_counts.specs.Raise.{between, Raised}
 use Rattle.candidate_counts.proofs.{Raise.raise-starts, Raise.raise-more, Raise.raise-ends, raise_run.Statement.statement}
@@ -10,26 +10,23 @@ Inv-loop scratch₀ from to part j₀ scratch j = (from ≤ j) × (j ≤ max fro
 abbrev μ-loop : tie.MeasureT-loop
 μ-loop scratch₀ from to part j₀ scratch j = to - j
 
-loop-holds : tie.Need-loop-holds Inv-loop μ-loop
-loop-holds c = let a = c .before .args in (omega arith, omega arith, raise-starts (a .part) (a .from) (a .scratch .now))
-
 inside : (l : tie.In-loop Inv-loop μ-loop) → l .before .loop .j < length (l .before .loop .scratch)
-inside l = omega (arith, l .before .loop .inv .2 .long, l .before .before .before .pre .0, l .loop-test .taken)
+inside l = omega arith
 
 loop-again : tie.Need-loop-again Inv-loop μ-loop
 loop-again c =
     let l = c .before .before .before in
     let a = l .before .before .args in
-    (omega (arith, l .loop .inv .0), omega (arith, c .before .before .loop-test .taken), raise-more (a .part) (a .from) (l .loop .j) (c .bumped .result) (a .scratch .now) (l .loop .scratch) (l .loop .inv .0) (inside (c .before .before)) (l .loop .inv .2) (c .bumped .ensures))
+    (omega arith, omega arith, raise-more _ _ _ (c .bumped .result) _ (l .loop .scratch) (l .loop .inv .0) (inside (c .before .before)) (l .loop .inv .2) (c .bumped .ensures))
 
 returns : tie.Need-returns Inv-loop μ-loop
 returns c =
     let l = c .before in
     let a = l .before .before .args in
-    raise-ends (a .part) (a .from) (l .loop .j) (a .to) (a .scratch .now) (l .loop .scratch) (c .loop-test .left) (l .loop .inv .1) (l .loop .inv .2)
+    raise-ends _ _ (l .loop .j) (a .to) _ _ (c .loop-test .left) (l .loop .inv .1) (l .loop .inv .2)
 
 pub raise-run-spec : {M : Type 1} → statement M
 raise-run-spec =
-    tie.close (tie.spec Inv-loop μ-loop loop-holds (λ c. omega (arith, inside c)) (λ c. inside (c .before)) (λ c κs. c .before .before .before .before .pre .1)
-    (λ c. omega (arith, inside (c .before .before))) (λ c. inside (c .before .before)) (λ c. omega (arith, inside (c .before .before))) (λ c. omega (arith, c .before .before .loop-test .taken))
+    tie.close (tie.spec Inv-loop μ-loop (λ c. let a = c .before .args in (omega arith, omega arith, raise-starts (a .part) (a .from) _)) (λ c. omega (arith, inside c)) (λ c. inside (c .before)) (λ c κs. c .before .before .before .before .pre .1)
+    (λ c. omega arith) (λ c. inside (c .before .before)) (λ c. omega arith) (λ c. omega arith)
     loop-again (λ c. c .before .loop .inv .2 .long) returns)

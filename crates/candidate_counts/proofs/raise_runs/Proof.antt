@@ -1,4 +1,4 @@
--- `candidate_counts::raise_runs` meets its contract. The invariant: raising by the runs that are left gives what is to be had (`going-next`).
+-- `raise_runs` meets its contract. The invariant: raising by the runs that are left gives what is to be had (`going-next`).
 use Rattle.meaning_numbers.proofs.Prelude.{_-_, _<_, _+_, arith, length, getD}
 use Rattle.rows_judge.proofs.Scan.{part as partOf, part-next, part-none}
 use Rattle.candidate_counts.specs.Raise.{between, Raised}
@@ -15,18 +15,18 @@ abbrev start : tie.At-loop Inv-loop μ-loop → tie.Start Inv-loop μ-loop
 start l = l .before .before .before .before
 
 loop-holds : tie.Need-loop-holds Inv-loop μ-loop
-loop-holds c = let a = c .before .before .before .args in going-starts (a .part) (a .offsets) (a .shift) (partOf (a .left .now) (a .right .now) (a .from) (a .to)) (a .scratch .now)
+loop-holds c = going-starts _ _ _ _ _
 
 in-left : (c : tie.In-loop Inv-loop μ-loop) → c .before .loop .i < length (start (c .before) .args .left .now)
-in-left c = omega (arith, c .loop-test .taken, start (c .before) .pre .0)
+in-left c = omega arith
 
 in-right : (c : tie.In-loop Inv-loop μ-loop) → c .before .loop .i < length (start (c .before) .args .right .now)
-in-right c = omega (arith, c .loop-test .taken, start (c .before) .pre .1)
+in-right c = omega arith
 
 raise-run-requires : tie.Need-raise-run-requires Inv-loop μ-loop
 raise-run-requires c κs =
     let l = c .before .before .before .before .before .before in
-    (omega (arith, c .before .clip2 .ensures, l .loop .inv .long, start l .pre .2), start l .pre .3)
+    (omega arith, start l .pre .3)
 
 loop-again : tie.Need-loop-again Inv-loop μ-loop
 loop-again c =
@@ -45,8 +45,8 @@ returns : tie.Need-returns Inv-loop μ-loop
 returns c =
     let l = c .before in
     let a = start l .args in
-    going-ends (a .part) (a .offsets) (a .shift) (partOf (a .left .now) (a .right .now) (a .from) (a .to)) (a .scratch .now) (l .loop .scratch)
-    (rw (part-none (a .left .now) (a .right .now) (l .loop .i) (a .to) (c .loop-test .left)) at (l .loop .inv))
+    going-ends _ _ _ _ _ _
+    (rw (part-none _ _ _ (a .to) (c .loop-test .left)) at (l .loop .inv))
 
 pub raise-runs-spec : {M : Type 1} → statement M
 raise-runs-spec =

@@ -1,4 +1,4 @@
--- `candidate_counts::take_each` meets its contract. The invariant: the offsets passed are taken in (`taking-next`).
+-- `take_each` meets its contract. The invariant: the offsets passed are taken in (`taking-next`).
 use Rattle.meaning_numbers.proofs.Count.{flag-bit, bit-le}
 use Rattle.meaning_numbers.proofs.Prelude.{_≡_, refl, Bool, not, _&&_, _+_, _-_, _<_, _≤_, arith, length}
 use Rattle.candidate_counts.specs.Handed.{stood}
@@ -18,7 +18,7 @@ abbrev here : tie.At-loop Inv-loop μ-loop → Bool
 here l = stood (start l .args .scratch .now) (start l .args .p) (start l .args .from + l .loop .i)
 
 inside : (c : tie.In-loop Inv-loop μ-loop) → start (c .before) .args .from + c .before .loop .i < length (start (c .before) .args .scratch .now)
-inside c = omega (arith, c .loop-test .taken, start (c .before) .pre .in-scratch)
+inside c = omega arith
 
 put-requires : tie.Need-put-requires Inv-loop μ-loop
 put-requires c κs =
@@ -28,7 +28,7 @@ put-requires c κs =
     let t = l .loop .inv .1 in
     let b = bit-le (here l && not (l .loop .prev)) in
     let h = u .loop-test .taken in
-    (omega (arith, h, r .short), (omega (arith, h, b, t .few, r .few, r .in-left, t .long-left), omega (arith, h, b, t .few, r .few, r .in-right, t .long-right), t .begun))
+    (omega (arith, h), (omega (arith, h, b, t .few, r .few, r .in-left, t .long-left), omega (arith, h, b), t .begun))
 
 loop-again : tie.Need-loop-again Inv-loop μ-loop
 loop-again c =
@@ -36,14 +36,14 @@ loop-again c =
     let u = o .before .before .before .before in
     let l = u .before in
     let e = o .put .ensures in
-    (omega (arith, u .loop-test .taken), rw (flag-bit (here l)) (taking-next (l .loop .inv .1) refl (e .0) (e .1 .0) (e .1 .1)))
+    (omega arith, rw (flag-bit _) (taking-next (l .loop .inv .1) refl (e .0) (e .1 .0) (e .1 .1)))
 
 pub take-each-spec : {M : Type 1} → statement M
 take-each-spec =
     tie.close (tie.spec Inv-loop μ-loop (λ c. let a = c .before .before .before in (omega arith, taking-starts _ _ _ _ _ _ _ (a .pre .begun))) (λ c. omega (arith, inside c))
     (λ c. omega (arith, inside c)) (λ c. inside (c .before)) put-requires (λ c. tt) (λ c. let u = c .before .before .before .before .before .before .before .before in let l = u .before in
     omega (arith, flag-bit (here l), bit-le (here l), l .loop .inv .1 .fewer, start l .pre .fewer, u .loop-test .taken, start l .pre .short))
-    (λ c. omega (arith, inside (c .before .before .before .before .before .before .before .before)))
-    (λ c. omega (arith, c .before .before .before .before .before .before .before .before .loop-test .taken)) loop-again (λ c. c .before .loop .inv .1 .long-left)
+    (λ c. omega arith)
+    (λ c. omega arith) loop-again (λ c. c .before .loop .inv .1 .long-left)
     (λ c. c .before .loop .inv .1 .long-right)
-    (λ c. let e : c .before .loop .i ≡ start (c .before) .args .n = omega (arith, c .loop-test .left, c .before .loop .inv .0) in rw e at (c .before .loop .inv .1 .took)))
+    (λ c. let e : c .before .loop .i ≡ start (c .before) .args .n = omega arith in rw e at (c .before .loop .inv .1 .took)))

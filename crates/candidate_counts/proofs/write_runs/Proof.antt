@@ -1,4 +1,4 @@
--- `candidate_counts::write_runs` meets its contract. The invariant: the runs of the offsets passed stand at the front, and so many were found; a block takes it on (`Took`).
+-- `write_runs` meets its contract. The invariant: the runs of the offsets passed stand at the front, and so many were found; a block takes it on (`Took`).
 use Rattle.meaning_numbers.specs.Sum.{bit, count}
 use Rattle.meaning_numbers.proofs.Count.{count-none, count-le}
 use Rattle.meaning_numbers.proofs.Prelude.{_≡_, sym, ap, Bool, List, ℕ, _+_, _-_, _≤_, arith}
@@ -29,10 +29,10 @@ module _ (l : tie.At-loop Inv-loop μ-loop) where
 
   ready : (n : ℕ) → l .loop .j + n ≤ start l .args .offsets → TakeReady (start l .args .scratch .now) (l .loop .j) n (l .loop .out) (l .loop .left) (l .loop .right)
   ready n h = let p = start l .pre in record {
-    in-scratch = omega (arith, h, p .0);
+    in-scratch = omega (arith, h);
     in-left = omega (arith, h, p .1, filling-left f (omega (arith, few, h, p .1)));
     in-right = omega (arith, h, p .2, filling-right f (omega (arith, few, h, p .2)));
-    short = omega (arith, h, p .3);
+    short = omega (arith, h);
     few = few;
     fewer = omega (arith, l .loop .inv .1, count-le set (l .loop .j));
     begun = omega (arith, ap bit (f .prev-is), f .count-is, before-some set (l .loop .j));
@@ -44,13 +44,13 @@ module _ (l : tie.At-loop Inv-loop μ-loop) {n : ℕ} {b : Found} {left right : 
   counts = t .counted (l .loop .inv .1)
 
   fills : Filling (set l) (start l .args .left .now) (start l .args .right .now) (l .loop .j + n) (b .runs) (b .going) left right
-  fills = let p = start l .pre in t .filling _ _ (omega (arith, h, p .1)) (omega (arith, h, p .2)) (f l)
+  fills = t .filling _ _ (omega (arith, h)) (omega (arith, h)) (f l)
 
 loop-again : tie.Need-loop-again Inv-loop μ-loop
 loop-again c =
     let o = c .before .before .before .before in
     let u = o .before .before .before in
-    let h : u .before .loop .j + 64 ≤ start (u .before) .args .offsets = omega (arith, u .loop-test .taken, u .before .loop .inv .0) in
+    let h : u .before .loop .j + 64 ≤ start (u .before) .args .offsets = omega arith in
     (h, counts (u .before) h (o .take-block .ensures), fills (u .before) h (o .take-block .ensures))
 
 -- at the end all are
@@ -63,7 +63,7 @@ module _ (c : tie.After-take-each Inv-loop μ-loop) where
 
   full : Columns (set l) (start l .args .offsets) (start l .args .left .now) (start l .args .right .now) (c .take-each .last .1 .1 .1 .1 .1 .0) (c .take-each .last .1 .1 .1 .1 .1 .1 .0) (c .take-each .result .runs) (c .take-each .result .candidates)
   full =
-      let e : l .loop .j + (start l .args .offsets - l .loop .j) ≡ start l .args .offsets = omega (arith, l .loop .inv .0) in
+      let e : l .loop .j + (start l .args .offsets - l .loop .j) ≡ start l .args .offsets = omega arith in
       let g = rw e at (fills l all (c .take-each .ensures)) in
       record { count-is = g .count-is; found-is = rw e at (counts l all (c .take-each .ensures)); left-is = g .left-is; right-is = g .right-is }
 

@@ -1,24 +1,15 @@
--- `candidate_find::hand_out` meets its contract: the counts are raised, and the candidates collected.
+-- `hand_out` meets its contract: the counts are raised, and the candidates collected.
 use borrow.Author.Needs.{needs}
-use lib.ListN.{length}
-use mathlib.Core.Path.{_≡_, ap, _∙_}
-use native.Mathlib.Omega.{arith}
+use mathlib.Core.Path.{_∙_}
 use Rattle.meaning_entries.specs.Buffers.{filled}
 use Rattle.clear.specs.Clear.{clearedFrom}
 use Rattle.candidate_met.proofs.Meaning.{cleared-same}
-use Rattle.candidate_find.specs.declared.Sought.{Sought}
 use Rattle.candidate_find.proofs.hand_out.Statement.{statement}
 use Rattle.candidate_find.proofs.hand_out.Tie as tie
 
 raise-stretches-requires : tie.Need-raise-stretches-requires
 unfolding filled clearedFrom
 raise-stretches-requires c κs = rw (c .before .before .before .before .before .clear-u16 .ensures) (c .before .before .before .before .before .before .before .before .before .before .before .before .before .pre .stretches)
-
-collect-requires : tie.Need-collect-requires
-collect-requires c κs =
-    let o = c .before .before .before .before .before .before .before .before .before .before .before .before .before .before .before .before .before .before .before in
-    let e : length (c .before .before .before .before .before .raise-stretches .last .0) ≡ length (o .args .scratch .now) = search needs in
-    (omega (arith, e, o .pre .room), o .pre .first-room, o .pre .last-room, omega (arith, o .pre .long, o .pre .some))
 
 returns : tie.Need-returns
 returns c =
@@ -27,7 +18,7 @@ returns c =
     let told = c .tell-sought .ensures in
     record {
       counts = raised .raise-stretches .last .0;
-      goes-on = ap (λ (t : Sought). t .refusal) told;
+      goes-on = rw told;
       counted = raised .raise-stretches .ensures;
       handed = rw told (collected .collect .ensures .0);
       cleared = collected .collect .ensures .1 ∙ cleared-same _ _ (search needs);
@@ -35,5 +26,5 @@ returns c =
 
 pub hand-out-spec : {M : Type 1} → statement M
 hand-out-spec =
-    tie.close (tie.spec (λ c. search needs) (λ c. search needs) (λ c. search needs) (λ c. search needs) (λ c κs. search needs) raise-stretches-requires (λ c. search needs) collect-requires
+    tie.close (tie.spec (λ c. search needs) (λ c. search needs) (λ c. search needs) (λ c. search needs) (λ c κs. search needs) raise-stretches-requires (λ c. search needs) (λ c κs. search needs)
     (λ c κs. search needs) (λ c. search needs) (λ c. search needs) (λ c. search needs) returns)

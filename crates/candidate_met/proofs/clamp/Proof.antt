@@ -1,4 +1,4 @@
--- `candidate_met::clamp` meets its contract, by the two tests.
+-- `clamp` meets its contract, by the two tests.
 use Rattle.meaning_numbers.proofs.Prelude.{pos, negsuc, _≤ℤ_, _<ℤ_, w32, w64, SFits, toZ-ofZ, zmach, lt-ltZ, le-ltZ, to-sfits32}
 use Rattle.candidate_met.specs.Met.{clampOf}
 use Rattle.candidate_met.proofs.clamp.Statement.{statement}
@@ -20,14 +20,11 @@ module _ (c : tie.Else2) where
   below = omega zmach
 
   small : SFits w32 (c .before .before .args .z)
-  small = let h = above in let k = below in omega (to-sfits32, zmach)
-
-cast-result : tie.Need-cast-result
-cast-result c = rw (toZ-ofZ w64 (c .before .before .args .z) (c .before .before .fits .z)) (small c)
+  small = omega (to-sfits32, zmach)
 
 returns-3 : tie.Need-returns-3
 unfolding clampOf
 returns-3 c = let z = c .before .before .args .z in rw (toZ-ofZ w64 z (c .before .before .fits .z), toZ-ofZ w32 z (small c), le-ltZ (above c), le-ltZ (below c))
 
 pub clamp-spec : {M : Type 1} → statement M
-clamp-spec = tie.close (tie.spec returns returns-2 cast-result returns-3)
+clamp-spec = tie.close (tie.spec returns returns-2 (λ c. rw (toZ-ofZ w64 _ (c .before .before .fits .z)) (small c)) returns-3)

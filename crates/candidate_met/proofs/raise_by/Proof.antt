@@ -1,4 +1,4 @@
--- `candidate_met::raise_by` meets its contract.
+-- `raise_by` meets its contract.
 use Rattle.meaning_numbers.proofs.Prelude.{ℤ, pos, _+ℤ_, w32, toZ, ofZ, z-abs, zmach32, z-add}
 use Rattle.candidate_met.proofs.raise_by.Statement.{statement}
 use Rattle.candidate_met.proofs.raise_by.Tie as tie

@@ -1,4 +1,4 @@
--- `candidate_plan::plan_search` meets its contract: the input, then the state.
+-- `plan_search` meets its contract: the input, then the state.
 use Rattle.meaning_numbers.proofs.Prelude.{needs, ap, _∙_, List, ℕ, min}
 use Rattle.meaning_entries.specs.Refusal.{Condition}
 use Rattle.refusals.specs.Refusal.{refusalOf, passes}

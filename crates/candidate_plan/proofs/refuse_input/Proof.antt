@@ -1,4 +1,4 @@
--- `candidate_plan::refuse_input` meets its contract, one part of the table after the other.
+-- `refuse_input` meets its contract, one part of the table after the other.
 use Rattle.meaning_numbers.proofs.Prelude.{needs, List, [], _∷_, _++_}
 use Rattle.meaning_entries.specs.Refusal.{Condition, flatQuery}
 use Rattle.meaning_entries.proofs.Refusal.{AllPass}

@@ -1,4 +1,4 @@
--- `candidate_plan::refuse_numbers` meets its contract: each test is a line of the table (`line-before`).
+-- `refuse_numbers` meets its contract: each test is a line of the table (`line-before`).
 use Rattle.meaning_numbers.proofs.Prelude.{needs}
 use Rattle.meaning_entries.specs.Refusal.{queryLengthOutside, queryBelowWindow, bandOutside, thresholdOutside, scaleOrShiftOutside}
 use Rattle.refusals.proofs.RefusalLaws.{line-before}

@@ -1,4 +1,4 @@
--- `candidate_plan::refuse_state` meets its contract: what judging said, then the windows (`place-before`).
+-- `refuse_state` meets its contract: what judging said, then the windows (`place-before`).
 use Rattle.meaning_numbers.proofs.Prelude.{needs}
 use Rattle.refusals.specs.Refusal.{judgedLine}
 use Rattle.refusals.proofs.RefusalLaws.{place-before}

@@ -1,4 +1,4 @@
--- `candidate_plan::refuse_values` meets its contract: the series, then the query (`series-before`, `place-before`).
+-- `refuse_values` meets its contract: the series, then the query (`series-before`, `place-before`).
 use Rattle.meaning_numbers.proofs.Prelude.{needs}
 use Rattle.meaning_entries.specs.Refusal.{valueOutside}
 use Rattle.refusals.proofs.RefusalLaws.{place-before, series-before}

@@ -1,4 +1,4 @@
--- `candidate_plan::refuse_windows` meets its contract: each test is a line of the table (`line-before`).
+-- `refuse_windows` meets its contract: each test is a line of the table (`line-before`).
 use Rattle.meaning_numbers.proofs.Prelude.{needs}
 use Rattle.meaning_entries.specs.Refusal.{fewerWindows, moreWindows}
 use Rattle.refusals.proofs.RefusalLaws.{line-before}

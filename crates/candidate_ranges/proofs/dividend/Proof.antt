@@ -1,4 +1,4 @@
--- `candidate_ranges::dividend` meets its contract: each step is small (`scaled-small`), so what the callees say of the machine's bits they say of the numbers.
+-- `dividend` meets its contract: each step is small (`scaled-small`), so what the callees say of the machine's bits they say of the numbers.
 use Rattle.meaning_numbers.proofs.Prelude.{needs, _≡_, _∙_, arith, ℤ, _*ℤ_, w64, toZ, ofZ, toZ-ofZ}
 use Rattle.numbers.specs.Small.{Small}
 use Rattle.numbers.proofs.Small.{small-more, small-back, arg-back}
@@ -12,7 +12,7 @@ factors x u h k = (arg-back x (omega arith) (small-more 40000000 (omega arith) h
 
 module _ (c : tie.After-pick-of) where
   abbrev o : tie.Start
-  o = c .before .before .before .before .before
+  o = (search needs)
 
   abbrev near : ℤ
   near = o .args .x *ℤ o .args .f .narrow
@@ -24,10 +24,10 @@ module _ (c : tie.After-pick-of) where
   sizes = scaled-small (o .args .x) (o .args .f .narrow) (o .args .f .wide) (o .pre .1) (o .pre .0 .narrow) (o .pre .0 .wide)
 
   near-is : c .before .before .before .times .result ≡ near
-  near-is = cc (c .before .before .before .times .ensures, small-back (o .args .x) (omega arith) (o .pre .1), small-back (o .args .f .narrow) (omega arith) (o .pre .0 .narrow))
+  near-is = cc (c .before .before .before .times .ensures, small-back _ (omega arith) (o .pre .1), small-back _ (omega arith) (o .pre .0 .narrow))
 
   far-is : c .before .times2 .result ≡ far
-  far-is = cc (c .before .times2 .ensures, small-back (o .args .x) (omega arith) (o .pre .1), small-back (o .args .f .wide) (omega arith) (o .pre .0 .wide))
+  far-is = cc (c .before .times2 .ensures, small-back _ (omega arith) (o .pre .1), small-back _ (omega arith) (o .pre .0 .wide))
 
   picked : c .pick-of .result ≡ pick (o .args .low) near far
   picked = cc (c .pick-of .ensures, near-is, far-is, small-back near (omega arith) (sizes .0), small-back far (omega arith) (sizes .1))
@@ -37,15 +37,15 @@ module _ (c : tie.After-pick-of) where
 
 plus-requires : tie.Need-plus-requires
 plus-requires c κs = (
-  arg-back (c .pick-of .result) (omega arith) (small-more 4000000000000000 (omega arith) (picked-small c)),
-  arg-back (o c .args .more) (omega arith) (small-more 4000000000000000 (omega arith) (o c .pre .2)),
+  arg-back _ (omega arith) (small-more 4000000000000000 (omega arith) (picked-small c)),
+  arg-back _ (omega arith) (small-more 4000000000000000 (omega arith) (o c .pre .2)),
 )
 
 returns : tie.Need-returns
 returns c =
     let p = c .before in
-    toZ-ofZ w64 (c .plus .result) (record { sfits = c .plus .ok }) ∙ c .plus .ensures
-    ∙ cc (small-back (p .pick-of .result) (omega arith) (picked-small p), picked p, small-back (o p .args .more) (omega arith) (o p .pre .2))
+    toZ-ofZ w64 _ (record { sfits = c .plus .ok }) ∙ c .plus .ensures
+    ∙ cc (small-back _ (omega arith) (picked-small p), picked p, small-back _ (omega arith) (o p .pre .2))
 
 pub dividend-spec : {M : Type 1} → statement M
 dividend-spec =

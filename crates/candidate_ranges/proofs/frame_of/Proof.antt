@@ -1,4 +1,4 @@
--- `candidate_ranges::frame_of` meets its contract.
+-- `frame_of` meets its contract.
 use Rattle.meaning_numbers.proofs.Prelude.{needs, _≡_}
 use Rattle.meaning_filter.specs.declared.Kind.the-variants.{Raw, Normal}
 use Rattle.candidate_ranges.specs.Frame.{frameOf}

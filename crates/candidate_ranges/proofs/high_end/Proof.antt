@@ -1,4 +1,4 @@
--- `candidate_ranges::high_end` meets its contract: what is divided is small, so what the callees say of the machine's bits they say of the numbers (`dividend-back`).
+-- `high_end` meets its contract: what is divided is small, so what the callees say of the machine's bits they say of the numbers (`dividend-back`).
 use Rattle.meaning_numbers.proofs.Prelude.{needs, _∙_, false, _+ℤ_, w64, toZ-ofZ}
 use Rattle.numbers.proofs.Small.{small-add}
 use Rattle.candidate_ranges.specs.Frame.{highEnd}
@@ -14,7 +14,7 @@ returns c =
     let u = c .before .before .before in
     let o = u .before .before in
     let i = o .pre .0 in
-    toZ-ofZ w64 (c .floor-quotient .result) (record { sfits = c .floor-quotient .ok }) ∙ c .floor-quotient .ensures
+    toZ-ofZ w64 _ (record { sfits = search needs }) ∙ c .floor-quotient .ensures
     ∙ rw (dividend-back _+ℤ_ i (o .pre .1) (i .rise) (small-add _ _ (o .pre .1) (i .reach)) (u .plus .ensures) false (c .before .dividend .ensures))
 
 pub high-end-spec : {M : Type 1} → statement M

@@ -1,4 +1,4 @@
--- `candidate_ranges::low_end` meets its contract: what is divided is small, so what the callees say of the machine's bits they say of the numbers (`dividend-back`).
+-- `low_end` meets its contract: what is divided is small, so what the callees say of the machine's bits they say of the numbers (`dividend-back`).
 use Rattle.meaning_numbers.proofs.Prelude.{_∙_, true, arith, _-ℤ_, w64, toZ-ofZ}
 use Rattle.numbers.proofs.Small.{small-more, arg-back, small-sub}
 use Rattle.candidate_ranges.specs.Frame.{lowEnd}
@@ -21,7 +21,7 @@ returns c =
     let u = c .before .before .before in
     let o = u .before .before in
     let i = o .pre .0 in
-    toZ-ofZ w64 (c .ceil-quotient .result) (record { sfits = c .ceil-quotient .ok }) ∙ c .ceil-quotient .ensures
+    toZ-ofZ w64 _ (record { sfits = c .ceil-quotient .ok }) ∙ c .ceil-quotient .ensures
     ∙ rw (dividend-back _-ℤ_ i (o .pre .1) (i .fall) (small-sub _ _ (o .pre .1) (i .reach)) (u .minus .ensures) true (c .before .dividend .ensures))
 
 pub low-end-spec : {M : Type 1} → statement M

@@ -1,4 +1,4 @@
--- `candidate_ranges::normal_frame` meets its contract: each step is small, so what the callees say of the machine's bits they say of the numbers.
+-- `normal_frame` meets its contract: each step is small, so what the callees say of the machine's bits they say of the numbers.
 use Rattle.meaning_numbers.proofs.Prelude.{needs, _≡_, _∙_, _+_, _*_, _≤_, arith, ℤ, pos, _+ℤ_, _-ℤ_, _*ℤ_, w64, toZ, ofZ, toZ-ofZ}
 use Rattle.numbers.specs.Small.{Small}
 use Rattle.numbers.proofs.Small.{small-pos, small-more, small-fits, small-back, arg-back, cast-back, cast-small}
@@ -7,16 +7,16 @@ use Rattle.candidate_ranges.proofs.normal_frame.Tie as tie
 
 module _ (o : tie.Start) where
   values-le : o .args .q .values ≤ 20480000
-  values-le = omega (arith, o .pre .values-most, o .pre .most)
+  values-le = omega arith
 
   bias-le : 10000 * o .args .m ≤ 20480000
-  bias-le = omega (arith, o .pre .most)
+  bias-le = omega arith
 
   shift-le : o .args .m * o .args .l .shift ≤ 20480000
-  shift-le = most-le (o .args .m) (o .args .l .shift) (o .pre .most) (o .pre .shift)
+  shift-le = most-le _ _ (o .pre .most) (o .pre .shift)
 
   factor-le : 100 * o .args .w ≤ 25600
-  factor-le = omega (arith, o .pre .window)
+  factor-le = omega arith
 
   abbrev sum : ℤ
   sum = pos (o .args .q .values) -ℤ pos (10000 * o .args .m)
@@ -34,35 +34,35 @@ module _ (c : tie.After-minus) where
   start = c .before .before .before
 
   sum-is : c .minus .result ≡ sum start
-  sum-is = c .minus .ensures ∙ rw (cast-back (start .args .q .values) (omega arith) (values-le start), cast-back (10000 * start .args .m) (omega arith) (bias-le start))
+  sum-is = c .minus .ensures ∙ rw (cast-back _ (omega arith) (values-le start), cast-back _ (omega arith) (bias-le start))
 
   sum-small : Small 4000000000000000 (c .minus .result)
   sum-small = rw sum-is (small-more 4000000000000000 (omega arith) (total-small (start .pre)))
 
   sum-back : toZ w64 (ofZ w64 (c .minus .result)) ≡ sum start
-  sum-back = small-back (c .minus .result) (omega arith) sum-small ∙ sum-is
+  sum-back = small-back _ (omega arith) sum-small ∙ sum-is
 
   most-small : Small 4000000000000000 (toZ w64 (start .args .m * start .args .l .shift))
   most-small = cast-small (start .args .m * start .args .l .shift) (omega arith) (omega (arith, shift-le start))
 
   most-back : toZ w64 (start .args .m * start .args .l .shift) ≡ most start
-  most-back = cast-back {n = 20480000} (start .args .m * start .args .l .shift) (omega arith) (shift-le start)
+  most-back = cast-back _ (omega arith) (shift-le start)
 
   factor-small : Small 40000000 (toZ w64 (100 * start .args .w))
-  factor-small = cast-small (100 * start .args .w) (omega arith) (omega (arith, factor-le start))
+  factor-small = cast-small (100 * start .args .w) (omega arith) (omega arith)
 
   factor-back : toZ w64 (100 * start .args .w) ≡ pos (100 * start .args .w)
-  factor-back = cast-back {n = 25600} (100 * start .args .w) (omega arith) (factor-le start)
+  factor-back = cast-back _ (omega arith) (factor-le start)
 
 reach : (c : tie.After-root) → c .root .result + start (c .before .before .before) .args .w ≤ 16000256
-reach c = let o = start (c .before .before .before) in omega (arith, c .root .ensures, reach-le (o .args .w) (o .args .l .threshold) (o .pre .window) (o .pre .threshold), o .pre .window)
+reach c = let o = start (c .before .before .before) in omega (arith, c .root .ensures, reach-le _ _ (o .pre .window) (o .pre .threshold), o .pre .window)
 
 minus-requires-2 : tie.Need-minus-requires-2
-minus-requires-2 c κs = let u = c .before .before .before .before .before in (arg-back (u .minus .result) (omega arith) (sum-small u), most-small u)
+minus-requires-2 c κs = let u = c .before .before .before .before .before in (arg-back _ (omega arith) (sum-small u), most-small u)
 
 module _ (c : tie.After-minus2) where
   abbrev fell : tie.After-minus
-  fell = c .before .before .before .before .before .before
+  fell = (search needs)
 
   below-is : c .minus2 .result ≡ sum (start fell) -ℤ most (start fell)
   below-is = c .minus2 .ensures ∙ rw (sum-back fell, most-back fell)
@@ -71,14 +71,14 @@ module _ (c : tie.After-minus2) where
   below = rw below-is (below-small (start fell .pre))
 
 times-requires : tie.Need-times-requires
-times-requires c κs = (factor-small (fell c), arg-back (c .minus2 .result) (omega arith) (small-more 300000000 (omega arith) (below c)))
+times-requires c κs = (factor-small (fell c), arg-back _ (omega arith) (small-more 300000000 (omega arith) (below c)))
 
 plus-requires : tie.Need-plus-requires
-plus-requires c κs = let u = c .before .before .before .before .before .before .before in (arg-back (u .minus .result) (omega arith) (sum-small u), most-small u)
+plus-requires c κs = let u = c .before .before .before .before .before .before .before in (arg-back _ (omega arith) (sum-small u), most-small u)
 
 module _ (c : tie.After-plus) where
   abbrev rose : tie.After-minus
-  rose = c .before .before .before .before .before .before .before .before
+  rose = (search needs)
 
   above-is : c .plus .result ≡ sum (start rose) +ℤ most (start rose)
   above-is = c .plus .ensures ∙ rw (sum-back rose, most-back rose)
@@ -87,7 +87,7 @@ module _ (c : tie.After-plus) where
   above = rw above-is (above-small (start rose .pre))
 
 times-requires-2 : tie.Need-times-requires-2
-times-requires-2 c κs = (factor-small (rose c), arg-back (c .plus .result) (omega arith) (small-more 300000000 (omega arith) (above c)))
+times-requires-2 c κs = (factor-small (rose c), arg-back _ (omega arith) (small-more 300000000 (omega arith) (above c)))
 
 returns : tie.Need-returns
 returns c =
@@ -98,9 +98,9 @@ returns c =
     let u = rose p in
     let o = start u in
     let fall : c .before .before .times .result ≡ pos (100 * o .args .w) *ℤ (sum o -ℤ most o)
-    = c .before .before .times .ensures ∙ cc (factor-back u, small-back (n .minus2 .result) (omega arith) (below n), below-is n) in
+    = c .before .before .times .ensures ∙ cc (factor-back u, small-back _ (omega arith) (below n), below-is n) in
     let rise : c .times2 .result ≡ pos (100 * o .args .w) *ℤ (sum o +ℤ most o)
-    = c .times2 .ensures ∙ cc (factor-back u, small-back (p .plus .result) (omega arith) (above p), above-is p) in
+    = c .times2 .ensures ∙ cc (factor-back u, small-back _ (omega arith) (above p), above-is p) in
     cc (
       cast-back {n = 16000256} (r .root .result + o .args .w) (omega arith) (reach r),
       r .root .ensures,

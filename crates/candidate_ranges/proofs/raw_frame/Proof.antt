@@ -1,16 +1,13 @@
--- `candidate_ranges::raw_frame` meets its contract.
+-- `raw_frame` meets its contract.
 use Rattle.meaning_numbers.proofs.Prelude.{needs, arith, _≤_}
 use Rattle.numbers.proofs.Small.{small-pos, small-fits, cast-back}
 use Rattle.candidate_ranges.proofs.{Sizes.product-le, Sizes.reach-le, raw_frame.Statement.statement}
 use Rattle.candidate_ranges.proofs.raw_frame.Tie as tie
 
 reach : (c : tie.After-root) → c .root .result ≤ 16000000
-reach c = let o = c .before .before in omega (arith, c .root .ensures, reach-le (o .args .w) (o .args .l .threshold) (o .pre .0) (o .pre .1))
-
-returns : tie.Need-returns
-returns c = rw (cast-back {n = 16000000} (c .root .result) (omega arith) (reach c), c .root .ensures)
+reach c = let o = c .before .before in omega (arith, c .root .ensures, reach-le _ _ (o .pre .0) (o .pre .1))
 
 pub raw-frame-spec : {M : Type 1} → statement M
 raw-frame-spec =
-    tie.close (tie.spec (λ c. omega (arith, product-le (c .before .args .w) (c .before .args .l .threshold) (c .before .pre .0) (c .before .pre .1))) (λ c κs. search needs)
-    (λ c. small-fits {n = 16000000} (omega arith) (small-pos 16000000 (c .root .result) (reach c))) returns)
+    tie.close (tie.spec (λ c. omega (arith, product-le _ _ (c .before .pre .0) (c .before .pre .1))) (λ c κs. search needs)
+    (λ c. small-fits (omega arith) (small-pos 16000000 _ (reach c))) (λ c. rw (cast-back _ (omega arith) (reach c), c .root .ensures)))

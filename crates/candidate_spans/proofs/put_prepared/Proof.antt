@@ -1,4 +1,4 @@
--- `candidate_spans::put_prepared` meets its contract: the ranges of the parts are those of document 01 (`range-is`).
+-- `put_prepared` meets its contract: the ranges of the parts are those of document 01 (`range-is`).
 use Rattle.meaning_numbers.proofs.Prelude.{needs}
 use Rattle.candidate_spans.proofs.{Query.query-ready, Query.ends-ready, Query.ranges-held, put_prepared.Statement.statement}
 use Rattle.candidate_spans.proofs.put_prepared.Tie as tie

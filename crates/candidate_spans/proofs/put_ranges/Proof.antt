@@ -1,13 +1,12 @@
--- `candidate_spans::put_ranges` meets its contract.
+-- `put_ranges` meets its contract.
 use Rattle.meaning_numbers.proofs.Prelude.{needs}
-use Rattle.meaning_curves.proofs.Values.{front-long}
 use Rattle.candidate_spans.proofs.put_ranges.Statement.{statement}
 use Rattle.candidate_spans.proofs.put_ranges.Tie as tie
 
 put-prepared-requires : tie.Need-put-prepared-requires
 put-prepared-requires c κs =
     let p = c .before .before .before .before .before .before .before .pre in
-    (p, (front-long _ _ (p .few), front-long _ _ (p .few), front-long _ _ (p .few)))
+    (p, (search needs, search needs, search needs))
 
 pub put-ranges-spec : {M : Type 1} → statement M
 put-ranges-spec =

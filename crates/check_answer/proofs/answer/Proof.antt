@@ -1,4 +1,4 @@
--- `check_answer::answer` meets its contract (`answer-all`, `answer-full`).
+-- `answer` meets its contract (`answer-all`, `answer-full`).
 use borrow.Author.Needs.{needs}
 use mathlib.Core.Path.{ap, _∙_}
 use native.Mathlib.Omega.{arith}

@@ -1,4 +1,4 @@
--- `check_answer::check_prepared` meets its contract: what `prepare` makes is what checking asks for.
+-- `check_prepared` meets its contract: what `prepare` makes is what checking asks for.
 use borrow.Author.Needs.{needs}
 use Rattle.check_answer.proofs.check_prepared.Statement.{statement}
 use Rattle.check_answer.proofs.check_prepared.Tie as tie

@@ -1,4 +1,4 @@
--- `check_answer::find_matches` meets its contract (`answers`).
+-- `find_matches` meets its contract (`answers`).
 use borrow.Author.Needs.{needs}
 use Rattle.meaning_curves.proofs.Values.{front-long}
 use Rattle.check_answer.proofs.{AnswerLaws.answers, find_matches.Statement.statement}

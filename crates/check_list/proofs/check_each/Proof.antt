@@ -1,4 +1,4 @@
--- `check_list::check_each` meets its contract. The invariant is `RunsSoFar`, and that the room keeps its length; the measure is how many runs are left.
+-- `check_each` meets its contract. The invariant is `RunsSoFar`, and that the room keeps its length; the measure is how many runs are left.
 use Rattle.meaning_numbers.proofs.Prelude.{needs, _≡_, refl, _∙_, _-_, _<_, arith, length}
 use Rattle.check_list.specs.Found.{asked}
 use Rattle.check_list.proofs.{Turn.RunsSoFar, Turn.run-inside, Turn.runs-start, Turn.runs-next, Turn.runs-end, check_each.Statement.statement}
@@ -14,26 +14,26 @@ abbrev μ-loop : tie.MeasureT-loop
 loop-holds : tie.Need-loop-holds Inv-loop μ-loop
 loop-holds c =
     let a = c .before .before .before .before .before .args in
-    (refl, refl, runs-start (asked (a .kind) (a .s .now) (a .q .now) (a .l)) (a .left .now) (a .right .now) (a .runs) (a .offsets .now) (a .distances .now))
+    (refl, refl, runs-start _ _ _ _ _ _)
 
 -- the run at which the loop stands is lent
 module _ (c : tie.In-loop Inv-loop μ-loop) where
   abbrev o : tie.Start Inv-loop μ-loop
-  o = c .before .before .before .before .before .before .before
+  o = (search needs)
 
   has-left : c .before .loop .i < length (o .args .left .now)
-  has-left = omega (arith, c .loop-test .taken, o .pre .1 .1 .in-left)
+  has-left = omega arith
 
   has-right : c .before .loop .i < length (o .args .right .now)
-  has-right = omega (arith, c .loop-test .taken, o .pre .1 .1 .in-right)
+  has-right = omega arith
 
 check-run-requires : tie.Need-check-run-requires Inv-loop μ-loop
 check-run-requires c κs =
     let t = c .before .before .before .before .before .before in
     let v = t .before .loop .inv in
     let p = o t .pre in
-    let h = run-inside (p .1 .1) (t .before .loop .i) (t .loop-test .taken) in
-    (p .0, ((v .0 ∙ p .1 .0 .0, omega (arith, v .1, p .1 .0 .1)), (v .2 .few (t .loop-test .taken), omega (arith, h .0), omega (arith, h .0, h .1))))
+    let h = run-inside (p .1 .1) _ (t .loop-test .taken) in
+    (p .0, ((search needs, search needs), (v .2 .few (t .loop-test .taken), omega arith, omega arith)))
 
 loop-again : tie.Need-loop-again Inv-loop μ-loop
 loop-again c =
@@ -42,13 +42,13 @@ loop-again c =
     let v = t .before .loop .inv in
     let p = o t .pre in (
       c .before .before .before .before .before .before .room .given ∙ v .0,
-      c .before .before .before .before .before .row .given ∙ v .1,
+      (search needs) ∙ v .1,
       runs-next (p .1 .1) (t .loop-test .taken) (v .2) (r .check-run .ensures),
     )
 
 pub check-each-spec : {M : Type 1} → statement M
 check-each-spec =
-    tie.close (tie.spec Inv-loop μ-loop loop-holds (λ c. omega (arith, has-left c)) (λ c. has-left (c .before)) (λ c. omega (arith, c .shared-slice-known3 .given (c .before .before .loop .i)))
-    (λ c. omega (arith, has-right (c .before))) (λ c. has-right (c .before .before)) (λ c. omega (arith, c .shared-slice-known4 .given (c .before .before .before .loop .i))) check-run-requires
-    (λ c. search needs) (λ c. search needs) loop-again (λ c. c .before .loop .inv .0) (λ c. c .before .loop .inv .1) (λ c. c .before .loop .inv .2 .so-far .as-many-offsets)
-    (λ c. c .before .loop .inv .2 .so-far .as-many-distances) (λ c. runs-end (c .loop-test .left) (c .before .loop .inv .2)))
+    tie.close (tie.spec Inv-loop μ-loop loop-holds (λ c. search needs) (λ c. has-left (c .before)) (λ c. omega (arith, c .shared-slice-known3 .given (c .before .before .loop .i)))
+    (λ c. search needs) (λ c. has-right (c .before .before)) (λ c. omega (arith, c .shared-slice-known4 .given (c .before .before .before .loop .i))) check-run-requires
+    (λ c. search needs) (λ c. search needs) loop-again (λ c. search needs) (λ c. search needs) (λ c. search needs)
+    (λ c. search needs) (λ c. runs-end (c .loop-test .left) (c .before .loop .inv .2)))

@@ -1,4 +1,4 @@
--- `check_list::check_run` meets its contract. The invariant is `RunSoFar`, and that the room keeps its length; the measure is how many offsets are left.
+-- `check_run` meets its contract. The invariant is `RunSoFar`, and that the room keeps its length; the measure is how many offsets are left.
 use Rattle.meaning_numbers.proofs.Prelude.{_≡_, refl, _∙_, ℕ, _+_, _-_, _≤_, arith, length}
 use Rattle.check_list.proofs.{Turn.RunSoFar, Turn.run-starts, Turn.run-next, Turn.run-ends, check_run.Statement.statement}
 use Rattle.check_list.proofs.check_run.Tie as tie
@@ -19,10 +19,7 @@ module _ (c : tie.At-loop Inv-loop μ-loop) where
   m = length (o .args .q .now)
 
   inside : c .loop .j ≤ o .args .last → c .loop .j + m ≤ length (o .args .s .now)
-  inside h = omega (arith, o .pre .1 .1 .2)
-
-first-sums-requires : tie.Need-first-sums-requires Inv-loop μ-loop
-first-sums-requires c κs = let p = c .before .before .before .pre in (omega (arith, p .1 .1), p .0 .few, p .0 .values)
+  inside h = omega arith
 
 loop-holds : tie.Need-loop-holds Inv-loop μ-loop
 loop-holds c = let p = c .before .before .before .before .pre in (refl, refl, run-starts (p .1 .1 .0) (p .1 .1 .1) (c .first-sums .ensures))
@@ -32,16 +29,15 @@ match-at-requires c κs =
     let g = c .before .before .before in
     let p = o g .pre in
     let v = g .loop .inv in
-    let h = inside g (omega (arith, c .before .before .loop-test .taken)) in (
+    let h = inside g (omega arith) in (
       h,
-      ((p .0 .some, p .0 .few), ((v .0 ∙ p .1 .0 .0, omega (arith, v .1, p .1 .0 .1)), ((p .0 .values, p .0 .query, p .0 .scale), ((λ e. v .2 .sums e h), p .0 .ready)))),
+      ((p .0 .some, p .0 .few), ((v .0 ∙ p .1 .0 .0, omega arith), ((p .0 .values, p .0 .query, p .0 .scale), ((λ e. v .2 .sums e h), p .0 .ready)))),
     )
 
 list-match-requires : tie.Need-list-match-requires Inv-loop μ-loop
 list-match-requires c κs =
     let g = c .before .before .before .before .before .before .before .before .before in
-    let h = inside g (omega (arith, c .before .before .before .before .before .before .before .before .loop-test .taken)) in
-    (omega (arith, o g .pre .0 .long), omega (arith, o g .pre .0 .long, g .loop .inv .2 .few))
+    (omega arith, omega arith)
 
 slide-sums-requires : tie.Need-slide-sums-requires Inv-loop μ-loop
 slide-sums-requires c κs =
@@ -54,7 +50,7 @@ add-j : tie.Need-add-j Inv-loop μ-loop
 add-j c =
     let g = c .before .before .before .before .before .before .before .before .before .before .before .before .before .before .before in
     let h = inside g (omega (arith, c .before .before .before .before .before .before .before .before .before .before .before .before .before .before .loop-test .taken)) in
-    omega (arith, h, o g .pre .0 .long)
+    omega (arith, h)
 
 loop-again : tie.Need-loop-again Inv-loop μ-loop
 loop-again c =
@@ -64,25 +60,10 @@ loop-again c =
     let v = g .loop .inv in (
       a .before .before .before .before .before .room .given ∙ v .0,
       a .before .before .before .before .row .given ∙ v .1,
-      run-next (omega (arith, t .before .before .before .loop-test .taken)) (v .2) (t .match-at .ensures) (a .list-match .ensures) (c .slide-sums .ensures),
+      run-next (omega arith) (v .2) (t .match-at .ensures) (a .list-match .ensures) (c .slide-sums .ensures),
     )
-
-same-length : tie.Need-same-length Inv-loop μ-loop
-same-length c = c .before .loop .inv .0
-
-same-length-2 : tie.Need-same-length-2 Inv-loop μ-loop
-same-length-2 c = c .before .loop .inv .1
-
-same-length-3 : tie.Need-same-length-3 Inv-loop μ-loop
-same-length-3 c = c .before .loop .inv .2 .so-far .as-many-offsets
-
-same-length-4 : tie.Need-same-length-4 Inv-loop μ-loop
-same-length-4 c = c .before .loop .inv .2 .so-far .as-many-distances
-
-returns : tie.Need-returns Inv-loop μ-loop
-returns c = run-ends (c .loop-test .left) (c .before .loop .inv .2)
 
 pub check-run-spec : {M : Type 1} → statement M
 check-run-spec =
-    tie.close (tie.spec Inv-loop μ-loop first-sums-requires loop-holds match-at-requires list-match-requires slide-sums-requires add-j (λ c. omega arith) loop-again same-length same-length-2
-    same-length-3 same-length-4 returns)
+    tie.close (tie.spec Inv-loop μ-loop (λ c κs. let p = c .before .before .before .pre in (omega (arith, p .1 .1), p .0 .few, p .0 .values)) loop-holds match-at-requires list-match-requires slide-sums-requires add-j (λ c. omega arith) loop-again (λ c. c .before .loop .inv .0) (λ c. c .before .loop .inv .1)
+    (λ c. c .before .loop .inv .2 .so-far .as-many-offsets) (λ c. c .before .loop .inv .2 .so-far .as-many-distances) (λ c. run-ends (c .loop-test .left) (c .before .loop .inv .2)))

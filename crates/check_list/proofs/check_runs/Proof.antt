@@ -1,13 +1,12 @@
--- `check_list::check_runs` meets its contract: the list is filled (`list-filled`).
-use Rattle.meaning_numbers.proofs.Prelude.{needs, arith}
-use Rattle.meaning_curves.proofs.Values.{front-long}
+-- `check_runs` meets its contract: the list is filled (`list-filled`).
+use Rattle.meaning_numbers.proofs.Prelude.{needs}
 use Rattle.check_list.proofs.{Listed.list-filled, check_runs.Statement.statement}
 use Rattle.check_list.proofs.check_runs.Tie as tie
 
 check-each-requires : tie.Need-check-each-requires
 check-each-requires c κs =
     let p = c .before .before .before .before .before .before .before .before .pre in
-    (p .0, ((front-long _ _ (p .0 .few), omega (arith, p .0 .few)), p .1))
+    (p .0, ((search needs, search needs), p .1))
 
 returns : tie.Need-returns
 returns c =

@@ -1,4 +1,4 @@
--- `check_list::first_sums` meets its contract: a raw query asks for no sums (`raw-sums`).
+-- `first_sums` meets its contract: a raw query asks for no sums (`raw-sums`).
 use Rattle.meaning_numbers.proofs.Prelude.{needs}
 use Rattle.check_list.proofs.{Found.raw-sums, first_sums.Statement.statement}
 use Rattle.check_list.proofs.first_sums.Tie as tie

@@ -1,10 +1,10 @@
--- `check_list::list_match` meets its contract, by what the test says.
+-- `list_match` meets its contract, by what the test says.
 use Rattle.meaning_numbers.proofs.Prelude.{needs}
 use Rattle.check_list.proofs.{Found.no-entries, Found.one-entry, Listed.list-none, list_match.Statement.statement}
 use Rattle.check_list.proofs.list_match.Tie as tie
 
 returns : tie.Need-returns
-returns c = let a = c .before .before .before .before .args in rw (no-entries (a .j) (c .enum-told .given .1)) (list-none (a .k) (a .offsets .now) (a .distances .now))
+returns c = let a = c .before .before .before .before .args in rw (no-entries (a .j) (c .enum-told .given .1)) (list-none (a .k) _ _)
 
 returns-2 : tie.Need-returns-2
 returns-2 c =

@@ -1,4 +1,4 @@
--- `clear::clear_u8` meets its contract.
+-- `clear_u8` meets its contract.
 use Prim.Native.Nat.{_-_}
 use lib.ListN.{length}
 use native.Mathlib.Omega.{arith}

@@ -1,4 +1,4 @@
--- `demand::says_yes` meets its contract, case by case.
+-- `says_yes` meets its contract, case by case.
 use borrow.Author.Needs.{needs}
 use mathlib.Core.Path.{sym, ap}
 use Rattle.meaning_entries.specs.Both.{yes}

@@ -1,4 +1,4 @@
--- `demand::tell` meets its contract: its tests are those of the definition.
+-- `tell` meets its contract: its tests are those of the definition.
 use borrow.Author.Needs.{needs}
 use borrow.Author.Tests.{not-true, not-false}
 use mathlib.Core.Bool.{true, false}

@@ -1,4 +1,4 @@
--- `demand::tell_found` meets its contract, case by case.
+-- `tell_found` meets its contract, case by case.
 use borrow.Author.Needs.{needs}
 use mathlib.Core.Path.{sym, ap, _∙_}
 use Rattle.meaning_entries.specs.{declared.Found.Found, Both.toldFound}

@@ -1,4 +1,4 @@
--- `demand::tell_second` meets its contract, case by case.
+-- `tell_second` meets its contract, case by case.
 use borrow.Author.Needs.{needs}
 use mathlib.Core.Path.{sym, ap}
 use Rattle.meaning_entries.specs.Both.{toldSecond}

@@ -1,4 +1,4 @@
--- `distance_bound::envelope_bound` meets its contract. The invariant: so much of the sum is made. A block adds its part; left early, the total is a part of the bound (`Made`).
+-- `envelope_bound` meets its contract. The invariant: so much of the sum is made. A block adds its part; left early, the total is a part of the bound (`Made`).
 use Rattle.meaning_numbers.specs.Sum.{Σℕ}
 use Rattle.meaning_numbers.proofs.Prelude.{_≡_, ℕ, _+_, _*_, _-_, _≤_, arith, length}
 use Rattle.meaning_curves.specs.Curve.{at, stretch}

@@ -1,7 +1,7 @@
--- `distance_bound::envelope_part` meets its contract. The invariant: the sum so far.
+-- `envelope_part` meets its contract. The invariant: the sum so far.
 use Rattle.meaning_numbers.specs.Sum.{Σℕ}
 use Rattle.meaning_numbers.proofs.Sum.{Σℕ-none, Σℕ-more}
-use Rattle.meaning_numbers.proofs.Prelude.{_≡_, ℕ, _+_, _*_, _-_, _≤_, arith}
+use Rattle.meaning_numbers.proofs.Prelude.{_≡_, _+_, _*_, _-_, _≤_, arith}
 use Rattle.meaning_curves.specs.Curve.{at, stretch}
 use Rattle.meaning_filter.proofs.{Bound.apart, Apart.excess-sq-le}
 use Rattle.distance_bound.proofs.envelope_part.Statement.{statement}

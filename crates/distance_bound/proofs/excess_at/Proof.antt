@@ -1,4 +1,4 @@
--- `distance_bound::excess_at` meets its contract.
+-- `excess_at` meets its contract.
 use Rattle.meaning_numbers.specs.Sum.{square}
 use Rattle.meaning_numbers.proofs.Prelude.{_∙_, ap, arith}
 use Rattle.numbers.proofs.Back.{in-arg}

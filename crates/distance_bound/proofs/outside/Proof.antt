@@ -1,4 +1,4 @@
--- `distance_bound::outside` meets its contract: the greater of the two differences, and 0 where it is negative.
+-- `outside` meets its contract: the greater of the two differences, and 0 where it is negative.
 use Rattle.meaning_numbers.proofs.Prelude.{_≡_, ap, ⊎-elim, _≤_, ℤ, _-ℤ_, w32, toZ, ofZ, z-abs, zmach32, up, dn, z-sub}
 use Rattle.meaning_filter.proofs.{Apart.up-is, Apart.excess-small, Bound.excess}
 use Rattle.distance_bound.proofs.outside.Statement.{statement}

@@ -1,4 +1,4 @@
--- `distance_bound::outside_squared` meets its contract.
+-- `outside_squared` meets its contract.
 use Rattle.meaning_numbers.proofs.Prelude.{needs, _≡_, refl, _∙_, _*_, _≤_, arith}
 use Rattle.meaning_filter.proofs.{Apart.excess-sq-le, Bound.excess}
 use Rattle.numbers.proofs.Back.{in-arg}

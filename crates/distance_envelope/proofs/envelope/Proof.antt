@@ -1,4 +1,4 @@
--- `distance_envelope::envelope` meets its contract (`passes-edge`).
+-- `envelope` meets its contract (`passes-edge`).
 use Rattle.meaning_numbers.proofs.Prelude.{needs}
 use Rattle.distance_envelope.proofs.{Pass.passes-edge, envelope.Statement.statement}
 use Rattle.distance_envelope.proofs.envelope.Tie as tie

@@ -1,4 +1,4 @@
--- `distance_envelope::pass_ahead` meets its contract. The invariant: the pass is made as far as place i (`AheadTo`).
+-- `pass_ahead` meets its contract. The invariant: the pass is made as far as place i (`AheadTo`).
 use Rattle.meaning_numbers.proofs.Prelude.{needs, _≡_, refl, _∙_, _+_, _-_, _≤_, arith, length, length-set, w32, toZ, ofZ, toZ-ofZ}
 use Rattle.meaning_curves.specs.Curve.{at}
 use Rattle.distance_envelope.specs.Best.{pick}

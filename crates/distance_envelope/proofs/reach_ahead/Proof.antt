@@ -1,4 +1,4 @@
--- `distance_envelope::reach_ahead` meets its contract. The invariant: each value is the best of n places ahead and itself (`Ahead`).
+-- `reach_ahead` meets its contract. The invariant: each value is the best of n places ahead and itself (`Ahead`).
 use Rattle.meaning_numbers.proofs.Prelude.{needs, _≡_, _-_, _≤_, arith}
 use Rattle.distance_envelope.specs.Pass.{Ahead}
 use Rattle.distance_envelope.proofs.{Pass.ahead-none, Pass.ahead-pass, reach_ahead.Statement.statement}
@@ -19,4 +19,4 @@ returns c = let e : c .before .loop .n ≡ c .before .before .args .b = omega ar
 pub reach-ahead-spec : {M : Type 1} → statement M
 reach-ahead-spec =
     tie.close (tie.spec Inv-loop μ-loop (λ c. (omega arith, ahead-none _ _)) (λ c κs. omega arith) (λ c κs. search needs) (λ c. omega arith) (λ c. omega arith) loop-again
-    (λ c. c .before .loop .inv .1 .long) returns)
+    (λ c. search needs) returns)

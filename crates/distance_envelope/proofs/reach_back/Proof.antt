@@ -1,4 +1,4 @@
--- `distance_envelope::reach_back` meets its contract. The invariant: each value is the best of n places back and itself (`Back`).
+-- `reach_back` meets its contract. The invariant: each value is the best of n places back and itself (`Back`).
 use Rattle.meaning_numbers.proofs.Prelude.{needs, _≡_, _-_, _≤_, arith}
 use Rattle.distance_envelope.specs.Pass.{Back}
 use Rattle.distance_envelope.proofs.{Pass.back-none, Pass.back-pass, reach_back.Statement.statement}
@@ -19,4 +19,4 @@ returns c = let e : c .before .loop .n ≡ c .before .before .args .b = omega ar
 pub reach-back-spec : {M : Type 1} → statement M
 reach-back-spec =
     tie.close (tie.spec Inv-loop μ-loop (λ c. (omega arith, back-none _ _)) (λ c κs. omega arith) (λ c κs. search needs) (λ c. omega arith) (λ c. omega arith) loop-again
-    (λ c. c .before .loop .inv .1 .long) returns)
+    (λ c. search needs) returns)

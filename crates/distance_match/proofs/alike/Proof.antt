@@ -1,6 +1,6 @@
--- `distance_match::alike` meets its contract: one test for each fact of `Alike`.
+-- `alike` meets its contract: one test for each fact of `Alike`.
 use Rattle.meaning_numbers.proofs.Root.{sq-le}
-use Rattle.meaning_numbers.proofs.Prelude.{needs, sym, ℕ, _*_, _≤_, mul-le-mul, arith, leb, leb→le, nleb→lt}
+use Rattle.meaning_numbers.proofs.Prelude.{needs, sym, ℕ, _*_, _≤_, mul-le-mul, arith, leb→le, nleb→lt}
 use Rattle.distance_match.proofs.{AlikeLaws.says-no, AlikeLaws.says-flag, alike.Statement.statement}
 use Rattle.distance_match.proofs.alike.Tie as tie
 
@@ -21,24 +21,6 @@ module _ (o : tie.Start) where
   times-length : (h : ℕ) → h ≤ 4294967296 → o .args .m * h ≤ 4398046511104
   times-length h k = omega (arith, mul-le-mul (o .pre .1 .1 .0) k)
 
-returns : tie.Need-returns
-returns c = says-no (λ h. omega (arith, h .not-flat))
-
-mul-square : tie.Need-mul-square
-mul-square c = omega (arith, square (c .before .before .before))
-
-mul-if2 : tie.Need-mul-if2
-mul-if2 c = omega (arith, times-query (c .before .before .before))
-
-returns-2 : tie.Need-returns-2
-returns-2 c = says-no (λ h. omega (arith, h .up))
-
-mul-if3 : tie.Need-mul-if3
-mul-if3 c = omega (arith, times-stretch (c .before .before .before .before))
-
-returns-3 : tie.Need-returns-3
-returns-3 c = says-no (λ h. omega (arith, h .down))
-
 mul-result : tie.Need-mul-result
 mul-result c = let o = c .before .before .before .before .before .before .before in omega (arith, times-length o (o .args .l .shift) (omega arith))
 
@@ -47,11 +29,11 @@ returns-4 c =
     let o = c .before .before .before .before .before .before .before in
     let e = c .before .difference .ensures in
     let h = o .args .m * o .args .l .shift in
-    says-flag (leb (c .before .difference .result) h)
+    says-flag _
     (λ t. record { not-flat = omega arith; up = omega arith; down = omega arith; shift = rw (sym e) (leb→le _ _ t) })
-    (λ t p. omega (arith, nleb→lt (c .before .difference .result) h t, p .shift, e))
+    (λ t p. omega (arith, nleb→lt _ h t, p .shift, e))
 
 pub alike-spec : {M : Type 1} → statement M
 alike-spec =
-    tie.close (tie.spec returns (λ c. search needs) (λ c. search needs) mul-square mul-if2 (λ c. search needs) returns-2 mul-if3 (λ c. search needs) returns-3 (λ c κs. search needs)
+    tie.close (tie.spec (λ c. says-no (λ h. omega arith)) (λ c. search needs) (λ c. search needs) (λ c. omega (arith, square (c .before .before .before))) (λ c. omega (arith, times-query (c .before .before .before))) (λ c. search needs) (λ c. says-no (λ h. omega (arith, h .up))) (λ c. omega (arith, times-stretch (c .before .before .before .before))) (λ c. search needs) (λ c. says-no (λ h. omega (arith, h .down))) (λ c κs. search needs)
     (λ c. search needs) mul-result returns-4)

@@ -1,4 +1,4 @@
--- `distance_match::match_at` meets its contract, by the kind: of a raw query the distance decides (`raw-matched`).
+-- `match_at` meets its contract, by the kind: of a raw query the distance decides (`raw-matched`).
 use Rattle.meaning_numbers.proofs.Prelude.{needs, _≡_, _∙_, ap, ℕ, ℤ, length}
 use Rattle.meaning_curves.specs.Curve.{at, stretch}
 use Rattle.meaning_curves.proofs.Same.{distance-same}
@@ -30,7 +30,7 @@ compare-requires : tie.Need-compare-requires
 compare-requires c κs =
     let e = c .before .before in
     let p = o e .pre in
-    rw (ready e .curve-is .long) (p .0, ((p .1 .0 .0, p .1 .0 .1, p .1 .1 .0 .1), ((p .1 .1 .1 .0 .0, ready e .curve-is .inside), ready e .envelopes)))
+    rw (ready e .curve-is .long) (p .0, ((p .1 .0 .0, p .1 .0 .1, p .1 .1 .0 .1), ((p .1 .1 .1 .0 .0, search needs), search needs)))
 
 returns : tie.Need-returns
 returns c =
@@ -38,8 +38,8 @@ returns c =
     let a = o e .args in
     rw (raw e)
     (rw (ready e .curve-is .long) at (c .before .before .compare .ensures)
-    ∙ ap (λ (d : ℕ). nearness d (a .l .threshold)) (distance-same (a .l .band) (o e .pre .1 .0 .0) (same-self (m e) (S e)) (ready e .curve-is .same))
-    ∙ raw-matched (S e) (at (a .q .now)) (m e) (a .l))
+    ∙ ap (λ (d : ℕ). nearness d (a .l .threshold)) (distance-same _ (o e .pre .1 .0 .0) (same-self (m e) (S e)) (ready e .curve-is .same))
+    ∙ raw-matched (S e) _ (m e) (a .l))
 
 -- of a normalised one
 normal : (e : tie.After-enum-told2) → e .before .before .before .args .kind ≡ Normal
@@ -51,10 +51,7 @@ match-normal-requires c κs =
     let p = e .before .before .before .pre in
     (p .0, (p .1 .0, (p .1 .1 .0, (p .1 .1 .1 .0, (p .1 .1 .1 .1 .0 (normal e), of-kind (normal e) (p .1 .1 .1 .1 .1))))))
 
-returns-2 : tie.Need-returns-2
-returns-2 c = let n = c .before .before .before in rw (normal (n .before .before .before)) (n .match-normal .ensures)
-
 pub match-at-spec : {M : Type 1} → statement M
 match-at-spec =
     tie.close (tie.spec (λ c. search needs) (λ c. search needs) compare-requires (λ c. search needs) match-normal-requires (λ c. search needs) returns (λ c. search needs) (λ c. search needs)
-    returns-2)
+    (λ c. let n = c .before .before .before in rw (normal _) (n .match-normal .ensures)))

@@ -1,6 +1,6 @@
--- `distance_match::match_normal` meets its contract: where a cheap test fails the stretch does not match (`unlike-matched`), else the distance decides (`alike-matched`).
+-- `match_normal` meets its contract: where a cheap test fails the stretch does not match (`unlike-matched`), else the distance decides (`alike-matched`).
 use Rattle.meaning_numbers.proofs.Prelude.{needs, not-true, not-false, _≡_, _∙_, ap, ℕ, _≤_, ℤ, pos, _-ℤ_, natAbs, length}
-use Rattle.meaning_curves.specs.{Curve.at, Curve.stretch, Curve.total, Curve.spread, Normal.normalised}
+use Rattle.meaning_curves.specs.{Curve.at, Curve.stretch, Curve.total, Curve.spread}
 use Rattle.meaning_curves.proofs.Same.{distance-same}
 use Rattle.values.proofs.SumsLaws.{spread-bound}
 use Rattle.distance_within.specs.Answer.{nearness}
@@ -31,13 +31,10 @@ module _ (c : tie.After-spread-of) where
   shift : natAbs (pos (o .args .t .values) -ℤ pos (o .args .query .values)) ≡ natAbs (total S m -ℤ total Q m)
   shift = let p = o .pre .1 .1 .1 in shift-raised (o .args .from) m (p .0 .0) (p .0 .1) (p .1 .0 .values) (p .1 .1 .values)
 
-alike-requires : tie.Need-alike-requires
-alike-requires c κs = (small c, (query-small c, (o c .pre .1 .0 .1, o c .pre .1 .1 .1 .0 .2)))
-
 returns : tie.Need-returns
 returns c =
     let d = c .before .before in
-    unlike-matched (S d) (Q d) (m d) (o d .args .l) (d .spread-of .ensures) (o d .pre .1 .1 .1 .1 .1 .spread) (shift d) (c .before .alike .ensures .no (not-true _ (c .if1 .taken)))
+    unlike-matched (S d) (Q d) (m d) _ (d .spread-of .ensures) (o d .pre .1 .1 .1 .1 .1 .spread) (shift d) (c .before .alike .ensures .no (not-true _ (c .if1 .taken)))
 
 compare-normal-requires : tie.Need-compare-normal-requires
 compare-normal-requires c κs =
@@ -47,8 +44,8 @@ compare-normal-requires c κs =
     let ready = p .1 .1 .1 .1 in
     let like = e .before .alike .ensures .yes (not-false _ (e .if1 .left)) in
     rw (ready .curve-is .long) (
-      record { in-series = o d .pre .0; short = p .0 .1; values-in = p .1 .1 .0 .0; sums = p .1 .1 .1 .0; spread-is = d .spread-of .ensures; some = like .not-flat },
-      ((p .0 .0, ready .curve-is .inside), (p .1 .0, ready .envelopes)),
+      record { in-series = o d .pre .0; short = p .0 .1; values-in = p .1 .1 .0 .0; sums = p .1 .1 .1 .0; spread-is = search needs; some = like .not-flat },
+      ((p .0 .0, search needs), (p .1 .0, ready .envelopes)),
     )
 
 returns-2 : tie.Need-returns-2
@@ -60,8 +57,8 @@ returns-2 c =
     let l = o d .args .l in
     let like = e .before .alike .ensures .yes (not-false _ (e .if1 .left)) in
     rw (ready .curve-is .long) at (c .before .before .before .compare-normal .ensures)
-    ∙ ap (λ (x : ℕ). nearness x (l .threshold)) (distance-same (l .band) (p .0 .0) (same-self (m d) (normalised (S d) (m d))) (ready .curve-is .same))
+    ∙ ap (λ (x : ℕ). nearness x (l .threshold)) (distance-same _ (p .0 .0) (same-self (m d) _) (ready .curve-is .same))
     ∙ alike-matched (S d) (Q d) (m d) l (d .spread-of .ensures) (ready .spread) (shift d) like
 
 pub match-normal-spec : {M : Type 1} → statement M
-match-normal-spec = tie.close (tie.spec (λ c κs. search needs) alike-requires returns (λ c. search needs) compare-normal-requires (λ c. search needs) (λ c. search needs) returns-2)
+match-normal-spec = tie.close (tie.spec (λ c κs. search needs) (λ c κs. (small c, (query-small c, (o c .pre .1 .0 .1, search needs)))) returns (λ c. search needs) compare-normal-requires (λ c. search needs) (λ c. search needs) returns-2)

@@ -1,4 +1,4 @@
--- `distance_normal::cut_of` meets its contract: the estimate or one more (`estimate`, `cut-flag`).
+-- `cut_of` meets its contract: the estimate or one more (`estimate`, `cut-flag`).
 use Rattle.meaning_numbers.proofs.Prelude.{needs, ℕ, _+_, _*_, _/_, arith, leb}
 use Rattle.distance_normal.proofs.{Normal.Estimate, Normal.estimate, Normal.product-le, Normal.cut-flag, Normal.flag-le, cut_of.Statement.statement}
 use Rattle.distance_normal.proofs.cut_of.Tie as tie
@@ -7,7 +7,7 @@ abbrev e : tie.Start → ℕ
 e c = 100 * c .args .d * c .args .f / 2147483648
 
 facts : (c : tie.Start) → Estimate (c .args .a) (c .args .f) (100 * c .args .d) (e c)
-facts c = let p = c .pre in estimate (100 * c .args .d) _ (omega arith) (p .1 .0) (p .1 .1 .0) (p .1 .1 .1) (omega arith) (omega arith)
+facts c = let p = c .pre in estimate _ _ (omega arith) (p .1 .0) (p .1 .1 .0) (p .1 .1 .1) (omega arith) (omega arith)
 
 pub cut-of-spec : {M : Type 1} → statement M
 cut-of-spec =

@@ -1,4 +1,4 @@
--- `distance_normal::factor` meets its contract.
+-- `factor` meets its contract.
 use Rattle.meaning_numbers.proofs.Prelude.{needs}
 use Rattle.distance_normal.proofs.{Normal.factor-is, factor.Statement.statement}
 use Rattle.distance_normal.proofs.factor.Tie as tie

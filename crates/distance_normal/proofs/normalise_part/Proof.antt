@@ -1,6 +1,6 @@
--- `distance_normal::normalise_part` meets its contract. The invariant: the values so far are normalised, and those before stay.
+-- `normalise_part` meets its contract. The invariant: the values so far are normalised, and those before stay.
 use borrow.Author.Count.{below-more}
-use Rattle.meaning_numbers.proofs.Prelude.{_≡_, refl, _∙_, sym, ℕ, _+_, _*_, _-_, _≤_, _<_, mul-le-mul, arith, length, getD, length-set, getD-set-same, getD-set-other, pos, w32, toZ, ofZ, toZ-ofZ}
+use Rattle.meaning_numbers.proofs.Prelude.{_≡_, refl, _∙_, sym, ℕ, _+_, _*_, _-_, _≤_, _<_, mul-le-mul, arith, length, length-set, getD-set-same, getD-set-other, pos, w32, toZ, ofZ, toZ-ofZ}
 use Rattle.meaning_curves.specs.{Curve.stretch, Normal.normalised}
 use Rattle.numbers.specs.Raised.{raised, raised-le}
 use Rattle.numbers.proofs.Back.{in-arg, raised-back}
@@ -45,9 +45,9 @@ stored : (c : tie.After-normal-of Inv-loop μ-loop) → let b = c .before in
 stored c =
     let b = c .before in
     let r = start b .pre .0 in
-    toZ-ofZ w32 (c .normal-of .result) (record { sfits = c .normal-of .ok })
+    toZ-ofZ w32 _ (record { sfits = c .normal-of .ok })
     ∙ c .normal-of .ensures
-    ∙ normalised-is (stretch (start b .args .s .now) (start b .args .from)) (m b) (here b) (r .spread-is) (rw (sym (told b)) at (centred-raised (here b) (r .values-in) (r .sums)))
+    ∙ normalised-is _ (m b) _ (r .spread-is) (rw (sym (told b)) at (centred-raised (here b) (r .values-in) (r .sums)))
 
 loop-again : tie.Need-loop-again Inv-loop μ-loop
 loop-again c =
@@ -60,14 +60,14 @@ loop-again c =
       record {
         long = simp length-set (v .long);
         kept = λ k h. getD-set-other out j k _ (pos 0) (λ e. omega arith) ∙ v .kept k h;
-        made = below-more _ (l .loop .k) (λ k h. getD-set-other out j (start (c .before) .args .p + k) _ (pos 0) (λ e. omega arith) ∙ v .made k h) (getD-set-same out j _ (pos 0) room ∙ stored c);
+        made = below-more _ _ (λ k h. getD-set-other out j _ _ (pos 0) (λ e. omega arith) ∙ v .made k h) (getD-set-same out j _ (pos 0) room ∙ stored c);
       },
     )
 
 pub normalise-part-spec : {M : Type 1} → statement M
 normalise-part-spec =
-    tie.close (tie.spec Inv-loop μ-loop (λ c. (omega arith, record { long = refl; kept = λ k h. refl; made = λ k h. absurd (omega arith) })) (λ c. omega (arith, c .before .before .pre .0 .in-series))
-    (λ c. omega (arith, c .before .before .pre .0 .in-series)) (λ c. omega (arith, c .before .before .pre .0 .in-series)) (λ c. omega (arith, c .before .before .pre .0 .in-series))
+    tie.close (tie.spec Inv-loop μ-loop (λ c. (omega arith, record { long = refl; kept = λ k h. refl; made = λ k h. absurd (omega arith) })) (λ c. omega arith)
+    (λ c. omega arith) (λ c. omega arith) (λ c. omega arith)
     (λ c κs. in-arg (c .before .before .before .pre .0 .values-in .at _)) (λ c. omega (arith, small c)) normal-of-requires (λ c. omega arith)
     (λ c. omega (arith, c .before .before .before .before .loop .inv .1 .long)) (λ c. omega arith) (λ c. omega arith) loop-again (λ c. c .before .loop .inv .1 .long)
     (λ c. let e : c .before .loop .k ≡ c .before .before .args .n = omega arith in rw e at (c .before .loop .inv .1)))

@@ -1,4 +1,4 @@
--- `distance_query::curve_of` meets its contract, by the kind.
+-- `curve_of` meets its contract, by the kind.
 use Rattle.meaning_numbers.proofs.Prelude.{needs, _≡_, arith}
 use Rattle.meaning_filter.specs.declared.Kind.the-variants.{Raw, Normal}
 use Rattle.distance_query.proofs.{Ready.raw-curve, Ready.normal-curve, curve_of.Statement.statement}

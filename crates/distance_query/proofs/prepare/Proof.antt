@@ -1,4 +1,4 @@
--- `distance_query::prepare` meets its contract: what its callees made, over the query's length.
+-- `prepare` meets its contract: what its callees made, over the query's length.
 use Rattle.meaning_numbers.proofs.Prelude.{needs, _∙_, length}
 use Rattle.meaning_curves.proofs.Same.{spread-same}
 use Rattle.distance_query.proofs.{Ready.from-start, prepare.Statement.statement}

@@ -1,4 +1,4 @@
--- `distance_straight::part` meets its contract. The invariant: the sum so far.
+-- `part` meets its contract. The invariant: the sum so far.
 use Rattle.meaning_numbers.specs.Sum.{Σℕ}
 use Rattle.meaning_numbers.proofs.Sum.{Σℕ-none, Σℕ-more}
 use Rattle.meaning_numbers.proofs.Prelude.{_≡_, _∙_, ℕ, _+_, _*_, _-_, _≤_, arith}

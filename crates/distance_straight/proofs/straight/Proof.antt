@@ -1,4 +1,4 @@
--- `distance_straight::straight` meets its contract. The invariant: so much of the sum is made. A block adds its part; left early, the total is a part of the distance (`Made`).
+-- `straight` meets its contract. The invariant: so much of the sum is made. A block adds its part; left early, the total is a part of the distance (`Made`).
 use Rattle.meaning_numbers.specs.Sum.{Σℕ}
 use Rattle.meaning_numbers.proofs.Prelude.{_≡_, ℕ, _+_, _*_, _-_, _≤_, arith, length}
 use Rattle.meaning_curves.specs.{Curve.at, Curve.stretch, Straight.cost, Straight.straight}

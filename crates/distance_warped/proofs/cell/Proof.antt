@@ -1,4 +1,4 @@
--- `distance_warped::cell` meets its contract.
+-- `cell` meets its contract.
 use Rattle.meaning_numbers.proofs.Prelude.{needs, arith}
 use Rattle.meaning_curves.proofs.Values.{cost-le}
 use Rattle.numbers.proofs.Back.{cost-back, in-arg}

@@ -1,4 +1,4 @@
--- `distance_warped::fill_row` meets its contract.
+-- `fill_row` meets its contract.
 use borrow.Author.Count.{below-more}
 use Rattle.meaning_numbers.proofs.Prelude.{_≡_, refl, _∙_, ℕ, _+_, _-_, _≤_, _<_, arith, length, getD, length-set, getD-set-same, getD-set-other}
 use Rattle.distance_warped.specs.Rows.{big}

@@ -1,4 +1,4 @@
--- `distance_warped::first_row` meets its contract. The invariant: the row is made as far as cell j (`Halfway`).
+-- `first_row` meets its contract. The invariant: the row is made as far as cell j (`Halfway`).
 use Rattle.meaning_numbers.proofs.Prelude.{_≡_, refl, _∙_, sym, ℕ, _+_, _*_, _-_, _≤_, _<_, arith, length, length-set, ℤ}
 use Rattle.meaning_curves.specs.{Curve.at, Curve.stretch, Straight.cost}
 use Rattle.meaning_curves.proofs.Values.{cost-le}
@@ -9,7 +9,7 @@ use Rattle.distance_warped.proofs.first_row.Tie as tie
 
 abbrev Inv-loop : tie.InvT-loop
 Inv-loop s from q b row₀ m x hi left₀ j₀ row left j =
-    let f : ℕ → ℕ = cells (stretch s from) (at q) b 0 in
+    let f = cells (stretch s from) (at q) b 0 in
     (j ≤ hi) × (length row ≡ length row₀) × (m < length row) × Halfway (λ _. big) f j m row × (left ≡ before 0 f j) × (left ≤ 400000000 * j)
 
 abbrev μ-loop : tie.MeasureT-loop
@@ -21,7 +21,7 @@ loop-holds c =
     let S = stretch (o .args .s .now) (o .args .from) in
     let Q = at (o .args .q .now) in
     let r = c .before .before .before .before .fill-row in
-    (omega arith, refl, omega (arith, r .kept .0), first-start S Q (o .args .b) _ _ (r .ensures), sym (before-none 0 (cells S Q (o .args .b) 0)), omega arith)
+    (omega arith, refl, omega arith, first-start S Q _ _ _ (r .ensures), sym (before-none 0 _), omega arith)
 
 -- a turn
 module _ (l : tie.At-loop Inv-loop μ-loop) where
@@ -43,12 +43,6 @@ told c =
     let e : o l .args .from + 0 ≡ o l .args .from = omega arith in
     rw e (c .squared .ensures ∙ cost-back (o l .pre .1 .1 .0 .at _) (o l .pre .1 .1 .1 .at _))
 
-squared-requires : tie.Need-squared-requires Inv-loop μ-loop
-squared-requires c κs = let p = o (c .before .before) .pre .1 .1 in (in-arg (p .0 .at _), in-arg (p .1 .at _))
-
-add-left : tie.Need-add-left Inv-loop μ-loop
-add-left c = let l = c .before .before .before in omega (arith, told c, small l 0 (l .loop .j))
-
 loop-again : tie.Need-loop-again Inv-loop μ-loop
 loop-again c =
     let l = c .before .before .before in
@@ -64,15 +58,12 @@ loop-again c =
       omega (arith, told c, small l 0 j),
     )
 
-same-length : tie.Need-same-length Inv-loop μ-loop
-same-length c = c .before .loop .inv .1 ∙ c .before .before .before .before .before .before .fill-row .kept .0
-
 returns : tie.Need-returns Inv-loop μ-loop
 returns c =
     let l = c .before in
-    first-end (S l) (Q l) (o l .args .b) (l .loop .j) _ _ (omega arith) (l .loop .inv .3)
+    first-end (S l) (Q l) _ _ _ _ (omega arith) (l .loop .inv .3)
 
 pub first-row-spec : {M : Type 1} → statement M
 first-row-spec =
-    tie.close (tie.spec Inv-loop μ-loop (λ c κs. omega arith) (λ c. omega arith) (λ c. omega arith) (λ c κs. omega arith) loop-holds (λ c. omega arith) (λ c. omega arith) squared-requires add-left
-    (λ c. omega arith) (λ c. omega arith) (λ c. omega arith) (λ c. omega arith) loop-again same-length returns)
+    tie.close (tie.spec Inv-loop μ-loop (λ c κs. omega arith) (λ c. omega arith) (λ c. omega arith) (λ c κs. omega arith) loop-holds (λ c. omega arith) (λ c. omega arith) (λ c κs. let p = o (c .before .before) .pre .1 .1 in (in-arg (p .0 .at _), in-arg (p .1 .at _))) (λ c. let l = c .before .before .before in omega (arith, told c, small l 0 (l .loop .j)))
+    (λ c. omega arith) (λ c. omega arith) (λ c. omega arith) (λ c. omega arith) loop-again (λ c. c .before .loop .inv .1 ∙ c .before .before .before .before .before .before .fill-row .kept .0) returns)

@@ -1,4 +1,4 @@
--- `distance_warped::next_row` meets its contract. The invariant: the row is made as far as cell j (`Halfway`), with the two numbers before it and the least number so far.
+-- `next_row` meets its contract. The invariant: the row is made as far as cell j (`Halfway`), with the two numbers before it and the least number so far.
 use Rattle.meaning_numbers.proofs.Prelude.{needs, _≡_, refl, _∙_, sym, ℕ, _+_, _-_, _≤_, _<_, arith, length, length-set, ℤ}
 use Rattle.meaning_curves.specs.{Curve.at, Curve.stretch, Straight.cost}
 use Rattle.meaning_curves.proofs.Values.{cost-le}
@@ -9,7 +9,7 @@ use Rattle.distance_warped.proofs.next_row.Tie as tie
 
 abbrev Inv-loop : tie.InvT-loop
 Inv-loop s from q b i row₀ m k x lo hi corner₀ left₀ least₀ j₀ row corner left least j =
-    let f : ℕ → ℕ → ℕ = cells (stretch s from) (at q) b in
+    let f = cells (stretch s from) (at q) b in
     (lo ≤ j) × (j ≤ hi) × (length row ≡ length row₀) × (m < length row) × Halfway (f i) (f (i + 1)) j m row × (corner ≡ before big (f i) j) × (left ≡ before big (f (i + 1)) j)
     × ((n : ℕ) → lo ≤ n → n < j → least ≤ f (i + 1) n)
 
@@ -19,18 +19,18 @@ abbrev μ-loop : tie.MeasureT-loop
 loop-holds : tie.Need-loop-holds Inv-loop μ-loop
 loop-holds c =
     let o = c .before .before .before .before .before in
-    let S = stretch (o .args .s .now) (o .args .from) in
+    let S = stretch (o .args .s .now) _ in
     let Q = at (o .args .q .now) in
     let i = o .args .i in
     let b = o .args .b in
     let e : c .before .before .monus .result ≡ i + 1 - b = omega arith in
     let r = o .pre .1 .1 .1 in
-    (omega arith, omega arith, refl, simp length-set (omega arith), rw e (row-start S Q b i _ _ (omega arith) (omega arith) r), r .at _ (omega arith), rw e (sym (low-new S Q b i (i + 1 - b) (omega arith))), λ n l u. absurd (omega arith))
+    (omega arith, omega arith, refl, search needs, rw e (row-start S Q b i _ _ (omega arith) (omega arith) r), r .at _ (omega arith), rw e (sym (low-new S Q b i _ (omega arith))), search needs)
 
 -- a turn
 module _ (l : tie.At-loop Inv-loop μ-loop) where
   abbrev o : tie.Start Inv-loop μ-loop
-  o = l .before .before .before .before .before .before
+  o = (search needs)
 
   abbrev S : ℕ → ℤ
   S = stretch (o .args .s .now) (o .args .from)
@@ -68,7 +68,6 @@ cell-requires c κs =
 loop-again : tie.Need-loop-again Inv-loop μ-loop
 loop-again c =
     let l = c .before .before .before .before .before in
-    let f = cells (S l) (Q l) (o l .args .b) in
     let i = o l .args .i in
     let j = l .loop .j in
     let v = l .loop .inv in
@@ -80,17 +79,16 @@ loop-again c =
       simp length-set (v .3),
       halfway-more _ (v .4) here new,
       v .4 .rest (j + 1) (omega arith) (omega arith),
-      new ∙ sym (before-more big (f (i + 1)) j),
-      rw (c .lesser .ensures) (least-more (S l) (Q l) (o l .args .b) (small l) (i + 1) _ j _ _ new (v .7)),
+      new ∙ sym (before-more big _ j),
+      rw (c .lesser .ensures) (least-more (S l) (Q l) _ (small l) (i + 1) _ j _ _ new (v .7)),
     )
 
 returns : tie.Need-returns Inv-loop μ-loop
 returns c =
     let l = c .before in
-    let v = l .loop .inv in
-    let e : l .loop .j ≡ l .before .before .band-high .result = omega arith in (
-      row-end (S l) (Q l) (o l .args .b) (o l .args .i) (l .loop .j) _ _ (omega arith) (v .4),
-      record { at = λ j u n. v .7 j (omega (arith, n .first)) (omega (arith, n .second)) },
+    let v = l .loop .inv in (
+      row-end (S l) (Q l) _ _ _ _ _ (omega arith) (v .4),
+      record { at = λ j u n. v .7 j (omega arith) (omega arith) },
     )
 
 pub next-row-spec : {M : Type 1} → statement M

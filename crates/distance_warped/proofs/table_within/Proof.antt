@@ -1,4 +1,4 @@
--- `distance_warped::table_within` meets its contract. The invariant: `row` is row i of the table, and `rest` the envelope bound of the rows after it. Left early, the least number of a row with the bound of the rows after it is at most the distance (`rest-least`).
+-- `table_within` meets its contract. The invariant: `row` is row i of the table, and `rest` the envelope bound of the rows after it. Left early, the least number of a row with the bound of the rows after it is at most the distance (`rest-least`).
 use Rattle.meaning_numbers.specs.Sum.{Σℕ}
 use Rattle.meaning_numbers.proofs.Sum.{Σℕ-none, Σℕ-more, Σℕ-fewer}
 use Rattle.meaning_numbers.proofs.Prelude.{_≡_, refl, _∙_, ℕ, _+_, _*_, _-_, _^_, _≤_, _<_, arith, length, ℤ}
@@ -59,7 +59,7 @@ asked : (p : tie.Start Inv-loop μ-loop) (j : ℕ) → j < length (p .args .q .n
 asked p j h =
     let a = p .pre .1 .1 .0 in
     let e = p .pre .1 .1 .1 .0 in
-    (omega (arith, p .pre .0), (omega (arith, e .below .long), (omega (arith, e .above .long), (a .0, low-in (a .1) e, high-in (a .1) e))))
+    (omega arith, (omega arith, (omega arith, (a .0, low-in (a .1) e, high-in (a .1) e))))
 
 -- after a row
 module _ (c : tie.After-excess-at2 Inv-loop μ-loop) where
@@ -70,10 +70,10 @@ module _ (c : tie.After-excess-at2 Inv-loop μ-loop) where
   k = l .loop .i + 1
 
   here : k < m l
-  here = omega (arith, c .before .before .before .before .before .loop-test .taken)
+  here = omega arith
 
   enough : c .excess-at2 .result ≤ l .loop .rest
-  enough = omega (arith, c .excess-at2 .ensures, Σℕ-more k (F l), Σℕ-fewer (k + 1) (m l) (F l) (omega (arith, here)), l .loop .inv .4, o l .pre .1 .1 .1 .1)
+  enough = omega (arith, c .excess-at2 .ensures, Σℕ-more k (F l), Σℕ-fewer (k + 1) (m l) (F l) (omega arith), l .loop .inv .4, o l .pre .1 .1 .1 .1)
 
   left : l .loop .rest - c .excess-at2 .result + Σℕ (k + 1) (F l) ≡ o l .args .bound
   left = omega (arith, enough, c .excess-at2 .ensures, Σℕ-more k (F l), l .loop .inv .4)
@@ -84,7 +84,7 @@ module _ (c : tie.After-excess-at2 Inv-loop μ-loop) where
   least-le : c .before .before .before .next-row .result ≤ big
   least-le =
       let a = o l .pre .1 .1 .0 in
-      omega (arith, least .at k here (record { first = omega arith; second = omega arith }), cell-le (S l) (Q l) (o l .args .b) (λ x y. cost-le (a .0 .at _) (a .1 .at _)) k k (omega (arith, here, o l .pre .1 .0 .1)))
+      omega (arith, least .at k here (record { first = omega arith; second = omega arith }), cell-le (S l) (Q l) (o l .args .b) (λ x y. cost-le (a .0 .at _) (a .1 .at _)) k k (omega arith))
 
   rest-le : l .loop .rest ≤ 400000000 * 1024
   rest-le =
@@ -95,20 +95,20 @@ module _ (c : tie.After-excess-at2 Inv-loop μ-loop) where
   fits = omega (arith, least-le, rest-le)
 
   under : c .before .before .before .next-row .result + (l .loop .rest - c .excess-at2 .result) ≤ warped (S l) (Q l) (o l .args .b) (m l)
-  under = omega (arith, left, o l .pre .1 .1 .1 .1, rest-least (S l) (o l .pre .1 .1 .1 .0) k (c .before .before .before .next-row .result) here least)
+  under = omega (arith, left, o l .pre .1 .1 .1 .1, rest-least (S l) (o l .pre .1 .1 .1 .0) k _ here least)
 
 loop-again : tie.Need-loop-again Inv-loop μ-loop
 loop-again c =
     let w = c .before in
     let v = l w .loop .inv in
     let n = w .before .before .before .next-row in
-    (omega (arith, here w), n .kept .1 .1 .1 .1 .1 .0 ∙ v .1, omega (arith, n .kept .1 .1 .1 .1 .1 .0, v .2), n .ensures .0, left w)
+    (omega arith, n .kept .1 .1 .1 .1 .1 .0 ∙ v .1, omega arith, n .ensures .0, left w)
 
 returns-2 : tie.Need-returns-2 Inv-loop μ-loop
 returns-2 c =
     let l = c .before .before in
     let e : l .loop .i ≡ m l - 1 = omega arith in
-    whole ((rw e at (l .loop .inv .3)) .at (m l) (omega arith) ∙ last-cell (S l) (Q l) (o l .args .b) (m l) (omega arith))
+    whole ((rw e at (l .loop .inv .3)) .at (m l) (omega arith) ∙ last-cell (S l) (Q l) _ (m l) (omega arith))
 
 pub table-within-spec : {M : Type 1} → statement M
 table-within-spec =

@@ -1,4 +1,4 @@
--- `distance_warped::warped_in` meets its contract: what the envelope bound passes, the distance passes (`bound-le`).
+-- `warped_in` meets its contract: what the envelope bound passes, the distance passes (`bound-le`).
 use Rattle.meaning_numbers.specs.Sum.{Σℕ}
 use Rattle.meaning_numbers.proofs.Prelude.{needs, ℕ, _≤_, arith, length, ℤ}
 use Rattle.meaning_curves.specs.{Curve.at, Curve.stretch, Table.warped}
@@ -15,7 +15,7 @@ envelope-bound-requires c κs =
     let p = c .before .pre in
     let a = p .1 .1 .0 in
     let e = p .1 .1 .1 in
-    (omega (arith, e .below .long), (omega (arith, e .below .long, e .above .long), (omega (arith, e .below .long), (a .0, low-in (a .1) e, high-in (a .1) e))))
+    (search needs, (search needs, (search needs, (a .0, low-in (a .1) e, high-in (a .1) e))))
 
 module _ (c : tie.After-envelope-bound) where
   abbrev o : tie.Start
@@ -31,10 +31,10 @@ module _ (c : tie.After-envelope-bound) where
   told = rw (o .pre .1 .1 .1 .below .long) at (c .envelope-bound .ensures)
 
   under : Σℕ m (apart S (at (o .args .low .now)) (at (o .args .high .now))) ≤ warped S (at (o .args .q .now)) (o .args .b) m
-  under = let p = o .pre .1 in rw (distance-is S (at (o .args .q .now)) (o .args .b) m (p .0 .0)) at (bound-le S (p .1 .1) (p .0 .0))
+  under = let p = o .pre .1 in rw (distance-is S _ _ m (p .0 .0)) at (bound-le S (p .1 .1) (p .0 .0))
 
 returns : tie.Need-returns
-returns c = let w = c .before in record { exact = λ h. absurd (omega (arith, within-above (told w) (c .if1 .taken), under w)); above = λ h. c .if1 .taken }
+returns c = let w = c .before in record { exact = λ h. absurd (omega (arith, within-above (told w) (c .if1 .taken), under w)); above = search needs }
 
 table-within-requires : tie.Need-table-within-requires
 table-within-requires c κs =

@@ -1,4 +1,4 @@
--- `distance_within::compare` meets its contract: the straight distance is the distance at band 0, and the warped one at any band.
+-- `compare` meets its contract: the straight distance is the distance at band 0, and the warped one at any band.
 use Rattle.meaning_numbers.proofs.Prelude.{needs, _∙_, ap, sym, ℕ, arith, length, ℤ}
 use Rattle.meaning_curves.specs.Curve.{at, stretch}
 use Rattle.meaning_curves.proofs.Straight.{distance-is}
@@ -27,7 +27,7 @@ returns-2 : tie.Need-returns-2
 returns-2 c =
     let o = c .before .before .before .before .before .before .before in
     c .near-enough2 .ensures ∙ within-answer (c .before .before .before .warped-in .ensures)
-    ∙ ap (λ (d : ℕ). nearness d (o .args .threshold)) (sym (distance-is (S o) (Q o) (o .args .b) (m o) (o .pre .1 .0 .0)))
+    ∙ ap (λ (d : ℕ). nearness d (o .args .threshold)) (sym (distance-is (S o) (Q o) _ (m o) (o .pre .1 .0 .0)))
 
 pub compare-spec : {M : Type 1} → statement M
 compare-spec = tie.close (tie.spec (λ c κs. search needs) (λ c κs. search needs) returns (λ c κs. search needs) (λ c κs. search needs) (λ c. search needs) returns-2)

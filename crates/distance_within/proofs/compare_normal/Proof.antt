@@ -1,6 +1,6 @@
--- `distance_within::compare_normal` meets its contract: what the envelope bound passes, the distance passes (`bound-le`); else what stands in the room are the normalised values, and the distance asks for no others (`distance-same`).
+-- `compare_normal` meets its contract: what the envelope bound passes, the distance passes (`bound-le`); else what stands in the room are the normalised values, and the distance asks for no others (`distance-same`).
 use Rattle.meaning_numbers.specs.Sum.{Σℕ}
-use Rattle.meaning_numbers.proofs.Prelude.{needs, _∙_, ap, List, ℕ, _<_, _≤_, arith, length, ℤ}
+use Rattle.meaning_numbers.proofs.Prelude.{needs, _∙_, List, ℕ, _<_, _≤_, arith, length, ℤ}
 use Rattle.meaning_curves.specs.{Curve.at, Curve.stretch, Curve.spread, Normal.normalised, Match.distance}
 use Rattle.meaning_curves.proofs.Same.{distance-same}
 use Rattle.meaning_filter.proofs.Bound.{apart}
@@ -8,7 +8,7 @@ use Rattle.numbers.proofs.Within.{within-above}
 use Rattle.distance_normal.proofs.Stretch.{normalised-in}
 use Rattle.distance_envelope.proofs.EnvelopeLaws.{low-in, high-in}
 use Rattle.distance_warped.proofs.Rest.{bound-le}
-use Rattle.distance_within.specs.{Answer.nearness, Within.NormalWithin}
+use Rattle.distance_within.specs.{Within.NormalWithin}
 use Rattle.distance_within.proofs.{Answer.no-answer, Room.normal-room, Room.same-self, compare_normal.Statement.statement}
 use Rattle.distance_within.proofs.compare_normal.Tie as tie
 
@@ -36,29 +36,29 @@ module _ (c : tie.After-normalise-within) where
   made = rw (o .pre .1 .1 .0 .0) at (c .normalise-within .ensures)
 
   bound-is : Σℕ m (apart (normalised S m) (at (o .args .low .now)) (at (o .args .high .now))) ≤ distance (normalised S m) (at (o .args .curve .now)) (o .args .b) m
-  bound-is = bound-le (normalised S m) (o .pre .1 .1 .1) (o .pre .1 .0 .0)
+  bound-is = bound-le _ (o .pre .1 .1 .1) (o .pre .1 .0 .0)
 
   some : 0 < spread S m
-  some = omega (arith, o .pre .0 .some, o .pre .0 .spread-is)
+  some = omega arith
 
 returns : tie.Need-returns
 returns c =
     let w = c .before .before in
-    no-answer {d = distance (normalised (S w) (m w)) (at (o w .args .curve .now)) (o w .args .b) (m w)} {E = o w .args .threshold} (omega (arith, within-above (made w .bound) (c .if1 .taken), bound-is w))
+    no-answer {E = o w .args .threshold} (omega (arith, within-above (made w .bound) (c .if1 .taken), bound-is w))
 
 compare-requires : tie.Need-compare-requires
 compare-requires c κs =
     let w = c .before .before .before .before in
     let n = made w .made (c .before .before .if1 .left) in
     let p = o w .pre in
-    (omega (arith, n .long), ((p .1 .0 .0, p .0 .short, p .1 .1 .0 .1), ((normalised-in (some w) (p .0 .short) n, p .1 .0 .1), p .1 .1 .1)))
+    (search needs, ((p .1 .0 .0, p .0 .short, p .1 .1 .0 .1), ((normalised-in (some w) (p .0 .short) n, p .1 .0 .1), p .1 .1 .1)))
 
 returns-2 : tie.Need-returns-2
 returns-2 c =
     let w = c .before .before .before .before .before .before .before in
     let n = made w .made (c .before .before .before .before .before .if1 .left) in
     c .before .before .compare .ensures
-    ∙ ap (λ (d : ℕ). nearness d (o w .args .threshold)) (distance-same (o w .args .b) (o w .pre .1 .0 .0) (normal-room n) (same-self (m w) (at (o w .args .curve .now))))
+    ∙ rw (distance-same _ (o w .pre .1 .0 .0) (normal-room n) (same-self (m w) _))
 
 pub compare-normal-spec : {M : Type 1} → statement M
 compare-normal-spec = tie.close (tie.spec normalise-within-requires (λ c. search needs) returns compare-requires (λ c. search needs) (λ c. search needs) returns-2)

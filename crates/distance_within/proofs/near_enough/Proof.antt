@@ -1,4 +1,4 @@
--- `distance_within::near_enough` meets its contract.
+-- `near_enough` meets its contract.
 use Rattle.distance_within.proofs.{Answer.yes-answer, Answer.no-answer, near_enough.Statement.statement}
 use Rattle.distance_within.proofs.near_enough.Tie as tie
 

@@ -1,4 +1,4 @@
--- `distance_within::normalise_within` meets its contract. The invariant: so many values are normalised, and so much of their bound is made. A block adds its part (`part-more`); left early, the total is a part of the bound.
+-- `normalise_within` meets its contract. The invariant: so many values are normalised, and so much of their bound is made. A block adds its part (`part-more`); left early, the total is a part of the bound.
 use Rattle.meaning_numbers.specs.Sum.{Σℕ}
 use Rattle.meaning_numbers.proofs.Prelude.{_≡_, refl, sym, _∙_, List, ℕ, _+_, _-_, _<_, _≤_, arith, ℤ, length, take, length-take}
 use Rattle.meaning_curves.specs.{Curve.at, Curve.stretch, Curve.spread, Normal.normalised}
@@ -32,7 +32,7 @@ module _ (l : tie.At-loop Inv-loop μ-loop) where
   F = apart (normalised S m) (at (start .args .low .now)) (at (start .args .high .now))
 
   some : 0 < spread S m
-  some = omega (arith, ready .some, ready .spread-is)
+  some = omega arith
 
   -- what a part asks
   asks : (n : ℕ) → l .loop .i + n ≤ m
@@ -45,15 +45,15 @@ module _ (l : tie.At-loop Inv-loop μ-loop) (n e : ℕ) (is : e ≡ l .loop .i +
   to = rw is (normal-next (l .loop .inv .1) (rw (l .loop .inv .1 .long) at p))
 
   long : length (take e out) ≡ e
-  long = length-take e out ∙ omega (arith, to .long)
+  long = length-take e out ∙ omega arith
 
   reads : (0 + (l .loop .i + n) ≤ length (take e out)) × ((l .loop .i + n ≤ length (start l .args .low .now)) × ((l .loop .i + n ≤ length (start l .args .high .now)) × ((n ≤ 1024) × (AllIn (take e out) × AllIn (start l .args .low .now) × AllIn (start l .args .high .now)))))
   reads =
       let q = start l .pre .1 in
-      (omega (arith, long), (omega (arith, q .0), (omega (arith, q .0), (omega (arith, ready l .short), (made-in (some l) (ready l .short) fits to, q .1 .0, q .1 .1)))))
+      (omega (arith, long), (omega arith, (omega arith, (omega arith, (made-in (some l) (ready l .short) fits to, q .1 .0, q .1 .1)))))
 
   more : {r : ℕ} → r ≡ Σℕ n (λ k. apart (stretch (take e out) 0) (at (start l .args .low .now)) (at (start l .args .high .now)) (l .loop .i + k)) → Made (F l) 400000000 e (l .loop .total + r)
-  more told = let q = start l .pre .1 in part-more (some l) (ready l .short) fits to (l .loop .i) n is (q .1 .0) (q .1 .1) told (l .loop .inv .2)
+  more told = let q = start l .pre .1 in part-more (some l) (ready l .short) fits to _ n is (q .1 .0) (q .1 .1) told (l .loop .inv .2)
 
 -- a block of 16
 module _ (c : tie.After-normalise-part Inv-loop μ-loop) where
@@ -61,7 +61,7 @@ module _ (c : tie.After-normalise-part Inv-loop μ-loop) where
   l = c .before .before .before
 
   fits : l .loop .i + 16 ≤ m l
-  fits = omega (arith, c .before .before .loop-test .taken, l .loop .inv .0)
+  fits = omega arith
 
   made : NormalTo (S l) (m l) (l .loop .i + 16) (c .normalise-part .last .1 .1 .1 .1 .1 .1 .1 .0)
   made = to l 16 _ refl fits (c .normalise-part .ensures)
@@ -75,7 +75,7 @@ module _ (c : tie.After-normalise-part2 Inv-loop μ-loop) where
   l₂ = c .before .before .before
 
   whole : m l₂ ≡ l₂ .loop .i + (m l₂ - l₂ .loop .i)
-  whole = omega (arith, l₂ .loop .inv .0)
+  whole = omega arith
 
   made₂ : NormalTo (S l₂) (m l₂) (m l₂) (c .normalise-part2 .last .1 .1 .1 .1 .1 .1 .1 .0)
   made₂ = to l₂ _ (m l₂) whole (omega arith) (c .normalise-part2 .ensures)
@@ -86,10 +86,7 @@ module _ (c : tie.After-normalise-part2 Inv-loop μ-loop) where
 returns : tie.Need-returns Inv-loop μ-loop
 returns c =
     let w = c .before .before .before .before in
-    record { bound = made-left (adds w (c .before .envelope-part .ensures)) (fits w) (c .if1 .taken); made = λ h. absurd (omega (arith, c .if1 .taken)) }
-
-loop-again : tie.Need-loop-again Inv-loop μ-loop
-loop-again c = let w = c .before .before .before .before in (fits w, made w, adds w (c .before .envelope-part .ensures))
+    record { bound = made-left (adds w (c .before .envelope-part .ensures)) (fits w) (c .if1 .taken); made = λ h. absurd (omega arith) }
 
 returns-2 : tie.Need-returns-2 Inv-loop μ-loop
 returns-2 c =
@@ -99,11 +96,11 @@ returns-2 c =
 pub normalise-within-spec : {M : Type 1} → statement M
 normalise-within-spec =
     tie.close (tie.spec Inv-loop μ-loop (λ c κs. c .pre .0 .some) (λ c. (omega arith, record { long = refl; at = λ k h. absurd (omega arith) }, made-none _ _)) (λ c. c .loop .inv .0)
-    (λ c κs. let u = c .before in asks (u .before) 16 (omega (arith, u .loop-test .taken, u .before .loop .inv .0))) (λ c. omega (arith, fits (c .before), ready (l (c .before)) .short))
-    (λ c. let w = c .before in omega (arith, fits w, made w .long)) (λ c. let w = c .before .before in sym (long (l w) 16 _ refl (fits w) (w .normalise-part .ensures)))
+    (λ c κs. let u = c .before in asks (u .before) 16 (omega (arith, u .loop-test .taken, u .before .loop .inv .0))) (λ c. omega (arith, ready (l (c .before)) .short))
+    (λ c. let w = c .before in omega (arith, fits w)) (λ c. let w = c .before .before in sym (long (l w) 16 _ refl (fits w) (w .normalise-part .ensures)))
     (λ c κs. let w = c .before .before in reads (l w) 16 _ refl (fits w) (w .normalise-part .ensures))
     (λ c. let w = c .before .before .before in omega (arith, adds w (c .envelope-part .ensures) .small, fits w, ready (l w) .short)) (λ c. made (c .before .before .before .before) .long) returns
-    (λ c. omega (arith, fits (c .before .before .before .before))) loop-again (λ c. c .before .loop .inv .0) (λ c κs. let l = c .before .before in asks l _ (omega (arith, l .loop .inv .0)))
-    (λ c. omega (arith, made₂ (c .before) .long)) (λ c. let w = c .before .before in sym (long (l₂ w) _ (m (l₂ w)) (whole w) (omega arith) (w .normalise-part2 .ensures)))
-    (λ c. l₂ (c .before .before) .loop .inv .0) (λ c κs. let w = c .before .before in reads (l₂ w) _ (m (l₂ w)) (whole w) (omega arith) (w .normalise-part2 .ensures))
+    (λ c. omega arith) (λ c. let w = c .before .before .before .before in (fits w, made w, adds w (c .before .envelope-part .ensures))) (λ c. c .before .loop .inv .0) (λ c κs. let l = c .before .before in asks l _ (omega arith))
+    (λ c. omega arith) (λ c. let w = c .before .before in sym (long (l₂ w) _ (m (l₂ w)) (whole w) (omega arith) (w .normalise-part2 .ensures)))
+    (λ c. l₂ (c .before .before) .loop .inv .0) (λ c κs. let w = c .before .before in reads (l₂ w) _ _ (whole w) (omega arith) (w .normalise-part2 .ensures))
     (λ c. let w = c .before .before .before in omega (arith, adds₂ w (c .envelope-part2 .ensures) .small, ready (l₂ w) .short)) (λ c. made₂ (c .before .before .before) .long) returns-2)

@@ -1,10 +1,10 @@
--- `entry_audit::audit_chunk` meets its contract. The invariant of each loop: what is filed wrongly first among what is left to audit is what is filed wrongly first in the chunk, and nothing is filed wrongly so far; of the innermost loop, besides, that the part is the sum of the offset's window but for its last value.
+-- `audit_chunk` meets its contract. The invariant of each loop: what is filed wrongly first among what is left to audit is what is filed wrongly first in the chunk, and nothing is filed wrongly so far; of the innermost loop, besides, that the part is the sum of the offset's window but for its last value.
 -- The measures are how many rows, runs and offsets are left.
-use Rattle.meaning_numbers.proofs.Prelude.{needs, not-true, not-false, _≡_, refl, sym, ap, _∙_, true, false, not, List, Option, none, some, ℕ, _+_, _-_, _<_, _≤_, arith, length, getD, drop, w32, toZ, ofZ, toZ-ofZ, ℤ}
+use Rattle.meaning_numbers.proofs.Prelude.{needs, not-true, not-false, _≡_, sym, _∙_, true, List, Option, none, some, ℕ, _+_, _-_, _<_, _≤_, arith, length, getD, drop, w32, toZ, ofZ, toZ-ofZ, ℤ}
 use Rattle.meaning_curves.specs.Curve.{windowSum}
 use Rattle.meaning_rows.specs.{declared.Row.Row, Range.inside}
 use Rattle.rows_records.specs.Records.{zeroRow}
-use Rattle.entry_audit.specs.Auditing.{found, Reads, Ready, wrongOf}
+use Rattle.entry_audit.specs.Auditing.{Reads, Ready, wrongOf}
 use Rattle.entry_audit.proofs.audit_chunk.Statement.{statement}
 use Rattle.entry_audit.proofs.Turn.{chunk-off, chunk-found, still-found, wrong-found, Still, inRuns, inOffsets, later, row-begins, row-ends, run-begins, run-ends, filed-right, filed-wrong, none-left}
 use Rattle.entry_audit.proofs.audit_chunk.Tie as tie
@@ -77,7 +77,7 @@ module _ (c : Rows) where
   r = getD chunk (c .rows .k) zeroRow
 
   goes : start c .args .s .go ≡ true
-  goes = not-false (start c .args .s .go) (c .before .before .if1 .left)
+  goes = not-false _ (c .before .before .if1 .left)
 
   ready : Ready series (start c .args .head) left right chunk from
   ready = start c .pre goes
@@ -115,13 +115,13 @@ module _ (c : tie.After-holds Inv-offsets μ-offsets Inv-runs μ-runs Inv-rows �
 
   -- the sum that is tested
   filed : toZ w32 (ofZ w32 (c .before .before .before .value-in .result)) ≡ windowSum (series (up-runs (up-offsets here))) (w (up-runs (up-offsets here)) - 1 + 1) (here .offsets .j)
-  filed = toZ-ofZ w32 (c .before .before .before .value-in .result) (record { sfits = c .before .before .before .value-in .ok }) ∙ c .before .before .before .value-in .ensures
+  filed = toZ-ofZ w32 _ (record { sfits = c .before .before .before .value-in .ok }) ∙ c .before .before .before .value-in .ensures
 
   tested : toZ w32 (ofZ w32 (c .before .before .before .value-in .result)) ≡ windowSum (series (up-runs (up-offsets here))) (w (up-runs (up-offsets here))) (here .offsets .j)
   tested =
       let o = up-runs (up-offsets here) in
       let e : w o - 1 + 1 ≡ w o = omega (arith, ready o .least) in
-      filed ∙ ap (λ (n : ℕ). windowSum (series o) n (here .offsets .j)) e
+      filed ∙ rw e
 
   told : c .holds .result ≡ inside (row .low) (row .up) (windowSum (series (up-runs (up-offsets here))) (w (up-runs (up-offsets here))) (here .offsets .j))
   told =
@@ -134,50 +134,32 @@ module _ (c : tie.After-holds Inv-offsets μ-offsets Inv-runs μ-runs Inv-rows �
 returns : tie.Need-returns Inv-offsets μ-offsets Inv-runs μ-runs Inv-rows μ-rows
 returns c =
     let s = c .before .before .before .before in
-    chunk-off (s .args .series .now) (s .args .head) (s .args .left .now) (s .args .right .now) (s .args .s) (s .args .from) (s .args .t1) (not-true (s .args .s .go) (c .if1 .taken))
+    chunk-off _ _ _ _ (s .args .s) _ (s .args .t1) (not-true _ (c .if1 .taken))
 
 sub-rest : tie.Need-sub-rest Inv-offsets μ-offsets Inv-runs μ-runs Inv-rows μ-rows
 sub-rest c =
     let s = c .before .before .before .before .before in
-    let y = s .pre (not-false (s .args .s .go) (c .before .if1 .left)) in
-    omega (arith, y .least)
+    let y = s .pre (not-false _ (c .before .if1 .left)) in
+    omega arith
 
 rows-holds : tie.Need-rows-holds Inv-offsets μ-offsets Inv-runs μ-runs Inv-rows μ-rows
 rows-holds c =
     let s = c .before .before .before .before .before in
     let e : s .args .from + 0 ≡ s .args .from = omega arith in
-    (omega arith, record { goes = refl; no-row = refl; no-offset = refl }, ap (λ (n : ℕ). wrongOf (s .args .series .now) (s .args .head .window) (s .args .left .now) (s .args .right .now) n (s .args .t1)) e)
+    (omega arith, search needs, rw e)
 
 runs-holds : tie.Need-runs-holds Inv-offsets μ-offsets Inv-runs μ-runs Inv-rows μ-rows
 runs-holds c =
     let a = c .before .before .before .before in
     let h = c .before .before .before .rows-test .taken in
-    (omega arith, omega arith, a .rows .inv .1, row-begins (series a) (w a) (left a) (right a) (from a) (chunk a) (a .rows .k) (omega (arith, ready a .size, h)) ∙ a .rows .inv .2)
-
-mul-j : tie.Need-mul-j Inv-offsets μ-offsets Inv-runs μ-runs Inv-rows μ-rows
-mul-j c = let R = reads (c .before) in omega (arith, R .in-left)
-
-shared-slice-read-j : tie.Need-shared-slice-read-j Inv-offsets μ-offsets Inv-runs μ-runs Inv-rows μ-rows
-shared-slice-read-j c = let R = reads (c .before .before) in omega (arith, R .in-left)
-
-cast-j : tie.Need-cast-j Inv-offsets μ-offsets Inv-runs μ-runs Inv-rows μ-rows
-cast-j c = omega (arith, c .shared-slice-known3 .given (c .before .before .runs .i))
-
-mul-last : tie.Need-mul-last Inv-offsets μ-offsets Inv-runs μ-runs Inv-rows μ-rows
-mul-last c = let R = reads (c .before .before) in omega (arith, R .in-right)
-
-shared-slice-read-last : tie.Need-shared-slice-read-last Inv-offsets μ-offsets Inv-runs μ-runs Inv-rows μ-rows
-shared-slice-read-last c = let R = reads (c .before .before .before) in omega (arith, R .in-right)
-
-cast-last : tie.Need-cast-last Inv-offsets μ-offsets Inv-runs μ-runs Inv-rows μ-rows
-cast-last c = omega (arith, c .shared-slice-known4 .given (c .before .before .before .runs .i))
+    (omega arith, omega arith, a .rows .inv .1, row-begins (series a) (w a) (left a) (right a) (from a) (chunk a) (a .rows .k) (omega (arith, h)) ∙ a .rows .inv .2)
 
 part-sum-requires : tie.Need-part-sum-requires Inv-offsets μ-offsets Inv-runs μ-runs Inv-rows μ-rows
 part-sum-requires c κs =
     let a = c .before .before .before in
     let h = c .before .before .runs-test .taken in
     let y = ready (up-runs a) in
-    (omega (arith, upward a h, below a h, y .least), (omega (arith, y .window, y .least), y .values))
+    (omega (arith, upward a h, below a h, y .least), (omega arith, y .values))
 
 offsets-holds : tie.Need-offsets-holds Inv-offsets μ-offsets Inv-runs μ-runs Inv-rows μ-rows
 offsets-holds c =
@@ -196,16 +178,13 @@ value-in-requires c κs =
     let a = up-offsets b in
     let h = b .before .before .before .before .runs-test .taken in
     let y = ready (up-runs a) in
-    (omega (arith, below a h, c .offsets-test .taken, y .least), (omega (arith, y .window, y .least), (y .values, b .offsets .inv .2)))
-
-holds-requires : tie.Need-holds-requires Inv-offsets μ-offsets Inv-runs μ-runs Inv-rows μ-rows
-holds-requires c κs = tt
+    (omega (arith, below a h, c .offsets-test .taken, y .least), (omega arith, (y .values, b .offsets .inv .2)))
 
 add-row : tie.Need-add-row Inv-offsets μ-offsets Inv-runs μ-runs Inv-rows μ-rows
 add-row c =
     let b = here (c .before) in
     let o = up-runs (up-offsets b) in
-    omega (arith, ready o .far, up-offsets b .before .before .before .before .rows-test .taken)
+    omega (arith, ready o .far, up-offsets (search needs))
 
 value-out-requires : tie.Need-value-out-requires Inv-offsets μ-offsets Inv-runs μ-runs Inv-rows μ-rows
 value-out-requires c κs =
@@ -213,7 +192,7 @@ value-out-requires c κs =
     let a = up-offsets b in
     let h = b .before .before .before .before .runs-test .taken in
     let y = ready (up-runs a) in
-    (omega (arith, below a h, c .before .before .before .before .before .offsets-test .taken, y .least), (omega (arith, y .window, y .least), (y .values, filed (c .before))))
+    (omega (arith, below a h, c .before .before .before .before .before .offsets-test .taken, y .least), (omega arith, (y .values, filed (c .before))))
 
 add-j : tie.Need-add-j Inv-offsets μ-offsets Inv-runs μ-runs Inv-rows μ-rows
 add-j c =
@@ -221,9 +200,6 @@ add-j c =
     let a = up-offsets b in
     let h = b .before .before .before .before .runs-test .taken in
     omega (arith, below a h, c .before .before .before .before .before .before .offsets-test .taken, start (up-runs a) .good)
-
-offsets-less : tie.Need-offsets-less Inv-offsets μ-offsets Inv-runs μ-runs Inv-rows μ-rows
-offsets-less c = let h = c .before .before .before .before .before .before .offsets-test .taken in omega (arith, h)
 
 offsets-again : tie.Need-offsets-again Inv-offsets μ-offsets Inv-runs μ-runs Inv-rows μ-rows
 offsets-again c =
@@ -235,17 +211,8 @@ offsets-again c =
       omega (arith, t),
       b .offsets .inv .1,
       toZ-ofZ w32 (c .value-out .result) (record { sfits = c .value-out .ok }) ∙ c .value-out .ensures,
-      filed-right (series o) (w o) (left o) (right o) (from o + o .rows .k) (r o) (b .offsets .j) (last a) (a .runs .i + 1) (end a) (after a) t (sym (told g) ∙ not-false (g .holds .result) (c .before .if2 .left)) ∙ b .offsets .inv .3,
+      filed-right (series o) (w o) (left o) (right o) (from o + o .rows .k) (r o) _ (last a) _ (end a) (after a) t (sym (told g) ∙ not-false _ (c .before .if2 .left)) ∙ b .offsets .inv .3,
     )
-
-add-i : tie.Need-add-i Inv-offsets μ-offsets Inv-runs μ-runs Inv-rows μ-rows
-add-i c =
-    let a = up-offsets (c .before) in
-    let h = c .before .before .before .before .before .runs-test .taken in
-    omega (arith, reads a .in-left, h, start (up-runs a) .good)
-
-runs-less : tie.Need-runs-less Inv-offsets μ-offsets Inv-runs μ-runs Inv-rows μ-rows
-runs-less c = let h = c .before .before .before .before .before .runs-test .taken in omega (arith, h)
 
 runs-again : tie.Need-runs-again Inv-offsets μ-offsets Inv-runs μ-runs Inv-rows μ-rows
 runs-again c =
@@ -253,24 +220,18 @@ runs-again c =
     let a = up-offsets b in
     let o = up-runs a in
     let h = b .before .before .before .before .runs-test .taken in (
-      omega (arith, a .runs .inv .0),
+      omega arith,
       omega (arith, h),
       b .offsets .inv .1,
-      run-ends (series o) (w o) (left o) (right o) (from o + o .rows .k) (r o) (b .offsets .j) (last a) (a .runs .i + 1) (end a) (after a) (c .offsets-test .left) ∙ b .offsets .inv .3,
+      run-ends (series o) (w o) (left o) (right o) _ (r o) _ (last a) _ (end a) (after a) (c .offsets-test .left) ∙ b .offsets .inv .3,
     )
-
-add-k : tie.Need-add-k Inv-offsets μ-offsets Inv-runs μ-runs Inv-rows μ-rows
-add-k c = let h = c .before .before .before .before .before .rows-test .taken in omega (arith, h)
-
-rows-less : tie.Need-rows-less Inv-offsets μ-offsets Inv-runs μ-runs Inv-rows μ-rows
-rows-less c = let h = c .before .before .before .before .before .rows-test .taken in omega (arith, h)
 
 rows-again : tie.Need-rows-again Inv-offsets μ-offsets Inv-runs μ-runs Inv-rows μ-rows
 rows-again c =
     let a = c .before in
     let o = up-runs a in
     let h = a .before .before .before .before .rows-test .taken in
-    (omega (arith, h), a .runs .inv .2, row-ends (series o) (w o) (left o) (right o) (from o + o .rows .k) (r o) (a .runs .i) (end a) (after a) (c .runs-test .left) ∙ a .runs .inv .3)
+    (omega (arith, h), a .runs .inv .2, row-ends (series o) (w o) (left o) (right o) _ (r o) (a .runs .i) (end a) (after a) (c .runs-test .left) ∙ a .runs .inv .3)
 
 returns-2 : tie.Need-returns-2 Inv-offsets μ-offsets Inv-runs μ-runs Inv-rows μ-rows
 returns-2 c =
@@ -278,7 +239,7 @@ returns-2 c =
     let s = start o in
     still-found (o .rows .go) (o .rows .row) (o .rows .offset) (o .rows .inv .1)
     ∙ chunk-found (series o) (s .args .head) (left o) (right o) (s .args .s) (from o) (chunk o) (goes o) none
-    (none-left (series o) (w o) (left o) (right o) (from o + o .rows .k) (chunk o) (o .rows .k) (omega (arith, ready o .size, c .rows-test .left)) ∙ o .rows .inv .2)
+    (none-left (series o) (w o) (left o) (right o) (from o + o .rows .k) (chunk o) (o .rows .k) (omega arith) ∙ o .rows .inv .2)
 
 returns-3 : tie.Need-returns-3 Inv-offsets μ-offsets Inv-runs μ-runs Inv-rows μ-rows
 returns-3 c =
@@ -290,10 +251,10 @@ returns-3 c =
     let t = c .before .before .before .before .before .offsets-test .taken in
     wrong-found n (b .offsets .j)
     ∙ chunk-found (series o) (s .args .head) (left o) (right o) (s .args .s) (from o) (chunk o) (goes o) (some (n, b .offsets .j))
-    (filed-wrong (series o) (w o) (left o) (right o) n (r o) (b .offsets .j) (last a) (a .runs .i + 1) (end a) (after a) t (sym (told (c .before)) ∙ not-true (c .before .holds .result) (c .if2 .taken)) ∙ b .offsets .inv .3)
+    (filed-wrong (series o) (w o) (left o) (right o) n (r o) (b .offsets .j) (last a) _ (end a) (after a) t (sym (told (c .before)) ∙ not-true _ (c .if2 .taken)) ∙ b .offsets .inv .3)
 
 pub audit-chunk-spec : {M : Type 1} → statement M
 audit-chunk-spec =
-    tie.close (tie.spec Inv-offsets μ-offsets Inv-runs μ-runs Inv-rows μ-rows returns (λ c. search needs) sub-rest rows-holds (λ c. omega arith) (λ c. omega arith) (λ c. search needs)
-    (λ c. search needs) (λ c. search needs) runs-holds mul-j shared-slice-read-j cast-j mul-last shared-slice-read-last cast-last part-sum-requires offsets-holds value-in-requires holds-requires
-    add-row value-out-requires add-j offsets-less offsets-again add-i runs-less runs-again add-k rows-less rows-again returns-2 returns-3)
+    tie.close (tie.spec Inv-offsets μ-offsets Inv-runs μ-runs Inv-rows μ-rows returns (search needs) sub-rest rows-holds (search needs) (search needs) (search needs)
+    (search needs) (search needs) runs-holds (λ c. search needs) (λ c. let R = reads (c .before .before) in omega (arith, R .in-left)) (λ c. omega (arith, c .shared-slice-known3 .given (c .before .before .runs .i))) (λ c. search needs) (λ c. let R = reads (c .before .before .before) in omega (arith, R .in-right)) (λ c. omega (arith, c .shared-slice-known4 .given (c .before .before .before .runs .i))) part-sum-requires offsets-holds value-in-requires (λ c κs. search needs)
+    add-row value-out-requires add-j (λ c. search needs) offsets-again (λ c. search needs) (λ c. search needs) runs-again (λ c. search needs) (λ c. search needs) rows-again returns-2 returns-3)

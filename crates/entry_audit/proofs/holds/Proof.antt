@@ -1,4 +1,4 @@
--- `entry_audit::holds` meets its contract: its two tests are those of the definition.
+-- `holds` meets its contract: its two tests are those of the definition.
 use Rattle.meaning_numbers.proofs.Prelude.{needs}
 use Rattle.meaning_rows.specs.Range.{inside}
 use Rattle.entry_audit.proofs.holds.Statement.{statement}

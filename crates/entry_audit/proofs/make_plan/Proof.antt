@@ -1,4 +1,4 @@
--- `entry_audit::make_plan` meets its contract.
+-- `make_plan` meets its contract.
 use Rattle.meaning_numbers.proofs.Prelude.{needs}
 use Rattle.entry_audit.specs.Plan.{planOf}
 use Rattle.entry_audit.proofs.make_plan.Statement.{statement}
@@ -9,4 +9,4 @@ unfolding planOf
 returns c = λ i. record { refusal = c .before .refuse-audit .ensures i; lacking = c .left-over .ensures i }
 
 pub make-plan-spec : {M : Type 1} → statement M
-make-plan-spec = tie.close (tie.spec (λ c κs. search needs) (λ c κs. search needs) returns)
+make-plan-spec = tie.close (tie.spec (search needs) (search needs) returns)

@@ -1,4 +1,4 @@
--- `entry_audit::refuse_audit` meets its contract: each test is a line of the table.
+-- `refuse_audit` meets its contract: each test is a line of the table.
 use Rattle.meaning_numbers.proofs.Prelude.{needs}
 use Rattle.meaning_entries.specs.Refusal.{fewerWindows, moreWindows}
 use Rattle.refusals.specs.Refusal.{judgedLine}
@@ -18,4 +18,4 @@ returns c =
 
 pub refuse-audit-spec : {M : Type 1} → statement M
 refuse-audit-spec =
-    tie.close (tie.spec (λ c κs. search needs) (λ c κs. search needs) (λ c κs. search needs) (λ c κs. search needs) (λ c κs. search needs) (λ c κs. search needs) (λ c κs. search needs) returns)
+    tie.close (tie.spec (search needs) (search needs) (search needs) (search needs) (search needs) (search needs) (search needs) returns)

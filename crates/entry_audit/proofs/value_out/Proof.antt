@@ -1,4 +1,4 @@
--- `entry_audit::value_out` meets its contract (`but-first`); nothing wraps, as no window's sum is large (`out-fits`).
+-- `value_out` meets its contract (`but-first`); nothing wraps, as no window's sum is large (`out-fits`).
 use Rattle.meaning_numbers.proofs.Prelude.{needs, _≡_, _∙_, _+_, arith, w32, toZ, ofZ, toZ-ofZ}
 use Rattle.meaning_curves.specs.Curve.{windowSum}
 use Rattle.values.proofs.Window.{out-fits, out-sum, but-first}
@@ -16,4 +16,4 @@ returns : tie.Need-returns
 returns c = let a = o c .args in out-sum (a .rest + 1) (a .j) (o c .pre .1 .1 .0) (omega arith) (sum-is c) (a .j) ∙ but-first (a .s .now) (a .rest) (a .j)
 
 pub value-out-spec : {M : Type 1} → statement M
-value-out-spec = tie.close (tie.spec (λ c. search needs) (λ c. search needs) (λ c. let a = o c .args in out-fits (a .rest + 1) (a .j) (o c .pre .1 .1 .0) (omega arith) (sum-is c) (a .j)) returns)
+value-out-spec = tie.close (tie.spec (search needs) (search needs) (λ c. let a = o c .args in out-fits (a .rest + 1) (a .j) (o c .pre .1 .1 .0) (omega arith) (sum-is c) (a .j)) returns)

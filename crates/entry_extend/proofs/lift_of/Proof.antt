@@ -1,4 +1,4 @@
--- `entry_extend::lift_of` meets its contract.
+-- `lift_of` meets its contract.
 use mathlib.Core.Path.{refl}
 use native.Mathlib.Omega.{arith}
 use Rattle.entry_extend.proofs.lift_of.Statement.{statement}

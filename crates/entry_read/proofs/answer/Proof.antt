@@ -1,4 +1,4 @@
--- `entry_read::answer` meets its contract. By the number of the plan.
+-- `answer` meets its contract. By the number of the plan.
 use borrow.Author.Tests.{eq-eqb, ne-eqb}
 use mathlib.Core.Path.{refl}
 use Rattle.entry_read.specs.Plan.{planAnswer}

@@ -1,10 +1,8 @@
--- `entry_read::fill_runs` meets its contract. The invariant: the columns after i bytes are a view of what has been said (`Filling`). The measure is what is left of the text.
+-- `fill_runs` meets its contract. The invariant: the columns after i bytes are a view of what has been said (`Filling`). The measure is what is left of the text.
 use Prim.Native.Nat.{_-_}
 use borrow.Author.Needs.{needs}
 use lib.ListN.{length}
-use mathlib.Core.Path.{_≡_}
 use mir.Syntax.{w64}
-use mir.Val.{toZ, ofZ}
 use mir.ValLaws.{toZ-ofZ}
 use native.Mathlib.Omega.{arith}
 use Rattle.text_event.proofs.EventLaws.{row-up, run-up, runs-up, value-up, closed-up}
@@ -43,12 +41,12 @@ loop-again-3 c =
     let n = ho .before .before in
     let a = n .before .before in
     let z = n .n .given .0 .1 .1 .0 in
-    let e : toZ w64 (ofZ w64 z) ≡ z = toZ-ofZ w64 z (search (needs, ho .before .known-told3 .given)) in
+    let e = toZ-ofZ w64 z (search (needs, ho .before .known-told3 .given)) in
     let e1 = rw (ir .is-right .ensures) at (p1 .put-if .ensures) in
     let e2 = rw (ir .is-right .ensures, ho .hold .ensures, e) at (p2 .put-if2 .ensures) in
     let e3 = rw (ir .is-right .ensures) at (ci .count-if .ensures) in
     let e4 = rw (il .is-left .ensures, ho .hold .ensures, e) at (c .pick-if .ensures) in
-    rw (e1, e2, e3, e4) (filling-value _ _ _ (a .before .loop .inv) (n .n .given .0 .0) (n .n .given .0 .1 .0) z _ (rw (n .n .given .1) at (a .next-event .ensures)))
+    rw (e1, e2, e3, e4) (filling-value _ _ _ (a .before .loop .inv) _ _ z _ (rw (n .n .given .1) at (a .next-event .ensures)))
 
 pub fill-runs-spec : {M : Type 1} → statement M
 fill-runs-spec =

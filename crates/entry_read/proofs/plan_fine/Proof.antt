@@ -1,8 +1,8 @@
--- `entry_read::plan_fine` meets its contract, by what refuses.
+-- `plan_fine` meets its contract, by what refuses.
 use Prim.Native.Nat.{ℕ}
 use borrow.Author.Needs.{needs}
 use borrow.Author.Tests.{eq-eqb, ne-eqb}
-use mathlib.Core.Path.{_≡_, refl, ap, _∙_}
+use mathlib.Core.Path.{_≡_, refl, _∙_}
 use Rattle.meaning_rows.specs.declared.Head.{Head}
 use Rattle.refusals.specs.declared.Refusal.{Refusal}
 use Rattle.text_judge.specs.declared.Rows.{Rows}
@@ -13,7 +13,7 @@ use Rattle.entry_read.proofs.plan_fine.Tie as tie
 -- the plan, by the refusal that the code has
 by : (c : tie.After-refuse-rows) → let a = c .before .args in planBy (c .refuse-rows .result) (a .head) (a .c) (a .rows) ≡ fitPlan (a .head) (a .c) (a .rows) (a .runs)
 unfolding fitPlan
-by c = let a = c .before .args in ap (λ (r : Refusal). planBy r (a .head) (a .c) (a .rows)) (c .refuse-rows .ensures)
+by c = rw (c .refuse-rows .ensures)
 
 refused-by : (r : Refusal) (h : Head) (c : Rows) (rows : ℕ) → (r .number ≡ 0 → ⊥) → refusedPlan r rows ≡ planBy r h c rows
 refused-by r h c rows f = rw (ne-eqb (r .number) 0 f) refl
@@ -22,10 +22,10 @@ free-by : (r : Refusal) (h : Head) (c : Rows) (rows : ℕ) → r .number ≡ 0 �
 free-by r h c rows z = rw (eq-eqb (r .number) 0 z) refl
 
 returns : tie.Need-returns
-returns c = let r = c .before .before .before in let a = r .before .args in c .refused .ensures ∙ refused-by (r .refuse-rows .result) (a .head) (a .c) (a .rows) (c .before .if1 .taken) ∙ by r
+returns c = let r = c .before .before .before in let a = r .before .args in c .refused .ensures ∙ refused-by _ (a .head) (a .c) (a .rows) (c .before .if1 .taken) ∙ by r
 
 returns-2 : tie.Need-returns-2
-returns-2 c = let r = c .before .before in let a = r .before .args in free-by (r .refuse-rows .result) (a .head) (a .c) (a .rows) (c .if1 .left) ∙ by r
+returns-2 c = let r = c .before .before in let a = r .before .args in free-by _ (a .head) (a .c) (a .rows) (c .if1 .left) ∙ by r
 
 pub plan-fine-spec : {M : Type 1} → statement M
-plan-fine-spec = tie.close (tie.spec (λ c κs. search needs) (λ c κs. search needs) returns returns-2)
+plan-fine-spec = tie.close (tie.spec (search needs) (search needs) returns returns-2)

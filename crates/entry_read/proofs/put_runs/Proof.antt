@@ -1,8 +1,8 @@
--- `entry_read::put_runs` meets its contract. The invariant: the columns are what the runs so far make of those at the beginning (`RunsFrom`). The measure is what is left of the text.
+-- `put_runs` meets its contract. The invariant: the columns are what the runs so far make of those at the beginning (`RunsFrom`). The measure is what is left of the text.
 use Prim.Native.Nat.{_-_, _≤_}
 use borrow.Author.Needs.{needs}
 use lib.ListN.{length, length-set}
-use mathlib.Core.Path.{_≡_, refl, ap, _∙_}
+use mathlib.Core.Path.{_≡_, refl, _∙_}
 use native.Mathlib.Omega.{arith}
 use Rattle.text_event.specs.Event.{RunsFrom, none, one, leftOf, rightOf}
 use Rattle.text_event.proofs.EventLaws.{run-up}
@@ -17,12 +17,6 @@ Inv-loop text at k l r left₀ right₀ last₀ n₀ i₀ left right last n i =
 abbrev μ-loop : tie.MeasureT-loop
 μ-loop text at k l r left₀ right₀ last₀ n₀ i₀ left right last n i = length text - i
 
-add-n-2 : tie.Need-add-n-2 Inv-loop μ-loop
-add-n-2 c = let p = c .before .before .before .before .before .before .before .before .before .before .before .plain-run .ensures (omega (arith, c .before .before .before .before .before .before .before .before .before .before .if1 .left)) in let l = c .before .before .before .before .before .before .before .before .before .before .before .before in omega (arith, run-up (p .run) .0, run-up (p .run) .1, l .loop .inv .0, c .before .before .before .before .before .before .before .before .before .before .before .before .before .before .before .before .before .before .before .before .before .before .before .before .good)
-
-add-i : tie.Need-add-i Inv-loop μ-loop
-add-i c = let p = c .before .before .before .before .before .before .before .before .before .before .before .before .plain-run .ensures (omega (arith, c .before .before .before .before .before .before .before .before .before .before .before .if1 .left)) in omega (arith, run-up (p .run) .1, c .run-length .ensures, c .before .before .before .before .before .before .before .before .before .before .before .before .before .before .before .before .before .before .before .before .before .before .before .before .before .good)
-
 loop-again : tie.Need-loop-again Inv-loop μ-loop
 loop-again c =
     let p3 = c .before .before .before .before .before .before .before .before in
@@ -30,21 +24,21 @@ loop-again c =
     let n = c .before .before .before .before .before .before .before .before .before .before in
     let l = c .before .before .before .before .before .before .before .before .before .before .before .before .before in
     let q = c .before .before .before .before .before .before .before .before .before .before .before .before .plain-run .result in
-    let p = c .before .before .before .before .before .before .before .before .before .before .before .before .plain-run .ensures (omega (arith, c .before .before .before .before .before .before .before .before .before .before .before .if1 .left)) in
+    let p = c .before .before .before .before .before .before .before .before .before .before .before .before .plain-run .ensures (omega arith) in
     let e1 = rw (n .run-left .ensures) at (p3 .put3 .ensures) in
     let e2 = rw (p4 .before .run-right .ensures) at (p4 .put4 .ensures) in
     let t : Columns = record { left = l .loop .last; count = l .loop .n; lefts = l .loop .left; rights = l .loop .right } in
     rw (e1, e2, n .run-left .ensures, c .run-length .ensures)
-    (omega (arith, run-up (p .run) .0, l .loop .inv .0), run-up (p .run) .1, rw (run-stored (leftOf q) (rightOf q) t (omega (arith, p .small)) (omega arith)) at (one (l .loop .inv .2) (p .run)), length-set (l .loop .left) (l .loop .n) (leftOf q) ∙ l .loop .inv .3, length-set (l .loop .right) (l .loop .n) (rightOf q) ∙ l .loop .inv .4)
+    (omega (arith, run-up (p .run) .0, l .loop .inv .0), search needs, rw (run-stored (leftOf q) (rightOf q) t (omega arith) (omega arith)) at (one (l .loop .inv .2) (p .run)), length-set (l .loop .left) (l .loop .n) (leftOf q) ∙ l .loop .inv .3, length-set (l .loop .right) (l .loop .n) (rightOf q) ∙ l .loop .inv .4)
 
 pub put-runs-spec : {M : Type 1} → statement M
 put-runs-spec =
-    tie.close (tie.spec Inv-loop μ-loop (λ c κs. search needs) (λ c κs. search needs)
-    (λ c. let s = c .before .before .before .before .before .before .before .before .before .before .before in omega (arith, s .pre .0, s .pre .1, s .good))
-    (λ c. let s = c .before .before .before .before .before .before .before .before .before .before .before in (omega (arith, s .pre .0), s .pre .1, none, refl, refl)) (λ c κs. search needs)
-    (λ c. c .before .before .loop .inv .3 ∙ ap length (c .before .before .before .before .before .before .before .before .before .put .ensures) ∙ simp length-set)
-    (λ c. c .before .before .loop .inv .4 ∙ ap length (c .before .before .before .before .before .put2 .ensures) ∙ simp length-set)
+    tie.close (tie.spec Inv-loop μ-loop (search needs) (search needs)
+    (search needs)
+    (λ c. let s = c .before .before .before .before .before .before .before .before .before .before .before in (search needs, s .pre .1, none, refl, refl)) (search needs)
+    (search needs)
+    (search needs)
     (λ c. rw (c .before .before .before .before .before .before .before .before .before .put .ensures, c .before .before .before .before .before .put2 .ensures) at (c .before .before .loop .inv .2))
-    (λ c κs. search needs) (λ c κs. search needs) (λ c κs. search needs) (λ c κs. search needs) add-n-2 (λ c κs. search needs) add-i
-    (λ c. let p = c .before .before .before .before .before .before .before .before .before .before .before .before .plain-run .ensures (omega (arith, c .before .before .before .before .before .before .before .before .before .before .before .if1 .left)) in omega (arith, run-up (p .run) .0, run-up (p .run) .1, c .run-length .ensures))
+    (search needs) (search needs) (search needs) (search needs) (search needs) (search needs) (search needs)
+    (λ c. let p = c .before .before .before .before .before .before .before .before .before .before .before .before .plain-run .ensures (omega arith) in omega (arith, run-up (p .run) .0, run-up (p .run) .1, c .run-length .ensures))
     loop-again)

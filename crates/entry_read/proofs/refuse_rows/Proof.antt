@@ -1,4 +1,4 @@
--- `entry_read::refuse_rows` meets its contract: each test is a line of the table.
+-- `refuse_rows` meets its contract: each test is a line of the table.
 use borrow.Author.Needs.{needs}
 use lib.Dec.{ltb}
 use mathlib.Core.Path.{refl}
@@ -19,4 +19,4 @@ returns c =
     refl (first .refuse-if2 .ensures)) (rw (c .before .judged-rows .ensures) at (c .refuse-judged .ensures))
 
 pub refuse-rows-spec : {M : Type 1} → statement M
-refuse-rows-spec = tie.close (tie.spec (λ c κs. search needs) (λ c κs. search needs) (λ c κs. search needs) (λ c κs. search needs) (λ c κs. search needs) returns)
+refuse-rows-spec = tie.close (tie.spec (search needs) (search needs) (search needs) (search needs) (search needs) returns)

@@ -1,4 +1,4 @@
--- `entry_search::finish` meets its contract: what refused, or what is found.
+-- `finish` meets its contract: what refused, or what is found.
 use Rattle.meaning_numbers.proofs.Prelude.{needs, refl}
 use Rattle.entry_search.proofs.finish.Statement.{statement}
 use Rattle.entry_search.proofs.finish.Tie as tie

@@ -1,4 +1,4 @@
--- `entry_search::refuse` meets its contract.
+-- `refuse` meets its contract.
 use Rattle.meaning_numbers.proofs.Prelude.{refl}
 use Rattle.entry_search.specs.Refused.{refusedAs}
 use Rattle.entry_search.proofs.refuse.Statement.{statement}

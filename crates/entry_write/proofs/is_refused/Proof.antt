@@ -1,4 +1,4 @@
--- `entry_write::is_refused` meets its contract. By cases.
+-- `is_refused` meets its contract. By cases.
 use Rattle.meaning_numbers.proofs.Prelude.{needs}
 use Rattle.entry_write.specs.Answer.{isRefused}
 use Rattle.entry_write.proofs.is_refused.Statement.{statement}
@@ -6,11 +6,11 @@ use Rattle.entry_write.proofs.is_refused.Tie as tie
 
 returns : tie.Need-returns
 unfolding isRefused
-returns c = rw (c .enum-told .given .1)
+returns c = search needs
 
 returns-2 : tie.Need-returns-2
 unfolding isRefused
-returns-2 c = rw (c .enum-told2 .given .1)
+returns-2 c = search needs
 
 pub is-refused-spec : {M : Type 1} → statement M
 is-refused-spec = tie.close (tie.spec (λ c. search needs) (λ c. search needs) returns returns-2)

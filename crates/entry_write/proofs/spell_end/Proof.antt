@@ -1,6 +1,6 @@
--- `entry_write::spell_end` meets its contract. By the flag: written and cleared behind, or counted.
+-- `spell_end` meets its contract. By the flag: written and cleared behind, or counted.
 use Rattle.meaning_numbers.proofs.Prelude.{needs}
-use Rattle.entry_write.proofs.{Spell.ended-stored, Spell.ended-only, spell_end.Statement.statement}
+use Rattle.entry_write.proofs.{Spell.ended-stored, spell_end.Statement.statement}
 use Rattle.entry_write.proofs.spell_end.Tie as tie
 
 returns : tie.Need-returns
@@ -8,8 +8,5 @@ returns c =
     let w = c .before .before .before .before .before .before in
     ended-stored (w .before .before .if1 .taken) (w .write-end .ensures) (c .before .before .clear-u8 .ensures)
 
-returns-2 : tie.Need-returns-2
-returns-2 c = ended-only (c .before .if1 .left) (c .count-end .ensures)
-
 pub spell-end-spec : {M : Type 1} → statement M
-spell-end-spec = tie.close (tie.spec (λ c κs. search needs) (λ c κs. search needs) (λ c. search needs) returns (λ c κs. search needs) returns-2)
+spell-end-spec = tie.close (tie.spec (λ c κs. search needs) (λ c κs. search needs) (λ c. search needs) returns (λ c κs. search needs) (λ c. search needs))

@@ -1,14 +1,8 @@
--- `entry_write::spell_row` meets its contract. By the flag: written, or counted.
+-- `spell_row` meets its contract. By the flag: written, or counted.
 use Rattle.meaning_numbers.proofs.Prelude.{needs}
 use Rattle.entry_write.proofs.{Spell.spelled-stored, Spell.spelled-only, spell_row.Statement.statement}
 use Rattle.entry_write.proofs.spell_row.Tie as tie
 
-returns : tie.Need-returns
-returns c = spelled-stored (c .before .before .before .before .if1 .taken) (c .before .before .write-row .ensures)
-
-returns-2 : tie.Need-returns-2
-returns-2 c = spelled-only (c .before .if1 .left) (c .count-row .ensures)
-
 pub spell-row-spec : {M : Type 1} → statement M
 spell-row-spec =
-    tie.close (tie.spec (λ c κs. search needs) (λ c. search needs) returns (λ c κs. search needs) returns-2)
+    tie.close (tie.spec (λ c κs. search needs) (λ c. search needs) (λ c. spelled-stored (c .before .before .before .before .if1 .taken) (c .before .before .write-row .ensures)) (λ c κs. search needs) (λ c. spelled-only (c .before .if1 .left) (c .count-row .ensures)))

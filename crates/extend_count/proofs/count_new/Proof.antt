@@ -1,4 +1,4 @@
--- `extend_count::count_new` meets its contract. The invariant: the runs of the windows passed are counted, and the next window begins a run (`counted-turn`, `fresh-next`).
+-- `count_new` meets its contract. The invariant: the runs of the windows passed are counted, and the next window begins a run (`counted-turn`, `fresh-next`).
 use Rattle.meaning_numbers.proofs.Prelude.{_≡_, sym, ap, _∙_, subst, ℕ, _-_, _≤_, _<_, arith, length, getD}
 use Rattle.meaning_rows.proofs.Runs.{runs-le}
 use Rattle.sums_slide.specs.{Levels.level, Levels.windowsOf, Change.RowRun}
@@ -23,8 +23,8 @@ loop-holds c =
       omega arith,
       o .pre .some-left,
       c .level-at .ensures,
-      fresh-old (a .s .now) (a .w) (a .e) (a .old) (a .ups .now) (a .count) (o .pre .has-row),
-      counted-starts (a .s .now) (a .w) (a .e) (a .old) (a .ups .now) (a .count) (a .counts .now),
+      fresh-old _ (a .w) (a .e) _ _ _ (o .pre .has-row),
+      counted-starts _ (a .w) (a .e) _ _ _ _,
     )
 
 -- the row of the window, by rank
@@ -40,12 +40,12 @@ module _ (c : tie.After-find-above Inv-loop μ-loop) where
 
   is-row : c .find-above .result ≡ row (l .loop .j)
   is-row =
-      c .find-above .ensures ∙ ap (rank (o .args .ups .now) (o .args .count)) (l .loop .inv .2 (c .before .loop-test .taken))
-      ∙ sym (row-new (o .args .s .now) (o .args .w) (o .args .e) (o .args .old) (o .args .ups .now) (o .args .count) (l .loop .j) (l .loop .inv .0))
+      c .find-above .ensures ∙ ap (rank _ _) (l .loop .inv .2 (c .before .loop-test .taken))
+      ∙ sym (row-new _ _ _ _ _ _ _ (l .loop .inv .0))
 
   below : c .find-above .result < o .args .count
   below = subst (λ (k : ℕ). k < o .args .count)
-      (sym (c .find-above .ensures ∙ ap (rank (o .args .ups .now) (o .args .count)) (l .loop .inv .2 (c .before .loop-test .taken))))
+      (sym (c .find-above .ensures ∙ ap (rank _ _) (l .loop .inv .2 (c .before .loop-test .taken))))
       (o .pre .has-row (l .loop .j) (l .loop .inv .0) (c .before .loop-test .taken))
 
   in-counts : c .find-above .result < length (l .loop .counts)
@@ -54,8 +54,8 @@ module _ (c : tie.After-find-above Inv-loop μ-loop) where
   few : getD (l .loop .counts) (c .find-above .result) 0 ≤ 2097153
   few = omega (
     arith,
-    l .loop .inv .4 .count (c .find-above .result) below,
-    o .pre .small (c .find-above .result) below,
+    l .loop .inv .4 .count _ below,
+    o .pre .small _ below,
     runs-le (isRow row (c .find-above .result)) (l .loop .j),
     l .loop .inv .1,
     o .pre .lent .long,
@@ -74,9 +74,9 @@ module _ (c : tie.After-next-out Inv-loop μ-loop) where
   run : RowRun (row f) (windowsOf (o f .args .s .now) (o f .args .w)) (l f .loop .j) (c .next-out .result .offset)
   run =
       let a = o f .args in
-      let low = c .before .before .start-of .ensures ∙ ap (startOf (a .ups .now)) (is-row f) in
+      let low = c .before .before .start-of .ensures ∙ ap (startOf _) (is-row f) in
       let up = ap (λ (k : ℕ). getD (a .ups .now) k 0) (is-row f) in
-      next-run (a .s .now) (a .w) (a .e) (a .old) (a .ups .now) (a .count) (o f .pre .has-row) (o f .pre .climbing) {z = c .next-out .result .level} (l f .loop .inv .0) (f .before .loop-test .taken)
+      next-run _ (a .w) (a .e) _ _ _ (o f .pre .has-row) (o f .pre .climbing) {z = c .next-out .result .level} (l f .loop .inv .0) (f .before .loop-test .taken)
       (rw (← low, ← up) (c .next-out .ensures))
 
 loop-again : tie.Need-loop-again Inv-loop μ-loop
@@ -84,11 +84,11 @@ loop-again c =
     let a = o (f c) .args in
     let v = l (f c) .loop .inv in
     let h = run c in
-    let turn = counted-turn (a .s .now) (a .w) (a .e) (a .old) (a .ups .now) (a .count) h (v .3) (subst (λ (k : ℕ). k < a .count) (is-row (f c)) (below (f c))) (omega (arith, o (f c) .pre .in-counts, v .4 .long)) (v .4) in (
-      omega (arith, v .0, h .ahead),
+    let turn = counted-turn _ (a .w) (a .e) _ _ _ h (v .3) (subst (λ (k : ℕ). k < a .count) (is-row (f c)) (below (f c))) (omega arith) (v .4) in (
+      omega arith,
       h .below,
       λ _. c .next-out .ensures .sum,
-      fresh-next (row (f c)) (windowsOf (a .s .now) (a .w)) (l (f c) .loop .j) (c .next-out .result .offset) h,
+      fresh-next _ _ _ _ h,
       rw (is-row (f c)) turn,
     )
 
@@ -96,7 +96,7 @@ returns : tie.Need-returns Inv-loop μ-loop
 returns c =
     let l = c .before in
     let a = l .before .before .before .before .args in
-    let e : l .loop .j ≡ windowsOf (a .s .now) (a .w) = omega (arith, c .loop-test .left, l .loop .inv .1) in
+    let e : l .loop .j ≡ windowsOf (a .s .now) (a .w) = omega arith in
     rw e at (l .loop .inv .4)
 
 pub count-new-spec : {M : Type 1} → statement M

@@ -1,6 +1,5 @@
--- `extend_count::find_above` meets its contract. The invariant: the ends before lo are at most the number, and those from hi on are above it.
+-- `find_above` meets its contract. The invariant: the ends before lo are at most the number, and those from hi on are above it.
 use Rattle.meaning_numbers.proofs.Prelude.{sym, ℕ, _+_, _-_, _/_, _≤_, _<_, arith, getD}
-use Rattle.extend_count.specs.Rank.{rank}
 use Rattle.extend_count.proofs.{Rank.rank-is, find_above.Statement.statement}
 use Rattle.extend_count.proofs.find_above.Tie as tie
 
@@ -36,7 +35,7 @@ returns : tie.Need-returns Inv-loop μ-loop
 returns c =
     let l = c .before .loop in
     let a = c .before .before .args in
-    sym (rank-is (a .ups .now) (a .count) (a .n) (l .lo) (omega (arith, l .inv .0, l .inv .1)) (l .inv .2) (λ i h b. l .inv .3 i (omega (arith, c .loop-test .left)) b))
+    sym (rank-is _ _ (a .n) (l .lo) (omega arith) (l .inv .2) (λ i h b. l .inv .3 i (omega arith) b))
 
 pub find-above-spec : {M : Type 1} → statement M
 find-above-spec =

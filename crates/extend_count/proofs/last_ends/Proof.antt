@@ -1,4 +1,4 @@
--- `extend_count::last_ends` meets its contract.
+-- `last_ends` meets its contract.
 use Rattle.meaning_numbers.proofs.Prelude.{needs, _≡_, ℕ, _+_, _-_, _≤_, arith, le-leb, lt-leb}
 use Rattle.meaning_rows.proofs.Grown.{lastEnds}
 use Rattle.extend_count.proofs.last_ends.Statement.{statement}
@@ -19,7 +19,7 @@ returns c = let a = c .before .before .before .args in rw (lt-leb 1 (a .r .runs)
 
 returns-2 : tie.Need-returns-2
 unfolding lastEnds
-returns-2 c = let a = c .before .before .before .before .args in rw (le-leb 1 (a .r .runs) (one (a .r .runs) (c .before .if1 .left)))
+returns-2 c = let a = c .before .before .before .before .args in rw (le-leb 1 _ (one _ (c .before .if1 .left)))
 
 pub last-ends-spec : {M : Type 1} → statement M
 last-ends-spec = tie.close (tie.spec (λ c. search needs) (λ c. search needs) (λ c. search needs) (λ c. search needs) (λ c. search needs) (λ c. search needs) cast-result add-result-2 returns returns-2)

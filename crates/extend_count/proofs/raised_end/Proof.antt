@@ -1,20 +1,17 @@
--- `extend_count::raised_end` meets its contract: the raised end fits.
-use Rattle.meaning_numbers.proofs.Prelude.{_≡_, ap, _∙_, pos, w32, toZ, ofZ, toZ-ofZ, zarith, z-sub}
+-- `raised_end` meets its contract: the raised end fits.
+use Rattle.meaning_numbers.proofs.Prelude.{_≡_, ap, _∙_, w32, toZ, ofZ, toZ-ofZ, zarith}
 use Rattle.sums_slide.specs.Ends.{raisedEnd}
 use Rattle.extend_count.proofs.raised_end.Statement.{statement}
 use Rattle.extend_count.proofs.raised_end.Tie as tie
 
 back : (o : tie.Start) → toZ w32 (ofZ w32 (o .args .z)) ≡ o .args .z
-back o = toZ-ofZ w32 (o .args .z) (o .fits .z)
+back o = toZ-ofZ w32 _ (o .fits .z)
 
 raise-end-requires : tie.Need-raise-end-requires
-raise-end-requires c κs = rw (back c) (c .pre .small, (omega (zarith, z-sub (pos 0) (pos 4000000), c .pre .least), omega (zarith, c .pre .most)))
+raise-end-requires c κs = rw (back c) (c .pre .small, (omega zarith, omega zarith))
 
 returns : tie.Need-returns
 returns c = c .raise-end .ensures ∙ ap (raisedEnd (c .before .args .bias)) (back (c .before))
 
-cast-result : tie.Need-cast-result
-cast-result c = rw (returns c) (omega (zarith, z-sub (pos 0) (pos 4000000), c .before .pre .most, c .before .pre .small))
-
 pub raised-end-spec : {M : Type 1} → statement M
-raised-end-spec = tie.close (tie.spec raise-end-requires cast-result returns)
+raised-end-spec = tie.close (tie.spec raise-end-requires (λ c. rw (returns c) (omega zarith)) returns)

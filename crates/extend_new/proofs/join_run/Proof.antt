@@ -1,4 +1,4 @@
--- `extend_new::join_run` meets its contract: the window's sum is in the range, so the run ends after it.
+-- `join_run` meets its contract: the window's sum is in the range, so the run ends after it.
 use Rattle.meaning_numbers.proofs.Prelude.{needs, not-true, not-false, _≡_, refl, true, _<_, arith, clash}
 use Rattle.extend_new.proofs.{Join.stop-ahead, join_run.Statement.statement}
 use Rattle.extend_new.proofs.join_run.Tie as tie

@@ -1,4 +1,4 @@
--- `extend_new::list_new` meets its contract: the new windows are those of the rest of the series, which is lent as a part.
+-- `list_new` meets its contract: the new windows are those of the rest of the series, which is lent as a part.
 use Rattle.meaning_numbers.proofs.Prelude.{needs, lt-ltb, le-ltb}
 use Rattle.sums_slide.specs.Levels.{windowsOf}
 use Rattle.sums_slide.proofs.Picked.{append-none}

@@ -1,4 +1,4 @@
--- `extend_new::take_join` meets its contract.
+-- `take_join` meets its contract.
 use Rattle.meaning_numbers.proofs.Prelude.{needs, arith}
 use Rattle.extend_new.specs.New.{lessJoin}
 use Rattle.extend_new.proofs.take_join.Statement.{statement}

@@ -1,6 +1,6 @@
--- `extend_parts::copy_part` meets its contract: the row's part of the column is lent to its writer.
+-- `copy_part` meets its contract: the row's part of the column is lent to its writer.
 use Rattle.meaning_numbers.proofs.Prelude.{needs}
-use Rattle.extend_parts.specs.Copy.{partSize, partCopied}
+use Rattle.extend_parts.specs.Copy.{partCopied}
 use Rattle.extend_parts.proofs.{Copy.part-back, copy_part.Statement.statement}
 use Rattle.extend_parts.proofs.copy_part.Tie as tie
 
@@ -10,7 +10,7 @@ returns c =
     let w = c .before .before in
     let p = w .before .before .before .before .before .before in
     let a = p .before .before .before .args in
-    part-back (partSize (a .o) (a .r)) (a .r .runs) (a .o .first) (a .r .first) (a .from .now) (a .to .now) _ (rw (p .part-size .ensures) at (w .write-part .ensures))
+    part-back _ (a .r .runs) (a .o .first) (a .r .first) (a .from .now) (a .to .now) _ (rw (p .part-size .ensures) at (w .write-part .ensures))
 
 pub copy-part-spec : {M : Type 1} → statement M
 copy-part-spec =

@@ -1,4 +1,4 @@
--- `extend_parts::old_passed` meets its contract: its test is that of the definition.
+-- `old_passed` meets its contract: its test is that of the definition.
 use Rattle.meaning_numbers.proofs.Prelude.{_≡_, sym, _∙_, arith, leZ, w32, toZ, ofZ, toZ-ofZ}
 use Rattle.extend_parts.specs.Copy.{oldPassed}
 use Rattle.extend_parts.proofs.old_passed.Statement.{statement}

@@ -1,4 +1,4 @@
--- `extend_parts::part_size` meets its contract: its test is that of the definition.
+-- `part_size` meets its contract: its test is that of the definition.
 use Rattle.meaning_numbers.proofs.Prelude.{_≡_, sym, _∙_, leZ, w32, toZ, ofZ, toZ-ofZ}
 use Rattle.extend_parts.specs.Copy.{partSize}
 use Rattle.extend_parts.proofs.part_size.Statement.{statement}

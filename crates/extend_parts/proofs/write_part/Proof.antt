@@ -1,4 +1,4 @@
--- `extend_parts::write_part` meets its contract. The invariant: the first numbers are copied (`paste-suc`).
+-- `write_part` meets its contract. The invariant: the first numbers are copied (`paste-suc`).
 use Rattle.meaning_numbers.proofs.Prelude.{_≡_, ap, _∙_, ℕ, _-_, _≤_, arith, List, length, getD, set, length-set, paste, paste-zero, length-paste, lt-ltb, le-ltb}
 use Rattle.extend_parts.specs.Copy.{written}
 use Rattle.extend_parts.proofs.{Copy.paste-more, write_part.Statement.statement}
@@ -14,11 +14,10 @@ loop-again : tie.Need-loop-again Inv-loop μ-loop
 loop-again c =
     let l = c .before .before in
     let a = l .before .args in
-    let p = l .before .pre in
     let t = l .loop .t in (
-      omega (arith, c .before .loop-test .taken),
+      omega arith,
       ap (λ (m : List ℕ). set m t (getD (a .numbers .now) t 0)) (l .loop .inv .1)
-          ∙ paste-more (a .part .now) (a .numbers .now) t (omega (arith, c .before .loop-test .taken, p .1, p .2)) (omega (arith, c .before .loop-test .taken, p .0)),
+          ∙ paste-more (a .part .now) _ t (omega arith) (omega arith),
     )
 
 -- where all are copied
@@ -30,11 +29,11 @@ module _ (c : tie.After-loop Inv-loop μ-loop) where
   all = let e : c .before .loop .t ≡ o .args .n = omega (arith, c .before .loop .inv .0, c .loop-test .left) in rw e at (c .before .loop .inv .1)
 
   long : length (c .before .loop .part) ≡ length (o .args .part .now)
-  long = ap length all ∙ length-paste (o .args .part .now) 0 (o .args .numbers .now) (o .args .n) (omega (arith, o .pre .1, o .pre .2)) (o .pre .0)
+  long = ap length all ∙ length-paste _ 0 _ (o .args .n) (omega arith) (o .pre .0)
 
 returns : tie.Need-returns Inv-loop μ-loop
 unfolding written
-returns c = let a = o (c .before) .args in rw (lt-ltb (a .n) (a .size) (c .if1 .taken)) (ap (λ (m : List ℕ). set m (a .size - 1) (a .n)) (all (c .before)))
+returns c = let a = o (c .before) .args in rw (lt-ltb (a .n) (a .size) (c .if1 .taken)) (rw (all (c .before)))
 
 returns-2 : tie.Need-returns-2 Inv-loop μ-loop
 unfolding written
@@ -43,14 +42,13 @@ returns-2 c = let a = o (c .before) .args in rw (le-ltb (a .n) (a .size) (c .if1
 still : (c : tie.At-loop Inv-loop μ-loop) → length (c .loop .part) ≡ length (c .before .args .part .now)
 still c =
     let a = c .before .args in
-    let p = c .before .pre in
-    ap length (c .loop .inv .1) ∙ length-paste (a .part .now) 0 (a .numbers .now) (c .loop .t) (omega (arith, c .loop .inv .0, p .1, p .2)) (omega (arith, c .loop .inv .0, p .0))
+    ap length (c .loop .inv .1) ∙ length-paste (a .part .now) 0 _ (c .loop .t) (omega arith) (omega arith)
 
 pub write-part-spec : {M : Type 1} → statement M
 write-part-spec =
-    tie.close (tie.spec Inv-loop μ-loop (λ c. (omega arith, paste-zero (c .args .part .now) 0 (c .args .numbers .now))) (λ c. omega (arith, c .loop-test .taken, c .before .before .pre .0))
-    (λ c. omega (arith, c .before .loop-test .taken, c .before .before .before .pre .0)) (λ c. omega (arith, c .before .loop-test .taken, c .before .before .before .pre .0))
-    (λ c. omega (arith, c .before .loop-test .taken, still (c .before .before), c .before .before .before .pre .1, c .before .before .before .pre .2)) (λ c. omega (arith, c .before .loop-test .taken))
-    (λ c. omega (arith, c .before .loop-test .taken)) loop-again (λ c. omega (arith, o (c .before) .pre .3)) (λ c. omega (arith, c .if1 .taken)) (λ c. omega (arith, o (c .before) .pre .2))
+    tie.close (tie.spec Inv-loop μ-loop (λ c. (omega arith, paste-zero _ 0 (c .args .numbers .now))) (λ c. omega arith)
+    (λ c. omega arith) (λ c. omega arith)
+    (λ c. omega (arith, c .before .loop-test .taken, still (c .before .before), c .before .before .before .pre .1, c .before .before .before .pre .2)) (λ c. omega arith)
+    (λ c. omega arith) loop-again (λ c. omega arith) (λ c. omega arith) (λ c. omega (arith, o (c .before) .pre .2))
     (λ c. omega (arith, c .if1 .taken, long (c .before), o (c .before) .pre .2))
     (λ c. length-set (c .before .before .loop .part) (o (c .before) .args .size - 1) (o (c .before) .args .n) ∙ long (c .before)) returns (λ c. long (c .before)) returns-2)

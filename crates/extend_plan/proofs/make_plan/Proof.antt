@@ -1,4 +1,4 @@
--- `extend_plan::make_plan` meets its contract: each test is a line of the table.
+-- `make_plan` meets its contract: each test is a line of the table.
 use borrow.Author.Needs.{needs}
 use Rattle.meaning_entries.specs.Refusal.{moreWindows}
 use Rattle.refusals.specs.Refusal.{judgedLine}

@@ -1,13 +1,12 @@
--- `extend_rows::list_by` meets its contract.
-use Rattle.meaning_numbers.proofs.Prelude.{needs, _≡_, arith, length}
+-- `list_by` meets its contract.
+use Rattle.meaning_numbers.proofs.Prelude.{needs}
 use Rattle.extend_rows.proofs.list_by.Statement.{statement}
 use Rattle.extend_rows.proofs.list_by.Tie as tie
 
 list-new-requires : tie.Need-list-new-requires
 list-new-requires c κs =
     let o = c .before .before .before in
-    let long : length (o .args .flags) ≡ 262144 = o .good .0 .1 .0 .1 in
-    (o .pre .0, (o .pre .1 .0, (o .pre .1 .1 .0, ((omega (arith, long), omega (arith, long)), o .pre .1 .1 .1))))
+    (o .pre .0, (o .pre .1 .0, (o .pre .1 .1 .0, ((search needs, search needs), o .pre .1 .1 .1))))
 
 pub list-by-spec : {M : Type 1} → statement M
 list-by-spec = tie.close (tie.spec (λ c. search needs) list-new-requires (λ c. search needs) (λ c. search needs))

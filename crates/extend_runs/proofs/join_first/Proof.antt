@@ -1,5 +1,5 @@
--- `extend_runs::join_first` meets its contract.
-use Rattle.meaning_numbers.proofs.Prelude.{needs, _≡_, ap, _∙_, ℕ, _+_, _*_, arith, ℤ, pos, negsuc, _≤ℤ_, w32, ofZ, toZ, toZ-ofZ, zarith, zmach32}
+-- `join_first` meets its contract.
+use Rattle.meaning_numbers.proofs.Prelude.{needs, _≡_, ap, _∙_, ℕ, _+_, _*_, ℤ, pos, negsuc, _≤ℤ_, w32, ofZ, toZ, toZ-ofZ, zarith, zmach32}
 use Rattle.meaning_rows.specs.declared.Row.{Row}
 use Rattle.meaning_rows.proofs.Grown.{lastEnds}
 use Rattle.sums_slide.specs.Ends.{raisedEnd}
@@ -13,10 +13,10 @@ end-read : (z : ℤ) → negsuc 999999999 ≤ℤ z → z ≤ℤ pos 1000000000 �
 end-read z a b = toZ-ofZ w32 z (omega (zmach32, a, b))
 
 low-read : (r : Row) → Small r → toZ w32 (ofZ w32 (r .low)) ≡ r .low
-low-read r h = end-read (r .low) (h .least) (omega (zarith, h .order, h .most))
+low-read r h = end-read _ (h .least) (omega zarith)
 
 up-read : (r : Row) → Small r → toZ w32 (ofZ w32 (r .up)) ≡ r .up
-up-read r h = end-read (r .up) (omega (zarith, h .least, h .order)) (h .most)
+up-read r h = end-read (r .up) (omega zarith) (h .most)
 
 module _ (c : tie.After-spot-of) where
   abbrev ends : tie.After-last-ends
@@ -32,11 +32,11 @@ module _ (c : tie.After-spot-of) where
   placed = first .before .before
 
   abbrev o : tie.Start
-  o = placed .before .before .before
+  o = (search needs)
 
   joins-is : ends .last-ends .result ≡ joinsOf (o .args .s .now) (o .args .w) (o .args .old) (o .args .r) (o .args .olds .now)
   unfolding joinsOf
-  joins-is = ends .last-ends .ensures ∙ ap (lastEnds (o .args .r) (o .args .olds .now)) (ends .before .first-new .ensures)
+  joins-is = ends .last-ends .ensures ∙ ap (lastEnds _ _) (ends .before .first-new .ensures)
 
   abbrev bias : ℕ
   bias = 10000 * o .args .w + o .args .e
@@ -51,8 +51,8 @@ join-run-requires : tie.Need-join-run-requires
 join-run-requires c κs =
     let p = c .before .before in
     let a = o p .args in
-    let able = o p .pre .1 .can (placed p .place-at .result) (placed p .place-at .ensures .0) (placed p .place-at .ensures .1) in
-    (o p .pre .1 .lent, joinable-as (joins-is p) (low-is p) (up-is p) (p .spot-of .ensures) (joinable-lent (a .q) (a .r) (a .right .now) (joins-some (a .s .now) (a .w) (a .old) (a .r) (a .olds .now)) able))
+    let able = o p .pre .1 .can _ (placed p .place-at .ensures .0) (placed p .place-at .ensures .1) in
+    (o p .pre .1 .lent, joinable-as (joins-is p) (low-is p) (up-is p) (p .spot-of .ensures) (joinable-lent (a .q) (a .r) (a .right .now) (joins-some _ (a .w) _ (a .r) _) able))
 
 returns : tie.Need-returns
 returns c =
@@ -63,14 +63,14 @@ returns c =
       place = placed p .place-at .result;
       start = placed p .place-at .ensures .0;
       begins = placed p .place-at .ensures .1;
-      run = joined-back (a .q) (a .r) (a .right .now) (joins-some (a .s .now) (a .w) (a .old) (a .r) (a .olds .now)) (j .join-run .result) _ (joined-as (joins-is p) (low-is p) (up-is p) (p .spot-of .ensures) (j .join-run .ensures));
+      run = joined-back (a .q) (a .r) _ (joins-some _ (a .w) _ (a .r) _) _ _ (joined-as (joins-is p) (low-is p) (up-is p) (p .spot-of .ensures) (j .join-run .ensures));
     }
 
 pub join-first-spec : {M : Type 1} → statement M
 join-first-spec =
-    tie.close (tie.spec (λ c κs. (c .before .before .pre .1 .lent, c .before .before .pre .1 .below)) (λ c. omega (arith, c .before .before .before .pre .1 .lent .most))
-    (λ c. omega (arith, c .before .before .before .pre .1 .lent .most, c .before .before .before .pre .1 .lent .small))
-    (λ c κs. let q = c .before .before .before .before .pre .1 in (omega (arith, q .lent .most, q .lent .small), rw (low-read (c .before .before .before .before .args .q) (q .small)) (q .small .least, omega (zarith, q .small .order, q .small .most))))
-    (λ c κs. let q = c .before .before .before .before .before .before .pre .1 in (omega (arith, q .lent .most, q .lent .small), rw (up-read (c .before .before .before .before .before .before .args .q) (q .small)) (omega (zarith, q .small .least, q .small .order), q .small .most)))
+    tie.close (tie.spec (λ c κs. (search needs, search needs)) (λ c. search needs)
+    (λ c. search needs)
+    (λ c κs. let q = c .before .before .before .before .pre .1 in (search needs, rw (low-read _ (q .small)) (q .small .least, omega (zarith, q .small .order, q .small .most))))
+    (λ c κs. let q = c .before .before .before .before .before .before .pre .1 in (search needs, rw (up-read _ (q .small)) (omega (zarith, q .small .least, q .small .order), q .small .most)))
     (λ c κs. let q = c .before .before .before .before .before .before .before .pre .1 in q .lent .fits) (λ c κs. search needs) (λ c κs. search needs) (λ c. search needs) (λ c. search needs)
-    (λ c. search needs) (λ c. omega (arith, o (c .before) .pre .1 .begins)) (λ c. search needs) join-run-requires (λ c. search needs) returns)
+    (λ c. search needs) (λ c. search needs) (λ c. search needs) join-run-requires (λ c. search needs) returns)

@@ -1,4 +1,4 @@
--- `extend_runs::place_at` meets its contract: past the last window the sum slides on from it.
+-- `place_at` meets its contract: past the last window the sum slides on from it.
 use Rattle.meaning_numbers.proofs.Prelude.{needs, _≡_, refl, ap, _∙_, _+_, _-_, arith}
 use Rattle.sums_slide.specs.Levels.{level}
 use Rattle.extend_runs.proofs.place_at.Statement.{statement}
@@ -7,9 +7,8 @@ use Rattle.extend_runs.proofs.place_at.Tie as tie
 slide-requires : tie.Need-slide-requires
 slide-requires c κs =
     let o = c .before .before in
-    let a = o .args in
     let h = o .pre .0 in
-    (h, (omega (arith, o .pre .1, h .long, h .some), c .level-at2 .ensures (omega (arith, c .before .if1 .left, o .pre .1, h .fits, h .some))))
+    (h, (search needs, c .level-at2 .ensures (omega arith)))
 
 returns : tie.Need-returns
 returns c =
@@ -21,7 +20,7 @@ returns-2 c =
     let o = c .before .before .before in
     let a = o .args in
     let h = o .pre .0 in
-    let e : a .j - 1 + 1 ≡ a .j = omega (arith, c .before .before .if1 .left, o .pre .1, h .fits, h .some) in
+    let e : a .j - 1 + 1 ≡ a .j = omega arith in
     (record { lent = h; below = o .pre .1; sum = c .slide .ensures ∙ ap (level (a .s .now) (a .w) (a .e)) e }, refl)
 
 pub place-at-spec : {M : Type 1} → statement M

@@ -1,4 +1,4 @@
--- `extend_weave::made_after` meets its contract: its tests are those of the definition.
+-- `made_after` meets its contract: its tests are those of the definition.
 use Rattle.meaning_numbers.proofs.Prelude.{_≡_, sym, _∙_, arith, leZ, ltZ, w32, toZ, ofZ, toZ-ofZ}
 use Rattle.extend_weave.specs.Turn.{madeAfter}
 use Rattle.extend_weave.proofs.made_after.Statement.{statement}
@@ -6,10 +6,10 @@ use Rattle.extend_weave.proofs.made_after.Tie as tie
 
 -- the tests on the machine's numbers are the tests
 least : (c : tie.After-struct-told) → leZ (toZ w32 (ofZ w32 (c .before .args .r .low))) (toZ w32 (ofZ w32 (c .before .args .low))) ≡ leZ (c .before .args .r .low) (c .before .args .low)
-least c = rw (toZ-ofZ w32 (c .before .args .r .low) (record { sfits = c .struct-told .given .0 .1 }), toZ-ofZ w32 (c .before .args .low) (c .before .fits .low))
+least c = rw (toZ-ofZ w32 _ (record { sfits = c .struct-told .given .0 .1 }), toZ-ofZ w32 _ (c .before .fits .low))
 
 upper : (c : tie.After-struct-told) → ltZ (toZ w32 (ofZ w32 (c .before .args .low))) (toZ w32 (ofZ w32 (c .before .args .r .up))) ≡ ltZ (c .before .args .low) (c .before .args .r .up)
-upper c = rw (toZ-ofZ w32 (c .before .args .r .up) (record { sfits = c .struct-told .given .1 .0 .1 }), toZ-ofZ w32 (c .before .args .low) (c .before .fits .low))
+upper c = rw (toZ-ofZ w32 (c .before .args .r .up) (record { sfits = c .struct-told .given .1 .0 .1 }), toZ-ofZ w32 _ (c .before .fits .low))
 
 returns : tie.Need-returns
 unfolding madeAfter

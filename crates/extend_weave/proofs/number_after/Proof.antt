@@ -1,4 +1,4 @@
--- `extend_weave::number_after` meets its contract: its test is that of the definition.
+-- `number_after` meets its contract: its test is that of the definition.
 use Rattle.meaning_numbers.proofs.Prelude.{_≡_, sym, _∙_, arith, ltZ, w32, toZ, ofZ, toZ-ofZ}
 use Rattle.extend_weave.specs.Turn.{numberAfter}
 use Rattle.extend_weave.proofs.number_after.Statement.{statement}
@@ -6,7 +6,7 @@ use Rattle.extend_weave.proofs.number_after.Tie as tie
 
 -- the test on the machine's numbers is the test
 back : (c : tie.After-struct-told) → ltZ (toZ w32 (ofZ w32 (c .before .args .low))) (toZ w32 (ofZ w32 (c .before .args .r .up))) ≡ ltZ (c .before .args .low) (c .before .args .r .up)
-back c = rw (toZ-ofZ w32 (c .before .args .r .up) (record { sfits = c .struct-told .given .1 .0 .1 }), toZ-ofZ w32 (c .before .args .low) (c .before .fits .low))
+back c = rw (toZ-ofZ w32 (c .before .args .r .up) (record { sfits = c .struct-told .given .1 .0 .1 }), toZ-ofZ w32 _ (c .before .fits .low))
 
 returns : tie.Need-returns
 unfolding numberAfter

@@ -1,20 +1,17 @@
--- `find::main` meets its contract: it is safe, and each function that it calls is given what it asks (`starts`, `ends`).
+-- `main` meets its contract: it is safe, and each function that it calls is given what it asks (`starts`, `ends`).
 use borrow.Author.Needs.{needs}
-use lib.IntN.{ℤ, pos}
+use lib.IntN.{pos}
 use lib.ListN.{length-replicate}
 use native.Mathlib.Omega.{arith}
-use Rattle.find.proofs.{Reading.starts, Reading.ends, main.Statement.statement}
+use Rattle.find.proofs.{Reading.starts, main.Statement.statement}
 use Rattle.find.proofs.main.Tie as tie
 
 read-all-requires : tie.Need-read-all-requires
-read-all-requires c κs = rw (c .before .before .before .begin .ensures) (starts 4611686018427387904 _ _ (omega arith) (length-replicate {A = ℤ} 4096 (pos 0)) (length-replicate {A = ℤ} 1024 (pos 0)))
+read-all-requires c κs = rw (c .before .before .before .begin .ensures) (starts 4611686018427387904 _ _ (omega arith) (length-replicate 4096 (pos 0)) (length-replicate 1024 (pos 0)))
 
 finish-requires : tie.Need-finish-requires
 finish-requires c κs =
-    let r = c .before .before .before .before .before .before .before .before in
-    let s = length-replicate {A = ℤ} 4096 (pos 0) in
-    let q = length-replicate {A = ℤ} 1024 (pos 0) in
-    (record { reached = ends 0 _ _ _ _ (r .read-all .ensures); numbers-long = omega (arith, r .read-all .kept .1 .0); series-long = omega (arith, s, r .read-all .kept .1 .1 .0); query-long = omega (arith, q, r .read-all .kept .1 .1 .1 .0) }, search needs)
+    (search needs, search needs)
 
 pub main-spec : {M : Type 1} → statement M
 main-spec =

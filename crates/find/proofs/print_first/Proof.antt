@@ -1,12 +1,9 @@
--- `find::print_first` meets its contract.
+-- `print_first` meets its contract.
 use borrow.Author.Needs.{needs}
 use lib.ListN.{length-take}
 use native.Mathlib.Omega.{arith}
 use Rattle.find.proofs.print_first.Statement.{statement}
 use Rattle.find.proofs.print_first.Tie as tie
 
-slice-aggregate-write-all : tie.Need-slice-aggregate-write-all
-slice-aggregate-write-all c = simp length-take (omega (arith, c .before .before .pre))
-
 pub print-first-spec : {M : Type 1} → statement M
-print-first-spec = tie.close (tie.spec slice-aggregate-write-all (λ c κs. search needs) (λ c. search needs))
+print-first-spec = tie.close (tie.spec (λ c. simp length-take (omega arith)) (λ c κs. search needs) (λ c. search needs))

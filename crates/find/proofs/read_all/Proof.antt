@@ -1,8 +1,8 @@
--- `find::read_all` meets its contract. The invariant: some text has been read, and as many bytes more can be as the turns that are left bring. The measure is the turns that are left.
+-- `read_all` meets its contract. The invariant: some text has been read, and as many bytes more can be as the turns that are left bring. The measure is the turns that are left.
 use Prim.Native.Nat.{_*_, _-_}
 use borrow.Author.Needs.{needs}
 use lib.ListN.{length}
-use mathlib.Core.Path.{_≡_, refl, ap, _∙_}
+use mathlib.Core.Path.{_≡_, refl, ap}
 use native.Mathlib.Omega.{arith}
 use Rattle.find.specs.Reading.{ReadTo}
 use Rattle.find.proofs.{Reading.inputOf, Reading.open-less, Reading.step-goes, Reading.read-less, read_all.Statement.statement}
@@ -14,48 +14,24 @@ Inv-loop numbers₀ series₀ query₀ x₀ turns₀ numbers series query x turn
 abbrev μ-loop : tie.MeasureT-loop
 μ-loop numbers₀ series₀ query₀ x₀ turns₀ numbers series query x turns = turns
 
-loop-holds : tie.Need-loop-holds Inv-loop μ-loop
-loop-holds c = (read-less 4611686018427387904 _ _ _ _ _ (omega arith) (c .pre), refl, refl, refl)
-
 read-on-requires : tie.Need-read-on-requires Inv-loop μ-loop
-read-on-requires c κs = open-less _ (65536 * c .before .before .before .before .loop .turns) _ (omega arith) (c .before .before .before .before .loop .inv .0 .opened)
+read-on-requires c κs = open-less _ _ _ (omega arith) (c .before .before .before .before .loop .inv .0 .opened)
 
 loop-again : tie.Need-loop-again Inv-loop μ-loop
 loop-again c =
     let l = c .before .before .before .before .before .before .before .before .before .before .before in
     let s = c .before .before .before .before .before .before in
     let n = l .loop .turns - 1 in
-    let k = step-goes (ap inputOf (c .before .y .given .1)) (s .read-on .ensures) (65536 * n) (read-less (65536 * l .loop .turns) _ _ _ _ _ (omega arith) (l .loop .inv .0)) in
-    (k, s .read-on .kept .1 .0 ∙ l .loop .inv .1, s .read-on .kept .1 .1 .0 ∙ l .loop .inv .2, s .read-on .kept .1 .1 .1 .0 ∙ l .loop .inv .3)
-
-same-length : tie.Need-same-length Inv-loop μ-loop
-same-length c = c .before .before .before .before .before .before .read-on .kept .1 .0 ∙ c .before .before .before .before .before .before .before .before .before .before .before .loop .inv .1
-
-same-length-2 : tie.Need-same-length-2 Inv-loop μ-loop
-same-length-2 c = c .before .before .before .before .before .before .read-on .kept .1 .1 .0 ∙ c .before .before .before .before .before .before .before .before .before .before .before .loop .inv .2
-
-same-length-3 : tie.Need-same-length-3 Inv-loop μ-loop
-same-length-3 c = c .before .before .before .before .before .before .read-on .kept .1 .1 .1 .0 ∙ c .before .before .before .before .before .before .before .before .before .before .before .loop .inv .3
+    let k = step-goes (ap inputOf (c .before .y .given .1)) (s .read-on .ensures) (65536 * n) (read-less _ _ _ _ _ _ (omega arith) (l .loop .inv .0)) in
+    (k, search needs, search needs, search needs)
 
 returns : tie.Need-returns Inv-loop μ-loop
 returns c =
     let l = c .before .before .before .before .before .before .before .before .before .before .before in
     let s = c .before .before .before .before .before .before in
-    step-goes (ap inputOf (c .before .y2 .given .1)) (s .read-on .ensures) 0 (read-less (65536 * l .loop .turns) _ _ _ _ _ (omega arith) (l .loop .inv .0))
-
-same-length-4 : tie.Need-same-length-4 Inv-loop μ-loop
-same-length-4 c = c .before .loop .inv .1
-
-same-length-5 : tie.Need-same-length-5 Inv-loop μ-loop
-same-length-5 c = c .before .loop .inv .2
-
-same-length-6 : tie.Need-same-length-6 Inv-loop μ-loop
-same-length-6 c = c .before .loop .inv .3
-
-returns-2 : tie.Need-returns-2 Inv-loop μ-loop
-returns-2 c = read-less (65536 * c .before .loop .turns) _ _ _ _ _ (omega arith) (c .before .loop .inv .0)
+    step-goes (ap inputOf (c .before .y2 .given .1)) (s .read-on .ensures) 0 (read-less _ _ _ _ _ _ (omega arith) (l .loop .inv .0))
 
 pub read-all-spec : {M : Type 1} → statement M
 read-all-spec =
-    tie.close (tie.spec Inv-loop μ-loop loop-holds read-on-requires (λ c. search needs) (λ c. omega arith) (λ c. omega arith) loop-again (λ c. search needs) same-length same-length-2 same-length-3
-    returns same-length-4 same-length-5 same-length-6 returns-2)
+    tie.close (tie.spec Inv-loop μ-loop (λ c. (read-less 4611686018427387904 _ _ _ _ _ (omega arith) (c .pre), refl, refl, refl)) read-on-requires (λ c. search needs) (λ c. omega arith) (λ c. omega arith) loop-again (λ c. search needs) (λ c. search needs) (λ c. search needs) (λ c. search needs)
+    returns (λ c. search needs) (λ c. search needs) (λ c. search needs) (λ c. read-less _ _ _ _ _ _ (omega arith) (c .before .loop .inv .0)))

@@ -1,14 +1,8 @@
--- `find::read_on` meets its contract: a step by the piece that the read brought.
+-- `read_on` meets its contract: a step by the piece that the read brought.
 use borrow.Author.Needs.{needs}
 use native.Mathlib.Omega.{arith}
 use Rattle.find.proofs.{Reading.stepped, read_on.Statement.statement}
 use Rattle.find.proofs.read_on.Tie as tie
-
-take-read-requires : tie.Need-take-read-requires
-take-read-requires c κs =
-    let n = c .before .before .before .before in
-    let e = n .count .ensures .0 in
-    (n .before .before .before .before .before .before .pre, omega (arith, e .0), omega (arith, e .0, n .before .before .before .before .before .large-buffer .ensures))
 
 returns : tie.Need-returns
 returns c =
@@ -18,5 +12,5 @@ returns c =
 
 pub read-on-spec : {M : Type 1} → statement M
 read-on-spec =
-    tie.close (tie.spec (λ c κs. search needs) (λ c. search needs) (λ c κs. search needs) (λ c. search needs) (λ c κs. search needs) (λ c. search needs) take-read-requires (λ c. search needs)
+    tie.close (tie.spec (λ c κs. search needs) (λ c. search needs) (λ c κs. search needs) (λ c. search needs) (λ c κs. search needs) (λ c. search needs) (λ c κs. search needs) (λ c. search needs)
     (λ c. search needs) (λ c. search needs) returns)

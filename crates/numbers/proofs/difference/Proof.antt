@@ -1,13 +1,7 @@
--- `numbers::difference` meets its contract.
+-- `difference` meets its contract.
 use Rattle.meaning_numbers.proofs.Prelude.{needs, pos, _-ℤ_, zarith, z-sub, z-abs}
 use Rattle.numbers.proofs.difference.Statement.{statement}
 use Rattle.numbers.proofs.difference.Tie as tie
 
-returns : tie.Need-returns
-returns c = let a = c .before .args in omega (zarith, z-sub (pos (a .a)) (pos (a .b)), z-abs (pos (a .a) -ℤ pos (a .b)))
-
-returns-2 : tie.Need-returns-2
-returns-2 c = let a = c .before .args in omega (zarith, z-sub (pos (a .a)) (pos (a .b)), z-abs (pos (a .a) -ℤ pos (a .b)))
-
 pub difference-spec : {M : Type 1} → statement M
-difference-spec = tie.close (tie.spec (λ c. search needs) returns returns-2)
+difference-spec = tie.close (tie.spec (λ c. search needs) (λ c. let a = c .before .args in omega (zarith, z-sub (pos (a .a)) (pos (a .b)), z-abs (pos (a .a) -ℤ pos (a .b)))) (λ c. let a = c .before .args in omega (zarith, z-sub (pos (a .a)) (pos (a .b)), z-abs (pos (a .a) -ℤ pos (a .b)))))

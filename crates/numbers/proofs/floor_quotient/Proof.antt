@@ -1,4 +1,4 @@
--- `numbers::floor_quotient` meets its contract: of a negative z the number -1 - z is not negative, and its quotient is -1 less the floor of z's.
+-- `floor_quotient` meets its contract: of a negative z the number -1 - z is not negative, and its quotient is -1 less the floor of z's.
 use Rattle.meaning_numbers.proofs.Prelude.{needs, _≡_, _/_, _<_, _^_, div-le-self, ℤ, pos, negsuc, _-ℤ_, natAbs, w64, toZ, ofZ, z-sub, zmach, z-abs, z-cast, z-fits}
 use Rattle.numbers.proofs.{Row.row-up, Row.row-down, floor_quotient.Statement.statement}
 use Rattle.numbers.proofs.floor_quotient.Tie as tie
@@ -34,9 +34,6 @@ returns c =
     let k = natAbs (y (c .before)) / c .before .args .d in
     rw (row-down (c .before .args .d) (same c)) (omega (zmach, z-sub (negsuc 0) (toZ w64 k), z-cast k (small c)))
 
-cast-n-2 : tie.Need-cast-n-2
-cast-n-2 c = omega (zmach, z-abs (z (c .before)), z-fits (c .before .fits .z))
-
 module _ (c : tie.Else1) where
   up-same : c .before .args .z ≡ pos (natAbs (z (c .before)))
   up-same = omega (zmach, z-abs (z (c .before)))
@@ -45,7 +42,7 @@ module _ (c : tie.Else1) where
   up-small = omega (zmach, z-abs (z (c .before)), z-fits (c .before .fits .z), div-le-self (natAbs (z (c .before))) (c .before .args .d))
 
 returns-2 : tie.Need-returns-2
-returns-2 c = let k = natAbs (z (c .before)) / c .before .args .d in rw (row-up (c .before .args .d) (up-same c)) (omega (zmach, z-cast k (up-small c)))
+returns-2 c = let k = natAbs (z (c .before)) / c .before .args .d in rw (row-up _ (up-same c)) (omega (zmach, z-cast k (up-small c)))
 
 pub floor-quotient-spec : {M : Type 1} → statement M
-floor-quotient-spec = tie.close (tie.spec sub-n cast-n (λ c. search needs) (λ c. omega (zmach, small c)) sub-result returns cast-n-2 (λ c. search needs) (λ c. omega (zmach, up-small c)) returns-2)
+floor-quotient-spec = tie.close (tie.spec sub-n cast-n (λ c. search needs) (λ c. omega (zmach, small c)) sub-result returns (λ c. omega (zmach, z-abs (z (c .before)), z-fits (c .before .fits .z))) (λ c. search needs) (λ c. omega (zmach, up-small c)) returns-2)

@@ -1,4 +1,4 @@
--- `numbers::gap` meets its contract: both ways are the size of x - y, whose range follows from the limits.
+-- `gap` meets its contract: both ways are the size of x - y, whose range follows from the limits.
 use Rattle.meaning_numbers.proofs.Prelude.{ℤ, pos, _-ℤ_, w32, toZ, ofZ, z-abs, zmach32, z-sub}
 use Rattle.numbers.proofs.gap.Statement.{statement}
 use Rattle.numbers.proofs.gap.Tie as tie

@@ -1,4 +1,4 @@
--- `numbers::greater_of` meets its contract, by the flag of its test.
+-- `greater_of` meets its contract, by the flag of its test.
 use Rattle.meaning_numbers.proofs.Prelude.{w64}
 use Rattle.numbers.proofs.{Back.greater-second, Back.greater-first, greater_of.Statement.statement}
 use Rattle.numbers.proofs.greater_of.Tie as tie

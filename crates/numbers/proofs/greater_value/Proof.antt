@@ -1,4 +1,4 @@
--- `numbers::greater_value` meets its contract, by the flag of its test.
+-- `greater_value` meets its contract, by the flag of its test.
 use Rattle.meaning_numbers.proofs.Prelude.{w32}
 use Rattle.numbers.proofs.{Back.greater-second, Back.greater-first, greater_value.Statement.statement}
 use Rattle.numbers.proofs.greater_value.Tie as tie

@@ -1,4 +1,4 @@
--- `numbers::hold` meets its contract. By the two tests.
+-- `hold` meets its contract. By the two tests.
 use Rattle.meaning_numbers.proofs.Prelude.{pos, _≤ℤ_, _<ℤ_, w64, toZ-ofZ, zmach, lt-ltZ, le-ltZ, z-abs}
 use Rattle.numbers.specs.Narrow.{held}
 use Rattle.numbers.proofs.hold.Statement.{statement}

@@ -1,4 +1,4 @@
--- `numbers::in_limits` meets its contract.
+-- `in_limits` meets its contract.
 use Rattle.meaning_numbers.proofs.Prelude.{sym, zmach32}
 use Rattle.meaning_curves.proofs.Values.{value-yes, value-no}
 use Rattle.numbers.proofs.in_limits.Statement.{statement}
@@ -6,4 +6,4 @@ use Rattle.numbers.proofs.in_limits.Tie as tie
 
 pub in-limits-spec : {M : Type 1} → statement M
 in-limits-spec =
-    tie.close (tie.spec (λ c. sym (value-no (c .before .args .x) (λ h. omega zmach32))) (λ c. sym (value-no (c .before .before .args .x) (λ h. omega zmach32))) (λ c. sym (value-yes (omega zmach32))))
+    tie.close (tie.spec (λ c. sym (value-no _ (λ h. omega zmach32))) (λ c. sym (value-no _ (λ h. omega zmach32))) (λ c. sym (value-yes (omega zmach32))))

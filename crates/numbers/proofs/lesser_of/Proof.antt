@@ -1,4 +1,4 @@
--- `numbers::lesser_of` meets its contract, by the flag of its test.
+-- `lesser_of` meets its contract, by the flag of its test.
 use Rattle.meaning_numbers.proofs.Prelude.{w64}
 use Rattle.numbers.proofs.{Back.lesser-first, Back.lesser-second, lesser_of.Statement.statement}
 use Rattle.numbers.proofs.lesser_of.Tie as tie

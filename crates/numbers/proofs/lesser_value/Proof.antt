@@ -1,4 +1,4 @@
--- `numbers::lesser_value` meets its contract, by the flag of its test.
+-- `lesser_value` meets its contract, by the flag of its test.
 use Rattle.meaning_numbers.proofs.Prelude.{w32}
 use Rattle.numbers.proofs.{Back.lesser-first, Back.lesser-second, lesser_value.Statement.statement}
 use Rattle.numbers.proofs.lesser_value.Tie as tie

@@ -1,4 +1,4 @@
--- `numbers::lower` meets its contract.
+-- `lower` meets its contract.
 use Rattle.meaning_numbers.proofs.Prelude.{needs, arith, w32, toZ, z-sub, zmach32, z-cast32}
 use Rattle.numbers.proofs.lower.Statement.{statement}
 use Rattle.numbers.proofs.lower.Tie as tie

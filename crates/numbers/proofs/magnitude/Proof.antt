@@ -1,12 +1,12 @@
--- `numbers::magnitude` meets its contract. Of a negative number one less is turned, so that the least i32 is no exception.
+-- `magnitude` meets its contract. Of a negative number one less is turned, so that the least i32 is no exception.
 use Rattle.meaning_numbers.proofs.Prelude.{needs, arith, _<_, _≤_, _^_, ℤ, pos, negsuc, _+ℤ_, _-ℤ_, w32, SFits, toZ, ofZ, up, dn, z-add, z-sub, zmach32, z-abs}
 use Rattle.numbers.proofs.magnitude.Statement.{statement}
 use Rattle.numbers.proofs.magnitude.Tie as tie
 
 -- the limits of a number that fits
 limits : {z : ℤ} → SFits w32 z → (up z < 2 ^ 31) × (dn z ≤ 2 ^ 31)
-limits {z = pos n} h = (omega (arith, h .sfits), omega arith)
-limits {z = negsuc n} h = (omega arith, omega (arith, h .sfits))
+limits {z = pos n} h = (omega arith, omega arith)
+limits {z = negsuc n} h = (omega arith, omega arith)
 
 -- the number as the machine reads it, one more, and that turned
 abbrev Z : tie.Start → ℤ
@@ -36,13 +36,10 @@ add-result c =
     let s = c .before in let h = limits (s .fits .z) in let f : SFits w32 (Z s +ℤ pos 1) = add-y c in let g : SFits w32 (pos 0 -ℤ Y s) = sub-y c in
     omega (zmach32, z-add (Z s) (pos 1), z-sub (pos 0) (Y s), z-abs (X s))
 
-cast-result-2 : tie.Need-cast-result-2
-cast-result-2 c = let s = c .before in let h = limits (s .fits .z) in omega (zmach32, z-abs (Z s))
-
 returns : tie.Need-returns
 returns c =
     let s = c .before in let h = limits (s .fits .z) in let f : SFits w32 (Z s +ℤ pos 1) = add-y c in let g : SFits w32 (pos 0 -ℤ Y s) = sub-y c in
     omega (zmach32, z-add (Z s) (pos 1), z-sub (pos 0) (Y s), z-abs (X s), z-abs (s .args .z))
 
 pub magnitude-spec : {M : Type 1} → statement M
-magnitude-spec = tie.close (tie.spec add-y sub-y cast-result add-result cast-result-2 returns (λ c. search needs))
+magnitude-spec = tie.close (tie.spec add-y sub-y cast-result add-result (λ c. let s = c .before in let h = limits (s .fits .z) in omega (zmach32, z-abs (Z s))) returns (λ c. search needs))

@@ -1,4 +1,4 @@
--- `numbers::minus` meets its contract: the numbers are small.
+-- `minus` meets its contract: the numbers are small.
 use Rattle.meaning_numbers.proofs.Prelude.{arith, w64, toZ-ofZ}
 use Rattle.numbers.proofs.{Small.small-sub, Small.small-fits, Small.small-back, minus.Statement.statement}
 use Rattle.numbers.proofs.minus.Tie as tie

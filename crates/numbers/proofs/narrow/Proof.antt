@@ -1,5 +1,5 @@
--- `numbers::narrow` meets its contract. By the two tests.
-use Rattle.meaning_numbers.proofs.Prelude.{pos, negsuc, _≤ℤ_, _<ℤ_, w32, w64, toZ, ofZ, SFits, toZ-ofZ, zmach, lt-ltZ, le-ltZ, to-sfits32}
+-- `narrow` meets its contract. By the two tests.
+use Rattle.meaning_numbers.proofs.Prelude.{pos, negsuc, _≤ℤ_, _<ℤ_, w32, w64, SFits, toZ-ofZ, zmach, lt-ltZ, le-ltZ, to-sfits32}
 use Rattle.numbers.proofs.narrow.Statement.{statement}
 use Rattle.numbers.proofs.narrow.Tie as tie
 

@@ -1,4 +1,4 @@
--- `numbers::plus` meets its contract: the numbers are small.
+-- `plus` meets its contract: the numbers are small.
 use Rattle.meaning_numbers.proofs.Prelude.{arith, w64, toZ-ofZ}
 use Rattle.numbers.proofs.{Small.small-add, Small.small-fits, Small.small-back, plus.Statement.statement}
 use Rattle.numbers.proofs.plus.Tie as tie

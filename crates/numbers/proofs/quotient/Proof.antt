@@ -1,4 +1,4 @@
--- `numbers::quotient` meets its contract.
+-- `quotient` meets its contract.
 use Rattle.meaning_numbers.proofs.Prelude.{needs, _≡_, sym, div-zero, arith}
 use Rattle.numbers.proofs.quotient.Statement.{statement}
 use Rattle.numbers.proofs.quotient.Tie as tie

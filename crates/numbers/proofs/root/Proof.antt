@@ -1,4 +1,4 @@
--- `numbers::root` meets its contract. The invariant: the root lies from r to below r + width, which is at most 2 ^ 32.
+-- `root` meets its contract. The invariant: the root lies from r to below r + width, which is at most 2 ^ 32.
 use Rattle.meaning_numbers.proofs.Root.{sq-le, root-only, root-is}
 use Rattle.meaning_numbers.proofs.Prelude.{_≡_, ⊎-elim, _+_, _*_, _-_, _/_, _≤_, _<_, arith}
 use Rattle.numbers.proofs.root.Statement.{statement}
@@ -28,7 +28,7 @@ loop-again c =
 returns : tie.Need-returns Inv-loop μ-loop
 returns c =
     let e : c .before .loop .width ≡ 1 = omega arith in
-    root-only (record { low = omega arith; high = rw e at (c .before .loop .inv .1) }) (root-is (c .before .before .args .y))
+    root-only (record { low = omega arith; high = rw e at (c .before .loop .inv .1) }) (root-is _)
 
 pub root-spec : {M : Type 1} → statement M
 root-spec =

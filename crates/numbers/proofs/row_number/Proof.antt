@@ -1,4 +1,4 @@
--- `numbers::row_number` meets its contract: of a negative sum z the number -1 - z is not negative, and its quotient is -1 less the row's number.
+-- `row_number` meets its contract: of a negative sum z the number -1 - z is not negative, and its quotient is -1 less the row's number.
 use Rattle.meaning_numbers.proofs.Prelude.{needs, _≡_, sym, _<_, div-le-self, ℤ, pos, negsuc, _-ℤ_, natAbs, w32, toZ, ofZ, z-sub, zmach32, z-abs, z-cast32}
 use Rattle.numbers.proofs.{Back.z-fits32, Row.row-up, Row.row-down, row_number.Statement.statement}
 use Rattle.numbers.proofs.row_number.Tie as tie
@@ -34,9 +34,6 @@ returns c =
     rw (row-down (c .before .before .args .width) (same c), sym (c .quotient .ensures))
     (omega (zmach32, z-sub (negsuc 0) (toZ w32 (c .quotient .result)), z-cast32 (c .quotient .result) (small c)))
 
-cast-n-2 : tie.Need-cast-n-2
-cast-n-2 c = omega (zmach32, z-abs (z (c .before)), z-fits32 (c .before .fits .sum))
-
 module _ (c : tie.After-quotient2) where
   up-same : c .before .before .args .sum ≡ pos (natAbs (z (c .before .before)))
   up-same = omega (zmach32, z-abs (z (c .before .before)))
@@ -46,8 +43,8 @@ module _ (c : tie.After-quotient2) where
 
 returns-2 : tie.Need-returns-2
 returns-2 c =
-    rw (row-up (c .before .before .args .width) (up-same c), sym (c .quotient2 .ensures)) (omega (zmach32, z-cast32 (c .quotient2 .result) (up-small c)))
+    rw (row-up _ (up-same c), sym (c .quotient2 .ensures)) (omega (zmach32, z-cast32 _ (up-small c)))
 
 pub row-number-spec : {M : Type 1} → statement M
 row-number-spec =
-    tie.close (tie.spec sub-n cast-n (λ c κs. search needs) (λ c. omega (zmach32, small c)) sub-result returns cast-n-2 (λ c κs. search needs) (λ c. omega (zmach32, up-small c)) returns-2)
+    tie.close (tie.spec sub-n cast-n (λ c κs. search needs) (λ c. omega (zmach32, small c)) sub-result returns (λ c. omega (zmach32, z-abs (z (c .before)), z-fits32 (c .before .fits .sum))) (λ c κs. search needs) (λ c. omega (zmach32, up-small c)) returns-2)

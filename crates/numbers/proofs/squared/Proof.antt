@@ -1,4 +1,4 @@
--- `numbers::squared` meets its contract.
+-- `squared` meets its contract.
 use Rattle.meaning_numbers.proofs.Prelude.{needs, _≡_, refl, _∙_, _*_, _≤_, _-ℤ_, natAbs, arith}
 use Rattle.meaning_curves.proofs.Values.{cost-le}
 use Rattle.numbers.proofs.{Back.in-back, Back.in-arg, squared.Statement.statement}

@@ -1,4 +1,4 @@
--- `numbers::times` meets its contract: the numbers are small.
+-- `times` meets its contract: the numbers are small.
 use Rattle.meaning_numbers.proofs.Prelude.{arith, w64, toZ-ofZ}
 use Rattle.numbers.proofs.{Small.small-mul, Small.small-fits, Small.small-back, times.Statement.statement}
 use Rattle.numbers.proofs.times.Tie as tie

@@ -1,4 +1,4 @@
--- `payout::audit_line` meets its contract. By what the line came to.
+-- `audit_line` meets its contract. By what the line came to.
 use Rattle.meaning_numbers.proofs.Prelude.{sym, ap, _∙_, _+_, arith, needs}
 use Rattle.meaning_text.proofs.Lines.{newlines-length}
 use Rattle.meaning_entries.specs.declared.Audited.{Audited}

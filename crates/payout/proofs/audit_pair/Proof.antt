@@ -1,4 +1,4 @@
--- `payout::audit_pair` meets its contract. By what the index text came to.
+-- `audit_pair` meets its contract. By what the index text came to.
 use Rattle.meaning_numbers.proofs.Prelude.{sym, ap, _∙_, needs}
 use Rattle.meaning_entries.specs.declared.Audited.{Audited}
 use Rattle.payout.proofs.{Outcome.index-stopped, audit_pair.Statement.statement}

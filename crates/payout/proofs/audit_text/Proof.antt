@@ -1,16 +1,16 @@
--- `payout::audit_text` meets its contract: its number is the answer packed, which fits.
-use Rattle.meaning_numbers.proofs.Prelude.{sym, ap, subst, _∙_, _<_, _^_, arith, needs}
-use Rattle.meaning_entries.specs.{declared.Audited.Audited, AuditText.pack, AuditText.auditText}
+-- `audit_text` meets its contract: its number is the answer packed, which fits.
+use Rattle.meaning_numbers.proofs.Prelude.{ap, _∙_, arith, needs}
+use Rattle.meaning_entries.specs.{AuditText.pack, AuditText.auditText}
 use Rattle.meaning_entries.proofs.Demand2.{audit-text-kept}
 use Rattle.payout.proofs.{Small.number-small, audit_text.Statement.statement}
 use Rattle.payout.proofs.audit_text.Tie as tie
 
 number-of-requires : tie.Need-number-of-requires
-number-of-requires c κs = let s = c .before .before .before in subst (λ (a : Audited). pack a < 2 ^ 64) (sym (c .audit-pair .ensures)) (number-small (s .args .index .now) (s .args .series .now) (omega (arith, s .good)))
+number-of-requires c κs = let s = c .before .before .before in rw (c .audit-pair .ensures) (number-small (s .args .index .now) (s .args .series .now) (omega (arith, s .good)))
 
 returns : tie.Need-returns
 unfolding auditText
-returns c = let p = c .before in let s = p .before .before .before in audit-text-kept (s .args .index .now) (s .args .series .now) _ (c .number-of .ensures ∙ ap pack (p .audit-pair .ensures))
+returns c = let p = c .before in let s = p .before .before .before in audit-text-kept _ _ _ (c .number-of .ensures ∙ ap pack (p .audit-pair .ensures))
 
 pub audit-text-spec : {M : Type 1} → statement M
 audit-text-spec = tie.close (tie.spec (λ c κs. search needs) number-of-requires returns)

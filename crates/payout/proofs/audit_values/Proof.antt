@@ -1,5 +1,5 @@
--- `payout::audit_values` meets its contract: the limit on n first.
-use Rattle.meaning_numbers.proofs.Prelude.{sym, _∙_, _≤_, arith, pos, length, length-take-le, not-true, not-false, needs}
+-- `audit_values` meets its contract: the limit on n first.
+use Rattle.meaning_numbers.proofs.Prelude.{sym, _∙_, _≤_, arith, length, length-take-le, not-true, not-false, needs}
 use Rattle.meaning_curves.specs.Limits.{mostProgramValues}
 use Rattle.meaning_rows.proofs.Judge.{between}
 use Rattle.meaning_entries.specs.Load.{textIndex}
@@ -9,7 +9,7 @@ use Rattle.payout.proofs.audit_values.Tie as tie
 pub audit-values-spec : {M : Type 1} → statement M
 audit-values-spec =
     tie.close (tie.spec (λ c κs. search needs)
-    (λ c. let f = c .before in let a = f .before .before .args in counted-outside (textIndex (a .index .now)) (a .values .now) (a .n) (sym (f .length-in .ensures) ∙ not-true (f .length-in .result) (c .if1 .taken)))
-    (λ c. let f = c .before .before in let s = f .before .before in let b = between 1 mostProgramValues (pos (s .args .n)) (sym (f .length-in .ensures) ∙ not-false (f .length-in .result) (c .before .if1 .left)) in let h : s .args .n ≤ length (s .args .values .now) = omega (arith, b .most, s .pre .1) in sym (length-take-le (s .args .n) (s .args .values .now) h))
+    (λ c. let f = c .before in let a = f .before .before .args in counted-outside _ _ (a .n) (sym (f .length-in .ensures) ∙ not-true _ (c .if1 .taken)))
+    (λ c. let f = c .before .before in let s = f .before .before in let b = between 1 mostProgramValues _ (sym (f .length-in .ensures) ∙ not-false (f .length-in .result) (c .before .if1 .left)) in let h : s .args .n ≤ length (s .args .values .now) = omega (arith, b .most) in sym (length-take-le (s .args .n) (s .args .values .now) h))
     (λ c κs. search needs)
     (λ c. let e = c .before .before in let f = e .before in let a = f .before .before .args in c .audit-series .ensures ∙ counted-inside (textIndex (a .index .now)) (a .values .now) (a .n) (sym (f .length-in .ensures) ∙ not-false (f .length-in .result) (e .if1 .left))))

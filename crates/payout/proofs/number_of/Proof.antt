@@ -1,4 +1,4 @@
--- `payout::number_of` meets its contract. By the kind of answer.
+-- `number_of` meets its contract. By the kind of answer.
 use Rattle.meaning_numbers.proofs.Prelude.{refl, sym, ap, subst, _∙_, _<_, _^_, needs}
 use Rattle.meaning_entries.specs.{declared.Audited.Audited, AuditText.pack}
 use Rattle.payout.proofs.number_of.Statement.{statement}

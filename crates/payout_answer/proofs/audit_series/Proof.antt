@@ -1,4 +1,4 @@
--- `payout_answer::audit_series` meets its contract: the answer by the plan, and where nothing refuses by the walk over the rows.
+-- `audit_series` meets its contract: the answer by the plan, and where nothing refuses by the walk over the rows.
 use borrow.Author.Needs.{needs}
 use mathlib.Core.Path.{_≡_, sym, ap, _∙_}
 use Rattle.entry_audit.specs.{declared.AuditPlan.AuditPlan, Plan.planOf, Plan.answerOf}
@@ -15,7 +15,7 @@ module _ (m : tie.After-make-plan) where
   plan = planOf (o .args .series .now) (o .args .head) (judgedRows (o .args .head) (o .args .c))
 
   made : m .make-plan .result ≡ plan
-  made = m .make-plan .ensures ∙ ap (planOf (o .args .series .now) (o .args .head)) (m .before .judged-rows .ensures)
+  made = m .make-plan .ensures ∙ ap (planOf _ _) (m .before .judged-rows .ensures)
 
   number-zero : m .make-plan .result .refusal .number ≡ 0 → plan .refusal .number ≡ 0
   number-zero e = sym (ap (λ (u : AuditPlan). u .refusal .number) made) ∙ e

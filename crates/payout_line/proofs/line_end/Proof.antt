@@ -1,4 +1,4 @@
--- `payout_line::line_end` meets its contract. By the case.
+-- `line_end` meets its contract. By the case.
 use borrow.Author.Needs.{needs}
 use Rattle.payout_line.proofs.line_end.Statement.{statement}
 use Rattle.payout_line.proofs.line_end.Tie as tie

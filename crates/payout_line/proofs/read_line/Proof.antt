@@ -1,4 +1,4 @@
--- `payout_line::read_line` meets its contract: the line is fed in one piece.
+-- `read_line` meets its contract: the line is fed in one piece.
 use borrow.Author.Needs.{needs}
 use lib.IntN.{pos}
 use mathlib.Core.List.{[], _∷_}

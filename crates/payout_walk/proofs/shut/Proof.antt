@@ -1,4 +1,4 @@
--- `payout_walk::shut` meets its contract.
+-- `shut` meets its contract.
 use Rattle.meaning_numbers.proofs.Prelude.{needs}
 use Rattle.payout_walk.specs.Walk.{shutWalk}
 use Rattle.payout_walk.proofs.shut.Statement.{statement}

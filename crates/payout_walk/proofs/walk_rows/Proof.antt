@@ -1,5 +1,5 @@
--- `payout_walk::walk_rows` meets its contract. The invariant: what is left of the text comes to what the text comes to (`Kept`), and no more rows are closed than bytes were read. The measure is what is left of the text.
-use Rattle.meaning_numbers.proofs.Prelude.{_≡_, sym, _∙_, List, _+_, _-_, _≤_, arith, needs, not-true, ℤ, length, w64, toZ, ofZ, toZ-ofZ}
+-- `walk_rows` meets its contract. The invariant: what is left of the text comes to what the text comes to (`Kept`), and no more rows are closed than bytes were read. The measure is what is left of the text.
+use Rattle.meaning_numbers.proofs.Prelude.{sym, _∙_, List, _+_, _-_, _≤_, arith, needs, not-true, ℤ, length, w64, toZ-ofZ}
 use Rattle.meaning_rows.specs.declared.Head.{Head}
 use Rattle.text_index.proofs.View.{Kept, kept-start, kept-to, kept-value, kept-closed}
 use Rattle.payout_walk.specs.Walk.{startWalk, tellWalk, shutWalk}
@@ -31,22 +31,22 @@ moved c =
     let l = a .before .before .before in
     let p = n .n2 .given .0 .1 .0 in
     let z = n .n2 .given .0 .1 .1 .0 in
-    let e : toZ w64 (ofZ w64 z) ≡ z = toZ-ofZ w64 z (search (needs, c .before .known-told2 .given)) in
+    let e = toZ-ofZ w64 z (search (needs, c .before .known-told2 .given)) in
     let q = rw e at (c .tell .ensures) in
-    rw q (kept-value (tellWalk (S l) (H l)) shutWalk startWalk _ (l .loop .s) (l .loop .t) (l .loop .i) (l .loop .inv .0) (a .before .before .loop-test .taken) (n .n2 .given .0 .0) p z (sym (a .index-step .ensures) ∙ n .n2 .given .1), omega (arith, l .loop .inv .1, tell-rows (S l) (H l) p z (l .loop .t)))
+    rw q (kept-value _ shutWalk startWalk _ (l .loop .s) _ _ (l .loop .inv .0) (a .before .before .loop-test .taken) _ p z (sym (a .index-step .ensures) ∙ n .n2 .given .1), omega (arith, l .loop .inv .1, tell-rows (S l) (H l) p z (l .loop .t)))
 
 pub walk-rows-spec : {M : Type 1} → statement M
 walk-rows-spec =
     tie.close (tie.spec Inv-loop μ-loop (λ c κs. search needs)
     (λ c. rw (c .no-walk .ensures) (kept-start (tellWalk (c .before .before .args .series .now) (c .before .before .args .head)) shutWalk startWalk _, omega arith))
-    (λ c. omega arith) (λ c κs. c .before .before .loop .inv .0 .good) (λ c. search needs) (λ c. omega arith) (λ c. omega arith)
-    (λ c. let a = c .before .before .before in let l = a .before .before .before in (kept-to (tellWalk (S l) (H l)) shutWalk startWalk _ (l .loop .s) (l .loop .t) (l .loop .i) (l .loop .inv .0) (a .before .before .loop-test .taken) (c .before .n .given .0 .0) (sym (a .index-step .ensures) ∙ c .before .n .given .1), omega (arith, l .loop .inv .1)))
+    (λ c. omega arith) (λ c κs. search needs) (λ c. search needs) (λ c. omega arith) (λ c. omega arith)
+    (λ c. let a = c .before .before .before in let l = a .before .before .before in (kept-to (tellWalk (S l) (H l)) shutWalk startWalk _ (l .loop .s) (l .loop .t) (l .loop .i) (l .loop .inv .0) (a .before .before .loop-test .taken) (c .before .n .given .0 .0) (sym (a .index-step .ensures) ∙ c .before .n .given .1), search needs))
     (λ c. search needs)
-    (λ c κs. let a = c .before .before .before in let l = a .before .before .before in (l .before .before .before .pre, omega (arith, l .loop .inv .1, a .before .before .loop-test .taken, l .before .before .before .good)))
+    (λ c κs. let a = c .before .before .before in let l = a .before .before .before in (search needs, search needs))
     (λ c. omega arith)
     (λ c. let t = c .before .before .before in let n = t .before .before in let l = n .before .before .before .before .before in walked-stopped (S l) (H l) _ (n .n2 .given .0 .0) (t .tell .result) (l .loop .i + 1) (moved t .0) (not-true (t .tell .result .found .go) (c .before .if1 .taken)))
     (λ c. omega arith) (λ c. moved (c .before .before)) (λ c. search needs)
-    (λ c κs. let a = c .before .before .before in let l = a .before .before .before in omega (arith, l .loop .inv .1, a .before .before .loop-test .taken, l .before .before .before .good))
+    (λ c κs. search needs)
     (λ c. omega arith) (λ c. omega arith)
     (λ c. let n = c .before .before in let a = n .before .before in let l = a .before .before .before in rw (c .shut .ensures) (kept-closed (tellWalk (S l) (H l)) shutWalk startWalk _ (l .loop .s) (l .loop .t) (l .loop .i) (l .loop .inv .0) (a .before .before .loop-test .taken) (n .n3 .given .0 .0) (sym (a .index-step .ensures) ∙ n .n3 .given .1), omega (arith, l .loop .inv .1, shut-rows (l .loop .t))))
     (λ c. search needs)

@@ -1,4 +1,4 @@
--- `program_answer::list_matches` meets its contract: the list of a search that is not refused (`list-put`).
+-- `list_matches` meets its contract: the list of a search that is not refused (`list-put`).
 use Rattle.meaning_numbers.proofs.Prelude.{needs, ℕ, length-replicate}
 use Rattle.program_answer.proofs.{Print.list-put, list_matches.Statement.statement}
 use Rattle.program_answer.proofs.list_matches.Tie as tie

@@ -1,4 +1,4 @@
--- `program_answer::print_answer` meets its contract: the build, its text and the list behind it (`prints`).
+-- `print_answer` meets its contract: the build, its text and the list behind it (`prints`).
 use Rattle.meaning_numbers.proofs.Prelude.{needs, ℕ, length-take, length-replicate, arith}
 use Rattle.meaning_rows.specs.Index.{zeroRow}
 use Rattle.program_answer.proofs.{Whole.not-refused, Whole.rows-few, Whole.runs-few, Whole.prints, print_answer.Statement.statement}

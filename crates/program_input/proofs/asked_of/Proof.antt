@@ -1,14 +1,14 @@
--- `program_input::asked_of` meets its contract: each number fits its type.
+-- `asked_of` meets its contract: each number fits its type.
 use Rattle.meaning_numbers.proofs.Prelude.{needs, zarith, w64, toZ-ofZ}
 use Rattle.program_input.specs.Tables.{askedOf}
 use Rattle.program_input.proofs.asked_of.Statement.{statement}
 use Rattle.program_input.proofs.asked_of.Tie as tie
 
 held-requires-5 : tie.Need-held-requires-5
-held-requires-5 c κs = rw (toZ-ofZ w64 (c .before .before .before .before .before .before .before .before .before .before .before .before .before .args .x .width) (record { sfits = c .struct-told7 .given .1 .0 .1 })) (c .before .before .before .before .before .before .before .before .before .before .before .before .before .pre .width .least, omega (zarith, c .before .before .before .before .before .before .before .before .before .before .before .before .before .pre .width .most))
+held-requires-5 c κs = rw (toZ-ofZ w64 _ (record { sfits = c .struct-told7 .given .1 .0 .1 })) (search needs, omega zarith)
 
 held-requires-6 : tie.Need-held-requires-6
-held-requires-6 c κs = rw (toZ-ofZ w64 (c .before .before .before .before .before .before .before .before .before .before .before .before .before .before .before .args .x .merge) (record { sfits = c .struct-told8 .given .1 .1 .0 .1 })) (c .before .before .before .before .before .before .before .before .before .before .before .before .before .before .before .pre .merge .least, omega (zarith, c .before .before .before .before .before .before .before .before .before .before .before .before .before .before .before .pre .merge .most))
+held-requires-6 c κs = rw (toZ-ofZ w64 _ (record { sfits = c .struct-told8 .given .1 .1 .0 .1 })) (c .before .before .before .before .before .before .before .before .before .before .before .before .before .before .before .pre .merge .least, omega (zarith, c .before .before .before .before .before .before .before .before .before .before .before .before .before .before .before .pre .merge .most))
 
 returns : tie.Need-returns
 unfolding askedOf

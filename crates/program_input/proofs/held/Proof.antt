@@ -1,4 +1,4 @@
--- `program_input::held` meets its contract.
+-- `held` meets its contract.
 use Rattle.meaning_numbers.proofs.Prelude.{needs, zmach, z-abs, pos, _≤ℤ_, w64, toZ-ofZ}
 use Rattle.program_input.proofs.held.Statement.{statement}
 use Rattle.program_input.proofs.held.Tie as tie

@@ -1,4 +1,4 @@
--- `program_input::held_long` meets its contract.
+-- `held_long` meets its contract.
 use Rattle.meaning_numbers.proofs.Prelude.{needs, zmach, z-abs, z-fits, pos, _≤ℤ_, w64, toZ-ofZ}
 use Rattle.program_input.proofs.held_long.Statement.{statement}
 use Rattle.program_input.proofs.held_long.Tie as tie

@@ -1,5 +1,5 @@
--- `program_input::kind_of` meets its contract, by the test.
-use Rattle.meaning_numbers.proofs.Prelude.{zmach, lt-ltZ, le-ltZ, ℤ, pos, _≤ℤ_, _<ℤ_}
+-- `kind_of` meets its contract, by the test.
+use Rattle.meaning_numbers.proofs.Prelude.{zmach, lt-ltZ, le-ltZ, pos, _≤ℤ_, _<ℤ_}
 use Rattle.program_input.proofs.kind_of.Statement.{statement}
 use Rattle.program_input.proofs.kind_of.Tie as tie
 

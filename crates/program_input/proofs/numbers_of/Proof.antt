@@ -1,4 +1,4 @@
--- `program_input::numbers_of` meets its contract: each number is read at its place.
+-- `numbers_of` meets its contract: each number is read at its place.
 use Rattle.meaning_numbers.proofs.Prelude.{needs}
 use Rattle.program_input.specs.Tables.{numbersAt}
 use Rattle.program_input.proofs.numbers_of.Statement.{statement}
@@ -7,5 +7,5 @@ use Rattle.program_input.proofs.numbers_of.Tie as tie
 pub numbers-of-spec : {M : Type 1} → statement M
 unfolding numbersAt
 numbers-of-spec =
-    tie.close (tie.spec (λ c. search needs) (λ c. search needs) (λ c. search needs) (λ c. search needs) (λ c. search needs) (λ c. search needs) (λ c. search needs)
-    (λ c. search needs) (λ c. search needs))
+    tie.close (tie.spec (search needs) (search needs) (search needs) (search needs) (search needs) (search needs) (search needs)
+    (search needs) (λ c. search needs))

@@ -1,6 +1,6 @@
--- `program_input::outside` meets its contract, by the two tests.
+-- `outside` meets its contract, by the two tests.
 use Rattle.meaning_numbers.specs.Order.{within}
-use Rattle.meaning_numbers.proofs.Prelude.{zmach, ℤ, _≤ℤ_, _<ℤ_, w64, toZ-ofZ}
+use Rattle.meaning_numbers.proofs.Prelude.{zmach, _≤ℤ_, _<ℤ_, w64, toZ-ofZ}
 use Rattle.text_feed.proofs.Keep.{gt-leZ, le-leZ}
 use Rattle.program_input.proofs.{Text.not-le, outside.Statement.statement}
 use Rattle.program_input.proofs.outside.Tie as tie

@@ -1,10 +1,10 @@
--- `program_input::refuse` meets its contract, by where the input stands.
+-- `refuse` meets its contract, by where the input stands.
 use Rattle.meaning_numbers.proofs.Prelude.{needs, not-true, not-false, sym, _∙_}
 use Rattle.program_input.proofs.{Text.end-failed, Text.end-short, Text.end-done, Text.sound-end, refuse.Statement.statement}
 use Rattle.program_input.proofs.refuse.Tie as tie
 
 returns-3 : tie.Need-returns-3
-returns-3 c = let a = c .before .before .before .before .before .before .before .before .before .args in end-done (a .numbers .now) (a .query .now) (c .before .before .before .before .before .before .before .r2 .given .1) (sym (c .before .before .before .before .before .is-done .ensures) ∙ not-false (c .before .before .before .before .before .is-done .result) (c .before .before .before .before .if1 .left)) (rw (c .before .numbers-of .ensures) at (c .refuse-call .ensures))
+returns-3 c = end-done _ _ (c .before .before .before .before .before .before .before .r2 .given .1) (sym (c .before .before .before .before .before .is-done .ensures) ∙ not-false _ (c .before .before .before .before .if1 .left)) (rw (c .before .numbers-of .ensures) at (c .refuse-call .ensures))
 
 pub refuse-spec : {M : Type 1} → statement M
 refuse-spec =

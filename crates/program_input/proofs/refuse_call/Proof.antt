@@ -1,4 +1,4 @@
--- `program_input::refuse_call` meets its contract, one part of the table after the other.
+-- `refuse_call` meets its contract, one part of the table after the other.
 use Rattle.meaning_numbers.proofs.Prelude.{needs, _≤_, length, take, length-take, List, [], _∷_, _++_, _∙_, w64, toZ-ofZ, arith}
 use Rattle.meaning_entries.specs.Refusal.{Condition, flatQuery, normalFlat}
 use Rattle.meaning_entries.proofs.Refusal.{AllPass}
@@ -21,18 +21,18 @@ module _ (o : tie.Start) where
 
 -- the values pass
 first : (c : tie.Else1) → AllPass (one (c .before .before .before))
-first c = let v = c .before .before in passes (one (v .before)) (values-lack (v .before .args .v) (v .before .args .q)) (v .refuse-values .ensures) (c .if1 .left)
+first c = let v = c .before .before in passes _ (values-lack _ _) (v .refuse-values .ensures) (c .if1 .left)
 
 -- the numbers pass
 second : (c : tie.Else2) → AllPass (two (c .before .before .before .before .before .before))
 second c =
     let n = c .before .before in
     let o = n .before .before .before .before in
-    passes (two o) (numbers-lack (o .args .v .count) (o .args .q .count) (o .args .x)) (n .refuse-numbers .ensures) (c .if2 .left)
+    passes (two o) (numbers-lack _ _ (o .args .x)) (n .refuse-numbers .ensures) (c .if2 .left)
 
 -- so the query is short enough
 short : (c : tie.Else2) → c .before .before .before .before .before .before .args .q .count ≤ 1024
-short c = let o = c .before .before .before .before .before .before in query-few (o .args .v .count) (o .args .q .count) (o .args .x) (second c)
+short c = let o = c .before .before .before .before .before .before in query-few _ _ (o .args .x) (second c)
 
 returns-3 : tie.Need-returns-3
 unfolding callTable flatQuery
@@ -41,9 +41,9 @@ returns-3 c =
     let n = e .before .before in
     let o = n .before .before .before .before in
     let told = c .before .before .before .before .before in
-    let kind = rw (toZ-ofZ w64 (o .args .x .raw) (record { sfits = told .struct-told .given .1 .1 .1 .1 .1 .1 .1 .0 .1 })) at (c .before .before .before .before .kind-of .ensures) in
-    part-passes (two o ++ three o) (first (n .before))
-    (part-passes (three o) (second e) (line-before 11 (normalFlat (kindOf (o .args .x .raw)) (take (o .args .q .count) (o .args .query .now))) _ (c .before .unrefused .ensures) (c .before .before .normal-flat .ensures ∙ rw kind) (c .refuse-if .ensures)))
+    let kind = rw (toZ-ofZ w64 _ (record { sfits = told .struct-told .given .1 .1 .1 .1 .1 .1 .1 .0 .1 })) at (c .before .before .before .before .kind-of .ensures) in
+    part-passes _ (first (n .before))
+    (part-passes (three o) (second e) (line-before 11 (normalFlat _ _) _ (c .before .unrefused .ensures) (c .before .before .normal-flat .ensures ∙ rw kind) (c .refuse-if .ensures)))
 
 pub refuse-call-spec : {M : Type 1} → statement M
 unfolding callTable

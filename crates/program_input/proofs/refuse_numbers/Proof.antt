@@ -1,4 +1,4 @@
--- `program_input::refuse_numbers` meets its contract: each test is a line of the table (`line-before`).
+-- `refuse_numbers` meets its contract: each test is a line of the table (`line-before`).
 use Rattle.meaning_numbers.proofs.Prelude.{needs, _||_, w64, toZ-ofZ}
 use Rattle.meaning_entries.proofs.Refusal.{openLines}
 use Rattle.refusals.proofs.RefusalLaws.{line-before}
@@ -33,9 +33,9 @@ returns c =
 
 pub refuse-numbers-spec : {M : Type 1} → statement M
 refuse-numbers-spec =
-    tie.close (tie.spec (λ c κs. search needs) (λ c κs. search needs) (λ c κs. search needs) (λ c κs. search needs) (λ c κs. search needs) (λ c κs. search needs)
-    (λ c κs. search needs) (λ c κs. search needs)
+    tie.close (tie.spec (search needs) (search needs) (search needs) (search needs) (search needs) (search needs)
+    (search needs) (search needs)
     (λ c κs. let threshold = c .before .before .before .before in threshold .before .before .before .before .before .before .before .before .before .pre .1)
-    (λ c κs. search needs) (λ c κs. search needs) (λ c κs. search needs) (λ c κs. search needs) (λ c κs. search needs) (λ c κs. search needs) (λ c κs. search needs) (λ c κs. search needs)
+    (search needs) (search needs) (search needs) (search needs) (search needs) (search needs) (search needs) (search needs)
     (λ c κs. let below = c .before .before .before .before .before .before .before .before .before .before .before in let threshold = below .before .before .before .before .before .before in threshold .before .before .before .before .before .before .before .before .before .pre .0)
-    (λ c κs. search needs) returns)
+    (search needs) returns)

@@ -1,4 +1,4 @@
--- `program_input::refuse_value` meets its contract, by its test.
+-- `refuse_value` meets its contract, by its test.
 use Rattle.meaning_numbers.proofs.Prelude.{lt-ltb, le-ltb, refl}
 use Rattle.refusals.specs.Refusal.{refuseAt}
 use Rattle.program_input.proofs.refuse_value.Statement.{statement}

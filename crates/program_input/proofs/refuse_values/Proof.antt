@@ -1,8 +1,8 @@
--- `program_input::refuse_values` meets its contract: each test is a line of the table.
+-- `refuse_values` meets its contract: each test is a line of the table.
 use Rattle.meaning_numbers.proofs.Prelude.{needs, ap, not}
 use Rattle.meaning_entries.specs.Refusal.{atPlace, lengthOutside}
 use Rattle.refusals.proofs.RefusalLaws.{line-before, place-before}
-use Rattle.program_input.specs.Tables.{firstOut, valuesTable}
+use Rattle.program_input.specs.Tables.{valuesTable}
 use Rattle.program_input.proofs.refuse_values.Statement.{statement}
 use Rattle.program_input.proofs.refuse_values.Tie as tie
 
@@ -12,8 +12,8 @@ returns c =
     let series = c .before .before in
     let query = series .before in
     let a = query .before .before .args in
-    line-before 1 _ _ (place-before (atPlace 2 (firstOut (a .v))) _ (place-before (atPlace 2 (firstOut (a .q))) _ (query .before .unrefused .ensures) (query .refuse-value .ensures)) (series .refuse-value2 .ensures))
+    line-before 1 _ _ (place-before (atPlace 2 _) _ (place-before (atPlace 2 _) _ (query .before .unrefused .ensures) (query .refuse-value .ensures)) (series .refuse-value2 .ensures))
     (ap not (c .before .length-in .ensures)) (c .refuse-if .ensures)
 
 pub refuse-values-spec : {M : Type 1} → statement M
-refuse-values-spec = tie.close (tie.spec (λ c κs. search needs) (λ c κs. search needs) (λ c κs. search needs) (λ c κs. search needs) (λ c κs. search needs) returns)
+refuse-values-spec = tie.close (tie.spec (search needs) (search needs) (search needs) (search needs) (search needs) returns)

@@ -1,10 +1,7 @@
--- `refusals::fewer` meets its contract (`fewer-is`).
+-- `fewer` meets its contract (`fewer-is`).
 use Rattle.meaning_numbers.proofs.Prelude.{needs}
 use Rattle.refusals.proofs.{Tests.fewer-is, fewer.Statement.statement}
 use Rattle.refusals.proofs.fewer.Tie as tie
 
-returns : tie.Need-returns
-returns c = fewer-is (c .args .windows) (c .args .w) (c .args .n)
-
 pub fewer-spec : {M : Type 1} → statement M
-fewer-spec = tie.close (tie.spec (λ c. search needs) returns)
+fewer-spec = tie.close (tie.spec (λ c. search needs) (λ c. fewer-is (c .args .windows) (c .args .w) (c .args .n)))

@@ -1,4 +1,4 @@
--- `refusals::length_in` meets its contract: its two tests are those of the definition.
+-- `length_in` meets its contract: its two tests are those of the definition.
 use Rattle.meaning_numbers.specs.Order.{within}
 use Rattle.meaning_numbers.proofs.Prelude.{needs}
 use Rattle.refusals.proofs.length_in.Statement.{statement}

@@ -1,4 +1,4 @@
--- `refusals::query_length_outside` meets its contract: its tests are those of the definition.
+-- `query_length_outside` meets its contract: its tests are those of the definition.
 use Rattle.meaning_numbers.specs.Order.{within}
 use Rattle.meaning_numbers.proofs.Prelude.{needs}
 use Rattle.refusals.proofs.query_length_outside.Statement.{statement}

@@ -1,4 +1,4 @@
--- `refusals::refuse_room` meets its contract: each test is a line of the table (`line-before`).
+-- `refuse_room` meets its contract: each test is a line of the table (`line-before`).
 use Rattle.meaning_numbers.proofs.Prelude.{needs}
 use Rattle.meaning_entries.specs.Refusal.{bufferShort}
 use Rattle.refusals.proofs.{RefusalLaws.line-before, refuse_room.Statement.statement}

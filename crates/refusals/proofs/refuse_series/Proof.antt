@@ -1,21 +1,17 @@
--- `refusals::refuse_series` meets its contract, by the length.
-use Rattle.meaning_numbers.proofs.Prelude.{needs, sym, ap, _∙_, Bool, not}
-use Rattle.meaning_curves.specs.Limits.{firstOutside}
-use Rattle.refusals.specs.Refusal.{refuseIf, refuseAt}
+-- `refuse_series` meets its contract, by the length.
+use Rattle.meaning_numbers.proofs.Prelude.{needs, sym, _∙_}
 use Rattle.refusals.proofs.refuse_series.Statement.{statement}
 use Rattle.refusals.proofs.refuse_series.Tie as tie
 
 returns : tie.Need-returns
 returns c =
     let l = c .before .before in
-    let a = l .before .args in
-    c .refuse-value .ensures ∙ sym (ap (λ (t : Bool). refuseIf (not t) 1 (refuseAt 2 (firstOutside (a .s .now)) (a .after))) (sym (l .length-in .ensures) ∙ c .before .if1 .taken))
+    c .refuse-value .ensures ∙ sym (rw (sym (l .length-in .ensures) ∙ c .before .if1 .taken))
 
 returns-2 : tie.Need-returns-2
 returns-2 c =
     let l = c .before in
-    let a = l .before .args in
-    sym (ap (λ (t : Bool). refuseIf (not t) 1 (refuseAt 2 (firstOutside (a .s .now)) (a .after))) (sym (l .length-in .ensures) ∙ c .if1 .left))
+    sym (rw (sym (l .length-in .ensures) ∙ c .if1 .left))
 
 pub refuse-series-spec : {M : Type 1} → statement M
 refuse-series-spec = tie.close (tie.spec (λ c κs. search needs) (λ c κs. search needs) returns returns-2)

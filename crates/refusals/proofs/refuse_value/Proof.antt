@@ -1,4 +1,4 @@
--- `refusals::refuse_value` meets its contract, by the first value outside.
+-- `refuse_value` meets its contract, by the first value outside.
 use Rattle.meaning_numbers.proofs.Prelude.{needs, _≡_, refl, sym, ap, _∙_, Option, none, some, ℕ}
 use Rattle.meaning_curves.specs.Limits.{firstOutside}
 use Rattle.values.specs.{declared.Place.Place, Place.placed}

@@ -1,4 +1,4 @@
--- `refusals::scale_or_shift_outside` meets its contract (`from-zero`).
+-- `scale_or_shift_outside` meets its contract (`from-zero`).
 use Rattle.meaning_numbers.specs.Order.{within}
 use Rattle.meaning_numbers.proofs.Prelude.{ap, Bool, not, _||_, pos}
 use Rattle.meaning_curves.specs.Limits.{scaleIn}

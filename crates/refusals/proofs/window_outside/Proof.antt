@@ -1,4 +1,4 @@
--- `refusals::window_outside` meets its contract: its tests are those of the definition.
+-- `window_outside` meets its contract: its tests are those of the definition.
 use Rattle.meaning_numbers.specs.Order.{within}
 use Rattle.meaning_numbers.proofs.Prelude.{needs}
 use Rattle.refusals.proofs.window_outside.Statement.{statement}

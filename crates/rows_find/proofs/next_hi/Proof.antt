@@ -1,4 +1,4 @@
--- `rows_find::next_hi` meets its contract.
+-- `next_hi` meets its contract.
 use Rattle.meaning_numbers.proofs.Prelude.{_≡_, sym, _∙_, leZ, w32, toZ, ofZ, toZ-ofZ}
 use Rattle.rows_find.proofs.next_hi.Statement.{statement}
 use Rattle.rows_find.proofs.next_hi.Tie as tie

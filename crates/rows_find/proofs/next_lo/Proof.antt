@@ -1,4 +1,4 @@
--- `rows_find::next_lo` meets its contract.
+-- `next_lo` meets its contract.
 use Rattle.meaning_numbers.proofs.Prelude.{_≡_, sym, _∙_, arith, leZ, w32, toZ, ofZ, toZ-ofZ}
 use Rattle.rows_find.proofs.next_lo.Statement.{statement}
 use Rattle.rows_find.proofs.next_lo.Tie as tie

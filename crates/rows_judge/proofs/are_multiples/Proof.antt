@@ -1,6 +1,6 @@
--- `rows_judge::are_multiples` meets its contract: what lies d above a multiple is one (`next-multiple`); in 64 bits no sum wraps.
+-- `are_multiples` meets its contract: what lies d above a multiple is one (`next-multiple`); in 64 bits no sum wraps.
 use Rattle.meaning_numbers.specs.Quotient.{multiple}
-use Rattle.meaning_numbers.proofs.Prelude.{_≡_, refl, sym, _∙_, ap, true, _&&_, ℕ, _<_, _^_, arith, ℤ, pos, negsuc, _+ℤ_, w32, w64, SFits, toZ, ofZ, toZ-ofZ, toZ-pos, needs, z-add, zmach, by-test}
+use Rattle.meaning_numbers.proofs.Prelude.{_≡_, refl, sym, _∙_, ap, _&&_, ℕ, _<_, _^_, arith, ℤ, pos, negsuc, _+ℤ_, w32, w64, SFits, toZ, ofZ, toZ-ofZ, toZ-pos, needs, z-add, zmach, by-test}
 use Rattle.meaning_rows.proofs.Range.{multiple-is, multiple-of, up-is}
 use Rattle.rows_judge.proofs.are_multiples.Statement.{statement}
 use Rattle.rows_judge.proofs.are_multiples.Tie as tie
@@ -10,17 +10,17 @@ next-multiple d low up s =
     by-test
     (multiple d low)
     (λ e. let k = multiple-is d low e in
-    let u : up ≡ _ = sym s ∙ ap (λ (z : ℤ). z +ℤ pos d) (k .1) ∙ sym (up-is d (k .0)) in
-    let m : multiple d up ≡ true = ap (multiple d) u ∙ multiple-of d (k .0 +ℤ pos 1) in
+    let u = sym s ∙ ap (λ (z : ℤ). z +ℤ pos d) (k .1) ∙ sym (up-is d (k .0)) in
+    let m = ap (multiple d) u ∙ multiple-of d (k .0 +ℤ pos 1) in
     rw (e, m) refl)
     (λ e. rw e refl)
 
 wide : {z : ℤ} → SFits w32 z → SFits w64 z
-wide {z = pos n} h = record { sfits = omega (arith, h .sfits) }
-wide {z = negsuc n} h = record { sfits = omega (arith, h .sfits) }
+wide {z = pos n} h = record { sfits = omega arith }
+wide {z = negsuc n} h = record { sfits = omega arith }
 
 wide-sum : {z : ℤ} (n : ℕ) → SFits w32 z → n < 2 ^ 32 → SFits w64 (z +ℤ pos n)
-wide-sum {z = pos m} n h k = omega (zmach, z-add (pos m) (pos n), h .sfits)
+wide-sum {z = pos m} n h k = omega zmach
 wide-sum {z = negsuc m} n h k = omega (zmach, z-add (negsuc m) (pos n), h .sfits)
 
 -- the test of the code, as the machine makes it
@@ -28,28 +28,22 @@ reached : (low up : ℤ) (d : ℕ) → SFits w32 low → SFits w32 up → d < 2 
     → ofZ w64 (toZ w64 (ofZ w64 (toZ w32 (ofZ w32 low))) +ℤ toZ w64 d) ≡ ofZ w64 (toZ w32 (ofZ w32 up)) → low +ℤ pos d ≡ up
 reached low up d f g h e =
     let r : ofZ w64 (low +ℤ pos d) ≡ ofZ w64 up = rw (toZ-ofZ w32 low f, toZ-ofZ w32 up g, toZ-ofZ w64 low (wide f), toZ-pos w64 d (omega arith)) at e in
-    sym (toZ-ofZ w64 (low +ℤ pos d) (wide-sum d f h)) ∙ ap (toZ w64) r ∙ toZ-ofZ w64 up (wide g)
-
-cast-if1 : tie.Need-cast-if1
-cast-if1 c = let s = c .before in rw (toZ-ofZ w32 (s .args .low) (s .fits .low)) (wide (s .fits .low))
+    sym (toZ-ofZ w64 _ (wide-sum d f h)) ∙ ap (toZ w64) r ∙ toZ-ofZ w64 up (wide g)
 
 add-if1 : tie.Need-add-if1
 add-if1 c = let s = c .before in
-    rw (toZ-ofZ w32 (s .args .low) (s .fits .low), toZ-ofZ w64 (s .args .low) (wide (s .fits .low)), toZ-pos w64 (s .args .d) (omega arith)) (wide-sum (s .args .d) (s .fits .low) (omega arith))
-
-cast-if1-3 : tie.Need-cast-if1-3
-cast-if1-3 c = let s = c .before in rw (toZ-ofZ w32 (s .args .up) (s .fits .up)) (wide (s .fits .up))
+    rw (toZ-ofZ w32 _ (s .fits .low), toZ-ofZ w64 _ (wide (s .fits .low)), toZ-pos w64 (s .args .d) (omega arith)) (wide-sum _ (s .fits .low) (omega arith))
 
 returns : tie.Need-returns
 returns c =
     let s = c .before .before in let a = s .args in
-    c .before .is-multiple .ensures ∙ ap (multiple (a .d)) (toZ-ofZ w32 (a .low) (s .fits .low))
-    ∙ next-multiple (a .d) (a .low) (a .up) (reached (a .low) (a .up) (a .d) (s .fits .low) (s .fits .up) (omega arith) (c .if1 .taken))
+    c .before .is-multiple .ensures ∙ ap (multiple (a .d)) (toZ-ofZ w32 _ (s .fits .low))
+    ∙ next-multiple (a .d) _ (a .up) (reached _ (a .up) (a .d) (s .fits .low) (s .fits .up) (omega arith) (c .if1 .taken))
 
 returns-2 : tie.Need-returns-2
 returns-2 c =
     let s = c .before .before .before in
-    cc (toZ-ofZ w32 (s .args .low) (s .fits .low), toZ-ofZ w32 (s .args .up) (s .fits .up), c .before .before .is-multiple .ensures, c .is-multiple2 .ensures)
+    cc (toZ-ofZ w32 _ (s .fits .low), toZ-ofZ w32 _ (s .fits .up), c .before .before .is-multiple .ensures, c .is-multiple2 .ensures)
 
 pub are-multiples-spec : {M : Type 1} → statement M
-are-multiples-spec = tie.close (tie.spec (λ c κs. search needs) cast-if1 (λ c. search needs) add-if1 cast-if1-3 (λ c κs. search needs) returns returns-2)
+are-multiples-spec = tie.close (tie.spec (λ c κs. search needs) (λ c. let s = c .before in rw (toZ-ofZ w32 _ (s .fits .low)) (wide (s .fits .low))) (λ c. search needs) add-if1 (λ c. let s = c .before in rw (toZ-ofZ w32 (s .args .up) (s .fits .up)) (wide (s .fits .up))) (λ c κs. search needs) returns returns-2)

@@ -1,4 +1,4 @@
--- `rows_judge::end_in` meets its contract: its two tests are those of the definition.
+-- `end_in` meets its contract: its two tests are those of the definition.
 use Rattle.meaning_numbers.specs.Order.{within}
 use Rattle.meaning_numbers.proofs.Prelude.{needs}
 use Rattle.rows_judge.proofs.end_in.Statement.{statement}

@@ -1,4 +1,4 @@
--- `rows_judge::head_good` meets its contract: its tests are those of the definition.
+-- `head_good` meets its contract: its tests are those of the definition.
 use Rattle.meaning_numbers.specs.Order.{within}
 use Rattle.meaning_numbers.proofs.Prelude.{needs}
 use Rattle.meaning_rows.specs.Judge.{headGood}

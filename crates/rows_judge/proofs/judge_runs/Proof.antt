@@ -1,4 +1,4 @@
--- `rows_judge::judge_runs` meets its contract. The loop's invariant: judging the runs that are left, from where the last run ended, gives what is to be returned, unless the last run ends outside the windows; and the lengths so far total at most what is passed, so that no sum wraps.
+-- `judge_runs` meets its contract. The loop's invariant: judging the runs that are left, from where the last run ended, gives what is to be returned, unless the last run ends outside the windows; and the lengths so far total at most what is passed, so that no sum wraps.
 -- The measure is how many runs are left.
 use Rattle.meaning_numbers.proofs.Prelude.{_≡_, refl, sym, _∙_, ap, true, ℕ, _+_, _-_, _<_, _≤_, List, [], _∷_, arith, pos, getD, w32, Fits, le-leb, lt-leb}
 use Rattle.meaning_rows.specs.Index.{Entry}
@@ -38,81 +38,39 @@ abbrev judged : At → List Entry → Lengths
 judged a rest = inside (a .before .args .windows) (a .loop .least) (scan (pos (a .before .args .windows)) (pos (a .loop .least)) (a .loop .total) rest)
 
 good : (c : Fine) → let a = c .before .before .before .before in Follows (a .loop .least) (l a) (r a)
-good c = let a = c .before .before .before .before in follows (a .loop .least) (l a) (r a) (c .if1 .left)
+good c = let a = c .before .before .before .before in follows _ (l a) (r a) (c .if1 .left)
 
 word : (c : Fine) → Fits w32 (r (c .before .before .before .before))
-word c = c .before .shared-slice-known2 .given (c .before .before .before .before .loop .i)
+word c = c .before .shared-slice-known2 .given _
 
 -- the run is the first of those that are left
 first : (a : At) → a .loop .i < a .before .args .to → let s = a .before in part (s .args .left .now) (s .args .right .now) (a .loop .i) (s .args .to) ≡ (pos (l a), pos (r a)) ∷ part (s .args .left .now) (s .args .right .now) (a .loop .i + 1) (s .args .to)
-first a h = let s = a .before in part-next (s .args .left .now) (s .args .right .now) (a .loop .i) (s .args .to) h (s .pre .1) (s .pre .2)
+first a h = let s = a .before in part-next _ _ _ _ h (s .pre .1) (s .pre .2)
 
 whole : (a : At) (h : a .loop .i < a .before .args .to) → let s = a .before in judged a ((pos (l a), pos (r a)) ∷ part (s .args .left .now) (s .args .right .now) (a .loop .i + 1) (s .args .to)) ≡ scan (pos (s .args .windows)) (pos 0) 0 (part (s .args .left .now) (s .args .right .now) (s .args .from) (s .args .to))
 whole a h = ap (judged a) (sym (first a h)) ∙ a .loop .inv .3
 
 ended : (a : At) → a .before .args .to ≤ a .loop .i → let s = a .before in judged a [] ≡ scan (pos (s .args .windows)) (pos 0) 0 (part (s .args .left .now) (s .args .right .now) (s .args .from) (s .args .to))
-ended a h = let s = a .before in ap (judged a) (sym (part-none (s .args .left .now) (s .args .right .now) (a .loop .i) (s .args .to) h)) ∙ a .loop .inv .3
-
-loop-holds : tie.Need-loop-holds Inv-loop μ-loop
-loop-holds c = (omega arith, omega arith, omega arith, rw (le-leb 0 (c .args .windows + 1) (omega arith)) refl)
-
-mul-l : tie.Need-mul-l Inv-loop μ-loop
-mul-l c = omega arith
-
-shared-slice-read-l : tie.Need-shared-slice-read-l Inv-loop μ-loop
-shared-slice-read-l c = omega arith
-
-cast-l : tie.Need-cast-l Inv-loop μ-loop
-cast-l c = omega (arith, c .shared-slice-known .given (c .before .before .loop .i))
-
-mul-r : tie.Need-mul-r Inv-loop μ-loop
-mul-r c = omega arith
-
-shared-slice-read-r : tie.Need-shared-slice-read-r Inv-loop μ-loop
-shared-slice-read-r c = omega arith
-
-cast-r : tie.Need-cast-r Inv-loop μ-loop
-cast-r c = omega (arith, c .shared-slice-known2 .given (c .before .before .before .loop .i))
+ended a h = let s = a .before in ap (judged a) (sym (part-none (s .args .left .now) (s .args .right .now) _ _ h)) ∙ a .loop .inv .3
 
 returns : tie.Need-returns Inv-loop μ-loop
 returns c =
     let a = c .before .before .before .before in let s = a .before in
     sym (inside-bad (s .args .windows) (a .loop .least) (a .loop .total) (l a) (r a) (part (s .args .left .now) (s .args .right .now) (a .loop .i + 1) (s .args .to)) (c .if1 .taken)) ∙ whole a (c .before .before .before .loop-test .taken)
 
-add-total : tie.Need-add-total Inv-loop μ-loop
-add-total c = omega (arith, good c, word c)
-
-sub-total : tie.Need-sub-total Inv-loop μ-loop
-sub-total c = omega (arith, good c)
-
-add-total-2 : tie.Need-add-total-2 Inv-loop μ-loop
-add-total-2 c = omega (arith, good c, word c)
-
-add-least : tie.Need-add-least Inv-loop μ-loop
-add-least c = omega (arith, good c, word c)
-
-add-i : tie.Need-add-i Inv-loop μ-loop
-add-i c = omega arith
-
-loop-less : tie.Need-loop-less Inv-loop μ-loop
-loop-less c = omega arith
-
 loop-again : tie.Need-loop-again Inv-loop μ-loop
 loop-again c =
-    let a = c .before .before .before .before in let s = a .before in let g = good c in let k = word c in (
+    let a = c .before .before .before .before in let g = good c in let k = word c in (
       omega arith,
       omega arith,
       omega arith,
-      inside-next (s .args .windows) (a .loop .least) (a .loop .total) (l a) (r a) (part (s .args .left .now) (s .args .right .now) (a .loop .i + 1) (s .args .to)) g ∙ whole a (c .before .before .before .loop-test .taken),
+      inside-next _ _ _ (l a) (r a) _ g ∙ whole a (c .before .before .before .loop-test .taken),
     )
-
-add-if2 : tie.Need-add-if2 Inv-loop μ-loop
-add-if2 c = omega arith
 
 returns-2 : tie.Need-returns-2 Inv-loop μ-loop
 returns-2 c =
     let a = c .before .before in let s = a .before in
-    let e : judged a [] ≡ record { good = true; total = a .loop .total } = rw (le-leb (a .loop .least) (s .args .windows + 1) (omega arith), scan-end (pos (s .args .windows)) (pos (a .loop .least)) (a .loop .total)) refl in
+    let e : judged a [] ≡ record { good = true; total = a .loop .total } = rw (le-leb (a .loop .least) (s .args .windows + 1) (omega arith), scan-end _ _ _) refl in
     sym e ∙ ended a (c .before .loop-test .left)
 
 returns-3 : tie.Need-returns-3 Inv-loop μ-loop
@@ -123,5 +81,5 @@ returns-3 c =
 
 pub judge-runs-spec : {M : Type 1} → statement M
 judge-runs-spec =
-    tie.close (tie.spec Inv-loop μ-loop loop-holds mul-l shared-slice-read-l cast-l mul-r shared-slice-read-r cast-r returns add-total sub-total add-total-2 add-least add-i loop-less loop-again
-    add-if2 returns-2 returns-3)
+    tie.close (tie.spec Inv-loop μ-loop (λ c. (omega arith, omega arith, omega arith, rw (le-leb 0 (c .args .windows + 1) (omega arith)) refl)) (λ c. omega arith) (λ c. omega arith) (λ c. omega (arith, c .shared-slice-known .given (c .before .before .loop .i))) (λ c. omega arith) (λ c. omega arith) (λ c. omega (arith, c .shared-slice-known2 .given (c .before .before .before .loop .i))) returns (λ c. omega (arith, good c, word c)) (λ c. omega (arith, good c)) (λ c. omega (arith, good c, word c)) (λ c. omega (arith, good c, word c)) (λ c. omega arith) (λ c. omega arith) loop-again
+    (λ c. omega arith) returns-2 returns-3)

@@ -1,4 +1,4 @@
--- `rows_judge::row_fits` meets its contract.
+-- `row_fits` meets its contract.
 use Rattle.meaning_numbers.proofs.Prelude.{w32, toZ-ofZ, needs}
 use Rattle.rows_judge.proofs.row_fits.Statement.{statement}
 use Rattle.rows_judge.proofs.row_fits.Tie as tie
@@ -6,7 +6,7 @@ use Rattle.rows_judge.proofs.row_fits.Tie as tie
 returns : tie.Need-returns
 returns c =
     let s = c .before .before .before .before in
-    let l = toZ-ofZ w32 (s .args .s .least) (record { sfits = c .before .before .before .struct-told .given .1 .0 .1 }) in
+    let l = toZ-ofZ w32 (s .args .s .least) (record { sfits = (search needs) }) in
     cc (l, c .before .part-good .ensures, c .before .before .range-good .ensures)
 
 pub row-fits-spec : {M : Type 1} → statement M

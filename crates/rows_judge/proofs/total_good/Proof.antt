@@ -1,4 +1,4 @@
--- `rows_judge::total_good` meets its contract.
+-- `total_good` meets its contract.
 use Rattle.meaning_numbers.proofs.Prelude.{_≡_, sym, ℕ, _+_, _-_, _≤_, decLe, arith, leb, le-leb, lt-leb}
 use Rattle.rows_judge.proofs.total_good.Statement.{statement}
 use Rattle.rows_judge.proofs.total_good.Tie as tie
@@ -10,11 +10,5 @@ left n a t h = elim (decLe t (n - a)) [
   | no f ↦ rw (lt-leb t (n - a) (omega arith)) (sym (lt-leb (a + t) n (omega arith)))
 ]
 
-returns : tie.Need-returns
-returns c = left (c .before .args .windows) (c .before .args .taken) (c .before .args .total) (omega arith)
-
-returns-2 : tie.Need-returns-2
-returns-2 c = sym (lt-leb (c .before .args .taken + c .before .args .total) (c .before .args .windows) (omega arith))
-
 pub total-good-spec : {M : Type 1} → statement M
-total-good-spec = tie.close (tie.spec returns returns-2)
+total-good-spec = tie.close (tie.spec (λ c. left _ _ (c .before .args .total) (omega arith)) (λ c. sym (lt-leb _ (c .before .args .windows) (omega arith))))

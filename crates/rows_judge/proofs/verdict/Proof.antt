@@ -1,12 +1,6 @@
--- `rows_judge::verdict` meets its contract.
+-- `verdict` meets its contract.
 use Rattle.rows_judge.proofs.verdict.Statement.{statement}
 use Rattle.rows_judge.proofs.verdict.Tie as tie
 
-returns : tie.Need-returns
-returns c = rw (c .if1 .taken)
-
-returns-2 : tie.Need-returns-2
-returns-2 c = rw (c .if1 .left)
-
 pub verdict-spec : {M : Type 1} → statement M
-verdict-spec = tie.close (tie.spec returns returns-2)
+verdict-spec = tie.close (tie.spec (λ c. rw (c .if1 .taken)) (λ c. rw (c .if1 .left)))

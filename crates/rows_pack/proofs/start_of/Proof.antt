@@ -1,4 +1,4 @@
--- `rows_pack::start_of` meets its contract.
+-- `start_of` meets its contract.
 use Rattle.meaning_numbers.proofs.Prelude.{needs, eq-eqb, ne-eqb}
 use Rattle.rows_pack.specs.Packed.{startOf}
 use Rattle.rows_pack.proofs.start_of.Statement.{statement}

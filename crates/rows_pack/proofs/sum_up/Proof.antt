@@ -1,4 +1,4 @@
--- `rows_pack::sum_up` meets its contract. The invariant: the counts passed are sums, and the sum so far is theirs (`summed-more`).
+-- `sum_up` meets its contract. The invariant: the counts passed are sums, and the sum so far is theirs (`summed-more`).
 use Rattle.meaning_numbers.proofs.Sum.{Σℕ-none, Σℕ-more, Σℕ-fewer}
 use Rattle.meaning_numbers.proofs.Prelude.{_≡_, sym, _∙_, ℕ, _+_, _-_, _≤_, _<_, arith, length, getD}
 use Rattle.rows_pack.specs.Packed.{total, Summed}
@@ -23,20 +23,20 @@ module _ (c : tie.In-loop Inv-loop μ-loop) where
       omega (arith, next, Σℕ-more (c .before .loop .i) f, Σℕ-fewer (c .before .loop .i + 1) (o .args .n) f (omega (arith, c .loop-test .taken)), o .pre .1)
 
   room : c .before .loop .i < length (c .before .loop .counts)
-  room = omega (arith, c .before .loop .inv .2 .long, c .loop-test .taken, c .before .before .pre .0)
+  room = omega arith
 
 loop-again : tie.Need-loop-again Inv-loop μ-loop
 loop-again c =
     let l = c .before .before in
     let o = l .before in (
-      omega (arith, c .before .loop-test .taken),
-      next (c .before) ∙ sym (Σℕ-more (l .loop .i) (λ k. getD (o .args .counts .now) k 0)),
+      omega arith,
+      next (c .before) ∙ sym (Σℕ-more _ (λ k. getD (o .args .counts .now) k 0)),
       summed-more (l .loop .sum + getD (l .loop .counts) (l .loop .i) 0) (l .loop .inv .2) (room (c .before)) (next (c .before)),
     )
 
 pub sum-up-spec : {M : Type 1} → statement M
 sum-up-spec =
-    tie.close (tie.spec Inv-loop μ-loop (λ c. (omega arith, sym (Σℕ-none (λ k. getD (c .args .counts .now) k 0)), summed-start (c .args .counts .now))) (λ c. omega (arith, room c))
-    (λ c. room (c .before)) (λ c. omega (arith, small (c .before))) (λ c. omega (arith, room (c .before))) (λ c. room (c .before)) (λ c. omega (arith, room (c .before)))
-    (λ c. omega (arith, c .before .loop-test .taken)) loop-again (λ c. c .before .loop .inv .2 .long)
-    (λ c. let e : c .before .loop .i ≡ c .before .before .args .n = omega (arith, c .loop-test .left) in rw e at (c .before .loop .inv .2)))
+    tie.close (tie.spec Inv-loop μ-loop (λ c. (omega arith, sym (Σℕ-none (λ k. getD (c .args .counts .now) k 0)), summed-start _)) (λ c. omega (arith, room c))
+    (λ c. room (c .before)) (λ c. omega (arith, small (c .before))) (λ c. omega arith) (λ c. room (c .before)) (λ c. omega arith)
+    (λ c. omega arith) loop-again (λ c. c .before .loop .inv .2 .long)
+    (λ c. let e : c .before .loop .i ≡ c .before .before .args .n = omega arith in rw e at (c .before .loop .inv .2)))

@@ -1,4 +1,4 @@
--- `sums_count::count_runs` meets its contract. The invariant: the runs of the windows passed are counted, and the next window begins a run (`counted-run`, `fresh-next`).
+-- `count_runs` meets its contract. The invariant: the runs of the windows passed are counted, and the next window begins a run (`counted-run`, `fresh-next`).
 use Rattle.meaning_numbers.proofs.Prelude.{_≡_, refl, sym, ap, _∙_, ℕ, _+_, _-_, _/_, _≤_, _<_, arith, length, getD, length-set}
 use Rattle.meaning_rows.proofs.Runs.{runs-le}
 use Rattle.sums_slide.specs.{Levels.level, Levels.rowOf, Levels.windowsOf, Levels.level-small, Table.table}
@@ -16,7 +16,7 @@ abbrev μ-loop : tie.MeasureT-loop
 loop-holds : tie.Need-loop-holds Inv-loop μ-loop
 loop-holds c =
     let o = c .before .before .before in
-    (omega arith, c .first-level .ensures, fresh-start _ _, counted-start _ _ (o .args .counts .now) (o .pre .1 .1 .1), refl)
+    (omega arith, c .first-level .ensures, fresh-start _ _, counted-start _ _ _ (o .pre .1 .1 .1), refl)
 
 -- the row number of the window at hand
 module _ (c : tie.After-row-of-level Inv-loop μ-loop) where
@@ -42,8 +42,8 @@ find-number-requires c κs =
     let p = o c .pre .1 .1 .0 in (
       p .2,
       (
-        front-rising (a .numbers .now) (table (a .s .now) (a .w) (a .e) (a .d)) (a .count) (p .1) (p .0) (table-rises (a .s .now) (a .w) (a .e) (a .d)),
-        rw (number c) (front-has (a .numbers .now) (table (a .s .now) (a .w) (a .e) (a .d)) (a .count) (p .1) (p .0) (table-has (a .d) (o c .pre .0) (l c .loop .j) (c .before .loop-test .taken))),
+        front-rising _ _ _ (p .1) (p .0) (table-rises _ (a .w) (a .e) (a .d)),
+        rw (number c) (front-has _ _ _ (p .1) (p .0) (table-has (a .d) (o c .pre .0) _ (c .before .loop-test .taken))),
       ),
     )
 
@@ -53,16 +53,15 @@ module _ (c : tie.After-find-number Inv-loop μ-loop) where
   r = c .before
 
   below : c .find-number .result < length (table (o r .args .s .now) (o r .args .w) (o r .args .e) (o r .args .d))
-  below = omega (arith, c .find-number .ensures .0, o r .pre .1 .1 .0 .0)
+  below = omega arith
 
   in-counts : c .find-number .result < length (l r .loop .counts)
-  in-counts = omega (arith, c .find-number .ensures .0, o r .pre .1 .1 .0 .3, l r .loop .inv .4)
+  in-counts = omega arith
 
   is-row : getD (table (o r .args .s .now) (o r .args .w) (o r .args .e) (o r .args .d)) (c .find-number .result) 0 ≡ rowOf (level (o r .args .s .now) (o r .args .w) (o r .args .e)) (o r .args .d) (l r .loop .j)
   is-row =
-      let a = o r .args in
       let p = o r .pre .1 .1 .0 in
-      sym (front-at (a .numbers .now) (table (a .s .now) (a .w) (a .e) (a .d)) (a .count) (p .1) (p .0) (c .find-number .result) (c .find-number .ensures .0))
+      sym (front-at _ _ _ (p .1) (p .0) _ (c .find-number .ensures .0))
       ∙ c .find-number .ensures .1 ∙ number r
 
   few : getD (l r .loop .counts) (c .find-number .result) 0 ≤ 1048577
@@ -71,7 +70,7 @@ module _ (c : tie.After-find-number Inv-loop μ-loop) where
       let row = rowOf (level (a .s .now) (a .w) (a .e)) (a .d) in
       omega (
         arith,
-        l r .loop .inv .3 .count (c .find-number .result) below,
+        l r .loop .inv .3 .count _ below,
         runs-le (isRow row (getD (table (a .s .now) (a .w) (a .e) (a .d)) (c .find-number .result) 0)) (l r .loop .j),
         l r .loop .inv .0,
         o r .pre .0 .long,
@@ -92,8 +91,8 @@ loop-again c =
     let i = f .find-number .result in (
       n .run .below,
       n .sum,
-      fresh-next _ _ (l k .loop .j) (c .next-row .result .offset) (n .run),
-      counted-run _ _ (l k .loop .j) (c .next-row .result .offset) (n .run) (v .2) (table-rises (a .s .now) (a .w) (a .e) (a .d)) i (below f) (in-counts f) (is-row f) (v .3),
+      fresh-next _ _ (l k .loop .j) _ (n .run),
+      counted-run _ _ _ _ (n .run) (v .2) (table-rises _ (a .w) (a .e) (a .d)) i (below f) (in-counts f) (is-row f) (v .3),
       length-set (l k .loop .counts) i (getD (l k .loop .counts) i 0 + 1) ∙ v .4,
     )
 
@@ -101,11 +100,11 @@ returns : tie.Need-returns Inv-loop μ-loop
 returns c =
     let l = c .before in
     let a = l .before .before .before .before .args in
-    let e : l .loop .j ≡ windowsOf (a .s .now) (a .w) = omega (arith, c .loop-test .left, l .loop .inv .0) in
+    let e : l .loop .j ≡ windowsOf (a .s .now) (a .w) = omega arith in
     rw e at (l .loop .inv .3)
 
 pub count-runs-spec : {M : Type 1} → statement M
 count-runs-spec =
-    tie.close (tie.spec Inv-loop μ-loop (λ c. omega (arith, c .before .before .pre .0 .long)) (λ c. omega (arith, c .before .before .pre .0 .fits)) (λ c κs. c .before .before .pre .0) loop-holds
-    row-of-level-requires find-number-requires (λ c. omega (arith, in-counts c)) (λ c. in-counts (c .before)) (λ c. omega (arith, few (c .before))) (λ c. omega (arith, in-counts (c .before)))
+    tie.close (tie.spec Inv-loop μ-loop (λ c. omega arith) (λ c. omega arith) (λ c κs. c .before .before .pre .0) loop-holds
+    row-of-level-requires find-number-requires (λ c. omega arith) (λ c. in-counts (c .before)) (λ c. omega (arith, few (c .before))) (λ c. omega (arith, in-counts (c .before)))
     (λ c. in-counts (c .before)) next-row-requires (λ c. omega (arith, c .next-row .ensures .run .ahead, c .next-row .ensures .run .below)) loop-again (λ c. c .before .loop .inv .4) returns)

@@ -1,4 +1,4 @@
--- `sums_count::find_number` meets its contract. The invariant: wherever the number stands, it is one of the places left (`sought-half`).
+-- `find_number` meets its contract. The invariant: wherever the number stands, it is one of the places left (`sought-half`).
 use Rattle.meaning_numbers.proofs.Prelude.{_≡_, _*_, _/_, _≤_, arith}
 use Rattle.sums_count.proofs.{Tally.Sought, Tally.half-or-none, Tally.sought-half, find_number.Statement.statement}
 use Rattle.sums_count.proofs.find_number.Tie as tie
@@ -15,7 +15,7 @@ module _ (c : tie.After-at-most Inv-loop μ-loop) where
   l = c .before .before .before
 
   added : (l .loop .size / 2) * c .at-most .result ≤ l .loop .size / 2
-  added = half-or-none (l .loop .size / 2) (c .at-most .result) _ (c .at-most .ensures)
+  added = half-or-none _ _ _ (c .at-most .ensures)
 
 at-most-requires : tie.Need-at-most-requires Inv-loop μ-loop
 at-most-requires c κs =
@@ -24,17 +24,17 @@ at-most-requires c κs =
     omega (arith, h .is, k .shared-slice-known .given (h .at))
 
 loop-again : tie.Need-loop-again Inv-loop μ-loop
-loop-again c = sought-half (l c .before .before .pre .1 .0) (omega arith) (omega (arith, c .before .before .loop-test .taken)) (c .at-most .ensures) (l c .loop .inv)
+loop-again c = sought-half (l c .before .before .pre .1 .0) (omega arith) (omega arith) (c .at-most .ensures) (l c .loop .inv)
 
 returns : tie.Need-returns Inv-loop μ-loop
 returns c =
     let h = c .before .before .before .pre .1 .1 in
     let v = c .before .loop .inv .place (h .at) (h .below) (h .is) in
-    let e : c .before .loop .lo ≡ h .at = omega (arith, v .0, v .1, c .loop-test .left) in
+    let e : c .before .loop .lo ≡ h .at = omega arith in
     rw e (h .below, h .is)
 
 pub find-number-spec : {M : Type 1} → statement M
 find-number-spec =
-    tie.close (tie.spec Inv-loop μ-loop (λ c. record { fits = omega arith; place = λ i l h. (omega arith, omega arith) }) (λ c. omega (arith, c .before .loop .inv .fits))
-    (λ c. omega (arith, c .before .loop .inv .fits)) (λ c. omega (arith, c .before .before .loop .inv .fits)) at-most-requires (λ c. omega (arith, added c))
-    (λ c. omega (arith, added c, l c .loop .inv .fits)) (λ c. omega arith) (λ c. omega (arith, c .before .before .loop-test .taken)) loop-again returns)
+    tie.close (tie.spec Inv-loop μ-loop (λ c. record { fits = omega arith; place = λ i l h. (omega arith, omega arith) }) (λ c. omega arith)
+    (λ c. omega arith) (λ c. omega arith) at-most-requires (λ c. omega (arith, added c))
+    (λ c. omega (arith, added c)) (λ c. omega arith) (λ c. omega arith) loop-again returns)

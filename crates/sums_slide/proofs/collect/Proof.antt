@@ -1,4 +1,4 @@
--- `sums_slide::collect` meets its contract. The invariant: the numbers passed whose flags are set stand behind the first k (`collect-yes`, `collect-no`).
+-- `collect` meets its contract. The invariant: the numbers passed whose flags are set stand behind the first k (`collect-yes`, `collect-no`).
 use Rattle.meaning_numbers.proofs.Prelude.{_≡_, _-_, _≤_, arith, length}
 use Rattle.sums_slide.specs.{Marks.lit, Picked.picked, Picked.Appended}
 use Rattle.sums_slide.proofs.{Marks.collect-room, Marks.collect-yes, Marks.collect-no, Picked.append-none, Picked.picked-start, collect.Statement.statement}
@@ -14,19 +14,19 @@ room : tie.Need-slice-write-out Inv-loop μ-loop
 room c = let l = c .before .before .before in let a = l .before .args in collect-room (a .flags .now) (a .base) (l .loop .x) (c .before .before .loop-test .taken) (l .loop .inv .1) (c .if1 .taken) (l .before .pre .1)
 
 loop-again : tie.Need-loop-again Inv-loop μ-loop
-loop-again c = let l = c .before .before .before in let a = l .before .args in (omega arith, collect-yes (a .flags .now) (a .base) (l .loop .x) (c .before .before .loop-test .taken) (l .loop .inv .1) (c .if1 .taken) (room c))
+loop-again c = let l = c .before .before .before in let a = l .before .args in (omega arith, collect-yes _ (a .base) (l .loop .x) (c .before .before .loop-test .taken) (l .loop .inv .1) (c .if1 .taken) (room c))
 
 loop-again-2 : tie.Need-loop-again-2 Inv-loop μ-loop
-loop-again-2 c = let l = c .before .before .before in let a = l .before .args in (omega arith, collect-no (a .flags .now) (a .base) (l .loop .x) (c .before .before .loop-test .taken) (l .loop .inv .1) (c .if1 .left))
+loop-again-2 c = let l = c .before .before .before in let a = l .before .args in (omega arith, collect-no _ (a .base) (l .loop .x) (c .before .before .loop-test .taken) (l .loop .inv .1) (c .if1 .left))
 
 returns : tie.Need-returns Inv-loop μ-loop
 returns c =
     let l = c .before in
-    let e : l .loop .x ≡ length (l .before .args .flags .now) = omega (arith, c .loop-test .left, l .loop .inv .0) in
+    let e : l .loop .x ≡ length (l .before .args .flags .now) = omega arith in
     rw e at (l .loop .inv .1)
 
 pub collect-spec : {M : Type 1} → statement M
 collect-spec =
-    tie.close (tie.spec Inv-loop μ-loop (λ c. (omega arith, rw picked-start (append-none (c .args .k) (c .args .out .now)))) (λ c. omega arith)
-    (λ c. omega (arith, c .before .before .before .before .pre .0)) (λ c. omega (arith, c .before .before .before .before .pre .0)) (λ c. omega (arith, room c)) room (λ c. omega (arith, room c))
+    tie.close (tie.spec Inv-loop μ-loop (λ c. (omega arith, rw picked-start (append-none (c .args .k) _))) (λ c. omega arith)
+    (λ c. omega arith) (λ c. omega arith) (λ c. omega (arith, room c)) room (λ c. omega (arith, room c))
     (λ c. omega arith) (λ c. omega arith) loop-again (λ c. omega arith) (λ c. omega arith) loop-again-2 (λ c. c .before .loop .inv .1 .long) returns)

@@ -1,17 +1,11 @@
--- `sums_slide::first_level` meets its contract.
+-- `first_level` meets its contract.
 use Rattle.meaning_numbers.proofs.Prelude.{arith}
 use Rattle.sums_slide.specs.Levels.{level-small}
 use Rattle.sums_slide.proofs.{Levels.level-first, first_level.Statement.statement}
 use Rattle.sums_slide.proofs.first_level.Tie as tie
 
-raised-sum-requires : tie.Need-raised-sum-requires
-raised-sum-requires c κs = let h = c .pre in (omega (arith, h .fits), (omega (arith, h .most), h .all))
-
 add-result : tie.Need-add-result
 add-result c = let o = c .before in let a = o .args in omega (arith, c .raised-sum .ensures, level-first (a .s .now) (a .w) (a .e), level-small 0 (o .pre))
 
-returns : tie.Need-returns
-returns c = let a = c .before .args in omega (arith, c .raised-sum .ensures, level-first (a .s .now) (a .w) (a .e))
-
 pub first-level-spec : {M : Type 1} → statement M
-first-level-spec = tie.close (tie.spec raised-sum-requires add-result returns)
+first-level-spec = tie.close (tie.spec (λ c κs. let h = c .pre in (omega (arith, h .fits), (omega (arith, h .most), h .all))) add-result (λ c. let a = c .before .args in omega (arith, c .raised-sum .ensures, level-first (a .s .now) (a .w) (a .e))))

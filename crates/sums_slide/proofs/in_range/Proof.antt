@@ -1,4 +1,4 @@
--- `sums_slide::in_range` meets its contract.
+-- `in_range` meets its contract.
 use Rattle.meaning_numbers.proofs.Prelude.{le-leb, lt-leb}
 use Rattle.sums_slide.specs.Levels.{within}
 use Rattle.sums_slide.proofs.in_range.Statement.{statement}

@@ -1,4 +1,4 @@
--- `sums_slide::last_out` meets its contract (`stop-here`, `stop-one`).
+-- `last_out` meets its contract (`stop-here`, `stop-one`).
 use Rattle.meaning_numbers.proofs.Prelude.{needs, not-true, not-false, _≡_, sym, ap, _∙_, arith}
 use Rattle.sums_slide.specs.Levels.{level, within}
 use Rattle.sums_slide.proofs.{Change.stop-here, Change.stop-one, last_out.Statement.statement}
@@ -9,18 +9,17 @@ here : (c : tie.After-in-range) → let a = c .before .before .args in c .in-ran
 here c = let o = c .before .before in c .in-range .ensures ∙ ap (within (o .args .lo) (o .args .hi)) (o .pre .1 .1)
 
 returns : tie.Need-returns
-returns c = let o = c .before in stop-here (o .args .from .offset) (o .pre .1 .0 .1) (λ l. absurd (omega (arith, c .if1 .taken))) (o .pre .1 .1)
+returns c = let o = c .before in stop-here _ (o .pre .1 .0 .1) (λ l. absurd (omega arith)) (o .pre .1 .1)
 
 returns-2 : tie.Need-returns-2
 returns-2 c =
     let o = c .before .before .before in
-    stop-here (o .args .from .offset) (o .pre .1 .0 .1) (λ l. sym (here (c .before)) ∙ not-true _ (c .if2 .taken)) (o .pre .1 .1)
+    stop-here _ (o .pre .1 .0 .1) (λ l. sym (here (c .before)) ∙ not-true _ (c .if2 .taken)) (o .pre .1 .1)
 
 returns-3 : tie.Need-returns-3
 returns-3 c =
     let i = c .before .before in
-    let o = i .before .before in
-    stop-one (o .args .from .offset) (sym (here i) ∙ not-false _ (c .before .if2 .left)) (omega (arith, i .before .if1 .left, o .pre .1 .0 .0, o .pre .0 .some, o .pre .0 .fits)) (c .slide .ensures)
+    stop-one _ (sym (here i) ∙ not-false _ (c .before .if2 .left)) (omega arith) (c .slide .ensures)
 
 pub last-out-spec : {M : Type 1} → statement M
 last-out-spec =

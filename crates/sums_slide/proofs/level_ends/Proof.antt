@@ -1,4 +1,4 @@
--- `sums_slide::level_ends` meets its contract. The invariant: both ends of the windows passed (`bounds-more`).
+-- `level_ends` meets its contract. The invariant: both ends of the windows passed (`bounds-more`).
 use Rattle.meaning_numbers.proofs.Prelude.{needs, _≡_, _+_, _-_, _≤_, arith}
 use Rattle.sums_slide.specs.Levels.{level, windowsOf, level-small, Bounds}
 use Rattle.sums_slide.proofs.{Levels.bounds-more, Levels.bounds-one, level_ends.Statement.statement}
@@ -11,12 +11,7 @@ abbrev μ-loop : tie.MeasureT-loop
 μ-loop s w e last n₀ least₀ greatest₀ j₀ n least greatest j = last - j
 
 loop-holds : tie.Need-loop-holds Inv-loop μ-loop
-loop-holds c = (omega arith, c .first-level .ensures, bounds-one (c .first-level .ensures), omega (arith, c .first-level .ensures, level-small 0 (c .before .pre)))
-
-move-on-requires : tie.Need-move-on-requires Inv-loop μ-loop
-move-on-requires c κs =
-    let l = c .before in
-    (l .before .before .pre, (omega (arith, c .loop-test .taken), l .loop .inv .1))
+loop-holds c = (omega arith, search needs, bounds-one (c .first-level .ensures), omega (arith, c .first-level .ensures, level-small 0 (c .before .pre)))
 
 loop-again : tie.Need-loop-again Inv-loop μ-loop
 loop-again c =
@@ -25,7 +20,7 @@ loop-again c =
     let v = l .loop .inv in (
       omega arith,
       m .move-on .ensures,
-      bounds-more (c .before .lesser .result) (c .greater .result) (m .move-on .result) (v .2) (m .move-on .ensures) (c .before .lesser .ensures) (c .greater .ensures),
+      bounds-more _ _ (m .move-on .result) (v .2) (m .move-on .ensures) (c .before .lesser .ensures) (c .greater .ensures),
       omega (arith, c .greater .ensures, m .move-on .ensures, level-small (l .loop .j + 1) (l .before .before .pre)),
     )
 
@@ -33,10 +28,10 @@ returns : tie.Need-returns Inv-loop μ-loop
 returns c =
     let l = c .before in
     let o = l .before .before in
-    let e : l .loop .j + 1 ≡ windowsOf (o .args .s .now) (o .args .w) = omega (arith, c .loop-test .left, l .loop .inv .0, o .pre .fits) in
+    let e : l .loop .j + 1 ≡ windowsOf (o .args .s .now) (o .args .w) = omega arith in
     (rw e at (l .loop .inv .2), l .loop .inv .3)
 
 pub level-ends-spec : {M : Type 1} → statement M
 level-ends-spec =
-    tie.close (tie.spec Inv-loop μ-loop (λ c. omega (arith, c .pre .fits)) (λ c κs. c .pre) loop-holds move-on-requires (λ c κs. search needs) (λ c κs. search needs) (λ c. omega arith)
-    (λ c. omega arith) loop-again returns)
+    tie.close (tie.spec Inv-loop μ-loop (search needs) (λ c κs. c .pre) loop-holds (λ c κs. search needs) (λ c κs. search needs) (λ c κs. search needs) (search needs)
+    (search needs) loop-again returns)

@@ -1,6 +1,6 @@
--- `sums_slide::list_rows` meets its contract. The invariant: the row numbers below the next chunk's first are listed.
+-- `list_rows` meets its contract. The invariant: the row numbers below the next chunk's first are listed.
 use Rattle.meaning_numbers.proofs.Prelude.{_≡_, refl, _∙_, _+_, _-_, _≤_, arith, div-le-self, length}
-use Rattle.sums_slide.specs.{Levels.level, Levels.rowOf, Levels.windowsOf, Marks.met, Picked.picked, Picked.Appended, Table.table}
+use Rattle.sums_slide.specs.{Levels.level, Levels.rowOf, Levels.windowsOf, Marks.met, Picked.picked, Picked.Appended}
 use Rattle.sums_slide.proofs.{Picked.append-none, Table.chunk-next, Table.chunk-room, Table.table-start, Table.table-end, list_rows.Statement.statement}
 use Rattle.sums_slide.proofs.list_rows.Tie as tie
 
@@ -22,13 +22,13 @@ ends-small : (c : tie.After-level-ends Inv-loop μ-loop) → (c .level-ends .res
 ends-small c =
     let o = c .before .before .before in
     let b = c .level-ends .ensures .0 .bound 0 (omega (arith, o .pre .0 .fits)) in
-    (omega (arith, b .0, b .1, c .level-ends .ensures .1), c .level-ends .ensures .1)
+    (omega arith, c .level-ends .ensures .1)
 
 loop-holds : tie.Need-loop-holds Inv-loop μ-loop
 loop-holds c =
     let e = c .before .before .level-ends .ensures .0 in
     let o = c .before .before .before .before .before in
-    (rw (c .row-of-level2 .ensures, table-start (o .args .d) (o .pre .0) (o .pre .1 .0 .0) e) (append-none 0 (o .args .out .now)), refl)
+    (rw (c .row-of-level2 .ensures, table-start (o .args .d) (o .pre .0) (o .pre .1 .0 .0) e) (append-none 0 _), refl)
 
 list-chunk-requires : tie.Need-list-chunk-requires Inv-loop μ-loop
 list-chunk-requires c κs =
@@ -39,7 +39,7 @@ list-chunk-requires c κs =
         o .pre .1 .0,
         (
           omega (arith, l .loop .inv .1, last-small (l .before .before), c .before .before .loop-test .taken, o .pre .1 .1 .0 .1),
-          chunk-room (o .args .d) (o .pre .0) (l .loop .base) (length (l .loop .flags)) (l .loop .inv .0) (o .pre .1 .1 .1),
+          chunk-room (o .args .d) (o .pre .0) _ _ (l .loop .inv .0) (o .pre .1 .1 .1),
         ),
       ),
     )
@@ -50,13 +50,13 @@ add-base c =
     omega (arith, last-small (l .before .before), c .before .before .before .before .before .before .before .loop-test .taken, l .before .before .before .before .before .before .pre .1 .1 .0 .1)
 
 loop-less : tie.Need-loop-less Inv-loop μ-loop
-loop-less c = let l = c .before .before .before .before .before .before .before .before in omega (arith, c .before .before .before .before .before .before .before .loop-test .taken, l .before .before .before .before .before .before .pre .1 .1 .0 .0)
+loop-less c = omega arith
 
 loop-again : tie.Need-loop-again Inv-loop μ-loop
 loop-again c =
     let l = c .before .before .before .before .before .before .before .before in
     let a = c .before .before .before .before .list-chunk .ensures in
-    (rw (l .loop .inv .1) at (chunk-next _ (l .loop .base) (length (l .loop .flags)) (l .loop .inv .0) (a .0)), a .1 ∙ l .loop .inv .1)
+    (rw (l .loop .inv .1) at (chunk-next _ _ _ (l .loop .inv .0) (a .0)), a .1 ∙ l .loop .inv .1)
 
 returns : tie.Need-returns Inv-loop μ-loop
 returns c =

@@ -1,4 +1,4 @@
--- `sums_slide::mark` meets its contract. The invariant: the flags tell the row numbers of the windows passed (`flags-run`).
+-- `mark` meets its contract. The invariant: the flags tell the row numbers of the windows passed (`flags-run`).
 use Rattle.meaning_numbers.proofs.Prelude.{needs, _≡_, refl, ap, _∙_, ℕ, _-_, _/_, _≤_, arith, length}
 use Rattle.sums_slide.specs.{Levels.level, Levels.rowOf, Levels.windowsOf, Levels.level-small, Marks.Flags}
 use Rattle.sums_slide.proofs.{Marks.flags-start, Marks.flags-run, Marks.length-flagged, mark.Statement.statement}
@@ -14,7 +14,7 @@ abbrev μ-loop : tie.MeasureT-loop
 loop-holds : tie.Need-loop-holds Inv-loop μ-loop
 loop-holds c =
     let o = c .before .before in
-    (omega arith, c .first-level .ensures, flags-start _ (o .args .base) (o .args .flags .now) (o .pre .1 .1), refl)
+    (omega arith, search needs, flags-start _ _ _ (o .pre .1 .1), refl)
 
 -- the row number of the window at hand
 module _ (c : tie.After-row-of-level Inv-loop μ-loop) where
@@ -37,10 +37,7 @@ row-of-level-requires c κs =
 next-row-requires : tie.Need-next-row-requires Inv-loop μ-loop
 next-row-requires c κs =
     let r = c .before .before .before .before in
-    (o r .pre .0, (o r .pre .1 .0, (r .before .loop-test .taken, (l r .loop .inv .1, is-row r))))
-
-loop-less : tie.Need-loop-less Inv-loop μ-loop
-loop-less c = omega (arith, c .next-row .ensures .run .ahead, c .next-row .ensures .run .below)
+    (o r .pre .0, (o r .pre .1 .0, (search needs, (search needs, is-row r))))
 
 loop-again : tie.Need-loop-again Inv-loop μ-loop
 loop-again c =
@@ -59,10 +56,10 @@ returns : tie.Need-returns Inv-loop μ-loop
 returns c =
     let l = c .before in
     let a = l .before .before .before .args in
-    let e : l .loop .j ≡ windowsOf (a .s .now) (a .w) = omega (arith, c .loop-test .left, l .loop .inv .0) in
+    let e : l .loop .j ≡ windowsOf (a .s .now) (a .w) = omega arith in
     (rw e at (l .loop .inv .2), l .loop .inv .3)
 
 pub mark-spec : {M : Type 1} → statement M
 mark-spec =
     tie.close (tie.spec Inv-loop μ-loop (λ c. omega (arith, c .before .pre .0 .long)) (λ c. omega (arith, c .before .pre .0 .fits)) (λ c κs. c .before .pre .0) loop-holds row-of-level-requires
-    (λ c κs. search needs) next-row-requires loop-less loop-again (λ c. c .before .loop .inv .3) returns)
+    (λ c κs. search needs) next-row-requires (λ c. search needs) loop-again (λ c. c .before .loop .inv .3) returns)

@@ -1,4 +1,4 @@
--- `sums_slide::move_on` meets its contract (`level-next`).
+-- `move_on` meets its contract (`level-next`).
 use Rattle.meaning_numbers.proofs.Prelude.{needs, _≡_, _∙_, _+_, arith}
 use Rattle.meaning_curves.specs.Curve.{at}
 use Rattle.numbers.specs.Raised.{raised, raised-le}
@@ -21,10 +21,10 @@ slid : (c : tie.After-raise2) → let o = c .before .before .before .before in
 slid c =
     let o = c .before .before .before .before in
     let a = o .args in
-    let goes : c .raise2 .result ≡ raised (at (a .s .now) (a .j)) = c .raise2 .ensures ∙ raised-back (o .pre .0 .all .at _) in
+    let goes = c .raise2 .ensures ∙ raised-back (o .pre .0 .all .at _) in
     omega (arith, level-next (a .s .now) (a .w) (a .e) (a .j), goes, comes (c .before), o .pre .1 .1)
 
 pub move-on-spec : {M : Type 1} → statement M
 move-on-spec =
-    tie.close (tie.spec (λ c. search needs) (λ c. search needs) (λ c. search needs) (λ c. search needs) (λ c. search needs) (λ c κs. in-arg (c .before .before .pre .0 .all .at _)) add-result
+    tie.close (tie.spec (search needs) (search needs) (search needs) (search needs) (search needs) (λ c κs. in-arg (c .before .before .pre .0 .all .at _)) add-result
     (λ c κs. in-arg (c .before .before .before .pre .0 .all .at _)) (λ c. omega (arith, slid c)) (λ c. omega (arith, slid c)))

@@ -1,4 +1,4 @@
--- `sums_slide::next_out` meets its contract. The invariant: every window passed is in the range.
+-- `next_out` meets its contract. The invariant: every window passed is in the range.
 use borrow.Author.Count.{below-more}
 use Rattle.meaning_numbers.proofs.Prelude.{needs, not-true, not-false, _≡_, sym, ap, _∙_, true, ℕ, _-_, _≤_, _<_, arith}
 use Rattle.sums_slide.specs.Levels.{level, within, windowsOf}
@@ -17,39 +17,25 @@ here : (c : tie.After-in-range Inv-loop μ-loop) → let l = c .before .before i
     c .in-range .result ≡ within (a .lo) (a .hi) (level (a .s .now) (a .w) (a .e) (l .loop .j))
 here c = let l = c .before .before in let a = l .before .args in c .in-range .ensures ∙ ap (within (a .lo) (a .hi)) (l .loop .inv .2)
 
-loop-holds : tie.Need-loop-holds Inv-loop μ-loop
-loop-holds c = (omega arith, c .pre .1 .0, c .pre .1 .1, λ k l m. absurd (omega arith))
-
 returns : tie.Need-returns Inv-loop μ-loop
 returns c =
     let l = c .before .before .before in
     let v = l .loop .inv in
-    stop-from (l .before .args .from .offset) (l .loop .j) (v .0) (v .3) (stop-here (l .loop .j) (v .1) (λ _. sym (here (c .before)) ∙ not-true _ (c .if1 .taken)) (v .2))
-
-move-on-requires : tie.Need-move-on-requires Inv-loop μ-loop
-move-on-requires c κs =
-    let l = c .before .before .before in
-    (l .before .pre .0, (omega (arith, c .before .before .loop-test .taken), l .loop .inv .2))
+    stop-from _ (l .loop .j) (v .0) (v .3) (stop-here (l .loop .j) (v .1) (λ _. sym (here (c .before)) ∙ not-true _ (c .if1 .taken)) (v .2))
 
 loop-again : tie.Need-loop-again Inv-loop μ-loop
 loop-again c =
     let l = c .before .before .before .before in
     let v = l .loop .inv in
-    (omega arith, omega (arith, c .before .before .before .loop-test .taken), c .move-on .ensures, below-more _ _ (v .3) (λ m. sym (here (c .before .before)) ∙ not-false _ (c .before .if1 .left)))
-
-last-out-requires : tie.Need-last-out-requires Inv-loop μ-loop
-last-out-requires c κs =
-    let l = c .before in
-    let v = l .loop .inv in
-    (l .before .pre .0, ((omega (arith, c .loop-test .left), v .1), v .2))
+    (omega arith, search needs, search needs, below-more _ _ (v .3) (λ m. sym (here (c .before .before)) ∙ not-false _ (c .before .if1 .left)))
 
 returns-2 : tie.Need-returns-2 Inv-loop μ-loop
 returns-2 c =
     let l = c .before .before in
     let v = l .loop .inv in
-    stop-from (l .before .args .from .offset) (l .loop .j) (v .0) (v .3) (c .last-out .ensures)
+    stop-from _ (l .loop .j) (v .0) (v .3) (c .last-out .ensures)
 
 pub next-out-spec : {M : Type 1} → statement M
 next-out-spec =
-    tie.close (tie.spec Inv-loop μ-loop (λ c. omega (arith, c .pre .0 .fits)) loop-holds (λ c κs. search needs) returns move-on-requires (λ c. omega arith) (λ c. omega arith) loop-again
-    last-out-requires returns-2)
+    tie.close (tie.spec Inv-loop μ-loop (search needs) (λ c. (omega arith, c .pre .1 .0, c .pre .1 .1, λ k l m. absurd (omega arith))) (λ c κs. search needs) returns (λ c κs. search needs) (search needs) (search needs) loop-again
+    (λ c κs. search needs) returns-2)

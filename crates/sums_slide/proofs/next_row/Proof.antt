@@ -1,4 +1,4 @@
--- `sums_slide::next_row` meets its contract (`next-row`).
+-- `next_row` meets its contract (`next-row`).
 use Rattle.meaning_numbers.proofs.Prelude.{_*_, _≤_, arith, div-mul-le-self}
 use Rattle.sums_slide.specs.Levels.{level, rowOf, level-small}
 use Rattle.sums_slide.proofs.{Change.next-row, next_row.Statement.statement}
@@ -15,11 +15,11 @@ returns : tie.Need-returns
 unfolding rowOf
 returns c =
     let o = c .before in
-    next-row (o .args .d) (omega (arith, o .pre .1 .0)) (o .pre .1 .1 .0) (rw (o .pre .1 .1 .1 .1) at (c .next-out .ensures))
+    next-row (o .args .d) (omega arith) (o .pre .1 .1 .0) (rw (o .pre .1 .1 .1 .1) at (c .next-out .ensures))
 
 pub next-row-spec : {M : Type 1} → statement M
 next-row-spec = tie.close (tie.spec
     (λ c. omega (arith, low-small c))
     (λ c. omega (arith, low-small c, c .pre .1 .0))
-    (λ c κs. (c .pre .0, (omega (arith, c .pre .1 .1 .0), c .pre .1 .1 .1 .0)))
+    (λ c κs. (c .pre .0, (omega arith, c .pre .1 .1 .1 .0)))
     returns)

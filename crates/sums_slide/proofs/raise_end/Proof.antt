@@ -1,4 +1,4 @@
--- `sums_slide::raise_end` meets its contract.
+-- `raise_end` meets its contract.
 use Rattle.meaning_numbers.proofs.Prelude.{arith, ℤ, _+ℤ_, w32, SFits, toZ, ofZ, z-add, zmach32, z-cast32, z-abs}
 use Rattle.sums_slide.proofs.raise_end.Statement.{statement}
 use Rattle.sums_slide.proofs.raise_end.Tie as tie

@@ -1,4 +1,4 @@
--- `sums_slide::raised_rows` meets its contract, by the two inequalities of a quotient.
+-- `raised_rows` meets its contract, by the two inequalities of a quotient.
 use Rattle.meaning_numbers.proofs.Prelude.{needs, _+_, _-_, _*_, arith, div-mul-le-self, lt-div-mul-add}
 use Rattle.sums_slide.proofs.raised_rows.Statement.{statement}
 use Rattle.sums_slide.proofs.raised_rows.Tie as tie
@@ -9,8 +9,8 @@ returns c =
     let d = o .args .d in
     let x = 10000 * o .args .w + (d - 1) in
     let low = div-mul-le-self x d in
-    let high = lt-div-mul-add {a = x} {b = d} (o .pre .1 .0) in
-    rw (c .quotient .ensures) (omega (arith, low, high, o .pre .1 .0), omega (arith, low))
+    let high = lt-div-mul-add {a = x} (o .pre .1 .0) in
+    rw (c .quotient .ensures) (omega (arith, low), search needs)
 
 pub raised-rows-spec : {M : Type 1} → statement M
-raised-rows-spec = tie.close (tie.spec (λ c. search needs) (λ c. search needs) (λ c. search needs) (λ c. search needs) (λ c. search needs) (λ c κs. search needs) (λ c. search needs) returns)
+raised-rows-spec = tie.close (tie.spec (search needs) (search needs) (search needs) (search needs) (search needs) (search needs) (search needs) returns)

@@ -1,4 +1,4 @@
--- `sums_slide::set_flag` meets its contract.
+-- `set_flag` meets its contract.
 use Rattle.meaning_numbers.proofs.Prelude.{needs, le-leb, lt-leb, sym, set-out}
 use Rattle.sums_slide.specs.Marks.{flagged}
 use Rattle.sums_slide.proofs.set_flag.Statement.{statement}
@@ -18,4 +18,4 @@ returns-3 c = rw (lt-leb _ _ (c .if1 .left))
 
 pub set-flag-spec : {M : Type 1} → statement M
 set-flag-spec =
-    tie.close (tie.spec (λ c. search needs) (λ c. search needs) returns returns-2 returns-3)
+    tie.close (tie.spec (search needs) (search needs) returns returns-2 returns-3)

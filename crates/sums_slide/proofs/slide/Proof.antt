@@ -1,4 +1,4 @@
--- `sums_slide::slide` meets its contract (`level-next`).
+-- `slide` meets its contract (`level-next`).
 use Rattle.meaning_numbers.proofs.Prelude.{_≡_, _+_, arith}
 use Rattle.numbers.specs.Raised.{raised-le}
 use Rattle.sums_slide.specs.Levels.{level, level-small}
@@ -20,4 +20,4 @@ slid c =
 pub slide-spec : {M : Type 1} → statement M
 slide-spec =
     tie.close
-    (tie.spec (λ c. omega (arith, c .pre .0 .most)) (λ c κs. c .pre .0 .all) add-result (λ c κs. c .before .pre .0 .all) (λ c. omega (arith, slid c)) (λ c. omega (arith, slid c)))
+    (tie.spec (λ c. omega arith) (λ c κs. c .pre .0 .all) add-result (λ c κs. c .before .pre .0 .all) (λ c. omega (arith, slid c)) (λ c. omega (arith, slid c)))

@@ -1,11 +1,8 @@
--- `sums_slide::value_at` meets its contract; past the end of the series stands 0.
+-- `value_at` meets its contract; past the end of the series stands 0.
 use Rattle.meaning_numbers.proofs.Prelude.{needs, _∙_, _≤_, arith, length, List·getD-eq-default, pos}
 use Rattle.numbers.proofs.Back.{in-arg, raised-back}
 use Rattle.sums_slide.proofs.value_at.Statement.{statement}
 use Rattle.sums_slide.proofs.value_at.Tie as tie
-
-returns : tie.Need-returns
-returns c = let o = c .before .before .before in c .raise .ensures ∙ raised-back (o .pre .at (o .args .i))
 
 returns-2 : tie.Need-returns-2
 returns-2 c =
@@ -14,4 +11,4 @@ returns-2 c =
 
 pub value-at-spec : {M : Type 1} → statement M
 value-at-spec =
-    tie.close (tie.spec (λ c. search needs) (λ c. search needs) (λ c κs. in-arg (c .before .before .pre .at _)) returns returns-2)
+    tie.close (tie.spec (search needs) (search needs) (λ c κs. in-arg (c .before .before .pre .at _)) (λ c. let o = c .before .before .before in c .raise .ensures ∙ raised-back (o .pre .at (o .args .i))) returns-2)

@@ -1,4 +1,4 @@
--- `text_count::count_end` meets its contract.
+-- `count_end` meets its contract.
 use borrow.Author.Needs.{needs}
 use Rattle.meaning_text.specs.Bytes.{bytes}
 use Rattle.text_write.specs.Write.{endText}

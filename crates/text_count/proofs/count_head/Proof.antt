@@ -1,4 +1,4 @@
--- `text_count::count_head` meets its contract.
+-- `count_head` meets its contract.
 use borrow.Author.Needs.{needs}
 use lib.IntN.{pos}
 use native.Mathlib.Omega.{arith}

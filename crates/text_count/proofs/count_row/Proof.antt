@@ -1,4 +1,4 @@
--- `text_count::count_row` meets its contract. Its range, its runs and its end, one after the other.
+-- `count_row` meets its contract. Its range, its runs and its end, one after the other.
 use borrow.Author.Needs.{needs}
 use lib.IntN.{ℤ}
 use lib.ListN.{length}

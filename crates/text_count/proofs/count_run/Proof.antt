@@ -1,4 +1,4 @@
--- `text_count::count_run` meets its contract.
+-- `count_run` meets its contract.
 use borrow.Author.Needs.{needs}
 use lib.IntN.{pos}
 use native.Mathlib.Omega.{arith}

@@ -1,4 +1,4 @@
--- `text_count::count_runs` meets its contract. The invariant: the first i runs of the part are counted (`Runs`).
+-- `count_runs` meets its contract. The invariant: the first i runs of the part are counted (`Runs`).
 use Prim.Native.Nat.{_-_}
 use borrow.Author.Needs.{needs}
 use native.Mathlib.Omega.{arith}

@@ -1,6 +1,6 @@
--- `text_event::byte_event` meets its contract. The invariant: the bytes so far say nothing. The measure is what is left of the text.
-use Rattle.meaning_numbers.proofs.Prelude.{_≡_, refl, sym, _∙_, _-_, arith, needs, length, w64, toZ, ofZ, toZ-ofZ}
-use Rattle.text_index.specs.{declared.Moved.Moved, Step.GoodState}
+-- `byte_event` meets its contract. The invariant: the bytes so far say nothing. The measure is what is left of the text.
+use Rattle.meaning_numbers.proofs.Prelude.{refl, sym, _∙_, _-_, needs, length, w64, toZ-ofZ}
+use Rattle.text_index.specs.{Step.GoodState}
 use Rattle.text_index.proofs.View.{step-good}
 use Rattle.text_event.specs.Event.{Quiet, still, more}
 use Rattle.text_event.proofs.byte_event.Statement.{statement}
@@ -14,12 +14,12 @@ abbrev μ-loop : tie.MeasureT-loop
 
 pub byte-event-spec : {M : Type 1} → statement M
 byte-event-spec =
-    tie.close (tie.spec Inv-loop μ-loop (λ c. (c .before .pre, still)) (λ c. omega arith) (λ c κs. c .before .before .loop .inv .0) (λ c. search needs) (λ c. omega arith) (λ c. omega arith)
-    (λ c. let a = c .before .before .before in let l = a .before .before .before in let e = sym (a .index-step .ensures) ∙ c .before .m .given .1 in (step-good (l .loop .n) _ (Moved.To (c .before .m .given .0 .0)) (l .loop .inv .0) e, more (l .loop .inv .1) (a .before .before .loop-test .taken) e))
-    (λ c. search needs) (λ c. omega arith)
-    (λ c. let n = c .before in let a = n .before .before in let l = a .before .before .before in let z = n .m2 .given .0 .1 .1 .0 in let e : toZ w64 (ofZ w64 z) ≡ z = toZ-ofZ w64 z (search (needs, c .known-told2 .given)) in rw e (record { last = l .loop .n; place = l .loop .i; quiet = l .loop .inv .1; inside = a .before .before .loop-test .taken; ends = sym (a .index-step .ensures) ∙ n .m2 .given .1; next = refl }))
-    (λ c. search needs) (λ c. omega arith)
-    (λ c. let n = c .before in let a = n .before .before in let l = a .before .before .before in record { last = l .loop .n; place = l .loop .i; quiet = l .loop .inv .1; inside = a .before .before .loop-test .taken; ends = sym (a .index-step .ensures) ∙ n .m3 .given .1; next = refl })
-    (λ c. search needs)
-    (λ c. let a = c .before .before in let l = a .before .before .before in (l .loop .inv .1, a .before .before .loop-test .taken, sym (a .index-step .ensures) ∙ c .enum-told .given .1))
-    (λ c. (c .before .loop .inv .1, c .loop-test .left)))
+    tie.close (tie.spec Inv-loop μ-loop (λ c. (c .before .pre, still)) (search needs) (λ c κs. (search needs)) (search needs) (search needs) (search needs)
+    (λ c. let a = c .before .before .before in let l = a .before .before .before in let e = sym (a .index-step .ensures) ∙ c .before .m .given .1 in (step-good (l .loop .n) _ _ (l .loop .inv .0) e, more (l .loop .inv .1) (a .before .before .loop-test .taken) e))
+    (search needs) (search needs)
+    (λ c. let n = c .before in let a = n .before .before in let l = a .before .before .before in let z = n .m2 .given .0 .1 .1 .0 in let e = toZ-ofZ w64 z (search (needs, c .known-told2 .given)) in rw e (record { last = l .loop .n; place = l .loop .i; quiet = l .loop .inv .1; inside = search needs; ends = sym (a .index-step .ensures) ∙ n .m2 .given .1; next = refl }))
+    (search needs) (search needs)
+    (λ c. let n = c .before in let a = n .before .before in let l = a .before .before .before in record { last = l .loop .n; place = l .loop .i; quiet = l .loop .inv .1; inside = search needs; ends = sym (a .index-step .ensures) ∙ n .m3 .given .1; next = refl })
+    (search needs)
+    (λ c. let a = c .before .before in let l = a .before .before .before in (l .loop .inv .1, search needs, sym (a .index-step .ensures) ∙ c .enum-told .given .1))
+    (λ c. (search needs, search needs)))

@@ -1,4 +1,4 @@
--- `text_event::digits` meets its contract. The invariant: the digits so far say nothing, and their number is below the bound for so many (`top`). The measure is how many may still come.
+-- `digits` meets its contract. The invariant: the digits so far say nothing, and their number is below the bound for so many (`top`). The measure is how many may still come.
 use Rattle.meaning_numbers.proofs.Prelude.{_+_, _-_, _<_, _≤_, arith, needs, length}
 use Rattle.text_numbers.specs.declared.Numeral.{Numeral}
 use Rattle.text_index.specs.{declared.Field.Field, declared.State.State}

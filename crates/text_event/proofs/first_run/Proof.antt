@@ -1,4 +1,4 @@
--- `text_event::first_run` meets its contract: a bracket, and the run behind it.
+-- `first_run` meets its contract: a bracket, and the run behind it.
 use Rattle.meaning_numbers.proofs.Prelude.{arith, not-false, needs}
 use Rattle.meaning_text.specs.Bytes.{bytes}
 use Rattle.text_event.proofs.{Steps.first-told, first_run.Statement.statement}

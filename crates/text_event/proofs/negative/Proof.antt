@@ -1,4 +1,4 @@
--- `text_event::negative` meets its contract.
+-- `negative` meets its contract.
 use Rattle.meaning_numbers.proofs.Prelude.{arith, pos, w64, toZ, z-sub, z-neg, zmach, z-cast, needs}
 use Rattle.text_event.proofs.negative.Statement.{statement}
 use Rattle.text_event.proofs.negative.Tie as tie
@@ -10,4 +10,4 @@ returns : tie.Need-returns
 returns c = let m = c .args .m in let f = sub-result c in omega (zmach, c .pre, z-cast m (omega (arith, c .pre)), z-sub (pos 0) (toZ w64 m), z-neg (pos m))
 
 pub negative-spec : {M : Type 1} → statement M
-negative-spec = tie.close (tie.spec (λ c. search needs) sub-result returns)
+negative-spec = tie.close (tie.spec (search needs) sub-result returns)

@@ -1,4 +1,4 @@
--- `text_event::next_event` meets its contract. By the state.
+-- `next_event` meets its contract. By the state.
 use Rattle.meaning_numbers.proofs.Prelude.{ap, _∙_, needs}
 use Rattle.text_index.specs.{declared.Turn.Turn, declared.State.State}
 use Rattle.text_event.proofs.next_event.Statement.{statement}

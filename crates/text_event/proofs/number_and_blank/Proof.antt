@@ -1,21 +1,15 @@
--- `text_event::number_and_blank` meets its contract: a number, and a blank.
+-- `number_and_blank` meets its contract: a number, and a blank.
 use Rattle.meaning_numbers.proofs.Prelude.{arith, not-false, needs}
 use Rattle.meaning_text.specs.Bytes.{bytes}
 use Rattle.text_event.proofs.number_and_blank.Statement.{statement}
 use Rattle.text_event.proofs.number_and_blank.Tie as tie
 
-returns : tie.Need-returns
-returns c = λ h. absurd (omega (arith, h))
-
 stands-requires : tie.Need-stands-requires
-stands-requires c κs = let m = c .before .before in let x = m .number-at .ensures (omega (arith, c .before .if1 .left)) in omega (arith, x .short, m .before .before .pre)
-
-returns-2 : tie.Need-returns-2
-returns-2 c = λ h. absurd (omega (arith, h))
+stands-requires c κs = let m = c .before .before in let x = m .number-at .ensures (omega arith) in omega arith
 
 returns-3 : tie.Need-returns-3
 unfolding bytes
 returns-3 c = let s = c .before in λ h. record { number = s .before .before .before .number-at .ensures h; blank = s .stands .ensures .0 (not-false (s .stands .result) (c .if2 .left)) }
 
 pub number-and-blank-spec : {M : Type 1} → statement M
-number-and-blank-spec = tie.close (tie.spec (λ c κs. search needs) returns (λ c. search needs) (λ c. search needs) stands-requires returns-2 returns-3)
+number-and-blank-spec = tie.close (tie.spec (λ c κs. search needs) (λ c. λ h. absurd (omega (arith, h))) (λ c. search needs) (λ c. search needs) stands-requires (λ c. λ h. absurd (omega (arith, h))) returns-3)

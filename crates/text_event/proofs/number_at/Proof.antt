@@ -1,4 +1,4 @@
--- `text_event::number_at` meets its contract: the first digit, and those behind it.
+-- `number_at` meets its contract: the first digit, and those behind it.
 use Rattle.meaning_numbers.proofs.Prelude.{refl, arith, needs}
 use Rattle.text_event.proofs.{Steps.number-told, number_at.Statement.statement}
 use Rattle.text_event.proofs.number_at.Tie as tie

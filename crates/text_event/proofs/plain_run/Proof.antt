@@ -1,4 +1,4 @@
--- `text_event::plain_run` meets its contract: a blank and a bracket, and the run behind them.
+-- `plain_run` meets its contract: a blank and a bracket, and the run behind them.
 use Rattle.meaning_numbers.proofs.Prelude.{arith, not-false, needs}
 use Rattle.meaning_text.specs.Bytes.{bytes}
 use Rattle.text_event.proofs.{Steps.plain-told, plain_run.Statement.statement}

@@ -1,5 +1,5 @@
--- `text_event::range_at` meets its contract: `(row `, and two numbers.
-use Rattle.meaning_numbers.proofs.Prelude.{arith, _≡_, w64, toZ, ofZ, toZ-ofZ, not-false, needs}
+-- `range_at` meets its contract: `(row `, and two numbers.
+use Rattle.meaning_numbers.proofs.Prelude.{arith, w64, toZ-ofZ, not-false, needs}
 use Rattle.text_event.proofs.{Steps.range-told, range_at.Statement.statement}
 use Rattle.text_event.proofs.range_at.Tie as tie
 
@@ -10,8 +10,8 @@ returns-2 c =
     let x = rw (m .low .given .1) at (m .before .before .signed-at .ensures) in
     let high = c .before .up .given .0 .0 in
     let y = rw (c .before .up .given .1) at (c .before .before .before .signed-at2 .ensures) in
-    let e : toZ w64 (ofZ w64 low) ≡ low = toZ-ofZ w64 low (search (needs, c .before .before .before .before .known-told .given)) in
-    let f : toZ w64 (ofZ w64 high) ≡ high = toZ-ofZ w64 high (search (needs, c .known-told2 .given)) in
+    let e = toZ-ofZ w64 low (search (needs, c .before .before .before .before .known-told .given)) in
+    let f = toZ-ofZ w64 high (search (needs, c .known-told2 .given)) in
     rw (e, f) (range-told _ _ low high _ _ (c .before .before .before .before .before .before .before .before .before .opens .ensures (not-false (c .before .before .before .before .before .before .before .before .before .opens .result) (c .before .before .before .before .before .before .before .before .if1 .left))) x y)
 
 pub range-at-spec : {M : Type 1} → statement M

@@ -1,13 +1,10 @@
--- `text_event::roomy` meets its contract. By its test.
+-- `roomy` meets its contract. By its test.
 use Rattle.meaning_numbers.proofs.Prelude.{_-_, arith, length, false≢true, leb-true, needs}
 use Rattle.text_event.proofs.roomy.Statement.{statement}
 use Rattle.text_event.proofs.roomy.Tie as tie
 
-returns : tie.Need-returns
-returns c = λ e. absurd (false≢true e)
-
 returns-2 : tie.Need-returns-2
-returns-2 c = λ e. omega (arith, c .if1 .left, leb-true (c .before .args .at) (length (c .before .args .text .now) - c .before .args .n) e)
+returns-2 c = λ e. omega (arith, c .if1 .left, leb-true _ (length (c .before .args .text .now) - c .before .args .n) e)
 
 pub roomy-spec : {M : Type 1} → statement M
-roomy-spec = tie.close (tie.spec returns (λ c. search needs) returns-2)
+roomy-spec = tie.close (tie.spec (λ c. λ e. absurd (false≢true e)) (search needs) returns-2)

@@ -1,4 +1,4 @@
--- `text_event::run_body` meets its contract: two numbers, and the bytes behind them.
+-- `run_body` meets its contract: two numbers, and the bytes behind them.
 use Rattle.meaning_numbers.proofs.Prelude.{arith, not-false, needs}
 use Rattle.meaning_text.specs.Bytes.{bytes}
 use Rattle.text_event.proofs.{Steps.body-told, run_body.Statement.statement}
@@ -10,8 +10,8 @@ returns-5 c =
     let n = c .before .before .before .before in
     let s = n .before .before in
     let e = s .before .before in
-    let x = e .before .number-at .ensures (omega (arith, e .if1 .left)) in
-    let y = n .number-at2 .ensures (omega (arith, c .before .before .before .if3 .left)) in
+    let x = e .before .number-at .ensures (omega arith) in
+    let y = n .number-at2 .ensures (omega arith) in
     λ h. body-told _ _ _ _ x (s .stands .ensures .0 (not-false (s .stands .result) (n .before .if2 .left))) y (c .before .stands2 .ensures .0 (not-false (c .before .stands2 .result) (c .if4 .left)))
 
 pub run-body-spec : {M : Type 1} → statement M

@@ -1,4 +1,4 @@
--- `text_event::runs_event` meets its contract: a run, a row's end, or what comes byte by byte.
+-- `runs_event` meets its contract: a run, a row's end, or what comes byte by byte.
 use Rattle.meaning_numbers.proofs.Prelude.{refl, arith, needs}
 use Rattle.text_event.proofs.{EventLaws.run-up, EventLaws.closed-up, Steps.ends-told, runs_event.Statement.statement}
 use Rattle.text_event.proofs.runs_event.Tie as tie

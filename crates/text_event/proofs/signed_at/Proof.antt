@@ -1,4 +1,4 @@
--- `text_event::signed_at` meets its contract. By its first byte.
+-- `signed_at` meets its contract. By its first byte.
 use Rattle.meaning_numbers.proofs.Prelude.{_≡_, _/_, arith, pos, w64, toZ, ofZ, toZ-ofZ, zmach, z-neg, needs}
 use Rattle.text_event.proofs.{Steps.plus-told, Steps.less-told, signed_at.Statement.statement}
 use Rattle.text_event.proofs.signed_at.Tie as tie
@@ -6,9 +6,9 @@ use Rattle.text_event.proofs.signed_at.Tie as tie
 returns-2 : tie.Need-returns-2
 returns-2 c =
     let n = c .before .before in let s = n .before .before .before .before in
-    let x = n .number-and-blank .ensures (omega (arith, c .before .if2 .left)) in
-    let e : toZ w64 (ofZ w64 (c .negative .result)) ≡ c .negative .result = toZ-ofZ w64 (c .negative .result) (omega (zmach, c .negative .ensures, x .number .small, z-neg (pos (n .number-and-blank .result / 16)))) in
-    rw (e, c .negative .ensures) (less-told _ _ _ (omega (arith, s .pre)) (n .before .if1 .taken) x)
+    let x = n .number-and-blank .ensures (omega arith) in
+    let e = toZ-ofZ w64 (c .negative .result) (omega (zmach, c .negative .ensures, x .number .small, z-neg (pos (n .number-and-blank .result / 16)))) in
+    rw (e, c .negative .ensures) (less-told _ _ _ (omega arith) (n .before .if1 .taken) x)
 
 pub signed-at-spec : {M : Type 1} → statement M
 signed-at-spec =

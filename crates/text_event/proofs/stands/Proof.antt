@@ -1,4 +1,4 @@
--- `text_event::stands` meets its contract. The invariant: the first k bytes of the word are there. The measure is how many are left.
+-- `stands` meets its contract. The invariant: the first k bytes of the word are there. The measure is how many are left.
 use Rattle.meaning_numbers.proofs.Prelude.{_≡_, refl, false≢true, ℕ, _+_, _-_, _<_, _≤_, arith, length, getD, needs}
 use Rattle.text_event.proofs.{Words.stands-byte, Words.stands-all, Words.same-more, stands.Statement.statement}
 use Rattle.text_event.proofs.stands.Tie as tie
@@ -11,8 +11,8 @@ abbrev μ-loop : tie.MeasureT-loop
 
 pub stands-spec : {M : Type 1} → statement M
 stands-spec =
-    tie.close (tie.spec Inv-loop μ-loop (λ c. (omega arith, λ j h. absurd (omega (arith, h)))) (λ c. search needs) (λ c. search needs) (λ c. search needs)
+    tie.close (tie.spec Inv-loop μ-loop (search needs) (search needs) (search needs) (search needs)
     (λ c. let l = c .before .before .before .before in (λ e. absurd (false≢true e), λ s. absurd (c .if1 .taken (stands-byte s (l .loop .k) _ (omega arith) refl .1))))
-    (λ c. search needs) (λ c. search needs)
+    (search needs) (search needs)
     (λ c. let l = c .before .before .before .before in (omega arith, same-more (l .before .args .text .now) (l .before .args .word .now) (l .before .args .at) (l .loop .k) (l .loop .inv .1) (c .if1 .left)))
-    (λ c. let l = c .before in (λ e. stands-all _ _ _ (l .before .pre) (λ k h. l .loop .inv .1 k (omega (arith, h, c .loop-test .left))), λ s. refl)))
+    (λ c. let l = c .before in (λ e. stands-all _ _ _ (l .before .pre) (λ k h. l .loop .inv .1 k (omega (arith, h))), λ s. refl)))

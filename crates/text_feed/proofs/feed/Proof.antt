@@ -1,4 +1,4 @@
--- `text_feed::feed` meets its contract. The invariant: what is kept after i bytes holds what the automaton has been told (`Sofar`). The measure is what is left of the piece.
+-- `feed` meets its contract. The invariant: what is kept after i bytes holds what the automaton has been told (`Sofar`). The measure is what is left of the piece.
 use Rattle.meaning_numbers.proofs.Prelude.{_≡_, sym, _∙_, _-_, arith, needs, length, w64, toZ, ofZ, toZ-ofZ}
 use Rattle.text_feed.proofs.feed.Statement.{statement}
 use Rattle.text_feed.proofs.FeedLaws.{Sofar, sofar-start, sofar-to, sofar-value, sofar-ended, sofar-refuse, comes-failed, comes-going}
@@ -40,23 +40,23 @@ loop-again-3 c =
     let a = n .before .before in
     let l = a .before .before .before in
     let e1 = rw (kp .kind-place .ensures, toZ-ofZ w64 (kn .kind-number .result) (search needs), kn .kind-number .ensures) at (pn .put-number2 .ensures) in
-    rw e1 (sofar-ended (l .loop .inv) (a .before .before .loop-test .taken) (n .n3 .given .0 .0) (n .n3 .given .0 .1 .0) (sym (a .line-step .ensures) ∙ n .n3 .given .1))
+    rw e1 (sofar-ended (l .loop .inv) (a .before .before .loop-test .taken) _ _ (sym (a .line-step .ensures) ∙ n .n3 .given .1))
 
 pub feed-spec : {M : Type 1} → statement M
 feed-spec =
     tie.close (tie.spec Inv-loop μ-loop (λ c. let s = c .before .before .before in sofar-start (s .args .p) _ _ _ _ (s .pre)) (λ c. omega arith)
-    (λ c κs. c .before .before .loop .inv .good) (λ c. search needs) (λ c. omega arith) (λ c. omega arith)
+    (λ c κs. search needs) (λ c. search needs) (λ c. omega arith) (λ c. omega arith)
     (λ c. let a = c .before .before .before in let l = a .before .before .before in sofar-to (l .loop .inv) (a .before .before .loop-test .taken) (c .before .n .given .0 .0) (sym (a .line-step .ensures) ∙ c .before .n .given .1))
     (λ c. search needs) (λ c κs. search needs) (λ c κs. search needs) (λ c κs. search needs)
-    (λ c κs. let l = c .before .before .before .before .before .before .before .before .before .before .before .before in omega (arith, l .loop .inv .first, l .before .before .before .before .pre .room, c .before .before .before .before .before .before .before .before .before .before .before .loop-test .taken))
     (λ c κs. search needs)
-    (λ c κs. let k = c .before .before .before in let l = k .before .before .before .before .before .before .before .before .before .before .before .before .before in omega (arith, l .loop .inv .second, l .before .before .before .before .pre .room, k .before .before .before .before .before .before .before .before .before .before .before .before .loop-test .taken))
+    (λ c κs. search needs)
+    (λ c κs. search needs)
     (λ c. omega arith) (λ c. omega arith) loop-again-2 (λ c. search needs) (λ c κs. search needs) (λ c κs. search needs) (λ c κs. search needs)
     (λ c. omega arith) (λ c. omega arith) loop-again-3 (λ c. search needs)
-    (λ c. let l = c .before .before .before .before .before in omega (arith, l .before .before .before .before .pre .room, c .before .before .before .before .loop-test .taken))
-    (λ c. c .before .before .before .before .before .loop .inv .alone-long) (λ c. c .before .before .before .before .before .loop .inv .first-long)
-    (λ c. c .before .before .before .before .before .loop .inv .second-long)
+    (λ c. search needs)
+    (λ c. search needs) (λ c. search needs)
+    (λ c. search needs)
     (λ c. let a = c .before .before in let l = a .before .before .before in let s = l .before .before .before .before in (tt, λ g kept asked. comes-failed (s .args .p) _ _ _ _ _ _ _ _ g kept asked (sofar-refuse (l .loop .inv) (a .before .before .loop-test .taken) (sym (a .line-step .ensures) ∙ c .enum-told .given .1) g kept asked)))
-    (λ c. let l = c .before in omega (arith, l .before .before .before .before .pre .room, l .loop .inv .within))
-    (λ c. c .before .loop .inv .alone-long) (λ c. c .before .loop .inv .first-long) (λ c. c .before .loop .inv .second-long)
-    (λ c. let l = c .before in let s = l .before .before .before .before in let i = l .loop .inv in ((i .good, i .first, i .second, omega (arith, i .within, c .loop-test .left)), λ g kept asked. comes-going (s .args .p) _ _ _ _ _ _ _ _ _ _ _ i (c .loop-test .left) g kept asked)))
+    (λ c. search needs)
+    (λ c. search needs) (λ c. search needs) (λ c. search needs)
+    (λ c. let l = c .before in let s = l .before .before .before .before in let i = l .loop .inv in ((i .good, i .first, i .second, search needs), λ g kept asked. comes-going (s .args .p) _ _ _ _ _ _ _ _ _ _ _ i (c .loop-test .left) g kept asked)))

@@ -1,6 +1,6 @@
--- `text_feed::in_limits` meets its contract. By the two tests.
+-- `in_limits` meets its contract. By the two tests.
 use Rattle.meaning_numbers.specs.Order.{within}
-use Rattle.meaning_numbers.proofs.Prelude.{negsuc, _≤ℤ_, _<ℤ_, w64, toZ, ofZ, toZ-ofZ, zmach}
+use Rattle.meaning_numbers.proofs.Prelude.{negsuc, _≤ℤ_, _<ℤ_, w64, toZ-ofZ, zmach}
 use Rattle.text_feed.proofs.{Keep.gt-leZ, Keep.le-leZ, in_limits.Statement.statement}
 use Rattle.text_feed.proofs.in_limits.Tie as tie
 

@@ -1,4 +1,4 @@
--- `text_feed::kept` meets its contract. By whether the value is one of these.
+-- `kept` meets its contract. By whether the value is one of these.
 use Rattle.meaning_numbers.proofs.Prelude.{_≡_, w64, toZ, ofZ, toZ-ofZ, needs}
 use Rattle.text_feed.proofs.kept.Statement.{statement}
 use Rattle.text_feed.proofs.kept.Tie as tie

@@ -1,4 +1,4 @@
--- `text_feed::kind_number` meets its contract. By the case.
+-- `kind_number` meets its contract. By the case.
 use Rattle.meaning_numbers.proofs.Prelude.{needs}
 use Rattle.text_feed.proofs.kind_number.Statement.{statement}
 use Rattle.text_feed.proofs.kind_number.Tie as tie

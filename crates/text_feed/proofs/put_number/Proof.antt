@@ -1,10 +1,7 @@
--- `text_feed::put_number` meets its contract. A place that there is not changes nothing.
+-- `put_number` meets its contract. A place that there is not changes nothing.
 use Rattle.meaning_numbers.proofs.Prelude.{sym, set-out, needs}
 use Rattle.text_feed.proofs.put_number.Statement.{statement}
 use Rattle.text_feed.proofs.put_number.Tie as tie
 
-returns-2 : tie.Need-returns-2
-returns-2 c = sym (set-out (c .before .args .numbers .now) (c .before .args .k) (c .before .args .z) (c .if1 .left))
-
 pub put-number-spec : {M : Type 1} → statement M
-put-number-spec = tie.close (tie.spec (λ c. search needs) (λ c. search needs) (λ c. search needs) (λ c. search needs) returns-2)
+put-number-spec = tie.close (tie.spec (λ c. search needs) (λ c. search needs) (λ c. search needs) (λ c. search needs) (λ c. sym (set-out _ _ _ (c .if1 .left))))

@@ -1,4 +1,4 @@
--- `text_index::ends_row` meets its contract. By the case.
+-- `ends_row` meets its contract. By the case.
 use borrow.Author.Needs.{needs}
 use Rattle.text_index.specs.Step.{closes}
 use Rattle.text_index.proofs.ends_row.Statement.{statement}

@@ -1,4 +1,4 @@
--- `text_index::index_step` meets its contract. By the state.
+-- `index_step` meets its contract. By the state.
 use borrow.Author.Needs.{needs}
 use Rattle.text_index.specs.Step.{indexStep}
 use Rattle.text_index.proofs.index_step.Statement.{statement}

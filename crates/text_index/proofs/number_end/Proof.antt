@@ -1,4 +1,4 @@
--- `text_index::number_end` meets its contract. By the case.
+-- `number_end` meets its contract. By the case.
 use borrow.Author.Needs.{needs}
 use Rattle.text_index.specs.Step.{turnAfter}
 use Rattle.text_index.proofs.number_end.Statement.{statement}

@@ -1,4 +1,4 @@
--- `text_index::picked` meets its contract. By the case and the byte.
+-- `picked` meets its contract. By the case and the byte.
 use borrow.Author.Needs.{needs}
 use borrow.Author.Tests.{eq-eqb, ne-eqb}
 use Rattle.text_index.specs.Step.{pick}

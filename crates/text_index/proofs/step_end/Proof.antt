@@ -1,4 +1,4 @@
--- `text_index::step_end` meets its contract. The word that the byte picks behind the number is tried.
+-- `step_end` meets its contract. The word that the byte picks behind the number is tried.
 use borrow.Author.Needs.{needs}
 use mathlib.Core.Path.{_≡_, sym, _∙_}
 use mir.Syntax.{w64}

@@ -1,4 +1,4 @@
--- `text_index::step_turn` meets its contract. The word that the byte picks is tried.
+-- `step_turn` meets its contract. The word that the byte picks is tried.
 use borrow.Author.Needs.{needs}
 use mathlib.Core.Path.{sym, _∙_}
 use Rattle.text_index.specs.Step.{turnStep}

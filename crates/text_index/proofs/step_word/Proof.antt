@@ -1,4 +1,4 @@
--- `text_index::step_word` meets its contract. By where the byte leads, and whether it ends a row.
+-- `step_word` meets its contract. By where the byte leads, and whether it ends a row.
 use borrow.Author.Needs.{needs}
 use mathlib.Core.Path.{sym, _∙_}
 use Rattle.text_index.specs.Step.{wordStep}

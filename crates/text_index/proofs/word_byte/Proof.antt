@@ -1,4 +1,4 @@
--- `text_index::word_byte` meets its contract. By the case.
+-- `word_byte` meets its contract. By the case.
 use borrow.Author.Needs.{needs}
 use Rattle.meaning_text.specs.Bytes.{bytes}
 use Rattle.text_index.specs.Step.{word}

@@ -1,4 +1,4 @@
--- `text_index::word_end` meets its contract. By the case.
+-- `word_end` meets its contract. By the case.
 use borrow.Author.Needs.{needs}
 use Rattle.text_index.specs.Step.{behind}
 use Rattle.text_index.proofs.word_end.Statement.{statement}

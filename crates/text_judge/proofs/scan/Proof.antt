@@ -1,4 +1,4 @@
--- `text_judge::scan` meets its contract. The invariant: what is left of the text comes to what the text comes to, and no count is above the bytes read (`Scanning`). The measure is what is left of the text.
+-- `scan` meets its contract. The invariant: what is left of the text comes to what the text comes to, and no count is above the bytes read (`Scanning`). The measure is what is left of the text.
 use Rattle.meaning_numbers.proofs.Prelude.{_≡_, sym, ap, _∙_, _-_, arith, length, w64, toZ, ofZ, toZ-ofZ, needs}
 use Rattle.text_index.proofs.View.{kept-start}
 use Rattle.text_event.proofs.EventLaws.{row-up, runs-up, run-up, value-up, closed-up}
@@ -19,8 +19,8 @@ tell-runs-requires c κs =
     let a = n .before .before in
     let low = n .low .given .0 .0 in
     let high = n .low .given .0 .1 .0 in
-    let e : toZ w64 (ofZ w64 low) ≡ low = toZ-ofZ w64 low (search (needs, c .before .known-told .given)) in
-    let f : toZ w64 (ofZ w64 high) ≡ high = toZ-ofZ w64 high (search (needs, c .before .known-told .given)) in
+    let e = toZ-ofZ w64 low (search (needs, c .before .known-told .given)) in
+    let f = toZ-ofZ w64 high (search (needs, c .before .known-told .given)) in
     let y = scan-row _ (a .before .loop .inv) low high _ _ _ (rw (n .low .given .1) at (a .next-event .ensures)) (rw (e, f) at (c .tell-row .ensures)) in
     (y .1, y .0 .inside)
 
@@ -30,8 +30,8 @@ loop-again c =
     let a = n .before .before in
     let low = n .low .given .0 .0 in
     let high = n .low .given .0 .1 .0 in
-    let e : toZ w64 (ofZ w64 low) ≡ low = toZ-ofZ w64 low (search (needs, c .before .before .before .known-told .given)) in
-    let f : toZ w64 (ofZ w64 high) ≡ high = toZ-ofZ w64 high (search (needs, c .before .before .before .known-told .given)) in
+    let e = toZ-ofZ w64 low (search (needs, c .before .before .before .known-told .given)) in
+    let f = toZ-ofZ w64 high (search (needs, c .before .before .before .known-told .given)) in
     let y = scan-row _ (a .before .loop .inv) low high _ _ _ (rw (n .low .given .1) at (a .next-event .ensures)) (rw (e, f) at (c .before .before .tell-row .ensures)) in
     scan-runs _ (c .before .tell-runs .ensures) y
 

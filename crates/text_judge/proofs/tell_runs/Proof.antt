@@ -1,4 +1,4 @@
--- `text_judge::tell_runs` meets its contract. The invariant: the runs so far say what is known (`RunsFrom`), and the counts are small. The measure is what is left of the text.
+-- `tell_runs` meets its contract. The invariant: the runs so far say what is known (`RunsFrom`), and the counts are small. The measure is what is left of the text.
 use Rattle.meaning_numbers.proofs.Prelude.{_-_, _≤_, arith, length, needs}
 use Rattle.text_event.specs.Event.{RunsFrom, none, one}
 use Rattle.text_event.proofs.EventLaws.{run-up}
@@ -14,8 +14,8 @@ abbrev μ-loop : tie.MeasureT-loop
 
 pub tell-runs-spec : {M : Type 1} → statement M
 tell-runs-spec =
-    tie.close (tie.spec Inv-loop μ-loop (λ c. (c .before .pre .0, c .before .pre .1, none)) (λ c κs. search needs) (λ c. c .before .before .loop .inv .2) (λ c κs. search needs) (λ c κs. search needs)
-    (λ c κs. let l = c .before .before .before .before in (l .loop .inv .0 .sound, omega (arith, l .loop .inv .0 .runs, l .loop .inv .1, l .before .before .good))) (λ c κs. search needs)
-    (λ c. let p = c .before .before .before .before .before .plain-run .ensures (omega (arith, c .before .before .before .before .if1 .left)) in omega (arith, run-up (p .run) .1, c .run-length .ensures, c .before .before .before .before .before .before .before .before .good))
-    (λ c. let p = c .before .before .before .before .before .plain-run .ensures (omega (arith, c .before .before .before .before .if1 .left)) in omega (arith, run-up (p .run) .0, run-up (p .run) .1, c .run-length .ensures))
+    tie.close (tie.spec Inv-loop μ-loop (λ c. (search needs, search needs, none)) (search needs) (λ c. (search needs)) (search needs) (search needs)
+    (search needs) (search needs)
+    (search needs)
+    (λ c. let p = c .before .before .before .before .before .plain-run .ensures (omega arith) in omega (arith, run-up (p .run) .0, run-up (p .run) .1, c .run-length .ensures))
     (λ c. let l = c .before .before .before .before .before .before in let p = c .before .before .before .before .before .plain-run .ensures (omega (arith, c .before .before .before .before .if1 .left)) in rw (c .before .tell-run .ensures, c .before .before .before .run-left .ensures, c .before .before .run-right .ensures, c .run-length .ensures) (run-fits _ (p .run) (l .loop .inv .0), run-up (p .run) .1, one (l .loop .inv .2) (p .run))))

@@ -1,4 +1,4 @@
--- `text_lines::arrive` meets its contract. By the two tests.
+-- `arrive` meets its contract. By the two tests.
 use borrow.Author.Needs.{needs}
 use borrow.Author.Tests.{eq-eqb, ne-eqb, lt-ltb, le-ltb}
 use mathlib.Core.Path.{sym, _∙_}

@@ -1,4 +1,4 @@
--- `text_lines::line_step` meets its contract. By the state.
+-- `line_step` meets its contract. By the state.
 use borrow.Author.Needs.{needs}
 use Rattle.text_lines.specs.Step.{lineStep}
 use Rattle.text_lines.proofs.line_step.Statement.{statement}

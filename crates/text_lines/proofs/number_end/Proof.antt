@@ -1,4 +1,4 @@
--- `text_lines::number_end` meets its contract. By the case.
+-- `number_end` meets its contract. By the case.
 use borrow.Author.Needs.{needs}
 use Rattle.text_lines.specs.Step.{turnAfter}
 use Rattle.text_lines.proofs.number_end.Statement.{statement}

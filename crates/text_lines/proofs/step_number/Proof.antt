@@ -1,4 +1,4 @@
--- `text_lines::step_number` meets its contract. By what the byte does to the number.
+-- `step_number` meets its contract. By what the byte does to the number.
 use borrow.Author.Needs.{needs}
 use mathlib.Core.Path.{sym, _∙_}
 use mir.Syntax.{w64}

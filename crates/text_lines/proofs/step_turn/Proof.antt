@@ -1,4 +1,4 @@
--- `text_lines::step_turn` meets its contract. The word that the byte picks is tried.
+-- `step_turn` meets its contract. The word that the byte picks is tried.
 use borrow.Author.Needs.{needs}
 use mathlib.Core.Path.{sym, _∙_}
 use Rattle.text_lines.specs.Step.{turnStep}

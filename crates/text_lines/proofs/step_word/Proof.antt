@@ -1,4 +1,4 @@
--- `text_lines::step_word` meets its contract. By where the byte leads, and whether it is the last of the word.
+-- `step_word` meets its contract. By where the byte leads, and whether it is the last of the word.
 use borrow.Author.Needs.{needs}
 use borrow.Author.Tests.{lt-ltb, le-ltb}
 use mathlib.Core.Path.{sym, _∙_}

@@ -1,4 +1,4 @@
--- `text_lines::word_end` meets its contract. By the case.
+-- `word_end` meets its contract. By the case.
 use borrow.Author.Needs.{needs}
 use Rattle.text_lines.specs.Step.{behind}
 use Rattle.text_lines.proofs.word_end.Statement.{statement}

@@ -1,4 +1,4 @@
--- `text_lines::word_length` meets its contract. By the case.
+-- `word_length` meets its contract. By the case.
 use borrow.Author.Needs.{needs}
 use Rattle.meaning_text.specs.Bytes.{bytes}
 use Rattle.text_lines.specs.Step.{word}

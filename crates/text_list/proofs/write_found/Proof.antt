@@ -1,4 +1,4 @@
--- `text_list::write_found` meets its contract. Words, numbers and matches in order are the text of the list (`found-parts`).
+-- `write_found` meets its contract. Words, numbers and matches in order are the text of the list (`found-parts`).
 use borrow.Author.Needs.{needs}
 use lib.ListN.{take}
 use Rattle.meaning_text.specs.Bytes.{bytes}

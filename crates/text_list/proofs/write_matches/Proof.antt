@@ -1,4 +1,4 @@
--- `text_list::write_matches` meets its contract. The invariant: the first i matches stand in the buffer (`Matches`).
+-- `write_matches` meets its contract. The invariant: the first i matches stand in the buffer (`Matches`).
 use Prim.Native.Nat.{_-_}
 use borrow.Author.Needs.{needs}
 use mathlib.Core.Path.{_∙_}

@@ -1,4 +1,4 @@
--- `text_list::write_refused` meets its contract. Words and numbers in order, put together as they are spelled.
+-- `write_refused` meets its contract. Words and numbers in order, put together as they are spelled.
 use borrow.Author.Needs.{needs}
 use Rattle.meaning_text.specs.{Bytes.bytes, Form.spell, Texts.refusedText}
 use Rattle.text_put.proofs.Put.{put-then}

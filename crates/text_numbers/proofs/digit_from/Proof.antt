@@ -1,4 +1,4 @@
--- `text_numbers::digit_from` meets its contract.
+-- `digit_from` meets its contract.
 use Rattle.meaning_numbers.proofs.Prelude.{lt-ltb, le-ltb}
 use Rattle.text_numbers.proofs.digit_from.Statement.{statement}
 use Rattle.text_numbers.proofs.digit_from.Tie as tie

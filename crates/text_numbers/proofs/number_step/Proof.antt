@@ -1,4 +1,4 @@
--- `text_numbers::number_step` meets its contract. By the state of the number and the byte.
+-- `number_step` meets its contract. By the state of the number and the byte.
 use Rattle.meaning_numbers.proofs.Prelude.{sym, _∙_, arith, eq-eqb, ne-eqb, needs}
 use Rattle.text_numbers.specs.Number.{numStep}
 use Rattle.text_numbers.proofs.{Number.within-true, number_step.Statement.statement}

@@ -1,4 +1,4 @@
--- `text_numbers::number_value` meets its contract. By the state of the number; its magnitude is below 10 ^ 18.
+-- `number_value` meets its contract. By the state of the number; its magnitude is below 10 ^ 18.
 use Rattle.meaning_numbers.proofs.Prelude.{_≡_, arith, pos, negℤ, _-ℤ_, w64, toZ, ofZ, toZ-pos, z-sub, z-neg, zmach, z-cast, needs}
 use Rattle.text_numbers.specs.Number.{whole}
 use Rattle.text_numbers.proofs.number_value.Statement.{statement}

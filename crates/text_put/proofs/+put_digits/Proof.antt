@@ -1,4 +1,4 @@
--- `text_put::put_digits` meets its contract: one digit, or those of a tenth and the last. The measure is the number.
+-- `put_digits` meets its contract: one digit, or those of a tenth and the last. The measure is the number.
 use borrow.Fn.Kinds.{In}
 use borrow.Fn.PlainCycle.{Measures, is, falls, and}
 use Rattle.meaning_numbers.proofs.Prelude.{_∙_, arith, needs, ℕ, _<_}
@@ -66,7 +66,7 @@ put-digits-put-digits-requires : (t : ℕ) → put-digits-lts.Need-put-digits-re
   put-digits-below t,
   put-digits.Post,
 ) (put-digits-at t) put-digits.Post
-put-digits-put-digits-requires t c κs = (omega (arith, c .before .before .before .pre .0), tt)
+put-digits-put-digits-requires t c κs = (omega arith, tt)
 
 put-digits-cast-put-byte-2 : (t : ℕ) → put-digits-lts.Need-cast-put-byte-2 (
   put-byte-reads.Asked,

@@ -1,13 +1,10 @@
--- `text_put::digit_count` meets its contract: five digits are taken off at once.
+-- `digit_count` meets its contract: five digits are taken off at once.
 use Rattle.meaning_numbers.proofs.Prelude.{_/_, arith, needs}
 use Rattle.text_put.proofs.{Digits.length-five, Digits.length-most, digit_count.Statement.statement}
 use Rattle.text_put.proofs.digit_count.Tie as tie
 
 returns : tie.Need-returns
-returns c = (c .few-digits .ensures, omega (arith, c .few-digits .ensures, length-most 4 (c .before .before .args .n) (omega arith)))
-
-few-digits-requires-2 : tie.Need-few-digits-requires-2
-few-digits-requires-2 c κs = omega (arith, c .before .fits .n)
+returns c = (search needs, omega (arith, c .few-digits .ensures, length-most 4 (c .before .before .args .n) (omega arith)))
 
 add-result : tie.Need-add-result
 add-result c = omega (arith, c .few-digits2 .ensures, length-most 9 (c .before .before .args .n / 100000) (omega (arith, c .before .before .fits .n)))
@@ -16,7 +13,7 @@ returns-2 : tie.Need-returns-2
 returns-2 c =
     let n = c .before .before .args .n in
     let e = length-five n (omega arith) in
-    (omega (arith, c .few-digits2 .ensures, e), omega (arith, c .few-digits2 .ensures, e, length-most 9 n (omega (arith, c .before .before .fits .n))))
+    (search needs, omega (arith, c .few-digits2 .ensures, e, length-most 9 n (omega (arith, c .before .before .fits .n))))
 
 pub digit-count-spec : {M : Type 1} → statement M
-digit-count-spec = tie.close (tie.spec (λ c κs. search needs) returns few-digits-requires-2 add-result returns-2)
+digit-count-spec = tie.close (tie.spec (λ c κs. search needs) returns (λ c κs. search needs) add-result returns-2)

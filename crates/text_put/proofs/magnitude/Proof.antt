@@ -1,10 +1,10 @@
--- `text_put::magnitude` meets its contract. By the sign.
+-- `magnitude` meets its contract. By the sign.
 use Rattle.meaning_numbers.proofs.Prelude.{pos, _+ℤ_, _-ℤ_, w64, toZ, ofZ, z-add, z-sub, zmach, z-abs, z-fits}
 use Rattle.text_put.proofs.magnitude.Statement.{statement}
 use Rattle.text_put.proofs.magnitude.Tie as tie
 
 add-result : tie.Need-add-result
-add-result c = let x = c .before .args .x in let b = z-fits (c .before .fits .x) in let X = toZ w64 (ofZ w64 x) in let S = X +ℤ pos 1 in let s = toZ w64 (ofZ w64 S) in let D = pos 0 -ℤ s in let d = toZ w64 (ofZ w64 D) in omega (zmach, b, z-add X (pos 1))
+add-result c = let x = c .before .args .x in let b = z-fits (c .before .fits .x) in let X = toZ w64 (ofZ w64 x) in let S = X +ℤ pos 1 in let s = toZ w64 (ofZ w64 S) in omega (zmach, b, z-add X (pos 1))
 
 sub-result : tie.Need-sub-result
 sub-result c = let x = c .before .args .x in let b = z-fits (c .before .fits .x) in let X = toZ w64 (ofZ w64 x) in let S = X +ℤ pos 1 in let s = toZ w64 (ofZ w64 S) in let D = pos 0 -ℤ s in let d = toZ w64 (ofZ w64 D) in let f = add-result c in omega (zmach, b, z-add X (pos 1), z-sub (pos 0) s)

@@ -1,7 +1,7 @@
--- `text_put::put_word` meets its contract. The invariant: the first i bytes of the word stand in the buffer.
+-- `put_word` meets its contract. The invariant: the first i bytes of the word stand in the buffer.
 use Rattle.meaning_numbers.proofs.Prelude.{_-_, _≤_, arith, needs, length, take}
 use Rattle.text_put.specs.Put.{Put}
-use Rattle.text_put.proofs.{Put.put-none, Put.put-turn, Put.put-all, Put.put-length, put_word.Statement.statement}
+use Rattle.text_put.proofs.{Put.put-turn, Put.put-all, Put.put-length, put_word.Statement.statement}
 use Rattle.text_put.proofs.put_word.Tie as tie
 
 abbrev Inv-loop : tie.InvT-loop
@@ -12,7 +12,7 @@ abbrev μ-loop : tie.MeasureT-loop
 
 pub put-word-spec : {M : Type 1} → statement M
 put-word-spec =
-    tie.close (tie.spec Inv-loop μ-loop (λ c κs. search needs) (λ c. (put-none (c .before .before .before .args .buf .now) (c .before .before .before .args .at) _ (c .capped .ensures), omega arith))
+    tie.close (tie.spec Inv-loop μ-loop (λ c κs. search needs) (λ c. (search needs, omega arith))
     (λ c. omega arith) (λ c κs. search needs) (λ c. omega arith) (λ c. omega arith)
     (λ c. let l = c .before .before .before .before .before .before in (put-turn (l .before .before .before .before .args .word .now) (l .loop .i) (c .before .before .before .before .before .loop-test .taken) (l .loop .inv .0) (c .before .before .put-byte .ensures), omega arith))
-    (λ c. put-length (c .before .loop .inv .0)) (λ c. put-all (c .before .before .before .before .before .args .word .now) (c .before .loop .i) (omega arith) (c .before .loop .inv .0)))
+    (λ c. put-length (c .before .loop .inv .0)) (λ c. put-all _ (c .before .loop .i) (omega arith) (c .before .loop .inv .0)))

@@ -1,10 +1,7 @@
--- `text_put::write_i32` meets its contract. A number of 32 bits is read as itself.
+-- `write_i32` meets its contract. A number of 32 bits is read as itself.
 use Rattle.meaning_numbers.proofs.Prelude.{_≡_, w32, w64, toZ, ofZ, toZ-ofZ, needs}
 use Rattle.text_put.proofs.{Digits.sfits-wide, write_i32.Statement.statement}
 use Rattle.text_put.proofs.write_i32.Tie as tie
-
-cast-write-number : tie.Need-cast-write-number
-cast-write-number c = let s = c .before .before in rw (toZ-ofZ w32 (s .args .x) (s .fits .x)) (sfits-wide (s .fits .x))
 
 returns : tie.Need-returns
 returns c =
@@ -14,4 +11,4 @@ returns c =
     rw e at (c .before .before .write-number .ensures)
 
 pub write-i32-spec : {M : Type 1} → statement M
-write-i32-spec = tie.close (tie.spec cast-write-number (λ c κs. search needs) (λ c. search needs) returns)
+write-i32-spec = tie.close (tie.spec (λ c. let s = c .before .before in rw (toZ-ofZ w32 (s .args .x) (s .fits .x)) (sfits-wide (s .fits .x))) (λ c κs. search needs) (λ c. search needs) returns)

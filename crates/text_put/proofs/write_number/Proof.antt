@@ -1,4 +1,4 @@
--- `text_put::write_number` meets its contract. By the sign: a minus and the digits, or the digits.
+-- `write_number` meets its contract. By the sign: a minus and the digits, or the digits.
 use Rattle.meaning_numbers.proofs.Prelude.{_≡_, pos, natAbs, _≤ℤ_, _<ℤ_, w64, toZ, ofZ, zmach, z-abs, needs}
 use Rattle.text_put.proofs.{Digits.spell-minus, Digits.spell-plus, Put.put-then, write_number.Statement.statement}
 use Rattle.text_put.proofs.write_number.Tie as tie

@@ -1,12 +1,12 @@
--- `text_put::write_u32` meets its contract. An unsigned number of 32 bits is read as itself.
-use Rattle.meaning_numbers.proofs.Prelude.{_≡_, sym, arith, pos, w64, toZ, toZ-pos, needs}
+-- `write_u32` meets its contract. An unsigned number of 32 bits is read as itself.
+use Rattle.meaning_numbers.proofs.Prelude.{sym, arith, w64, toZ-pos, needs}
 use Rattle.text_put.proofs.write_u32.Statement.{statement}
 use Rattle.text_put.proofs.write_u32.Tie as tie
 
 returns : tie.Need-returns
 returns c =
     let s = c .before .before .before .before .before in
-    let e : toZ w64 (s .args .x) ≡ pos (s .args .x) = toZ-pos w64 (s .args .x) (omega arith) in
+    let e = toZ-pos w64 (s .args .x) (omega arith) in
     rw (sym e) (c .before .before .write-number .ensures)
 
 pub write-u32-spec : {M : Type 1} → statement M

@@ -1,4 +1,4 @@
--- `text_put::write_u64` meets its contract.
+-- `write_u64` meets its contract.
 use Rattle.meaning_numbers.proofs.Prelude.{needs}
 use Rattle.meaning_text.specs.Number.{spellℤ}
 use Rattle.text_put.proofs.write_u64.Statement.{statement}
@@ -6,7 +6,7 @@ use Rattle.text_put.proofs.write_u64.Tie as tie
 
 returns : tie.Need-returns
 unfolding spellℤ
-returns c = c .before .before .put-digits .ensures
+returns c = search needs
 
 pub write-u64-spec : {M : Type 1} → statement M
 write-u64-spec = tie.close (tie.spec (λ c κs. search needs) (λ c. search needs) returns)

@@ -1,4 +1,4 @@
--- `text_reader::line_at` meets its contract. The invariant: n is the line of place i, and at most i + 1. The measure is how far `at` is.
+-- `line_at` meets its contract. The invariant: n is the line of place i, and at most i + 1. The measure is how far `at` is.
 use Prim.Native.Nat.{suc, _-_, _≤_}
 use borrow.Author.Tests.{eq-eqb, ne-eqb}
 use lib.Seq.{take-all}

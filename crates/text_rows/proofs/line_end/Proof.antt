@@ -1,4 +1,4 @@
--- `text_rows::line_end` meets its contract.
+-- `line_end` meets its contract.
 use borrow.Author.Needs.{needs}
 use mathlib.Core.Path.{refl}
 use Rattle.text_rows.proofs.line_end.Statement.{statement}

@@ -1,4 +1,4 @@
--- `text_rows::make_row` meets its contract. On numbers that the machine reads back as they are.
+-- `make_row` meets its contract. On numbers that the machine reads back as they are.
 use borrow.Author.Needs.{needs}
 use mathlib.Core.Path.{refl}
 use mir.Syntax.{w32}
@@ -9,7 +9,7 @@ use Rattle.text_rows.proofs.make_row.Tie as tie
 
 returns : tie.Need-returns
 unfolding rowMade
-returns c = let a = c .before in let s = a .before .before .before .before .before in let l = toZ-ofZ w32 (s .args .t .row .low) (record { sfits = c .struct-told .given .0 .1 }) in let u = toZ-ofZ w32 (s .args .t .row .up) (record { sfits = c .struct-told .given .1 .0 .1 }) in rw (l, u, a .short2 .ensures, a .before .short .ensures) refl
+returns c = let a = c .before in let s = a .before .before .before .before .before in let l = toZ-ofZ w32 (s .args .t .row .low) (record { sfits = (search needs) }) in let u = toZ-ofZ w32 (s .args .t .row .up) (record { sfits = (search needs) }) in rw (l, u, a .short2 .ensures, a .before .short .ensures) refl
 
 pub make-row-spec : {M : Type 1} → statement M
 make-row-spec = tie.close (tie.spec (λ c κs. search needs) (λ c κs. search needs) returns)

@@ -1,4 +1,4 @@
--- `text_rows::row_from` meets its contract. The invariant: what is left of the text comes to the same line (`Going`). The measure is what is left of the text.
+-- `row_from` meets its contract. The invariant: what is left of the text comes to the same line (`Going`). The measure is what is left of the text.
 use Prim.Native.Nat.{_-_}
 use borrow.Author.Needs.{needs}
 use lib.ListN.{length}
@@ -24,8 +24,8 @@ tell-runs-requires c κs =
     let a = n .before .before in
     let low = n .low .given .0 .0 in
     let high = n .low .given .0 .1 .0 in
-    let e : toZ w64 (ofZ w64 low) ≡ low = toZ-ofZ w64 low (search (needs, c .before .known-told .given)) in
-    let f : toZ w64 (ofZ w64 high) ≡ high = toZ-ofZ w64 high (search (needs, c .before .known-told .given)) in
+    let e = toZ-ofZ w64 low (search (needs, c .before .known-told .given)) in
+    let f = toZ-ofZ w64 high (search (needs, c .before .known-told .given)) in
     let y = line-row _ _ _ _ (a .before .loop .inv) low high _ _ _ (rw (n .low .given .1) at (a .next-event .ensures)) (rw (e, f) at (c .tell-row .ensures)) in
     (y .fits, y .inside)
 
@@ -35,16 +35,16 @@ loop-again c =
     let a = n .before .before in
     let low = n .low .given .0 .0 in
     let high = n .low .given .0 .1 .0 in
-    let e : toZ w64 (ofZ w64 low) ≡ low = toZ-ofZ w64 low (search (needs, c .before .before .before .known-told .given)) in
-    let f : toZ w64 (ofZ w64 high) ≡ high = toZ-ofZ w64 high (search (needs, c .before .before .before .known-told .given)) in
+    let e = toZ-ofZ w64 low (search (needs, c .before .before .before .known-told .given)) in
+    let f = toZ-ofZ w64 high (search (needs, c .before .before .before .known-told .given)) in
     let y = line-row _ _ _ _ (a .before .loop .inv) low high _ _ _ (rw (n .low .given .1) at (a .next-event .ensures)) (rw (e, f) at (c .before .before .tell-row .ensures)) in
     line-runs _ _ _ _ (c .before .tell-runs .ensures) y
 
 pub row-from-spec : {M : Type 1} → statement M
 row-from-spec =
-    tie.close (tie.spec Inv-loop μ-loop (λ c. let s = c .before in going-start (s .args .text .now) (s .args .s) (s .args .t) (s .args .at) (s .pre .good) (s .pre .fits) (s .pre .inside))
+    tie.close (tie.spec Inv-loop μ-loop (λ c. let s = c .before in going-start _ _ _ _ (s .pre .good) (s .pre .fits) (s .pre .inside))
     (λ c κs. c .loop .inv .good) (λ c. search needs)
-    (λ c κs. let l = c .before .before .before .before in (l .loop .inv .fits .sound, omega (arith, l .loop .inv .fits .runs, l .loop .inv .inside, l .before .before .good))) tell-runs-requires
+    (λ c κs. let l = c .before .before .before .before in (search needs, omega (arith, l .loop .inv .fits .runs, l .loop .inv .inside, l .before .before .good))) tell-runs-requires
     (λ c. let n = c .before .before .before .before in let u = row-up ((rw (n .low .given .1) at (n .before .before .next-event .ensures)) .1) in let v = runs-up (c .before .tell-runs .ensures) (u .1) in omega (arith, u .0, u .1, v .0, v .1))
     loop-again (λ c. search needs)
     (λ c κs. let l = c .before .before .before .before in (l .loop .inv .fits .sound, omega (arith, l .loop .inv .fits .runs, l .loop .inv .inside, l .before .before .good)))

@@ -1,4 +1,4 @@
--- `text_write::write_end` meets its contract. The word is written.
+-- `write_end` meets its contract. The word is written.
 use borrow.Author.Needs.{needs}
 use Rattle.meaning_text.specs.Bytes.{bytes}
 use Rattle.text_write.specs.Write.{endText}
@@ -7,7 +7,7 @@ use Rattle.text_write.proofs.write_end.Tie as tie
 
 returns : tie.Need-returns
 unfolding endText bytes
-returns c = c .before .before .put-word .ensures
+returns c = search needs
 
 pub write-end-spec : {M : Type 1} → statement M
 write-end-spec =

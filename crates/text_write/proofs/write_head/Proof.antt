@@ -1,4 +1,4 @@
--- `text_write::write_head` meets its contract. Words and numbers in order.
+-- `write_head` meets its contract. Words and numbers in order.
 use borrow.Author.Needs.{needs}
 use Rattle.meaning_text.specs.Bytes.{bytes}
 use Rattle.text_put.proofs.Put.{put-then}

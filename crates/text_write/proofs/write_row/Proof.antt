@@ -1,4 +1,4 @@
--- `text_write::write_row` meets its contract. Words, numbers and runs in order, put together as they are spelled.
+-- `write_row` meets its contract. Words, numbers and runs in order, put together as they are spelled.
 use borrow.Author.Needs.{needs}
 use mathlib.Core.Path.{_≡_, sym}
 use mir.Syntax.{w32}
@@ -20,7 +20,7 @@ returns c =
     let w1 = p2 .before .before .before .before .before in
     let p1 = w1 .before .before .before .before .before in
     let s = p1 .before .before .before .before .before .before in
-    let low : toZ w32 (ofZ w32 (s .args .r .low)) ≡ s .args .r .low = toZ-ofZ w32 (s .args .r .low) (record { sfits = w1 .before .struct-told .given .0 .1 }) in
+    let low = toZ-ofZ w32 (s .args .r .low) (record { sfits = w1 .before .struct-told .given .0 .1 }) in
     let up : toZ w32 (ofZ w32 (s .args .r .up)) ≡ s .args .r .up = toZ-ofZ w32 (s .args .r .up) (record { sfits = w2 .before .struct-told2 .given .1 .0 .1 }) in
     rw (sym low, sym up) (
     put-then

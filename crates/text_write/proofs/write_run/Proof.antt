@@ -1,4 +1,4 @@
--- `text_write::write_run` meets its contract. Words and numbers in order, put together as they are spelled.
+-- `write_run` meets its contract. Words and numbers in order, put together as they are spelled.
 use borrow.Author.Needs.{needs}
 use Rattle.meaning_text.specs.{Bytes.bytes, Form.spell}
 use Rattle.text_put.proofs.Put.{put-then}

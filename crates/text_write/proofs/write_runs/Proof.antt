@@ -1,4 +1,4 @@
--- `text_write::write_runs` meets its contract. The invariant: the first i runs of the part stand in the buffer (`Runs`).
+-- `write_runs` meets its contract. The invariant: the first i runs of the part stand in the buffer (`Runs`).
 use Prim.Native.Nat.{_-_}
 use borrow.Author.Needs.{needs}
 use mathlib.Core.Path.{_∙_}
@@ -17,9 +17,9 @@ pub write-runs-spec : {M : Type 1} → statement M
 write-runs-spec =
     tie.close (tie.spec Inv-loop μ-loop (search needs) (search needs) (search needs)
     (λ c. runs-start _ _ _ _ _ _ _ _ _ (c .before .before .before .before .before .part-length .ensures) (put-stays (c .before .before .put-word .ensures)))
-    (λ c. omega (arith, c .before .before .loop .inv .room)) (λ c. omega arith) (λ c. omega (arith, c .before .before .before .loop .inv .room))
-    (λ c. omega (arith, c .before .before .before .loop .inv .room)) (λ c. omega arith)
-    (λ c. omega (arith, c .before .before .before .before .loop .inv .room)) (search needs) (λ c. omega arith) (λ c. omega arith)
+    (λ c. search needs) (λ c. omega arith) (λ c. search needs)
+    (λ c. search needs) (λ c. omega arith)
+    (λ c. search needs) (search needs) (λ c. omega arith) (λ c. omega arith)
     (λ c. runs-turn (c .before .before .before .before .before .before .before .loop .inv) (c .before .before .before .before .before .before .loop-test .taken) (c .before .before .write-run .ensures))
     (λ c. put-length (c .before .loop .inv .put) ∙ put-length (c .before .before .before .before .put-word .ensures))
     (λ c. put-then (c .before .before .before .before .put-word .ensures) (runs-end (c .before .loop .inv) (c .loop-test .left))))

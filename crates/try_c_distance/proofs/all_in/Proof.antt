@@ -1,4 +1,4 @@
--- `try_c_distance::all_in` meets its contract.
+-- `all_in` meets its contract.
 use Rattle.meaning_numbers.proofs.Prelude.{needs, sym, _∙_}
 use Rattle.meaning_curves.proofs.Values.{none-outside, outside-none}
 use Rattle.distance_match.proofs.AlikeLaws.{says-yes, says-no}

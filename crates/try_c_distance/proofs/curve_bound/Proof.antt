@@ -1,4 +1,4 @@
--- `try_c_distance::curve_bound` meets its contract: what `envelope_bound` requires was tested. The invariant: the numbers so far are written.
+-- `curve_bound` meets its contract: what `envelope_bound` requires was tested. The invariant: the numbers so far are written.
 use Rattle.meaning_numbers.proofs.Prelude.{needs, not-true, not-false, _≡_, refl, sym, _+_, _-_, _≤_, arith, length}
 use Rattle.meaning_curves.proofs.Values.{AllIn}
 use Rattle.try_c_distance.specs.{Fits.Fits, Outcome.Written, Told.BoundAt}
@@ -29,21 +29,21 @@ loop-holds c =
 
 envelope-bound-requires : tie.Need-envelope-bound-requires Inv-loop μ-loop
 envelope-bound-requires c κs =
-    let i = c .before .loop .inv in let a = i .0 in (omega (arith, a .1 .long), (sym (a .0), (a .1 .short, (a .1 .inside, a .2, a .3))))
+    let i = c .before .loop .inv in let a = i .0 in (search needs, (sym (a .0), (a .1 .short, (a .1 .inside, a .2, a .3))))
 
 loop-again : tie.Need-loop-again Inv-loop μ-loop
 loop-again c =
     let i = c .before .before .loop .inv in
-    (i .0, omega arith, omega arith, omega arith, written-more _ (i .4) (omega (arith, i .0 .1 .enough)) (c .envelope-bound .ensures))
+    (i .0, omega arith, omega arith, omega arith, written-more _ (i .4) (omega arith) (c .envelope-bound .ensures))
 
 returns-5 : tie.Need-returns-5 Inv-loop μ-loop
-returns-5 c = let i = c .before .loop .inv in outcome-yes (i .0) (omega (arith, i .0 .1 .long)) (written-all (omega (arith, i .0 .1 .long)) (i .4))
+returns-5 c = let i = c .before .loop .inv in outcome-yes (i .0) (omega arith) (written-all (omega arith) (i .4))
 
 pub curve-bound-spec : {M : Type 1} → statement M
 curve-bound-spec =
     tie.close (tie.spec Inv-loop μ-loop (λ c. outcome-no (λ a. c .if1 .taken (a .0)) refl refl) (λ c κs. search needs)
     (λ c. outcome-no (λ a. c .before .fits2 .ensures .no (not-true _ (c .if2 .taken)) (a .1)) refl refl) (λ c κs. search needs)
     (λ c. outcome-no (λ a. c .before .all-in .ensures .no (not-true _ (c .if3 .taken)) (a .2)) refl refl) (λ c κs. search needs)
-    (λ c. outcome-no (λ a. c .before .all-in2 .ensures .no (not-true _ (c .if4 .taken)) (a .3)) refl refl) loop-holds (λ c. omega (arith, c .loop .inv .0 .1 .long)) envelope-bound-requires
-    (λ c. omega arith) (λ c. let i = c .before .before .loop .inv in omega (arith, i .0 .1 .enough, i .4 .long)) (λ c. omega arith) (λ c. omega arith) loop-again (λ c. c .before .loop .inv .4 .long)
+    (λ c. outcome-no (λ a. c .before .all-in2 .ensures .no (not-true _ (c .if4 .taken)) (a .3)) refl refl) loop-holds (λ c. search needs) envelope-bound-requires
+    (λ c. omega arith) (λ c. search needs) (λ c. omega arith) (λ c. omega arith) loop-again (λ c. search needs)
     returns-5)

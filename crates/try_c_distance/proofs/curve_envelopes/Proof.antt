@@ -1,4 +1,4 @@
--- `try_c_distance::curve_envelopes` meets its contract.
+-- `curve_envelopes` meets its contract.
 use Rattle.meaning_numbers.proofs.Prelude.{needs, not-true, not-false, refl, arith}
 use Rattle.try_c_distance.proofs.{Laws.outcome-yes, Laws.outcome-no, curve_envelopes.Statement.statement}
 use Rattle.try_c_distance.proofs.curve_envelopes.Tie as tie
@@ -8,7 +8,7 @@ returns-4 c =
     let upper = c .before in
     let lower = upper .before .before .before in
     let e = lower .before .before in
-    outcome-yes (omega (arith, e .before .before .before .if1 .left), omega (arith, e .before .before .if2 .left), e .before .all-in .ensures .yes (not-false _ (e .if3 .left))) refl (record { below = lower .lower-envelope .ensures; above = upper .upper-envelope .ensures })
+    outcome-yes (search needs, search needs, e .before .all-in .ensures .yes (not-false _ (e .if3 .left))) refl (record { below = search needs; above = search needs })
 
 pub curve-envelopes-spec : {M : Type 1} → statement M
 curve-envelopes-spec =

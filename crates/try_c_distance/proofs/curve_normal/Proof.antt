@@ -1,4 +1,4 @@
--- `try_c_distance::curve_normal` meets its contract. The invariant: the spreads so far are written, and room holds the last normalised values.
+-- `curve_normal` meets its contract. The invariant: the spreads so far are written, and room holds the last normalised values.
 use Rattle.meaning_numbers.proofs.Prelude.{needs, not-true, not-false, _≡_, refl, _∙_, _+_, _-_, _≤_, arith, length}
 use Rattle.values.specs.Sums.{AreSums}
 use Rattle.try_c_distance.specs.{Fits.Fits, Outcome.Written, Told.LastNormal, Told.SpreadAt}
@@ -25,17 +25,14 @@ loop-holds c = (
   written-none _,
 )
 
-spread-of-requires : tie.Need-spread-of-requires Inv-loop μ-loop
-spread-of-requires c κs = let i = c .before .loop .inv in (i .0 .short, (i .0 .inside, i .5 (omega arith)))
-
 normal-values-requires : tie.Need-normal-values-requires Inv-loop μ-loop
 normal-values-requires c κs =
     let i = c .before .before .before .loop .inv in
-    rw (i .4) (omega (arith, i .0 .long), (i .0 .short, (i .0 .inside, (i .5 (omega arith), c .before .spread-of .ensures))))
+    rw (i .4) (search needs, (i .0 .short, (i .0 .inside, (i .5 (omega arith), search needs))))
 
 sums-after-requires : tie.Need-sums-after-requires Inv-loop μ-loop
 sums-after-requires c κs =
-    let i = c .before .before .before .before .before .loop .inv in (omega (arith, i .0 .long), (i .0 .short, (i .0 .inside, i .5 (omega arith))))
+    let i = c .before .before .before .before .before .loop .inv in (search needs, (i .0 .short, (i .0 .inside, i .5 (omega arith))))
 
 loop-again : tie.Need-loop-again Inv-loop μ-loop
 loop-again c =
@@ -46,19 +43,19 @@ loop-again c =
       omega arith,
       omega arith,
       v .kept .1 .1 .1 .1 .0 ∙ i .4,
-      λ l. c .sums-after .ensures (omega (arith, i .0 .long)),
+      λ l. c .sums-after .ensures (omega arith),
       normal-next (i .6) (rw (i .4) at (v .ensures)),
-      written-more _ (i .7) (omega (arith, i .0 .enough)) (c .before .before .before .before .spread-of .ensures),
+      written-more _ (i .7) (omega arith) (c .before .before .before .before .spread-of .ensures),
     )
 
 returns-2 : tie.Need-returns-2 Inv-loop μ-loop
 returns-2 c =
     let i = c .before .loop .inv in
-    outcome-yes (i .0) (omega (arith, i .0 .long)) (normal-all (omega (arith, i .0 .long)) (i .6), written-all (omega (arith, i .0 .long)) (i .7))
+    outcome-yes (i .0) (omega arith) (normal-all (omega arith) (i .6), written-all (omega arith) (i .7))
 
 pub curve-normal-spec : {M : Type 1} → statement M
 curve-normal-spec =
     tie.close (tie.spec Inv-loop μ-loop (λ c κs. search needs) (λ c. outcome-no (c .before .fits2 .ensures .no (not-true _ (c .if1 .taken))) refl (refl, refl))
-    (λ c κs. let f = c .before .fits2 .ensures .yes (not-false _ (c .if1 .left)) in (omega (arith, f .long), (f .short, f .inside))) loop-holds (λ c. omega (arith, c .loop .inv .0 .long))
-    spread-of-requires normal-values-requires (λ c. omega arith) (λ c. let i = c .before .before .before .before .before .loop .inv in omega (arith, i .0 .enough, i .7 .long)) sums-after-requires
-    (λ c. omega arith) (λ c. omega arith) loop-again (λ c. c .before .loop .inv .4) (λ c. c .before .loop .inv .7 .long) returns-2)
+    (λ c κs. let f = c .before .fits2 .ensures .yes (not-false _ (c .if1 .left)) in (search needs, (f .short, f .inside))) loop-holds (λ c. search needs)
+    (λ c κs. let i = c .before .loop .inv in (i .0 .short, (i .0 .inside, i .5 (omega arith)))) normal-values-requires (λ c. omega arith) (λ c. search needs) sums-after-requires
+    (λ c. omega arith) (λ c. omega arith) loop-again (λ c. search needs) (λ c. search needs) returns-2)

@@ -1,4 +1,4 @@
--- `try_c_distance::curve_straight` meets its contract: what `straight` requires was tested. The invariant: the numbers so far are written.
+-- `curve_straight` meets its contract: what `straight` requires was tested. The invariant: the numbers so far are written.
 use Rattle.meaning_numbers.proofs.Prelude.{needs, not-true, not-false, _≡_, refl, _+_, _-_, _≤_, arith, length}
 use Rattle.meaning_curves.proofs.Values.{AllIn}
 use Rattle.try_c_distance.specs.{Fits.Fits, Outcome.Written, Told.StraightAt}
@@ -21,19 +21,16 @@ loop-holds c = (
   written-none _,
 )
 
-straight-requires : tie.Need-straight-requires Inv-loop μ-loop
-straight-requires c κs = let i = c .before .loop .inv in (omega (arith, i .0 .long), (i .0 .short, (i .0 .inside, i .1)))
-
 loop-again : tie.Need-loop-again Inv-loop μ-loop
 loop-again c =
     let i = c .before .before .loop .inv in
-    (i .0, i .1, omega arith, omega arith, omega arith, written-more _ (i .5) (omega (arith, i .0 .enough)) (c .straight .ensures))
+    (i .0, i .1, omega arith, omega arith, omega arith, written-more _ (i .5) (omega arith) (c .straight .ensures))
 
 returns-3 : tie.Need-returns-3 Inv-loop μ-loop
-returns-3 c = let i = c .before .loop .inv in outcome-yes (i .0, i .1) (omega (arith, i .0 .long)) (written-all (omega (arith, i .0 .long)) (i .5))
+returns-3 c = let i = c .before .loop .inv in outcome-yes (i .0, i .1) (omega arith) (written-all (omega arith) (i .5))
 
 pub curve-straight-spec : {M : Type 1} → statement M
 curve-straight-spec =
     tie.close (tie.spec Inv-loop μ-loop (λ c κs. search needs) (λ c. outcome-no (λ a. c .before .fits2 .ensures .no (not-true _ (c .if1 .taken)) (a .0)) refl refl) (λ c κs. search needs)
-    (λ c. outcome-no (λ a. c .before .all-in .ensures .no (not-true _ (c .if2 .taken)) (a .1)) refl refl) loop-holds (λ c. omega (arith, c .loop .inv .0 .long)) straight-requires (λ c. omega arith)
-    (λ c. let i = c .before .before .loop .inv in omega (arith, i .0 .enough, i .5 .long)) (λ c. omega arith) (λ c. omega arith) loop-again (λ c. c .before .loop .inv .5 .long) returns-3)
+    (λ c. outcome-no (λ a. c .before .all-in .ensures .no (not-true _ (c .if2 .taken)) (a .1)) refl refl) loop-holds (λ c. search needs) (λ c κs. search needs) (λ c. omega arith)
+    (λ c. search needs) (λ c. omega arith) (λ c. omega arith) loop-again (λ c. search needs) returns-3)

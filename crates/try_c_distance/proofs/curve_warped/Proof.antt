@@ -1,5 +1,5 @@
--- `try_c_distance::curve_warped` meets its contract: what its callees require was tested.
-use Rattle.meaning_numbers.proofs.Prelude.{needs, not-true, not-false, refl, arith}
+-- `curve_warped` meets its contract: what its callees require was tested.
+use Rattle.meaning_numbers.proofs.Prelude.{needs, not-true, not-false, refl}
 use Rattle.try_c_distance.proofs.{Laws.outcome-yes, Laws.outcome-no, curve_warped.Statement.statement}
 use Rattle.try_c_distance.proofs.curve_warped.Tie as tie
 
@@ -9,7 +9,7 @@ each-warped-requires c κs =
     let lower = upper .before .before .before in
     let e = lower .before .before in
     let f = e .before .before .before .fits2 .ensures .yes (not-false _ (e .before .before .if3 .left)) in
-    (f, (e .before .all-in .ensures .yes (not-false _ (e .if4 .left)), record { below = lower .lower-envelope .ensures; above = upper .upper-envelope .ensures }))
+    (f, (e .before .all-in .ensures .yes (not-false _ (e .if4 .left)), search needs))
 
 returns-5 : tie.Need-returns-5
 returns-5 c =
@@ -19,9 +19,9 @@ returns-5 c =
     let f = e .before .before in
     let w = c .before .before .each-warped .ensures in
     outcome-yes
-    (omega (arith, f .before .before .before .if1 .left), omega (arith, f .before .before .if2 .left), f .before .fits2 .ensures .yes (not-false _ (f .if3 .left)), e .before .all-in .ensures .yes (not-false _ (e .if4 .left)))
+    (search needs, search needs, f .before .fits2 .ensures .yes (not-false _ (f .if3 .left)), e .before .all-in .ensures .yes (not-false _ (e .if4 .left)))
     (w .0)
-    (record { below = lower .lower-envelope .ensures; above = upper .upper-envelope .ensures }, w .1)
+    (search needs, w .1)
 
 pub curve-warped-spec : {M : Type 1} → statement M
 curve-warped-spec =

@@ -1,4 +1,4 @@
--- `try_c_distance::each_warped` meets its contract. The invariant: the numbers so far are written.
+-- `each_warped` meets its contract. The invariant: the numbers so far are written.
 use Rattle.meaning_numbers.proofs.Prelude.{_≡_, refl, _∙_, sym, _+_, _-_, _≤_, arith, length}
 use Rattle.meaning_curves.proofs.Values.{AllIn}
 use Rattle.distance_envelope.specs.Envelope.{Envelopes}
@@ -18,19 +18,16 @@ loop-holds c = let p = c .before .pre in (p .0, p .1 .0, omega arith, omega arit
 
 warped-in-requires : tie.Need-warped-in-requires Inv-loop μ-loop
 warped-in-requires c κs =
-    let i = c .before .before .loop .inv in (omega (arith, i .0 .long), ((i .0 .some, i .0 .short, omega (arith, i .0 .short, i .6)), ((i .0 .inside, i .1), i .7)))
+    let i = c .before .before .loop .inv in (omega arith, ((i .0 .some, i .0 .short, omega arith), ((i .0 .inside, i .1), i .7)))
 
 loop-again : tie.Need-loop-again Inv-loop μ-loop
 loop-again c =
     let i = c .before .before .before .before .loop .inv in
     let e = c .before .warped-in in
-    (i .0, i .1, omega arith, omega arith, omega arith, written-more _ (i .5) (omega (arith, i .0 .enough)) (e .ensures), e .kept .1 .1 .1 .1 .1 .1 .1 .0 ∙ i .6, i .7)
-
-returns : tie.Need-returns Inv-loop μ-loop
-returns c = let i = c .before .loop .inv in (omega (arith, i .0 .long), written-all (omega (arith, i .0 .long)) (i .5))
+    (i .0, i .1, omega arith, omega arith, omega arith, written-more _ (i .5) (omega arith) (e .ensures), e .kept .1 .1 .1 .1 .1 .1 .1 .0 ∙ i .6, i .7)
 
 pub each-warped-spec : {M : Type 1} → statement M
 each-warped-spec =
-    tie.close (tie.spec Inv-loop μ-loop loop-holds (λ c. omega (arith, c .loop .inv .0 .long)) (λ c. sym (c .before .before .loop .inv .6)) warped-in-requires (λ c. omega arith)
-    (λ c. let i = c .before .before .before .before .loop .inv in omega (arith, i .0 .enough, i .5 .long)) (λ c. omega arith) (λ c. omega arith) loop-again (λ c. c .before .loop .inv .5 .long)
-    returns)
+    tie.close (tie.spec Inv-loop μ-loop loop-holds (λ c. omega arith) (λ c. sym (c .before .before .loop .inv .6)) warped-in-requires (λ c. omega arith)
+    (λ c. let i = c .before .before .before .before .loop .inv in omega arith) (λ c. omega arith) (λ c. omega arith) loop-again (λ c. c .before .loop .inv .5 .long)
+    (λ c. let i = c .before .loop .inv in (omega arith, written-all (omega arith) (i .5))))

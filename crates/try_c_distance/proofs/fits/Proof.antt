@@ -1,4 +1,4 @@
--- `try_c_distance::fits` meets its contract.
+-- `fits` meets its contract.
 use Rattle.meaning_numbers.proofs.Prelude.{needs, arith}
 use Rattle.distance_match.proofs.AlikeLaws.{says-no}
 use Rattle.try_c_distance.proofs.fits.Statement.{statement}
@@ -13,4 +13,4 @@ returns-5 c = let a = c .all-in .ensures in record {
 pub fits-spec : {M : Type 1} → statement M
 fits-spec =
     tie.close (tie.spec (λ c. says-no (λ f. omega (arith, f .some))) (λ c. says-no (λ f. omega (arith, f .short))) (λ c. says-no (λ f. omega (arith, f .long))) (λ c. search needs)
-    (λ c. says-no (λ f. omega (arith, f .enough))) (λ c κs. search needs) returns-5)
+    (λ c. says-no (λ f. omega arith)) (λ c κs. search needs) returns-5)

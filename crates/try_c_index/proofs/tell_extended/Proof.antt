@@ -1,4 +1,4 @@
--- `try_c_index::tell_extended` meets its contract, case by case.
+-- `tell_extended` meets its contract, case by case.
 use borrow.Author.Needs.{needs}
 use mathlib.Core.Path.{sym, ap, _∙_}
 use Rattle.try_c_index.specs.Told.{toldExtended}

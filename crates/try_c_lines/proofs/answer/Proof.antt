@@ -1,4 +1,4 @@
--- `try_c_lines::answer` meets its contract.
+-- `answer` meets its contract.
 use borrow.Author.Needs.{needs}
 use Rattle.try_c_lines.proofs.answer.Statement.{statement}
 use Rattle.try_c_lines.proofs.answer.Tie as tie

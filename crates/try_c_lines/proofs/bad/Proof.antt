@@ -1,4 +1,4 @@
--- `try_c_lines::bad` meets its contract.
+-- `bad` meets its contract.
 use borrow.Author.Needs.{needs}
 use mathlib.Core.Path.{ap}
 use Rattle.try_c_lines.specs.Told.{badLine}

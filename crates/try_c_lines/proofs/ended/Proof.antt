@@ -1,4 +1,4 @@
--- `try_c_lines::ended` meets its contract.
+-- `ended` meets its contract.
 use borrow.Author.Needs.{needs}
 use Rattle.try_c_lines.proofs.ended.Statement.{statement}
 use Rattle.try_c_lines.proofs.ended.Tie as tie

@@ -1,4 +1,4 @@
--- `try_c_lines::lines_read` meets its contract. The invariant: the text has been read up to a place inside it, and what is kept is what it comes to.
+-- `lines_read` meets its contract. The invariant: the text has been read up to a place inside it, and what is kept is what it comes to.
 use Prim.Native.Nat.{_-_}
 use borrow.Author.Needs.{needs}
 use lib.ListN.{length, take}
@@ -16,51 +16,21 @@ Inv-loop text program sizes numbers₀ series₀ query₀ p₀ k₀ numbers seri
 abbrev μ-loop : tie.MeasureT-loop
 μ-loop text program sizes numbers₀ series₀ query₀ p₀ k₀ numbers series query p k = length sizes - k
 
-loop-holds : tie.Need-loop-holds Inv-loop μ-loop
-loop-holds c = let b = begins _ _ _ _ _ (c .begin .ensures) in (b .0, b .1, refl, refl, refl)
-
-piece-requires : tie.Need-piece-requires Inv-loop μ-loop
-piece-requires c κs = c .before .before .before .before .before .loop .inv .0
-
 add-k : tie.Need-add-k Inv-loop μ-loop
 add-k c = omega (arith, c .before .before .before .before .before .before .before .before .before .before .before .loop-test .taken, c .before .before .before .before .before .before .before .before .before .before .before .before .before .before .before .before .good)
-
-loop-less : tie.Need-loop-less Inv-loop μ-loop
-loop-less c = omega (arith, c .before .before .before .before .before .before .before .before .before .before .before .loop-test .taken)
 
 loop-again : tie.Need-loop-again Inv-loop μ-loop
 loop-again c =
     let e = c .before .before .before .before .before .before .piece .ensures in
     let i = c .before .before .before .before .before .before .before .before .before .before .before .before .loop .inv in
-    let g = goes-on (i .1) e (omega (arith, i .0 .inside)) (c .before .n .given .1) (omega arith) in
+    let g = goes-on (i .1) e (omega arith) (c .before .n .given .1) (omega arith) in
     (g .0, g .1, e .alone ∙ i .2, e .first ∙ i .3, e .second ∙ i .4)
-
-same-length : tie.Need-same-length Inv-loop μ-loop
-same-length c = c .before .before .before .before .before .before .before .piece .ensures .alone ∙ c .before .before .before .before .before .before .before .before .before .before .before .before .before .loop .inv .2
-
-same-length-2 : tie.Need-same-length-2 Inv-loop μ-loop
-same-length-2 c = c .before .before .before .before .before .before .before .piece .ensures .first ∙ c .before .before .before .before .before .before .before .before .before .before .before .before .before .loop .inv .3
-
-same-length-3 : tie.Need-same-length-3 Inv-loop μ-loop
-same-length-3 c = c .before .before .before .before .before .before .before .piece .ensures .second ∙ c .before .before .before .before .before .before .before .before .before .before .before .before .before .loop .inv .4
 
 returns : tie.Need-returns Inv-loop μ-loop
 returns c =
     let e = c .before .before .before .before .before .before .before in
     let i = e .before .before .before .before .before .before .loop .inv in
     rw (c .bad .ensures) (told _ _ (Feeding.Failed _) (fails (i .1) (e .piece .ensures) (omega (arith, i .0 .inside)) (c .before .before .place .given .1)))
-
-piece-requires-2 : tie.Need-piece-requires-2 Inv-loop μ-loop
-piece-requires-2 c κs = c .before .before .before .before .loop .inv .0
-
-same-length-4 : tie.Need-same-length-4 Inv-loop μ-loop
-same-length-4 c = c .before .before .before .before .piece2 .ensures .alone ∙ c .before .before .before .before .before .before .before .before .before .loop .inv .2
-
-same-length-5 : tie.Need-same-length-5 Inv-loop μ-loop
-same-length-5 c = c .before .before .before .before .piece2 .ensures .first ∙ c .before .before .before .before .before .before .before .before .before .loop .inv .3
-
-same-length-6 : tie.Need-same-length-6 Inv-loop μ-loop
-same-length-6 c = c .before .before .before .before .piece2 .ensures .second ∙ c .before .before .before .before .before .before .before .before .before .loop .inv .4
 
 returns-2 : tie.Need-returns-2 Inv-loop μ-loop
 returns-2 c =
@@ -70,5 +40,5 @@ returns-2 c =
 
 pub lines-read-spec : {M : Type 1} → statement M
 lines-read-spec =
-    tie.close (tie.spec Inv-loop μ-loop (λ c κs. search needs) loop-holds (λ c. omega arith) (λ c. omega arith) piece-requires (λ c. search needs) add-k loop-less loop-again (λ c. search needs)
-    (λ c κs. search needs) same-length same-length-2 same-length-3 returns piece-requires-2 (λ c κs. search needs) same-length-4 same-length-5 same-length-6 returns-2)
+    tie.close (tie.spec Inv-loop μ-loop (λ c κs. search needs) (λ c. let b = begins _ _ _ _ _ (c .begin .ensures) in (b .0, b .1, refl, refl, refl)) (λ c. omega arith) (λ c. omega arith) (λ c κs. search needs) (λ c. search needs) add-k (λ c. search needs) loop-again (λ c. search needs)
+    (λ c κs. search needs) (λ c. search needs) (λ c. search needs) (λ c. search needs) returns (λ c κs. search needs) (λ c κs. search needs) (λ c. search needs) (λ c. search needs) (λ c. search needs) returns-2)

@@ -1,4 +1,4 @@
--- `try_c_lines::piece` meets its contract: the piece ends inside the text.
+-- `piece` meets its contract: the piece ends inside the text.
 use Prim.Native.Nat.{ℕ}
 use borrow.Author.Needs.{needs}
 use lib.ListN.{length-take, length-drop}

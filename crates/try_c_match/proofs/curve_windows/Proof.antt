@@ -1,4 +1,4 @@
--- `try_c_match::curve_windows` meets its contract. The invariant: the sums and rows so far are written, and the next sum is at hand.
+-- `curve_windows` meets its contract. The invariant: the sums and rows so far are written, and the next sum is at hand.
 use Rattle.meaning_numbers.proofs.Prelude.{needs, not-true, not-false, _≡_, refl, ap, _∙_, _+_, _-_, _≤_, arith, pos, length, w32, toZ, toZ-ofZ}
 use Rattle.meaning_curves.specs.Curve.{windowSum}
 use Rattle.meaning_rows.specs.Range.{rowNumber}
@@ -21,16 +21,16 @@ loop-holds c = (
   (omega arith, omega arith, c .before .before .fits2 .ensures .yes (not-false _ (c .before .if3 .left))),
   omega arith,
   omega arith,
-  λ l. toZ-ofZ w32 (c .window-sum .result) (record { sfits = c .window-sum .ok }) ∙ c .window-sum .ensures,
+  λ l. toZ-ofZ w32 _ (record { sfits = search needs }) ∙ c .window-sum .ensures,
   written-none _,
   written-none _,
 )
 
 window-sum-requires : tie.Need-window-sum-requires Inv-loop μ-loop
-window-sum-requires c κs = let f = c .before .fits2 .ensures .yes (not-false _ (c .if3 .left)) in (omega (arith, f .long), (omega arith, f .inside))
+window-sum-requires c κs = let f = c .before .fits2 .ensures .yes (not-false _ (c .if3 .left)) in (search needs, (omega arith, f .inside))
 
 window-after-requires : tie.Need-window-after-requires Inv-loop μ-loop
-window-after-requires c κs = let i = c .before .before .loop .inv in (omega (arith, i .0 .2 .long), (i .0 .0, (i .0 .2 .inside, i .3 (omega arith))))
+window-after-requires c κs = let i = c .before .before .loop .inv in (search needs, (i .0 .0, (i .0 .2 .inside, i .3 (omega arith))))
 
 loop-again : tie.Need-loop-again Inv-loop μ-loop
 loop-again c =
@@ -39,21 +39,21 @@ loop-again c =
       i .0,
       omega arith,
       omega arith,
-      λ l. toZ-ofZ w32 (c .window-after .result) (record { sfits = c .window-after .ok }) ∙ c .window-after .ensures (omega (arith, i .0 .2 .long)),
-      written-more _ (i .4) (omega (arith, i .0 .2 .enough)) (i .3 (omega arith)),
-      written-more _ (i .5) (omega (arith, i .0 .1, i .0 .2 .enough))
-          (toZ-ofZ w32 (k .result) (record { sfits = k .ok }) ∙ k .ensures ∙ ap (rowNumber _) (i .3 (omega arith))),
+      λ l. toZ-ofZ w32 _ (record { sfits = search needs }) ∙ c .window-after .ensures (omega arith),
+      written-more _ (i .4) (omega arith) (i .3 (omega arith)),
+      written-more _ (i .5) (omega arith)
+          (toZ-ofZ w32 _ (record { sfits = k .ok }) ∙ k .ensures ∙ ap (rowNumber _) (i .3 (omega arith))),
     )
 
 returns-4 : tie.Need-returns-4 Inv-loop μ-loop
 returns-4 c =
     let i = c .before .loop .inv in
-    outcome-yes (i .0) (omega (arith, i .0 .2 .long)) (written-all (omega (arith, i .0 .2 .long)) (i .4), written-all (omega (arith, i .0 .2 .long)) (i .5))
+    outcome-yes (i .0) (omega arith) (written-all (omega arith) (i .4), written-all (omega arith) (i .5))
 
 pub curve-windows-spec : {M : Type 1} → statement M
 curve-windows-spec =
-    tie.close (tie.spec Inv-loop μ-loop (λ c. outcome-no (λ a. omega (arith, a .0, c .if1 .taken)) refl (refl, refl)) (λ c. outcome-no (λ a. c .if2 .taken (a .1)) refl (refl, refl))
+    tie.close (tie.spec Inv-loop μ-loop (λ c. outcome-no (λ a. omega (arith, a .0)) refl (refl, refl)) (λ c. outcome-no (λ a. c .if2 .taken (a .1)) refl (refl, refl))
     (λ c κs. search needs) (λ c. outcome-no (λ a. c .before .fits2 .ensures .no (not-true _ (c .if3 .taken)) (a .2)) refl (refl, refl)) window-sum-requires loop-holds
-    (λ c. omega (arith, c .loop .inv .0 .2 .long)) (λ c. omega arith) (λ c. let i = c .before .loop .inv in omega (arith, i .0 .2 .enough, i .4 .long)) (λ c κs. search needs) (λ c. omega arith)
-    (λ c. let i = c .before .before .loop .inv in omega (arith, i .0 .2 .enough, i .0 .1, i .5 .long)) window-after-requires (λ c. omega arith) (λ c. omega arith) loop-again
-    (λ c. c .before .loop .inv .4 .long) (λ c. c .before .loop .inv .5 .long) returns-4)
+    (λ c. search needs) (λ c. omega arith) (λ c. search needs) (λ c κs. search needs) (λ c. omega arith)
+    (λ c. search needs) window-after-requires (λ c. omega arith) (λ c. omega arith) loop-again
+    (λ c. search needs) (λ c. search needs) returns-4)

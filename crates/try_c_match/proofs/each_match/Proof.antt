@@ -1,10 +1,10 @@
--- `try_c_match::each_match` meets its contract. The invariant: the answers so far are written.
+-- `each_match` meets its contract. The invariant: the answers so far are written.
 use Rattle.meaning_numbers.proofs.Prelude.{needs, _≡_, ap, _∙_, _+_, _-_, _≤_, _<_, arith, length}
 use Rattle.meaning_curves.proofs.Values.{AllIn}
 use Rattle.values.specs.Sums.{AreSums}
 use Rattle.distance_query.specs.Ready.{Ready}
 use Rattle.try_c_distance.specs.{Fits.Fits, Outcome.Written}
-use Rattle.try_c_distance.proofs.Laws.{written-none, written-more, written-all}
+use Rattle.try_c_distance.proofs.Laws.{written-more, written-all}
 use Rattle.try_c_match.specs.Told.{MatchAt, wrapped}
 use Rattle.try_c_match.proofs.{Matches.told-wrapped, each_match.Statement.statement}
 use Rattle.try_c_match.proofs.each_match.Tie as tie
@@ -17,59 +17,36 @@ Inv-loop kind s q query curve low high l room₀ row₀ out₀ n m t₀ at₀ ro
 abbrev μ-loop : tie.MeasureT-loop
 μ-loop kind s q query curve low high l room₀ row₀ out₀ n m t₀ at₀ room row out t at = n - m + 1 - at
 
-sums-at-requires : tie.Need-sums-at-requires Inv-loop μ-loop
-sums-at-requires c κs = let f = c .before .before .pre .0 in (omega (arith, f .long), (f .short, f .inside))
-
-loop-holds : tie.Need-loop-holds Inv-loop μ-loop
-loop-holds c =
-    let p = c .before .before .before .pre in (
-      p .0,
-      omega arith,
-      omega arith,
-      omega arith,
-      (p .1 .0 .0, omega arith),
-      (p .1 .0 .1, omega arith),
-      written-none _,
-      λ l. c .sums-at .ensures,
-      p .1 .1 .0,
-      p .1 .1 .1,
-      omega arith,
-    )
-
 match-at-requires : tie.Need-match-at-requires Inv-loop μ-loop
 match-at-requires c κs =
     let i = c .before .before .before .loop .inv in
-    (omega (arith, i .0 .long), ((i .0 .some, i .0 .short), ((i .4 .0, i .5 .0), ((i .0 .inside, i .8 .0, i .8 .1), ((λ e. i .7 (omega arith)), i .9)))))
+    (search needs, ((i .0 .some, i .0 .short), ((i .4 .0, i .5 .0), ((i .0 .inside, i .8 .0, i .8 .1), ((λ e. i .7 (omega arith)), i .9)))))
 
 sums-after-requires : tie.Need-sums-after-requires Inv-loop μ-loop
 sums-after-requires c κs =
-    let i = c .before .before .before .before .before .before .before .before .loop .inv in (omega (arith, i .0 .long), (i .0 .short, (i .0 .inside, i .7 (omega arith))))
+    let i = c .before .before .before .before .before .before .before .before .loop .inv in (search needs, (i .0 .short, (i .0 .inside, i .7 (omega arith))))
 
 loop-again : tie.Need-loop-again Inv-loop μ-loop
 loop-again c =
     let i = c .before .before .before .before .before .before .before .before .before .loop .inv in
     let f = c .before .before .before .before .before .match-at in
-    let t = c .before .told in
-    let k = f .kept in (
+    let t = c .before .told in (
       i .0,
       omega arith,
       omega arith,
       omega arith,
-      (k .1 .1 .1 .1 .1 .1 .1 .1 .1 .1 .0 ∙ i .4 .0, k .1 .1 .1 .1 .1 .1 .1 .1 .1 .1 .0 ∙ i .4 .1),
-      (omega (arith, k .1 .1 .1 .1 .1 .1 .1 .1 .1 .1 .1 .0, i .5 .0), k .1 .1 .1 .1 .1 .1 .1 .1 .1 .1 .1 .0 ∙ i .5 .1),
-      written-more _ (i .6) (omega (arith, i .0 .enough)) (t .ensures ∙ ap wrapped (f .ensures) ∙ told-wrapped _ _ (i .0 .inside) (i .0 .some) (i .0 .short) _ (i .9 .curve-is)),
-      λ l. c .sums-after .ensures (omega (arith, i .0 .long)),
+      (search needs, search needs),
+      (search needs, search needs),
+      written-more _ (i .6) (omega arith) (t .ensures ∙ ap wrapped (f .ensures) ∙ told-wrapped _ _ (i .0 .inside) (i .0 .some) (i .0 .short) _ (i .9 .curve-is)),
+      λ l. c .sums-after .ensures (omega arith),
       i .8,
       i .9,
       i .10,
     )
 
-returns : tie.Need-returns Inv-loop μ-loop
-returns c = let i = c .before .loop .inv in (omega (arith, i .0 .long), written-all (omega (arith, i .0 .long)) (i .6))
-
 pub each-match-spec : {M : Type 1} → statement M
 each-match-spec =
-    tie.close (tie.spec Inv-loop μ-loop sums-at-requires loop-holds (λ c. omega (arith, c .loop .inv .0 .long)) match-at-requires (λ c κs. search needs) (λ c. omega arith)
-    (λ c. let i = c .before .before .before .before .before .before .before .before .loop .inv in omega (arith, i .0 .enough, i .6 .long)) sums-after-requires
-    (λ c. let i = c .before .before .before .before .before .before .before .before .before .loop .inv in omega (arith, i .0 .some, i .0 .long, i .10)) (λ c. omega arith) loop-again
-    (λ c. c .before .loop .inv .4 .1) (λ c. c .before .loop .inv .5 .1) (λ c. c .before .loop .inv .6 .long) returns)
+    tie.close (tie.spec Inv-loop μ-loop (λ c κs. search needs) (λ c. search needs) (λ c. search needs) match-at-requires (λ c κs. search needs) (λ c. omega arith)
+    (λ c. search needs) sums-after-requires
+    (λ c. search needs) (λ c. omega arith) loop-again
+    (λ c. search needs) (λ c. search needs) (λ c. search needs) (λ c. let i = c .before .loop .inv in (search needs, written-all (omega arith) (i .6))))

@@ -1,4 +1,4 @@
--- `try_c_match::kind_of` meets its contract.
+-- `kind_of` meets its contract.
 use Rattle.meaning_numbers.proofs.Prelude.{needs}
 use Rattle.try_c_match.proofs.{Answers.kind-normal, kind_of.Statement.statement}
 use Rattle.try_c_match.proofs.kind_of.Tie as tie

@@ -1,10 +1,7 @@
--- `try_c_match::told` meets its contract.
+-- `told` meets its contract.
 use Rattle.meaning_numbers.proofs.Prelude.{needs}
 use Rattle.try_c_match.proofs.told.Statement.{statement}
 use Rattle.try_c_match.proofs.told.Tie as tie
 
-returns : tie.Need-returns
-returns c = rw (c .before .before .found .given .1) (c .wrapping-add-u64 .ensures)
-
 pub told-spec : {M : Type 1} → statement M
-told-spec = tie.close (tie.spec (λ c. search needs) (λ c κs. search needs) (λ c. search needs) returns (λ c. search needs))
+told-spec = tie.close (tie.spec (λ c. search needs) (λ c κs. search needs) (λ c. search needs) (λ c. rw (c .before .before .found .given .1) (c .wrapping-add-u64 .ensures)) (λ c. search needs))

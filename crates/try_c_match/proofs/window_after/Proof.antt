@@ -1,4 +1,4 @@
--- `try_c_match::window_after` meets its contract.
+-- `window_after` meets its contract.
 use Rattle.meaning_numbers.proofs.Prelude.{needs, arith}
 use Rattle.try_c_match.proofs.window_after.Statement.{statement}
 use Rattle.try_c_match.proofs.window_after.Tie as tie

@@ -1,4 +1,4 @@
--- `try_c_search::ask_of` meets its contract: the kind and the limits.
+-- `ask_of` meets its contract: the kind and the limits.
 use borrow.Author.Needs.{needs}
 use Rattle.try_c_search.proofs.ask_of.Statement.{statement}
 use Rattle.try_c_search.proofs.ask_of.Tie as tie

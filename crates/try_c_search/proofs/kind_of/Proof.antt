@@ -1,4 +1,4 @@
--- `try_c_search::kind_of` meets its contract, by the test.
+-- `kind_of` meets its contract, by the test.
 use borrow.Author.Tests.{eq-eqb, ne-eqb}
 use Rattle.try_c_search.specs.Told.{kindOf}
 use Rattle.try_c_search.proofs.kind_of.Statement.{statement}

@@ -1,4 +1,4 @@
--- `try_c_search::tell_found` meets its contract, case by case.
+-- `tell_found` meets its contract, case by case.
 use borrow.Author.Needs.{needs}
 use mathlib.Core.Path.{sym, ap, _∙_}
 use Rattle.try_c_search.specs.Told.{toldFound}

@@ -1,4 +1,4 @@
--- `try_c_text::tell_loaded` meets its contract, case by case.
+-- `tell_loaded` meets its contract, case by case.
 use borrow.Author.Needs.{needs}
 use mathlib.Core.Path.{sym, ap, _∙_}
 use Rattle.try_c_text.specs.Told.{toldLoaded}

@@ -1,4 +1,4 @@
--- `try_distance::agree` meets its contract.
+-- `agree` meets its contract.
 use Prim.Native.Nat.{_-_, _≤_}
 use borrow.Author.Needs.{needs}
 use lib.ListN.{length}

@@ -1,4 +1,4 @@
--- `try_distance::in_rooms` meets its contract.
+-- `in_rooms` meets its contract.
 use borrow.Author.Needs.{needs}
 use lib.ListN.{length-take}
 use lib.Seq.{length-take-le}

@@ -1,4 +1,4 @@
--- `try_distance::run` meets its contract.
+-- `run` meets its contract.
 use Prim.Native.Nat.{_≤_}
 use borrow.Author.Needs.{needs}
 use native.Mathlib.Omega.{arith}

@@ -1,4 +1,4 @@
--- `try_index::fill_rubbish` meets its contract.
+-- `fill_rubbish` meets its contract.
 use Prim.Native.Nat.{_-_, _≤_}
 use borrow.Author.Needs.{needs}
 use lib.ListN.{length, length-set}

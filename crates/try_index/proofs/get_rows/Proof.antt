@@ -1,4 +1,4 @@
--- `try_index::get_rows` meets its contract.
+-- `get_rows` meets its contract.
 use Prim.Native.Nat.{_-_, _≤_}
 use borrow.Author.Needs.{needs}
 use native.Mathlib.Omega.{arith}

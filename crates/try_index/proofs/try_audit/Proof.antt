@@ -1,4 +1,4 @@
--- `try_index::try_audit` meets its contract.
+-- `try_audit` meets its contract.
 use borrow.Author.Needs.{needs}
 use lib.ListN.{length-take}
 use native.Mathlib.Omega.{arith}

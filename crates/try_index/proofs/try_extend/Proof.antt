@@ -1,4 +1,4 @@
--- `try_index::try_extend` meets its contract.
+-- `try_extend` meets its contract.
 use borrow.Author.Needs.{needs}
 use lib.ListN.{length-take}
 use lib.Seq.{length-take-le}

@@ -1,4 +1,4 @@
--- `try_search::agree_counts` meets its contract.
+-- `agree_counts` meets its contract.
 use Prim.Native.Nat.{_-_, _≤_}
 use borrow.Author.Needs.{needs}
 use lib.ListN.{length}

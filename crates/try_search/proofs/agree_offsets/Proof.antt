@@ -1,4 +1,4 @@
--- `try_search::agree_offsets` meets its contract.
+-- `agree_offsets` meets its contract.
 use Prim.Native.Nat.{_-_, _≤_}
 use borrow.Author.Needs.{needs}
 use lib.ListN.{length}

@@ -1,4 +1,4 @@
--- `try_search::search_one` meets its contract.
+-- `search_one` meets its contract.
 use borrow.Author.Needs.{needs}
 use lib.Seq.{length-take-le}
 use mathlib.Core.Path.{sym}

@@ -1,4 +1,4 @@
--- `try_search::with_list` meets its contract.
+-- `with_list` meets its contract.
 use borrow.Author.Needs.{needs}
 use lib.Seq.{length-take-le}
 use mathlib.Core.Path.{sym}

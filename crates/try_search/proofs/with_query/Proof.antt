@@ -1,4 +1,4 @@
--- `try_search::with_query` meets its contract.
+-- `with_query` meets its contract.
 use borrow.Author.Needs.{needs}
 use lib.Seq.{length-take-le}
 use mathlib.Core.Path.{sym}

@@ -1,4 +1,4 @@
--- `try_text::end_of` meets its contract.
+-- `end_of` meets its contract.
 use Prim.Native.Nat.{_-_, _≤_}
 use lib.ListN.{length}
 use native.Mathlib.Omega.{arith}

@@ -1,4 +1,4 @@
--- `try_text::first_rows` meets its contract: each line can be read on from the line before.
+-- `first_rows` meets its contract: each line can be read on from the line before.
 use borrow.Author.Needs.{needs}
 use native.Mathlib.Omega.{arith}
 use Rattle.text_index.proofs.Follow.{index-good}

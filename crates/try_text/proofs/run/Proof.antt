@@ -1,4 +1,4 @@
--- `try_text::run` meets its contract.
+-- `run` meets its contract.
 use Prim.Native.Nat.{_+_, _-_, _≤_}
 use borrow.Author.Needs.{needs}
 use lib.ListN.{length}

@@ -1,4 +1,4 @@
--- `try_text::show_written` meets its contract.
+-- `show_written` meets its contract.
 use borrow.Author.Needs.{needs}
 use lib.ListN.{length-take}
 use native.Mathlib.Omega.{arith}

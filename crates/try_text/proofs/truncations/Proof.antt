@@ -1,4 +1,4 @@
--- `try_text::truncations` meets its contract.
+-- `truncations` meets its contract.
 use Prim.Native.Nat.{_-_, _≤_}
 use borrow.Author.Needs.{needs}
 use lib.ListN.{length, length-take}

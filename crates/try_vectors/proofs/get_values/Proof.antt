@@ -1,4 +1,4 @@
--- `try_vectors::get_values` meets its contract.
+-- `get_values` meets its contract.
 use Prim.Native.Nat.{_-_, _≤_}
 use borrow.Author.Needs.{needs}
 use lib.ListN.{length, length-set}

@@ -1,4 +1,4 @@
--- `try_vectors::read_numbers` meets its contract.
+-- `read_numbers` meets its contract.
 use Prim.Native.Nat.{_-_, _≤_}
 use borrow.Author.Needs.{needs}
 use lib.ListN.{length}

@@ -1,4 +1,4 @@
--- `values::copy_values` meets its contract. The invariant: the values so far are those of q.
+-- `copy_values` meets its contract. The invariant: the values so far are those of q.
 use borrow.Author.Count.{below-more}
 use Rattle.meaning_numbers.proofs.Prelude.{needs, _≡_, refl, _∙_, ℕ, _-_, _≤_, _<_, arith, pos, length, length-set, getD-set-same, getD-set-other, w32, toZ-ofZ}
 use Rattle.meaning_curves.specs.Curve.{at}
@@ -20,7 +20,7 @@ loop-again c =
       omega arith,
       simp length-set (omega arith),
       below-more _ j (λ k u. getD-set-other out j k _ (pos 0) (λ e. omega arith) ∙ l .loop .inv .2 k u)
-          (getD-set-same out j _ (pos 0) room ∙ toZ-ofZ w32 (at (l .before .args .q .now) j) (search needs)),
+          (getD-set-same out j _ (pos 0) room ∙ toZ-ofZ w32 _ (search needs)),
     )
 
 pub copy-values-spec : {M : Type 1} → statement M

@@ -1,4 +1,4 @@
--- `values::count_outside` meets its contract. The invariant: the count so far.
+-- `count_outside` meets its contract. The invariant: the count so far.
 use mir.Val.{boolByte}
 use Rattle.meaning_numbers.specs.Sum.{count}
 use Rattle.meaning_numbers.proofs.Count.{flag-bit, count-none, count-more, count-le}
@@ -22,7 +22,7 @@ module _ (c : tie.After-in-limits Inv-loop μ-loop) where
   outside j = not (valueIn (stretch (l .before .args .s .now) (l .before .args .from) j))
 
   told : not (c .in-limits .result) ≡ outside (l .loop .k)
-  told = ap not (c .in-limits .ensures ∙ ap valueIn (toZ-ofZ w32 (stretch (l .before .args .s .now) (l .before .args .from) (l .loop .k)) (search needs)))
+  told = ap not (c .in-limits .ensures ∙ ap valueIn (toZ-ofZ w32 _ (search needs)))
 
   more : l .loop .found + boolByte (not (c .in-limits .result)) ≡ count outside (l .loop .k + 1)
   more = omega (arith, l .loop .inv .1, ap boolByte told, flag-bit (outside (l .loop .k)), count-more outside (l .loop .k))

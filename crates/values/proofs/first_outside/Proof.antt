@@ -1,4 +1,4 @@
--- `values::first_outside` meets its contract. The invariant: every value passed is in its limits; a block that counts none adds its values (`block-in`).
+-- `first_outside` meets its contract. The invariant: every value passed is in its limits; a block that counts none adds its values (`block-in`).
 use Rattle.meaning_numbers.specs.Sum.{count}
 use Rattle.meaning_numbers.proofs.Count.{never-count}
 use Rattle.meaning_numbers.proofs.Prelude.{needs, not-false, _≡_, sym, subst, not, List, ℕ, _+_, _-_, _≤_, arith, decLt, T, ℤ, length}
@@ -13,8 +13,8 @@ block-in s i n h none = record {
     | yes b ↦ h .inside k b
     | no f ↦
         let e : i + (k - i) ≡ k = omega arith in
-        let v = never-count (λ j. not (valueIn (stretch s i j))) n none (k - i) (omega arith) in
-        rw e at (subst T (sym (not-false (valueIn (stretch s i (k - i))) v)) tt)
+        let v = never-count (λ j. not (valueIn _)) n none (k - i) (omega arith) in
+        rw e at (subst T (sym (not-false (valueIn _) v)) tt)
   ];
 }
 
@@ -27,7 +27,7 @@ abbrev μ-loop : tie.MeasureT-loop
 loop-again : tie.Need-loop-again Inv-loop μ-loop
 loop-again c =
     let l = c .before .before .before in
-    (omega arith, block-in (l .before .args .s .now) (l .loop .i) 256 (l .loop .inv .1) (omega (arith, c .before .count-outside .ensures)))
+    (omega arith, block-in _ _ 256 (l .loop .inv .1) (omega arith))
 
 pub first-outside-spec : {M : Type 1} → statement M
 first-outside-spec =

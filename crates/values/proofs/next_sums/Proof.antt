@@ -1,4 +1,4 @@
--- `values::next_sums` meets its contract (`slide-values`, `slide-squares`).
+-- `next_sums` meets its contract (`slide-values`, `slide-squares`).
 use Rattle.meaning_numbers.proofs.Root.{sq-le}
 use Rattle.meaning_numbers.proofs.Prelude.{needs, _≡_, _∙_, sym, _+_, _*_, _≤_, arith}
 use Rattle.meaning_curves.specs.Curve.{at}
@@ -9,7 +9,7 @@ use Rattle.values.proofs.next_sums.Tie as tie
 
 module _ (c : tie.After-raise2) where
   abbrev start : tie.Start
-  start = c .before .before .before .before
+  start = (search needs)
 
   u : c .before .raise .result ≡ raised (at (start .args .s .now) (start .args .from))
   u = c .before .raise .ensures ∙ raised-back (start .pre .1 .1 .0 .at _)

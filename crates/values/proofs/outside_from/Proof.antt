@@ -1,4 +1,4 @@
--- `values::outside_from` meets its contract. The invariant: every value passed is in its limits, and so is every value before.
+-- `outside_from` meets its contract. The invariant: every value passed is in its limits, and so is every value before.
 use borrow.Author.Count.{below-more}
 use Rattle.meaning_numbers.proofs.Prelude.{needs, not-true, not-false, _≡_, sym, ap, subst, _∙_, ℕ, _-_, _≤_, _<_, arith, T, length, w32, toZ-ofZ}
 use Rattle.meaning_curves.specs.{Curve.at, Limits.valueIn}
@@ -16,22 +16,17 @@ abbrev μ-loop : tie.MeasureT-loop
 -- the answer speaks of the value at i
 told : (c : tie.After-in-limits Inv-loop μ-loop) → let l = c .before .before .before in c .in-limits .result ≡ valueIn (at (l .before .args .s .now) (l .loop .i))
 told c =
-    let l = c .before .before .before in
-    c .in-limits .ensures ∙ ap valueIn (toZ-ofZ w32 (at (l .before .args .s .now) (l .loop .i)) (search needs))
+    c .in-limits .ensures ∙ ap valueIn (toZ-ofZ w32 _ (search needs))
 
 returns : tie.Need-returns Inv-loop μ-loop
 returns c =
-    let l = c .before .before .before .before in
-    sym (ap placed (outside-is (record { there = omega arith; outside = no-value _ (sym (told (c .before)) ∙ not-true _ (c .if1 .taken)); before = l .loop .inv .1 })))
+    sym (ap placed (outside-is (record { there = omega arith; outside = no-value _ (sym (told (c .before)) ∙ not-true _ (c .if1 .taken)); before = search needs })))
 
 loop-again : tie.Need-loop-again Inv-loop μ-loop
 loop-again c =
     (omega arith, below-more _ _ (c .before .before .before .before .loop .inv .1) (subst T (sym (not-false _ (c .if1 .left)) ∙ told (c .before)) tt))
 
-returns-2 : tie.Need-returns-2 Inv-loop μ-loop
-returns-2 c = sym (ap placed (in-values (c .before .before .args .s .now) (λ k l. c .before .loop .inv .1 k (omega arith))))
-
 pub outside-from-spec : {M : Type 1} → statement M
 outside-from-spec =
-    tie.close (tie.spec Inv-loop μ-loop (λ c. (omega arith, λ k l. c .pre .1 .inside k l)) (λ c. omega arith) (λ c. omega arith) (λ c κs. search needs) returns (λ c. omega arith) (λ c. omega arith)
-    loop-again returns-2)
+    tie.close (tie.spec Inv-loop μ-loop (λ c. (omega arith, search needs)) (λ c. omega arith) (λ c. omega arith) (λ c κs. search needs) returns (λ c. omega arith) (λ c. omega arith)
+    loop-again (λ c. sym (ap placed (in-values _ (λ k l. c .before .loop .inv .1 k (omega arith))))))

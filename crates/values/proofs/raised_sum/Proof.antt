@@ -1,4 +1,4 @@
--- `values::raised_sum` meets its contract. The invariant: the sum so far.
+-- `raised_sum` meets its contract. The invariant: the sum so far.
 use Rattle.meaning_numbers.specs.Sum.{Σℕ}
 use Rattle.meaning_numbers.proofs.Sum.{Σℕ-none, Σℕ-more}
 use Rattle.meaning_numbers.proofs.Prelude.{_≡_, _∙_, _*_, _-_, _≤_, arith}

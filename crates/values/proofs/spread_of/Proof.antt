@@ -1,4 +1,4 @@
--- `values::spread_of` meets its contract (`spread-raised`).
+-- `spread_of` meets its contract (`spread-raised`).
 use Rattle.meaning_numbers.proofs.Prelude.{arith}
 use Rattle.values.proofs.{SumsLaws.spread-small, SumsLaws.spread-raised, spread_of.Statement.statement}
 use Rattle.values.proofs.spread_of.Tie as tie

@@ -1,4 +1,4 @@
--- `values::sums_at` meets its contract. The invariant: both sums so far.
+-- `sums_at` meets its contract. The invariant: both sums so far.
 use Rattle.meaning_numbers.specs.Sum.{Σℕ, square}
 use Rattle.meaning_numbers.proofs.{Root.sq-le, Sum.Σℕ-none, Sum.Σℕ-more}
 use Rattle.meaning_numbers.proofs.Prelude.{_≡_, _∙_, _*_, _-_, _≤_, arith}

@@ -1,4 +1,4 @@
--- `values::window_sum` meets its contract: the raised sum less the bias (`window-raised`).
+-- `window_sum` meets its contract: the raised sum less the bias (`window-raised`).
 use Rattle.meaning_numbers.proofs.Sum.{Σℕ-le}
 use Rattle.meaning_numbers.proofs.Prelude.{needs, _∙_, ap, ℕ, _*_, arith, pos, _-ℤ_, w32, toZ-ofZ}
 use Rattle.meaning_curves.specs.Curve.{stretch}
@@ -15,8 +15,8 @@ lower-requires c κs =
 returns : tie.Need-returns
 returns c =
     let o = c .before .before in
-    toZ-ofZ w32 (c .lower .result) (record { sfits = c .lower .ok }) ∙ c .lower .ensures
-    ∙ ap (λ (n : ℕ). pos n -ℤ pos (10000 * o .args .w)) (c .before .raised-sum .ensures) ∙ window-raised (o .args .w) (o .args .j) (o .pre .1 .1)
+    toZ-ofZ w32 _ (record { sfits = c .lower .ok }) ∙ c .lower .ensures
+    ∙ ap (λ (n : ℕ). pos n -ℤ pos (10000 * o .args .w)) (c .before .raised-sum .ensures) ∙ window-raised _ _ (o .pre .1 .1)
 
 pub window-sum-spec : {M : Type 1} → statement M
 window-sum-spec = tie.close (tie.spec (λ c κs. search needs) (λ c. search needs) lower-requires returns)
