@@ -33,8 +33,8 @@ pub record Rowed (P : ℕ → ℕ → Bool) (sum : ℕ → ℤ) (from windows : 
 -- the pass can begin at a place, with what stands in the buffers
 pub record Passable (P : ℕ → ℕ → Bool) (s : List ℤ) (w e : ℕ) (from : Window) (rows : List Row) (n : ℕ) (left right : List ℕ) : Type 0 where
   pub place : At s w e from
-  pub rowed : Rowed P (windowSum s w) (from .offset) (windowsOf s w) rows n
-  pub filling : Filling n (windowsOf s w) P left right (from .offset) left right
+  pub rowed : Rowed P (windowSum s w) from.offset (windowsOf s w) rows n
+  pub filling : Filling n (windowsOf s w) P left right from.offset left right
 
 -- every window is filed
 abbrev pub PassMade : (ℕ → ℕ → Bool) → List ℤ → ℕ → ℕ → List ℕ → List ℕ → List ℕ → List ℕ → Type 0

@@ -88,9 +88,9 @@ module _ (row : ℕ → ℕ) (n a i : ℕ) (order : a ≤ i) where
       let ll = length-lefts (runs q n) in
       let lr = length-rights (runs q n) in
       let one = sum-count (λ l. bit (before p l)) (namesOf left first (a + 1) (i + 1)) (lefts (runs q n))
-      (λ t l. ap bit (sym (rw (h .left-is t (omega (arith, ll))) (before-within row n a i (getD (lefts (runs q n)) t 0))))) in
+      (λ t l. ap bit (sym (rw (h.left-is t (omega (arith, ll))) (before-within row n a i (getD (lefts (runs q n)) t 0))))) in
       let two : sumOver (λ r. bit (p (suc r))) (rights (runs q n)) ≡ count (namesOf right first (a + 1) (i + 1)) (length (rights (runs q n))) = sum-count (λ r. bit (p (suc r))) (namesOf right first (a + 1) (i + 1)) (rights (runs q n))
-      (λ t l. ap bit (sym (rw (h .right-is t (omega (arith, lr))) (name-within row n a i (suc (getD (rights (runs q n)) t 0)))))) in
+      (λ t l. ap bit (sym (rw (h.right-is t (omega (arith, lr))) (name-within row n a i (suc (getD (rights (runs q n)) t 0)))))) in
       omega (
         arith,
         runs-joined p q n apart past,

@@ -14,7 +14,7 @@ use Rattle.build_merge.specs.Names.{NamedRow}
 -- the rows of the list, from number i on, have the windows of their number
 unfoldable pub Numbered : (ℕ → ℕ) → ℕ → ℕ → List SetRow → Type 0
 Numbered row n i [] = Unit {0}
-Numbered row n i (s ∷ l) = ((j : ℕ) → j < n → s .has j ≡ isRow row i j) × Numbered row n (i + 1) l
+Numbered row n i (s ∷ l) = ((j : ℕ) → j < n → s.has j ≡ isRow row i j) × Numbered row n (i + 1) l
 
 -- where the part of row i begins
 abbrev pub partAt : (ℕ → ℕ) → ℕ → ℕ → ℕ
@@ -30,12 +30,12 @@ pub record Rows : Type 0 where
 pub record Ready (t : Rows) (rows : List Row) (count : ℕ) (left right : List ℕ) : Type 0 where
   pub some : 1 ≤ count
   pub few : count ≤ 4294967295
-  pub short : t .windows ≤ 1048576
-  pub packed : PackedAs (t .windows) (t .list) rows count
-  pub numbered : Numbered (t .row) (t .windows) 0 (t .list)
-  pub names : (i : ℕ) → i < count → NamedRow (t .row) (t .windows) i (partAt (t .row) (t .windows) i) left right
-  pub in-left : partAt (t .row) (t .windows) count ≤ length left
-  pub in-right : partAt (t .row) (t .windows) count ≤ length right
+  pub short : t.windows ≤ 1048576
+  pub packed : PackedAs t.windows t.list rows count
+  pub numbered : Numbered t.row t.windows 0 t.list
+  pub names : (i : ℕ) → i < count → NamedRow t.row t.windows i (partAt t.row t.windows i) left right
+  pub in-left : partAt t.row t.windows count ≤ length left
+  pub in-right : partAt t.row t.windows count ≤ length right
 
 -- some rows are so
 pub record Mergeable (rows : List Row) (count : ℕ) (left right : List ℕ) : Type 0 where

@@ -20,7 +20,7 @@ Named s w rows count left right = (i : ℕ) → i < count → NamedRow (rowIn ro
 
 module _ (s : List ℤ) (w e : ℕ) (rows : List Row) (count : ℕ) (left₀ right₀ : List ℕ) (z : Standing s w e rows count left₀ right₀) where
   pub standing-unnamed : Unnamed s w e rows count left₀ right₀
-  standing-unnamed = packed-unnamed s w e (z .lent) (z .list) rows count (z .sound) (z .packed) left₀ right₀ (z .in-left) (z .in-right) (z .zeros)
+  standing-unnamed = packed-unnamed s w e z.lent z.list rows count z.sound z.packed left₀ right₀ z.in-left z.in-right z.zeros
 
   module _ (left right : List ℕ) (el : length left ≡ length left₀) (er : length right ≡ length right₀) (names : Named s w rows count left right) where
     -- whatever rows stand packed
@@ -28,7 +28,7 @@ module _ (s : List ℤ) (w e : ℕ) (rows : List Row) (count : ℕ) (left₀ rig
     rowsOf l = record { windows = windowsOf s w; list = l; row = rowIn rows count (windowSum s w) }
 
     pub standing-ready : (l : List SetRow) → Sound (windowSum s w) (windowsOf s w) l → PackedAs (windowsOf s w) l rows count → Ready (rowsOf l) rows count left right
-    standing-ready l g p = packed-ready s w e (z .lent) l rows count g p left right (omega (arith, z .in-left, el)) (omega (arith, z .in-right, er)) names
+    standing-ready l g p = packed-ready s w e z.lent l rows count g p left right (omega (arith, z.in-left, el)) (omega (arith, z.in-right, er)) names
 
     pub standing-mergeable : Mergeable rows count left right
-    standing-mergeable = record { some = rowsOf (z .list); ready = standing-ready (z .list) (z .sound) (z .packed) }
+    standing-mergeable = record { some = rowsOf z.list; ready = standing-ready z.list z.sound z.packed }

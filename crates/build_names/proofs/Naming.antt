@@ -1,8 +1,8 @@
 -- The pass that names the neighbours of all runs, by runs: what holds after the windows below j (`Naming`), how it begins, a turn, which names the neighbours of one run in the part of its row (`naming-run`), and the end (`naming-end`).
 use Rattle.meaning_numbers.proofs.Prelude.{_≡_, sym, _∙_, true, false, List, ℕ, suc, _+_, _-_, _<_, _≤_, arith, length, getD, set, length-set, eq-eqb, ne-eqb}
 use Rattle.meaning_rows.specs.Runs.{runCount}
-use Rattle.meaning_rows.proofs.{Parts.Laid, Columns.runCount-mono}
 use Rattle.meaning_rows.proofs.Cursors.{Cursors, PartsAs, parts-as-start, cursors-start, fileRight, length-file, filed-as, cursors-run}
+use Rattle.meaning_rows.proofs.{Parts.Laid, Columns.runCount-mono}
 use Rattle.sums_slide.specs.Change.{RowRun}
 use Rattle.sums_count.specs.Tally.{isRow}
 use Rattle.sums_count.proofs.Tally.{Fresh, fresh-start, fresh-next, run-mine}
@@ -43,13 +43,13 @@ module _ (row : ℕ → ℕ) (n R : ℕ) where
 
     -- the part is not full
     pub naming-more : t < all
-    naming-more = omega (arith, run-mine row n from r h (f .fresh), runCount-mono (isRow row i) r n (h .below))
+    naming-more = omega (arith, run-mine row n from r h f.fresh, runCount-mono (isRow row i) r n h.below)
 
     pub naming-written : getD right (partAt row n i + all - 1) 0 ≡ t
-    naming-written = f .cursors .cursor i l naming-more
+    naming-written = f.cursors.cursor i l naming-more
 
     pub naming-room : (partAt row n i + all ≤ length left) × (partAt row n i + all ≤ length right)
-    naming-room = (omega (arith, laid .room i l, f .in-left), omega (arith, laid .room i l, f .in-right))
+    naming-room = (omega (arith, laid.room i l, f.in-left), omega (arith, laid.room i l, f.in-right))
 
     abbrev left′ : List ℕ
     left′ = set left (partAt row n i + t) (nameBefore row n from)
@@ -63,18 +63,18 @@ module _ (row : ℕ → ℕ) (n R : ℕ) where
         let d = r - from - 1 in
         let end : from + suc d ≡ r = omega arith in
         let next : suc (from + d) ≡ r = omega arith in
-        let cut = f .fresh .cut (omega arith) in
-        let mine : (j : ℕ) → from ≤ j → j < from + suc d → isRow row i j ≡ true = λ j a b. eq-eqb (row j) i (h .same j (omega arith) a) in
-        let others : (j k : ℕ) → from ≤ j → j < from + suc d → k < R → (k ≡ i → ⊥) → isRow row k j ≡ false = λ j k a b m q. ne-eqb (row j) k (λ e. q (sym e ∙ h .same j (omega arith) a)) in
-        let p = filed-as R n _ _ _ laid i from d l cut (omega arith) mine others _ _ left right (f .in-left) (f .in-right) (f .parts) in
-        let c = cursors-run R n _ _ _ laid i from d l cut (omega arith) mine others right (nameAfter row n (from + d)) (f .in-right) (f .cursors) in
+        let cut = f.fresh.cut (omega arith) in
+        let mine : (j : ℕ) → from ≤ j → j < from + suc d → isRow row i j ≡ true = λ j a b. eq-eqb (row j) i (h.same j (omega arith) a) in
+        let others : (j k : ℕ) → from ≤ j → j < from + suc d → k < R → (k ≡ i → ⊥) → isRow row k j ≡ false = λ j k a b m q. ne-eqb (row j) k (λ e. q (sym e ∙ h.same j (omega arith) a)) in
+        let p = filed-as R n _ _ _ laid i from d l cut (omega arith) mine others _ _ left right f.in-left f.in-right f.parts in
+        let c = cursors-run R n _ _ _ laid i from d l cut (omega arith) mine others right (nameAfter row n (from + d)) f.in-right f.cursors in
         record {
           parts = rw (end, next) at p;
           cursors = rw (end, next) at c;
           fresh = fresh-next row n from r h;
-          in-left = omega (arith, f .in-left, length-set left (partAt row n i + t) (nameBefore row n from));
-          in-right = omega (arith, f .in-right, length-file right (partAt row n i) all t (nameAt row n r));
+          in-left = omega (arith, f.in-left, length-set left (partAt row n i + t) (nameBefore row n from));
+          in-right = omega (arith, f.in-right, length-file right (partAt row n i) all t (nameAt row n r));
         }
 
   pub naming-end : (left right : List ℕ) → Naming n left right → (i : ℕ) → i < R → NamedRow row n i (partAt row n i) left right
-  naming-end left right f i l = record { left-is = λ t m. f .parts .left-as i t l m; right-is = λ t m. f .parts .right-as i t l m }
+  naming-end left right f i l = record { left-is = λ t m. f.parts.left-as i t l m; right-is = λ t m. f.parts.right-as i t l m }

@@ -1,11 +1,11 @@
 -- Laws of specs/Packed.
 use Rattle.meaning_numbers.specs.{Sum.Σℕ, Place.any}
-use Rattle.meaning_numbers.proofs.{Sum.Σℕ-none, Sum.Σℕ-same, Member.All}
 use Rattle.meaning_numbers.proofs.Prelude.{_≡_, refl, sym, ap, _∙_, subst, true, false, List, [], _∷_, map, ℕ, zero, suc, _+_, _*_, _<_, _≤_, arith, decLt, ℤ, pos, negsuc, _+ℤ_, length, getD, length-map, length-append, getD-take, _≤ℤ_, _<ℤ_, Rep, up, dn, zarith, rep-self, rep-pos, rep-add, rep-mul, rep-eq, leZ-true, by-test, clash}
+use Rattle.meaning_numbers.proofs.{Sum.Σℕ-none, Sum.Σℕ-same, Member.All}
 use Rattle.meaning_curves.specs.Curve.{windowSum}
 use Rattle.meaning_rows.specs.{declared.Row.Row, Range.rowNumber, Range.lowOf, Range.upOf, Range.inside, Runs.runs, Runs.runCount, Index.records, Index.allRuns, Build.SetRow, Build.filed, Build.entry, Build.withRuns, Build.builtRows}
-use Rattle.meaning_rows.proofs.{Range.is-inside, Range.row-below, Range.row-above, Runs.runs-cong, LaidAt.Σℕ-shift}
 use Rattle.meaning_rows.proofs.Build.{Fine, Chain, Tiled, Ends, covered, mergedRows, built-tiled, built-covers, built-ends, built-length, built-runs, merged-none}
+use Rattle.meaning_rows.proofs.{Range.is-inside, Range.row-below, Range.row-above, Runs.runs-cong, LaidAt.Σℕ-shift}
 use Rattle.rows_records.specs.Records.{zeroRow}
 use Rattle.sums_slide.specs.Levels.{Lent, windowsOf, level-le}
 use Rattle.sums_slide.proofs.Levels.{level-is}
@@ -13,8 +13,7 @@ use Rattle.sums_count.specs.Tally.{isRow}
 use Rattle.rows_pack.specs.PackedAs.{PackedAs}
 use Rattle.build_merge.specs.{Names.NamedRow, Merging.Numbered, Merging.Ready, Merging.partAt}
 use Rattle.build_merge.proofs.Merging.{recordOf, records-first}
-use Rattle.build_names.specs.{Places.Unnamed, Packed.Sound}
-use Rattle.build_names.specs.Ranges.{Limited, endsBy, placeIn, rowIn, Ranged, RangeRows}
+use Rattle.build_names.specs.{Places.Unnamed, Packed.Sound, Ranges.Limited, Ranges.endsBy, Ranges.placeIn, Ranges.rowIn, Ranges.Ranged, Ranges.RangeRows}
 use Rattle.build_names.proofs.Ranges.{first-passes, first-fails, held-row, no-leZ}
 
 -- ---- lists of rows by place
@@ -32,7 +31,7 @@ record-at n k (s ∷ l) zero h =
     let e : k ≡ k + Σℕ 0 (λ x. runCount (nth (s ∷ l) x .has) n) = omega (arith, Σℕ-none (λ x. runCount (nth (s ∷ l) x .has) n)) in
     ap (λ (r : List Row). getD r 0 zeroRow) (records-first n k s l) ∙ ap (λ (f : ℕ). recordOf n f s) e
 record-at n k (s ∷ l) (suc i) h =
-    let e : k + runCount (s .has) n + Σℕ i (λ x. runCount (nth l x .has) n) ≡ k + Σℕ (suc i) (λ x. runCount (nth (s ∷ l) x .has) n) = omega (arith, Σℕ-shift i (λ x. runCount (nth (s ∷ l) x .has) n)) in
+    let e : k + runCount s.has n + Σℕ i (λ x. runCount (nth l x .has) n) ≡ k + Σℕ (suc i) (λ x. runCount (nth (s ∷ l) x .has) n) = omega (arith, Σℕ-shift i (λ x. runCount (nth (s ∷ l) x .has) n)) in
     ap (λ (r : List Row). getD r (suc i) zeroRow) (records-first n k s l) ∙ record-at n _ l i (omega arith) ∙ rw e
 
 runs-total : (n : ℕ) (l : List SetRow) → length (allRuns (map (withRuns n) l)) ≡ Σℕ (length l) (λ x. runCount (nth l x .has) n)
@@ -40,8 +39,8 @@ unfolding allRuns withRuns Σℕ
 runs-total n [] = refl
 runs-total n (s ∷ l) = omega (
   arith,
-  length-append (map entry (runs (s .has) n)) (allRuns (map (withRuns n) l)),
-  length-map (runs (s .has) n) entry,
+  length-append (map entry (runs s.has n)) (allRuns (map (withRuns n) l)),
+  length-map (runs s.has n) entry,
   runs-total n l,
   Σℕ-shift (length l) (λ x. runCount (nth (s ∷ l) x .has) n),
 )
@@ -65,35 +64,35 @@ unfolding any
 covered-at z [] e = clash e refl
 covered-at z (s ∷ l) e = by-test _
     (λ t. record { place = 0; below = omega arith; is = t })
-    (λ f. let r = covered-at z l (rw f at e) in record { place = suc _; below = omega arith; is = r .is })
+    (λ f. let r = covered-at z l (rw f at e) in record { place = suc _; below = omega arith; is = r.is })
 
 ends-at : (P : ℤ → Type 0) (l : List SetRow) → All (Ends P) l → (i : ℕ) → i < length l → Ends P (nth l i)
 unfolding All
 ends-at P [] a i h = absurd (omega arith)
-ends-at P (s ∷ l) a zero h = a .0
-ends-at P (s ∷ l) a (suc i) h = ends-at P l (a .1) i (omega arith)
+ends-at P (s ∷ l) a zero h = a.0
+ends-at P (s ∷ l) a (suc i) h = ends-at P l a.1 i (omega arith)
 
 module _ (sum : ℕ → ℤ) (n : ℕ) where
   chain-fine : (r : SetRow) (l : List SetRow) → Chain sum n r l → (i : ℕ) → i < suc (length l) → Fine sum n (nth (r ∷ l) i)
   unfolding Chain
   chain-fine r [] c zero h = c
   chain-fine r [] c (suc i) h = absurd (omega arith)
-  chain-fine r (s ∷ l) c zero h = c .0
-  chain-fine r (s ∷ l) c (suc i) h = chain-fine s l (c .2) i (omega arith)
+  chain-fine r (s ∷ l) c zero h = c.0
+  chain-fine r (s ∷ l) c (suc i) h = chain-fine s l c.2 i (omega arith)
 
-  chain-above : (r : SetRow) (l : List SetRow) → Chain sum n r l → (k : ℕ) → k < length l → r .up ≤ℤ nth l k .low
+  chain-above : (r : SetRow) (l : List SetRow) → Chain sum n r l → (k : ℕ) → k < length l → r.up ≤ℤ nth l k .low
   unfolding Chain
   chain-above r [] c k h = absurd (omega arith)
-  chain-above r (s ∷ l) c zero h = c .1 .order
+  chain-above r (s ∷ l) c zero h = c.1.order
   chain-above r (s ∷ l) c (suc k) h =
-      let a = c .1 .order in let b = chain-fine s l (c .2) 0 (omega arith) .wide in let d = chain-above s l (c .2) k (omega arith) in omega zarith
+      let a = c.1.order in let b = chain-fine s l c.2 0 (omega arith) .wide in let d = chain-above s l c.2 k (omega arith) in omega zarith
 
   chain-order : (r : SetRow) (l : List SetRow) → Chain sum n r l → (i k : ℕ) → i < k → k < suc (length l) → nth (r ∷ l) i .up ≤ℤ nth (r ∷ l) k .low
   unfolding Chain
   chain-order r l c i zero a b = absurd (omega arith)
   chain-order r l c zero (suc k) a b = chain-above r l c k (omega arith)
   chain-order r [] c (suc i) (suc k) a b = absurd (omega arith)
-  chain-order r (s ∷ l) c (suc i) (suc k) a b = chain-order s l (c .2) i k (omega arith) (omega arith)
+  chain-order r (s ∷ l) c (suc i) (suc k) a b = chain-order s l c.2 i k (omega arith) (omega arith)
 
   tiled-at : (l : List SetRow) → Tiled sum n l → (i : ℕ) → i < length l → Fine sum n (nth l i)
   unfolding Tiled
@@ -118,43 +117,43 @@ module _ (sum : ℕ → ℤ) (n : ℕ) where
     in-list i h = omega arith
 
     packed-at : (i : ℕ) → i < count → getD rows i zeroRow ≡ recordOf n (0 + partsOf i) (nth l i)
-    packed-at i h = sym (getD-take count rows i zeroRow h) ∙ ap (λ (r : List Row). getD r i zeroRow) (p .front) ∙ record-at n 0 l i (in-list i h)
+    packed-at i h = sym (getD-take count rows i zeroRow h) ∙ ap (λ (r : List Row). getD r i zeroRow) p.front ∙ record-at n 0 l i (in-list i h)
 
     -- the row that holds a window is its row
     found : (j : ℕ) → j < n → (row j < count) × (inside (nth l (row j) .low) (nth l (row j) .up) (sum j) ≡ true)
     unfolding rowIn placeIn endsBy
     found j b =
-        let a = covered-at (sum j) l (s .covers j b) in
-        let k = is-inside _ (nth l (a .place) .up) (sum j) (a .is) in
-        let in-count : a .place < count = omega (arith, a .below, p .many) in
-        let not-above : row j ≤ a .place = elim (decLt (a .place) (row j)) [
-          | yes h ↦ let e : getD rows (a .place) zeroRow .up ≤ℤ sum j = leZ-true (first-passes (endsBy rows (sum j)) count (a .place) h) in
-              let f : nth l (a .place) .up ≤ℤ sum j = rw (packed-at (a .place) in-count) at e in absurd (omega zarith)
+        let a = covered-at (sum j) l (s.covers j b) in
+        let k = is-inside _ (nth l a.place .up) (sum j) a.is in
+        let in-count : a.place < count = omega (arith, a.below, p.many) in
+        let not-above : row j ≤ a.place = elim (decLt a.place (row j)) [
+          | yes h ↦ let e : getD rows a.place zeroRow .up ≤ℤ sum j = leZ-true (first-passes (endsBy rows (sum j)) count a.place h) in
+              let f : nth l a.place .up ≤ℤ sum j = rw (packed-at a.place in-count) at e in absurd (omega zarith)
           | no h ↦ omega arith
         ] in
         let here : row j < count = omega (arith, in-count, not-above) in
         let top : sum j <ℤ getD rows (row j) zeroRow .up = no-leZ (first-fails (endsBy rows (sum j)) count here) in
         let top′ : sum j <ℤ nth l (row j) .up = rw (packed-at (row j) here) at top in
-        let same : row j ≡ a .place = elim (decLt (row j) (a .place)) [
-          | yes h ↦ let o = tiled-order l (s .tiled) (row j) (a .place) h (a .below) in absurd (omega zarith)
+        let same : row j ≡ a.place = elim (decLt (row j) a.place) [
+          | yes h ↦ let o = tiled-order l s.tiled (row j) a.place h a.below in absurd (omega zarith)
           | no h ↦ omega (arith, not-above)
         ] in
-        (here, rw same (a .is))
+        (here, rw same a.is)
 
     ranged : Ranged sum n rows count
     ranged = record {
-      within-rows = p .within;
-      wide = λ i h. rw (packed-at i h) (tiled-at l (s .tiled) i (in-list i h) .wide);
-      order = λ i k a h. rw (packed-at i (omega arith), packed-at k h) (tiled-order l (s .tiled) i k a (in-list k h));
-      limited = λ i h. let e = ends-at Limited l (s .ends) i (in-list i h) in rw (packed-at i h) (record { low-end = e .low-end; up-end = e .up-end });
+      within-rows = p.within;
+      wide = λ i h. rw (packed-at i h) (tiled-at l s.tiled i (in-list i h) .wide);
+      order = λ i k a h. rw (packed-at i (omega arith), packed-at k h) (tiled-order l s.tiled i k a (in-list k h));
+      limited = λ i h. let e = ends-at Limited l s.ends i (in-list i h) in rw (packed-at i h) (record { low-end = e.low-end; up-end = e.up-end });
       home = λ j b. found j b .0;
-      holds = λ j b. let f = found j b in rw (packed-at (row j) (f .0)) (is-inside (nth l (row j) .low) (nth l (row j) .up) (sum j) (f .1) .0);
+      holds = λ j b. let f = found j b in rw (packed-at (row j) f.0) (is-inside (nth l (row j) .low) (nth l (row j) .up) (sum j) f.1 .0);
     }
 
     -- each row has the windows of its number
     has-row : (i j : ℕ) → i < count → j < n → nth l i .has j ≡ isRow row i j
     has-row i j h b =
-        tiled-at l (s .tiled) i (in-list i h) .exact j b
+        tiled-at l s.tiled i (in-list i h) .exact j b
         ∙ (let k = held-row sum n rows count ranged i j h b in rw (packed-at i h) at k)
 
     counts : (i : ℕ) → i < count → runCount (nth l i .has) n ≡ runCount (isRow row i) n
@@ -174,7 +173,7 @@ module _ (sum : ℕ → ℤ) (n : ℕ) where
     packed-numbered = numbered-by row n 0 l (λ i j a b. let z : 0 + i ≡ i = omega arith in has-row i j (omega arith) b ∙ ap (λ (x : ℕ). isRow row x j) (sym z))
 
     pub packed-total : partAt row n count ≤ n
-    packed-total = omega (arith, sym (parts-are count (omega arith)), runs-total n l, s .total, ap (λ (x : ℕ). Σℕ x (λ y. runCount (nth l y .has) n)) (p .many))
+    packed-total = omega (arith, sym (parts-are count (omega arith)), runs-total n l, s.total, ap (λ (x : ℕ). Σℕ x (λ y. runCount (nth l y .has) n)) p.many)
 
 limited-by : (x : ℤ) → up x ≤ 1000000000 + dn x → dn x ≤ 1000000000 + up x → Limited x
 limited-by (pos n) a b = record { least = omega arith; most = omega arith }
@@ -201,7 +200,7 @@ module _ (s : List ℤ) (w e : ℕ) (h : Lent s w e) where
     packed-unnamed z = record {
       lent = h;
       ranges = packed-ranges sums windows l rows count g p;
-      few = omega (arith, p .many, g .few, windows-few);
+      few = omega (arith, p.many, g.few, windows-few);
       in-left = omega (arith, packed-total sums windows l rows count g p);
       in-right = omega (arith, packed-total sums windows l rows count g p);
       zeros = z;
@@ -211,7 +210,7 @@ module _ (s : List ℤ) (w e : ℕ) (h : Lent s w e) where
     pub packed-ready : ((i : ℕ) → i < count → NamedRow (rowIn rows count sums) windows i (partAt (rowIn rows count sums) windows i) left right)
         → Ready (record { windows = windows; list = l; row = rowIn rows count sums }) rows count left right
     packed-ready names = record {
-      some = omega (arith, p .many, covered-at (sums 0) l (g .covers 0 windows-some) .below);
+      some = omega (arith, p.many, covered-at (sums 0) l (g.covers 0 windows-some) .below);
       few = omega arith;
       short = windows-few;
       packed = p;

@@ -47,7 +47,7 @@ no-leZ {a} {b} h = omega (zarith, f-gt a b h)
 
 pub found-place : (rows : List Row) (n : ℕ) (z : ℤ) (k : ℕ) → Found rows n z k → k ≡ placeIn rows n z
 unfolding placeIn endsBy
-found-place rows n z k f = first-unique (endsBy rows z) n k (f .within) (λ i l. le-leZ (f .before i l)) (λ l. lt-leZ (f .at l))
+found-place rows n z k f = first-unique (endsBy rows z) n k f.within (λ i l. le-leZ (f.before i l)) (λ l. lt-leZ (f.at l))
 
 module _ (sum : ℕ → ℤ) (n : ℕ) (rows : List Row) (count : ℕ) (r : Ranged sum n rows count) where
   abbrev row : ℕ → ℕ
@@ -55,9 +55,9 @@ module _ (sum : ℕ → ℤ) (n : ℕ) (rows : List Row) (count : ℕ) (r : Rang
 
   pub range-climbs : Climbs rows count
   range-climbs = record {
-    within = r .within-rows;
+    within = r.within-rows;
     up = λ i j l b. elim (decLt i j) [
-      | yes h ↦ let a = r .order i j h b in let c = r .wide j b in omega zarith
+      | yes h ↦ let a = r.order i j h b in let c = r.wide j b in omega zarith
       | no f ↦ let e : i ≡ j = omega arith in rw e (≤ℤ-refl _)
     ];
   }
@@ -65,7 +65,7 @@ module _ (sum : ℕ → ℤ) (n : ℕ) (rows : List Row) (count : ℕ) (r : Rang
   -- the row's upper end is above the sum, and no end before it
   below-up : (j : ℕ) → j < n → sum j <ℤ getD rows (row j) zeroRow .up
   unfolding rowIn placeIn endsBy
-  below-up j l = no-leZ (first-fails (endsBy rows (sum j)) count (r .home j l))
+  below-up j l = no-leZ (first-fails (endsBy rows (sum j)) count (r.home j l))
 
   above-others : (j i : ℕ) → i < row j → getD rows i zeroRow .up ≤ℤ sum j
   unfolding rowIn placeIn endsBy
@@ -75,12 +75,12 @@ module _ (sum : ℕ → ℤ) (n : ℕ) (rows : List Row) (count : ℕ) (r : Rang
   pub held-row : (i j : ℕ) → i < count → j < n → inside (getD rows i zeroRow .low) (getD rows i zeroRow .up) (sum j) ≡ isRow row i j
   unfolding isRow
   held-row i j b l = by-test (eqb (row j) i)
-      (λ t. let e = eqb-true (row j) i t in rw (t, ← e) (inside-yes _ _ (sum j) (r .holds j l) (below-up j l)))
+      (λ t. let e = eqb-true (row j) i t in rw (t, ← e) (inside-yes _ _ (sum j) (r.holds j l) (below-up j l)))
       (λ f. let q : (row j ≡ i) → ⊥ = eqb-false (row j) i f in rw f (by-test (inside (getD rows i zeroRow .low) (getD rows i zeroRow .up) (sum j))
       (λ t. let k = is-inside _ _ (sum j) t in absurd (elim (decLt i (row j)) [
         | yes h ↦ let a = above-others j i h in omega zarith
         | no h ↦ let c : row j < i = elim (decLt (row j) i) [ yes m ↦ m | no m ↦ absurd (q (omega arith)) ] in
-            let a = r .order (row j) i c b in let d = below-up j l in omega zarith
+            let a = r.order (row j) i c b in let d = below-up j l in omega zarith
       ]))
       (λ t. t)))
 
@@ -97,18 +97,18 @@ unfolding isRow
 stop-run sum lv k n rows count h lv-is from r z less s = record {
   ahead = elim (decLt from r) [
     | yes l ↦ l
-    | no f ↦ let e : r ≡ from = omega arith in clash (mine from less ∙ eq-eqb (row from) (row from) refl) (rw e at (c .other (omega arith)))
+    | no f ↦ let e : r ≡ from = omega arith in clash (mine from less ∙ eq-eqb (row from) (row from) refl) (rw e at (c.other (omega arith)))
   ];
-  below = c .below;
-  same = λ j a b. eqb-true (row j) (row from) (sym (mine j (omega arith)) ∙ c .same j a b);
-  other = λ l e. clash (mine r l ∙ eq-eqb (row r) (row from) e) (c .other l);
+  below = c.below;
+  same = λ j a b. eqb-true (row j) (row from) (sym (mine j (omega arith)) ∙ c.same j a b);
+  other = λ l e. clash (mine r l ∙ eq-eqb (row r) (row from) e) (c.other l);
 }
   where
     row : ℕ → ℕ
     row = rowIn rows count sum
 
     c : Change (λ j. within (raisedEnd k (getD rows (rowIn rows count sum from) zeroRow .low)) (raisedEnd k (getD rows (rowIn rows count sum from) zeroRow .up)) (lv j)) from n r
-    c = s .change
+    c = s.change
 
     mine : (j : ℕ) → j < n → within (raisedEnd k (getD rows (rowIn rows count sum from) zeroRow .low)) (raisedEnd k (getD rows (rowIn rows count sum from) zeroRow .up)) (lv j) ≡ eqb (rowIn rows count sum j) (rowIn rows count sum from)
-    mine j l = within-is (getD rows (rowIn rows count sum from) zeroRow .low) (getD rows (rowIn rows count sum from) zeroRow .up) (lv-is j) ∙ held-row sum n rows count h (rowIn rows count sum from) j (h .home from less) l
+    mine j l = within-is (getD rows (rowIn rows count sum from) zeroRow .low) (getD rows (rowIn rows count sum from) zeroRow .up) (lv-is j) ∙ held-row sum n rows count h (rowIn rows count sum from) j (h.home from less) l

@@ -32,19 +32,19 @@ module _ (ss : List ℤ) (w e : ℕ) (rows : List Row) (n : ℕ) (ls ks : List �
       place-in = turn-place ss w e rows n ls ks asked at before name left right way some
 
       module _ {r : Row} (is-r : r ≡ getD rows (name - 1) zeroRow) where
-        pub asks-end : Lent ss w e × (at .offset ≤ windowsOf ss w) × (at .level ≡ level ss w e (at .offset)) × LimitedRow r
+        pub asks-end : Lent ss w e × (at.offset ≤ windowsOf ss w) × (at.level ≡ level ss w e at.offset) × LimitedRow r
         asks-end = rw is-r (turn-end ss w e rows n ls ks asked at before name left right way some)
 
-        module _ {next : Window} (stop : Stop (level ss w e) (windowsOf ss w) (raisedEnd (10000 * w + e) (r .low)) (raisedEnd (10000 * w + e) (r .up)) (at .offset) (next .offset) (next .level)) where
-          pub nearer-end : windowsOf ss w - next .offset < windowsOf ss w - at .offset
+        module _ {next : Window} (stop : Stop (level ss w e) (windowsOf ss w) (raisedEnd (10000 * w + e) r.low) (raisedEnd (10000 * w + e) r.up) at.offset next.offset next.level) where
+          pub nearer-end : windowsOf ss w - next.offset < windowsOf ss w - at.offset
           nearer-end = turn-nearer ss w e rows n ls ks asked at before name left right way some next (rw is-r at stop)
 
           pub asks-name : Nameable rows n w e next
-          asks-name = let b = turn-next ss w e rows n ls ks asked at before name left right way some next (rw is-r at stop) in nameable ss w e rows n ls ks asked next (b .0) (b .1)
+          asks-name = let b = turn-next ss w e rows n ls ks asked at before name left right way some next (rw is-r at stop) in nameable ss w e rows n ls ks asked next b.0 b.1
 
           module _ {after : ℕ} (is : after ≡ nameIn rows n (length ss) w e next) where
             pub asks-file : (before ≤ 4294967295) × (after ≤ 4294967295) × PartRoom r left right
             asks-file = rw (is, is-r) (turn-asks ss w e rows n ls ks asked at before name left right way some next (rw is-r at stop))
 
-            pub turned : {zl zr : List ℕ} → (zl ≡ set left (r .first + written r right) before) × (zr ≡ fileRight right (r .first) (r .runs) (written r right) after) → Way next name after zl zr
-            turned {zl} {zr} said = rw is (underway-turn ss w e rows n ls ks asked at before name left right way some next (rw is-r at stop) zl zr (rw is-r at (said .0)) (rw (is, is-r) at (said .1)))
+            pub turned : {zl zr : List ℕ} → (zl ≡ set left (r.first + written r right) before) × (zr ≡ fileRight right r.first r.runs (written r right) after) → Way next name after zl zr
+            turned {zl} {zr} said = rw is (underway-turn ss w e rows n ls ks asked at before name left right way some next (rw is-r at stop) zl zr (rw is-r at said.0) (rw (is, is-r) at said.1))

@@ -8,8 +8,7 @@ use mathlib.Core.List.{List}
 use mathlib.Core.Path.{_≡_}
 use Rattle.meaning_curves.specs.Curve.{windowSum, windowCount}
 use Rattle.meaning_rows.specs.declared.Row.{Row}
-use Rattle.sums_slide.specs.declared.Window.{Window}
-use Rattle.sums_slide.specs.Levels.{level, Lent, windowsOf, level-small, sumAt}
+use Rattle.sums_slide.specs.{declared.Window.Window, Levels.level, Levels.Lent, Levels.windowsOf, Levels.level-small, Levels.sumAt}
 use Rattle.rows_find.specs.Search.{Climbs}
 use Rattle.build_merge.specs.Merging.{partAt}
 use Rattle.build_names.specs.Ranges.{placeIn, rowIn, RangeRows}
@@ -20,7 +19,7 @@ nameFor len w j i = cond (ltb j (windowCount len w)) (i + 1) 0
 
 -- the name of a window's row among the first `count`
 abbrev pub nameIn : List Row → ℕ → ℕ → ℕ → ℕ → Window → ℕ
-nameIn rows count len w e at = nameFor len w (at .offset) (placeIn rows count (sumAt w e at))
+nameIn rows count len w e at = nameFor len w at.offset (placeIn rows count (sumAt w e at))
 
 -- a window's row can be named
 pub record Nameable (rows : List Row) (count w e : ℕ) (at : Window) : Type 0 where
@@ -28,8 +27,8 @@ pub record Nameable (rows : List Row) (count w e : ℕ) (at : Window) : Type 0 w
   pub some : 1 ≤ w
   pub most : w ≤ 256
   pub small : e ≤ 1000000
-  pub level-small : at .level ≤ 1000000000
-  pub offset-small : at .offset ≤ 1048576
+  pub level-small : at.level ≤ 1000000000
+  pub offset-small : at.offset ≤ 1048576
   pub few : count ≤ 4294967294
 
 -- the rows of the windows stand in the records, and their parts are empty

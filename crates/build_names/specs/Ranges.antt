@@ -20,8 +20,8 @@ pub record Limited (x : ℤ) : Type 0 where
 
 -- both ends of a range
 pub record LimitedRow (r : Row) : Type 0 where
-  pub low-end : Limited (r .low)
-  pub up-end : Limited (r .up)
+  pub low-end : Limited r.low
+  pub up-end : Limited r.up
 
 -- the first of the numbers below n that does not pass, or n
 unfoldable pub firstNot : (ℕ → Bool) → ℕ → ℕ

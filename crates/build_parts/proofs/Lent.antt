@@ -47,20 +47,20 @@ rest-file b l n t v = by-test (ltb (t + 1) n)
 -- the part of a row that is not full
 module _ (r : Row) (left right : List ℕ) (h : PartRoom r left right) where
   -- as many of its entries are written as the column says
-  written-is : writtenIn (r .runs) (lentFrom (r .first) right) ≡ written r right
+  written-is : writtenIn r.runs (lentFrom r.first right) ≡ written r right
   written-is =
-      let e : r .first + (r .runs - 1) ≡ r .first + r .runs - 1 = omega (arith, h .more) in
-      ap (writtenIn (r .runs)) (lent-is (r .first) right) ∙ getD-drop (r .first) right (r .runs - 1) 0 ∙ ap (λ (k : ℕ). getD right k 0) e
+      let e : r.first + (r.runs - 1) ≡ r.first + r.runs - 1 = omega (arith, h.more) in
+      ap (writtenIn r.runs) (lent-is r.first right) ∙ getD-drop r.first right (r.runs - 1) 0 ∙ ap (λ (k : ℕ). getD right k 0) e
 
-  pub entry-room : EntryRoom (r .runs) (lentFrom (r .first) left) (lentFrom (r .first) right)
+  pub entry-room : EntryRoom r.runs (lentFrom r.first left) (lentFrom r.first right)
   entry-room = record {
-    in-left = omega (arith, h .in-left, ap length (lent-is (r .first) left), length-drop (r .first) left);
-    in-right = omega (arith, h .in-right, ap length (lent-is (r .first) right), length-drop (r .first) right);
-    more = rw written-is (h .more);
+    in-left = omega (arith, h.in-left, ap length (lent-is r.first left), length-drop r.first left);
+    in-right = omega (arith, h.in-right, ap length (lent-is r.first right), length-drop r.first right);
+    more = rw written-is h.more;
   }
 
-  pub left-back : (x : ℕ) (last : List ℕ) → last ≡ set (lentFrom (r .first) left) (writtenIn (r .runs) (lentFrom (r .first) right)) x → backAt (r .first) left last ≡ set left (r .first + written r right) x
-  left-back x last e = back-set (r .first) left last (written r right) x (e ∙ rw written-is)
+  pub left-back : (x : ℕ) (last : List ℕ) → last ≡ set (lentFrom r.first left) (writtenIn r.runs (lentFrom r.first right)) x → backAt r.first left last ≡ set left (r.first + written r right) x
+  left-back x last e = back-set r.first left last (written r right) x (e ∙ rw written-is)
 
-  pub right-back : (y : ℕ) (last : List ℕ) → last ≡ fileRight (lentFrom (r .first) right) 0 (r .runs) (writtenIn (r .runs) (lentFrom (r .first) right)) y → backAt (r .first) right last ≡ fileRight right (r .first) (r .runs) (written r right) y
-  right-back y last e = back-made (r .first) right last (λ k. fileRight k 0 (r .runs) (written r right) y) (e ∙ rw written-is) ∙ rest-file (r .first) right (r .runs) (written r right) y
+  pub right-back : (y : ℕ) (last : List ℕ) → last ≡ fileRight (lentFrom r.first right) 0 r.runs (writtenIn r.runs (lentFrom r.first right)) y → backAt r.first right last ≡ fileRight right r.first r.runs (written r right) y
+  right-back y last e = back-made r.first right last (λ k. fileRight k 0 r.runs (written r right) y) (e ∙ rw written-is) ∙ rest-file r.first right r.runs (written r right) y

@@ -10,8 +10,8 @@ use native.Mathlib.Omega.{arith}
 use Rattle.meaning_numbers.specs.Sum.{Σℕ}
 use Rattle.meaning_numbers.proofs.{Sum.Σℕ-more, Sum.Σℕ-fewer, Tests.clash}
 use Rattle.meaning_rows.specs.Runs.{before, runCount}
-use Rattle.meaning_rows.proofs.{Runs.before-none, Runs.before-more, Columns.runCount-mono, Parts.Laid, Parts.Parts, Parts.parts-start, Parts.run-count}
 use Rattle.meaning_rows.proofs.Cursors.{Cursors, cursors-start, fileRight, length-file, filed-other, filed-run}
+use Rattle.meaning_rows.proofs.{Runs.before-none, Runs.before-more, Columns.runCount-mono, Parts.Laid, Parts.Parts, Parts.parts-start, Parts.run-count}
 
 module _ (R W : ℕ) (P : ℕ → ℕ → Bool) where
   -- where the part of row i begins, and how long all parts are
@@ -56,11 +56,11 @@ module _ (R W : ℕ) (P : ℕ → ℕ → Bool) where
     module _ {i from : ℕ} (row : i < R) (below : from < W) (is : P i from ≡ true) {left right : List ℕ} (f : Filling from left right) where
       pub some-left : runCount (P i) from < runCount (P i) W
       some-left =
-          let one : runCount (P i) (from + 1) ≡ runCount (P i) from + 1 = run-count (P i) from 0 (f .fresh i row below is) (λ j a b. let e : j ≡ from = omega arith in ap (P i) e ∙ is) in
+          let one : runCount (P i) (from + 1) ≡ runCount (P i) from + 1 = run-count (P i) from 0 (f.fresh i row below is) (λ j a b. let e : j ≡ from = omega arith in ap (P i) e ∙ is) in
           omega (arith, one, runCount-mono (P i) (from + 1) W (omega arith))
 
       pub cursor-is : getD right (partStart i + runCount (P i) W - 1) 0 ≡ runCount (P i) from
-      cursor-is = f .cursors .cursor i row some-left
+      cursor-is = f.cursors.cursor i row some-left
 
     module _ {i from r : ℕ} (h : RunOf i from r) (left right : List ℕ) (f : Filling from left right) where
       abbrev size : ℕ
@@ -74,45 +74,45 @@ module _ (R W : ℕ) (P : ℕ → ℕ → Bool) where
       d = r - from - 1
 
       end : from + suc d ≡ r
-      end = omega (arith, h .ahead)
+      end = omega (arith, h.ahead)
 
       here : P i from ≡ true
-      here = h .mine from (omega arith) (h .ahead)
+      here = h.mine from (omega arith) h.ahead
 
       less : done < size
-      less = some-left (h .row) (omega (arith, h .ahead, h .below)) here f
+      less = some-left h.row (omega (arith, h.ahead, h.below)) here f
 
       cut : before (P i) from ≡ false
-      cut = f .fresh i (h .row) (omega (arith, h .ahead, h .below)) here
+      cut = f.fresh i h.row (omega (arith, h.ahead, h.below)) here
 
       room : partStart i + size ≤ partsTotal
-      room = parts-laid .room i (h .row)
+      room = parts-laid.room i h.row
 
       next-fresh : (k : ℕ) → k < R → r < W → P k r ≡ true → before (P k) r ≡ false
       next-fresh k l m t =
-          let e : r ≡ (r - 1) + 1 = omega (arith, h .ahead) in
-          let other : (k ≡ i) → ⊥ = λ q. clash (ap (λ (x : ℕ). P x r) (sym q) ∙ t) (h .stops m) in
-          ap (before (P k)) e ∙ before-more (P k) (r - 1) ∙ h .others (r - 1) k (omega (arith, h .ahead)) (omega (arith, h .ahead)) l other
+          let e : r ≡ (r - 1) + 1 = omega (arith, h.ahead) in
+          let other : (k ≡ i) → ⊥ = λ q. clash (ap (λ (x : ℕ). P x r) (sym q) ∙ t) (h.stops m) in
+          ap (before (P k)) e ∙ before-more (P k) (r - 1) ∙ h.others (r - 1) k (omega (arith, h.ahead)) (omega (arith, h.ahead)) l other
 
       pub filling-run : Filling r (set left (partStart i + done) from) (fileRight right (partStart i) size done (r - 1))
       filling-run =
-          let last : from + d ≡ r - 1 = omega (arith, h .ahead) in
-          let g = filed-run R W P partStart partsTotal parts-laid i from d (h .row) cut (omega (arith, end, h .below))
-          (λ j a b. h .mine j a (omega (arith, end))) (λ j k a b. h .others j k a (omega (arith, end))) left right (f .in-left) (f .in-right) (f .parts) (f .cursors) in
+          let last : from + d ≡ r - 1 = omega (arith, h.ahead) in
+          let g = filed-run R W P partStart partsTotal parts-laid i from d h.row cut (omega (arith, end, h.below))
+          (λ j a b. h.mine j a (omega (arith, end))) (λ j k a b. h.others j k a (omega (arith, end))) left right f.in-left f.in-right f.parts f.cursors in
           let l = length-set left (partStart i + done) from in
           let m = length-file right (partStart i) size done (r - 1) in
-          let p = rw (end, last) at (g .0) in
-          let c = rw (end, last) at (g .1) in
+          let p = rw (end, last) at g.0 in
+          let c = rw (end, last) at g.1 in
           record {
             parts = p;
             cursors = c;
             fresh = next-fresh;
-            in-left = omega (arith, f .in-left, l);
-            in-right = omega (arith, f .in-right, m);
-            past-left = λ x b. getD-set-other left (partStart i + done) x from 0 (λ q. omega (arith, less, room)) ∙ f .past-left x b;
-            past-right = λ x b. filed-other right (partStart i) size done (r - 1) x (λ q. omega (arith, less, room)) (λ q. omega (arith, less, room)) ∙ f .past-right x b;
-            long-left = l ∙ f .long-left;
-            long-right = m ∙ f .long-right;
+            in-left = omega (arith, f.in-left, l);
+            in-right = omega (arith, f.in-right, m);
+            past-left = λ x b. getD-set-other left (partStart i + done) x from 0 (λ q. omega (arith, less, room)) ∙ f.past-left x b;
+            past-right = λ x b. filed-other right (partStart i) size done (r - 1) x (λ q. omega (arith, less, room)) (λ q. omega (arith, less, room)) ∙ f.past-right x b;
+            long-left = l ∙ f.long-left;
+            long-right = m ∙ f.long-right;
           }
 
   -- buffers long enough, with 0 in the right one: as it begins

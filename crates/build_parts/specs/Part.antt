@@ -16,10 +16,10 @@ pub record EntryRoom (n : ℕ) (left right : List ℕ) : Type 0 where
 
 -- the same of a row's part in the whole buffer
 abbrev pub written : Row → List ℕ → ℕ
-written r right = getD right (r .first + r .runs - 1) 0
+written r right = getD right (r.first + r.runs - 1) 0
 
 -- the same of a row in the whole buffer (`entry-room` of `Lent`)
 pub record PartRoom (r : Row) (left right : List ℕ) : Type 0 where
-  pub in-left : r .first + r .runs ≤ length left
-  pub in-right : r .first + r .runs ≤ length right
-  pub more : written r right < r .runs
+  pub in-left : r.first + r.runs ≤ length left
+  pub in-right : r.first + r.runs ≤ length right
+  pub more : written r right < r.runs

@@ -3,7 +3,8 @@ use Rattle.meaning_numbers.proofs.Prelude.{List, ℕ, _≤_, T, ℤ, pos, lengt
 use Rattle.meaning_curves.specs.{Limits.mostValues, Curve.windowCount}
 use Rattle.meaning_curves.proofs.Values.{AllIn}
 use Rattle.meaning_entries.specs.Build.{lentBuild, buildLines}
-use Rattle.meaning_entries.proofs.{Refusal.AllPass, Refusal.openLines, Refusal.passed-line, Refusal.passed-behind, Refusal.lacks, Lines.long-line, Lines.values-line, Lines.window-line, Lines.width-line, Lines.merge-line, Lines.room-line}
+use Rattle.meaning_entries.proofs.Refusal.{AllPass, openLines, passed-line, passed-behind, lacks}
+use Rattle.meaning_entries.proofs.Lines.{long-line, values-line, window-line, width-line, merge-line, room-line}
 
 -- numbers in their limits, and room
 pub record Goes (s : List ℤ) (w d g rows runs : ℕ) : Type 0 where
@@ -31,11 +32,11 @@ module _ (s : List ℤ) (w d g rows runs : ℕ) where
       record {
         values = values-line s (passed-line t 2);
         long = long-line mostValues (length s) (passed-line t 1) .most;
-        some = window .0 .least;
-        most = window .0 .most;
-        fits = omega (zarith, window .1);
-        least-width = width .least;
-        most-width = width .most;
+        some = window.0.least;
+        most = window.0.most;
+        fits = omega (zarith, window.1);
+        least-width = width.least;
+        most-width = width.most;
         most-merge = merge-line (pos g) (passed-line t 5) .most;
         in-rows = room-line _ _ (passed-line t 23);
         in-runs = room-line _ _ (passed-line (passed-behind t 23) 23);

@@ -14,7 +14,7 @@ turn false i n h = ne-eqb n (suc i) (λ e. omega arith) ∙ sym (and-false (eqb 
 
 module _ (x : Index) (range : ℕ → ℤ × ℤ) where
   abbrev w : ℕ
-  w = natAbs (x .window)
+  w = natAbs x.window
 
   -- one part more, behind the others
   candidate-more : (k n j : ℕ) → candidate x (map range (numbersFrom k (suc n))) j ≡ (candidate x (map range (numbersFrom k n)) j && admits x (range (k + n)) (j + n * w))

@@ -40,14 +40,14 @@ between-past from i = rw (le-ltb i i (omega arith)) (and-false (leb from i))
 pub raise-more : (part from i v : ℕ) (old now : List ℕ) → from ≤ i → i < length now → Raised part (between from i) old now → v ≡ bump true part (getD now i 0)
     → Raised part (between from (i + 1)) old (set now i v)
 raise-more part from i v old now h l r e = record {
-  long = length-set now i v ∙ r .long;
+  long = length-set now i v ∙ r.long;
   at = λ j. by-test _
-      (λ t. let s = eqb-true j i t in rw (s, getD-set-same now i v 0 l, e, r .at i, between-past from i, between-here from i h, bump-none part _))
-      (λ f. let n = eqb-false j i f in rw (getD-set-other now i j v 0 n, between-before from i j n) (r .at j));
+      (λ t. let s = eqb-true j i t in rw (s, getD-set-same now i v 0 l, e, r.at i, between-past from i, between-here from i h, bump-none part _))
+      (λ f. let n = eqb-false j i f in rw (getD-set-other now i j v 0 n, between-before from i j n) (r.at j));
 }
 
 pub raised-cong : (part : ℕ) (p q : ℕ → Bool) (old new : List ℕ) → ((j : ℕ) → p j ≡ q j) → Raised part p old new → Raised part q old new
-raised-cong part p q old new h r = record { long = r .long; at = λ j. rw (sym (h j)) (r .at j) }
+raised-cong part p q old new h r = record { long = r.long; at = λ j. rw (sym (h j)) (r.at j) }
 
 same-end : (from i to j : ℕ) → to ≤ i → i ≤ max from to → between from i j ≡ between from to j
 same-end from i to j h k = by-test _
@@ -88,13 +88,13 @@ pub going-next : (part offsets shift l r : ℕ) (all rest : List Entry) (old now
     → Raised part (between (min (l - shift) offsets) (min (r + 1 - shift) offsets)) now new → Going part offsets shift all rest old new
 unfolding any
 going-next part offsets shift l r all rest old now new g h = record {
-  long = h .long ∙ g .long;
-  at = λ j. rw (h .at j, run-reached offsets shift l r j, bump-twice (ltb j offsets && inRun (j + shift) (pos l, pos r)) (reached offsets shift rest j) part (getD now j 0), sym (split-run (ltb j offsets) (inRun (j + shift) (pos l, pos r)) (any (inRun (j + shift)) rest))) (g .at j);
+  long = h.long ∙ g.long;
+  at = λ j. rw (h.at j, run-reached offsets shift l r j, bump-twice (ltb j offsets && inRun (j + shift) (pos l, pos r)) (reached offsets shift rest j) part (getD now j 0), sym (split-run (ltb j offsets) (inRun (j + shift) (pos l, pos r)) (any (inRun (j + shift)) rest))) (g.at j);
 }
 
 pub going-ends : (part offsets shift : ℕ) (all : List Entry) (old new : List ℕ) → Going part offsets shift all [] old new → Raised part (reached offsets shift all) old new
 unfolding any
 going-ends part offsets shift all old new g = record {
-  long = g .long;
-  at = λ j. sym (bump-none part _) ∙ rw (sym (and-false (ltb j offsets))) (g .at j);
+  long = g.long;
+  at = λ j. sym (bump-none part _) ∙ rw (sym (and-false (ltb j offsets))) (g.at j);
 }

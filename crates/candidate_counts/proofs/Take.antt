@@ -3,7 +3,8 @@ use Rattle.meaning_numbers.specs.Sum.{bit, count}
 use Rattle.meaning_numbers.proofs.Count.{bit-le, bit-false, count-more, never-count}
 use Rattle.meaning_numbers.proofs.Prelude.{_≡_, refl, sym, ap, _∙_, Bool, true, false, not, _&&_, List, ℕ, zero, suc, _+_, _-_, _<_, _≤_, arith, le-step, length, length-set}
 use Rattle.meaning_rows.specs.Runs.{before, takeIn, runs}
-use Rattle.meaning_rows.proofs.{Runs.runs-more, Runs.runCount-more, Runs.before-more, Runs.runs-le, Columns.putLeft, Columns.putRight, Columns.Filling, Columns.filling-next}
+use Rattle.meaning_rows.proofs.Runs.{runs-more, runCount-more, before-more, runs-le}
+use Rattle.meaning_rows.proofs.Columns.{putLeft, putRight, Filling, filling-next}
 use Rattle.candidate_counts.specs.{declared.Found.Found, Take.Took}
 
 -- ---- an offset that is not in the set
@@ -13,9 +14,9 @@ module _ {p : ℕ → Bool} {left₀ right₀ : List ℕ} {k : ℕ} {left right 
   unfolding takeIn
   passed {j} out f = record {
     prev-is = sym (before-more p j ∙ out);
-    count-is = omega (arith, f .count-is, runCount-more p j, ap (λ (t : Bool). bit (t && not (before p j))) out, bit-false refl);
-    left-is = f .left-is ∙ rw (runs-more p j, out);
-    right-is = f .right-is ∙ rw (runs-more p j, out);
+    count-is = omega (arith, f.count-is, runCount-more p j, ap (λ (t : Bool). bit (t && not (before p j))) out, bit-false refl);
+    left-is = f.left-is ∙ rw (runs-more p j, out);
+    right-is = f.right-is ∙ rw (runs-more p j, out);
   }
 
   passed-all : (from n : ℕ) {prev : Bool} → ((i : ℕ) → i < suc n → p (from + i) ≡ false) → Filling p left₀ right₀ from k prev left right → Filling p left₀ right₀ (from + suc n) k false left right
@@ -32,7 +33,7 @@ count-passed p from (suc n) out =
 
 -- ---- offsets passed over
 
-pub took-none : (p : ℕ → Bool) (from n : ℕ) (a : Found) (left right : List ℕ) → 0 < n → count (λ k. p (from + k)) n ≡ 0 → Took p from n a (record { runs = a .runs; candidates = a .candidates; going = false }) left right left right
+pub took-none : (p : ℕ → Bool) (from n : ℕ) (a : Found) (left right : List ℕ) → 0 < n → count (λ k. p (from + k)) n ≡ 0 → Took p from n a (record { runs = a.runs; candidates = a.candidates; going = false }) left right left right
 took-none p from zero a left right some none = absurd (omega arith)
 took-none p from (suc n) a left right some none =
     let out = never-count (λ k. p _) (suc n) none in
@@ -82,14 +83,14 @@ module _ {set : ℕ → Bool} {from i k₀ found₀ : ℕ} {prev₀ : Bool} {k f
   taking-next {here} {k′} {left′} {right′} t is ek el er =
       let e : from + (i + 1) ≡ (from + i) + 1 = omega arith in
       record {
-        long-left = ap length el ∙ length-put-left here prev left k _ ∙ t .long-left;
-        long-right = ap length er ∙ length-put-right here prev right k _ ∙ t .long-right;
-        few = omega (arith, t .few, bit-le (here && not prev));
-        fewer = omega (arith, t .fewer, bit-le here);
-        begun = rw ek (begun-next here prev k (t .begun));
+        long-left = ap length el ∙ length-put-left here prev left k _ ∙ t.long-left;
+        long-right = ap length er ∙ length-put-right here prev right k _ ∙ t.long-right;
+        few = omega (arith, t.few, bit-le (here && not prev));
+        fewer = omega (arith, t.fewer, bit-le here);
+        begun = rw ek (begun-next here prev k t.begun);
         took = record {
-          counted = λ c. rw e (omega (arith, t .took .counted c, count-more set (from + i), ap bit is));
+          counted = λ c. rw e (omega (arith, t.took.counted c, count-more set (from + i), ap bit is));
           filling = λ l₀ r₀ hl hr f.
-              rw e (filling-next (t .took .filling l₀ r₀ (omega arith) (omega arith) f) is {W = from + (i + 1)} (omega arith) (omega (arith, runs-le set (from + (i + 1)))) (omega (arith, runs-le set (from + (i + 1)))) ek el er);
+              rw e (filling-next (t.took.filling l₀ r₀ (omega arith) (omega arith) f) is {W = from + (i + 1)} (omega arith) (omega (arith, runs-le set (from + (i + 1)))) (omega (arith, runs-le set (from + (i + 1)))) ek el er);
         };
       }

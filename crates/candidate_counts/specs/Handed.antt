@@ -25,5 +25,5 @@ pub record Columns (set : ℕ → Bool) (n : ℕ) (left₀ right₀ left right :
 pub record Handed (set : ℕ → Bool) (n : ℕ) (left₀ right₀ left right : List ℕ) (k found : ℕ) : Type 0 where
   pub count-is : k ≡ runCount set n
   pub found-is : found ≡ count set n
-  pub left-is : left ≡ filled 0 (map (λ x. x .0) (runs set n)) left₀
-  pub right-is : right ≡ filled 0 (map (λ x. x .1) (runs set n)) right₀
+  pub left-is : left ≡ filled 0 (map (λ x. x.0) (runs set n)) left₀
+  pub right-is : right ≡ filled 0 (map (λ x. x.1) (runs set n)) right₀

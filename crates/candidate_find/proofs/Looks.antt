@@ -20,10 +20,8 @@ use Rattle.rows_judge.proofs.Scan.{length-entries}
 use Rattle.refusals.specs.{declared.Refusal.Refusal, Refusal.refusalOf, Refusal.asRefusal}
 use Rattle.candidate_counts.proofs.{LeadingLaws.leading, LeadingLaws.Counted, Leading.leading-all}
 use Rattle.candidate_met.specs.{declared.Span.Span, Met.clampOf, Met.metSpan}
-use Rattle.candidate_met.proofs.{Parts.FoundAll, Meaning.cleared-zeros, Meaning.found-all, Stored.raised-most, Stored.lowered}
-use Rattle.candidate_met.proofs.Spanned.{span-admits, span-inside, span-few, clamp-admits, climbs}
-use Rattle.candidate_plan.specs.Tables.{planOf}
-use Rattle.candidate_plan.specs.Allowed.{Allowed, thePlan, plan-is, goes-on, allowed}
+use Rattle.candidate_met.proofs.{Parts.FoundAll, Meaning.cleared-zeros, Meaning.found-all, Stored.raised-most, Stored.lowered, Spanned.span-admits, Spanned.span-inside, Spanned.span-few, Spanned.clamp-admits, Spanned.climbs}
+use Rattle.candidate_plan.specs.{Tables.planOf, Allowed.Allowed, Allowed.thePlan, Allowed.plan-is, Allowed.goes-on, Allowed.allowed}
 use Rattle.candidate_spans.specs.{Held.at, Held.RangesReady, Held.RangesHeld, Met.spanAt, Met.MeetReady, Met.AllMet, Raised.stretchHit}
 use Rattle.candidate_spans.proofs.Raised.{counted-all}
 use Rattle.candidate_find.specs.{declared.Sought.Sought, Sought.stopped, Sought.HandReady, Sought.HandedOut, Sought.SoughtKept}
@@ -54,7 +52,7 @@ module _ (s : List ℤ) (h : Head) (rows : List Row) (left right : List ℕ) (as
   m = length q
 
   abbrev w : ℕ
-  w = h .window
+  w = h.window
 
   abbrev p : ℕ
   p = m / w
@@ -69,38 +67,38 @@ module _ (s : List ℤ) (h : Head) (rows : List Row) (left right : List ℕ) (as
   call = lentSearch s h rows left right ask q
 
   abbrev range : ℕ → ℤ × ℤ
-  range = rangeOf (ask .kind) (at q) m (ask .limits) w
+  range = rangeOf ask.kind (at q) m ask.limits w
 
-  a : Allowed s h x ask q (pairRoom (b .left) (b .right)) (length (b .scratch))
+  a : Allowed s h x ask q (pairRoom b.left b.right) (length b.scratch)
   a = allowed s h rows left right ask q b z
 
   window-in : (1 ≤ w) × (w ≤ 256)
-  window-in = (a .formed .head .window .least, a .formed .head .window .most)
+  window-in = (a.formed.head.window.least, a.formed.head.window.most)
 
-  pub put-asked : RangesReady (ask .kind) q (ask .limits) w (b .left) (b .right)
+  pub put-asked : RangesReady ask.kind q ask.limits w b.left b.right
   put-asked =
-      let k = parts-le m w _ (window-in .0) (a .window) (a .inside) in
+      let k = parts-le m w _ window-in.0 a.window a.inside in
       record {
-        values = a .query;
-        some = a .some;
-        few = a .few;
-        not-flat = a .not-flat;
-        window = window-in .0;
-        limits = record { window = window-in .1; threshold = a .threshold; scale = omega (arith, a .scale-low); scale-most = a .scale-high; shift = a .shift };
-        first-room = omega (arith, k, a .candidates-fit);
-        last-room = omega (arith, k, a .candidates-fit);
+        values = a.query;
+        some = a.some;
+        few = a.few;
+        not-flat = a.not-flat;
+        window = window-in.0;
+        limits = record { window = window-in.1; threshold = a.threshold; scale = omega (arith, a.scale-low); scale-most = a.scale-high; shift = a.shift };
+        first-room = omega (arith, k, a.candidates-fit);
+        last-room = omega (arith, k, a.candidates-fit);
       }
 
-  module _ {first₁ last₁ : List ℕ} (held : RangesHeld (ask .kind) q (ask .limits) w (b .left) (b .right) first₁ last₁) where
+  module _ {first₁ last₁ : List ℕ} (held : RangesHeld ask.kind q ask.limits w b.left b.right first₁ last₁) where
     pub meet-asked : MeetReady rows p first₁ last₁
     meet-asked = record {
-      climbs = climbs x (a .formed);
-      few = λ lo hi. let f = span-few x (a .formed) lo hi in (omega (arith, f .0, a .formed .head .windows .most), omega (arith, f .1, a .formed .head .windows .most));
+      climbs = climbs x a.formed;
+      few = λ lo hi. let f = span-few x a.formed lo hi in (omega (arith, f.0, a.formed.head.windows.most), omega (arith, f.1, a.formed.head.windows.most));
       ends = λ i k. record {
-        in-first = omega (arith, held .first-long, put-asked .first-room);
-        in-last = omega (arith, held .last-long, put-asked .last-room);
-        first-most = rw (held .held .first-at i (omega arith) k) (raised-most _);
-        last-most = rw (held .held .last-at i (omega arith) k) (raised-most _);
+        in-first = omega (arith, held.first-long, put-asked.first-room);
+        in-last = omega (arith, held.last-long, put-asked.last-room);
+        first-most = rw (held.held.first-at i (omega arith) k) (raised-most _);
+        last-most = rw (held.held.last-at i (omega arith) k) (raised-most _);
       };
     }
 
@@ -108,49 +106,49 @@ module _ (s : List ℤ) (h : Head) (rows : List Row) (left right : List ℕ) (as
     met i = metSpan rows (clampOf (range i .0)) (clampOf (range i .1))
 
     span-is : (i : ℕ) → i < p → spanAt rows first₁ last₁ i ≡ met i
-    span-is i k = rw (held .held .first-at i (omega arith) k, held .held .last-at i (omega arith) k, lowered _, lowered _)
+    span-is i k = rw (held.held.first-at i (omega arith) k, held.held.last-at i (omega arith) k, lowered _, lowered _)
 
     module _ {first₂ last₂ : List ℕ} (all : AllMet rows p first₁ last₁ first₂ last₂) where
       from-is : (i : ℕ) → i < p → getD first₂ i 0 ≡ met i .from
-      from-is i k = all .held .first-at i (omega arith) k ∙ rw (span-is i k)
+      from-is i k = all.held.first-at i (omega arith) k ∙ rw (span-is i k)
 
       to-is : (i : ℕ) → i < p → getD last₂ i 0 ≡ met i .to
-      to-is i k = all .held .last-at i (omega arith) k ∙ rw (span-is i k)
+      to-is i k = all.held.last-at i (omega arith) k ∙ rw (span-is i k)
 
       inside : (i : ℕ) → i < p → getD last₂ i 0 ≤ length (entries left right)
-      inside i k = rw (to-is i k) (span-inside x (a .formed) _ _)
+      inside i k = rw (to-is i k) (span-inside x a.formed _ _)
 
-      pub hand-asked : HandReady s h left right q first₂ last₂ (b .scratch)
+      pub hand-asked : HandReady s h left right q first₂ last₂ b.scratch
       hand-asked = record {
-        long = a .long;
-        some = a .some;
-        inside = a .inside;
-        window = window-in .0;
-        window-most = window-in .1;
+        long = a.long;
+        some = a.some;
+        inside = a.inside;
+        window = window-in.0;
+        window-most = window-in.1;
         stretches = record {
-          most = omega (arith, div-le-self m w, a .few);
-          window = window-in .1;
-          first-room = omega (arith, all .first-long, held .first-long, put-asked .first-room);
-          last-room = omega (arith, all .last-long, held .last-long, put-asked .last-room);
+          most = omega (arith, div-le-self m w, a.few);
+          window = window-in.1;
+          first-room = omega (arith, all.first-long, held.first-long, put-asked.first-room);
+          last-room = omega (arith, all.last-long, held.last-long, put-asked.last-room);
           inside-left = λ i k. omega (arith, inside i k, length-entries left right);
           inside-right = λ i k. omega (arith, inside i k, length-entries left right);
-          room = omega (arith, length-cleared (b .scratch), a .scratch-fits, a .window);
+          room = omega (arith, length-cleared b.scratch, a.scratch-fits, a.window);
           zeros = cleared-zeros _;
         };
-        room = omega (arith, a .scratch-fits, a .window);
-        first-room = omega (arith, all .first-long, held .first-long, a .candidates-fit, a .window);
-        last-room = omega (arith, all .last-long, held .last-long, a .candidates-fit, a .window);
+        room = omega (arith, a.scratch-fits, a.window);
+        first-room = omega (arith, all.first-long, held.first-long, a.candidates-fit, a.window);
+        last-room = omega (arith, all.last-long, held.last-long, a.candidates-fit, a.window);
       }
 
       hit-is : (i j : ℕ) → i < p → stretchHit left right first₂ last₂ w i j ≡ admits x (range i) (j + i * w)
-      hit-is i j k = rw (from-is i k, to-is i k) (span-admits x (a .formed) _ _ _ ∙ clamp-admits x (a .formed) _ _)
+      hit-is i j k = rw (from-is i k, to-is i k) (span-admits x a.formed _ _ _ ∙ clamp-admits x a.formed _ _)
 
-      module _ {t : Sought} {left′ right′ scratch : List ℕ} (e : HandedOut s h left right q first₂ last₂ (b .scratch) t left′ right′ scratch) where
-        counted : Counted x range n p (e .counts)
-        counted = counted-all x range _ n p _ hit-is (e .counted)
+      module _ {t : Sought} {left′ right′ scratch : List ℕ} (e : HandedOut s h left right q first₂ last₂ b.scratch t left′ right′ scratch) where
+        counted : Counted x range n p e.counts
+        counted = counted-all x range _ n p _ hit-is e.counted
 
-        found : FoundAll x range p n first₂ last₂ left′ right′ (t .runs) (t .candidates)
-        found = found-all x range p n _ counted (e .handed)
+        found : FoundAll x range p n first₂ last₂ left′ right′ t.runs t.candidates
+        found = found-all x range p n _ counted e.handed
 
         abbrev lead : ℕ → Bool
         lead j = eqb (leading x range p j) p
@@ -169,23 +167,23 @@ module _ (s : List ℤ) (h : Head) (rows : List Row) (left right : List ℕ) (as
 
         left-is : left′ ≡ lookedAfter call b .left
         unfolding lookedAfter
-        left-is = found .left-is ∙ ap (λ (y : List (ℕ × ℕ)). filled 0 (map (λ t. t .0) y) first₂) runs-are ∙ filled-same _ first₂ _ (all .first-long ∙ held .first-long)
+        left-is = found.left-is ∙ ap (λ (y : List (ℕ × ℕ)). filled 0 (map (λ t. t.0) y) first₂) runs-are ∙ filled-same _ first₂ _ (all.first-long ∙ held.first-long)
 
         right-is : right′ ≡ lookedAfter call b .right
         unfolding lookedAfter
-        right-is = found .right-is ∙ ap (λ (y : List (ℕ × ℕ)). filled 0 (map (λ t. t .1) y) last₂) runs-are ∙ filled-same _ last₂ _ (all .last-long ∙ held .last-long)
+        right-is = found.right-is ∙ ap (λ (y : List (ℕ × ℕ)). filled 0 (map (λ t. t.1) y) last₂) runs-are ∙ filled-same _ last₂ _ (all.last-long ∙ held.last-long)
 
         -- nothing refuses
-        unrefused : t .refusal ≡ refusalOf (searchPlan call b)
+        unrefused : t.refusal ≡ refusalOf (searchPlan call b)
         unfolding asRefusal
-        unrefused = e .goes-on ∙ sym (ap asRefusal (goes-on s h rows left right ask q b z))
+        unrefused = e.goes-on ∙ sym (ap asRefusal (goes-on s h rows left right ask q b z))
 
-        pub counted-so : (t .runs ≡ length (candidateRuns x (question call))) × (t .candidates ≡ searchCandidates call)
-        counted-so = (found .count-is ∙ ap length runs-are, found .found-is ∙ count-is)
+        pub counted-so : (t.runs ≡ length (candidateRuns x (question call))) × (t.candidates ≡ searchCandidates call)
+        counted-so = (found.count-is ∙ ap length runs-are, found.found-is ∙ count-is)
 
         pub cleared-so : scratch ≡ lookedAfter call b .scratch
         unfolding lookedAfter
-        cleared-so = e .cleared
+        cleared-so = e.cleared
 
 module _ (s : List ℤ) (h : Head) (rows : List Row) (left right : List ℕ) (ask : Ask) (q : List ℤ) (first last scratch : List ℕ) where
   abbrev B : SearchBuffers
@@ -194,13 +192,13 @@ module _ (s : List ℤ) (h : Head) (rows : List Row) (left right : List ℕ) (as
   abbrev C : SearchCall
   C = lentSearch s h rows left right ask q
 
-  module _ (z : thePlan s h rows left right ask q B .number ≡ 0) {first₁ last₁ : List ℕ} (held : RangesHeld (ask .kind) q (ask .limits) (h .window) first last first₁ last₁)
-      {first₂ last₂ : List ℕ} (all : AllMet rows (length q / h .window) first₁ last₁ first₂ last₂) where
+  module _ (z : thePlan s h rows left right ask q B .number ≡ 0) {first₁ last₁ : List ℕ} (held : RangesHeld ask.kind q ask.limits h.window first last first₁ last₁)
+      {first₂ last₂ : List ℕ} (all : AllMet rows (length q / h.window) first₁ last₁ first₂ last₂) where
     pub gathered : {t : Sought} {first′ last′ scratch′ : List ℕ} → HandedOut s h left right q first₂ last₂ scratch t first′ last′ scratch′ → SoughtKept C first last scratch t first′ last′ scratch′
     gathered {t} e = record {
       judged = unrefused s h rows left right ask q B z held all e;
-      stays = λ f. absurd (f (rw (e .goes-on)));
-      uncounted = λ f. absurd (f (rw (e .goes-on)));
+      stays = λ f. absurd (f (rw e.goes-on));
+      uncounted = λ f. absurd (f (rw e.goes-on));
       counted = λ _. counted-so s h rows left right ask q B z held all e;
       handed = λ _. (left-is s h rows left right ask q B z held all e, right-is s h rows left right ask q B z held all e, cleared-so s h rows left right ask q B z held all e);
     }
@@ -219,8 +217,8 @@ module _ (s : List ℤ) (h : Head) (rows : List Row) (left right : List ℕ) (as
   plan-here : p ≡ thePlan s h rows left right ask q (searchBuffers first last scratch [] [])
   plan-here = planned ∙ rw judged
 
-  pub halts : not (eqb (p .number) 0) ≡ true → {t : Sought} → t ≡ stopped p → SoughtKept (lentSearch s h rows left right ask q) first last scratch t first last scratch
+  pub halts : not (eqb p.number 0) ≡ true → {t : Sought} → t ≡ stopped p → SoughtKept (lentSearch s h rows left right ask q) first last scratch t first last scratch
   halts f e = rw (e, plan-here) (halted s h rows left right ask q first last scratch (λ z. eqb-false _ 0 (not-true _ f) (ap (λ (r : Refusal). r .number) plan-here ∙ z)))
 
-  pub goes : not (eqb (p .number) 0) ≡ false → thePlan s h rows left right ask q (searchBuffers first last scratch [] []) .number ≡ 0
+  pub goes : not (eqb p.number 0) ≡ false → thePlan s h rows left right ask q (searchBuffers first last scratch [] []) .number ≡ 0
   goes f = sym (ap (λ (r : Refusal). r .number) plan-here) ∙ eqb-true _ 0 (not-false _ f)

@@ -11,26 +11,26 @@ use Rattle.candidate_find.specs.{declared.Sought.Sought, Sought.SoughtKe
 module _ (c : SearchCall) (left right scratch : List ℕ) {t u : Sought} {left′ right′ scratch′ left″ right″ scratch″ : List ℕ} where
   pub sought-only : SoughtKept c left right scratch t left′ right′ scratch′ → SoughtKept c left right scratch u left″ right″ scratch″ → (t ≡ u) × (left′ ≡ left″) × (right′ ≡ right″) × (scratch′ ≡ scratch″)
   sought-only k l =
-      let same = k .judged ∙ sym (l .judged) in
+      let same = k.judged ∙ sym l.judged in
       let number = sym (ap (λ (r : Refusal). r .number) same) in
       by-test _
       (λ yes.
       let z = eqb-true _ 0 yes in
       let y = number ∙ z in
-      let runs = k .counted z .0 ∙ sym (l .counted y .0) in
-      let candidates = k .counted z .1 ∙ sym (l .counted y .1) in (
+      let runs = k.counted z .0 ∙ sym (l.counted y .0) in
+      let candidates = k.counted z .1 ∙ sym (l.counted y .1) in (
         λ i. record { refusal = same i; runs = runs i; candidates = candidates i },
-        k .handed z .0 ∙ sym (l .handed y .0),
-        k .handed z .1 ∙ sym (l .handed y .1),
-        k .handed z .2 ∙ sym (l .handed y .2),
+        k.handed z .0 ∙ sym (l.handed y .0),
+        k.handed z .1 ∙ sym (l.handed y .1),
+        k.handed z .2 ∙ sym (l.handed y .2),
       ))
       (λ no.
       let z = eqb-false _ 0 no in
-      let y : u .refusal .number ≡ 0 → ⊥ = λ e. z (sym number ∙ e) in
-      let runs = k .uncounted z .0 ∙ sym (l .uncounted y .0) in
-      let candidates = k .uncounted z .1 ∙ sym (l .uncounted y .1) in (
+      let y : u.refusal.number ≡ 0 → ⊥ = λ e. z (sym number ∙ e) in
+      let runs = k.uncounted z .0 ∙ sym (l.uncounted y .0) in
+      let candidates = k.uncounted z .1 ∙ sym (l.uncounted y .1) in (
         λ i. record { refusal = same i; runs = runs i; candidates = candidates i },
-        k .stays z .0 ∙ sym (l .stays y .0),
-        k .stays z .1 ∙ sym (l .stays y .1),
-        k .stays z .2 ∙ sym (l .stays y .2),
+        k.stays z .0 ∙ sym (l.stays y .0),
+        k.stays z .1 ∙ sym (l.stays y .1),
+        k.stays z .2 ∙ sym (l.stays y .2),
       ))

@@ -24,26 +24,26 @@ unstopped k n = record { refusal = unrefused; runs = k; candidates = n }
 
 -- finding the candidates of a search, by the candidate buffer and the scratch before and after; the list is not needed
 pub record SoughtKept (c : SearchCall) (left right scratch : List ℕ) (t : Sought) (left′ right′ scratch′ : List ℕ) : Type 0 where
-  pub judged : t .refusal ≡ refusalOf (searchPlan c (searchBuffers left right scratch [] []))
-  pub stays : (t .refusal .number ≡ 0 → ⊥) → (left′ ≡ left) × (right′ ≡ right) × (scratch′ ≡ scratch)
-  pub uncounted : (t .refusal .number ≡ 0 → ⊥) → (t .runs ≡ 0) × (t .candidates ≡ 0)
-  pub counted : t .refusal .number ≡ 0 → (t .runs ≡ length (candidateRuns (c .index) (question c))) × (t .candidates ≡ searchCandidates c)
-  pub handed : t .refusal .number ≡ 0 → (left′ ≡ lookedAfter c (searchBuffers left right scratch [] []) .left) × (right′ ≡ lookedAfter c (searchBuffers left right scratch [] []) .right) × (scratch′ ≡ lookedAfter c (searchBuffers left right scratch [] []) .scratch)
+  pub judged : t.refusal ≡ refusalOf (searchPlan c (searchBuffers left right scratch [] []))
+  pub stays : (t.refusal.number ≡ 0 → ⊥) → (left′ ≡ left) × (right′ ≡ right) × (scratch′ ≡ scratch)
+  pub uncounted : (t.refusal.number ≡ 0 → ⊥) → (t.runs ≡ 0) × (t.candidates ≡ 0)
+  pub counted : t.refusal.number ≡ 0 → (t.runs ≡ length (candidateRuns c.index (question c))) × (t.candidates ≡ searchCandidates c)
+  pub handed : t.refusal.number ≡ 0 → (left′ ≡ lookedAfter c (searchBuffers left right scratch [] []) .left) × (right′ ≡ lookedAfter c (searchBuffers left right scratch [] []) .right) × (scratch′ ≡ lookedAfter c (searchBuffers left right scratch [] []) .scratch)
 
 pub record HandReady (s : List ℤ) (h : Head) (left right : List ℕ) (q : List ℤ) (first last scratch : List ℕ) : Type 0 where
   pub long : length s ≤ mostValues
   pub some : 1 ≤ length q
   pub inside : length q ≤ length s
-  pub window : 1 ≤ h .window
-  pub window-most : h .window ≤ longestWindow
-  pub stretches : StretchesReady left right first last (h .window) (length q / h .window) (length s + 1 - length q) (filled 0 [] scratch)
+  pub window : 1 ≤ h.window
+  pub window-most : h.window ≤ longestWindow
+  pub stretches : StretchesReady left right first last h.window (length q / h.window) (length s + 1 - length q) (filled 0 [] scratch)
   pub room : length s + 1 - length q ≤ length scratch
   pub first-room : length s + 1 - length q ≤ length first
   pub last-room : length s + 1 - length q ≤ length last
 
 pub record HandedOut (s : List ℤ) (h : Head) (left right : List ℕ) (q : List ℤ) (first last scratch : List ℕ) (t : Sought) (first′ last′ scratch′ : List ℕ) : Type 0 where
   pub counts : List ℕ
-  pub goes-on : t .refusal ≡ unrefused
-  pub counted : CountedBy (stretchHit left right first last (h .window)) (length s + 1 - length q) (length q / h .window) counts
-  pub handed : Handed (stood counts (length q / h .window)) (length s + 1 - length q) first last first′ last′ (t .runs) (t .candidates)
+  pub goes-on : t.refusal ≡ unrefused
+  pub counted : CountedBy (stretchHit left right first last h.window) (length s + 1 - length q) (length q / h.window) counts
+  pub handed : Handed (stood counts (length q / h.window)) (length s + 1 - length q) first last first′ last′ t.runs t.candidates
   pub cleared : scratch′ ≡ filled 0 [] scratch

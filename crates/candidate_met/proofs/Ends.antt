@@ -28,14 +28,14 @@ none-above h k = rw (gt-leZ h, gt-leZ k)
 module _ {z : ℤ} (e : RowEnd z) (y : ℤ) where
   pub clamp-lt : ltZ (clampOf y) z ≡ ltZ y z
   unfolding clampOf
-  clamp-lt = by-test (ltZ y (negsuc 4000000)) (λ t. rw t (both-below {a = negsuc 4000000} {b = y} (omega (zmach, e .low)) (omega (zmach, e .low))))
-      (λ f. rw f (by-test (ltZ (pos 4000001) y) (λ t. rw t (none-below {a = pos 4000001} {b = y} (omega (zmach, e .high)) (omega zmach))) (λ g. rw g)))
+  clamp-lt = by-test (ltZ y (negsuc 4000000)) (λ t. rw t (both-below {a = negsuc 4000000} {b = y} (omega (zmach, e.low)) (omega (zmach, e.low))))
+      (λ f. rw f (by-test (ltZ (pos 4000001) y) (λ t. rw t (none-below {a = pos 4000001} {b = y} (omega (zmach, e.high)) (omega zmach))) (λ g. rw g)))
 
   pub clamp-le : leZ z (clampOf y) ≡ leZ z y
   unfolding clampOf
-  clamp-le = by-test (ltZ y (negsuc 4000000)) (λ t. rw t (none-above {z = z} (omega (zmach, e .low)) (omega (zmach, e .low))))
-      (λ f. rw f (by-test (ltZ (pos 4000001) y) (λ t. rw t (both-above {z = z} (omega (zmach, e .high)) (omega zmach))) (λ g. rw g)))
+  clamp-le = by-test (ltZ y (negsuc 4000000)) (λ t. rw t (none-above {z = z} (omega (zmach, e.low)) (omega (zmach, e.low))))
+      (λ f. rw f (by-test (ltZ (pos 4000001) y) (λ t. rw t (both-above {z = z} (omega (zmach, e.high)) (omega zmach))) (λ g. rw g)))
 
 pub row-end : (z : ℤ) → endIn z ≡ true → RowEnd z
 unfolding within
-row-end z t = let h = both _ _ t in record { low = leZ-true (h .0); high = leZ-true (h .1) }
+row-end z t = let h = both _ _ t in record { low = leZ-true h.0; high = leZ-true h.1 }

@@ -24,11 +24,11 @@ cleared-same a c e = rw e
 -- counts that were raised by all parts, and handed out
 pub found-all : (x : Index) (range : ℕ → ℤ × ℤ) (parts n : ℕ) (scratch : List ℕ) {l r l′ r′ : List ℕ} {k found : ℕ} → Counted x range n parts scratch → Handed (stood scratch parts) n l r l′ r′ k found → FoundAll x range parts n l r l′ r′ k found
 found-all x range parts n scratch {l} {r} c h =
-    let same : (j : ℕ) → j < n → stood scratch parts j ≡ eqb (leading x range parts j) parts = λ j b. rw (c .at j, lt-ltb j n b) in
+    let same : (j : ℕ) → j < n → stood scratch parts j ≡ eqb (leading x range parts j) parts = λ j b. rw (c.at j, lt-ltb j n b) in
     let e = runs-cong _ (λ j. eqb _ parts) n same in
     record {
-      count-is = h .count-is ∙ ap length e;
-      found-is = h .found-is ∙ count-cong _ (λ j. eqb _ parts) n same;
-      left-is = h .left-is ∙ rw e;
-      right-is = h .right-is ∙ rw e;
+      count-is = h.count-is ∙ ap length e;
+      found-is = h.found-is ∙ count-cong _ (λ j. eqb _ parts) n same;
+      left-is = h.left-is ∙ rw e;
+      right-is = h.right-is ∙ rw e;
     }

@@ -23,7 +23,7 @@ some-place : {A : Type 0} (p : A → Bool) (o : A) (l : List A) → any p l ≡ 
 unfolding any
 some-place p o [] h = absurd (false≢true h)
 some-place p o (x ∷ l) h = by-test (p x) (λ t. record { at = 0; inside = omega arith; passes = t })
-    (λ f. let r = some-place p o l (rw f at h) in record { at = suc (r .at); inside = omega arith; passes = r .passes })
+    (λ f. let r = some-place p o l (rw f at h) in record { at = suc r.at; inside = omega arith; passes = r.passes })
 
 place-some : {A : Type 0} (p : A → Bool) (o : A) (l : List A) (k : ℕ) → k < length l → p (getD l k o) ≡ true → any p l ≡ true
 place-some p o l k h t = any-mem p (mem-at o l k h) t
@@ -38,7 +38,7 @@ none = (pos 0, pos 0)
 
 module _ (x : Index) (f : WellFormed x) where
   abbrev rows : List Row
-  rows = x .rows
+  rows = x.rows
 
   abbrev row : ℕ → Row
   row k = getD rows k zeroRow
@@ -64,20 +64,20 @@ module _ (x : Index) (f : WellFormed x) where
   F-mono k m h l = let e : m ≡ k + (m - k) = omega arith in rw e (F-step k (m - k) (omega arith))
 
   -- row k's runs lie inside the run buffer
-  F-inside : (k : ℕ) → k ≤ length rows → F k ≤ length (x .runs)
+  F-inside : (k : ℕ) → k ≤ length rows → F k ≤ length x.runs
   unfolding runTotal
   F-inside zero h = omega arith
   F-inside (suc k) h = omega (arith, F-more k h, first-at x f zeroRow k h, row-at x f zeroRow k h .fits)
 
   -- and there are at most as many as windows
-  F-few : (k : ℕ) → k ≤ length rows → F k ≤ natAbs (x .windows)
+  F-few : (k : ℕ) → k ≤ length rows → F k ≤ natAbs x.windows
   F-few k h = omega (arith, F-mono k _ h (omega arith), ap runTotal (take-length rows), runs-at-most x f)
 
   -- the row that has run g
   row-of : (a d g : ℕ) → a + d ≤ length rows → F a ≤ g → g < F (a + d) → (k : ℕ) × (a ≤ k) × (k < a + d) × (F k ≤ g) × (g < F (suc k))
   row-of a zero g n h l = let e : a + 0 ≡ a = omega arith in let l′ : g < F a = rw e at l in absurd (omega arith)
   row-of a (suc d) g n h l = elim (decLt g (F (a + d))) [
-    | yes y ↦ let r = row-of a d g (omega arith) h y in (r .0, r .1, omega arith, r .3, r .4)
+    | yes y ↦ let r = row-of a d g (omega arith) h y in (r.0, r.1, omega arith, r.3, r.4)
     | no m ↦ let e : a + suc d ≡ suc (a + d) = omega arith in (a + d, omega arith, omega arith, omega arith, rw e at l)
   ]
 
@@ -85,7 +85,7 @@ module _ (x : Index) (f : WellFormed x) where
 
   module _ (j a e : ℕ) (within : e ≤ length rows) (begins : a ≤ length rows) where
     abbrev stretch : List Entry
-    stretch = take (F e - F a) (drop (F a) (x .runs))
+    stretch = take (F e - F a) (drop (F a) x.runs)
 
     -- j stands in one of those rows
     pub record Stands : Type 0 where
@@ -96,29 +96,29 @@ module _ (x : Index) (f : WellFormed x) where
 
     into : Stands → any (inRun j) stretch ≡ true
     into s =
-        let k = s .at in
+        let k = s.at in
         let n : k < length rows = omega arith in
-        let t = some-place _ none _ (s .is) in
-        let u : t .at < row k .runs = omega (arith, t .inside, length-runsOf x (row k) (row-at x f zeroRow k n .fits)) in
-        let g = getD-take _ _ (t .at) none u ∙ getD-drop (row k .first) (x .runs) (t .at) none in
+        let t = some-place _ none _ s.is in
+        let u : t.at < row k .runs = omega (arith, t.inside, length-runsOf x (row k) (row-at x f zeroRow k n .fits)) in
+        let g = getD-take _ _ t.at none u ∙ getD-drop (row k .first) x.runs t.at none in
         let m = F-more k n in
         let c = first-at x f zeroRow k n in
-        let y = F-mono a k (s .low) (omega arith) in
-        let z = F-mono (suc k) e (s .high) within in
-        let i = F k + t .at - F a in
-        let same : F a + i ≡ row k .first + t .at = omega arith in
+        let y = F-mono a k s.low (omega arith) in
+        let z = F-mono (suc k) e s.high within in
+        let i = F k + t.at - F a in
+        let same : F a + i ≡ row k .first + t.at = omega arith in
         place-some (inRun j) none stretch i (simp (length-take, length-drop) (omega (arith, F-inside e within)))
-        (rw (getD-take (F e - F a) (drop (F a) (x .runs)) i none (omega arith), getD-drop (F a) (x .runs) i none, same, ← g) (t .passes))
+        (rw (getD-take (F e - F a) (drop (F a) x.runs) i none (omega arith), getD-drop (F a) x.runs i none, same, ← g) t.passes)
 
     out : any (inRun j) stretch ≡ true → Stands
     out h =
         let t = some-place _ none stretch h in
-        let i = t .at in
-        let b : i < F e - F a = omega (arith, simp (length-take, length-drop) at (t .inside)) in
+        let i = t.at in
+        let b : i < F e - F a = omega (arith, simp (length-take, length-drop) at t.inside) in
         let o : a ≤ e = order i b in
         let n : a + (e - a) ≡ e = omega arith in
         let r = row-of a (e - a) (F a + i) (omega arith) (omega arith) (rw n (omega arith)) in
-        let k = r .0 in
+        let k = r.0 in
         let kn : k < length rows = omega arith in
         let c = first-at x f zeroRow k kn in
         let m = F-more k kn in
@@ -126,11 +126,11 @@ module _ (x : Index) (f : WellFormed x) where
         let same : row k .first + (F a + i - F k) ≡ F a + i = omega arith in
         record {
           at = k;
-          low = r .1;
+          low = r.1;
           high = omega arith;
           is = place-some _ none _ (F a + i - F k) (omega (arith, length-runsOf x (row k) (row-at x f zeroRow k kn .fits)))
-              (rw (getD-take (row k .runs) (drop (row k .first) (x .runs)) (F a + i - F k) none u, getD-drop (row k .first) (x .runs) (F a + i - F k) none, same)
-              (rw (getD-take (F e - F a) (drop (F a) (x .runs)) i none b, getD-drop (F a) (x .runs) i none) at (t .passes)));
+              (rw (getD-take (row k .runs) (drop (row k .first) x.runs) (F a + i - F k) none u, getD-drop (row k .first) x.runs (F a + i - F k) none, same)
+              (rw (getD-take (F e - F a) (drop (F a) x.runs) i none b, getD-drop (F a) x.runs i none) at t.passes));
         }
       where
         order : (i : ℕ) → i < F e - F a → a ≤ e
@@ -237,24 +237,24 @@ module _ (x : Index) (f : WellFormed x) where
     found : (j : ℕ) → admitted j ≡ true → Stands j a e e-le (above-le rows low)
     found j t =
         let p = some-place (λ r. met (low, high) r && stands x r j) zeroRow rows t in
-        let h = both _ _ (p .passes) in
-        record { at = p .at; low = met-low (p .at) (p .inside) (h .0); high = met-high (p .at) (p .inside) (h .0); is = h .1 }
+        let h = both _ _ p.passes in
+        record { at = p.at; low = met-low p.at p.inside h.0; high = met-high p.at p.inside h.0; is = h.1 }
 
     shown : (j : ℕ) → Stands j a e e-le (above-le rows low) → admitted j ≡ true
-    shown j s = place-some (λ r. met (low, high) r && stands x r j) zeroRow rows (s .at) (omega (arith, s .high, e-le)) (of-both (row-met (s .at) (s .low) (s .high)) (s .is))
+    shown j s = place-some (λ r. met (low, high) r && stands x r j) zeroRow rows s.at (omega (arith, s.high, e-le)) (of-both (row-met s.at s.low s.high) s.is)
 
-    pub span-admits : (j : ℕ) → let s = metSpan rows low high in any (inRun j) (take (s .to - s .from) (drop (s .from) (x .runs))) ≡ admits x (low, high) j
+    pub span-admits : (j : ℕ) → let s = metSpan rows low high in any (inRun j) (take (s.to - s.from) (drop s.from x.runs)) ≡ admits x (low, high) j
     unfolding metSpan spanOf any
     span-admits j = by-test (ltb a n)
         (λ t. rw (t, to-is, first-at x f zeroRow a (ltb-true a n t)) (same-test (any (inRun j) (stretch j a e e-le (above-le rows low))) (admitted j) (λ h. shown j (out j a e e-le (above-le rows low) h)) (λ h. into j a e e-le (above-le rows low) (found j h))))
         (λ t. let z : F e - F e ≡ 0 = omega arith in
-        rw (t, to-is, z) (same-test false (admitted j) (λ h. absurd (false≢true h)) (λ h. let s = found j h in absurd (omega (arith, s .low, s .high, e-le, ltb-false a n t)))))
+        rw (t, to-is, z) (same-test false (admitted j) (λ h. absurd (false≢true h)) (λ h. let s = found j h in absurd (omega (arith, s.low, s.high, e-le, ltb-false a n t)))))
 
-    pub span-inside : metSpan rows low high .to ≤ length (x .runs)
+    pub span-inside : metSpan rows low high .to ≤ length x.runs
     unfolding metSpan spanOf
     span-inside = rw to-is (F-inside e e-le)
 
-    pub span-few : (metSpan rows low high .from ≤ natAbs (x .windows)) × (metSpan rows low high .to ≤ natAbs (x .windows))
+    pub span-few : (metSpan rows low high .from ≤ natAbs x.windows) × (metSpan rows low high .to ≤ natAbs x.windows)
     unfolding metSpan spanOf
     span-few = (
       by-test _ (λ t. rw (t, first-at x f zeroRow a (ltb-true a n t)) (F-few a (above-le rows low))) (λ t. rw (t, to-is) (F-few e e-le)),
@@ -263,10 +263,10 @@ module _ (x : Index) (f : WellFormed x) where
 
   -- ---- a range whose ends are clamped meets the same rows
 
-  clamp-met : (range : ℤ × ℤ) (r : Row) → GoodRow x r → met (clampOf (range .0), clampOf (range .1)) r ≡ met range r
-  clamp-met range r g = rw (clamp-le (row-end _ (g .low-end .limited)) (range .1), clamp-lt (row-end (r .up) (g .up-end .limited)) (range .0))
+  clamp-met : (range : ℤ × ℤ) (r : Row) → GoodRow x r → met (clampOf range.0, clampOf range.1) r ≡ met range r
+  clamp-met range r g = rw (clamp-le (row-end _ g.low-end.limited) range.1, clamp-lt (row-end r.up g.up-end.limited) range.0)
 
-  pub clamp-admits : (range : ℤ × ℤ) (j : ℕ) → admits x (clampOf (range .0), clampOf (range .1)) j ≡ admits x range j
+  pub clamp-admits : (range : ℤ × ℤ) (j : ℕ) → admits x (clampOf range.0, clampOf range.1) j ≡ admits x range j
   clamp-admits range j =
       any-cong (λ r. met (clampOf _, clampOf _) r && stands x r j) (λ r. met range r && stands x r j) rows
       (λ r m. rw (clamp-met range r (all-mem (GoodRow x) rows (each-row x f) m)))

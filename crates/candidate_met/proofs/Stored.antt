@@ -12,16 +12,16 @@ clamp-in z = by-test (ltZ z (negsuc 4000000)) (λ t. rw t (record { low = omega 
 -- an end that lies in its limits is its own clamped end
 clamp-same : (z : ℤ) → Between (negsuc 4000000) z (pos 4000001) → clampOf z ≡ z
 unfolding clampOf
-clamp-same z b = rw (le-ltZ (b .low), le-ltZ (b .high))
+clamp-same z b = rw (le-ltZ b.low, le-ltZ b.high)
 
 pub raised-most : (z : ℤ) → raisedEnd z ≤ 8000002
 unfolding raisedEnd
-raised-most z = let b = clamp-in z in omega (zarith, z-add (clampOf z) (pos 4000001), z-abs (clampOf z +ℤ pos 4000001), b .low, b .high)
+raised-most z = let b = clamp-in z in omega (zarith, z-add (clampOf z) (pos 4000001), z-abs (clampOf z +ℤ pos 4000001), b.low, b.high)
 
 -- a raised end lowered again is the clamped end
 pub lowered : (z : ℤ) → clampOf (pos (raisedEnd z) -ℤ pos 4000001) ≡ clampOf z
 unfolding raisedEnd
 lowered z =
     let b = clamp-in z in
-    let e : pos (natAbs (clampOf z +ℤ pos 4000001)) -ℤ pos 4000001 ≡ clampOf z = to-eq (omega (zarith, z-add (clampOf z) (pos 4000001), z-abs (clampOf z +ℤ pos 4000001), z-sub (pos (natAbs (clampOf z +ℤ pos 4000001))) (pos 4000001), b .low, b .high)) in
+    let e : pos (natAbs (clampOf z +ℤ pos 4000001)) -ℤ pos 4000001 ≡ clampOf z = to-eq (omega (zarith, z-add (clampOf z) (pos 4000001), z-abs (clampOf z +ℤ pos 4000001), z-sub (pos (natAbs (clampOf z +ℤ pos 4000001))) (pos 4000001), b.low, b.high)) in
     rw e (clamp-same (clampOf z) b)

@@ -18,21 +18,21 @@ clampOf z = cond (ltZ z (negsuc 4000000)) (negsuc 4000000) (cond (ltZ (pos 40000
 -- the place of the first row whose upper end is above z, or how many rows there are
 unfoldable pub firstAbove : List Row → ℤ → ℕ
 firstAbove [] z = 0
-firstAbove (r ∷ l) z = cond (leZ (r .up) z) (suc (firstAbove l z)) 0
+firstAbove (r ∷ l) z = cond (leZ r.up z) (suc (firstAbove l z)) 0
 
 -- where the runs of the first k rows end, of the row before row k
 abbrev pub endOf : ℕ → Row → ℕ
-endOf k r = cond (eqb k 0) 0 (r .first + r .runs)
+endOf k r = cond (eqb k 0) 0 (r.first + r.runs)
 
 -- how many runs a row has that begins at or below `high`; 0 for another
 abbrev pub reachedRuns : Row → ℤ → ℕ
-reachedRuns r high = cond (leZ (r .low) high) (r .runs) 0
+reachedRuns r high = cond (leZ r.low high) r.runs 0
 
 -- the runs from row a up to row b, of n rows, with those of row b where it begins at or below `high`
 unfoldable pub spanOf : ℕ → ℕ → ℕ → Row → Row → Row → ℤ → Span
 spanOf n a b first last edge high =
     let to = endOf b last + reachedRuns edge high in
-    record { from = cond (ltb a n) (first .first) to; to = to }
+    record { from = cond (ltb a n) first.first to; to = to }
 
 -- the runs of the rows that the range from `low` to `high` meets
 unfoldable pub metSpan : List Row → ℤ → ℤ → Span

@@ -2,7 +2,8 @@
 use Rattle.meaning_numbers.proofs.Prelude.{List, ℕ, _≤_, T, ℤ, length}
 use Rattle.meaning_curves.proofs.Values.{AllIn}
 use Rattle.meaning_filter.specs.declared.Ask.{Ask}
-use Rattle.meaning_entries.proofs.{Refusal.AllPass, Refusal.openLines, Refusal.passed-line, Refusal.passed-behind, Refusal.lacks, Lines.values-line, Lines.query-line}
+use Rattle.meaning_entries.proofs.Refusal.{AllPass, openLines, passed-line, passed-behind, lacks}
+use Rattle.meaning_entries.proofs.Lines.{values-line, query-line}
 use Rattle.candidate_plan.specs.Tables.{valuesTable, numbersTable, inputTable}
 
 -- ---- no number of these tables is 0

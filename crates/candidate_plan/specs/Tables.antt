@@ -20,7 +20,7 @@ numbersTable s q w a = limitLines (length s) (length q) (pos w) (lentAsk a)
 
 -- 1 to 11
 unfoldable pub inputTable : List ℤ → List ℤ → ℕ → Ask → List Condition
-inputTable s q w a = valuesTable s q ++ (numbersTable s q w a ++ (flatQuery (a .kind) q ∷ []))
+inputTable s q w a = valuesTable s q ++ (numbersTable s q w a ++ (flatQuery a.kind q ∷ []))
 
 -- 21 to 23
 unfoldable pub windowsTable : List ℤ → Head → ℕ → ℕ → List Condition
@@ -32,4 +32,4 @@ stateTable s h j candidates scratch = judgedLine j ∷ windowsTable s h candidat
 
 -- the plan: what refuses before the search looks
 unfoldable pub planOf : List ℤ → Head → Judged → Ask → List ℤ → ℕ → ℕ → Refusal
-planOf s h j a q candidates scratch = refusalOf (inputTable s q (h .window) a ++ stateTable s h j candidates scratch)
+planOf s h j a q candidates scratch = refusalOf (inputTable s q h.window a ++ stateTable s h j candidates scratch)

@@ -4,8 +4,8 @@ use Rattle.meaning_numbers.proofs.Sum.{Σℤ-same}
 use Rattle.meaning_numbers.proofs.Prelude.{_≡_, ap, _∙_, List, ℕ, _+_, _*_, _≤_, arith, ℤ, pos, negsuc, negℤ, _+ℤ_, _-ℤ_, _*ℤ_, length, ltZ, rep-self, rep-pos, rep-add, rep-sub, rep-mul, rep-neg, rep-eq, by-test}
 use Rattle.meaning_curves.specs.{Curve.at, Curve.windowSum, Curve.total, Curve.spread, Normal.normalised}
 use Rattle.meaning_curves.proofs.Values.{AllIn}
-use Rattle.meaning_filter.specs.{declared.Kind.Kind, declared.Kind.the-variants.Raw, declared.Kind.the-variants.Normal, declared.Limits.Limits}
 use Rattle.meaning_filter.specs.Range.{lowerSum, upperSum, rawLow, rawHigh, normalLow, normalHigh, rangeOf}
+use Rattle.meaning_filter.specs.{declared.Kind.Kind, declared.Kind.the-variants.Raw, declared.Kind.the-variants.Normal, declared.Limits.Limits}
 use Rattle.values.proofs.SumsLaws.{sum-raised}
 use Rattle.distance_query.specs.Ready.{Ready, curveOf}
 use Rattle.distance_query.proofs.Ready.{from-start}
@@ -38,13 +38,13 @@ unfolding ceilℤ
 ceil-one x = ap negℤ (floor-one _) ∙ rep-eq (rep-neg (rep-neg (rep-self x))) (rep-self x) (omega arith)
 
 module _ (q : ℕ → ℤ) (m : ℕ) (l : Limits) (w from : ℕ) where
-  raw-low : lowEnd (rawFrame l w) (lowerSum q m (l .band) from w) ≡ rawLow q m (l .band) (l .threshold) from w
+  raw-low : lowEnd (rawFrame l w) (lowerSum q m l.band from w) ≡ rawLow q m l.band l.threshold from w
   unfolding lowEnd rawLow
-  raw-low = let x = lowerSum q m (l .band) from w -ℤ pos (root (w * l .threshold)) in rw (times-one x, min-self x, plus-zero x) (ceil-one x)
+  raw-low = let x = lowerSum q m l.band from w -ℤ pos (root (w * l.threshold)) in rw (times-one x, min-self x, plus-zero x) (ceil-one x)
 
-  raw-high : highEnd (rawFrame l w) (upperSum q m (l .band) from w) ≡ rawHigh q m (l .band) (l .threshold) from w
+  raw-high : highEnd (rawFrame l w) (upperSum q m l.band from w) ≡ rawHigh q m l.band l.threshold from w
   unfolding highEnd rawHigh
-  raw-high = let y = upperSum q m (l .band) from w +ℤ pos (root (w * l .threshold)) in rw (times-one y, max-self y, plus-zero y) (floor-one y)
+  raw-high = let y = upperSum q m l.band from w +ℤ pos (root (w * l.threshold)) in rw (times-one y, max-self y, plus-zero y) (floor-one y)
 
 -- ---- r and w at once
 
@@ -55,11 +55,11 @@ both-more : (x : ℤ) (r w : ℕ) → x +ℤ pos (r + w) ≡ x +ℤ pos r +ℤ p
 both-more x r w = rep-eq (rep-add (rep-self x) (rep-pos (r + w))) (rep-add (rep-add (rep-self x) (rep-pos r)) (rep-pos w)) (omega arith)
 
 module _ (q : ℕ → ℤ) (m : ℕ) (l : Limits) (w from : ℕ) where
-  normal-low : lowEnd (normalFrame (spread q m) (total q m) m l w) (lowerSum (normalised q m) m (l .band) from w) ≡ normalLow q m (l .band) (l .threshold) (l .scale) (l .shift) from w
+  normal-low : lowEnd (normalFrame (spread q m) (total q m) m l w) (lowerSum (normalised q m) m l.band from w) ≡ normalLow q m l.band l.threshold l.scale l.shift from w
   unfolding lowEnd normalLow rawLow
   normal-low = rw (both-less _ _ w)
 
-  normal-high : highEnd (normalFrame (spread q m) (total q m) m l w) (upperSum (normalised q m) m (l .band) from w) ≡ normalHigh q m (l .band) (l .threshold) (l .scale) (l .shift) from w
+  normal-high : highEnd (normalFrame (spread q m) (total q m) m l w) (upperSum (normalised q m) m l.band from w) ≡ normalHigh q m l.band l.threshold l.scale l.shift from w
   unfolding highEnd normalHigh rawHigh
   normal-high = rw (both-more _ _ w)
 
@@ -70,7 +70,7 @@ Pair = ℤ × ℤ
 
 ends-are : (kind : Kind) (q : ℕ → ℤ) (m : ℕ) (l : Limits) (w i : ℕ)
     → let f = frameOf kind (spread q m) (total q m) m l w in
-    _≡_ {A = Pair} (lowEnd f (lowerSum (curveOf kind q m) m (l .band) (i * w) w), highEnd f (upperSum (curveOf kind q m) m (l .band) (i * w) w)) (rangeOf kind q m l w i)
+    _≡_ {A = Pair} (lowEnd f (lowerSum (curveOf kind q m) m l.band (i * w) w), highEnd f (upperSum (curveOf kind q m) m l.band (i * w) w)) (rangeOf kind q m l w i)
 unfolding frameOf rangeOf
 ends-are Raw q m l w i = let a = raw-low q m l w (i * w) in let b = raw-high q m l w (i * w) in λ k. (a k, b k)
 ends-are Normal q m l w i = let a = normal-low q m l w (i * w) in let b = normal-high q m l w (i * w) in λ k. (a k, b k)
@@ -81,9 +81,9 @@ total-is {q = q} {p = p} h r =
     let m = length q in
     rep-eq (rep-sub (rep-pos p) (rep-pos (10000 * m))) (sum-raised 0 m h) (omega arith) ∙ Σℤ-same m _ (at q) (from-start q m .at)
 
-pub range-is : {kind : Kind} {q curve low high : List ℤ} {p A : ℕ} (l : Limits) (w i : ℕ) → AllIn q → Ready kind q (l .band) curve low high p A → i * w + w ≤ length q
+pub range-is : {kind : Kind} {q curve low high : List ℤ} {p A : ℕ} (l : Limits) (w i : ℕ) → AllIn q → Ready kind q l.band curve low high p A → i * w + w ≤ length q
     → let m = length q in let f = frameOf kind A (pos p -ℤ pos (10000 * m)) m l w in
     _≡_ {A = Pair} (lowEnd f (windowSum low w (i * w)), highEnd f (windowSum high w (i * w))) (rangeOf kind (at q) m l w i)
 range-is {kind} {q} l w i h r fits =
-    let c = r .curve-is .same in
-    rw (total-is h r, r .spread, low-sum (i * w) w c (r .envelopes) fits, high-sum (i * w) w c (r .envelopes) fits) (ends-are kind (at q) _ l w i)
+    let c = r.curve-is.same in
+    rw (total-is h r, r.spread, low-sum (i * w) w c r.envelopes fits, high-sum (i * w) w c r.envelopes fits) (ends-are kind (at q) _ l w i)

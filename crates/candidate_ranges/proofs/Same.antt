@@ -20,18 +20,18 @@ greatest-same s t k (suc n) h = rw (greatest-same s t k n (λ j a l. h j a (omeg
 module _ {m : ℕ} {s t : ℕ → ℤ} (h : Same m s t) (b : ℕ) where
   pub lower-same : (i : ℕ) → i < m → lower s m b i ≡ lower t m b i
   unfolding lower
-  lower-same i l = least-same s t (i - b) _ (λ j a k. h .at j (omega arith))
+  lower-same i l = least-same s t (i - b) _ (λ j a k. h.at j (omega arith))
 
   pub upper-same : (i : ℕ) → i < m → upper s m b i ≡ upper t m b i
   unfolding upper
-  upper-same i l = greatest-same s t (i - b) _ (λ j a k. h .at j (omega arith))
+  upper-same i l = greatest-same s t (i - b) _ (λ j a k. h.at j (omega arith))
 
 -- the sums of the envelopes, as lists have them, over the w places from `from` on
 module _ {curve low high : List ℤ} {m b : ℕ} {t : ℕ → ℤ} (from w : ℕ) (h : Same m (at curve) t) (e : Envelopes curve m b low high) (fits : from + w ≤ m) where
   pub low-sum : windowSum low w from ≡ lowerSum t m b from w
   unfolding windowSum lowerSum
-  low-sum = Σℤ-same w (λ k. at low _) (λ k. lower t m b _) (λ k l. e .below .at _ (omega arith) ∙ lower-same h b _ (omega arith))
+  low-sum = Σℤ-same w (λ k. at low _) (λ k. lower t m b _) (λ k l. e.below.at _ (omega arith) ∙ lower-same h b _ (omega arith))
 
   pub high-sum : windowSum high w from ≡ upperSum t m b from w
   unfolding windowSum upperSum
-  high-sum = Σℤ-same w (λ k. at high _) (λ k. upper t m b _) (λ k l. e .above .at _ (omega arith) ∙ upper-same h b _ (omega arith))
+  high-sum = Σℤ-same w (λ k. at high _) (λ k. upper t m b _) (λ k l. e.above.at _ (omega arith) ∙ upper-same h b _ (omega arith))

@@ -47,20 +47,20 @@ module _ {m w : ℕ} {l : Limits} {values spread : ℕ} (q : QueryIn m w l value
   shifted : (z : ℤ) → Small 51200000 z → Small 1310720000000 (pos (100 * w) *ℤ z)
   shifted z h = small-more 1310720000000 (omega arith) (small-mul _ z (small-pos 25600 _ (omega arith)) h)
 
-  most : Small 20480000 (pos (m * l .shift))
-  most = small-pos 20480000 _ (most-le m _ (q .most) (q .shift))
+  most : Small 20480000 (pos (m * l.shift))
+  most = small-pos 20480000 _ (most-le m _ q.most q.shift)
 
-  pub below-small : Small 51200000 (total -ℤ pos (m * l .shift))
+  pub below-small : Small 51200000 (total -ℤ pos (m * l.shift))
   below-small = small-sub total _ total-small most
 
-  pub above-small : Small 51200000 (total +ℤ pos (m * l .shift))
+  pub above-small : Small 51200000 (total +ℤ pos (m * l.shift))
   above-small = small-add total _ total-small most
 
   -- the numbers of a frame have their sizes
   pub frame-in : (kind : Kind) → FrameIn (frameOf kind spread total m l w)
   unfolding frameOf
   frame-in Raw = record {
-    reach = small-pos 16000256 _ (omega (arith, reach-le w _ (q .window) (q .threshold)));
+    reach = small-pos 16000256 _ (omega (arith, reach-le w _ q.window q.threshold));
     narrow = small-pos 204800001 1 (omega arith);
     wide = small-pos 204800001 1 (omega arith);
     fall = small-pos 1310720000000 0 (omega arith);
@@ -68,11 +68,11 @@ module _ {m w : ℕ} {l : Limits} {values spread : ℕ} (q : QueryIn m w l value
     some = omega arith;
   }
   frame-in Normal = record {
-    reach = small-pos 16000256 _ (omega (arith, reach-le w _ (q .window) (q .threshold), q .window));
-    narrow = small-pos 204800001 _ (omega (arith, low-scale-le spread (l .scale) (q .spread-most)));
-    wide = small-pos 204800001 (highScale spread (l .scale)) (omega (arith, high-scale-le spread (l .scale) (q .spread-most) (q .scale-most)));
-    fall = shifted (total -ℤ pos (m * l .shift)) below-small;
-    rise = shifted (total +ℤ pos (m * l .shift)) above-small;
+    reach = small-pos 16000256 _ (omega (arith, reach-le w _ q.window q.threshold, q.window));
+    narrow = small-pos 204800001 _ (omega (arith, low-scale-le spread l.scale q.spread-most));
+    wide = small-pos 204800001 (highScale spread l.scale) (omega (arith, high-scale-le spread l.scale q.spread-most q.scale-most));
+    fall = shifted (total -ℤ pos (m * l.shift)) below-small;
+    rise = shifted (total +ℤ pos (m * l.shift)) above-small;
     some = omega arith;
   }
 
@@ -87,27 +87,27 @@ pub operands : {sum reach : ℤ} → Small 2560000 sum → Small 16000256 reach 
 operands {sum} {reach} h k = (arg-back sum (omega arith) (small-more 4000000000000000 (omega arith) h), arg-back reach (omega arith) (small-more 4000000000000000 (omega arith) k))
 
 -- X or Y is x, as a callee makes it of the machine's bits: what is divided at that end is small, and so the bits of what is told of it are those of the number
-module _ {f : Frame} {sum more x : ℤ} (step : ℤ → ℤ → ℤ) (i : FrameIn f) (h : Small 2560000 sum) (k : Small 1310720000000 more) (s : Small 18560256 (step sum (f .reach))) (e : x ≡ step (toZ w64 (ofZ w64 sum)) (toZ w64 (ofZ w64 (f .reach)))) where
-  moved : toZ w64 (ofZ w64 x) ≡ step sum (f .reach)
-  moved = rw (e, small-back sum (omega arith) h, small-back _ (omega arith) (i .reach)) (small-back _ (omega arith) s)
+module _ {f : Frame} {sum more x : ℤ} (step : ℤ → ℤ → ℤ) (i : FrameIn f) (h : Small 2560000 sum) (k : Small 1310720000000 more) (s : Small 18560256 (step sum f.reach)) (e : x ≡ step (toZ w64 (ofZ w64 sum)) (toZ w64 (ofZ w64 f.reach))) where
+  moved : toZ w64 (ofZ w64 x) ≡ step sum f.reach
+  moved = rw (e, small-back sum (omega arith) h, small-back _ (omega arith) i.reach) (small-back _ (omega arith) s)
 
   pub asks-dividend : FrameIn f × Small 18560256 (toZ w64 (ofZ w64 x)) × Small 1310720000000 (toZ w64 (ofZ w64 more))
   asks-dividend = (i, rw moved s, arg-back more (omega arith) k)
 
-  module _ (low : Bool) {n : ℤ} (d : n ≡ pick low (toZ w64 (ofZ w64 x) *ℤ f .narrow) (toZ w64 (ofZ w64 x) *ℤ f .wide) +ℤ toZ w64 (ofZ w64 more)) where
+  module _ (low : Bool) {n : ℤ} (d : n ≡ pick low (toZ w64 (ofZ w64 x) *ℤ f.narrow) (toZ w64 (ofZ w64 x) *ℤ f.wide) +ℤ toZ w64 (ofZ w64 more)) where
     abbrev near : ℤ
-    near = step sum (f .reach) *ℤ f .narrow
+    near = step sum f.reach *ℤ f.narrow
 
     abbrev far : ℤ
-    far = step sum (f .reach) *ℤ f .wide
+    far = step sum f.reach *ℤ f.wide
 
     dividend-is : n ≡ pick low near far +ℤ more
     dividend-is = rw (d, moved, small-back more (omega arith) k)
 
     pub dividend-small : Small 3802451167360256 n
     dividend-small =
-        let z = scaled-small _ _ _ s (i .narrow) (i .wide) in
-        rw dividend-is (small-add _ more (small-pick low near far (z .0) (z .1)) k)
+        let z = scaled-small _ _ _ s i.narrow i.wide in
+        rw dividend-is (small-add _ more (small-pick low near far z.0 z.1) k)
 
     pub dividend-back : toZ w64 (ofZ w64 n) ≡ pick low near far +ℤ more
     dividend-back = rw (small-back n (omega arith) dividend-small) dividend-is

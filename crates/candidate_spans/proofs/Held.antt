@@ -21,29 +21,29 @@ module _ {i a b : ℕ} {first last first′ last′ : List ℕ} (s : Stored i a 
   pub held-next : {f g : ℕ → ℕ} → PartsHeld f g 0 i first last → a ≡ f i → b ≡ g i → PartsHeld f g 0 (i + 1) first′ last′
   held-next {f} {g} h e e′ = record {
     first-at = λ j l u. elim (decLt j i) [
-      | yes y ↦ s .first-else j (λ o. omega arith) ∙ h .first-at j l y
-      | no n ↦ let o : j ≡ i = omega arith in rw o (s .first-here ∙ e)
+      | yes y ↦ s .first-else j (λ o. omega arith) ∙ h.first-at j l y
+      | no n ↦ let o : j ≡ i = omega arith in rw o (s.first-here ∙ e)
     ];
     last-at = λ j l u. elim (decLt j i) [
-      | yes y ↦ s .last-else j (λ o. omega arith) ∙ h .last-at j l y
-      | no n ↦ let o : j ≡ i = omega arith in rw o (s .last-here ∙ e′)
+      | yes y ↦ s .last-else j (λ o. omega arith) ∙ h.last-at j l y
+      | no n ↦ let o : j ≡ i = omega arith in rw o (s.last-here ∙ e′)
     ];
   }
 
   -- those behind it stay
   pub held-rest : {f g : ℕ → ℕ} {n : ℕ} → PartsHeld f g i n first last → PartsHeld f g (i + 1) n first′ last′
   held-rest h = record {
-    first-at = λ j l u. s .first-else j (λ o. omega arith) ∙ h .first-at j (omega arith) u;
-    last-at = λ j l u. s .last-else j (λ o. omega arith) ∙ h .last-at j (omega arith) u;
+    first-at = λ j l u. s.first-else j (λ o. omega arith) ∙ h.first-at j (omega arith) u;
+    last-at = λ j l u. s.last-else j (λ o. omega arith) ∙ h.last-at j (omega arith) u;
   }
 
 -- ranges that agree have the same ends
 pub held-same : {r s : ℕ → ℤ × ℤ} {n : ℕ} {first last : List ℕ} → ((i : ℕ) → i < n → r i ≡ s i) → PartsHeld (lowEnds r) (highEnds r) 0 n first last → PartsHeld (lowEnds s) (highEnds s) 0 n first last
 held-same e h = record {
-  first-at = λ i l u. h .first-at i l u ∙ rw (e i u);
-  last-at = λ i l u. h .last-at i l u ∙ rw (e i u);
+  first-at = λ i l u. h.first-at i l u ∙ rw (e i u);
+  last-at = λ i l u. h.last-at i l u ∙ rw (e i u);
 }
 
 -- a part's places
 pub part-room : {f : Frame} {low high : List ℤ} {w parts : ℕ} {first last : List ℕ} → EndsReady f low high w parts first last → (i : ℕ) → i < parts → (i * w + w ≤ length low) × (i * w + w ≤ length high)
-part-room {w = w} {parts} r i h = let m : suc i * w ≤ parts * w = mul-le-mul-right w h in (omega (arith, r .low-long), omega (arith, r .high-long))
+part-room {w = w} {parts} r i h = let m : suc i * w ≤ parts * w = mul-le-mul-right w h in (omega (arith, r.low-long), omega (arith, r.high-long))

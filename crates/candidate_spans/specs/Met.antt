@@ -6,12 +6,12 @@ use mathlib.Core.List.{List}
 use mathlib.Core.Path.{_≡_}
 use Rattle.meaning_rows.specs.declared.Row.{Row}
 use Rattle.candidate_ranges.specs.declared.Range.{Range}
-use Rattle.candidate_met.specs.{Met.Climbs, declared.Span.Span, Met.clampOf, Met.metSpan, Stored.EndsAt, Stored.heldRange}
+use Rattle.candidate_met.specs.{Met.Climbs, Met.clampOf, Met.metSpan, declared.Span.Span, Stored.EndsAt, Stored.heldRange}
 use Rattle.candidate_spans.specs.Held.{PartsHeld}
 
 -- the stretch that a range meets
 abbrev pub spanOf : List Row → Range → Span
-spanOf rows y = metSpan rows (clampOf (y .low)) (clampOf (y .high))
+spanOf rows y = metSpan rows (clampOf y.low) (clampOf y.high)
 
 -- that of entry i
 abbrev pub spanAt : List Row → List ℕ → List ℕ → ℕ → Span

@@ -18,6 +18,6 @@ answer-full candidates matches room h = rw (lt-leb matches room h)
 -- so many matches are counted
 pub answers : {l : List (ℕ × ℕ)} {candidates n : ℕ} {r : Found} {o d o′ d′ : List ℕ} → ListFilled l n o d o′ d′ → r ≡ answerOf candidates n (pairRoom o d) → Answers l candidates r o d o′ d′
 answers {l} {candidates} {o = o} {d} f e = record {
-  answered = e ∙ ap (λ (n : ℕ). answerOf candidates n (pairRoom o d)) (f .count);
-  list = record { count = refl; offsets-are = f .offsets-are; distances-are = f .distances-are };
+  answered = e ∙ ap (λ (n : ℕ). answerOf candidates n (pairRoom o d)) f.count;
+  list = record { count = refl; offsets-are = f.offsets-are; distances-are = f.distances-are };
 }

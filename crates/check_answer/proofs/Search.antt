@@ -9,8 +9,8 @@ use native.Mathlib.Decide.{decLe}
 use native.Mathlib.Omega.{arith}
 use Rattle.meaning_rows.specs.{declared.Row.Row, declared.Head.Head, Index.Index}
 use Rattle.meaning_filter.specs.{declared.Ask.Ask, Matches.candidateRuns}
-use Rattle.meaning_entries.specs.{declared.Found.Found, Refusal.firstRefusal, Demand2.SearchKept}
 use Rattle.meaning_entries.specs.Search.{SearchCall, SearchBuffers, lentSearch, question, listRoom, searchMatches, searchCandidates, searchPlan, searchAnswer, searchAfter, lookedAfter}
+use Rattle.meaning_entries.specs.{declared.Found.Found, Refusal.firstRefusal, Demand2.SearchKept}
 use Rattle.meaning_entries.proofs.{Demand2.search-kept, Looked.plan-all, Looked.plan-full}
 use Rattle.candidate_plan.specs.Allowed.{Allowed, thePlan, goes-on}
 use Rattle.check_list.specs.{Members.members, Found.lentRuns, Found.found}
@@ -18,8 +18,8 @@ use Rattle.check_list.proofs.{Found.found-among, Candidates.runs-first, Candida
 use Rattle.check_answer.specs.Answer.{wanted, Limited, answerOf, Answers}
 use Rattle.check_answer.proofs.AnswerLaws.{answer-all, answer-full}
 
-pub limited : {s : List ℤ} {h : Head} {x : Index} {ask : Ask} {q : List ℤ} {candidates scratch : ℕ} → Allowed s h x ask q candidates scratch → Limited (ask .kind) s q (ask .limits)
-limited a = record { long = a .long; some = a .some; few = a .few; values = a .values; query = a .query; scale = a .scale-high; not-flat = a .not-flat }
+pub limited : {s : List ℤ} {h : Head} {x : Index} {ask : Ask} {q : List ℤ} {candidates scratch : ℕ} → Allowed s h x ask q candidates scratch → Limited ask.kind s q ask.limits
+limited a = record { long = a.long; some = a.some; few = a.few; values = a.values; query = a.query; scale = a.scale-high; not-flat = a.not-flat }
 
 module _ (c : SearchCall) (b : SearchBuffers) (free : firstRefusal (searchPlan c b) ≡ none) where
   abbrev M : ℕ
@@ -32,23 +32,23 @@ module _ (c : SearchCall) (b : SearchBuffers) (free : firstRefusal (searchPlan c
 
   ends : Ends
   ends = elim (decLe M (listRoom b)) [
-    | yes h ↦ let p = plan-all c b free h in record { answer = sym (answer-all (searchCandidates c) M (listRoom b) h) ∙ sym (p .0); after = p .1 }
+    | yes h ↦ let p = plan-all c b free h in record { answer = sym (answer-all (searchCandidates c) M (listRoom b) h) ∙ sym p.0; after = p.1 }
     | no f ↦
         let h : listRoom b < M = omega arith in
         let p = plan-full c b free h in
-        record { answer = sym (answer-full (searchCandidates c) M (listRoom b) h) ∙ sym (p .0); after = p .1 }
+        record { answer = sym (answer-full (searchCandidates c) M (listRoom b) h) ∙ sym p.0; after = p.1 }
   ]
 
   pub search-done : {r : Found} {left right scratch offsets distances : List ℕ} → left ≡ lookedAfter c b .left → right ≡ lookedAfter c b .right → scratch ≡ lookedAfter c b .scratch
-      → Answers (searchMatches c) (searchCandidates c) r (b .offsets) (b .distances) offsets distances
+      → Answers (searchMatches c) (searchCandidates c) r b.offsets b.distances offsets distances
       → SearchKept c b r (record { left = left; right = right; scratch = scratch; offsets = offsets; distances = distances })
   search-done {r} {left} {right} {scratch} {offsets} {distances} e f g a =
-      let t = list-after c b (a .list) in
-      let o = t .1 in
-      let d = t .2 in
+      let t = list-after c b a.list in
+      let o = t.1 in
+      let d = t.2 in
       let same : record { left = left; right = right; scratch = scratch; offsets = offsets; distances = distances } ≡ lookedAfter c b
       = λ i. record { left = e i; right = f i; scratch = g i; offsets = o i; distances = d i } in
-      search-kept c b r (record { left = left; right = right; scratch = scratch; offsets = offsets; distances = distances }) (a .answered ∙ ends .answer) (same ∙ sym (ends .after))
+      search-kept c b r (record { left = left; right = right; scratch = scratch; offsets = offsets; distances = distances }) (a.answered ∙ ends.answer) (same ∙ sym ends.after)
 
 -- ---- over a lent index
 
@@ -57,7 +57,7 @@ module _ (s : List ℤ) (h : Head) (rows : List Row) (left right : List ℕ) (as
   call = lentSearch s h rows left right ask q
 
   abbrev runs : List (ℕ × ℕ)
-  runs = candidateRuns (call .index) (question call)
+  runs = candidateRuns call.index (question call)
 
   -- the question is that of the code
   asked-is : question call ≡ wanted ask s q
@@ -68,13 +68,13 @@ module _ (s : List ℤ) (h : Head) (rows : List Row) (left right : List ℕ) (as
   module _ {lefts rights : List ℕ} {k : ℕ} (e : lefts ≡ lookedAfter call b .left) (f : rights ≡ lookedAfter call b .right) (g : k ≡ length runs) where
     same-runs : lentRuns lefts rights k ≡ runs
     unfolding lookedAfter
-    same-runs = rw (e, f, g) (runs-first runs (b .left) (b .right))
+    same-runs = rw (e, f, g) (runs-first runs b.left b.right)
 
     meant : found (wanted ask s q) (members (lentRuns lefts rights k)) ≡ searchMatches call
-    meant = rw (same-runs, ← asked-is) (found-among (call .index) (question call))
+    meant = rw (same-runs, ← asked-is) (found-among call.index (question call))
 
     -- and what is found of them is what the search means
     pub search-ends : {r : Found} {scratch offsets distances : List ℕ} {candidates : ℕ} → thePlan s h rows left right ask q b .number ≡ 0 → scratch ≡ lookedAfter call b .scratch → candidates ≡ searchCandidates call
-        → Answers (found (wanted ask s q) (members (lentRuns lefts rights k))) candidates r (b .offsets) (b .distances) offsets distances
+        → Answers (found (wanted ask s q) (members (lentRuns lefts rights k))) candidates r b.offsets b.distances offsets distances
         → SearchKept call b r (record { left = lefts; right = rights; scratch = scratch; offsets = offsets; distances = distances })
     search-ends z i j a = search-done call b (goes-on s h rows left right ask q b z) e f i (rw (meant, j) at a)

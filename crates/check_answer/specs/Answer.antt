@@ -23,7 +23,7 @@ pub record Limited (kind : Kind) (s q : List ℤ) (l : Limits) : Type 0 where
   pub few : length q ≤ 1024
   pub values : AllIn s
   pub query : AllIn q
-  pub scale : l .scale ≤ 100
+  pub scale : l.scale ≤ 100
   pub not-flat : kind ≡ Kind.Normal → 0 < spread (at q) (length q)
 
 -- all matches, or as many as there is room for

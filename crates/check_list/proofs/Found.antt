@@ -3,8 +3,8 @@ use Rattle.meaning_numbers.specs.Place.{keep, numbersFrom}
 use Rattle.meaning_numbers.proofs.Prelude.{_≡_, refl, sym, Bool, true, false, cond, List, [], _∷_, _++_, map, append-nil, ℕ, zero, suc, _+_, _-_, _<_, _≤_, arith, add-one, ℤ, length, length-map, getD, take-suc}
 use Rattle.meaning_curves.specs.Curve.{at, stretch}
 use Rattle.meaning_rows.specs.Index.{Index}
-use Rattle.meaning_filter.specs.{declared.Kind.Kind, declared.Limits.Limits}
 use Rattle.meaning_filter.specs.Matches.{Question, distanceTo, matchesAt, listed, offsetCount, candidateAt, candidateRuns, matchList}
+use Rattle.meaning_filter.specs.{declared.Kind.Kind, declared.Limits.Limits}
 use Rattle.meaning_entries.specs.Demand3.{pairs}
 use Rattle.distance_within.specs.{declared.Match.Match, Answer.answer}
 use Rattle.distance_match.specs.Matched.{matched}

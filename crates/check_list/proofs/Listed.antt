@@ -42,10 +42,10 @@ list-none k a b = record {
 pub list-on : {l m : List (ℕ × ℕ)} {k q r : ℕ} {a b a′ b′ a″ b″ : List ℕ} → Listed l k q a b a′ b′ → Listed m q r a′ b′ a″ b″ → Listed (l ++ m) k r a b a″ b″
 list-on {l} {m} {k} {q} {r} {a} {b} s t =
     record {
-      count = omega (arith, s .count, t .count, length-append l m);
-      as-many-offsets = t .as-many-offsets ∙ s .as-many-offsets;
-      as-many-distances = t .as-many-distances ∙ s .as-many-distances;
-      front = t .front ∙ rw (s .as-many-offsets, s .as-many-distances, s .front) (cut-cut (pairRoom a b) (take k _ ++ l) m ∙ ap (take (pairRoom a b)) (append-assoc (take k _) l m));
+      count = omega (arith, s.count, t.count, length-append l m);
+      as-many-offsets = t.as-many-offsets ∙ s.as-many-offsets;
+      as-many-distances = t.as-many-distances ∙ s.as-many-distances;
+      front = t.front ∙ rw (s.as-many-offsets, s.as-many-distances, s.front) (cut-cut (pairRoom a b) (take k _ ++ l) m ∙ ap (take (pairRoom a b)) (append-assoc (take k _) l m));
     }
 
 -- one entry, where there is room
@@ -79,7 +79,7 @@ list-full k j d a b h =
 -- ---- the list at the end
 
 -- the columns of the first entries
-first-columns : (k : ℕ) (a b : List ℕ) → let i = min k (pairRoom a b) in (map (λ x. x .0) (take k (pairs a b)) ≡ take i a) × (map (λ x. x .1) (take k (pairs a b)) ≡ take i b)
+first-columns : (k : ℕ) (a b : List ℕ) → let i = min k (pairRoom a b) in (map (λ x. x.0) (take k (pairs a b)) ≡ take i a) × (map (λ x. x.1) (take k (pairs a b)) ≡ take i b)
 unfolding pairs
 first-columns zero a b = let e : min 0 (pairRoom a b) ≡ 0 = omega arith in rw e (refl, refl)
 first-columns (suc k) [] b = let e : min (suc k) (min 0 (length b)) ≡ 0 = omega arith in rw e (refl, refl)
@@ -87,7 +87,7 @@ first-columns (suc k) (x ∷ a) [] = let e : min (suc k) (min (suc (length a)) 0
 first-columns (suc k) (x ∷ a) (y ∷ b) =
     let e : min (suc k) (min (suc (length a)) (suc (length b))) ≡ suc (min k (min (length a) (length b))) = omega arith in
     let r = first-columns k a b in
-    rw e (rw (r .0), rw (r .1))
+    rw e (rw r.0, rw r.1)
 
 -- everything from place e on is made 0, where the list ends
 pub list-filled : {l : List (ℕ × ℕ)} {r e k : ℕ} {a b a′ b′ a″ b″ : List ℕ} → Listed l 0 r a b a′ b′ → e ≡ min r k → k ≡ min (length a′) (length b′) → a″ ≡ clearedFrom e a′ → b″ ≡ clearedFrom e b′
@@ -95,9 +95,9 @@ pub list-filled : {l : List (ℕ × ℕ)} {r e k : ℕ} {a b a′ b′ a″ b″
 unfolding filled
 list-filled {l} {r} {e} {k} {a} {b} {a′} {b′} s end room f g =
     let here : e ≡ min r (pairRoom a′ b′) = rw (end, room) in
-    let front = s .front in
+    let front = s.front in
     record {
       count = omega arith;
-      offsets-are = cc (f, cleared-front e a′, here, s .as-many-offsets, front, first-columns r a′ b′ .0);
-      distances-are = cc (g, cleared-front e b′, here, s .as-many-distances, front, first-columns r a′ b′ .1);
+      offsets-are = cc (f, cleared-front e a′, here, s.as-many-offsets, front, first-columns r a′ b′ .0);
+      distances-are = cc (g, cleared-front e b′, here, s.as-many-distances, front, first-columns r a′ b′ .1);
     }

@@ -35,44 +35,44 @@ module _ {kind : Kind} {s q : List ℤ} {l : Limits} {from last k : ℕ} {offset
   run-next {j = j} {m} h r e g t = record {
     least = omega arith;
     most = omega arith;
-    few = omega (arith, r .few, g .count, entries-few j m);
+    few = omega (arith, r.few, g.count, entries-few j m);
     sums = t;
-    so-far = rw (run-more kind s q l from j (r .least)) (list-on (r .so-far) (rw e at g));
+    so-far = rw (run-more kind s q l from j r.least) (list-on r.so-far (rw e at g));
   }
 
   pub run-ends : {offsets distances : List ℕ} {p w n j : ℕ} → last < j → RunSoFar kind s q l from last k offsets₀ distances₀ offsets distances p w n j
       → Listed (found (asked kind s q l) (numbersFrom from (last + 1 - from))) k n offsets₀ distances₀ offsets distances
-  run-ends {j = j} h r = let e : j ≡ last + 1 = omega arith in rw e at (r .so-far)
+  run-ends {j = j} h r = let e : j ≡ last + 1 = omega arith in rw e at r.so-far
 
 -- ---- the runs, by their place
 
-apart-at : (n a : ℕ) (l : List (ℕ × ℕ)) (i : ℕ) → Apart n a l → i < length l → let x = getD l i (0, 0) in (x .0 ≤ x .1) × (x .1 < n)
+apart-at : (n a : ℕ) (l : List (ℕ × ℕ)) (i : ℕ) → Apart n a l → i < length l → let x = getD l i (0, 0) in (x.0 ≤ x.1) × (x.1 < n)
 unfolding Apart
 apart-at n a [] i p h = absurd (omega arith)
-apart-at n a (x ∷ l) zero p h = (p .1, p .2)
-apart-at n a (x ∷ l) (suc i) p h = apart-at n _ l i (p .3) (omega arith)
+apart-at n a (x ∷ l) zero p h = (p.1, p.2)
+apart-at n a (x ∷ l) (suc i) p h = apart-at n _ l i p.3 (omega arith)
 
 apart-on : (n a : ℕ) (l : List (ℕ × ℕ)) (i : ℕ) → Apart n a l → suc i < length l → getD l i (0, 0) .1 + 2 ≤ getD l (suc i) (0, 0) .0
 unfolding Apart
 apart-on n a [] i p h = absurd (omega arith)
 apart-on n a (x ∷ []) i p h = absurd (omega arith)
-apart-on n a (x ∷ y ∷ l) zero p h = p .3 .0
-apart-on n a (x ∷ y ∷ l) (suc i) p h = apart-on n _ (y ∷ l) i (p .3) (omega arith)
+apart-on n a (x ∷ y ∷ l) zero p h = p.3.0
+apart-on n a (x ∷ y ∷ l) (suc i) p h = apart-on n _ (y ∷ l) i p.3 (omega arith)
 
 module _ {n : ℕ} {left right : List ℕ} {runs : ℕ} (lent : RunsLent n left right runs) where
   lent-length : length (lentRuns left right runs) ≡ runs
-  lent-length = omega (arith, length-take runs (pairs left right), length-pairs left right, lent .in-left, lent .in-right)
+  lent-length = omega (arith, length-take runs (pairs left right), length-pairs left right, lent.in-left, lent.in-right)
 
   lent-at : (i : ℕ) → i < runs → getD (lentRuns left right runs) i (0, 0) ≡ (getD left i 0, getD right i 0)
   lent-at i h = getD-take runs _ i (0, 0) h ∙ getD-pairs left right i (omega arith) (omega arith)
 
   pub run-inside : (i : ℕ) → i < runs → (getD left i 0 ≤ getD right i 0) × (getD right i 0 < n)
-  run-inside i h = rw (lent-at i h) at (apart-at n 0 _ i (lent .apart) (omega (arith, lent-length)))
+  run-inside i h = rw (lent-at i h) at (apart-at n 0 _ i lent.apart (omega (arith, lent-length)))
 
   run-after : (i : ℕ) → i + 1 < runs → getD right i 0 + 2 ≤ getD left (i + 1) 0
   run-after i h =
       let e : i + 1 ≡ suc i = omega arith in
-      rw e (rw (lent-at i (omega arith), lent-at (suc i) (omega arith)) at (apart-on n 0 _ i (lent .apart) (omega (arith, lent-length))))
+      rw e (rw (lent-at i (omega arith), lent-at (suc i) (omega arith)) at (apart-on n 0 _ i lent.apart (omega (arith, lent-length))))
 
 -- what stands in the lists where the loop over the runs has come to run i
 pub record RunsSoFar (z : Question) (left right : List ℕ) (runs : ℕ) (offsets₀ distances₀ offsets distances : List ℕ) (n i : ℕ) : Type 0 where
@@ -89,10 +89,10 @@ pub runs-next : {z : Question} {left right : List ℕ} {runs m : ℕ} {offsets�
     → RunsSoFar z left right runs offsets₀ distances₀ offsets′ distances′ n′ (i + 1)
 runs-next {z} {left} {right} {n = n} {i = i} lent h r g = record {
   most = omega arith;
-  few = λ k. omega (arith, run-after lent i k, r .few h, g .count, run-inside lent i h, found-few z (getD left i 0) (getD right i 0 + 1 - getD left i 0));
-  so-far = rw (runs-more z left right i (omega arith) (omega arith)) (list-on (r .so-far) g);
+  few = λ k. omega (arith, run-after lent i k, r.few h, g.count, run-inside lent i h, found-few z (getD left i 0) (getD right i 0 + 1 - getD left i 0));
+  so-far = rw (runs-more z left right i (omega arith) (omega arith)) (list-on r.so-far g);
 }
 
 pub runs-end : {z : Question} {left right : List ℕ} {runs : ℕ} {offsets₀ distances₀ offsets distances : List ℕ} {n i : ℕ} → runs ≤ i → RunsSoFar z left right runs offsets₀ distances₀ offsets distances n i
     → Listed (found z (members (lentRuns left right runs))) 0 n offsets₀ distances₀ offsets distances
-runs-end {runs = runs} {i = i} h r = let e : i ≡ runs = omega arith in rw e at (r .so-far)
+runs-end {runs = runs} {i = i} h r = let e : i ≡ runs = omega arith in rw e at r.so-far

@@ -24,8 +24,8 @@ pub record Prepared (kind : Kind) (s q : List ℤ) (l : Limits) (curve low high 
   pub few : length q ≤ 1024
   pub values : AllIn s
   pub query : AllIn q
-  pub scale : l .scale ≤ 100
-  pub ready : Ready kind q (l .band) curve low high p A
+  pub scale : l.scale ≤ 100
+  pub ready : Ready kind q l.band curve low high p A
 
 -- the sums of the stretch at a place, where there is one, which only a normalised query asks for
 abbrev pub SumsFor : Kind → List ℤ → ℕ → ℕ → ℕ → ℕ → Type 0

@@ -15,5 +15,5 @@ pub record Listed (l : List (ℕ × ℕ)) (k r : ℕ) (offsets distances offsets
 -- the list at the end: as much of l as there is room for, and 0 behind it; r are counted
 pub record ListFilled (l : List (ℕ × ℕ)) (r : ℕ) (offsets distances offsets′ distances′ : List ℕ) : Type 0 where
   pub count : r ≡ length l
-  pub offsets-are : offsets′ ≡ filled 0 (map (λ x. x .0) (take (pairRoom offsets distances) l)) offsets
-  pub distances-are : distances′ ≡ filled 0 (map (λ x. x .1) (take (pairRoom offsets distances) l)) distances
+  pub offsets-are : offsets′ ≡ filled 0 (map (λ x. x.0) (take (pairRoom offsets distances) l)) offsets
+  pub distances-are : distances′ ≡ filled 0 (map (λ x. x.1) (take (pairRoom offsets distances) l)) distances

@@ -5,7 +5,7 @@ use Rattle.meaning_numbers.specs.Place.{numbersFrom}
 
 -- the offsets of a run
 abbrev pub between : ℕ × ℕ → List ℕ
-between x = numbersFrom (x .0) (x .1 + 1 - x .0)
+between x = numbersFrom x.0 (x.1 + 1 - x.0)
 
 -- the offsets of runs, in order
 unfoldable pub members : List (ℕ × ℕ) → List ℕ

@@ -25,13 +25,13 @@ pub clear-next : {from i : ℕ} {old new : List ℕ} → i < length new → Clea
 unfolding clearedFrom
 clear-next {i = i} {new = new} h c =
     let e : length new - i ≡ suc (length new - suc i) = omega arith in record {
-      long = length-set new i 0 ∙ c .long;
-      rest = rw (add-one i, length-set new i 0, take-suc-set new i 0 h, append-snoc (take i new) 0 (replicate (length new - suc i) 0)) (rw e at (c .rest));
+      long = length-set new i 0 ∙ c.long;
+      rest = rw (add-one i, length-set new i 0, take-suc-set new i 0 h, append-snoc (take i new) 0 (replicate (length new - suc i) 0)) (rw e at c.rest);
     }
 
 pub clear-ends : {from i : ℕ} {old new : List ℕ} → length new ≤ i → Clearing from i old new → new ≡ clearedFrom from old
 unfolding clearedFrom
-clear-ends {i = i} {new = new} h c = let e : length new - i ≡ 0 = omega arith in rw (e, take-all i new h, append-nil) at (c .rest)
+clear-ends {i = i} {new = new} h c = let e : length new - i ≡ 0 = omega arith in rw (e, take-all i new h, append-nil) at c.rest
 
 -- ---- what a cleared buffer holds
 

@@ -30,7 +30,7 @@ best-one t q {lo} {hi} {i} e f =
 
 -- the same places by other ends
 best-ends : {t : Bool} {q : ℕ → ℤ} {lo hi lo' hi' : ℕ} {z : ℤ} → Best t q lo hi z → lo ≡ lo' → hi ≡ hi' → Best t q lo' hi' z
-best-ends b e f = record { place = b .place; from = omega arith; to = omega arith; same = b .same; all = λ j h k. b .all j (omega arith) (omega arith) }
+best-ends b e f = record { place = b.place; from = omega arith; to = omega arith; same = b.same; all = λ j h k. b.all j (omega arith) (omega arith) }
 
 -- the same value, and values that are the same at these places
 pub best-same : {t : Bool} {q : ℕ → ℤ} {lo hi : ℕ} {y z : ℤ} → z ≡ y → Best t q lo hi y → Best t q lo hi z
@@ -38,11 +38,11 @@ best-same e b = rw e b
 
 pub best-of : {t : Bool} {q r : ℕ → ℤ} {m lo hi : ℕ} {z : ℤ} → ((k : ℕ) → k < m → r k ≡ q k) → Best t r lo hi z → hi < m → Best t q lo hi z
 best-of f b h = record {
-  place = b .place;
-  from = b .from;
-  to = b .to;
-  same = b .same ∙ f (b .place) (omega arith);
-  all = λ j u v. rw (f j (omega arith)) at (b .all j u v);
+  place = b.place;
+  from = b.from;
+  to = b.to;
+  same = b.same ∙ f b.place (omega arith);
+  all = λ j u v. rw (f j (omega arith)) at (b.all j u v);
 }
 
 -- two stretches of places that touch
@@ -50,12 +50,12 @@ best-join : {t : Bool} {q : ℕ → ℤ} {l h l' h' : ℕ} {x y : ℤ} → Best 
 best-join {t} {q} {l} {h} {l'} {h'} {x} {y} a b first touch last =
     let p = pick-out t x y in
     let all : (j : ℕ) → l ≤ j → j ≤ h' → out t (pick t x y) (q j) = λ j u v. elim (decLe j h) [
-      | yes k ↦ out-trans t (pick t x y) x (q j) (p .0) (a .all j u k)
-      | no f ↦ out-trans t (pick t x y) y (q j) (p .1) (b .all j (omega arith) v)
+      | yes k ↦ out-trans t (pick t x y) x (q j) p.0 (a.all j u k)
+      | no f ↦ out-trans t (pick t x y) y (q j) p.1 (b.all j (omega arith) v)
     ] in
     ⊎-elim
-    (λ e. record { place = a .place; from = a .from; to = omega arith; same = rw e (a .same); all = all })
-    (λ e. record { place = b .place; from = omega arith; to = b .to; same = rw e (b .same); all = all })
+    (λ e. record { place = a.place; from = a.from; to = omega arith; same = rw e a.same; all = all })
+    (λ e. record { place = b.place; from = omega arith; to = b.to; same = rw e b.same; all = all })
     (pick-one t x y)
 
 -- ---- windows that reach n places ahead, and back
@@ -78,14 +78,14 @@ module _ {t : Bool} {q X : ℕ → ℤ} (m n d : ℕ) (far : d ≤ n + 1) where
 module _ {t : Bool} {q X : ℕ → ℤ} {z : ℤ} (m b i : ℕ) where
   pub best-through : ((j : ℕ) → j < m → Best t q j (min (j + b) (m - 1)) (X j)) → i < m → Best t X (i - b) i z → Best t q (i - b) (min (i + b) (m - 1)) z
   best-through h l y =
-      let x = h (y .place) (omega arith) in
+      let x = h y.place (omega arith) in
       let over : (j k : ℕ) → i - b ≤ j → j ≤ i → j ≤ k → k ≤ j + b → k < m → out t z (q k) =
-      λ j k u v lo hi in-m. out-trans t z (X j) (q k) (y .all j u v) (h j (omega arith) .all k lo (omega arith)) in
+      λ j k u v lo hi in-m. out-trans t z (X j) (q k) (y.all j u v) (h j (omega arith) .all k lo (omega arith)) in
       record {
-        place = x .place;
+        place = x.place;
         from = omega arith;
         to = omega arith;
-        same = y .same ∙ x .same;
+        same = y.same ∙ x.same;
         all = λ j u v. elim (decLe j i) [
           | yes k ↦ over j j u k (omega arith) (omega arith) (omega arith)
           | no f ↦ over i j (omega arith) (omega arith) (omega arith) (omega arith) (omega arith)
@@ -97,10 +97,10 @@ pub best-edge : (t : Bool) (q : ℕ → ℤ) (m b i : ℕ) {z : ℤ} → i < m �
 best-edge true q m b i {z} l a =
     let e = envelope q m b in
     let o = lower-one q m b i l in
-    let near : Near b i (a .place) = record { first = omega arith; second = omega arith } in
-    ≤ℤ-antisym (rw (o .3) (a .all (o .0) (omega arith) (omega arith))) (rw (a .same) (e .low i _ (omega arith) near))
+    let near : Near b i a.place = record { first = omega arith; second = omega arith } in
+    ≤ℤ-antisym (rw o.3 (a.all o.0 (omega arith) (omega arith))) (rw a.same (e.low i _ (omega arith) near))
 best-edge false q m b i {z} l a =
     let e = envelope q m b in
     let o = upper-one q m b i l in
-    let near : Near b i (a .place) = record { first = omega arith; second = omega arith } in
-    ≤ℤ-antisym (rw (a .same) (e .high i _ (omega arith) near)) (rw (o .3) (a .all (o .0) (omega arith) (omega arith)))
+    let near : Near b i a.place = record { first = omega arith; second = omega arith } in
+    ≤ℤ-antisym (rw a.same (e.high i _ (omega arith) near)) (rw o.3 (a.all o.0 (omega arith) (omega arith)))

@@ -16,19 +16,19 @@ back-none t l = record { long = refl; best = λ i h. best-one t (at l) (omega ar
 
 pub ahead-pass : {t : Bool} {n d : ℕ} {old mid new : List ℤ} → Ahead t n old mid → PassAhead t d mid new → d ≤ n + 1 → Ahead t (n + d) old new
 ahead-pass {t} {n} {d} {old} {mid} a p far = record {
-  long = p .long ∙ a .long;
+  long = p.long ∙ a.long;
   best = λ i h. elim (decLe (suc (i + d)) (length old)) [
-    | yes k ↦ best-same (p .moved i (omega arith)) (ahead-more _ n d far (a .best) i k)
-    | no f ↦ best-same (p .kept i (omega arith)) (ahead-kept _ n d far (a .best) i h (omega arith))
+    | yes k ↦ best-same (p.moved i (omega arith)) (ahead-more _ n d far a.best i k)
+    | no f ↦ best-same (p.kept i (omega arith)) (ahead-kept _ n d far a.best i h (omega arith))
   ];
 }
 
 pub back-pass : {t : Bool} {n d : ℕ} {old mid new : List ℤ} → Back t n old mid → PassBack t d mid new → d ≤ n + 1 → Back t (n + d) old new
 back-pass {t} {n} {d} {old} {mid} a p far = record {
-  long = p .long ∙ a .long;
+  long = p.long ∙ a.long;
   best = λ i h. elim (decLe d i) [
-    | yes k ↦ best-same (p .moved i (omega arith) k) (back-more _ n d far (a .best) i h k)
-    | no f ↦ best-same (p .kept i (omega arith) (omega arith)) (back-kept _ n d far (a .best) i h (omega arith))
+    | yes k ↦ best-same (p.moved i (omega arith) k) (back-more _ n d far a.best i h k)
+    | no f ↦ best-same (p.kept i (omega arith) (omega arith)) (back-kept _ n d far a.best i h (omega arith))
   ];
 }
 
@@ -36,10 +36,10 @@ back-pass {t} {n} {d} {old} {mid} a p far = record {
 
 pub passes-edge : {t : Bool} {b : ℕ} {q copy mid new : List ℤ} → Copied q copy → Ahead t b copy mid → Back t b mid new → IsEnvelope (edge t (at q) (length q) b) (length q) new
 passes-edge {t} {b} {q} {copy} {mid} c a k = record {
-  long = k .long ∙ a .long ∙ c .long;
+  long = k.long ∙ a.long ∙ c.long;
   at = λ i h.
       best-edge t (at q) _ b i h
-      (best-through _ b i (λ j l. best-of (c .at) (rw (c .long) at (a .best j (omega arith))) (omega arith)) h (k .best i (omega arith)));
+      (best-through _ b i (λ j l. best-of c.at (rw c.long at (a.best j (omega arith))) (omega arith)) h (k.best i (omega arith)));
 }
 
 -- ---- a pass that is half made
@@ -54,14 +54,14 @@ ahead-start t d l = record { long = refl; done = λ k h. absurd (omega arith); r
 
 pub ahead-next : {t : Bool} {d i : ℕ} {old now : List ℤ} (v : ℤ) → AheadTo t d i old now → i < length now → v ≡ pick t (at now i) (at now (i + d)) → AheadTo t d (i + 1) old (set now i v)
 ahead-next {t} {d} {i} {old} {now} v h room e = record {
-  long = length-set now i v ∙ h .long;
-  done = below-more _ i (λ k l. getD-set-other now i k v (pos 0) (λ s. omega arith) ∙ h .done k l)
-      (getD-set-same now i v (pos 0) room ∙ e ∙ rw (h .rest i (omega arith), h .rest (i + d) (omega arith)) refl);
-  rest = λ k l. getD-set-other now i k v (pos 0) (λ s. omega arith) ∙ h .rest k (omega arith);
+  long = length-set now i v ∙ h.long;
+  done = below-more _ i (λ k l. getD-set-other now i k v (pos 0) (λ s. omega arith) ∙ h.done k l)
+      (getD-set-same now i v (pos 0) room ∙ e ∙ rw (h.rest i (omega arith), h.rest (i + d) (omega arith)) refl);
+  rest = λ k l. getD-set-other now i k v (pos 0) (λ s. omega arith) ∙ h.rest k (omega arith);
 }
 
 pub ahead-end : {t : Bool} {d i : ℕ} {old now : List ℤ} → AheadTo t d i old now → i ≡ length old - d → PassAhead t d old now
-ahead-end h e = record { long = h .long; moved = λ k l. h .done k (omega arith); kept = λ k l. h .rest k (omega arith) }
+ahead-end h e = record { long = h.long; moved = λ k l. h.done k (omega arith); kept = λ k l. h.rest k (omega arith) }
 
 pub record BackTo (t : Bool) (d i : ℕ) (old now : List ℤ) : Type 0 where
   pub long : length now ≡ length old
@@ -73,17 +73,17 @@ back-start t d l = record { long = refl; done = λ k h u. absurd (omega arith); 
 
 pub back-next : {t : Bool} {d i : ℕ} {old now : List ℤ} (v : ℤ) → BackTo t d i old now → 0 < i → i ≤ length now → v ≡ pick t (at now (i - 1 - d)) (at now (i - 1)) → BackTo t d (i - 1) old (set now (i - 1) v)
 back-next {t} {d} {i} {old} {now} v h some room e = record {
-  long = length-set now (i - 1) v ∙ h .long;
+  long = length-set now (i - 1) v ∙ h.long;
   done = λ k l u. elim (decLe i k) [
-    | yes g ↦ getD-set-other now (i - 1) k v (pos 0) (λ s. omega arith) ∙ h .done k g u
-    | no f ↦ let s : k ≡ i - 1 = omega arith in rw s (getD-set-same now (i - 1) v (pos 0) (omega arith) ∙ e ∙ rw (h .rest (i - 1) (omega arith), h .rest (i - 1 - d) (omega arith)) refl)
+    | yes g ↦ getD-set-other now (i - 1) k v (pos 0) (λ s. omega arith) ∙ h.done k g u
+    | no f ↦ let s : k ≡ i - 1 = omega arith in rw s (getD-set-same now (i - 1) v (pos 0) (omega arith) ∙ e ∙ rw (h.rest (i - 1) (omega arith), h.rest (i - 1 - d) (omega arith)) refl)
   ];
-  rest = λ k l. getD-set-other now (i - 1) k v (pos 0) (λ s. omega arith) ∙ h .rest k (omega arith);
+  rest = λ k l. getD-set-other now (i - 1) k v (pos 0) (λ s. omega arith) ∙ h.rest k (omega arith);
 }
 
 pub back-end : {t : Bool} {d i : ℕ} {old now : List ℤ} → BackTo t d i old now → i ≡ min d (length old) → PassBack t d old now
 back-end {t} {d} {i} {old} h e = record {
-  long = h .long;
-  moved = λ k l u. h .done k (omega arith) l;
-  kept = λ k l u. h .rest k (omega arith);
+  long = h.long;
+  moved = λ k l u. h.done k (omega arith) l;
+  kept = λ k l u. h.rest k (omega arith);
 }

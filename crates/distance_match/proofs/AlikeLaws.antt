@@ -24,19 +24,19 @@ above-zero zero h = absurd (omega arith)
 above-zero (suc n) h = rw (eqb·suc-zero n) tt
 
 module _ (s q : ℕ → ℤ) (m : ℕ) (l : Limits) {A p B r : ℕ} (A-is : A ≡ spread s m) (B-is : B ≡ spread q m) (shift-is : natAbs (pos p -ℤ pos r) ≡ natAbs (total s m -ℤ total q m)) where
-  pub alike-matched : Alike A p B r m (l .scale) (l .shift) → nearness (normalDistance s q (l .band) m) (l .threshold) ≡ matched Normal s q m l
+  pub alike-matched : Alike A p B r m l.scale l.shift → nearness (normalDistance s q l.band m) l.threshold ≡ matched Normal s q m l
   unfolding matched matches distanceTo normalMatch
   alike-matched h =
-      let some : 0 < spread s m = rw (sym A-is) (h .not-flat) in
-      let up : 100 * spread s m ≤ l .scale * l .scale * spread q m = rw (sym A-is, sym B-is) (h .up) in
-      let down : 100 * spread q m ≤ l .scale * l .scale * spread s m = rw (sym A-is, sym B-is) (h .down) in
-      let near : natAbs (total s m -ℤ total q m) ≤ m * l .shift = rw (sym shift-is) (h .shift) in
+      let some : 0 < spread s m = rw (sym A-is) h.not-flat in
+      let up : 100 * spread s m ≤ l.scale * l.scale * spread q m = rw (sym A-is, sym B-is) h.up in
+      let down : 100 * spread q m ≤ l.scale * l.scale * spread s m = rw (sym A-is, sym B-is) h.down in
+      let near : natAbs (total s m -ℤ total q m) ≤ m * l.shift = rw (sym shift-is) h.shift in
       rw (is-true (not _) (above-zero _ some), leb-yes up, leb-yes down, leb-yes near) refl
 
-  pub unlike-matched : (Alike A p B r m (l .scale) (l .shift) → ⊥) → No ≡ matched Normal s q m l
+  pub unlike-matched : (Alike A p B r m l.scale l.shift → ⊥) → No ≡ matched Normal s q m l
   unfolding matched matches
   unlike-matched f = ⊎-elim
       (λ t. let y = normal-yes s q m _ _ _ _ t in
-      absurd (f (record { not-flat = rw A-is (y .not-flat); up = rw (A-is, B-is) (y .up); down = rw (A-is, B-is) (y .down); shift = rw shift-is (y .shift) })))
-      (λ t. rw (is-false (normalMatch s q m _ (l .threshold) (l .scale) (l .shift)) t) refl)
-      (decided (normalMatch s q m (l .band) (l .threshold) (l .scale) (l .shift)))
+      absurd (f (record { not-flat = rw A-is y.not-flat; up = rw (A-is, B-is) y.up; down = rw (A-is, B-is) y.down; shift = rw shift-is y.shift })))
+      (λ t. rw (is-false (normalMatch s q m _ l.threshold l.scale l.shift) t) refl)
+      (decided (normalMatch s q m l.band l.threshold l.scale l.shift))

@@ -6,6 +6,6 @@ use Rattle.distance_within.specs.Answer.{nearness}
 use Rattle.distance_match.specs.Matched.{matched}
 
 -- of a raw query the distance decides
-pub raw-matched : (s q : ℕ → ℤ) (m : ℕ) (l : Limits) → nearness (distance s q (l .band) m) (l .threshold) ≡ matched Raw s q m l
+pub raw-matched : (s q : ℕ → ℤ) (m : ℕ) (l : Limits) → nearness (distance s q l.band m) l.threshold ≡ matched Raw s q m l
 unfolding matched matches distanceTo rawMatch
 raw-matched s q m l = refl

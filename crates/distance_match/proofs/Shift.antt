@@ -1,7 +1,7 @@
 -- Raised sums differ as the sums do (`shift-raised`), and a spread is not large (`spread-limit`).
 use Rattle.meaning_numbers.specs.Sum.{Σℕ}
-use Rattle.meaning_numbers.proofs.{Sum.Σℤ-same, Root.sq-le}
 use Rattle.meaning_numbers.proofs.Prelude.{_≡_, sym, ap, List, ℕ, _*_, _≤_, arith, ℤ, pos, _-ℤ_, natAbs, rep-pos, rep-sub, rep-eq}
+use Rattle.meaning_numbers.proofs.{Sum.Σℤ-same, Root.sq-le}
 use Rattle.meaning_curves.specs.Curve.{at, stretch, total, spread}
 use Rattle.meaning_curves.proofs.{Values.AllIn, Values.size-le, Sizes.spread-le}
 use Rattle.meaning_filter.specs.declared.Kind.{Kind}
@@ -21,7 +21,7 @@ shift-raised {q = q} {p} {r} from m h k e f =
 -- ---- how large a spread gets
 
 pub spread-limit : {q : List ℤ} (m : ℕ) → AllIn q → m ≤ 1024 → spread (at q) m ≤ 419430400000000
-spread-limit {q} m h short = omega (arith, spread-le (at q) m 10000 (λ k l. size-le (h .at k)), sq-le {x = m * 10000} {y = 10240000} (omega arith))
+spread-limit {q} m h short = omega (arith, spread-le (at q) m 10000 (λ k l. size-le (h.at k)), sq-le {x = m * 10000} {y = 10240000} (omega arith))
 
 -- ---- what is ready for a kind that is told
 

@@ -8,22 +8,22 @@ use Rattle.meaning_curves.proofs.Normal.{cut-is, cut-only}
 use Rattle.distance_normal.specs.Normal.{normal, IsFactor, CutOf}
 
 pub factor-is : {A : ℕ} → 0 < A → IsFactor A (root (4611686018427387904 / A))
-factor-is {A} some = let i = root-is (4611686018427387904 / A) in record { low = le-div-iff-mul-le some .0 (i .low); high = div-lt-iff-lt-mul some .0 (i .high) }
+factor-is {A} some = let i = root-is (4611686018427387904 / A) in record { low = le-div-iff-mul-le some .0 i.low; high = div-lt-iff-lt-mul some .0 i.high }
 
 -- ---- the estimate
 
 estimate-low : {A F : ℕ} (g e : ℕ) → IsFactor A F → e * 2147483648 ≤ g * F → e * e * A ≤ g * g
-estimate-low {A} {F} g e f h = omega (arith, mul-le-mul-right A (sq-le h), mul-le-mul-left (g * g) (f .low))
+estimate-low {A} {F} g e f h = omega (arith, mul-le-mul-right A (sq-le h), mul-le-mul-left (g * g) f.low)
 
 estimate-high : {A F : ℕ} (g e : ℕ) → IsFactor A F → 0 < A → g < 2147483648 → g * F < (e + 1) * 2147483648 → g * g < (e + 2) * (e + 2) * A
 estimate-high {A} {F} g e f some small h =
     let k : g * (F + 1) + 1 ≤ (e + 2) * 2147483648 = omega arith in
-    omega (arith, mul-le-mul-right A (sq-le k), mul-le-mul-left (g * g) (f .high))
+    omega (arith, mul-le-mul-right A (sq-le k), mul-le-mul-left (g * g) f.high)
 
 -- ---- sizes
 
 factor-le : {A F : ℕ} → 0 < A → IsFactor A F → F ≤ 2147483648
-factor-le {A} {F} some f = le-of-sq-le (omega (arith, f .low, mul-le-mul-left (F * F) some))
+factor-le {A} {F} some f = le-of-sq-le (omega (arith, f.low, mul-le-mul-left (F * F) some))
 
 size-le : (A e g : ℕ) → 0 < A → e * e * A ≤ g * g → e ≤ g
 size-le A e g some h = le-of-sq-le (omega (arith, mul-le-mul-left (e * e) some))
@@ -68,10 +68,10 @@ estimate {A} {F} g e h some large f l u =
 
 -- the only one that the meaning admits
 cut-same : {A t : ℕ} (c : ℤ) → 0 < A → CutOf A (natAbs c) t → t ≡ cut A c
-cut-same c some h = cut-only (record { low = h .low; high = h .high }) (cut-is c some)
+cut-same c some h = cut-only (record { low = h.low; high = h.high }) (cut-is c some)
 
 pub cut-small : {A d t : ℕ} → 0 < A → CutOf A d t → t ≤ 100 * d
-cut-small {A} {d} {t} some h = size-le A t _ some (h .low)
+cut-small {A} {d} {t} some h = size-le A t _ some h.low
 
 pub centred-diff : {c : ℤ} {a b : ℕ} → Rep c a b → pos a -ℤ pos b ≡ c
 centred-diff {c} {a} {b} h = rep-eq (rep-sub (rep-pos a) (rep-pos b)) h (omega arith)
@@ -79,10 +79,10 @@ centred-diff {c} {a} {b} h = rep-eq (rep-sub (rep-pos a) (rep-pos b)) h (omega a
 -- ---- the estimate, or one more, is the cut
 
 cut-here : {A F d e : ℕ} → Estimate A F (100 * d) e → 100 * d * (100 * d) < (e + 1) * (e + 1) * A → CutOf A d e
-cut-here s h = record { low = s .low; high = h }
+cut-here s h = record { low = s.low; high = h }
 
 cut-next : {A F d e : ℕ} → Estimate A F (100 * d) e → (e + 1) * (e + 1) * A ≤ 100 * d * (100 * d) → CutOf A d (e + 1)
-cut-next {e = e} s h = let two : e + 1 + 1 ≡ e + 2 = omega arith in record { low = h; high = rw two (s .high) }
+cut-next {e = e} s h = let two : e + 1 + 1 ≡ e + 2 = omega arith in record { low = h; high = rw two s.high }
 
 -- chosen by a flag, with no branch
 flag-cut : {A d e : ℕ} (t : Bool) → (T t → CutOf A d (e + 1)) → (T (not t) → CutOf A d e) → CutOf A d (e + boolByte t)

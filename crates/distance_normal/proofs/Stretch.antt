@@ -12,4 +12,4 @@ pub value-in : (s : ℕ → ℤ) (m k : ℕ) → 0 < spread s m → k < m → m 
 value-in s m k some b short = in-size _ (normal-small s m k some b short)
 
 pub normalised-in : {s : ℕ → ℤ} {m : ℕ} {out : List ℤ} → 0 < spread s m → m ≤ 1024 → Normalised s m out → AllIn out
-normalised-in {s} {m} {out} some short h = all-in out (λ k l. let b : k < m = omega arith in rw (h .at k b) (value-in s m k some b short))
+normalised-in {s} {m} {out} some short h = all-in out (λ k l. let b : k < m = omega arith in rw (h.at k b) (value-in s m k some b short))

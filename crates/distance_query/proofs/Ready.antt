@@ -17,11 +17,11 @@ from-start q m = record { at = λ k l. rw zero-add refl }
 -- ---- a curve of each kind
 
 pub raw-curve : {q out : List ℤ} → AllIn q → Copied q out → IsCurve Raw q out
-raw-curve {q} {out} h c = record { long = c .long; same = record { at = c .at }; inside = all-in out (λ k l. rw (c .at k (omega (arith, c .long))) (h .at k)) }
+raw-curve {q} {out} h c = record { long = c.long; same = record { at = c.at }; inside = all-in out (λ k l. rw (c.at k (omega (arith, c.long))) (h.at k)) }
 
 pub normal-curve : {q out : List ℤ} {a : ℕ} → length q ≤ 1024 → a ≡ spread (stretch q 0) (length q) → 0 < a → Normalised (stretch q 0) (length q) out → IsCurve Normal q out
 normal-curve {q} {out} short e some n = record {
-  long = n .long;
-  same = record { at = λ k l. n .at k l ∙ normalised-same (from-start q (length q)) .at k l };
+  long = n.long;
+  same = record { at = λ k l. n.at k l ∙ normalised-same (from-start q (length q)) .at k l };
   inside = normalised-in (rw (sym e) some) short n;
 }

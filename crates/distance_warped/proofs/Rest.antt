@@ -12,7 +12,7 @@ use Rattle.distance_warped.specs.Rows.{cells, LeastOf, least-path}
 module _ {curve low high : List ℤ} {m b : ℕ} (s : ℕ → ℤ) (e : Envelopes curve m b low high) where
   -- the squared excesses of the first n places are those from the envelopes that are meant
   meant : (n : ℕ) → n ≤ m → Σℕ n (apart s (at low) (at high)) ≡ Σℕ n (apart s (lower (at curve) m b) (upper (at curve) m b))
-  meant n h = Σℕ-same n _ _ (λ k l. rw (e .below .at k (omega arith), e .above .at k (omega arith)) refl)
+  meant n h = Σℕ-same n _ _ (λ k l. rw (e.below.at k (omega arith), e.above.at k (omega arith)) refl)
 
   pub bound-le : 0 < m → Σℕ m (apart s (at low) (at high)) ≤ distance s (at curve) b m
   bound-le long = rw (meant m (omega arith)) (distance-bound s m (envelope _ m b) (omega arith) long)
@@ -22,8 +22,8 @@ module _ {curve low high : List ℤ} {m b : ℕ} (s : ℕ → ℤ) (e : Envelope
       let f = apart s (lower (at curve) m b) (upper (at curve) m b) in
       let last : suc (m - 1) ≡ m = omega arith in
       let t = through i (envelope _ m b) (warped-is s _ b m .attained) (omega arith) (omega arith) in
-      omega (arith, least-path s _ b i m r l (t .there) (t .path), t .rest, ap (λ (n : ℕ). Σℕ n f) last, ap (λ (n : ℕ). Σℕ n f) (add-one i), meant m (omega arith), meant (i + 1) (omega arith))
+      omega (arith, least-path s _ b i m r l t.there t.path, t.rest, ap (λ (n : ℕ). Σℕ n f) last, ap (λ (n : ℕ). Σℕ n f) (add-one i), meant m (omega arith), meant (i + 1) (omega arith))
 
 -- all of it is small
 pub whole-le : {s low high : List ℤ} → AllIn s → AllIn low → AllIn high → (from n : ℕ) → Σℕ n (apart (stretch s from) (at low) (at high)) ≤ 400000000 * n
-whole-le {s} {low} {high} h k i from n = Σℕ-le n 400000000 _ (λ j l. excess-sq-le (k .at j) (i .at j) (h .at _))
+whole-le {s} {low} {high} h k i from n = Σℕ-le n 400000000 _ (λ j l. excess-sq-le (k.at j) (i.at j) (h.at _))

@@ -67,7 +67,7 @@ module _ (s q : ℕ → ℤ) (b : ℕ) where
   -- the least number of a row is at most the total of each path to it
   pub least-path : (i m r : ℕ) {j t : ℕ} → LeastOf (cells i) b i m r → j < m → WarpPath s q b i j t → r ≤ t
   unfolding grid
-  least-path i m r {j} l h p = omega (arith, l .at j h (path-near p), coded-under big (least-total s q b p))
+  least-path i m r {j} l h p = omega (arith, l.at j h (path-near p), coded-under big (least-total s q b p))
 
   pub last-cell : (m : ℕ) → 0 < m → before big (cells (m - 1)) m ≡ warped s q b m
   last-cell m h = let e : m ≡ m - 1 + 1 = omega arith in sym (rw (sym e) at (sym (before-more big (cells (m - 1)) (m - 1)))) ∙ grid-distance s q b big m
@@ -77,22 +77,22 @@ module _ (s q : ℕ → ℤ) (b : ℕ) where
   pub low-new : (i k : ℕ) → k ≤ i + 1 - b → before big (cells (i + 1)) k ≡ big
   unfolding before
   low-new i zero h = refl
-  low-new i (suc k) h = grid-out s q b big (i + 1) k (λ n. omega (arith, n .first))
+  low-new i (suc k) h = grid-out s q b big (i + 1) k (λ n. omega (arith, n.first))
 
   pub low-old : (i k : ℕ) → k < i + 1 - b → before big (cells i) k ≡ big
   unfolding before
   low-old i zero h = refl
-  low-old i (suc k) h = grid-out s q b big i k (λ n. omega (arith, n .first))
+  low-old i (suc k) h = grid-out s q b big i k (λ n. omega (arith, n.first))
 
   pub high-same : (i k : ℕ) → i + b + 2 < k → before big (cells i) k ≡ before big (cells (i + 1)) k
   unfolding before
   high-same i zero h = refl
-  high-same i (suc k) h = grid-out s q b big i k (λ n. omega (arith, n .second)) ∙ sym (grid-out s q b big (i + 1) k (λ n. omega (arith, n .second)))
+  high-same i (suc k) h = grid-out s q b big i k (λ n. omega (arith, n.second)) ∙ sym (grid-out s q b big (i + 1) k (λ n. omega (arith, n.second)))
 
   pub high-first : (k : ℕ) → b + 1 < k → before big (cells 0) k ≡ big
   unfolding before
   high-first zero h = refl
-  high-first (suc k) h = grid-out s q b big 0 k (λ n. omega (arith, n .second))
+  high-first (suc k) h = grid-out s q b big 0 k (λ n. omega (arith, n.second))
 
   -- ---- where a row starts and ends
 
@@ -100,9 +100,9 @@ module _ (s q : ℕ → ℤ) (b : ℕ) where
   row-start i m row h long r = record {
     done = λ k l. elim (decLe (i + 1 - b) k) [
       | yes g ↦ let e : k ≡ i + 1 - b = omega arith in rw e (getD-set-same row (i + 1 - b) big 0 (omega arith) ∙ sym (low-new i (i + 1 - b) (omega arith)))
-      | no f ↦ getD-set-other row (i + 1 - b) k big 0 (λ e. omega arith) ∙ r .at k (omega arith) ∙ low-old i k (omega arith) ∙ sym (low-new i k l)
+      | no f ↦ getD-set-other row (i + 1 - b) k big 0 (λ e. omega arith) ∙ r.at k (omega arith) ∙ low-old i k (omega arith) ∙ sym (low-new i k l)
     ];
-    rest = λ k l u. getD-set-other row (i + 1 - b) k big 0 (λ e. omega arith) ∙ r .at k u;
+    rest = λ k l u. getD-set-other row (i + 1 - b) k big 0 (λ e. omega arith) ∙ r.at k u;
   }
 
   pub row-end : (i hi m : ℕ) (row : List ℕ) → hi ≡ min (i + 1 + b + 1) m → Halfway (cells i) (cells (i + 1)) hi m row → RowIs (cells (i + 1)) m row

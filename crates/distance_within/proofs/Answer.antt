@@ -22,8 +22,8 @@ no-answer {d} {E} h = rw (leb-no h)
 
 pub within-answer : {d E r : ℕ} → Within d E r → nearness r E ≡ nearness d E
 within-answer {d} {E} {r} w = elim (decLe d E) [
-  | yes h ↦ rw (w .exact h) refl
-  | no f ↦ let h : E < d = omega arith in rw (leb-no h, leb-no (w .above h)) refl
+  | yes h ↦ rw (w.exact h) refl
+  | no f ↦ let h : E < d = omega arith in rw (leb-no h, leb-no (w.above h)) refl
 ]
 
 -- band 0 is straight

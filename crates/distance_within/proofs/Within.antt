@@ -16,19 +16,19 @@ pub record NormalTo (s : ℕ → ℤ) (m i : ℕ) (out : List ℤ) : Type 0 wher
 
 pub normal-next : {s : ℕ → ℤ} {m i n : ℕ} {out out′ : List ℤ} → NormalTo s m i out → NormalPart s m i n out out′ → NormalTo s m (i + n) out′
 normal-next {s} {m} {i} {n} {out} {out′} t p = record {
-  long = p .long ∙ t .long;
+  long = p.long ∙ t.long;
   at = λ k h. elim (decLt k i) [
-    | yes b ↦ p .kept k b ∙ t .at k b
-    | no f ↦ let e : i + (k - i) ≡ k = omega arith in rw e at (p .made (k - i) (omega arith))
+    | yes b ↦ p .kept k b ∙ t.at k b
+    | no f ↦ let e : i + (k - i) ≡ k = omega arith in rw e at (p.made (k - i) (omega arith))
   ];
 }
 
 pub normal-all : {s : ℕ → ℤ} {m i : ℕ} {out : List ℤ} → i ≡ m → NormalTo s m i out → Normalised s m out
-normal-all e t = record { long = t .long; at = λ k h. t .at k (omega arith) }
+normal-all e t = record { long = t.long; at = λ k h. t.at k (omega arith) }
 
 module _ {s : ℕ → ℤ} {m e : ℕ} {out : List ℤ} (some : 0 < spread s m) (short : m ≤ 1024) (fits : e ≤ m) (t : NormalTo s m e out) where
   made-at : (k : ℕ) → k < e → getD (take e out) k (pos 0) ≡ normalised s m k
-  made-at k h = getD-take e out k (pos 0) h ∙ t .at k h
+  made-at k h = getD-take e out k (pos 0) h ∙ t.at k h
 
   pub made-in : AllIn (take e out)
   made-in = all-in _ (λ k l. let b : k < e = omega (arith, length-take e out) in rw (made-at k b) (value-in s m k some (omega arith) short))

@@ -10,15 +10,15 @@ use Rattle.refusals.specs.Refusal.{refusalOf, passes, refuses}
 use Rattle.entry_audit.specs.{declared.AuditPlan.AuditPlan, declared.RowsAudited.RowsAudited, Auditing.found, Plan.answerOf}
 
 module _ (p : AuditPlan) (s : RowsAudited) where
-  pub answer-refused : (p .refusal .number ≡ 0 → ⊥) → Audited.Refused (p .refusal .number) (p .refusal .place) ≡ answerOf p s
+  pub answer-refused : (p.refusal.number ≡ 0 → ⊥) → Audited.Refused p.refusal.number p.refusal.place ≡ answerOf p s
   unfolding answerOf
   answer-refused f = rw (ne-eqb _ 0 f) refl
 
-  pub answer-wrong : p .refusal .number ≡ 0 → s .go ≡ false → Audited.Wrong (s .row) (s .offset) ≡ answerOf p s
+  pub answer-wrong : p.refusal.number ≡ 0 → s.go ≡ false → Audited.Wrong s.row s.offset ≡ answerOf p s
   unfolding answerOf
   answer-wrong e g = rw (eq-eqb _ 0 e, g) refl
 
-  pub answer-complete : p .refusal .number ≡ 0 → s .go ≡ true → complete (p .lacking) ≡ answerOf p s
+  pub answer-complete : p.refusal.number ≡ 0 → s.go ≡ true → complete p.lacking ≡ answerOf p s
   unfolding answerOf
   answer-complete e g = rw (eq-eqb _ 0 e, g) refl
 
@@ -32,8 +32,8 @@ some-lacking zero f = absurd (f refl)
 some-lacking (suc n) f = refl
 
 -- a plan whose refusal is that of a call
-module _ (c : AuditCall) (p : AuditPlan) (is : p .refusal ≡ refusalOf (auditTable mostValues c)) where
-  pub stopped : (s : RowsAudited) → (p .refusal .number ≡ 0 → ⊥) → answerOf p s ≡ auditAnswer c
+module _ (c : AuditCall) (p : AuditPlan) (is : p.refusal ≡ refusalOf (auditTable mostValues c)) where
+  pub stopped : (s : RowsAudited) → (p.refusal.number ≡ 0 → ⊥) → answerOf p s ≡ auditAnswer c
   unfolding auditAnswer
   stopped s f = sym (answer-refused p s f) ∙ rw (auditAnswer, refuses _ is f) refl
 
@@ -42,29 +42,29 @@ module _ (c : AuditCall) (p : AuditPlan) (is : p .refusal ≡ refusalOf (auditTa
   never-0 = tt
 
   -- that refuses nothing
-  module _ (z : p .refusal .number ≡ 0) where
+  module _ (z : p.refusal.number ≡ 0) where
     t : AllPass (auditTable mostValues c)
     t = passes _ never-0 is z
 
     unrefused : firstRefusal (auditTable mostValues c) ≡ none
     unrefused = passed-is t
 
-    pub values-in : AllIn (c .series)
+    pub values-in : AllIn c.series
     unfolding openLines auditTable
-    values-in = values-line (c .series) (passed-line t 2)
+    values-in = values-line c.series (passed-line t 2)
 
-    pub formed : WellFormed (c .index)
+    pub formed : WellFormed c.index
     unfolding openLines auditTable
-    formed = formed-line (c .index) (passed-line t 20)
+    formed = formed-line c.index (passed-line t 20)
 
-    pub fits : natAbs (c .index .windows) + natAbs (c .index .window) ≡ length (c .series) + 1
+    pub fits : natAbs c.index.windows + natAbs c.index.window ≡ length c.series + 1
     unfolding openLines auditTable
-    fits = let n = length (c .series) in same-windows (c .index) (c .series) formed (fewer-line (c .index) n (passed-line t 21)) (more-line (c .index) n (passed-line t 22))
+    fits = let n = length c.series in same-windows c.index c.series formed (fewer-line c.index n (passed-line t 21)) (more-line c.index n (passed-line t 22))
 
-    pub went-wrong : (k j : ℕ) → firstWrong (c .index) (c .series) ≡ some (k, j) → answerOf p (found (some (k, j))) ≡ auditAnswer c
+    pub went-wrong : (k j : ℕ) → firstWrong c.index c.series ≡ some (k, j) → answerOf p (found (some (k, j))) ≡ auditAnswer c
     unfolding auditAnswer audited found
     went-wrong k j e = sym (answer-wrong p _ z refl) ∙ rw (auditAnswer, unrefused) (rw (audited, e) refl)
 
-    pub went-right : (s : RowsAudited) → s .go ≡ true → firstWrong (c .index) (c .series) ≡ none → p .lacking ≡ missing (c .index) → answerOf p s ≡ auditAnswer c
+    pub went-right : (s : RowsAudited) → s.go ≡ true → firstWrong c.index c.series ≡ none → p.lacking ≡ missing c.index → answerOf p s ≡ auditAnswer c
     unfolding auditAnswer audited
     went-right s g e m = sym (answer-complete p s z g) ∙ ap complete m ∙ rw (auditAnswer, unrefused) (rw (audited, e) refl)

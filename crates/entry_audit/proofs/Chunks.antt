@@ -17,7 +17,7 @@ orElse (some p) b = some p
 in-then : (sum : ℕ → ℤ) (n : ℕ) (r : Row) (l : List ℕ) (a b : Option (ℕ × ℕ)) → orElse (wrongIn sum n r l a) b ≡ wrongIn sum n r l (orElse a b)
 unfolding wrongIn orElse
 in-then sum n r [] a b = refl
-in-then sum n r (j ∷ l) a b = by-test (inside (r .low) (r .up) (sum j)) (λ t. rw t (in-then sum n r l a b)) (λ f. rw f refl)
+in-then sum n r (j ∷ l) a b = by-test (inside r.low r.up (sum j)) (λ t. rw t (in-then sum n r l a b)) (λ f. rw f refl)
 
 module _ (series : List ℤ) (w : ℕ) (left right : List ℕ) where
   from-cons : (n : ℕ) (r : Row) (l : List Row) → wrongOf series w left right n (r ∷ l) ≡ wrongIn (windowSum series w) n r (offsets (runsOf (onlyRuns left right) r)) (wrongOf series w left right (suc n) l)
@@ -74,12 +74,12 @@ module _ (series : List ℤ) (w : ℕ) (left right : List ℕ) where
 -- ---- the head and the rows of an index do not change what is filed wrongly
 
 module _ (series : List ℤ) (h : Head) (rows : List Row) (left right : List ℕ) where
-  same-from : (n : ℕ) (l : List Row) → wrongOf series (h .window) left right n l ≡ wrongFrom (lent h rows left right) (sums (lent h rows left right) series) n l
+  same-from : (n : ℕ) (l : List Row) → wrongOf series h.window left right n l ≡ wrongFrom (lent h rows left right) (sums (lent h rows left right) series) n l
   unfolding wrongFrom
   same-from n [] = refl
   same-from n (r ∷ l) = ap (wrongIn _ n r _) (same-from (suc n) l)
 
-  pub same-wrong : wrongOf series (h .window) left right 0 rows ≡ firstWrong (lent h rows left right) series
+  pub same-wrong : wrongOf series h.window left right 0 rows ≡ firstWrong (lent h rows left right) series
   unfolding firstWrong
   same-wrong = same-from 0 rows
 
@@ -97,36 +97,36 @@ runs-say windows left right end hl hr (suc m) i least e g t a b =
     let g′ : (leb least x && (leb x y && (ltb y windows && runsGood (pos windows) (pos (y + 2)) q))) ≡ true =
     rw (part-next left right i end (omega arith) hl hr) at g in
     let c = both (leb least x) (leb x y && (ltb y windows && runsGood (pos windows) (pos (y + 2)) q)) g′ in
-    let d = both (leb x y) (ltb y windows && runsGood (pos windows) (pos (y + 2)) q) (c .1) in
-    let f = both (ltb y windows) _ (d .1) in
+    let d = both (leb x y) (ltb y windows && runsGood (pos windows) (pos (y + 2)) q) c.1 in
+    let f = both (ltb y windows) _ d.1 in
     elim (decLe (suc i) t) [
-      | yes k ↦ runs-say windows left right end hl hr m (i + 1) (y + 2) (omega arith) (f .1) t (omega arith) b
-      | no k ↦ let s : i ≡ t = omega arith in subst (λ (t : ℕ). (getD left t 0 ≤ getD right t 0) × (getD right t 0 < windows)) s (leb-true x y (d .0), ltb-true y windows (f .0))
+      | yes k ↦ runs-say windows left right end hl hr m (i + 1) (y + 2) (omega arith) f.1 t (omega arith) b
+      | no k ↦ let s : i ≡ t = omega arith in subst (λ (t : ℕ). (getD left t 0 ≤ getD right t 0) × (getD right t 0 < windows)) s (leb-true x y d.0, ltb-true y windows f.0)
     ]
 
-module _ (series : List ℤ) (h : Head) (rows : List Row) (left right : List ℕ) (fits : h .windows + h .window ≡ length series + 1) where
+module _ (series : List ℤ) (h : Head) (rows : List Row) (left right : List ℕ) (fits : h.windows + h.window ≡ length series + 1) where
   abbrev X : Index
   X = lent h rows left right
 
-  pub good-reads : (r : Row) → GoodRow X r → Reads (length series) (h .window) left right r
+  pub good-reads : (r : Row) → GoodRow X r → Reads (length series) h.window left right r
   good-reads r g =
       let e = length-entries left right in
-      let hl : r .first + r .runs ≤ length left = omega (arith, e) in
-      let hr : r .first + r .runs ≤ length right = omega (arith, e) in
-      let n : r .first + r .runs - r .first ≡ r .runs = omega arith in
-      let good : runsGood (pos (h .windows)) (pos 0) (part left right (r .first) (r .first + r .runs)) ≡ true = rw n (runs-good (h .windows) 0 (runsOf X r) (g .good)) in
+      let hl : r.first + r.runs ≤ length left = omega (arith, e) in
+      let hr : r.first + r.runs ≤ length right = omega (arith, e) in
+      let n : r.first + r.runs - r.first ≡ r.runs = omega arith in
+      let good : runsGood (pos h.windows) (pos 0) (part left right r.first (r.first + r.runs)) ≡ true = rw n (runs-good h.windows 0 (runsOf X r) g.good) in
       record {
         in-left = hl;
         in-right = hr;
-        upward = λ i a b. runs-say (h .windows) left right (r .first + r .runs) hl hr (r .runs) (r .first) 0 refl good i a b .0;
-        inside = λ i a b. let s = runs-say (h .windows) left right (r .first + r .runs) hl hr (r .runs) (r .first) 0 refl good i a b .1 in omega (arith, s);
+        upward = λ i a b. runs-say h.windows left right (r.first + r.runs) hl hr r.runs r.first 0 refl good i a b .0;
+        inside = λ i a b. let s = runs-say h.windows left right (r.first + r.runs) hl hr r.runs r.first 0 refl good i a b .1 in omega (arith, s);
       }
 
-  zero-reads : Reads (length series) (h .window) left right zeroRow
+  zero-reads : Reads (length series) h.window left right zeroRow
   zero-reads = record { in-left = omega arith; in-right = omega arith; upward = λ i a b. absurd (omega arith); inside = λ i a b. absurd (omega arith) }
 
-  pub chunk-reads : WellFormed X → (from k : ℕ) → k < 64 → Reads (length series) (h .window) left right (getD (chunkOf rows from) k zeroRow)
-  chunk-reads f from k b = subst (Reads _ (h .window) left right) (sym (chunk-at rows from k b)) (elim (decLe (suc (from + k)) (length rows)) [
+  pub chunk-reads : WellFormed X → (from k : ℕ) → k < 64 → Reads (length series) h.window left right (getD (chunkOf rows from) k zeroRow)
+  chunk-reads f from k b = subst (Reads _ h.window left right) (sym (chunk-at rows from k b)) (elim (decLe (suc (from + k)) (length rows)) [
     | yes l ↦ good-reads (getD rows (from + k) zeroRow) (row-at X f zeroRow (from + k) l)
-    | no n ↦ subst (Reads _ (h .window) left right) (sym (List·getD-eq-default rows zeroRow (omega arith))) zero-reads
+    | no n ↦ subst (Reads _ h.window left right) (sym (List·getD-eq-default rows zeroRow (omega arith))) zero-reads
   ])

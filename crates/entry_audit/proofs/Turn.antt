@@ -40,11 +40,11 @@ module _ (series : List ℤ) (w : ℕ) (left right : List ℕ) where
   later from chunk k = wrongOf series w left right (from + (k + 1)) (drop (k + 1) chunk)
 
   pub row-begins : (from : ℕ) (chunk : List Row) (k : ℕ) → k < length chunk → let r = getD chunk k zeroRow in
-      inRuns (from + k) r (r .first) (r .first + r .runs) (later from chunk k) ≡ wrongOf series w left right (from + k) (drop k chunk)
+      inRuns (from + k) r r.first (r.first + r.runs) (later from chunk k) ≡ wrongOf series w left right (from + k) (drop k chunk)
   unfolding wrongFrom
   row-begins from chunk k h =
       let r = getD chunk k zeroRow in
-      let e : r .first + r .runs - r .first ≡ r .runs = omega arith in
+      let e : r.first + r.runs - r.first ≡ r.runs = omega arith in
       let n : k + 1 ≡ suc k = omega arith in
       let m : from + suc k ≡ suc (from + k) = omega arith in
       rw (drop-next chunk k zeroRow h, e, n, m) refl
@@ -61,12 +61,12 @@ module _ (series : List ℤ) (w : ℕ) (left right : List ℕ) where
   pub run-ends : (n : ℕ) (r : Row) (j last i end : ℕ) (after : Option (ℕ × ℕ)) → last < j → inRuns n r i end after ≡ inOffsets n r j last i end after
   run-ends n r j last i end after h = rw (numbers-none j last h) refl
 
-  pub filed-right : (n : ℕ) (r : Row) (j last i end : ℕ) (after : Option (ℕ × ℕ)) → j ≤ last → inside (r .low) (r .up) (windowSum series w j) ≡ true
+  pub filed-right : (n : ℕ) (r : Row) (j last i end : ℕ) (after : Option (ℕ × ℕ)) → j ≤ last → inside r.low r.up (windowSum series w j) ≡ true
       → inOffsets n r (j + 1) last i end after ≡ inOffsets n r j last i end after
   unfolding wrongIn
   filed-right n r j last i end after h t = rw (numbers-more j last h, t) refl
 
-  pub filed-wrong : (n : ℕ) (r : Row) (j last i end : ℕ) (after : Option (ℕ × ℕ)) → j ≤ last → inside (r .low) (r .up) (windowSum series w j) ≡ false
+  pub filed-wrong : (n : ℕ) (r : Row) (j last i end : ℕ) (after : Option (ℕ × ℕ)) → j ≤ last → inside r.low r.up (windowSum series w j) ≡ false
       → some (n, j) ≡ inOffsets n r j last i end after
   unfolding wrongIn
   filed-wrong n r j last i end after h t = rw (numbers-more j last h, t) refl
@@ -78,18 +78,18 @@ module _ (series : List ℤ) (w : ℕ) (left right : List ℕ) where
 -- ---- the state after a chunk
 
 module _ (series : List ℤ) (h : Head) (left right : List ℕ) (s : RowsAudited) (from : ℕ) (chunk : List Row) where
-  pub chunk-off : s .go ≡ false → s ≡ chunked series h left right s from chunk
+  pub chunk-off : s.go ≡ false → s ≡ chunked series h left right s from chunk
   unfolding chunked
   chunk-off e = sym (rw e)
 
-  pub chunk-found : s .go ≡ true → (o : Option (ℕ × ℕ)) → o ≡ wrongOf series (h .window) left right from chunk → found o ≡ chunked series h left right s from chunk
+  pub chunk-found : s.go ≡ true → (o : Option (ℕ × ℕ)) → o ≡ wrongOf series h.window left right from chunk → found o ≡ chunked series h left right s from chunk
   unfolding chunked
   chunk-found e o p = ap found p ∙ sym (rw e)
 
 pub still-found : (go : Bool) (row offset : ℕ) → Still go row offset → record { go = go; row = row; offset = offset } ≡ found none
 unfolding found
 still-found go row offset t =
-    let a = t .goes in let b = t .no-row in let c = t .no-offset in
+    let a = t.goes in let b = t.no-row in let c = t.no-offset in
     λ i. record { go = a i; row = b i; offset = c i }
 
 pub wrong-found : (row offset : ℕ) → record { go = false; row = row; offset = offset } ≡ found (some (row, offset))

@@ -15,22 +15,22 @@ use Rattle.entry_audit.specs.declared.RowsAudited.{RowsAudited}
 -- the state, by what is filed wrongly first
 unfoldable pub found : Option (ℕ × ℕ) → RowsAudited
 found none = record { go = true; row = 0; offset = 0 }
-found (some p) = record { go = false; row = p .0; offset = p .1 }
+found (some p) = record { go = false; row = p.0; offset = p.1 }
 
 -- a row's runs lie in both slices, and each of its windows, of length w, among n values
 pub record Reads (n w : ℕ) (left right : List ℕ) (r : Row) : Type 0 where
-  pub in-left : r .first + r .runs ≤ length left
-  pub in-right : r .first + r .runs ≤ length right
-  pub upward : (i : ℕ) → r .first ≤ i → i < r .first + r .runs → getD left i 0 ≤ getD right i 0
-  pub inside : (i : ℕ) → r .first ≤ i → i < r .first + r .runs → getD right i 0 + w ≤ n
+  pub in-left : r.first + r.runs ≤ length left
+  pub in-right : r.first + r.runs ≤ length right
+  pub upward : (i : ℕ) → r.first ≤ i → i < r.first + r.runs → getD left i 0 ≤ getD right i 0
+  pub inside : (i : ℕ) → r.first ≤ i → i < r.first + r.runs → getD right i 0 + w ≤ n
 
 pub record Ready (series : List ℤ) (h : Head) (left right : List ℕ) (chunk : List Row) (from : ℕ) : Type 0 where
   pub values : AllIn series
-  pub least : 1 ≤ h .window
-  pub window : h .window ≤ 256
+  pub least : 1 ≤ h.window
+  pub window : h.window ≤ 256
   pub far : from + 64 < 2 ^ 64
   pub size : length chunk ≡ 64
-  pub rows : (k : ℕ) → k < 64 → Reads (length series) (h .window) left right (getD chunk k zeroRow)
+  pub rows : (k : ℕ) → k < 64 → Reads (length series) h.window left right (getD chunk k zeroRow)
 
 -- an index as far as its rows need it: the run entries
 abbrev pub onlyRuns : List ℕ → List ℕ → Index
@@ -42,4 +42,4 @@ wrongOf series w left right from l = wrongFrom (onlyRuns left right) (windowSum 
 
 -- after the rows of a chunk; an audit that does not go on stays as it is
 unfoldable pub chunked : List ℤ → Head → List ℕ → List ℕ → RowsAudited → ℕ → List Row → RowsAudited
-chunked series h left right s from l = cond (s .go) (found (wrongOf series (h .window) left right from l)) s
+chunked series h left right s from l = cond s.go (found (wrongOf series h.window left right from l)) s

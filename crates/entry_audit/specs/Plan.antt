@@ -18,7 +18,7 @@ tableOf s h j = seriesLines mostValues s ++ (judgedLine j ∷ countLines (length
 
 -- how many windows the runs leave
 abbrev pub leftOver : Head → Judged → ℕ
-leftOver h (Judged.Fine total) = h .windows - total
+leftOver h (Judged.Fine total) = h.windows - total
 leftOver h (Judged.Bad row) = 0
 
 unfoldable pub planOf : List ℤ → Head → Judged → AuditPlan
@@ -26,7 +26,7 @@ planOf s h j = record { refusal = refusalOf (tableOf s h j); lacking = leftOver 
 
 -- the audit goes on where nothing refuses
 abbrev pub began : AuditPlan → RowsAudited
-began p = record { go = eqb (p .refusal .number) 0; row = 0; offset = 0 }
+began p = record { go = eqb p.refusal.number 0; row = 0; offset = 0 }
 
 unfoldable pub answerOf : AuditPlan → RowsAudited → Audited
-answerOf p s = cond (eqb (p .refusal .number) 0) (cond (s .go) (complete (p .lacking)) (Audited.Wrong (s .row) (s .offset))) (Audited.Refused (p .refusal .number) (p .refusal .place))
+answerOf p s = cond (eqb p.refusal.number 0) (cond s.go (complete p.lacking) (Audited.Wrong s.row s.offset)) (Audited.Refused p.refusal.number p.refusal.place)

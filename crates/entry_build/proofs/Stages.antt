@@ -8,15 +8,15 @@ use Rattle.entry_build.specs.Answer.{refusedAs, PlannedFor}
 use Rattle.entry_build.proofs.AnswerLaws.{refused-kept, plan-window, plan-width}
 
 module _ (s : List ℤ) (w d g : ℕ) (b : IndexBuffers) (p : BuildPlan) (h : PlannedFor s w d g b p) where
-  pub halts : not (eqb (p .refusal .number) 0) ≡ true → {t : Built} → t ≡ refusedAs p → BuildKept (lentBuild s w d g) b t b
-  halts f e = rw e (refused-kept s w d g b p h (eqb-false (p .refusal .number) 0 (not-true (eqb (p .refusal .number) 0) f)))
+  pub halts : not (eqb p.refusal.number 0) ≡ true → {t : Built} → t ≡ refusedAs p → BuildKept (lentBuild s w d g) b t b
+  halts f e = rw e (refused-kept s w d g b p h (eqb-false p.refusal.number 0 (not-true (eqb p.refusal.number 0) f)))
 
-  pub goes : not (eqb (p .refusal .number) 0) ≡ false → p .refusal .number ≡ 0
-  goes f = eqb-true (p .refusal .number) 0 (not-false (eqb (p .refusal .number) 0) f)
+  pub goes : not (eqb p.refusal.number 0) ≡ false → p.refusal.number ≡ 0
+  goes f = eqb-true p.refusal.number 0 (not-false (eqb p.refusal.number 0) f)
 
-  module _ (z : p .refusal .number ≡ 0) {m : ℕ} (wide : m ≡ g) {n : ℕ} {new : IndexBuffers} (made : (n ≡ length (built s (p .window) (p .width) m .rows)) × Holds (p .width) m s (p .window) b new) where
+  module _ (z : p.refusal.number ≡ 0) {m : ℕ} (wide : m ≡ g) {n : ℕ} {new : IndexBuffers} (made : (n ≡ length (built s p.window p.width m .rows)) × Holds p.width m s p.window b new) where
     pub many : n ≡ length (built s w d g .rows)
-    many = made .0 ∙ (λ i. length (built s (plan-window s w d g b p h z i) (plan-width s w d g b p h z i) (wide i) .rows))
+    many = made.0 ∙ (λ i. length (built s (plan-window s w d g b p h z i) (plan-width s w d g b p h z i) (wide i) .rows))
 
     pub held : Holds d g s w b new
-    held = made .1 ∙ (λ i. indexIn (built s (plan-window s w d g b p h z i) (plan-width s w d g b p h z i) (wide i)) b)
+    held = made.1 ∙ (λ i. indexIn (built s (plan-window s w d g b p h z i) (plan-width s w d g b p h z i) (wide i)) b)

@@ -27,11 +27,11 @@ unfolding columnAfter
 column-stays n new old h = rw (ne-eqb n 0 h) refl
 
 -- a buffer that was cleared and filled
-module _ (t left right : List ℕ) (p : ReadPlan) (rows runs : ℕ) (e : p ≡ planFor t rows runs) (h : p .refusal .number ≡ 0) (z w left' right' : List ℕ) (a : z ≡ replicate (length left) 0) (b : w ≡ replicate (length right) 0) (f : FilledRuns t z w left' right') where
-  pub column-filled : (left' ≡ columnAfter (p .refusal .number) (heldLefts (textRuns t)) left) × (right' ≡ columnAfter (p .refusal .number) (heldRights (textRuns t)) right)
+module _ (t left right : List ℕ) (p : ReadPlan) (rows runs : ℕ) (e : p ≡ planFor t rows runs) (h : p.refusal.number ≡ 0) (z w left' right' : List ℕ) (a : z ≡ replicate (length left) 0) (b : w ≡ replicate (length right) 0) (f : FilledRuns t z w left' right') where
+  pub column-filled : (left' ≡ columnAfter p.refusal.number (heldLefts (textRuns t)) left) × (right' ≡ columnAfter p.refusal.number (heldRights (textRuns t)) right)
   unfolding columnAfter FilledRuns
   column-filled =
       let v = readable t rows runs (sym (rw e) ∙ h) in
-      let g = f (v .0) (v .1) in
-      let r = ap (λ (x : Index). x .runs) (text-fine t (v .0) (v .1)) in
-      rw (eq-eqb _ 0 h, r, ← a, ← b) (g .0, g .1)
+      let g = f v.0 v.1 in
+      let r = ap (λ (x : Index). x .runs) (text-fine t v.0 v.1) in
+      rw (eq-eqb _ 0 h, r, ← a, ← b) (g.0, g.1)

@@ -23,11 +23,11 @@ refusedPlan r rows = record { refusal = r; head = noHead; rows = 0; runs = 0; fr
 
 -- what refuses a text that can be read, of which judging said this, where there is room for so many rows and runs
 unfoldable pub rowsTable : Head → Rows → ℕ → ℕ → List Condition
-rowsTable h c rows runs = judgedLine (judgedRows h c) ∷ roomLines rows (c .rows) runs (c .runs)
+rowsTable h c rows runs = judgedLine (judgedRows h c) ∷ roomLines rows c.rows runs c.runs
 
 -- the plan for it
 abbrev pub planBy : Refusal → Head → Rows → ℕ → ReadPlan
-planBy r h c rows = cond (eqb (r .number) 0) (record { refusal = r; head = h; rows = c .rows; runs = c .runs; from = c .rows }) (refusedPlan r rows)
+planBy r h c rows = cond (eqb r.number 0) (record { refusal = r; head = h; rows = c.rows; runs = c.runs; from = c.rows }) (refusedPlan r rows)
 
 unfoldable pub fitPlan : Head → Rows → ℕ → ℕ → ReadPlan
 fitPlan h c rows runs = planBy (refusalOf (rowsTable h c rows runs)) h c rows
@@ -40,17 +40,17 @@ abbrev pub planFor : List ℕ → ℕ → ℕ → ReadPlan
 planFor t rows runs = planScanned t rows runs (scanned (readText indexForm t))
 
 unfoldable pub planAnswer : ReadPlan → Loaded
-planAnswer p = cond (eqb (p .refusal .number) 0) (Loaded.Index (p .head) (p .rows) (p .runs)) (Loaded.Refused (p .refusal .number) (p .refusal .place))
+planAnswer p = cond (eqb p.refusal.number 0) (Loaded.Index p.head p.rows p.runs) (Loaded.Refused p.refusal.number p.refusal.place)
 
 -- the run entries of a text, and their columns as the code has them
 abbrev pub textRuns : List ℕ → List Entry
 textRuns t = textIndex t .runs
 
 abbrev pub heldLefts : List Entry → List ℕ
-heldLefts l = map (λ e. held (e .0)) l
+heldLefts l = map (λ e. held e.0) l
 
 abbrev pub heldRights : List Entry → List ℕ
-heldRights l = map (λ e. held (e .1)) l
+heldRights l = map (λ e. held e.1) l
 
 -- a column afterwards: the new entries and 0 in the others, or nothing altered
 unfoldable pub columnAfter : ℕ → List ℕ → List ℕ → List ℕ
@@ -59,5 +59,5 @@ columnAfter n new old = cond (eqb n 0) (sets (replicate (length old) 0) 0 new) o
 -- what is planned for a text, and the run buffer afterwards
 pub record Loads (t : List ℕ) (rows : ℕ) (left right : List ℕ) (p : ReadPlan) (left' right' : List ℕ) : Type 0 where
   pub planned : p ≡ planFor t rows (min (length left) (length right))
-  pub lefts : left' ≡ columnAfter (p .refusal .number) (heldLefts (textRuns t)) left
-  pub rights : right' ≡ columnAfter (p .refusal .number) (heldRights (textRuns t)) right
+  pub lefts : left' ≡ columnAfter p.refusal.number (heldLefts (textRuns t)) left
+  pub rights : right' ≡ columnAfter p.refusal.number (heldRights (textRuns t)) right

@@ -39,10 +39,10 @@ pub record Columns : Type 0 where
 -- a number
 unfoldable pub tellColumns : Field → ℤ → Columns → Columns
 tellColumns p z t = record {
-  left = cond (isLeft p) (held z) (t .left);
-  count = cond (isRight p) (t .count + 1) (t .count);
-  lefts = cond (isRight p) (set (t .lefts) (t .count) (t .left)) (t .lefts);
-  rights = cond (isRight p) (set (t .rights) (t .count) (held z)) (t .rights);
+  left = cond (isLeft p) (held z) t.left;
+  count = cond (isRight p) (t.count + 1) t.count;
+  lefts = cond (isRight p) (set t.lefts t.count t.left) t.lefts;
+  rights = cond (isRight p) (set t.rights t.count (held z)) t.rights;
 }
 
 -- a run is stored at place k, behind the others

@@ -3,8 +3,8 @@
 use Rattle.meaning_numbers.proofs.Prelude.{_≡_, sym, ap, _∙_, true, false, List, ℕ, eqb, eqb-true, eqb-false, by-test, ℤ}
 use Rattle.meaning_rows.specs.{declared.Row.Row, declared.Head.Head, Index.lent}
 use Rattle.meaning_filter.specs.{declared.Ask.Ask, Matches.offsetCount, Matches.candidateAt, Matches.candidateRuns}
-use Rattle.meaning_entries.specs.{declared.Found.Found, Demand2.SearchKept}
 use Rattle.meaning_entries.specs.Search.{SearchCall, SearchBuffers, lentSearch, question, searchPlan, lookedAfter}
+use Rattle.meaning_entries.specs.{declared.Found.Found, Demand2.SearchKept}
 use Rattle.refusals.specs.declared.Refusal.{Refusal}
 use Rattle.candidate_plan.specs.Allowed.{thePlan, plan-is, allowed}
 use Rattle.check_answer.proofs.Search.{limited, search-ends}
@@ -18,33 +18,33 @@ module _ (s : List ℤ) (h : Head) (rows : List Row) (left right : List ℕ) (as
   abbrev here : SearchCall
   here = lentSearch s h rows left right ask q
 
-  module _ {t : Sought} {first last scratch : List ℕ} (k : SoughtKept here (b .left) (b .right) (b .scratch) t first last scratch) where
-    same-plan : t .refusal ≡ thePlan s h rows left right ask q b
+  module _ {t : Sought} {first last scratch : List ℕ} (k : SoughtKept here b.left b.right b.scratch t first last scratch) where
+    same-plan : t.refusal ≡ thePlan s h rows left right ask q b
     unfolding searchPlan
-    same-plan = k .judged ∙ sym (plan-is s h rows left right ask q b)
+    same-plan = k.judged ∙ sym (plan-is s h rows left right ask q b)
 
-    free : t .refusal .number ≡ 0 → thePlan s h rows left right ask q b .number ≡ 0
+    free : t.refusal.number ≡ 0 → thePlan s h rows left right ask q b .number ≡ 0
     free e = sym (ap (λ (r : Refusal). r .number) same-plan) ∙ e
 
-    pub finish-asked : t .refusal .number ≡ 0 → FinishReady ask s q t first last
+    pub finish-asked : t.refusal.number ≡ 0 → FinishReady ask s q t first last
     unfolding lookedAfter candidateRuns question
     finish-asked e = record {
       limited = limited (allowed s h rows left right ask q b (free e));
-      lent = rw (k .handed e .0, k .handed e .1, k .counted e .0) (runs-lent (candidateAt (here .index) (question here)) (offsetCount (question here)) (b .left) (b .right));
+      lent = rw (k.handed e .0, k.handed e .1, k.counted e .0) (runs-lent (candidateAt here.index (question here)) (offsetCount (question here)) b.left b.right);
     }
 
-    pub both-kept : {answer : Found} {offsets distances : List ℕ} → Finished ask s q t first last (b .offsets) (b .distances) answer offsets distances
+    pub both-kept : {answer : Found} {offsets distances : List ℕ} → Finished ask s q t first last b.offsets b.distances answer offsets distances
         → SearchKept here b answer (record { left = first; right = last; scratch = scratch; offsets = offsets; distances = distances })
     unfolding lookedAfter
-    both-kept {answer} {offsets} {distances} f = by-test (eqb (t .refusal .number) 0) goes stops
+    both-kept {answer} {offsets} {distances} f = by-test (eqb t.refusal.number 0) goes stops
       where
-        goes : eqb (t .refusal .number) 0 ≡ true → SearchKept here b answer (record { left = first; right = last; scratch = scratch; offsets = offsets; distances = distances })
+        goes : eqb t.refusal.number 0 ≡ true → SearchKept here b answer (record { left = first; right = last; scratch = scratch; offsets = offsets; distances = distances })
         goes g =
-            let e = eqb-true (t .refusal .number) 0 g in
-            search-ends s h rows left right ask q b (k .handed e .0) (k .handed e .1) (k .counted e .0) (free e) (k .handed e .2) (k .counted e .1) (f .answered e)
+            let e = eqb-true t.refusal.number 0 g in
+            search-ends s h rows left right ask q b (k.handed e .0) (k.handed e .1) (k.counted e .0) (free e) (k.handed e .2) (k.counted e .1) (f.answered e)
 
-        stops : eqb (t .refusal .number) 0 ≡ false → SearchKept here b answer (record { left = first; right = last; scratch = scratch; offsets = offsets; distances = distances })
+        stops : eqb t.refusal.number 0 ≡ false → SearchKept here b answer (record { left = first; right = last; scratch = scratch; offsets = offsets; distances = distances })
         stops g =
-            let n = eqb-false (t .refusal .number) 0 g in
+            let n = eqb-false t.refusal.number 0 g in
             let r = refused-kept s h rows left right ask q b (λ o. n (ap (λ (x : Refusal). x .number) same-plan ∙ o)) in
-            rw (k .stays n .0, k .stays n .1, k .stays n .2, f .refused n .0, f .refused n .1, f .refused n .2, same-plan) r
+            rw (k.stays n .0, k.stays n .1, k.stays n .2, f.refused n .0, f.refused n .1, f.refused n .2, same-plan) r

@@ -12,4 +12,4 @@ module _ (s : List ℤ) (h : Head) (rows : List Row) (left right : List ℕ) (as
   unfolding refusedAs
   refused-kept f =
       let p = plan-stops s h rows left right ask q b f in
-      search-kept (lentSearch s h rows left right ask q) b (Found.Refused (thePlan s h rows left right ask q b .number) (thePlan s h rows left right ask q b .place)) b (sym (p .0)) (sym (p .1))
+      search-kept (lentSearch s h rows left right ask q) b (Found.Refused (thePlan s h rows left right ask q b .number) (thePlan s h rows left right ask q b .place)) b (sym p.0) (sym p.1)

@@ -11,11 +11,11 @@ unfolding filled
 filled-long l a = omega (arith, length-append l (replicate (length a - length l) 0))
 
 -- runs that are handed out are lent to be checked
-pub runs-lent : (set : ℕ → Bool) (n : ℕ) (left right : List ℕ) → RunsLent n (filled 0 (map (λ x. x .0) (runs set n)) left) (filled 0 (map (λ x. x .1) (runs set n)) right) (length (runs set n))
+pub runs-lent : (set : ℕ → Bool) (n : ℕ) (left right : List ℕ) → RunsLent n (filled 0 (map (λ x. x.0) (runs set n)) left) (filled 0 (map (λ x. x.1) (runs set n)) right) (length (runs set n))
 runs-lent set n left right =
     let r = runs set n in
     record {
-      in-left = omega (arith, filled-long (map (λ x. x .0) r) left, length-map r (λ x. x .0));
-      in-right = omega (arith, filled-long (map (λ x. x .1) r) right, length-map r (λ x. x .1));
+      in-left = omega (arith, filled-long (map (λ x. x.0) r) left, length-map r (λ x. x.0));
+      in-right = omega (arith, filled-long (map (λ x. x.1) r) right, length-map r (λ x. x.1));
       apart = rw (runs-first r left right) (runs-apart set n);
     }

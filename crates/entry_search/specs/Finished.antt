@@ -13,10 +13,10 @@ use Rattle.entry_search.specs.Refused.{refusedAs}
 
 -- what checking them asks for
 pub record FinishReady (ask : Ask) (s q : List ℤ) (t : Sought) (first last : List ℕ) : Type 0 where
-  pub limited : Limited (ask .kind) s q (ask .limits)
-  pub lent : RunsLent (offsetCount (wanted ask s q)) first last (t .runs)
+  pub limited : Limited ask.kind s q ask.limits
+  pub lent : RunsLent (offsetCount (wanted ask s q)) first last t.runs
 
 -- checking them: a refusal is answered and alters nothing; else the matches among them are listed
 pub record Finished (ask : Ask) (s q : List ℤ) (t : Sought) (first last offsets distances : List ℕ) (answer : Found) (offsets′ distances′ : List ℕ) : Type 0 where
-  pub refused : (t .refusal .number ≡ 0 → ⊥) → (answer ≡ refusedAs (t .refusal)) × (offsets′ ≡ offsets) × (distances′ ≡ distances)
-  pub answered : t .refusal .number ≡ 0 → Answers (found (wanted ask s q) (members (lentRuns first last (t .runs)))) (t .candidates) answer offsets distances offsets′ distances′
+  pub refused : (t.refusal.number ≡ 0 → ⊥) → (answer ≡ refusedAs t.refusal) × (offsets′ ≡ offsets) × (distances′ ≡ distances)
+  pub answered : t.refusal.number ≡ 0 → Answers (found (wanted ask s q) (members (lentRuns first last t.runs))) t.candidates answer offsets distances offsets′ distances′

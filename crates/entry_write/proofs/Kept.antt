@@ -39,7 +39,7 @@ module _ (x : Index) (text : List ℕ) (n : ℕ) (counted : n ≡ min (length (i
       let h = room-line _ (length (indexText x)) (passed-line p 23) in
       let m : n ≡ length (indexText x) = omega (arith, h) in
       rw (t, m) (fits (passed-is p) h))
-      (λ f. rw f (refused (r .number) (r .place) (refuses (writeTable x text) is (eqb-false (r .number) 0 f))))
+      (λ f. rw f (refused r.number r.place (refuses (writeTable x text) is (eqb-false r.number 0 f))))
 
 answered : {x : Index} {text : List ℕ} {a : Written} → Because x text a → a ≡ writeAnswer x text
 unfolding writeAnswer
@@ -61,7 +61,7 @@ whole l text to h e =
 complete : {x : Index} {text : List ℕ} {a : Written} → Because x text a → isRefused a ≡ false → (new : List ℕ) (to : ℕ) → Ended true text 0 (indexText x) new to → new ≡ writeAfter x text
 unfolding writeAfter isRefused
 complete (refused n p e) h new to d = let z : _≡_ {A = ℕ} 0 1 = cc in absurd (omega arith)
-complete {x} {text} (fits e l) h new to d = rw (e, writeAfter) (d .holds ∙ whole _ text to l (omega arith))
+complete {x} {text} (fits e l) h new to d = rw (e, writeAfter) (d.holds ∙ whole _ text to l (omega arith))
 
 -- ---- at the two returns
 
@@ -70,7 +70,7 @@ module _ (x : Index) (text : List ℕ) {j : Judged} {n : ℕ} {a : Written} {cou
   why = rw (answer, judged) (because x text n (omega arith))
 
   pub kept-refused : isRefused a ≡ true → WriteKept x text a counted
-  kept-refused h = write-kept x text a counted (answered why) (count .holds ∙ untouched why h)
+  kept-refused h = write-kept x text a counted (answered why) (count.holds ∙ untouched why h)
 
   pub kept-written : isRefused a ≡ false → {new : List ℕ} {to : ℕ} → Ended true counted 0 (indexText x) new to → WriteKept x text a new
-  kept-written h {new} {to} d = write-kept x text a new (answered why) (complete why h new to (rw (count .holds) at d))
+  kept-written h {new} {to} d = write-kept x text a new (answered why) (complete why h new to (rw count.holds at d))

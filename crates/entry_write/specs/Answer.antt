@@ -12,7 +12,7 @@ unfoldable pub tableOf : Judged → ℕ → ℕ → List Condition
 tableOf j n size = judgedLine j ∷ bufferShort size n ∷ []
 
 abbrev pub answerBy : Refusal → ℕ → Written
-answerBy r n = cond (eqb (r .number) 0) (Written.Text n) (Written.Refused (r .number) (r .place))
+answerBy r n = cond (eqb r.number 0) (Written.Text n) (Written.Refused r.number r.place)
 
 unfoldable pub answerOf : Judged → ℕ → ℕ → Written
 answerOf j n size = answerBy (refusalOf (tableOf j n size)) n

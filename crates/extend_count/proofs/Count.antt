@@ -53,13 +53,13 @@ module _ (s : List ℤ) (w e old : ℕ) (ups : List ℕ) (n : ℕ) where
     unfolding within startOf
     rank-in c i x h t =
         let b = both _ _ t in
-        let low = leb-true _ x (b .0) in
-        let up = ltb-true x _ (b .1) in
-        rank-is ups n x i (omega arith) (λ k l. under c i x k h l low) (λ k l m. omega (arith, c .up i k l m))
+        let low = leb-true _ x b.0 in
+        let up = ltb-true x _ b.1 in
+        rank-is ups n x i (omega arith) (λ k l. under c i x k h l low) (λ k l m. omega (arith, c.up i k l m))
       where
         under : Climbing ups n → (i x k : ℕ) → i < n → k < i → startOf ups i ≤ x → getD ups k 0 ≤ x
         under c zero x k h l low = absurd (omega arith)
-        under c (suc i) x k h l low = omega (arith, c .up k i (omega arith) (omega arith), start-after ups i)
+        under c (suc i) x k h l low = omega (arith, c.up k i (omega arith) (omega arith), start-after ups i)
 
     within-own : Climbing ups n → (x : ℕ) → rank ups n x < n → ((i : ℕ) → i < rank ups n x → getD ups i 0 ≤ x) → x < getD ups (rank ups n x) 0 → within (startOf ups (rank ups n x)) (getD ups (rank ups n x) 0) x ≡ true
     unfolding within
@@ -77,20 +77,20 @@ module _ (s : List ℤ) (w e old : ℕ) (ups : List ℕ) (n : ℕ) where
         let here = subst (λ (k : ℕ). k < n) (sym q) (can from h l) in
         let x = level s w e from in
         let own = subst (λ (k : ℕ). within (startOf ups k) (getD ups k 0) x ≡ true) (sym q) (within-own c x (can from h l) (rank-under c x) (rank-over c x (can from h l))) in
-        let d = t .change in
+        let d = t.change in
         let ahead : from < r = elim (decLt from r) [
           | yes m ↦ m
-          | no f ↦ let g : r ≡ from = omega arith in clash own (rw g at (d .other (omega arith)))
+          | no f ↦ let g : r ≡ from = omega arith in clash own (rw g at (d.other (omega arith)))
         ] in
         record {
           ahead = ahead;
-          below = d .below;
-          same = λ j a b. row-new j (omega arith) ∙ rank-in c i _ here (d .same j a b);
+          below = d.below;
+          same = λ j a b. row-new j (omega arith) ∙ rank-in c i _ here (d.same j a b);
           other = λ m g.
               let y = level s w e r in
               let k = sym (row-new r (omega arith)) ∙ g in
               let in-r = rw k at (within-own c y (can r (omega arith) m) (rank-under c y) (rank-over c y (can r (omega arith) m))) in
-              clash in-r (d .other m);
+              clash in-r (d.other m);
         }
 
 -- ---- the counts of one run more
@@ -102,8 +102,8 @@ module _ (s : List ℤ) (w e old : ℕ) (ups : List ℕ) (n : ℕ) where
       let k = rowFrom s w e old ups n from in
       record {
         count = λ i b. by-test _
-            (λ q. let g = eqb-true i k q in rw g (getD-set-same counts k _ 0 (omega arith) ∙ omega (arith, c .count k l, run-mine _ _ from r h f)))
+            (λ q. let g = eqb-true i k q in rw g (getD-set-same counts k _ 0 (omega arith) ∙ omega (arith, c.count k l, run-mine _ _ from r h f)))
             (λ q. let g = eqb-false i k q in
-            getD-set-other counts k i _ 0 g ∙ omega (arith, c .count i b, run-other _ _ from r h i (λ d. g (sym d))));
-        long = length-set counts k _ ∙ c .long;
+            getD-set-other counts k i _ 0 g ∙ omega (arith, c.count i b, run-other _ _ from r h i (λ d. g (sym d))));
+        long = length-set counts k _ ∙ c.long;
       }

@@ -1,11 +1,11 @@
 -- The counts of an extension are right: counting by rank, from each row's old runs on, gives the runs of the extension's rows, but for the first new run where it joins an old one (`counts-are`).
 use Rattle.meaning_numbers.specs.{Sum.bit, Place.any}
-use Rattle.meaning_numbers.proofs.{Count.bit-false, Member.all-mem, Member.mem-at}
 use Rattle.meaning_numbers.proofs.Prelude.{_≡_, refl, sym, ap, _∙_, Bool, true, false, _&&_, and-false, and-true, List, [], _∷_, map, ℕ, zero, suc, _+_, _-_, _*_, _<_, _≤_, arith, decLt, eqb, ℤ, natAbs, length, getD, _≤ℤ_, _<ℤ_, eq-eqb, ne-eqb, le-leb, lt-leb, Rep, zarith, by-test, clash}
+use Rattle.meaning_numbers.proofs.{Count.bit-false, Member.all-mem, Member.mem-at}
 use Rattle.meaning_curves.specs.{Limits.lowestEnd, Curve.windowSum, Curve.windowCount}
 use Rattle.meaning_rows.specs.{declared.Row.Row, Range.inside, Runs.before, Runs.runCount, Index.Index, Index.entries, Extend.grown}
-use Rattle.meaning_rows.proofs.{Range.is-inside, Runs.runs-cong, Times.Ascending, Judge.WellFormed, Judge.rangeOf, Extend.Extendable, Extend.grown-new, Woven.wovenRows, Woven.woven-ascends, Woven.woven-covers}
 use Rattle.meaning_rows.proofs.Grown.{onward, onward-count, lastEnds, Begun, begun-woven, old-count, joins-old}
+use Rattle.meaning_rows.proofs.{Range.is-inside, Runs.runs-cong, Times.Ascending, Judge.WellFormed, Judge.rangeOf, Extend.Extendable, Extend.grown-new, Woven.wovenRows, Woven.woven-ascends, Woven.woven-covers}
 use Rattle.rows_records.specs.Records.{zeroRow}
 use Rattle.sums_slide.specs.{Levels.level, Levels.Lent, Ends.raisedEnd}
 use Rattle.sums_slide.proofs.{Levels.level-is, EndsLaws.raised-le, EndsLaws.raised-gt, EndsLaws.raised-mono}
@@ -28,27 +28,27 @@ onward-not p old j h = rw (lt-leb old j h)
 pub low-from : (a : ℤ) (l : List Row) (k : ℕ) → k < length l → Ascending a (map rangeOf l) → (a ≤ℤ getD l k zeroRow .low) × (getD l k zeroRow .low <ℤ getD l k zeroRow .up)
 unfolding Ascending
 low-from a [] k h p = absurd (omega arith)
-low-from a (r ∷ l) zero h p = (p .0, p .1)
-low-from a (r ∷ l) (suc k) h p = let e = low-from (r .up) l k (omega arith) (p .2) in (omega zarith, e .1)
+low-from a (r ∷ l) zero h p = (p.0, p.1)
+low-from a (r ∷ l) (suc k) h p = let e = low-from r.up l k (omega arith) p.2 in (omega zarith, e.1)
 
 pub in-order : (a : ℤ) (l : List Row) (i k : ℕ) → i < k → k < length l → Ascending a (map rangeOf l) → getD l i zeroRow .up ≤ℤ getD l k zeroRow .low
 unfolding Ascending
 in-order a [] i k b h p = absurd (omega arith)
 in-order a (r ∷ l) i zero b h p = absurd (omega arith)
-in-order a (r ∷ l) zero (suc k) b h p = low-from (r .up) l k (omega arith) (p .2) .0
-in-order a (r ∷ l) (suc i) (suc k) b h p = in-order (r .up) l i k (omega arith) (omega arith) (p .2)
+in-order a (r ∷ l) zero (suc k) b h p = low-from r.up l k (omega arith) p.2 .0
+in-order a (r ∷ l) (suc i) (suc k) b h p = in-order r.up l i k (omega arith) (omega arith) p.2
 
 pub record Holder (l : List Row) (z : ℤ) : Type 0 where
   pub at : ℕ
   pub below : at < length l
   pub holds : inside (getD l at zeroRow .low) (getD l at zeroRow .up) z ≡ true
 
-pub holder : (l : List Row) (z : ℤ) → any (λ r. inside (r .low) (r .up) z) l ≡ true → Holder l z
+pub holder : (l : List Row) (z : ℤ) → any (λ r. inside r.low r.up z) l ≡ true → Holder l z
 unfolding any
 holder [] z e = clash e refl
 holder (r ∷ l) z e = by-test _
     (λ t. record { at = 0; below = omega arith; holds = t })
-    (λ f. let h = holder l z (rw f at e) in record { at = suc (h .at); below = omega arith; holds = h .holds })
+    (λ f. let h = holder l z (rw f at e) in record { at = suc h.at; below = omega arith; holds = h.holds })
 
 -- the raised upper ends of the rows
 pub record Ends (rows : List Row) (bias : ℕ) (ups : List ℕ) : Type 0 where
@@ -62,36 +62,36 @@ module _ (rows : List Row) (bias : ℕ) (ups : List ℕ) (asc : Ascending lowest
   ]
 
   pub climbs : Climbing ups (length rows)
-  climbs = record { up = λ i k h l. rw (ends .end i (omega arith), ends .end k l) (raised-mono _ _ bias (ups-order i k h l)) }
+  climbs = record { up = λ i k h l. rw (ends.end i (omega arith), ends.end k l) (raised-mono _ _ bias (ups-order i k h l)) }
 
   -- a sum's rank is the row that holds it
   rank-row : (z : ℤ) (n i : ℕ) → Rep z n bias → i < length rows → inside (getD rows i zeroRow .low) (getD rows i zeroRow .up) z ≡ true → rank ups (length rows) n ≡ i
   rank-row z n i r l t =
       let b = is-inside _ _ z t in
       rank-is ups _ n i (omega arith)
-      (λ k h. let a = in-order lowestEnd rows k i h l asc in rw (ends .end k (omega arith)) (raised-le (getD rows k zeroRow .up) z bias n r (omega zarith)))
-      (λ k h m. let a = ups-order i k h m in rw (ends .end k m) (raised-gt (getD rows k zeroRow .up) z bias n r (omega zarith)))
+      (λ k h. let a = in-order lowestEnd rows k i h l asc in rw (ends.end k (omega arith)) (raised-le (getD rows k zeroRow .up) z bias n r (omega zarith)))
+      (λ k h m. let a = ups-order i k h m in rw (ends.end k m) (raised-gt (getD rows k zeroRow .up) z bias n r (omega zarith)))
 
   -- and no other row holds it
-  one-row : (z : ℤ) (n i : ℕ) → Rep z n bias → i < length rows → any (λ r. inside (r .low) (r .up) z) rows ≡ true → eqb (rank ups (length rows) n) i ≡ inside (getD rows i zeroRow .low) (getD rows i zeroRow .up) z
+  one-row : (z : ℤ) (n i : ℕ) → Rep z n bias → i < length rows → any (λ r. inside r.low r.up z) rows ≡ true → eqb (rank ups (length rows) n) i ≡ inside (getD rows i zeroRow .low) (getD rows i zeroRow .up) z
   one-row z n i r l e =
       let h = holder rows z e in
       by-test _
       (λ t. eq-eqb _ i (rank-row z n i r l t) ∙ sym t)
-      (λ f. ne-eqb _ i (λ q. let s = sym (rank-row z n (h .at) r (h .below) (h .holds)) ∙ q in clash (rw s at (h .holds)) f) ∙ sym f)
+      (λ f. ne-eqb _ i (λ q. let s = sym (rank-row z n h.at r h.below h.holds) ∙ q in clash (rw s at h.holds) f) ∙ sym f)
 
-  has-rank : (z : ℤ) (n : ℕ) → Rep z n bias → any (λ r. inside (r .low) (r .up) z) rows ≡ true → rank ups (length rows) n < length rows
-  has-rank z n r e = let h = holder rows z e in rw (rank-row z n (h .at) r (h .below) (h .holds)) (h .below)
+  has-rank : (z : ℤ) (n : ℕ) → Rep z n bias → any (λ r. inside r.low r.up z) rows ≡ true → rank ups (length rows) n < length rows
+  has-rank z n r e = let h = holder rows z e in rw (rank-row z n h.at r h.below h.holds) h.below
 
 -- ---- the counts
 
-module _ (x : Index) (s : List ℤ) (g : WellFormed x) (long : Extendable x s) (e : ℕ) (lent : Lent s (natAbs (x .window)) e) (ups : List ℕ)
-    (ends : Ends (wovenRows x s g long) (10000 * natAbs (x .window) + e) ups) where
+module _ (x : Index) (s : List ℤ) (g : WellFormed x) (long : Extendable x s) (e : ℕ) (lent : Lent s (natAbs x.window) e) (ups : List ℕ)
+    (ends : Ends (wovenRows x s g long) (10000 * natAbs x.window + e) ups) where
   abbrev w : ℕ
-  w = natAbs (x .window)
+  w = natAbs x.window
 
   abbrev old : ℕ
-  old = natAbs (x .windows)
+  old = natAbs x.windows
 
   abbrev n : ℕ
   n = windowCount (length s) w
@@ -141,14 +141,14 @@ module _ (x : Index) (s : List ℤ) (g : WellFormed x) (long : Extendable x s) (
         let all = rw end at (onward-count (has i) old m) in
         omega (
           arith,
-          c .count i l,
+          c.count i l,
           sizes i l,
           ap length (runs-cong _ _ n (λ j b. same-test i j l b)),
           all,
           old-count x sum _ (begun i l),
         )
 
-    module _ (left right : List ℕ) (is : x .runs ≡ entries left right) where
+    module _ (left right : List ℕ) (is : x.runs ≡ entries left right) where
       -- the row of the first new window, and whether its last old run ends right before it
       abbrev pub first : ℕ
       first = rank ups size (level s w e old)

@@ -35,18 +35,18 @@ module _ {ups : List ℕ} {n : ℕ} (c : Climbing ups n) (x : ℕ) where
   first (suc m) h =
       let f = first m (omega arith) in
       elim (decLt x (getD ups m 0)) [
-        | yes l ↦ record { at = f .at; within = omega arith; under = f .under; over = λ i a b. elim (decLt i m) [ yes k ↦ f .over i a k | no k ↦ let e : i ≡ m = omega arith in rw e l ] }
-        | no l ↦ record { at = suc m; within = omega arith; under = λ i b. omega (arith, c .up i m (omega arith) (omega arith)); over = λ i a b. absurd (omega arith) }
+        | yes l ↦ record { at = f.at; within = omega arith; under = f.under; over = λ i a b. elim (decLt i m) [ yes k ↦ f .over i a k | no k ↦ let e : i ≡ m = omega arith in rw e l ] }
+        | no l ↦ record { at = suc m; within = omega arith; under = λ i b. omega (arith, c.up i m (omega arith) (omega arith)); over = λ i a b. absurd (omega arith) }
       ]
 
   of-all : First n
   of-all = first n (omega arith)
 
-  rank-first : rank ups n x ≡ of-all .at
-  rank-first = rank-is ups n x (of-all .at) (of-all .within) (of-all .under) (of-all .over)
+  rank-first : rank ups n x ≡ of-all.at
+  rank-first = rank-is ups n x of-all.at of-all.within of-all.under of-all.over
 
   pub rank-under : (i : ℕ) → i < rank ups n x → getD ups i 0 ≤ x
-  rank-under i l = of-all .under i (omega (arith, rank-first))
+  rank-under i l = of-all.under i (omega (arith, rank-first))
 
   pub rank-over : rank ups n x < n → x < getD ups (rank ups n x) 0
-  rank-over l = of-all .over _ (omega (arith, rank-first)) l
+  rank-over l = of-all.over _ (omega (arith, rank-first)) l

@@ -6,5 +6,5 @@ use Rattle.sums_slide.specs.{Levels.within, Change.Stop}
 pub stop-ahead : {lv : ℕ → ℕ} {n low up from r z : ℕ} → from < n → within low up (lv from) ≡ true → Stop lv n low up from r z → from < r
 stop-ahead {lv} {n} {low} {up} {from} {r} {z} l t h = elim (decLt from r) [
   | yes a ↦ a
-  | no f ↦ let e : r ≡ from = omega (arith, h .change .above) in clash t (rw e at (h .change .other (omega arith)))
+  | no f ↦ let e : r ≡ from = omega (arith, h.change.above) in clash t (rw e at (h.change.other (omega arith)))
 ]

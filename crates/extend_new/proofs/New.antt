@@ -13,12 +13,12 @@ pub rest-lent : {s : List ℤ} {w e : ℕ} (old : ℕ) → old < windowsOf s w �
 rest-lent {s} {w} {e} old l h =
     let n = length-drop old s in
     record {
-      all = record { at = λ k. rw (getD-drop old s k (pos 0)) (h .all .at (old + k)) };
-      some = h .some;
-      most = h .most;
-      fits = omega (arith, n, h .some);
-      long = omega (arith, n, h .long);
-      small = h .small;
+      all = record { at = λ k. rw (getD-drop old s k (pos 0)) (h.all.at (old + k)) };
+      some = h.some;
+      most = h.most;
+      fits = omega (arith, n, h.some);
+      long = omega (arith, n, h.long);
+      small = h.small;
     }
 
 -- the rest of a list, as it is lent
@@ -39,6 +39,6 @@ pub new-numbers : {s : List ℤ} {w e : ℕ} (old d b : ℕ) → 0 < d → 10000
 unfolding newTable rowNumbers
 new-numbers {s} {w} {e} old d b one bias h = by-test (ltb old (windowsOf s w))
     (λ t. let l = ltb-true old (windowsOf s w) t in
-    let n : windowsOf (drop old s) w ≡ windowsOf s w - old = omega (arith, length-drop old s, h .some) in
+    let n : windowsOf (drop old s) w ≡ windowsOf s w - old = omega (arith, length-drop old s, h.some) in
     rw t (table-numbers d b one bias (rest-lent old l h) ∙ ap (rowNumbers (windowSum (drop old s) w) d) n ∙ numbers-same (windowSum (drop old s) w) (λ j. windowSum s w (old + j)) d (windowsOf s w - old) (λ j. rest-sum s old w j)))
     (λ f. let l = ltb-false old (windowsOf s w) f in let n : windowsOf s w - old ≡ 0 = omega arith in rw (f, n) refl)

@@ -19,17 +19,17 @@ use Rattle.extend_new.specs.Turn.{parts-turn}
 
 -- where the first new run joins, its window is in the range and the spot in the buffer
 pub record Joinable (s : List ℤ) (w e : ℕ) (at : Window) (joins : Bool) (low up spot size : ℕ) : Type 0 where
-  pub begins : joins ≡ true → at .offset < windowsOf s w
-  pub sum : joins ≡ true → at .level ≡ level s w e (at .offset)
-  pub holds : joins ≡ true → within low up (level s w e (at .offset)) ≡ true
+  pub begins : joins ≡ true → at.offset < windowsOf s w
+  pub sum : joins ≡ true → at.level ≡ level s w e at.offset
+  pub holds : joins ≡ true → within low up (level s w e at.offset) ≡ true
   pub fits : joins ≡ true → spot < size
 
 -- the run is joined, or nothing is done
 pub record JoinedRun (s : List ℤ) (w e : ℕ) (at : Window) (joins : Bool) (low up spot : ℕ) (before : List ℕ) (t : Window) (after : List ℕ) : Type 0 where
   pub stays : joins ≡ false → (t ≡ at) × (after ≡ before)
-  pub stop : joins ≡ true → Stop (level s w e) (windowsOf s w) low up (at .offset) (t .offset) (t .level)
-  pub ahead : joins ≡ true → at .offset < t .offset
-  pub wrote : joins ≡ true → after ≡ set before spot (t .offset - 1)
+  pub stop : joins ≡ true → Stop (level s w e) (windowsOf s w) low up at.offset t.offset t.level
+  pub ahead : joins ≡ true → at.offset < t.offset
+  pub wrote : joins ≡ true → after ≡ set before spot (t.offset - 1)
 
 -- a run that goes on has no new beginning
 goes-on : (p : ℕ → Bool) (from m : ℕ) → before p from ≡ true → ((j : ℕ) → from ≤ j → j < from + m → p j ≡ true) → runCount p (from + m) ≡ runCount p from
@@ -76,9 +76,9 @@ module _ (R W : ℕ) (P : ℕ → ℕ → Bool) (first : ℕ → ℕ) (total : �
     -- the last entry of a part that is not full is not the spot
     away : (k : ℕ) → k < R → runCount (P k) from < runCount (P k) W → first k + runCount (P k) W - 1 ≡ spot → ⊥
     away k h l e = elim (decLt k i) [
-      | yes a ↦ omega (arith, laid .apart k i a iR, some)
+      | yes a ↦ omega (arith, laid.apart k i a iR, some)
       | no f ↦ elim (decLt i k) [
-        | yes a ↦ omega (arith, laid .apart i k a h, some, runCount-mono (P i) from W (omega arith))
+        | yes a ↦ omega (arith, laid.apart i k a h, some, runCount-mono (P i) from W (omega arith))
         | no g ↦ let q : k ≡ i = omega arith in omega (arith, ap (λ (x : ℕ). runCount (P x) from) q, ap (λ (x : ℕ). runCount (P x) W) q, ap first q, some)
       ]
     ]
@@ -93,5 +93,5 @@ module _ (R W : ℕ) (P : ℕ → ℕ → Bool) (first : ℕ → ℕ) (total : �
       cursor = λ k h l.
           let e = count-same k h in
           let less : runCount (P k) from < runCount (P k) W = omega arith in
-          getD-set-other right spot (first k + runCount (P k) W - 1) (from + m) 0 (away k h less) ∙ c .cursor k h less ∙ sym e;
+          getD-set-other right spot (first k + runCount (P k) W - 1) (from + m) 0 (away k h less) ∙ c.cursor k h less ∙ sym e;
     }

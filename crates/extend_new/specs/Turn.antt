@@ -13,8 +13,8 @@ use native.Mathlib.Omega.{arith}
 use Rattle.meaning_numbers.specs.Sum.{bit}
 use Rattle.meaning_numbers.proofs.{Tests.by-test, Count.bit-false}
 use Rattle.meaning_rows.specs.Runs.{before, takeIn, runs, runCount}
-use Rattle.meaning_rows.proofs.{Runs.runs-more, Runs.runCount-more, Runs.before-some, Parts.Laid, Parts.Parts}
 use Rattle.meaning_rows.proofs.Columns.{lefts, rights, lefts-reach, rights-reach, lefts-end, rights-end, length-lefts, length-rights, putLeft, putRight, runCount-mono}
+use Rattle.meaning_rows.proofs.{Runs.runs-more, Runs.runCount-more, Runs.before-some, Parts.Laid, Parts.Parts}
 
 -- ---- the row's own part
 
@@ -91,8 +91,8 @@ module _ (R W : ℕ) (P : ℕ → ℕ → Bool) (first : ℕ → ℕ) (total : �
   -- its part lies before or after this row's
   away : (k t : ℕ) → k < R → (k ≡ i → ⊥) → t < runCount (P k) j → (first k + t < first i) ⊎ (first i + runCount (P i) W ≤ first k + t)
   away k t h n m = elim (decLt k i) [
-    | yes l ↦ inl (omega (arith, laid .apart k i l iR, runCount-mono (P k) j W (omega arith)))
-    | no f ↦ let g : i < k = elim (decLt i k) [ yes l ↦ l | no q ↦ absurd (n (omega arith)) ] in inr (omega (arith, laid .apart i k g h))
+    | yes l ↦ inl (omega (arith, laid.apart k i l iR, runCount-mono (P k) j W (omega arith)))
+    | no f ↦ let g : i < k = elim (decLt i k) [ yes l ↦ l | no q ↦ absurd (n (omega arith)) ] in inr (omega (arith, laid.apart i k g h))
   ]
 
   pub parts-turn : (left right : List ℕ) → total ≤ length left → total ≤ length right → Parts R W P first j left right
@@ -105,21 +105,21 @@ module _ (R W : ℕ) (P : ℕ → ℕ → Bool) (first : ℕ → ℕ) (total : �
       left-mine : (k t : ℕ) → k ≡ i → t < runCount (P k) (j + 1) → getD (putLeft true (before (P i) j) left at j) (first k + t) 0 ≡ getD (lefts (runs (P k) (j + 1))) t 0
       left-mine k t e m =
           let m′ : t < runCount (P i) (j + 1) = rw e at m in
-          rw (e, mine-runs) (own-left (before (P i) j) (runs (P i) j) left (first i) j t (λ u l. p .left-is i u iR l) (omega (arith, fits, laid .room i iR)) (omega (arith, mine-more)))
+          rw (e, mine-runs) (own-left (before (P i) j) (runs (P i) j) left (first i) j t (λ u l. p.left-is i u iR l) (omega (arith, fits, laid.room i iR)) (omega (arith, mine-more)))
 
       right-mine : (k t : ℕ) → k ≡ i → t < runCount (P k) (j + 1) → getD (putRight true (before (P i) j) right at j) (first k + t) 0 ≡ getD (rights (runs (P k) (j + 1))) t 0
       right-mine k t e m =
           let m′ : t < runCount (P i) (j + 1) = rw e at m in
-          rw (e, mine-runs) (own-right (before (P i) j) (runs (P i) j) right (first i) j t (λ u l. p .right-is i u iR l) (omega (arith, fits, laid .room i iR)) (before-some (P i) j) (omega (arith, mine-more)))
+          rw (e, mine-runs) (own-right (before (P i) j) (runs (P i) j) right (first i) j t (λ u l. p.right-is i u iR l) (omega (arith, fits, laid.room i iR)) (before-some (P i) j) (omega (arith, mine-more)))
 
       left-away : (k t : ℕ) → k < R → (k ≡ i → ⊥) → t < runCount (P k) (j + 1) → getD (putLeft true (before (P i) j) left at j) (first k + t) 0 ≡ getD (lefts (runs (P k) (j + 1))) t 0
       left-away k t h n m =
           let m′ : t < runCount (P k) j = rw (other-runs k h n) at m in
           rw (other-runs k h n) (left-other (before (P i) j) left at j (first k + t)
-          (λ z e. ⊎-elim (λ l. omega arith) (λ l. omega (arith, fits, bit-sum (before (P i) j), bit-false z)) (away k t h n m′)) ∙ p .left-is k t h m′)
+          (λ z e. ⊎-elim (λ l. omega arith) (λ l. omega (arith, fits, bit-sum (before (P i) j), bit-false z)) (away k t h n m′)) ∙ p.left-is k t h m′)
 
       right-away : (k t : ℕ) → k < R → (k ≡ i → ⊥) → t < runCount (P k) (j + 1) → getD (putRight true (before (P i) j) right at j) (first k + t) 0 ≡ getD (rights (runs (P k) (j + 1))) t 0
       right-away k t h n m =
           let m′ : t < runCount (P k) j = rw (other-runs k h n) at m in
           rw (other-runs k h n) (right-other (before (P i) j) right at j (first k + t)
-          (λ e. ⊎-elim (λ l. omega (arith, before-some (P i) j)) (λ l. omega (arith, fits, bit-sum (before (P i) j))) (away k t h n m′)) (omega (arith, before-some (P i) j)) ∙ p .right-is k t h m′)
+          (λ e. ⊎-elim (λ l. omega (arith, before-some (P i) j)) (λ l. omega (arith, fits, bit-sum (before (P i) j))) (away k t h n m′)) (omega (arith, before-some (P i) j)) ∙ p.right-is k t h m′)

@@ -41,39 +41,39 @@ module _ (o r : Row) (from to : List ℕ) (c : CopyRoom o r (length from) (lengt
   n = partSize o r
 
   abbrev piece : List ℕ
-  piece = written n (r .runs) (drop (o .first) from) (drop (r .first) to)
+  piece = written n r.runs (drop o.first from) (drop r.first to)
 
-  in-numbers : n ≤ length (drop (o .first) from)
-  in-numbers = omega (arith, length-drop (o .first) from, c .source)
+  in-numbers : n ≤ length (drop o.first from)
+  in-numbers = omega (arith, length-drop o.first from, c.source)
 
-  in-part : r .runs ≤ length (drop (r .first) to)
-  in-part = omega (arith, length-drop (r .first) to, c .room)
+  in-part : r.runs ≤ length (drop r.first to)
+  in-part = omega (arith, length-drop r.first to, c.room)
 
-  at-piece : (y : ℕ) → getD (partCopied o r from to) (r .first + y) 0 ≡ getD piece y 0
+  at-piece : (y : ℕ) → getD (partCopied o r from to) (r.first + y) 0 ≡ getD piece y 0
   unfolding partCopied
   at-piece y =
-      let l : length (take (r .first) to) ≡ r .first = length-take-le (r .first) to (omega arith) in
-      let e : r .first + y ≡ length (take (r .first) to) + y = omega arith in
-      ap (λ (i : ℕ). getD (take (r .first) to ++ piece) i 0) e ∙ getD-append-add (take (r .first) to) piece y 0
+      let l : length (take r.first to) ≡ r.first = length-take-le r.first to (omega arith) in
+      let e : r.first + y ≡ length (take r.first to) + y = omega arith in
+      ap (λ (i : ℕ). getD (take r.first to ++ piece) i 0) e ∙ getD-append-add (take r.first to) piece y 0
 
-  part-front : (t : ℕ) → t < n → getD (partCopied o r from to) (r .first + t) 0 ≡ getD from (o .first + t) 0
-  part-front t h = at-piece t ∙ written-front n (r .runs) _ _ in-numbers (c .fits) in-part t h ∙ getD-drop (o .first) from t 0
+  part-front : (t : ℕ) → t < n → getD (partCopied o r from to) (r.first + t) 0 ≡ getD from (o.first + t) 0
+  part-front t h = at-piece t ∙ written-front n r.runs _ _ in-numbers c.fits in-part t h ∙ getD-drop o.first from t 0
 
-  part-cursor : n < r .runs → getD (partCopied o r from to) (r .first + r .runs - 1) 0 ≡ n
+  part-cursor : n < r.runs → getD (partCopied o r from to) (r.first + r.runs - 1) 0 ≡ n
   part-cursor h =
-      let e : r .first + r .runs - 1 ≡ r .first + (r .runs - 1) = omega arith in
-      rw e (at-piece (r .runs - 1) ∙ written-cursor n (r .runs) _ _ in-numbers (c .fits) in-part h)
+      let e : r.first + r.runs - 1 ≡ r.first + (r.runs - 1) = omega arith in
+      rw e (at-piece (r.runs - 1) ∙ written-cursor n r.runs _ _ in-numbers c.fits in-part h)
 
   -- elsewhere the column stays
-  part-away : (x : ℕ) → (r .first ≤ x → r .first + r .runs ≤ x) → getD (partCopied o r from to) x 0 ≡ getD to x 0
+  part-away : (x : ℕ) → (r.first ≤ x → r.first + r.runs ≤ x) → getD (partCopied o r from to) x 0 ≡ getD to x 0
   unfolding partCopied
-  part-away x h = elim (decLt x (r .first)) [
-    | yes l ↦ List·getD-append (take (r .first) to) piece 0 x (omega (arith, length-take-le (r .first) to (omega arith))) ∙ getD-take (r .first) to x 0 l
+  part-away x h = elim (decLt x r.first) [
+    | yes l ↦ List·getD-append (take r.first to) piece 0 x (omega (arith, length-take-le r.first to (omega arith))) ∙ getD-take r.first to x 0 l
     | no f ↦
         let past = h (omega arith) in
-        let e : x ≡ r .first + (x - r .first) = omega arith in
-        ap (λ (i : ℕ). getD (take (r .first) to ++ piece) i 0) e ∙ at-piece (x - r .first)
-        ∙ written-past n (r .runs) _ _ in-numbers (c .fits) in-part (x - r .first) (omega arith) ∙ getD-drop (r .first) to (x - r .first) 0 ∙ rw (sym e)
+        let e : x ≡ r.first + (x - r.first) = omega arith in
+        ap (λ (i : ℕ). getD (take r.first to ++ piece) i 0) e ∙ at-piece (x - r.first)
+        ∙ written-past n r.runs _ _ in-numbers c.fits in-part (x - r.first) (omega arith) ∙ getD-drop r.first to (x - r.first) 0 ∙ rw (sym e)
   ]
 
 -- ---- a column after all rows
@@ -93,7 +93,7 @@ module _ (old : List Row) (from : List ℕ) (rows : List Row) (count : ℕ) (to 
   size i = partSize (next i) (at i)
 
   room : (i : ℕ) → i < count → CopyRoom (next i) (at i) (length from) (length (column i))
-  room i l = rw (length-column old from rows count to can i (omega arith)) (can .room i l)
+  room i l = rw (length-column old from rows count to can i (omega arith)) (can.room i l)
 
   -- what is written of row i stays when later rows are written
   stays : (i k x : ℕ) → i < k → k ≤ count → at i .first ≤ x → x < at i .first + at i .runs → getD (column k) x 0 ≡ getD (column (suc i)) x 0

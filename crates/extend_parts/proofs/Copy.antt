@@ -24,14 +24,14 @@ part-back n size a b from to last e = back-made b to last (written n size (drop 
 pub length-copied : (o r : Row) (from to : List ℕ) → CopyRoom o r (length from) (length to) → length (partCopied o r from to) ≡ length to
 unfolding partCopied
 length-copied o r from to c =
-    let w = written (partSize o r) (r .runs) (drop (o .first) from) (drop (r .first) to) in
+    let w = written (partSize o r) r.runs (drop o.first from) (drop r.first to) in
     omega (
       arith,
-      length-append (take (r .first) to) w,
-      length-take-le (r .first) to (omega arith),
-      length-written (partSize o r) (r .runs) (drop (o .first) from) (drop (r .first) to) (omega (arith, length-drop (o .first) from, c .source)) (omega (arith, length-drop (r .first) to, c .room, c .fits)),
-      length-drop (r .first) to,
-      c .room,
+      length-append (take r.first to) w,
+      length-take-le r.first to (omega arith),
+      length-written (partSize o r) r.runs (drop o.first from) (drop r.first to) (omega (arith, length-drop o.first from, c.source)) (omega (arith, length-drop r.first to, c.room, c.fits)),
+      length-drop r.first to,
+      c.room,
     )
 
 pub column-none : (old : List Row) (from : List ℕ) (rows : List Row) (to : List ℕ) → columnTo old from rows 0 to ≡ to
@@ -55,4 +55,4 @@ unfolding columnTo
 length-column old from rows count to c zero h = refl
 length-column old from rows count to c (suc i) h =
     let e = length-column old from rows count to c i (omega arith) in
-    length-copied _ _ from _ (rw e (c .room i (omega arith))) ∙ e
+    length-copied _ _ from _ (rw e (c.room i (omega arith))) ∙ e

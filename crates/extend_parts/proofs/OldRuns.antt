@@ -5,8 +5,8 @@ use Rattle.meaning_numbers.proofs.Member.{All, all-mem, mem-all, mem-at}
 use Rattle.meaning_numbers.proofs.Prelude.{_≡_, refl, sym, ap, _∙_, Bool, List, [], _∷_, ℕ, zero, suc, _+_, _-_, _<_, _≤_, arith, decLt, ℤ, pos, natAbs, length, getD, _≤ℤ_, _<ℤ_, leZ, zarith, leZ-true, both}
 use Rattle.meaning_curves.specs.{Limits.lowestEnd, Curve.windowSum, Curve.windowCount}
 use Rattle.meaning_rows.specs.{declared.Row.Row, Range.lowOf, Runs.runs, Runs.runCount, Index.Index, Index.entries, Build.rowNumbers, Extend.grown}
-use Rattle.meaning_rows.proofs.{Judge.GoodEnd, Judge.GoodRow, Judge.WellFormed, Judge.each-row, Judge.ranges-ascend, Build.numbers-sorted, Build.numbers-occur, Sums.ends-good, Columns.lefts, Columns.rights, Columns.runCount-mono, Parts.Parts, Cursors.Cursors, Extend.Extendable, Woven.newRow, Woven.all-woven, Woven.wovenRows}
 use Rattle.meaning_rows.proofs.Grown.{Begun, begun-woven, old-runs, old-count, left-at, right-at, length-entries}
+use Rattle.meaning_rows.proofs.{Judge.GoodEnd, Judge.GoodRow, Judge.WellFormed, Judge.each-row, Judge.ranges-ascend, Build.numbers-sorted, Build.numbers-occur, Sums.ends-good, Columns.lefts, Columns.rights, Columns.runCount-mono, Parts.Parts, Cursors.Cursors, Extend.Extendable, Woven.newRow, Woven.all-woven, Woven.wovenRows}
 use Rattle.rows_records.specs.Records.{zeroRow}
 use Rattle.extend_weave.specs.Turn.{endLow, endRow}
 use Rattle.extend_parts.specs.Copy.{partSize, nextOld, passedTo, columnTo, Copyable}
@@ -15,17 +15,17 @@ use Rattle.extend_parts.proofs.OldPassed.{PassedRow, own, new, passed-i
 
 end-below : (d : ℕ) (z : ℤ) → GoodEnd d z → z <ℤ endLow
 unfolding within
-end-below d z e = let h : z ≤ℤ pos 4000000 = leZ-true (both (leZ lowestEnd z) (leZ z (pos 4000000)) (e .limited) .1) in omega zarith
+end-below d z e = let h : z ≤ℤ pos 4000000 = leZ-true (both (leZ lowestEnd z) (leZ z (pos 4000000)) e.limited .1) in omega zarith
 
 module _ (x : Index) (s : List ℤ) (g : WellFormed x) (long : Extendable x s) where
   abbrev w : ℕ
-  w = natAbs (x .window)
+  w = natAbs x.window
 
   abbrev d : ℕ
-  d = natAbs (x .width)
+  d = natAbs x.width
 
   abbrev old : ℕ
-  old = natAbs (x .windows)
+  old = natAbs x.windows
 
   abbrev n : ℕ
   n = windowCount (length s) w
@@ -53,11 +53,11 @@ module _ (x : Index) (s : List ℤ) (g : WellFormed x) (long : Extendable x s) w
   unfolding newRow
   new-low k e = end-below d (lowOf d k) e
 
-  small : All (λ r. r .low <ℤ endLow) made
-  small = all-woven d (λ r. r .low <ℤ endLow) (x .rows) numbers
-      (mem-all (λ r. r .low <ℤ endLow) (x .rows) (λ r m. end-below d (r .low) (all-mem (GoodRow x) (x .rows) (each-row x g) m .low-end)))
+  small : All (λ r. r.low <ℤ endLow) made
+  small = all-woven d (λ r. r.low <ℤ endLow) x.rows numbers
+      (mem-all (λ r. r.low <ℤ endLow) x.rows (λ r m. end-below d r.low (all-mem (GoodRow x) x.rows (each-row x g) m .low-end)))
       (λ k m. let o = numbers-occur (λ j. sum (old + j)) d (n - old) k m in
-      new-low k (rw (o .is) at (ends-good s w d (old + o .at) (long .values) (g .head .window .most) one (g .head .width .most) .0)))
+      new-low k (rw o.is at (ends-good s w d (old + o.at) long.values g.head.window.most one g.head.width.most .0)))
 
   begun : (i : ℕ) → i < length made → Begun x (at i)
   begun i l = all-mem (Begun x) made (begun-woven x g d numbers) (mem-at zeroRow made i l)
@@ -70,24 +70,24 @@ module _ (x : Index) (s : List ℤ) (g : WellFormed x) (long : Extendable x s) w
     pub apart : (i k : ℕ) → i < k → k < length made → getD rows i zeroRow .first + getD rows i zeroRow .runs ≤ getD rows k zeroRow .first
     pub fits : (i : ℕ) → i < length made → getD rows i zeroRow .first + getD rows i zeroRow .runs ≤ room
 
-  module _ (left right : List ℕ) (is : x .runs ≡ entries left right) (rows : List Row) (room : ℕ) (laid : LaidRows rows room) where
+  module _ (left right : List ℕ) (is : x.runs ≡ entries left right) (rows : List Row) (room : ℕ) (laid : LaidRows rows room) where
     abbrev next : ℕ → Row
-    next i = nextOld (x .rows) rows i
+    next i = nextOld x.rows rows i
 
     passes : (i : ℕ) → i < length made → PassedRow (next i) (at i)
-    passes i l = passed-row d one lowestEnd (x .rows) (ranges-ascend x g) numbers (numbers-sorted (λ j. sum (old + j)) d (n - old)) small rows (laid .low) i l
+    passes i l = passed-row d one lowestEnd x.rows (ranges-ascend x g) numbers (numbers-sorted (λ j. sum (old + j)) d (n - old)) small rows laid.low i l
 
     -- as many old runs are copied as the row has
     copied-size : (i : ℕ) → i < length made → partSize (next i) (getD rows i zeroRow) ≡ at i .runs
-    copied-size i l = passed-size d one lowestEnd (x .rows) (ranges-ascend x g) numbers (numbers-sorted (λ j. sum (old + j)) d (n - old)) small rows (laid .low) i l
+    copied-size i l = passed-size d one lowestEnd x.rows (ranges-ascend x g) numbers (numbers-sorted (λ j. sum (old + j)) d (n - old)) small rows laid.low i l
 
-    shorter : (length (x .runs) ≤ length left) × (length (x .runs) ≤ length right)
+    shorter : (length x.runs ≤ length left) × (length x.runs ≤ length right)
     shorter = let e = ap length is in (omega (arith, length-entries left right), omega (arith, length-entries left right))
 
-    next-begins : (i : ℕ) → next i .first ≤ length (x .runs)
-    next-begins i = elim (decLt (passedTo (x .rows) rows i) (length (x .rows))) [
-      | yes l ↦ omega (arith, all-mem (GoodRow x) (x .rows) (each-row x g) (mem-at endRow (x .rows) _ l) .fits)
-      | no f ↦ rw (past (x .rows) (passedTo (x .rows) rows i) (omega arith)) (omega arith)
+    next-begins : (i : ℕ) → next i .first ≤ length x.runs
+    next-begins i = elim (decLt (passedTo x.rows rows i) (length x.rows)) [
+      | yes l ↦ omega (arith, all-mem (GoodRow x) x.rows (each-row x g) (mem-at endRow x.rows _ l) .fits)
+      | no f ↦ rw (past x.rows (passedTo x.rows rows i) (omega arith)) (omega arith)
     ]
       where
         past : (l : List Row) (k : ℕ) → length l ≤ k → getD l k endRow ≡ endRow
@@ -95,32 +95,32 @@ module _ (x : Index) (s : List ℤ) (g : WellFormed x) (long : Extendable x s) w
         past (r ∷ l) zero h = absurd (omega arith)
         past (r ∷ l) (suc k) h = past l k (omega arith)
 
-    source : (i : ℕ) → i < length made → next i .first + at i .runs ≤ length (x .runs)
+    source : (i : ℕ) → i < length made → next i .first + at i .runs ≤ length x.runs
     source i l = by (passes i l)
       where
-        by : PassedRow (next i) (at i) → next i .first + at i .runs ≤ length (x .runs)
+        by : PassedRow (next i) (at i) → next i .first + at i .runs ≤ length x.runs
         by (own e) = omega (arith, begun i l .fits, ap (λ (r : Row). r .first) e)
         by (new a b c) = omega (arith, next-begins i)
 
     -- the copying can be done, of a column that is as long as the run buffer
-    pub copyable : (from to : ℕ) → length (x .runs) ≤ from → room ≤ to → Copyable (x .rows) rows (length made) from to
+    pub copyable : (from to : ℕ) → length x.runs ≤ from → room ≤ to → Copyable x.rows rows (length made) from to
     copyable from to a b = record {
-      in-rows = laid .within;
-      in-old = λ i h. passed-in d one lowestEnd (x .rows) (ranges-ascend x g) numbers (numbers-sorted (λ j. sum (old + j)) d (n - old)) small rows (laid .low) i h;
+      in-rows = laid.within;
+      in-old = λ i h. passed-in d one lowestEnd x.rows (ranges-ascend x g) numbers (numbers-sorted (λ j. sum (old + j)) d (n - old)) small rows laid.low i h;
       room = λ i l. record {
         source = omega (arith, source i l, copied-size i l);
         begins = omega (arith, next-begins i);
-        fits = omega (arith, copied-size i l, laid .size i l, old-count x sum (at i) (begun i l), runCount-mono (rowHas i) old n (long .longer));
-        room = omega (arith, laid .fits i l);
+        fits = omega (arith, copied-size i l, laid.size i l, old-count x sum (at i) (begun i l), runCount-mono (rowHas i) old n long.longer);
+        room = omega (arith, laid.fits i l);
       };
     }
 
     module _ (to to′ : List ℕ) (a : room ≤ length to) (b : room ≤ length to′) where
       abbrev L : List ℕ
-      L = columnTo (x .rows) left rows (length made) to
+      L = columnTo x.rows left rows (length made) to
 
       abbrev R : List ℕ
-      R = columnTo (x .rows) right rows (length made) to′
+      R = columnTo x.rows right rows (length made) to′
 
       abbrev first : ℕ → ℕ
       first i = getD rows i zeroRow .first
@@ -130,29 +130,29 @@ module _ (x : Index) (s : List ℤ) (g : WellFormed x) (long : Extendable x s) w
       own-left i t l h = by (passes i l)
         where
           by : PassedRow (next i) (at i) → getD left (next i .first + t) 0 ≡ getD (lefts (runs (rowHas i) old)) t 0
-          by (own e) = ap (λ (r : Row). getD left (r .first + t) 0) e ∙ left-at x left right is (at i) (begun i l) t h ∙ rw (sym (old-runs x sum (at i) (begun i l)))
+          by (own e) = ap (λ (r : Row). getD left (r.first + t) 0) e ∙ left-at x left right is (at i) (begun i l) t h ∙ rw (sym (old-runs x sum (at i) (begun i l)))
           by (new p q c) = absurd (omega arith)
 
       own-right : (i t : ℕ) → i < length made → t < at i .runs → getD right (next i .first + t) 0 ≡ getD (rights (runs (rowHas i) old)) t 0
       own-right i t l h = by (passes i l)
         where
           by : PassedRow (next i) (at i) → getD right (next i .first + t) 0 ≡ getD (rights (runs (rowHas i) old)) t 0
-          by (own e) = ap (λ (r : Row). getD right (r .first + t) 0) e ∙ right-at x left right is (at i) (begun i l) t h ∙ rw (sym (old-runs x sum (at i) (begun i l)))
+          by (own e) = ap (λ (r : Row). getD right (r.first + t) 0) e ∙ right-at x left right is (at i) (begun i l) t h ∙ rw (sym (old-runs x sum (at i) (begun i l)))
           by (new p q c) = absurd (omega arith)
 
       pub old-parts : Parts (length made) n rowHas first old L R
       old-parts = record {
         left-is = λ i t l h. let m : t < at i .runs = omega (arith, old-count x sum (at i) (begun i l)) in
-            column-front (x .rows) left rows (length made) to (copyable (length left) (length to) (shorter .0) a) (laid .apart) i t l (omega (arith, copied-size i l)) ∙ own-left i t l m;
+            column-front x.rows left rows (length made) to (copyable (length left) (length to) shorter.0 a) laid.apart i t l (omega (arith, copied-size i l)) ∙ own-left i t l m;
         right-is = λ i t l h. let m : t < at i .runs = omega (arith, old-count x sum (at i) (begun i l)) in
-            column-front (x .rows) right rows (length made) to′ (copyable (length right) (length to′) (shorter .1) b) (laid .apart) i t l (omega (arith, copied-size i l)) ∙ own-right i t l m;
+            column-front x.rows right rows (length made) to′ (copyable (length right) (length to′) shorter.1 b) laid.apart i t l (omega (arith, copied-size i l)) ∙ own-right i t l m;
       }
 
       pub old-cursors : Cursors (length made) n rowHas first old R
       old-cursors = record {
         cursor = λ i l h.
             let c = old-count x sum (at i) (begun i l) in
-            ap (λ (k : ℕ). getD R (first i + k - 1) 0) (sym (laid .size i l))
-            ∙ column-cursor (x .rows) right rows (length made) to′ (copyable (length right) (length to′) (shorter .1) b) (laid .apart) i l (omega (arith, copied-size i l, laid .size i l))
+            ap (λ (k : ℕ). getD R (first i + k - 1) 0) (sym (laid.size i l))
+            ∙ column-cursor x.rows right rows (length made) to′ (copyable (length right) (length to′) shorter.1 b) laid.apart i l (omega (arith, copied-size i l, laid.size i l))
             ∙ copied-size i l ∙ sym c;
       }

@@ -12,7 +12,7 @@ use Rattle.extend_weave.specs.Turn.{endRow}
 
 -- how many old runs a row has, where o is the next old row
 unfoldable pub partSize : Row → Row → ℕ
-partSize o r = cond (leZ (o .low) (r .low)) (o .runs) 0
+partSize o r = cond (leZ o.low r.low) o.runs 0
 
 -- a part of `size` entries, with n numbers at its front, and their number at its end while it is not full
 unfoldable pub written : ℕ → ℕ → List ℕ → List ℕ → List ℕ
@@ -20,16 +20,16 @@ written n size numbers part = cond (ltb n size) (set (paste part 0 numbers n) (s
 
 -- the column after a row
 unfoldable pub partCopied : Row → Row → List ℕ → List ℕ → List ℕ
-partCopied o r from to = take (r .first) to ++ written (partSize o r) (r .runs) (drop (o .first) from) (drop (r .first) to)
+partCopied o r from to = take r.first to ++ written (partSize o r) r.runs (drop o.first from) (drop r.first to)
 
 pub record CopyRoom (o r : Row) (from to : ℕ) : Type 0 where
-  pub source : o .first + partSize o r ≤ from
-  pub begins : o .first ≤ from
-  pub fits : partSize o r ≤ r .runs
-  pub room : r .first + r .runs ≤ to
+  pub source : o.first + partSize o r ≤ from
+  pub begins : o.first ≤ from
+  pub fits : partSize o r ≤ r.runs
+  pub room : r.first + r.runs ≤ to
 
 unfoldable pub oldPassed : ℕ → Row → Row → ℕ
-oldPassed a o r = cond (leZ (o .low) (r .low)) (a + 1) a
+oldPassed a o r = cond (leZ o.low r.low) (a + 1) a
 
 -- how many old rows stand among the first i rows
 unfoldable pub passedTo : List Row → List Row → ℕ → ℕ

@@ -7,7 +7,7 @@ use Rattle.rows_records.specs.Records.{zeroRow}
 use Rattle.rows_pack.specs.Packed.{startOf}
 
 abbrev pub withPart : Row → List ℕ → ℕ → Row
-withPart r ends i = record { low = r .low; up = r .up; first = startOf ends i; runs = getD ends i 0 - startOf ends i }
+withPart r ends i = record { low = r.low; up = r.up; first = startOf ends i; runs = getD ends i 0 - startOf ends i }
 
 -- the first n records with their parts
 unfoldable pub laidTo : List ℕ → ℕ → List Row → List Row

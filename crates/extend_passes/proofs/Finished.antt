@@ -18,7 +18,7 @@ pub record Behind (total : ℕ) (old new : List ℕ) : Type 0 where
 
 module _ (x : Index) (s : List ℤ) (g : WellFormed x) (long : Extendable x s) where
   abbrev w : ℕ
-  w = natAbs (x .window)
+  w = natAbs x.window
 
   abbrev n : ℕ
   n = windowCount (length s) w
@@ -33,7 +33,7 @@ module _ (x : Index) (s : List ℤ) (g : WellFormed x) (long : Extendable x s) w
   P = rowHas x s g long
 
   abbrev G : Row → RangeRow
-  G = grownRuns x (windowSum s w) (natAbs (x .windows)) n
+  G = grownRuns x (windowSum s w) (natAbs x.windows) n
 
   abbrev total : ℕ
   total = partsTotal size n P
@@ -43,22 +43,22 @@ module _ (x : Index) (s : List ℤ) (g : WellFormed x) (long : Extendable x s) w
     left-is : left′ ≡ filled 0 (lefts (allRuns (map G made))) left₀
     unfolding withRuns
     left-is =
-        let m = length-map (allRuns (map G made)) (λ e. natAbs (e .0)) in
+        let m = length-map (allRuns (map G made)) (λ e. natAbs e.0) in
         let t = total-is x s g long in
-        filled-is _ left₀ left′ (f .long-left ∙ bl .long) (omega (arith, m, t))
-        (λ y b. column-at zeroRow G (λ e. natAbs (e .0)) left′ made
-        (λ i u a c. rw (start-is x s g long i, lefts-entry _) (f .parts .left-is i u a (omega (arith, size-is x s g long i)))) y (omega (arith, m)))
-        (λ y b. f .past-left y (omega (arith, m, t)) ∙ bl .zero y (omega (arith, m, t)))
+        filled-is _ left₀ left′ (f.long-left ∙ bl.long) (omega (arith, m, t))
+        (λ y b. column-at zeroRow G (λ e. natAbs e.0) left′ made
+        (λ i u a c. rw (start-is x s g long i, lefts-entry _) (f.parts.left-is i u a (omega (arith, size-is x s g long i)))) y (omega (arith, m)))
+        (λ y b. f.past-left y (omega (arith, m, t)) ∙ bl.zero y (omega (arith, m, t)))
 
     right-is : right′ ≡ filled 0 (rights (allRuns (map G made))) right₀
     unfolding withRuns
     right-is =
-        let m = length-map (allRuns (map G made)) (λ e. natAbs (e .1)) in
+        let m = length-map (allRuns (map G made)) (λ e. natAbs e.1) in
         let t = total-is x s g long in
-        filled-is _ right₀ right′ (f .long-right ∙ br .long) (omega (arith, m, t))
-        (λ y b. column-at zeroRow G (λ e. natAbs (e .1)) right′ made
-        (λ i u a c. rw (start-is x s g long i, rights-entry _) (f .parts .right-is i u a (omega (arith, size-is x s g long i)))) y (omega (arith, m)))
-        (λ y b. f .past-right y (omega (arith, m, t)) ∙ br .zero y (omega (arith, m, t)))
+        filled-is _ right₀ right′ (f.long-right ∙ br.long) (omega (arith, m, t))
+        (λ y b. column-at zeroRow G (λ e. natAbs e.1) right′ made
+        (λ i u a c. rw (start-is x s g long i, rights-entry _) (f.parts.right-is i u a (omega (arith, size-is x s g long i)))) y (omega (arith, m)))
+        (λ y b. f.past-right y (omega (arith, m, t)) ∙ br.zero y (omega (arith, m, t)))
 
     pub finished : {rows : List Row} → rows ≡ filled zeroRow (records 0 (map G made)) rows₀ → HoldsExtended x s (indexBuffers rows₀ left₀ right₀) (indexBuffers rows left′ right′)
     unfolding indexIn extended

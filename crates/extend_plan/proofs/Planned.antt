@@ -9,8 +9,8 @@ use mathlib.Core.Path.{_≡_, refl}
 use Rattle.meaning_rows.specs.{declared.Row.Row, declared.Head.Head, Index.Index, Index.lent}
 use Rattle.meaning_rows.proofs.{Judge.WellFormed, Extend.Extendable}
 use Rattle.meaning_entries.specs.{Refusal.moreWindows, Buffers.IndexBuffers, Buffers.runRoom, Extend.ExtendCall, Extend.lentExtend, Extend.extendWindows, Extend.extendTable, Extend.extendRefusal}
-use Rattle.meaning_entries.proofs.{Lines.room-line, Made.extend-formed, Made.extendable}
 use Rattle.meaning_entries.proofs.Refusal.{AllPass, passed-is, openLines, passed-line, passed-behind, lacks}
+use Rattle.meaning_entries.proofs.{Lines.room-line, Made.extend-formed, Made.extendable}
 use Rattle.rows_judge.specs.Judged.{judgedOf, bad-row}
 use Rattle.refusals.specs.{declared.Refusal.Refusal, Refusal.refusalOf, Refusal.judged-line, Refusal.passes, Refusal.refuses}
 use Rattle.extend_plan.specs.Plan.{planOf}
@@ -23,13 +23,13 @@ module _ (series : List ℤ) (h : Head) (rows : List Row) (left right : List ℕ
   call = lentExtend series h rows left right
 
   abbrev pub thePlan : Refusal
-  thePlan = planOf series h (judgedOf X) (length (b .rows)) (runRoom b)
+  thePlan = planOf series h (judgedOf X) (length b.rows) (runRoom b)
 
   plan-is : thePlan ≡ refusalOf (extendTable call b)
   unfolding planOf extendTable moreWindows
   plan-is = rw (judged-line X (judgedOf X) (bad-row X)) refl
 
-  pub stopped : (thePlan .number ≡ 0 → ⊥) → extendRefusal call b ≡ some (thePlan .number, thePlan .place)
+  pub stopped : (thePlan.number ≡ 0 → ⊥) → extendRefusal call b ≡ some (thePlan.number, thePlan.place)
   stopped f = refuses (extendTable call b) plan-is f
 
   never-0 : T (lacks 0 (extendTable call b))
@@ -40,10 +40,10 @@ module _ (series : List ℤ) (h : Head) (rows : List Row) (left right : List ℕ
   pub record Sound : Type 0 where
     pub formed : WellFormed X
     pub longer : Extendable X series
-    pub row-room : extendWindows call ≤ length (b .rows)
+    pub row-room : extendWindows call ≤ length b.rows
     pub run-room : extendWindows call ≤ runRoom b
 
-  module _ (z : thePlan .number ≡ 0) where
+  module _ (z : thePlan.number ≡ 0) where
     t : AllPass (extendTable call b)
     t = passes (extendTable call b) never-0 plan-is z
 

@@ -29,7 +29,7 @@ pub record CountedAs (s : List ℤ) (w e bias old : ℕ) (rows : List Row) (n : 
 -- the counts can be added up, and then the rows laid out
 pub record LayAsked (s : List ℤ) (w old : ℕ) (row : Row) (olds : List ℕ) (i : ℕ) (rows : List Row) (n : ℕ) (left : List ℕ) : Type 0 where
   pub window : w ≤ length s
-  pub fits : row .first + row .runs ≤ length olds
+  pub fits : row.first + row.runs ≤ length olds
   pub sums : SumAsked (joinsOf s w old row olds) i left n
   pub lays : (ends : List ℕ) → length ends ≡ length left → Summed n (lessJoin (joinsOf s w old row olds) i left) ends → (n ≤ length rows) × ((k : ℕ) → k < n → EndsRoom ends k)
 

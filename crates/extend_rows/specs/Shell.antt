@@ -14,21 +14,21 @@ use Rattle.sums_slide.specs.Levels.{Lent, windowsOf}
 -- the records of the rows of an extension, with their old parts
 abbrev pub madeRows : Index → List ℤ → List Row
 madeRows x s =
-    let w = natAbs (x .window) in
-    let d = natAbs (x .width) in
-    let old = natAbs (x .windows) in
-    woven d (x .rows) (rowNumbers (λ j. windowSum s w (old + j)) d (windowCount (length s) w - old))
+    let w = natAbs x.window in
+    let d = natAbs x.width in
+    let old = natAbs x.windows in
+    woven d x.rows (rowNumbers (λ j. windowSum s w (old + j)) d (windowCount (length s) w - old))
 
 -- an index that can be extended over the series, its numbers, and what sums are raised by
 pub record Extending (x : Index) (s : List ℤ) (w e d b old : ℕ) (rows : List Row) : Type 0 where
   pub formed : WellFormed x
   pub longer : Extendable x s
-  pub lent : Lent s (natAbs (x .window)) e
-  pub bias : 10000 * natAbs (x .window) + e ≡ b * natAbs (x .width)
-  pub window : w ≡ natAbs (x .window)
-  pub width : d ≡ natAbs (x .width)
-  pub windows : old ≡ natAbs (x .windows)
-  pub rows-are : rows ≡ x .rows
+  pub lent : Lent s (natAbs x.window) e
+  pub bias : 10000 * natAbs x.window + e ≡ b * natAbs x.width
+  pub window : w ≡ natAbs x.window
+  pub width : d ≡ natAbs x.width
+  pub windows : old ≡ natAbs x.windows
+  pub rows-are : rows ≡ x.rows
 
 -- and room for its windows
 pub record WeaveAsked (x : Index) (s : List ℤ) (w e d b old : ℕ) (from rows : List Row) (left : List ℕ) : Type 0 where

@@ -1,16 +1,16 @@
 -- The runs of the extension's rows counted: what the counting asks (`countable`), whether the first new run joins (`joins`), and that the counts, less one where it does, are those of the extension's rows (`matches`).
 use Rattle.meaning_numbers.specs.Sum.{bit}
-use Rattle.meaning_numbers.proofs.{Sum.Σℕ-same, Count.bit-true, Count.bit-false}
 use Rattle.meaning_numbers.proofs.Prelude.{_≡_, refl, sym, ap, _∙_, Bool, true, false, and-false, List, [], _∷_, map, ℕ, zero, suc, _+_, _-_, _*_, _<_, _≤_, arith, decLt, leb, eqb, ℤ, natAbs, length, getD, set, length-map, getD-set-same, getD-set-other, lt-ltb, le-ltb, eqb-true, eqb-false, eq-eqb, ne-eqb, zarith, by-test, clash}
+use Rattle.meaning_numbers.proofs.{Sum.Σℕ-same, Count.bit-true, Count.bit-false}
 use Rattle.meaning_curves.specs.Curve.{windowSum, windowCount}
 use Rattle.meaning_rows.specs.{declared.Row.Row, Runs.before, Runs.runCount, Index.Index, Index.RangeRow, Index.entries, Build.withRuns, Extend.grown}
 use Rattle.meaning_rows.proofs.{Judge.WellFormed, Runs.runs-le, Extend.Extendable, Woven.wovenRows, Woven.woven-ascends, Woven.grownRuns, Grown.lastEnds, Grown.old-count, Grown.length-entries, Columns.getD-past}
 use Rattle.rows_records.specs.Records.{zeroRow}
-use Rattle.sums_slide.specs.{Levels.level, Levels.Lent}
+use Rattle.sums_slide.specs.Levels.{level, Lent}
 use Rattle.extend_new.specs.New.{lessJoin}
-use Rattle.extend_count.specs.{Count.isRow, Rank.rank, Count.rowFrom, Count.Countable, Count.Counted, Listed.listed, Listed.endOf, Listed.sizeOf, Listed.Listable}
-use Rattle.extend_count.proofs.{Count.counted-starts, Listed.listed-at, Listed.length-listed}
+use Rattle.extend_count.specs.{Count.isRow, Count.rowFrom, Count.Countable, Count.Counted, Rank.rank, Listed.listed, Listed.endOf, Listed.sizeOf, Listed.Listable}
 use Rattle.extend_count.proofs.Extension.{Ends, climbs, new-row, begun, first-in, has-first, first-joins, other-counts, first-count}
+use Rattle.extend_count.proofs.{Count.counted-starts, Listed.listed-at, Listed.length-listed}
 use Rattle.extend_parts.proofs.{OldRuns.rowHas, Records.Matches}
 use Rattle.extend_rows.specs.Steps.{firstNew, joinsOf, SumAsked}
 use Rattle.extend_runs.proofs.{Rowed.ends-limits, Rowed.size-is, Rowed.total-most, Joined.Joins}
@@ -29,13 +29,13 @@ map-at G o [] i h = absurd (omega arith)
 map-at G o (r ∷ l) zero h = refl
 map-at G o (r ∷ l) (suc i) h = map-at G o l i (omega arith)
 
-module _ (x : Index) (s : List ℤ) (g : WellFormed x) (long : Extendable x s) (e : ℕ) (lent : Lent s (natAbs (x .window)) e) (left right : List ℕ) (is : x .runs ≡ entries left right)
+module _ (x : Index) (s : List ℤ) (g : WellFormed x) (long : Extendable x s) (e : ℕ) (lent : Lent s (natAbs x.window) e) (left right : List ℕ) (is : x.runs ≡ entries left right)
     (rows : List Row) (row-at : (i : ℕ) → getD rows i zeroRow ≡ getD (wovenRows x s g long) i zeroRow) (in-rows : length (wovenRows x s g long) ≤ length rows) where
   abbrev w : ℕ
-  w = natAbs (x .window)
+  w = natAbs x.window
 
   abbrev old : ℕ
-  old = natAbs (x .windows)
+  old = natAbs x.windows
 
   abbrev n : ℕ
   n = windowCount (length s) w
@@ -66,7 +66,7 @@ module _ (x : Index) (s : List ℤ) (g : WellFormed x) (long : Extendable x s) (
     in-rows = in-rows;
     in-ups = a;
     in-counts = b;
-    ends = λ i l. let q = ends-limits x s g long i l .1 in let lo = q .0 in let hi = q .1 in
+    ends = λ i l. let q = ends-limits x s g long i l .1 in let lo = q.0 in let hi = q.1 in
         rw (row-at i) (record { least = omega (zarith, lo); most = hi; small = omega arith });
   }
 
@@ -83,12 +83,12 @@ module _ (x : Index) (s : List ℤ) (g : WellFormed x) (long : Extendable x s) (
     pub countable : Countable s w e old ups size counts
     countable = record {
       lent = lent;
-      some-left = long .longer;
+      some-left = long.longer;
       in-ups = omega (arith, ap length lu, length-listed (endOf rows bias) size right₁);
       in-counts = omega (arith, ap length lc, length-listed (sizeOf rows) size left₁);
       climbing = climbs made bias ups (woven-ascends x s g long) ends;
       has-row = new-row x s g long e lent ups ends;
-      small = λ i l. omega (arith, sizes i l, old-size i l, runs-le (P i) old, long .longer, lent .long, lent .some);
+      small = λ i l. omega (arith, sizes i l, old-size i l, runs-le (P i) old, long.longer, lent.long, lent.some);
     }
 
     module _ (counts′ : List ℕ) (c : Counted s w e old ups size counts n counts′) (i : ℕ) (first-new : old < n → i ≡ rank ups size (level s w e old)) where
@@ -98,7 +98,7 @@ module _ (x : Index) (s : List ℤ) (g : WellFormed x) (long : Extendable x s) (
       abbrev J : Bool
       J = joinsOf s w old r right
 
-      pub row-fits : r .first + r .runs ≤ length right
+      pub row-fits : r.first + r.runs ≤ length right
       row-fits = rw (row-at i) (elim (decLt i size) [
         | yes l ↦ omega (arith, begun x s g long e lent ups ends i l .fits, ap length is, length-entries left right)
         | no f ↦ rw (getD-past zeroRow made i (omega arith)) (omega arith)
@@ -106,7 +106,7 @@ module _ (x : Index) (s : List ℤ) (g : WellFormed x) (long : Extendable x s) (
 
       no-join : n ≤ old → J ≡ false
       unfolding joinsOf firstNew lastEnds
-      no-join h = rw (le-ltb old n h, ne-eqb (getD right (r .first + r .runs - 1) 0 + 1) 0 (λ q. omega arith)) (and-false (leb 1 (r .runs)))
+      no-join h = rw (le-ltb old n h, ne-eqb (getD right (r.first + r.runs - 1) 0 + 1) 0 (λ q. omega arith)) (and-false (leb 1 r.runs))
 
       module _ (some : old < n) where
         abbrev first : ℕ
@@ -143,7 +143,7 @@ module _ (x : Index) (s : List ℤ) (g : WellFormed x) (long : Extendable x s) (
         count-new : (k : ℕ) → k < size → getD (lessJoin J i counts′) k 0 ≡ runCount (P k) n
         count-new k l = by-test _
             (λ t. let q = eqb-true k i t in rw q (by-test J
-            (λ y. rw (less-yes i counts′ y) (getD-set-same counts′ i _ 0 (omega (arith, row-in, c .long, ap length lc, length-listed (sizeOf rows) size left₁)) ∙ omega (arith, own-count, bit-true y)))
+            (λ y. rw (less-yes i counts′ y) (getD-set-same counts′ i _ 0 (omega (arith, row-in, c.long, ap length lc, length-listed (sizeOf rows) size left₁)) ∙ omega (arith, own-count, bit-true y)))
             (λ f. rw (less-no i counts′ f) (omega (arith, own-count, bit-false f)))))
             (λ f. let q = eqb-false k i f in
             let o = other-counts x s g long e lent ups ends counts counts′ sizes c some left right is k l (λ p. q (p ∙ sym (first-new some))) in
@@ -155,7 +155,7 @@ module _ (x : Index) (s : List ℤ) (g : WellFormed x) (long : Extendable x s) (
       count-old h k l =
           let q : n ≡ old = omega arith in
           let none = counted-starts s w e old ups size counts .count k l in
-          rw (less-no i counts′ (no-join h)) (omega (arith, c .count k l, ap (runCount (isRow (rowFrom s w e old ups size) k)) q, none, sizes k l, old-size k l, ap (runCount (P k)) q))
+          rw (less-no i counts′ (no-join h)) (omega (arith, c.count k l, ap (runCount (isRow (rowFrom s w e old ups size) k)) q, none, sizes k l, old-size k l, ap (runCount (P k)) q))
 
       joins-none : n ≤ old → Joins x s g long i J
       joins-none h = record {
@@ -177,9 +177,9 @@ module _ (x : Index) (s : List ℤ) (g : WellFormed x) (long : Extendable x s) (
       sum-asked =
           let many = ap length lc in
           record {
-            fits = omega (arith, c .long, many, length-listed (sizeOf rows) size left₁);
-            has = λ t. let h = joins .new t in (omega (arith, row-in h, c .long, many, length-listed (sizeOf rows) size left₁), omega (arith, own-count h, bit-true t));
-            small = omega (arith, Σℕ-same size (λ k. getD (lessJoin J i counts′) k 0) (λ k. runCount (P k) n) (λ k l. count-is k l), total-most x s g long, lent .long, lent .some);
+            fits = omega (arith, c.long, many, length-listed (sizeOf rows) size left₁);
+            has = λ t. let h = joins.new t in (omega (arith, row-in h, c.long, many, length-listed (sizeOf rows) size left₁), omega (arith, own-count h, bit-true t));
+            small = omega (arith, Σℕ-same size (λ k. getD (lessJoin J i counts′) k 0) (λ k. runCount (P k) n) (λ k l. count-is k l), total-most x s g long, lent.long, lent.some);
           }
 
       pub matches : Matches (map G made) rows (lessJoin J i counts′)

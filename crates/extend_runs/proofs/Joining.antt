@@ -16,26 +16,26 @@ pub joined-as : {s : List ℤ} {w e : ℕ} {p t : Window} {b b′ : Bool} {lo lo
 joined-as a c d f h = rw (← a, ← c, ← d, ← f) h
 
 -- a row that is joined has a run
-pub joins-some : (s : List ℤ) (w old : ℕ) (r : Row) (right : List ℕ) → joinsOf s w old r right ≡ true → 1 ≤ r .runs
+pub joins-some : (s : List ℤ) (w old : ℕ) (r : Row) (right : List ℕ) → joinsOf s w old r right ≡ true → 1 ≤ r.runs
 unfolding joinsOf lastEnds
 joins-some s w old r right h = by-test _ (λ t. leb-true 1 _ t) (λ f. clash h (rw f))
 
 -- the row's part, lent and put back
-module _ {s : List ℤ} {w e : ℕ} {p : Window} {joins : Bool} {lo hi : ℕ} (q r : Row) (right : List ℕ) (some : joins ≡ true → 1 ≤ r .runs) where
-  pub joinable-lent : Joinable s w e p joins lo hi (spotOf q r) (length right) → Joinable s w e p joins lo hi (r .runs - 1) (length (lentFrom (q .first) right))
+module _ {s : List ℤ} {w e : ℕ} {p : Window} {joins : Bool} {lo hi : ℕ} (q r : Row) (right : List ℕ) (some : joins ≡ true → 1 ≤ r.runs) where
+  pub joinable-lent : Joinable s w e p joins lo hi (spotOf q r) (length right) → Joinable s w e p joins lo hi (r.runs - 1) (length (lentFrom q.first right))
   joinable-lent h = record {
-    begins = h .begins;
-    sum = h .sum;
-    holds = h .holds;
-    fits = λ t. omega (arith, h .fits t, some t, ap length (lent-is (q .first) right), length-drop (q .first) right);
+    begins = h.begins;
+    sum = h.sum;
+    holds = h.holds;
+    fits = λ t. omega (arith, h.fits t, some t, ap length (lent-is q.first right), length-drop q.first right);
   }
 
-  pub joined-back : (t : Window) (last : List ℕ) → JoinedRun s w e p joins lo hi (r .runs - 1) (lentFrom (q .first) right) t last → JoinedRun s w e p joins lo hi (spotOf q r) right t (backAt (q .first) right last)
+  pub joined-back : (t : Window) (last : List ℕ) → JoinedRun s w e p joins lo hi (r.runs - 1) (lentFrom q.first right) t last → JoinedRun s w e p joins lo hi (spotOf q r) right t (backAt q.first right last)
   joined-back t last h = record {
-    stays = λ f. (h .stays f .0, back-same (q .first) right last (h .stays f .1));
-    stop = h .stop;
-    ahead = h .ahead;
+    stays = λ f. (h.stays f .0, back-same q.first right last (h.stays f .1));
+    stop = h.stop;
+    ahead = h.ahead;
     wrote = λ v.
-        let z : q .first + (r .runs - 1) ≡ spotOf q r = omega (arith, some v) in
-        back-set _ right last _ _ (h .wrote v) ∙ ap (λ (k : ℕ). set right k (t .offset - 1)) z;
+        let z : q.first + (r.runs - 1) ≡ spotOf q r = omega (arith, some v) in
+        back-set _ right last _ _ (h.wrote v) ∙ ap (λ (k : ℕ). set right k (t.offset - 1)) z;
   }

@@ -1,11 +1,11 @@
 -- The rows of an extension, laid out as records, are rows that the pass can fill from the old window count on (`extended-rowed`), and rows that the old runs can be copied to (`extended-laid`).
 use Rattle.meaning_numbers.specs.{Order.within, Sum.Σℕ}
-use Rattle.meaning_numbers.proofs.{Sum.Σℕ-same, Member.all-mem, Member.mem-all, Member.mem-at}
 use Rattle.meaning_numbers.proofs.Prelude.{_≡_, refl, sym, ap, _∙_, subst, Bool, List, map, ℕ, _+_, _-_, _<_, _≤_, arith, ℤ, pos, natAbs, length, getD, take, length-map, getD-take, _≤ℤ_, zarith, leZ-true, both}
+use Rattle.meaning_numbers.proofs.{Sum.Σℕ-same, Member.all-mem, Member.mem-all, Member.mem-at}
 use Rattle.meaning_curves.specs.{Limits.lowestEnd, Curve.windowSum, Curve.windowCount}
 use Rattle.meaning_rows.specs.{declared.Row.Row, Range.lowOf, Range.upOf, Runs.runs, Runs.runCount, Index.Index, Index.RangeRow, Index.records, Index.allRuns, Build.entry, Build.withRuns, Extend.grown, Extend.extendedRows, Extend.extended}
-use Rattle.meaning_rows.proofs.{Judge.GoodEnd, Judge.WellFormed, Judge.each-row, Build.numbers-occur, Sums.ends-good, Extend.Extendable, Extend.grown-new, Extend.extended-most, LaidAt.records-at, LaidAt.runs-total}
 use Rattle.meaning_rows.proofs.Woven.{newRow, all-woven, wovenRows, grownRuns, woven-extended, woven-ascends, woven-covers}
+use Rattle.meaning_rows.proofs.{Judge.GoodEnd, Judge.WellFormed, Judge.each-row, Build.numbers-occur, Sums.ends-good, Extend.Extendable, Extend.grown-new, Extend.extended-most, LaidAt.records-at, LaidAt.runs-total}
 use Rattle.rows_records.specs.Records.{zeroRow}
 use Rattle.build_fill.specs.Pass.{partStart, partsTotal, parts-laid, Rowed}
 use Rattle.extend_count.proofs.Extension.{low-from, in-order, holder}
@@ -13,22 +13,22 @@ use Rattle.extend_parts.proofs.OldRuns.{rowHas, LaidRows}
 
 -- both ends of the range are good
 pub record GoodEnds (d : ℕ) (r : Row) : Type 0 where
-  pub low : GoodEnd d (r .low)
-  pub up : GoodEnd d (r .up)
+  pub low : GoodEnd d r.low
+  pub up : GoodEnd d r.up
 
 end-limits : (d : ℕ) (z : ℤ) → GoodEnd d z → (lowestEnd ≤ℤ z) × (z ≤ℤ pos 4000000)
 unfolding within
-end-limits d z e = let b = both _ _ (e .limited) in (leZ-true (b .0), leZ-true (b .1))
+end-limits d z e = let b = both _ _ e.limited in (leZ-true b.0, leZ-true b.1)
 
 module _ (x : Index) (s : List ℤ) (g : WellFormed x) (long : Extendable x s) where
   abbrev w : ℕ
-  w = natAbs (x .window)
+  w = natAbs x.window
 
   abbrev d : ℕ
-  d = natAbs (x .width)
+  d = natAbs x.width
 
   abbrev old : ℕ
-  old = natAbs (x .windows)
+  old = natAbs x.windows
 
   abbrev n : ℕ
   n = windowCount (length s) w
@@ -60,10 +60,10 @@ module _ (x : Index) (s : List ℤ) (g : WellFormed x) (long : Extendable x s) w
 
   pub good-ends : (i : ℕ) → i < size → GoodEnds d (at i)
   good-ends i l = all-mem _ made (all-woven d _ _ _
-      (mem-all (GoodEnds d) _ (λ r m. let o = all-mem _ _ (each-row x g) m in record { low = o .low-end; up = o .up-end }))
+      (mem-all (GoodEnds d) _ (λ r m. let o = all-mem _ _ (each-row x g) m in record { low = o.low-end; up = o.up-end }))
       (λ k m. let o = numbers-occur (λ j. sum _) d _ k m in
-      let b = ends-good s w d _ (long .values) (g .head .window .most) one (g .head .width .most) in
-      subst (λ (t : ℤ). GoodEnds d (newRow d t)) (o .is) (new-ends _ (b .0) (b .1)))) (mem-at zeroRow made i l)
+      let b = ends-good s w d _ long.values g.head.window.most one g.head.width.most in
+      subst (λ (t : ℤ). GoodEnds d (newRow d t)) o.is (new-ends _ b.0 b.1))) (mem-at zeroRow made i l)
 
   pub ends-limits : (i : ℕ) → i < size → ((lowestEnd ≤ℤ at i .low) × (at i .low ≤ℤ pos 4000000)) × ((lowestEnd ≤ℤ at i .up) × (at i .up ≤ℤ pos 4000000))
   ends-limits i l = (end-limits d _ (good-ends i l .low), end-limits d _ (good-ends i l .up))
@@ -110,14 +110,14 @@ module _ (x : Index) (s : List ℤ) (g : WellFormed x) (long : Extendable x s) w
       within = fits;
       small = λ i l.
           let b = ends-limits i l in
-          let lo = b .0 .0 in
-          let hi = b .1 .1 in
+          let lo = b.0.0 in
+          let hi = b.1.1 in
           let wide = low-from lowestEnd made i l (woven-ascends x s g long) .1 in
           record { least = rw (low-at i l) (omega (zarith, lo, hi)); order = rw (low-at i l, up-at i l) (omega zarith); most = rw (up-at i l) (omega (zarith, hi)) };
       apart = λ i k a b. rw (up-at i (omega arith), low-at k b) (in-order lowestEnd made i k a b (woven-ascends x s g long));
       holds = λ i j l a b. grown-new x sum old (at i) j a ∙ sym (rw (low-at i l, up-at i l) refl);
       home = λ j a b. let h = holder made (sum j) (woven-covers x s g long j a b) in
-          record { at = h .at; below = h .below; is = grown-new x sum old _ j a ∙ h .holds };
+          record { at = h.at; below = h.below; is = grown-new x sum old _ j a ∙ h.holds };
       first = first-at;
       runs = runs-at;
     }
@@ -130,6 +130,6 @@ module _ (x : Index) (s : List ℤ) (g : WellFormed x) (long : Extendable x s) w
           within = fits;
           low = low-at;
           size = runs-at;
-          apart = λ i k a b. omega (arith, first-at i (omega arith), runs-at i (omega arith), first-at k b, laid .apart i k a b);
-          fits = λ i l. omega (arith, first-at i l, runs-at i l, laid .room i l);
+          apart = λ i k a b. omega (arith, first-at i (omega arith), runs-at i (omega arith), first-at k b, laid.apart i k a b);
+          fits = λ i l. omega (arith, first-at i l, runs-at i l, laid.room i l);
         }

@@ -3,11 +3,12 @@ use Rattle.meaning_numbers.proofs.Member.{All}
 use Rattle.meaning_numbers.proofs.Prelude.{_≡_, refl, sym, ap, _∙_, subst, ⊎-elim, List, [], _∷_, _++_, map, List·Memᴰ as Mem, List·Memᴰ·cases-cons as cases, List·Memᴰ·not-nil as not-nil, append-nil, append-assoc, ℕ, zero, suc, _+_, _-_, _*_, _<_, _≤_, arith, add-one, decLt, ℤ, pos, _+ℤ_, length, getD, set, take, drop, length-set, length-map, length-append, length-drop, drop-of-length-le, List·getD-map, drop-cons, take-suc-set, take-set-le, getD-take, length-take-le, _≤ℤ_, _<ℤ_, ≤ℤ-refl, lt-ltb, le-ltb, zarith, z-sub, rep-eq, rep-pos, rep-sub, rep-mul, lt-ltZ, le-ltZ}
 use Rattle.meaning_curves.specs.Limits.{lowestEnd}
 use Rattle.meaning_rows.specs.{declared.Row.Row, Range.lowOf}
-use Rattle.meaning_rows.proofs.{Range.where-is, Range.le-leZ, Range.lt-leZ, Range.next-le, Range.widen, Range.up-is, Times.Ascending, Build.Above, Build.Sorted, Build.mem-above, Judge.rangeOf, Columns.getD-past}
 use Rattle.meaning_rows.proofs.Woven.{newRow, woven, woven-long, weave-none, weave-inside, weave-new, weave-old}
+use Rattle.meaning_rows.proofs.{Range.where-is, Range.le-leZ, Range.lt-leZ, Range.next-le, Range.widen, Range.up-is, Times.Ascending, Build.Above, Build.Sorted, Build.mem-above, Judge.rangeOf, Columns.getD-past}
 use Rattle.sums_count.specs.Numbers.{lowered}
 use Rattle.sums_count.proofs.Numbers.{rising-sorted}
-use Rattle.extend_weave.specs.{Turn.endLow, Turn.endRow, Turn.lowAt, Turn.chosenOf, Turn.oldAfter, Turn.numberAfter, Turn.madeAfter, Turn.Cell, Weave.numbersOf, Weave.Weavable, Weave.Made}
+use Rattle.extend_weave.specs.Turn.{endLow, endRow, lowAt, chosenOf, oldAfter, numberAfter, madeAfter, Cell}
+use Rattle.extend_weave.specs.Weave.{numbersOf, Weavable, Made}
 
 -- after some turns: a old rows and b numbers are passed, k records are made
 pub record Weaving (old : List Row) (numbers : List ℕ) (count d base : ℕ) (before : List Row) (a b k : ℕ) (rows : List Row) : Type 0 where
@@ -21,32 +22,32 @@ sorted-drop : (i : ℕ) (l : List ℤ) → Sorted l → Sorted (drop i l)
 unfolding Sorted
 sorted-drop zero l s = s
 sorted-drop (suc i) [] s = s
-sorted-drop (suc i) (x ∷ l) s = sorted-drop i l (s .1)
+sorted-drop (suc i) (x ∷ l) s = sorted-drop i l s.1
 
-lows-above : (z a : ℤ) (l : List Row) → z <ℤ a → Ascending a (map rangeOf l) → All (λ r. z <ℤ r .low) l
+lows-above : (z a : ℤ) (l : List Row) → z <ℤ a → Ascending a (map rangeOf l) → All (λ r. z <ℤ r.low) l
 unfolding Ascending All
 lows-above z a [] h p = tt
-lows-above z a (r ∷ l) h p = (omega zarith, lows-above z (r .up) l (omega zarith) (p .2))
+lows-above z a (r ∷ l) h p = (omega zarith, lows-above z r.up l (omega zarith) p.2)
 
 all-at : (P : Row → Type 0) (o : Row) (l : List Row) (i : ℕ) → All P l → i < length l → P (getD l i o)
 unfolding All
 all-at P o [] i a h = absurd (omega arith)
-all-at P o (r ∷ l) zero a h = a .0
-all-at P o (r ∷ l) (suc i) a h = all-at P o l i (a .1) (omega arith)
+all-at P o (r ∷ l) zero a h = a.0
+all-at P o (r ∷ l) (suc i) a h = all-at P o l i a.1 (omega arith)
 
-wides : (a : ℤ) (l : List Row) → Ascending a (map rangeOf l) → All (λ r. r .low <ℤ r .up) l
+wides : (a : ℤ) (l : List Row) → Ascending a (map rangeOf l) → All (λ r. r.low <ℤ r.up) l
 unfolding Ascending All
 wides a [] p = tt
-wides a (r ∷ l) p = (p .1, wides (r .up) l (p .2))
+wides a (r ∷ l) p = (p.1, wides r.up l p.2)
 
-heads-above : (z : ℤ) (r : Row) (l : List Row) → z <ℤ r .low → Ascending (r .low) (map rangeOf (r ∷ l)) → All (λ q. z <ℤ q .low) (r ∷ l)
+heads-above : (z : ℤ) (r : Row) (l : List Row) → z <ℤ r.low → Ascending r.low (map rangeOf (r ∷ l)) → All (λ q. z <ℤ q.low) (r ∷ l)
 heads-above z r l h p = lows-above z _ (r ∷ l) h p
 
 ascends-from : (l : List Row) (i : ℕ) (a : ℤ) (o : Row) → i < length l → Ascending a (map rangeOf l) → Ascending (getD l i o .low) (map rangeOf (getD l i o ∷ drop (suc i) l))
 unfolding Ascending
 ascends-from [] i a o h p = absurd (omega arith)
-ascends-from (r ∷ l) zero a o h p = (≤ℤ-refl _, p .1, p .2)
-ascends-from (r ∷ l) (suc i) a o h p = ascends-from l i (r .up) o (omega arith) (p .2)
+ascends-from (r ∷ l) zero a o h p = (≤ℤ-refl _, p.1, p.2)
+ascends-from (r ∷ l) (suc i) a o h p = ascends-from l i r.up o (omega arith) p.2
 
 none-all : (P : Row → Type 0) → All P []
 unfolding All
@@ -57,14 +58,14 @@ none-left z m = not-nil m
 
 first-above : (k : ℤ) (l : List ℤ) → Sorted (k ∷ l) → Above k l
 unfolding Sorted
-first-above k l s = s .0
+first-above k l s = s.0
 
 module _ (old : List Row) (numbers : List ℕ) (count d base : ℕ) (before : List Row) (can : Weavable old numbers count d base (length before)) where
   abbrev ks : List ℤ
   ks = numbersOf numbers count base
 
   long-ks : length ks ≡ count
-  long-ks = omega (arith, length-map (take count numbers) (lowered base), length-take-le count numbers (can .cells .fits))
+  long-ks = omega (arith, length-map (take count numbers) (lowered base), length-take-le count numbers can.cells.fits)
 
   one : 0 < d
   one = omega arith
@@ -72,8 +73,8 @@ module _ (old : List Row) (numbers : List ℕ) (count d base : ℕ) (before : Li
   sorted : Sorted ks
   sorted = rising-sorted base (take count numbers) (record {
     up = λ i k h l.
-        let m = length-take-le count numbers (can .cells .fits) in
-        rw (getD-take count numbers i 0 (omega arith), getD-take count numbers k 0 (omega arith)) (can .rising .up i k h (omega arith));
+        let m = length-take-le count numbers can.cells.fits in
+        rw (getD-take count numbers i 0 (omega arith), getD-take count numbers k 0 (omega arith)) (can.rising.up i k h (omega arith));
   })
 
   abbrev key : ℕ → ℤ
@@ -92,17 +93,17 @@ module _ (old : List Row) (numbers : List ℕ) (count d base : ℕ) (before : Li
 
   low-least : (b : ℕ) → b < count → lowAt numbers count d base b <ℤ endLow
   unfolding lowAt
-  low-least b h = rw (lt-ltb b count h) (omega (zarith, z-sub (pos (getD numbers b 0 * d)) (pos (base * d)), can .cells .small b h))
+  low-least b h = rw (lt-ltb b count h) (omega (zarith, z-sub (pos (getD numbers b 0 * d)) (pos (base * d)), can.cells.small b h))
 
   pub weaving-cell : (b : ℕ) → b ≤ count → Cell (lowAt numbers count d base b) d
   unfolding lowAt
   weaving-cell b h = elim (decLt b count) [
     | yes l ↦ record {
-      least = rw (lt-ltb b count l) (omega (zarith, z-sub (pos (getD numbers b 0 * d)) (pos (base * d)), z-sub (pos 0) (pos 1000000000), can .cells .low-base));
-      most = rw (lt-ltb b count l) (omega (zarith, z-sub (pos (getD numbers b 0 * d)) (pos (base * d)), can .cells .small b l));
-      width = can .width .1;
+      least = rw (lt-ltb b count l) (omega (zarith, z-sub (pos (getD numbers b 0 * d)) (pos (base * d)), z-sub (pos 0) (pos 1000000000), can.cells.low-base));
+      most = rw (lt-ltb b count l) (omega (zarith, z-sub (pos (getD numbers b 0 * d)) (pos (base * d)), can.cells.small b l));
+      width = can.width.1;
     }
-    | no f ↦ record { least = rw (le-ltb b count (omega arith)) (omega zarith); most = rw (le-ltb b count (omega arith)) (omega zarith); width = can .width .1 }
+    | no f ↦ record { least = rw (le-ltb b count (omega arith)) (omega zarith); most = rw (le-ltb b count (omega arith)) (omega zarith); width = can.width.1 }
   ]
 
   pub weaving-starts : Weaving old numbers count d base before 0 0 0 before
@@ -111,21 +112,21 @@ module _ (old : List Row) (numbers : List ℕ) (count d base : ℕ) (before : Li
   module _ {a b k : ℕ} {rows : List Row} (w : Weaving old numbers count d base before a b k rows) where
     pub weaving-ends : length old + count ≤ a + b → Made old numbers count d base before k rows
     weaving-ends h =
-        let rest : woven d (drop a old) (drop b ks) ≡ [] = rw (drop-of-length-le old {i = a} (omega (arith, w .in-old, w .in-numbers)), drop-of-length-le ks {i = b} (omega (arith, w .in-old, w .in-numbers, long-ks))) (weave-none d []) in
-        let all = sym (append-nil _) ∙ ap (λ (l : List Row). take k rows ++ l) (sym rest) ∙ w .done in
-        record { count-is = sym (length-take-le k rows (w .in-rows)) ∙ ap length all; rows-are = all; long = w .long }
+        let rest : woven d (drop a old) (drop b ks) ≡ [] = rw (drop-of-length-le old {i = a} (omega (arith, w.in-old, w.in-numbers)), drop-of-length-le ks {i = b} (omega (arith, w.in-old, w.in-numbers, long-ks))) (weave-none d []) in
+        let all = sym (append-nil _) ∙ ap (λ (l : List Row). take k rows ++ l) (sym rest) ∙ w.done in
+        record { count-is = sym (length-take-le k rows w.in-rows) ∙ ap length all; rows-are = all; long = w.long }
 
     -- what is still to be made
     abbrev rest : List Row
     rest = woven d (drop a old) (drop b ks)
 
     room : k + length rest ≤ length rows
-    room = omega (arith, can .room, w .long, ap length (w .done), length-append (take k rows) rest, length-take-le k rows (w .in-rows))
+    room = omega (arith, can.room, w.long, ap length w.done, length-append (take k rows) rest, length-take-le k rows w.in-rows)
 
     makes : (r : Row) (more : List Row) → rest ≡ r ∷ more → take (k + 1) (set rows k r) ++ more ≡ woven d old ks
     makes r more e =
         let l : k < length rows = omega (arith, room, ap length e) in
-        rw (add-one k, take-suc-set rows k r l, append-assoc _ _ more) (ap (λ (m : List Row). take k rows ++ m) (sym e) ∙ w .done)
+        rw (add-one k, take-suc-set rows k r l, append-assoc _ _ more) (ap (λ (m : List Row). take k rows ++ m) (sym e) ∙ w.done)
 
     -- the next old row, and the low end of the next number's range
     abbrev next : Row
@@ -134,16 +135,16 @@ module _ (old : List Row) (numbers : List ℕ) (count d base : ℕ) (before : Li
     abbrev low : ℤ
     low = lowAt numbers count d base b
 
-    row-wide : a < length old → (next .low <ℤ next .up) × (next .up <ℤ endLow)
-    row-wide h = (all-at (λ r. r .low <ℤ r .up) endRow old a (wides lowestEnd old (can .ascending)) h, all-at (λ r. r .up <ℤ endLow) endRow old a (can .below) h)
+    row-wide : a < length old → (next.low <ℤ next.up) × (next.up <ℤ endLow)
+    row-wide h = (all-at (λ r. r.low <ℤ r.up) endRow old a (wides lowestEnd old can.ascending) h, all-at (λ r. r.up <ℤ endLow) endRow old a can.below h)
 
-    row-order : next .low ≤ℤ next .up
+    row-order : next.low ≤ℤ next.up
     row-order = elim (decLt a (length old)) [
       | yes l ↦ let h = row-wide l .0 in omega zarith
       | no f ↦ rw (getD-past endRow old a (omega arith)) (omega zarith)
     ]
 
-    row-most : next .up ≤ℤ endLow
+    row-most : next.up ≤ℤ endLow
     row-most = elim (decLt a (length old)) [
       | yes l ↦ let h = row-wide l .1 in omega zarith
       | no f ↦ rw (getD-past endRow old a (omega arith)) (omega zarith)
@@ -153,10 +154,10 @@ module _ (old : List Row) (numbers : List ℕ) (count d base : ℕ) (before : Li
     number-left : low <ℤ endLow → b < count
     number-left h = elim (decLt b count) [ yes l ↦ l | no f ↦ let e = low-end b (omega arith) in absurd (omega zarith) ]
 
-    row-left : next .low <ℤ endLow → a < length old
+    row-left : next.low <ℤ endLow → a < length old
     row-left h = elim (decLt a (length old)) [ yes l ↦ l | no f ↦ let e = ap (λ (r : Row). r .low) (getD-past endRow old a (omega arith)) in absurd (omega zarith) ]
 
-    keys-above : (z : ℤ) → Mem z (drop b ks) → next .up ≤ℤ low → next .up ≤ℤ lowOf d z
+    keys-above : (z : ℤ) → Mem z (drop b ks) → next.up ≤ℤ low → next.up ≤ℤ lowOf d z
     keys-above z m h = elim (decLt b count) [
       | yes l ↦
           let s = subst Sorted (drop-key b l) (sorted-drop b ks sorted) in
@@ -168,7 +169,7 @@ module _ (old : List Row) (numbers : List ℕ) (count d base : ℕ) (before : Li
     ]
 
     -- by where the number's range lies: below the next old row, in it, or past it
-    module _ {X : Type 0} (left : a + b < length old + count) (new : low <ℤ next .low → b < count → X) (held : next .low ≤ℤ low → low <ℤ next .up → a < length old → b < count → X) (kept : next .up ≤ℤ low → a < length old → X) where
+    module _ {X : Type 0} (left : a + b < length old + count) (new : low <ℤ next.low → b < count → X) (held : next.low ≤ℤ low → low <ℤ next.up → a < length old → b < count → X) (kept : next.up ≤ℤ low → a < length old → X) where
       by-place : X
       by-place = where-is _ _ low
           (λ h. let o = row-order in let m = row-most in new h (number-left (omega zarith)))
@@ -182,36 +183,36 @@ module _ (old : List Row) (numbers : List ℕ) (count d base : ℕ) (before : Li
                 absurd (omega zarith)
           ]))
 
-    new-row : low <ℤ next .low → b < count → chosenOf next low d ≡ newRow d (key b)
+    new-row : low <ℤ next.low → b < count → chosenOf next low d ≡ newRow d (key b)
     unfolding chosenOf newRow
     new-row h l =
         let e = low-in b l in
         let u = ap (λ (z : ℤ). z +ℤ pos d) e ∙ sym (up-is d (key b)) in
         rw (lt-ltZ h) (λ i. record { low = e i; up = u i; first = 0; runs = 0 })
 
-    old-row : next .low ≤ℤ low → chosenOf next low d ≡ next
+    old-row : next.low ≤ℤ low → chosenOf next low d ≡ next
     unfolding chosenOf
     old-row h = rw (le-ltZ h)
 
-    new-rest : low <ℤ next .low → b < count → rest ≡ newRow d (key b) ∷ woven d (drop a old) (drop (suc b) ks)
+    new-rest : low <ℤ next.low → b < count → rest ≡ newRow d (key b) ∷ woven d (drop a old) (drop (suc b) ks)
     new-rest h l =
         let s = subst Sorted (drop-key b l) (sorted-drop b ks sorted) in
         let z = rw (low-in b l) at h in
         ap (woven d (drop a old)) (drop-key b l) ∙ weave-new d one _ (key b) _ (all-above z) (first-above (key b) _ s)
       where
-        all-above : lowOf d (key b) <ℤ next .low → All (λ r. lowOf d (key b) <ℤ r .low) (drop a old)
+        all-above : lowOf d (key b) <ℤ next.low → All (λ r. lowOf d (key b) <ℤ r.low) (drop a old)
         all-above z = elim (decLt a (length old)) [
-          | yes m ↦ subst (All (λ r. lowOf d (key b) <ℤ r .low)) (sym (drop-cons old a endRow m)) (heads-above _ next _ z (ascends-from old a lowestEnd endRow m (can .ascending)))
-          | no f ↦ subst (All (λ r. lowOf d (key b) <ℤ r .low)) (sym (drop-of-length-le old {i = a} (omega arith))) (none-all (λ r. lowOf d (key b) <ℤ r .low))
+          | yes m ↦ subst (All (λ r. lowOf d (key b) <ℤ r.low)) (sym (drop-cons old a endRow m)) (heads-above _ next _ z (ascends-from old a lowestEnd endRow m can.ascending))
+          | no f ↦ subst (All (λ r. lowOf d (key b) <ℤ r.low)) (sym (drop-of-length-le old {i = a} (omega arith))) (none-all (λ r. lowOf d (key b) <ℤ r.low))
         ]
 
-    held-rest : next .low ≤ℤ low → low <ℤ next .up → a < length old → b < count → rest ≡ woven d (drop a old) (drop (suc b) ks)
+    held-rest : next.low ≤ℤ low → low <ℤ next.up → a < length old → b < count → rest ≡ woven d (drop a old) (drop (suc b) ks)
     held-rest h u m l =
         let p = rw (low-in b l) at h in
         let q = rw (low-in b l) at u in
         rw (drop-key b l, drop-cons old a endRow m) (weave-inside d next _ (key b) _ p q)
 
-    kept-rest : next .up ≤ℤ low → a < length old → rest ≡ next ∷ woven d (drop (suc a) old) (drop b ks)
+    kept-rest : next.up ≤ℤ low → a < length old → rest ≡ next ∷ woven d (drop (suc a) old) (drop b ks)
     kept-rest h m = rw (drop-cons old a endRow m) (weave-old d one next _ _ (row-wide m .0) (λ z o. keys-above z o h))
 
     -- a turn makes the next record, and passes an old row or a number
@@ -227,33 +228,33 @@ module _ (old : List Row) (numbers : List ℕ) (count d base : ℕ) (before : Li
     pub weaving-turn : a + b < length old + count → Weaving old numbers count d base before (oldAfter a next low) (numberAfter b next low) (madeAfter k next low) (set rows k (chosenOf next low d))
     unfolding oldAfter numberAfter madeAfter
     weaving-turn left = let long = length-set rows k (chosenOf next low d) in let fits = weaving-room left in by-place left
-        (λ h l. let o = row-order in let u : low <ℤ next .up = omega zarith in
+        (λ h l. let o = row-order in let u : low <ℤ next.up = omega zarith in
         rw (lt-leZ h, lt-ltZ u, lt-leZ u) (record {
-          in-old = w .in-old;
+          in-old = w.in-old;
           in-numbers = omega arith;
           in-rows = omega arith;
-          long = long ∙ w .long;
+          long = long ∙ w.long;
           done = rw (add-one b, new-row h l) (makes (newRow d (key b)) (woven d (drop a old) (drop (suc b) ks)) (new-rest h l));
         }))
         (λ h u m l. rw (le-leZ h, lt-ltZ u, lt-leZ u) (record {
-          in-old = w .in-old;
+          in-old = w.in-old;
           in-numbers = omega arith;
           in-rows = omega arith;
-          long = long ∙ w .long;
-          done = rw (add-one b, take-set-le k rows k (chosenOf next low d) (omega arith), ← held-rest h u m l) (w .done);
+          long = long ∙ w.long;
+          done = rw (add-one b, take-set-le k rows k (chosenOf next low d) (omega arith), ← held-rest h u m l) w.done;
         }))
-        (λ h m. let o = row-order in let p : next .low ≤ℤ low = omega zarith in
+        (λ h m. let o = row-order in let p : next.low ≤ℤ low = omega zarith in
         rw (le-leZ h, le-ltZ h, le-leZ p) (record {
           in-old = omega arith;
-          in-numbers = w .in-numbers;
+          in-numbers = w.in-numbers;
           in-rows = omega arith;
-          long = long ∙ w .long;
+          long = long ∙ w.long;
           done = rw (add-one a, old-row p) (makes next (woven d (drop (suc a) old) (drop b ks)) (kept-rest h m));
         }))
 
     pub weaving-falls : a + b < length old + count → length old + count - (oldAfter a next low + numberAfter b next low) < length old + count - (a + b)
     unfolding oldAfter numberAfter
     weaving-falls left = by-place left
-        (λ h l. let o = row-order in let u : low <ℤ next .up = omega zarith in rw (lt-ltZ u, lt-leZ u) (omega arith))
+        (λ h l. let o = row-order in let u : low <ℤ next.up = omega zarith in rw (lt-ltZ u, lt-leZ u) (omega arith))
         (λ h u m l. rw (lt-ltZ u, lt-leZ u) (omega arith))
         (λ h m. rw (le-leZ h, le-ltZ h) (omega arith))

@@ -7,8 +7,7 @@ use Rattle.meaning_rows.specs.{declared.Row.Row, Index.Index}
 use Rattle.meaning_rows.proofs.{Judge.GoodEnd, Judge.WellFormed, Judge.each-row, Judge.ranges-ascend, Build.numbers-length, Extend.Extendable, Woven.woven, Woven.wovenRows, Woven.woven-most, Columns.getD-past}
 use Rattle.meaning_entries.specs.Buffers.{filled}
 use Rattle.rows_records.specs.Records.{zeroRow}
-use Rattle.sums_slide.specs.{Table.table, Picked.Appended}
-use Rattle.sums_slide.specs.Levels.{level-small, rowOf, Lent, windowsOf}
+use Rattle.sums_slide.specs.{Table.table, Picked.Appended, Levels.level-small, Levels.rowOf, Levels.Lent, Levels.windowsOf}
 use Rattle.sums_slide.proofs.Marks.{yes-met}
 use Rattle.sums_count.specs.{Numbers.lowered, Tally.Rising}
 use Rattle.sums_count.proofs.{Numbers.table-only, Rows.table-rises}
@@ -18,7 +17,7 @@ use Rattle.extend_weave.specs.{Turn.endLow, Weave.numbersOf, Weave.Weava
 
 end-below : (d : ℕ) (z : ℤ) → GoodEnd d z → z <ℤ endLow
 unfolding within
-end-below d z e = let h : z ≤ℤ pos 4000000 = leZ-true (both (leZ lowestEnd z) (leZ z (pos 4000000)) (e .limited) .1) in omega zarith
+end-below d z e = let h : z ≤ℤ pos 4000000 = leZ-true (both (leZ lowestEnd z) (leZ z (pos 4000000)) e.limited .1) in omega zarith
 
 -- the table of the new windows rises
 new-rises : (s : List ℤ) (old w e d : ℕ) → Rising (newTable s old w e d) (length (newTable s old w e d))
@@ -33,7 +32,7 @@ module _ {s : List ℤ} {w e : ℕ} (d b : ℕ) (one : 0 < d) (bias : 10000 * w 
   table-small : (i : ℕ) → i < length (table s w e d) → getD (table s w e d) i 0 * d ≤ 1000000000
   table-small i l =
       let m = yes-met _ _ _ (table-only d b one bias lent _ (mem-at 0 _ i l)) in
-      row-small _ d (m .at) _ (m .is) (level-small (m .at) lent)
+      row-small _ d m.at _ m.is (level-small m.at lent)
 
 new-small : {s : List ℤ} {w e : ℕ} (old d b : ℕ) → 0 < d → 10000 * w + e ≡ b * d → Lent s w e → (i : ℕ) → i < length (newTable s old w e d) → getD (newTable s old w e d) i 0 * d ≤ 1000000000
 unfolding newTable
@@ -41,15 +40,15 @@ new-small {s} {w} {e} old d b one bias lent i = by-test (ltb old (windowsOf s w)
     (λ t. rw t (λ l. table-small d b one bias (rest-lent old (ltb-true old _ t) lent) i l))
     (λ f. rw f (λ l. absurd (omega arith)))
 
-module _ (x : Index) (s : List ℤ) (g : WellFormed x) (long : Extendable x s) (e b : ℕ) (lent : Lent s (natAbs (x .window)) e) (bias : 10000 * natAbs (x .window) + e ≡ b * natAbs (x .width)) where
+module _ (x : Index) (s : List ℤ) (g : WellFormed x) (long : Extendable x s) (e b : ℕ) (lent : Lent s (natAbs x.window) e) (bias : 10000 * natAbs x.window + e ≡ b * natAbs x.width) where
   abbrev w : ℕ
-  w = natAbs (x .window)
+  w = natAbs x.window
 
   abbrev d : ℕ
-  d = natAbs (x .width)
+  d = natAbs x.width
 
   abbrev old : ℕ
-  old = natAbs (x .windows)
+  old = natAbs x.windows
 
   abbrev n : ℕ
   n = windowCount (length s) w
@@ -72,14 +71,14 @@ module _ (x : Index) (s : List ℤ) (g : WellFormed x) (long : Extendable x s) (
     many = omega arith
 
     number-is : (i : ℕ) → i < k → getD left i 0 ≡ getD (newTable s old w e d) i 0
-    number-is i l = sym (getD-take k left i 0 l) ∙ rw (a .front)
+    number-is i l = sym (getD-take k left i 0 l) ∙ rw a.front
 
-    made-is : woven d (x .rows) (numbersOf left k b) ≡ made
-    made-is = ap (woven d _) (ap (map _) (a .front) ∙ new-numbers old d b one bias lent)
+    made-is : woven d x.rows (numbersOf left k b) ≡ made
+    made-is = ap (woven d _) (ap (map _) a.front ∙ new-numbers old d b one bias lent)
 
-    pub weavable : (room : ℕ) → n ≤ room → Weavable (x .rows) left k d b room
+    pub weavable : (room : ℕ) → n ≤ room → Weavable x.rows left k d b room
     weavable room h = record {
-      width = (g .head .width .least, g .head .width .most);
+      width = (g.head.width.least, g.head.width.most);
       cells = record {
         fits = fits;
         small = λ i l. rw (number-is i l) (new-small old d b one bias lent i (omega arith));
@@ -87,17 +86,17 @@ module _ (x : Index) (s : List ℤ) (g : WellFormed x) (long : Extendable x s) (
       };
       rising = record { up = λ i j l m. rw (number-is i (omega arith), number-is j m) (new-rises s old w e d .up i j l (omega arith)) };
       ascending = ranges-ascend x g;
-      below = mem-all (λ r. r .up <ℤ endLow) _ (λ r m. end-below d (r .up) (all-mem _ _ (each-row x g) m .up-end));
+      below = mem-all (λ r. r.up <ℤ endLow) _ (λ r m. end-below d r.up (all-mem _ _ (each-row x g) m .up-end));
       room = rw made-is (omega (arith, woven-most x s g long));
     }
 
-    module _ {count : ℕ} {rows₀ rows : List Row} (m : Made (x .rows) left k d b rows₀ count rows) where
+    module _ {count : ℕ} {rows₀ rows : List Row} (m : Made x.rows left k d b rows₀ count rows) where
       pub count-is : count ≡ size
-      count-is = m .count-is ∙ ap length made-is
+      count-is = m.count-is ∙ ap length made-is
 
       pub woven-rows : take count rows ++ replicate (length rows - count) zeroRow ≡ filled zeroRow made rows₀
       unfolding filled
-      woven-rows = ap (λ (l : List Row). l ++ replicate (length rows - count) zeroRow) (m .rows-are ∙ made-is) ∙ (λ i. made ++ replicate (m .long i - count-is i) zeroRow)
+      woven-rows = ap (λ (l : List Row). l ++ replicate (length rows - count) zeroRow) (m.rows-are ∙ made-is) ∙ (λ i. made ++ replicate (m.long i - count-is i) zeroRow)
 
   -- row i of the records, whatever i
   pub row-is : (rows₀ : List Row) (i : ℕ) → getD (filled zeroRow made rows₀) i zeroRow ≡ getD made i zeroRow

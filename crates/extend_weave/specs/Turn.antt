@@ -22,17 +22,17 @@ lowAt numbers count d base i = cond (ltb i count) (pos (getD numbers i 0 * d) -�
 
 -- a new row where its range lies below the next old row, else that row
 unfoldable pub chosenOf : Row → ℤ → ℕ → Row
-chosenOf r low d = cond (ltZ low (r .low)) (record { low = low; up = low +ℤ pos d; first = 0; runs = 0 }) r
+chosenOf r low d = cond (ltZ low r.low) (record { low = low; up = low +ℤ pos d; first = 0; runs = 0 }) r
 
 -- the old rows passed, the numbers passed and the records made after a turn
 unfoldable pub oldAfter : ℕ → Row → ℤ → ℕ
-oldAfter a r low = cond (leZ (r .up) low) (a + 1) a
+oldAfter a r low = cond (leZ r.up low) (a + 1) a
 
 unfoldable pub numberAfter : ℕ → Row → ℤ → ℕ
-numberAfter b r low = cond (ltZ low (r .up)) (b + 1) b
+numberAfter b r low = cond (ltZ low r.up) (b + 1) b
 
 unfoldable pub madeAfter : ℕ → Row → ℤ → ℕ
-madeAfter k r low = cond (leZ (r .low) low) (cond (ltZ low (r .up)) k (k + 1)) (k + 1)
+madeAfter k r low = cond (leZ r.low low) (cond (ltZ low r.up) k (k + 1)) (k + 1)
 
 -- the low end of a range of width d, or the end above every range
 pub record Cell (low : ℤ) (d : ℕ) : Type 0 where

@@ -22,7 +22,7 @@ pub record Weavable (old : List Row) (numbers : List ℕ) (count d base size : �
   pub cells : Cells numbers count d base
   pub rising : Rising numbers count
   pub ascending : Ascending lowestEnd (map rangeOf old)
-  pub below : All (λ r. r .up <ℤ endLow) old
+  pub below : All (λ r. r.up <ℤ endLow) old
   pub room : length (woven d old (numbersOf numbers count base)) ≤ size
 
 -- the first records are those of the walk

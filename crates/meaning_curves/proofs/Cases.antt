@@ -2,8 +2,8 @@
 use Rattle.meaning_numbers.specs.Place.{numbersFrom}
 use Rattle.meaning_numbers.proofs.Table.{holds, sameℤ, sameList}
 use Rattle.meaning_numbers.proofs.Prelude.{Bool, false, not, _&&_, List, [], _∷_, map, Option, none, some, ℕ, T, eqb, ℤ, pos, negsuc, _+ℤ_, _-ℤ_, length}
-use Rattle.meaning_curves.specs.{Curve.at, Curve.windowSum, Curve.spread, Normal.normalised, Match.distance, Match.rawMatch, Match.normalMatch}
 use Rattle.meaning_curves.specs.Limits.{lengthIn, valueIn, windowIn, widthIn, mergeIn, queryLengthIn, bandIn, thresholdIn, scaleIn, shiftIn, windowsIn, endIn, firstOutside}
+use Rattle.meaning_curves.specs.{Curve.at, Curve.windowSum, Curve.spread, Normal.normalised, Match.distance, Match.rawMatch, Match.normalMatch}
 use Rattle.meaning_curves.proofs.Open.{openCurves}
 
 -- the place is p

@@ -1,8 +1,8 @@
 -- The table as code keeps it: a number for each pair, `big` where there is none. Inside the band a pair always has a total before it, so an entry is the least of the three numbers before plus the cost, and outside it is `big`: no test for `big` is needed (`grid-inner`, `grid-top`, `grid-side`, `grid-out`).
 -- It asks that `big` is at least every total, and a total is at most (i + j + 1) times the greatest cost (`path-small`).
 use Rattle.meaning_numbers.proofs.Prelude.{_≡_, refl, Bool, true, false, Option, none, some, ℕ, suc, _+_, _-_, _*_, _≤_, min, arith, mul-le-mul-right, le-step, T, ℤ}
-use Rattle.meaning_curves.specs.{Straight.cost, Warp.Near, Warp.WarpPath, Warp.start, Warp.first, Warp.second, Warp.both}
 use Rattle.meaning_curves.specs.Table.{near, when, plus, least, step, table, valueOf, warped}
+use Rattle.meaning_curves.specs.{Straight.cost, Warp.Near, Warp.WarpPath, Warp.start, Warp.first, Warp.second, Warp.both}
 use Rattle.meaning_curves.proofs.Table.{All, missing, there, Under, under, yes-near, all-map, least-all, least-left, table-start, table-top, table-side, table-inner, attained, least-total, in-band}
 
 pub path-near : {s q : ℕ → ℤ} {b i j t : ℕ} → WarpPath s q b i j t → Near b i j

@@ -14,11 +14,11 @@ pub is-outside : {s : List ℤ} {p : ℕ} → firstOutside s ≡ some p → Outs
 unfolding firstOutside
 is-outside {s} e =
     let f = is-place (λ x. not (valueIn x)) (pos 0) e in
-    record { there = f .inside; outside = f .passes; before = λ j h. not-not (valueIn _) (f .before j h) }
+    record { there = f.inside; outside = f.passes; before = λ j h. not-not (valueIn _) (f.before j h) }
 
 pub outside-is : {s : List ℤ} {p : ℕ} → Outside s p → firstOutside s ≡ some p
 unfolding firstOutside
-outside-is {s} f = place-is (λ x. not (valueIn x)) (pos 0) (record { inside = f .there; passes = f .outside; before = λ j h. yes-not-not (valueIn _) (f .before j h) })
+outside-is {s} f = place-is (λ x. not (valueIn x)) (pos 0) (record { inside = f.there; passes = f.outside; before = λ j h. yes-not-not (valueIn _) (f.before j h) })
 
 -- every value is inside; what stands past the end is 0, which is inside too
 pub values-in : (s : List ℤ) → firstOutside s ≡ none → (j : ℕ) → T (valueIn (at s j))

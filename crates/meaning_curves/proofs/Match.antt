@@ -26,7 +26,7 @@ pub normal-yes : (s q : ℕ → ℤ) (m b E a h : ℕ) → T (normalMatch s q m 
 unfolding normalMatch
 normal-yes s q m b E a h t =
     let whole = two-tests (not (flat s m)) _ t in
-    let rest = two-tests (scaleNear s q m a) _ (whole .1) in
-    let last = two-tests (shiftNear s q m h) _ (rest .1) in
-    let scale = two-tests (leb (100 * spread s m) (a * a * spread q m)) _ (rest .0) in
-    record { not-flat = above _ (whole .0); up = leb→le _ _ (scale .0); down = leb→le _ _ (scale .1); shift = leb→le _ _ (last .0); near = leb→le _ _ (last .1) }
+    let rest = two-tests (scaleNear s q m a) _ whole.1 in
+    let last = two-tests (shiftNear s q m h) _ rest.1 in
+    let scale = two-tests (leb (100 * spread s m) (a * a * spread q m)) _ rest.0 in
+    record { not-flat = above _ whole.0; up = leb→le _ _ scale.0; down = leb→le _ _ scale.1; shift = leb→le _ _ last.0; near = leb→le _ _ last.1 }

@@ -9,13 +9,13 @@ unfolding cut
 cut-is {A} c h =
     let g = square (100 * natAbs c) in
     let i = root-is (g / A) in
-    record { low = le-div-iff-mul-le h .0 (i .low); high = div-lt-iff-lt-mul h .0 (i .high) }
+    record { low = le-div-iff-mul-le h .0 i.low; high = div-lt-iff-lt-mul h .0 i.high }
 
 -- what does not pass is at most the greatest
 cut-most : {A t u : ℕ} {c : ℤ} → IsCut A c t → IsCut A c u → u ≤ t
 cut-most {A} {t} {u} {c} i k = elim (decLe u t) [
   | yes l ↦ l
-  | no f ↦ absurd (omega (arith, i .high, k .low, mul-le-mul-right A (sq-le {x = t + 1} {y = u} (omega arith))))
+  | no f ↦ absurd (omega (arith, i.high, k.low, mul-le-mul-right A (sq-le {x = t + 1} {y = u} (omega arith))))
 ]
 
 pub cut-only : {A t u : ℕ} {c : ℤ} → IsCut A c t → IsCut A c u → t ≡ u

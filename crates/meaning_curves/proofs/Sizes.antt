@@ -1,8 +1,8 @@
 -- How large the numbers get, for code that computes them. The squares of the centred values sum to m × A (`centred-sum`), so each is at most m × A, and a normalised value is at most 100 times the root of m: at most 3200 where m is at most 1024 (`normal-small`).
 -- The spread is at most (m × V)² where no value exceeds V (`spread-le`).
 use Rattle.meaning_numbers.specs.Sum.{Σℤ, Σℕ, square}
-use Rattle.meaning_numbers.proofs.{Sum.Σℕ-le, Slide.Σℕ-term, Root.sq-le, Root.le-of-sq-le}
 use Rattle.meaning_numbers.proofs.Prelude.{_≡_, refl, ap, _∙_, sym, ℕ, zero, suc, _*_, _<_, _≤_, arith, mul-le-mul-left, le-of-mul-le-mul-right, ℤ, pos, negsuc, _+ℤ_, _-ℤ_, _*ℤ_, natAbs, rep-self, rep-pos, rep-add, rep-sub, rep-mul, rep-eq, eq-rep}
+use Rattle.meaning_numbers.proofs.{Sum.Σℕ-le, Slide.Σℕ-term, Root.sq-le, Root.le-of-sq-le}
 use Rattle.meaning_curves.specs.{Curve.spread, Normal.centred, Normal.cut, Normal.signed, Normal.normalised}
 use Rattle.meaning_curves.proofs.{Spread.spread-is, Spread.squares, Normal.cut-is}
 
@@ -57,7 +57,7 @@ normal-square s m k some h =
     let t = cut A c in
     let i = cut-is c some in
     let e : t * t ≤ 10000 * m = le-of-mul-le-mul-right
-    (omega (arith, i .low, centred-sum s m, Σℕ-term m k (λ j. square (natAbs (centred s m j))) h)) some in
+    (omega (arith, i.low, centred-sum s m, Σℕ-term m k (λ j. square (natAbs (centred s m j))) h)) some in
     rw (natAbs-signed c t) e
 
 pub normal-small : (s : ℕ → ℤ) (m k : ℕ) → 0 < spread s m → k < m → m ≤ 1024 → natAbs (normalised s m k) ≤ 3200

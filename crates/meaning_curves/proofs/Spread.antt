@@ -1,7 +1,7 @@
 -- `spread` is the formula of document 01 over whole numbers, A = m × Σs² - T × T (`spread-is`): the difference is cut at 0 nowhere, as |Σs| ≤ Σ|s| (`sizes`) and, by Cauchy, (Σ|s|)² ≤ m × Σ|s|².
 use Rattle.meaning_numbers.specs.Sum.{Σℤ, Σℕ, square}
-use Rattle.meaning_numbers.proofs.{Cauchy.cauchy, Root.sq-le}
 use Rattle.meaning_numbers.proofs.Prelude.{_≡_, refl, ℕ, zero, suc, _-_, _*_, _≤_, arith, ℤ, pos, negsuc, _+ℤ_, _-ℤ_, _*ℤ_, natAbs, rep-pos, rep-sub, rep-mul, rep-eq, z-add, z-abs}
+use Rattle.meaning_numbers.proofs.{Cauchy.cauchy, Root.sq-le}
 use Rattle.meaning_curves.specs.Curve.{total, spread}
 
 -- a square of a whole number is the square of its size

@@ -1,8 +1,8 @@
 -- The table holds the least totals. `attained`: what it holds is the total of a path (by recursion on the table). `least-total`: no path to (i, j) has a smaller one (by induction on the path).
 -- Inside the band there is always a path (`in-band`), so `warped` is the warped distance (`warped-is`), and there is only one (`warped-only`).
 use Rattle.meaning_numbers.proofs.Prelude.{_≡_, refl, Bool, true, false, Option, none, some, ℕ, zero, suc, _+_, _-_, _≤_, min, arith, min-cases, T, leb, leb→le, le→leb, ℤ, two-tests, both-tests}
-use Rattle.meaning_curves.specs.{Straight.cost, Warp.Near, Warp.WarpPath, Warp.start, Warp.first, Warp.second, Warp.both, Warp.IsWarped}
 use Rattle.meaning_curves.specs.Table.{near, when, plus, least, step, firstRow, nextRow, table, valueOf, warped}
+use Rattle.meaning_curves.specs.{Straight.cost, Warp.Near, Warp.WarpPath, Warp.start, Warp.first, Warp.second, Warp.both, Warp.IsWarped}
 
 -- ---- totals that may be missing
 
@@ -67,10 +67,10 @@ value-under (under d n h) = h
 pub near-yes : (b i j : ℕ) → T (near b i j) → Near b i j
 near-yes b i j t =
     let h = two-tests (leb i (j + b)) (leb j (i + b)) t in
-    record { first = leb→le i (j + b) (h .0); second = leb→le j (i + b) (h .1) }
+    record { first = leb→le i (j + b) h.0; second = leb→le j (i + b) h.1 }
 
 pub yes-near : {b i j : ℕ} → Near b i j → T (near b i j)
-yes-near {b} {i} {j} n = both-tests (leb i (j + b)) (leb j (i + b)) (le→leb i (j + b) (n .first)) (le→leb j (i + b) (n .second))
+yes-near {b} {i} {j} n = both-tests (leb i (j + b)) (leb j (i + b)) (le→leb i (j + b) n.first) (le→leb j (i + b) n.second)
 
 -- ---- the table
 
@@ -146,9 +146,9 @@ module _ (s q : ℕ → ℤ) (b : ℕ) where
 
   pub in-band : (i j : ℕ) → Near b i j → (t : ℕ) × WarpPath s q b i j t
   in-band zero zero n = (_, start)
-  in-band zero (suc j) n = let p = in-band zero j (omega arith) in (_, second (p .1) n)
-  in-band (suc i) zero n = let p = in-band i zero (omega arith) in (_, first (p .1) n)
-  in-band (suc i) (suc j) n = let p = in-band i j (omega arith) in (_, both (p .1) n)
+  in-band zero (suc j) n = let p = in-band zero j (omega arith) in (_, second p.1 n)
+  in-band (suc i) zero n = let p = in-band i zero (omega arith) in (_, first p.1 n)
+  in-band (suc i) (suc j) n = let p = in-band i j (omega arith) in (_, both p.1 n)
 
   -- ---- so it holds a number there, the least total
 
@@ -163,4 +163,4 @@ unfolding warped
 warped-is s q b m = record { attained = least-path s q b (m - 1) (m - 1) (omega arith); least = λ t p. least-value s q b p }
 
 pub warped-only : {s q : ℕ → ℤ} {b m d e : ℕ} → IsWarped s q b m d → IsWarped s q b m e → d ≡ e
-warped-only {d = d} {e} i k = omega (arith, i .least e (k .attained), k .least d (i .attained))
+warped-only {d = d} {e} i k = omega (arith, i.least e k.attained, k.least d i.attained)

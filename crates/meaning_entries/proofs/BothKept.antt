@@ -8,7 +8,7 @@ use Rattle.meaning_entries.proofs.BothTold.{all-told, first-audit, seco
 module _ (c : SearchCall) (x : Index) (before₁ before₂ after₁ after₂ : SearchBuffers) where
   -- the answer that is meant keeps the promise
   module _ (search₁ : SearchKept c before₁ (searchAnswer c before₁) after₁) (search₂ : SearchKept (through x c) before₂ (searchAnswer (through x c) before₂) after₂) where
-    listed : Passes (c .index) (c .series) → Passes x (c .series) → searchRefusal c before₁ ≡ none → searchRefusal (through x c) before₂ ≡ none → BothListed c (demandAnswer c x before₁ before₂) after₁ after₂
+    listed : Passes c.index c.series → Passes x c.series → searchRefusal c before₁ ≡ none → searchRefusal (through x c) before₂ ≡ none → BothListed c (demandAnswer c x before₁ before₂) after₁ after₂
     listed p q e f = record {
       count₁ = length (searchMatches c);
       count₂ = length (searchMatches (through x c));
@@ -38,9 +38,9 @@ module _ (c : SearchCall) (x : Index) (before₁ before₂ after₁ after₂ : S
       (search₁ : SearchKept c before₁ first after₁) (search₂ : SearchKept (through x c) before₂ second after₂) where
     told-meant : told one two first second ≡ demandAnswer c x before₁ before₂
     unfolding demandAnswer
-    told-meant = rw (audit₁ .answered, audit₂ .answered, search₁ .answered, search₂ .answered) refl
+    told-meant = rw (audit₁.answered, audit₂.answered, search₁.answered, search₂.answered) refl
 
     pub demand3-kept : Demand3Kept c x before₁ before₂ (told one two first second) after₁ after₂
     demand3-kept =
         subst (λ (a : Both). Demand3Kept c x before₁ before₂ a after₁ after₂) (sym told-meant)
-        (meant-kept (rw (search₁ .answered) at search₁) (rw (search₂ .answered) at search₂))
+        (meant-kept (rw search₁.answered at search₁) (rw search₂.answered at search₂))

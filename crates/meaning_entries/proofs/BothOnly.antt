@@ -17,26 +17,26 @@ by-refusal none y n = y refl
 by-refusal (some r) y n = n (Option·some-ne-none r)
 
 module _ (c : SearchCall) (x : Index) (b₁ b₂ : SearchBuffers) (answer : Both) (after₁ after₂ : SearchBuffers) (k : Demand3Kept c x b₁ b₂ answer after₁ after₂) where
-  listed-only : Passes (c .index) (c .series) → Passes x (c .series) → searchRefusal c b₁ ≡ none → searchRefusal (through x c) b₂ ≡ none → answer ≡ demandAnswer c x b₁ b₂
+  listed-only : Passes c.index c.series → Passes x c.series → searchRefusal c b₁ ≡ none → searchRefusal (through x c) b₂ ≡ none → answer ≡ demandAnswer c x b₁ b₂
   listed-only p q e f =
-      let l = k .listed p q e f in
+      let l = k.listed p q e f in
       let m = both-listed c x b₁ b₂ p q e f in
-      let counts = sym (ap bothCounts (l .answered)) ∙ k .counted ∙ sym (demand-counts c x b₁ b₂) ∙ ap bothCounts m in
-      l .answered ∙ ap (λ (n : ℕ × ℕ). Both.Listed (n .0) (n .1)) counts ∙ sym m
+      let counts = sym (ap bothCounts l.answered) ∙ k.counted ∙ sym (demand-counts c x b₁ b₂) ∙ ap bothCounts m in
+      l.answered ∙ ap (λ (n : ℕ × ℕ). Both.Listed n.0 n.1) counts ∙ sym m
 
   answer-only : answer ≡ demandAnswer c x b₁ b₂
   answer-only =
       by-audit _
       (λ p. by-audit _
       (λ q. by-refusal _
-      (λ e. by-refusal _ (listed-only p q e) (λ n. k .second-search p q e n ∙ sym (second-search c x b₁ b₂ p q e n)))
-      (λ n. k .first-search p q n ∙ sym (first-search c x b₁ b₂ p q n)))
-      (λ n. k .second-audit p n ∙ sym (second-audit c x b₁ b₂ p n)))
-      (λ n. k .first-audit n ∙ sym (first-audit c x b₁ b₂ n))
+      (λ e. by-refusal _ (listed-only p q e) (λ n. k.second-search p q e n ∙ sym (second-search c x b₁ b₂ p q e n)))
+      (λ n. k.first-search p q n ∙ sym (first-search c x b₁ b₂ p q n)))
+      (λ n. k.second-audit p n ∙ sym (second-audit c x b₁ b₂ p n)))
+      (λ n. k.first-audit n ∙ sym (first-audit c x b₁ b₂ n))
 
   pub demand3-only : (answer ≡ demandAnswer c x b₁ b₂) × (after₁ ≡ searchAfter c b₁) × (after₂ ≡ searchAfter (through x c) b₂)
   demand3-only = (
     answer-only,
-    λ i. record { left = k .first .left i; right = k .first .right i; scratch = k .first .scratch i; offsets = k .first .offsets i; distances = k .first .distances i },
-    λ i. record { left = k .second .left i; right = k .second .right i; scratch = k .second .scratch i; offsets = k .second .offsets i; distances = k .second .distances i },
+    λ i. record { left = k.first.left i; right = k.first.right i; scratch = k.first.scratch i; offsets = k.first.offsets i; distances = k.first.distances i },
+    λ i. record { left = k.second.left i; right = k.second.right i; scratch = k.second.scratch i; offsets = k.second.offsets i; distances = k.second.distances i },
   )

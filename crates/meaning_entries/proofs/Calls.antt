@@ -4,13 +4,13 @@ use Rattle.meaning_numbers.proofs.Prelude.{Bool, _&&_, List, [], _∷_, _++_, O
 use Rattle.meaning_rows.specs.{declared.Row.Row, declared.Head.Head, Index.Index, Index.lent}
 use Rattle.meaning_filter.specs.{declared.Kind.Kind, declared.Kind.the-variants.Raw, declared.Kind.the-variants.Normal, declared.Ask.Ask}
 use Rattle.meaning_text.specs.{Bytes.bytes, Form.spell, Texts.seriesForm}
-use Rattle.meaning_entries.specs.{declared.Built.Built, declared.Extended.Extended, declared.Audited.Audited, declared.Written.Written, declared.Loaded.Loaded, declared.Found.Found, declared.Both.Both, Buffers.IndexBuffers, Build.BuildCall, Build.lentBuild, Build.buildAnswer, Build.buildAfter, Extend.ExtendCall, Extend.lentExtend, Extend.extendAnswer, Extend.extendAfter, Audit.lentAudit, Audit.auditAnswer, Write.writeAnswer, Write.writeAfter, Load.loadAnswer, Load.loadAfter, Search.SearchCall, Search.SearchBuffers, Search.lentSearch, Search.searchAnswer, Search.searchAfter, Both.demandAnswer, AuditText.auditTextAnswer, AuditText.auditText, AuditText.pack, AuditText.unpack, Program.program}
 use Rattle.meaning_entries.specs.Answers.{builtCounts, extendedCounts, loadedCounts, foundCounts, bothRefusal, bothWrong, bothMissing, bothCounts, bothFound}
+use Rattle.meaning_entries.specs.{declared.Built.Built, declared.Extended.Extended, declared.Audited.Audited, declared.Written.Written, declared.Loaded.Loaded, declared.Found.Found, declared.Both.Both, Buffers.IndexBuffers, Build.BuildCall, Build.lentBuild, Build.buildAnswer, Build.buildAfter, Extend.ExtendCall, Extend.lentExtend, Extend.extendAnswer, Extend.extendAfter, Audit.lentAudit, Audit.auditAnswer, Write.writeAnswer, Write.writeAfter, Load.loadAnswer, Load.loadAfter, Search.SearchCall, Search.SearchBuffers, Search.lentSearch, Search.searchAnswer, Search.searchAfter, Both.demandAnswer, AuditText.auditTextAnswer, AuditText.auditText, AuditText.pack, AuditText.unpack, Program.program}
 
 -- ---- as numbers
 
 head : Head → List ℕ
-head h = h .window ∷ h .width ∷ h .windows ∷ []
+head h = h.window ∷ h.width ∷ h.windows ∷ []
 
 built : Built → List ℕ
 unfolding head
@@ -52,11 +52,11 @@ both (Both.SecondSearch f) = 104 ∷ found f
 
 -- this paper's numbers of an answer: number and place, wrong row and offset, windows that stand nowhere, matches of both lists, counts of a search
 pair : ℕ × ℕ → List ℕ
-pair p = p .0 ∷ p .1 ∷ []
+pair p = p.0 ∷ p.1 ∷ []
 
 place : Option (ℕ × ℕ) → List ℕ
 place none = []
-place (some r) = r .0 ∷ r .1 ∷ []
+place (some r) = r.0 ∷ r.1 ∷ []
 
 numbers : Both → List ℕ
 unfolding pair place
@@ -65,15 +65,15 @@ numbers b = place (bothRefusal b) ++ (place (bothWrong b) ++ (bothMissing b ∷ 
 -- a row by the sizes of its ends, its first and its runs
 records : List Row → List ℕ
 records [] = []
-records (r ∷ l) = natAbs (r .low) ∷ natAbs (r .up) ∷ r .first ∷ r .runs ∷ records l
+records (r ∷ l) = natAbs r.low ∷ natAbs r.up ∷ r.first ∷ r.runs ∷ records l
 
 -- the buffers one after the other
 bufferNumbers : IndexBuffers → List ℕ
 unfolding records
-bufferNumbers b = records (b .rows) ++ (b .left ++ b .right)
+bufferNumbers b = records b.rows ++ (b.left ++ b.right)
 
 searchBuffers : SearchBuffers → List ℕ
-searchBuffers b = b .left ++ (b .right ++ (b .scratch ++ (b .offsets ++ b .distances)))
+searchBuffers b = b.left ++ (b.right ++ (b.scratch ++ (b.offsets ++ b.distances)))
 
 same : List ℕ → List ℕ → Bool
 same = sameList eqb

@@ -12,7 +12,7 @@ values : ℕ → (ℕ → ℤ) → List ℤ
 values n f = map f (numbersFrom 0 n)
 
 samePair : ℕ × ℕ → ℕ × ℕ → Bool
-samePair x y = eqb (x .0) (y .0) && eqb (x .1) (y .1)
+samePair x y = eqb x.0 y.0 && eqb x.1 y.1
 
 -- the query 2 4 in the worked series, E = 4
 above : Question

@@ -3,10 +3,9 @@ use Rattle.meaning_numbers.proofs.Prelude.{_≡_, refl, sym, ap, _∙_, subst, 
 use Rattle.meaning_curves.specs.Limits.{mostValues}
 use Rattle.meaning_rows.specs.{Index.Index, Audit.firstWrong}
 use Rattle.meaning_text.specs.Texts.{refusedText}
-use Rattle.meaning_entries.specs.{Refusal.Condition, Refusal.firstRefusal, Refusal.listShort, Buffers.IndexBuffers, Build.BuildCall, Build.buildTable, Build.buildAnswer, Extend.ExtendCall, Extend.extendTable, Extend.extendAnswer, Audit.AuditCall, Audit.auditTable, Audit.complete, Audit.audited, Audit.auditAnswer, Write.writeTable, Write.writeAnswer, Load.loadTable, Load.loadAnswer, AuditText.auditTextTable, AuditText.auditTextAnswer, AuditText.auditText, Program.textProgram, Program.programTable, Program.printed, Program.program}
-use Rattle.meaning_entries.specs.Answers.{builtRefusal, extendedRefusal, auditedRefusal, writtenRefusal, loadedRefusal, foundRefusal}
 use Rattle.meaning_entries.specs.Demand1.{BuildRefuses, ExtendRefuses, AuditRefuses, WriteRefuses, LoadRefuses, SearchRefuses, AuditTextRefuses, ProgramRefuses}
 use Rattle.meaning_entries.specs.Search.{SearchCall, SearchBuffers, listRoom, searchPlan, searchTable, searchRefused, searchAnswer}
+use Rattle.meaning_entries.specs.{Refusal.Condition, Refusal.firstRefusal, Refusal.listShort, Buffers.IndexBuffers, Build.BuildCall, Build.buildTable, Build.buildAnswer, Extend.ExtendCall, Extend.extendTable, Extend.extendAnswer, Audit.AuditCall, Audit.auditTable, Audit.complete, Audit.audited, Audit.auditAnswer, Write.writeTable, Write.writeAnswer, Load.loadTable, Load.loadAnswer, AuditText.auditTextTable, AuditText.auditTextAnswer, AuditText.auditText, Program.textProgram, Program.programTable, Program.printed, Program.program, Answers.builtRefusal, Answers.extendedRefusal, Answers.auditedRefusal, Answers.writtenRefusal, Answers.loadedRefusal, Answers.foundRefusal}
 use Rattle.meaning_entries.proofs.{Refusal.openLines, Refusal.First, Refusal.here, Refusal.later, Refusal.is-first, Pack.audit-text-back}
 
 build-by : (c : BuildCall) (b : IndexBuffers) (o : Option (ℕ × ℕ)) → firstRefusal (buildTable c b) ≡ o → builtRefusal (buildAnswer c b) ≡ o
@@ -48,7 +47,7 @@ unfolding complete
 complete-said zero = refl
 complete-said (suc n) = refl
 
-audited-by : (c : AuditCall) (o : Option (ℕ × ℕ)) → firstWrong (c .index) (c .series) ≡ o → auditedRefusal (audited c) ≡ none
+audited-by : (c : AuditCall) (o : Option (ℕ × ℕ)) → firstWrong c.index c.series ≡ o → auditedRefusal (audited c) ≡ none
 unfolding audited
 audited-by c none e = rw (e, audited) (complete-said _)
 audited-by c (some x) e = rw (e, audited)
@@ -76,12 +75,12 @@ audit-text-refuses x s = record { same = ap auditedRefusal (audit-text-back x s)
 
 -- where the line has the number 24, its place is 0
 abbrev Zero : Condition → Type 0
-Zero c = (p : ℕ) → c .number ≡ 24 → c .place ≡ some p → p ≡ 0
+Zero c = (p : ℕ) → c.number ≡ 24 → c.place ≡ some p → p ≡ 0
 
 -- no line before the last has that number
 others : Condition → List Condition → Bool
 others c [] = true
-others c (d ∷ l) = not (eqb (c .number) 24) && others d l
+others c (d ∷ l) = not (eqb c.number 24) && others d l
 
 last : Condition → List Condition → Condition
 last c [] = c
@@ -94,8 +93,8 @@ zero-first : (c : Condition) (l : List Condition) {n p : ℕ} → T (others c l)
 unfolding others last
 zero-first c [] {p = p} t z (here e) i = z p i e
 zero-first c [] t z (later e f) i = elim f [ ]
-zero-first c (d ∷ l) t z (here e) i = number-other _ (two-tests (not (eqb (c .number) 24)) (others d l) t .0) i
-zero-first c (d ∷ l) t z (later e f) i = zero-first d l (two-tests (not (eqb (c .number) 24)) (others d l) t .1) z f i
+zero-first c (d ∷ l) t z (here e) i = number-other _ (two-tests (not (eqb c.number 24)) (others d l) t .0) i
+zero-first c (d ∷ l) t z (later e f) i = zero-first d l (two-tests (not (eqb c.number 24)) (others d l) t .1) z f i
 
 list-zero : (room found : ℕ) → Zero (listShort room found)
 unfolding listShort
@@ -122,7 +121,7 @@ search-by : (c : SearchCall) (b : SearchBuffers) (o : Option (ℕ × ℕ)) → f
 unfolding searchAnswer
 search-by c b none e = rw (e, searchAnswer)
 search-by c b (some r) e =
-    rw (e, searchAnswer) (refused-by c (r .0) (r .1) _ refl (search-zero c b (is-first _ (r .0) (r .1) e)))
+    rw (e, searchAnswer) (refused-by c r.0 r.1 _ refl (search-zero c b (is-first _ r.0 r.1 e)))
 
 pub search-refuses : (c : SearchCall) (b : SearchBuffers) → SearchRefuses c b (searchAnswer c b)
 search-refuses c b = record { same = search-by c b _ refl }

@@ -1,11 +1,10 @@
 -- Demand 2 for code: an entry that gives the answer that is meant and leaves the buffers that are meant keeps its promise; number, place and counts follow from the answer. By cases on the refusal.
 use Rattle.meaning_numbers.proofs.Prelude.{_≡_, refl, ap, _∙_, Bool, true, false, List, Option, none, some, ℕ, zero, suc, eqb}
 use Rattle.meaning_rows.specs.{Index.Index, Audit.firstWrong, Audit.missing}
-use Rattle.meaning_entries.specs.{Refusal.firstRefusal, declared.Built.Built, declared.Extended.Extended, declared.Audited.Audited, declared.Written.Written, declared.Loaded.Loaded, declared.Found.Found, Buffers.IndexBuffers, Build.BuildCall, Build.buildRefusal, Build.buildAnswer, Build.buildHead, Build.buildCounts, Build.buildAfter, Extend.ExtendCall, Extend.extendRefusal, Extend.extendAnswer, Extend.extendHead, Extend.extendCounts, Extend.extendAfter, Audit.AuditCall, Audit.complete, Audit.audited, Audit.auditAnswer, Audit.wrongIn, Audit.missingIn, Write.writeRefusal, Write.writeAnswer, Write.writeCount, Write.writeAfter, Load.loadRefusal, Load.loadAnswer, Load.loadHead, Load.loadCounts, Load.loadAfter}
 use Rattle.meaning_entries.specs.Answers.{builtRefusal, builtHead, builtCounts, extendedRefusal, extendedHead, extendedCounts, auditedRefusal, wrongPlace, missingCount, writtenRefusal, writtenCount, loadedRefusal, loadedHead, loadedCounts, foundRefusal, foundCounts}
-use Rattle.meaning_entries.specs.AuditText.{auditTextAnswer, unpack, auditText}
 use Rattle.meaning_entries.specs.Demand2.{BuildKept, ExtendKept, AuditKept, WriteKept, LoadKept, SearchKept, AuditTextKept}
 use Rattle.meaning_entries.specs.Search.{SearchCall, SearchBuffers, searchRefusal, looked, searchRefused, searchAnswer, searchCounts, searchAfter}
+use Rattle.meaning_entries.specs.{Refusal.firstRefusal, declared.Built.Built, declared.Extended.Extended, declared.Audited.Audited, declared.Written.Written, declared.Loaded.Loaded, declared.Found.Found, Buffers.IndexBuffers, Build.BuildCall, Build.buildRefusal, Build.buildAnswer, Build.buildHead, Build.buildCounts, Build.buildAfter, Extend.ExtendCall, Extend.extendRefusal, Extend.extendAnswer, Extend.extendHead, Extend.extendCounts, Extend.extendAfter, Audit.AuditCall, Audit.complete, Audit.audited, Audit.auditAnswer, Audit.wrongIn, Audit.missingIn, Write.writeRefusal, Write.writeAnswer, Write.writeCount, Write.writeAfter, Load.loadRefusal, Load.loadAnswer, Load.loadHead, Load.loadCounts, Load.loadAfter, AuditText.auditTextAnswer, AuditText.unpack, AuditText.auditText}
 use Rattle.meaning_entries.proofs.Pack.{audit-text-back}
 use Rattle.meaning_entries.proofs.Demand1.{build-refuses, extend-refuses, audit-refuses, write-refuses, load-refuses, search-refuses, audit-text-refuses}
 
@@ -82,19 +81,19 @@ unfolding complete
 complete-counts zero = refl
 complete-counts (suc n) = refl
 
-audited-wrong : (c : AuditCall) (o : Option (ℕ × ℕ)) → firstWrong (c .index) (c .series) ≡ o → wrongPlace (audited c) ≡ o
+audited-wrong : (c : AuditCall) (o : Option (ℕ × ℕ)) → firstWrong c.index c.series ≡ o → wrongPlace (audited c) ≡ o
 unfolding audited
 audited-wrong c none e = rw (e, audited) (complete-right _)
 audited-wrong c (some x) e = rw (e, audited)
 
-audited-counts : (c : AuditCall) (o : Option (ℕ × ℕ)) → firstWrong (c .index) (c .series) ≡ o → missingCount (audited c) ≡ missingIn none c
+audited-counts : (c : AuditCall) (o : Option (ℕ × ℕ)) → firstWrong c.index c.series ≡ o → missingCount (audited c) ≡ missingIn none c
 unfolding audited missingIn
 audited-counts c none e = rw (e, audited, missingIn) (complete-counts _)
 audited-counts c (some x) e = rw (e, audited, missingIn)
 
 -- what an audit says, refused or not
 abbrev says : Option (ℕ × ℕ) → AuditCall → Audited
-says o c = elim o [ some r ↦ Audited.Refused (r .0) (r .1) | none ↦ audited c ]
+says o c = elim o [ some r ↦ Audited.Refused r.0 r.1 | none ↦ audited c ]
 
 says-wrong : (o : Option (ℕ × ℕ)) (c : AuditCall) → wrongPlace (says o c) ≡ wrongIn o c
 unfolding wrongIn
@@ -132,7 +131,7 @@ write-kept x t a after h k = record {
   text = k;
 }
 
-refused-counts : (c : SearchCall) (b : SearchBuffers) (r : ℕ × ℕ) (t : Bool) → searchRefusal c b ≡ some r → eqb (r .0) 24 ≡ t → foundCounts (searchRefused c r) ≡ searchCounts c b
+refused-counts : (c : SearchCall) (b : SearchBuffers) (r : ℕ × ℕ) (t : Bool) → searchRefusal c b ≡ some r → eqb r.0 24 ≡ t → foundCounts (searchRefused c r) ≡ searchCounts c b
 unfolding searchRefused searchCounts looked
 refused-counts c b r true e h = rw (e, h, searchRefused, searchCounts)
 refused-counts c b r false e h = rw (e, h, searchRefused, searchCounts)

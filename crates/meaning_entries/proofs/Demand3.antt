@@ -10,10 +10,10 @@ use Rattle.meaning_entries.proofs.{Refusal.is-passed, Refusal.openLines
 all-listed : (c : SearchCall) (n : ℕ) (l : List (ℕ × ℕ)) → Searched c n l → (l ≡ allMatches (question c)) × (n ≡ length (allMatches (question c)))
 unfolding openLines question searchPlan searchTable
 all-listed c n l s =
-    let a = answered c (s .before) (s .kept .answered) in
-    let t = is-passed _ (a .passed) in
-    let f = all-found (c .index) (question c) (passes-reached (c .index) (c .series) (s .passes)) (query-line _ _ (passed-line t 6) .0 .least) (omega (arith, scale-line _ _ (passed-line t 10) .0 .least)) in
-    (s .listed ∙ listed-is c (s .before) (s .after) (s .kept) ∙ f, a .counted ∙ ap length f)
+    let a = answered c s.before s.kept.answered in
+    let t = is-passed _ a.passed in
+    let f = all-found c.index (question c) (passes-reached c.index c.series s.passes) (query-line _ _ (passed-line t 6) .0 .least) (omega (arith, scale-line _ _ (passed-line t 10) .0 .least)) in
+    (s.listed ∙ listed-is c s.before s.after s.kept ∙ f, a.counted ∙ ap length f)
 
 pub demand3 : Demand3
 unfolding question
@@ -21,9 +21,9 @@ demand3 c x n₁ n₂ l₁ l₂ one two =
     let a = all-listed c n₁ l₁ one in
     let b = all-listed (through x c) n₂ l₂ two in
     record {
-      counts = a .1 ∙ sym (b .1);
-      lists = a .0 ∙ sym (b .0);
-      all = a .0;
-      exact = subst (Exactly (question c)) (sym (a .0)) (all-exactly (question c));
-      long = a .1 ∙ ap length (sym (a .0));
+      counts = a.1 ∙ sym b.1;
+      lists = a.0 ∙ sym b.0;
+      all = a.0;
+      exact = subst (Exactly (question c)) (sym a.0) (all-exactly (question c));
+      long = a.1 ∙ ap length (sym a.0);
     }

@@ -2,8 +2,8 @@
 use Rattle.meaning_numbers.proofs.Prelude.{_≡_, refl, sym, ap, _∙_, Option, none, some, ℕ, _<_, arith, decLe, length, take, length-take-le}
 use Rattle.meaning_filter.specs.Matches.{allMatches}
 use Rattle.meaning_filter.proofs.Matches.{all-found}
-use Rattle.meaning_entries.specs.{declared.Found.Found, Refusal.firstRefusal, Buffers.filled, Audit.Passes, Demand2.SearchKept, Demand3.pairs}
 use Rattle.meaning_entries.specs.Search.{SearchCall, SearchBuffers, question, listRoom, searchMatches, searchCandidates, searchPlan, searchAnswer, lookedAfter}
+use Rattle.meaning_entries.specs.{declared.Found.Found, Refusal.firstRefusal, Buffers.filled, Audit.Passes, Demand2.SearchKept, Demand3.pairs}
 use Rattle.meaning_entries.proofs.{Refusal.is-passed, Refusal.openLines, Refusal.passed-line, Lines.query-line, Lines.scale-line, Looked.plan-refused, Looked.plan-all, Looked.plan-full, Listed.pairs-back, Passes.passes-reached}
 
 -- 24: nothing refuses before the search looks, the counts are those meant, and there are more matches than the list holds
@@ -35,23 +35,23 @@ module _ (c : SearchCall) (b : SearchBuffers) {a n : ℕ} (h : Found.Full a n �
 
 module _ (c : SearchCall) (before after : SearchBuffers) {a n : ℕ} (k : SearchKept c before (Found.Full a n) after) where
   f : FullAnswered c before a n
-  f = full-answered c before (k .answered)
+  f = full-answered c before k.answered
 
-  pub full-listed : take (listRoom before) (pairs (after .offsets) (after .distances)) ≡ take (listRoom before) (searchMatches c)
+  pub full-listed : take (listRoom before) (pairs after.offsets after.distances) ≡ take (listRoom before) (searchMatches c)
   unfolding lookedAfter filled
   full-listed =
-      let l = plan-full c before (f .unrefused) (f .short) .1 in
+      let l = plan-full c before f.unrefused f.short .1 in
       let list = take (listRoom before) _ in
-      let e = length-take-le (listRoom before) (searchMatches c) (omega (arith, f .short)) in
-      rw (k .offsets, k .distances, l) (ap (λ (r : ℕ). take r (pairs (lookedAfter c before .offsets) (lookedAfter c before .distances))) (sym e) ∙ pairs-back list _ _)
+      let e = length-take-le (listRoom before) (searchMatches c) (omega (arith, f.short)) in
+      rw (k.offsets, k.distances, l) (ap (λ (r : ℕ). take r (pairs (lookedAfter c before .offsets) (lookedAfter c before .distances))) (sym e) ∙ pairs-back list _ _)
 
   -- through an index that passes the audit
-  module _ (p : Passes (c .index) (c .series)) where
+  module _ (p : Passes c.index c.series) where
     all : searchMatches c ≡ allMatches (question c)
     unfolding openLines question searchPlan
     all =
-        let t = is-passed _ (f .unrefused) in
+        let t = is-passed _ f.unrefused in
         all-found _ _ (passes-reached _ _ p) (query-line _ _ (passed-line t 6) .0 .least) (omega (arith, scale-line _ _ (passed-line t 10) .0 .least))
 
-    pub full-all : (take (listRoom before) (pairs (after .offsets) (after .distances)) ≡ take (listRoom before) (allMatches (question c))) × (n ≡ length (allMatches (question c)))
-    full-all = (full-listed ∙ ap (take (listRoom before)) all, f .counted ∙ ap length all)
+    pub full-all : (take (listRoom before) (pairs after.offsets after.distances) ≡ take (listRoom before) (allMatches (question c))) × (n ≡ length (allMatches (question c)))
+    full-all = (full-listed ∙ ap (take (listRoom before)) all, f.counted ∙ ap length all)

@@ -25,7 +25,7 @@ values-line s e = none-outside s e
 
 pub window-line : (w : ℤ) (n : ℕ) → windowOutside w n .place ≡ none → Natural 1 256 w × (w ≤ℤ pos n)
 unfolding windowOutside
-window-line w n e = let t = neither (not (windowIn w)) (ltZ (pos n) w) (not-if 3 (not (windowIn w) || ltZ (pos n) w) e) in (inside 1 256 w (t .0), ltZ-no (t .1))
+window-line w n e = let t = neither (not (windowIn w)) (ltZ (pos n) w) (not-if 3 (not (windowIn w) || ltZ (pos n) w) e) in (inside 1 256 w t.0, ltZ-no t.1)
 
 pub width-line : (d : ℤ) → widthOutside d .place ≡ none → Natural 1 1000000 d
 unfolding widthOutside
@@ -39,7 +39,7 @@ pub query-line : (m n : ℕ) → queryLengthOutside m n .place ≡ none → Natu
 unfolding queryLengthOutside
 query-line m n e =
     let t = neither (not (queryLengthIn m)) (ltb n m) (not-if 6 (not (queryLengthIn m) || ltb n m) e) in
-    (inside 1 1024 (pos m) (t .0), nltb→le n m (t .1))
+    (inside 1 1024 (pos m) t.0, nltb→le n m t.1)
 
 pub below-line : (m : ℕ) (w : ℤ) → queryBelowWindow m w .place ≡ none → w ≤ℤ pos m
 unfolding queryBelowWindow
@@ -55,7 +55,7 @@ threshold-line E e = inside 0 1000000000000 E (not-if 9 (not (thresholdIn E)) e)
 
 pub scale-line : (a h : ℤ) → scaleOrShiftOutside a h .place ≡ none → Natural 10 100 a × Natural 0 20000 h
 unfolding scaleOrShiftOutside
-scale-line a h e = let t = neither (not (scaleIn a)) (not (shiftIn h)) (not-if 10 (not (scaleIn a) || not (shiftIn h)) e) in (inside 10 100 a (t .0), inside 0 20000 h (t .1))
+scale-line a h e = let t = neither (not (scaleIn a)) (not (shiftIn h)) (not-if 10 (not (scaleIn a) || not (shiftIn h)) e) in (inside 10 100 a t.0, inside 0 20000 h t.1)
 
 pub flat-line : (kind : Kind) (q : List ℤ) → flatQuery kind q .place ≡ none → normalFlat kind q ≡ false
 unfolding flatQuery
@@ -65,13 +65,13 @@ pub formed-line : (x : Index) → illFormed x .place ≡ none → WellFormed x
 unfolding illFormed
 formed-line x e = well-formed x e
 
-pub fewer-line : (x : Index) (n : ℕ) → fewerWindows x n .place ≡ none → windowsOf x n ≤ℤ x .windows
+pub fewer-line : (x : Index) (n : ℕ) → fewerWindows x n .place ≡ none → windowsOf x n ≤ℤ x.windows
 unfolding fewerWindows
-fewer-line x n e = ltZ-no (not-if 21 (ltZ (x .windows) _) e)
+fewer-line x n e = ltZ-no (not-if 21 (ltZ x.windows _) e)
 
-pub more-line : (x : Index) (n : ℕ) → moreWindows x n .place ≡ none → x .windows ≤ℤ windowsOf x n
+pub more-line : (x : Index) (n : ℕ) → moreWindows x n .place ≡ none → x.windows ≤ℤ windowsOf x n
 unfolding moreWindows
-more-line x n e = ltZ-no (not-if 22 (ltZ (windowsOf x n) (x .windows)) e)
+more-line x n e = ltZ-no (not-if 22 (ltZ (windowsOf x n) x.windows) e)
 
 pub room-line : (room needed : ℕ) → bufferShort room needed .place ≡ none → needed ≤ room
 unfolding bufferShort
@@ -86,7 +86,7 @@ pub series-passes : (most : ℕ) (s : List ℤ) → T (lengthIn most (length s))
 unfolding lengthOutside valueOutside
 series-passes most s t e = more (not-applies 1 _ (ap not (is-true (lengthIn most _) t))) (more e end)
 
-pub count-passes : (n : ℕ) (x : Index) → windowsOf x n ≤ℤ x .windows → x .windows ≤ℤ windowsOf x n → AllPass (countLines n x)
+pub count-passes : (n : ℕ) (x : Index) → windowsOf x n ≤ℤ x.windows → x.windows ≤ℤ windowsOf x n → AllPass (countLines n x)
 unfolding fewerWindows moreWindows
 count-passes n x h k = more (not-applies 21 _ (le-ltZ h)) (more (not-applies 22 _ (le-ltZ k)) end)
 

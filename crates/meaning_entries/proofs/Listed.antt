@@ -1,16 +1,16 @@
 -- What a search that kept its promise and was not refused has listed: the matches that it means, all of them (`listed-is`). The list's buffer begins with them, as many as the answer says.
 use Rattle.meaning_numbers.proofs.Prelude.{_≡_, refl, Bool, true, false, List, [], _∷_, _++_, map, Option, none, some, ℕ, _≤_, arith, eqb, ltb, nltb→le, length, take, take-all}
-use Rattle.meaning_entries.specs.{declared.Found.Found, Refusal.firstRefusal, Buffers.filled, Demand2.SearchKept, Demand3.pairs}
 use Rattle.meaning_entries.specs.Search.{SearchCall, SearchBuffers, listRoom, searchMatches, searchCandidates, searchPlan, searchTable, looked, searchRefused, searchAnswer, lookedAfter, searchAfter}
+use Rattle.meaning_entries.specs.{declared.Found.Found, Refusal.firstRefusal, Buffers.filled, Demand2.SearchKept, Demand3.pairs}
 use Rattle.meaning_entries.proofs.Refusal.{is-passed, openLines, passed-line, not-if}
 
 -- the first entries of two columns with anything behind them are the pairs that they were made of
-pub pairs-back : (l : List (ℕ × ℕ)) (a b : List ℕ) → take (length l) (pairs (map (λ x. x .0) l ++ a) (map (λ x. x .1) l ++ b)) ≡ l
+pub pairs-back : (l : List (ℕ × ℕ)) (a b : List ℕ) → take (length l) (pairs (map (λ x. x.0) l ++ a) (map (λ x. x.1) l ++ b)) ≡ l
 unfolding pairs
 pairs-back [] a b = refl
 pairs-back (x ∷ l) a b = rw (pairs-back l a b)
 
-all-refused : {a b : ℕ} {B : Type 0} (c : SearchCall) (r : ℕ × ℕ) (t : Bool) → eqb (r .0) 24 ≡ t → Found.All a b ≡ searchRefused c r → B
+all-refused : {a b : ℕ} {B : Type 0} (c : SearchCall) (r : ℕ × ℕ) (t : Bool) → eqb r.0 24 ≡ t → Found.All a b ≡ searchRefused c r → B
 unfolding searchRefused
 all-refused c r true e h = let z : _≡_ {A = ℕ} 0 1 = cc in absurd (omega arith)
 all-refused c r false e h = let z : _≡_ {A = ℕ} 0 1 = cc in absurd (omega arith)
@@ -41,10 +41,10 @@ unfolding openLines searchPlan searchTable
 room c b e = nltb→le _ _ (not-if 24 (ltb (listRoom b) _) (passed-line (is-passed _ e) 24))
 
 -- the first entries of the list's buffer are the matches
-pub listed-is : (c : SearchCall) (before after : SearchBuffers) {a n : ℕ} → SearchKept c before (Found.All a n) after → take n (pairs (after .offsets) (after .distances)) ≡ searchMatches c
+pub listed-is : (c : SearchCall) (before after : SearchBuffers) {a n : ℕ} → SearchKept c before (Found.All a n) after → take n (pairs after.offsets after.distances) ≡ searchMatches c
 unfolding lookedAfter filled
 listed-is c before after {a} {n} k =
-    let h = answered c before (k .answered) in
-    let l = looked-after c before (h .passed) in
-    let t = take-all _ (searchMatches c) (room c before (h .passed)) in
-    rw (k .offsets, k .distances, l, h .counted, t) (pairs-back _ _ _)
+    let h = answered c before k.answered in
+    let l = looked-after c before h.passed in
+    let t = take-all _ (searchMatches c) (room c before h.passed) in
+    rw (k.offsets, k.distances, l, h.counted, t) (pairs-back _ _ _)

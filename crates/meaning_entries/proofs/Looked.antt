@@ -1,8 +1,8 @@
 -- The table of a search is what is known before it looks (`searchPlan`), and whether the list holds all matches, which is known only at its end. Where the first part refuses, that is the answer and no buffer is altered (`plan-refused`);
 -- else the buffers are those of a search that looked, and the answer is by the number of matches (`plan-all`, `plan-full`).
 use Rattle.meaning_numbers.proofs.Prelude.{_≡_, _∙_, false, [], _∷_, none, some, ℕ, _<_, _≤_, T, eqb, length, lt-ltb, le-ltb}
-use Rattle.meaning_entries.specs.{declared.Found.Found, Refusal.Condition, Refusal.firstRefusal, Refusal.listShort}
 use Rattle.meaning_entries.specs.Search.{SearchCall, SearchBuffers, listRoom, searchMatches, searchCandidates, searchPlan, searchTable, searchRefusal, looked, searchRefused, searchAnswer, lookedAfter, searchAfter}
+use Rattle.meaning_entries.specs.{declared.Found.Found, Refusal.Condition, Refusal.firstRefusal, Refusal.listShort}
 use Rattle.meaning_entries.proofs.Refusal.{openLines, First, here, more, end, passed-is, first-is, is-passed, is-first, lacks, first-left, first-right, first-lacks}
 
 -- 24

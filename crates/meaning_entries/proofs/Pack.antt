@@ -3,8 +3,8 @@ use Rattle.meaning_numbers.proofs.Prelude.{_≡_, refl, sym, ap₂, _∙_, subs
 use Rattle.meaning_curves.specs.Limits.{mostValues}
 use Rattle.meaning_rows.specs.{Index.zeroRow, Index.Index, Judge.firstBadRow, Audit.firstWrong}
 use Rattle.meaning_rows.proofs.{Judge.well-formed, Judge.row-at, Judge.stands-below, Audit.first-wrong}
-use Rattle.meaning_entries.specs.{declared.Audited.Audited, Refusal.Condition, Refusal.firstRefusal, Audit.AuditCall, Audit.auditTable, Audit.complete, Audit.audited, Load.textIndex}
 use Rattle.meaning_entries.specs.AuditText.{textCall, auditTextTable, auditTextAnswer, packRefusal, pack, unpackBy, unpack, auditText}
+use Rattle.meaning_entries.specs.{declared.Audited.Audited, Refusal.Condition, Refusal.firstRefusal, Audit.AuditCall, Audit.auditTable, Audit.complete, Audit.audited, Load.textIndex}
 use Rattle.meaning_entries.proofs.Refusal.{First, here, later, is-passed, is-first, openLines, passed-line}
 
 -- an offset is below the most windows, and every number of a refusal below 32
@@ -46,7 +46,7 @@ unpack-pack (Audited.Refused n p) h = refused-back n p _ refl h
 -- a test that the numbers of a table pass, the number of its first line that applies passes
 numbers-pass : (P : ℕ → Bool) → List Condition → Bool
 numbers-pass P [] = true
-numbers-pass P (c ∷ l) = P (c .number) && numbers-pass P l
+numbers-pass P (c ∷ l) = P c.number && numbers-pass P l
 
 first-passes : (P : ℕ → Bool) {l : List Condition} {n p : ℕ} → T (numbers-pass P l) → First l n p → T (P n)
 unfolding numbers-pass
@@ -61,17 +61,17 @@ wrong-offset : (x : Index) (s : List ℤ) (k j : ℕ) → firstBadRow x ≡ none
 wrong-offset x s k j h e =
     let g = well-formed x h in
     let w = first-wrong x s g zeroRow k j e in
-    omega (arith, stands-below x _ j (row-at x g zeroRow k (w .is-row)) (w .stands-there), g .head .windows .most)
+    omega (arith, stands-below x _ j (row-at x g zeroRow k w.is-row) w.stands-there, g.head.windows.most)
 
 complete-packable : (n : ℕ) → Packable (complete n)
 unfolding complete
 complete-packable zero = tt
 complete-packable (suc n) = tt
 
-audited-packable : (c : AuditCall) (o : Option (ℕ × ℕ)) → firstBadRow (c .index) ≡ none → firstWrong (c .index) (c .series) ≡ o → Packable (audited c)
+audited-packable : (c : AuditCall) (o : Option (ℕ × ℕ)) → firstBadRow c.index ≡ none → firstWrong c.index c.series ≡ o → Packable (audited c)
 unfolding audited
 audited-packable c none h e = rw (e, audited) (complete-packable _)
-audited-packable c (some r) h e = rw (e, audited) (wrong-offset _ _ (r .0) (r .1) h e)
+audited-packable c (some r) h e = rw (e, audited) (wrong-offset _ _ r.0 r.1 h e)
 
 formed : (x s : List ℕ) → firstRefusal (auditTextTable x s) ≡ none → firstBadRow (textIndex x) ≡ none
 unfolding openLines auditTextTable auditTable

@@ -5,18 +5,18 @@ use Rattle.meaning_entries.specs.Refusal.{Condition, firstRefusal, atZer
 -- no line applies
 pub data AllPass : List Condition → Type 0 where
   end : AllPass []
-  more : {c : Condition} {l : List Condition} → c .place ≡ none → AllPass l → AllPass (c ∷ l)
+  more : {c : Condition} {l : List Condition} → c.place ≡ none → AllPass l → AllPass (c ∷ l)
 
 -- the first line that applies has the number n and the place p
 pub data First : List Condition → ℕ → ℕ → Type 0 where
-  here : {c : Condition} {l : List Condition} {p : ℕ} → c .place ≡ some p → First (c ∷ l) (c .number) p
-  later : {c : Condition} {l : List Condition} {n p : ℕ} → c .place ≡ none → First l n p → First (c ∷ l) n p
+  here : {c : Condition} {l : List Condition} {p : ℕ} → c.place ≡ some p → First (c ∷ l) c.number p
+  later : {c : Condition} {l : List Condition} {n p : ℕ} → c.place ≡ none → First l n p → First (c ∷ l) n p
 
-first-yes : (c : Condition) (l : List Condition) (p : ℕ) → c .place ≡ some p → firstRefusal (c ∷ l) ≡ some (c .number, p)
+first-yes : (c : Condition) (l : List Condition) (p : ℕ) → c.place ≡ some p → firstRefusal (c ∷ l) ≡ some (c.number, p)
 unfolding firstRefusal
 first-yes c l p e = rw (e, firstRefusal)
 
-first-no : (c : Condition) (l : List Condition) → c .place ≡ none → firstRefusal (c ∷ l) ≡ firstRefusal l
+first-no : (c : Condition) (l : List Condition) → c.place ≡ none → firstRefusal (c ∷ l) ≡ firstRefusal l
 unfolding firstRefusal
 first-no c l e = rw (e, firstRefusal)
 
@@ -34,10 +34,10 @@ pub judged : (l : List Condition) → AllPass l ⊎ ((n : ℕ) × (p : ℕ) × F
 judged [] = inl end
 judged (c ∷ l) = by _ refl (judged l)
   where
-    by : (o : Option ℕ) → c .place ≡ o → AllPass l ⊎ ((n : ℕ) × (p : ℕ) × First l n p) → AllPass (c ∷ l) ⊎ ((n : ℕ) × (p : ℕ) × First (c ∷ l) n p)
-    by (some p) e r = inr (c .number, p, here e)
+    by : (o : Option ℕ) → c.place ≡ o → AllPass l ⊎ ((n : ℕ) × (p : ℕ) × First l n p) → AllPass (c ∷ l) ⊎ ((n : ℕ) × (p : ℕ) × First (c ∷ l) n p)
+    by (some p) e r = inr (c.number, p, here e)
     by none e (inl h) = inl (more e h)
-    by none e (inr h) = inr (h .0, h .1, later e (h .2))
+    by none e (inr h) = inr (h.0, h.1, later e h.2)
 
 -- and what `firstRefusal` says is which
 none-some : {A B : Type 0} {a : A} → none ≡ some a → B
@@ -48,10 +48,10 @@ is-passed l e = by (judged l)
   where
     by : AllPass l ⊎ ((n : ℕ) × (p : ℕ) × First l n p) → AllPass l
     by (inl h) = h
-    by (inr h) = none-some (sym e ∙ first-is (h .2))
+    by (inr h) = none-some (sym e ∙ first-is h.2)
 
 -- two refusals that are the same have the same number and the same place
-same-refusal : {r t : ℕ × ℕ} → some r ≡ some t → (r .0 ≡ t .0) × (r .1 ≡ t .1)
+same-refusal : {r t : ℕ × ℕ} → some r ≡ some t → (r.0 ≡ t.0) × (r.1 ≡ t.1)
 same-refusal {r} {t} e = let q : r ≡ t = cc in (rw q, rw q)
 
 pub is-first : (l : List Condition) (n p : ℕ) → firstRefusal l ≡ some (n, p) → First l n p
@@ -59,7 +59,7 @@ is-first l n p e = by (judged l)
   where
     by : AllPass l ⊎ ((m : ℕ) × (k : ℕ) × First l m k) → First l n p
     by (inl h) = none-some (sym (passed-is h) ∙ e)
-    by (inr h) = let q = same-refusal (sym (first-is (h .2)) ∙ e) in subst₂ (First l) (q .0) (q .1) (h .2)
+    by (inr h) = let q = same-refusal (sym (first-is h.2) ∙ e) in subst₂ (First l) q.0 q.1 h.2
 
 -- a call that one line refuses no other refuses, and where none applies none refuses
 pub exclusive : {l : List Condition} {n p : ℕ} {B : Type 0} → First l n p → AllPass l → B
@@ -81,27 +81,27 @@ first-right b (more {c} {l} e h) = first-no c _ e ∙ first-right b h
 -- the first line that has the number n
 unfoldable pub numbered : ℕ → List Condition → Condition
 numbered n [] = record { number = n; place = none }
-numbered n (c ∷ l) = cond (eqb (c .number) n) c (numbered n l)
+numbered n (c ∷ l) = cond (eqb c.number n) c (numbered n l)
 
 -- the lines behind it
 unfoldable pub behind : ℕ → List Condition → List Condition
 behind n [] = []
-behind n (c ∷ l) = cond (eqb (c .number) n) l (behind n l)
+behind n (c ∷ l) = cond (eqb c.number n) l (behind n l)
 
 -- no line has the number n
 unfoldable pub lacks : ℕ → List Condition → Bool
 lacks n [] = true
-lacks n (c ∷ l) = not (eqb (c .number) n) && lacks n l
+lacks n (c ∷ l) = not (eqb c.number n) && lacks n l
 
 pub first-lacks : {l : List Condition} {n p : ℕ} (k : ℕ) → T (lacks k l) → First l n p → eqb n k ≡ false
 unfolding lacks
-first-lacks k t (here {c} {l} e) = is-false _ (two-tests (not (eqb (c .number) k)) (lacks k l) t .0)
-first-lacks k t (later {c} {l} e f) = first-lacks k (two-tests (not (eqb (c .number) k)) (lacks k l) t .1) f
+first-lacks k t (here {c} {l} e) = is-false _ (two-tests (not (eqb c.number k)) (lacks k l) t .0)
+first-lacks k t (later {c} {l} e f) = first-lacks k (two-tests (not (eqb c.number k)) (lacks k l) t .1) f
 
 -- a table in two parts passes where both do
 pub passed-both : (a b : List Condition) → AllPass (a ++ b) → AllPass a × AllPass b
 passed-both [] b h = (end, h)
-passed-both (c ∷ a) b (more e h) = let k = passed-both a b h in (more e (k .0), k .1)
+passed-both (c ∷ a) b (more e h) = let k = passed-both a b h in (more e k.0, k.1)
 
 pub passed-join : {a b : List Condition} → AllPass a → AllPass b → AllPass (a ++ b)
 passed-join end k = k
@@ -113,7 +113,7 @@ same-behind a x y f = by (judged a)
   where
     by : AllPass a ⊎ ((n : ℕ) × (p : ℕ) × First a n p) → firstRefusal (a ++ x) ≡ firstRefusal (a ++ y)
     by (inl h) = first-right x h ∙ f h ∙ sym (first-right y h)
-    by (inr h) = first-is (first-left x (h .2)) ∙ sym (first-is (first-left y (h .2)))
+    by (inr h) = first-is (first-left x h.2) ∙ sym (first-is (first-left y h.2))
 
 -- ---- a line of a table that passed, by its number
 
@@ -122,7 +122,7 @@ unfoldable pub openLines : Unit {0}
 unfolding numbered behind lengthOutside valueOutside windowOutside widthOutside mergeOutside queryLengthOutside queryBelowWindow bandOutside thresholdOutside scaleOrShiftOutside flatQuery unreadable illFormed fewerWindows moreWindows bufferShort listShort
 openLines = tt
 
-one-of : (t : Bool) (c d : Condition) → c .place ≡ none → d .place ≡ none → cond t c d .place ≡ none
+one-of : (t : Bool) (c d : Condition) → c.place ≡ none → d.place ≡ none → cond t c d .place ≡ none
 one-of true c d e f = e
 one-of false c d e f = f
 

@@ -41,7 +41,7 @@ grownBy c (Extended.Refused n p) = refusedText n p
 unfoldable pub extends : String → String → Bool
 unfolding same room grownBy
 extends input output = elim (readText (both indexForm seriesForm) (bytes input)) [
-  | fine v ↦ let c : ExtendCall = record { series = v .1; index = indexSaid (v .0) } in same (grownBy c (extendAnswer c room)) output
+  | fine v ↦ let c : ExtendCall = record { series = v.1; index = indexSaid v.0 } in same (grownBy c (extendAnswer c room)) output
   | unfit p ↦ false
 ]
 

@@ -2,17 +2,15 @@
 -- Each has at most as many rows and runs as windows. Both are laws of the promises, so of every function that keeps them.
 use Rattle.meaning_numbers.proofs.Prelude.{_≡_, refl, sym, ap, _∙_, List, [], _∷_, _++_, map, Option, none, some, ℕ, _+_, _-_, _≤_, arith, ℤ, pos, natAbs, length, take, length-map, take-append-seam}
 use Rattle.meaning_curves.specs.Curve.{windowCount}
-use Rattle.meaning_rows.specs.{declared.Row.Row, declared.Head.Head, Runs.runs}
-use Rattle.meaning_rows.specs.Build.{SetRow, merged, entry, withRuns, builtRows, built}
-use Rattle.meaning_rows.specs.Extend.{insertRows, extendedRows, extended}
 use Rattle.meaning_rows.specs.Index.{zeroRow, Index, Entry, entries, lent, laidOut, allRuns}
-use Rattle.meaning_entries.specs.{declared.Built.Built, declared.Extended.Extended, Buffers.IndexBuffers, Buffers.filled, Buffers.lefts, Buffers.rights, Buffers.indexIn, Answers.headOf, Build.BuildCall, Build.lentBuild, Build.buildIndex, Build.buildHead, Build.buildCounts, Build.buildAfter, Build.buildWindows, Audit.Passes, Demand2.BuildKept, Demand2.ExtendKept}
+use Rattle.meaning_rows.specs.{declared.Row.Row, declared.Head.Head, Runs.runs, Build.SetRow, Build.merged, Build.entry, Build.withRuns, Build.builtRows, Build.built, Extend.insertRows, Extend.extendedRows, Extend.extended}
 use Rattle.meaning_entries.specs.Extend.{ExtendCall, lentExtend, extendIndex, extendHead, extendCounts, extendAfter, extendWindows}
+use Rattle.meaning_entries.specs.{declared.Built.Built, declared.Extended.Extended, Buffers.IndexBuffers, Buffers.filled, Buffers.lefts, Buffers.rights, Buffers.indexIn, Answers.headOf, Build.BuildCall, Build.lentBuild, Build.buildIndex, Build.buildHead, Build.buildCounts, Build.buildAfter, Build.buildWindows, Audit.Passes, Demand2.BuildKept, Demand2.ExtendKept}
 use Rattle.meaning_entries.proofs.Made.{build-passes, build-most, extend-passes, extend-most}
 
 -- an index of n rows and k runs out of buffers
 abbrev pub indexOf : Head → ℕ → ℕ → IndexBuffers → Index
-indexOf h n k b = lent h (take n (b .rows)) (take k (b .left)) (take k (b .right))
+indexOf h n k b = lent h (take n b.rows) (take k b.left) (take k b.right)
 
 -- it passes, and is at most as large as there are windows
 pub record Stands (x : Index) (s : List ℤ) (windows n k : ℕ) : Type 0 where
@@ -37,61 +35,61 @@ paired n [] = refl
 paired n (r ∷ rows) = paired-runs (runs _ n) (allRuns (map (withRuns n) rows)) (paired n rows)
 
 -- an index with the runs of sets of offsets, out of the buffers that it was put into
-read-back : (w d n : ℕ) (rows : List SetRow) (b : IndexBuffers) → let x = laidOut (pos w) (pos d) (pos n) (map (withRuns n) rows) in indexOf (headOf x) (length (x .rows)) (length (x .runs)) (indexIn x b) ≡ x
+read-back : (w d n : ℕ) (rows : List SetRow) (b : IndexBuffers) → let x = laidOut (pos w) (pos d) (pos n) (map (withRuns n) rows) in indexOf (headOf x) (length x.rows) (length x.runs) (indexIn x b) ≡ x
 unfolding indexIn
 read-back w d n rows b =
     let x = laidOut (pos w) (pos d) (pos n) _ in
-    let l = take-filled 0 _ (b .left) _ (sym (length-map (x .runs) (λ (y : Entry). natAbs (y .0)))) in
-    let r = take-filled 0 _ (b .right) _ (sym (length-map (x .runs) (λ (y : Entry). natAbs (y .1)))) in
+    let l = take-filled 0 _ b.left _ (sym (length-map x.runs (λ (y : Entry). natAbs y.0))) in
+    let r = take-filled 0 _ b.right _ (sym (length-map x.runs (λ (y : Entry). natAbs y.1))) in
     λ i. record {
       window = pos w;
       width = pos d;
       windows = pos n;
-      rows = take-filled zeroRow (x .rows) (b .rows) _ refl i;
+      rows = take-filled zeroRow x.rows b.rows _ refl i;
       runs = ((λ j. entries (l j) (r j)) ∙ paired n rows) i;
     }
 
 -- whatever index the answer tells of stands in the buffers that it was put into
-stood : (x : Index) (s : List ℤ) (windows : ℕ) (before after : IndexBuffers) (h : Head) (n k : ℕ) → some h ≡ some (headOf x) → _≡_ {A = ℕ × ℕ} (n, k) (length (x .rows), length (x .runs)) → after ≡ indexIn x before
-    → indexOf (headOf x) (length (x .rows)) (length (x .runs)) (indexIn x before) ≡ x → Passes x s → (length (x .rows) ≤ windows) × (length (x .runs) ≤ windows) → Stands (indexOf h n k after) s windows n k
+stood : (x : Index) (s : List ℤ) (windows : ℕ) (before after : IndexBuffers) (h : Head) (n k : ℕ) → some h ≡ some (headOf x) → _≡_ {A = ℕ × ℕ} (n, k) (length x.rows, length x.runs) → after ≡ indexIn x before
+    → indexOf (headOf x) (length x.rows) (length x.runs) (indexIn x before) ≡ x → Passes x s → (length x.rows ≤ windows) × (length x.runs ≤ windows) → Stands (indexOf h n k after) s windows n k
 stood x s windows before after h n k p c b whole passes most =
     let q : h ≡ headOf x = ap (λ (o : Option Head). elim o [ some y ↦ y | none ↦ h ]) p in
     record {
       passes = rw ((λ i. indexOf (q i) (c i .0) (c i .1) (b i)) ∙ whole) passes;
-      few-rows = omega (arith, ap (λ (z : ℕ × ℕ). z .0) c, most .0);
-      few-runs = omega (arith, ap (λ (z : ℕ × ℕ). z .1) c, most .1);
+      few-rows = omega (arith, ap (λ (z : ℕ × ℕ). z .0) c, most.0);
+      few-runs = omega (arith, ap (λ (z : ℕ × ℕ). z .1) c, most.1);
     }
 
 module _ (s : List ℤ) (w d g : ℕ) (before : IndexBuffers) where
   abbrev build : BuildCall
   build = lentBuild s w d g
 
-  build-whole : let x = buildIndex build in indexOf (headOf x) (length (x .rows)) (length (x .runs)) (indexIn x before) ≡ x
+  build-whole : let x = buildIndex build in indexOf (headOf x) (length x.rows) (length x.runs) (indexIn x before) ≡ x
   unfolding buildIndex built builtRows
   build-whole = let m = windowCount _ w in read-back w d m (merged g m _) before
 
   pub build-stands : (after : IndexBuffers) (h : Head) (n k : ℕ) → BuildKept build before (Built.Index h n k) after → Stands (indexOf h n k after) s (buildWindows build) n k
   unfolding buildHead buildCounts buildAfter
   build-stands after h n k kept =
-      let e = sym (kept .refused) in
-      stood _ s _ before after h n k (kept .headed ∙ rw (e, buildHead)) (kept .counted ∙ rw (e, buildCounts)) ((λ i. record { rows = kept .rows i; left = kept .left i; right = kept .right i }) ∙ rw (e, buildAfter))
+      let e = sym kept.refused in
+      stood _ s _ before after h n k (kept.headed ∙ rw (e, buildHead)) (kept.counted ∙ rw (e, buildCounts)) ((λ i. record { rows = kept.rows i; left = kept.left i; right = kept.right i }) ∙ rw (e, buildAfter))
       build-whole (build-passes build before e) (build-most build before e)
 
 module _ (s : List ℤ) (head : Head) (from : List Row) (olds : List ℕ) (ends : List ℕ) (before : IndexBuffers) where
   abbrev extend : ExtendCall
   extend = lentExtend s head from olds ends
 
-  extend-whole : let x = extendIndex extend in indexOf (headOf x) (length (x .rows)) (length (x .runs)) (indexIn x before) ≡ x
+  extend-whole : let x = extendIndex extend in indexOf (headOf x) (length x.rows) (length x.runs) (indexIn x before) ≡ x
   unfolding extendIndex extended extendedRows
   extend-whole =
-      let d = head .width in
+      let d = head.width in
       let n = windowCount _ _ in
       read-back _ d n (insertRows _ _) before
 
   pub extend-stands : (after : IndexBuffers) (h : Head) (n k : ℕ) → ExtendKept extend before (Extended.Index h n k) after
-      → Passes (extend .index) (take (natAbs (extend .index .windows) + natAbs (extend .index .window) - 1) s) → Stands (indexOf h n k after) s (extendWindows extend) n k
+      → Passes extend.index (take (natAbs extend.index.windows + natAbs extend.index.window - 1) s) → Stands (indexOf h n k after) s (extendWindows extend) n k
   unfolding extendHead extendCounts extendAfter
   extend-stands after h n k kept p =
-      let e = sym (kept .refused) in
-      stood _ s _ before after h n k (kept .headed ∙ rw (e, extendHead)) (kept .counted ∙ rw (e, extendCounts)) ((λ i. record { rows = kept .rows i; left = kept .left i; right = kept .right i }) ∙ rw (e, extendAfter))
+      let e = sym kept.refused in
+      stood _ s _ before after h n k (kept.headed ∙ rw (e, extendHead)) (kept.counted ∙ rw (e, extendCounts)) ((λ i. record { rows = kept.rows i; left = kept.left i; right = kept.right i }) ∙ rw (e, extendAfter))
       extend-whole (extend-passes extend before e p) (extend-most extend before e)

@@ -34,7 +34,7 @@ unfolding openEntries series merged single search room
 openWitness = tt
 
 -- a search with the list's first entries, by what it computes to
-searched : (c : SearchCall) (candidates count : ℕ) (list : List (ℕ × ℕ)) → Passes (c .index) (c .series) → Found.All candidates count ≡ searchAnswer c room →
+searched : (c : SearchCall) (candidates count : ℕ) (list : List (ℕ × ℕ)) → Passes c.index c.series → Found.All candidates count ≡ searchAnswer c room →
     list ≡ listIn count (searchAfter c room) → Searched c count list
 searched c candidates count list p e l =
     record { passes = p; before = room; after = searchAfter c room; candidates = candidates; kept = search-kept c room _ _ e refl; listed = l }

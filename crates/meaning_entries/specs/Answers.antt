@@ -7,7 +7,7 @@ use Rattle.meaning_entries.specs.{declared.Built.Built, declared.Extende
 
 -- the head of an index that is well formed
 abbrev pub headOf : Index → Head
-headOf x = record { window = natAbs (x .window); width = natAbs (x .width); windows = natAbs (x .windows) }
+headOf x = record { window = natAbs x.window; width = natAbs x.width; windows = natAbs x.windows }
 
 -- ---- number and place, where the call is refused
 

@@ -21,9 +21,9 @@ lentAudit series head rows left right = record { series = series; index = lent h
 -- the refusals, in order; `most` is the most values that the call takes
 unfoldable pub auditTable : ℕ → AuditCall → List Condition
 auditTable most c =
-    seriesLines most (c .series)
-    ++ (illFormed (c .index)
-    ∷ countLines (length (c .series)) (c .index))
+    seriesLines most c.series
+    ++ (illFormed c.index
+    ∷ countLines (length c.series) c.index)
 
 -- where none is filed wrongly: yes, or how many windows stand nowhere
 unfoldable pub complete : ℕ → Audited
@@ -32,20 +32,20 @@ complete (suc n) = Audited.Missing (suc n)
 
 -- what an audit that is not refused says
 unfoldable pub audited : AuditCall → Audited
-audited c = elim (firstWrong (c .index) (c .series)) [ some x ↦ Audited.Wrong (x .0) (x .1) | none ↦ complete (missing (c .index)) ]
+audited c = elim (firstWrong c.index c.series) [ some x ↦ Audited.Wrong x.0 x.1 | none ↦ complete (missing c.index) ]
 
 unfoldable pub auditAnswer : AuditCall → Audited
-auditAnswer c = elim (firstRefusal (auditTable mostValues c)) [ some r ↦ Audited.Refused (r .0) (r .1) | none ↦ audited c ]
+auditAnswer c = elim (firstRefusal (auditTable mostValues c)) [ some r ↦ Audited.Refused r.0 r.1 | none ↦ audited c ]
 
 -- the first row and offset filed wrongly, of an audit that nothing refuses
 unfoldable pub wrongIn : Option (ℕ × ℕ) → AuditCall → Option (ℕ × ℕ)
 wrongIn (some r) c = none
-wrongIn none c = firstWrong (c .index) (c .series)
+wrongIn none c = firstWrong c.index c.series
 
 -- how many windows stand nowhere, of an audit that nothing refuses and that finds none filed wrongly; else 0
 unfoldable pub missingIn : Option (ℕ × ℕ) → AuditCall → ℕ
 missingIn (some r) c = 0
-missingIn none c = elim (firstWrong (c .index) (c .series)) [ some x ↦ 0 | none ↦ missing (c .index) ]
+missingIn none c = elim (firstWrong c.index c.series) [ some x ↦ 0 | none ↦ missing c.index ]
 
 -- the same of the entry `audit`, by its own table; the audit of two texts has another
 abbrev pub auditWrong : AuditCall → Option (ℕ × ℕ)

@@ -25,7 +25,7 @@ auditTextTable index series =
     ∷ auditTable mostProgramValues (textCall index series)
 
 unfoldable pub auditTextAnswer : List ℕ → List ℕ → Audited
-auditTextAnswer index series = elim (firstRefusal (auditTextTable index series)) [ some r ↦ Audited.Refused (r .0) (r .1) | none ↦ audited (textCall index series) ]
+auditTextAnswer index series = elim (firstRefusal (auditTextTable index series)) [ some r ↦ Audited.Refused r.0 r.1 | none ↦ audited (textCall index series) ]
 
 -- ---- the number that the entry returns
 

@@ -32,7 +32,7 @@ told one two first second = cond (yes one) (cond (yes two) (toldFound first seco
 
 -- the audit of a search's index
 abbrev pub auditOf : SearchCall → AuditCall
-auditOf c = record { series = c .series; index = c .index }
+auditOf c = record { series = c.series; index = c.index }
 
 unfoldable pub demandAnswer : SearchCall → Index → SearchBuffers → SearchBuffers → Both
 demandAnswer c x b₁ b₂ = told (auditAnswer (auditOf c)) (auditAnswer (auditOf (through x c))) (searchAnswer c b₁) (searchAnswer (through x c) b₂)
@@ -79,12 +79,12 @@ pub record BothListed (c : SearchCall) (answer : Both) (after₁ after₂ : Sear
 -- `c` is the first search, `through x c` the same search through the other index
 pub record Demand3Kept (c : SearchCall) (x : Index) (before₁ before₂ : SearchBuffers) (answer : Both) (after₁ after₂ : SearchBuffers) : Type 0 where
   -- where both audits say yes and neither search is refused
-  pub listed : Passes (c .index) (c .series) → Passes x (c .series) → searchRefusal c before₁ ≡ none → searchRefusal (through x c) before₂ ≡ none → BothListed c answer after₁ after₂
+  pub listed : Passes c.index c.series → Passes x c.series → searchRefusal c before₁ ≡ none → searchRefusal (through x c) before₂ ≡ none → BothListed c answer after₁ after₂
   -- where not, the first that fails is told, with all that it answered: the audits, then the searches
-  pub first-audit : (Passes (c .index) (c .series) → ⊥) → answer ≡ Both.FirstAudit (auditAnswer (auditOf c))
-  pub second-audit : Passes (c .index) (c .series) → (Passes x (c .series) → ⊥) → answer ≡ Both.SecondAudit (auditAnswer (auditOf (through x c)))
-  pub first-search : Passes (c .index) (c .series) → Passes x (c .series) → (searchRefusal c before₁ ≡ none → ⊥) → answer ≡ Both.FirstSearch (searchAnswer c before₁)
-  pub second-search : Passes (c .index) (c .series) → Passes x (c .series) → searchRefusal c before₁ ≡ none → (searchRefusal (through x c) before₂ ≡ none → ⊥) → answer ≡ Both.SecondSearch (searchAnswer (through x c) before₂)
+  pub first-audit : (Passes c.index c.series → ⊥) → answer ≡ Both.FirstAudit (auditAnswer (auditOf c))
+  pub second-audit : Passes c.index c.series → (Passes x c.series → ⊥) → answer ≡ Both.SecondAudit (auditAnswer (auditOf (through x c)))
+  pub first-search : Passes c.index c.series → Passes x c.series → (searchRefusal c before₁ ≡ none → ⊥) → answer ≡ Both.FirstSearch (searchAnswer c before₁)
+  pub second-search : Passes c.index c.series → Passes x c.series → searchRefusal c before₁ ≡ none → (searchRefusal (through x c) before₂ ≡ none → ⊥) → answer ≡ Both.SecondSearch (searchAnswer (through x c) before₂)
   -- this paper's number and place, wrong row and offset, windows that stand nowhere, matches of both lists, and true counts of 24
   pub refused : bothRefusal answer ≡ demandRefusal c x before₁ before₂
   pub wrong : bothWrong answer ≡ demandWrong c x before₁ before₂

@@ -23,19 +23,19 @@ abbrev pub indexBuffers : List Row → List ℕ → List ℕ → IndexBuffers
 indexBuffers rows left right = record { rows = rows; left = left; right = right }
 
 abbrev pub runRoom : IndexBuffers → ℕ
-runRoom b = pairRoom (b .left) (b .right)
+runRoom b = pairRoom b.left b.right
 
 -- the two columns of run entries
 abbrev pub lefts : List Entry → List ℕ
-lefts l = map (λ e. natAbs (e .0)) l
+lefts l = map (λ e. natAbs e.0) l
 
 abbrev pub rights : List Entry → List ℕ
-rights l = map (λ e. natAbs (e .1)) l
+rights l = map (λ e. natAbs e.1) l
 
 -- an index in its buffers
 unfoldable pub indexIn : Index → IndexBuffers → IndexBuffers
 indexIn x b = record {
-  rows = filled zeroRow (x .rows) (b .rows);
-  left = filled 0 (lefts (x .runs)) (b .left);
-  right = filled 0 (rights (x .runs)) (b .right);
+  rows = filled zeroRow x.rows b.rows;
+  left = filled 0 (lefts x.runs) b.left;
+  right = filled 0 (rights x.runs) b.right;
 }

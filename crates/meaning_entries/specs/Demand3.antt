@@ -16,11 +16,11 @@ pairs (o ∷ os) (d ∷ ds) = (o, d) ∷ pairs os ds
 
 -- the list: so many first entries of its buffer
 abbrev pub listIn : ℕ → SearchBuffers → List (ℕ × ℕ)
-listIn count b = take count (pairs (b .offsets) (b .distances))
+listIn count b = take count (pairs b.offsets b.distances)
 
 -- a search that kept its promise, through an index that passes the audit, and listed `count` matches
 pub record Searched (c : SearchCall) (count : ℕ) (list : List (ℕ × ℕ)) : Type 0 where
-  pub passes : Passes (c .index) (c .series)
+  pub passes : Passes c.index c.series
   pub before : SearchBuffers
   pub after : SearchBuffers
   pub candidates : ℕ
@@ -29,7 +29,7 @@ pub record Searched (c : SearchCall) (count : ℕ) (list : List (ℕ × ℕ)) : 
 
 -- the same search through another index
 abbrev pub through : Index → SearchCall → SearchCall
-through x c = record { series = c .series; index = x; query = c .query; ask = c .ask }
+through x c = record { series = c.series; index = x; query = c.query; ask = c.ask }
 
 -- what both searches list: the same, and that is exactly all matches
 pub record SameMatches (c : SearchCall) (count₁ count₂ : ℕ) (list₁ list₂ : List (ℕ × ℕ)) : Type 0 where

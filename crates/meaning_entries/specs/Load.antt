@@ -23,14 +23,14 @@ loadLines t rows runs =
     ∷ roomLines rows (length (textIndex t .rows)) runs (length (textIndex t .runs))
 
 unfoldable pub loadTable : List ℕ → IndexBuffers → List Condition
-loadTable t b = loadLines t (length (b .rows)) (runRoom b)
+loadTable t b = loadLines t (length b.rows) (runRoom b)
 
 abbrev pub loadRefusal : List ℕ → IndexBuffers → Option (ℕ × ℕ)
 loadRefusal t b = firstRefusal (loadTable t b)
 
 unfoldable pub loadAnswer : List ℕ → IndexBuffers → Loaded
 loadAnswer t b = elim (loadRefusal t b) [
-  | some r ↦ Loaded.Refused (r .0) (r .1)
+  | some r ↦ Loaded.Refused r.0 r.1
   | none ↦ Loaded.Index (headOf (textIndex t)) (length (textIndex t .rows)) (length (textIndex t .runs))
 ]
 

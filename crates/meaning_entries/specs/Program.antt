@@ -21,14 +21,14 @@ pub record ProgramCall : Type 0 where
 
 unfoldable pub programSaid : Value programForm → ProgramCall
 programSaid v =
-    let find = v .1 .1 .1 .1 in
+    let find = v.1.1.1.1 in
     record {
-      window = v .0;
-      width = v .1 .0;
-      merge = v .1 .1 .0;
-      series = v .1 .1 .1 .0;
-      query = find .1 .1 .1 .1 .1;
-      ask = record { kind = kindSaid (find .0); band = find .1 .0; threshold = find .1 .1 .0; scale = find .1 .1 .1 .0; shift = find .1 .1 .1 .1 .0 };
+      window = v.0;
+      width = v.1.0;
+      merge = v.1.1.0;
+      series = v.1.1.1.0;
+      query = find.1.1.1.1.1;
+      ask = record { kind = kindSaid find.0; band = find.1.0; threshold = find.1.1.0; scale = find.1.1.1.0; shift = find.1.1.1.1.0 };
     }
 
 -- the call that a text gives; of a text that cannot be read nothing is asked
@@ -48,11 +48,11 @@ textProgram t = elim (readText programForm t) [
 -- what refuses the call that a text gives, in order: build and search together
 unfoldable pub callLines : ProgramCall → List Condition
 callLines c =
-    let n = length (c .series) in
-    valueLines mostProgramValues (c .series) (c .query)
-    ++ (widthLines n (c .window) (c .width) (c .merge)
-    ++ (limitLines n (length (c .query)) (c .window) (c .ask)
-    ++ (flatQuery (c .ask .kind) (c .query) ∷ [])))
+    let n = length c.series in
+    valueLines mostProgramValues c.series c.query
+    ++ (widthLines n c.window c.width c.merge
+    ++ (limitLines n (length c.query) c.window c.ask
+    ++ (flatQuery c.ask.kind c.query ∷ [])))
 
 -- the refusals, in order
 unfoldable pub programTable : List ℕ → List Condition
@@ -60,18 +60,18 @@ programTable t = unreadable programForm 0 t ∷ callLines (textProgram t)
 
 -- the index that the program builds
 unfoldable pub programIndex : ProgramCall → Index
-programIndex c = buildIndex (record { series = c .series; window = c .window; width = c .width; merge = c .merge })
+programIndex c = buildIndex (record { series = c.series; window = c.window; width = c.width; merge = c.merge })
 
 -- the search through it
 abbrev pub programSearch : ProgramCall → SearchCall
-programSearch c = record { series = c .series; index = programIndex c; query = c .query; ask = c .ask }
+programSearch c = record { series = c.series; index = programIndex c; query = c.query; ask = c.ask }
 
 -- it prints the index, then the list
 unfoldable pub printed : ProgramCall → List ℕ
 printed c =
     let x = programSearch c in
-    indexText (x .index) ++ foundText (length (searchMatches x)) (searchCandidates x) (searchMatches x)
+    indexText x.index ++ foundText (length (searchMatches x)) (searchCandidates x) (searchMatches x)
 
 -- a refusal prints only `(refused N P)`
 unfoldable pub program : List ℕ → List ℕ
-program t = elim (firstRefusal (programTable t)) [ some r ↦ refusedText (r .0) (r .1) | none ↦ printed (textProgram t) ]
+program t = elim (firstRefusal (programTable t)) [ some r ↦ refusedText r.0 r.1 | none ↦ printed (textProgram t) ]

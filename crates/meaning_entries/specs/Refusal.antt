@@ -8,8 +8,8 @@ use lib.Signed.{ltZ}
 use mathlib.Core.Bool.{Bool, true, false, not, cond, _||_}
 use mathlib.Core.List.{List, [], _∷_}
 use mathlib.Core.Option.{Option, none, some}
-use Rattle.meaning_curves.specs.{Curve.at, Normal.flat}
 use Rattle.meaning_curves.specs.Limits.{lengthIn, windowIn, widthIn, mergeIn, queryLengthIn, bandIn, thresholdIn, scaleIn, shiftIn, firstOutside}
+use Rattle.meaning_curves.specs.{Curve.at, Normal.flat}
 use Rattle.meaning_rows.specs.{Index.Index, Judge.firstBadRow}
 use Rattle.meaning_filter.specs.{declared.Kind.Kind, declared.Kind.the-variants.Raw, declared.Kind.the-variants.Normal}
 use Rattle.meaning_text.specs.{Form.Form, Read.fine, Read.unfit, Read.readText, Read.lineOf}
@@ -22,7 +22,7 @@ pub record Condition : Type 0 where
 -- the first line that applies: its number and place
 unfoldable pub firstRefusal : List Condition → Option (ℕ × ℕ)
 firstRefusal [] = none
-firstRefusal (c ∷ l) = elim (c .place) [ some p ↦ some (c .number, p) | none ↦ firstRefusal l ]
+firstRefusal (c ∷ l) = elim c.place [ some p ↦ some (c.number, p) | none ↦ firstRefusal l ]
 
 -- the order in which the numbers are judged: texts are read first, then the lowest number wins
 unfoldable pub order : List ℕ
@@ -32,7 +32,7 @@ order = 12 ∷ 1 ∷ 2 ∷ 3 ∷ 4 ∷ 5 ∷ 6 ∷ 7 ∷ 8 ∷ 9 ∷ 10 ∷ 11 �
 unfoldable pub follows : List ℕ → List Condition → Bool
 follows o [] = true
 follows [] (c ∷ l) = false
-follows (n ∷ o) (c ∷ l) = cond (eqb n (c .number)) (follows (n ∷ o) l) (follows o (c ∷ l))
+follows (n ∷ o) (c ∷ l) = cond (eqb n c.number) (follows (n ∷ o) l) (follows o (c ∷ l))
 
 -- a condition with a place of its own
 abbrev pub atPlace : ℕ → Option ℕ → Condition
@@ -105,15 +105,15 @@ illFormed x = atPlace 20 (firstBadRow x)
 
 -- how many windows a series of n values has at the index's window length; below 1 where w is above n
 abbrev pub windowsOf : Index → ℕ → ℤ
-windowsOf x n = pos n -ℤ x .window +ℤ pos 1
+windowsOf x n = pos n -ℤ x.window +ℤ pos 1
 
 -- 21: fewer windows than the series
 unfoldable pub fewerWindows : Index → ℕ → Condition
-fewerWindows x n = atZero 21 (ltZ (x .windows) (windowsOf x n))
+fewerWindows x n = atZero 21 (ltZ x.windows (windowsOf x n))
 
 -- 22: more windows than the series
 unfoldable pub moreWindows : Index → ℕ → Condition
-moreWindows x n = atZero 22 (ltZ (windowsOf x n) (x .windows))
+moreWindows x n = atZero 22 (ltZ (windowsOf x n) x.windows)
 
 -- 23: a buffer too short, one that holds `room` entries where `needed` are
 unfoldable pub bufferShort : ℕ → ℕ → Condition

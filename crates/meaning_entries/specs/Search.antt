@@ -9,8 +9,8 @@ use mathlib.Core.Option.{Option, none, some}
 use Rattle.meaning_curves.specs.{Limits.mostValues, Curve.windowCount}
 use Rattle.meaning_rows.specs.{declared.Row.Row, declared.Head.Head, Index.Index, Index.lent}
 use Rattle.meaning_filter.specs.{declared.Kind.Kind, declared.Ask.Ask, Matches.Question, Matches.candidateRuns, Matches.candidateCount, Matches.matchList}
-use Rattle.meaning_entries.specs.{declared.Found.Found, Buffers.filled, Buffers.pairRoom}
 use Rattle.meaning_entries.specs.Refusal.{Condition, firstRefusal, valueOutside, queryLengthOutside, queryBelowWindow, bandOutside, thresholdOutside, scaleOrShiftOutside, flatQuery, illFormed, listShort, seriesLines, countLines, roomLines}
+use Rattle.meaning_entries.specs.{declared.Found.Found, Buffers.filled, Buffers.pairRoom}
 
 -- what is asked beside the query. Band b, threshold E, scale limit a, shift limit h are whole numbers, as a text may have any
 pub record Asking : Type 0 where
@@ -23,16 +23,16 @@ pub record Asking : Type 0 where
 -- what the code is asked
 abbrev pub lentAsk : Ask → Asking
 lentAsk a = record {
-  kind = a .kind;
-  band = pos (a .limits .band);
-  threshold = pos (a .limits .threshold);
-  scale = pos (a .limits .scale);
-  shift = pos (a .limits .shift);
+  kind = a.kind;
+  band = pos a.limits.band;
+  threshold = pos a.limits.threshold;
+  scale = pos a.limits.scale;
+  shift = pos a.limits.shift;
 }
 
 -- and back, of what is within its limits
 abbrev pub plainAsk : Asking → Ask
-plainAsk a = record { kind = a .kind; limits = record { band = natAbs (a .band); threshold = natAbs (a .threshold); scale = natAbs (a .scale); shift = natAbs (a .shift) } }
+plainAsk a = record { kind = a.kind; limits = record { band = natAbs a.band; threshold = natAbs a.threshold; scale = natAbs a.scale; shift = natAbs a.shift } }
 
 pub record SearchCall : Type 0 where
   pub series : List ℤ
@@ -57,15 +57,15 @@ searchBuffers left right scratch offsets distances = record { left = left; right
 
 -- what a call within its limits asks
 unfoldable pub question : SearchCall → Question
-question c = record { series = c .series; query = c .query; ask = plainAsk (c .ask) }
+question c = record { series = c.series; query = c.query; ask = plainAsk c.ask }
 
 -- the matches that the search lists
 abbrev pub searchMatches : SearchCall → List (ℕ × ℕ)
-searchMatches c = matchList (c .index) (question c)
+searchMatches c = matchList c.index (question c)
 
 -- how many entries the list holds
 abbrev pub listRoom : SearchBuffers → ℕ
-listRoom b = pairRoom (b .offsets) (b .distances)
+listRoom b = pairRoom b.offsets b.distances
 
 -- ---- the refusals
 
@@ -78,24 +78,24 @@ abbrev pub limitLines : ℕ → ℕ → ℤ → Asking → List Condition
 limitLines n m w a =
     queryLengthOutside m n
     ∷ queryBelowWindow m w
-    ∷ bandOutside m (a .band)
-    ∷ thresholdOutside (a .threshold)
-    ∷ scaleOrShiftOutside (a .scale) (a .shift)
+    ∷ bandOutside m a.band
+    ∷ thresholdOutside a.threshold
+    ∷ scaleOrShiftOutside a.scale a.shift
     ∷ []
 
 -- 21 to 23: the index's windows for a series of n values, and room for candidates and scratch
 abbrev pub windowLines : ℕ → Index → ℕ → ℕ → List Condition
-windowLines n x candidates scratch = let windows = windowCount n (natAbs (x .window)) in countLines n x ++ roomLines candidates windows scratch windows
+windowLines n x candidates scratch = let windows = windowCount n (natAbs x.window) in countLines n x ++ roomLines candidates windows scratch windows
 
 -- what refuses before the search looks, in order
 unfoldable pub searchPlan : SearchCall → SearchBuffers → List Condition
 searchPlan c b =
-    let n = length (c .series) in
-    valueLines mostValues (c .series) (c .query)
-    ++ (limitLines n (length (c .query)) (c .index .window) (c .ask)
-    ++ (flatQuery (c .ask .kind) (c .query)
-    ∷ illFormed (c .index)
-    ∷ windowLines n (c .index) (pairRoom (b .left) (b .right)) (length (b .scratch))))
+    let n = length c.series in
+    valueLines mostValues c.series c.query
+    ++ (limitLines n (length c.query) c.index.window c.ask
+    ++ (flatQuery c.ask.kind c.query
+    ∷ illFormed c.index
+    ∷ windowLines n c.index (pairRoom b.left b.right) (length b.scratch)))
 
 -- the refusals, in order: whether the list holds all matches is known only at the end
 unfoldable pub searchTable : SearchCall → SearchBuffers → List Condition
@@ -107,15 +107,15 @@ searchRefusal c b = firstRefusal (searchTable c b)
 -- a search that looked: not refused, or refused by 24 alone
 unfoldable pub looked : Option (ℕ × ℕ) → Bool
 looked none = true
-looked (some r) = eqb (r .0) 24
+looked (some r) = eqb r.0 24
 
 -- how many candidates there are
 abbrev pub searchCandidates : SearchCall → ℕ
-searchCandidates c = candidateCount (c .index) (question c)
+searchCandidates c = candidateCount c.index (question c)
 
 -- refused: number and place; but 24 gives both true counts
 unfoldable pub searchRefused : SearchCall → ℕ × ℕ → Found
-searchRefused c r = elim (eqb (r .0) 24) [ true ↦ Found.Full (searchCandidates c) (length (searchMatches c)) | false ↦ Found.Refused (r .0) (r .1) ]
+searchRefused c r = elim (eqb r.0 24) [ true ↦ Found.Full (searchCandidates c) (length (searchMatches c)) | false ↦ Found.Refused r.0 r.1 ]
 
 unfoldable pub searchAnswer : SearchCall → SearchBuffers → Found
 searchAnswer c b = elim (searchRefusal c b) [ some r ↦ searchRefused c r | none ↦ Found.All (searchCandidates c) (length (searchMatches c)) ]
@@ -127,14 +127,14 @@ searchCounts c b = elim (looked (searchRefusal c b)) [ true ↦ (searchCandidate
 -- candidates stand first in their buffer as joined runs, scratch is all 0, the list has the matches, or the first of them if it cannot hold all
 unfoldable pub lookedAfter : SearchCall → SearchBuffers → SearchBuffers
 lookedAfter c b =
-    let runs = candidateRuns (c .index) (question c) in
+    let runs = candidateRuns c.index (question c) in
     let list = take (listRoom b) (searchMatches c) in
     record {
-      left = filled 0 (map (λ x. x .0) runs) (b .left);
-      right = filled 0 (map (λ x. x .1) runs) (b .right);
-      scratch = filled 0 [] (b .scratch);
-      offsets = filled 0 (map (λ x. x .0) list) (b .offsets);
-      distances = filled 0 (map (λ x. x .1) list) (b .distances);
+      left = filled 0 (map (λ x. x.0) runs) b.left;
+      right = filled 0 (map (λ x. x.1) runs) b.right;
+      scratch = filled 0 [] b.scratch;
+      offsets = filled 0 (map (λ x. x.0) list) b.offsets;
+      distances = filled 0 (map (λ x. x.1) list) b.distances;
     }
 
 -- the buffers afterwards

@@ -15,7 +15,7 @@ abbrev pub writeRefusal : Index → List ℕ → Option (ℕ × ℕ)
 writeRefusal x text = firstRefusal (writeTable x text)
 
 unfoldable pub writeAnswer : Index → List ℕ → Written
-writeAnswer x text = elim (writeRefusal x text) [ some r ↦ Written.Refused (r .0) (r .1) | none ↦ Written.Text (length (indexText x)) ]
+writeAnswer x text = elim (writeRefusal x text) [ some r ↦ Written.Refused r.0 r.1 | none ↦ Written.Text (length (indexText x)) ]
 
 -- how many bytes were written; a refusal gives count 0
 unfoldable pub writeCount : Index → List ℕ → ℕ

@@ -1,8 +1,8 @@
 -- The envelope bound: what the values of s lie outside an envelope of q, squared and summed, is at most the total of any path within the band. By induction on the path: a step that keeps i adds something, and one that raises i adds (s(i) - q(j))², at least the square of the excess, as q(j) lies in the envelope at i.
 -- So the sum over the first n places alone is at most the distance (`distance-bound`), and a path's total is at least its total on reaching a row and the squared excesses after that row (`through`): a loop may stop once either passes the threshold.
 use Rattle.meaning_numbers.specs.Sum.{Σℕ, square}
-use Rattle.meaning_numbers.proofs.{Sum.Σℕ-fewer, Root.sq-le}
 use Rattle.meaning_numbers.proofs.Prelude.{_≡_, ℕ, suc, _+_, _-_, _<_, _≤_, max, arith, decLe, ℤ, pos, negsuc, _-ℤ_, natAbs, _≤ℤ_, up, dn, zarith, z-sub, z-abs}
+use Rattle.meaning_numbers.proofs.{Sum.Σℕ-fewer, Root.sq-le}
 use Rattle.meaning_curves.specs.{Straight.cost, Warp.Near, Warp.WarpPath, Warp.start, Warp.first, Warp.second, Warp.both, Match.distance}
 use Rattle.meaning_curves.proofs.Straight.{distance-least}
 use Rattle.meaning_filter.proofs.Envelope.{Envelope}
@@ -24,7 +24,7 @@ abbrev pub apart : (s L U : ℕ → ℤ) → ℕ → ℕ
 apart s L U k = square (excess (L k) (U k) (s k))
 
 pub apart-le : {q L U : ℕ → ℤ} {m b i j : ℕ} (s : ℕ → ℤ) → Envelope q m b L U → j < m → Near b i j → apart s L U i ≤ cost (s i) (q j)
-apart-le {i = i} {j} s e h n = sq-le (excess-le (s i) (e .low i j h n) (e .high i j h n))
+apart-le {i = i} {j} s e h n = sq-le (excess-le (s i) (e.low i j h n) (e.high i j h n))
 
 pub envelope-bound : {s q L U : ℕ → ℤ} {m b i j t : ℕ} → Envelope q m b L U → WarpPath s q b i j t → j < m → Σℕ (suc i) (apart s L U) ≤ t
 unfolding Σℕ
@@ -52,11 +52,11 @@ pub record Through (s q L U : ℕ → ℤ) (m b k i d : ℕ) : Type 0 where
 
 -- a step on in a row, and to the next row
 along : {s q L U : ℕ → ℤ} {m b k i d : ℕ} (c : ℕ) → Through s q L U m b k i d → Through s q L U m b k i (d + c)
-along c o = record { place = o .place; total = o .total; path = o .path; there = o .there; rest = omega arith }
+along c o = record { place = o.place; total = o.total; path = o.path; there = o.there; rest = omega arith }
 
 down : {s q L U : ℕ → ℤ} {m b k i d : ℕ} (c : ℕ) → apart s L U (suc i) ≤ c → Through s q L U m b k i d → Through s q L U m b k (suc i) (d + c)
 unfolding Σℕ
-down c h o = record { place = o .place; total = o .total; path = o .path; there = o .there; rest = omega arith }
+down c h o = record { place = o.place; total = o.total; path = o.path; there = o.there; rest = omega arith }
 
 -- a path that is in row k
 here : {s q L U : ℕ → ℤ} {m b k j d : ℕ} → WarpPath s q b k j d → j < m → Through s q L U m b k k d

@@ -8,7 +8,7 @@ use Rattle.meaning_filter.specs.{declared.Kind.Kind, declared.Kind.the-v
 use Rattle.meaning_filter.proofs.Open.{openFilter}
 
 samePair : ℕ × ℕ → ℕ × ℕ → Bool
-samePair x y = eqb (x .0) (y .0) && eqb (x .1) (y .1)
+samePair x y = eqb x.0 y.0 && eqb x.1 y.1
 
 -- the values of a curve at its first n places
 values : ℕ → (ℕ → ℤ) → List ℤ

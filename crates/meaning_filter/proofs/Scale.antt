@@ -2,8 +2,8 @@
 -- With u² ≤ A ≤ v² the root ρ of K² × A lies between K × u and K × v (`root-between`). So K × min(X × u, X × v) ≤ X × ρ ≤ (N - w) × ρ, by the sign of X, and with K = C + 1 all but C is a multiple of K: the rest C is less than one more (`cancel`).
 -- `low-scale` and `high-scale` say that document 01's u and v are such numbers.
 use Rattle.meaning_numbers.specs.{Sum.Σℤ, Sum.Σℕ, Sum.square, Root.IsRoot, Root.root, Order.minℤ, Order.maxℤ}
-use Rattle.meaning_numbers.proofs.{Root.root-is, Root.root-most, Root.le-of-sq-le, Order.minℤ-le, Order.maxℤ-le, Between.Between}
 use Rattle.meaning_numbers.proofs.Prelude.{ℕ, zero, suc, _+_, _*_, _/_, _<_, _≤_, arith, mul-le-mul-left, mul-le-mul-right, mul-pos, le-step, le-of-mul-le-mul-right, le-div-iff-mul-le, decLe, ℤ, pos, negsuc, _+ℤ_, _-ℤ_, _*ℤ_, _≤ℤ_, rep-self, rep-pos, rep-add, rep-sub, rep-mul, rep-le, le-rep, z-le}
+use Rattle.meaning_numbers.proofs.{Root.root-is, Root.root-most, Root.le-of-sq-le, Order.minℤ-le, Order.maxℤ-le, Between.Between}
 use Rattle.meaning_curves.specs.Normal.{IsCut, signed}
 use Rattle.meaning_filter.specs.Range.{lowScale, highScale}
 use Rattle.meaning_filter.proofs.Cut.{cut-range}
@@ -43,7 +43,7 @@ sum-high (suc w) H ρ n c t h =
 pub root-between : {A ρ : ℕ} (u v K : ℕ) → u * u ≤ A → A ≤ v * v → IsRoot (K * K * A) ρ → (K * u ≤ ρ) × (ρ ≤ K * v)
 root-between {A} {ρ} u v K hu hv i = (
   root-most i (omega (arith, mul-le-mul-left (K * K) hu)),
-  le-of-sq-le (omega (arith, i .low, mul-le-mul-left (K * K) hv)),
+  le-of-sq-le (omega (arith, i.low, mul-le-mul-left (K * K) hv)),
 )
 
 cancel : (C a b : ℕ) → (C + 1) * a ≤ (C + 1) * b + C → a ≤ b
@@ -111,8 +111,8 @@ module _ {A : ℕ} (w : ℕ) (c : ℕ → ℤ) (t : ℕ → ℕ) (cuts : (k : �
       let lo = minℤ-le _ _ in
       let hi = maxℤ-le _ _ in
       record {
-        low = scale-low C ρ u v X (Σℤ w c) (e .0) (e .1) hX (sum .low) (lo .0) (lo .1);
-        high = scale-high C ρ u v Y (Σℤ w c) (e .0) (e .1) hY (sum .high) (hi .0) (hi .1);
+        low = scale-low C ρ u v X (Σℤ w c) e.0 e.1 hX sum.low lo.0 lo.1;
+        high = scale-high C ρ u v Y (Σℤ w c) e.0 e.1 hY sum.high hi.0 hi.1;
       }
 
 -- ---- u and v of document 01: B is the spread of the query, A that of the stretch

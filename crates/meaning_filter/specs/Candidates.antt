@@ -9,13 +9,13 @@ use Rattle.meaning_rows.specs.{declared.Row.Row, Index.Index, Index.stands}
 
 -- a row is met by a range if low ≤ upper end and up > lower end
 abbrev pub met : ℤ × ℤ → Row → Bool
-met range r = leZ (r .low) (range .1) && ltZ (range .0) (r .up)
+met range r = leZ r.low range.1 && ltZ range.0 r.up
 
 -- window j stands in some row that the range meets
 abbrev pub admits : Index → ℤ × ℤ → ℕ → Bool
-admits x range j = any (λ r. met range r && stands x r j) (x .rows)
+admits x range j = any (λ r. met range r && stands x r j) x.rows
 
 -- each part's window, the first at offset j and each w further, stands in some row that the part's range meets
 unfoldable pub candidate : Index → List (ℤ × ℤ) → ℕ → Bool
 candidate x [] j = true
-candidate x (range ∷ rest) j = admits x range j && candidate x rest (j + natAbs (x .window))
+candidate x (range ∷ rest) j = admits x range j && candidate x rest (j + natAbs x.window)

@@ -19,29 +19,29 @@ pub record Question : Type 0 where
 
 -- m
 abbrev pub queryLength : Question → ℕ
-queryLength z = length (z .query)
+queryLength z = length z.query
 
 -- how many offsets there are: from 0 to n - m
 abbrev pub offsetCount : Question → ℕ
-offsetCount z = length (z .series) + 1 - queryLength z
+offsetCount z = length z.series + 1 - queryLength z
 
 -- a stretch matches a query
 unfoldable pub matches : Kind → (s q : ℕ → ℤ) → ℕ → Limits → Bool
-matches Raw s q m l = rawMatch s q m (l .band) (l .threshold)
-matches Normal s q m l = normalMatch s q m (l .band) (l .threshold) (l .scale) (l .shift)
+matches Raw s q m l = rawMatch s q m l.band l.threshold
+matches Normal s q m l = normalMatch s q m l.band l.threshold l.scale l.shift
 
 -- its distance (law: `listed-within`, that of a match is at most E)
 unfoldable pub distanceTo : Kind → (s q : ℕ → ℤ) → ℕ → Limits → ℕ
-distanceTo Raw s q m l = distance s q (l .band) m
-distanceTo Normal s q m l = normalDistance s q (l .band) m
+distanceTo Raw s q m l = distance s q l.band m
+distanceTo Normal s q m l = normalDistance s q l.band m
 
 -- the stretch of offset j matches
 abbrev pub matchesAt : Question → ℕ → Bool
-matchesAt z j = matches (z .ask .kind) (stretch (z .series) j) (at (z .query)) (queryLength z) (z .ask .limits)
+matchesAt z j = matches z.ask.kind (stretch z.series j) (at z.query) (queryLength z) z.ask.limits
 
 -- an entry of the list: an offset and its distance
 abbrev pub listed : Question → ℕ → ℕ × ℕ
-listed z j = (j, distanceTo (z .ask .kind) (stretch (z .series) j) (at (z .query)) (queryLength z) (z .ask .limits))
+listed z j = (j, distanceTo z.ask.kind (stretch z.series j) (at z.query) (queryLength z) z.ask.limits)
 
 -- all matches, ascending, with no index
 unfoldable pub allMatches : Question → List (ℕ × ℕ)
@@ -50,19 +50,19 @@ allMatches z = map (listed z) (keep (matchesAt z) (numbersFrom 0 (offsetCount z)
 -- the offsets of a list are at least k, ascending, each once
 pub data Upward : ℕ → List (ℕ × ℕ) → Type 0 where
   done : {k : ℕ} → Upward k []
-  next : {k : ℕ} {e : ℕ × ℕ} {l : List (ℕ × ℕ)} → k ≤ e .0 → Upward (suc (e .0)) l → Upward k (e ∷ l)
+  next : {k : ℕ} {e : ℕ × ℕ} {l : List (ℕ × ℕ)} → k ≤ e.0 → Upward (suc e.0) l → Upward k (e ∷ l)
 
 -- a list is exactly all matches: ascending, each once; an entry is an offset whose stretch matches, with its distance; and every such offset stands in it (law: `exactly-only`, there is one such list)
 pub record Exactly (z : Question) (l : List (ℕ × ℕ)) : Type 0 where
   pub ascending : Upward 0 l
-  pub only : (e : ℕ × ℕ) → Mem e l → (e .0 < offsetCount z) × T (matchesAt z (e .0)) × (e ≡ listed z (e .0))
+  pub only : (e : ℕ × ℕ) → Mem e l → (e.0 < offsetCount z) × T (matchesAt z e.0) × (e ≡ listed z e.0)
   pub every : (j : ℕ) → j < offsetCount z → T (matchesAt z j) → Mem (listed z j) l
 
 -- ---- through an index
 
 -- offset j is a candidate
 unfoldable pub candidateAt : Index → Question → ℕ → Bool
-candidateAt x z = candidate x (ranges (z .ask .kind) (at (z .query)) (queryLength z) (z .ask .limits) (natAbs (x .window)))
+candidateAt x z = candidate x (ranges z.ask.kind (at z.query) (queryLength z) z.ask.limits (natAbs x.window))
 
 -- the candidates as joined runs, and how many they are
 unfoldable pub candidateRuns : Index → Question → List (ℕ × ℕ)

@@ -57,9 +57,9 @@ normalHigh q m b E a h from w =
 
 -- the ends of the range of part i of a query of m values, which begins at place i × w
 unfoldable pub rangeOf : Kind → (ℕ → ℤ) → ℕ → Limits → ℕ → ℕ → ℤ × ℤ
-rangeOf Raw q m l w i = (rawLow q m (l .band) (l .threshold) (i * w) w, rawHigh q m (l .band) (l .threshold) (i * w) w)
+rangeOf Raw q m l w i = (rawLow q m l.band l.threshold (i * w) w, rawHigh q m l.band l.threshold (i * w) w)
 rangeOf Normal q m l w i =
-    (normalLow q m (l .band) (l .threshold) (l .scale) (l .shift) (i * w) w, normalHigh q m (l .band) (l .threshold) (l .scale) (l .shift) (i * w) w)
+    (normalLow q m l.band l.threshold l.scale l.shift (i * w) w, normalHigh q m l.band l.threshold l.scale l.shift (i * w) w)
 
 -- the ranges of all parts, in order
 unfoldable pub ranges : Kind → (ℕ → ℤ) → ℕ → Limits → ℕ → List (ℤ × ℤ)

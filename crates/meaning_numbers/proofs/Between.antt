@@ -12,8 +12,8 @@ pub record Between (x z y : ℤ) : Type 0 where
 
 pub within-yes : (x y z : ℤ) → T (within x y z) → Between x z y
 unfolding within
-within-yes x y z t = let h = two-tests (leZ x z) (leZ z y) t in record { low = leZ-yes (h .0); high = leZ-yes (h .1) }
+within-yes x y z t = let h = two-tests (leZ x z) (leZ z y) t in record { low = leZ-yes h.0; high = leZ-yes h.1 }
 
 pub yes-within : {x z y : ℤ} → Between x z y → T (within x y z)
 unfolding within
-yes-within {x} {z} {y} b = both-tests (leZ x z) (leZ z y) (b .low .le) (b .high .le)
+yes-within {x} {z} {y} b = both-tests (leZ x z) (leZ z y) b.low.le b.high.le

@@ -28,8 +28,8 @@ pub kept-mem : {A : Type 0} (p : A → Bool) {x : A} (l : List A) → Mem x (kee
 unfolding keep
 kept-mem p [] m = absurd (not-nil m)
 kept-mem {A} p {x} (y ∷ l) m = by-test (p y)
-    (λ t. ⊎-elim (λ e. (here e, rw e (subst T (sym t) tt))) (λ n. let h = kept-mem p l n in (there (h .0), h .1)) (cases (rw t at m)))
-    (λ f. let h = kept-mem p l (rw f at m) in (there (h .0), h .1))
+    (λ t. ⊎-elim (λ e. (here e, rw e (subst T (sym t) tt))) (λ n. let h = kept-mem p l n in (there h.0, h.1)) (cases (rw t at m)))
+    (λ f. let h = kept-mem p l (rw f at m) in (there h.0, h.1))
 
 pub mem-kept : {A : Type 0} (p : A → Bool) {x : A} {l : List A} → Mem x l → T (p x) → Mem x (keep p l)
 unfolding keep

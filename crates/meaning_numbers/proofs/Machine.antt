@@ -33,7 +33,7 @@ is-false true h = absurd (h tt)
 is-false false h = refl
 
 pub lt-ltZ : {a b : ℤ} → a <ℤ b → ltZ a b ≡ true
-lt-ltZ h = is-true _ (h .lt)
+lt-ltZ h = is-true _ h.lt
 
 pub le-ltZ : {a b : ℤ} → b ≤ℤ a → ltZ a b ≡ false
 le-ltZ h = is-false _ (λ t. clashℤ (ltZ-yes t) h)

@@ -33,10 +33,10 @@ module _ {A : Type 0} where
   any-found p [] e = absurd (false≢true e)
   any-found p (x ∷ l) e = by-test (p x)
       (λ t. record { entry = x; is = here refl; passes = t })
-      (λ f. let r = any-found p l (rw f at e) in record { entry = r .entry; is = there (r .is); passes = r .passes })
+      (λ f. let r = any-found p l (rw f at e) in record { entry = r.entry; is = there r.is; passes = r.passes })
 
   pub any-none : (p : A → Bool) (l : List A) → ((x : A) → Mem x l → p x ≡ false) → any p l ≡ false
-  any-none p l h = by-test (any p l) (λ t. let r = any-found p l t in clash (r .passes) (h (r .entry) (r .is))) (λ f. f)
+  any-none p l h = by-test (any p l) (λ t. let r = any-found p l t in clash r.passes (h r.entry r.is)) (λ f. f)
 
   pub none-any : (p : A → Bool) {x : A} {l : List A} → any p l ≡ false → Mem x l → p x ≡ false
   none-any p {x} f m = by-test (p x) (λ t. clash (any-mem p m t) f) (λ g. g)
@@ -67,7 +67,7 @@ All P (x ∷ l) = P x × All P l
 pub all-mem : {A : Type 0} (P : A → Type 0) {x : A} (l : List A) → All P l → Mem x l → P x
 unfolding All
 all-mem P [] a m = absurd (not-nil m)
-all-mem P (y ∷ l) a m = ⊎-elim (λ e. subst P (sym e) (a .0)) (λ n. all-mem P l (a .1) n) (cases m)
+all-mem P (y ∷ l) a m = ⊎-elim (λ e. subst P (sym e) a.0) (λ n. all-mem P l a.1 n) (cases m)
 
 pub mem-all : {A : Type 0} (P : A → Type 0) (l : List A) → ((x : A) → Mem x l → P x) → All P l
 unfolding All
@@ -86,7 +86,7 @@ pub record Image {A B : Type 0} (f : A → B) (l : List A) (y : B) : Type 0 wher
 pub map-mem : {A B : Type 0} (f : A → B) {y : B} (l : List A) → Mem y (map f l) → Image f l y
 map-mem f [] m = absurd (not-nil m)
 map-mem f (x ∷ l) m = ⊎-elim (λ e. record { entry = x; is = here refl; same = e })
-    (λ n. let r = map-mem f l n in record { entry = r .entry; is = there (r .is); same = r .same }) (cases m)
+    (λ n. let r = map-mem f l n in record { entry = r.entry; is = there r.is; same = r.same }) (cases m)
 
 pub any-map : {A B : Type 0} (p : B → Bool) (f : A → B) (l : List A) → any p (map f l) ≡ any (λ x. p (f x)) l
 unfolding any

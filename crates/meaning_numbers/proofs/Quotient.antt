@@ -42,6 +42,6 @@ ceil-is z d h =
     let F = rep-self f in
     let Z = rep-self z in
     let i = floor-is (negℤ z) d h in
-    let a = le-rep (rep-mul F (rep-pos d)) (rep-neg Z) (i .0) in
-    let b = lt-rep (rep-neg Z) (rep-mul (rep-add F (rep-pos 1)) (rep-pos d)) (i .1) in
+    let a = le-rep (rep-mul F (rep-pos d)) (rep-neg Z) i.0 in
+    let b = lt-rep (rep-neg Z) (rep-mul (rep-add F (rep-pos 1)) (rep-pos d)) i.1 in
     (rep-le Z (rep-mul (rep-neg F) (rep-pos d)) (omega arith), rep-lt (rep-mul (rep-sub (rep-neg F) (rep-pos 1)) (rep-pos d)) Z (omega arith))

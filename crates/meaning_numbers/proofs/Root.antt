@@ -23,7 +23,7 @@ pub root-most : {x y r : ℕ} → IsRoot y r → x * x ≤ y → x ≤ r
 root-most {x} {y} {r} i h = le-of-sq (omega arith)
 
 pub root-only : {y r t : ℕ} → IsRoot y r → IsRoot y t → r ≡ t
-root-only {y} {r} {t} i k = omega (arith, root-most i (k .low), root-most k (i .low))
+root-only {y} {r} {t} i k = omega (arith, root-most i k.low, root-most k i.low)
 
 -- ---- the root by bits
 

@@ -4,31 +4,31 @@ use Rattle.meaning_numbers.specs.{Sum.bit, Place.any}
 use Rattle.meaning_numbers.proofs.Count.{bit-true}
 use Rattle.meaning_numbers.proofs.Member.{any-mem, any-map, mem-map, All, all-mem, mem-all, map-mem}
 use Rattle.meaning_numbers.proofs.Prelude.{_≡_, refl, sym, ap, _∙_, subst, _⊎_, inl, inr, ⊎-elim, Bool, true, false, _&&_, or-true, List, [], _∷_, map, List·Memᴰ as Mem, List·Memᴰ·head as here, List·Memᴰ·tail as there, List·Memᴰ·not-nil as not-nil, List·Memᴰ·cases-cons as cases, ℕ, zero, suc, _+_, _*_, _<_, _≤_, arith, le-step, decLt, ltb, length, length-map, length-append, ℤ, _≤ℤ_, _<ℤ_, ltZ, ≤ℤ-refl, lt-ltb, le-ltb, ltb-true, zarith, ltZ-true, ltZ-false, lt-ltZ, le-ltZ, by-test, clash}
-use Rattle.meaning_rows.specs.{Range.rowNumber, Range.lowOf, Range.upOf, Range.inside, Runs.runs, Runs.runCount, Index.RangeRow, Index.inRun, Index.allRuns}
 use Rattle.meaning_rows.specs.Build.{SetRow, insert, rowNumbers, rowAt, filed, join, takes, upward, merged, entry, withRuns, builtRows}
+use Rattle.meaning_rows.specs.{Range.rowNumber, Range.lowOf, Range.upOf, Range.inside, Runs.runs, Runs.runCount, Index.RangeRow, Index.inRun, Index.allRuns}
 use Rattle.meaning_rows.proofs.Runs.{runs-le-count, runs-hold, held, entries-of-runs}
 use Rattle.meaning_rows.proofs.Range.{inside-yes, is-inside, inside-join, widen, next-le, row-after, row-before, in-own}
 use Rattle.meaning_rows.proofs.Times.{Range, Ascending, holders, holders-are, times, sizes, sizes-all}
 
 abbrev pub range : SetRow → Range
-range r = (r .low, r .up)
+range r = (r.low, r.up)
 
 -- the sets of rows
 abbrev pub sets : List SetRow → List (ℕ → Bool)
-sets l = map (λ r. r .has) l
+sets l = map (λ r. r.has) l
 
 -- some row's range holds z
 abbrev pub covered : ℤ → List SetRow → Bool
-covered z l = any (λ r. inside (r .low) (r .up) z) l
+covered z l = any (λ r. inside r.low r.up z) l
 
 -- the row has j exactly if its range holds z
 abbrev pub Exact : ℤ → ℕ → SetRow → Type 0
-Exact z j r = r .has j ≡ inside (r .low) (r .up) z
+Exact z j r = r.has j ≡ inside r.low r.up z
 
 exact-times : (z : ℤ) (j : ℕ) (rows : List SetRow) → All (Exact z j) rows → times (sets rows) j ≡ holders (map range rows) z
 unfolding All times holders
 exact-times z j [] h = refl
-exact-times z j (r ∷ rest) h = rw (h .0, exact-times z j rest (h .1))
+exact-times z j (r ∷ rest) h = rw (h.0, exact-times z j rest h.1)
 
 -- where rows ascend and one holds its sum, an offset stands in one row
 pub exact-once : (a z : ℤ) (j : ℕ) (rows : List SetRow) → Ascending a (map range rows) → All (Exact z j) rows → covered z rows ≡ true → times (sets rows) j ≡ 1
@@ -37,8 +37,8 @@ exact-once a z j rows p h e = exact-times z j rows h ∙ holders-are a z _ p ∙
 -- ---- rows that tile the windows
 
 pub record Fine (sum : ℕ → ℤ) (n : ℕ) (r : SetRow) : Type 0 where
-  pub wide : r .low <ℤ r .up
-  pub exact : (j : ℕ) → j < n → r .has j ≡ inside (r .low) (r .up) (sum j)
+  pub wide : r.low <ℤ r.up
+  pub exact : (j : ℕ) → j < n → r.has j ≡ inside r.low r.up (sum j)
 
 -- from one row's up to the next one's low: in order, and no window between
 pub record Gap (sum : ℕ → ℤ) (n : ℕ) (up low : ℤ) : Type 0 where
@@ -47,7 +47,7 @@ pub record Gap (sum : ℕ → ℤ) (n : ℕ) (up low : ℤ) : Type 0 where
 
 unfoldable pub Chain : (ℕ → ℤ) → ℕ → SetRow → List SetRow → Type 0
 Chain sum n r [] = Fine sum n r
-Chain sum n r (s ∷ rest) = Fine sum n r × Gap sum n (r .up) (s .low) × Chain sum n s rest
+Chain sum n r (s ∷ rest) = Fine sum n r × Gap sum n r.up s.low × Chain sum n s rest
 
 unfoldable pub Tiled : (ℕ → ℤ) → ℕ → List SetRow → Type 0
 Tiled sum n [] = Unit {0}
@@ -55,7 +55,7 @@ Tiled sum n (r ∷ rest) = Chain sum n r rest
 
 unfoldable From : (ℕ → ℤ) → ℕ → ℤ → List SetRow → Type 0
 From sum n low [] = ⊥
-From sum n low (r ∷ rest) = (r .low ≡ low) × Chain sum n r rest
+From sum n low (r ∷ rest) = (r.low ≡ low) × Chain sum n r rest
 
 pub upward-yes : (g n : ℕ) (r s : SetRow) (rest : List SetRow) → takes g n r s ≡ true → upward g n r (s ∷ rest) ≡ upward g n (join r s) rest
 unfolding upward
@@ -68,7 +68,7 @@ upward-no g n r s rest f = rw (f, upward)
 from-tiled : (sum : ℕ → ℤ) (n : ℕ) (low : ℤ) (rows : List SetRow) → From sum n low rows → Tiled sum n rows
 unfolding From Tiled
 from-tiled sum n low [] h = tt
-from-tiled sum n low (r ∷ rest) h = h .1
+from-tiled sum n low (r ∷ rest) h = h.1
 
 -- ---- merging keeps it
 
@@ -76,33 +76,33 @@ module _ (sum : ℕ → ℤ) (n : ℕ) where
   fine-first : (r : SetRow) (rest : List SetRow) → Chain sum n r rest → Fine sum n r
   unfolding Chain
   fine-first r [] c = c
-  fine-first r (s ∷ rest) c = c .0
+  fine-first r (s ∷ rest) c = c.0
 
-  fine-join : (r s : SetRow) → Fine sum n r → Fine sum n s → Gap sum n (r .up) (s .low) → Fine sum n (join r s)
+  fine-join : (r s : SetRow) → Fine sum n r → Fine sum n s → Gap sum n r.up s.low → Fine sum n (join r s)
   unfolding join
   fine-join r s f g gap =
-      let o = gap .order in
+      let o = gap.order in
       record {
         wide = omega zarith;
-        exact = λ j l. rw (f .exact j l, g .exact j l) (inside-join _ (r .up) _ (s .up) (sum j) (omega zarith) o (omega zarith) (gap .none j l));
+        exact = λ j l. rw (f.exact j l, g.exact j l) (inside-join _ r.up _ s.up (sum j) (omega zarith) o (omega zarith) (gap.none j l));
       }
 
   chain-join : (r s : SetRow) (rest : List SetRow) → Chain sum n r (s ∷ rest) → Chain sum n (join r s) rest
   unfolding Chain join
-  chain-join r s [] c = fine-join r s (c .0) (c .2) (c .1)
-  chain-join r s (t ∷ rest) c = (fine-join r s (c .0) (c .2 .0) (c .1), c .2 .1, c .2 .2)
+  chain-join r s [] c = fine-join r s c.0 c.2 c.1
+  chain-join r s (t ∷ rest) c = (fine-join r s c.0 c.2.0 c.1, c.2.1, c.2.2)
 
-  chain-cons : (r : SetRow) (low : ℤ) (rows : List SetRow) → Fine sum n r → Gap sum n (r .up) low → From sum n low rows → Chain sum n r rows
+  chain-cons : (r : SetRow) (low : ℤ) (rows : List SetRow) → Fine sum n r → Gap sum n r.up low → From sum n low rows → Chain sum n r rows
   unfolding Chain From
   chain-cons r low [] f g h = absurd h
-  chain-cons r low (s ∷ rest) f g h = (f, rw (h .0) g, h .1)
+  chain-cons r low (s ∷ rest) f g h = (f, rw h.0 g, h.1)
 
-  upward-from : (g : ℕ) (r : SetRow) (rest : List SetRow) → Chain sum n r rest → From sum n (r .low) (upward g n r rest)
+  upward-from : (g : ℕ) (r : SetRow) (rest : List SetRow) → Chain sum n r rest → From sum n r.low (upward g n r rest)
   unfolding upward From Chain join
   upward-from g r [] c = (refl, c)
   upward-from g r (s ∷ rest) c = by-test _
       (λ t. rw (upward-yes g n r s rest t) (upward-from g _ rest (chain-join r s rest c)))
-      (λ f. rw (upward-no g n r s rest f) (refl, chain-cons r _ (upward g n s rest) (c .0) (c .1) (upward-from g s rest (c .2))))
+      (λ f. rw (upward-no g n r s rest f) (refl, chain-cons r _ (upward g n s rest) c.0 c.1 (upward-from g s rest c.2)))
 
   pub merged-tiled : (g : ℕ) (rows : List SetRow) → Tiled sum n rows → Tiled sum n (merged g n rows)
   unfolding merged Tiled
@@ -113,18 +113,18 @@ module _ (sum : ℕ → ℤ) (n : ℕ) where
   join-covers : (z : ℤ) (r s : SetRow) (rest : List SetRow) → Chain sum n r (s ∷ rest) → covered z (r ∷ s ∷ rest) ≡ true → covered z (join r s ∷ rest) ≡ true
   unfolding any join Chain
   join-covers z r s rest c e =
-      let b = fine-first s rest (c .2) .wide in by-test _
-      (λ t. let i = is-inside _ (r .up) z t in let k = i .0 in let l = i .1 in rw (inside-yes (r .low) (s .up) z k (omega zarith)))
+      let b = fine-first s rest c.2 .wide in by-test _
+      (λ t. let i = is-inside _ r.up z t in let k = i.0 in let l = i.1 in rw (inside-yes r.low s.up z k (omega zarith)))
       (λ f. by-test _
-      (λ t. let i = is-inside (s .low) (s .up) z t in let k = i .0 in let l = i .1 in rw (inside-yes (r .low) (s .up) z (omega zarith) l))
-      (λ g. let k : covered z rest ≡ true = rw (f, g) at e in rw k (or-true (inside (r .low) (s .up) z))))
+      (λ t. let i = is-inside s.low s.up z t in let k = i.0 in let l = i.1 in rw (inside-yes r.low s.up z (omega zarith) l))
+      (λ g. let k : covered z rest ≡ true = rw (f, g) at e in rw k (or-true (inside r.low s.up z))))
 
   upward-covers : (g : ℕ) (z : ℤ) (r : SetRow) (rest : List SetRow) → Chain sum n r rest → covered z (r ∷ rest) ≡ true → covered z (upward g n r rest) ≡ true
   unfolding upward any Chain
   upward-covers g z r [] c e = e
   upward-covers g z r (s ∷ rest) c e = by-test _
       (λ t. rw (upward-yes g n r s rest t) (upward-covers g z _ rest (chain-join r s rest c) (join-covers z r s rest c e)))
-      (λ f. rw (upward-no g n r s rest f) (by-test (inside (r .low) (r .up) z) (λ t. rw t) (λ u. rw u (upward-covers g z s rest (c .2) (rw u at e)))))
+      (λ f. rw (upward-no g n r s rest f) (by-test (inside r.low r.up z) (λ t. rw t) (λ u. rw u (upward-covers g z s rest c.2 (rw u at e)))))
 
   pub merged-covers : (g : ℕ) (z : ℤ) (rows : List SetRow) → Tiled sum n rows → covered z rows ≡ true → covered z (merged g n rows) ≡ true
   unfolding merged Tiled
@@ -132,15 +132,15 @@ module _ (sum : ℕ → ℤ) (n : ℕ) where
   merged-covers g z (r ∷ rest) t e = upward-covers g z r rest t e
 
   -- tiled rows ascend, and each is fine
-  chain-ascends : (a : ℤ) (r : SetRow) (rest : List SetRow) → a ≤ℤ r .low → Chain sum n r rest → Ascending a (map range (r ∷ rest)) × All (Fine sum n) (r ∷ rest)
+  chain-ascends : (a : ℤ) (r : SetRow) (rest : List SetRow) → a ≤ℤ r.low → Chain sum n r rest → Ascending a (map range (r ∷ rest)) × All (Fine sum n) (r ∷ rest)
   unfolding Chain Ascending All
-  chain-ascends a r [] h c = ((h, c .wide, tt), (c, tt))
-  chain-ascends a r (s ∷ rest) h c = let k = chain-ascends (r .up) s rest (c .1 .order) (c .2) in ((h, c .0 .wide, k .0), (c .0, k .1))
+  chain-ascends a r [] h c = ((h, c.wide, tt), (c, tt))
+  chain-ascends a r (s ∷ rest) h c = let k = chain-ascends r.up s rest c.1.order c.2 in ((h, c.0.wide, k.0), (c.0, k.1))
 
-  pub tiled-ascends : (a : ℤ) (rows : List SetRow) → All (λ r. a ≤ℤ r .low) rows → Tiled sum n rows → Ascending a (map range rows)
+  pub tiled-ascends : (a : ℤ) (rows : List SetRow) → All (λ r. a ≤ℤ r.low) rows → Tiled sum n rows → Ascending a (map range rows)
   unfolding Tiled Ascending All
   tiled-ascends a [] h t = tt
-  tiled-ascends a (r ∷ rest) h t = chain-ascends a r rest (h .0) t .0
+  tiled-ascends a (r ∷ rest) h t = chain-ascends a r rest h.0 t .0
 
   pub tiled-fine : (rows : List SetRow) → Tiled sum n rows → All (Fine sum n) rows
   unfolding Tiled All
@@ -152,7 +152,7 @@ module _ (sum : ℕ → ℤ) (n : ℕ) where
   tiled-once j b [] t e = clash e refl
   tiled-once j b (r ∷ rest) t e =
       let k = chain-ascends _ r rest (≤ℤ-refl _) t in
-      exact-once _ (sum j) j _ (k .0) (mem-all _ _ (λ q m. all-mem _ _ (k .1) m .exact j b)) e
+      exact-once _ (sum j) j _ k.0 (mem-all _ _ (λ q m. all-mem _ _ k.1 m .exact j b)) e
 
 -- ---- what both rows of a join have, it has
 
@@ -161,13 +161,13 @@ module _ (P : SetRow → Type 0) (joins : (r s : SetRow) → P r → P s → P (
   unfolding upward All
   upward-all r [] o a = (o, tt)
   upward-all r (s ∷ rest) o a = by-test _
-      (λ t. rw (upward-yes g n r s rest t) (upward-all _ rest (joins r s o (a .0)) (a .1)))
-      (λ f. rw (upward-no g n r s rest f) (o, upward-all s rest (a .0) (a .1)))
+      (λ t. rw (upward-yes g n r s rest t) (upward-all _ rest (joins r s o a.0) a.1))
+      (λ f. rw (upward-no g n r s rest f) (o, upward-all s rest a.0 a.1))
 
   pub merged-all : (rows : List SetRow) → All P rows → All P (merged g n rows)
   unfolding merged All
   merged-all [] a = tt
-  merged-all (r ∷ rest) a = upward-all r rest (a .0) (a .1)
+  merged-all (r ∷ rest) a = upward-all r rest a.0 a.1
 
 upward-length : (g n : ℕ) (r : SetRow) (rest : List SetRow) → length (upward g n r rest) ≤ suc (length rest)
 unfolding upward
@@ -194,12 +194,12 @@ Sorted (x ∷ l) = Above x l × Sorted l
 above-less : (k x : ℤ) (l : List ℤ) → k <ℤ x → Above x l → Above k l
 unfolding Above
 above-less k x [] h a = tt
-above-less k x (y ∷ l) h a = (omega zarith, above-less k x l h (a .1))
+above-less k x (y ∷ l) h a = (omega zarith, above-less k x l h a.1)
 
 pub mem-above : (z x : ℤ) (l : List ℤ) → Above x l → Mem z l → x <ℤ z
 unfolding Above
 mem-above z x [] a m = absurd (not-nil m)
-mem-above z x (y ∷ l) a m = ⊎-elim (λ e. rw e (a .0)) (λ n. mem-above z x l (a .1) n) (cases m)
+mem-above z x (y ∷ l) a m = ⊎-elim (λ e. rw e a.0) (λ n. mem-above z x l a.1 n) (cases m)
 
 -- by the three cases of an insertion
 insert-lt : (k x : ℤ) (l : List ℤ) → k <ℤ x → insert k (x ∷ l) ≡ k ∷ x ∷ l
@@ -223,15 +223,15 @@ unfolding Above insert
 above-insert x k [] h a = (h, tt)
 above-insert x k (y ∷ l) h a = three k y
     (λ b. rw (insert-lt k y l b) (h, a))
-    (λ b. rw (insert-gt k y l b) (a .0, above-insert x k l h (a .1)))
+    (λ b. rw (insert-gt k y l b) (a.0, above-insert x k l h a.1))
     (λ b. rw (insert-eq k y l b) a)
 
 pub insert-sorted : (k : ℤ) (l : List ℤ) → Sorted l → Sorted (insert k l)
 unfolding Sorted insert Above
 insert-sorted k [] s = (tt, tt)
 insert-sorted k (y ∷ l) s = three k y
-    (λ b. rw (insert-lt k y l b) ((b, above-less k y l b (s .0)), s))
-    (λ b. rw (insert-gt k y l b) (above-insert y k l b (s .0), insert-sorted k l (s .1)))
+    (λ b. rw (insert-lt k y l b) ((b, above-less k y l b s.0), s))
+    (λ b. rw (insert-gt k y l b) (above-insert y k l b s.0, insert-sorted k l s.1))
     (λ b. rw (insert-eq k y l b) s)
 
 pub insert-mem : (k : ℤ) (l : List ℤ) → Mem k (insert k l)
@@ -295,7 +295,7 @@ unfolding rowNumbers
 numbers-occur sum d zero z m = absurd (not-nil m)
 numbers-occur sum d (suc n) z m = ⊎-elim
     (λ e. record { at = n; below = omega arith; is = sym e })
-    (λ o. let r = numbers-occur sum d n z o in record { at = r .at; below = le-step (r .below); is = r .is })
+    (λ o. let r = numbers-occur sum d n z o in record { at = r.at; below = le-step r.below; is = r.is })
     (insert-only z _ _ m)
 
 -- two ascending lists with the same members are the same
@@ -306,12 +306,12 @@ sorted-unique [] (y ∷ m) s t f g = absurd (not-nil (g y (here refl)))
 sorted-unique (x ∷ l) [] s t f g = absurd (not-nil (f x (here refl)))
 sorted-unique (x ∷ l) (y ∷ m) s t f g =
     let e = ⊎-elim (λ e. e) (λ o. ⊎-elim (λ e. sym e)
-    (λ n. let a = mem-above x y m (t .0) o in let b : x <ℤ y = mem-above y x l (s .0) n in absurd (omega zarith)) (cases (g y (here refl)))) (cases (f x (here refl))) in
+    (λ n. let a = mem-above x y m t.0 o in let b : x <ℤ y = mem-above y x l s.0 n in absurd (omega zarith)) (cases (g y (here refl)))) (cases (f x (here refl))) in
     cc (
       e,
-      sorted-unique l m (s .1) (t .1)
-          (λ z o. ⊎-elim (λ q. let a = mem-above z x l (s .0) o in absurd (omega zarith)) (λ n. n) (cases (f z (there o))))
-          (λ z o. ⊎-elim (λ q. let a : y <ℤ z = mem-above z y m (t .0) o in absurd (omega zarith)) (λ n. n) (cases (g z (there o)))),
+      sorted-unique l m s.1 t.1
+          (λ z o. ⊎-elim (λ q. let a = mem-above z x l s.0 o in absurd (omega zarith)) (λ n. n) (cases (f z (there o))))
+          (λ z o. ⊎-elim (λ q. let a : y <ℤ z = mem-above z y m t.0 o in absurd (omega zarith)) (λ n. n) (cases (g z (there o)))),
     )
 
 -- ---- no row is empty
@@ -319,28 +319,28 @@ sorted-unique (x ∷ l) (y ∷ m) s t f g =
 pub record Occupied (n : ℕ) (r : SetRow) : Type 0 where
   pub at : ℕ
   pub below : at < n
-  pub member : r .has at ≡ true
+  pub member : r.has at ≡ true
 
 occupied-join : (n : ℕ) (r s : SetRow) → Occupied n r → Occupied n s → Occupied n (join r s)
 unfolding join
-occupied-join n r s o q = record { at = o .at; below = o .below; member = rw (o .member) }
+occupied-join n r s o q = record { at = o.at; below = o.below; member = rw o.member }
 
 some-held : (l : List (ℕ × ℕ)) (j : ℕ) → held l j ≡ true → 1 ≤ length l
 unfolding held
 some-held [] j e = clash e refl
 some-held (x ∷ l) j e = omega arith
 
-pub occupied-runs : (n : ℕ) (r : SetRow) → Occupied n r → 1 ≤ runCount (r .has) n
-occupied-runs n r o = some-held _ (o .at) (runs-hold _ n (o .at) ∙ rw (lt-ltb (o .at) n (o .below), o .member))
+pub occupied-runs : (n : ℕ) (r : SetRow) → Occupied n r → 1 ≤ runCount r.has n
+occupied-runs n r o = some-held _ o.at (runs-hold _ n o.at ∙ rw (lt-ltb o.at n o.below, o.member))
 
 -- both ends of a range are so
 pub record Ends (P : ℤ → Type 0) (r : SetRow) : Type 0 where
-  pub low-end : P (r .low)
-  pub up-end : P (r .up)
+  pub low-end : P r.low
+  pub up-end : P r.up
 
 ends-join : (P : ℤ → Type 0) (r s : SetRow) → Ends P r → Ends P s → Ends P (join r s)
 unfolding join
-ends-join P r s o q = record { low-end = o .low-end; up-end = q .up-end }
+ends-join P r s o q = record { low-end = o.low-end; up-end = q.up-end }
 
 -- runs are at most as many as members
 pub runs-sizes : (n : ℕ) (rows : List SetRow) → length (allRuns (map (withRuns n) rows)) ≤ sizes (sets rows) n
@@ -348,9 +348,9 @@ unfolding allRuns withRuns sizes
 runs-sizes n [] = omega arith
 runs-sizes n (r ∷ rows) = omega (
   arith,
-  length-append (map entry (runs (r .has) n)) (allRuns (map (withRuns n) rows)),
-  length-map (runs (r .has) n) entry,
-  runs-le-count (r .has) n,
+  length-append (map entry (runs r.has n)) (allRuns (map (withRuns n) rows)),
+  length-map (runs r.has n) entry,
+  runs-le-count r.has n,
   runs-sizes n rows,
 )
 
@@ -371,16 +371,16 @@ module _ (sum : ℕ → ℤ) (d n : ℕ) (one : 0 < d) where
   unfolding Chain Sorted Above rowAt
   filed-chain k [] s m = fine-at k
   filed-chain k (l ∷ ks) s m =
-      let k<l : k <ℤ l = s .0 .0 in (
+      let k<l : k <ℤ l = s.0.0 in (
         fine-at k,
         record {
           order = next-le d k l k<l;
           none = λ j b h t. let up : k <ℤ rowNumber d (sum j) = row-after d k (sum j) one h in
               let dn : rowNumber d (sum j) <ℤ l = row-before d l (sum j) one t in
               ⊎-elim (λ low. omega zarith)
-              (λ o. ⊎-elim (λ e. omega zarith) (λ q. let x : l <ℤ rowNumber d (sum j) = mem-above _ l ks (s .1 .0) q in omega zarith) (cases o)) (m j b);
+              (λ o. ⊎-elim (λ e. omega zarith) (λ q. let x : l <ℤ rowNumber d (sum j) = mem-above _ l ks s.1.0 q in omega zarith) (cases o)) (m j b);
         },
-        filed-chain l ks (s .1) (λ j b. ⊎-elim (λ low. inl (omega zarith)) (λ o. ⊎-elim (λ e. inl (omega zarith)) (λ q. inr q) (cases o)) (m j b)),
+        filed-chain l ks s.1 (λ j b. ⊎-elim (λ low. inl (omega zarith)) (λ o. ⊎-elim (λ e. inl (omega zarith)) (λ q. inr q) (cases o)) (m j b)),
       )
 
   tiled-of : (ks : List ℤ) → Sorted ks → ((j : ℕ) → j < n → Mem (rowNumber d (sum j)) ks) → Tiled sum n (map (rowAt sum d) ks)
@@ -394,14 +394,14 @@ module _ (sum : ℕ → ℤ) (d n : ℕ) (one : 0 < d) where
 
   pub filed-covers : (j : ℕ) → j < n → covered (sum j) (filed sum d n) ≡ true
   unfolding filed rowAt
-  filed-covers j b = any-mem (λ r. inside _ (r .up) (sum j)) (mem-map _ (numbers-mem sum d n j b)) (in-own d (sum j) one)
+  filed-covers j b = any-mem (λ r. inside _ r.up (sum j)) (mem-map _ (numbers-mem sum d n j b)) (in-own d (sum j) one)
 
   filed-all : (P : SetRow → Type 0) → ((j : ℕ) → j < n → P (rowAt sum d (rowNumber d (sum j)))) → All P (filed sum d n)
   unfolding filed
   filed-all P h = mem-all P _ (λ r m.
       let i = map-mem _ _ m in
-      let o = numbers-occur sum d n _ (i .is) in
-      subst P (sym (i .same ∙ ap (rowAt sum d) (sym (o .is)))) (h (o .at) (o .below)))
+      let o = numbers-occur sum d n _ i.is in
+      subst P (sym (i.same ∙ ap (rowAt sum d) (sym o.is))) (h o.at o.below))
 
   module _ (g : ℕ) where
     pub built-tiled : Tiled sum n (mergedRows sum d g n)
@@ -423,14 +423,14 @@ module _ (sum : ℕ → ℤ) (d n : ℕ) (one : 0 < d) where
     built-ends P h = merged-all _ (ends-join P) g n _ (filed-all _ (λ j b. record { low-end = h j b .0; up-end = h j b .1 }))
 
     -- a row of a build has exactly the windows whose sums its range holds
-    pub built-holds : (r : RangeRow) (j : ℕ) → Mem r (builtRows sum d g n) → any (inRun j) (r .runs) ≡ (ltb j n && inside (r .low) (r .up) (sum j))
+    pub built-holds : (r : RangeRow) (j : ℕ) → Mem r (builtRows sum d g n) → any (inRun j) r.runs ≡ (ltb j n && inside r.low r.up (sum j))
     unfolding builtRows withRuns
     built-holds r j m =
         let i = map-mem _ _ m in
-        let q = i .entry in
-        let f = all-mem _ _ (tiled-fine sum n _ built-tiled) (i .is) in
-        subst (λ (t : RangeRow). any (inRun j) (t .runs) ≡ (ltb j n && inside (t .low) (t .up) (sum j))) (sym (i .same))
-        (entries-of-runs (q .has) n j ∙ by-test (ltb j n) (λ t. rw (t, f .exact j (ltb-true j n t))) (λ u. rw u))
+        let q = i.entry in
+        let f = all-mem _ _ (tiled-fine sum n _ built-tiled) i.is in
+        subst (λ (t : RangeRow). any (inRun j) t.runs ≡ (ltb j n && inside t.low t.up (sum j))) (sym i.same)
+        (entries-of-runs q.has n j ∙ by-test (ltb j n) (λ t. rw (t, f.exact j (ltb-true j n t))) (λ u. rw u))
 
     pub built-length : length (builtRows sum d g n) ≤ n
     unfolding builtRows filed

@@ -7,11 +7,11 @@ use Rattle.meaning_rows.proofs.Open.{openRows}
 -- rows as a flat list of numbers: low, up, how many runs, and the runs
 flatRuns : List Entry → List ℤ
 flatRuns [] = []
-flatRuns (e ∷ l) = e .0 ∷ e .1 ∷ flatRuns l
+flatRuns (e ∷ l) = e.0 ∷ e.1 ∷ flatRuns l
 
 flatRows : List RangeRow → List ℤ
 flatRows [] = []
-flatRows (r ∷ l) = r .low ∷ r .up ∷ pos (length (r .runs)) ∷ (flatRuns (r .runs) ++ flatRows l)
+flatRows (r ∷ l) = r.low ∷ r.up ∷ pos (length r.runs) ∷ (flatRuns r.runs ++ flatRows l)
 
 isIndex : Index → List ℤ → Bool
 isIndex x l = sameList sameℤ (flatRows (rangeRows x)) l
@@ -27,7 +27,7 @@ badAt : Index → Option ℕ → Bool
 badAt x o = elim (firstBadRow x) [ none ↦ elim o [ none ↦ true | some k ↦ false ] | some p ↦ elim o [ none ↦ false | some k ↦ eqb p k ] ]
 
 wrongAt : Index → List ℤ → ℕ → ℕ → Bool
-wrongAt x s k j = elim (firstWrong x s) [ none ↦ false | some f ↦ eqb (f .0) k && eqb (f .1) j ]
+wrongAt x s k j = elim (firstWrong x s) [ none ↦ false | some f ↦ eqb f.0 k && eqb f.1 j ]
 
 missingOf : Index → List ℤ → ℕ → Bool
 missingOf x s n = elim (firstWrong x s) [ none ↦ eqb (missing x) n | some f ↦ false ]

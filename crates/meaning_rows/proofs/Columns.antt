@@ -7,11 +7,11 @@ use Rattle.meaning_rows.proofs.Runs.{runs-none, runs-more, runCount-mor
 -- the two columns of runs
 unfoldable pub lefts : List (ℕ × ℕ) → List ℕ
 lefts [] = []
-lefts (x ∷ l) = x .0 ∷ lefts l
+lefts (x ∷ l) = x.0 ∷ lefts l
 
 unfoldable pub rights : List (ℕ × ℕ) → List ℕ
 rights [] = []
-rights (x ∷ l) = x .1 ∷ rights l
+rights (x ∷ l) = x.1 ∷ rights l
 
 pub lefts-reach : (l : List (ℕ × ℕ)) (n : ℕ) → lefts (reach l n) ≡ lefts l
 unfolding lefts reach
@@ -27,12 +27,12 @@ rights-reach (x ∷ y ∷ l) n =
     let e : length (x ∷ y ∷ l) - 1 ≡ suc (length (y ∷ l) - 1) = omega arith in
     rw e (rw (rights-reach (y ∷ l) n))
 
-pub lefts-end : (l : List (ℕ × ℕ)) (x : ℕ × ℕ) → lefts (l ++ (x ∷ [])) ≡ lefts l ++ (x .0 ∷ [])
+pub lefts-end : (l : List (ℕ × ℕ)) (x : ℕ × ℕ) → lefts (l ++ (x ∷ [])) ≡ lefts l ++ (x.0 ∷ [])
 unfolding lefts
 lefts-end [] x = refl
 lefts-end (y ∷ l) x = rw (lefts-end l x)
 
-pub rights-end : (l : List (ℕ × ℕ)) (x : ℕ × ℕ) → rights (l ++ (x ∷ [])) ≡ rights l ++ (x .1 ∷ [])
+pub rights-end : (l : List (ℕ × ℕ)) (x : ℕ × ℕ) → rights (l ++ (x ∷ [])) ≡ rights l ++ (x.1 ∷ [])
 unfolding rights
 rights-end [] x = refl
 rights-end (y ∷ l) x = rw (rights-end l x)
@@ -108,17 +108,17 @@ filling-starts p left₀ right₀ = record {
 
 module _ {p : ℕ → Bool} {left₀ right₀ : List ℕ} {j k : ℕ} {prev : Bool} {left right : List ℕ} (f : Filling p left₀ right₀ j k prev left right) where
   runs-long : length (runs p j) ≡ k
-  runs-long = sym (f .count-is)
+  runs-long = sym f.count-is
 
   pub filling-left : k ≤ length left₀ → length left ≡ length left₀
-  filling-left h = omega (arith, runs-long, ap length (f .left-is), length-append (lefts (runs p j)) (drop k left₀), length-lefts (runs p j), length-drop k left₀)
+  filling-left h = omega (arith, runs-long, ap length f.left-is, length-append (lefts (runs p j)) (drop k left₀), length-lefts (runs p j), length-drop k left₀)
 
   pub filling-right : k ≤ length right₀ → length right ≡ length right₀
-  filling-right h = omega (arith, runs-long, ap length (f .right-is), length-append (rights (runs p j)) (drop k right₀), length-rights (runs p j), length-drop k right₀)
+  filling-right h = omega (arith, runs-long, ap length f.right-is, length-append (rights (runs p j)) (drop k right₀), length-rights (runs p j), length-drop k right₀)
 
   module _ {here : Bool} (is : here ≡ p j) where
     next-count : k + bit (here && not prev) ≡ runCount p (j + 1)
-    next-count = rw (is, f .prev-is, f .count-is) (sym (runCount-more p j))
+    next-count = rw (is, f.prev-is, f.count-is) (sym (runCount-more p j))
 
     module _ {W : ℕ} (below : j < W) (room : runCount p W ≤ length left₀) (room′ : runCount p W ≤ length right₀) where
       fits-left : k + bit (here && not prev) ≤ length left₀
@@ -128,7 +128,7 @@ module _ {p : ℕ → Bool} {left₀ right₀ : List ℕ} {j k : ℕ} {prev : Bo
       fits-right = omega (arith, next-count, runCount-mono p (j + 1) W (omega arith))
 
       prev-le : bit prev ≤ k
-      prev-le = rw (f .prev-is, f .count-is) (before-some p j)
+      prev-le = rw (f.prev-is, f.count-is) (before-some p j)
 
       -- what it ensures is the next turn's invariant
       pub filling-next : {k′ : ℕ} {left′ right′ : List ℕ} → k′ ≡ k + bit (here && not prev) → left′ ≡ putLeft here prev left k j → right′ ≡ putRight here prev right k j
@@ -136,8 +136,8 @@ module _ {p : ℕ → Bool} {left₀ right₀ : List ℕ} {j k : ℕ} {prev : Bo
       filling-next ek el er = record {
         prev-is = is ∙ sym (before-more p j);
         count-is = ek ∙ next-count;
-        left-is = el ∙ rw (f .left-is, put-left here prev _ left₀ k j runs-long fits-left, runs-more p j, ← is, ← f .prev-is, ek);
-        right-is = er ∙ rw (f .right-is, put-right here prev _ right₀ k j runs-long fits-right prev-le, runs-more p j, ← is, ← f .prev-is, ek);
+        left-is = el ∙ rw (f.left-is, put-left here prev _ left₀ k j runs-long fits-left, runs-more p j, ← is, ← f.prev-is, ek);
+        right-is = er ∙ rw (f.right-is, put-right here prev _ right₀ k j runs-long fits-right prev-le, runs-more p j, ← is, ← f.prev-is, ek);
       }
 
 pub getD-past : (o : Row) (l : List Row) (i : ℕ) → length l ≤ i → getD l i o ≡ o

@@ -69,8 +69,8 @@ module _ (R W : ℕ) (P : ℕ → ℕ → Bool) (first : ℕ → ℕ) where
     -- another row's entries lie before or after this row's part
     away : (k u : ℕ) → k < R → (k ≡ i → ⊥) → u < runCount (P k) W → (first k + u < first i) ⊎ (first i + n ≤ first k + u)
     away k u h f m = elim (decLt k i) [
-      | yes l ↦ inl (omega (arith, laid .apart k i l iR))
-      | no g ↦ let l : i < k = elim (decLt i k) [ yes l ↦ l | no q ↦ absurd (f (omega arith)) ] in inr (omega (arith, laid .apart i k l h))
+      | yes l ↦ inl (omega (arith, laid.apart k i l iR))
+      | no g ↦ let l : i < k = elim (decLt i k) [ yes l ↦ l | no q ↦ absurd (f (omega arith)) ] in inr (omega (arith, laid.apart i k l h))
     ]
 
     -- an entry of another row is not written
@@ -87,7 +87,7 @@ module _ (R W : ℕ) (P : ℕ → ℕ → Bool) (first : ℕ → ℕ) where
         cursor-mine : (k : ℕ) → k ≡ i → runCount (P k) (from + suc d) < runCount (P k) W → getD (fileRight right (first i) n t v) (first k + runCount (P k) W - 1) 0 ≡ runCount (P k) (from + suc d)
         cursor-mine k q m =
             let m′ : runCount (P i) (from + suc d) < n = rw q at m in
-            rw q (filed-cursor right _ n t v (omega (arith, one-more)) (omega (arith, laid .room i iR)) ∙ sym one-more)
+            rw q (filed-cursor right _ n t v (omega (arith, one-more)) (omega (arith, laid.room i iR)) ∙ sym one-more)
 
         cursor-away : (k : ℕ) → k < R → (k ≡ i → ⊥) → runCount (P k) (from + suc d) < runCount (P k) W
             → getD (fileRight right (first i) n t v) (first k + runCount (P k) W - 1) 0 ≡ runCount (P k) (from + suc d)
@@ -96,7 +96,7 @@ module _ (R W : ℕ) (P : ℕ → ℕ → Bool) (first : ℕ → ℕ) where
             let u = runCount (P k) W - 1 in
             let e : first k + runCount (P k) W - 1 ≡ first k + u = omega arith in
             let less : u < runCount (P k) W = omega arith in
-            let was = c .cursor k h (omega (arith, stay)) in
+            let was = c.cursor k h (omega (arith, stay)) in
             rw e (filed-other right (first i) n t v _ (not-here k u h f less) (not-last k u h f less) ∙ (rw e at was) ∙ sym stay)
 
     -- the run's entry is what f and g make of its ends
@@ -114,7 +114,7 @@ module _ (R W : ℕ) (P : ℕ → ℕ → Bool) (first : ℕ → ℕ) where
         stay k h q = stay-runs (P k) from (suc d) (λ j a l. others j k a l h q)
 
         room : first i + n ≤ total
-        room = laid .room i iR
+        room = laid.room i iR
 
         -- entry u of a column with one more behind it
         ending : (xs : List ℕ) (v u : ℕ) → length xs ≡ t → u < t + 1 → ((u ≡ t) × (getD (xs ++ (v ∷ [])) u 0 ≡ v)) ⊎ ((u < t) × (getD (xs ++ (v ∷ [])) u 0 ≡ getD xs u 0))
@@ -127,16 +127,16 @@ module _ (R W : ℕ) (P : ℕ → ℕ → Bool) (first : ℕ → ℕ) where
         left-mine k u q m =
             let m′ : u < t + 1 = omega (arith, ap (λ (x : ℕ). runCount (P x) (from + suc d)) q, one-more) in
             rw (q, mine-runs, lefts-end _ (from, from + d)) (⊎-elim
-            (λ a. rw (a .1, a .0) (getD-set-same left _ _ 0 (omega (arith, room, some-left))))
-            (λ a. rw (a .1) (getD-set-other left (first i + t) (first i + u) (f from) 0 (λ e. omega (arith, a .0)) ∙ p .left-as i u iR (a .0)))
+            (λ a. rw (a.1, a.0) (getD-set-same left _ _ 0 (omega (arith, room, some-left))))
+            (λ a. rw a.1 (getD-set-other left (first i + t) (first i + u) (f from) 0 (λ e. omega (arith, a.0)) ∙ p.left-as i u iR a.0))
             (ending (lefts (runs (P i) from)) from u (length-lefts (runs (P i) from)) m′))
 
         right-mine : (k u : ℕ) → k ≡ i → u < runCount (P k) (from + suc d) → getD (fileRight right (first i) n t (g (from + d))) (first k + u) 0 ≡ g (getD (rights (runs (P k) (from + suc d))) u 0)
         right-mine k u q m =
             let m′ : u < t + 1 = omega (arith, ap (λ (x : ℕ). runCount (P x) (from + suc d)) q, one-more) in
             rw (q, mine-runs, rights-end _ (from, from + d)) (filed-inner right _ n t _ u m′ ∙ ⊎-elim
-            (λ a. rw (a .1, a .0) (getD-set-same right _ _ 0 (omega (arith, room, some-left))))
-            (λ a. rw (a .1) (getD-set-other right (first i + t) (first i + u) (g (from + d)) 0 (λ e. omega (arith, a .0)) ∙ p .right-as i u iR (a .0)))
+            (λ a. rw (a.1, a.0) (getD-set-same right _ _ 0 (omega (arith, room, some-left))))
+            (λ a. rw a.1 (getD-set-other right (first i + t) (first i + u) (g (from + d)) 0 (λ e. omega (arith, a.0)) ∙ p.right-as i u iR a.0))
             (ending (rights (runs (P i) from)) (from + d) u (length-rights (runs (P i) from)) m′))
 
         below : (k u : ℕ) → k < R → (k ≡ i → ⊥) → u < runCount (P k) (from + suc d) → (u < runCount (P k) from) × (u < runCount (P k) W)
@@ -145,16 +145,16 @@ module _ (R W : ℕ) (P : ℕ → ℕ → Bool) (first : ℕ → ℕ) where
         left-away : (k u : ℕ) → (k ≡ i → ⊥) → k < R → u < runCount (P k) (from + suc d) → getD (set left (first i + t) (f from)) (first k + u) 0 ≡ f (getD (lefts (runs (P k) (from + suc d))) u 0)
         left-away k u q h m =
             let b = below k u h q m in
-            rw (stay k h q) (getD-set-other left (first i + t) (first k + u) _ 0 (not-here k u h q (b .1)) ∙ p .left-as k u h (b .0))
+            rw (stay k h q) (getD-set-other left (first i + t) (first k + u) _ 0 (not-here k u h q b.1) ∙ p.left-as k u h b.0)
 
         right-away : (k u : ℕ) → (k ≡ i → ⊥) → k < R → u < runCount (P k) (from + suc d) → getD (fileRight right (first i) n t (g (from + d))) (first k + u) 0 ≡ g (getD (rights (runs (P k) (from + suc d))) u 0)
         right-away k u q h m =
             let b = below k u h q m in
-            rw (stay k h q) (filed-other right (first i) n t (g (from + d)) _ (not-here k u h q (b .1)) (not-last k u h q (b .1)) ∙ p .right-as k u h (b .0))
+            rw (stay k h q) (filed-other right (first i) n t (g (from + d)) _ (not-here k u h q b.1) (not-last k u h q b.1) ∙ p.right-as k u h b.0)
 
     -- the run itself is filed
     pub filed-run : (left right : List ℕ) → total ≤ length left → total ≤ length right → Parts R W P first from left right → Cursors from right
         → Parts R W P first (from + suc d) (set left (first i + t) from) (fileRight right (first i) n t (from + d)) × Cursors (from + suc d) (fileRight right (first i) n t (from + d))
     filed-run left right rl rr start c =
-        let p = filed-as (λ x. x) (λ x. x) left right rl rr (record { left-as = start .left-is; right-as = start .right-is }) in
-        (record { left-is = p .left-as; right-is = p .right-as }, cursors-run right (from + d) rr c)
+        let p = filed-as (λ x. x) (λ x. x) left right rl rr (record { left-as = start.left-is; right-as = start.right-is }) in
+        (record { left-is = p.left-as; right-is = p.right-as }, cursors-run right (from + d) rr c)

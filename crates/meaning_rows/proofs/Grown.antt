@@ -4,8 +4,8 @@ use Rattle.meaning_numbers.specs.{Sum.bit, Place.any}
 use Rattle.meaning_numbers.proofs.Member.{All, all-mem, mem-all}
 use Rattle.meaning_numbers.proofs.Prelude.{_≡_, refl, sym, ap, _∙_, subst, Bool, true, false, not, _&&_, List, [], _∷_, ℕ, zero, suc, _+_, _-_, _<_, _≤_, min, arith, leb, eqb, ℤ, pos, natAbs, length, getD, length-map, List·getD-map, getD-take, getD-drop, leb-true, le-leb, lt-leb, eq-eqb, ne-eqb, by-test}
 use Rattle.meaning_rows.specs.{declared.Row.Row, Runs.before, Runs.runs, Runs.runCount, Index.Index, Index.Entry, Index.entries, Index.runsOf, Index.inRun, Build.entry, Extend.grown}
-use Rattle.meaning_rows.proofs.{Columns.lefts, Columns.rights, Columns.runCount-none, Judge.GoodRuns, Judge.WellFormed, Judge.length-runsOf, Judge.each-row, Extend.grown-old, Woven.newRow, Woven.woven, Woven.all-woven}
 use Rattle.meaning_rows.proofs.Runs.{Apart, Next, entries-hold, runs-cong, apart-runs, runs-next, runCount-more, before-none, before-more}
+use Rattle.meaning_rows.proofs.{Columns.lefts, Columns.rights, Columns.runCount-none, Judge.GoodRuns, Judge.WellFormed, Judge.length-runsOf, Judge.each-row, Extend.grown-old, Woven.newRow, Woven.woven, Woven.all-woven}
 
 -- ---- the runs of a set from an offset on
 
@@ -60,7 +60,7 @@ module _ (p : ℕ → Bool) (old : ℕ) where
 
 -- the row's last run in the right column ends right before j
 unfoldable pub lastEnds : Row → List ℕ → ℕ → Bool
-lastEnds r right j = leb 1 (r .runs) && eqb (getD right (r .first + r .runs - 1) 0 + 1) j
+lastEnds r right j = leb 1 r.runs && eqb (getD right (r.first + r.runs - 1) 0 + 1) j
 
 last-next : (b : Bool) (l : List (ℕ × ℕ)) (n : ℕ) → Next b l n → b ≡ (leb 1 (length l) && eqb (getD (rights l) (length l - 1) 0 + 1) n)
 unfolding Next rights
@@ -76,34 +76,34 @@ last-next b (x ∷ y ∷ l) n h =
 
 -- a record whose part of the run buffer has good runs below the window count: an old row, or a new one, which has none
 pub record Begun (x : Index) (r : Row) : Type 0 where
-  pub fits : r .first + r .runs ≤ length (x .runs)
-  pub good : GoodRuns (natAbs (x .windows)) 0 (runsOf x r)
+  pub fits : r.first + r.runs ≤ length x.runs
+  pub good : GoodRuns (natAbs x.windows) 0 (runsOf x r)
 
 begun-new : (x : Index) (d : ℕ) (k : ℤ) → Begun x (newRow d k)
 unfolding newRow Apart
 begun-new x d k = record { fits = omega arith; good = record { plain = []; is = refl; apart = tt } }
 
-pub begun-woven : (x : Index) → WellFormed x → (d : ℕ) (ks : List ℤ) → All (Begun x) (woven d (x .rows) ks)
+pub begun-woven : (x : Index) → WellFormed x → (d : ℕ) (ks : List ℤ) → All (Begun x) (woven d x.rows ks)
 begun-woven x g d ks = all-woven d _ _ ks
-    (mem-all _ _ (λ r m. let o = all-mem _ _ (each-row x g) m in record { fits = o .fits; good = o .good })) (λ k m. begun-new x d k)
+    (mem-all _ _ (λ r m. let o = all-mem _ _ (each-row x g) m in record { fits = o.fits; good = o.good })) (λ k m. begun-new x d k)
 
 module _ (x : Index) (sum : ℕ → ℤ) (r : Row) (b : Begun x r) where
   abbrev old : ℕ
-  old = natAbs (x .windows)
+  old = natAbs x.windows
 
   abbrev has : ℕ → Bool
   has = grown x sum old r .has
 
   -- below the old window count the row has its old runs
-  pub old-runs : runs has old ≡ b .good .plain
+  pub old-runs : runs has old ≡ b.good.plain
   old-runs =
-      let m = b .good .plain in
-      runs-cong has _ old (λ j l. grown-old x sum old r j l ∙ ap (λ (l : List Entry). any (inRun j) l) (b .good .is) ∙ entries-hold m j) ∙ apart-runs old 0 m (b .good .apart)
+      let m = b.good.plain in
+      runs-cong has _ old (λ j l. grown-old x sum old r j l ∙ ap (λ (l : List Entry). any (inRun j) l) b.good.is ∙ entries-hold m j) ∙ apart-runs old 0 m b.good.apart
 
-  pub old-size : length (b .good .plain) ≡ r .runs
-  old-size = sym (length-map (b .good .plain) entry) ∙ ap length (sym (b .good .is)) ∙ length-runsOf x r (b .fits)
+  pub old-size : length b.good.plain ≡ r.runs
+  old-size = sym (length-map b.good.plain entry) ∙ ap length (sym b.good.is) ∙ length-runsOf x r b.fits
 
-  pub old-count : runCount has old ≡ r .runs
+  pub old-count : runCount has old ≡ r.runs
   old-count = ap length old-runs ∙ old-size
 
 -- ---- the two columns
@@ -133,33 +133,33 @@ rights-at [] i = refl
 rights-at (x ∷ l) zero = refl
 rights-at (x ∷ l) (suc i) = rights-at l i
 
-module _ (x : Index) (left right : List ℕ) (is : x .runs ≡ entries left right) (r : Row) (b : Begun x r) where
+module _ (x : Index) (left right : List ℕ) (is : x.runs ≡ entries left right) (r : Row) (b : Begun x r) where
   abbrev plain : List (ℕ × ℕ)
-  plain = b .good .plain
+  plain = b.good.plain
 
-  own-entry : (t : ℕ) → t < r .runs → _≡_ {A = Entry} (pos (getD left (r .first + t) 0), pos (getD right (r .first + t) 0)) (entry (getD plain t (0, 0)))
+  own-entry : (t : ℕ) → t < r.runs → _≡_ {A = Entry} (pos (getD left (r.first + t) 0), pos (getD right (r.first + t) 0)) (entry (getD plain t (0, 0)))
   own-entry t l =
-      sym (entry-at left right _ (omega (arith, b .fits, ap length is)))
-      ∙ ap (λ (m : List Entry). getD m (r .first + t) (pos 0, pos 0)) (sym is)
-      ∙ sym (getD-drop _ (x .runs) t (pos 0, pos 0)) ∙ sym (getD-take _ _ t (pos 0, pos 0) l)
-      ∙ ap (λ (m : List Entry). getD m t (pos 0, pos 0)) (b .good .is) ∙ List·getD-map entry plain t (0, 0)
+      sym (entry-at left right _ (omega (arith, b.fits, ap length is)))
+      ∙ ap (λ (m : List Entry). getD m (r.first + t) (pos 0, pos 0)) (sym is)
+      ∙ sym (getD-drop _ x.runs t (pos 0, pos 0)) ∙ sym (getD-take _ _ t (pos 0, pos 0) l)
+      ∙ ap (λ (m : List Entry). getD m t (pos 0, pos 0)) b.good.is ∙ List·getD-map entry plain t (0, 0)
 
   -- the row's part of each column is that of its old runs
-  pub left-at : (t : ℕ) → t < r .runs → getD left (r .first + t) 0 ≡ getD (lefts plain) t 0
-  left-at t l = ap (λ (e : Entry). natAbs (e .0)) (own-entry t l) ∙ sym (lefts-at plain t)
+  pub left-at : (t : ℕ) → t < r.runs → getD left (r.first + t) 0 ≡ getD (lefts plain) t 0
+  left-at t l = ap (λ (e : Entry). natAbs e.0) (own-entry t l) ∙ sym (lefts-at plain t)
 
-  pub right-at : (t : ℕ) → t < r .runs → getD right (r .first + t) 0 ≡ getD (rights plain) t 0
-  right-at t l = ap (λ (e : Entry). natAbs (e .1)) (own-entry t l) ∙ sym (rights-at plain t)
+  pub right-at : (t : ℕ) → t < r.runs → getD right (r.first + t) 0 ≡ getD (rights plain) t 0
+  right-at t l = ap (λ (e : Entry). natAbs e.1) (own-entry t l) ∙ sym (rights-at plain t)
 
   -- the offset before the first new one is the row's exactly if its last run ends there
-  pub joins-old : (sum : ℕ → ℤ) → before (grown x sum (natAbs (x .windows)) r .has) (natAbs (x .windows)) ≡ lastEnds r right (natAbs (x .windows))
+  pub joins-old : (sum : ℕ → ℤ) → before (grown x sum (natAbs x.windows) r .has) (natAbs x.windows) ≡ lastEnds r right (natAbs x.windows)
   unfolding lastEnds
   joins-old sum =
-      let n = natAbs (x .windows) in
+      let n = natAbs x.windows in
       let p = grown x sum n r .has in
       let size = old-size x sum r b in
       last-next (before p n) plain n (subst (λ (l : List (ℕ × ℕ)). Next (before p n) l n) (old-runs x sum r b) (runs-next p n))
-      ∙ rw size (by-test (leb 1 (r .runs)) (λ t. rw t (ends (leb-true 1 (r .runs) t))) (λ f. rw f))
+      ∙ rw size (by-test (leb 1 r.runs) (λ t. rw t (ends (leb-true 1 r.runs t))) (λ f. rw f))
     where
-      ends : 1 ≤ r .runs → eqb (getD (rights plain) (r .runs - 1) 0 + 1) (natAbs (x .windows)) ≡ eqb (getD right (r .first + r .runs - 1) 0 + 1) (natAbs (x .windows))
-      ends h = let e : r .first + r .runs - 1 ≡ r .first + (r .runs - 1) = omega arith in rw (e, right-at (r .runs - 1) (omega arith))
+      ends : 1 ≤ r.runs → eqb (getD (rights plain) (r.runs - 1) 0 + 1) (natAbs x.windows) ≡ eqb (getD right (r.first + r.runs - 1) 0 + 1) (natAbs x.windows)
+      ends h = let e : r.first + r.runs - 1 ≡ r.first + (r.runs - 1) = omega arith in rw (e, right-at (r.runs - 1) (omega arith))

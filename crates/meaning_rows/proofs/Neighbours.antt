@@ -2,7 +2,8 @@
 use Rattle.meaning_numbers.specs.Sum.{bit, count}
 use Rattle.meaning_numbers.proofs.Prelude.{_≡_, refl, ap, Bool, true, false, not, _&&_, _||_, List, [], _∷_, _++_, ℕ, zero, suc, _+_, _<_, arith, le-step, clash}
 use Rattle.meaning_rows.specs.Runs.{before, reach, takeIn, runs, runCount}
-use Rattle.meaning_rows.proofs.{Runs.Next, Runs.runs-next, Runs.begins, Runs.crosses, Runs.either, Runs.before-apart, Runs.runs-union, Columns.lefts, Columns.rights, Columns.lefts-reach, Columns.lefts-end, Columns.rights-end}
+use Rattle.meaning_rows.proofs.Runs.{Next, runs-next, begins, crosses, either, before-apart, runs-union}
+use Rattle.meaning_rows.proofs.Columns.{lefts, rights, lefts-reach, lefts-end, rights-end}
 
 unfoldable pub sumOver : (ℕ → ℕ) → List ℕ → ℕ
 sumOver f [] = 0
@@ -38,7 +39,7 @@ module _ (p : ℕ → Bool) where
   reach-sum : (xs : List (ℕ × ℕ)) (n : ℕ) → Next true xs n → sumOver post (rights (reach xs n)) + bit (p n) ≡ sumOver post (rights xs) + bit (p (suc n))
   unfolding reach rights sumOver Next
   reach-sum [] n h = absurd h
-  reach-sum (x ∷ []) n h = let e : suc (x .1) ≡ n = omega arith in omega (arith, ap (λ (k : ℕ). bit (p k)) e)
+  reach-sum (x ∷ []) n h = let e : suc x.1 ≡ n = omega arith in omega (arith, ap (λ (k : ℕ). bit (p k)) e)
   reach-sum (x ∷ y ∷ xs) n h = omega (arith, reach-sum (y ∷ xs) n h)
 
   ends : (ℕ → Bool) → ℕ → Bool

@@ -37,7 +37,7 @@ run-count p from (suc d) e h =
     let s : bit (p (from + suc d) && not (before p (from + suc d))) ≡ 0 = rw (h (from + suc d) (omega arith) (omega arith), b) in
     rw q (omega (arith, runCount-more p (from + suc d), s, run-count p from d e (λ j a l. h j a (omega arith))))
 
-reach-end : (l : List (ℕ × ℕ)) (x : ℕ × ℕ) (n : ℕ) → reach (l ++ (x ∷ [])) n ≡ l ++ ((x .0, n) ∷ [])
+reach-end : (l : List (ℕ × ℕ)) (x : ℕ × ℕ) (n : ℕ) → reach (l ++ (x ∷ [])) n ≡ l ++ ((x.0, n) ∷ [])
 unfolding reach
 reach-end [] x n = refl
 reach-end (y ∷ []) x n = refl

@@ -78,8 +78,8 @@ row-holds d z one = rw (in-own d z one) tt
 pub row-unique : (d : ℕ) (k z : ℤ) → 0 < d → inside (lowOf d k) (upOf d k) z ≡ true → k ≡ rowNumber d z
 row-unique d k z one e =
     let i = is-inside _ _ z e in
-    let a : k <ℤ (rowNumber d z +ℤ pos 1) = mul-lt d k _ z (i .0) (row-above d z one) in
-    let b : rowNumber d z <ℤ (k +ℤ pos 1) = mul-lt d _ _ z (row-below d z one) (i .1) in
+    let a : k <ℤ (rowNumber d z +ℤ pos 1) = mul-lt d k _ z i.0 (row-above d z one) in
+    let b : rowNumber d z <ℤ (k +ℤ pos 1) = mul-lt d _ _ z (row-below d z one) i.1 in
     omega (zarith, z-add k (pos 1), z-add (rowNumber d z) (pos 1))
 
 is-true : (t : Bool) → T t → t ≡ true

@@ -124,14 +124,14 @@ runs-union p q n h =
 -- runs from a on, below n, in order, with at least one offset between one and the next
 unfoldable pub Apart : ℕ → ℕ → List (ℕ × ℕ) → Type 0
 Apart n a [] = Unit {0}
-Apart n a (x ∷ l) = (a ≤ x .0) × (x .0 ≤ x .1) × (x .1 < n) × Apart n (x .1 + 2) l
+Apart n a (x ∷ l) = (a ≤ x.0) × (x.0 ≤ x.1) × (x.1 < n) × Apart n (x.1 + 2) l
 
 -- the last run ends right before n; or leaves a gap before n
 unfoldable pub Next : Bool → List (ℕ × ℕ) → ℕ → Type 0
 Next true [] n = ⊥
 Next false [] n = Unit {0}
-Next true (x ∷ []) n = x .1 + 1 ≡ n
-Next false (x ∷ []) n = x .1 + 1 < n
+Next true (x ∷ []) n = x.1 + 1 ≡ n
+Next false (x ∷ []) n = x.1 + 1 < n
 Next b (x ∷ y ∷ l) n = Next b (y ∷ l) n
 
 open-next : (b : Bool) (l : List (ℕ × ℕ)) (n : ℕ) → Next b l n → Next false l (suc n)
@@ -145,7 +145,7 @@ open-next b (x ∷ y ∷ l) n h = open-next b (y ∷ l) n h
 open-apart : (n a : ℕ) (l : List (ℕ × ℕ)) → Apart n a l → Apart (suc n) a l
 unfolding Apart
 open-apart n a [] h = tt
-open-apart n a (x ∷ l) h = (h .0, h .1, omega arith, open-apart n _ l (h .3))
+open-apart n a (x ∷ l) h = (h.0, h.1, omega arith, open-apart n _ l h.3)
 
 reach-next : (l : List (ℕ × ℕ)) (n : ℕ) → Next true l n → Next true (reach l n) (suc n)
 unfolding Next reach
@@ -157,8 +157,8 @@ reach-next (x ∷ y ∷ z ∷ l) n h = reach-next (y ∷ z ∷ l) n h
 reach-apart : (n a : ℕ) (l : List (ℕ × ℕ)) → Apart n a l → Next true l n → Apart (suc n) a (reach l n)
 unfolding Apart Next reach
 reach-apart n a [] p h = tt
-reach-apart n a (x ∷ []) p h = (p .0, omega arith, omega arith, tt)
-reach-apart n a (x ∷ y ∷ l) p h = (p .0, p .1, omega arith, reach-apart n _ (y ∷ l) (p .3) h)
+reach-apart n a (x ∷ []) p h = (p.0, omega arith, omega arith, tt)
+reach-apart n a (x ∷ y ∷ l) p h = (p.0, p.1, omega arith, reach-apart n _ (y ∷ l) p.3 h)
 
 end-next : (l : List (ℕ × ℕ)) (n : ℕ) → Next true (l ++ ((n, n) ∷ [])) (suc n)
 unfolding Next
@@ -169,8 +169,8 @@ end-next (x ∷ y ∷ l) n = end-next (y ∷ l) n
 end-apart : (n a : ℕ) (l : List (ℕ × ℕ)) → a ≤ n → Apart n a l → Next false l n → Apart (suc n) a (l ++ ((n, n) ∷ []))
 unfolding Apart Next
 end-apart n a [] b p h = (b, omega arith, omega arith, tt)
-end-apart n a (x ∷ []) b p h = (p .0, p .1, omega arith, (omega arith, omega arith, omega arith, tt))
-end-apart n a (x ∷ y ∷ l) b p h = (p .0, p .1, omega arith, end-apart n _ (y ∷ l) (omega arith) (p .3) h)
+end-apart n a (x ∷ []) b p h = (p.0, p.1, omega arith, (omega arith, omega arith, omega arith, tt))
+end-apart n a (x ∷ y ∷ l) b p h = (p.0, p.1, omega arith, end-apart n _ (y ∷ l) (omega arith) p.3 h)
 
 takeIn-apart : (a b : Bool) (l : List (ℕ × ℕ)) (n : ℕ) → Apart n 0 l → Next b l n → Apart (suc n) 0 (takeIn a b l n) × Next a (takeIn a b l n) (suc n)
 unfolding takeIn
@@ -181,7 +181,7 @@ takeIn-apart true false l n p h = (end-apart n 0 l (omega arith) p h, end-next l
 apart-next : (p : ℕ → Bool) (n : ℕ) → Apart n 0 (runs p n) × Next (before p n) (runs p n) n
 unfolding runs before Apart Next
 apart-next p zero = (tt, tt)
-apart-next p (suc n) = let h = apart-next p n in takeIn-apart (p n) _ _ n (h .0) (h .1)
+apart-next p (suc n) = let h = apart-next p n in takeIn-apart (p n) _ _ n h.0 h.1
 
 pub runs-apart : (p : ℕ → Bool) (n : ℕ) → Apart n 0 (runs p n)
 runs-apart p n = apart-next p n .0
@@ -205,7 +205,7 @@ before-some p n = next-some _ _ n (runs-next p n)
 -- j stands in one of the runs
 unfoldable pub held : List (ℕ × ℕ) → ℕ → Bool
 held [] j = false
-held (x ∷ l) j = (leb (x .0) j && leb j (x .1)) || held l j
+held (x ∷ l) j = (leb x.0 j && leb j x.1) || held l j
 
 -- the same, of the entries
 pub entries-hold : (l : List (ℕ × ℕ)) (j : ℕ) → any (inRun j) (map entry l) ≡ held l j
@@ -222,8 +222,8 @@ in-reach l r n j h e =
 held-reach : (n a : ℕ) (l : List (ℕ × ℕ)) (j : ℕ) → Apart n a l → Next true l n → held (reach l n) j ≡ (held l j || eqb j n)
 unfolding held reach Next Apart
 held-reach n a [] j p h = absurd h
-held-reach n a (x ∷ []) j p h = rw (in-reach (x .0) (x .1) n j (p .1) h) (simp or-false)
-held-reach n a (x ∷ y ∷ l) j p h = rw (held-reach n _ (y ∷ l) j (p .3) h) (sym (or-assoc (leb (x .0) j && leb j (x .1)) (held (y ∷ l) j) (eqb j n)))
+held-reach n a (x ∷ []) j p h = rw (in-reach x.0 x.1 n j p.1 h) (simp or-false)
+held-reach n a (x ∷ y ∷ l) j p h = rw (held-reach n _ (y ∷ l) j p.3 h) (sym (or-assoc (leb x.0 j && leb j x.1) (held (y ∷ l) j) (eqb j n)))
 
 point : (n j : ℕ) → (leb n j && leb j n) ≡ eqb j n
 point n j = by-test _ (λ t. rw (t, le-leb n j (omega (arith, eqb-true j n t)), le-leb j n (omega (arith, eqb-true j n t))))
@@ -232,7 +232,7 @@ point n j = by-test _ (λ t. rw (t, le-leb n j (omega (arith, eqb-true j n t)), 
 held-end : (l : List (ℕ × ℕ)) (n j : ℕ) → held (l ++ ((n, n) ∷ [])) j ≡ (held l j || eqb j n)
 unfolding held
 held-end [] n j = rw (point n j) (or-false _)
-held-end (x ∷ l) n j = rw (held-end l n j) (sym (or-assoc (leb (x .0) j && leb j (x .1)) (held l j) (eqb j n)))
+held-end (x ∷ l) n j = rw (held-end l n j) (sym (or-assoc (leb x.0 j && leb j x.1) (held l j) (eqb j n)))
 
 held-takeIn : (a b : Bool) (l : List (ℕ × ℕ)) (n j : ℕ) → Apart n 0 l → Next b l n → held (takeIn a b l n) j ≡ (held l j || (a && eqb j n))
 unfolding takeIn
@@ -260,54 +260,54 @@ entries-of-runs p n j = entries-hold _ j ∙ runs-hold p n j
 
 -- ---- runs are told by their members
 
-in-run : (x : ℕ × ℕ) (l : List (ℕ × ℕ)) (j : ℕ) → x .0 ≤ j → j ≤ x .1 → held (x ∷ l) j ≡ true
+in-run : (x : ℕ × ℕ) (l : List (ℕ × ℕ)) (j : ℕ) → x.0 ≤ j → j ≤ x.1 → held (x ∷ l) j ≡ true
 unfolding held
-in-run x l j a b = rw (le-leb (x .0) j a, le-leb j (x .1) b)
+in-run x l j a b = rw (le-leb x.0 j a, le-leb j x.1 b)
 
-past-run : (x : ℕ × ℕ) (l : List (ℕ × ℕ)) (j : ℕ) → x .1 < j → held (x ∷ l) j ≡ held l j
+past-run : (x : ℕ × ℕ) (l : List (ℕ × ℕ)) (j : ℕ) → x.1 < j → held (x ∷ l) j ≡ held l j
 unfolding held
-past-run x l j b = rw (lt-leb j (x .1) b, and-false _)
+past-run x l j b = rw (lt-leb j x.1 b, and-false _)
 
 pub held-in : (n a : ℕ) (l : List (ℕ × ℕ)) (j : ℕ) → Apart n a l → held l j ≡ true → (a ≤ j) × (j < n)
 unfolding Apart held
 held-in n a [] j p h = absurd (false≢true h)
 held-in n a (x ∷ l) j p h = by-test _
-    (λ t. let b = both _ _ t in let c = leb-true (x .0) j (b .0) in let e = leb-true j (x .1) (b .1) in (omega arith, omega arith))
-    (λ f. let r = held-in n _ l j (p .3) (rw f at h) in (omega arith, r .1))
+    (λ t. let b = both _ _ t in let c = leb-true x.0 j b.0 in let e = leb-true j x.1 b.1 in (omega arith, omega arith))
+    (λ f. let r = held-in n _ l j p.3 (rw f at h) in (omega arith, r.1))
 
 not-held : (n a : ℕ) (l : List (ℕ × ℕ)) (j : ℕ) → Apart n a l → (a ≤ j → j < n → ⊥) → held l j ≡ false
-not-held n a l j p f = by-test _ (λ t. let r = held-in n a l j p t in absurd (f (r .0) (r .1))) (λ g. g)
+not-held n a l j p f = by-test _ (λ t. let r = held-in n a l j p t in absurd (f r.0 r.1)) (λ g. g)
 
-no-less : (n a b : ℕ) (x y : ℕ × ℕ) (l m : List (ℕ × ℕ)) → Apart n a (x ∷ l) → Apart n b (y ∷ m) → ((j : ℕ) → held (x ∷ l) j ≡ held (y ∷ m) j) → (y .0 ≤ x .0) × (x .0 ≡ y .0 → y .1 ≤ x .1)
+no-less : (n a b : ℕ) (x y : ℕ × ℕ) (l m : List (ℕ × ℕ)) → Apart n a (x ∷ l) → Apart n b (y ∷ m) → ((j : ℕ) → held (x ∷ l) j ≡ held (y ∷ m) j) → (y.0 ≤ x.0) × (x.0 ≡ y.0 → y.1 ≤ x.1)
 unfolding Apart
 no-less n a b x y l m p q h = (
-  held-in n (y .0) (y ∷ m) (x .0) (omega arith, q .1, q .2, q .3) (sym (h (x .0)) ∙ in-run x l (x .0) (omega arith) (p .1)) .0,
-  λ e. elim (decLe (y .1) (x .1)) [
+  held-in n y.0 (y ∷ m) x.0 (omega arith, q.1, q.2, q.3) (sym (h x.0) ∙ in-run x l x.0 (omega arith) p.1) .0,
+  λ e. elim (decLe y.1 x.1) [
     | yes g ↦ g
     | no f ↦ clash (h _ ∙ in-run y m _ (omega arith) (omega arith))
-        (past-run x l _ (omega arith) ∙ not-held n _ l (x .1 + 1) (p .3) (λ c d. omega arith))
+        (past-run x l _ (omega arith) ∙ not-held n _ l (x.1 + 1) p.3 (λ c d. omega arith))
   ],
 )
 
 pub apart-unique : (n a b : ℕ) (l m : List (ℕ × ℕ)) → Apart n a l → Apart n b m → ((j : ℕ) → held l j ≡ held m j) → l ≡ m
 unfolding Apart held
 apart-unique n a b [] [] p q h = refl
-apart-unique n a b [] (y ∷ m) p q h = clash (h (y .0) ∙ in-run y m (y .0) (omega arith) (q .1)) refl
-apart-unique n a b (x ∷ l) [] p q h = clash (sym (h (x .0)) ∙ in-run x l (x .0) (omega arith) (p .1)) refl
+apart-unique n a b [] (y ∷ m) p q h = clash (h y.0 ∙ in-run y m y.0 (omega arith) q.1) refl
+apart-unique n a b (x ∷ l) [] p q h = clash (sym (h x.0) ∙ in-run x l x.0 (omega arith) p.1) refl
 apart-unique n a b (x ∷ l) (y ∷ m) p q h =
     let f = no-less n a b x y l m p q h in
     let g = no-less n b a y x m l q p (λ j. sym (h j)) in
-    let e : x .0 ≡ y .0 = omega arith in
-    let c = f .1 e in
-    let d = g .1 (sym e) in
-    let s : x .1 ≡ y .1 = omega arith in
+    let e : x.0 ≡ y.0 = omega arith in
+    let c = f.1 e in
+    let d = g.1 (sym e) in
+    let s : x.1 ≡ y.1 = omega arith in
     let same : x ≡ y = λ i. (e i, s i) in
     cc (
       same,
-      apart-unique n _ _ l m (p .3) (q .3)
-          (λ j. elim (decLe (x .1 + 2) j) [
+      apart-unique n _ _ l m p.3 q.3
+          (λ j. elim (decLe (x.1 + 2) j) [
             | yes k ↦ sym (past-run x l j (omega arith)) ∙ h j ∙ past-run y m j (omega arith)
-            | no k ↦ not-held n _ l j (p .3) (λ u v. omega arith) ∙ sym (not-held n _ m j (q .3) (λ u v. omega arith))
+            | no k ↦ not-held n _ l j p.3 (λ u v. omega arith) ∙ sym (not-held n _ m j q.3 (λ u v. omega arith))
           ]),
     )
 
@@ -328,21 +328,21 @@ count-range l r (suc n) = by-test (leb l n)
     (λ t. rw t (omega (arith, count-range l r n, leb-false l n t)))
 
 -- of the first run and the rest, at most one has j
-first-or-rest : (n a : ℕ) (x : ℕ × ℕ) (l : List (ℕ × ℕ)) (j : ℕ) → Apart n a (x ∷ l) → ((leb (x .0) j && leb j (x .1)) && held l j) ≡ false
+first-or-rest : (n a : ℕ) (x : ℕ × ℕ) (l : List (ℕ × ℕ)) (j : ℕ) → Apart n a (x ∷ l) → ((leb x.0 j && leb j x.1) && held l j) ≡ false
 unfolding Apart
 first-or-rest n a x l j p = by-test _
-    (λ t. let b = held-in n _ l j (p .3) t .0 in rw (lt-leb j (x .1) (omega arith), and-false _))
-    (λ f. rw f (and-false (leb (x .0) j && leb j (x .1))))
+    (λ t. let b = held-in n _ l j p.3 t .0 in rw (lt-leb j x.1 (omega arith), and-false _))
+    (λ f. rw f (and-false (leb x.0 j && leb j x.1)))
 
 pub lengths-count : (n a : ℕ) (l : List (ℕ × ℕ)) → Apart n a l → runLengths (map entry l) ≡ count (held l) n
 unfolding Apart runLengths held bit
 lengths-count n a [] p = sym (count-never _ n (λ j b. refl))
 lengths-count n a (x ∷ l) p =
-    let first : ℕ → Bool = λ j. leb (x .0) j && leb j (x .1) in
+    let first : ℕ → Bool = λ j. leb x.0 j && leb j x.1 in
     omega (
       arith,
-      lengths-count n _ l (p .3),
-      count-range (x .0) (x .1) n,
+      lengths-count n _ l p.3,
+      count-range x.0 x.1 n,
       count-never (λ j. false) n (λ j b. refl),
       count-add (held (x ∷ l)) (λ j. false) first (held l) n (λ j b. omega (arith, bit-or (first j) _ (first-or-rest n a x l j p))),
     )

@@ -1,8 +1,8 @@
 -- The limits of window sums: values in their limits have window sums of at most 10,000 w either way (`sum-limits`), so the ends of a sum's row are good ends of a range (`ends-good`).
 -- The windows of a series and of a part from its start have the same sums (`sum-of-part`).
 use Rattle.meaning_numbers.specs.Order.{within}
-use Rattle.meaning_numbers.proofs.{Sum.rep-Σ-self, Sum.Σℕ-le, Sum.Σℤ-same, Member.mem-at, Member.place-none}
 use Rattle.meaning_numbers.proofs.Prelude.{_≡_, true, not, List, none, ℕ, _+_, _*_, _<_, _≤_, arith, decLt, ℤ, pos, negsuc, negℤ, _+ℤ_, length, getD, take, List·getD-eq-default, getD-take, _≤ℤ_, _<ℤ_, not-false, up, dn, rep-pos, rep-neg, rep-le, zarith, z-neg, leZ-true, both, of-both}
+use Rattle.meaning_numbers.proofs.{Sum.rep-Σ-self, Sum.Σℕ-le, Sum.Σℤ-same, Member.mem-at, Member.place-none}
 use Rattle.meaning_curves.specs.{Limits.valueIn, Limits.endIn, Limits.lowestEnd, Limits.firstOutside, Curve.stretch, Curve.windowSum}
 use Rattle.meaning_rows.specs.Range.{rowNumber, lowOf, upOf}
 use Rattle.meaning_rows.proofs.{Range.le-leZ, Range.row-below, Range.row-above, Range.up-is, Range.multiple-of, Judge.GoodEnd}
@@ -19,8 +19,8 @@ value-limits : (x : ℤ) → valueIn x ≡ true → (up x ≤ 10000) × (dn x �
 unfolding within
 value-limits x e =
     let b = both _ _ e in
-    let lo = leZ-true (b .0) in
-    let hi = leZ-true (b .1) in
+    let lo = leZ-true b.0 in
+    let hi = leZ-true b.1 in
     sizes x lo hi
   where
     sizes : (z : ℤ) → negsuc 9999 ≤ℤ z → z ≤ℤ pos 10000 → (up z ≤ 10000) × (dn z ≤ 10000)

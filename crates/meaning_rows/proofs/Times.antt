@@ -57,12 +57,12 @@ Range = ℤ × ℤ
 
 -- the range holds z
 abbrev pub holds : ℤ → Range → Bool
-holds z r = inside (r .0) (r .1) z
+holds z r = inside r.0 r.1 z
 
 -- nonempty ranges in order, not overlapping, from a on
 unfoldable pub Ascending : ℤ → List Range → Type 0
 Ascending a [] = Unit {0}
-Ascending a (r ∷ l) = (a ≤ℤ r .0) × (r .0 <ℤ r .1) × Ascending (r .1) l
+Ascending a (r ∷ l) = (a ≤ℤ r.0) × (r.0 <ℤ r.1) × Ascending r.1 l
 
 -- how many ranges hold z
 unfoldable pub holders : List Range → ℤ → ℕ
@@ -73,12 +73,12 @@ pub holders-below : (a z : ℤ) (l : List Range) → Ascending a l → z <ℤ a 
 unfolding Ascending holders bit
 holders-below a z [] p h = refl
 holders-below a z (r ∷ l) p h =
-    let e : z <ℤ r .0 = omega zarith in
-    rw (inside-below (r .0) (r .1) z e) (omega (arith, holders-below (r .1) z l (p .2) (omega zarith)))
+    let e : z <ℤ r.0 = omega zarith in
+    rw (inside-below r.0 r.1 z e) (omega (arith, holders-below r.1 z l p.2 (omega zarith)))
 
 pub holders-are : (a z : ℤ) (l : List Range) → Ascending a l → holders l z ≡ bit (any (holds z) l)
 unfolding Ascending holders any bit
 holders-are a z [] p = refl
 holders-are a z (r ∷ l) p = by-test (holds z r)
-    (λ t. rw t (omega (arith, holders-below (r .1) z l (p .2) (is-inside (r .0) (r .1) z t .1))))
-    (λ f. rw f (omega (arith, holders-are (r .1) z l (p .2))))
+    (λ t. rw t (omega (arith, holders-below r.1 z l p.2 (is-inside r.0 r.1 z t .1))))
+    (λ f. rw f (omega (arith, holders-are r.1 z l p.2)))

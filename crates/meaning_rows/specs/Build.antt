@@ -35,11 +35,11 @@ filed sum d n = map (rowAt sum d) (rowNumbers sum d n)
 
 -- a merged range goes from the first low to the last up, gaps included
 unfoldable pub join : SetRow → SetRow → SetRow
-join r s = record { low = r .low; up = s .up; has = λ j. r .has j || s .has j }
+join r s = record { low = r.low; up = s.up; has = λ j. r.has j || s.has j }
 
 -- the current row takes in the next if 100 × (runs of the union) < g × (runs of both added)
 unfoldable pub takes : ℕ → ℕ → SetRow → SetRow → Bool
-takes g n r s = ltb (100 * runCount (join r s .has) n) (g * (runCount (r .has) n + runCount (s .has) n))
+takes g n r s = ltb (100 * runCount (join r s .has) n) (g * (runCount r.has n + runCount s.has n))
 
 -- once upward: the current row takes in the next, or the next becomes current
 unfoldable pub upward : ℕ → ℕ → SetRow → List SetRow → List SetRow
@@ -53,11 +53,11 @@ merged g n (r ∷ rest) = upward g n r rest
 
 -- a run entry of two offsets
 abbrev pub entry : ℕ × ℕ → Entry
-entry x = (pos (x .0), pos (x .1))
+entry x = (pos x.0, pos x.1)
 
 -- a row with the runs of its offsets below n
 unfoldable pub withRuns : ℕ → SetRow → RangeRow
-withRuns n r = record { low = r .low; up = r .up; runs = map entry (runs (r .has) n) }
+withRuns n r = record { low = r.low; up = r.up; runs = map entry (runs r.has n) }
 
 -- the rows of the n windows whose sums are given
 unfoldable pub builtRows : (ℕ → ℤ) → ℕ → ℕ → ℕ → List RangeRow

@@ -14,14 +14,14 @@ use Rattle.meaning_rows.specs.{declared.Row.Row, Range.rowNumber, Range.
 -- an old row with its old offsets, and the windows from `old` on whose sums its range holds
 unfoldable pub grown : Index → (ℕ → ℤ) → ℕ → Row → SetRow
 grown x sum old r = record {
-  low = r .low;
-  up = r .up;
-  has = λ j. cond (leb old j) (inside (r .low) (r .up) (sum j)) (stands x r j);
+  low = r.low;
+  up = r.up;
+  has = λ j. cond (leb old j) (inside r.low r.up (sum j)) (stands x r j);
 }
 
 -- some old range holds the sum
 abbrev pub known : Index → ℤ → Bool
-known x z = any (λ r. inside (r .low) (r .up) z) (x .rows)
+known x z = any (λ r. inside r.low r.up z) x.rows
 
 -- the row numbers of new windows, `more` of them from `old` on, that no old range holds
 unfoldable pub newNumbers : Index → (ℕ → ℤ) → ℕ → ℕ → ℕ → List ℤ
@@ -31,12 +31,12 @@ newNumbers x sum d old (suc more) =
 
 -- a new row, with the windows from `old` on whose sums it holds
 unfoldable pub added : (ℕ → ℤ) → ℕ → ℕ → ℤ → SetRow
-added sum d old k = let r = rowAt sum d k in record { low = r .low; up = r .up; has = λ j. leb old j && r .has j }
+added sum d old k = let r = rowAt sum d k in record { low = r.low; up = r.up; has = λ j. leb old j && r.has j }
 
 -- a row put among others, by the low ends of their ranges
 unfoldable pub insertRow : SetRow → List SetRow → List SetRow
 insertRow r [] = r ∷ []
-insertRow r (x ∷ l) = cond (ltZ (r .low) (x .low)) (r ∷ x ∷ l) (x ∷ insertRow r l)
+insertRow r (x ∷ l) = cond (ltZ r.low x.low) (r ∷ x ∷ l) (x ∷ insertRow r l)
 
 -- each of some rows put among others
 unfoldable pub insertRows : List SetRow → List SetRow → List SetRow
@@ -46,13 +46,13 @@ insertRows (r ∷ rest) l = insertRow r (insertRows rest l)
 -- the rows of the index, extended to n windows
 unfoldable pub extendedRows : Index → (ℕ → ℤ) → ℕ → List RangeRow
 extendedRows x sum n =
-    let old = natAbs (x .windows) in
-    let d = natAbs (x .width) in
-    map (withRuns n) (insertRows (map (added sum d old) (newNumbers x sum d old (n - old))) (map (grown x sum old) (x .rows)))
+    let old = natAbs x.windows in
+    let d = natAbs x.width in
+    map (withRuns n) (insertRows (map (added sum d old) (newNumbers x sum d old (n - old))) (map (grown x sum old) x.rows))
 
 -- the index, extended over the whole of a longer series
 unfoldable pub extended : Index → List ℤ → Index
 extended x s =
-    let w = natAbs (x .window) in
+    let w = natAbs x.window in
     let n = windowCount (length s) w in
-    laidOut (x .window) (x .width) (pos n) (extendedRows x (windowSum s w) n)
+    laidOut x.window x.width (pos n) (extendedRows x (windowSum s w) n)

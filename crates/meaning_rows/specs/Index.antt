@@ -33,20 +33,20 @@ entries (x ∷ l) (y ∷ r) = (pos x, pos y) ∷ entries l r
 -- 01, Rows: rows are lent as a run of row records; an index has exactly the lent rows
 abbrev pub lent : Head → List Row → List ℕ → List ℕ → Index
 lent h rows left right = record {
-  window = pos (h .window);
-  width = pos (h .width);
-  windows = pos (h .windows);
+  window = pos h.window;
+  width = pos h.width;
+  windows = pos h.windows;
   rows = rows;
   runs = entries left right;
 }
 
 -- a row's own part of the run buffer
 abbrev pub runsOf : Index → Row → List Entry
-runsOf x r = take (r .runs) (drop (r .first) (x .runs))
+runsOf x r = take r.runs (drop r.first x.runs)
 
 -- offset j stands in a run
 abbrev pub inRun : ℕ → Entry → Bool
-inRun j e = leZ (e .0) (pos j) && leZ (pos j) (e .1)
+inRun j e = leZ e.0 (pos j) && leZ (pos j) e.1
 
 -- offset j stands in a row
 abbrev pub stands : Index → Row → ℕ → Bool
@@ -63,12 +63,12 @@ pub record RangeRow : Type 0 where
 -- the row records: each row's runs begin where the row before ends, the first row's at k
 unfoldable pub records : ℕ → List RangeRow → List Row
 records k [] = []
-records k (r ∷ l) = record { low = r .low; up = r .up; first = k; runs = length (r .runs) } ∷ records (k + length (r .runs)) l
+records k (r ∷ l) = record { low = r.low; up = r.up; first = k; runs = length r.runs } ∷ records (k + length r.runs) l
 
 -- the run entries, one row's after the other's
 unfoldable pub allRuns : List RangeRow → List Entry
 allRuns [] = []
-allRuns (r ∷ l) = r .runs ++ allRuns l
+allRuns (r ∷ l) = r.runs ++ allRuns l
 
 -- rows with their runs as an index, laid out in order
 abbrev pub laidOut : ℤ → ℤ → ℤ → List RangeRow → Index
@@ -82,7 +82,7 @@ laidOut window width windows l = record {
 
 -- the rows of an index with their runs
 abbrev pub rangeRow : Index → Row → RangeRow
-rangeRow x r = record { low = r .low; up = r .up; runs = runsOf x r }
+rangeRow x r = record { low = r.low; up = r.up; runs = runsOf x r }
 
 abbrev pub rangeRows : Index → List RangeRow
-rangeRows x = map (rangeRow x) (x .rows)
+rangeRows x = map (rangeRow x) x.rows

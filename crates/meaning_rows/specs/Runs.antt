@@ -12,7 +12,7 @@ before p (suc n) = p n
 -- the last run reaches on to n
 unfoldable pub reach : List (ℕ × ℕ) → ℕ → List (ℕ × ℕ)
 reach [] n = []
-reach (x ∷ []) n = (x .0, n) ∷ []
+reach (x ∷ []) n = (x.0, n) ∷ []
 reach (x ∷ y ∷ l) n = x ∷ reach (y ∷ l) n
 
 -- offset n, if it is in the set, joins the last run where the offset before it is in the set, and else begins a run

@@ -115,11 +115,11 @@ module _ {S A : Type 0} (step : S → ℕ → Option S) (accept : S → Option A
 
     pub fed-comes : (t : List ℕ) (s : S) (p : ℕ) → Good s → ended (p + length t) (rest s t) ≡ judged accept (feed step (going s p) t)
     unfolding feed
-    fed-comes [] s p g = rw (L .ends s g) (end-judged (accept s) p)
+    fed-comes [] s p g = rw (L.ends s g) (end-judged (accept s) p)
     fed-comes (b ∷ t) s p g =
         on-option _
-        (λ n e. let q : p + suc (length t) ≡ suc p + length t = omega arith in rw (q, L .goes-on s b n g e t, e) (fed-comes t n (suc p) (L .stays-good s b n g e)))
-        (λ e. let q : p + suc (length t) - suc (length t) ≡ p = omega arith in rw (e, feed-failed step t p) (halts-unfit b t _ (L .halts s b g e t) ∙ ap unfit q))
+        (λ n e. let q : p + suc (length t) ≡ suc p + length t = omega arith in rw (q, L.goes-on s b n g e t, e) (fed-comes t n (suc p) (L.stays-good s b n g e)))
+        (λ e. let q : p + suc (length t) - suc (length t) ≡ p = omega arith in rw (e, feed-failed step t p) (halts-unfit b t _ (L.halts s b g e t) ∙ ap unfit q))
 
     -- the text of a form, where the automaton begins as the form is read
     pub text-comes : (f : Form) (out : A → Value f) (start : S) → Good start → ((t : List ℕ) → read f t ≡ readOf out (rest start t)) → (t : List ℕ) → readText f t ≡ verdictOf out (judged accept (feed step (going start 0) t))

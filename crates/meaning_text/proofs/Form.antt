@@ -5,8 +5,8 @@ use Prim.Native.String.{String, [] as empty, _∷_ as _before_}
 use Rattle.meaning_numbers.specs.Place.{numbersFrom}
 use Rattle.meaning_numbers.proofs.Member.{every}
 use Rattle.meaning_numbers.proofs.Prelude.{_≡_, refl, sym, _∙_, List, [], _∷_, _++_, append-assoc, Bool, true, false, not, _&&_, _||_, or-true, ℕ, zero, suc, _+_, _<_, _≤_, arith, eqb, ℤ, pos, negsuc, eqb-true, eqb-false, eq-eqb, not-true}
-use Rattle.meaning_text.specs.{Bytes.bytes, Number.spellℤ, Number.Read, Number.got, Number.bad, Number.isDigit, Read.Viable}
 use Rattle.meaning_text.specs.Form.{Form, number, oneOf, lead, trail, both, many, Value, spellOne, spellMany, spell, end, Spellable, readWord, thenRead, wordStarts, starts, readOne, read}
+use Rattle.meaning_text.specs.{Bytes.bytes, Number.spellℤ, Number.Read, Number.got, Number.bad, Number.isDigit, Read.Viable}
 use Rattle.meaning_text.proofs.Number.{leading, is-digit, digit-is, read-spelled, number-read}
 use Rattle.meaning_text.proofs.Reading.{on-flag, false-true, and-true, like, NotNext, Begun, begun, begun-before, begun-as, begun-not, Reader, Taken, Refused, Outcome, refused-here, outcome-as, word-back, word-read, both-read, many-read, many-back}
 
@@ -93,19 +93,19 @@ module _ (p : ℕ → Bool) where
   clear-numbers k (suc n) b e h g =
       let s = and-true _ _ e in
       on-flag _
-      (λ t. rw (eqb-true b k t) (not-true (p k) (s .0)))
-      (λ t. clear-numbers (suc k) n b (s .1) (omega (arith, eqb-false b k t)) (omega arith))
+      (λ t. rw (eqb-true b k t) (not-true (p k) s.0))
+      (λ t. clear-numbers (suc k) n b s.1 (omega (arith, eqb-false b k t)) (omega arith))
 
   clear-first : (f : Form) (b : ℕ) → clear p f ≡ true → starts f b ≡ true → p b ≡ false
   unfolding clear starts
   clear-first number b c e =
       let s = and-true _ _ c in
       on-or _ (isDigit b) e
-      (λ t. rw (eqb-true b 45 t) (not-true (p 45) (s .0)))
-      (λ t. let d = is-digit b t in clear-numbers 48 10 b (s .1) (d .0) (omega arith))
+      (λ t. rw (eqb-true b 45 t) (not-true (p 45) s.0))
+      (λ t. let d = is-digit b t in clear-numbers 48 10 b s.1 d.0 (omega arith))
   clear-first (oneOf v w) b c e =
       let s = and-true _ _ c in
-      on-or _ _ e (clear-word v b (s .0)) (clear-word w b (s .1))
+      on-or _ _ e (clear-word v b s.0) (clear-word w b s.1)
   clear-first (lead w f) b c e = clear-word w b c e
   clear-first (trail f w) b c e = clear-first f b c e
   clear-first (both f g) b c e = clear-first f b c e
@@ -114,7 +114,7 @@ module _ (p : ℕ → Bool) where
 -- what `decided` says of a form's parts
 one-parts : (v w : String) → decided (oneOf v w) ≡ true → (filled v ≡ true) × (filled w ≡ true) × (clearWord (wordStarts v) w ≡ true)
 unfolding decided
-one-parts v w d = let s = and-true _ _ d in let r = and-true _ _ (s .1) in (s .0, r .0, r .1)
+one-parts v w d = let s = and-true _ _ d in let r = and-true _ _ s.1 in (s.0, r.0, r.1)
 
 lead-parts : (w : String) (f : Form) → decided (lead w f) ≡ true → (filled w ≡ true) × (decided f ≡ true)
 unfolding decided
@@ -122,15 +122,15 @@ lead-parts w f d = and-true _ _ d
 
 trail-parts : (f : Form) (w : String) → decided (trail f w) ≡ true → (decided f ≡ true) × (filled w ≡ true) × (clearWord (follows f) w ≡ true)
 unfolding decided
-trail-parts f w d = let s = and-true _ _ d in let r = and-true _ _ (s .1) in (s .0, r .0, r .1)
+trail-parts f w d = let s = and-true _ _ d in let r = and-true _ _ s.1 in (s.0, r.0, r.1)
 
 both-parts : (f g : Form) → decided (both f g) ≡ true → (decided f ≡ true) × (decided g ≡ true) × (opens g ≡ true) × (clear (follows f) g ≡ true)
 unfolding decided
-both-parts f g d = let s = and-true _ _ d in let r = and-true _ _ (s .1) in let q = and-true _ _ (r .1) in (s .0, r .0, q .0, q .1)
+both-parts f g d = let s = and-true _ _ d in let r = and-true _ _ s.1 in let q = and-true _ _ r.1 in (s.0, r.0, q.0, q.1)
 
 many-parts : (f : Form) → decided (many f) ≡ true → (decided f ≡ true) × (firm f ≡ true) × (clear (follows f) f ≡ true)
 unfolding decided
-many-parts f d = let s = and-true _ _ d in let r = and-true _ _ (s .1) in (s .0, r .0, r .1)
+many-parts f d = let s = and-true _ _ d in let r = and-true _ _ s.1 in (s.0, r.0, r.1)
 
 -- ---- first bytes
 
@@ -141,7 +141,7 @@ word-begun (c before w) e = begun (eq-eqb (code c) _ refl)
 
 number-begun : (z : ℤ) → Begun (starts number) (spellℤ z)
 unfolding starts spellℤ
-number-begun (pos n) = let l = leading n in rw (l .spelled) (begun {b = 48 + l .digit} (rw (digit-is _ (l .small)) (or-true (eqb (48 + l .digit) 45))))
+number-begun (pos n) = let l = leading n in rw l.spelled (begun {b = 48 + l.digit} (rw (digit-is _ l.small) (or-true (eqb (48 + l.digit) 45))))
 number-begun (negsuc n) = begun refl
 
 firm-begun : (f : Form) → decided f ≡ true → firm f ≡ true → (v : Value f) → Begun (starts f) (spell f v)
@@ -151,7 +151,7 @@ firm-begun (oneOf v w) d e true = begun-as (λ b h. rw h) (word-begun v (one-par
 firm-begun (oneOf v w) d e false = begun-as (λ b h. rw h (or-true (wordStarts v b))) (word-begun w (one-parts v w d .1))
 firm-begun (lead w f) d e x = begun-before (spell f x) (word-begun w (lead-parts w f d .0))
 firm-begun (trail f w) d e x = begun-before (bytes w) (firm-begun f (trail-parts f w d .0) e x)
-firm-begun (both f g) d e x = begun-before _ (firm-begun f (both-parts f g d .0) e (x .0))
+firm-begun (both f g) d e x = begun-before _ (firm-begun f (both-parts f g d .0) e x.0)
 firm-begun (many f) d e x = false-true e
 
 firm-not : (p : ℕ → Bool) (f : Form) → decided f ≡ true → firm f ≡ true → clear p f ≡ true → (v : Value f) (t : List ℕ) → NotNext p (spell f v ++ t)
@@ -166,7 +166,7 @@ next-not p (lead w f) d e c x t h = firm-not p (lead w f) d refl c x t
 next-not p (trail f w) d e c x t h = firm-not p (trail f w) d e c x t
 next-not p (both f g) d e c x t h = firm-not p (both f g) d e c x t
 next-not p (many f) d e c [] t h = h
-next-not p (many f) d e c (x ∷ l) t h = let s = many-parts f d in rw append-assoc (firm-not p f (s .0) (s .1) c x _)
+next-not p (many f) d e c (x ∷ l) t h = let s = many-parts f d in rw append-assoc (firm-not p f s.0 s.1 c x _)
 
 -- ---- what reading comes to
 
@@ -176,7 +176,7 @@ some-value number = (pos 0, omega arith)
 some-value (oneOf v w) = (true, tt)
 some-value (lead w f) = some-value f
 some-value (trail f w) = some-value f
-some-value (both f g) = let x = some-value f in let y = some-value g in ((x .0, y .0), (x .1, y .1))
+some-value (both f g) = let x = some-value f in let y = some-value g in ((x.0, y.0), (x.1, y.1))
 some-value (many f) = ([], end)
 
 then-got : {A : Type 0} (x : Read A) → x ≡ thenRead x (λ a u. got a u)
@@ -219,8 +219,8 @@ form-read (trail f w) d t =
 form-read (both f g) d t =
     let s = both-parts f g d in
     both-read (theForm f) (theForm g) _ (λ x y. (x, y)) (λ x y i j. ((i, j), refl)) (some-value g) (λ x u. thenRead (read g u) (λ y v. got (x, y) v)) (λ x u. refl) t (λ s l. refl)
-    (read f t) (form-read f (s .0) t) (λ _ u _. form-read g (s .1) u)
-form-read (many f) d t = let s = many-parts f d in many-read (starts f) (theForm f) (form-read f (s .0)) (λ v g. firm-begun f (s .0) (s .1) v) t
+    (read f t) (form-read f s.0 t) (λ _ u _. form-read g s.1 u)
+form-read (many f) d t = let s = many-parts f d in many-read (starts f) (theForm f) (form-read f s.0) (λ v g. firm-begun f s.0 s.1 v) t
 
 -- ---- what is spelled is read back
 
@@ -238,7 +238,7 @@ one-second v w c (begun {b = b} e) = rw (clear-word (wordStarts v) w b c e, read
 one-back : (v w : String) → decided (oneOf v w) ≡ true → (x : Bool) (t : List ℕ) → readOne v w (spellOne v w x ++ t) ≡ got x t
 unfolding spellOne
 one-back v w d true t = one-first v w (begun-before t (word-begun v (one-parts v w d .0))) ∙ word-back _ true t
-one-back v w d false t = let s = one-parts v w d in one-second v w (s .2) (begun-before t (word-begun w (s .1))) ∙ word-back _ false t
+one-back v w d false t = let s = one-parts v w d in one-second v w s.2 (begun-before t (word-begun w s.1)) ∙ word-back _ false t
 
 not-or : (p q : ℕ → Bool) (t : List ℕ) → NotNext (λ b. p b || q b) t → NotNext p t × NotNext q t
 not-or p q [] h = (tt, tt)
@@ -251,23 +251,23 @@ spelled-read (oneOf v w) d x g t h = one-back v w d x t
 spelled-read (lead w f) d v g t h = rw (append-assoc, word-back (bytes w) true _) (spelled-read f (lead-parts w f d .1) v g t h)
 spelled-read (trail f w) d v g t h =
     let s = trail-parts f w d in
-    rw (append-assoc, spelled-read f (s .0) v g (bytes w ++ t) (word-next (follows f) w (s .1) (s .2) t)) (word-back (bytes w) v t)
+    rw (append-assoc, spelled-read f s.0 v g (bytes w ++ t) (word-next (follows f) w s.1 s.2 t)) (word-back (bytes w) v t)
 spelled-read (both f g) d v i t h =
     let s = both-parts f g d in
     let n = not-or (follows f) (follows g) t h in
-    rw (append-assoc, spelled-read f (s .0) (v .0) (i .0) _ (next-not (follows f) g (s .1) (s .2) (s .3) (v .1) t (n .0)), spelled-read g (s .1) (v .1) (i .1) t (n .1))
+    rw (append-assoc, spelled-read f s.0 v.0 i.0 _ (next-not (follows f) g s.1 s.2 s.3 v.1 t n.0), spelled-read g s.1 v.1 i.1 t n.1)
 spelled-read (many f) d v g t h =
     let s = many-parts f d in
     let n = not-or (starts f) (follows f) t h in
-    many-back (starts f) (theForm f) (form-read f (s .0)) (λ v g. firm-begun f (s .0) (s .1) v) (follows f) (spelled-read f (s .0)) (λ b e. clear-first (follows f) f b (s .2) e) v g t (n .1) (n .0)
+    many-back (starts f) (theForm f) (form-read f s.0) (λ v g. firm-begun f s.0 s.1 v) (follows f) (spelled-read f s.0) (λ b e. clear-first (follows f) f b s.2 e) v g t n.1 n.0
 
 -- ---- nothing else is read, and where a refusal comes
 
 pub read-spelled-only : (f : Form) → decided f ≡ true → (t : List ℕ) (v : Value f) (u : List ℕ) → read f t ≡ got v u → Spellable f v × (t ≡ spell f v ++ u)
-read-spelled-only f d t v u e = let k : Taken (theForm f) t v u = rw e at (form-read f d t) in (k .good, k .parts)
+read-spelled-only f d t v u e = let k : Taken (theForm f) t v u = rw e at (form-read f d t) in (k.good, k.parts)
 
 pub read-refused : (f : Form) → decided f ≡ true → (t u : List ℕ) → read f t ≡ bad u → Refused (theForm f) t u
 read-refused f d t u e = rw e at (form-read f d t)
 
-pub refused-viable : (f : Form) (t u : List ℕ) (k : Refused (theForm f) t u) → Viable f (k .before)
-refused-viable f t u k = (k .after, k .value, k .good, k .begins)
+pub refused-viable : (f : Form) (t u : List ℕ) (k : Refused (theForm f) t u) → Viable f k.before
+refused-viable f t u k = (k.after, k.value, k.good, k.begins)

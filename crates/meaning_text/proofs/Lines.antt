@@ -1,8 +1,8 @@
 -- Lines: newlines add up, lines count from 1 and grow with the place, and a beginning of an index text has at most one line for 8 of its bytes, but for the last line.
 -- For the last: every byte pays 1 and a newline costs 8; `credit` says what a form's texts leave of a credit, whatever they say.
 use Rattle.meaning_numbers.proofs.Prelude.{_≡_, refl, List, [], _∷_, _++_, true, false, cond, Option, none, some, bind, bind-eq-some-iff, ℕ, suc, _+_, _*_, _-_, _<_, _≤_, min, le-refl, le-trans, arith, eqb, leb, ℤ, pos, negsuc, length, getD, take, take-suc, take-append-add, length-take-le, ne-eqb, leb-true}
-use Rattle.meaning_text.specs.{Bytes.bytes, Bytes.newlines, Number.spellℕ, Number.spellℤ, Read.lineOf, Read.Viable, Read.Longest, Texts.indexForm}
 use Rattle.meaning_text.specs.Form.{Form, number, oneOf, lead, trail, both, many, Value, spellOne, spellMany, spell}
+use Rattle.meaning_text.specs.{Bytes.bytes, Bytes.newlines, Number.spellℕ, Number.spellℤ, Read.lineOf, Read.Viable, Read.Longest, Texts.indexForm}
 use Rattle.meaning_text.proofs.{Open.openText, Reading.on-flag, Number.spell-one, Number.spell-more, Number.by-digits}
 
 pub newlines-append : (s t : List ℕ) → newlines (s ++ t) ≡ newlines s + newlines t
@@ -117,28 +117,28 @@ many-paid spells c h (v ∷ l) = paid-then (h v) (many-paid spells c h l)
 words-paid : (v w : List ℕ) (c d : ℕ) → bind (creditWord v c) (λ i. bind (creditWord w c) (λ j. some (min i j))) ≡ some d → Paid c v d × Paid c w d
 words-paid v w c d e =
     let s = bind-eq-some-iff _ _ .0 e in
-    let r = bind-eq-some-iff _ _ .0 (s .2) in
-    let m : min (s .0) (r .0) ≡ d = some-same (r .2) in
-    (paid-less d (omega arith) (word-paid v c (s .0) (s .1)), paid-less d (omega arith) (word-paid w c (r .0) (r .1)))
+    let r = bind-eq-some-iff _ _ .0 s.2 in
+    let m : min s.0 r.0 ≡ d = some-same r.2 in
+    (paid-less d (omega arith) (word-paid v c s.0 s.1), paid-less d (omega arith) (word-paid w c r.0 r.1))
 
 credit-paid : (f : Form) (c d : ℕ) → credit f c ≡ some d → (v : Value f) → Paid c (spell f v) d
 unfolding credit spell spellOne
 credit-paid number c d e z = paid-less d (omega (arith, some-same e)) (number-paid z c)
 credit-paid (oneOf v w) c d e true = words-paid (bytes v) (bytes w) c d e .0
 credit-paid (oneOf v w) c d e false = words-paid (bytes v) (bytes w) c d e .1
-credit-paid (lead w f) c d e x = let s = bind-eq-some-iff _ _ .0 e in paid-then (word-paid (bytes w) c (s .0) (s .1)) (credit-paid f (s .0) d (s .2) x)
-credit-paid (trail f w) c d e x = let s = bind-eq-some-iff (credit f c) _ .0 e in paid-then (credit-paid f c (s .0) (s .1) x) (word-paid (bytes w) (s .0) d (s .2))
-credit-paid (both f g) c d e x = let s = bind-eq-some-iff (credit f c) (credit g) .0 e in paid-then (credit-paid f c (s .0) (s .1) (x .0)) (credit-paid g (s .0) d (s .2) (x .1))
+credit-paid (lead w f) c d e x = let s = bind-eq-some-iff _ _ .0 e in paid-then (word-paid (bytes w) c s.0 s.1) (credit-paid f s.0 d s.2 x)
+credit-paid (trail f w) c d e x = let s = bind-eq-some-iff (credit f c) _ .0 e in paid-then (credit-paid f c s.0 s.1 x) (word-paid (bytes w) s.0 d s.2)
+credit-paid (both f g) c d e x = let s = bind-eq-some-iff (credit f c) (credit g) .0 e in paid-then (credit-paid f c s.0 s.1 x.0) (credit-paid g s.0 d s.2 x.1)
 credit-paid (many f) c d e l =
     let s = bind-eq-some-iff (credit f c) _ .0 e in
-    on-flag (leb c (s .0))
-    (λ t. let h = some-same (rw t at (s .2)) in rw (← h) (many-paid (spell f) c (λ v. paid-less c (leb-true c (s .0) t) (credit-paid f c (s .0) (s .1) v)) l))
-    (λ t. none-some (rw t at (s .2)))
+    on-flag (leb c s.0)
+    (λ t. let h = some-same (rw t at s.2) in rw (← h) (many-paid (spell f) c (λ v. paid-less c (leb-true c s.0 t) (credit-paid f c s.0 s.1 v)) l))
+    (λ t. none-some (rw t at s.2))
 
 few-lines : (f : Form) (d : ℕ) → credit f 0 ≡ some d → (p : List ℕ) → Viable f p → newlines p * 8 ≤ length p
 few-lines f d e p s =
-    let r : Paid 0 (p ++ s .0) d = rw (s .3) (credit-paid f 0 d e (s .1)) in
-    omega (arith, paid-begun p (s .0) r)
+    let r : Paid 0 (p ++ s.0) d = rw s.3 (credit-paid f 0 d e s.1) in
+    omega (arith, paid-begun p s.0 r)
 
 -- the beginnings of an index text
 pub index-lines : (p : List ℕ) → Viable indexForm p → newlines p * 8 ≤ length p
@@ -148,4 +148,4 @@ index-lines = few-lines indexForm _ refl
 -- the bad line, where beginnings have few lines
 pub bad-line : (f : Form) → ((p : List ℕ) → Viable f p → newlines p * 8 ≤ length p) → (t : List ℕ) (n : ℕ) → Longest f t n → lineOf t n * 8 ≤ length t + 8
 unfolding lineOf
-bad-line f few t n l = omega (arith, few (take n t) (l .viable), l .inside, length-take-le n t (l .inside))
+bad-line f few t n l = omega (arith, few (take n t) l.viable, l.inside, length-take-le n t l.inside)

@@ -65,12 +65,12 @@ pub leading : (n : ℕ) → Leading n
 leading =
     by-digits Leading
     (λ d l. record { digit = d; rest = []; small = l; no-zero = λ h. h; spelled = spell-one d l })
-    (λ m d h l i. record { digit = i .digit; rest = i .rest ++ ((48 + d) ∷ []); small = i .small; no-zero = λ _. i .no-zero h; spelled = rw (spell-more m d h l, i .spelled) })
+    (λ m d h l i. record { digit = i.digit; rest = i.rest ++ ((48 + d) ∷ []); small = i.small; no-zero = λ _. i.no-zero h; spelled = rw (spell-more m d h l, i.spelled) })
 
 -- ---- a number above 0
 
 pub is-digit : (b : ℕ) → isDigit b ≡ true → (48 ≤ b) × (b ≤ 57)
-is-digit b e = let h = and-true _ _ e in (leb-true 48 b (h .0), leb-true b 57 (h .1))
+is-digit b e = let h = and-true _ _ e in (leb-true 48 b h.0, leb-true b 57 h.1)
 
 pub digit-is : (d : ℕ) → d < 10 → isDigit (48 + d) ≡ true
 digit-is d h = rw (le-leb 48 (48 + d) (omega arith), le-leb (48 + d) 57 (omega arith))
@@ -99,25 +99,25 @@ reach-more m d k l r =
     let e : 48 + d - 48 ≡ d = omega arith in
     let h : 0 < m = omega arith in
     record {
-      count = suc (r .count);
+      count = suc r.count;
       all = omega arith;
       low = omega arith;
       high = omega arith;
-      reads = λ t. rw (spell-more m d h l, append-assoc, r .reads, digit-is d l, readDigits, e);
+      reads = λ t. rw (spell-more m d h l, append-assoc, r.reads, digit-is d l, readDigits, e);
     }
 
 reach : (n : ℕ) → Positive n → (k : ℕ) × Reach n k
 reach =
     by-digits (λ n. Positive n → (k : ℕ) × Reach n k)
-    (λ d l h. (17, reach-one d (h .0) l))
-    (λ m d p l i h. more m d l (h .1) (i (p, omega arith)))
+    (λ d l h. (17, reach-one d h.0 l))
+    (λ m d p l i h. more m d l h.1 (i (p, omega arith)))
   where
     more : (m d : ℕ) → d < 10 → 10 * m + d < 10 ^ 18 → (k : ℕ) × Reach m k → (k : ℕ) × Reach (10 * m + d) k
-    more m d l h (zero, r) = let e : r .count ≡ 17 = omega arith in absurd (omega (arith, rw e at (r .low)))
+    more m d l h (zero, r) = let e : r.count ≡ 17 = omega arith in absurd (omega (arith, rw e at r.low))
     more m d l h (suc k, r) = (k, reach-more m d k l r)
 
 reach-good : (n k : ℕ) → Reach n k → Positive n
-reach-good n k r = (omega arith, omega (arith, r .high, pow-le-pow-right {n = 10} (omega arith) {i = suc (r .count)} {j = 18} (omega (arith, r .all))))
+reach-good n k r = (omega arith, omega (arith, r.high, pow-le-pow-right {n = 10} (omega arith) {i = suc r.count} {j = 18} (omega (arith, r.all))))
 
 digits-stop : (k n : ℕ) (t : List ℕ) → NotNext isDigit t → readDigits k n t ≡ got n t
 unfolding readDigits
@@ -130,7 +130,7 @@ above = record { reads = readPositive; spells = spellℕ; Good = Positive }
 
 digits-read : (k n : ℕ) (t : List ℕ) → Reach n k → Outcome above (spellℕ n ++ t) (readDigits k n t)
 unfolding readDigits
-digits-read zero n t r = record { good = reach-good n zero r; parts = refl; steady = λ w l. r .reads w }
+digits-read zero n t r = record { good = reach-good n zero r; parts = refl; steady = λ w l. r.reads w }
 digits-read (suc k) n [] r = record { good = reach-good n (suc k) r; parts = refl; steady = λ w l. elim l [ ] }
 digits-read (suc k) n (b ∷ t) r =
     on-flag (isDigit b)
@@ -139,7 +139,7 @@ digits-read (suc k) n (b ∷ t) r =
     let c : 48 + (b - 48) ≡ b = omega arith in
     let p : spellℕ (10 * n + (b - 48)) ++ t ≡ spellℕ n ++ (b ∷ t) = rw (spell-more n (b - 48) (reach-good n (suc k) r .0) l, append-assoc, c) in
     rw (e, readDigits) (rw p at (digits-read k _ t (reach-more n (b - 48) k l r))))
-    (λ e. rw (e, readDigits) (record { good = reach-good n (suc k) r; parts = refl; steady = like (λ w. readPositive _ ≡ got n w) (λ w. r .reads (b ∷ w) ∙ digits-stop (suc k) n (b ∷ w) e) }))
+    (λ e. rw (e, readDigits) (record { good = reach-good n (suc k) r; parts = refl; steady = like (λ w. readPositive _ ≡ got n w) (λ w. r.reads (b ∷ w) ∙ digits-stop (suc k) n (b ∷ w) e) }))
 
 positive-not : (t : List ℕ) → ((w : List ℕ) → Alike t w → readPositive w ≡ bad w) → Refused above t t
 positive-not t h = refused-here above 1 (omega arith, omega arith) t h
@@ -150,15 +150,15 @@ positive-read [] = positive-not [] (λ w l. elim l [ ])
 positive-read (b ∷ t) =
     on-flag _
     (λ e. let h = and-true (isDigit b) (ltb 48 b) e in
-    let g = is-digit b (h .0) in
+    let g = is-digit b h.0 in
     let l : b - 48 < 10 = omega arith in
-    let a : 0 < b - 48 = omega (arith, ltb-true 48 b (h .1)) in
+    let a : 0 < b - 48 = omega (arith, ltb-true 48 b h.1) in
     let c : 48 + (b - 48) ≡ b = omega arith in
     rw (e, readPositive) (rw (spell-one (b - 48) l, c) at (digits-read 17 (b - 48) t (reach-one (b - 48) a l))))
     (λ e. rw (e, readPositive) (positive-not (b ∷ t) (like (λ w. readPositive w ≡ bad w) (λ w. rw (e, readPositive)))))
 
 positive-back : (n : ℕ) → Positive n → (t : List ℕ) → NotNext isDigit t → readPositive (spellℕ n ++ t) ≡ got n t
-positive-back n h t f = let r = reach n h in r .1 .reads t ∙ digits-stop (r .0) n t f
+positive-back n h t f = let r = reach n h in r.1.reads t ∙ digits-stop r.0 n t f
 
 -- ---- whole numbers
 
@@ -177,8 +177,8 @@ unfolding readℤ spellℤ withSign
 read-spelled (pos zero) h t f = rw (spell-one 0 (omega arith))
 read-spelled (pos (suc n)) h t f =
     let l = leading (suc n) in
-    let a : 0 < l .digit = l .no-zero (omega arith) in
-    let e : readℤ (spellℕ (suc n) ++ t) ≡ withSign pos (readPositive (spellℕ (suc n) ++ t)) = rw (l .spelled) (read-plain _ (ne-eqb (48 + l .digit) 45 (λ e. omega arith)) (ne-eqb (48 + l .digit) 48 (λ e. omega arith)) (l .rest ++ t)) in
+    let a : 0 < l.digit = l.no-zero (omega arith) in
+    let e : readℤ (spellℕ (suc n) ++ t) ≡ withSign pos (readPositive (spellℕ (suc n) ++ t)) = rw l.spelled (read-plain _ (ne-eqb (48 + l.digit) 45 (λ e. omega arith)) (ne-eqb (48 + l.digit) 48 (λ e. omega arith)) (l.rest ++ t)) in
     e ∙ rw (positive-back (suc n) (omega arith, h) t f)
 read-spelled (negsuc n) h t f = rw (positive-back (suc n) (omega arith, h) t f)
 
@@ -198,7 +198,7 @@ module _ (sign : List ℕ) (f : ℕ → ℤ) (made : (n : ℕ) → Positive n �
 minus-made : (n : ℕ) → Positive n → Short (negℤ (pos n)) × (spellℤ (negℤ (pos n)) ≡ 45 ∷ spellℕ n)
 unfolding spellℤ
 minus-made zero h = absurd (omega arith)
-minus-made (suc n) h = (h .1, refl)
+minus-made (suc n) h = (h.1, refl)
 
 -- nothing else is read, and a refusal comes behind the beginning of a spelled number
 pub number-read : (t : List ℕ) → Outcome theNumber t (readℤ t)
@@ -211,10 +211,10 @@ number-read (b ∷ t) =
     (λ f. rw (eqb-true b 48 f)
     (outcome-as _ theNumber (λ v h. rw h (omega arith, sym (spell-one 0 (omega arith)))) (48 ∷ t)
     (like (λ s. readℤ s ≡ readWord (48 ∷ []) (pos 0) s) (λ r. refl)) (got (pos 0) t) (word-read (48 ∷ []) (pos 0) (48 ∷ t))))
-    (λ f. rw (read-plain b e f t) (signed [] pos (λ n g. (g .1, refl)) (b ∷ t) (like (λ s. readℤ s ≡ signThen [] pos s) (λ r. read-plain b e f r)))))
+    (λ f. rw (read-plain b e f t) (signed [] pos (λ n g. (g.1, refl)) (b ∷ t) (like (λ s. readℤ s ≡ signThen [] pos s) (λ r. read-plain b e f r)))))
 
 pub read-spelled-only : (t : List ℕ) (z : ℤ) (u : List ℕ) → readℤ t ≡ got z u → Short z × (t ≡ spellℤ z ++ u)
-read-spelled-only t z u e = let k : Taken theNumber t z u = rw e at (number-read t) in (k .good, k .parts)
+read-spelled-only t z u e = let k : Taken theNumber t z u = rw e at (number-read t) in (k.good, k.parts)
 
 pub read-refused : (t u : List ℕ) → readℤ t ≡ bad u → Refused theNumber t u
 read-refused t u e = rw e at (number-read t)

@@ -1,8 +1,8 @@
 -- Reading on: a form read, and then what is left of the text by a function of the value. So every place inside a form has its own reader for the rest, and a byte takes one such reader to the next: this is what an automaton follows (`Automaton`).
 use Prim.Native.String.{String}
 use Rattle.meaning_numbers.proofs.Prelude.{_≡_, refl, ap, _∙_, fun-ext, List, [], _∷_, _++_, Bool, true, false, ℕ, zero, suc, _<_, _≤_, arith, eqb, length, getD, drop, drop-of-length-le, length-append, drop-cons}
-use Rattle.meaning_text.specs.{Bytes.bytes, Number.Read, Number.got, Number.bad}
 use Rattle.meaning_text.specs.Form.{Form, oneOf, lead, trail, both, many, Value, spell, readWord, thenRead, wordStarts, starts, readOne, readMany, read}
+use Rattle.meaning_text.specs.{Bytes.bytes, Number.Read, Number.got, Number.bad}
 use Rattle.meaning_text.proofs.{Reading.on-flag, Reading.Begun, Reading.begun, Reading.Taken, Form.decided, Form.theForm, Form.form-read}
 
 -- a reader of what is left of a text
@@ -88,7 +88,7 @@ module _ (f : Form) (d : decided f ≡ true) (first : (v : Value f) → Begun (s
   shorter : (t u : List ℕ) (a : Value f) → read f t ≡ got a u → length u < length t
   shorter t u a e =
       let k : Taken (theForm f) t a u = rw e at (form-read f d t) in
-      omega (arith, begun-long (first a), simp length-append at (ap length (k .parts)))
+      omega (arith, begun-long (first a), simp length-append at (ap length k.parts))
     where
       begun-long : {p : ℕ → Bool} {s : List ℕ} → Begun p s → 0 < length s
       begun-long (begun e) = omega arith

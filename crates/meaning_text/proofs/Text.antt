@@ -2,15 +2,16 @@
 -- A refusal does not depend on what stands behind the bad byte (`Form`), so no text in the form goes on with it.
 use Rattle.meaning_numbers.proofs.Prelude.{_≡_, refl, sym, ap, _∙_, List, [], _∷_, _++_, append-assoc, append-nil, true, ℕ, zero, suc, _+_, _-_, _<_, _≤_, arith, length, take, length-append, take-at, take-append-add, ltb-true, ltb-false}
 use Rattle.meaning_text.specs.{Number.Read, Number.got, Number.bad, Form.Form, Form.Value, Form.spell, Form.Spellable, Form.read, Read.Verdict, Read.fine, Read.unfit, Read.ended, Read.readText, Read.Viable, Read.Longest}
-use Rattle.meaning_text.proofs.{Reading.on-flag, Reading.Alike, Reading.alike, Reading.Outcome, Form.decided, Form.theForm, Form.form-read, Form.spelled-read, Form.refused-viable}
+use Rattle.meaning_text.proofs.Reading.{on-flag, Alike, alike, Outcome}
+use Rattle.meaning_text.proofs.Form.{decided, theForm, form-read, spelled-read, refused-viable}
 
 -- two places that both end the longest beginning are the same
 pub longest-only : (f : Form) (t : List ℕ) (m n : ℕ) → Longest f t m → Longest f t n → m ≡ n
 longest-only f t m n a b =
     on-flag _
-    (λ e. absurd (a .longest n (ltb-true m n e) (b .inside) (b .viable)))
+    (λ e. absurd (a.longest n (ltb-true m n e) b.inside b.viable))
     (λ e. on-flag _
-    (λ g. absurd (b .longest m (ltb-true n m g) (a .inside) (a .viable)))
+    (λ g. absurd (b.longest m (ltb-true n m g) a.inside a.viable))
     (λ g. omega (arith, ltb-false m n e, ltb-false n m g)))
 
 fine-same : {A : Type 0} {v w : A} → fine v ≡ fine w → v ≡ w
@@ -36,7 +37,7 @@ module _ (f : Form) (t p u : List ℕ) (parts : t ≡ p ++ u) (viable : Viable f
   longer : (r : List ℕ) → u ≡ r → (k : ℕ) → 0 < k → k ≤ length r → Viable f (p ++ take k r) → ⊥
   longer [] e k h g s = omega arith
   longer (b ∷ r) e zero h g s = omega arith
-  longer (b ∷ r) e (suc k) h g s = stops _ (rw e alike) (s .1) (s .2) (rw append-assoc at (s .3))
+  longer (b ∷ r) e (suc k) h g s = stops _ (rw e alike) s.1 s.2 (rw append-assoc at s.3)
 
   longest-at : Longest f t (length t - length u)
   longest-at =
@@ -67,7 +68,7 @@ module _ (f : Form) (decides : decided f ≡ true) where
 
   ends-fine : (t : List ℕ) (x : Read (Value f)) (v : Value f) → Outcome (theForm f) t x → ended (length t) x ≡ fine v → Spellable f v × (t ≡ spell f v)
   unfolding ended
-  ends-fine t (got a []) v o e = rw (← fine-same e) (o .good, o .parts ∙ append-nil (spell f a))
+  ends-fine t (got a []) v o e = rw (← fine-same e) (o.good, o.parts ∙ append-nil (spell f a))
   ends-fine t (got a (b ∷ u)) v o e = unfit-fine e
   ends-fine t (bad u) v o e = unfit-fine e
 
@@ -76,10 +77,10 @@ module _ (f : Form) (decides : decided f ≡ true) where
   ends-unfit t (got a []) n o e = unfit-fine (sym e)
   ends-unfit t (got a (b ∷ u)) n o e =
       rw (← unfit-same e)
-      (longest-at f t (spell f a) (b ∷ u) (o .parts) ([], a, o .good, append-nil (spell f a))
-      (λ w l v g s. let z : got a w ≡ got v [] = sym (o .steady w l) ∙ ap (read f) s ∙ read-whole v g in not-empty l (got-same z .1)))
+      (longest-at f t (spell f a) (b ∷ u) o.parts ([], a, o.good, append-nil (spell f a))
+      (λ w l v g s. let z : got a w ≡ got v [] = sym (o.steady w l) ∙ ap (read f) s ∙ read-whole v g in not-empty l (got-same z .1)))
   ends-unfit t (bad u) n o e =
-      rw (← unfit-same e) (longest-at f t (o .before) u (o .parts) (refused-viable f t u o) (λ w l v g s. bad-got (sym (o .steady w l) ∙ ap (read f) s ∙ read-whole v g)))
+      rw (← unfit-same e) (longest-at f t o.before u o.parts (refused-viable f t u o) (λ w l v g s. bad-got (sym (o.steady w l) ∙ ap (read f) s ∙ read-whole v g)))
 
   pub lawful : Lawful f
   unfolding readText ended

@@ -2,8 +2,8 @@
 use Rattle.meaning_numbers.proofs.Prelude.{_≡_, refl, sym, ap, List, [], _∷_, map, ℕ, take}
 use Rattle.meaning_rows.specs.Index.{Index, RangeRow, laidOut, rangeRows}
 use Rattle.meaning_rows.proofs.{Judge.WellFormed, Judge.runTotal, Laid.rows-back, Laid.laid-again}
-use Rattle.meaning_text.specs.{Form.Value, Form.Spellable, Read.fine, Read.readText}
 use Rattle.meaning_text.specs.Texts.{indexForm, seriesForm, findForm, programForm, foundForm, refusedForm, rowForm, rowSaid, sayRow, indexSaid, sayIndex, indexText}
+use Rattle.meaning_text.specs.{Form.Value, Form.Spellable, Read.fine, Read.readText}
 use Rattle.meaning_text.proofs.{Open.openText, Form.filled, Form.clearWord, Form.clear, Form.follows, Form.firm, Form.opens, Form.decided, Text.Lawful, Text.lawful}
 
 unfoldable openDecided : Unit {0}
@@ -50,20 +50,20 @@ unfolding indexSaid sayIndex
 say-said v = rw (rows-back, said-rows)
 
 -- what is written, read again, is the rows with their runs, laid out
-pub said-say : (x : Index) → indexSaid (sayIndex x) ≡ laidOut (x .window) (x .width) (x .windows) (rangeRows x)
+pub said-say : (x : Index) → indexSaid (sayIndex x) ≡ laidOut x.window x.width x.windows (rangeRows x)
 unfolding indexSaid sayIndex
 said-say x = rw say-rows
 
 -- an index that is well formed, written and read again, has the same rows, and of the run entries those that its rows have
-pub said-again : (x : Index) → WellFormed x → (indexSaid (sayIndex x) .rows ≡ x .rows) × (indexSaid (sayIndex x) .runs ≡ take (runTotal (x .rows)) (x .runs))
+pub said-again : (x : Index) → WellFormed x → (indexSaid (sayIndex x) .rows ≡ x.rows) × (indexSaid (sayIndex x) .runs ≡ take (runTotal x.rows) x.runs)
 said-again x h = rw (said-say x) (laid-again x h)
 
 -- an index text that is read, written again, is the same text
 pub index-again : (t : List ℕ) (v : Value indexForm) → readText indexForm t ≡ fine v → indexText (indexSaid v) ≡ t
 unfolding indexText
-index-again t v e = rw say-said (sym (index-laws .reads-only t v e .1))
+index-again t v e = rw say-said (sym (index-laws.reads-only t v e .1))
 
 -- an index that is written is read again
 pub index-back : (x : Index) → Spellable indexForm (sayIndex x) → readText indexForm (indexText x) ≡ fine (sayIndex x)
 unfolding indexText
-index-back x g = index-laws .reads-back (sayIndex x) g
+index-back x g = index-laws.reads-back (sayIndex x) g

@@ -51,7 +51,7 @@ spell number z = spellℤ z
 spell (oneOf v w) t = spellOne v w t
 spell (lead w f) x = bytes w ++ spell f x
 spell (trail f w) x = spell f x ++ bytes w
-spell (both f g) x = spell f (x .0) ++ spell g (x .1)
+spell (both f g) x = spell f x.0 ++ spell g x.1
 spell (many f) l = spellMany (spell f) l
 
 -- each of the values has the property
@@ -65,7 +65,7 @@ Spellable number z = Short z
 Spellable (oneOf v w) t = Unit {0}
 Spellable (lead w f) x = Spellable f x
 Spellable (trail f w) x = Spellable f x
-Spellable (both f g) x = Spellable f (x .0) × Spellable g (x .1)
+Spellable (both f g) x = Spellable f x.0 × Spellable g x.1
 Spellable (many f) l = Each (Spellable f) l
 
 -- ---- reading

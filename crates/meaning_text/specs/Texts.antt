@@ -55,19 +55,19 @@ refusedForm = trail (both (lead "(refused " number) (lead " " number)) ")\n"
 
 -- the row that a line gives
 abbrev pub rowSaid : Value rowForm → RangeRow
-rowSaid v = record { low = v .0; up = v .1 .0; runs = v .1 .1 }
+rowSaid v = record { low = v.0; up = v.1.0; runs = v.1.1 }
 
 -- a row as a line says it
 abbrev pub sayRow : RangeRow → Value rowForm
-sayRow r = (r .low, (r .up, r .runs))
+sayRow r = (r.low, (r.up, r.runs))
 
 -- the index that a text gives, its rows laid out in order
 unfoldable pub indexSaid : Value indexForm → Index
-indexSaid v = laidOut (v .0) (v .1 .0) (v .1 .1 .0) (map rowSaid (v .1 .1 .1))
+indexSaid v = laidOut v.0 v.1.0 v.1.1.0 (map rowSaid v.1.1.1)
 
 -- an index as a text says it
 unfoldable pub sayIndex : Index → Value indexForm
-sayIndex x = (x .window, (x .width, (x .windows, map sayRow (rangeRows x))))
+sayIndex x = (x.window, (x.width, (x.windows, map sayRow (rangeRows x))))
 
 -- the index text
 unfoldable pub indexText : Index → List ℕ
@@ -80,7 +80,7 @@ kindSaid false = Normal
 
 -- the list's text: match count, candidates, and for each match offset and distance
 unfoldable pub foundText : ℕ → ℕ → List (ℕ × ℕ) → List ℕ
-foundText matches candidates l = spell foundForm (pos matches, (pos candidates, map (λ x. (pos (x .0), pos (x .1))) l))
+foundText matches candidates l = spell foundForm (pos matches, (pos candidates, map (λ x. (pos x.0, pos x.1)) l))
 
 -- a refusal's text
 unfoldable pub refusedText : ℕ → ℕ → List ℕ

@@ -10,8 +10,8 @@ left-early h k = record { exact = λ l. absurd (omega arith); above = λ l. k }
 
 -- above the limit there is no number but one that is too large
 pub within-above : {d limit r : ℕ} → Within d limit r → limit < r → limit < d
-within-above {d} {limit} w h = elim (decLe d limit) [ yes l ↦ absurd (omega (arith, w .exact l)) | no f ↦ omega arith ]
+within-above {d} {limit} w h = elim (decLe d limit) [ yes l ↦ absurd (omega (arith, w.exact l)) | no f ↦ omega arith ]
 
 -- at or below the limit it is the number
 pub within-exact : {d limit r : ℕ} → Within d limit r → r ≤ limit → r ≡ d
-within-exact {d} {limit} w h = elim (decLe d limit) [ yes l ↦ w .exact l | no f ↦ absurd (omega (arith, w .above (omega arith))) ]
+within-exact {d} {limit} w h = elim (decLe d limit) [ yes l ↦ w .exact l | no f ↦ absurd (omega (arith, w.above (omega arith))) ]

@@ -8,4 +8,4 @@ abbrev pub raised : ℤ → ℕ
 raised x = (up x + 10000) - dn x
 
 pub raised-le : {x : ℤ} → InLimits x → raised x ≤ 20000
-raised-le {x} h = omega (zarith, h .low, h .high)
+raised-le {x} h = omega (zarith, h.low, h.high)

@@ -53,7 +53,7 @@ module _ (x : Index) where
   refusal s k true e f = rw (e, f) refl
   refusal s k false e f = rw e refl
 
-  refused : (s : List ℤ) (p : ℕ × ℕ) → firstRefusal (auditTable mostValues (record { series = s; index = x })) ≡ some p → answer s ≡ Audited.Refused (p .0) (p .1)
+  refused : (s : List ℤ) (p : ℕ × ℕ) → firstRefusal (auditTable mostValues (record { series = s; index = x })) ≡ some p → answer s ≡ Audited.Refused p.0 p.1
   unfolding auditAnswer
   refused s p e = rw (e, auditAnswer) refl
 

@@ -60,7 +60,7 @@ module _ (x s : List ℕ) where
         by (unfit p) e =
             let f : Line.Bad q ≡ Line.Bad p = l ∙ ap lineRead e in
             let z : q ≡ p = cc in
-            ap (λ (k : ℕ). Audited.Refused 12 (newlines x + lineOf s k)) z ∙ sym (line-unread x s (readable .value) (readable .read) p e)
+            ap (λ (k : ℕ). Audited.Refused 12 (newlines x + lineOf s k)) z ∙ sym (line-unread x s readable.value readable.read p e)
 
     pub line-counted : (n : ℕ) (buffer : List ℤ) → Line.Fine n ≡ lineRead (readText seriesForm s) → Stored s (replicate 4096 (pos 0)) buffer → countedAnswer (textIndex x) buffer n ≡ auditTextAnswer x s
     unfolding Stored
@@ -70,5 +70,5 @@ module _ (x s : List ℕ) where
         by (fine w) e =
             let f : Line.Fine n ≡ Line.Fine (length w) = l ∙ ap lineRead e in
             let z : n ≡ length w = cc in
-            ap (countedAnswer (textIndex x) buffer) z ∙ both-read x s (readable .value) (readable .read) w e buffer (k w e)
+            ap (countedAnswer (textIndex x) buffer) z ∙ both-read x s readable.value readable.read w e buffer (k w e)
         by (unfit p) e = let f = l ∙ ap lineRead e in let z : _≡_ {A = ℕ} 0 1 = cc in absurd (omega arith)

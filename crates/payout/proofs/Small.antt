@@ -7,8 +7,8 @@ use Rattle.meaning_rows.proofs.Audit.{first-wrong, missing-are}
 use Rattle.meaning_rows.proofs.Judge.{GoodRows, between, runs-lengths, well-formed, first-bad, rows-at-most, row-at, stands-below}
 use Rattle.meaning_text.specs.{Bytes.bytes, Bytes.newlines, Number.spellℕ, Number.spellℤ, Form.Value, Form.spellMany, Form.spell, Read.Verdict, Read.fine, Read.unfit, Read.readText, Read.lineOf, Texts.indexForm, Texts.seriesForm}
 use Rattle.meaning_text.proofs.{Reading.on-flag, Number.spell-one, Number.spell-more, Number.by-digits, Texts.index-laws, Texts.series-laws, Lines.newlines-append, Lines.index-lines, Lines.bad-line}
-use Rattle.meaning_entries.specs.{declared.Audited.Audited, Audit.AuditCall, Audit.auditTable, Audit.complete, Audit.audited, Load.textIndex, AuditText.packRefusal, AuditText.pack, AuditText.auditTextAnswer}
 use Rattle.meaning_entries.specs.Refusal.{Condition, firstRefusal, lengthOutside, valueOutside, illFormed, windowsOf, fewerWindows, moreWindows}
+use Rattle.meaning_entries.specs.{declared.Audited.Audited, Audit.AuditCall, Audit.auditTable, Audit.complete, Audit.audited, Load.textIndex, AuditText.packRefusal, AuditText.pack, AuditText.auditTextAnswer}
 use Rattle.meaning_entries.proofs.Refusal.{First, here, later, is-passed, is-first, openLines, passed-line}
 use Rattle.text_feed.specs.Keep.{leading}
 use Rattle.text_feed.proofs.Keep.{leading-outside}
@@ -44,39 +44,39 @@ series-one w =
 line-two : (s : List ℕ) (q : ℕ) → readText seriesForm s ≡ unfit q → lineOf s q ≤ 2
 unfolding lineOf
 line-two s q e =
-    let b = series-laws .first-bad s q e .viable in
-    omega (arith, series-one (b .1), newlines-append (take q s) (b .0), ap newlines (b .3))
+    let b = series-laws.first-bad s q e .viable in
+    omega (arith, series-one b.1, newlines-append (take q s) b.0, ap newlines b.3)
 
 -- the lines of an index text
 index-few : (x : List ℕ) (v : Value indexForm) → readText indexForm x ≡ fine v → newlines x * 8 ≤ length x
-index-few x v e = let o = index-laws .reads-only x v e in index-lines x ([], v, o .0, append-nil x ∙ o .1)
+index-few x v e = let o = index-laws.reads-only x v e in index-lines x ([], v, o.0, append-nil x ∙ o.1)
 
 -- ---- rows and offsets
 
-rows-few : (x : Index) (least : ℤ) (first taken : ℕ) (l : List Row) → taken ≤ natAbs (x .windows) → GoodRows x least first taken l → taken + length l ≤ natAbs (x .windows)
+rows-few : (x : Index) (least : ℤ) (first taken : ℕ) (l : List Row) → taken ≤ natAbs x.windows → GoodRows x least first taken l → taken + length l ≤ natAbs x.windows
 unfolding GoodRows
 rows-few x least first taken [] h g = omega arith
 rows-few x least first taken (r ∷ l) h g =
-    let n = g .0 in
-    omega (arith, rows-few x (r .up) _ _ l (n .total) (g .1), runs-lengths x r (n .row), n .row .some-run)
+    let n = g.0 in
+    omega (arith, rows-few x r.up _ _ l n.total g.1, runs-lengths x r n.row, n.row.some-run)
 
 bad-row-few : (x : Index) (k : ℕ) → firstBadRow x ≡ some k → k ≤ mostValues
 bad-row-few x k e = ⊎-elim
-    (λ z. omega (arith, z .0))
-    (λ b. let w = b .head .windows in
-    omega (arith, rows-few x lowestEnd 0 0 _ (omega arith) (b .before), length-take-le k (x .rows) (omega (arith, b .is-row)), w .most))
+    (λ z. omega (arith, z.0))
+    (λ b. let w = b.head.windows in
+    omega (arith, rows-few x lowestEnd 0 0 _ (omega arith) b.before, length-take-le k x.rows (omega (arith, b.is-row)), w.most))
     (first-bad x k e)
 
 -- ---- refusals
 
 -- a line of a table with a small number and small places
 abbrev SmallLine : Condition → Type 0
-SmallLine c = (c .number < 32) × ((p : ℕ) → c .place ≡ some p → p ≤ mostValues)
+SmallLine c = (c.number < 32) × ((p : ℕ) → c.place ≡ some p → p ≤ mostValues)
 
 first-small : {l : List Condition} {n p : ℕ} → All SmallLine l → First l n p → (n < 32) × (p ≤ mostValues)
 unfolding All
-first-small {p = p} a (here e) = (a .0 .0, a .0 .1 p e)
-first-small a (later e f) = first-small (a .1) f
+first-small {p = p} a (here e) = (a.0.0, a.0.1 p e)
+first-small a (later e f) = first-small a.1 f
 
 none-some : {A : Type 0} {n : ℕ} → none ≡ some n → A
 none-some e = let z : _≡_ {A = ℕ} 0 1 = cc in absurd (omega arith)
@@ -119,43 +119,43 @@ module _ (c : AuditCall) where
   abbrev table : List Condition
   table = auditTable mostProgramValues c
 
-  long-line : SmallLine (lengthOutside mostProgramValues (length (c .series)))
+  long-line : SmallLine (lengthOutside mostProgramValues (length c.series))
   unfolding lengthOutside
-  long-line = (omega arith, zero-place (not (lengthIn mostProgramValues (length (c .series)))))
+  long-line = (omega arith, zero-place (not (lengthIn mostProgramValues (length c.series))))
 
-  value-line : length (c .series) ≤ mostProgramValues → SmallLine (valueOutside (c .series))
+  value-line : length c.series ≤ mostProgramValues → SmallLine (valueOutside c.series)
   unfolding valueOutside
-  value-line h = (omega arith, λ p e. outside-few (c .series) p h e)
+  value-line h = (omega arith, λ p e. outside-few c.series p h e)
 
-  formed-line : SmallLine (illFormed (c .index))
+  formed-line : SmallLine (illFormed c.index)
   unfolding illFormed
-  formed-line = (omega arith, λ p e. bad-row-few (c .index) p e)
+  formed-line = (omega arith, λ p e. bad-row-few c.index p e)
 
-  fewer-line : SmallLine (fewerWindows (c .index) (length (c .series)))
+  fewer-line : SmallLine (fewerWindows c.index (length c.series))
   unfolding fewerWindows
-  fewer-line = (omega arith, zero-place (ltZ (c .index .windows) (windowsOf (c .index) (length (c .series)))))
+  fewer-line = (omega arith, zero-place (ltZ c.index.windows (windowsOf c.index (length c.series))))
 
-  more-line : SmallLine (moreWindows (c .index) (length (c .series)))
+  more-line : SmallLine (moreWindows c.index (length c.series))
   unfolding moreWindows
-  more-line = (omega arith, zero-place (ltZ (windowsOf (c .index) (length (c .series))) (c .index .windows)))
+  more-line = (omega arith, zero-place (ltZ (windowsOf c.index (length c.series)) c.index.windows))
 
-  lines : length (c .series) ≤ mostProgramValues → All SmallLine table
+  lines : length c.series ≤ mostProgramValues → All SmallLine table
   unfolding All auditTable
   lines h = (long-line, (value-line h, (formed-line, (fewer-line, (more-line, tt)))))
 
-  small-audited : firstBadRow (c .index) ≡ none → pack (audited c) < 2 ^ 64
+  small-audited : firstBadRow c.index ≡ none → pack (audited c) < 2 ^ 64
   unfolding audited pack
   small-audited h = by _ refl
     where
-      by : (o : Option (ℕ × ℕ)) → firstWrong (c .index) (c .series) ≡ o → pack (audited c) < 2 ^ 64
+      by : (o : Option (ℕ × ℕ)) → firstWrong c.index c.series ≡ o → pack (audited c) < 2 ^ 64
       by none e =
-          let g = well-formed (c .index) h in
-          rw (e, audited) (small-complete _ (omega (arith, missing-are (c .index) (c .series) g e, g .head .windows .most)))
+          let g = well-formed c.index h in
+          rw (e, audited) (small-complete _ (omega (arith, missing-are c.index c.series g e, g.head.windows.most)))
       by (some p) e =
-          let g = well-formed (c .index) h in
-          let w = first-wrong (c .index) (c .series) g zeroRow (p .0) (p .1) e in
-          let j = stands-below (c .index) (getD (c .index .rows) (p .0) zeroRow) (p .1) (row-at (c .index) g zeroRow (p .0) (w .is-row)) (w .stands-there) in
-          rw (e, audited) (omega (arith, w .is-row, rows-at-most (c .index) g, j, g .head .windows .most))
+          let g = well-formed c.index h in
+          let w = first-wrong c.index c.series g zeroRow p.0 p.1 e in
+          let j = stands-below c.index (getD c.index.rows p.0 zeroRow) p.1 (row-at c.index g zeroRow p.0 w.is-row) w.stands-there in
+          rw (e, audited) (omega (arith, w.is-row, rows-at-most c.index g, j, g.head.windows.most))
 
 -- ---- the number
 
@@ -178,11 +178,11 @@ module _ (x s : List ℕ) (few : length x < 2 ^ 63) where
     by-length true e none f = rw (none-refuses x s v readable w read (table-is x s v readable w read ∙ f)) (small-audited call (formed f))
     by-length true e (some p) f =
         let b = between 1 mostProgramValues (pos (length w)) e in
-        let k = first-small (lines call (b .most)) (is-first (auditTable mostProgramValues call) (p .0) (p .1) f) in
-        rw (refused-by x s p (table-is x s v readable w read ∙ f)) (small-refusal (p .0) (p .1) (k .0) (k .1))
+        let k = first-small (lines call b.most) (is-first (auditTable mostProgramValues call) p.0 p.1 f) in
+        rw (refused-by x s p (table-is x s v readable w read ∙ f)) (small-refusal p.0 p.1 k.0 k.1)
 
   small-by : (a : Verdict (Value indexForm)) (b : Verdict (List ℤ)) → readText indexForm x ≡ a → readText seriesForm s ≡ b → pack (auditTextAnswer x s) < 2 ^ 64
-  small-by (unfit q) b e f = by-line (lineOf x q) (index-unread x s q e) (omega (arith, bad-line indexForm index-lines x q (index-laws .first-bad x q e)))
+  small-by (unfit q) b e f = by-line (lineOf x q) (index-unread x s q e) (omega (arith, bad-line indexForm index-lines x q (index-laws.first-bad x q e)))
   small-by (fine v) (unfit q) e f = by-line (newlines x + lineOf s q) (line-unread x s v e q f) (omega (arith, index-few x v e, line-two s q f))
   small-by (fine v) (fine w) e f = by-length v e w f (lengthIn mostProgramValues (length w)) refl (firstRefusal (auditTable mostProgramValues (record { series = w; index = textIndex x }))) refl
 

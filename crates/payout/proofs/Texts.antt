@@ -10,7 +10,7 @@ use Rattle.payout.specs.Counted.{countedAnswer}
 use Rattle.payout.proofs.Clamped.{clamped-answer}
 
 module _ (x s : List ℕ) where
-  pub refused-by : (p : ℕ × ℕ) → firstRefusal (auditTextTable x s) ≡ some p → auditTextAnswer x s ≡ Audited.Refused (p .0) (p .1)
+  pub refused-by : (p : ℕ × ℕ) → firstRefusal (auditTextTable x s) ≡ some p → auditTextAnswer x s ≡ Audited.Refused p.0 p.1
   unfolding auditTextAnswer
   refused-by p e = rw (e, auditTextAnswer) refl
 
@@ -50,7 +50,7 @@ module _ (x s : List ℕ) where
       none-refuses e = rw (e, auditTextAnswer, series-is) refl
 
       library : lengthIn mostProgramValues (length w) ≡ true → lengthIn mostValues (length w) ≡ true
-      library e = let b = between 1 mostProgramValues _ e in is-within 1 mostValues _ (record { is = refl; least = b .least; most = omega arith })
+      library e = let b = between 1 mostProgramValues _ e in is-within 1 mostValues _ (record { is = refl; least = b.least; most = omega arith })
 
       inside : lengthIn mostProgramValues (length w) ≡ true → firstRefusal (auditTable mostProgramValues call) ≡ firstRefusal (auditTable mostValues call)
       unfolding firstRefusal auditTable lengthOutside
@@ -77,6 +77,6 @@ module _ (x s : List ℕ) where
           by : (t : Bool) → lengthIn mostProgramValues (length w) ≡ t → countedAnswer (textIndex x) buffer (length w) ≡ auditTextAnswer x s
           by true f =
               let b = between 1 mostProgramValues (pos (length w)) f in
-              let q : take (length w) buffer ≡ map clamp w = ap (take (length w)) e ∙ values-are 4096 (b .most) in
+              let q : take (length w) buffer ≡ map clamp w = ap (take (length w)) e ∙ values-are 4096 b.most in
               rw (f, q) (clamped-answer (textIndex x) w ∙ by-refusal (firstRefusal (auditTable mostValues call)) refl (table-is ∙ inside f))
           by false f = rw f (sym (refused-by (1, 0) (table-is ∙ outside f)))

@@ -31,7 +31,7 @@ module _ (series : List ℤ) (v : Value indexForm) where
   h = headHeld v
 
   abbrev c : Rows
-  c = rowsFrom h noRows (v .1 .1 .1)
+  c = rowsFrom h noRows v.1.1.1
 
   abbrev call : AuditCall
   call = record { series = series; index = X }
@@ -47,42 +47,42 @@ module _ (series : List ℤ) (v : Value indexForm) where
   unfolding openLines indexSaid
   same-counts t =
       let i = head-is v (rows-good v (sym (rows-judged v) ∙ passed-line t 20) .0) in
-      λ k. countLines (length series) (record { window = sym (i .window) k; width = X .width; windows = sym (i .windows) k; rows = []; runs = [] })
+      λ k. countLines (length series) (record { window = sym i.window k; width = X.width; windows = sym i.windows k; rows = []; runs = [] })
 
-  plan-is : thePlan .refusal ≡ refusalOf (auditTable mostValues call)
+  plan-is : thePlan.refusal ≡ refusalOf (auditTable mostValues call)
   unfolding planOf tableOf auditTable
   plan-is = ap asRefusal (same-behind _ _ _ (λ t. ap firstRefusal (same-counts t))) ∙ rw (judged-line X j (rows-judged v)) refl
 
-  pub stopped-by : (s : RowsAudited) → (thePlan .refusal .number ≡ 0 → ⊥) → answerOf thePlan s ≡ auditAnswer call
+  pub stopped-by : (s : RowsAudited) → (thePlan.refusal.number ≡ 0 → ⊥) → answerOf thePlan s ≡ auditAnswer call
   stopped-by s f = stopped call thePlan plan-is s f
 
-  module _ (z : thePlan .refusal .number ≡ 0) where
+  module _ (z : thePlan.refusal.number ≡ 0) where
     well : WellFormed X
     well = formed call thePlan plan-is z
 
-    good : (headGood (lent h [] [] []) ≡ true) × (c .good ≡ true)
+    good : (headGood (lent h [] [] []) ≡ true) × (c.good ≡ true)
     good = rows-good v (none-bad X well)
 
     pub sized-by : Sized series h
     sized-by =
-        let w = good-head (lent h [] [] []) (good .0) .window in
-        record { values = values-in call thePlan plan-is z; least = w .least; window = w .most }
+        let w = good-head (lent h [] [] []) good.0 .window in
+        record { values = values-in call thePlan plan-is z; least = w.least; window = w.most }
 
-    lacking-is : firstWrong X series ≡ none → thePlan .lacking ≡ missing X
+    lacking-is : firstWrong X series ≡ none → thePlan.lacking ≡ missing X
     unfolding planOf judgedRows indexSaid
-    lacking-is e = rw (good .0, good .1) (omega (arith, missing-are X series well e, rows-taken v (good .0) (good .1), ap natAbs (head-is v (good .0) .windows)))
+    lacking-is e = rw (good.0, good.1) (omega (arith, missing-are X series well e, rows-taken v good.0 good.1, ap natAbs (head-is v good.0 .windows)))
 
     went : (o : Option (ℕ × ℕ)) → firstWrong X series ≡ o → answerOf thePlan (found o) ≡ auditAnswer call
     unfolding found
     went none e = went-right call thePlan plan-is z _ refl e (lacking-is e)
-    went (some w) e = went-wrong call thePlan plan-is z (w .0) (w .1) e
+    went (some w) e = went-wrong call thePlan plan-is z w.0 w.1 e
 
     pub walked-by : (t : List ℕ) (s : RowsAudited) → readText indexForm t ≡ fine v → Walked series h t s → answerOf thePlan s ≡ auditAnswer call
     unfolding Walked indexSaid
     walked-by t s r w =
-        let i = head-is v (good .0) in
-        let n : h .windows + h .window ≡ length series + 1 = omega (arith, fits call thePlan plan-is z, ap natAbs (i .windows), ap natAbs (i .window)) in
-        ap (answerOf thePlan) (w v r ∙ rows-found series v (good .0) (good .1) n) ∙ went _ refl
+        let i = head-is v good.0 in
+        let n : h.windows + h.window ≡ length series + 1 = omega (arith, fits call thePlan plan-is z, ap natAbs i.windows, ap natAbs i.window) in
+        ap (answerOf thePlan) (w v r ∙ rows-found series v good.0 good.1 n) ∙ went _ refl
 
 -- ---- a text whose head and rows came to h and c
 
@@ -98,7 +98,7 @@ module _ (t : List ℕ) (series : List ℤ) (h : Head) (c : Rows) (came : Scanne
     value : Value indexForm
     read : readText indexForm t ≡ fine value
     head : h ≡ headHeld value
-    rows : c ≡ rowsFrom (headHeld value) noRows (value .1 .1 .1)
+    rows : c ≡ rowsFrom (headHeld value) noRows value.1.1.1
 
   told : AnswerTold
   told = by _ refl
@@ -108,25 +108,25 @@ module _ (t : List ℕ) (series : List ℤ) (h : Head) (c : Rows) (came : Scanne
       by (unfit p) e = let z : _≡_ {A = ℕ} 0 1 = cc in absurd (omega arith)
 
   abbrev v : Value indexForm
-  v = told .value
+  v = told.value
 
-  same-plan : plan ≡ planOf series (headHeld v) (judgedRows (headHeld v) (rowsFrom (headHeld v) noRows (v .1 .1 .1)))
-  same-plan = ap (λ (u : Head). planOf series u (judgedRows u c)) (told .head) ∙ ap (λ (d : Rows). planOf series (headHeld v) (judgedRows (headHeld v) d)) (told .rows)
+  same-plan : plan ≡ planOf series (headHeld v) (judgedRows (headHeld v) (rowsFrom (headHeld v) noRows v.1.1.1))
+  same-plan = ap (λ (u : Head). planOf series u (judgedRows u c)) told.head ∙ ap (λ (d : Rows). planOf series (headHeld v) (judgedRows (headHeld v) d)) told.rows
 
   same-answer : auditAnswer (record { series = series; index = indexSaid v }) ≡ answered
-  same-answer = rw (sym (text-fine t v (told .read)))
+  same-answer = rw (sym (text-fine t v told.read))
 
-  number-is : plan .refusal .number ≡ 0 → planOf series (headHeld v) (judgedRows (headHeld v) (rowsFrom (headHeld v) noRows (v .1 .1 .1))) .refusal .number ≡ 0
+  number-is : plan.refusal.number ≡ 0 → planOf series (headHeld v) (judgedRows (headHeld v) (rowsFrom (headHeld v) noRows v.1.1.1)) .refusal .number ≡ 0
   number-is z = sym (rw same-plan) ∙ z
 
-  pub stopped-right : (s : RowsAudited) → (plan .refusal .number ≡ 0 → ⊥) → answerOf plan s ≡ answered
+  pub stopped-right : (s : RowsAudited) → (plan.refusal.number ≡ 0 → ⊥) → answerOf plan s ≡ answered
   stopped-right s z = ap (λ (u : AuditPlan). answerOf u s) same-plan ∙ stopped-by series v s (λ e. z (ap (λ (u : AuditPlan). u .refusal .number) same-plan ∙ e)) ∙ same-answer
 
-  pub goes-sized : plan .refusal .number ≡ 0 → Sized series h
-  goes-sized z = subst (Sized series) (sym (told .head)) (sized-by series v (number-is z))
+  pub goes-sized : plan.refusal.number ≡ 0 → Sized series h
+  goes-sized z = subst (Sized series) (sym told.head) (sized-by series v (number-is z))
 
-  pub walked-right : (s : RowsAudited) → plan .refusal .number ≡ 0 → Walked series h t s → answerOf plan s ≡ answered
+  pub walked-right : (s : RowsAudited) → plan.refusal.number ≡ 0 → Walked series h t s → answerOf plan s ≡ answered
   walked-right s z w =
       ap (λ (u : AuditPlan). answerOf u s) same-plan
-      ∙ walked-by series v (number-is z) t s (told .read) (subst (λ (u : Head). Walked series u t s) (told .head) w)
+      ∙ walked-by series v (number-is z) t s told.read (subst (λ (u : Head). Walked series u t s) told.head w)
       ∙ same-answer

@@ -20,7 +20,7 @@ noNumbers = pos 0 ∷ pos 0 ∷ pos 0 ∷ pos 0 ∷ pos 0 ∷ pos 0 ∷ pos 0 �
 pub start-ready : (n : ℕ) → n < 2 ^ 63 → Ready startLine n
 start-ready n h = record { good = series-good; series = omega arith; query = omega arith; room = omega (arith, h) }
 
-holds-none : (series query : List ℤ) → Holds series query nothingSaid noNumbers (startLine .series) (startLine .query) series query
+holds-none : (series query : List ℤ) → Holds series query nothingSaid noNumbers startLine.series startLine.query series query
 holds-none series query = record { alone = refl; first = kept-none series; second = kept-none query }
 
 fine-same : {A : Type 0} {a b : A} → fine a ≡ fine b → a ≡ b
@@ -46,17 +46,17 @@ module _ (t : List ℕ) (before after query numbers' query' : List ℤ) where
       by (going x p) e s = absurd s
       by (failed m) e s = unread m (series-comes t ∙ ap (judged (accept seriesValue)) e) n s
 
-  ends : (p : Progress) (s : State) (g : Said) (n : ℕ) → p .state ≡ s → p .at ≡ n → Holds before query g numbers' (p .series) (p .query) after query' → readText seriesForm t ≡ atEnd (acceptState seriesValue s g) n → Read (lineEnd (p .state) (p .at) (p .series .count))
+  ends : (p : Progress) (s : State) (g : Said) (n : ℕ) → p.state ≡ s → p.at ≡ n → Holds before query g numbers' p.series p.query after query' → readText seriesForm t ≡ atEnd (acceptState seriesValue s g) n → Read (lineEnd p.state p.at p.series.count)
   unfolding Stored
-  ends p (State.In w k) g n e a h r = rw e (unread n r (p .at) a)
-  ends p (State.At q k) g n e a h r = rw e (unread n r (p .at) a)
-  ends p (State.Before b) g n e a h r = rw e (unread n r (p .at) a)
-  ends p State.Done g n e a h r = rw e (ap Line.Fine (h .first .count) ∙ sym (ap lineRead r), λ v q. h .first .lies ∙ ap (stored before) (fine-same (sym r ∙ q)))
+  ends p (State.In w k) g n e a h r = rw e (unread n r p.at a)
+  ends p (State.At q k) g n e a h r = rw e (unread n r p.at a)
+  ends p (State.Before b) g n e a h r = rw e (unread n r p.at a)
+  ends p State.Done g n e a h r = rw e (ap Line.Fine h.first.count ∙ sym (ap lineRead r), λ v q. h.first.lies ∙ ap (stored before) (fine-same (sym r ∙ q)))
 
-  pub line-going : (p : Progress) → Comes startLine nothingSaid before query t noNumbers before query (Feeding.Going p) numbers' after query' → Read (lineEnd (p .state) (p .at) (p .series .count))
+  pub line-going : (p : Progress) → Comes startLine nothingSaid before query t noNumbers before query (Feeding.Going p) numbers' after query' → Read (lineEnd p.state p.at p.series.count)
   unfolding Comes accept
   line-going p c = by (feed step (going seriesStart 0) t) refl (c (holds-none before query))
     where
-      by : (f : Fed Reading) → feed step (going seriesStart 0) t ≡ f → Shows before query (Feeding.Going p) f numbers' after query' → Read (lineEnd (p .state) (p .at) (p .series .count))
-      by (going x n) e s = ends p (x .state) (x .said) n (s .0) (s .1) (s .2) (series-comes t ∙ ap (judged (accept seriesValue)) e)
+      by : (f : Fed Reading) → feed step (going seriesStart 0) t ≡ f → Shows before query (Feeding.Going p) f numbers' after query' → Read (lineEnd p.state p.at p.series.count)
+      by (going x n) e s = ends p x.state x.said n s.0 s.1 s.2 (series-comes t ∙ ap (judged (accept seriesValue)) e)
       by (failed m) e s = absurd s

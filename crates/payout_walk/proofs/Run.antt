@@ -21,25 +21,25 @@ one-reads n w l r low up a b (suc k) h =
 module _ (series : List ℤ) (h : Head) (t : Walk) (r : ℕ) where
   -- the run's windows lie in the series
   abbrev fits : Bool
-  fits = leb (t .left) r && leb (r + h .window) (length series)
+  fits = leb t.left r && leb (r + h.window) (length series)
 
-  pub run-ready : Sized series h → t .rows < 2 ^ 63 → fits ≡ true → Ready series h (t .left ∷ []) (r ∷ []) (oneRun (t .low) (t .up)) (t .rows)
+  pub run-ready : Sized series h → t.rows < 2 ^ 63 → fits ≡ true → Ready series h (t.left ∷ []) (r ∷ []) (oneRun t.low t.up) t.rows
   unfolding oneRun
   run-ready z f e =
       let a = both _ _ e in
       record {
-        values = z .values;
-        least = z .least;
-        window = z .window;
+        values = z.values;
+        least = z.least;
+        window = z.window;
         far = omega (arith, f);
         size = refl;
-        rows = λ k b. one-reads _ _ _ r _ (t .up) (leb-true _ r (a .0)) (leb-true _ _ (a .1)) k b;
+        rows = λ k b. one-reads _ _ _ r _ t.up (leb-true _ r a.0) (leb-true _ _ a.1) k b;
       }
 
-  pub run-off : fits ≡ false → t .found ≡ afterRun series h t r
+  pub run-off : fits ≡ false → t.found ≡ afterRun series h t r
   unfolding afterRun
   run-off e = rw e refl
 
-  pub run-on : fits ≡ true → chunked series h (t .left ∷ []) (r ∷ []) (t .found) (t .rows) (oneRun (t .low) (t .up)) ≡ afterRun series h t r
+  pub run-on : fits ≡ true → chunked series h (t.left ∷ []) (r ∷ []) t.found t.rows (oneRun t.low t.up) ≡ afterRun series h t r
   unfolding afterRun
   run-on e = rw e refl

@@ -1,21 +1,21 @@
 -- Laws of specs/Print.
-use Rattle.meaning_numbers.proofs.{Count.count-le, Between.yes-within}
 use Rattle.meaning_numbers.proofs.Prelude.{_≡_, refl, sym, ap, _∙_, List, [], _∷_, _++_, map, none, ℕ, _+_, _-_, _<_, _≤_, _^_, min, arith, ℤ, pos, natAbs, _-ℤ_, length, take, drop, replicate, length-append, length-map, length-replicate, take-append-seam, _≤ℤ_, le-ltb, zarith, z-add, z-sub}
+use Rattle.meaning_numbers.proofs.{Count.count-le, Between.yes-within}
 use Rattle.meaning_curves.specs.{Limits.mostValues, Limits.mostProgramValues, Curve.windowCount, Curve.windowSum}
-use Rattle.meaning_rows.specs.{declared.Row.Row, Runs.runs}
 use Rattle.meaning_rows.specs.Build.{SetRow, entry, withRuns, builtRows, merged, filed, built}
-use Rattle.meaning_rows.specs.Index.{zeroRow, Index, Entry, entries, lent, allRuns}
+use Rattle.meaning_rows.specs.{declared.Row.Row, Runs.runs, Index.zeroRow, Index.Index, Index.Entry, Index.entries, Index.lent, Index.allRuns}
 use Rattle.meaning_rows.proofs.Judge.{Natural, none-bad}
 use Rattle.meaning_filter.specs.Matches.{allMatches, candidateAt, candidateCount}
 use Rattle.meaning_filter.proofs.Matches.{all-found}
 use Rattle.meaning_text.specs.Texts.{indexText, foundText}
-use Rattle.meaning_entries.specs.{declared.Built.Built, declared.Found.Found, Buffers.IndexBuffers, Buffers.filled, Buffers.lefts, Buffers.rights, Buffers.indexIn, Answers.headOf, Write.writeTable, Write.writeRefusal, Program.callLines, Program.programIndex, Program.printed, Demand2.BuildKept, Demand2.SearchKept, Buffers.indexBuffers}
+use Rattle.meaning_entries.specs.Buffers.{IndexBuffers, filled, lefts, rights, indexIn, indexBuffers}
 use Rattle.meaning_entries.specs.Build.{BuildCall, lentBuild, widthLines, buildTable, buildRefusal, buildIndex, buildAnswer, buildAfter}
 use Rattle.meaning_entries.specs.Refusal.{Condition, flatQuery, illFormed, windowsOf, bufferShort, seriesLines}
 use Rattle.meaning_entries.specs.Search.{SearchCall, SearchBuffers, lentAsk, lentSearch, valueLines, limitLines, searchPlan, searchTable, searchRefusal, searchAnswer, searchMatches, searchCandidates, question}
-use Rattle.meaning_entries.proofs.{Made.build-passes, Made.build-most, Listed.listed-is}
+use Rattle.meaning_entries.specs.{declared.Built.Built, declared.Found.Found, Answers.headOf, Write.writeTable, Write.writeRefusal, Program.callLines, Program.programIndex, Program.printed, Demand2.BuildKept, Demand2.SearchKept}
 use Rattle.meaning_entries.proofs.Lines.{long-line, window-line, query-line, threshold-line, scale-line, series-passes, count-passes, room-passes}
 use Rattle.meaning_entries.proofs.Refusal.{AllPass, end, more, passed-is, passed-both, passed-join, openLines, passed-line, passed-behind}
+use Rattle.meaning_entries.proofs.{Made.build-passes, Made.build-most, Listed.listed-is}
 use Rattle.text_put.specs.Put.{Put}
 use Rattle.text_put.proofs.Put.{put-room, put-length}
 use Rattle.program_input.specs.{declared.Asked.Asked, Tables.callOf}
@@ -49,10 +49,10 @@ columns-rows n (r ∷ l) = columns-both (withRuns n r .runs) _ ∙ rw (columns-r
 
 module _ (s q : List ℤ) (a : Asked) (free : AllPass (callLines (callOf s q a))) where
   abbrev w : ℕ
-  w = a .window
+  w = a.window
 
   abbrev c : BuildCall
-  c = lentBuild s w (a .width) (a .merge)
+  c = lentBuild s w a.width a.merge
 
   abbrev pub x : Index
   x = buildIndex c
@@ -62,38 +62,38 @@ module _ (s q : List ℤ) (a : Asked) (free : AllPass (callLines (callOf s q a))
   length-in = long-line mostProgramValues _ (passed-line free 1)
 
   pub few : length s ≤ 4096
-  few = length-in .most
+  few = length-in.most
 
   -- the parts of the call's lines that the build and the search have too
   series-part : AllPass (seriesLines mostValues s)
   unfolding openLines callLines callOf
-  series-part = series-passes mostValues s (yes-within (record { low = omega (zarith, length-in .least); high = omega (zarith, few) })) (passed-line free 2)
+  series-part = series-passes mostValues s (yes-within (record { low = omega (zarith, length-in.least); high = omega (zarith, few) })) (passed-line free 2)
 
   abbrev widths : List Condition
-  widths = widthLines (length s) (pos w) (pos (a .width)) (pos (a .merge))
+  widths = widthLines (length s) (pos w) (pos a.width) (pos a.merge)
 
   abbrev limits : List Condition
-  limits = limitLines (length s) (length q) (pos w) (lentAsk (a .ask))
+  limits = limitLines (length s) (length q) (pos w) (lentAsk a.ask)
 
   abbrev rest : List Condition
-  rest = limits ++ (flatQuery (a .ask .kind) q ∷ [])
+  rest = limits ++ (flatQuery a.ask.kind q ∷ [])
 
   number-parts : AllPass widths × AllPass rest
   unfolding callLines callOf
   number-parts = passed-both widths rest (passed-both (valueLines mostProgramValues s q) _ free .1)
 
   width-part : AllPass widths
-  width-part = number-parts .0
+  width-part = number-parts.0
 
   limit-part : AllPass limits
-  limit-part = passed-both limits _ (number-parts .1) .0
+  limit-part = passed-both limits _ number-parts.1 .0
 
   window-in : (1 ≤ w) × (w ≤ length s)
   unfolding openLines
-  window-in = let t = window-line (pos w) _ (passed-line width-part 3) in (t .0 .least, omega zarith)
+  window-in = let t = window-line (pos w) _ (passed-line width-part 3) in (t.0.least, omega zarith)
 
   windows-few : windowCount (length s) w ≤ 4096
-  windows-few = omega (arith, few, window-in .0)
+  windows-few = omega (arith, few, window-in.0)
 
   module _ (rows : List Row) (left right : List ℕ) (r : length rows ≡ 4096) (l : length left ≡ 4096) (k : length right ≡ 4096) where
     abbrev b : IndexBuffers
@@ -107,15 +107,15 @@ module _ (s q : List ℤ) (a : Asked) (free : AllPass (callLines (callOf s q a))
     is-passed-x : Audit.Passed x s
     is-passed-x = Audit.passed x s (build-passes c b build-free)
 
-    most-x : (length (x .rows) ≤ 4096) × (length (x .runs) ≤ 4096)
-    most-x = let m = build-most c b build-free in (omega (arith, m .0, windows-few), omega (arith, m .1, windows-few))
+    most-x : (length x.rows ≤ 4096) × (length x.runs ≤ 4096)
+    most-x = let m = build-most c b build-free in (omega (arith, m.0, windows-few), omega (arith, m.1, windows-few))
 
     -- what is built, as the code has it
     pub record Stands (answer : Built) (rows′ : List Row) (left′ right′ : List ℕ) : Type 0 where
-      pub answered : answer ≡ Built.Index (headOf x) (length (x .rows)) (length (x .runs))
-      pub table : take (length (x .rows)) rows′ ≡ x .rows
-      pub first : take (length (x .runs)) left′ ≡ lefts (x .runs)
-      pub last : take (length (x .runs)) right′ ≡ rights (x .runs)
+      pub answered : answer ≡ Built.Index (headOf x) (length x.rows) (length x.runs)
+      pub table : take (length x.rows) rows′ ≡ x.rows
+      pub first : take (length x.runs) left′ ≡ lefts x.runs
+      pub last : take (length x.runs) right′ ≡ rights x.runs
 
     filled-front : {A : Type 0} (z : A) (new old : List A) (n : ℕ) → n ≡ length new → take n (filled z new old) ≡ new
     unfolding filled
@@ -126,24 +126,24 @@ module _ (s q : List ℤ) (a : Asked) (free : AllPass (callLines (callOf s q a))
     stands {answer} {rows′} {left′} {right′} h =
         let e = build-free in
         record {
-          answered = h .answered ∙ rw (e, buildAnswer);
-          table = ap (take (length (x .rows))) (h .rows ∙ rw (e, buildAfter)) ∙ filled-front zeroRow _ rows _ refl;
-          first = ap (take (length (x .runs))) (h .left ∙ rw (e, buildAfter)) ∙ filled-front 0 _ left _ (sym (length-map (x .runs) (λ y. natAbs (y .0))));
-          last = ap (take (length (x .runs))) (h .right ∙ rw (e, buildAfter)) ∙ filled-front 0 (rights (x .runs)) right (length (x .runs)) (sym (length-map (x .runs) (λ y. natAbs (y .1))));
+          answered = h.answered ∙ rw (e, buildAnswer);
+          table = ap (take (length x.rows)) (h.rows ∙ rw (e, buildAfter)) ∙ filled-front zeroRow _ rows _ refl;
+          first = ap (take (length x.runs)) (h.left ∙ rw (e, buildAfter)) ∙ filled-front 0 _ left _ (sym (length-map x.runs (λ y. natAbs y.0)));
+          last = ap (take (length x.runs)) (h.right ∙ rw (e, buildAfter)) ∙ filled-front 0 (rights x.runs) right (length x.runs) (sym (length-map x.runs (λ y. natAbs y.1)));
         }
 
   -- the index that is lent is what was built
-  pub lent-is : lent (headOf x) (x .rows) (lefts (x .runs)) (rights (x .runs)) ≡ x
+  pub lent-is : lent (headOf x) x.rows (lefts x.runs) (rights x.runs) ≡ x
   unfolding buildIndex built builtRows
-  lent-is = λ i. record { window = x .window; width = x .width; windows = x .windows; rows = x .rows; runs = columns-rows (windowCount (length s) w) (merged (a .merge) (windowCount (length s) w) (filed (windowSum s w) (a .width) (windowCount (length s) w))) i }
+  lent-is = λ i. record { window = x.window; width = x.width; windows = x.windows; rows = x.rows; runs = columns-rows (windowCount (length s) w) (merged a.merge (windowCount (length s) w) (filed (windowSum s w) a.width (windowCount (length s) w))) i }
 
   -- ---- its search
 
   abbrev pub d : SearchCall
-  d = record { series = s; index = x; query = q; ask = lentAsk (a .ask) }
+  d = record { series = s; index = x; query = q; ask = lentAsk a.ask }
 
   -- the search through what is lent is that through what was built
-  pub search-is : lentSearch s (headOf x) (x .rows) (lefts (x .runs)) (rights (x .runs)) (a .ask) q ≡ d
+  pub search-is : lentSearch s (headOf x) x.rows (lefts x.runs) (rights x.runs) a.ask q ≡ d
   search-is = rw lent-is
 
   pub printed-is : printed (callOf s q a) ≡ indexText x ++ foundText (length (searchMatches d)) (searchCandidates d) (searchMatches d)
@@ -154,7 +154,7 @@ module _ (s q : List ℤ) (a : Asked) (free : AllPass (callLines (callOf s q a))
   unfolding openLines callLines callOf
   query-some-here = query-line _ _ (passed-line limit-part 6) .0 .least
 
-  near : a .ask .limits .threshold ≤ 1000000000000
+  near : a.ask.limits.threshold ≤ 1000000000000
   unfolding openLines callLines callOf
   near = threshold-line _ (passed-line limit-part 9) .most
 
@@ -186,45 +186,45 @@ module _ (s q : List ℤ) (a : Asked) (free : AllPass (callLines (callOf s q a))
   sizes-here = all-size _ _ (omega (arith, few, query-some-here)) near candidates-few
 
   pub matches-few : length (searchMatches d) ≤ 4096
-  matches-few = omega (arith, ap length all-here, sizes-here .0)
+  matches-few = omega (arith, ap length all-here, sizes-here.0)
 
   pub found-few : length (foundText (length (searchMatches d)) (searchCandidates d) (searchMatches d)) ≤ 200000
-  found-few = rw all-here (sizes-here .1)
+  found-few = rw all-here sizes-here.1
 
   pub index-few : length (indexText x) ≤ 400000
   unfolding buildIndex
-  index-few = let m = most-x no-rows zeros zeros rows-long zeros-long zeros-long in index-size s w _ _ (passed-here .formed) (m .0) (m .1)
+  index-few = let m = most-x no-rows zeros zeros rows-long zeros-long zeros-long in index-size s w _ _ passed-here.formed m.0 m.1
 
   -- the text has room
   pub write-free : (text : List ℕ) → 1048576 ≤ length text → writeRefusal x text ≡ none
   unfolding writeTable illFormed
-  write-free text h = passed-is (more (none-bad x (passed-here .formed)) (more (enough (length text) (length (indexText x)) (omega (arith, h, index-few))) end))
+  write-free text h = passed-is (more (none-bad x passed-here.formed) (more (enough (length text) (length (indexText x)) (omega (arith, h, index-few))) end))
 
   -- as many windows as the series has
-  windows-are : (windowsOf x (length s) ≤ℤ x .windows) × (x .windows ≤ℤ windowsOf x (length s))
+  windows-are : (windowsOf x (length s) ≤ℤ x.windows) × (x.windows ≤ℤ windowsOf x (length s))
   unfolding buildIndex built
   windows-are =
       let h = z-add (pos (length s) -ℤ pos w) (pos 1) in
       let k = z-sub (pos (length s)) (pos w) in
-      (omega (zarith, h, k), omega (zarith, h, k, window-in .1))
+      (omega (zarith, h, k), omega (zarith, h, k, window-in.1))
 
-  pub search-free : (before : SearchBuffers) → length (before .left) ≡ 4096 → length (before .right) ≡ 4096 → length (before .scratch) ≡ 4096 → length (before .offsets) ≡ 4096 → length (before .distances) ≡ 4096 → searchRefusal d before ≡ none
+  pub search-free : (before : SearchBuffers) → length before.left ≡ 4096 → length before.right ≡ 4096 → length before.scratch ≡ 4096 → length before.offsets ≡ 4096 → length before.distances ≡ 4096 → searchRefusal d before ≡ none
   unfolding openLines searchPlan searchTable callLines callOf buildIndex built
   search-free before hl hr hc ho hd =
       let value-part = passed-join series-part (more (passed-line (passed-behind free 2) 2) end) in
-      let count-part = count-passes _ x (windows-are .0) (windows-are .1) in
+      let count-part = count-passes _ x windows-are.0 windows-are.1 in
       let n = windowCount (length s) w in
-      let room-part = room-passes {one = min (length (before .left)) (length (before .right))} {needed = n} {other = length (before .scratch)} {wanted = n} (omega (arith, hl, hr, windows-few)) (omega (arith, hc, windows-few)) in
-      passed-is (passed-join (passed-join value-part (passed-join limit-part (more (passed-line free 11) (more (none-bad x (passed-here .formed)) (passed-join count-part room-part)))))
-      (more (rw (le-ltb (min (length (before .offsets)) (length (before .distances))) (length (searchMatches d)) (omega (arith, ho, hd, matches-few)))) end))
+      let room-part = room-passes {one = min (length before.left) (length before.right)} {needed = n} {other = length before.scratch} {wanted = n} (omega (arith, hl, hr, windows-few)) (omega (arith, hc, windows-few)) in
+      passed-is (passed-join (passed-join value-part (passed-join limit-part (more (passed-line free 11) (more (none-bad x passed-here.formed) (passed-join count-part room-part)))))
+      (more (rw (le-ltb (min (length before.offsets) (length before.distances)) (length (searchMatches d)) (omega (arith, ho, hd, matches-few)))) end))
 
 -- ---- the list behind the index text
 
-pub list-put : (d : SearchCall) (before after : SearchBuffers) (t : Found) (text : List ℕ) (at : ℕ) (new : List ℕ) (to : ℕ) → SearchKept d before t after → searchRefusal d before ≡ none → FoundPut t text at (after .offsets) (after .distances) new to
+pub list-put : (d : SearchCall) (before after : SearchBuffers) (t : Found) (text : List ℕ) (at : ℕ) (new : List ℕ) (to : ℕ) → SearchKept d before t after → searchRefusal d before ≡ none → FoundPut t text at after.offsets after.distances new to
     → Put text at (foundText (length (searchMatches d)) (searchCandidates d) (searchMatches d)) new to
 unfolding searchAnswer
 list-put d before after t text at new to h e p =
-    let k : t ≡ Found.All (searchCandidates d) (length (searchMatches d)) = h .answered ∙ rw (e, searchAnswer) in
+    let k : t ≡ Found.All (searchCandidates d) (length (searchMatches d)) = h.answered ∙ rw (e, searchAnswer) in
     let g = rw k at h in
     rw (listed-is d before after g) at (rw k at p)
 
@@ -236,6 +236,6 @@ put-behind t l old mid new at to e f p h =
     let m : length mid ≡ length old = ap length e ∙ length-append t z ∙ rw (length-replicate {A = ℕ} _ 0) (omega (arith, h)) in
     let r = put-room p (omega (arith, m, f, h)) in
     let b : take at mid ≡ t = rw (f, e) (take-append-seam t z) in
-    let n : new ≡ (t ++ l) ++ drop (at + length l) mid = r .1 ∙ rw b in
+    let n : new ≡ (t ++ l) ++ drop (at + length l) mid = r.1 ∙ rw b in
     let q : to ≡ length (t ++ l) = omega (arith, f, length-append t l) in
     (omega (arith, put-length p, f, m, h), rw (n, q) (take-append-seam _ _))

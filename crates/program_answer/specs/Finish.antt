@@ -13,7 +13,7 @@ use Rattle.program_input.specs.{declared.Input.Input, Input.Stands, Input.Open}
 -- the list of a search, where nothing refuses it whatever the buffers of 4,096 entries hold
 abbrev pub Listed : SearchCall → List ℕ → ℕ → List ℕ → ℕ → Type 0
 Listed d text at new to =
-    ((b : SearchBuffers) → length (b .left) ≡ 4096 → length (b .right) ≡ 4096 → length (b .scratch) ≡ 4096 → length (b .offsets) ≡ 4096 → length (b .distances) ≡ 4096 → searchRefusal d b ≡ none)
+    ((b : SearchBuffers) → length b.left ≡ 4096 → length b.right ≡ 4096 → length b.scratch ≡ 4096 → length b.offsets ≡ 4096 → length b.distances ≡ 4096 → searchRefusal d b ≡ none)
     → Put text at (foundText (length (searchMatches d)) (searchCandidates d) (searchMatches d)) new to
 
 -- the first n bytes of the buffer are the text

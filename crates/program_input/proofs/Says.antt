@@ -14,8 +14,8 @@ use Rattle.text_lines.specs.{declared.State.State, Follow.Said, Follow.Reading,
 use Rattle.text_lines.proofs.Follow.{program-comes, acceptState}
 use Rattle.text_feed.specs.{declared.Values.Values, declared.Progress.Progress, declared.Feeding.Feeding, Keep.stored, Keep.leading, Keep.numbersOf, Keep.Kept, Keep.Holds, Feed.Shows}
 use Rattle.text_feed.proofs.{Keep.leading-outside, Whole.text-short, Whole.program-failed, Whole.program-done}
-use Rattle.program_input.specs.{declared.Input.Input, declared.Numbers.Numbers, Input.fed, Input.Stands, Input.Open}
 use Rattle.program_input.specs.Tables.{numbersAt, kindOf, firstOut, valuesTable, numbersTable, callTable, isDone, endTable, SoundEnd, Upto, Limited, askedOf, callOf}
+use Rattle.program_input.specs.{declared.Input.Input, declared.Numbers.Numbers, Input.fed, Input.Stands, Input.Open}
 use Rattle.program_input.proofs.{InputLaws.going-is, Text.series-few, Text.series-in, Text.query-in, Text.query-few}
 
 -- ---- values that were kept
@@ -32,23 +32,23 @@ unfolding leading
 map-clamp [] h = refl
 map-clamp (x ∷ vs) h = on-flag (valueIn x) (λ e. let k = rw e at h in let r = map-clamp vs (omega (arith, k)) in rw (clamp-in x e, r)) (λ e. let k = rw e at h in absurd (omega (arith, k)))
 
-out-none : (v : Values) → firstOut v ≡ none → v .count ≤ v .inside
-out-none v e = by-test (ltb (v .inside) (v .count)) (λ t. let z : _≡_ {A = ℕ} 0 1 = cc in absurd (omega arith)) (λ f. ltb-false (v .inside) (v .count) f)
+out-none : (v : Values) → firstOut v ≡ none → v.count ≤ v.inside
+out-none v e = by-test (ltb v.inside v.count) (λ t. let z : _≡_ {A = ℕ} 0 1 = cc in absurd (omega arith)) (λ f. ltb-false v.inside v.count f)
 
 module _ {base vs : List ℤ} {v : Values} {buf : List ℤ} (k : Kept base vs v buf) where
   out-is : firstOut v ≡ firstOutside vs
-  out-is = rw (k .inside, k .count) (sym (leading-outside vs))
+  out-is = rw (k.inside, k.count) (sym (leading-outside vs))
 
   -- where none is outside and there was room for all
-  all-kept : firstOut v ≡ none → v .count ≤ length base → take (v .count) buf ≡ vs
+  all-kept : firstOut v ≡ none → v.count ≤ length base → take v.count buf ≡ vs
   unfolding stored
   all-kept e l =
-      let c = map-clamp vs (omega (arith, out-none v e, k .count, k .inside)) in
-      rw (k .count, k .lies, stored, c, sets-eq vs base 0 (omega (arith, l))) (take-append-seam vs (drop (0 + length vs) base))
+      let c = map-clamp vs (omega (arith, out-none v e, k.count, k.inside)) in
+      rw (k.count, k.lies, stored, c, sets-eq vs base 0 (omega (arith, l))) (take-append-seam vs (drop (0 + length vs) base))
 
   long-kept : length buf ≡ length base
   unfolding stored
-  long-kept = ap length (k .lies) ∙ length-sets base 0 (map clamp vs)
+  long-kept = ap length k.lies ∙ length-sets base 0 (map clamp vs)
 
 -- ---- the call that the lines say
 
@@ -64,38 +64,38 @@ module _ {kept asked : List ℤ} {g : Said} {numbers : List ℤ} {v q : Values} 
   abbrev said : ProgramCall
   said = programSaid (programValue g)
 
-  values-are : valuesTable v q ≡ valueLines mostProgramValues (g .series) (g .query)
+  values-are : valuesTable v q ≡ valueLines mostProgramValues g.series g.query
   unfolding valuesTable valueOutside
-  values-are = rw (out-is (h .first), out-is (h .second), h .first .count)
+  values-are = rw (out-is h.first, out-is h.second, h.first.count)
 
-  numbers-are : numbersTable (v .count) (q .count) (numbersAt numbers)
-      ≡ widthLines (length (g .series)) (g .window) (g .width) (g .merge) ++ limitLines (length (g .series)) (length (g .query)) (g .window) (programSaid (programValue g) .ask)
+  numbers-are : numbersTable v.count q.count (numbersAt numbers)
+      ≡ widthLines (length g.series) g.window g.width g.merge ++ limitLines (length g.series) (length g.query) g.window (programSaid (programValue g) .ask)
   unfolding numbersTable numbersAt programSaid
-  numbers-are = rw (h .first .count, h .second .count, h .alone)
+  numbers-are = rw (h.first.count, h.second.count, h.alone)
 
-  raw-is : kindOf (numbersAt numbers .raw) ≡ kindSaid (g .raw)
+  raw-is : kindOf (numbersAt numbers .raw) ≡ kindSaid g.raw
   unfolding numbersAt
-  raw-is = rw (h .alone) (kind-is (g .raw))
+  raw-is = rw h.alone (kind-is g.raw)
 
   module _ (room : 1024 ≤ length asked) where
     -- the query, where values and numbers pass
-    query-is : AllPass (valuesTable v q) → AllPass (numbersTable (v .count) (q .count) (numbersAt numbers)) → take (q .count) query ≡ g .query
-    query-is a b = all-kept (h .second) (query-in v q a) (omega (arith, query-few (v .count) (q .count) (numbersAt numbers) b, room))
+    query-is : AllPass (valuesTable v q) → AllPass (numbersTable v.count q.count (numbersAt numbers)) → take q.count query ≡ g.query
+    query-is a b = all-kept h.second (query-in v q a) (omega (arith, query-few v.count q.count (numbersAt numbers) b, room))
 
     pub call-is : refusalOf (callTable v q (numbersAt numbers) query) ≡ refusalOf (callLines said)
     unfolding callTable callLines programSaid
     call-is =
         let one = valuesTable v q in
-        let two = numbersTable (v .count) (q .count) (numbersAt numbers) in
-        let kept = flatQuery (kindOf (numbersAt numbers .raw)) (take (q .count) query) ∷ [] in
-        let meant = flatQuery (kindSaid (g .raw)) (g .query) ∷ [] in
+        let two = numbersTable v.count q.count (numbersAt numbers) in
+        let kept = flatQuery (kindOf (numbersAt numbers .raw)) (take q.count query) ∷ [] in
+        let meant = flatQuery (kindSaid g.raw) g.query ∷ [] in
         ap asRefusal (same-behind one (two ++ kept) (two ++ meant) (λ a. same-behind two kept meant (λ b. rw (query-is a b, raw-is))) ∙ rw (values-are, numbers-are))
 
 -- ---- the text
 
 -- what was said, where the input goes on
-holds-of : (kept asked : List ℤ) (numbers series query : List ℤ) (p : Progress) (x : Fed Reading) → Shows kept asked (Feeding.Going p) x numbers series query → (g : Said) × Holds kept asked g numbers (p .series) (p .query) series query
-holds-of kept asked numbers series query p (going y n) s = (y .said, s .2)
+holds-of : (kept asked : List ℤ) (numbers series query : List ℤ) (p : Progress) (x : Fed Reading) → Shows kept asked (Feeding.Going p) x numbers series query → (g : Said) × Holds kept asked g numbers p.series p.query series query
+holds-of kept asked numbers series query p (going y n) s = (y.said, s.2)
 holds-of kept asked numbers series query p (failed n) s = absurd s
 
 not-done : (s : State) → isDone s ≡ false → (g : Said) → acceptState programValue s g ≡ none
@@ -131,14 +131,14 @@ module _ (kept asked : List ℤ) (t : List ℕ) (r : Input) (numbers series quer
       by : (x : Input) → Stands kept asked t x numbers series query → Open x n → SoundEnd x numbers query
       by (Input.Failed line) h k = tt
       by (Input.Going p line) h k =
-          let d = holds-of kept asked numbers series query p (fed t) (h .0) in
-          let z = d .1 .second in (
+          let d = holds-of kept asked numbers series query p (fed t) h.0 in
+          let z = d.1.second in (
             record {
               few = omega arith;
               long = omega (arith, long-kept z, room);
-              inside = λ e l. rw (all-kept z e (omega (arith, l))) (none-outside (d .0 .query) (sym (out-is z) ∙ e));
+              inside = λ e l. rw (all-kept z e (omega (arith, l))) (none-outside d.0.query (sym (out-is z) ∙ e));
             },
-            rw (d .1 .alone) (omega arith),
+            rw d.1.alone (omega arith),
           )
 
   -- the table over what was kept refuses what the program's table refuses
@@ -152,13 +152,13 @@ module _ (kept asked : List ℤ) (t : List ℕ) (r : Input) (numbers series quer
       by : (x : Input) → Stands kept asked t x numbers series query → refusalOf (endTable x numbers query) ≡ refusalOf (programTable t)
       by (Input.Failed line) (m, (h, l)) = place-is (record { number = 12; place = some line }) [] refl ∙ bad m line (program-failed kept asked t numbers series query m h) l
       by (Input.Going p line) (h, l) =
-          by-test (isDone (p .state))
-          (λ d. let w = program-done kept asked t numbers series query p (is-done (p .state) d) h in
-          rw d (place-none (record { number = 12; place = none }) (callTable (p .series) (p .query) (numbersAt numbers) query) refl)
-          ∙ call-is (w .2) room
-          ∙ rw (table-is t, text-said t (w .0) (w .1)) (sym (place-none (unreadable programForm 0 t) (callLines (programSaid (programValue (w .0)))) (read-fine t (w .0) (w .1)))))
-          (λ d. rw d (place-is (record { number = 12; place = some line }) (callTable (p .series) (p .query) (numbersAt numbers) query) refl)
-          ∙ bad (p .at) line (text-short programForm programValue programStart program-comes kept asked t numbers series query p (not-done (p .state) d) h) (l ∙ ap (lineOf t) (sym (going-is kept asked t numbers series query p h))))
+          by-test (isDone p.state)
+          (λ d. let w = program-done kept asked t numbers series query p (is-done p.state d) h in
+          rw d (place-none (record { number = 12; place = none }) (callTable p.series p.query (numbersAt numbers) query) refl)
+          ∙ call-is w.2 room
+          ∙ rw (table-is t, text-said t w.0 w.1) (sym (place-none (unreadable programForm 0 t) (callLines (programSaid (programValue w.0))) (read-fine t w.0 w.1))))
+          (λ d. rw d (place-is (record { number = 12; place = some line }) (callTable p.series p.query (numbersAt numbers) query) refl)
+          ∙ bad p.at line (text-short programForm programValue programStart program-comes kept asked t numbers series query p (not-done p.state d) h) (l ∙ ap (lineOf t) (sym (going-is kept asked t numbers series query p h))))
 
 -- ---- what is asked
 
@@ -168,20 +168,20 @@ upto n = record { least = omega zarith; most = omega zarith }
 pub passed-limited : (n m : ℕ) (x : Numbers) → AllPass (numbersTable n m x) → Limited x
 unfolding openLines numbersTable
 passed-limited n m x h =
-    let w = window-line (x .window) n (passed-line h 3) .0 in
-    let d = width-line (x .width) (passed-line h 4) in
-    let g = merge-line (x .merge) (passed-line h 5) in
-    let b = band-line m (x .band) (passed-line h 8) in
-    let e = threshold-line (x .threshold) (passed-line h 9) in
-    let t = scale-line (x .scale) (x .shift) (passed-line h 10) in
+    let w = window-line x.window n (passed-line h 3) .0 in
+    let d = width-line x.width (passed-line h 4) in
+    let g = merge-line x.merge (passed-line h 5) in
+    let b = band-line m x.band (passed-line h 8) in
+    let e = threshold-line x.threshold (passed-line h 9) in
+    let t = scale-line x.scale x.shift (passed-line h 10) in
     record {
       window = upto w;
       width = upto d;
       merge = upto g;
-      band = record { least = b .low; most = omega (zarith, b .high, z-sub (pos m) (pos 1), query-few n m x h) };
+      band = record { least = b.low; most = omega (zarith, b.high, z-sub (pos m) (pos 1), query-few n m x h) };
       threshold = upto e;
-      scale = upto (t .0);
-      shift = upto (t .1);
+      scale = upto t.0;
+      shift = upto t.1;
     }
 
 natural : {k : ℕ} (z : ℤ) → Upto k z → pos (natAbs z) ≡ z
@@ -191,56 +191,56 @@ natural {k} (negsuc n) h = absurd (omega zarith)
 -- nothing refuses: the call that the text gives
 pub record Given (kept asked : List ℤ) (t : List ℕ) (p : Progress) (numbers series query : List ℤ) : Type 0 where
   pub limited : Limited (numbersAt numbers)
-  pub few : p .series .count ≤ 4096
-  pub short : p .query .count ≤ 1024
-  pub call : textProgram t ≡ callOf (take (p .series .count) series) (take (p .query .count) query) (askedOf (numbersAt numbers))
+  pub few : p.series.count ≤ 4096
+  pub short : p.query.count ≤ 1024
+  pub call : textProgram t ≡ callOf (take p.series.count series) (take p.query.count query) (askedOf (numbersAt numbers))
 
-passed-parts : (v q : Values) (x : Numbers) (query : List ℤ) → AllPass (callTable v q x query) → AllPass (valuesTable v q) × AllPass (numbersTable (v .count) (q .count) x)
+passed-parts : (v q : Values) (x : Numbers) (query : List ℤ) → AllPass (callTable v q x query) → AllPass (valuesTable v q) × AllPass (numbersTable v.count q.count x)
 unfolding callTable
 passed-parts v q x query h =
-    let rest = flatQuery (kindOf (x .raw)) (take (q .count) query) ∷ [] in
-    let k = passed-both (valuesTable v q) (numbersTable (v .count) (q .count) x ++ rest) h in
-    (k .0, passed-both (numbersTable (v .count) (q .count) x) rest (k .1) .0)
+    let rest = flatQuery (kindOf x.raw) (take q.count query) ∷ [] in
+    let k = passed-both (valuesTable v q) (numbersTable v.count q.count x ++ rest) h in
+    (k.0, passed-both (numbersTable v.count q.count x) rest k.1 .0)
 
 -- what the lines say, in the types of the code
-said-is : (g : Said) (numbers s q : List ℤ) → numbers ≡ numbersOf g → s ≡ g .series → q ≡ g .query → Limited (numbersAt numbers) → programSaid (programValue g) ≡ callOf s q (askedOf (numbersAt numbers))
+said-is : (g : Said) (numbers s q : List ℤ) → numbers ≡ numbersOf g → s ≡ g.series → q ≡ g.query → Limited (numbersAt numbers) → programSaid (programValue g) ≡ callOf s q (askedOf (numbersAt numbers))
 unfolding askedOf callOf programSaid numbersAt
 said-is g numbers s q e a b h =
     let x : Limited (numbersAt (numbersOf g)) = subst (λ (l : List ℤ). Limited (numbersAt l)) e h in
     rw (e, a, b) (sym (λ i. record {
-      window = natural (g .window) (x .window) i;
-      width = natural (g .width) (x .width) i;
-      merge = natural (g .merge) (x .merge) i;
-      series = g .series;
-      query = g .query;
+      window = natural g.window x.window i;
+      width = natural g.width x.width i;
+      merge = natural g.merge x.merge i;
+      series = g.series;
+      query = g.query;
       ask = record {
-        kind = kind-is (g .raw) i;
-        band = natural (g .band) (x .band) i;
-        threshold = natural (g .threshold) (x .threshold) i;
-        scale = natural (g .scale) (x .scale) i;
-        shift = natural (g .shift) (x .shift) i;
+        kind = kind-is g.raw i;
+        band = natural g.band x.band i;
+        threshold = natural g.threshold x.threshold i;
+        scale = natural g.scale x.scale i;
+        shift = natural g.shift x.shift i;
       };
     }))
 
 pub asked-is : (kept asked : List ℤ) (t : List ℕ) (p : Progress) (line : ℕ) (numbers series query : List ℤ) → Stands kept asked t (Input.Going p line) numbers series query → 4096 ≤ length kept → 1024 ≤ length asked
     → AllPass (endTable (Input.Going p line) numbers query) → Given kept asked t p numbers series query
 unfolding Stands endTable openLines
-asked-is kept asked t p line numbers series query (s, l) long room h = by-test (isDone (p .state)) done (λ d. let k = rw d at (passed-line h 12) in let z : _≡_ {A = ℕ} 0 1 = cc in absurd (omega arith))
+asked-is kept asked t p line numbers series query (s, l) long room h = by-test (isDone p.state) done (λ d. let k = rw d at (passed-line h 12) in let z : _≡_ {A = ℕ} 0 1 = cc in absurd (omega arith))
   where
-    done : isDone (p .state) ≡ true → Given kept asked t p numbers series query
+    done : isDone p.state ≡ true → Given kept asked t p numbers series query
     done d =
-        let w = program-done kept asked t numbers series query p (is-done (p .state) d) s in
-        let g = w .0 in
-        let o = w .2 in
-        let k = passed-parts (p .series) (p .query) (numbersAt numbers) query (passed-behind h 12) in
-        let few = series-few (p .series) (p .query) (k .0) in
-        let short = query-few (p .series .count) (p .query .count) (numbersAt numbers) (k .1) in
-        let lim = passed-limited (p .series .count) (p .query .count) (numbersAt numbers) (k .1) in
-        let values = all-kept (o .first) (series-in (p .series) (p .query) (k .0)) (omega (arith, few, long)) in
-        let curve = all-kept (o .second) (query-in (p .series) (p .query) (k .0)) (omega (arith, short, room)) in
+        let w = program-done kept asked t numbers series query p (is-done p.state d) s in
+        let g = w.0 in
+        let o = w.2 in
+        let k = passed-parts p.series p.query (numbersAt numbers) query (passed-behind h 12) in
+        let few = series-few p.series p.query k.0 in
+        let short = query-few p.series.count p.query.count (numbersAt numbers) k.1 in
+        let lim = passed-limited p.series.count p.query.count (numbersAt numbers) k.1 in
+        let values = all-kept o.first (series-in p.series p.query k.0) (omega (arith, few, long)) in
+        let curve = all-kept o.second (query-in p.series p.query k.0) (omega (arith, short, room)) in
         record {
           limited = lim;
           few = few;
           short = short;
-          call = text-said t g (w .1) ∙ said-is g numbers _ _ (o .alone) values curve lim;
+          call = text-said t g w.1 ∙ said-is g numbers _ _ o.alone values curve lim;
         }

@@ -21,7 +21,7 @@ Stands kept asked t (Input.Failed line) numbers series query = (m : ℕ) × (Sho
 
 -- n bytes more can be read
 unfoldable pub Open : Input → ℕ → Type 0
-Open (Input.Going p line) n = Ready p n × (1 ≤ line) × (line ≤ p .at + 1)
+Open (Input.Going p line) n = Ready p n × (1 ≤ line) × (line ≤ p.at + 1)
 Open (Input.Failed line) n = Unit {0}
 
 -- nothing has been read

@@ -36,23 +36,23 @@ kindOf z = kindSaid (ltZ (pos 0) z)
 
 -- what they ask of the search
 abbrev pub asksOf : Numbers → Asking
-asksOf x = record { kind = kindOf (x .raw); band = x .band; threshold = x .threshold; scale = x .scale; shift = x .shift }
+asksOf x = record { kind = kindOf x.raw; band = x.band; threshold = x.threshold; scale = x.scale; shift = x.shift }
 
 -- the place of the first value outside its limits
 abbrev pub firstOut : Values → Option ℕ
-firstOut v = cond (ltb (v .inside) (v .count)) (some (v .inside)) none
+firstOut v = cond (ltb v.inside v.count) (some v.inside) none
 
 -- 1 and 2
 unfoldable pub valuesTable : Values → Values → List Condition
-valuesTable v q = lengthOutside mostProgramValues (v .count) ∷ atPlace 2 (firstOut v) ∷ atPlace 2 (firstOut q) ∷ []
+valuesTable v q = lengthOutside mostProgramValues v.count ∷ atPlace 2 (firstOut v) ∷ atPlace 2 (firstOut q) ∷ []
 
 -- 3 to 10, for a series of n values and a query of m
 unfoldable pub numbersTable : ℕ → ℕ → Numbers → List Condition
-numbersTable n m x = widthLines n (x .window) (x .width) (x .merge) ++ limitLines n m (x .window) (asksOf x)
+numbersTable n m x = widthLines n x.window x.width x.merge ++ limitLines n m x.window (asksOf x)
 
 -- 1 to 11
 unfoldable pub callTable : Values → Values → Numbers → List ℤ → List Condition
-callTable v q x query = valuesTable v q ++ (numbersTable (v .count) (q .count) x ++ (flatQuery (kindOf (x .raw)) (take (q .count) query) ∷ []))
+callTable v q x query = valuesTable v q ++ (numbersTable v.count q.count x ++ (flatQuery (kindOf x.raw) (take q.count query) ∷ []))
 
 -- a text may end here
 abbrev pub isDone : State → Bool
@@ -64,19 +64,19 @@ isDone State.Done = true
 -- all, at the end of the input
 unfoldable pub endTable : Input → List ℤ → List ℤ → List Condition
 endTable (Input.Failed line) numbers query = atPlace 12 (some line) ∷ []
-endTable (Input.Going p line) numbers query = atPlace 12 (cond (isDone (p .state)) none (some line)) ∷ callTable (p .series) (p .query) (numbersAt numbers) query
+endTable (Input.Going p line) numbers query = atPlace 12 (cond (isDone p.state) none (some line)) ∷ callTable p.series p.query (numbersAt numbers) query
 
 -- ---- what the code asks of what was kept
 
 -- the query that was kept, where all of it is kept and in the limits
 pub record Sound (q : Values) (query : List ℤ) : Type 0 where
-  pub few : q .count < 2 ^ 63
+  pub few : q.count < 2 ^ 63
   pub long : 1024 ≤ length query
-  pub inside : firstOut q ≡ none → q .count ≤ 1024 → AllIn (take (q .count) query)
+  pub inside : firstOut q ≡ none → q.count ≤ 1024 → AllIn (take q.count query)
 
 abbrev pub SoundEnd : Input → List ℤ → List ℤ → Type 0
 SoundEnd (Input.Failed line) numbers query = Unit {0}
-SoundEnd (Input.Going p line) numbers query = Sound (p .query) query × (8 ≤ length numbers)
+SoundEnd (Input.Going p line) numbers query = Sound p.query query × (8 ≤ length numbers)
 
 -- a number from 0 on, at most k
 pub record Upto (k : ℕ) (z : ℤ) : Type 0 where
@@ -84,32 +84,32 @@ pub record Upto (k : ℕ) (z : ℤ) : Type 0 where
   pub most : z ≤ℤ pos k
 
 pub record Limited (x : Numbers) : Type 0 where
-  pub window : Upto 256 (x .window)
-  pub width : Upto 1000000 (x .width)
-  pub merge : Upto 100 (x .merge)
-  pub band : Upto 1023 (x .band)
-  pub threshold : Upto 1000000000000 (x .threshold)
-  pub scale : Upto 100 (x .scale)
-  pub shift : Upto 20000 (x .shift)
+  pub window : Upto 256 x.window
+  pub width : Upto 1000000 x.width
+  pub merge : Upto 100 x.merge
+  pub band : Upto 1023 x.band
+  pub threshold : Upto 1000000000000 x.threshold
+  pub scale : Upto 100 x.scale
+  pub shift : Upto 20000 x.shift
 
 -- ---- what is asked
 
 -- the numbers in their types
 unfoldable pub askedOf : Numbers → Asked
 askedOf x = record {
-  window = natAbs (x .window);
-  width = natAbs (x .width);
-  merge = natAbs (x .merge);
+  window = natAbs x.window;
+  width = natAbs x.width;
+  merge = natAbs x.merge;
   ask = plainAsk (asksOf x);
 }
 
 -- the call of the program
 unfoldable pub callOf : List ℤ → List ℤ → Asked → ProgramCall
 callOf s q a = record {
-  window = pos (a .window);
-  width = pos (a .width);
-  merge = pos (a .merge);
+  window = pos a.window;
+  width = pos a.width;
+  merge = pos a.merge;
   series = s;
   query = q;
-  ask = lentAsk (a .ask);
+  ask = lentAsk a.ask;
 }

@@ -14,30 +14,30 @@ use Rattle.refusals.specs.{declared.Refusal.Refusal, Refusal.refusalOf, Refusal
 use Rattle.text_put.specs.Put.{Put}
 use Rattle.text_put.proofs.Put.{put-room, put-length}
 use Rattle.text_feed.specs.declared.Progress.{Progress}
-use Rattle.program_input.specs.{declared.Input.Input, Input.Stands}
 use Rattle.program_input.specs.Tables.{numbersAt, endTable, SoundEnd, askedOf, callOf, valuesTable, numbersTable, callTable}
+use Rattle.program_input.specs.{declared.Input.Input, Input.Stands}
 use Rattle.program_input.proofs.Says.{stands-sound, end-is, Given, asked-is}
 use Rattle.program_answer.specs.Finish.{Prints, Reached, Finishes}
 use Rattle.program_answer.proofs.Sizes.{refused-size}
 
 pub sound-here : (r : Input) (numbers series query : List ℤ) → Reached r numbers series query → SoundEnd r numbers query
-sound-here r numbers series query h = stands-sound _ _ _ r numbers series query (h .stands) 0 (h .opened) (omega arith)
+sound-here r numbers series query h = stands-sound _ _ _ r numbers series query h.stands 0 h.opened (omega arith)
 
 -- a refusal
-pub refused-end : (r : Input) (numbers series query : List ℤ) (w : Refusal) (old new : List ℕ) (to : ℕ) → w ≡ refusalOf (endTable r numbers query) → (w .number ≡ 0 → ⊥) → w .number < 2 ^ 32 → w .place < 2 ^ 64
-    → length old ≡ 1048576 → Put old 0 (refusedText (w .number) (w .place)) new to → Finishes r numbers series query new to
+pub refused-end : (r : Input) (numbers series query : List ℤ) (w : Refusal) (old new : List ℕ) (to : ℕ) → w ≡ refusalOf (endTable r numbers query) → (w.number ≡ 0 → ⊥) → w.number < 2 ^ 32 → w.place < 2 ^ 64
+    → length old ≡ 1048576 → Put old 0 (refusedText w.number w.place) new to → Finishes r numbers series query new to
 unfolding program
 refused-end r numbers series query w old new to e f n p long put =
-    let room = refused-size (w .number) (w .place) n p in
+    let room = refused-size w.number w.place n p in
     let z = put-room put (omega arith) in
     let l = put-length put in
     record {
       within = omega (arith, l);
       is = λ kept asked t hk ha s.
           let g = refuses _ (e ∙ end-is kept asked t r numbers series query s (omega (arith, ha))) f in
-          let text = refusedText (w .number) (w .place) in
+          let text = refusedText w.number w.place in
           let o : 0 + length text ≡ length text = omega arith in
-          let b : take to new ≡ text = rw (z .1, z .0, o) (take-append-seam text _) in
+          let b : take to new ≡ text = rw (z.1, z.0, o) (take-append-seam text _) in
           let q : program t ≡ text = rw (g, program) in
           record { printed = b ∙ sym q };
     }
@@ -53,7 +53,7 @@ program-lacks : (t : List ℕ) → T (lacks 0 (programTable t))
 unfolding openLines lacks callLines programTable
 program-lacks t = tt
 
-module _ (r : Input) (numbers series query : List ℤ) (w : Refusal) (e : w ≡ refusalOf (endTable r numbers query)) (z : w .number ≡ 0) where
+module _ (r : Input) (numbers series query : List ℤ) (w : Refusal) (e : w ≡ refusalOf (endTable r numbers query)) (z : w.number ≡ 0) where
   free : AllPass (endTable r numbers query)
   free = passes _ (end-lacks r numbers query) e z
 
@@ -69,18 +69,18 @@ module _ (r : Input) (numbers series query : List ℤ) (w : Refusal) (e : w ≡ 
       program-free : AllPass (programTable t)
       program-free = passes _ (program-lacks t) (e ∙ end-is kept asked t r numbers series query s (omega arith)) z
 
-    pub given-here : (h : Reached r numbers series query) → Given (h .kept) (h .asked) (h .text) p numbers series query
-    given-here h = given _ _ _ (h .long) (h .short) (h .stands)
+    pub given-here : (h : Reached r numbers series query) → Given h.kept h.asked h.text p numbers series query
+    given-here h = given _ _ _ h.long h.short h.stands
 
-    pub call-free : Reached r numbers series query → AllPass (callLines (callOf (take (p .series .count) series) (take (p .query .count) query) (askedOf (numbersAt numbers))))
+    pub call-free : Reached r numbers series query → AllPass (callLines (callOf (take p.series.count series) (take p.query.count query) (askedOf (numbersAt numbers))))
     unfolding openLines programTable
     call-free h =
-        let f = program-free (h .kept) (h .asked) _ (h .long) (h .short) (h .stands) in
+        let f = program-free h.kept h.asked _ h.long h.short h.stands in
         subst (λ (c : ProgramCall). AllPass (callLines c)) (given-here h .call) (passed-behind f 12)
 
-    pub printed-end : (new : List ℕ) (to : ℕ) → Prints (printed (callOf (take (p .series .count) series) (take (p .query .count) query) (askedOf (numbersAt numbers)))) new to → Finishes r numbers series query new to
+    pub printed-end : (new : List ℕ) (to : ℕ) → Prints (printed (callOf (take p.series.count series) (take p.query.count query) (askedOf (numbersAt numbers)))) new to → Finishes r numbers series query new to
     unfolding program
     printed-end new to h = record {
-      within = h .within;
-      is = λ kept asked t hk ha s. record { printed = h .is ∙ sym (ap printed (given kept asked t hk ha s .call)) ∙ sym (rw (passed-is (program-free kept asked t hk ha s), program)) };
+      within = h.within;
+      is = λ kept asked t hk ha s. record { printed = h.is ∙ sym (ap printed (given kept asked t hk ha s .call)) ∙ sym (rw (passed-is (program-free kept asked t hk ha s), program)) };
     }

@@ -16,21 +16,21 @@ line-is n true l = refl
 line-is n false l = refl
 
 -- a line with a place of its own
-pub place-is : (c : Condition) (l : List Condition) {p : ℕ} → c .place ≡ some p → refusalOf (c ∷ l) ≡ record { number = c .number; place = p }
+pub place-is : (c : Condition) (l : List Condition) {p : ℕ} → c.place ≡ some p → refusalOf (c ∷ l) ≡ record { number = c.number; place = p }
 unfolding asRefusal firstRefusal
 place-is c l e = rw (e, firstRefusal)
 
-pub place-none : (c : Condition) (l : List Condition) → c .place ≡ none → refusalOf (c ∷ l) ≡ refusalOf l
+pub place-none : (c : Condition) (l : List Condition) → c.place ≡ none → refusalOf (c ∷ l) ≡ refusalOf l
 unfolding firstRefusal
 place-none c l e = rw (e, firstRefusal)
 
-pub place-before : {r r′ : Refusal} (c : Condition) (l : List Condition) → r ≡ refusalOf l → r′ ≡ refuseAt (c .number) (c .place) r → r′ ≡ refusalOf (c ∷ l)
+pub place-before : {r r′ : Refusal} (c : Condition) (l : List Condition) → r ≡ refusalOf l → r′ ≡ refuseAt c.number c.place r → r′ ≡ refusalOf (c ∷ l)
 unfolding refuseAt
 place-before {r} {r′} c l e f = by _ refl
   where
-    by : (o : Option ℕ) → c .place ≡ o → r′ ≡ refusalOf (c ∷ l)
-    by none h = f ∙ ap (λ (o : Option ℕ). refuseAt (c .number) o r) h ∙ e ∙ sym (place-none c l h)
-    by (some p) h = f ∙ ap (λ (o : Option ℕ). refuseAt (c .number) o r) h ∙ sym (place-is c l h)
+    by : (o : Option ℕ) → c.place ≡ o → r′ ≡ refusalOf (c ∷ l)
+    by none h = f ∙ ap (λ (o : Option ℕ). refuseAt c.number o r) h ∙ e ∙ sym (place-none c l h)
+    by (some p) h = f ∙ ap (λ (o : Option ℕ). refuseAt c.number o r) h ∙ sym (place-is c l h)
 
 -- a test before what a table says
 pub line-before : (n : ℕ) {r r′ : Refusal} {b : Bool} (t : Bool) (l : List Condition) → r ≡ refusalOf l → b ≡ t → r′ ≡ refuseIf b n r → r′ ≡ refusalOf (atZero n t ∷ l)
@@ -42,7 +42,7 @@ unfolding lengthOutside valueOutside
 series-before s l e f = line-before 1 {b = not (lengthIn mostValues (length s))} _ _ (place-before (valueOutside s) l e refl) refl f
 
 -- the first part of a table refuses
-pub part-refuses : {r : Refusal} (a b : List Condition) → r ≡ refusalOf a → (r .number ≡ 0 → ⊥) → r ≡ refusalOf (a ++ b)
+pub part-refuses : {r : Refusal} (a b : List Condition) → r ≡ refusalOf a → (r.number ≡ 0 → ⊥) → r ≡ refusalOf (a ++ b)
 part-refuses {r} a b e f =
     let h = refuses a e f in
     e ∙ ap asRefusal (h ∙ sym (first-is (first-left b (is-first a _ _ h))))

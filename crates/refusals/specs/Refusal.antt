@@ -19,7 +19,7 @@ unrefused = record { number = 0; place = 0 }
 
 unfoldable pub asRefusal : Option (ℕ × ℕ) → Refusal
 asRefusal none = unrefused
-asRefusal (some r) = record { number = r .0; place = r .1 }
+asRefusal (some r) = record { number = r.0; place = r.1 }
 
 -- by the first line of a table that applies
 abbrev pub refusalOf : List Condition → Refusal
@@ -43,22 +43,22 @@ unfolding illFormed
 judged-line x j e = ap (atPlace 20) e
 
 -- number 0 is that nothing refuses, in a table that has no such number
-pub passes : {r : Refusal} (l : List Condition) → T (lacks 0 l) → r ≡ refusalOf l → r .number ≡ 0 → AllPass l
+pub passes : {r : Refusal} (l : List Condition) → T (lacks 0 l) → r ≡ refusalOf l → r.number ≡ 0 → AllPass l
 unfolding asRefusal
 passes {r} l t e z = by (firstRefusal l) refl
   where
     by : (o : Option (ℕ × ℕ)) → firstRefusal l ≡ o → AllPass l
     by none h = is-passed l h
     by (some x) h =
-        clash (eq-eqb (x .0) 0 (sym (ap (λ (y : Option (ℕ × ℕ)). asRefusal y .number) h) ∙ sym (ap (λ (y : Refusal). y .number) e) ∙ z)) (first-lacks 0 t (is-first l (x .0) (x .1) h))
+        clash (eq-eqb x.0 0 (sym (ap (λ (y : Option (ℕ × ℕ)). asRefusal y .number) h) ∙ sym (ap (λ (y : Refusal). y .number) e) ∙ z)) (first-lacks 0 t (is-first l x.0 x.1 h))
 
 -- any other number is that of the first line that applies
-pub refuses : {r : Refusal} (l : List Condition) → r ≡ refusalOf l → (r .number ≡ 0 → ⊥) → firstRefusal l ≡ some (r .number, r .place)
+pub refuses : {r : Refusal} (l : List Condition) → r ≡ refusalOf l → (r.number ≡ 0 → ⊥) → firstRefusal l ≡ some (r.number, r.place)
 unfolding asRefusal
 refuses {r} l e f = by (firstRefusal l) refl
   where
-    by : (o : Option (ℕ × ℕ)) → firstRefusal l ≡ o → firstRefusal l ≡ some (r .number, r .place)
+    by : (o : Option (ℕ × ℕ)) → firstRefusal l ≡ o → firstRefusal l ≡ some (r.number, r.place)
     by none h = absurd (f (ap (λ (y : Refusal). y .number) e ∙ ap (λ (x : Option (ℕ × ℕ)). asRefusal x .number) h))
     by (some x) h =
-        let g : r ≡ record { number = x .0; place = x .1 } = e ∙ ap asRefusal h in
-        h ∙ sym (ap (λ (y : Refusal). some (y .number, y .place)) g)
+        let g : r ≡ record { number = x.0; place = x.1 } = e ∙ ap asRefusal h in
+        h ∙ sym (ap (λ (y : Refusal). some (y.number, y.place)) g)

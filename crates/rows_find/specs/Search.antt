@@ -13,10 +13,10 @@ abbrev pub midOf : ℕ → ℕ → ℕ
 midOf lo hi = lo + (hi - lo) / 2
 
 abbrev pub nextLo : ℕ → ℕ → Row → ℤ → ℕ
-nextLo lo mid r sum = cond (leZ (r .up) sum) (mid + 1) lo
+nextLo lo mid r sum = cond (leZ r.up sum) (mid + 1) lo
 
 abbrev pub nextHi : ℕ → ℕ → Row → ℤ → ℕ
-nextHi hi mid r sum = cond (leZ (r .up) sum) hi mid
+nextHi hi mid r sum = cond (leZ r.up sum) hi mid
 
 -- the upper ends of the first n ranges ascend
 pub record Climbs (rows : List Row) (n : ℕ) : Type 0 where

@@ -43,8 +43,8 @@ pub record GoodRun (windows least l r : ℕ) : Type 0 where
 
 pub good-run : (windows least l r : ℕ) → runGood windows least l r ≡ true → GoodRun windows least l r
 good-run windows least l r e =
-    let a = both _ _ e in let b = both _ _ (a .1) in
-    record { below = leb-true least l (a .0); order = leb-true l r (b .0); inside = ltb-true r windows (b .1) }
+    let a = both _ _ e in let b = both _ _ a.1 in
+    record { below = leb-true least l a.0; order = leb-true l r b.0; inside = ltb-true r windows b.1 }
 
 pub all-four : (a b c d : Bool) → (a && (b && c)) ≡ true → (a && (b && (c && d))) ≡ d
 all-four true true true d e = refl
@@ -100,7 +100,7 @@ pub record Follows (least l r : ℕ) : Type 0 where
   pub order : l ≤ r
 
 pub follows : (least l r : ℕ) → (ltb l least || ltb r l) ≡ false → Follows least l r
-follows least l r e = let p = neither-is _ _ e in record { below = ltb-false l least (p .0); order = ltb-false r l (p .1) }
+follows least l r e = let p = neither-is _ _ e in record { below = ltb-false l least p.0; order = ltb-false r l p.1 }
 
 module _ (windows least total l r : ℕ) (rest : List Entry) where
   pub inside-bad : (ltb l least || ltb r l) ≡ true → inside windows least (scan (pos windows) (pos least) total ((pos l, pos r) ∷ rest)) ≡ untold
@@ -109,7 +109,7 @@ module _ (windows least total l r : ℕ) (rest : List Entry) where
   pub inside-next : Follows least l r
       → inside windows (r + 2) (scan (pos windows) (pos (r + 2)) (total + (r + 1 - l)) rest) ≡ inside windows least (scan (pos windows) (pos least) total ((pos l, pos r) ∷ rest))
   inside-next f =
-      let h = f .below in let k = f .order in
+      let h = f.below in let k = f.order in
       by-test
       (ltb r windows)
       (λ e. let i = ltb-true r windows e in

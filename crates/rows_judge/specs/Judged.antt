@@ -12,7 +12,7 @@ outcome (some k) total = Judged.Bad k
 
 -- 01, Rows: an index is judged by its first bad row
 unfoldable pub judgedOf : Index → Judged
-judgedOf x = outcome (firstBadRow x) (lengthTotal x (x .rows))
+judgedOf x = outcome (firstBadRow x) (lengthTotal x x.rows)
 
 -- the first bad row, by what judging said
 unfoldable pub badRow : Judged → Option ℕ
@@ -28,4 +28,4 @@ outcome-row (some k) total = refl
 
 pub bad-row : (x : Index) → badRow (judgedOf x) ≡ firstBadRow x
 unfolding judgedOf
-bad-row x = outcome-row (firstBadRow x) (lengthTotal x (x .rows))
+bad-row x = outcome-row (firstBadRow x) (lengthTotal x x.rows)

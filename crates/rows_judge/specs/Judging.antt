@@ -18,15 +18,15 @@ failed = record { good = false; least = pos 0; first = 0; taken = 0 }
 
 -- after a good row whose run lengths total `total`
 abbrev pub moved : RowsJudged → Row → ℕ → RowsJudged
-moved s r total = record { good = true; least = r .up; first = r .first + r .runs; taken = s .taken + total }
+moved s r total = record { good = true; least = r.up; first = r.first + r.runs; taken = s.taken + total }
 
 -- a row has a part of its own in a run buffer of `size` entries
 abbrev pub room : ℕ → ℕ → Row → Bool
-room size first r = leb 1 (r .runs) && (eqb (r .first) first && leb (r .first + r .runs) size)
+room size first r = leb 1 r.runs && (eqb r.first first && leb (r.first + r.runs) size)
 
 -- everything of a row but its runs
 abbrev pub fits : Index → RowsJudged → Row → ℕ → Bool
-fits x s r size = s .good && (rangeGood x (s .least) r && room size (s .first) r)
+fits x s r size = s.good && (rangeGood x s.least r && room size s.first r)
 
 -- run lengths that cannot be trusted
 abbrev pub untold : Lengths
@@ -38,12 +38,12 @@ scan windows least total l = cond (runsGood windows least l) (record { good = tr
 
 -- after a row that fits, by its run lengths
 abbrev pub after : ℕ → RowsJudged → Row → Lengths → RowsJudged
-after windows s r t = cond (t .good && leb (s .taken + t .total) windows) (moved s r (t .total)) failed
+after windows s r t = cond (t.good && leb (s.taken + t.total) windows) (moved s r t.total) failed
 
 -- after one row more
 unfoldable pub next : Index → RowsJudged → Row → RowsJudged
-next x s r = cond (s .good && rowGood x (s .least) (s .first) (s .taken) r) (moved s r (runLengths (runsOf x r))) failed
+next x s r = cond (s.good && rowGood x s.least s.first s.taken r) (moved s r (runLengths (runsOf x r))) failed
 
 -- the outcome, where judging ended at row k
 abbrev pub verdictOf : RowsJudged → ℕ → Judged
-verdictOf s k = cond (s .good) (Judged.Fine (s .taken)) (Judged.Bad k)
+verdictOf s k = cond s.good (Judged.Fine s.taken) (Judged.Bad k)

@@ -10,11 +10,11 @@ summed-start l = record { long = refl; end = λ i h. absurd (omega arith); rest 
 -- a turn of adding up
 pub summed-more : {n : ℕ} {old new : List ℕ} (v : ℕ) → Summed n old new → n < length new → v ≡ total old n + getD old n 0 → Summed (n + 1) old (set new n v)
 summed-more {n} {old} {new} v s h e = record {
-  long = length-set new n v ∙ s .long;
+  long = length-set new n v ∙ s.long;
   end = λ i l. by-test _
       (λ t. let q = eqb-true i n t in rw q (getD-set-same new n v 0 h ∙ e ∙ sym (Σℕ-more n (λ k. getD old k 0))))
-      (λ t. let q = eqb-false i n t in getD-set-other new n i v 0 q ∙ s .end i (omega arith));
-  rest = λ i l. getD-set-other new n i v 0 (λ q. omega arith) ∙ s .rest i (omega arith);
+      (λ t. let q = eqb-false i n t in getD-set-other new n i v 0 q ∙ s.end i (omega arith));
+  rest = λ i l. getD-set-other new n i v 0 (λ q. omega arith) ∙ s.rest i (omega arith);
 }
 
 pub packed-none : (numbers ends : List ℕ) (d bias : ℕ) (rows : List Row) → packed numbers ends d bias 0 rows ≡ rows

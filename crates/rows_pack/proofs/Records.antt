@@ -1,14 +1,12 @@
 -- What is packed out of the table of a series and the sums of its counts is the records of its build without merging (`built-records`), in front of what was there.
 use Rattle.meaning_numbers.specs.Sum.{Σℕ}
-use Rattle.meaning_numbers.proofs.{Sum.Σℕ-none, Sum.Σℕ-more, Sum.Σℕ-same, Member.mem-at}
 use Rattle.meaning_numbers.proofs.Prelude.{_≡_, refl, sym, ap, _∙_, List, [], _∷_, _++_, map, List·Memᴰ as Mem, ℕ, zero, suc, _+_, _-_, _*_, _<_, _≤_, arith, decLt, div-mul-le-self, ℤ, pos, _-ℤ_, length, getD, take, drop, length-append, length-drop, length-map, List·getD-append, ext-getD, getD-append-add, getD-drop, getD-set-same, getD-set-other, eqb-true, eqb-false, ne-eqb, rep-pos, rep-sub, rep-mul, rep-add, rep-eq, by-test}
+use Rattle.meaning_numbers.proofs.{Sum.Σℕ-none, Sum.Σℕ-more, Sum.Σℕ-same, Member.mem-at}
 use Rattle.meaning_curves.specs.Curve.{windowSum}
-use Rattle.meaning_rows.specs.{declared.Row.Row, Range.inside, Runs.runs, Runs.runCount, Index.RangeRow, Index.records, Index.allRuns}
-use Rattle.meaning_rows.specs.Build.{SetRow, rowAt, filed, entry, withRuns, builtRows}
+use Rattle.meaning_rows.specs.{declared.Row.Row, Range.inside, Runs.runs, Runs.runCount, Index.RangeRow, Index.records, Index.allRuns, Build.SetRow, Build.rowAt, Build.filed, Build.entry, Build.withRuns, Build.builtRows}
 use Rattle.meaning_rows.proofs.{Laid.length-records, LaidAt.records-at, LaidAt.runs-total, Build.numbers-length, Build.merged-none, Build.built-runs}
 use Rattle.rows_records.specs.Records.{zeroRow}
-use Rattle.sums_slide.specs.Table.{table}
-use Rattle.sums_slide.specs.Levels.{level, rowOf, windowsOf, Lent, level-small}
+use Rattle.sums_slide.specs.{Table.table, Levels.level, Levels.rowOf, Levels.windowsOf, Levels.Lent, Levels.level-small}
 use Rattle.sums_slide.proofs.Marks.{yes-met}
 use Rattle.sums_count.specs.{Tally.isRow, Tally.Counted, Numbers.lowered}
 use Rattle.sums_count.proofs.{Rows.front-at, Numbers.table-only, Numbers.table-numbers, Numbers.row-runs}
@@ -52,7 +50,7 @@ start-is {n} {counts} {ends} s zero h = sym (Σℕ-none (λ k. getD counts k 0))
 start-is {n} {counts} {ends} s (suc i) h =
     let e : suc i - 1 ≡ i = omega arith in
     let q : i + 1 ≡ suc i = omega arith in
-    rw (ne-eqb (suc i) 0 (λ z. omega arith), e, s .end i (omega arith), q)
+    rw (ne-eqb (suc i) 0 (λ z. omega arith), e, s.end i (omega arith), q)
 
 module _ {s : List ℤ} {w e : ℕ} (d b : ℕ) (one : 0 < d) (bias : 10000 * w + e ≡ b * d) (h : Lent s w e) where
   -- row number k's row with its runs
@@ -70,8 +68,8 @@ module _ {s : List ℤ} {w e : ℕ} (d b : ℕ) (one : 0 < d) (bias : 10000 * w 
   unfolding rowOf
   small-row k m most =
       let q = yes-met _ _ k (table-only d b one bias h k m) in
-      let e′ = q .is in
-      rw (← e′) (omega (arith, div-mul-le-self (level s w e (q .at)) d, level-small (q .at) h))
+      let e′ = q.is in
+      rw (← e′) (omega (arith, div-mul-le-self (level s w e q.at) d, level-small q.at h))
 
   size-is : (k : ℕ) → length (row k .runs) ≡ runCount (isRow (rowOf (level s w e) d) k) (windowsOf s w)
   unfolding row withRuns rowAt
@@ -94,7 +92,7 @@ module _ {s : List ℤ} {w e : ℕ} (d b : ℕ) (one : 0 < d) (bias : 10000 * w 
   pub counts-fit : {counts : List ℕ} → Counted (rowOf (level s w e) d) (windowsOf s w) (table s w e d) counts → total counts (length (table s w e d)) ≤ windowsOf s w
   counts-fit {counts} c =
       let t = table s w e d in
-      let same = Σℕ-same _ (λ x. getD counts x 0) (λ x. length (row _ .runs)) (λ x l. c .count x l ∙ sym (size-is _)) in
+      let same = Σℕ-same _ (λ x. getD counts x 0) (λ x. length (row _ .runs)) (λ x l. c.count x l ∙ sym (size-is _)) in
       omega (arith, same, runs-total 0 row t, ap (λ (l : List RangeRow). length (allRuns l)) built-is, built-runs (windowSum s w) d (windowsOf s w) one 0)
 
   -- what is packed of the table can be made
@@ -106,7 +104,7 @@ module _ {s : List ℤ} {w e : ℕ} (d b : ℕ) (one : 0 < d) (bias : 10000 * w 
       in-ends = omega arith;
       small = rw (front-at numbers _ _ front refl i l) (small-row _ (mem-at 0 _ i l) most);
       low-bias = omega arith;
-      order = omega (arith, m .end i l, Σℕ-more i (λ k. getD counts k 0), start-is m i l);
+      order = omega (arith, m.end i l, Σℕ-more i (λ k. getD counts k 0), start-is m i l);
     };
   }
 
@@ -116,7 +114,7 @@ module _ {s : List ℤ} {w e : ℕ} (d b : ℕ) (one : 0 < d) (bias : 10000 * w 
     t = table s w e d
 
     count-is : (i : ℕ) → i < length t → getD counts i 0 ≡ length (row (getD t i 0) .runs)
-    count-is i l = c .count i l ∙ sym (size-is _)
+    count-is i l = c.count i l ∙ sym (size-is _)
 
     first-is : (i : ℕ) → i < length t → startOf ends i ≡ 0 + Σℕ i (λ x. length (row (getD t x 0) .runs))
     first-is i l =
@@ -124,7 +122,7 @@ module _ {s : List ℤ} {w e : ℕ} (d b : ℕ) (one : 0 < d) (bias : 10000 * w 
         start-is m i l ∙ Σℕ-same i (λ x. getD counts x 0) (λ x. length (row _ .runs)) (λ x b. count-is x (omega arith)) ∙ z
 
     runs-is : (i : ℕ) → i < length t → getD ends i 0 - startOf ends i ≡ length (row (getD t i 0) .runs)
-    runs-is i l = omega (arith, m .end i l, Σℕ-more i (λ k. getD counts k 0), start-is m i l, count-is i l)
+    runs-is i l = omega (arith, m.end i l, Σℕ-more i (λ k. getD counts k 0), start-is m i l, count-is i l)
 
     row-same : (i : ℕ) → i < length t → rowFrom numbers ends d (10000 * w + e) i ≡ getD (records 0 (map row t)) i zeroRow
     row-same i l =

@@ -55,10 +55,10 @@ module _ (rows : List Row) (from : ℕ) where
   there i n less within = omega arith
 
   pub copying-turn : {n i : ℕ} {out l : List Row} → Copying n out i l → i < n → Copying n out (i + 1) (set l i (getD rows (from + i) zeroRow))
-  copying-turn {n} {i} {out} k less = record { upto = omega arith; is = rw (k .is) (sym (copied-more i out)) }
+  copying-turn {n} {i} {out} k less = record { upto = omega arith; is = rw k.is (sym (copied-more i out)) }
 
   pub copying-ends : {n i : ℕ} {out l : List Row} → Copying n out i l → n ≤ i → l ≡ copied rows from n out
-  copying-ends {n} {i} {out} k end = let e : i ≡ n = omega (arith, end) in k .is ∙ rw e refl
+  copying-ends {n} {i} {out} k end = let e : i ≡ n = omega (arith, end) in k.is ∙ rw e refl
 
   -- ---- the code copies only what is there
 
@@ -77,5 +77,5 @@ module _ (rows : List Row) (from : ℕ) where
       (λ k h. let b : k < 64 = omega (arith, h, length-copied n (replicate 64 zeroRow), length-replicate 64 zeroRow) in elim (decLe (suc k) n) [
         | yes m ↦ copied-at n k (replicate 64 zeroRow) m (omega arith) ∙ sym (chunk-at k b)
         | no f ↦ copied-past n k (replicate 64 zeroRow) (omega arith) ∙ getD-replicate 64 k zeroRow zeroRow b
-            ∙ sym (chunk-at k b ∙ List·getD-eq-default rows zeroRow (omega (arith, c .all (omega arith))))
+            ∙ sym (chunk-at k b ∙ List·getD-eq-default rows zeroRow (omega (arith, c.all (omega arith))))
       ])

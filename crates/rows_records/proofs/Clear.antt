@@ -51,7 +51,7 @@ module _ (f : ℕ) (ys : List Row) where
   clearing-starts below = record { past = le-refl f; upto = below; is = sym (cleared-none f ys) }
 
   pub clearing-turn : {i : ℕ} {l : List Row} → Clearing f ys i l → i < length ys → Clearing f ys (i + 1) (set l i zeroRow)
-  clearing-turn {i} k less = record { past = omega arith; upto = omega arith; is = rw (k .is) (cleared-suc f i ys (k .past) less ∙ rw (sym (add-one i))) }
+  clearing-turn {i} k less = record { past = omega arith; upto = omega arith; is = rw k.is (cleared-suc f i ys k.past less ∙ rw (sym (add-one i))) }
 
   pub clearing-ends : {i : ℕ} {l : List Row} → Clearing f ys i l → f ≤ length ys → length ys ≤ i → l ≡ take f ys ++ replicate (length ys - f) zeroRow
-  clearing-ends {i} k below end = k .is ∙ ap (λ (j : ℕ). cleared f j ys) (omega (arith, end)) ∙ cleared-all f ys below
+  clearing-ends {i} k below end = k.is ∙ ap (λ (j : ℕ). cleared f j ys) (omega (arith, end)) ∙ cleared-all f ys below

@@ -45,26 +45,26 @@ drop-next (x ∷ xs) (suc i) d l = drop-next xs i d (le-of-suc-le-suc l)
 module _ {M : Type 1} (𝓤 : URA M) (H : Heap 𝓤) (A : Atoms 𝓤) where
   abbrev pub Owned : (Ts : List RattleType) → Denots Ts → Valss Ts → List (Item 𝓤)
   Owned [] a vss = []
-  Owned (T ∷ Ts) a vss = ‵ (T .own (a .0) (vss .0)) ∷ Owned Ts (a .1) (vss .1)
+  Owned (T ∷ Ts) a vss = ‵ (T.own a.0 vss.0) ∷ Owned Ts a.1 vss.1
 
   owned : (Ts : List RattleType) (a : Denots Ts) (vss : Valss Ts) → ent 𝓤 (sem 𝓤 H A (owns Ts a vss)) (⋆ 𝓤 H A (Owned Ts a vss))
   owned [] a vss = id⊢ 𝓤 (emp 𝓤)
-  owned (T ∷ Ts) a vss = let F = sem 𝓤 H A (T .own (a .0) (vss .0)) in
-      via 𝓤 (sep 𝓤 F (⋆ 𝓤 H A (Owned Ts (a .1) (vss .1)))) (monoR 𝓤 F (owned Ts (a .1) (vss .1))) (push 𝓤 H A (‵ (T .own (a .0) (vss .0))) (Owned Ts (a .1) (vss .1)))
+  owned (T ∷ Ts) a vss = let F = sem 𝓤 H A (T.own a.0 vss.0) in
+      via 𝓤 (sep 𝓤 F (⋆ 𝓤 H A (Owned Ts a.1 vss.1))) (monoR 𝓤 F (owned Ts a.1 vss.1)) (push 𝓤 H A (‵ (T.own a.0 vss.0)) (Owned Ts a.1 vss.1))
 
-  abbrev pub AtEntry : (S : Signature) (κs : Lfts (S .lifetimes)) → Shares (S .lifetimes) → Args S κs → Vals S κs → List (Item 𝓤)
-  AtEntry S κs qs a vss = Tokens 𝓤 H A (S .lifetimes) κs qs ++ Owned (typesAt (S .params) κs) a vss
+  abbrev pub AtEntry : (S : Signature) (κs : Lfts S.lifetimes) → Shares S.lifetimes → Args S κs → Vals S κs → List (Item 𝓤)
+  AtEntry S κs qs a vss = Tokens 𝓤 H A S.lifetimes κs qs ++ Owned (typesAt S.params κs) a vss
 
-  pub at-entry : (S : Signature) (κs : Lfts (S .lifetimes)) (qs : Shares (S .lifetimes)) (a : Args S κs) (vss : Vals S κs) → ent 𝓤 (onEntry 𝓤 H A S κs qs a vss) (⋆ 𝓤 H A (AtEntry S κs qs a vss))
-  at-entry S κs qs a vss = let Δ : List (Item 𝓤) = Tokens 𝓤 H A (S .lifetimes) κs qs in let Δ′ : List (Item 𝓤) = Owned (typesAt (S .params) κs) a vss in
-      via 𝓤 (sep 𝓤 (⋆ 𝓤 H A Δ) (⋆ 𝓤 H A Δ′)) (mono∗ 𝓤 (tokens 𝓤 H A (S .lifetimes) κs qs) (owned (typesAt (S .params) κs) a vss)) (++⊢ 𝓤 H A Δ Δ′)
+  pub at-entry : (S : Signature) (κs : Lfts S.lifetimes) (qs : Shares S.lifetimes) (a : Args S κs) (vss : Vals S κs) → ent 𝓤 (onEntry 𝓤 H A S κs qs a vss) (⋆ 𝓤 H A (AtEntry S κs qs a vss))
+  at-entry S κs qs a vss = let Δ : List (Item 𝓤) = Tokens 𝓤 H A S.lifetimes κs qs in let Δ′ : List (Item 𝓤) = Owned (typesAt S.params κs) a vss in
+      via 𝓤 (sep 𝓤 (⋆ 𝓤 H A Δ) (⋆ 𝓤 H A Δ′)) (mono∗ 𝓤 (tokens 𝓤 H A S.lifetimes κs qs) (owned (typesAt S.params κs) a vss)) (++⊢ 𝓤 H A Δ Δ′)
 
 module _ {M : Type 1} {𝓤 : URA M} {H : Heap 𝓤} {A : Atoms 𝓤} {K : Type 0} {W : Given 𝓤 H A} {Γ : List (Item 𝓤)} {E : Env 𝓤 H} {C : Calls 𝓤 H} {Λ : Loops 𝓤 H} {q : Post 𝓤 H} where
   pub goes-in : K → {c : Operand} {a b e : Body} → Opd K W Γ E c (vbool true) → Step K W Γ (runs C Λ E a (anyQ (afterSeq 𝓤 H (Wp 𝓤 H C Λ E b (post 𝓤 H q)) (post 𝓤 H q)))) Γ (runs C Λ E (seq (cond c a e) b) q)
   goes-in t o = step (λ s. first t $ branches t o (λ _. s) (λ z. absurd z))
 
   pub passes-by : K → {c : Operand} {a b : Body} → Opd K W Γ E c (vbool false) → Step K W Γ (runs C Λ E b q) Γ (runs C Λ E (seq (cond c a skip) b) q)
-  passes-by t o = step (λ s. first t $ branches t o (λ z. absurd z) (λ _. skips t $ record { prf = s .prf }))
+  passes-by t o = step (λ s. first t $ branches t o (λ z. absurd z) (λ _. skips t $ record { prf = s.prf }))
 
 module _ {M : Type 1} (𝓤 : URA M) (H : Heap 𝓤) (A : Atoms 𝓤) (W : Given 𝓤 H A) (𝓣 : Tables 𝓤 H) (E : Env 𝓤 H) (turn : Body) (Q : Out → SProp 𝓤) {S : Type 0} (μ : S → ℕ) (F : S → Type 0) (At : S → List (Item 𝓤)) where
   abbrev Known : ℕ → S → Type 0
@@ -82,8 +82,8 @@ module _ {M : Type 1} (𝓤 : URA M) (H : Heap 𝓤) (A : Atoms 𝓤) (W : Given
   below : (t : ℕ) (s : S) → μ s < t → F s → ent 𝓤 (⋆ 𝓤 H A (At s)) (Below t)
   below t s l f = via 𝓤 (Inv (μ s)) (into s f) (via 𝓤 (guard 𝓤 (μ s < t) (Inv (μ s))) (guardI 𝓤 (μ s < t) (Inv (μ s)) l) (exI 𝓤 (λ (t′ : ℕ). guard 𝓤 (t′ < t) (Inv t′)) (μ s)))
 
-  pub loops-by : ((s : S) → F s → (X : SProp 𝓤) → ((s′ : S) → μ s′ < μ s → F s′ → ent 𝓤 (⋆ 𝓤 H A (At s′)) X) → ent 𝓤 (⋆ 𝓤 H A (At s)) (Wp 𝓤 H (𝓣 .C) (𝓣 .Λ) E turn (afterTurn 𝓤 H X Q)))
-      → (s : S) → F s → ent 𝓤 (⋆ 𝓤 H A (At s)) (Wp 𝓤 H (𝓣 .C) (𝓣 .Λ) E (loop turn) Q)
-  loops-by each s f = via 𝓤 (Inv (μ s)) (into s f) (loop-rule 𝓤 H (W .laws) 𝓣 _<_ (Nat·lt-wfRel .wf) E turn Q Inv
+  pub loops-by : ((s : S) → F s → (X : SProp 𝓤) → ((s′ : S) → μ s′ < μ s → F s′ → ent 𝓤 (⋆ 𝓤 H A (At s′)) X) → ent 𝓤 (⋆ 𝓤 H A (At s)) (Wp 𝓤 H 𝓣.C 𝓣.Λ E turn (afterTurn 𝓤 H X Q)))
+      → (s : S) → F s → ent 𝓤 (⋆ 𝓤 H A (At s)) (Wp 𝓤 H 𝓣.C 𝓣.Λ E (loop turn) Q)
+  loops-by each s f = via 𝓤 (Inv (μ s)) (into s f) (loop-rule 𝓤 H W.laws 𝓣 _<_ (Nat·lt-wfRel .wf) E turn Q Inv
       (λ t. exE 𝓤 (λ (s′ : S). guard 𝓤 (Known t s′) (⋆ 𝓤 H A (At s′))) (λ s′. guardE 𝓤 (Known t s′) _ (λ k.
-      each s′ (k .1) (Below t) (λ s″ l g. below t s″ (rw (k .0) at l) g)))) (μ s))
+      each s′ k.1 (Below t) (λ s″ l g. below t s″ (rw k.0 at l) g)))) (μ s))

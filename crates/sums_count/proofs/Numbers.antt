@@ -24,8 +24,8 @@ pub rising-sorted : (b : ℕ) (l : List ℕ) → Rising l (length l) → Sorted 
 unfolding Sorted
 rising-sorted b [] r = tt
 rising-sorted b (x ∷ l) r = (
-  above-all b x l (λ i h. r .up 0 (suc i) (omega arith) (omega arith)),
-  rising-sorted b l (record { up = λ i k a h. r .up (suc i) (suc k) (omega arith) (omega arith) }),
+  above-all b x l (λ i h. r.up 0 (suc i) (omega arith) (omega arith)),
+  rising-sorted b l (record { up = λ i k a h. r.up (suc i) (suc k) (omega arith) (omega arith) }),
 )
 
 -- ---- what is picked passes
@@ -61,11 +61,11 @@ module _ {s : List ℤ} {w e : ℕ} (d b : ℕ) (one : 0 < d) (bias : 10000 * w 
       let t = table s w e d in
       sorted-unique _ _ (rising-sorted b t (table-rises s w e d)) (numbers-sorted sum d n)
       (λ z m. let i = map-mem _ t m in
-      let q = yes-met _ n _ (table-only _ (i .is)) in
-      rw (i .same ∙ ap (lowered b) (sym (q .is)) ∙ row-lowered (q .at)) (numbers-mem sum d n (q .at) (q .below)))
+      let q = yes-met _ n _ (table-only _ i.is) in
+      rw (i.same ∙ ap (lowered b) (sym q.is) ∙ row-lowered q.at) (numbers-mem sum d n q.at q.below))
       (λ z m. let o = numbers-occur sum d n z m in
-      let q = table-has d h (o .at) (o .below) in
-      subst (λ (x : ℤ). Mem x (map (lowered b) t)) (ap (lowered b) (q .is) ∙ row-lowered (o .at) ∙ o .is) (mem-map (lowered b) (mem-at 0 t (q .at) (q .below))))
+      let q = table-has d h o.at o.below in
+      subst (λ (x : ℤ). Mem x (map (lowered b) t)) (ap (lowered b) q.is ∙ row-lowered o.at ∙ o.is) (mem-map (lowered b) (mem-at 0 t q.at q.below)))
 
   back : (k j : ℕ) → lowered b k ≡ rowNumber d (windowSum s w j) → rowOf (level s w e) d j ≡ k
   unfolding lowered

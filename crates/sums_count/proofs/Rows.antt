@@ -8,7 +8,7 @@ use Rattle.sums_count.specs.Tally.{Rising, Has}
 rising-end : (l : List ℕ) (v : ℕ) → Rising l (length l) → ((i : ℕ) → i < length l → getD l i 0 < v) → Rising (l ++ (v ∷ [])) (length (l ++ (v ∷ [])))
 rising-end l v r b = record {
   up = λ i k h m. let n = length-append l (v ∷ []) in elim (decLt k (length l)) [
-    | yes s ↦ rw (List·getD-append l _ 0 i (omega arith), List·getD-append l _ 0 k s) (r .up i k h s)
+    | yes s ↦ rw (List·getD-append l _ 0 i (omega arith), List·getD-append l _ 0 k s) (r.up i k h s)
     | no f ↦ let e : k ≡ length l = omega arith in rw (e, getD-at l v [] 0 _ refl, List·getD-append l _ 0 i (omega arith)) (b i (omega arith))
   ];
 }
@@ -38,7 +38,7 @@ picked-rises p base (suc m) =
     (λ t. rw (s, picked-no p base m t) (picked-rises p base m))
 
 has-end : (l : List ℕ) (v k : ℕ) → Has l (length l) k → Has (l ++ (v ∷ [])) (length (l ++ (v ∷ []))) k
-has-end l v k h = record { at = h .at; below = omega (arith, h .below, length-append l (v ∷ [])); is = List·getD-append l _ 0 (h .at) (h .below) ∙ h .is }
+has-end l v k h = record { at = h.at; below = omega (arith, h.below, length-append l (v ∷ [])); is = List·getD-append l _ 0 h.at h.below ∙ h.is }
 
 picked-has : (p : ℕ → Bool) (base m x : ℕ) → x < m → p (base + x) ≡ true → Has (picked p base m) (length (picked p base m)) (base + x)
 picked-has p base zero x l h = absurd (omega arith)
@@ -71,7 +71,7 @@ module _ (t u : List ℕ) (n : ℕ) (e : take n t ≡ u) (m : n ≡ length u) wh
   front-at i h = sym (getD-take n t i 0 h) ∙ rw e
 
   pub front-rising : Rising u (length u) → Rising t n
-  front-rising r = record { up = λ i k a b. rw (front-at i (omega arith), front-at k b) (r .up i k a (omega arith)) }
+  front-rising r = record { up = λ i k a b. rw (front-at i (omega arith), front-at k b) (r.up i k a (omega arith)) }
 
   pub front-has : {k : ℕ} → Has u (length u) k → Has t n k
-  front-has h = record { at = h .at; below = omega arith; is = front-at (h .at) (omega arith) ∙ h .is }
+  front-has h = record { at = h.at; below = omega arith; is = front-at h.at (omega arith) ∙ h.is }

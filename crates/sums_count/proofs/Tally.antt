@@ -16,12 +16,12 @@ pub record Fresh (row : ℕ → ℕ) (n j : ℕ) : Type 0 where
   pub cut : j < n → before (isRow row (row j)) j ≡ false
 
 pub rising-le : {t : List ℕ} {n : ℕ} → Rising t n → (i m : ℕ) → i < n → m < n → getD t m 0 ≤ getD t i 0 → m ≤ i
-rising-le {t} {n} r i m a b h = elim (decLt i m) [ yes l ↦ absurd (omega (arith, r .up i m l b)) | no f ↦ omega arith ]
+rising-le {t} {n} r i m a b h = elim (decLt i m) [ yes l ↦ absurd (omega (arith, r.up i m l b)) | no f ↦ omega arith ]
 
 pub rising-gt : {t : List ℕ} {n : ℕ} → Rising t n → (i m : ℕ) → i < n → m < n → getD t i 0 < getD t m 0 → i < m
 rising-gt {t} {n} r i m a b h = elim (decLt i m) [
   | yes l ↦ l
-  | no f ↦ elim (decLt m i) [ yes l ↦ absurd (omega (arith, r .up m i l a)) | no g ↦ let e : i ≡ m = omega arith in absurd (omega (arith, ap (λ (x : ℕ). getD t x 0) e)) ]
+  | no f ↦ elim (decLt m i) [ yes l ↦ absurd (omega (arith, r.up m i l a)) | no g ↦ let e : i ≡ m = omega arith in absurd (omega (arith, ap (λ (x : ℕ). getD t x 0) e)) ]
 ]
 
 -- a half, or nothing
@@ -35,9 +35,9 @@ pub sought-half : {t : List ℕ} {n k lo size half b : ℕ} → Rising t n → h
 unfolding bit
 sought-half {t} {n} {k} {lo} {size} {half} {b} r two less e s = by-test _
     (λ y. let one : b ≡ 1 = rw y at e in let q : lo + half * b ≡ lo + half = rw one (omega arith) in let u = leb-true _ k y in
-    rw q (record { fits = omega arith; place = λ i l h. (rising-le r i _ l (omega arith) (omega arith), omega (arith, s .place i l h .1)) }))
+    rw q (record { fits = omega arith; place = λ i l h. (rising-le r i _ l (omega arith) (omega arith), omega (arith, s.place i l h .1)) }))
     (λ y. let none : b ≡ 0 = rw y at e in let q : lo + half * b ≡ lo = rw none (omega arith) in let u = leb-false (getD t (lo + half) 0) k y in
-    rw q (record { fits = omega arith; place = λ i l h. (s .place i l h .0, omega (arith, rising-gt r i (lo + half) l (omega (arith, s .fits)) (omega arith))) }))
+    rw q (record { fits = omega arith; place = λ i l h. (s.place i l h .0, omega (arith, rising-gt r i (lo + half) l (omega (arith, s.fits)) (omega arith))) }))
 
 pub fresh-start : (row : ℕ → ℕ) (n : ℕ) → Fresh row n 0
 fresh-start row n = record { cut = λ l. before-none _ }
@@ -48,7 +48,7 @@ module _ (row : ℕ → ℕ) (n from r : ℕ) (h : RowRun row n from r) where
   fresh-next = record {
     cut = λ l. let e : r ≡ (r - 1) + 1 = omega arith in
         rw e (before-more _ (r - 1) ∙ ne-eqb _ _
-        (λ q. h .other l (ap row e ∙ sym q ∙ h .same (r - 1) (omega arith) (omega arith))));
+        (λ q. h.other l (ap row e ∙ sym q ∙ h.same (r - 1) (omega arith) (omega arith))));
   }
 
   abbrev more : ℕ
@@ -59,20 +59,20 @@ module _ (row : ℕ → ℕ) (n from r : ℕ) (h : RowRun row n from r) where
 
   pub run-mine : Fresh row n from → runCount (isRow row (row from)) r ≡ runCount (isRow row (row from)) from + 1
   unfolding isRow
-  run-mine f = rw all-of (run-count _ from more (f .cut (omega arith))
-      (λ j a l. eq-eqb (row j) _ (h .same j (omega arith) a)))
+  run-mine f = rw all-of (run-count _ from more (f.cut (omega arith))
+      (λ j a l. eq-eqb (row j) _ (h.same j (omega arith) a)))
 
   pub run-other : (k : ℕ) → (row from ≡ k → ⊥) → runCount (isRow row k) r ≡ runCount (isRow row k) from
   unfolding isRow
-  run-other k f = rw all-of (ap length (stay-runs _ from _ (λ j a l. ne-eqb (row j) k (λ e. f (sym (h .same j (omega arith) a) ∙ e)))))
+  run-other k f = rw all-of (ap length (stay-runs _ from _ (λ j a l. ne-eqb (row j) k (λ e. f (sym (h.same j (omega arith) a) ∙ e)))))
 
   pub counted-run : {t counts : List ℕ} → Fresh row n from → Rising t (length t) → (i : ℕ) → i < length t → i < length counts → getD t i 0 ≡ row from
       → Counted row from t counts → Counted row r t (set counts i (getD counts i 0 + 1))
   counted-run {t} {counts} f rising i a b e c = record {
     count = λ k l. by-test _
-        (λ q. let s = eqb-true k i q in rw s (getD-set-same counts i _ 0 b ∙ rw (e, run-mine f, c .count i a, e)))
+        (λ q. let s = eqb-true k i q in rw s (getD-set-same counts i _ 0 b ∙ rw (e, run-mine f, c.count i a, e)))
         (λ q. let s = eqb-false k i q in
-        getD-set-other counts i k _ 0 s ∙ c .count k l
+        getD-set-other counts i k _ 0 s ∙ c.count k l
         ∙ sym (run-other _ (λ d. s (apart k i l a (sym d ∙ sym e)))));
   }
     where

@@ -7,11 +7,11 @@ pub stop-from : {lv : ℕ → ℕ} {n lo hi r z : ℕ} (from j : ℕ) → from �
 stop-from from j l h s = record {
   change = record {
     above = omega arith;
-    below = s .change .below;
+    below = s.change.below;
     same = λ k a b. elim (decLt k j) [ yes m ↦ h k m b | no m ↦ s .change .same k a (omega arith) ];
-    other = s .change .other;
+    other = s.change.other;
   };
-  sum = s .sum;
+  sum = s.sum;
 }
 
 -- no window but one passes, and none is left
@@ -35,7 +35,7 @@ in-row : (d k n : ℕ) → 0 < d → within (k * d) (k * d + d) n ≡ true → n
 unfolding within
 in-row d k n one h =
     let b = both _ _ h in
-    div-eq-of-lt-le d (leb-true (k * d) n (b .0)) (omega (arith, ltb-true n (k * d + d) (b .1)))
+    div-eq-of-lt-le d (leb-true (k * d) n b.0) (omega (arith, ltb-true n (k * d + d) b.1))
 
 row-in : (d n : ℕ) → 0 < d → within (n / d * d) (n / d * d + d) n ≡ true
 unfolding within
@@ -45,17 +45,17 @@ pub next-row : {lv : ℕ → ℕ} {n from r z : ℕ} (d : ℕ) → 0 < d → fro
 unfolding rowOf
 next-row {lv} {n} {from} {r} {z} d one less h =
     let k = lv from / d in
-    let c = h .change in
+    let c = h.change in
     let ahead : from < r = elim (decLt from r) [
       | yes l ↦ l
-      | no f ↦ let e : r ≡ from = omega arith in clash (row-in d (lv from) one) (rw e at (c .other (omega arith)))
+      | no f ↦ let e : r ≡ from = omega arith in clash (row-in d (lv from) one) (rw e at (c.other (omega arith)))
     ] in
     record {
       run = record {
         ahead = ahead;
-        below = c .below;
-        same = λ j a b. in-row d k (lv j) one (c .same j a b);
-        other = λ l e. clash (rw e at (row-in d (lv r) one)) (c .other l);
+        below = c.below;
+        same = λ j a b. in-row d k (lv j) one (c.same j a b);
+        other = λ l e. clash (rw e at (row-in d (lv r) one)) (c.other l);
       };
-      sum = h .sum;
+      sum = h.sum;
     }

@@ -15,18 +15,18 @@ bounds-one e = record { bound = λ j k. let i : j ≡ 0 = omega arith in rw i (o
 pub bounds-more : {lv : ℕ → ℕ} {n l g : ℕ} (a b z : ℕ) → Bounds lv n l g → z ≡ lv n → a ≡ min l z → b ≡ max g z → Bounds lv (n + 1) a b
 bounds-more {lv} {n} {l} {g} a b z h e p q = record {
   bound = λ j k. elim (decLt j n) [
-    | yes m ↦ let v = h .bound j m in (omega arith, omega arith)
+    | yes m ↦ let v = h.bound j m in (omega arith, omega arith)
     | no m ↦ let i : j ≡ n = omega arith in rw i (omega arith, omega arith)
   ];
 }
 
 pub level-is : {s : List ℤ} {w e : ℕ} (j : ℕ) → Lent s w e → Rep (windowSum s w j) (level s w e j) (10000 * w + e)
 unfolding level windowSum
-level-is {s} {w} {e} j h = rep-by (sum-raised j w (h .all)) (omega arith)
+level-is {s} {w} {e} j h = rep-by (sum-raised j w h.all) (omega arith)
 
 -- a placed window's sum is the window's
-pub sum-is : {s : List ℤ} {w e : ℕ} (at : Window) → Lent s w e → at .level ≡ level s w e (at .offset) → sumAt w e at ≡ windowSum s w (at .offset)
-sum-is {s} {w} {e} at h l = rep-eq (rep-sub (rep-pos (at .level)) (rep-pos (10000 * w + e))) (level-is (at .offset) h) (omega (arith, l))
+pub sum-is : {s : List ℤ} {w e : ℕ} (at : Window) → Lent s w e → at.level ≡ level s w e at.offset → sumAt w e at ≡ windowSum s w at.offset
+sum-is {s} {w} {e} at h l = rep-eq (rep-sub (rep-pos at.level) (rep-pos (10000 * w + e))) (level-is at.offset h) (omega (arith, l))
 
 -- one value comes in, one goes out
 pub level-next : (s : List ℤ) (w e j : ℕ) → level s w e (j + 1) + raised (at s j) ≡ level s w e j + raised (at s (j + w))

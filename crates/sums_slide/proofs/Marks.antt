@@ -16,8 +16,8 @@ lit-no flags base x h = let e : base + x - base ≡ x = omega arith in rw (e, h)
 pub flags-lit : {row : ℕ → ℕ} {n base : ℕ} {flags : List ℕ} → Flags row n base flags → (x : ℕ) → x < length flags → lit flags base (base + x) ≡ met row n (base + x)
 unfolding bit
 flags-lit {row} {n} {base} {flags} f x b = by-test (met row n (base + x))
-    (λ t. lit-yes flags base x (λ e. let q : _≡_ {A = ℕ} 1 0 = sym (rw t at (f .flag x b)) ∙ e in omega arith) ∙ sym t)
-    (λ t. lit-no flags base x (rw t at (f .flag x b)) ∙ sym t)
+    (λ t. lit-yes flags base x (λ e. let q : _≡_ {A = ℕ} 1 0 = sym (rw t at (f.flag x b)) ∙ e in omega arith) ∙ sym t)
+    (λ t. lit-no flags base x (rw t at (f.flag x b)) ∙ sym t)
 
 pub met-yes : (row : ℕ → ℕ) (n j k : ℕ) → j < n → row j ≡ k → met row n k ≡ true
 unfolding met
@@ -37,10 +37,10 @@ unfolding met
 yes-met row zero k h = clash h refl
 yes-met row (suc n) k h = by-test (eqb (row n) k)
     (λ t. record { at = n; below = omega arith; is = eqb-true (row n) k t })
-    (λ f. let m = yes-met row n k (rw f at h) in record { at = m .at; below = omega (arith, m .below); is = m .is })
+    (λ f. let m = yes-met row n k (rw f at h) in record { at = m.at; below = omega (arith, m.below); is = m.is })
 
 pub met-none : (row : ℕ → ℕ) (n k : ℕ) → ((j : ℕ) → j < n → row j ≡ k → ⊥) → met row n k ≡ false
-met-none row n k h = by-test (met row n k) (λ t. let m = yes-met row n k t in absurd (h (m .at) (m .below) (m .is))) (λ f. f)
+met-none row n k h = by-test (met row n k) (λ t. let m = yes-met row n k t in absurd (h m.at m.below m.is)) (λ f. f)
 
 pub met-start : (row : ℕ → ℕ) (k : ℕ) → met row 0 k ≡ false
 unfolding met
@@ -49,14 +49,14 @@ met-start row k = refl
 -- a whole run at once
 module _ (row : ℕ → ℕ) (n from r : ℕ) (h : RowRun row n from r) where
   met-here : met row r (row from) ≡ true
-  met-here = met-yes row r from (row from) (h .ahead) refl
+  met-here = met-yes row r from (row from) h.ahead refl
 
   met-else : (k : ℕ) → (row from ≡ k → ⊥) → met row r k ≡ met row from k
   met-else k f = by-test (met row from k)
-      (λ t. let m = yes-met row from k t in met-yes row r (m .at) k (omega (arith, m .below, h .ahead)) (m .is) ∙ sym t)
+      (λ t. let m = yes-met row from k t in met-yes row r m.at k (omega (arith, m.below, h.ahead)) m.is ∙ sym t)
       (λ g. met-none row r k (λ j l e. elim (decLt j from) [
         | yes b ↦ clash (met-yes row from j k b e) g
-        | no b ↦ f (sym (h .same j l (omega arith)) ∙ e)
+        | no b ↦ f (sym (h.same j l (omega arith)) ∙ e)
       ]) ∙ sym g)
 
   pub flags-run : (base : ℕ) (l : List ℕ) → Flags row from base l → Flags row r base (flagged l base (row from))
@@ -71,10 +71,10 @@ module _ (row : ℕ → ℕ) (n from r : ℕ) (h : RowRun row n from r) where
           (λ u. let e = eqb-true (row from) (base + x) u in let q : row from - base ≡ x = omega arith in
           rw (q, getD-set-same l x 1 0 m, ← e, met-here))
           (λ u. let e : (row from ≡ base + x) → ⊥ = eqb-false (row from) (base + x) u in
-          getD-set-other l (row from - base) x 1 0 (λ q. e (omega arith)) ∙ g .flag x m ∙ ap bit (sym (met-else (base + x) e))))
+          getD-set-other l (row from - base) x 1 0 (λ q. e (omega arith)) ∙ g.flag x m ∙ ap bit (sym (met-else (base + x) e))))
 
       far : (x : ℕ) → leb base (row from) ≡ false → x < length l → getD (cond (leb base (row from)) (set l (row from - base) 1) l) x 0 ≡ bit (met row r (base + x))
-      far x f b = let a = leb-false base (row from) f in rw f (g .flag x b ∙ ap bit (sym (met-else (base + x) (λ e. omega arith))))
+      far x f b = let a = leb-false base (row from) f in rw f (g.flag x b ∙ ap bit (sym (met-else (base + x) (λ e. omega arith))))
 
 pub length-flagged : (l : List ℕ) (base k : ℕ) → length (flagged l base k) ≡ length l
 unfolding flagged
@@ -97,8 +97,8 @@ module _ (flags : List ℕ) (base x : ℕ) {old new : List ℕ} {k r : ℕ} (les
       let e : length flags ≡ x + 1 + (length flags - (x + 1)) = omega arith in
       omega (
         arith,
-        a .count,
-        a .long,
+        a.count,
+        a.long,
         ap (λ (m : ℕ). length (picked p base m)) e,
         picked-more p base (x + 1) (length flags - (x + 1)),
         ap length (picked-yes p base x (lit-yes flags base x h)),

@@ -8,9 +8,9 @@ append-none k old = record { count = omega arith; long = refl; front = sym (appe
 
 pub append-one : {l old new : List ℕ} {k r : ℕ} (v : ℕ) → Appended l k r old new → r < length new → Appended (l ++ (v ∷ [])) k (r + 1) old (set new r v)
 append-one {l} {old} {new} {k} {r} v a h = record {
-  count = omega (arith, a .count, length-append l (v ∷ []));
-  long = length-set new r v ∙ a .long;
-  front = rw (add-one r, take-suc-set new r v h, a .front) (append-assoc (take k old) l (v ∷ []));
+  count = omega (arith, a.count, length-append l (v ∷ []));
+  long = length-set new r v ∙ a.long;
+  front = rw (add-one r, take-suc-set new r v h, a.front) (append-assoc (take k old) l (v ∷ []));
 }
 
 pub picked-start : (p : ℕ → Bool) (base : ℕ) → picked p base 0 ≡ []
@@ -53,7 +53,7 @@ picked-more p base m k = omega (arith, ap length (picked-on p base m k), length-
 -- one stretch behind the other
 pub append-on : {l m old mid new : List ℕ} {k q r : ℕ} → Appended l k q old mid → Appended m q r mid new → Appended (l ++ m) k r old new
 append-on {l} {m} {old} {mid} {new} {k} {q} {r} a b = record {
-  count = omega (arith, a .count, b .count, length-append l m);
-  long = b .long ∙ a .long;
-  front = b .front ∙ rw (a .front) (append-assoc (take k old) l m);
+  count = omega (arith, a.count, b.count, length-append l m);
+  long = b.long ∙ a.long;
+  front = b.front ∙ rw a.front (append-assoc (take k old) l m);
 }

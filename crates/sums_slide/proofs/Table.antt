@@ -1,7 +1,6 @@
 -- Laws of specs/Table.
 use Rattle.meaning_numbers.proofs.Prelude.{_≡_, sym, ap, _∙_, Bool, List, [], _++_, append-nil, ℕ, _+_, _-_, _/_, _<_, _≤_, arith, decLe, div-le-self, le-div-iff-mul-le, div-mul-le-self, div-lt-iff-lt-mul, ℤ, length, length-append}
-use Rattle.sums_slide.specs.{Picked.picked, Picked.Appended, Marks.met, Table.top, Table.table}
-use Rattle.sums_slide.specs.Levels.{level, rowOf, windowsOf, Lent, Bounds, level-small}
+use Rattle.sums_slide.specs.{Picked.picked, Picked.Appended, Marks.met, Table.top, Table.table, Levels.level, Levels.rowOf, Levels.windowsOf, Levels.Lent, Levels.Bounds, Levels.level-small}
 use Rattle.sums_slide.proofs.{Picked.append-on, Picked.picked-on, Picked.picked-none, Picked.picked-more, Marks.met-none}
 
 -- numbers from m on that no window has add nothing
@@ -34,11 +33,11 @@ module _ {s : List ℤ} {w e : ℕ} (d : ℕ) (h : Lent s w e) where
     pub table-start : picked (met (rowOf (level s w e) d) (windowsOf s w)) 0 (least / d) ≡ []
     unfolding rowOf
     table-start = picked-none _ 0 (least / d) (λ x l. met-none _ _ (0 + x) (λ j k q.
-        let m : least / d ≤ level s w e j / d = le-div-iff-mul-le one .1 (omega (arith, div-mul-le-self least d, b .bound j k)) in omega arith))
+        let m : least / d ≤ level s w e j / d = le-div-iff-mul-le one .1 (omega (arith, div-mul-le-self least d, b.bound j k)) in omega arith))
 
     in-few : (m : ℕ) → greatest / d < m → (j : ℕ) → j < windowsOf s w → rowOf (level s w e) d j < m
     unfolding rowOf
-    in-few m l j k = div-lt-iff-lt-mul one .1 (omega (arith, b .bound j k, div-lt-iff-lt-mul one .0 l))
+    in-few m l j k = div-lt-iff-lt-mul one .1 (omega (arith, b.bound j k, div-lt-iff-lt-mul one .0 l))
 
     pub table-end : (m : ℕ) → greatest / d < m → picked (met (rowOf (level s w e) d) (windowsOf s w)) 0 m ≡ table s w e d
     unfolding table
@@ -63,4 +62,4 @@ chunk-room {s} {w} {e} d h base m a room =
     let p = met (rowOf (level s w e) d) (windowsOf s w) in
     let z : 0 + base ≡ base = omega arith in
     let split : picked p 0 (base + m) ≡ picked p 0 base ++ picked p base m = rw z at (picked-on p 0 base m) in
-    omega (arith, a .count, a .long, table-room d h (base + m), ap length split, length-append (picked p 0 base) (picked p base m))
+    omega (arith, a.count, a.long, table-room d h (base + m), ap length split, length-append (picked p 0 base) (picked p base m))

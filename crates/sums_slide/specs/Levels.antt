@@ -43,7 +43,7 @@ placeFrom s w e j = record { offset = j; level = level s w e j }
 
 -- the sum of a window that is placed
 abbrev pub sumAt : ℕ → ℕ → Window → ℤ
-sumAt w e at = pos (at .level) -ℤ pos (10000 * w + e)
+sumAt w e at = pos at.level -ℤ pos (10000 * w + e)
 
 -- every number below n has its value between the two
 pub record Bounds (lv : ℕ → ℕ) (n least greatest : ℕ) : Type 0 where
@@ -51,7 +51,7 @@ pub record Bounds (lv : ℕ → ℕ) (n least greatest : ℕ) : Type 0 where
 
 pub level-le : {s : List ℤ} {w e : ℕ} (j : ℕ) → Lent s w e → level s w e j ≤ 20000 * w + e
 unfolding level
-level-le {s} {w} {e} j h = omega (arith, Σℕ-le w 20000 (λ k. raised (stretch s j k)) (λ k l. raised-le (h .all .at (j + k))))
+level-le {s} {w} {e} j h = omega (arith, Σℕ-le w 20000 (λ k. raised (stretch s j k)) (λ k l. raised-le (h.all.at (j + k))))
 
 pub level-small : {s : List ℤ} {w e : ℕ} (j : ℕ) → Lent s w e → level s w e j ≤ 6120000
-level-small j h = omega (arith, level-le j h, h .most, h .small)
+level-small j h = omega (arith, level-le j h, h.most, h.small)

@@ -3,8 +3,8 @@ use Rattle.meaning_numbers.proofs.Prelude.{_≡_, refl, ℕ, zero, suc, _+_, _*
 use Rattle.meaning_text.specs.Bytes.{bytes}
 use Rattle.text_numbers.specs.{declared.Numeral.Numeral, Number.numStep, Number.whole}
 use Rattle.text_numbers.proofs.Number.{within-yes}
-use Rattle.text_index.specs.{declared.Word.Word, declared.Field.Field, declared.State.State, declared.Moved.Moved}
 use Rattle.text_index.specs.Step.{word, behind, turnAfter, pick, reach, closes, wordStep, turnStep, endStep, numberStep, indexStep}
+use Rattle.text_index.specs.{declared.Word.Word, declared.Field.Field, declared.State.State, declared.Moved.Moved}
 use Rattle.text_event.specs.declared.Signed.{Signed}
 use Rattle.text_event.specs.Event.{Quiet, still, more, ValueAt, ClosedAt, RunAt, RowAt, inRun, atRuns, atFirst, atRows, inRange, DigitsAt, NumberAt, leftOf, rightOf, lengthOf, PlainAt, BodyAt, Blank, BlankAt, SignedAt, WordAt, Opens, Ends}
 use Rattle.text_event.proofs.Words.{stands-byte}
@@ -82,7 +82,7 @@ quiet-before h e still = more still h e
 quiet-before h e (more q k f) = more (quiet-before h e q) k f
 
 value-before : {text : List ℕ} {s m n : State} {p : Field} {z : ℤ} {i j : ℕ} → i < length text → indexStep s (getD text i 0) ≡ Moved.To m → ValueAt text m (i + 1) n p z j → ValueAt text s i n p z j
-value-before h e v = record { last = v .last; place = v .place; quiet = quiet-before h e (v .quiet); inside = v .inside; ends = v .ends; next = v .next }
+value-before h e v = record { last = v.last; place = v.place; quiet = quiet-before h e v.quiet; inside = v.inside; ends = v.ends; next = v.next }
 
 -- ---- numbers
 
@@ -121,8 +121,8 @@ number-told text i b q l e h k d =
     record {
       small = omega (arith, x);
       short = omega (arith, y);
-      plus = λ p. rw (x, y, z) (quiet-before l (rw (← e) (first-digit p b h k)) (d .plus p));
-      less = λ p. rw (x, y, z) (quiet-before l (rw (← e) (first-less p b h k)) (d .less p));
+      plus = λ p. rw (x, y, z) (quiet-before l (rw (← e) (first-digit p b h k)) (d.plus p));
+      less = λ p. rw (x, y, z) (quiet-before l (rw (← e) (first-less p b h k)) (d.less p));
     }
 
 -- ---- runs
@@ -140,14 +140,14 @@ body-told text i a b x e y f =
     let v : i + (a % 16 + b % 16 + 1 + 1) ≡ i + a % 16 + 1 + b % 16 + 1 = omega arith in
     let w : RunAt text (State.At Field.Left Numeral.Start) i (pos (a / 16)) (pos (b / 16)) (i + a % 16 + 1 + b % 16 + 1) = record {
       middle = i + a % 16 + 1;
-      left = record { last = State.At Field.Left (Numeral.Plus (a / 16)); place = i + a % 16; quiet = x .plus Field.Left; inside = c .0; ends = rw (c .1) (left-ends (a / 16)); next = refl };
-      right = record { last = State.At Field.Right (Numeral.Plus (b / 16)); place = i + a % 16 + 1 + b % 16; quiet = y .plus Field.Right; inside = d .0; ends = rw (d .1) (right-ends (b / 16)); next = refl };
+      left = record { last = State.At Field.Left (Numeral.Plus (a / 16)); place = i + a % 16; quiet = x.plus Field.Left; inside = c.0; ends = rw c.1 (left-ends (a / 16)); next = refl };
+      right = record { last = State.At Field.Right (Numeral.Plus (b / 16)); place = i + a % 16 + 1 + b % 16; quiet = y.plus Field.Right; inside = d.0; ends = rw d.1 (right-ends (b / 16)); next = refl };
     } in
     record { plain = record { small = omega arith; short = omega (arith, n); run = rw (l, r, n, v) w }; least = omega (arith, n); tiny = omega arith }
 
 -- a byte in front of a run
 run-before : (text : List ℕ) (s m : State) (i : ℕ) (l r : ℤ) (j : ℕ) → i < length text → indexStep s (getD text i 0) ≡ Moved.To m → RunAt text m (i + 1) l r j → RunAt text s i l r j
-run-before text s m i l r j h e v = record { middle = v .middle; left = value-before h e (v .left); right = v .right }
+run-before text s m i l r j h e v = record { middle = v.middle; left = value-before h e v.left; right = v.right }
 
 pub first-told : (text : List ℕ) (i q : ℕ) → WordAt text i (bytes "(") → BodyAt text (i + 1) q → PlainAt text atFirst i (q + 1)
 unfolding bytes
@@ -157,7 +157,7 @@ first-told text i q e b =
     let r : rightOf (q + 1) ≡ rightOf q = omega arith in
     let n : lengthOf (q + 1) ≡ lengthOf q + 1 = omega arith in
     let z : i + (lengthOf q + 1) ≡ i + 1 + lengthOf q = omega arith in
-    record { small = omega arith; short = omega (arith, n); run = rw (l, r, n, z) (run-before text atFirst (State.At Field.Left Numeral.Start) i _ _ _ (c .0) (rw (c .1) run-bracket) (b .plain .run)) }
+    record { small = omega arith; short = omega (arith, n); run = rw (l, r, n, z) (run-before text atFirst (State.At Field.Left Numeral.Start) i _ _ _ c.0 (rw c.1 run-bracket) b.plain.run) }
 
 pub plain-told : (text : List ℕ) (i q : ℕ) → WordAt text i (bytes " (") → BodyAt text (i + 2) q → PlainAt text atRuns i (q + 2)
 unfolding bytes
@@ -169,47 +169,47 @@ plain-told text i q e b =
     let n : lengthOf (q + 2) ≡ lengthOf q + 2 = omega arith in
     let z : i + (lengthOf q + 2) ≡ i + 1 + 1 + lengthOf q = omega arith in
     let y : i + 2 ≡ i + 1 + 1 = omega arith in
-    let v : RunAt text (State.At Field.Left Numeral.Start) (i + 1 + 1) (pos (leftOf q)) (pos (rightOf q)) (i + 1 + 1 + lengthOf q) = rw y at (b .plain .run) in
-    record { small = omega arith; short = omega (arith, n); run = rw (l, r, n, z) (run-before text atRuns atFirst i _ _ _ (c .0) (rw (c .1) run-space) (run-before text atFirst (State.At Field.Left Numeral.Start) (i + 1) _ _ _ (d .0) (rw (d .1) run-bracket) v)) }
+    let v : RunAt text (State.At Field.Left Numeral.Start) (i + 1 + 1) (pos (leftOf q)) (pos (rightOf q)) (i + 1 + 1 + lengthOf q) = rw y at b.plain.run in
+    record { small = omega arith; short = omega (arith, n); run = rw (l, r, n, z) (run-before text atRuns atFirst i _ _ _ c.0 (rw c.1 run-space) (run-before text atFirst (State.At Field.Left Numeral.Start) (i + 1) _ _ _ d.0 (rw d.1 run-bracket) v)) }
 
 -- ---- the beginnings of rows
 
 pub plus-told : (text : List ℕ) (i q : ℕ) → BlankAt text i q → SignedAt text i (Signed.Read (pos (q / 16)) (i + q % 16 + 1))
 unfolding bytes
 plus-told text i q x =
-    let y = x .number in
-    let c = stands-byte (x .blank) 0 (i + q % 16) (omega arith) (omega arith) in
-    (omega arith, λ p n b. record { last = State.At p (Numeral.Plus (q / 16)); place = i + q % 16; quiet = y .plus p; inside = c .0; ends = rw (c .1) (b .plus (q / 16)); next = refl })
+    let y = x.number in
+    let c = stands-byte x.blank 0 (i + q % 16) (omega arith) (omega arith) in
+    (omega arith, λ p n b. record { last = State.At p (Numeral.Plus (q / 16)); place = i + q % 16; quiet = y.plus p; inside = c.0; ends = rw c.1 (b.plus (q / 16)); next = refl })
 
 pub less-told : (text : List ℕ) (i q : ℕ) → i < length text → getD text i 0 ≡ 45 → BlankAt text (i + 1) q → SignedAt text i (Signed.Read (negℤ (pos (q / 16))) (i + 1 + q % 16 + 1))
 unfolding bytes
 less-told text i q h e x =
-    let y = x .number in
-    let c = stands-byte (x .blank) 0 (i + 1 + q % 16) (omega arith) (omega arith) in (
+    let y = x.number in
+    let c = stands-byte x.blank 0 (i + 1 + q % 16) (omega arith) (omega arith) in (
       omega arith,
       λ p n b. value-before h (rw e (sign p))
-          (record { last = State.At p (Numeral.Less (q / 16)); place = i + 1 + q % 16; quiet = y .less p; inside = c .0; ends = rw (c .1) (b .less (q / 16)); next = refl }),
+          (record { last = State.At p (Numeral.Less (q / 16)); place = i + 1 + q % 16; quiet = y.less p; inside = c.0; ends = rw c.1 (b.less (q / 16)); next = refl }),
     )
 
 pub range-told : (text : List ℕ) (i : ℕ) (low up : ℤ) (j k : ℕ) → Opens text i → SignedAt text (i + 5) (Signed.Read low j) → SignedAt text j (Signed.Read up k) → RowAt text i low up k
 unfolding bytes
 range-told text i low up j k o x y =
     let z : i + 5 ≡ i + 1 + 1 + 1 + 1 + 1 = omega arith in
-    let a = stands-byte (o .word) 0 i (omega arith) (omega arith) in
-    let b = stands-byte (o .word) 1 (i + 1) (omega arith) (omega arith) in
-    let c = stands-byte (o .word) 2 (i + 1 + 1) (omega arith) (omega arith) in
-    let d = stands-byte (o .word) 3 (i + 1 + 1 + 1) (omega arith) (omega arith) in
-    let e = stands-byte (o .word) 4 (i + 1 + 1 + 1 + 1) (omega arith) (omega arith) in
-    let v : ValueAt text (State.At Field.Low Numeral.Start) (i + 1 + 1 + 1 + 1 + 1) inRange Field.Low low j = rw z at (x .1 Field.Low inRange low-blank) in
+    let a = stands-byte o.word 0 i (omega arith) (omega arith) in
+    let b = stands-byte o.word 1 (i + 1) (omega arith) (omega arith) in
+    let c = stands-byte o.word 2 (i + 1 + 1) (omega arith) (omega arith) in
+    let d = stands-byte o.word 3 (i + 1 + 1 + 1) (omega arith) (omega arith) in
+    let e = stands-byte o.word 4 (i + 1 + 1 + 1 + 1) (omega arith) (omega arith) in
+    let v : ValueAt text (State.At Field.Low Numeral.Start) (i + 1 + 1 + 1 + 1 + 1) inRange Field.Low low j = rw z at (x.1 Field.Low inRange low-blank) in
     record {
       middle = j;
       lower =
-          value-before {m = State.In Word.Row 1} (a .0) (rw (a .1) row-first)
-          (value-before {m = State.In Word.Row 2} (b .0) (rw (b .1) (row-more 1 (omega arith)))
-          (value-before {m = State.In Word.Row 3} (c .0) (rw (c .1) (row-more 2 (omega arith)))
-          (value-before {m = State.In Word.Row 4} (d .0) (rw (d .1) (row-more 3 (omega arith)))
-          (value-before (e .0) (rw (e .1) row-last) v))));
-      upper = y .1 Field.Up atFirst up-blank;
+          value-before {m = State.In Word.Row 1} a.0 (rw a.1 row-first)
+          (value-before {m = State.In Word.Row 2} b.0 (rw b.1 (row-more 1 (omega arith)))
+          (value-before {m = State.In Word.Row 3} c.0 (rw c.1 (row-more 2 (omega arith)))
+          (value-before {m = State.In Word.Row 4} d.0 (rw d.1 (row-more 3 (omega arith)))
+          (value-before e.0 (rw e.1 row-last) v))));
+      upper = y.1 Field.Up atFirst up-blank;
     }
 
 -- a row's end
@@ -218,4 +218,4 @@ unfolding bytes
 ends-told text i x =
     let a = stands-byte x 0 i (omega arith) (omega arith) in
     let b = stands-byte x 1 (i + 1) (omega arith) (omega arith) in
-    record { last = State.In Word.RowEnd 1; place = i + 1; quiet = more {m = State.In Word.RowEnd 1} still (a .0) (rw (a .1) end-first); inside = b .0; ends = rw (b .1) end-last; next = omega arith }
+    record { last = State.In Word.RowEnd 1; place = i + 1; quiet = more {m = State.In Word.RowEnd 1} still a.0 (rw a.1 end-first); inside = b.0; ends = rw b.1 end-last; next = omega arith }

@@ -30,12 +30,12 @@ leading-more (x ∷ vs) z =
     (λ f. rw (e, leading-more vs z, f, ne-eqb (suc (leading vs)) (suc (length vs)) (λ d. eqb-false (leading vs) (length vs) f (omega arith)))))
     (λ e. rw (e, ne-eqb 0 (suc (length vs)) (λ d. omega arith)))
 
-pub kept-more : (base vs : List ℤ) (v : Values) (buf : List ℤ) (z : ℤ) → Kept base vs v buf → Kept base (vs ++ (z ∷ [])) (valuesMore v z) (set buf (v .count) (clamp z))
+pub kept-more : (base vs : List ℤ) (v : Values) (buf : List ℤ) (z : ℤ) → Kept base vs v buf → Kept base (vs ++ (z ∷ [])) (valuesMore v z) (set buf v.count (clamp z))
 unfolding valuesMore
 kept-more base vs v buf z k = record {
-  count = rw (length-append vs (z ∷ []), k .count);
-  inside = rw (leading-more vs z, k .count, k .inside);
-  lies = rw (k .lies, k .count) (sym (stored-more base vs z));
+  count = rw (length-append vs (z ∷ []), k.count);
+  inside = rw (leading-more vs z, k.count, k.inside);
+  lies = rw (k.lies, k.count) (sym (stored-more base vs z));
 }
 
 -- the place of the first value outside its limits
@@ -58,32 +58,32 @@ kept-none base = record { count = refl; inside = refl; lies = refl }
 module _ {kept asked : List ℤ} {g : Said} {numbers : List ℤ} {v w : Values} {series query : List ℤ} (h : Holds kept asked g numbers v w series query) where
   -- a number
   pub holds-told : (p : Field) (z : ℤ) → Holds kept asked (told p z g) (set numbers (placeOf p) z) (cond (ofSeries p) (valuesMore v z) v) (cond (ofQuery p) (valuesMore w z) w)
-      (cond (ofSeries p) (set series (v .count) (clamp z)) series) (cond (ofQuery p) (set query (w .count) (clamp z)) query)
-  holds-told Field.Window z = record { alone = rw (h .alone); first = h .first; second = h .second }
-  holds-told Field.Width z = record { alone = rw (h .alone); first = h .first; second = h .second }
-  holds-told Field.Merge z = record { alone = rw (h .alone); first = h .first; second = h .second }
-  holds-told Field.Item z = record { alone = rw (h .alone); first = kept-more _ _ _ _ z (h .first); second = h .second }
-  holds-told Field.Band z = record { alone = rw (h .alone); first = h .first; second = h .second }
-  holds-told Field.Threshold z = record { alone = rw (h .alone); first = h .first; second = h .second }
-  holds-told Field.Scale z = record { alone = rw (h .alone); first = h .first; second = h .second }
-  holds-told Field.Shift z = record { alone = rw (h .alone); first = h .first; second = h .second }
-  holds-told Field.Asked z = record { alone = rw (h .alone); first = h .first; second = kept-more _ _ _ _ z (h .second) }
-  holds-told Field.Entry z = record { alone = rw (h .alone); first = kept-more _ _ _ _ z (h .first); second = h .second }
+      (cond (ofSeries p) (set series v.count (clamp z)) series) (cond (ofQuery p) (set query w.count (clamp z)) query)
+  holds-told Field.Window z = record { alone = rw h.alone; first = h.first; second = h.second }
+  holds-told Field.Width z = record { alone = rw h.alone; first = h.first; second = h.second }
+  holds-told Field.Merge z = record { alone = rw h.alone; first = h.first; second = h.second }
+  holds-told Field.Item z = record { alone = rw h.alone; first = kept-more _ _ _ _ z h.first; second = h.second }
+  holds-told Field.Band z = record { alone = rw h.alone; first = h.first; second = h.second }
+  holds-told Field.Threshold z = record { alone = rw h.alone; first = h.first; second = h.second }
+  holds-told Field.Scale z = record { alone = rw h.alone; first = h.first; second = h.second }
+  holds-told Field.Shift z = record { alone = rw h.alone; first = h.first; second = h.second }
+  holds-told Field.Asked z = record { alone = rw h.alone; first = h.first; second = kept-more _ _ _ _ z h.second }
+  holds-told Field.Entry z = record { alone = rw h.alone; first = kept-more _ _ _ _ z h.first; second = h.second }
 
   -- a word
   pub holds-named : (n : Word) → Holds kept asked (named n g) (set numbers (wordPlace n) (wordNumber n)) v w series query
-  holds-named Word.Window = record { alone = rw (h .alone); first = h .first; second = h .second }
-  holds-named Word.Width = record { alone = rw (h .alone); first = h .first; second = h .second }
-  holds-named Word.Merge = record { alone = rw (h .alone); first = h .first; second = h .second }
-  holds-named Word.Series = record { alone = rw (h .alone); first = h .first; second = h .second }
-  holds-named Word.Find = record { alone = rw (h .alone); first = h .first; second = h .second }
-  holds-named Word.Raw = record { alone = rw (h .alone); first = h .first; second = h .second }
-  holds-named Word.Normal = record { alone = rw (h .alone); first = h .first; second = h .second }
-  holds-named Word.Query = record { alone = rw (h .alone); first = h .first; second = h .second }
-  holds-named Word.End = record { alone = rw (h .alone); first = h .first; second = h .second }
-  holds-named Word.Line = record { alone = rw (h .alone); first = h .first; second = h .second }
-  holds-named Word.LineEnd = record { alone = rw (h .alone); first = h .first; second = h .second }
-  holds-named (Word.Space p) = record { alone = rw (h .alone); first = h .first; second = h .second }
+  holds-named Word.Window = record { alone = rw h.alone; first = h.first; second = h.second }
+  holds-named Word.Width = record { alone = rw h.alone; first = h.first; second = h.second }
+  holds-named Word.Merge = record { alone = rw h.alone; first = h.first; second = h.second }
+  holds-named Word.Series = record { alone = rw h.alone; first = h.first; second = h.second }
+  holds-named Word.Find = record { alone = rw h.alone; first = h.first; second = h.second }
+  holds-named Word.Raw = record { alone = rw h.alone; first = h.first; second = h.second }
+  holds-named Word.Normal = record { alone = rw h.alone; first = h.first; second = h.second }
+  holds-named Word.Query = record { alone = rw h.alone; first = h.first; second = h.second }
+  holds-named Word.End = record { alone = rw h.alone; first = h.first; second = h.second }
+  holds-named Word.Line = record { alone = rw h.alone; first = h.first; second = h.second }
+  holds-named Word.LineEnd = record { alone = rw h.alone; first = h.first; second = h.second }
+  holds-named (Word.Space p) = record { alone = rw h.alone; first = h.first; second = h.second }
 
 -- ---- tests
 

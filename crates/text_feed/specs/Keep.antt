@@ -23,7 +23,7 @@ leading (x ∷ vs) = cond (valueIn x) (suc (leading vs)) 0
 
 -- one value more
 unfoldable pub valuesMore : Values → ℤ → Values
-valuesMore v z = record { count = v .count + 1; inside = cond (eqb (v .inside) (v .count)) (cond (valueIn z) (v .count + 1) (v .inside)) (v .inside) }
+valuesMore v z = record { count = v.count + 1; inside = cond (eqb v.inside v.count) (cond (valueIn z) (v.count + 1) v.inside) v.inside }
 
 -- the places of the single numbers
 abbrev pub placeOf : Field → ℕ
@@ -94,15 +94,15 @@ wordNumber (Word.Space p) = pos 0
 
 -- the single numbers: window, width, merge, b, E, a, h, and 1 for a raw query
 abbrev pub numbersOf : Said → List ℤ
-numbersOf g = g .window ∷ g .width ∷ g .merge ∷ g .band ∷ g .threshold ∷ g .scale ∷ g .shift ∷ cond (g .raw) (pos 1) (pos 0) ∷ []
+numbersOf g = g.window ∷ g.width ∷ g.merge ∷ g.band ∷ g.threshold ∷ g.scale ∷ g.shift ∷ cond g.raw (pos 1) (pos 0) ∷ []
 
 -- the values of which `base` was the buffer at first
 pub record Kept (base vs : List ℤ) (v : Values) (buf : List ℤ) : Type 0 where
-  pub count : v .count ≡ length vs
-  pub inside : v .inside ≡ leading vs
+  pub count : v.count ≡ length vs
+  pub inside : v.inside ≡ leading vs
   pub lies : buf ≡ stored base vs
 
 pub record Holds (kept asked : List ℤ) (g : Said) (numbers : List ℤ) (v w : Values) (series query : List ℤ) : Type 0 where
   pub alone : numbers ≡ numbersOf g
-  pub first : Kept kept (g .series) v series
-  pub second : Kept asked (g .query) w query
+  pub first : Kept kept g.series v series
+  pub second : Kept asked g.query w query

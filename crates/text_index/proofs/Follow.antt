@@ -10,13 +10,13 @@ use mathlib.Core.Option.{Option, none, some}
 use mathlib.Core.Path.{_≡_, refl, _∙_}
 use native.Mathlib.Omega.{arith}
 use Rattle.meaning_text.specs.{Bytes.bytes, Number.got, Number.bad, Form.Value, Form.many, Form.read, Read.readText, Texts.indexForm, Texts.rowForm, Texts.runForm}
-use Rattle.meaning_text.proofs.{Open.openText, Form.filled, Form.clearWord, Form.clear, Form.follows, Form.firm, Form.opens, Form.decided, Reading.on-flag, Reading.begun}
 use Rattle.meaning_text.proofs.Automaton.{going, feed, bad-here, over, atRest, Follows, judged, form-comes}
 use Rattle.meaning_text.proofs.Onward.{Rest, wordThen, readThen, read-alone, lead-then, trail-then, both-then, many-then, many-ends, word-over, word-next, word-off, word-short}
+use Rattle.meaning_text.proofs.{Open.openText, Form.filled, Form.clearWord, Form.clear, Form.follows, Form.firm, Form.opens, Form.decided, Reading.on-flag, Reading.begun}
 use Rattle.text_numbers.specs.{declared.Numeral.Numeral, Number.numStep, Number.whole}
 use Rattle.text_numbers.proofs.{Number.good-step, Number.on-taken, Number.on-whole, Onto.Onto, Onto.follows-by, Onward.numberThen, Onward.number-more, Onward.number-stop, Onward.number-then}
-use Rattle.text_index.specs.{declared.Word.Word, declared.Field.Field, declared.Turn.Turn, declared.State.State, declared.Reached.Reached, declared.Moved.Moved}
 use Rattle.text_index.specs.Step.{word, behind, turnAfter, pick, reach, closes, led, wordStep, turnStep, endStep, numberStep, indexStep, GoodState}
+use Rattle.text_index.specs.{declared.Word.Word, declared.Field.Field, declared.Turn.Turn, declared.State.State, declared.Reached.Reached, declared.Moved.Moved}
 use Rattle.text_index.proofs.Step.{word-long}
 
 -- ---- what has been said
@@ -37,20 +37,20 @@ nothingSaid = record { window = pos 0; width = pos 0; windows = pos 0; rows = []
 
 -- a number
 abbrev pub told : Field → ℤ → Said → Said
-told Field.Window z g = record { window = z; width = g .width; windows = g .windows; rows = g .rows; low = g .low; up = g .up; runs = g .runs; left = g .left }
-told Field.Width z g = record { window = g .window; width = z; windows = g .windows; rows = g .rows; low = g .low; up = g .up; runs = g .runs; left = g .left }
-told Field.Windows z g = record { window = g .window; width = g .width; windows = z; rows = g .rows; low = g .low; up = g .up; runs = g .runs; left = g .left }
-told Field.Low z g = record { window = g .window; width = g .width; windows = g .windows; rows = g .rows; low = z; up = g .up; runs = g .runs; left = g .left }
-told Field.Up z g = record { window = g .window; width = g .width; windows = g .windows; rows = g .rows; low = g .low; up = z; runs = []; left = g .left }
-told Field.Left z g = record { window = g .window; width = g .width; windows = g .windows; rows = g .rows; low = g .low; up = g .up; runs = g .runs; left = z }
-told Field.Right z g = record { window = g .window; width = g .width; windows = g .windows; rows = g .rows; low = g .low; up = g .up; runs = g .runs ++ ((g .left, z) ∷ []); left = g .left }
+told Field.Window z g = record { window = z; width = g.width; windows = g.windows; rows = g.rows; low = g.low; up = g.up; runs = g.runs; left = g.left }
+told Field.Width z g = record { window = g.window; width = z; windows = g.windows; rows = g.rows; low = g.low; up = g.up; runs = g.runs; left = g.left }
+told Field.Windows z g = record { window = g.window; width = g.width; windows = z; rows = g.rows; low = g.low; up = g.up; runs = g.runs; left = g.left }
+told Field.Low z g = record { window = g.window; width = g.width; windows = g.windows; rows = g.rows; low = z; up = g.up; runs = g.runs; left = g.left }
+told Field.Up z g = record { window = g.window; width = g.width; windows = g.windows; rows = g.rows; low = g.low; up = z; runs = []; left = g.left }
+told Field.Left z g = record { window = g.window; width = g.width; windows = g.windows; rows = g.rows; low = g.low; up = g.up; runs = g.runs; left = z }
+told Field.Right z g = record { window = g.window; width = g.width; windows = g.windows; rows = g.rows; low = g.low; up = g.up; runs = g.runs ++ ((g.left, z) ∷ []); left = g.left }
 
 -- a row's end
 abbrev pub closed : Said → Said
-closed g = record { window = g .window; width = g .width; windows = g .windows; rows = g .rows ++ ((g .low, (g .up, g .runs)) ∷ []); low = g .low; up = g .up; runs = []; left = g .left }
+closed g = record { window = g.window; width = g.width; windows = g.windows; rows = g.rows ++ ((g.low, (g.up, g.runs)) ∷ []); low = g.low; up = g.up; runs = []; left = g.left }
 
 abbrev pub value : Said → Value indexForm
-value g = (g .window, (g .width, (g .windows, g .rows)))
+value g = (g.window, (g.width, (g.windows, g.rows)))
 
 -- ---- the automaton
 
@@ -68,7 +68,7 @@ moved (Moved.Closed s) g = some (at s (closed g))
 moved Moved.Refuse g = none
 
 unfoldable pub step : Reading → ℕ → Option Reading
-step x b = moved (indexStep (x .state) b) (x .said)
+step x b = moved (indexStep x.state b) x.said
 
 abbrev pub acceptState : State → Said → Option (Value indexForm)
 acceptState (State.In w k) g = none
@@ -77,7 +77,7 @@ acceptState (State.Before t) g = none
 acceptState State.Done g = some (value g)
 
 unfoldable pub accept : Reading → Option (Value indexForm)
-accept x = acceptState (x .state) (x .said)
+accept x = acceptState x.state x.said
 
 abbrev pub start : Reading
 start = at (State.In Word.Window 0) nothingSaid
@@ -89,11 +89,11 @@ V' = Value indexForm
 
 -- rows, and the end
 unfoldable restRows : Said → Rest V'
-restRows g = readThen (many rowForm) (λ l. wordThen (word Word.End) (λ t. got (g .window, (g .width, (g .windows, g .rows ++ l))) t))
+restRows g = readThen (many rowForm) (λ l. wordThen (word Word.End) (λ t. got (g.window, (g.width, (g.windows, g.rows ++ l))) t))
 
 -- the row with these runs more is closed
 abbrev closedWith : Said → List (Value runForm) → Said
-closedWith g l = closed (record { window = g .window; width = g .width; windows = g .windows; rows = g .rows; low = g .low; up = g .up; runs = g .runs ++ l; left = g .left })
+closedWith g l = closed (record { window = g.window; width = g.width; windows = g.windows; rows = g.rows; low = g.low; up = g.up; runs = g.runs ++ l; left = g.left })
 
 -- runs, and the row's end
 unfoldable restRuns : Said → Rest V'
@@ -156,7 +156,7 @@ restState (State.Before t) g = restTurn t g
 restState State.Done g = λ t. got (value g) t
 
 unfoldable rest : Reading → Rest V'
-rest x = restState (x .state) (x .said)
+rest x = restState x.state x.said
 
 -- ---- words
 
@@ -223,7 +223,7 @@ word-moved x true g = led-moved x _ g (closed g) (λ s. refl)
 word-moved x false g = led-moved x _ g g (λ s. refl)
 
 abbrev pub Good : Reading → Type 0
-Good x = GoodState (x .state)
+Good x = GoodState x.state
 
 -- a byte of a word
 word-onto : (w : Word) (k b : ℕ) → k < length (word w) → (g : Said) (t : List ℕ) → Onto Good rest (turned (reach w k b) (cond (closes w k) (closed g) g)) b t (wordThen (drop k (word w)) (behindThen w g) (b ∷ t))
@@ -235,7 +235,7 @@ word-onto w k b h g t =
     rw (e, u, inside w k (omega (arith, ltb-true (k + 1) (length (word w)) u))) (ltb-true (k + 1) _ u, word-next (word w) _ k h b t e ∙ rw a))
     (λ u. let l : suc k ≡ length (word w) = omega (arith, ltb-false (k + 1) _ u) in
     let n = behind-then w k g l in
-    rw (e, u) (n .0, word-next (word w) _ k h b t e ∙ rw (word-over (word w) _ (suc k) (omega arith) ∙ n .1))))
+    rw (e, u) (n.0, word-next (word w) _ k h b t e ∙ rw (word-over (word w) _ (suc k) (omega arith) ∙ n.1))))
     (λ e. rw (e, word-off (word w) _ k h b t e) bad-here)
 
 -- ---- a row or the end, a run or the row's end
@@ -244,11 +244,11 @@ unfoldable openDecided : Unit {0}
 unfolding openText filled clearWord clear follows firm opens decided
 openDecided = tt
 
-row-then : (g : Said) → readThen rowForm (λ x. readThen (many rowForm) (λ l. wordThen (word Word.End) (λ t. got (g .window, (g .width, (g .windows, g .rows ++ (x ∷ l)))) t))) ≡ wordThen (word Word.Row) (behindThen Word.Row g)
+row-then : (g : Said) → readThen rowForm (λ x. readThen (many rowForm) (λ l. wordThen (word Word.End) (λ t. got (g.window, (g.width, (g.windows, g.rows ++ (x ∷ l)))) t))) ≡ wordThen (word Word.Row) (behindThen Word.Row g)
 unfolding word behindThen after afterLow restRuns restRows
 row-then g = simp (trail-then, both-then, lead-then, number-then, append-assoc)
 
-end-then : (g : Said) → wordThen (word Word.End) (λ t. got (g .window, (g .width, (g .windows, g .rows ++ []))) t) ≡ wordThen (word Word.End) (behindThen Word.End g)
+end-then : (g : Said) → wordThen (word Word.End) (λ t. got (g.window, (g.width, (g.windows, g.rows ++ []))) t) ≡ wordThen (word Word.End) (behindThen Word.End g)
 unfolding behindThen
 end-then g = rw append-nil
 
@@ -334,7 +334,7 @@ ends State.Done g h = refl
 
 follows-index : Follows step accept Good rest
 unfolding step accept rest
-follows-index = follows-by Good rest step accept (λ s b t. onto (s .state) (s .said) b t) (λ s. ends (s .state) (s .said))
+follows-index = follows-by Good rest step accept (λ s b t. onto s.state s.said b t) (λ s. ends s.state s.said)
 
 index-then : readThen indexForm (λ v u. got v u) ≡ wordThen (word Word.Window) (behindThen Word.Window nothingSaid)
 unfolding word behindThen after afterWindow afterWidth afterWindows restRows
@@ -348,7 +348,7 @@ pub index-good : Good start
 index-good = word-long Word.Window
 
 pub stays : (x : Reading) (b : ℕ) (n : Reading) → Good x → step x b ≡ some n → Good n
-stays = follows-index .stays-good
+stays = follows-index.stays-good
 
 -- feeding a text, whatever its pieces, comes to what the form says of it
 pub index-comes : (t : List ℕ) → readText indexForm t ≡ judged accept (feed step (going start 0) t)

@@ -13,8 +13,8 @@ use Rattle.meaning_text.specs.Bytes.{bytes}
 use Rattle.meaning_text.proofs.Reading.{on-flag}
 use Rattle.text_numbers.specs.Number.{numStep, whole}
 use Rattle.text_numbers.proofs.Number.{on-taken, on-whole}
-use Rattle.text_index.specs.{declared.Word.Word, declared.Field.Field, declared.Turn.Turn, declared.State.State, declared.Reached.Reached, declared.Moved.Moved}
 use Rattle.text_index.specs.Step.{word, behind, turnAfter, pick, reach, closes, led, wordStep, turnStep, endStep, numberStep, indexStep, GoodState}
+use Rattle.text_index.specs.{declared.Word.Word, declared.Field.Field, declared.Turn.Turn, declared.State.State, declared.Reached.Reached, declared.Moved.Moved}
 use Rattle.text_index.proofs.Step.{word-long}
 use Rattle.text_index.proofs.Follow.{Said, told, closed, Reading, moved, step, turned, led-moved, word-moved, inside, not-first}
 
@@ -59,8 +59,8 @@ statePart State.Done = between
 
 -- what has not been said
 abbrev pub Order : Part → Said → Type 0
-Order heading g = (g .rows ≡ []) × (g .runs ≡ [])
-Order between g = g .runs ≡ []
+Order heading g = (g.rows ≡ []) × (g.runs ≡ [])
+Order between g = g.runs ≡ []
 Order within g = Unit {0}
 
 -- ---- words
@@ -70,7 +70,7 @@ unfolding word bytes behind closes
 order-behind Word.Window k g h o = o
 order-behind Word.Width k g h o = o
 order-behind Word.Windows k g h o = o
-order-behind Word.Head k g h o = o .1
+order-behind Word.Head k g h o = o.1
 order-behind Word.Row k g h o = o
 order-behind Word.Up k g h o = o
 order-behind Word.Run k g h o = o
@@ -80,7 +80,7 @@ order-behind Word.RowEnd k g h o = let e : k ≡ 1 = omega arith in rw e refl
 order-behind Word.End k g h o = o
 
 abbrev Kept : Option Reading → Type 0
-Kept (some n) = Order (statePart (n .state)) (n .said)
+Kept (some n) = Order (statePart n.state) n.said
 Kept none = Unit {0}
 
 word-order : (w : Word) (k b : ℕ) → k < length (word w) → (g : Said) → Order (wordPart w) g → Kept (turned (reach w k b) (cond (closes w k) (closed g) g))
@@ -126,9 +126,9 @@ order-by (State.Before t) g b h o = rw (led-moved _ _ g g (λ s. refl)) (turn-or
 order-by State.Done g b h o = tt
 
 -- a byte keeps the order
-pub order-step : (x : Reading) (b : ℕ) (n : Reading) → GoodState (x .state) → Order (statePart (x .state)) (x .said) → step x b ≡ some n → Order (statePart (n .state)) (n .said)
+pub order-step : (x : Reading) (b : ℕ) (n : Reading) → GoodState x.state → Order (statePart x.state) x.said → step x b ≡ some n → Order (statePart n.state) n.said
 unfolding step
-order-step x b n h o e = rw e at (order-by (x .state) (x .said) b h o)
+order-step x b n h o e = rw e at (order-by x.state x.said b h o)
 
 -- a number stands in its own part
 abbrev Told : Said → Moved → Type 0

@@ -21,15 +21,15 @@ abbrev pub seen : {T : Type 0} → State → T → Seen T
 seen s t = record { state = s; kept = t }
 
 abbrev pub endOf : {T : Type 0} → Fed (Seen T) → Verdict T
-endOf (going x p) = atEnd (keptAt (x .state) (x .kept)) p
+endOf (going x p) = atEnd (keptAt x.state x.kept) p
 endOf (failed p) = unfit p
 
 -- the order after some bytes
 abbrev pub Ordered : Fed Reading → Type 0
-Ordered (going x p) = Order (statePart (x .state)) (x .said)
+Ordered (going x p) = Order (statePart x.state) x.said
 Ordered (failed p) = Unit {0}
 
-pub fed-ordered : (l : List ℕ) (x : Reading) (p : ℕ) → GoodState (x .state) → Order (statePart (x .state)) (x .said) → Ordered (feed step (going x p) l)
+pub fed-ordered : (l : List ℕ) (x : Reading) (p : ℕ) → GoodState x.state → Order (statePart x.state) x.said → Ordered (feed step (going x p) l)
 unfolding feed
 fed-ordered [] x p h o = o
 fed-ordered (b ∷ l) x p h o =
@@ -45,11 +45,11 @@ module _ {T : Type 0} (tell : Field → ℤ → T → T) (shut : T → T) where
   movedTo Moved.Refuse t = none
 
   unfoldable pub keep : Seen T → ℕ → Option (Seen T)
-  keep x b = movedTo (indexStep (x .state) b) (x .kept)
+  keep x b = movedTo (indexStep x.state b) x.kept
 
   module _ (view : Said → T) (tells : (p : Field) (z : ℤ) (g : Said) → Order (placePart p) g → view (told p z g) ≡ tell p z (view g)) (shuts : (g : Said) → view (closed g) ≡ shut (view g)) where
     abbrev seenOf : Reading → Seen T
-    seenOf x = seen (x .state) (view (x .said))
+    seenOf x = seen x.state (view x.said)
 
     abbrev seenMaybe : Option Reading → Option (Seen T)
     seenMaybe (some x) = some (seenOf x)
@@ -65,11 +65,11 @@ module _ {T : Type 0} (tell : Field → ℤ → T → T) (shut : T → T) where
     moved-seen s b g (Moved.Closed n) e o = rw (shuts g) refl
     moved-seen s b g Moved.Refuse e o = refl
 
-    step-seen : (x : Reading) (b : ℕ) → Order (statePart (x .state)) (x .said) → keep (seenOf x) b ≡ seenMaybe (step x b)
+    step-seen : (x : Reading) (b : ℕ) → Order (statePart x.state) x.said → keep (seenOf x) b ≡ seenMaybe (step x b)
     unfolding keep step
-    step-seen x b o = moved-seen (x .state) b (x .said) _ refl o
+    step-seen x b o = moved-seen x.state b x.said _ refl o
 
-    fed-seen : (l : List ℕ) (x : Reading) (p : ℕ) → GoodState (x .state) → Order (statePart (x .state)) (x .said) → feed keep (going (seenOf x) p) l ≡ seenFed (feed step (going x p) l)
+    fed-seen : (l : List ℕ) (x : Reading) (p : ℕ) → GoodState x.state → Order (statePart x.state) x.said → feed keep (going (seenOf x) p) l ≡ seenFed (feed step (going x p) l)
     unfolding feed
     fed-seen [] x p h o = refl
     fed-seen (b ∷ l) x p h o =
@@ -77,7 +77,7 @@ module _ {T : Type 0} (tell : Field → ℤ → T → T) (shut : T → T) where
         (λ n e. rw (step-seen x b o, e) (fed-seen l n (suc p) (stays x b n h e) (order-step x b n h o e)))
         (λ e. rw (step-seen x b o, e, feed-failed keep l p, feed-failed step l p) refl)
 
-    module _ {A : Type 0} (out : T → A) (say : Value indexForm → A) (same : (g : Said) → g .runs ≡ [] → out (view g) ≡ say (value g)) where
+    module _ {A : Type 0} (out : T → A) (say : Value indexForm → A) (same : (g : Said) → g.runs ≡ [] → out (view g) ≡ say (value g)) where
       end-by : (s : State) (g : Said) (p : ℕ) → Order (statePart s) g → verdictOf out (atEnd (keptAt s (view g)) p) ≡ verdictOf say (atEnd (acceptState s g) p)
       end-by (State.In w k) g p o = refl
       end-by (State.At q n) g p o = refl
@@ -86,7 +86,7 @@ module _ {T : Type 0} (tell : Field → ℤ → T → T) (shut : T → T) where
 
       ends-by : (f : Fed Reading) → Ordered f → verdictOf out (endOf (seenFed f)) ≡ verdictOf say (judged accept f)
       unfolding accept
-      ends-by (going x p) o = end-by (x .state) (x .said) p o
+      ends-by (going x p) o = end-by x.state x.said p o
       ends-by (failed p) o = refl
 
       pub text-viewed : (t : List ℕ) → verdictOf out (endOf (feed keep (going (seenOf start) 0) t)) ≡ verdictOf say (readText indexForm t)
@@ -111,7 +111,7 @@ step-good s b Moved.Refuse h e = tt
 module _ {T : Type 0} (tell : Field → ℤ → T → T) (shut : T → T) (t₀ : T) (text : List ℕ) where
   -- what a text comes to
   abbrev pub Whole : Fed (Seen T)
-  Whole = feed (keep tell shut) (going (seen (start .state) t₀) 0) text
+  Whole = feed (keep tell shut) (going (seen start.state t₀) 0) text
 
   -- after i bytes
   pub record Kept (s : State) (t : T) (i : ℕ) : Type 0 where
@@ -119,7 +119,7 @@ module _ {T : Type 0} (tell : Field → ℤ → T → T) (shut : T → T) (t₀ 
     pub inside : i ≤ length text
     pub same : Whole ≡ feed (keep tell shut) (going (seen s t) i) (drop i text)
 
-  pub kept-start : Kept (start .state) t₀ 0
+  pub kept-start : Kept start.state t₀ 0
   kept-start = record { good = index-good; inside = omega arith; same = refl }
 
   module _ (s : State) (t : T) (i : ℕ) (r : Kept s t i) (h : i < length text) where
@@ -130,21 +130,21 @@ module _ {T : Type 0} (tell : Field → ℤ → T → T) (shut : T → T) (t₀ 
         record {
           good = g;
           inside = omega arith;
-          same = r .same ∙ feed-turn _ (seen s t) (seen n u) text i i h (ap (λ (x : Moved). movedTo tell shut x t) e ∙ k) ∙ rw q;
+          same = r.same ∙ feed-turn _ (seen s t) (seen n u) text i i h (ap (λ (x : Moved). movedTo tell shut x t) e ∙ k) ∙ rw q;
         }
 
     pub kept-to : (n : State) → indexStep s (getD text i 0) ≡ Moved.To n → Kept n t (i + 1)
-    kept-to n e = kept-on (Moved.To n) n t e (step-good s _ (Moved.To n) (r .good) e) refl
+    kept-to n e = kept-on (Moved.To n) n t e (step-good s _ (Moved.To n) r.good e) refl
 
     pub kept-value : (n : State) (p : Field) (z : ℤ) → indexStep s (getD text i 0) ≡ Moved.Value n p z → Kept n (tell p z t) (i + 1)
-    kept-value n p z e = kept-on _ n (tell p z t) e (step-good s _ _ (r .good) e) refl
+    kept-value n p z e = kept-on _ n (tell p z t) e (step-good s _ _ r.good e) refl
 
     pub kept-closed : (n : State) → indexStep s (getD text i 0) ≡ Moved.Closed n → Kept n (shut t) (i + 1)
-    kept-closed n e = kept-on _ n (shut t) e (step-good s _ _ (r .good) e) refl
+    kept-closed n e = kept-on _ n (shut t) e (step-good s _ _ r.good e) refl
 
     pub kept-refuse : indexStep s (getD text i 0) ≡ Moved.Refuse → endOf Whole ≡ unfit i
     unfolding keep
-    kept-refuse e = ap endOf (r .same ∙ feed-refuse _ (seen s t) text i i h (rw e))
+    kept-refuse e = ap endOf (r.same ∙ feed-refuse _ (seen s t) text i i h (rw e))
 
   pub kept-end : (s : State) (t : T) (i : ℕ) → Kept s t i → length text ≤ i → endOf Whole ≡ atEnd (keptAt s t) i
-  kept-end s t i r h = ap endOf (r .same ∙ feed-end _ _ text i h)
+  kept-end s t i r h = ap endOf (r.same ∙ feed-end _ _ text i h)

@@ -14,10 +14,10 @@ module _ (text : List ℕ) where
   Scanning s t i = Kept tellTally shutTally startTally text s t i × Fits t i
 
   to : (s : State) (t : Tally) (i : ℕ) → Scanning s t i → i < length text → (n : State) → indexStep s (getD text i 0) ≡ Moved.To n → Scanning n t (i + 1)
-  to s t i r h n e = (kept-to tellTally shutTally startTally text s t i (r .0) h n e, same-fits t i (r .1))
+  to s t i r h n e = (kept-to tellTally shutTally startTally text s t i r.0 h n e, same-fits t i r.1)
 
   value : (s : State) (t : Tally) (i : ℕ) → Scanning s t i → i < length text → (n : State) (p : Field) (z : ℤ) → indexStep s (getD text i 0) ≡ Moved.Value n p z → Scanning n (tellTally p z t) (i + 1)
-  value s t i r h n p z e = (kept-value tellTally shutTally startTally text s t i (r .0) h n p z e, tell-fits p z t i (r .1))
+  value s t i r h n p z e = (kept-value tellTally shutTally startTally text s t i r.0 h n p z e, tell-fits p z t i r.1)
 
   -- runs one after the other
   pub scan-runs : {t u : Tally} {i j : ℕ} → RunsFrom tellTally text t i u j → Scanning atRuns t i → Scanning atRuns u j
@@ -32,21 +32,21 @@ module _ (text : List ℕ) where
     quiet q = quiet-keeps tellTally text Scanning to value t q r
 
     pub scan-run : {u : Tally} (l z j : ℕ) → EventAt text s i (Event.Run l z j) → u ≡ toldRun l z t → Scanning atRuns u j
-    scan-run l z j e told = rw told (run-keeps tellTally text Scanning to value t (e .1) (rw (e .0) at r))
+    scan-run l z j e told = rw told (run-keeps tellTally text Scanning to value t e.1 (rw e.0 at r))
 
     pub scan-row : {u : Tally} (low up : ℤ) (l z j : ℕ) → EventAt text s i (Event.Row low up l z j) → u ≡ toldRun l z (tellTally Field.Up up (tellTally Field.Low low t)) → Scanning atRuns u j
-    scan-row low up l z j e told = rw told (row-keeps tellTally text Scanning to value t (e .1) (rw (e .0) at r))
+    scan-row low up l z j e told = rw told (row-keeps tellTally text Scanning to value t e.1 (rw e.0 at r))
 
     pub scan-value : (n : State) (p : Field) (z : ℤ) (j : ℕ) → EventAt text s i (Event.Value n p z j) → Scanning n (tellTally p z t) j
     scan-value n p z j e = value-keeps tellTally text Scanning to value t e r
 
     pub scan-closed : (n : State) (j : ℕ) → EventAt text s i (Event.Closed n j) → Scanning n (shutTally t) j
     scan-closed n j e =
-        let k = quiet (e .quiet) in
-        rw (e .next) (kept-closed tellTally shutTally startTally text (e .last) t (e .place) (k .0) (e .inside) n (e .ends), shut-fits t (e .place) (k .1))
+        let k = quiet e.quiet in
+        rw e.next (kept-closed tellTally shutTally startTally text e.last t e.place k.0 e.inside n e.ends, shut-fits t e.place k.1)
 
     pub scan-refuse : (n : State) (j : ℕ) → EventAt text s i (Event.Refuse n j) → endOf (Whole tellTally shutTally startTally text) ≡ unfit j
-    scan-refuse n j e = kept-refuse tellTally shutTally startTally text n t j (quiet (e .0) .0) (e .1) (e .2)
+    scan-refuse n j e = kept-refuse tellTally shutTally startTally text n t j (quiet e.0 .0) e.1 e.2
 
     pub scan-stop : (n : State) (j : ℕ) → EventAt text s i (Event.End n j) → endOf (Whole tellTally shutTally startTally text) ≡ atEnd (keptAt n t) j
-    scan-stop n j e = kept-end tellTally shutTally startTally text n t j (quiet (e .0) .0) (e .1)
+    scan-stop n j e = kept-end tellTally shutTally startTally text n t j (quiet e.0 .0) e.1

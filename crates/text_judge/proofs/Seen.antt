@@ -7,18 +7,18 @@ use Rattle.numbers.specs.Narrow.{clamp, held}
 use Rattle.rows_judge.proofs.Scan.{both, runGood, good-run}
 use Rattle.text_index.specs.declared.Field.{Field}
 use Rattle.text_index.proofs.{Follow.Said, Follow.told, Follow.closed, Follow.value, Order.placePart, Order.Order, View.endOf, View.Whole, View.text-viewed}
-use Rattle.text_judge.specs.{declared.Runs.Runs, declared.Rows.Rows, declared.Tally.Tally, declared.Scanned.Scanned}
 use Rattle.text_judge.specs.Tally.{noRuns, runNext, runsFrom, Sound, noRows, rowNext, rowsFrom, startTally, tellTally, shutTally, Fits, headHeld, scannedText, scanned, keptScanned}
+use Rattle.text_judge.specs.{declared.Runs.Runs, declared.Rows.Rows, declared.Tally.Tally, declared.Scanned.Scanned}
 
 -- ---- one more at the end
 
-pub runs-more : (W : ℕ) (s : Runs) (l : List Entry) (e : Entry) → runsFrom W s (l ++ (e ∷ [])) ≡ runNext W (runsFrom W s l) (held (e .0)) (held (e .1))
+pub runs-more : (W : ℕ) (s : Runs) (l : List Entry) (e : Entry) → runsFrom W s (l ++ (e ∷ [])) ≡ runNext W (runsFrom W s l) (held e.0) (held e.1)
 unfolding runsFrom
 runs-more W s [] e = refl
 runs-more W s (x ∷ l) e = runs-more W _ l e
 
 pub rows-more : (h : Head) (s : Rows) (l : List (Value rowForm)) (r : Value rowForm)
-    → rowsFrom h s (l ++ (r ∷ [])) ≡ rowNext h (rowsFrom h s l) (clamp (r .0)) (clamp (r .1 .0)) (runsFrom (h .windows) noRuns (r .1 .1))
+    → rowsFrom h s (l ++ (r ∷ [])) ≡ rowNext h (rowsFrom h s l) (clamp r.0) (clamp r.1.0) (runsFrom h.windows noRuns r.1.1)
 unfolding rowsFrom
 rows-more h s [] r = refl
 rows-more h s (x ∷ l) r = rows-more h _ l r
@@ -28,26 +28,26 @@ rows-more h s (x ∷ l) r = rows-more h _ l r
 abbrev pub tallyOf : Said → Tally
 tallyOf g = record {
   head = headHeld (value g);
-  rows = rowsFrom (headHeld (value g)) noRows (g .rows);
-  row = record { low = clamp (g .low); up = clamp (g .up); left = held (g .left); runs = runsFrom (held (g .windows)) noRuns (g .runs) };
+  rows = rowsFrom (headHeld (value g)) noRows g.rows;
+  row = record { low = clamp g.low; up = clamp g.up; left = held g.left; runs = runsFrom (held g.windows) noRuns g.runs };
 }
 
 pub tells : (p : Field) (z : ℤ) (g : Said) → Order (placePart p) g → tallyOf (told p z g) ≡ tellTally p z (tallyOf g)
 unfolding tellTally runsFrom rowsFrom
-tells Field.Window z g o = rw (o .0, o .1) refl
-tells Field.Width z g o = rw (o .0, o .1) refl
-tells Field.Windows z g o = rw (o .0, o .1) refl
+tells Field.Window z g o = rw (o.0, o.1) refl
+tells Field.Width z g o = rw (o.0, o.1) refl
+tells Field.Windows z g o = rw (o.0, o.1) refl
 tells Field.Low z g o = refl
 tells Field.Up z g o = refl
 tells Field.Left z g o = refl
-tells Field.Right z g o = rw (runs-more _ noRuns (g .runs) (g .left, z)) refl
+tells Field.Right z g o = rw (runs-more _ noRuns g.runs (g.left, z)) refl
 
 pub shuts : (g : Said) → tallyOf (closed g) ≡ shutTally (tallyOf g)
 unfolding shutTally runsFrom
-shuts g = rw (rows-more _ noRows (g .rows) (g .low, (g .up, g .runs))) refl
+shuts g = rw (rows-more _ noRows g.rows (g.low, (g.up, g.runs))) refl
 
 abbrev outOf : Tally → Scanned
-outOf t = Scanned.Fine (t .head) (t .rows)
+outOf t = Scanned.Fine t.head t.rows
 
 abbrev said : Verdict Scanned → Scanned
 said (fine s) = s
@@ -86,13 +86,13 @@ sound-next : (W : ℕ) (s : Runs) (l r : ℕ) → r ≤ 4294967295 → Sound s �
 unfolding runNext
 sound-next W s l r h o =
     on-flag _
-    (λ e. let g = good-run W (s .least) l r (both (s .good) (runGood W (s .least) l r) e .1) in
+    (λ e. let g = good-run W s.least l r (both s.good (runGood W s.least l r) e .1) in
     rw e (record { total = omega arith; least = omega arith }))
     (λ e. rw e (record { total = omega arith; least = omega arith }))
 
-count-next : (W : ℕ) (s : Runs) (l r : ℕ) → runNext W s l r .count ≡ s .count + 1
+count-next : (W : ℕ) (s : Runs) (l r : ℕ) → runNext W s l r .count ≡ s.count + 1
 unfolding runNext
-count-next W s l r = on-flag (s .good && runGood W (s .least) l r) (λ e. rw e refl) (λ e. rw e refl)
+count-next W s l r = on-flag (s.good && runGood W s.least l r) (λ e. rw e refl) (λ e. rw e refl)
 
 no-sound : Sound noRuns
 no-sound = record { total = omega arith; least = omega arith }
@@ -101,26 +101,26 @@ pub start-fits : Fits startTally 0
 start-fits = record { sound = no-sound; rows = omega arith; runs = omega arith }
 
 pub same-fits : (t : Tally) (i : ℕ) → Fits t i → Fits t (i + 1)
-same-fits t i f = record { sound = f .sound; rows = omega arith; runs = omega arith }
+same-fits t i f = record { sound = f.sound; rows = omega arith; runs = omega arith }
 
 pub tell-fits : (p : Field) (z : ℤ) (t : Tally) (i : ℕ) → Fits t i → Fits (tellTally p z t) (i + 1)
 unfolding tellTally
-tell-fits Field.Window z t i f = record { sound = f .sound; rows = omega arith; runs = omega arith }
-tell-fits Field.Width z t i f = record { sound = f .sound; rows = omega arith; runs = omega arith }
-tell-fits Field.Windows z t i f = record { sound = f .sound; rows = omega arith; runs = omega arith }
-tell-fits Field.Low z t i f = record { sound = f .sound; rows = omega arith; runs = omega arith }
+tell-fits Field.Window z t i f = record { sound = f.sound; rows = omega arith; runs = omega arith }
+tell-fits Field.Width z t i f = record { sound = f.sound; rows = omega arith; runs = omega arith }
+tell-fits Field.Windows z t i f = record { sound = f.sound; rows = omega arith; runs = omega arith }
+tell-fits Field.Low z t i f = record { sound = f.sound; rows = omega arith; runs = omega arith }
 tell-fits Field.Up z t i f = record { sound = no-sound; rows = omega arith; runs = omega arith }
-tell-fits Field.Left z t i f = record { sound = f .sound; rows = omega arith; runs = omega arith }
+tell-fits Field.Left z t i f = record { sound = f.sound; rows = omega arith; runs = omega arith }
 tell-fits Field.Right z t i f =
-    let n = count-next (t .head .windows) (t .row .runs) (t .row .left) (held z) in
-    record { sound = sound-next _ (t .row .runs) (t .row .left) (held z) (held-most z) (f .sound); rows = omega arith; runs = omega (arith, n) }
+    let n = count-next t.head.windows t.row.runs t.row.left (held z) in
+    record { sound = sound-next _ t.row.runs t.row.left (held z) (held-most z) f.sound; rows = omega arith; runs = omega (arith, n) }
 
-row-counts : (h : Head) (s : Rows) (low up : ℤ) (o : Runs) → (rowNext h s low up o .rows ≤ s .rows + 1) × (rowNext h s low up o .runs ≤ s .runs + o .count)
+row-counts : (h : Head) (s : Rows) (low up : ℤ) (o : Runs) → (rowNext h s low up o .rows ≤ s.rows + 1) × (rowNext h s low up o .runs ≤ s.runs + o.count)
 unfolding rowNext
-row-counts h s low up o = on-flag (s .good && Rattle.text_judge.specs.Tally.rowFits h s low up o) (λ e. rw e (omega arith, omega arith)) (λ e. rw e (omega arith, omega arith))
+row-counts h s low up o = on-flag (s.good && Rattle.text_judge.specs.Tally.rowFits h s low up o) (λ e. rw e (omega arith, omega arith)) (λ e. rw e (omega arith, omega arith))
 
 pub shut-fits : (t : Tally) (i : ℕ) → Fits t i → Fits (shutTally t) (i + 1)
 unfolding shutTally
 shut-fits t i f =
-    let n = row-counts (t .head) (t .rows) (t .row .low) (t .row .up) (t .row .runs) in
+    let n = row-counts t.head t.rows t.row.low t.row.up t.row.runs in
     record { sound = no-sound; rows = omega arith; runs = omega arith }

@@ -7,4 +7,4 @@ use Rattle.text_judge.specs.declared.Rows.{Rows}
 
 -- the first bad row, 0 for the head; else the run lengths added up
 unfoldable pub judgedRows : Head → Rows → Judged
-judgedRows h c = cond (headGood (lent h [] [] [])) (cond (c .good) (Judged.Fine (c .taken)) (Judged.Bad (c .rows))) (Judged.Bad 0)
+judgedRows h c = cond (headGood (lent h [] [] [])) (cond c.good (Judged.Fine c.taken) (Judged.Bad c.rows)) (Judged.Bad 0)

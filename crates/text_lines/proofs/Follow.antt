@@ -10,20 +10,20 @@ use mathlib.Core.Option.{Option, none, some}
 use mathlib.Core.Path.{_≡_, refl, _∙_}
 use native.Mathlib.Omega.{arith}
 use Rattle.meaning_text.specs.{Bytes.bytes, Number.got, Number.bad, Form.number, Form.oneOf, Form.lead, Form.read, Read.readText, Texts.valuesForm, Texts.seriesForm, Texts.programForm}
-use Rattle.meaning_text.proofs.{Open.openText, Form.filled, Form.clearWord, Form.clear, Form.follows, Form.firm, Form.opens, Form.decided, Reading.on-flag, Reading.begun}
 use Rattle.meaning_text.proofs.Automaton.{going, feed, bad-here, over, atRest, Follows, judged, form-comes}
 use Rattle.meaning_text.proofs.Onward.{Rest, wordThen, readThen, word-both, read-alone, lead-then, trail-then, both-then, one-then, one-ends, many-then, many-ends, word-over, word-next, word-off, word-short}
+use Rattle.meaning_text.proofs.{Open.openText, Form.filled, Form.clearWord, Form.clear, Form.follows, Form.firm, Form.opens, Form.decided, Reading.on-flag, Reading.begun}
 use Rattle.text_numbers.specs.{declared.Numeral.Numeral, Number.numStep, Number.whole}
 use Rattle.text_numbers.proofs.{Number.good-step, Number.on-taken, Number.on-whole, Onto.Onto, Onto.follows-by, Onward.numberThen, Onward.number-more, Onward.number-stop, Onward.number-then}
-use Rattle.text_lines.specs.{declared.Word.Word, declared.Field.Field, declared.Turn.Turn, declared.State.State, declared.Reached.Reached, declared.Moved.Moved}
 use Rattle.text_lines.specs.Follow.{Said, nothingSaid, seriesMore, queryMore, told, kindSaid, named, Reading, at, moved, step, programStart, seriesStart, seriesValue, programValue}
 use Rattle.text_lines.specs.Step.{word, behind, turnAfter, pick, reach, led, wordStep, turnStep, endStep, numberStep, lineStep, GoodState}
+use Rattle.text_lines.specs.{declared.Word.Word, declared.Field.Field, declared.Turn.Turn, declared.State.State, declared.Reached.Reached, declared.Moved.Moved}
 use Rattle.text_lines.proofs.Step.{word-long}
 
 -- ---- the automaton
 
 abbrev pub Good : Reading → Type 0
-Good x = GoodState (x .state)
+Good x = GoodState x.state
 
 -- ---- the rest of the text, where `fin` makes the value of what has been said
 
@@ -35,7 +35,7 @@ module _ {A : Type 0} (fin : Said → A) where
   acceptState State.Done g = some (fin g)
 
   unfoldable pub accept : Reading → Option A
-  accept x = acceptState (x .state) (x .said)
+  accept x = acceptState x.state x.said
 
   unfoldable restQuery : Said → Rest A
   restQuery g = readThen valuesForm (λ l. wordThen (word Word.End) (λ t. got (fin (queryMore g l)) t))
@@ -118,7 +118,7 @@ module _ {A : Type 0} (fin : Said → A) where
   restState State.Done g = λ t. got (fin g) t
 
   unfoldable rest : Reading → Rest A
-  rest x = restState (x .state) (x .said)
+  rest x = restState x.state x.said
 
 -- ---- words
 
@@ -176,7 +176,7 @@ module _ {A : Type 0} (fin : Said → A) where
       (λ u. let a : suc k ≡ k + 1 = omega arith in
       rw (e, u) (ltb-true (k + 1) _ u, word-next _ _ k h b t e ∙ rw a))
       (λ u. let n = behind-then w g in
-      rw (e, u) (n .0, word-next _ _ k h b t e ∙ rw (word-over (word w) (behindThen fin w g) (suc k) (omega (arith, ltb-false (k + 1) (length (word w)) u)) ∙ n .1))))
+      rw (e, u) (n.0, word-next _ _ k h b t e ∙ rw (word-over (word w) (behindThen fin w g) (suc k) (omega (arith, ltb-false (k + 1) (length (word w)) u)) ∙ n.1))))
       (λ e. rw (e, word-off (word w) (behindThen fin w g) k h b t e) bad-here)
 
   -- ---- between two words
@@ -277,7 +277,7 @@ module _ {A : Type 0} (fin : Said → A) where
 
   follows-lines : Follows step (accept fin) Good (rest fin)
   unfolding step accept rest
-  follows-lines = follows-by Good (rest fin) step (accept fin) (λ s b t. onto (s .state) (s .said) b t) (λ s. ends (s .state) (s .said))
+  follows-lines = follows-by Good (rest fin) step (accept fin) (λ s b t. onto s.state s.said b t) (λ s. ends s.state s.said)
 
 -- ---- the two forms
 

@@ -26,27 +26,27 @@ nothingSaid = record { window = pos 0; width = pos 0; merge = pos 0; series = []
 
 -- more values
 abbrev pub seriesMore : Said → List ℤ → Said
-seriesMore g l = record { window = g .window; width = g .width; merge = g .merge; series = g .series ++ l; raw = g .raw; band = g .band; threshold = g .threshold; scale = g .scale; shift = g .shift; query = g .query }
+seriesMore g l = record { window = g.window; width = g.width; merge = g.merge; series = g.series ++ l; raw = g.raw; band = g.band; threshold = g.threshold; scale = g.scale; shift = g.shift; query = g.query }
 
 abbrev pub queryMore : Said → List ℤ → Said
-queryMore g l = record { window = g .window; width = g .width; merge = g .merge; series = g .series; raw = g .raw; band = g .band; threshold = g .threshold; scale = g .scale; shift = g .shift; query = g .query ++ l }
+queryMore g l = record { window = g.window; width = g.width; merge = g.merge; series = g.series; raw = g.raw; band = g.band; threshold = g.threshold; scale = g.scale; shift = g.shift; query = g.query ++ l }
 
 -- a number
 abbrev pub told : Field → ℤ → Said → Said
-told Field.Window z g = record { window = z; width = g .width; merge = g .merge; series = g .series; raw = g .raw; band = g .band; threshold = g .threshold; scale = g .scale; shift = g .shift; query = g .query }
-told Field.Width z g = record { window = g .window; width = z; merge = g .merge; series = g .series; raw = g .raw; band = g .band; threshold = g .threshold; scale = g .scale; shift = g .shift; query = g .query }
-told Field.Merge z g = record { window = g .window; width = g .width; merge = z; series = g .series; raw = g .raw; band = g .band; threshold = g .threshold; scale = g .scale; shift = g .shift; query = g .query }
+told Field.Window z g = record { window = z; width = g.width; merge = g.merge; series = g.series; raw = g.raw; band = g.band; threshold = g.threshold; scale = g.scale; shift = g.shift; query = g.query }
+told Field.Width z g = record { window = g.window; width = z; merge = g.merge; series = g.series; raw = g.raw; band = g.band; threshold = g.threshold; scale = g.scale; shift = g.shift; query = g.query }
+told Field.Merge z g = record { window = g.window; width = g.width; merge = z; series = g.series; raw = g.raw; band = g.band; threshold = g.threshold; scale = g.scale; shift = g.shift; query = g.query }
 told Field.Item z g = seriesMore g (z ∷ [])
-told Field.Band z g = record { window = g .window; width = g .width; merge = g .merge; series = g .series; raw = g .raw; band = z; threshold = g .threshold; scale = g .scale; shift = g .shift; query = g .query }
-told Field.Threshold z g = record { window = g .window; width = g .width; merge = g .merge; series = g .series; raw = g .raw; band = g .band; threshold = z; scale = g .scale; shift = g .shift; query = g .query }
-told Field.Scale z g = record { window = g .window; width = g .width; merge = g .merge; series = g .series; raw = g .raw; band = g .band; threshold = g .threshold; scale = z; shift = g .shift; query = g .query }
-told Field.Shift z g = record { window = g .window; width = g .width; merge = g .merge; series = g .series; raw = g .raw; band = g .band; threshold = g .threshold; scale = g .scale; shift = z; query = g .query }
+told Field.Band z g = record { window = g.window; width = g.width; merge = g.merge; series = g.series; raw = g.raw; band = z; threshold = g.threshold; scale = g.scale; shift = g.shift; query = g.query }
+told Field.Threshold z g = record { window = g.window; width = g.width; merge = g.merge; series = g.series; raw = g.raw; band = g.band; threshold = z; scale = g.scale; shift = g.shift; query = g.query }
+told Field.Scale z g = record { window = g.window; width = g.width; merge = g.merge; series = g.series; raw = g.raw; band = g.band; threshold = g.threshold; scale = z; shift = g.shift; query = g.query }
+told Field.Shift z g = record { window = g.window; width = g.width; merge = g.merge; series = g.series; raw = g.raw; band = g.band; threshold = g.threshold; scale = g.scale; shift = z; query = g.query }
 told Field.Asked z g = queryMore g (z ∷ [])
 told Field.Entry z g = seriesMore g (z ∷ [])
 
 -- a kind
 abbrev pub kindSaid : Bool → Said → Said
-kindSaid r g = record { window = g .window; width = g .width; merge = g .merge; series = g .series; raw = r; band = g .band; threshold = g .threshold; scale = g .scale; shift = g .shift; query = g .query }
+kindSaid r g = record { window = g.window; width = g.width; merge = g.merge; series = g.series; raw = r; band = g.band; threshold = g.threshold; scale = g.scale; shift = g.shift; query = g.query }
 
 -- a word
 abbrev pub named : Word → Said → Said
@@ -79,7 +79,7 @@ moved (Moved.Ended s w) g = some (at s (named w g))
 moved Moved.Refuse g = none
 
 unfoldable pub step : Reading → ℕ → Option Reading
-step x b = moved (lineStep (x .state) b) (x .said)
+step x b = moved (lineStep x.state b) x.said
 
 -- the program's lines, and a series line by itself
 abbrev pub programStart : Reading
@@ -91,7 +91,7 @@ seriesStart = at (State.In Word.Line 0) nothingSaid
 -- ---- the two forms
 
 abbrev pub seriesValue : Said → Value seriesForm
-seriesValue g = g .series
+seriesValue g = g.series
 
 abbrev pub programValue : Said → Value programForm
-programValue g = (g .window, (g .width, (g .merge, (g .series, (g .raw, (g .band, (g .threshold, (g .scale, (g .shift, g .query)))))))))
+programValue g = (g.window, (g.width, (g.merge, (g.series, (g.raw, (g.band, (g.threshold, (g.scale, (g.shift, g.query)))))))))

@@ -18,9 +18,9 @@ unfolding spellMany
 many-map one f [] = refl
 many-map one f (x ∷ l) = rw (many-map one f l)
 
-matches-said : (l : List (ℕ × ℕ)) → spellMany (spell atForm) (map (λ x. (pos (x .0), pos (x .1))) l) ≡ matchesText l
+matches-said : (l : List (ℕ × ℕ)) → spellMany (spell atForm) (map (λ x. (pos x.0, pos x.1)) l) ≡ matchesText l
 unfolding matchesText matchText
-matches-said l = many-map {B = ℤ × ℤ} (spell atForm) (λ x. (pos (x .0), pos (x .1))) l
+matches-said l = many-map {B = ℤ × ℤ} (spell atForm) (λ x. (pos x.0, pos x.1)) l
 
 -- the list's text is its counts, its matches and its end
 pub found-parts : (matches candidates : ℕ) (l : List (ℕ × ℕ))
@@ -57,18 +57,18 @@ matches-start old at count os ds n buf to e p = record { put = p; within = omega
 
 module _ {old : List ℕ} {at count : ℕ} {os ds : List ℕ} {n : ℕ} {buf : List ℕ} {to i : ℕ} (r : Matches old at count os ds n buf to i) where
   listed : length (take count (pairs os ds)) ≡ n
-  listed = simp length-take (omega (arith, pairs-length os ds, r .room))
+  listed = simp length-take (omega (arith, pairs-length os ds, r.room))
 
   pub matches-turn : i < n → {new : List ℕ} {next : ℕ} → Put buf to (spell atForm (pos (getD os i 0), pos (getD ds i 0))) new next → Matches old at count os ds n new next (i + 1)
   unfolding matchesText matchText
   matches-turn h p =
       let e : getD (take count (pairs os ds)) i (0, 0) ≡ (getD os i 0, getD ds i 0) =
-      getD-take count (pairs os ds) i (0, 0) (omega (arith, r .room)) ∙ pair-at os ds i (omega (arith, r .room)) (omega (arith, r .room)) in
+      getD-take count (pairs os ds) i (0, 0) (omega (arith, r.room)) ∙ pair-at os ds i (omega (arith, r.room)) (omega (arith, r.room)) in
       record {
-        put = rw (many-turn matchText (take count (pairs os ds)) (0, 0) i (omega (arith, listed)), e) (put-then (r .put) p);
+        put = rw (many-turn matchText (take count (pairs os ds)) (0, 0) i (omega (arith, listed)), e) (put-then r.put p);
         within = omega arith;
-        room = r .room;
+        room = r.room;
       }
 
   pub matches-end : n ≤ i → Put old at (matchesText (take count (pairs os ds))) buf to
-  matches-end h = let e : take i (take count (pairs os ds)) ≡ take count (pairs os ds) = take-all i _ (omega (arith, listed)) in rw e at (r .put)
+  matches-end h = let e : take i (take count (pairs os ds)) ≡ take count (pairs os ds) = take-all i _ (omega (arith, listed)) in rw e at r.put

@@ -1,8 +1,8 @@
 -- Laws of specs/Number.
 use Rattle.meaning_numbers.proofs.Prelude.{_≡_, refl, true, false, ℕ, suc, _-_, _<_, _≤_, _^_, arith, ltb, eqb, ℤ, ltb-true, ltb-false, lt-ltb, le-ltb}
 use Rattle.meaning_text.proofs.Reading.{on-flag, false-true}
-use Rattle.text_numbers.specs.{declared.Numeral.Numeral, declared.Taken.Taken, declared.Taken.the-variants.More, declared.Taken.the-variants.Stop, declared.Whole.Whole, declared.Whole.the-variants.Value, declared.Whole.the-variants.Partial, Number.within, Number.fitsBehind, Number.grown, Number.first, Number.numStep, Number.NumGood}
 use Rattle.text_numbers.specs.declared.Numeral.the-variants.{Start, Sign, Zero, Plus, Less}
+use Rattle.text_numbers.specs.{declared.Numeral.Numeral, declared.Taken.Taken, declared.Taken.the-variants.More, declared.Taken.the-variants.Stop, declared.Whole.Whole, declared.Whole.the-variants.Value, declared.Whole.the-variants.Partial, Number.within, Number.fitsBehind, Number.grown, Number.first, Number.numStep, Number.NumGood}
 
 -- ---- what the tests say
 
@@ -21,7 +21,7 @@ within-false lo hi b h = on-flag _ (λ e. absurd (h (within-true lo hi b e))) (�
 pub behind-true : (m b : ℕ) → fitsBehind m b ≡ true → (48 ≤ b) × (b ≤ 57) × (m < 100000000000000000)
 behind-true m b e =
     on-flag _
-    (λ t. let d = within-true 48 57 b t in (d .0, d .1, ltb-true m 100000000000000000 (rw t at e)))
+    (λ t. let d = within-true 48 57 b t in (d.0, d.1, ltb-true m 100000000000000000 (rw t at e)))
     (λ f. false-true (rw f at e))
 
 -- ---- a number of at most 18 digits stays one

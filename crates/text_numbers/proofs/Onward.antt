@@ -3,9 +3,9 @@ use Rattle.meaning_numbers.proofs.Prelude.{_≡_, refl, sym, _∙_, fun-ext, Li
 use Rattle.meaning_text.specs.Form.{number, thenRead, read}
 use Rattle.meaning_text.specs.Number.{bad, isDigit, readDigits, readPositive, withSign, readℤ}
 use Rattle.meaning_text.proofs.{Reading.on-flag, Reading.and-true, Reading.false-true, Number.is-digit, Onward.Rest, Onward.readThen}
-use Rattle.text_numbers.specs.{declared.Numeral.Numeral, declared.Taken.the-variants.More, declared.Taken.the-variants.Stop, declared.Whole.Whole, declared.Whole.the-variants.Value, declared.Whole.the-variants.Partial}
 use Rattle.text_numbers.specs.Number.{numStep, whole, within, grown, first, byTaken, byWhole}
 use Rattle.text_numbers.specs.declared.Numeral.the-variants.{Start, Sign, Zero, Plus, Less}
+use Rattle.text_numbers.specs.{declared.Numeral.Numeral, declared.Taken.the-variants.More, declared.Taken.the-variants.Stop, declared.Whole.Whole, declared.Whole.the-variants.Value, declared.Whole.the-variants.Partial}
 use Rattle.text_numbers.proofs.Number.{within-yes, within-false}
 
 -- on from a number that has ended, or a bad byte
@@ -39,19 +39,19 @@ left-one : (d : ℕ) → 0 < d → d < 10 → Left d 17
 left-one d h l = record { count = 0; all = refl; low = h; high = l }
 
 left-more : (m d k : ℕ) → d < 10 → Left m (suc k) → Left (10 * m + d) k
-left-more m d k l r = record { count = suc (r .count); all = omega arith; low = omega arith; high = omega arith }
+left-more m d k l r = record { count = suc r.count; all = omega arith; low = omega arith; high = omega arith }
 
 left-room : (m k : ℕ) → Left m (suc k) → m < 100000000000000000
-left-room m k r = omega (arith, r .high, pow-le-pow-right {n = 10} (omega arith) {i = suc (r .count)} {j = 17} (omega (arith, r .all)))
+left-room m k r = omega (arith, r.high, pow-le-pow-right {n = 10} (omega arith) {i = suc r.count} {j = 17} (omega (arith, r.all)))
 
 left-full : (m : ℕ) → Left m 0 → 100000000000000000 ≤ m
-left-full m r = let e : r .count ≡ 17 = omega (arith, r .all) in omega (arith, rw e at (r .low))
+left-full m r = let e : r.count ≡ 17 = omega (arith, r.all) in omega (arith, rw e at r.low)
 
 digit-within : (b : ℕ) → isDigit b ≡ true → within 48 57 b ≡ true
-digit-within b e = let h = is-digit b e in within-yes 48 57 b (h .0) (h .1)
+digit-within b e = let h = is-digit b e in within-yes 48 57 b h.0 h.1
 
 no-digit-within : (b : ℕ) → isDigit b ≡ false → within 48 57 b ≡ false
-no-digit-within b e = within-false 48 57 b (λ h. absurd (clash (rw (le-leb 48 b (h .0), le-leb b 57 (h .1)) at e)))
+no-digit-within b e = within-false 48 57 b (λ h. absurd (clash (rw (le-leb 48 b h.0, le-leb b 57 h.1) at e)))
   where
     clash : true ≡ false → ⊥
     clash e = false-true (sym e)
@@ -83,11 +83,11 @@ module _ {A : Type 0} (k : ℤ → Rest A) (f : ℕ → Numeral) (g : ℕ → �
     first-then b t e =
         on-flag _
         (λ h. let i = and-true _ _ h in
-        let d = is-digit b (i .0) in
-        let p : 48 < b = ltb-true 48 b (i .1) in
-        let q : first f b ≡ More (f (b - 48)) = rw (within-yes 49 57 b (omega arith) (d .1)) in
+        let d = is-digit b i.0 in
+        let p : 48 < b = ltb-true 48 b i.1 in
+        let q : first f b ≡ More (f (b - 48)) = rw (within-yes 49 57 b (omega arith) d.1) in
         rw (h, readPositive) (digits-then t _ 17 (left-one _ (omega arith) (omega arith)) ∙ sym (number-more k s b _ t (e ∙ q))))
-        (λ h. let q = within-false 49 57 b (λ d. true-false (rw (le-leb 48 b (omega arith), le-leb b 57 (d .1), lt-ltb 48 b (omega arith)) at h)) in
+        (λ h. let q = within-false 49 57 b (λ d. true-false (rw (le-leb 48 b (omega arith), le-leb b 57 d.1, lt-ltb 48 b (omega arith)) at h)) in
         rw (h, readPositive) (sym (number-stop k s b t (e ∙ rw q) ∙ rw partial)))
       where
         true-false : true ≡ false → ⊥

@@ -3,8 +3,8 @@ use Prim.Native.Nat.{ℕ, suc, _+_, _*_, _-_, _<_, _^_}
 use lib.Dec.{ltb, eqb}
 use lib.IntN.{ℤ, pos, negℤ}
 use mathlib.Core.Bool.{Bool, false, cond}
-use Rattle.text_numbers.specs.{declared.Numeral.Numeral, declared.Taken.Taken, declared.Taken.the-variants.More, declared.Taken.the-variants.Stop, declared.Whole.Whole, declared.Whole.the-variants.Value, declared.Whole.the-variants.Partial}
 use Rattle.text_numbers.specs.declared.Numeral.the-variants.{Start, Sign, Zero, Plus, Less}
+use Rattle.text_numbers.specs.{declared.Numeral.Numeral, declared.Taken.Taken, declared.Taken.the-variants.More, declared.Taken.the-variants.Stop, declared.Whole.Whole, declared.Whole.the-variants.Value, declared.Whole.the-variants.Partial}
 
 -- b lies from lo to hi
 abbrev pub within : ℕ → ℕ → ℕ → Bool

@@ -22,11 +22,11 @@ put-none old i j e = record { holds = refl; ends = omega arith }
 
 pub put-then : {a b c l m : List ℕ} {i j k : ℕ} → Put a i l b j → Put b j m c k → Put a i (l ++ m) c k
 put-then {a} {b} {c} {l} {m} {i} {j} {k} p q =
-    let len : length b ≡ length a = rw (p .holds) (length-sets a i l) in
+    let len : length b ≡ length a = rw p.holds (length-sets a i l) in
     let len2 = length-sets a i l in
     record {
-      holds = q .holds ∙ rw (p .holds, p .ends, ← len2) (sets-capped m _ _) ∙ sym (sets-append l m a i);
-      ends = q .ends ∙ rw (len, p .ends, length-append l m) (omega arith);
+      holds = q.holds ∙ rw (p.holds, p.ends, ← len2) (sets-capped m _ _) ∙ sym (sets-append l m a i);
+      ends = q.ends ∙ rw (len, p.ends, length-append l m) (omega arith);
     }
 
 -- a byte that there is no room for
@@ -37,7 +37,7 @@ put-out old i b h = record { holds = sym (set-out old i b h); ends = omega arith
 pub put-room : {old l new : List ℕ} {i j : ℕ} → Put old i l new j → j ≤ length old → (j ≡ i + length l) × (new ≡ take i old ++ l ++ drop (i + length l) old)
 put-room {old} {l} {new} {i} {j} p h =
     let e : j ≡ i + length l = omega arith in
-    (e, p .holds ∙ sets-eq l old i (omega arith))
+    (e, p.holds ∙ sets-eq l old i (omega arith))
 
 -- a loop's turn: one byte more of a word
 pub put-turn : {a b c : List ℕ} {i j k : ℕ} (word : List ℕ) (n : ℕ) → n < length word
@@ -48,8 +48,8 @@ pub put-all : {a b : List ℕ} {i j : ℕ} (word : List ℕ) (n : ℕ) → n ≡
 put-all word n e p = rw (e, take-length) at p
 
 pub put-length : {old l new : List ℕ} {i j : ℕ} → Put old i l new j → length new ≡ length old
-put-length {old} {l} {new} {i} p = rw (p .holds) (length-sets old i l)
+put-length {old} {l} {new} {i} p = rw p.holds (length-sets old i l)
 
 -- nothing more, behind what was put
 pub put-stays : {a b l : List ℕ} {i j : ℕ} → Put a i l b j → Put b j [] b j
-put-stays p = record { holds = refl; ends = omega (arith, p .ends, put-length p) }
+put-stays p = record { holds = refl; ends = omega (arith, p.ends, put-length p) }

@@ -49,7 +49,7 @@ module _ (text : List ℕ) (s₀ : State) (t₀ : Tally) (i₀ : ℕ) where
 
   module _ (s : State) (t : Tally) (i : ℕ) (r : Going s t i) (h : i < length text) where
     turn : (m : Moved) → indexStep s (getD text i 0) ≡ m → lineMoved m s t i (drop (suc i) text) ≡ whole
-    turn m e = sym (line-byte s t i _ _ m e) ∙ ap (lineFrom s t i) (sym (drop-cons text i 0 h)) ∙ r .same
+    turn m e = sym (line-byte s t i _ _ m e) ∙ ap (lineFrom s t i) (sym (drop-cons text i 0 h)) ∙ r.same
 
     next : (m : Moved) (n : State) (u : Tally) → indexStep s (getD text i 0) ≡ m → GoodState n → Fits u (i + 1) → lineMoved m s t i (drop (suc i) text) ≡ lineFrom n u (suc i) (drop (suc i) text) → Going n u (i + 1)
     next m n u e g f k =
@@ -57,10 +57,10 @@ module _ (text : List ℕ) (s₀ : State) (t₀ : Tally) (i₀ : ℕ) where
         record { good = g; fits = f; inside = omega arith; same = rw q (sym k ∙ turn m e) }
 
     going-to : (n : State) → indexStep s (getD text i 0) ≡ Moved.To n → Going n t (i + 1)
-    going-to n e = next _ n t e (step-good s _ _ (r .good) e) (same-fits t i (r .fits)) refl
+    going-to n e = next _ n t e (step-good s _ _ r.good e) (same-fits t i r.fits) refl
 
     going-value : (n : State) (q : Field) (z : ℤ) → indexStep s (getD text i 0) ≡ Moved.Value n q z → Going n (tellTally q z t) (i + 1)
-    going-value n q z e = next _ n _ e (step-good s _ _ (r .good) e) (tell-fits q z t i (r .fits)) refl
+    going-value n q z e = next _ n _ e (step-good s _ _ r.good e) (tell-fits q z t i r.fits) refl
 
     going-closed : (n : State) → indexStep s (getD text i 0) ≡ Moved.Closed n → record { state = n; at = i + 1; tally = shutTally t; row = rowMade t } ≡ whole
     going-closed n e = let q : i + 1 ≡ suc i = omega arith in rw q (turn (Moved.Closed n) e)
@@ -70,7 +70,7 @@ module _ (text : List ℕ) (s₀ : State) (t₀ : Tally) (i₀ : ℕ) where
 
   going-end : (s : State) (t : Tally) (i : ℕ) → Going s t i → length text ≤ i → lineEnd s i t ≡ whole
   unfolding lineFrom
-  going-end s t i r h = rw (drop-of-length-le text h) at (r .same)
+  going-end s t i r h = rw (drop-of-length-le text h) at r.same
 
   -- runs one after the other
   pub line-runs : {t u : Tally} {i j : ℕ} → RunsFrom tellTally text t i u j → Going atRuns t i → Going atRuns u j
@@ -81,22 +81,22 @@ module _ (text : List ℕ) (s₀ : State) (t₀ : Tally) (i₀ : ℕ) where
     quiet q = quiet-keeps tellTally text Going going-to going-value t q r
 
     pub line-run : {u : Tally} (l z j : ℕ) → EventAt text s i (Event.Run l z j) → u ≡ toldRun l z t → Going atRuns u j
-    line-run l z j e told = rw told (run-keeps tellTally text Going going-to going-value t (e .1) (rw (e .0) at r))
+    line-run l z j e told = rw told (run-keeps tellTally text Going going-to going-value t e.1 (rw e.0 at r))
 
     pub line-row : {u : Tally} (low up : ℤ) (l z j : ℕ) → EventAt text s i (Event.Row low up l z j) → u ≡ toldRun l z (tellTally Field.Up up (tellTally Field.Low low t)) → Going atRuns u j
-    line-row low up l z j e told = rw told (row-keeps tellTally text Going going-to going-value t (e .1) (rw (e .0) at r))
+    line-row low up l z j e told = rw told (row-keeps tellTally text Going going-to going-value t e.1 (rw e.0 at r))
 
     pub line-value : (n : State) (p : Field) (z : ℤ) (j : ℕ) → EventAt text s i (Event.Value n p z j) → Going n (tellTally p z t) j
     line-value n p z j e = value-keeps tellTally text Going going-to going-value t e r
 
     pub line-closed : (n : State) (j : ℕ) → EventAt text s i (Event.Closed n j) → record { state = n; at = j; tally = shutTally t; row = rowMade t } ≡ whole
-    line-closed n j e = rw (e .next) (going-closed (e .last) t _ (quiet (e .quiet)) (e .inside) n (e .ends))
+    line-closed n j e = rw e.next (going-closed e.last t _ (quiet e.quiet) e.inside n e.ends)
 
     pub line-refuse : (n : State) (j : ℕ) → EventAt text s i (Event.Refuse n j) → lineEnd n j t ≡ whole
-    line-refuse n j e = going-refuse n t j (quiet (e .0)) (e .1) (e .2)
+    line-refuse n j e = going-refuse n t j (quiet e.0) e.1 e.2
 
     pub line-stop : (n : State) (j : ℕ) → EventAt text s i (Event.End n j) → lineEnd n j t ≡ whole
-    line-stop n j e = going-end n t j (quiet (e .0)) (e .1)
+    line-stop n j e = going-end n t j (quiet e.0) e.1
 
 -- ---- reading on
 
@@ -117,7 +117,7 @@ ready-from n (b ∷ l) s t i h g f = subst (Ready n) (sym (line-byte s t i b l _
 
 pub next-ready : (text : List ℕ) (p : Line) → Ready (length text) p → Ready (length text) (nextLine text p)
 unfolding nextLine
-next-ready text p r = ready-from _ _ _ _ (p .at) (omega (arith, length-drop (p .at) text, r .inside)) (r .good) (r .fits)
+next-ready text p r = ready-from _ _ _ _ p.at (omega (arith, length-drop p.at text, r.inside)) r.good r.fits
 
 pub line-ready : (text : List ℕ) (k : ℕ) → Ready (length text) (lineAt text k)
 unfolding lineAt

@@ -9,7 +9,7 @@ use Rattle.text_rows.specs.declared.Line.{Line}
 
 -- the record of the row that is open: its runs begin where those of the rows before end
 unfoldable pub rowMade : Tally → Row
-rowMade t = record { low = t .row .low; up = t .row .up; first = min (t .rows .runs) 4294967295; runs = min (t .row .runs .count) 4294967295 }
+rowMade t = record { low = t.row.low; up = t.row.up; first = min t.rows.runs 4294967295; runs = min t.row.runs.count 4294967295 }
 
 -- no row was left
 abbrev pub lineEnd : State → ℕ → Tally → Line
@@ -34,7 +34,7 @@ rowFrom text i s t = lineFrom s t i (drop i text)
 
 -- a line read on from where it ended
 unfoldable pub nextLine : List ℕ → Line → Line
-nextLine text p = rowFrom text (p .at) (p .state) (p .tally)
+nextLine text p = rowFrom text p.at p.state p.tally
 
 -- after k rows
 unfoldable pub lineAt : List ℕ → ℕ → Line
@@ -48,6 +48,6 @@ stored text (suc n) rows = set (stored text n rows) n (lineAt text (suc n) .row)
 
 -- a line of a text of n bytes can be read on
 pub record Ready (n : ℕ) (p : Line) : Type 0 where
-  pub good : GoodState (p .state)
-  pub fits : Fits (p .tally) (p .at)
-  pub inside : p .at ≤ n
+  pub good : GoodState p.state
+  pub fits : Fits p.tally p.at
+  pub inside : p.at ≤ n

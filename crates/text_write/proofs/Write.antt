@@ -21,13 +21,13 @@ rowsText rows left right = spellMany (λ r. rowText r left right) rows
 
 -- ---- together
 
-rows-said : (rows : List Row) (x : Index) (left right : List ℕ) → x .runs ≡ entries left right → spellMany (spell rowForm) (map sayRow (map (rangeRow x) rows)) ≡ rowsText rows left right
+rows-said : (rows : List Row) (x : Index) (left right : List ℕ) → x.runs ≡ entries left right → spellMany (spell rowForm) (map sayRow (map (rangeRow x) rows)) ≡ rowsText rows left right
 unfolding rowsText rowText spellMany
 rows-said [] x left right e = refl
 rows-said (r ∷ rows) x left right e = rw (rows-said rows x left right e, e)
 
 -- the text of a lent index is its head, its rows and its end
-pub index-parts : (h : Head) (rows : List Row) (left right : List ℕ) → (headText (pos (h .window)) (pos (h .width)) (pos (h .windows)) ++ rowsText rows left right) ++ endText ≡ indexText (lent h rows left right)
+pub index-parts : (h : Head) (rows : List Row) (left right : List ℕ) → (headText (pos h.window) (pos h.width) (pos h.windows) ++ rowsText rows left right) ++ endText ≡ indexText (lent h rows left right)
 unfolding headText endText indexText sayIndex spell
 index-parts h rows left right = rw (rows-said rows (lent h rows left right) left right refl) (simp append-assoc)
 
@@ -95,7 +95,7 @@ runs-start old at first runs left right n buf to e p = record { put = p; within 
 
 module _ {old : List ℕ} {at first runs : ℕ} {left right : List ℕ} {n : ℕ} {buf : List ℕ} {to i : ℕ} (r : Runs old at first runs left right n buf to i) where
   pub runs-turn : i < n → {new : List ℕ} {next : ℕ} → Put buf to (spell runForm (pos (getD left (first + i) 0), pos (getD right (first + i) 0))) new next → Runs old at first runs left right n new next (i + 1)
-  runs-turn h p = record { put = rw (runs-more first runs left right n (r .room) i h) (put-then (r .put) p); within = omega arith; room = r .room }
+  runs-turn h p = record { put = rw (runs-more first runs left right n r.room i h) (put-then r.put p); within = omega arith; room = r.room }
 
   pub runs-end : n ≤ i → Put old at (runsText (partOf first runs left right)) buf to
-  runs-end h = rw (runs-all first runs left right n (r .room) i h) at (r .put)
+  runs-end h = rw (runs-all first runs left right n r.room i h) at r.put

@@ -23,4 +23,4 @@ unfoldable pub runsText : List Entry → List ℕ
 runsText l = spellMany (spell runForm) l
 
 unfoldable pub rowText : Row → List ℕ → List ℕ → List ℕ
-rowText r left right = spell rowForm (r .low, (r .up, partOf (r .first) (r .runs) left right))
+rowText r left right = spell rowForm (r.low, (r.up, partOf r.first r.runs left right))

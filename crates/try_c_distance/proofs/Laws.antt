@@ -12,9 +12,9 @@ module _ {A : Type 0} {x : A} {P : ℕ → A → Type 0} where
   pub written-more : {n : ℕ} {old new : List A} (v : A) → Written x P n old new → n < length old → P n v → Written x P (n + 1) old (set new n v)
   written-more {n} {old} {new} v w room h =
       let here : n < length new = omega arith in record {
-        long = length-set new n v ∙ w .long;
-        made = below-more _ n (λ j l. subst (P j) (sym (getD-set-other new n j v x (λ e. omega arith))) (w .made j l)) (subst (P n) (sym (getD-set-same new n v x here)) h);
-        rest = λ j l. getD-set-other new n j v x (λ e. omega arith) ∙ w .rest j (omega arith);
+        long = length-set new n v ∙ w.long;
+        made = below-more _ n (λ j l. subst (P j) (sym (getD-set-other new n j v x (λ e. omega arith))) (w.made j l)) (subst (P n) (sym (getD-set-same new n v x here)) h);
+        rest = λ j l. getD-set-other new n j v x (λ e. omega arith) ∙ w.rest j (omega arith);
       }
 
   pub written-all : {n k : ℕ} {old new : List A} → n ≡ k → Written x P n old new → Written x P k old new
@@ -37,10 +37,10 @@ normal-none s m l = record { last = λ j h. absurd (omega arith); none = λ f. r
 pub normal-next : {s : List ℤ} {m n : ℕ} {old mid new : List ℤ} → LastNormal s m n old mid → NormalRoom s m n mid new → LastNormal s m (n + 1) old new
 normal-next {s} {m} {n} a h = record {
   last = λ j l some flat. elim (decLt j n) [
-    | yes b ↦ rw (h .same (flat n b (omega arith))) (a .last j b some (λ k i o. flat k i (omega arith)))
-    | no f ↦ let e : j ≡ n = omega arith in rw e (h .made (rw e at some))
+    | yes b ↦ rw (h.same (flat n b (omega arith))) (a.last j b some (λ k i o. flat k i (omega arith)))
+    | no f ↦ let e : j ≡ n = omega arith in rw e (h.made (rw e at some))
   ];
-  none = λ flat. h .same (flat n (omega arith)) ∙ a .none (λ j l. flat j (omega arith));
+  none = λ flat. h.same (flat n (omega arith)) ∙ a.none (λ j l. flat j (omega arith));
 }
 
 pub normal-all : {s : List ℤ} {m n k : ℕ} {old new : List ℤ} → n ≡ k → LastNormal s m n old new → LastNormal s m k old new

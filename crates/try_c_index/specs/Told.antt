@@ -31,9 +31,9 @@ toldBuilt (Built.Refused number place) = numbersOf 3 number place
 -- the answer of a build is told, and its buffers are as it leaves them
 pub record BuildTold (c : BuildCall) (before : IndexBuffers) (answer : Answer) (after : IndexBuffers) : Type 0 where
   pub answered : answer ≡ toldBuilt (buildAnswer c before)
-  pub rows : after .rows ≡ buildAfter c before .rows
-  pub left : after .left ≡ buildAfter c before .left
-  pub right : after .right ≡ buildAfter c before .right
+  pub rows : after.rows ≡ buildAfter c before .rows
+  pub left : after.left ≡ buildAfter c before .left
+  pub right : after.right ≡ buildAfter c before .right
 
 -- of an extension, likewise
 unfoldable pub toldExtended : Extended → Answer
@@ -42,6 +42,6 @@ toldExtended (Extended.Refused number place) = numbersOf 3 number place
 
 pub record ExtendTold (c : ExtendCall) (before : IndexBuffers) (answer : Answer) (after : IndexBuffers) : Type 0 where
   pub answered : answer ≡ toldExtended (extendAnswer c before)
-  pub rows : after .rows ≡ extendAfter c before .rows
-  pub left : after .left ≡ extendAfter c before .left
-  pub right : after .right ≡ extendAfter c before .right
+  pub rows : after.rows ≡ extendAfter c before .rows
+  pub left : after.left ≡ extendAfter c before .left
+  pub right : after.right ≡ extendAfter c before .right

@@ -19,10 +19,10 @@ begun program = record { state = startOf program .state; at = 0; series = noValu
 
 -- p stands in a text of n bytes, and no count is above the bytes read
 pub record Stands (n : ℕ) (p : Progress) : Type 0 where
-  pub good : GoodState (p .state)
-  pub series : p .series .count ≤ p .at
-  pub query : p .query .count ≤ p .at
-  pub inside : p .at ≤ n
+  pub good : GoodState p.state
+  pub series : p.series.count ≤ p.at
+  pub query : p.query.count ≤ p.at
+  pub inside : p.at ≤ n
 
 -- the bytes to `end` were read, and the buffers have their lengths
 pub record Fed (text : List ℕ) (end : ℕ) (p : Progress) (r : Feeding) (numbers series query numbers' series' query' : List ℤ) : Type 0 where
@@ -30,4 +30,4 @@ pub record Fed (text : List ℕ) (end : ℕ) (p : Progress) (r : Feeding) (numbe
   pub alone : length numbers' ≡ length numbers
   pub first : length series' ≡ length series
   pub second : length query' ≡ length query
-  pub comes : (g : Said) (kept asked : List ℤ) → Takes p g kept asked (take (end - p .at) (drop (p .at) text)) numbers series query r numbers' series' query'
+  pub comes : (g : Said) (kept asked : List ℤ) → Takes p g kept asked (take (end - p.at) (drop p.at text)) numbers series query r numbers' series' query'

@@ -22,15 +22,15 @@ wrapped-small false d h = refl
 module _ {s q curve : List ℤ} (j : ℕ) (l : Limits) (h : AllIn s) (some : 0 < length q) (short : length q ≤ 1024) where
   -- the values of a query of this kind
   query-in : (kind : Kind) → IsCurve kind q curve → (k : ℕ) → k < length q → InLimits (curveOf kind (at q) (length q) k)
-  query-in kind c k b = rw (sym (c .same .at k b)) (c .inside .at k)
+  query-in kind c k b = rw (sym (c.same.at k b)) (c.inside.at k)
 
   pub told-wrapped : (kind : Kind) → IsCurve kind q curve → wrapped (matched kind (stretch s j) (at q) (length q) l) ≡ toldMatch (matched kind (stretch s j) (at q) (length q) l)
   unfolding matched matches distanceTo
-  told-wrapped Raw c = wrapped-small (matches Raw (stretch s j) (at q) (length q) l) _ (λ t. distance-small _ (at q) (l .band) _ some short (λ x u. h .at (j + x)) (query-in Raw c))
+  told-wrapped Raw c = wrapped-small (matches Raw (stretch s j) (at q) (length q) l) _ (λ t. distance-small _ (at q) l.band _ some short (λ x u. h.at (j + x)) (query-in Raw c))
   told-wrapped Normal c =
       wrapped-small (matches Normal (stretch s j) (at q) (length q) l) _
-      (λ t. let y = normal-yes (stretch s j) (at q) (length q) (l .band) (l .threshold) (l .scale) (l .shift) t in
-      distance-small _ _ (l .band) _ some short (λ x u. value-in (stretch s j) _ x (y .not-flat) u short) (query-in Normal c))
+      (λ t. let y = normal-yes (stretch s j) (at q) (length q) l.band l.threshold l.scale l.shift t in
+      distance-small _ _ l.band _ some short (λ x u. value-in (stretch s j) _ x y.not-flat u short) (query-in Normal c))
 
 pub of-kind : {k kind : Kind} {s q : List ℤ} {l : Limits} {b b' : MatchBuffers} {r : ℕ} → k ≡ kind → MatchesTold k s q l b r b' → MatchesTold kind s q l b r b'
 of-kind {s = s} {q} {l} {b} {b'} {r} e t = rw e at t

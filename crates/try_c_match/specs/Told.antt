@@ -52,24 +52,24 @@ pub record MatchBuffers : Type 0 where
   pub out : List ℕ
 
 pub record MatchesAsked (kind : Kind) (s q : List ℤ) (scale : ℕ) (b : MatchBuffers) : Type 0 where
-  pub curves : length (b .curve) ≡ length q
-  pub lows : length (b .low) ≡ length q
-  pub highs : length (b .high) ≡ length q
-  pub rooms : length (b .room) ≡ length q
-  pub rows : length q < length (b .row)
+  pub curves : length b.curve ≡ length q
+  pub lows : length b.low ≡ length q
+  pub highs : length b.high ≡ length q
+  pub rooms : length b.room ≡ length q
+  pub rows : length q < length b.row
   pub scales : scale ≤ greatestScale
-  pub fits : Fits s (length q) (length (b .out))
+  pub fits : Fits s (length q) (length b.out)
   pub values : AllIn q
   pub shape : CanPrepare kind q
 
 -- of room and row nothing is said: what they hold is free
 pub record MatchesDone (kind : Kind) (s q : List ℤ) (l : Limits) (b b' : MatchBuffers) : Type 0 where
   pub curve : IsCurve kind q (b' .curve)
-  pub envelopes : Envelopes (b' .curve) (length q) (l .band) (b' .low) (b' .high)
-  pub each : Written 0 (MatchAt kind s q l) (stretches s (length q)) (b .out) (b' .out)
+  pub envelopes : Envelopes (b' .curve) (length q) l.band (b' .low) (b' .high)
+  pub each : Written 0 (MatchAt kind s q l) (stretches s (length q)) b.out (b' .out)
 
 abbrev pub MatchesTold : Kind → (s q : List ℤ) → Limits → MatchBuffers → ℕ → MatchBuffers → Type 0
-MatchesTold kind s q l b r b' = Outcome (MatchesAsked kind s q (l .scale) b) (stretches s (length q)) 0 r (MatchesDone kind s q l b b') (b' ≡ b)
+MatchesTold kind s q l b r b' = Outcome (MatchesAsked kind s q l.scale b) (stretches s (length q)) 0 r (MatchesDone kind s q l b b') (b' ≡ b)
 
 abbrev pub SumAt : List ℤ → ℕ → ℕ → ℤ → Type 0
 SumAt s w j x = x ≡ windowSum s w j

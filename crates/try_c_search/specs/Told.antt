@@ -9,10 +9,10 @@ use Rattle.try_c_search.specs.{declared.Asked.Asked, declared.Answer.Ans
 
 -- 0: raw; any other number: normalised
 unfoldable pub kindOf : Asked → Kind
-kindOf a = elim (eqb (a .kind) 0) [ true ↦ Kind.Raw | false ↦ Kind.Normal ]
+kindOf a = elim (eqb a.kind 0) [ true ↦ Kind.Raw | false ↦ Kind.Normal ]
 
 abbrev pub limitsOf : Asked → Limits
-limitsOf a = record { band = a .band; threshold = a .threshold; scale = a .scale; shift = a .shift }
+limitsOf a = record { band = a.band; threshold = a.threshold; scale = a.scale; shift = a.shift }
 
 abbrev pub askOf : Asked → Ask
 askOf a = record { kind = kindOf a; limits = limitsOf a }
@@ -29,8 +29,8 @@ toldFound (Found.Refused number place) = numbersOf 3 number place
 -- the answer of a search is told, and its buffers are as it leaves them
 pub record SearchTold (c : SearchCall) (before : SearchBuffers) (answer : Answer) (after : SearchBuffers) : Type 0 where
   pub answered : answer ≡ toldFound (searchAnswer c before)
-  pub left : after .left ≡ searchAfter c before .left
-  pub right : after .right ≡ searchAfter c before .right
-  pub scratch : after .scratch ≡ searchAfter c before .scratch
-  pub offsets : after .offsets ≡ searchAfter c before .offsets
-  pub distances : after .distances ≡ searchAfter c before .distances
+  pub left : after.left ≡ searchAfter c before .left
+  pub right : after.right ≡ searchAfter c before .right
+  pub scratch : after.scratch ≡ searchAfter c before .scratch
+  pub offsets : after.offsets ≡ searchAfter c before .offsets
+  pub distances : after.distances ≡ searchAfter c before .distances

@@ -14,9 +14,9 @@ toldLoaded (Loaded.Refused number place) = numbersOf 3 number place
 -- the answer of a reading is told, and its buffers are as it leaves them
 pub record LoadTold (text : List ℕ) (before : IndexBuffers) (answer : Answer) (after : IndexBuffers) : Type 0 where
   pub answered : answer ≡ toldLoaded (loadAnswer text before)
-  pub rows : after .rows ≡ loadAfter text before .rows
-  pub left : after .left ≡ loadAfter text before .left
-  pub right : after .right ≡ loadAfter text before .right
+  pub rows : after.rows ≡ loadAfter text before .rows
+  pub left : after.left ≡ loadAfter text before .left
+  pub right : after.right ≡ loadAfter text before .right
 
 -- 0: the text's length; 3: the refusal's number and place
 unfoldable pub toldWritten : Written → Answer

@@ -1,7 +1,7 @@
 -- The sum of a window: from the sum of its raised values (`window-raised`), how large it gets (`window-small`), from the window before (`window-next`), and with its last or its first value apart (`window-last`, `but-last`, `but-first`).
 use Rattle.meaning_numbers.specs.Sum.{Σℕ, Σℤ}
-use Rattle.meaning_numbers.proofs.{Sum.Σℕ-le, Slide.Σℤ-slide}
 use Rattle.meaning_numbers.proofs.Prelude.{_≡_, List, ℕ, suc, _+_, _*_, _≤_, arith, ℤ, pos, _+ℤ_, _-ℤ_, w32, SFits, toZ, ofZ, up, dn, rep-self, rep-pos, rep-add, rep-sub, rep-eq, z-rep, z-add, z-eq}
+use Rattle.meaning_numbers.proofs.{Sum.Σℕ-le, Slide.Σℤ-slide}
 use Rattle.meaning_curves.specs.Curve.{at, stretch, windowSum}
 use Rattle.meaning_curves.proofs.Values.{AllIn}
 use Rattle.numbers.specs.Raised.{raised, raised-le}
@@ -16,7 +16,7 @@ module _ {s : List ℤ} (w j : ℕ) (h : AllIn s) where
   pub window-small : (up (windowSum s w j) ≤ dn (windowSum s w j) + 10000 * w) × (dn (windowSum s w j) ≤ up (windowSum s w j) + 10000 * w)
   unfolding windowSum
   window-small =
-      let few = Σℕ-le w 20000 (λ k. raised (stretch s j k)) (λ k l. raised-le (h .at (j + k))) in
+      let few = Σℕ-le w 20000 (λ k. raised (stretch s j k)) (λ k l. raised-le (h.at (j + k))) in
       (omega (arith, few, z-rep (sum-raised j w h)), omega (arith, few, z-rep (sum-raised j w h)))
 
 pub window-next : (s : List ℤ) (w j : ℕ) → windowSum s w (j + 1) +ℤ at s j ≡ windowSum s w j +ℤ at s (j + w)
@@ -33,16 +33,16 @@ module _ {s : List ℤ} {b : ℤ} (w j : ℕ) (h : AllIn s) (short : w ≤ 256) 
   below = omega (arith, window-small w j h)
 
   pub in-fits : SFits w32 (b +ℤ toZ w32 (ofZ w32 (at s i)))
-  in-fits = plus-fits is above below (h .at i)
+  in-fits = plus-fits is above below (h.at i)
 
   pub in-sum : toZ w32 (ofZ w32 (b +ℤ toZ w32 (ofZ w32 (at s i)))) ≡ windowSum s w j +ℤ at s i
-  in-sum = plus-back is above below (h .at i)
+  in-sum = plus-back is above below (h.at i)
 
   pub out-fits : SFits w32 (b -ℤ toZ w32 (ofZ w32 (at s i)))
-  out-fits = minus-fits is above below (h .at i)
+  out-fits = minus-fits is above below (h.at i)
 
   pub out-sum : toZ w32 (ofZ w32 (b -ℤ toZ w32 (ofZ w32 (at s i)))) ≡ windowSum s w j -ℤ at s i
-  out-sum = minus-back is above below (h .at i)
+  out-sum = minus-back is above below (h.at i)
 
 -- ---- a window with its last or its first value apart
 

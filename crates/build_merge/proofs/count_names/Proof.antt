@@ -1,42 +1,42 @@
--- `count_names` meets its contract. The invariant: k of the first t names are in the range.
+-- `count_names`. The invariant: k of the first t names are in the range.
 use Rattle.meaning_numbers.specs.Sum.{count}
 use Rattle.meaning_numbers.proofs.Count.{count-none, count-more, bit-true, bit-false}
 use Rattle.meaning_numbers.proofs.Prelude.{_≡_, sym, ap, _∙_, ℕ, _+_, _-_, _≤_, arith, needs}
 use Rattle.build_merge.specs.Names.{namesOf}
-use Rattle.build_merge.proofs.count_names.Statement.{statement}
-use Rattle.build_merge.proofs.count_names.Tie as tie
+use Rattle.build_merge.proofs.count_names as own
+use own.Tie as tie
 
-abbrev Inv-loop : tie.InvT-loop
-Inv-loop names first n lo hi k₀ t₀ k t = (k ≤ t) × (t ≤ n) × (k ≡ count (namesOf names first lo hi) t)
+abbrev Inv : tie.InvT-loop
+Inv names first n lo hi k₀ t₀ k t = (k ≤ t) × (t ≤ n) × (k ≡ count (namesOf names first lo hi) t)
 
-abbrev μ-loop : tie.MeasureT-loop
-μ-loop names first n lo hi k₀ t₀ k t = n - t
+abbrev μ : tie.MeasureT-loop
+μ names first n lo hi k₀ t₀ k t = n - t
 
-loop-again : tie.Need-loop-again Inv-loop μ-loop
+loop-again : tie.Need-loop-again Inv μ
 unfolding namesOf
 loop-again c =
-    let l = c .before .before .before .before in
-    let a = l .before .before .args in
-    let p = namesOf (a .names .now) (a .first) (a .lo) (a .hi) in
-    (omega arith, omega arith, ap (λ (x : ℕ). x + 1) (l .loop .inv .2) ∙ sym (count-more p _ ∙ rw (bit-true (sym (c .before .in-range .ensures) ∙ c .if1 .taken))))
+    let l = c.before.before.before.before in
+    let a = l.before.before.args in
+    let p = namesOf a.names.now a.first a.lo a.hi in
+    (omega arith, omega arith, ap (λ (x : ℕ). x + 1) l.loop.inv.2 ∙ sym (count-more p _ ∙ rw (bit-true (sym c.before.in-range.ensures ∙ c.if1.taken))))
 
-loop-again-2 : tie.Need-loop-again-2 Inv-loop μ-loop
+loop-again-2 : tie.Need-loop-again-2 Inv μ
 unfolding namesOf
 loop-again-2 c =
-    let l = c .before .before .before .before in
-    let a = l .before .before .args in
-    let p = namesOf (a .names .now) (a .first) (a .lo) (a .hi) in
-    (omega arith, omega arith, omega (arith, l .loop .inv .2, count-more p (l .loop .t), bit-false (sym (c .before .in-range .ensures) ∙ c .if1 .left)))
+    let l = c.before.before.before.before in
+    let a = l.before.before.args in
+    let p = namesOf a.names.now a.first a.lo a.hi in
+    (omega arith, omega arith, omega (arith, l.loop.inv.2, count-more p l.loop.t, bit-false (sym c.before.in-range.ensures ∙ c.if1.left)))
 
-returns : tie.Need-returns Inv-loop μ-loop
+returns : tie.Need-returns Inv μ
 returns c =
-    let l = c .before in
-    let a = l .before .before .args in
-    let e : l .loop .t ≡ a .n = omega arith in
-    (rw e at (l .loop .inv .2), omega arith)
+    let l = c.before in
+    let a = l.before.before.args in
+    let e : l.loop.t ≡ a.n = omega arith in
+    (rw e at l.loop.inv.2, omega arith)
 
-pub count-names-spec : {M : Type 1} → statement M
+pub count-names-spec : {M : Type 1} → own.Statement.statement M
 count-names-spec =
-    tie.close (tie.spec Inv-loop μ-loop (λ c. (omega arith, omega arith, sym (count-none _))) (λ c. search needs) (λ c. search needs) (λ c. search needs)
-    (λ c. omega (arith, c .shared-slice-known2 .given (c .before .before .before .before .args .first + c .before .before .loop .t))) (λ c κs. search needs) (λ c. omega arith) (λ c. omega arith)
+    tie.close (tie.spec Inv μ (λ c. (omega arith, omega arith, sym (count-none _))) (λ c. search needs) (λ c. search needs) (λ c. search needs)
+    (λ c. omega (arith, c.shared-slice-known2.given (c.before.before.before.before.args.first + c.before.before.loop.t))) (λ c κs. search needs) (λ c. omega arith) (λ c. omega arith)
     (λ c. omega arith) loop-again (λ c. omega arith) (λ c. omega arith) loop-again-2 returns)

@@ -1,26 +1,27 @@
--- `run_end` meets its contract: the ends of the range are read back as they were passed.
+-- `run_end`: the ends of the range are read back as they were passed.
 use Rattle.meaning_numbers.proofs.Prelude.{needs, _≡_, sym, subst, _<_, _^_, ℤ, mag, w32, toZ, ofZ, toZ-ofZ}
 use Rattle.build_names.specs.Ranges.{Limited}
-use Rattle.build_names.proofs.{Ranges.limited-asks, run_end.Statement.statement}
-use Rattle.build_names.proofs.run_end.Tie as tie
+use Rattle.build_names.proofs as own
+use own.Ranges.{limited-asks}
+use own.run_end.Tie as tie
 
 back : (z : ℤ) → mag z < 2 ^ 31 → toZ w32 (ofZ w32 z) ≡ z
 back z h = toZ-ofZ w32 z (record { sfits = h })
 
-low-back : (c : tie.After-struct-told) → toZ w32 (ofZ w32 (c .before .args .r .low)) ≡ c .before .args .r .low
-low-back c = back _ (c .struct-told .given .0 .1)
+low-back : (c : tie.After-struct-told) → toZ w32 (ofZ w32 c.before.args.r.low) ≡ c.before.args.r.low
+low-back c = back _ c.struct-told.given.0.1
 
-up-back : (c : tie.After-struct-told2) → toZ w32 (ofZ w32 (c .before .before .args .r .up)) ≡ c .before .before .args .r .up
-up-back c = back _ (c .struct-told2 .given .1 .0 .1)
+up-back : (c : tie.After-struct-told2) → toZ w32 (ofZ w32 c.before.before.args.r.up) ≡ c.before.before.args.r.up
+up-back c = back _ c.struct-told2.given.1.0.1
 
 low-asks : tie.Need-raise-end-requires
-low-asks c u = let o = c .before .before in (search needs, limited-asks (subst Limited (sym (low-back (c .before))) (o .pre .3 .low-end)))
+low-asks c u = let o = c.before.before in (search needs, limited-asks (subst Limited (sym (low-back c.before)) o.pre.3.low-end))
 
 up-asks : tie.Need-raise-end-requires-2
-up-asks c u = let o = c .before .before .before in (search needs, limited-asks (subst Limited (sym (up-back (c .before))) (o .pre .3 .up-end)))
+up-asks c u = let o = c.before.before.before in (search needs, limited-asks (subst Limited (sym (up-back c.before)) o.pre.3.up-end))
 
 returns : tie.Need-returns
-returns c = rw (c .before .before .raise-end .ensures, c .before .raise-end2 .ensures, low-back _, up-back _) at (c .next-out .ensures)
+returns c = rw (c.before.before.raise-end.ensures, c.before.raise-end2.ensures, low-back _, up-back _) at c.next-out.ensures
 
-pub run-end-spec : {M : Type 1} → statement M
-run-end-spec = tie.close (tie.spec (λ c. search needs) (λ c. search needs) low-asks up-asks (λ c κs. let o = c .before .before .before .before in (o .pre .0, (o .pre .1, o .pre .2))) returns)
+pub run-end-spec : {M : Type 1} → own.run_end.Statement.statement M
+run-end-spec = tie.close (tie.spec (λ c. search needs) (λ c. search needs) low-asks up-asks (λ c κs. let o = c.before.before.before.before in (o.pre.0, (o.pre.1, o.pre.2))) returns)

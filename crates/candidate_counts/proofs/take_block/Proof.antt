@@ -1,11 +1,12 @@
--- `take_block` meets its contract: a block of which none stands is passed over (`took-none`).
+-- `take_block`: a block of which none stands is passed over (`took-none`).
 use Rattle.meaning_numbers.proofs.Prelude.{needs, arith}
-use Rattle.candidate_counts.proofs.{Take.took-none, take_block.Statement.statement}
-use Rattle.candidate_counts.proofs.take_block.Tie as tie
+use Rattle.candidate_counts.proofs as own
+use own.Take.{took-none}
+use own.take_block.Tie as tie
 
 returns : tie.Need-returns
 returns c =
     took-none _ _ 64 _ _ _ (omega arith) (omega arith)
 
-pub take-block-spec : {M : Type 1} → statement M
+pub take-block-spec : {M : Type 1} → own.take_block.Statement.statement M
 take-block-spec = tie.close (tie.spec (λ c κs. (search needs, omega arith)) returns (λ c κs. search needs) (λ c. search needs) (λ c. search needs) (λ c. search needs))

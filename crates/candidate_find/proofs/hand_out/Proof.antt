@@ -1,30 +1,30 @@
--- `hand_out` meets its contract: the counts are raised, and the candidates collected.
+-- `hand_out`: the counts are raised, and the candidates collected.
 use borrow.Author.Needs.{needs}
 use mathlib.Core.Path.{_∙_}
 use Rattle.meaning_entries.specs.Buffers.{filled}
 use Rattle.clear.specs.Clear.{clearedFrom}
 use Rattle.candidate_met.proofs.Meaning.{cleared-same}
-use Rattle.candidate_find.proofs.hand_out.Statement.{statement}
-use Rattle.candidate_find.proofs.hand_out.Tie as tie
+use Rattle.candidate_find.proofs.hand_out as own
+use own.Tie as tie
 
 raise-stretches-requires : tie.Need-raise-stretches-requires
 unfolding filled clearedFrom
-raise-stretches-requires c κs = rw (c .before .before .before .before .before .clear-u16 .ensures) (c .before .before .before .before .before .before .before .before .before .before .before .before .before .pre .stretches)
+raise-stretches-requires c κs = rw c.before.before.before.before.before.clear-u16.ensures c.before.before.before.before.before.before.before.before.before.before.before.before.before.pre.stretches
 
 returns : tie.Need-returns
 returns c =
-    let collected = c .before .before .before .before .before .before .before in
-    let raised = collected .before .before .before .before .before .before in
-    let told = c .tell-sought .ensures in
+    let collected = c.before.before.before.before.before.before.before in
+    let raised = collected.before.before.before.before.before.before in
+    let told = c.tell-sought.ensures in
     record {
-      counts = raised .raise-stretches .last .0;
+      counts = raised.raise-stretches.last.0;
       goes-on = rw told;
-      counted = raised .raise-stretches .ensures;
-      handed = rw told (collected .collect .ensures .0);
-      cleared = collected .collect .ensures .1 ∙ cleared-same _ _ (search needs);
+      counted = raised.raise-stretches.ensures;
+      handed = rw told collected.collect.ensures.0;
+      cleared = collected.collect.ensures.1 ∙ cleared-same _ _ (search needs);
     }
 
-pub hand-out-spec : {M : Type 1} → statement M
+pub hand-out-spec : {M : Type 1} → own.Statement.statement M
 hand-out-spec =
     tie.close (tie.spec (λ c. search needs) (λ c. search needs) (λ c. search needs) (λ c. search needs) (λ c κs. search needs) raise-stretches-requires (λ c. search needs) (λ c κs. search needs)
     (λ c κs. search needs) (λ c. search needs) (λ c. search needs) (λ c. search needs) returns)

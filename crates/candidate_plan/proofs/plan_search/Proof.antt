@@ -1,33 +1,34 @@
--- `plan_search` meets its contract: the input, then the state.
+-- `plan_search`: the input, then the state.
 use Rattle.meaning_numbers.proofs.Prelude.{needs, ap, _∙_, List, ℕ, min}
 use Rattle.meaning_entries.specs.Refusal.{Condition}
 use Rattle.refusals.specs.Refusal.{refusalOf, passes}
 use Rattle.refusals.proofs.RefusalLaws.{part-refuses, part-passes}
 use Rattle.candidate_plan.specs.Tables.{inputTable, stateTable, planOf}
-use Rattle.candidate_plan.proofs.{Cases.input-lacks, plan_search.Statement.statement}
-use Rattle.candidate_plan.proofs.plan_search.Tie as tie
+use Rattle.candidate_plan.proofs as own
+use own.Cases.{input-lacks}
+use own.plan_search.Tie as tie
 
 -- the parts of the table
 module _ (o : tie.Start) where
   abbrev input : List Condition
-  input = inputTable (o .args .s .now) (o .args .q .now) (o .args .head .window) (o .args .ask)
+  input = inputTable o.args.s.now o.args.q.now o.args.head.window o.args.ask
 
   abbrev state : ℕ → List Condition
-  state candidates = stateTable (o .args .s .now) (o .args .head) (o .args .j) candidates (o .args .scratch)
+  state candidates = stateTable o.args.s.now o.args.head o.args.j candidates o.args.scratch
 
 returns : tie.Need-returns
 unfolding planOf
-returns c = let v = c .before .before in let o = v .before in part-refuses (input o) (state o (min (o .args .left) (o .args .right))) (v .refuse-input .ensures) (c .if1 .taken)
+returns c = let v = c.before.before in let o = v.before in part-refuses (input o) (state o (min o.args.left o.args.right)) v.refuse-input.ensures c.if1.taken
 
 returns-2 : tie.Need-returns-2
 unfolding planOf
 returns-2 c =
-    let e = c .before .before in
-    let v = e .before .before in
-    let o = v .before in
-    let a = o .args in
-    part-passes (state o (min (a .left) (a .right))) (passes (input o) (input-lacks (a .s .now) (a .q .now) (a .head .window) (a .ask)) (v .refuse-input .ensures) (e .if1 .left))
-    (c .refuse-state .ensures ∙ ap (λ (n : ℕ). refusalOf (state o n)) (c .before .lesser .ensures))
+    let e = c.before.before in
+    let v = e.before.before in
+    let o = v.before in
+    let a = o.args in
+    part-passes (state o (min a.left a.right)) (passes (input o) (input-lacks a.s.now a.q.now a.head.window a.ask) v.refuse-input.ensures e.if1.left)
+    (c.refuse-state.ensures ∙ ap (λ (n : ℕ). refusalOf (state o n)) c.before.lesser.ensures)
 
-pub plan-search-spec : {M : Type 1} → statement M
+pub plan-search-spec : {M : Type 1} → own.plan_search.Statement.statement M
 plan-search-spec = tie.close (tie.spec (λ c κs. search needs) returns (λ c κs. search needs) (λ c κs. search needs) returns-2)

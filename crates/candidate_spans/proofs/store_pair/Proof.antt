@@ -1,10 +1,11 @@
--- `store_pair` meets its contract (`stored`).
+-- `store_pair` (`stored`).
 use Rattle.meaning_numbers.proofs.Prelude.{needs}
-use Rattle.candidate_spans.proofs.{Held.stored, store_pair.Statement.statement}
-use Rattle.candidate_spans.proofs.store_pair.Tie as tie
+use Rattle.candidate_spans.proofs as own
+use own.Held.{stored}
+use own.store_pair.Tie as tie
 
 returns : tie.Need-returns
-returns c = let o = c in stored _ _ _ _ _ (o .pre .0) (o .pre .1)
+returns c = let o = c in stored _ _ _ _ _ o.pre.0 o.pre.1
 
-pub store-pair-spec : {M : Type 1} → statement M
+pub store-pair-spec : {M : Type 1} → own.store_pair.Statement.statement M
 store-pair-spec = tie.close (tie.spec (λ c. search needs) (λ c. search needs) (λ c. search needs) (λ c. search needs) (λ c. search needs) (λ c. search needs) returns)

@@ -1,22 +1,23 @@
--- `answer` meets its contract (`answer-all`, `answer-full`).
+-- `answer` (`answer-all`, `answer-full`).
 use borrow.Author.Needs.{needs}
 use mathlib.Core.Path.{ap, _∙_}
 use native.Mathlib.Omega.{arith}
 use Rattle.check_answer.specs.Answer.{answerOf}
-use Rattle.check_answer.proofs.{AnswerLaws.answer-all, AnswerLaws.answer-full, answer.Statement.statement}
-use Rattle.check_answer.proofs.answer.Tie as tie
+use Rattle.check_answer.proofs as own
+use own.AnswerLaws.{answer-all, answer-full}
+use own.answer.Tie as tie
 
 returns : tie.Need-returns
 returns c =
-    let l = c .before in
-    let a = l .before .args in
-    answer-all (a .candidates) (a .matches) (l .lesser .result) (omega (arith, c .if1 .taken)) ∙ ap (answerOf (a .candidates) (a .matches)) (l .lesser .ensures)
+    let l = c.before in
+    let a = l.before.args in
+    answer-all a.candidates a.matches l.lesser.result (omega (arith, c.if1.taken)) ∙ ap (answerOf a.candidates a.matches) l.lesser.ensures
 
 returns-2 : tie.Need-returns-2
 returns-2 c =
-    let l = c .before in
-    let a = l .before .args in
-    answer-full (a .candidates) (a .matches) (l .lesser .result) (omega (arith, c .if1 .left)) ∙ ap (answerOf (a .candidates) (a .matches)) (l .lesser .ensures)
+    let l = c.before in
+    let a = l.before.args in
+    answer-full a.candidates a.matches l.lesser.result (omega (arith, c.if1.left)) ∙ ap (answerOf a.candidates a.matches) l.lesser.ensures
 
-pub answer-spec : {M : Type 1} → statement M
+pub answer-spec : {M : Type 1} → own.answer.Statement.statement M
 answer-spec = tie.close (tie.spec (λ c κs. search needs) returns returns-2)

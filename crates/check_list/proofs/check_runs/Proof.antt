@@ -1,21 +1,22 @@
--- `check_runs` meets its contract: the list is filled (`list-filled`).
+-- `check_runs`: the list is filled (`list-filled`).
 use Rattle.meaning_numbers.proofs.Prelude.{needs}
-use Rattle.check_list.proofs.{Listed.list-filled, check_runs.Statement.statement}
-use Rattle.check_list.proofs.check_runs.Tie as tie
+use Rattle.check_list.proofs as own
+use own.Listed.{list-filled}
+use own.check_runs.Tie as tie
 
 check-each-requires : tie.Need-check-each-requires
 check-each-requires c κs =
-    let p = c .before .before .before .before .before .before .before .before .pre in
-    (p .0, ((search needs, search needs), p .1))
+    let p = c.before.before.before.before.before.before.before.before.pre in
+    (p.0, ((search needs, search needs), p.1))
 
 returns : tie.Need-returns
 returns c =
-    let o = c .before .before .before .before .before .before in
-    let m = o .before .before in
-    let e = m .before .before .before .before .before .before .before .before in
-    list-filled (e .check-each .ensures) (m .lesser2 .ensures) (m .before .lesser .ensures) (o .clear-u32 .ensures) (c .before .before .clear-u64 .ensures)
+    let o = c.before.before.before.before.before.before in
+    let m = o.before.before in
+    let e = m.before.before.before.before.before.before.before.before in
+    list-filled e.check-each.ensures m.lesser2.ensures m.before.lesser.ensures o.clear-u32.ensures c.before.before.clear-u64.ensures
 
-pub check-runs-spec : {M : Type 1} → statement M
+pub check-runs-spec : {M : Type 1} → own.check_runs.Statement.statement M
 check-runs-spec =
     tie.close (tie.spec (λ c. search needs) (λ c. search needs) (λ c. search needs) (λ c. search needs) check-each-requires (λ c κs. search needs) (λ c κs. search needs) (λ c κs. search needs)
     (λ c κs. search needs) (λ c. search needs) (λ c. search needs) returns)

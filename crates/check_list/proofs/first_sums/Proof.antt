@@ -1,7 +1,8 @@
--- `first_sums` meets its contract: a raw query asks for no sums (`raw-sums`).
+-- `first_sums`: a raw query asks for no sums (`raw-sums`).
 use Rattle.meaning_numbers.proofs.Prelude.{needs}
-use Rattle.check_list.proofs.{Found.raw-sums, first_sums.Statement.statement}
-use Rattle.check_list.proofs.first_sums.Tie as tie
+use Rattle.check_list.proofs as own
+use own.Found.{raw-sums}
+use own.first_sums.Tie as tie
 
-pub first-sums-spec : {M : Type 1} → statement M
-first-sums-spec = tie.close (tie.spec (λ c. search needs) (λ c. search needs) (λ c κs. search needs) (λ c. raw-sums (c .enum-told .given .1)) (λ c. search needs))
+pub first-sums-spec : {M : Type 1} → own.first_sums.Statement.statement M
+first-sums-spec = tie.close (tie.spec (λ c. search needs) (λ c. search needs) (λ c κs. search needs) (λ c. raw-sums c.enum-told.given.1) (λ c. search needs))

@@ -1,16 +1,17 @@
--- `list_match` meets its contract, by what the test says.
+-- `list_match`, by what the test says.
 use Rattle.meaning_numbers.proofs.Prelude.{needs}
-use Rattle.check_list.proofs.{Found.no-entries, Found.one-entry, Listed.list-none, list_match.Statement.statement}
-use Rattle.check_list.proofs.list_match.Tie as tie
+use Rattle.check_list.proofs as own
+use own.{Found.no-entries, Found.one-entry, Listed.list-none}
+use own.list_match.Tie as tie
 
 returns : tie.Need-returns
-returns c = let a = c .before .before .before .before .args in rw (no-entries (a .j) (c .enum-told .given .1)) (list-none (a .k) _ _)
+returns c = let a = c.before.before.before.before.args in rw (no-entries a.j c.enum-told.given.1) (list-none a.k _ _)
 
 returns-2 : tie.Need-returns-2
 returns-2 c =
-    let p = c .before .before .before .before in
-    let a = p .before .before .before .before .before .before .before .before .args in
-    rw (one-entry (a .j) (p .before .before .before .before .tested .given .1)) (p .put-entry .ensures)
+    let p = c.before.before.before.before in
+    let a = p.before.before.before.before.before.before.before.before.args in
+    rw (one-entry a.j p.before.before.before.before.tested.given.1) p.put-entry.ensures
 
-pub list-match-spec : {M : Type 1} → statement M
+pub list-match-spec : {M : Type 1} → own.list_match.Statement.statement M
 list-match-spec = tie.close (tie.spec (λ c. search needs) (λ c. search needs) (λ c κs. search needs) (λ c. search needs) returns (λ c. search needs) (λ c. search needs) returns-2)

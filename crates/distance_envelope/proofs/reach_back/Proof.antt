@@ -1,22 +1,23 @@
--- `reach_back` meets its contract. The invariant: each value is the best of n places back and itself (`Back`).
+-- `reach_back`. The invariant: each value is the best of n places back and itself (`Back`).
 use Rattle.meaning_numbers.proofs.Prelude.{needs, _≡_, _-_, _≤_, arith}
 use Rattle.distance_envelope.specs.Pass.{Back}
-use Rattle.distance_envelope.proofs.{Pass.back-none, Pass.back-pass, reach_back.Statement.statement}
-use Rattle.distance_envelope.proofs.reach_back.Tie as tie
+use Rattle.distance_envelope.proofs as own
+use own.Pass.{back-none, back-pass}
+use own.reach_back.Tie as tie
 
-abbrev Inv-loop : tie.InvT-loop
-Inv-loop out₀ b low n₀ out n = (n ≤ b) × Back low n out₀ out
+abbrev Inv : tie.InvT-loop
+Inv out₀ b low n₀ out n = (n ≤ b) × Back low n out₀ out
 
-abbrev μ-loop : tie.MeasureT-loop
-μ-loop out₀ b low n₀ out n = b - n
+abbrev μ : tie.MeasureT-loop
+μ out₀ b low n₀ out n = b - n
 
-loop-again : tie.Need-loop-again Inv-loop μ-loop
-loop-again c = (omega arith, back-pass (c .before .before .before .before .before .loop .inv .1) (c .before .pass-back .ensures) (omega arith))
+loop-again : tie.Need-loop-again Inv μ
+loop-again c = (omega arith, back-pass c.before.before.before.before.before.loop.inv.1 c.before.pass-back.ensures (omega arith))
 
-returns : tie.Need-returns Inv-loop μ-loop
-returns c = let e : c .before .loop .n ≡ c .before .before .args .b = omega arith in rw e at (c .before .loop .inv .1)
+returns : tie.Need-returns Inv μ
+returns c = let e : c.before.loop.n ≡ c.before.before.args.b = omega arith in rw e at c.before.loop.inv.1
 
-pub reach-back-spec : {M : Type 1} → statement M
+pub reach-back-spec : {M : Type 1} → own.reach_back.Statement.statement M
 reach-back-spec =
-    tie.close (tie.spec Inv-loop μ-loop (λ c. (omega arith, back-none _ _)) (λ c κs. omega arith) (λ c κs. search needs) (λ c. omega arith) (λ c. omega arith) loop-again
+    tie.close (tie.spec Inv μ (λ c. (omega arith, back-none _ _)) (λ c κs. omega arith) (λ c κs. search needs) (λ c. omega arith) (λ c. omega arith) loop-again
     (λ c. search needs) returns)

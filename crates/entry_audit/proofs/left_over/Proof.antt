@@ -1,11 +1,11 @@
--- `left_over` meets its contract, by what judging said.
+-- `left_over`, by what judging said.
 use Rattle.meaning_numbers.proofs.Prelude.{needs, sym, ap, _∙_}
 use Rattle.entry_audit.specs.Plan.{leftOver}
-use Rattle.entry_audit.proofs.left_over.Statement.{statement}
-use Rattle.entry_audit.proofs.left_over.Tie as tie
+use Rattle.entry_audit.proofs.left_over as own
+use own.Tie as tie
 
 returns : tie.Need-returns
-returns c = let j = c .before .before .before in c .monus .ensures ∙ sym (ap (leftOver _) (j .j .given .1))
+returns c = let j = c.before.before.before in c.monus.ensures ∙ sym (ap (leftOver _) j.j.given.1)
 
-pub left-over-spec : {M : Type 1} → statement M
+pub left-over-spec : {M : Type 1} → own.Statement.statement M
 left-over-spec = tie.close (tie.spec (search needs) (search needs) (search needs) (search needs) returns (λ c. search needs))

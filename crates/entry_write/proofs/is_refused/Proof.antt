@@ -1,8 +1,8 @@
--- `is_refused` meets its contract. By cases.
+-- `is_refused`. By cases.
 use Rattle.meaning_numbers.proofs.Prelude.{needs}
 use Rattle.entry_write.specs.Answer.{isRefused}
-use Rattle.entry_write.proofs.is_refused.Statement.{statement}
-use Rattle.entry_write.proofs.is_refused.Tie as tie
+use Rattle.entry_write.proofs.is_refused as own
+use own.Tie as tie
 
 returns : tie.Need-returns
 unfolding isRefused
@@ -12,5 +12,5 @@ returns-2 : tie.Need-returns-2
 unfolding isRefused
 returns-2 c = search needs
 
-pub is-refused-spec : {M : Type 1} → statement M
+pub is-refused-spec : {M : Type 1} → own.Statement.statement M
 is-refused-spec = tie.close (tie.spec (λ c. search needs) (λ c. search needs) returns returns-2)

@@ -1,8 +1,9 @@
--- `spell_head` meets its contract. By the flag: written, or counted.
+-- `spell_head`. By the flag: written, or counted.
 use Rattle.meaning_numbers.proofs.Prelude.{needs}
-use Rattle.entry_write.proofs.{Spell.spelled-stored, spell_head.Statement.statement}
-use Rattle.entry_write.proofs.spell_head.Tie as tie
+use Rattle.entry_write.proofs as own
+use own.Spell.{spelled-stored}
+use own.spell_head.Tie as tie
 
-pub spell-head-spec : {M : Type 1} → statement M
+pub spell-head-spec : {M : Type 1} → own.spell_head.Statement.statement M
 spell-head-spec =
-    tie.close (tie.spec (λ c κs. search needs) (λ c. search needs) (λ c. spelled-stored (c .before .before .before .before .if1 .taken) (c .before .before .write-head .ensures)) (λ c κs. search needs) (λ c. search needs))
+    tie.close (tie.spec (λ c κs. search needs) (λ c. search needs) (λ c. spelled-stored c.before.before.before.before.if1.taken c.before.before.write-head.ensures) (λ c κs. search needs) (λ c. search needs))

@@ -2,8 +2,8 @@
 use borrow.Author.Needs.{needs}
 use lib.ListN.{length-take}
 use native.Mathlib.Omega.{arith}
-use Rattle.find.proofs.print_first.Statement.{statement}
-use Rattle.find.proofs.print_first.Tie as tie
+use Rattle.find.proofs.print_first as own
+use own.Tie as tie
 
-pub print-first-spec : {M : Type 1} → statement M
+pub print-first-spec : {M : Type 1} → own.Statement.statement M
 print-first-spec = tie.close (tie.spec (λ c. simp length-take (omega arith)) (λ c κs. search needs) (λ c. search needs))

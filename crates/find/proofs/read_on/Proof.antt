@@ -1,16 +1,17 @@
--- `read_on` meets its contract: a step by the piece that the read brought.
+-- `read_on`: a step by the piece that the read brought.
 use borrow.Author.Needs.{needs}
 use native.Mathlib.Omega.{arith}
-use Rattle.find.proofs.{Reading.stepped, read_on.Statement.statement}
-use Rattle.find.proofs.read_on.Tie as tie
+use Rattle.find.proofs as own
+use own.Reading.{stepped}
+use own.read_on.Tie as tie
 
 returns : tie.Need-returns
 returns c =
-    let n = c .before .before .before .before .before .before .before .before in
-    let e = n .count .ensures .0 in
-    stepped _ (omega (arith, e .0, e .1, n .before .before .before .before .before .large-buffer .ensures)) (c .before .before .before .take-read .ensures)
+    let n = c.before.before.before.before.before.before.before.before in
+    let e = n.count.ensures.0 in
+    stepped _ (omega (arith, e.0, e.1, n.before.before.before.before.before.large-buffer.ensures)) c.before.before.before.take-read.ensures
 
-pub read-on-spec : {M : Type 1} → statement M
+pub read-on-spec : {M : Type 1} → own.read_on.Statement.statement M
 read-on-spec =
     tie.close (tie.spec (λ c κs. search needs) (λ c. search needs) (λ c κs. search needs) (λ c. search needs) (λ c κs. search needs) (λ c. search needs) (λ c κs. search needs) (λ c. search needs)
     (λ c. search needs) (λ c. search needs) returns)

@@ -1,7 +1,7 @@
 -- `difference` meets its contract.
 use Rattle.meaning_numbers.proofs.Prelude.{needs, pos, _-ℤ_, zarith, z-sub, z-abs}
-use Rattle.numbers.proofs.difference.Statement.{statement}
-use Rattle.numbers.proofs.difference.Tie as tie
+use Rattle.numbers.proofs.difference as own
+use own.Tie as tie
 
-pub difference-spec : {M : Type 1} → statement M
-difference-spec = tie.close (tie.spec (λ c. search needs) (λ c. let a = c .before .args in omega (zarith, z-sub (pos (a .a)) (pos (a .b)), z-abs (pos (a .a) -ℤ pos (a .b)))) (λ c. let a = c .before .args in omega (zarith, z-sub (pos (a .a)) (pos (a .b)), z-abs (pos (a .a) -ℤ pos (a .b)))))
+pub difference-spec : {M : Type 1} → own.Statement.statement M
+difference-spec = tie.close (tie.spec (λ c. search needs) (λ c. let a = c.before.args in omega (zarith, z-sub (pos a.a) (pos a.b), z-abs (pos a.a -ℤ pos a.b))) (λ c. let a = c.before.args in omega (zarith, z-sub (pos a.a) (pos a.b), z-abs (pos a.a -ℤ pos a.b))))

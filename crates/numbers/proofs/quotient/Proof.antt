@@ -1,10 +1,10 @@
 -- `quotient` meets its contract.
 use Rattle.meaning_numbers.proofs.Prelude.{needs, _≡_, sym, div-zero, arith}
-use Rattle.numbers.proofs.quotient.Statement.{statement}
-use Rattle.numbers.proofs.quotient.Tie as tie
+use Rattle.numbers.proofs.quotient as own
+use own.Tie as tie
 
 returns : tie.Need-returns
-returns c = let e : c .before .args .d ≡ 0 = omega arith in rw e (sym (div-zero (c .before .args .n)))
+returns c = let e : c.before.args.d ≡ 0 = omega arith in rw e (sym (div-zero c.before.args.n))
 
-pub quotient-spec : {M : Type 1} → statement M
+pub quotient-spec : {M : Type 1} → own.Statement.statement M
 quotient-spec = tie.close (tie.spec returns (λ c. search needs) (λ c. search needs))

@@ -1,33 +1,34 @@
--- `audit_run` meets its contract: the run as a row of one run.
+-- `audit_run`: the run as a row of one run.
 use Rattle.meaning_numbers.proofs.Prelude.{not-true, not-false, sym, _∙_, w32, toZ-ofZ, needs}
 use Rattle.payout_walk.specs.Walk.{oneRun}
-use Rattle.payout_walk.proofs.{Run.run-ready, Run.run-off, Run.run-on, audit_run.Statement.statement}
-use Rattle.payout_walk.proofs.audit_run.Tie as tie
+use Rattle.payout_walk.proofs as own
+use own.Run.{run-ready, run-off, run-on}
+use own.audit_run.Tie as tie
 
 audit-chunk-requires : tie.Need-audit-chunk-requires
 unfolding oneRun
 audit-chunk-requires c κs =
-    let i = c .before .before .before in
-    let f = i .before in
-    let s = f .before .before .before in
-    let e = sym (f .run-reads .ensures) ∙ not-false _ (i .if1 .left) in
-    let l = toZ-ofZ w32 (s .args .t .low) (record { sfits = (search needs) }) in
-    let u = toZ-ofZ w32 (s .args .t .up) (record { sfits = (search needs) }) in
-    rw (l, u) (λ g. run-ready _ _ (s .args .t) _ (s .pre .0) (s .pre .1) e)
+    let i = c.before.before.before in
+    let f = i.before in
+    let s = f.before.before.before in
+    let e = sym f.run-reads.ensures ∙ not-false _ i.if1.left in
+    let l = toZ-ofZ w32 s.args.t.low (record { sfits = (search needs) }) in
+    let u = toZ-ofZ w32 s.args.t.up (record { sfits = (search needs) }) in
+    rw (l, u) (λ g. run-ready _ _ s.args.t _ s.pre.0 s.pre.1 e)
 
 returns-2 : tie.Need-returns-2
 unfolding oneRun
 returns-2 c =
-    let i = c .before .before .before .before in
-    let f = i .before in
-    let s = f .before .before .before in
-    let e = sym (f .run-reads .ensures) ∙ not-false _ (i .if1 .left) in
-    let l = toZ-ofZ w32 (s .args .t .low) (record { sfits = c .before .before .before .struct-told .given .0 .1 }) in
-    let u = toZ-ofZ w32 (s .args .t .up) (record { sfits = c .before .before .before .struct-told .given .1 .0 .1 }) in
-    (rw (l, u) at (c .audit-chunk .ensures)) ∙ run-on _ _ _ _ e
+    let i = c.before.before.before.before in
+    let f = i.before in
+    let s = f.before.before.before in
+    let e = sym f.run-reads.ensures ∙ not-false _ i.if1.left in
+    let l = toZ-ofZ w32 s.args.t.low (record { sfits = c.before.before.before.struct-told.given.0.1 }) in
+    let u = toZ-ofZ w32 s.args.t.up (record { sfits = c.before.before.before.struct-told.given.1.0.1 }) in
+    (rw (l, u) at c.audit-chunk.ensures) ∙ run-on _ _ _ _ e
 
-pub audit-run-spec : {M : Type 1} → statement M
+pub audit-run-spec : {M : Type 1} → own.audit_run.Statement.statement M
 audit-run-spec =
     tie.close (tie.spec (λ c. search needs) (λ c. search needs) (λ c κs. search needs)
-    (λ c. let f = c .before in run-off _ _ _ _ (sym (f .run-reads .ensures) ∙ not-true _ (c .if1 .taken)))
+    (λ c. let f = c.before in run-off _ _ _ _ (sym f.run-reads.ensures ∙ not-true _ c.if1.taken))
     (λ c. search needs) (λ c. search needs) (λ c. search needs) audit-chunk-requires returns-2)

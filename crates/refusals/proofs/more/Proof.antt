@@ -1,7 +1,8 @@
--- `more` meets its contract (`more-is`, `not-more`).
+-- `more` (`more-is`, `not-more`).
 use Rattle.meaning_numbers.proofs.Prelude.{needs}
-use Rattle.refusals.proofs.{Tests.more-is, Tests.not-more, more.Statement.statement}
-use Rattle.refusals.proofs.more.Tie as tie
+use Rattle.refusals.proofs as own
+use own.Tests.{more-is, not-more}
+use own.more.Tie as tie
 
-pub more-spec : {M : Type 1} → statement M
-more-spec = tie.close (tie.spec (λ c. search needs) (λ c. search needs) (λ c. let a = c .before .args in more-is _ (a .w) (a .n)) (λ c. let a = c .before .args in not-more _ (a .w) (a .n) (c .if1 .left)))
+pub more-spec : {M : Type 1} → own.more.Statement.statement M
+more-spec = tie.close (tie.spec (λ c. search needs) (λ c. search needs) (λ c. let a = c.before.args in more-is _ a.w a.n) (λ c. let a = c.before.args in not-more _ a.w a.n c.if1.left))

@@ -1,10 +1,11 @@
--- `normal_flat` meets its contract, by the kind.
+-- `normal_flat`, by the kind.
 use Rattle.meaning_numbers.proofs.Prelude.{needs}
-use Rattle.refusals.proofs.{Flat.raw-flat, Flat.normal-is-flat, normal_flat.Statement.statement}
-use Rattle.refusals.proofs.normal_flat.Tie as tie
+use Rattle.refusals.proofs as own
+use own.Flat.{raw-flat, normal-is-flat}
+use own.normal_flat.Tie as tie
 
 returns-2 : tie.Need-returns-2
-returns-2 c = normal-is-flat _ (c .before .enum-told2 .given .1) (c .is-flat .ensures)
+returns-2 c = normal-is-flat _ c.before.enum-told2.given.1 c.is-flat.ensures
 
-pub normal-flat-spec : {M : Type 1} → statement M
-normal-flat-spec = tie.close (tie.spec (λ c. search needs) (λ c. search needs) (λ c κs. search needs) (λ c. raw-flat _ (c .enum-told .given .1)) returns-2)
+pub normal-flat-spec : {M : Type 1} → own.normal_flat.Statement.statement M
+normal-flat-spec = tie.close (tie.spec (λ c. search needs) (λ c. search needs) (λ c κs. search needs) (λ c. raw-flat _ c.enum-told.given.1) returns-2)

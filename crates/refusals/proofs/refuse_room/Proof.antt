@@ -1,14 +1,15 @@
--- `refuse_room` meets its contract: each test is a line of the table (`line-before`).
+-- `refuse_room`: each test is a line of the table (`line-before`).
 use Rattle.meaning_numbers.proofs.Prelude.{needs}
 use Rattle.meaning_entries.specs.Refusal.{bufferShort}
-use Rattle.refusals.proofs.{RefusalLaws.line-before, refuse_room.Statement.statement}
-use Rattle.refusals.proofs.refuse_room.Tie as tie
+use Rattle.refusals.proofs as own
+use own.RefusalLaws.{line-before}
+use own.refuse_room.Tie as tie
 
 returns : tie.Need-returns
 unfolding bufferShort
 returns c =
-    let second = c .before .before in
-    line-before 23 _ _ (line-before 23 _ _ (second .before .unrefused .ensures) (second .before .before .too-short .ensures) (second .refuse-if .ensures)) (c .before .too-short2 .ensures) (c .refuse-if2 .ensures)
+    let second = c.before.before in
+    line-before 23 _ _ (line-before 23 _ _ second.before.unrefused.ensures second.before.before.too-short.ensures second.refuse-if.ensures) c.before.too-short2.ensures c.refuse-if2.ensures
 
-pub refuse-room-spec : {M : Type 1} → statement M
+pub refuse-room-spec : {M : Type 1} → own.refuse_room.Statement.statement M
 refuse-room-spec = tie.close (tie.spec (λ c κs. search needs) (λ c κs. search needs) (λ c κs. search needs) (λ c κs. search needs) (λ c κs. search needs) returns)

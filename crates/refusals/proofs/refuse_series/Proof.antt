@@ -1,17 +1,17 @@
--- `refuse_series` meets its contract, by the length.
+-- `refuse_series`, by the length.
 use Rattle.meaning_numbers.proofs.Prelude.{needs, sym, _∙_}
-use Rattle.refusals.proofs.refuse_series.Statement.{statement}
-use Rattle.refusals.proofs.refuse_series.Tie as tie
+use Rattle.refusals.proofs.refuse_series as own
+use own.Tie as tie
 
 returns : tie.Need-returns
 returns c =
-    let l = c .before .before in
-    c .refuse-value .ensures ∙ sym (rw (sym (l .length-in .ensures) ∙ c .before .if1 .taken))
+    let l = c.before.before in
+    c.refuse-value.ensures ∙ sym (rw (sym l.length-in.ensures ∙ c.before.if1.taken))
 
 returns-2 : tie.Need-returns-2
 returns-2 c =
-    let l = c .before in
-    sym (rw (sym (l .length-in .ensures) ∙ c .if1 .left))
+    let l = c.before in
+    sym (rw (sym l.length-in.ensures ∙ c.if1.left))
 
-pub refuse-series-spec : {M : Type 1} → statement M
+pub refuse-series-spec : {M : Type 1} → own.Statement.statement M
 refuse-series-spec = tie.close (tie.spec (λ c κs. search needs) (λ c κs. search needs) returns returns-2)

@@ -1,11 +1,11 @@
--- `refuse_value` meets its contract, by the first value outside.
+-- `refuse_value`, by the first value outside.
 use Rattle.meaning_numbers.proofs.Prelude.{needs, _≡_, refl, sym, ap, _∙_, Option, none, some, ℕ}
 use Rattle.meaning_curves.specs.Limits.{firstOutside}
-use Rattle.values.specs.{declared.Place.Place, Place.placed}
 use Rattle.values.specs.declared.Place.the-variants.{At, Nowhere}
+use Rattle.values.specs.{declared.Place.Place, Place.placed}
 use Rattle.refusals.specs.Refusal.{refuseAt}
-use Rattle.refusals.proofs.refuse_value.Statement.{statement}
-use Rattle.refusals.proofs.refuse_value.Tie as tie
+use Rattle.refusals.proofs.refuse_value as own
+use own.Tie as tie
 
 -- the place that code tells
 abbrev unplaced : Place → Option ℕ
@@ -19,16 +19,16 @@ told (some k) = refl
 returns : tie.Need-returns
 unfolding refuseAt
 returns c =
-    let f = c .before .before .before in
-    let a = f .before .args in
-    ap (λ (o : Option ℕ). refuseAt 2 o (a .after)) (ap unplaced (sym (c .before .k .given .1) ∙ f .first-outside .ensures) ∙ told (firstOutside (a .s .now)))
+    let f = c.before.before.before in
+    let a = f.before.args in
+    ap (λ (o : Option ℕ). refuseAt 2 o a.after) (ap unplaced (sym c.before.k.given.1 ∙ f.first-outside.ensures) ∙ told (firstOutside a.s.now))
 
 returns-2 : tie.Need-returns-2
 unfolding refuseAt
 returns-2 c =
-    let f = c .before .before in
-    let a = f .before .args in
-    ap (λ (o : Option ℕ). refuseAt 2 o (a .after)) (ap unplaced (sym (c .enum-told .given .1) ∙ f .first-outside .ensures) ∙ told (firstOutside (a .s .now)))
+    let f = c.before.before in
+    let a = f.before.args in
+    ap (λ (o : Option ℕ). refuseAt 2 o a.after) (ap unplaced (sym c.enum-told.given.1 ∙ f.first-outside.ensures) ∙ told (firstOutside a.s.now))
 
-pub refuse-value-spec : {M : Type 1} → statement M
+pub refuse-value-spec : {M : Type 1} → own.Statement.statement M
 refuse-value-spec = tie.close (tie.spec (λ c κs. search needs) (λ c. search needs) (λ c. search needs) returns returns-2)

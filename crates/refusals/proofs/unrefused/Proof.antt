@@ -1,7 +1,8 @@
--- `unrefused` meets its contract (`none-is`).
+-- `unrefused` (`none-is`).
 use Rattle.meaning_numbers.proofs.Prelude.{sym}
-use Rattle.refusals.proofs.{RefusalLaws.none-is, unrefused.Statement.statement}
-use Rattle.refusals.proofs.unrefused.Tie as tie
+use Rattle.refusals.proofs as own
+use own.RefusalLaws.{none-is}
+use own.unrefused.Tie as tie
 
-pub unrefused-spec : {M : Type 1} → statement M
+pub unrefused-spec : {M : Type 1} → own.unrefused.Statement.statement M
 unrefused-spec = tie.close (tie.spec (λ c. sym none-is))

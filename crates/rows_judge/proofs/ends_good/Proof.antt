@@ -1,15 +1,15 @@
--- `ends_good` meets its contract: its tests are those that it states, on numbers that the machine reads back as they are.
+-- `ends_good`: its tests are those that it states, on numbers that the machine reads back as they are.
 use Rattle.meaning_numbers.proofs.Prelude.{w32, toZ-ofZ, needs}
-use Rattle.rows_judge.proofs.ends_good.Statement.{statement}
-use Rattle.rows_judge.proofs.ends_good.Tie as tie
+use Rattle.rows_judge.proofs.ends_good as own
+use own.Tie as tie
 
 returns : tie.Need-returns
 returns c =
-    let s = c .before .before in
-    let l = toZ-ofZ w32 _ (s .fits .low) in
-    let u = toZ-ofZ w32 _ (s .fits .up) in
-    let b = toZ-ofZ w32 _ (s .fits .least) in
-    cc (l, u, b, c .end-in2 .ensures, c .before .end-in .ensures)
+    let s = c.before.before in
+    let l = toZ-ofZ w32 _ s.fits.low in
+    let u = toZ-ofZ w32 _ s.fits.up in
+    let b = toZ-ofZ w32 _ s.fits.least in
+    cc (l, u, b, c.end-in2.ensures, c.before.end-in.ensures)
 
-pub ends-good-spec : {M : Type 1} → statement M
+pub ends-good-spec : {M : Type 1} → own.Statement.statement M
 ends-good-spec = tie.close (tie.spec (λ c κs. search needs) (λ c κs. search needs) returns)

@@ -1,8 +1,8 @@
--- `range_good` meets its contract: its tests are those of the definition in another order, on numbers that the machine reads back as they are.
+-- `range_good`: its tests are those of the definition in another order, on numbers that the machine reads back as they are.
 use Rattle.meaning_numbers.proofs.Prelude.{_≡_, refl, Bool, true, false, _&&_, w32, toZ-ofZ, needs}
 use Rattle.meaning_rows.specs.Judge.{rangeGood}
-use Rattle.rows_judge.proofs.range_good.Statement.{statement}
-use Rattle.rows_judge.proofs.range_good.Tie as tie
+use Rattle.rows_judge.proofs.range_good as own
+use own.Tie as tie
 
 sorted : (m n o e : Bool) → ((m && n) && (o && e)) ≡ (o && (m && (n && e)))
 sorted true true o e = refl
@@ -14,11 +14,11 @@ sorted false n false e = refl
 returns : tie.Need-returns
 unfolding rangeGood
 returns c =
-    let s = c .before .before .before .before in
-    let l = toZ-ofZ w32 (s .args .r .low) (record { sfits = (search needs) }) in
-    let u = toZ-ofZ w32 (s .args .r .up) (record { sfits = (search needs) }) in
-    let b = toZ-ofZ w32 _ (s .fits .least) in
-    cc (l, u, b, c .before .are-multiples .ensures, c .ends-good .ensures, sorted _ _ _ _)
+    let s = c.before.before.before.before in
+    let l = toZ-ofZ w32 s.args.r.low (record { sfits = (search needs) }) in
+    let u = toZ-ofZ w32 s.args.r.up (record { sfits = (search needs) }) in
+    let b = toZ-ofZ w32 _ s.fits.least in
+    cc (l, u, b, c.before.are-multiples.ensures, c.ends-good.ensures, sorted _ _ _ _)
 
-pub range-good-spec : {M : Type 1} → statement M
+pub range-good-spec : {M : Type 1} → own.Statement.statement M
 range-good-spec = tie.close (tie.spec (λ c κs. search needs) (λ c κs. search needs) returns)

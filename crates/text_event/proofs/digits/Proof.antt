@@ -1,33 +1,33 @@
--- `digits` meets its contract. The invariant: the digits so far say nothing, and their number is below the bound for so many (`top`). The measure is how many may still come.
+-- `digits`. The invariant: the digits so far say nothing, and their number is below the bound for so many (`top`). The measure is how many may still come.
 use Rattle.meaning_numbers.proofs.Prelude.{_+_, _-_, _<_, _≤_, arith, needs, length}
 use Rattle.text_numbers.specs.declared.Numeral.{Numeral}
 use Rattle.text_index.specs.{declared.Field.Field, declared.State.State}
 use Rattle.text_event.specs.Event.{Quiet}
-use Rattle.text_event.proofs.digits.Statement.{statement}
-use Rattle.text_event.proofs.Steps.{still-here, more-here, next-digit, next-less, top, top-more, top-most, digits-told}
-use Rattle.text_event.proofs.digits.Tie as tie
+use Rattle.text_event.proofs as own
+use own.Steps.{still-here, more-here, next-digit, next-less, top, top-more, top-most, digits-told}
+use own.digits.Tie as tie
 
-abbrev Inv-loop : tie.InvT-loop
-Inv-loop text at first m₀ k₀ m k =
+abbrev Inv : tie.InvT-loop
+Inv text at first m₀ k₀ m k =
     (k ≤ 7) × (m < top k) × ((p : Field) → Quiet text (State.At p (Numeral.Plus first)) at (State.At p (Numeral.Plus m)) (at + k)) × ((p : Field) → Quiet text (State.At p (Numeral.Less first)) at (State.At p (Numeral.Less m)) (at + k))
 
-abbrev μ-loop : tie.MeasureT-loop
-μ-loop text at first m₀ k₀ m k = 7 - k
+abbrev μ : tie.MeasureT-loop
+μ text at first m₀ k₀ m k = 7 - k
 
-loop-again : tie.Need-loop-again Inv-loop μ-loop
-loop-again c = let l = c .before .before .before .before in let h : l .before .args .at + l .loop .k < length (l .before .args .text .now) = omega (arith, l .before .pre .1, c .before .before .before .loop-test .taken) in let n : l .loop .m < 100000000000000000 = omega (arith, l .loop .inv .0, l .loop .inv .1, top-most (l .loop .k) (l .loop .inv .0)) in (omega (arith, c .before .before .before .loop-test .taken), omega (arith, top-more (l .loop .k), l .loop .inv .1, c .before .if1 .left, c .if2 .left), λ p. more-here (l .loop .k) (l .loop .inv .2 p) h (next-digit p (l .loop .m) _ (c .before .if1 .left) (c .if2 .left) n), λ p. more-here (l .loop .k) (l .loop .inv .3 p) h (next-less p (l .loop .m) _ (c .before .if1 .left) (c .if2 .left) n))
+loop-again : tie.Need-loop-again Inv μ
+loop-again c = let l = c.before.before.before.before in let h : l.before.args.at + l.loop.k < length l.before.args.text.now = omega (arith, l.before.pre.1, c.before.before.before.loop-test.taken) in let n : l.loop.m < 100000000000000000 = omega (arith, l.loop.inv.0, l.loop.inv.1, top-most l.loop.k l.loop.inv.0) in (omega (arith, c.before.before.before.loop-test.taken), omega (arith, top-more l.loop.k, l.loop.inv.1, c.before.if1.left, c.if2.left), λ p. more-here l.loop.k (l.loop.inv.2 p) h (next-digit p l.loop.m _ c.before.if1.left c.if2.left n), λ p. more-here l.loop.k (l.loop.inv.3 p) h (next-less p l.loop.m _ c.before.if1.left c.if2.left n))
 
-pub digits-spec : {M : Type 1} → statement M
+pub digits-spec : {M : Type 1} → own.digits.Statement.statement M
 digits-spec =
-    tie.close (tie.spec Inv-loop μ-loop (λ c. (omega arith, c .pre .0, λ p. still-here, λ p. still-here)) (λ c. search needs) (λ c. search needs)
-    (λ c. let l = c .before .before .before in omega (arith, l .loop .inv .0, l .loop .inv .1, top-most (l .loop .k) (l .loop .inv .0)))
-    (λ c. let l = c .before .before .before in omega (arith, l .loop .inv .0, l .loop .inv .1, top-most (l .loop .k) (l .loop .inv .0)))
-    (λ c. let l = c .before .before .before in digits-told _ _ _ _ _ (l .loop .inv .1) (l .loop .inv .0) (l .loop .inv .2) (l .loop .inv .3))
-    (λ c. let l = c .before .before .before .before in omega (arith, l .loop .inv .0, l .loop .inv .1, top-most (l .loop .k) (l .loop .inv .0)))
-    (λ c. let l = c .before .before .before .before in omega (arith, l .loop .inv .0, l .loop .inv .1, top-most (l .loop .k) (l .loop .inv .0)))
-    (λ c. let l = c .before .before .before .before in digits-told _ _ _ _ _ (l .loop .inv .1) (l .loop .inv .0) (l .loop .inv .2) (l .loop .inv .3))
-    (λ c. let l = c .before .before .before .before in omega (arith, l .loop .inv .0, l .loop .inv .1, top-most (l .loop .k) (l .loop .inv .0))) (λ c. search needs)
-    (λ c. let l = c .before .before .before .before in omega (arith, l .loop .inv .0, l .loop .inv .1, top-most (l .loop .k) (l .loop .inv .0), c .if2 .left))
-    (λ c. search needs) (λ c. search needs) loop-again (λ c. let l = c .before in omega (arith, l .loop .inv .0, l .loop .inv .1, top-most (l .loop .k) (l .loop .inv .0)))
-    (λ c. let l = c .before in omega (arith, l .loop .inv .0, l .loop .inv .1, top-most (l .loop .k) (l .loop .inv .0)))
-    (λ c. let l = c .before in digits-told _ _ _ _ _ (l .loop .inv .1) (l .loop .inv .0) (l .loop .inv .2) (l .loop .inv .3)))
+    tie.close (tie.spec Inv μ (λ c. (omega arith, c.pre.0, λ p. still-here, λ p. still-here)) (λ c. search needs) (λ c. search needs)
+    (λ c. let l = c.before.before.before in omega (arith, l.loop.inv.0, l.loop.inv.1, top-most l.loop.k l.loop.inv.0))
+    (λ c. let l = c.before.before.before in omega (arith, l.loop.inv.0, l.loop.inv.1, top-most l.loop.k l.loop.inv.0))
+    (λ c. let l = c.before.before.before in digits-told _ _ _ _ _ l.loop.inv.1 l.loop.inv.0 l.loop.inv.2 l.loop.inv.3)
+    (λ c. let l = c.before.before.before.before in omega (arith, l.loop.inv.0, l.loop.inv.1, top-most l.loop.k l.loop.inv.0))
+    (λ c. let l = c.before.before.before.before in omega (arith, l.loop.inv.0, l.loop.inv.1, top-most l.loop.k l.loop.inv.0))
+    (λ c. let l = c.before.before.before.before in digits-told _ _ _ _ _ l.loop.inv.1 l.loop.inv.0 l.loop.inv.2 l.loop.inv.3)
+    (λ c. let l = c.before.before.before.before in omega (arith, l.loop.inv.0, l.loop.inv.1, top-most l.loop.k l.loop.inv.0)) (λ c. search needs)
+    (λ c. let l = c.before.before.before.before in omega (arith, l.loop.inv.0, l.loop.inv.1, top-most l.loop.k l.loop.inv.0, c.if2.left))
+    (λ c. search needs) (λ c. search needs) loop-again (λ c. let l = c.before in omega (arith, l.loop.inv.0, l.loop.inv.1, top-most l.loop.k l.loop.inv.0))
+    (λ c. let l = c.before in omega (arith, l.loop.inv.0, l.loop.inv.1, top-most l.loop.k l.loop.inv.0))
+    (λ c. let l = c.before in digits-told _ _ _ _ _ l.loop.inv.1 l.loop.inv.0 l.loop.inv.2 l.loop.inv.3))

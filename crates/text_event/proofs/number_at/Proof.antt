@@ -1,10 +1,11 @@
--- `number_at` meets its contract: the first digit, and those behind it.
+-- `number_at`: the first digit, and those behind it.
 use Rattle.meaning_numbers.proofs.Prelude.{refl, arith, needs}
-use Rattle.text_event.proofs.{Steps.number-told, number_at.Statement.statement}
-use Rattle.text_event.proofs.number_at.Tie as tie
+use Rattle.text_event.proofs as own
+use own.Steps.{number-told}
+use own.number_at.Tie as tie
 
-pub number-at-spec : {M : Type 1} → statement M
+pub number-at-spec : {M : Type 1} → own.number_at.Statement.statement M
 number-at-spec =
     tie.close (tie.spec (λ c. search needs) (λ c h. absurd (omega (arith, h))) (λ c h. absurd (omega (arith, h))) (λ c. search needs) (λ c. search needs)
     (λ c. search needs) (λ c κs. search needs) (λ c. search needs)
-    (λ c h. number-told _ _ _ (c .digits .result) (omega (arith, c .before .before .before .before .before .pre)) refl (c .before .before .if1 .left) (c .before .if2 .left) (c .digits .ensures)))
+    (λ c h. number-told _ _ _ c.digits.result (omega (arith, c.before.before.before.before.before.pre)) refl c.before.before.if1.left c.before.if2.left c.digits.ensures))

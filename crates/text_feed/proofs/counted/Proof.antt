@@ -1,14 +1,14 @@
--- `counted` meets its contract. By the two tests.
+-- `counted`. By the two tests.
 use Rattle.meaning_numbers.proofs.Prelude.{sym, _∙_, eq-eqb, ne-eqb, w64, toZ-ofZ, needs}
 use Rattle.text_feed.specs.Keep.{valuesMore}
-use Rattle.text_feed.proofs.counted.Statement.{statement}
-use Rattle.text_feed.proofs.counted.Tie as tie
+use Rattle.text_feed.proofs.counted as own
+use own.Tie as tie
 
-pub counted-spec : {M : Type 1} → statement M
+pub counted-spec : {M : Type 1} → own.Statement.statement M
 unfolding valuesMore
 counted-spec =
     tie.close (tie.spec (λ c κs. search needs) (λ c. search needs) (λ c. search needs)
-    (λ c. let a = c .before in let z = a .before .before .args .z in let e = toZ-ofZ w64 z (a .before .before .fits .z) in simp (eq-eqb _ _ (a .before .if1 .taken), sym (rw e at (a .in-limits .ensures)) ∙ c .if2 .taken))
+    (λ c. let a = c.before in let z = a.before.before.args.z in let e = toZ-ofZ w64 z a.before.before.fits.z in simp (eq-eqb _ _ a.before.if1.taken, sym (rw e at a.in-limits.ensures) ∙ c.if2.taken))
     (λ c. search needs)
-    (λ c. let a = c .before in let z = a .before .before .args .z in let e = toZ-ofZ w64 z (a .before .before .fits .z) in simp (eq-eqb _ _ (a .before .if1 .taken), sym (rw e at (a .in-limits .ensures)) ∙ c .if2 .left))
-    (λ c. search needs) (λ c. simp (ne-eqb _ _ (c .if1 .left))))
+    (λ c. let a = c.before in let z = a.before.before.args.z in let e = toZ-ofZ w64 z a.before.before.fits.z in simp (eq-eqb _ _ a.before.if1.taken, sym (rw e at a.in-limits.ensures) ∙ c.if2.left))
+    (λ c. search needs) (λ c. simp (ne-eqb _ _ c.if1.left)))

@@ -1,13 +1,14 @@
--- `step_turn` meets its contract. The word that the byte picks is tried.
+-- `step_turn`. The word that the byte picks is tried.
 use borrow.Author.Needs.{needs}
 use mathlib.Core.Path.{sym, _∙_}
 use Rattle.text_index.specs.Step.{turnStep}
-use Rattle.text_index.proofs.{Step.word-long, step_turn.Statement.statement}
-use Rattle.text_index.proofs.step_turn.Tie as tie
+use Rattle.text_index.proofs as own
+use own.Step.{word-long}
+use own.step_turn.Tie as tie
 
-pub step-turn-spec : {M : Type 1} → statement M
+pub step-turn-spec : {M : Type 1} → own.step_turn.Statement.statement M
 unfolding turnStep
 step-turn-spec =
     tie.close (tie.spec (search needs) (λ c κs. word-long _) (search needs) (search needs)
-    (λ c. let a = c .before .before .before in simp (sym (a .before .picked .ensures), sym (a .arrive .ensures) ∙ c .before .s .given .1))
-    (λ c. let a = c .before .before in simp (sym (a .before .picked .ensures), sym (a .arrive .ensures) ∙ c .enum-told .given .1)))
+    (λ c. let a = c.before.before.before in simp (sym a.before.picked.ensures, sym a.arrive.ensures ∙ c.before.s.given.1))
+    (λ c. let a = c.before.before in simp (sym a.before.picked.ensures, sym a.arrive.ensures ∙ c.enum-told.given.1)))

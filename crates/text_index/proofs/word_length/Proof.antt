@@ -1,11 +1,11 @@
--- `word_length` meets its contract. By the case.
+-- `word_length`. By the case.
 use borrow.Author.Needs.{needs}
 use Rattle.meaning_text.specs.Bytes.{bytes}
 use Rattle.text_index.specs.Step.{word}
-use Rattle.text_index.proofs.word_length.Statement.{statement}
-use Rattle.text_index.proofs.word_length.Tie as tie
+use Rattle.text_index.proofs.word_length as own
+use own.Tie as tie
 
-pub word-length-spec : {M : Type 1} → statement M
+pub word-length-spec : {M : Type 1} → own.Statement.statement M
 unfolding word bytes
 word-length-spec =
     tie.close (tie.spec (search needs) (search needs) (search needs) (search needs) (search needs) (search needs) (search needs) (search needs) (search needs)

@@ -1,24 +1,24 @@
--- `tell_row` meets its contract: the numbers one after the other.
+-- `tell_row`: the numbers one after the other.
 use Rattle.meaning_numbers.proofs.Prelude.{ap, _∙_, arith, w64, toZ-ofZ, needs}
 use Rattle.text_index.specs.declared.Field.{Field}
 use Rattle.text_judge.specs.Tally.{tellTally, toldRun}
-use Rattle.text_judge.proofs.tell_row.Statement.{statement}
-use Rattle.text_judge.proofs.tell_row.Tie as tie
+use Rattle.text_judge.proofs.tell_row as own
+use own.Tie as tie
 
 tell-requires-2 : tie.Need-tell-requires-2
 unfolding tellTally
-tell-requires-2 c κs = rw (c .tell .ensures) (search needs, search needs)
+tell-requires-2 c κs = rw c.tell.ensures (search needs, search needs)
 
 tell-run-requires : tie.Need-tell-run-requires
 unfolding tellTally
-tell-run-requires c κs = rw (c .tell2 .ensures) (search needs, omega arith)
+tell-run-requires c κs = rw c.tell2.ensures (search needs, omega arith)
 
 returns : tie.Need-returns
 returns c =
-    let s = c .before .before .before in
-    let e = toZ-ofZ w64 (s .args .low) (s .fits .low) in
-    let f = toZ-ofZ w64 (s .args .up) (s .fits .up) in
-    c .tell-run .ensures ∙ ap (toldRun (s .args .l) (s .args .r)) ((rw f at (c .before .tell2 .ensures)) ∙ ap (tellTally Field.Up (s .args .up)) (rw e at (c .before .before .tell .ensures)))
+    let s = c.before.before.before in
+    let e = toZ-ofZ w64 s.args.low s.fits.low in
+    let f = toZ-ofZ w64 s.args.up s.fits.up in
+    c.tell-run.ensures ∙ ap (toldRun s.args.l s.args.r) ((rw f at c.before.tell2.ensures) ∙ ap (tellTally Field.Up s.args.up) (rw e at c.before.before.tell.ensures))
 
-pub tell-row-spec : {M : Type 1} → statement M
+pub tell-row-spec : {M : Type 1} → own.Statement.statement M
 tell-row-spec = tie.close (tie.spec (search needs) tell-requires-2 tell-run-requires returns)

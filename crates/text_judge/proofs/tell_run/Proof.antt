@@ -1,16 +1,17 @@
--- `tell_run` meets its contract: the left end, then the right, as they are.
+-- `tell_run`: the left end, then the right, as they are.
 use Rattle.meaning_numbers.proofs.Prelude.{refl, _∙_, arith, w32, toZ-ofZ, needs}
 use Rattle.text_judge.specs.Tally.{tellTally}
-use Rattle.text_judge.proofs.{Bad.held-pos, tell_run.Statement.statement}
-use Rattle.text_judge.proofs.tell_run.Tie as tie
+use Rattle.text_judge.proofs as own
+use own.Bad.{held-pos}
+use own.tell_run.Tie as tie
 
 returns : tie.Need-returns
 unfolding tellTally
 returns c =
-    let e = c .before in let d = e .before in let m = d .before in let s = c .before .before .before .before .before .before in let o = s .args .t .row in
-    let l = toZ-ofZ w32 (o .low) (record { sfits = search needs }) in
-    let u = toZ-ofZ w32 (o .up) (record { sfits = search needs }) in
-    c .with-row .ensures ∙ rw (u, l, m .more-run .ensures, held-pos (s .args .l) (omega arith), held-pos (s .args .r) (omega arith)) refl
+    let e = c.before in let d = e.before in let m = d.before in let s = c.before.before.before.before.before.before in let o = s.args.t.row in
+    let l = toZ-ofZ w32 o.low (record { sfits = search needs }) in
+    let u = toZ-ofZ w32 o.up (record { sfits = search needs }) in
+    c.with-row.ensures ∙ rw (u, l, m.more-run.ensures, held-pos s.args.l (omega arith), held-pos s.args.r (omega arith)) refl
 
-pub tell-run-spec : {M : Type 1} → statement M
+pub tell-run-spec : {M : Type 1} → own.tell_run.Statement.statement M
 tell-run-spec = tie.close (tie.spec (search needs) (search needs) returns)

@@ -1,17 +1,18 @@
--- `step_word` meets its contract. By where the byte leads, and whether it is the last of the word.
+-- `step_word`. By where the byte leads, and whether it is the last of the word.
 use borrow.Author.Needs.{needs}
 use borrow.Author.Tests.{lt-ltb, le-ltb}
 use mathlib.Core.Path.{sym, _∙_}
 use native.Mathlib.Omega.{arith}
 use Rattle.text_lines.specs.Step.{wordStep}
-use Rattle.text_lines.proofs.{Step.word-short, step_word.Statement.statement}
-use Rattle.text_lines.proofs.step_word.Tie as tie
+use Rattle.text_lines.proofs as own
+use own.Step.{word-short}
+use own.step_word.Tie as tie
 
-pub step-word-spec : {M : Type 1} → statement M
+pub step-word-spec : {M : Type 1} → own.step_word.Statement.statement M
 unfolding wordStep
 step-word-spec =
-    tie.close (tie.spec (search needs) (search needs) (λ c. omega (arith, word-short (c .before .before .before .before .args .w))) (search needs)
-    (λ c. let a = c .before .before .before .before .before in simp (sym (a .arrive .ensures) ∙ c .before .before .before .s .given .1, lt-ltb _ _ (rw (c .before .word-length .ensures) at (c .if1 .taken))))
+    tie.close (tie.spec (search needs) (search needs) (λ c. omega (arith, word-short c.before.before.before.before.args.w)) (search needs)
+    (λ c. let a = c.before.before.before.before.before in simp (sym a.arrive.ensures ∙ c.before.before.before.s.given.1, lt-ltb _ _ (rw c.before.word-length.ensures at c.if1.taken)))
     (search needs)
-    (λ c. let a = c .before .before .before .before .before in simp (sym (a .arrive .ensures) ∙ c .before .before .before .s .given .1, le-ltb _ _ (rw (c .before .word-length .ensures) at (c .if1 .left))))
-    (λ c. let a = c .before .before in simp (sym (a .arrive .ensures) ∙ c .enum-told .given .1)))
+    (λ c. let a = c.before.before.before.before.before in simp (sym a.arrive.ensures ∙ c.before.before.before.s.given.1, le-ltb _ _ (rw c.before.word-length.ensures at c.if1.left)))
+    (λ c. let a = c.before.before in simp (sym a.arrive.ensures ∙ c.enum-told.given.1)))

@@ -1,7 +1,7 @@
--- `letter` meets its contract: behind the last byte `getD` gives its default.
+-- `letter`: behind the last byte `getD` gives its default.
 use Rattle.meaning_numbers.proofs.Prelude.{sym, needs, List·getD-eq-default}
-use Rattle.text_numbers.proofs.letter.Statement.{statement}
-use Rattle.text_numbers.proofs.letter.Tie as tie
+use Rattle.text_numbers.proofs.letter as own
+use own.Tie as tie
 
-pub letter-spec : {M : Type 1} → statement M
-letter-spec = tie.close (tie.spec (λ c. search needs) (λ c. search needs) (λ c. sym (List·getD-eq-default (c .before .args .word .now) 0 (c .if1 .left))))
+pub letter-spec : {M : Type 1} → own.Statement.statement M
+letter-spec = tie.close (tie.spec (λ c. search needs) (λ c. search needs) (λ c. sym (List·getD-eq-default c.before.args.word.now 0 c.if1.left)))

@@ -1,4 +1,4 @@
--- `put_digits` meets its contract: one digit, or those of a tenth and the last. The measure is the number.
+-- `put_digits`: one digit, or those of a tenth and the last. The measure is the number.
 use borrow.Fn.Kinds.{In}
 use borrow.Fn.PlainCycle.{Measures, is, falls, and}
 use Rattle.meaning_numbers.proofs.Prelude.{_∙_, arith, needs, ℕ, _<_}
@@ -10,7 +10,7 @@ use Rattle.text_put.proofs.+put_digits.Lts-put_digits as put-digits-lts
 use Rattle.text_put.proofs.put_byte.Reads as put-byte-reads
 
 abbrev μ-put-digits : Measures 1 put-digits-kinds.ps ℕ
-μ-put-digits κs a = a .1 .1 .0
+μ-put-digits κs a = a.1.1.0
 
 abbrev put-digits-at : ℕ → In 1 put-digits-kinds.ps
 put-digits-at t =
@@ -50,7 +50,7 @@ put-digits-same-length : (t : ℕ) → put-digits-lts.Need-same-length (
   put-digits-below t,
   put-digits.Post,
 ) (put-digits-at t) put-digits.Post
-put-digits-same-length t c = c .before .before .put-byte .kept .0
+put-digits-same-length t c = c.before.before.put-byte.kept.0
 
 put-digits-returns : (t : ℕ) → put-digits-lts.Need-returns (
   put-byte-reads.Asked,
@@ -58,7 +58,7 @@ put-digits-returns : (t : ℕ) → put-digits-lts.Need-returns (
   put-digits-below t,
   put-digits.Post,
 ) (put-digits-at t) put-digits.Post
-put-digits-returns t c = let s = c .before .before .before .before .before .before in rw (spell-one (s .args .n) (omega arith)) (c .before .before .put-byte .ensures)
+put-digits-returns t c = let s = c.before.before.before.before.before.before in rw (spell-one s.args.n (omega arith)) c.before.before.put-byte.ensures
 
 put-digits-put-digits-requires : (t : ℕ) → put-digits-lts.Need-put-digits-requires (
   put-byte-reads.Asked,
@@ -98,7 +98,7 @@ put-digits-same-length-2 : (t : ℕ) → put-digits-lts.Need-same-length-2 (
   put-digits-below t,
   put-digits.Post,
 ) (put-digits-at t) put-digits.Post
-put-digits-same-length-2 t c = c .before .before .put-byte2 .kept .0 ∙ c .before .before .before .before .before .before .put-digits .kept .0
+put-digits-same-length-2 t c = c.before.before.put-byte2.kept.0 ∙ c.before.before.before.before.before.before.put-digits.kept.0
 
 put-digits-returns-2 : (t : ℕ) → put-digits-lts.Need-returns-2 (
   put-byte-reads.Asked,
@@ -106,7 +106,7 @@ put-digits-returns-2 : (t : ℕ) → put-digits-lts.Need-returns-2 (
   put-digits-below t,
   put-digits.Post,
 ) (put-digits-at t) put-digits.Post
-put-digits-returns-2 t c = let s = c .before .before .before .before .before .before .before .before .before .before in rw (spell-split (s .args .n) (omega arith)) (put-then (c .before .before .before .before .before .before .put-digits .ensures) (c .before .before .put-byte2 .ensures))
+put-digits-returns-2 t c = let s = c.before.before.before.before.before.before.before.before.before.before in rw (spell-split s.args.n (omega arith)) (put-then c.before.before.before.before.before.before.put-digits.ensures c.before.before.put-byte2.ensures)
 
 pub +put-digits-spec : {M : Type 1} → statement M
 +put-digits-spec = close μ-put-digits λ t. put-digits-lts.spec (

@@ -1,8 +1,9 @@
--- `put_byte` meets its contract. There is room, or there is none.
+-- `put_byte`. There is room, or there is none.
 use Rattle.meaning_numbers.proofs.Prelude.{needs}
-use Rattle.text_put.proofs.{Put.put-out, put_byte.Statement.statement}
-use Rattle.text_put.proofs.put_byte.Tie as tie
+use Rattle.text_put.proofs as own
+use own.Put.{put-out}
+use own.put_byte.Tie as tie
 
-pub put-byte-spec : {M : Type 1} → statement M
+pub put-byte-spec : {M : Type 1} → own.put_byte.Statement.statement M
 put-byte-spec =
-    tie.close (tie.spec (λ c. search needs) (λ c. search needs) (λ c. search needs) (λ c. search needs) (λ c. search needs) (λ c. put-out _ _ _ (c .if1 .left)))
+    tie.close (tie.spec (λ c. search needs) (λ c. search needs) (λ c. search needs) (λ c. search needs) (λ c. search needs) (λ c. put-out _ _ _ c.if1.left))

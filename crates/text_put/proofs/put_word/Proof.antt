@@ -1,18 +1,19 @@
--- `put_word` meets its contract. The invariant: the first i bytes of the word stand in the buffer.
+-- `put_word`. The invariant: the first i bytes of the word stand in the buffer.
 use Rattle.meaning_numbers.proofs.Prelude.{_-_, _≤_, arith, needs, length, take}
 use Rattle.text_put.specs.Put.{Put}
-use Rattle.text_put.proofs.{Put.put-turn, Put.put-all, Put.put-length, put_word.Statement.statement}
-use Rattle.text_put.proofs.put_word.Tie as tie
+use Rattle.text_put.proofs as own
+use own.Put.{put-turn, put-all, put-length}
+use own.put_word.Tie as tie
 
-abbrev Inv-loop : tie.InvT-loop
-Inv-loop buf₀ at word to₀ i₀ buf to i = Put buf₀ at (take i word) buf to × (i ≤ length word)
+abbrev Inv : tie.InvT-loop
+Inv buf₀ at word to₀ i₀ buf to i = Put buf₀ at (take i word) buf to × (i ≤ length word)
 
-abbrev μ-loop : tie.MeasureT-loop
-μ-loop buf₀ at word to₀ i₀ buf to i = length word - i
+abbrev μ : tie.MeasureT-loop
+μ buf₀ at word to₀ i₀ buf to i = length word - i
 
-pub put-word-spec : {M : Type 1} → statement M
+pub put-word-spec : {M : Type 1} → own.put_word.Statement.statement M
 put-word-spec =
-    tie.close (tie.spec Inv-loop μ-loop (λ c κs. search needs) (λ c. (search needs, omega arith))
+    tie.close (tie.spec Inv μ (λ c κs. search needs) (λ c. (search needs, omega arith))
     (λ c. omega arith) (λ c κs. search needs) (λ c. omega arith) (λ c. omega arith)
-    (λ c. let l = c .before .before .before .before .before .before in (put-turn (l .before .before .before .before .args .word .now) (l .loop .i) (c .before .before .before .before .before .loop-test .taken) (l .loop .inv .0) (c .before .before .put-byte .ensures), omega arith))
-    (λ c. put-length (c .before .loop .inv .0)) (λ c. put-all _ (c .before .loop .i) (omega arith) (c .before .loop .inv .0)))
+    (λ c. let l = c.before.before.before.before.before.before in (put-turn l.before.before.before.before.args.word.now l.loop.i c.before.before.before.before.before.loop-test.taken l.loop.inv.0 c.before.before.put-byte.ensures, omega arith))
+    (λ c. put-length c.before.loop.inv.0) (λ c. put-all _ c.before.loop.i (omega arith) c.before.loop.inv.0))

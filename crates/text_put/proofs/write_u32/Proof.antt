@@ -1,13 +1,13 @@
--- `write_u32` meets its contract. An unsigned number of 32 bits is read as itself.
+-- `write_u32`. An unsigned number of 32 bits is read as itself.
 use Rattle.meaning_numbers.proofs.Prelude.{sym, arith, w64, toZ-pos, needs}
-use Rattle.text_put.proofs.write_u32.Statement.{statement}
-use Rattle.text_put.proofs.write_u32.Tie as tie
+use Rattle.text_put.proofs.write_u32 as own
+use own.Tie as tie
 
 returns : tie.Need-returns
 returns c =
-    let s = c .before .before .before .before .before in
-    let e = toZ-pos w64 (s .args .x) (omega arith) in
-    rw (sym e) (c .before .before .write-number .ensures)
+    let s = c.before.before.before.before.before in
+    let e = toZ-pos w64 s.args.x (omega arith) in
+    rw (sym e) c.before.before.write-number.ensures
 
-pub write-u32-spec : {M : Type 1} → statement M
+pub write-u32-spec : {M : Type 1} → own.Statement.statement M
 write-u32-spec = tie.close (tie.spec (λ c. search needs) (λ c κs. search needs) (λ c. search needs) returns)

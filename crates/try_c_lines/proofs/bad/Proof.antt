@@ -2,8 +2,8 @@
 use borrow.Author.Needs.{needs}
 use mathlib.Core.Path.{ap}
 use Rattle.try_c_lines.specs.Told.{badLine}
-use Rattle.try_c_lines.proofs.bad.Statement.{statement}
-use Rattle.try_c_lines.proofs.bad.Tie as tie
+use Rattle.try_c_lines.proofs.bad as own
+use own.Tie as tie
 
-pub bad-spec : {M : Type 1} → statement M
-bad-spec = tie.close (tie.spec (λ c κs. search needs) (λ c. ap badLine (c .bad-line .ensures)))
+pub bad-spec : {M : Type 1} → own.Statement.statement M
+bad-spec = tie.close (tie.spec (λ c κs. search needs) (λ c. ap badLine c.bad-line.ensures))

@@ -2,16 +2,16 @@
 use Prim.Native.Nat.{_-_, _≤_}
 use borrow.Author.Needs.{needs}
 use native.Mathlib.Omega.{arith}
-use Rattle.try_index.proofs.agree_rows.Statement.{statement}
-use Rattle.try_index.proofs.agree_rows.Tie as tie
+use Rattle.try_index.proofs.agree_rows as own
+use own.Tie as tie
 
-abbrev Inv-loop : tie.InvT-loop
-Inv-loop nums at count rows k₀ k = k ≤ 64
+abbrev Inv : tie.InvT-loop
+Inv nums at count rows k₀ k = k ≤ 64
 
-abbrev μ-loop : tie.MeasureT-loop
-μ-loop nums at count rows k₀ k = 64 - k
+abbrev μ : tie.MeasureT-loop
+μ nums at count rows k₀ k = 64 - k
 
-pub agree-rows-spec : {M : Type 1} → statement M
+pub agree-rows-spec : {M : Type 1} → own.Statement.statement M
 agree-rows-spec =
-    tie.close (tie.spec Inv-loop μ-loop (λ c. omega arith) (λ c κs. search needs) (λ c κs. search needs) (λ c κs. search needs) (λ c. omega arith) (λ c. omega arith) (λ c κs. search needs)
+    tie.close (tie.spec Inv μ (λ c. omega arith) (λ c κs. search needs) (λ c κs. search needs) (λ c κs. search needs) (λ c. omega arith) (λ c. omega arith) (λ c κs. search needs)
     (λ c. search needs) (λ c. omega arith) (λ c. omega arith) (λ c. omega arith) (λ c. search needs))

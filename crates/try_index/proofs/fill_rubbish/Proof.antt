@@ -4,16 +4,16 @@ use borrow.Author.Needs.{needs}
 use lib.ListN.{length, length-set}
 use mathlib.Core.Path.{_≡_}
 use native.Mathlib.Omega.{arith}
-use Rattle.try_index.proofs.fill_rubbish.Statement.{statement}
-use Rattle.try_index.proofs.fill_rubbish.Tie as tie
+use Rattle.try_index.proofs.fill_rubbish as own
+use own.Tie as tie
 
-abbrev Inv-loop : tie.InvT-loop
-Inv-loop out₀ x k₀ y₀ out k y = (k ≤ length out) × (length out ≡ length out₀)
+abbrev Inv : tie.InvT-loop
+Inv out₀ x k₀ y₀ out k y = (k ≤ length out) × (length out ≡ length out₀)
 
-abbrev μ-loop : tie.MeasureT-loop
-μ-loop out₀ x k₀ y₀ out k y = length out - k
+abbrev μ : tie.MeasureT-loop
+μ out₀ x k₀ y₀ out k y = length out - k
 
-pub fill-rubbish-spec : {M : Type 1} → statement M
+pub fill-rubbish-spec : {M : Type 1} → own.Statement.statement M
 fill-rubbish-spec =
-    tie.close (tie.spec Inv-loop μ-loop (λ c. (omega arith, omega arith)) (λ c. omega arith) (λ c. omega arith) (λ c κs. search needs) (λ c. omega arith) (λ c. simp length-set (omega arith))
+    tie.close (tie.spec Inv μ (λ c. (omega arith, omega arith)) (λ c. omega arith) (λ c. omega arith) (λ c κs. search needs) (λ c. omega arith) (λ c. simp length-set (omega arith))
     (λ c. (simp length-set (omega arith), simp length-set (omega arith))) (λ c. omega arith) (λ c. search needs))

@@ -2,10 +2,10 @@
 use borrow.Author.Needs.{needs}
 use lib.ListN.{length-take}
 use native.Mathlib.Omega.{arith}
-use Rattle.try_index.proofs.try_audit.Statement.{statement}
-use Rattle.try_index.proofs.try_audit.Tie as tie
+use Rattle.try_index.proofs.try_audit as own
+use own.Tie as tie
 
-pub try-audit-spec : {M : Type 1} → statement M
+pub try-audit-spec : {M : Type 1} → own.Statement.statement M
 try-audit-spec =
     tie.close (tie.spec (λ c κs. search needs) (λ c κs. search needs) (λ c κs. search needs) (λ c κs. search needs) (λ c κs. search needs) (λ c. search needs) (λ c κs. search needs)
     (λ c. search needs) (λ c κs. search needs) (λ c. search needs) (λ c κs. search needs) (λ c. search needs) (λ c. simp length-take (omega arith)) (λ c. search needs)

@@ -4,10 +4,10 @@ use lib.ListN.{length-take}
 use lib.Seq.{length-take-le}
 use mathlib.Core.Path.{sym}
 use native.Mathlib.Omega.{arith}
-use Rattle.try_index.proofs.try_build.Statement.{statement}
-use Rattle.try_index.proofs.try_build.Tie as tie
+use Rattle.try_index.proofs.try_build as own
+use own.Tie as tie
 
-pub try-build-spec : {M : Type 1} → statement M
+pub try-build-spec : {M : Type 1} → own.Statement.statement M
 try-build-spec =
     tie.close (tie.spec (λ c κs. search needs) (λ c κs. search needs) (λ c κs. search needs) (λ c κs. search needs) (λ c κs. search needs) (λ c κs. search needs) (λ c κs. search needs)
     (λ c κs. search needs) (λ c. search needs) (λ c κs. search needs) (λ c. search needs) (λ c. simp length-take (omega arith)) (λ c. search needs) (λ c. sym (length-take-le _ _ (search needs)))

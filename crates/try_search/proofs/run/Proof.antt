@@ -2,14 +2,14 @@
 use Prim.Native.Nat.{_≤_}
 use borrow.Author.Needs.{needs}
 use native.Mathlib.Omega.{arith}
-use Rattle.try_search.proofs.run.Statement.{statement}
-use Rattle.try_search.proofs.run.Tie as tie
+use Rattle.try_search.proofs.run as own
+use own.Tie as tie
 
-abbrev Inv-loop : tie.InvT-loop
-Inv-loop nums turns t₀ left₀ t left = left ≤ turns
+abbrev Inv : tie.InvT-loop
+Inv nums turns t₀ left₀ t left = left ≤ turns
 
-abbrev μ-loop : tie.MeasureT-loop
-μ-loop nums turns t₀ left₀ t left = left
+abbrev μ : tie.MeasureT-loop
+μ nums turns t₀ left₀ t left = left
 
-pub run-spec : {M : Type 1} → statement M
-run-spec = tie.close (tie.spec Inv-loop μ-loop (λ c. omega arith) (λ c κs. search needs) (λ c. omega arith) (λ c. omega arith) (λ c. omega arith) (λ c. search needs))
+pub run-spec : {M : Type 1} → own.Statement.statement M
+run-spec = tie.close (tie.spec Inv μ (λ c. omega arith) (λ c κs. search needs) (λ c. omega arith) (λ c. omega arith) (λ c. omega arith) (λ c. search needs))

@@ -2,10 +2,10 @@
 use borrow.Author.Needs.{needs}
 use lib.Seq.{length-take-le}
 use mathlib.Core.Path.{sym}
-use Rattle.try_search.proofs.with_list.Statement.{statement}
-use Rattle.try_search.proofs.with_list.Tie as tie
+use Rattle.try_search.proofs.with_list as own
+use own.Tie as tie
 
-pub with-list-spec : {M : Type 1} → statement M
+pub with-list-spec : {M : Type 1} → own.Statement.statement M
 with-list-spec =
     tie.close (tie.spec (λ c. search needs) (λ c. search needs) (λ c. search needs) (λ c. sym (length-take-le _ _ (search needs))) (λ c. search needs) (λ c. sym (length-take-le _ _ (search needs)))
     (λ c. search needs) (λ c. search needs) (λ c. search needs) (λ c. search needs) (λ c. search needs))

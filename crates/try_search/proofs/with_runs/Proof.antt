@@ -2,10 +2,10 @@
 use borrow.Author.Needs.{needs}
 use lib.Seq.{length-take-le}
 use mathlib.Core.Path.{sym}
-use Rattle.try_search.proofs.with_runs.Statement.{statement}
-use Rattle.try_search.proofs.with_runs.Tie as tie
+use Rattle.try_search.proofs.with_runs as own
+use own.Tie as tie
 
-pub with-runs-spec : {M : Type 1} → statement M
+pub with-runs-spec : {M : Type 1} → own.Statement.statement M
 with-runs-spec =
     tie.close (tie.spec (λ c. search needs) (λ c. search needs) (λ c. search needs) (λ c. search needs) (λ c. search needs) (λ c. search needs) (λ c. search needs) (λ c. search needs)
     (λ c. search needs) (λ c. sym (length-take-le _ _ (search needs))) (λ c. search needs) (λ c. sym (length-take-le _ _ (search needs))) (λ c. search needs) (λ c. search needs) (λ c. search needs)

@@ -2,16 +2,16 @@
 use Prim.Native.Nat.{_-_, _≤_}
 use lib.ListN.{length}
 use native.Mathlib.Omega.{arith}
-use Rattle.try_text.proofs.end_of.Statement.{statement}
-use Rattle.try_text.proofs.end_of.Tie as tie
+use Rattle.try_text.proofs.end_of as own
+use own.Tie as tie
 
-abbrev Inv-loop : tie.InvT-loop
-Inv-loop text from i₀ i = (from ≤ i) × (i ≤ length text)
+abbrev Inv : tie.InvT-loop
+Inv text from i₀ i = (from ≤ i) × (i ≤ length text)
 
-abbrev μ-loop : tie.MeasureT-loop
-μ-loop text from i₀ i = length text - i
+abbrev μ : tie.MeasureT-loop
+μ text from i₀ i = length text - i
 
-pub end-of-spec : {M : Type 1} → statement M
+pub end-of-spec : {M : Type 1} → own.Statement.statement M
 end-of-spec =
-    tie.close (tie.spec Inv-loop μ-loop (λ c. (omega arith, omega arith)) (λ c. omega arith) (λ c. (omega arith, omega arith)) (λ c. omega arith) (λ c. omega arith) (λ c. (omega arith, omega arith))
+    tie.close (tie.spec Inv μ (λ c. (omega arith, omega arith)) (λ c. omega arith) (λ c. (omega arith, omega arith)) (λ c. omega arith) (λ c. omega arith) (λ c. (omega arith, omega arith))
     (λ c. (omega arith, omega arith)))

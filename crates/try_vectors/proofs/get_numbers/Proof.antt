@@ -4,16 +4,16 @@ use borrow.Author.Needs.{needs}
 use lib.ListN.{length, length-set}
 use mathlib.Core.Path.{_≡_}
 use native.Mathlib.Omega.{arith}
-use Rattle.try_vectors.proofs.get_numbers.Statement.{statement}
-use Rattle.try_vectors.proofs.get_numbers.Tie as tie
+use Rattle.try_vectors.proofs.get_numbers as own
+use own.Tie as tie
 
-abbrev Inv-loop : tie.InvT-loop
-Inv-loop nums from out₀ k₀ out k = (k ≤ length out) × (length out ≡ length out₀)
+abbrev Inv : tie.InvT-loop
+Inv nums from out₀ k₀ out k = (k ≤ length out) × (length out ≡ length out₀)
 
-abbrev μ-loop : tie.MeasureT-loop
-μ-loop nums from out₀ k₀ out k = length out - k
+abbrev μ : tie.MeasureT-loop
+μ nums from out₀ k₀ out k = length out - k
 
-pub get-numbers-spec : {M : Type 1} → statement M
+pub get-numbers-spec : {M : Type 1} → own.Statement.statement M
 get-numbers-spec =
-    tie.close (tie.spec Inv-loop μ-loop (λ c. (omega arith, omega arith)) (λ c κs. search needs) (λ c κs. search needs) (λ c. omega arith) (λ c. omega arith) (λ c. omega arith)
+    tie.close (tie.spec Inv μ (λ c. (omega arith, omega arith)) (λ c κs. search needs) (λ c κs. search needs) (λ c. omega arith) (λ c. omega arith) (λ c. omega arith)
     (λ c. simp length-set (omega arith)) (λ c. (simp length-set (omega arith), simp length-set (omega arith))) (λ c. omega arith) (λ c. search needs))

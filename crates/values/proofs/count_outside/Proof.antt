@@ -1,38 +1,38 @@
--- `count_outside` meets its contract. The invariant: the count so far.
+-- `count_outside`. The invariant: the count so far.
 use mir.Val.{boolByte}
 use Rattle.meaning_numbers.specs.Sum.{count}
 use Rattle.meaning_numbers.proofs.Count.{flag-bit, count-none, count-more, count-le}
 use Rattle.meaning_numbers.proofs.Prelude.{_≡_, _∙_, ap, sym, Bool, not, ℕ, _+_, _-_, _≤_, arith, needs, w32, toZ-ofZ}
 use Rattle.meaning_curves.specs.{Curve.stretch, Limits.valueIn}
-use Rattle.values.proofs.count_outside.Statement.{statement}
-use Rattle.values.proofs.count_outside.Tie as tie
+use Rattle.values.proofs.count_outside as own
+use own.Tie as tie
 
-abbrev Inv-loop : tie.InvT-loop
-Inv-loop s from n found₀ k₀ found k = (k ≤ n) × (found ≡ count (λ j. not (valueIn (stretch s from j))) k)
+abbrev Inv : tie.InvT-loop
+Inv s from n found₀ k₀ found k = (k ≤ n) × (found ≡ count (λ j. not (valueIn (stretch s from j))) k)
 
-abbrev μ-loop : tie.MeasureT-loop
-μ-loop s from n found₀ k₀ found k = n - k
+abbrev μ : tie.MeasureT-loop
+μ s from n found₀ k₀ found k = n - k
 
 -- a turn looks at the value at k
-module _ (c : tie.After-in-limits Inv-loop μ-loop) where
-  abbrev l : tie.At-loop Inv-loop μ-loop
-  l = c .before .before .before
+module _ (c : tie.After-in-limits Inv μ) where
+  abbrev l : tie.At-loop Inv μ
+  l = c.before.before.before
 
   abbrev outside : ℕ → Bool
-  outside j = not (valueIn (stretch (l .before .args .s .now) (l .before .args .from) j))
+  outside j = not (valueIn (stretch l.before.args.s.now l.before.args.from j))
 
-  told : not (c .in-limits .result) ≡ outside (l .loop .k)
-  told = ap not (c .in-limits .ensures ∙ ap valueIn (toZ-ofZ w32 _ (search needs)))
+  told : not c.in-limits.result ≡ outside l.loop.k
+  told = ap not (c.in-limits.ensures ∙ ap valueIn (toZ-ofZ w32 _ (search needs)))
 
-  more : l .loop .found + boolByte (not (c .in-limits .result)) ≡ count outside (l .loop .k + 1)
-  more = omega (arith, l .loop .inv .1, ap boolByte told, flag-bit (outside (l .loop .k)), count-more outside (l .loop .k))
+  more : l.loop.found + boolByte (not c.in-limits.result) ≡ count outside (l.loop.k + 1)
+  more = omega (arith, l.loop.inv.1, ap boolByte told, flag-bit (outside l.loop.k), count-more outside l.loop.k)
 
-returns : tie.Need-returns Inv-loop μ-loop
+returns : tie.Need-returns Inv μ
 returns c =
-    let e : c .before .loop .k ≡ c .before .before .args .n = omega arith in
-    rw e at (c .before .loop .inv .1)
+    let e : c.before.loop.k ≡ c.before.before.args.n = omega arith in
+    rw e at c.before.loop.inv.1
 
-pub count-outside-spec : {M : Type 1} → statement M
+pub count-outside-spec : {M : Type 1} → own.Statement.statement M
 count-outside-spec =
-    tie.close (tie.spec Inv-loop μ-loop (λ c. (omega arith, sym (count-none _))) (λ c. omega arith) (λ c. omega arith) (λ c. omega arith) (λ c κs. search needs) (λ c. tt)
+    tie.close (tie.spec Inv μ (λ c. (omega arith, sym (count-none _))) (λ c. omega arith) (λ c. omega arith) (λ c. omega arith) (λ c κs. search needs) (λ c. tt)
     (λ c. omega (arith, more c, count-le (outside c) (l c .loop .k + 1))) (λ c. omega arith) (λ c. omega arith) (λ c. (omega arith, more c)) returns)

@@ -1,11 +1,11 @@
--- `first_outside` meets its contract. The invariant: every value passed is in its limits; a block that counts none adds its values (`block-in`).
+-- `first_outside`. The invariant: every value passed is in its limits; a block that counts none adds its values (`block-in`).
 use Rattle.meaning_numbers.specs.Sum.{count}
 use Rattle.meaning_numbers.proofs.Count.{never-count}
 use Rattle.meaning_numbers.proofs.Prelude.{needs, not-false, _≡_, sym, subst, not, List, ℕ, _+_, _-_, _≤_, arith, decLt, T, ℤ, length}
 use Rattle.meaning_curves.specs.{Curve.at, Curve.stretch, Limits.valueIn}
 use Rattle.values.specs.Place.{InTo}
-use Rattle.values.proofs.first_outside.Statement.{statement}
-use Rattle.values.proofs.first_outside.Tie as tie
+use Rattle.values.proofs.first_outside as own
+use own.Tie as tie
 
 block-in : (s : List ℤ) (i n : ℕ) → InTo s i → count (λ k. not (valueIn (stretch s i k))) n ≡ 0 → InTo s (i + n)
 block-in s i n h none = record {
@@ -18,18 +18,18 @@ block-in s i n h none = record {
   ];
 }
 
-abbrev Inv-loop : tie.InvT-loop
-Inv-loop s i₀ i = (i ≤ length s) × InTo s i
+abbrev Inv : tie.InvT-loop
+Inv s i₀ i = (i ≤ length s) × InTo s i
 
-abbrev μ-loop : tie.MeasureT-loop
-μ-loop s i₀ i = length s - i
+abbrev μ : tie.MeasureT-loop
+μ s i₀ i = length s - i
 
-loop-again : tie.Need-loop-again Inv-loop μ-loop
+loop-again : tie.Need-loop-again Inv μ
 loop-again c =
-    let l = c .before .before .before in
-    (omega arith, block-in _ _ 256 (l .loop .inv .1) (omega arith))
+    let l = c.before.before.before in
+    (omega arith, block-in _ _ 256 l.loop.inv.1 (omega arith))
 
-pub first-outside-spec : {M : Type 1} → statement M
+pub first-outside-spec : {M : Type 1} → own.Statement.statement M
 first-outside-spec =
-    tie.close (tie.spec Inv-loop μ-loop (λ c. (omega arith, record { inside = λ k l. absurd (omega arith) })) (λ c. omega arith) (λ c κs. search needs) (λ c κs. search needs) (λ c. search needs)
+    tie.close (tie.spec Inv μ (λ c. (omega arith, record { inside = λ k l. absurd (omega arith) })) (λ c. omega arith) (λ c κs. search needs) (λ c κs. search needs) (λ c. search needs)
     (λ c. omega arith) (λ c. omega arith) loop-again (λ c κs. search needs) (λ c. search needs))

@@ -1,10 +1,11 @@
--- `spread_of` meets its contract (`spread-raised`).
+-- `spread_of` (`spread-raised`).
 use Rattle.meaning_numbers.proofs.Prelude.{arith}
-use Rattle.values.proofs.{SumsLaws.spread-small, SumsLaws.spread-raised, spread_of.Statement.statement}
-use Rattle.values.proofs.spread_of.Tie as tie
+use Rattle.values.proofs as own
+use own.SumsLaws.{spread-small, spread-raised}
+use own.spread_of.Tie as tie
 
-pub spread-of-spec : {M : Type 1} → statement M
+pub spread-of-spec : {M : Type 1} → own.spread_of.Statement.statement M
 spread-of-spec =
-    tie.close (tie.spec (λ c. let p = c .before .pre in let l = spread-small (p .1 .0) (p .1 .1) (p .0) in omega arith)
-    (λ c. let p = c .before .before .pre in let l = spread-small (p .1 .0) (p .1 .1) (p .0) in omega arith) (λ c. let p = c .before .before .pre in omega (arith, spread-raised (p .1 .0) (p .1 .1)))
-    (λ c. let p = c .before .before .pre in omega (arith, spread-raised (p .1 .0) (p .1 .1))))
+    tie.close (tie.spec (λ c. let p = c.before.pre in let l = spread-small p.1.0 p.1.1 p.0 in omega arith)
+    (λ c. let p = c.before.before.pre in let l = spread-small p.1.0 p.1.1 p.0 in omega arith) (λ c. let p = c.before.before.pre in omega (arith, spread-raised p.1.0 p.1.1))
+    (λ c. let p = c.before.before.pre in omega (arith, spread-raised p.1.0 p.1.1)))
