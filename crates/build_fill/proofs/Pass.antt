@@ -48,7 +48,7 @@ module _ {P : ℕ → ℕ → Bool} {sum : ℕ → ℤ} {from windows : ℕ} {ro
           ]
 
       pub found-is : P k j ≡ true
-      found-is = ap (λ (x : ℕ). P x j) found-home ∙ h.home j a b .is
+      found-is = ap (λ x. P x j) found-home ∙ h.home j a b .is
 
       pub found-holds : inside r.low r.up (sum j) ≡ true
       found-holds = rw f.is (sym (h.holds k j f.below a b) ∙ found-is)
@@ -89,10 +89,10 @@ module _ {P : ℕ → ℕ → Bool} {s : List ℤ} {w e : ℕ} {from : Window} {
     j = at.offset
 
     first-is : r.first ≡ partStart n W P i
-    first-is = ap (λ (x : Row). x .first) f.is ∙ h.rowed.first i f.below
+    first-is = ap (λ x. x.first) f.is ∙ h.rowed.first i f.below
 
     runs-is : r.runs ≡ runCount (P i) W
-    runs-is = ap (λ (x : Row). x .runs) f.is ∙ h.rowed.runs i f.below
+    runs-is = ap (λ x. x.runs) f.is ∙ h.rowed.runs i f.below
 
     -- a run of the row's windows
     run-of : (t : ℕ) → Change (λ x. inside r.low r.up (windowSum s w x)) j W t → RunOf n W P left₀ right₀ i j t
@@ -114,7 +114,7 @@ module _ {P : ℕ → ℕ → Bool} {s : List ℤ} {w e : ℕ} {from : Window} {
     written-is : written r right ≡ runCount (P i) j
     written-is =
         let e : r.first + r.runs - 1 ≡ partStart n W P i + runCount (P i) W - 1 = omega (arith, first-is, runs-is) in
-        ap (λ (x : ℕ). getD right x 0) e ∙ cursor-is n W P left₀ right₀ f.below less is-mine g.filling
+        ap (λ x. getD right x 0) e ∙ cursor-is n W P left₀ right₀ f.below less is-mine g.filling
 
     pub going-asks : TurnAsked s w e at r left right
     going-asks =
@@ -138,7 +138,7 @@ module _ {P : ℕ → ℕ → Bool} {s : List ℤ} {w e : ℕ} {from : Window} {
     going-next {t} {left′} {right′} v =
         let o = run-of t.offset v.change in
         let b : r.first + written r right ≡ partStart n W P i + runCount (P i) j = omega (arith, first-is, written-is) in
-        let l = v.left-is ∙ ap (λ (x : ℕ). set left x j) b in
+        let l = v.left-is ∙ ap (λ x. set left x j) b in
         let m = v.right-is ∙ (λ k. fileRight right (first-is k) (runs-is k) (written-is k) (t.offset - 1)) in
         record {
           place = record { lent = g.place.lent; below = v.change.below; sum = v.sum };

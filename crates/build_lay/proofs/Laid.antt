@@ -1,11 +1,5 @@
 -- Laws of specs/Laid.
-use Prim.Native.Nat.{ℕ, _+_, _*_, _≤_}
-use lib.IntN.{ℤ}
-use lib.ListN.{length, take, drop, length-map}
-use lib.Seq.{take-append-seam}
-use mathlib.Core.List.{List, _++_, map}
-use mathlib.Core.Path.{_≡_, sym, ap, _∙_}
-use native.Mathlib.Omega.{arith}
+use Rattle.meaning_numbers.proofs.Prelude.{ℕ, _+_, _*_, _≤_, ℤ, length, take, drop, length-map, take-append-seam, List, _++_, map, _≡_, sym, ap, _∙_, arith}
 use Rattle.meaning_curves.specs.Curve.{windowSum}
 use Rattle.meaning_rows.specs.{declared.Row.Row, Index.records, Build.SetRow, Build.rowNumbers, Build.rowAt, Build.filed, Build.withRuns, Build.builtRows}
 use Rattle.meaning_rows.proofs.{Laid.length-records, Build.merged-none}

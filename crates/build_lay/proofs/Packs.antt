@@ -1,10 +1,5 @@
 -- What packing the records of a series' rows asks and gives, once the rows are laid out.
-use Prim.Native.Nat.{ℕ, _+_, _*_, _≤_}
-use lib.IntN.{ℤ}
-use lib.ListN.{length}
-use mathlib.Core.List.{List}
-use mathlib.Core.Path.{_≡_}
-use native.Mathlib.Omega.{arith}
+use Rattle.meaning_numbers.proofs.Prelude.{ℕ, _+_, _*_, _≤_, ℤ, length, List, _≡_, arith}
 use Rattle.meaning_curves.specs.Curve.{windowSum}
 use Rattle.meaning_rows.specs.{declared.Row.Row, Build.filed}
 use Rattle.sums_slide.specs.Levels.{windowsOf}

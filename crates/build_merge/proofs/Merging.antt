@@ -91,7 +91,7 @@ module _ (t : Rows) (count : ℕ) (left right : List ℕ) (g : ℕ) where
 
       -- the record at i
       record-is : getD rows i zeroRow ≡ recordOf n (partAt row n i) s
-      record-is = ap (λ (l : List Row). getD l 0 zeroRow) opened
+      record-is = ap (λ l. getD l 0 zeroRow) opened
 
       same-runs : runs s.has n ≡ runs (isRow row i) n
       unfolding Numbered
@@ -113,8 +113,7 @@ module _ (t : Rows) (count : ℕ) (left right : List ℕ) (g : ℕ) where
           let u = ap length (runs-cong (join current s .has) (group row n m.from (i + 1)) n joined-has) in
           let c = ap length (runs-cong current.has (group row n m.from i) n z.has) in
           let h = runs-merged row n m.from i (omega (arith, z.from-below)) (partAt row n i) left right (named i less) in
-          let k = rw (← same-count) at h in
-          omega (arith, u, c, k)
+          omega (arith, u, c, (rw (← same-count) at h))
 
       union-is : unionRuns left right m i (getD rows i zeroRow) ≡ runCount (join current s .has) n
       union-is = rw (record-is, z.row-is) (omega (arith, counted))
@@ -148,7 +147,7 @@ module _ (t : Rows) (count : ℕ) (left right : List ℕ) (g : ℕ) where
           }
         where
           ahead-is : take (length ahead) (drop (i + 1) rows) ≡ records (partAt row n i + runCount s.has n) (map (withRuns n) ahead)
-          ahead-is = rw (add-one i) (ap (λ (l : List Row). drop 1 l) opened)
+          ahead-is = rw (add-one i) (ap (λ l. drop 1 l) opened)
 
       abbrev here : Row
       here = getD rows i zeroRow

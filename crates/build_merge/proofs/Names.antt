@@ -40,8 +40,8 @@ pub group-one : (row : ℕ → ℕ) (n i j : ℕ) → j < n → isRow row i j �
 unfolding group isRow within
 group-one row n i j l = rw (lt-ltb j n l) (by-test _
     (λ t. let e = eqb-true (row j) i t in rw (t, le-leb i (row j) (omega arith), lt-ltb (row j) (i + 1) (omega arith)))
-    (λ f. let e = eqb-false (row j) i f in rw f (by-test _
-    (λ t. let b = leb-true i (row j) t in rw (t, le-ltb (row j) (i + 1) (elim (decLe (i + 1) (row j)) [ yes k ↦ k | no k ↦ absurd (e (omega arith)) ])))
+    (λ f. rw f (by-test _
+    (λ t. let b = leb-true i (row j) t in rw (t, le-ltb (row j) (i + 1) (elim (decLe (i + 1) (row j)) [ yes k ↦ k | no k ↦ absurd ((eqb-false (row j) i f) (omega arith)) ])))
     (λ t. rw t))))
 
 -- a sum over a list of ones for what passes is a count over its places
@@ -84,7 +84,6 @@ module _ (row : ℕ → ℕ) (n a i : ℕ) (order : a ≤ i) where
   runs-merged first left right h =
       let p = group row n a i in
       let q = isRow row i in
-      let same = runs-cong _ _ n either-more in
       let ll = length-lefts (runs q n) in
       let lr = length-rights (runs q n) in
       let one = sum-count (λ l. bit (before p l)) (namesOf left first (a + 1) (i + 1)) (lefts (runs q n))
@@ -94,7 +93,7 @@ module _ (row : ℕ → ℕ) (n a i : ℕ) (order : a ≤ i) where
       omega (
         arith,
         runs-joined p q n apart past,
-        ap length same,
+        ap length (runs-cong _ _ n either-more),
         rw ll at one,
         rw lr at two,
       )

@@ -41,7 +41,7 @@ module _ (ys : List Row) (n : ℕ) (us ws : List ℕ) (g : ℕ) (asked : Mergeab
 
     module _ {m′ : Group} (e : m′ ≡ nextGroup us ws g m i (getD l i zeroRow)) where
       pub in-place : length l ≡ length ys → m′.place < length ys
-      in-place long = subst (λ (c : ℕ). m′ .place < c) long (rw e (merging-place t₀ n us ws g r₀.names i l m (k.merging t₀ r₀) less))
+      in-place long = subst (λ (c : ℕ). m′.place < c) long (rw e (merging-place t₀ n us ws g r₀.names i l m (k.merging t₀ r₀) less))
 
       pub turned : Kept m′ (i + 1) (set l m′.place m′.row)
       turned = record { merging = λ t r. rw e (merging-turn t n us ws g r.names i l m (k.merging t r) less); upto = omega arith }

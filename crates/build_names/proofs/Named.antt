@@ -11,5 +11,4 @@ module _ {rows : List Row} {count w e : ℕ} {at : Window} (y : Nameable rows co
   place-is = found-place rows count sum i found ∙ ap (placeIn rows count) sum-is
 
   pub place-few : i ≤ 4294967294
-  unfolding placeIn
   place-few = omega arith

@@ -29,10 +29,10 @@ record-at : (n k : ℕ) (l : List SetRow) (i : ℕ) → i < length l → getD (r
 record-at n k [] i h = absurd (omega arith)
 record-at n k (s ∷ l) zero h =
     let e : k ≡ k + Σℕ 0 (λ x. runCount (nth (s ∷ l) x .has) n) = omega (arith, Σℕ-none (λ x. runCount (nth (s ∷ l) x .has) n)) in
-    ap (λ (r : List Row). getD r 0 zeroRow) (records-first n k s l) ∙ ap (λ (f : ℕ). recordOf n f s) e
+    ap (λ r. getD r 0 zeroRow) (records-first n k s l) ∙ ap (λ f. recordOf n f s) e
 record-at n k (s ∷ l) (suc i) h =
     let e : k + runCount s.has n + Σℕ i (λ x. runCount (nth l x .has) n) ≡ k + Σℕ (suc i) (λ x. runCount (nth (s ∷ l) x .has) n) = omega (arith, Σℕ-shift i (λ x. runCount (nth (s ∷ l) x .has) n)) in
-    ap (λ (r : List Row). getD r (suc i) zeroRow) (records-first n k s l) ∙ record-at n _ l i (omega arith) ∙ rw e
+    ap (λ r. getD r (suc i) zeroRow) (records-first n k s l) ∙ record-at n _ l i (omega arith) ∙ rw e
 
 runs-total : (n : ℕ) (l : List SetRow) → length (allRuns (map (withRuns n) l)) ≡ Σℕ (length l) (λ x. runCount (nth l x .has) n)
 unfolding allRuns withRuns Σℕ
@@ -117,7 +117,7 @@ module _ (sum : ℕ → ℤ) (n : ℕ) where
     in-list i h = omega arith
 
     packed-at : (i : ℕ) → i < count → getD rows i zeroRow ≡ recordOf n (0 + partsOf i) (nth l i)
-    packed-at i h = sym (getD-take count rows i zeroRow h) ∙ ap (λ (r : List Row). getD r i zeroRow) p.front ∙ record-at n 0 l i (in-list i h)
+    packed-at i h = sym (getD-take count rows i zeroRow h) ∙ ap (λ r. getD r i zeroRow) p.front ∙ record-at n 0 l i (in-list i h)
 
     -- the row that holds a window is its row
     found : (j : ℕ) → j < n → (row j < count) × (inside (nth l (row j) .low) (nth l (row j) .up) (sum j) ≡ true)
@@ -165,15 +165,15 @@ module _ (sum : ℕ → ℤ) (n : ℕ) where
     pub packed-ranges : RangeRows sum n rows count
     packed-ranges = record {
       ranged = ranged;
-      first-is = λ i h. ap (λ (r : Row). r .first) (packed-at i h) ∙ omega (arith, parts-are i (omega arith));
-      runs-is = λ i h. ap (λ (r : Row). r .runs) (packed-at i h) ∙ counts i h;
+      first-is = λ i h. ap (λ r. r.first) (packed-at i h) ∙ omega (arith, parts-are i (omega arith));
+      runs-is = λ i h. ap (λ r. r.runs) (packed-at i h) ∙ counts i h;
     }
 
     pub packed-numbered : Numbered row n 0 l
-    packed-numbered = numbered-by row n 0 l (λ i j a b. let z : 0 + i ≡ i = omega arith in has-row i j (omega arith) b ∙ ap (λ (x : ℕ). isRow row x j) (sym z))
+    packed-numbered = numbered-by row n 0 l (λ i j a b. let z : 0 + i ≡ i = omega arith in has-row i j (omega arith) b ∙ ap (λ x. isRow row x j) (sym z))
 
     pub packed-total : partAt row n count ≤ n
-    packed-total = omega (arith, sym (parts-are count (omega arith)), runs-total n l, s.total, ap (λ (x : ℕ). Σℕ x (λ y. runCount (nth l y .has) n)) p.many)
+    packed-total = omega (arith, sym (parts-are count (omega arith)), runs-total n l, s.total, ap (λ x. Σℕ x (λ y. runCount (nth l y .has) n)) p.many)
 
 limited-by : (x : ℤ) → up x ≤ 1000000000 + dn x → dn x ≤ 1000000000 + up x → Limited x
 limited-by (pos n) a b = record { least = omega arith; most = omega arith }

@@ -28,9 +28,6 @@ module _ (s : List ℤ) (w e : ℕ) (rows : List Row) (count : ℕ) where
   named-is at h l = rw (sum-is at h l)
 
   module _ (left₀ right₀ : List ℕ) (u : Unnamed s w e rows count left₀ right₀) where
-    windows-few : n ≤ 1048576
-    windows-few = omega arith
-
     -- a row's name is small
     small-name : (j : ℕ) → nameAt row n j ≤ 4294967295
     unfolding nameAt
@@ -93,7 +90,7 @@ module _ (s : List ℤ) (w e : ℕ) (rows : List Row) (count : ℕ) where
       module _ (some : (name ≡ 0) → ⊥) where
         less : j < n
         unfolding nameAt
-        less = by-test _ (λ t. ltb-true j n t) (λ f. let q = z.name-is ∙ rw f in absurd (some q))
+        less = by-test _ (λ t. ltb-true j n t) (λ f. absurd (some (z.name-is ∙ rw f)))
 
         name-row : name ≡ row j + 1
         unfolding nameAt

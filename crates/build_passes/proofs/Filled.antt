@@ -32,7 +32,7 @@ last-part o G (x ∷ l) old =
     let f : ℕ → ℕ = λ y. length (G (getD t y o) .runs) in
     let c : length t - 1 + 1 ≡ length t = omega arith in
     let r = List·getD-append made (replicate (length old - length made) zeroRow) zeroRow _ (omega (arith, i, length-records 0 (map G t), length-map t G)) ∙ records-at o G zeroRow 0 t _ i in
-    omega (arith, ap (λ (q : Row). q .first) r, ap (λ (q : Row). q .runs) r, Σℕ-more (length t - 1) f, ap (λ (y : ℕ). Σℕ y f) c, runs-total o G t)
+    omega (arith, ap (λ (q : Row). q.first) r, ap (λ (q : Row). q.runs) r, Σℕ-more (length t - 1) f, ap (λ (y : ℕ). Σℕ y f) c, runs-total o G t)
 
 module _ {d g : ℕ} {s : List ℤ} {w e : ℕ} {rows : List Row} {n : ℕ} {left₀ right₀ : List ℕ} (h : Fillable d g s w e rows n left₀ right₀) where
   abbrev W : ℕ
@@ -67,7 +67,7 @@ module _ {d g : ℕ} {s : List ℤ} {w e : ℕ} {rows : List Row} {n : ℕ} {lef
       record {
         many = h.packed.many;
         within = omega (arith, front-long, length-append (take n rows) rest);
-        front = ap (λ (x : ℕ). take x cleared) (sym front-long) ∙ take-append-seam _ rest ∙ h.packed.front;
+        front = ap (λ x. take x cleared) (sym front-long) ∙ take-append-seam _ rest ∙ h.packed.front;
       }
 
   module _ {left right : List ℕ} (cl : Cleared left₀ left) (cr : Cleared right₀ right) where
@@ -107,7 +107,7 @@ module _ {d g : ℕ} {s : List ℤ} {w e : ℕ} {rows : List Row} {n : ℕ} {lef
       rows-is =
           let a = records 0 _ in
           let long = h.packed.many ∙ sym (length-records 0 _ ∙ length-map l _) in
-          ap (λ (m : List Row). m ++ replicate (length rows - n) zeroRow) h.packed.front ∙ ap (λ (x : ℕ). a ++ replicate (length rows - x) zeroRow) long
+          ap (λ m. m ++ replicate (length rows - n) zeroRow) h.packed.front ∙ ap (λ x. a ++ replicate (length rows - x) zeroRow) long
 
       pub finished : Holds d g s w (indexBuffers rows left₀ right₀) (indexBuffers cleared left′ right′)
       unfolding indexIn built builtRows

@@ -75,7 +75,7 @@ module _ {n count : ℕ} {l : List SetRow} {rows : List Row} (p : PackedAs n l r
   size-is i = length-map (runs _ n) entry
 
   record-at : (i : ℕ) → i < count → getD rows i zeroRow ≡ record { low = withRuns n (getD l i noRow) .low; up = withRuns n (getD l i noRow) .up; first = 0 + Σℕ i (λ y. length (withRuns n (getD l y noRow) .runs)); runs = length (withRuns n (getD l i noRow) .runs) }
-  record-at i h = sym (getD-take count rows i zeroRow h) ∙ ap (λ (m : List Row). getD m i zeroRow) p.front ∙ records-at noRow _ zeroRow 0 l i (omega arith)
+  record-at i h = sym (getD-take count rows i zeroRow h) ∙ ap (λ m. getD m i zeroRow) p.front ∙ records-at noRow _ zeroRow 0 l i (omega arith)
 
   low-at : (i : ℕ) → i < count → getD rows i zeroRow .low ≡ getD l i noRow .low
   unfolding withRuns
@@ -88,10 +88,10 @@ module _ {n count : ℕ} {l : List SetRow} {rows : List Row} (p : PackedAs n l r
   first-at : (i : ℕ) → i < count → getD rows i zeroRow .first ≡ partStart count n (tests l) i
   first-at i h =
       let e : 0 + Σℕ i (λ y. length (withRuns n (getD l y noRow) .runs)) ≡ Σℕ i (λ y. length (withRuns n (getD l y noRow) .runs)) = omega arith in
-      ap (λ (r : Row). r .first) (record-at i h) ∙ e ∙ Σℕ-same i (λ y. length (withRuns n _ .runs)) (λ y. runCount _ n) (λ y b. size-is y)
+      ap (λ r. r.first) (record-at i h) ∙ e ∙ Σℕ-same i (λ y. length (withRuns n _ .runs)) (λ y. runCount _ n) (λ y b. size-is y)
 
   runs-at : (i : ℕ) → i < count → getD rows i zeroRow .runs ≡ runCount (tests l i) n
-  runs-at i h = ap (λ (r : Row). r .runs) (record-at i h) ∙ size-is i
+  runs-at i h = ap (λ r. r.runs) (record-at i h) ∙ size-is i
 
   pub packed-rowed : (sum : ℕ → ℤ) → Tiled sum n l → ((j : ℕ) → j < n → covered (sum j) l ≡ true) → All (Ends Near) l → Rowed (tests l) sum 0 n rows count
   packed-rowed sum t c e = record {

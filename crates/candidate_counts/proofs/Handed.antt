@@ -37,6 +37,6 @@ module _ {set : ℕ → Bool} {n : ℕ} {left₀ right₀ left right : List ℕ}
   handed hl hr el er = record {
     count-is = c.count-is;
     found-is = c.found-is;
-    left-is = el ∙ behind _ left₀ left k (length-lefts _ ∙ sym c.count-is) (room hl) c.left-is ∙ ap (λ (l : List ℕ). filled 0 l left₀) (lefts-are _);
-    right-is = er ∙ behind _ right₀ right k (length-rights _ ∙ sym c.count-is) (room hr) c.right-is ∙ ap (λ (l : List ℕ). filled 0 l right₀) (rights-are _);
+    left-is = el ∙ behind _ left₀ left k (length-lefts _ ∙ sym c.count-is) (room hl) c.left-is ∙ ap (λ l. filled 0 l left₀) (lefts-are _);
+    right-is = er ∙ behind _ right₀ right k (length-rights _ ∙ sym c.count-is) (room hr) c.right-is ∙ ap (λ l. filled 0 l right₀) (rights-are _);
   }

@@ -24,7 +24,7 @@ module _ (x : Index) (range : ℕ → ℤ × ℤ) where
       rw (e, f) (and-true _)
   candidate-more k (suc n) j =
       let e : suc k + n ≡ k + suc n = omega arith in let f : j + w + n * w ≡ j + suc n * w = omega arith in
-      ap (λ (t : Bool). admits x (range k) j && t) (candidate-more (suc k) n (j + w))
+      ap (λ t. admits x (range k) j && t) (candidate-more (suc k) n (j + w))
       ∙ rw (e, f) (sym (and-assoc (admits x (range k) j) (candidate x (map range (numbersFrom (suc k) n)) (j + w)) (admits x (range (k + suc n)) (j + suc n * w))))
 
   pub leading-le : (i j : ℕ) → leading x range i j ≤ i
@@ -39,4 +39,4 @@ module _ (x : Index) (range : ℕ → ℤ × ℤ) where
   leading-all zero j = refl
   leading-all (suc i) j =
       let a = admits x (range i) _ in
-      turn a i _ (leading-le i j) ∙ ap (λ (t : Bool). t && a) (leading-all i j) ∙ sym (candidate-more 0 i j ∙ rw (zero-add i))
+      turn a i _ (leading-le i j) ∙ ap (λ t. t && a) (leading-all i j) ∙ sym (candidate-more 0 i j ∙ rw (zero-add i))

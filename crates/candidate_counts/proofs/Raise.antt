@@ -42,7 +42,7 @@ pub raise-more : (part from i v : ℕ) (old now : List ℕ) → from ≤ i → i
 raise-more part from i v old now h l r e = record {
   long = length-set now i v ∙ r.long;
   at = λ j. by-test _
-      (λ t. let s = eqb-true j i t in rw (s, getD-set-same now i v 0 l, e, r.at i, between-past from i, between-here from i h, bump-none part _))
+      (λ t. rw (eqb-true j i t, getD-set-same now i v 0 l, e, r.at i, between-past from i, between-here from i h, bump-none part _))
       (λ f. let n = eqb-false j i f in rw (getD-set-other now i j v 0 n, between-before from i j n) (r.at j));
 }
 
@@ -62,7 +62,7 @@ raise-ends part from i to old new h k = raised-cong part _ _ old new (λ j. same
 -- the places of a run, moved down and clipped, are the offsets whose windows it has
 run-reached : (offsets shift l r j : ℕ) → between (min (l - shift) offsets) (min (r + 1 - shift) offsets) j ≡ (ltb j offsets && inRun (j + shift) (pos l, pos r))
 run-reached offsets shift l r j = by-test _
-    (λ t. let b = ltb-true j offsets t in rw t (both-ends b))
+    (λ t. rw t (both-ends (ltb-true j offsets t)))
     (λ f. let b = ltb-false j offsets f in rw (f, le-ltb j (min (r + 1 - shift) offsets) (omega arith)) (and-false (leb (min _ offsets) j)))
   where
     both-ends : j < offsets → between (min (l - shift) offsets) (min (r + 1 - shift) offsets) j ≡ (leb l (j + shift) && leb (j + shift) r)

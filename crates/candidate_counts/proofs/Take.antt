@@ -14,7 +14,7 @@ module _ {p : ℕ → Bool} {left₀ right₀ : List ℕ} {k : ℕ} {left right 
   unfolding takeIn
   passed {j} out f = record {
     prev-is = sym (before-more p j ∙ out);
-    count-is = omega (arith, f.count-is, runCount-more p j, ap (λ (t : Bool). bit (t && not (before p j))) out, bit-false refl);
+    count-is = omega (arith, f.count-is, runCount-more p j, ap (λ t. bit (t && not (before p j))) out, bit-false refl);
     left-is = f.left-is ∙ rw (runs-more p j, out);
     right-is = f.right-is ∙ rw (runs-more p j, out);
   }
@@ -71,7 +71,6 @@ length-put-right true true l k j = length-set l (k - 1) j
 length-put-right true false l k j = length-set l k j
 
 begun-next : (here prev : Bool) (k : ℕ) → bit prev ≤ k → bit here ≤ k + bit (here && not prev)
-unfolding bit
 begun-next false prev k h = omega arith
 begun-next true true k h = omega arith
 begun-next true false k h = omega arith

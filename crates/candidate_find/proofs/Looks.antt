@@ -218,7 +218,7 @@ module _ (s : List ℤ) (h : Head) (rows : List Row) (left right : List ℕ) (as
   plan-here = planned ∙ rw judged
 
   pub halts : not (eqb p.number 0) ≡ true → {t : Sought} → t ≡ stopped p → SoughtKept (lentSearch s h rows left right ask q) first last scratch t first last scratch
-  halts f e = rw (e, plan-here) (halted s h rows left right ask q first last scratch (λ z. eqb-false _ 0 (not-true _ f) (ap (λ (r : Refusal). r .number) plan-here ∙ z)))
+  halts f e = rw (e, plan-here) (halted s h rows left right ask q first last scratch (λ z. eqb-false _ 0 (not-true _ f) (ap (λ r. r.number) plan-here ∙ z)))
 
   pub goes : not (eqb p.number 0) ≡ false → thePlan s h rows left right ask q (searchBuffers first last scratch [] []) .number ≡ 0
-  goes f = sym (ap (λ (r : Refusal). r .number) plan-here) ∙ eqb-true _ 0 (not-false _ f)
+  goes f = sym (ap (λ r. r.number) plan-here) ∙ eqb-true _ 0 (not-false _ f)

@@ -5,14 +5,13 @@ use mathlib.Core.List.{List}
 use mathlib.Core.Path.{_≡_, _∙_, sym, ap}
 use Rattle.meaning_filter.proofs.Candidates.{by-test}
 use Rattle.meaning_entries.specs.Search.{SearchCall}
-use Rattle.refusals.specs.declared.Refusal.{Refusal}
 use Rattle.candidate_find.specs.{declared.Sought.Sought, Sought.SoughtKept}
 
 module _ (c : SearchCall) (left right scratch : List ℕ) {t u : Sought} {left′ right′ scratch′ left″ right″ scratch″ : List ℕ} where
   pub sought-only : SoughtKept c left right scratch t left′ right′ scratch′ → SoughtKept c left right scratch u left″ right″ scratch″ → (t ≡ u) × (left′ ≡ left″) × (right′ ≡ right″) × (scratch′ ≡ scratch″)
   sought-only k l =
       let same = k.judged ∙ sym l.judged in
-      let number = sym (ap (λ (r : Refusal). r .number) same) in
+      let number = sym (ap (λ r. r.number) same) in
       by-test _
       (λ yes.
       let z = eqb-true _ 0 yes in

@@ -212,7 +212,7 @@ module _ (x : Index) (f : WellFormed x) where
     below-high : (k : ℕ) → k < e → row k .low ≤ℤ high
     below-high k l = elim (decLt k b) [
       | yes y ↦ let u = above-before rows high k y in let w = row-at x f zeroRow k (omega (arith, above-le rows high)) .wide in omega zmach
-      | no m ↦ by-last (λ h t s. let same : b ≡ k = omega (arith, s) in subst (λ (i : ℕ). row i .low ≤ℤ high) same (leZ-true t)) (λ s t. absurd (omega (arith, s)))
+      | no m ↦ by-last (λ h t s. let same : b ≡ k = omega (arith, s) in subst (λ i. row i .low ≤ℤ high) same (leZ-true t)) (λ s t. absurd (omega (arith, s)))
     ]
 
     row-met : (k : ℕ) → a ≤ k → k < e → met (low, high) (row k) ≡ true

@@ -72,8 +72,8 @@ ends-are : (kind : Kind) (q : ℕ → ℤ) (m : ℕ) (l : Limits) (w i : ℕ)
     → let f = frameOf kind (spread q m) (total q m) m l w in
     _≡_ {A = Pair} (lowEnd f (lowerSum (curveOf kind q m) m l.band (i * w) w), highEnd f (upperSum (curveOf kind q m) m l.band (i * w) w)) (rangeOf kind q m l w i)
 unfolding frameOf rangeOf
-ends-are Raw q m l w i = let a = raw-low q m l w (i * w) in let b = raw-high q m l w (i * w) in λ k. (a k, b k)
-ends-are Normal q m l w i = let a = normal-low q m l w (i * w) in let b = normal-high q m l w (i * w) in λ k. (a k, b k)
+ends-are Raw q m l w i = λ k. ((raw-low q m l w (i * w)) k, (raw-high q m l w (i * w)) k)
+ends-are Normal q m l w i = λ k. ((normal-low q m l w (i * w)) k, (normal-high q m l w (i * w)) k)
 
 -- the raised sum less its bias is the sum
 pub total-is : {kind : Kind} {q curve low high : List ℤ} {b p A : ℕ} → AllIn q → Ready kind q b curve low high p A → pos p -ℤ pos (10000 * length q) ≡ total (at q) (length q)

@@ -23,7 +23,6 @@ pub query-in : {kind : Kind} {q curve low high : List ℤ} {b p A w : ℕ} {l : 
 query-in {q = q} {p = p} h some most i r =
     let m = length q in
     let sums : AreSums q 0 m p (Σℕ m (λ k. square (raised (stretch q 0 k)))) = record { values = r.values; squares = refl } in
-    let e = spread-same (from-start q m) in
     record {
       some = some;
       most = most;
@@ -33,5 +32,5 @@ query-in {q = q} {p = p} h some most i r =
       scale-most = i.scale-most;
       shift = i.shift;
       values-most = sums-le h sums .0;
-      spread-most = omega (arith, r.spread, e, spread-bound h sums most);
+      spread-most = omega (arith, r.spread, spread-same (from-start q m), spread-bound h sums most);
     }

@@ -64,10 +64,9 @@ run-none z from = let e : from - from ≡ 0 = omega arith in rw e
 pub run-more : (kind : Kind) (s q : List ℤ) (l : Limits) (from j : ℕ) → from ≤ j
     → found (asked kind s q l) (numbersFrom from (j + 1 - from)) ≡ found (asked kind s q l) (numbersFrom from (j - from)) ++ entriesOf j (matched kind (stretch s j) (at q) (length q) l)
 run-more kind s q l from j h =
-    let z = asked kind s q l in
     let e : j + 1 - from ≡ suc (j - from) = omega arith in
     let f : from + (j - from) ≡ j = omega arith in
-    rw (e, numbers-end from _, f, found-on z _ _, found-one kind s q l j)
+    rw (e, numbers-end from _, f, found-on (asked kind s q l) _ _, found-one kind s q l j)
 
 -- ---- a turn of the loop over the runs
 
@@ -91,6 +90,5 @@ pub runs-more : (z : Question) (left right : List ℕ) (i : ℕ) → i < length 
     → found z (members (lentRuns left right (i + 1)))
     ≡ found z (members (lentRuns left right i)) ++ found z (numbersFrom (getD left i 0) (getD right i 0 + 1 - getD left i 0))
 runs-more z left right i g h =
-    let P = pairs left right in
-    rw (add-one i, take-suc P i (0, 0) (omega (arith, length-pairs left right)), getD-pairs left right i g h)
+    rw (add-one i, take-suc (pairs left right) i (0, 0) (omega (arith, length-pairs left right)), getD-pairs left right i g h)
     (one-run z _ (getD left i 0, getD right i 0))

@@ -64,12 +64,11 @@ list-put k j d a b g h =
 pub list-full : (k j d : ℕ) (a b : List ℕ) → pairRoom a b ≤ k → Listed ((j, d) ∷ []) k (k + 1) a b a b
 list-full k j d a b h =
     let P = pairs a b in
-    let e = take-all k P (omega (arith, length-pairs a b)) in
     record {
       count = omega arith;
       as-many-offsets = refl;
       as-many-distances = refl;
-      front = rw (e, take-all (k + 1) P (omega (arith, length-pairs a b)), ← (length-pairs a b)) (sym (whole P ((j, d) ∷ [])));
+      front = rw (take-all k P (omega (arith, length-pairs a b)), take-all (k + 1) P (omega (arith, length-pairs a b)), ← (length-pairs a b)) (sym (whole P ((j, d) ∷ [])));
     }
   where
     whole : (l m : List (ℕ × ℕ)) → take (length l) (l ++ m) ≡ l

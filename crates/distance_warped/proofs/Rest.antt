@@ -22,7 +22,7 @@ module _ {curve low high : List ℤ} {m b : ℕ} (s : ℕ → ℤ) (e : Envelope
       let f = apart s (lower (at curve) m b) (upper (at curve) m b) in
       let last : suc (m - 1) ≡ m = omega arith in
       let t = through i (envelope _ m b) (warped-is s _ b m .attained) (omega arith) (omega arith) in
-      omega (arith, least-path s _ b i m r l t.there t.path, t.rest, ap (λ (n : ℕ). Σℕ n f) last, ap (λ (n : ℕ). Σℕ n f) (add-one i), meant m (omega arith), meant (i + 1) (omega arith))
+      omega (arith, least-path s _ b i m r l t.there t.path, t.rest, ap (λ n. Σℕ n f) last, ap (λ n. Σℕ n f) (add-one i), meant m (omega arith), meant (i + 1) (omega arith))
 
 -- all of it is small
 pub whole-le : {s low high : List ℤ} → AllIn s → AllIn low → AllIn high → (from n : ℕ) → Σℕ n (apart (stretch s from) (at low) (at high)) ≤ 400000000 * n

@@ -100,7 +100,7 @@ module _ (series : List ℤ) (h : Head) (rows : List Row) (left right : List ℕ
   next-at : (s : RowsAudited) (from : ℕ) → afterChunk s from .go ≡ true → Auditing s from → Auditing (afterChunk s from) (from + 64)
   next-at s from t a = by-test s.go
       (λ e.
-      let n = found-go (here-wrong from) (sym (ap (λ (u : RowsAudited). u .go) (chunk-on s from e)) ∙ t) in
+      let n = found-go (here-wrong from) (sym (ap (λ (u : RowsAudited). u.go) (chunk-on s from e)) ∙ t) in
       let g = a.on e in
       record {
         on = λ u. record {
@@ -109,13 +109,13 @@ module _ (series : List ℤ) (h : Head) (rows : List Row) (left right : List ℕ
         };
         off = λ f. clash t f;
       })
-      (λ f. clash t (ap (λ (u : RowsAudited). u .go) (chunk-off s from f) ∙ f))
+      (λ f. clash t (ap (λ (u : RowsAudited). u.go) (chunk-off s from f) ∙ f))
 
   stops-at : (s : RowsAudited) (from : ℕ) → afterChunk s from .go ≡ false → Auditing s from → answerOf thePlan (afterChunk s from) ≡ auditAnswer call
   stops-at s from t a = by-test s.go
       (λ e.
       let g = a.on e in
-      let w = found-off (here-wrong from) (sym (ap (λ (u : RowsAudited). u .go) (chunk-on s from e)) ∙ t) in
+      let w = found-off (here-wrong from) (sym (ap (λ (u : RowsAudited). u.go) (chunk-on s from e)) ∙ t) in
       let first = sym (some-then (here-wrong from) (left-wrong (from + 64)) (firstWrong X series) (w.0, w.1) (chunk-then series h.window left right rows from ∙ g.left-over) w.2) in
       ap (answerOf thePlan) (chunk-on s from e ∙ ap found w.2) ∙ went-wrong call thePlan plan-is g.free w.0 w.1 first)
       (λ f. ap (answerOf thePlan) (chunk-off s from f) ∙ a.off f)
@@ -161,7 +161,7 @@ module _ (series : List ℤ) (h : Head) (rows : List Row) (left right : List ℕ
       is-after = is-t ∙ ap (chunked series h left right s from) is-c
 
       pub auditing-next : not t.go ≡ false → Auditing t (from + 64)
-      auditing-next e = rw is-after (next-at s from (ap (λ (u : RowsAudited). u .go) (sym is-after) ∙ not-false t.go e) a)
+      auditing-next e = rw is-after (next-at s from (ap (λ (u : RowsAudited). u.go) (sym is-after) ∙ not-false t.go e) a)
 
       pub auditing-stops : not t.go ≡ true → answerOf thePlan t ≡ auditAnswer call
-      auditing-stops e = ap (answerOf thePlan) is-after ∙ stops-at s from (ap (λ (u : RowsAudited). u .go) (sym is-after) ∙ not-true t.go e) a
+      auditing-stops e = ap (answerOf thePlan) is-after ∙ stops-at s from (ap (λ (u : RowsAudited). u.go) (sym is-after) ∙ not-true t.go e) a

@@ -89,8 +89,7 @@ module _ (series : List ℤ) (h : Head) (left right : List ℕ) (s : RowsAudited
 pub still-found : (go : Bool) (row offset : ℕ) → Still go row offset → record { go = go; row = row; offset = offset } ≡ found none
 unfolding found
 still-found go row offset t =
-    let a = t.goes in let b = t.no-row in let c = t.no-offset in
-    λ i. record { go = a i; row = b i; offset = c i }
+    λ i. record { go = t.goes i; row = t.no-row i; offset = t.no-offset i }
 
 pub wrong-found : (row offset : ℕ) → record { go = false; row = row; offset = offset } ≡ found (some (row, offset))
 unfolding found

@@ -84,7 +84,7 @@ module _ (s : List ℤ) (w d g : ℕ) (b : IndexBuffers) (p : BuildPlan) (h : Pl
     module _ {new : IndexBuffers} {n : ℕ} (e : n ≡ length (built s w d g .rows)) (k : Holds d g s w b new) where
       rows-are : new.rows ≡ built s w d g .rows ++ replicate (length b.rows - length (built s w d g .rows)) zeroRow
       unfolding indexIn filled
-      rows-are = ap (λ (x : IndexBuffers). x .rows) k
+      rows-are = ap (λ (x : IndexBuffers). x.rows) k
 
       pub last-in : n - 1 < length new.rows
       last-in =
@@ -101,7 +101,7 @@ module _ (s : List ℤ) (w d g : ℕ) (b : IndexBuffers) (p : BuildPlan) (h : Pl
       pub built-kept : {r : Row} → r ≡ getD new.rows (n - 1) zeroRow → BuildKept (lentBuild s w d g) b (indexAs (windowCount (length s) w) w d n r) new
       unfolding buildAnswer buildAfter buildIndex built
       built-kept {r} q =
-          let t : r.first + r.runs ≡ length (built s w d g .runs) = ap (λ (x : Row). x .first + x.runs) q ∙ last-total in
+          let t : r.first + r.runs ≡ length (built s w d g .runs) = ap (λ (x : Row). x.first + x.runs) q ∙ last-total in
           build-kept (lentBuild s w d g) b (indexAs (windowCount (length s) w) w d n r) new
           ((λ j. Built.Index (record { window = w; width = d; windows = windowCount (length s) w }) (e j) (t j)) ∙ rw (buildAnswer, not-refused) refl)
           (k ∙ rw (buildAfter, not-refused) refl)

@@ -90,7 +90,7 @@ module _ (s : List ℤ) (h : Head) (from : List Row) (lefts rights : List ℕ) (
       pub extended-kept : {r : Row} → r ≡ getD new.rows (n - 1) zeroRow → ExtendKept call b (indexAs (windowCount (length s) h.window) h n r) new
       unfolding extendAnswer extendAfter extendIndex extended
       extended-kept {r} q =
-          let t : r.first + r.runs ≡ length (extended x s .runs) = ap (λ (p : Row). p .first + p.runs) q ∙ last-total in
+          let t : r.first + r.runs ≡ length (extended x s .runs) = ap (λ (p : Row). p.first + p.runs) q ∙ last-total in
           extend-kept call b (indexAs (windowCount (length s) h.window) h n r) new
           ((λ j. Extended.Index (record { window = h.window; width = h.width; windows = windowCount (length s) h.window }) (e j) (t j)) ∙ rw (extendAnswer, not-refused) refl)
           (k ∙ rw (extendAfter, not-refused) refl)

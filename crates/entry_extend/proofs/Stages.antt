@@ -22,10 +22,10 @@ module _ (s : List ℤ) (h : Head) (from : List Row) (lefts rights : List ℕ) (
   plan-here = planned ∙ (λ i. planOf s h (judged i) (length b.rows) (least i))
 
   pub halts : not (eqb p.number 0) ≡ true → {t : Extended} → t ≡ refusedAs p → ExtendKept (lentExtend s h from lefts rights) b t b
-  halts f e = rw (e, plan-here) (refused-kept s h from lefts rights b (λ z. eqb-false p.number 0 (not-true (eqb p.number 0) f) (ap (λ (r : Refusal). r .number) plan-here ∙ z)))
+  halts f e = rw (e, plan-here) (refused-kept s h from lefts rights b (λ z. eqb-false p.number 0 (not-true (eqb p.number 0) f) (ap (λ (r : Refusal). r.number) plan-here ∙ z)))
 
   pub goes : not (eqb p.number 0) ≡ false → thePlan s h from lefts rights b .number ≡ 0
-  goes f = sym (ap (λ (r : Refusal). r .number) plan-here) ∙ eqb-true p.number 0 (not-false (eqb p.number 0) f)
+  goes f = sym (ap (λ (r : Refusal). r.number) plan-here) ∙ eqb-true p.number 0 (not-false (eqb p.number 0) f)
 
 -- what the passes made by lifted numbers, as of the lent index
 pub made-so : (s : List ℤ) (h : Head) (from : List Row) (lefts rights : List ℕ) (old : IndexBuffers) {new : IndexBuffers} {n : ℕ} {u : Lift} → Lifts h.window h.width h.windows u

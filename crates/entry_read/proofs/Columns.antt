@@ -24,7 +24,7 @@ use Rattle.entry_read.proofs.Runs.{shutColumns, startColumns}
 runs-append : (a b : List RangeRow) → allRuns (a ++ b) ≡ allRuns a ++ allRuns b
 unfolding allRuns
 runs-append [] b = refl
-runs-append (r ∷ a) b = rw (runs-append a b) (sym (append-assoc r.runs (allRuns a) (allRuns b)))
+runs-append (r ∷ a) b = rw (runs-append a b) (sym (append-assoc r.runs _ _))
 
 -- the runs so far: of the closed rows, and of the row that is open
 abbrev entriesOf : Said → List Entry
@@ -34,7 +34,7 @@ entriesOf g = allRuns (map rowSaid g.rows) ++ g.runs
 column-more : (f : Entry → ℕ) (old : List ℕ) (l : List Entry) (e : Entry) → sets old 0 (map f (l ++ (e ∷ []))) ≡ set (sets old 0 (map f l)) (length l) (f e)
 column-more f old l e =
     let n : 0 + length (map f l) ≡ length l = omega (arith, length-map l f) in
-    rw (map-append f l (e ∷ [])) (sets-append (map f l) (f e ∷ []) old 0 ∙ rw n refl)
+    rw (map-append f l _) (sets-append (map f l) _ old 0 ∙ rw n refl)
 
 module _ (left right : List ℕ) where
   abbrev columnsOf : Said → Columns
@@ -50,15 +50,15 @@ module _ (left right : List ℕ) where
   tells Field.Left z g o = refl
   tells Field.Right z g o =
       let a = sym (append-assoc (allRuns (map rowSaid g.rows)) g.runs ((g.left, z) ∷ [])) in
-      rw (a, length-append (entriesOf g) ((g.left, z) ∷ []), column-more (λ e. held e.0) left (entriesOf g) (g.left, z), column-more (λ e. held e.1) right (entriesOf g) (g.left, z)) refl
+      rw (a, length-append (entriesOf g) ((g.left, z) ∷ []), column-more (λ e. held e.0) left _ (g.left, z), column-more (λ e. held e.1) right _ (g.left, z)) refl
 
   closed-same : (g : Said) → entriesOf (closed g) ≡ entriesOf g
   unfolding allRuns
   closed-same g =
       append-nil _
       ∙ ap allRuns (map-append rowSaid g.rows ((g.low, (g.up, g.runs)) ∷ []))
-      ∙ runs-append (map rowSaid g.rows) (rowSaid (g.low, (g.up, g.runs)) ∷ [])
-      ∙ ap (λ (l : List Entry). allRuns (map rowSaid g.rows) ++ l) (append-nil g.runs)
+      ∙ runs-append (map rowSaid g.rows) _
+      ∙ rw (append-nil g.runs)
 
   shuts : (g : Said) → columnsOf (closed g) ≡ shutColumns (columnsOf g)
   shuts g = rw (closed-same g)
@@ -94,7 +94,7 @@ module _ (left right : List ℕ) where
   filled-by t x e v h =
       let q = sym (ap (verdictOf outOf) e) ∙ text-columns t ∙ ap (verdictOf say) h in
       let s = fine-same q in
-      (ap (λ (y : List ℕ × List ℕ). y .0) s, ap (λ (y : List ℕ × List ℕ). y .1) s)
+      (ap (λ (y : List ℕ × List ℕ). y.0) s, ap (λ (y : List ℕ × List ℕ). y.1) s)
     where
       fine-same : {A : Type 0} {a b : A} → fine a ≡ fine b → a ≡ b
       fine-same e = cc
@@ -147,7 +147,7 @@ module _ (text left₀ right₀ : List ℕ) where
   unfolding tellColumns
   value-to s t i r h n p z e = record {
     kept = kept-value tellColumns shutColumns at-start text s t i r.kept h n p z e;
-    count = omega (arith, r.count, count-most (isRight p) t.count);
+    count = omega (arith, count-most (isRight p) t.count);
     left-long = set-long (isRight p) t.lefts t.count t.left ∙ r.left-long;
     right-long = set-long (isRight p) t.rights t.count (held z) ∙ r.right-long;
   }

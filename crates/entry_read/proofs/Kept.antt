@@ -64,7 +64,7 @@ column : (new old : List ℕ) → length new ≤ length old → sets (replicate 
 unfolding filled
 column new old h =
     let e : 0 + length new ≡ length new = omega arith in
-    sets-eq new _ 0 (omega (arith, length-replicate {A = ℕ} (length old) 0, h)) ∙ rw (e, drop-zeros (length new) (length old)) refl
+    sets-eq new _ 0 (omega (arith, length-replicate {A = ℕ} (length old) 0, h)) ∙ rw (e, drop-zeros _ (length old)) refl
 
 -- a text that cannot be read
 unread : (t : List ℕ) (b : IndexBuffers) (q : ℕ) → readText indexForm t ≡ unfit q → record { number = 12; place = lineOf t q } ≡ refusalOf (loadTable t b)
@@ -127,10 +127,7 @@ module _ (t : List ℕ) (b : IndexBuffers) (v : Value indexForm) (e : readText i
     unfolding indexSaid
     head-right =
         let i = head-is v good.0 in
-        let x = sym (ap natAbs i.window) in
-        let y = sym (ap natAbs i.width) in
-        let z = sym (ap natAbs i.windows) in
-        λ j. record { window = x j; width = y j; windows = z j }
+        λ j. record { window = (sym (ap natAbs i.window)) j; width = (sym (ap natAbs i.width)) j; windows = (sym (ap natAbs i.windows)) j }
 
     rows-fit : length X.rows ≤ length b.rows
     unfolding openLines loadTable
@@ -151,7 +148,7 @@ module _ (t : List ℕ) (b : IndexBuffers) (v : Value indexForm) (e : readText i
     right-right = ap (sets (replicate (length b.right) 0) 0) (runs-held v good.0 good.1 .1) ∙ column _ b.right (omega (arith, length-map X.runs (λ (x : Entry). natAbs x.1), runs-fit))
 
     runs-are : textRuns t ≡ X.runs
-    runs-are = ap (λ (x : Index). x .runs) (text-fine t v e)
+    runs-are = ap (λ (x : Index). x.runs) (text-fine t v e)
 
     loaded : Outcome t b p
     unfolding planAnswer loadAnswer loadAfter columnAfter indexIn
@@ -181,9 +178,8 @@ pub record Inside (p : ReadPlan) (room : ℕ) : Type 0 where
 fit-inside : (h : Head) (c : Rows) (rows runs : ℕ) → Inside (fitPlan h c rows runs) rows
 unfolding openLines lacks rowsTable fitPlan
 fit-inside h c rows runs =
-    let n = refusalOf _ .number in
-    by-test (eqb n 0)
-    (λ f. let l = room-line rows c.rows (passed-line (passes (rowsTable h c rows runs) tt refl (eqb-true n 0 f)) 23) in rw f (record { rows = l; from = l }))
+    by-test _
+    (λ f. let l = room-line rows c.rows (passed-line (passes (rowsTable h c rows runs) tt refl (eqb-true (refusalOf _ .number) 0 f)) 23) in rw f (record { rows = l; from = l }))
     (λ f. rw f (record { rows = omega arith; from = omega arith }))
 
 pub plan-inside : (t : List ℕ) (rows runs : ℕ) → Inside (planFor t rows runs) rows

@@ -33,5 +33,4 @@ module _ (t left right : List ℕ) (p : ReadPlan) (rows runs : ℕ) (e : p ≡ p
   column-filled =
       let v = readable t rows runs (sym (rw e) ∙ h) in
       let g = f v.0 v.1 in
-      let r = ap (λ (x : Index). x .runs) (text-fine t v.0 v.1) in
-      rw (eq-eqb _ 0 h, r, ← a, ← b) (g.0, g.1)
+      rw (eq-eqb _ 0 h, ap (λ (x : Index). x.runs) (text-fine t v.0 v.1), ← a, ← b) (g.0, g.1)

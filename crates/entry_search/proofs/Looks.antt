@@ -24,7 +24,7 @@ module _ (s : List ℤ) (h : Head) (rows : List Row) (left right : List ℕ) (as
     same-plan = k.judged ∙ sym (plan-is s h rows left right ask q b)
 
     free : t.refusal.number ≡ 0 → thePlan s h rows left right ask q b .number ≡ 0
-    free e = sym (ap (λ (r : Refusal). r .number) same-plan) ∙ e
+    free e = sym (ap (λ (r : Refusal). r.number) same-plan) ∙ e
 
     pub finish-asked : t.refusal.number ≡ 0 → FinishReady ask s q t first last
     unfolding lookedAfter candidateRuns question
@@ -46,5 +46,5 @@ module _ (s : List ℤ) (h : Head) (rows : List Row) (left right : List ℕ) (as
         stops : eqb t.refusal.number 0 ≡ false → SearchKept here b answer (record { left = first; right = last; scratch = scratch; offsets = offsets; distances = distances })
         stops g =
             let n = eqb-false t.refusal.number 0 g in
-            let r = refused-kept s h rows left right ask q b (λ o. n (ap (λ (x : Refusal). x .number) same-plan ∙ o)) in
+            let r = refused-kept s h rows left right ask q b (λ o. n (ap (λ (x : Refusal). x.number) same-plan ∙ o)) in
             rw (k.stays n .0, k.stays n .1, k.stays n .2, f.refused n .0, f.refused n .1, f.refused n .2, same-plan) r

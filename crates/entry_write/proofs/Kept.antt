@@ -55,8 +55,7 @@ untouched (fits e l) h = let z : _≡_ {A = ℕ} 0 1 = cc in absurd (omega arith
 whole : (l text : List ℕ) (to : ℕ) → length l ≤ length text → to ≡ length l → clearedFrom to (sets text 0 l) ≡ filled 0 l text
 unfolding clearedFrom filled
 whole l text to h e =
-    let s = sets-eq l text 0 (omega arith) in
-    rw (e, length-sets text 0 l, s, take-append-le (length l) l _ (omega arith), take-length l)
+    rw (e, length-sets text 0 l, sets-eq l text 0 (omega arith), take-append-le (length l) l _ (omega arith), take-length l)
 
 complete : {x : Index} {text : List ℕ} {a : Written} → Because x text a → isRefused a ≡ false → (new : List ℕ) (to : ℕ) → Ended true text 0 (indexText x) new to → new ≡ writeAfter x text
 unfolding writeAfter isRefused

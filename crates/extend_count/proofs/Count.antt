@@ -50,7 +50,7 @@ module _ (s : List ℤ) (w e old : ℕ) (ups : List ℕ) (n : ℕ) where
 
     -- a number is of rank i exactly if it lies from where the row before ends up to the row's end
     rank-in : Climbing ups n → (i x : ℕ) → i < n → within (startOf ups i) (getD ups i 0) x ≡ true → rank ups n x ≡ i
-    unfolding within startOf
+    unfolding within
     rank-in c i x h t =
         let b = both _ _ t in
         let low = leb-true _ x b.0 in
@@ -72,11 +72,10 @@ module _ (s : List ℤ) (w e old : ℕ) (ups : List ℕ) (n : ℕ) where
     -- the windows from one on whose raised sums lie in its row's range are the run that begins there
     pub next-run : Climbing ups n → {from r z : ℕ} → old ≤ from → from < windowsOf s w → Stop (level s w e) (windowsOf s w) (startOf ups (row from)) (getD ups (row from) 0) from r z → RowRun row (windowsOf s w) from r
     next-run c {from} {r} {z} h l t =
-        let i = row from in
         let q = row-new from h in
-        let here = subst (λ (k : ℕ). k < n) (sym q) (can from h l) in
+        let here = subst (λ k. k < n) (sym q) (can from h l) in
         let x = level s w e from in
-        let own = subst (λ (k : ℕ). within (startOf ups k) (getD ups k 0) x ≡ true) (sym q) (within-own c x (can from h l) (rank-under c x) (rank-over c x (can from h l))) in
+        let own = subst (λ k. within (startOf ups k) (getD ups k 0) x ≡ true) (sym q) (within-own c x (can from h l) (rank-under c x) (rank-over c x (can from h l))) in
         let d = t.change in
         let ahead : from < r = elim (decLt from r) [
           | yes m ↦ m
@@ -85,11 +84,10 @@ module _ (s : List ℤ) (w e old : ℕ) (ups : List ℕ) (n : ℕ) where
         record {
           ahead = ahead;
           below = d.below;
-          same = λ j a b. row-new j (omega arith) ∙ rank-in c i _ here (d.same j a b);
+          same = λ j a b. row-new j (omega arith) ∙ rank-in c (row from) _ here (d.same j a b);
           other = λ m g.
               let y = level s w e r in
-              let k = sym (row-new r (omega arith)) ∙ g in
-              let in-r = rw k at (within-own c y (can r (omega arith) m) (rank-under c y) (rank-over c y (can r (omega arith) m))) in
+              let in-r = rw (sym (row-new r (omega arith)) ∙ g) at (within-own c y (can r (omega arith) m) (rank-under c y) (rank-over c y (can r (omega arith) m))) in
               clash in-r (d.other m);
         }
 
@@ -102,7 +100,7 @@ module _ (s : List ℤ) (w e old : ℕ) (ups : List ℕ) (n : ℕ) where
       let k = rowFrom s w e old ups n from in
       record {
         count = λ i b. by-test _
-            (λ q. let g = eqb-true i k q in rw g (getD-set-same counts k _ 0 (omega arith) ∙ omega (arith, c.count k l, run-mine _ _ from r h f)))
+            (λ q. rw (eqb-true i k q) (getD-set-same counts k _ 0 (omega arith) ∙ omega (arith, c.count k l, run-mine _ _ from r h f)))
             (λ q. let g = eqb-false i k q in
             getD-set-other counts k i _ 0 g ∙ omega (arith, c.count i b, run-other _ _ from r h i (λ d. g (sym d))));
         long = length-set counts k _ ∙ c.long;

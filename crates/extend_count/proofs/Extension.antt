@@ -125,7 +125,7 @@ module _ (x : Index) (s : List ℤ) (g : WellFormed x) (long : Extendable x s) (
     | yes m ↦ rw (row-old s w e old ups size j m) (ne-eqb size i (λ q. omega arith)) ∙ sym (onward-not (has i) old j m)
     | no f ↦
         let a : old ≤ j = omega arith in
-        ap (λ (k : ℕ). eqb k i) (row-new s w e old ups size j a) ∙ one-row rows bias ups asc ends (sum j) _ i (level-is j lent) l (woven-covers x s g long j a b)
+        ap (λ k. eqb k i) (row-new s w e old ups size j a) ∙ one-row rows bias ups asc ends (sum j) _ i (level-is j lent) l (woven-covers x s g long j a b)
         ∙ sym (grown-new x sum old _ j a) ∙ sym (onward-is (has i) old j a)
   ]
 

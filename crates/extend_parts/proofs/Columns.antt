@@ -15,7 +15,7 @@ paste-rest d s n y h f =
     let l = length-take-le n s f in
     let e : length (take n s) + (y - n) ≡ y = omega arith in
     let q : 0 + n + (y - n) ≡ y = omega arith in
-    ap (λ (i : ℕ). getD (take n s ++ drop (0 + n) d) i 0) (sym e) ∙ getD-append-add (take n s) _ (y - n) 0 ∙ getD-drop (0 + n) d (y - n) 0 ∙ rw q
+    ap (λ i. getD (take n s ++ drop (0 + n) d) i 0) (sym e) ∙ getD-append-add (take n s) _ (y - n) 0 ∙ getD-drop (0 + n) d (y - n) 0 ∙ rw q
 
 module _ (n size : ℕ) (numbers part : List ℕ) (f : n ≤ length numbers) (g : n ≤ size) (room : size ≤ length part) where
   written-front : (y : ℕ) → y < n → getD (written n size numbers part) y 0 ≡ getD numbers y 0
@@ -54,7 +54,7 @@ module _ (o r : Row) (from to : List ℕ) (c : CopyRoom o r (length from) (lengt
   at-piece y =
       let l : length (take r.first to) ≡ r.first = length-take-le r.first to (omega arith) in
       let e : r.first + y ≡ length (take r.first to) + y = omega arith in
-      ap (λ (i : ℕ). getD (take r.first to ++ piece) i 0) e ∙ getD-append-add (take r.first to) piece y 0
+      ap (λ i. getD (take r.first to ++ piece) i 0) e ∙ getD-append-add (take r.first to) piece y 0
 
   part-front : (t : ℕ) → t < n → getD (partCopied o r from to) (r.first + t) 0 ≡ getD from (o.first + t) 0
   part-front t h = at-piece t ∙ written-front n r.runs _ _ in-numbers c.fits in-part t h ∙ getD-drop o.first from t 0
@@ -72,7 +72,7 @@ module _ (o r : Row) (from to : List ℕ) (c : CopyRoom o r (length from) (lengt
     | no f ↦
         let past = h (omega arith) in
         let e : x ≡ r.first + (x - r.first) = omega arith in
-        ap (λ (i : ℕ). getD (take r.first to ++ piece) i 0) e ∙ at-piece (x - r.first)
+        ap (λ i. getD (take r.first to ++ piece) i 0) e ∙ at-piece (x - r.first)
         ∙ written-past n r.runs _ _ in-numbers c.fits in-part (x - r.first) (omega arith) ∙ getD-drop r.first to (x - r.first) 0 ∙ rw (sym e)
   ]
 
@@ -113,8 +113,7 @@ module _ (old : List Row) (from : List ℕ) (rows : List Row) (count : ℕ) (to 
   pub column-cursor : (i : ℕ) → i < count → size i < at i .runs → getD (column count) (at i .first + at i .runs - 1) 0 ≡ size i
   unfolding columnTo
   column-cursor i l h =
-      let c = room i l in
-      stays i count (at i .first + at i .runs - 1) l (omega arith) (omega arith) (omega arith) ∙ part-cursor (next i) (at i) from (column i) c h
+      stays i count (at i .first + at i .runs - 1) l (omega arith) (omega arith) (omega arith) ∙ part-cursor (next i) (at i) from (column i) (room i l) h
 
   -- past all parts the column is as it was
   pub column-past : (x : ℕ) → ((i : ℕ) → i < count → at i .first + at i .runs ≤ x) → (k : ℕ) → k ≤ count → getD (column k) x 0 ≡ getD to x 0

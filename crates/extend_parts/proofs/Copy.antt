@@ -9,7 +9,7 @@ use Rattle.extend_parts.specs.Copy.{partSize, written, partCopied, CopyR
 pub paste-more : (d s : List ℕ) (t : ℕ) → t < length d → t < length s → set (paste d 0 s t) t (getD s t 0) ≡ paste d 0 s (t + 1)
 paste-more d s t h k =
     let z : t ≡ 0 + t = omega arith in
-    ap (λ (i : ℕ). set (paste d 0 s t) i (getD s t 0)) z ∙ paste-suc d 0 s t 0 (omega arith) k ∙ ap (paste d 0 s) (sym (add-one t))
+    ap (λ i. set (paste d 0 s t) i (getD s t 0)) z ∙ paste-suc d 0 s t 0 (omega arith) k ∙ ap (paste d 0 s) (sym (add-one t))
 
 length-written : (n size : ℕ) (numbers part : List ℕ) → n ≤ length numbers → n ≤ length part → length (written n size numbers part) ≡ length part
 unfolding written

@@ -94,7 +94,7 @@ module _ (d : ℕ) (one : 0 < d) (a₀ : ℤ) (old : List Row) (asc : Ascending 
   below i k l all p = elim (decLt (passed i) (length old)) [
     | yes m ↦
         let h = subst (All (λ r. lowOf d k <ℤ r.low)) (drop-cons old (passed i) endRow m) all in
-        subst (λ (z : ℤ). z <ℤ next i .low) (sym (rw p)) h.0
+        subst (λ z. z <ℤ next i .low) (sym (rw p)) h.0
     | no f ↦ rw (past endRow old (passed i) (omega arith)) (all-at (λ r. r.low <ℤ endLow) zeroRow made i small l)
   ]
 
@@ -117,14 +117,14 @@ module _ (d : ℕ) (one : 0 < d) (a₀ : ℤ) (old : List Row) (asc : Ascending 
         let h = same-head (at i) (newRow d k) _ _ (e ∙ o) in
         let low = below i k l all h.0 in
         let stays : passed (suc i) ≡ passed i = s ∙ rw (lt-leZ (subst (λ (z : ℤ). z <ℤ next i .low) (sym q) low)) in (
-          new (ap (λ (r : Row). r .first) h.0 ∙ first-runs k .0) (ap (λ (r : Row). r .runs) h.0 ∙ first-runs k .1) low,
+          new (ap (λ (r : Row). r.first) h.0 ∙ first-runs k .0) (ap (λ (r : Row). r.runs) h.0 ∙ first-runs k .1) low,
           record { in-old = rw stays in-old; numbers = ns; sorted = t; rest = rw stays h.1 },
         )
     by-shape out e (kept r rest ns t p o) =
         let h = same-head (at i) r (drop (suc i) made) (woven d rest ns) (e ∙ o) in
         let k = kept-next i r rest p in
         let same-row : next i ≡ at i = k.1 ∙ sym h.0 in
-        let low : next i .low ≤ℤ getD rows i zeroRow .low = subst (λ (z : ℤ). next i .low ≤ℤ z) (ap (λ (r : Row). r .low) same-row ∙ sym q) (≤ℤ-refl (next i .low)) in
+        let low : next i .low ≤ℤ getD rows i zeroRow .low = subst (λ (z : ℤ). next i .low ≤ℤ z) (ap (λ (r : Row). r.low) same-row ∙ sym q) (≤ℤ-refl (next i .low)) in
         let goes : passed (suc i) ≡ suc (passed i) = s ∙ rw (le-leZ low) (add-one (passed i)) in
         (own same-row, record { in-old = rw goes (omega arith); numbers = ns; sorted = t; rest = h.1 ∙ rw (goes, k.2) })
 
@@ -151,5 +151,5 @@ module _ (d : ℕ) (one : 0 < d) (a₀ : ℤ) (old : List Row) (asc : Ascending 
   passed-size i l = by (passed-row i l)
     where
       by : PassedRow (next i) (at i) → partSize (next i) (getD rows i zeroRow) ≡ at i .runs
-      by (own e) = rw (le-leZ (subst (λ (z : ℤ). next i .low ≤ℤ z) (ap (λ (r : Row). r .low) e ∙ sym (same i l)) (≤ℤ-refl (next i .low)))) (rw e)
+      by (own e) = rw (le-leZ (subst (λ (z : ℤ). next i .low ≤ℤ z) (ap (λ (r : Row). r.low) e ∙ sym (same i l)) (≤ℤ-refl (next i .low)))) (rw e)
       by (new f r low) = rw (lt-leZ (subst (λ (z : ℤ). z <ℤ next i .low) (sym (same i l)) low)) (sym r)

@@ -99,7 +99,7 @@ module _ (x : Index) (s : List ℤ) (g : WellFormed x) (long : Extendable x s) w
     source i l = by (passes i l)
       where
         by : PassedRow (next i) (at i) → next i .first + at i .runs ≤ length x.runs
-        by (own e) = omega (arith, begun i l .fits, ap (λ (r : Row). r .first) e)
+        by (own e) = omega (arith, begun i l .fits, ap (λ (r : Row). r.first) e)
         by (new a b c) = omega (arith, next-begins i)
 
     -- the copying can be done, of a column that is as long as the run buffer

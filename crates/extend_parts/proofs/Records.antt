@@ -55,5 +55,4 @@ module _ (l : List RangeRow) (rows : List Row) (counts ends : List ℕ) (m : Mat
       let low = m.low i h in
       let up = m.up i h in
       let first = start-at i h in
-      let size = size-at i h in
-      getD-take n _ i zeroRow h ∙ laid-at ends n rows fits i h ∙ (λ j. record { low = low j; up = up j; first = first j; runs = size j }) ∙ sym (record-at 0 l i h))
+      getD-take n _ i zeroRow h ∙ laid-at ends n rows fits i h ∙ (λ j. record { low = low j; up = up j; first = first j; runs = (size-at i h) j }) ∙ sym (record-at 0 l i h))

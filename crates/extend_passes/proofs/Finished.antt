@@ -64,7 +64,6 @@ module _ (x : Index) (s : List ℤ) (g : WellFormed x) (long : Extendable x s) w
     unfolding indexIn extended
     finished {rows} e =
         let q = sym (rows-are x s g long) in
-        let a = e ∙ ap (λ (l : List RangeRow). filled zeroRow (records 0 l) rows₀) q in
-        let b = left-is ∙ ap (λ (l : List RangeRow). filled 0 (lefts (allRuns l)) left₀) q in
-        let c = right-is ∙ ap (λ (l : List RangeRow). filled 0 (rights (allRuns l)) right₀) q in
-        λ i. record { rows = a i; left = b i; right = c i }
+        let a = e ∙ ap (λ l. filled zeroRow (records 0 l) rows₀) q in
+        let b = left-is ∙ ap (λ l. filled 0 (lefts (allRuns l)) left₀) q in
+        λ i. record { rows = a i; left = b i; right = (right-is ∙ ap (λ l. filled 0 (rights (allRuns l)) right₀) q) i }

@@ -58,4 +58,4 @@ module _ {s : List ℤ} {w e d base bias old : ℕ} {from : List Row} {lefts rig
                   fills = rw woven.0 (fill-asked asked.0 ul long-ul ua n woven i vl vr counted′ za laid′ wl vr long-wl long-vr kl kr copied′ t jr joined′)
 
                   pub extends : {zl zr : List ℕ} → PassMade has s w n kl jr zl zr → (n ≡ length (extended (indexOf w d old from lefts rights) s .rows)) × HoldsExtended (indexOf w d old from lefts rights) s (indexBuffers rows left right) (indexBuffers za zl zr)
-                  extends {zl} {zr} p = (rows-counted asked.0 woven, extended-held asked.0 ul long-ul ua n woven i vl vr counted′ za laid′ wl vr long-wl long-vr kl kr copied′ t jr joined′ zl zr (subst (λ (m : ℕ). PassMade has s w m kl jr zl zr) woven.0 p))
+                  extends {zl} {zr} p = (rows-counted asked.0 woven, extended-held asked.0 ul long-ul ua n woven i vl vr counted′ za laid′ wl vr long-wl long-vr kl kr copied′ t jr joined′ zl zr (subst (λ m. PassMade has s w m kl jr zl zr) woven.0 p))

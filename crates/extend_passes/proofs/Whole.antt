@@ -45,14 +45,14 @@ module _ {s : List ℤ} {w e d b old : ℕ} {from : List Row} {lefts rights : Li
   -- there are as many rows as the extended index has
   pub rows-counted : {rows₁ : List Row} {count : ℕ} → WovenAs x s rows rows₁ count → count ≡ length (extended x s .rows)
   unfolding extended
-  rows-counted v = v.0 ∙ sym (length-map made G) ∙ sym (length-records 0 _) ∙ ap (λ (l : List RangeRow). length (records 0 l)) (sym (rows-are x s h.formed h.longer))
+  rows-counted v = v.0 ∙ sym (length-map made G) ∙ sym (length-records 0 _) ∙ ap (λ l. length (records 0 l)) (sym (rows-are x s h.formed h.longer))
 
   most : size ≤ n
   most = woven-most x s h.formed h.longer
 
   module _ (left₁ : List ℕ) (long₁ : length left₁ ≡ length left) (rows₁ : List Row) (count : ℕ) (v : WovenAs x s rows rows₁ count) where
     row-at : (i : ℕ) → getD rows₁ i zeroRow ≡ getD made i zeroRow
-    row-at i = ap (λ (l : List Row). getD l i zeroRow) v.1 ∙ row-is x s h.formed h.longer e b h.lent h.bias rows i
+    row-at i = ap (λ l. getD l i zeroRow) v.1 ∙ row-is x s h.formed h.longer e b h.lent h.bias rows i
 
     long-rows : length rows₁ ≡ length rows
     long-rows = ap length v.1 ∙ rows-long x s h.formed h.longer e b h.lent h.bias rows h.in-rows
@@ -148,11 +148,11 @@ module _ {s : List ℤ} {w e d b old : ℕ} {from : List Row} {lefts rights : Li
             arith,
             first-at x s h.formed h.longer rows₂ fits₂ front i (joined.row t),
             old-size x s h.formed h.longer e h.lent lefts rights refl rows₁ row-at in-rows right₂ _ right left₁ c.ends refl fit-r fit-l i (joined.row t),
-            ap (λ (q : Row). q .runs) (row-at i),
+            ap (λ q. q.runs) (row-at i),
           )
 
           past-row : size ≤ i → new-row ≡ zeroRow
-          past-row f = ap (λ (l : List Row). getD l i zeroRow) y.is ∙ laid-past _ size rows₁ i f ∙ row-at i ∙ getD-past zeroRow made i f
+          past-row f = ap (λ l. getD l i zeroRow) y.is ∙ laid-past _ size rows₁ i f ∙ row-at i ∙ getD-past zeroRow made i f
 
           small-row : Small new-row
           small-row = elim (decLt i size) [
@@ -192,5 +192,5 @@ module _ {s : List ℤ} {w e d b old : ℕ} {from : List Row} {lefts rights : Li
             -- and where it ends, the indexBuffers hold the extended index
             pub extended-held : (left₆ right₆ : List ℕ) → PassMade P s w size left₄ right₅ left₆ right₆ → HoldsExtended x s (indexBuffers rows left right) (indexBuffers rows₂ left₆ right₆)
             extended-held left₆ right₆ f = finished x s h.formed h.longer rows left right h.in-left h.in-right
-                (record { long = ap length k.left-is ∙ long-columns.0 ∙ k.cleared.0.long ∙ long-l; zero = λ z l. ap (λ (m : List ℕ). getD m z 0) k.left-is ∙ zeros z l .0 ∙ k.cleared.0.zero z })
+                (record { long = ap length k.left-is ∙ long-columns.0 ∙ k.cleared.0.long ∙ long-l; zero = λ z l. ap (λ m. getD m z 0) k.left-is ∙ zeros z l .0 ∙ k.cleared.0.zero z })
                 (record { long = long-columns.1 ∙ k.cleared.1.long ∙ long-r; zero = λ z l. zeros z l .1 ∙ k.cleared.1.zero z }) f laid-are

@@ -1,4 +1,3 @@
 -- Laws of extend_rows.
 pub mod Shell
 pub mod Laid
-pub mod Steps

@@ -66,16 +66,15 @@ module _ (x : Index) (s : List ℤ) (g : WellFormed x) (long : Extendable x s) (
     in-rows = in-rows;
     in-ups = a;
     in-counts = b;
-    ends = λ i l. let q = ends-limits x s g long i l .1 in let lo = q.0 in let hi = q.1 in
-        rw (row-at i) (record { least = omega (zarith, lo); most = hi; small = omega arith });
+    ends = λ i l. let q = ends-limits x s g long i l .1 in rw (row-at i) (record { least = omega (zarith, q.0); most = q.1; small = omega arith });
   }
 
   module _ (ups counts right₁ left₁ : List ℕ) (lu : ups ≡ listed (endOf rows bias) size right₁) (lc : counts ≡ listed (sizeOf rows) size left₁) (in-ups : size ≤ length right₁) (in-counts : size ≤ length left₁) where
     ends : Ends made bias ups
-    ends = record { end = λ i l. ap (λ (m : List ℕ). getD m i 0) lu ∙ listed-at _ size right₁ in-ups i l ∙ rw (row-at i) }
+    ends = record { end = λ i l. ap (λ m. getD m i 0) lu ∙ listed-at _ size right₁ in-ups i l ∙ rw (row-at i) }
 
     sizes : (i : ℕ) → i < size → getD counts i 0 ≡ at i .runs
-    sizes i l = ap (λ (m : List ℕ). getD m i 0) lc ∙ listed-at _ size left₁ in-counts i l ∙ ap (λ (r : Row). r .runs) (row-at i)
+    sizes i l = ap (λ m. getD m i 0) lc ∙ listed-at _ size left₁ in-counts i l ∙ ap (λ r. r.runs) (row-at i)
 
     pub old-size : (i : ℕ) → i < size → runCount (P i) old ≡ at i .runs
     old-size i l = old-count x sum (at i) (begun x s g long e lent ups ends i l)
@@ -117,10 +116,10 @@ module _ (x : Index) (s : List ℤ) (g : WellFormed x) (long : Extendable x s) (
 
         ends-is : J ≡ lastEnds (getD made first zeroRow) right old
         unfolding joinsOf firstNew
-        ends-is = rw (lt-ltb old n some) (ap (λ (q : Row). lastEnds q right old) (row-at i) ∙ rw (first-new some))
+        ends-is = rw (lt-ltb old n some) (ap (λ q. lastEnds q right old) (row-at i) ∙ rw (first-new some))
 
         before-is : before (P i) old ≡ J
-        before-is = ap (λ (k : ℕ). before (P k) old) (first-new some) ∙ first-joins x s g long e lent ups ends counts counts′ sizes c some left right is ∙ sym ends-is
+        before-is = ap (λ k. before (P k) old) (first-new some) ∙ first-joins x s g long e lent ups ends counts counts′ sizes c some left right is ∙ sym ends-is
 
         has-is : (k : ℕ) → k < size → P k old ≡ eqb first k
         has-is k l = has-first x s g long e lent ups ends counts counts′ sizes c some left right is k l
@@ -131,18 +130,16 @@ module _ (x : Index) (s : List ℤ) (g : WellFormed x) (long : Extendable x s) (
           row = λ t. row-in;
           holds = λ t. has-is i row-in ∙ eq-eqb first i (sym (first-new some));
           goes-on = λ t. before-is ∙ t;
-          fresh = λ f k l m t. let q = sym (eqb-true first k (sym (has-is k l) ∙ t)) ∙ sym (first-new some) in ap (λ (k : ℕ). before (P k) old) q ∙ before-is ∙ f;
+          fresh = λ f k l m t. let q = sym (eqb-true first k (sym (has-is k l) ∙ t)) ∙ sym (first-new some) in ap (λ k. before (P k) old) q ∙ before-is ∙ f;
         }
 
         own-count : getD counts′ i 0 ≡ runCount (P i) n + bit J
         own-count =
-            let a = sym (first-new some) in
-            let b = sym ends-is in
-            ap (λ (k : ℕ). getD counts′ k 0) (first-new some) ∙ first-count x s g long e lent ups ends counts counts′ sizes c some left right is ∙ (λ j. runCount (P (a j)) n + bit (b j))
+            ap (λ k. getD counts′ k 0) (first-new some) ∙ first-count x s g long e lent ups ends counts counts′ sizes c some left right is ∙ (λ j. runCount (P (sym (first-new some) j)) n + bit (sym ends-is j))
 
         count-new : (k : ℕ) → k < size → getD (lessJoin J i counts′) k 0 ≡ runCount (P k) n
         count-new k l = by-test _
-            (λ t. let q = eqb-true k i t in rw q (by-test J
+            (λ t. rw (eqb-true k i t) (by-test J
             (λ y. rw (less-yes i counts′ y) (getD-set-same counts′ i _ 0 (omega (arith, row-in, c.long, ap length lc, length-listed (sizeOf rows) size left₁)) ∙ omega (arith, own-count, bit-true y)))
             (λ f. rw (less-no i counts′ f) (omega (arith, own-count, bit-false f)))))
             (λ f. let q = eqb-false k i f in
@@ -154,8 +151,7 @@ module _ (x : Index) (s : List ℤ) (g : WellFormed x) (long : Extendable x s) (
       count-old : n ≤ old → (k : ℕ) → k < size → getD (lessJoin J i counts′) k 0 ≡ runCount (P k) n
       count-old h k l =
           let q : n ≡ old = omega arith in
-          let none = counted-starts s w e old ups size counts .count k l in
-          rw (less-no i counts′ (no-join h)) (omega (arith, c.count k l, ap (runCount (isRow (rowFrom s w e old ups size) k)) q, none, sizes k l, old-size k l, ap (runCount (P k)) q))
+          rw (less-no i counts′ (no-join h)) (omega (arith, c.count k l, ap (runCount (isRow (rowFrom s w e old ups size) k)) q, counted-starts s w e old ups size counts .count k l, sizes k l, old-size k l, ap (runCount (P k)) q))
 
       joins-none : n ≤ old → Joins x s g long i J
       joins-none h = record {
@@ -185,7 +181,7 @@ module _ (x : Index) (s : List ℤ) (g : WellFormed x) (long : Extendable x s) (
       pub matches : Matches (map G made) rows (lessJoin J i counts′)
       unfolding withRuns grown
       matches = record {
-        low = λ k l. let m : k < size = omega (arith, length-map made G) in ap (λ (q : Row). q .low) (row-at k) ∙ sym (rw (map-at G _ made k m));
-        up = λ k l. let m : k < size = omega (arith, length-map made G) in ap (λ (q : Row). q .up) (row-at k) ∙ sym (rw (map-at G _ made k m));
+        low = λ k l. let m : k < size = omega (arith, length-map made G) in ap (λ q. q.low) (row-at k) ∙ sym (rw (map-at G _ made k m));
+        up = λ k l. let m : k < size = omega (arith, length-map made G) in ap (λ q. q.up) (row-at k) ∙ sym (rw (map-at G _ made k m));
         count = λ k l. let m : k < size = omega (arith, length-map made G) in count-is k m ∙ sym (size-is x s g long k) ∙ sym (rw (map-at G _ made k m));
       }

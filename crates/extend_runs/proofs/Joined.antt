@@ -17,12 +17,12 @@ use Rattle.extend_runs.proofs.Rowed.{total-most, first-at, extended-row
 -- parts that begin at the same places
 parts-first : {R W : ℕ} {P : ℕ → ℕ → Bool} {f h : ℕ → ℕ} {j : ℕ} {l r : List ℕ} → ((i : ℕ) → i < R → f i ≡ h i) → Parts R W P f j l r → Parts R W P h j l r
 parts-first {l = l} {r = r} e p = record {
-  left-is = λ i t b c. ap (λ (k : ℕ). getD l (k + t) 0) (sym (e i b)) ∙ p.left-is i t b c;
-  right-is = λ i t b c. ap (λ (k : ℕ). getD r (k + t) 0) (sym (e i b)) ∙ p.right-is i t b c;
+  left-is = λ i t b c. ap (λ k. getD l (k + t) 0) (sym (e i b)) ∙ p.left-is i t b c;
+  right-is = λ i t b c. ap (λ k. getD r (k + t) 0) (sym (e i b)) ∙ p.right-is i t b c;
 }
 
 cursors-first : {R W : ℕ} {P : ℕ → ℕ → Bool} {f h : ℕ → ℕ} {j : ℕ} {r : List ℕ} → ((i : ℕ) → i < R → f i ≡ h i) → Cursors R W P f j r → Cursors R W P h j r
-cursors-first {W = W} {P = P} {r = r} e c = record { cursor = λ i b m. ap (λ (k : ℕ). getD r (k + runCount (P i) W - 1) 0) (sym (e i b)) ∙ c.cursor i b m }
+cursors-first {W = W} {P = P} {r = r} e c = record { cursor = λ i b m. ap (λ k. getD r (k + runCount (P i) W - 1) 0) (sym (e i b)) ∙ c.cursor i b m }
 
 -- a set that has the offset before has a run
 some-before : (p : ℕ → Bool) (j : ℕ) → before p j ≡ true → 1 ≤ runCount p j
@@ -124,9 +124,7 @@ module _ (x : Index) (s : List ℤ) (g : WellFormed x) (long : Extendable x s) w
       -- nothing joins
       passable-fresh : joins ≡ false → Passable P s w e t rows size oldLeft right′
       passable-fresh f =
-          let a = h.stays f .0 in
-          let b = h.stays f .1 in
-          rw (a, b) (record {
+          rw (h.stays f .0, h.stays f .1) (record {
             place = start;
             rowed = rw begins rowed;
             filling = rw begins (record {
@@ -150,7 +148,7 @@ module _ (x : Index) (s : List ℤ) (g : WellFormed x) (long : Extendable x s) w
         m = r - old - 1
 
         change : Change (λ k. inside (getD rows i zeroRow .low) (getD rows i zeroRow .up) (sum k)) old n r
-        change = subst (λ (k : ℕ). Change (λ k. inside (getD rows i zeroRow .low) (getD rows i zeroRow .up) (sum k)) k n r) begins
+        change = subst (λ k. Change (λ k. inside (getD rows i zeroRow .low) (getD rows i zeroRow .up) (sum k)) k n r) begins
             (stop-held (getD rows i zeroRow .low) (getD rows i zeroRow .up) start.lent (low y) (high y) (h.stop y))
 
         ahead : old < r
@@ -171,11 +169,11 @@ module _ (x : Index) (s : List ℤ) (g : WellFormed x) (long : Extendable x s) w
         fresh : (q : ℕ) → q < size → r < n → P q r ≡ true → before (P q) r ≡ false
         fresh q l b v =
             let z : r ≡ (r - 1) + 1 = omega (arith, ahead) in
-            let other : (q ≡ i) → ⊥ = λ p. clash (ap (λ (k : ℕ). P k r) (sym p) ∙ v) (rowed.holds i r (j.row y) (omega (arith, ahead)) b ∙ change.other b) in
+            let other : (q ≡ i) → ⊥ = λ p. clash (ap (λ k. P k r) (sym p) ∙ v) (rowed.holds i r (j.row y) (omega (arith, ahead)) b ∙ change.other b) in
             ap (before (P q)) z ∙ before-more (P q) (r - 1) ∙ others (r - 1) q (omega (arith, ahead)) (omega arith) l other
 
         wrote : right′ ≡ set oldRight (partStart size n P i + runCount (P i) old - 1) (old + m)
-        wrote = h.wrote y ∙ ap (λ (k : ℕ). set oldRight k (r - 1)) (where-is y) ∙ ap (set oldRight _) (sym last)
+        wrote = h.wrote y ∙ ap (λ k. set oldRight k (r - 1)) (where-is y) ∙ ap (set oldRight _) (sym last)
 
         rl : total ≤ length oldLeft
         rl = omega (arith, room-left, long-left)
@@ -228,10 +226,10 @@ module _ (x : Index) (s : List ℤ) (g : WellFormed x) (long : Extendable x s) w
           let a = parts-laid size n P .room i (j.row v) in
           let b = runCount-mono (P i) old n long.longer in
           let c = some-before (P i) old (j.goes-on v) in
-          ap (λ (k : List ℕ). getD k y 0) (wrote v) ∙ getD-set-other oldRight _ y _ 0 (λ q. omega arith) ∙ past-right y l
+          ap (λ k. getD k y 0) (wrote v) ∙ getD-set-other oldRight _ y _ 0 (λ q. omega arith) ∙ past-right y l
 
       pub past-both : (y : ℕ) → total ≤ y → (getD oldLeft y 0 ≡ getD left₀ y 0) × (getD right′ y 0 ≡ getD right₀ y 0)
-      past-both y l = (past-left y l, by-test joins (λ v. past-joined v y l) (λ f. ap (λ (k : List ℕ). getD k y 0) (h.stays f .1) ∙ past-right y l))
+      past-both y l = (past-left y l, by-test joins (λ v. past-joined v y l) (λ f. ap (λ k. getD k y 0) (h.stays f .1) ∙ past-right y l))
 
       pub long-both : (length oldLeft ≡ length left₀) × (length right′ ≡ length right₀)
       long-both = (long-left, by-test joins (λ v. same-long v ∙ long-right) (λ f. ap length (h.stays f .1) ∙ long-right))

@@ -37,5 +37,5 @@ module _ {s : List ℤ} {w e : ℕ} {p : Window} {joins : Bool} {lo hi : ℕ} (q
     ahead = h.ahead;
     wrote = λ v.
         let z : q.first + (r.runs - 1) ≡ spotOf q r = omega (arith, some v) in
-        back-set _ right last _ _ (h.wrote v) ∙ ap (λ (k : ℕ). set right k (t.offset - 1)) z;
+        back-set _ right last _ _ (h.wrote v) ∙ ap (λ k. set right k (t.offset - 1)) z;
   }

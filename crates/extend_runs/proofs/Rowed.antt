@@ -63,7 +63,7 @@ module _ (x : Index) (s : List ℤ) (g : WellFormed x) (long : Extendable x s) w
       (mem-all (GoodEnds d) _ (λ r m. let o = all-mem _ _ (each-row x g) m in record { low = o.low-end; up = o.up-end }))
       (λ k m. let o = numbers-occur (λ j. sum _) d _ k m in
       let b = ends-good s w d _ long.values g.head.window.most one g.head.width.most in
-      subst (λ (t : ℤ). GoodEnds d (newRow d t)) o.is (new-ends _ b.0 b.1))) (mem-at zeroRow made i l)
+      subst (λ t. GoodEnds d (newRow d t)) o.is (new-ends _ b.0 b.1))) (mem-at zeroRow made i l)
 
   pub ends-limits : (i : ℕ) → i < size → ((lowestEnd ≤ℤ at i .low) × (at i .low ≤ℤ pos 4000000)) × ((lowestEnd ≤ℤ at i .up) × (at i .up ≤ℤ pos 4000000))
   ends-limits i l = (end-limits d _ (good-ends i l .low), end-limits d _ (good-ends i l .up))
@@ -83,11 +83,11 @@ module _ (x : Index) (s : List ℤ) (g : WellFormed x) (long : Extendable x s) w
 
   pub total-most : partsTotal size n P ≤ n
   unfolding extended
-  total-most = omega (arith, sym total-is, ap (λ (l : List RangeRow). length (allRuns l)) rows-are, extended-most x s g long .1)
+  total-most = omega (arith, sym total-is, ap (λ l. length (allRuns l)) rows-are, extended-most x s g long .1)
 
   module _ (rows : List Row) (fits : size ≤ length rows) (front : take size rows ≡ records 0 (map G made)) where
     record-at : (i : ℕ) → i < size → getD rows i zeroRow ≡ record { low = G (at i) .low; up = G (at i) .up; first = 0 + Σℕ i (λ y. length (G (at y) .runs)); runs = length (G (at i) .runs) }
-    record-at i l = sym (getD-take size rows i zeroRow l) ∙ ap (λ (m : List Row). getD m i zeroRow) front ∙ records-at zeroRow G zeroRow 0 made i l
+    record-at i l = sym (getD-take size rows i zeroRow l) ∙ ap (λ m. getD m i zeroRow) front ∙ records-at zeroRow G zeroRow 0 made i l
 
     pub low-at : (i : ℕ) → i < size → getD rows i zeroRow .low ≡ at i .low
     unfolding withRuns grown
@@ -100,20 +100,19 @@ module _ (x : Index) (s : List ℤ) (g : WellFormed x) (long : Extendable x s) w
     pub first-at : (i : ℕ) → i < size → getD rows i zeroRow .first ≡ partStart size n P i
     first-at i l =
         let e : 0 + Σℕ i (λ y. length (G (at y) .runs)) ≡ Σℕ i (λ y. length (G (at y) .runs)) = omega arith in
-        ap (λ (r : Row). r .first) (record-at i l) ∙ e ∙ start-is i
+        ap (λ r. r.first) (record-at i l) ∙ e ∙ start-is i
 
     pub runs-at : (i : ℕ) → i < size → getD rows i zeroRow .runs ≡ runCount (P i) n
-    runs-at i l = ap (λ (r : Row). r .runs) (record-at i l) ∙ size-is i
+    runs-at i l = ap (λ r. r.runs) (record-at i l) ∙ size-is i
 
     pub extended-rowed : Rowed P sum old n rows size
     extended-rowed = record {
       within = fits;
       small = λ i l.
           let b = ends-limits i l in
-          let lo = b.0.0 in
           let hi = b.1.1 in
           let wide = low-from lowestEnd made i l (woven-ascends x s g long) .1 in
-          record { least = rw (low-at i l) (omega (zarith, lo, hi)); order = rw (low-at i l, up-at i l) (omega zarith); most = rw (up-at i l) (omega (zarith, hi)) };
+          record { least = rw (low-at i l) (omega (zarith, b.0.0, hi)); order = rw (low-at i l, up-at i l) (omega zarith); most = rw (up-at i l) (omega (zarith, hi)) };
       apart = λ i k a b. rw (up-at i (omega arith), low-at k b) (in-order lowestEnd made i k a b (woven-ascends x s g long));
       holds = λ i j l a b. grown-new x sum old (at i) j a ∙ sym (rw (low-at i l, up-at i l) refl);
       home = λ j a b. let h = holder made (sum j) (woven-covers x s g long j a b) in

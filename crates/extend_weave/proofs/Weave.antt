@@ -113,7 +113,7 @@ module _ (old : List Row) (numbers : List ℕ) (count d base : ℕ) (before : Li
     pub weaving-ends : length old + count ≤ a + b → Made old numbers count d base before k rows
     weaving-ends h =
         let rest : woven d (drop a old) (drop b ks) ≡ [] = rw (drop-of-length-le old {i = a} (omega (arith, w.in-old, w.in-numbers)), drop-of-length-le ks {i = b} (omega (arith, w.in-old, w.in-numbers, long-ks))) (weave-none d []) in
-        let all = sym (append-nil _) ∙ ap (λ (l : List Row). take k rows ++ l) (sym rest) ∙ w.done in
+        let all = sym (append-nil _) ∙ ap (λ l. take k rows ++ l) (sym rest) ∙ w.done in
         record { count-is = sym (length-take-le k rows w.in-rows) ∙ ap length all; rows-are = all; long = w.long }
 
     -- what is still to be made
@@ -126,7 +126,7 @@ module _ (old : List Row) (numbers : List ℕ) (count d base : ℕ) (before : Li
     makes : (r : Row) (more : List Row) → rest ≡ r ∷ more → take (k + 1) (set rows k r) ++ more ≡ woven d old ks
     makes r more e =
         let l : k < length rows = omega (arith, room, ap length e) in
-        rw (add-one k, take-suc-set rows k r l, append-assoc _ _ more) (ap (λ (m : List Row). take k rows ++ m) (sym e) ∙ w.done)
+        rw (add-one k, take-suc-set rows k r l, append-assoc _ _ more) (ap (λ m. take k rows ++ m) (sym e) ∙ w.done)
 
     -- the next old row, and the low end of the next number's range
     abbrev next : Row
@@ -155,7 +155,7 @@ module _ (old : List Row) (numbers : List ℕ) (count d base : ℕ) (before : Li
     number-left h = elim (decLt b count) [ yes l ↦ l | no f ↦ let e = low-end b (omega arith) in absurd (omega zarith) ]
 
     row-left : next.low <ℤ endLow → a < length old
-    row-left h = elim (decLt a (length old)) [ yes l ↦ l | no f ↦ let e = ap (λ (r : Row). r .low) (getD-past endRow old a (omega arith)) in absurd (omega zarith) ]
+    row-left h = elim (decLt a (length old)) [ yes l ↦ l | no f ↦ let e = ap (λ r. r.low) (getD-past endRow old a (omega arith)) in absurd (omega zarith) ]
 
     keys-above : (z : ℤ) → Mem z (drop b ks) → next.up ≤ℤ low → next.up ≤ℤ lowOf d z
     keys-above z m h = elim (decLt b count) [
@@ -177,7 +177,7 @@ module _ (old : List Row) (numbers : List ℕ) (count d base : ℕ) (before : Li
           (λ h l. kept l (elim (decLt a (length old)) [
             | yes s ↦ s
             | no f ↦
-                let e = ap (λ (r : Row). r .up) (getD-past endRow old a (omega arith)) in
+                let e = ap (λ r. r.up) (getD-past endRow old a (omega arith)) in
                 let c : b < count = omega arith in
                 let m = low-least b c in
                 absurd (omega zarith)
@@ -187,8 +187,7 @@ module _ (old : List Row) (numbers : List ℕ) (count d base : ℕ) (before : Li
     unfolding chosenOf newRow
     new-row h l =
         let e = low-in b l in
-        let u = ap (λ (z : ℤ). z +ℤ pos d) e ∙ sym (up-is d (key b)) in
-        rw (lt-ltZ h) (λ i. record { low = e i; up = u i; first = 0; runs = 0 })
+        rw (lt-ltZ h) (λ i. record { low = e i; up = (ap (λ (z : ℤ). z +ℤ pos d) e ∙ sym (up-is d (key b))) i; first = 0; runs = 0 })
 
     old-row : next.low ≤ℤ low → chosenOf next low d ≡ next
     unfolding chosenOf
@@ -196,9 +195,8 @@ module _ (old : List Row) (numbers : List ℕ) (count d base : ℕ) (before : Li
 
     new-rest : low <ℤ next.low → b < count → rest ≡ newRow d (key b) ∷ woven d (drop a old) (drop (suc b) ks)
     new-rest h l =
-        let s = subst Sorted (drop-key b l) (sorted-drop b ks sorted) in
         let z = rw (low-in b l) at h in
-        ap (woven d (drop a old)) (drop-key b l) ∙ weave-new d one _ (key b) _ (all-above z) (first-above (key b) _ s)
+        ap (woven d (drop a old)) (drop-key b l) ∙ weave-new d one _ (key b) _ (all-above z) (first-above (key b) _ (subst Sorted (drop-key b l) (sorted-drop b ks sorted)))
       where
         all-above : lowOf d (key b) <ℤ next.low → All (λ r. lowOf d (key b) <ℤ r.low) (drop a old)
         all-above z = elim (decLt a (length old)) [
@@ -208,9 +206,7 @@ module _ (old : List Row) (numbers : List ℕ) (count d base : ℕ) (before : Li
 
     held-rest : next.low ≤ℤ low → low <ℤ next.up → a < length old → b < count → rest ≡ woven d (drop a old) (drop (suc b) ks)
     held-rest h u m l =
-        let p = rw (low-in b l) at h in
-        let q = rw (low-in b l) at u in
-        rw (drop-key b l, drop-cons old a endRow m) (weave-inside d next _ (key b) _ p q)
+        rw (drop-key b l, drop-cons old a endRow m) (weave-inside d next _ (key b) _ (rw (low-in b l) at h) (rw (low-in b l) at u))
 
     kept-rest : next.up ≤ℤ low → a < length old → rest ≡ next ∷ woven d (drop (suc a) old) (drop b ks)
     kept-rest h m = rw (drop-cons old a endRow m) (weave-old d one next _ _ (row-wide m .0) (λ z o. keys-above z o h))

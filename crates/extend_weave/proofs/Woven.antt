@@ -96,7 +96,7 @@ module _ (x : Index) (s : List ℤ) (g : WellFormed x) (long : Extendable x s) (
 
       pub woven-rows : take count rows ++ replicate (length rows - count) zeroRow ≡ filled zeroRow made rows₀
       unfolding filled
-      woven-rows = ap (λ (l : List Row). l ++ replicate (length rows - count) zeroRow) (m.rows-are ∙ made-is) ∙ (λ i. made ++ replicate (m.long i - count-is i) zeroRow)
+      woven-rows = ap (λ l. l ++ replicate (length rows - count) zeroRow) (m.rows-are ∙ made-is) ∙ (λ i. made ++ replicate (m.long i - count-is i) zeroRow)
 
   -- row i of the records, whatever i
   pub row-is : (rows₀ : List Row) (i : ℕ) → getD (filled zeroRow made rows₀) i zeroRow ≡ getD made i zeroRow
@@ -106,10 +106,10 @@ module _ (x : Index) (s : List ℤ) (g : WellFormed x) (long : Extendable x s) (
       elim (decLt i size) [
         | yes l ↦ List·getD-append made r zeroRow i l
         | no f ↦ let q : size + (i - size) ≡ i = omega arith in
-            ap (λ (z : ℕ). getD (made ++ r) z zeroRow) (sym q) ∙ getD-append-add made r _ zeroRow ∙ none (length rows₀ - size) (i - size) ∙ sym (getD-past zeroRow made i (omega arith))
+            ap (λ z. getD (made ++ r) z zeroRow) (sym q) ∙ getD-append-add made r _ zeroRow ∙ none (length rows₀ - size) (i - size) ∙ sym (getD-past zeroRow made i (omega arith))
       ]
     where
-      none : (k i : ℕ) → let l = replicate k zeroRow in getD l i zeroRow ≡ zeroRow
+      none : (k i : ℕ) → getD (replicate k zeroRow) i zeroRow ≡ zeroRow
       none zero i = refl
       none (suc k) zero = refl
       none (suc k) (suc i) = none k i

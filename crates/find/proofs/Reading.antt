@@ -1,10 +1,5 @@
 -- Laws of specs/Reading.
-use Prim.Native.Nat.{ℕ, _+_, _<_, _≤_, _^_}
-use lib.IntN.{ℤ}
-use lib.ListN.{length}
-use mathlib.Core.List.{List, [], _++_}
-use mathlib.Core.Path.{_≡_}
-use native.Mathlib.Omega.{arith}
+use Rattle.meaning_numbers.proofs.Prelude.{ℕ, _+_, _<_, _≤_, _^_, ℤ, length, List, [], _++_, _≡_, arith}
 use Rattle.text_lines.specs.Follow.{nothingSaid}
 use Rattle.text_feed.specs.Keep.{numbersOf}
 use Rattle.program_input.specs.{declared.Input.Input, Input.start, Input.Open, Input.ReadOn}

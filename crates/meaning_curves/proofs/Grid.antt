@@ -72,12 +72,11 @@ module _ (s q : ℕ → ℤ) (b big : ℕ) where
   grid-inner c i j h large n =
       let small : (x y : ℕ) → x ≤ suc i → y ≤ suc j → x + y ≤ i + j + 1 → All (λ t. t ≤ big) (table s q b x y) = λ x y k l few. all-map (λ t p.
       omega (arith, path-small c (λ v w e f. h v w (omega arith) (omega arith)) p, mul-le-mul-right {m = x + y + 1} {n = i + j + 2} c (omega arith))) (attained s q b x y) in
-      let corner = small i j (omega arith) (omega arith) (omega arith) in
       let above = small i (suc j) (omega arith) (omega arith) (omega arith) in
       let left = small (suc i) j (omega arith) (omega arith) (omega arith) in
       let e = coded-step big (cost (s (suc i)) (q (suc j))) (near b (suc i) (suc j)) (yes-near n)
       (least-left (least (table s q b i (suc j)) (table s q b (suc i) j)) (least-total s q b (in-band s q b i j (omega arith) .1))) in
-      rw (table-inner s q b i j) (rw (coded-least corner (least-all above left), coded-least above left) at e)
+      rw (table-inner s q b i j) (rw (coded-least (small i j (omega arith) (omega arith) (omega arith)) (least-all above left), coded-least above left) at e)
 
   -- the last entry is the distance
   pub grid-distance : (m : ℕ) → grid (m - 1) (m - 1) ≡ warped s q b m

@@ -7,8 +7,7 @@ use Rattle.meaning_curves.specs.{Curve.spread, Normal.centred, Normal.Is
 pub cut-is : {A : ℕ} (c : ℤ) → 0 < A → IsCut A c (cut A c)
 unfolding cut
 cut-is {A} c h =
-    let g = square (100 * natAbs c) in
-    let i = root-is (g / A) in
+    let i = root-is ((square (100 * natAbs c)) / A) in
     record { low = le-div-iff-mul-le h .0 i.low; high = div-lt-iff-lt-mul h .0 i.high }
 
 -- what does not pass is at most the greatest

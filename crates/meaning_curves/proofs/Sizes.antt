@@ -37,7 +37,7 @@ pub centred-sum : (s : ℕ → ℤ) (m : ℕ) → Σℕ m (λ k. square (natAbs 
 centred-sum s m =
     let T = rep-self (Σℤ m s) in
     let Q = rep-self (Σℤ m (λ k. s k *ℤ s k)) in
-    let a = ap (λ (x : ℕ). m * x) (eq-rep (rep-pos _) (rep-sub (rep-mul (rep-pos m) Q) (rep-mul T T)) (spread-is s m)) in
+    let a = ap (λ x. m * x) (eq-rep (rep-pos _) (rep-sub (rep-mul (rep-pos m) Q) (rep-mul T T)) (spread-is s m)) in
     let right = rep-add (rep-sub (rep-mul (rep-pos (m * m)) Q) (rep-mul (rep-mul (rep-pos (2 * m)) T) T)) (rep-mul (rep-pos m) (rep-mul T T)) in
     let b = eq-rep (rep-pos (Σℕ m (λ k. square (natAbs (centred s m k))))) right (sym (squares m (centred s m)) ∙ squares-of m m (Σℤ m s) s) in
     omega arith

@@ -24,7 +24,6 @@ pub spread-is : (s : ℕ → ℤ) (m : ℕ) → pos (spread s m) ≡ pos m *ℤ 
 unfolding spread
 spread-is s m =
     let Q = Σℕ m (λ k. square _) in
-    let t = natAbs (total s m) in
     rw (squares m s, squareℤ _)
-    (rep-eq (rep-pos _) (rep-sub (rep-mul (rep-pos m) (rep-pos Q)) (rep-pos (square t)))
+    (rep-eq (rep-pos _) (rep-sub (rep-mul (rep-pos m) (rep-pos Q)) (rep-pos (square (natAbs (total s m)))))
     (omega (arith, sq-le (sizes m s), cauchy m (λ k. natAbs (s k)))))

@@ -71,6 +71,6 @@ write-load x h =
       window = rw f;
       width = rw f;
       windows = rw f;
-      rows = ap (λ (y : Index). y .rows) e ∙ s.0;
-      runs = ap (λ (y : Index). y .runs) e ∙ s.1;
+      rows = ap (λ y. y.rows) e ∙ s.0;
+      runs = ap (λ y. y.runs) e ∙ s.1;
     }

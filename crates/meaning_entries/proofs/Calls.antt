@@ -43,7 +43,7 @@ found (Found.Full candidates matches) = 24 ∷ candidates ∷ matches ∷ []
 found (Found.Refused n p) = n ∷ p ∷ []
 
 both : Both → List ℕ
-unfolding audited found
+unfolding found
 both (Both.Listed first second) = first ∷ second ∷ []
 both (Both.FirstAudit a) = 101 ∷ audited a
 both (Both.SecondAudit a) = 102 ∷ audited a
@@ -59,7 +59,7 @@ place none = []
 place (some r) = r.0 ∷ r.1 ∷ []
 
 numbers : Both → List ℕ
-unfolding pair place
+unfolding place
 numbers b = place (bothRefusal b) ++ (place (bothWrong b) ++ (bothMissing b ∷ (pair (bothCounts b) ++ pair (bothFound b))))
 
 -- a row by the sizes of its ends, its first and its runs
@@ -104,11 +104,11 @@ build : List ℤ → ℤ → ℤ → ℤ → BuildCall
 build s w d g = record { series = s; window = w; width = d; merge = g }
 
 builds : BuildCall → IndexBuffers → List ℕ → List ℕ → Bool
-unfolding same built bufferNumbers
+unfolding built bufferNumbers
 builds c b answer after = same (built (buildAnswer c b)) answer && same (bufferNumbers (buildAfter c b)) after
 
 grows : ExtendCall → IndexBuffers → List ℕ → List ℕ → Bool
-unfolding same grown bufferNumbers
+unfolding grown bufferNumbers
 grows c b answer after = same (grown (extendAnswer c b)) answer && same (bufferNumbers (extendAfter c b)) after
 
 -- a straight search with a = 10, h = 0
@@ -122,7 +122,7 @@ searchIn s x kind q E = record {
 
 -- the same in the worked series
 searchFor : Index → Kind → List ℤ → ℤ → SearchCall
-unfolding worked searchIn
+unfolding searchIn
 searchFor = searchIn worked
 
 -- buffers that hold sevens: so many candidates, scratch entries and list entries
@@ -136,20 +136,20 @@ lists candidates scratch list = record {
 }
 
 finds : SearchCall → SearchBuffers → List ℕ → List ℕ → Bool
-unfolding same found searchBuffers
+unfolding found searchBuffers
 finds c b answer after = same (found (searchAnswer c b)) answer && same (searchBuffers (searchAfter c b)) after
 
 audits : List ℤ → Index → List ℕ → Bool
-unfolding same audited
+unfolding audited
 audits s x answer = same (audited (auditAnswer (record { series = s; index = x }))) answer
 
 -- the query 4 3 with E = 0 in the worked series, through both indexes
 demands : Index → Index → SearchBuffers → SearchBuffers → List ℕ → Bool
-unfolding same both searchFor
+unfolding both searchFor
 demands x y b₁ b₂ answer = same (both (demandAnswer (searchFor x Raw (pos 4 ∷ pos 3 ∷ []) (pos 0)) y b₁ b₂)) answer
 
 packs : Audited → Bool
-unfolding same audited
+unfolding audited
 packs a = same (audited (unpack (pack a))) (audited a)
 
 -- an index with these rows and runs, w = 2, d = 2, four windows
@@ -166,12 +166,12 @@ asks kind = record { kind = kind; limits = record { band = 1; threshold = 0; sca
 
 -- the index of the worked series at g = 0
 unmerged : Index
-unfolding row other
+unfolding other
 unmerged = other (row (pos 2) (pos 4) 0 1 ∷ row (pos 4) (pos 6) 1 1 ∷ row (pos 6) (pos 8) 2 1 ∷ []) (0 ∷ 3 ∷ 1 ∷ []) (0 ∷ 3 ∷ 2 ∷ [])
 
 -- windows 1 to 3 stand in the row of window 0
 misfiled : Index
-unfolding row other
+unfolding other
 misfiled = other (row (pos 2) (pos 4) 0 1 ∷ []) (0 ∷ []) (3 ∷ [])
 
 unfoldable pub calls : List Bool

@@ -113,8 +113,7 @@ refused-by : (c : SearchCall) (n p : ℕ) (t : Bool) → eqb n 24 ≡ t → (n �
 unfolding searchRefused
 refused-by c n p true e z =
     let i = eqb→eq n 24 (subst T (sym e) tt) in
-    let j = z i in
-    rw (e, searchRefused) (rw (i, j) refl)
+    rw (e, searchRefused) (rw (i, z i) refl)
 refused-by c n p false e z = rw (e, searchRefused)
 
 search-by : (c : SearchCall) (b : SearchBuffers) (o : Option (ℕ × ℕ)) → firstRefusal (searchTable c b) ≡ o → foundRefusal (searchAnswer c b) ≡ o

@@ -8,64 +8,49 @@ use Rattle.meaning_entries.specs.{Refusal.firstRefusal, declared.Built.B
 use Rattle.meaning_entries.proofs.Pack.{audit-text-back}
 use Rattle.meaning_entries.proofs.Demand1.{build-refuses, extend-refuses, audit-refuses, write-refuses, load-refuses, search-refuses, audit-text-refuses}
 
-build-by : (c : BuildCall) (b : IndexBuffers) (o : Option (ℕ × ℕ)) → buildRefusal c b ≡ o → builtCounts (buildAnswer c b) ≡ buildCounts c b
-unfolding buildAnswer buildCounts
-build-by c b none h = rw (h, buildAnswer, buildCounts)
-build-by c b (some r) h = rw (h, buildAnswer, buildCounts)
-
-build-head : (c : BuildCall) (b : IndexBuffers) (o : Option (ℕ × ℕ)) → buildRefusal c b ≡ o → builtHead (buildAnswer c b) ≡ buildHead c b
-unfolding buildAnswer buildHead
-build-head c b none h = rw (h, buildAnswer, buildHead)
-build-head c b (some r) h = rw (h, buildAnswer, buildHead)
+build-by : (c : BuildCall) (b : IndexBuffers) (o : Option (ℕ × ℕ)) → buildRefusal c b ≡ o → (builtHead (buildAnswer c b) ≡ buildHead c b) × (builtCounts (buildAnswer c b) ≡ buildCounts c b)
+unfolding buildAnswer buildHead buildCounts
+build-by c b none h = rw (h, buildAnswer, buildHead, buildCounts) (refl, refl)
+build-by c b (some r) h = rw (h, buildAnswer, buildHead, buildCounts) (refl, refl)
 
 pub build-kept : (c : BuildCall) (b : IndexBuffers) (a : Built) (after : IndexBuffers) → a ≡ buildAnswer c b → after ≡ buildAfter c b → BuildKept c b a after
 build-kept c b a after h k = record {
   answered = h;
   refused = ap builtRefusal h ∙ build-refuses c b .same;
-  headed = ap builtHead h ∙ build-head c b _ refl;
-  counted = ap builtCounts h ∙ build-by c b _ refl;
+  headed = ap builtHead h ∙ build-by c b _ refl .0;
+  counted = ap builtCounts h ∙ build-by c b _ refl .1;
   rows = rw k;
   left = rw k;
   right = rw k;
 }
 
-extend-by : (c : ExtendCall) (b : IndexBuffers) (o : Option (ℕ × ℕ)) → extendRefusal c b ≡ o → extendedCounts (extendAnswer c b) ≡ extendCounts c b
-unfolding extendAnswer extendCounts
-extend-by c b none h = rw (h, extendAnswer, extendCounts)
-extend-by c b (some r) h = rw (h, extendAnswer, extendCounts)
-
-extend-head : (c : ExtendCall) (b : IndexBuffers) (o : Option (ℕ × ℕ)) → extendRefusal c b ≡ o → extendedHead (extendAnswer c b) ≡ extendHead c b
-unfolding extendAnswer extendHead
-extend-head c b none h = rw (h, extendAnswer, extendHead)
-extend-head c b (some r) h = rw (h, extendAnswer, extendHead)
+extend-by : (c : ExtendCall) (b : IndexBuffers) (o : Option (ℕ × ℕ)) → extendRefusal c b ≡ o → (extendedHead (extendAnswer c b) ≡ extendHead c b) × (extendedCounts (extendAnswer c b) ≡ extendCounts c b)
+unfolding extendAnswer extendHead extendCounts
+extend-by c b none h = rw (h, extendAnswer, extendHead, extendCounts) (refl, refl)
+extend-by c b (some r) h = rw (h, extendAnswer, extendHead, extendCounts) (refl, refl)
 
 pub extend-kept : (c : ExtendCall) (b : IndexBuffers) (a : Extended) (after : IndexBuffers) → a ≡ extendAnswer c b → after ≡ extendAfter c b → ExtendKept c b a after
 extend-kept c b a after h k = record {
   answered = h;
   refused = ap extendedRefusal h ∙ extend-refuses c b .same;
-  headed = ap extendedHead h ∙ extend-head c b _ refl;
-  counted = ap extendedCounts h ∙ extend-by c b _ refl;
+  headed = ap extendedHead h ∙ extend-by c b _ refl .0;
+  counted = ap extendedCounts h ∙ extend-by c b _ refl .1;
   rows = rw k;
   left = rw k;
   right = rw k;
 }
 
-load-by : (t : List ℕ) (b : IndexBuffers) (o : Option (ℕ × ℕ)) → loadRefusal t b ≡ o → loadedCounts (loadAnswer t b) ≡ loadCounts t b
-unfolding loadAnswer loadCounts
-load-by t b none h = rw (h, loadAnswer, loadCounts)
-load-by t b (some r) h = rw (h, loadAnswer, loadCounts)
-
-load-head : (t : List ℕ) (b : IndexBuffers) (o : Option (ℕ × ℕ)) → loadRefusal t b ≡ o → loadedHead (loadAnswer t b) ≡ loadHead t b
-unfolding loadAnswer loadHead
-load-head t b none h = rw (h, loadAnswer, loadHead)
-load-head t b (some r) h = rw (h, loadAnswer, loadHead)
+load-by : (t : List ℕ) (b : IndexBuffers) (o : Option (ℕ × ℕ)) → loadRefusal t b ≡ o → (loadedHead (loadAnswer t b) ≡ loadHead t b) × (loadedCounts (loadAnswer t b) ≡ loadCounts t b)
+unfolding loadAnswer loadHead loadCounts
+load-by t b none h = rw (h, loadAnswer, loadHead, loadCounts) (refl, refl)
+load-by t b (some r) h = rw (h, loadAnswer, loadHead, loadCounts) (refl, refl)
 
 pub load-kept : (t : List ℕ) (b : IndexBuffers) (a : Loaded) (after : IndexBuffers) → a ≡ loadAnswer t b → after ≡ loadAfter t b → LoadKept t b a after
 load-kept t b a after h k = record {
   answered = h;
   refused = ap loadedRefusal h ∙ load-refuses t b .same;
-  headed = ap loadedHead h ∙ load-head t b _ refl;
-  counted = ap loadedCounts h ∙ load-by t b _ refl;
+  headed = ap loadedHead h ∙ load-by t b _ refl .0;
+  counted = ap loadedCounts h ∙ load-by t b _ refl .1;
   rows = rw k;
   left = rw k;
   right = rw k;

@@ -18,7 +18,7 @@ filled-is new old col long fits front past =
     (λ x l. elim (decLt x (length new)) [
       | yes b ↦ front x b ∙ sym (List·getD-append new rest 0 x b)
       | no f ↦ let q : length new + (x - length new) ≡ x = omega arith in
-          past x (omega arith) ∙ sym (zeros 0 (length old - length new) (x - length new)) ∙ sym (getD-append-add new rest _ 0) ∙ ap (λ (z : ℕ). getD (new ++ rest) z 0) q
+          past x (omega arith) ∙ sym (zeros 0 (length old - length new) (x - length new)) ∙ sym (getD-append-add new rest _ 0) ∙ ap (λ z. getD (new ++ rest) z 0) q
     ])
 
 pub lefts-entry : (l : List (ℕ × ℕ)) → lefts (map entry l) ≡ Columns.lefts l

@@ -40,10 +40,8 @@ module _ (c : SearchCall) (before after : SearchBuffers) {a n : ℕ} (k : Search
   pub full-listed : take (listRoom before) (pairs after.offsets after.distances) ≡ take (listRoom before) (searchMatches c)
   unfolding lookedAfter filled
   full-listed =
-      let l = plan-full c before f.unrefused f.short .1 in
-      let list = take (listRoom before) _ in
       let e = length-take-le (listRoom before) (searchMatches c) (omega (arith, f.short)) in
-      rw (k.offsets, k.distances, l) (ap (λ (r : ℕ). take r (pairs (lookedAfter c before .offsets) (lookedAfter c before .distances))) (sym e) ∙ pairs-back list _ _)
+      rw (k.offsets, k.distances, plan-full c before f.unrefused f.short .1) (ap (λ (r : ℕ). take r (pairs (lookedAfter c before .offsets) (lookedAfter c before .distances))) (sym e) ∙ pairs-back (take (listRoom before) _) _ _)
 
   -- through an index that passes the audit
   module _ (p : Passes c.index c.series) where

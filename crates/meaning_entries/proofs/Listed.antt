@@ -45,6 +45,4 @@ pub listed-is : (c : SearchCall) (before after : SearchBuffers) {a n : ℕ} → 
 unfolding lookedAfter filled
 listed-is c before after {a} {n} k =
     let h = answered c before k.answered in
-    let l = looked-after c before h.passed in
-    let t = take-all _ (searchMatches c) (room c before h.passed) in
-    rw (k.offsets, k.distances, l, h.counted, t) (pairs-back _ _ _)
+    rw (k.offsets, k.distances, looked-after c before h.passed, h.counted, take-all _ (searchMatches c) (room c before h.passed)) (pairs-back _ _ _)

@@ -42,8 +42,7 @@ buildable : (c : BuildCall) (b : IndexBuffers) → buildRefusal c b ≡ none →
 unfolding openLines buildTable
 buildable c b e =
     let t = is-passed _ e in
-    let s = c.series in
-    limits-buildable s _ _ (long-line mostValues _ (passed-line t 1) .most) (passed-line t 2) (passed-line t 3) (passed-line t 4)
+    limits-buildable c.series _ _ (long-line mostValues _ (passed-line t 1) .most) (passed-line t 2) (passed-line t 3) (passed-line t 4)
 
 pub build-passes : (c : BuildCall) (b : IndexBuffers) → buildRefusal c b ≡ none → Passes (buildIndex c) c.series
 unfolding buildIndex

@@ -22,8 +22,7 @@ by-parts n r v e f = ap₂ unpackBy e f
 refused-back : (n p : ℕ) (t : Bool) → eqb n 12 ≡ t → n < 32 → unpack (packRefusal n p) ≡ Audited.Refused n p
 unfolding packRefusal unpackBy
 refused-back n p true e h =
-    let i = eqb→eq n 12 (subst T (sym e) tt) in
-    rw (e, packRefusal) (by-parts _ 3 p (omega arith) (omega arith) ∙ rw (sym i))
+    rw (e, packRefusal) (by-parts _ 3 p (omega arith) (omega arith) ∙ rw (sym (eqb→eq n 12 (subst T (sym e) tt))))
 refused-back n p false e h =
     let v = 32 * p + n in
     let a : v % 32 ≡ n = omega arith in
@@ -80,8 +79,7 @@ formed x s e = passed-line (is-passed _ e) 20
 packable-by : (x s : List ℕ) (o : Option (ℕ × ℕ)) → firstRefusal (auditTextTable x s) ≡ o → Packable (auditTextAnswer x s)
 unfolding auditTextAnswer
 packable-by x s none e =
-    let c = textCall x s in
-    rw (e, auditTextAnswer) (audited-packable c _ (formed x s e) refl)
+    rw (e, auditTextAnswer) (audited-packable (textCall x s) _ (formed x s e) refl)
 packable-by x s (some r) e = rw (e, auditTextAnswer) (small-number x s e)
 
 pub audit-text-back : (x s : List ℕ) → unpack (auditText x s) ≡ auditTextAnswer x s

@@ -1,6 +1,6 @@
 -- What stands in the buffers after a build that answered an index passes against the series (`build-stands`); so does what an extension leaves there, if the old index passes against the part of the series that it has windows for (`extend-stands`).
 -- Each has at most as many rows and runs as windows. Both are laws of the promises, so of every function that keeps them.
-use Rattle.meaning_numbers.proofs.Prelude.{_≡_, refl, sym, ap, _∙_, List, [], _∷_, _++_, map, Option, none, some, ℕ, _+_, _-_, _≤_, arith, ℤ, pos, natAbs, length, take, length-map, take-append-seam}
+use Rattle.meaning_numbers.proofs.Prelude.{_≡_, refl, sym, ap, _∙_, List, [], _∷_, _++_, map, none, some, ℕ, _+_, _-_, _≤_, arith, ℤ, pos, natAbs, length, take, length-map, take-append-seam}
 use Rattle.meaning_curves.specs.Curve.{windowCount}
 use Rattle.meaning_rows.specs.Index.{zeroRow, Index, Entry, entries, lent, laidOut, allRuns}
 use Rattle.meaning_rows.specs.{declared.Row.Row, declared.Head.Head, Runs.runs, Build.SetRow, Build.merged, Build.entry, Build.withRuns, Build.builtRows, Build.built, Extend.insertRows, Extend.extendedRows, Extend.extended}
@@ -53,11 +53,11 @@ read-back w d n rows b =
 stood : (x : Index) (s : List ℤ) (windows : ℕ) (before after : IndexBuffers) (h : Head) (n k : ℕ) → some h ≡ some (headOf x) → _≡_ {A = ℕ × ℕ} (n, k) (length x.rows, length x.runs) → after ≡ indexIn x before
     → indexOf (headOf x) (length x.rows) (length x.runs) (indexIn x before) ≡ x → Passes x s → (length x.rows ≤ windows) × (length x.runs ≤ windows) → Stands (indexOf h n k after) s windows n k
 stood x s windows before after h n k p c b whole passes most =
-    let q : h ≡ headOf x = ap (λ (o : Option Head). elim o [ some y ↦ y | none ↦ h ]) p in
+    let q : h ≡ headOf x = ap (λ o. elim o [ some y ↦ y | none ↦ h ]) p in
     record {
       passes = rw ((λ i. indexOf (q i) (c i .0) (c i .1) (b i)) ∙ whole) passes;
-      few-rows = omega (arith, ap (λ (z : ℕ × ℕ). z .0) c, most.0);
-      few-runs = omega (arith, ap (λ (z : ℕ × ℕ). z .1) c, most.1);
+      few-rows = omega (arith, ap (λ z. z.0) c, most.0);
+      few-runs = omega (arith, ap (λ z. z.1) c, most.1);
     }
 
 module _ (s : List ℤ) (w d g : ℕ) (before : IndexBuffers) where
@@ -82,9 +82,7 @@ module _ (s : List ℤ) (head : Head) (from : List Row) (olds : List ℕ) (ends 
   extend-whole : let x = extendIndex extend in indexOf (headOf x) (length x.rows) (length x.runs) (indexIn x before) ≡ x
   unfolding extendIndex extended extendedRows
   extend-whole =
-      let d = head.width in
-      let n = windowCount _ _ in
-      read-back _ d n (insertRows _ _) before
+      read-back _ head.width (windowCount _ _) (insertRows _ _) before
 
   pub extend-stands : (after : IndexBuffers) (h : Head) (n k : ℕ) → ExtendKept extend before (Extended.Index h n k) after
       → Passes extend.index (take (natAbs extend.index.windows + natAbs extend.index.window - 1) s) → Stands (indexOf h n k after) s (extendWindows extend) n k

@@ -10,12 +10,10 @@ series = pos 1 ∷ pos 2 ∷ pos 4 ∷ pos 3 ∷ pos 1 ∷ []
 
 -- w, d and g are 2, 2 and 80
 merged : Index
-unfolding series
 merged = built series 2 2 80
 
 -- w, d and g are 1, 1 and 0
 single : Index
-unfolding series
 single = built series 1 1 0
 
 search : Index → Kind → ℤ → ℤ → ℤ → SearchCall

@@ -19,7 +19,7 @@ kept-upward : (p : ℕ → Bool) (f : ℕ → ℕ × ℕ) → ((j : ℕ) → f j
 unfolding keep numbersFrom
 kept-upward p f e k zero = done
 kept-upward p f e k (suc n) = by-test (p k)
-    (λ t. rw t (next {k = k} {e = f k} (omega (arith, e k)) (subst (λ (i : ℕ). Upward (suc i) (map f (keep p (numbersFrom (suc k) n)))) (sym (e k)) (kept-upward p f e (suc k) n))))
+    (λ t. rw t (next {k = k} {e = f k} (omega (arith, e k)) (subst (λ i. Upward (suc i) (map f (keep p (numbersFrom (suc k) n)))) (sym (e k)) (kept-upward p f e (suc k) n))))
     (λ t. rw t (upward-down (kept-upward p f e (suc k) n)))
   where
     upward-down : {l : List (ℕ × ℕ)} → Upward (suc k) l → Upward k l

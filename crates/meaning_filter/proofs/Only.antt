@@ -20,7 +20,7 @@ first-same {a} {b} u v f g = ⊎-elim (λ q. q) (λ n. ⊎-elim (λ q. sym q) (�
 
 -- what stands behind the first entry of one list stands behind that of the other
 rest-among : {a b : ℕ × ℕ} {l m : Entries} → a.0 ≡ b.0 → Upward (suc a.0) l → Among (a ∷ l) (b ∷ m) → Among l m
-rest-among {a} {b} o u f e n = ⊎-elim (λ q. let z = ap (λ (x : ℕ × ℕ). x .0) q in absurd (omega (arith, least u n, z, o))) (λ r. r) (cases (f e (there n)))
+rest-among {a} {b} o u f e n = ⊎-elim (λ q. absurd (omega (arith, least u n, ap (λ x. x.0) q, o))) (λ r. r) (cases (f e (there n)))
 
 upward-same : {k : ℕ} (l m : Entries) → Upward k l → Upward k m → Among l m → Among m l → l ≡ m
 upward-same [] [] u v f g = refl
@@ -28,9 +28,9 @@ upward-same [] (b ∷ m) u v f g = absurd (not-nil (g b (here refl)))
 upward-same (a ∷ l) [] u v f g = absurd (not-nil (f a (here refl)))
 upward-same (a ∷ l) (b ∷ m) (next h u) (next i v) f g =
     let q = first-same u v f g in
-    let o = ap (λ (x : ℕ × ℕ). x .0) q in
+    let o = ap (λ x. x.0) q in
     let t = upward-same l m u (rw q v) (rest-among o u f) (rest-among (sym o) v g) in
-    ap (λ (x : ℕ × ℕ). x ∷ l) q ∙ rw t
+    ap (λ x. x ∷ l) q ∙ rw t
 
 exactly-among : (z : Question) {l m : Entries} → Exactly z l → Exactly z m → Among l m
 exactly-among z {l} {m} x y e n =

@@ -11,16 +11,14 @@ unfolding Σℤ Σℕ
 above-sum zero s L U = record { le = tt }
 above-sum (suc w) s L U =
     let e = Σℕ w (λ k. excess (L k) (U k) (s k)) in
-    let x = excess (L w) (U w) (s w) in
-    omega (zarith, above-sum w s L U, z-add (Σℤ w s) (s w), z-add (Σℤ w U) (U w), z-add (Σℤ w U +ℤ U w) (pos (e + x)), z-add (Σℤ w U) (pos e), z-sub (s w) (U w))
+    omega (zarith, above-sum w s L U, z-add (Σℤ w s) (s w), z-add (Σℤ w U) (U w), z-add (Σℤ w U +ℤ U w) (pos (e + (excess (L w) (U w) (s w)))), z-add (Σℤ w U) (pos e), z-sub (s w) (U w))
 
 below-sum : (w : ℕ) (s L U : ℕ → ℤ) → Σℤ w L ≤ℤ (Σℤ w s +ℤ pos (Σℕ w (λ k. excess (L k) (U k) (s k))))
 unfolding Σℤ Σℕ
 below-sum zero s L U = record { le = tt }
 below-sum (suc w) s L U =
     let e = Σℕ w (λ k. excess (L k) (U k) (s k)) in
-    let x = excess (L w) (U w) (s w) in
-    omega (zarith, below-sum w s L U, z-add (Σℤ w L) (L w), z-add (Σℤ w s) (s w), z-add (Σℤ w s +ℤ s w) (pos (e + x)), z-add (Σℤ w s) (pos e), z-sub (L w) (s w))
+    omega (zarith, below-sum w s L U, z-add (Σℤ w L) (L w), z-add (Σℤ w s) (s w), z-add (Σℤ w s +ℤ s w) (pos (e + (excess (L w) (U w) (s w)))), z-add (Σℤ w s) (pos e), z-sub (L w) (s w))
 
 -- the sum of the excesses over a part is at most the root
 pub excess-sum : (a : ℕ → ℕ) (m p w E r : ℕ) → p + w ≤ m → Σℕ m (λ k. square (a k)) ≤ E → IsRoot (w * E) r → Σℕ w (λ k. a (p + k)) ≤ r

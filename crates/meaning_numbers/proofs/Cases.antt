@@ -1,9 +1,6 @@
 -- Small cases of the definitions, in one table that one proof covers.
-use lib.Dec.{T, eqb}
-use lib.IntN.{pos, negsuc}
-use mathlib.Core.Bool.{Bool, not}
-use mathlib.Core.List.{List, [], _∷_}
 use Rattle.meaning_numbers.specs.{Root.root, Quotient.floorℤ, Quotient.ceilℤ, Quotient.multiple, Order.within}
+use Rattle.meaning_numbers.proofs.Prelude.{T, eqb, pos, negsuc, Bool, not, List, [], _∷_}
 use Rattle.meaning_numbers.proofs.{Table.holds, Table.sameℤ, Open.openNumbers}
 
 cases : List Bool

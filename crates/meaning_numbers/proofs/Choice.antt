@@ -1,9 +1,6 @@
 -- Which of two whole numbers is the lesser and which the greater, told by the flag of the test x < y, as code that branches on it has it.
-use lib.IntN.{ℤ}
-use lib.Signed.{ltZ}
-use mathlib.Core.Bool.{true, false}
-use mathlib.Core.Path.{_≡_}
 use Rattle.meaning_numbers.specs.Order.{minℤ, maxℤ}
+use Rattle.meaning_numbers.proofs.Prelude.{ℤ, ltZ, true, false, _≡_}
 
 pub min-yes : (x y : ℤ) → ltZ x y ≡ true → minℤ x y ≡ x
 unfolding minℤ

@@ -1,13 +1,7 @@
 -- How many of the numbers below n pass a test: a turn of a loop (`count-more`), bounds, sums of counts, none and all. Each is an induction on n.
-use Prim.Native.Nat.{ℕ, zero, suc, _+_, _<_, _≤_}
-use mathlib.Core.Bool.{Bool, true, false, not, _&&_, _||_, false≢true}
-use mathlib.Core.Path.{_≡_, refl}
 use mir.Val.{boolByte}
-use native.Mathlib.Decide.{decLt}
-use native.Mathlib.Nat.{le-step}
-use native.Mathlib.Numerals.{add-one}
-use native.Mathlib.Omega.{arith}
 use Rattle.meaning_numbers.specs.Sum.{bit, count}
+use Rattle.meaning_numbers.proofs.Prelude.{ℕ, zero, suc, _+_, _<_, _≤_, Bool, true, false, not, _&&_, _||_, false≢true, _≡_, refl, decLt, le-step, add-one, arith}
 
 pub bit-le : (b : Bool) → bit b ≤ 1
 unfolding bit
@@ -76,7 +70,7 @@ count-add a b c d (suc n) h = omega (arith, count-add a b c d n (λ j l. h j (le
 pub count-shift : (p : ℕ → Bool) (n : ℕ) → count p (suc n) ≡ bit (p 0) + count (λ j. p (suc j)) n
 unfolding count
 count-shift p zero = omega arith
-count-shift p (suc n) = let h = count-shift p n in omega (arith, h)
+count-shift p (suc n) = omega (arith, count-shift p n)
 
 -- each number passes or does not
 pub count-not : (p : ℕ → Bool) (n : ℕ) → count (λ j. not (p j)) n + count p n ≡ n

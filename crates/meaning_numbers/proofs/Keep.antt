@@ -1,13 +1,7 @@
 -- What is kept: the entries that are in the list and pass (`kept-mem`, `mem-kept`). Where each number below k + n that passes p passes c, keeping by c first changes nothing (`keep-twice`).
-use Prim.Native.Nat.{ℕ, zero, suc, _+_, _<_}
-use lib.Dec.{T}
-use mathlib.Core.Bool.{Bool, true, false, cond}
-use mathlib.Core.List.{List, [], _∷_, List·Memᴰ as Mem, List·Memᴰ·head as here, List·Memᴰ·tail as there, List·Memᴰ·not-nil as not-nil, List·Memᴰ·cases-cons as cases}
-use mathlib.Core.Logic.{⊎-elim}
-use mathlib.Core.Path.{_≡_, refl, sym, subst}
-use native.Mathlib.Omega.{arith}
 use Rattle.meaning_numbers.specs.Place.{keep, numbersFrom}
 use Rattle.meaning_numbers.proofs.Tests.{is-true, by-test}
+use Rattle.meaning_numbers.proofs.Prelude.{ℕ, zero, suc, _+_, _<_, T, Bool, true, false, cond, List, [], _∷_, List·Memᴰ as Mem, List·Memᴰ·head as here, List·Memᴰ·tail as there, List·Memᴰ·not-nil as not-nil, List·Memᴰ·cases-cons as cases, ⊎-elim, _≡_, refl, sym, subst, arith}
 
 -- one entry x more, where p answers y of it and c answers t
 keep-one : {A : Type 0} (p : A → Bool) (y t : Bool) (x : A) (l r : List A) → p x ≡ y → (T y → T t) → keep p l ≡ r → keep p (cond t (x ∷ l) l) ≡ cond y (x ∷ r) r

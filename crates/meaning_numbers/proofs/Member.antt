@@ -1,16 +1,7 @@
 -- Members of lists. Where some entry passes there is one in the list that does (`any-found`), and back (`any-mem`); every entry is so (`All`); the members of a mapped list and of the numbers from k on.
-use Prim.Native.Nat.{ℕ, zero, suc, _+_, _<_, _≤_}
-use lib.Dec.{T}
-use lib.ListN.{length, getD}
-use mathlib.Core.Bool.{Bool, true, false, _&&_, _||_, false≢true}
-use mathlib.Core.List.{List, [], _∷_, map, List·Memᴰ as Mem, List·Memᴰ·head as here, List·Memᴰ·tail as there, List·Memᴰ·not-nil as not-nil, List·Memᴰ·cases-cons as cases}
-use mathlib.Core.Logic.{⊎-elim}
-use mathlib.Core.Option.{none}
-use mathlib.Core.Path.{_≡_, refl, sym, ap, subst}
-use native.Mathlib.Decide.{decLe}
-use native.Mathlib.Omega.{arith}
 use Rattle.meaning_numbers.specs.Place.{placeFrom, any, numbersFrom}
 use Rattle.meaning_numbers.proofs.Tests.{by-test, clash}
+use Rattle.meaning_numbers.proofs.Prelude.{ℕ, zero, suc, _+_, _<_, _≤_, T, length, getD, Bool, true, false, _&&_, _||_, false≢true, List, [], _∷_, map, List·Memᴰ as Mem, List·Memᴰ·head as here, List·Memᴰ·tail as there, List·Memᴰ·not-nil as not-nil, List·Memᴰ·cases-cons as cases, ⊎-elim, none, _≡_, refl, sym, ap, subst, decLe, arith}
 
 -- every entry passes the test
 unfoldable pub every : {A : Type 0} → (A → Bool) → List A → Bool

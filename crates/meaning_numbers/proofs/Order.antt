@@ -1,10 +1,6 @@
 -- The lesser and the greater of two whole numbers are at most, and at least, both of them, and one of them.
-use lib.IntN.{ℤ}
-use lib.Signed.{_≤ℤ_, _<ℤ_, ltZ}
-use mathlib.Core.Bool.{Bool, true, false, cond}
-use mathlib.Core.Logic.{_⊎_, inl, inr}
-use mathlib.Core.Path.{_≡_, refl}
 use Rattle.meaning_numbers.specs.Order.{minℤ, maxℤ}
+use Rattle.meaning_numbers.proofs.Prelude.{ℤ, _≤ℤ_, _<ℤ_, ltZ, Bool, true, false, cond, _⊎_, inl, inr, _≡_, refl}
 use Rattle.meaning_numbers.proofs.{Rep.zarith, Machine.ltZ-true, Machine.ltZ-false}
 
 pick : {x y : ℤ} (t : Bool) → (t ≡ true → x <ℤ y) → (t ≡ false → y ≤ℤ x) → ((cond t x y ≤ℤ x) × (cond t x y ≤ℤ y)) × ((x ≤ℤ cond t y x) × (y ≤ℤ cond t y x))

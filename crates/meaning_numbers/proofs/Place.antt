@@ -1,16 +1,8 @@
 -- The first place that passes a test. `First` says what it is and `Nowhere` that there is none; `place-is` and `none-is` say that `firstPlace` answers so.
 -- One or the other holds of every list (`look`), so the answer of `firstPlace` tells which (`is-place`, `is-none`). The default stands for entries past the end and is asked by nothing.
-use Prim.Native.Nat.{ℕ, zero, suc, _+_, _<_}
-use lib.Dec.{T}
-use lib.ListN.{length, getD}
-use mathlib.Core.Bool.{Bool, not}
-use mathlib.Core.List.{List, [], _∷_}
-use mathlib.Core.Logic.{_⊎_, inl, inr, ⊎-elim}
-use mathlib.Core.Option.{none, some}
-use mathlib.Core.Path.{_≡_, refl}
-use native.Mathlib.Omega.{arith}
 use Rattle.meaning_numbers.specs.Place.{placeFrom, firstPlace}
 use Rattle.meaning_numbers.proofs.Tests.{is-true, is-false, decided}
+use Rattle.meaning_numbers.proofs.Prelude.{ℕ, zero, suc, _+_, _<_, T, length, getD, Bool, not, List, [], _∷_, _⊎_, inl, inr, ⊎-elim, none, some, _≡_, refl, arith}
 
 -- n is the place of the first entry of l that passes
 pub record First {A : Type 0} (p : A → Bool) (default : A) (l : List A) (n : ℕ) : Type 0 where

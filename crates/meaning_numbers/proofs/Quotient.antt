@@ -1,11 +1,8 @@
 -- `floorℤ` and `ceilℤ` are the quotients rounded down and up: each by its two inequalities (`floor-is`, `ceil-is`), and as the greatest and the least (`floor-most`, `ceil-least`).
-use Prim.Native.Nat.{ℕ, _+_, _/_, _<_}
-use lib.IntN.{ℤ, pos, negsuc, negℤ, _+ℤ_, _-ℤ_, _*ℤ_}
-use lib.Signed.{_≤ℤ_, _<ℤ_}
 use native.Mathlib.Nat.{div-mul-le-self, lt-div-mul-add, lt-of-mul-lt-mul-right}
-use native.Mathlib.Omega.{arith}
 use Rattle.meaning_numbers.specs.Quotient.{floorℤ, ceilℤ}
 use Rattle.meaning_numbers.proofs.Rep.{up, dn, rep-self, rep-pos, rep-neg, rep-add, rep-sub, rep-mul, rep-le, rep-lt, le-rep, lt-rep, zarith, z-neg}
+use Rattle.meaning_numbers.proofs.Prelude.{ℕ, _+_, _/_, _<_, ℤ, pos, negsuc, negℤ, _+ℤ_, _-ℤ_, _*ℤ_, _≤ℤ_, _<ℤ_, arith}
 
 pub floor-is : (z : ℤ) (d : ℕ) → 0 < d → ((floorℤ z d *ℤ pos d) ≤ℤ z) × (z <ℤ ((floorℤ z d +ℤ pos 1) *ℤ pos d))
 unfolding floorℤ

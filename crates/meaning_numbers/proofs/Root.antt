@@ -1,12 +1,6 @@
 -- `root` is the whole square root (`root-is`), the greatest number whose square does not pass (`root-most`), and the only such number (`root-only`).
-use Prim.Native.Nat.{ℕ, zero, suc, _+_, _*_, _/_, _<_, _≤_}
-use lib.Dec.{T, ltb→lt, nltb→le}
-use mathlib.Core.Bool.{Bool, true, false, not}
-use mathlib.Core.Path.{_≡_}
-use native.Mathlib.Decide.{decLe}
-use native.Mathlib.Nat.{mul-le-mul}
-use native.Mathlib.Omega.{arith}
 use Rattle.meaning_numbers.specs.Root.{IsRoot, nextBit, rootWithin, root}
+use Rattle.meaning_numbers.proofs.Prelude.{ℕ, zero, suc, _+_, _*_, _/_, _<_, _≤_, T, ltb→lt, nltb→le, Bool, true, false, not, _≡_, decLe, mul-le-mul, arith}
 
 -- ---- squares keep and reflect the order
 
@@ -38,9 +32,8 @@ root-within-is zero zero h = omega arith
 root-within-is zero (suc y) h = absurd (omega arith)
 root-within-is (suc n) zero h = omega arith
 root-within-is (suc n) (suc y) h =
-    let k = rootWithin n (suc y / 4) in
     let i = root-within-is n (suc y / 4) (omega arith) in
-    next-bit-is _ (suc y) (2 * k) (ltb→lt _ _) (nltb→le _ _) (omega arith) (omega arith)
+    next-bit-is _ (suc y) (2 * (rootWithin n (suc y / 4))) (ltb→lt _ _) (nltb→le _ _) (omega arith) (omega arith)
 
 pub root-is : (y : ℕ) → IsRoot y (root y)
 unfolding root

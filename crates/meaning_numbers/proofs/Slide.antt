@@ -1,12 +1,7 @@
 -- A sum over the places from one on, moved by one place: what enters is added, what leaves is taken away (`Σℕ-slide`, `Σℤ-slide`). One term of a sum of naturals is at most the whole (`Σℕ-term`).
-use Prim.Native.Nat.{ℕ, zero, suc, _+_, _<_, _≤_}
-use lib.IntN.{ℤ, _+ℤ_}
-use mathlib.Core.Path.{_≡_, refl}
-use native.Mathlib.Decide.{decLe}
-use native.Mathlib.Nat.{add-zero}
-use native.Mathlib.Omega.{arith}
 use Rattle.meaning_numbers.specs.Sum.{Σℤ, Σℕ}
 use Rattle.meaning_numbers.proofs.Rep.{zarith, z-add, z-eq}
+use Rattle.meaning_numbers.proofs.Prelude.{ℕ, zero, suc, _+_, _<_, _≤_, ℤ, _+ℤ_, _≡_, refl, decLe, add-zero, arith}
 
 pub Σℕ-slide : (g : ℕ → ℕ) (from m : ℕ) → Σℕ m (λ k. g (from + 1 + k)) + g from ≡ Σℕ m (λ k. g (from + k)) + g (from + m)
 unfolding Σℕ

@@ -1,13 +1,9 @@
 -- Laws of sums over the indices below n, over ℤ and over ℕ, and the bridge between them (`rep-Σ`). Each lemma is an induction on the number of terms, one `omega` a step.
 -- `Σℕ-split` cuts a sum in two; a part of a sum of naturals is at most the whole (`Σℕ-part`).
-use Prim.Native.Nat.{ℕ, zero, suc, _+_, _-_, _*_, _<_, _≤_}
-use lib.IntN.{ℤ, pos, _-ℤ_, _*ℤ_}
-use mathlib.Core.Path.{_≡_, refl}
 use native.Mathlib.Nat.{le-step, add-suc}
-use native.Mathlib.Numerals.{add-one}
-use native.Mathlib.Omega.{arith}
 use Rattle.meaning_numbers.specs.Sum.{Σℤ, Σℕ}
 use Rattle.meaning_numbers.proofs.Rep.{Rep, up, dn, rep-self, rep-pos, rep-add, rep-sub, rep-mul, rep-eq}
+use Rattle.meaning_numbers.proofs.Prelude.{ℕ, zero, suc, _+_, _-_, _*_, _<_, _≤_, ℤ, pos, _-ℤ_, _*ℤ_, _≡_, refl, add-one, arith}
 
 pub Σℕ-none : (f : ℕ → ℕ) → Σℕ 0 f ≡ 0
 unfolding Σℕ

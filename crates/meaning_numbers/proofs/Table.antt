@@ -1,10 +1,5 @@
 -- Cases gathered in a table: each is a test that the checker computes. One proof that the table holds covers them all, and `each` says it of each.
-use Prim.Native.Nat.{ℕ, zero, suc}
-use lib.Dec.{T, eqb}
-use lib.IntN.{ℤ, pos, negsuc}
-use lib.ListN.{getD}
-use mathlib.Core.Bool.{Bool, true, false, _&&_}
-use mathlib.Core.List.{List, [], _∷_}
+use Rattle.meaning_numbers.proofs.Prelude.{ℕ, zero, suc, T, eqb, ℤ, pos, negsuc, getD, Bool, true, false, _&&_, List, [], _∷_}
 
 -- every test of the table passes
 unfoldable pub holds : List Bool → Bool

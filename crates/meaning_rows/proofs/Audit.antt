@@ -183,8 +183,8 @@ module _ (x : Index) (s : List ℤ) (g : WellFormed x) where
   first-wrong o k j e = ⊎-elim
       (λ a. absurd (some-none (sym e ∙ none-wrong a)))
       (λ w. let p = same-pair (sym w.3 ∙ e) in
-      let row : w.0 ≡ k = omega (arith, ap (λ (q : ℕ × ℕ). q .0) p) in
-      rw (row, ap (λ (q : ℕ × ℕ). q .1) p) at w.2)
+      let row : w.0 ≡ k = omega (arith, ap (λ (q : ℕ × ℕ). q.0) p) in
+      rw (row, ap (λ (q : ℕ × ℕ). q.1) p) at w.2)
       (right-or-wrong x _ o 0 _ (each-row x g))
 
   -- there is one first wrong filing
@@ -214,7 +214,7 @@ row-above : (a : ℤ) (r : Row) (l : List Row) → Ascending a (map rangeOf l) �
 unfolding Ascending
 row-above a r [] p m = absurd (not-nil m)
 row-above a r (q ∷ l) p m =
-    let b = p.0 in ⊎-elim (λ e. rw e b) (λ n. let h = row-above q.up r l p.2 n in omega zarith) (cases m)
+    ⊎-elim (λ e. rw e p.0) (λ n. let h = row-above q.up r l p.2 n in omega zarith) (cases m)
 
 pub one-holder : (a z : ℤ) (r q : Row) (l : List Row) → Ascending a (map rangeOf l) → Mem r l → Mem q l → inside r.low r.up z ≡ true → inside q.low q.up z ≡ true → r ≡ q
 unfolding Ascending

@@ -81,10 +81,9 @@ module _ (sum : ℕ → ℤ) (n : ℕ) where
   fine-join : (r s : SetRow) → Fine sum n r → Fine sum n s → Gap sum n r.up s.low → Fine sum n (join r s)
   unfolding join
   fine-join r s f g gap =
-      let o = gap.order in
       record {
         wide = omega zarith;
-        exact = λ j l. rw (f.exact j l, g.exact j l) (inside-join _ r.up _ s.up (sum j) (omega zarith) o (omega zarith) (gap.none j l));
+        exact = λ j l. rw (f.exact j l, g.exact j l) (inside-join _ r.up _ s.up (sum j) (omega zarith) gap.order (omega zarith) (gap.none j l));
       }
 
   chain-join : (r s : SetRow) (rest : List SetRow) → Chain sum n r (s ∷ rest) → Chain sum n (join r s) rest
@@ -114,9 +113,9 @@ module _ (sum : ℕ → ℤ) (n : ℕ) where
   unfolding any join Chain
   join-covers z r s rest c e =
       let b = fine-first s rest c.2 .wide in by-test _
-      (λ t. let i = is-inside _ r.up z t in let k = i.0 in let l = i.1 in rw (inside-yes r.low s.up z k (omega zarith)))
+      (λ t. let i = is-inside _ r.up z t in let l = i.1 in rw (inside-yes r.low s.up z i.0 (omega zarith)))
       (λ f. by-test _
-      (λ t. let i = is-inside s.low s.up z t in let k = i.0 in let l = i.1 in rw (inside-yes r.low s.up z (omega zarith) l))
+      (λ t. let i = is-inside s.low s.up z t in let k = i.0 in rw (inside-yes r.low s.up z (omega zarith) i.1))
       (λ g. let k : covered z rest ≡ true = rw (f, g) at e in rw k (or-true (inside r.low s.up z))))
 
   upward-covers : (g : ℕ) (z : ℤ) (r : SetRow) (rest : List SetRow) → Chain sum n r rest → covered z (r ∷ rest) ≡ true → covered z (upward g n r rest) ≡ true
@@ -243,7 +242,6 @@ insert-mem k (y ∷ l) = three k y
     (λ b. rw (insert-eq k y l b) (here b))
 
 pub insert-keeps : (z k : ℤ) (l : List ℤ) → Mem z l → Mem z (insert k l)
-unfolding insert
 insert-keeps z k [] m = absurd (not-nil m)
 insert-keeps z k (y ∷ l) m = three k y
     (λ b. rw (insert-lt k y l b) (there m))
@@ -427,10 +425,9 @@ module _ (sum : ℕ → ℤ) (d n : ℕ) (one : 0 < d) where
     unfolding builtRows withRuns
     built-holds r j m =
         let i = map-mem _ _ m in
-        let q = i.entry in
         let f = all-mem _ _ (tiled-fine sum n _ built-tiled) i.is in
         subst (λ (t : RangeRow). any (inRun j) t.runs ≡ (ltb j n && inside t.low t.up (sum j))) (sym i.same)
-        (entries-of-runs q.has n j ∙ by-test (ltb j n) (λ t. rw (t, f.exact j (ltb-true j n t))) (λ u. rw u))
+        (entries-of-runs i.entry.has n j ∙ by-test (ltb j n) (λ t. rw (t, f.exact j (ltb-true j n t))) (λ u. rw u))
 
     pub built-length : length (builtRows sum d g n) ≤ n
     unfolding builtRows filed

@@ -96,8 +96,7 @@ module _ (R W : ℕ) (P : ℕ → ℕ → Bool) (first : ℕ → ℕ) where
             let u = runCount (P k) W - 1 in
             let e : first k + runCount (P k) W - 1 ≡ first k + u = omega arith in
             let less : u < runCount (P k) W = omega arith in
-            let was = c.cursor k h (omega (arith, stay)) in
-            rw e (filed-other right (first i) n t v _ (not-here k u h f less) (not-last k u h f less) ∙ (rw e at was) ∙ sym stay)
+            rw e (filed-other right (first i) n t v _ (not-here k u h f less) (not-last k u h f less) ∙ (rw e at (c.cursor k h (omega (arith, stay)))) ∙ sym stay)
 
     -- the run's entry is what f and g make of its ends
     pub filed-as : (f g : ℕ → ℕ) (left right : List ℕ) → total ≤ length left → total ≤ length right → PartsAs f g from left right
@@ -125,7 +124,7 @@ module _ (R W : ℕ) (P : ℕ → ℕ → Bool) (first : ℕ → ℕ) where
 
         left-mine : (k u : ℕ) → k ≡ i → u < runCount (P k) (from + suc d) → getD (set left (first i + t) (f from)) (first k + u) 0 ≡ f (getD (lefts (runs (P k) (from + suc d))) u 0)
         left-mine k u q m =
-            let m′ : u < t + 1 = omega (arith, ap (λ (x : ℕ). runCount (P x) (from + suc d)) q, one-more) in
+            let m′ : u < t + 1 = omega (arith, ap (λ x. runCount (P x) (from + suc d)) q, one-more) in
             rw (q, mine-runs, lefts-end _ (from, from + d)) (⊎-elim
             (λ a. rw (a.1, a.0) (getD-set-same left _ _ 0 (omega (arith, room, some-left))))
             (λ a. rw a.1 (getD-set-other left (first i + t) (first i + u) (f from) 0 (λ e. omega (arith, a.0)) ∙ p.left-as i u iR a.0))
@@ -133,7 +132,7 @@ module _ (R W : ℕ) (P : ℕ → ℕ → Bool) (first : ℕ → ℕ) where
 
         right-mine : (k u : ℕ) → k ≡ i → u < runCount (P k) (from + suc d) → getD (fileRight right (first i) n t (g (from + d))) (first k + u) 0 ≡ g (getD (rights (runs (P k) (from + suc d))) u 0)
         right-mine k u q m =
-            let m′ : u < t + 1 = omega (arith, ap (λ (x : ℕ). runCount (P x) (from + suc d)) q, one-more) in
+            let m′ : u < t + 1 = omega (arith, ap (λ x. runCount (P x) (from + suc d)) q, one-more) in
             rw (q, mine-runs, rights-end _ (from, from + d)) (filed-inner right _ n t _ u m′ ∙ ⊎-elim
             (λ a. rw (a.1, a.0) (getD-set-same right _ _ 0 (omega (arith, room, some-left))))
             (λ a. rw a.1 (getD-set-other right (first i + t) (first i + u) (g (from + d)) 0 (λ e. omega (arith, a.0)) ∙ p.right-as i u iR a.0))

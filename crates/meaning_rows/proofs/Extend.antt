@@ -64,9 +64,8 @@ insert-ascends : (a : ℤ) (r : SetRow) (l : List SetRow) → a ≤ℤ r.low →
 unfolding insertRow Ascending All
 insert-ascends a r [] h w b p = (h, w, tt)
 insert-ascends a r (q ∷ l) h w b p = by-test _
-    (λ t. let c = ltZ-true {a = r.low} t in let e = ⊎-elim (λ e. e) (λ e. absurd (omega zarith)) b.0 in rw (insert-here r q l t) (h, w, (e, p.1, p.2)))
-    (λ f. let c = ltZ-false {a = r.low} f in let e = ⊎-elim (λ e. absurd (omega zarith)) (λ e. e) b.0 in
-    rw (insert-later r q l f) (p.0, p.1, insert-ascends q.up r l e w b.1 p.2))
+    (λ t. let c = ltZ-true {a = r.low} t in rw (insert-here r q l t) (h, w, ((⊎-elim (λ e. e) (λ e. absurd (omega zarith)) b.0), p.1, p.2)))
+    (λ f. let c = ltZ-false {a = r.low} f in rw (insert-later r q l f) (p.0, p.1, insert-ascends q.up r l (⊎-elim (λ e. absurd (omega zarith)) (λ e. e) b.0) w b.1 p.2))
 
 -- ---- the row numbers of new windows that no old range holds
 
@@ -94,7 +93,6 @@ module _ (x : Index) (sum : ℕ → ℤ) (d old : ℕ) where
       (λ f. rw (new-unknown more f) (insert-sorted _ _ (new-sorted more)))
 
   pub new-mem : (more j : ℕ) → old ≤ j → j < old + more → known x (sum j) ≡ false → Mem (rowNumber d (sum j)) (newNumbers x sum d old more)
-  unfolding newNumbers
   new-mem zero j a b u = absurd (omega arith)
   new-mem (suc more) j a b u =
       let k = rowNumber d _ in
@@ -132,8 +130,8 @@ some-member n (e ∷ l) p h = (e.0, omega arith, rw (le-leb e.0 e.0 (omega arith
 good-member : (x : Index) (r : Row) → GoodRow x r → (j : ℕ) × (j < natAbs x.windows) × (stands x r j ≡ true)
 good-member x r g =
     let m = g.good.plain in
-    let h = some-member _ m g.good.apart (subst (λ (l : List Entry). 1 ≤ length l) g.good.is (omega (arith, length-runsOf x r g.fits, g.some-run))) in
-    (h.0, h.1, subst (λ (l : List Entry). any (inRun h.0) l ≡ true) (sym g.good.is) (entries-hold m h.0 ∙ h.2))
+    let h = some-member _ m g.good.apart (subst (λ l. 1 ≤ length l) g.good.is (omega (arith, length-runsOf x r g.fits, g.some-run))) in
+    (h.0, h.1, subst (λ l. any (inRun h.0) l ≡ true) (sym g.good.is) (entries-hold m h.0 ∙ h.2))
 
 module _ (x : Index) (sum : ℕ → ℤ) (old : ℕ) where
   pub grown-new : (r : Row) (j : ℕ) → old ≤ j → grown x sum old r .has j ≡ inside r.low r.up (sum j)
@@ -154,7 +152,7 @@ module _ (x : Index) (sum : ℕ → ℤ) (old : ℕ) where
   added-new d k j h = rw (le-leb old j h)
 
   added-old : (d : ℕ) (k : ℤ) (j : ℕ) → j < old → added sum d old k .has j ≡ false
-  unfolding added rowAt
+  unfolding added
   added-old d k j h = rw (lt-leb old j h)
 
   sizes-added : (d : ℕ) (ks : List ℤ) → sizes (sets (map (added sum d old) ks)) old ≡ 0
@@ -175,9 +173,8 @@ pub beside : (d : ℕ) (low up z : ℤ) → 0 < d → GoodEnd d low → GoodEnd 
 beside d low up z one a b f =
     let p = multiple-is d low a.divides in
     let q = multiple-is d up b.divides in
-    let k = rowNumber d z in
     where-is low up z
-    (λ h. inl (rw p.1 (next-le d k p.0 (row-before d p.0 z one (rw p.1 at h)))))
+    (λ h. inl (rw p.1 (next-le d (rowNumber d z) p.0 (row-before d p.0 z one (rw p.1 at h)))))
     (λ h l. clash (inside-yes low up z h l) f)
     (λ h l. inr (rw q.1 (*ℤ-mono d (floor-most q.0 z d one (rw q.1 at l)))))
 
@@ -398,8 +395,7 @@ pub extended-copy : (x : Index) (s : List ℤ) → WellFormed x → windowCount 
     → (extended x s .rows ≡ x.rows) × (extended x s .runs ≡ take (runTotal x.rows) x.runs) × (rangeRows (extended x s) ≡ rangeRows x)
 unfolding extended
 extended-copy x s g e =
-    let w = natAbs x.window in
-    let n = windowCount (length s) w in
+    let n = windowCount (length s) (natAbs x.window) in
     let same = copy-rows x _ n g e in
     let again = laid-again x g in
     (ap (records 0) same ∙ again.0, ap allRuns same ∙ again.1, rows-back x.window x.width (pos n) _ ∙ same)

@@ -140,16 +140,16 @@ module _ (x : Index) (left right : List ℕ) (is : x.runs ≡ entries left right
   own-entry : (t : ℕ) → t < r.runs → _≡_ {A = Entry} (pos (getD left (r.first + t) 0), pos (getD right (r.first + t) 0)) (entry (getD plain t (0, 0)))
   own-entry t l =
       sym (entry-at left right _ (omega (arith, b.fits, ap length is)))
-      ∙ ap (λ (m : List Entry). getD m (r.first + t) (pos 0, pos 0)) (sym is)
+      ∙ ap (λ m. getD m (r.first + t) (pos 0, pos 0)) (sym is)
       ∙ sym (getD-drop _ x.runs t (pos 0, pos 0)) ∙ sym (getD-take _ _ t (pos 0, pos 0) l)
-      ∙ ap (λ (m : List Entry). getD m t (pos 0, pos 0)) b.good.is ∙ List·getD-map entry plain t (0, 0)
+      ∙ ap (λ m. getD m t (pos 0, pos 0)) b.good.is ∙ List·getD-map entry plain t (0, 0)
 
   -- the row's part of each column is that of its old runs
   pub left-at : (t : ℕ) → t < r.runs → getD left (r.first + t) 0 ≡ getD (lefts plain) t 0
-  left-at t l = ap (λ (e : Entry). natAbs e.0) (own-entry t l) ∙ sym (lefts-at plain t)
+  left-at t l = ap (λ e. natAbs e.0) (own-entry t l) ∙ sym (lefts-at plain t)
 
   pub right-at : (t : ℕ) → t < r.runs → getD right (r.first + t) 0 ≡ getD (rights plain) t 0
-  right-at t l = ap (λ (e : Entry). natAbs e.1) (own-entry t l) ∙ sym (rights-at plain t)
+  right-at t l = ap (λ e. natAbs e.1) (own-entry t l) ∙ sym (rights-at plain t)
 
   -- the offset before the first new one is the row's exactly if its last run ends there
   pub joins-old : (sum : ℕ → ℤ) → before (grown x sum (natAbs x.windows) r .has) (natAbs x.windows) ≡ lastEnds r right (natAbs x.windows)
@@ -157,9 +157,8 @@ module _ (x : Index) (left right : List ℕ) (is : x.runs ≡ entries left right
   joins-old sum =
       let n = natAbs x.windows in
       let p = grown x sum n r .has in
-      let size = old-size x sum r b in
       last-next (before p n) plain n (subst (λ (l : List (ℕ × ℕ)). Next (before p n) l n) (old-runs x sum r b) (runs-next p n))
-      ∙ rw size (by-test (leb 1 r.runs) (λ t. rw t (ends (leb-true 1 r.runs t))) (λ f. rw f))
+      ∙ rw (old-size x sum r b) (by-test (leb 1 r.runs) (λ t. rw t (ends (leb-true 1 r.runs t))) (λ f. rw f))
     where
       ends : 1 ≤ r.runs → eqb (getD (rights plain) (r.runs - 1) 0 + 1) (natAbs x.windows) ≡ eqb (getD right (r.first + r.runs - 1) 0 + 1) (natAbs x.windows)
       ends h = let e : r.first + r.runs - 1 ≡ r.first + (r.runs - 1) = omega arith in rw (e, right-at (r.runs - 1) (omega arith))

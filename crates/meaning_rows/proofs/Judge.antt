@@ -59,16 +59,13 @@ pub good-runs : (n a : ℕ) (l : List Entry) → runsGood (pos n) (pos a) l ≡ 
 unfolding runsGood Apart
 good-runs n a [] e = record { plain = []; is = refl; apart = tt }
 good-runs n a (x ∷ l) e =
-    let rest = runsGood (pos n) _ l in
     let b = both _ _ e in
     let c = both _ _ b.1 in
-    let d = both (ltZ x.1 (pos n)) rest c.1 in
+    let d = both (ltZ x.1 (pos n)) (runsGood (pos n) _ l) c.1 in
     let left = at-least a x.0 b.0 in
-    let right = at-least _ x.1 (subst (λ (z : ℤ). leZ z x.1 ≡ true) left.0 c.0) in
-    let after = good-runs n _ l (subst (λ (z : ℤ). runsGood (pos n) (z +ℤ pos 2) l ≡ true) right.0 d.1) in
-    let p = left.0 in
-    let q = right.0 in
-    let same : x ≡ entry (natAbs x.0, natAbs x.1) = λ i. (p i, q i) in
+    let right = at-least _ x.1 (subst (λ z. leZ z x.1 ≡ true) left.0 c.0) in
+    let after = good-runs n _ l (subst (λ z. runsGood (pos n) (z +ℤ pos 2) l ≡ true) right.0 d.1) in
+    let same : x ≡ entry (natAbs x.0, natAbs x.1) = λ i. (left.0 i, right.0 i) in
     record {
       plain = (natAbs x.0, natAbs x.1) ∷ after.plain;
       is = cc (same, after.is);
@@ -247,9 +244,7 @@ module _ (x : Index) where
 
   pub runs-lengths : (r : Row) → GoodRow x r → r.runs ≤ runLengths (runsOf x r)
   runs-lengths r g =
-      let e = g.good.is in
-      let h = length-apart (natAbs x.windows) 0 g.good.plain g.good.apart in
-      omega (arith, length-runsOf r g.fits, subst (λ (l : List Entry). length l ≤ runLengths l) (sym e) h)
+      omega (arith, length-runsOf r g.fits, subst (λ l. length l ≤ runLengths l) (sym g.good.is) (length-apart (natAbs x.windows) 0 g.good.plain g.good.apart))
 
   -- a row's windows are as many as its run lengths add up to
   pub lengths-are : (r : Row) → GoodRow x r → runLengths (runsOf x r) ≡ count (stands x r) (natAbs x.windows)

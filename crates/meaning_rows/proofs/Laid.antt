@@ -15,11 +15,10 @@ lays-after : (b front : List Entry) (l : List RangeRow) → b ≡ front ++ allRu
 unfolding Lays allRuns
 lays-after b front [] e = tt
 lays-after b front (r ∷ l) e =
-    let rest = allRuns l in
-    let longer = length-append front r.runs in (
+    let rest = allRuns l in (
       rw e (omega (arith, length-append front (r.runs ++ rest), length-append r.runs rest)),
       rw (e, drop-append-seam front _) (take-append-seam _ rest),
-      rw longer at (lays-after b (front ++ r.runs) l (e ∙ sym (append-assoc front _ rest))),
+      rw (length-append front r.runs) at (lays-after b (front ++ r.runs) l (e ∙ sym (append-assoc front _ rest))),
     )
 
 pub laid : (l : List RangeRow) → Lays (allRuns l) 0 l
@@ -29,8 +28,7 @@ read-back : (x : Index) (k : ℕ) (l : List RangeRow) → Lays x.runs k l → ma
 unfolding Lays records
 read-back x k [] h = refl
 read-back x k (r ∷ l) h =
-    let e = h.1 in
-    let first : rangeRow x (record { low = r.low; up = r.up; first = k; runs = length r.runs }) ≡ r = λ i. record { low = r.low; up = r.up; runs = e i } in
+    let first : rangeRow x (record { low = r.low; up = r.up; first = k; runs = length r.runs }) ≡ r = λ i. record { low = r.low; up = r.up; runs = h.1 i } in
     cc (first, read-back x _ l h.2)
 
 pub length-records : (k : ℕ) (l : List RangeRow) → length (records k l) ≡ length l
@@ -64,9 +62,8 @@ module _ (x : Index) where
   unfolding GoodRows records
   records-again least first taken [] g = refl
   records-again least first taken (r ∷ l) g =
-      let e = sym g.0.begins in
       let f = length-runsOf x r g.0.row.fits in
-      let same : record { low = r.low; up = r.up; first = first; runs = length (runsOf x r) } ≡ r = λ i. record { low = r.low; up = r.up; first = e i; runs = f i } in
+      let same : record { low = r.low; up = r.up; first = first; runs = length (runsOf x r) } ≡ r = λ i. record { low = r.low; up = r.up; first = (sym g.0.begins) i; runs = f i } in
       cc (same, f, records-again r.up _ _ l g.1)
 
   runs-again : (least : ℤ) (first taken : ℕ) (l : List Row) → GoodRows x least first taken l → allRuns (map (rangeRow x) l) ≡ take (runTotal l) (drop first x.runs)

@@ -51,11 +51,11 @@ module _ {X : Type 0} (x₀ : X) (G : X → RangeRow) where
         let m = length-map a f in
         rw (map-append f a b) (elim (decLt x (length a)) [
           | yes s ↦ let e : k + x ≡ k + start (y ∷ t) 0 + x = omega (arith, Σℕ-none (λ z. size (getD (y ∷ t) z x₀))) in
-              ap (λ (z : ℕ). getD column z 0) e ∙ h 0 x (omega arith) s ∙ sym (List·getD-append (map f a) _ 0 x (omega (arith, m)))
+              ap (λ z. getD column z 0) e ∙ h 0 x (omega arith) s ∙ sym (List·getD-append (map f a) _ 0 x (omega (arith, m)))
           | no s ↦ let e : k + x ≡ k + size y + (x - size y) = omega arith in
               let q : length (map f a) + (x - size y) ≡ x = omega (arith, m) in
-              ap (λ (z : ℕ). getD column z 0) e
-              ∙ column-from _ t (λ i u p r. let g : k + size y + start t i + u ≡ k + start (y ∷ t) (suc i) + u = omega (arith, Σℕ-shift i (λ z. size (getD (y ∷ t) z x₀))) in ap (λ (z : ℕ). getD column z 0) g ∙ h (suc i) u (omega arith) r) (x - size y) (omega arith)
+              ap (λ z. getD column z 0) e
+              ∙ column-from _ t (λ i u p r. let g : k + size y + start t i + u ≡ k + start (y ∷ t) (suc i) + u = omega (arith, Σℕ-shift i (λ z. size (getD (y ∷ t) z x₀))) in ap (λ z. getD column z 0) g ∙ h (suc i) u (omega arith) r) (x - size y) (omega arith)
               ∙ sym (getD-append-add (map f a) (map f b) (x - size y) 0) ∙ rw q
         ])
 
@@ -63,4 +63,4 @@ module _ {X : Type 0} (x₀ : X) (G : X → RangeRow) where
         → (x : ℕ) → x < length (allRuns (map G t)) → getD column x 0 ≡ getD (map f (allRuns (map G t))) x 0
     column-at t h x l =
         let e : x ≡ 0 + x = omega arith in
-        ap (λ (z : ℕ). getD column z 0) e ∙ column-from 0 t (λ i u p r. let q : 0 + start t i + u ≡ start t i + u = omega arith in ap (λ (z : ℕ). getD column z 0) q ∙ h i u p r) x l
+        ap (λ z. getD column z 0) e ∙ column-from 0 t (λ i u p r. let q : 0 + start t i + u ≡ start t i + u = omega arith in ap (λ z. getD column z 0) q ∙ h i u p r) x l

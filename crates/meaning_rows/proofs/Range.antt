@@ -39,8 +39,8 @@ inside-join a b c d z ab bc cd gap =
     (λ h. let k : z <ℤ c = omega zarith in rw (inside-below a b z h, inside-below c d z k, inside-below a d z h))
     (λ h k. let l : z <ℤ d = omega zarith in rw (inside-yes a b z h k, inside-yes a d z h l))
     (λ h k. by-test _ (λ t. absurd (gap k (ltZ-true t)))
-    (λ f. let l = ltZ-false f in by-test _
-    (λ t. let m = ltZ-true t in rw (inside-above a b z k, inside-yes c d z l m, inside-yes a d z h m))
+    (λ f. by-test _
+    (λ t. let m = ltZ-true t in rw (inside-above a b z k, inside-yes c d z (ltZ-false f) m, inside-yes a d z h m))
     (λ g. let m = ltZ-false g in rw (inside-above a b z k, inside-above c d z m, inside-above a d z m))))
 
 -- ---- row numbers
@@ -93,13 +93,11 @@ row-only d k z one t = row-unique d k z one (is-true _ t)
 pub row-raised : {z : ℤ} (n c e b d : ℕ) → Rep z n c → c + e ≡ b * d → 0 < d → Rep (rowNumber d z) ((n + e) / d) b
 row-raised {z} n c e b d h m one =
     let q = (n + e) / d in
-    let k = subℕ q b in
     let K = rep-subℕ q b in
     let lo : q * d ≤ n + e = div-mul-le-self (n + e) d in
     let hi : n + e < q * d + d = lt-div-mul-add one in
-    let low = rep-le (rep-mul K (rep-pos d)) h (omega arith) in
     let up = rep-lt h (rep-mul (rep-add K (rep-pos 1)) (rep-pos d)) (omega arith) in
-    rw (← row-unique d k z one (inside-yes _ _ z low up)) K
+    rw (← row-unique d (subℕ q b) z one (inside-yes _ _ z (rep-le (rep-mul K (rep-pos d)) h (omega arith)) up)) K
 
 -- a row's range is d wide
 pub up-is : (d : ℕ) (k : ℤ) → upOf d k ≡ lowOf d k +ℤ pos d

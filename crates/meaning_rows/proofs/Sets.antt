@@ -75,11 +75,9 @@ module _ (window width : ℤ) (n : ℕ) (all : List SetRow) where
   unfolding Lays Ascending All GoodRows records withRuns sizes
   good-from least k taken [] h a e o t = tt
   good-from least k taken (q ∷ rows) h a e o t =
-      let x = shown window width n all in
-      let own = map entry (runs _ n) in
-      let r : Row = record { low = q.low; up = q.up; first = k; runs = length own } in
+      let r : Row = record { low = q.low; up = q.up; first = k; runs = length (map entry (runs _ n)) } in
       let same = h.1 in
-      let long : runLengths (runsOf x r) ≡ count q.has n = ap runLengths same ∙ runs-count q.has n in (
+      let long : runLengths (runsOf (shown window width n all) r) ≡ count q.has n = ap runLengths same ∙ runs-count q.has n in (
         record {
           row = record {
             wide = a.1;

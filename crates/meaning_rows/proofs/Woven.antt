@@ -119,8 +119,8 @@ module _ (d : ℕ) where
         let rest = weave-old r rows ks w (λ z m. h z (there m)) in
         let out : inside r.low r.up (lowOf d k) ≡ false = by-test _ (λ t. let i = is-inside _ r.up _ t .1 in absurd (omega zarith)) (λ f. f) in
         by-test _
-        (λ t. woven-held _ k ks (skips r rows _ out ∙ t) ∙ rest ∙ ap (λ (l : List Row). r ∷ l) (sym (woven-held rows k ks t)))
-        (λ f. woven-free _ k ks (skips r rows _ out ∙ f) ∙ ap (put _) rest ∙ goes-later r _ k low ∙ ap (λ (l : List Row). r ∷ l) (sym (woven-free rows k ks f)))
+        (λ t. woven-held _ k ks (skips r rows _ out ∙ t) ∙ rest ∙ ap (λ l. r ∷ l) (sym (woven-held rows k ks t)))
+        (λ f. woven-free _ k ks (skips r rows _ out ∙ f) ∙ ap (put _) rest ∙ goes-later r _ k low ∙ ap (λ l. r ∷ l) (sym (woven-free rows k ks f)))
 
 -- ---- the row numbers that no old range holds are those of the new windows that no old range holds
 
@@ -137,7 +137,6 @@ unfolding keep
 keep-no p k l f = rw f
 
 mem-keep : (p : ℤ → Bool) (z : ℤ) (l : List ℤ) → Mem z l → p z ≡ true → Mem z (keep p l)
-unfolding keep
 mem-keep p z [] m t = absurd (not-nil m)
 mem-keep p z (k ∷ l) m t = by-test (p k)
     (λ y. rw (keep-yes p k l y) (⊎-elim here (λ o. there (mem-keep p z l o t)) (cases m)))
@@ -172,7 +171,7 @@ cell d low up z one a b =
     let wide = widen d k one in
     by-test _
     (λ t. let i = is-inside low up z t in
-    let l = subst (λ (t : ℤ). t ≤ℤ lowOf d k) (sym p.1) (*ℤ-mono d (floor-most p.0 z d one (rw p.1 at i.0))) in
+    let l = subst (λ t. t ≤ℤ lowOf d k) (sym p.1) (*ℤ-mono d (floor-most p.0 z d one (rw p.1 at i.0))) in
     let under = row-below d z one in
     t ∙ sym (inside-yes low up _ l (omega zarith)))
     (λ f. f ∙ sym (by-test _
@@ -202,12 +201,12 @@ module _ (x : Index) (g : WellFormed x) where
         let e : old + j ≡ a.at = omega arith in
         let is : rowNumber d (later j) ≡ z = rw e a.is in
         mem-keep free z (rowNumbers later d more) (rw is at (numbers-mem later d more j (omega arith)))
-        (ap not (ap (λ (t : ℤ). heldBy x.rows (lowOf d t)) (sym a.is) ∙ sym (held-cell (sum a.at)) ∙ a.unknown)))
+        (ap not (ap (λ t. heldBy x.rows (lowOf d t)) (sym a.is) ∙ sym (held-cell (sum a.at)) ∙ a.unknown)))
         (λ z m. let k = keep-mem free z (rowNumbers later d more) m in
         let o = numbers-occur later d more z k.0 in
-        subst (λ (t : ℤ). Mem t (newNumbers x sum d old more)) o.is
+        subst (λ t. Mem t (newNumbers x sum d old more)) o.is
         (new-mem x sum d old more (old + o.at) (omega arith) (omega arith)
-        (held-cell (later o.at) ∙ ap (λ (t : ℤ). heldBy x.rows (lowOf d t)) o.is ∙ not-true (heldBy x.rows (lowOf d z)) k.1)))
+        (held-cell (later o.at) ∙ ap (λ t. heldBy x.rows (lowOf d t)) o.is ∙ not-true (heldBy x.rows (lowOf d z)) k.1)))
 
 -- ---- laid out with their runs
 
@@ -239,8 +238,7 @@ module _ (x : Index) (sum : ℕ → ℤ) (old n : ℕ) where
   new-grown : (d : ℕ) (k : ℤ) → withRuns n (added sum d old k) ≡ grownRuns (newRow d k)
   unfolding withRuns added rowAt grown newRow
   new-grown d k =
-      let e = ap (map entry) (runs-cong _ _ n (λ j b. new-has d k j)) in
-      λ i. record { low = lowOf d k; up = upOf d k; runs = e i }
+      λ i. record { low = lowOf d k; up = upOf d k; runs = (ap (map entry) (runs-cong _ _ n (λ j b. new-has d k j))) i }
 
   weaves : (d : ℕ) (rows : List Row) (ks : List ℤ)
       → map (withRuns n) (insertRows (map (added sum d old) (keep (λ k. not (heldBy rows (lowOf d k))) ks)) (map (grown x sum old) rows)) ≡ map grownRuns (woven d rows ks)

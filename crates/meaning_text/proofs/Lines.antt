@@ -132,7 +132,7 @@ credit-paid (both f g) c d e x = let s = bind-eq-some-iff (credit f c) (credit g
 credit-paid (many f) c d e l =
     let s = bind-eq-some-iff (credit f c) _ .0 e in
     on-flag (leb c s.0)
-    (λ t. let h = some-same (rw t at s.2) in rw (← h) (many-paid (spell f) c (λ v. paid-less c (leb-true c s.0 t) (credit-paid f c s.0 s.1 v)) l))
+    (λ t. rw (← (some-same (rw t at s.2))) (many-paid (spell f) c (λ v. paid-less c (leb-true c s.0 t) (credit-paid f c s.0 s.1 v)) l))
     (λ t. none-some (rw t at s.2))
 
 few-lines : (f : Form) (d : ℕ) → credit f 0 ≡ some d → (p : List ℕ) → Viable f p → newlines p * 8 ≤ length p

@@ -47,7 +47,7 @@ module _ (f : Form) (t p u : List ℕ) (parts : t ≡ p ++ u) (viable : Viable f
         viable = rw (parts, take-at p u _ refl) viable;
         longest = λ m a b s.
             let k : m ≡ length p + (m - length p) = omega arith in
-            let c : take m t ≡ p ++ take (m - length p) u = rw parts (ap (λ (j : ℕ). take j (p ++ u)) k ∙ take-append-add p u (m - length p)) in
+            let c : take m t ≡ p ++ take (m - length p) u = rw parts (ap (λ j. take j (p ++ u)) k ∙ take-append-add p u (m - length p)) in
             longer u refl (m - length p) (omega arith) (omega arith) (rw c at s);
       })
 

@@ -44,13 +44,13 @@ module _ (w : Width) {x y : ℤ} (f : SFits w x) (g : SFits w y) where
 -- a value added to a sum, or taken from it: b is the sum z as the machine reads it
 module _ {b z x : ℤ} (is : b ≡ z) (above : up z ≤ dn z + 1000000000) (below : dn z ≤ up z + 1000000000) (h : InLimits x) where
   pub plus-fits : SFits w32 (b +ℤ toZ w32 (ofZ w32 x))
-  plus-fits = rw (is, in-back h) (omega (zmach32, z-add z x, h.low, h.high))
+  plus-fits = rw (is, in-back h) (omega (zmach32, z-add z x))
 
   pub plus-back : toZ w32 (ofZ w32 (b +ℤ toZ w32 (ofZ w32 x))) ≡ z +ℤ x
   plus-back = toZ-ofZ w32 _ plus-fits ∙ rw (is, in-back h)
 
   pub minus-fits : SFits w32 (b -ℤ toZ w32 (ofZ w32 x))
-  minus-fits = rw (is, in-back h) (omega (zmach32, z-sub z x, h.low, h.high))
+  minus-fits = rw (is, in-back h) (omega (zmach32, z-sub z x))
 
   pub minus-back : toZ w32 (ofZ w32 (b -ℤ toZ w32 (ofZ w32 x))) ≡ z -ℤ x
   minus-back = toZ-ofZ w32 _ minus-fits ∙ rw (is, in-back h)

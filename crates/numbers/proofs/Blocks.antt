@@ -14,10 +14,10 @@ pub made-none : (f : ℕ → ℕ) (most : ℕ) → Made f most 0 0
 made-none f most = record { sum = sym (Σℕ-none f); small = omega arith }
 
 pub made-more : {f : ℕ → ℕ} {most i total : ℕ} (n p : ℕ) → Made f most i total → p ≡ Σℕ n (λ k. f (i + k)) → p ≤ most * n → Made f most (i + n) (total + p)
-made-more {f} {most} {i} n p d e h = record { sum = omega (arith, d.sum, Σℕ-split i n f); small = omega arith }
+made-more {f} {most} {i} n p d e h = record { sum = omega (arith, Σℕ-split i n f); small = omega arith }
 
 pub made-left : {f : ℕ → ℕ} {most i total m limit : ℕ} → Made f most i total → i ≤ m → limit < total → Within (Σℕ m f) limit total
-made-left {f} {most} {i} {total} {m} d h k = left-early (omega (arith, d.sum, Σℕ-fewer i m f h)) k
+made-left {f} {most} {i} {total} {m} d h k = left-early (omega (arith, Σℕ-fewer i m f h)) k
 
 pub made-whole : {f : ℕ → ℕ} {most i total m limit : ℕ} → Made f most i total → i ≡ m → Within (Σℕ m f) limit total
 made-whole d e = whole (rw e at d.sum)

@@ -16,16 +16,16 @@ one-side (pos k) n h g = record { above = omega arith; below = omega arith }
 one-side (negsuc k) n h g = record { above = omega arith; below = omega arith }
 
 pub small-add : {a b : ℕ} (x y : ℤ) → Small a x → Small b y → Small (a + b) (x +ℤ y)
-small-add {a} {b} x y h k = one-side _ (a + b) (omega (arith, z-add x y, h.above, h.below, k.above, k.below)) (omega (arith, z-add x y, h.above, h.below, k.above, k.below))
+small-add {a} {b} x y h k = one-side _ (a + b) (omega (arith, z-add x y, h.above, h.below, k.above, k.below)) (omega (arith, z-add x y))
 
 pub small-sub : {a b : ℕ} (x y : ℤ) → Small a x → Small b y → Small (a + b) (x -ℤ y)
-small-sub {a} {b} x y h k = one-side _ (a + b) (omega (arith, z-sub x y, h.above, h.below, k.above, k.below)) (omega (arith, z-sub x y, h.above, h.below, k.above, k.below))
+small-sub {a} {b} x y h k = one-side _ (a + b) (omega (arith, z-sub x y, h.above, h.below, k.above, k.below)) (omega (arith, z-sub x y))
 
 pub small-fits : {n : ℕ} {z : ℤ} → n < 2 ^ 63 → Small n z → SFits w64 z
 small-fits {z = z} h s = to-sfits (omega arith)
 
 pub small-neg : {n : ℕ} (z : ℤ) → Small n z → Small n (negℤ z)
-small-neg {n} z s = one-side _ n (omega (arith, z-neg z, s.above, s.below)) (omega (arith, z-neg z, s.above, s.below))
+small-neg {n} z s = one-side _ n (omega (arith, z-neg z, s.above, s.below)) (omega (arith, z-neg z))
 
 pub small-mul : {a b : ℕ} (x y : ℤ) → Small a x → Small b y → Small (a * b) (x *ℤ y)
 small-mul {a} {b} (pos m) (pos n) h k = record { above = mul-le-mul h.above k.above; below = omega arith }
@@ -35,8 +35,8 @@ small-mul {a} {b} (negsuc m) (negsuc n) h k = record { above = mul-le-mul h.belo
 
 pub small-floor : {n : ℕ} (z : ℤ) (d : ℕ) → Small n z → Small n (floorℤ z d)
 unfolding floorℤ
-small-floor (pos k) d h = record { above = omega (arith, div-le-self k d, h.above); below = omega arith }
-small-floor (negsuc k) d h = record { above = omega arith; below = omega (arith, div-le-self k d, h.below) }
+small-floor (pos k) d h = record { above = omega (arith, div-le-self k d); below = omega arith }
+small-floor (negsuc k) d h = record { above = omega arith; below = omega (arith, div-le-self k d) }
 
 pub small-min : {n : ℕ} (x y : ℤ) → Small n x → Small n y → Small n (minℤ x y)
 small-min {n} x y h k = ⊎-elim (λ e. rw e h) (λ e. rw e k) (minℤ-one x y)

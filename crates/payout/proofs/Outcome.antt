@@ -38,7 +38,7 @@ module _ (x s : List ℕ) where
     where
       by : (v : Verdict (Value indexForm)) → readText indexForm x ≡ v → Audited.Refused 12 (lineOf x q) ≡ auditTextAnswer x s
       by (fine v) e = let f = came ∙ ap scanned e in let z : _≡_ {A = ℕ} 0 1 = cc in absurd (omega arith)
-      by (unfit p) e = let z : q ≡ p = cc in ap (λ (k : ℕ). Audited.Refused 12 (lineOf x k)) z ∙ sym (index-unread x s p e)
+      by (unfit p) e = let z : q ≡ p = cc in ap (λ k. Audited.Refused 12 (lineOf x k)) z ∙ sym (index-unread x s p e)
 
   module _ (h : Head) (c : Rows) (came : Scanned.Fine h c ≡ scanned (readText indexForm x)) where
     record Readable : Type 0 where

@@ -63,8 +63,7 @@ rows-few x least first taken (r ∷ l) h g =
 bad-row-few : (x : Index) (k : ℕ) → firstBadRow x ≡ some k → k ≤ mostValues
 bad-row-few x k e = ⊎-elim
     (λ z. omega (arith, z.0))
-    (λ b. let w = b.head.windows in
-    omega (arith, rows-few x lowestEnd 0 0 _ (omega arith) b.before, length-take-le k x.rows (omega (arith, b.is-row)), w.most))
+    (λ b. omega (arith, rows-few x lowestEnd 0 0 _ (omega arith) b.before, length-take-le k x.rows (omega (arith, b.is-row)), b.head.windows.most))
     (first-bad x k e)
 
 -- ---- refusals

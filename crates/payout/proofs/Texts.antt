@@ -53,7 +53,7 @@ module _ (x s : List ℕ) where
       library e = let b = between 1 mostProgramValues _ e in is-within 1 mostValues _ (record { is = refl; least = b.least; most = omega arith })
 
       inside : lengthIn mostProgramValues (length w) ≡ true → firstRefusal (auditTable mostProgramValues call) ≡ firstRefusal (auditTable mostValues call)
-      unfolding firstRefusal auditTable lengthOutside
+      unfolding auditTable lengthOutside
       inside e = rw (e, library e) refl
 
       by-refusal : (o : Option (ℕ × ℕ)) → firstRefusal (auditTable mostValues call) ≡ o → firstRefusal (auditTextTable x s) ≡ o → auditAnswer call ≡ auditTextAnswer x s
@@ -68,7 +68,7 @@ module _ (x s : List ℕ) where
           let m = length-map w clamp in
           let z = replicate n (pos 0) in
           let k : 0 + length (map clamp w) ≤ length z = omega (arith, m, h, length-replicate n (pos 0)) in
-          rw (sets-eq _ z 0 k) (ap (λ (j : ℕ). take j (map clamp w ++ drop (0 + length (map clamp w)) z)) (sym m) ∙ take-append-seam _ _)
+          rw (sets-eq _ z 0 k) (ap (λ j. take j (map clamp w ++ drop (0 + length (map clamp w)) z)) (sym m) ∙ take-append-seam _ _)
 
       pub both-read : (buffer : List ℤ) → buffer ≡ stored (replicate 4096 (pos 0)) w → countedAnswer (textIndex x) buffer (length w) ≡ auditTextAnswer x s
       unfolding countedAnswer

@@ -1,12 +1,5 @@
 -- The audit of an index text against a series: its plan's refusal is that of the table (`plan-is`); what the audit of the rows asks holds where nothing refuses (`goes-sized`), and what is answered is what the meanings say (`stopped-right`, `walked-right`).
-use Prim.Native.Nat.{ℕ, _+_}
-use lib.IntN.{ℤ, natAbs}
-use lib.ListN.{length}
-use mathlib.Core.Bool.{true}
-use mathlib.Core.List.{List, [], _∷_, _++_}
-use mathlib.Core.Option.{Option, none, some}
-use mathlib.Core.Path.{_≡_, refl, sym, ap, subst, _∙_}
-use native.Mathlib.Omega.{arith}
+use Rattle.meaning_numbers.proofs.Prelude.{ℕ, _+_, ℤ, natAbs, length, true, List, [], _∷_, _++_, Option, none, some, _≡_, refl, sym, ap, subst, _∙_, arith}
 use Rattle.meaning_curves.specs.Limits.{mostValues}
 use Rattle.meaning_rows.specs.{declared.Head.Head, Index.Index, Index.lent, Judge.headGood, Audit.firstWrong, Audit.missing}
 use Rattle.meaning_rows.proofs.{Judge.WellFormed, Judge.good-head, Judge.none-bad, Audit.missing-are}
@@ -120,7 +113,7 @@ module _ (t : List ℕ) (series : List ℤ) (h : Head) (c : Rows) (came : Scanne
   number-is z = sym (rw same-plan) ∙ z
 
   pub stopped-right : (s : RowsAudited) → (plan.refusal.number ≡ 0 → ⊥) → answerOf plan s ≡ answered
-  stopped-right s z = ap (λ (u : AuditPlan). answerOf u s) same-plan ∙ stopped-by series v s (λ e. z (ap (λ (u : AuditPlan). u .refusal .number) same-plan ∙ e)) ∙ same-answer
+  stopped-right s z = ap (λ (u : AuditPlan). answerOf u s) same-plan ∙ stopped-by series v s (λ e. z (ap (λ (u : AuditPlan). u.refusal.number) same-plan ∙ e)) ∙ same-answer
 
   pub goes-sized : plan.refusal.number ≡ 0 → Sized series h
   goes-sized z = subst (Sized series) (sym told.head) (sized-by series v (number-is z))

@@ -1,10 +1,5 @@
 -- Where all rows of an index text are good, the run lengths that judging added up are those of its index (`rows-taken`).
-use Prim.Native.Nat.{ℕ, _+_, _≤_}
-use lib.IntN.{natAbs, pos}
-use mathlib.Core.Bool.{true, false≢true}
-use mathlib.Core.List.{List, [], _∷_, map}
-use mathlib.Core.Path.{_≡_, refl, sym, ap, _∙_}
-use native.Mathlib.Omega.{arith}
+use Rattle.meaning_numbers.proofs.Prelude.{ℕ, _+_, _≤_, natAbs, pos, true, false≢true, List, [], _∷_, map, _≡_, refl, sym, ap, _∙_, arith}
 use Rattle.meaning_rows.specs.{declared.Head.Head, Index.Index, Index.lent, Index.records, Judge.headGood, Judge.runLengths, Judge.lengthTotal}
 use Rattle.meaning_rows.proofs.Laid.{Lays, laid}
 use Rattle.meaning_text.specs.{Form.Value, Texts.indexForm, Texts.rowForm, Texts.rowSaid, Texts.indexSaid}

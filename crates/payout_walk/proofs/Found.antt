@@ -34,7 +34,7 @@ module _ (sum : ℕ → ℤ) (k : ℕ) where
 
   wrong-else : (r : Row) (a : List ℕ) (o : Option (ℕ × ℕ)) → wrongIn sum k r a o ≡ orElse (wrongIn sum k r a none) o
   unfolding wrongIn
-  wrong-else r a o = ap (λ (l : List ℕ). wrongIn sum k r l o) (sym (append-nil a)) ∙ wrong-append r a [] o
+  wrong-else r a o = ap (λ l. wrongIn sum k r l o) (sym (append-nil a)) ∙ wrong-append r a [] o
 
   -- only the range of a row counts
   same-range : (low up : ℤ) (f n g m : ℕ) (a : List ℕ) (o : Option (ℕ × ℕ)) → wrongIn sum k (record { low = low; up = up; first = f; runs = n }) a o ≡ wrongIn sum k (record { low = low; up = up; first = g; runs = m }) a o
@@ -85,10 +85,9 @@ module _ (series : List ℤ) (h : Head) where
   unfolding runsWalked Apart offsets wrongIn
   runs-found W a k low up o [] m s p = ap found (sym (else-none o))
   runs-found W a k low up o (x ∷ l) m s p =
-      let w = wrongIn sum k (ranged low up) (numbersFrom x.0 _) none in
       ap (λ (u : RowsAudited). runsWalked series h k low up u (map entry l)) (run-held W k low up o x.0 x.1 m s p.1 p.2)
       ∙ runs-found W _ k low up _ l m s p.3
-      ∙ ap found (else-assoc o w _
+      ∙ ap found (else-assoc o (wrongIn sum k (ranged low up) (numbersFrom x.0 _) none) _
       ∙ ap (orElse o) (sym (wrong-append sum k (ranged low up) (numbersFrom x.0 _) (offsets (map entry l)) none)))
 
 -- ---- the rows
@@ -139,9 +138,8 @@ module _ (series : List ℤ) (v : Value indexForm) (head : headGood (lent (headH
       let w = windowSum series _ in
       let q = wrongIn w k row _ none in
       let later = wrongFrom X w (suc k) (records _ (map rowSaid l)) in
-      let d = e ∙ sym (append-assoc a _ l) in
       ap (λ (u : RowsAudited). rowsWalked series h (suc k) u l) (row-found a r l f k o e g.0 s.1)
-      ∙ rows-from (a ++ (r ∷ [])) l _ (suc k) (orElse o q) d s.2 g.1
+      ∙ rows-from (a ++ (r ∷ [])) l _ (suc k) (orElse o q) (e ∙ sym (append-assoc a _ l)) s.2 g.1
       ∙ ap found (else-assoc o q later ∙ ap (orElse o) (sym (wrong-else w k row (offsets (runsOf X row)) later)))
 
   rows-are : X.rows ≡ records 0 (map rowSaid v.1.1.1)

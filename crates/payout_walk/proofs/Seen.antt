@@ -77,7 +77,7 @@ module _ (series : List ℤ) (h : Head) where
 
   text-walked : (t : List ℕ) → verdictOf outOf (WalkedTo t) ≡ verdictOf say (readText indexForm t)
   text-walked t =
-      ap (λ (x : Walk). verdictOf outOf (endOf (Whole (tellWalk series h) shutWalk x t))) (sym start-is)
+      ap (λ x. verdictOf outOf (endOf (Whole (tellWalk series h) shutWalk x t))) (sym start-is)
       ∙ text-viewed (tellWalk series h) shutWalk walkOf tells shuts outOf say ended t
 
   fine-same : {A : Type 0} {a b : A} → fine a ≡ fine b → a ≡ b
@@ -142,14 +142,14 @@ module _ (series : List ℤ) (h : Head) where
     where
       to : Stays l (suc i) → (x : Seen Walk) → keep (tellWalk series h) shutWalk (seen s t) b ≡ some x → x.kept.found ≡ t.found → Ends t.found (endOf (feed (keep (tellWalk series h) shutWalk) (going (seen s t) i) (b ∷ l)))
       to ih x k f =
-          let g : x.kept.found.go ≡ false = ap (λ (u : RowsAudited). u .go) f ∙ e in
+          let g : x.kept.found.go ≡ false = ap (λ (u : RowsAudited). u.go) f ∙ e in
           rw (feed-one (keep (tellWalk series h) shutWalk) (seen s t) x b l i k) (subst (λ (u : RowsAudited). Ends u (endOf (feed (keep (tellWalk series h) shutWalk) (going x (suc i)) l))) f (ih x g))
 
       by : Stays l (suc i) → (m : Moved) → indexStep s b ≡ m → Ends t.found (endOf (feed (keep (tellWalk series h) shutWalk) (going (seen s t) i) (b ∷ l)))
-      by ih (Moved.To n) f = to ih (seen n t) (ap (λ (m : Moved). movedTo (tellWalk series h) shutWalk m t) f) refl
-      by ih (Moved.Value n p z) f = to ih (seen n (tellWalk series h p z t)) (ap (λ (m : Moved). movedTo (tellWalk series h) shutWalk m t) f) (tell-stays p z t e)
-      by ih (Moved.Closed n) f = to ih (seen n (shutWalk t)) (ap (λ (m : Moved). movedTo (tellWalk series h) shutWalk m t) f) refl
-      by ih Moved.Refuse f = rw (feed-none (keep (tellWalk series h) shutWalk) (seen s t) b l i (ap (λ (m : Moved). movedTo (tellWalk series h) shutWalk m t) f)) tt
+      by ih (Moved.To n) f = to ih (seen n t) (ap (λ m. movedTo (tellWalk series h) shutWalk m t) f) refl
+      by ih (Moved.Value n p z) f = to ih (seen n (tellWalk series h p z t)) (ap (λ m. movedTo (tellWalk series h) shutWalk m t) f) (tell-stays p z t e)
+      by ih (Moved.Closed n) f = to ih (seen n (shutWalk t)) (ap (λ m. movedTo (tellWalk series h) shutWalk m t) f) refl
+      by ih Moved.Refuse f = rw (feed-none (keep (tellWalk series h) shutWalk) (seen s t) b l i (ap (λ m. movedTo (tellWalk series h) shutWalk m t) f)) tt
 
   pub walked-stopped : (t : List ℕ) (s : State) (x : Walk) (i : ℕ) → Kept (tellWalk series h) shutWalk startWalk t s x i → x.found.go ≡ false → Walked series h t x.found
   walked-stopped t s x i k e = by (WalkedTo t) refl

@@ -151,11 +151,11 @@ module _ (s q : List ℤ) (a : Asked) (free : AllPass (callLines (callOf s q a))
   printed-is = refl
 
   query-some-here : 1 ≤ length q
-  unfolding openLines callLines callOf
+  unfolding openLines
   query-some-here = query-line _ _ (passed-line limit-part 6) .0 .least
 
   near : a.ask.limits.threshold ≤ 1000000000000
-  unfolding openLines callLines callOf
+  unfolding openLines
   near = threshold-line _ (passed-line limit-part 9) .most
 
   candidates-few : searchCandidates d < 10 ^ 18

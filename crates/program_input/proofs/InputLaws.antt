@@ -23,7 +23,7 @@ unfolding feed
 placed f [] s k = omega arith
 placed f (b ∷ t) s k =
     on-option (f s b)
-    (λ n e. rw e (placed-suc k (length t) (feed f _ t) (placed f t n (suc k))))
+    (λ n e. rw e (placed-suc k _ (feed f _ t) (placed f t n (suc k))))
     (λ e. rw (e, feed-failed f t k) (omega arith, omega arith))
 
 fed-both : (t piece : List ℕ) → feed step (fed t) piece ≡ fed (t ++ piece)
@@ -87,7 +87,7 @@ module _ (kept asked : List ℤ) (t piece : List ℕ) (numbers series query numb
         → next ≡ line - 1 + lineOf piece (length piece) → Stands kept asked (t ++ piece) (Input.Going n next) numbers' series' query'
     unfolding Stands
     stands-going n next c e =
-        (rw (fed-both t piece) at (shows-then kept asked p (fed t) piece numbers series query _ numbers' series' query' before c), e ∙ line-of t piece line (length piece) s.1 ∙ ap (lineOf (t ++ piece)) (sym (length-append t piece)))
+        (rw (fed-both t piece) at (shows-then kept asked p (fed t) piece numbers series query _ numbers' series' query' before c), e ∙ line-of t piece line _ s.1 ∙ ap (lineOf (t ++ piece)) (sym (length-append t piece)))
 
     pub stands-failed : (m bad : ℕ) → ((g : Said) → Comes p g kept asked piece numbers series query (Feeding.Failed m) numbers' series' query')
         → bad ≡ line - 1 + lineOf piece (m - p.at) → Stands kept asked (t ++ piece) (Input.Failed bad) numbers' series' query'
@@ -95,8 +95,7 @@ module _ (kept asked : List ℤ) (t piece : List ℕ) (numbers series query numb
     stands-failed m bad c e =
         let f = shows-then kept asked p (fed t) piece numbers series query _ numbers' series' query' before c in
         let l = placed step t programStart 0 in
-        let b = failed-behind m p (fed t) l before f in
-        let q : length t + (m - p.at) ≡ m = omega (arith, going-at p (fed t) l before, b) in
+        let q : length t + (m - p.at) ≡ m = omega (arith, going-at p (fed t) l before, failed-behind m p (fed t) l before f) in
         (m, (rw (fed-both t piece) at f, e ∙ line-of t piece line (m - p.at) s.1 ∙ ap (lineOf (t ++ piece)) q))
 
   pub stands-still : (line : ℕ) → Stands kept asked t (Input.Failed line) numbers series query → Stands kept asked (t ++ piece) (Input.Failed line) numbers' series' query'

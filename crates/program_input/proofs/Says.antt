@@ -30,7 +30,7 @@ clamp-in z e =
 map-clamp : (vs : List ℤ) → length vs ≤ leading vs → map clamp vs ≡ vs
 unfolding leading
 map-clamp [] h = refl
-map-clamp (x ∷ vs) h = on-flag (valueIn x) (λ e. let k = rw e at h in let r = map-clamp vs (omega (arith, k)) in rw (clamp-in x e, r)) (λ e. let k = rw e at h in absurd (omega (arith, k)))
+map-clamp (x ∷ vs) h = on-flag (valueIn x) (λ e. rw (clamp-in x e, (map-clamp vs (omega (arith, (rw e at h)))))) (λ e. absurd (omega (arith, (rw e at h))))
 
 out-none : (v : Values) → firstOut v ≡ none → v.count ≤ v.inside
 out-none v e = by-test (ltb v.inside v.count) (λ t. let z : _≡_ {A = ℕ} 0 1 = cc in absurd (omega arith)) (λ f. ltb-false v.inside v.count f)
@@ -85,11 +85,10 @@ module _ {kept asked : List ℤ} {g : Said} {numbers : List ℤ} {v q : Values} 
     pub call-is : refusalOf (callTable v q (numbersAt numbers) query) ≡ refusalOf (callLines said)
     unfolding callTable callLines programSaid
     call-is =
-        let one = valuesTable v q in
         let two = numbersTable v.count q.count (numbersAt numbers) in
         let kept = flatQuery (kindOf (numbersAt numbers .raw)) (take q.count query) ∷ [] in
         let meant = flatQuery (kindSaid g.raw) g.query ∷ [] in
-        ap asRefusal (same-behind one (two ++ kept) (two ++ meant) (λ a. same-behind two kept meant (λ b. rw (query-is a b, raw-is))) ∙ rw (values-are, numbers-are))
+        ap asRefusal (same-behind (valuesTable v q) (two ++ kept) (two ++ meant) (λ a. same-behind two kept meant (λ b. rw (query-is a b, raw-is))) ∙ rw (values-are, numbers-are))
 
 -- ---- the text
 
@@ -168,18 +167,14 @@ upto n = record { least = omega zarith; most = omega zarith }
 pub passed-limited : (n m : ℕ) (x : Numbers) → AllPass (numbersTable n m x) → Limited x
 unfolding openLines numbersTable
 passed-limited n m x h =
-    let w = window-line x.window n (passed-line h 3) .0 in
-    let d = width-line x.width (passed-line h 4) in
-    let g = merge-line x.merge (passed-line h 5) in
     let b = band-line m x.band (passed-line h 8) in
-    let e = threshold-line x.threshold (passed-line h 9) in
     let t = scale-line x.scale x.shift (passed-line h 10) in
     record {
-      window = upto w;
-      width = upto d;
-      merge = upto g;
+      window = upto (window-line x.window n (passed-line h 3) .0);
+      width = upto (width-line x.width (passed-line h 4));
+      merge = upto (merge-line x.merge (passed-line h 5));
       band = record { least = b.low; most = omega (zarith, b.high, z-sub (pos m) (pos 1), query-few n m x h) };
-      threshold = upto e;
+      threshold = upto (threshold-line x.threshold (passed-line h 9));
       scale = upto t.0;
       shift = upto t.1;
     }

@@ -17,7 +17,7 @@ not-le z y = by-test (ltZ y z) (λ e. rw (e, gt-leZ (ltZ-true e))) (λ e. rw (e,
 
 -- a count as a signed number
 pub cast-is : (n : ℕ) → n < 2 ^ 63 → toZ w64 n ≡ pos n
-cast-is n h = by (toZ w64 n) (z-cast n h)
+cast-is n h = by _ (z-cast n h)
   where
     by : (z : ℤ) → up z ≡ n + dn z → z ≡ pos n
     by (pos k) e = ap pos (omega (arith, e))

@@ -6,7 +6,7 @@ use Rattle.meaning_filter.specs.declared.Kind.{Kind}
 use Rattle.meaning_entries.specs.Refusal.{normalFlat}
 
 pub flat-is : (q : List ℤ) (a : ℕ) → a ≡ spread (stretch q 0) (length q) → eqb a 0 ≡ flat (at q) (length q)
-flat-is q a e = ap (λ (n : ℕ). eqb n 0) (e ∙ spread-same (record { at = λ k l. rw zero-add refl }))
+flat-is q a e = ap (λ n. eqb n 0) (e ∙ spread-same (record { at = λ k l. rw zero-add refl }))
 
 pub raw-flat : {kind : Kind} (q : List ℤ) → kind ≡ Kind.Raw → false ≡ normalFlat kind q
 unfolding normalFlat

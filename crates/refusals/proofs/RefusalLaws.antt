@@ -29,8 +29,8 @@ unfolding refuseAt
 place-before {r} {r′} c l e f = by _ refl
   where
     by : (o : Option ℕ) → c.place ≡ o → r′ ≡ refusalOf (c ∷ l)
-    by none h = f ∙ ap (λ (o : Option ℕ). refuseAt c.number o r) h ∙ e ∙ sym (place-none c l h)
-    by (some p) h = f ∙ ap (λ (o : Option ℕ). refuseAt c.number o r) h ∙ sym (place-is c l h)
+    by none h = f ∙ ap (λ o. refuseAt c.number o r) h ∙ e ∙ sym (place-none c l h)
+    by (some p) h = f ∙ ap (λ o. refuseAt c.number o r) h ∙ sym (place-is c l h)
 
 -- a test before what a table says
 pub line-before : (n : ℕ) {r r′ : Refusal} {b : Bool} (t : Bool) (l : List Condition) → r ≡ refusalOf l → b ≡ t → r′ ≡ refuseIf b n r → r′ ≡ refusalOf (atZero n t ∷ l)

@@ -11,13 +11,13 @@ module _ (a w n : ℕ) where
 
   pub fewer-is : leb (a + w) n ≡ ltZ (pos a) had
   fewer-is = by-test _
-      (λ t. let h = leb-true (a + w) n t in let g : pos a <ℤ had = omega (zarith, h, z-add (pos n -ℤ pos w) (pos 1), z-sub (pos n) (pos w)) in t ∙ sym (lt-ltZ g))
-      (λ f. let h = leb-false (a + w) n f in let g : had ≤ℤ pos a = omega (zarith, h, z-add (pos n -ℤ pos w) (pos 1), z-sub (pos n) (pos w)) in f ∙ sym (le-ltZ g))
+      (λ t. let g : pos a <ℤ had = omega (zarith, leb-true (a + w) n t, z-add (pos n -ℤ pos w) (pos 1), z-sub (pos n) (pos w)) in t ∙ sym (lt-ltZ g))
+      (λ f. let g : had ≤ℤ pos a = omega (zarith, leb-false (a + w) n f, z-add (pos n -ℤ pos w) (pos 1), z-sub (pos n) (pos w)) in f ∙ sym (le-ltZ g))
 
   pub more-is : ltb (n + 1) (a + w) ≡ ltZ had (pos a)
   more-is = by-test _
-      (λ t. let h = ltb-true (n + 1) (a + w) t in let g : had <ℤ pos a = omega (zarith, h, z-add (pos n -ℤ pos w) (pos 1), z-sub (pos n) (pos w)) in t ∙ sym (lt-ltZ g))
-      (λ f. let h = ltb-false (n + 1) (a + w) f in let g : pos a ≤ℤ had = omega (zarith, h, z-add (pos n -ℤ pos w) (pos 1), z-sub (pos n) (pos w)) in f ∙ sym (le-ltZ g))
+      (λ t. let g : had <ℤ pos a = omega (zarith, ltb-true (n + 1) (a + w) t, z-add (pos n -ℤ pos w) (pos 1), z-sub (pos n) (pos w)) in t ∙ sym (lt-ltZ g))
+      (λ f. let g : pos a ≤ℤ had = omega (zarith, ltb-false (n + 1) (a + w) f, z-add (pos n -ℤ pos w) (pos 1), z-sub (pos n) (pos w)) in f ∙ sym (le-ltZ g))
 
   pub not-more : a + w ≤ n → false ≡ ltZ had (pos a)
   not-more h = let g : pos a ≤ℤ had = omega (zarith, h, z-add (pos n -ℤ pos w) (pos 1), z-sub (pos n) (pos w)) in sym (le-ltZ g)

@@ -50,7 +50,7 @@ passes {r} l t e z = by (firstRefusal l) refl
     by : (o : Option (ℕ × ℕ)) → firstRefusal l ≡ o → AllPass l
     by none h = is-passed l h
     by (some x) h =
-        clash (eq-eqb x.0 0 (sym (ap (λ (y : Option (ℕ × ℕ)). asRefusal y .number) h) ∙ sym (ap (λ (y : Refusal). y .number) e) ∙ z)) (first-lacks 0 t (is-first l x.0 x.1 h))
+        clash (eq-eqb x.0 0 (sym (ap (λ (y : Option (ℕ × ℕ)). asRefusal y .number) h) ∙ sym (ap (λ (y : Refusal). y.number) e) ∙ z)) (first-lacks 0 t (is-first l x.0 x.1 h))
 
 -- any other number is that of the first line that applies
 pub refuses : {r : Refusal} (l : List Condition) → r ≡ refusalOf l → (r.number ≡ 0 → ⊥) → firstRefusal l ≡ some (r.number, r.place)
@@ -58,7 +58,7 @@ unfolding asRefusal
 refuses {r} l e f = by (firstRefusal l) refl
   where
     by : (o : Option (ℕ × ℕ)) → firstRefusal l ≡ o → firstRefusal l ≡ some (r.number, r.place)
-    by none h = absurd (f (ap (λ (y : Refusal). y .number) e ∙ ap (λ (x : Option (ℕ × ℕ)). asRefusal x .number) h))
+    by none h = absurd (f (ap (λ (y : Refusal). y.number) e ∙ ap (λ (x : Option (ℕ × ℕ)). asRefusal x .number) h))
     by (some x) h =
         let g : r ≡ record { number = x.0; place = x.1 } = e ∙ ap asRefusal h in
         h ∙ sym (ap (λ (y : Refusal). some (y.number, y.place)) g)

@@ -23,7 +23,7 @@ module _ (x : Index) (s : RowsJudged) (r : Row) where
   pub next-bad : fitting ≡ false → next x s r ≡ failed
   unfolding next rowGood
   next-bad e =
-      ap (λ (t : Bool). cond t (moved s r (runLengths (runsOf x r))) failed)
+      ap (λ t. cond t (moved s r (runLengths (runsOf x r))) failed)
       (not-all s.good (rangeGood x _ r) (partGood x _ r) (runsGood _ (pos 0) _ && leb (s.taken + runLengths (runsOf x r)) (natAbs x.windows)) e)
 
   -- the run lengths count only where the runs are good
@@ -34,6 +34,6 @@ module _ (x : Index) (s : RowsJudged) (r : Row) where
   pub next-fits : fitting ≡ true → next x s r ≡ after (natAbs x.windows) s r (scan x.windows (pos 0) 0 (runsOf x r))
   unfolding next rowGood scan
   next-fits e =
-      ap (λ (t : Bool). cond t (moved s r (runLengths (runsOf x r))) failed)
+      ap (λ t. cond t (moved s r (runLengths (runsOf x r))) failed)
       (all-four s.good (rangeGood x _ r) _ _ e)
       ∙ by-runs (runsGood _ (pos 0) _) (runLengths _) (natAbs x.windows)

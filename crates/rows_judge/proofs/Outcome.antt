@@ -86,13 +86,13 @@ module _ (x : Index) where
       let n = next-good s r g t in
       let m = runLengths _ in
       let total : s.taken + m + lengthTotal x l ≡ s.taken + (m + lengthTotal x l) = omega arith in
-      sym (turn-on k s r l (rw n)) ∙ ap (λ (u : RowsJudged). judgedFrom (suc k) u l) n ∙ from-state l (suc k) _ refl
-      ∙ ap (λ (f : ℕ). found (suc k) r.up (f + r.runs) (s.taken + m) l) (begins s r g t)
+      sym (turn-on k s r l (rw n)) ∙ ap (λ u. judgedFrom (suc k) u l) n ∙ from-state l (suc k) _ refl
+      ∙ ap (λ f. found (suc k) r.up (f + r.runs) (s.taken + m) l) (begins s r g t)
       ∙ ap (outcome (badRowFrom x (suc k) r.up (s.first + r.runs) (s.taken + m) l)) total
       ∙ ap (λ (o : Option ℕ). outcome o (s.taken + (m + lengthTotal x l))) (sym (row-on k s r l t)))
       (λ f.
       let n = next-failed s r f in
-      sym (turn-off k s r l (ap (λ (u : RowsJudged). u .good) n)) ∙ ap (λ (u : RowsJudged). verdictOf u k) n
+      sym (turn-off k s r l (ap (λ (u : RowsJudged). u.good) n)) ∙ ap (λ (u : RowsJudged). verdictOf u k) n
       ∙ ap (λ (o : Option ℕ). outcome o (s.taken + (runLengths (runsOf x r) + lengthTotal x l))) (sym (row-off k s r l f)))
 
   head-failed : (r : Row) → headGood x ≡ false → next x (start x) r ≡ failed
@@ -138,11 +138,11 @@ module _ (h : Head) (rows : List Row) (left right : List ℕ) where
     judging-next e = record {
       upto = omega (arith, l);
       gives = rw (add-one k) (ap (λ (u : RowsJudged). judgedFrom X (suc k) u (drop (suc k) rows)) as-next
-          ∙ turn-on X k s _ _ (ap (λ (u : RowsJudged). u .good) (sym as-next) ∙ not-false _ e) ∙ first-left);
+          ∙ turn-on X k s _ _ (ap (λ (u : RowsJudged). u.good) (sym as-next) ∙ not-false _ e) ∙ first-left);
     }
 
     pub judging-stops : not t.good ≡ true → verdictOf t k ≡ judgedOf X
-    judging-stops e = ap (λ (u : RowsJudged). verdictOf u k) as-next ∙ turn-off X k s _ _ (ap (λ (u : RowsJudged). u .good) (sym as-next) ∙ not-true _ e) ∙ first-left
+    judging-stops e = ap (λ (u : RowsJudged). verdictOf u k) as-next ∙ turn-off X k s _ _ (ap (λ (u : RowsJudged). u.good) (sym as-next) ∙ not-true _ e) ∙ first-left
 
   pub judging-ends : {s : RowsJudged} {k : ℕ} → Judging s k → length rows ≤ k → verdictOf s k ≡ judgedOf X
   judging-ends {s} {k} j l = turn-none X k s ∙ ap (judgedFrom X k s) (sym (drop-of-length-le rows l)) ∙ j.gives

@@ -87,8 +87,8 @@ stray : (windows least l r : ℕ) → (ltb l least || ltb r l) ≡ true → runG
 stray windows least l r e =
     by-test
     (ltb l least)
-    (λ p. let n = lt-leb least l (ltb-true l least p) in rw n refl)
-    (λ p. let q : ltb r l ≡ true = rw p at e in let n = lt-leb l r (ltb-true r l q) in rw (le-leb least l (ltb-false l least p), n) refl)
+    (λ p. rw (lt-leb least l (ltb-true l least p)) refl)
+    (λ p. let q : ltb r l ≡ true = rw p at e in rw (le-leb least l (ltb-false l least p), lt-leb l r (ltb-true r l q)) refl)
 
 neither-is : (a b : Bool) → (a || b) ≡ false → (a ≡ false) × (b ≡ false)
 neither-is true b e = absurd (false≢true (sym e))

@@ -33,9 +33,8 @@ packed-past numbers ends d bias (suc n) rows i l =
 -- what stands behind a front part
 past : (l rows : List Row) (n i : ℕ) → length l ≡ n → i ≡ n + (i - n) → getD rows i zeroRow ≡ getD (l ++ drop n rows) i zeroRow
 past l rows n i long q =
-    let at = getD-append-add l _ (i - n) zeroRow in
     let e : length l + (i - n) ≡ i = omega arith in
-    ap (λ (x : ℕ). getD rows x zeroRow) q ∙ sym (getD-drop n rows (i - n) zeroRow) ∙ sym at ∙ ap (λ (x : ℕ). getD (l ++ drop n rows) x zeroRow) e
+    ap (λ x. getD rows x zeroRow) q ∙ sym (getD-drop n rows (i - n) zeroRow) ∙ sym (getD-append-add l _ (i - n) zeroRow) ∙ ap (λ x. getD (l ++ drop n rows) x zeroRow) e
 
 -- ---- the build's records
 
@@ -68,8 +67,7 @@ module _ {s : List ℤ} {w e : ℕ} (d b : ℕ) (one : 0 < d) (bias : 10000 * w 
   unfolding rowOf
   small-row k m most =
       let q = yes-met _ _ k (table-only d b one bias h k m) in
-      let e′ = q.is in
-      rw (← e′) (omega (arith, div-mul-le-self (level s w e q.at) d, level-small q.at h))
+      rw (← q.is) (omega (arith, div-mul-le-self (level s w e q.at) d, level-small q.at h))
 
   size-is : (k : ℕ) → length (row k .runs) ≡ runCount (isRow (rowOf (level s w e) d) k) (windowsOf s w)
   unfolding row withRuns rowAt
@@ -91,9 +89,8 @@ module _ {s : List ℤ} {w e : ℕ} (d b : ℕ) (one : 0 < d) (bias : 10000 * w 
 
   pub counts-fit : {counts : List ℕ} → Counted (rowOf (level s w e) d) (windowsOf s w) (table s w e d) counts → total counts (length (table s w e d)) ≤ windowsOf s w
   counts-fit {counts} c =
-      let t = table s w e d in
       let same = Σℕ-same _ (λ x. getD counts x 0) (λ x. length (row _ .runs)) (λ x l. c.count x l ∙ sym (size-is _)) in
-      omega (arith, same, runs-total 0 row t, ap (λ (l : List RangeRow). length (allRuns l)) built-is, built-runs (windowSum s w) d (windowsOf s w) one 0)
+      omega (arith, same, runs-total 0 row (table s w e d), ap (λ l. length (allRuns l)) built-is, built-runs (windowSum s w) d (windowsOf s w) one 0)
 
   -- what is packed of the table can be made
   pub table-packable : {numbers counts ends : List ℕ} → take (length (table s w e d)) numbers ≡ table s w e d → length (table s w e d) ≤ length numbers → length (table s w e d) ≤ length ends
@@ -131,8 +128,7 @@ module _ {s : List ℤ} {w e : ℕ} (d b : ℕ) (one : 0 < d) (bias : 10000 * w 
         let low = ap (λ (x : ℕ). pos (x * d) -ℤ pos (10000 * w + e)) f ∙ low-is k in
         let up = ap (λ (x : ℕ). pos (x * d + d) -ℤ pos (10000 * w + e)) f ∙ up-is k in
         let first = first-is i l in
-        let size = runs-is i l in
-        (λ j. record { low = low j; up = up j; first = first j; runs = size j }) ∙ sym (records-at 0 row zeroRow 0 t i l)
+        (λ j. record { low = low j; up = up j; first = first j; runs = (runs-is i l) j }) ∙ sym (records-at 0 row zeroRow 0 t i l)
 
     pub built-records : (rows : List Row) → length t ≤ length rows
         → packed numbers ends d (10000 * w + e) (length t) rows ≡ records 0 (builtRows (windowSum s w) d 0 (windowsOf s w)) ++ drop (length t) rows

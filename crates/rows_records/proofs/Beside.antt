@@ -1,9 +1,5 @@
 -- A record of a list, or the one that is given where there is none.
-use Prim.Native.Nat.{ℕ, zero, suc, _<_, _≤_}
-use lib.ListN.{length, getD}
-use mathlib.Core.List.{List, [], _∷_}
-use mathlib.Core.Path.{_≡_, refl}
-use native.Mathlib.Omega.{arith}
+use Rattle.meaning_numbers.proofs.Prelude.{ℕ, zero, suc, _<_, _≤_, length, getD, List, [], _∷_, _≡_, refl, arith}
 use Rattle.meaning_rows.specs.declared.Row.{Row}
 
 -- a record that is there is the same whatever would stand past the end

@@ -1,13 +1,6 @@
 -- A chunk of records, entry by entry: `chunk-at` says that entry k is record `from + k` of those lent, the record of zeros past the end, and `chunk-length` that there are 64.
 -- From what `copied` has at each place.
-use Prim.Native.Nat.{ℕ, zero, suc, _+_, _-_, _<_, _≤_}
-use lib.ListN.{length, getD, set, replicate, length-set, length-replicate, getD-replicate, List·getD-eq-default}
-use lib.Seq.{getD-set-same, getD-set-other, ext-getD}
-use mathlib.Core.List.{List}
-use mathlib.Core.Path.{_≡_, refl, sym, _∙_}
-use native.Mathlib.Decide.{decLe}
-use native.Mathlib.Numerals.{add-one}
-use native.Mathlib.Omega.{arith}
+use Rattle.meaning_numbers.proofs.Prelude.{ℕ, zero, suc, _+_, _-_, _<_, _≤_, length, getD, set, replicate, length-set, length-replicate, getD-replicate, List·getD-eq-default, getD-set-same, getD-set-other, ext-getD, List, _≡_, refl, sym, _∙_, decLe, add-one, arith}
 use Rattle.meaning_rows.specs.declared.Row.{Row}
 use Rattle.rows_records.specs.Records.{zeroRow, copied, countFrom, chunkOf}
 

@@ -1,11 +1,6 @@
 -- A list of records as `clear_rows` leaves it after some turns: what stands from f on, and before i, is zeros.
-use Prim.Native.Nat.{ℕ, zero, suc, _<_, _≤_, _+_, _-_}
-use lib.ListN.{length, set, take, replicate}
-use mathlib.Core.List.{[], _∷_, _++_, List}
-use mathlib.Core.Path.{_≡_, refl, sym, _∙_, ap}
 use native.Mathlib.Nat.{le-refl, le-of-suc-le-suc, not-suc-le-zero, sub-zero, suc-sub-suc}
-use native.Mathlib.Numerals.{add-one}
-use native.Mathlib.Omega.{arith}
+use Rattle.meaning_numbers.proofs.Prelude.{ℕ, zero, suc, _<_, _≤_, _+_, _-_, length, set, take, replicate, [], _∷_, _++_, List, _≡_, refl, sym, _∙_, ap, add-one, arith}
 use Rattle.meaning_rows.specs.declared.Row.{Row}
 use Rattle.rows_records.specs.Records.{zeroRow}
 

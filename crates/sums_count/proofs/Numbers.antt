@@ -65,7 +65,7 @@ module _ {s : List ℤ} {w e : ℕ} (d b : ℕ) (one : 0 < d) (bias : 10000 * w 
       rw (i.same ∙ ap (lowered b) (sym q.is) ∙ row-lowered q.at) (numbers-mem sum d n q.at q.below))
       (λ z m. let o = numbers-occur sum d n z m in
       let q = table-has d h o.at o.below in
-      subst (λ (x : ℤ). Mem x (map (lowered b) t)) (ap (lowered b) q.is ∙ row-lowered o.at ∙ o.is) (mem-map (lowered b) (mem-at 0 t q.at q.below)))
+      subst (λ x. Mem x (map (lowered b) t)) (ap (lowered b) q.is ∙ row-lowered o.at ∙ o.is) (mem-map (lowered b) (mem-at 0 t q.at q.below)))
 
   back : (k j : ℕ) → lowered b k ≡ rowNumber d (windowSum s w j) → rowOf (level s w e) d j ≡ k
   unfolding lowered
@@ -76,7 +76,7 @@ module _ {s : List ℤ} {w e : ℕ} (d b : ℕ) (one : 0 < d) (bias : 10000 * w 
   unfolding isRow
   same-row k j = by-test _
       (λ t. eq-eqb _ k (back k j (row-unique d _ _ one t)) ∙ sym t)
-      (λ t. ne-eqb _ k (λ q. clash (subst (λ (x : ℤ). inside (lowOf d x) (upOf d x) (windowSum s w j) ≡ true) (sym (ap (lowered b) (sym q) ∙ row-lowered j)) (in-own d (windowSum s w j) one)) t) ∙ sym t)
+      (λ t. ne-eqb _ k (λ q. clash (subst (λ x. inside (lowOf d x) (upOf d x) (windowSum s w j) ≡ true) (sym (ap (lowered b) (sym q) ∙ row-lowered j)) (in-own d (windowSum s w j) one)) t) ∙ sym t)
 
   pub row-runs : (k n : ℕ) → runs (isRow (rowOf (level s w e) d) k) n ≡ runs (λ j. inside (lowOf d (lowered b k)) (upOf d (lowered b k)) (windowSum s w j)) n
   row-runs k n = runs-cong _ _ n (λ j l. same-row k j)

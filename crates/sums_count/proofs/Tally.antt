@@ -21,7 +21,7 @@ rising-le {t} {n} r i m a b h = elim (decLt i m) [ yes l ↦ absurd (omega (arit
 pub rising-gt : {t : List ℕ} {n : ℕ} → Rising t n → (i m : ℕ) → i < n → m < n → getD t i 0 < getD t m 0 → i < m
 rising-gt {t} {n} r i m a b h = elim (decLt i m) [
   | yes l ↦ l
-  | no f ↦ elim (decLt m i) [ yes l ↦ absurd (omega (arith, r.up m i l a)) | no g ↦ let e : i ≡ m = omega arith in absurd (omega (arith, ap (λ (x : ℕ). getD t x 0) e)) ]
+  | no f ↦ elim (decLt m i) [ yes l ↦ absurd (omega (arith, r.up m i l a)) | no g ↦ let e : i ≡ m = omega arith in absurd (omega (arith, ap (λ x. getD t x 0) e)) ]
 ]
 
 -- a half, or nothing
@@ -70,7 +70,7 @@ module _ (row : ℕ → ℕ) (n from r : ℕ) (h : RowRun row n from r) where
       → Counted row from t counts → Counted row r t (set counts i (getD counts i 0 + 1))
   counted-run {t} {counts} f rising i a b e c = record {
     count = λ k l. by-test _
-        (λ q. let s = eqb-true k i q in rw s (getD-set-same counts i _ 0 b ∙ rw (e, run-mine f, c.count i a, e)))
+        (λ q. rw (eqb-true k i q) (getD-set-same counts i _ 0 b ∙ rw (e, run-mine f, c.count i a, e)))
         (λ q. let s = eqb-false k i q in
         getD-set-other counts i k _ 0 s ∙ c.count k l
         ∙ sym (run-other _ (λ d. s (apart k i l a (sym d ∙ sym e)))));

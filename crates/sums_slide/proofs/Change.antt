@@ -39,22 +39,21 @@ in-row d k n one h =
 
 row-in : (d n : ℕ) → 0 < d → within (n / d * d) (n / d * d + d) n ≡ true
 unfolding within
-row-in d n one = rw (le-leb (n / d * d) n (div-mul-le-self n d), lt-ltb n _ (lt-div-mul-add one))
+row-in d n one = rw (le-leb _ n (div-mul-le-self n d), lt-ltb n _ (lt-div-mul-add one))
 
 pub next-row : {lv : ℕ → ℕ} {n from r z : ℕ} (d : ℕ) → 0 < d → from < n → Stop lv n (lv from / d * d) (lv from / d * d + d) from r z → NextRow lv d n from r z
 unfolding rowOf
 next-row {lv} {n} {from} {r} {z} d one less h =
-    let k = lv from / d in
     let c = h.change in
     let ahead : from < r = elim (decLt from r) [
       | yes l ↦ l
-      | no f ↦ let e : r ≡ from = omega arith in clash (row-in d (lv from) one) (rw e at (c.other (omega arith)))
+      | no f ↦ let e : r ≡ from = omega arith in clash (row-in d _ one) (rw e at (c.other (omega arith)))
     ] in
     record {
       run = record {
         ahead = ahead;
         below = c.below;
-        same = λ j a b. in-row d k (lv j) one (c.same j a b);
+        same = λ j a b. in-row d (lv from / d) (lv j) one (c.same j a b);
         other = λ l e. clash (rw e at (row-in d (lv r) one)) (c.other l);
       };
       sum = h.sum;

@@ -4,13 +4,13 @@ use Rattle.meaning_numbers.proofs.Prelude.{_≡_, refl, sym, ap, _∙_, Bool, t
 use Rattle.sums_slide.specs.Picked.{picked, Appended}
 
 pub append-none : (k : ℕ) (old : List ℕ) → Appended [] k k old old
-append-none k old = record { count = omega arith; long = refl; front = sym (append-nil (take k old)) }
+append-none k old = record { count = omega arith; long = refl; front = sym (append-nil _) }
 
 pub append-one : {l old new : List ℕ} {k r : ℕ} (v : ℕ) → Appended l k r old new → r < length new → Appended (l ++ (v ∷ [])) k (r + 1) old (set new r v)
 append-one {l} {old} {new} {k} {r} v a h = record {
   count = omega (arith, a.count, length-append l (v ∷ []));
   long = length-set new r v ∙ a.long;
-  front = rw (add-one r, take-suc-set new r v h, a.front) (append-assoc (take k old) l (v ∷ []));
+  front = rw (add-one r, take-suc-set new r v h, a.front) (append-assoc (take k old) l _);
 }
 
 pub picked-start : (p : ℕ → Bool) (base : ℕ) → picked p base 0 ≡ []
@@ -33,8 +33,8 @@ picked-on p base m (suc k) =
     let f : suc k ≡ k + 1 = omega arith in
     let g : base + (m + k) ≡ base + m + k = omega arith in
     rw (e, f) (by-test _
-    (λ t. rw (picked-yes p base (m + k) (ap p g ∙ t), picked-yes p (base + m) k t, picked-on p base m k, g) (append-assoc (picked p base m) (picked p (base + m) k) ((base + m + k) ∷ [])))
-    (λ t. rw (picked-no p base (m + k) (ap p g ∙ t), picked-no p (base + m) k t) (picked-on p base m k)))
+    (λ t. rw (picked-yes p base (m + k) (ap p g ∙ t), picked-yes p _ k t, picked-on p base m k, g) (append-assoc (picked p base m) (picked p (base + m) k) ((base + m + k) ∷ [])))
+    (λ t. rw (picked-no p base (m + k) (ap p g ∙ t), picked-no p _ k t) (picked-on p base m k)))
 
 pub picked-none : (p : ℕ → Bool) (base m : ℕ) → ((x : ℕ) → x < m → p (base + x) ≡ false) → picked p base m ≡ []
 unfolding picked

@@ -8,14 +8,14 @@ stays : (row : ℕ → ℕ) (n m k : ℕ) → ((j : ℕ) → j < n → row j < m
 stays row n m k h =
     let p = met row n in
     let z : 0 + m ≡ m = omega arith in
-    picked-on p 0 m k ∙ rw (z, picked-none p m k (λ x l. met-none row n (m + x) (λ j b e. omega (arith, h j b)))) (append-nil (picked p 0 m))
+    picked-on p 0 m k ∙ rw (z, picked-none p m k (λ x l. met-none row n (m + x) (λ j b e. omega (arith, h j b)))) (append-nil _)
 
 same-beyond : (row : ℕ → ℕ) (n a b : ℕ) → a ≤ b → ((j : ℕ) → j < n → row j < a) → picked (met row n) 0 b ≡ picked (met row n) 0 a
 same-beyond row n a b l h = let e : b ≡ a + (b - a) = omega arith in rw e (stays row n a (b - a) h)
 
 at-most : (row : ℕ → ℕ) (n m t : ℕ) → ((j : ℕ) → j < n → row j < t) → length (picked (met row n) 0 m) ≤ length (picked (met row n) 0 t)
 at-most row n m t h = elim (decLe m t) [
-  | yes l ↦ let e : t ≡ m + (t - m) = omega arith in rw e (picked-more (met row n) 0 m (t - m))
+  | yes l ↦ let e : t ≡ m + (t - m) = omega arith in rw e (picked-more _ 0 m (t - m))
   | no f ↦ rw (same-beyond row n t m (omega arith) h) (omega arith)
 ]
 
@@ -32,7 +32,7 @@ module _ {s : List ℤ} {w e : ℕ} (d : ℕ) (h : Lent s w e) where
   module _ {least greatest : ℕ} (one : 0 < d) (b : Bounds (level s w e) (windowsOf s w) least greatest) where
     pub table-start : picked (met (rowOf (level s w e) d) (windowsOf s w)) 0 (least / d) ≡ []
     unfolding rowOf
-    table-start = picked-none _ 0 (least / d) (λ x l. met-none _ _ (0 + x) (λ j k q.
+    table-start = picked-none _ 0 _ (λ x l. met-none _ _ (0 + x) (λ j k q.
         let m : least / d ≤ level s w e j / d = le-div-iff-mul-le one .1 (omega (arith, div-mul-le-self least d, b.bound j k)) in omega arith))
 
     in-few : (m : ℕ) → greatest / d < m → (j : ℕ) → j < windowsOf s w → rowOf (level s w e) d j < m
@@ -42,7 +42,7 @@ module _ {s : List ℤ} {w e : ℕ} (d : ℕ) (h : Lent s w e) where
     pub table-end : (m : ℕ) → greatest / d < m → picked (met (rowOf (level s w e) d) (windowsOf s w)) 0 m ≡ table s w e d
     unfolding table
     table-end m l =
-        let row = rowOf (level s w e) d in
+        let row = rowOf _ d in
         let n = windowsOf s w in
         elim (decLe m top) [
           | yes o ↦ sym (same-beyond row n m top o (in-few m l))
@@ -62,4 +62,4 @@ chunk-room {s} {w} {e} d h base m a room =
     let p = met (rowOf (level s w e) d) (windowsOf s w) in
     let z : 0 + base ≡ base = omega arith in
     let split : picked p 0 (base + m) ≡ picked p 0 base ++ picked p base m = rw z at (picked-on p 0 base m) in
-    omega (arith, a.count, a.long, table-room d h (base + m), ap length split, length-append (picked p 0 base) (picked p base m))
+    omega (arith, a.long, table-room d h (base + m), ap length split, length-append (picked p 0 base) (picked p base m))

@@ -1,10 +1,5 @@
 -- Laws of specs/Count.
-use Prim.Native.Nat.{ℕ, suc, _+_, _-_, _<_, _≤_, min}
-use lib.IntN.{pos}
-use lib.ListN.{length, getD, take, drop, length-append, take-append-drop}
-use mathlib.Core.List.{List, _++_}
-use mathlib.Core.Path.{_≡_, sym, ap, _∙_}
-use native.Mathlib.Omega.{arith}
+use Rattle.meaning_numbers.proofs.Prelude.{ℕ, suc, _+_, _-_, _<_, _≤_, min, pos, length, getD, take, drop, length-append, take-append-drop, List, _++_, _≡_, sym, ap, _∙_, arith}
 use Rattle.meaning_rows.specs.declared.Row.{Row}
 use Rattle.meaning_text.specs.{Bytes.bytes, Number.spellℕ, Number.spellℤ, Form.spell, Form.spellMany, Texts.runForm}
 use Rattle.text_write.specs.Write.{headText, partOf, runsText, rowText}

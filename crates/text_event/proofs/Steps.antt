@@ -177,18 +177,16 @@ plain-told text i q e b =
 pub plus-told : (text : List ℕ) (i q : ℕ) → BlankAt text i q → SignedAt text i (Signed.Read (pos (q / 16)) (i + q % 16 + 1))
 unfolding bytes
 plus-told text i q x =
-    let y = x.number in
     let c = stands-byte x.blank 0 (i + q % 16) (omega arith) (omega arith) in
-    (omega arith, λ p n b. record { last = State.At p (Numeral.Plus (q / 16)); place = i + q % 16; quiet = y.plus p; inside = c.0; ends = rw c.1 (b.plus (q / 16)); next = refl })
+    (omega arith, λ p n b. record { last = State.At p (Numeral.Plus (q / 16)); place = i + q % 16; quiet = x.number.plus p; inside = c.0; ends = rw c.1 (b.plus (q / 16)); next = refl })
 
 pub less-told : (text : List ℕ) (i q : ℕ) → i < length text → getD text i 0 ≡ 45 → BlankAt text (i + 1) q → SignedAt text i (Signed.Read (negℤ (pos (q / 16))) (i + 1 + q % 16 + 1))
 unfolding bytes
 less-told text i q h e x =
-    let y = x.number in
     let c = stands-byte x.blank 0 (i + 1 + q % 16) (omega arith) (omega arith) in (
       omega arith,
       λ p n b. value-before h (rw e (sign p))
-          (record { last = State.At p (Numeral.Less (q / 16)); place = i + 1 + q % 16; quiet = y.less p; inside = c.0; ends = rw c.1 (b.less (q / 16)); next = refl }),
+          (record { last = State.At p (Numeral.Less (q / 16)); place = i + 1 + q % 16; quiet = x.number.less p; inside = c.0; ends = rw c.1 (b.less (q / 16)); next = refl }),
     )
 
 pub range-told : (text : List ℕ) (i : ℕ) (low up : ℤ) (j k : ℕ) → Opens text i → SignedAt text (i + 5) (Signed.Read low j) → SignedAt text j (Signed.Read up k) → RowAt text i low up k

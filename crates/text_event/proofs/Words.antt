@@ -3,13 +3,12 @@ use Rattle.meaning_numbers.proofs.Prelude.{_≡_, sym, ap, _∙_, List, ℕ, _+
 use Rattle.text_event.specs.Event.{WordAt}
 
 byte-here : (text : List ℕ) (i n k : ℕ) → k < n → getD (take n (drop i text)) k 0 ≡ getD text (i + k) 0
-byte-here text i n k h = getD-take n (drop i text) k 0 h ∙ getD-drop i text k 0
+byte-here text i n k h = getD-take n _ k 0 h ∙ getD-drop i text k 0
 
 -- place j has byte k of the word
 pub stands-byte : {text word : List ℕ} {i : ℕ} → WordAt text i word → (k j : ℕ) → k < length word → j ≡ i + k → (j < length text) × (getD text j 0 ≡ getD word k 0)
 stands-byte {text} {word} {i} s k j h e =
-    let n = ap (λ (l : List ℕ). length l) s.begins in
-    (omega (arith, n, length-take (length word) (drop i text), length-drop i text, h, e), rw e (sym (byte-here text i (length word) k h) ∙ rw s.begins))
+    (omega (arith, ap (λ (l : List ℕ). length l) s.begins, length-take (length word) (drop i text), length-drop i text, h, e), rw e (sym (byte-here text i (length word) k h) ∙ rw s.begins))
 
 -- all bytes of the word are there
 pub stands-all : (text word : List ℕ) (i : ℕ) → i + length word ≤ length text → ((k : ℕ) → k < length word → getD text (i + k) 0 ≡ getD word k 0) → WordAt text i word

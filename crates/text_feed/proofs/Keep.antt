@@ -18,7 +18,7 @@ stored-more base vs z =
   where
     map-append : (a b : List ℤ) → map clamp (a ++ b) ≡ map clamp a ++ map clamp b
     map-append [] b = refl
-    map-append (x ∷ a) b = ap (λ (l : List ℤ). clamp x ∷ l) (map-append a b)
+    map-append (x ∷ a) b = ap (λ l. clamp x ∷ l) (map-append a b)
 
 leading-more : (vs : List ℤ) (z : ℤ) → leading (vs ++ (z ∷ [])) ≡ cond (eqb (leading vs) (length vs)) (cond (valueIn z) (length vs + 1) (leading vs)) (leading vs)
 unfolding leading

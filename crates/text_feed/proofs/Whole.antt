@@ -36,7 +36,7 @@ module _ (f : Form) (fin : Said → Value f) (start : Reading) (comes : (t : Lis
   done-by : (p : Progress) (x : Fed Reading) → p.state ≡ State.Done → Shows kept asked (Feeding.Going p) x numbers series query
       → (g : Said) × (judged (accept fin) x ≡ fine (fin g)) × Holds kept asked g numbers p.series p.query series query
   unfolding accept
-  done-by p (going y n) e s = let d = sym s.0 ∙ e in (y.said, rw d, s.2)
+  done-by p (going y n) e s = (y.said, rw (sym s.0 ∙ e), s.2)
   done-by p (failed n) e s = absurd s
 
   -- the text has ended where it may: what it says is what is kept

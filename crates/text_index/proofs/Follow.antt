@@ -1,14 +1,5 @@
 -- The automaton of the index text follows `indexForm`: each state with what has been said so far has a reader for the rest of the text, and a byte takes it to the next. So the bytes of a text come to what `readText` says.
-use Prim.Native.Nat.{ℕ, suc, _+_, _<_}
-use borrow.Author.Tests.{ltb-true, ltb-false}
-use lib.Dec.{eqb}
-use lib.IntN.{ℤ, pos}
-use lib.ListN.{length, drop}
-use mathlib.Core.Bool.{Bool, true, false, cond}
-use mathlib.Core.List.{List, [], _∷_, _++_, append-assoc, append-nil}
-use mathlib.Core.Option.{Option, none, some}
-use mathlib.Core.Path.{_≡_, refl, _∙_}
-use native.Mathlib.Omega.{arith}
+use Rattle.meaning_numbers.proofs.Prelude.{ℕ, suc, _+_, _<_, ltb-true, ltb-false, eqb, ℤ, pos, length, drop, Bool, true, false, cond, List, [], _∷_, _++_, append-assoc, append-nil, Option, none, some, _≡_, refl, _∙_, arith}
 use Rattle.meaning_text.specs.{Bytes.bytes, Number.got, Number.bad, Form.Value, Form.many, Form.read, Read.readText, Texts.indexForm, Texts.rowForm, Texts.runForm}
 use Rattle.meaning_text.proofs.Automaton.{going, feed, bad-here, over, atRest, Follows, judged, form-comes}
 use Rattle.meaning_text.proofs.Onward.{Rest, wordThen, readThen, read-alone, lead-then, trail-then, both-then, many-then, many-ends, word-over, word-next, word-off, word-short}
@@ -219,7 +210,7 @@ led-moved (Reached.There s) f g h e = e s
 led-moved Reached.Not f g h e = refl
 
 pub word-moved : (x : Reached) (c : Bool) (g : Said) → moved (led x (λ s. cond c (Moved.Closed s) (Moved.To s))) g ≡ turned x (cond c (closed g) g)
-word-moved x true g = led-moved x _ g (closed g) (λ s. refl)
+word-moved x true g = led-moved x _ g _ (λ s. refl)
 word-moved x false g = led-moved x _ g g (λ s. refl)
 
 abbrev pub Good : Reading → Type 0

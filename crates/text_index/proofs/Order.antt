@@ -1,14 +1,5 @@
 -- Where a text stands tells what has not been said yet: no row and no run before the head's end, and no run between two rows.
-use Prim.Native.Nat.{ℕ, suc, _+_, _<_}
-use borrow.Author.Tests.{ltb-true, ltb-false}
-use lib.Dec.{eqb}
-use lib.IntN.{ℤ}
-use lib.ListN.{length, getD}
-use mathlib.Core.Bool.{cond}
-use mathlib.Core.List.{[]}
-use mathlib.Core.Option.{Option, none, some}
-use mathlib.Core.Path.{_≡_, refl}
-use native.Mathlib.Omega.{arith}
+use Rattle.meaning_numbers.proofs.Prelude.{ℕ, suc, _+_, _<_, ltb-true, ltb-false, eqb, ℤ, length, getD, cond, [], Option, none, some, _≡_, refl, arith}
 use Rattle.meaning_text.specs.Bytes.{bytes}
 use Rattle.meaning_text.proofs.Reading.{on-flag}
 use Rattle.text_numbers.specs.Number.{numStep, whole}

@@ -1,11 +1,5 @@
 -- Laws of specs/View.
-use Prim.Native.Nat.{ℕ, suc, _+_, _<_, _≤_}
-use lib.IntN.{ℤ}
-use lib.ListN.{length, getD, drop}
-use mathlib.Core.List.{List, [], _∷_}
-use mathlib.Core.Option.{Option, none, some}
-use mathlib.Core.Path.{_≡_, refl, ap, _∙_}
-use native.Mathlib.Omega.{arith}
+use Rattle.meaning_numbers.proofs.Prelude.{ℕ, suc, _+_, _<_, _≤_, ℤ, length, getD, drop, List, [], _∷_, Option, none, some, _≡_, refl, ap, _∙_, arith}
 use Rattle.meaning_text.specs.{Form.Value, Read.Verdict, Read.fine, Read.unfit, Read.readText, Texts.indexForm}
 use Rattle.meaning_text.proofs.Automaton.{Fed, going, failed, feed, feed-failed, feed-turn, feed-refuse, feed-end, on-option, atEnd, judged, verdictOf}
 use Rattle.text_index.specs.{declared.Field.Field, declared.State.State, declared.Moved.Moved, Step.indexStep, Step.GoodState, View.keptAt}
@@ -130,7 +124,7 @@ module _ {T : Type 0} (tell : Field → ℤ → T → T) (shut : T → T) (t₀ 
         record {
           good = g;
           inside = omega arith;
-          same = r.same ∙ feed-turn _ (seen s t) (seen n u) text i i h (ap (λ (x : Moved). movedTo tell shut x t) e ∙ k) ∙ rw q;
+          same = r.same ∙ feed-turn _ _ _ text i i h (ap (λ (x : Moved). movedTo tell shut x t) e ∙ k) ∙ rw q;
         }
 
     pub kept-to : (n : State) → indexStep s (getD text i 0) ≡ Moved.To n → Kept n t (i + 1)
@@ -144,7 +138,7 @@ module _ {T : Type 0} (tell : Field → ℤ → T → T) (shut : T → T) (t₀ 
 
     pub kept-refuse : indexStep s (getD text i 0) ≡ Moved.Refuse → endOf Whole ≡ unfit i
     unfolding keep
-    kept-refuse e = ap endOf (r.same ∙ feed-refuse _ (seen s t) text i i h (rw e))
+    kept-refuse e = ap endOf (r.same ∙ feed-refuse _ _ text i i h (rw e))
 
   pub kept-end : (s : State) (t : T) (i : ℕ) → Kept s t i → length text ≤ i → endOf Whole ≡ atEnd (keptAt s t) i
   kept-end s t i r h = ap endOf (r.same ∙ feed-end _ _ text i h)

@@ -50,7 +50,7 @@ at-least a (pos n) e = (refl, leb-true a n e)
 at-least a (negsuc n) e = absurd (false≢true e)
 
 pub held-nat : (z : ℤ) → z ≡ pos (natAbs z) → natAbs z ≤ 4294967295 → held z ≡ natAbs z
-held-nat z e h = ap held e ∙ held-pos (natAbs z) h
+held-nat z e h = ap held e ∙ held-pos _ h
 
 -- a number in limits below the greatest is in them as it is held
 within-held : (low high : ℕ) (z : ℤ) → high < 4294967295 → within (pos low) (pos high) z ≡ within (pos low) (pos high) (pos (held z))
@@ -67,9 +67,9 @@ entryGood W a l r = leZ (pos a) l && (leZ l r && ltZ r (pos W))
 
 run-to : (W a : ℕ) (l r : ℤ) → W ≤ 4294967295 → runGood W a (held l) (held r) ≡ true → entryGood W a l r ≡ true
 run-to W a l r h e =
-    let g = good-run W a (held l) (held r) e in
+    let g = good-run W a _ _ e in
     rw (held-is l (omega (arith, h)), held-is r (omega (arith, h)))
-    (of-both (le-leb a (held l) g.below) (of-both (le-leb (held l) (held r) g.order) (lt-ltb (held r) W g.inside)))
+    (of-both (le-leb a _ g.below) (of-both (le-leb _ _ g.order) (lt-ltb _ W g.inside)))
 
 -- what a good run of whole numbers is
 pub record GoodEntry (W a : ℕ) (l r : ℤ) : Type 0 where
@@ -84,14 +84,14 @@ good-entry W a l r e =
     let b = both _ _ e in
     let c = both (leZ l r) _ b.1 in
     let x = at-least a l b.0 in
-    let y = at-least (natAbs l) r (rw x.0 at c.0) in
-    record { left = x.0; right = y.0; below = x.1; order = y.1; inside = ltb-true (natAbs r) W (rw y.0 at c.1) }
+    let y = at-least _ r (rw x.0 at c.0) in
+    record { left = x.0; right = y.0; below = x.1; order = y.1; inside = ltb-true _ W (rw y.0 at c.1) }
 
 run-from : (W a : ℕ) (l r : ℤ) → W ≤ 4294967295 → entryGood W a l r ≡ true → runGood W a (held l) (held r) ≡ true
 run-from W a l r h e =
     let g = good-entry W a l r e in
     rw (held-nat l g.left (omega (arith, h)), held-nat r g.right (omega (arith, h)))
-    (of-both (le-leb a (natAbs l) g.below) (of-both (le-leb (natAbs l) (natAbs r) g.order) (lt-ltb (natAbs r) W g.inside)))
+    (of-both (le-leb a _ g.below) (of-both (le-leb _ _ g.order) (lt-ltb _ W g.inside)))
 
 run-same : (W a : ℕ) (l r : ℤ) → W ≤ 4294967295 → runGood W a (held l) (held r) ≡ entryGood W a l r
 run-same W a l r h = same-flag _ _ (run-to W a l r h) (run-from W a l r h)
@@ -172,7 +172,7 @@ range-ends x least r e =
     let b = both (multiple _ r.low) _ a.1 in
     let c = both (multiple _ r.up) _ b.1 in
     let d = both _ _ c.1 in
-    (d.0, both _ (leZ least r.low) d.1 .0)
+    (d.0, both _ _ d.1 .0)
 
 module _ (h : Head) (x : Index) (width : natAbs x.width ≡ h.width) (low up least : ℤ) (first runs : ℕ) where
   abbrev as-said : Row
@@ -189,7 +189,7 @@ module _ (h : Head) (x : Index) (width : natAbs x.width ≡ h.width) (low up lea
   range-same =
       same-flag _ _
       (λ e. let b = range-ends x least as-said e in ap (λ (a : ℤ). rangeGood (lent h [] [] []) least (as-held a (clamp up))) (end-clamp low b.0) ∙ ap (λ (a : ℤ). rangeGood (lent h [] [] []) least (as-held low a)) (end-clamp up b.1) ∙ sym same-width ∙ e)
-      (λ e. let b = range-ends _ least (as-held (clamp low) (clamp up)) e in
+      (λ e. let b = range-ends _ least (as-held _ (clamp up)) e in
       same-width ∙ sym (ap (λ (a : ℤ). rangeGood (lent h [] [] []) least (as-held a (clamp up))) (clamp-end low b.0) ∙ ap (λ (a : ℤ). rangeGood (lent h [] [] []) least (as-held low a)) (clamp-end up b.1)) ∙ e)
 
 -- ---- rows
@@ -277,7 +277,7 @@ module _ (h : Head) (x : Index) (width : natAbs x.width ≡ h.width) (windows : 
   unfolding rowsFrom
   next-off c r l e =
       let n = next-stopped c r e in
-      let s = rows-stop h (stopped c) l refl in
+      let s = rows-stop h _ l refl in
       (ap (λ (d : Rows). rowsFrom h d l .good) n ∙ s.0, ap (λ (d : Rows). rowsFrom h d l .rows) n ∙ s.1)
 
   -- the first bad row after rows that are good
@@ -295,7 +295,7 @@ module _ (h : Head) (x : Index) (width : natAbs x.width ≡ h.width) (windows : 
       (λ e.
       let i = next-is c r g e in
       bad-on c.rows c.least c.runs c.taken (placed c.runs r) (records (c.runs + length r.1.1) more) (same ∙ e)
-      ∙ bad-same more (suc c.rows) n.rows r.1.0 n.least (c.runs + length r.1.1) n.runs (c.taken + runLengths (runsOf x (placed c.runs r))) n.taken (sym i.rows) (sym i.least) (sym i.runs) (ap (λ (q : List Entry). c .taken + runLengths q) o.1 ∙ sym i.taken)
+      ∙ bad-same more (suc c.rows) n.rows r.1.0 n.least (c.runs + length r.1.1) n.runs (c.taken + runLengths (runsOf x (placed c.runs r))) n.taken (sym i.rows) (sym i.least) (sym i.runs) (ap (λ (q : List Entry). c.taken + runLengths q) o.1 ∙ sym i.taken)
       ∙ found l n i.good (subst (λ (k : ℕ). Lays x.runs k more) (sym i.runs) o.2))
       (λ e.
       let q = next-off c r l e in

@@ -28,10 +28,10 @@ count-total : (W : ℕ) (s : Runs) (l : List Entry) → s.count ≤ s.total → 
 unfolding runsFrom
 count-total W s [] h g = h
 count-total W s (x ∷ l) h g =
-    let n = runNext W s (held x.0) (held x.1) in
+    let n = runNext W s _ _ in
     on-flag _
-    (λ e. count-total W n l (next-more W s (held x.0) (held x.1) e h) g)
-    (λ e. absurd (false≢true (sym (runs-bad W n l (next-bad W s (held x.0) (held x.1) e)) ∙ g)))
+    (λ e. count-total W n l (next-more W s _ _ e h) g)
+    (λ e. absurd (false≢true (sym (runs-bad W n l (next-bad W s _ _ e)) ∙ g)))
 
 -- good runs are held as they are
 entries-held : (W a : ℕ) (l : List Entry) → W ≤ 4294967295 → runsGood (pos W) (pos a) l ≡ true → (map (λ (e : Entry). held e.0) l ≡ map (λ (e : Entry). natAbs e.0) l) × (map (λ (e : Entry). held e.1) l ≡ map (λ (e : Entry). natAbs e.1) l)
@@ -56,7 +56,7 @@ before-good : (h : Head) (c : Rows) (a b : List (Value rowForm)) → rowsFrom h 
 before-good h c a b g =
     on-flag _
     (λ e. e)
-    (λ e. absurd (false≢true (sym (rows-stop h _ b e .0) ∙ sym (ap (λ (d : Rows). d .good) (rows-split h c a b)) ∙ g)))
+    (λ e. absurd (false≢true (sym (rows-stop h _ b e .0) ∙ sym (ap (λ (d : Rows). d.good) (rows-split h c a b)) ∙ g)))
 
 module _ (v : Value indexForm) (head : headGood (lent (headHeld v) [] [] []) ≡ true) where
   abbrev h : Head
@@ -128,7 +128,7 @@ module _ (v : Value indexForm) (head : headGood (lent (headHeld v) [] [] []) ≡
         let g : rowsFrom h noRows (a ++ (r ∷ b)) .good ≡ true = subst (λ (l : List (Value rowForm)). rowsFrom h noRows l .good ≡ true) e good in
         let c = rowsFrom h noRows a in
         let ga = before-good h noRows a (r ∷ b) g in
-        let f = fits-by c r b (sym (ap (λ (d : Rows). d .good) (rows-split h noRows a (r ∷ b))) ∙ g) in
+        let f = fits-by c r b (sym (ap (λ (d : Rows). d.good) (rows-split h noRows a (r ∷ b))) ∙ g) in
         let t = tested c r f in
         let ends = range-ends (lent h [] [] []) c.least (record { low = clamp r.0; up = clamp r.1.0; first = 0; runs = 0 }) t.range in
         let n = counted h (indexSaid v) (width-is v i) (windows-is v i) most a noRows refl ga in

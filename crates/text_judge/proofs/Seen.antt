@@ -1,5 +1,5 @@
 -- The tally is a view of what has been said, so that a pass over a text comes to the text's own head and rows (`text-scanned`); its counts stay small (`tell-fits`, `shut-fits`).
-use Rattle.meaning_numbers.proofs.Prelude.{_≡_, refl, sym, ap, _∙_, _&&_, List, [], _∷_, _++_, ℕ, _+_, _≤_, arith, ℤ, pos, ltZ, zmach, f-ge, z-abs}
+use Rattle.meaning_numbers.proofs.Prelude.{_≡_, refl, sym, ap, _∙_, _&&_, List, [], _∷_, _++_, ℕ, _+_, _≤_, arith, ℤ, pos, ltZ, zmach, z-abs}
 use Rattle.meaning_rows.specs.{declared.Head.Head, Index.Entry}
 use Rattle.meaning_text.specs.{Form.Value, Read.Verdict, Read.fine, Read.unfit, Read.readText, Texts.indexForm, Texts.rowForm}
 use Rattle.meaning_text.proofs.{Automaton.verdictOf, Reading.on-flag}
@@ -80,7 +80,7 @@ unfolding held
 held-most z =
     on-flag (ltZ z (pos 0))
     (λ e. rw e (omega arith))
-    (λ e. on-flag (ltZ (pos 4294967295) z) (λ f. rw (e, f) (omega arith)) (λ f. rw (e, f) (omega (zmach, f-ge z (pos 0) e, f-ge (pos 4294967295) z f, z-abs z))))
+    (λ e. on-flag (ltZ (pos 4294967295) z) (λ f. rw (e, f) (omega arith)) (λ f. rw (e, f) (omega (zmach, z-abs z))))
 
 sound-next : (W : ℕ) (s : Runs) (l r : ℕ) → r ≤ 4294967295 → Sound s → Sound (runNext W s l r)
 unfolding runNext
@@ -112,8 +112,7 @@ tell-fits Field.Low z t i f = record { sound = f.sound; rows = omega arith; runs
 tell-fits Field.Up z t i f = record { sound = no-sound; rows = omega arith; runs = omega arith }
 tell-fits Field.Left z t i f = record { sound = f.sound; rows = omega arith; runs = omega arith }
 tell-fits Field.Right z t i f =
-    let n = count-next t.head.windows t.row.runs t.row.left (held z) in
-    record { sound = sound-next _ t.row.runs t.row.left (held z) (held-most z) f.sound; rows = omega arith; runs = omega (arith, n) }
+    record { sound = sound-next _ t.row.runs t.row.left (held z) (held-most z) f.sound; rows = omega arith; runs = omega (arith, count-next t.head.windows t.row.runs t.row.left (held z)) }
 
 row-counts : (h : Head) (s : Rows) (low up : ℤ) (o : Runs) → (rowNext h s low up o .rows ≤ s.rows + 1) × (rowNext h s low up o .runs ≤ s.runs + o.count)
 unfolding rowNext

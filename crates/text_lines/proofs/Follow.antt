@@ -1,14 +1,5 @@
 -- The automaton of the lines follows `seriesForm` and `programForm`, each from its own start: each state with what has been said so far has a reader for the rest of the text, and a byte takes it to the next. So the bytes of a text come to what `readText` says.
-use Prim.Native.Nat.{ℕ, suc, _+_, _<_}
-use borrow.Author.Tests.{ltb-true, ltb-false}
-use lib.Dec.{ltb, eqb}
-use lib.IntN.{ℤ}
-use lib.ListN.{length, drop}
-use mathlib.Core.Bool.{Bool, true, false, cond}
-use mathlib.Core.List.{List, [], _∷_, append-assoc, append-nil}
-use mathlib.Core.Option.{Option, none, some}
-use mathlib.Core.Path.{_≡_, refl, _∙_}
-use native.Mathlib.Omega.{arith}
+use Rattle.meaning_numbers.proofs.Prelude.{ℕ, suc, _+_, _<_, ltb-true, ltb-false, ltb, eqb, ℤ, length, drop, Bool, true, false, cond, List, [], _∷_, append-assoc, append-nil, Option, none, some, _≡_, refl, _∙_, arith}
 use Rattle.meaning_text.specs.{Bytes.bytes, Number.got, Number.bad, Form.number, Form.oneOf, Form.lead, Form.read, Read.readText, Texts.valuesForm, Texts.seriesForm, Texts.programForm}
 use Rattle.meaning_text.proofs.Automaton.{going, feed, bad-here, over, atRest, Follows, judged, form-comes}
 use Rattle.meaning_text.proofs.Onward.{Rest, wordThen, readThen, word-both, read-alone, lead-then, trail-then, both-then, one-then, one-ends, many-then, many-ends, word-over, word-next, word-off, word-short}

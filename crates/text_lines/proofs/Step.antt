@@ -1,7 +1,5 @@
 -- Laws of specs/Step.
-use Prim.Native.Nat.{_<_, _≤_}
-use lib.ListN.{length}
-use native.Mathlib.Omega.{arith}
+use Rattle.meaning_numbers.proofs.Prelude.{_<_, _≤_, length, arith}
 use Rattle.meaning_text.specs.Bytes.{bytes}
 use Rattle.text_lines.specs.{declared.Word.Word, Step.word}
 

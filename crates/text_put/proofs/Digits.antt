@@ -38,8 +38,7 @@ length-one n h = ap length (spell-one n h)
 pub length-between : (k n : ℕ) → 10 ^ k ≤ n → n < 10 ^ suc k → length (spellℕ n) ≡ suc k
 length-between zero n h g = length-one n g
 length-between (suc k) n h g =
-    let below = length-between k (n / 10) (omega arith) (omega arith) in
-    omega (arith, below, length-split n (omega arith))
+    omega (arith, length-between k (n / 10) (omega arith) (omega arith), length-split n (omega arith))
 
 pub length-most : (k n : ℕ) → n < 10 ^ suc k → length (spellℕ n) ≤ suc k
 length-most zero n g = omega (arith, length-one n g)
@@ -56,4 +55,4 @@ length-five n h =
     let c = b / 10 in
     let d = c / 10 in
     let e : d / 10 ≡ n / 100000 = omega arith in
-    omega (arith, length-split n (omega arith), length-split a (omega arith), length-split b (omega arith), length-split c (omega arith), length-split d (omega arith), ap (λ (m : ℕ). length (spellℕ m)) e)
+    omega (arith, length-split n (omega arith), length-split a (omega arith), length-split b (omega arith), length-split c (omega arith), length-split d (omega arith), ap (λ m. length (spellℕ m)) e)

@@ -17,15 +17,11 @@ sets-capped l old i =
     (λ h. let e : min i (suc (length old)) ≡ suc (length old) = omega arith in rw e (sets-out l old _ (omega arith) ∙ sym (sets-out l old i (omega arith))))
     (lt-or i (suc (length old)))
 
-pub put-none : (old : List ℕ) (i j : ℕ) → j ≡ min i (suc (length old)) → Put old i [] old j
-put-none old i j e = record { holds = refl; ends = omega arith }
-
 pub put-then : {a b c l m : List ℕ} {i j k : ℕ} → Put a i l b j → Put b j m c k → Put a i (l ++ m) c k
 put-then {a} {b} {c} {l} {m} {i} {j} {k} p q =
     let len : length b ≡ length a = rw p.holds (length-sets a i l) in
-    let len2 = length-sets a i l in
     record {
-      holds = q.holds ∙ rw (p.holds, p.ends, ← len2) (sets-capped m _ _) ∙ sym (sets-append l m a i);
+      holds = q.holds ∙ rw (p.holds, p.ends, ← (length-sets a i l)) (sets-capped m _ _) ∙ sym (sets-append l m a i);
       ends = q.ends ∙ rw (len, p.ends, length-append l m) (omega arith);
     }
 

@@ -1,15 +1,5 @@
 -- The rows that a text is read to, line by line, are the row records of its index, and past them records of zeros (`row-at`, `rows-filled`), where the index is well formed. By what has been said after each line.
-use Prim.Native.Nat.{ℕ, zero, suc, _+_, _-_, _<_, _≤_, min}
-use lib.IntN.{ℤ}
-use lib.ListN.{length, getD, take, drop, replicate, length-replicate, length-append, length-map, length-take, length-drop, List·getD-eq-default}
-use lib.Seq.{drop-append-seam, drop-drop, getD-set-same, getD-set-other, ext-getD}
-use mathlib.Core.Bool.{true}
-use mathlib.Core.List.{List, [], _∷_, _++_, map, append-assoc, append-nil}
-use mathlib.Core.Logic.{_⊎_, inl, inr}
-use mathlib.Core.Option.{some}
-use mathlib.Core.Path.{_≡_, refl, sym, ap, _∙_, subst}
-use native.Mathlib.Decide.{decLe}
-use native.Mathlib.Omega.{arith}
+use Rattle.meaning_numbers.proofs.Prelude.{ℕ, zero, suc, _+_, _-_, _<_, _≤_, min, ℤ, length, getD, take, drop, replicate, length-replicate, length-append, length-map, length-take, length-drop, List·getD-eq-default, drop-append-seam, drop-drop, getD-set-same, getD-set-other, ext-getD, true, List, [], _∷_, _++_, map, append-assoc, append-nil, _⊎_, inl, inr, some, _≡_, refl, sym, ap, _∙_, subst, decLe, arith}
 use Rattle.meaning_rows.specs.{declared.Head.Head, declared.Row.Row, Index.zeroRow, Index.RangeRow, Index.lent, Index.records, Index.allRuns, Judge.headGood}
 use Rattle.meaning_rows.proofs.Laid.{length-records}
 use Rattle.meaning_text.specs.{Form.Value, Read.fine, Read.unfit, Read.readText, Texts.indexForm, Texts.rowForm, Texts.rowSaid}
@@ -76,7 +66,7 @@ rows-begin (b ∷ l) x p v e =
     (λ n i.
     let r = rows-begin l n (suc p) v (ap (judged accept) (sym (feed-one step x n b l p i)) ∙ e) in
     let g = grows _ (indexStep x.state b) n i in
-    (g.more ++ r.0, r.1 ∙ ap (λ (q : Rs). q ++ r.0) g.rows ∙ append-assoc x.said.rows g.more r.0))
+    (g.more ++ r.0, r.1 ∙ ap (λ q. q ++ r.0) g.rows ∙ append-assoc x.said.rows g.more r.0))
     (λ i. unfit-fine (sym (ap (judged accept) (feed-none step x b l p i)) ∙ e))
 
 -- behind the first row the head stays
@@ -166,19 +156,19 @@ line-move : (l : List ℕ) (v : Value indexForm) → ((s : State) (g : Said) (i 
     → (s : State) (g : Said) (i b : ℕ) (m : Moved) → indexStep s b ≡ m → GoodState s → Order (statePart s) g → judged accept (feed step (going (at s g) i) (b ∷ l)) ≡ fine v → LineIs s g i (b ∷ l) v (lineFrom s (tallyOf g) i (b ∷ l))
 unfolding step
 line-move l v on s g i b (Moved.To n) e h o j =
-    let q = ap (λ (m : Moved). moved m g) e in
+    let q = ap (λ m. moved m g) e in
     subst (LineIs s g i (b ∷ l) v) (sym (line-byte s (tallyOf g) i b l (Moved.To n) e))
     (line-before s n g g i b l v (lineFrom n (tallyOf g) (suc i) l) q refl
     (on n g (suc i) (stays (at s g) b (at n g) h q) (order-step (at s g) b (at n g) h o q) (ap (judged accept) (sym (feed-one step (at s g) (at n g) b l i q)) ∙ j)))
 line-move l v on s g i b (Moved.Value n p z) e h o j =
     let k = told p z g in
-    let q : step (at s g) b ≡ some (at n k) = ap (λ (m : Moved). moved m g) e in
-    subst (LineIs s g i (b ∷ l) v) (ap (λ (t : Tally). lineFrom n t (suc i) l) (tells p z g (order-value s b n p z g e o)) ∙ sym (line-byte s (tallyOf g) i b l (Moved.Value n p z) e))
+    let q : step (at s g) b ≡ some (at n k) = ap (λ m. moved m g) e in
+    subst (LineIs s g i (b ∷ l) v) (ap (λ t. lineFrom n t (suc i) l) (tells p z g (order-value s b n p z g e o)) ∙ sym (line-byte s (tallyOf g) i b l (Moved.Value n p z) e))
     (line-before s n g k i b l v (lineFrom n (tallyOf k) (suc i) l) q (told-rows p z g)
     (on n k (suc i) (stays (at s g) b (at n k) h q) (order-step (at s g) b (at n k) h o q) (ap (judged accept) (sym (feed-one step (at s g) (at n k) b l i q)) ∙ j)))
 line-move l v on s g i b (Moved.Closed n) e h o j =
     let k = closed g in
-    let q : step (at s g) b ≡ some (at n k) = ap (λ (m : Moved). moved m g) e in
+    let q : step (at s g) b ≡ some (at n k) = ap (λ m. moved m g) e in
     subst (LineIs s g i (b ∷ l) v) (sym (line-byte s (tallyOf g) i b l (Moved.Closed n) e))
     (record {
       said = k;
@@ -191,7 +181,7 @@ line-move l v on s g i b (Moved.Closed n) e h o j =
       same = feed-one step (at s g) (at n k) b l i q;
       row = inl (record { before = g; rows = refl; said = refl; made = refl });
     })
-line-move l v on s g i b Moved.Refuse e h o j = unfit-fine (sym (ap (judged accept) (feed-none step (at s g) b l i (ap (λ (m : Moved). moved m g) e))) ∙ j)
+line-move l v on s g i b Moved.Refuse e h o j = unfit-fine (sym (ap (judged accept) (feed-none step (at s g) b l i (ap (λ m. moved m g) e))) ∙ j)
 
 line-one : (l : List ℕ) (v : Value indexForm) (s : State) (g : Said) (i : ℕ) → GoodState s → Order (statePart s) g → judged accept (feed step (going (at s g) i) l) ≡ fine v → LineIs s g i l v (lineFrom s (tallyOf g) i l)
 unfolding lineFrom feed accept
@@ -277,8 +267,7 @@ module _ (t : List ℕ) (v : Value indexForm) (readable : readText indexForm t �
   -- the bytes behind a line
   behind : (k : ℕ) (r : Reached k) (n : Next k r) → n.rest ≡ drop (lineAt t (suc k) .at) t
   behind k r n =
-      let i = lineAt t k .at in
-      sym (drop-append-seam n.read _) ∙ ap (drop (length n.read)) (sym n.bytes) ∙ drop-drop _ i t ∙ ap (λ (m : ℕ). drop m t) (sym n.place)
+      sym (drop-append-seam n.read _) ∙ ap (drop (length n.read)) (sym n.bytes) ∙ drop-drop _ (lineAt t k .at) t ∙ ap (λ m. drop m t) (sym n.place)
 
   same-next : (k : ℕ) (r : Reached k) (n : Next k r) → feed step (going start 0) t ≡ feed step (going (at (lineAt t (suc k) .state) n.said) (lineAt t (suc k) .at)) (drop (lineAt t (suc k) .at) t)
   same-next k r n = r.same ∙ n.same ∙ ap (feed step _) (behind k r n)
@@ -295,13 +284,13 @@ module _ (t : List ℕ) (v : Value indexForm) (readable : readText indexForm t �
       let p = lineAt t (suc k) in
       let j = ap (judged accept) (sym (same-next k r n)) ∙ comes in
       let b = rows-begin (drop p.at t) (at _ _) p.at v j in
-      let a = ap (λ (x : Said). x .rows) c.said ∙ ap (λ (q : Rs). q ++ ((g.low, (g.up, g.runs)) ∷ [])) c.rows in
-      let e : rowsIn v ≡ r.said.rows ++ ((g.low, (g.up, g.runs)) ∷ b.0) = b.1 ∙ ap (λ (q : Rs). q ++ b.0) a ∙ append-assoc r.said.rows ((g.low, (g.up, g.runs)) ∷ []) b.0 in
+      let a = ap (λ x. x.rows) c.said ∙ ap (λ q. q ++ ((g.low, (g.up, g.runs)) ∷ [])) c.rows in
+      let e : rowsIn v ≡ r.said.rows ++ ((g.low, (g.up, g.runs)) ∷ b.0) = b.1 ∙ ap (λ q. q ++ b.0) a ∙ append-assoc r.said.rows ((g.low, (g.up, g.runs)) ∷ []) b.0 in
       let some-row : n.said.rows ≡ [] → ⊥ = λ z. let q : length r.said.rows + 1 ≡ 0 = sym (length-append r.said.rows ((g.low, (g.up, g.runs)) ∷ [])) ∙ ap length (sym a ∙ z) in omega arith in
       record {
         rest = b.0;
         left = cancel r.said.rows (drop k (rowsIn v)) ((g.low, (g.up, g.runs)) ∷ b.0) (sym r.rows ∙ e);
-        head = ap (λ (x : Said). headHeld (value x)) (sym c.said) ∙ head-stays (drop p.at t) (at p.state n.said) p.at v j (line-ready t (suc k) .good) n.order some-row;
+        head = ap (λ x. headHeld (value x)) (sym c.said) ∙ head-stays (drop p.at t) (at p.state n.said) p.at v j (line-ready t (suc k) .good) n.order some-row;
       }
 
   -- after the last row nothing is left
@@ -312,11 +301,11 @@ module _ (t : List ℕ) (v : Value indexForm) (readable : readText indexForm t �
   rows-next k r n (inl c) =
       let g = c.before in
       let w = is-closed k r n c in
-      let a = ap (λ (x : Said). x .rows) c.said ∙ ap (λ (q : Rs). q ++ ((g.low, (g.up, g.runs)) ∷ [])) c.rows in
-      r.rows ∙ ap (λ (q : Rs). r .said .rows ++ q) w.left
-      ∙ sym (ap (λ (q : Rs). q ++ drop (suc k) (rowsIn v)) a ∙ append-assoc r.said.rows ((g.low, (g.up, g.runs)) ∷ []) (drop (suc k) (rowsIn v)) ∙ ap (λ (q : Rs). r .said .rows ++ ((g.low, (g.up, g.runs)) ∷ q)) (drop-tail (rowsIn v) k (g.low, (g.up, g.runs)) w.rest w.left))
+      let a = ap (λ x. x.rows) c.said ∙ ap (λ q. q ++ ((g.low, (g.up, g.runs)) ∷ [])) c.rows in
+      r.rows ∙ ap (λ q. r.said.rows ++ q) w.left
+      ∙ sym (ap (λ q. q ++ drop (suc k) (rowsIn v)) a ∙ append-assoc r.said.rows ((g.low, (g.up, g.runs)) ∷ []) (drop (suc k) (rowsIn v)) ∙ ap (λ q. r.said.rows ++ ((g.low, (g.up, g.runs)) ∷ q)) (drop-tail (rowsIn v) k (g.low, (g.up, g.runs)) w.rest w.left))
   rows-next k r n (inr d) =
-      d.all ∙ sym (ap (λ (q : Rs). q ++ drop (suc k) (rowsIn v)) d.rows ∙ ap (λ (q : Rs). r .said .rows ++ q) (drop-none (rowsIn v) k (none-left k r n d)) ∙ append-nil r.said.rows)
+      d.all ∙ sym (ap (λ q. q ++ drop (suc k) (rowsIn v)) d.rows ∙ ap (λ q. r.said.rows ++ q) (drop-none (rowsIn v) k (none-left k r n d)) ∙ append-nil r.said.rows)
 
   reached : (k : ℕ) → Reached k
   unfolding lineAt
@@ -353,14 +342,13 @@ module _ (t : List ℕ) (v : Value indexForm) (readable : readText indexForm t �
         let w = is-closed k r n c in
         let ρ : Value rowForm = (g.low, (g.up, g.runs)) in
         let a = r.said.rows in
-        let e : rowsIn v ≡ a ++ (ρ ∷ w.rest) = r.rows ∙ ap (λ (q : Rs). a ++ q) w.left in
+        let e : rowsIn v ≡ a ++ (ρ ∷ w.rest) = r.rows ∙ ap (λ q. a ++ q) w.left in
         let m : map rowSaid (rowsIn v) ≡ map rowSaid a ++ (rowSaid ρ ∷ map rowSaid w.rest) = ap (map rowSaid) e ∙ map-append rowSaid a (ρ ∷ w.rest) in
         let long : length (map rowSaid a) ≡ k = omega (arith, length-map a rowSaid, ap length e, length-append a (ρ ∷ w.rest), ap length w.left, length-drop k (rowsIn v)) in
-        c.made ∙ made-is g ∙ ap (λ (x : Head). madeBy x g.rows ρ) w.head ∙ ap (λ (q : Rs). madeBy (headHeld v) q ρ) c.rows ∙ made-right a ρ w.rest e
-        ∙ sym (record-at (map rowSaid a) (rowSaid ρ) (map rowSaid w.rest) 0) ∙ ap (λ (q : ℕ). getD (records 0 (map rowSaid a ++ (rowSaid ρ ∷ map rowSaid w.rest))) q zeroRow) long ∙ ap (λ (l : List RangeRow). getD (records 0 l) k zeroRow) (sym m)
+        c.made ∙ made-is g ∙ ap (λ x. madeBy x g.rows ρ) w.head ∙ ap (λ q. madeBy (headHeld v) q ρ) c.rows ∙ made-right a ρ w.rest e
+        ∙ sym (record-at (map rowSaid a) (rowSaid ρ) (map rowSaid w.rest) 0) ∙ ap (λ q. getD (records 0 (map rowSaid a ++ (rowSaid ρ ∷ map rowSaid w.rest))) q zeroRow) long ∙ ap (λ l. getD (records 0 l) k zeroRow) (sym m)
     by-line k r n (inr d) =
-        let z = ap length (none-left k r n d) in
-        d.zeros ∙ sym (List·getD-eq-default recs zeroRow (omega (arith, length-records 0 (map rowSaid (rowsIn v)), length-map (rowsIn v) rowSaid, length-drop k (rowsIn v), z)))
+        d.zeros ∙ sym (List·getD-eq-default recs zeroRow (omega (arith, length-records 0 (map rowSaid (rowsIn v)), length-map (rowsIn v) rowSaid, length-drop k (rowsIn v), ap length (none-left k r n d))))
 
     -- row k of the text, and a record of zeros past the last
     pub row-at : (k : ℕ) → lineAt t (suc k) .row ≡ getD recs k zeroRow

@@ -1,9 +1,6 @@
 -- A reader of a text that stands where a line ended: it can be read on, and gives the next line.
-use Prim.Native.Nat.{ℕ}
 use denote.Ref.{RefT, now}
-use lib.ListN.{length}
-use mathlib.Core.List.{List}
-use mathlib.Core.Path.{_≡_}
+use Rattle.meaning_numbers.proofs.Prelude.{ℕ, length, List, _≡_}
 use Rattle.text_reader.specs.declared.Reader.{Reader}
 use Rattle.text_rows.specs.{declared.Line.Line, Line.lineEnd, Line.rowFrom, Line.nextLine, Line.Ready}
 

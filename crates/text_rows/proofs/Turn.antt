@@ -1,12 +1,5 @@
 -- An event of the loop that reads on to the end of a row: what is left of the text comes to the same line (`Going`). A line that has been read can be read on (`next-ready`).
-use Prim.Native.Nat.{ℕ, zero, suc, _+_, _<_, _≤_}
-use lib.IntN.{ℤ}
-use lib.ListN.{length, getD, set, drop, length-set, drop-of-length-le, length-drop}
-use lib.Seq.{drop-cons}
-use mathlib.Core.List.{List, [], _∷_}
-use mathlib.Core.Path.{_≡_, refl, sym, ap, _∙_, subst}
-use native.Mathlib.Numerals.{add-one}
-use native.Mathlib.Omega.{arith}
+use Rattle.meaning_numbers.proofs.Prelude.{ℕ, zero, suc, _+_, _<_, _≤_, ℤ, length, getD, set, drop, length-set, drop-of-length-le, length-drop, drop-cons, List, [], _∷_, _≡_, refl, sym, ap, _∙_, subst, add-one, arith}
 use Rattle.meaning_rows.specs.declared.Row.{Row}
 use Rattle.text_index.specs.{declared.Field.Field, declared.State.State, declared.Moved.Moved, Step.indexStep, Step.GoodState}
 use Rattle.text_index.proofs.{Follow.index-good, View.step-good}

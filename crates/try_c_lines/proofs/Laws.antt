@@ -1,12 +1,5 @@
 -- Pieces one behind another come to what the text to there comes to (`begins`, `goes-on`, `fails`, `ends`), and what a whole text comes to is what is told (`told`).
-use Prim.Native.Nat.{ℕ, _+_, _-_, _≤_}
-use lib.IntN.{ℤ}
-use lib.ListN.{length, take, drop, take-append-drop}
-use lib.Seq.{take-add, take-length}
-use mathlib.Core.Bool.{Bool, true, false}
-use mathlib.Core.List.{List}
-use mathlib.Core.Path.{_≡_, refl, sym, ap, subst, _∙_}
-use native.Mathlib.Omega.{arith}
+use Rattle.meaning_numbers.proofs.Prelude.{ℕ, _+_, _-_, _≤_, ℤ, length, take, drop, take-append-drop, take-add, take-length, Bool, true, false, List, _≡_, refl, sym, ap, subst, _∙_, arith}
 use Rattle.meaning_text.specs.{Form.Form, Form.Value, Read.readText, Texts.seriesForm, Texts.programForm}
 use Rattle.meaning_text.proofs.Automaton.{going, feed, feed-append, judged}
 use Rattle.text_lines.specs.Follow.{Said, Reading, step, programStart, seriesStart, programValue, seriesValue}

@@ -1,9 +1,5 @@
 -- Laws of specs/Piece.
-use Prim.Native.Nat.{ℕ}
-use lib.IntN.{ℤ}
-use mathlib.Core.Bool.{Bool}
-use mathlib.Core.List.{List}
-use mathlib.Core.Path.{_≡_}
+use Rattle.meaning_numbers.proofs.Prelude.{ℕ, ℤ, Bool, List, _≡_}
 use Rattle.meaning_text.proofs.Automaton.{going, feed}
 use Rattle.text_lines.specs.Follow.{nothingSaid, step}
 use Rattle.text_feed.specs.{declared.Feeding.Feeding, Keep.numbersOf, Feed.Shows}

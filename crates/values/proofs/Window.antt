@@ -62,6 +62,5 @@ moved-on s w j =
 
 pub but-first : (s : List ℤ) (w j : ℕ) → windowSum s (w + 1) j -ℤ at s j ≡ windowSum s w (j + 1)
 but-first s w j =
-    let W = windowSum s (w + 1) j in
-    rep-eq (rep-sub (rep-self W) (rep-self (at s j))) (rep-self _)
+    rep-eq (rep-sub (rep-self (windowSum s (w + 1) j)) (rep-self (at s j))) (rep-self _)
     (omega (arith, z-eq (window-next s w j), z-add (windowSum s w (j + 1)) (at s j), z-eq (window-last s w j), z-add (windowSum s w j) (at s (j + w))))

@@ -40,8 +40,7 @@ raise-end-requires-2 c κs =
 file-run-requires : tie.Need-file-run-requires
 file-run-requires c κs =
     let s = c.before.before.before.before.before.before.before.before.before in
-    let h = ends c.before.before in
-    ((change-held s.pre.below s.pre.held h, search needs), s.pre.room)
+    ((change-held s.pre.below s.pre.held (ends c.before.before), search needs), s.pre.room)
 
 returns : tie.Need-returns
 returns c =

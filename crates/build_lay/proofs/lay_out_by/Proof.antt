@@ -1,10 +1,5 @@
 -- `lay_out_by` meets its contract.
-use Prim.Native.Nat.{ℕ}
-use borrow.Author.Needs.{needs}
-use lib.ListN.{length}
-use mathlib.Core.List.{List}
-use mathlib.Core.Path.{_≡_, ap}
-use native.Mathlib.Omega.{arith}
+use Rattle.meaning_numbers.proofs.Prelude.{ℕ, needs, length, List, _≡_, ap, arith}
 use Rattle.sums_slide.specs.Table.{table}
 use Rattle.rows_pack.specs.Packed.{total}
 use Rattle.rows_pack.proofs.Records.{counts-fit}

@@ -17,17 +17,15 @@ returns : tie.Need-returns
 unfolding nextGroup
 returns c =
     let t = c.before.before.before.count-touching in
-    let h = rw t.ensures at c.before.before.if1.taken in
-    rw (lt-ltb _ _ h, back _ c.before.struct-told.given.0.1, back _ c.struct-told2.given.1.0.1, t.ensures)
+    rw (lt-ltb _ _ (rw t.ensures at c.before.before.if1.taken), back _ c.before.struct-told.given.0.1, back _ c.struct-told2.given.1.0.1, t.ensures)
 
 returns-2 : tie.Need-returns-2
 unfolding nextGroup
 returns-2 c =
-    let t = c.before.before.before.count-touching in
-    let h = rw t.ensures at c.before.before.if1.left in
+    let h = rw c.before.before.before.count-touching.ensures at c.before.before.if1.left in
     rw (le-ltb _ _ h, back _ c.struct-told3.given.0.1, back _ c.struct-told3.given.1.0.1)
 
 pub merge-row-spec : {M : Type 1} → own.Statement.statement M
 merge-row-spec =
-    tie.close (tie.spec (λ c. search needs) (λ c. search needs) (λ c. search needs) (λ c κs. search needs) (λ c. search needs) (λ c. search needs) mul-if1-2 (λ c. search needs) (λ c. search needs)
-    (λ c. search needs) returns returns-2)
+    tie.close (tie.spec (search needs) (search needs) (search needs) (search needs) (search needs) (search needs) mul-if1-2 (search needs) (search needs)
+    (search needs) returns returns-2)

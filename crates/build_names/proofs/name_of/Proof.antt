@@ -14,4 +14,4 @@ unfolding nameFor
 returns-2 c = let a = c.before.args in rw (le-ltb a.at.offset (windowCount a.len a.w) (omega (arith, c.if1.left)))
 
 pub name-of-spec : {M : Type 1} → own.Statement.statement M
-name-of-spec = tie.close (tie.spec (λ c. search needs) (λ c. search needs) returns returns-2)
+name-of-spec = tie.close (tie.spec (search needs) (search needs) returns returns-2)

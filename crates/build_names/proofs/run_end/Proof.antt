@@ -15,13 +15,13 @@ up-back : (c : tie.After-struct-told2) → toZ w32 (ofZ w32 c.before.before.args
 up-back c = back _ c.struct-told2.given.1.0.1
 
 low-asks : tie.Need-raise-end-requires
-low-asks c u = let o = c.before.before in (search needs, limited-asks (subst Limited (sym (low-back c.before)) o.pre.3.low-end))
+low-asks c u = (search needs, limited-asks (subst Limited (sym (low-back c.before)) c.before.before.pre.3.low-end))
 
 up-asks : tie.Need-raise-end-requires-2
-up-asks c u = let o = c.before.before.before in (search needs, limited-asks (subst Limited (sym (up-back c.before)) o.pre.3.up-end))
+up-asks c u = (search needs, limited-asks (subst Limited (sym (up-back c.before)) c.before.before.before.pre.3.up-end))
 
 returns : tie.Need-returns
 returns c = rw (c.before.before.raise-end.ensures, c.before.raise-end2.ensures, low-back _, up-back _) at c.next-out.ensures
 
 pub run-end-spec : {M : Type 1} → own.run_end.Statement.statement M
-run-end-spec = tie.close (tie.spec (λ c. search needs) (λ c. search needs) low-asks up-asks (λ c κs. let o = c.before.before.before.before in (o.pre.0, (o.pre.1, o.pre.2))) returns)
+run-end-spec = tie.close (tie.spec (search needs) (search needs) low-asks up-asks (λ c κs. let o = c.before.before.before.before in (o.pre.0, (o.pre.1, o.pre.2))) returns)

@@ -13,4 +13,4 @@ unfolding bump
 returns-2 c = rw (ne-eqb _ _ c.if1.left)
 
 pub bumped-spec : {M : Type 1} → own.Statement.statement M
-bumped-spec = tie.close (tie.spec (λ c. search needs) returns returns-2)
+bumped-spec = tie.close (tie.spec (search needs) returns returns-2)

@@ -18,4 +18,4 @@ returns c =
     (handed o.write-runs.ensures (start o .pre .1) (start o .pre .2) one.clear-u32.ensures two.clear-u322.ensures, search needs)
 
 pub collect-spec : {M : Type 1} → own.collect.Statement.statement M
-collect-spec = tie.close (tie.spec (λ c κs. search needs) (λ c κs. search needs) (λ c κs. search needs) (λ c κs. search needs) (λ c. search needs) (λ c. search needs) (λ c. search needs) returns)
+collect-spec = tie.close (tie.spec (search needs) (search needs) (search needs) (search needs) (search needs) (search needs) (search needs) returns)

@@ -29,6 +29,6 @@ returns-3 c = rw (taken _, c.if2.left) (omega arith, (refl, refl))
 
 pub put-spec : {M : Type 1} → own.Statement.statement M
 put-spec =
-    tie.close (tie.spec returns (λ c. search needs) (λ c. omega (arith, bit-true c.if2.taken)) (λ c. search needs) (λ c. omega (arith, bit-true c.if2.taken)) (λ c. search needs) returns-2
-    (λ c. search needs) (λ c. search needs) (λ c. omega (arith, one c)) (λ c. search needs) (λ c. search needs) (λ c. omega (arith, one c)) (λ c. search needs) (λ c. search needs) (λ c. search needs)
+    tie.close (tie.spec returns (search needs) (λ c. omega (arith, bit-true c.if2.taken)) (search needs) (λ c. omega (arith, bit-true c.if2.taken)) (search needs) returns-2
+    (search needs) (search needs) (λ c. omega (arith, one c)) (search needs) (search needs) (λ c. omega (arith, one c)) (search needs) (search needs) (search needs)
     returns-3)

@@ -23,8 +23,7 @@ loop-again c =
 returns : tie.Need-returns Inv μ
 returns c =
     let l = c.before in
-    let a = l.before.before.args in
-    raise-ends _ _ l.loop.j a.to _ _ c.loop-test.left l.loop.inv.1 l.loop.inv.2
+    raise-ends _ _ l.loop.j l.before.before.args.to _ _ c.loop-test.left l.loop.inv.1 l.loop.inv.2
 
 pub raise-run-spec : {M : Type 1} → own.raise_run.Statement.statement M
 raise-run-spec =

@@ -26,8 +26,7 @@ in-right c = omega arith
 
 raise-run-requires : tie.Need-raise-run-requires Inv μ
 raise-run-requires c κs =
-    let l = c.before.before.before.before.before.before in
-    (omega arith, start l .pre .3)
+    (omega arith, start c.before.before.before.before.before.before .pre .3)
 
 loop-again : tie.Need-loop-again Inv μ
 loop-again c =

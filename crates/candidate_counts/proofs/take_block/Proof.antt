@@ -9,4 +9,4 @@ returns c =
     took-none _ _ 64 _ _ _ (omega arith) (omega arith)
 
 pub take-block-spec : {M : Type 1} → own.take_block.Statement.statement M
-take-block-spec = tie.close (tie.spec (λ c κs. (search needs, omega arith)) returns (λ c κs. search needs) (λ c. search needs) (λ c. search needs) (λ c. search needs))
+take-block-spec = tie.close (tie.spec (λ c κs. (search needs, omega arith)) returns (search needs) (search needs) (search needs) (λ c. search needs))

@@ -34,14 +34,12 @@ put-requires c κs =
 loop-again : tie.Need-loop-again Inv μ
 loop-again c =
     let o = c.before.before.before.before in
-    let u = o.before.before.before.before in
-    let l = u.before in
     let e = o.put.ensures in
-    (omega arith, rw (flag-bit _) (taking-next l.loop.inv.1 refl e.0 e.1.0 e.1.1))
+    (omega arith, rw (flag-bit _) (taking-next o.before.before.before.before.before.loop.inv.1 refl e.0 e.1.0 e.1.1))
 
 pub take-each-spec : {M : Type 1} → own.take_each.Statement.statement M
 take-each-spec =
-    tie.close (tie.spec Inv μ (λ c. let a = c.before.before.before in (omega arith, taking-starts _ _ _ _ _ _ _ a.pre.begun)) (λ c. omega (arith, inside c))
+    tie.close (tie.spec Inv μ (λ c. (omega arith, taking-starts _ _ _ _ _ _ _ c.before.before.before.pre.begun)) (λ c. omega (arith, inside c))
     (λ c. omega (arith, inside c)) (λ c. inside c.before) put-requires (λ c. tt) (λ c. let u = c.before.before.before.before.before.before.before.before in let l = u.before in
     omega (arith, flag-bit (here l), bit-le (here l), l.loop.inv.1.fewer, start l .pre .fewer, u.loop-test.taken, start l .pre .short))
     (λ c. omega arith)

@@ -73,6 +73,6 @@ write-runs-spec =
     tie.close (tie.spec Inv μ (λ c. (omega arith, sym (count-none _), filling-starts _ _ _)) (λ c. c.loop.inv.0)
     (λ c κs. let u = c.before.before in ready u.before 64 (omega (arith, u.loop-test.taken, u.before.loop.inv.0)))
     (λ c. let u = c.before.before.before.before.before.before.before in omega (arith, u.loop-test.taken, u.before.loop.inv.0, start u.before .pre .3))
-    (λ c. let u = c.before.before.before.before.before.before.before in omega (arith, u.loop-test.taken)) loop-again (λ c. c.before.loop.inv.0)
+    (λ c. omega (arith, c.before.before.before.before.before.before.before.loop-test.taken)) loop-again (λ c. c.before.loop.inv.0)
     (λ c κs. let l = c.before.before.before in ready l _ (omega (arith, l.loop.inv.0))) (λ c. let w = c.before.before.before.before in left-long (full w) (start (l w) .pre .1))
     (λ c. let w = c.before.before.before.before in right-long (full w) (start (l w) .pre .2)) (λ c. full c.before.before.before.before))

@@ -26,5 +26,5 @@ returns c =
 
 pub hand-out-spec : {M : Type 1} → own.Statement.statement M
 hand-out-spec =
-    tie.close (tie.spec (λ c. search needs) (λ c. search needs) (λ c. search needs) (λ c. search needs) (λ c κs. search needs) raise-stretches-requires (λ c. search needs) (λ c κs. search needs)
-    (λ c κs. search needs) (λ c. search needs) (λ c. search needs) (λ c. search needs) returns)
+    tie.close (tie.spec (search needs) (search needs) (search needs) (search needs) (search needs) raise-stretches-requires (search needs) (search needs)
+    (search needs) (search needs) (search needs) (search needs) returns)

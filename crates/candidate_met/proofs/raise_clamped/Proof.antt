@@ -14,4 +14,4 @@ unfolding raisedEnd
 returns c = c.raise-by.ensures ∙ rw (passed _)
 
 pub raise-clamped-spec : {M : Type 1} → own.raise_clamped.Statement.statement M
-raise-clamped-spec = tie.close (tie.spec (λ c κs. search needs) (λ c κs. rw (passed c) (clamp-in c.before.args.z)) returns)
+raise-clamped-spec = tie.close (tie.spec (search needs) (λ c κs. rw (passed c) (clamp-in c.before.args.z)) returns)

@@ -27,5 +27,5 @@ returns c = cc (small-back _ (omega arith) (low-small _), low-is _, small-back _
 
 pub range-at-spec : {M : Type 1} → own.Statement.statement M
 range-at-spec =
-    tie.close (tie.spec (λ c. search needs) (λ c. search needs) (λ c. search needs) (λ c. search needs) (λ c. search needs) (λ c. search needs) (λ c κs. search needs)
-    (λ c. small-fits (omega arith) (low-small c)) (λ c κs. search needs) (λ c. small-fits (omega arith) (high-small c)) returns)
+    tie.close (tie.spec (search needs) (search needs) (search needs) (search needs) (search needs) (search needs) (search needs)
+    (λ c. small-fits (omega arith) (low-small c)) (search needs) (λ c. small-fits (omega arith) (high-small c)) returns)

@@ -8,4 +8,4 @@ told : (c : tie.After-struct-told) → leZ (toZ w32 (ofZ w32 c.before.args.r.low
 told c = rw (toZ-ofZ w32 c.before.args.r.low (record { sfits = search needs }), toZ-ofZ w32 _ c.before.fits.high)
 
 pub reached-runs-spec : {M : Type 1} → own.Statement.statement M
-reached-runs-spec = tie.close (tie.spec (λ c. search needs) (λ c. rw (sym (told c.before.before) ∙ c.before.if1.taken) (refl, search needs)) (λ c. rw (sym (told c.before) ∙ c.if1.left) (omega arith)))
+reached-runs-spec = tie.close (tie.spec (search needs) (λ c. rw (sym (told c.before.before) ∙ c.before.if1.taken) (refl, search needs)) (λ c. rw (sym (told c.before) ∙ c.if1.left) (omega arith)))

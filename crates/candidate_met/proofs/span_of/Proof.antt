@@ -19,4 +19,4 @@ returns-2 c =
     rw (le-ltb a.a a.n c.if1.left, o.end-of.ensures.0, c.before.reached-runs.ensures.0, toZ-ofZ w32 _ o.before.fits.high)
 
 pub span-of-spec : {M : Type 1} → own.Statement.statement M
-span-of-spec = tie.close (tie.spec (λ c κs. search needs) (λ c κs. search needs) (λ c. search needs) (λ c. search needs) returns returns-2)
+span-of-spec = tie.close (tie.spec (search needs) (search needs) (search needs) (search needs) returns returns-2)

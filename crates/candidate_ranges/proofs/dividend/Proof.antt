@@ -51,4 +51,4 @@ returns c =
 pub dividend-spec : {M : Type 1} → own.dividend.Statement.statement M
 dividend-spec =
     tie.close (tie.spec (λ c κs. let o = c.before in factors o.args.x o.args.f.narrow o.pre.1 o.pre.0.narrow)
-    (λ c κs. let o = c.before.before.before in factors o.args.x o.args.f.wide o.pre.1 o.pre.0.wide) (λ c κs. search needs) plus-requires returns)
+    (λ c κs. let o = c.before.before.before in factors o.args.x o.args.f.wide o.pre.1 o.pre.0.wide) (search needs) plus-requires returns)

@@ -13,13 +13,13 @@ normal c = c.enum-told2.given.1
 
 returns : tie.Need-returns
 unfolding frameOf
-returns c = let t = c.before in rw (raw t) c.raw-frame.ensures
+returns c = rw (raw c.before) c.raw-frame.ensures
 
 returns-2 : tie.Need-returns-2
 unfolding frameOf
-returns-2 c = let t = c.before in rw (normal t) c.normal-frame.ensures
+returns-2 c = rw (normal c.before) c.normal-frame.ensures
 
 pub frame-of-spec : {M : Type 1} → own.Statement.statement M
 frame-of-spec =
     tie.close
-    (tie.spec (λ c. search needs) (λ c κs. search needs) (λ c. search needs) (λ c κs. search needs) returns returns-2)
+    (tie.spec (search needs) (search needs) (search needs) (search needs) returns returns-2)

@@ -19,4 +19,4 @@ returns c =
     ∙ rw (dividend-back _+ℤ_ i o.pre.1 i.rise (small-add _ _ o.pre.1 i.reach) u.plus.ensures false c.before.dividend.ensures)
 
 pub high-end-spec : {M : Type 1} → own.high_end.Statement.statement M
-high-end-spec = tie.close (tie.spec (λ c κs. let o = c.before in operands o.pre.1 o.pre.0.reach) dividend-requires (λ c κs. search needs) returns)
+high-end-spec = tie.close (tie.spec (λ c κs. let o = c.before in operands o.pre.1 o.pre.0.reach) dividend-requires (search needs) returns)

@@ -10,5 +10,5 @@ small c = let o = c.before in omega (arith, c.root.ensures, high-scale-le _ _ o.
 
 pub high-scale-spec : {M : Type 1} → own.high_scale.Statement.statement M
 high-scale-spec =
-    tie.close (tie.spec (λ c. omega (arith, square-le _ c.pre.1)) (λ c. omega (arith, scaled-le _ c.args.a c.pre.0 c.pre.1)) (λ c κs. search needs)
+    tie.close (tie.spec (λ c. omega (arith, square-le _ c.pre.1)) (λ c. omega (arith, scaled-le _ c.args.a c.pre.0 c.pre.1)) (search needs)
     (λ c. omega (arith, small c)) (λ c. small-fits (omega arith) (small-pos 204800001 _ (small c))) (λ c. rw (cast-back _ (omega arith) (small c), c.root.ensures)))

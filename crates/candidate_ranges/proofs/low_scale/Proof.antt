@@ -10,5 +10,5 @@ small c = let o = c.before in omega (arith, c.root.ensures, low-scale-le _ o.arg
 
 pub low-scale-spec : {M : Type 1} → own.low_scale.Statement.statement M
 low-scale-spec =
-    tie.close (tie.spec (λ c. search needs) (λ c. omega (arith, square-le _ c.pre.2)) (λ c. mul-pos c.pre.1 c.pre.1) (λ c κs. search needs)
+    tie.close (tie.spec (search needs) (λ c. omega (arith, square-le _ c.pre.2)) (λ c. mul-pos c.pre.1 c.pre.1) (search needs)
     (λ c. small-fits (omega arith) (small-pos 204800000 _ (small c))) (λ c. rw (cast-back _ (omega arith) (small c), c.root.ensures)))

@@ -117,8 +117,8 @@ returns c =
 
 pub normal-frame-spec : {M : Type 1} → own.normal_frame.Statement.statement M
 normal-frame-spec =
-    tie.close (tie.spec (λ c. search needs) (λ c. search needs) (λ c. search needs) (λ c. search needs) minus-requires (λ c. search needs) (λ c. omega (arith, shift-le (start c.before)))
-    (λ c. small-fits {n = 20480000} (omega arith) (small-pos 20480000 _ (shift-le (start c.before)))) (λ c. search needs) (λ c. search needs)
-    (λ c. let o = start c.before.before in omega (arith, product-le o.args.w o.args.l.threshold o.pre.window o.pre.threshold)) (λ c κs. search needs) (λ c. omega (arith, reach c))
-    (λ c. small-fits {n = 16000256} (omega arith) (small-pos 16000256 _ (reach c))) (λ c κs. search needs) (λ c κs. search needs) minus-requires-2 times-requires plus-requires times-requires-2
-    (λ c. search needs) returns)
+    tie.close (tie.spec (search needs) (search needs) (search needs) (search needs) minus-requires (search needs) (λ c. omega (arith, shift-le (start c.before)))
+    (λ c. small-fits {n = 20480000} (omega arith) (small-pos 20480000 _ (shift-le (start c.before)))) (search needs) (search needs)
+    (λ c. let o = start c.before.before in omega (arith, product-le o.args.w o.args.l.threshold o.pre.window o.pre.threshold)) (search needs) (λ c. omega (arith, reach c))
+    (λ c. small-fits {n = 16000256} (omega arith) (small-pos 16000256 _ (reach c))) (search needs) (search needs) minus-requires-2 times-requires plus-requires times-requires-2
+    (search needs) returns)

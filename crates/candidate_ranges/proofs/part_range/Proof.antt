@@ -55,5 +55,5 @@ returns c =
 
 pub part-range-spec : {M : Type 1} → own.Statement.statement M
 part-range-spec =
-    tie.close (tie.spec (λ c. search needs) (λ c κs. search needs) (λ c. small-fits (omega arith) (least c)) (λ c κs. search needs) (λ c. small-fits (omega arith) (most c))
+    tie.close (tie.spec (search needs) (λ c κs. search needs) (λ c. small-fits (omega arith) (least c)) (λ c κs. search needs) (λ c. small-fits (omega arith) (most c))
     (λ c κs. (search needs, passed (least c.before))) (λ c κs. (search needs, passed (most c.before))) returns)

@@ -10,5 +10,5 @@ reach c = let o = c.before.before in omega (arith, c.root.ensures, reach-le _ _ 
 
 pub raw-frame-spec : {M : Type 1} → own.raw_frame.Statement.statement M
 raw-frame-spec =
-    tie.close (tie.spec (λ c. omega (arith, product-le _ _ c.before.pre.0 c.before.pre.1)) (λ c κs. search needs)
+    tie.close (tie.spec (λ c. omega (arith, product-le _ _ c.before.pre.0 c.before.pre.1)) (search needs)
     (λ c. small-fits (omega arith) (small-pos 16000000 _ (reach c))) (λ c. rw (cast-back _ (omega arith) (reach c), c.root.ensures)))

@@ -1,6 +1,5 @@
 -- `put_ends`. The invariant: the entries of the parts passed are held (`held-next`); the measure is how many parts are left.
 use Rattle.meaning_numbers.proofs.Prelude.{needs, _≡_, ap, _∙_, _-_, _≤_, arith, length, w64, toZ-ofZ}
-use Rattle.candidate_ranges.specs.declared.Range.{Range}
 use Rattle.candidate_met.specs.{Parts.partRange, Stored.raisedEnd}
 use Rattle.candidate_spans.specs.Held.{PartsHeld, lowEnds, highEnds}
 use Rattle.candidate_spans.proofs as own
@@ -24,13 +23,11 @@ part-range-requires c κs =
 
 loop-again : tie.Need-loop-again Inv μ
 loop-again c =
-    let s = c.before.before.before.before.store-pair.ensures in
     let l = c.before.before.before.before.before.before.before.before.before.before.before.before.before in
-    let v = l.loop.inv in
     let r = c.before.before.before.before.before.before.before.before.before.before.before.part-range in
-    let low = c.before.before.before.before.before.before.before.before.before.raise-clamped.ensures ∙ ap raisedEnd (toZ-ofZ w64 _ (search needs) ∙ ap (λ (y : Range). y .low) r.ensures) in
-    let high = c.before.before.before.before.before.before.before.raise-clamped2.ensures ∙ ap raisedEnd (toZ-ofZ w64 _ (search needs) ∙ ap (λ (y : Range). y .high) r.ensures) in
-    (held-next s v.0 low high, search needs, search needs, omega (arith, c.before.before.before.before.before.before.before.before.before.before.before.before.loop-test.taken))
+    let low = c.before.before.before.before.before.before.before.before.before.raise-clamped.ensures ∙ ap raisedEnd (toZ-ofZ w64 _ (search needs) ∙ ap (λ y. y.low) r.ensures) in
+    let high = c.before.before.before.before.before.before.before.raise-clamped2.ensures ∙ ap raisedEnd (toZ-ofZ w64 _ (search needs) ∙ ap (λ y. y.high) r.ensures) in
+    (held-next c.before.before.before.before.store-pair.ensures l.loop.inv.0 low high, search needs, search needs, omega (arith, c.before.before.before.before.before.before.before.before.before.before.before.before.loop-test.taken))
 
 returns : tie.Need-returns Inv μ
 returns c =
@@ -40,7 +37,7 @@ returns c =
 
 pub put-ends-spec : {M : Type 1} → own.put_ends.Statement.statement M
 put-ends-spec =
-    tie.close (tie.spec Inv μ (λ c. search needs) part-range-requires (λ c κs. tt) (λ c κs. tt) (λ c κs. search needs)
-    (λ c. search needs)
-    (λ c. search needs) loop-again (λ c. search needs)
-    (λ c. search needs) returns)
+    tie.close (tie.spec Inv μ (search needs) part-range-requires (λ c κs. tt) (λ c κs. tt) (search needs)
+    (search needs)
+    (search needs) loop-again (search needs)
+    (search needs) returns)

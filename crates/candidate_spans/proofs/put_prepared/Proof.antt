@@ -22,5 +22,5 @@ returns c =
 
 pub put-prepared-spec : {M : Type 1} → own.put_prepared.Statement.statement M
 put-prepared-spec =
-    tie.close (tie.spec (λ c. search needs) prepare-requires frame-of-requires (λ c. search needs) put-ends-requires (λ c. search needs) (λ c. search needs) (λ c. search needs) (λ c. search needs)
-    (λ c. search needs) returns)
+    tie.close (tie.spec (search needs) prepare-requires frame-of-requires (search needs) put-ends-requires (search needs) (search needs) (search needs) (search needs)
+    (search needs) returns)

@@ -5,10 +5,9 @@ use own.Tie as tie
 
 put-prepared-requires : tie.Need-put-prepared-requires
 put-prepared-requires c κs =
-    let p = c.before.before.before.before.before.before.before.pre in
-    (p, (search needs, search needs, search needs))
+    (c.before.before.before.before.before.before.before.pre, (search needs, search needs, search needs))
 
 pub put-ranges-spec : {M : Type 1} → own.Statement.statement M
 put-ranges-spec =
-    tie.close (tie.spec (λ c. search needs) (λ c. search needs) (λ c. search needs) (λ c. search needs) (λ c. search needs) (λ c. search needs) (λ c. search needs) (λ c. search needs)
-    (λ c. search needs) put-prepared-requires (λ c. search needs) (λ c. search needs) (λ c. search needs))
+    tie.close (tie.spec (search needs) (search needs) (search needs) (search needs) (search needs) (search needs) (search needs) (search needs)
+    (search needs) put-prepared-requires (search needs) (search needs) (λ c. search needs))

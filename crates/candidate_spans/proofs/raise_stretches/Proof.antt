@@ -27,28 +27,25 @@ shift-fits : (c : tie.In-loop Inv μ) → c.before.loop.i * start c.before .args
 shift-fits c = let h : c.before.loop.i ≤ 1024 = omega (arith, below c) in mul-le-mul h (start c.before .pre .window)
 
 loop-holds : tie.Need-loop-holds Inv μ
-loop-holds c = let o = c.before.before.before.before.before in (by-starts _ _ _ o.pre.zeros, refl, omega arith)
+loop-holds c = (by-starts _ _ _ c.before.before.before.before.before.pre.zeros, refl, omega arith)
 
 raise-runs-requires : tie.Need-raise-runs-requires Inv μ
 raise-runs-requires c κs =
     let t = c.before.before.before in
-    let l = t.before in
-    let p = start l .pre in
+    let p = start t.before .pre in
     (p.inside-left _ t.loop-test.taken, p.inside-right _ t.loop-test.taken, omega arith, omega arith)
 
 loop-again : tie.Need-loop-again Inv μ
 loop-again c =
-    let t = c.before.before.before.before.before.before in
-    let l = t.before in
+    let l = c.before.before.before.before.before.before.before in
     let a = start l .args in
     let r = c.before.before.raise-runs.ensures in
     (by-next _ _ _ _ _ l.loop.inv.0 r, r.long ∙ l.loop.inv.1, omega arith)
 
 returns : tie.Need-returns Inv μ
 returns c =
-    let v = c.before.loop.inv in
     let e : c.before.loop.i ≡ start c.before .args .parts = omega arith in
-    rw e at v.0
+    rw e at c.before.loop.inv.0
 
 pub raise-stretches-spec : {M : Type 1} → own.raise_stretches.Statement.statement M
 raise-stretches-spec =

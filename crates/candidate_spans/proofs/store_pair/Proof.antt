@@ -8,4 +8,4 @@ returns : tie.Need-returns
 returns c = let o = c in stored _ _ _ _ _ o.pre.0 o.pre.1
 
 pub store-pair-spec : {M : Type 1} → own.store_pair.Statement.statement M
-store-pair-spec = tie.close (tie.spec (λ c. search needs) (λ c. search needs) (λ c. search needs) (λ c. search needs) (λ c. search needs) (λ c. search needs) returns)
+store-pair-spec = tie.close (tie.spec (search needs) (search needs) (search needs) (search needs) (search needs) (search needs) returns)

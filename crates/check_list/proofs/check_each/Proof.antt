@@ -31,10 +31,9 @@ module _ (c : tie.In-loop Inv μ) where
 check-run-requires : tie.Need-check-run-requires Inv μ
 check-run-requires c κs =
     let t = c.before.before.before.before.before.before in
-    let v = t.before.loop.inv in
     let p = o t .pre in
     let h = run-inside p.1.1 _ t.loop-test.taken in
-    (p.0, ((search needs, search needs), (v.2.few t.loop-test.taken, omega arith, omega arith)))
+    (p.0, ((search needs, search needs), (t.before.loop.inv.2.few t.loop-test.taken, omega arith, omega arith)))
 
 loop-again : tie.Need-loop-again Inv μ
 loop-again c =
@@ -49,7 +48,7 @@ loop-again c =
 
 pub check-each-spec : {M : Type 1} → own.check_each.Statement.statement M
 check-each-spec =
-    tie.close (tie.spec Inv μ loop-holds (λ c. search needs) (λ c. has-left c.before) (λ c. omega (arith, c.shared-slice-known3.given c.before.before.loop.i))
-    (λ c. search needs) (λ c. has-right c.before.before) (λ c. omega (arith, c.shared-slice-known4.given c.before.before.before.loop.i)) check-run-requires
-    (λ c. search needs) (λ c. search needs) loop-again (λ c. search needs) (λ c. search needs) (λ c. search needs)
-    (λ c. search needs) (λ c. runs-end c.loop-test.left c.before.loop.inv.2))
+    tie.close (tie.spec Inv μ loop-holds (search needs) (λ c. has-left c.before) (λ c. omega (arith, c.shared-slice-known3.given c.before.before.loop.i))
+    (search needs) (λ c. has-right c.before.before) (λ c. omega (arith, c.shared-slice-known4.given c.before.before.before.loop.i)) check-run-requires
+    (search needs) (search needs) loop-again (search needs) (search needs) (search needs)
+    (search needs) (λ c. runs-end c.loop-test.left c.before.loop.inv.2))

@@ -57,8 +57,7 @@ loop-again : tie.Need-loop-again Inv μ
 loop-again c =
     let a = c.before.before.before.before.before in
     let t = a.before.before.before.before.before.before in
-    let g = t.before.before.before.before in
-    let v = g.loop.inv in (
+    let v = t.before.before.before.before.loop.inv in (
       a.before.before.before.before.before.room.given ∙ v.0,
       a.before.before.before.before.row.given ∙ v.1,
       run-next (omega arith) v.2 t.match-at.ensures a.list-match.ensures c.slide-sums.ensures,

@@ -13,10 +13,9 @@ returns : tie.Need-returns
 returns c =
     let o = c.before.before.before.before.before.before in
     let m = o.before.before in
-    let e = m.before.before.before.before.before.before.before.before in
-    list-filled e.check-each.ensures m.lesser2.ensures m.before.lesser.ensures o.clear-u32.ensures c.before.before.clear-u64.ensures
+    list-filled m.before.before.before.before.before.before.before.before.check-each.ensures m.lesser2.ensures m.before.lesser.ensures o.clear-u32.ensures c.before.before.clear-u64.ensures
 
 pub check-runs-spec : {M : Type 1} → own.check_runs.Statement.statement M
 check-runs-spec =
-    tie.close (tie.spec (λ c. search needs) (λ c. search needs) (λ c. search needs) (λ c. search needs) check-each-requires (λ c κs. search needs) (λ c κs. search needs) (λ c κs. search needs)
-    (λ c κs. search needs) (λ c. search needs) (λ c. search needs) returns)
+    tie.close (tie.spec (search needs) (search needs) (search needs) (search needs) check-each-requires (search needs) (search needs) (search needs)
+    (search needs) (search needs) (search needs) returns)

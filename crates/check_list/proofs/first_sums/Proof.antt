@@ -5,4 +5,4 @@ use own.Found.{raw-sums}
 use own.first_sums.Tie as tie
 
 pub first-sums-spec : {M : Type 1} → own.first_sums.Statement.statement M
-first-sums-spec = tie.close (tie.spec (λ c. search needs) (λ c. search needs) (λ c κs. search needs) (λ c. raw-sums c.enum-told.given.1) (λ c. search needs))
+first-sums-spec = tie.close (tie.spec (search needs) (search needs) (λ c κs. search needs) (λ c. raw-sums c.enum-told.given.1) (search needs))

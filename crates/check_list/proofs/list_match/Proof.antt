@@ -14,4 +14,4 @@ returns-2 c =
     rw (one-entry a.j p.before.before.before.before.tested.given.1) p.put-entry.ensures
 
 pub list-match-spec : {M : Type 1} → own.list_match.Statement.statement M
-list-match-spec = tie.close (tie.spec (λ c. search needs) (λ c. search needs) (λ c κs. search needs) (λ c. search needs) returns (λ c. search needs) (λ c. search needs) returns-2)
+list-match-spec = tie.close (tie.spec (search needs) (search needs) (search needs) (search needs) returns (search needs) (search needs) returns-2)

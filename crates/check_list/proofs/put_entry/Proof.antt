@@ -15,4 +15,4 @@ returns-3 c = let a = c.before.args in list-full a.k a.j _ _ _ (omega arith)
 
 pub put-entry-spec : {M : Type 1} → own.put_entry.Statement.statement M
 put-entry-spec =
-    tie.close (tie.spec (λ c. search needs) (λ c. search needs) (λ c. search needs) (λ c. search needs) (λ c. search needs) (λ c. search needs) (λ c. search needs) returns returns-2 returns-3)
+    tie.close (tie.spec (search needs) (search needs) (search needs) (search needs) (search needs) (search needs) (search needs) returns returns-2 returns-3)

@@ -10,4 +10,4 @@ next-sums-requires c κs =
     (search needs, (o.pre.0.1, (o.pre.0.2, o.pre.1 c.before.enum-told2.given.1 o.pre.0.0)))
 
 pub slide-sums-spec : {M : Type 1} → own.slide_sums.Statement.statement M
-slide-sums-spec = tie.close (tie.spec (λ c. search needs) (λ c. search needs) (λ c. search needs) next-sums-requires (λ c. raw-sums c.enum-told.given.1) (λ c. search needs) (λ c. search needs))
+slide-sums-spec = tie.close (tie.spec (search needs) (search needs) (search needs) next-sums-requires (λ c. raw-sums c.enum-told.given.1) (search needs) (search needs))

@@ -10,4 +10,4 @@ returns c =
     passes-edge ahead.before.before.before.copy-values.ensures ahead.reach-ahead.ensures c.before.reach-back.ensures
 
 pub envelope-spec : {M : Type 1} → own.envelope.Statement.statement M
-envelope-spec = tie.close (tie.spec (λ c κs. search needs) (λ c κs. search needs) (λ c κs. search needs) (λ c. search needs) returns)
+envelope-spec = tie.close (tie.spec (search needs) (search needs) (search needs) (search needs) returns)

@@ -24,6 +24,6 @@ loop-again c =
 
 pub pass-ahead-spec : {M : Type 1} → own.pass_ahead.Statement.statement M
 pass-ahead-spec =
-    tie.close (tie.spec Inv μ (λ c κs. search needs) (λ c. (omega arith, omega arith, omega arith, ahead-start _ _ _)) (λ c. omega arith) (λ c. omega arith) (λ c. omega arith)
-    (λ c. omega arith) (λ c. omega arith) (λ c κs. search needs) (λ c. omega arith) (λ c. omega arith) (λ c. omega arith) (λ c. omega arith) loop-again (λ c. omega arith)
+    tie.close (tie.spec Inv μ (search needs) (λ c. (omega arith, omega arith, omega arith, ahead-start _ _ _)) (search needs) (search needs) (search needs)
+    (search needs) (search needs) (search needs) (search needs) (search needs) (search needs) (search needs) loop-again (search needs)
     (λ c. ahead-end c.before.loop.inv.3 (omega arith)))

@@ -24,5 +24,5 @@ loop-again c =
 
 pub pass-back-spec : {M : Type 1} → own.pass_back.Statement.statement M
 pass-back-spec =
-    tie.close (tie.spec Inv μ (λ c. (omega arith, omega arith, omega arith, back-start _ _ _)) (λ c. omega arith) (λ c. omega arith) (λ c. omega arith) (λ c. omega arith) (λ c. omega arith)
-    (λ c. omega arith) (λ c κs. search needs) (λ c. omega arith) (λ c. omega arith) (λ c. omega arith) loop-again (λ c. omega arith) (λ c. back-end c.before.loop.inv.3 (omega arith)))
+    tie.close (tie.spec Inv μ (λ c. (omega arith, omega arith, omega arith, back-start _ _ _)) (search needs) (search needs) (search needs) (search needs) (search needs)
+    (search needs) (search needs) (search needs) (search needs) (search needs) loop-again (search needs) (λ c. back-end c.before.loop.inv.3 (omega arith)))

@@ -19,5 +19,5 @@ returns c = let e : c.before.loop.n ≡ c.before.before.args.b = omega arith in 
 
 pub reach-ahead-spec : {M : Type 1} → own.reach_ahead.Statement.statement M
 reach-ahead-spec =
-    tie.close (tie.spec Inv μ (λ c. (omega arith, ahead-none _ _)) (λ c κs. omega arith) (λ c κs. search needs) (λ c. omega arith) (λ c. omega arith) loop-again
-    (λ c. search needs) returns)
+    tie.close (tie.spec Inv μ (λ c. (omega arith, ahead-none _ _)) (search needs) (search needs) (search needs) (search needs) loop-again
+    (search needs) returns)

@@ -19,5 +19,5 @@ returns c = let e : c.before.loop.n ≡ c.before.before.args.b = omega arith in 
 
 pub reach-back-spec : {M : Type 1} → own.reach_back.Statement.statement M
 reach-back-spec =
-    tie.close (tie.spec Inv μ (λ c. (omega arith, back-none _ _)) (λ c κs. omega arith) (λ c κs. search needs) (λ c. omega arith) (λ c. omega arith) loop-again
-    (λ c. search needs) returns)
+    tie.close (tie.spec Inv μ (λ c. (omega arith, back-none _ _)) (search needs) (search needs) (search needs) (search needs) loop-again
+    (search needs) returns)

@@ -12,6 +12,6 @@ facts c = let p = c.pre in estimate _ _ (omega arith) p.1.0 p.1.1.0 p.1.1.1 (ome
 
 pub cut-of-spec : {M : Type 1} → own.cut_of.Statement.statement M
 cut-of-spec =
-    tie.close (tie.spec (λ c. search needs) (λ c. omega (arith, product-le (100 * c.args.d) (omega arith) c.pre.1.0 c.pre.1.1.1)) (λ c. omega (arith, facts c .size))
-    (λ c. omega (arith, facts c .next)) (λ c. omega (arith, facts c .next-times)) (λ c. omega (arith, facts c .square-of)) (λ c. search needs)
+    tie.close (tie.spec (search needs) (λ c. omega (arith, product-le (100 * c.args.d) (omega arith) c.pre.1.0 c.pre.1.1.1)) (λ c. omega (arith, facts c .size))
+    (λ c. omega (arith, facts c .next)) (λ c. omega (arith, facts c .next-times)) (λ c. omega (arith, facts c .square-of)) (search needs)
     (λ c. omega (arith, facts c .size, flag-le (leb ((e c + 1) * (e c + 1) * c.args.a) (100 * c.args.d * (100 * c.args.d))))) (λ c. cut-flag (facts c)))

@@ -5,4 +5,4 @@ use own.Normal.{factor-is}
 use own.factor.Tie as tie
 
 pub factor-spec : {M : Type 1} → own.factor.Statement.statement M
-factor-spec = tie.close (tie.spec (λ c. search needs) (λ c κs. search needs) (λ c. rw c.root.ensures (factor-is c.before.pre)))
+factor-spec = tie.close (tie.spec (search needs) (search needs) (λ c. rw c.root.ensures (factor-is c.before.pre)))

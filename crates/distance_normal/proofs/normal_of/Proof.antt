@@ -25,16 +25,14 @@ returns c =
     let a = start c.before .args in
     let t = c.before.cut-of.result in
     let e : c.before.before.if1.d ≡ a.p - a.x = omega (arith, size c.before.before) in
-    let r = diff a.x a.p in
     let n : pos 0 -ℤ pos t ≡ negℤ (pos t) = omega (zarith, z-sub (pos 0) (pos t), z-neg (pos t)) in
-    toZ-ofZ w32 _ (sub-result c) ∙ rw (read _) (n ∙ normal-down _ r (start c.before .pre .1 .1 .0) c.if2.taken (rw e at c.before.cut-of.ensures))
+    toZ-ofZ w32 _ (sub-result c) ∙ rw (read _) (n ∙ normal-down _ (diff a.x a.p) (start c.before .pre .1 .1 .0) c.if2.taken (rw e at c.before.cut-of.ensures))
 
 returns-2 : tie.Need-returns-2
 returns-2 c =
     let a = start c.before .args in
     let e : c.before.before.if1.d ≡ a.x - a.p = omega (arith, size c.before.before) in
-    let r = diff a.x a.p in
-    read c.before ∙ normal-up _ r (start c.before .pre .1 .1 .0) c.if2.left (rw e at c.before.cut-of.ensures)
+    read c.before ∙ normal-up _ (diff a.x a.p) (start c.before .pre .1 .1 .0) c.if2.left (rw e at c.before.cut-of.ensures)
 
 pub normal-of-spec : {M : Type 1} → own.normal_of.Statement.statement M
-normal-of-spec = tie.close (tie.spec (λ c. search needs) (λ c κs. (omega (arith, size c), c.before.pre.1.1)) (λ c. omega (zmach32, small c)) sub-result returns returns-2)
+normal-of-spec = tie.close (tie.spec (search needs) (λ c κs. (omega (arith, size c), c.before.pre.1.1)) (λ c. omega (zmach32, small c)) sub-result returns returns-2)

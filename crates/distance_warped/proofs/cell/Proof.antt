@@ -7,6 +7,6 @@ use own.Tie as tie
 
 pub cell-spec : {M : Type 1} → own.Statement.statement M
 cell-spec =
-    tie.close (tie.spec (λ c κs. search needs) (λ c κs. search needs) (λ c κs. let p = c.before.before.pre.1 in (in-arg p.0, in-arg p.1))
+    tie.close (tie.spec (search needs) (search needs) (λ c κs. let p = c.before.before.pre.1 in (in-arg p.0, in-arg p.1))
     (λ c. let p = c.before.before.before.pre.1 in omega (arith, c.squared.ensures, cost-back p.0 p.1, cost-le p.0 p.1))
     (λ c. let p = c.before.before.before.pre.1 in omega (arith, c.squared.ensures, cost-back p.0 p.1)))

@@ -19,10 +19,7 @@ abbrev μ : tie.MeasureT-loop
 loop-holds : tie.Need-loop-holds Inv μ
 loop-holds c =
     let o = c.before.before.before.before.before.before.before in
-    let S = stretch o.args.s.now o.args.from in
-    let Q = at o.args.q.now in
-    let r = c.before.before.before.before.fill-row in
-    (omega arith, refl, omega arith, first-start S Q _ _ _ r.ensures, sym (before-none 0 _), omega arith)
+    (omega arith, refl, omega arith, first-start (stretch o.args.s.now o.args.from) (at o.args.q.now) _ _ _ c.before.before.before.before.fill-row.ensures, sym (before-none 0 _), omega arith)
 
 -- a turn
 module _ (l : tie.At-loop Inv μ) where

@@ -46,7 +46,6 @@ told : (c : tie.After-cell Inv μ) → let l = c.before.before.before.before in
     c.cell.result ≡ cells (S l) (Q l) (o l .args .b) (o l .args .i + 1) l.loop.j
 told c =
     let l = c.before.before.before.before in
-    let f = cells (S l) (Q l) (o l .args .b) in
     let i = o l .args .i in
     let j = l.loop.j in
     let v = l.loop.inv in
@@ -55,7 +54,7 @@ told c =
       c.cell.ensures,
       cost-back (o l .pre .1 .1 .0 .0 .at (o l .args .from + (i + 1))) (o l .pre .1 .1 .0 .1 .at j),
       next-cell (S l) (Q l) (o l .args .b) (small l) i j (omega arith) (record { first = omega arith; second = omega arith }),
-      v.4.rest (j + 1) (omega arith) (omega arith) ∙ before-more big (f i) j,
+      v.4.rest (j + 1) (omega arith) (omega arith) ∙ before-more big ((cells (S l) (Q l) (o l .args .b)) i) j,
       v.5,
       v.6,
     )
@@ -69,7 +68,6 @@ cell-requires c κs =
 loop-again : tie.Need-loop-again Inv μ
 loop-again c =
     let l = c.before.before.before.before.before in
-    let i = o l .args .i in
     let j = l.loop.j in
     let v = l.loop.inv in
     let here : j + 1 < length l.loop.row = omega arith in
@@ -81,7 +79,7 @@ loop-again c =
       halfway-more _ v.4 here new,
       v.4.rest (j + 1) (omega arith) (omega arith),
       new ∙ sym (before-more big _ j),
-      rw c.lesser.ensures (least-more (S l) (Q l) _ (small l) (i + 1) _ j _ _ new v.7),
+      rw c.lesser.ensures (least-more (S l) (Q l) _ (small l) ((o l .args .i) + 1) _ j _ _ new v.7),
     )
 
 returns : tie.Need-returns Inv μ
@@ -94,6 +92,6 @@ returns c =
 
 pub next-row-spec : {M : Type 1} → own.next_row.Statement.statement M
 next-row-spec =
-    tie.close (tie.spec Inv μ (λ c. omega arith) (λ c. omega arith) (λ c. omega arith) (λ c. omega arith) (λ c κs. search needs) (λ c κs. omega arith) (λ c. omega arith) (λ c. omega arith)
-    (λ c. omega arith) (λ c. omega arith) loop-holds (λ c. omega arith) (λ c. omega arith) (λ c. omega arith) (λ c. omega arith) (λ c. omega arith) cell-requires (λ c κs. search needs)
-    (λ c. omega arith) (λ c. omega arith) (λ c. omega arith) (λ c. omega arith) loop-again (λ c. c.before.loop.inv.2 ∙ simp length-set) returns)
+    tie.close (tie.spec Inv μ (search needs) (search needs) (search needs) (search needs) (search needs) (search needs) (search needs) (search needs)
+    (search needs) (search needs) loop-holds (search needs) (search needs) (search needs) (search needs) (search needs) cell-requires (search needs)
+    (search needs) (search needs) (search needs) (search needs) loop-again (λ c. c.before.loop.inv.2 ∙ simp length-set) returns)

@@ -22,13 +22,13 @@ returns : tie.Need-returns
 returns c =
     let o = c.before.before.before.before in
     c.near-enough.ensures ∙ within-answer c.before.straight.ensures
-    ∙ ap (λ (d : ℕ). nearness d o.args.threshold) (straight-distance (S o) (Q o) (m o) (omega arith))
+    ∙ ap (λ d. nearness d o.args.threshold) (straight-distance (S o) (Q o) (m o) (omega arith))
 
 returns-2 : tie.Need-returns-2
 returns-2 c =
     let o = c.before.before.before.before.before.before.before in
     c.near-enough2.ensures ∙ within-answer c.before.before.before.warped-in.ensures
-    ∙ ap (λ (d : ℕ). nearness d o.args.threshold) (sym (distance-is (S o) (Q o) _ (m o) o.pre.1.0.0))
+    ∙ ap (λ d. nearness d o.args.threshold) (sym (distance-is (S o) (Q o) _ (m o) o.pre.1.0.0))
 
 pub compare-spec : {M : Type 1} → own.compare.Statement.statement M
-compare-spec = tie.close (tie.spec (λ c κs. search needs) (λ c κs. search needs) returns (λ c κs. search needs) (λ c κs. search needs) (λ c. search needs) returns-2)
+compare-spec = tie.close (tie.spec (λ c κs. search needs) (search needs) returns (λ c κs. search needs) (search needs) (search needs) returns-2)

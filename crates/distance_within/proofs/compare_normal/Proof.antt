@@ -50,16 +50,14 @@ returns c =
 compare-requires : tie.Need-compare-requires
 compare-requires c κs =
     let w = c.before.before.before.before in
-    let n = made w .made c.before.before.if1.left in
     let p = o w .pre in
-    (search needs, ((p.1.0.0, p.0.short, p.1.1.0.1), ((normalised-in (some w) p.0.short n, p.1.0.1), p.1.1.1)))
+    (search needs, ((p.1.0.0, p.0.short, p.1.1.0.1), ((normalised-in (some w) p.0.short (made w .made c.before.before.if1.left), p.1.0.1), p.1.1.1)))
 
 returns-2 : tie.Need-returns-2
 returns-2 c =
     let w = c.before.before.before.before.before.before.before in
-    let n = made w .made c.before.before.before.before.before.if1.left in
     c.before.before.compare.ensures
-    ∙ rw (distance-same _ (o w .pre .1 .0 .0) (normal-room n) (same-self (m w) _))
+    ∙ rw (distance-same _ (o w .pre .1 .0 .0) (normal-room (made w .made c.before.before.before.before.before.if1.left)) (same-self (m w) _))
 
 pub compare-normal-spec : {M : Type 1} → own.compare_normal.Statement.statement M
-compare-normal-spec = tie.close (tie.spec normalise-within-requires (λ c. search needs) returns compare-requires (λ c. search needs) (λ c. search needs) returns-2)
+compare-normal-spec = tie.close (tie.spec normalise-within-requires (search needs) returns compare-requires (search needs) (search needs) returns-2)

@@ -98,10 +98,10 @@ pub normalise-within-spec : {M : Type 1} → own.normalise_within.Statement.stat
 normalise-within-spec =
     tie.close (tie.spec Inv μ (λ c κs. c.pre.0.some) (λ c. (omega arith, record { long = refl; at = λ k h. absurd (omega arith) }, made-none _ _)) (λ c. c.loop.inv.0)
     (λ c κs. let u = c.before in asks u.before 16 (omega (arith, u.loop-test.taken, u.before.loop.inv.0))) (λ c. omega (arith, ready (l c.before) .short))
-    (λ c. let w = c.before in omega (arith, fits w)) (λ c. let w = c.before.before in sym (long (l w) 16 _ refl (fits w) w.normalise-part.ensures))
+    (λ c. omega (arith, fits c.before)) (λ c. let w = c.before.before in sym (long (l w) 16 _ refl (fits w) w.normalise-part.ensures))
     (λ c κs. let w = c.before.before in reads (l w) 16 _ refl (fits w) w.normalise-part.ensures)
     (λ c. let w = c.before.before.before in omega (arith, adds w c.envelope-part.ensures .small, fits w, ready (l w) .short)) (λ c. made c.before.before.before.before .long) returns
-    (λ c. omega arith) (λ c. let w = c.before.before.before.before in (fits w, made w, adds w c.before.envelope-part.ensures)) (λ c. c.before.loop.inv.0) (λ c κs. let l = c.before.before in asks l _ (omega arith))
+    (λ c. omega arith) (λ c. let w = c.before.before.before.before in (fits w, made w, adds w c.before.envelope-part.ensures)) (λ c. c.before.loop.inv.0) (λ c κs. asks c.before.before _ (omega arith))
     (λ c. omega arith) (λ c. let w = c.before.before in sym (long (l₂ w) _ (m (l₂ w)) (whole w) (omega arith) w.normalise-part2.ensures))
     (λ c. l₂ c.before.before .loop .inv .0) (λ c κs. let w = c.before.before in reads (l₂ w) _ _ (whole w) (omega arith) w.normalise-part2.ensures)
     (λ c. let w = c.before.before.before in omega (arith, adds₂ w c.envelope-part2.ensures .small, ready (l₂ w) .short)) (λ c. made₂ c.before.before.before .long) returns-2)

@@ -1,6 +1,6 @@
 -- `audit_chunk`. The invariant of each loop: what is filed wrongly first among what is left to audit is what is filed wrongly first in the chunk, and nothing is filed wrongly so far; of the innermost loop, besides, that the part is the sum of the offset's window but for its last value.
 -- The measures are how many rows, runs and offsets are left.
-use Rattle.meaning_numbers.proofs.Prelude.{needs, not-true, not-false, _≡_, sym, _∙_, true, List, Option, none, some, ℕ, _+_, _-_, _<_, _≤_, arith, length, getD, drop, w32, toZ, ofZ, toZ-ofZ, ℤ}
+use Rattle.meaning_numbers.proofs.Prelude.{needs, not-true, not-false, _≡_, sym, _∙_, true, List, Option, none, ℕ, _+_, _-_, _<_, _≤_, arith, length, getD, drop, w32, toZ, ofZ, toZ-ofZ, ℤ}
 use Rattle.meaning_curves.specs.Curve.{windowSum}
 use Rattle.meaning_rows.specs.{declared.Row.Row, Range.inside}
 use Rattle.rows_records.specs.Records.{zeroRow}
@@ -138,8 +138,7 @@ returns c =
 
 sub-rest : tie.Need-sub-rest Inv-offsets μ-offsets Inv-runs μ-runs Inv-rows μ-rows
 sub-rest c =
-    let s = c.before.before.before.before.before in
-    let y = s.pre (not-false _ c.before.if1.left) in
+    let y = c.before.before.before.before.before.pre (not-false _ c.before.if1.left) in
     omega arith
 
 rows-holds : tie.Need-rows-holds Inv-offsets μ-offsets Inv-runs μ-runs Inv-rows μ-rows
@@ -151,8 +150,7 @@ rows-holds c =
 runs-holds : tie.Need-runs-holds Inv-offsets μ-offsets Inv-runs μ-runs Inv-rows μ-rows
 runs-holds c =
     let a = c.before.before.before.before in
-    let h = c.before.before.before.rows-test.taken in
-    (omega arith, omega arith, a.rows.inv.1, row-begins (series a) (w a) (left a) (right a) (from a) (chunk a) a.rows.k (omega (arith, h)) ∙ a.rows.inv.2)
+    (omega arith, omega arith, a.rows.inv.1, row-begins (series a) (w a) (left a) (right a) (from a) (chunk a) a.rows.k (omega (arith, c.before.before.before.rows-test.taken)) ∙ a.rows.inv.2)
 
 part-sum-requires : tie.Need-part-sum-requires Inv-offsets μ-offsets Inv-runs μ-runs Inv-rows μ-rows
 part-sum-requires c κs =
@@ -176,9 +174,8 @@ value-in-requires : tie.Need-value-in-requires Inv-offsets μ-offsets Inv-runs �
 value-in-requires c κs =
     let b = c.before in
     let a = up-offsets b in
-    let h = b.before.before.before.before.runs-test.taken in
     let y = ready (up-runs a) in
-    (omega (arith, below a h, c.offsets-test.taken, y.least), (omega arith, (y.values, b.offsets.inv.2)))
+    (omega (arith, below a b.before.before.before.before.runs-test.taken, c.offsets-test.taken, y.least), (omega arith, (y.values, b.offsets.inv.2)))
 
 add-row : tie.Need-add-row Inv-offsets μ-offsets Inv-runs μ-runs Inv-rows μ-rows
 add-row c =
@@ -190,16 +187,14 @@ value-out-requires : tie.Need-value-out-requires Inv-offsets μ-offsets Inv-runs
 value-out-requires c κs =
     let b = here c.before in
     let a = up-offsets b in
-    let h = b.before.before.before.before.runs-test.taken in
     let y = ready (up-runs a) in
-    (omega (arith, below a h, c.before.before.before.before.before.offsets-test.taken, y.least), (omega arith, (y.values, filed c.before)))
+    (omega (arith, below a b.before.before.before.before.runs-test.taken, c.before.before.before.before.before.offsets-test.taken, y.least), (omega arith, (y.values, filed c.before)))
 
 add-j : tie.Need-add-j Inv-offsets μ-offsets Inv-runs μ-runs Inv-rows μ-rows
 add-j c =
     let b = here c.before.before in
     let a = up-offsets b in
-    let h = b.before.before.before.before.runs-test.taken in
-    omega (arith, below a h, c.before.before.before.before.before.before.offsets-test.taken, start (up-runs a) .good)
+    omega (arith, below a b.before.before.before.before.runs-test.taken, c.before.before.before.before.before.before.offsets-test.taken, start (up-runs a) .good)
 
 offsets-again : tie.Need-offsets-again Inv-offsets μ-offsets Inv-runs μ-runs Inv-rows μ-rows
 offsets-again c =
@@ -211,35 +206,33 @@ offsets-again c =
       omega (arith, t),
       b.offsets.inv.1,
       toZ-ofZ w32 c.value-out.result (record { sfits = c.value-out.ok }) ∙ c.value-out.ensures,
-      filed-right (series o) (w o) (left o) (right o) (from o + o.rows.k) (r o) _ (last a) _ (end a) (after a) t (sym (told g) ∙ not-false _ c.before.if2.left) ∙ b.offsets.inv.3,
+      filed-right _ (w o) _ _ _ (r o) _ _ _ (end a) _ t (sym (told g) ∙ not-false _ c.before.if2.left) ∙ b.offsets.inv.3,
     )
 
 runs-again : tie.Need-runs-again Inv-offsets μ-offsets Inv-runs μ-runs Inv-rows μ-rows
 runs-again c =
     let b = c.before in
     let a = up-offsets b in
-    let o = up-runs a in
-    let h = b.before.before.before.before.runs-test.taken in (
+    let o = up-runs a in (
       omega arith,
-      omega (arith, h),
+      omega (arith, b.before.before.before.before.runs-test.taken),
       b.offsets.inv.1,
-      run-ends (series o) (w o) (left o) (right o) _ (r o) _ (last a) _ (end a) (after a) c.offsets-test.left ∙ b.offsets.inv.3,
+      run-ends _ (w o) _ (right o) _ (r o) _ (last a) _ (end a) (after a) c.offsets-test.left ∙ b.offsets.inv.3,
     )
 
 rows-again : tie.Need-rows-again Inv-offsets μ-offsets Inv-runs μ-runs Inv-rows μ-rows
 rows-again c =
     let a = c.before in
     let o = up-runs a in
-    let h = a.before.before.before.before.rows-test.taken in
-    (omega (arith, h), a.runs.inv.2, row-ends (series o) (w o) (left o) (right o) _ (r o) a.runs.i (end a) (after a) c.runs-test.left ∙ a.runs.inv.3)
+    (omega (arith, a.before.before.before.before.rows-test.taken), a.runs.inv.2, row-ends (series o) (w o) (left o) (right o) _ (r o) a.runs.i (end a) (after a) c.runs-test.left ∙ a.runs.inv.3)
 
 returns-2 : tie.Need-returns-2 Inv-offsets μ-offsets Inv-runs μ-runs Inv-rows μ-rows
 returns-2 c =
     let o = c.before in
     let s = start o in
     still-found o.rows.go o.rows.row o.rows.offset o.rows.inv.1
-    ∙ chunk-found (series o) s.args.head (left o) (right o) s.args.s (from o) (chunk o) (goes o) none
-    (none-left (series o) (w o) (left o) (right o) (from o + o.rows.k) (chunk o) o.rows.k (omega arith) ∙ o.rows.inv.2)
+    ∙ chunk-found _ s.args.head _ _ s.args.s _ _ (goes o) none
+    (none-left _ (w o) _ _ _ _ o.rows.k (omega arith) ∙ o.rows.inv.2)
 
 returns-3 : tie.Need-returns-3 Inv-offsets μ-offsets Inv-runs μ-runs Inv-rows μ-rows
 returns-3 c =
@@ -248,10 +241,9 @@ returns-3 c =
     let o = up-runs a in
     let s = start o in
     let n = from o + o.rows.k in
-    let t = c.before.before.before.before.before.offsets-test.taken in
     wrong-found n b.offsets.j
-    ∙ chunk-found (series o) s.args.head (left o) (right o) s.args.s (from o) (chunk o) (goes o) (some (n, b.offsets.j))
-    (filed-wrong (series o) (w o) (left o) (right o) n (r o) b.offsets.j (last a) _ (end a) (after a) t (sym (told c.before) ∙ not-true _ c.if2.taken) ∙ b.offsets.inv.3)
+    ∙ chunk-found _ s.args.head _ _ s.args.s _ _ (goes o) _
+    (filed-wrong _ (w o) _ _ n (r o) b.offsets.j _ _ (end a) _ c.before.before.before.before.before.offsets-test.taken (sym (told c.before) ∙ not-true _ c.if2.taken) ∙ b.offsets.inv.3)
 
 pub audit-chunk-spec : {M : Type 1} → own.audit_chunk.Statement.statement M
 audit-chunk-spec =

@@ -13,7 +13,7 @@ module _ (c : tie.After-x) where
   sum-is = toZ-ofZ w32 _ (record { sfits = c.before.window-sum.ok }) ∙ c.before.window-sum.ensures
 
 returns : tie.Need-returns
-returns c = let a = o c .args in out-sum (a.rest + 1) a.j (o c .pre .1 .1) (omega arith) (sum-is c) _ ∙ but-last a.s.now a.rest a.j
+returns c = let a = o c .args in out-sum _ a.j (o c .pre .1 .1) (omega arith) (sum-is c) _ ∙ but-last a.s.now a.rest a.j
 
 pub part-sum-spec : {M : Type 1} → own.Statement.statement M
-part-sum-spec = tie.close (tie.spec (search needs) (λ c κs. search needs) (search needs) (search needs) (search needs) (λ c. let a = o c .args in out-fits (a.rest + 1) a.j (o c .pre .1 .1) (omega arith) (sum-is c) _) returns)
+part-sum-spec = tie.close (tie.spec (search needs) (λ c κs. search needs) (search needs) (search needs) (search needs) (λ c. let a = o c .args in out-fits _ a.j (o c .pre .1 .1) (omega arith) (sum-is c) _) returns)

@@ -1,5 +1,5 @@
 -- `value_in` (`window-last`); nothing wraps, as no window's sum is large (`in-fits`).
-use Rattle.meaning_numbers.proofs.Prelude.{needs, _≡_, _∙_, _+_, arith, w32, toZ, ofZ, toZ-ofZ}
+use Rattle.meaning_numbers.proofs.Prelude.{needs, _≡_, _∙_, arith, w32, toZ, ofZ, toZ-ofZ}
 use Rattle.meaning_curves.specs.Curve.{windowSum}
 use Rattle.values.proofs.Window.{in-fits, in-sum, window-last}
 use Rattle.entry_audit.proofs.value_in as own
@@ -16,4 +16,4 @@ returns : tie.Need-returns
 returns c = let a = o c .args in in-sum a.rest a.j (o c .pre .1 .1 .0) (omega arith) (sum-is c) _ ∙ window-last a.s.now a.rest a.j
 
 pub value-in-spec : {M : Type 1} → own.Statement.statement M
-value-in-spec = tie.close (tie.spec (search needs) (search needs) (search needs) (λ c. let a = o c .args in in-fits a.rest a.j (o c .pre .1 .1 .0) (omega arith) (sum-is c) (a.j + a.rest)) returns)
+value-in-spec = tie.close (tie.spec (search needs) (search needs) (search needs) (λ c. let a = o c .args in in-fits a.rest a.j (o c .pre .1 .1 .0) (omega arith) (sum-is c) _) returns)

@@ -13,7 +13,7 @@ module _ (c : tie.After-x) where
   sum-is = toZ-ofZ w32 o.args.sum o.fits.sum ∙ o.pre.1.1.1
 
 returns : tie.Need-returns
-returns c = let a = o c .args in out-sum (a.rest + 1) a.j (o c .pre .1 .1 .0) (omega arith) (sum-is c) a.j ∙ but-first a.s.now a.rest a.j
+returns c = let a = o c .args in out-sum _ a.j (o c .pre .1 .1 .0) (omega arith) (sum-is c) a.j ∙ but-first a.s.now a.rest a.j
 
 pub value-out-spec : {M : Type 1} → own.Statement.statement M
-value-out-spec = tie.close (tie.spec (search needs) (search needs) (λ c. let a = o c .args in out-fits (a.rest + 1) a.j (o c .pre .1 .1 .0) (omega arith) (sum-is c) a.j) returns)
+value-out-spec = tie.close (tie.spec (search needs) (search needs) (λ c. let a = o c .args in out-fits _ a.j (o c .pre .1 .1 .0) (omega arith) (sum-is c) a.j) returns)

@@ -7,11 +7,11 @@ use own.Tie as tie
 
 returns : tie.Need-returns
 unfolding planScanned
-returns c = let l = c.before in let a = l.before.before in let s = a.before.before in let b = s.before.before in let e = sym s.scan.ensures ∙ a.at.given.1 in c.refused.ensures ∙ (rw l.bad-line.ensures refl) ∙ sym (ap (planScanned _ _ _) e)
+returns c = let l = c.before in let a = l.before.before in c.refused.ensures ∙ (rw l.bad-line.ensures refl) ∙ sym (ap (planScanned _ _ _) (sym a.before.before.scan.ensures ∙ a.at.given.1))
 
 returns-2 : tie.Need-returns-2
 unfolding planScanned
-returns-2 c = let a = c.before.before in let s = a.before.before in let b = s.before.before in let e = sym s.scan.ensures ∙ a.head.given.1 in c.plan-fine.ensures ∙ sym (ap (planScanned _ _ _) e)
+returns-2 c = let a = c.before.before in c.plan-fine.ensures ∙ sym (ap (planScanned _ _ _) (sym a.before.before.scan.ensures ∙ a.head.given.1))
 
 pub make-plan-spec : {M : Type 1} → own.Statement.statement M
 make-plan-spec = tie.close (tie.spec (search needs) (search needs) (search needs) (search needs) (search needs) (search needs) returns returns-2)

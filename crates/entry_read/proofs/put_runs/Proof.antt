@@ -20,16 +20,14 @@ abbrev μ : tie.MeasureT-loop
 
 loop-again : tie.Need-loop-again Inv μ
 loop-again c =
-    let p3 = c.before.before.before.before.before.before.before.before in
     let p4 = c.before.before.before in
     let n = c.before.before.before.before.before.before.before.before.before.before in
     let l = c.before.before.before.before.before.before.before.before.before.before.before.before.before in
     let q = c.before.before.before.before.before.before.before.before.before.before.before.before.plain-run.result in
     let p = c.before.before.before.before.before.before.before.before.before.before.before.before.plain-run.ensures (omega arith) in
-    let e1 = rw n.run-left.ensures at p3.put3.ensures in
-    let e2 = rw p4.before.run-right.ensures at p4.put4.ensures in
+    let e1 = rw n.run-left.ensures at c.before.before.before.before.before.before.before.before.put3.ensures in
     let t : Columns = record { left = l.loop.last; count = l.loop.n; lefts = l.loop.left; rights = l.loop.right } in
-    rw (e1, e2, n.run-left.ensures, c.run-length.ensures)
+    rw (e1, (rw p4.before.run-right.ensures at p4.put4.ensures), n.run-left.ensures, c.run-length.ensures)
     (omega (arith, run-up p.run .0, l.loop.inv.0), search needs, rw (run-stored (leftOf q) (rightOf q) t (omega arith) (omega arith)) at (one l.loop.inv.2 p.run), length-set l.loop.left l.loop.n (leftOf q) ∙ l.loop.inv.3, length-set l.loop.right l.loop.n (rightOf q) ∙ l.loop.inv.4)
 
 pub put-runs-spec : {M : Type 1} → own.put_runs.Statement.statement M

@@ -18,4 +18,4 @@ written : (r : Refusal) (n : ℕ) → r.number ≡ 0 → Written.Text n ≡ answ
 written r n z = rw (eq-eqb _ 0 z) refl
 
 pub answer-spec : {M : Type 1} → own.Statement.statement M
-answer-spec = tie.close (tie.spec (λ c κs. search needs) (λ c. let r = c.before.before in refused _ _ c.if1.taken ∙ by r) (λ c. let r = c.before.before in written r.refuse-write.result _ c.if1.left ∙ by r))
+answer-spec = tie.close (tie.spec (search needs) (λ c. refused _ _ c.if1.taken ∙ by c.before.before) (λ c. let r = c.before.before in written r.refuse-write.result _ c.if1.left ∙ by r))

@@ -13,4 +13,4 @@ unfolding isRefused
 returns-2 c = search needs
 
 pub is-refused-spec : {M : Type 1} → own.Statement.statement M
-is-refused-spec = tie.close (tie.spec (λ c. search needs) (λ c. search needs) returns returns-2)
+is-refused-spec = tie.close (tie.spec (search needs) (search needs) returns returns-2)

@@ -10,8 +10,7 @@ returns : tie.Need-returns
 unfolding tableOf bufferShort
 returns c =
     let short = c.before in
-    let a = short.before.before.args in
-    place-before _ _ (line-before 23 {b = ltb _ a.n} _ _ short.before.unrefused.ensures refl short.refuse-if.ensures) c.refuse-judged.ensures
+    place-before _ _ (line-before 23 {b = ltb _ short.before.before.args.n} _ _ short.before.unrefused.ensures refl short.refuse-if.ensures) c.refuse-judged.ensures
 
 pub refuse-write-spec : {M : Type 1} → own.Statement.statement M
-refuse-write-spec = tie.close (tie.spec (λ c κs. search needs) (λ c κs. search needs) (λ c κs. search needs) returns)
+refuse-write-spec = tie.close (tie.spec (search needs) (search needs) (search needs) returns)

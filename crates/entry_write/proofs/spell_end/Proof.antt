@@ -10,4 +10,4 @@ returns c =
     ended-stored w.before.before.if1.taken w.write-end.ensures c.before.before.clear-u8.ensures
 
 pub spell-end-spec : {M : Type 1} → own.spell_end.Statement.statement M
-spell-end-spec = tie.close (tie.spec (λ c κs. search needs) (λ c κs. search needs) (λ c. search needs) returns (λ c κs. search needs) (λ c. search needs))
+spell-end-spec = tie.close (tie.spec (search needs) (search needs) (search needs) returns (search needs) (λ c. search needs))

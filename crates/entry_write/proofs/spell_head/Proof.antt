@@ -6,4 +6,4 @@ use own.spell_head.Tie as tie
 
 pub spell-head-spec : {M : Type 1} → own.spell_head.Statement.statement M
 spell-head-spec =
-    tie.close (tie.spec (λ c κs. search needs) (λ c. search needs) (λ c. spelled-stored c.before.before.before.before.if1.taken c.before.before.write-head.ensures) (λ c κs. search needs) (λ c. search needs))
+    tie.close (tie.spec (search needs) (search needs) (λ c. spelled-stored c.before.before.before.before.if1.taken c.before.before.write-head.ensures) (search needs) (λ c. search needs))

@@ -45,7 +45,7 @@ module _ (c : tie.After-find-above Inv μ) where
       ∙ sym (row-new _ _ _ _ _ _ _ l.loop.inv.0)
 
   below : c.find-above.result < o.args.count
-  below = subst (λ (k : ℕ). k < o.args.count)
+  below = subst (λ k. k < o.args.count)
       (sym (c.find-above.ensures ∙ ap (rank _ _) (l.loop.inv.2 c.before.loop-test.taken)))
       (o.pre.has-row l.loop.j l.loop.inv.0 c.before.loop-test.taken)
 
@@ -75,17 +75,15 @@ module _ (c : tie.After-next-out Inv μ) where
   run : RowRun (row f) (windowsOf (o f .args .s .now) (o f .args .w)) (l f .loop .j) c.next-out.result.offset
   run =
       let a = o f .args in
-      let low = c.before.before.start-of.ensures ∙ ap (startOf _) (is-row f) in
-      let up = ap (λ (k : ℕ). getD a.ups.now k 0) (is-row f) in
       next-run _ a.w a.e _ _ _ (o f .pre .has-row) (o f .pre .climbing) {z = c.next-out.result.level} (l f .loop .inv .0) f.before.loop-test.taken
-      (rw (← low, ← up) c.next-out.ensures)
+      (rw (← (c.before.before.start-of.ensures ∙ ap (startOf _) (is-row f)), ← (ap (λ k. getD a.ups.now k 0) (is-row f))) c.next-out.ensures)
 
 loop-again : tie.Need-loop-again Inv μ
 loop-again c =
     let a = o (f c) .args in
     let v = l (f c) .loop .inv in
     let h = run c in
-    let turn = counted-turn _ a.w a.e _ _ _ h v.3 (subst (λ (k : ℕ). k < a.count) (is-row (f c)) (below (f c))) (omega arith) v.4 in (
+    let turn = counted-turn _ a.w a.e _ _ _ h v.3 (subst (λ k. k < a.count) (is-row (f c)) (below (f c))) (omega arith) v.4 in (
       omega arith,
       h.below,
       λ _. c.next-out.ensures.sum,

@@ -12,31 +12,26 @@ abbrev μ : tie.MeasureT-loop
 
 loop-again : tie.Need-loop-again Inv μ
 loop-again c =
-    let l = c.before.before.before in
-    let o = l.before in
-    let m = l.loop.lo + (l.loop.hi - l.loop.lo) / 2 in (
+    let l = c.before.before.before in (
       omega arith,
       l.loop.inv.1,
-      λ i b. omega (arith, o.pre.1.up i m (omega arith) (omega arith), c.if1.taken),
+      λ i b. omega (arith, l.before.pre.1.up i (l.loop.lo + (l.loop.hi - l.loop.lo) / 2) (omega arith) (omega arith), c.if1.taken),
       l.loop.inv.3,
     )
 
 loop-again-2 : tie.Need-loop-again-2 Inv μ
 loop-again-2 c =
-    let l = c.before.before.before in
-    let o = l.before in
-    let m = l.loop.lo + (l.loop.hi - l.loop.lo) / 2 in (
+    let l = c.before.before.before in (
       omega arith,
       omega arith,
       l.loop.inv.2,
-      λ i a b. omega (arith, o.pre.1.up m i a b, c.if1.left),
+      λ i a b. omega (arith, l.before.pre.1.up (l.loop.lo + (l.loop.hi - l.loop.lo) / 2) i a b, c.if1.left),
     )
 
 returns : tie.Need-returns Inv μ
 returns c =
     let l = c.before.loop in
-    let a = c.before.before.args in
-    sym (rank-is _ _ a.n l.lo (omega arith) l.inv.2 (λ i h b. l.inv.3 i (omega arith) b))
+    sym (rank-is _ _ c.before.before.args.n l.lo (omega arith) l.inv.2 (λ i h b. l.inv.3 i (omega arith) b))
 
 pub find-above-spec : {M : Type 1} → own.find_above.Statement.statement M
 find-above-spec =

@@ -15,11 +15,11 @@ add-result-2 c = let a = c.before.before.before.before.args in omega (arith, c.s
 
 returns : tie.Need-returns
 unfolding lastEnds
-returns c = let a = c.before.before.before.args in rw (lt-leb 1 a.r.runs (omega (arith, c.if1.taken)))
+returns c = rw (lt-leb 1 c.before.before.before.args.r.runs (omega (arith, c.if1.taken)))
 
 returns-2 : tie.Need-returns-2
 unfolding lastEnds
 returns-2 c = let a = c.before.before.before.before.args in rw (le-leb 1 _ (one _ c.before.if1.left))
 
 pub last-ends-spec : {M : Type 1} → own.Statement.statement M
-last-ends-spec = tie.close (tie.spec (λ c. search needs) (λ c. search needs) (λ c. search needs) (λ c. search needs) (λ c. search needs) (λ c. search needs) cast-result add-result-2 returns returns-2)
+last-ends-spec = tie.close (tie.spec (search needs) (search needs) (search needs) (search needs) (search needs) (search needs) cast-result add-result-2 returns returns-2)

@@ -9,4 +9,4 @@ unfolding level
 is-level c = rw c.raised-sum.ensures
 
 pub level-at-spec : {M : Type 1} → own.Statement.statement M
-level-at-spec = tie.close (tie.spec (λ c. search needs) (λ c. search needs) (λ c κs. search needs) (λ c. let o = c.before.before in omega (arith, is-level c, level-small o.args.j o.pre)) (λ c. λ l. is-level c) (λ c. search needs))
+level-at-spec = tie.close (tie.spec (search needs) (search needs) (λ c κs. search needs) (λ c. let o = c.before.before in omega (arith, is-level c, level-small o.args.j o.pre)) (λ c. λ l. is-level c) (search needs))

@@ -12,4 +12,4 @@ returns c =
     λ k. record { low = low k; up = up k; first = first k; runs = getD o.args.ends.now o.args.i 0 - first k }
 
 pub with-part-spec : {M : Type 1} → own.Statement.statement M
-with-part-spec = tie.close (tie.spec (λ c κs. search needs) (λ c. search needs) (λ c. search needs) (λ c. search needs) returns)
+with-part-spec = tie.close (tie.spec (search needs) (search needs) (search needs) (search needs) returns)

@@ -1,5 +1,5 @@
 -- `write_part`. The invariant: the first numbers are copied (`paste-suc`).
-use Rattle.meaning_numbers.proofs.Prelude.{_≡_, ap, _∙_, ℕ, _-_, _≤_, arith, List, length, getD, set, length-set, paste, paste-zero, length-paste, lt-ltb, le-ltb}
+use Rattle.meaning_numbers.proofs.Prelude.{_≡_, ap, _∙_, _-_, _≤_, arith, length, getD, set, length-set, paste, paste-zero, length-paste, lt-ltb, le-ltb}
 use Rattle.extend_parts.specs.Copy.{written}
 use Rattle.extend_parts.proofs as own
 use own.Copy.{paste-more}
@@ -17,7 +17,7 @@ loop-again c =
     let a = l.before.args in
     let t = l.loop.t in (
       omega arith,
-      ap (λ (m : List ℕ). set m t (getD a.numbers.now t 0)) l.loop.inv.1
+      ap (λ m. set m t (getD a.numbers.now t 0)) l.loop.inv.1
           ∙ paste-more a.part.now _ t (omega arith) (omega arith),
     )
 
@@ -42,8 +42,7 @@ returns-2 c = let a = o c.before .args in rw (le-ltb a.n a.size c.if1.left) (all
 
 still : (c : tie.At-loop Inv μ) → length c.loop.part ≡ length c.before.args.part.now
 still c =
-    let a = c.before.args in
-    ap length c.loop.inv.1 ∙ length-paste a.part.now 0 _ c.loop.t (omega arith) (omega arith)
+    ap length c.loop.inv.1 ∙ length-paste c.before.args.part.now 0 _ c.loop.t (omega arith) (omega arith)
 
 pub write-part-spec : {M : Type 1} → own.write_part.Statement.statement M
 write-part-spec =

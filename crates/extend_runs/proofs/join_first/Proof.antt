@@ -69,9 +69,9 @@ returns c =
 
 pub join-first-spec : {M : Type 1} → own.join_first.Statement.statement M
 join-first-spec =
-    tie.close (tie.spec (λ c κs. (search needs, search needs)) (λ c. search needs)
-    (λ c. search needs)
+    tie.close (tie.spec (λ c κs. (search needs, search needs)) (search needs)
+    (search needs)
     (λ c κs. let q = c.before.before.before.before.pre.1 in (search needs, rw (low-read _ q.small) (q.small.least, omega (zarith, q.small.order, q.small.most))))
     (λ c κs. let q = c.before.before.before.before.before.before.pre.1 in (search needs, rw (up-read _ q.small) (omega (zarith, q.small.least, q.small.order), q.small.most)))
-    (λ c κs. let q = c.before.before.before.before.before.before.before.pre.1 in q.lent.fits) (λ c κs. search needs) (λ c κs. search needs) (λ c. search needs) (λ c. search needs)
-    (λ c. search needs) (λ c. search needs) (λ c. search needs) join-run-requires (λ c. search needs) returns)
+    (λ c κs. c.before.before.before.before.before.before.before.pre.1.lent.fits) (search needs) (search needs) (search needs) (search needs)
+    (search needs) (search needs) (search needs) join-run-requires (search needs) returns)

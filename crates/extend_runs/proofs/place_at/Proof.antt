@@ -6,9 +6,7 @@ use own.Tie as tie
 
 slide-requires : tie.Need-slide-requires
 slide-requires c κs =
-    let o = c.before.before in
-    let h = o.pre.0 in
-    (h, (search needs, c.level-at2.ensures (omega arith)))
+    (c.before.before.pre.0, (search needs, c.level-at2.ensures (omega arith)))
 
 returns : tie.Need-returns
 returns c =
@@ -19,9 +17,8 @@ returns-2 : tie.Need-returns-2
 returns-2 c =
     let o = c.before.before.before in
     let a = o.args in
-    let h = o.pre.0 in
     let e : a.j - 1 + 1 ≡ a.j = omega arith in
-    (record { lent = h; below = o.pre.1; sum = c.slide.ensures ∙ ap (level a.s.now a.w a.e) e }, refl)
+    (record { lent = o.pre.0; below = o.pre.1; sum = c.slide.ensures ∙ ap (level a.s.now a.w a.e) e }, refl)
 
 pub place-at-spec : {M : Type 1} → own.Statement.statement M
-place-at-spec = tie.close (tie.spec (λ c. search needs) (λ c. search needs) (λ c κs. search needs) (λ c. search needs) (λ c. search needs) (λ c κs. search needs) slide-requires returns returns-2)
+place-at-spec = tie.close (tie.spec (search needs) (search needs) (λ c κs. search needs) (search needs) (search needs) (λ c κs. search needs) slide-requires returns returns-2)

@@ -22,7 +22,7 @@ module _ (c : tie.After-struct-told) where
   sum-fits = let a = cell.least in let b = cell.most in let w = cell.width in omega (zmach32, z-add low (pos c.before.args.d), z-sub (pos 0) (pos 1000000000))
 
 add-t8 : tie.Need-add-t8
-add-t8 c = let o = c.before.before in rw (toZ-ofZ w32 _ o.fits.low, wide _) (sum-fits c.before)
+add-t8 c = rw (toZ-ofZ w32 _ c.before.before.fits.low, wide _) (sum-fits c.before)
 
 returns : tie.Need-returns
 unfolding chosenOf
@@ -37,4 +37,4 @@ unfolding chosenOf
 returns-2 c = rw (sym (back c.before) ∙ c.if1.left)
 
 pub chosen-spec : {M : Type 1} → own.Statement.statement M
-chosen-spec = tie.close (tie.spec (λ c. search needs) add-t8 returns returns-2)
+chosen-spec = tie.close (tie.spec (search needs) add-t8 returns returns-2)

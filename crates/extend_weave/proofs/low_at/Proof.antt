@@ -13,4 +13,4 @@ unfolding lowAt
 returns-2 c = rw (le-ltb _ _ c.if1.left)
 
 pub low-at-spec : {M : Type 1} → own.Statement.statement M
-low-at-spec = tie.close (tie.spec (λ c. search needs) (λ c. search needs) (λ c. omega (arith, c.shared-slice-known2.given c.before.before.before.args.i)) (λ c. let o = c.before.before.before in omega (arith, o.pre.small o.args.i c.before.if1.taken)) (λ c. search needs) (λ c κs. let o = c.before.before.before in (o.pre.small _ c.before.if1.taken, o.pre.low-base)) returns returns-2)
+low-at-spec = tie.close (tie.spec (search needs) (search needs) (λ c. omega (arith, c.shared-slice-known2.given c.before.before.before.args.i)) (λ c. let o = c.before.before.before in omega (arith, o.pre.small o.args.i c.before.if1.taken)) (search needs) (λ c κs. let o = c.before.before.before in (o.pre.small _ c.before.if1.taken, o.pre.low-base)) returns returns-2)

@@ -1,8 +1,5 @@
 -- `main`: it is safe, and each function that it calls is given what it asks (`starts`, `ends`).
-use borrow.Author.Needs.{needs}
-use lib.IntN.{pos}
-use lib.ListN.{length-replicate}
-use native.Mathlib.Omega.{arith}
+use Rattle.meaning_numbers.proofs.Prelude.{needs, pos, length-replicate, arith}
 use Rattle.find.proofs as own
 use own.Reading.{starts}
 use own.main.Tie as tie

@@ -1,7 +1,5 @@
 -- `print_first` meets its contract.
-use borrow.Author.Needs.{needs}
-use lib.ListN.{length-take}
-use native.Mathlib.Omega.{arith}
+use Rattle.meaning_numbers.proofs.Prelude.{needs, length-take, arith}
 use Rattle.find.proofs.print_first as own
 use own.Tie as tie
 

@@ -1,9 +1,5 @@
 -- `read_all`. The invariant: some text has been read, and as many bytes more can be as the turns that are left bring. The measure is the turns that are left.
-use Prim.Native.Nat.{_*_, _-_}
-use borrow.Author.Needs.{needs}
-use lib.ListN.{length}
-use mathlib.Core.Path.{_≡_, refl, ap}
-use native.Mathlib.Omega.{arith}
+use Rattle.meaning_numbers.proofs.Prelude.{_*_, _-_, needs, length, _≡_, refl, ap, arith}
 use Rattle.find.specs.Reading.{ReadTo}
 use Rattle.find.proofs as own
 use own.Reading.{inputOf, open-less, step-goes, read-less}

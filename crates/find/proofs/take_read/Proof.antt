@@ -1,7 +1,5 @@
 -- `take_read`: the piece has a byte, or none.
-use borrow.Author.Needs.{needs}
-use lib.ListN.{length-take}
-use native.Mathlib.Omega.{arith}
+use Rattle.meaning_numbers.proofs.Prelude.{needs, length-take, arith}
 use Rattle.find.proofs as own
 use own.Reading.{open-less}
 use own.take_read.Tie as tie

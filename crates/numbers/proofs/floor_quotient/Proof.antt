@@ -43,7 +43,7 @@ module _ (c : tie.Else1) where
   up-small = omega (zmach, z-abs (z c.before), z-fits c.before.fits.z, div-le-self (natAbs (z c.before)) c.before.args.d)
 
 returns-2 : tie.Need-returns-2
-returns-2 c = let k = natAbs (z c.before) / c.before.args.d in rw (row-up _ (up-same c)) (omega (zmach, z-cast k (up-small c)))
+returns-2 c = rw (row-up _ (up-same c)) (omega (zmach, z-cast (natAbs (z c.before) / c.before.args.d) (up-small c)))
 
 pub floor-quotient-spec : {M : Type 1} → own.floor_quotient.Statement.statement M
 floor-quotient-spec = tie.close (tie.spec sub-n cast-n (λ c. search needs) (λ c. omega (zmach, small c)) sub-result returns (λ c. omega (zmach, z-abs (z c.before), z-fits c.before.fits.z)) (λ c. search needs) (λ c. omega (zmach, up-small c)) returns-2)

@@ -13,4 +13,4 @@ returns c =
     omega (zmach32, z-sub (toZ w32 a.n) (toZ w32 a.k), z-cast32 a.n (omega arith), z-cast32 a.k (omega arith))
 
 pub lower-spec : {M : Type 1} → own.Statement.statement M
-lower-spec = tie.close (tie.spec (λ c. search needs) (λ c. search needs) sub-result returns)
+lower-spec = tie.close (tie.spec (search needs) (search needs) sub-result returns)

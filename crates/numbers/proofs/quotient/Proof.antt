@@ -7,4 +7,4 @@ returns : tie.Need-returns
 returns c = let e : c.before.args.d ≡ 0 = omega arith in rw e (sym (div-zero c.before.args.n))
 
 pub quotient-spec : {M : Type 1} → own.Statement.statement M
-quotient-spec = tie.close (tie.spec returns (λ c. search needs) (λ c. search needs))
+quotient-spec = tie.close (tie.spec returns (search needs) (search needs))

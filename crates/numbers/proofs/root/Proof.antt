@@ -12,9 +12,7 @@ abbrev μ : tie.MeasureT-loop
 
 mul-if1 : tie.Need-mul-if1 Inv μ
 mul-if1 c =
-    let r = c.before.loop.r in
-    let w = c.before.loop.width in
-    omega (arith, sq-le {x = r + w / 2} {y = 4294967295} (omega arith))
+    omega (arith, sq-le {x = c.before.loop.r + c.before.loop.width / 2} {y = 4294967295} (omega arith))
 
 loop-again : tie.Need-loop-again Inv μ
 loop-again c =

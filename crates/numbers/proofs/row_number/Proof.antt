@@ -40,7 +40,7 @@ module _ (c : tie.After-quotient2) where
   up-same = omega (zmach32, z-abs (z c.before.before))
 
   up-small : c.quotient2.result < 2147483648
-  up-small = omega (zmach32, z-abs (z c.before.before), z-fits32 c.before.before.fits.sum, c.quotient2.ensures, div-le-self (natAbs (z c.before.before)) c.before.before.args.width)
+  up-small = omega (zmach32, z-abs (z c.before.before), z-fits32 c.before.before.fits.sum, div-le-self (natAbs (z c.before.before)) c.before.before.args.width)
 
 returns-2 : tie.Need-returns-2
 returns-2 c =

@@ -7,7 +7,7 @@ use own.Tie as tie
 pub number-of-spec : {M : Type 1} → own.Statement.statement M
 unfolding pack
 number-of-spec =
-    tie.close (tie.spec (λ c. search needs) (λ c. search needs) (λ c κs. let a = c.before in subst (λ (u : Audited). pack u < 2 ^ 64) a.a.given.1 a.before.before.pre) (λ c. search needs)
+    tie.close (tie.spec (search needs) (search needs) (λ c κs. let a = c.before in subst (λ u. pack u < 2 ^ 64) a.a.given.1 a.before.before.pre) (λ c. search needs)
     (λ c κs. let a = c.before in subst (λ (u : Audited). pack u < 2 ^ 64) a.a2.given.1 a.before.before.pre) (λ c. search needs)
     (λ c κs. let a = c.before in subst (λ (u : Audited). pack u < 2 ^ 64) a.a3.given.1 a.before.before.pre)
     (λ c. rw c.enum-told.given.1 refl) (λ c. c.wrong-number.ensures ∙ sym (ap pack c.before.before.a.given.1))

@@ -11,10 +11,7 @@ audit-chunk-requires c κs =
     let i = c.before.before.before in
     let f = i.before in
     let s = f.before.before.before in
-    let e = sym f.run-reads.ensures ∙ not-false _ i.if1.left in
-    let l = toZ-ofZ w32 s.args.t.low (record { sfits = (search needs) }) in
-    let u = toZ-ofZ w32 s.args.t.up (record { sfits = (search needs) }) in
-    rw (l, u) (λ g. run-ready _ _ s.args.t _ s.pre.0 s.pre.1 e)
+    rw (toZ-ofZ w32 s.args.t.low (record { sfits = (search needs) }), toZ-ofZ w32 s.args.t.up (record { sfits = (search needs) })) (λ g. run-ready _ _ s.args.t _ s.pre.0 s.pre.1 (sym f.run-reads.ensures ∙ not-false _ i.if1.left))
 
 returns-2 : tie.Need-returns-2
 unfolding oneRun
@@ -22,13 +19,12 @@ returns-2 c =
     let i = c.before.before.before.before in
     let f = i.before in
     let s = f.before.before.before in
-    let e = sym f.run-reads.ensures ∙ not-false _ i.if1.left in
     let l = toZ-ofZ w32 s.args.t.low (record { sfits = c.before.before.before.struct-told.given.0.1 }) in
     let u = toZ-ofZ w32 s.args.t.up (record { sfits = c.before.before.before.struct-told.given.1.0.1 }) in
-    (rw (l, u) at c.audit-chunk.ensures) ∙ run-on _ _ _ _ e
+    (rw (l, u) at c.audit-chunk.ensures) ∙ run-on _ _ _ _ (sym f.run-reads.ensures ∙ not-false _ i.if1.left)
 
 pub audit-run-spec : {M : Type 1} → own.audit_run.Statement.statement M
 audit-run-spec =
-    tie.close (tie.spec (λ c. search needs) (λ c. search needs) (λ c κs. search needs)
-    (λ c. let f = c.before in run-off _ _ _ _ (sym f.run-reads.ensures ∙ not-true _ c.if1.taken))
-    (λ c. search needs) (λ c. search needs) (λ c. search needs) audit-chunk-requires returns-2)
+    tie.close (tie.spec (search needs) (search needs) (search needs)
+    (λ c. run-off _ _ _ _ (sym c.before.run-reads.ensures ∙ not-true _ c.if1.taken))
+    (search needs) (search needs) (search needs) audit-chunk-requires returns-2)

@@ -11,4 +11,4 @@ unfolding shutWalk
 returns c = search needs
 
 pub shut-spec : {M : Type 1} → own.Statement.statement M
-shut-spec = tie.close (tie.spec (λ c. search needs) returns)
+shut-spec = tie.close (tie.spec (search needs) returns)

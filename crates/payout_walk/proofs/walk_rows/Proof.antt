@@ -32,8 +32,7 @@ moved c =
     let l = a.before.before.before in
     let p = n.n2.given.0.1.0 in
     let z = n.n2.given.0.1.1.0 in
-    let e = toZ-ofZ w64 z (search (needs, c.before.known-told2.given)) in
-    let q = rw e at c.tell.ensures in
+    let q = rw (toZ-ofZ w64 z (search (needs, c.before.known-told2.given))) at c.tell.ensures in
     rw q (kept-value _ shutWalk startWalk _ l.loop.s _ _ l.loop.inv.0 a.before.before.loop-test.taken _ p z (sym a.index-step.ensures ∙ n.n2.given.1), omega (arith, l.loop.inv.1, tell-rows (S l) (H l) p z l.loop.t))
 
 pub walk-rows-spec : {M : Type 1} → own.walk_rows.Statement.statement M
@@ -43,7 +42,7 @@ walk-rows-spec =
     (λ c. omega arith) (λ c κs. search needs) (λ c. search needs) (λ c. omega arith) (λ c. omega arith)
     (λ c. let a = c.before.before.before in let l = a.before.before.before in (kept-to (tellWalk (S l) (H l)) shutWalk startWalk _ l.loop.s l.loop.t l.loop.i l.loop.inv.0 a.before.before.loop-test.taken c.before.n.given.0.0 (sym a.index-step.ensures ∙ c.before.n.given.1), search needs))
     (λ c. search needs)
-    (λ c κs. let a = c.before.before.before in let l = a.before.before.before in (search needs, search needs))
+    (λ c κs. let l = c.before.before.before.before.before.before in (search needs, search needs))
     (λ c. omega arith)
     (λ c. let t = c.before.before.before in let n = t.before.before in let l = n.before.before.before.before.before in walked-stopped (S l) (H l) _ n.n2.given.0.0 t.tell.result (l.loop.i + 1) (moved t .0) (not-true t.tell.result.found.go c.before.if1.taken))
     (λ c. omega arith) (λ c. moved c.before.before) (λ c. search needs)

@@ -4,37 +4,36 @@ use Rattle.program_input.specs.Tables.{askedOf}
 use Rattle.program_input.proofs.asked_of as own
 use own.Tie as tie
 
-held-requires-5 : tie.Need-held-requires-5
-held-requires-5 c κs = rw (toZ-ofZ w64 _ (record { sfits = c.struct-told7.given.1.0.1 })) (search needs, omega zarith)
-
-held-requires-6 : tie.Need-held-requires-6
-held-requires-6 c κs = rw (toZ-ofZ w64 _ (record { sfits = c.struct-told8.given.1.1.0.1 })) (c.before.before.before.before.before.before.before.before.before.before.before.before.before.before.before.pre.merge.least, omega (zarith, c.before.before.before.before.before.before.before.before.before.before.before.before.before.before.before.pre.merge.most))
-
 returns : tie.Need-returns
 unfolding askedOf
 returns c =
-    let window = (rw (toZ-ofZ w64 c.before.before.before.before.before.before.before.before.before.before.before.before.before.before.before.before.args.x.window (record { sfits = c.before.before.before.before.before.struct-told6.given.0.1 })) at c.before.before.before.before.held4.ensures) in
-    let width = (rw (toZ-ofZ w64 c.before.before.before.before.before.before.before.before.before.before.before.before.before.before.before.before.args.x.width (record { sfits = c.before.before.before.struct-told7.given.1.0.1 })) at c.before.before.held5.ensures) in
-    let merge = (rw (toZ-ofZ w64 c.before.before.before.before.before.before.before.before.before.before.before.before.before.before.before.before.args.x.merge (record { sfits = c.before.struct-told8.given.1.1.0.1 })) at c.held6.ensures) in
-    let kind = (rw (toZ-ofZ w64 c.before.before.before.before.before.before.before.before.before.before.before.before.before.before.before.before.args.x.raw (record { sfits = c.before.before.before.before.before.before.before.struct-told5.given.1.1.1.1.1.1.1.0.1 })) at c.before.before.before.before.before.before.kind-of.ensures) in
-    let band = (rw (toZ-ofZ w64 c.before.before.before.before.before.before.before.before.before.before.before.before.before.before.before.before.args.x.band (record { sfits = c.before.before.before.before.before.before.before.before.before.before.before.before.before.before.before.struct-told.given.1.1.1.0.1 })) at c.before.before.before.before.before.before.before.before.before.before.before.before.before.before.held.ensures) in
-    let threshold = (rw (toZ-ofZ w64 c.before.before.before.before.before.before.before.before.before.before.before.before.before.before.before.before.args.x.threshold (record { sfits = c.before.before.before.before.before.before.before.before.before.before.before.before.before.struct-told2.given.1.1.1.1.0.1 })) at c.before.before.before.before.before.before.before.before.before.before.before.before.held-long.ensures) in
-    let scale = (rw (toZ-ofZ w64 c.before.before.before.before.before.before.before.before.before.before.before.before.before.before.before.before.args.x.scale (record { sfits = c.before.before.before.before.before.before.before.before.before.before.before.struct-told3.given.1.1.1.1.1.0.1 })) at c.before.before.before.before.before.before.before.before.before.before.held2.ensures) in
-    let shift = (rw (toZ-ofZ w64 c.before.before.before.before.before.before.before.before.before.before.before.before.before.before.before.before.args.x.shift (record { sfits = c.before.before.before.before.before.before.before.before.before.struct-told4.given.1.1.1.1.1.1.0.1 })) at c.before.before.before.before.before.before.before.before.held3.ensures) in
-    λ i. record {
-      window = window i;
-      width = width i;
-      merge = merge i;
-      ask = record { kind = kind i; limits = record { band = band i; threshold = threshold i; scale = scale i; shift = shift i } };
-    }
+    let width = c.before.before in
+    let window = width.before.before in
+    let kind = window.before.before in
+    let shift = kind.before.before in
+    let scale = shift.before.before in
+    let threshold = scale.before.before in
+    let band = threshold.before.before in
+    let x = band.before.before.args.x in
+    let a = rw (toZ-ofZ w64 x.window (record { sfits = window.before.struct-told6.given.0.1 })) at window.held4.ensures in
+    let b = rw (toZ-ofZ w64 x.width (record { sfits = width.before.struct-told7.given.1.0.1 })) at width.held5.ensures in
+    let d = rw (toZ-ofZ w64 x.merge (record { sfits = c.before.struct-told8.given.1.1.0.1 })) at c.held6.ensures in
+    let e = rw (toZ-ofZ w64 x.raw (record { sfits = kind.before.struct-told5.given.1.1.1.1.1.1.1.0.1 })) at kind.kind-of.ensures in
+    let f = rw (toZ-ofZ w64 x.band (record { sfits = band.before.struct-told.given.1.1.1.0.1 })) at band.held.ensures in
+    let g = rw (toZ-ofZ w64 x.threshold (record { sfits = threshold.before.struct-told2.given.1.1.1.1.0.1 })) at threshold.held-long.ensures in
+    let h = rw (toZ-ofZ w64 x.scale (record { sfits = scale.before.struct-told3.given.1.1.1.1.1.0.1 })) at scale.held2.ensures in
+    let k = rw (toZ-ofZ w64 x.shift (record { sfits = shift.before.struct-told4.given.1.1.1.1.1.1.0.1 })) at shift.held3.ensures in
+    λ i. record { window = a i; width = b i; merge = d i; ask = record { kind = e i; limits = record { band = f i; threshold = g i; scale = h i; shift = k i } } }
 
 pub asked-of-spec : {M : Type 1} → own.Statement.statement M
 asked-of-spec =
     tie.close (tie.spec
-    (λ c κs. rw (toZ-ofZ w64 c.before.args.x.band (record { sfits = c.struct-told.given.1.1.1.0.1 })) (c.before.pre.band.least, omega (zarith, c.before.pre.band.most)))
+    (λ c κs. let o : tie.Start = search needs in rw (toZ-ofZ w64 o.args.x.band (record { sfits = search needs })) (o.pre.band.least, omega (zarith, o.pre.band.most)))
     (λ c κs. search needs)
-    (λ c κs. rw (toZ-ofZ w64 c.before.before.before.before.before.args.x.scale (record { sfits = c.struct-told3.given.1.1.1.1.1.0.1 })) (c.before.before.before.before.before.pre.scale.least, omega (zarith, c.before.before.before.before.before.pre.scale.most)))
-    (λ c κs. rw (toZ-ofZ w64 c.before.before.before.before.before.before.before.args.x.shift (record { sfits = c.struct-told4.given.1.1.1.1.1.1.0.1 })) (c.before.before.before.before.before.before.before.pre.shift.least, omega (zarith, c.before.before.before.before.before.before.before.pre.shift.most)))
+    (λ c κs. let o : tie.Start = search needs in rw (toZ-ofZ w64 o.args.x.scale (record { sfits = search needs })) (o.pre.scale.least, omega (zarith, o.pre.scale.most)))
+    (λ c κs. let o : tie.Start = search needs in rw (toZ-ofZ w64 o.args.x.shift (record { sfits = search needs })) (o.pre.shift.least, omega (zarith, o.pre.shift.most)))
     (λ c κs. search needs)
-    (λ c κs. rw (toZ-ofZ w64 c.before.before.before.before.before.before.before.before.before.before.before.args.x.window (record { sfits = c.struct-told6.given.0.1 })) (c.before.before.before.before.before.before.before.before.before.before.before.pre.window.least, omega (zarith, c.before.before.before.before.before.before.before.before.before.before.before.pre.window.most)))
-    held-requires-5 held-requires-6 returns)
+    (λ c κs. let o : tie.Start = search needs in rw (toZ-ofZ w64 o.args.x.window (record { sfits = search needs })) (o.pre.window.least, omega (zarith, o.pre.window.most)))
+    (λ c κs. let o : tie.Start = search needs in rw (toZ-ofZ w64 o.args.x.width (record { sfits = search needs })) (o.pre.width.least, omega (zarith, o.pre.width.most)))
+    (λ c κs. let o : tie.Start = search needs in rw (toZ-ofZ w64 o.args.x.merge (record { sfits = search needs })) (o.pre.merge.least, omega (zarith, o.pre.merge.most)))
+    returns)

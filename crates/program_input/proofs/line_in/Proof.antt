@@ -5,7 +5,7 @@ use own.InputLaws.{line-most}
 use own.line_in.Tie as tie
 
 add-result : tie.Need-add-result
-add-result c = let s = c.before.before in omega (arith, line-most s.args.piece.now s.args.k, c.line-at.ensures, s.pre.0, s.pre.1)
+add-result c = let s = c.before.before in omega (arith, line-most s.args.piece.now s.args.k)
 
 pub line-in-spec : {M : Type 1} → own.line_in.Statement.statement M
 line-in-spec = tie.close (tie.spec (search needs) (search needs) add-result (search needs))

@@ -22,7 +22,7 @@ module _ (o : tie.Start) where
 
 -- the values pass
 first : (c : tie.Else1) → AllPass (one c.before.before.before)
-first c = let v = c.before.before in passes _ (values-lack _ _) v.refuse-values.ensures c.if1.left
+first c = passes _ (values-lack _ _) c.before.before.refuse-values.ensures c.if1.left
 
 -- the numbers pass
 second : (c : tie.Else2) → AllPass (two c.before.before.before.before.before.before)
@@ -33,18 +33,16 @@ second c =
 
 -- so the query is short enough
 short : (c : tie.Else2) → c.before.before.before.before.before.before.args.q.count ≤ 1024
-short c = let o = c.before.before.before.before.before.before in query-few _ _ o.args.x (second c)
+short c = query-few _ _ c.before.before.before.before.before.before.args.x (second c)
 
 returns-3 : tie.Need-returns-3
 unfolding callTable flatQuery
 returns-3 c =
     let e = c.before.before.before.before.before.before in
     let n = e.before.before in
-    let o = n.before.before.before.before in
-    let told = c.before.before.before.before.before in
-    let kind = rw (toZ-ofZ w64 _ (record { sfits = told.struct-told.given.1.1.1.1.1.1.1.0.1 })) at c.before.before.before.before.kind-of.ensures in
+    let kind = rw (toZ-ofZ w64 _ (record { sfits = c.before.before.before.before.before.struct-told.given.1.1.1.1.1.1.1.0.1 })) at c.before.before.before.before.kind-of.ensures in
     part-passes _ (first n.before)
-    (part-passes (three o) (second e) (line-before 11 (normalFlat _ _) _ c.before.unrefused.ensures (c.before.before.normal-flat.ensures ∙ rw kind) c.refuse-if.ensures))
+    (part-passes (three n.before.before.before.before) (second e) (line-before 11 (normalFlat _ _) _ c.before.unrefused.ensures (c.before.before.normal-flat.ensures ∙ rw kind) c.refuse-if.ensures))
 
 pub refuse-call-spec : {M : Type 1} → own.refuse_call.Statement.statement M
 unfolding callTable

@@ -35,7 +35,7 @@ pub refuse-numbers-spec : {M : Type 1} → own.Statement.statement M
 refuse-numbers-spec =
     tie.close (tie.spec (search needs) (search needs) (search needs) (search needs) (search needs) (search needs)
     (search needs) (search needs)
-    (λ c κs. let threshold = c.before.before.before.before in threshold.before.before.before.before.before.before.before.before.before.pre.1)
+    (λ c κs. c.before.before.before.before.before.before.before.before.before.before.before.before.before.pre.1)
     (search needs) (search needs) (search needs) (search needs) (search needs) (search needs) (search needs) (search needs)
-    (λ c κs. let below = c.before.before.before.before.before.before.before.before.before.before.before in let threshold = below.before.before.before.before.before.before in threshold.before.before.before.before.before.before.before.before.before.pre.0)
+    (λ c κs. let below = c.before.before.before.before.before.before.before.before.before.before.before in below.before.before.before.before.before.before.before.before.before.before.before.before.before.before.before.pre.0)
     (search needs) returns)

@@ -14,4 +14,4 @@ unfolding refuseAt badRow
 returns-2 c = sym (rw c.before.j.given.1)
 
 pub refuse-judged-spec : {M : Type 1} → own.Statement.statement M
-refuse-judged-spec = tie.close (tie.spec (λ c. search needs) (λ c. search needs) returns returns-2)
+refuse-judged-spec = tie.close (tie.spec (search needs) (search needs) returns returns-2)

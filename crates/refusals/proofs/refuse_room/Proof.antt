@@ -12,4 +12,4 @@ returns c =
     line-before 23 _ _ (line-before 23 _ _ second.before.unrefused.ensures second.before.before.too-short.ensures second.refuse-if.ensures) c.before.too-short2.ensures c.refuse-if2.ensures
 
 pub refuse-room-spec : {M : Type 1} → own.refuse_room.Statement.statement M
-refuse-room-spec = tie.close (tie.spec (λ c κs. search needs) (λ c κs. search needs) (λ c κs. search needs) (λ c κs. search needs) (λ c κs. search needs) returns)
+refuse-room-spec = tie.close (tie.spec (search needs) (search needs) (search needs) (search needs) (search needs) returns)

@@ -5,13 +5,11 @@ use own.Tie as tie
 
 returns : tie.Need-returns
 returns c =
-    let l = c.before.before in
-    c.refuse-value.ensures ∙ sym (rw (sym l.length-in.ensures ∙ c.before.if1.taken))
+    c.refuse-value.ensures ∙ sym (rw (sym c.before.before.length-in.ensures ∙ c.before.if1.taken))
 
 returns-2 : tie.Need-returns-2
 returns-2 c =
-    let l = c.before in
-    sym (rw (sym l.length-in.ensures ∙ c.if1.left))
+    sym (rw (sym c.before.length-in.ensures ∙ c.if1.left))
 
 pub refuse-series-spec : {M : Type 1} → own.Statement.statement M
-refuse-series-spec = tie.close (tie.spec (λ c κs. search needs) (λ c κs. search needs) returns returns-2)
+refuse-series-spec = tie.close (tie.spec (search needs) (search needs) returns returns-2)

@@ -10,8 +10,7 @@ next-multiple d low up s =
     by-test
     (multiple d low)
     (λ e. let k = multiple-is d low e in
-    let u = sym s ∙ ap (λ (z : ℤ). z +ℤ pos d) k.1 ∙ sym (up-is d k.0) in
-    let m = ap (multiple d) u ∙ multiple-of d (k.0 +ℤ pos 1) in
+    let m = ap (multiple d) (sym s ∙ ap (λ z. z +ℤ pos d) k.1 ∙ sym (up-is d k.0)) ∙ multiple-of d (k.0 +ℤ pos 1) in
     rw (e, m) refl)
     (λ e. rw e refl)
 
@@ -46,4 +45,4 @@ returns-2 c =
     cc (toZ-ofZ w32 _ s.fits.low, toZ-ofZ w32 _ s.fits.up, c.before.before.is-multiple.ensures, c.is-multiple2.ensures)
 
 pub are-multiples-spec : {M : Type 1} → own.Statement.statement M
-are-multiples-spec = tie.close (tie.spec (λ c κs. search needs) (λ c. let s = c.before in rw (toZ-ofZ w32 _ s.fits.low) (wide s.fits.low)) (λ c. search needs) add-if1 (λ c. let s = c.before in rw (toZ-ofZ w32 s.args.up s.fits.up) (wide s.fits.up)) (λ c κs. search needs) returns returns-2)
+are-multiples-spec = tie.close (tie.spec (search needs) (λ c. let s = c.before in rw (toZ-ofZ w32 _ s.fits.low) (wide s.fits.low)) (search needs) add-if1 (λ c. let s = c.before in rw (toZ-ofZ w32 s.args.up s.fits.up) (wide s.fits.up)) (search needs) returns returns-2)

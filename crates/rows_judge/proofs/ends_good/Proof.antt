@@ -6,10 +6,7 @@ use own.Tie as tie
 returns : tie.Need-returns
 returns c =
     let s = c.before.before in
-    let l = toZ-ofZ w32 _ s.fits.low in
-    let u = toZ-ofZ w32 _ s.fits.up in
-    let b = toZ-ofZ w32 _ s.fits.least in
-    cc (l, u, b, c.end-in2.ensures, c.before.end-in.ensures)
+    cc (toZ-ofZ w32 _ s.fits.low, toZ-ofZ w32 _ s.fits.up, toZ-ofZ w32 _ s.fits.least, c.end-in2.ensures, c.before.end-in.ensures)
 
 pub ends-good-spec : {M : Type 1} → own.Statement.statement M
-ends-good-spec = tie.close (tie.spec (λ c κs. search needs) (λ c κs. search needs) returns)
+ends-good-spec = tie.close (tie.spec (search needs) (search needs) returns)

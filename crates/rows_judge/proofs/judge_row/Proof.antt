@@ -1,5 +1,5 @@
 -- `judge_row`: a row that does not fit ends in the failed state, and one that fits is judged by its runs, which lie inside the run buffer.
-use Rattle.meaning_numbers.proofs.Prelude.{_≡_, sym, _∙_, ap, _&&_, [], ℕ, _+_, _-_, _≤_, min, arith, pos, length, not-true, not-false, needs}
+use Rattle.meaning_numbers.proofs.Prelude.{_≡_, sym, _∙_, ap, _&&_, [], _+_, _-_, _≤_, min, arith, pos, length, not-true, not-false, needs}
 use Rattle.meaning_rows.specs.{Index.Index, Index.lent, Index.runsOf, Judge.rangeGood, Judge.partGood}
 use Rattle.meaning_rows.proofs.Grown.{length-entries}
 use Rattle.rows_judge.specs.Judging.{room, scan, after}
@@ -16,8 +16,7 @@ fit : (c : tie.After-row-fits) → let s = c.before.before.before.before in c.ro
 unfolding rangeGood partGood
 fit c =
     let s = c.before.before.before.before in
-    let e = c.before.shorter.ensures ∙ sym (length-entries _ _) in
-    c.row-fits.ensures ∙ ap (λ (n : ℕ). s .args .s .good && (rangeGood (index s) s.args.s.least s.args.r && room n s.args.s.first s.args.r)) e
+    c.row-fits.ensures ∙ ap (λ n. s.args.s.good && (rangeGood (index s) s.args.s.least s.args.r && room n s.args.s.first s.args.r)) (c.before.shorter.ensures ∙ sym (length-entries _ _))
 
 -- where it fits, its runs lie inside the run buffer
 inside : (c : tie.Else1) → let s = c.before.before.before.before.before in s.args.r.first + s.args.r.runs ≤ min (length s.args.left.now) (length s.args.right.now)

@@ -16,10 +16,7 @@ Inv left right from to windows least₀ total₀ i₀ least total i =
 abbrev μ : tie.MeasureT-loop
 μ left right from to windows least₀ total₀ i₀ least total i = to - i
 
--- where the run was found bad, and good
-abbrev Bad : Type 0
-Bad = lts.Then1 reads.Pre reads.Post Inv μ
-
+-- where the run was found good
 abbrev Fine : Type 0
 Fine = lts.Else1 reads.Pre reads.Post Inv μ
 
@@ -69,14 +66,12 @@ loop-again c =
 
 returns-2 : tie.Need-returns-2 Inv μ
 returns-2 c =
-    let a = c.before.before in let s = a.before in
-    let e : judged a [] ≡ record { good = true; total = a.loop.total } = rw (le-leb a.loop.least (s.args.windows + 1) (omega arith), scan-end _ _ _) refl in
+    let a = c.before.before in let e : judged a [] ≡ record { good = true; total = a.loop.total } = rw (le-leb a.loop.least (a.before.args.windows + 1) (omega arith), scan-end _ _ _) refl in
     sym e ∙ ended a c.before.loop-test.left
 
 returns-3 : tie.Need-returns-3 Inv μ
 returns-3 c =
-    let a = c.before.before in let s = a.before in
-    let e : judged a [] ≡ untold = rw (lt-leb a.loop.least (s.args.windows + 1) (omega arith)) refl in
+    let a = c.before.before in let e : judged a [] ≡ untold = rw (lt-leb a.loop.least (a.before.args.windows + 1) (omega arith)) refl in
     sym e ∙ ended a c.before.loop-test.left
 
 pub judge-runs-spec : {M : Type 1} → own.judge_runs.Statement.statement M

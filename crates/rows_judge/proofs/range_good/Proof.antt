@@ -15,10 +15,7 @@ returns : tie.Need-returns
 unfolding rangeGood
 returns c =
     let s = c.before.before.before.before in
-    let l = toZ-ofZ w32 s.args.r.low (record { sfits = (search needs) }) in
-    let u = toZ-ofZ w32 s.args.r.up (record { sfits = (search needs) }) in
-    let b = toZ-ofZ w32 _ s.fits.least in
-    cc (l, u, b, c.before.are-multiples.ensures, c.ends-good.ensures, sorted _ _ _ _)
+    cc (toZ-ofZ w32 s.args.r.low (record { sfits = (search needs) }), toZ-ofZ w32 s.args.r.up (record { sfits = (search needs) }), toZ-ofZ w32 _ s.fits.least, c.before.are-multiples.ensures, c.ends-good.ensures, sorted _ _ _ _)
 
 pub range-good-spec : {M : Type 1} → own.Statement.statement M
-range-good-spec = tie.close (tie.spec (λ c κs. search needs) (λ c κs. search needs) returns)
+range-good-spec = tie.close (tie.spec (search needs) (search needs) returns)

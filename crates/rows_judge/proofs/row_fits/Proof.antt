@@ -5,9 +5,8 @@ use own.Tie as tie
 
 returns : tie.Need-returns
 returns c =
-    let s = c.before.before.before.before in
-    let l = toZ-ofZ w32 s.args.s.least (record { sfits = (search needs) }) in
+    let l = toZ-ofZ w32 c.before.before.before.before.args.s.least (record { sfits = (search needs) }) in
     cc (l, c.before.part-good.ensures, c.before.before.range-good.ensures)
 
 pub row-fits-spec : {M : Type 1} → own.Statement.statement M
-row-fits-spec = tie.close (tie.spec (λ c κs. search needs) (λ c κs. search needs) returns)
+row-fits-spec = tie.close (tie.spec (search needs) (search needs) returns)

@@ -14,4 +14,4 @@ returns-2 c = rw (ne-eqb _ 0 c.before.if1.left)
 
 pub start-of-spec : {M : Type 1} → own.Statement.statement M
 start-of-spec =
-    tie.close (tie.spec (λ c. search needs) (λ c. search needs) (λ c. search needs) returns returns-2)
+    tie.close (tie.spec (search needs) (search needs) (search needs) returns returns-2)

@@ -28,10 +28,9 @@ module _ (c : tie.In-loop Inv μ) where
 
 loop-again : tie.Need-loop-again Inv μ
 loop-again c =
-    let l = c.before.before in
-    let o = l.before in (
+    let l = c.before.before in (
       omega arith,
-      next c.before ∙ sym (Σℕ-more _ (λ k. getD o.args.counts.now k 0)),
+      next c.before ∙ sym (Σℕ-more _ (λ k. getD l.before.args.counts.now k 0)),
       summed-more (l.loop.sum + getD l.loop.counts l.loop.i 0) l.loop.inv.2 (room c.before) (next c.before),
     )
 

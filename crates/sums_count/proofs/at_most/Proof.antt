@@ -9,4 +9,4 @@ unfolding bit
 told x k a b = by-test (leb x k) (λ y. rw y (let h = leb-true x k y in omega arith)) (λ y. rw y (let h = leb-false x k y in omega arith))
 
 pub at-most-spec : {M : Type 1} → own.Statement.statement M
-at-most-spec = tie.close (tie.spec (λ c. search needs) (λ c. search needs) (λ c. told _ _ c.fits.x.fits c.pre))
+at-most-spec = tie.close (tie.spec (search needs) (search needs) (λ c. told _ _ c.fits.x.fits c.pre))

@@ -1,5 +1,5 @@
 -- `count_runs`. The invariant: the runs of the windows passed are counted, and the next window begins a run (`counted-run`, `fresh-next`).
-use Rattle.meaning_numbers.proofs.Prelude.{_≡_, refl, sym, ap, _∙_, ℕ, _+_, _-_, _/_, _≤_, _<_, arith, length, getD, length-set}
+use Rattle.meaning_numbers.proofs.Prelude.{_≡_, refl, sym, ap, _∙_, _+_, _-_, _/_, _≤_, _<_, arith, length, getD, length-set}
 use Rattle.meaning_rows.proofs.Runs.{runs-le}
 use Rattle.sums_slide.specs.{Levels.level, Levels.rowOf, Levels.windowsOf, Levels.level-small, Table.table}
 use Rattle.sums_count.specs.Tally.{isRow, Counted}
@@ -17,8 +17,7 @@ abbrev μ : tie.MeasureT-loop
 
 loop-holds : tie.Need-loop-holds Inv μ
 loop-holds c =
-    let o = c.before.before.before in
-    (omega arith, c.first-level.ensures, fresh-start _ _, counted-start _ _ _ o.pre.1.1.1, refl)
+    (omega arith, c.first-level.ensures, fresh-start _ _, counted-start _ _ _ c.before.before.before.pre.1.1.1, refl)
 
 -- the row number of the window at hand
 module _ (c : tie.After-row-of-level Inv μ) where
@@ -30,7 +29,7 @@ module _ (c : tie.After-row-of-level Inv μ) where
 
   number : c.row-of-level.result ≡ rowOf (level o.args.s.now o.args.w o.args.e) o.args.d l.loop.j
   unfolding rowOf
-  number = c.row-of-level.ensures ∙ ap (λ (n : ℕ). n / o.args.d) l.loop.inv.1
+  number = c.row-of-level.ensures ∙ ap (λ n. n / o.args.d) l.loop.inv.1
 
 row-of-level-requires : tie.Need-row-of-level-requires Inv μ
 row-of-level-requires c κs =
@@ -69,11 +68,10 @@ module _ (c : tie.After-find-number Inv μ) where
   few : getD (l r .loop .counts) c.find-number.result 0 ≤ 1048577
   few =
       let a = o r .args in
-      let row = rowOf (level a.s.now a.w a.e) a.d in
       omega (
         arith,
         l r .loop .inv .3 .count _ below,
-        runs-le (isRow row (getD (table a.s.now a.w a.e a.d) c.find-number.result 0)) (l r .loop .j),
+        runs-le (isRow (rowOf (level a.s.now a.w a.e) a.d) (getD (table a.s.now a.w a.e a.d) c.find-number.result 0)) (l r .loop .j),
         l r .loop .inv .0,
         o r .pre .0 .long,
       )

@@ -16,10 +16,10 @@ room : tie.Need-slice-write-out Inv μ
 room c = let l = c.before.before.before in let a = l.before.args in collect-room a.flags.now a.base l.loop.x c.before.before.loop-test.taken l.loop.inv.1 c.if1.taken l.before.pre.1
 
 loop-again : tie.Need-loop-again Inv μ
-loop-again c = let l = c.before.before.before in let a = l.before.args in (omega arith, collect-yes _ a.base l.loop.x c.before.before.loop-test.taken l.loop.inv.1 c.if1.taken (room c))
+loop-again c = let l = c.before.before.before in (omega arith, collect-yes _ l.before.args.base l.loop.x c.before.before.loop-test.taken l.loop.inv.1 c.if1.taken (room c))
 
 loop-again-2 : tie.Need-loop-again-2 Inv μ
-loop-again-2 c = let l = c.before.before.before in let a = l.before.args in (omega arith, collect-no _ a.base l.loop.x c.before.before.loop-test.taken l.loop.inv.1 c.if1.left)
+loop-again-2 c = let l = c.before.before.before in (omega arith, collect-no _ l.before.args.base l.loop.x c.before.before.loop-test.taken l.loop.inv.1 c.if1.left)
 
 returns : tie.Need-returns Inv μ
 returns c =

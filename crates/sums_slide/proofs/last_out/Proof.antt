@@ -19,10 +19,9 @@ returns-2 c =
 
 returns-3 : tie.Need-returns-3
 returns-3 c =
-    let i = c.before.before in
-    stop-one _ (sym (here i) ∙ not-false _ c.before.if2.left) (omega arith) c.slide.ensures
+    stop-one _ (sym (here c.before.before) ∙ not-false _ c.before.if2.left) (omega arith) c.slide.ensures
 
 pub last-out-spec : {M : Type 1} → own.last_out.Statement.statement M
 last-out-spec =
     tie.close
-    (tie.spec (λ c. search needs) returns (λ c κs. search needs) returns-2 (λ c. search needs) (λ c κs. search needs) returns-3)
+    (tie.spec (search needs) returns (search needs) returns-2 (search needs) (λ c κs. search needs) returns-3)

@@ -17,12 +17,11 @@ loop-holds c = (omega arith, search needs, bounds-one c.first-level.ensures, ome
 loop-again : tie.Need-loop-again Inv μ
 loop-again c =
     let m = c.before.before in
-    let l = m.before.before in
-    let v = l.loop.inv in (
+    let l = m.before.before in (
       omega arith,
       m.move-on.ensures,
-      bounds-more _ _ m.move-on.result v.2 m.move-on.ensures c.before.lesser.ensures c.greater.ensures,
-      omega (arith, c.greater.ensures, m.move-on.ensures, level-small (l.loop.j + 1) l.before.before.pre),
+      bounds-more _ _ m.move-on.result l.loop.inv.2 m.move-on.ensures c.before.lesser.ensures c.greater.ensures,
+      omega (arith, level-small (l.loop.j + 1) l.before.before.pre),
     )
 
 returns : tie.Need-returns Inv μ

@@ -16,21 +16,18 @@ abbrev μ : tie.MeasureT-loop
 -- the last row number is small
 last-small : (c : tie.After-row-of-level Inv μ) → c.row-of-level.result ≤ 6120000
 last-small c =
-    let n = c.before.level-ends.result.greatest in
-    omega (arith, c.row-of-level.ensures, c.before.level-ends.ensures.1, div-le-self n c.before.before.before.before.args.d)
+    omega (arith, div-le-self c.before.level-ends.result.greatest c.before.before.before.before.args.d)
 
 -- both ends are raised sums
 ends-small : (c : tie.After-level-ends Inv μ) → (c.level-ends.result.least ≤ 6120000) × (c.level-ends.result.greatest ≤ 6120000)
 ends-small c =
-    let o = c.before.before.before in
-    let b = c.level-ends.ensures.0.bound 0 (omega (arith, o.pre.0.fits)) in
+    let b = c.level-ends.ensures.0.bound 0 (omega (arith, c.before.before.before.pre.0.fits)) in
     (omega arith, c.level-ends.ensures.1)
 
 loop-holds : tie.Need-loop-holds Inv μ
 loop-holds c =
-    let e = c.before.before.level-ends.ensures.0 in
     let o = c.before.before.before.before.before in
-    (rw (c.row-of-level2.ensures, table-start o.args.d o.pre.0 o.pre.1.0.0 e) (append-none 0 _), refl)
+    (rw (c.row-of-level2.ensures, table-start o.args.d o.pre.0 o.pre.1.0.0 c.before.before.level-ends.ensures.0) (append-none 0 _), refl)
 
 list-chunk-requires : tie.Need-list-chunk-requires Inv μ
 list-chunk-requires c κs =
@@ -40,7 +37,7 @@ list-chunk-requires c κs =
       (
         o.pre.1.0,
         (
-          omega (arith, l.loop.inv.1, last-small l.before.before, c.before.before.loop-test.taken, o.pre.1.1.0.1),
+          omega (arith, last-small l.before.before, c.before.before.loop-test.taken, o.pre.1.1.0.1),
           chunk-room o.args.d o.pre.0 _ _ l.loop.inv.0 o.pre.1.1.1,
         ),
       ),
@@ -48,8 +45,7 @@ list-chunk-requires c κs =
 
 add-base : tie.Need-add-base Inv μ
 add-base c =
-    let l = c.before.before.before.before.before.before.before.before in
-    omega (arith, last-small l.before.before, c.before.before.before.before.before.before.before.loop-test.taken, l.before.before.before.before.before.before.pre.1.1.0.1)
+    omega (arith, last-small c.before.before.before.before.before.before.before.before.before.before)
 
 loop-less : tie.Need-loop-less Inv μ
 loop-less c = omega arith
@@ -64,7 +60,7 @@ returns : tie.Need-returns Inv μ
 returns c =
     let l = c.before in
     let o = l.before.before.before.before.before.before in
-    rw (table-end o.args.d o.pre.0 o.pre.1.0.0 l.before.before.before.level-ends.ensures.0 l.loop.base (omega (arith, l.before.before.row-of-level.ensures, c.loop-test.left))) at l.loop.inv.0
+    rw (table-end o.args.d o.pre.0 o.pre.1.0.0 l.before.before.before.level-ends.ensures.0 l.loop.base (omega arith)) at l.loop.inv.0
 
 pub list-rows-spec : {M : Type 1} → own.list_rows.Statement.statement M
 list-rows-spec =

@@ -14,8 +14,7 @@ abbrev μ : tie.MeasureT-loop
 
 loop-holds : tie.Need-loop-holds Inv μ
 loop-holds c =
-    let o = c.before.before in
-    (omega arith, search needs, flags-start _ _ _ o.pre.1.1, refl)
+    (omega arith, search needs, flags-start _ _ _ c.before.before.pre.1.1, refl)
 
 -- the row number of the window at hand
 module _ (c : tie.After-row-of-level Inv μ) where

@@ -15,15 +15,14 @@ comes c = c.raise.ensures ∙ raised-back (c.before.before.before.pre.0.all.at _
 add-result : tie.Need-add-result
 add-result c =
     let o = c.before.before.before in
-    omega (arith, comes c, raised-le (o.pre.0.all.at (o.args.j + o.args.w)), level-small o.args.j o.pre.0, o.pre.1.1)
+    omega (arith, comes c, raised-le (o.pre.0.all.at (o.args.j + o.args.w)), level-small o.args.j o.pre.0)
 
 slid : (c : tie.After-raise2) → let o = c.before.before.before.before in
     level o.args.s.now o.args.w o.args.e (o.args.j + 1) + c.raise2.result ≡ o.args.n + c.before.raise.result
 slid c =
     let o = c.before.before.before.before in
     let a = o.args in
-    let goes = c.raise2.ensures ∙ raised-back (o.pre.0.all.at _) in
-    omega (arith, level-next a.s.now a.w a.e a.j, goes, comes c.before, o.pre.1.1)
+    omega (arith, level-next a.s.now a.w a.e a.j, (c.raise2.ensures ∙ raised-back (o.pre.0.all.at _)), comes c.before, o.pre.1.1)
 
 pub move-on-spec : {M : Type 1} → own.move_on.Statement.statement M
 move-on-spec =

@@ -26,9 +26,7 @@ returns c =
 
 loop-again : tie.Need-loop-again Inv μ
 loop-again c =
-    let l = c.before.before.before.before in
-    let v = l.loop.inv in
-    (omega arith, search needs, search needs, below-more _ _ v.3 (λ m. sym (here c.before.before) ∙ not-false _ c.before.if1.left))
+    (omega arith, search needs, search needs, below-more _ _ c.before.before.before.before.loop.inv.3 (λ m. sym (here c.before.before) ∙ not-false _ c.before.if1.left))
 
 returns-2 : tie.Need-returns-2 Inv μ
 returns-2 c =

@@ -9,8 +9,7 @@ low-small : (c : tie.Start) → c.args.k * c.args.d ≤ 6120000
 unfolding rowOf
 low-small c =
     let a = c.args in
-    let n = level a.s.now a.w a.e a.from.offset in
-    rw c.pre.1.1.1.1 (omega (arith, div-mul-le-self n a.d, level-small a.from.offset c.pre.0))
+    rw c.pre.1.1.1.1 (omega (arith, div-mul-le-self (level a.s.now a.w a.e a.from.offset) a.d, level-small a.from.offset c.pre.0))
 
 returns : tie.Need-returns
 unfolding rowOf

@@ -9,14 +9,13 @@ use own.slide.Tie as tie
 add-result : tie.Need-add-result
 add-result c =
     let o = c.before in
-    omega (arith, c.value-at.ensures, raised-le (o.pre.0.all.at (o.args.j + o.args.w)), level-small o.args.j o.pre.0, o.pre.1.1)
+    omega (arith, raised-le (o.pre.0.all.at (o.args.j + o.args.w)), level-small o.args.j o.pre.0)
 
 slid : (c : tie.After-value-at2) → let o = c.before.before in
     level o.args.s.now o.args.w o.args.e (o.args.j + 1) + c.value-at2.result ≡ o.args.n + c.before.value-at.result
 slid c =
-    let o = c.before.before in
-    let a = o.args in
-    omega (arith, level-next a.s.now a.w a.e a.j, c.value-at2.ensures, c.before.value-at.ensures, o.pre.1.1)
+    let a = c.before.before.args in
+    omega (arith, level-next a.s.now a.w a.e a.j)
 
 pub slide-spec : {M : Type 1} → own.slide.Statement.statement M
 slide-spec =

@@ -1,7 +1,5 @@
 -- `count_head` meets its contract.
-use borrow.Author.Needs.{needs}
-use lib.IntN.{pos}
-use native.Mathlib.Omega.{arith}
+use Rattle.meaning_numbers.proofs.Prelude.{needs, pos, arith}
 use Rattle.text_write.specs.Write.{headText}
 use Rattle.text_count.proofs as own
 use own.Count.{counted-is, head-length}

@@ -1,12 +1,5 @@
 -- `count_row`. Its range, its runs and its end, one after the other.
-use borrow.Author.Needs.{needs}
-use lib.IntN.{ℤ}
-use lib.ListN.{length}
-use mathlib.Core.Path.{_≡_, ap}
-use mir.Syntax.{w32}
-use mir.Val.{toZ, ofZ}
-use mir.ValLaws.{toZ-ofZ}
-use native.Mathlib.Omega.{arith}
+use Rattle.meaning_numbers.proofs.Prelude.{needs, ℤ, length, _≡_, ap, w32, toZ, ofZ, toZ-ofZ, arith}
 use Rattle.meaning_text.specs.Number.{spellℤ}
 use Rattle.text_count.proofs as own
 use own.Count.{row-counted}

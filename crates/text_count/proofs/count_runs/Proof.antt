@@ -1,7 +1,5 @@
 -- `count_runs`. The invariant: the first i runs of the part are counted (`Runs`).
-use Prim.Native.Nat.{_-_}
-use borrow.Author.Needs.{needs}
-use native.Mathlib.Omega.{arith}
+use Rattle.meaning_numbers.proofs.Prelude.{_-_, needs, arith}
 use Rattle.text_count.proofs as own
 use own.Count.{Runs, runs-start, runs-turn, runs-end, runs-past}
 use own.count_runs.Tie as tie

@@ -14,20 +14,27 @@ Inv text at first m₀ k₀ m k =
 abbrev μ : tie.MeasureT-loop
 μ text at first m₀ k₀ m k = 7 - k
 
+-- a number of so many digits is small
+small : (l : tie.At-loop Inv μ) → l.loop.m < 100000000000000000
+small l = omega (arith, top-most l.loop.k l.loop.inv.0, l.loop.inv.1)
+
 loop-again : tie.Need-loop-again Inv μ
-loop-again c = let l = c.before.before.before.before in let h : l.before.args.at + l.loop.k < length l.before.args.text.now = omega (arith, l.before.pre.1, c.before.before.before.loop-test.taken) in let n : l.loop.m < 100000000000000000 = omega (arith, l.loop.inv.0, l.loop.inv.1, top-most l.loop.k l.loop.inv.0) in (omega (arith, c.before.before.before.loop-test.taken), omega (arith, top-more l.loop.k, l.loop.inv.1, c.before.if1.left, c.if2.left), λ p. more-here l.loop.k (l.loop.inv.2 p) h (next-digit p l.loop.m _ c.before.if1.left c.if2.left n), λ p. more-here l.loop.k (l.loop.inv.3 p) h (next-less p l.loop.m _ c.before.if1.left c.if2.left n))
+loop-again c =
+    let l = c.before.before.before.before in
+    let h : l.before.args.at + l.loop.k < length l.before.args.text.now = omega (arith, l.before.pre.1, c.before.before.before.loop-test.taken) in (
+      omega (arith, c.before.before.before.loop-test.taken),
+      omega (arith, top-more l.loop.k, l.loop.inv.1, c.before.if1.left, c.if2.left),
+      λ p. more-here l.loop.k (l.loop.inv.2 p) h (next-digit p l.loop.m _ c.before.if1.left c.if2.left (small l)),
+      λ p. more-here l.loop.k (l.loop.inv.3 p) h (next-less p l.loop.m _ c.before.if1.left c.if2.left (small l)),
+    )
 
 pub digits-spec : {M : Type 1} → own.digits.Statement.statement M
 digits-spec =
     tie.close (tie.spec Inv μ (λ c. (omega arith, c.pre.0, λ p. still-here, λ p. still-here)) (λ c. search needs) (λ c. search needs)
-    (λ c. let l = c.before.before.before in omega (arith, l.loop.inv.0, l.loop.inv.1, top-most l.loop.k l.loop.inv.0))
-    (λ c. let l = c.before.before.before in omega (arith, l.loop.inv.0, l.loop.inv.1, top-most l.loop.k l.loop.inv.0))
+    (λ c. omega (arith, small (search needs))) (λ c. omega (arith, small (search needs)))
     (λ c. let l = c.before.before.before in digits-told _ _ _ _ _ l.loop.inv.1 l.loop.inv.0 l.loop.inv.2 l.loop.inv.3)
-    (λ c. let l = c.before.before.before.before in omega (arith, l.loop.inv.0, l.loop.inv.1, top-most l.loop.k l.loop.inv.0))
-    (λ c. let l = c.before.before.before.before in omega (arith, l.loop.inv.0, l.loop.inv.1, top-most l.loop.k l.loop.inv.0))
+    (λ c. omega (arith, small (search needs))) (λ c. omega (arith, small (search needs)))
     (λ c. let l = c.before.before.before.before in digits-told _ _ _ _ _ l.loop.inv.1 l.loop.inv.0 l.loop.inv.2 l.loop.inv.3)
-    (λ c. let l = c.before.before.before.before in omega (arith, l.loop.inv.0, l.loop.inv.1, top-most l.loop.k l.loop.inv.0)) (λ c. search needs)
-    (λ c. let l = c.before.before.before.before in omega (arith, l.loop.inv.0, l.loop.inv.1, top-most l.loop.k l.loop.inv.0, c.if2.left))
-    (λ c. search needs) (λ c. search needs) loop-again (λ c. let l = c.before in omega (arith, l.loop.inv.0, l.loop.inv.1, top-most l.loop.k l.loop.inv.0))
-    (λ c. let l = c.before in omega (arith, l.loop.inv.0, l.loop.inv.1, top-most l.loop.k l.loop.inv.0))
+    (λ c. omega (arith, small (search needs))) (λ c. search needs) (λ c. omega (arith, small (search needs), c.if2.left))
+    (λ c. search needs) (λ c. search needs) loop-again (λ c. omega (arith, small c.before)) (λ c. omega (arith, small c.before))
     (λ c. let l = c.before in digits-told _ _ _ _ _ l.loop.inv.1 l.loop.inv.0 l.loop.inv.2 l.loop.inv.3))

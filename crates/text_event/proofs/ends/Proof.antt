@@ -5,7 +5,7 @@ use Rattle.text_event.proofs.ends as own
 use own.Tie as tie
 
 stands-requires : tie.Need-stands-requires
-stands-requires c κs = let m = c.before.before in omega (arith, m.roomy.ensures (not-false _ c.before.if1.left))
+stands-requires c κs = omega (arith, c.before.before.roomy.ensures (not-false _ c.before.if1.left))
 
 returns-2 : tie.Need-returns-2
 unfolding bytes

@@ -8,12 +8,10 @@ returns-2 : tie.Need-returns-2
 returns-2 c =
     let m = c.before.before.before.before.before in
     let low = m.low.given.0.0 in
-    let x = rw m.low.given.1 at m.before.before.signed-at.ensures in
     let high = c.before.up.given.0.0 in
     let y = rw c.before.up.given.1 at c.before.before.before.signed-at2.ensures in
     let e = toZ-ofZ w64 low (search (needs, c.before.before.before.before.known-told.given)) in
-    let f = toZ-ofZ w64 high (search (needs, c.known-told2.given)) in
-    rw (e, f) (range-told _ _ low high _ _ (c.before.before.before.before.before.before.before.before.before.opens.ensures (not-false c.before.before.before.before.before.before.before.before.before.opens.result c.before.before.before.before.before.before.before.before.if1.left)) x y)
+    rw (e, toZ-ofZ w64 high (search (needs, c.known-told2.given))) (range-told _ _ low high _ _ (c.before.before.before.before.before.before.before.before.before.opens.ensures (not-false c.before.before.before.before.before.before.before.before.before.opens.result c.before.before.before.before.before.before.before.before.if1.left)) (rw m.low.given.1 at m.before.before.signed-at.ensures) y)
 
 pub range-at-spec : {M : Type 1} → own.range_at.Statement.statement M
 range-at-spec =

@@ -8,11 +8,9 @@ returns-2 : tie.Need-returns-2
 returns-2 c =
     let p = c.before.before.before.before.first-run.ensures (omega arith) in
     let m = c.before.before.before.before.before.before in
-    let low = m.low.given.0.0 in
-    let high = m.low.given.0.1.0 in
     let x = rw m.low.given.1 at m.before.before.range-at.ensures in
-    let e = toZ-ofZ w64 low (search (needs, c.before.before.before.before.before.known-told.given)) in
-    let f = toZ-ofZ w64 high (search (needs, c.before.before.before.before.before.known-told.given)) in
+    let e = toZ-ofZ w64 m.low.given.0.0 (search (needs, c.before.before.before.before.before.known-told.given)) in
+    let f = toZ-ofZ w64 m.low.given.0.1.0 (search (needs, c.before.before.before.before.before.known-told.given)) in
     rw (e, f, c.before.before.run-left.ensures, c.before.run-right.ensures, c.run-length.ensures) (refl, search needs)
 
 pub rows-event-spec : {M : Type 1} → own.rows_event.Statement.statement M

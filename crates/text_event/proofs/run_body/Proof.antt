@@ -10,10 +10,8 @@ unfolding bytes
 returns-5 c =
     let n = c.before.before.before.before in
     let s = n.before.before in
-    let e = s.before.before in
-    let x = e.before.number-at.ensures (omega arith) in
     let y = n.number-at2.ensures (omega arith) in
-    λ h. body-told _ _ _ _ x (s.stands.ensures.0 (not-false s.stands.result n.before.if2.left)) y (c.before.stands2.ensures.0 (not-false c.before.stands2.result c.if4.left))
+    λ h. body-told _ _ _ _ (s.before.before.before.number-at.ensures (omega arith)) (s.stands.ensures.0 (not-false s.stands.result n.before.if2.left)) y (c.before.stands2.ensures.0 (not-false c.before.stands2.result c.if4.left))
 
 pub run-body-spec : {M : Type 1} → own.run_body.Statement.statement M
 run-body-spec =

@@ -13,7 +13,7 @@ abbrev μ : tie.MeasureT-loop
 pub stands-spec : {M : Type 1} → own.stands.Statement.statement M
 stands-spec =
     tie.close (tie.spec Inv μ (search needs) (search needs) (search needs) (search needs)
-    (λ c. let l = c.before.before.before.before in (λ e. absurd (false≢true e), λ s. absurd (c.if1.taken (stands-byte s l.loop.k _ (omega arith) refl .1))))
+    (λ c. (λ e. absurd (false≢true e), λ s. absurd (c.if1.taken (stands-byte s c.before.before.before.before.loop.k _ (omega arith) refl .1))))
     (search needs) (search needs)
     (λ c. let l = c.before.before.before.before in (omega arith, same-more l.before.args.text.now l.before.args.word.now l.before.args.at l.loop.k l.loop.inv.1 c.if1.left))
     (λ c. let l = c.before in (λ e. stands-all _ _ _ l.before.pre (λ k h. l.loop.inv.1 k (omega (arith, h))), λ s. refl)))

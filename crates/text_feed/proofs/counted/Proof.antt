@@ -7,8 +7,8 @@ use own.Tie as tie
 pub counted-spec : {M : Type 1} → own.Statement.statement M
 unfolding valuesMore
 counted-spec =
-    tie.close (tie.spec (λ c κs. search needs) (λ c. search needs) (λ c. search needs)
-    (λ c. let a = c.before in let z = a.before.before.args.z in let e = toZ-ofZ w64 z a.before.before.fits.z in simp (eq-eqb _ _ a.before.if1.taken, sym (rw e at a.in-limits.ensures) ∙ c.if2.taken))
-    (λ c. search needs)
-    (λ c. let a = c.before in let z = a.before.before.args.z in let e = toZ-ofZ w64 z a.before.before.fits.z in simp (eq-eqb _ _ a.before.if1.taken, sym (rw e at a.in-limits.ensures) ∙ c.if2.left))
-    (λ c. search needs) (λ c. simp (ne-eqb _ _ c.if1.left)))
+    tie.close (tie.spec (search needs) (search needs) (search needs)
+    (λ c. let a = c.before in simp (eq-eqb _ _ a.before.if1.taken, sym (rw (toZ-ofZ w64 a.before.before.args.z a.before.before.fits.z) at a.in-limits.ensures) ∙ c.if2.taken))
+    (search needs)
+    (λ c. let a = c.before in simp (eq-eqb _ _ a.before.if1.taken, sym (rw (toZ-ofZ w64 a.before.before.args.z a.before.before.fits.z) at a.in-limits.ensures) ∙ c.if2.left))
+    (search needs) (λ c. simp (ne-eqb _ _ c.if1.left)))

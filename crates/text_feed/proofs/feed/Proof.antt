@@ -1,5 +1,5 @@
 -- `feed`. The invariant: what is kept after i bytes holds what the automaton has been told (`Sofar`). The measure is what is left of the piece.
-use Rattle.meaning_numbers.proofs.Prelude.{_≡_, sym, _∙_, _-_, arith, needs, length, w64, toZ, ofZ, toZ-ofZ}
+use Rattle.meaning_numbers.proofs.Prelude.{_≡_, sym, _∙_, _-_, needs, length, w64, toZ, ofZ, toZ-ofZ}
 use Rattle.text_feed.proofs as own
 use own.FeedLaws.{Sofar, sofar-start, sofar-to, sofar-value, sofar-ended, sofar-refuse, comes-failed, comes-going}
 use own.feed.Tie as tie
@@ -20,16 +20,10 @@ loop-again-2 c =
     let np = pn.before in
     let n = np.before.before.before in
     let a = n.before.before in
-    let l = a.before.before.before in
     let z = n.n2.given.0.1.1.0 in
     let e : toZ w64 (ofZ w64 z) ≡ z = toZ-ofZ w64 z (search (needs, np.before.before.known-told2.given)) in
-    let e1 = rw (np.number-place.ensures, e) at pn.put-number.ensures in
-    let e2 = rw (is.in-series.ensures, e) at k1.kept.ensures.0 in
-    let e3 = rw (is.in-series.ensures, e) at k1.kept.ensures.1 in
-    let e4 = rw (iq.in-query.ensures, e) at k2.kept2.ensures.0 in
-    let e5 = rw (iq.in-query.ensures, e) at k2.kept2.ensures.1 in
-    rw (e1, e2, e3, e4, e5)
-    (sofar-value l.loop.inv a.before.before.loop-test.taken n.n2.given.0.0 n.n2.given.0.1.0 z (sym a.line-step.ensures ∙ n.n2.given.1))
+    rw ((rw (np.number-place.ensures, e) at pn.put-number.ensures), (rw (is.in-series.ensures, e) at k1.kept.ensures.0), (rw (is.in-series.ensures, e) at k1.kept.ensures.1), (rw (iq.in-query.ensures, e) at k2.kept2.ensures.0), (rw (iq.in-query.ensures, e) at k2.kept2.ensures.1))
+    (sofar-value a.before.before.before.loop.inv a.before.before.loop-test.taken n.n2.given.0.0 n.n2.given.0.1.0 z (sym a.line-step.ensures ∙ n.n2.given.1))
 
 loop-again-3 : tie.Need-loop-again-3 Inv μ
 loop-again-3 c =
@@ -38,25 +32,24 @@ loop-again-3 c =
     let kp = kn.before in
     let n = kp.before.before.before in
     let a = n.before.before in
-    let l = a.before.before.before in
     let e1 = rw (kp.kind-place.ensures, toZ-ofZ w64 kn.kind-number.result (search needs), kn.kind-number.ensures) at pn.put-number2.ensures in
-    rw e1 (sofar-ended l.loop.inv a.before.before.loop-test.taken _ _ (sym a.line-step.ensures ∙ n.n3.given.1))
+    rw e1 (sofar-ended a.before.before.before.loop.inv a.before.before.loop-test.taken _ _ (sym a.line-step.ensures ∙ n.n3.given.1))
 
 pub feed-spec : {M : Type 1} → own.feed.Statement.statement M
 feed-spec =
-    tie.close (tie.spec Inv μ (λ c. let s = c.before.before.before in sofar-start s.args.p _ _ _ _ s.pre) (λ c. omega arith)
-    (λ c κs. search needs) (λ c. search needs) (λ c. omega arith) (λ c. omega arith)
-    (λ c. let a = c.before.before.before in let l = a.before.before.before in sofar-to l.loop.inv a.before.before.loop-test.taken c.before.n.given.0.0 (sym a.line-step.ensures ∙ c.before.n.given.1))
-    (λ c. search needs) (λ c κs. search needs) (λ c κs. search needs) (λ c κs. search needs)
-    (λ c κs. search needs)
-    (λ c κs. search needs)
-    (λ c κs. search needs)
-    (λ c. omega arith) (λ c. omega arith) loop-again-2 (λ c. search needs) (λ c κs. search needs) (λ c κs. search needs) (λ c κs. search needs)
-    (λ c. omega arith) (λ c. omega arith) loop-again-3 (λ c. search needs)
-    (λ c. search needs)
-    (λ c. search needs) (λ c. search needs)
-    (λ c. search needs)
-    (λ c. let a = c.before.before in let l = a.before.before.before in let s = l.before.before.before.before in (tt, λ g kept asked. comes-failed s.args.p _ _ _ _ _ _ _ _ g kept asked (sofar-refuse l.loop.inv a.before.before.loop-test.taken (sym a.line-step.ensures ∙ c.enum-told.given.1) g kept asked)))
-    (λ c. search needs)
-    (λ c. search needs) (λ c. search needs) (λ c. search needs)
-    (λ c. let l = c.before in let s = l.before.before.before.before in let i = l.loop.inv in ((i.good, i.first, i.second, search needs), λ g kept asked. comes-going s.args.p _ _ _ _ _ _ _ _ _ _ _ i c.loop-test.left g kept asked)))
+    tie.close (tie.spec Inv μ (λ c. let s = c.before.before.before in sofar-start s.args.p _ _ _ _ s.pre) (search needs)
+    (λ c κs. search needs) (search needs) (search needs) (search needs)
+    (λ c. let a = c.before.before.before in sofar-to a.before.before.before.loop.inv a.before.before.loop-test.taken c.before.n.given.0.0 (sym a.line-step.ensures ∙ c.before.n.given.1))
+    (search needs) (search needs) (search needs) (search needs)
+    (search needs)
+    (search needs)
+    (search needs)
+    (search needs) (search needs) loop-again-2 (search needs) (search needs) (search needs) (search needs)
+    (search needs) (search needs) loop-again-3 (search needs)
+    (search needs)
+    (search needs) (search needs)
+    (search needs)
+    (λ c. let a = c.before.before in let l = a.before.before.before in (tt, λ g kept asked. comes-failed l.before.before.before.before.args.p _ _ _ _ _ _ _ _ g kept asked (sofar-refuse l.loop.inv a.before.before.loop-test.taken (sym a.line-step.ensures ∙ c.enum-told.given.1) g kept asked)))
+    (search needs)
+    (search needs) (search needs) (search needs)
+    (λ c. let l = c.before in let i = l.loop.inv in ((i.good, i.first, i.second, search needs), λ g kept asked. comes-going l.before.before.before.before.args.p _ _ _ _ _ _ _ _ _ _ _ i c.loop-test.left g kept asked)))

@@ -9,4 +9,4 @@ returns c = let s = c.before.before in ap (set s.args.out.now s.args.k) (toZ-ofZ
 
 pub store-spec : {M : Type 1} → own.Statement.statement M
 store-spec =
-    tie.close (tie.spec (λ c κs. search needs) (λ c. search needs) (λ c. search needs) (λ c. search needs) returns (λ c. sym (set-out _ _ _ c.if1.left)))
+    tie.close (tie.spec (search needs) (search needs) (search needs) (search needs) returns (λ c. sym (set-out _ _ _ c.if1.left)))

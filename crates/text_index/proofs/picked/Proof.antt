@@ -1,6 +1,5 @@
 -- `picked`. By the case and the byte.
-use borrow.Author.Needs.{needs}
-use borrow.Author.Tests.{eq-eqb, ne-eqb}
+use Rattle.meaning_numbers.proofs.Prelude.{needs, eq-eqb, ne-eqb}
 use Rattle.text_index.specs.Step.{pick}
 use Rattle.text_index.proofs.picked as own
 use own.Tie as tie

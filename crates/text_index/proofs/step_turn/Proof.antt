@@ -1,6 +1,5 @@
 -- `step_turn`. The word that the byte picks is tried.
-use borrow.Author.Needs.{needs}
-use mathlib.Core.Path.{sym, _∙_}
+use Rattle.meaning_numbers.proofs.Prelude.{needs, sym, _∙_}
 use Rattle.text_index.specs.Step.{turnStep}
 use Rattle.text_index.proofs as own
 use own.Step.{word-long}

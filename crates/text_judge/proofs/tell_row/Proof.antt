@@ -16,9 +16,7 @@ tell-run-requires c κs = rw c.tell2.ensures (search needs, omega arith)
 returns : tie.Need-returns
 returns c =
     let s = c.before.before.before in
-    let e = toZ-ofZ w64 s.args.low s.fits.low in
-    let f = toZ-ofZ w64 s.args.up s.fits.up in
-    c.tell-run.ensures ∙ ap (toldRun s.args.l s.args.r) ((rw f at c.before.tell2.ensures) ∙ ap (tellTally Field.Up s.args.up) (rw e at c.before.before.tell.ensures))
+    c.tell-run.ensures ∙ ap (toldRun s.args.l s.args.r) ((rw (toZ-ofZ w64 s.args.up s.fits.up) at c.before.tell2.ensures) ∙ ap (tellTally Field.Up s.args.up) (rw (toZ-ofZ w64 s.args.low s.fits.low) at c.before.before.tell.ensures))
 
 pub tell-row-spec : {M : Type 1} → own.Statement.statement M
 tell-row-spec = tie.close (tie.spec (search needs) tell-requires-2 tell-run-requires returns)

@@ -8,10 +8,8 @@ use own.tell_run.Tie as tie
 returns : tie.Need-returns
 unfolding tellTally
 returns c =
-    let e = c.before in let d = e.before in let m = d.before in let s = c.before.before.before.before.before.before in let o = s.args.t.row in
-    let l = toZ-ofZ w32 o.low (record { sfits = search needs }) in
-    let u = toZ-ofZ w32 o.up (record { sfits = search needs }) in
-    c.with-row.ensures ∙ rw (u, l, m.more-run.ensures, held-pos s.args.l (omega arith), held-pos s.args.r (omega arith)) refl
+    let s = c.before.before.before.before.before.before in let o = s.args.t.row in
+    c.with-row.ensures ∙ rw (toZ-ofZ w32 o.up (record { sfits = search needs }), toZ-ofZ w32 o.low (record { sfits = search needs }), c.before.before.before.more-run.ensures, held-pos s.args.l (omega arith), held-pos s.args.r (omega arith)) refl
 
 pub tell-run-spec : {M : Type 1} → own.tell_run.Statement.statement M
 tell-run-spec = tie.close (tie.spec (search needs) (search needs) returns)

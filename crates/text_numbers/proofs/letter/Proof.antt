@@ -4,4 +4,4 @@ use Rattle.text_numbers.proofs.letter as own
 use own.Tie as tie
 
 pub letter-spec : {M : Type 1} → own.Statement.statement M
-letter-spec = tie.close (tie.spec (λ c. search needs) (λ c. search needs) (λ c. sym (List·getD-eq-default c.before.args.word.now 0 c.if1.left)))
+letter-spec = tie.close (tie.spec (search needs) (search needs) (λ c. sym (List·getD-eq-default c.before.args.word.now 0 c.if1.left)))

@@ -10,9 +10,9 @@ sub-t7 c = let g = rw c.before.n2.given.1 at c.before.before.before.pre in let m
 pub number-value-spec : {M : Type 1} → own.Statement.statement M
 unfolding whole
 number-value-spec =
-    tie.close (tie.spec (λ c. search needs) (λ c. search needs) (λ c. search needs) (λ c. search needs)
-    (λ c. let g = rw c.before.n.given.1 at c.before.before.before.pre in omega (zmach, g)) (λ c. search needs)
-    (λ c. let g = rw c.before.n2.given.1 at c.before.before.before.pre in omega (zmach, g)) sub-t7 (λ c. simp c.enum-told.given.1)
+    tie.close (tie.spec (search needs) (search needs) (search needs) (search needs)
+    (λ c. omega (zmach, (rw c.before.n.given.1 at c.before.before.before.pre))) (search needs)
+    (λ c. omega (zmach, (rw c.before.n2.given.1 at c.before.before.before.pre))) sub-t7 (λ c. simp c.enum-told.given.1)
     (λ c. simp c.enum-told2.given.1) (λ c. simp c.enum-told3.given.1)
-    (λ c. let g = rw c.before.n.given.1 at c.before.before.before.pre in simp (c.before.n.given.1, toZ-pos w64 c.before.n.given.0.0 (omega (arith, g))))
+    (λ c. simp (c.before.n.given.1, toZ-pos w64 c.before.n.given.0.0 (omega (arith, (rw c.before.n.given.1 at c.before.before.before.pre)))))
     (λ c. let g = rw c.before.n2.given.1 at c.before.before.before.pre in let m = c.before.n2.given.0.0 in let f = sub-t7 c in let e : toZ w64 (ofZ w64 (pos 0 -ℤ toZ w64 m)) ≡ negℤ (pos m) = omega (zmach, g, z-cast m (omega (arith, g)), z-sub (pos 0) (toZ w64 m), z-neg (pos m)) in simp (c.before.n2.given.1, e)))

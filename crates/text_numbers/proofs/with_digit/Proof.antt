@@ -8,4 +8,4 @@ add-result : tie.Need-add-result
 add-result c = omega (arith, behind-true c.args.m c.args.b c.pre .1, behind-true c.args.m c.args.b c.pre .2)
 
 pub with-digit-spec : {M : Type 1} → own.with_digit.Statement.statement M
-with-digit-spec = tie.close (tie.spec (λ c. omega (arith, behind-true c.args.m c.args.b c.pre .2)) (λ c. omega (arith, behind-true c.args.m c.args.b c.pre .0)) (λ c. search needs) add-result (λ c. search needs))
+with-digit-spec = tie.close (tie.spec (λ c. omega (arith, behind-true c.args.m c.args.b c.pre .2)) (λ c. omega (arith, behind-true c.args.m c.args.b c.pre .0)) (search needs) add-result (search needs))

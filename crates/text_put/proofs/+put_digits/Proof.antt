@@ -58,7 +58,7 @@ put-digits-returns : (t : ℕ) → put-digits-lts.Need-returns (
   put-digits-below t,
   put-digits.Post,
 ) (put-digits-at t) put-digits.Post
-put-digits-returns t c = let s = c.before.before.before.before.before.before in rw (spell-one s.args.n (omega arith)) c.before.before.put-byte.ensures
+put-digits-returns t c = rw (spell-one c.before.before.before.before.before.before.args.n (omega arith)) c.before.before.put-byte.ensures
 
 put-digits-put-digits-requires : (t : ℕ) → put-digits-lts.Need-put-digits-requires (
   put-byte-reads.Asked,

@@ -17,4 +17,4 @@ returns-2 c =
     (search needs, omega (arith, c.few-digits2.ensures, e, length-most 9 n (omega (arith, c.before.before.fits.n))))
 
 pub digit-count-spec : {M : Type 1} → own.digit_count.Statement.statement M
-digit-count-spec = tie.close (tie.spec (λ c κs. search needs) returns (λ c κs. search needs) add-result returns-2)
+digit-count-spec = tie.close (tie.spec (search needs) returns (search needs) add-result returns-2)

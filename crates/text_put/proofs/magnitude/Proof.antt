@@ -1,19 +1,29 @@
 -- `magnitude`. By the sign.
-use Rattle.meaning_numbers.proofs.Prelude.{pos, _+ℤ_, _-ℤ_, w64, toZ, ofZ, z-add, z-sub, zmach, z-abs, z-fits}
+use Rattle.meaning_numbers.proofs.Prelude.{ℤ, pos, _+ℤ_, _-ℤ_, w64, toZ, ofZ, z-add, z-sub, zmach, z-abs, z-fits}
 use Rattle.text_put.proofs.magnitude as own
 use own.Tie as tie
 
+-- the number as the machine reads it, one more, and that turned
+abbrev X : tie.Start → ℤ
+X o = toZ w64 (ofZ w64 o.args.x)
+
+abbrev Y : tie.Start → ℤ
+Y o = toZ w64 (ofZ w64 (X o +ℤ pos 1))
+
+abbrev Z : tie.Start → ℤ
+Z o = toZ w64 (ofZ w64 (pos 0 -ℤ Y o))
+
 add-result : tie.Need-add-result
-add-result c = let x = c.before.args.x in let b = z-fits c.before.fits.x in let X = toZ w64 (ofZ w64 x) in let S = X +ℤ pos 1 in let s = toZ w64 (ofZ w64 S) in omega (zmach, b, z-add X (pos 1))
+add-result c = let o = c.before in omega (zmach, z-fits o.fits.x, z-add (X o) (pos 1))
 
 sub-result : tie.Need-sub-result
-sub-result c = let x = c.before.args.x in let b = z-fits c.before.fits.x in let X = toZ w64 (ofZ w64 x) in let S = X +ℤ pos 1 in let s = toZ w64 (ofZ w64 S) in let D = pos 0 -ℤ s in let d = toZ w64 (ofZ w64 D) in let f = add-result c in omega (zmach, b, z-add X (pos 1), z-sub (pos 0) s)
+sub-result c = let o = c.before in omega (zmach, add-result c, z-fits o.fits.x, z-add (X o) (pos 1), z-sub (pos 0) (Y o))
 
 pub magnitude-spec : {M : Type 1} → own.Statement.statement M
 magnitude-spec =
     tie.close (tie.spec add-result sub-result
-    (λ c. let x = c.before.args.x in let b = z-fits c.before.fits.x in let X = toZ w64 (ofZ w64 x) in let S = X +ℤ pos 1 in let s = toZ w64 (ofZ w64 S) in let D = pos 0 -ℤ s in let d = toZ w64 (ofZ w64 D) in let f = add-result c in let g = sub-result c in omega (zmach, b, z-add X (pos 1), z-sub (pos 0) s, z-abs d))
-    (λ c. let x = c.before.args.x in let b = z-fits c.before.fits.x in let X = toZ w64 (ofZ w64 x) in let S = X +ℤ pos 1 in let s = toZ w64 (ofZ w64 S) in let D = pos 0 -ℤ s in let d = toZ w64 (ofZ w64 D) in let f = add-result c in let g = sub-result c in omega (zmach, b, z-add X (pos 1), z-sub (pos 0) s, z-abs d))
-    (λ c. let x = c.before.args.x in let b = z-fits c.before.fits.x in let X = toZ w64 (ofZ w64 x) in let S = X +ℤ pos 1 in let s = toZ w64 (ofZ w64 S) in let D = pos 0 -ℤ s in let d = toZ w64 (ofZ w64 D) in let f = add-result c in let g = sub-result c in omega (zmach, b, z-add X (pos 1), z-sub (pos 0) s, z-abs d, z-abs x))
-    (λ c. let x = c.before.args.x in let b = z-fits c.before.fits.x in let X = toZ w64 (ofZ w64 x) in let S = X +ℤ pos 1 in let s = toZ w64 (ofZ w64 S) in let D = pos 0 -ℤ s in let d = toZ w64 (ofZ w64 D) in omega (zmach, b, z-abs X))
-    (λ c. let x = c.before.args.x in let b = z-fits c.before.fits.x in let X = toZ w64 (ofZ w64 x) in let S = X +ℤ pos 1 in let s = toZ w64 (ofZ w64 S) in let D = pos 0 -ℤ s in let d = toZ w64 (ofZ w64 D) in omega (zmach, b, z-abs X, z-abs x)))
+    (λ c. let o = c.before in omega (zmach, add-result c, sub-result c, z-fits o.fits.x, z-add (X o) (pos 1), z-sub (pos 0) (Y o), z-abs (Z o)))
+    (λ c. let o = c.before in omega (zmach, add-result c, sub-result c, z-fits o.fits.x, z-add (X o) (pos 1), z-sub (pos 0) (Y o), z-abs (Z o)))
+    (λ c. let o = c.before in omega (zmach, add-result c, sub-result c, z-fits o.fits.x, z-add (X o) (pos 1), z-sub (pos 0) (Y o), z-abs (Z o), z-abs o.args.x))
+    (λ c. let o = c.before in omega (zmach, z-fits o.fits.x, z-abs (X o)))
+    (λ c. let o = c.before in omega (zmach, z-fits o.fits.x, z-abs (X o), z-abs o.args.x)))

@@ -1,5 +1,5 @@
 -- `number_length`: the digits, and the sign of a number below 0.
-use Rattle.meaning_numbers.proofs.Prelude.{_≡_, sym, ap, _∙_, ℕ, _≤_, arith, pos, natAbs, length, _≤ℤ_, _<ℤ_, w32, w64, toZ, ofZ, toZ-ofZ, zmach32, needs}
+use Rattle.meaning_numbers.proofs.Prelude.{_≡_, sym, ap, _∙_, _≤_, arith, pos, natAbs, length, _≤ℤ_, _<ℤ_, w32, w64, toZ, ofZ, toZ-ofZ, zmach32, needs}
 use Rattle.meaning_text.specs.Number.{spellℕ}
 use Rattle.text_put.proofs as own
 use own.Digits.{sfits-wide, abs-small, spell-minus, spell-plus}
@@ -21,15 +21,14 @@ returns c =
     let m = c.before.before in
     let x = m.before.args.x in
     let h : x <ℤ pos 0 = omega zmach32 in
-    let n = ap (λ (k : ℕ). length (spellℕ k)) (abs m) in
-    (omega (arith, c.before.digit-count.ensures.0, n, ap length (spell-minus x h)), search needs)
+    (omega (arith, c.before.digit-count.ensures.0, ap (λ k. length (spellℕ k)) (abs m), ap length (spell-minus x h)), search needs)
 
 returns-2 : tie.Need-returns-2
 returns-2 c =
     let m = c.before.before in
     let x = m.before.args.x in
     let h : pos 0 ≤ℤ x = omega zmach32 in
-    (c.before.digit-count.ensures.0 ∙ ap (λ (k : ℕ). length (spellℕ k)) (abs m) ∙ sym (ap length (spell-plus x h)), search needs)
+    (c.before.digit-count.ensures.0 ∙ ap (λ k. length (spellℕ k)) (abs m) ∙ sym (ap length (spell-plus x h)), search needs)
 
 pub number-length-spec : {M : Type 1} → own.number_length.Statement.statement M
-number-length-spec = tie.close (tie.spec (λ c. rw (toZ-ofZ w32 c.args.x c.fits.x) (sfits-wide c.fits.x)) (λ c κs. search needs) (λ c. omega (arith, small c)) (λ c κs. search needs) (λ c. search needs) returns returns-2)
+number-length-spec = tie.close (tie.spec (λ c. rw (toZ-ofZ w32 c.args.x c.fits.x) (sfits-wide c.fits.x)) (search needs) (λ c. omega (arith, small c)) (search needs) (search needs) returns returns-2)

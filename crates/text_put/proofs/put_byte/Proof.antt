@@ -6,4 +6,4 @@ use own.put_byte.Tie as tie
 
 pub put-byte-spec : {M : Type 1} → own.put_byte.Statement.statement M
 put-byte-spec =
-    tie.close (tie.spec (λ c. search needs) (λ c. search needs) (λ c. search needs) (λ c. search needs) (λ c. search needs) (λ c. put-out _ _ _ c.if1.left))
+    tie.close (tie.spec (search needs) (search needs) (search needs) (λ c. search needs) (search needs) (λ c. put-out _ _ _ c.if1.left))

@@ -13,7 +13,7 @@ abbrev μ : tie.MeasureT-loop
 
 pub put-word-spec : {M : Type 1} → own.put_word.Statement.statement M
 put-word-spec =
-    tie.close (tie.spec Inv μ (λ c κs. search needs) (λ c. (search needs, omega arith))
-    (λ c. omega arith) (λ c κs. search needs) (λ c. omega arith) (λ c. omega arith)
+    tie.close (tie.spec Inv μ (search needs) (λ c. (search needs, omega arith))
+    (search needs) (search needs) (search needs) (search needs)
     (λ c. let l = c.before.before.before.before.before.before in (put-turn l.before.before.before.before.args.word.now l.loop.i c.before.before.before.before.before.loop-test.taken l.loop.inv.0 c.before.before.put-byte.ensures, omega arith))
     (λ c. put-length c.before.loop.inv.0) (λ c. put-all _ c.before.loop.i (omega arith) c.before.loop.inv.0))

@@ -12,4 +12,4 @@ returns c =
     rw e at c.before.before.write-number.ensures
 
 pub write-i32-spec : {M : Type 1} → own.write_i32.Statement.statement M
-write-i32-spec = tie.close (tie.spec (λ c. let s = c.before.before in rw (toZ-ofZ w32 s.args.x s.fits.x) (sfits-wide s.fits.x)) (λ c κs. search needs) (λ c. search needs) returns)
+write-i32-spec = tie.close (tie.spec (λ c. let s = c.before.before in rw (toZ-ofZ w32 s.args.x s.fits.x) (sfits-wide s.fits.x)) (search needs) (search needs) returns)

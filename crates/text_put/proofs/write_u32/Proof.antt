@@ -5,9 +5,8 @@ use own.Tie as tie
 
 returns : tie.Need-returns
 returns c =
-    let s = c.before.before.before.before.before in
-    let e = toZ-pos w64 s.args.x (omega arith) in
+    let e = toZ-pos w64 c.before.before.before.before.before.args.x (omega arith) in
     rw (sym e) c.before.before.write-number.ensures
 
 pub write-u32-spec : {M : Type 1} → own.Statement.statement M
-write-u32-spec = tie.close (tie.spec (λ c. search needs) (λ c κs. search needs) (λ c. search needs) returns)
+write-u32-spec = tie.close (tie.spec (search needs) (search needs) (search needs) returns)

@@ -9,4 +9,4 @@ unfolding spellℤ
 returns c = search needs
 
 pub write-u64-spec : {M : Type 1} → own.Statement.statement M
-write-u64-spec = tie.close (tie.spec (λ c κs. search needs) (λ c. search needs) returns)
+write-u64-spec = tie.close (tie.spec (search needs) (search needs) returns)

@@ -1,6 +1,5 @@
 -- `bad` meets its contract.
-use borrow.Author.Needs.{needs}
-use mathlib.Core.Path.{ap}
+use Rattle.meaning_numbers.proofs.Prelude.{needs, ap}
 use Rattle.try_c_lines.specs.Told.{badLine}
 use Rattle.try_c_lines.proofs.bad as own
 use own.Tie as tie

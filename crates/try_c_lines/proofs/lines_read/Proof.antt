@@ -1,9 +1,5 @@
 -- `lines_read`. The invariant: the text has been read up to a place inside it, and what is kept is what it comes to.
-use Prim.Native.Nat.{_-_}
-use borrow.Author.Needs.{needs}
-use lib.ListN.{length, take}
-use mathlib.Core.Path.{_≡_, refl, _∙_}
-use native.Mathlib.Omega.{arith}
+use Rattle.meaning_numbers.proofs.Prelude.{_-_, needs, length, take, _≡_, refl, _∙_, arith}
 use Rattle.text_feed.specs.declared.Feeding.{Feeding}
 use Rattle.try_c_lines.specs.Piece.{Stands}
 use Rattle.try_c_lines.proofs as own

@@ -1,9 +1,5 @@
 -- `piece`: the piece ends inside the text.
-use Prim.Native.Nat.{ℕ}
-use borrow.Author.Needs.{needs}
-use lib.ListN.{length-take, length-drop}
-use mathlib.Core.Path.{subst}
-use native.Mathlib.Omega.{arith}
+use Rattle.meaning_numbers.proofs.Prelude.{ℕ, needs, length-take, length-drop, subst, arith}
 use Rattle.text_feed.specs.Feed.{GoodFeeding}
 use Rattle.try_c_lines.proofs.piece as own
 use own.Tie as tie

@@ -1,8 +1,5 @@
 -- `agree_numbers` meets its contract.
-use Prim.Native.Nat.{_-_, _≤_}
-use borrow.Author.Needs.{needs}
-use lib.ListN.{length}
-use native.Mathlib.Omega.{arith}
+use Rattle.meaning_numbers.proofs.Prelude.{_-_, _≤_, needs, length, arith}
 use Rattle.try_index.proofs.agree_numbers as own
 use own.Tie as tie
 

@@ -1,7 +1,5 @@
 -- `get_rows` meets its contract.
-use Prim.Native.Nat.{_-_, _≤_}
-use borrow.Author.Needs.{needs}
-use native.Mathlib.Omega.{arith}
+use Rattle.meaning_numbers.proofs.Prelude.{_-_, _≤_, needs, arith}
 use Rattle.try_index.proofs.get_rows as own
 use own.Tie as tie
 

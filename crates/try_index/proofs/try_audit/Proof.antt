@@ -1,7 +1,5 @@
 -- `try_audit` meets its contract.
-use borrow.Author.Needs.{needs}
-use lib.ListN.{length-take}
-use native.Mathlib.Omega.{arith}
+use Rattle.meaning_numbers.proofs.Prelude.{needs, length-take, arith}
 use Rattle.try_index.proofs.try_audit as own
 use own.Tie as tie
 

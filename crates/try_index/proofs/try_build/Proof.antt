@@ -1,9 +1,5 @@
 -- `try_build` meets its contract.
-use borrow.Author.Needs.{needs}
-use lib.ListN.{length-take}
-use lib.Seq.{length-take-le}
-use mathlib.Core.Path.{sym}
-use native.Mathlib.Omega.{arith}
+use Rattle.meaning_numbers.proofs.Prelude.{needs, length-take, length-take-le, sym, arith}
 use Rattle.try_index.proofs.try_build as own
 use own.Tie as tie
 

@@ -1,7 +1,5 @@
 -- `run` meets its contract.
-use Prim.Native.Nat.{_≤_}
-use borrow.Author.Needs.{needs}
-use native.Mathlib.Omega.{arith}
+use Rattle.meaning_numbers.proofs.Prelude.{_≤_, needs, arith}
 use Rattle.try_search.proofs.run as own
 use own.Tie as tie
 

@@ -1,7 +1,5 @@
 -- `with_query` meets its contract.
-use borrow.Author.Needs.{needs}
-use lib.Seq.{length-take-le}
-use mathlib.Core.Path.{sym}
+use Rattle.meaning_numbers.proofs.Prelude.{needs, length-take-le, sym}
 use Rattle.try_search.proofs.with_query as own
 use own.Tie as tie
 

@@ -1,9 +1,5 @@
 -- `get_numbers` meets its contract.
-use Prim.Native.Nat.{_-_, _≤_}
-use borrow.Author.Needs.{needs}
-use lib.ListN.{length, length-set}
-use mathlib.Core.Path.{_≡_}
-use native.Mathlib.Omega.{arith}
+use Rattle.meaning_numbers.proofs.Prelude.{_-_, _≤_, needs, length, length-set, _≡_, arith}
 use Rattle.try_vectors.proofs.get_numbers as own
 use own.Tie as tie
 

@@ -1,9 +1,5 @@
 -- `read_numbers` meets its contract.
-use Prim.Native.Nat.{_-_, _≤_}
-use borrow.Author.Needs.{needs}
-use lib.ListN.{length}
-use mathlib.Core.Path.{_≡_}
-use native.Mathlib.Omega.{arith}
+use Rattle.meaning_numbers.proofs.Prelude.{_-_, _≤_, needs, length, _≡_, arith}
 use Rattle.try_vectors.proofs.read_numbers as own
 use own.Tie as tie
 

@@ -25,5 +25,5 @@ loop-again c =
 
 pub copy-values-spec : {M : Type 1} → own.Statement.statement M
 copy-values-spec =
-    tie.close (tie.spec Inv μ (λ c. (omega arith, refl, λ k l. absurd (omega arith))) (λ c. omega arith) (λ c. omega arith) (λ c. omega arith) (λ c. omega arith) (λ c. omega arith)
-    (λ c. omega arith) loop-again (λ c. omega arith) (λ c. record { long = omega arith; at = λ k l. c.before.loop.inv.2 k (omega arith) }))
+    tie.close (tie.spec Inv μ (λ c. (omega arith, refl, λ k l. absurd (omega arith))) (search needs) (search needs) (search needs) (search needs) (search needs)
+    (search needs) loop-again (search needs) (λ c. record { long = omega arith; at = λ k l. c.before.loop.inv.2 k (omega arith) }))

@@ -34,5 +34,5 @@ returns c =
 
 pub count-outside-spec : {M : Type 1} → own.Statement.statement M
 count-outside-spec =
-    tie.close (tie.spec Inv μ (λ c. (omega arith, sym (count-none _))) (λ c. omega arith) (λ c. omega arith) (λ c. omega arith) (λ c κs. search needs) (λ c. tt)
-    (λ c. omega (arith, more c, count-le (outside c) (l c .loop .k + 1))) (λ c. omega arith) (λ c. omega arith) (λ c. (omega arith, more c)) returns)
+    tie.close (tie.spec Inv μ (λ c. (omega arith, sym (count-none _))) (search needs) (search needs) (search needs) (search needs) (λ c. tt)
+    (λ c. omega (arith, more c, count-le (outside c) (l c .loop .k + 1))) (search needs) (search needs) (λ c. (omega arith, more c)) returns)

@@ -26,10 +26,9 @@ abbrev μ : tie.MeasureT-loop
 
 loop-again : tie.Need-loop-again Inv μ
 loop-again c =
-    let l = c.before.before.before in
-    (omega arith, block-in _ _ 256 l.loop.inv.1 (omega arith))
+    (omega arith, block-in _ _ 256 c.before.before.before.loop.inv.1 (omega arith))
 
 pub first-outside-spec : {M : Type 1} → own.Statement.statement M
 first-outside-spec =
-    tie.close (tie.spec Inv μ (λ c. (omega arith, record { inside = λ k l. absurd (omega arith) })) (λ c. omega arith) (λ c κs. search needs) (λ c κs. search needs) (λ c. search needs)
-    (λ c. omega arith) (λ c. omega arith) loop-again (λ c κs. search needs) (λ c. search needs))
+    tie.close (tie.spec Inv μ (λ c. (omega arith, record { inside = λ k l. absurd (omega arith) })) (search needs) (search needs) (λ c κs. search needs) (λ c. search needs)
+    (search needs) (search needs) loop-again (λ c κs. search needs) (λ c. search needs))

@@ -47,6 +47,6 @@ returns c =
 
 pub next-sums-spec : {M : Type 1} → own.next_sums.Statement.statement M
 next-sums-spec =
-    tie.close (tie.spec (λ c. search needs) (λ c. search needs) (λ c. search needs) (λ c. search needs) (λ c. search needs) (λ c κs. in-arg (c.before.before.pre.1.1.0.at _))
+    tie.close (tie.spec (search needs) (search needs) (search needs) (search needs) (search needs) (λ c κs. in-arg (c.before.before.pre.1.1.0.at _))
     (λ c κs. in-arg (c.before.before.before.pre.1.1.0.at _)) add-t14 sub-t15 (λ c. omega (arith, v-small c.before .1)) add-t17 (λ c. omega (arith, u-small c.before.before .1)) sub-t19
     returns)

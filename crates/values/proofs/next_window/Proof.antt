@@ -34,6 +34,6 @@ returns c = let a = o c .args in plus-back (left-is c) (above c) (below c) (o c 
 
 pub next-window-spec : {M : Type 1} → own.next_window.Statement.statement M
 next-window-spec =
-    tie.close (tie.spec (λ c. search needs) (λ c. search needs) (λ c. search needs) (λ c. search needs) (λ c. search needs)
+    tie.close (tie.spec (search needs) (search needs) (search needs) (search needs) (search needs)
     (λ c. let a = o c .args in out-fits a.w a.j (o c .pre .1 .1 .0) (o c .pre .1 .0) (sum-is c) a.j)
     (λ c. plus-fits (left-is c) (above c) (below c) (o c .pre .1 .1 .0 .at _)) returns)

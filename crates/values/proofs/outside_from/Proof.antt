@@ -28,5 +28,5 @@ loop-again c =
 
 pub outside-from-spec : {M : Type 1} → own.Statement.statement M
 outside-from-spec =
-    tie.close (tie.spec Inv μ (λ c. (omega arith, search needs)) (λ c. omega arith) (λ c. omega arith) (λ c κs. search needs) returns (λ c. omega arith) (λ c. omega arith)
+    tie.close (tie.spec Inv μ (λ c. (omega arith, search needs)) (search needs) (search needs) (search needs) returns (search needs) (search needs)
     loop-again (λ c. sym (ap placed (in-values _ (λ k l. c.before.loop.inv.1 k (omega arith))))))

@@ -1,6 +1,6 @@
 -- `window_sum`: the raised sum less the bias (`window-raised`).
 use Rattle.meaning_numbers.proofs.Sum.{Σℕ-le}
-use Rattle.meaning_numbers.proofs.Prelude.{needs, _∙_, ap, ℕ, _*_, arith, pos, _-ℤ_, w32, toZ-ofZ}
+use Rattle.meaning_numbers.proofs.Prelude.{needs, _∙_, ap, _*_, arith, pos, _-ℤ_, w32, toZ-ofZ}
 use Rattle.meaning_curves.specs.Curve.{stretch}
 use Rattle.numbers.specs.Raised.{raised, raised-le}
 use Rattle.values.proofs as own
@@ -17,7 +17,7 @@ returns : tie.Need-returns
 returns c =
     let o = c.before.before in
     toZ-ofZ w32 _ (record { sfits = c.lower.ok }) ∙ c.lower.ensures
-    ∙ ap (λ (n : ℕ). pos n -ℤ pos (10000 * o.args.w)) c.before.raised-sum.ensures ∙ window-raised _ _ o.pre.1.1
+    ∙ ap (λ n. pos n -ℤ pos (10000 * o.args.w)) c.before.raised-sum.ensures ∙ window-raised _ _ o.pre.1.1
 
 pub window-sum-spec : {M : Type 1} → own.window_sum.Statement.statement M
-window-sum-spec = tie.close (tie.spec (λ c κs. search needs) (λ c. search needs) lower-requires returns)
+window-sum-spec = tie.close (tie.spec (λ c κs. search needs) (search needs) lower-requires returns)
