@@ -2,10 +2,10 @@
 use Rattle.meaning_numbers.specs.{Sum.bit, Place.any}
 use Rattle.meaning_numbers.proofs.Prelude.{_≡_, refl, sym, ap, _∙_, Bool, true, false, _&&_, and-false, and-true, List, [], _∷_, map, ℕ, zero, suc, _+_, _-_, _*_, _<_, _≤_, arith, decLt, eqb, ℤ, natAbs, length, getD, _≤ℤ_, _<ℤ_, eq-eqb, ne-eqb, le-leb, lt-leb, Rep, zarith, by-test, clash}
 use Rattle.meaning_numbers.proofs.{Count.bit-false, Member.all-mem, Member.mem-at}
-use Rattle.meaning_curves.specs.{Limits.lowestEnd, Curve.windowSum, Curve.windowCount}
+use Rattle.meaning_curves.specs.{Limits.lowestEnd}
 use Rattle.meaning_rows.specs.{declared.Row.Row, Range.inside, Runs.before, Runs.runCount, Index.Index, Index.entries, Extend.grown}
 use Rattle.meaning_rows.proofs.Grown.{onward, onward-count, lastEnds, Begun, begun-woven, old-count, joins-old}
-use Rattle.meaning_rows.proofs.{Range.is-inside, Runs.runs-cong, Times.Ascending, Judge.WellFormed, Judge.rangeOf, Extend.Extendable, Extend.grown-new, Woven.wovenRows, Woven.woven-ascends, Woven.woven-covers}
+use Rattle.meaning_rows.proofs.{Range.is-inside, Runs.runs-cong, Times.Ascending, Judge.WellFormed, Judge.rangeOf, Extend.Extendable, Extend.grown-new, Woven.wovenRows, Woven.woven-ascends, Woven.woven-covers, Woven.Extending, Woven.extending}
 use Rattle.rows_records.specs.Records.{zeroRow}
 use Rattle.sums_slide.specs.{Levels.level, Levels.Lent, Ends.raisedEnd}
 use Rattle.sums_slide.proofs.{Levels.level-is, EndsLaws.raised-le, EndsLaws.raised-gt, EndsLaws.raised-mono}
@@ -87,23 +87,7 @@ module _ (rows : List Row) (bias : ℕ) (ups : List ℕ) (asc : Ascending lowest
 
 module _ (x : Index) (s : List ℤ) (g : WellFormed x) (long : Extendable x s) (e : ℕ) (lent : Lent s (natAbs x.window) e) (ups : List ℕ)
     (ends : Ends (wovenRows x s g long) (10000 * natAbs x.window + e) ups) where
-  abbrev w : ℕ
-  w = natAbs x.window
-
-  abbrev old : ℕ
-  old = natAbs x.windows
-
-  abbrev n : ℕ
-  n = windowCount (length s) w
-
-  abbrev sum : ℕ → ℤ
-  sum = windowSum s w
-
-  abbrev rows : List Row
-  rows = wovenRows x s g long
-
-  abbrev size : ℕ
-  size = length rows
+  open Extending (extending x s g long) using (w, old, n, sum, made as rows, size)
 
   abbrev bias : ℕ
   bias = 10000 * w + e

@@ -2,11 +2,11 @@
 -- windows can go on from there.
 use Rattle.meaning_numbers.specs.Order.{within}
 use Rattle.meaning_numbers.proofs.Member.{All, all-mem, mem-all, mem-at}
-use Rattle.meaning_numbers.proofs.Prelude.{_≡_, refl, sym, ap, _∙_, Bool, List, [], _∷_, ℕ, zero, suc, _+_, _-_, _<_, _≤_, arith, decLt, ℤ, pos, natAbs, length, getD, _≤ℤ_, _<ℤ_, leZ, zarith, leZ-true, both}
-use Rattle.meaning_curves.specs.{Limits.lowestEnd, Curve.windowSum, Curve.windowCount}
+use Rattle.meaning_numbers.proofs.Prelude.{_≡_, refl, sym, ap, _∙_, Bool, List, [], _∷_, ℕ, zero, suc, _+_, _-_, _<_, _≤_, arith, decLt, ℤ, pos, length, getD, _≤ℤ_, _<ℤ_, leZ, zarith, leZ-true, both}
+use Rattle.meaning_curves.specs.{Limits.lowestEnd}
 use Rattle.meaning_rows.specs.{declared.Row.Row, Range.lowOf, Runs.runs, Runs.runCount, Index.Index, Index.entries, Build.rowNumbers, Extend.grown}
 use Rattle.meaning_rows.proofs.Grown.{Begun, begun-woven, old-runs, old-count, left-at, right-at, length-entries}
-use Rattle.meaning_rows.proofs.{Judge.GoodEnd, Judge.GoodRow, Judge.WellFormed, Judge.each-row, Judge.ranges-ascend, Build.numbers-sorted, Build.numbers-occur, Sums.ends-good, Columns.lefts, Columns.rights, Columns.runCount-mono, Parts.Parts, Cursors.Cursors, Extend.Extendable, Woven.newRow, Woven.all-woven, Woven.wovenRows}
+use Rattle.meaning_rows.proofs.{Judge.GoodEnd, Judge.GoodRow, Judge.WellFormed, Judge.each-row, Judge.ranges-ascend, Build.numbers-sorted, Build.numbers-occur, Sums.ends-good, Columns.lefts, Columns.rights, Columns.runCount-mono, Parts.Parts, Cursors.Cursors, Extend.Extendable, Woven.newRow, Woven.all-woven, Woven.Extending, Woven.extending}
 use Rattle.rows_records.specs.Records.{zeroRow}
 use Rattle.extend_weave.specs.Turn.{endLow, endRow}
 use Rattle.extend_parts.specs.Copy.{partSize, nextOld, passedTo, columnTo, Copyable}
@@ -18,29 +18,10 @@ unfolding within
 end-below d z e = let h : z ≤ℤ pos 4000000 = leZ-true (both (leZ lowestEnd z) (leZ z (pos 4000000)) e.limited .1) in omega zarith
 
 module _ (x : Index) (s : List ℤ) (g : WellFormed x) (long : Extendable x s) where
-  abbrev w : ℕ
-  w = natAbs x.window
-
-  abbrev d : ℕ
-  d = natAbs x.width
-
-  abbrev old : ℕ
-  old = natAbs x.windows
-
-  abbrev n : ℕ
-  n = windowCount (length s) w
-
-  abbrev sum : ℕ → ℤ
-  sum = windowSum s w
-
-  abbrev made : List Row
-  made = wovenRows x s g long
+  open Extending (extending x s g long) using (w, d, old, n, sum, made, at)
 
   abbrev numbers : List ℤ
   numbers = rowNumbers (λ j. sum (old + j)) d (n - old)
-
-  abbrev at : ℕ → Row
-  at i = getD made i zeroRow
 
   -- the offsets of row i
   abbrev pub rowHas : ℕ → ℕ → Bool

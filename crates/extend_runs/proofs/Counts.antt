@@ -2,9 +2,8 @@
 use Rattle.meaning_numbers.specs.Sum.{bit}
 use Rattle.meaning_numbers.proofs.Prelude.{_≡_, refl, sym, ap, _∙_, Bool, true, false, and-false, List, [], _∷_, map, ℕ, zero, suc, _+_, _-_, _*_, _<_, _≤_, arith, decLt, leb, eqb, ℤ, natAbs, length, getD, set, length-map, getD-set-same, getD-set-other, lt-ltb, le-ltb, eqb-true, eqb-false, eq-eqb, ne-eqb, zarith, by-test, clash}
 use Rattle.meaning_numbers.proofs.{Sum.Σℕ-same, Count.bit-true, Count.bit-false}
-use Rattle.meaning_curves.specs.Curve.{windowSum, windowCount}
 use Rattle.meaning_rows.specs.{declared.Row.Row, Runs.before, Runs.runCount, Index.Index, Index.RangeRow, Index.entries, Build.withRuns, Extend.grown}
-use Rattle.meaning_rows.proofs.{Judge.WellFormed, Runs.runs-le, Extend.Extendable, Woven.wovenRows, Woven.woven-ascends, Woven.grownRuns, Grown.lastEnds, Grown.old-count, Grown.length-entries, Columns.getD-past}
+use Rattle.meaning_rows.proofs.{Judge.WellFormed, Runs.runs-le, Extend.Extendable, Woven.wovenRows, Woven.woven-ascends, Grown.lastEnds, Grown.old-count, Grown.length-entries, Columns.getD-past, Woven.Extending, Woven.extending}
 use Rattle.rows_records.specs.Records.{zeroRow}
 use Rattle.sums_slide.specs.Levels.{level, Lent}
 use Rattle.extend_new.specs.New.{lessJoin}
@@ -31,32 +30,10 @@ map-at G o (r ∷ l) (suc i) h = map-at G o l i (omega arith)
 
 module _ (x : Index) (s : List ℤ) (g : WellFormed x) (long : Extendable x s) (e : ℕ) (lent : Lent s (natAbs x.window) e) (left right : List ℕ) (is : x.runs ≡ entries left right)
     (rows : List Row) (row-at : (i : ℕ) → getD rows i zeroRow ≡ getD (wovenRows x s g long) i zeroRow) (in-rows : length (wovenRows x s g long) ≤ length rows) where
-  abbrev w : ℕ
-  w = natAbs x.window
-
-  abbrev old : ℕ
-  old = natAbs x.windows
-
-  abbrev n : ℕ
-  n = windowCount (length s) w
-
-  abbrev sum : ℕ → ℤ
-  sum = windowSum s w
-
-  abbrev made : List Row
-  made = wovenRows x s g long
-
-  abbrev size : ℕ
-  size = length made
-
-  abbrev at : ℕ → Row
-  at i = getD made i zeroRow
+  open Extending (extending x s g long) using (w, old, n, sum, made, size, at, G)
 
   abbrev P : ℕ → ℕ → Bool
   P = rowHas x s g long
-
-  abbrev G : Row → RangeRow
-  G = grownRuns x sum old n
 
   abbrev bias : ℕ
   bias = 10000 * w + e

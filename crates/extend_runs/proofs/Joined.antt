@@ -1,9 +1,8 @@
 -- Where the old runs are copied and the first new run is joined, the pass can begin (`passable`).
 use Rattle.meaning_numbers.specs.Sum.{bit}
-use Rattle.meaning_numbers.proofs.Prelude.{_≡_, refl, sym, ap, _∙_, subst, Bool, true, false, List, map, ℕ, suc, _+_, _-_, _*_, _<_, _≤_, arith, ℤ, natAbs, length, getD, set, take, length-set, getD-set-other, by-test, clash}
-use Rattle.meaning_curves.specs.Curve.{windowSum, windowCount}
-use Rattle.meaning_rows.specs.{declared.Row.Row, Range.inside, Runs.before, Runs.runCount, Index.Index, Index.RangeRow, Index.entries, Index.records}
-use Rattle.meaning_rows.proofs.{Judge.WellFormed, Runs.before-more, Runs.before-some, Columns.runCount-mono, Extend.Extendable, Woven.wovenRows, Woven.grownRuns, Parts.Parts, Cursors.Cursors, Grown.length-entries}
+use Rattle.meaning_numbers.proofs.Prelude.{_≡_, refl, sym, ap, _∙_, subst, Bool, true, false, List, map, ℕ, suc, _+_, _-_, _*_, _<_, _≤_, arith, ℤ, length, getD, set, take, length-set, getD-set-other, by-test, clash}
+use Rattle.meaning_rows.specs.{declared.Row.Row, Range.inside, Runs.before, Runs.runCount, Index.Index, Index.entries, Index.records}
+use Rattle.meaning_rows.proofs.{Judge.WellFormed, Runs.before-more, Runs.before-some, Columns.runCount-mono, Extend.Extendable, Parts.Parts, Cursors.Cursors, Grown.length-entries, Woven.Extending, Woven.extending}
 use Rattle.rows_records.specs.Records.{zeroRow}
 use Rattle.sums_slide.specs.{declared.Window.Window, Change.Change, Ends.raisedEnd}
 use Rattle.sums_slide.proofs.{Levels.level-is, EndsLaws.within-is}
@@ -30,32 +29,10 @@ unfolding bit
 some-before p j h = omega (arith, rw h at (before-some p j))
 
 module _ (x : Index) (s : List ℤ) (g : WellFormed x) (long : Extendable x s) where
-  abbrev w : ℕ
-  w = natAbs x.window
-
-  abbrev old : ℕ
-  old = natAbs x.windows
-
-  abbrev n : ℕ
-  n = windowCount (length s) w
-
-  abbrev sum : ℕ → ℤ
-  sum = windowSum s w
-
-  abbrev made : List Row
-  made = wovenRows x s g long
-
-  abbrev size : ℕ
-  size = length made
-
-  abbrev at : ℕ → Row
-  at i = getD made i zeroRow
+  open Extending (extending x s g long) using (w, old, n, sum, made, size, at, G)
 
   abbrev P : ℕ → ℕ → Bool
   P = rowHas x s g long
-
-  abbrev G : Row → RangeRow
-  G = grownRuns x sum old n
 
   abbrev total : ℕ
   total = partsTotal size n P

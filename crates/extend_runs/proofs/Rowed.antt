@@ -1,10 +1,10 @@
 -- The rows of an extension, laid out as records, are rows that the pass can fill from the old window count on (`extended-rowed`), and rows that the old runs can be copied to (`extended-laid`).
 use Rattle.meaning_numbers.specs.{Order.within, Sum.Σℕ}
-use Rattle.meaning_numbers.proofs.Prelude.{_≡_, refl, sym, ap, _∙_, subst, Bool, List, map, ℕ, _+_, _-_, _<_, _≤_, arith, ℤ, pos, natAbs, length, getD, take, length-map, getD-take, _≤ℤ_, zarith, leZ-true, both}
+use Rattle.meaning_numbers.proofs.Prelude.{_≡_, refl, sym, ap, _∙_, subst, Bool, List, map, ℕ, _+_, _-_, _<_, _≤_, arith, ℤ, pos, length, getD, take, length-map, getD-take, _≤ℤ_, zarith, leZ-true, both}
 use Rattle.meaning_numbers.proofs.{Sum.Σℕ-same, Member.all-mem, Member.mem-all, Member.mem-at}
-use Rattle.meaning_curves.specs.{Limits.lowestEnd, Curve.windowSum, Curve.windowCount}
-use Rattle.meaning_rows.specs.{declared.Row.Row, Range.lowOf, Range.upOf, Runs.runs, Runs.runCount, Index.Index, Index.RangeRow, Index.records, Index.allRuns, Build.entry, Build.withRuns, Extend.grown, Extend.extendedRows, Extend.extended}
-use Rattle.meaning_rows.proofs.Woven.{newRow, all-woven, wovenRows, grownRuns, woven-extended, woven-ascends, woven-covers}
+use Rattle.meaning_curves.specs.{Limits.lowestEnd}
+use Rattle.meaning_rows.specs.{declared.Row.Row, Range.lowOf, Range.upOf, Runs.runs, Runs.runCount, Index.Index, Index.records, Index.allRuns, Build.entry, Build.withRuns, Extend.grown, Extend.extendedRows, Extend.extended}
+use Rattle.meaning_rows.proofs.Woven.{newRow, all-woven, woven-extended, woven-ascends, woven-covers, Extending, extending}
 use Rattle.meaning_rows.proofs.{Judge.GoodEnd, Judge.WellFormed, Judge.each-row, Build.numbers-occur, Sums.ends-good, Extend.Extendable, Extend.grown-new, Extend.extended-most, LaidAt.records-at, LaidAt.runs-total}
 use Rattle.rows_records.specs.Records.{zeroRow}
 use Rattle.build_fill.specs.Pass.{partStart, partsTotal, parts-laid, Rowed}
@@ -21,35 +21,10 @@ unfolding within
 end-limits d z e = let b = both _ _ e.limited in (leZ-true b.0, leZ-true b.1)
 
 module _ (x : Index) (s : List ℤ) (g : WellFormed x) (long : Extendable x s) where
-  abbrev w : ℕ
-  w = natAbs x.window
-
-  abbrev d : ℕ
-  d = natAbs x.width
-
-  abbrev old : ℕ
-  old = natAbs x.windows
-
-  abbrev n : ℕ
-  n = windowCount (length s) w
-
-  abbrev sum : ℕ → ℤ
-  sum = windowSum s w
-
-  abbrev made : List Row
-  made = wovenRows x s g long
-
-  abbrev size : ℕ
-  size = length made
-
-  abbrev at : ℕ → Row
-  at i = getD made i zeroRow
+  open Extending (extending x s g long) using (w, d, old, n, sum, made, size, at, G)
 
   abbrev P : ℕ → ℕ → Bool
   P = rowHas x s g long
-
-  abbrev G : Row → RangeRow
-  G = grownRuns x sum old n
 
   one : 0 < d
   one = omega arith

@@ -2,9 +2,9 @@
 use Rattle.meaning_numbers.specs.Order.{within}
 use Rattle.meaning_numbers.proofs.Member.{all-mem, mem-all, mem-at}
 use Rattle.meaning_numbers.proofs.Prelude.{_≡_, refl, sym, ap, _∙_, List, _++_, map, ℕ, zero, suc, _+_, _-_, _*_, _<_, _≤_, arith, decLt, div-mul-le-self, ltb, ℤ, pos, natAbs, length, getD, take, replicate, length-map, length-append, length-replicate, List·getD-append, getD-take, getD-append-add, _≤ℤ_, _<ℤ_, leZ, ltb-true, zarith, leZ-true, by-test, both}
-use Rattle.meaning_curves.specs.{Limits.lowestEnd, Curve.windowSum, Curve.windowCount}
+use Rattle.meaning_curves.specs.{Limits.lowestEnd, Curve.windowSum}
 use Rattle.meaning_rows.specs.{declared.Row.Row, Index.Index}
-use Rattle.meaning_rows.proofs.{Judge.GoodEnd, Judge.WellFormed, Judge.each-row, Judge.ranges-ascend, Build.numbers-length, Extend.Extendable, Woven.woven, Woven.wovenRows, Woven.woven-most, Columns.getD-past}
+use Rattle.meaning_rows.proofs.{Judge.GoodEnd, Judge.WellFormed, Judge.each-row, Judge.ranges-ascend, Build.numbers-length, Extend.Extendable, Woven.woven, Woven.woven-most, Columns.getD-past, Woven.Extending, Woven.extending}
 use Rattle.meaning_entries.specs.Buffers.{filled}
 use Rattle.rows_records.specs.Records.{zeroRow}
 use Rattle.sums_slide.specs.{Table.table, Picked.Appended, Levels.level-small, Levels.rowOf, Levels.Lent, Levels.windowsOf}
@@ -41,23 +41,7 @@ new-small {s} {w} {e} old d b one bias lent i = by-test (ltb old (windowsOf s w)
     (λ f. rw f (λ l. absurd (omega arith)))
 
 module _ (x : Index) (s : List ℤ) (g : WellFormed x) (long : Extendable x s) (e b : ℕ) (lent : Lent s (natAbs x.window) e) (bias : 10000 * natAbs x.window + e ≡ b * natAbs x.width) where
-  abbrev w : ℕ
-  w = natAbs x.window
-
-  abbrev d : ℕ
-  d = natAbs x.width
-
-  abbrev old : ℕ
-  old = natAbs x.windows
-
-  abbrev n : ℕ
-  n = windowCount (length s) w
-
-  abbrev made : List Row
-  made = wovenRows x s g long
-
-  abbrev size : ℕ
-  size = length made
+  open Extending (extending x s g long) using (w, d, old, n, made, size)
 
   one : 0 < d
   one = omega arith

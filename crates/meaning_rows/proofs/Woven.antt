@@ -1,11 +1,11 @@
 -- The rows of an extension as one ascending walk over the old rows and the row numbers of the new windows: a number whose range an old row holds is skipped, any other makes a new row, and an old row
 -- is kept (`weave-inside`, `weave-new`, `weave-old`). Laid out with their runs, the records that the walk makes are the rows of the extension (`woven-extended`).
 use Rattle.meaning_numbers.specs.Place.{any}
-use Rattle.meaning_numbers.proofs.Prelude.{_≡_, refl, sym, ap, _∙_, subst, ⊎-elim, Bool, true, false, cond, not, List, [], _∷_, map, List·Memᴰ as Mem, List·Memᴰ·head as here, List·Memᴰ·tail as there, List·Memᴰ·not-nil as not-nil, List·Memᴰ·cases-cons as cases, ℕ, suc, _+_, _-_, _<_, _≤_, arith, leb, ℤ, natAbs, length, length-map, _≤ℤ_, _<ℤ_, ltZ, zarith, *ℤ-mono, lt-ltZ, le-ltZ, by-test, clash}
+use Rattle.meaning_numbers.proofs.Prelude.{_≡_, refl, sym, ap, _∙_, subst, ⊎-elim, Bool, true, false, cond, not, List, [], _∷_, map, List·Memᴰ as Mem, List·Memᴰ·head as here, List·Memᴰ·tail as there, List·Memᴰ·not-nil as not-nil, List·Memᴰ·cases-cons as cases, ℕ, suc, _+_, _-_, _<_, _≤_, arith, leb, ℤ, natAbs, length, length-map, _≤ℤ_, _<ℤ_, ltZ, zarith, *ℤ-mono, lt-ltZ, le-ltZ, by-test, clash, getD}
 use Rattle.meaning_numbers.proofs.{Quotient.floor-most, Member.any-cong, Member.any-map, Member.All, Member.all-mem}
 use Rattle.meaning_curves.specs.{Limits.lowestEnd, Curve.windowSum, Curve.windowCount}
 use Rattle.meaning_rows.specs.Extend.{grown, newNumbers, added, insertRow, insertRows, extendedRows, extended}
-use Rattle.meaning_rows.specs.{declared.Row.Row, Range.rowNumber, Range.lowOf, Range.upOf, Range.inside, Runs.runs, Index.Index, Index.RangeRow, Build.SetRow, Build.rowNumbers, Build.rowAt, Build.entry, Build.withRuns}
+use Rattle.meaning_rows.specs.{declared.Row.Row, Range.rowNumber, Range.lowOf, Range.upOf, Range.inside, Runs.runs, Index.Index, Index.zeroRow, Index.RangeRow, Build.SetRow, Build.rowNumbers, Build.rowAt, Build.entry, Build.withRuns}
 use Rattle.meaning_rows.proofs.Build.{range, Above, Sorted, mem-above, sorted-unique, numbers-sorted, numbers-mem, numbers-occur}
 use Rattle.meaning_rows.proofs.Extend.{Extendable, rows, ascends, covers-new, extended-most, new-sorted, new-mem, new-occur, beside}
 use Rattle.meaning_rows.proofs.{Range.inside-yes, Range.is-inside, Range.inside-below, Range.widen, Range.next-le, Range.row-below, Range.multiple-is, Runs.runs-cong, Times.Range, Times.holds, Times.Ascending, Judge.GoodEnd, Judge.WellFormed, Judge.rangeOf, Judge.each-row, Laid.length-records}
@@ -312,3 +312,30 @@ module _ (x : Index) (s : List ℤ) (g : WellFormed x) (e : Extendable x s) wher
   unfolding extended
   woven-most =
       omega (arith, extended-most x s g e .0, length-records 0 (extendedRows x sums count), ap length (woven-extended x sums count g), length-map wovenRows (grownRuns x sums (natAbs x.windows) count))
+
+-- ---- what an extension is spoken of by
+
+-- the window length and row width, the old window count and the new, the sums; the rows that are made, how many, row i, and a row with its runs
+pub record Extending : Type 0 where
+  pub w : ℕ
+  pub d : ℕ
+  pub old : ℕ
+  pub n : ℕ
+  pub sum : ℕ → ℤ
+  pub made : List Row
+  pub size : ℕ
+  pub at : ℕ → Row
+  pub G : Row → RangeRow
+
+abbrev pub extending : (x : Index) (s : List ℤ) (g : WellFormed x) → Extendable x s → Extending
+extending x s g long = record {
+  w = natAbs x.window;
+  d = natAbs x.width;
+  old = natAbs x.windows;
+  n = windowCount (length s) (natAbs x.window);
+  sum = windowSum s (natAbs x.window);
+  made = wovenRows x s g long;
+  size = length (wovenRows x s g long);
+  at = λ i. getD (wovenRows x s g long) i zeroRow;
+  G = grownRuns x (windowSum s (natAbs x.window)) (natAbs x.windows) (windowCount (length s) (natAbs x.window));
+}
