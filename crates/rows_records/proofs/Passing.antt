@@ -271,37 +271,33 @@ module _ {M : Type 1} (𝓤 : URA M) (H : Heap 𝓤) (A : Atoms 𝓤) where
         move ! (1 ∷ 0 ∷ []) $ at-once ! $ check ! (tt, f) $ done !)
 
     -- what the contract says of the parameters, and their tokens
-    goes-out : (xs : List Arg) → ent 𝓤 (⋆ 𝓤 H A (Had xs)) (H.⇛ (⋆ 𝓤 H A (raw (⋆ 𝓤 H A (Tokens′ xs)) ∷ raw (⋆ 𝓤 H A (Left xs)) ∷ [])))
+    abbrev Out : List Arg → Type 1
+    Out xs = ent 𝓤 (⋆ 𝓤 H A (Had xs)) (H.⇛ (⋆ 𝓤 H A (raw (⋆ 𝓤 H A (Tokens′ xs)) ∷ raw (⋆ 𝓤 H A (Left xs)) ∷ [])))
+
+    -- of a `&mut` before the others, however it is passed on
+    lent-out : (p : Lent) (l : List (p .row .Denot)) (e : length l ≡ length p.ref.now) (xs : List Arg) → Out xs → Out (lends p l e ∷ xs)
+    lent-out p l e xs out =
+        let said : Item 𝓤 = ‵ (fsep (finally p.row p.ref.name l) (feq ℕ (length l) (length p.ref.now))) in
+        via 𝓤 (⋆ 𝓤 H A (token p ∷ lent-at p l ∷ raw (⋆ 𝓤 H A (Had xs)) ∷ [])) (two (token p) (lent-at p l) (Had xs))
+        (qed W (token p ∷ lent-at p l ∷ raw (⋆ 𝓤 H A (Had xs)) ∷ []) ∵ updating ! $ move ! (2 ∷ []) $ use1 W (later (raw (⋆ 𝓤 H A (Tokens′ xs)) ⊛ raw (⋆ 𝓤 H A (Left xs)))) out $ await ! tt $ split ! $
+        move ! (2 ∷ 0 ∷ []) $ use2 W (raw (⋆ 𝓤 H A (token p ∷ Tokens′ xs))) (push 𝓤 H A (token p) (Tokens′ xs)) $
+        -- [tokens; said; the slice]
+        move ! (2 ∷ []) $ fsplit ! $ move ! (1 ∷ []) $ fsplit ! $
+        use1 W (‵ (fres p.ref.name (codedHoleys p.row .code (heres p.row l)))) (W.names.obs-res p.ref.name (codedHoleys p.row .code (heres p.row l))) $
+        use1 W (‵ (finally p.row p.ref.name l)) (res-finally 𝓤 H A W erased p.lft p.row p.ref.name l) $
+        feqI ! ℕ (length l) (length p.ref.now) e $ move ! (1 ∷ 0 ∷ []) $ fjoin ! $
+        -- [said of it; the borrow; that it is a slice; tokens; said]
+        move ! (0 ∷ 4 ∷ []) $ use2 W (raw (⋆ 𝓤 H A (said ∷ Left xs))) (push 𝓤 H A said (Left xs)) $ keep ! (3 ∷ 0 ∷ []) $ at-once ! $ done !)
+
+    goes-out : (xs : List Arg) → Out xs
     goes-out [] = qed W [] ∵ updating ! $ at-once ! $ use0 W (raw (emp 𝓤)) _ $ frame ! $ done !
     goes-out (value D x is ∷ xs) = goes-out xs
     goes-out (views p T x vs v ∷ xs) =
         via 𝓤 (⋆ 𝓤 H A (token p ∷ viewed p ∷ raw (⋆ 𝓤 H A (Had xs)) ∷ [])) (two (token p) (viewed p) (Had xs))
         (qed W (token p ∷ viewed p ∷ raw _ ∷ []) ∵ updating ! $ move ! (2 ∷ []) $ use1 W (later (raw (⋆ 𝓤 H A (Tokens′ xs)) ⊛ raw (⋆ 𝓤 H A (Left xs)))) (goes-out xs) $ await ! tt $ split ! $
         move ! (2 ∷ 0 ∷ []) $ use2 W (raw (⋆ 𝓤 H A (token p ∷ Tokens′ xs))) (push 𝓤 H A (token p) (Tokens′ xs)) $ keep ! (0 ∷ 1 ∷ []) $ at-once ! $ done !)
-    goes-out (lends p l e ∷ xs) =
-        let said : Item 𝓤 = ‵ (fsep (finally p.row p.ref.name l) (feq ℕ (length l) (length p.ref.now))) in
-        via 𝓤 (⋆ 𝓤 H A (token p ∷ lent-at p l ∷ raw (⋆ 𝓤 H A (Had xs)) ∷ [])) (two (token p) (lent-at p l) (Had xs))
-        (qed W (token p ∷ lent-at p l ∷ raw (⋆ 𝓤 H A (Had xs)) ∷ []) ∵ updating ! $ move ! (2 ∷ []) $ use1 W (later (raw (⋆ 𝓤 H A (Tokens′ xs)) ⊛ raw (⋆ 𝓤 H A (Left xs)))) (goes-out xs) $ await ! tt $ split ! $
-        move ! (2 ∷ 0 ∷ []) $ use2 W (raw (⋆ 𝓤 H A (token p ∷ Tokens′ xs))) (push 𝓤 H A (token p) (Tokens′ xs)) $
-        -- [tokens; said; the slice]
-        move ! (2 ∷ []) $ fsplit ! $ move ! (1 ∷ []) $ fsplit ! $
-        use1 W (‵ (fres p.ref.name (codedHoleys p.row .code (heres p.row l)))) (W.names.obs-res p.ref.name (codedHoleys p.row .code (heres p.row l))) $
-        use1 W (‵ (finally p.row p.ref.name l)) (res-finally 𝓤 H A W erased p.lft p.row p.ref.name l) $
-        feqI ! ℕ (length l) (length p.ref.now) e $ move ! (1 ∷ 0 ∷ []) $ fjoin ! $
-        -- [said of it; the borrow; that it is a slice; tokens; said]
-        move ! (0 ∷ 4 ∷ []) $ use2 W (raw (⋆ 𝓤 H A (said ∷ Left xs))) (push 𝓤 H A said (Left xs)) $ keep ! (3 ∷ 0 ∷ []) $ at-once ! $ done !)
-    goes-out (shares p l e ∷ xs) =
-        let said : Item 𝓤 = ‵ (fsep (finally p.row p.ref.name l) (feq ℕ (length l) (length p.ref.now))) in
-        via 𝓤 (⋆ 𝓤 H A (token p ∷ lent-at p l ∷ raw (⋆ 𝓤 H A (Had xs)) ∷ [])) (two (token p) (lent-at p l) (Had xs))
-        (qed W (token p ∷ lent-at p l ∷ raw (⋆ 𝓤 H A (Had xs)) ∷ []) ∵ updating ! $ move ! (2 ∷ []) $ use1 W (later (raw (⋆ 𝓤 H A (Tokens′ xs)) ⊛ raw (⋆ 𝓤 H A (Left xs)))) (goes-out xs) $ await ! tt $ split ! $
-        move ! (2 ∷ 0 ∷ []) $ use2 W (raw (⋆ 𝓤 H A (token p ∷ Tokens′ xs))) (push 𝓤 H A (token p) (Tokens′ xs)) $
-        -- [tokens; said; the slice]
-        move ! (2 ∷ []) $ fsplit ! $ move ! (1 ∷ []) $ fsplit ! $
-        use1 W (‵ (fres p.ref.name (codedHoleys p.row .code (heres p.row l)))) (W.names.obs-res p.ref.name (codedHoleys p.row .code (heres p.row l))) $
-        use1 W (‵ (finally p.row p.ref.name l)) (res-finally 𝓤 H A W erased p.lft p.row p.ref.name l) $
-        feqI ! ℕ (length l) (length p.ref.now) e $ move ! (1 ∷ 0 ∷ []) $ fjoin ! $
-        -- [said of it; the borrow; that it is a slice; tokens; said]
-        move ! (0 ∷ 4 ∷ []) $ use2 W (raw (⋆ 𝓤 H A (said ∷ Left xs))) (push 𝓤 H A said (Left xs)) $ keep ! (3 ∷ 0 ∷ []) $ at-once ! $ done !)
+    goes-out (lends p l e ∷ xs) = lent-out p l e xs (goes-out xs)
+    goes-out (shares p l e ∷ xs) = lent-out p l e xs (goes-out xs)
 
   -- a signature's tokens and what its parameters own, from entries of a context
   alive-from : (n : ℕ) (κs : Lfts n) (qs : Shares n) → ent 𝓤 (⋆ 𝓤 H A (Tokens 𝓤 H A n κs qs)) (toks 𝓤 A n κs qs)
