@@ -69,7 +69,9 @@ module _ (series : List ℤ) (w : ℕ) (left right : List ℕ) where
         ]
 
     pub chunk-then : orElse (wrongOf series w left right from (chunkOf rows from)) (wrongOf series w left right (from + 64) (drop (from + 64) rows)) ≡ wrongOf series w left right from (drop from rows)
-    chunk-then = let e : from + 0 ≡ from = omega arith in subst (λ (i : ℕ). orElse (wrongOf series w left right i (chunkOf rows from)) next ≡ wrongOf series w left right i (drop i rows)) e (then-from 64 0 (omega arith))
+    chunk-then =
+        let e : from + 0 ≡ from = omega arith in
+        subst (λ (i : ℕ). orElse (wrongOf series w left right i (chunkOf rows from)) next ≡ wrongOf series w left right i (drop i rows)) e (then-from 64 0 (omega arith))
 
 -- ---- the head and the rows of an index do not change what is filed wrongly
 

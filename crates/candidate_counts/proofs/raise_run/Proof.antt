@@ -27,6 +27,7 @@ returns c =
 
 pub raise-run-spec : {M : Type 1} → own.raise_run.Statement.statement M
 raise-run-spec =
-    tie.close (tie.spec Inv μ (λ c. let a = c.before.args in (omega arith, omega arith, raise-starts a.part a.from _)) (λ c. omega (arith, inside c)) (λ c. inside c.before) (λ c κs. c.before.before.before.before.pre.1)
+    tie.close (tie.spec Inv μ (λ c. let a = c.before.args in (omega arith, omega arith, raise-starts a.part a.from _)) (λ c. omega (arith, inside c)) (λ c. inside c.before)
+    (λ c κs. c.before.before.before.before.pre.1)
     (λ c. omega arith) (λ c. inside c.before.before) (λ c. omega arith) (λ c. omega arith)
     loop-again (λ c. c.before.loop.inv.2.long) returns)

@@ -65,5 +65,6 @@ loop-again c =
 
 pub check-run-spec : {M : Type 1} → own.check_run.Statement.statement M
 check-run-spec =
-    tie.close (tie.spec Inv μ (λ c κs. let p = c.before.before.before.pre in (omega (arith, p.1.1), p.0.few, p.0.values)) loop-holds match-at-requires list-match-requires slide-sums-requires add-j (λ c. omega arith) loop-again (λ c. c.before.loop.inv.0) (λ c. c.before.loop.inv.1)
+    tie.close (tie.spec Inv μ (λ c κs. let p = c.before.before.before.pre in (omega (arith, p.1.1), p.0.few, p.0.values)) loop-holds match-at-requires list-match-requires slide-sums-requires add-j
+    (λ c. omega arith) loop-again (λ c. c.before.loop.inv.0) (λ c. c.before.loop.inv.1)
     (λ c. c.before.loop.inv.2.so-far.as-many-offsets) (λ c. c.before.loop.inv.2.so-far.as-many-distances) (λ c. run-ends c.loop-test.left c.before.loop.inv.2))

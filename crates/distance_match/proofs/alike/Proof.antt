@@ -36,5 +36,7 @@ returns-4 c =
 
 pub alike-spec : {M : Type 1} → own.alike.Statement.statement M
 alike-spec =
-    tie.close (tie.spec (λ c. says-no (λ h. omega arith)) (λ c. search needs) (λ c. search needs) (λ c. omega (arith, square c.before.before.before)) (λ c. omega (arith, times-query c.before.before.before)) (λ c. search needs) (λ c. says-no (λ h. omega (arith, h.up))) (λ c. omega (arith, times-stretch c.before.before.before.before)) (λ c. search needs) (λ c. says-no (λ h. omega (arith, h.down))) (λ c κs. search needs)
+    tie.close (tie.spec (λ c. says-no (λ h. omega arith)) (λ c. search needs) (λ c. search needs) (λ c. omega (arith, square c.before.before.before))
+    (λ c. omega (arith, times-query c.before.before.before)) (λ c. search needs) (λ c. says-no (λ h. omega (arith, h.up))) (λ c. omega (arith, times-stretch c.before.before.before.before))
+    (λ c. search needs) (λ c. says-no (λ h. omega (arith, h.down))) (λ c κs. search needs)
     (λ c. search needs) mul-result returns-4)

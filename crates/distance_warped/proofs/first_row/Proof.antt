@@ -63,5 +63,6 @@ returns c =
 
 pub first-row-spec : {M : Type 1} → own.first_row.Statement.statement M
 first-row-spec =
-    tie.close (tie.spec Inv μ (λ c κs. omega arith) (λ c. omega arith) (λ c. omega arith) (λ c κs. omega arith) loop-holds (λ c. omega arith) (λ c. omega arith) (λ c κs. let p = o c.before.before .pre .1 .1 in (in-arg (p.0.at _), in-arg (p.1.at _))) (λ c. let l = c.before.before.before in omega (arith, told c, small l 0 l.loop.j))
+    tie.close (tie.spec Inv μ (λ c κs. omega arith) (λ c. omega arith) (λ c. omega arith) (λ c κs. omega arith) loop-holds (λ c. omega arith) (λ c. omega arith)
+    (λ c κs. let p = o c.before.before .pre .1 .1 in (in-arg (p.0.at _), in-arg (p.1.at _))) (λ c. let l = c.before.before.before in omega (arith, told c, small l 0 l.loop.j))
     (λ c. omega arith) (λ c. omega arith) (λ c. omega arith) (λ c. omega arith) loop-again (λ c. c.before.loop.inv.1 ∙ c.before.before.before.before.before.before.fill-row.kept.0) returns)

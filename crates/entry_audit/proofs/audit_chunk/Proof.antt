@@ -248,5 +248,7 @@ returns-3 c =
 pub audit-chunk-spec : {M : Type 1} → own.audit_chunk.Statement.statement M
 audit-chunk-spec =
     tie.close (tie.spec Inv-offsets μ-offsets Inv-runs μ-runs Inv-rows μ-rows returns (search needs) sub-rest rows-holds (search needs) (search needs) (search needs)
-    (search needs) (search needs) runs-holds (λ c. search needs) (λ c. let R = reads c.before.before in omega (arith, R.in-left)) (λ c. omega (arith, c.shared-slice-known3.given c.before.before.runs.i)) (λ c. search needs) (λ c. let R = reads c.before.before.before in omega (arith, R.in-right)) (λ c. omega (arith, c.shared-slice-known4.given c.before.before.before.runs.i)) part-sum-requires offsets-holds value-in-requires (λ c κs. search needs)
+    (search needs) (search needs) runs-holds (λ c. search needs) (λ c. let R = reads c.before.before in omega (arith, R.in-left))
+    (λ c. omega (arith, c.shared-slice-known3.given c.before.before.runs.i)) (λ c. search needs) (λ c. let R = reads c.before.before.before in omega (arith, R.in-right))
+    (λ c. omega (arith, c.shared-slice-known4.given c.before.before.before.runs.i)) part-sum-requires offsets-holds value-in-requires (λ c κs. search needs)
     add-row value-out-requires add-j (λ c. search needs) offsets-again (λ c. search needs) (λ c. search needs) runs-again (λ c. search needs) (λ c. search needs) rows-again returns-2 returns-3)

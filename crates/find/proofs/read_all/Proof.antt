@@ -30,5 +30,6 @@ returns c =
 
 pub read-all-spec : {M : Type 1} → own.read_all.Statement.statement M
 read-all-spec =
-    tie.close (tie.spec Inv μ (λ c. (read-less 4611686018427387904 _ _ _ _ _ (omega arith) c.pre, refl, refl, refl)) read-on-requires (λ c. search needs) (λ c. omega arith) (λ c. omega arith) loop-again (λ c. search needs) (λ c. search needs) (λ c. search needs) (λ c. search needs)
+    tie.close (tie.spec Inv μ (λ c. (read-less 4611686018427387904 _ _ _ _ _ (omega arith) c.pre, refl, refl, refl)) read-on-requires (λ c. search needs) (λ c. omega arith) (λ c. omega arith)
+    loop-again (λ c. search needs) (λ c. search needs) (λ c. search needs) (λ c. search needs)
     returns (λ c. search needs) (λ c. search needs) (λ c. search needs) (λ c. read-less _ _ _ _ _ _ (omega arith) c.before.loop.inv.0))

@@ -16,5 +16,6 @@ returns-2 c =
 
 pub take-read-spec : {M : Type 1} → own.take_read.Statement.statement M
 take-read-spec =
-    tie.close (tie.spec (λ c. simp length-take (omega arith)) read-piece-requires (λ c. search needs) (λ c. search needs) (λ c. search needs) (λ c. (simp length-take (omega arith), search needs)) (λ c. search needs) (λ c. search needs) (λ c. search needs)
+    tie.close (tie.spec (λ c. simp length-take (omega arith)) read-piece-requires (λ c. search needs) (λ c. search needs) (λ c. search needs) (λ c. (simp length-take (omega arith), search needs))
+    (λ c. search needs) (λ c. search needs) (λ c. search needs)
     returns-2)

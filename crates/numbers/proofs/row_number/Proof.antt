@@ -48,4 +48,5 @@ returns-2 c =
 
 pub row-number-spec : {M : Type 1} → own.row_number.Statement.statement M
 row-number-spec =
-    tie.close (tie.spec sub-n cast-n (λ c κs. search needs) (λ c. omega (zmach32, small c)) sub-result returns (λ c. omega (zmach32, z-abs (z c.before), z-fits32 c.before.fits.sum)) (λ c κs. search needs) (λ c. omega (zmach32, up-small c)) returns-2)
+    tie.close (tie.spec sub-n cast-n (λ c κs. search needs) (λ c. omega (zmach32, small c)) sub-result returns (λ c. omega (zmach32, z-abs (z c.before), z-fits32 c.before.fits.sum))
+    (λ c κs. search needs) (λ c. omega (zmach32, up-small c)) returns-2)

@@ -14,11 +14,11 @@ start d = d.before.before.before.before
 zeros : length (replicate {A = ℕ} 4096 0) ≡ 4096
 zeros = length-replicate {A = ℕ} 4096 0
 
-few : (d : tie.After-answer) → d.answer.given.0.1.1.0 ≤ 4096
-few d = let b = built d in runs-few _ _ _ (start b .pre .0) _ _ _ (length-replicate 4096 zeroRow) zeros zeros _ _ _ _ b.build-table.ensures d.answer.given.1
+few-runs : (d : tie.After-answer) → d.answer.given.0.1.1.0 ≤ 4096
+few-runs d = let b = built d in runs-few _ _ _ (start b .pre .0) _ _ _ (length-replicate 4096 zeroRow) zeros zeros _ _ _ _ b.build-table.ensures d.answer.given.1
 
-rows : (d : tie.After-answer) → d.answer.given.0.1.0 ≤ 4096
-rows d = let b = built d in rows-few _ _ _ (start b .pre .0) _ _ _ (length-replicate 4096 zeroRow) zeros zeros _ _ _ _ b.build-table.ensures d.answer.given.1
+few-rows : (d : tie.After-answer) → d.answer.given.0.1.0 ≤ 4096
+few-rows d = let b = built d in rows-few _ _ _ (start b .pre .0) _ _ _ (length-replicate 4096 zeroRow) zeros zeros _ _ _ _ b.build-table.ensures d.answer.given.1
 
 returns-2 : tie.Need-returns-2
 returns-2 c =
@@ -30,8 +30,9 @@ returns-2 c =
 
 pub print-answer-spec : {M : Type 1} → own.print_answer.Statement.statement M
 print-answer-spec =
-    tie.close (tie.spec (λ c. search needs) (λ c. search needs) (λ c κs. search needs) (λ c. search needs) (λ c. search needs) (λ c. omega (arith, few c.before))
-    (λ c. simp length-take (omega (arith, few (search needs)))) (λ c. omega (arith, few (search needs))) (λ c. simp length-take (omega (arith, few (search needs))))
-    (λ c κs. rows (search needs)) (λ c κs. search needs) (λ c. omega (arith, few (search needs))) (λ c. simp length-take (omega (arith, few (search needs))))
-    (λ c. omega (arith, few (search needs))) (λ c. simp length-take (omega (arith, few (search needs)))) (λ c κs. rows (search needs))
-    (λ c. let b = c.before.before.before.before.before in not-refused _ _ _ (start b .pre .0) _ _ _ (length-replicate 4096 zeroRow) zeros zeros _ _ _ _ b.build-table.ensures c.enum-told.given.1) (λ c. search needs) returns-2)
+    tie.close (tie.spec (λ c. search needs) (λ c. search needs) (λ c κs. search needs) (λ c. search needs) (λ c. search needs) (λ c. omega (arith, few-runs c.before))
+    (λ c. simp length-take (omega (arith, few-runs (search needs)))) (λ c. omega (arith, few-runs (search needs))) (λ c. simp length-take (omega (arith, few-runs (search needs))))
+    (λ c κs. few-rows (search needs)) (λ c κs. search needs) (λ c. omega (arith, few-runs (search needs))) (λ c. simp length-take (omega (arith, few-runs (search needs))))
+    (λ c. omega (arith, few-runs (search needs))) (λ c. simp length-take (omega (arith, few-runs (search needs)))) (λ c κs. few-rows (search needs))
+    (λ c. let b = c.before.before.before.before.before in not-refused _ _ _ (start b .pre .0) _ _ _ (length-replicate 4096 zeroRow) zeros zeros _ _ _ _ b.build-table.ensures c.enum-told.given.1)
+    (λ c. search needs) returns-2)

@@ -15,15 +15,15 @@ returns c =
     let threshold = scale.before.before in
     let band = threshold.before.before in
     let x = band.before.before.args.x in
-    let a = rw (toZ-ofZ w64 x.window (record { sfits = window.before.struct-told6.given.0.1 })) at window.held4.ensures in
-    let b = rw (toZ-ofZ w64 x.width (record { sfits = width.before.struct-told7.given.1.0.1 })) at width.held5.ensures in
-    let d = rw (toZ-ofZ w64 x.merge (record { sfits = c.before.struct-told8.given.1.1.0.1 })) at c.held6.ensures in
-    let e = rw (toZ-ofZ w64 x.raw (record { sfits = kind.before.struct-told5.given.1.1.1.1.1.1.1.0.1 })) at kind.kind-of.ensures in
-    let f = rw (toZ-ofZ w64 x.band (record { sfits = band.before.struct-told.given.1.1.1.0.1 })) at band.held.ensures in
-    let g = rw (toZ-ofZ w64 x.threshold (record { sfits = threshold.before.struct-told2.given.1.1.1.1.0.1 })) at threshold.held-long.ensures in
-    let h = rw (toZ-ofZ w64 x.scale (record { sfits = scale.before.struct-told3.given.1.1.1.1.1.0.1 })) at scale.held2.ensures in
-    let k = rw (toZ-ofZ w64 x.shift (record { sfits = shift.before.struct-told4.given.1.1.1.1.1.1.0.1 })) at shift.held3.ensures in
-    λ i. record { window = a i; width = b i; merge = d i; ask = record { kind = e i; limits = record { band = f i; threshold = g i; scale = h i; shift = k i } } }
+    let window-is = rw (toZ-ofZ w64 x.window (record { sfits = window.before.struct-told6.given.0.1 })) at window.held4.ensures in
+    let width-is = rw (toZ-ofZ w64 x.width (record { sfits = width.before.struct-told7.given.1.0.1 })) at width.held5.ensures in
+    let merge-is = rw (toZ-ofZ w64 x.merge (record { sfits = c.before.struct-told8.given.1.1.0.1 })) at c.held6.ensures in
+    let kind-is = rw (toZ-ofZ w64 x.raw (record { sfits = kind.before.struct-told5.given.1.1.1.1.1.1.1.0.1 })) at kind.kind-of.ensures in
+    let band-is = rw (toZ-ofZ w64 x.band (record { sfits = band.before.struct-told.given.1.1.1.0.1 })) at band.held.ensures in
+    let threshold-is = rw (toZ-ofZ w64 x.threshold (record { sfits = threshold.before.struct-told2.given.1.1.1.1.0.1 })) at threshold.held-long.ensures in
+    let scale-is = rw (toZ-ofZ w64 x.scale (record { sfits = scale.before.struct-told3.given.1.1.1.1.1.0.1 })) at scale.held2.ensures in
+    let shift-is = rw (toZ-ofZ w64 x.shift (record { sfits = shift.before.struct-told4.given.1.1.1.1.1.1.0.1 })) at shift.held3.ensures in
+    λ i. record { window = window-is i; width = width-is i; merge = merge-is i; ask = record { kind = kind-is i; limits = record { band = band-is i; threshold = threshold-is i; scale = scale-is i; shift = shift-is i } } }
 
 pub asked-of-spec : {M : Type 1} → own.Statement.statement M
 asked-of-spec =

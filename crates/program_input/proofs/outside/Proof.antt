@@ -12,7 +12,12 @@ returns c = let a = c.before.args in let z = a.z in let l = a.low in let h : z <
 
 returns-2 : tie.Need-returns-2
 unfolding within
-returns-2 c = let a = c.before.args in let z = a.z in let l = a.low in let h : l ≤ℤ z = omega zmach in rw (toZ-ofZ w64 z c.before.fits.z, toZ-ofZ w64 a.high c.before.fits.high, le-leZ h) (not-le z a.high)
+returns-2 c =
+    let a = c.before.args in
+    let z = a.z in
+    let l = a.low in
+    let h : l ≤ℤ z = omega zmach in
+    rw (toZ-ofZ w64 z c.before.fits.z, toZ-ofZ w64 a.high c.before.fits.high, le-leZ h) (not-le z a.high)
 
 pub outside-spec : {M : Type 1} → own.outside.Statement.statement M
 outside-spec = tie.close (tie.spec returns returns-2)

@@ -50,4 +50,5 @@ pub finish-spec : {M : Type 1} → own.finish.Statement.statement M
 finish-spec =
     tie.close (tie.spec (λ c κs. sound-here _ _ _ _ c.before.pre.0.reached) (λ c κs. search needs) (λ c. search needs) returns (λ c. search needs) (λ c. search needs) slice-aggregate-print-answer
     slice-aggregate-print-answer-2 (λ c κs. search needs) asked-of-requires print-answer-requires
-    (λ c. not-failed _ _ c.before.before.before.before.before.before.args.series.now _ _ c.before.before.before.before.refuse.ensures c.before.before.if1.left c.enum-told.given.1) (λ c. search needs) returns-3)
+    (λ c. not-failed _ _ c.before.before.before.before.before.before.args.series.now _ _ c.before.before.before.before.refuse.ensures c.before.before.if1.left c.enum-told.given.1) (λ c. search needs)
+    returns-3)

@@ -42,4 +42,5 @@ returns-2 c =
 
 pub judge-row-spec : {M : Type 1} → own.judge_row.Statement.statement M
 judge-row-spec =
-    tie.close (tie.spec (λ c κs. search needs) (λ c κs. search needs) returns (λ c. search needs) (λ c. search needs) (λ c. search needs) (λ c κs. let h = inside c.before.before in (omega arith, omega arith, omega arith)) (λ c κs. search needs) returns-2)
+    tie.close (tie.spec (λ c κs. search needs) (λ c κs. search needs) returns (λ c. search needs) (λ c. search needs) (λ c. search needs)
+    (λ c κs. let h = inside c.before.before in (omega arith, omega arith, omega arith)) (λ c κs. search needs) returns-2)

@@ -76,5 +76,8 @@ returns-3 c =
 
 pub judge-runs-spec : {M : Type 1} → own.judge_runs.Statement.statement M
 judge-runs-spec =
-    tie.close (tie.spec Inv μ (λ c. (omega arith, omega arith, omega arith, rw (le-leb 0 (c.args.windows + 1) (omega arith)) refl)) (λ c. omega arith) (λ c. omega arith) (λ c. omega (arith, c.shared-slice-known.given c.before.before.loop.i)) (λ c. omega arith) (λ c. omega arith) (λ c. omega (arith, c.shared-slice-known2.given c.before.before.before.loop.i)) returns (λ c. omega (arith, good c, word c)) (λ c. omega (arith, good c)) (λ c. omega (arith, good c, word c)) (λ c. omega (arith, good c, word c)) (λ c. omega arith) (λ c. omega arith) loop-again
+    tie.close (tie.spec Inv μ (λ c. (omega arith, omega arith, omega arith, rw (le-leb 0 (c.args.windows + 1) (omega arith)) refl)) (λ c. omega arith) (λ c. omega arith)
+    (λ c. omega (arith, c.shared-slice-known.given c.before.before.loop.i)) (λ c. omega arith) (λ c. omega arith) (λ c. omega (arith, c.shared-slice-known2.given c.before.before.before.loop.i))
+    returns (λ c. omega (arith, good c, word c)) (λ c. omega (arith, good c)) (λ c. omega (arith, good c, word c)) (λ c. omega (arith, good c, word c)) (λ c. omega arith) (λ c. omega arith)
+    loop-again
     (λ c. omega arith) returns-2 returns-3)

@@ -13,5 +13,6 @@ returns c =
 
 pub row-from-spec : {M : Type 1} → own.Statement.statement M
 row-from-spec =
-    tie.close (tie.spec (search needs) (search needs) (λ c. omega (arith, c.shared-slice-known3.given c.before.before.before.args.i)) (search needs) (search needs) (search needs) (search needs) (search needs)
+    tie.close (tie.spec (search needs) (search needs) (λ c. omega (arith, c.shared-slice-known3.given c.before.before.before.args.i)) (search needs) (search needs) (search needs) (search needs)
+    (search needs)
     (search needs) (search needs) (search needs) returns)

@@ -36,5 +36,6 @@ returns-2 c =
 
 pub next-out-spec : {M : Type 1} → own.next_out.Statement.statement M
 next-out-spec =
-    tie.close (tie.spec Inv μ (search needs) (λ c. (omega arith, c.pre.1.0, c.pre.1.1, λ k l m. absurd (omega arith))) (λ c κs. search needs) returns (λ c κs. search needs) (search needs) (search needs) loop-again
+    tie.close (tie.spec Inv μ (search needs) (λ c. (omega arith, c.pre.1.0, c.pre.1.1, λ k l m. absurd (omega arith))) (λ c κs. search needs) returns (λ c κs. search needs) (search needs)
+    (search needs) loop-again
     (λ c κs. search needs) returns-2)

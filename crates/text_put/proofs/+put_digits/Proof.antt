@@ -106,7 +106,9 @@ put-digits-returns-2 : (t : ℕ) → put-digits-lts.Need-returns-2 (
   put-digits-below t,
   put-digits.Post,
 ) (put-digits-at t) put-digits.Post
-put-digits-returns-2 t c = let s = c.before.before.before.before.before.before.before.before.before.before in rw (spell-split s.args.n (omega arith)) (put-then c.before.before.before.before.before.before.put-digits.ensures c.before.before.put-byte2.ensures)
+put-digits-returns-2 t c =
+    let s = c.before.before.before.before.before.before.before.before.before.before in
+    rw (spell-split s.args.n (omega arith)) (put-then c.before.before.before.before.before.before.put-digits.ensures c.before.before.put-byte2.ensures)
 
 pub +put-digits-spec : {M : Type 1} → statement M
 +put-digits-spec = close μ-put-digits λ t. put-digits-lts.spec (

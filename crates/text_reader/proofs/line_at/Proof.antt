@@ -21,7 +21,10 @@ loop-holds c = (sym (line-start _), omega arith, omega arith)
 
 returns : tie.Need-returns Inv μ
 unfolding lineOf
-returns c = let l = c.before.before in let t = l.before.args.text.now in l.loop.inv.0 ∙ ap (λ (p : _). suc (newlines p)) (take-all l.loop.i t c.if1.taken ∙ sym (take-all l.before.args.at t (omega arith)))
+returns c =
+    let l = c.before.before in
+    let t = l.before.args.text.now in
+    l.loop.inv.0 ∙ ap (λ (p : _). suc (newlines p)) (take-all l.loop.i t c.if1.taken ∙ sym (take-all l.before.args.at t (omega arith)))
 
 shared-slice-read-if2 : tie.Need-shared-slice-read-if2 Inv μ
 shared-slice-read-if2 c = omega arith

@@ -38,5 +38,7 @@ returns-2 c =
 
 pub lines-read-spec : {M : Type 1} → own.lines_read.Statement.statement M
 lines-read-spec =
-    tie.close (tie.spec Inv μ (λ c κs. search needs) (λ c. let b = begins _ _ _ _ _ c.begin.ensures in (b.0, b.1, refl, refl, refl)) (λ c. omega arith) (λ c. omega arith) (λ c κs. search needs) (λ c. search needs) add-k (λ c. search needs) loop-again (λ c. search needs)
-    (λ c κs. search needs) (λ c. search needs) (λ c. search needs) (λ c. search needs) returns (λ c κs. search needs) (λ c κs. search needs) (λ c. search needs) (λ c. search needs) (λ c. search needs) returns-2)
+    tie.close (tie.spec Inv μ (λ c κs. search needs) (λ c. let b = begins _ _ _ _ _ c.begin.ensures in (b.0, b.1, refl, refl, refl)) (λ c. omega arith) (λ c. omega arith) (λ c κs. search needs)
+    (λ c. search needs) add-k (λ c. search needs) loop-again (λ c. search needs)
+    (λ c κs. search needs) (λ c. search needs) (λ c. search needs) (λ c. search needs) returns (λ c κs. search needs) (λ c κs. search needs) (λ c. search needs) (λ c. search needs)
+    (λ c. search needs) returns-2)
