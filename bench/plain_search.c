@@ -75,13 +75,17 @@ static size_t above(const Row *rows, size_t count, i64 z) {
 
 static size_t clipped(size_t x, size_t shift, size_t most) { return x < shift ? 0 : x - shift < most ? x - shift : most; }
 
-// the offsets that stand at i and whose window of part i stands in a row that the range meets are raised
-static void raise_part(const Row *rows, size_t count, const u32 *left, const u32 *right, i64 from, i64 to, size_t shift, size_t offsets, u16 i, u16 *scratch) {
+// the offsets from j up to end that stand at i are raised
+static inline void raise_run(size_t j, size_t end, u16 i, u16 *scratch) {
+    for (; j < end; j++) scratch[j] = scratch[j] == i ? i + 1 : scratch[j];
+}
+
+// the offsets that stand at i and whose window of part i stands in a row that the range meets, or at or past the index's windows, are raised
+static void raise_part(const Row *rows, size_t count, const u32 *left, const u32 *right, size_t windows, i64 from, i64 to, size_t shift, size_t offsets, u16 i, u16 *scratch) {
     for (size_t k = above(rows, count, from); k < count && rows[k].low <= to; k++)
-        for (size_t x = rows[k].first; x < (size_t)rows[k].first + rows[k].runs; x++) {
-            size_t end = clipped((size_t)right[x] + 1, shift, offsets);
-            for (size_t j = clipped(left[x], shift, offsets); j < end; j++) scratch[j] = scratch[j] == i ? i + 1 : scratch[j];
-        }
+        for (size_t x = rows[k].first; x < (size_t)rows[k].first + rows[k].runs; x++)
+            raise_run(clipped(left[x], shift, offsets), clipped((size_t)right[x] + 1, shift, offsets), i, scratch);
+    raise_run(clipped(windows, shift, offsets), offsets, i, scratch);
 }
 
 // the distance where it is at most the threshold, and 1; else 0
@@ -129,15 +133,15 @@ static void clear_behind(u64 k, u32 *offsets, u64 *distances, u64 room) {
 // 1 where the call is not refused. The candidate buffer and the scratch hold as many entries as the series has windows, the list has `room` entries; each of them is written to its end.
 int plain_search(const i32 *s, size_t n, Head h, const Row *rows, size_t count, const u32 *left, const u32 *right, size_t run_room, Asked asked, const i32 *q, size_t m,
                  u32 *first, u32 *last, u16 *scratch, u32 *offsets, u64 *distances, u64 room, Counts *found) {
-    if (n < 1 || n > 1 << 20 || !all_in(s, n) || !allowed(n, q, m, asked) || m < h.window || !judged(h, rows, count, left, right, run_room) || h.windows + h.window != n + 1) return 0;
+    if (n < 1 || n > 1 << 20 || !all_in(s, n) || !allowed(n, q, m, asked) || m < h.window || !judged(h, rows, count, left, right, run_room) || h.windows + h.window > n + 1) return 0;
     static Prepared p;
-    size_t w = h.window, parts = m / w, stretches = n - m + 1, k = 0, candidates = 0;
+    size_t w = h.window, parts = m / w, windows = n - w + 1, stretches = n - m + 1, k = 0, candidates = 0;
     prepare(&p, q, m, asked);
-    memset(scratch, 0, h.windows * sizeof *scratch);
+    memset(scratch, 0, windows * sizeof *scratch);
     for (size_t i = 0; i < parts; i++) {
         i64 from, to;
         range_of(&p, w, i, &from, &to);
-        raise_part(rows, count, left, right, from, to, i * w, stretches, i, scratch);
+        raise_part(rows, count, left, right, h.windows, from, to, i * w, stretches, i, scratch);
     }
     int before = 0;
     for (size_t i = 0; i < stretches; i += 64) { // a block without a candidate is passed over
@@ -152,9 +156,9 @@ int plain_search(const i32 *s, size_t n, Head h, const Row *rows, size_t count, 
         }
         candidates += some;
     }
-    memset(first + k, 0, (h.windows - k) * sizeof *first);
-    memset(last + k, 0, (h.windows - k) * sizeof *last);
-    memset(scratch, 0, h.windows * sizeof *scratch);
+    memset(first + k, 0, (windows - k) * sizeof *first);
+    memset(last + k, 0, (windows - k) * sizeof *last);
+    memset(scratch, 0, windows * sizeof *scratch);
     u64 matches = 0;
     for (size_t x = 0; x < k; x++) matches = compare(&p, s, n, first[x], last[x], matches, offsets, distances, room);
     clear_behind(matches, offsets, distances, room);

@@ -29,11 +29,11 @@ static inline double now(void) {
     return t.tv_sec + 1e-9 * t.tv_nsec;
 }
 
+static u64 any_state = 88172645463325252ull; // set back to what it was, the same numbers come again
 static inline u64 any(void) {
-    static u64 state = 88172645463325252ull;
-    state ^= state << 13;
-    state ^= state >> 7;
-    state ^= state << 17;
-    return state;
+    any_state ^= any_state << 13;
+    any_state ^= any_state >> 7;
+    any_state ^= any_state << 17;
+    return any_state;
 }
 static inline i32 in_limits(int v) { return v > 10000 ? 10000 : v < -10000 ? -10000 : v; }

@@ -26,17 +26,17 @@ def called_off(m):
     return out
 
 
-def planted(prices, at, level, curve, stretch):
-    """The curve, at its own level and pace, put into a series."""
+def planted(prices, at, level, curve, stretch, back=72):
+    """The curve, at its own level and pace, put into a series, and the way back to the level of before, over half a day or as long as is said."""
     m = len(curve)
     for k in range(m):
         u = min(m - 1, max(0, k + stretch * math.sin(math.pi * k / m)))
         i = int(u)
         y = curve[i] + (curve[min(i + 1, m - 1)] - curve[i]) * (u - i)
         prices[at + k] = level * y + r.gauss(0, 12)
-    for k in range(72):  # back to the level of before, over half a day
+    for k in range(back):
         if at + m + k < len(prices):
-            a = (k + 1) / 73
+            a = (k + 1) / (back + 1)
             prices[at + m + k] = (1 - a) * level * curve[-1] + a * prices[at + m + k] + r.gauss(0, 12)
 
 
@@ -64,3 +64,11 @@ query = whole(6100 * y + r.gauss(0, 10) for y in shape)
 write("called_off.in", 32, 4096, 50, series, "normal 8 3000 15 1600", query)
 write("calm.in", 32, 4096, 50, whole(walk(4000, 4800, 0.02, 35)), "normal 8 3000 15 1600", query)
 write("same_fall.in", 16, 512, 50, series, "raw 0 700000 10 0", series[2380:2444])
+
+# samples/replay: an index of the first 102 prices, and 48 that come later. An old fall; the show is called off across the end of the index; the next fall lies behind it.
+shape = called_off(24)
+prices = walk(150, 5200, 0.02, 35)
+planted(prices, 30, 5100, shape, 0.5, 12)
+planted(prices, 92, 5500, shape, -0.5, 8)
+planted(prices, 124, 5000, shape, 0.7)
+write("growing.in", 6, 1024, 25, whole(prices), "normal 2 2500 12 300", whole(5300 * y for y in shape))

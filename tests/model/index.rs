@@ -1,4 +1,4 @@
-// A model of the index: built, extended, audited, searched and judged, written from the words of document 01 and from nothing else. Rows are sets of offsets; nothing is fast.
+// A model of the index: built, extended, audited, searched and judged, written from the words of documents 01 and 02 (item 1) and from nothing else. Rows are sets of offsets; nothing is fast.
 use crate::model::{envelopes, match_normal, match_raw, normalised, root, row_number, spread, total};
 use std::collections::{BTreeMap, BTreeSet};
 
@@ -171,6 +171,7 @@ pub fn range(z: &Question, w: usize, i: usize) -> (i128, i128) {
 }
 
 /// "Offset j from 0 to n - m is a candidate exactly if for each part i, window j + i x w stands in some row with low <= upper end and up > lower end."
+/// 02, item 1: "A window at or past the index's window count counts as met."
 pub fn search(x: &Index, s: &[i32], z: &Question) -> Found {
     let (m, w) = (z.query.len(), x.window as usize);
     let rows = set_rows(x);
@@ -178,13 +179,19 @@ pub fn search(x: &Index, s: &[i32], z: &Question) -> Found {
         let (low, high) = range(z, w, i);
         rows.iter().filter(|r| r.low as i128 <= high && r.up as i128 > low).flat_map(|r| r.has.iter().copied()).collect()
     }).collect();
-    let candidates: Vec<usize> = (0..=s.len() - m).filter(|j| parts.iter().enumerate().all(|(i, p)| p.contains(&(j + i * w)))).collect();
-    let matches = candidates.iter().filter_map(|&j| {
-        let (stretch, b, e) = (&s[j..j + m], z.band as usize, z.threshold as u64);
+    let met = |i: usize, j: usize| j >= x.windows as usize || parts[i].contains(&j);
+    let candidates: Vec<usize> = (0..=s.len() - m).filter(|j| (0..parts.len()).all(|i| met(i, j + i * w))).collect();
+    let matches = matches_among(&candidates, s, z);
+    Found { candidates, matches }
+}
+
+/// "A search lists matches among candidates, with offset and distance."
+pub fn matches_among(offsets: &[usize], s: &[i32], z: &Question) -> Vec<(usize, u64)> {
+    offsets.iter().filter_map(|&j| {
+        let (stretch, b, e) = (&s[j..j + z.query.len()], z.band as usize, z.threshold as u64);
         let d = if z.normal { match_normal(stretch, z.query, b, e, z.scale as u32, z.shift as u32) } else { match_raw(stretch, z.query, b, e) };
         d.map(|d| (j, d as u64))
-    }).collect();
-    Found { candidates, matches }
+    }).collect()
 }
 
 // ---- refusals, each table in the order of its numbers
@@ -269,7 +276,6 @@ pub fn search_conditions(x: &Index, s: &[i32], z: &Question, candidates: usize, 
     table.extend(query_conditions(n, &q, z.normal, x.window, z.band, z.threshold, z.scale, z.shift));
     table.extend([
         (20, bad_row(x)),
-        (21, at_zero(windows(x, n).is_lt())),
         (22, at_zero(windows(x, n).is_gt())),
         (23, at_zero((candidates.min(scratch) as i64) < n as i64 - x.window + 1)),
     ]);

@@ -18,6 +18,8 @@ const MOST: u32 = i32::MAX as u32;
 /// What an audit says where it finds windows filed wrongly or nowhere, beside the numbers of refusals.
 const WRONG: u32 = 101;
 const MISSING: u32 = 102;
+/// A search through an index with fewer windows than the series that no number below 22 refuses.
+const SHORT: u32 = 103;
 
 // ---- lines
 
@@ -255,6 +257,16 @@ fn any_search(r: &mut Numbers, kind: usize, number: u32) -> Search {
     Search { s, x, a, q, room: [windows + r.below(3) as usize, windows + r.below(3) as usize, list] }
 }
 
+/// Of the searches that are answered three of four find something, and a list in two is exactly full.
+fn finds(c: &mut Search, k: usize) -> bool {
+    let matches = answers::search(&c.s, &c.x, c.a, &c.q, &mut Lists::of_sevens(c.room)).second;
+    if k % 2 == 0 { c.room[2] = matches }
+    k % 16 < 4 || matches > 0
+}
+
+/// How many windows the index lacks.
+fn short_of(c: &Search) -> i64 { c.s.len() as i64 + 1 - c.x.head.window as i64 - c.x.head.windows as i64 }
+
 fn spoil_search(r: &mut Numbers, c: &mut Search) {
     let (n, m, windows) = (c.s.len(), c.q.len(), c.x.head.windows as usize);
     match r.below(14) {
@@ -415,6 +427,9 @@ fn audits(f: &mut File, r: &mut Numbers) {
 
 // ---- search/calls.txt
 
+/// The kind and the limits.
+fn asked([kind, band, threshold, scale, shift]: [u64; 5]) -> Asked { Asked { kind: kind as u32, band: band as u32, threshold, scale: scale as u32, shift: shift as u32 } }
+
 fn searches(f: &mut File, r: &mut Numbers) {
     let (raw, normal) = ([0, 0, 5, 10, 0], [1, 0, 0, 20, 1]);
     let ones = vec![1; 1_025];
@@ -424,7 +439,7 @@ fn searches(f: &mut File, r: &mut Numbers) {
     let bad = lent([2, 2, 4], &[[2, 4, 0, 1], [4, 8, 1, 1]], &[(0, 0), (1, 4)]);
     let pair = lent([2, 2, 1], &[[2, 4, 0, 1]], &[(0, 0)]);
     let down = lent([1, 5, 6], &[[-10_000, -9_995, 0, 2], [-5, 0, 2, 2]], &[(0, 0), (3, 4), (1, 2), (5, 5)]);
-    for (want, note, s, x, [kind, band, threshold, scale, shift], q, room) in [
+    for (want, note, s, x, limits, q, room) in [
         (0, "the worked example", &PAPER[..], paper(), raw, &[2, 4][..], [4, 4, 3]),
         (0, "E 4", &PAPER, paper(), [0, 0, 4, 10, 0], &[2, 4], [4, 4, 3]),
         (0, "two candidates", &PAPER, apart, [0, 0, 0, 10, 0], &[4, 3], [4, 4, 1]),
@@ -459,12 +474,12 @@ fn searches(f: &mut File, r: &mut Numbers) {
         (10, "h 20,001", &PAPER, paper(), [0, 0, 5, 10, 20_001], &[2, 4], [4, 4, 3]),
         (11, "a flat query", &PAPER, paper(), normal, &[5, 5], [4, 4, 3]),
         (11, "a query of one value", &PAPER, lent([1, 10, 5], &[[0, 10, 0, 1]], &[(0, 4)]), normal, &[4], [5, 5, 3]),
-        (11, "flat, and all that follows but 21", &PAPER[..4], bad.clone(), normal, &[5, 5], [0, 0, 0]),
+        (11, "flat, and all that follows", &PAPER[..4], bad.clone(), normal, &[5, 5], [0, 0, 0]),
         (20, "w 257 = m", &ones[..257], thousand(257, 1), raw, &ones[..257], [1, 1, 1]),
         (20, "w 0", &PAPER, lent([0, 2, 4], &[], &[]), raw, &[2, 4], [9, 9, 3]),
         (20, "the second row", &PAPER, bad, raw, &[2, 4], [4, 4, 3]),
-        (21, "a value too many", &[1, 2, 4, 3, 1, 1], paper(), raw, &[2, 4], [5, 5, 3]),
-        (21, "a value too many, scratch too short", &[1, 2, 4, 3, 1, 1], paper(), raw, &[2, 4], [5, 4, 3]),
+        (0, "a value too many", &[1, 2, 4, 3, 1, 1], paper(), raw, &[2, 4], [5, 5, 3]),
+        (23, "a value too many, scratch too short", &[1, 2, 4, 3, 1, 1], paper(), raw, &[2, 4], [5, 4, 3]),
         (22, "a value too few", &PAPER[..4], paper(), raw, &[2, 4], [4, 4, 3]),
         (22, "a value too few, no candidates", &PAPER[..4], paper(), raw, &[2, 4], [0, 4, 3]),
         (23, "candidates one too short", &PAPER, paper(), raw, &[2, 4], [3, 4, 3]),
@@ -472,20 +487,77 @@ fn searches(f: &mut File, r: &mut Numbers) {
         (24, "the list one too short", &PAPER, paper(), raw, &[2, 4], [4, 4, 2]),
         (24, "no list", &PAPER, paper(), raw, &[2, 4], [5, 6, 0]),
         (24, "normalised", &[0, 2], pair, normal, &[0, 1], [1, 1, 0]),
-    ] {
-        let a = Asked { kind: kind as u32, band: band as u32, threshold, scale: scale as u32, shift: shift as u32 };
-        assert!(f.search(want, note, &Search { s: s.into(), x, a, q: q.into(), room }), "{note}")
-    }
-    draw(&[(0, 52), (1, 2), (2, 5), (6, 4), (7, 4), (8, 4), (9, 4), (10, 4), (11, 4), (20, 8), (21, 6), (22, 6), (23, 6), (24, 12)], |number, k| {
+    ] { assert!(f.search(want, note, &Search { s: s.into(), x, a: asked(limits), q: q.into(), room }), "{note}") }
+    draw(&[(0, 52), (1, 2), (2, 5), (6, 4), (7, 4), (8, 4), (9, 4), (10, 4), (11, 4), (20, 8), (SHORT, 6), (22, 6), (23, 6), (24, 12)], |number, k| {
         let mut c = any_search(r, if number == 11 { 2 + k % 2 } else { k % 4 }, number);
-        if number == 0 {
-            let finds = answers::search(&c.s, &c.x, c.a, &c.q, &mut Lists::of_sevens(c.room)).second;
-            // three of four find something, and a list in two is exactly full
-            if k % 16 >= 4 && finds == 0 { return false }
-            if k % 2 == 0 { c.room[2] = finds }
-        }
+        if number == 0 && !finds(&mut c, k) { return false }
         if number != 24 { for _ in 0..harm(r, number) { spoil_search(r, &mut c) } }
-        f.search(number, "", &c)
+        let short = short_of(&c) > 0;
+        if number == SHORT { return short && [0, 23, 24].iter().any(|&n| f.search(n, "", &c)) }
+        !(number == 23 && short) && f.search(number, "", &c)
+    });
+}
+
+/// Through indexes that have fewer windows than the series.
+fn shorts(f: &mut File, r: &mut Numbers) {
+    // the query stands at 0 and 8, and nearly so at 16, the last offset
+    let (s, q, w) = ([40, 41, 52, 93, 30, 0, 21, 64, 40, 41, 52, 93, 30, 0, 21, 75, 40, 41, 54, 93, 30, 0, 21], [40, 41, 52, 93, 30, 0, 21], 3);
+    let windows = s.len() + 1 - w;
+    for (kind, limits) in [("raw", [0, 0, 4, 10, 0]), ("raw warped", [0, 1, 4, 10, 0]), ("normal", [1, 0, 100, 11, 1]), ("normal warped", [1, 1, 100, 11, 1])] {
+        for (lacks, count) in [("no window", 0), ("one window", 1), ("w - 1 windows", w - 1), ("w windows", w), ("m windows", q.len()), ("all windows but one", windows - 1)] {
+            let x = Lent::of(&build(&s[..s.len() - count], w, 5, 0));
+            assert!(f.search(0, &format!("{kind}, lacks {lacks}"), &Search { s: s.into(), x, a: asked(limits), q: q.into(), room: [windows, windows, 3] }))
+        }
+    }
+    let (s, raw, all) = ([1, 2, 4, 3, 1, 2, 4], [0, 0, 5, 10, 0], [6, 6, 5]);
+    let (head, rows, ones) = ([2, 2, 4], [[2, 4, 0, 1], [4, 8, 1, 1]], vec![1; 1_024]);
+    let thousand = |w: u32| lent([w, 1_000, 1], &[[0, 1_000, 0, 1]], &[(0, 0)]);
+    let bad = lent(head, &rows, &[(0, 0), (1, 4)]);
+    for (want, note, s, x, limits, q, room) in [
+        (0, "no rows: each window below the count rules out", &s[..], lent(head, &[], &[]), raw, &[2, 4][..], all),
+        (0, "no rows, windows 1", &s, lent([2, 2, 1], &[], &[]), raw, &[2, 4], all),
+        (0, "windows below the count in no row", &s, lent(head, &[[4, 8, 0, 1]], &[(2, 3)]), raw, &[2, 4], all),
+        (0, "a window in two rows, one in none", &s, lent(head, &rows, &[(0, 1), (1, 2)]), raw, &[2, 4], all),
+        (0, "windows in each other's row", &s, lent(head, &rows, &[(1, 3), (0, 0)]), [0, 0, 0, 10, 0], &[2, 4], all),
+        (0, "rubbish behind the runs", &s, lent(head, &rows, &[(0, 0), (1, 3), (4, 5), (MOST, 0)]), raw, &[2, 4], all),
+        (0, "the second part past the count, the first ruled out", &s, paper(), raw, &[9, 9, 2, 4], [6, 6, 0]),
+        (0, "the second part past the count, the first met", &s, paper(), raw, &[2, 4, 9, 9], [6, 6, 0]),
+        (0, "m = n", &s, paper(), raw, &s, [6, 6, 1]),
+        (0, "w 1, windows 1", &s, thousand(1), raw, &[4], [7, 7, 7]),
+        (0, "w = m, windows 1", &s, thousand(5), raw, &[1, 2, 4, 3, 1], [3, 3, 1]),
+        (0, "w 256, windows 1", &ones[..258], thousand(256), raw, &ones[..256], [3, 3, 3]),
+        (0, "m 1,024, windows 1", &ones, thousand(256), raw, &ones, [769, 769, 1]),
+        (2, "a value past the index", &[1, 2, 4, 3, 1, 2, 10_001], paper(), raw, &[2, 4], all),
+        (2, "a value of the query, a bad row, no room", &s, bad.clone(), raw, &[2, 10_001], [0, 0, 0]),
+        (6, "m 0", &s, paper(), raw, &[], all),
+        (6, "m = n + 1", &s, paper(), raw, &[1, 2, 4, 3, 1, 2, 4, 3], all),
+        (7, "m = w - 1", &s, paper(), raw, &[2], all),
+        (8, "b = m", &s, paper(), [0, 2, 5, 10, 0], &[2, 4], all),
+        (9, "E 10^12 + 1", &s, paper(), [0, 0, 1_000_000_000_001, 10, 0], &[2, 4], all),
+        (10, "a 9", &s, paper(), [0, 0, 5, 9, 0], &[2, 4], all),
+        (10, "h 20,001", &s, paper(), [1, 0, 5, 10, 20_001], &[2, 4], all),
+        (11, "a flat query, a bad row, no room", &s, bad.clone(), [1, 0, 5, 10, 0], &[5, 5], [0, 0, 0]),
+        (20, "a run at the count", &s, bad.clone(), raw, &[2, 4], all),
+        (20, "a run at the count, no room", &s, bad, raw, &[2, 4], [4, 4, 0]),
+        (20, "the total passes the count", &s, lent(head, &rows, &[(0, 3), (1, 1)]), raw, &[2, 4], all),
+        (20, "windows 0", &s, lent([2, 2, 0], &[], &[]), raw, &[2, 4], all),
+        (23, "as many candidates as the index has windows", &s, paper(), raw, &[2, 4], [4, 6, 5]),
+        (23, "as much scratch as the index has windows", &s, paper(), raw, &[2, 4], [6, 4, 5]),
+        (23, "candidates one too short", &s, paper(), raw, &[2, 4], [5, 6, 5]),
+        (24, "the list one too short", &s, paper(), raw, &[2, 4], [6, 6, 4]),
+        (24, "no list", &s, paper(), raw, &[2, 4], [6, 6, 0]),
+    ] { assert!(f.search(want, note, &Search { s: s.into(), x, a: asked(limits), q: q.into(), room }), "{note}") }
+    draw(&[(0, 16), (2, 2), (6, 1), (7, 1), (8, 1), (9, 1), (10, 1), (11, 1), (20, 5), (23, 4), (24, 4)], |number, k| {
+        let mut c = any_search(r, if number == 11 { 2 + k % 2 } else { k % 4 }, number);
+        let (n, w) = (c.s.len(), c.x.head.window as usize);
+        if n == w { return false }
+        let covered = r.from_to(w as i64, n as i64 - 1) as usize;
+        c.x = Lent::of(&build(&c.s[..covered], w, c.x.head.width as i64, pick(r, &[0, 80])));
+        if r.below(3) == 0 { c.x.refile(r); }
+        if r.below(3) == 0 { rubbish_behind(r, &mut c.x) }
+        if number == 0 && !finds(&mut c, k) { return false }
+        if number != 24 { for _ in 0..harm(r, number) { spoil_search(r, &mut c) } }
+        short_of(&c) > 0 && f.search(number, "", &c)
     });
 }
 
@@ -558,7 +630,7 @@ fn main() {
     let folder = std::env::args().nth(1).expect("a folder");
     let parts: [(&str, &[fn(&mut File, &mut Numbers)], &[(&str, &[u32])]); 3] = [
         ("index", &[builds, extensions, audits], &[("build", &[0, 1, 2, 3, 4, 5, 23]), ("extend", &[0, 1, 2, 20, 22, 23]), ("audit", &[0, 1, 2, 20, 21, 22, WRONG, MISSING])]),
-        ("search", &[searches], &[("search", &[0, 1, 2, 6, 7, 8, 9, 10, 11, 20, 21, 22, 23, 24])]),
+        ("search", &[searches, shorts], &[("search", &[0, 1, 2, 6, 7, 8, 9, 10, 11, 20, 22, 23, 24])]),
         ("text", &[writes, reads], &[("write", &[0, 20, 23]), ("read", &[0, 12, 20, 23])]),
     ];
     for (name, makers, entries) in parts {

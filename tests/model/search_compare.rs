@@ -9,6 +9,7 @@ mod texts;
 use index::*;
 use lent::*;
 use model::*;
+use std::collections::BTreeMap;
 use std::time::Instant;
 
 #[repr(C)]
@@ -37,7 +38,24 @@ struct Test {
     /// searches through an index that is well formed and wrong, and series searched through several indexes
     misled: u64,
     several: u64,
+    /// searches through an index with fewer windows than the series, of each kind
+    short: BTreeMap<String, u64>,
 }
+
+/// How many windows a short index lacks, and what comes of a search through it.
+const LACKS: [&str; 6] = ["some", "1", "w - 1", "w", "m", "all but one"];
+const CAME: [&str; 3] = ["right", "wrong", "refused"];
+
+/// Each kind of search through a short index; none has come yet.
+fn short_kinds() -> BTreeMap<String, u64> {
+    let lacks = LACKS.iter().flat_map(|lacks| CAME.map(|came| format!("lacks {lacks} {came}")));
+    let refused = [2, 6, 7, 8, 9, 10, 11, 20, 23, 24].iter().map(|n| format!("refused {n}"));
+    let found = ["match across the end", "match past the end", "ruled out across the end"].map(String::from);
+    lacks.chain(refused).chain(found).map(|kind| (kind, 0)).collect()
+}
+
+/// The index passes the audit against the series cut to the values that it covers.
+fn passes(s: &[i32], x: &Lent) -> bool { matches!(audit(&x.index(), &s[..(x.head.windows + x.head.window) as usize - 1]), Audited::Yes) }
 
 impl Test {
     fn say(&mut self, good: bool, what: &str, more: impl FnOnce() -> String) {
@@ -57,12 +75,32 @@ impl Test {
         self.full += answer.kind as u64;
     }
 
+    /// What came of a search through a short index, counted: the answer, and the offsets in the list.
+    fn count_short(&mut self, s: &[i32], x: &Lent, q: &[i32], answer: Searched, listed: &[u32]) {
+        let (n, m, w, windows) = (s.len() as i64, q.len() as i64, x.head.window as i64, x.head.windows as i64);
+        let lacks = n + 1 - w - windows;
+        if lacks <= 0 { return }
+        let mut came = |kind: String, times: bool| *self.short.entry(kind).or_default() += times as u64;
+        let number = match answer.kind { 0 => 0, 1 => 24, _ => answer.first };
+        let which = if number > 0 { 2 } else { !passes(s, x) as usize };
+        for (k, is) in [true, lacks == 1, lacks == w - 1, lacks == w, lacks == m, windows == 1].into_iter().enumerate() { came(format!("lacks {} {}", LACKS[k], CAME[which]), is) }
+        if number > 0 { came(format!("refused {number}"), true) }
+        if answer.kind == 3 { return }
+        // offsets from here on have a window at or past the count
+        let across = (windows - (m / w - 1) * w).max(0);
+        came("match across the end".into(), listed.iter().any(|&j| across <= j as i64 && (j as i64) < windows));
+        came("match past the end".into(), listed.iter().any(|&j| windows <= j as i64));
+        came("ruled out across the end".into(), (answer.first as i64) < n - m + 1 - across);
+    }
+
     /// One search into buffers full of rubbish; what stands in the list where it was not refused.
     fn search(&mut self, s: &[i32], x: &Lent, a: Asked, q: &[i32], rooms: [usize; 5]) -> Option<Vec<(u32, u64)>> {
         let mut b = Lists::of_rubbish(&mut self.r, rooms);
         let mut after = b.clone();
         let answer = answers::search(s, x, a, q, &mut after);
         self.count(answer, a);
+        let listed = if answer.kind == 3 { 0 } else { answer.second.min(rooms[3]).min(rooms[4]) };
+        self.count_short(s, x, q, answer, &after.offsets[..listed]);
         let told = entries::search(s, x, a, q, &mut b);
         self.say(told == answer && b == after, "search", || format!("{s:?} {x:?} {a:?} {q:?} {rooms:?}: {told:?} {b:?}, the model {answer:?} {after:?}"));
         if answer.kind == 0 && self.r.below(2) == 0 { self.plain(s, x, a, q, &after, answer) }
@@ -71,7 +109,7 @@ impl Test {
 
     /// The plain C, where the list has room; its list is as long as the shorter of the two slices.
     fn plain(&mut self, s: &[i32], x: &Lent, a: Asked, q: &[i32], after: &Lists, answer: Searched) {
-        let windows = x.head.windows as usize;
+        let windows = s.len() + 1 - x.head.window as usize;
         let room = after.offsets.len().min(after.distances.len());
         let mut b = Lists::of_rubbish(&mut self.r, [windows, windows, windows, room, room]);
         let mut right = after.clone();
@@ -90,7 +128,7 @@ impl Test {
         self.plain += 1;
         let same = done == 1 && b == right && counts == Counts { candidates: answer.first as u64, matches: answer.second as u64 };
         self.say(same, "plain search", || format!("{s:?} {x:?} {a:?} {q:?}: {counts:?} {b:?}"));
-        if !matches!(audit(&x.index(), s), Audited::Yes) { return }
+        if !passes(s, x) { return }
         let done = unsafe { plain_scan(s.as_ptr(), s.len(), a, q.as_ptr(), q.len(), b.offsets.as_mut_ptr(), b.distances.as_mut_ptr(), room as u64, &mut counts) };
         self.plain += 1;
         self.say(done == 1 && b == right && counts.matches == answer.second as u64, "plain scan", || format!("{s:?} {a:?} {q:?}: {counts:?} {b:?}"));
@@ -159,7 +197,7 @@ impl Test {
         [at_least(windows), at_least(windows), at_least(windows), at_least(list), at_least(list)]
     }
 
-    /// One turn: a series with planted matches, searched through several indexes that are right, then through one that may not be.
+    /// One turn: a series with planted matches, searched through several indexes that are right, then through one that may not be; one turn in four through indexes of its beginnings too.
     fn turn(&mut self, n: usize, kind: u64) {
         let normal = kind >= 2;
         let m = match self.r.below(6) { 0 => n, 1 => 1 + self.r.below(n as u64) as usize, _ => 1 + self.r.below(n.min(9) as u64) as usize };
@@ -179,14 +217,41 @@ impl Test {
             self.several += 1;
             self.say(lists[0] == lists[1], "two indexes", || format!("{s:?} {a:?} {q:?}: {lists:?}"));
         }
-        self.damaged(&s, &q, a);
+        self.damaged(&s, &q, a, 0);
+        if self.r.below(4) > 0 { return }
+        self.beginnings(&s, &q, a);
+        for k in 0..14 { self.damaged(&s, &q, a, k % 7) }
     }
 
-    /// A short list or buffer, numbers past their limits, an index that is wrong or ill formed, a series or a query that is damaged.
-    fn damaged(&mut self, s: &[i32], q: &[i32], a: Asked) {
+    /// The index of the series without its last windows: none is lacking, 1, w - 1, w, m, all but one, or any number of them.
+    fn beginning(&mut self, s: &[i32], m: usize, (w, d, g): (usize, u32, u32), which: u64) -> Lent {
+        let windows = s.len() + 1 - w;
+        let lacks = match which { 0 => 0, 1 => 1, 2 => w - 1, 3 => w, 4 => m, 5 => windows - 1, _ => self.r.below(windows as u64) as usize };
+        Lent::of(&build(&s[..s.len() - lacks.min(windows - 1)], w, d as i64, g as i64))
+    }
+
+    /// Through right indexes of several beginnings: each list is that of a scan of the whole series, and all are the same.
+    fn beginnings(&mut self, s: &[i32], q: &[i32], a: Asked) {
+        let offsets: Vec<usize> = (0..=s.len() - q.len()).collect();
+        let scan: Vec<(u32, u64)> = matches_among(&offsets, s, &answers::question(a, q)).iter().map(|&(j, d)| (j as u32, d)).collect();
+        let mut lists = vec![];
+        for which in 0..7 {
+            let (w, d, g) = any_numbers(&mut self.r, s.len());
+            let x = self.beginning(s, q.len(), (w.min(q.len()), d, g), which);
+            let rooms = self.rooms(s.len(), s.len());
+            let list = self.search(s, &x, a, q, rooms);
+            if let Some(list) = &list { self.say(*list == scan, "scan", || format!("{s:?} {x:?} {a:?} {q:?}: {list:?}, the scan {scan:?}")) }
+            lists.extend(list);
+        }
+        self.several += (lists.len() > 1) as u64;
+        self.say(lists.windows(2).all(|two| two[0] == two[1]), "beginnings", || format!("{s:?} {a:?} {q:?}: {lists:?}"));
+    }
+
+    /// A short list or buffer, numbers past their limits, an index that is wrong or ill formed, a series or a query that is damaged; through the index of one of the beginnings.
+    fn damaged(&mut self, s: &[i32], q: &[i32], a: Asked, which: u64) {
         let (w, d, g) = any_numbers(&mut self.r, s.len());
         let w = if self.r.below(4) > 0 { w.min(q.len()) } else { w };
-        let mut x = Lent::of(&build(s, w, d as i64, g as i64));
+        let mut x = self.beginning(s, q.len(), (w, d, g), which);
         if self.r.below(2) == 0 { x.rubbish_behind(&mut self.r) }
         let (mut s, mut q, mut a) = (s.to_vec(), q.to_vec(), a);
         let windows = s.len() - w + 1;
@@ -216,7 +281,8 @@ impl Test {
         let most = 1 << self.r.below(30);
         a.threshold = self.r.below(most);
         for w in [256, 1 + self.r.below(256) as usize] {
-            let x = Lent::of(&build(&s, w, 1_000, 80));
+            let which = self.r.below(7);
+            let x = self.beginning(&s, m, (w, 1_000, 80), which);
             let rooms = self.rooms(n, 100);
             self.search(&s, &x, a, &q, rooms);
         }
@@ -226,16 +292,19 @@ impl Test {
 fn main() {
     let turns: u64 = std::env::args().nth(1).map_or(60_000, |x| x.parse().unwrap());
     let start = Instant::now();
-    let mut t = Test { r: Numbers(88172645463325252), inputs: 0, wrong: 0, plain: 0, looked: [0; 4], matched: 0, matches: 0, full: 0, refused: [0; 24], misled: 0, several: 0 };
+    let mut t = Test { r: Numbers(88172645463325252), inputs: 0, wrong: 0, plain: 0, looked: [0; 4], matched: 0, matches: 0, full: 0, refused: [0; 24], misled: 0, several: 0, short: short_kinds() };
     for k in 0..turns {
         let n = match k % 100 { 0 => t.r.from_to(60, 120), 1..=9 => t.r.from_to(30, 59), 10..=19 => t.r.from_to(1, 3), _ => t.r.from_to(4, 29) } as usize;
         t.turn(n, k / 100 % 4);
         if k % 2_000 == 0 { t.longest(k / 2_000 % 4) }
     }
+    let short: Vec<String> = t.short.iter().map(|(kind, times)| format!("{kind} {times}")).collect();
     let told: Vec<String> = (0..24).filter(|&k| t.refused[k] > 0).map(|k| format!("{k}: {}", t.refused[k])).collect();
     println!(
-        "{} inputs, {} differences ({} of the plain C; looked: raw {} straight, {} warped, normalised {} straight, {} warped; {} with matches, {} matches, {} lists too short, {} through a wrong index, {} series through two indexes; refused {}) in {:.1} s",
-        t.inputs, t.wrong, t.plain, t.looked[0], t.looked[1], t.looked[2], t.looked[3], t.matched, t.matches, t.full, t.misled, t.several, told.join(" "), start.elapsed().as_secs_f64()
+        "{} inputs, {} differences ({} of the plain C; looked: raw {} straight, {} warped, normalised {} straight, {} warped; {} with matches, {} matches, {} lists too short, {} through a wrong index, {} series through several indexes; refused {}; through short indexes {}) in {:.1} s",
+        t.inputs, t.wrong, t.plain, t.looked[0], t.looked[1], t.looked[2], t.looked[3], t.matched, t.matches, t.full, t.misled, t.several, told.join(" "), short.join(", "), start.elapsed().as_secs_f64()
     );
-    if t.wrong > 0 { std::process::exit(1) }
+    let never: Vec<&String> = t.short.iter().filter(|(_, times)| **times == 0).map(|(kind, _)| kind).collect();
+    if !never.is_empty() { println!("no search through a short index: {never:?}") }
+    if t.wrong > 0 || !never.is_empty() { std::process::exit(1) }
 }

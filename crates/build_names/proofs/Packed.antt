@@ -4,7 +4,7 @@ use Rattle.meaning_numbers.proofs.Prelude.{_≡_, refl, sym, ap, _∙_, subst, 
 use Rattle.meaning_numbers.proofs.{Sum.Σℕ-none, Sum.Σℕ-same, Member.All}
 use Rattle.meaning_curves.specs.Curve.{windowSum}
 use Rattle.meaning_rows.specs.{declared.Row.Row, Range.rowNumber, Range.lowOf, Range.upOf, Range.inside, Runs.runs, Runs.runCount, Index.records, Index.allRuns, Build.SetRow, Build.filed, Build.entry, Build.withRuns, Build.builtRows}
-use Rattle.meaning_rows.proofs.Build.{Fine, Chain, Tiled, Ends, covered, mergedRows, built-tiled, built-covers, built-ends, built-length, built-runs, merged-none}
+use Rattle.meaning_rows.proofs.Build.{Fine, Chain, Tiled, Ends, holdsSum, mergedRows, built-tiled, built-covers, built-ends, built-length, built-runs, merged-none}
 use Rattle.meaning_rows.proofs.{Range.is-inside, Range.row-below, Range.row-above, Runs.runs-cong, LaidAt.Σℕ-shift}
 use Rattle.rows_records.specs.Records.{zeroRow}
 use Rattle.sums_slide.specs.Levels.{Lent, windowsOf, level-le}
@@ -59,12 +59,12 @@ pub record At (z : ℤ) (l : List SetRow) : Type 0 where
   pub below : place < length l
   pub is : inside (nth l place .low) (nth l place .up) z ≡ true
 
-covered-at : (z : ℤ) (l : List SetRow) → covered z l ≡ true → At z l
+held-at : (z : ℤ) (l : List SetRow) → holdsSum z l ≡ true → At z l
 unfolding any
-covered-at z [] e = clash e refl
-covered-at z (s ∷ l) e = by-test _
+held-at z [] e = clash e refl
+held-at z (s ∷ l) e = by-test _
     (λ t. record { place = 0; below = omega arith; is = t })
-    (λ f. let r = covered-at z l (rw f at e) in record { place = suc _; below = omega arith; is = r.is })
+    (λ f. let r = held-at z l (rw f at e) in record { place = suc _; below = omega arith; is = r.is })
 
 ends-at : (P : ℤ → Type 0) (l : List SetRow) → All (Ends P) l → (i : ℕ) → i < length l → Ends P (nth l i)
 unfolding All
@@ -123,7 +123,7 @@ module _ (sum : ℕ → ℤ) (n : ℕ) where
     found : (j : ℕ) → j < n → (row j < count) × (inside (nth l (row j) .low) (nth l (row j) .up) (sum j) ≡ true)
     unfolding rowIn placeIn endsBy
     found j b =
-        let a = covered-at (sum j) l (s.covers j b) in
+        let a = held-at (sum j) l (s.covers j b) in
         let k = is-inside _ (nth l a.place .up) (sum j) a.is in
         let in-count : a.place < count = omega (arith, a.below, p.many) in
         let not-above : row j ≤ a.place = elim (decLt a.place (row j)) [
@@ -210,7 +210,7 @@ module _ (s : List ℤ) (w e : ℕ) (h : Lent s w e) where
     pub packed-ready : ((i : ℕ) → i < count → NamedRow (rowIn rows count sums) windows i (partAt (rowIn rows count sums) windows i) left right)
         → Ready (record { windows = windows; list = l; row = rowIn rows count sums }) rows count left right
     packed-ready names = record {
-      some = omega (arith, p.many, covered-at (sums 0) l (g.covers 0 windows-some) .below);
+      some = omega (arith, p.many, held-at (sums 0) l (g.covers 0 windows-some) .below);
       few = omega arith;
       short = windows-few;
       packed = p;

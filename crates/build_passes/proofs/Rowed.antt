@@ -4,7 +4,7 @@ use Rattle.meaning_numbers.proofs.Prelude.{_≡_, refl, sym, ap, _∙_, Bool, t
 use Rattle.meaning_numbers.proofs.{Sum.Σℕ-same, Member.All, Member.all-mem, Member.mem-at}
 use Rattle.meaning_curves.specs.Curve.{windowSum}
 use Rattle.meaning_rows.specs.{declared.Row.Row, Range.inside, Range.lowOf, Range.upOf, Range.rowNumber, Runs.runs, Runs.runCount, Build.SetRow, Build.entry, Build.withRuns}
-use Rattle.meaning_rows.proofs.Build.{Fine, Chain, Tiled, Ends, covered, mergedRows, tiled-fine, built-tiled, built-covers, built-ends}
+use Rattle.meaning_rows.proofs.Build.{Fine, Chain, Tiled, Ends, holdsSum, mergedRows, tiled-fine, built-tiled, built-covers, built-ends}
 use Rattle.meaning_rows.proofs.{Range.row-below, Range.row-above, Range.up-is, LaidAt.records-at}
 use Rattle.rows_records.specs.Records.{zeroRow}
 use Rattle.sums_slide.specs.Levels.{Lent, windowsOf, level-small}
@@ -93,7 +93,7 @@ module _ {n count : ℕ} {l : List SetRow} {rows : List Row} (p : PackedAs n l r
   runs-at : (i : ℕ) → i < count → getD rows i zeroRow .runs ≡ runCount (tests l i) n
   runs-at i h = ap (λ r. r.runs) (record-at i h) ∙ size-is i
 
-  pub packed-rowed : (sum : ℕ → ℤ) → Tiled sum n l → ((j : ℕ) → j < n → covered (sum j) l ≡ true) → All (Ends Near) l → Rowed (tests l) sum 0 n rows count
+  pub packed-rowed : (sum : ℕ → ℤ) → Tiled sum n l → ((j : ℕ) → j < n → holdsSum (sum j) l ≡ true) → All (Ends Near) l → Rowed (tests l) sum 0 n rows count
   packed-rowed sum t c e = record {
     within = p.within;
     small = λ i h.

@@ -80,7 +80,7 @@ pub record Going (part offsets shift : ℕ) (all left : List Entry) (old new : L
 pub going-starts : (part offsets shift : ℕ) (all : List Entry) (old : List ℕ) → Going part offsets shift all all old old
 going-starts part offsets shift all old = record { long = refl; at = λ j. refl }
 
-split-run : (o a b : Bool) → (o && (a || b)) ≡ ((o && a) || (o && b))
+pub split-run : (o a b : Bool) → (o && (a || b)) ≡ ((o && a) || (o && b))
 split-run true a b = refl
 split-run false a b = refl
 

@@ -1,10 +1,10 @@
 -- Finding candidates, where nothing refuses the search before it looks: what its parts ask for is had (`put-asked`, `meet-asked`, `hand-asked`), and what they promise is the promise of finding (`gathered`).
 use Prim.Native.Nat.{ℕ, zero, suc, _+_, _-_, _*_, _/_, _<_, _≤_, min}
 use borrow.Author.Tests.{eqb-true, eqb-false, not-true, not-false}
-use lib.Dec.{eqb}
+use lib.Dec.{leb, eqb}
 use lib.IntN.{ℤ}
 use lib.ListN.{length, getD, length-replicate}
-use mathlib.Core.Bool.{Bool, true, false, not}
+use mathlib.Core.Bool.{Bool, true, false, not, _||_}
 use mathlib.Core.List.{List, [], map}
 use mathlib.Core.Path.{_≡_, refl, sym, ap, _∙_}
 use native.Mathlib.Nat.{div-le-self, div-mul-le-self}
@@ -20,7 +20,7 @@ use Rattle.rows_judge.proofs.Scan.{length-entries}
 use Rattle.refusals.specs.{declared.Refusal.Refusal, Refusal.refusalOf, Refusal.asRefusal}
 use Rattle.candidate_counts.proofs.{LeadingLaws.leading, LeadingLaws.Counted, Leading.leading-all}
 use Rattle.candidate_met.specs.{declared.Span.Span, Met.clampOf, Met.metSpan}
-use Rattle.candidate_met.proofs.{Parts.FoundAll, Meaning.cleared-zeros, Meaning.found-all, Stored.raised-most, Stored.lowered, Spanned.span-admits, Spanned.span-inside, Spanned.span-few, Spanned.clamp-admits, Spanned.climbs}
+use Rattle.candidate_met.proofs.{Parts.FoundAll, Meaning.cleared-zeros, Meaning.found-all, Stored.raised-most, Stored.lowered, Spanned.span-met, Spanned.span-inside, Spanned.span-few, Spanned.clamp-stands, Spanned.climbs}
 use Rattle.candidate_plan.specs.{Tables.planOf, Allowed.Allowed, Allowed.thePlan, Allowed.plan-is, Allowed.goes-on, Allowed.allowed}
 use Rattle.candidate_spans.specs.{Held.at, Held.RangesReady, Held.RangesHeld, Met.spanAt, Met.MeetReady, Met.AllMet, Raised.stretchHit}
 use Rattle.candidate_spans.proofs.Raised.{counted-all}
@@ -140,8 +140,8 @@ module _ (s : List ℤ) (h : Head) (rows : List Row) (left right : List ℕ) (as
         last-room = omega (arith, all.last-long, held.last-long, a.candidates-fit, a.window);
       }
 
-      hit-is : (i j : ℕ) → i < p → stretchHit left right first₂ last₂ w i j ≡ admits x (range i) (j + i * w)
-      hit-is i j k = rw (from-is i k, to-is i k) (span-admits x a.formed _ _ _ ∙ clamp-admits x a.formed _ _)
+      hit-is : (i j : ℕ) → i < p → stretchHit left right first₂ last₂ h.windows w i j ≡ admits x (range i) (j + i * w)
+      hit-is i j k = rw (from-is i k, to-is i k) (ap (λ t. leb h.windows (j + i * w) || t) (span-met x a.formed _ _ _ ∙ clamp-stands x a.formed _ _))
 
       module _ {t : Sought} {left′ right′ scratch : List ℕ} (e : HandedOut s h left right q first₂ last₂ b.scratch t left′ right′ scratch) where
         counted : Counted x range n p e.counts

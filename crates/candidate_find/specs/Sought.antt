@@ -44,6 +44,6 @@ pub record HandReady (s : List ℤ) (h : Head) (left right : List ℕ) (q : List
 pub record HandedOut (s : List ℤ) (h : Head) (left right : List ℕ) (q : List ℤ) (first last scratch : List ℕ) (t : Sought) (first′ last′ scratch′ : List ℕ) : Type 0 where
   pub counts : List ℕ
   pub goes-on : t.refusal ≡ unrefused
-  pub counted : CountedBy (stretchHit left right first last h.window) (length s + 1 - length q) (length q / h.window) counts
+  pub counted : CountedBy (stretchHit left right first last h.windows h.window) (length s + 1 - length q) (length q / h.window) counts
   pub handed : Handed (stood counts (length q / h.window)) (length s + 1 - length q) first last first′ last′ t.runs t.candidates
   pub cleared : scratch′ ≡ filled 0 [] scratch

@@ -84,7 +84,8 @@ pub fn hand_out(
     let parts = m / w;
     let n = series.len() + 1 - m;
     clear_u16(scratch, 0);
-    raise_stretches(scratch, left, right, first, last, w, parts, n);
+    let windows = head.windows as usize;
+    raise_stretches(scratch, left, right, first, last, windows, w, parts, n);
     let c = collect(scratch, parts as u16, n, first, last);
     tell_sought(c.runs, c.candidates)
 }

@@ -1,4 +1,4 @@
--- The stretch of runs that code finds has exactly the offsets that the range admits (`span-admits`), and lies inside the run buffer (`span-inside`, `span-few`), where the index is well formed.
+-- The stretch of runs that code finds has exactly the windows that stand in a row that the range meets (`span-met`), and lies inside the run buffer (`span-inside`, `span-few`), where the index is well formed.
 -- The rows met are those from row a up to row e: they begin after the rows that end at or below the range, and end before those that begin above it. Their runs stand side by side.
 use Rattle.meaning_numbers.specs.Place.{any}
 use Rattle.meaning_numbers.proofs.Member.{any-mem, any-cong, all-mem, mem-at}
@@ -6,7 +6,7 @@ use Rattle.meaning_numbers.proofs.Prelude.{_≡_, refl, sym, ap, _∙_, subst, 
 use Rattle.meaning_rows.specs.{declared.Row.Row, Index.Index, Index.Entry, Index.inRun, Index.stands}
 use Rattle.meaning_rows.proofs.Range.{le-leZ}
 use Rattle.meaning_rows.proofs.Judge.{WellFormed, GoodRow, runTotal, each-row, row-at, order-at, first-at, runs-at-most, length-runsOf}
-use Rattle.meaning_filter.specs.Candidates.{met, admits}
+use Rattle.meaning_filter.specs.Candidates.{met, standsMet}
 use Rattle.rows_records.specs.Records.{zeroRow}
 use Rattle.rows_find.specs.Search.{Climbs}
 use Rattle.candidate_met.specs.Met.{clampOf, firstAbove, endOf, reachedRuns, spanOf, metSpan}
@@ -232,7 +232,7 @@ module _ (x : Index) (f : WellFormed x) where
         (λ s t. rw (s, end-is) (elim (decLt b n) [ yes h ↦ rw (t h) (omega arith) | no m ↦ let z = none-reached (row b) high (List·getD-eq-default rows zeroRow (omega arith)) in omega (arith, z) ]))
 
     abbrev admitted : ℕ → Bool
-    admitted j = admits x (low, high) j
+    admitted j = standsMet x (low, high) j
 
     found : (j : ℕ) → admitted j ≡ true → Stands j a e e-le (above-le rows low)
     found j t =
@@ -243,9 +243,9 @@ module _ (x : Index) (f : WellFormed x) where
     shown : (j : ℕ) → Stands j a e e-le (above-le rows low) → admitted j ≡ true
     shown j s = place-some (λ r. met (low, high) r && stands x r j) zeroRow rows s.at (omega (arith, s.high, e-le)) (of-both (row-met s.at s.low s.high) s.is)
 
-    pub span-admits : (j : ℕ) → let s = metSpan rows low high in any (inRun j) (take (s.to - s.from) (drop s.from x.runs)) ≡ admits x (low, high) j
+    pub span-met : (j : ℕ) → let s = metSpan rows low high in any (inRun j) (take (s.to - s.from) (drop s.from x.runs)) ≡ standsMet x (low, high) j
     unfolding metSpan spanOf any
-    span-admits j = by-test (ltb a n)
+    span-met j = by-test (ltb a n)
         (λ t. rw (t, to-is, first-at x f zeroRow a (ltb-true a n t)) (same-test (any (inRun j) (stretch j a e e-le (above-le rows low))) (admitted j) (λ h. shown j (out j a e e-le (above-le rows low) h)) (λ h. into j a e e-le (above-le rows low) (found j h))))
         (λ t. let z : F e - F e ≡ 0 = omega arith in
         rw (t, to-is, z) (same-test false (admitted j) (λ h. absurd (false≢true h)) (λ h. let s = found j h in absurd (omega (arith, s.low, s.high, e-le, ltb-false a n t)))))
@@ -266,8 +266,8 @@ module _ (x : Index) (f : WellFormed x) where
   clamp-met : (range : ℤ × ℤ) (r : Row) → GoodRow x r → met (clampOf range.0, clampOf range.1) r ≡ met range r
   clamp-met range r g = rw (clamp-le (row-end _ g.low-end.limited) range.1, clamp-lt (row-end r.up g.up-end.limited) range.0)
 
-  pub clamp-admits : (range : ℤ × ℤ) (j : ℕ) → admits x (clampOf range.0, clampOf range.1) j ≡ admits x range j
-  clamp-admits range j =
+  pub clamp-stands : (range : ℤ × ℤ) (j : ℕ) → standsMet x (clampOf range.0, clampOf range.1) j ≡ standsMet x range j
+  clamp-stands range j =
       any-cong (λ r. met (clampOf _, clampOf _) r && stands x r j) (λ r. met range r && stands x r j) rows
       (λ r m. rw (clamp-met range r (all-mem (GoodRow x) rows (each-row x f) m)))
 

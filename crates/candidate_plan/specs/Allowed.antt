@@ -15,16 +15,16 @@ use Rattle.meaning_rows.specs.{declared.Row.Row, declared.Head.Head, Index.Inde
 use Rattle.meaning_rows.proofs.Judge.{WellFormed}
 use Rattle.meaning_filter.specs.{declared.Kind.Kind, declared.Limits.Limits, declared.Ask.Ask}
 use Rattle.meaning_entries.specs.Search.{SearchCall, SearchBuffers, lentSearch, searchPlan, searchAnswer, searchAfter}
-use Rattle.meaning_entries.specs.{declared.Found.Found, Refusal.firstRefusal, Refusal.normalFlat, Refusal.fewerWindows, Refusal.moreWindows, Buffers.pairRoom}
-use Rattle.meaning_entries.proofs.Lines.{long-line, values-line, query-line, below-line, band-line, threshold-line, scale-line, flat-line, formed-line, fewer-line, more-line, room-line}
+use Rattle.meaning_entries.specs.{declared.Found.Found, Refusal.firstRefusal, Refusal.normalFlat, Refusal.moreWindows, Buffers.pairRoom}
+use Rattle.meaning_entries.proofs.Lines.{long-line, values-line, query-line, below-line, band-line, threshold-line, scale-line, flat-line, formed-line, room-line}
 use Rattle.meaning_entries.proofs.Refusal.{AllPass, passed-is, openLines, passed-line, passed-behind, lacks}
-use Rattle.meaning_entries.proofs.{Looked.plan-refused, Passes.same-windows}
+use Rattle.meaning_entries.proofs.Looked.{plan-refused}
 use Rattle.rows_judge.specs.Judged.{judgedOf, bad-row}
 use Rattle.refusals.specs.{declared.Refusal.Refusal, Refusal.refusalOf, Refusal.judged-line, Refusal.passes, Refusal.refuses}
 use Rattle.candidate_plan.specs.Tables.{valuesTable, numbersTable, inputTable, windowsTable, stateTable, planOf}
 pub use Rattle.meaning_curves.specs.Limits.{mostValues, longestWindow}
 
--- a search within all limits, over an index that is well formed and has the windows of the series, with room for candidates and scratch
+-- a search within all limits, over an index that is well formed, with room for candidates and scratch
 pub record Allowed (s : List ℤ) (h : Head) (x : Index) (ask : Ask) (q : List ℤ) (candidates scratch : ℕ) : Type 0 where
   pub values : AllIn s
   pub query : AllIn q
@@ -40,7 +40,6 @@ pub record Allowed (s : List ℤ) (h : Head) (x : Index) (ask : Ask) (q : List �
   pub shift : ask.limits.shift ≤ 20000
   pub not-flat : ask.kind ≡ Kind.Normal → 0 < spread (at q) (length q)
   pub formed : WellFormed x
-  pub windows : h.windows + h.window ≡ length s + 1
   pub candidates-fit : length s + 1 - h.window ≤ candidates
   pub scratch-fits : length s + 1 - h.window ≤ scratch
 
@@ -66,7 +65,7 @@ module _ (s : List ℤ) (h : Head) (rows : List Row) (left right : List ℕ) (as
   thePlan = planOf s h (judgedOf X) ask q (pairRoom b.left b.right) (length b.scratch)
 
   pub plan-is : thePlan ≡ refusalOf (searchPlan call b)
-  unfolding planOf searchPlan inputTable valuesTable numbersTable stateTable windowsTable fewerWindows moreWindows
+  unfolding planOf searchPlan inputTable valuesTable numbersTable stateTable windowsTable moreWindows
   plan-is = rw (judged-line X (judgedOf X) (bad-row X)) refl
 
   never-0 : T (lacks 0 (searchPlan call b))
@@ -117,7 +116,6 @@ module _ (s : List ℤ) (h : Head) (rows : List Row) (left right : List ℕ) (as
           shift = limits-in.1.most;
           not-flat = curved;
           formed = well;
-          windows = same-windows X s well (fewer-line X n (passed-line t 21)) (more-line X n (passed-line t 22));
           candidates-fit = room-line _ _ (passed-line t 23);
           scratch-fits = room-line _ _ (passed-line (passed-behind t 23) 23);
         }

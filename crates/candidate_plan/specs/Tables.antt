@@ -22,11 +22,11 @@ numbersTable s q w a = limitLines (length s) (length q) (pos w) (lentAsk a)
 unfoldable pub inputTable : List ℤ → List ℤ → ℕ → Ask → List Condition
 inputTable s q w a = valuesTable s q ++ (numbersTable s q w a ++ (flatQuery a.kind q ∷ []))
 
--- 21 to 23
+-- 22 and 23
 unfoldable pub windowsTable : List ℤ → Head → ℕ → ℕ → List Condition
 windowsTable s h candidates scratch = windowLines (length s) (lent h [] [] []) candidates scratch
 
--- 20 to 23
+-- 20, 22 and 23
 unfoldable pub stateTable : List ℤ → Head → Judged → ℕ → ℕ → List Condition
 stateTable s h j candidates scratch = judgedLine j ∷ windowsTable s h candidates scratch
 

@@ -5,7 +5,6 @@ use numbers::lesser;
 use refusals::Refusal;
 use refusals::band_outside;
 use refusals::below_window;
-use refusals::fewer;
 use refusals::more;
 use refusals::normal_flat;
 use refusals::query_length_outside;
@@ -59,7 +58,7 @@ pub fn refuse_input(s: &[i32], q: &[i32], w: u32, ask: Ask) -> Refusal
     refuse_if(normal_flat(kind, q), 11, unrefused())
 }
 
-// The windows of a well-formed index against the series, and the room of candidates and scratch.
+// More windows than the series has, and the room of candidates and scratch.
 pub fn refuse_windows(s: &[i32], head: Head, candidates: usize, scratch: usize) -> Refusal
     ensures { λ r. ⌜ r ≡ refusalOf (windowsTable (now (s .entry)) head candidates scratch) ⌝ }
 {
@@ -67,8 +66,7 @@ pub fn refuse_windows(s: &[i32], head: Head, candidates: usize, scratch: usize) 
     let w = head.window;
     let windows = head.windows;
     let room = refuse_room(candidates, scratch, w, n);
-    let many = refuse_if(more(windows, w, n), 22, room);
-    refuse_if(fewer(windows, w, n), 21, many)
+    refuse_if(more(windows, w, n), 22, room)
 }
 
 // Everything about the state, by what judging said of the index.

@@ -1,8 +1,8 @@
--- The scratch count by the stretches of runs that parts meet: a part counts at an offset where all parts before it do and its window stands in a run of its stretch (`leadingBy`, `CountedBy`). Where each stretch has the runs of the rows that the part's range meets, that is the count of leading parts.
+-- The scratch count by the stretches of runs that parts meet: a part counts at an offset where all parts before it do and its window stands in a run of its stretch, or is at or past the index's count (`leadingBy`, `CountedBy`). Where each stretch has the runs of the rows that the part's range meets, that is the count of leading parts.
 use Prim.Native.Nat.{ℕ, zero, suc, _+_, _-_, _*_, _<_, _≤_}
-use lib.Dec.{ltb}
+use lib.Dec.{leb, ltb}
 use lib.ListN.{length, getD, take, drop}
-use mathlib.Core.Bool.{Bool, cond}
+use mathlib.Core.Bool.{Bool, cond, _||_}
 use mathlib.Core.List.{List}
 use mathlib.Core.Path.{_≡_}
 use Rattle.meaning_numbers.specs.Place.{any}
@@ -18,9 +18,9 @@ leadingBy hit (suc i) j = bump (hit i j) i (leadingBy hit i j)
 pub record CountedBy (hit : ℕ → ℕ → Bool) (offsets i : ℕ) (scratch : List ℕ) : Type 0 where
   pub at : (j : ℕ) → getD scratch j 0 ≡ cond (ltb j offsets) (leadingBy hit i j) 0
 
--- the window of offset j at part i stands in a run of the part's stretch
-abbrev pub stretchHit : List ℕ → List ℕ → List ℕ → List ℕ → ℕ → ℕ → ℕ → Bool
-stretchHit left right first last w i j = any (inRun (j + i * w)) (take (getD last i 0 - getD first i 0) (drop (getD first i 0) (entries left right)))
+-- the window of offset j at part i is at or past the index's count, or stands in a run of the part's stretch
+abbrev pub stretchHit : List ℕ → List ℕ → List ℕ → List ℕ → ℕ → ℕ → ℕ → ℕ → Bool
+stretchHit left right first last windows w i j = leb windows (j + i * w) || any (inRun (j + i * w)) (take (getD last i 0 - getD first i 0) (drop (getD first i 0) (entries left right)))
 
 -- what raising by all stretches asks for
 pub record StretchesReady (left right first last : List ℕ) (w parts offsets : ℕ) (scratch : List ℕ) : Type 0 where

@@ -1,4 +1,6 @@
 // The stretches of runs that the parts of a query meet, held in the candidate buffer until candidates are handed out: entry i is that of part i.
+use candidate_counts::clip;
+use candidate_counts::raise_run;
 use candidate_counts::raise_runs;
 use candidate_met::Span;
 use candidate_met::met_span;
@@ -124,25 +126,29 @@ pub fn meet_parts(rows: &[Row], parts: usize, first: &mut [u32], last: &mut [u32
     }
 }
 
-// Every offset's count of leading parts, by the parts' stretches; the counts are 0 before.
+// Every offset's count of leading parts, by the parts' stretches and the windows at or past the index's count; the counts are 0 before.
 pub fn raise_stretches(
     scratch: &mut [u16],
     left: &[u32],
     right: &[u32],
     first: &[u32],
     last: &[u32],
+    windows: usize,
     w: usize,
     parts: usize,
     offsets: usize,
 )
     requires { ⌜ StretchesReady (now left) (now right) (now first) (now last) w parts offsets (now scratch) ⌝ }
-    ensures { λ _. ⌜ CountedBy (stretchHit (now (left .entry)) (now (right .entry)) (now (first .entry)) (now (last .entry)) w) offsets parts (now (scratch .exit)) ⌝ }
+    ensures { λ _. ⌜ CountedBy (stretchHit (now (left .entry)) (now (right .entry)) (now (first .entry)) (now (last .entry)) windows w) offsets parts (now (scratch .exit)) ⌝ }
 {
     let mut i: usize = 0;
     while i < parts {
         let from = first[i] as usize;
         let to = last[i] as usize;
-        raise_runs(left, right, from, to, scratch, i * w, offsets, i as u16);
+        let shift = i * w;
+        let part = i as u16;
+        raise_run(scratch, clip(windows, shift, offsets), offsets, part);
+        raise_runs(left, right, from, to, scratch, shift, offsets, part);
         i += 1;
     }
 }

@@ -1,5 +1,5 @@
-// Demand 3 of the code (01, Candidates): one series audited against two lent indexes, and searched for one query through both.
-use entry_audit::audit;
+// Demand 3 of the code (01, Candidates; 02, item 1): two lent indexes, each audited against the part of the series that it covers, and the series searched for one query through both.
+use entry_audit::audit_covered;
 use entry_search::search;
 use meaning_entries::Audited;
 use meaning_entries::Both;
@@ -76,7 +76,7 @@ fn tell(one: Audited, two: Audited, first: Found, second: Found) -> Both
     tell_found(first, second)
 }
 
-// Both indexes audited, and the series searched through both.
+// Both indexes audited, each against its own part, and the series searched through both.
 pub fn demand(
     series: &[i32],
     head1: Head,
@@ -102,8 +102,8 @@ pub fn demand(
 ) -> Both
     ensures { λ a. ⌜ Demand3Kept (lentSearch (now (series .entry)) head1 (now (rows1 .entry)) (now (left1 .entry)) (now (right1 .entry)) ask (now (query .entry))) (lent head2 (now (rows2 .entry)) (now (left2 .entry)) (now (right2 .entry))) (searchBuffers (now (first1 .entry)) (now (last1 .entry)) (now (scratch1 .entry)) (now (offsets1 .entry)) (now (distances1 .entry))) (searchBuffers (now (first2 .entry)) (now (last2 .entry)) (now (scratch2 .entry)) (now (offsets2 .entry)) (now (distances2 .entry))) a (searchBuffers (now (first1 .exit)) (now (last1 .exit)) (now (scratch1 .exit)) (now (offsets1 .exit)) (now (distances1 .exit))) (searchBuffers (now (first2 .exit)) (now (last2 .exit)) (now (scratch2 .exit)) (now (offsets2 .exit)) (now (distances2 .exit))) ⌝ }
 {
-    let one = audit(series, head1, rows1, left1, right1);
-    let two = audit(series, head2, rows2, left2, right2);
+    let one = audit_covered(series, head1, rows1, left1, right1);
+    let two = audit_covered(series, head2, rows2, left2, right2);
     let found1 = search(
         series,
         head1,

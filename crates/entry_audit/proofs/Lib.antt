@@ -3,3 +3,4 @@ pub mod Turn
 pub mod Cases
 pub mod Chunks
 pub mod Going
+pub mod Covered

@@ -3,6 +3,7 @@ use meaning_entries::Audited;
 use meaning_rows::Head;
 use meaning_rows::Row;
 use numbers::monus;
+use numbers::shorter;
 use refusals::Refusal;
 use refusals::fewer;
 use refusals::more;
@@ -16,13 +17,13 @@ use rows_records::chunk_at;
 use values::window_sum;
 ghost use mathlib.Core.Path.{_≡_};
 ghost use mathlib.Core.Bool.{true};
-ghost use Prim.Native.Nat.{_+_, _-_, _<_};
+ghost use Prim.Native.Nat.{_+_, _-_, _<_, min};
 ghost use Rattle.meaning_curves.specs.Limits.{longestWindow};
 ghost use Rattle.meaning_curves.specs.Curve.{windowSum};
 ghost use Rattle.meaning_curves.proofs.Values.{AllIn};
 ghost use lib.ListN.{length};
 ghost use Rattle.meaning_rows.specs.Range.{inside};
-ghost use Rattle.meaning_entries.specs.Audit.{lentAudit};
+ghost use Rattle.meaning_entries.specs.Audit.{lentAudit, coveredAudit};
 ghost use Rattle.meaning_entries.specs.Demand2.{AuditKept};
 ghost use Rattle.entry_audit.specs.Auditing.{Ready, chunked};
 ghost use Rattle.refusals.specs.Refusal.{refusalOf};
@@ -217,4 +218,27 @@ pub fn audit(series: &[i32], head: Head, rows: &[Row], left: &[u32], right: &[u3
         from += 64;
     }
     answer(p, s)
+}
+
+// How many values of a series of `n` an index covers.
+pub fn covered_length(head: Head, n: usize) -> usize
+    ensures { λ r. ⌜ r ≡ min (head .windows + head .window - 1) n ⌝ }
+{
+    let windows = head.windows as usize;
+    let w = head.window as usize;
+    shorter(monus(windows + w, 1), n)
+}
+
+// The audit against the part of a series that the index covers (02, item 1).
+pub fn audit_covered(
+    series: &[i32],
+    head: Head,
+    rows: &[Row],
+    left: &[u32],
+    right: &[u32],
+) -> Audited
+    ensures { λ a. ⌜ AuditKept (coveredAudit (now (series .entry)) head (now (rows .entry)) (now (left .entry)) (now (right .entry))) a ⌝ }
+{
+    let n = covered_length(head, series.len());
+    audit(&series[..n], head, rows, left, right)
 }

@@ -3,7 +3,7 @@ use Rattle.meaning_numbers.specs.Place.{any}
 use Rattle.meaning_numbers.proofs.Prelude.{_≡_, refl, sym, ap, _∙_, true, List, [], _∷_, _++_, map, none, some, ℕ, _+_, _-_, _*_, _<_, _≤_, arith, ℤ, length, getD, replicate, length-append, length-map, clash}
 use Rattle.meaning_curves.specs.Curve.{windowSum, windowCount}
 use Rattle.meaning_rows.specs.{declared.Row.Row, Index.Index, Build.SetRow, Build.withRuns, Build.built, Build.builtRows}
-use Rattle.meaning_rows.proofs.{Build.mergedRows, Build.covered, Build.built-covers, Laid.length-records}
+use Rattle.meaning_rows.proofs.{Build.mergedRows, Build.holdsSum, Build.built-covers, Laid.length-records}
 use Rattle.meaning_entries.specs.{declared.Built.Built, Buffers.IndexBuffers, Buffers.filled, Buffers.runRoom, Buffers.indexIn, Build.lentBuild, Build.buildTable, Build.buildRefusal, Build.buildIndex, Build.buildAnswer, Build.buildAfter, Demand2.BuildKept}
 use Rattle.meaning_entries.proofs.{Refusal.AllPass, Refusal.passed-is, Demand2.build-kept}
 use Rattle.rows_records.specs.Records.{zeroRow}
@@ -16,7 +16,7 @@ use Rattle.build_plan.specs.{declared.BuildPlan.BuildPlan, Plan.Lifts}
 use Rattle.build_plan.proofs.PlanLaws.{Goes, never-0, goes}
 use Rattle.entry_build.specs.Answer.{refusedAs, indexAs, PlannedFor}
 
-some-row : (z : ℤ) (l : List SetRow) → covered z l ≡ true → 1 ≤ length l
+some-row : (z : ℤ) (l : List SetRow) → holdsSum z l ≡ true → 1 ≤ length l
 unfolding any
 some-row z [] h = clash h refl
 some-row z (r ∷ l) h = omega arith

@@ -1,6 +1,7 @@
-// The library under one roof: the entries of document 01, and the types that they take and answer with.
+// The library under one roof: the entries of documents 01 and 02, and the types that they take and answer with.
 pub use demand::demand;
 pub use entry_audit::audit;
+pub use entry_audit::audit_covered;
 pub use entry_build::build;
 pub use entry_extend::extend;
 pub use entry_read::read;

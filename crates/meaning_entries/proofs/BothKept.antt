@@ -1,14 +1,14 @@
 -- `Demand3Kept` follows from what the two entries promise (`AuditKept`, `SearchKept`) and from demand 3 of the meanings, and from nothing else.
 use Rattle.meaning_numbers.proofs.Prelude.{_≡_, refl, sym, subst, none, length}
 use Rattle.meaning_rows.specs.Index.{Index}
-use Rattle.meaning_entries.specs.{declared.Audited.Audited, declared.Found.Found, declared.Both.Both, Audit.Passes, Search.SearchCall, Search.SearchBuffers, Search.searchMatches, Search.searchCandidates, Search.searchRefusal, Search.searchAnswer, Demand2.AuditKept, Demand2.SearchKept, Demand3.through, Both.told, Both.auditOf, Both.demandAnswer, Both.BothListed, Both.Demand3Kept}
+use Rattle.meaning_entries.specs.{declared.Audited.Audited, declared.Found.Found, declared.Both.Both, Audit.PassesCovered, Search.SearchCall, Search.SearchBuffers, Search.searchMatches, Search.searchCandidates, Search.searchRefusal, Search.searchAnswer, Demand2.AuditKept, Demand2.SearchKept, Demand3.through, Both.told, Both.auditOf, Both.demandAnswer, Both.BothListed, Both.Demand3Kept}
 use Rattle.meaning_entries.proofs.Demand3.{demand3}
 use Rattle.meaning_entries.proofs.BothTold.{all-told, first-audit, second-audit, first-search, second-search, both-listed, demand-refusal, demand-wrong, demand-missing, demand-counts, demand-found}
 
 module _ (c : SearchCall) (x : Index) (before₁ before₂ after₁ after₂ : SearchBuffers) where
   -- the answer that is meant keeps the promise
   module _ (search₁ : SearchKept c before₁ (searchAnswer c before₁) after₁) (search₂ : SearchKept (through x c) before₂ (searchAnswer (through x c) before₂) after₂) where
-    listed : Passes c.index c.series → Passes x c.series → searchRefusal c before₁ ≡ none → searchRefusal (through x c) before₂ ≡ none → BothListed c (demandAnswer c x before₁ before₂) after₁ after₂
+    listed : PassesCovered c.index c.series → PassesCovered x c.series → searchRefusal c before₁ ≡ none → searchRefusal (through x c) before₂ ≡ none → BothListed c (demandAnswer c x before₁ before₂) after₁ after₂
     listed p q e f = record {
       count₁ = length (searchMatches c);
       count₂ = length (searchMatches (through x c));

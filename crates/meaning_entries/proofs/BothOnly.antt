@@ -1,7 +1,7 @@
 -- The promise of demand 3 leaves one outcome: one answer, and one content of every buffer.
 use Rattle.meaning_numbers.proofs.Prelude.{_≡_, refl, sym, _∙_, ap, false≢true, Option, none, some, Option·some-ne-none, ℕ}
 use Rattle.meaning_rows.specs.Index.{Index}
-use Rattle.meaning_entries.specs.{declared.Audited.Audited, declared.Both.Both, Answers.bothCounts, Audit.Passes, Search.SearchCall, Search.SearchBuffers, Search.searchRefusal, Search.searchAfter, Demand3.through, Both.yes, Both.demandAnswer, Both.Demand3Kept}
+use Rattle.meaning_entries.specs.{declared.Audited.Audited, declared.Both.Both, Answers.bothCounts, Audit.PassesCovered, Search.SearchCall, Search.SearchBuffers, Search.searchRefusal, Search.searchAfter, Demand3.through, Both.yes, Both.demandAnswer, Both.Demand3Kept}
 use Rattle.meaning_entries.proofs.BothTold.{first-audit, second-audit, first-search, second-search, both-listed, demand-counts}
 
 -- whether an audit says yes, and whether a search is refused, is known
@@ -17,7 +17,7 @@ by-refusal none y n = y refl
 by-refusal (some r) y n = n (Option·some-ne-none r)
 
 module _ (c : SearchCall) (x : Index) (b₁ b₂ : SearchBuffers) (answer : Both) (after₁ after₂ : SearchBuffers) (k : Demand3Kept c x b₁ b₂ answer after₁ after₂) where
-  listed-only : Passes c.index c.series → Passes x c.series → searchRefusal c b₁ ≡ none → searchRefusal (through x c) b₂ ≡ none → answer ≡ demandAnswer c x b₁ b₂
+  listed-only : PassesCovered c.index c.series → PassesCovered x c.series → searchRefusal c b₁ ≡ none → searchRefusal (through x c) b₂ ≡ none → answer ≡ demandAnswer c x b₁ b₂
   listed-only p q e f =
       let l = k.listed p q e f in
       let m = both-listed c x b₁ b₂ p q e f in

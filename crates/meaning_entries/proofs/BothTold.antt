@@ -3,7 +3,7 @@ use Rattle.meaning_numbers.proofs.Prelude.{_≡_, refl, sym, ap, _∙_, Bool, t
 use Rattle.meaning_rows.specs.Index.{Index}
 use Rattle.meaning_entries.specs.Both.{yes, toldSecond, toldFound, told, auditOf, demandAnswer, inTurn, demandRefusal, demandWrong, demandMissing, demandCounts, demandFound}
 use Rattle.meaning_entries.specs.Search.{SearchCall, SearchBuffers, searchMatches, searchCandidates, searchRefusal, searchAnswer, searchAfter}
-use Rattle.meaning_entries.specs.{declared.Audited.Audited, declared.Found.Found, declared.Both.Both, Audit.AuditCall, Audit.auditAnswer, Audit.Passes, Demand2.AuditKept, Demand2.SearchKept, Demand3.through, Answers.foundRefusal, Answers.bothRefusal, Answers.bothWrong, Answers.bothMissing, Answers.bothCounts, Answers.bothFound}
+use Rattle.meaning_entries.specs.{declared.Audited.Audited, declared.Found.Found, declared.Both.Both, Audit.AuditCall, Audit.auditAnswer, Audit.PassesCovered, Demand2.AuditKept, Demand2.SearchKept, Demand3.through, Answers.foundRefusal, Answers.bothRefusal, Answers.bothWrong, Answers.bothMissing, Answers.bothCounts, Answers.bothFound}
 use Rattle.meaning_entries.proofs.Demand2.{audit-kept, search-kept}
 
 -- an audit that does not say yes
@@ -81,23 +81,23 @@ module _ (c : SearchCall) (x : Index) (b₁ b₂ : SearchBuffers) where
   said : demandAnswer c x b₁ b₂ ≡ inTurn c x b₁ b₂ (Both.FirstAudit one) (Both.SecondAudit two) (Both.FirstSearch first) (Both.SecondSearch second) listed
   said = demand-by (λ (b : Both). b)
 
-  pub first-audit : (Passes c.index c.series → ⊥) → demandAnswer c x b₁ b₂ ≡ Both.FirstAudit one
+  pub first-audit : (PassesCovered c.index c.series → ⊥) → demandAnswer c x b₁ b₂ ≡ Both.FirstAudit one
   unfolding inTurn
   first-audit fails = said ∙ rw (no-yes one fails, inTurn) refl
 
-  pub second-audit : Passes c.index c.series → (Passes x c.series → ⊥) → demandAnswer c x b₁ b₂ ≡ Both.SecondAudit two
+  pub second-audit : PassesCovered c.index c.series → (PassesCovered x c.series → ⊥) → demandAnswer c x b₁ b₂ ≡ Both.SecondAudit two
   unfolding yes inTurn
   second-audit p fails = said ∙ rw (p, no-yes two fails, inTurn) refl
 
-  pub first-search : Passes c.index c.series → Passes x c.series → (searchRefusal c b₁ ≡ none → ⊥) → demandAnswer c x b₁ b₂ ≡ Both.FirstSearch first
+  pub first-search : PassesCovered c.index c.series → PassesCovered x c.series → (searchRefusal c b₁ ≡ none → ⊥) → demandAnswer c x b₁ b₂ ≡ Both.FirstSearch first
   unfolding yes inTurn
   first-search p q fails = let r = is-some _ fails in said ∙ rw (p, q, r.1, inTurn) refl
 
-  pub second-search : Passes c.index c.series → Passes x c.series → searchRefusal c b₁ ≡ none → (searchRefusal (through x c) b₂ ≡ none → ⊥) → demandAnswer c x b₁ b₂ ≡ Both.SecondSearch second
+  pub second-search : PassesCovered c.index c.series → PassesCovered x c.series → searchRefusal c b₁ ≡ none → (searchRefusal (through x c) b₂ ≡ none → ⊥) → demandAnswer c x b₁ b₂ ≡ Both.SecondSearch second
   unfolding yes inTurn
   second-search p q e fails = let r = is-some _ fails in said ∙ rw (p, q, e, r.1, inTurn) refl
 
-  pub both-listed : Passes c.index c.series → Passes x c.series → searchRefusal c b₁ ≡ none → searchRefusal (through x c) b₂ ≡ none → demandAnswer c x b₁ b₂ ≡ listed
+  pub both-listed : PassesCovered c.index c.series → PassesCovered x c.series → searchRefusal c b₁ ≡ none → searchRefusal (through x c) b₂ ≡ none → demandAnswer c x b₁ b₂ ≡ listed
   unfolding yes inTurn
   both-listed p q e f = said ∙ rw (p, q, e, f, inTurn) refl
 

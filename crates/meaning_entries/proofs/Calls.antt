@@ -169,13 +169,21 @@ unmerged : Index
 unfolding other
 unmerged = other (row (pos 2) (pos 4) 0 1 ∷ row (pos 4) (pos 6) 1 1 ∷ row (pos 6) (pos 8) 2 1 ∷ []) (0 ∷ 3 ∷ 1 ∷ []) (0 ∷ 3 ∷ 2 ∷ [])
 
+-- the index of its first three values, and one with a window too many
+early : Index
+unfolding row
+early = lent (record { window = 2; width = 2; windows = 2 }) (row (pos 2) (pos 4) 0 1 ∷ row (pos 6) (pos 8) 1 1 ∷ []) (0 ∷ 1 ∷ []) (0 ∷ 1 ∷ [])
+
+late : Index
+late = lent (record { window = 2; width = 2; windows = 5 }) [] [] []
+
 -- windows 1 to 3 stand in the row of window 0
 misfiled : Index
 unfolding other
 misfiled = other (row (pos 2) (pos 4) 0 1 ∷ []) (0 ∷ []) (3 ∷ [])
 
 unfoldable pub calls : List Bool
-unfolding worked workedIndex row build builds grows searchIn searchFor lists finds audited audits demands packs other unmerged misfiled apart asks sevens same grown loaded written pair place numbers
+unfolding worked workedIndex row build builds grows searchIn searchFor lists finds audited audits demands packs other unmerged early late misfiled apart asks sevens same grown loaded written pair place numbers
 calls =
     -- build: success, unused entries 0, also past the shorter slice; refused, nothing altered
     builds (build worked (pos 2) (pos 2) (pos 80)) (sevens 4 4 5) (2 ∷ 2 ∷ 4 ∷ 2 ∷ 2 ∷ [])
@@ -225,8 +233,10 @@ calls =
     -- a list whose two slices differ: the shorter one counts, and nothing is written behind it
     ∷ finds (searchFor workedIndex Raw (pos 2 ∷ pos 4 ∷ []) (pos 5)) (record { left = replicate 4 9; right = replicate 5 9; scratch = replicate 4 9; offsets = replicate 4 9; distances = replicate 2 9 }) (24 ∷ 4 ∷ 3 ∷ [])
     (0 ∷ 0 ∷ 0 ∷ 0 ∷ 3 ∷ 0 ∷ 0 ∷ 0 ∷ 0 ∷ 0 ∷ 0 ∷ 0 ∷ 0 ∷ 0 ∷ 1 ∷ 0 ∷ 0 ∷ 5 ∷ 0 ∷ [])
-    -- fewer and more windows than the series
-    ∷ finds (searchIn (worked ++ (pos 1 ∷ [])) workedIndex Raw (pos 2 ∷ pos 4 ∷ []) (pos 5)) (lists 9 9 9) (21 ∷ 0 ∷ []) (replicate 45 7)
+    -- fewer windows than the series: those that the index has not are met, and the match among them is listed; room goes by the series; then more windows
+    ∷ finds (searchIn (worked ++ (pos 1 ∷ [])) workedIndex Raw (pos 1 ∷ pos 1 ∷ []) (pos 0)) (lists 9 9 9) (0 ∷ 2 ∷ 1 ∷ []) (0 ∷ 4 ∷ (replicate 7 0 ++ (0 ∷ 4 ∷ (replicate 16 0 ++ (4 ∷ replicate 17 0)))))
+    ∷ finds (searchIn (worked ++ (pos 1 ∷ [])) workedIndex Raw (pos 1 ∷ pos 1 ∷ []) (pos 0)) (lists 4 9 9) (23 ∷ 0 ∷ []) (replicate 35 7)
+    ∷ finds (searchIn (worked ++ (pos 1 ∷ [])) workedIndex Raw (pos 1 ∷ pos 1 ∷ []) (pos 0)) (lists 9 4 9) (23 ∷ 0 ∷ []) (replicate 40 7)
     ∷ finds (searchIn (pos 1 ∷ pos 2 ∷ []) workedIndex Raw (pos 2 ∷ pos 4 ∷ []) (pos 5)) (lists 0 0 0) (22 ∷ 0 ∷ []) []
     -- search refused: each buffer too short, the query after the series, m below a w outside its limits, a flat query
     ∷ finds (searchFor workedIndex Raw (pos 2 ∷ pos 4 ∷ []) (pos 5)) (lists 3 4 0) (23 ∷ 0 ∷ []) (7 ∷ 7 ∷ 7 ∷ 7 ∷ 7 ∷ 7 ∷ 7 ∷ 7 ∷ 7 ∷ 7 ∷ [])
@@ -254,6 +264,9 @@ calls =
     ∷ finds (lentSearch (pos 0 ∷ pos 2 ∷ pos 0 ∷ []) (apart 2) (row (pos 0) (pos 3) 0 1 ∷ []) (0 ∷ []) (1 ∷ []) (asks Raw) (pos 0 ∷ pos 1 ∷ [])) (lists 2 2 1) (0 ∷ 2 ∷ 0 ∷ []) (0 ∷ 0 ∷ 1 ∷ 0 ∷ 0 ∷ 0 ∷ 0 ∷ 0 ∷ [])
     -- two audits and two searches: both list; the first audit, the second, the first search and the second in the way, each before those behind it
     ∷ demands workedIndex unmerged (lists 4 4 4) (lists 4 4 1) (1 ∷ 1 ∷ [])
+    ∷ demands early workedIndex (lists 4 4 1) (lists 4 4 4) (1 ∷ 1 ∷ [])
+    ∷ demands workedIndex early (lists 4 4 4) (lists 4 4 1) (1 ∷ 1 ∷ [])
+    ∷ demands early late (lists 4 4 1) (lists 4 4 4) (102 ∷ 3 ∷ 22 ∷ 0 ∷ [])
     ∷ demands misfiled (other [] [] []) (lists 0 0 0) (lists 0 0 0) (101 ∷ 1 ∷ 0 ∷ 1 ∷ [])
     ∷ demands workedIndex (other [] [] []) (lists 0 0 0) (lists 0 0 0) (102 ∷ 2 ∷ 4 ∷ [])
     ∷ demands workedIndex (other (row (pos 2) (pos 2) 0 1 ∷ []) (0 ∷ []) (0 ∷ [])) (lists 0 0 0) (lists 0 0 0) (102 ∷ 3 ∷ 20 ∷ 0 ∷ [])

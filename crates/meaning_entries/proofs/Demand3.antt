@@ -7,7 +7,7 @@ use Rattle.meaning_entries.specs.{Search.SearchCall, Search.question, Se
 use Rattle.meaning_entries.proofs.{Refusal.is-passed, Refusal.openLines, Refusal.passed-line, Lines.query-line, Lines.scale-line, Listed.answered, Listed.listed-is, Passes.passes-reached}
 
 -- one search: its list is all matches, and its count is how many
-all-listed : (c : SearchCall) (n : ℕ) (l : List (ℕ × ℕ)) → Searched c n l → (l ≡ allMatches (question c)) × (n ≡ length (allMatches (question c)))
+pub all-listed : (c : SearchCall) (n : ℕ) (l : List (ℕ × ℕ)) → Searched c n l → (l ≡ allMatches (question c)) × (n ≡ length (allMatches (question c)))
 unfolding openLines question searchPlan searchTable
 all-listed c n l s =
     let a = answered c s.before s.kept.answered in

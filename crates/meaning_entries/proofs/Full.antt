@@ -3,7 +3,7 @@ use Rattle.meaning_numbers.proofs.Prelude.{_≡_, refl, sym, ap, _∙_, Option,
 use Rattle.meaning_filter.specs.Matches.{allMatches}
 use Rattle.meaning_filter.proofs.Matches.{all-found}
 use Rattle.meaning_entries.specs.Search.{SearchCall, SearchBuffers, question, listRoom, searchMatches, searchCandidates, searchPlan, searchAnswer, lookedAfter}
-use Rattle.meaning_entries.specs.{declared.Found.Found, Refusal.firstRefusal, Buffers.filled, Audit.Passes, Demand2.SearchKept, Demand3.pairs}
+use Rattle.meaning_entries.specs.{declared.Found.Found, Refusal.firstRefusal, Buffers.filled, Audit.PassesCovered, Demand2.SearchKept, Demand3.pairs}
 use Rattle.meaning_entries.proofs.{Refusal.is-passed, Refusal.openLines, Refusal.passed-line, Lines.query-line, Lines.scale-line, Looked.plan-refused, Looked.plan-all, Looked.plan-full, Listed.pairs-back, Passes.passes-reached}
 
 -- 24: nothing refuses before the search looks, the counts are those meant, and there are more matches than the list holds
@@ -43,8 +43,8 @@ module _ (c : SearchCall) (before after : SearchBuffers) {a n : ℕ} (k : Search
       let e = length-take-le (listRoom before) (searchMatches c) (omega (arith, f.short)) in
       rw (k.offsets, k.distances, plan-full c before f.unrefused f.short .1) (ap (λ (r : ℕ). take r (pairs (lookedAfter c before .offsets) (lookedAfter c before .distances))) (sym e) ∙ pairs-back (take (listRoom before) _) _ _)
 
-  -- through an index that passes the audit
-  module _ (p : Passes c.index c.series) where
+  -- through an index that passes the audit against the part of the series that it covers
+  module _ (p : PassesCovered c.index c.series) where
     all : searchMatches c ≡ allMatches (question c)
     unfolding openLines question searchPlan
     all =

@@ -16,6 +16,7 @@ pub mod BothTold
 pub mod Witness
 pub mod Made
 pub mod Standing
+pub mod Fault
 pub mod Again
 pub mod Row
 pub mod Calls

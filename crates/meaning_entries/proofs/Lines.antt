@@ -86,9 +86,13 @@ pub series-passes : (most : ℕ) (s : List ℤ) → T (lengthIn most (length s))
 unfolding lengthOutside valueOutside
 series-passes most s t e = more (not-applies 1 _ (ap not (is-true (lengthIn most _) t))) (more e end)
 
+pub more-passes : (x : Index) (n : ℕ) → x.windows ≤ℤ windowsOf x n → moreWindows x n .place ≡ none
+unfolding moreWindows
+more-passes x n h = not-applies 22 _ (le-ltZ h)
+
 pub count-passes : (n : ℕ) (x : Index) → windowsOf x n ≤ℤ x.windows → x.windows ≤ℤ windowsOf x n → AllPass (countLines n x)
-unfolding fewerWindows moreWindows
-count-passes n x h k = more (not-applies 21 _ (le-ltZ h)) (more (not-applies 22 _ (le-ltZ k)) end)
+unfolding fewerWindows
+count-passes n x h k = more (not-applies 21 _ (le-ltZ h)) (more (more-passes x n k) end)
 
 pub room-passes : {one needed other wanted : ℕ} → needed ≤ one → wanted ≤ other → AllPass (roomLines one needed other wanted)
 unfolding bufferShort

@@ -1,14 +1,14 @@
--- What a build that is not refused makes passes against its series (`build-passes`); so does what an extension makes of an index that passes against the part of the series that it has windows for (`extend-passes`). Each has at most as many rows and runs as windows.
+-- What a build that is not refused makes passes against its series (`build-passes`); so does what an extension makes of an index that passes against the part of the series that it covers (`extend-passes`). Each has at most as many rows and runs as windows.
 -- So what the search program lists is all matches (`program-all`).
-use Rattle.meaning_numbers.proofs.Prelude.{_≡_, refl, Bool, not, List, none, ℕ, _+_, _-_, _≤_, arith, T, ℤ, pos, natAbs, _-ℤ_, length, take, zarith, z-add, z-sub, not-not}
+use Rattle.meaning_numbers.proofs.Prelude.{_≡_, refl, Bool, not, List, none, ℕ, _≤_, arith, T, ℤ, pos, natAbs, _-ℤ_, length, zarith, z-add, z-sub, not-not}
 use Rattle.meaning_curves.specs.Limits.{mostValues, mostProgramValues, lengthIn, firstOutside}
 use Rattle.meaning_rows.specs.{Build.built, Extend.extended}
 use Rattle.meaning_rows.proofs.BuiltPasses.{Buildable, built-well-formed, built-filed, built-most}
 use Rattle.meaning_rows.proofs.{Judge.is-within, Judge.WellFormed, Extend.Extendable, Extend.extended-well-formed, Extend.extended-filed, Extend.extended-most}
 use Rattle.meaning_filter.specs.Matches.{allMatches}
-use Rattle.meaning_filter.proofs.{Candidates.filed-reached, Matches.all-found}
-use Rattle.meaning_entries.specs.{Refusal.atZero, Refusal.firstRefusal, Refusal.windowOutside, Refusal.widthOutside, Buffers.IndexBuffers, Audit.Passes, Build.BuildCall, Build.buildTable, Build.buildRefusal, Build.buildIndex, Build.buildWindows, Search.question, Search.searchMatches, Program.textProgram, Program.callLines, Program.programTable, Program.programIndex, Program.programSearch, Extend.ExtendCall, Extend.extendTable, Extend.extendRefusal, Extend.extendIndex, Extend.extendWindows}
-use Rattle.meaning_entries.proofs.{Refusal.is-passed, Refusal.openLines, Refusal.passed-line, Refusal.not-if, Lines.long-line, Lines.window-line, Lines.width-line, Lines.formed-line, Lines.more-line, Lines.query-line, Lines.scale-line, Passes.Passed, Passes.passed, Passes.passes}
+use Rattle.meaning_filter.proofs.Matches.{all-found}
+use Rattle.meaning_entries.specs.{Refusal.atZero, Refusal.firstRefusal, Refusal.windowOutside, Refusal.widthOutside, Buffers.IndexBuffers, Audit.Passes, Audit.PassesCovered, Build.BuildCall, Build.buildTable, Build.buildRefusal, Build.buildIndex, Build.buildWindows, Search.question, Search.searchMatches, Program.textProgram, Program.callLines, Program.programTable, Program.programIndex, Program.programSearch, Extend.ExtendCall, Extend.extendTable, Extend.extendRefusal, Extend.extendIndex, Extend.extendWindows}
+use Rattle.meaning_entries.proofs.{Refusal.is-passed, Refusal.openLines, Refusal.passed-line, Refusal.not-if, Lines.long-line, Lines.window-line, Lines.width-line, Lines.formed-line, Lines.more-line, Lines.query-line, Lines.scale-line, Passes.Passed, Passes.passed, Passes.passed-reached, Passes.passes}
 
 -- a test that does not refuse where its failing would
 holds : (n : ℕ) (t : Bool) → atZero n (not t) .place ≡ none → T t
@@ -80,7 +80,7 @@ module _ (c : ExtendCall) (b : IndexBuffers) (e : extendRefusal c b ≡ none) wh
         values = passed-line t 2;
       }
 
-  pub extend-passes : Passes c.index (take (natAbs c.index.windows + natAbs c.index.window - 1) c.series) → Passes (extendIndex c) c.series
+  pub extend-passes : PassesCovered c.index c.series → Passes (extendIndex c) c.series
   unfolding extendIndex extended
   extend-passes p =
       let x = c.index in
@@ -109,6 +109,6 @@ unfolding openLines programIndex buildIndex question callLines programTable
 program-all t e =
     let c = textProgram t in
     let p = is-passed _ e in
-    let y = built-passed _ _ _ _ (program-buildable t e) in
-    all-found _ _ (filed-reached _ _ y.filed y.windows)
+    let y = built-passed c.series _ _ _ (program-buildable t e) in
+    all-found _ _ (passed-reached _ c.series y)
     (query-line _ _ (passed-line p 6) .0 .least) (omega (arith, scale-line _ _ (passed-line p 10) .0 .least))

@@ -1,10 +1,10 @@
--- What it says that an index passes against a series (`passed`): it is well formed, it has n - w + 1 windows, and each stands in the row that holds its sum and in no other; and back (`passes`). So every window can be reached by the filter (`passes-reached`), and on a yes the run lengths total the windows (`passes-total`).
-use Rattle.meaning_numbers.proofs.Prelude.{_≡_, refl, List, Option, none, some, ℕ, zero, suc, _+_, arith, T, ℤ, pos, natAbs, _-ℤ_, length, _≤ℤ_, zarith, z-add, z-sub}
+-- What it says that an index passes against a series (`passed`): it is well formed, it has n - w + 1 windows, and each stands in the row that holds its sum and in no other; and back (`passes`). So every window of an index that passes against the part of a series that it covers can be reached by the filter (`passes-reached`), and on a yes the run lengths total the windows (`passes-total`).
+use Rattle.meaning_numbers.proofs.Prelude.{_≡_, refl, List, Option, none, some, ℕ, zero, suc, _+_, _-_, arith, T, ℤ, pos, natAbs, _-ℤ_, length, take-all, _≤ℤ_, zarith, z-add, z-sub}
 use Rattle.meaning_curves.specs.Limits.{mostValues, lengthIn, firstOutside}
-use Rattle.meaning_rows.specs.{Index.Index, Audit.firstWrong, Audit.missing, Judge.lengthTotal}
+use Rattle.meaning_rows.specs.{Index.Index, Index.covered, Audit.firstWrong, Audit.missing, Judge.lengthTotal}
 use Rattle.meaning_rows.proofs.{Judge.WellFormed, Judge.none-bad, Audit.Filed, Audit.audit-yes, Audit.filed-passes, Audit.yes-total}
 use Rattle.meaning_filter.proofs.Candidates.{Reached, filed-reached}
-use Rattle.meaning_entries.specs.{declared.Audited.Audited, Refusal.firstRefusal, Refusal.illFormed, Refusal.windowsOf, Audit.AuditCall, Audit.auditTable, Audit.complete, Audit.audited, Audit.auditAnswer, Audit.Passes}
+use Rattle.meaning_entries.specs.{declared.Audited.Audited, Refusal.firstRefusal, Refusal.illFormed, Refusal.windowsOf, Audit.AuditCall, Audit.auditTable, Audit.complete, Audit.audited, Audit.auditAnswer, Audit.Passes, Audit.PassesCovered}
 use Rattle.meaning_entries.proofs.Refusal.{more, passed-is, passed-join, is-passed, openLines, passed-line}
 use Rattle.meaning_entries.proofs.Lines.{formed-line, fewer-line, more-line, series-passes, count-passes}
 
@@ -55,8 +55,18 @@ passed x s p =
       filed = audit-yes x s g y.right y.full;
     }
 
-pub passes-reached : (x : Index) (s : List ℤ) → Passes x s → Reached x s
-passes-reached x s p = let y = passed x s p in filed-reached x s y.filed y.windows
+pub passes-reached : (x : Index) (s : List ℤ) → PassesCovered x s → Reached x s
+passes-reached x s p = filed-reached x s (passed x (covered x s) p .filed)
+
+-- an index covers all of the series that it passes against
+pub covers-all : (x : Index) (s : List ℤ) → natAbs x.windows + natAbs x.window ≡ length s + 1 → covered x s ≡ s
+covers-all x s e = take-all (natAbs x.windows + natAbs x.window - 1) s (omega arith)
+
+pub passes-covered : (x : Index) (s : List ℤ) → Passes x s → PassesCovered x s
+passes-covered x s p = rw (covers-all x s (passed x s p .windows)) p
+
+pub passed-reached : (x : Index) (s : List ℤ) → Passed x s → Reached x s
+passed-reached x s p = filed-reached x s (rw (covers-all x s p.windows) p.filed)
 
 pub passes-total : (x : Index) (s : List ℤ) → Passes x s → lengthTotal x x.rows ≡ natAbs x.windows
 passes-total x s p = let y = passed x s p in yes-total x s y.formed y.filed

@@ -1,11 +1,11 @@
--- What stands in the buffers after a build that answered an index passes against the series (`build-stands`); so does what an extension leaves there, if the old index passes against the part of the series that it has windows for (`extend-stands`).
+-- What stands in the buffers after a build that answered an index passes against the series (`build-stands`); so does what an extension leaves there, if the old index passes against the part of the series that it covers (`extend-stands`).
 -- Each has at most as many rows and runs as windows. Both are laws of the promises, so of every function that keeps them.
-use Rattle.meaning_numbers.proofs.Prelude.{_≡_, refl, sym, ap, _∙_, List, [], _∷_, _++_, map, none, some, ℕ, _+_, _-_, _≤_, arith, ℤ, pos, natAbs, length, take, length-map, take-append-seam}
+use Rattle.meaning_numbers.proofs.Prelude.{_≡_, refl, sym, ap, _∙_, List, [], _∷_, _++_, map, none, some, ℕ, _≤_, arith, ℤ, pos, natAbs, length, take, length-map, take-append-seam}
 use Rattle.meaning_curves.specs.Curve.{windowCount}
 use Rattle.meaning_rows.specs.Index.{zeroRow, Index, Entry, entries, lent, laidOut, allRuns}
 use Rattle.meaning_rows.specs.{declared.Row.Row, declared.Head.Head, Runs.runs, Build.SetRow, Build.merged, Build.entry, Build.withRuns, Build.builtRows, Build.built, Extend.insertRows, Extend.extendedRows, Extend.extended}
 use Rattle.meaning_entries.specs.Extend.{ExtendCall, lentExtend, extendIndex, extendHead, extendCounts, extendAfter, extendWindows}
-use Rattle.meaning_entries.specs.{declared.Built.Built, declared.Extended.Extended, Buffers.IndexBuffers, Buffers.filled, Buffers.lefts, Buffers.rights, Buffers.indexIn, Answers.headOf, Build.BuildCall, Build.lentBuild, Build.buildIndex, Build.buildHead, Build.buildCounts, Build.buildAfter, Build.buildWindows, Audit.Passes, Demand2.BuildKept, Demand2.ExtendKept}
+use Rattle.meaning_entries.specs.{declared.Built.Built, declared.Extended.Extended, Buffers.IndexBuffers, Buffers.filled, Buffers.lefts, Buffers.rights, Buffers.indexIn, Answers.headOf, Build.BuildCall, Build.lentBuild, Build.buildIndex, Build.buildHead, Build.buildCounts, Build.buildAfter, Build.buildWindows, Audit.Passes, Audit.PassesCovered, Demand2.BuildKept, Demand2.ExtendKept}
 use Rattle.meaning_entries.proofs.Made.{build-passes, build-most, extend-passes, extend-most}
 
 -- an index of n rows and k runs out of buffers
@@ -85,7 +85,7 @@ module _ (s : List ℤ) (head : Head) (from : List Row) (olds : List ℕ) (ends 
       read-back _ head.width (windowCount _ _) (insertRows _ _) before
 
   pub extend-stands : (after : IndexBuffers) (h : Head) (n k : ℕ) → ExtendKept extend before (Extended.Index h n k) after
-      → Passes extend.index (take (natAbs extend.index.windows + natAbs extend.index.window - 1) s) → Stands (indexOf h n k after) s (extendWindows extend) n k
+      → PassesCovered extend.index s → Stands (indexOf h n k after) s (extendWindows extend) n k
   unfolding extendHead extendCounts extendAfter
   extend-stands after h n k kept p =
       let e = sym kept.refused in

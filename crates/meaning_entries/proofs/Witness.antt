@@ -1,8 +1,8 @@
--- Demand 3 is not empty: searches that it speaks of exist. Of the worked series, all four queries, each through two indexes with other w, d and g. By computation.
-use Rattle.meaning_numbers.proofs.Prelude.{_≡_, refl, List, [], _∷_, ℕ, ℤ, pos, replicate}
+-- Demand 3 is not empty: searches that it speaks of exist. Of the worked series, all four queries, each through three indexes with other w, d and g, of which one covers only the first three values. By computation.
+use Rattle.meaning_numbers.proofs.Prelude.{_≡_, refl, List, [], _∷_, ℕ, ℤ, pos, replicate, take}
 use Rattle.meaning_rows.specs.{Index.Index, Build.built}
 use Rattle.meaning_filter.specs.{declared.Kind.Kind, declared.Kind.the-variants.Raw, declared.Kind.the-variants.Normal}
-use Rattle.meaning_entries.specs.{declared.Found.Found, Audit.Passes, Search.SearchCall, Search.SearchBuffers, Search.searchAnswer, Search.searchAfter, Demand3.listIn, Demand3.Searched}
+use Rattle.meaning_entries.specs.{declared.Found.Found, Audit.PassesCovered, Search.SearchCall, Search.SearchBuffers, Search.searchAnswer, Search.searchAfter, Demand3.listIn, Demand3.Searched}
 use Rattle.meaning_entries.proofs.{Open.openEntries, Demand2.search-kept}
 
 series : List ℤ
@@ -16,6 +16,10 @@ merged = built series 2 2 80
 single : Index
 single = built series 1 1 0
 
+-- two windows, w, d and g are 2, 2 and 0
+early : Index
+early = built (take 3 series) 2 2 0
+
 search : Index → Kind → ℤ → ℤ → ℤ → SearchCall
 search x kind band threshold shift = record {
   series = series;
@@ -28,11 +32,11 @@ room : SearchBuffers
 room = record { left = replicate 5 7; right = replicate 5 7; scratch = replicate 5 7; offsets = replicate 4 7; distances = replicate 4 7 }
 
 unfoldable openWitness : Unit {0}
-unfolding openEntries series merged single search room
+unfolding openEntries series merged single early search room
 openWitness = tt
 
 -- a search with the list's first entries, by what it computes to
-searched : (c : SearchCall) (candidates count : ℕ) (list : List (ℕ × ℕ)) → Passes c.index c.series → Found.All candidates count ≡ searchAnswer c room →
+searched : (c : SearchCall) (candidates count : ℕ) (list : List (ℕ × ℕ)) → PassesCovered c.index c.series → Found.All candidates count ≡ searchAnswer c room →
     list ≡ listIn count (searchAfter c room) → Searched c count list
 searched c candidates count list p e l =
     record { passes = p; before = room; after = searchAfter c room; candidates = candidates; kept = search-kept c room _ _ e refl; listed = l }
@@ -45,6 +49,10 @@ raw-straight-again : Searched (search single Raw (pos 0) (pos 5) (pos 0)) 3 ((0,
 unfolding openWitness
 raw-straight-again = searched _ 3 3 _ refl refl refl
 
+raw-straight-early : Searched (search early Raw (pos 0) (pos 5) (pos 0)) 3 ((0, 5) ∷ (1, 0) ∷ (2, 5) ∷ [])
+unfolding openWitness
+raw-straight-early = searched _ 4 3 _ refl refl refl
+
 raw-warped : Searched (search merged Raw (pos 1) (pos 4) (pos 0)) 1 ((1, 0) ∷ [])
 unfolding openWitness
 raw-warped = searched _ 4 1 _ refl refl refl
@@ -52,6 +60,10 @@ raw-warped = searched _ 4 1 _ refl refl refl
 raw-warped-again : Searched (search single Raw (pos 1) (pos 4) (pos 0)) 1 ((1, 0) ∷ [])
 unfolding openWitness
 raw-warped-again = searched _ 4 1 _ refl refl refl
+
+raw-warped-early : Searched (search early Raw (pos 1) (pos 4) (pos 0)) 1 ((1, 0) ∷ [])
+unfolding openWitness
+raw-warped-early = searched _ 4 1 _ refl refl refl
 
 normal-straight : Searched (search merged Normal (pos 0) (pos 0) (pos 2)) 2 ((0, 0) ∷ (1, 0) ∷ [])
 unfolding openWitness
@@ -61,6 +73,10 @@ normal-straight-again : Searched (search single Normal (pos 0) (pos 0) (pos 2)) 
 unfolding openWitness
 normal-straight-again = searched _ 3 2 _ refl refl refl
 
+normal-straight-early : Searched (search early Normal (pos 0) (pos 0) (pos 2)) 2 ((0, 0) ∷ (1, 0) ∷ [])
+unfolding openWitness
+normal-straight-early = searched _ 4 2 _ refl refl refl
+
 normal-warped : Searched (search merged Normal (pos 1) (pos 0) (pos 2)) 2 ((0, 0) ∷ (1, 0) ∷ [])
 unfolding openWitness
 normal-warped = searched _ 4 2 _ refl refl refl
@@ -68,3 +84,7 @@ normal-warped = searched _ 4 2 _ refl refl refl
 normal-warped-again : Searched (search single Normal (pos 1) (pos 0) (pos 2)) 2 ((0, 0) ∷ (1, 0) ∷ [])
 unfolding openWitness
 normal-warped-again = searched _ 4 2 _ refl refl refl
+
+normal-warped-early : Searched (search early Normal (pos 1) (pos 0) (pos 2)) 2 ((0, 0) ∷ (1, 0) ∷ [])
+unfolding openWitness
+normal-warped-early = searched _ 4 2 _ refl refl refl

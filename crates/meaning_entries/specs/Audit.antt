@@ -6,7 +6,7 @@ use mathlib.Core.List.{List, _∷_, _++_}
 use mathlib.Core.Option.{Option, none, some}
 use mathlib.Core.Path.{_≡_}
 use Rattle.meaning_curves.specs.Limits.{mostValues}
-use Rattle.meaning_rows.specs.{declared.Row.Row, declared.Head.Head, Index.Index, Index.lent, Audit.firstWrong, Audit.missing}
+use Rattle.meaning_rows.specs.{declared.Row.Row, declared.Head.Head, Index.Index, Index.lent, Index.covered, Audit.firstWrong, Audit.missing}
 use Rattle.meaning_entries.specs.{declared.Audited.Audited, Refusal.Condition, Refusal.firstRefusal, Refusal.illFormed, Refusal.seriesLines, Refusal.countLines}
 
 -- the series, and the index that is to have its windows
@@ -17,6 +17,10 @@ pub record AuditCall : Type 0 where
 -- the call over a lent index
 abbrev pub lentAudit : List ℤ → Head → List Row → List ℕ → List ℕ → AuditCall
 lentAudit series head rows left right = record { series = series; index = lent head rows left right }
+
+-- 02, item 1: the same against the part of the series that the index covers
+abbrev pub coveredAudit : List ℤ → Head → List Row → List ℕ → List ℕ → AuditCall
+coveredAudit series head rows left right = lentAudit (covered (lent head rows left right) series) head rows left right
 
 -- the refusals, in order; `most` is the most values that the call takes
 unfoldable pub auditTable : ℕ → AuditCall → List Condition
@@ -57,3 +61,7 @@ auditMissing c = missingIn (firstRefusal (auditTable mostValues c)) c
 -- 01, Rows: an index passes against a series exactly if the audit of the two, over lent rows, is not refused and says yes; here of any index, lent ones among them (law: `passed`)
 abbrev pub Passes : Index → List ℤ → Type 0
 Passes x s = auditAnswer (record { series = s; index = x }) ≡ Audited.Yes
+
+-- 02, item 1: it passes against the part of the series that it covers
+abbrev pub PassesCovered : Index → List ℤ → Type 0
+PassesCovered x s = Passes x (covered x s)

@@ -1,4 +1,4 @@
--- Demand 3 as one call: a series audited against two indexes, and searched for one query through both, each search with buffers of its own. `c` is the first search, `through x c` the same through the other index.
+-- Demand 3 as one call: two indexes, each audited against the part of the series that it covers, and the series searched for one query through both, each search with buffers of its own. `c` is the first search, `through x c` the same through the other index.
 -- What is answered, in the order in which it is looked at: both audits, then both searches. An audit that does not say yes, or a search that is refused, by 24 too, stands in the way, and the first that does is told.
 use Prim.Native.Nat.{ℕ}
 use lib.ListN.{length}
@@ -6,8 +6,8 @@ use mathlib.Core.Bool.{Bool, true, false, cond}
 use mathlib.Core.Option.{Option, none, some}
 use mathlib.Core.Path.{_≡_}
 use Rattle.meaning_curves.specs.Limits.{mostValues}
-use Rattle.meaning_rows.specs.Index.{Index}
-use Rattle.meaning_entries.specs.{declared.Audited.Audited, declared.Found.Found, declared.Both.Both, Refusal.firstRefusal, Audit.AuditCall, Audit.auditTable, Audit.auditAnswer, Audit.auditWrong, Audit.auditMissing, Audit.Passes, Search.SearchCall, Search.SearchBuffers, Search.searchMatches, Search.searchRefusal, Search.searchAnswer, Search.searchCounts, Demand3.through, Demand3.listIn, Demand3.SameMatches, Answers.bothRefusal, Answers.bothWrong, Answers.bothMissing, Answers.bothCounts, Answers.bothFound, Demand2.SearchKept}
+use Rattle.meaning_rows.specs.Index.{Index, covered}
+use Rattle.meaning_entries.specs.{declared.Audited.Audited, declared.Found.Found, declared.Both.Both, Refusal.firstRefusal, Audit.AuditCall, Audit.auditTable, Audit.auditAnswer, Audit.auditWrong, Audit.auditMissing, Audit.PassesCovered, Search.SearchCall, Search.SearchBuffers, Search.searchMatches, Search.searchRefusal, Search.searchAnswer, Search.searchCounts, Demand3.through, Demand3.listIn, Demand3.SameMatches, Answers.bothRefusal, Answers.bothWrong, Answers.bothMissing, Answers.bothCounts, Answers.bothFound, Demand2.SearchKept}
 
 unfoldable pub yes : Audited → Bool
 yes Audited.Yes = true
@@ -30,9 +30,9 @@ toldFound (Found.Refused number place) second = Both.FirstSearch (Found.Refused 
 unfoldable pub told : Audited → Audited → Found → Found → Both
 told one two first second = cond (yes one) (cond (yes two) (toldFound first second) (Both.SecondAudit two)) (Both.FirstAudit one)
 
--- the audit of a search's index
+-- the audit of a search's index, against the part of the series that it covers
 abbrev pub auditOf : SearchCall → AuditCall
-auditOf c = record { series = c.series; index = c.index }
+auditOf c = record { series = covered c.index c.series; index = c.index }
 
 unfoldable pub demandAnswer : SearchCall → Index → SearchBuffers → SearchBuffers → Both
 demandAnswer c x b₁ b₂ = told (auditAnswer (auditOf c)) (auditAnswer (auditOf (through x c))) (searchAnswer c b₁) (searchAnswer (through x c) b₂)
@@ -79,12 +79,12 @@ pub record BothListed (c : SearchCall) (answer : Both) (after₁ after₂ : Sear
 -- `c` is the first search, `through x c` the same search through the other index
 pub record Demand3Kept (c : SearchCall) (x : Index) (before₁ before₂ : SearchBuffers) (answer : Both) (after₁ after₂ : SearchBuffers) : Type 0 where
   -- where both audits say yes and neither search is refused
-  pub listed : Passes c.index c.series → Passes x c.series → searchRefusal c before₁ ≡ none → searchRefusal (through x c) before₂ ≡ none → BothListed c answer after₁ after₂
+  pub listed : PassesCovered c.index c.series → PassesCovered x c.series → searchRefusal c before₁ ≡ none → searchRefusal (through x c) before₂ ≡ none → BothListed c answer after₁ after₂
   -- where not, the first that fails is told, with all that it answered: the audits, then the searches
-  pub first-audit : (Passes c.index c.series → ⊥) → answer ≡ Both.FirstAudit (auditAnswer (auditOf c))
-  pub second-audit : Passes c.index c.series → (Passes x c.series → ⊥) → answer ≡ Both.SecondAudit (auditAnswer (auditOf (through x c)))
-  pub first-search : Passes c.index c.series → Passes x c.series → (searchRefusal c before₁ ≡ none → ⊥) → answer ≡ Both.FirstSearch (searchAnswer c before₁)
-  pub second-search : Passes c.index c.series → Passes x c.series → searchRefusal c before₁ ≡ none → (searchRefusal (through x c) before₂ ≡ none → ⊥) → answer ≡ Both.SecondSearch (searchAnswer (through x c) before₂)
+  pub first-audit : (PassesCovered c.index c.series → ⊥) → answer ≡ Both.FirstAudit (auditAnswer (auditOf c))
+  pub second-audit : PassesCovered c.index c.series → (PassesCovered x c.series → ⊥) → answer ≡ Both.SecondAudit (auditAnswer (auditOf (through x c)))
+  pub first-search : PassesCovered c.index c.series → PassesCovered x c.series → (searchRefusal c before₁ ≡ none → ⊥) → answer ≡ Both.FirstSearch (searchAnswer c before₁)
+  pub second-search : PassesCovered c.index c.series → PassesCovered x c.series → searchRefusal c before₁ ≡ none → (searchRefusal (through x c) before₂ ≡ none → ⊥) → answer ≡ Both.SecondSearch (searchAnswer (through x c) before₂)
   -- this paper's number and place, wrong row and offset, windows that stand nowhere, matches of both lists, and true counts of 24
   pub refused : bothRefusal answer ≡ demandRefusal c x before₁ before₂
   pub wrong : bothWrong answer ≡ demandWrong c x before₁ before₂

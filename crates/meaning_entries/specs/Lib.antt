@@ -1,4 +1,4 @@
--- The entries of document 01: for each its refusals in order, its answer, and every lent buffer afterwards; the demands.
+-- The entries of documents 01 and 02: for each its refusals in order, its answer, and every lent buffer afterwards; the demands.
 pub mod Refusal
 pub mod Buffers
 pub mod Answers

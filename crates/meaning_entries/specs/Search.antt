@@ -9,7 +9,7 @@ use mathlib.Core.Option.{Option, none, some}
 use Rattle.meaning_curves.specs.{Limits.mostValues, Curve.windowCount}
 use Rattle.meaning_rows.specs.{declared.Row.Row, declared.Head.Head, Index.Index, Index.lent}
 use Rattle.meaning_filter.specs.{declared.Kind.Kind, declared.Ask.Ask, Matches.Question, Matches.candidateRuns, Matches.candidateCount, Matches.matchList}
-use Rattle.meaning_entries.specs.Refusal.{Condition, firstRefusal, valueOutside, queryLengthOutside, queryBelowWindow, bandOutside, thresholdOutside, scaleOrShiftOutside, flatQuery, illFormed, listShort, seriesLines, countLines, roomLines}
+use Rattle.meaning_entries.specs.Refusal.{Condition, firstRefusal, valueOutside, queryLengthOutside, queryBelowWindow, bandOutside, thresholdOutside, scaleOrShiftOutside, flatQuery, illFormed, moreWindows, listShort, seriesLines, roomLines}
 use Rattle.meaning_entries.specs.{declared.Found.Found, Buffers.filled, Buffers.pairRoom}
 
 -- what is asked beside the query. Band b, threshold E, scale limit a, shift limit h are whole numbers, as a text may have any
@@ -83,9 +83,9 @@ limitLines n m w a =
     ∷ scaleOrShiftOutside a.scale a.shift
     ∷ []
 
--- 21 to 23: the index's windows for a series of n values, and room for candidates and scratch
+-- 22 and 23: the index's windows for a series of n values, which may be fewer (02, item 1), and room for candidates and scratch, which goes by the series
 abbrev pub windowLines : ℕ → Index → ℕ → ℕ → List Condition
-windowLines n x candidates scratch = let windows = windowCount n (natAbs x.window) in countLines n x ++ roomLines candidates windows scratch windows
+windowLines n x candidates scratch = let windows = windowCount n (natAbs x.window) in moreWindows x n ∷ roomLines candidates windows scratch windows
 
 -- what refuses before the search looks, in order
 unfoldable pub searchPlan : SearchCall → SearchBuffers → List Condition

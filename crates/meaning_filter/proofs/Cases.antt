@@ -3,7 +3,7 @@ use Rattle.meaning_numbers.specs.Place.{numbersFrom}
 use Rattle.meaning_numbers.proofs.Table.{holds, sameℤ, sameList}
 use Rattle.meaning_numbers.proofs.Prelude.{Bool, _&&_, List, [], _∷_, map, ℕ, T, eqb, ℤ, pos, negsuc}
 use Rattle.meaning_curves.specs.{Curve.at, Normal.normalised}
-use Rattle.meaning_rows.specs.Build.{built}
+use Rattle.meaning_rows.specs.{Index.Index, Build.built}
 use Rattle.meaning_filter.specs.{declared.Kind.Kind, declared.Kind.the-variants.Raw, declared.Kind.the-variants.Normal, Envelope.lower, Envelope.upper, Range.rawLow, Range.rawHigh, Range.normalLow, Range.normalHigh, Matches.Question, Matches.candidateRuns, Matches.candidateCount, Matches.matchList, Matches.allMatches}
 use Rattle.meaning_filter.proofs.Open.{openFilter}
 
@@ -16,6 +16,14 @@ values n f = map f (numbersFrom 0 n)
 
 worked : List ℤ
 worked = pos 1 ∷ pos 2 ∷ pos 4 ∷ pos 3 ∷ pos 1 ∷ []
+
+-- its first values
+early : List ℤ
+early = pos 1 ∷ pos 2 ∷ pos 4 ∷ []
+
+-- two windows that stand nowhere
+bare : Index
+bare = record { window = pos 2; width = pos 2; windows = pos 2; rows = []; runs = [] }
 
 -- a straight query with threshold E, scale limit 20 tenths and shift limit 1
 ask : Kind → List ℤ → ℕ → List ℤ → Question
@@ -58,8 +66,15 @@ cases =
     ∷ sameList samePair (matchList (built worked 2 2 80) (ask Raw (pos 2 ∷ pos 4 ∷ []) 5 worked)) ((0, 5) ∷ (1, 0) ∷ (2, 5) ∷ [])
     ∷ sameList samePair (allMatches (ask Raw (pos 2 ∷ pos 4 ∷ []) 5 worked)) ((0, 5) ∷ (1, 0) ∷ (2, 5) ∷ [])
     ∷ sameList samePair (matchList (built (pos 0 ∷ pos 2 ∷ pos 0 ∷ pos 3 ∷ []) 2 2 80) (ask Normal (pos 0 ∷ pos 1 ∷ []) 0 (pos 0 ∷ pos 2 ∷ pos 0 ∷ pos 3 ∷ []))) ((0, 0) ∷ [])
+    -- the worked series through an index of its first values: windows past its count are met, of those below it only what stands in a row that is met
+    ∷ sameList samePair (candidateRuns (built early 2 2 0) (ask Raw (pos 4 ∷ pos 3 ∷ []) 0 worked)) ((1, 3) ∷ [])
+    ∷ sameList samePair (candidateRuns (built early 2 2 0) (ask Raw (pos 2 ∷ pos 2 ∷ []) 0 worked)) ((2, 3) ∷ [])
+    ∷ sameList samePair (candidateRuns (built early 1 1 0) (ask Raw (pos 2 ∷ pos 4 ∷ pos 3 ∷ []) 0 worked)) ((1, 1) ∷ [])
+    ∷ sameList samePair (candidateRuns (built early 1 1 0) (ask Raw (pos 3 ∷ pos 1 ∷ []) 0 worked)) ((3, 3) ∷ [])
+    ∷ sameList samePair (candidateRuns bare (ask Raw (pos 4 ∷ pos 3 ∷ []) 0 worked)) ((2, 3) ∷ [])
+    ∷ sameList samePair (matchList (built early 2 2 0) (ask Raw (pos 4 ∷ pos 3 ∷ []) 0 worked)) ((2, 0) ∷ [])
     ∷ []
 
 all : T (holds cases)
-unfolding openFilter samePair values worked ask three four five cases
+unfolding openFilter samePair values worked early bare ask three four five cases
 all = tt

@@ -1,4 +1,4 @@
--- Candidates and the list of matches, as document 01 has them.
+-- Candidates and the list of matches, as documents 01 and 02 have them.
 pub mod Envelope
 pub mod Range
 pub mod Candidates

@@ -18,8 +18,8 @@ abbrev pub sets : List SetRow → List (ℕ → Bool)
 sets l = map (λ r. r.has) l
 
 -- some row's range holds z
-abbrev pub covered : ℤ → List SetRow → Bool
-covered z l = any (λ r. inside r.low r.up z) l
+abbrev pub holdsSum : ℤ → List SetRow → Bool
+holdsSum z l = any (λ r. inside r.low r.up z) l
 
 -- the row has j exactly if its range holds z
 abbrev pub Exact : ℤ → ℕ → SetRow → Type 0
@@ -31,7 +31,7 @@ exact-times z j [] h = refl
 exact-times z j (r ∷ rest) h = rw (h.0, exact-times z j rest h.1)
 
 -- where rows ascend and one holds its sum, an offset stands in one row
-pub exact-once : (a z : ℤ) (j : ℕ) (rows : List SetRow) → Ascending a (map range rows) → All (Exact z j) rows → covered z rows ≡ true → times (sets rows) j ≡ 1
+pub exact-once : (a z : ℤ) (j : ℕ) (rows : List SetRow) → Ascending a (map range rows) → All (Exact z j) rows → holdsSum z rows ≡ true → times (sets rows) j ≡ 1
 exact-once a z j rows p h e = exact-times z j rows h ∙ holders-are a z _ p ∙ rw (any-map _ range rows, e) (bit-true refl)
 
 -- ---- rows that tile the windows
@@ -109,23 +109,23 @@ module _ (sum : ℕ → ℤ) (n : ℕ) where
   merged-tiled g (r ∷ rest) t = from-tiled sum n _ _ (upward-from g r rest t)
 
   -- what a range holds, a range holds after merging
-  join-covers : (z : ℤ) (r s : SetRow) (rest : List SetRow) → Chain sum n r (s ∷ rest) → covered z (r ∷ s ∷ rest) ≡ true → covered z (join r s ∷ rest) ≡ true
+  join-covers : (z : ℤ) (r s : SetRow) (rest : List SetRow) → Chain sum n r (s ∷ rest) → holdsSum z (r ∷ s ∷ rest) ≡ true → holdsSum z (join r s ∷ rest) ≡ true
   unfolding any join Chain
   join-covers z r s rest c e =
       let b = fine-first s rest c.2 .wide in by-test _
       (λ t. let i = is-inside _ r.up z t in let l = i.1 in rw (inside-yes r.low s.up z i.0 (omega zarith)))
       (λ f. by-test _
       (λ t. let i = is-inside s.low s.up z t in let k = i.0 in rw (inside-yes r.low s.up z (omega zarith) i.1))
-      (λ g. let k : covered z rest ≡ true = rw (f, g) at e in rw k (or-true (inside r.low s.up z))))
+      (λ g. let k : holdsSum z rest ≡ true = rw (f, g) at e in rw k (or-true (inside r.low s.up z))))
 
-  upward-covers : (g : ℕ) (z : ℤ) (r : SetRow) (rest : List SetRow) → Chain sum n r rest → covered z (r ∷ rest) ≡ true → covered z (upward g n r rest) ≡ true
+  upward-covers : (g : ℕ) (z : ℤ) (r : SetRow) (rest : List SetRow) → Chain sum n r rest → holdsSum z (r ∷ rest) ≡ true → holdsSum z (upward g n r rest) ≡ true
   unfolding upward any Chain
   upward-covers g z r [] c e = e
   upward-covers g z r (s ∷ rest) c e = by-test _
       (λ t. rw (upward-yes g n r s rest t) (upward-covers g z _ rest (chain-join r s rest c) (join-covers z r s rest c e)))
       (λ f. rw (upward-no g n r s rest f) (by-test (inside r.low r.up z) (λ t. rw t) (λ u. rw u (upward-covers g z s rest c.2 (rw u at e)))))
 
-  pub merged-covers : (g : ℕ) (z : ℤ) (rows : List SetRow) → Tiled sum n rows → covered z rows ≡ true → covered z (merged g n rows) ≡ true
+  pub merged-covers : (g : ℕ) (z : ℤ) (rows : List SetRow) → Tiled sum n rows → holdsSum z rows ≡ true → holdsSum z (merged g n rows) ≡ true
   unfolding merged Tiled
   merged-covers g z [] t e = e
   merged-covers g z (r ∷ rest) t e = upward-covers g z r rest t e
@@ -146,7 +146,7 @@ module _ (sum : ℕ → ℤ) (n : ℕ) where
   tiled-fine [] t = tt
   tiled-fine (r ∷ rest) t = chain-ascends _ r rest (≤ℤ-refl _) t .1
 
-  pub tiled-once : (j : ℕ) → j < n → (rows : List SetRow) → Tiled sum n rows → covered (sum j) rows ≡ true → times (sets rows) j ≡ 1
+  pub tiled-once : (j : ℕ) → j < n → (rows : List SetRow) → Tiled sum n rows → holdsSum (sum j) rows ≡ true → times (sets rows) j ≡ 1
   unfolding Tiled any bit
   tiled-once j b [] t e = clash e refl
   tiled-once j b (r ∷ rest) t e =
@@ -390,7 +390,7 @@ module _ (sum : ℕ → ℤ) (d n : ℕ) (one : 0 < d) where
   unfolding filed
   filed-tiled = tiled-of _ (numbers-sorted sum d n) (λ j b. numbers-mem sum d n j b)
 
-  pub filed-covers : (j : ℕ) → j < n → covered (sum j) (filed sum d n) ≡ true
+  pub filed-covers : (j : ℕ) → j < n → holdsSum (sum j) (filed sum d n) ≡ true
   unfolding filed rowAt
   filed-covers j b = any-mem (λ r. inside _ r.up (sum j)) (mem-map _ (numbers-mem sum d n j b)) (in-own d (sum j) one)
 
@@ -405,7 +405,7 @@ module _ (sum : ℕ → ℤ) (d n : ℕ) (one : 0 < d) where
     pub built-tiled : Tiled sum n (mergedRows sum d g n)
     built-tiled = merged-tiled sum n g _ filed-tiled
 
-    pub built-covers : (j : ℕ) → j < n → covered (sum j) (mergedRows sum d g n) ≡ true
+    pub built-covers : (j : ℕ) → j < n → holdsSum (sum j) (mergedRows sum d g n) ≡ true
     built-covers j b = merged-covers sum n g (sum j) _ filed-tiled (filed-covers j b)
 
     pub built-once : (j : ℕ) → j < n → times (sets (mergedRows sum d g n)) j ≡ 1

@@ -1,7 +1,7 @@
 -- Small cases of the definitions, in one table that one proof covers.
 use Rattle.meaning_numbers.proofs.Table.{holds, sameℤ, sameList}
 use Rattle.meaning_numbers.proofs.Prelude.{Bool, true, false, _&&_, List, [], _∷_, _++_, Option, none, some, ℕ, T, eqb, ℤ, pos, negsuc, length}
-use Rattle.meaning_rows.specs.{Range.rowNumber, Range.lowOf, Range.upOf, Index.Index, Index.Entry, Index.RangeRow, Index.laidOut, Index.rangeRows, Judge.firstBadRow, Audit.firstWrong, Audit.missing, Build.built, Extend.extended}
+use Rattle.meaning_rows.specs.{Range.rowNumber, Range.lowOf, Range.upOf, Index.Index, Index.Entry, Index.covered, Index.RangeRow, Index.laidOut, Index.rangeRows, Judge.firstBadRow, Audit.firstWrong, Audit.missing, Build.built, Extend.extended}
 use Rattle.meaning_rows.proofs.Open.{openRows}
 
 -- rows as a flat list of numbers: low, up, how many runs, and the runs
@@ -68,6 +68,8 @@ cases =
     ∷ badAt (laidOut (pos 257) (pos 2) (pos 4) two) (some 0)
     ∷ badAt (laidOut (pos 2) (pos 0) (pos 4) two) (some 0)
     ∷ badAt (laidOut (pos 2) (pos 2) (pos 0) []) (some 0)
+    -- four windows of two values cover five
+    ∷ sameList sameℤ (covered (index two) (worked ++ (pos 9 ∷ []))) worked
     -- auditing: yes, wrong, missing
     ∷ missingOf (index two) worked 0
     ∷ wrongAt (index (row (pos 2) (pos 4) ((pos 0, pos 1) ∷ []) ∷ row (pos 4) (pos 8) ((pos 0, pos 0) ∷ (pos 2, pos 2) ∷ []) ∷ [])) worked 0 1

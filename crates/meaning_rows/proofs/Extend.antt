@@ -7,9 +7,9 @@ use Rattle.meaning_numbers.proofs.Prelude.{_≡_, refl, sym, ap, _∙_, subst, 
 use Rattle.meaning_numbers.proofs.{Quotient.floor-most, Count.count-cong, Count.count-never}
 use Rattle.meaning_curves.specs.{Limits.mostValues, Limits.firstOutside, Limits.lowestEnd, Curve.windowSum, Curve.windowCount}
 use Rattle.meaning_rows.specs.Extend.{grown, known, newNumbers, added, insertRow, insertRows, extendedRows, extended}
-use Rattle.meaning_rows.specs.Index.{Index, Entry, runsOf, inRun, stands, rangeRow, rangeRows, records, allRuns}
+use Rattle.meaning_rows.specs.Index.{Index, Entry, covered, runsOf, inRun, stands, rangeRow, rangeRows, records, allRuns}
 use Rattle.meaning_rows.specs.{declared.Row.Row, Range.rowNumber, Range.lowOf, Range.upOf, Range.inside, Runs.runs, Build.SetRow, Build.insert, Build.rowAt, Build.entry, Build.withRuns, Judge.runLengths, Judge.lengthTotal}
-use Rattle.meaning_rows.proofs.Build.{range, sets, covered, Exact, exact-once, Ends, Occupied, Sorted, mem-above, insert-sorted, insert-mem, insert-keeps, insert-only}
+use Rattle.meaning_rows.proofs.Build.{range, sets, holdsSum, Exact, exact-once, Ends, Occupied, Sorted, mem-above, insert-sorted, insert-mem, insert-keeps, insert-only}
 use Rattle.meaning_rows.proofs.Judge.{GoodEnd, GoodRow, WellFormed, rangeOf, lengths-are, length-runsOf, each-row, ranges-ascend, lengths-at-most, rows-at-most, runs-at-most, runTotal}
 use Rattle.meaning_rows.proofs.{Range.where-is, Range.inside-yes, Range.widen, Range.next-le, Range.row-before, Range.in-own, Range.multiple-is, Runs.Apart, Runs.held, Runs.runs-cong, Runs.apart-runs, Runs.entries-hold, Times.Ascending, Times.times, Times.sizes, Times.sizes-once, Audit.Home, Audit.Filed, Laid.rows-back, Laid.laid-again, Laid.length-allRuns, Sets.Sound, Sets.Shows, Sets.sets-well-formed, Sets.sets-home, Sets.shows-row, Sets.row-shows, Sets.once-any, Sets.end-least, Sums.ends-good, Sums.sum-of-part}
 
@@ -270,7 +270,7 @@ module _ (x : Index) (s : List ℤ) (g : WellFormed x) (e : Extendable x s) wher
   unfolding grown added rowAt
   exact-new j h = each _ (λ k a. added-new x sum old d k j h) (λ r m o. grown-new x sum old r j h)
 
-  pub covers-new : (j : ℕ) → old ≤ j → j < n → covered (sum j) rows ≡ true
+  pub covers-new : (j : ℕ) → old ≤ j → j < n → holdsSum (sum j) rows ≡ true
   unfolding grown added rowAt
   covers-new j a b = by-test _
       (λ t. let f = any-found (λ r. inside _ r.up (sum j)) _ t in
@@ -346,8 +346,8 @@ module _ (x : Index) (s : List ℤ) (g : WellFormed x) (e : Extendable x s) wher
   unfolding grown
   right r q j h t = rw h t
 
-  -- filed right against the part of the series that it has windows of, it is extended to one filed right
-  pub extended-filed : Filed x (take (natAbs x.windows + natAbs x.window - 1) s) → Filed (extended x s) s
+  -- filed right against the part of the series that it covers, it is extended to one filed right
+  pub extended-filed : Filed x (covered x s) → Filed (extended x s) s
   unfolding extended extendedRows
   extended-filed f = record {
     home = λ j b. elim (decLt j old) [

@@ -1,6 +1,6 @@
 -- The index: head, row records and run entries, as they are lent or as a text spells them. A text may have any whole numbers, so the head and the run entries are whole numbers here.
-use Prim.Native.Nat.{ℕ, _+_}
-use lib.IntN.{ℤ, pos}
+use Prim.Native.Nat.{ℕ, _+_, _-_}
+use lib.IntN.{ℤ, pos, natAbs}
 use lib.ListN.{length, take, drop}
 use lib.Signed.{leZ}
 use mathlib.Core.Bool.{Bool, _&&_}
@@ -39,6 +39,10 @@ lent h rows left right = record {
   rows = rows;
   runs = entries left right;
 }
+
+-- 02, item 1: the part of a series that an index covers, its first windows + w - 1 values
+abbrev pub covered : Index → List ℤ → List ℤ
+covered x s = take (natAbs x.windows + natAbs x.window - 1) s
 
 -- a row's own part of the run buffer
 abbrev pub runsOf : Index → Row → List Entry

@@ -1,4 +1,4 @@
--- Rows, runs and the index, as document 01 has them.
+-- Rows, runs and the index, as documents 01 and 02 have them.
 pub mod Range
 pub mod Runs
 pub mod Index

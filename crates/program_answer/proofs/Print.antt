@@ -13,7 +13,7 @@ use Rattle.meaning_entries.specs.Build.{BuildCall, lentBuild, widthLines, build
 use Rattle.meaning_entries.specs.Refusal.{Condition, flatQuery, illFormed, windowsOf, bufferShort, seriesLines}
 use Rattle.meaning_entries.specs.Search.{SearchCall, SearchBuffers, lentAsk, lentSearch, valueLines, limitLines, searchPlan, searchTable, searchRefusal, searchAnswer, searchMatches, searchCandidates, question}
 use Rattle.meaning_entries.specs.{declared.Built.Built, declared.Found.Found, Answers.headOf, Write.writeTable, Write.writeRefusal, Program.callLines, Program.programIndex, Program.printed, Demand2.BuildKept, Demand2.SearchKept}
-use Rattle.meaning_entries.proofs.Lines.{long-line, window-line, query-line, threshold-line, scale-line, series-passes, count-passes, room-passes}
+use Rattle.meaning_entries.proofs.Lines.{long-line, window-line, query-line, threshold-line, scale-line, series-passes, more-passes, room-passes}
 use Rattle.meaning_entries.proofs.Refusal.{AllPass, end, more, passed-is, passed-both, passed-join, openLines, passed-line, passed-behind}
 use Rattle.meaning_entries.proofs.{Made.build-passes, Made.build-most, Listed.listed-is}
 use Rattle.text_put.specs.Put.{Put}
@@ -179,7 +179,7 @@ module _ (s q : List ℤ) (a : Asked) (free : AllPass (callLines (callOf s q a))
 
   all-here : searchMatches d ≡ allMatches (question d)
   unfolding openLines callLines callOf question
-  all-here = all-found x _ (Audit.passes-reached x s (build-passes c _ (build-free no-rows zeros zeros rows-long zeros-long zeros-long))) query-some-here (omega (arith, scale-line _ _ (passed-line limit-part 10) .0 .least))
+  all-here = all-found x _ (Audit.passes-reached x s (Audit.passes-covered x s (build-passes c _ (build-free no-rows zeros zeros rows-long zeros-long zeros-long)))) query-some-here (omega (arith, scale-line _ _ (passed-line limit-part 10) .0 .least))
 
   sizes-here : (length (allMatches (question d)) ≤ 4096) × (length (foundText (length (allMatches (question d))) (searchCandidates d) (allMatches (question d))) ≤ 200000)
   unfolding question
@@ -200,22 +200,18 @@ module _ (s q : List ℤ) (a : Asked) (free : AllPass (callLines (callOf s q a))
   unfolding writeTable illFormed
   write-free text h = passed-is (more (none-bad x passed-here.formed) (more (enough (length text) (length (indexText x)) (omega (arith, h, index-few))) end))
 
-  -- as many windows as the series has
-  windows-are : (windowsOf x (length s) ≤ℤ x.windows) × (x.windows ≤ℤ windowsOf x (length s))
+  -- no more windows than the series has
+  windows-fit : x.windows ≤ℤ windowsOf x (length s)
   unfolding buildIndex built
-  windows-are =
-      let h = z-add (pos (length s) -ℤ pos w) (pos 1) in
-      let k = z-sub (pos (length s)) (pos w) in
-      (omega (zarith, h, k), omega (zarith, h, k, window-in.1))
+  windows-fit = omega (zarith, z-add (pos (length s) -ℤ pos w) (pos 1), z-sub (pos (length s)) (pos w), window-in.1)
 
   pub search-free : (before : SearchBuffers) → length before.left ≡ 4096 → length before.right ≡ 4096 → length before.scratch ≡ 4096 → length before.offsets ≡ 4096 → length before.distances ≡ 4096 → searchRefusal d before ≡ none
   unfolding openLines searchPlan searchTable callLines callOf buildIndex built
   search-free before hl hr hc ho hd =
       let value-part = passed-join series-part (more (passed-line (passed-behind free 2) 2) end) in
-      let count-part = count-passes _ x windows-are.0 windows-are.1 in
       let n = windowCount (length s) w in
       let room-part = room-passes {one = min (length before.left) (length before.right)} {needed = n} {other = length before.scratch} {wanted = n} (omega (arith, hl, hr, windows-few)) (omega (arith, hc, windows-few)) in
-      passed-is (passed-join (passed-join value-part (passed-join limit-part (more (passed-line free 11) (more (none-bad x passed-here.formed) (passed-join count-part room-part)))))
+      passed-is (passed-join (passed-join value-part (passed-join limit-part (more (passed-line free 11) (more (none-bad x passed-here.formed) (more (more-passes x _ windows-fit) room-part)))))
       (more (rw (le-ltb (min (length before.offsets) (length before.distances)) (length (searchMatches d)) (omega (arith, ho, hd, matches-few)))) end))
 
 -- ---- the list behind the index text

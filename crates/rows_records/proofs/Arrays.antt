@@ -4,6 +4,7 @@
 --     mut-of, shr-of   the slice that it is lent as
 --     lends-array      [..; its cell; ..] → [the slice's token; what the slice owns; ..; the loan; ..]      back-array      the same back, at the list that the slice holds by then
 --     shares-array, unshares-array     likewise for the first k elements, and the array is as it was
+--     first-of         the first k elements of a slice that the function was lent as a `&κ [T]`.       shares-first, unshares-first     they are lent for one call, under the token of the whole
 --     recount          the count in a slice's cell, written another way.       big-lit     an operand that MIR writes by a bound
 -- Assumes `Given`.
 use base.Fml.{GName, Share, fat, flent, fres, Lft, fsep, fdead, flft}
@@ -34,7 +35,7 @@ use types.SemTy.{cells, Arr}
 use types.Share.{arr-parts}
 use types.Tokens.{lft-new, lft-end, lent-back}
 use Rattle.meaning_numbers.proofs.Prelude.{ℕ, zero, suc, _≤_, length, take, replicate, length-replicate, length-take, List, [], _∷_, map, _≡_, refl, sym, _∙_, subst, arith}
-use Rattle.rows_records.proofs.{Passing.Data, Passing.Lent, Passing.token, Passing.viewed, Passing.lent-at, Lends.Own, Lends.share}
+use Rattle.rows_records.proofs.{Passing.Data, Passing.Lent, Passing.token, Passing.viewed, Passing.lent-at, Lends.Own, Lends.share, Lends.twin}
 use borrow.Table.Owned as Owned
 
 module _ {M : Type 1} (𝓤 : URA M) (H : Heap 𝓤) (A : Atoms 𝓤) (W : Given 𝓤 H A) where
@@ -114,6 +115,23 @@ module _ (R : RattleType) (b o : ℕ) where
         use2 W _ (shs-prefix-same 𝓤 H A W R κ q b hv o γ ys k) $ await t z $ pick t (λ γ₁. split t $
         fsplit t $ pureL t (room R _) (λ rm. pureI t (at-slice R (ref-at γ₁ (take k ys)) _) (tt, (tt, tt)) (refl, rm) $ fjoin t $ next γ₁)))
 
+pub less : (R : RattleType) {m n : ℕ} → m ≤ n → Room R n → Room R m
+less R l r = (lt-of-le-of-lt l r.0, lt-of-le-of-lt (mul-le-mul-right (mem R .size) l) r.1)
+
+pub take-less : {X : Type 0} (k : ℕ) (xs : List X) → length (take k xs) ≤ length xs
+take-less k xs = simp length-take (omega arith)
+
+abbrev pub first-of : Lent → ℕ → GName → Lent
+first-of p k γ = record { row = p.row; ref = record { ptr = p.ref.ptr; name = γ; now = take k p.ref.now }; lft = p.lft; share = p.share; has-room = less p.row (take-less k p.ref.now) p.has-room }
+
+module _ {M : Type 1} {𝓤 : URA M} {H : Heap 𝓤} {A : Atoms 𝓤} {K : Type 0} {W : Given 𝓤 H A} {Γ : List (Item 𝓤)} {G : Goal 𝓤 H} where
+  pub shares-first : K → Soaks G → (p : Lent) → Halved 𝓤 H A p.row → (k : ℕ) → ((γ : GName) → Seq K W (token 𝓤 H A (first-of p k γ) ∷ viewed 𝓤 H A (first-of p k γ) ∷ viewed 𝓤 H A p ∷ Γ) G) → Seq K W (token 𝓤 H A p ∷ viewed 𝓤 H A p ∷ Γ) G
+  shares-first t z p hv k next = move t (1 ∷ []) $ twin t p.row erased p.lft p.ref $ move t (0 ∷ 2 ∷ []) $
+      prefix p.row p.ref.ptr.0 p.ref.ptr.1 t z hv erased p.lft p.share p.ref.name p.ref.now k (λ γ. move t (1 ∷ []) $ next γ)
+
+  pub unshares-first : K → (p : Lent) (k : ℕ) (γ : GName) → Step K W (token 𝓤 H A p ∷ Γ) G (token 𝓤 H A (first-of p k γ) ∷ viewed 𝓤 H A (first-of p k γ) ∷ Γ) G
+  unshares-first t p k γ = step (λ s. move t (1 ∷ []) $ drop t $ s)
+
 -- where a local array lies
 pub record Local {M : Type 1} (𝓤 : URA M) (H : Heap 𝓤) (A : Atoms 𝓤) : Type 2 where
   pub of : Data 𝓤 H A
@@ -121,12 +139,6 @@ pub record Local {M : Type 1} (𝓤 : URA M) (H : Heap 𝓤) (A : Atoms 𝓤) : 
   pub block : ℕ
   pub one : Single of.row.mir
   pub room : Room of.row count
-
-pub less : (R : RattleType) {m n : ℕ} → m ≤ n → Room R n → Room R m
-less R l r = (lt-of-le-of-lt l r.0, lt-of-le-of-lt (mul-le-mul-right (mem R .size) l) r.1)
-
-pub take-less : {X : Type 0} (k : ℕ) (xs : List X) → length (take k xs) ≤ length xs
-take-less k xs = simp length-take (omega arith)
 
 -- how many the first k are
 pub as-long : {X : Type 0} (xs : List X) {k n : ℕ} → length xs ≡ n → k ≤ n → k ≡ length (take k xs)

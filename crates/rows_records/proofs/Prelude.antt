@@ -33,6 +33,6 @@ pub use denote.Triple.Walked.{needs}
 pub use Rattle.rows_records.proofs.Walk.{AtEntry, by-bool, goes-in, passes-by}
 pub use Rattle.rows_records.proofs.Passing.{Data, uint, sint, boolean, nothing, struct, enum, Lent, Arg, value, kept, lends, shares, token, viewed, lent-at, holds, empty, tidy, frees-all, calls-with, leaves-with, meets-with, loc, part, start, put-at, views, leaves-holding, part-of}
 pub use Rattle.rows_records.proofs.Turns.{loops, reads-lent, reads-shared, writes-lent, offset-fits, sub-fits, next-fits, next-upto, nearer, nearer-to, upto-end, set-long}
-pub use Rattle.rows_records.proofs.Arrays.{array, is-repeat, Local, mut-of, shr-of, lends-array, back-array, shares-array, unshares-array, as-long, recount, big-lit}
+pub use Rattle.rows_records.proofs.Arrays.{array, is-repeat, Local, mut-of, shr-of, lends-array, back-array, shares-array, unshares-array, first-of, shares-first, unshares-first, as-long, recount, big-lit}
 pub use Rattle.rows_records.proofs.Holding.{Holder, holder, in-struct, of-struct, same-view}
 pub use Rattle.rows_records.proofs.Lends.{twin}

@@ -9,7 +9,10 @@ use own.Tie as tie
 
 raise-stretches-requires : tie.Need-raise-stretches-requires
 unfolding filled clearedFrom
-raise-stretches-requires c κs = rw c.before.before.before.before.before.clear-u16.ensures c.before.before.before.before.before.before.before.before.before.before.before.before.before.pre.stretches
+raise-stretches-requires c κs =
+    let o : tie.Start = search needs in
+    let z : tie.After-clear-u16 = search needs in
+    rw z.clear-u16.ensures o.pre.stretches
 
 returns : tie.Need-returns
 returns c =
@@ -26,5 +29,5 @@ returns c =
 
 pub hand-out-spec : {M : Type 1} → own.Statement.statement M
 hand-out-spec =
-    tie.close (tie.spec (search needs) (search needs) (search needs) (search needs) (search needs) raise-stretches-requires (search needs) (search needs)
+    tie.close (tie.spec (search needs) (search needs) (search needs) (search needs) (search needs) (search needs) raise-stretches-requires (search needs) (search needs)
     (search needs) (search needs) (search needs) (search needs) returns)

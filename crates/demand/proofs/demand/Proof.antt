@@ -1,11 +1,11 @@
 -- Written by tools/walk from the plan in the lines marked |. Change those, and run `tools/walk demand demand`.
--- Both indexes are audited, the series is searched through both, and what they come to is told.
+-- Both indexes are audited, each against its own part, the series is searched through both, and what they come to is told.
 -- | use Rattle.meaning_rows.specs.Index.{lent}
 -- | use Rattle.meaning_entries.specs.Search.{lentSearch}
 -- | use Rattle.meaning_entries.specs.Search.{searchBuffers}
 -- | use Rattle.meaning_entries.proofs.BothKept.{demand3-kept}
--- | one, audit1 = audit
--- | two, audit2 = audit
+-- | one, audit1 = audit_covered
+-- | two, audit2 = audit_covered
 -- | found1, kept1 = search
 -- | found2, kept2 = search
 -- | t, told = tell
@@ -32,10 +32,10 @@ use Rattle.meaning_rows.proofs.Head as Headᵀ
 use Rattle.meaning_rows.proofs.Head.Laws as Headᴸ
 use Rattle.meaning_rows.specs.declared.Row.{Row}
 use Rattle.meaning_rows.proofs.Row as Rowᵀ
-use Rattle.entry_audit.proofs.audit as audit
-use Rattle.entry_audit.proofs.audit.Symbol as audit-def
-use Rattle.entry_audit.proofs.audit.Symbol.{name as #audit}
-use Rattle.entry_audit.proofs.audit.Met as audit-thm
+use Rattle.entry_audit.proofs.audit_covered as audit-covered
+use Rattle.entry_audit.proofs.audit_covered.Symbol as audit-covered-def
+use Rattle.entry_audit.proofs.audit_covered.Symbol.{name as #audit-covered}
+use Rattle.entry_audit.proofs.audit_covered.Met as audit-covered-thm
 use Rattle.entry_search.proofs.search as search
 use Rattle.entry_search.proofs.search.Symbol as search-def
 use Rattle.entry_search.proofs.search.Symbol.{name as #search}
@@ -64,7 +64,7 @@ Foundᴰ 𝓤 H A W = enum 𝓤 H A W Foundᵀ.the-type Foundᴸ.the-laws tt Fou
 abbrev Headᴰ : {M : Type 1} (𝓤 : URA M) (H : Heap 𝓤) (A : Atoms 𝓤) → Given 𝓤 H A → Data 𝓤 H A
 Headᴰ 𝓤 H A W = struct 𝓤 H A W Headᵀ.the-type Headᴸ.the-laws Headᴸ.the-plain
 
-module _ {M : Type 1} (𝓤 : URA M) (H : Heap 𝓤) (A : Atoms 𝓤) (W : Given 𝓤 H A) (mem : Memory → SProp 𝓤) (run : Routine → Fun 𝓤) (𝓣 : Tables 𝓤 H) (fm : FmC 𝓤 H (W .laws) (𝓣 .C)) (known-audit : Meets 𝓤 H A audit.signature (𝓣 .C #audit) (audit.spec 𝓤 H A mem run)) (known-search : Meets 𝓤 H A search.signature (𝓣 .C #search) (search.spec 𝓤 H A mem run)) (known-tell : Meets 𝓤 H A tell.signature (𝓣 .C #tell) (tell.spec 𝓤 H A mem run)) where
+module _ {M : Type 1} (𝓤 : URA M) (H : Heap 𝓤) (A : Atoms 𝓤) (W : Given 𝓤 H A) (mem : Memory → SProp 𝓤) (run : Routine → Fun 𝓤) (𝓣 : Tables 𝓤 H) (fm : FmC 𝓤 H (W .laws) (𝓣 .C)) (known-audit-covered : Meets 𝓤 H A audit-covered.signature (𝓣 .C #audit-covered) (audit-covered.spec 𝓤 H A mem run)) (known-search : Meets 𝓤 H A search.signature (𝓣 .C #search) (search.spec 𝓤 H A mem run)) (known-tell : Meets 𝓤 H A tell.signature (𝓣 .C #tell) (tell.spec 𝓤 H A mem run)) where
   module _ (κs : Lfts 18) (qs : Shares 18) (series : RefT (List ℤ)) (head1 : Head) (rows1 : RefT (List Row)) (left1 : RefT (List ℕ)) (right1 : RefT (List ℕ)) (head2 : Head) (rows2 : RefT (List Row)) (left2 : RefT (List ℕ)) (right2 : RefT (List ℕ)) (ask : Ask) (query : RefT (List ℤ)) (first1 : RefT (List ℕ)) (last1 : RefT (List ℕ)) (scratch1 : RefT (List ℕ)) (offsets1 : RefT (List ℕ)) (distances1 : RefT (List ℕ)) (first2 : RefT (List ℕ)) (last2 : RefT (List ℕ)) (scratch2 : RefT (List ℕ)) (offsets2 : RefT (List ℕ)) (distances2 : RefT (List ℕ))
       (g-series : Room i32 (length (now series))) (g-head1 : Is ((Headᴰ 𝓤 H A W) .row) head1 ((Headᴰ 𝓤 H A W) .val head1 ∷ [])) (g-rows1 : Room Rowᵀ.the-row (length (now rows1))) (g-left1 : Room u32 (length (now left1))) (g-right1 : Room u32 (length (now right1))) (g-head2 : Is ((Headᴰ 𝓤 H A W) .row) head2 ((Headᴰ 𝓤 H A W) .val head2 ∷ [])) (g-rows2 : Room Rowᵀ.the-row (length (now rows2))) (g-left2 : Room u32 (length (now left2))) (g-right2 : Room u32 (length (now right2))) (g-ask : Is ((Askᴰ 𝓤 H A W) .row) ask ((Askᴰ 𝓤 H A W) .val ask ∷ [])) (g-query : Room i32 (length (now query))) (g-first1 : Room u32 (length (now first1))) (g-last1 : Room u32 (length (now last1))) (g-scratch1 : Room u16 (length (now scratch1))) (g-offsets1 : Room u32 (length (now offsets1))) (g-distances1 : Room u64 (length (now distances1))) (g-first2 : Room u32 (length (now first2))) (g-last2 : Room u32 (length (now last2))) (g-scratch2 : Room u16 (length (now scratch2))) (g-offsets2 : Room u32 (length (now offsets2))) (g-distances2 : Room u64 (length (now distances2))) where
     abbrev series° : Lent
@@ -161,12 +161,12 @@ module _ {M : Type 1} (𝓤 : URA M) (H : Heap 𝓤) (A : Atoms 𝓤) (W : Given
         pass0 ! $
         keep ! (92 ∷ 110 ∷ 93 ∷ 112 ∷ 94 ∷ 113 ∷ 95 ∷ 114 ∷ 96 ∷ 116 ∷ 97 ∷ 117 ∷ 98 ∷ 118 ∷ 99 ∷ 120 ∷ 100 ∷ 121 ∷ 101 ∷ 122 ∷ 102 ∷ 123 ∷ 103 ∷ 124 ∷ 104 ∷ 125 ∷ 105 ∷ 126 ∷ 106 ∷ 127 ∷ 107 ∷ 128 ∷ 108 ∷ 129 ∷ 109 ∷ 130 ∷ 90 ∷ 91 ∷ 88 ∷ 89 ∷ 86 ∷ 87 ∷ 84 ∷ 85 ∷ 82 ∷ 83 ∷ 80 ∷ 81 ∷ 78 ∷ 79 ∷ 76 ∷ 77 ∷ 74 ∷ 75 ∷ 72 ∷ 73 ∷ 70 ∷ 71 ∷ 68 ∷ 69 ∷ 66 ∷ 67 ∷ 64 ∷ 65 ∷ 62 ∷ 63 ∷ 60 ∷ 61 ∷ 58 ∷ 59 ∷ 56 ∷ 57 ∷ 54 ∷ 55 ∷ 52 ∷ 53 ∷ 50 ∷ 51 ∷ 48 ∷ 49 ∷ 46 ∷ 47 ∷ 44 ∷ 45 ∷ 42 ∷ 43 ∷ 40 ∷ 41 ∷ 38 ∷ 39 ∷ 36 ∷ 37 ∷ 34 ∷ 35 ∷ 32 ∷ 33 ∷ 30 ∷ 31 ∷ 28 ∷ 29 ∷ 26 ∷ 27 ∷ 24 ∷ 25 ∷ 22 ∷ 23 ∷ 20 ∷ 21 ∷ 18 ∷ 19 ∷ 16 ∷ 17 ∷ 14 ∷ 15 ∷ 12 ∷ 13 ∷ 10 ∷ 11 ∷ 8 ∷ 9 ∷ 6 ∷ 7 ∷ 4 ∷ 5 ∷ 2 ∷ 3 ∷ 0 ∷ 1 ∷ []) $
         move ! (0 ∷ 1 ∷ 2 ∷ 3 ∷ 4 ∷ 5 ∷ 6 ∷ 7 ∷ []) $
-        calls-with ! fm audit.ended (audit.clauses 𝓤 H A mem run) known-audit (kept series° ∷ value (Headᴰ 𝓤 H A W) head1 g-head1 ∷ kept rows1° ∷ kept left1° ∷ kept right1° ∷ [])
+        calls-with ! fm audit-covered.ended (audit-covered.clauses 𝓤 H A mem run) known-audit-covered (kept series° ∷ value (Headᴰ 𝓤 H A W) head1 g-head1 ∷ kept rows1° ∷ kept left1° ∷ kept right1° ∷ [])
         (λ fs. (((κs .0, (κs .1 .0, (κs .1 .1 .0, (κs .1 .1 .1 .0, tt)))), (qs .0, (qs .1 .0, (qs .1 .1 .0, (qs .1 .1 .1 .0, tt)))), tt, (series, (head1, (rows1, (left1, (right1, tt))))), (slice-vals series, ((Headᴰ 𝓤 H A W) .val head1 ∷ [], (slice-vals rows1, (slice-vals left1, (slice-vals right1, tt)))))), tt)) (λ fs. refl) (λ fs. refl) (λ fs ls. ls) (λ fs ls. refl) (λ fs. id⊢ 𝓤 _) (λ fs r ls. id⊢ 𝓤 _) (λ fs. (Auditedᴰ 𝓤 H A W) .val) (λ fs. (Auditedᴰ 𝓤 H A W) .tells) (λ fs. (and-then ! (loc ! 32 refl) (and-then ! (loc ! 34 refl) (and-then ! (loc ! 36 refl) (and-then ! (loc ! 38 refl) (and-then ! (loc ! 40 refl) (no-more !))))))) (λ fs one ls₁ audit1 is₁ fits₁.
         land ! (from ! (stop !)) (init ! 80 refl ((Auditedᴰ 𝓤 H A W) .lawful .typed one _ is₁ .0)) $
         tidy ! (token 𝓤 H A series° ∷ viewed 𝓤 H A series° ∷ token 𝓤 H A rows1° ∷ viewed 𝓤 H A rows1° ∷ token 𝓤 H A left1° ∷ viewed 𝓤 H A left1° ∷ token 𝓤 H A right1° ∷ viewed 𝓤 H A right1° ∷ token 𝓤 H A rows2° ∷ viewed 𝓤 H A rows2° ∷ token 𝓤 H A left2° ∷ viewed 𝓤 H A left2° ∷ token 𝓤 H A right2° ∷ viewed 𝓤 H A right2° ∷ token 𝓤 H A query° ∷ viewed 𝓤 H A query° ∷ token 𝓤 H A first1° ∷ lent-at 𝓤 H A first1° (now first1) ∷ token 𝓤 H A last1° ∷ lent-at 𝓤 H A last1° (now last1) ∷ token 𝓤 H A scratch1° ∷ lent-at 𝓤 H A scratch1° (now scratch1) ∷ token 𝓤 H A offsets1° ∷ lent-at 𝓤 H A offsets1° (now offsets1) ∷ token 𝓤 H A distances1° ∷ lent-at 𝓤 H A distances1° (now distances1) ∷ token 𝓤 H A first2° ∷ lent-at 𝓤 H A first2° (now first2) ∷ token 𝓤 H A last2° ∷ lent-at 𝓤 H A last2° (now last2) ∷ token 𝓤 H A scratch2° ∷ lent-at 𝓤 H A scratch2° (now scratch2) ∷ token 𝓤 H A offsets2° ∷ lent-at 𝓤 H A offsets2° (now offsets2) ∷ token 𝓤 H A distances2° ∷ lent-at 𝓤 H A distances2° (now distances2) ∷ []) (empty ∷ holds _ ∷ holds _ ∷ holds _ ∷ holds _ ∷ holds _ ∷ holds _ ∷ holds _ ∷ holds _ ∷ holds _ ∷ holds _ ∷ holds _ ∷ holds _ ∷ holds _ ∷ holds _ ∷ holds _ ∷ holds _ ∷ holds _ ∷ holds _ ∷ holds _ ∷ holds _ ∷ holds _ ∷ holds _ ∷ empty ∷ empty ∷ empty ∷ empty ∷ empty ∷ empty ∷ empty ∷ empty ∷ empty ∷ empty ∷ empty ∷ empty ∷ empty ∷ empty ∷ empty ∷ empty ∷ empty ∷ empty ∷ empty ∷ empty ∷ empty ∷ empty ∷ empty ∷ []) refl $
         move ! (0 ∷ 1 ∷ 8 ∷ 9 ∷ 10 ∷ 11 ∷ 12 ∷ 13 ∷ []) $
-        calls-with ! fm audit.ended (audit.clauses 𝓤 H A mem run) known-audit (kept series° ∷ value (Headᴰ 𝓤 H A W) head2 g-head2 ∷ kept rows2° ∷ kept left2° ∷ kept right2° ∷ [])
+        calls-with ! fm audit-covered.ended (audit-covered.clauses 𝓤 H A mem run) known-audit-covered (kept series° ∷ value (Headᴰ 𝓤 H A W) head2 g-head2 ∷ kept rows2° ∷ kept left2° ∷ kept right2° ∷ [])
         (λ fs. (((κs .0, (κs .1 .1 .1 .1 .0, (κs .1 .1 .1 .1 .1 .0, (κs .1 .1 .1 .1 .1 .1 .0, tt)))), (qs .0, (qs .1 .1 .1 .1 .0, (qs .1 .1 .1 .1 .1 .0, (qs .1 .1 .1 .1 .1 .1 .0, tt)))), tt, (series, (head2, (rows2, (left2, (right2, tt))))), (slice-vals series, ((Headᴰ 𝓤 H A W) .val head2 ∷ [], (slice-vals rows2, (slice-vals left2, (slice-vals right2, tt)))))), tt)) (λ fs. refl) (λ fs. refl) (λ fs ls. ls) (λ fs ls. refl) (λ fs. id⊢ 𝓤 _) (λ fs r ls. id⊢ 𝓤 _) (λ fs. (Auditedᴰ 𝓤 H A W) .val) (λ fs. (Auditedᴰ 𝓤 H A W) .tells) (λ fs. (and-then ! (loc ! 32 refl) (and-then ! (loc ! 42 refl) (and-then ! (loc ! 44 refl) (and-then ! (loc ! 46 refl) (and-then ! (loc ! 48 refl) (no-more !))))))) (λ fs two ls₂ audit2 is₂ fits₂.
         land ! (from ! (stop !)) (init ! 82 refl ((Auditedᴰ 𝓤 H A W) .lawful .typed two _ is₂ .0)) $
         tidy ! (token 𝓤 H A series° ∷ viewed 𝓤 H A series° ∷ token 𝓤 H A rows2° ∷ viewed 𝓤 H A rows2° ∷ token 𝓤 H A left2° ∷ viewed 𝓤 H A left2° ∷ token 𝓤 H A right2° ∷ viewed 𝓤 H A right2° ∷ token 𝓤 H A rows1° ∷ viewed 𝓤 H A rows1° ∷ token 𝓤 H A left1° ∷ viewed 𝓤 H A left1° ∷ token 𝓤 H A right1° ∷ viewed 𝓤 H A right1° ∷ token 𝓤 H A query° ∷ viewed 𝓤 H A query° ∷ token 𝓤 H A first1° ∷ lent-at 𝓤 H A first1° (now first1) ∷ token 𝓤 H A last1° ∷ lent-at 𝓤 H A last1° (now last1) ∷ token 𝓤 H A scratch1° ∷ lent-at 𝓤 H A scratch1° (now scratch1) ∷ token 𝓤 H A offsets1° ∷ lent-at 𝓤 H A offsets1° (now offsets1) ∷ token 𝓤 H A distances1° ∷ lent-at 𝓤 H A distances1° (now distances1) ∷ token 𝓤 H A first2° ∷ lent-at 𝓤 H A first2° (now first2) ∷ token 𝓤 H A last2° ∷ lent-at 𝓤 H A last2° (now last2) ∷ token 𝓤 H A scratch2° ∷ lent-at 𝓤 H A scratch2° (now scratch2) ∷ token 𝓤 H A offsets2° ∷ lent-at 𝓤 H A offsets2° (now offsets2) ∷ token 𝓤 H A distances2° ∷ lent-at 𝓤 H A distances2° (now distances2) ∷ []) (empty ∷ holds _ ∷ holds _ ∷ holds _ ∷ holds _ ∷ holds _ ∷ holds _ ∷ holds _ ∷ holds _ ∷ holds _ ∷ holds _ ∷ holds _ ∷ holds _ ∷ holds _ ∷ holds _ ∷ holds _ ∷ holds _ ∷ holds _ ∷ holds _ ∷ holds _ ∷ holds _ ∷ holds _ ∷ holds _ ∷ holds _ ∷ empty ∷ empty ∷ empty ∷ empty ∷ empty ∷ empty ∷ empty ∷ empty ∷ empty ∷ empty ∷ empty ∷ empty ∷ empty ∷ empty ∷ empty ∷ empty ∷ empty ∷ empty ∷ empty ∷ empty ∷ empty ∷ empty ∷ []) refl $
@@ -220,6 +220,6 @@ demand-spec 𝓤 H 𝓜 𝓖 𝓡 =
     entered 𝓤 H (tripleOf 𝓤 H (𝓖 .A) f.signature (f.spec 𝓤 H (𝓖 .A) (𝓜 .mem) (𝓡 .run)))
     (tables 𝓤 H 𝓜 𝓡 code.env .C) (tables 𝓤 H 𝓜 𝓡 code.env .Λ) #self code.function (code.unfolded 𝓤 H 𝓜 𝓡)
     (meets 𝓤 H (𝓖 .A) (givenOf 𝓤 H 𝓜 𝓖) (𝓜 .mem) (𝓡 .run) (tablesOf 𝓤 H 𝓜 (tables 𝓤 H 𝓜 𝓡 code.env)) (fmOf 𝓤 H (givenOf 𝓤 H 𝓜 𝓖 .laws) (tablesOf 𝓤 H 𝓜 (tables 𝓤 H 𝓜 𝓡 code.env)))
-    (cited 𝓤 H (tripleOf 𝓤 H (𝓖 .A) audit.signature (audit.spec 𝓤 H (𝓖 .A) (𝓜 .mem) (𝓡 .run))) 𝓜 𝓡 code.env #audit audit-def.routine code.calls-entry-audit·audit (audit-thm.met 𝓤 H 𝓜 𝓖 𝓡))
+    (cited 𝓤 H (tripleOf 𝓤 H (𝓖 .A) audit-covered.signature (audit-covered.spec 𝓤 H (𝓖 .A) (𝓜 .mem) (𝓡 .run))) 𝓜 𝓡 code.env #audit-covered audit-covered-def.routine code.calls-entry-audit·audit-covered (audit-covered-thm.met 𝓤 H 𝓜 𝓖 𝓡))
     (cited 𝓤 H (tripleOf 𝓤 H (𝓖 .A) search.signature (search.spec 𝓤 H (𝓖 .A) (𝓜 .mem) (𝓡 .run))) 𝓜 𝓡 code.env #search search-def.routine code.calls-entry-search·search (search-thm.met 𝓤 H 𝓜 𝓖 𝓡))
     (cited 𝓤 H (tripleOf 𝓤 H (𝓖 .A) tell.signature (tell.spec 𝓤 H (𝓖 .A) (𝓜 .mem) (𝓡 .run))) 𝓜 𝓡 code.env #tell tell-def.routine code.calls-demand·tell (tell-thm.met 𝓤 H 𝓜 𝓖 𝓡)))
