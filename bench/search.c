@@ -171,6 +171,8 @@ int main(int argc, char **argv) {
         walk(1, 1);
         if (!strcmp(what, "short")) {
             short_races();
+        } else if (*what) {
+            return puts("short, sweep, or nothing"), 2;
         } else {
             races(4096, 0, 1024, 0);
             races(16, 80, 256, 0);

@@ -80,7 +80,7 @@ impl Test {
         let (n, m, w, windows) = (s.len() as i64, q.len() as i64, x.head.window as i64, x.head.windows as i64);
         let lacks = n + 1 - w - windows;
         if lacks <= 0 { return }
-        let mut came = |kind: String, times: bool| *self.short.entry(kind).or_default() += times as u64;
+        let mut came = |kind: String, is: bool| *self.short.entry(kind).or_default() += is as u64;
         let number = match answer.kind { 0 => 0, 1 => 24, _ => answer.first };
         let which = if number > 0 { 2 } else { !passes(s, x) as usize };
         for (k, is) in [true, lacks == 1, lacks == w - 1, lacks == w, lacks == m, windows == 1].into_iter().enumerate() { came(format!("lacks {} {}", LACKS[k], CAME[which]), is) }

@@ -26,6 +26,10 @@ covered-scans c count after p l =
     let a = all-listed c count (listIn count after) (record { passes = p; before = l.0; after = after; candidates = l.1; kept = l.2; listed = refl }) in
     record { all = a.0; exact = subst (Exactly (question c)) (sym a.0) (all-exactly (question c)); long = a.1 ∙ ap length (sym a.0) }
 
+-- `Scans` leaves one count and one list
+pub scans-only : (c : SearchCall) (n k : ℕ) (a b : SearchBuffers) → Scans c n a → Scans c k b → (n ≡ k) × (listIn n a ≡ listIn k b)
+scans-only c n k a b s t = let e = s.all ∙ sym t.all in (s.long ∙ ap length e ∙ sym t.long, e)
+
 -- an index covers what it passes against, whatever comes behind it
 still-passes : (x : Index) (s more : List ℤ) → Passes x s → PassesCovered x (s ++ more)
 still-passes x s more p =

@@ -8,7 +8,7 @@ use Rattle.meaning_rows.proofs.{Judge.is-within, Judge.WellFormed, Extend.Exten
 use Rattle.meaning_filter.specs.Matches.{allMatches}
 use Rattle.meaning_filter.proofs.Matches.{all-found}
 use Rattle.meaning_entries.specs.{Refusal.atZero, Refusal.firstRefusal, Refusal.windowOutside, Refusal.widthOutside, Buffers.IndexBuffers, Audit.Passes, Audit.PassesCovered, Build.BuildCall, Build.buildTable, Build.buildRefusal, Build.buildIndex, Build.buildWindows, Search.question, Search.searchMatches, Program.textProgram, Program.callLines, Program.programTable, Program.programIndex, Program.programSearch, Extend.ExtendCall, Extend.extendTable, Extend.extendRefusal, Extend.extendIndex, Extend.extendWindows}
-use Rattle.meaning_entries.proofs.{Refusal.is-passed, Refusal.openLines, Refusal.passed-line, Refusal.not-if, Lines.long-line, Lines.window-line, Lines.width-line, Lines.formed-line, Lines.more-line, Lines.query-line, Lines.scale-line, Passes.Passed, Passes.passed, Passes.passed-reached, Passes.passes}
+use Rattle.meaning_entries.proofs.{Refusal.is-passed, Refusal.openLines, Refusal.passed-line, Refusal.not-if, Lines.long-line, Lines.window-line, Lines.width-line, Lines.formed-line, Lines.more-line, Lines.query-line, Lines.scale-line, Passes.Passed, Passes.passed, Passes.whole-reached, Passes.passes}
 
 -- a test that does not refuse where its failing would
 holds : (n : ℕ) (t : Bool) → atZero n (not t) .place ≡ none → T t
@@ -110,5 +110,5 @@ program-all t e =
     let c = textProgram t in
     let p = is-passed _ e in
     let y = built-passed c.series _ _ _ (program-buildable t e) in
-    all-found _ _ (passed-reached _ c.series y)
+    all-found _ _ (whole-reached _ c.series y)
     (query-line _ _ (passed-line p 6) .0 .least) (omega (arith, scale-line _ _ (passed-line p 10) .0 .least))

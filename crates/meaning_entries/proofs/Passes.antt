@@ -62,11 +62,12 @@ passes-reached x s p = filed-reached x s (passed x (covered x s) p .filed)
 pub covers-all : (x : Index) (s : List ℤ) → natAbs x.windows + natAbs x.window ≡ length s + 1 → covered x s ≡ s
 covers-all x s e = take-all (natAbs x.windows + natAbs x.window - 1) s (omega arith)
 
+-- so what passes against a series passes against the part of it that it covers
 pub passes-covered : (x : Index) (s : List ℤ) → Passes x s → PassesCovered x s
 passes-covered x s p = rw (covers-all x s (passed x s p .windows)) p
 
-pub passed-reached : (x : Index) (s : List ℤ) → Passed x s → Reached x s
-passed-reached x s p = filed-reached x s (rw (covers-all x s p.windows) p.filed)
+pub whole-reached : (x : Index) (s : List ℤ) → Passed x s → Reached x s
+whole-reached x s p = filed-reached x s (rw (covers-all x s p.windows) p.filed)
 
 pub passes-total : (x : Index) (s : List ℤ) → Passes x s → lengthTotal x x.rows ≡ natAbs x.windows
 passes-total x s p = let y = passed x s p in yes-total x s y.formed y.filed

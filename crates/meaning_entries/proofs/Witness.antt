@@ -41,50 +41,24 @@ searched : (c : SearchCall) (candidates count : ℕ) (list : List (ℕ × ℕ)) 
 searched c candidates count list p e l =
     record { passes = p; before = room; after = searchAfter c room; candidates = candidates; kept = search-kept c room _ _ e refl; listed = l }
 
-raw-straight : Searched (search merged Raw (pos 0) (pos 5) (pos 0)) 3 ((0, 5) ∷ (1, 0) ∷ (2, 5) ∷ [])
-unfolding openWitness
-raw-straight = searched _ 4 3 _ refl refl refl
+-- one question through all three: candidates may differ, the list does not
+record Thrice (kind : Kind) (band threshold shift : ℤ) (count : ℕ) (list : List (ℕ × ℕ)) : Type 0 where
+  through-merged : Searched (search merged kind band threshold shift) count list
+  through-single : Searched (search single kind band threshold shift) count list
+  through-early : Searched (search early kind band threshold shift) count list
 
-raw-straight-again : Searched (search single Raw (pos 0) (pos 5) (pos 0)) 3 ((0, 5) ∷ (1, 0) ∷ (2, 5) ∷ [])
+raw-straight : Thrice Raw (pos 0) (pos 5) (pos 0) 3 ((0, 5) ∷ (1, 0) ∷ (2, 5) ∷ [])
 unfolding openWitness
-raw-straight-again = searched _ 3 3 _ refl refl refl
+raw-straight = record { through-merged = searched _ 4 3 _ refl refl refl; through-single = searched _ 3 3 _ refl refl refl; through-early = searched _ 4 3 _ refl refl refl }
 
-raw-straight-early : Searched (search early Raw (pos 0) (pos 5) (pos 0)) 3 ((0, 5) ∷ (1, 0) ∷ (2, 5) ∷ [])
+raw-warped : Thrice Raw (pos 1) (pos 4) (pos 0) 1 ((1, 0) ∷ [])
 unfolding openWitness
-raw-straight-early = searched _ 4 3 _ refl refl refl
+raw-warped = record { through-merged = searched _ 4 1 _ refl refl refl; through-single = searched _ 4 1 _ refl refl refl; through-early = searched _ 4 1 _ refl refl refl }
 
-raw-warped : Searched (search merged Raw (pos 1) (pos 4) (pos 0)) 1 ((1, 0) ∷ [])
+normal-straight : Thrice Normal (pos 0) (pos 0) (pos 2) 2 ((0, 0) ∷ (1, 0) ∷ [])
 unfolding openWitness
-raw-warped = searched _ 4 1 _ refl refl refl
+normal-straight = record { through-merged = searched _ 4 2 _ refl refl refl; through-single = searched _ 3 2 _ refl refl refl; through-early = searched _ 4 2 _ refl refl refl }
 
-raw-warped-again : Searched (search single Raw (pos 1) (pos 4) (pos 0)) 1 ((1, 0) ∷ [])
+normal-warped : Thrice Normal (pos 1) (pos 0) (pos 2) 2 ((0, 0) ∷ (1, 0) ∷ [])
 unfolding openWitness
-raw-warped-again = searched _ 4 1 _ refl refl refl
-
-raw-warped-early : Searched (search early Raw (pos 1) (pos 4) (pos 0)) 1 ((1, 0) ∷ [])
-unfolding openWitness
-raw-warped-early = searched _ 4 1 _ refl refl refl
-
-normal-straight : Searched (search merged Normal (pos 0) (pos 0) (pos 2)) 2 ((0, 0) ∷ (1, 0) ∷ [])
-unfolding openWitness
-normal-straight = searched _ 4 2 _ refl refl refl
-
-normal-straight-again : Searched (search single Normal (pos 0) (pos 0) (pos 2)) 2 ((0, 0) ∷ (1, 0) ∷ [])
-unfolding openWitness
-normal-straight-again = searched _ 3 2 _ refl refl refl
-
-normal-straight-early : Searched (search early Normal (pos 0) (pos 0) (pos 2)) 2 ((0, 0) ∷ (1, 0) ∷ [])
-unfolding openWitness
-normal-straight-early = searched _ 4 2 _ refl refl refl
-
-normal-warped : Searched (search merged Normal (pos 1) (pos 0) (pos 2)) 2 ((0, 0) ∷ (1, 0) ∷ [])
-unfolding openWitness
-normal-warped = searched _ 4 2 _ refl refl refl
-
-normal-warped-again : Searched (search single Normal (pos 1) (pos 0) (pos 2)) 2 ((0, 0) ∷ (1, 0) ∷ [])
-unfolding openWitness
-normal-warped-again = searched _ 4 2 _ refl refl refl
-
-normal-warped-early : Searched (search early Normal (pos 1) (pos 0) (pos 2)) 2 ((0, 0) ∷ (1, 0) ∷ [])
-unfolding openWitness
-normal-warped-early = searched _ 4 2 _ refl refl refl
+normal-warped = record { through-merged = searched _ 4 2 _ refl refl refl; through-single = searched _ 4 2 _ refl refl refl; through-early = searched _ 4 2 _ refl refl refl }

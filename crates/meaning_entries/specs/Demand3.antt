@@ -19,7 +19,7 @@ pairs (o ∷ os) (d ∷ ds) = (o, d) ∷ pairs os ds
 abbrev pub listIn : ℕ → SearchBuffers → List (ℕ × ℕ)
 listIn count b = take count (pairs b.offsets b.distances)
 
--- a search that kept its promise, through an index that passes the audit, and listed `count` matches
+-- a search that kept its promise, through an index that passes the audit against the part of the series that it covers, and listed `count` matches
 pub record Searched (c : SearchCall) (count : ℕ) (list : List (ℕ × ℕ)) : Type 0 where
   pub passes : PassesCovered c.index c.series
   pub before : SearchBuffers
@@ -52,7 +52,7 @@ Demand3 =
 abbrev pub Lists : SearchCall → ℕ → SearchBuffers → Type 0
 Lists c count after = (before : SearchBuffers) × (candidates : ℕ) × SearchKept c before (Found.All candidates count) after
 
--- its list is what a scan of all offsets lists, and that is exactly all matches
+-- its list is what a scan of all offsets lists, and that is exactly all matches (law: `scans-only`, there is one such list)
 pub record Scans (c : SearchCall) (count : ℕ) (after : SearchBuffers) : Type 0 where
   pub all : listIn count after ≡ allMatches (question c)
   pub exact : Exactly (question c) (listIn count after)

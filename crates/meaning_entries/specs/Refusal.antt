@@ -129,7 +129,7 @@ listShort room found = atZero 24 (ltb room found)
 abbrev pub seriesLines : ℕ → List ℤ → List Condition
 seriesLines most s = lengthOutside most (length s) ∷ valueOutside s ∷ []
 
--- 21 and 22: the index's windows, for a series of n values
+-- 21 and 22, of both audits: the index's windows, for a series of n values
 abbrev pub countLines : ℕ → Index → List Condition
 countLines n x = fewerWindows x n ∷ moreWindows x n ∷ []
 

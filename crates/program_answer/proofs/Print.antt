@@ -179,7 +179,7 @@ module _ (s q : List ℤ) (a : Asked) (free : AllPass (callLines (callOf s q a))
 
   all-here : searchMatches d ≡ allMatches (question d)
   unfolding openLines callLines callOf question
-  all-here = all-found x _ (Audit.passes-reached x s (Audit.passes-covered x s (build-passes c _ (build-free no-rows zeros zeros rows-long zeros-long zeros-long)))) query-some-here (omega (arith, scale-line _ _ (passed-line limit-part 10) .0 .least))
+  all-here = all-found x _ (Audit.whole-reached x s passed-here) query-some-here (omega (arith, scale-line _ _ (passed-line limit-part 10) .0 .least))
 
   sizes-here : (length (allMatches (question d)) ≤ 4096) × (length (foundText (length (allMatches (question d))) (searchCandidates d) (allMatches (question d))) ≤ 200000)
   unfolding question
