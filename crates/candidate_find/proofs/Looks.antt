@@ -1,5 +1,5 @@
--- Finding candidates, where nothing refuses the search before it looks: what its parts ask for is had (`put-asked`, `meet-asked`, `hand-asked`), and what they promise is the promise of finding (`gathered`).
-use Prim.Native.Nat.{ℕ, zero, suc, _+_, _-_, _*_, _/_, _<_, _≤_, min}
+-- Finding candidates, where nothing refuses the search before it looks: what its parts ask for is had (`put-asked`, `meet-asked`, `hand-asked`), and what they promise is that the candidates are gathered (`gathered`). By the plan that is the promise of finding (`halts`, `went`).
+use Prim.Native.Nat.{ℕ, zero, suc, _+_, _-_, _*_, _/_, _<_, _≤_}
 use borrow.Author.Tests.{eqb-true, eqb-false, not-true, not-false}
 use lib.Dec.{leb, eqb}
 use lib.IntN.{ℤ}
@@ -14,17 +14,17 @@ use Rattle.meaning_rows.proofs.Runs.{runs-cong}
 use Rattle.meaning_filter.specs.{declared.Ask.Ask, Range.rangeOf, Range.ranges, Candidates.admits, Matches.candidateAt, Matches.candidateRuns, Matches.candidateCount}
 use Rattle.meaning_filter.proofs.Candidates.{count, count-cong}
 use Rattle.meaning_entries.specs.Buffers.{filled, pairRoom}
-use Rattle.meaning_entries.specs.Search.{SearchCall, SearchBuffers, lentSearch, question, searchPlan, searchCandidates, lookedAfter, searchBuffers}
+use Rattle.meaning_entries.specs.Search.{SearchCall, SearchBuffers, lentSearch, question, listRoom}
 use Rattle.rows_judge.specs.{declared.Judged.Judged, Judged.judgedOf}
 use Rattle.rows_judge.proofs.Scan.{length-entries}
-use Rattle.refusals.specs.{declared.Refusal.Refusal, Refusal.refusalOf, Refusal.asRefusal}
+use Rattle.refusals.specs.{declared.Refusal.Refusal, Refusal.asRefusal}
 use Rattle.candidate_counts.proofs.{LeadingLaws.leading, LeadingLaws.Counted, Leading.leading-all}
 use Rattle.candidate_met.specs.{declared.Span.Span, Met.clampOf, Met.metSpan}
 use Rattle.candidate_met.proofs.{Parts.FoundAll, Meaning.cleared-zeros, Meaning.found-all, Stored.raised-most, Stored.lowered, Spanned.span-met, Spanned.span-inside, Spanned.span-few, Spanned.clamp-stands, Spanned.climbs}
 use Rattle.candidate_plan.specs.{Tables.planOf, Allowed.Allowed, Allowed.thePlan, Allowed.plan-is, Allowed.goes-on, Allowed.allowed}
 use Rattle.candidate_spans.specs.{Held.at, Held.RangesReady, Held.RangesHeld, Met.spanAt, Met.MeetReady, Met.AllMet, Raised.stretchHit}
 use Rattle.candidate_spans.proofs.Raised.{counted-all}
-use Rattle.candidate_find.specs.{declared.Sought.Sought, Sought.stopped, Sought.HandReady, Sought.HandedOut, Sought.SoughtKept}
+use Rattle.candidate_find.specs.{declared.Sought.Sought, Sought.stopped, Sought.HandReady, Sought.HandedOut, Sought.Gathered, Sought.SoughtKept}
 
 length-cleared : (l : List ℕ) → length (filled 0 [] l) ≡ length l
 unfolding filled
@@ -47,7 +47,7 @@ parts-le m w n a b c = by (m / w) (div-mul-le-self m w)
     by zero h = omega arith
     by (suc k) h = omega (arith, more k w a)
 
-module _ (s : List ℤ) (h : Head) (rows : List Row) (left right : List ℕ) (ask : Ask) (q : List ℤ) (b : SearchBuffers) (z : thePlan s h rows left right ask q b .number ≡ 0) where
+module _ (s : List ℤ) (h : Head) (rows : List Row) (left right : List ℕ) (ask : Ask) (q : List ℤ) (first last scratch : List ℕ) (a : Allowed s h (lent h rows left right) ask q (pairRoom first last) (length scratch)) where
   abbrev m : ℕ
   m = length q
 
@@ -69,13 +69,10 @@ module _ (s : List ℤ) (h : Head) (rows : List Row) (left right : List ℕ) (as
   abbrev range : ℕ → ℤ × ℤ
   range = rangeOf ask.kind (at q) m ask.limits w
 
-  a : Allowed s h x ask q (pairRoom b.left b.right) (length b.scratch)
-  a = allowed s h rows left right ask q b z
-
   window-in : (1 ≤ w) × (w ≤ 256)
   window-in = (a.formed.head.window.least, a.formed.head.window.most)
 
-  pub put-asked : RangesReady ask.kind q ask.limits w b.left b.right
+  pub put-asked : RangesReady ask.kind q ask.limits w first last
   put-asked =
       let k = parts-le m w _ window-in.0 a.window a.inside in
       record {
@@ -89,7 +86,7 @@ module _ (s : List ℤ) (h : Head) (rows : List Row) (left right : List ℕ) (as
         last-room = omega (arith, k, a.candidates-fit);
       }
 
-  module _ {first₁ last₁ : List ℕ} (held : RangesHeld ask.kind q ask.limits w b.left b.right first₁ last₁) where
+  module _ {first₁ last₁ : List ℕ} (held : RangesHeld ask.kind q ask.limits w first last first₁ last₁) where
     pub meet-asked : MeetReady rows p first₁ last₁
     meet-asked = record {
       climbs = climbs x a.formed;
@@ -118,7 +115,7 @@ module _ (s : List ℤ) (h : Head) (rows : List Row) (left right : List ℕ) (as
       inside : (i : ℕ) → i < p → getD last₂ i 0 ≤ length (entries left right)
       inside i k = rw (to-is i k) (span-inside x a.formed _ _)
 
-      pub hand-asked : HandReady s h left right q first₂ last₂ b.scratch
+      pub hand-asked : HandReady s h left right q first₂ last₂ scratch
       hand-asked = record {
         long = a.long;
         some = a.some;
@@ -132,7 +129,7 @@ module _ (s : List ℤ) (h : Head) (rows : List Row) (left right : List ℕ) (as
           last-room = omega (arith, all.last-long, held.last-long, put-asked.last-room);
           inside-left = λ i k. omega (arith, inside i k, length-entries left right);
           inside-right = λ i k. omega (arith, inside i k, length-entries left right);
-          room = omega (arith, length-cleared b.scratch, a.scratch-fits, a.window);
+          room = omega (arith, length-cleared scratch, a.scratch-fits, a.window);
           zeros = cleared-zeros _;
         };
         room = omega (arith, a.scratch-fits, a.window);
@@ -143,7 +140,7 @@ module _ (s : List ℤ) (h : Head) (rows : List Row) (left right : List ℕ) (as
       hit-is : (i j : ℕ) → i < p → stretchHit left right first₂ last₂ h.windows w i j ≡ admits x (range i) (j + i * w)
       hit-is i j k = rw (from-is i k, to-is i k) (ap (λ t. leb h.windows (j + i * w) || t) (span-met x a.formed _ _ _ ∙ clamp-stands x a.formed _ _))
 
-      module _ {t : Sought} {left′ right′ scratch : List ℕ} (e : HandedOut s h left right q first₂ last₂ b.scratch t left′ right′ scratch) where
+      module _ {t : Sought} {left′ right′ scratch′ : List ℕ} (e : HandedOut s h left right q first₂ last₂ scratch t left′ right′ scratch′) where
         counted : Counted x range n p e.counts
         counted = counted-all x range _ n p _ hit-is e.counted
 
@@ -165,60 +162,51 @@ module _ (s : List ℤ) (h : Head) (rows : List Row) (left right : List ℕ) (as
         unfolding candidateCount question
         count-is = count-cong lead _ n (λ j _. lead-is j)
 
-        left-is : left′ ≡ lookedAfter call b .left
-        unfolding lookedAfter
-        left-is = found.left-is ∙ ap (λ (y : List (ℕ × ℕ)). filled 0 (map (λ t. t.0) y) first₂) runs-are ∙ filled-same _ first₂ _ (all.first-long ∙ held.first-long)
+        pub gathered : Gathered call first last scratch t left′ right′ scratch′
+        gathered = record {
+          unrefused = e.goes-on;
+          runs = found.count-is ∙ ap length runs-are;
+          candidates = found.found-is ∙ count-is;
+          handed-left = found.left-is ∙ ap (λ (y : List (ℕ × ℕ)). filled 0 (map (λ t. t.0) y) first₂) runs-are ∙ filled-same _ first₂ _ (all.first-long ∙ held.first-long);
+          handed-right = found.right-is ∙ ap (λ (y : List (ℕ × ℕ)). filled 0 (map (λ t. t.1) y) last₂) runs-are ∙ filled-same _ last₂ _ (all.last-long ∙ held.last-long);
+          cleared = e.cleared;
+        }
 
-        right-is : right′ ≡ lookedAfter call b .right
-        unfolding lookedAfter
-        right-is = found.right-is ∙ ap (λ (y : List (ℕ × ℕ)). filled 0 (map (λ t. t.1) y) last₂) runs-are ∙ filled-same _ last₂ _ (all.last-long ∙ held.last-long)
+-- ---- by the plan
 
-        -- nothing refuses
-        unrefused : t.refusal ≡ refusalOf (searchPlan call b)
-        unfolding asRefusal
-        unrefused = e.goes-on ∙ sym (ap asRefusal (goes-on s h rows left right ask q b z))
-
-        pub counted-so : (t.runs ≡ length (candidateRuns x (question call))) × (t.candidates ≡ searchCandidates call)
-        counted-so = (found.count-is ∙ ap length runs-are, found.found-is ∙ count-is)
-
-        pub cleared-so : scratch ≡ lookedAfter call b .scratch
-        unfolding lookedAfter
-        cleared-so = e.cleared
-
-module _ (s : List ℤ) (h : Head) (rows : List Row) (left right : List ℕ) (ask : Ask) (q : List ℤ) (first last scratch : List ℕ) where
-  abbrev B : SearchBuffers
-  B = searchBuffers first last scratch [] []
+module _ (s : List ℤ) (h : Head) (rows : List Row) (left right : List ℕ) (ask : Ask) (q : List ℤ) (b : SearchBuffers) {j : Judged} {p : Refusal}
+    (judged : j ≡ judgedOf (lent h rows left right)) (planned : p ≡ planOf s h j ask q (listRoom b) (pairRoom b.left b.right) (length b.scratch)) where
+  abbrev plan : Refusal
+  plan = thePlan s h rows left right ask q b
 
   abbrev C : SearchCall
   C = lentSearch s h rows left right ask q
 
-  module _ (z : thePlan s h rows left right ask q B .number ≡ 0) {first₁ last₁ : List ℕ} (held : RangesHeld ask.kind q ask.limits h.window first last first₁ last₁)
-      {first₂ last₂ : List ℕ} (all : AllMet rows (length q / h.window) first₁ last₁ first₂ last₂) where
-    pub gathered : {t : Sought} {first′ last′ scratch′ : List ℕ} → HandedOut s h left right q first₂ last₂ scratch t first′ last′ scratch′ → SoughtKept C first last scratch t first′ last′ scratch′
-    gathered {t} e = record {
-      judged = unrefused s h rows left right ask q B z held all e;
-      stays = λ f. absurd (f (rw e.goes-on));
-      uncounted = λ f. absurd (f (rw e.goes-on));
-      counted = λ _. counted-so s h rows left right ask q B z held all e;
-      handed = λ _. (left-is s h rows left right ask q B z held all e, right-is s h rows left right ask q B z held all e, cleared-so s h rows left right ask q B z held all e);
-    }
-
-  -- a plan refuses
-  pub halted : (thePlan s h rows left right ask q B .number ≡ 0 → ⊥) → SoughtKept C first last scratch (stopped (thePlan s h rows left right ask q B)) first last scratch
-  halted f = record {
-    judged = plan-is s h rows left right ask q B;
-    stays = λ _. (refl, refl, refl);
-    uncounted = λ _. (refl, refl);
-    counted = λ e. absurd (f e);
-    handed = λ e. absurd (f e);
-  }
-
-module _ (s : List ℤ) (h : Head) (rows : List Row) (left right : List ℕ) (ask : Ask) (q : List ℤ) (first last scratch : List ℕ) {j : Judged} {p : Refusal} (judged : j ≡ judgedOf (lent h rows left right)) (planned : p ≡ planOf s h j ask q (min (length first) (length last)) (length scratch)) where
-  plan-here : p ≡ thePlan s h rows left right ask q (searchBuffers first last scratch [] [])
+  plan-here : p ≡ plan
   plan-here = planned ∙ rw judged
 
-  pub halts : not (eqb p.number 0) ≡ true → {t : Sought} → t ≡ stopped p → SoughtKept (lentSearch s h rows left right ask q) first last scratch t first last scratch
-  halts f e = rw (e, plan-here) (halted s h rows left right ask q first last scratch (λ z. eqb-false _ 0 (not-true _ f) (ap (λ r. r.number) plan-here ∙ z)))
+  -- it refuses
+  pub halts : not (eqb p.number 0) ≡ true → {t : Sought} → t ≡ stopped p → SoughtKept C b t b.left b.right b.scratch
+  halts f e = rw (e, plan-here) record {
+    judged = plan-is s h rows left right ask q b;
+    stays = λ _. (refl, refl, refl);
+    uncounted = λ _. (refl, refl);
+    gathered = λ g. absurd (eqb-false _ 0 (not-true _ f) (ap (λ r. r.number) plan-here ∙ g));
+  }
 
-  pub goes : not (eqb p.number 0) ≡ false → thePlan s h rows left right ask q (searchBuffers first last scratch [] []) .number ≡ 0
-  goes f = sym (ap (λ r. r.number) plan-here) ∙ eqb-true _ 0 (not-false _ f)
+  -- it does not
+  module _ (f : not (eqb p.number 0) ≡ false) where
+    free : plan.number ≡ 0
+    free = sym (ap (λ r. r.number) plan-here) ∙ eqb-true _ 0 (not-false _ f)
+
+    pub goes : Allowed s h (lent h rows left right) ask q (pairRoom b.left b.right) (length b.scratch)
+    goes = allowed s h rows left right ask q b free
+
+    pub went : {t : Sought} {left′ right′ scratch′ : List ℕ} → Gathered C b.left b.right b.scratch t left′ right′ scratch′ → SoughtKept C b t left′ right′ scratch′
+    unfolding asRefusal
+    went g = record {
+      judged = g.unrefused ∙ sym (ap asRefusal (goes-on s h rows left right ask q b free));
+      stays = λ n. absurd (n (rw g.unrefused));
+      uncounted = λ n. absurd (n (rw g.unrefused));
+      gathered = λ _. g;
+    }

@@ -4,11 +4,11 @@ use borrow.Author.Tests.{eqb-true, eqb-false}
 use mathlib.Core.List.{List}
 use mathlib.Core.Path.{_≡_, _∙_, sym, ap}
 use Rattle.meaning_filter.proofs.Candidates.{by-test}
-use Rattle.meaning_entries.specs.Search.{SearchCall}
+use Rattle.meaning_entries.specs.Search.{SearchCall, SearchBuffers}
 use Rattle.candidate_find.specs.{declared.Sought.Sought, Sought.SoughtKept}
 
-module _ (c : SearchCall) (left right scratch : List ℕ) {t u : Sought} {left′ right′ scratch′ left″ right″ scratch″ : List ℕ} where
-  pub sought-only : SoughtKept c left right scratch t left′ right′ scratch′ → SoughtKept c left right scratch u left″ right″ scratch″ → (t ≡ u) × (left′ ≡ left″) × (right′ ≡ right″) × (scratch′ ≡ scratch″)
+module _ (c : SearchCall) (b : SearchBuffers) {t u : Sought} {left′ right′ scratch′ left″ right″ scratch″ : List ℕ} where
+  pub sought-only : SoughtKept c b t left′ right′ scratch′ → SoughtKept c b u left″ right″ scratch″ → (t ≡ u) × (left′ ≡ left″) × (right′ ≡ right″) × (scratch′ ≡ scratch″)
   sought-only k l =
       let same = k.judged ∙ sym l.judged in
       let number = sym (ap (λ r. r.number) same) in
@@ -16,12 +16,14 @@ module _ (c : SearchCall) (left right scratch : List ℕ) {t u : Sought} {left�
       (λ yes.
       let z = eqb-true _ 0 yes in
       let y = number ∙ z in
-      let runs = k.counted z .0 ∙ sym (l.counted y .0) in
-      let candidates = k.counted z .1 ∙ sym (l.counted y .1) in (
+      let g = k.gathered z in
+      let h = l.gathered y in
+      let runs = g.runs ∙ sym h.runs in
+      let candidates = g.candidates ∙ sym h.candidates in (
         λ i. record { refusal = same i; runs = runs i; candidates = candidates i },
-        k.handed z .0 ∙ sym (l.handed y .0),
-        k.handed z .1 ∙ sym (l.handed y .1),
-        k.handed z .2 ∙ sym (l.handed y .2),
+        g.handed-left ∙ sym h.handed-left,
+        g.handed-right ∙ sym h.handed-right,
+        g.cleared ∙ sym h.cleared,
       ))
       (λ no.
       let z = eqb-false _ 0 no in

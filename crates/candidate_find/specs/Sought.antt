@@ -2,12 +2,12 @@
 use Prim.Native.Nat.{ℕ, _+_, _-_, _/_, _≤_}
 use lib.IntN.{ℤ}
 use lib.ListN.{length}
-use mathlib.Core.List.{List, []}
+use mathlib.Core.List.{List, [], map}
 use mathlib.Core.Path.{_≡_}
 use Rattle.meaning_rows.specs.{declared.Head.Head, Runs.runs}
 use Rattle.meaning_filter.specs.Matches.{candidateRuns}
 use Rattle.meaning_entries.specs.Buffers.{filled}
-use Rattle.meaning_entries.specs.Search.{SearchCall, question, searchPlan, searchCandidates, lookedAfter, searchBuffers}
+use Rattle.meaning_entries.specs.Search.{SearchCall, SearchBuffers, question, searchPlan, searchCandidates}
 use Rattle.refusals.specs.{declared.Refusal.Refusal, Refusal.refusalOf, Refusal.unrefused}
 use Rattle.candidate_counts.specs.Handed.{stood, Handed}
 use Rattle.candidate_plan.specs.Allowed.{mostValues, longestWindow}
@@ -22,13 +22,21 @@ stopped r = record { refusal = r; runs = 0; candidates = 0 }
 abbrev pub unstopped : ℕ → ℕ → Sought
 unstopped k n = record { refusal = unrefused; runs = k; candidates = n }
 
--- finding the candidates of a search, by the candidate buffer and the scratch before and after; the list is not needed
-pub record SoughtKept (c : SearchCall) (left right scratch : List ℕ) (t : Sought) (left′ right′ scratch′ : List ℕ) : Type 0 where
-  pub judged : t.refusal ≡ refusalOf (searchPlan c (searchBuffers left right scratch [] []))
-  pub stays : (t.refusal.number ≡ 0 → ⊥) → (left′ ≡ left) × (right′ ≡ right) × (scratch′ ≡ scratch)
+-- the candidates of a search that looks: counted, handed out in the candidate buffer, and the scratch is all 0
+pub record Gathered (c : SearchCall) (left right scratch : List ℕ) (t : Sought) (left′ right′ scratch′ : List ℕ) : Type 0 where
+  pub unrefused : t.refusal ≡ unrefused
+  pub runs : t.runs ≡ length (candidateRuns c.index (question c))
+  pub candidates : t.candidates ≡ searchCandidates c
+  pub handed-left : left′ ≡ filled 0 (map (λ x. x.0) (candidateRuns c.index (question c))) left
+  pub handed-right : right′ ≡ filled 0 (map (λ x. x.1) (candidateRuns c.index (question c))) right
+  pub cleared : scratch′ ≡ filled 0 [] scratch
+
+-- finding the candidates of a search, by its buffers before, and the candidate buffer and the scratch after; the list stays as it is
+pub record SoughtKept (c : SearchCall) (b : SearchBuffers) (t : Sought) (left′ right′ scratch′ : List ℕ) : Type 0 where
+  pub judged : t.refusal ≡ refusalOf (searchPlan c b)
+  pub stays : (t.refusal.number ≡ 0 → ⊥) → (left′ ≡ b.left) × (right′ ≡ b.right) × (scratch′ ≡ b.scratch)
   pub uncounted : (t.refusal.number ≡ 0 → ⊥) → (t.runs ≡ 0) × (t.candidates ≡ 0)
-  pub counted : t.refusal.number ≡ 0 → (t.runs ≡ length (candidateRuns c.index (question c))) × (t.candidates ≡ searchCandidates c)
-  pub handed : t.refusal.number ≡ 0 → (left′ ≡ lookedAfter c (searchBuffers left right scratch [] []) .left) × (right′ ≡ lookedAfter c (searchBuffers left right scratch [] []) .right) × (scratch′ ≡ lookedAfter c (searchBuffers left right scratch [] []) .scratch)
+  pub gathered : t.refusal.number ≡ 0 → Gathered c b.left b.right b.scratch t left′ right′ scratch′
 
 pub record HandReady (s : List ℤ) (h : Head) (left right : List ℕ) (q : List ℤ) (first last scratch : List ℕ) : Type 0 where
   pub long : length s ≤ mostValues

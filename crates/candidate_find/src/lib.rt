@@ -14,10 +14,11 @@ ghost use mathlib.Core.Path.{_≡_};
 ghost use Prim.Native.Nat.{_/_};
 ghost use lib.ListN.{length};
 ghost use Rattle.candidate_spans.specs.Held.{RangesReady, RangesHeld};
-ghost use Rattle.candidate_find.specs.Sought.{stopped, unstopped, HandReady, HandedOut, SoughtKept};
-ghost use mathlib.Core.List.{[]};
+ghost use Rattle.candidate_find.specs.Sought.{stopped, unstopped, HandReady, HandedOut, Gathered, SoughtKept};
+ghost use Rattle.meaning_rows.specs.Index.{lent};
+ghost use Rattle.meaning_entries.specs.Buffers.{pairRoom};
 ghost use Rattle.meaning_entries.specs.Search.{lentSearch, searchBuffers};
-ghost use Rattle.candidate_plan.specs.Allowed.{thePlan};
+ghost use Rattle.candidate_plan.specs.Allowed.{Allowed};
 
 // What finding candidates comes to: what refuses the search before it looks, or how many runs of candidates stand in the candidate buffer, and how many candidates they are.
 pub struct Sought {
@@ -90,7 +91,7 @@ pub fn hand_out(
     tell_sought(c.runs, c.candidates)
 }
 
-// The candidates, where nothing refuses the search before it looks.
+// The candidates of a search that looks.
 pub fn gather(
     series: &[i32],
     head: Head,
@@ -103,15 +104,15 @@ pub fn gather(
     last: &mut [u32],
     scratch: &mut [u16],
 ) -> Sought
-    requires { ⌜ thePlan (now series) head (now rows) (now left) (now right) ask (now query) (searchBuffers (now first) (now last) (now scratch) [] []) .number ≡ 0 ⌝ }
-    ensures { λ t. ⌜ SoughtKept (lentSearch (now (series .entry)) head (now (rows .entry)) (now (left .entry)) (now (right .entry)) ask (now (query .entry))) (now (first .entry)) (now (last .entry)) (now (scratch .entry)) t (now (first .exit)) (now (last .exit)) (now (scratch .exit)) ⌝ }
+    requires { ⌜ Allowed (now series) head (lent head (now rows) (now left) (now right)) ask (now query) (pairRoom (now first) (now last)) (length (now scratch)) ⌝ }
+    ensures { λ t. ⌜ Gathered (lentSearch (now (series .entry)) head (now (rows .entry)) (now (left .entry)) (now (right .entry)) ask (now (query .entry))) (now (first .entry)) (now (last .entry)) (now (scratch .entry)) t (now (first .exit)) (now (last .exit)) (now (scratch .exit)) ⌝ }
 {
     let parts = put_parts(ask, query, head, first, last);
     meet_parts(rows, parts, first, last);
     hand_out(series, head, left, right, query, first, last, scratch)
 }
 
-// Finds the candidates: judges the call and the index, and where nothing refuses the search before it looks, hands the candidates out.
+// Finds the candidates: judges the call, the index and the room of every buffer, and where nothing refuses the search before it looks, hands the candidates out. The list is not written.
 pub fn find_candidates(
     series: &[i32],
     head: Head,
@@ -123,8 +124,10 @@ pub fn find_candidates(
     first: &mut [u32],
     last: &mut [u32],
     scratch: &mut [u16],
+    offsets: &[u32],
+    distances: &[u64],
 ) -> Sought
-    ensures { λ t. ⌜ SoughtKept (lentSearch (now (series .entry)) head (now (rows .entry)) (now (left .entry)) (now (right .entry)) ask (now (query .entry))) (now (first .entry)) (now (last .entry)) (now (scratch .entry)) t (now (first .exit)) (now (last .exit)) (now (scratch .exit)) ⌝ }
+    ensures { λ t. ⌜ SoughtKept (lentSearch (now (series .entry)) head (now (rows .entry)) (now (left .entry)) (now (right .entry)) ask (now (query .entry))) (searchBuffers (now (first .entry)) (now (last .entry)) (now (scratch .entry)) (now (offsets .entry)) (now (distances .entry))) t (now (first .exit)) (now (last .exit)) (now (scratch .exit)) ⌝ }
 {
     let j = judge(head, rows, left, right);
     let r = plan_search(
@@ -136,6 +139,8 @@ pub fn find_candidates(
         first.len(),
         last.len(),
         scratch.len(),
+        offsets.len(),
+        distances.len(),
     );
     if r.number != 0 {
         return stop(r);

@@ -14,7 +14,7 @@ use Rattle.meaning_curves.proofs.Values.{AllIn}
 use Rattle.meaning_rows.specs.{declared.Row.Row, declared.Head.Head, Index.Index, Index.lent}
 use Rattle.meaning_rows.proofs.Judge.{WellFormed}
 use Rattle.meaning_filter.specs.{declared.Kind.Kind, declared.Limits.Limits, declared.Ask.Ask}
-use Rattle.meaning_entries.specs.Search.{SearchCall, SearchBuffers, lentSearch, searchPlan, searchAnswer, searchAfter}
+use Rattle.meaning_entries.specs.Search.{SearchCall, SearchBuffers, lentSearch, listRoom, searchPlan, searchAnswer, searchAfter}
 use Rattle.meaning_entries.specs.{declared.Found.Found, Refusal.firstRefusal, Refusal.normalFlat, Refusal.moreWindows, Buffers.pairRoom}
 use Rattle.meaning_entries.proofs.Lines.{long-line, values-line, query-line, below-line, band-line, threshold-line, scale-line, flat-line, formed-line, room-line}
 use Rattle.meaning_entries.proofs.Refusal.{AllPass, passed-is, openLines, passed-line, passed-behind, lacks}
@@ -62,7 +62,7 @@ module _ (s : List ℤ) (h : Head) (rows : List Row) (left right : List ℕ) (as
 
   -- the plan, where the index is judged
   abbrev pub thePlan : Refusal
-  thePlan = planOf s h (judgedOf X) ask q (pairRoom b.left b.right) (length b.scratch)
+  thePlan = planOf s h (judgedOf X) ask q (listRoom b) (pairRoom b.left b.right) (length b.scratch)
 
   pub plan-is : thePlan ≡ refusalOf (searchPlan call b)
   unfolding planOf searchPlan inputTable valuesTable numbersTable stateTable windowsTable moreWindows
@@ -116,6 +116,6 @@ module _ (s : List ℤ) (h : Head) (rows : List Row) (left right : List ℕ) (as
           shift = limits-in.1.most;
           not-flat = curved;
           formed = well;
-          candidates-fit = room-line _ _ (passed-line t 23);
-          scratch-fits = room-line _ _ (passed-line (passed-behind t 23) 23);
+          candidates-fit = room-line _ _ (passed-line (passed-behind t 23) 23);
+          scratch-fits = room-line _ _ (passed-line (passed-behind (passed-behind t 23) 23) 23);
         }

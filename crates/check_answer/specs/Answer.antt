@@ -1,4 +1,4 @@
--- What a search that looked answers, by the room of its list (`answerOf`), and how the list stands then (`Answers`).
+-- What a search that looked answers, for all matches by the room of its list (`answerOf`), and how the list stands then (`Answers`).
 use Prim.Native.Nat.{ℕ, _<_, _≤_}
 use lib.Dec.{leb}
 use lib.IntN.{ℤ}
@@ -8,7 +8,7 @@ use mathlib.Core.List.{List}
 use mathlib.Core.Path.{_≡_}
 use Rattle.meaning_curves.specs.Curve.{at, spread}
 use Rattle.meaning_curves.proofs.Values.{AllIn}
-use Rattle.meaning_filter.specs.{declared.Kind.Kind, declared.Limits.Limits, declared.Ask.Ask, Matches.Question}
+use Rattle.meaning_filter.specs.{declared.Kind.Kind, declared.Limits.Limits, declared.Pick.Pick, declared.Ask.Ask, Matches.Question}
 use Rattle.meaning_entries.specs.{declared.Found.Found, Buffers.pairRoom}
 use Rattle.check_list.specs.Listed.{ListFilled}
 
@@ -26,11 +26,12 @@ pub record Limited (kind : Kind) (s q : List ℤ) (l : Limits) : Type 0 where
   pub scale : l.scale ≤ 100
   pub not-flat : kind ≡ Kind.Normal → 0 < spread (at q) (length q)
 
--- all matches, or as many as there is room for
-unfoldable pub answerOf : ℕ → ℕ → ℕ → Found
-answerOf candidates matches room = cond (leb matches room) (Found.All candidates matches) (Found.Full candidates matches)
+-- all matches, or as many as there is room for; or the closest few, for which there is room
+unfoldable pub answerOf : Pick → ℕ → ℕ → ℕ → Found
+answerOf Pick.All candidates matches room = cond (leb matches room) (Found.All candidates matches) (Found.Full candidates matches)
+answerOf (Pick.Closest k) candidates matches room = Found.Few candidates matches
 
--- l is listed as far as there is room, with 0 behind it, and that is answered
-pub record Answers (l : List (ℕ × ℕ)) (candidates : ℕ) (answer : Found) (offsets distances offsets′ distances′ : List ℕ) : Type 0 where
-  pub answered : answer ≡ answerOf candidates (length l) (pairRoom offsets distances)
-  pub list : ListFilled l (length l) offsets distances offsets′ distances′
+-- what is handed out of l is listed as far as there is room, with 0 behind it, and that is answered
+pub record Answers (pick : Pick) (l : List (ℕ × ℕ)) (candidates : ℕ) (answer : Found) (offsets distances offsets′ distances′ : List ℕ) : Type 0 where
+  pub answered : answer ≡ answerOf pick candidates (length l) (pairRoom offsets distances)
+  pub list : ListFilled pick l (length l) offsets distances offsets′ distances′

@@ -7,15 +7,15 @@ use mathlib.Core.Path.{_≡_}
 use Rattle.meaning_numbers.specs.Place.{keep}
 use Rattle.meaning_curves.proofs.Values.{AllIn}
 use Rattle.meaning_rows.proofs.Runs.{Apart}
-use Rattle.meaning_filter.specs.{declared.Kind.Kind, declared.Limits.Limits, Matches.Question, Matches.matchesAt, Matches.listed}
+use Rattle.meaning_filter.specs.{declared.Kind.Kind, declared.Limits.Limits, declared.Pick.Pick, Matches.Question, Matches.matchesAt, Matches.listed}
 use Rattle.meaning_entries.specs.Demand3.{pairs}
 use Rattle.values.specs.Sums.{AreSums}
 use Rattle.distance_query.specs.Ready.{Ready}
 use Rattle.distance_within.specs.declared.Match.{Match}
 
 -- what is looked for
-abbrev pub asked : Kind → List ℤ → List ℤ → Limits → Question
-asked kind s q l = record { series = s; query = q; ask = record { kind = kind; limits = l } }
+abbrev pub asked : Pick → Kind → List ℤ → List ℤ → Limits → Question
+asked pick kind s q l = record { series = s; query = q; ask = record { kind = kind; limits = l; pick = pick } }
 
 -- what was made of the query once, and sizes
 pub record Prepared (kind : Kind) (s q : List ℤ) (l : Limits) (curve low high : List ℤ) (p A : ℕ) : Type 0 where

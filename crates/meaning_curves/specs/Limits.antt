@@ -1,4 +1,4 @@
--- The limits of document 01, 'The product' and 'Rows': what each quantity may be by itself. Those against n and w stand with their refusals (`Refusal`), that of 18 digits with numbers (`Number`).
+-- The limits of document 01, 'The product' and 'Rows', and of document 02: what each quantity may be by itself. Those against n and w stand with their refusals (`Refusal`), that of 18 digits with numbers (`Number`).
 use Prim.Native.Nat.{ℕ}
 use lib.IntN.{ℤ, pos, negsuc, _-ℤ_}
 use mathlib.Core.Bool.{Bool, not}
@@ -83,6 +83,13 @@ greatestShift = 20000
 
 abbrev pub shiftIn : ℤ → Bool
 shiftIn h = within (pos 0) (pos greatestShift) h
+
+-- the closest few, k (02, item 2): 1 to 64
+abbrev pub mostClosest : ℕ
+mostClosest = 64
+
+abbrev pub closestIn : ℤ → Bool
+closestIn k = within (pos 1) (pos mostClosest) k
 
 -- windows of an index: at least one, at most 1,048,576
 abbrev pub windowsIn : ℤ → Bool

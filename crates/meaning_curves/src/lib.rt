@@ -1,4 +1,4 @@
-// The limits of document 01 for the code, as specs/Limits has them. Of series, stretches and distances specs/ has the definitions, proofs/ what they imply.
+// The limits of documents 01 and 02 for the code, as specs/Limits has them. Of series, stretches and distances specs/ has the definitions, proofs/ what they imply.
 ghost use mathlib.Core.Path.{_≡_};
 ghost use Rattle.meaning_curves.specs.Constants.{meant};
 
@@ -36,6 +36,9 @@ pub const GREATEST_SCALE: u32 = 100;
 // Shift limit h: 0 to 20,000.
 pub const GREATEST_SHIFT: u32 = 20000;
 
+// The closest few, k (02, item 2): 1 to 64.
+pub const MOST_CLOSEST: u32 = 64;
+
 // Ends of a range: inside -4,000,000 to 4,000,000.
 pub const LOWEST_END: i32 = -4000000;
 
@@ -55,6 +58,7 @@ pub struct Constants {
     pub least: u32,
     pub scale: u32,
     pub shift: u32,
+    pub closest: u32,
     pub bottom: i32,
     pub top: i32,
 }
@@ -75,6 +79,7 @@ pub fn all_limits() -> Constants
         least: LEAST_SCALE,
         scale: GREATEST_SCALE,
         shift: GREATEST_SHIFT,
+        closest: MOST_CLOSEST,
         bottom: LOWEST_END,
         top: HIGHEST_END,
     }

@@ -1,8 +1,9 @@
 -- Two audits and two searches as one call: what is answered by what each audit and each search means (`demand-by`), case by case too, and that this paper's number, place, values and counts of the answer are those that are meant. By cases on the audits and on the refusals.
 use Rattle.meaning_numbers.proofs.Prelude.{_≡_, refl, sym, ap, _∙_, Bool, true, false, cond, Option, none, some, Option·some-ne-none, ℕ, length}
 use Rattle.meaning_rows.specs.Index.{Index}
+use Rattle.meaning_filter.specs.declared.Pick.{Pick}
 use Rattle.meaning_entries.specs.Both.{yes, toldSecond, toldFound, told, auditOf, demandAnswer, inTurn, demandRefusal, demandWrong, demandMissing, demandCounts, demandFound}
-use Rattle.meaning_entries.specs.Search.{SearchCall, SearchBuffers, searchMatches, searchCandidates, searchRefusal, searchAnswer, searchAfter}
+use Rattle.meaning_entries.specs.Search.{SearchCall, SearchBuffers, searchMatches, searchCandidates, searchRefusal, searchTold, searchAnswer, searchAfter}
 use Rattle.meaning_entries.specs.{declared.Audited.Audited, declared.Found.Found, declared.Both.Both, Audit.AuditCall, Audit.auditAnswer, Audit.PassesCovered, Demand2.AuditKept, Demand2.SearchKept, Demand3.through, Answers.foundRefusal, Answers.bothRefusal, Answers.bothWrong, Answers.bothMissing, Answers.bothCounts, Answers.bothFound}
 use Rattle.meaning_entries.proofs.Demand2.{audit-kept, search-kept}
 
@@ -22,19 +23,21 @@ is-some none fails = absurd (fails refl)
 first-refused : (f g : Found) (r : ℕ × ℕ) → foundRefusal f ≡ some r → toldFound f g ≡ Both.FirstSearch f
 unfolding toldFound
 first-refused (Found.All candidates matches) g r e = absurd (Option·some-ne-none _ (sym e))
+first-refused (Found.Few candidates matches) g r e = absurd (Option·some-ne-none _ (sym e))
 first-refused (Found.Full candidates matches) g r e = refl
 first-refused (Found.Refused number place) g r e = refl
 
 second-refused : (count : ℕ) (g : Found) (r : ℕ × ℕ) → foundRefusal g ≡ some r → toldSecond count g ≡ Both.SecondSearch g
 unfolding toldSecond
 second-refused count (Found.All candidates matches) r e = absurd (Option·some-ne-none _ (sym e))
+second-refused count (Found.Few candidates matches) r e = absurd (Option·some-ne-none _ (sym e))
 second-refused count (Found.Full candidates matches) r e = refl
 second-refused count (Found.Refused number place) r e = refl
 
--- one that is not lists its matches
-pub all-told : (c : SearchCall) (b : SearchBuffers) → searchRefusal c b ≡ none → searchAnswer c b ≡ Found.All (searchCandidates c) (length (searchMatches c))
-unfolding searchAnswer
-all-told c b e = rw (e, searchAnswer) refl
+-- one that is not, and hands out all matches, lists them
+pub all-told : (c : SearchCall) (b : SearchBuffers) → c.ask.pick ≡ Pick.All → searchRefusal c b ≡ none → searchAnswer c b ≡ Found.All (searchCandidates c) (length (searchMatches c))
+unfolding searchAnswer searchTold
+all-told c b p e = rw (e, searchAnswer) (ap (λ q. searchTold q (searchCandidates c) (length (searchMatches c))) p)
 
 kept : (c : SearchCall) (b : SearchBuffers) → SearchKept c b (searchAnswer c b) (searchAfter c b)
 kept c b = search-kept c b _ _ refl refl
@@ -42,7 +45,7 @@ kept c b = search-kept c b _ _ refl refl
 audit : (c : AuditCall) → AuditKept c (auditAnswer c)
 audit c = audit-kept c _ refl
 
-module _ (c : SearchCall) (x : Index) (b₁ b₂ : SearchBuffers) where
+module _ (c : SearchCall) (x : Index) (b₁ b₂ : SearchBuffers) (picks : c.ask.pick ≡ Pick.All) where
   abbrev one : Audited
   one = auditAnswer (auditOf c)
 
@@ -62,8 +65,8 @@ module _ (c : SearchCall) (x : Index) (b₁ b₂ : SearchBuffers) where
       → _≡_ {A = A} (F (toldFound first second)) (elim o [ some r ↦ F (Both.FirstSearch first) | none ↦ elim p [ some r ↦ F (Both.SecondSearch second) | none ↦ F listed ] ])
   unfolding toldFound toldSecond
   searches-by F (some r) p e h = ap F (first-refused first second r (kept c b₁ .refused ∙ e))
-  searches-by F none (some r) e h = ap F (ap (λ (f : Found). toldFound f second) (all-told c b₁ e) ∙ second-refused _ second r (kept _ b₂ .refused ∙ h))
-  searches-by F none none e h = ap F (rw (all-told c b₁ e, all-told _ b₂ h) refl)
+  searches-by F none (some r) e h = ap F (ap (λ (f : Found). toldFound f second) (all-told c b₁ picks e) ∙ second-refused _ second r (kept _ b₂ .refused ∙ h))
+  searches-by F none none e h = ap F (rw (all-told c b₁ picks e, all-told _ b₂ picks h) refl)
 
   told-by : {A : Type 0} (F : Both → A) (s t : Bool) → yes one ≡ s → yes two ≡ t → F (told one two first second) ≡ cond s (cond t (F (toldFound first second)) (F (Both.SecondAudit two))) (F (Both.FirstAudit one))
   unfolding told

@@ -2,10 +2,10 @@
 use Rattle.meaning_numbers.proofs.Table.{sameList}
 use Rattle.meaning_numbers.proofs.Prelude.{Bool, _&&_, List, [], _∷_, _++_, Option, none, some, ℕ, eqb, ℤ, pos, negsuc, natAbs, drop, replicate}
 use Rattle.meaning_rows.specs.{declared.Row.Row, declared.Head.Head, Index.Index, Index.lent}
-use Rattle.meaning_filter.specs.{declared.Kind.Kind, declared.Kind.the-variants.Raw, declared.Kind.the-variants.Normal, declared.Ask.Ask}
+use Rattle.meaning_filter.specs.{declared.Kind.Kind, declared.Kind.the-variants.Raw, declared.Kind.the-variants.Normal, declared.Pick.Pick, declared.Ask.Ask}
 use Rattle.meaning_text.specs.{Bytes.bytes, Form.spell, Texts.seriesForm}
 use Rattle.meaning_entries.specs.Answers.{builtCounts, extendedCounts, loadedCounts, foundCounts, bothRefusal, bothWrong, bothMissing, bothCounts, bothFound}
-use Rattle.meaning_entries.specs.{declared.Built.Built, declared.Extended.Extended, declared.Audited.Audited, declared.Written.Written, declared.Loaded.Loaded, declared.Found.Found, declared.Both.Both, Buffers.IndexBuffers, Build.BuildCall, Build.lentBuild, Build.buildAnswer, Build.buildAfter, Extend.ExtendCall, Extend.lentExtend, Extend.extendAnswer, Extend.extendAfter, Audit.lentAudit, Audit.auditAnswer, Write.writeAnswer, Write.writeAfter, Load.loadAnswer, Load.loadAfter, Search.SearchCall, Search.SearchBuffers, Search.lentSearch, Search.searchAnswer, Search.searchAfter, Both.demandAnswer, AuditText.auditTextAnswer, AuditText.auditText, AuditText.pack, AuditText.unpack, Program.program}
+use Rattle.meaning_entries.specs.{declared.Built.Built, declared.Extended.Extended, declared.Audited.Audited, declared.Written.Written, declared.Loaded.Loaded, declared.Found.Found, declared.Both.Both, Buffers.IndexBuffers, Build.BuildCall, Build.lentBuild, Build.buildAnswer, Build.buildAfter, Extend.ExtendCall, Extend.lentExtend, Extend.extendAnswer, Extend.extendAfter, Audit.lentAudit, Audit.auditAnswer, Write.writeAnswer, Write.writeAfter, Load.loadAnswer, Load.loadAfter, Search.SearchCall, Search.SearchBuffers, Search.handing, Search.lentSearch, Search.searchAnswer, Search.searchAfter, Both.demandAnswer, AuditText.auditTextAnswer, AuditText.auditText, AuditText.pack, AuditText.unpack, Program.program}
 
 -- ---- as numbers
 
@@ -40,6 +40,7 @@ audited (Audited.Refused n p) = 3 ∷ n ∷ p ∷ []
 found : Found → List ℕ
 found (Found.All candidates matches) = 0 ∷ candidates ∷ matches ∷ []
 found (Found.Full candidates matches) = 24 ∷ candidates ∷ matches ∷ []
+found (Found.Few candidates matches) = 1 ∷ candidates ∷ matches ∷ []
 found (Found.Refused n p) = n ∷ p ∷ []
 
 both : Both → List ℕ
@@ -117,13 +118,25 @@ searchIn s x kind q E = record {
   series = s;
   index = x;
   query = q;
-  ask = record { kind = kind; band = pos 0; threshold = E; scale = pos 10; shift = pos 0 };
+  ask = record { kind = kind; band = pos 0; threshold = E; scale = pos 10; shift = pos 0; pick = Pick.All };
 }
 
 -- the same in the worked series
 searchFor : Index → Kind → List ℤ → ℤ → SearchCall
 unfolding searchIn
 searchFor = searchIn worked
+
+-- the closest k of a search; 2 4 in the worked series with E = 5 has the matches (0, 5), (1, 0) and (2, 5)
+few : ℕ → SearchCall → SearchCall
+few k c = handing (Pick.Closest k) c
+
+fewFor : ℕ → SearchCall
+unfolding few searchFor workedIndex
+fewFor k = few k (searchFor workedIndex Raw (pos 2 ∷ pos 4 ∷ []) (pos 5))
+
+-- what stands in candidates and scratch then, and in a list with these columns
+fewAfter : List ℕ → List ℕ → List ℕ
+fewAfter offsets distances = 0 ∷ 0 ∷ 0 ∷ 0 ∷ 3 ∷ 0 ∷ 0 ∷ 0 ∷ 0 ∷ 0 ∷ 0 ∷ 0 ∷ (offsets ++ distances)
 
 -- buffers that hold sevens: so many candidates, scratch entries and list entries
 lists : ℕ → ℕ → ℕ → SearchBuffers
@@ -162,7 +175,7 @@ apart windows = record { window = 2; width = 3; windows = windows }
 
 -- b = 1, E = 0, a = 20, h = 2
 asks : Kind → Ask
-asks kind = record { kind = kind; limits = record { band = 1; threshold = 0; scale = 20; shift = 2 } }
+asks kind = record { kind = kind; limits = record { band = 1; threshold = 0; scale = 20; shift = 2 }; pick = Pick.All }
 
 -- the index of the worked series at g = 0
 unmerged : Index
@@ -183,7 +196,7 @@ unfolding other
 misfiled = other (row (pos 2) (pos 4) 0 1 ∷ []) (0 ∷ []) (3 ∷ [])
 
 unfoldable pub calls : List Bool
-unfolding worked workedIndex row build builds grows searchIn searchFor lists finds audited audits demands packs other unmerged early late misfiled apart asks sevens same grown loaded written pair place numbers
+unfolding worked workedIndex row build builds grows searchIn searchFor few fewFor fewAfter lists finds audited audits demands packs other unmerged early late misfiled apart asks sevens same grown loaded written pair place numbers
 calls =
     -- build: success, unused entries 0, also past the shorter slice; refused, nothing altered
     builds (build worked (pos 2) (pos 2) (pos 80)) (sevens 4 4 5) (2 ∷ 2 ∷ 4 ∷ 2 ∷ 2 ∷ [])
@@ -247,6 +260,19 @@ calls =
     ∷ finds (searchFor (lent (record { window = 0; width = 2; windows = 4 }) [] [] []) Raw (pos 2 ∷ pos 4 ∷ []) (pos 0)) (lists 0 0 0) (20 ∷ 0 ∷ []) []
     ∷ finds (searchFor workedIndex Normal (pos 5 ∷ pos 5 ∷ []) (pos 0)) (lists 0 0 0) (11 ∷ 0 ∷ []) []
     ∷ finds (searchFor workedIndex Raw [] (pos 0)) (lists 0 0 0) (6 ∷ 0 ∷ []) []
+    -- the closest few: equal distances by earlier offset, true counts, no 24, 0 behind them; all of them if there are fewer
+    ∷ finds (fewFor 1) (lists 4 4 1) (1 ∷ 4 ∷ 3 ∷ []) (fewAfter (1 ∷ []) (0 ∷ []))
+    ∷ finds (fewFor 2) (lists 4 4 3) (1 ∷ 4 ∷ 3 ∷ []) (fewAfter (1 ∷ 0 ∷ 0 ∷ []) (0 ∷ 5 ∷ 0 ∷ []))
+    ∷ finds (fewFor 3) (lists 4 4 3) (1 ∷ 4 ∷ 3 ∷ []) (fewAfter (1 ∷ 0 ∷ 2 ∷ []) (0 ∷ 5 ∷ 5 ∷ []))
+    ∷ finds (fewFor 64) (lists 4 4 65) (1 ∷ 4 ∷ 3 ∷ []) (fewAfter (1 ∷ 0 ∷ 2 ∷ replicate 62 0) (0 ∷ 5 ∷ 5 ∷ replicate 62 0))
+    -- a list of fewer entries, also where fewer match; 30 before 23, 20 and 11, and after 10
+    ∷ finds (fewFor 2) (lists 4 4 1) (23 ∷ 0 ∷ []) (replicate 14 7)
+    ∷ finds (fewFor 64) (lists 4 4 63) (23 ∷ 0 ∷ []) (replicate 138 7)
+    ∷ finds (fewFor 2) (record { left = replicate 4 7; right = replicate 4 7; scratch = replicate 4 7; offsets = replicate 3 7; distances = replicate 1 7 }) (23 ∷ 0 ∷ []) (replicate 16 7)
+    ∷ finds (fewFor 0) (lists 4 4 4) (30 ∷ 0 ∷ []) (replicate 20 7)
+    ∷ finds (fewFor 65) (lists 0 0 0) (30 ∷ 0 ∷ []) []
+    ∷ finds (few 0 (searchFor (lent (record { window = 0; width = 2; windows = 4 }) [] [] []) Normal (pos 5 ∷ pos 5 ∷ []) (pos 0))) (lists 0 0 0) (30 ∷ 0 ∷ []) []
+    ∷ finds (few 0 (lentSearch worked (apart 2) [] [] [] (record { kind = Raw; limits = record { band = 0; threshold = 0; scale = 9; shift = 0 }; pick = Pick.All }) (pos 1 ∷ pos 2 ∷ []))) (lists 0 0 0) (10 ∷ 0 ∷ []) []
     -- each slice of a pair too short by itself; scratch holds windows, and not offsets, where m is above w
     ∷ builds (build worked (pos 2) (pos 2) (pos 80)) (sevens 4 3 4) (23 ∷ 0 ∷ []) (replicate 23 7)
     ∷ grows (record { series = worked; index = workedIndex }) (sevens 4 4 3) (23 ∷ 0 ∷ []) (replicate 23 7)
@@ -284,6 +310,7 @@ calls =
     ∷ same (pair (extendedCounts (Extended.Index (apart 4) 2 3))) (2 ∷ 3 ∷ [])
     ∷ same (pair (loadedCounts (Loaded.Index (apart 4) 2 3))) (2 ∷ 3 ∷ [])
     ∷ same (pair (foundCounts (Found.All 4 3))) (4 ∷ 3 ∷ [])
+    ∷ same (pair (foundCounts (Found.Few 4 3))) (4 ∷ 3 ∷ [])
     -- the audit of two texts takes 4,096 values and no more; the index is of another series
     ∷ same (audited (auditTextAnswer (bytes "(index (window 1) (width 1) (windows 1)\n)\n") (spell seriesForm (replicate 4096 (pos 0))))) (3 ∷ 21 ∷ 0 ∷ [])
     ∷ same (audited (auditTextAnswer (bytes "(index (window 1) (width 1) (windows 1)\n)\n") (spell seriesForm (replicate 4097 (pos 0))))) (3 ∷ 1 ∷ 0 ∷ [])

@@ -4,7 +4,7 @@ use Rattle.meaning_numbers.proofs.Table.{holds, sameℤ, sameList}
 use Rattle.meaning_numbers.proofs.Prelude.{Bool, not, _&&_, List, [], _∷_, _++_, map, ℕ, T, eqb, ℤ, pos, negsuc}
 use Rattle.meaning_curves.specs.{Curve.at, Normal.normalised, Match.distance, Match.normalMatch}
 use Rattle.meaning_rows.specs.{Range.rowNumber, Range.lowOf, Range.upOf, Build.built}
-use Rattle.meaning_filter.specs.{declared.Kind.the-variants.Raw, Envelope.lower, Envelope.upper, Matches.Question, Matches.candidateRuns}
+use Rattle.meaning_filter.specs.{declared.Kind.the-variants.Raw, declared.Pick.Pick, Envelope.lower, Envelope.upper, Matches.Question, Matches.candidateRuns}
 use Rattle.meaning_entries.proofs.{Open.openEntries, Row.prints, Row.openRow, Calls.calls, Edges.edges, Vectors.vectors}
 
 -- the values of a curve of n places
@@ -19,7 +19,7 @@ above : Question
 above = record {
   series = pos 1 ∷ pos 2 ∷ pos 4 ∷ pos 3 ∷ pos 1 ∷ [];
   query = pos 2 ∷ pos 4 ∷ [];
-  ask = record { kind = Raw; limits = record { band = 0; threshold = 4; scale = 10; shift = 0 } };
+  ask = record { kind = Raw; limits = record { band = 0; threshold = 4; scale = 10; shift = 0 }; pick = Pick.All };
 }
 
 starred : List Bool

@@ -4,7 +4,8 @@ use Rattle.meaning_curves.specs.Limits.{mostValues}
 use Rattle.meaning_rows.specs.{Index.Index, Audit.firstWrong}
 use Rattle.meaning_text.specs.Texts.{refusedText}
 use Rattle.meaning_entries.specs.Demand1.{BuildRefuses, ExtendRefuses, AuditRefuses, WriteRefuses, LoadRefuses, SearchRefuses, AuditTextRefuses, ProgramRefuses}
-use Rattle.meaning_entries.specs.Search.{SearchCall, SearchBuffers, listRoom, searchPlan, searchTable, searchRefused, searchAnswer}
+use Rattle.meaning_filter.specs.declared.Pick.{Pick}
+use Rattle.meaning_entries.specs.Search.{SearchCall, SearchBuffers, listRoom, searchPlan, searchTable, searchRefused, searchTold, searchAnswer}
 use Rattle.meaning_entries.specs.{Refusal.Condition, Refusal.firstRefusal, Refusal.listShort, Buffers.IndexBuffers, Build.BuildCall, Build.buildTable, Build.buildAnswer, Extend.ExtendCall, Extend.extendTable, Extend.extendAnswer, Audit.AuditCall, Audit.auditTable, Audit.complete, Audit.audited, Audit.auditAnswer, Write.writeTable, Write.writeAnswer, Load.loadTable, Load.loadAnswer, AuditText.auditTextTable, AuditText.auditTextAnswer, AuditText.auditText, Program.textProgram, Program.programTable, Program.printed, Program.program, Answers.builtRefusal, Answers.extendedRefusal, Answers.auditedRefusal, Answers.writtenRefusal, Answers.loadedRefusal, Answers.foundRefusal}
 use Rattle.meaning_entries.proofs.{Refusal.openLines, Refusal.First, Refusal.here, Refusal.later, Refusal.is-first, Pack.audit-text-back}
 
@@ -116,9 +117,14 @@ refused-by c n p true e z =
     rw (e, searchRefused) (rw (i, z i) refl)
 refused-by c n p false e z = rw (e, searchRefused)
 
+told-free : (p : Pick) (a n : ℕ) → foundRefusal (searchTold p a n) ≡ none
+unfolding searchTold
+told-free Pick.All a n = refl
+told-free (Pick.Closest k) a n = refl
+
 search-by : (c : SearchCall) (b : SearchBuffers) (o : Option (ℕ × ℕ)) → firstRefusal (searchTable c b) ≡ o → foundRefusal (searchAnswer c b) ≡ o
 unfolding searchAnswer
-search-by c b none e = rw (e, searchAnswer)
+search-by c b none e = rw (e, searchAnswer) (told-free c.ask.pick _ _)
 search-by c b (some r) e =
     rw (e, searchAnswer) (refused-by c r.0 r.1 _ refl (search-zero c b (is-first _ r.0 r.1 e)))
 

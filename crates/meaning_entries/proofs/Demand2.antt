@@ -1,9 +1,10 @@
 -- Demand 2 for code: an entry that gives the answer that is meant and leaves the buffers that are meant keeps its promise; number, place and counts follow from the answer. By cases on the refusal.
 use Rattle.meaning_numbers.proofs.Prelude.{_≡_, refl, ap, _∙_, Bool, true, false, List, Option, none, some, ℕ, zero, suc, eqb}
 use Rattle.meaning_rows.specs.{Index.Index, Audit.firstWrong, Audit.missing}
+use Rattle.meaning_filter.specs.declared.Pick.{Pick}
 use Rattle.meaning_entries.specs.Answers.{builtRefusal, builtHead, builtCounts, extendedRefusal, extendedHead, extendedCounts, auditedRefusal, wrongPlace, missingCount, writtenRefusal, writtenCount, loadedRefusal, loadedHead, loadedCounts, foundRefusal, foundCounts}
 use Rattle.meaning_entries.specs.Demand2.{BuildKept, ExtendKept, AuditKept, WriteKept, LoadKept, SearchKept, AuditTextKept}
-use Rattle.meaning_entries.specs.Search.{SearchCall, SearchBuffers, searchRefusal, looked, searchRefused, searchAnswer, searchCounts, searchAfter}
+use Rattle.meaning_entries.specs.Search.{SearchCall, SearchBuffers, searchRefusal, looked, searchRefused, searchTold, searchAnswer, searchCounts, searchAfter}
 use Rattle.meaning_entries.specs.{Refusal.firstRefusal, declared.Built.Built, declared.Extended.Extended, declared.Audited.Audited, declared.Written.Written, declared.Loaded.Loaded, declared.Found.Found, Buffers.IndexBuffers, Build.BuildCall, Build.buildRefusal, Build.buildAnswer, Build.buildHead, Build.buildCounts, Build.buildAfter, Extend.ExtendCall, Extend.extendRefusal, Extend.extendAnswer, Extend.extendHead, Extend.extendCounts, Extend.extendAfter, Audit.AuditCall, Audit.complete, Audit.audited, Audit.auditAnswer, Audit.wrongIn, Audit.missingIn, Write.writeRefusal, Write.writeAnswer, Write.writeCount, Write.writeAfter, Load.loadRefusal, Load.loadAnswer, Load.loadHead, Load.loadCounts, Load.loadAfter, AuditText.auditTextAnswer, AuditText.unpack, AuditText.auditText}
 use Rattle.meaning_entries.proofs.Pack.{audit-text-back}
 use Rattle.meaning_entries.proofs.Demand1.{build-refuses, extend-refuses, audit-refuses, write-refuses, load-refuses, search-refuses, audit-text-refuses}
@@ -121,9 +122,14 @@ unfolding searchRefused searchCounts looked
 refused-counts c b r true e h = rw (e, h, searchRefused, searchCounts)
 refused-counts c b r false e h = rw (e, h, searchRefused, searchCounts)
 
+told-counts : (p : Pick) (candidates matches : ℕ) → foundCounts (searchTold p candidates matches) ≡ (candidates, matches)
+unfolding searchTold
+told-counts Pick.All candidates matches = refl
+told-counts (Pick.Closest k) candidates matches = refl
+
 search-by : (c : SearchCall) (b : SearchBuffers) (o : Option (ℕ × ℕ)) → searchRefusal c b ≡ o → foundCounts (searchAnswer c b) ≡ searchCounts c b
 unfolding searchAnswer searchCounts looked
-search-by c b none h = rw (h, searchAnswer, searchCounts)
+search-by c b none h = rw (h, searchAnswer, searchCounts) (told-counts c.ask.pick _ _)
 search-by c b (some r) h = rw (h, searchAnswer) (refused-counts c b r _ h refl)
 
 pub search-kept : (c : SearchCall) (b : SearchBuffers) (a : Found) (after : SearchBuffers) → a ≡ searchAnswer c b → after ≡ searchAfter c b → SearchKept c b a after

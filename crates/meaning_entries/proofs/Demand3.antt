@@ -1,18 +1,16 @@
 -- Demand 3, proved as specs/Demand3.antt states it. Each of the two searches has listed the matches that it means (`listed-is`), its index lets the filter reach every window (`passes-reached`),
--- so what it means is all matches (`all-found`), which do not depend on the index.
-use Rattle.meaning_numbers.proofs.Prelude.{_≡_, sym, ap, subst, _∙_, List, ℕ, arith, length}
+-- so what it means is all matches (`matches-all`), which do not depend on the index.
+use Rattle.meaning_numbers.proofs.Prelude.{_≡_, sym, ap, subst, _∙_, List, ℕ, length}
 use Rattle.meaning_filter.specs.Matches.{allMatches, Exactly}
-use Rattle.meaning_filter.proofs.Matches.{all-found, all-exactly}
-use Rattle.meaning_entries.specs.{Search.SearchCall, Search.question, Search.searchPlan, Search.searchTable, Demand3.Searched, Demand3.through, Demand3.Demand3}
-use Rattle.meaning_entries.proofs.{Refusal.is-passed, Refusal.openLines, Refusal.passed-line, Lines.query-line, Lines.scale-line, Listed.answered, Listed.listed-is, Passes.passes-reached}
+use Rattle.meaning_filter.proofs.Matches.{all-exactly}
+use Rattle.meaning_entries.specs.{Search.SearchCall, Search.question, Demand3.Searched, Demand3.through, Demand3.Demand3}
+use Rattle.meaning_entries.proofs.{Looked.plan-passed, Looked.matches-all, Listed.answered, Listed.listed-is}
 
 -- one search: its list is all matches, and its count is how many
 pub all-listed : (c : SearchCall) (n : ℕ) (l : List (ℕ × ℕ)) → Searched c n l → (l ≡ allMatches (question c)) × (n ≡ length (allMatches (question c)))
-unfolding openLines question searchPlan searchTable
 all-listed c n l s =
     let a = answered c s.before s.kept.answered in
-    let t = is-passed _ a.passed in
-    let f = all-found c.index (question c) (passes-reached c.index c.series s.passes) (query-line _ _ (passed-line t 6) .0 .least) (omega (arith, scale-line _ _ (passed-line t 10) .0 .least)) in
+    let f = matches-all c s.before (plan-passed c s.before a.passed) s.passes in
     (s.listed ∙ listed-is c s.before s.after s.kept ∙ f, a.counted ∙ ap length f)
 
 pub demand3 : Demand3

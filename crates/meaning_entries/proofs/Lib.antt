@@ -3,14 +3,16 @@ pub mod Open
 pub mod Refusal
 pub mod Lines
 pub mod Tables
+pub mod Passes
 pub mod Looked
 pub mod Demand1
 pub mod Demand2
 pub mod Only
+pub mod Pairs
 pub mod Listed
 pub mod Pack
-pub mod Passes
 pub mod Full
+pub mod Few
 pub mod Demand3
 pub mod BothTold
 pub mod Witness

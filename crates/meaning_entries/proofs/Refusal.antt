@@ -1,6 +1,6 @@
 -- The tables of refusals are total and exclusive: a call is refused by exactly one line, the first that applies, or by none, and then no line applies. A table in two parts is refused by the first part or else by the second (`first-left`, `first-right`). By induction on the table.
 use Rattle.meaning_numbers.proofs.Prelude.{_≡_, refl, sym, _∙_, subst₂, Bool, true, false, not, cond, _&&_, List, [], _∷_, _++_, _⊎_, inl, inr, Option, none, some, ℕ, arith, T, eqb, is-false, two-tests}
-use Rattle.meaning_entries.specs.Refusal.{Condition, firstRefusal, atZero, lengthOutside, valueOutside, windowOutside, widthOutside, mergeOutside, queryLengthOutside, queryBelowWindow, bandOutside, thresholdOutside, scaleOrShiftOutside, flatQuery, unreadable, illFormed, fewerWindows, moreWindows, bufferShort, listShort}
+use Rattle.meaning_entries.specs.Refusal.{Condition, firstRefusal, atZero, lengthOutside, valueOutside, windowOutside, widthOutside, mergeOutside, queryLengthOutside, queryBelowWindow, bandOutside, thresholdOutside, scaleOrShiftOutside, countOutside, flatQuery, unreadable, illFormed, fewerWindows, moreWindows, bufferShort, listShort}
 
 -- no line applies
 pub data AllPass : List Condition → Type 0 where
@@ -119,7 +119,7 @@ same-behind a x y f = by (judged a)
 
 -- every line's number, which stays shut until it is named: a proof that cites a line by its number says `unfolding openLines`
 unfoldable pub openLines : Unit {0}
-unfolding numbered behind lengthOutside valueOutside windowOutside widthOutside mergeOutside queryLengthOutside queryBelowWindow bandOutside thresholdOutside scaleOrShiftOutside flatQuery unreadable illFormed fewerWindows moreWindows bufferShort listShort
+unfolding numbered behind lengthOutside valueOutside windowOutside widthOutside mergeOutside queryLengthOutside queryBelowWindow bandOutside thresholdOutside scaleOrShiftOutside countOutside flatQuery unreadable illFormed fewerWindows moreWindows bufferShort listShort
 openLines = tt
 
 one-of : (t : Bool) (c d : Condition) → c.place ≡ none → d.place ≡ none → cond t c d .place ≡ none

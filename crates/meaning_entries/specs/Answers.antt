@@ -37,6 +37,7 @@ loadedRefusal (Loaded.Refused n p) = some (n, p)
 abbrev pub foundRefusal : Found → Option (ℕ × ℕ)
 foundRefusal (Found.All candidates matches) = none
 foundRefusal (Found.Full candidates matches) = some (24, 0)
+foundRefusal (Found.Few candidates matches) = none
 foundRefusal (Found.Refused n p) = some (n, p)
 
 -- of the audit or search that stood in the way
@@ -106,10 +107,11 @@ missingCount (Audited.Wrong row offset) = 0
 missingCount (Audited.Missing count) = count
 missingCount (Audited.Refused n p) = 0
 
--- how many candidates and matches; 24 gives both true counts
+-- how many candidates and matches; 24 and the closest few give both true counts
 abbrev pub foundCounts : Found → ℕ × ℕ
 foundCounts (Found.All candidates matches) = (candidates, matches)
 foundCounts (Found.Full candidates matches) = (candidates, matches)
+foundCounts (Found.Few candidates matches) = (candidates, matches)
 foundCounts (Found.Refused n p) = (0, 0)
 
 -- how many windows stand nowhere, of the audit that stood in the way

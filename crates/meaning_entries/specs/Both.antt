@@ -1,5 +1,6 @@
 -- Demand 3 as one call: two indexes, each audited against the part of the series that it covers, and the series searched for one query through both, each search with buffers of its own. `c` is the first search, `through x c` the same through the other index.
 -- What is answered, in the order in which it is looked at: both audits, then both searches. An audit that does not say yes, or a search that is refused, by 24 too, stands in the way, and the first that does is told.
+-- Demand 3 is about searches that give the whole list: `c` hands out all matches (02, item 2), so neither answers `Found.Few`.
 use Prim.Native.Nat.{ℕ}
 use lib.ListN.{length}
 use mathlib.Core.Bool.{Bool, true, false, cond}
@@ -19,11 +20,13 @@ yes (Audited.Refused number place) = false
 unfoldable pub toldSecond : ℕ → Found → Both
 toldSecond count (Found.All candidates matches) = Both.Listed count matches
 toldSecond count (Found.Full candidates matches) = Both.SecondSearch (Found.Full candidates matches)
+toldSecond count (Found.Few candidates matches) = Both.SecondSearch (Found.Few candidates matches)
 toldSecond count (Found.Refused number place) = Both.SecondSearch (Found.Refused number place)
 
 unfoldable pub toldFound : Found → Found → Both
 toldFound (Found.All candidates matches) second = toldSecond matches second
 toldFound (Found.Full candidates matches) second = Both.FirstSearch (Found.Full candidates matches)
+toldFound (Found.Few candidates matches) second = Both.FirstSearch (Found.Few candidates matches)
 toldFound (Found.Refused number place) second = Both.FirstSearch (Found.Refused number place)
 
 -- what two audits and two searches come to

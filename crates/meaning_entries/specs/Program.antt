@@ -6,7 +6,7 @@ use mathlib.Core.List.{List, [], _∷_, _++_}
 use mathlib.Core.Option.{none, some}
 use Rattle.meaning_curves.specs.Limits.{mostProgramValues}
 use Rattle.meaning_rows.specs.Index.{Index}
-use Rattle.meaning_filter.specs.declared.Kind.the-variants.{Raw}
+use Rattle.meaning_filter.specs.{declared.Kind.the-variants.Raw, declared.Pick.Pick}
 use Rattle.meaning_text.specs.{Form.Value, Read.fine, Read.unfit, Read.readText, Texts.programForm, Texts.kindSaid, Texts.indexText, Texts.foundText, Texts.refusedText}
 use Rattle.meaning_entries.specs.{Refusal.Condition, Refusal.firstRefusal, Refusal.flatQuery, Refusal.unreadable, Build.widthLines, Build.buildIndex, Search.Asking, Search.SearchCall, Search.valueLines, Search.limitLines, Search.searchCandidates, Search.searchMatches}
 
@@ -28,7 +28,7 @@ programSaid v =
       merge = v.1.1.0;
       series = v.1.1.1.0;
       query = find.1.1.1.1.1;
-      ask = record { kind = kindSaid find.0; band = find.1.0; threshold = find.1.1.0; scale = find.1.1.1.0; shift = find.1.1.1.1.0 };
+      ask = record { kind = kindSaid find.0; band = find.1.0; threshold = find.1.1.0; scale = find.1.1.1.0; shift = find.1.1.1.1.0; pick = Pick.All };
     }
 
 -- the call that a text gives; of a text that cannot be read nothing is asked
@@ -41,7 +41,7 @@ textProgram t = elim (readText programForm t) [
     merge = pos 0;
     series = [];
     query = [];
-    ask = record { kind = Raw; band = pos 0; threshold = pos 0; scale = pos 0; shift = pos 0 };
+    ask = record { kind = Raw; band = pos 0; threshold = pos 0; scale = pos 0; shift = pos 0; pick = Pick.All };
   }
 ]
 

@@ -8,10 +8,10 @@ use lib.Signed.{ltZ}
 use mathlib.Core.Bool.{Bool, true, false, not, cond, _||_}
 use mathlib.Core.List.{List, [], _∷_}
 use mathlib.Core.Option.{Option, none, some}
-use Rattle.meaning_curves.specs.Limits.{lengthIn, windowIn, widthIn, mergeIn, queryLengthIn, bandIn, thresholdIn, scaleIn, shiftIn, firstOutside}
+use Rattle.meaning_curves.specs.Limits.{lengthIn, windowIn, widthIn, mergeIn, queryLengthIn, bandIn, thresholdIn, scaleIn, shiftIn, closestIn, firstOutside}
 use Rattle.meaning_curves.specs.{Curve.at, Normal.flat}
 use Rattle.meaning_rows.specs.{Index.Index, Judge.firstBadRow}
-use Rattle.meaning_filter.specs.{declared.Kind.Kind, declared.Kind.the-variants.Raw, declared.Kind.the-variants.Normal}
+use Rattle.meaning_filter.specs.{declared.Kind.Kind, declared.Kind.the-variants.Raw, declared.Kind.the-variants.Normal, declared.Pick.Pick}
 use Rattle.meaning_text.specs.{Form.Form, Read.fine, Read.unfit, Read.readText, Read.lineOf}
 
 -- a line of a table: its number, and the first place at which it applies, if it does
@@ -24,9 +24,9 @@ unfoldable pub firstRefusal : List Condition → Option (ℕ × ℕ)
 firstRefusal [] = none
 firstRefusal (c ∷ l) = elim c.place [ some p ↦ some (c.number, p) | none ↦ firstRefusal l ]
 
--- the order in which the numbers are judged: texts are read first, then the lowest number wins
+-- the order in which the numbers are judged: texts are read first, then the lowest number wins; but 30 comes directly after 10 (02, item 2)
 unfoldable pub order : List ℕ
-order = 12 ∷ 1 ∷ 2 ∷ 3 ∷ 4 ∷ 5 ∷ 6 ∷ 7 ∷ 8 ∷ 9 ∷ 10 ∷ 11 ∷ 20 ∷ 21 ∷ 22 ∷ 23 ∷ 24 ∷ []
+order = 12 ∷ 1 ∷ 2 ∷ 3 ∷ 4 ∷ 5 ∷ 6 ∷ 7 ∷ 8 ∷ 9 ∷ 10 ∷ 30 ∷ 11 ∷ 20 ∷ 21 ∷ 22 ∷ 23 ∷ 24 ∷ []
 
 -- the numbers of a table stand in an order: none is missing from it, and they never go back (law of every table: proofs/Tables)
 unfoldable pub follows : List ℕ → List Condition → Bool
@@ -81,6 +81,15 @@ thresholdOutside E = atZero 9 (not (thresholdIn E))
 -- 10: a or h outside
 unfoldable pub scaleOrShiftOutside : ℤ → ℤ → Condition
 scaleOrShiftOutside a h = atZero 10 (not (scaleIn a) || not (shiftIn h))
+
+-- the closest few are asked for, and k is outside its limits
+unfoldable pub pickOutside : Pick → Bool
+pickOutside Pick.All = false
+pickOutside (Pick.Closest k) = not (closestIn (pos k))
+
+-- 30: k outside
+unfoldable pub countOutside : Pick → Condition
+countOutside p = atZero 30 (pickOutside p)
 
 -- a normalised query that is flat; a raw one may be
 unfoldable pub normalFlat : Kind → List ℤ → Bool

@@ -54,10 +54,11 @@ pub enum Loaded {
     },
 }
 
-// Of a search: all matches are listed; or the list is full, which is refusal 24 and has the true counts.
+// Of a search: all matches are listed; or the list is full, which is refusal 24 and has the true counts; or the closest few are listed (02, item 2), and the counts are of all matches.
 pub enum Found {
     All { candidates: usize, matches: usize },
     Full { candidates: usize, matches: usize },
+    Few { candidates: usize, matches: usize },
     Refused { number: u32, place: usize },
 }
 

@@ -4,7 +4,7 @@ use Rattle.meaning_numbers.proofs.Table.{holds, sameℤ, sameList}
 use Rattle.meaning_numbers.proofs.Prelude.{Bool, _&&_, List, [], _∷_, map, ℕ, T, eqb, ℤ, pos, negsuc}
 use Rattle.meaning_curves.specs.{Curve.at, Normal.normalised}
 use Rattle.meaning_rows.specs.{Index.Index, Build.built}
-use Rattle.meaning_filter.specs.{declared.Kind.Kind, declared.Kind.the-variants.Raw, declared.Kind.the-variants.Normal, Envelope.lower, Envelope.upper, Range.rawLow, Range.rawHigh, Range.normalLow, Range.normalHigh, Matches.Question, Matches.candidateRuns, Matches.candidateCount, Matches.matchList, Matches.allMatches}
+use Rattle.meaning_filter.specs.{declared.Kind.Kind, declared.Kind.the-variants.Raw, declared.Kind.the-variants.Normal, declared.Pick.Pick, Envelope.lower, Envelope.upper, Range.rawLow, Range.rawHigh, Range.normalLow, Range.normalHigh, Matches.Question, Matches.candidateRuns, Matches.candidateCount, Matches.matchList, Matches.allMatches, Closest.closest, Closest.handed, Closest.fewest}
 use Rattle.meaning_filter.proofs.Open.{openFilter}
 
 samePair : ℕ × ℕ → ℕ × ℕ → Bool
@@ -27,7 +27,7 @@ bare = record { window = pos 2; width = pos 2; windows = pos 2; rows = []; runs 
 
 -- a straight query with threshold E, scale limit 20 tenths and shift limit 1
 ask : Kind → List ℤ → ℕ → List ℤ → Question
-ask kind q E s = record { series = s; query = q; ask = record { kind = kind; limits = record { band = 0; threshold = E; scale = 20; shift = 1 } } }
+ask kind q E s = record { series = s; query = q; ask = record { kind = kind; limits = record { band = 0; threshold = E; scale = 20; shift = 1 }; pick = Pick.All } }
 
 three : List ℤ
 three = pos 0 ∷ pos 3 ∷ pos 1 ∷ []
@@ -37,6 +37,10 @@ four = pos 0 ∷ pos 1 ∷ pos 7 ∷ negsuc 1 ∷ []
 
 five : List ℤ
 five = pos 5 ∷ pos 9 ∷ pos 40 ∷ negsuc 29 ∷ pos 17 ∷ []
+
+-- matches with equal distances
+tied : List (ℕ × ℕ)
+tied = (0, 7) ∷ (2, 3) ∷ (5, 3) ∷ (6, 0) ∷ (9, 7) ∷ []
 
 cases : List Bool
 cases =
@@ -73,8 +77,18 @@ cases =
     ∷ sameList samePair (candidateRuns (built early 1 1 0) (ask Raw (pos 3 ∷ pos 1 ∷ []) 0 worked)) ((3, 3) ∷ [])
     ∷ sameList samePair (candidateRuns bare (ask Raw (pos 4 ∷ pos 3 ∷ []) 0 worked)) ((2, 3) ∷ [])
     ∷ sameList samePair (matchList (built early 2 2 0) (ask Raw (pos 4 ∷ pos 3 ∷ []) 0 worked)) ((2, 0) ∷ [])
+    -- the closest few: equal distances by earlier offset, all of them if there are fewer
+    ∷ sameList samePair (closest 1 tied) ((6, 0) ∷ [])
+    ∷ sameList samePair (closest 2 tied) ((6, 0) ∷ (2, 3) ∷ [])
+    ∷ sameList samePair (closest 4 tied) ((6, 0) ∷ (2, 3) ∷ (5, 3) ∷ (0, 7) ∷ [])
+    ∷ sameList samePair (closest 64 tied) ((6, 0) ∷ (2, 3) ∷ (5, 3) ∷ (0, 7) ∷ (9, 7) ∷ [])
+    ∷ sameList samePair (closest 3 []) []
+    ∷ sameList samePair (handed Pick.All tied) tied
+    ∷ sameList samePair (handed (Pick.Closest 3) tied) ((6, 0) ∷ (2, 3) ∷ (5, 3) ∷ [])
+    ∷ eqb (fewest Pick.All) 0
+    ∷ eqb (fewest (Pick.Closest 3)) 3
     ∷ []
 
 all : T (holds cases)
-unfolding openFilter samePair values worked early bare ask three four five cases
+unfolding openFilter samePair values worked early bare ask three four five tied cases
 all = tt

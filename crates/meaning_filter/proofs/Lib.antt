@@ -9,6 +9,8 @@ pub mod Shift
 pub mod Kept
 pub mod Candidates
 pub mod Matches
+pub mod Ordered
+pub mod Closest
 pub mod Only
 pub mod Handed
 pub mod Open

@@ -2,8 +2,8 @@
 use Rattle.meaning_rows.proofs.Open.{openRows}
 use Rattle.meaning_filter.specs.Matches.{matches, distanceTo, allMatches, candidateAt, candidateRuns, candidateCount, matchList}
 use Rattle.meaning_filter.specs.Range.{lowerSum, upperSum, rawLow, rawHigh, normalLow, normalHigh, rangeOf, ranges}
-use Rattle.meaning_filter.specs.{Envelope.leastOf, Envelope.greatestOf, Envelope.lower, Envelope.upper, Candidates.candidate}
+use Rattle.meaning_filter.specs.{Envelope.leastOf, Envelope.greatestOf, Envelope.lower, Envelope.upper, Candidates.candidate, Ordered.place, Ordered.placed, Closest.handed, Closest.fewest}
 
 unfoldable pub openFilter : Unit {0}
-unfolding openRows leastOf greatestOf lower upper lowerSum upperSum rawLow rawHigh normalLow normalHigh rangeOf ranges candidate matches distanceTo allMatches candidateAt candidateRuns candidateCount matchList
+unfolding openRows leastOf greatestOf lower upper lowerSum upperSum rawLow rawHigh normalLow normalHigh rangeOf ranges candidate matches distanceTo allMatches candidateAt candidateRuns candidateCount matchList place placed handed fewest
 openFilter = tt

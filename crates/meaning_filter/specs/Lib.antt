@@ -3,3 +3,5 @@ pub mod Envelope
 pub mod Range
 pub mod Candidates
 pub mod Matches
+pub mod Ordered
+pub mod Closest

@@ -1,4 +1,4 @@
-// What a search is asked for beside its query: the kind of query and its limits. specs/ has the meanings, proofs/ what they imply.
+// What a search is asked for beside its query: the kind of query, its limits, and what it hands out. specs/ has the meanings, proofs/ what they imply.
 
 // A query's kind.
 pub enum Kind {
@@ -14,10 +14,17 @@ pub struct Limits {
     pub shift: u32,
 }
 
+// What a search hands out: all matches; or the closest few, so many at most (02, item 2).
+pub enum Pick {
+    All,
+    Closest { count: u32 },
+}
+
 // What is asked of a search beside its query.
 pub struct Ask {
     pub kind: Kind,
     pub limits: Limits,
+    pub pick: Pick,
 }
 
 // A crate has one function at least.

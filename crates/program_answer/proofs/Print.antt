@@ -5,17 +5,17 @@ use Rattle.meaning_curves.specs.{Limits.mostValues, Limits.mostProgramValues, C
 use Rattle.meaning_rows.specs.Build.{SetRow, entry, withRuns, builtRows, merged, filed, built}
 use Rattle.meaning_rows.specs.{declared.Row.Row, Runs.runs, Index.zeroRow, Index.Index, Index.Entry, Index.entries, Index.lent, Index.allRuns}
 use Rattle.meaning_rows.proofs.Judge.{Natural, none-bad}
-use Rattle.meaning_filter.specs.Matches.{allMatches, candidateAt, candidateCount}
+use Rattle.meaning_filter.specs.{declared.Pick.Pick, Matches.allMatches, Matches.candidateAt, Matches.candidateCount, Closest.handed, Closest.fewest}
 use Rattle.meaning_filter.proofs.Matches.{all-found}
 use Rattle.meaning_text.specs.Texts.{indexText, foundText}
 use Rattle.meaning_entries.specs.Buffers.{IndexBuffers, filled, lefts, rights, indexIn, indexBuffers}
 use Rattle.meaning_entries.specs.Build.{BuildCall, lentBuild, widthLines, buildTable, buildRefusal, buildIndex, buildAnswer, buildAfter}
-use Rattle.meaning_entries.specs.Refusal.{Condition, flatQuery, illFormed, windowsOf, bufferShort, seriesLines}
-use Rattle.meaning_entries.specs.Search.{SearchCall, SearchBuffers, lentAsk, lentSearch, valueLines, limitLines, searchPlan, searchTable, searchRefusal, searchAnswer, searchMatches, searchCandidates, question}
+use Rattle.meaning_entries.specs.Refusal.{Condition, flatQuery, illFormed, windowsOf, bufferShort, pickOutside, seriesLines}
+use Rattle.meaning_entries.specs.Search.{SearchCall, SearchBuffers, lentAsk, lentSearch, valueLines, limitLines, searchPlan, searchTable, searchRefusal, searchMatches, searchHanded, searchCandidates, question}
 use Rattle.meaning_entries.specs.{declared.Built.Built, declared.Found.Found, Answers.headOf, Write.writeTable, Write.writeRefusal, Program.callLines, Program.programIndex, Program.printed, Demand2.BuildKept, Demand2.SearchKept}
 use Rattle.meaning_entries.proofs.Lines.{long-line, window-line, query-line, threshold-line, scale-line, series-passes, more-passes, room-passes}
 use Rattle.meaning_entries.proofs.Refusal.{AllPass, end, more, passed-is, passed-both, passed-join, openLines, passed-line, passed-behind}
-use Rattle.meaning_entries.proofs.{Made.build-passes, Made.build-most, Listed.listed-is}
+use Rattle.meaning_entries.proofs.{Made.build-passes, Made.build-most, Listed.listed-is, BothTold.all-told}
 use Rattle.text_put.specs.Put.{Put}
 use Rattle.text_put.proofs.Put.{put-room, put-length}
 use Rattle.program_input.specs.{declared.Asked.Asked, Tables.callOf}
@@ -205,22 +205,22 @@ module _ (s q : List ℤ) (a : Asked) (free : AllPass (callLines (callOf s q a))
   unfolding buildIndex built
   windows-fit = omega (zarith, z-add (pos (length s) -ℤ pos w) (pos 1), z-sub (pos (length s)) (pos w), window-in.1)
 
-  pub search-free : (before : SearchBuffers) → length before.left ≡ 4096 → length before.right ≡ 4096 → length before.scratch ≡ 4096 → length before.offsets ≡ 4096 → length before.distances ≡ 4096 → searchRefusal d before ≡ none
-  unfolding openLines searchPlan searchTable callLines callOf buildIndex built
-  search-free before hl hr hc ho hd =
+  pub search-free : a.ask.pick ≡ Pick.All → (before : SearchBuffers) → length before.left ≡ 4096 → length before.right ≡ 4096 → length before.scratch ≡ 4096 → length before.offsets ≡ 4096 → length before.distances ≡ 4096 → searchRefusal d before ≡ none
+  unfolding openLines searchPlan searchTable callLines callOf buildIndex built pickOutside fewest handed
+  search-free picks before hl hr hc ho hd =
       let value-part = passed-join series-part (more (passed-line (passed-behind free 2) 2) end) in
       let n = windowCount (length s) w in
       let room-part = room-passes {one = min (length before.left) (length before.right)} {needed = n} {other = length before.scratch} {wanted = n} (omega (arith, hl, hr, windows-few)) (omega (arith, hc, windows-few)) in
-      passed-is (passed-join (passed-join value-part (passed-join limit-part (more (passed-line free 11) (more (none-bad x passed-here.formed) (more (more-passes x _ windows-fit) room-part)))))
-      (more (rw (le-ltb (min (length before.offsets) (length before.distances)) (length (searchMatches d)) (omega (arith, ho, hd, matches-few)))) end))
+      let list-part : fewest d.ask.pick ≤ min (length before.offsets) (length before.distances) = omega (arith, ap fewest picks) in
+      passed-is (passed-join (passed-join value-part (passed-join limit-part (more (rw (ap pickOutside picks) refl) (more (passed-line free 11) (more (none-bad x passed-here.formed) (more (more-passes x _ windows-fit) (more (enough _ _ list-part) room-part)))))))
+      (more (rw (le-ltb (min (length before.offsets) (length before.distances)) (length (searchHanded d)) (omega (arith, ho, hd, matches-few, ap (λ p. length (handed p (searchMatches d))) picks)))) end))
 
 -- ---- the list behind the index text
 
-pub list-put : (d : SearchCall) (before after : SearchBuffers) (t : Found) (text : List ℕ) (at : ℕ) (new : List ℕ) (to : ℕ) → SearchKept d before t after → searchRefusal d before ≡ none → FoundPut t text at after.offsets after.distances new to
+pub list-put : (d : SearchCall) (before after : SearchBuffers) (t : Found) (text : List ℕ) (at : ℕ) (new : List ℕ) (to : ℕ) → d.ask.pick ≡ Pick.All → SearchKept d before t after → searchRefusal d before ≡ none → FoundPut t text at after.offsets after.distances new to
     → Put text at (foundText (length (searchMatches d)) (searchCandidates d) (searchMatches d)) new to
-unfolding searchAnswer
-list-put d before after t text at new to h e p =
-    let k : t ≡ Found.All (searchCandidates d) (length (searchMatches d)) = h.answered ∙ rw (e, searchAnswer) in
+list-put d before after t text at new to picks h e p =
+    let k : t ≡ Found.All (searchCandidates d) (length (searchMatches d)) = h.answered ∙ all-told d before picks e in
     let g = rw k at h in
     rw (listed-is d before after g) at (rw k at p)
 

@@ -3,6 +3,7 @@ use Rattle.meaning_numbers.proofs.Between.{within-yes}
 use Rattle.meaning_numbers.proofs.Prelude.{_≡_, sym, _∙_, subst, not, _||_, List, ℕ, _≤_, arith, ℤ, pos, length, take, ltZ, zarith, not-not, neither}
 use Rattle.meaning_curves.specs.Limits.{windowIn}
 use Rattle.meaning_rows.specs.{declared.Row.Row, declared.Head.Head, Index.Index, Index.lent}
+use Rattle.meaning_filter.specs.declared.Pick.{Pick}
 use Rattle.meaning_text.specs.Texts.{indexText, foundText}
 use Rattle.meaning_entries.specs.{declared.Built.Built, declared.Written.Written, Answers.headOf, Answers.writtenCount, Build.lentBuild, Write.writeCount, Write.writeAfter, Search.SearchCall, Search.lentSearch, Search.searchMatches, Search.searchCandidates, Program.callLines, Program.printed, Demand2.BuildKept, Demand2.WriteKept, Buffers.indexBuffers}
 use Rattle.meaning_entries.proofs.{Refusal.AllPass, Refusal.openLines, Refusal.passed-line, Refusal.not-if, Made.build-most}
@@ -55,12 +56,12 @@ module _ (s q : List ℤ) (a : Asked) (free : AllPass (callLines (callOf s q a))
       search-here : lentSearch s head (take n rows′) (take m left′) (take m right′) a.ask q ≡ d s q a free
       search-here = let st = stands s q a free rows left right r l k h in rw (head-is, rows-are, runs-are, st.table, st.first, st.last) (search-is s q a free)
 
-      pub prints : (old mid new : List ℕ) (written : Written) (to : ℕ) → length old ≡ 1048576 → WriteKept (lent head (take n rows′) (take m left′) (take m right′)) old written mid
+      pub prints : a.ask.pick ≡ Pick.All → (old mid new : List ℕ) (written : Written) (to : ℕ) → length old ≡ 1048576 → WriteKept (lent head (take n rows′) (take m left′) (take m right′)) old written mid
           → Listed (lentSearch s head (take n rows′) (take m left′) (take m right′) a.ask q) mid (writtenCount written) new to → Prints (printed (callOf s q a)) new to
       unfolding writeCount writeAfter
-      prints old mid new written to long wrote listed =
+      prints picks old mid new written to long wrote listed =
           let g = subst (λ (i : Index). WriteKept i old written mid) lent-here wrote in
-          let p = subst (λ (c : SearchCall). Listed c mid (writtenCount written) new to) search-here listed (search-free s q a free) in
+          let p = subst (λ (c : SearchCall). Listed c mid (writtenCount written) new to) search-here listed picks (search-free s q a free picks) in
           let f = write-free s q a free old (omega (arith, long)) in
           let b = put-behind (indexText y) (foundText (length (searchMatches (d s q a free))) (searchCandidates (d s q a free)) (searchMatches (d s q a free))) old mid new (writtenCount written) to (g.text ∙ rw (f, writeAfter)) (g.counted ∙ rw (f, writeCount)) p (omega (arith, long, index-few s q a free, found-few s q a free)) in
           record { within = b.0; is = b.1 ∙ sym (printed-is s q a free) }

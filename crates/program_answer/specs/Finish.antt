@@ -5,15 +5,17 @@ use lib.ListN.{length, take}
 use mathlib.Core.List.{List}
 use mathlib.Core.Option.{none}
 use mathlib.Core.Path.{_≡_}
+use Rattle.meaning_filter.specs.declared.Pick.{Pick}
 use Rattle.meaning_text.specs.Texts.{foundText}
 use Rattle.meaning_entries.specs.{Search.SearchCall, Search.SearchBuffers, Search.searchRefusal, Search.searchMatches, Search.searchCandidates, Demand2.ProgramKept}
 use Rattle.text_put.specs.Put.{Put}
 use Rattle.program_input.specs.{declared.Input.Input, Input.Stands, Input.Open}
 
--- the list of a search, where nothing refuses it whatever the buffers of 4,096 entries hold
+-- the list of a search for all matches, where nothing refuses it whatever the buffers of 4,096 entries hold
 abbrev pub Listed : SearchCall → List ℕ → ℕ → List ℕ → ℕ → Type 0
 Listed d text at new to =
-    ((b : SearchBuffers) → length b.left ≡ 4096 → length b.right ≡ 4096 → length b.scratch ≡ 4096 → length b.offsets ≡ 4096 → length b.distances ≡ 4096 → searchRefusal d b ≡ none)
+    d.ask.pick ≡ Pick.All
+    → ((b : SearchBuffers) → length b.left ≡ 4096 → length b.right ≡ 4096 → length b.scratch ≡ 4096 → length b.offsets ≡ 4096 → length b.distances ≡ 4096 → searchRefusal d b ≡ none)
     → Put text at (foundText (length (searchMatches d)) (searchCandidates d) (searchMatches d)) new to
 
 -- the first n bytes of the buffer are the text

@@ -13,4 +13,5 @@ use Rattle.meaning_entries.proofs.Passes as Audit
 abbrev pub FoundPut : Found → List ℕ → ℕ → List ℕ → List ℕ → List ℕ → ℕ → Type 0
 FoundPut (Found.All candidates matches) text at offsets distances new to = Put text at (foundText matches candidates (take matches (pairs offsets distances))) new to
 FoundPut (Found.Full candidates matches) text at offsets distances new to = Unit {0}
+FoundPut (Found.Few candidates matches) text at offsets distances new to = Unit {0}
 FoundPut (Found.Refused number place) text at offsets distances new to = Unit {0}

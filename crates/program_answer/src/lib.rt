@@ -15,6 +15,7 @@ ghost use mathlib.Core.Path.{_≡_};
 ghost use Prim.Native.Nat.{_≤_};
 ghost use lib.ListN.{take, length};
 ghost use Rattle.meaning_curves.specs.Limits.{mostProgramValues};
+ghost use Rattle.meaning_filter.specs.declared.Pick.{Pick};
 ghost use Rattle.meaning_entries.specs.Search.{lentSearch};
 ghost use Rattle.meaning_entries.specs.Answers.{writtenCount};
 ghost use Rattle.program_answer.specs.Print.{FoundPut};
@@ -45,6 +46,10 @@ pub fn put_found(text: &mut [u8], at: usize, a: Found, offsets: &[u32], distance
             matches,
         } => write_found(text, at, matches, candidates, offsets, distances),
         Found::Full {
+            candidates: _,
+            matches: _,
+        } => at,
+        Found::Few {
             candidates: _,
             matches: _,
         } => at,
@@ -96,7 +101,7 @@ pub fn list_matches(
 
 // The index and the list, as text.
 pub fn print_answer(series: &[i32], query: &[i32], a: Asked, text: &mut [u8]) -> usize
-    requires { ⌜ (AllPass (callLines (callOf (now series) (now query) a))) × (length (now text) ≡ 1048576) ⌝ }
+    requires { ⌜ (AllPass (callLines (callOf (now series) (now query) a))) × (length (now text) ≡ 1048576) × (a .ask .pick ≡ Pick.All) ⌝ }
     ensures { λ r. ⌜ Prints (printed (callOf (now (series .entry)) (now (query .entry)) a)) (now (text .exit)) r ⌝ }
 {
     let rows = [Row {

@@ -2,6 +2,7 @@
 use Rattle.meaning_numbers.proofs.Prelude.{_≡_, refl, sym, ap, _∙_, subst, Bool, true, false, cond, List, [], _∷_, _++_, map, none, some, ℕ, _+_, _≤_, arith, ltb, ℤ, pos, negsuc, natAbs, length, take, drop, sets-eq, length-sets, take-append-seam, _≤ℤ_, ltb-false, zarith, z-sub, le-ltZ, by-test}
 use Rattle.meaning_curves.specs.Limits.{mostProgramValues, valueIn, firstOutside}
 use Rattle.meaning_curves.proofs.Values.{yes-value, none-outside}
+use Rattle.meaning_filter.specs.declared.Pick.{Pick}
 use Rattle.meaning_text.specs.{Read.readText, Read.fine, Read.unfit, Read.lineOf, Texts.programForm, Texts.kindSaid}
 use Rattle.meaning_text.proofs.{Automaton.Fed, Automaton.going, Automaton.failed, Reading.on-flag}
 use Rattle.meaning_entries.specs.{Refusal.valueOutside, Refusal.flatQuery, Refusal.badLine, Refusal.unreadable, Build.widthLines, Search.valueLines, Search.limitLines, Program.ProgramCall, Program.programSaid, Program.textProgram, Program.callLines, Program.programTable}
@@ -214,6 +215,7 @@ said-is g numbers s q e a b h =
         threshold = natural g.threshold x.threshold i;
         scale = natural g.scale x.scale i;
         shift = natural g.shift x.shift i;
+        pick = Pick.All;
       };
     }))
 

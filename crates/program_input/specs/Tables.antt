@@ -10,7 +10,7 @@ use mathlib.Core.Option.{Option, none, some}
 use mathlib.Core.Path.{_≡_}
 use Rattle.meaning_curves.specs.Limits.{mostProgramValues}
 use Rattle.meaning_curves.proofs.Values.{AllIn}
-use Rattle.meaning_filter.specs.declared.Kind.{Kind}
+use Rattle.meaning_filter.specs.{declared.Kind.Kind, declared.Pick.Pick}
 use Rattle.meaning_text.specs.Texts.{kindSaid}
 use Rattle.meaning_entries.specs.{Refusal.Condition, Refusal.atPlace, Refusal.lengthOutside, Refusal.flatQuery, Build.widthLines, Search.Asking, Search.lentAsk, Search.plainAsk, Search.limitLines, Program.ProgramCall}
 use Rattle.text_lines.specs.declared.State.{State}
@@ -36,7 +36,7 @@ kindOf z = kindSaid (ltZ (pos 0) z)
 
 -- what they ask of the search
 abbrev pub asksOf : Numbers → Asking
-asksOf x = record { kind = kindOf x.raw; band = x.band; threshold = x.threshold; scale = x.scale; shift = x.shift }
+asksOf x = record { kind = kindOf x.raw; band = x.band; threshold = x.threshold; scale = x.scale; shift = x.shift; pick = Pick.All }
 
 -- the place of the first value outside its limits
 abbrev pub firstOut : Values → Option ℕ

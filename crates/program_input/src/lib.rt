@@ -10,6 +10,7 @@ use meaning_curves::WIDEST_ROW;
 use meaning_filter::Ask;
 use meaning_filter::Kind;
 use meaning_filter::Limits;
+use meaning_filter::Pick;
 use numbers::monus;
 use refusals::Refusal;
 use refusals::length_in;
@@ -305,7 +306,8 @@ pub fn asked_of(x: Numbers) -> Asked
         shift: held(x.shift),
     };
     let kind = kind_of(x.raw);
-    let ask = Ask { kind, limits };
+    let pick = Pick::All;
+    let ask = Ask { kind, limits, pick };
     Asked {
         window: held(x.window),
         width: held(x.width),

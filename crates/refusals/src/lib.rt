@@ -6,9 +6,11 @@ use meaning_curves::GREATEST_THRESHOLD;
 use meaning_curves::LEAST_SCALE;
 use meaning_curves::LONGEST_QUERY;
 use meaning_curves::LONGEST_WINDOW;
+use meaning_curves::MOST_CLOSEST;
 use meaning_curves::MOST_VALUES;
 use meaning_curves::WIDEST_ROW;
 use meaning_filter::Kind;
+use meaning_filter::Pick;
 use rows_judge::Judged;
 use values::Place;
 use values::first_outside;
@@ -23,7 +25,8 @@ ghost use lib.IntN.{pos, _+ℤ_, _-ℤ_};
 ghost use lib.ListN.{length};
 ghost use lib.Signed.{ltZ};
 ghost use Rattle.meaning_curves.specs.Limits.{mostValues, lengthIn, windowIn, widthIn, mergeIn, queryLengthIn, bandIn, thresholdIn, scaleIn, shiftIn, firstOutside, longestQuery};
-ghost use Rattle.meaning_entries.specs.Refusal.{roomLines, normalFlat};
+ghost use Rattle.meaning_entries.specs.Refusal.{roomLines, normalFlat, pickOutside};
+ghost use Rattle.meaning_filter.specs.Closest.{fewest};
 ghost use Rattle.rows_judge.specs.Judged.{badRow};
 ghost use Rattle.refusals.specs.Refusal.{refusalOf, refuseIf, refuseAt};
 ghost use Rattle.meaning_curves.specs.Curve.{at};
@@ -147,6 +150,26 @@ pub fn scale_or_shift_outside(scale: u32, shift: u32) -> bool
     ensures { λ b. ⌜ b ≡ (not (scaleIn (pos scale)) || not (shiftIn (pos shift))) ⌝ }
 {
     !((LEAST_SCALE <= scale) & (scale <= GREATEST_SCALE)) | !(shift <= GREATEST_SHIFT)
+}
+
+// The closest few are asked for, and how many is outside its limits.
+pub fn pick_outside(pick: Pick) -> bool
+    ensures { λ b. ⌜ b ≡ pickOutside pick ⌝ }
+{
+    match pick {
+        Pick::All => false,
+        Pick::Closest { count } => !((1 <= count) & (count <= MOST_CLOSEST)),
+    }
+}
+
+// A list holds fewer entries than the closest few that are asked for.
+pub fn list_below(room: usize, pick: Pick) -> bool
+    ensures { λ b. ⌜ b ≡ ltb room (fewest pick) ⌝ }
+{
+    match pick {
+        Pick::All => false,
+        Pick::Closest { count } => room < count as usize,
+    }
 }
 
 // An index of so many windows has fewer than a series of n values.

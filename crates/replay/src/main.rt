@@ -6,13 +6,22 @@ use meaning_entries::Built;
 use meaning_entries::Found;
 use meaning_filter::Ask;
 use meaning_filter::Limits;
+use meaning_filter::Pick;
 use meaning_rows::Head;
 use meaning_rows::Row;
 use program_table::Table;
-use program_table::build_table;
 use program_table::search_table;
 use try_c_match::curve_matches;
 use try_c_match::kind_of;
+use try_print::build_prices;
+use try_print::get_limits;
+use try_print::get_offset;
+use try_print::print_at;
+use try_print::print_count;
+use try_print::print_refused;
+use try_print::print_size;
+use try_print::print_too_much;
+use try_print::rows_of;
 use try_vectors::get;
 use try_vectors::get_length;
 use try_vectors::get_natural;
@@ -47,46 +56,11 @@ fn story_of(nums: &[u64], n: usize) -> Story
         width: get_small(nums, 2),
         merge: get_small(nums, 3),
         kind: get_small(nums, at),
-        limits: Limits {
-            band: get_small(nums, plus(at, 1)),
-            threshold: get_natural(nums, plus(at, 2)),
-            scale: get_small(nums, plus(at, 3)),
-            shift: get_small(nums, plus(at, 4)),
-        },
+        limits: get_limits(nums, plus(at, 1)),
     }
 }
 
 // ---- words
-
-fn print_size(n: usize) {
-    io::print_decimal(1, n as u64);
-}
-
-// A number, and what it counts, in the singular or the plural.
-fn print_count(n: usize, one: &[u8], many: &[u8]) {
-    print_size(n);
-    if n == 1 {
-        io::write_all(1, one);
-    } else {
-        io::write_all(1, many);
-    }
-}
-
-fn print_refused(number: u32, place: usize) {
-    io::write_all(1, b"(refused ");
-    io::print_decimal(1, number as u64);
-    io::write_all(1, b" ");
-    print_size(place);
-    io::write_all(1, b")\n");
-}
-
-fn print_too_much() {
-    io::write_all(1, b"not replayed: more than ");
-    print_size(MOST_PROGRAM_VALUES);
-    io::write_all(1, b" prices, a query of more than ");
-    print_size(LONGEST_QUERY);
-    io::write_all(1, b" values, or more than 65535 bytes\n");
-}
 
 fn print_index(head: Head) {
     io::write_all(1, b"window length ");
@@ -117,10 +91,7 @@ fn newer(from: usize, m: usize, indexed: usize) -> usize {
 }
 
 fn print_match(offset: usize, distance: u64, m: usize, indexed: usize) {
-    io::write_all(1, b"  at ");
-    print_size(offset);
-    io::write_all(1, b", distance ");
-    io::print_decimal(1, distance);
+    print_at(offset, distance);
     io::write_all(1, b", ");
     print_size(newer(offset, m, indexed));
     io::write_all(1, b" of its ");
@@ -132,18 +103,6 @@ fn print_match(offset: usize, distance: u64, m: usize, indexed: usize) {
 }
 
 // ---- the list of a search
-
-fn wide(x: u32) -> usize {
-    x as usize
-}
-
-// The offset at a place of a list; 0 past the end.
-fn get_offset(offsets: &[u32], k: usize) -> usize {
-    if offsets.len() <= k {
-        return 0;
-    }
-    wide(offsets[k])
-}
 
 // The matches that reach past the first `told` prices.
 fn print_new(
@@ -268,7 +227,8 @@ fn search_step(
     let mut scratch = [0u16; MOST_PROGRAM_VALUES];
     let kind = kind_of(s.kind);
     let limits = s.limits;
-    let ask = Ask { kind, limits };
+    let pick = Pick::All;
+    let ask = Ask { kind, limits, pick };
     search_table(
         series,
         head,
@@ -284,6 +244,15 @@ fn search_step(
         offsets,
         distances,
     )
+}
+
+// A search that does not list all matches has nothing to be held to the scan.
+fn unheld(t: Turn, tried: u64) -> Turn {
+    Turn {
+        told: t.told,
+        same: t.same,
+        tried: tried,
+    }
 }
 
 // What a search answered, told and held to the scan.
@@ -320,19 +289,15 @@ fn tell(
             matches: _,
         } => {
             print_refused(24, 0);
-            Turn {
-                told: t.told,
-                same: t.same,
-                tried: tried,
-            }
+            unheld(t, tried)
         }
+        Found::Few {
+            candidates: _,
+            matches: _,
+        } => unheld(t, tried),
         Found::Refused { number, place } => {
             print_refused(number, place);
-            Turn {
-                told: t.told,
-                same: t.same,
-                tried: tried,
-            }
+            unheld(t, tried)
         }
     }
 }
@@ -395,28 +360,12 @@ fn steps(
 
 // ---- the program
 
-// A table has no more rows than this.
-fn rows_of(n: usize) -> usize
-    ensures { λ r. ⌜ r ≤ mostProgramValues ⌝ }
-{
-    if MOST_PROGRAM_VALUES < n {
-        return MOST_PROGRAM_VALUES;
-    }
-    n
-}
-
 // The index of the first prices.
 fn build_first(s: Story, series: &[i32], left: &mut [u32], right: &mut [u32]) -> Table
     requires { ⌜ s .indexed ≤ length (now series) ⌝ }
 {
     let n = s.indexed;
-    let rows = [Row {
-        low: 0,
-        up: 0,
-        first: 0,
-        runs: 0,
-    }; MOST_PROGRAM_VALUES];
-    build_table(&series[..n], s.window, s.width, s.merge, rows, left, right)
+    build_prices(&series[..n], s.window, s.width, s.merge, left, right)
 }
 
 // The index, the steps, and how many lists were the scan's.
@@ -474,5 +423,5 @@ fn main() {
             }
         }
     }
-    print_too_much();
+    print_too_much(b"not replayed");
 }

@@ -1,5 +1,5 @@
 -- Laws of specs/Found.
-use Prim.Native.Nat.{ℕ, zero, suc, _+_, _-_, _<_, _≤_, min}
+use Prim.Native.Nat.{ℕ, _+_, _-_, _<_, _≤_, min}
 use lib.IntN.{ℤ, pos}
 use lib.ListN.{length, getD, take, length-take}
 use lib.Seq.{take-all, getD-take}
@@ -8,6 +8,7 @@ use mathlib.Core.Path.{_≡_, refl, _∙_}
 use native.Mathlib.Omega.{arith}
 use Rattle.meaning_text.specs.{Bytes.bytes, Number.spellℤ, Form.spell, Form.spellMany, Texts.atForm, Texts.foundText}
 use Rattle.meaning_entries.specs.Demand3.{pairs}
+use Rattle.meaning_entries.proofs.Pairs.{length-pairs, getD-pairs}
 use Rattle.text_put.specs.Put.{Put}
 use Rattle.text_put.proofs.Put.{put-then}
 use Rattle.text_write.proofs.Write.{many-turn}
@@ -28,21 +29,6 @@ pub found-parts : (matches candidates : ℕ) (l : List (ℕ × ℕ))
 unfolding foundText spell
 found-parts matches candidates l = rw (matches-said l) (simp append-assoc)
 
--- ---- the pairs of two slices
-
-pub pairs-length : (os ds : List ℕ) → length (pairs os ds) ≡ min (length os) (length ds)
-unfolding pairs
-pairs-length [] ds = omega arith
-pairs-length (o ∷ os) [] = omega arith
-pairs-length (o ∷ os) (d ∷ ds) = omega (arith, pairs-length os ds)
-
-pair-at : (os ds : List ℕ) (i : ℕ) → i < length os → i < length ds → getD (pairs os ds) i (0, 0) ≡ (getD os i 0, getD ds i 0)
-unfolding pairs
-pair-at [] ds i h g = absurd (omega arith)
-pair-at (o ∷ os) [] i h g = absurd (omega arith)
-pair-at (o ∷ os) (d ∷ ds) zero h g = refl
-pair-at (o ∷ os) (d ∷ ds) (suc i) h g = pair-at os ds i (omega arith) (omega arith)
-
 -- ---- the loop over the matches
 
 -- after i of n matches
@@ -57,13 +43,13 @@ matches-start old at count os ds n buf to e p = record { put = p; within = omega
 
 module _ {old : List ℕ} {at count : ℕ} {os ds : List ℕ} {n : ℕ} {buf : List ℕ} {to i : ℕ} (r : Matches old at count os ds n buf to i) where
   listed : length (take count (pairs os ds)) ≡ n
-  listed = simp length-take (omega (arith, pairs-length os ds, r.room))
+  listed = simp length-take (omega (arith, length-pairs os ds, r.room))
 
   pub matches-turn : i < n → {new : List ℕ} {next : ℕ} → Put buf to (spell atForm (pos (getD os i 0), pos (getD ds i 0))) new next → Matches old at count os ds n new next (i + 1)
   unfolding matchesText matchText
   matches-turn h p =
       let e : getD (take count (pairs os ds)) i (0, 0) ≡ (getD os i 0, getD ds i 0) =
-      getD-take count (pairs os ds) i (0, 0) (omega (arith, r.room)) ∙ pair-at os ds i (omega (arith, r.room)) (omega (arith, r.room)) in
+      getD-take count (pairs os ds) i (0, 0) (omega (arith, r.room)) ∙ getD-pairs os ds i (omega (arith, r.room)) (omega (arith, r.room)) in
       record {
         put = rw (many-turn matchText (take count (pairs os ds)) (0, 0) i (omega (arith, listed)), e) (put-then r.put p);
         within = omega arith;

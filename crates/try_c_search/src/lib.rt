@@ -4,13 +4,14 @@ use meaning_entries::Found;
 use meaning_filter::Ask;
 use meaning_filter::Kind;
 use meaning_filter::Limits;
+use meaning_filter::Pick;
 use meaning_rows::Head;
 use meaning_rows::Row;
 ghost use mathlib.Core.Path.{_≡_};
 ghost use Rattle.meaning_entries.specs.Search.{lentSearch};
-ghost use Rattle.try_c_search.specs.Told.{kindOf, limitsOf, askOf, numbersOf, toldFound, SearchTold};
+ghost use Rattle.try_c_search.specs.Told.{kindOf, limitsOf, pickOf, askOf, numbersOf, toldFound, SearchTold};
 
-// What a search is asked for beside its query: the kind, 0 for raw and any other number for normalised; band, threshold, scale limit in tenths, shift limit.
+// What a search is asked for beside its query: the kind, 0 for raw and any other number for normalised; band, threshold, scale limit in tenths, shift limit; what it hands out, 0 for all matches and any other number for the closest, so many.
 #[repr(C)]
 pub struct Asked {
     pub kind: u32,
@@ -18,9 +19,11 @@ pub struct Asked {
     pub threshold: u64,
     pub scale: u32,
     pub shift: u32,
+    pub pick: u32,
+    pub count: u32,
 }
 
-// An answer: 0 and both counts where all matches are listed, 1 and both counts where the list is full, 3 and the refusal's number and place.
+// An answer: 0 and both counts where all matches are listed, 1 and both counts where the list is full, 2 and both counts where the closest few are listed, 3 and the refusal's number and place.
 #[repr(C)]
 pub struct Answer {
     pub kind: u32,
@@ -50,13 +53,24 @@ fn limits_of(asked: Asked) -> Limits
     }
 }
 
+// What is to be handed out.
+fn pick_of(asked: Asked) -> Pick
+    ensures { λ p. ⌜ p ≡ pickOf asked ⌝ }
+{
+    if asked.pick == 0 {
+        return Pick::All;
+    }
+    Pick::Closest { count: asked.count }
+}
+
 // What is asked for.
 fn ask_of(asked: Asked) -> Ask
     ensures { λ a. ⌜ a ≡ askOf asked ⌝ }
 {
     let kind = kind_of(asked);
     let limits = limits_of(asked);
-    Ask { kind, limits }
+    let pick = pick_of(asked);
+    Ask { kind, limits, pick }
 }
 
 // A kind and two numbers.
@@ -83,6 +97,10 @@ fn tell_found(a: Found) -> Answer
             candidates,
             matches,
         } => numbers(1, candidates, matches),
+        Found::Few {
+            candidates,
+            matches,
+        } => numbers(2, candidates, matches),
         Found::Refused { number, place } => numbers(3, number as usize, place),
     }
 }

@@ -4,6 +4,7 @@ use meaning_entries::Found;
 use meaning_filter::Ask;
 use meaning_filter::Kind;
 use meaning_filter::Limits;
+use meaning_filter::Pick;
 use meaning_rows::Row;
 use program_table::search_table;
 use try_vectors::get_head;
@@ -123,6 +124,10 @@ fn agree_found(a: Found, nums: &[u64], at: usize) -> bool {
             candidates,
             matches,
         } => agree_told(nums, at, 1, candidates, matches),
+        Found::Few {
+            candidates,
+            matches,
+        } => agree_told(nums, at, 2, candidates, matches),
         Found::Refused { number, place } => agree_told(nums, at, 3, number as usize, place),
     }
 }
@@ -197,7 +202,8 @@ fn search_lent(
     let n = get_length(nums, p.rows, 256) / 4;
     let kind = get_kind(nums, p.kind);
     let limits = get_limits(nums, p.limits);
-    let ask = Ask { kind, limits };
+    let pick = Pick::All;
+    let ask = Ask { kind, limits, pick };
     let a = search_table(
         series,
         head,

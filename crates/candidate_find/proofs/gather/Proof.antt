@@ -1,13 +1,12 @@
 -- Written by tools/walk from the plan in the lines marked |. Change those, and run `tools/walk candidate_find gather`.
 -- The ranges of the parts are put into the candidate buffer, each is replaced by the stretch of runs that it meets, and the candidates are handed out.
 -- | use Rattle.candidate_find.proofs.Looks.{put-asked, meet-asked, hand-asked, gathered}
--- | let CALL = (now series) head (now rows) (now left) (now right) ask (now query)
--- | let HERE = $CALL (searchBuffers (now first) (now last) (now scratch) [] [])
+-- | let HERE = (now series) head (now rows) (now left) (now right) ask (now query) (now first) (now last) (now scratch)
 -- | p, put = put_parts: put-asked $HERE asked
 -- | u, met = meet_parts: rw (put .1) (meet-asked $HERE asked (put .0))
 -- | t, handed = hand_out: hand-asked $HERE asked (put .0) (rw (put .1) at met)
--- | ends: gathered $CALL (now first) (now last) (now scratch) asked (put .0) (rw (put .1) at met) handed
-use Rattle.rows_records.proofs.Prelude.{_≡_, refl, ℕ, List, [], _∷_, ℤ, length, URA, fullShare, named, w64, Val, SProp, ent, emp, id⊢, Memory, Routine, Heap, WpFn, Tables, Atoms, Lfts, Shares, Fun, factI, givenOf, tables, Given, Item, ⋆, _$_, _∵_, !, qed, by, move, keep, whole, sub, agg, look, init, stop, from, and-then, no-more, land, returns, enter, alloc1, alloc0, params1, pass1, pass0, FmC, fmOf, Is, i32, u32, u16, RefT, ptr, now, name, sliceVal, Room, slice-vals, shr-slice-tells, mut-slice-tells, Meets, tripleOf, entered, cited, needs, AtEntry, Data, uint, nothing, struct, Lent, value, kept, lends, token, viewed, lent-at, holds, empty, tidy, frees-all, calls-with, leaves-with, meets-with, loc, part, start, put-at}
+-- | ends: gathered $HERE asked (put .0) (rw (put .1) at met) handed
+use Rattle.rows_records.proofs.Prelude.{refl, ℕ, List, [], _∷_, ℤ, length, URA, fullShare, named, w64, Val, SProp, ent, emp, id⊢, Memory, Routine, Heap, WpFn, Tables, Atoms, Lfts, Shares, Fun, factI, givenOf, tables, Given, Item, ⋆, _$_, _∵_, !, qed, by, move, keep, whole, sub, agg, look, init, stop, from, and-then, no-more, land, returns, enter, alloc1, alloc0, params1, pass1, pass0, FmC, fmOf, Is, i32, u32, u16, RefT, ptr, now, name, sliceVal, Room, slice-vals, shr-slice-tells, mut-slice-tells, Meets, tripleOf, entered, cited, needs, AtEntry, Data, uint, nothing, struct, Lent, value, kept, lends, token, viewed, lent-at, holds, empty, tidy, frees-all, calls-with, leaves-with, meets-with, loc, part, start, put-at}
 use contract.Running.{tablesOf}
 use Rattle.candidate_find.proofs.Looks.{put-asked, meet-asked, hand-asked, gathered}
 use Rattle.meaning_filter.specs.declared.Ask.{Ask}
@@ -37,8 +36,9 @@ use Rattle.candidate_find.proofs.gather.Key.{name as #self}
 use Rattle.candidate_find.proofs.gather as f
 use Rattle.candidate_find.proofs.gather.Statement as stated
 use Rattle.candidate_find.proofs.gather.Code as code
-use Rattle.meaning_entries.specs.Search.{searchBuffers}
-use Rattle.candidate_plan.specs.Allowed.{thePlan}
+use Rattle.meaning_rows.specs.Index.{lent}
+use Rattle.meaning_entries.specs.Buffers.{pairRoom}
+use Rattle.candidate_plan.specs.Allowed.{Allowed}
 
 abbrev Askᴰ : {M : Type 1} (𝓤 : URA M) (H : Heap 𝓤) (A : Atoms 𝓤) → Given 𝓤 H A → Data 𝓤 H A
 Askᴰ 𝓤 H A W = struct 𝓤 H A W Askᵀ.the-type Askᴸ.the-laws Askᴸ.the-plain
@@ -51,7 +51,7 @@ Soughtᴰ 𝓤 H A W = struct 𝓤 H A W Soughtᵀ.the-type Soughtᴸ.the-laws S
 
 module _ {M : Type 1} (𝓤 : URA M) (H : Heap 𝓤) (A : Atoms 𝓤) (W : Given 𝓤 H A) (mem : Memory → SProp 𝓤) (run : Routine → Fun 𝓤) (𝓣 : Tables 𝓤 H) (fm : FmC 𝓤 H (W .laws) (𝓣 .C)) (known-put-parts : Meets 𝓤 H A put-parts.signature (𝓣 .C #put-parts) (put-parts.spec 𝓤 H A mem run)) (known-meet-parts : Meets 𝓤 H A meet-parts.signature (𝓣 .C #meet-parts) (meet-parts.spec 𝓤 H A mem run)) (known-hand-out : Meets 𝓤 H A hand-out.signature (𝓣 .C #hand-out) (hand-out.spec 𝓤 H A mem run)) where
   module _ (κs : Lfts 8) (qs : Shares 8) (series : RefT (List ℤ)) (head : Head) (rows : RefT (List Row)) (left : RefT (List ℕ)) (right : RefT (List ℕ)) (ask : Ask) (query : RefT (List ℤ)) (first : RefT (List ℕ)) (last : RefT (List ℕ)) (scratch : RefT (List ℕ))
-      (g-series : Room i32 (length (now series))) (g-head : Is ((Headᴰ 𝓤 H A W) .row) head ((Headᴰ 𝓤 H A W) .val head ∷ [])) (g-rows : Room Rowᵀ.the-row (length (now rows))) (g-left : Room u32 (length (now left))) (g-right : Room u32 (length (now right))) (g-ask : Is ((Askᴰ 𝓤 H A W) .row) ask ((Askᴰ 𝓤 H A W) .val ask ∷ [])) (g-query : Room i32 (length (now query))) (g-first : Room u32 (length (now first))) (g-last : Room u32 (length (now last))) (g-scratch : Room u16 (length (now scratch))) (asked : thePlan (now series) head (now rows) (now left) (now right) ask (now query) (searchBuffers (now first) (now last) (now scratch) [] []) .number ≡ 0) where
+      (g-series : Room i32 (length (now series))) (g-head : Is ((Headᴰ 𝓤 H A W) .row) head ((Headᴰ 𝓤 H A W) .val head ∷ [])) (g-rows : Room Rowᵀ.the-row (length (now rows))) (g-left : Room u32 (length (now left))) (g-right : Room u32 (length (now right))) (g-ask : Is ((Askᴰ 𝓤 H A W) .row) ask ((Askᴰ 𝓤 H A W) .val ask ∷ [])) (g-query : Room i32 (length (now query))) (g-first : Room u32 (length (now first))) (g-last : Room u32 (length (now last))) (g-scratch : Room u16 (length (now scratch))) (asked : Allowed (now series) head (lent head (now rows) (now left) (now right)) ask (now query) (pairRoom (now first) (now last)) (length (now scratch))) where
     abbrev series° : Lent
     series° = record { row = i32; ref = series; lft = κs .0; share = qs .0; has-room = g-series }
 
@@ -110,7 +110,7 @@ module _ {M : Type 1} (𝓤 : URA M) (H : Heap 𝓤) (A : Atoms 𝓤) (W : Given
         put-at ! 46 (agg ! (and-then ! (loc ! 44 refl) (and-then ! (part ! 34 refl (sub ! 1 refl (whole !))) (no-more !)))) refl (tt, (tt, (record { fits = g-last .0 }, tt))) $
         move ! (8 ∷ 9 ∷ 10 ∷ 11 ∷ 12 ∷ 13 ∷ []) $
         calls-with ! fm put-parts.ended (put-parts.clauses 𝓤 H A mem run) known-put-parts (value (Askᴰ 𝓤 H A W) ask g-ask ∷ kept query° ∷ value (Headᴰ 𝓤 H A W) head g-head ∷ lends first° (now first) refl ∷ lends last° (now last) refl ∷ [])
-        (λ fs. (((κs .1 .1 .1 .1 .0, (fs .0 .0 ∷ [], (fs .1 .0 .0 ∷ [], tt))), (qs .1 .1 .1 .1 .0, (fullShare, (fullShare, tt))), tt, (ask, (query, (head, (record { ptr = first .ptr; name = fs .0 .1; now = (now first) }, (record { ptr = last .ptr; name = fs .1 .0 .1; now = (now last) }, tt))))), ((Askᴰ 𝓤 H A W) .val ask ∷ [], (slice-vals query, ((Headᴰ 𝓤 H A W) .val head ∷ [], (slice-vals first, (slice-vals last, tt)))))), tt)) (λ fs. refl) (λ fs. refl) (λ fs ls. ls) (λ fs ls. refl) (λ fs. factI 𝓤 _ (emp 𝓤) (put-asked (now series) head (now rows) (now left) (now right) ask (now query) (searchBuffers (now first) (now last) (now scratch) [] []) asked)) (λ fs r ls. id⊢ 𝓤 _) (λ fs. (uint 𝓤 H A W w64) .val) (λ fs. (uint 𝓤 H A W w64) .tells) (λ fs. (and-then ! (loc ! 24 refl) (and-then ! (loc ! 26 refl) (and-then ! (loc ! 16 refl) (and-then ! (loc ! 38 refl) (and-then ! (loc ! 42 refl) (no-more !))))))) (λ fs p ls₁ put is₁ fits₁.
+        (λ fs. (((κs .1 .1 .1 .1 .0, (fs .0 .0 ∷ [], (fs .1 .0 .0 ∷ [], tt))), (qs .1 .1 .1 .1 .0, (fullShare, (fullShare, tt))), tt, (ask, (query, (head, (record { ptr = first .ptr; name = fs .0 .1; now = (now first) }, (record { ptr = last .ptr; name = fs .1 .0 .1; now = (now last) }, tt))))), ((Askᴰ 𝓤 H A W) .val ask ∷ [], (slice-vals query, ((Headᴰ 𝓤 H A W) .val head ∷ [], (slice-vals first, (slice-vals last, tt)))))), tt)) (λ fs. refl) (λ fs. refl) (λ fs ls. ls) (λ fs ls. refl) (λ fs. factI 𝓤 _ (emp 𝓤) (put-asked (now series) head (now rows) (now left) (now right) ask (now query) (now first) (now last) (now scratch) asked)) (λ fs r ls. id⊢ 𝓤 _) (λ fs. (uint 𝓤 H A W w64) .val) (λ fs. (uint 𝓤 H A W w64) .tells) (λ fs. (and-then ! (loc ! 24 refl) (and-then ! (loc ! 26 refl) (and-then ! (loc ! 16 refl) (and-then ! (loc ! 38 refl) (and-then ! (loc ! 42 refl) (no-more !))))))) (λ fs p ls₁ put is₁ fits₁.
         land ! (from ! (stop !)) (init ! 38 refl ((uint 𝓤 H A W w64) .lawful .typed p _ is₁ .0)) $
         tidy ! (token 𝓤 H A query° ∷ viewed 𝓤 H A query° ∷ token 𝓤 H A first° ∷ lent-at 𝓤 H A first° (ls₁ .1 .1 .1 .0) ∷ token 𝓤 H A last° ∷ lent-at 𝓤 H A last° (ls₁ .1 .1 .1 .1 .0) ∷ token 𝓤 H A series° ∷ viewed 𝓤 H A series° ∷ token 𝓤 H A rows° ∷ viewed 𝓤 H A rows° ∷ token 𝓤 H A left° ∷ viewed 𝓤 H A left° ∷ token 𝓤 H A right° ∷ viewed 𝓤 H A right° ∷ token 𝓤 H A scratch° ∷ lent-at 𝓤 H A scratch° (now scratch) ∷ []) (empty ∷ holds _ ∷ holds _ ∷ holds _ ∷ holds _ ∷ holds _ ∷ holds _ ∷ holds _ ∷ holds _ ∷ holds _ ∷ holds _ ∷ holds _ ∷ holds _ ∷ holds _ ∷ holds _ ∷ holds _ ∷ empty ∷ empty ∷ empty ∷ empty ∷ empty ∷ empty ∷ empty ∷ empty ∷ empty ∷ empty ∷ empty ∷ []) refl $
         put-at ! 50 (start ! 32 refl (sub ! 0 refl (whole !))) refl (tt, tt) $
@@ -119,7 +119,7 @@ module _ {M : Type 1} (𝓤 : URA M) (H : Heap 𝓤) (A : Atoms 𝓤) (W : Given
         put-at ! 56 (agg ! (and-then ! (loc ! 54 refl) (and-then ! (part ! 34 refl (sub ! 1 refl (whole !))) (no-more !)))) refl (tt, (tt, (record { fits = g-last .0 }, tt))) $
         move ! (8 ∷ 9 ∷ 2 ∷ 3 ∷ 4 ∷ 5 ∷ []) $
         calls-with ! fm meet-parts.ended (meet-parts.clauses 𝓤 H A mem run) known-meet-parts (kept rows° ∷ value (uint 𝓤 H A W w64) p is₁ ∷ lends first° (ls₁ .1 .1 .1 .0) (fits₁ .1 .1 .1 .0) ∷ lends last° (ls₁ .1 .1 .1 .1 .0) (fits₁ .1 .1 .1 .1 .0) ∷ [])
-        (λ fs. (((κs .1 .0, (fs .0 .0 ∷ [], (fs .1 .0 .0 ∷ [], tt))), (qs .1 .0, (fullShare, (fullShare, tt))), tt, (rows, (p, (record { ptr = first .ptr; name = fs .0 .1; now = (ls₁ .1 .1 .1 .0) }, (record { ptr = last .ptr; name = fs .1 .0 .1; now = (ls₁ .1 .1 .1 .1 .0) }, tt)))), (slice-vals rows, ((uint 𝓤 H A W w64) .val p ∷ [], (slice-vals first, (slice-vals last, tt))))), tt)) (λ fs. refl) (λ fs. refl) (λ fs ls. ls) (λ fs ls. refl) (λ fs. factI 𝓤 _ (emp 𝓤) (rw (put .1) (meet-asked (now series) head (now rows) (now left) (now right) ask (now query) (searchBuffers (now first) (now last) (now scratch) [] []) asked (put .0)))) (λ fs r ls. id⊢ 𝓤 _) (λ fs. (nothing 𝓤 H A W) .val) (λ fs. (nothing 𝓤 H A W) .tells) (λ fs. (and-then ! (loc ! 18 refl) (and-then ! (loc ! 34 refl) (and-then ! (loc ! 48 refl) (and-then ! (loc ! 52 refl) (no-more !)))))) (λ fs u ls₂ met is₂ fits₂.
+        (λ fs. (((κs .1 .0, (fs .0 .0 ∷ [], (fs .1 .0 .0 ∷ [], tt))), (qs .1 .0, (fullShare, (fullShare, tt))), tt, (rows, (p, (record { ptr = first .ptr; name = fs .0 .1; now = (ls₁ .1 .1 .1 .0) }, (record { ptr = last .ptr; name = fs .1 .0 .1; now = (ls₁ .1 .1 .1 .1 .0) }, tt)))), (slice-vals rows, ((uint 𝓤 H A W w64) .val p ∷ [], (slice-vals first, (slice-vals last, tt))))), tt)) (λ fs. refl) (λ fs. refl) (λ fs ls. ls) (λ fs ls. refl) (λ fs. factI 𝓤 _ (emp 𝓤) (rw (put .1) (meet-asked (now series) head (now rows) (now left) (now right) ask (now query) (now first) (now last) (now scratch) asked (put .0)))) (λ fs r ls. id⊢ 𝓤 _) (λ fs. (nothing 𝓤 H A W) .val) (λ fs. (nothing 𝓤 H A W) .tells) (λ fs. (and-then ! (loc ! 18 refl) (and-then ! (loc ! 34 refl) (and-then ! (loc ! 48 refl) (and-then ! (loc ! 52 refl) (no-more !)))))) (λ fs u ls₂ met is₂ fits₂.
         land ! (from ! (stop !)) (init ! 48 refl ((nothing 𝓤 H A W) .lawful .typed u _ is₂ .0)) $
         tidy ! (token 𝓤 H A rows° ∷ viewed 𝓤 H A rows° ∷ token 𝓤 H A first° ∷ lent-at 𝓤 H A first° (ls₂ .1 .1 .0) ∷ token 𝓤 H A last° ∷ lent-at 𝓤 H A last° (ls₂ .1 .1 .1 .0) ∷ token 𝓤 H A query° ∷ viewed 𝓤 H A query° ∷ token 𝓤 H A series° ∷ viewed 𝓤 H A series° ∷ token 𝓤 H A left° ∷ viewed 𝓤 H A left° ∷ token 𝓤 H A right° ∷ viewed 𝓤 H A right° ∷ token 𝓤 H A scratch° ∷ lent-at 𝓤 H A scratch° (now scratch) ∷ []) (empty ∷ holds _ ∷ holds _ ∷ holds _ ∷ holds _ ∷ holds _ ∷ holds _ ∷ holds _ ∷ holds _ ∷ holds _ ∷ holds _ ∷ holds _ ∷ holds _ ∷ holds _ ∷ holds _ ∷ holds _ ∷ holds _ ∷ holds _ ∷ holds _ ∷ holds _ ∷ holds _ ∷ empty ∷ empty ∷ empty ∷ empty ∷ empty ∷ empty ∷ []) refl $
         put-at ! 58 (start ! 32 refl (sub ! 0 refl (whole !))) refl (tt, tt) $
@@ -130,7 +130,7 @@ module _ {M : Type 1} (𝓤 : URA M) (H : Heap 𝓤) (A : Atoms 𝓤) (W : Given
         put-at ! 68 (agg ! (and-then ! (loc ! 66 refl) (and-then ! (part ! 36 refl (sub ! 1 refl (whole !))) (no-more !)))) refl (tt, (tt, (record { fits = g-scratch .0 }, tt))) $
         move ! (8 ∷ 9 ∷ 10 ∷ 11 ∷ 12 ∷ 13 ∷ 6 ∷ 7 ∷ 2 ∷ 3 ∷ 4 ∷ 5 ∷ 14 ∷ 15 ∷ []) $
         calls-with ! fm hand-out.ended (hand-out.clauses 𝓤 H A mem run) known-hand-out (kept series° ∷ value (Headᴰ 𝓤 H A W) head g-head ∷ kept left° ∷ kept right° ∷ kept query° ∷ lends first° (ls₂ .1 .1 .0) (fits₂ .1 .1 .0) ∷ lends last° (ls₂ .1 .1 .1 .0) (fits₂ .1 .1 .1 .0) ∷ lends scratch° (now scratch) refl ∷ [])
-        (λ fs. (((κs .0, (κs .1 .1 .0, (κs .1 .1 .1 .0, (κs .1 .1 .1 .1 .0, (fs .0 .0 ∷ [], (fs .1 .0 .0 ∷ [], (fs .1 .1 .0 .0 ∷ [], tt))))))), (qs .0, (qs .1 .1 .0, (qs .1 .1 .1 .0, (qs .1 .1 .1 .1 .0, (fullShare, (fullShare, (fullShare, tt))))))), tt, (series, (head, (left, (right, (query, (record { ptr = first .ptr; name = fs .0 .1; now = (ls₂ .1 .1 .0) }, (record { ptr = last .ptr; name = fs .1 .0 .1; now = (ls₂ .1 .1 .1 .0) }, (record { ptr = scratch .ptr; name = fs .1 .1 .0 .1; now = (now scratch) }, tt)))))))), (slice-vals series, ((Headᴰ 𝓤 H A W) .val head ∷ [], (slice-vals left, (slice-vals right, (slice-vals query, (slice-vals first, (slice-vals last, (slice-vals scratch, tt))))))))), tt)) (λ fs. refl) (λ fs. refl) (λ fs ls. ls) (λ fs ls. refl) (λ fs. factI 𝓤 _ (emp 𝓤) (hand-asked (now series) head (now rows) (now left) (now right) ask (now query) (searchBuffers (now first) (now last) (now scratch) [] []) asked (put .0) (rw (put .1) at met))) (λ fs r ls. id⊢ 𝓤 _) (λ fs. (Soughtᴰ 𝓤 H A W) .val) (λ fs. (Soughtᴰ 𝓤 H A W) .tells) (λ fs. (and-then ! (loc ! 6 refl) (and-then ! (loc ! 8 refl) (and-then ! (loc ! 12 refl) (and-then ! (loc ! 14 refl) (and-then ! (loc ! 18 refl) (and-then ! (loc ! 48 refl) (and-then ! (loc ! 52 refl) (and-then ! (loc ! 56 refl) (no-more !)))))))))) (λ fs t ls₃ handed is₃ fits₃.
+        (λ fs. (((κs .0, (κs .1 .1 .0, (κs .1 .1 .1 .0, (κs .1 .1 .1 .1 .0, (fs .0 .0 ∷ [], (fs .1 .0 .0 ∷ [], (fs .1 .1 .0 .0 ∷ [], tt))))))), (qs .0, (qs .1 .1 .0, (qs .1 .1 .1 .0, (qs .1 .1 .1 .1 .0, (fullShare, (fullShare, (fullShare, tt))))))), tt, (series, (head, (left, (right, (query, (record { ptr = first .ptr; name = fs .0 .1; now = (ls₂ .1 .1 .0) }, (record { ptr = last .ptr; name = fs .1 .0 .1; now = (ls₂ .1 .1 .1 .0) }, (record { ptr = scratch .ptr; name = fs .1 .1 .0 .1; now = (now scratch) }, tt)))))))), (slice-vals series, ((Headᴰ 𝓤 H A W) .val head ∷ [], (slice-vals left, (slice-vals right, (slice-vals query, (slice-vals first, (slice-vals last, (slice-vals scratch, tt))))))))), tt)) (λ fs. refl) (λ fs. refl) (λ fs ls. ls) (λ fs ls. refl) (λ fs. factI 𝓤 _ (emp 𝓤) (hand-asked (now series) head (now rows) (now left) (now right) ask (now query) (now first) (now last) (now scratch) asked (put .0) (rw (put .1) at met))) (λ fs r ls. id⊢ 𝓤 _) (λ fs. (Soughtᴰ 𝓤 H A W) .val) (λ fs. (Soughtᴰ 𝓤 H A W) .tells) (λ fs. (and-then ! (loc ! 6 refl) (and-then ! (loc ! 8 refl) (and-then ! (loc ! 12 refl) (and-then ! (loc ! 14 refl) (and-then ! (loc ! 18 refl) (and-then ! (loc ! 48 refl) (and-then ! (loc ! 52 refl) (and-then ! (loc ! 56 refl) (no-more !)))))))))) (λ fs t ls₃ handed is₃ fits₃.
         land ! (from ! (stop !)) (init ! 16 refl ((Soughtᴰ 𝓤 H A W) .lawful .typed t _ is₃ .0)) $
         tidy ! (token 𝓤 H A series° ∷ viewed 𝓤 H A series° ∷ token 𝓤 H A left° ∷ viewed 𝓤 H A left° ∷ token 𝓤 H A right° ∷ viewed 𝓤 H A right° ∷ token 𝓤 H A query° ∷ viewed 𝓤 H A query° ∷ token 𝓤 H A first° ∷ lent-at 𝓤 H A first° (ls₃ .1 .1 .1 .1 .1 .0) ∷ token 𝓤 H A last° ∷ lent-at 𝓤 H A last° (ls₃ .1 .1 .1 .1 .1 .1 .0) ∷ token 𝓤 H A scratch° ∷ lent-at 𝓤 H A scratch° (ls₃ .1 .1 .1 .1 .1 .1 .1 .0) ∷ token 𝓤 H A rows° ∷ viewed 𝓤 H A rows° ∷ []) (holds _ ∷ holds _ ∷ holds _ ∷ holds _ ∷ holds _ ∷ holds _ ∷ holds _ ∷ holds _ ∷ holds _ ∷ holds _ ∷ holds _ ∷ holds _ ∷ holds _ ∷ holds _ ∷ holds _ ∷ holds _ ∷ holds _ ∷ holds _ ∷ holds _ ∷ holds _ ∷ holds _ ∷ holds _ ∷ holds _ ∷ holds _ ∷ holds _ ∷ holds _ ∷ holds _ ∷ []) refl $
         returns ! (look ! 16 refl) $

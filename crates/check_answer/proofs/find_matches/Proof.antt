@@ -9,7 +9,7 @@ check-prepared-requires : tie.Need-check-prepared-requires
 check-prepared-requires c κs =
     let p = c.before.before.before.before.before.before.before.before.before.before.pre in
     let few = p.0.few in
-    (p.0, (p.1, (front-long _ _ few, front-long _ _ few, front-long _ _ few)))
+    (p.0, (p.1.0, ((front-long _ _ few, front-long _ _ few, front-long _ _ few), p.1.1)))
 
 returns : tie.Need-returns
 returns c = answers c.before.before.before.before.before.before.before.before.check-prepared.ensures c.answer.ensures

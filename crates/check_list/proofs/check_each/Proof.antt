@@ -6,16 +6,16 @@ use own.Turn.{RunsSoFar, run-inside, runs-start, runs-next, runs-end}
 use own.check_each.Tie as tie
 
 abbrev Inv : tie.InvT-loop
-Inv kind s q query curve low high l left right runs room₀ row₀ offsets₀ distances₀ n₀ i₀ room row offsets distances n i =
-    (length room ≡ length room₀) × (length row ≡ length row₀) × RunsSoFar (asked kind s q l) left right runs offsets₀ distances₀ offsets distances n i
+Inv pick kind s q query curve low high l left right runs room₀ row₀ offsets₀ distances₀ n₀ i₀ room row offsets distances n i =
+    (length room ≡ length room₀) × (length row ≡ length row₀) × RunsSoFar pick (asked pick kind s q l) left right runs offsets₀ distances₀ offsets distances n i
 
 abbrev μ : tie.MeasureT-loop
-μ kind s q query curve low high l left right runs room₀ row₀ offsets₀ distances₀ n₀ i₀ room row offsets distances n i = runs - i
+μ pick kind s q query curve low high l left right runs room₀ row₀ offsets₀ distances₀ n₀ i₀ room row offsets distances n i = runs - i
 
 loop-holds : tie.Need-loop-holds Inv μ
 loop-holds c =
     let a = c.before.before.before.before.before.args in
-    (refl, refl, runs-start _ _ _ _ _ _)
+    (refl, refl, runs-start _ _ _ _ _ _ _)
 
 -- the run at which the loop stands is lent
 module _ (c : tie.In-loop Inv μ) where
@@ -32,8 +32,9 @@ check-run-requires : tie.Need-check-run-requires Inv μ
 check-run-requires c κs =
     let t = c.before.before.before.before.before.before in
     let p = o t .pre in
-    let h = run-inside p.1.1 _ t.loop-test.taken in
-    (p.0, ((search needs, search needs), (t.before.loop.inv.2.few t.loop-test.taken, omega arith, omega arith)))
+    let h = run-inside p.1.1.0 _ t.loop-test.taken in
+    let v = t.before.loop.inv.2.so-far in
+    (p.0, ((search needs, search needs), ((t.before.loop.inv.2.few t.loop-test.taken, omega arith, omega arith), omega (arith, v.as-many-offsets, v.as-many-distances, p.1.1.1))))
 
 loop-again : tie.Need-loop-again Inv μ
 loop-again c =
@@ -43,7 +44,7 @@ loop-again c =
     let p = o t .pre in (
       c.before.before.before.before.before.before.room.given ∙ v.0,
       (search needs) ∙ v.1,
-      runs-next p.1.1 t.loop-test.taken v.2 r.check-run.ensures,
+      runs-next p.1.1.0 t.loop-test.taken v.2 r.check-run.ensures,
     )
 
 pub check-each-spec : {M : Type 1} → own.check_each.Statement.statement M

@@ -17,5 +17,9 @@ returns-3 : tie.Need-returns-3
 unfolding toldFound
 returns-3 c = sym (ap (λ (f : Found). toldFound f c.before.before.before.args.second) c.before.first3.given.1)
 
+returns-4 : tie.Need-returns-4
+unfolding toldFound
+returns-4 c = sym (ap (λ (f : Found). toldFound f c.before.before.before.args.second) c.before.first4.given.1)
+
 pub tell-found-spec : {M : Type 1} → own.Statement.statement M
-tell-found-spec = tie.close (tie.spec (λ c. search needs) (λ c κs. search needs) (λ c. search needs) (λ c. search needs) returns returns-2 returns-3)
+tell-found-spec = tie.close (tie.spec (λ c. search needs) (λ c κs. search needs) (λ c. search needs) (λ c. search needs) (λ c. search needs) returns returns-2 returns-3 returns-4)

@@ -10,7 +10,7 @@ returns c = record {
 }
 
 find-matches-requires : tie.Need-find-matches-requires
-find-matches-requires c κs = let p = c.before.before.before.before.before.before.before.before.before.pre c.before.before.if1.left in (p.limited, p.lent)
+find-matches-requires c κs = let p = c.before.before.before.before.before.before.before.before.before.pre c.before.before.if1.left in (p.limited, (p.lent, p.fits))
 
 returns-2 : tie.Need-returns-2
 returns-2 c = record {

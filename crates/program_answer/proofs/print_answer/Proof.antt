@@ -25,7 +25,7 @@ returns-2 c =
     let w = c.before.before.before.before.before.before.before.before.before.before in
     let d = w.before.before.before.before.before in
     let b = built d in
-    prints _ _ _ (start b .pre .0) _ _ _ (length-replicate 4096 zeroRow) zeros zeros _ _ _ _ b.build-table.ensures d.answer.given.1 _ _ _ _ _ (start b .pre .1) w.write-table.ensures
+    prints _ _ _ (start b .pre .0) _ _ _ (length-replicate 4096 zeroRow) zeros zeros _ _ _ _ b.build-table.ensures d.answer.given.1 (start b .pre .2) _ _ _ _ _ (start b .pre .1) w.write-table.ensures
     (rw c.before.before.before.before.before.before.before.length-of.ensures at c.before.before.list-matches.ensures)
 
 pub print-answer-spec : {M : Type 1} → own.print_answer.Statement.statement M

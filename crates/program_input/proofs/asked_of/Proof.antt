@@ -1,5 +1,6 @@
 -- `asked_of`: each number fits its type.
 use Rattle.meaning_numbers.proofs.Prelude.{needs, zarith, w64, toZ-ofZ}
+use Rattle.meaning_filter.specs.declared.Pick.{Pick}
 use Rattle.program_input.specs.Tables.{askedOf}
 use Rattle.program_input.proofs.asked_of as own
 use own.Tie as tie
@@ -23,7 +24,7 @@ returns c =
     let threshold-is = rw (toZ-ofZ w64 x.threshold (record { sfits = threshold.before.struct-told2.given.1.1.1.1.0.1 })) at threshold.held-long.ensures in
     let scale-is = rw (toZ-ofZ w64 x.scale (record { sfits = scale.before.struct-told3.given.1.1.1.1.1.0.1 })) at scale.held2.ensures in
     let shift-is = rw (toZ-ofZ w64 x.shift (record { sfits = shift.before.struct-told4.given.1.1.1.1.1.1.0.1 })) at shift.held3.ensures in
-    λ i. record { window = window-is i; width = width-is i; merge = merge-is i; ask = record { kind = kind-is i; limits = record { band = band-is i; threshold = threshold-is i; scale = scale-is i; shift = shift-is i } } }
+    λ i. record { window = window-is i; width = width-is i; merge = merge-is i; ask = record { kind = kind-is i; limits = record { band = band-is i; threshold = threshold-is i; scale = scale-is i; shift = shift-is i }; pick = Pick.All } }
 
 pub asked-of-spec : {M : Type 1} → own.Statement.statement M
 asked-of-spec =

@@ -2,6 +2,8 @@
 use borrow.Author.Needs.{needs}
 use lib.ListN.{length-take}
 use native.Mathlib.Omega.{arith}
+use mathlib.Core.Path.{ap}
+use Rattle.program_input.specs.{declared.Asked.Asked, Tables.askedOf}
 use Rattle.program_print.proofs as own
 use own.End.{sound-here, refused-end, not-failed, given-here, call-free, printed-end}
 use own.finish.Tie as tie
@@ -36,9 +38,10 @@ asked-of-requires c κs =
     rw c.numbers-of.ensures (given-here _ _ _ _ _ (refused d .refuse .ensures) d.before.before.if1.left d.r.given.1 (start d .pre .0 .reached) .limited)
 
 print-answer-requires : tie.Need-print-answer-requires
+unfolding askedOf
 print-answer-requires c κs =
     let d : tie.After-r = search needs in
-    (rw (c.before.asked-of.ensures, c.before.before.numbers-of.ensures) (call-free _ _ _ _ _ (refused d .refuse .ensures) d.before.before.if1.left d.r.given.1 (start d .pre .0 .reached)), search needs)
+    (rw (c.before.asked-of.ensures, c.before.before.numbers-of.ensures) (call-free _ _ _ _ _ (refused d .refuse .ensures) d.before.before.if1.left d.r.given.1 (start d .pre .0 .reached)), search needs, ap (λ (a : Asked). a.ask.pick) c.before.asked-of.ensures)
 
 returns-3 : tie.Need-returns-3
 returns-3 c =

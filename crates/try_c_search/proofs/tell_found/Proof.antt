@@ -17,7 +17,11 @@ returns-3 : tie.Need-returns-3
 unfolding toldFound
 returns-3 c = c.numbers3.ensures ∙ sym (ap toldFound c.before.before.a3.given.1)
 
+returns-4 : tie.Need-returns-4
+unfolding toldFound
+returns-4 c = c.numbers4.ensures ∙ sym (ap toldFound c.before.before.a4.given.1)
+
 pub tell-found-spec : {M : Type 1} → own.Statement.statement M
 tell-found-spec =
-    tie.close (tie.spec (λ c. search needs) (λ c κs. search needs) (λ c. search needs) (λ c κs. search needs) (λ c. search needs) (λ c. search needs) (λ c κs. search needs) returns returns-2
-    returns-3)
+    tie.close (tie.spec (λ c. search needs) (λ c κs. search needs) (λ c. search needs) (λ c κs. search needs) (λ c. search needs) (λ c κs. search needs) (λ c. search needs) (λ c. search needs)
+    (λ c κs. search needs) returns returns-2 returns-3 returns-4)

@@ -1,0 +1,3 @@
+-- Laws of check_few.
+pub mod Place
+pub mod Kept

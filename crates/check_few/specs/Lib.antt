@@ -1,0 +1,3 @@
+-- What the contracts of check_few cite.
+pub mod Place
+pub mod Kept
