@@ -51,19 +51,22 @@ pub fn audit(s: &[i32], x: &Lent) -> Answer {
 
 /// The question that a search asks of the model.
 pub fn question(a: Asked, q: &[i32]) -> Question<'_> {
-    Question { normal: a.kind != 0, query: q, band: a.band as i64, threshold: a.threshold.min(i64::MAX as u64) as i64, scale: a.scale as i64, shift: a.shift as i64 }
+    Question { normal: a.kind != 0, query: q, band: a.band as i64, threshold: a.threshold.min(i64::MAX as u64) as i64, scale: a.scale as i64, shift: a.shift as i64, closest: (a.pick != 0).then_some(a.count as i64) }
 }
 
-/// A search that is not refused leaves the candidates as joined runs, matches as far as the list holds them, and zeros.
+/// A search that is not refused leaves the candidates as joined runs, matches as far as the list holds them or the closest few, and zeros.
 pub fn search(s: &[i32], x: &Lent, a: Asked, q: &[i32], b: &mut Lists) -> Searched {
     let (x, z) = (x.index(), question(a, q));
-    if let Some((number, place)) = index::search_refusal(&x, s, &z, b.first.len().min(b.last.len()), b.scratch.len()) {
+    let room = b.offsets.len().min(b.distances.len());
+    if let Some((number, place)) = index::search_refusal(&x, s, &z, [b.first.len().min(b.last.len()), b.scratch.len(), room]) {
         return Searched { kind: 3, first: number as usize, second: place };
     }
     let Found { candidates, matches } = index::search(&x, s, &z);
     let runs = index::runs_of(&candidates.iter().copied().collect());
-    let room = b.offsets.len().min(b.distances.len());
-    let list = &matches[..room.min(matches.len())];
+    let (kind, list) = match z.closest {
+        None => ((matches.len() > room) as u32, matches[..room.min(matches.len())].to_vec()),
+        Some(k) => (2, index::closest(&matches, k as usize)),
+    };
     *b = Lists {
         first: filled(b.first.len(), runs.iter().map(|r| r.0 as u32).collect()),
         last: filled(b.last.len(), runs.iter().map(|r| r.1 as u32).collect()),
@@ -71,7 +74,7 @@ pub fn search(s: &[i32], x: &Lent, a: Asked, q: &[i32], b: &mut Lists) -> Search
         offsets: filled(b.offsets.len(), list.iter().map(|e| e.0 as u32).collect()),
         distances: filled(b.distances.len(), list.iter().map(|e| e.1).collect()),
     };
-    Searched { kind: (matches.len() > room) as u32, first: candidates.len(), second: matches.len() }
+    Searched { kind, first: candidates.len(), second: matches.len() }
 }
 
 pub fn write(x: &Lent, text: &mut [u8]) -> Answer {

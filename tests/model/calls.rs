@@ -54,14 +54,14 @@ fn no_hours(c: &mut Lines) -> Result<String, Bad> {
     match line.word()? { "none" => line.end(), _ => line.bad("a search takes no hours") }
 }
 
-/// The query, and what is asked of it.
+/// The query, and what is asked of it: all matches.
 fn asked(c: &mut Lines) -> Result<(Vec<i32>, Asked), Bad> {
     let mut line = c.line("query")?;
     let kind = match line.word()? { "raw" => 0, "normal" => 1, _ => return line.bad("a query is raw or normal") };
     let query = line.list(&[Signed])?.iter().map(|&v| v as i32).collect();
     line.end()?;
     let n = c.numbers("limits", &[Count, Large, Count, Count])?;
-    Ok((query, Asked { kind, band: n[0] as u32, threshold: n[1] as u64, scale: n[2] as u32, shift: n[3] as u32 }))
+    Ok((query, Asked { kind, band: n[0] as u32, threshold: n[1] as u64, scale: n[2] as u32, shift: n[3] as u32, pick: 0, count: 0 }))
 }
 
 /// The entries of the buffers to lend.
@@ -100,20 +100,23 @@ fn audit(c: &mut Lines) -> Result<Gave, Bad> {
     Ok(Gave { answer, wanted: says, head: vec![], buffers: vec![] })
 }
 
-fn search(c: &mut Lines) -> Result<Gave, Bad> {
-    let (s, x, (q, a)) = (series(c)?, one_index(c)?, asked(c)?);
+/// A search that gives all matches, or the closest few.
+fn search(c: &mut Lines, few: bool) -> Result<Gave, Bad> {
+    let (s, x, (q, mut a)) = (series(c)?, one_index(c)?, asked(c)?);
+    if few { (a.pick, a.count) = (1, c.count("closest")?) }
     no_hours(c)?;
     let mut b = Lists::of_sevens(room(c)?);
     let a = entries::search(&s, &x, a, &q, &mut b);
     let buffers = vec![pairs("candidates", PAIR, &b.first, &b.last), pairs("list", MATCH, &b.offsets, &b.distances), single("scratch", &[], &b.scratch)];
-    Ok(Gave { answer: given::<2>(a.kind, a.first, a.second), wanted: gives::<2>, head: vec![], buffers })
+    let good = if few { 2 } else { 0 };
+    Ok(Gave { answer: given::<2>(good, a.kind, a.first, a.second), wanted: gives::<2>, head: vec![], buffers })
 }
 
 fn write(c: &mut Lines) -> Result<Gave, Bad> {
     let (x, [size]) = (index(c)?, room(c)?);
     let mut text = vec![7; size];
     let a = entries::write(&x, &mut text);
-    Ok(Gave { answer: given::<1>(a.kind, a.first, a.second), wanted: gives::<1>, head: vec![], buffers: vec![single("text", &[Byte], &text)] })
+    Ok(Gave { answer: given::<1>(0, a.kind, a.first, a.second), wanted: gives::<1>, head: vec![], buffers: vec![single("text", &[Byte], &text)] })
 }
 
 fn read(c: &mut Lines) -> Result<Gave, Bad> {
@@ -123,10 +126,10 @@ fn read(c: &mut Lines) -> Result<Gave, Bad> {
 
 // ---- what was given
 
-/// The answer of any entry but the audit: number, place and so many counts.
-fn given<const COUNTS: usize>(kind: u32, first: usize, second: usize) -> String {
+/// The answer of any entry but the audit, number, place and so many counts: its kind where nothing refuses is `good`.
+fn given<const COUNTS: usize>(good: u32, kind: u32, first: usize, second: usize) -> String {
     let numbers = match kind {
-        0 => [0, 0, first, second],
+        _ if kind == good => [0, 0, first, second],
         1 => [24, 0, first, second],
         3 => [first, second, 0, 0],
         _ => return format!("an answer of kind {kind}"),
@@ -139,7 +142,7 @@ fn made(a: Answer, b: Buffers) -> Gave {
     let rows = b.rows.iter().flat_map(|r| [r.low as i128, r.up as i128, r.first as i128, r.runs as i128]).collect();
     let head = [a.head.window, a.head.width, a.head.windows].map(|n| n as i128).to_vec();
     let buffers = vec![Buffer { word: "rows", entry: ROW, after: rows }, pairs("runs", PAIR, &b.left, &b.right)];
-    Gave { answer: given::<2>(a.kind, a.first, a.second), wanted: gives::<2>, head, buffers }
+    Gave { answer: given::<2>(0, a.kind, a.first, a.second), wanted: gives::<2>, head, buffers }
 }
 
 /// One column as a buffer.
@@ -212,11 +215,12 @@ fn difference(word: &str, entry: &[Type], wanted: &[i128], got: &[i128]) -> Opti
 // ---- cases and folders
 
 /// The entries that a case may call; what each differs in.
-const ENTRIES: [(&str, fn(&mut Lines) -> Result<Vec<String>, Bad>); 6] = [
+const ENTRIES: [(&str, fn(&mut Lines) -> Result<Vec<String>, Bad>); 7] = [
     ("build", |c| build(c).and_then(|gave| held(c, gave))),
     ("extend", |c| extend(c).and_then(|gave| held(c, gave))),
     ("audit", |c| audit(c).and_then(|gave| held(c, gave))),
-    ("search", |c| search(c).and_then(|gave| held(c, gave))),
+    ("search", |c| search(c, false).and_then(|gave| held(c, gave))),
+    ("few", |c| search(c, true).and_then(|gave| held(c, gave))),
     ("write", |c| write(c).and_then(|gave| held(c, gave))),
     ("read", |c| read(c).and_then(|gave| held(c, gave))),
 ];

@@ -1,4 +1,4 @@
-// A model of the index: built, extended, audited, searched and judged, written from the words of documents 01 and 02 (item 1) and from nothing else. Rows are sets of offsets; nothing is fast.
+// A model of the index: built, extended, audited, searched and judged, written from the words of documents 01 and 02 (items 1 and 2) and from nothing else. Rows are sets of offsets; nothing is fast.
 use crate::model::{envelopes, match_normal, match_raw, normalised, root, row_number, spread, total};
 use std::collections::{BTreeMap, BTreeSet};
 
@@ -23,9 +23,10 @@ pub type Refusal = (u32, usize);
 
 pub enum Audited { Yes, Wrong(usize, usize), Missing(usize) }
 
-pub struct Question<'a> { pub normal: bool, pub query: &'a [i32], pub band: i64, pub threshold: i64, pub scale: i64, pub shift: i64 }
+/// What is asked: all matches, or the closest few, so many.
+pub struct Question<'a> { pub normal: bool, pub query: &'a [i32], pub band: i64, pub threshold: i64, pub scale: i64, pub shift: i64, pub closest: Option<i64> }
 
-/// What a search finds: the candidates, and of each match offset and distance.
+/// What a search finds, the closest few too: the candidates, and of each match offset and distance.
 pub struct Found { pub candidates: Vec<usize>, pub matches: Vec<(usize, u64)> }
 
 pub fn window_sums(s: &[i32], w: usize) -> Vec<i64> {
@@ -194,7 +195,21 @@ pub fn matches_among(offsets: &[usize], s: &[i32], z: &Question) -> Vec<(usize, 
     }).collect()
 }
 
-// ---- refusals, each table in the order of its numbers
+/// 02, item 2: "the k matches of least distance within E, by distance and then by earlier offset; all of them if there are fewer": "the beginning of the whole list put in that order".
+pub fn closest(matches: &[(usize, u64)], k: usize) -> Vec<(usize, u64)> {
+    let mut list = matches.to_vec();
+    list.sort_by_key(|&(offset, distance)| (distance, offset));
+    list.truncate(k);
+    list
+}
+
+/// The first match that is not among the closest k is as far as the last that is.
+pub fn tie_at(matches: &[(usize, u64)], k: usize) -> bool {
+    let list = closest(matches, k + 1);
+    k > 0 && list.len() > k && list[k - 1].1 == list[k].1
+}
+
+// ---- refusals, each table in the order in which its numbers are judged
 
 /// A refusal's number, and its place where it applies.
 pub type Conditions = Vec<(u32, Option<usize>)>;
@@ -256,8 +271,8 @@ pub fn audit_refusal(x: &Index, s: &[i64], most: usize) -> Option<Refusal> { fir
 
 fn flat(q: &[i64]) -> bool { q.iter().all(|&v| v == q[0]) }
 
-/// 6 to 11: what is asked of a query, its band and its limits, beside the window length.
-fn query_conditions(n: usize, q: &[i64], normal: bool, w: i64, band: i64, threshold: i64, scale: i64, shift: i64) -> Conditions {
+/// 6 to 11, and 30 directly after 10: what is asked of a query, its band, its limits and the number of the closest few, beside the window length.
+fn query_conditions(n: usize, q: &[i64], normal: bool, w: i64, band: i64, threshold: i64, scale: i64, shift: i64, closest: Option<i64>) -> Conditions {
     let m = q.len();
     vec![
         (6, at_zero(m < 1 || m > 1024 || m > n)),
@@ -265,24 +280,25 @@ fn query_conditions(n: usize, q: &[i64], normal: bool, w: i64, band: i64, thresh
         (8, at_zero(band < 0 || band > m as i64 - 1)),
         (9, at_zero(!(0..=1_000_000_000_000).contains(&threshold))),
         (10, at_zero(!(10..=100).contains(&scale) || !(0..=20_000).contains(&shift))),
+        (30, at_zero(closest.is_some_and(|k| !(1..=64).contains(&k)))),
         (11, at_zero(normal && m > 0 && flat(q))),
     ]
 }
 
-/// All but 24.
-pub fn search_conditions(x: &Index, s: &[i32], z: &Question, candidates: usize, scratch: usize) -> Conditions {
+/// All but 24, beside the entries of candidates, scratch and list. 02, item 2: "a list with fewer than k entries is 23".
+pub fn search_conditions(x: &Index, s: &[i32], z: &Question, [candidates, scratch, list]: [usize; 3]) -> Conditions {
     let (n, q) = (s.len(), wide(z.query));
     let mut table = vec![(1, at_zero(n < 1 || n > MOST)), (2, outside(&wide(s))), (2, outside(&q))];
-    table.extend(query_conditions(n, &q, z.normal, x.window, z.band, z.threshold, z.scale, z.shift));
+    table.extend(query_conditions(n, &q, z.normal, x.window, z.band, z.threshold, z.scale, z.shift, z.closest));
     table.extend([
         (20, bad_row(x)),
         (22, at_zero(windows(x, n).is_gt())),
-        (23, at_zero((candidates.min(scratch) as i64) < n as i64 - x.window + 1)),
+        (23, at_zero((candidates.min(scratch) as i64) < n as i64 - x.window + 1 || z.closest.is_some_and(|k| (list as i64) < k))),
     ]);
     table
 }
 
-pub fn search_refusal(x: &Index, s: &[i32], z: &Question, candidates: usize, scratch: usize) -> Option<Refusal> { first(&search_conditions(x, s, z, candidates, scratch)) }
+pub fn search_refusal(x: &Index, s: &[i32], z: &Question, room: [usize; 3]) -> Option<Refusal> { first(&search_conditions(x, s, z, room)) }
 
 /// The search program's build and search, judged together.
 pub fn program_refusal(c: &crate::texts::Call) -> Option<Refusal> {
@@ -295,6 +311,6 @@ pub fn program_refusal(c: &crate::texts::Call) -> Option<Refusal> {
         (4, at_zero(!(1..=1_000_000).contains(&c.width))),
         (5, at_zero(!(0..=100).contains(&c.merge))),
     ];
-    table.extend(query_conditions(n, &c.query, c.normal, w, c.band, c.threshold, c.scale, c.shift));
+    table.extend(query_conditions(n, &c.query, c.normal, w, c.band, c.threshold, c.scale, c.shift, None));
     first(&table)
 }

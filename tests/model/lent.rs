@@ -22,12 +22,12 @@ pub struct Lent { pub head: Head, pub rows: Vec<Row>, pub left: Vec<u32>, pub ri
 #[derive(Clone, PartialEq, Eq, Debug)]
 pub struct Buffers { pub rows: Vec<Row>, pub left: Vec<u32>, pub right: Vec<u32> }
 
-/// The kind and the limits, as a search is asked for them: kind 0 is raw, any other normalised.
+/// The kind, the limits and the pick, as a search is asked for them: kind 0 is raw, any other normalised; pick 0 is all matches, any other the closest `count`.
 #[repr(C)]
 #[derive(Clone, Copy, PartialEq, Eq, Debug)]
-pub struct Asked { pub kind: u32, pub band: u32, pub threshold: u64, pub scale: u32, pub shift: u32 }
+pub struct Asked { pub kind: u32, pub band: u32, pub threshold: u64, pub scale: u32, pub shift: u32, pub pick: u32, pub count: u32 }
 
-/// A search's answer as it is told to C: 0 and both counts, 1 and both counts where the list is full, 3 and the refusal's number and place.
+/// A search's answer as it is told to C: 0 and both counts, 1 and both counts where the list is full, 2 and both counts where the closest few are listed, 3 and the refusal's number and place.
 #[repr(C)]
 #[derive(Clone, Copy, PartialEq, Eq, Debug)]
 pub struct Searched { pub kind: u32, pub first: usize, pub second: usize }

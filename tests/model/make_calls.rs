@@ -63,7 +63,7 @@ fn wide(s: &[i32]) -> Vec<i64> { s.iter().map(|&v| v as i64).collect() }
 
 // ---- cases
 
-/// What a search is lent; `room` is of candidates, scratch and list.
+/// What a search is lent, of all matches or of the closest few; `room` is of candidates, scratch and list.
 struct Search { s: Vec<i32>, x: Lent, a: Asked, q: Vec<i32>, room: [usize; 3] }
 
 /// A file of cases, and how often each entry is given each number.
@@ -111,18 +111,19 @@ impl File {
     fn search(&mut self, want: u32, note: &str, Search { s, x, a, q, room }: &Search) -> bool {
         let mut b = Lists::of_sevens(*room);
         let told = answers::search(s, x, *a, q, &mut b);
-        let number = match told.kind { 0 => 0, 1 => 24, _ => told.first as u32 };
+        let number = match told.kind { 0 | 2 => 0, 1 => 24, _ => told.first as u32 };
+        let (entry, closest, most) = if a.pick == 0 { ("search", String::new(), room[2]) } else { ("few", format!("closest {}\n", a.count), a.count as usize) };
         let given = if told.kind == 3 { format!("gives {number} {} 0 0\nkept\n", told.second) } else {
             // only the first run can end at 0
             let runs = if told.first == 0 { 0 } else { 1 + b.last[1..].iter().take_while(|&&last| last > 0).count() };
-            let listed = told.second.min(room[2]);
+            let listed = told.second.min(most);
             format!("gives {number} 0 {} {}\n{}{}", told.first, told.second, pairs("candidates", &b.first[..runs], &b.last[..runs]), pairs("list", &b.offsets[..listed], &b.distances[..listed]))
         };
-        let note = noted(note, &search_conditions(&x.index(), s, &answers::question(*a, q), room[0], room[1]));
+        let note = noted(note, &search_conditions(&x.index(), s, &answers::question(*a, q), *room));
         let kind = if a.kind == 0 { "raw" } else { "normal" };
-        let asked = format!("{}limits {} {} {} {}\nhours none\n", list(&format!("query {kind}"), q.iter().map(i32::to_string)), a.band, a.threshold, a.scale, a.shift);
+        let asked = format!("{}limits {} {} {} {}\n{closest}hours none\n", list(&format!("query {kind}"), q.iter().map(i32::to_string)), a.band, a.threshold, a.scale, a.shift);
         let lent = format!("{}indexes 1\n{}{asked}room {} {} {}\n", series(s), index_lent(x), room[0], room[1], room[2]);
-        number == want && self.case("search", want, &note, lent, given)
+        number == want && self.case(entry, want, &note, lent, given)
     }
 
     fn write(&mut self, want: u32, note: &str, x: &Lent, room: usize) -> bool {
@@ -247,7 +248,7 @@ fn any_search(r: &mut Numbers, kind: usize, number: u32) -> Search {
     let q = loop { let q = query(r, &s, m); if !normal || spread(&q) > 0 { break q } else { s = values(r, n, 1) } };
     let band = if kind % 2 == 1 { r.from_to(1, m as i64 - 1) as u32 } else { 0 };
     let threshold = match r.below(6) { 0 => 0, 1 => 1_000_000_000_000, _ => middle(&s, &q, normal, band as usize) };
-    let a = Asked { kind: normal as u32, band, threshold, scale: pick(r, &[10, 15, 25, 40, 100]), shift: pick(r, &[0, 20, 300, 20_000]) };
+    let a = Asked { kind: normal as u32, band, threshold, scale: pick(r, &[10, 15, 25, 40, 100]), shift: pick(r, &[0, 20, 300, 20_000]), pick: 0, count: 0 };
     let w = r.from_to(1, m.min(5) as i64) as usize;
     let mut x = Lent::of(&build(&s, w, pick(r, &[1, 2, 7, 50, 1_000]), pick(r, &[0, 50, 80, 100])));
     if r.below(5) == 0 { x.refile(r); }
@@ -267,6 +268,17 @@ fn finds(c: &mut Search, k: usize) -> bool {
 /// How many windows the index lacks.
 fn short_of(c: &Search) -> i64 { c.s.len() as i64 + 1 - c.x.head.window as i64 - c.x.head.windows as i64 }
 
+/// Through the index of a beginning of the series instead, which may be wrong; false where no beginning is shorter.
+fn shorten(r: &mut Numbers, c: &mut Search) -> bool {
+    let (n, w) = (c.s.len(), c.x.head.window as usize);
+    if n == w { return false }
+    let covered = r.from_to(w as i64, n as i64 - 1) as usize;
+    c.x = Lent::of(&build(&c.s[..covered], w, c.x.head.width as i64, pick(r, &[0, 80])));
+    if r.below(3) == 0 { c.x.refile(r); }
+    if r.below(3) == 0 { rubbish_behind(r, &mut c.x) }
+    true
+}
+
 fn spoil_search(r: &mut Numbers, c: &mut Search) {
     let (n, m, windows) = (c.s.len(), c.q.len(), c.x.head.windows as usize);
     match r.below(14) {
@@ -284,6 +296,24 @@ fn spoil_search(r: &mut Numbers, c: &mut Search) {
         11 => c.s.push(0),
         12 => { c.s.pop(); }
         _ => c.room[r.below(2) as usize] = windows.saturating_sub(1),
+    }
+}
+
+/// Asked for the closest few: the least k and the greatest, and below, at and above the matches.
+fn ask_few(r: &mut Numbers, c: &mut Search) {
+    let matches = search(&c.x.index(), &c.s, &answers::question(c.a, &c.q)).matches.len() as u32;
+    (c.a.pick, c.a.count) = (1, pick(r, &[1, 64, matches / 2, matches.saturating_sub(1), matches, matches + 1]).max(1));
+    c.room[2] = c.a.count as usize + r.below(3) as usize;
+}
+
+/// One of the matches that are not handed out is as close as the last that is.
+fn tied(c: &Search) -> bool { tie_at(&search(&c.x.index(), &c.s, &answers::question(c.a, &c.q)).matches, c.a.count as usize) }
+
+fn spoil_few(r: &mut Numbers, c: &mut Search) {
+    match r.below(6) {
+        0 => c.a.count = pick(r, &[0, 65, MOST]),
+        1 => c.room[2] = pick(r, &[0, (c.a.count as usize).saturating_sub(1)]).min(c.room[2]),
+        _ => spoil_search(r, c),
     }
 }
 
@@ -427,13 +457,18 @@ fn audits(f: &mut File, r: &mut Numbers) {
 
 // ---- search/calls.txt
 
-/// The kind and the limits.
-fn asked([kind, band, threshold, scale, shift]: [u64; 5]) -> Asked { Asked { kind: kind as u32, band: band as u32, threshold, scale: scale as u32, shift: shift as u32 } }
+/// The kind and the limits, for all matches.
+fn asked([kind, band, threshold, scale, shift]: [u64; 5]) -> Asked { Asked { kind: kind as u32, band: band as u32, threshold, scale: scale as u32, shift: shift as u32, pick: 0, count: 0 } }
+
+/// The same for the closest few.
+fn few(limits: [u64; 5], count: u32) -> Asked { Asked { pick: 1, count, ..asked(limits) } }
+
+/// The index of values and sums from 0 to 999, in one row.
+fn thousand(w: u32, windows: u32) -> Lent { lent([w, 1_000, windows], &[[0, 1_000, 0, 1]], &[(0, windows - 1)]) }
 
 fn searches(f: &mut File, r: &mut Numbers) {
     let (raw, normal) = ([0, 0, 5, 10, 0], [1, 0, 0, 20, 1]);
     let ones = vec![1; 1_025];
-    let thousand = |w: u32, windows: u32| lent([w, 1_000, windows], &[[0, 1_000, 0, 1]], &[(0, windows - 1)]);
     let apart = lent([2, 2, 4], &[[2, 4, 0, 1], [4, 6, 1, 1], [6, 8, 2, 1]], &[(0, 0), (3, 3), (1, 2)]);
     let rubbish = lent([2, 2, 4], &[[2, 4, 0, 1], [4, 8, 1, 1]], &[(0, 0), (1, 3), (MOST, 0), (2, 2)]);
     let bad = lent([2, 2, 4], &[[2, 4, 0, 1], [4, 8, 1, 1]], &[(0, 0), (1, 4)]);
@@ -511,7 +546,6 @@ fn shorts(f: &mut File, r: &mut Numbers) {
     }
     let (s, raw, all) = ([1, 2, 4, 3, 1, 2, 4], [0, 0, 5, 10, 0], [6, 6, 5]);
     let (head, rows, ones) = ([2, 2, 4], [[2, 4, 0, 1], [4, 8, 1, 1]], vec![1; 1_024]);
-    let thousand = |w: u32| lent([w, 1_000, 1], &[[0, 1_000, 0, 1]], &[(0, 0)]);
     let bad = lent(head, &rows, &[(0, 0), (1, 4)]);
     for (want, note, s, x, limits, q, room) in [
         (0, "no rows: each window below the count rules out", &s[..], lent(head, &[], &[]), raw, &[2, 4][..], all),
@@ -523,10 +557,10 @@ fn shorts(f: &mut File, r: &mut Numbers) {
         (0, "the second part past the count, the first ruled out", &s, paper(), raw, &[9, 9, 2, 4], [6, 6, 0]),
         (0, "the second part past the count, the first met", &s, paper(), raw, &[2, 4, 9, 9], [6, 6, 0]),
         (0, "m = n", &s, paper(), raw, &s, [6, 6, 1]),
-        (0, "w 1, windows 1", &s, thousand(1), raw, &[4], [7, 7, 7]),
-        (0, "w = m, windows 1", &s, thousand(5), raw, &[1, 2, 4, 3, 1], [3, 3, 1]),
-        (0, "w 256, windows 1", &ones[..258], thousand(256), raw, &ones[..256], [3, 3, 3]),
-        (0, "m 1,024, windows 1", &ones, thousand(256), raw, &ones, [769, 769, 1]),
+        (0, "w 1, windows 1", &s, thousand(1, 1), raw, &[4], [7, 7, 7]),
+        (0, "w = m, windows 1", &s, thousand(5, 1), raw, &[1, 2, 4, 3, 1], [3, 3, 1]),
+        (0, "w 256, windows 1", &ones[..258], thousand(256, 1), raw, &ones[..256], [3, 3, 3]),
+        (0, "m 1,024, windows 1", &ones, thousand(256, 1), raw, &ones, [769, 769, 1]),
         (2, "a value past the index", &[1, 2, 4, 3, 1, 2, 10_001], paper(), raw, &[2, 4], all),
         (2, "a value of the query, a bad row, no room", &s, bad.clone(), raw, &[2, 10_001], [0, 0, 0]),
         (6, "m 0", &s, paper(), raw, &[], all),
@@ -549,15 +583,79 @@ fn shorts(f: &mut File, r: &mut Numbers) {
     ] { assert!(f.search(want, note, &Search { s: s.into(), x, a: asked(limits), q: q.into(), room }), "{note}") }
     draw(&[(0, 16), (2, 2), (6, 1), (7, 1), (8, 1), (9, 1), (10, 1), (11, 1), (20, 5), (23, 4), (24, 4)], |number, k| {
         let mut c = any_search(r, if number == 11 { 2 + k % 2 } else { k % 4 }, number);
-        let (n, w) = (c.s.len(), c.x.head.window as usize);
-        if n == w { return false }
-        let covered = r.from_to(w as i64, n as i64 - 1) as usize;
-        c.x = Lent::of(&build(&c.s[..covered], w, c.x.head.width as i64, pick(r, &[0, 80])));
-        if r.below(3) == 0 { c.x.refile(r); }
-        if r.below(3) == 0 { rubbish_behind(r, &mut c.x) }
+        if !shorten(r, &mut c) { return false }
         if number == 0 && !finds(&mut c, k) { return false }
         if number != 24 { for _ in 0..harm(r, number) { spoil_search(r, &mut c) } }
         short_of(&c) > 0 && f.search(number, "", &c)
+    });
+}
+
+/// The closest few.
+fn fews(f: &mut File, r: &mut Numbers) {
+    let (raw, warped, far, normal) = ([0, 0, 5, 10, 0], [0, 1, 5, 10, 0], [0, 0, 10_000, 10, 0], [1, 0, 0, 20, 1]);
+    let (threes, up, down): ([i32; 70], [i32; 70], [i32; 70]) = ([3; 70], std::array::from_fn(|k| k as i32), std::array::from_fn(|k| 69 - k as i32));
+    let bad = lent([2, 2, 4], &[[2, 4, 0, 1], [4, 8, 1, 1]], &[(0, 0), (1, 4)]);
+    let teeth = lent([2, 2, 5], &[[2, 4, 0, 1]], &[(0, 4)]);
+    let (longer, all) = ([1, 2, 4, 3, 1, 2, 4], [70, 70, 64]);
+    for (want, note, s, x, limits, k, q, room) in [
+        (0, "the worked example, k 1", &PAPER[..], paper(), raw, 1, &[2, 4][..], [4, 4, 1]),
+        (0, "k 2, the third as far as the second", &PAPER, paper(), raw, 2, &[2, 4], [4, 4, 2]),
+        (0, "as many as match", &PAPER, paper(), raw, 3, &[2, 4], [4, 4, 3]),
+        (0, "one more than match", &PAPER, paper(), raw, 4, &[2, 4], [4, 4, 4]),
+        (0, "k 64", &PAPER, paper(), raw, 64, &[2, 4], [4, 4, 64]),
+        (0, "a list longer than k: zeros", &PAPER, paper(), raw, 2, &[2, 4], [6, 5, 7]),
+        (0, "warped", &PAPER, paper(), warped, 2, &[2, 4], [4, 4, 2]),
+        (0, "no match", &PAPER, paper(), [0, 0, 0, 10, 0], 1, &[1, 3], [4, 4, 1]),
+        (0, "no candidate", &PAPER, paper(), [0, 0, 0, 10, 0], 3, &[9, 9], [4, 4, 3]),
+        (0, "m = n", &PAPER, paper(), [0, 4, 1_000_000_000_000, 100, 20_000], 64, &[0, 0, 0, 0, 0], [4, 4, 64]),
+        (0, "normalised, three as close", &[0, 2, 0, 2, 0, 2], teeth.clone(), normal, 2, &[0, 1], [5, 5, 2]),
+        (0, "normalised and warped", &[0, 2, 0, 2, 0, 2], teeth, [1, 1, 1_000_000, 20, 1], 4, &[0, 1], [5, 5, 4]),
+        (0, "70 as far, k 1", &threes, thousand(1, 70), raw, 1, &[1], all),
+        (0, "70 as far, k 64", &threes, thousand(1, 70), raw, 64, &[1], all),
+        (0, "65 as far, k 64", &threes[..65], thousand(1, 65), raw, 64, &[1], all),
+        (0, "64 as far, k 64", &threes[..64], thousand(1, 64), raw, 64, &[1], all),
+        (0, "each farther than the one before, k 64", &up, thousand(1, 70), far, 64, &[0], all),
+        (0, "each closer than the one before, k 64", &down, thousand(1, 70), far, 64, &[0], all),
+        (0, "each closer than the one before, k 1", &down, thousand(1, 70), far, 1, &[0], all),
+        (0, "closer and closer, then farther, two by two as far", &up, thousand(1, 70), far, 64, &[35], all),
+        (0, "the closest in no row", &PAPER, lent([2, 2, 4], &[[2, 4, 0, 1]], &[(0, 0)]), raw, 1, &[2, 4], [4, 4, 1]),
+        (0, "a short index, the second as close and past its end", &longer, paper(), raw, 1, &[2, 4], [6, 6, 1]),
+        (0, "a short index, both", &longer, paper(), raw, 2, &[2, 4], [6, 6, 2]),
+        (0, "a short index without rows", &longer, lent([2, 2, 4], &[], &[]), raw, 2, &[2, 4], [6, 6, 2]),
+        (1, "no value, k 0", &[], paper(), raw, 0, &[2, 4], [4, 4, 3]),
+        (2, "a value of the query, k 65", &PAPER, paper(), raw, 65, &[2, -10_001], [4, 4, 3]),
+        (6, "m 0, k 0", &PAPER, paper(), raw, 0, &[], [4, 4, 3]),
+        (7, "m = w - 1, k 65", &PAPER, paper(), raw, 65, &[2], [4, 4, 3]),
+        (8, "b = m, k 0", &PAPER, paper(), [0, 2, 5, 10, 0], 0, &[2, 4], [4, 4, 3]),
+        (9, "E 10^12 + 1, k 0", &PAPER, paper(), [0, 0, 1_000_000_000_001, 10, 0], 0, &[2, 4], [4, 4, 3]),
+        (10, "a 9, k 65", &PAPER, paper(), [0, 0, 5, 9, 0], 65, &[2, 4], [4, 4, 3]),
+        (10, "h 20,001, k 0, and all that follows", &PAPER[..4], bad.clone(), [1, 0, 5, 10, 20_001], 0, &[5, 5], [0, 0, 0]),
+        (30, "k 0", &PAPER, paper(), raw, 0, &[2, 4], [4, 4, 3]),
+        (30, "k 0, no list", &PAPER, paper(), raw, 0, &[2, 4], [4, 4, 0]),
+        (30, "k 65", &PAPER, paper(), raw, 65, &[2, 4], [4, 4, 65]),
+        (30, "k 2^31 - 1", &PAPER, paper(), raw, MOST, &[2, 4], [4, 4, 64]),
+        (30, "k 65, a flat query", &PAPER, paper(), normal, 65, &[5, 5], [4, 4, 65]),
+        (30, "k 0, the second row", &PAPER, bad.clone(), raw, 0, &[2, 4], [4, 4, 3]),
+        (30, "k 65, a value too few", &PAPER[..4], paper(), raw, 65, &[2, 4], [4, 4, 65]),
+        (30, "k 65, a list of 64", &PAPER, paper(), raw, 65, &[2, 4], [4, 4, 64]),
+        (30, "k 0, and all that follows", &PAPER[..4], bad.clone(), normal, 0, &[5, 5], [0, 0, 0]),
+        (11, "a flat query, no list", &PAPER, paper(), normal, 1, &[5, 5], [4, 4, 0]),
+        (20, "the second row, no list", &PAPER, bad, raw, 1, &[2, 4], [4, 4, 0]),
+        (22, "a value too few, the list one too short", &PAPER[..4], paper(), raw, 3, &[2, 4], [4, 4, 2]),
+        (23, "the list one too short", &PAPER, paper(), raw, 3, &[2, 4], [4, 4, 2]),
+        (23, "the list one too short, holds all that match", &PAPER, paper(), raw, 4, &[2, 4], [4, 4, 3]),
+        (23, "no match and no list", &PAPER, paper(), [0, 0, 0, 10, 0], 1, &[9, 9], [4, 4, 0]),
+        (23, "k 64, a list of 63", &threes, thousand(1, 70), raw, 64, &[1], [70, 70, 63]),
+        (23, "candidates one too short", &PAPER, paper(), raw, 1, &[2, 4], [3, 4, 1]),
+        (23, "scratch as long as a short index has windows", &longer, paper(), raw, 1, &[2, 4], [6, 4, 1]),
+    ] { assert!(f.search(want, note, &Search { s: s.into(), x, a: few(limits, k), q: q.into(), room }), "{note}") }
+    draw(&[(0, 32), (1, 2), (2, 3), (6, 2), (7, 2), (8, 2), (9, 2), (10, 4), (30, 10), (11, 2), (20, 4), (22, 3), (23, 8)], |number, k| {
+        let mut c = any_search(r, if number == 11 { 2 + k % 2 } else { k % 4 }, number);
+        if r.below(3) == 0 && !shorten(r, &mut c) { return false }
+        ask_few(r, &mut c);
+        if number == 0 && k % 8 < 4 && !tied(&c) { return false }
+        for _ in 0..harm(r, number) { spoil_few(r, &mut c) }
+        f.search(number, "", &c)
     });
 }
 
@@ -630,7 +728,7 @@ fn main() {
     let folder = std::env::args().nth(1).expect("a folder");
     let parts: [(&str, &[fn(&mut File, &mut Numbers)], &[(&str, &[u32])]); 3] = [
         ("index", &[builds, extensions, audits], &[("build", &[0, 1, 2, 3, 4, 5, 23]), ("extend", &[0, 1, 2, 20, 22, 23]), ("audit", &[0, 1, 2, 20, 21, 22, WRONG, MISSING])]),
-        ("search", &[searches, shorts], &[("search", &[0, 1, 2, 6, 7, 8, 9, 10, 11, 20, 22, 23, 24])]),
+        ("search", &[searches, shorts, fews], &[("search", &[0, 1, 2, 6, 7, 8, 9, 10, 11, 20, 22, 23, 24]), ("few", &[0, 1, 2, 6, 7, 8, 9, 10, 30, 11, 20, 22, 23])]),
         ("text", &[writes, reads], &[("write", &[0, 20, 23]), ("read", &[0, 12, 20, 23])]),
     ];
     for (name, makers, entries) in parts {

@@ -27,7 +27,7 @@ const LATER: [i32; 24] = [
 
 const QUERY: [i32; 9] = [90, 89, 86, 61, 70, 66, 41, 29, 27];
 
-const ASKED: Question = Question { normal: true, query: &QUERY, band: 1, threshold: 300, scale: 12, shift: 6 };
+const ASKED: Question = Question { normal: true, query: &QUERY, band: 1, threshold: 300, scale: 12, shift: 6, closest: None };
 
 const WINDOW: usize = 3;
 const WIDTH: i64 = 16;
@@ -65,7 +65,7 @@ fn written(series: &[i32]) -> String {
     let mut before = vec![];
     for n in FIRST.len()..=series.len() {
         let s = &series[..n];
-        assert_eq!(search_refusal(&x, s, &ASKED, ROOM, ROOM), None);
+        assert_eq!(search_refusal(&x, s, &ASKED, [ROOM; 3]), None);
         let Found { candidates, matches } = search(&x, s, &ASKED);
         let offsets: Vec<usize> = (0..=n - QUERY.len()).collect();
         assert_eq!(matches, matches_among(&offsets, s, &ASKED), "list and scan of {n} prices");

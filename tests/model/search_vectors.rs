@@ -28,12 +28,12 @@ fn line(a: &Asked, answer: [usize; 3], after: [&[u64]; 5]) {
 /// A line as the model answers.
 fn told(a: &Asked) {
     let x = a.x.index();
-    if let Some((number, place)) = search_refusal(&x, a.s, &a.z, a.rooms[0].min(a.rooms[1]), a.rooms[2]) {
+    let room = a.rooms[3].min(a.rooms[4]);
+    if let Some((number, place)) = search_refusal(&x, a.s, &a.z, [a.rooms[0].min(a.rooms[1]), a.rooms[2], room]) {
         return line(a, [3, number as usize, place], [&[]; 5]);
     }
     let f = search(&x, a.s, &a.z);
     let runs = runs_of(&f.candidates.iter().copied().collect());
-    let room = a.rooms[3].min(a.rooms[4]);
     let few = &f.matches[..room.min(f.matches.len())];
     let column = |v: Vec<usize>| v.iter().map(|&x| x as u64).collect::<Vec<_>>();
     let (left, right) = (column(runs.iter().map(|r| r.0).collect()), column(runs.iter().map(|r| r.1).collect()));
@@ -43,7 +43,7 @@ fn told(a: &Asked) {
 
 /// The paper's cases: these answers are its own, not the model's.
 fn cases() {
-    let raw = |query, threshold| Question { normal: false, query, band: 0, threshold, scale: 10, shift: 0 };
+    let raw = |query, threshold| Question { normal: false, query, band: 0, threshold, scale: 10, shift: 0, closest: None };
     let s = [1, 2, 4, 3, 1];
     let merged = lent([2, 2, 4], &[[2, 4, 0, 1], [4, 8, 1, 1]], &[(0, 0), (1, 3)]);
     let apart = lent([2, 2, 4], &[[2, 4, 0, 1], [4, 6, 1, 1], [6, 8, 2, 1]], &[(0, 0), (3, 3), (1, 2)]);
@@ -57,7 +57,7 @@ fn cases() {
     line(&Asked { s: &s, x: &merged, z: raw(&[2], 5), rooms: all }, [3, 7, 0], [&[]; 5]);
     line(&Asked { s: &s, x: &merged, z: Question { scale: 9, ..raw(&[2, 4], 5) }, rooms: all }, [3, 10, 0], [&[]; 5]);
     line(&Asked { s: &s, x: &merged, z: Question { normal: true, ..raw(&[5, 5], 5) }, rooms: all }, [3, 11, 0], [&[]; 5]);
-    let near = Question { normal: true, query: &[0, 1], band: 0, threshold: 0, scale: 20, shift: 1 };
+    let near = Question { normal: true, query: &[0, 1], band: 0, threshold: 0, scale: 20, shift: 1, closest: None };
     let one = lent([2, 2, 1], &[[2, 4, 0, 1]], &[(0, 0)]);
     line(&Asked { s: &[0, 2], x: &one, z: Question { ..near }, rooms: [1; 5] }, [0, 1, 1], [&[0], &[0], &[], &[0], &[0]]);
     line(&Asked { s: &[0, 3], x: &one, z: near, rooms: [1; 5] }, [0, 1, 0], [&[0], &[0], &[], &[], &[]]);
@@ -103,7 +103,7 @@ fn vector(r: &mut Numbers, group: u64, k: u64) {
     if x.rows.len() > 16 || x.rows.iter().any(|r| r.low.abs_diff(0) > 100_000_000 || r.up.abs_diff(0) > 100_000_000 || r.first.max(r.runs) > 4_000_000_000) || x.left.iter().chain(&x.right).any(|&v| v > 4_000_000_000) || [x.head.window, x.head.width, x.head.windows].iter().any(|&v| v > 4_000_000_000) {
         return vector(r, group, k);
     }
-    told(&Asked { s: &s, x: &x, z: Question { normal, query: &q, band, threshold, scale, shift }, rooms });
+    told(&Asked { s: &s, x: &x, z: Question { normal, query: &q, band, threshold, scale, shift, closest: None }, rooms });
 }
 
 fn main() {

@@ -146,7 +146,7 @@ pub fn program(text: &[u8]) -> String {
     }
     let (s, q) = (narrow(&c.series), narrow(&c.query));
     let x = build(&s, c.window as usize, c.width, c.merge);
-    let Found { candidates, matches } = search(&x, &s, &Question { normal: c.normal, query: &q, band: c.band, threshold: c.threshold, scale: c.scale, shift: c.shift });
+    let Found { candidates, matches } = search(&x, &s, &Question { normal: c.normal, query: &q, band: c.band, threshold: c.threshold, scale: c.scale, shift: c.shift, closest: None });
     let list: String = matches.iter().map(|(j, d)| format!("(at {j} {d})\n")).collect();
     format!("{}(found {} (candidates {})\n{list})\n", write_index(&x), matches.len(), candidates.len())
 }
