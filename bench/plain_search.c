@@ -4,7 +4,7 @@
 typedef uint16_t u16;
 typedef struct { i32 low, up; u32 first, runs; } Row;
 typedef struct { u32 window, width, windows; } Head;
-typedef struct { u32 kind, band; u64 threshold; u32 scale, shift; } Asked;
+typedef struct { u32 kind, band; u64 threshold; u32 scale, shift, pick, count; } Asked; // pick: 0 for all matches, else the closest `count`
 typedef struct { u64 candidates, matches; } Counts;
 
 // what depends on the query alone
@@ -41,9 +41,10 @@ static int judged(Head h, const Row *rows, size_t count, const u32 *left, const 
     return 1;
 }
 
-// the conditions on the query and its limits; a flat query is refused where it is normalised
-static int allowed(size_t n, const i32 *q, size_t m, Asked a) {
+// the conditions on the query, its limits and the list's room; a flat query is refused where it is normalised
+static int allowed(size_t n, const i32 *q, size_t m, Asked a, u64 room) {
     if (m < 1 || m > 1024 || m > n || !all_in(q, m) || a.band >= m || a.threshold > 1000000000000ull || a.scale < 10 || a.scale > 100 || a.shift > 20000) return 0;
+    if (a.pick && (a.count < 1 || a.count > 64 || room < a.count)) return 0;
     size_t k = 1;
     while (k < m && q[k] == q[0]) k++;
     return !a.kind || k < m;
@@ -108,6 +109,26 @@ static int near_normal(const Prepared *p, const i32 *s, u64 sum, u64 a, i32 *val
     return near(p, values, row, d);
 }
 
+// behind how many of the first n distances, which never fall, a later match at distance d stands
+static u64 behind(const u64 *distances, u64 n, u64 d) {
+    if (!n || distances[n - 1] <= d) return n;
+    if (d < distances[0]) return 0;
+    u64 a = 0, b = n - 1;
+    while (a < b) { u64 k = (a + b) / 2; if (distances[k] <= d) a = k + 1; else b = k; }
+    return a;
+}
+
+// the match at offset j, behind k others, is kept if it is among the closest `count`, which stand first by distance and then offset
+static void keep(u64 count, u64 k, u32 j, u64 d, u32 *offsets, u64 *distances) {
+    u64 held = k < count ? k : count, at = behind(distances, held, d);
+    if (at == count) return;
+    u64 moved = (held < count ? held : count - 1) - at;
+    memmove(offsets + at + 1, offsets + at, moved * sizeof *offsets);
+    memmove(distances + at + 1, distances + at, moved * sizeof *distances);
+    offsets[at] = j;
+    distances[at] = d;
+}
+
 // the stretches at the offsets from..last are compared, and the matches listed behind the first k; how many there are then
 static u64 compare(const Prepared *p, const i32 *s, size_t n, size_t from, size_t last, u64 k, u32 *offsets, u64 *distances, u64 room) {
     u64 row[1025], sum = 0, squares = 0, d, m = p->m, square = p->asked.scale * p->asked.scale, shift = m * p->asked.shift;
@@ -121,19 +142,24 @@ static u64 compare(const Prepared *p, const i32 *s, size_t n, size_t from, size_
             if (yes) yes = near_normal(p, s + j, sum, a, values, row, &d);
             if (j + m < n) { u64 u = s[j] + 10000, v = s[j + m] + 10000; sum = sum + v - u; squares = squares + v * v - u * u; }
         } else yes = near(p, s + j, row, &d);
-        if (yes) { if (k < room) { offsets[k] = j; distances[k] = d; } k++; }
+        if (!yes) continue;
+        if (p->asked.pick) keep(p->asked.count, k, j, d, offsets, distances);
+        else if (k < room) { offsets[k] = j; distances[k] = d; }
+        k++;
     }
     return k;
 }
 
-static void clear_behind(u64 k, u32 *offsets, u64 *distances, u64 room) {
+// behind k matches, of which the closest few may be all that is listed
+static void clear_behind(Asked a, u64 k, u32 *offsets, u64 *distances, u64 room) {
+    if (a.pick && k > a.count) k = a.count;
     if (k < room) { memset(offsets + k, 0, (room - k) * sizeof *offsets); memset(distances + k, 0, (room - k) * sizeof *distances); }
 }
 
 // 1 where the call is not refused. The candidate buffer and the scratch hold as many entries as the series has windows, the list has `room` entries; each of them is written to its end.
 int plain_search(const i32 *s, size_t n, Head h, const Row *rows, size_t count, const u32 *left, const u32 *right, size_t run_room, Asked asked, const i32 *q, size_t m,
                  u32 *first, u32 *last, u16 *scratch, u32 *offsets, u64 *distances, u64 room, Counts *found) {
-    if (n < 1 || n > 1 << 20 || !all_in(s, n) || !allowed(n, q, m, asked) || m < h.window || !judged(h, rows, count, left, right, run_room) || h.windows + h.window > n + 1) return 0;
+    if (n < 1 || n > 1 << 20 || !all_in(s, n) || !allowed(n, q, m, asked, room) || m < h.window || !judged(h, rows, count, left, right, run_room) || h.windows + h.window > n + 1) return 0;
     static Prepared p;
     size_t w = h.window, parts = m / w, windows = n - w + 1, stretches = n - m + 1, k = 0, candidates = 0;
     prepare(&p, q, m, asked);
@@ -161,18 +187,18 @@ int plain_search(const i32 *s, size_t n, Head h, const Row *rows, size_t count, 
     memset(scratch, 0, windows * sizeof *scratch);
     u64 matches = 0;
     for (size_t x = 0; x < k; x++) matches = compare(&p, s, n, first[x], last[x], matches, offsets, distances, room);
-    clear_behind(matches, offsets, distances, room);
+    clear_behind(asked, matches, offsets, distances, room);
     *found = (Counts){candidates, matches};
     return 1;
 }
 
 // 1 where the call is not refused; every stretch is a candidate.
 int plain_scan(const i32 *s, size_t n, Asked asked, const i32 *q, size_t m, u32 *offsets, u64 *distances, u64 room, Counts *found) {
-    if (n < 1 || n > 1 << 20 || !all_in(s, n) || !allowed(n, q, m, asked)) return 0;
+    if (n < 1 || n > 1 << 20 || !all_in(s, n) || !allowed(n, q, m, asked, room)) return 0;
     static Prepared p;
     prepare(&p, q, m, asked);
     u64 matches = compare(&p, s, n, 0, n - m, 0, offsets, distances, room);
-    clear_behind(matches, offsets, distances, room);
+    clear_behind(asked, matches, offsets, distances, room);
     *found = (Counts){n - m + 1, matches};
     return 1;
 }

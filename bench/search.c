@@ -1,8 +1,10 @@
 // Runs the proved search, the same search in plain C and a scan without index in plain C on the same input, in turn, compares what they list, and prints the least time of some runs of each and the ratios. The indexes are built by the plain C.
 // With `short`: the same queries through the complete index and two that lack windows, 1 % and half of them.
+// With `few`: the closest 1 and 64 of a million matches beside the full search that lists all of them.
 // With `sweep`: normalised warped queries through many indexes and limits instead, the proved search against the scan alone, and where its lead is largest.
+#include <stdlib.h>
 #include "race.h"
-typedef struct { u32 kind, band; u64 threshold; u32 scale, shift; } Asked;
+typedef struct { u32 kind, band; u64 threshold; u32 scale, shift, pick, count; } Asked; // pick: 0 for all matches, else the closest `count`
 typedef struct { u32 kind; size_t first, second; } Answer;
 typedef struct { u64 candidates, matches; } Counts;
 
@@ -46,7 +48,7 @@ static void race(const char *name, size_t count, Head head, size_t m, Asked aske
         sa = least(sa, t3 - t2);
         all += t3 - t0;
     }
-    int same = x.kind < 3 && x.first == y.candidates && x.second == y.matches && y.matches == z.matches && !memcmp(&mine, &plain, sizeof mine) && !memcmp(mine.offsets, offsets, sizeof offsets) && !memcmp(mine.distances, distances, sizeof distances);
+    int same = x.kind < 2 && x.first == y.candidates && x.second == y.matches && y.matches == z.matches && !memcmp(&mine, &plain, sizeof mine) && !memcmp(mine.offsets, offsets, sizeof offsets) && !memcmp(mine.distances, distances, sizeof distances);
     int slow = ra > 1.3 * ca || ra > 1.5 * sa || (selective && asked.band && head.windows == ROOM && 5 * ra > sa);
     if (!same) different++;
     if (slow) missed++;
@@ -90,7 +92,7 @@ static void races(u32 d, u32 g, size_t most, size_t lacking) {
                 for (int selective = 1; selective >= 0; selective--) {
                     for (size_t i = 0; i < m; i++) q[i] = in_limits(s[N / 2 + i] + (int)(any() % 11) - 5);
                     u64 each = kind ? (selective ? 4 : 300) : (selective ? 15 : 20000); // squared difference a value
-                    Asked asked = {kind, warped ? m / 20 : 0, each * m, kind && selective ? 12 : 20, kind && selective ? 200 : 2000};
+                    Asked asked = {kind, warped ? m / 20 : 0, each * m, kind && selective ? 12 : 20, kind && selective ? 200 : 2000, 0, 0};
                     char name[40];
                     snprintf(name, sizeof name, "%s %s", kind ? "normalised" : "raw", warped ? "warped" : "straight");
                     race(name, count, head, m, asked, selective);
@@ -112,6 +114,99 @@ static void short_races(void) {
     }
 }
 
+typedef struct { u32 offsets[N]; u64 distances[N]; } Long;
+typedef struct { u64 distance; u32 offset; } Match;
+static Long whole, few, plain_few;
+static Match sorted[N];
+
+static int by_distance(const void *a, const void *b) {
+    const Match *x = a, *y = b;
+    return x->distance != y->distance ? (x->distance < y->distance ? -1 : 1) : (x->offset > y->offset) - (x->offset < y->offset);
+}
+
+// the whole list of so many matches by distance and then offset
+static void sort_whole(size_t matches) {
+    for (size_t j = 0; j < matches; j++) sorted[j] = (Match){whole.distances[j], whole.offsets[j]};
+    qsort(sorted, matches, sizeof *sorted, by_distance);
+}
+
+// whether the list has the first `count` of the sorted matches, or all if there are fewer, and zeros behind them
+static int is_beginning(const Long *list, size_t room, size_t matches, size_t count) {
+    for (size_t j = 0; j < room; j++) {
+        Match due = j < count && j < matches ? sorted[j] : (Match){0, 0};
+        if (list->offsets[j] != due.offset || list->distances[j] != due.distance) return 0;
+    }
+    return 1;
+}
+
+// whether each distance of the whole list is above, below or the same as the one before: 1, -1, 0
+static int goes(int way, size_t matches) {
+    for (size_t j = 1; j < matches; j++)
+        if ((whole.distances[j] > whole.distances[j - 1]) - (whole.distances[j] < whole.distances[j - 1]) != way) return 0;
+    return 1;
+}
+
+static Answer listing(Long *list, size_t room, size_t count, Head head, size_t m, Asked asked) {
+    size_t runs = rows[count - 1].first + rows[count - 1].runs;
+    return index_search(s, N, head, rows, count, left, runs, right, runs, asked, q, m, mine.first, ROOM, mine.last, ROOM, mine.scratch, ROOM, list->offsets, room, list->distances, room);
+}
+
+typedef struct { const char *name; int way; double goal; } Course; // how the distances go, and of the full search at most how much
+
+// the full search, the closest k in a list of so many entries, and the same in plain C, in turn
+static void few_race(Course c, size_t count, Head head, size_t m, u32 k, size_t room) {
+    Asked every = {0, 0, 1000000000000, 10, 0, 0, 0}, closest = every;
+    size_t runs = rows[count - 1].first + rows[count - 1].runs, matches = N - m + 1;
+    double wa = 1e9, fa = 1e9, ca = 1e9, all = 0;
+    Answer x = {9, 0, 0}, y = {9, 0, 0};
+    Counts z = {0, 0};
+    closest.pick = 1;
+    closest.count = k;
+    for (int r = 0; r < REPS && (r < 3 || all < 3); r++) {
+        memset(&few, r + 1, sizeof few); // rubbish, which has to go
+        memset(&plain_few, r + 2, sizeof plain_few);
+        double t0 = now();
+        x = listing(&whole, N, count, head, m, every);
+        double t1 = now();
+        y = listing(&few, room, count, head, m, closest);
+        double t2 = now();
+        plain_search(s, N, head, rows, count, left, right, runs, closest, q, m, plain.first, plain.last, plain.scratch, plain_few.offsets, plain_few.distances, room, &z);
+        double t3 = now();
+        wa = least(wa, t1 - t0);
+        fa = least(fa, t2 - t1);
+        ca = least(ca, t3 - t2);
+        all += t3 - t0;
+    }
+    sort_whole(matches);
+    int same = x.kind == 0 && x.second == matches && goes(c.way, matches) && y.kind == 2 && y.first == x.first && y.second == matches && z.candidates == x.first && z.matches == matches
+        && is_beginning(&few, room, matches, k) && is_beginning(&plain_few, room, matches, k);
+    int slow = fa > c.goal * wa || fa > 1.3 * ca;
+    if (!same) different++;
+    if (slow) missed++;
+    printf("%-7s m=%-4zu closest %-2u in a list of %-7zu  of the full search %5.2f (goal %.1f)  of C %5.2f  %8.2f / %8.2f / %8.2f ms  %6.1f ns more a match%s%s\n", c.name, m, k, room, fa / wa, c.goal, fa / ca, fa * 1e3, wa * 1e3, ca * 1e3,
+           (fa - wa) * 1e9 / matches, slow ? "  MISSED" : "", same ? "" : "  DIFFERENT");
+    fflush(stdout);
+}
+
+// Every offset matches. Raw and straight, since there a match is found fastest and keeping it weighs most; it weighs the more the shorter the query is.
+static void few_races(void) {
+    static const Course courses[] = {{"rising", 1, 1.1}, {"falling", -1, 1.6}, {"equal", 0, 1.1}};
+    Head head = {W, 4096, ROOM};
+    puts("ms: the closest few, the full search, the closest few in plain C");
+    for (size_t m = 64; m <= 1024; m *= 4)
+        for (int i = 0; i < 3; i++) {
+            Course c = courses[i];
+            // a step every 53 values, away from the query's level or back to it: any 65 values have one
+            for (u64 j = 0; j < N; j++) s[j] = (int)((c.way < 0 ? N - 1 - j : c.way * j) * 19900 / N) - 9900;
+            for (size_t j = 0; j < m; j++) q[j] = (int)(any() % 101) - 10000;
+            size_t count = plain_build(s, N, W, head.width, 0, rows, ROOM, left, right);
+            few_race(c, count, head, m, 1, 64);
+            few_race(c, count, head, m, 64, 64);
+            few_race(c, count, head, m, 64, N);
+        }
+    printf("%d goals missed (beside the full search; at most 1.3 of C)\n", missed);
+}
+
 // how many times as fast as the scan the search is
 static double lead(size_t count, Head head, size_t m, Asked asked) {
     static u32 first[WIDE], last[WIDE];
@@ -128,7 +223,7 @@ static double lead(size_t count, Head head, size_t m, Asked asked) {
         ra = least(ra, t1 - t0);
         sa = least(sa, now() - t1);
     }
-    if (x.kind > 2 || x.second != z.matches || memcmp(mine.offsets, offsets, sizeof offsets) || memcmp(mine.distances, distances, sizeof distances)) different++;
+    if (x.kind > 1 || x.second != z.matches || memcmp(mine.offsets, offsets, sizeof offsets) || memcmp(mine.distances, distances, sizeof distances)) different++;
     return sa / ra;
 }
 
@@ -138,7 +233,7 @@ static double best_lead(size_t count, Head head, size_t m) {
     double best = 0;
     for (int k = 0; k < 54; k++) {
         for (size_t i = 0; i < m; i++) q[i] = in_limits(s[N / 2 + i] + (int)(any() % 11) - 5);
-        Asked asked = {1, m / (20 >> k / 18), tenths[k % 3] * m / 10, 11 + k / 9 % 2, shifts[k / 3 % 3]};
+        Asked asked = {1, m / (20 >> k / 18), tenths[k % 3] * m / 10, 11 + k / 9 % 2, shifts[k / 3 % 3], 0, 0};
         double f = lead(count, head, m, asked);
         if (f > best) best = f;
     }
@@ -167,12 +262,14 @@ int main(int argc, char **argv) {
     const char *what = argc > 1 ? argv[1] : "";
     if (!strcmp(what, "sweep")) {
         sweep();
+    } else if (!strcmp(what, "few")) {
+        few_races();
     } else {
         walk(1, 1);
         if (!strcmp(what, "short")) {
             short_races();
         } else if (*what) {
-            return puts("short, sweep, or nothing"), 2;
+            return puts("short, few, sweep, or nothing"), 2;
         } else {
             races(4096, 0, 1024, 0);
             races(16, 80, 256, 0);
