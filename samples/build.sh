@@ -1,4 +1,4 @@
-# Sourced by samples/run and samples/replay at the top of the repository. build NAME: proves the program NAME and builds it as target/bin/NAME, where that is not done: about ten minutes from nothing.
+# Sourced by samples/run, samples/replay and samples/desk at the top of the repository. build NAME: proves the program NAME and builds it as target/bin/NAME, where that is not done: about ten minutes from nothing.
 # A terminal sees how far it is, on one line of standard error. Where something is not proved the end of target/NAME.log goes to standard error, and the status is 1.
 
 # sources: a number for all that rt goes by: the toolchain, the machine, the list of crates and their files.
