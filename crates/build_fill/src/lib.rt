@@ -1,4 +1,6 @@
 // The pass that fills all parts: every run of windows filed in the part of its row, whatever ranges the rows have.
+#![tactic(auto)]
+
 ghost use Rattle.std.specs.Prelude.{Bool, ℕ, ◌+◌, ◌*◌, ◌<◌};
 ghost use Rattle.build_fill.specs.Turn.{TurnAsked, Turned};
 ghost use Rattle.build_fill.specs.Pass.{Passable, PassMade};

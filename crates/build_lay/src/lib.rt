@@ -1,4 +1,6 @@
 // The rows of a series before merging: their records packed in order. The run buffer is the only other room.
+#![tactic(auto)]
+
 ghost use Rattle.std.specs.Prelude.{◌≡◌, ◌+◌, ◌*◌, ◌≤◌, length};
 ghost use Rattle.meaning_curves.specs.Limits.{greatest_value};
 ghost use Rattle.meaning_curves.specs.Curve.{window_sum};

@@ -1,4 +1,6 @@
 // Rows merged by counts alone: each run of a row has the names of the rows before and after it as its entry, so the runs of a union are counted without offsets.
+#![tactic(auto)]
+
 ghost use Rattle.std.specs.Prelude.{◌≡◌, ◌+◌, ◌≤◌, length};
 ghost use Rattle.meaning_numbers.specs.Sum.{count};
 ghost use Rattle.meaning_curves.specs.Limits.{greatest_merge};
@@ -12,7 +14,7 @@ use meaning_rows::Row;
 use sums_slide::in_range;
 
 // A group of rows on the way: the place of its record, the first of its rows, its record.
-#[derive(Drop)]
+#[derive(Clone, Copy)]
 pub struct Group {
     pub place: usize,
     pub from: usize,

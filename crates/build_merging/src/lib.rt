@@ -1,4 +1,6 @@
 // Merging as one step of a build: the neighbours of all runs are named in the parts of their rows, and the rows merged by the names.
+#![tactic(auto)]
+
 ghost use Rattle.std.specs.Prelude.{List, ◌≤◌};
 ghost use Rattle.meaning_curves.specs.Limits.{greatest_merge};
 ghost use Rattle.meaning_curves.specs.Curve.{window_sum};

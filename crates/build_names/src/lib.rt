@@ -1,5 +1,7 @@
 // The rows before and after each run named, in one pass over the runs of a series: as its entry in the part of its row a run gets the name of the row of the window before it and that of the window
 // after it. A row's name is one more than its place, and 0 names none.
+#![tactic(auto)]
+
 ghost use Rattle.std.specs.Prelude.{◌≡◌, ℕ, ◌+◌, ◌*◌, ◌<◌, ◌≤◌};
 ghost use Rattle.meaning_curves.specs.Limits.{most_values, greatest_value, longest_window};
 ghost use Rattle.meaning_curves.specs.Curve.{window_sum};

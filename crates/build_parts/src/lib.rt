@@ -1,4 +1,6 @@
 // A run filed in its row's part of the run buffer. While a part is not full, its last right end has the number of runs written so far; so filling needs no room but the parts.
+#![tactic(auto)]
+
 ghost use Rattle.std.specs.Prelude.{◌≡◌, ◌+◌, ◌-◌, ◌<◌, ◌≤◌, set};
 ghost use Rattle.meaning_curves.specs.Limits.{most_values};
 ghost use Rattle.meaning_rows.proofs.Cursors.{file_right};

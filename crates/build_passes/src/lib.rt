@@ -1,4 +1,6 @@
 // An index built of a series: its rows laid out, merged, and their parts filled.
+#![tactic(auto)]
+
 ghost use Rattle.std.specs.Prelude.{◌≡◌, ℕ, ◌+◌, ◌*◌, ◌≤◌, length};
 ghost use Rattle.meaning_curves.specs.Limits.{greatest_value, greatest_merge};
 ghost use Rattle.sums_slide.specs.Levels.{windows_of};

@@ -1,4 +1,6 @@
 // What refuses a build, and by how much it raises sums where nothing does.
+#![tactic(auto)]
+
 ghost use Rattle.std.specs.Prelude.{◌≡◌};
 ghost use Rattle.meaning_entries.specs.Build.{lent_build, build_lines};
 ghost use Rattle.refusals.specs.Refusal.{refusal_of};
@@ -11,7 +13,7 @@ use refusals::{
 use sums_slide::raised_rows;
 
 // What refuses the call; where nothing does, window length and row width, and what sums are raised by: `extra` beside 10,000 for each value, `bias` in all.
-#[derive(Drop)]
+#[derive(Clone, Copy)]
 pub struct BuildPlan {
     pub refusal: Refusal,
     pub window: usize,

@@ -1,4 +1,6 @@
 // The scratch count of a search: a place for each offset, which holds how many leading parts of the query the offset has met; and the candidates handed out of it as joined runs.
+#![tactic(auto)]
+
 ghost use Rattle.std.specs.Prelude.{◌≡◌, true, not, ◌&&◌, [], ◌+◌, ◌-◌, ◌<◌, ◌≤◌, min, length, take, drop};
 ghost use Rattle.meaning_numbers.specs.Sum.{bit, count};
 ghost use Rattle.meaning_curves.specs.Limits.{most_values};
@@ -69,7 +71,7 @@ pub fn raise_runs(
 }
 
 // How many runs and how many candidates were handed out, and whether the last run reaches to the last offset looked at, so that it may go on.
-#[derive(Drop)]
+#[derive(Clone, Copy)]
 pub struct Found {
     pub runs: usize,
     pub candidates: usize,

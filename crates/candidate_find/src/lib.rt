@@ -1,4 +1,6 @@
 // Finding a search's candidates (01, Candidates): the call and the index are judged, the ranges of the query's parts met with the rows, and the candidates that all parts leave handed out.
+#![tactic(auto)]
+
 ghost use Rattle.std.specs.Prelude.{◌≡◌, ◌/◌, length};
 ghost use Rattle.candidate_spans.specs.Held.{RangesReady, RangesHeld};
 ghost use Rattle.candidate_find.specs.Sought.{stopped, unstopped, HandReady, HandedOut, Gathered, SoughtKept};
@@ -17,7 +19,7 @@ use refusals::Refusal;
 use rows_judge::judge;
 
 // What finding candidates comes to: what refuses the search before it looks, or how many runs of candidates stand in the candidate buffer, and how many candidates they are.
-#[derive(Drop)]
+#[derive(Clone, Copy)]
 pub struct Sought {
     pub refusal: Refusal,
     pub runs: usize,

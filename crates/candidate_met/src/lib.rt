@@ -1,4 +1,6 @@
 // The rows that a part's range meets. The runs of neighbouring rows stand side by side, so the rows that a range meets have one stretch of the run buffer.
+#![tactic(auto)]
+
 ghost use Rattle.std.specs.Prelude.{◌≡◌, ◌-◌, ◌≤◌, length, pos, negsuc, nat_abs, ◌+ℤ◌};
 ghost use Rattle.rows_find.specs.Search.{Climbs};
 ghost use Rattle.candidate_met.specs.Met.{clamp_of, end_of, reached_runs, span_of, met_span};
@@ -12,7 +14,7 @@ use rows_find::find_row;
 use rows_records::{row_or, zero_row};
 
 // A stretch of the run buffer: the entries from `from` up to and not with `to`.
-#[derive(Drop)]
+#[derive(Clone, Copy)]
 pub struct Span {
     pub from: usize,
     pub to: usize,

@@ -1,4 +1,6 @@
 // What refuses a search before it looks: every refusal but 24, in order (01, 'Refused for the input' and 'Refused for the state'; 02).
+#![tactic(auto)]
+
 ghost use Rattle.std.specs.Prelude.{◌≡◌, min};
 ghost use Rattle.refusals.specs.Refusal.{refusal_of};
 ghost use Rattle.candidate_plan.specs.Tables.{values_table, numbers_table, input_table, windows_table, state_table, plan_of};

@@ -1,4 +1,6 @@
 // The range of sums that a part of a query admits (01, Candidates). What does not depend on the part is made once (`Frame`); a part then asks for the sums of the two envelopes over its places.
+#![tactic(auto)]
+
 ghost use Rattle.std.specs.Prelude.{◌≡◌, ◌+◌, ◌-◌, ◌*◌, ◌/◌, ◌≤◌, pos, ◌+ℤ◌, ◌-ℤ◌, ◌*ℤ◌, length};
 ghost use Rattle.meaning_numbers.specs.Root.{root};
 ghost use Rattle.meaning_curves.specs.Limits.{greatest_value, longest_window, greatest_threshold, greatest_scale};
@@ -17,7 +19,7 @@ use numbers::{
 use values::window_sum;
 
 // What a query's ranges share: how far a sum may lie outside the envelopes, the two scales, what is added at the lower and at the upper end, and the divisor.
-#[derive(Drop)]
+#[derive(Clone, Copy)]
 pub struct Frame {
     pub reach: i64,
     pub narrow: i64,
@@ -28,7 +30,7 @@ pub struct Frame {
 }
 
 // A range of sums, both ends included.
-#[derive(Drop)]
+#[derive(Clone, Copy)]
 pub struct Range {
     pub low: i64,
     pub high: i64,

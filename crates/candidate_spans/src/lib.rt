@@ -1,4 +1,6 @@
 // The stretches of runs that the parts of a query meet, held in the candidate buffer until candidates are handed out: entry i is that of part i.
+#![tactic(auto)]
+
 ghost use Rattle.std.specs.Prelude.{◌≡◌, ◌<◌, ◌≤◌, length};
 ghost use Rattle.meaning_curves.specs.Limits.{most_values};
 ghost use Rattle.candidate_met.specs.Parts.{part_range};

@@ -1,4 +1,6 @@
 // The end of a search that looks: the query is prepared, every candidate is checked, and that is answered: for all matches by the room of the list.
+#![tactic(auto)]
+
 ghost use Rattle.std.specs.Prelude.{◌≡◌, ◌≤◌, min, length};
 ghost use Rattle.meaning_filter.specs.Matches.{offset_count};
 ghost use Rattle.meaning_filter.specs.declared.Pick.{Pick};

@@ -1,4 +1,6 @@
 // The closest few of the matches so far (02, item 2), kept in order in the two slices of the list, as many as are asked for.
+#![tactic(auto)]
+
 ghost use Rattle.std.specs.Prelude.{◌<◌, ◌≤◌, length};
 ghost use Rattle.meaning_curves.specs.Limits.{most_values};
 ghost use Rattle.check_few.specs.Place.{Behind, Inserted};

@@ -1,4 +1,6 @@
 // The candidates of a search, tested run by run: a match is listed while there is room, or kept if it is among the closest few, and counted in any case. Sums slide along a run.
+#![tactic(auto)]
+
 ghost use Rattle.std.specs.Prelude.{◌≡◌, [], ◌∷◌, ◌+◌, ◌-◌, ◌<◌, ◌≤◌, min, length};
 ghost use Rattle.meaning_numbers.specs.Place.{numbers_from};
 ghost use Rattle.meaning_curves.specs.Limits.{most_values, longest_query};

@@ -1,4 +1,6 @@
 // Every clearing of a buffer: one law for the four widths.
+#![tactic(auto)]
+
 ghost use Rattle.std.specs.Prelude.{◌≡◌};
 ghost use Rattle.clear.specs.Clear.{cleared_from};
 

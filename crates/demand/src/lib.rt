@@ -1,4 +1,6 @@
 // Demand 3 of the code (01, Candidates; 02, item 1): two lent indexes, each audited against the part of the series that it covers, and the series searched for one query through both.
+#![tactic(auto)]
+
 ghost use Rattle.std.specs.Prelude.{◌≡◌};
 ghost use Rattle.meaning_rows.specs.Index.{lent};
 ghost use Rattle.meaning_filter.specs.declared.Pick.{Pick};

@@ -1,5 +1,7 @@
 // The closest few matches of a series, as the reserve desk reads them: an index is built, searched once through the entry for the closest few, and the list printed with the counts.
 // Standard input has numbers: window length, row width, merge percentage; how many prices there are, and these; kind (0 raw, 1 normalised), band, threshold, scale limit, shift limit; how many values the query has, and these; how many matches are asked for.
+#![tactic(auto)]
+
 ghost use Rattle.std.specs.Prelude.{◌≤◌};
 ghost use Rattle.meaning_curves.specs.Limits.{most_program_values, longest_query};
 

@@ -1,4 +1,6 @@
 // The envelope bound of a stretch: what its values lie outside an envelope, squared and summed, left early.
+#![tactic(auto)]
+
 ghost use Rattle.std.specs.Prelude.{◌≡◌, ◌+◌, ◌<◌, ◌≤◌, length};
 ghost use Rattle.meaning_numbers.specs.Sum.{Σℕ, square};
 ghost use Rattle.meaning_curves.specs.Limits.{longest_query};

@@ -1,4 +1,6 @@
 // The envelopes of a query within a band, by passes that double how far each value reaches: first ahead, then back. Some 2 × log2(b) passes over the query, in place.
+#![tactic(auto)]
+
 ghost use Rattle.std.specs.Prelude.{◌≡◌, ◌+◌, ◌-◌, ◌<◌, min, length};
 ghost use Rattle.meaning_curves.specs.Curve.{at};
 ghost use Rattle.meaning_filter.specs.Envelope.{lower, upper};

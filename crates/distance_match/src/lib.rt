@@ -1,4 +1,6 @@
 // Whether a stretch matches a query: cheap tests first, then the envelope bound, then the distance.
+#![tactic(auto)]
+
 ghost use Rattle.std.specs.Prelude.{◌≡◌, ◌+◌, ◌<◌, ◌≤◌, length};
 ghost use Rattle.meaning_curves.specs.Limits.{longest_query, greatest_scale};
 ghost use Rattle.meaning_curves.specs.Curve.{at, stretch};
@@ -53,7 +55,7 @@ pub fn match_normal(
 ) -> Match
     requires q_in_bounds { from + length q.now ≤ length s.now }
     requires q_nonzero { (0 < length q.now) × (length q.now ≤ longest_query) }
-    requires* fact { do ⌜ ((← ⟦room.len()⟧) ≡ (← ⟦q.len()⟧)) × ((← ⟦q.len()⟧) < (← ⟦row.len()⟧)) ⌝ }
+    requires room_fits { (length room.old ≡ length q.now) × (length q.now < length row.old) }
     requires all_in { AllIn s.now × AllIn q.now × (l.scale ≤ greatest_scale) }
     requires are_sums { AreSums s.now from (length q.now) t.values t.squares }
     requires ready { Ready Kind.Normal q.now l.band curve.now low.now high.now query.values query.spread }
@@ -87,7 +89,7 @@ pub fn match_at(
 ) -> Match
     requires q_in_bounds { from + length q.now ≤ length s.now }
     requires q_nonzero { (0 < length q.now) × (length q.now ≤ longest_query) }
-    requires* fact { do ⌜ ((← ⟦room.len()⟧) ≡ (← ⟦q.len()⟧)) × ((← ⟦q.len()⟧) < (← ⟦row.len()⟧)) ⌝ }
+    requires room_fits { (length room.old ≡ length q.now) × (length q.now < length row.old) }
     requires all_in { AllIn s.now × AllIn q.now × (l.scale ≤ greatest_scale) }
     requires are_sums { kind ≡ Kind.Normal → AreSums s.now from (length q.now) t.values t.squares }
     requires ready { Ready kind q.now l.band curve.now low.now high.now query.values query.spread }

@@ -1,4 +1,6 @@
 // Normalised values of a stretch: one multiplication and one test a value, no division and no root in the loop.
+#![tactic(auto)]
+
 ghost use Rattle.std.specs.Prelude.{◌≡◌, ◌+◌, ◌<◌, ◌≤◌, pos, ◌-ℤ◌};
 ghost use Rattle.meaning_curves.specs.Curve.{stretch};
 ghost use Rattle.distance_normal.specs.Normal.{IsFactor, CutOf, normal};
@@ -60,10 +62,10 @@ pub fn normalise_part(
     n: usize,
     out: &mut [i32],
 )
-    requires* fact { do ⌜ NormalReady s.now from (← ⟦out.len()⟧) t.values t.squares a ⌝ }
+    requires ready { NormalReady s.now from (length out.old) t.values t.squares a }
     requires factor { IsFactor a f }
-    requires* n_bound { do ⌜ p + n ≤ (← ⟦out.len()⟧) ⌝ }
-    ensures* { do ⌜ NormalPart (stretch s.now from) (← (⟦out.len()⟧).entry) p n out.old out.new ⌝ }
+    requires n_bound { p + n ≤ length out.old }
+    ensures { NormalPart (stretch s.now from) (length out.old) p n out.old out.new }
 {
     let m = out.len();
     let sum = t.values;
@@ -79,8 +81,8 @@ pub fn normalise_part(
 
 // All normalised values of that stretch.
 pub fn normalise(s: &[i32], from: usize, t: Sums, a: u64, out: &mut [i32])
-    requires* { do ⌜ NormalReady s.now from (← ⟦out.len()⟧) t.values t.squares a ⌝ }
-    ensures* { do ⌜ Normalised (stretch s.now from) (← (⟦out.len()⟧).entry) out.new ⌝ }
+    requires { NormalReady s.now from (length out.old) t.values t.squares a }
+    ensures { Normalised (stretch s.now from) (length out.old) out.new }
 {
     let m = out.len();
     let f = factor(a);

@@ -1,4 +1,6 @@
 // What depends on a query alone: the curve that stretches are compared with, its envelopes, its raised sum and its spread.
+#![tactic(auto)]
+
 ghost use Rattle.std.specs.Prelude.{◌≡◌, ◌<◌, ◌≤◌, length};
 ghost use Rattle.meaning_curves.specs.Limits.{longest_query};
 ghost use Rattle.meaning_curves.specs.Curve.{at, stretch, spread};
@@ -13,7 +15,7 @@ use meaning_filter::Kind;
 use values::{Sums, copy_values, spread_of, sums_at};
 
 // The numbers that depend on the query alone: the sum of its raised values, and its spread.
-#[derive(Drop)]
+#[derive(Clone, Copy)]
 pub struct Query {
     pub values: u64,
     pub spread: u64,
@@ -21,7 +23,7 @@ pub struct Query {
 
 // The curve of a query: its values, or its normalised values, of its sums and its spread.
 pub fn curve_of(kind: Kind, q: &[i32], t: Sums, a: u64, out: &mut [i32])
-    requires* do_value { do ⌜ (← ⟦out.len()⟧) ≡ (← ⟦q.len()⟧) ⌝ }
+    requires out_as_long { length out.old ≡ length q.now }
     requires q_len_bound { length q.now ≤ longest_query }
     requires all_in { AllIn q.now }
     requires are_sums { AreSums q.now 0 (length q.now) t.values t.squares }
@@ -45,8 +47,8 @@ pub fn prepare(
     high: &mut [i32],
 ) -> Query
     requires q_len_bound { length q.now ≤ longest_query }
-    requires* fact { do ⌜ ((← ⟦curve.len()⟧) ≡ (← ⟦q.len()⟧)) × ((← ⟦low.len()⟧) ≡ (← ⟦q.len()⟧)) ⌝ }
-    requires* do_value { do ⌜ (← ⟦high.len()⟧) ≡ (← ⟦q.len()⟧) ⌝ }
+    requires curve_as_long { (length curve.old ≡ length q.now) × (length low.old ≡ length q.now) }
+    requires high_as_long { length high.old ≡ length q.now }
     requires all_in { AllIn q.now }
     requires nonzero { kind ≡ Kind.Normal → 0 < spread (at q.now) (length q.now) }
     ensures { Ready kind q.now b curve.new low.new high.new result.values result.spread }

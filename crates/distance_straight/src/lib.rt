@@ -1,4 +1,6 @@
 // The straight distance of a query and a stretch, left early.
+#![tactic(auto)]
+
 ghost use Rattle.std.specs.Prelude.{◌≡◌, ◌+◌, ◌≤◌, length};
 ghost use Rattle.meaning_numbers.specs.Sum.{Σℕ};
 ghost use Rattle.meaning_curves.specs.Limits.{longest_query};

@@ -1,4 +1,6 @@
 // The warped distance of a query and a stretch within a band: the envelope bound first, then the table in one row, left early.
+#![tactic(auto)]
+
 ghost use Rattle.std.specs.Prelude.{◌≡◌, ℕ, ◌+◌, ◌-◌, ◌<◌, ◌≤◌, min, length, get_or};
 ghost use Rattle.meaning_numbers.specs.Sum.{Σℕ};
 ghost use Rattle.meaning_curves.specs.Limits.{longest_query};

@@ -1,4 +1,6 @@
 // The distance of a stretch and a curve where it is at most a threshold. Values are normalised only as far as the envelope bound stays at or below it.
+#![tactic(auto)]
+
 ghost use Rattle.std.specs.Prelude.{◌≡◌, ◌+◌, ◌<◌, ◌≤◌, length};
 ghost use Rattle.meaning_curves.specs.Limits.{longest_query};
 ghost use Rattle.meaning_curves.specs.Curve.{at, stretch};
@@ -17,7 +19,7 @@ use distance_warped::warped_in;
 use values::Sums;
 
 // Whether a stretch matches, and its distance.
-#[derive(Drop)]
+#[derive(Clone, Copy)]
 pub enum Match {
     Yes { distance: u64 },
     No,
@@ -45,7 +47,7 @@ pub fn compare(
     row: &mut [u64],
 ) -> Match
     requires curve_in_bounds { from + length curve.now ≤ length s.now }
-    requires* fact { do ⌜ (0 < (← ⟦curve.len()⟧)) × ((← ⟦curve.len()⟧) ≤ longest_query) × ((← ⟦curve.len()⟧) < (← ⟦row.len()⟧)) ⌝ }
+    requires curve_fits { (0 < length curve.now) × (length curve.now ≤ longest_query) × (length curve.now < length row.old) }
     requires all_in { AllIn s.now × AllIn curve.now }
     requires envelopes { Envelopes curve.now (length curve.now) b low.now high.now }
     ensures { result ≡ nearness (distance (stretch s.now from) (at curve.now) b (length curve.now)) threshold }
@@ -69,10 +71,10 @@ pub fn normalise_within(
     limit: u64,
     out: &mut [i32],
 ) -> u64
-    requires* fact { do ⌜ NormalReady s.now from (← ⟦out.len()⟧) t.values t.squares a ⌝ }
-    requires* fact_2 { do ⌜ ((← ⟦low.len()⟧) ≡ (← ⟦out.len()⟧)) × ((← ⟦high.len()⟧) ≡ (← ⟦out.len()⟧)) ⌝ }
+    requires ready { NormalReady s.now from (length out.old) t.values t.squares a }
+    requires low_as_long { (length low.now ≡ length out.old) × (length high.now ≡ length out.old) }
     requires all_in { AllIn low.now × AllIn high.now }
-    ensures* { do ⌜ NormalWithin (stretch s.now from) (← (⟦out.len()⟧).entry) low.now high.now limit result out.new ⌝ }
+    ensures { NormalWithin (stretch s.now from) (length out.old) low.now high.now limit result out.new }
 {
     let m = out.len();
     let f = factor(a);
@@ -107,7 +109,7 @@ pub fn compare_normal(
 ) -> Match
     requires normal_ready { NormalReady s.now from (length curve.now) t.values t.squares a }
     requires curve_nonzero { (0 < length curve.now) × AllIn curve.now }
-    requires* fact { do ⌜ ((← ⟦room.len()⟧) ≡ (← ⟦curve.len()⟧)) × ((← ⟦curve.len()⟧) < (← ⟦row.len()⟧)) ⌝ }
+    requires room_fits { (length room.old ≡ length curve.now) × (length curve.now < length row.old) }
     requires envelopes { Envelopes curve.now (length curve.now) b low.now high.now }
     ensures { result ≡ nearness (distance (normalised (stretch s.now from) (length curve.now)) (at curve.now) b (length curve.now)) threshold }
 {

@@ -1,4 +1,6 @@
 // The audit of a lent index against a series (01, Rows): refused, or yes, or the first row and offset filed wrongly, or how many windows stand nowhere. Any content may be lent. The sum slides inside a run: a value comes in, the window is tested, a value goes out, so no read needs a test.
+#![tactic(auto)]
+
 ghost use Rattle.std.specs.Prelude.{◌≡◌, true, ◌+◌, ◌-◌, ◌<◌, min, length};
 ghost use Rattle.meaning_curves.specs.Limits.{longest_window};
 ghost use Rattle.meaning_curves.specs.Curve.{window_sum};
@@ -19,7 +21,7 @@ use rows_records::chunk_at;
 use values::window_sum;
 
 // What is known after some rows: that the audit goes on, or else the row and offset filed wrongly.
-#[derive(Drop)]
+#[derive(Clone, Copy)]
 pub struct RowsAudited {
     pub go: bool,
     pub row: usize,
@@ -27,7 +29,7 @@ pub struct RowsAudited {
 }
 
 // What is known before the rows are audited: what refuses, and how many windows the runs leave.
-#[derive(Drop)]
+#[derive(Clone, Copy)]
 pub struct AuditPlan {
     pub refusal: Refusal,
     pub lacking: usize,

@@ -1,4 +1,6 @@
 // The entry that builds an index: refused, or the index in the lent index_buffers.
+#![tactic(auto)]
+
 ghost use Rattle.std.specs.Prelude.{◌≡◌, ◌+◌, ◌-◌, ◌≤◌, length};
 ghost use Rattle.meaning_curves.specs.Limits.{most_values};
 ghost use Rattle.meaning_curves.specs.Curve.{window_count};

@@ -1,4 +1,6 @@
 // The entry that extends an index: refused, or the extended index in the lent index_buffers.
+#![tactic(auto)]
+
 ghost use Rattle.std.specs.Prelude.{◌≡◌, ◌-◌, ◌≤◌, length};
 ghost use Rattle.meaning_curves.specs.Limits.{most_values, longest_window, widest_row};
 ghost use Rattle.meaning_curves.specs.Curve.{window_count};
@@ -19,7 +21,7 @@ use rows_records::row_at;
 use sums_slide::raised_rows;
 
 // Window length, old window count and row width; and what sums are raised by: `extra` beside 10,000 for each value, `bias` in all, which is `base` row widths.
-#[derive(Drop)]
+#[derive(Clone, Copy)]
 pub struct Lift {
     pub window: usize,
     pub old: usize,

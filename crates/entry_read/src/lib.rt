@@ -1,4 +1,6 @@
 // Reading an index text into lent buffers (01, Text and program): a pass that judges the text, and where nothing refuses a pass that puts its runs into the run buffer and one that puts its rows into the row records. What is not used of the buffers is made 0 at once. A refusal alters nothing.
+#![tactic(auto)]
+
 ghost use Rattle.std.specs.Prelude.{◌≡◌, cond, ◌+◌, ◌<◌, ◌≤◌, ◌^◌, length, set};
 ghost use Rattle.meaning_entries.specs.Demand2.{LoadKept};
 ghost use Rattle.refusals.specs.Refusal.{refusal_of};
@@ -18,7 +20,7 @@ use text_judge::{Rows, Scanned, judged_rows, scan};
 use text_rows::{bad_line, fill_rows};
 
 // What is known before anything is stored: what refuses; else the head, and how many rows and runs there are; and from where on the row records become records of zeros.
-#[derive(Drop)]
+#[derive(Clone, Copy)]
 pub struct ReadPlan {
     pub refusal: Refusal,
     pub head: Head,
@@ -28,7 +30,7 @@ pub struct ReadPlan {
 }
 
 // The left end of the last run that is stored, how many there are, and the place behind it in the text.
-#[derive(Drop)]
+#[derive(Clone, Copy)]
 pub struct Stored {
     pub left: u32,
     pub count: usize,
@@ -165,7 +167,7 @@ fn put_runs(
     right: &mut [u32],
 ) -> Stored
     requires { (k < at) × (at ≤ length text.now) }
-    ensures { RunsFrom tell_columns text.now (run_stored l r k left.entry.now right.old) at (record { left = result.left; count = result.count; lefts = left.exit.now; rights = right.new }) result.at }
+    ensures { RunsFrom tell_columns text.now (run_stored l r k left.old right.old) at (record { left = result.left; count = result.count; lefts = left.new; rights = right.new }) result.at }
 {
     put(left, k, l);
     put(right, k, r);
@@ -271,7 +273,7 @@ pub fn answer(p: ReadPlan) -> Loaded
 
 // An index text becomes an index in lent buffers.
 pub fn read(text: &[u8], rows: &mut [Row], left: &mut [u32], right: &mut [u32]) -> Loaded
-    ensures { LoadKept text.now (record { rows = rows.entry.now; left = left.old; right = right.old }) result (record { rows = rows.exit.now; left = left.new; right = right.new }) }
+    ensures { LoadKept text.now (record { rows = rows.old; left = left.old; right = right.old }) result (record { rows = rows.new; left = left.new; right = right.new }) }
 {
     let p = load_runs(text, rows.len(), left, right);
     clear_rows(rows, p.from);

@@ -1,4 +1,6 @@
 // The search of a series through a lent index (01, Candidates), in two halves: finding the candidates, which needs the rows, and checking them, which needs none.
+#![tactic(auto)]
+
 ghost use Rattle.std.specs.Prelude.{◌≡◌};
 ghost use Rattle.meaning_filter.specs.declared.Pick.{Pick};
 ghost use Rattle.meaning_entries.specs.Search.{lent_search, search_buffers, picking};

@@ -1,4 +1,6 @@
 // The entry write: a lent index becomes an index text. The text is counted first, then written by the same loop over the row records.
+#![tactic(auto)]
+
 ghost use Rattle.std.specs.Prelude.{◌≡◌, ◌<◌, pos, length};
 ghost use Rattle.meaning_rows.specs.Index.{lent};
 ghost use Rattle.meaning_text.specs.Texts.{index_text};

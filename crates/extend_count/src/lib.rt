@@ -1,4 +1,6 @@
 // The runs of each row of an extension counted in one covered pass over the new windows: beside the raised upper ends of the rows, which ascend, stand the counts.
+#![tactic(auto)]
+
 ghost use Rattle.std.specs.Prelude.{◌≡◌, ◌+◌, ◌-◌, ◌<◌, ◌≤◌, length};
 ghost use Rattle.sums_slide.specs.Levels.{level, Lent, windows_of};
 ghost use Rattle.sums_slide.specs.Ends.{raised_end};

@@ -1,4 +1,6 @@
 // The new windows of an extension: their row numbers, and the first new run where it joins the last old run of its row.
+#![tactic(auto)]
+
 ghost use Rattle.std.specs.Prelude.{◌≡◌, true, ◌+◌, ◌-◌, ◌<◌, ◌≤◌, length, get_or};
 ghost use Rattle.meaning_curves.specs.Limits.{widest_row};
 ghost use Rattle.sums_slide.specs.Levels.{Lent, windows_of};

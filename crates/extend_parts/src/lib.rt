@@ -1,5 +1,7 @@
 // The parts of the rows of an extension laid out: each row's record gets its part of the run buffer, which begins where the row before ends, and its old runs are copied to the front of it.
 // While a part is not full, its last entry has the number of runs written.
+#![tactic(auto)]
+
 ghost use Rattle.std.specs.Prelude.{◌≡◌, ℕ, ◌+◌, ◌-◌, ◌<◌, ◌≤◌, length};
 ghost use Rattle.extend_parts.specs.Lay.{with_part, laid_to, EndsRoom};
 ghost use Rattle.extend_parts.specs.Copy.{part_size, written, part_copied, CopyRoom, old_passed, column_to, Copyable};

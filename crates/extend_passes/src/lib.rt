@@ -1,4 +1,6 @@
 // An index extended: the passes of an extension one after the other.
+#![tactic(auto)]
+
 ghost use Rattle.std.specs.Prelude.{◌≡◌, ◌+◌, ◌-◌, ◌*◌, length};
 ghost use Rattle.meaning_curves.specs.Limits.{greatest_value};
 ghost use Rattle.meaning_rows.specs.Extend.{extended};

@@ -1,4 +1,6 @@
 // What refuses an extension, by its series, by what judging said of the index and by how many entries the buffers hold.
+#![tactic(auto)]
+
 ghost use Rattle.std.specs.Prelude.{◌≡◌};
 ghost use Rattle.extend_plan.specs.Plan.{plan_of};
 

@@ -1,4 +1,6 @@
 // The rows of an extension: the row numbers of the new windows listed, old and new rows woven, their runs counted, and their parts laid out.
+#![tactic(auto)]
+
 ghost use Rattle.std.specs.Prelude.{◌≤◌, ◌+◌, ◌-◌, ◌<◌, length, ◌≡◌};
 ghost use Rattle.meaning_curves.specs.Limits.{widest_row};
 ghost use Rattle.sums_slide.specs.Levels.{Lent, windows_of, level};

@@ -1,4 +1,6 @@
 // The runs of an extension: old runs copied into the rows' new parts, and the first new run joined to the last old one where it goes on from it.
+#![tactic(auto)]
+
 ghost use Rattle.std.specs.Prelude.{◌≡◌, ◌+◌, ◌-◌, ◌<◌, ◌≤◌, ◌*◌, length};
 ghost use Rattle.sums_slide.specs.Levels.{level, Lent, windows_of};
 ghost use Rattle.build_fill.specs.Turn.{At};

@@ -1,4 +1,6 @@
 // The rows of an extension: the old rows and the row numbers of the new windows, woven into row records by one ascending walk. A thin walked loop over covered functions on a record by value and numbers.
+#![tactic(auto)]
+
 ghost use Rattle.std.specs.Prelude.{◌≡◌, ◌+◌, ◌*◌, ◌<◌, length};
 ghost use Rattle.extend_weave.specs.Turn.{end_row, low_at, chosen_of, old_after, number_after, made_after, Cells, Cell};
 ghost use Rattle.extend_weave.specs.Weave.{Weavable, Made};

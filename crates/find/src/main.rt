@@ -1,4 +1,6 @@
 // The search program: standard input to standard output. No contract can say what is read or written, so all that matters is promised by the functions on bytes that it calls.
+#![tactic(auto)]
+
 ghost use Rattle.std.specs.Prelude.{◌≤◌, length, take};
 ghost use Rattle.program_input.specs.Input.{Open};
 ghost use Rattle.find.specs.Reading.{StepFrom, Stepped, ReadTo};
@@ -9,7 +11,7 @@ use program_input::{Input, begin, read_piece};
 use program_print::finish;
 
 // There may be more to read, or the input is over.
-#[derive(Drop)]
+#[derive(Clone, Copy)]
 enum Step {
     More(Input),
     Over(Input),

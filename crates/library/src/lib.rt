@@ -1,4 +1,6 @@
 // The library under one roof: the entries of documents 01 and 02, and the types that they take and answer with.
+#![tactic(auto)]
+
 pub use demand::demand;
 pub use entry_audit::{audit, audit_covered};
 pub use entry_build::build;

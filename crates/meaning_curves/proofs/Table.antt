@@ -57,6 +57,7 @@ least-right (some x) (under d n h) = under (min x d) n (omega arith)
 value-all : {P : ℕ → Type 0} {o : Option ℕ} {n : ℕ} → All P o → Under o n → P (value_of o)
 unfolding value_of
 value-all (there h) (under d n k) = h
+value-all {P = P} {n = n} missing h = elim h [ ]
 
 value-under : {o : Option ℕ} {n : ℕ} → Under o n → value_of o ≤ n
 unfolding value_of

@@ -1,4 +1,6 @@
 // The limits of documents 01 and 02 for the code, as specs/Limits has them. Of series, stretches and distances specs/ has the definitions, proofs/ what they imply.
+#![tactic(auto)]
+
 ghost use Rattle.std.specs.Prelude.{◌≡◌};
 ghost use Rattle.meaning_curves.specs.Constants.{meant};
 
@@ -45,7 +47,7 @@ pub const LOWEST_END: i32 = -4000000;
 pub const HIGHEST_END: i32 = 4000000;
 
 // All of them, for the promise that they are the limits of the definitions.
-#[derive(Drop)]
+#[derive(Clone, Copy)]
 pub struct Constants {
     pub values: usize,
     pub program: usize,

@@ -38,7 +38,7 @@ short-end z e =
 runs-spelled : (n a : ℕ) (l : List (ℕ × ℕ)) → n ≤ 1048576 → Apart n a l → Each (Spellable run_form) (map entry l)
 unfolding Apart
 runs-spelled n a [] h p = end
-runs-spelled n a (x ∷ l) h p = more {x = entry x} (omega (arith, p.1, p.2, h), omega (arith, h)) (runs-spelled n _ l h p.3)
+runs-spelled n a (x ∷ l) h p = more {x = entry x} (omega (arith, p.1, p.2, h), omega (arith, h)) (runs-spelled n (Prim.Native.Nat.◌+◌ x.1 2) l h p.3)
 
 rows-spelled : (x : Index) (least : ℤ) (first taken : ℕ) (l : List Row) → nat_abs x.windows ≤ 1048576 → GoodRows x least first taken l → Each (Spellable row_form) (map say_row (map (range_row x) l))
 unfolding GoodRows

@@ -1,8 +1,10 @@
 // What each entry answers. specs/ has, for each entry, its refusals, its answer and every buffer afterwards; proofs/ what they imply.
+#![tactic(auto)]
+
 use meaning_rows::Head;
 
 // Of a build: the index's head, and how many rows and runs stand in the buffers.
-#[derive(Drop)]
+#[derive(Clone, Copy)]
 pub enum Built {
     Index {
         head: Head,
@@ -16,7 +18,7 @@ pub enum Built {
 }
 
 // Of an extension.
-#[derive(Drop)]
+#[derive(Clone, Copy)]
 pub enum Extended {
     Index {
         head: Head,
@@ -30,7 +32,7 @@ pub enum Extended {
 }
 
 // Of an audit: yes; the first row and offset filed wrongly; or how many windows stand nowhere.
-#[derive(Drop)]
+#[derive(Clone, Copy)]
 pub enum Audited {
     Yes,
     Wrong { row: usize, offset: usize },
@@ -39,14 +41,14 @@ pub enum Audited {
 }
 
 // Of writing an index text: its length in bytes.
-#[derive(Drop)]
+#[derive(Clone, Copy)]
 pub enum Written {
     Text { length: usize },
     Refused { number: u32, place: usize },
 }
 
 // Of reading an index text.
-#[derive(Drop)]
+#[derive(Clone, Copy)]
 pub enum Loaded {
     Index {
         head: Head,
@@ -60,7 +62,7 @@ pub enum Loaded {
 }
 
 // Of a search: all matches are listed; or the list is full, which is refusal 24 and has the true counts; or the closest few are listed (02, item 2), and the counts are of all matches.
-#[derive(Drop)]
+#[derive(Clone, Copy)]
 pub enum Found {
     All { candidates: usize, matches: usize },
     Full { candidates: usize, matches: usize },
@@ -69,7 +71,7 @@ pub enum Found {
 }
 
 // Of two audits and two searches: both searches listed their matches, so many; or what stood first in the way answered, an audit that did not say yes or a search that was refused.
-#[derive(Drop)]
+#[derive(Clone, Copy)]
 pub enum Both {
     Listed { first: usize, second: usize },
     FirstAudit { audited: Audited },

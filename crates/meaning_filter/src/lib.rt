@@ -1,14 +1,15 @@
 // What a search is asked for beside its query: the kind of query, its limits, and what it hands out. specs/ has the meanings, proofs/ what they imply.
+#![tactic(auto)]
 
 // A query's kind.
-#[derive(Drop)]
+#[derive(Clone, Copy)]
 pub enum Kind {
     Raw,
     Normal,
 }
 
 // The limits of a search: band b, threshold E, scale limit a in tenths, shift limit h.
-#[derive(Drop)]
+#[derive(Clone, Copy)]
 pub struct Limits {
     pub band: u32,
     pub threshold: u64,
@@ -17,14 +18,14 @@ pub struct Limits {
 }
 
 // What a search hands out: all matches; or the closest few, so many at most (02, item 2).
-#[derive(Drop)]
+#[derive(Clone, Copy)]
 pub enum Pick {
     All,
     Closest { count: u32 },
 }
 
 // What is asked of a search beside its query.
-#[derive(Drop)]
+#[derive(Clone, Copy)]
 pub struct Ask {
     pub kind: Kind,
     pub limits: Limits,

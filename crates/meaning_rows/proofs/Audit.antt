@@ -35,14 +35,14 @@ rising-offsets n a [] p = tt
 rising-offsets n a (x ∷ l) p =
     let c = x.1 + 1 - x.0 in
     let rest = offsets (map entry l) in
-    rising_down a x.0 (numbers_from x.0 c ++ rest) p.0 (rising-numbers x.0 c rest (rising_down _ _ rest (omega arith) (rising-offsets n _ l p.3)))
+    rising_down a x.0 (numbers_from x.0 c ++ rest) p.0 (rising-numbers x.0 c rest (rising_down _ _ rest (omega arith) (rising-offsets n (x.1 + 2) l p.3)))
 
 offsets-held : (n a : ℕ) (l : List (ℕ × ℕ)) (j : ℕ) → Apart n a l → Mem j (offsets (map entry l)) → held l j ≡ true
 unfolding Apart offsets held
 offsets-held n a [] j p m = absurd (not-nil m)
 offsets-held n a (x ∷ l) j p m = ⊎_elim
     (λ k. let b = numbers-mem x.0 _ j k in rw (le-leb x.0 j b.0, le-leb j x.1 (omega arith)))
-    (λ k. rw (offsets-held n _ l j p.3 k) (or-true (leb x.0 j && leb j x.1)))
+    (λ k. rw (offsets-held n (x.1 + 2) l j p.3 k) (or-true (leb x.0 j && leb j x.1)))
     (append_cases (numbers_from x.0 _) m)
 
 held-offsets : (l : List (ℕ × ℕ)) (j : ℕ) → held l j ≡ true → Mem j (offsets (map entry l))

@@ -64,7 +64,7 @@ good-runs n a (x ∷ l) e =
     let d = both (lt_z x.1 (pos n)) (runs_good (pos n) _ l) c.1 in
     let left = at_least a x.0 b.0 in
     let right = at_least _ x.1 (subst (λ z. le_z z x.1 ≡ true) left.0 c.0) in
-    let after = good-runs n _ l (subst (λ z. runs_good (pos n) (z +ℤ pos 2) l ≡ true) right.0 d.1) in
+    let after = good-runs n (nat_abs x.1 + 2) l (subst (λ z. runs_good (pos n) (z +ℤ pos 2) l ≡ true) right.0 d.1) in
     let same : x ≡ entry (nat_abs x.0, nat_abs x.1) = λ i. (left.0 i, right.0 i) in
     record {
       plain = (nat_abs x.0, nat_abs x.1) ∷ after.plain;
@@ -76,7 +76,7 @@ apart-good : (n a : ℕ) (l : List (ℕ × ℕ)) → Apart n a l → runs_good (
 unfolding runs_good Apart
 apart-good n a [] p = refl
 apart-good n a (x ∷ l) p =
-    of-both (le-leb a x.0 p.0) (of-both (le-leb x.0 x.1 p.1) (of-both (lt-ltb x.1 n p.2) (apart-good n _ l p.3)))
+    of-both (le-leb a x.0 p.0) (of-both (le-leb x.0 x.1 p.1) (of-both (lt-ltb x.1 n p.2) (apart-good n (x.1 + 2) l p.3)))
 
 pub runs-good : (n a : ℕ) (l : List Entry) → GoodRuns n a l → runs_good (pos n) (pos a) l ≡ true
 runs-good n a l g = rw g.is (apart-good n a g.plain g.apart)
@@ -236,7 +236,7 @@ run_total (r ∷ l) = r.runs + run_total l
 length-apart : (n a : ℕ) (l : List (ℕ × ℕ)) → Apart n a l → length (map entry l) ≤ run_lengths (map entry l)
 unfolding Apart run_lengths
 length-apart n a [] p = omega arith
-length-apart n a (x ∷ l) p = omega (arith, length-apart n _ l p.3)
+length-apart n a (x ∷ l) p = omega (arith, length-apart n (x.1 + 2) l p.3)
 
 module _ (x : Index) where
   pub length-runs_of : (r : Row) → r.first + r.runs ≤ length x.runs → length (runs_of x r) ≡ r.runs

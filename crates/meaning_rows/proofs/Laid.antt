@@ -29,12 +29,12 @@ unfolding Lays records
 read_back x k [] h = refl
 read_back x k (r ∷ l) h =
     let first : range_row x (record { low = r.low; up = r.up; first = k; runs = length r.runs }) ≡ r = λ i. record { low = r.low; up = r.up; runs = h.1 i } in
-    cc (first, read_back x _ l h.2)
+    cc (first, read_back x (k + length r.runs) l h.2)
 
 pub length-records : (k : ℕ) (l : List RangeRow) → length (records k l) ≡ length l
 unfolding records
 length-records k [] = refl
-length-records k (r ∷ l) = ap suc (length-records _ l)
+length-records k (r ∷ l) = ap suc (length-records (k + length r.runs) l)
 
 pub length-all_runs : (k : ℕ) (l : List RangeRow) → length (all_runs l) ≡ run_total (records k l)
 unfolding records all_runs run_total

@@ -31,7 +31,7 @@ module _ {X : Type 0} (x₀ : X) (G : X → RangeRow) where
       λ j. record { low = (G x).low; up = (G x).up; first = e j; runs = size x }
   records-at o k (x ∷ t) (suc i) h =
       let e : k + size x + start t i ≡ k + start (x ∷ t) (suc i) = omega (arith, Σℕ-shift i (λ y. size (get_or (x ∷ t) y x₀))) in
-      records-at o _ t i (omega arith) ∙ (λ j. record { low = (G (get_or t i x₀)).low; up = (G (get_or t i x₀)).up; first = e j; runs = size (get_or t i x₀) })
+      records-at o (k + size x) t i (omega arith) ∙ (λ j. record { low = (G (get_or t i x₀)).low; up = (G (get_or t i x₀)).up; first = e j; runs = size (get_or t i x₀) })
 
   pub runs-total : (t : List X) → length (all_runs (map G t)) ≡ start t (length t)
   unfolding all_runs
@@ -55,7 +55,7 @@ module _ {X : Type 0} (x₀ : X) (G : X → RangeRow) where
           | no s ↦ let e : k + x ≡ k + size y + (x - size y) = omega arith in
               let q : length (map f a) + (x - size y) ≡ x = omega (arith, m) in
               ap (λ z. get_or column z 0) e
-              ∙ column-from _ t (λ i u p r. let g : k + size y + start t i + u ≡ k + start (y ∷ t) (suc i) + u = omega (arith, Σℕ-shift i (λ z. size (get_or (y ∷ t) z x₀))) in ap (λ z. get_or column z 0) g ∙ h (suc i) u (omega arith) r) (x - size y) (omega arith)
+              ∙ column-from (k + size y) t (λ i u p r. let g : k + size y + start t i + u ≡ k + start (y ∷ t) (suc i) + u = omega (arith, Σℕ-shift i (λ z. size (get_or (y ∷ t) z x₀))) in ap (λ z. get_or column z 0) g ∙ h (suc i) u (omega arith) r) (x - size y) (omega arith)
               ∙ sym (get_or-append-add (map f a) (map f b) (x - size y) 0) ∙ rw q
         ])
 

@@ -145,7 +145,7 @@ open_next b (x ∷ y ∷ l) n h = open_next b (y ∷ l) n h
 open-apart : (n a : ℕ) (l : List (ℕ × ℕ)) → Apart n a l → Apart (suc n) a l
 unfolding Apart
 open-apart n a [] h = tt
-open-apart n a (x ∷ l) h = (h.0, h.1, omega arith, open-apart n _ l h.3)
+open-apart n a (x ∷ l) h = (h.0, h.1, omega arith, open-apart n (x.1 + 2) l h.3)
 
 reach-next : (l : List (ℕ × ℕ)) (n : ℕ) → Next true l n → Next true (reach l n) (suc n)
 unfolding Next reach
@@ -158,7 +158,7 @@ reach-apart : (n a : ℕ) (l : List (ℕ × ℕ)) → Apart n a l → Next true 
 unfolding Apart Next reach
 reach-apart n a [] p h = tt
 reach-apart n a (x ∷ []) p h = (p.0, omega arith, omega arith, tt)
-reach-apart n a (x ∷ y ∷ l) p h = (p.0, p.1, omega arith, reach-apart n _ (y ∷ l) p.3 h)
+reach-apart n a (x ∷ y ∷ l) p h = (p.0, p.1, omega arith, reach-apart n (x.1 + 2) (y ∷ l) p.3 h)
 
 end-next : (l : List (ℕ × ℕ)) (n : ℕ) → Next true (l ++ ((n, n) ∷ [])) (suc n)
 unfolding Next
@@ -170,7 +170,7 @@ end-apart : (n a : ℕ) (l : List (ℕ × ℕ)) → a ≤ n → Apart n a l → 
 unfolding Apart Next
 end-apart n a [] b p h = (b, omega arith, omega arith, tt)
 end-apart n a (x ∷ []) b p h = (p.0, p.1, omega arith, (omega arith, omega arith, omega arith, tt))
-end-apart n a (x ∷ y ∷ l) b p h = (p.0, p.1, omega arith, end-apart n _ (y ∷ l) (omega arith) p.3 h)
+end-apart n a (x ∷ y ∷ l) b p h = (p.0, p.1, omega arith, end-apart n (x.1 + 2) (y ∷ l) (omega arith) p.3 h)
 
 take_in-apart : (a b : Bool) (l : List (ℕ × ℕ)) (n : ℕ) → Apart n 0 l → Next b l n → Apart (suc n) 0 (take_in a b l n) × Next a (take_in a b l n) (suc n)
 unfolding take_in
@@ -223,7 +223,7 @@ held-reach : (n a : ℕ) (l : List (ℕ × ℕ)) (j : ℕ) → Apart n a l → N
 unfolding held reach Next Apart
 held-reach n a [] j p h = absurd h
 held-reach n a (x ∷ []) j p h = rw (in_reach x.0 x.1 n j p.1 h) (simp or-false)
-held-reach n a (x ∷ y ∷ l) j p h = rw (held-reach n _ (y ∷ l) j p.3 h) (sym (or_assoc (leb x.0 j && leb j x.1) (held (y ∷ l) j) (eqb j n)))
+held-reach n a (x ∷ y ∷ l) j p h = rw (held-reach n (x.1 + 2) (y ∷ l) j p.3 h) (sym (or_assoc (leb x.0 j && leb j x.1) (held (y ∷ l) j) (eqb j n)))
 
 point : (n j : ℕ) → (leb n j && leb j n) ≡ eqb j n
 point n j = by-test _ (λ t. rw (t, le-leb n j (omega (arith, eqb-true j n t)), le-leb j n (omega (arith, eqb-true j n t))))
@@ -273,7 +273,7 @@ unfolding Apart held
 held_in n a [] j p h = absurd (false≢true h)
 held_in n a (x ∷ l) j p h = by-test _
     (λ t. let b = both _ _ t in let c = leb-true x.0 j b.0 in let e = leb-true j x.1 b.1 in (omega arith, omega arith))
-    (λ f. let r = held_in n _ l j p.3 (rw f at h) in (omega arith, r.1))
+    (λ f. let r = held_in n (x.1 + 2) l j p.3 (rw f at h) in (omega arith, r.1))
 
 not-held : (n a : ℕ) (l : List (ℕ × ℕ)) (j : ℕ) → Apart n a l → (a ≤ j → j < n → ⊥) → held l j ≡ false
 not-held n a l j p f = by-test _ (λ t. let r = held_in n a l j p t in absurd (f r.0 r.1)) (λ g. g)
@@ -304,7 +304,7 @@ apart-unique n a b (x ∷ l) (y ∷ m) p q h =
     let same : x ≡ y = λ i. (e i, s i) in
     cc (
       same,
-      apart-unique n _ _ l m p.3 q.3
+      apart-unique n (x.1 + 2) _ l m p.3 q.3
           (λ j. elim (dec_le (x.1 + 2) j) [
             | yes k ↦ sym (past-run x l j (omega arith)) ∙ h j ∙ past-run y m j (omega arith)
             | no k ↦ not-held n _ l j p.3 (λ u v. omega arith) ∙ sym (not-held n _ m j q.3 (λ u v. omega arith))
@@ -341,7 +341,7 @@ lengths-count n a (x ∷ l) p =
     let first : ℕ → Bool = λ j. leb x.0 j && leb j x.1 in
     omega (
       arith,
-      lengths-count n _ l p.3,
+      lengths-count n (x.1 + 2) l p.3,
       count-range x.0 x.1 n,
       count-never (λ j. false) n (λ j b. refl),
       count_add (held (x ∷ l)) (λ j. false) first (held l) n (λ j b. omega (arith, bit_or (first j) _ (first-or-rest n a x l j p))),

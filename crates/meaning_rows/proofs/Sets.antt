@@ -41,7 +41,7 @@ module _ (x : Index) (n : ℕ) where
   row_from k [] h q m = absurd (not-nil m)
   row_from k (p ∷ rows) h q m = ⊎_elim
       (λ e. rw e (record { row = _; is = here refl; shows = shows_first k p rows h }))
-      (λ o. let s = row_from _ rows h.2 q o in record { row = s.row; is = there s.is; shows = s.shows })
+      (λ o. let s = row_from (k + length (with_runs n p).runs) rows h.2 q o in record { row = s.row; is = there s.is; shows = s.shows })
       (cases m)
 
   set-from : (k : ℕ) (rows : List SetRow) → Lays x.runs k (map (with_runs n) rows) → (r : Row) → Mem r (records k (map (with_runs n) rows)) → Showing x n rows r
@@ -49,7 +49,7 @@ module _ (x : Index) (n : ℕ) where
   set-from k [] h r m = absurd (not-nil m)
   set-from k (p ∷ rows) h r m = ⊎_elim
       (λ e. record { set = p; is = here refl; shows = rw e (shows_first k p rows h) })
-      (λ o. let s = set-from _ rows h.2 r o in record { set = s.set; is = there s.is; shows = s.shows })
+      (λ o. let s = set-from (k + length (with_runs n p).runs) rows h.2 r o in record { set = s.set; is = there s.is; shows = s.shows })
       (cases m)
 
 -- what makes the rows of n windows good

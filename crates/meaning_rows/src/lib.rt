@@ -1,8 +1,9 @@
 // The lent index: its row records and its head, which C may lend too. specs/ has the meanings, proofs/ what they imply.
+#![tactic(auto)]
 
 // A row record: its range [low, up), and its runs, which are `runs` entries of the run buffer from `first` on.
 #[repr(C)]
-#[derive(Drop)]
+#[derive(Clone, Copy)]
 pub struct Row {
     pub low: i32,
     pub up: i32,
@@ -12,7 +13,7 @@ pub struct Row {
 
 // The head of an index: window length, row width, number of windows.
 #[repr(C)]
-#[derive(Drop)]
+#[derive(Clone, Copy)]
 pub struct Head {
     pub window: u32,
     pub width: u32,

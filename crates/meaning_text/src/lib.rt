@@ -1,2 +1,4 @@
 // The meanings of texts: specs/ has the definitions, proofs/ what they imply. A crate has one function at least.
+#![tactic(auto)]
+
 pub fn nothing() {}

@@ -1,4 +1,6 @@
 // Leaf arithmetic: whole roots, row numbers, and the few functions that own signed numbers.
+#![tactic(auto)]
+
 ghost use Rattle.std.specs.Prelude.{◌≡◌, ◌+◌, ◌-◌, ◌*◌, ◌/◌, ◌<◌, ◌≤◌, min, max, pos, ◌-ℤ◌, nat_abs, ◌+ℤ◌, ◌*ℤ◌};
 ghost use Rattle.meaning_numbers.specs.Root.{root};
 ghost use Rattle.meaning_numbers.specs.Order.{minℤ, maxℤ};

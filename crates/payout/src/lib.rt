@@ -1,4 +1,6 @@
 // The audit of an index text against a series line, for the C payout program (01, Text and program): both texts are read before anything is judged, the answer is packed into a number, and nothing is lent. Any bytes may be handed over.
+#![tactic(auto)]
+
 ghost use Rattle.std.specs.Prelude.{◌≡◌, ◌+◌, ◌*◌, ◌<◌, ◌≤◌, ◌^◌, length};
 ghost use Rattle.meaning_curves.specs.Limits.{most_values, most_program_values};
 ghost use Rattle.meaning_text.specs.Bytes.{newlines};

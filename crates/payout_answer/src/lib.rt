@@ -1,4 +1,6 @@
 // The audit of an index text, that can be read, against a series of the library's length: planned by what judging the text said, and where nothing refuses the rows are audited in a pass over the text.
+#![tactic(auto)]
+
 ghost use Rattle.std.specs.Prelude.{◌≡◌};
 ghost use Rattle.meaning_text.specs.Read.{read_text};
 ghost use Rattle.meaning_text.specs.Texts.{index_form};
@@ -16,7 +18,7 @@ use text_judge::{Rows, judged_rows};
 // The audit of the index of a text, whose head and rows came to these, against a series.
 pub fn audit_series(index: &[u8], head: Head, c: Rows, series: &[i32]) -> Audited
     requires { Scanned.Fine head c ≡ scanned (read_text index_form index.now) }
-    ensures { result ≡ audit_answer (record { series = series.entry.now; index = text_index index.now }) }
+    ensures { result ≡ audit_answer (record { series = series.old; index = text_index index.now }) }
 {
     let p = make_plan(series, head, judged_rows(head, c));
     if p.refusal.number != 0 {

@@ -1,4 +1,6 @@
 // The series line of the audit of two texts, read as a whole: whether it can be read, how many values it has, and as many of them as there is room for, clamped to 32 bits.
+#![tactic(auto)]
+
 ghost use Rattle.std.specs.Prelude.{◌≡◌};
 ghost use Rattle.meaning_text.specs.Read.{read_text};
 ghost use Rattle.meaning_text.specs.Texts.{series_form};
@@ -8,7 +10,7 @@ use text_feed::{Feeding, Progress, Values, feed};
 use text_lines::{State, Word};
 
 // A line cannot be read from a place on; or how many values it has.
-#[derive(Drop)]
+#[derive(Clone, Copy)]
 pub enum Line {
     Bad(usize),
     Fine(usize),

@@ -1,4 +1,6 @@
 // The rows of an index text audited against a series in one pass over its bytes (01, Rows): a run is audited where its right end is read, as a row of one run, and nothing is kept of it. The pass stops at the first offset filed wrongly.
+#![tactic(auto)]
+
 ghost use Rattle.std.specs.Prelude.{◌≡◌, ◌&&◌, ◌+◌, ◌<◌, ◌^◌, leb};
 ghost use Rattle.payout_walk.specs.Walk.{Sized, start_walk, after_run, tell_walk, shut_walk, Walked};
 
@@ -8,7 +10,7 @@ use numbers::{hold, narrow};
 use text_index::{Field, Moved, State, Word, index_step};
 
 // What is known of a text so far: the range of the row that is open, the left end of the run that is open, how many rows are closed, and what is filed wrongly first.
-#[derive(Drop)]
+#[derive(Clone, Copy)]
 pub struct Walk {
     pub low: i32,
     pub up: i32,

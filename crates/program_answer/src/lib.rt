@@ -1,4 +1,6 @@
 // The list of matches as text behind the text of the index: what the search program prints is put together from these (01, 'Text and program').
+#![tactic(auto)]
+
 ghost use Rattle.std.specs.Prelude.{◌≡◌, ◌≤◌, take, length};
 ghost use Rattle.meaning_curves.specs.Limits.{most_program_values};
 ghost use Rattle.meaning_filter.specs.declared.Pick.{Pick};

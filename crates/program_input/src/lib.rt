@@ -1,4 +1,6 @@
 // What the search program knows of its input, read in pieces, and what refuses it at the end: a text that cannot be read, then build and search judged together as one call (01, 'Text and program').
+#![tactic(auto)]
+
 ghost use Rattle.std.specs.Prelude.{◌≡◌, not, ◌+◌, ◌-◌, ◌<◌, ◌≤◌, ◌^◌, pos, nat_abs, length, ◌≤ℤ◌};
 ghost use Rattle.std.specs.Int.Signed.{lt_z};
 ghost use Rattle.meaning_numbers.specs.Order.{within};
@@ -35,7 +37,7 @@ const SCALE: i64 = GREATEST_SCALE as i64;
 const SHIFT: i64 = GREATEST_SHIFT as i64;
 
 // How far the input has been read, and the line that it stands in; or the line of its first bad byte.
-#[derive(Drop)]
+#[derive(Clone, Copy)]
 pub enum Input {
     Going(Progress, usize),
     Failed(usize),
@@ -98,7 +100,7 @@ pub fn read_piece(
 }
 
 // The single numbers of the lines; 1 for a raw query, 0 for a normalised one.
-#[derive(Drop)]
+#[derive(Clone, Copy)]
 pub struct Numbers {
     pub window: i64,
     pub width: i64,
@@ -254,7 +256,7 @@ pub fn refuse(r: Input, numbers: &[i64], query: &[i32]) -> Refusal
 }
 
 // What a program that is not refused asks: a build, and a search.
-#[derive(Drop)]
+#[derive(Clone, Copy)]
 pub struct Asked {
     pub window: u32,
     pub width: u32,

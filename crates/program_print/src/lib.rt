@@ -1,4 +1,6 @@
 // What the search program prints at the end of its input: a refusal, or the index and then the list (01, 'Text and program').
+#![tactic(auto)]
+
 ghost use Rattle.std.specs.Prelude.{◌≡◌, length};
 ghost use Rattle.program_answer.specs.Finish.{Finishes};
 ghost use Rattle.program_print.specs.End.{InputHeld};

@@ -1,4 +1,6 @@
 // Build, writing and search over row records by value, as programs call the entries.
+#![tactic(auto)]
+
 ghost use Rattle.std.specs.Prelude.{◌≡◌, ◌≤◌, take};
 ghost use Rattle.meaning_filter.specs.declared.Pick.{Pick};
 ghost use Rattle.program_table.specs.Table.{table_of};
@@ -18,7 +20,7 @@ use meaning_filter::Ask;
 use meaning_rows::{Head, Row};
 
 // Row records by value, and what the build that made them answered.
-#[derive(Drop)]
+#[derive(Clone, Copy)]
 pub struct Table {
     pub rows: [Row; MOST_PROGRAM_VALUES],
     pub answer: Built,

@@ -1,4 +1,6 @@
 // The conditions under which a call is refused, a function each, and the first of them that applies (01, 'Refused for the input' and 'Refused for the state').
+#![tactic(auto)]
+
 ghost use Rattle.std.specs.Prelude.{◌≡◌, not, ◌||◌, [], ◌+◌, ◌-◌, ◌≤◌, ltb, pos, ◌+ℤ◌, ◌-ℤ◌, length};
 ghost use Rattle.std.specs.Int.Signed.{lt_z};
 ghost use Rattle.meaning_curves.specs.Limits.{most_values, length_in, window_in, width_in, merge_in, query_length_in, band_in, threshold_in, scale_in, shift_in, first_outside, longest_query};
@@ -19,7 +21,7 @@ use rows_judge::Judged;
 use values::{Place, first_outside, spread_of, sums_at};
 
 // What refuses a call: a number of the tables and its place; number 0 where nothing does.
-#[derive(Drop)]
+#[derive(Clone, Copy)]
 pub struct Refusal {
     pub number: u32,
     pub place: usize,

@@ -1,5 +1,7 @@
 // Replays searches during an extension: an index of the first prices stays as it is while the series grows by one price at a time. Each list that is found through it is held to a scan of all offsets, which uses no index.
 // Standard input has numbers: how many prices the index covers; window length, row width, merge percentage; how many prices there are, and these; kind (0 raw, 1 normalised), band, threshold, scale limit, shift limit; how many values the query has, and these.
+#![tactic(auto)]
+
 ghost use Rattle.std.specs.Prelude.{◌≤◌, length};
 ghost use Rattle.meaning_curves.specs.Limits.{most_program_values, longest_query};
 
@@ -18,7 +20,7 @@ use try_vectors::{get, get_length, get_small, get_values, plus};
 // ---- what is asked for
 
 // The numbers of the input; `kind` is 0 for a raw query.
-#[derive(Drop)]
+#[derive(Clone, Copy)]
 struct Story {
     indexed: usize,
     window: u32,
@@ -184,7 +186,7 @@ fn scan_finds(
 // ---- the steps
 
 // How many prices there were when matches were told last, and how many lists are the scan's, of how many.
-#[derive(Drop)]
+#[derive(Clone, Copy)]
 struct Turn {
     told: usize,
     same: u64,

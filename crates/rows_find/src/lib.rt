@@ -1,4 +1,6 @@
 // Rows found among the lent row records.
+#![tactic(auto)]
+
 ghost use Rattle.std.specs.Prelude.{◌≡◌, ◌+◌, ◌-◌, ◌<◌, ◌≤◌};
 ghost use Rattle.rows_find.specs.Search.{mid_of, next_lo, next_hi, Climbs, Found, Reached, FoundRow};
 

@@ -1,4 +1,6 @@
 // RowsJudged a lent index: whether it is well formed, and else the first bad row (01, Rows). The head is judged first. Any content may be lent, and no sum wraps.
+#![tactic(auto)]
+
 ghost use Rattle.std.specs.Prelude.{◌≡◌, ◌&&◌, [], ◌+◌, ◌-◌, ◌≤◌, min, leb, ltb, pos, length, take, drop};
 ghost use Rattle.std.specs.Int.Signed.{le_z, lt_z};
 ghost use Rattle.meaning_numbers.specs.Quotient.{multiple};
@@ -17,7 +19,7 @@ use rows_records::row_at;
 const WINDOWS: u32 = MOST_VALUES as u32;
 
 // What is known after some rows: that they are good, where the last one's range ends, where its runs end in the run buffer, and what the run lengths total.
-#[derive(Drop)]
+#[derive(Clone, Copy)]
 pub struct RowsJudged {
     pub good: bool,
     pub least: i32,
@@ -26,14 +28,14 @@ pub struct RowsJudged {
 }
 
 // A row's runs: that they are good, and their lengths added up.
-#[derive(Drop)]
+#[derive(Clone, Copy)]
 pub struct Lengths {
     pub good: bool,
     pub total: usize,
 }
 
 // The outcome: the run lengths of all rows added up, or the first bad row, 0 for the head.
-#[derive(Drop)]
+#[derive(Clone, Copy)]
 pub enum Judged {
     Fine { total: usize },
     Bad { row: usize },

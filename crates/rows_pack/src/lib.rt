@@ -1,4 +1,6 @@
 // Row records packed out of the table of row numbers and the ends of the rows' parts: a thin walked loop over a covered function that makes one record by value.
+#![tactic(auto)]
+
 ghost use Rattle.std.specs.Prelude.{◌≡◌, ◌+◌, ◌-◌, ◌*◌, ◌<◌, ◌≤◌, length};
 ghost use Rattle.rows_pack.specs.Packed.{total, Summed, start_of, row_from, RowRoom, packed, Packable};
 

@@ -1,4 +1,6 @@
 // The lent row records: the functions that read, copy and clear them. Above, a function that takes `&[Row]` or `&mut [Row]` is thin and calls these; what it calls besides works on a `Row` by value, on a chunk of records by value, and on slices of numbers.
+#![tactic(auto)]
+
 ghost use Rattle.std.specs.Prelude.{◌≡◌, ◌++◌, ◌+◌, ◌-◌, ◌<◌, ◌≤◌, length, get_or, take, replicate};
 ghost use Rattle.rows_records.specs.Records.{zero_row, copied, count_from, chunk_of};
 

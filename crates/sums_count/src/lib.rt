@@ -1,4 +1,6 @@
 // The runs of each row counted in one pass over the runs of a series, beside the table of its row numbers.
+#![tactic(auto)]
+
 ghost use Rattle.std.specs.Prelude.{◌≡◌, ℕ, ◌+◌, ◌-◌, ◌<◌, ◌≤◌, leb, length, get_or, take};
 ghost use Rattle.meaning_numbers.specs.Sum.{bit};
 ghost use Rattle.meaning_curves.specs.Limits.{widest_row};

@@ -1,4 +1,6 @@
 // Passes over the windows of a series, by runs: the windows of a run have sums in one range, and no row number is computed inside it. Sums are raised, so that nothing is signed here.
+#![tactic(auto)]
+
 ghost use Rattle.std.specs.Prelude.{◌≡◌, ℕ, ◌+◌, ◌-◌, ◌*◌, ◌/◌, ◌<◌, ◌≤◌, pos, negsuc, length, get_or, ◌≤ℤ◌};
 ghost use Rattle.meaning_curves.specs.Limits.{most_values, longest_window, widest_row, greatest_value};
 ghost use Rattle.meaning_curves.specs.Curve.{at};
@@ -16,7 +18,7 @@ use numbers::{RAISE, greater, lesser, lower, quotient, raise};
 use values::raised_sum;
 
 // A window with its raised sum.
-#[derive(Drop)]
+#[derive(Clone, Copy)]
 pub struct Window {
     pub offset: usize,
     pub level: u64,
@@ -263,7 +265,7 @@ pub fn list_chunk(
 }
 
 // The least and the greatest raised sum.
-#[derive(Drop)]
+#[derive(Clone, Copy)]
 pub struct Ends {
     pub least: u64,
     pub greatest: u64,

@@ -1,4 +1,6 @@
 // The parts of an index text counted, without writing them: the place behind each, as far as a limit. One past the limit says that the text is longer.
+#![tactic(auto)]
+
 ghost use Rattle.std.specs.Prelude.{◌≡◌, suc, min, ◌+◌, ◌<◌, ◌^◌, pos};
 ghost use Rattle.meaning_text.specs.Form.{spell};
 ghost use Rattle.meaning_text.specs.Texts.{run_form};

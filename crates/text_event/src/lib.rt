@@ -1,5 +1,7 @@
 // What comes next in an index text: a loop over a text takes a number, a row's end, a run or a row's beginning at a time, and the bytes between them are read here. Runs of two small numbers, of which a text has the most, and the beginnings of rows are read without the automaton's states.
 // Small numbers are told as one number, so that nothing goes through memory for each run: a natural number as 16 times its value and its length, a run as its ends and its length (`left_of`, `right_of`, `length_of`). 0 is none.
+#![tactic(auto)]
+
 ghost use Rattle.std.specs.Prelude.{◌≡◌, true, ◌+◌, ◌<◌, ◌≤◌, ◌^◌, pos, neg_ℤ, length};
 ghost use Rattle.text_index.specs.Step.{GoodState};
 ghost use Rattle.text_event.specs.Event.{left_of, right_of, length_of, DigitsAt, NumberAt, BodyAt, PlainAt, at_runs, at_first, at_rows, WordAt, BlankAt, SignedAt, RangeAt, Opens, Ends, EventAt};
@@ -7,21 +9,21 @@ ghost use Rattle.text_event.specs.Event.{left_of, right_of, length_of, DigitsAt,
 use text_index::{Field, Moved, State, Turn, index_step};
 
 // A number with a blank behind it, and the place behind that; none where none stands.
-#[derive(Drop)]
+#[derive(Clone, Copy)]
 pub enum Signed {
     Read(i64, usize),
     None,
 }
 
 // The beginning of a row up to its first run, the ends of its range and the place behind it; none where none stands.
-#[derive(Drop)]
+#[derive(Clone, Copy)]
 pub enum Range {
     Read(i64, i64, usize),
     None,
 }
 
 // What comes next: a row's range and its first run; a run; a number that ended; a row that ended, each with the place behind it; a byte that no text could have; the text's end.
-#[derive(Drop)]
+#[derive(Clone, Copy)]
 pub enum Event {
     Row(i64, i64, u32, u32, usize),
     Run(u32, u32, usize),

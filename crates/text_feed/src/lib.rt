@@ -1,4 +1,6 @@
 // The series line and the program's lines from a text that comes in pieces of any size: values are kept as far as there is room, clamped to 32 bits, and the rest is counted.
+#![tactic(auto)]
+
 ghost use Rattle.std.specs.Prelude.{◌≡◌, cond, List, ◌+◌, ◌<◌, ◌^◌, ℤ, length, set};
 ghost use Rattle.meaning_curves.specs.Limits.{value_in};
 ghost use Rattle.text_lines.specs.Follow.{Said};
@@ -16,14 +18,14 @@ const LEAST: i64 = LEAST_VALUE as i64;
 const GREATEST: i64 = GREATEST_VALUE as i64;
 
 // The values of a series or a query: how many were read, and how many of them stand before the first that is outside its limits.
-#[derive(Drop)]
+#[derive(Clone, Copy)]
 pub struct Values {
     pub count: usize,
     pub inside: usize,
 }
 
 // Where a text stands after `at` bytes of it.
-#[derive(Drop)]
+#[derive(Clone, Copy)]
 pub struct Progress {
     pub state: State,
     pub at: usize,
@@ -32,7 +34,7 @@ pub struct Progress {
 }
 
 // The text goes on, or the place of its first bad byte.
-#[derive(Drop)]
+#[derive(Clone, Copy)]
 pub enum Feeding {
     Going(Progress),
     Failed(usize),

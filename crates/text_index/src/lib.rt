@@ -1,4 +1,6 @@
 // The index text read byte by byte, `(index (window 2) (width 2) (windows 4)`, rows, `)`: the state is a value, and what the text says comes as events.
+#![tactic(auto)]
+
 ghost use Rattle.std.specs.Prelude.{◌≡◌, ◌<◌, length, get_or};
 ghost use Rattle.text_numbers.specs.Number.{NumGood};
 ghost use Rattle.text_index.specs.Step.{word, behind, turn_after, pick, reach, closes, word_step, turn_step, end_step, number_step, index_step, GoodState};
@@ -6,7 +8,7 @@ ghost use Rattle.text_index.specs.Step.{word, behind, turn_after, pick, reach, c
 use text_numbers::{Numeral, Taken, Whole, letter, number_step, number_value};
 
 // The fixed words, by what stands behind each: a number, a row or the end, a run or the row's end.
-#[derive(Drop)]
+#[derive(Clone, Copy)]
 pub enum Word {
     Window,
     Width,
@@ -22,7 +24,7 @@ pub enum Word {
 }
 
 // The numbers.
-#[derive(Drop)]
+#[derive(Clone, Copy)]
 pub enum Field {
     Window,
     Width,
@@ -34,7 +36,7 @@ pub enum Field {
 }
 
 // What may come next: one word only; a row or the end; a run or the row's end.
-#[derive(Drop)]
+#[derive(Clone, Copy)]
 pub enum Turn {
     One(Word),
     Rows,
@@ -42,7 +44,7 @@ pub enum Turn {
 }
 
 // How far a text has been read: in a word before its byte k; in a number; between two words; at the end.
-#[derive(Drop)]
+#[derive(Clone, Copy)]
 pub enum State {
     In(Word, usize),
     At(Field, Numeral),
@@ -51,14 +53,14 @@ pub enum State {
 }
 
 // Where a byte of a word leads, if it is the word's byte.
-#[derive(Drop)]
+#[derive(Clone, Copy)]
 pub enum Reached {
     There(State),
     Not,
 }
 
 // What a byte does to a text: it goes on; it ended a number; it ended a row; no text could have it there.
-#[derive(Drop)]
+#[derive(Clone, Copy)]
 pub enum Moved {
     To(State),
     Value(State, Field, i64),

@@ -1,4 +1,6 @@
 // Judging an index text in one pass over its bytes, whatever its length: whether it can be read, how many rows and runs it has, and the first bad row of its index (01, Rows). Nothing is kept of a row that is closed but where it ended.
+#![tactic(auto)]
+
 ghost use Rattle.std.specs.Prelude.{◌≡◌, ◌+◌, ◌<◌, ◌≤◌, ◌^◌, length};
 ghost use Rattle.meaning_text.specs.Read.{read_text};
 ghost use Rattle.meaning_text.specs.Texts.{index_form};
@@ -17,7 +19,7 @@ use text_event::{Event, next_event, plain_run, run_left, run_length, run_right};
 use text_index::{Field, State, Turn, Word};
 
 // The runs of a row so far: how many, that they are good, the least left end that the next may have, and their lengths added up.
-#[derive(Drop)]
+#[derive(Clone, Copy)]
 pub struct Runs {
     pub count: usize,
     pub good: bool,
@@ -26,7 +28,7 @@ pub struct Runs {
 }
 
 // The row that is open: its range, the left end of the run that is open, and its runs.
-#[derive(Drop)]
+#[derive(Clone, Copy)]
 pub struct Open {
     pub low: i32,
     pub up: i32,
@@ -35,7 +37,7 @@ pub struct Open {
 }
 
 // The rows that are closed: that they are good, how many, how many runs they have, where the last one's range ends, and their run lengths added up. After a bad row nothing is counted on.
-#[derive(Drop)]
+#[derive(Clone, Copy)]
 pub struct Rows {
     pub good: bool,
     pub rows: usize,
@@ -45,7 +47,7 @@ pub struct Rows {
 }
 
 // What is known of a text so far.
-#[derive(Drop)]
+#[derive(Clone, Copy)]
 pub struct Tally {
     pub head: Head,
     pub rows: Rows,
@@ -53,14 +55,14 @@ pub struct Tally {
 }
 
 // What is known of a text up to a place.
-#[derive(Drop)]
+#[derive(Clone, Copy)]
 pub struct TallyAt {
     pub tally: Tally,
     pub at: usize,
 }
 
 // A text cannot be read from a place on; or what its head and rows come to.
-#[derive(Drop)]
+#[derive(Clone, Copy)]
 pub enum Scanned {
     Bad(usize),
     Fine(Head, Rows),

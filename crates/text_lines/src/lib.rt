@@ -1,4 +1,6 @@
 // The series line and the five lines of the search program read byte by byte: the state is a value, and what the text says comes as events.
+#![tactic(auto)]
+
 ghost use Rattle.std.specs.Prelude.{◌≡◌, ◌<◌, length, get_or};
 ghost use Rattle.text_numbers.specs.Number.{NumGood};
 ghost use Rattle.text_lines.specs.Step.{word, behind, turn_after, pick, reach, word_step, turn_step, end_step, number_step, line_step, GoodState};
@@ -6,7 +8,7 @@ ghost use Rattle.text_lines.specs.Step.{word, behind, turn_after, pick, reach, w
 use text_numbers::{Numeral, Taken, Whole, letter, number_step, number_value};
 
 // The fixed words: the program's, those of a series line by itself, and a single space in front of a number.
-#[derive(Drop)]
+#[derive(Clone, Copy)]
 pub enum Word {
     Window,
     Width,
@@ -23,7 +25,7 @@ pub enum Word {
 }
 
 // The numbers: the program's, with the values of its series and of its query, and the values of a series line by itself.
-#[derive(Drop)]
+#[derive(Clone, Copy)]
 pub enum Field {
     Window,
     Width,
@@ -38,7 +40,7 @@ pub enum Field {
 }
 
 // What may come next: one word only; a value of the series or the next line; the kind; a value of the query or the end; a value of a series line or its end.
-#[derive(Drop)]
+#[derive(Clone, Copy)]
 pub enum Turn {
     One(Word),
     Series,
@@ -48,7 +50,7 @@ pub enum Turn {
 }
 
 // How far a text has been read: in a word before its byte k; in a number; between two words; at the end.
-#[derive(Drop)]
+#[derive(Clone, Copy)]
 pub enum State {
     In(Word, usize),
     At(Field, Numeral),
@@ -57,14 +59,14 @@ pub enum State {
 }
 
 // Where a byte of a word leads, if it is the word's byte.
-#[derive(Drop)]
+#[derive(Clone, Copy)]
 pub enum Reached {
     There(State),
     Not,
 }
 
 // What a byte does to a text: it goes on; it ended a number; it ended a word of more than one byte; no text could have it there.
-#[derive(Drop)]
+#[derive(Clone, Copy)]
 pub enum Moved {
     To(State),
     Value(State, Field, i64),

@@ -1,4 +1,6 @@
 // The search program's output behind the index text: the list of matches, or a refusal.
+#![tactic(auto)]
+
 ghost use Rattle.std.specs.Prelude.{pos, take};
 ghost use Rattle.meaning_text.specs.Form.{spell};
 ghost use Rattle.meaning_text.specs.Texts.{at_form, found_text, refused_text};

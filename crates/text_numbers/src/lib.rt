@@ -1,9 +1,11 @@
 // What every text is read by: a byte of a word, and a number byte by byte, of at most 18 digits, with no leading zero and no -0.
+#![tactic(auto)]
+
 ghost use Rattle.std.specs.Prelude.{◌≡◌, true, ◌+◌, ◌-◌, ◌*◌, get_or};
 ghost use Rattle.text_numbers.specs.Number.{within, fits_behind, num_step, whole, NumGood};
 
 // A number as far as it has been read: nothing, a '-', a 0, digits, a '-' and digits.
-#[derive(Drop)]
+#[derive(Clone, Copy)]
 pub enum Numeral {
     Start,
     Sign,
@@ -13,14 +15,14 @@ pub enum Numeral {
 }
 
 // What a byte does to a number: it goes on, or the byte is none of its bytes.
-#[derive(Drop)]
+#[derive(Clone, Copy)]
 pub enum Taken {
     More(Numeral),
     Stop,
 }
 
 // The value of a number that could end here.
-#[derive(Drop)]
+#[derive(Clone, Copy)]
 pub enum Whole {
     Value(i64),
     Partial,

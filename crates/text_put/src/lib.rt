@@ -1,4 +1,6 @@
 // Bytes, words and numbers written into a buffer. The next place is counted on to one past the buffer's end, which says that there was no room.
+#![tactic(auto)]
+
 ghost use Rattle.std.specs.Prelude.{◌≡◌, ◌∷◌, [], suc, min, ◌<◌, ◌≤◌, ◌^◌, nat_abs, pos, length};
 ghost use Rattle.meaning_text.specs.Number.{spellℕ, spellℤ};
 ghost use Rattle.text_put.specs.Put.{Put};

@@ -1,4 +1,6 @@
 // A text and a position in it, together: the reader, which the rows of an index text are read through (`text_rows`), and the line that it stands in.
+#![tactic(auto)]
+
 ghost use Rattle.std.specs.Prelude.{◌≡◌};
 ghost use Rattle.meaning_text.specs.Read.{line_of};
 

@@ -1,5 +1,7 @@
 // The rows of an index text put into lent row records, in one pass over its bytes: each record when its line is read, and records of zeros past the last.
 // A row is read through the reader, which holds the text and where it stands (`next_row`); every caller without a reader has `next_line`.
+#![tactic(auto)]
+
 ghost use Rattle.std.specs.Prelude.{◌≡◌, ◌<◌, ◌≤◌, min, pos, length};
 ghost use Rattle.text_rows.specs.Line.{row_made, line_end, no_line, row_from, next_line, Ready, stored};
 
@@ -12,7 +14,7 @@ pub use text_reader::bad_line;
 use text_reader::{Reader, reader_of};
 
 // A text up to the end of a row: where it stands, what is known so far, and the row; a row of zeros where none was left.
-#[derive(Drop)]
+#[derive(Clone, Copy)]
 pub struct Line {
     pub state: State,
     pub at: usize,

@@ -1,4 +1,6 @@
 // The parts of an index text written into a buffer: its head, a run, a row with its runs, its end.
+#![tactic(auto)]
+
 ghost use Rattle.std.specs.Prelude.{◌≡◌, ◌+◌, ◌-◌, ◌<◌, min, pos};
 ghost use Rattle.meaning_text.specs.Form.{spell};
 ghost use Rattle.meaning_text.specs.Texts.{run_form};

@@ -1,4 +1,6 @@
 // The leaf code for C: for the comparison under tests/ and the measurements under bench/, and for nothing else. Lengths and limits are tested once, so no `requires` is left that C could break. What each function tells and leaves is said in specs/Told.antt: of an input that the tests refuse, nothing is written.
+#![tactic(auto)]
+
 ghost use Rattle.std.specs.Prelude.{◌≡◌, ◌+◌, ◌<◌, ◌≤◌, length};
 ghost use Rattle.meaning_curves.specs.Limits.{longest_query};
 ghost use Rattle.meaning_curves.specs.Curve.{stretch, spread};
@@ -111,7 +113,7 @@ fn each_warped(
     limit: u64,
     out: &mut [u64],
 ) -> usize
-    requires* fact { do ⌜ Fits s.now (← ⟦q.len()⟧) (← ⟦out.len()⟧) ⌝ }
+    requires fits { Fits s.now (length q.now) (length out.old) }
     requires all_in { AllIn q.now × Envelopes q.now (length q.now) b low.now high.now }
     ensures { (result ≡ stretches s.now (length q.now)) × Written 0 (WarpedAt s.now q.now b limit) (stretches s.now (length q.now)) out.old out.new }
 {
@@ -178,11 +180,11 @@ pub extern "C" fn curve_envelopes(q: &[i32], b: usize, low: &mut [i32], high: &m
 
 // The normalised values of a stretch that is not flat.
 fn normal_values(s: &[i32], from: usize, t: Sums, a: u64, room: &mut [i32])
-    requires* from_bound { do ⌜ from + (← ⟦room.len()⟧) ≤ (← ⟦s.len()⟧) ⌝ }
-    requires* do_bound { do ⌜ (← ⟦room.len()⟧) ≤ longest_query ⌝ }
+    requires from_bound { from + length room.old ≤ length s.now }
+    requires room_bound { length room.old ≤ longest_query }
     requires all_in { AllIn s.now }
-    requires* fact { do ⌜ AreSums s.now from (← ⟦room.len()⟧) t.values t.squares ⌝ }
-    requires* a_value { do ⌜ a ≡ spread (stretch s.now from) (← ⟦room.len()⟧) ⌝ }
+    requires are_sums { AreSums s.now from (length room.old) t.values t.squares }
+    requires a_value { a ≡ spread (stretch s.now from) (length room.old) }
     ensures { NormalRoom s.now (length room.old) from room.old room.new }
 {
     if 0 < a {

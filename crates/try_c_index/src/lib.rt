@@ -1,4 +1,6 @@
 // The entries over lent records for C: for the comparison under tests/ and the measurements under bench/, and for nothing else. Each takes what the entry takes, calls it, and tells its answer as a struct of numbers.
+#![tactic(auto)]
+
 ghost use Rattle.std.specs.Prelude.{◌≡◌};
 ghost use Rattle.meaning_entries.specs.Audit.{lent_audit, audit_answer};
 ghost use Rattle.meaning_entries.specs.Build.{lent_build};
@@ -13,7 +15,7 @@ use meaning_rows::{Head, Row};
 
 // An answer: its kind, 3 where the call is refused, a head where it has one, and two numbers.
 #[repr(C)]
-#[derive(Drop)]
+#[derive(Clone, Copy)]
 pub struct Answer {
     pub kind: u32,
     pub head: Head,
@@ -98,7 +100,7 @@ pub extern "C" fn index_build(
     left: &mut [u32],
     right: &mut [u32],
 ) -> Answer
-    ensures { BuildTold (lent_build series.now w d g) (record { rows = rows.entry.now; left = left.old; right = right.old }) result (record { rows = rows.exit.now; left = left.new; right = right.new }) }
+    ensures { BuildTold (lent_build series.now w d g) (record { rows = rows.old; left = left.old; right = right.old }) result (record { rows = rows.new; left = left.new; right = right.new }) }
 {
     let a = build(series, w, d, g, rows, left, right);
     tell_built(a)
@@ -126,7 +128,7 @@ pub extern "C" fn index_extend(
     left: &mut [u32],
     right: &mut [u32],
 ) -> Answer
-    ensures { ExtendTold (lent_extend series.now head from.now lefts.now rights.now) (record { rows = rows.entry.now; left = left.old; right = right.old }) result (record { rows = rows.exit.now; left = left.new; right = right.new }) }
+    ensures { ExtendTold (lent_extend series.now head from.now lefts.now rights.now) (record { rows = rows.old; left = left.old; right = right.old }) result (record { rows = rows.new; left = left.new; right = right.new }) }
 {
     let a = extend(series, head, from, lefts, rights, rows, left, right);
     tell_extended(a)

@@ -1,4 +1,6 @@
 // The program's lines and the series line read in pieces, for C: for the comparison under tests/ and for nothing else. What is told and kept is said in specs/Lines.antt.
+#![tactic(auto)]
+
 ghost use Rattle.std.specs.Prelude.{◌≡◌, ◌+◌, ◌≤◌, min, length};
 ghost use Rattle.meaning_text.specs.Read.{line_of};
 ghost use Rattle.try_c_lines.specs.Told.{bad_line, good_told, end_told, answer_told, LinesTold};
@@ -10,7 +12,7 @@ use text_reader::bad_line;
 
 // What was read: the first bad line, 0 where there is none; how many values the series and the query have, and how many of each stand before the first that is outside its limits.
 #[repr(C)]
-#[derive(Drop)]
+#[derive(Clone, Copy)]
 pub struct Lines {
     pub line: usize,
     pub series: usize,

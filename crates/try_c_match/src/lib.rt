@@ -1,4 +1,6 @@
 // The match test for C, and what stands under it: whole roots, window sums and row numbers, the first value outside its limits. For tests/ and bench/ only.
+#![tactic(auto)]
+
 ghost use Rattle.std.specs.Prelude.{◌≡◌, ◌+◌, ◌<◌, ◌≤◌, length};
 ghost use Rattle.try_c_distance.specs.Told.{stretches};
 ghost use Rattle.try_c_match.specs.Told.{wrapped, MatchAt, kind_of, CanPrepare, MatchesTold, place_or, WindowsTold};
@@ -47,8 +49,8 @@ pub fn each_match(
     row: &mut [u64],
     out: &mut [u64],
 ) -> usize
-    requires* fact { do ⌜ Fits s.now (← ⟦q.len()⟧) (← ⟦out.len()⟧) ⌝ }
-    requires* fact_2 { do ⌜ ((← ⟦room.len()⟧) ≡ (← ⟦q.len()⟧)) × ((← ⟦q.len()⟧) < (← ⟦row.len()⟧)) ⌝ }
+    requires fits { Fits s.now (length q.now) (length out.old) }
+    requires room_fits { (length room.old ≡ length q.now) × (length q.now < length row.old) }
     requires all_in { AllIn q.now × (l.scale ≤ greatest_scale) }
     requires ready { Ready kind q.now l.band curve.now low.now high.now query.values query.spread }
     ensures { (result ≡ stretches s.now (length q.now)) × Written 0 (MatchAt kind s.now q.now l) (stretches s.now (length q.now)) out.old out.new }
@@ -113,7 +115,7 @@ pub extern "C" fn curve_matches(
     row: &mut [u64],
     out: &mut [u64],
 ) -> usize
-    ensures { MatchesTold (kind_of kind) s.now q.now (record { band = b; threshold = threshold; scale = scale; shift = shift }) (record { curve = curve.entry.now; low = low.old; high = high.old; room = room.old; row = row.old; out = out.old }) result (record { curve = curve.exit.now; low = low.new; high = high.new; room = room.new; row = row.new; out = out.new }) }
+    ensures { MatchesTold (kind_of kind) s.now q.now (record { band = b; threshold = threshold; scale = scale; shift = shift }) (record { curve = curve.old; low = low.old; high = high.old; room = room.old; row = row.old; out = out.old }) result (record { curve = curve.new; low = low.new; high = high.new; room = room.new; row = row.new; out = out.new }) }
 {
     let m = q.len();
     if curve.len() != m {

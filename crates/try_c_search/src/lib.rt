@@ -1,4 +1,6 @@
 // The entry that searches for C: for the comparison under tests/ and the measurements under bench/, and for nothing else. It takes what the entry takes, the kind and the limits as a struct of numbers, calls it, and tells its answer as one.
+#![tactic(auto)]
+
 ghost use Rattle.std.specs.Prelude.{◌≡◌};
 ghost use Rattle.meaning_entries.specs.Search.{lent_search};
 ghost use Rattle.try_c_search.specs.Told.{kind_of, limits_of, pick_of, ask_of, numbers_of, told_found, SearchTold};
@@ -10,7 +12,7 @@ use meaning_rows::{Head, Row};
 
 // What a search is asked for beside its query: the kind, 0 for raw and any other number for normalised; band, threshold, scale limit in tenths, shift limit; what it hands out, 0 for all matches and any other number for the closest, so many.
 #[repr(C)]
-#[derive(Drop)]
+#[derive(Clone, Copy)]
 pub struct Asked {
     pub kind: u32,
     pub band: u32,
@@ -23,7 +25,7 @@ pub struct Asked {
 
 // An answer: 0 and both counts where all matches are listed, 1 and both counts where the list is full, 2 and both counts where the closest few are listed, 3 and the refusal's number and place.
 #[repr(C)]
-#[derive(Drop)]
+#[derive(Clone, Copy)]
 pub struct Answer {
     pub kind: u32,
     pub first: usize,
@@ -120,7 +122,7 @@ pub extern "C" fn index_search(
     offsets: &mut [u32],
     distances: &mut [u64],
 ) -> Answer
-    ensures { SearchTold (lent_search series.now head rows.now left.entry.now right.now (ask_of asked) query.now) (record { left = first.old; right = last.old; scratch = scratch.old; offsets = offsets.old; distances = distances.old }) result (record { left = first.new; right = last.new; scratch = scratch.new; offsets = offsets.new; distances = distances.new }) }
+    ensures { SearchTold (lent_search series.now head rows.now left.old right.now (ask_of asked) query.now) (record { left = first.old; right = last.old; scratch = scratch.old; offsets = offsets.old; distances = distances.old }) result (record { left = first.new; right = last.new; scratch = scratch.new; offsets = offsets.new; distances = distances.new }) }
 {
     let ask = ask_of(asked);
     let a = search(

@@ -1,4 +1,6 @@
 // The writing and reading of index texts for C: for the comparison under tests/ and the measurements under bench/, and for nothing else. Each takes what the entry takes, calls it, and tells its answer as a struct of numbers.
+#![tactic(auto)]
+
 ghost use Rattle.std.specs.Prelude.{◌≡◌};
 ghost use Rattle.meaning_rows.specs.Index.{lent};
 ghost use Rattle.try_c_text.specs.Told.{told_loaded, LoadTold, told_written, WriteTold};
@@ -27,7 +29,7 @@ pub extern "C" fn text_read(
     left: &mut [u32],
     right: &mut [u32],
 ) -> Answer
-    ensures { LoadTold text.now (record { rows = rows.entry.now; left = left.old; right = right.old }) result (record { rows = rows.exit.now; left = left.new; right = right.new }) }
+    ensures { LoadTold text.now (record { rows = rows.old; left = left.old; right = right.old }) result (record { rows = rows.new; left = left.new; right = right.new }) }
 {
     let a = read(text, rows, left, right);
     tell_loaded(a)

@@ -1,4 +1,6 @@
 // Runs the vectors of its standard input (tests/model/vectors.rs writes them: the paper's cases, then answers of the model) and says of each group how many agree.
+#![tactic(auto)]
+
 ghost use Rattle.std.specs.Prelude.{◌≤◌};
 
 use try_c_distance::{curve_bound, curve_envelopes, curve_normal, curve_straight, curve_warped};
@@ -232,7 +234,7 @@ fn try_one(
 // ---- the vectors, one after the other
 
 // Where the next one is, and how many of the group agree so far.
-#[derive(Drop)]
+#[derive(Clone, Copy)]
 struct Turn {
     at: usize,
     agreed: u64,

@@ -1,4 +1,6 @@
 // Runs the vectors of its standard input (tests/model/index_vectors.rs writes them: the paper's cases, and answers of the model) through the entries over lent records, and says of each group how many agree.
+#![tactic(auto)]
+
 ghost use Rattle.std.specs.Prelude.{◌≤◌};
 
 use meaning_entries::{Audited, Built, Extended};
@@ -34,7 +36,7 @@ fn get_rows(nums: &[u64], at: usize) -> [Row; 64] {
 }
 
 // Where a lent index stands: its head, how many rows, the entries of the two columns of its run buffer and their lengths, and what follows.
-#[derive(Drop)]
+#[derive(Clone, Copy)]
 struct Places {
     head: usize,
     rows: usize,
@@ -159,7 +161,7 @@ fn agree_audited(a: Audited, nums: &[u64], at: usize) -> bool {
 // ---- the tests
 
 // Whether a vector agrees, and where the next one is.
-#[derive(Drop)]
+#[derive(Clone, Copy)]
 struct Tried {
     good: bool,
     at: usize,
@@ -306,7 +308,7 @@ fn try_one(nums: &[u64], test: u64, from: usize) -> Tried {
 // ---- the vectors, one after the other
 
 // Where the next one is, and how many of the group agree so far.
-#[derive(Drop)]
+#[derive(Clone, Copy)]
 struct Turn {
     at: usize,
     agreed: u64,

@@ -1,4 +1,6 @@
 // What the programs replay and desk share: their input as numbers, the limits of a search read out of it, an index of some prices, and words.
+#![tactic(auto)]
+
 ghost use Rattle.std.specs.Prelude.{◌≤◌};
 ghost use Rattle.meaning_curves.specs.Limits.{most_program_values, longest_query};
 
@@ -9,7 +11,7 @@ use program_table::{Table, build_table};
 use try_vectors::{get_natural, get_small, plus, read_numbers};
 
 // The numbers of standard input, and how many of them are prices and values of the query: none, and `held` is false, where that is more than the programs hold.
-#[derive(Drop)]
+#[derive(Clone, Copy)]
 pub struct Input {
     pub numbers: [u64; 8192],
     pub prices: usize,

@@ -1,4 +1,6 @@
 // Runs the vectors of its standard input (tests/model/search_vectors.rs writes them: the paper's cases, then answers of the model) through the entry that searches, and says of each group how many agree.
+#![tactic(auto)]
+
 use meaning_curves::MOST_PROGRAM_VALUES;
 use meaning_entries::Found;
 use meaning_filter::{Ask, Kind, Limits, Pick};
@@ -127,7 +129,7 @@ fn agree_found(a: Found, nums: &[u64], at: usize) -> bool {
 // ---- one search
 
 // Where the parts of a vector stand.
-#[derive(Drop)]
+#[derive(Clone, Copy)]
 struct Places {
     series: usize,
     head: usize,
@@ -314,7 +316,7 @@ fn search_one(nums: &[u64], p: Places) -> bool {
 // ---- the vectors, one after the other
 
 // Where the next one is, and how many of the group agree so far.
-#[derive(Drop)]
+#[derive(Clone, Copy)]
 struct Turn {
     at: usize,
     agreed: u64,

@@ -1,4 +1,6 @@
 // The entries over a table of 64 row records by value, so that what is above needs no walk: for programs that try cases, and for nothing else.
+#![tactic(auto)]
+
 ghost use Rattle.std.specs.Prelude.{◌≡◌, ◌≤◌, take};
 ghost use Rattle.meaning_entries.specs.Build.{lent_build};
 ghost use Rattle.meaning_entries.specs.Audit.{lent_audit};
@@ -14,14 +16,14 @@ use meaning_entries::{Audited, Built, Extended};
 use meaning_rows::{Head, Row};
 
 // What a build answers, and the row buffer afterwards.
-#[derive(Drop)]
+#[derive(Clone, Copy)]
 pub struct Tabled {
     pub answer: Built,
     pub rows: [Row; 64],
 }
 
 // What an extension answers, and the row buffer afterwards.
-#[derive(Drop)]
+#[derive(Clone, Copy)]
 pub struct Extension {
     pub answer: Extended,
     pub rows: [Row; 64],

@@ -1,4 +1,6 @@
 // Vectors for the programs that try cases: a text of whole numbers, read into numbers raised by 10^18, and taken out again. A place past the end has 0.
+#![tactic(auto)]
+
 ghost use Rattle.std.specs.Prelude.{◌≤◌};
 
 use meaning_rows::{Head, Row};

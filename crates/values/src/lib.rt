@@ -1,4 +1,6 @@
 // What is asked of a slice of values before any distance: whether each is in its limits, sums of windows, and sums and spread of a stretch. Sums slide along neighbouring places.
+#![tactic(auto)]
+
 ghost use Rattle.std.specs.Prelude.{◌≡◌, not, ◌+◌, ◌<◌, ◌≤◌, length};
 ghost use Rattle.meaning_numbers.specs.Sum.{Σℕ, count};
 ghost use Rattle.meaning_curves.specs.Limits.{value_in, first_outside, longest_window, longest_query};
@@ -12,7 +14,7 @@ ghost use Rattle.values.specs.Copy.{Copied};
 use numbers::{RAISE, in_limits, lower, raise};
 
 // The place of what was looked for.
-#[derive(Drop)]
+#[derive(Clone, Copy)]
 pub enum Place {
     At(usize),
     Nowhere,
@@ -107,7 +109,7 @@ pub fn next_window(s: &[i32], w: usize, j: usize, sum: i32) -> i32
 }
 
 // The sum of the raised values of a stretch, and the sum of their squares.
-#[derive(Drop)]
+#[derive(Clone, Copy)]
 pub struct Sums {
     pub values: u64,
     pub squares: u64,
@@ -166,7 +168,7 @@ pub fn spread_of(s: &[i32], from: usize, m: usize, t: Sums) -> u64
 
 // The values of `q` into `out`.
 pub fn copy_values(q: &[i32], out: &mut [i32])
-    requires* { do ⌜ (← ⟦out.len()⟧) ≡ (← ⟦q.len()⟧) ⌝ }
+    requires { length out.old ≡ length q.now }
     ensures { Copied q.now out.new }
 {
     let m = q.len();
