@@ -1,7 +1,7 @@
 // Normalised values of a stretch: one multiplication and one test a value, no division and no root in the loop.
 #![tactic(auto)]
 
-ghost use Rattle.std.specs.Prelude.{◌≡◌, ◌+◌, ◌<◌, ◌≤◌, pos, ◌-ℤ◌};
+ghost use Rattle.std.specs.Prelude.{◌≡◌, ◌+◌, ◌<◌, ◌≤◌, pos, ◌-ℤ◌, length};
 ghost use Rattle.meaning_curves.specs.Curve.{stretch};
 ghost use Rattle.distance_normal.specs.Normal.{IsFactor, CutOf, normal};
 ghost use Rattle.distance_normal.specs.Stretch.{NormalReady, NormalPart, Normalised};

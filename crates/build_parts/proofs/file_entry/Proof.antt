@@ -1,7 +1,7 @@
 -- `file_entry`: the row's part of both columns is lent to its writer.
 use Rattle.meaning_numbers.proofs.Prelude.{needs}
 use Rattle.build_parts.proofs as own
-use own.Lent.{entry-room, left_Back, right-back}
+use own.Lent.{entry-room, left_back, right-back}
 use own.file_entry.Tie as tie
 
 write-entry-requires : tie.Need-write-entry-requires
@@ -15,7 +15,7 @@ returns c =
     let w = c.before.before.before.before in
     let o = w.before.before.before.before.before.before in
     let a = o.args in
-    (left_Back a.r a.left.now a.right.now o.pre.2 a.x _ w.write-entry.ensures.0, right-back a.r a.left.now a.right.now o.pre.2 a.y _ w.write-entry.ensures.1)
+    (left_back a.r a.left.now a.right.now o.pre.2 a.x _ w.write-entry.ensures.0, right-back a.r a.left.now a.right.now o.pre.2 a.y _ w.write-entry.ensures.1)
 
 pub file-entry-spec : {M : Type 1} → own.file_entry.Statement.statement M
 file-entry-spec =

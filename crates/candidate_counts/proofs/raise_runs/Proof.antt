@@ -1,9 +1,9 @@
--- `raise_runs`. The invariant: raising by the runs that are left gives what is to be had (`Going-next`).
+-- `raise_runs`. The invariant: raising by the runs that are left gives what is to be had (`going_next`).
 use Rattle.meaning_numbers.proofs.Prelude.{◌-◌, ◌<◌, ◌+◌, arith, length, get_or}
 use Rattle.rows_judge.proofs.Scan.{part as part_of, part-next, part_none}
 use Rattle.candidate_counts.specs.Raise.{between, Raised}
 use Rattle.candidate_counts.proofs as own
-use own.Raise.{Going, going-starts, Going-next, going-ends}
+use own.Raise.{Going, going-starts, going_next, going-ends}
 use own.raise_runs.Tie as tie
 
 abbrev Inv : tie.invariant-loop
@@ -37,7 +37,7 @@ loop-again c =
     let p = (start l).pre in
     let i = l.loop.i in
     let h : Raised a.part (between e.before.clip.result e.clip2.result) l.loop.scratch c.before.before.raise-run.new.0 = c.before.before.raise-run.ensures in
-    Going-next a.part a.offsets a.shift (get_or a.left.now i 0) (get_or a.right.now i 0) (part_of a.left.now a.right.now a.from a.to) (part_of a.left.now a.right.now (i + 1) a.to)
+    going_next a.part a.offsets a.shift (get_or a.left.now i 0) (get_or a.right.now i 0) (part_of a.left.now a.right.now a.from a.to) (part_of a.left.now a.right.now (i + 1) a.to)
     a.scratch.now l.loop.scratch c.before.before.raise-run.new.0
     (rw (part-next a.left.now a.right.now i a.to u.loop-test.taken p.0 p.1) at l.loop.inv) (rw (e.before.clip.ensures, e.clip2.ensures) at h)
 

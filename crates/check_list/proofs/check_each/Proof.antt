@@ -2,7 +2,7 @@
 use Rattle.meaning_numbers.proofs.Prelude.{needs, ◌≡◌, refl, ◌∙◌, ◌-◌, ◌<◌, arith, length}
 use Rattle.check_list.specs.Found.{asked}
 use Rattle.check_list.proofs as own
-use own.Turn.{RunsSoFar, run_Inside, runs-start, runs-next, runs-end}
+use own.Turn.{RunsSoFar, run_inside, runs-start, runs-next, runs-end}
 use own.check_each.Tie as tie
 
 abbrev Inv : tie.invariant-loop
@@ -32,7 +32,7 @@ check-run-requires : tie.Need-check-run-requires Inv μ
 check-run-requires c κs =
     let t = c.before.before.before.before.before.before in
     let p = (o t).pre in
-    let h = run_Inside p.1.1.0 _ t.loop-test.taken in
+    let h = run_inside p.1.1.0 _ t.loop-test.taken in
     let v = t.before.loop.inv.2.so_far in
     (p.0, ((search needs, search needs), ((t.before.loop.inv.2.few t.loop-test.taken, omega arith, omega arith), omega (arith, v.as-many-offsets, v.as-many-distances, p.1.1.1))))
 

@@ -3,7 +3,7 @@ use Rattle.meaning_numbers.proofs.Prelude.{needs, ◌≡◌, refl, ◌∙◌, �
 use Rattle.meaning_curves.specs.Curve.{at}
 use Rattle.distance_envelope.specs.Best.{pick}
 use Rattle.distance_envelope.proofs as own
-use own.Pass.{BackTo, Back-start, back-next, back_end}
+use own.Pass.{BackTo, back_start, back-next, back_end}
 use own.pass_back.Tie as tie
 
 abbrev Inv : tie.invariant-loop
@@ -24,5 +24,5 @@ loop-again c =
 
 pub pass-back-spec : {M : Type 1} → own.pass_back.Statement.statement M
 pass-back-spec =
-    tie.close (tie.spec Inv μ (λ c. (omega arith, omega arith, omega arith, Back-start _ _ _)) (search needs) (search needs) (search needs) (search needs) (search needs)
+    tie.close (tie.spec Inv μ (λ c. (omega arith, omega arith, omega arith, back_start _ _ _)) (search needs) (search needs) (search needs) (search needs) (search needs)
     (search needs) (search needs) (search needs) (search needs) (search needs) loop-again (search needs) (λ c. back_end c.before.loop.invariant.3 (omega arith)))

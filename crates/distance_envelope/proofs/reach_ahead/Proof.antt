@@ -2,7 +2,7 @@
 use Rattle.meaning_numbers.proofs.Prelude.{needs, ◌≡◌, ◌-◌, ◌≤◌, arith}
 use Rattle.distance_envelope.specs.Pass.{Ahead}
 use Rattle.distance_envelope.proofs as own
-use own.Pass.{Ahead-none, ahead-pass}
+use own.Pass.{ahead_none, ahead-pass}
 use own.reach_ahead.Tie as tie
 
 abbrev Inv : tie.invariant-loop
@@ -19,5 +19,5 @@ returns c = let e : c.before.loop.n ≡ c.before.before.args.b = omega arith in 
 
 pub reach-ahead-spec : {M : Type 1} → own.reach_ahead.Statement.statement M
 reach-ahead-spec =
-    tie.close (tie.spec Inv μ (λ c. (omega arith, Ahead-none _ _)) (search needs) (search needs) (search needs) (search needs) loop-again
+    tie.close (tie.spec Inv μ (λ c. (omega arith, ahead_none _ _)) (search needs) (search needs) (search needs) (search needs) loop-again
     (search needs) returns)

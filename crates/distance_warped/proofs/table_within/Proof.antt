@@ -9,7 +9,7 @@ use Rattle.numbers.proofs.Within.{whole, left-early}
 use Rattle.distance_envelope.proofs.EnvelopeLaws.{low-in, high-in}
 use Rattle.distance_warped.specs.Rows.{big, cells, RowIs, LeastOf, cell-le, last-cell}
 use Rattle.distance_warped.proofs as own
-use own.Rest.{rest-least, Whole-le}
+use own.Rest.{rest-least, whole_le}
 use own.table_within.Tie as tie
 
 abbrev Inv : tie.invariant-loop
@@ -90,7 +90,7 @@ module _ (c : tie.After-excess-at2 Inv μ) where
   rest_le : l.loop.rest ≤ 400000000 * 1024
   rest_le =
       let a = (asked (o l) 0 (o l).pre.1.0.0).1.1.1 in
-      omega (arith, l.loop.inv.4, (o l).pre.1.1.1.1, Whole-le a.0 a.1 a.2 (o l).args.from (m l), (o l).pre.1.0.1)
+      omega (arith, l.loop.inv.4, (o l).pre.1.1.1.1, whole_le a.0 a.1 a.2 (o l).args.from (m l), (o l).pre.1.0.1)
 
   fits : c.before.before.before.next_row.result + (l.loop.rest - c.excess-at2.result) < 2 ^ 64
   fits = omega (arith, least-le, rest_le)

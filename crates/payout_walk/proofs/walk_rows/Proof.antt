@@ -4,7 +4,7 @@ use Rattle.meaning_rows.specs.declared.Head.{Head}
 use Rattle.text_index.proofs.View.{Kept, kept-start, kept-to, kept-value, kept-closed}
 use Rattle.payout_walk.specs.Walk.{start_walk, tell_walk, shut_walk}
 use Rattle.payout_walk.proofs as own
-use own.Seen.{Walked-end, walked-refuse, walked-stopped, tell-rows, shut-rows}
+use own.Seen.{walked_end, walked-refuse, walked-stopped, tell-rows, shut-rows}
 use own.walk_rows.Tie as tie
 
 abbrev Inv : tie.invariant-loop
@@ -51,4 +51,4 @@ walk-rows-spec =
     (λ c. let n = c.before.before in let a = n.before.before in let l = a.before.before.before in rw c.shut.ensures (kept-closed (tell_walk (S l) (H l)) shut_walk start_walk _ l.loop.s l.loop.t l.loop.i l.loop.inv.0 a.before.before.loop-test.taken n.n3.given.0.0 (sym a.index-step.ensures ∙ n.n3.given.1), omega (arith, l.loop.inv.1, shut-rows l.loop.t)))
     (λ c. search needs)
     (λ c. let e = c.before in let a = e.before.before in let l = a.before.before.before in walked-refuse (S l) (H l) _ l.loop.s l.loop.t l.loop.i l.loop.inv.0 a.before.before.loop-test.taken (sym a.index-step.ensures ∙ e.enum_told.given.1))
-    (λ c. let l = c.before.before in Walked-end (S l) (H l) _ l.loop.s l.loop.t l.loop.i l.loop.inv.0 c.before.loop-test.false))
+    (λ c. let l = c.before.before in walked_end (S l) (H l) _ l.loop.s l.loop.t l.loop.i l.loop.inv.0 c.before.loop-test.false))

@@ -5,7 +5,7 @@ use native.Mathlib.Omega.{arith}
 use mathlib.Core.Path.{ap}
 use Rattle.program_input.specs.{declared.Asked.Asked, Tables.asked_of}
 use Rattle.program_print.proofs as own
-use own.End.{sound-here, refused_end, not_failed, given-here, call-free, printed-end}
+use own.End.{sound-here, refused_end, not-failed, given-here, call-free, printed-end}
 use own.finish.Tie as tie
 
 -- where nothing refuses, and the input did not fail
@@ -53,5 +53,5 @@ pub finish_spec : {M : Type 1} → own.finish.Statement.statement M
 finish_spec =
     tie.close (tie.spec (λ c κs. sound-here _ _ _ _ c.before.requires.0.reached) (λ c κs. search rules) (λ c. search rules) returns (λ c. search rules) (λ c. search rules) slice-aggregate-print-answer
     slice-aggregate-print-answer-2 (λ c κs. search rules) asked-of-requires print-answer-requires
-    (λ c. not_failed _ _ c.before.before.before.before.before.before.args.series.now _ _ c.before.before.before.before.refuse.ensures c.before.before.if1.false c.enum_told.given.1) (λ c. search rules)
+    (λ c. not-failed _ _ c.before.before.before.before.before.before.args.series.now _ _ c.before.before.before.before.refuse.ensures c.before.before.if1.false c.enum_told.given.1) (λ c. search rules)
     returns-3)

@@ -4,8 +4,8 @@ use Rattle.meaning_rows.proofs.Runs.{runs-le}
 use Rattle.sums_slide.specs.{Levels.level, Levels.row_of, Levels.windows_of, Levels.level-small, Table.table}
 use Rattle.sums_count.specs.Tally.{is_row, Counted}
 use Rattle.sums_count.proofs as own
-use own.Tally.{Fresh, fresh_start, fresh-next, Counted-start, counted-run}
-use own.Rows.{table-rises, table-has, Front-at, front-rising, front-has}
+use own.Tally.{Fresh, fresh_start, fresh-next, counted_start, counted-run}
+use own.Rows.{table-rises, table-has, front_at, front-rising, front-has}
 use own.count_runs.Tie as tie
 
 abbrev Inv : tie.invariant-loop
@@ -17,7 +17,7 @@ abbrev μ : tie.decreases-loop
 
 loop-holds : tie.Need-loop-init Inv μ
 loop-holds c =
-    (omega arith, c.first-level.ensures, fresh_start _ _, Counted-start _ _ _ c.before.before.before.requires.1.1.1, refl)
+    (omega arith, c.first-level.ensures, fresh_start _ _, counted_start _ _ _ c.before.before.before.requires.1.1.1, refl)
 
 -- the row number of the window at hand
 module _ (c : tie.After-row-of-level Inv μ) where
@@ -62,7 +62,7 @@ module _ (c : tie.After-find-number Inv μ) where
   is-row : get_or (table (o r).args.s.now (o r).args.w (o r).args.e (o r).args.d) c.find-number.result 0 ≡ row_of (level (o r).args.s.now (o r).args.w (o r).args.e) (o r).args.d (l r).loop.j
   is-row =
       let p = (o r).pre.1.1.0 in
-      sym (Front-at _ _ _ p.1 p.0 _ c.find-number.ensures.0)
+      sym (front_at _ _ _ p.1 p.0 _ c.find-number.ensures.0)
       ∙ c.find-number.ensures.1 ∙ number r
 
   few : get_or (l r).loop.counts c.find-number.result 0 ≤ 1048577

@@ -5,7 +5,7 @@ use Rattle.text_event.proofs.EventLaws.{row_up, runs_up, run_up, value-up, close
 use Rattle.text_judge.specs.Tally.{start_tally, tell_tally, shut_tally, kept_scanned}
 use Rattle.text_judge.proofs as own
 use own.Seen.{text-scanned, start_fits}
-use own.Events.{Scanning, Scan-runs, scan-run, scan-row, scan-value, scan-closed, scan-refuse, scan-stop}
+use own.Events.{Scanning, scan_runs, scan-run, scan-row, scan-value, scan-closed, scan-refuse, scan-stop}
 use own.scan.Tie as tie
 
 abbrev Inv : tie.invariant-loop
@@ -32,7 +32,7 @@ loop-again c =
     let e = to_z-of_z w64 low (search (needs, c.before.before.before.known-told.given)) in
     let f = to_z-of_z w64 high (search (needs, c.before.before.before.known-told.given)) in
     let y = scan-row _ a.before.loop.inv low high _ _ _ (rw n.low.given.1 at a.next-event.ensures) (rw (e, f) at c.before.before.tell-row.ensures) in
-    Scan-runs _ c.before.tell-runs.ensures y
+    scan_runs _ c.before.tell-runs.ensures y
 
 pub scan-spec : {M : Type 1} → own.scan.Statement.statement M
 scan-spec =
@@ -44,7 +44,7 @@ scan-spec =
     (λ c κs. let l = c.before.before.before.before in (l.loop.inv.1.sound, omega (arith, l.loop.inv.1.runs, l.loop.inv.0.inside, l.before.before.before.good)))
     (λ c κs. let n = c.before.before in let a = n.before.before in let y = scan-run _ a.before.loop.inv _ _ _ (rw n.l.given.1 at a.next-event.ensures) c.tell-run.ensures in (y.1, y.0.inside))
     (λ c. let n = c.before.before.before.before in let u = run_up (rw n.l.given.1 at n.before.before.next-event.ensures).1 in let v = runs_up c.before.tell-runs2.ensures u.1 in omega (arith, u.0, u.1, v.0, v.1))
-    (λ c. let n = c.before.before.before.before in let a = n.before.before in let v = rw n.l.given.1 at a.next-event.ensures in let y = scan-run _ a.before.loop.inv _ _ _ v c.before.before.tell-run.ensures in rw v.0 (Scan-runs _ c.before.tell-runs2.ensures y))
+    (λ c. let n = c.before.before.before.before in let a = n.before.before in let v = rw n.l.given.1 at a.next-event.ensures in let y = scan-run _ a.before.loop.inv _ _ _ v c.before.before.tell-run.ensures in rw v.0 (scan_runs _ c.before.tell-runs2.ensures y))
     (λ c. search needs) (λ c κs. let l = c.before.before.before.before in (l.loop.inv.1.sound, omega (arith, l.loop.inv.1.runs, l.loop.inv.0.inside, l.before.before.before.good)))
     (λ c. let n = c.before.before in let u = value-up (rw n.n.given.1 at n.before.before.next-event.ensures) in omega (arith, u.0, u.1))
     (λ c. let n = c.before.before in let a = n.before.before in let z = n.n.given.0.1.1.0 in let e : to_z w64 (of_z w64 z) ≡ z = to_z-of_z w64 z (search (needs, c.before.known-told3.given)) in rw (rw e at c.tell.ensures) (scan-value _ a.before.loop.inv n.n.given.0.0 n.n.given.0.1.0 z _ (rw n.n.given.1 at a.next-event.ensures)))

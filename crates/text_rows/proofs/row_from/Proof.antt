@@ -2,7 +2,7 @@
 use Rattle.meaning_numbers.proofs.Prelude.{◌-◌, needs, length, ◌≡◌, ◌∙◌, w64, to_z, of_z, to_z-of_z, arith}
 use Rattle.text_event.proofs.EventLaws.{row_up, runs_up, run_up, value-up}
 use Rattle.text_rows.proofs as own
-use own.Turn.{Going, Going-start, line-run, Line-row, line-runs, line-value, line-closed, line-refuse, line-stop}
+use own.Turn.{Going, going_start, line-run, line_row, line-runs, line-value, line-closed, line-refuse, line-stop}
 use own.row_from.Tie as tie
 
 abbrev Inv : tie.invariant-loop
@@ -17,7 +17,7 @@ tell-runs-requires c κs =
     let a = n.before.before in
     let low = n.low.given.0.0 in
     let high = n.low.given.0.1.0 in
-    let y = Line-row _ _ _ _ a.before.loop.inv low high _ _ _ (rw n.low.given.1 at a.next-event.ensures) (rw (to_z-of_z w64 low (search (needs, c.before.known-told.given)), to_z-of_z w64 high (search (needs, c.before.known-told.given))) at c.tell-row.ensures) in
+    let y = line_row _ _ _ _ a.before.loop.inv low high _ _ _ (rw n.low.given.1 at a.next-event.ensures) (rw (to_z-of_z w64 low (search (needs, c.before.known-told.given)), to_z-of_z w64 high (search (needs, c.before.known-told.given))) at c.tell-row.ensures) in
     (y.fits, y.inside)
 
 loop-again : tie.Need-loop-preserved Inv μ
@@ -28,12 +28,12 @@ loop-again c =
     let high = n.low.given.0.1.0 in
     let e = to_z-of_z w64 low (search (needs, c.before.before.before.known-told.given)) in
     let f = to_z-of_z w64 high (search (needs, c.before.before.before.known-told.given)) in
-    let y = Line-row _ _ _ _ a.before.loop.inv low high _ _ _ (rw n.low.given.1 at a.next-event.ensures) (rw (e, f) at c.before.before.tell-row.ensures) in
+    let y = line_row _ _ _ _ a.before.loop.inv low high _ _ _ (rw n.low.given.1 at a.next-event.ensures) (rw (e, f) at c.before.before.tell-row.ensures) in
     line-runs _ _ _ _ c.before.tell-runs.ensures y
 
 pub row-from-spec : {M : Type 1} → own.row_from.Statement.statement M
 row-from-spec =
-    tie.close (tie.spec Inv μ (λ c. let s = c.before in Going-start _ _ _ _ s.pre.good s.pre.fits s.pre.inside)
+    tie.close (tie.spec Inv μ (λ c. let s = c.before in going_start _ _ _ _ s.pre.good s.pre.fits s.pre.inside)
     (λ c κs. c.loop.invariant.good) (search needs)
     (λ c κs. let l = c.before.before.before.before in (search needs, omega (arith, l.loop.inv.fits.runs, l.loop.inv.inside, l.before.before.good))) tell-runs-requires
     (λ c. let n = c.before.before.before.before in let u = row_up (rw n.low.given.1 at n.before.before.next-event.ensures).1 in let v = runs_up c.before.tell-runs.ensures u.1 in omega (arith, u.0, u.1, v.0, v.1))

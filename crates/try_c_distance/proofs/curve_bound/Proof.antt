@@ -3,7 +3,7 @@ use Rattle.meaning_numbers.proofs.Prelude.{needs, not-true, not-false, ◌≡◌
 use Rattle.meaning_curves.proofs.Values.{AllIn}
 use Rattle.try_c_distance.specs.{Fits.Fits, Outcome.Written, Told.BoundAt}
 use Rattle.try_c_distance.proofs as own
-use own.Laws.{written_none, written-more, written_All, outcome-yes, outcome-no}
+use own.Laws.{written_none, written-more, written_all, outcome-yes, outcome-no}
 use own.curve_bound.Tie as tie
 
 abbrev Inv : tie.invariant-loop
@@ -38,7 +38,7 @@ loop-again c =
     (i.0, omega arith, omega arith, omega arith, written-more _ i.4 (omega arith) c.envelope-bound.ensures)
 
 returns-5 : tie.Need-returns-5 Inv μ
-returns-5 c = let i = c.before.loop.invariant in outcome-yes i.0 (omega arith) (written_All (omega arith) i.4)
+returns-5 c = let i = c.before.loop.invariant in outcome-yes i.0 (omega arith) (written_all (omega arith) i.4)
 
 pub curve-bound-spec : {M : Type 1} → own.curve_bound.Statement.statement M
 curve-bound-spec =

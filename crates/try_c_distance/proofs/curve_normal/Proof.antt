@@ -3,7 +3,7 @@ use Rattle.meaning_numbers.proofs.Prelude.{needs, not-true, not-false, ◌≡◌
 use Rattle.values.specs.Sums.{AreSums}
 use Rattle.try_c_distance.specs.{Fits.Fits, Outcome.Written, Told.LastNormal, Told.SpreadAt}
 use Rattle.try_c_distance.proofs as own
-use own.Laws.{written_none, written-more, written_All, outcome-yes, outcome-no, normal-none, normal-next, normal-all}
+use own.Laws.{written_none, written-more, written_all, outcome-yes, outcome-no, normal-none, normal-next, normal-all}
 use own.curve_normal.Tie as tie
 
 abbrev Inv : tie.invariant-loop
@@ -52,7 +52,7 @@ loop-again c =
 returns-2 : tie.Need-returns-2 Inv μ
 returns-2 c =
     let i = c.before.loop.invariant in
-    outcome-yes i.0 (omega arith) (normal-all (omega arith) i.6, written_All (omega arith) i.7)
+    outcome-yes i.0 (omega arith) (normal-all (omega arith) i.6, written_all (omega arith) i.7)
 
 pub curve-normal-spec : {M : Type 1} → own.curve_normal.Statement.statement M
 curve-normal-spec =

@@ -3,7 +3,7 @@ use Rattle.meaning_numbers.proofs.Prelude.{needs, not-true, not-false, ◌≡◌
 use Rattle.meaning_curves.proofs.Values.{AllIn}
 use Rattle.try_c_distance.specs.{Fits.Fits, Outcome.Written, Told.StraightAt}
 use Rattle.try_c_distance.proofs as own
-use own.Laws.{written_none, written-more, written_All, outcome-yes, outcome-no}
+use own.Laws.{written_none, written-more, written_all, outcome-yes, outcome-no}
 use own.curve_straight.Tie as tie
 
 abbrev Inv : tie.invariant-loop
@@ -28,7 +28,7 @@ loop-again c =
     (i.0, i.1, omega arith, omega arith, omega arith, written-more _ i.5 (omega arith) c.straight.ensures)
 
 returns-3 : tie.Need-returns-3 Inv μ
-returns-3 c = let i = c.before.loop.invariant in outcome-yes (i.0, i.1) (omega arith) (written_All (omega arith) i.5)
+returns-3 c = let i = c.before.loop.invariant in outcome-yes (i.0, i.1) (omega arith) (written_all (omega arith) i.5)
 
 pub curve-straight-spec : {M : Type 1} → own.curve_straight.Statement.statement M
 curve-straight-spec =

@@ -4,7 +4,7 @@ use Rattle.meaning_curves.proofs.Values.{AllIn}
 use Rattle.distance_envelope.specs.Envelope.{Envelopes}
 use Rattle.try_c_distance.specs.{Fits.Fits, Outcome.Written, Told.WarpedAt}
 use Rattle.try_c_distance.proofs as own
-use own.Laws.{written_none, written-more, written_All}
+use own.Laws.{written_none, written-more, written_all}
 use own.each_warped.Tie as tie
 
 abbrev Inv : tie.invariant-loop
@@ -31,4 +31,4 @@ pub each-warped-spec : {M : Type 1} → own.each_warped.Statement.statement M
 each-warped-spec =
     tie.close (tie.spec Inv μ loop-holds (λ c. omega arith) (λ c. sym c.before.before.loop.invariant.6) warped-in-requires (λ c. omega arith)
     (λ c. let i = c.before.before.before.before.loop.invariant in omega arith) (λ c. omega arith) (λ c. omega arith) loop-again (λ c. c.before.loop.invariant.5.long)
-    (λ c. let i = c.before.loop.invariant in (omega arith, written_All (omega arith) i.5)))
+    (λ c. let i = c.before.loop.invariant in (omega arith, written_all (omega arith) i.5)))
