@@ -1,0 +1,9 @@
+-- `envelope` (`passes-edge`).
+use Rattle.meaning_numbers.proofs.Prelude.{rules}
+use Rattle.distance_envelope.proofs as own
+use own.Pass.{passes-edge}
+use Rattle.distance_envelope.proofs.envelope.Goals as goal
+
+pub returns : goal.returns
+returns c =
+    passes-edge c.copy_values.ensures c.reach_ahead.ensures c.reach_back.ensures

@@ -1,0 +1,41 @@
+-- `floor_quotient`: of a negative z the number -1 - z is not negative, and its quotient is -1 less the floor of z's.
+use Rattle.meaning_numbers.proofs.Prelude.{rules, ◌≡◌, ◌/◌, ◌<◌, ◌^◌, div-le_self, ℤ, pos, negsuc, ◌-ℤ◌, nat_abs, w64, to_z, of_z, z-sub, zmach, z-abs, z-cast, z-fits}
+use Rattle.numbers.proofs as own
+use own.Row.{row_up, row-down}
+use Rattle.numbers.proofs.floor_quotient.Goals as goal
+
+-- the number, and -1 less it, as the machine reads them
+abbrev z : goal.Then-z-lt0 → ℤ
+z c = to_z w64 (of_z w64 c.args.z)
+
+abbrev y : goal.Then-z-lt0 → ℤ
+y c = to_z w64 (of_z w64 (negsuc 0 -ℤ z c))
+
+module _ (c : goal.Then-z-lt0) where
+  same : c.args.z ≡ negsuc (nat_abs (y c))
+  same = let f = sub-n c in omega (zmach, z-sub (negsuc 0) (z c), z-abs (y c))
+
+  small : nat_abs (y c) / c.args.d < 2 ^ 63
+  small =
+      let f = sub-n c in
+      omega (zmach, z-sub (negsuc 0) (z c), z-abs (y c), z-fits c.ranges.z, div-le_self (nat_abs (y c)) c.args.d)
+
+pub returns-then-z-lt0 : goal.returns-then-z-lt0
+returns-then-z-lt0 c =
+    let f = sub-result c in
+    let k = nat_abs (y c) / c.args.d in
+    rw (row-down c.args.d (same c)) (omega (zmach, z-sub (negsuc 0) (to_z w64 k), z-cast k (small c)))
+
+-- the number, and -1 less it, as the machine reads them
+abbrev z' : goal.Else-z-lt0 → ℤ
+z' c = to_z w64 (of_z w64 c.args.z)
+
+module _ (c : goal.Else-z-lt0) where
+  up_same : c.args.z ≡ pos (nat_abs (z' c))
+  up_same = omega (zmach, z-abs (z' c))
+
+  up_small : nat_abs (z' c) / c.args.d < 2 ^ 63
+  up_small = omega (zmach, z-abs (z' c), z-fits c.ranges.z, div-le_self (nat_abs (z' c)) c.args.d)
+
+pub returns : goal.returns
+returns c = rw (row_up _ (up_same c)) (omega (zmach, z-cast (nat_abs (z' c) / c.args.d) (up_small c)))

@@ -1,0 +1,11 @@
+-- `lesser_of`, by the flag of its test.
+use Rattle.meaning_numbers.proofs.Prelude.{w64}
+use Rattle.numbers.proofs as own
+use own.Back.{lesser-first, lesser-second}
+use Rattle.numbers.proofs.lesser_of.Goals as goal
+
+pub returns-then-x-y : goal.returns-then-x-y
+returns-then-x-y c = let f = c.ranges in lesser-first w64 f.x f.y c.if-x-y.true
+
+pub returns-else-x-y : goal.returns-else-x-y
+returns-else-x-y c = let f = c.ranges in lesser-second w64 f.x f.y c.if-x-y.false

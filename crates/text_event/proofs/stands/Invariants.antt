@@ -1,0 +1,11 @@
+-- `stands`. The invariant: the first k bytes of the word are there. The measure is how many are left.
+use Rattle.meaning_numbers.proofs.Prelude.{◌≡◌, refl, false≢true, ℕ, ◌+◌, ◌-◌, ◌<◌, ◌≤◌, arith, length, get_or, rules}
+use Rattle.text_event.proofs as own
+use own.Words.{stands-byte, stands-all, same_more}
+use Rattle.text_event.proofs.stands.Given as goal
+
+abbrev pub invariant-loop-k : goal.invariant-loop-k
+invariant-loop-k l = (l.k ≤ length l.word) × ((j : ℕ) → j < l.k → get_or l.text (l.at + j) 0 ≡ get_or l.word j 0)
+
+abbrev pub decreases-loop-k : goal.decreases-loop-k
+decreases-loop-k l = length l.word - l.k

@@ -1,0 +1,14 @@
+-- `raised_sum`. The invariant: the sum so far.
+use Rattle.meaning_numbers.specs.Sum.{Σℕ}
+use Rattle.meaning_numbers.proofs.Sum.{Σℕ-none, Σℕ-more}
+use Rattle.meaning_numbers.proofs.Prelude.{◌≡◌, ◌∙◌, ◌*◌, ◌-◌, ◌≤◌, arith}
+use Rattle.meaning_curves.specs.Curve.{stretch}
+use Rattle.numbers.specs.Raised.{raised, raised-le}
+use Rattle.numbers.proofs.Back.{in-arg, raised-back}
+use Rattle.values.proofs.raised_sum.Given as goal
+
+abbrev pub invariant-loop-k : goal.invariant-loop-k
+invariant-loop-k l = (l.k ≤ l.m) × (l.sum ≤ 20000 * l.k) × (l.sum ≡ Σℕ l.k (λ k. raised (stretch l.s l.from k)))
+
+abbrev pub decreases-loop-k : goal.decreases-loop-k
+decreases-loop-k l = l.m - l.k
