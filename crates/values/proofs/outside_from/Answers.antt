@@ -12,7 +12,7 @@ told c =
 
 pub returns-then-not-in_limits : goal.returns-then-not-in_limits
 returns-then-not-in_limits c =
-    sym (ap placed (outside-is (record { there = omega arith; outside = no_value _ (sym (told c) ∙ not-true _ c.if-not-in_limits.true); before = search rules })))
+    sym (ap placed (outside-is (record { there = omega arith; outside = no_value _ (sym (told c) ∙ c.if-not-in_limits.true); before = search rules })))
 
 pub returns : goal.returns
 returns c = sym (ap placed (in-values _ (λ k l. c.loop-i.invariant.1 k (omega arith))))
