@@ -1,5 +1,6 @@
 -- `floor_quotient`: of a negative z the number -1 - z is not negative, and its quotient is -1 less the floor of z's.
 use Rattle.meaning_numbers.proofs.Prelude.{rules, ◌≡◌, ◌/◌, ◌<◌, ◌^◌, div-le_self, ℤ, pos, negsuc, ◌-ℤ◌, nat_abs, w64, to_z, of_z, z-sub, zmach, z-abs, z-cast, z-fits}
+use mir.Val.{SFits}
 use Rattle.numbers.proofs as own
 use own.Row.{row_up, row-down}
 use Rattle.numbers.proofs.floor_quotient.Goals as goal
@@ -12,18 +13,21 @@ abbrev y : goal.Then-z-lt0 → ℤ
 y c = to_z w64 (of_z w64 (negsuc 0 -ℤ z c))
 
 module _ (c : goal.Then-z-lt0) where
+  fits : SFits w64 (negsuc 0 -ℤ z c)
+  fits = omega (zmach, z-sub (negsuc 0) (z c), z-fits c.ranges.z)
+
   same : c.args.z ≡ negsuc (nat_abs (y c))
-  same = let f = sub-n c in omega (zmach, z-sub (negsuc 0) (z c), z-abs (y c))
+  same = let f = fits in omega (zmach, z-sub (negsuc 0) (z c), z-abs (y c))
 
   small : nat_abs (y c) / c.args.d < 2 ^ 63
   small =
-      let f = sub-n c in
+      let f = fits in
       omega (zmach, z-sub (negsuc 0) (z c), z-abs (y c), z-fits c.ranges.z, div-le_self (nat_abs (y c)) c.args.d)
 
 pub returns-then-z-lt0 : goal.returns-then-z-lt0
 returns-then-z-lt0 c =
-    let f = sub-result c in
     let k = nat_abs (y c) / c.args.d in
+    let f : SFits w64 (negsuc 0 -ℤ to_z w64 k) = omega (zmach, z-sub (negsuc 0) (to_z w64 k), z-cast k (small c), small c) in
     rw (row-down c.args.d (same c)) (omega (zmach, z-sub (negsuc 0) (to_z w64 k), z-cast k (small c)))
 
 -- the number, and -1 less it, as the machine reads them

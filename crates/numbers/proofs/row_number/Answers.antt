@@ -1,5 +1,6 @@
 -- `row_number`: of a negative sum z the number -1 - z is not negative, and its quotient is -1 less the row's number.
 use Rattle.meaning_numbers.proofs.Prelude.{rules, ◌≡◌, sym, ◌<◌, div-le_self, ℤ, pos, negsuc, ◌-ℤ◌, nat_abs, w32, to_z, of_z, z-sub, zmach32, z-abs, z-cast32}
+use mir.Val.{SFits}
 use Rattle.numbers.proofs as own
 use own.{Back.z-fits32, Row.row_up, Row.row-down}
 use Rattle.numbers.proofs.row_number.Goals as goal
@@ -12,17 +13,21 @@ abbrev y : goal.After-quotient-k → ℤ
 y c = to_z w32 (of_z w32 (negsuc 0 -ℤ z c))
 
 module _ (c : goal.After-quotient-k) where
+  fits : SFits w32 (negsuc 0 -ℤ z c)
+  fits = omega (zmach32, z-sub (negsuc 0) (z c), z-fits32 c.ranges.sum)
+
   same : c.args.sum ≡ negsuc (nat_abs (y c))
-  same = let f = sub-n c in omega (zmach32, z-sub (negsuc 0) (z c), z-abs (y c))
+  same = let f = fits in omega (zmach32, z-sub (negsuc 0) (z c), z-abs (y c))
 
   small : c.quotient-k.result < 2147483648
   small =
-      let f = sub-n c in
+      let f = fits in
       omega (zmach32, z-sub (negsuc 0) (z c), z-abs (y c), z-fits32 c.ranges.sum, c.quotient-k.ensures, div-le_self (nat_abs (y c)) c.args.width)
 
 pub returns-then-sum-lt0 : goal.returns-then-sum-lt0
 returns-then-sum-lt0 c =
-    let f = sub-result c in
+    let k = c.quotient-k.result in
+    let f : SFits w32 (negsuc 0 -ℤ to_z w32 k) = omega (zmach32, z-sub (negsuc 0) (to_z w32 k), z-cast32 k (small c), small c) in
     rw (row-down c.args.width (same c), sym c.quotient-k.ensures)
     (omega (zmach32, z-sub (negsuc 0) (to_z w32 c.quotient-k.result), z-cast32 c.quotient-k.result (small c)))
 
