@@ -1,55 +1,43 @@
 -- `normal_of` meets its contract.
-use Rattle.meaning_numbers.proofs.Prelude.{rules, ◌≡◌, ◌∙◌, ⊎_elim, ◌+◌, ◌-◌, ◌≤◌, arith, pos, neg_ℤ, ◌-ℤ◌, w32, to_z, to_z-of_z, to_z_pos, zmach32, z-sub, z-neg, zarith}
+use Rattle.meaning_numbers.proofs.Prelude.{◌≡◌, ◌∙◌, ◌+◌, ◌-◌, ◌≤◌, ◌<◌, ℕ, arith, pos, neg_ℤ, ◌-ℤ◌, w32, of_z, to_z, to_z-of_z, to_z_pos, zmach32, z-sub, z-neg, zarith}
+use mir.Val.{SFits}
+use Rattle.distance_normal.specs.Normal.{CutOf}
 use Rattle.distance_normal.proofs as own
 use own.Normal.{cut_small, normal-up, normal-down, diff}
 use Rattle.distance_normal.proofs.normal_of.Goals as goal
+use Rattle.distance_normal.proofs.normal_of.Goals.{then-x-p, else-x-p}
 
-size : (c : goal.After-cut_of-t) → c.if-x-p.d ≡ (c.args.p - c.args.x) + (c.args.x - c.args.p)
-size c = ⊎_elim (λ w. omega arith) (λ w. omega arith) c.if-x-p.branch
+-- the cut of a size in the limits is small, and the machine reads it as itself
+small : {a d t p x : ℕ} → 0 < a → CutOf a d t → d ≡ (p - x) + (x - p) → x ≤ 20480000 → p ≤ 20480000 → t ≤ 2048000000
+small some cut size x-le p-le = omega (arith, cut_small some cut)
 
-module _ (c : goal.After-cut_of-t) where
+read : {t : ℕ} → t ≤ 2048000000 → to_z w32 t ≡ pos t
+read {t} le = to_z_pos w32 t (omega arith)
 
-  small : c.cut_of-t.result ≤ 2048000000
-  small = omega (arith, cut_small c.requires.a_nonzero c.cut_of-t.ensures, size c)
-
-  read : to_z w32 c.cut_of-t.result ≡ pos c.cut_of-t.result
-  read = to_z_pos w32 _ (omega (arith, small))
+opposite : (t : ℕ) → t ≤ 2048000000 → to_z w32 (of_z w32 (pos 0 -ℤ to_z w32 t)) ≡ neg_ℤ (pos t)
+opposite t le =
+    let n : pos 0 -ℤ pos t ≡ neg_ℤ (pos t) = omega (zarith, z-sub (pos 0) (pos t), z-neg (pos t)) in
+    let f : SFits w32 (pos 0 -ℤ pos t) = omega (zmach32, z-sub (pos 0) (pos t)) in
+    rw (read le) (to_z-of_z w32 _ f ∙ n)
 
 pub overflow_cast-t : goal.overflow_cast-t
-overflow_cast-t c = omega (zmach32, small c)
-
-size' : (c : goal.Then-x-p-2) → c.if-x-p.d ≡ (c.args.p - c.args.x) + (c.args.x - c.args.p)
-size' c = ⊎_elim (λ w. omega arith) (λ w. omega arith) c.if-x-p.branch
-
-module _ (c : goal.Then-x-p-2) where
-
-  small' : c.cut_of-t.result ≤ 2048000000
-  small' = omega (arith, cut_small c.requires.a_nonzero c.cut_of-t.ensures, size' c)
-
-  read' : to_z w32 c.cut_of-t.result ≡ pos c.cut_of-t.result
-  read' = to_z_pos w32 _ (omega (arith, small'))
+overflow_cast-t c =
+    let a = c.args in
+    let size : c.if-x-p.d ≡ (a.p - a.x) + (a.x - a.p) = elim c.if-x-p.branch [ then-x-p w ↦ omega arith | else-x-p w ↦ omega arith ] in
+    omega (zmach32, small c.requires.a_nonzero c.cut_of-t.ensures size c.requires.x_bound c.requires.p_bound)
 
 pub returns-then-x-p-2 : goal.returns-then-x-p-2
 returns-then-x-p-2 c =
     let a = c.args in
-    let t = c.cut_of-t.result in
-    let e : c.if-x-p.d ≡ a.p - a.x = omega (arith, size' c) in
-    let n : pos 0 -ℤ pos t ≡ neg_ℤ (pos t) = omega (zarith, z-sub (pos 0) (pos t), z-neg (pos t)) in
-    to_z-of_z w32 _ (sub-result c) ∙ rw (read' _) (n ∙ normal-down _ (diff a.x a.p) c.requires.a_nonzero c.if-x-p-2.true (rw e at c.cut_of-t.ensures))
-
-size'' : (c : goal.Else-x-p-2) → c.if-x-p.d ≡ (c.args.p - c.args.x) + (c.args.x - c.args.p)
-size'' c = ⊎_elim (λ w. omega arith) (λ w. omega arith) c.if-x-p.branch
-
-module _ (c : goal.Else-x-p-2) where
-
-  small'' : c.cut_of-t.result ≤ 2048000000
-  small'' = omega (arith, cut_small c.requires.a_nonzero c.cut_of-t.ensures, size'' c)
-
-  read'' : to_z w32 c.cut_of-t.result ≡ pos c.cut_of-t.result
-  read'' = to_z_pos w32 _ (omega (arith, small''))
+    let size : c.if-x-p.d ≡ (a.p - a.x) + (a.x - a.p) = elim c.if-x-p.branch [ then-x-p w ↦ omega arith | else-x-p w ↦ omega arith ] in
+    let e : c.if-x-p.d ≡ a.p - a.x = omega (arith, size) in
+    opposite _ (small c.requires.a_nonzero c.cut_of-t.ensures size c.requires.x_bound c.requires.p_bound)
+    ∙ normal-down _ (diff a.x a.p) c.requires.a_nonzero c.if-x-p-2.true (rw e at c.cut_of-t.ensures)
 
 pub returns-else-x-p-2 : goal.returns-else-x-p-2
 returns-else-x-p-2 c =
     let a = c.args in
-    let e : c.if-x-p.d ≡ a.x - a.p = omega (arith, size'' c) in
-    read'' c ∙ normal-up _ (diff a.x a.p) c.requires.a_nonzero c.if-x-p-2.false (rw e at c.cut_of-t.ensures)
+    let size : c.if-x-p.d ≡ (a.p - a.x) + (a.x - a.p) = elim c.if-x-p.branch [ then-x-p w ↦ omega arith | else-x-p w ↦ omega arith ] in
+    let e : c.if-x-p.d ≡ a.x - a.p = omega (arith, size) in
+    read (small c.requires.a_nonzero c.cut_of-t.ensures size c.requires.x_bound c.requires.p_bound)
+    ∙ normal-up _ (diff a.x a.p) c.requires.a_nonzero c.if-x-p-2.false (rw e at c.cut_of-t.ensures)
