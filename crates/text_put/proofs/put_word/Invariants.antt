@@ -1,8 +1,6 @@
 -- `put_word`. The invariant: the first i bytes of the word stand in the buffer.
-use Rattle.meaning_numbers.proofs.Prelude.{◌-◌, ◌≤◌, arith, rules, length, take}
+use Rattle.meaning_numbers.proofs.Prelude.{◌-◌, ◌≤◌, length, take}
 use Rattle.text_put.specs.Put.{Put}
-use Rattle.text_put.proofs as own
-use own.Put.{put-turn, put_all_lem, put-length}
 use Rattle.text_put.proofs.put_word.Given as goal
 
 abbrev pub invariant-loop-i : goal.invariant-loop-i
