@@ -3,7 +3,7 @@ use Rattle.meaning_numbers.proofs.Prelude.{◌≡◌, refl, sym, ◌∙◌, ap, 
 use Rattle.meaning_rows.specs.Judge.{head_good, run_lengths, range_good, part_good, row_good, bad_row_from, first_bad_row, length_total}
 use Rattle.meaning_rows.specs.{declared.Row.Row, declared.Head.Head, Index.Index, Index.lent, Index.runs_of}
 use Rattle.rows_records.specs.Records.{zero_row}
-use Rattle.rows_records.proofs.Walk.{drop-next}
+use Rattle.rows_records.proofs.Rest.{drop-next}
 use Rattle.rows_judge.specs.{declared.RowsJudged.RowsJudged, declared.Judged.Judged, Judged.outcome, Judged.judged_of, Judging.start, Judging.failed, Judging.moved, Judging.next, Judging.verdict_of}
 use Rattle.rows_judge.proofs.Next.{fits-room}
 

@@ -1,0 +1,8 @@
+-- `end_in`: its two tests are those of the definition.
+use Rattle.meaning_numbers.specs.Order.{within}
+use Rattle.meaning_numbers.proofs.Prelude.{rules}
+use Rattle.rows_judge.proofs.end_in.Goals as goal
+
+pub returns : goal.returns
+unfolding within
+returns c = search rules
