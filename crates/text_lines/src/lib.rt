@@ -74,6 +74,7 @@ pub enum Moved {
     Refuse,
 }
 
+#[tactic(auto, unfolding(crate::specs::Step::word, meaning_text::specs::Bytes::bytes))]
 fn word_byte(w: Word, k: usize) -> u8
     ensures { result ≡ get_or (word w) k 0 }
 {
@@ -93,6 +94,7 @@ fn word_byte(w: Word, k: usize) -> u8
     }
 }
 
+#[tactic(auto, unfolding(crate::specs::Step::word, meaning_text::specs::Bytes::bytes))]
 fn word_length(w: Word) -> usize
     ensures { result ≡ length (word w) }
 {
@@ -113,6 +115,7 @@ fn word_length(w: Word) -> usize
 }
 
 // The state behind a word.
+#[tactic(auto, unfolding(crate::specs::Step::behind))]
 fn word_end(w: Word) -> State
     ensures { result ≡ behind w }
 {
@@ -133,6 +136,7 @@ fn word_end(w: Word) -> State
 }
 
 // What may come behind a number.
+#[tactic(auto, unfolding(crate::specs::Step::turn_after))]
 fn number_end(p: Field) -> Turn
     ensures { result ≡ turn_after p }
 {
