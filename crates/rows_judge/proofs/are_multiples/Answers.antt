@@ -1,6 +1,6 @@
 -- `are_multiples`: what lies d above a multiple is one (`next_multiple`); in 64 bits no sum wraps.
 use Rattle.meaning_numbers.specs.Quotient.{multiple}
-use Rattle.meaning_numbers.proofs.Prelude.{◌≡◌, refl, sym, ◌∙◌, ap, ◌&&◌, ℕ, ◌<◌, ◌^◌, arith, ℤ, pos, negsuc, ◌+ℤ◌, w32, w64, SFits, to_z, of_z, to_z-of_z, to_z_pos, rules, z-add, zmach, by-test}
+use Rattle.meaning_numbers.proofs.Prelude.{◌≡◌, refl, sym, ◌∙◌, ap, ◌&&◌, ℕ, ◌<◌, ◌^◌, arith, ℤ, pos, negsuc, ◌+ℤ◌, w32, w64, SFits, to_z, of_z, to_z-of_z, to_z_pos, z-add, zmach, by-test}
 use Rattle.meaning_rows.proofs.Range.{multiple-is, multiple-of, up_is}
 use Rattle.rows_judge.proofs.are_multiples.Goals as goal
 

@@ -1,6 +1,6 @@
 -- `is_multiple`. By 0 a number leaves itself.
 use Rattle.meaning_numbers.specs.Quotient.{multiple}
-use Rattle.meaning_numbers.proofs.Prelude.{sym, ◌∙◌, ap, ◌%◌, mod-zero, nat_abs, w32, to_z-of_z, rules}
+use Rattle.meaning_numbers.proofs.Prelude.{sym, ◌∙◌, ap, ◌%◌, mod-zero, nat_abs, w32, to_z-of_z}
 use Rattle.rows_judge.proofs.is_multiple.Goals as goal
 
 pub returns-then-d-eq0 : goal.returns-then-d-eq0

@@ -1,6 +1,6 @@
 -- `judge_row`: a row that does not fit ends in the failed state, and one that fits is judged by its runs, which lie inside the run buffer.
 use Rattle.meaning_numbers.proofs.Prelude.{◌≡◌, sym, ◌∙◌, ap, Bool, true, false, ◌&&◌, [], ℕ, ◌+◌, ◌-◌, ◌≤◌, List, take, drop, min, arith, pos, length}
-use Rattle.meaning_rows.specs.{declared.Head.Head, declared.Row.Row, Index.Index, Index.lent, Index.entries, Index.runs_of, Judge.range_good, Judge.part_good}
+use Rattle.meaning_rows.specs.{declared.Head.Head, declared.Row.Row, Index.Index, Index.lent, Index.entries, Judge.range_good, Judge.part_good}
 use Rattle.meaning_rows.proofs.Grown.{length-entries}
 use Rattle.rows_judge.specs.{declared.RowsJudged.RowsJudged, Judging.failed, Judging.room, Judging.fits, Judging.scan, Judging.after, Judging.next}
 use Rattle.rows_judge.proofs as own

@@ -1,9 +1,9 @@
 -- `judge_runs`: a run that is not good ends the judgement (`inside-bad`), a good one leaves the rest to be judged (`inside-next`), and where none is left only the last is held to the windows.
-use Rattle.meaning_numbers.proofs.Prelude.{◌≡◌, refl, sym, ◌∙◌, ap, true, ℕ, ◌+◌, ◌-◌, ◌<◌, ◌≤◌, length, List, [], ◌∷◌, arith, pos, get_or, le-leb, lt-leb}
+use Rattle.meaning_numbers.proofs.Prelude.{◌≡◌, refl, sym, ◌∙◌, ap, true, ℕ, ◌+◌, ◌<◌, ◌≤◌, length, List, [], ◌∷◌, arith, pos, get_or, le-leb, lt-leb}
 use Rattle.meaning_rows.specs.Index.{Entry}
 use Rattle.rows_judge.specs.{declared.Lengths.Lengths, Judging.untold, Judging.scan}
 use Rattle.rows_judge.proofs as own
-use own.Scan.{part, part-next, part_none, inside, Follows, follows, inside-next, inside-bad, scan-end}
+use own.Scan.{part, part-next, part_none, inside, follows, inside-next, inside-bad, scan-end}
 use Rattle.rows_judge.proofs.judge_runs.Goals as goal
 
 -- the loop at run i
