@@ -1,7 +1,7 @@
 -- `count_runs`. The invariant: the first i runs of the part are counted (`Runs`).
-use Rattle.meaning_numbers.proofs.Prelude.{◌-◌, rules, arith}
+use Rattle.meaning_numbers.proofs.Prelude.{◌-◌}
 use Rattle.text_count.proofs as own
-use own.Count.{Runs, runs-start, runs-turn, runs-end, runs_past}
+use own.Count.{Runs}
 use Rattle.text_count.proofs.count_runs.Given as goal
 
 abbrev pub invariant-loop-i : goal.invariant-loop-i
