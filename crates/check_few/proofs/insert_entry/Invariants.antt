@@ -1,7 +1,6 @@
 -- `insert_entry`: one column after the other (`moving-starts`, `moving-next`, `moving-ends`).
-use Rattle.meaning_numbers.proofs.Prelude.{rules, ◌∙◌, length-set}
 use Rattle.check_few.proofs as own
-use own.Place.{Moving, moving-starts, moving-next, moving-ends}
+use own.Place.{Moving}
 use Rattle.check_few.proofs.insert_entry.Given as goal
 
 abbrev pub invariant-loop-i : goal.invariant-loop-i

@@ -1,7 +1,7 @@
 -- `keep_entry` (`keeps-put`, `keeps-none`).
-use Rattle.meaning_numbers.proofs.Prelude.{rules, arith}
+use Rattle.meaning_numbers.proofs.Prelude.{rules}
 use Rattle.check_few.proofs as own
-use own.Kept.{put-room, keeps-put, keeps-none}
+use own.Kept.{keeps-put, keeps-none}
 use Rattle.check_few.proofs.keep_entry.Goals as goal
 
 pub returns-then-p-k : goal.returns-then-p-k

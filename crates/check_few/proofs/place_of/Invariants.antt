@@ -1,7 +1,7 @@
 -- `place_of` (`looking-up`, `looking-down`, `looking-ends`). The measure is how far the two ends are apart.
-use Rattle.meaning_numbers.proofs.Prelude.{rules, ◌-◌, arith}
+use Rattle.meaning_numbers.proofs.Prelude.{◌-◌}
 use Rattle.check_few.proofs as own
-use own.Place.{Looking, looking-up, looking-down, looking-ends}
+use own.Place.{Looking}
 use Rattle.check_few.proofs.place_of.Given as goal
 
 abbrev pub invariant-loop-low : goal.invariant-loop-low
