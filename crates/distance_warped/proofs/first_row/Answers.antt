@@ -36,7 +36,7 @@ loop-j-preserved c =
     let f = cells (S c) (Q c) c.args.b 0 in
     let j = c.loop-j.j in
     let v = c.loop-j.invariant in
-    let new : c.loop-j.false + c.squared-left.result ≡ f j = omega (arith, told c, v.4, first_cell (S c) (Q c) c.args.b (small c) j (record { first = omega arith; second = omega arith })) in (
+    let new : c.loop-j.left + c.squared-left.result ≡ f j = omega (arith, told c, v.4, first_cell (S c) (Q c) c.args.b (small c) j (record { first = omega arith; second = omega arith })) in (
       omega arith,
       length-set c.loop-j.row (j + 1) _ ∙ v.1,
       simp length-set v.2,
