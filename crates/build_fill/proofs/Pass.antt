@@ -65,23 +65,23 @@ module _ {P : ℕ → ℕ → Bool} {sum : ℕ → ℤ} {from windows : ℕ} {ro
             let p : top k ≤ℤ low i = h.apart k i y l in inside-above (low k) (top k) (sum j) (omega (zarith, in-i.0))
       ]
 
+-- where a turn begins
+pub record Going (P : ℕ → ℕ → Bool) (s : List ℤ) (w e : ℕ) (from : Window) (n : ℕ) (left₀ right₀ : List ℕ) (at : Window) (left right : List ℕ) : Type 0 where
+  pub place : At s w e at
+  pub after : from.offset ≤ at.offset
+  pub filling : Filling n (windows_of s w) P left₀ right₀ at.offset left right
+
 module _ {P : ℕ → ℕ → Bool} {s : List ℤ} {w e : ℕ} {from : Window} {rows : List Row} {n : ℕ} {left₀ right₀ : List ℕ} (h : Passable P s w e from rows n left₀ right₀) where
   abbrev W : ℕ
   W = windows_of s w
 
-  -- where a turn begins
-  pub record Going (at : Window) (left right : List ℕ) : Type 0 where
-    pub place : At s w e at
-    pub after : from.offset ≤ at.offset
-    pub filling : Filling n W P left₀ right₀ at.offset left right
-
-  pub going-starts : Going from left₀ right₀
+  pub going-starts : Going P s w e from n left₀ right₀ from left₀ right₀
   going-starts = record { place = h.place; after = omega arith; filling = h.filling }
 
-  pub going-ends : (at : Window) (left right : List ℕ) → Going at left right → W ≤ at.offset → PassMade P s w n left₀ right₀ left right
+  pub going-ends : (at : Window) (left right : List ℕ) → Going P s w e from n left₀ right₀ at left right → W ≤ at.offset → PassMade P s w n left₀ right₀ left right
   going-ends at left right g l = let e : at.offset ≡ W = omega (arith, g.place.below) in subst (λ (j : ℕ). Filling n W P left₀ right₀ j left right) e g.filling
 
-  module _ (at : Window) (left right : List ℕ) (g : Going at left right) (less : at.offset < W) {r : Row} (f : FoundRow rows n (window_sum s w at.offset) r) where
+  module _ (at : Window) (left right : List ℕ) (g : Going P s w e from n left₀ right₀ at left right) (less : at.offset < W) {r : Row} (f : FoundRow rows n (window_sum s w at.offset) r) where
     abbrev i : ℕ
     i = f.place
 
@@ -134,7 +134,7 @@ module _ {P : ℕ → ℕ → Bool} {s : List ℤ} {w e : ℕ} {from : Window} {
     pub going-nears : {t : Window} {left' right' : List ℕ} → Turned s w e j r left right t left' right' → j < t.offset
     going-nears v = change-held less (found-holds h.rowed j g.after less f) v.change
 
-    pub going_next : {t : Window} {left' right' : List ℕ} → Turned s w e j r left right t left' right' → Going t left' right'
+    pub going_next : {t : Window} {left' right' : List ℕ} → Turned s w e j r left right t left' right' → Going P s w e from n left₀ right₀ t left' right'
     going_next {t} {left'} {right'} v =
         let o = run_of t.offset v.change in
         let b : r.first + written r right ≡ part_start n W P i + run_count (P i) j = omega (arith, first-is, written_is) in
