@@ -6,7 +6,7 @@ sources() {
     {
         rt version
         uname -m
-        find crates.txt crates -name must-fail -prune -o -type f -print0 | sort -z | xargs -0 sha256sum
+        find crates.txt crates \( -name must-fail -o -name out \) -prune -o -type f -print0 | sort -z | xargs -0 sha256sum
     } 2>&1 | sha256sum
 }
 
@@ -32,14 +32,14 @@ say() { [ ! -t 2 ] || printf '\r%-60s\r' "$1" >&2; }
 # prove NAME: proves and builds the program. rt says when a crate is proved, of several at a time.
 prove() {
     [ -e "target/bin/$1" ] || rm -f "target/stamp/$1"
-    { rt check "$1" 2>&1; echo "rt ended with $?"; } | tee "target/$1.log" | {
+    { tools/program "$1" 2>&1; echo "rt ended with $?"; } | tee "target/$1.log" | {
         all=$(needed "$1") proved=0 ended=
         say "proving crate 1 of $all"
         while read -r line; do
             case $line in
-            'rt: '*' proved ('*)
-                proved=$((proved + 1)) name=${line#rt: }
-                [ "$proved" -ge "$all" ] || say "proving crate $((proved + 1)) of $all, after ${name%% *}"
+            'logic=proved '*)
+                proved=$((proved + 1))
+                [ "$proved" -ge "$all" ] || say "proving crate $((proved + 1)) of $all"
                 ;;
             'rt ended with '*) ended=${line##* } ;;
             esac

@@ -5,10 +5,10 @@ ghost use Rattle.std.specs.Prelude.{◌≤◌, length, take};
 ghost use Rattle.program_input.specs.Input.{Open};
 ghost use Rattle.find.specs.Reading.{StepFrom, Stepped, ReadTo};
 
-use libc::{STDIN_FILENO, STDOUT_FILENO};
 use meaning_curves::{LONGEST_QUERY, MOST_PROGRAM_VALUES};
 use program_input::{Input, begin, read_piece};
 use program_print::finish;
+use std::io::{Read, Stdin};
 
 // There may be more to read, or the input is over.
 #[derive(Clone, Copy)]
@@ -37,25 +37,36 @@ fn take_read(
 }
 
 // Reads the next piece of standard input; a read that fails brings none.
-fn read_on(r: Input, numbers: &mut [i64], series: &mut [i32], query: &mut [i32]) -> Step
+fn read_on(
+    source: &mut Stdin,
+    r: Input,
+    numbers: &mut [i64],
+    series: &mut [i32],
+    query: &mut [i32],
+) -> Step
     requires { Open r 65536 }
     ensures { Stepped r numbers.old series.old query.old result numbers.new series.new query.new }
 {
     let mut buf = io::large_buffer();
-    let got = libc::read(STDIN_FILENO, &mut buf);
-    let n = io::count(got, &buf);
+    let n = source.read(&mut buf).unwrap_or(0);
     take_read(r, &buf, n, numbers, series, query)
 }
 
 // Reads all of standard input, in as many pieces as no run uses up.
-fn read_all(r: Input, numbers: &mut [i64], series: &mut [i32], query: &mut [i32]) -> Input
+fn read_all(
+    source: &mut Stdin,
+    r: Input,
+    numbers: &mut [i64],
+    series: &mut [i32],
+    query: &mut [i32],
+) -> Input
     requires { ReadTo 4611686018427387904 r numbers.old series.old query.old }
     ensures { ReadTo 0 result numbers.new series.new query.new }
 {
     let mut x = r;
     let mut turns: u64 = 70368744177663;
     while 0 < turns {
-        match read_on(x, numbers, series, query) {
+        match read_on(source, x, numbers, series, query) {
             Step::More(y) => {
                 x = y;
                 turns -= 1;
@@ -77,14 +88,15 @@ fn text_buffer() -> [u8; 1048576] {
 fn print_first(text: &[u8], n: usize)
     requires { n ≤ length text.now }
 {
-    io::write_all(STDOUT_FILENO, &text[..n]);
+    io::write_all(1, &text[..n]);
 }
 
-fn main() {
+fn main(rt: HostRuntime) {
     let mut numbers = [0i64, 0, 0, 0, 0, 0, 0, 1];
     let mut series = [0i32; MOST_PROGRAM_VALUES];
     let mut query = [0i32; LONGEST_QUERY];
-    let r = read_all(begin(), &mut numbers, &mut series, &mut query);
+    let mut source = rt.stdin();
+    let r = read_all(&mut source, begin(), &mut numbers, &mut series, &mut query);
     let mut text = text_buffer();
     let n = finish(r, &numbers, &series, &query, &mut text);
     print_first(&text, n);

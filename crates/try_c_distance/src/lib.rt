@@ -50,8 +50,7 @@ pub fn fits(s: &[i32], m: usize, room: usize) -> bool
 }
 
 // The straight distance of `q` from each stretch of `s`, where it is at most `limit`, else some number above it. How many were written; 0 where the input is refused.
-#[unsafe(no_mangle)]
-pub extern "C" fn curve_straight(s: &[i32], q: &[i32], limit: u64, out: &mut [u64]) -> usize
+pub fn curve_straight(s: &[i32], q: &[i32], limit: u64, out: &mut [u64]) -> usize
     ensures { StraightTold s.now q.now limit out.old result out.new }
 {
     let n = s.len();
@@ -71,8 +70,7 @@ pub extern "C" fn curve_straight(s: &[i32], q: &[i32], limit: u64, out: &mut [u6
 }
 
 // The envelope bound of each stretch of `s`, likewise.
-#[unsafe(no_mangle)]
-pub extern "C" fn curve_bound(
+pub fn curve_bound(
     s: &[i32],
     low: &[i32],
     high: &[i32],
@@ -129,8 +127,7 @@ fn each_warped(
 }
 
 // The warped distance of `q` from each stretch of `s`, likewise. `low` and `high` are as long as `q`, and are left with its envelopes.
-#[unsafe(no_mangle)]
-pub extern "C" fn curve_warped(
+pub fn curve_warped(
     s: &[i32],
     q: &[i32],
     b: usize,
@@ -160,8 +157,7 @@ pub extern "C" fn curve_warped(
 }
 
 // Both envelopes of `q` at the band `b`. Whether they were written.
-#[unsafe(no_mangle)]
-pub extern "C" fn curve_envelopes(q: &[i32], b: usize, low: &mut [i32], high: &mut [i32]) -> bool
+pub fn curve_envelopes(q: &[i32], b: usize, low: &mut [i32], high: &mut [i32]) -> bool
     ensures { EnvelopesTold q.now b low.old high.old result low.new high.new }
 {
     if low.len() != q.len() {
@@ -208,8 +204,7 @@ pub fn sums_after(s: &[i32], from: usize, m: usize, t: Sums) -> Sums
 }
 
 // The spread of each stretch of `s` that is as long as `room`, with the normalised values of the last one that is not flat in `room`. How many spreads were written.
-#[unsafe(no_mangle)]
-pub extern "C" fn curve_normal(s: &[i32], room: &mut [i32], out: &mut [u64]) -> usize
+pub fn curve_normal(s: &[i32], room: &mut [i32], out: &mut [u64]) -> usize
     ensures { NormalTold s.now room.old out.old result room.new out.new }
 {
     let n = s.len();

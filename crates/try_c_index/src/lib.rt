@@ -53,8 +53,7 @@ fn tell_audited(a: Audited) -> Answer
 }
 
 // The audit.
-#[unsafe(no_mangle)]
-pub extern "C" fn index_audit(
+pub fn index_audit(
     series: &[i32],
     head: Head,
     rows: &[Row],
@@ -90,8 +89,7 @@ fn tell_built(a: Built) -> Answer
 }
 
 // The build.
-#[unsafe(no_mangle)]
-pub extern "C" fn index_build(
+pub fn index_build(
     series: &[i32],
     w: u32,
     d: u32,
@@ -117,8 +115,7 @@ fn tell_extended(a: Extended) -> Answer
 }
 
 // The extension.
-#[unsafe(no_mangle)]
-pub extern "C" fn index_extend(
+pub fn index_extend(
     series: &[i32],
     head: Head,
     from: &[Row],

@@ -99,8 +99,7 @@ pub fn can_prepare(kind: Kind, q: &[i32]) -> bool
 }
 
 // For each stretch of `s` the distance and 1 where it matches `q`, else 0. How many were written; 0 where the input is refused. `curve`, `low`, `high` and `room` are as long as `q`, `row` is longer: the first three are left with the curve compared and its envelopes; what `room` and `row` hold is free.
-#[unsafe(no_mangle)]
-pub extern "C" fn curve_matches(
+pub fn curve_matches(
     kind: u32,
     s: &[i32],
     q: &[i32],
@@ -172,8 +171,7 @@ pub fn window_after(s: &[i32], w: usize, at: usize, sum: i32) -> i32
 }
 
 // The place of the first value outside its limits, or how many values there are.
-#[unsafe(no_mangle)]
-pub extern "C" fn curve_outside(s: &[i32]) -> usize
+pub fn curve_outside(s: &[i32]) -> usize
     ensures { result ≡ place_or (length s.now) (first_outside s.now) }
 {
     match first_outside(s) {
@@ -183,8 +181,7 @@ pub extern "C" fn curve_outside(s: &[i32]) -> usize
 }
 
 // The sum of each window of `w` values into `sums`, and the row that holds it, at the width `d`, into `rows`. How many were written.
-#[unsafe(no_mangle)]
-pub extern "C" fn curve_windows(
+pub fn curve_windows(
     s: &[i32],
     w: usize,
     d: u32,
@@ -214,8 +211,7 @@ pub extern "C" fn curve_windows(
     at
 }
 
-#[unsafe(no_mangle)]
-pub extern "C" fn curve_root(y: u64) -> u64
+pub fn curve_root(y: u64) -> u64
     ensures { result ≡ root y }
 {
     root(y)
