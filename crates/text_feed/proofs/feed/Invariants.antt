@@ -1,7 +1,6 @@
 -- `feed`. The invariant: what is kept after i bytes holds what the automaton has been told (`Sofar`). The measure is what is left of the piece.
-use Rattle.meaning_numbers.proofs.Prelude.{◌≡◌, sym, ◌∙◌, ◌-◌, rules, length, w64, to_z, of_z, to_z-of_z}
-use Rattle.text_feed.proofs as own
-use own.FeedLaws.{Sofar, sofar-start, sofar-to, sofar-value, sofar-ended, sofar-refuse, comes-failed, comes-going}
+use Rattle.meaning_numbers.proofs.Prelude.{◌-◌, length}
+use Rattle.text_feed.proofs.FeedLaws.{Sofar}
 use Rattle.text_feed.proofs.feed.Given as goal
 
 abbrev pub invariant-loop-i : goal.invariant-loop-i
