@@ -68,6 +68,7 @@ pub enum Moved {
     Refuse,
 }
 
+#[tactic(auto, unfolding(crate::specs::Step::word, meaning_text::specs::Bytes::bytes))]
 fn word_byte(w: Word, k: usize) -> u8
     ensures { result ≡ get_or (word w) k 0 }
 {
@@ -86,6 +87,7 @@ fn word_byte(w: Word, k: usize) -> u8
     }
 }
 
+#[tactic(auto, unfolding(crate::specs::Step::word, meaning_text::specs::Bytes::bytes))]
 fn word_length(w: Word) -> usize
     ensures { result ≡ length (word w) }
 {
@@ -105,6 +107,7 @@ fn word_length(w: Word) -> usize
 }
 
 // The state behind a word.
+#[tactic(auto, unfolding(crate::specs::Step::behind))]
 fn word_end(w: Word) -> State
     ensures { result ≡ behind w }
 {
@@ -124,6 +127,7 @@ fn word_end(w: Word) -> State
 }
 
 // What may come behind a number.
+#[tactic(auto, unfolding(crate::specs::Step::turn_after))]
 fn number_end(p: Field) -> Turn
     ensures { result ≡ turn_after p }
 {
@@ -139,6 +143,7 @@ fn number_end(p: Field) -> Turn
 }
 
 // The only word that could begin with the byte.
+#[tactic(auto, unfolding(crate::specs::Step::pick))]
 fn picked(t: Turn, b: u8) -> Word
     ensures { result ≡ pick t b }
 {
@@ -174,6 +179,7 @@ fn arrive(w: Word, k: usize, b: u8) -> Reached
 }
 
 // Byte k of the word ends a row.
+#[tactic(auto, unfolding(crate::specs::Step::closes))]
 fn ends_row(w: Word, k: usize) -> bool
     ensures { result ≡ closes w k }
 {
@@ -240,6 +246,7 @@ fn step_number(p: Field, n: Numeral, b: u8) -> Moved
 }
 
 // What the byte b does to a text.
+#[tactic(auto, unfolding(crate::specs::Step::index_step))]
 pub fn index_step(s: State, b: u8) -> Moved
     requires { GoodState s }
     ensures { result ≡ index_step s b }
