@@ -16,8 +16,8 @@ target = top / "crates" / "meaning_entries" / "proofs" / "Vectors.antt"
 
 HEAD = """\
 -- Cases from files: made by tests/make_cases.py from tests/vectors, and not edited by hand.
-use Rattle·meaning_numbers.proofs.Prelude.{Bool, List, [], _∷_}
-use Rattle·meaning_entries·proofs.proofs.Row.{prints, audits, extends}
+use Rattle.meaning_numbers.proofs.Prelude.{Bool, List, [], ◌∷◌}
+use Rattle.meaning_entries.proofs.Row.{prints, audits, extends}
 
 unfoldable pub vectors : List Bool
 vectors =
