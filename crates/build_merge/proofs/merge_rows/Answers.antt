@@ -1,0 +1,27 @@
+-- A turn reads the next record, joins it to the group or closes the group, and writes the group's record to its place.
+use Rattle.meaning_numbers.proofs.Prelude.{rules, ◌<◌, length, arith}
+use Rattle.build_merge.proofs.Turn.{started, last_fits, ended, in_rows, able, in_place, turned}
+use Rattle.build_merge.proofs.merge_rows.Goals as goal
+
+pub loop-i-init : goal.loop-i-init
+loop-i-init c = started _ _ _ _ _ c.requires c.first_group-m.ensures
+
+pub merge_row-m-requires : goal.merge_row-m-requires
+merge_row-m-requires c = able _ _ _ _ _ c.requires c.loop-i.invariant c.loop-i-test.true
+
+pub offset_bounds-rows-k : goal.offset_bounds-rows-k
+offset_bounds-rows-k c =
+    let below : c.merge_row-m.result.place < length c.args.rows.now = in_place _ _ _ _ _ c.requires c.loop-i.invariant c.loop-i-test.true c.merge_row-m.ensures c.loop-i.auto.rows in
+    search rules
+
+pub bounds-rows-k : goal.bounds-rows-k
+bounds-rows-k c = omega (arith, in_place _ _ _ _ _ c.requires c.loop-i.invariant c.loop-i-test.true c.merge_row-m.ensures c.loop-i.auto.rows)
+
+pub loop-i-preserved : goal.loop-i-preserved
+loop-i-preserved c = turned _ _ _ _ _ c.requires c.loop-i.invariant c.loop-i-test.true c.merge_row-m.ensures
+
+pub overflow_add-result : goal.overflow_add-result
+overflow_add-result c = omega (arith, last_fits _ _ _ _ _ c.requires c.loop-i.invariant)
+
+pub returns : goal.returns
+returns c = ended _ _ _ _ _ c.requires c.loop-i.invariant c.loop-i-test.false
