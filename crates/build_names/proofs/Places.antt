@@ -27,6 +27,16 @@ module _ (s : List ℤ) (w e : ℕ) (rows : List Row) (count : ℕ) where
   unfolding name_for name_at row_in
   named-is at h l = rw (sum_is at h l)
 
+  -- where a window begins a run, with the names before and at it
+  pub record Underway (left₀ right₀ : List ℕ) (at : Window) (before name : ℕ) (left right : List ℕ) : Type 0 where
+    pub naming : Naming row n count at.offset left right
+    pub below : at.offset ≤ n
+    pub level-is : at.level ≡ level s w e at.offset
+    pub before-is : before ≡ name_before row n at.offset
+    pub name-is : name ≡ name_at row n at.offset
+    pub long-left : length left ≡ length left₀
+    pub long-right : length right ≡ length right₀
+
   module _ (left₀ right₀ : List ℕ) (u : Unnamed s w e rows count left₀ right₀) where
     -- a row's name is small
     small-name : (j : ℕ) → name_at row n j ≤ 4294967295
@@ -40,16 +50,6 @@ module _ (s : List ℤ) (w e : ℕ) (rows : List Row) (count : ℕ) where
     small-before zero = omega arith
     small-before (suc j) = small-name j
 
-    -- where a window begins a run, with the names before and at it
-    pub record Underway (at : Window) (before name : ℕ) (left right : List ℕ) : Type 0 where
-      pub naming : Naming row n count at.offset left right
-      pub below : at.offset ≤ n
-      pub level-is : at.level ≡ level s w e at.offset
-      pub before-is : before ≡ name_before row n at.offset
-      pub name-is : name ≡ name_at row n at.offset
-      pub long-left : length left ≡ length left₀
-      pub long-right : length right ≡ length right₀
-
     pub nameable : (at : Window) → at.offset ≤ n → at.level ≡ level s w e at.offset → Nameable rows count w e at
     nameable at b l = record {
       climbs = range-climbs (window_sum s w) n rows count u.ranges.ranged;
@@ -61,7 +61,7 @@ module _ (s : List ℤ) (w e : ℕ) (rows : List Row) (count : ℕ) where
       few = u.few;
     }
 
-    pub underway-start : (at : Window) → at ≡ place_from s w e 0 → Underway at 0 (named at) left₀ right₀
+    pub underway-start : (at : Window) → at ≡ place_from s w e 0 → Underway left₀ right₀ at 0 (named at) left₀ right₀
     unfolding name_before
     underway-start at q = rw q (record {
       naming = naming-start row n count left₀ right₀ u.zeros u.in_left u.in_right;
@@ -73,7 +73,7 @@ module _ (s : List ℤ) (w e : ℕ) (rows : List Row) (count : ℕ) where
       long-right = refl;
     })
 
-    module _ (at : Window) (before name : ℕ) (left right : List ℕ) (z : Underway at before name left right) where
+    module _ (at : Window) (before name : ℕ) (left right : List ℕ) (z : Underway left₀ right₀ at before name left right) where
       abbrev j : ℕ
       j = at.offset
 
@@ -161,7 +161,7 @@ module _ (s : List ℤ) (w e : ℕ) (rows : List Row) (count : ℕ) where
               rw (q, lt-ltb k n b) (name-row ∙ ap (λ (x : ℕ). x + 1) (sym (run.same k (omega arith) (omega (arith, run.ahead)))))
 
           pub underway-turn : (left' right' : List ℕ) → left' ≡ set left (here.first + written here right) before → right' ≡ file_right right here.first here.runs (written here right) after
-              → Underway next name after left' right'
+              → Underway left₀ right₀ next name after left' right'
           underway-turn left' right' el er =
               let g = naming-run row n count j next.offset run home left right z.naming in
               record {

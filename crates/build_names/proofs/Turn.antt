@@ -12,7 +12,7 @@ use Rattle.build_names.proofs.Places.{Underway, nameable, underway-start, underw
 
 module _ (ss : List ℤ) (w e : ℕ) (rows : List Row) (n : ℕ) (ls ks : List ℕ) (asked : Unnamed ss w e rows n ls ks) where
   abbrev pub Way : Window → ℕ → ℕ → List ℕ → List ℕ → Type 0
-  Way = Underway ss w e rows n ls ks asked
+  Way = Underway ss w e rows n ls ks
 
   pub first-nameable : {p : Window} → p ≡ place_from ss w e 0 → Nameable rows n w e p
   first-nameable q = rw q (nameable ss w e rows n ls ks asked _ (omega arith) refl)
