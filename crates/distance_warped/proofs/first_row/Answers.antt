@@ -45,18 +45,5 @@ loop-j-preserved c =
       omega (arith, told c, small c 0 j),
     )
 
--- a turn
-module _ (l : goal.After-loop-j) where
-
-  abbrev S' : ℕ → ℤ
-  S' = stretch l.args.s.now l.args.from
-
-  abbrev Q' : ℕ → ℤ
-  Q' = at l.args.q.now
-
-  small' : (x y : ℕ) → cost (S' x) (Q' y) ≤ 400000000
-  small' x y = cost-le (l.requires.all_in.0.at _) (l.requires.all_in.1.at _)
-
 pub returns : goal.returns
-returns c =
-    first-end (S' c) (Q' c) _ _ _ _ (omega arith) c.loop-j.invariant.3
+returns c = first-end (stretch c.args.s.now c.args.from) (at c.args.q.now) _ _ _ _ (omega arith) c.loop-j.invariant.3

@@ -7,8 +7,28 @@ use Rattle.distance_warped.proofs as own
 use own.Rows.{halfway-more}
 use Rattle.distance_warped.proofs.next_row.Goals as goal
 
+pub loop-j-init : goal.loop-j-init
+loop-j-init c =
+    let S = stretch c.args.s.now _ in
+    let Q = at c.args.q.now in
+    let i = c.args.i in
+    let b = c.args.b in
+    let e : c.monus-lo.result ≡ i + 1 - b = omega arith in
+    (omega arith, omega arith, refl, search rules, rw e (row-start S Q b i _ _ (omega arith) (omega arith) c.requires.row_is), c.requires.row_is.at _ (omega arith), rw e (sym (low-new S Q b i _ (omega arith))), search rules)
+
+pub cell-left-requires : goal.cell-left-requires
+cell-left-requires c =
+    let all = c.requires.all_in in
+    let S = stretch c.args.s.now c.args.from in
+    let Q = at c.args.q.now in
+    record {
+      left_le_big = omega (arith, c.loop-j.invariant.6, before-le S Q c.args.b (λ x y. cost-le (all.0.at _) (all.1.at _)) (c.args.i + 1) c.loop-j.j (omega arith));
+      in_limits = in-arg (all.0.at _);
+      in_limits_2 = in-arg (all.1.at _);
+    }
+
 -- a turn
-module _ (l : goal.After-slice_known-2-1) where
+module _ (l : goal.After-lesser-least) where
 
   abbrev S : ℕ → ℤ
   S = stretch l.args.s.now l.args.from
@@ -19,43 +39,7 @@ module _ (l : goal.After-slice_known-2-1) where
   small : (x y : ℕ) → cost (S x) (Q y) ≤ 400000000
   small x y = cost-le (l.requires.all_in.0.at _) (l.requires.all_in.1.at _)
 
-pub loop-j-init : goal.loop-j-init
-loop-j-init c =
-    let S = stretch c.args.s.now _ in
-    let Q = at c.args.q.now in
-    let i = c.args.i in
-    let b = c.args.b in
-    let e : c.monus-lo.result ≡ i + 1 - b = omega arith in
-    (omega arith, omega arith, refl, search rules, rw e (row-start S Q b i _ _ (omega arith) (omega arith) c.requires.row_is), c.requires.row_is.at _ (omega arith), rw e (sym (low-new S Q b i _ (omega arith))), search rules)
-
--- a turn
-module _ (l : goal.After-slice_known-in-loop-j-1) where
-
-  abbrev S' : ℕ → ℤ
-  S' = stretch l.args.s.now l.args.from
-
-  abbrev Q' : ℕ → ℤ
-  Q' = at l.args.q.now
-
-  small' : (x y : ℕ) → cost (S' x) (Q' y) ≤ 400000000
-  small' x y = cost-le (l.requires.all_in.0.at _) (l.requires.all_in.1.at _)
-
-pub cell-left-requires : goal.cell-left-requires
-cell-left-requires c = record { left_le_big = omega (arith, c.loop-j.invariant.6, before-le (S' c) (Q' c) c.args.b (small' c) (c.args.i + 1) c.loop-j.j (omega arith)); in_limits = in-arg (c.requires.all_in.0.at _); in_limits_2 = in-arg (c.requires.all_in.1.at _) }
-
--- a turn
-module _ (l : goal.After-lesser-least) where
-
-  abbrev S'' : ℕ → ℤ
-  S'' = stretch l.args.s.now l.args.from
-
-  abbrev Q'' : ℕ → ℤ
-  Q'' = at l.args.q.now
-
-  small'' : (x y : ℕ) → cost (S'' x) (Q'' y) ≤ 400000000
-  small'' x y = cost-le (l.requires.all_in.0.at _) (l.requires.all_in.1.at _)
-
-told : (c : goal.After-lesser-least) → c.cell-left.result ≡ cells (S'' c) (Q'' c) c.args.b (c.args.i + 1) c.loop-j.j
+told : (c : goal.After-lesser-least) → c.cell-left.result ≡ cells (S c) (Q c) c.args.b (c.args.i + 1) c.loop-j.j
 told c =
     let i = c.args.i in
     let j = c.loop-j.j in
@@ -64,8 +48,8 @@ told c =
       arith,
       c.cell-left.ensures,
       cost-back (c.requires.all_in.0.at (c.args.from + (i + 1))) (c.requires.all_in.1.at j),
-      next-cell (S'' c) (Q'' c) c.args.b (small'' c) i j (omega arith) (record { first = omega arith; second = omega arith }),
-      v.4.rest (j + 1) (omega arith) (omega arith) ∙ before_more big ((cells (S'' c) (Q'' c) c.args.b) i) j,
+      next-cell (S c) (Q c) c.args.b (small c) i j (omega arith) (record { first = omega arith; second = omega arith }),
+      v.4.rest (j + 1) (omega arith) (omega arith) ∙ before_more big ((cells (S c) (Q c) c.args.b) i) j,
       v.5,
       v.6,
     )
@@ -83,22 +67,10 @@ loop-j-preserved c =
       halfway-more _ v.4 here new,
       v.4.rest (j + 1) (omega arith) (omega arith),
       new ∙ sym (before_more big _ j),
-      rw c.lesser-least.ensures (least_more (S'' c) (Q'' c) _ (small'' c) (c.args.i + 1) _ j _ _ new v.7),
+      rw c.lesser-least.ensures (least_more (S c) (Q c) _ (small c) (c.args.i + 1) _ j _ _ new v.7),
     )
-
--- a turn
-module _ (l : goal.After-loop-j) where
-
-  abbrev S''' : ℕ → ℤ
-  S''' = stretch l.args.s.now l.args.from
-
-  abbrev Q''' : ℕ → ℤ
-  Q''' = at l.args.q.now
-
-  small''' : (x y : ℕ) → cost (S''' x) (Q''' y) ≤ 400000000
-  small''' x y = cost-le (l.requires.all_in.0.at _) (l.requires.all_in.1.at _)
 
 pub returns : goal.returns
 returns c =
     let v = c.loop-j.invariant in
-    record { row_is_2 = row-end (S''' c) (Q''' c) _ _ _ _ _ (omega arith) v.4; least_of = record { at = λ j u n. v.7 j (omega arith) (omega arith) } }
+    record { row_is_2 = row-end (stretch c.args.s.now c.args.from) (at c.args.q.now) _ _ _ _ _ (omega arith) v.4; least_of = record { at = λ j u n. v.7 j (omega arith) (omega arith) } }

@@ -6,23 +6,23 @@ use own.{Back.z-fits32, Row.row_up, Row.row-down}
 use Rattle.numbers.proofs.row_number.Goals as goal
 
 -- the sum, and -1 less it, as the machine reads them
-abbrev z : goal.After-quotient-k → ℤ
-z c = to_z w32 (of_z w32 c.args.sum)
+abbrev z : ℤ → ℤ
+z x = to_z w32 (of_z w32 x)
 
-abbrev y : goal.After-quotient-k → ℤ
-y c = to_z w32 (of_z w32 (negsuc 0 -ℤ z c))
+abbrev y : ℤ → ℤ
+y x = z (negsuc 0 -ℤ z x)
 
 module _ (c : goal.After-quotient-k) where
-  fits : SFits w32 (negsuc 0 -ℤ z c)
-  fits = omega (zmach32, z-sub (negsuc 0) (z c), z-fits32 c.ranges.sum)
+  fits : SFits w32 (negsuc 0 -ℤ z c.args.sum)
+  fits = omega (zmach32, z-sub (negsuc 0) (z c.args.sum), z-fits32 c.ranges.sum)
 
-  same : c.args.sum ≡ negsuc (nat_abs (y c))
-  same = let f = fits in omega (zmach32, z-sub (negsuc 0) (z c), z-abs (y c))
+  same : c.args.sum ≡ negsuc (nat_abs (y c.args.sum))
+  same = let f = fits in omega (zmach32, z-sub (negsuc 0) (z c.args.sum), z-abs (y c.args.sum))
 
   small : c.quotient-k.result < 2147483648
   small =
       let f = fits in
-      omega (zmach32, z-sub (negsuc 0) (z c), z-abs (y c), z-fits32 c.ranges.sum, c.quotient-k.ensures, div-le_self (nat_abs (y c)) c.args.width)
+      omega (zmach32, z-sub (negsuc 0) (z c.args.sum), z-abs (y c.args.sum), z-fits32 c.ranges.sum, c.quotient-k.ensures, div-le_self (nat_abs (y c.args.sum)) c.args.width)
 
 pub returns-then-sum-lt0 : goal.returns-then-sum-lt0
 returns-then-sum-lt0 c =
@@ -31,16 +31,12 @@ returns-then-sum-lt0 c =
     rw (row-down c.args.width (same c), sym c.quotient-k.ensures)
     (omega (zmach32, z-sub (negsuc 0) (to_z w32 c.quotient-k.result), z-cast32 c.quotient-k.result (small c)))
 
--- the sum, and -1 less it, as the machine reads them
-abbrev z' : goal.After-quotient → ℤ
-z' c = to_z w32 (of_z w32 c.args.sum)
-
 module _ (c : goal.After-quotient) where
-  up_same : c.args.sum ≡ pos (nat_abs (z' c))
-  up_same = omega (zmach32, z-abs (z' c))
+  up_same : c.args.sum ≡ pos (nat_abs (z c.args.sum))
+  up_same = omega (zmach32, z-abs (z c.args.sum))
 
   up_small : c.quotient.result < 2147483648
-  up_small = omega (zmach32, z-abs (z' c), z-fits32 c.ranges.sum, div-le_self (nat_abs (z' c)) c.args.width)
+  up_small = omega (zmach32, z-abs (z c.args.sum), z-fits32 c.ranges.sum, div-le_self (nat_abs (z c.args.sum)) c.args.width)
 
 pub returns : goal.returns
 returns c =
