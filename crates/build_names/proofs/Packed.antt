@@ -32,7 +32,7 @@ record-at n k (s ∷ l) zero h =
     ap (λ r. get_or r 0 zero_row) (records-first n k s l) ∙ ap (λ f. record_of n f s) e
 record-at n k (s ∷ l) (suc i) h =
     let e : k + run_count s.has n + Σℕ i (λ x. run_count (nth l x).has n) ≡ k + Σℕ (suc i) (λ x. run_count (nth (s ∷ l) x).has n) = omega (arith, Σℕ-shift i (λ x. run_count (nth (s ∷ l) x).has n)) in
-    ap (λ r. get_or r (suc i) zero_row) (records-first n k s l) ∙ record-at n _ l i (omega arith) ∙ rw e
+    ap (λ r. get_or r (suc i) zero_row) (records-first n k s l) ∙ record-at n (k + run_count s.has n) l i (omega arith) ∙ rw e
 
 runs-total : (n : ℕ) (l : List SetRow) → length (all_runs (map (with_runs n) l)) ≡ Σℕ (length l) (λ x. run_count (nth l x).has n)
 unfolding all_runs with_runs Σℕ
