@@ -1,7 +1,5 @@
 -- `find_above`. The invariant: the ends before lo are at most the number, and those from hi on are above it.
-use Rattle.meaning_numbers.proofs.Prelude.{sym, ℕ, ◌+◌, ◌-◌, ◌/◌, ◌≤◌, ◌<◌, arith, get_or}
-use Rattle.extend_count.proofs as own
-use own.Rank.{rank_is}
+use Rattle.meaning_numbers.proofs.Prelude.{ℕ, ◌-◌, ◌≤◌, ◌<◌, get_or}
 use Rattle.extend_count.proofs.find_above.Given as goal
 
 abbrev pub invariant-loop-lo : goal.invariant-loop-lo
