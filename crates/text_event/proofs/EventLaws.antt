@@ -22,7 +22,7 @@ module _ {T : Type 0} (tell : Field → ℤ → T → T) (text : List ℕ) (P : 
   row_keeps {i} {low} {up} {l} {r} {j} t v k =
       run-keeps _ v.run (value_keeps _ v.row.upper (value_keeps t v.row.lower k))
 
-  pub runs-keeps : {t u : T} {i j : ℕ} → RunsFrom tell text t i u j → P at_runs t i → P at_runs u j
+  pub runs-keeps : {t : T} {i : ℕ} {u : T} {j : ℕ} → RunsFrom tell text t i u j → P at_runs t i → P at_runs u j
   runs-keeps none k = k
   runs-keeps (one {u} m v) k = run-keeps u v (runs-keeps m k)
 
@@ -38,7 +38,7 @@ value-up v = (omega (arith, quiet-up v.quiet, v.next), omega arith)
 pub run_up : {text : List ℕ} {s : State} {i : ℕ} {l r : ℤ} {j : ℕ} → RunAt text s i l r j → (i < j) × (j ≤ length text)
 run_up v = let a = value-up v.left in let b = value-up v.right in (omega arith, b.1)
 
-pub runs_up : {T : Type 0} {tell : Field → ℤ → T → T} {text : List ℕ} {t u : T} {i j : ℕ} → RunsFrom tell text t i u j → i ≤ length text → (i ≤ j) × (j ≤ length text)
+pub runs_up : {T : Type 0} {tell : Field → ℤ → T → T} {text : List ℕ} {t : T} {i : ℕ} {u : T} {j : ℕ} → RunsFrom tell text t i u j → i ≤ length text → (i ≤ j) × (j ≤ length text)
 runs_up none h = (omega arith, h)
 runs_up (one m v) h = let a = runs_up m h in let b = run_up v in (omega arith, b.1)
 

@@ -77,7 +77,7 @@ end-last = refl
 
 -- ---- a byte before others
 
-quiet-before : {text : List ℕ} {s m n : State} {i j : ℕ} → i < length text → index_step s (get_or text i 0) ≡ Moved.To m → Quiet text m (i + 1) n j → Quiet text s i n j
+quiet-before : {text : List ℕ} {i : ℕ} {s m n : State} {j : ℕ} → i < length text → index_step s (get_or text i 0) ≡ Moved.To m → Quiet text m (i + 1) n j → Quiet text s i n j
 quiet-before h e still = more still h e
 quiet-before h e (more q k f) = more (quiet-before h e q) k f
 

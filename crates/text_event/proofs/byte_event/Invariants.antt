@@ -1,8 +1,7 @@
 -- `byte_event`. The invariant: the bytes so far say nothing. The measure is what is left of the text.
-use Rattle.meaning_numbers.proofs.Prelude.{refl, sym, ◌∙◌, ◌-◌, rules, length, w64, to_z-of_z}
+use Rattle.meaning_numbers.proofs.Prelude.{◌-◌, length}
 use Rattle.text_index.specs.Step.{GoodState}
-use Rattle.text_index.proofs.View.{step-good}
-use Rattle.text_event.specs.Event.{Quiet, still, more}
+use Rattle.text_event.specs.Event.{Quiet}
 use Rattle.text_event.proofs.byte_event.Given as goal
 
 abbrev pub invariant-loop-i : goal.invariant-loop-i

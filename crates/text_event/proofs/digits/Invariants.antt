@@ -1,10 +1,9 @@
 -- `digits`. The invariant: the digits so far say nothing, and their number is below the bound for so many (`top`). The measure is how many may still come.
-use Rattle.meaning_numbers.proofs.Prelude.{◌+◌, ◌-◌, ◌<◌, ◌≤◌, arith, rules, length}
+use Rattle.meaning_numbers.proofs.Prelude.{◌+◌, ◌-◌, ◌<◌, ◌≤◌}
 use Rattle.text_numbers.specs.declared.Numeral.{Numeral}
 use Rattle.text_index.specs.{declared.Field.Field, declared.State.State}
 use Rattle.text_event.specs.Event.{Quiet}
-use Rattle.text_event.proofs as own
-use own.Steps.{still-here, more-here, next-digit, next-less, top, top-more, top-most, digits-told}
+use Rattle.text_event.proofs.Steps.{top}
 use Rattle.text_event.proofs.digits.Given as goal
 
 abbrev pub invariant-loop-k : goal.invariant-loop-k

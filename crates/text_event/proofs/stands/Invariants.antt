@@ -1,7 +1,5 @@
 -- `stands`. The invariant: the first k bytes of the word are there. The measure is how many are left.
-use Rattle.meaning_numbers.proofs.Prelude.{◌≡◌, refl, false≢true, ℕ, ◌+◌, ◌-◌, ◌<◌, ◌≤◌, arith, length, get_or, rules}
-use Rattle.text_event.proofs as own
-use own.Words.{stands-byte, stands-all, same_more}
+use Rattle.meaning_numbers.proofs.Prelude.{◌≡◌, ℕ, ◌+◌, ◌-◌, ◌<◌, ◌≤◌, length, get_or}
 use Rattle.text_event.proofs.stands.Given as goal
 
 abbrev pub invariant-loop-k : goal.invariant-loop-k

@@ -1,0 +1,7 @@
+-- `number_and_blank`: a number, and a blank.
+use Rattle.meaning_text.specs.Bytes.{bytes}
+use Rattle.text_event.proofs.number_and_blank.Goals as goal
+
+pub returns : goal.returns
+unfolding bytes
+returns c = λ h. record { number = c.number_at-q.ensures h; blank = c.stands.ensures.0 c.if-not-stands.false }
