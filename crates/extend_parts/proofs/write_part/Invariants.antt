@@ -1,8 +1,5 @@
 -- `write_part`. The invariant: the first numbers are copied (`paste-suc`).
-use Rattle.meaning_numbers.proofs.Prelude.{◌≡◌, ap, ◌∙◌, ◌-◌, ◌≤◌, arith, length, get_or, set, length-set, paste, paste-zero, length-paste, lt-ltb, le-ltb}
-use Rattle.extend_parts.specs.Copy.{written}
-use Rattle.extend_parts.proofs as own
-use own.Copy.{paste_more}
+use Rattle.meaning_numbers.proofs.Prelude.{◌≡◌, ◌-◌, ◌≤◌, paste}
 use Rattle.extend_parts.proofs.write_part.Given as goal
 
 abbrev pub invariant-loop-t : goal.invariant-loop-t
