@@ -4,7 +4,7 @@ use Rattle.meaning_curves.specs.Curve.{window_sum}
 use Rattle.meaning_rows.specs.{declared.Row.Row, declared.Head.Head, Range.inside, Index.Index, Index.lent, Index.runs_of, Judge.runs_good, Audit.offsets, Audit.wrong_in, Audit.wrong_from, Audit.sums, Audit.first_wrong}
 use Rattle.meaning_rows.proofs.{Judge.GoodRow, Judge.WellFormed, Judge.runs-good, Judge.row_at, Grown.length-entries}
 use Rattle.rows_records.specs.Records.{zero_row, chunk_of}
-use Rattle.rows_records.proofs.{Walk.drop-next, Chunk.chunk-at, Chunk.chunk-length}
+use Rattle.rows_records.proofs.{Rest.drop-next, Chunk.chunk-at, Chunk.chunk-length}
 use Rattle.rows_judge.proofs.Scan.{part, part-next}
 use Rattle.entry_audit.specs.Auditing.{Reads, only_runs, wrong_of}
 

@@ -5,7 +5,7 @@ use Rattle.meaning_numbers.proofs.Prelude.{◌≡◌, refl, sym, ap, ◌∙◌, 
 use Rattle.meaning_curves.specs.Curve.{window_sum}
 use Rattle.meaning_rows.specs.{declared.Row.Row, declared.Head.Head, Range.inside, Audit.offsets, Audit.wrong_in, Audit.wrong_from}
 use Rattle.rows_records.specs.Records.{zero_row}
-use Rattle.rows_records.proofs.Walk.{drop-next}
+use Rattle.rows_records.proofs.Rest.{drop-next}
 use Rattle.rows_judge.proofs.Scan.{part, part-next, part_none}
 use Rattle.entry_audit.specs.{declared.RowsAudited.RowsAudited, Auditing.found, Auditing.wrong_of, Auditing.chunked}
 

@@ -1,16 +1,13 @@
 -- `audit_chunk`. The invariant of each loop: what is filed wrongly first among what is left to audit is what is filed wrongly first in the chunk, and nothing is filed wrongly so far; of the innermost loop, besides, that the part is the sum of the offset's window but for its last value.
 -- The measures are how many rows, runs and offsets are left.
-use Rattle.meaning_numbers.proofs.Prelude.{rules, not-true, not-false, ◌≡◌, sym, ◌∙◌, true, List, Option, none, ℕ, ◌+◌, ◌-◌, ◌<◌, ◌≤◌, arith, length, get_or, drop, w32, to_z, of_z, to_z-of_z, ℤ}
+use Rattle.meaning_numbers.proofs.Prelude.{◌≡◌, ◌+◌, ◌-◌, ◌≤◌, drop}
 use Rattle.meaning_curves.specs.Curve.{window_sum}
-use Rattle.meaning_rows.specs.{declared.Row.Row, Range.inside}
-use Rattle.rows_records.specs.Records.{zero_row}
-use Rattle.entry_audit.specs.Auditing.{Reads, Ready, wrong_of}
-use Rattle.entry_audit.proofs as own
-use own.Turn.{chunk-off, chunk-found, still-found, wrong-found, Still, in_runs, in_offsets, later, row-begins, row_ends, run-begins, run_ends, filed-right, filed-wrong, none_left}
+use Rattle.entry_audit.specs.Auditing.{wrong_of}
+use Rattle.entry_audit.proofs.Turn.{Still, in_runs, in_offsets, later}
 use Rattle.entry_audit.proofs.audit_chunk.Given as goal
 
 abbrev pub invariant-offsets : goal.invariant-offsets
-invariant-offsets l = (l.j ≤ l.last + 1) × Still l.go l.row l.offset × (to_z w32 l.part ≡ window_sum l.series l.rest l.j) × (in_offsets l.series l.w l.left l.right (l.from + l.k) l.r l.j l.last (l.i + 1) l.end (later l.series l.w l.left l.right l.from l.chunk l.k) ≡ wrong_of l.series l.w l.left l.right l.from l.chunk)
+invariant-offsets l = (l.j ≤ l.last + 1) × Still l.go l.row l.offset × (l.part ≡ window_sum l.series l.rest l.j) × (in_offsets l.series l.w l.left l.right (l.from + l.k) l.r l.j l.last (l.i + 1) l.end (later l.series l.w l.left l.right l.from l.chunk l.k) ≡ wrong_of l.series l.w l.left l.right l.from l.chunk)
 
 abbrev pub decreases-offsets : goal.decreases-offsets
 decreases-offsets l = l.last + 1 - l.j
