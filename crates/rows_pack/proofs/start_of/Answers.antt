@@ -1,5 +1,5 @@
 -- `start_of` meets its contract.
-use Rattle.meaning_numbers.proofs.Prelude.{rules, eq-eqb, ne_eqb}
+use Rattle.meaning_numbers.proofs.Prelude.{eq-eqb, ne_eqb}
 use Rattle.rows_pack.specs.Packed.{start_of}
 use Rattle.rows_pack.proofs.start_of.Goals as goal
 

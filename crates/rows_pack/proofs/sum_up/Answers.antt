@@ -1,6 +1,6 @@
 use Rattle.meaning_numbers.proofs.Sum.{Σℕ-none, Σℕ-more, Σℕ-fewer}
-use Rattle.meaning_numbers.proofs.Prelude.{◌≡◌, sym, ◌∙◌, ℕ, ◌+◌, ◌-◌, ◌≤◌, ◌<◌, arith, length, get_or}
-use Rattle.rows_pack.specs.Packed.{total, Summed}
+use Rattle.meaning_numbers.proofs.Prelude.{◌≡◌, sym, ◌∙◌, ℕ, ◌+◌, ◌≤◌, ◌<◌, arith, length, get_or}
+use Rattle.rows_pack.specs.Packed.{total}
 use Rattle.rows_pack.proofs as own
 use own.Packed.{summed-start, summed-more}
 use Rattle.rows_pack.proofs.sum_up.Goals as goal

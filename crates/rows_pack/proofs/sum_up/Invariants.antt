@@ -1,9 +1,6 @@
 -- `sum_up`. The invariant: the counts passed are sums, and the sum so far is theirs (`summed-more`).
-use Rattle.meaning_numbers.proofs.Sum.{Σℕ-none, Σℕ-more, Σℕ-fewer}
-use Rattle.meaning_numbers.proofs.Prelude.{◌≡◌, sym, ◌∙◌, ℕ, ◌+◌, ◌-◌, ◌≤◌, ◌<◌, arith, length, get_or}
+use Rattle.meaning_numbers.proofs.Prelude.{◌≡◌, ◌-◌, ◌≤◌}
 use Rattle.rows_pack.specs.Packed.{total, Summed}
-use Rattle.rows_pack.proofs as own
-use own.Packed.{summed-start, summed-more}
 use Rattle.rows_pack.proofs.sum_up.Given as goal
 
 abbrev pub invariant-loop-i : goal.invariant-loop-i
