@@ -1,5 +1,5 @@
 -- `list_below`, case by case.
-use Rattle.meaning_numbers.proofs.Prelude.{rules, sym, ap, ◌∙◌, arith, ltb, le-ltb}
+use Rattle.meaning_numbers.proofs.Prelude.{sym, ap, ◌∙◌, arith, ltb, le-ltb}
 use Rattle.meaning_filter.specs.{declared.Pick.Pick, Closest.fewest}
 use Rattle.refusals.proofs.list_below.Goals as goal
 

@@ -1,5 +1,4 @@
 -- `normal_flat`, by the kind.
-use Rattle.meaning_numbers.proofs.Prelude.{rules}
 use Rattle.refusals.proofs as own
 use own.Flat.{raw-flat, normal-is-flat}
 use Rattle.refusals.proofs.normal_flat.Goals as goal

@@ -1,6 +1,6 @@
 -- `pick_outside`, case by case.
 use Rattle.meaning_numbers.specs.Order.{within}
-use Rattle.meaning_numbers.proofs.Prelude.{rules, sym, ap}
+use Rattle.meaning_numbers.proofs.Prelude.{sym, ap}
 use Rattle.meaning_entries.specs.Refusal.{pick_outside}
 use Rattle.refusals.proofs.pick_outside.Goals as goal
 

@@ -1,5 +1,4 @@
 -- `refuse_room`: each test is a line of the table (`line_before`).
-use Rattle.meaning_numbers.proofs.Prelude.{rules}
 use Rattle.meaning_entries.specs.Refusal.{buffer_short}
 use Rattle.refusals.proofs as own
 use own.RefusalLaws.{line_before}

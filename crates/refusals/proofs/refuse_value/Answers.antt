@@ -1,5 +1,5 @@
 -- `refuse_value`, by the first value outside.
-use Rattle.meaning_numbers.proofs.Prelude.{rules, ◌≡◌, refl, sym, ap, ◌∙◌, Option, none, some, ℕ}
+use Rattle.meaning_numbers.proofs.Prelude.{◌≡◌, refl, sym, ap, ◌∙◌, Option, none, some, ℕ}
 use Rattle.meaning_curves.specs.Limits.{first_outside}
 use Rattle.values.specs.declared.Place.TheVariants.{At, Nowhere}
 use Rattle.values.specs.{declared.Place.Place, Place.placed}
