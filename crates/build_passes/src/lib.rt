@@ -58,6 +58,29 @@ pub fn merge_some(
     merge_packed(s, w, e, g, rows, n, left, right)
 }
 
+// The rows packed in the first `n` records, of a build of row width `d` without merging, are merged by percentage `g`, and their parts filled; how many rows there are then. The ghost value has `d` and `g`.
+fn merge_and_fill(
+    s: &[i32],
+    w: usize,
+    e: u64,
+    d: u64,
+    g: u64,
+    rows: &mut [Row],
+    n: usize,
+    left: &mut [u32],
+    right: &mut [u32],
+) -> usize
+    ghost p: { ℕ × ℕ }
+    requires numbers { (p.0 ≡ d) × (p.1 ≡ g) }
+    requires asked { MergeAsked d g s.now w e rows.old n left.old right.old }
+    ensures merged { result ≡ length (built s.now w d g).rows }
+    ensures held { Holds d g s.now w (index_buffers rows.old left.old right.old) (index_buffers rows.new left.new right.new) }
+{
+    let k = merge_some(s, w, e, g, rows, n, left, right);
+    fill_rows(s, w, e, rows, k, left, right);
+    k
+}
+
 // The index, merged by percentage `g`; how many rows it has. Sums are raised by `bias` in all.
 pub fn build_rows(
     s: &[i32],
@@ -75,7 +98,5 @@ pub fn build_rows(
         × Holds d g s.now w (index_buffers rows.old left.old right.old) (index_buffers rows.new left.new right.new) }
 {
     let n = lay_rows(s, w, e, d, bias, rows, left, right);
-    let k = merge_some(s, w, e, g, rows, n, left, right);
-    fill_rows(s, w, e, rows, k, left, right);
-    k
+    merge_and_fill(s, w, e, d, g, rows, n, left, right)
 }

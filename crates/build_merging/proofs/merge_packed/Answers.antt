@@ -1,5 +1,5 @@
 -- `merge_packed`: the rows before and after each run are named, and the rows merged by the names.
-use Rattle.meaning_numbers.proofs.Prelude.{◌≡◌, length}
+use Rattle.std.proofs.Common.{◌≡◌, length}
 use Rattle.build_merging.proofs.Standing.{standing-unnamed, rows_of, standing-ready, standing-mergeable}
 use Rattle.build_merging.proofs.merge_packed.Goals as goal
 
