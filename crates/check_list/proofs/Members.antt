@@ -51,7 +51,7 @@ members-reach : (n a : ℕ) (l : List (ℕ × ℕ)) → Apart n a l → Next tru
 unfolding members reach Apart Next
 members-reach n a [] p h = absurd h
 members-reach n a (x ∷ []) p h = rw (longer x.0 x.1 n p.1 h, append-nil _, append-nil _) refl
-members-reach n a (x ∷ y ∷ l) p h = rw (members-reach n _ (y ∷ l) p.3 h) (sym (append_assoc (between x) (members (y ∷ l)) (n ∷ [])))
+members-reach n a (x ∷ y ∷ l) p h = rw (members-reach n (x.1 + 2) (y ∷ l) p.3 h) (sym (append_assoc (between x) (members (y ∷ l)) (n ∷ [])))
 
 members-take_in : (a b : Bool) (l : List (ℕ × ℕ)) (n : ℕ) → Apart n 0 l → Next b l n → members (take_in a b l n) ≡ members l ++ cond a (n ∷ []) []
 unfolding take_in members

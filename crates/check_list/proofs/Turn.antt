@@ -51,14 +51,14 @@ apart-at : (n a : ℕ) (l : List (ℕ × ℕ)) (i : ℕ) → Apart n a l → i <
 unfolding Apart
 apart-at n a [] i p h = absurd (omega arith)
 apart-at n a (x ∷ l) zero p h = (p.1, p.2)
-apart-at n a (x ∷ l) (suc i) p h = apart-at n _ l i p.3 (omega arith)
+apart-at n a (x ∷ l) (suc i) p h = apart-at n (x.1 + 2) l i p.3 (omega arith)
 
 apart-on : (n a : ℕ) (l : List (ℕ × ℕ)) (i : ℕ) → Apart n a l → suc i < length l → (get_or l i (0, 0)).1 + 2 ≤ (get_or l (suc i) (0, 0)).0
 unfolding Apart
 apart-on n a [] i p h = absurd (omega arith)
 apart-on n a (x ∷ []) i p h = absurd (omega arith)
 apart-on n a (x ∷ y ∷ l) zero p h = p.3.0
-apart-on n a (x ∷ y ∷ l) (suc i) p h = apart-on n _ (y ∷ l) i p.3 (omega arith)
+apart-on n a (x ∷ y ∷ l) (suc i) p h = apart-on n (x.1 + 2) (y ∷ l) i p.3 (omega arith)
 
 module _ {n : ℕ} {left right : List ℕ} {runs : ℕ} (lent : RunsLent n left right runs) where
   lent_length : length (lent_runs left right runs) ≡ runs

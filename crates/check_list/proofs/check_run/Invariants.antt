@@ -1,7 +1,7 @@
 -- `check_run`. The invariant is `RunSoFar`, and that the room keeps its length; the measure is how many offsets are left.
-use Rattle.meaning_numbers.proofs.Prelude.{◌≡◌, refl, ◌∙◌, ℕ, ◌+◌, ◌-◌, ◌≤◌, arith, length}
+use Rattle.meaning_numbers.proofs.Prelude.{◌≡◌, ◌+◌, ◌-◌, length}
 use Rattle.check_list.proofs as own
-use own.Turn.{RunSoFar, run-starts, run-next, run_ends}
+use own.Turn.{RunSoFar}
 use Rattle.check_list.proofs.check_run.Given as goal
 
 abbrev pub invariant-loop-j : goal.invariant-loop-j

@@ -1,0 +1,21 @@
+-- `hand_out`: the counts are raised, and the candidates collected.
+use Rattle.meaning_numbers.proofs.Prelude.{◌∙◌, arith}
+use Rattle.meaning_entries.specs.Buffers.{filled}
+use Rattle.clear.specs.Clear.{cleared_from}
+use Rattle.candidate_met.proofs.Meaning.{cleared-same}
+use Rattle.candidate_find.proofs.hand_out.Goals as goal
+
+pub raise_stretches-requires : goal.raise_stretches-requires
+unfolding filled cleared_from
+raise_stretches-requires c = rw c.clear_u16.ensures c.requires.stretches
+
+pub returns : goal.returns
+returns c =
+    let told = c.tell_sought.ensures in
+    record {
+      counts = c.raise_stretches.new.scratch;
+      goes_on = rw told;
+      counted = c.raise_stretches.ensures;
+      handed = rw told c.collect-c.ensures.0;
+      cleared = c.collect-c.ensures.1 ∙ cleared-same c.raise_stretches.new.scratch c.args.scratch.now (omega (arith, c.raise_stretches.auto.scratch, c.clear_u16.auto.scratch));
+    }
