@@ -1,5 +1,4 @@
 -- `refuse_build`: each test is a line of the table.
-use Rattle.meaning_numbers.proofs.Prelude.{rules}
 use Rattle.meaning_entries.specs.Refusal.{window_outside, width_outside, merge_outside}
 use Rattle.refusals.proofs.RefusalLaws.{line_before, series-before}
 use Rattle.build_plan.proofs.refuse_build.Goals as goal
