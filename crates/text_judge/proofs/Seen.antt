@@ -15,13 +15,13 @@ use Rattle.text_judge.specs.{declared.Runs.Runs, declared.Rows.Rows, declared.Ta
 pub runs-more : (W : ℕ) (s : Runs) (l : List Entry) (e : Entry) → runs_from W s (l ++ (e ∷ [])) ≡ run_next W (runs_from W s l) (held e.0) (held e.1)
 unfolding runs_from
 runs-more W s [] e = refl
-runs-more W s (x ∷ l) e = runs-more W _ l e
+runs-more W s (x ∷ l) e = runs-more W (run_next W s (held x.0) (held x.1)) l e
 
 pub rows_more : (h : Head) (s : Rows) (l : List (Value row_form)) (r : Value row_form)
     → rows_from h s (l ++ (r ∷ [])) ≡ row_next h (rows_from h s l) (clamp r.0) (clamp r.1.0) (runs_from h.windows no_runs r.1.1)
 unfolding rows_from
 rows_more h s [] r = refl
-rows_more h s (x ∷ l) r = rows_more h _ l r
+rows_more h s (x ∷ l) r = rows_more h (row_next h s (clamp x.0) (clamp x.1.0) (runs_from h.windows no_runs x.1.1)) l r
 
 -- ---- the view
 

@@ -1,10 +1,7 @@
 -- `tell_runs`. The invariant: the runs so far say what is known (`RunsFrom`), and the counts are small. The measure is what is left of the text.
-use Rattle.meaning_numbers.proofs.Prelude.{◌-◌, ◌≤◌, arith, length, rules}
-use Rattle.text_event.specs.Event.{RunsFrom, none, one}
-use Rattle.text_event.proofs.EventLaws.{run_up}
+use Rattle.meaning_numbers.proofs.Prelude.{◌-◌, ◌≤◌, length}
+use Rattle.text_event.specs.Event.{RunsFrom}
 use Rattle.text_judge.specs.Tally.{tell_tally, Fits}
-use Rattle.text_judge.proofs as own
-use own.Events.{run_fits}
 use Rattle.text_judge.proofs.tell_runs.Given as goal
 
 abbrev pub invariant-loop-tally : goal.invariant-loop-tally
