@@ -1,5 +1,5 @@
 -- `answer_all` (`answer-all`, `answer-full`).
-use Rattle.meaning_numbers.proofs.Prelude.{arith, ap, ◌∙◌}
+use Rattle.meaning_numbers.proofs.Prelude.{ap, ◌∙◌}
 use Rattle.meaning_filter.specs.declared.Pick.{Pick}
 use Rattle.check_answer.specs.Answer.{answer_of}
 use Rattle.check_answer.proofs.AnswerLaws.{answer-all, answer-full}
