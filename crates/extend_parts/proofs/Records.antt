@@ -25,7 +25,7 @@ record-at k [] i h = absurd (omega arith)
 record-at k (r ∷ l) zero h = let e : k ≡ k + Σℕ 0 (size_at (r ∷ l)) = omega (arith, Σℕ-none (size_at (r ∷ l))) in λ j. record { low = r.low; up = r.up; first = e j; runs = length r.runs }
 record-at k (r ∷ l) (suc i) h =
     let e : k + length r.runs + Σℕ i (size_at l) ≡ k + Σℕ (suc i) (size_at (r ∷ l)) = omega (arith, Σℕ-shift i (size_at (r ∷ l))) in
-    record-at _ l i (omega arith) ∙ (λ j. record { low = (get_or l i no_row).low; up = (get_or l i no_row).up; first = e j; runs = size_at l i })
+    record-at (k + length r.runs) l i (omega arith) ∙ (λ j. record { low = (get_or l i no_row).low; up = (get_or l i no_row).up; first = e j; runs = size_at l i })
 
 -- rows, and counts beside them, go with rows with their runs
 pub record Matches (l : List RangeRow) (rows : List Row) (counts : List ℕ) : Type 0 where
