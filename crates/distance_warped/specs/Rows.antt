@@ -7,7 +7,7 @@ use Rattle.std.proofs.Math.Path.{refl, sym}
 use Rattle.std.proofs.Math.Decide.{dec_le}
 use Rattle.std.proofs.Math.Nat.{mul-le-mul_right}
 use native.Mathlib.Omega.{arith}
-use Rattle.meaning_curves.specs.{Straight.cost, Warp.Near, Warp.WarpPath, Warp.first, Warp.second, Table.warped}
+use Rattle.meaning_curves.specs.{Straight.cost, Warp.Near, Warp.WarpPath, Table.warped}
 use Rattle.meaning_curves.proofs.Grid.{grid, coded, path-near, path-small, grid-start, grid-out, grid-top, grid-side, grid-inner, grid-distance}
 use Rattle.meaning_curves.proofs.Table.{All, missing, there, Under, under, attained, least-total}
 

@@ -1,9 +1,8 @@
 -- `envelope_bound`. The invariant: so much of the sum is made. A block adds its part; left early, the total is a part of the bound (`Made`).
-use Rattle.meaning_numbers.specs.Sum.{Σℕ}
-use Rattle.meaning_numbers.proofs.Prelude.{◌≡◌, ℕ, ◌+◌, ◌*◌, ◌-◌, ◌≤◌, arith, length}
+use Rattle.meaning_numbers.proofs.Prelude.{◌≡◌, ◌-◌, ◌≤◌, length}
 use Rattle.meaning_curves.specs.Curve.{at, stretch}
-use Rattle.meaning_filter.proofs.{Bound.apart, Apart.aparts-le}
-use Rattle.numbers.proofs.Blocks.{Made, made_none, made_more, made-left, made-whole}
+use Rattle.meaning_filter.proofs.{Bound.apart}
+use Rattle.numbers.proofs.Blocks.{Made}
 use Rattle.distance_bound.proofs.envelope_bound.Given as goal
 
 abbrev pub invariant-loop-i : goal.invariant-loop-i

@@ -1,8 +1,6 @@
-use Rattle.meaning_numbers.specs.Sum.{Σℕ}
 use Rattle.meaning_numbers.proofs.Sum.{Σℕ-none, Σℕ-more}
-use Rattle.meaning_numbers.proofs.Prelude.{◌≡◌, ◌+◌, ◌*◌, ◌-◌, ◌≤◌, arith}
-use Rattle.meaning_curves.specs.Curve.{at, stretch}
-use Rattle.meaning_filter.proofs.{Bound.apart, Apart.excess-sq-le}
+use Rattle.meaning_numbers.proofs.Prelude.{◌≤◌, arith}
+use Rattle.meaning_filter.proofs.{Apart.excess-sq-le}
 use Rattle.distance_bound.proofs.envelope_part.Goals as goal
 
 pub loop-k-init : goal.loop-k-init

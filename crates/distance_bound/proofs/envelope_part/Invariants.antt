@@ -1,9 +1,8 @@
 -- `envelope_part`. The invariant: the sum so far.
 use Rattle.meaning_numbers.specs.Sum.{Σℕ}
-use Rattle.meaning_numbers.proofs.Sum.{Σℕ-none, Σℕ-more}
-use Rattle.meaning_numbers.proofs.Prelude.{◌≡◌, ◌+◌, ◌*◌, ◌-◌, ◌≤◌, arith}
+use Rattle.meaning_numbers.proofs.Prelude.{◌≡◌, ◌+◌, ◌*◌, ◌-◌, ◌≤◌}
 use Rattle.meaning_curves.specs.Curve.{at, stretch}
-use Rattle.meaning_filter.proofs.{Bound.apart, Apart.excess-sq-le}
+use Rattle.meaning_filter.proofs.{Bound.apart}
 use Rattle.distance_bound.proofs.envelope_part.Given as goal
 
 abbrev pub invariant-loop-k : goal.invariant-loop-k

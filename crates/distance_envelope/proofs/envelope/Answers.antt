@@ -1,5 +1,4 @@
 -- `envelope` (`passes-edge`).
-use Rattle.meaning_numbers.proofs.Prelude.{rules}
 use Rattle.distance_envelope.proofs as own
 use own.Pass.{passes-edge}
 use Rattle.distance_envelope.proofs.envelope.Goals as goal

@@ -1,9 +1,7 @@
 -- `pass_back`. The invariant: the pass is made from the end as far as place i (`BackTo`).
-use Rattle.meaning_numbers.proofs.Prelude.{rules, ◌≡◌, refl, ◌∙◌, ◌-◌, ◌≤◌, min, arith, length, length-set, w32, to_z, of_z, to_z-of_z}
-use Rattle.meaning_curves.specs.Curve.{at}
-use Rattle.distance_envelope.specs.Best.{pick}
+use Rattle.meaning_numbers.proofs.Prelude.{◌≡◌, ◌≤◌, min, length}
 use Rattle.distance_envelope.proofs as own
-use own.Pass.{BackTo, back_start, back-next, back_end}
+use own.Pass.{BackTo}
 use Rattle.distance_envelope.proofs.pass_back.Given as goal
 
 abbrev pub invariant-loop-i : goal.invariant-loop-i

@@ -1,7 +1,6 @@
-use Rattle.meaning_numbers.proofs.Prelude.{rules, ◌≡◌, ◌-◌, ◌≤◌, arith}
-use Rattle.distance_envelope.specs.Pass.{Ahead}
+use Rattle.meaning_numbers.proofs.Prelude.{arith}
 use Rattle.distance_envelope.proofs as own
-use own.Pass.{ahead_none, ahead-pass}
+use own.Pass.{ahead-pass}
 use Rattle.distance_envelope.proofs.reach_ahead.Goals as goal
 
 pub loop-n-preserved : goal.loop-n-preserved

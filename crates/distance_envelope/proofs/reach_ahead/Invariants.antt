@@ -1,8 +1,6 @@
 -- `reach_ahead`. The invariant: each value is the best of n places ahead and itself (`Ahead`).
-use Rattle.meaning_numbers.proofs.Prelude.{rules, ◌≡◌, ◌-◌, ◌≤◌, arith}
+use Rattle.meaning_numbers.proofs.Prelude.{◌-◌, ◌≤◌}
 use Rattle.distance_envelope.specs.Pass.{Ahead}
-use Rattle.distance_envelope.proofs as own
-use own.Pass.{ahead_none, ahead-pass}
 use Rattle.distance_envelope.proofs.reach_ahead.Given as goal
 
 abbrev pub invariant-loop-n : goal.invariant-loop-n

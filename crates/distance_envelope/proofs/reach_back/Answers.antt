@@ -1,7 +1,6 @@
-use Rattle.meaning_numbers.proofs.Prelude.{rules, ◌≡◌, ◌-◌, ◌≤◌, arith}
-use Rattle.distance_envelope.specs.Pass.{Back}
+use Rattle.meaning_numbers.proofs.Prelude.{arith}
 use Rattle.distance_envelope.proofs as own
-use own.Pass.{back_none, back-pass}
+use own.Pass.{back-pass}
 use Rattle.distance_envelope.proofs.reach_back.Goals as goal
 
 pub loop-n-preserved : goal.loop-n-preserved

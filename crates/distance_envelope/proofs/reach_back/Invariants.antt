@@ -1,8 +1,6 @@
 -- `reach_back`. The invariant: each value is the best of n places back and itself (`Back`).
-use Rattle.meaning_numbers.proofs.Prelude.{rules, ◌≡◌, ◌-◌, ◌≤◌, arith}
+use Rattle.meaning_numbers.proofs.Prelude.{◌-◌, ◌≤◌}
 use Rattle.distance_envelope.specs.Pass.{Back}
-use Rattle.distance_envelope.proofs as own
-use own.Pass.{back_none, back-pass}
 use Rattle.distance_envelope.proofs.reach_back.Given as goal
 
 abbrev pub invariant-loop-n : goal.invariant-loop-n

@@ -1,8 +1,8 @@
 -- `match_at`, by the kind: of a raw query the distance decides (`raw-matched`).
-use Rattle.meaning_numbers.proofs.Prelude.{rules, ◌≡◌, ◌∙◌, ap, ℕ, ℤ, length}
-use Rattle.meaning_curves.specs.Curve.{at, stretch}
+use Rattle.meaning_numbers.proofs.Prelude.{◌≡◌, ◌∙◌, ap, ℕ, ℤ, length}
+use Rattle.meaning_curves.specs.Curve.{stretch}
 use Rattle.meaning_curves.proofs.Same.{distance-same}
-use Rattle.meaning_filter.specs.declared.Kind.TheVariants.{Raw, Normal}
+use Rattle.meaning_filter.specs.declared.Kind.TheVariants.{Raw}
 use Rattle.distance_query.specs.Ready.{Ready}
 use Rattle.distance_within.specs.Answer.{nearness}
 use Rattle.distance_within.proofs.Room.{same_self}

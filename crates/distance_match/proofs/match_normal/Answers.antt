@@ -1,6 +1,6 @@
 -- `match_normal`: where a cheap test fails the stretch does not match (`unlike-matched`), else the distance decides (`alike-matched`).
-use Rattle.meaning_numbers.proofs.Prelude.{rules, ◌≡◌, ◌∙◌, ap, ℕ, ◌≤◌, List, ℤ, pos, ◌-ℤ◌, nat_abs, length}
-use Rattle.meaning_curves.specs.Curve.{at, stretch, total}
+use Rattle.meaning_numbers.proofs.Prelude.{rules, ◌∙◌, ap, ℕ, length}
+use Rattle.meaning_curves.specs.Curve.{at, stretch}
 use Rattle.meaning_curves.proofs.Same.{distance-same}
 use Rattle.values.proofs.SumsLaws.{spread-bound}
 use Rattle.distance_within.specs.Answer.{nearness}

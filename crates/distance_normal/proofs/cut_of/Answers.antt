@@ -1,7 +1,7 @@
 -- `cut_of`: the estimate or one more (`estimate`, `cut-flag`).
-use Rattle.meaning_numbers.proofs.Prelude.{rules, ℕ, ◌+◌, ◌*◌, ◌/◌, arith, leb}
+use Rattle.meaning_numbers.proofs.Prelude.{ℕ, ◌*◌, ◌/◌, arith}
 use Rattle.distance_normal.proofs as own
-use own.Normal.{Estimate, estimate, product_le, cut-flag, flag-le}
+use own.Normal.{Estimate, estimate, cut-flag}
 use Rattle.distance_normal.proofs.cut_of.Goals as goal
 
 abbrev e : goal.Start → ℕ

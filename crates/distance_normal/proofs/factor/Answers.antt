@@ -1,5 +1,4 @@
 -- `factor` meets its contract.
-use Rattle.meaning_numbers.proofs.Prelude.{rules}
 use Rattle.distance_normal.proofs as own
 use own.Normal.{factor-is}
 use Rattle.distance_normal.proofs.factor.Goals as goal

@@ -1,5 +1,5 @@
 use borrow.Author.Count.{below_more}
-use Rattle.meaning_numbers.proofs.Prelude.{◌≡◌, ◌∙◌, sym, ℕ, ◌+◌, ◌*◌, ◌≤◌, ◌<◌, mul-le-mul, arith, length, length-set, get_or-set_same, get_or-set_other, pos, ℤ, w32, to_z, of_z, to_z-of_z}
+use Rattle.meaning_numbers.proofs.Prelude.{◌≡◌, ◌∙◌, sym, ℕ, ◌+◌, ◌≤◌, ◌<◌, mul-le-mul, arith, length, length-set, get_or-set_same, get_or-set_other, pos, ℤ, w32, to_z, of_z, to_z-of_z}
 use Rattle.meaning_curves.specs.{Curve.stretch, Normal.normalised}
 use Rattle.meaning_curves.proofs.Values.{InLimits}
 use Rattle.numbers.specs.Raised.{raised, raised-le}

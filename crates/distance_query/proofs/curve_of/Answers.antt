@@ -1,8 +1,8 @@
 -- `curve_of`, by the kind.
-use Rattle.meaning_numbers.proofs.Prelude.{rules, ◌≡◌, arith}
-use Rattle.meaning_filter.specs.declared.Kind.TheVariants.{Raw, Normal}
+use Rattle.meaning_numbers.proofs.Prelude.{◌≡◌}
+use Rattle.meaning_filter.specs.declared.Kind.TheVariants.{Normal}
 use Rattle.distance_query.proofs as own
-use own.Ready.{raw-curve, normal-curve}
+use own.Ready.{normal-curve}
 use Rattle.distance_query.proofs.curve_of.Goals as goal
 
 normal : (c : goal.After-out-in-Normal-1) → c.args.kind ≡ Normal

@@ -1,9 +1,8 @@
-use Rattle.meaning_numbers.specs.Sum.{Σℕ}
 use Rattle.meaning_numbers.proofs.Sum.{Σℕ-none, Σℕ-more}
-use Rattle.meaning_numbers.proofs.Prelude.{◌≡◌, ◌∙◌, ℕ, ◌+◌, ◌*◌, ◌-◌, ◌≤◌, arith}
+use Rattle.meaning_numbers.proofs.Prelude.{◌≡◌, ◌∙◌, ℕ, ◌+◌, ◌≤◌, arith}
 use Rattle.meaning_curves.specs.{Curve.at, Curve.stretch, Straight.cost}
 use Rattle.meaning_curves.proofs.Values.{cost-le}
-use Rattle.numbers.proofs.Back.{cost-back, in-arg}
+use Rattle.numbers.proofs.Back.{cost-back}
 use Rattle.distance_straight.proofs.part.Goals as goal
 
 pub loop-k-init : goal.loop-k-init

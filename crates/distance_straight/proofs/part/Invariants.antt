@@ -1,10 +1,7 @@
 -- `part`. The invariant: the sum so far.
 use Rattle.meaning_numbers.specs.Sum.{Σℕ}
-use Rattle.meaning_numbers.proofs.Sum.{Σℕ-none, Σℕ-more}
-use Rattle.meaning_numbers.proofs.Prelude.{◌≡◌, ◌∙◌, ℕ, ◌+◌, ◌*◌, ◌-◌, ◌≤◌, arith}
+use Rattle.meaning_numbers.proofs.Prelude.{◌≡◌, ◌+◌, ◌*◌, ◌-◌, ◌≤◌}
 use Rattle.meaning_curves.specs.{Curve.at, Curve.stretch, Straight.cost}
-use Rattle.meaning_curves.proofs.Values.{cost-le}
-use Rattle.numbers.proofs.Back.{cost-back, in-arg}
 use Rattle.distance_straight.proofs.part.Given as goal
 
 abbrev pub invariant-loop-k : goal.invariant-loop-k

@@ -1,9 +1,7 @@
 -- `straight`. The invariant: so much of the sum is made. A block adds its part; left early, the total is a part of the distance (`Made`).
-use Rattle.meaning_numbers.specs.Sum.{Σℕ}
-use Rattle.meaning_numbers.proofs.Prelude.{◌≡◌, ℕ, ◌+◌, ◌*◌, ◌-◌, ◌≤◌, arith, length}
-use Rattle.meaning_curves.specs.{Curve.at, Curve.stretch, Straight.cost, Straight.straight}
-use Rattle.meaning_curves.proofs.Values.{costs-le}
-use Rattle.numbers.proofs.Blocks.{Made, made_none, made_more, made-left, made-whole}
+use Rattle.meaning_numbers.proofs.Prelude.{◌≡◌, ◌-◌, ◌≤◌, length}
+use Rattle.meaning_curves.specs.{Curve.at, Curve.stretch, Straight.cost}
+use Rattle.numbers.proofs.Blocks.{Made}
 use Rattle.distance_straight.proofs.straight.Given as goal
 
 abbrev pub invariant-loop-i : goal.invariant-loop-i

@@ -1,6 +1,5 @@
 -- `fill_row` meets its contract.
-use borrow.Author.Count.{below_more}
-use Rattle.meaning_numbers.proofs.Prelude.{◌≡◌, refl, ◌∙◌, ℕ, ◌+◌, ◌-◌, ◌≤◌, ◌<◌, arith, length, get_or, length-set, get_or-set_same, get_or-set_other}
+use Rattle.meaning_numbers.proofs.Prelude.{◌≡◌, ℕ, ◌+◌, ◌-◌, ◌≤◌, ◌<◌, length, get_or}
 use Rattle.distance_warped.specs.Rows.{big}
 use Rattle.distance_warped.proofs.fill_row.Given as goal
 

@@ -1,8 +1,8 @@
-use Rattle.meaning_numbers.proofs.Prelude.{◌≡◌, refl, ◌∙◌, sym, ℕ, ◌+◌, ◌*◌, ◌-◌, ◌≤◌, ◌<◌, arith, length, length-set, ℤ}
+use Rattle.meaning_numbers.proofs.Prelude.{◌≡◌, refl, ◌∙◌, sym, ℕ, ◌+◌, ◌≤◌, arith, length-set, ℤ}
 use Rattle.meaning_curves.specs.{Curve.at, Curve.stretch, Straight.cost}
 use Rattle.meaning_curves.proofs.Values.{cost-le}
-use Rattle.numbers.proofs.Back.{cost-back, in-arg}
-use Rattle.distance_warped.specs.Rows.{big, before, before-none, before_more, cells, Halfway, first-start, first-end, first_cell}
+use Rattle.numbers.proofs.Back.{cost-back}
+use Rattle.distance_warped.specs.Rows.{before-none, before_more, cells, first-start, first-end, first_cell}
 use Rattle.distance_warped.proofs as own
 use own.Rows.{halfway-more}
 use Rattle.distance_warped.proofs.first_row.Goals as goal

@@ -1,11 +1,7 @@
 -- `first_row`. The invariant: the row is made as far as cell j (`Halfway`).
-use Rattle.meaning_numbers.proofs.Prelude.{◌≡◌, refl, ◌∙◌, sym, ℕ, ◌+◌, ◌*◌, ◌-◌, ◌≤◌, ◌<◌, arith, length, length-set, ℤ}
-use Rattle.meaning_curves.specs.{Curve.at, Curve.stretch, Straight.cost}
-use Rattle.meaning_curves.proofs.Values.{cost-le}
-use Rattle.numbers.proofs.Back.{cost-back, in-arg}
-use Rattle.distance_warped.specs.Rows.{big, before, before-none, before_more, cells, Halfway, first-start, first-end, first_cell}
-use Rattle.distance_warped.proofs as own
-use own.Rows.{halfway-more}
+use Rattle.meaning_numbers.proofs.Prelude.{◌≡◌, ◌*◌, ◌-◌, ◌≤◌, ◌<◌, length}
+use Rattle.meaning_curves.specs.{Curve.at, Curve.stretch}
+use Rattle.distance_warped.specs.Rows.{big, before, cells, Halfway}
 use Rattle.distance_warped.proofs.first_row.Given as goal
 
 abbrev pub invariant-loop-j : goal.invariant-loop-j

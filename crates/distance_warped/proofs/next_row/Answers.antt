@@ -2,7 +2,7 @@ use Rattle.meaning_numbers.proofs.Prelude.{rules, ◌≡◌, refl, ◌∙◌, sy
 use Rattle.meaning_curves.specs.{Curve.at, Curve.stretch, Straight.cost}
 use Rattle.meaning_curves.proofs.Values.{cost-le}
 use Rattle.numbers.proofs.Back.{cost-back, in-arg}
-use Rattle.distance_warped.specs.Rows.{big, before, before_more, cells, Halfway, row-start, row-end, before-le, next-cell, least_more, low-new}
+use Rattle.distance_warped.specs.Rows.{big, before_more, cells, row-start, row-end, before-le, next-cell, least_more, low-new}
 use Rattle.distance_warped.proofs as own
 use own.Rows.{halfway-more}
 use Rattle.distance_warped.proofs.next_row.Goals as goal

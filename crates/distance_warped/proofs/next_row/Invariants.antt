@@ -1,11 +1,7 @@
 -- `next_row`. The invariant: the row is made as far as cell j (`Halfway`), with the two numbers before it and the least number so far.
-use Rattle.meaning_numbers.proofs.Prelude.{rules, ◌≡◌, refl, ◌∙◌, sym, ℕ, ◌+◌, ◌-◌, ◌≤◌, ◌<◌, arith, length, length-set, ℤ}
-use Rattle.meaning_curves.specs.{Curve.at, Curve.stretch, Straight.cost}
-use Rattle.meaning_curves.proofs.Values.{cost-le}
-use Rattle.numbers.proofs.Back.{cost-back, in-arg}
-use Rattle.distance_warped.specs.Rows.{big, before, before_more, cells, Halfway, row-start, row-end, before-le, next-cell, least_more, low-new}
-use Rattle.distance_warped.proofs as own
-use own.Rows.{halfway-more}
+use Rattle.meaning_numbers.proofs.Prelude.{◌≡◌, ℕ, ◌+◌, ◌-◌, ◌≤◌, ◌<◌, length}
+use Rattle.meaning_curves.specs.{Curve.at, Curve.stretch}
+use Rattle.distance_warped.specs.Rows.{big, before, cells, Halfway}
 use Rattle.distance_warped.proofs.next_row.Given as goal
 
 abbrev pub invariant-loop-j : goal.invariant-loop-j

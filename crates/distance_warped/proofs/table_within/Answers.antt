@@ -1,6 +1,6 @@
 use Rattle.meaning_numbers.specs.Sum.{Σℕ}
 use Rattle.meaning_numbers.proofs.Sum.{Σℕ-none, Σℕ-more, Σℕ-fewer}
-use Rattle.meaning_numbers.proofs.Prelude.{◌≡◌, refl, ◌∙◌, List, ℕ, ◌+◌, ◌*◌, ◌-◌, ◌^◌, ◌≤◌, ◌<◌, arith, length, ℤ}
+use Rattle.meaning_numbers.proofs.Prelude.{◌≡◌, refl, ◌∙◌, List, ℕ, ◌+◌, ◌-◌, ◌^◌, ◌≤◌, ◌<◌, arith, length, ℤ}
 use Rattle.meaning_curves.specs.{Curve.at, Curve.stretch, Limits.longest_query, Table.warped}
 use Rattle.meaning_curves.proofs.Values.{AllIn, cost-le}
 use Rattle.meaning_filter.proofs.Bound.{apart}

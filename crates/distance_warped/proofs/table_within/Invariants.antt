@@ -1,15 +1,9 @@
 -- `table_within`. The invariant: `row` is row i of the table, and `rest` the envelope bound of the rows after it. Left early, the least number of a row with the bound of the rows after it is at most the distance (`rest-least`).
 use Rattle.meaning_numbers.specs.Sum.{Σℕ}
-use Rattle.meaning_numbers.proofs.Sum.{Σℕ-none, Σℕ-more, Σℕ-fewer}
-use Rattle.meaning_numbers.proofs.Prelude.{◌≡◌, refl, ◌∙◌, ℕ, ◌+◌, ◌*◌, ◌-◌, ◌^◌, ◌≤◌, ◌<◌, arith, length, ℤ}
-use Rattle.meaning_curves.specs.{Curve.at, Curve.stretch, Table.warped}
-use Rattle.meaning_curves.proofs.Values.{AllIn, cost-le}
+use Rattle.meaning_numbers.proofs.Prelude.{◌≡◌, ◌+◌, ◌-◌, ◌≤◌, ◌<◌, length}
+use Rattle.meaning_curves.specs.{Curve.at, Curve.stretch}
 use Rattle.meaning_filter.proofs.Bound.{apart}
-use Rattle.numbers.proofs.Within.{whole, left-early}
-use Rattle.distance_envelope.proofs.EnvelopeLaws.{low-in, high-in}
-use Rattle.distance_warped.specs.Rows.{big, cells, RowIs, LeastOf, cell-le, last-cell}
-use Rattle.distance_warped.proofs as own
-use own.Rest.{rest-least, whole_le}
+use Rattle.distance_warped.specs.Rows.{cells, RowIs}
 use Rattle.distance_warped.proofs.table_within.Given as goal
 
 abbrev pub invariant-loop-i : goal.invariant-loop-i

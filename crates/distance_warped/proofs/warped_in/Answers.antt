@@ -5,7 +5,7 @@ use Rattle.meaning_curves.specs.{Curve.at, Curve.stretch, Table.warped}
 use Rattle.meaning_curves.proofs.Straight.{distance_is}
 use Rattle.meaning_filter.proofs.Bound.{apart}
 use Rattle.numbers.specs.Within.{Within}
-use Rattle.numbers.proofs.Within.{within-above, within-exact}
+use Rattle.numbers.proofs.Within.{within-above}
 use Rattle.distance_envelope.proofs.EnvelopeLaws.{low-in, high-in}
 use Rattle.distance_warped.proofs as own
 use own.Rest.{bound-le}

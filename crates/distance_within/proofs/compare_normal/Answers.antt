@@ -1,6 +1,6 @@
 -- `compare_normal`: what the envelope bound passes, the distance passes (`bound-le`); else what stands in the room are the normalised values, and the distance asks for no others (`distance-same`).
-use Rattle.meaning_numbers.proofs.Prelude.{rules, ◌∙◌, ℕ, ◌<◌, ◌≤◌, arith, length, ℤ}
-use Rattle.meaning_curves.specs.{Curve.at, Curve.stretch, Curve.spread, Normal.normalised, Match.distance}
+use Rattle.meaning_numbers.proofs.Prelude.{◌∙◌, ◌<◌, arith, length}
+use Rattle.meaning_curves.specs.{Curve.stretch, Curve.spread, Normal.normalised}
 use Rattle.meaning_curves.proofs.Same.{distance-same}
 use Rattle.numbers.proofs.Within.{within-above}
 use Rattle.distance_normal.proofs.Stretch.{normalised-in}

@@ -1,13 +1,10 @@
 -- `normalise_within`. The invariant: so many values are normalised, and so much of their bound is made. A block adds its part (`part-more`); left early, the total is a part of the bound.
-use Rattle.meaning_numbers.specs.Sum.{Σℕ}
-use Rattle.meaning_numbers.proofs.Prelude.{◌≡◌, refl, sym, ◌∙◌, List, ℕ, ◌+◌, ◌-◌, ◌<◌, ◌≤◌, arith, ℤ, length, take, length-take}
-use Rattle.meaning_curves.specs.{Curve.at, Curve.stretch, Curve.spread, Normal.normalised}
-use Rattle.meaning_curves.proofs.Values.{AllIn}
+use Rattle.meaning_numbers.proofs.Prelude.{◌-◌, ◌≤◌}
+use Rattle.meaning_curves.specs.{Curve.at, Curve.stretch, Normal.normalised}
 use Rattle.meaning_filter.proofs.Bound.{apart}
-use Rattle.numbers.proofs.Blocks.{Made, made_none, made-left, made-whole}
-use Rattle.distance_normal.specs.{Normal.IsFactor, Stretch.NormalReady, Stretch.NormalPart}
+use Rattle.numbers.proofs.Blocks.{Made}
 use Rattle.distance_within.proofs as own
-use own.Within.{NormalTo, normal-next, normal-all, made_in, part-more}
+use own.Within.{NormalTo}
 use Rattle.distance_within.proofs.normalise_within.Given as goal
 
 abbrev pub invariant-loop-i : goal.invariant-loop-i

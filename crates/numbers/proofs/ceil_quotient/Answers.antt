@@ -1,6 +1,6 @@
 -- `ceil_quotient`: 0 less the floor of 0 less the number.
 use Rattle.meaning_numbers.specs.Quotient.{floorℤ, ceilℤ}
-use Rattle.meaning_numbers.proofs.Prelude.{rules, ◌≡◌, ◌∙◌, ap, arith, ℤ, neg_ℤ, w64, to_z-of_z}
+use Rattle.meaning_numbers.proofs.Prelude.{◌≡◌, ◌∙◌, ap, arith, ℤ, neg_ℤ, w64, to_z-of_z}
 use Rattle.numbers.specs.Small.{Small}
 use Rattle.numbers.proofs as own
 use own.Small.{small-neg, small-floor, small-fits, small-back, zero-less}

@@ -1,5 +1,5 @@
 -- `floor_quotient`: of a negative z the number -1 - z is not negative, and its quotient is -1 less the floor of z's.
-use Rattle.meaning_numbers.proofs.Prelude.{rules, ◌≡◌, ◌/◌, ◌<◌, ◌^◌, div-le_self, ℤ, pos, negsuc, ◌-ℤ◌, nat_abs, w64, to_z, of_z, z-sub, zmach, z-abs, z-cast, z-fits}
+use Rattle.meaning_numbers.proofs.Prelude.{◌≡◌, ◌/◌, ◌<◌, ◌^◌, div-le_self, ℤ, pos, negsuc, ◌-ℤ◌, nat_abs, w64, to_z, of_z, z-sub, zmach, z-abs, z-cast, z-fits}
 use mir.Val.{SFits}
 use Rattle.numbers.proofs as own
 use own.Row.{row_up, row-down}

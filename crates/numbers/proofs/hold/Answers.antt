@@ -1,5 +1,5 @@
 -- `hold`. By the two tests.
-use Rattle.meaning_numbers.proofs.Prelude.{pos, ◌≤ℤ◌, ◌<ℤ◌, w64, to_z-of_z, zmach, lt-lt_z, le-lt_z, z-abs}
+use Rattle.meaning_numbers.proofs.Prelude.{pos, ◌≤ℤ◌, ◌<ℤ◌, w64, to_z-of_z, zmach, lt-lt_z, le-lt_z}
 use Rattle.numbers.specs.Narrow.{held}
 use Rattle.numbers.proofs.hold.Goals as goal
 

@@ -1,5 +1,5 @@
 use Rattle.meaning_numbers.proofs.Root.{sq-le, root-only, root_is}
-use Rattle.meaning_numbers.proofs.Prelude.{◌≡◌, ◌+◌, ◌*◌, ◌-◌, ◌/◌, ◌≤◌, ◌<◌, arith}
+use Rattle.meaning_numbers.proofs.Prelude.{◌≡◌, ◌+◌, ◌-◌, ◌/◌, arith}
 use Rattle.numbers.proofs.root.Goals as goal
 use Rattle.numbers.proofs.root.Goals.{then-t-y, else-t-y}
 

@@ -1,6 +1,5 @@
 -- `root`. The invariant: the root lies from r to below r + width, which is at most 2 ^ 32.
-use Rattle.meaning_numbers.proofs.Root.{sq-le, root-only, root_is}
-use Rattle.meaning_numbers.proofs.Prelude.{◌≡◌, ⊎_elim, ◌+◌, ◌*◌, ◌-◌, ◌/◌, ◌≤◌, ◌<◌, arith}
+use Rattle.meaning_numbers.proofs.Prelude.{◌+◌, ◌*◌, ◌≤◌, ◌<◌}
 use Rattle.numbers.proofs.root.Given as goal
 
 abbrev pub invariant-loop-width : goal.invariant-loop-width

@@ -1,5 +1,5 @@
 -- `row_number`: of a negative sum z the number -1 - z is not negative, and its quotient is -1 less the row's number.
-use Rattle.meaning_numbers.proofs.Prelude.{rules, ◌≡◌, sym, ◌<◌, div-le_self, ℤ, pos, negsuc, ◌-ℤ◌, nat_abs, w32, to_z, of_z, z-sub, zmach32, z-abs, z-cast32}
+use Rattle.meaning_numbers.proofs.Prelude.{◌≡◌, sym, ◌<◌, div-le_self, ℤ, pos, negsuc, ◌-ℤ◌, nat_abs, w32, to_z, of_z, z-sub, zmach32, z-abs, z-cast32}
 use mir.Val.{SFits}
 use Rattle.numbers.proofs as own
 use own.{Back.z-fits32, Row.row_up, Row.row-down}

@@ -1,7 +1,7 @@
 -- `times`: the numbers are small.
 use Rattle.meaning_numbers.proofs.Prelude.{arith, w64, to_z-of_z}
 use Rattle.numbers.proofs as own
-use own.Small.{small_mul, small-fits, small-back}
+use own.Small.{small_mul, small-back}
 use Rattle.numbers.proofs.times.Goals as goal
 
 pub returns : goal.returns

@@ -1,6 +1,5 @@
 -- `copy_values`. The invariant: the values so far are those of q.
-use borrow.Author.Count.{below_more}
-use Rattle.meaning_numbers.proofs.Prelude.{rules, ◌≡◌, refl, ◌∙◌, ℕ, ◌-◌, ◌≤◌, ◌<◌, arith, pos, length, length-set, get_or-set_same, get_or-set_other, w32, to_z-of_z}
+use Rattle.meaning_numbers.proofs.Prelude.{◌≡◌, ℕ, ◌-◌, ◌≤◌, ◌<◌, length}
 use Rattle.meaning_curves.specs.Curve.{at}
 use Rattle.values.proofs.copy_values.Given as goal
 

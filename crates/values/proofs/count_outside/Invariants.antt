@@ -1,8 +1,6 @@
 -- `count_outside`. The invariant: the count so far.
-use mir.Val.{bool_byte}
 use Rattle.meaning_numbers.specs.Sum.{count}
-use Rattle.meaning_numbers.proofs.Count.{flag-bit, count_none, count-more, count-le}
-use Rattle.meaning_numbers.proofs.Prelude.{◌≡◌, ◌∙◌, ap, sym, Bool, not, ℕ, ◌+◌, ◌-◌, ◌≤◌, arith, rules, w32, to_z-of_z}
+use Rattle.meaning_numbers.proofs.Prelude.{◌≡◌, not, ◌-◌, ◌≤◌}
 use Rattle.meaning_curves.specs.{Curve.stretch, Limits.value_in}
 use Rattle.values.proofs.count_outside.Given as goal
 

@@ -1,7 +1,7 @@
 use Rattle.meaning_numbers.specs.Sum.{count}
 use Rattle.meaning_numbers.proofs.Count.{never-count}
-use Rattle.meaning_numbers.proofs.Prelude.{rules, not-false, ◌≡◌, sym, subst, not, List, ℕ, ◌+◌, ◌-◌, ◌≤◌, arith, dec_lt, T, ℤ, length}
-use Rattle.meaning_curves.specs.{Curve.at, Curve.stretch, Limits.value_in}
+use Rattle.meaning_numbers.proofs.Prelude.{not-false, ◌≡◌, sym, subst, not, List, ℕ, ◌+◌, ◌-◌, arith, dec_lt, T, ℤ}
+use Rattle.meaning_curves.specs.{Curve.stretch, Limits.value_in}
 use Rattle.values.specs.Place.{InTo}
 use Rattle.values.proofs.first_outside.Goals as goal
 

@@ -1,8 +1,5 @@
 -- `first_outside`. The invariant: every value passed is in its limits; a block that counts none adds its values (`block_in`).
-use Rattle.meaning_numbers.specs.Sum.{count}
-use Rattle.meaning_numbers.proofs.Count.{never-count}
-use Rattle.meaning_numbers.proofs.Prelude.{rules, not-false, ◌≡◌, sym, subst, not, List, ℕ, ◌+◌, ◌-◌, ◌≤◌, arith, dec_lt, T, ℤ, length}
-use Rattle.meaning_curves.specs.{Curve.at, Curve.stretch, Limits.value_in}
+use Rattle.meaning_numbers.proofs.Prelude.{◌-◌, ◌≤◌, length}
 use Rattle.values.specs.Place.{InTo}
 use Rattle.values.proofs.first_outside.Given as goal
 

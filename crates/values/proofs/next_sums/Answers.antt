@@ -1,7 +1,6 @@
 -- `next_sums` (`slide-values`, `slide-squares`).
 use Rattle.meaning_numbers.proofs.Root.{sq-le}
-use Rattle.meaning_numbers.proofs.Prelude.{rules, ◌≡◌, ◌∙◌, sym, ℕ, ◌+◌, ◌*◌, ◌≤◌, arith, ℤ}
-use Rattle.meaning_curves.specs.Curve.{at}
+use Rattle.meaning_numbers.proofs.Prelude.{◌≡◌, ◌∙◌, sym, ℕ, ◌*◌, ◌≤◌, arith, ℤ}
 use Rattle.meaning_curves.proofs.Values.{InLimits}
 use Rattle.numbers.specs.Raised.{raised, raised-le}
 use mir.Syntax.{w32}

@@ -1,5 +1,5 @@
 -- `next_window` (`moved_on`); nothing wraps, as no window's sum is large (`out-fits`).
-use Rattle.meaning_numbers.proofs.Prelude.{rules, ◌≡◌, ◌∙◌, ◌+◌, ◌≤◌, ℤ, ◌-ℤ◌, w32, to_z, of_z, to_z-of_z, up, dn, zarith, z-sub}
+use Rattle.meaning_numbers.proofs.Prelude.{◌≡◌, ◌∙◌, ◌+◌, ◌≤◌, ℤ, ◌-ℤ◌, w32, to_z, of_z, to_z-of_z, up, dn, zarith, z-sub}
 use Rattle.meaning_curves.specs.Curve.{at, window_sum}
 use Rattle.numbers.proofs.Back.{plus-fits, plus-back}
 use Rattle.values.proofs as own

@@ -1,5 +1,4 @@
-use borrow.Author.Count.{below_more}
-use Rattle.meaning_numbers.proofs.Prelude.{rules, not-true, not-false, ◌≡◌, sym, ap, subst, ◌∙◌, ℕ, ◌-◌, ◌≤◌, ◌<◌, arith, T, length, w32, to_z-of_z}
+use Rattle.meaning_numbers.proofs.Prelude.{rules, ◌≡◌, sym, ap, ◌∙◌, arith, w32, to_z-of_z}
 use Rattle.meaning_curves.specs.{Curve.at, Limits.value_in}
 use Rattle.meaning_curves.proofs.{Limits.outside-is, Limits.in-values, Values.no_value}
 use Rattle.values.specs.Place.{placed}

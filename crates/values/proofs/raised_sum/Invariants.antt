@@ -1,10 +1,8 @@
 -- `raised_sum`. The invariant: the sum so far.
 use Rattle.meaning_numbers.specs.Sum.{Σℕ}
-use Rattle.meaning_numbers.proofs.Sum.{Σℕ-none, Σℕ-more}
-use Rattle.meaning_numbers.proofs.Prelude.{◌≡◌, ◌∙◌, ◌*◌, ◌-◌, ◌≤◌, arith}
+use Rattle.meaning_numbers.proofs.Prelude.{◌≡◌, ◌*◌, ◌-◌, ◌≤◌}
 use Rattle.meaning_curves.specs.Curve.{stretch}
-use Rattle.numbers.specs.Raised.{raised, raised-le}
-use Rattle.numbers.proofs.Back.{in-arg, raised-back}
+use Rattle.numbers.specs.Raised.{raised}
 use Rattle.values.proofs.raised_sum.Given as goal
 
 abbrev pub invariant-loop-k : goal.invariant-loop-k

@@ -1,9 +1,8 @@
-use Rattle.meaning_numbers.specs.Sum.{Σℕ, square}
-use Rattle.meaning_numbers.proofs.Prelude.{◌≡◌, ◌∙◌, ◌*◌, ◌-◌, ◌≤◌, arith}
+use Rattle.meaning_numbers.proofs.Prelude.{◌≡◌, ◌∙◌, ◌*◌, ◌≤◌, arith}
 use Rattle.meaning_numbers.proofs.{Root.sq-le, Sum.Σℕ-none, Sum.Σℕ-more}
 use Rattle.meaning_curves.specs.Curve.{stretch}
 use Rattle.numbers.specs.Raised.{raised, raised-le}
-use Rattle.numbers.proofs.Back.{in-arg, raised-back}
+use Rattle.numbers.proofs.Back.{raised-back}
 use Rattle.values.proofs.sums_at.Goals as goal
 
 pub loop-k-init : goal.loop-k-init

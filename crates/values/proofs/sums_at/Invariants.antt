@@ -1,10 +1,8 @@
 -- `sums_at`. The invariant: both sums so far.
 use Rattle.meaning_numbers.specs.Sum.{Σℕ, square}
-use Rattle.meaning_numbers.proofs.Prelude.{◌≡◌, ◌∙◌, ◌*◌, ◌-◌, ◌≤◌, arith}
-use Rattle.meaning_numbers.proofs.{Root.sq-le, Sum.Σℕ-none, Sum.Σℕ-more}
+use Rattle.meaning_numbers.proofs.Prelude.{◌≡◌, ◌*◌, ◌-◌, ◌≤◌}
 use Rattle.meaning_curves.specs.Curve.{stretch}
-use Rattle.numbers.specs.Raised.{raised, raised-le}
-use Rattle.numbers.proofs.Back.{in-arg, raised-back}
+use Rattle.numbers.specs.Raised.{raised}
 use Rattle.values.proofs.sums_at.Given as goal
 
 abbrev pub invariant-loop-k : goal.invariant-loop-k

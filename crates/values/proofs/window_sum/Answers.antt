@@ -1,6 +1,6 @@
 -- `window_sum`: the raised sum less the bias (`window-raised`).
 use Rattle.meaning_numbers.proofs.Sum.{Σℕ-le}
-use Rattle.meaning_numbers.proofs.Prelude.{rules, ◌∙◌, ap, ◌*◌, arith, pos, ◌-ℤ◌, w32, to_z-of_z}
+use Rattle.meaning_numbers.proofs.Prelude.{◌∙◌, ap, ◌*◌, arith, pos, ◌-ℤ◌, w32, to_z-of_z}
 use Rattle.meaning_curves.specs.Curve.{stretch}
 use Rattle.numbers.specs.Raised.{raised, raised-le}
 use Rattle.values.proofs as own
