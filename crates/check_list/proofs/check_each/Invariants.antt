@@ -1,8 +1,8 @@
 -- `check_each`. The invariant is `RunsSoFar`, and that the room keeps its length; the measure is how many runs are left.
-use Rattle.meaning_numbers.proofs.Prelude.{rules, ◌≡◌, refl, ◌∙◌, ◌-◌, ◌<◌, arith, length}
+use Rattle.meaning_numbers.proofs.Prelude.{◌≡◌, ◌-◌, length}
 use Rattle.check_list.specs.Found.{asked}
 use Rattle.check_list.proofs as own
-use own.Turn.{RunsSoFar, run_inside, runs-start, runs-next, runs-end}
+use own.Turn.{RunsSoFar}
 use Rattle.check_list.proofs.check_each.Given as goal
 
 abbrev pub invariant-loop-i : goal.invariant-loop-i
