@@ -1,10 +1,10 @@
 -- `judge_row`: a row that does not fit ends in the failed state, and one that fits is judged by its runs, which lie inside the run buffer.
-use Rattle.meaning_numbers.proofs.Prelude.{◌≡◌, sym, ◌∙◌, ap, Bool, true, false, ◌&&◌, [], ℕ, ◌+◌, ◌-◌, ◌≤◌, List, take, drop, min, arith, pos, length}
+use Rattle.meaning_numbers.proofs.Prelude.{◌≡◌, sym, ◌∙◌, ap, Bool, true, false, ◌&&◌, [], ℕ, ◌+◌, ◌-◌, List, take, drop, min, arith, pos, length}
 use Rattle.meaning_rows.specs.{declared.Head.Head, declared.Row.Row, Index.Index, Index.lent, Index.entries, Judge.range_good, Judge.part_good}
 use Rattle.meaning_rows.proofs.Grown.{length-entries}
 use Rattle.rows_judge.specs.{declared.RowsJudged.RowsJudged, Judging.failed, Judging.room, Judging.fits, Judging.scan, Judging.after, Judging.next}
 use Rattle.rows_judge.proofs as own
-use own.Next.{fitting, fits-room, next-bad, next_fits}
+use own.Next.{fitting, next-bad, next_fits}
 use Rattle.rows_judge.proofs.judge_row.Goals as goal
 
 module _ (head : Head) (s : RowsJudged) (r : Row) (left right : List ℕ) where
@@ -20,12 +20,6 @@ module _ (head : Head) (s : RowsJudged) (r : Row) (left right : List ℕ) where
   not_fit : {n : ℕ} {b : Bool} → n ≡ min (length left) (length right) → b ≡ fits (lent head [] [] []) s r n → b ≡ false → failed ≡ next index s r
   not_fit e f g = sym (next-bad index s r (sym (fit e f) ∙ g))
 
-  -- where it fits, its runs lie inside the run buffer
-  inside : {n : ℕ} {b : Bool} → n ≡ min (length left) (length right) → b ≡ fits (lent head [] [] []) s r n → b ≡ true → r.first + r.runs ≤ min (length left) (length right)
-  inside e f g =
-      let h = fits-room index s r (sym (fit e f) ∙ g) in
-      omega (arith, h.1, length-entries left right)
-
   by_runs : {n : ℕ} {b : Bool} → n ≡ min (length left) (length right) → b ≡ fits (lent head [] [] []) s r n → b ≡ true
       → after head.windows s r (scan (pos head.windows) (pos 0) 0 (take (r.first + r.runs - r.first) (drop r.first (entries left right)))) ≡ next index s r
   by_runs e f g =
@@ -34,11 +28,6 @@ module _ (head : Head) (s : RowsJudged) (r : Row) (left right : List ℕ) where
 
 pub returns-then-not-row_fits : goal.returns-then-not-row_fits
 returns-then-not-row_fits c = not_fit c.args.head c.args.s c.args.r c.args.left.now c.args.right.now c.shorter-size.ensures c.row_fits.ensures c.if-not-row_fits.true
-
-pub judge_runs-t-requires : goal.judge_runs-t-requires
-judge_runs-t-requires c =
-    let h = inside c.args.head c.args.s c.args.r c.args.left.now c.args.right.now c.shorter-size.ensures c.row_fits.ensures c.if-not-row_fits.false in
-    (omega arith, omega arith, omega arith)
 
 pub returns : goal.returns
 returns c =

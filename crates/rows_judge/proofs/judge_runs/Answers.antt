@@ -1,7 +1,7 @@
 -- `judge_runs`: a run that is not good ends the judgement (`inside-bad`), a good one leaves the rest to be judged (`inside-next`), and where none is left only the last is held to the windows.
-use Rattle.meaning_numbers.proofs.Prelude.{◌≡◌, refl, sym, ◌∙◌, ap, true, ℕ, ◌+◌, ◌<◌, ◌≤◌, length, List, [], ◌∷◌, arith, pos, get_or, le-leb, lt-leb}
+use Rattle.meaning_numbers.proofs.Prelude.{◌≡◌, refl, sym, ◌∙◌, ap, true, ℕ, ◌+◌, ◌<◌, ◌≤◌, length, List, [], ◌∷◌, arith, pos, get_or, le-leb}
 use Rattle.meaning_rows.specs.Index.{Entry}
-use Rattle.rows_judge.specs.{declared.Lengths.Lengths, Judging.untold, Judging.scan}
+use Rattle.rows_judge.specs.{declared.Lengths.Lengths, Judging.scan}
 use Rattle.rows_judge.proofs as own
 use own.Scan.{part, part-next, part_none, inside, follows, inside-next, inside-bad, scan-end}
 use Rattle.rows_judge.proofs.judge_runs.Goals as goal
@@ -25,11 +25,6 @@ module _ (left right : List ℕ) (windows least total i to : ℕ) where
       let n : judged [] ≡ record { good = true; total = total } = rw (le-leb least (windows + 1) l, scan-end _ _ _) refl in
       sym n ∙ ended h is
 
-  ended-bad : {e : Lengths} → to ≤ i → judged (part left right i to) ≡ e → windows + 1 < least → untold ≡ e
-  ended-bad h is l =
-      let n : judged [] ≡ untold = rw (lt-leb least (windows + 1) l) refl in
-      sym n ∙ ended h is
-
 pub returns-then-l-least : goal.returns-then-l-least
 returns-then-l-least c =
     let a = c.args in let o = c.loop-i in let left = a.left.now in let right = a.right.now in
@@ -51,6 +46,3 @@ loop-i-preserved c =
 
 pub returns-then-least-windows : goal.returns-then-least-windows
 returns-then-least-windows c = ended-good _ _ _ _ _ _ _ c.loop-i-test.false c.loop-i.invariant.3 (omega arith)
-
-pub returns-else-least-windows : goal.returns-else-least-windows
-returns-else-least-windows c = ended-bad _ _ _ _ _ _ _ c.loop-i-test.false c.loop-i.invariant.3 (omega arith)
