@@ -113,6 +113,7 @@ pub fn tell(series: &[i32], head: Head, t: Walk, p: Field, z: i64) -> Walk
 }
 
 // What a row's end says.
+#[tactic(auto, unfolding(crate::specs::Walk::shut_walk))]
 pub fn shut(t: Walk) -> Walk
     requires { t.rows < 2 ^ 63 }
     ensures { result ≡ shut_walk t }

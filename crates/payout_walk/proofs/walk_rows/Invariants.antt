@@ -1,10 +1,7 @@
 -- `walk_rows`. The invariant: what is left of the text comes to what the text comes to (`Kept`), and no more rows are closed than bytes were read. The measure is what is left of the text.
-use Rattle.meaning_numbers.proofs.Prelude.{sym, ◌∙◌, List, ◌+◌, ◌-◌, ◌≤◌, arith, rules, not-true, ℤ, length, w64, to_z-of_z}
-use Rattle.meaning_rows.specs.declared.Head.{Head}
-use Rattle.text_index.proofs.View.{Kept, kept-start, kept-to, kept-value, kept-closed}
+use Rattle.meaning_numbers.proofs.Prelude.{◌-◌, ◌≤◌, length}
+use Rattle.text_index.proofs.View.{Kept}
 use Rattle.payout_walk.specs.Walk.{start_walk, tell_walk, shut_walk}
-use Rattle.payout_walk.proofs as own
-use own.Seen.{walked_end, walked-refuse, walked-stopped, tell-rows, shut-rows}
 use Rattle.payout_walk.proofs.walk_rows.Given as goal
 
 abbrev pub invariant-loop-i : goal.invariant-loop-i
