@@ -2,7 +2,7 @@
 use mir.Val.{SFits}
 use Rattle.meaning_numbers.proofs.Prelude.{rules, ◌∙◌, w64, to_z-of_z, arith}
 use Rattle.text_event.proofs.EventLaws.{row_up, runs_up, run_up, value-up}
-use Rattle.text_rows.proofs.Turn.{Going, going_start, line-run, line_row, line-runs, line-value, line-closed, line-refuse, line-stop}
+use Rattle.text_rows.proofs.Turn.{going_start, line-run, line_row, line-runs, line-value, line-closed, line-refuse, line-stop}
 use Rattle.text_rows.proofs.row_from.Goals as goal
 
 pub loop-low-init : goal.loop-low-init
