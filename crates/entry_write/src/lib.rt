@@ -100,6 +100,7 @@ pub fn answer(j: Judged, n: usize, size: usize) -> Written
     Written::Text { length: n }
 }
 
+#[tactic(auto, unfolding(crate::specs::Answer::is_refused))]
 pub fn is_refused(a: Written) -> bool
     ensures { result ≡ is_refused a }
 {
