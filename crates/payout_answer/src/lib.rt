@@ -18,7 +18,7 @@ use text_judge::{Rows, judged_rows};
 // The audit of the index of a text, whose head and rows came to these, against a series.
 pub fn audit_series(index: &[u8], head: Head, c: Rows, series: &[i32]) -> Audited
     requires { Scanned.Fine head c ≡ scanned (read_text index_form index.now) }
-    ensures { result ≡ audit_answer (record { series = series.old; index = text_index index.now }) }
+    ensures { result ≡ audit_answer (record { series = series.now; index = text_index index.now }) }
 {
     let p = make_plan(series, head, judged_rows(head, c));
     if p.refusal.number != 0 {

@@ -86,7 +86,7 @@ module _ (series : List ℤ) (h : Head) where
   runs-found W a k low up o [] m s p = ap found (sym (else-none o))
   runs-found W a k low up o (x ∷ l) m s p =
       ap (λ (u : RowsAudited). runs_walked series h k low up u (map entry l)) (run-held W k low up o x.0 x.1 m s p.1 p.2)
-      ∙ runs-found W _ k low up _ l m s p.3
+      ∙ runs-found W (x.1 + 2) k low up _ l m s p.3
       ∙ ap found (else-assoc o (wrong_in sum k (ranged low up) (numbers_from x.0 _) none) _
       ∙ ap (or_else o) (sym (wrong-append sum k (ranged low up) (numbers_from x.0 _) (offsets (map entry l)) none)))
 
