@@ -1,6 +1,7 @@
 -- What each pass of an extension asks, by what the passes before it left, and what the last one leaves. A count of rows is that of the rows made, and a record that is read is the one that stands there.
-use Rattle.meaning_numbers.proofs.Prelude.{◌≡◌, subst, Bool, List, ℕ, ◌+◌, ◌*◌, ◌<◌, ◌≤◌, ℤ, length, get_or}
-use Rattle.meaning_rows.specs.{declared.Row.Row, Extend.extended}
+use Rattle.meaning_numbers.proofs.Prelude.{◌≡◌, subst, Bool, List, ℕ, ◌+◌, ◌*◌, ◌<◌, ◌≤◌, ℤ, nat_abs, length, get_or}
+use Rattle.meaning_curves.specs.Curve.{window_sum}
+use Rattle.meaning_rows.specs.{declared.Row.Row, Index.Index, Extend.grown, Extend.extended}
 use Rattle.meaning_entries.specs.Buffers.{index_buffers}
 use Rattle.rows_records.specs.Records.{zero_row}
 use Rattle.sums_slide.specs.declared.Window.{Window}
@@ -10,6 +11,10 @@ use Rattle.extend_rows.specs.{Steps.joins_of, Passes.CountAsked, Passes.CountedA
 use Rattle.extend_runs.specs.{Joining.JoinAsked, Joining.JoinedAt, Copied.CopyAsked, Copied.CopiedAs}
 use Rattle.extend_passes.specs.{Finished.HoldsExtended, Whole.index_of, Whole.PassesAsked}
 use Rattle.extend_passes.proofs.Whole.{count-asked, first-in, lays-asked, copies-asked, old-fits, join-asked, fill-asked, extended-held, rows-counted}
+
+-- the windows that each row of an extension has
+abbrev pub tests : Index → List ℤ → ℕ → ℕ → Bool
+tests x s i = (grown x (window_sum s (nat_abs x.window)) (nat_abs x.windows) (get_or (made_rows x s) i zero_row)).has
 
 module _ {s : List ℤ} {w e d base bias old : ℕ} {from : List Row} {lefts rights : List ℕ} {rows : List Row} {left right : List ℕ} (asked : PassesAsked s w e d base old from lefts rights rows left right × (bias ≡ 10000 * w + e)) where
   -- the windows that each row has
