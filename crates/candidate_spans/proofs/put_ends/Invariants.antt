@@ -1,9 +1,7 @@
 -- `put_ends`. The invariant: the entries of the parts passed are held (`held_next`); the measure is how many parts are left.
-use Rattle.meaning_numbers.proofs.Prelude.{rules, ◌≡◌, ap, ◌∙◌, ◌-◌, ◌≤◌, arith, length, w64, to_z-of_z}
-use Rattle.candidate_met.specs.{Parts.part_range, Stored.raised_end}
+use Rattle.meaning_numbers.proofs.Prelude.{◌≡◌, ◌-◌, ◌≤◌, length}
+use Rattle.candidate_met.specs.{Parts.part_range}
 use Rattle.candidate_spans.specs.Held.{PartsHeld, low_ends, high_ends}
-use Rattle.candidate_spans.proofs as own
-use own.Held.{held_next, part_room}
 use Rattle.candidate_spans.proofs.put_ends.Given as goal
 
 abbrev pub invariant-loop-i : goal.invariant-loop-i

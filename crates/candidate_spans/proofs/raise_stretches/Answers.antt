@@ -1,4 +1,4 @@
-use Rattle.meaning_numbers.proofs.Prelude.{◌≡◌, refl, ◌∙◌, ◌*◌, ◌≤◌, arith, mul-le-mul, length}
+use Rattle.meaning_numbers.proofs.Prelude.{◌≡◌, refl, ◌∙◌, ◌*◌, ◌≤◌, arith, mul-le-mul}
 use Rattle.candidate_spans.proofs.Raised.{by-starts, tail-raised, by_next}
 use Rattle.candidate_spans.proofs.raise_stretches.Goals as goal
 

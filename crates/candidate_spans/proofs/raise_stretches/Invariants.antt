@@ -1,8 +1,6 @@
 -- `raise_stretches`. The invariant is `CountedBy` over the parts passed (`tail-raised`, `by_next`); the measure is how many parts are left.
-use Rattle.meaning_numbers.proofs.Prelude.{rules, ◌≡◌, refl, ◌∙◌, ◌-◌, ◌*◌, ◌<◌, ◌≤◌, arith, mul-le-mul, length}
+use Rattle.meaning_numbers.proofs.Prelude.{◌≡◌, ◌-◌, ◌≤◌, length}
 use Rattle.candidate_spans.specs.Raised.{CountedBy, stretch_hit}
-use Rattle.candidate_spans.proofs as own
-use own.Raised.{by-starts, tail-raised, by_next}
 use Rattle.candidate_spans.proofs.raise_stretches.Given as goal
 
 abbrev pub invariant-loop-i : goal.invariant-loop-i
