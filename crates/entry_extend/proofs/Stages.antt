@@ -24,6 +24,9 @@ module _ (s : List ℤ) (h : Head) (from : List Row) (lefts rights : List ℕ) (
   pub halts : not (eqb p.number 0) ≡ true → {t : Extended} → t ≡ refused_as p → ExtendKept (lent_extend s h from lefts rights) b t b
   halts f e = rw (e, plan-here) (refused-kept s h from lefts rights b (λ z. eqb-false p.number 0 (not-true (eqb p.number 0) f) (ap (λ (r : Refusal). r.number) plan-here ∙ z)))
 
+  pub stops : (p.number ≡ 0 → ⊥) → {t : Extended} → t ≡ refused_as p → ExtendKept (lent_extend s h from lefts rights) b t b
+  stops f e = rw (e, plan-here) (refused-kept s h from lefts rights b (λ z. f (ap (λ (r : Refusal). r.number) plan-here ∙ z)))
+
   pub goes : not (eqb p.number 0) ≡ false → (the_plan s h from lefts rights b).number ≡ 0
   goes f = sym (ap (λ (r : Refusal). r.number) plan-here) ∙ eqb-true p.number 0 (not-false (eqb p.number 0) f)
 

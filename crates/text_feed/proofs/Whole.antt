@@ -3,7 +3,7 @@ use Rattle.meaning_numbers.proofs.Prelude.{◌≡◌, refl, sym, ap, ◌∙◌, 
 use Rattle.meaning_text.specs.{Form.Form, Form.Value, Read.fine, Read.unfit, Read.read_text, Texts.program_form}
 use Rattle.meaning_text.proofs.Automaton.{Fed, going, failed, feed, feed-failed, judged}
 use Rattle.text_lines.specs.declared.State.{State}
-use Rattle.text_lines.specs.Follow.{Said, nothing_said, Reading, at, step, program_start, program_value}
+use Rattle.text_lines.specs.Follow.{Said, nothing_said, Reading, step, program_start, program_value}
 use Rattle.text_lines.proofs.Follow.{accept, accept_state, program-comes}
 use Rattle.text_feed.specs.{declared.Progress.Progress, declared.Feeding.Feeding, Keep.Holds, Keep.numbers_of, Feed.Shows, Feed.Comes, Whole.no_values}
 use Rattle.text_feed.proofs.Keep.{kept-none}

@@ -1,5 +1,5 @@
 -- Laws of specs/Number.
-use Rattle.meaning_numbers.proofs.Prelude.{◌≡◌, refl, true, false, ℕ, suc, ◌-◌, ◌<◌, ◌≤◌, ◌^◌, arith, ltb, eqb, ℤ, ltb-true, ltb-false, lt-ltb, le-ltb}
+use Rattle.meaning_numbers.proofs.Prelude.{◌≡◌, refl, true, false, ℕ, suc, ◌<◌, ◌≤◌, ◌^◌, arith, ltb, eqb, ℤ, ltb-true, ltb-false, lt-ltb, le-ltb}
 use Rattle.meaning_text.proofs.Reading.{on-flag, false-true}
 use Rattle.text_numbers.specs.declared.Numeral.TheVariants.{Start, Sign, Zero, Plus, Less}
 use Rattle.text_numbers.specs.{declared.Numeral.Numeral, declared.Taken.Taken, declared.Taken.TheVariants.More, declared.Taken.TheVariants.Stop, declared.Whole.Whole, declared.Whole.TheVariants.Value, declared.Whole.TheVariants.Partial, Number.within, Number.fits_behind, Number.grown, Number.first, Number.num_step, Number.NumGood}

@@ -70,13 +70,7 @@ pub fn curve_straight(s: &[i32], q: &[i32], limit: u64, out: &mut [u64]) -> usiz
 }
 
 // The envelope bound of each stretch of `s`, likewise.
-pub fn curve_bound(
-    s: &[i32],
-    low: &[i32],
-    high: &[i32],
-    limit: u64,
-    out: &mut [u64],
-) -> usize
+pub fn curve_bound(s: &[i32], low: &[i32], high: &[i32], limit: u64, out: &mut [u64]) -> usize
     ensures { BoundTold s.now low.now high.now limit out.old result out.new }
 {
     let n = s.len();

@@ -53,13 +53,7 @@ fn tell_audited(a: Audited) -> Answer
 }
 
 // The audit.
-pub fn index_audit(
-    series: &[i32],
-    head: Head,
-    rows: &[Row],
-    left: &[u32],
-    right: &[u32],
-) -> Answer
+pub fn index_audit(series: &[i32], head: Head, rows: &[Row], left: &[u32], right: &[u32]) -> Answer
     ensures { result ≡ told_audited (audit_answer (lent_audit series.now head rows.now left.now right.now)) }
 {
     let a = audit(series, head, rows, left, right);

@@ -181,13 +181,7 @@ pub fn curve_outside(s: &[i32]) -> usize
 }
 
 // The sum of each window of `w` values into `sums`, and the row that holds it, at the width `d`, into `rows`. How many were written.
-pub fn curve_windows(
-    s: &[i32],
-    w: usize,
-    d: u32,
-    sums: &mut [i32],
-    rows: &mut [i32],
-) -> usize
+pub fn curve_windows(s: &[i32], w: usize, d: u32, sums: &mut [i32], rows: &mut [i32]) -> usize
     ensures { WindowsTold s.now w d sums.old rows.old result sums.new rows.new }
 {
     let n = s.len();

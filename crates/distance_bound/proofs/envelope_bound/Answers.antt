@@ -8,7 +8,6 @@ use Rattle.distance_bound.proofs.envelope_bound.Goals as goal
 
 -- what a block of n values from place i on adds
 module _ {s low high : List ℤ} (all : AllIn s × AllIn low × AllIn high) (from i n : ℕ) {r : ℕ} (told : r ≡ Σℕ n (λ k. apart (stretch s from) (at low) (at high) (i + k))) where
-
   small : r ≤ 400000000 * n
   small = omega (arith, told, aparts-le all.0 all.1 all.2 from i n)
 

@@ -20,7 +20,6 @@ abbrev Greater : (l h v d : ℤ) → Type 0
 Greater l h v d = (up d ≡ excess l h v) × (dn d ≤ 20000)
 
 module _ {l h v a b d : ℤ} (in_l : InLimits l) (in_h : InLimits h) (in_v : InLimits v) (a-is : a ≡ v -ℤ h) (b-is : b ≡ l -ℤ v) where
-
   second : lt_z a b ≡ true → d ≡ b → Greater l h v d
   second t e = omega (zmach32, z-sub v h, z-sub l v, up_is (v -ℤ h), up_is (l -ℤ v), up_is d, in_l.low, in_l.high, in_h.low, in_h.high, in_v.low, in_v.high)
 
@@ -33,8 +32,9 @@ below c =
     let h = c.requires.in_limits_2 in
     let v = c.requires.in_limits_3 in
     elim c.if-a-b.branch [
-      then-a-b w ↦ rw (c.if-a-b.d-is) at (second l h v (read v h) (read l v) w.if-a-b.true w.d-is)
-    | else-a-b w ↦ rw (c.if-a-b.d-is) at (first l h v (read v h) (read l v) w.if-a-b.false w.d-is) ]
+      | then-a-b w ↦ rw (c.if-a-b.d-is) at (second l h v (read v h) (read l v) w.if-a-b.true w.d-is)
+      | else-a-b w ↦ rw (c.if-a-b.d-is) at (first l h v (read v h) (read l v) w.if-a-b.false w.d-is)
+    ]
 
 above : (c : goal.Else-d-lt0) → Greater c.args.low c.args.high c.args.x c.if-a-b.d
 above c =
@@ -42,8 +42,9 @@ above c =
     let h = c.requires.in_limits_2 in
     let v = c.requires.in_limits_3 in
     elim c.if-a-b.branch [
-      then-a-b w ↦ rw (c.if-a-b.d-is) at (second l h v (read v h) (read l v) w.if-a-b.true w.d-is)
-    | else-a-b w ↦ rw (c.if-a-b.d-is) at (first l h v (read v h) (read l v) w.if-a-b.false w.d-is) ]
+      | then-a-b w ↦ rw (c.if-a-b.d-is) at (second l h v (read v h) (read l v) w.if-a-b.true w.d-is)
+      | else-a-b w ↦ rw (c.if-a-b.d-is) at (first l h v (read v h) (read l v) w.if-a-b.false w.d-is)
+    ]
 
 small : (c : goal.Else-d-lt0) → excess c.args.low c.args.high c.args.x ≤ 20000
 small c = excess_small c.requires.in_limits c.requires.in_limits_2 c.requires.in_limits_3

@@ -12,7 +12,6 @@ use Rattle.distance_match.proofs.match_at.Goals as goal
 
 -- of a raw query
 module _ (e : goal.After-slice_known-in-Raw-1) where
-
   raw : e.args.kind ≡ Raw
   raw = e.in-Raw.is
 

@@ -10,7 +10,6 @@ loop-k-init c = rw Σℕ-none (omega arith)
 
 -- what a turn adds
 module _ (c : goal.After-squared-sum) where
-
   abbrev p : ℕ
   p = c.args.p + c.loop-k.k
 

@@ -7,7 +7,6 @@ use Rattle.distance_straight.proofs.straight.Goals as goal
 
 -- what a block of n values from place i on adds
 module _ {s q : List ℤ} (in_s : AllIn s) (in_q : AllIn q) (from i n : ℕ) {r : ℕ} (told : r ≡ Σℕ n (λ k. cost (stretch s from (i + k)) (at q (i + k)))) where
-
   small : r ≤ 400000000 * n
   small = omega (arith, told, costs-le in_s in_q from i n)
 

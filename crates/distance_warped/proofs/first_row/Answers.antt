@@ -13,7 +13,6 @@ loop-j-init c =
 
 -- a turn
 module _ (l : goal.After-squared-left) where
-
   abbrev S : ℕ → ℤ
   S = stretch l.args.s.now l.args.from
 

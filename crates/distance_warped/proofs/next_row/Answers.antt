@@ -29,7 +29,6 @@ cell-left-requires c =
 
 -- a turn
 module _ (l : goal.After-lesser-least) where
-
   abbrev S : ℕ → ℤ
   S = stretch l.args.s.now l.args.from
 

@@ -14,7 +14,6 @@ use Rattle.distance_warped.proofs.table_within.Goals as goal
 
 -- the first excess
 module _ (f : ℕ → ℕ) {m bound x : ℕ} (some : 0 < m) (bound-is : bound ≡ Σℕ m f) (x-is : x ≡ f 0) where
-
   first-is : Σℕ 1 f ≡ x
   first-is = omega (arith, Σℕ-more 0 f, Σℕ-none f)
 
@@ -23,7 +22,6 @@ module _ (f : ℕ → ℕ) {m bound x : ℕ} (some : 0 < m) (bound-is : bound �
 
 -- after a row: the rest holds the excess at the next place, and without it is the bound of the rows after that
 module _ (f : ℕ → ℕ) (i rest : ℕ) {m bound x : ℕ} (rest-is : rest + Σℕ (i + 1) f ≡ bound) (bound-is : bound ≡ Σℕ m f) (here : i + 1 < m) (x-is : x ≡ f (i + 1)) where
-
   enough : x ≤ rest
   enough = omega (arith, Σℕ-more (i + 1) f, Σℕ-fewer (i + 1 + 1) m f (omega arith))
 
@@ -34,7 +32,6 @@ module _ (f : ℕ → ℕ) (i rest : ℕ) {m bound x : ℕ} (rest-is : rest + Σ
 module _ {s q low high : List ℤ} (from i rest : ℕ) {b bound x least : ℕ} (in_s : AllIn s) (in_q : AllIn q) (e : Envelopes q (length q) b low high) (short : length q ≤ longest_query)
     (rest-is : rest + Σℕ (i + 1) (apart (stretch s from) (at low) (at high)) ≡ bound) (bound-is : bound ≡ Σℕ (length q) (apart (stretch s from) (at low) (at high)))
     (here : i + 1 < length q) (x-is : x ≡ apart (stretch s from) (at low) (at high) (i + 1)) (l : LeastOf (cells (stretch s from) (at q) b (i + 1)) b (i + 1) (length q) least) where
-
   fits : least + (rest - x) < 2 ^ 64
   fits =
       let le : least ≤ big = omega (arith, l.at (i + 1) here (record { first = omega arith; second = omega arith }), cell-le (stretch s from) (at q) b (λ x y. cost-le (in_s.at _) (in_q.at _)) (i + 1) (i + 1) (omega arith)) in

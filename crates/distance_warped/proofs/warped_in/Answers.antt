@@ -15,7 +15,6 @@ pub envelope_bound-bound-requires : goal.envelope_bound-bound-requires
 envelope_bound-bound-requires c = record { low_in_bounds = search rules; low_len = search rules; low_len_bound = search rules; all_in = (c.requires.all_in.0, low-in c.requires.all_in.1 c.requires.envelopes, high-in c.requires.all_in.1 c.requires.envelopes) }
 
 module _ (c : goal.Then-limit-bound) where
-
   abbrev S : ℕ → ℤ
   S = stretch c.args.s.now c.args.from
 

@@ -12,7 +12,6 @@ use Rattle.distance_within.proofs.normalise_within.Goals as goal
 -- after a part of n values from place i on, up to place e
 module _ {s low high out out' : List ℤ} {from m values squares a i n e : ℕ} (ready : NormalReady s from m values squares a) (in_low : AllIn low) (in_high : AllIn high)
     (t : NormalTo (stretch s from) m i out) (p : NormalPart (stretch s from) (length out) i n out out') (is : e ≡ i + n) (fits : e ≤ m) where
-
   some : 0 < spread (stretch s from) m
   some = omega (arith, ready.spread-is, ready.some)
 

@@ -35,7 +35,7 @@ offsets-init c =
       c.runs.invariant.2,
       to_z-of_z w32 c.part_sum-part.result (record { sfits = c.part_sum-part.type_inv }) ∙ c.part_sum-part.ensures,
       run-begins a.series.now a.head.window a.left.now a.right.now (a.from + c.rows.k) r i (r.first + r.runs) (later a.series.now a.head.window a.left.now a.right.now a.from a.chunk c.rows.k) c.runs-test.true reads.in_left reads.in_right
-      ∙ c.runs.invariant.3,
+          ∙ c.runs.invariant.3,
     )
 
 pub value_out-part-requires-clause-all_in : goal.value_out-part-requires-clause-all_in
@@ -62,7 +62,7 @@ runs-preserved c =
       omega (arith, c.runs-test.true),
       c.offsets.invariant.1,
       run_ends a.series.now a.head.window a.left.now a.right.now (a.from + c.rows.k) r _ _ _ (r.first + r.runs) (later a.series.now a.head.window a.left.now a.right.now a.from a.chunk c.rows.k) c.offsets-test.false
-      ∙ c.offsets.invariant.3,
+          ∙ c.offsets.invariant.3,
     )
 
 pub rows-preserved : goal.rows-preserved
@@ -72,7 +72,7 @@ rows-preserved c =
       omega (arith, c.rows-test.true),
       c.runs.invariant.2,
       row_ends a.series.now a.head.window a.left.now a.right.now (a.from + c.rows.k) r c.runs.i (r.first + r.runs) (later a.series.now a.head.window a.left.now a.right.now a.from a.chunk c.rows.k) c.runs-test.false
-      ∙ c.runs.invariant.3,
+          ∙ c.runs.invariant.3,
     )
 
 pub returns-after-rows : goal.returns-after-rows

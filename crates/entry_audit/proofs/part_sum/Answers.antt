@@ -5,7 +5,6 @@ use Rattle.values.proofs.Window.{out-fits, out-sum, but_last}
 use Rattle.entry_audit.proofs.part_sum.Goals as goal
 
 module _ (c : goal.After-x-1) where
-
   sum_is : to_z w32 (of_z w32 c.window_sum-sum.result) ≡ window_sum c.args.s.now (c.args.rest + 1) c.args.j
   sum_is = to_z-of_z w32 _ (record { sfits = c.window_sum-sum.type_inv }) ∙ c.window_sum-sum.ensures
 

@@ -5,7 +5,6 @@ use Rattle.values.proofs.Window.{in-fits, in_sum, window-last}
 use Rattle.entry_audit.proofs.value_in.Goals as goal
 
 module _ (c : goal.After-x-1) where
-
   sum_is : to_z w32 (of_z w32 c.args.part) ≡ window_sum c.args.s.now c.args.rest c.args.j
   sum_is = to_z-of_z w32 _ c.ranges.part ∙ c.requires.part_value
 

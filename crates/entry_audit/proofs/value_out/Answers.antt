@@ -5,7 +5,6 @@ use Rattle.values.proofs.Window.{out-fits, out-sum, but_first}
 use Rattle.entry_audit.proofs.value_out.Goals as goal
 
 module _ (c : goal.After-x-1) where
-
   sum_is : to_z w32 (of_z w32 c.args.sum) ≡ window_sum c.args.s.now (c.args.rest + 1) c.args.j
   sum_is = to_z-of_z w32 c.args.sum c.ranges.sum ∙ c.requires.sum_value
 

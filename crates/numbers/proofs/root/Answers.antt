@@ -9,8 +9,9 @@ loop-width-preserved c =
     let w = c.loop-width.width in
     let e : r + w / 2 + (w - w / 2) ≡ r + w = omega arith in
     elim c.if-t-y.branch [
-      then-t-y k ↦ rw k.r-is (omega arith, rw e (omega arith), omega arith, omega arith)
-    | else-t-y k ↦ rw k.r-is (omega arith, omega (arith, sq-le {x = r + w / 2} {y = r + (w - w / 2)} (omega arith)), omega arith, omega arith) ]
+      | then-t-y k ↦ rw k.r-is (omega arith, rw e (omega arith), omega arith, omega arith)
+      | else-t-y k ↦ rw k.r-is (omega arith, omega (arith, sq-le {x = r + w / 2} {y = r + (w - w / 2)} (omega arith)), omega arith, omega arith)
+    ]
 
 pub returns : goal.returns
 returns c =

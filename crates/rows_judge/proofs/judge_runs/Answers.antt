@@ -41,7 +41,7 @@ loop-i-preserved c =
       omega (arith, g.below, g.order),
       omega (arith, fits),
       inside-next a.windows o.least o.total l r (part left right (o.i + 1) a.to) g
-      ∙ whole left right a.windows o.least o.total o.i a.to c.loop-i-test.true c.requires.1 c.requires.2 o.invariant.3,
+          ∙ whole left right a.windows o.least o.total o.i a.to c.loop-i-test.true c.requires.1 c.requires.2 o.invariant.3,
     )
 
 pub returns-then-least-windows : goal.returns-then-least-windows

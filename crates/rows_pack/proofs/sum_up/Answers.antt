@@ -25,9 +25,8 @@ pub overflow_add-sum : goal.overflow_add-sum
 overflow_add-sum c = omega (arith, small c)
 
 pub loop-i-preserved : goal.loop-i-preserved
-loop-i-preserved c =
-    (
-      omega arith,
-      next c ∙ sym (Σℕ-more _ (λ k. get_or c.args.counts.now k 0)),
-      summed-more (c.loop-i.sum + get_or c.loop-i.counts c.loop-i.i 0) c.loop-i.invariant.2 (room c) (next c),
-    )
+loop-i-preserved c = (
+  omega arith,
+  next c ∙ sym (Σℕ-more _ (λ k. get_or c.args.counts.now k 0)),
+  summed-more (c.loop-i.sum + get_or c.loop-i.counts c.loop-i.i 0) c.loop-i.invariant.2 (room c) (next c),
+)

@@ -5,7 +5,6 @@ use Rattle.sums_count.proofs.find_number.Goals as goal
 
 -- what is added is at most a half
 module _ (c : goal.After-at_most) where
-
   added : (c.loop-size.size / 2) * c.at_most.result ≤ c.loop-size.size / 2
   added = half-or-none _ _ _ c.at_most.ensures
 

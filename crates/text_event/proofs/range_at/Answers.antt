@@ -1,5 +1,5 @@
 -- `range_at`: `(row `, and two numbers.
-use Rattle.meaning_numbers.proofs.Prelude.{arith, w64, to_z-of_z, rules}
+use Rattle.meaning_numbers.proofs.Prelude.{w64, to_z-of_z, rules}
 use Rattle.text_event.proofs as own
 use own.Steps.{range-told}
 use Rattle.text_event.proofs.range_at.Goals as goal

@@ -1,7 +1,7 @@
 -- `runs_event`: a run, a row's end, or what comes byte by byte.
 use Rattle.meaning_numbers.proofs.Prelude.{arith}
 use Rattle.text_event.proofs as own
-use own.EventLaws.{run_up, closed-up}
+use own.EventLaws.{closed-up}
 use own.Steps.{ends-told}
 use Rattle.text_event.proofs.runs_event.Goals as goal
 

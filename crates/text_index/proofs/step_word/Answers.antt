@@ -1,5 +1,5 @@
 -- `step_word`. By where the byte leads, and whether it ends a row.
-use Rattle.meaning_numbers.proofs.Prelude.{rules, sym, ◌∙◌}
+use Rattle.meaning_numbers.proofs.Prelude.{sym, ◌∙◌}
 use Rattle.text_index.specs.Step.{word_step}
 use Rattle.text_index.proofs.step_word.Goals as goal
 

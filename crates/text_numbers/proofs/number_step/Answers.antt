@@ -1,8 +1,6 @@
 -- `number_step`. By the state of the number and the byte.
-use Rattle.meaning_numbers.proofs.Prelude.{sym, ◌∙◌, arith, eq-eqb, ne_eqb, rules}
+use Rattle.meaning_numbers.proofs.Prelude.{sym, ◌∙◌, eq-eqb, ne_eqb}
 use Rattle.text_numbers.specs.Number.{num_step}
-use Rattle.text_numbers.proofs as own
-use own.Number.{within-true}
 use Rattle.text_numbers.proofs.number_step.Goals as goal
 
 pub returns-then-b-eq45 : goal.returns-then-b-eq45

@@ -1,5 +1,5 @@
 -- `number_length`: the digits, and the sign of a number below 0.
-use Rattle.meaning_numbers.proofs.Prelude.{◌≡◌, sym, ap, ◌∙◌, ℕ, ◌≤◌, arith, ℤ, pos, nat_abs, length, ◌≤ℤ◌, ◌<ℤ◌, SFits, w32, w64, to_z, of_z, to_z-of_z, zmach32, rules}
+use Rattle.meaning_numbers.proofs.Prelude.{◌≡◌, sym, ap, ◌∙◌, ℕ, arith, ℤ, pos, nat_abs, length, ◌≤ℤ◌, ◌<ℤ◌, SFits, w32, w64, to_z, of_z, to_z-of_z, zmach32, rules}
 use Rattle.meaning_text.specs.Number.{spellℕ}
 use Rattle.text_put.proofs as own
 use own.Digits.{sfits_wide, spell-minus, spell-plus}

@@ -1,5 +1,5 @@
 -- `put_word`. A turn puts one byte more of the word.
-use Rattle.meaning_numbers.proofs.Prelude.{arith, rules}
+use Rattle.meaning_numbers.proofs.Prelude.{arith}
 use Rattle.text_put.proofs.Put.{put-turn, put_all}
 use Rattle.text_put.proofs.put_word.Goals as goal
 

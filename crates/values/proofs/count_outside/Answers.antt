@@ -10,7 +10,6 @@ loop-k-init c = (omega arith, sym (count_none _))
 
 -- a turn looks at the value at k
 module _ (c : goal.After-in_limits) where
-
   abbrev outside : ℕ → Bool
   outside j = not (value_in (stretch c.args.s.now c.args.from j))
 

@@ -12,7 +12,6 @@ use Rattle.values.proofs.next_sums.Goals as goal
 
 -- a raised value, as the meaning has it, is small, and so is its square
 module _ {x : ℤ} {r : ℕ} (in_x : InLimits x) (e : r ≡ raised (to_z w32 (of_z w32 x))) where
-
   told : r ≡ raised x
   told = e ∙ raised-back in_x
 

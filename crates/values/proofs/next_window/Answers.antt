@@ -7,7 +7,6 @@ use own.Window.{window-small, out-fits, out-sum, moved_on}
 use Rattle.values.proofs.next_window.Goals as goal
 
 module _ (c : goal.After-y-1) where
-
   -- the sum, and what leaves
   abbrev z : ℤ
   z = window_sum c.args.s.now c.args.w c.args.j

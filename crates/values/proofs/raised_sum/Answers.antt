@@ -10,7 +10,6 @@ loop-k-init c = rw Σℕ-none (omega arith)
 
 -- what a turn adds
 module _ (c : goal.After-raise-sum) where
-
   told : c.raise-sum.result ≡ raised (stretch c.args.s.now c.args.from c.loop-k.k)
   told = c.raise-sum.ensures ∙ raised-back (c.requires.all_in.at _)
 

@@ -9,7 +9,6 @@ pub loop-k-init : goal.loop-k-init
 loop-k-init c = rw (Σℕ-none, Σℕ-none) (omega arith)
 
 module _ (c : goal.After-raise-v) where
-
   told : c.raise-v.result ≡ raised (stretch c.args.s.now c.args.from c.loop-k.k)
   told = c.raise-v.ensures ∙ raised-back (c.requires.all_in.at _)
 
