@@ -1,5 +1,5 @@
 -- `arrive`. By the two tests.
-use Rattle.meaning_numbers.proofs.Prelude.{rules, eq-eqb, ne_eqb, lt-ltb, le-ltb, sym, ◌∙◌, arith}
+use Rattle.meaning_numbers.proofs.Prelude.{eq-eqb, ne_eqb, lt-ltb, le-ltb, sym, ◌∙◌, arith}
 use Rattle.text_lines.specs.Step.{reach}
 use Rattle.text_lines.proofs as own
 use own.Step.{word-short}

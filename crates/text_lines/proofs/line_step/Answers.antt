@@ -1,5 +1,4 @@
 -- `line_step`. By the state.
-use borrow.Author.Rules.{rules}
 use Rattle.text_lines.specs.Step.{line_step}
 use Rattle.text_lines.proofs.line_step.Goals as goal
 

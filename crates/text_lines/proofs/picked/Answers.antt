@@ -1,5 +1,5 @@
 -- `picked`. By the case and the byte.
-use Rattle.meaning_numbers.proofs.Prelude.{rules, eq-eqb, ne_eqb}
+use Rattle.meaning_numbers.proofs.Prelude.{eq-eqb, ne_eqb}
 use Rattle.text_lines.specs.Step.{pick}
 use Rattle.text_lines.proofs.picked.Goals as goal
 

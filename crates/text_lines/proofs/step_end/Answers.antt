@@ -1,5 +1,5 @@
 -- `step_end`. The word that the byte picks behind the number is tried.
-use Rattle.meaning_numbers.proofs.Prelude.{rules, sym, ◌∙◌, w64, to_z-of_z}
+use Rattle.meaning_numbers.proofs.Prelude.{sym, ◌∙◌, w64, to_z-of_z}
 use Rattle.text_lines.specs.Step.{end_step}
 use Rattle.text_lines.proofs as own
 use own.Step.{word-long}

@@ -1,5 +1,5 @@
 -- `step_turn`. The word that the byte picks is tried.
-use Rattle.meaning_numbers.proofs.Prelude.{rules, sym, ◌∙◌}
+use Rattle.meaning_numbers.proofs.Prelude.{sym, ◌∙◌}
 use Rattle.text_lines.specs.Step.{turn_step}
 use Rattle.text_lines.proofs as own
 use own.Step.{word-long}

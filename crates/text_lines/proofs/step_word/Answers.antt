@@ -1,5 +1,5 @@
 -- `step_word`. By where the byte leads, and whether it is the last of the word.
-use Rattle.meaning_numbers.proofs.Prelude.{rules, lt-ltb, le-ltb, sym, ◌∙◌, arith}
+use Rattle.meaning_numbers.proofs.Prelude.{lt-ltb, le-ltb, sym, ◌∙◌, arith}
 use Rattle.text_lines.specs.Step.{word_step}
 use Rattle.text_lines.proofs as own
 use own.Step.{word-short}

@@ -1,8 +1,8 @@
 -- `line_at`. Line 1 at the start; a newline counts one line more, and behind the last byte the line stays.
-use Prim.Native.Nat.{suc, ◌-◌, ◌≤◌}
+use Prim.Native.Nat.{suc}
 use borrow.Author.Tests.{eq-eqb, ne_eqb}
 use lib.Seq.{take_all}
-use mathlib.Core.Path.{◌≡◌, sym, ap, ◌∙◌}
+use mathlib.Core.Path.{sym, ap, ◌∙◌}
 use native.Mathlib.Numerals.{add-one}
 use native.Mathlib.Omega.{arith}
 use Rattle.meaning_text.specs.{Bytes.newlines, Read.line_of}

@@ -1,12 +1,7 @@
 -- `line_at`. The invariant: n is the line of place i, and at most i + 1. The measure is how far `at` is.
 use Prim.Native.Nat.{suc, ◌-◌, ◌≤◌}
-use borrow.Author.Tests.{eq-eqb, ne_eqb}
-use lib.Seq.{take_all}
-use mathlib.Core.Path.{◌≡◌, sym, ap, ◌∙◌}
-use native.Mathlib.Numerals.{add-one}
-use native.Mathlib.Omega.{arith}
-use Rattle.meaning_text.specs.{Bytes.newlines, Read.line_of}
-use Rattle.meaning_text.proofs.Lines.{line-start, line-next}
+use mathlib.Core.Path.{◌≡◌}
+use Rattle.meaning_text.specs.{Read.line_of}
 use Rattle.text_reader.proofs.line_at.Given as goal
 
 abbrev pub invariant-loop-i : goal.invariant-loop-i
