@@ -1,5 +1,5 @@
 -- `last_ends` meets its contract.
-use Rattle.meaning_numbers.proofs.Prelude.{rules, ◌≡◌, ℕ, ◌+◌, ◌-◌, ◌≤◌, arith, le-leb, lt-leb}
+use Rattle.meaning_numbers.proofs.Prelude.{◌≡◌, ℕ, ◌-◌, ◌≤◌, arith, le-leb, lt-leb}
 use Rattle.meaning_rows.proofs.Grown.{last_ends}
 use Rattle.extend_count.proofs.last_ends.Goals as goal
 

@@ -1,5 +1,5 @@
 -- `level_at` meets its contract.
-use Rattle.meaning_numbers.proofs.Prelude.{rules, ◌≡◌, ◌+◌, arith}
+use Rattle.meaning_numbers.proofs.Prelude.{◌≡◌, ◌+◌, arith}
 use Rattle.sums_slide.specs.Levels.{level, level-small}
 use Rattle.extend_count.proofs.level_at.Goals as goal
 

@@ -1,8 +1,7 @@
 -- `copy_column`: a turn reads a row and the next old row, and copies the old row's runs to the row's part.
-use Rattle.meaning_numbers.proofs.Prelude.{◌≡◌, sym, ap, ◌∙◌, ℕ, arith, length}
-use Rattle.extend_weave.proofs.Fits.{below_rows}
-use Rattle.extend_parts.specs.Copy.{passed_to, column_to}
-use Rattle.extend_parts.proofs.Copy.{column-none, column-more, passed_none, passed-more, length-column}
+use Rattle.meaning_numbers.proofs.Prelude.{◌≡◌, sym, ap, ◌∙◌, ℕ, arith}
+use Rattle.extend_parts.specs.Copy.{column_to}
+use Rattle.extend_parts.proofs.Copy.{column-none, column-more, passed_none, passed-more}
 use Rattle.extend_parts.proofs.copy_column.Goals as goal
 
 pub loop-i-init : goal.loop-i-init

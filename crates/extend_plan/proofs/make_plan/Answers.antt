@@ -1,5 +1,4 @@
 -- `make_plan`: each test is a line of the table.
-use borrow.Author.Rules.{rules}
 use Rattle.meaning_entries.specs.Refusal.{more_windows}
 use Rattle.refusals.specs.Refusal.{judged_line}
 use Rattle.refusals.proofs.RefusalLaws.{line_before, place-before, series-before}

@@ -1,5 +1,5 @@
 -- `low_at`: no product wraps, as the ranges are small.
-use Rattle.meaning_numbers.proofs.Prelude.{rules, ◌∙◌, arith, w32, to_z-of_z, lt-ltb, le-ltb}
+use Rattle.meaning_numbers.proofs.Prelude.{◌∙◌, w32, to_z-of_z, lt-ltb, le-ltb}
 use Rattle.extend_weave.specs.Turn.{low_at}
 use Rattle.extend_weave.proofs.low_at.Goals as goal
 
