@@ -4,7 +4,7 @@
 ghost use Rattle.std.specs.Prelude.{◌≡◌, length};
 ghost use Rattle.try_c_match.specs.Told.{kind_of, MatchesTold, place_or, WindowsTold};
 ghost use Rattle.meaning_curves.specs.Limits.{first_outside};
-ghost use Rattle.meaning_curves.specs.Curve.{stretch};
+ghost use Rattle.meaning_numbers.specs.Root.{root};
 
 // For each stretch of `s` the distance and 1 where it matches `q`, else 0. How many were written; 0 where the input is refused. `curve`, `low`, `high` and `room` are as long as `q`, `row` is longer: the first three are left with the curve compared and its envelopes; what `room` and `row` hold is free.
 #[unsafe(no_mangle)]
@@ -50,4 +50,11 @@ pub extern "C" fn curve_windows(
     ensures { WindowsTold s.now w d sums.old rows.old result sums.new rows.new }
 {
     try_c_match::curve_windows(s, w, d, sums, rows)
+}
+
+#[unsafe(no_mangle)]
+pub extern "C" fn curve_root(y: u64) -> u64
+    ensures { result ≡ root y }
+{
+    try_c_match::curve_root(y)
 }
