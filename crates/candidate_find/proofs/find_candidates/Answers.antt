@@ -1,5 +1,7 @@
 -- `find_candidates`: a plan that refuses leaves the buffers as they were (`halts`); else the candidates are gathered (`went`).
-use Rattle.meaning_numbers.proofs.Prelude.{ap, not, eq-eqb, ne_eqb}
+use borrow.Author.Tests.{eq-eqb, ne_eqb}
+use mathlib.Core.Bool.{not}
+use mathlib.Core.Path.{ap}
 use Rattle.meaning_entries.specs.Search.{search_buffers}
 use Rattle.candidate_find.proofs.Looks.{halts, goes, went}
 use Rattle.candidate_find.proofs.find_candidates.Goals as goal

@@ -1,5 +1,6 @@
 -- `hand_out`: the counts are raised, and the candidates collected.
-use Rattle.meaning_numbers.proofs.Prelude.{◌∙◌, arith}
+use mathlib.Core.Path.{◌∙◌}
+use native.Mathlib.Omega.{arith}
 use Rattle.meaning_entries.specs.Buffers.{filled}
 use Rattle.clear.specs.Clear.{cleared_from}
 use Rattle.candidate_met.proofs.Meaning.{cleared-same}
@@ -17,5 +18,5 @@ returns c =
       goes_on = rw told;
       counted = c.raise_stretches.ensures;
       handed = rw told c.collect-c.ensures.0;
-      cleared = c.collect-c.ensures.1 ∙ cleared-same c.raise_stretches.new.scratch c.args.scratch.now (omega (arith, c.raise_stretches.auto.scratch, c.clear_u16.auto.scratch));
+      cleared = c.collect-c.ensures.1 ∙ cleared-same c.raise_stretches.new.scratch c.args.scratch.now (omega (arith, c.raise_stretches.auto.scratch, c.clear_u16.auto.buffer));
     }

@@ -1,5 +1,5 @@
 -- `says_yes`, case by case.
-use Rattle.meaning_numbers.proofs.Prelude.{sym, ap}
+use mathlib.Core.Path.{sym, ap}
 use Rattle.meaning_entries.specs.Both.{yes}
 use Rattle.demand.proofs.says_yes.Goals as goal
 

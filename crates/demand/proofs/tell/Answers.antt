@@ -1,5 +1,6 @@
 -- `tell`: its tests are those of the definition.
-use Rattle.meaning_numbers.proofs.Prelude.{◌≡◌, refl, sym, ◌∙◌, true, false}
+use mathlib.Core.Bool.{true, false}
+use mathlib.Core.Path.{◌≡◌, refl, sym, ◌∙◌}
 use Rattle.meaning_entries.specs.{declared.Audited.Audited, declared.Found.Found, declared.Both.Both, Both.yes, Both.told_found, Both.told}
 use Rattle.demand.proofs.tell.Goals as goal
 

@@ -1,5 +1,5 @@
 -- `tell_found`, case by case.
-use Rattle.meaning_numbers.proofs.Prelude.{sym, ap, ◌∙◌}
+use mathlib.Core.Path.{sym, ap, ◌∙◌}
 use Rattle.meaning_entries.specs.{declared.Found.Found, Both.told_found}
 use Rattle.demand.proofs.tell_found.Goals as goal
 

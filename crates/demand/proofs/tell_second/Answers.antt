@@ -1,5 +1,5 @@
 -- `tell_second`, case by case.
-use Rattle.meaning_numbers.proofs.Prelude.{sym, ap}
+use mathlib.Core.Path.{sym, ap}
 use Rattle.meaning_entries.specs.Both.{told_second}
 use Rattle.demand.proofs.tell_second.Goals as goal
 
