@@ -7,7 +7,7 @@ use native.Mathlib.Omega.{arith}
 use Rattle.meaning_text.specs.{Read.fine, Read.unfit, Read.read_text, Texts.series_form}
 use Rattle.meaning_text.proofs.Automaton.{Fed, going, failed, feed, at_end, judged}
 use Rattle.text_lines.specs.declared.State.{State}
-use Rattle.text_lines.specs.Follow.{Said, nothing_said, Reading, at, step, series_start, series_value}
+use Rattle.text_lines.specs.Follow.{Said, nothing_said, Reading, step, series_start, series_value}
 use Rattle.text_lines.proofs.Follow.{accept_state, accept, series-good, series-comes}
 use Rattle.text_feed.specs.{declared.Progress.Progress, declared.Feeding.Feeding, Keep.stored, Keep.Holds, Feed.Ready, Feed.Shows, Feed.Comes}
 use Rattle.text_feed.proofs.Keep.{kept-none}

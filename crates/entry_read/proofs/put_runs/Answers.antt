@@ -1,6 +1,6 @@
 -- `put_runs`. A run more is stored behind the others, and the text is read on behind it.
-use lib.ListN.{length, length-set}
-use mathlib.Core.Path.{◌≡◌, refl, ◌∙◌}
+use lib.ListN.{length-set}
+use mathlib.Core.Path.{refl, ◌∙◌}
 use native.Mathlib.Omega.{arith}
 use Rattle.text_event.specs.Event.{none, one, left_of, right_of}
 use Rattle.text_event.proofs.EventLaws.{run_up}
