@@ -1,6 +1,6 @@
 -- The search after its candidates are found: checking has what it asks for (`finish-asked`), and both promises are the promise of the search (`both-kept`).
 use Rattle.meaning_numbers.proofs.Prelude.{◌≡◌, sym, ap, ◌∙◌, true, false, List, ℕ, eqb, eqb-true, eqb-false, by-test, ℤ}
-use Rattle.meaning_rows.specs.{declared.Row.Row, declared.Head.Head, Index.lent}
+use Rattle.meaning_rows.specs.{declared.Row.Row, declared.Head.Head}
 use Rattle.meaning_filter.specs.{declared.Ask.Ask, Matches.offset_count, Matches.candidate_at, Matches.candidate_runs}
 use Rattle.meaning_entries.specs.Search.{SearchCall, SearchBuffers, lent_search, question, looked_after}
 use Rattle.meaning_entries.specs.{declared.Found.Found, Demand2.SearchKept}
