@@ -1,6 +1,6 @@
 -- What finding a search's candidates comes to, and what its parts ask and leave.
 use Rattle.std.specs.Prelude.{ℕ, ◌+◌, ◌-◌, ◌/◌, ◌≤◌, ℤ, length, List, [], map, ◌≡◌}
-use Rattle.meaning_rows.specs.{declared.Head.Head}
+use Rattle.meaning_rows.specs.{declared.Head.Head, Runs.runs}
 use Rattle.meaning_filter.specs.Matches.{candidate_runs}
 use Rattle.meaning_entries.specs.Buffers.{filled}
 use Rattle.meaning_entries.specs.Search.{SearchCall, SearchBuffers, question, search_plan, search_candidates}

@@ -1,5 +1,6 @@
 -- Checking candidates: what it asks for (`FinishReady`) and what is promised of it (`Finished`).
 use Rattle.std.specs.Prelude.{ℕ, ◌≤◌, ℤ, List, ◌≡◌}
+use Rattle.meaning_rows.specs.Runs.{runs}
 use Rattle.meaning_filter.specs.{declared.Ask.Ask, Matches.offset_count, Closest.fewest}
 use Rattle.meaning_entries.specs.{declared.Found.Found, Buffers.pair_room}
 use Rattle.check_list.specs.{Members.members, Found.RunsLent, Found.lent_runs, Found.found}
