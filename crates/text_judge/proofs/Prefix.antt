@@ -41,7 +41,7 @@ entries-held W a (x ∷ l) h g =
     let more = three (le_z (pos a) x.0) (le_z x.0 x.1) _ _ in
     let b = both _ _ (sym more ∙ g) in
     let e = good-entry W a x.0 x.1 b.0 in
-    let i = entries-held W _ l h (subst (λ (z : ℤ). runs_good (pos W) (z +ℤ pos 2) l ≡ true) e.right b.1) in
+    let i = entries-held W (nat_abs x.1 + 2) l h (subst (λ (z : ℤ). runs_good (pos W) (z +ℤ pos 2) l ≡ true) e.right b.1) in
     (rw (held-nat x.0 e.left (omega (arith, h)), i.0) refl, rw (held-nat x.1 e.right (omega (arith, h)), i.1) refl)
 
 -- ---- rows
@@ -49,7 +49,7 @@ entries-held W a (x ∷ l) h g =
 rows_split : (h : Head) (c : Rows) (a b : List (Value row_form)) → rows_from h c (a ++ b) ≡ rows_from h (rows_from h c a) b
 unfolding rows_from
 rows_split h c [] b = refl
-rows_split h c (r ∷ a) b = rows_split h _ a b
+rows_split h c (r ∷ a) b = rows_split h (row_next h c (clamp r.0) (clamp r.1.0) (runs_from h.windows no_runs r.1.1)) a b
 
 -- the rows before good rows are good
 before-good : (h : Head) (c : Rows) (a b : List (Value row_form)) → (rows_from h c (a ++ b)).good ≡ true → (rows_from h c a).good ≡ true
