@@ -1,5 +1,5 @@
 -- `tell_audited`, case by case.
-use mathlib.Core.Path.{sym, ap, ◌∙◌}
+use Rattle.std.proofs.Common.{sym, ap, ◌∙◌}
 use Rattle.try_c_index.specs.Told.{told_audited}
 use Rattle.try_c_index.proofs.tell_audited.Goals as goal
 

@@ -1,5 +1,5 @@
 -- `tell_built`, case by case.
-use mathlib.Core.Path.{sym, ap, ◌∙◌}
+use Rattle.std.proofs.Common.{sym, ap, ◌∙◌}
 use Rattle.try_c_index.specs.Told.{told_built}
 use Rattle.try_c_index.proofs.tell_built.Goals as goal
 
