@@ -1,5 +1,5 @@
 -- `agree_numbers` meets its contract.
-use Rattle.meaning_numbers.proofs.Prelude.{◌-◌, ◌≤◌, rules, length, arith}
+use Rattle.std.proofs.Common.{◌-◌, ◌≤◌, length}
 use Rattle.try_index.proofs.agree_numbers.Given as goal
 
 abbrev pub invariant-loop-k : goal.invariant-loop-k

@@ -1,5 +1,5 @@
 -- `fill_rubbish` meets its contract.
-use Rattle.meaning_numbers.proofs.Prelude.{◌-◌, ◌≤◌, rules, length, length-set, ◌≡◌, arith}
+use Rattle.std.proofs.Common.{◌-◌, ◌≤◌, length, ◌≡◌}
 use Rattle.try_index.proofs.fill_rubbish.Given as goal
 
 abbrev pub invariant-loop-k : goal.invariant-loop-k

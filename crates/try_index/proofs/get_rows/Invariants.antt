@@ -1,5 +1,5 @@
 -- `get_rows` meets its contract.
-use Rattle.meaning_numbers.proofs.Prelude.{◌-◌, ◌≤◌, rules, arith}
+use Rattle.std.proofs.Common.{◌-◌, ◌≤◌}
 use Rattle.try_index.proofs.get_rows.Given as goal
 
 abbrev pub invariant-loop-k : goal.invariant-loop-k

@@ -1,5 +1,5 @@
 -- `run` meets its contract.
-use Rattle.meaning_numbers.proofs.Prelude.{◌≤◌, rules, arith}
+use Rattle.std.proofs.Common.{◌≤◌}
 use Rattle.try_index.proofs.run.Given as goal
 
 abbrev pub invariant-loop-left : goal.invariant-loop-left
