@@ -1,8 +1,5 @@
 -- `run` meets its contract.
-use Prim.Native.Nat.{◌+◌, ◌-◌, ◌≤◌}
-use borrow.Author.Rules.{rules}
-use lib.ListN.{length}
-use native.Mathlib.Omega.{arith}
+use Rattle.std.proofs.Common.{◌+◌, ◌-◌, ◌≤◌, length}
 use Rattle.try_text.proofs.run.Given as goal
 
 abbrev pub invariant-loop-at : goal.invariant-loop-at

@@ -1,8 +1,5 @@
 -- `truncations` meets its contract.
-use Prim.Native.Nat.{◌-◌, ◌≤◌}
-use borrow.Author.Rules.{rules}
-use lib.ListN.{length, length-take}
-use native.Mathlib.Omega.{arith}
+use Rattle.std.proofs.Common.{◌-◌, ◌≤◌, length}
 use Rattle.try_text.proofs.truncations.Given as goal
 
 abbrev pub invariant-loop-k : goal.invariant-loop-k
