@@ -122,7 +122,7 @@ pub extern "C" fn index_search(
     offsets: &mut [u32],
     distances: &mut [u64],
 ) -> Answer
-    ensures { SearchTold (lent_search series.now head rows.now left.old right.now (ask_of asked) query.now) (record { left = first.old; right = last.old; scratch = scratch.old; offsets = offsets.old; distances = distances.old }) result (record { left = first.new; right = last.new; scratch = scratch.new; offsets = offsets.new; distances = distances.new }) }
+    ensures { SearchTold (lent_search series.now head rows.now left.now right.now (ask_of asked) query.now) (record { left = first.old; right = last.old; scratch = scratch.old; offsets = offsets.old; distances = distances.old }) result (record { left = first.new; right = last.new; scratch = scratch.new; offsets = offsets.new; distances = distances.new }) }
 {
     let ask = ask_of(asked);
     let a = search(

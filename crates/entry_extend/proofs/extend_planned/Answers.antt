@@ -1,5 +1,5 @@
 -- `extend_planned`: the head's numbers are lifted, the passes made by them, and what stands in the buffers is answered.
-use Rattle.meaning_numbers.proofs.Prelude.{ap, ◌∙◌, ℕ, get_or}
+use Rattle.std.proofs.Common.{ap, ◌∙◌, ℕ, get_or}
 use Rattle.meaning_entries.specs.Buffers.{index_buffers}
 use Rattle.rows_records.specs.Records.{zero_row}
 use Rattle.entry_extend.proofs.Stages.{made_so}
