@@ -8,7 +8,6 @@ use own.Sizes.{small-pick, scaled_small}
 use Rattle.candidate_ranges.proofs.dividend.Goals as goal
 
 module _ (c : goal.After-pick_of-out) where
-
   abbrev near : ℤ
   near = c.args.x *ℤ c.args.f.narrow
 

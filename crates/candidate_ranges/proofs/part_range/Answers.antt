@@ -18,7 +18,6 @@ passed : {z : ℤ} → Small 2560000 z → Small 2560000 (to_z w64 (of_z w64 z))
 passed {z} h = rw (back h) h
 
 module _ (c : goal.After-window_sum-most) where
-
   least-is : to_z w32 (of_z w32 c.window_sum-least.result) ≡ window_sum c.args.low.now c.args.w (c.args.i * c.args.w)
   least-is = to_z-of_z w32 _ (record { sfits = c.window_sum-least.type_inv }) ∙ c.window_sum-least.ensures
 
@@ -29,7 +28,6 @@ pub low_end-requires : goal.low_end-requires
 low_end-requires c = (search rules, passed (least c))
 
 module _ (c : goal.After-low_end) where
-
   most-is : to_z w32 (of_z w32 c.window_sum-most.result) ≡ window_sum c.args.high.now c.args.w (c.args.i * c.args.w)
   most-is = to_z-of_z w32 _ (record { sfits = c.window_sum-most.type_inv }) ∙ c.window_sum-most.ensures
 

@@ -15,8 +15,7 @@ raised_end-requires c =
 pub loop-i-preserved : goal.loop-i-preserved
 loop-i-preserved c =
     let a = c.args in
-    let back : to_z w32 (of_z w32 c.row_at-r.result.up) ≡ c.row_at-r.result.up = to_z-of_z w32 _ (record { sfits = search rules }) in
-    (
+    let back : to_z w32 (of_z w32 c.row_at-r.result.up) ≡ c.row_at-r.result.up = to_z-of_z w32 _ (record { sfits = search rules }) in (
       omega arith,
       rw (c.loop-i.invariant.1, c.raised_end.ensures, back, c.row_at-r.ensures) (sym (listed_more (end_of a.rows.now a.bias) c.loop-i.i a.ups.now)),
       rw (c.loop-i.invariant.2, c.row_at-r.ensures) (sym (listed_more (size_of a.rows.now) c.loop-i.i a.counts.now)),
@@ -25,8 +24,7 @@ loop-i-preserved c =
 pub returns : goal.returns
 returns c =
     let a = c.args in
-    let e : c.loop-i.i ≡ a.count = omega arith in
-    (
+    let e : c.loop-i.i ≡ a.count = omega arith in (
       c.loop-i.invariant.1 ∙ ap (λ (j : ℕ). listed (end_of a.rows.now a.bias) j a.ups.now) e,
       c.loop-i.invariant.2 ∙ ap (λ (j : ℕ). listed (size_of a.rows.now) j a.counts.now) e,
     )

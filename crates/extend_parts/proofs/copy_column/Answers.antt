@@ -19,8 +19,7 @@ old_passed-a-requires c =
 
 pub loop-i-preserved : goal.loop-i-preserved
 loop-i-preserved c =
-    let a = c.args in
-    (
+    let a = c.args in (
       omega arith,
       rw (c.old_passed-a.ensures, c.row_or-o.ensures, c.row_at-r.ensures, c.end_row-end.ensures, c.loop-i.invariant.1) (sym (passed-more a.old.now a.rows.now c.loop-i.i)),
       rw (c.copy_part.ensures, c.row_or-o.ensures, c.row_at-r.ensures, c.end_row-end.ensures, c.loop-i.invariant.1, c.loop-i.invariant.2) (sym (column-more a.old.now a.from.now a.rows.now c.loop-i.i a.to.now)),
