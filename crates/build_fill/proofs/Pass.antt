@@ -6,7 +6,8 @@ use Rattle.meaning_rows.proofs.{Range.is-inside, Range.inside-below, Range.insid
 use Rattle.rows_records.specs.Records.{zero_row}
 use Rattle.sums_slide.specs.{declared.Window.Window, Levels.windows_of, Change.Change}
 use Rattle.build_parts.specs.Part.{written}
-use Rattle.build_parts.specs.Filling.{part_start, parts-laid, Filling, RunOf, some_left, cursor-is, filling-run}
+use Rattle.build_parts.specs.Filling.{part_start, Filling, RunOf}
+use Rattle.build_parts.proofs.FillingLaws.{parts-laid, some_left, cursor-is, filling-run}
 use Rattle.rows_find.specs.Search.{Climbs, Reached, FoundRow}
 use Rattle.build_fill.specs.{Turn.At, Turn.TurnAsked, Turn.Turned, Pass.Rowed, Pass.Passable, Pass.PassMade}
 use Rattle.build_fill.proofs.Turn.{change-held}

@@ -6,7 +6,8 @@ use Rattle.rows_records.specs.Records.{zero_row}
 use Rattle.sums_slide.specs.{declared.Window.Window, Levels.windows_of}
 use Rattle.build_parts.specs.Filling.{Filling}
 use Rattle.build_fill.specs.Turn.{Small, At}
-pub use Rattle.build_parts.specs.Filling.{part_start, parts_total, filling-start, parts-laid}
+pub use Rattle.build_parts.specs.Filling.{part_start, parts_total}
+pub use Rattle.build_parts.proofs.FillingLaws.{filling-start, parts-laid}
 
 -- window j stands in row `at`
 pub record Home (P : ℕ → ℕ → Bool) (n j : ℕ) : Type 0 where

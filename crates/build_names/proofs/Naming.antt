@@ -6,7 +6,7 @@ use Rattle.meaning_rows.proofs.{Parts.Laid, Columns.run_count-mono}
 use Rattle.sums_slide.specs.Change.{RowRun}
 use Rattle.sums_count.specs.Tally.{is_row}
 use Rattle.sums_count.proofs.Tally.{Fresh, fresh_start, fresh-next, run-mine}
-use Rattle.build_parts.specs.Filling.{parts-laid}
+use Rattle.build_parts.proofs.FillingLaws.{parts-laid}
 use Rattle.build_merge.specs.{Names.name_at, Names.name_before, Names.name_after, Names.NamedRow, Merging.part_at}
 
 module _ (row : ℕ → ℕ) (n R : ℕ) where

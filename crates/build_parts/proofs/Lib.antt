@@ -1,2 +1,3 @@
 -- Laws of build_parts.
 pub mod Lent
+pub mod FillingLaws
