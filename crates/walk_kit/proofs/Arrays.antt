@@ -3,7 +3,7 @@
 --     Local            where a local array lies: its elements' type, how many there are, and its block
 --     mut_of, shr-of   the slice that it is lent as
 --     lends-array      [..; its cell; ..] → [the slice's token; what the slice owns; ..; the loan; ..]      back-array      the same back, at the list that the slice holds by then
---     shares_array, unshares-array     likewise for the first k elements, and the array is as it was.        Asks that T is lent as `&` with no other token (`Shares` at no lifetime), as a type that is Copy is (`Borrow/Table/Copies.antt`'s `Shares-copy`)
+--     shares_array, unshares-array     likewise for the first k elements, and the array is as it was.        The first asks that T is lent as `&` with no other token (`Shares` at no lifetime), as a type that is Copy is (`Borrow/Table/Copies.antt`'s `Shares-copy`)
 --     first_of         the first k elements of a slice that the function was lent as a `&κ [T]`.       shares-first, unshares-first     they are lent for one call, under the token of the whole
 --     recount          the count in a slice's cell, written another way.       big-lit     an operand that MIR writes by a bound
 -- Assumes `Logic`.
@@ -119,11 +119,11 @@ pub less : (R : RattleType) {m n : ℕ} → m ≤ n → Room R n → Room R m
 less R l r = (lt_of_le_of_lt l r.0, lt_of_le_of_lt (mul-le-mul_right (mem R).size l) r.1)
 
 abbrev pub first_of : Lent → ℕ → Lent
-first_of p k = record { row = p.row; laws = p.laws; ref = record { ref_ptr = p.ref.ref_ptr; now = take k p.ref.now }; name = p.name; lft = p.lft; share = p.share; has_room = less p.row (take_less k p.ref.now) p.has_room }
+first_of p k = record { row = p.row; ref = record { ref_ptr = p.ref.ref_ptr; now = take k p.ref.now }; name = p.name; lft = p.lft; share = p.share; has_room = less p.row (take_less k p.ref.now) p.has_room }
 
 module _ {M : Type 1} {𝓤 : Ura M} {𝓛 : Logic 𝓤} {K : Type 0} {Γ : List (Item 𝓤)} {G : Goal 𝓤 𝓛.H} where
-  pub shares-first : K → Soaks G → (p : Lent) (k : ℕ) → Step K 𝓛 (token 𝓛 (first_of p k) ∷ viewed 𝓛 (first_of p k) ∷ viewed 𝓛 p ∷ Γ) G (token 𝓛 p ∷ viewed 𝓛 p ∷ Γ) G
-  shares-first t z p k = step (λ next. move t (1 ∷ []) $ twin t p.row p.laws erased p.lft p.ref $ move t (0 ∷ 2 ∷ []) $
+  pub shares-first : K → Soaks G → (p : Lent) → RowLaws p.row → (k : ℕ) → Step K 𝓛 (token 𝓛 (first_of p k) ∷ viewed 𝓛 (first_of p k) ∷ viewed 𝓛 p ∷ Γ) G (token 𝓛 p ∷ viewed 𝓛 p ∷ Γ) G
+  shares-first t z p L k = step (λ next. move t (1 ∷ []) $ twin t p.row L erased p.lft p.ref $ move t (0 ∷ 2 ∷ []) $
       prefix p.row p.ref.ref_ptr.0 p.ref.ref_ptr.1 t z erased p.lft p.share p.ref.now k $ move t (1 ∷ []) $ next)
 
   pub unshares-first : K → (p : Lent) (k : ℕ) → Step K 𝓛 (token 𝓛 p ∷ Γ) G (token 𝓛 (first_of p k) ∷ viewed 𝓛 (first_of p k) ∷ Γ) G
@@ -132,7 +132,6 @@ module _ {M : Type 1} {𝓤 : Ura M} {𝓛 : Logic 𝓤} {K : Type 0} {Γ : List
 -- where a local array lies
 pub record Local {M : Type 1} {𝓤 : Ura M} (𝓛 : Logic 𝓤) : Type 2 where
   pub of : Data 𝓛
-  pub laws : RowLaws of.row
   pub count : ℕ
   pub block : ℕ
   pub one : Single of.row.mir
@@ -152,7 +151,7 @@ module _ {M : Type 1} {𝓤 : Ura M} {𝓛 : Logic 𝓤} (L : Local 𝓛) (xs : 
   cell = ‵ (fat full_share (ty_array (lone R.mir) L.count) L.block zero (only vals))
 
   abbrev pub of_array : (l : List R.Denot) → length l ≤ L.count → ℕ → GName → Lent
-  of_array l le ν γ = record { row = R; laws = L.laws; ref = record { ref_ptr = (L.block, zero); now = l }; name = γ; lft = ν ∷ []; share = full_share; has_room = less R le L.room }
+  of_array l le ν γ = record { row = R; ref = record { ref_ptr = (L.block, zero); now = l }; name = γ; lft = ν ∷ []; share = full_share; has_room = less R le L.room }
 
   module _ (is : Known) where
     abbrev pub mut_of : ℕ × GName → Lent

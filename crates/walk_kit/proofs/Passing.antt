@@ -1,7 +1,7 @@
 -- Arguments and parameters passed on in a walk.
 --     Data             a type of plain data in a walk: its row, a value's machine value, and that what it owns is had for nothing.        uint, sint, boolean, nothing, struct, enum     the types
---     Lent             a slice that the function was lent, `&κ [T]` or `&κ mut [T]`: its row with the laws of a `&` to it, the reference, the ghost name of a `&mut` (nothing reads that of a `&`), the lifetime with a share of its token, and that its elements have room.        token, viewed, lent_at       that share; what a `&κ [T]` owns; what a `&κ mut [T]` owns at a list
---     Arg              an argument of a call: a value; what is made of a copy of a `&κ [T]`, as that copy itself (`kept`) or a struct that holds it (`Holding`); a `&κ mut [T]` at the list that it holds, which is lent again for the call, as a `&mut`, or as a `&` where its elements' type is lent so with no other token (`Shares` at no lifetime)
+--     Lent             a slice that the function was lent, `&κ [T]` or `&κ mut [T]`: its row, the reference, the ghost name of a `&mut` (nothing reads that of a `&`), the lifetime with a share of its token, and that its elements have room.        token, viewed, lent_at       that share; what a `&κ [T]` owns; what a `&κ mut [T]` owns at a list
+--     Arg              an argument of a call: a value; what is made of a copy of a `&κ [T]`, by the laws of a `&` to its elements, as that copy itself (`kept`) or a struct that holds it (`Holding`); a `&κ mut [T]` at the list that it holds, which is lent again for the call, as a `&mut`, or as a `&` where its elements' type is lent so with no other token (`Shares` at no lifetime)
 --     Had, Again       what is had of the arguments before the call, and after it
 --     calls-with       a call: what is had of its arguments is at the head, and after it again, at the lists that the callee leaves
 --     leaves-with      the walk's end: from what is had of the parameters at their last lists.        leaves-holding      the same where the result is made of one entry more
@@ -79,7 +79,6 @@ module _ {M : Type 1} {𝓤 : Ura M} (𝓛 : Logic 𝓤) where
 
 pub record Lent : Type 2 where
   pub row : RattleType
-  pub laws : RowLaws row
   pub ref : Bor (List row.Denot)
   pub name : GName
   pub lft : Lft
@@ -98,15 +97,15 @@ module _ {M : Type 1} {𝓤 : Ura M} (𝓛 : Logic 𝓤) where
 
   pub data Arg : Type 2 where
     value : (D : Data 𝓛) (x : D.row.Denot) → Is D.row x (D.val x ∷ []) → Arg
-    views : (p : Lent) (T : RattleType) (x : T.Denot) (vs : List Val) → ent 𝓤 (mean 𝓛 (viewed p)) (sem 𝓛 (T.own_val x vs)) → Arg
+    views : (p : Lent) → RowLaws p.row → (T : RattleType) (x : T.Denot) (vs : List Val) → ent 𝓤 (mean 𝓛 (viewed p)) (sem 𝓛 (T.own_val x vs)) → Arg
     lends : (p : Lent) (l : List p.row.Denot) → length l ≡ length p.ref.now → Arg
     shares : (p : Lent) (l : List p.row.Denot) → length l ≡ length p.ref.now → SharesRow 𝓛 p.row [] → Arg
 
-  -- a lifetime and a name for each `&mut` that is lent again
+  -- a lifetime for each `&mut` that is lent again, and a name where it is lent as a `&mut`
   abbrev pub Fresh : List Arg → Type 0
   Fresh [] = Unit {0}
   Fresh (value D x is ∷ xs) = Fresh xs
-  Fresh (views p T x vs v ∷ xs) = Fresh xs
+  Fresh (views p L T x vs v ∷ xs) = Fresh xs
   Fresh (lends p l e ∷ xs) = (ℕ × GName) × Fresh xs
   Fresh (shares p l e sh ∷ xs) = ℕ × Fresh xs
 
@@ -114,7 +113,7 @@ module _ {M : Type 1} {𝓤 : Ura M} (𝓛 : Logic 𝓤) where
   abbrev pub Had : List Arg → List (Item 𝓤)
   Had [] = []
   Had (value D x is ∷ xs) = Had xs
-  Had (views p T x vs v ∷ xs) = token p ∷ viewed p ∷ Had xs
+  Had (views p L T x vs v ∷ xs) = token p ∷ viewed p ∷ Had xs
   Had (lends p l e ∷ xs) = token p ∷ lent_at p l ∷ Had xs
   Had (shares p l e sh ∷ xs) = token p ∷ lent_at p l ∷ Had xs
 
@@ -122,14 +121,14 @@ module _ {M : Type 1} {𝓤 : Ura M} (𝓛 : Logic 𝓤) where
   abbrev pub Toks : (xs : List Arg) → Fresh xs → List (Item 𝓤)
   Toks [] fs = []
   Toks (value D x is ∷ xs) fs = Toks xs fs
-  Toks (views p T x vs v ∷ xs) fs = token p ∷ Toks xs fs
+  Toks (views p L T x vs v ∷ xs) fs = token p ∷ Toks xs fs
   Toks (lends p l e ∷ xs) fs = ‵ (flft (fs.0.0 ∷ []) full_share) ∷ Toks xs fs.1
   Toks (shares p l e sh ∷ xs) fs = ‵ (flft (fs.0 ∷ []) full_share) ∷ Toks xs fs.1
 
   abbrev pub Owns : (xs : List Arg) → Fresh xs → List (Item 𝓤)
   Owns [] fs = []
   Owns (value D x is ∷ xs) fs = ‵ (D.row.own_val x (D.val x ∷ [])) ∷ Owns xs fs
-  Owns (views p T x vs v ∷ xs) fs = ‵ (T.own_val x vs) ∷ Owns xs fs
+  Owns (views p L T x vs v ∷ xs) fs = ‵ (T.own_val x vs) ∷ Owns xs fs
   Owns (lends p l e ∷ xs) fs = ‵ (Own p.row p.ref.ref_ptr.0 p.ref.ref_ptr.1 (length p.ref.now) erased (fs.0.0 ∷ []) fs.0.1 l) ∷ Owns xs fs.1
   Owns (shares p l e sh ∷ xs) fs = ‵ (Shr p.row p.ref.ref_ptr.0 p.ref.ref_ptr.1 (length p.ref.now) erased (fs.0 ∷ []) l) ∷ Owns xs fs.1
 
@@ -137,7 +136,7 @@ module _ {M : Type 1} {𝓤 : Ura M} (𝓛 : Logic 𝓤) where
   abbrev pub Keeps : (xs : List Arg) → Fresh xs → List (Item 𝓤)
   Keeps [] fs = []
   Keeps (value D x is ∷ xs) fs = Keeps xs fs
-  Keeps (views p T x vs v ∷ xs) fs = viewed p ∷ Keeps xs fs
+  Keeps (views p L T x vs v ∷ xs) fs = viewed p ∷ Keeps xs fs
   Keeps (lends p l e ∷ xs) fs = ‵ (LentAgain p.row p.lft (fs.0.0 ∷ []) p.share p.name p.ref.ref_ptr.0 p.ref.ref_ptr.1 fs.0.1 l) ∷ Keeps xs fs.1
   Keeps (shares p l e sh ∷ xs) fs = ‵ (SharedAgain p.row p.ref.ref_ptr.0 p.ref.ref_ptr.1 (length p.ref.now) p.lft (fs.0 ∷ []) p.share p.name l) ∷ Keeps xs fs.1
 
@@ -145,28 +144,28 @@ module _ {M : Type 1} {𝓤 : Ura M} (𝓛 : Logic 𝓤) where
   abbrev pub Lasts : List Arg → Type 0
   Lasts [] = Unit {0}
   Lasts (value D x is ∷ xs) = Unit {0} × Lasts xs
-  Lasts (views p T x vs v ∷ xs) = Unit {0} × Lasts xs
+  Lasts (views p L T x vs v ∷ xs) = Unit {0} × Lasts xs
   Lasts (lends p l e ∷ xs) = List p.row.Denot × Lasts xs
   Lasts (shares p l e sh ∷ xs) = Unit {0} × Lasts xs
 
   abbrev pub Says : (xs : List Arg) → Fresh xs → Lasts xs → List (Item 𝓤)
   Says [] fs ws = []
   Says (value D x is ∷ xs) fs ws = Says xs fs ws.1
-  Says (views p T x vs v ∷ xs) fs ws = Says xs fs ws.1
+  Says (views p L T x vs v ∷ xs) fs ws = Says xs fs ws.1
   Says (lends p l e ∷ xs) fs ws = ‵ (given_back p.row p.ref.ref_ptr.0 p.ref.ref_ptr.1 (length l) (fs.0.0 ∷ []) fs.0.1 ws.0) ∷ Says xs fs.1 ws.1
   Says (shares p l e sh ∷ xs) fs ws = Says xs fs.1 ws.1
 
   abbrev pub Fits : (xs : List Arg) → Lasts xs → Type 0
   Fits [] ws = Unit {0}
   Fits (value D x is ∷ xs) ws = Unit {0} × Fits xs ws.1
-  Fits (views p T x vs v ∷ xs) ws = Unit {0} × Fits xs ws.1
+  Fits (views p L T x vs v ∷ xs) ws = Unit {0} × Fits xs ws.1
   Fits (lends p l e ∷ xs) ws = (length ws.0 ≡ length p.ref.now) × Fits xs ws.1
   Fits (shares p l e sh ∷ xs) ws = Unit {0} × Fits xs ws.1
 
   abbrev pub Again : (xs : List Arg) → Lasts xs → List (Item 𝓤)
   Again [] ws = []
   Again (value D x is ∷ xs) ws = Again xs ws.1
-  Again (views p T x vs v ∷ xs) ws = token p ∷ viewed p ∷ Again xs ws.1
+  Again (views p L T x vs v ∷ xs) ws = token p ∷ viewed p ∷ Again xs ws.1
   Again (lends p l e ∷ xs) ws = token p ∷ lent_at p ws.0 ∷ Again xs ws.1
   Again (shares p l e sh ∷ xs) ws = token p ∷ lent_at p l ∷ Again xs ws.1
 
@@ -174,14 +173,14 @@ module _ {M : Type 1} {𝓤 : Ura M} (𝓛 : Logic 𝓤) where
   abbrev pub Tokens' : List Arg → List (Item 𝓤)
   Tokens' [] = []
   Tokens' (value D x is ∷ xs) = Tokens' xs
-  Tokens' (views p T x vs v ∷ xs) = token p ∷ Tokens' xs
+  Tokens' (views p L T x vs v ∷ xs) = token p ∷ Tokens' xs
   Tokens' (lends p l e ∷ xs) = token p ∷ Tokens' xs
   Tokens' (shares p l e sh ∷ xs) = token p ∷ Tokens' xs
 
   abbrev pub Left : List Arg → List (Item 𝓤)
   Left [] = []
   Left (value D x is ∷ xs) = Left xs
-  Left (views p T x vs v ∷ xs) = Left xs
+  Left (views p L T x vs v ∷ xs) = Left xs
   Left (lends p l e ∷ xs) = ‵ (given_back p.row p.ref.ref_ptr.0 p.ref.ref_ptr.1 (length p.ref.now) p.lft p.name l) ∷ Left xs
   Left (shares p l e sh ∷ xs) = ‵ (given_back p.row p.ref.ref_ptr.0 p.ref.ref_ptr.1 (length p.ref.now) p.lft p.name l) ∷ Left xs
 
@@ -199,11 +198,11 @@ module _ {M : Type 1} {𝓤 : Ura M} (𝓛 : Logic 𝓤) where
         qed 𝓛 (raw (⋆ 𝓛 (Had xs)) ∷ []) ∵ updating ! $ use1 𝓛 (Opened xs) (opened xs) $ await ! tt $ pick ! (λ fs. split3 ! $ move ! (1 ∷ []) $
         use0 𝓛 (‵ (D.row.own_val x (D.val x ∷ []))) (D.makes x (D.val x ∷ []) is) $ use2 𝓛 (raw (⋆ 𝓛 (‵ (D.row.own_val x (D.val x ∷ [])) ∷ Owns xs fs))) (push 𝓛 (‵ (D.row.own_val x (D.val x ∷ []))) (Owns xs fs)) $ move ! (1 ∷ 0 ∷ 2 ∷ []) $
         at_once ! $ show ! (λ (fs : Fresh xs). mean 𝓛 (raw (⋆ 𝓛 (Toks xs fs)) ⊛ raw (⋆ 𝓛 (‵ (D.row.own_val x (D.val x ∷ [])) ∷ Owns xs fs)) ⊛ raw (⋆ 𝓛 (Keeps xs fs)))) fs $ done !)
-    opened (views p T x vs v ∷ xs) =
+    opened (views p L T x vs v ∷ xs) =
         via 𝓤 (⋆ 𝓛 (token p ∷ viewed p ∷ raw (⋆ 𝓛 (Had xs)) ∷ [])) (two (token p) (viewed p) (Had xs))
         (qed 𝓛 (token p ∷ viewed p ∷ raw (⋆ 𝓛 (Had xs)) ∷ []) ∵ updating ! $ move ! (2 ∷ []) $ use1 𝓛 (Opened xs) (opened xs) $ await ! tt $ pick ! (λ fs. split3 ! $
         -- [tokens; owned; kept; the token; the slice]
-        move ! (4 ∷ []) $ use1 𝓛 (viewed p ⊛ viewed p) ((shr_slice_copy 𝓛 erased p.lft p.row p.laws).twice p.ref (shr_slice_vals p.ref)) $ split ! $
+        move ! (4 ∷ []) $ use1 𝓛 (viewed p ⊛ viewed p) ((shr_slice_copy 𝓛 erased p.lft p.row L).twice p.ref (shr_slice_vals p.ref)) $ split ! $
         move ! (1 ∷ 4 ∷ []) $ use2 𝓛 (raw (⋆ 𝓛 (viewed p ∷ Keeps xs fs))) (push 𝓛 (viewed p) (Keeps xs fs)) $
         move ! (1 ∷ 3 ∷ []) $ use1 𝓛 (‵ (T.own_val x vs)) v $ use2 𝓛 (raw (⋆ 𝓛 (‵ (T.own_val x vs) ∷ Owns xs fs))) (push 𝓛 (‵ (T.own_val x vs)) (Owns xs fs)) $
         move ! (3 ∷ 2 ∷ []) $ use2 𝓛 (raw (⋆ 𝓛 (token p ∷ Toks xs fs))) (push 𝓛 (token p) (Toks xs fs)) $
@@ -239,7 +238,7 @@ module _ {M : Type 1} {𝓤 : Ura M} (𝓛 : Logic 𝓤) where
     closed [] fs ws = qed 𝓛 (raw (emp 𝓤) ∷ raw (emp 𝓤) ∷ raw (emp 𝓤) ∷ []) ∵ keep ! (0 ∷ []) $ updating ! $ at_once ! $ check ! tt $ done !
     closed (value D x is ∷ xs) fs ws =
         qed 𝓛 (raw (⋆ 𝓛 (Toks xs fs)) ∷ raw (⋆ 𝓛 (Keeps xs fs)) ∷ raw (⋆ 𝓛 (Says xs fs ws.1)) ∷ []) ∵ updating ! $ use3 𝓛 (Closed xs ws.1) (closed xs fs ws.1) $ await ! tt $ learn ! (λ f. at_once ! $ check ! (tt, f) $ done !)
-    closed (views p T x vs v ∷ xs) fs ws =
+    closed (views p L T x vs v ∷ xs) fs ws =
         qed 𝓛 (raw (⋆ 𝓛 (token p ∷ Toks xs fs)) ∷ raw (⋆ 𝓛 (viewed p ∷ Keeps xs fs)) ∷ raw (⋆ 𝓛 (Says xs fs ws.1)) ∷ []) ∵ updating ! $
         use1 𝓛 (token p ⊛ raw (⋆ 𝓛 (Toks xs fs))) (pop 𝓛 (token p) (Toks xs fs)) $ split ! $ move ! (2 ∷ []) $
         use1 𝓛 (viewed p ⊛ raw (⋆ 𝓛 (Keeps xs fs))) (pop 𝓛 (viewed p) (Keeps xs fs)) $ split ! $
@@ -297,7 +296,7 @@ module _ {M : Type 1} {𝓤 : Ura M} (𝓛 : Logic 𝓤) where
     goes-out : (xs : List Arg) → Out xs
     goes-out [] = qed 𝓛 [] ∵ updating ! $ at_once ! $ use0 𝓛 (raw (emp 𝓤)) _ $ frame ! $ done !
     goes-out (value D x is ∷ xs) = goes-out xs
-    goes-out (views p T x vs v ∷ xs) =
+    goes-out (views p L T x vs v ∷ xs) =
         via 𝓤 (⋆ 𝓛 (token p ∷ viewed p ∷ raw (⋆ 𝓛 (Had xs)) ∷ [])) (two (token p) (viewed p) (Had xs))
         (qed 𝓛 (token p ∷ viewed p ∷ raw _ ∷ []) ∵ updating ! $ move ! (2 ∷ []) $ use1 𝓛 (later (raw (⋆ 𝓛 (Tokens' xs)) ⊛ raw (⋆ 𝓛 (Left xs)))) (goes-out xs) $ await ! tt $ split ! $
         move ! (2 ∷ 0 ∷ []) $ use2 𝓛 (raw (⋆ 𝓛 (token p ∷ Tokens' xs))) (push 𝓛 (token p) (Tokens' xs)) $ keep ! (0 ∷ 1 ∷ []) $ at_once ! $ done !)
@@ -387,8 +386,8 @@ module _ {M : Type 1} {𝓤 : Ura M} (𝓛 : Logic 𝓤) where
         (apply∗ 𝓤 R (Q y.0.4))
 
 -- a slice itself
-abbrev pub kept : {M : Type 1} {𝓤 : Ura M} {𝓛 : Logic 𝓤} → Lent → Arg 𝓛
-kept {M} {𝓤} {𝓛} p = views p (ShrSlice erased p.lft p.row) p.ref (shr_slice_vals p.ref) (id⊢ 𝓤 _)
+abbrev pub kept : {M : Type 1} {𝓤 : Ura M} {𝓛 : Logic 𝓤} → (p : Lent) → RowLaws p.row → Arg 𝓛
+kept {M} {𝓤} {𝓛} p L = views p L (ShrSlice erased p.lft p.row) p.ref (shr_slice_vals p.ref) (id⊢ 𝓤 _)
 
 module _ {M : Type 1} {𝓤 : Ura M} {𝓛 : Logic 𝓤} {K : Type 0} {Γ : List (Item 𝓤)} {E : Env 𝓤 𝓛.H} {C : Calls 𝓤 𝓛.H} {Λ : Loops 𝓤 𝓛.H} {q : Post 𝓤 𝓛.H} {d : Place} {rest : Body} {f : Callee} {os : List Operand} where
   open 𝓛 use {H}
@@ -477,8 +476,8 @@ module _ {M : Type 1} {𝓤 : Ura M} {𝓛 : Logic 𝓤} {K : Type 0} {g : Goal 
       (via 𝓤 _ (++⊢ 𝓛 (Cells 𝓤 H E cs) Γ) (free-cells t E cs c s).prf))))
 
 module _ {M : Type 1} {𝓤 : Ura M} {𝓛 : Logic 𝓤} {K : Type 0} {Γ : List (Item 𝓤)} where
-  -- the context written out: what else there is, and the locals in their order
   open 𝓛 use {H}
 
+  -- the context written out: what else there is, and the locals in their order
   pub tidy : K → {C : Calls 𝓤 H} {Λ : Loops 𝓤 H} {E : Env 𝓤 H} {b : Body} {q : Post 𝓤 H} (Δ : List (Item 𝓤)) (cs : List Cell) → Γ ≡ Δ ++ Cells 𝓤 H E cs → Step K 𝓛 (Δ ++ Cells 𝓤 H E cs) (runs C Λ E b q) Γ (runs C Λ E b q)
   tidy t {C} {Λ} {E} {b} {q} Δ cs e = step (λ s. rw e s)

@@ -11,10 +11,10 @@ use denote.Copied.{Copied}
 use denote.Laws.{Is}
 use denote.Lend.{Held}
 use denote.Memory.{cell_at, mem}
-use denote.RattleType.{RattleType, RowLaws}
+use denote.RattleType.{RattleType}
 use denote.Ref.{Bor, MutBor}
 use denote.Shadow.{pure_l, pure_i}
-use denote.Slice.{slice_val, MutSlice, ShrSlice, Room, mut_slice_at, heres, coded_holeys, shr_slice_vals, shr_slice_copy}
+use denote.Slice.{slice_val, MutSlice, ShrSlice, Room, mut_slice_at, heres, coded_holeys, shr_slice_vals, shr_slice_at}
 use types.Logic.{Logic}
 use base.Fraction.{full_share}
 use seplogic.Ra.Ura.{Ura}
@@ -23,7 +23,7 @@ use mir.Syntax.{Ty, Opd as Operand, copy, rv_opd, place, deref, Body, assign, se
 use mir.Val.{Val, vptr, has_ty, WT}
 use native.Mathlib.Nat.{mul-le-mul_right, le_of_lt}
 use prog.Wp.{Out, next, exits, Env, spot_of, Calls, Loops, Tables, Wp, after_seq, after_block, after_turn}
-use types.Kit.{Goal, Soaks, Item, nth, put, ‵, ◌⊛◌, ⋆, Post, post, any_q, prop, runs, Seq, Step, step, ◌$◌, move, drop, split, use1, rewrite, fsplit, fjoin}
+use types.Kit.{Goal, Soaks, Item, nth, put, ‵, ⋆, Post, post, any_q, prop, runs, Seq, Step, step, ◌$◌, move, rewrite, fsplit, fjoin}
 use types.Run.{Opd, look, init, stop, hop, from, load, of_opd, assigns}
 use Rattle.meaning_numbers.proofs.Prelude.{ℕ, suc, ◌+◌, ◌*◌, ◌^◌, ◌<◌, T as True, length, get_or, set, length-set, List, [], ◌∷◌, ◌++◌, ◌≡◌, refl, sym, ◌∙◌, subst, arith}
 use Rattle.walk_kit.proofs.{Elem.Elem, Elem.knows, Elem.look-elem, Elem.store-elem, Lends.Own, Passing.Data, Passing.Cell, Passing.Cells, Walk.loops-by}
@@ -33,9 +33,9 @@ offset-fits R i n below room = omega (arith, mul-le-mul_right (mem R).size (le_o
 
 -- ---- a loop
 module _ {M : Type 1} {𝓤 : Ura M} {𝓛 : Logic 𝓤} {K : Type 0} {Γ : List (Item 𝓤)} {E : Env 𝓤 𝓛.H} {q : Post 𝓤 𝓛.H} {turn rest : Body} where
-  -- a turn is handed what is to hold after it, Q, the way on to another turn, and the way out
   open 𝓛 use {H}
 
+  -- a turn is handed what is to hold after it, Q, the way on to another turn, and the way out
   pub loops : K → (𝓣 : Tables 𝓤 H) {S : Type 0} (μ : S → ℕ) (F : S → Type 0) (Δ : S → List (Item 𝓤)) (cs : S → List Cell) (s : S) → F s → Γ ≡ Δ s ++ Cells 𝓤 H E (cs s)
       → ((s : S) → F s → (Q : Out → SProp 𝓤) → ((s' : S) → μ s' < μ s → F s' → ent 𝓤 (⋆ 𝓛 (Δ s' ++ Cells 𝓤 H E (cs s'))) (Q next)) → ((Θ : List (Item 𝓤)) → Step K 𝓛 Θ (runs 𝓣.C 𝓣.Λ E rest q) Θ (prop (Q (exits 1))))
       → Seq K 𝓛 (Δ s ++ Cells 𝓤 H E (cs s)) (runs 𝓣.C 𝓣.Λ E turn (any_q Q)))
@@ -73,9 +73,9 @@ module _ (R : RattleType) (x : MutBor (List R.Denot)) (l : List R.Denot) {M : Ty
       rewrite t 0 (λ (c : ℕ). ‵ ((MutSlice erased κ R).own_val (at R x l') (slice_val (b R x, o R x) c ∷ []))) (e' ∙ e) refl $ move t (1 ∷ 0 ∷ []) $ k)
 
 module _ {M : Type 1} {𝓤 : Ura M} (𝓛 : Logic 𝓤) (D : Data 𝓛) where
-  -- how an element lies in memory
   open 𝓛 use {H}
 
+  -- how an element lies in memory
   abbrev Lies : Ty → Type 1
   Lies τ = (q : Share) (b o : ℕ) (v : Val) → cell_at q D.row.mir (v ∷ []) b o ≡ fat q (raw_ty τ) b o v
 
@@ -97,32 +97,31 @@ module _ {M : Type 1} {𝓤 : Ura M} {𝓛 : Logic 𝓤} {K : Type 0} {Γ : List
       → (Is D.row (get_or l i d) (D.val (get_or l i d) ∷ [])
       → Seq K 𝓛 (‵ (flft κ s) ∷ ‵ (Own D.row x.ref_ptr.0 x.ref_ptr.1 (length x.now) erased κ x.ghost_name l) ∷ put 𝓛 m (‵ (fat full_share (spot_of 𝓤 H E k).0 (spot_of 𝓤 H E k).1 (spot_of 𝓤 H E k).2 (D.val (get_or l i d)))) Γ) (runs C Λ E rest q))
       → Seq K 𝓛 (‵ (flft κ s) ∷ ‵ (Own D.row x.ref_ptr.0 x.ref_ptr.1 (length x.now) erased κ x.ghost_name l) ∷ Γ) (runs C Λ E (seq (assign (place k []) (rv_opd (copy (place j (deref τ ∷ []))))) rest) q)
-  reads-lent t D x l i d {τ} cell room long below n m mut_at to typed k' =
+  reads-lent t D x l i d {τ} cell room long below n m at-ptr to typed k' =
       let in-l : i < length l = subst (λ (c : ℕ). i < c) (sym long) below in
       opens D.row x l t tt long $ knows {τ = τ} t (elem 𝓛 D cell) 0 full_share l i d x.ref_ptr.0 x.ref_ptr.1 in-l refl (λ is.
-      assigns t (of_opd t (load t (from t (hop t (look t (suc (suc (suc (suc n)))) mut_at) (stop t))) (look-elem t (elem 𝓛 D cell) 0 full_share l i d x.ref_ptr.0 x.ref_ptr.1 in-l refl))) (from t (stop t)) (init t (suc (suc (suc (suc m)))) to (typed is)) $
+      assigns t (of_opd t (load t (from t (hop t (look t (suc (suc (suc (suc n)))) at-ptr) (stop t))) (look-elem t (elem 𝓛 D cell) 0 full_share l i d x.ref_ptr.0 x.ref_ptr.1 in-l refl))) (from t (stop t)) (init t (suc (suc (suc (suc m)))) to (typed is)) $
       closes D.row x l t tt l refl long room $ k' is)
 
-  pub reads-shared : K → (D : Data 𝓛) → Copied 𝓛 D.row → RowLaws D.row → (x : Bor (List D.row.Denot)) (i : ℕ) (d : D.row.Denot) {τ : Ty} {j k : ℕ} → Lies 𝓛 D τ → i < length x.now
+  pub reads-shared : K → (D : Data 𝓛) → Copied 𝓛 D.row → (x : Bor (List D.row.Denot)) (i : ℕ) (d : D.row.Denot) {τ : Ty} {j k : ℕ} → Lies 𝓛 D τ → i < length x.now
       → (n m : ℕ) → Points 𝓛 D Γ E x.ref_ptr i j n → nth 𝓛 m Γ ≡ ‵ (froom (spot_of 𝓤 H E k).0 (spot_of 𝓤 H E k).1 (spot_of 𝓤 H E k).2) → (Is D.row (get_or x.now i d) (D.val (get_or x.now i d) ∷ []) → Typed 𝓛 D (spot_of 𝓤 H E k).0 (get_or x.now i d))
       → (Is D.row (get_or x.now i d) (D.val (get_or x.now i d) ∷ [])
       → Seq K 𝓛 (‵ (flft κ s) ∷ ‵ ((ShrSlice erased κ D.row).own_val x (shr_slice_vals x)) ∷ put 𝓛 m (‵ (fat full_share (spot_of 𝓤 H E k).0 (spot_of 𝓤 H E k).1 (spot_of 𝓤 H E k).2 (D.val (get_or x.now i d)))) Γ) (runs C Λ E rest q))
       → Seq K 𝓛 (‵ (flft κ s) ∷ ‵ ((ShrSlice erased κ D.row).own_val x (shr_slice_vals x)) ∷ Γ) (runs C Λ E (seq (assign (place k []) (rv_opd (copy (place j (deref τ ∷ []))))) rest) q)
-  reads-shared t D cp laws x i d {τ} cell below n m bor_shr_at to typed k' =
-      let own : Item 𝓤 = ‵ ((ShrSlice erased κ D.row).own_val x (shr_slice_vals x)) in
-      move t (1 ∷ []) $ use1 𝓛 (own ⊛ own) ((shr_slice_copy 𝓛 erased κ D.row laws).twice x (shr_slice_vals x)) $ split t $ fsplit t $ drop t $
-      -- [the borrow; the slice; the token]
-      move t (0 ∷ 2 ∷ []) $ looks_slice t tt D.row cp x.now x.ref_ptr.0 x.ref_ptr.1 (λ s'.
+  reads-shared t D cp x i d {τ} cell below n m at-ptr to typed k' =
+      move t (1 ∷ []) $ fsplit t $ pure_l t (shr_slice_at D.row x (shr_slice_vals x)) (λ p.
+      looks_slice t tt D.row cp x.now x.ref_ptr.0 x.ref_ptr.1 (λ s'.
+      -- [the row; the way back; what a `&` to each element holds; ..]
       knows {τ = τ} t (elem 𝓛 D cell) 0 s' x.now i d x.ref_ptr.0 x.ref_ptr.1 below refl (λ is.
-      assigns t (of_opd t (load t (from t (hop t (look t (suc (suc (suc (suc n)))) bor_shr_at) (stop t))) (look-elem t (elem 𝓛 D cell) 0 s' x.now i d x.ref_ptr.0 x.ref_ptr.1 below refl))) (from t (stop t)) (init t (suc (suc (suc (suc m)))) to (typed is)) $
-      shuts_slice t tt D.row s' x.now x.ref_ptr.0 x.ref_ptr.1 $ move t (1 ∷ []) $ drop t $ k' is))
+      assigns t (of_opd t (load t (from t (hop t (look t (suc (suc (suc n))) at-ptr) (stop t))) (look-elem t (elem 𝓛 D cell) 0 s' x.now i d x.ref_ptr.0 x.ref_ptr.1 below refl))) (from t (stop t)) (init t (suc (suc (suc m))) to (typed is)) $
+      shuts_slice t tt D.row s' x.now x.ref_ptr.0 x.ref_ptr.1 $ move t (1 ∷ []) $ pure_i t (shr_slice_at D.row x (shr_slice_vals x)) (tt, (tt, tt)) p $ fjoin t $ move t (1 ∷ 0 ∷ []) $ k' is)))
 
   pub writes-lent : K → (D : Data 𝓛) (x : MutBor (List D.row.Denot)) (l : List D.row.Denot) (i : ℕ) (y : D.row.Denot) {τ : Ty} {j : ℕ} {u : Operand} → Lies 𝓛 D τ → Room D.row (length x.now) → length l ≡ length x.now → i < length x.now
       → (n : ℕ) → Points 𝓛 D Γ E x.ref_ptr i j n → Is D.row y (D.val y ∷ []) → Typed 𝓛 D τ y
       → Opd K 𝓛 (‵ (row D.row full_share l x.ref_ptr.0 x.ref_ptr.1) ∷ ‵ (fobor κ s (Held D.row (length l) x.ref_ptr.0 x.ref_ptr.1 x.ghost_name)) ∷ ‵ (fobs x.ghost_name ((coded_holeys D.row).code (heres D.row l))) ∷ ‵ (fauth x.ghost_name ((coded_holeys D.row).code (heres D.row l))) ∷ Γ) E u (D.val y)
       → Step K 𝓛 (‵ (flft κ s) ∷ ‵ (Own D.row x.ref_ptr.0 x.ref_ptr.1 (length x.now) erased κ x.ghost_name (set l i y)) ∷ Γ) (runs C Λ E rest q)
       (‵ (flft κ s) ∷ ‵ (Own D.row x.ref_ptr.0 x.ref_ptr.1 (length x.now) erased κ x.ghost_name l) ∷ Γ) (runs C Λ E (seq (assign (place j (deref τ ∷ [])) (rv_opd u)) rest) q)
-  writes-lent t D x l i y cell room long below n mut_at is typed u = step (λ k.
+  writes-lent t D x l i y cell room long below n at-ptr is typed u = step (λ k.
       opens D.row x l t tt long $
-      assigns t (of_opd t u) (from t (hop t (look t (suc (suc (suc (suc n)))) mut_at) (stop t))) (store-elem t (elem 𝓛 D cell) D.makes 0 l i y x.ref_ptr.0 x.ref_ptr.1 (rw long below) typed is refl) $
+      assigns t (of_opd t u) (from t (hop t (look t (suc (suc (suc (suc n)))) at-ptr) (stop t))) (store-elem t (elem 𝓛 D cell) D.makes 0 l i y x.ref_ptr.0 x.ref_ptr.1 (rw long below) typed is refl) $
       closes D.row x l t tt (set l i y) (length-set l i y) long room $ k)

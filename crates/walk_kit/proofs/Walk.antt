@@ -2,7 +2,7 @@
 --     AtEntry, at_entry        what a function has at entry, as entries of a context: a token for each lifetime, then what each parameter owns
 --     loops-by         a loop, over states s of any type: At s is the context, F s what is known, and μ s falls with each turn. A turn from s leaves the loop, or ends at some s' (it is handed the way on, for each s')
 --     goes_in, passes-by       an `if` in the middle of a part, where its test's outcome is known: its first arm runs, or the arm is passed by where the other is empty
--- Assumes `Logic`, and that the table of calls is monotone under a frame, as every `Tables` is.
+-- Assumes `Logic`.
 use base.Logic.{SProp, ent, sep, ex, guard, emp, via, mono∗, mono_r, ex_i, ex_e, guard_i, guard_e, id⊢}
 use contract.Lifetimes.{Lfts, Shares}
 use denote.RattleType.{RattleType, Denots, Valss, owns}
