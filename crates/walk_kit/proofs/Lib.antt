@@ -9,3 +9,4 @@ pub mod Turns
 pub mod Arrays
 pub mod Holding
 pub mod Prelude
+pub mod Cases
