@@ -1,7 +1,6 @@
 -- The words of `Passing` at a call, held to the toolchain's rows by computation: a number, a copy of a `&[T]`, a `&mut [T]` lent again as a `&mut`, and one lent as a `&`. So the equations that `calls-with` and `leaves-with` ask can be had, and `given_back` is what the row of a `&mut [T]` says of its last list.
 --     given-back-only      `given_back` is what a kept `&mut [T]` leaves
 --     tokens-match, owned-match, said-match       of such a call: the tokens, what the parameters own, what is said of last values.        left-match      the same at the end of a function that has these parameters
--- Assumes nothing.
 use base.Fml.{GName, Lft}
 use base.Fraction.{full_share}
 use contract.Lifetimes.{Lfts, Shares}
