@@ -1,6 +1,6 @@
 -- The plan over a lent index is the refusal of the search before it looks (`plan-is`). Where it refuses, that is the answer, and no buffer is altered (`plan-stops`). Where it does not, the call is within all limits (`allowed`), and what is left to decide is whether the list holds all matches (`goes_on`).
 use Rattle.std.specs.Prelude.{ℕ, zero, suc, ◌+◌, ◌-◌, ◌<◌, ◌≤◌, T, eqb, ℤ, pos, length, false, List, ◌≡◌}
-use Rattle.std.proofs.Math.Option.{none, some}
+use Rattle.std.specs.Prelude.{None, Some}
 use Rattle.std.proofs.Math.Path.{refl}
 use Rattle.std.proofs.Common.{subst, arith}
 use Rattle.meaning_numbers.proofs.{Rep.zarith, Rep.z-sub, Tests.clash}
@@ -24,7 +24,7 @@ pub record Allowed (s : List ℤ) (h : Head) (x : Index) (ask : Ask) (q : List �
   pub values : AllIn s
   pub query : AllIn q
   pub long : length s ≤ 1048576
-  pub some : 0 < length q
+  pub Some : 0 < length q
   pub few : length q ≤ 1024
   pub inside : length q ≤ length s
   pub window : h.window ≤ length q
@@ -74,7 +74,7 @@ module _ (s : List ℤ) (h : Head) (rows : List Row) (left right : List ℕ) (as
     t : AllPass (search_plan call b)
     t = passes (search_plan call b) never-0 plan-is z
 
-    pub goes_on : first_refusal (search_plan call b) ≡ none
+    pub goes_on : first_refusal (search_plan call b) ≡ None
     goes_on = passed_is t
 
     abbrev n : ℕ
@@ -100,7 +100,7 @@ module _ (s : List ℤ) (h : Head) (rows : List Row) (left right : List ℕ) (as
           values = values-line s (passed-line t 2);
           query = values-line q (passed-line (passed-behind t 2) 2);
           long = (long-line most_values n (passed-line t 1)).most;
-          some = length-in.0.least;
+          Some = length-in.0.least;
           few = length-in.0.most;
           inside = length-in.1;
           window = omega (zarith, below-line m (pos h.window) (passed-line t 7));

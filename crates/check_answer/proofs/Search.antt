@@ -3,7 +3,7 @@ use Prim.Native.Nat.{ℕ, ◌<◌}
 use lib.IntN.{ℤ}
 use lib.ListN.{length}
 use mathlib.Core.List.{List}
-use mathlib.Core.Option.{none}
+use Rattle.std.specs.Prelude.{None}
 use mathlib.Core.Path.{◌≡◌, refl, sym, ap, ◌∙◌}
 use native.Mathlib.Decide.{dec_le}
 use native.Mathlib.Omega.{arith}
@@ -21,7 +21,7 @@ use Rattle.check_answer.proofs.AnswerLaws.{answer-all, answer-full}
 pub limited : {s : List ℤ} {h : Head} {x : Index} {ask : Ask} {q : List ℤ} {candidates scratch : ℕ} → Allowed s h x ask q candidates scratch → Limited ask.kind s q ask.limits
 limited a = record { long = a.long; some = a.some; few = a.few; values = a.values; query = a.query; scale = a.scale-high; not-flat = a.not-flat }
 
-module _ (c : SearchCall) (b : SearchBuffers) (free : first_refusal (search_plan c b) ≡ none) where
+module _ (c : SearchCall) (b : SearchBuffers) (free : first_refusal (search_plan c b) ≡ None) where
   abbrev M : ℕ
   M = length (search_matches c)
 

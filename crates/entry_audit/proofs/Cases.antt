@@ -1,5 +1,5 @@
 -- What the audit answers, by its plan: where the plan's refusal is that of a call, the answer is that call's (`stopped`, `went-wrong`, `went-right`), and where nothing refuses its lines say what they test.
-use Rattle.meaning_numbers.proofs.Prelude.{◌≡◌, refl, sym, ap, ◌∙◌, true, false, none, some, ℕ, zero, suc, ◌+◌, T, nat_abs, length, eq-eqb, ne_eqb}
+use Rattle.meaning_numbers.proofs.Prelude.{◌≡◌, refl, sym, ap, ◌∙◌, true, false, None, Some, ℕ, zero, suc, ◌+◌, T, nat_abs, length, eq-eqb, ne_eqb}
 use Rattle.meaning_curves.specs.Limits.{most_values}
 use Rattle.meaning_curves.proofs.Values.{AllIn}
 use Rattle.meaning_rows.specs.Audit.{first_wrong, missing}
@@ -46,7 +46,7 @@ module _ (c : AuditCall) (p : AuditPlan) (is : p.refusal ≡ refusal_of (audit_t
     t : AllPass (audit_table most_values c)
     t = passes _ never-0 is z
 
-    unrefused : first_refusal (audit_table most_values c) ≡ none
+    unrefused : first_refusal (audit_table most_values c) ≡ None
     unrefused = passed_is t
 
     pub values-in : AllIn c.series
@@ -61,10 +61,10 @@ module _ (c : AuditCall) (p : AuditPlan) (is : p.refusal ≡ refusal_of (audit_t
     unfolding open_lines audit_table
     fits = let n = length c.series in same-windows c.index c.series formed (fewer-line c.index n (passed-line t 21)) (more-line c.index n (passed-line t 22))
 
-    pub went-wrong : (k j : ℕ) → first_wrong c.index c.series ≡ some (k, j) → answer_of p (found (some (k, j))) ≡ audit_answer c
+    pub went-wrong : (k j : ℕ) → first_wrong c.index c.series ≡ Some (k, j) → answer_of p (found (Some (k, j))) ≡ audit_answer c
     unfolding audit_answer audited found
     went-wrong k j e = sym (answer-wrong p _ z refl) ∙ rw (audit_answer, unrefused) (rw (audited, e) refl)
 
-    pub went-right : (s : RowsAudited) → s.go ≡ true → first_wrong c.index c.series ≡ none → p.lacking ≡ missing c.index → answer_of p s ≡ audit_answer c
+    pub went-right : (s : RowsAudited) → s.go ≡ true → first_wrong c.index c.series ≡ None → p.lacking ≡ missing c.index → answer_of p s ≡ audit_answer c
     unfolding audit_answer audited
     went-right s g e m = sym (answer-complete p s z g) ∙ ap complete m ∙ rw (audit_answer, unrefused) (rw (audited, e) refl)

@@ -1,5 +1,5 @@
 -- The rows of an index, chunk by chunk: what is filed wrongly first from a place on is that of the chunk, or else of what comes after (`chunk-then`). Every row of a well-formed index can be read (`good-reads`), and so can what a chunk holds (`chunk-reads`).
-use Rattle.meaning_numbers.proofs.Prelude.{◌≡◌, refl, sym, ap, subst, ◌∙◌, true, ◌&&◌, List, [], ◌∷◌, Option, none, some, ℕ, zero, suc, ◌+◌, ◌-◌, ◌<◌, ◌≤◌, arith, dec_le, leb, ltb, ℤ, pos, length, get_or, drop, drop_of_length-le, List·get_d-eq-default, leb-true, ltb-true, both, by-test}
+use Rattle.meaning_numbers.proofs.Prelude.{◌≡◌, refl, sym, ap, subst, ◌∙◌, true, ◌&&◌, List, [], ◌∷◌, Option, None, Some, ℕ, zero, suc, ◌+◌, ◌-◌, ◌<◌, ◌≤◌, arith, dec_le, leb, ltb, ℤ, pos, length, get_or, drop, drop_of_length-le, List·get_d-eq-default, leb-true, ltb-true, both, by-test}
 use Rattle.meaning_curves.specs.Curve.{window_sum}
 use Rattle.meaning_rows.specs.{declared.Row.Row, declared.Head.Head, Range.inside, Index.Index, Index.lent, Index.runs_of, Judge.runs_good, Audit.offsets, Audit.wrong_in, Audit.wrong_from, Audit.sums, Audit.first_wrong}
 use Rattle.meaning_rows.proofs.{Judge.GoodRow, Judge.WellFormed, Judge.runs-good, Judge.row_at, Grown.length-entries}
@@ -11,8 +11,8 @@ use Rattle.entry_audit.specs.Auditing.{Reads, only_runs, wrong_of}
 -- ---- a chunk, and what comes after
 
 unfoldable pub or_else : Option (ℕ × ℕ) → Option (ℕ × ℕ) → Option (ℕ × ℕ)
-or_else none b = b
-or_else (some p) b = some p
+or_else None b = b
+or_else (Some p) b = Some p
 
 in_then : (sum : ℕ → ℤ) (n : ℕ) (r : Row) (l : List ℕ) (a b : Option (ℕ × ℕ)) → or_else (wrong_in sum n r l a) b ≡ wrong_in sum n r l (or_else a b)
 unfolding wrong_in or_else
@@ -24,7 +24,7 @@ module _ (series : List ℤ) (w : ℕ) (left right : List ℕ) where
   unfolding wrong_from
   from_cons n r l = refl
 
-  from-none : (n : ℕ) → wrong_of series w left right n [] ≡ none
+  from-none : (n : ℕ) → wrong_of series w left right n [] ≡ None
   unfolding wrong_from
   from-none n = refl
 

@@ -1,5 +1,5 @@
 -- The loop over the chunks of an audit. `Auditing` is its invariant: where the audit goes on, nothing refuses and what is filed wrongly first from here on is what is filed wrongly first; where it does not, the answer is had. How it starts, moves, stops and ends.
-use Rattle.meaning_numbers.proofs.Prelude.{◌≡◌, refl, sym, ap, subst, ◌∙◌, true, false, not, List, Option, none, some, ℕ, ◌+◌, ◌-◌, ◌<◌, ◌≤◌, ◌*◌, ◌^◌, arith, ℤ, length, drop, drop_of_length-le, eqb-true, eqb-false, not-true, not-false, by-test, clash}
+use Rattle.meaning_numbers.proofs.Prelude.{◌≡◌, refl, sym, ap, subst, ◌∙◌, true, false, not, List, Option, None, Some, ℕ, ◌+◌, ◌-◌, ◌<◌, ◌≤◌, ◌*◌, ◌^◌, arith, ℤ, length, drop, drop_of_length-le, eqb-true, eqb-false, not-true, not-false, by-test, clash}
 use Rattle.meaning_curves.specs.Limits.{most_values}
 use Rattle.meaning_rows.specs.{declared.Row.Row, declared.Head.Head, Index.Index, Index.lent, Judge.length_total, Audit.first_wrong, Audit.wrong_from}
 use Rattle.meaning_rows.proofs.{Judge.WellFormed, Judge.none-bad, Audit.missing-are}
@@ -73,23 +73,23 @@ module _ (series : List ℤ) (h : Head) (rows : List Row) (left right : List ℕ
   unfolding chunked
   chunk-off s from e = rw e refl
 
-  found-go : (o : Option (ℕ × ℕ)) → (found o).go ≡ true → o ≡ none
+  found-go : (o : Option (ℕ × ℕ)) → (found o).go ≡ true → o ≡ None
   unfolding found
-  found-go none e = refl
-  found-go (some p) e = clash e refl
+  found-go None e = refl
+  found-go (Some p) e = clash e refl
 
-  found-off : (o : Option (ℕ × ℕ)) → (found o).go ≡ false → (k j : ℕ) × (o ≡ some (k, j))
+  found-off : (o : Option (ℕ × ℕ)) → (found o).go ≡ false → (k j : ℕ) × (o ≡ Some (k, j))
   unfolding found
-  found-off none e = clash refl e
-  found-off (some p) e = (p.0, p.1, refl)
+  found-off None e = clash refl e
+  found-off (Some p) e = (p.0, p.1, refl)
 
-  none_then : (a b c : Option (ℕ × ℕ)) → or_else a b ≡ c → a ≡ none → b ≡ c
+  none_then : (a b c : Option (ℕ × ℕ)) → or_else a b ≡ c → a ≡ None → b ≡ c
   unfolding or_else
-  none_then a b c e f = let g : or_else none b ≡ c = subst (λ (u : Option (ℕ × ℕ)). or_else u b ≡ c) f e in g
+  none_then a b c e f = let g : or_else None b ≡ c = subst (λ (u : Option (ℕ × ℕ)). or_else u b ≡ c) f e in g
 
-  some_then : (a b c : Option (ℕ × ℕ)) (p : ℕ × ℕ) → or_else a b ≡ c → a ≡ some p → some p ≡ c
+  some_then : (a b c : Option (ℕ × ℕ)) (p : ℕ × ℕ) → or_else a b ≡ c → a ≡ Some p → Some p ≡ c
   unfolding or_else
-  some_then a b c p e f = let g : or_else (some p) b ≡ c = subst (λ (u : Option (ℕ × ℕ)). or_else u b ≡ c) f e in g
+  some_then a b c p e f = let g : or_else (Some p) b ≡ c = subst (λ (u : Option (ℕ × ℕ)). or_else u b ≡ c) f e in g
 
   abbrev here-wrong : ℕ → Option (ℕ × ℕ)
   here-wrong from = wrong_of series h.window left right from (chunk_of rows from)
@@ -122,9 +122,9 @@ module _ (series : List ℤ) (h : Head) (rows : List Row) (left right : List ℕ
 
   lacking-is : WellFormed X → the_plan.lacking ≡ h.windows - length_total X rows
   unfolding plan_of outcome
-  lacking-is f = ap (left_over h) (judged-by X none (none-bad X f))
+  lacking-is f = ap (left_over h) (judged-by X None (none-bad X f))
 
-  none_after : (from : ℕ) → length rows ≤ from → left-wrong from ≡ none
+  none_after : (from : ℕ) → length rows ≤ from → left-wrong from ≡ None
   unfolding wrong_from
   none_after from l = rw (drop_of_length-le rows l) refl
 

@@ -1,7 +1,7 @@
 -- The turns of the loops over a chunk's rows, their runs and the offsets of a run: what is filed wrongly first among what is left. A row begins (`row-begins`) and ends (`row_ends`), a run begins (`run-begins`) and ends (`run_ends`),
 -- an offset is filed right (`filed-right`) or wrongly (`filed-wrong`), and where no row is left none is (`none_left`).
 use Rattle.meaning_numbers.specs.Place.{numbers_from}
-use Rattle.meaning_numbers.proofs.Prelude.{◌≡◌, refl, sym, ap, ◌∙◌, Bool, true, false, List, [], ◌∷◌, ◌++◌, Option, none, some, ℕ, suc, ◌+◌, ◌-◌, ◌<◌, ◌≤◌, arith, ℤ, length, get_or, drop, drop_of_length-le}
+use Rattle.meaning_numbers.proofs.Prelude.{◌≡◌, refl, sym, ap, ◌∙◌, Bool, true, false, List, [], ◌∷◌, ◌++◌, Option, None, Some, ℕ, suc, ◌+◌, ◌-◌, ◌<◌, ◌≤◌, arith, ℤ, length, get_or, drop, drop_of_length-le}
 use Rattle.meaning_curves.specs.Curve.{window_sum}
 use Rattle.meaning_rows.specs.{declared.Row.Row, declared.Head.Head, Range.inside, Audit.offsets, Audit.wrong_in, Audit.wrong_from}
 use Rattle.rows_records.specs.Records.{zero_row}
@@ -67,11 +67,11 @@ module _ (series : List ℤ) (w : ℕ) (left right : List ℕ) where
   filed-right n r j last i end after h t = rw (numbers_more j last h, t) refl
 
   pub filed-wrong : (n : ℕ) (r : Row) (j last i end : ℕ) (after : Option (ℕ × ℕ)) → j ≤ last → inside r.low r.up (window_sum series w j) ≡ false
-      → some (n, j) ≡ in_offsets n r j last i end after
+      → Some (n, j) ≡ in_offsets n r j last i end after
   unfolding wrong_in
   filed-wrong n r j last i end after h t = rw (numbers_more j last h, t) refl
 
-  pub none_left : (n : ℕ) (chunk : List Row) (k : ℕ) → length chunk ≤ k → none ≡ wrong_of series w left right n (drop k chunk)
+  pub none_left : (n : ℕ) (chunk : List Row) (k : ℕ) → length chunk ≤ k → None ≡ wrong_of series w left right n (drop k chunk)
   unfolding wrong_from
   none_left n chunk k h = rw (drop_of_length-le chunk h) refl
 
@@ -86,11 +86,11 @@ module _ (series : List ℤ) (h : Head) (left right : List ℕ) (s : RowsAudited
   unfolding chunked
   chunk-found e o p = ap found p ∙ sym (rw e)
 
-pub still-found : (go : Bool) (row offset : ℕ) → Still go row offset → record { go = go; row = row; offset = offset } ≡ found none
+pub still-found : (go : Bool) (row offset : ℕ) → Still go row offset → record { go = go; row = row; offset = offset } ≡ found None
 unfolding found
 still-found go row offset t =
     λ i. record { go = t.goes i; row = t.no_row i; offset = t.no-offset i }
 
-pub wrong-found : (row offset : ℕ) → record { go = false; row = row; offset = offset } ≡ found (some (row, offset))
+pub wrong-found : (row offset : ℕ) → record { go = false; row = row; offset = offset } ≡ found (Some (row, offset))
 unfolding found
 wrong-found row offset = refl

@@ -1,6 +1,7 @@
 -- The state of an audit: that it goes on, or the row and offset filed wrongly. `Ready` is what the audit of a chunk of rows asks: every value in its limits, and every run of the rows inside the run buffer and the series.
 use Rattle.std.specs.Prelude.{ℕ, ◌+◌, ◌<◌, ◌≤◌, ◌^◌, ℤ, pos, length, get_or, true, false, cond, List, [], ◌≡◌}
-use Rattle.std.proofs.Math.Option.{Option, none, some}
+use Rattle.std.specs.declared.option.Option.{Option}
+use Rattle.std.specs.Prelude.{None, Some}
 use Rattle.meaning_curves.specs.Curve.{window_sum}
 use Rattle.meaning_curves.proofs.Values.{AllIn}
 use Rattle.meaning_rows.specs.{declared.Row.Row, declared.Head.Head, Index.Index, Index.entries, Audit.wrong_from}
@@ -9,8 +10,8 @@ use Rattle.entry_audit.specs.declared.RowsAudited.{RowsAudited}
 
 -- the state, by what is filed wrongly first
 unfoldable pub found : Option (ℕ × ℕ) → RowsAudited
-found none = record { go = true; row = 0; offset = 0 }
-found (some p) = record { go = false; row = p.0; offset = p.1 }
+found None = record { go = true; row = 0; offset = 0 }
+found (Some p) = record { go = false; row = p.0; offset = p.1 }
 
 -- a row's runs lie in both slices, and each of its windows, of length w, among n values
 pub record Reads (n w : ℕ) (left right : List ℕ) (r : Row) : Type 0 where

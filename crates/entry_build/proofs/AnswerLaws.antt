@@ -1,6 +1,6 @@
 -- Laws of specs/Answer.
 use Rattle.meaning_numbers.specs.Place.{any}
-use Rattle.meaning_numbers.proofs.Prelude.{◌≡◌, refl, sym, ap, ◌∙◌, true, List, [], ◌∷◌, ◌++◌, map, none, some, ℕ, ◌+◌, ◌-◌, ◌*◌, ◌<◌, ◌≤◌, arith, ℤ, length, get_or, replicate, length-append, length-map, clash}
+use Rattle.meaning_numbers.proofs.Prelude.{◌≡◌, refl, sym, ap, ◌∙◌, true, List, [], ◌∷◌, ◌++◌, map, None, Some, ℕ, ◌+◌, ◌-◌, ◌*◌, ◌<◌, ◌≤◌, arith, ℤ, length, get_or, replicate, length-append, length-map, clash}
 use Rattle.meaning_curves.specs.Curve.{window_sum, window_count}
 use Rattle.meaning_rows.specs.{declared.Row.Row, Index.Index, Build.SetRow, Build.with_runs, Build.built, Build.built_rows}
 use Rattle.meaning_rows.proofs.{Build.merged_rows, Build.holds_sum, Build.built-covers, Laid.length-records}
@@ -38,7 +38,7 @@ module _ (s : List ℤ) (w d g : ℕ) (b : IndexBuffers) (p : BuildPlan) (h : Pl
     unfolding build_table
     t = passes (build_table (lent_build s w d g) b) (never-0 s w d g (length b.rows) (run_room b)) refusal_is z
 
-    not-refused : build_refusal (lent_build s w d g) b ≡ none
+    not-refused : build_refusal (lent_build s w d g) b ≡ None
     not-refused = passed_is t
 
     go : Goes s w d g (length b.rows) (run_room b)
@@ -49,7 +49,7 @@ module _ (s : List ℤ) (w d g : ℕ) (b : IndexBuffers) (p : BuildPlan) (h : Pl
     lifts = h.lifts z
 
     pub plan-lent : Lent s w p.extra
-    plan-lent = record { all = go.values; some = go.some; most = go.most; fits = go.fits; long = go.long; small = lifts.small }
+    plan-lent = record { all = go.values; Some = go.some; most = go.most; fits = go.fits; long = go.long; small = lifts.small }
 
     pub plan-window : p.window ≡ w
     plan-window = lifts.window

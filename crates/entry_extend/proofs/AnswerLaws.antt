@@ -3,7 +3,7 @@ use Prim.Native.Nat.{ℕ, ◌+◌, ◌-◌, ◌*◌, ◌<◌, ◌≤◌}
 use lib.IntN.{ℤ}
 use lib.ListN.{length, get_or, replicate, length-append, length-replicate, length-map}
 use mathlib.Core.List.{List}
-use mathlib.Core.Option.{none, some}
+use Rattle.std.specs.Prelude.{None, Some}
 use mathlib.Core.Path.{◌≡◌, refl, sym, ap, ◌∙◌}
 use native.Mathlib.Omega.{arith}
 use Rattle.meaning_curves.specs.Curve.{window_count, window_sum}
@@ -39,7 +39,7 @@ module _ (s : List ℤ) (h : Head) (from : List Row) (lefts rights : List ℕ) (
       extend-kept call b (refused_as plan) b (rw (extend_answer, e) refl) (rw (extend_after, e) refl)
 
   module _ (z : plan.number ≡ 0) where
-    not-refused : extend_refusal call b ≡ none
+    not-refused : extend_refusal call b ≡ None
     not-refused = goes_on s h from lefts rights b z
 
     so : Sound s h from lefts rights b
@@ -59,7 +59,7 @@ module _ (s : List ℤ) (h : Head) (from : List Row) (lefts rights : List ℕ) (
       record {
         formed = so.formed;
         longer = so.longer;
-        lent = record { all = none-outside s so.longer.values; some = so.formed.head.window.least; most = so.formed.head.window.most; fits = sizes.0; long = so.longer.short; small = u.small };
+        lent = record { all = none-outside s so.longer.values; Some = so.formed.head.window.least; most = so.formed.head.window.most; fits = sizes.0; long = so.longer.short; small = u.small };
         bias = sym u.is ∙ u.multiple;
         in_rows = so.row_room;
         in_left = omega (arith, so.runs_fit);

@@ -7,7 +7,7 @@ use lib.ListN.{length, take, drop, replicate, length-replicate, length-map}
 use lib.Seq.{sets, sets-eq, take-length}
 use mathlib.Core.Bool.{true}
 use mathlib.Core.List.{List, [], ◌∷◌, ◌++◌, append-nil}
-use mathlib.Core.Option.{none}
+use Rattle.std.specs.Prelude.{None}
 use mathlib.Core.Path.{◌≡◌, refl, sym, ap, ◌∙◌, subst}
 use native.Mathlib.Omega.{arith}
 use Rattle.meaning_rows.specs.{declared.Head.Head, declared.Row.Row, Index.zero_row, Index.Index, Index.Entry, Index.lent, Judge.head_good, Judge.first_bad_row}
@@ -85,7 +85,7 @@ module _ (t : List ℕ) (b : IndexBuffers) (v : Value index_form) (e : read_text
   abbrev r : Refusal
   r = refusal_of (rows_table h c (length b.rows) (run_room b))
 
-  can-read : (unreadable index_form 0 t).place ≡ none
+  can-read : (unreadable index_form 0 t).place ≡ None
   unfolding unreadable bad_line
   can-read = rw (e, bad_line) refl
 
@@ -113,7 +113,7 @@ module _ (t : List ℕ) (b : IndexBuffers) (v : Value index_form) (e : read_text
     passed : AllPass (load_table t b)
     passed = passes (load_table t b) never-0 refusal_is z
 
-    none-refuses : load_refusal t b ≡ none
+    none-refuses : load_refusal t b ≡ None
     none-refuses = passed_is passed
 
     good : (head_good (lent h [] [] []) ≡ true) × (c.good ≡ true)

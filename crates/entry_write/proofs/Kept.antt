@@ -1,5 +1,5 @@
 -- The entry keeps its promise: what it answers, and what it leaves in the text, by the first refusal.
-use Rattle.meaning_numbers.proofs.Prelude.{◌≡◌, refl, sym, ap, ◌∙◌, true, false, List, none, some, ℕ, suc, ◌≤◌, min, arith, T, ltb, length, sets, sets-eq, length-sets, take-append-le, take-length, lt-ltb, le-ltb, ltb-true, ltb-false, eqb-true, eqb-false, by-test}
+use Rattle.meaning_numbers.proofs.Prelude.{◌≡◌, refl, sym, ap, ◌∙◌, true, false, List, None, Some, ℕ, suc, ◌≤◌, min, arith, T, ltb, length, sets, sets-eq, length-sets, take-append-le, take-length, lt-ltb, le-ltb, ltb-true, ltb-false, eqb-true, eqb-false, by-test}
 use Rattle.meaning_rows.specs.Index.{Index}
 use Rattle.meaning_text.specs.Texts.{index_text}
 use Rattle.meaning_entries.specs.{declared.Written.Written, Refusal.buffer_short, Buffers.filled, Write.write_table, Write.write_refusal, Write.write_answer, Write.write_after, Demand2.WriteKept}
@@ -11,8 +11,8 @@ use Rattle.entry_write.specs.{Spell.Ended, Answer.table_of, Answer.answer_of, An
 
 -- an answer, and why
 data Because (x : Index) (text : List ℕ) : Written → Type 0 where
-  refused : (n p : ℕ) → write_refusal x text ≡ some (n, p) → Because x text (Written.Refused n p)
-  fits : write_refusal x text ≡ none → length (index_text x) ≤ length text → Because x text (Written.Text (length (index_text x)))
+  refused : (n p : ℕ) → write_refusal x text ≡ Some (n, p) → Because x text (Written.Refused n p)
+  fits : write_refusal x text ≡ None → length (index_text x) ≤ length text → Because x text (Written.Text (length (index_text x)))
 
 module _ (x : Index) (text : List ℕ) (n : ℕ) (counted : n ≡ min (length (index_text x)) (suc (length text))) where
   table_is : table_of (judged_of x) n (length text) ≡ write_table x text

@@ -4,7 +4,7 @@ use lib.Dec.{T}
 use lib.IntN.{ℤ}
 use lib.ListN.{length}
 use mathlib.Core.List.{List}
-use mathlib.Core.Option.{none, some}
+use Rattle.std.specs.Prelude.{None, Some}
 use mathlib.Core.Path.{◌≡◌, refl}
 use Rattle.meaning_rows.specs.{declared.Row.Row, declared.Head.Head, Index.Index, Index.lent}
 use Rattle.meaning_rows.proofs.{Judge.WellFormed, Extend.Extendable}
@@ -29,7 +29,7 @@ module _ (series : List ℤ) (h : Head) (rows : List Row) (left right : List ℕ
   unfolding plan_of extend_table more_windows
   plan-is = rw (judged-line X (judged_of X) (bad-row X)) refl
 
-  pub stopped : (the_plan.number ≡ 0 → ⊥) → extend_refusal call b ≡ some (the_plan.number, the_plan.place)
+  pub stopped : (the_plan.number ≡ 0 → ⊥) → extend_refusal call b ≡ Some (the_plan.number, the_plan.place)
   stopped f = refuses (extend_table call b) plan-is f
 
   never-0 : T (lacks 0 (extend_table call b))
@@ -47,7 +47,7 @@ module _ (series : List ℤ) (h : Head) (rows : List Row) (left right : List ℕ
     t : AllPass (extend_table call b)
     t = passes (extend_table call b) never-0 plan-is z
 
-    pub goes_on : extend_refusal call b ≡ none
+    pub goes_on : extend_refusal call b ≡ None
     goes_on = passed_is t
 
     pub sound : Sound

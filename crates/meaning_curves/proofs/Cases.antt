@@ -1,15 +1,15 @@
 -- Small cases of the definitions, in one table that one proof covers.
 use Rattle.meaning_numbers.specs.Place.{numbers_from}
 use Rattle.meaning_numbers.proofs.Table.{holds, sameℤ, same_list}
-use Rattle.meaning_numbers.proofs.Prelude.{Bool, false, not, ◌&&◌, List, [], ◌∷◌, map, Option, none, some, ℕ, T, eqb, ℤ, pos, negsuc, ◌+ℤ◌, ◌-ℤ◌, length}
+use Rattle.meaning_numbers.proofs.Prelude.{Bool, false, not, ◌&&◌, List, [], ◌∷◌, map, Option, None, Some, ℕ, T, eqb, ℤ, pos, negsuc, ◌+ℤ◌, ◌-ℤ◌, length}
 use Rattle.meaning_curves.specs.Limits.{length_in, value_in, window_in, width_in, merge_in, query_length_in, band_in, threshold_in, scale_in, shift_in, windows_in, end_in, first_outside}
 use Rattle.meaning_curves.specs.{Curve.at, Curve.window_sum, Curve.spread, Normal.normalised, Match.distance, Match.raw_match, Match.normal_match}
 use Rattle.meaning_curves.proofs.Open.{open_curves}
 
 -- the place is p
 is_at : Option ℕ → ℕ → Bool
-is_at none p = false
-is_at (some k) p = eqb k p
+is_at None p = false
+is_at (Some k) p = eqb k p
 
 -- the normalised values of a list
 normals : List ℤ → List ℤ

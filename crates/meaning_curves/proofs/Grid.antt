@@ -1,6 +1,6 @@
 -- The table as code keeps it: a number for each pair, `big` where there is none. Inside the band a pair always has a total before it, so an entry is the least of the three numbers before plus the cost, and outside it is `big`: no test for `big` is needed (`grid-inner`, `grid-top`, `grid-side`, `grid-out`).
 -- It asks that `big` is at least every total, and a total is at most (i + j + 1) times the greatest cost (`path-small`).
-use Rattle.meaning_numbers.proofs.Prelude.{◌≡◌, refl, Bool, true, false, Option, none, some, ℕ, suc, ◌+◌, ◌-◌, ◌*◌, ◌≤◌, min, arith, mul-le-mul_right, le_step, T, ℤ}
+use Rattle.meaning_numbers.proofs.Prelude.{◌≡◌, refl, Bool, true, false, Option, None, Some, ℕ, suc, ◌+◌, ◌-◌, ◌*◌, ◌≤◌, min, arith, mul-le-mul_right, le_step, T, ℤ}
 use Rattle.meaning_curves.specs.Table.{near, when, plus, least, step, table, value_of, warped}
 use Rattle.meaning_curves.specs.{Straight.cost, Warp.Near, Warp.WarpPath, Warp.start, Warp.first, Warp.second, Warp.both}
 use Rattle.meaning_curves.proofs.Table.{All, missing, there, Under, under, yes_near, all_map, least-all, least-left, table-start, table-top, table-side, table-inner, attained, least-total, in-band}
@@ -20,8 +20,8 @@ path-small c h (both {i} {j} p n) = omega (arith, path-small c (λ x y k l. h x 
 -- ---- a total that may be missing, as a number
 
 unfoldable pub coded : ℕ → Option ℕ → ℕ
-coded big none = big
-coded big (some t) = t
+coded big None = big
+coded big (Some t) = t
 
 coded_none : {P : ℕ → Type 0} (big : ℕ) {o : Option ℕ} → All P o → ((t : ℕ) → P t → ⊥) → coded big o ≡ big
 unfolding coded

@@ -1,6 +1,6 @@
 -- The table holds the least totals. `attained`: what it holds is the total of a path (by recursion on the table). `least-total`: no path to (i, j) has a smaller one (by induction on the path).
 -- Inside the band there is always a path (`in-band`), so `warped` is the warped distance (`warped-is`), and there is only one (`warped-only`).
-use Rattle.meaning_numbers.proofs.Prelude.{◌≡◌, refl, Bool, true, false, Option, none, some, ℕ, zero, suc, ◌+◌, ◌-◌, ◌≤◌, min, arith, min_cases, T, leb, leb→le, le→leb, ℤ, two-tests, both-tests}
+use Rattle.meaning_numbers.proofs.Prelude.{◌≡◌, refl, Bool, true, false, Option, None, Some, ℕ, zero, suc, ◌+◌, ◌-◌, ◌≤◌, min, arith, min_cases, T, leb, leb→le, le→leb, ℤ, two-tests, both-tests}
 use Rattle.meaning_curves.specs.Table.{near, when, plus, least, step, first_row, next_row, table, value_of, warped}
 use Rattle.meaning_curves.specs.{Straight.cost, Warp.Near, Warp.WarpPath, Warp.start, Warp.first, Warp.second, Warp.both, Warp.IsWarped}
 
@@ -8,12 +8,12 @@ use Rattle.meaning_curves.specs.{Straight.cost, Warp.Near, Warp.WarpPath, Warp.s
 
 -- what is there has the property P
 pub data All (P : ℕ → Type 0) : Option ℕ → Type 0 where
-  missing : All P none
-  there : {t : ℕ} → P t → All P (some t)
+  missing : All P None
+  there : {t : ℕ} → P t → All P (Some t)
 
 -- something is there, and it is at most n
 pub data Under : Option ℕ → ℕ → Type 0 where
-  under : (d n : ℕ) → d ≤ n → Under (some d) n
+  under : (d n : ℕ) → d ≤ n → Under (Some d) n
 
 when-all : {P : ℕ → Type 0} (t : Bool) {o : Option ℕ} → (T t → All P o) → All P (when t o)
 unfolding when
@@ -46,13 +46,13 @@ plus-under c (under d n h) = under (d + c) (n + c) (omega arith)
 
 pub least-left : {o : Option ℕ} (r : Option ℕ) {n : ℕ} → Under o n → Under (least o r) n
 unfolding least
-least-left none (under d n h) = under d n h
-least-left (some y) (under d n h) = under (min d y) n (omega arith)
+least-left None (under d n h) = under d n h
+least-left (Some y) (under d n h) = under (min d y) n (omega arith)
 
 pub least-right : (o : Option ℕ) {r : Option ℕ} {n : ℕ} → Under r n → Under (least o r) n
 unfolding least
-least-right none h = h
-least-right (some x) (under d n h) = under (min x d) n (omega arith)
+least-right None h = h
+least-right (Some x) (under d n h) = under (min x d) n (omega arith)
 
 value-all : {P : ℕ → Type 0} {o : Option ℕ} {n : ℕ} → All P o → Under o n → P (value_of o)
 unfolding value_of
@@ -77,7 +77,7 @@ yes_near {b} {i} {j} n = both-tests (leb i (j + b)) (leb j (i + b)) (le→leb i 
 
 module _ (s q : ℕ → ℤ) (b : ℕ) where
   -- the recurrence, as a loop over the rows uses it
-  pub table-start : table s q b 0 0 ≡ some (cost (s 0) (q 0))
+  pub table-start : table s q b 0 0 ≡ Some (cost (s 0) (q 0))
   unfolding table first_row
   table-start = refl
 

@@ -1,6 +1,6 @@
 -- A value in its limits, and every value of a list: by place, with a default that lies in the limits, so that no length is asked. What two such values are apart is at most 20,000, and its square at most 400,000,000.
 use Rattle.meaning_numbers.specs.Sum.{Σℕ}
-use Rattle.meaning_numbers.proofs.Prelude.{◌≡◌, sym, subst, true, false, not, ⊎_elim, List, none, ℕ, suc, ◌+◌, ◌*◌, ◌<◌, ◌≤◌, ◌-◌, dec_le, arith, T, length, List·get_d-eq-default, take, length-take, ℤ, pos, negsuc, ◌-ℤ◌, nat_abs, zarith, z-sub, z-abs, is_true, is_false, decided}
+use Rattle.meaning_numbers.proofs.Prelude.{◌≡◌, sym, subst, true, false, not, ⊎_elim, List, None, ℕ, suc, ◌+◌, ◌*◌, ◌<◌, ◌≤◌, ◌-◌, dec_le, arith, T, length, List·get_d-eq-default, take, length-take, ℤ, pos, negsuc, ◌-ℤ◌, nat_abs, zarith, z-sub, z-abs, is_true, is_false, decided}
 use Rattle.meaning_numbers.proofs.{Sum.Σℕ-le, Root.sq-le, Between.Between, Between.within-yes, Between.yes-within}
 use Rattle.meaning_curves.specs.{Limits.value_in, Limits.first_outside, Curve.at, Curve.stretch, Straight.cost}
 use Rattle.meaning_curves.proofs.Limits.{values-in, in-values}
@@ -34,10 +34,10 @@ pub no_value : (x : ℤ) → value_in x ≡ false → T (not (value_in x))
 no_value x e = rw e tt
 
 -- no value is outside exactly where all are in
-pub none-outside : (s : List ℤ) → first_outside s ≡ none → AllIn s
+pub none-outside : (s : List ℤ) → first_outside s ≡ None → AllIn s
 none-outside s e = record { at = λ k. within-yes _ _ _ (values-in s e k) }
 
-pub outside-none : {s : List ℤ} → AllIn s → first_outside s ≡ none
+pub outside-none : {s : List ℤ} → AllIn s → first_outside s ≡ None
 outside-none {s} h = in-values s (λ j l. yes-within (h.at j))
 
 -- ---- sizes

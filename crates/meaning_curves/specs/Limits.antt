@@ -1,6 +1,6 @@
 -- The limits of document 01, 'The product' and 'Rows', and of document 02: what each quantity may be by itself. Those against n and w stand with their refusals (`Refusal`), that of 18 digits with numbers (`Number`).
 use Rattle.std.specs.Prelude.{ℕ, ℤ, pos, negsuc, ◌-ℤ◌, Bool, not, List}
-use Rattle.std.proofs.Math.Option.{Option}
+use Rattle.std.specs.declared.option.Option.{Option}
 use Rattle.meaning_numbers.specs.{Order.within, Place.first_place}
 
 -- the most values of a series, and so the most windows of an index

@@ -1,6 +1,6 @@
 -- Reading and writing undo each other. A text that is read and written again is the same text, so only texts that a writer writes are read (`load_again`); a well-formed index has numbers that can be spelled (`spelled`), and its text gives its head, its rows and their runs back (`write-load`).
 use Rattle.meaning_numbers.specs.Order.{within}
-use Rattle.meaning_numbers.proofs.Prelude.{◌≡◌, refl, sym, ap, ◌∙◌, subst, true, List, [], ◌∷◌, map, none, some, ℕ, ◌≤◌, arith, ℤ, nat_abs, take, both, zmach, f-le, z-abs}
+use Rattle.meaning_numbers.proofs.Prelude.{◌≡◌, refl, sym, ap, ◌∙◌, subst, true, List, [], ◌∷◌, map, None, Some, ℕ, ◌≤◌, arith, ℤ, nat_abs, take, both, zmach, f-le, z-abs}
 use Rattle.meaning_curves.specs.Limits.{end_in, lowest_end}
 use Rattle.meaning_rows.specs.{declared.Row.Row, Index.Index, Index.range_row, Build.entry}
 use Rattle.meaning_rows.proofs.{Runs.Apart, Judge.GoodRows, Judge.WellFormed, Judge.run_total}
@@ -15,11 +15,11 @@ pub text-fine : (t : List ℕ) (v : Value index_form) → read_text index_form t
 unfolding text_index
 text-fine t v e = rw (e, text_index) refl
 
-refused-some : {X : Type 0} {r : ℕ × ℕ} → some r ≡ none → X
+refused-some : {X : Type 0} {r : ℕ × ℕ} → Some r ≡ None → X
 refused-some e = let z : ◌≡◌ {A = ℕ} 0 1 = cc in absurd (omega arith)
 
 -- what is read and written again is the same text
-pub load_again : (t : List ℕ) (b : IndexBuffers) → load_refusal t b ≡ none → index_text (text_index t) ≡ t
+pub load_again : (t : List ℕ) (b : IndexBuffers) → load_refusal t b ≡ None → index_text (text_index t) ≡ t
 unfolding load_table first_refusal unreadable bad_line
 load_again t b h = by-verdict _ refl
   where

@@ -1,5 +1,5 @@
 -- `Demand3Kept` follows from what the two entries promise (`AuditKept`, `SearchKept`) and from demand 3 of the meanings, and from nothing else.
-use Rattle.meaning_numbers.proofs.Prelude.{◌≡◌, refl, sym, subst, none, length}
+use Rattle.meaning_numbers.proofs.Prelude.{◌≡◌, refl, sym, subst, None, length}
 use Rattle.meaning_rows.specs.Index.{Index}
 use Rattle.meaning_filter.specs.declared.Pick.{Pick}
 use Rattle.meaning_entries.specs.{declared.Audited.Audited, declared.Found.Found, declared.Both.Both, Audit.PassesCovered, Search.SearchCall, Search.SearchBuffers, Search.search_matches, Search.search_candidates, Search.search_refusal, Search.search_answer, Demand2.AuditKept, Demand2.SearchKept, Demand3.through, Both.told, Both.audit_of, Both.demand_answer, Both.BothListed, Both.Demand3Kept}
@@ -9,7 +9,7 @@ use Rattle.meaning_entries.proofs.BothTold.{all_told, first-audit, second-audit,
 module _ (c : SearchCall) (x : Index) (before₁ before₂ after₁ after₂ : SearchBuffers) (picks : c.ask.pick ≡ Pick.All) where
   -- the answer that is meant keeps the promise
   module _ (search₁ : SearchKept c before₁ (search_answer c before₁) after₁) (search₂ : SearchKept (through x c) before₂ (search_answer (through x c) before₂) after₂) where
-    listed : PassesCovered c.index c.series → PassesCovered x c.series → search_refusal c before₁ ≡ none → search_refusal (through x c) before₂ ≡ none → BothListed c (demand_answer c x before₁ before₂) after₁ after₂
+    listed : PassesCovered c.index c.series → PassesCovered x c.series → search_refusal c before₁ ≡ None → search_refusal (through x c) before₂ ≡ None → BothListed c (demand_answer c x before₁ before₂) after₁ after₂
     listed p q e f = record {
       count₁ = length (search_matches c);
       count₂ = length (search_matches (through x c));

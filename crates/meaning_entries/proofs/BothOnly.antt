@@ -1,5 +1,5 @@
 -- The promise of demand 3 leaves one outcome, of searches that hand out all matches: one answer, and one content of every buffer.
-use Rattle.meaning_numbers.proofs.Prelude.{◌≡◌, refl, sym, ◌∙◌, ap, false≢true, Option, none, some, Option·some-ne-none, ℕ}
+use Rattle.meaning_numbers.proofs.Prelude.{◌≡◌, refl, sym, ◌∙◌, ap, false≢true, Option, None, Some, none-some, ℕ}
 use Rattle.meaning_rows.specs.Index.{Index}
 use Rattle.meaning_filter.specs.declared.Pick.{Pick}
 use Rattle.meaning_entries.specs.{declared.Audited.Audited, declared.Both.Both, Answers.both_counts, Audit.PassesCovered, Search.SearchCall, Search.SearchBuffers, Search.search_refusal, Search.search_after, Demand3.through, Both.yes, Both.demand_answer, Both.Demand3Kept}
@@ -13,12 +13,12 @@ by-audit (Audited.Wrong row offset) y n = n (λ e. false≢true (ap yes e))
 by-audit (Audited.Missing count) y n = n (λ e. false≢true (ap yes e))
 by-audit (Audited.Refused number place) y n = n (λ e. false≢true (ap yes e))
 
-by-refusal : {P : Type 0} (o : Option (ℕ × ℕ)) → (o ≡ none → P) → ((o ≡ none → ⊥) → P) → P
-by-refusal none y n = y refl
-by-refusal (some r) y n = n (Option·some-ne-none r)
+by-refusal : {P : Type 0} (o : Option (ℕ × ℕ)) → (o ≡ None → P) → ((o ≡ None → ⊥) → P) → P
+by-refusal None y n = y refl
+by-refusal (Some r) y n = n (λ e. none-some r (sym e))
 
 module _ (c : SearchCall) (x : Index) (b₁ b₂ : SearchBuffers) (answer : Both) (after₁ after₂ : SearchBuffers) (picks : c.ask.pick ≡ Pick.All) (k : Demand3Kept c x b₁ b₂ answer after₁ after₂) where
-  listed-only : PassesCovered c.index c.series → PassesCovered x c.series → search_refusal c b₁ ≡ none → search_refusal (through x c) b₂ ≡ none → answer ≡ demand_answer c x b₁ b₂
+  listed-only : PassesCovered c.index c.series → PassesCovered x c.series → search_refusal c b₁ ≡ None → search_refusal (through x c) b₂ ≡ None → answer ≡ demand_answer c x b₁ b₂
   listed-only p q e f =
       let l = k.listed p q e f in
       let m = both-listed c x b₁ b₂ picks p q e f in

@@ -1,5 +1,5 @@
 -- Two audits and two searches as one call: what is answered by what each audit and each search means (`demand-by`), case by case too, and that this paper's number, place, values and counts of the answer are those that are meant. By cases on the audits and on the refusals.
-use Rattle.meaning_numbers.proofs.Prelude.{◌≡◌, refl, sym, ap, ◌∙◌, Bool, true, false, cond, Option, none, some, Option·some-ne-none, ℕ, length}
+use Rattle.meaning_numbers.proofs.Prelude.{◌≡◌, refl, sym, ap, ◌∙◌, Bool, true, false, cond, Option, None, Some, none-some, ℕ, length}
 use Rattle.meaning_rows.specs.Index.{Index}
 use Rattle.meaning_filter.specs.declared.Pick.{Pick}
 use Rattle.meaning_entries.specs.Both.{yes, told_second, told_found, told, audit_of, demand_answer, in_turn, demand_refusal, demand_wrong, demand_missing, demand_counts, demand_found}
@@ -15,27 +15,27 @@ no-yes (Audited.Wrong row offset) fails = refl
 no-yes (Audited.Missing count) fails = refl
 no-yes (Audited.Refused number place) fails = refl
 
-is_some : (o : Option (ℕ × ℕ)) → (o ≡ none → ⊥) → (r : ℕ × ℕ) × (o ≡ some r)
-is_some (some r) fails = (r, refl)
-is_some none fails = absurd (fails refl)
+is_some : (o : Option (ℕ × ℕ)) → (o ≡ None → ⊥) → (r : ℕ × ℕ) × (o ≡ Some r)
+is_some (Some r) fails = (r, refl)
+is_some None fails = absurd (fails refl)
 
 -- a search that is refused stands in the way
-first-refused : (f g : Found) (r : ℕ × ℕ) → found_refusal f ≡ some r → told_found f g ≡ Both.FirstSearch f
+first-refused : (f g : Found) (r : ℕ × ℕ) → found_refusal f ≡ Some r → told_found f g ≡ Both.FirstSearch f
 unfolding told_found
-first-refused (Found.All candidates matches) g r e = absurd (Option·some-ne-none _ (sym e))
-first-refused (Found.Few candidates matches) g r e = absurd (Option·some-ne-none _ (sym e))
+first-refused (Found.All candidates matches) g r e = absurd (none-some _ e)
+first-refused (Found.Few candidates matches) g r e = absurd (none-some _ e)
 first-refused (Found.Full candidates matches) g r e = refl
 first-refused (Found.Refused number place) g r e = refl
 
-second-refused : (count : ℕ) (g : Found) (r : ℕ × ℕ) → found_refusal g ≡ some r → told_second count g ≡ Both.SecondSearch g
+second-refused : (count : ℕ) (g : Found) (r : ℕ × ℕ) → found_refusal g ≡ Some r → told_second count g ≡ Both.SecondSearch g
 unfolding told_second
-second-refused count (Found.All candidates matches) r e = absurd (Option·some-ne-none _ (sym e))
-second-refused count (Found.Few candidates matches) r e = absurd (Option·some-ne-none _ (sym e))
+second-refused count (Found.All candidates matches) r e = absurd (none-some _ e)
+second-refused count (Found.Few candidates matches) r e = absurd (none-some _ e)
 second-refused count (Found.Full candidates matches) r e = refl
 second-refused count (Found.Refused number place) r e = refl
 
 -- one that is not, and hands out all matches, lists them
-pub all_told : (c : SearchCall) (b : SearchBuffers) → c.ask.pick ≡ Pick.All → search_refusal c b ≡ none → search_answer c b ≡ Found.All (search_candidates c) (length (search_matches c))
+pub all_told : (c : SearchCall) (b : SearchBuffers) → c.ask.pick ≡ Pick.All → search_refusal c b ≡ None → search_answer c b ≡ Found.All (search_candidates c) (length (search_matches c))
 unfolding search_answer search_told
 all_told c b p e = rw (e, search_answer) (ap (λ q. search_told q (search_candidates c) (length (search_matches c))) p)
 
@@ -62,11 +62,11 @@ module _ (c : SearchCall) (x : Index) (b₁ b₂ : SearchBuffers) (picks : c.ask
   listed = Both.Listed (length (search_matches c)) (length (search_matches (through x c)))
 
   searches-by : {A : Type 0} (F : Both → A) (o p : Option (ℕ × ℕ)) → search_refusal c b₁ ≡ o → search_refusal (through x c) b₂ ≡ p
-      → ◌≡◌ {A = A} (F (told_found first second)) (elim o [ some r ↦ F (Both.FirstSearch first) | none ↦ elim p [ some r ↦ F (Both.SecondSearch second) | none ↦ F listed ] ])
+      → ◌≡◌ {A = A} (F (told_found first second)) (elim o [ Some r ↦ F (Both.FirstSearch first) | None ↦ elim p [ Some r ↦ F (Both.SecondSearch second) | None ↦ F listed ] ])
   unfolding told_found told_second
-  searches-by F (some r) p e h = ap F (first-refused first second r ((kept c b₁).refused ∙ e))
-  searches-by F none (some r) e h = ap F (ap (λ (f : Found). told_found f second) (all_told c b₁ picks e) ∙ second-refused _ second r ((kept _ b₂).refused ∙ h))
-  searches-by F none none e h = ap F (rw (all_told c b₁ picks e, all_told _ b₂ picks h) refl)
+  searches-by F (Some r) p e h = ap F (first-refused first second r ((kept c b₁).refused ∙ e))
+  searches-by F None (Some r) e h = ap F (ap (λ (f : Found). told_found f second) (all_told c b₁ picks e) ∙ second-refused _ second r ((kept _ b₂).refused ∙ h))
+  searches-by F None None e h = ap F (rw (all_told c b₁ picks e, all_told _ b₂ picks h) refl)
 
   told-by : {A : Type 0} (F : Both → A) (s t : Bool) → yes one ≡ s → yes two ≡ t → F (told one two first second) ≡ cond s (cond t (F (told_found first second)) (F (Both.SecondAudit two))) (F (Both.FirstAudit one))
   unfolding told
@@ -92,15 +92,15 @@ module _ (c : SearchCall) (x : Index) (b₁ b₂ : SearchBuffers) (picks : c.ask
   unfolding yes in_turn
   second-audit p fails = said ∙ rw (p, no-yes two fails, in_turn) refl
 
-  pub first-search : PassesCovered c.index c.series → PassesCovered x c.series → (search_refusal c b₁ ≡ none → ⊥) → demand_answer c x b₁ b₂ ≡ Both.FirstSearch first
+  pub first-search : PassesCovered c.index c.series → PassesCovered x c.series → (search_refusal c b₁ ≡ None → ⊥) → demand_answer c x b₁ b₂ ≡ Both.FirstSearch first
   unfolding yes in_turn
   first-search p q fails = let r = is_some _ fails in said ∙ rw (p, q, r.1, in_turn) refl
 
-  pub second-search : PassesCovered c.index c.series → PassesCovered x c.series → search_refusal c b₁ ≡ none → (search_refusal (through x c) b₂ ≡ none → ⊥) → demand_answer c x b₁ b₂ ≡ Both.SecondSearch second
+  pub second-search : PassesCovered c.index c.series → PassesCovered x c.series → search_refusal c b₁ ≡ None → (search_refusal (through x c) b₂ ≡ None → ⊥) → demand_answer c x b₁ b₂ ≡ Both.SecondSearch second
   unfolding yes in_turn
   second-search p q e fails = let r = is_some _ fails in said ∙ rw (p, q, e, r.1, in_turn) refl
 
-  pub both-listed : PassesCovered c.index c.series → PassesCovered x c.series → search_refusal c b₁ ≡ none → search_refusal (through x c) b₂ ≡ none → demand_answer c x b₁ b₂ ≡ listed
+  pub both-listed : PassesCovered c.index c.series → PassesCovered x c.series → search_refusal c b₁ ≡ None → search_refusal (through x c) b₂ ≡ None → demand_answer c x b₁ b₂ ≡ listed
   unfolding yes in_turn
   both-listed p q e f = said ∙ rw (p, q, e, f, in_turn) refl
 

@@ -1,6 +1,6 @@
 -- Rows of the table of cases that are calls over lent buffers: the answer, and every buffer afterwards. Answers and buffers are compared as lists of numbers.
 use Rattle.meaning_numbers.proofs.Table.{same_list}
-use Rattle.meaning_numbers.proofs.Prelude.{Bool, ◌&&◌, List, [], ◌∷◌, ◌++◌, Option, none, some, ℕ, eqb, ℤ, pos, negsuc, nat_abs, drop, replicate}
+use Rattle.meaning_numbers.proofs.Prelude.{Bool, ◌&&◌, List, [], ◌∷◌, ◌++◌, Option, None, Some, ℕ, eqb, ℤ, pos, negsuc, nat_abs, drop, replicate}
 use Rattle.meaning_rows.specs.{declared.Row.Row, declared.Head.Head, Index.Index, Index.lent}
 use Rattle.meaning_filter.specs.{declared.Kind.Kind, declared.Kind.TheVariants.Raw, declared.Kind.TheVariants.Normal, declared.Pick.Pick, declared.Ask.Ask}
 use Rattle.meaning_text.specs.{Bytes.bytes, Form.spell, Texts.series_form}
@@ -56,8 +56,8 @@ pair : ℕ × ℕ → List ℕ
 pair p = p.0 ∷ p.1 ∷ []
 
 place : Option (ℕ × ℕ) → List ℕ
-place none = []
-place (some r) = r.0 ∷ r.1 ∷ []
+place None = []
+place (Some r) = r.0 ∷ r.1 ∷ []
 
 numbers : Both → List ℕ
 unfolding place

@@ -1,5 +1,5 @@
 -- Demand 1 of the meanings: each entry's answer refuses by the first line of its table that applies, and by no other. By cases on that line; of a search, the one line with the number 24 has the place 0.
-use Rattle.meaning_numbers.proofs.Prelude.{◌≡◌, refl, sym, ap, ◌∙◌, subst, Bool, true, false, not, cond, ◌&&◌, List, [], ◌∷◌, Option, none, some, ℕ, zero, suc, arith, T, T_not, eqb, eqb→eq, ltb, two-tests}
+use Rattle.meaning_numbers.proofs.Prelude.{◌≡◌, refl, sym, ap, ◌∙◌, subst, Bool, true, false, not, cond, ◌&&◌, List, [], ◌∷◌, Option, None, Some, ℕ, zero, suc, arith, T, T_not, eqb, eqb→eq, ltb, two-tests}
 use Rattle.meaning_curves.specs.Limits.{most_values}
 use Rattle.meaning_rows.specs.{Index.Index, Audit.first_wrong}
 use Rattle.meaning_text.specs.Texts.{refused_text}
@@ -11,63 +11,63 @@ use Rattle.meaning_entries.proofs.{Refusal.open_lines, Refusal.First, Refusal.he
 
 build-by : (c : BuildCall) (b : IndexBuffers) (o : Option (ℕ × ℕ)) → first_refusal (build_table c b) ≡ o → built_refusal (build_answer c b) ≡ o
 unfolding build_answer
-build-by c b none e = rw (e, build_answer)
-build-by c b (some r) e = rw (e, build_answer)
+build-by c b None e = rw (e, build_answer)
+build-by c b (Some r) e = rw (e, build_answer)
 
 pub build-refuses : (c : BuildCall) (b : IndexBuffers) → BuildRefuses c b (build_answer c b)
 build-refuses c b = record { same = build-by c b _ refl }
 
 extend-by : (c : ExtendCall) (b : IndexBuffers) (o : Option (ℕ × ℕ)) → first_refusal (extend_table c b) ≡ o → extended_refusal (extend_answer c b) ≡ o
 unfolding extend_answer
-extend-by c b none e = rw (e, extend_answer)
-extend-by c b (some r) e = rw (e, extend_answer)
+extend-by c b None e = rw (e, extend_answer)
+extend-by c b (Some r) e = rw (e, extend_answer)
 
 pub extend-refuses : (c : ExtendCall) (b : IndexBuffers) → ExtendRefuses c b (extend_answer c b)
 extend-refuses c b = record { same = extend-by c b _ refl }
 
 write-by : (x : Index) (t : List ℕ) (o : Option (ℕ × ℕ)) → first_refusal (write_table x t) ≡ o → written_refusal (write_answer x t) ≡ o
 unfolding write_answer
-write-by x t none e = rw (e, write_answer)
-write-by x t (some r) e = rw (e, write_answer)
+write-by x t None e = rw (e, write_answer)
+write-by x t (Some r) e = rw (e, write_answer)
 
 pub write-refuses : (x : Index) (t : List ℕ) → WriteRefuses x t (write_answer x t)
 write-refuses x t = record { same = write-by x t _ refl }
 
 load-by : (t : List ℕ) (b : IndexBuffers) (o : Option (ℕ × ℕ)) → first_refusal (load_table t b) ≡ o → loaded_refusal (load_answer t b) ≡ o
 unfolding load_answer
-load-by t b none e = rw (e, load_answer)
-load-by t b (some r) e = rw (e, load_answer)
+load-by t b None e = rw (e, load_answer)
+load-by t b (Some r) e = rw (e, load_answer)
 
 pub load-refuses : (t : List ℕ) (b : IndexBuffers) → LoadRefuses t b (load_answer t b)
 load-refuses t b = record { same = load-by t b _ refl }
 
 -- ---- audits: what is said where nothing refuses is no refusal
 
-complete-said : (n : ℕ) → audited_refusal (complete n) ≡ none
+complete-said : (n : ℕ) → audited_refusal (complete n) ≡ None
 unfolding complete
 complete-said zero = refl
 complete-said (suc n) = refl
 
-audited-by : (c : AuditCall) (o : Option (ℕ × ℕ)) → first_wrong c.index c.series ≡ o → audited_refusal (audited c) ≡ none
+audited-by : (c : AuditCall) (o : Option (ℕ × ℕ)) → first_wrong c.index c.series ≡ o → audited_refusal (audited c) ≡ None
 unfolding audited
-audited-by c none e = rw (e, audited) (complete-said _)
-audited-by c (some x) e = rw (e, audited)
+audited-by c None e = rw (e, audited) (complete-said _)
+audited-by c (Some x) e = rw (e, audited)
 
-audited-said : (c : AuditCall) → audited_refusal (audited c) ≡ none
+audited-said : (c : AuditCall) → audited_refusal (audited c) ≡ None
 audited-said c = audited-by c _ refl
 
 audit-by : (c : AuditCall) (o : Option (ℕ × ℕ)) → first_refusal (audit_table most_values c) ≡ o → audited_refusal (audit_answer c) ≡ o
 unfolding audit_answer
-audit-by c none e = rw (e, audit_answer) (audited-said c)
-audit-by c (some r) e = rw (e, audit_answer)
+audit-by c None e = rw (e, audit_answer) (audited-said c)
+audit-by c (Some r) e = rw (e, audit_answer)
 
 pub audit-refuses : (c : AuditCall) → AuditRefuses c (audit_answer c)
 audit-refuses c = record { same = audit-by c _ refl }
 
 audit-text-by : (x s : List ℕ) (o : Option (ℕ × ℕ)) → first_refusal (audit_text_table x s) ≡ o → audited_refusal (audit_text_answer x s) ≡ o
 unfolding audit_text_answer
-audit-text-by x s none e = rw (e, audit_text_answer) (audited-said _)
-audit-text-by x s (some r) e = rw (e, audit_text_answer)
+audit-text-by x s None e = rw (e, audit_text_answer) (audited-said _)
+audit-text-by x s (Some r) e = rw (e, audit_text_answer)
 
 pub audit-text-refuses : (x s : List ℕ) → AuditTextRefuses x s (audit_text x s)
 audit-text-refuses x s = record { same = ap audited_refusal (audit-text-back x s) ∙ audit-text-by x s _ refl }
@@ -76,7 +76,7 @@ audit-text-refuses x s = record { same = ap audited_refusal (audit-text-back x s
 
 -- where the line has the number 24, its place is 0
 abbrev Zero : Condition → Type 0
-Zero c = (p : ℕ) → c.number ≡ 24 → c.place ≡ some p → p ≡ 0
+Zero c = (p : ℕ) → c.number ≡ 24 → c.place ≡ Some p → p ≡ 0
 
 -- no line before the last has that number
 others : Condition → List Condition → Bool
@@ -101,7 +101,7 @@ list-zero : (room found : ℕ) → Zero (list_short room found)
 unfolding list_short
 list-zero room found p i e = by (ltb room found) e
   where
-    by : (t : Bool) → cond t (some 0) none ≡ some p → p ≡ 0
+    by : (t : Bool) → cond t (Some 0) None ≡ Some p → p ≡ 0
     by true h = cc
     by false h = let z : ◌≡◌ {A = ℕ} 0 1 = cc in absurd (omega arith)
 
@@ -110,22 +110,22 @@ unfolding open_lines search_plan search_table others last
 search-zero c b f = zero-first _ _ tt (list-zero (list_room b) _) f
 
 -- what a refused search answers
-refused-by : (c : SearchCall) (n p : ℕ) (t : Bool) → eqb n 24 ≡ t → (n ≡ 24 → p ≡ 0) → found_refusal (search_refused c (n, p)) ≡ some (n, p)
+refused-by : (c : SearchCall) (n p : ℕ) (t : Bool) → eqb n 24 ≡ t → (n ≡ 24 → p ≡ 0) → found_refusal (search_refused c (n, p)) ≡ Some (n, p)
 unfolding search_refused
 refused-by c n p true e z =
     let i = eqb→eq n 24 (subst T (sym e) tt) in
     rw (e, search_refused) (rw (i, z i) refl)
 refused-by c n p false e z = rw (e, search_refused)
 
-told_free : (p : Pick) (a n : ℕ) → found_refusal (search_told p a n) ≡ none
+told_free : (p : Pick) (a n : ℕ) → found_refusal (search_told p a n) ≡ None
 unfolding search_told
 told_free Pick.All a n = refl
 told_free (Pick.Closest k) a n = refl
 
 search-by : (c : SearchCall) (b : SearchBuffers) (o : Option (ℕ × ℕ)) → first_refusal (search_table c b) ≡ o → found_refusal (search_answer c b) ≡ o
 unfolding search_answer
-search-by c b none e = rw (e, search_answer) (told_free c.ask.pick _ _)
-search-by c b (some r) e =
+search-by c b None e = rw (e, search_answer) (told_free c.ask.pick _ _)
+search-by c b (Some r) e =
     rw (e, search_answer) (refused-by c r.0 r.1 _ refl (search-zero c b (is-first _ r.0 r.1 e)))
 
 pub search-refuses : (c : SearchCall) (b : SearchBuffers) → SearchRefuses c b (search_answer c b)
@@ -133,11 +133,11 @@ search-refuses c b = record { same = search-by c b _ refl }
 
 -- ---- the search program
 
-pub program-by : (t : List ℕ) (n p : ℕ) → first_refusal (program_table t) ≡ some (n, p) → program t ≡ refused_text n p
+pub program-by : (t : List ℕ) (n p : ℕ) → first_refusal (program_table t) ≡ Some (n, p) → program t ≡ refused_text n p
 unfolding program
 program-by t n p e = rw (e, program)
 
-pub program-free : (t : List ℕ) → first_refusal (program_table t) ≡ none → program t ≡ printed (text_program t)
+pub program-free : (t : List ℕ) → first_refusal (program_table t) ≡ None → program t ≡ printed (text_program t)
 unfolding program
 program-free t e = rw (e, program)
 

@@ -1,5 +1,5 @@
 -- Demand 2 for code: an entry that gives the answer that is meant and leaves the buffers that are meant keeps its promise; number, place and counts follow from the answer. By cases on the refusal.
-use Rattle.meaning_numbers.proofs.Prelude.{◌≡◌, refl, ap, ◌∙◌, Bool, true, false, List, Option, none, some, ℕ, zero, suc, eqb}
+use Rattle.meaning_numbers.proofs.Prelude.{◌≡◌, refl, ap, ◌∙◌, Bool, true, false, List, Option, None, Some, ℕ, zero, suc, eqb}
 use Rattle.meaning_rows.specs.{Index.Index, Audit.first_wrong, Audit.missing}
 use Rattle.meaning_filter.specs.declared.Pick.{Pick}
 use Rattle.meaning_entries.specs.Answers.{built_refusal, built_head, built_counts, extended_refusal, extended_head, extended_counts, audited_refusal, wrong_place, missing_count, written_refusal, written_count, loaded_refusal, loaded_head, loaded_counts, found_refusal, found_counts}
@@ -11,8 +11,8 @@ use Rattle.meaning_entries.proofs.Demand1.{build-refuses, extend-refuses, audit-
 
 build-by : (c : BuildCall) (b : IndexBuffers) (o : Option (ℕ × ℕ)) → build_refusal c b ≡ o → (built_head (build_answer c b) ≡ build_head c b) × (built_counts (build_answer c b) ≡ build_counts c b)
 unfolding build_answer build_head build_counts
-build-by c b none h = rw (h, build_answer, build_head, build_counts) (refl, refl)
-build-by c b (some r) h = rw (h, build_answer, build_head, build_counts) (refl, refl)
+build-by c b None h = rw (h, build_answer, build_head, build_counts) (refl, refl)
+build-by c b (Some r) h = rw (h, build_answer, build_head, build_counts) (refl, refl)
 
 pub build-kept : (c : BuildCall) (b : IndexBuffers) (a : Built) (after : IndexBuffers) → a ≡ build_answer c b → after ≡ build_after c b → BuildKept c b a after
 build-kept c b a after h k = record {
@@ -27,8 +27,8 @@ build-kept c b a after h k = record {
 
 extend-by : (c : ExtendCall) (b : IndexBuffers) (o : Option (ℕ × ℕ)) → extend_refusal c b ≡ o → (extended_head (extend_answer c b) ≡ extend_head c b) × (extended_counts (extend_answer c b) ≡ extend_counts c b)
 unfolding extend_answer extend_head extend_counts
-extend-by c b none h = rw (h, extend_answer, extend_head, extend_counts) (refl, refl)
-extend-by c b (some r) h = rw (h, extend_answer, extend_head, extend_counts) (refl, refl)
+extend-by c b None h = rw (h, extend_answer, extend_head, extend_counts) (refl, refl)
+extend-by c b (Some r) h = rw (h, extend_answer, extend_head, extend_counts) (refl, refl)
 
 pub extend-kept : (c : ExtendCall) (b : IndexBuffers) (a : Extended) (after : IndexBuffers) → a ≡ extend_answer c b → after ≡ extend_after c b → ExtendKept c b a after
 extend-kept c b a after h k = record {
@@ -43,8 +43,8 @@ extend-kept c b a after h k = record {
 
 load-by : (t : List ℕ) (b : IndexBuffers) (o : Option (ℕ × ℕ)) → load_refusal t b ≡ o → (loaded_head (load_answer t b) ≡ load_head t b) × (loaded_counts (load_answer t b) ≡ load_counts t b)
 unfolding load_answer load_head load_counts
-load-by t b none h = rw (h, load_answer, load_head, load_counts) (refl, refl)
-load-by t b (some r) h = rw (h, load_answer, load_head, load_counts) (refl, refl)
+load-by t b None h = rw (h, load_answer, load_head, load_counts) (refl, refl)
+load-by t b (Some r) h = rw (h, load_answer, load_head, load_counts) (refl, refl)
 
 pub load_kept : (t : List ℕ) (b : IndexBuffers) (a : Loaded) (after : IndexBuffers) → a ≡ load_answer t b → after ≡ load_after t b → LoadKept t b a after
 load_kept t b a after h k = record {
@@ -57,7 +57,7 @@ load_kept t b a after h k = record {
   right = rw k;
 }
 
-complete-right : (n : ℕ) → wrong_place (complete n) ≡ none
+complete-right : (n : ℕ) → wrong_place (complete n) ≡ None
 unfolding complete
 complete-right zero = refl
 complete-right (suc n) = refl
@@ -69,27 +69,27 @@ complete-counts (suc n) = refl
 
 audited-wrong : (c : AuditCall) (o : Option (ℕ × ℕ)) → first_wrong c.index c.series ≡ o → wrong_place (audited c) ≡ o
 unfolding audited
-audited-wrong c none e = rw (e, audited) (complete-right _)
-audited-wrong c (some x) e = rw (e, audited)
+audited-wrong c None e = rw (e, audited) (complete-right _)
+audited-wrong c (Some x) e = rw (e, audited)
 
-audited-counts : (c : AuditCall) (o : Option (ℕ × ℕ)) → first_wrong c.index c.series ≡ o → missing_count (audited c) ≡ missing_in none c
+audited-counts : (c : AuditCall) (o : Option (ℕ × ℕ)) → first_wrong c.index c.series ≡ o → missing_count (audited c) ≡ missing_in None c
 unfolding audited missing_in
-audited-counts c none e = rw (e, audited, missing_in) (complete-counts _)
-audited-counts c (some x) e = rw (e, audited, missing_in)
+audited-counts c None e = rw (e, audited, missing_in) (complete-counts _)
+audited-counts c (Some x) e = rw (e, audited, missing_in)
 
 -- what an audit says, refused or not
 abbrev says : Option (ℕ × ℕ) → AuditCall → Audited
-says o c = elim o [ some r ↦ Audited.Refused r.0 r.1 | none ↦ audited c ]
+says o c = elim o [ Some r ↦ Audited.Refused r.0 r.1 | None ↦ audited c ]
 
 says-wrong : (o : Option (ℕ × ℕ)) (c : AuditCall) → wrong_place (says o c) ≡ wrong_in o c
 unfolding wrong_in
-says-wrong none c = audited-wrong c _ refl
-says-wrong (some r) c = refl
+says-wrong None c = audited-wrong c _ refl
+says-wrong (Some r) c = refl
 
 says-counts : (o : Option (ℕ × ℕ)) (c : AuditCall) → missing_count (says o c) ≡ missing_in o c
 unfolding missing_in
-says-counts none c = audited-counts c _ refl
-says-counts (some r) c = refl
+says-counts None c = audited-counts c _ refl
+says-counts (Some r) c = refl
 
 pub audit-kept : (c : AuditCall) (a : Audited) → a ≡ audit_answer c → AuditKept c a
 unfolding audit_answer
@@ -106,8 +106,8 @@ audit-text-kept x s a h =
 
 write-by : (x : Index) (t : List ℕ) (o : Option (ℕ × ℕ)) → write_refusal x t ≡ o → written_count (write_answer x t) ≡ write_count x t
 unfolding write_answer write_count
-write-by x t none h = rw (h, write_answer, write_count)
-write-by x t (some r) h = rw (h, write_answer, write_count)
+write-by x t None h = rw (h, write_answer, write_count)
+write-by x t (Some r) h = rw (h, write_answer, write_count)
 
 pub write_kept : (x : Index) (t : List ℕ) (a : Written) (after : List ℕ) → a ≡ write_answer x t → after ≡ write_after x t → WriteKept x t a after
 write_kept x t a after h k = record {
@@ -117,7 +117,7 @@ write_kept x t a after h k = record {
   text = k;
 }
 
-refused-counts : (c : SearchCall) (b : SearchBuffers) (r : ℕ × ℕ) (t : Bool) → search_refusal c b ≡ some r → eqb r.0 24 ≡ t → found_counts (search_refused c r) ≡ search_counts c b
+refused-counts : (c : SearchCall) (b : SearchBuffers) (r : ℕ × ℕ) (t : Bool) → search_refusal c b ≡ Some r → eqb r.0 24 ≡ t → found_counts (search_refused c r) ≡ search_counts c b
 unfolding search_refused search_counts looked
 refused-counts c b r true e h = rw (e, h, search_refused, search_counts)
 refused-counts c b r false e h = rw (e, h, search_refused, search_counts)
@@ -129,8 +129,8 @@ told-counts (Pick.Closest k) candidates matches = refl
 
 search-by : (c : SearchCall) (b : SearchBuffers) (o : Option (ℕ × ℕ)) → search_refusal c b ≡ o → found_counts (search_answer c b) ≡ search_counts c b
 unfolding search_answer search_counts looked
-search-by c b none h = rw (h, search_answer, search_counts) (told-counts c.ask.pick _ _)
-search-by c b (some r) h = rw (h, search_answer) (refused-counts c b r _ h refl)
+search-by c b None h = rw (h, search_answer, search_counts) (told-counts c.ask.pick _ _)
+search-by c b (Some r) h = rw (h, search_answer) (refused-counts c b r _ h refl)
 
 pub search-kept : (c : SearchCall) (b : SearchBuffers) (a : Found) (after : SearchBuffers) → a ≡ search_answer c b → after ≡ search_after c b → SearchKept c b a after
 search-kept c b a after h k = record {

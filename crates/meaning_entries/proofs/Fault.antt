@@ -1,7 +1,7 @@
 -- The fault that 02, item 1 is for, ruled out: a search fell into an extension, went through the old index over the longer series, and passed over the windows that reach into new prices.
 -- An index was made for a series and prices have come since, any number of them: no search is refused for going through it (`accepted`), and one that kept its promise lists exactly all matches of the longer series, which is what a scan of all offsets lists (`grown-scans`).
 -- So through what a build left in the buffers (`build-scans`), through the old index of an extension that is cut off after any number of its new prices (`cut-off-scans`), and through what an extension left (`extend-scans`). Laws of the promises, so of every function that keeps them.
-use Rattle.meaning_numbers.proofs.Prelude.{◌≡◌, refl, sym, ap, subst, ◌∙◌, List, ◌++◌, none, ℕ, ◌+◌, ◌-◌, ◌≤◌, arith, ℤ, pos, nat_abs, ◌-ℤ◌, length, length-take, take, take-append_seam, take-take, zarith, z-add, z-sub}
+use Rattle.meaning_numbers.proofs.Prelude.{◌≡◌, refl, sym, ap, subst, ◌∙◌, List, ◌++◌, None, ℕ, ◌+◌, ◌-◌, ◌≤◌, arith, ℤ, pos, nat_abs, ◌-ℤ◌, length, length-take, take, take-append_seam, take-take, zarith, z-add, z-sub}
 use Rattle.meaning_rows.proofs.Judge.{none-bad}
 use Rattle.meaning_rows.specs.{declared.Row.Row, declared.Head.Head, Index.Index, Index.lent, Index.covered}
 use Rattle.meaning_filter.specs.{declared.Ask.Ask, Matches.Exactly}
@@ -11,7 +11,7 @@ use Rattle.meaning_entries.specs.{declared.Built.Built, declared.Extended.Extend
 use Rattle.meaning_entries.proofs.{Lines.more-passes, Demand3.all_listed, Passes.passed, Standing.index_of, Standing.build-stands, Standing.extend-stands}
 
 -- such a search is refused for its own input and room alone, never for its index; by 21 no search is (`search-never-21`)
-pub accepted : (x : Index) (s : List ℤ) → PassesCovered x s → ((ill_formed x).place ≡ none) × ((more_windows x (length s)).place ≡ none)
+pub accepted : (x : Index) (s : List ℤ) → PassesCovered x s → ((ill_formed x).place ≡ None) × ((more_windows x (length s)).place ≡ None)
 unfolding ill_formed
 accepted x s p =
     let y = passed x (covered x s) p in

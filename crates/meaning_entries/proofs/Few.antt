@@ -1,6 +1,6 @@
 -- What a search for the closest few that kept its promise has listed (02, item 2): the closest few of the matches that it means (`few-listed`), and through an index that passes the beginning of all matches in that order (`few-all`).
 -- Candidates and counts are those of the full search (`as-all`, `few-counts`).
-use Rattle.meaning_numbers.proofs.Prelude.{◌≡◌, refl, sym, ap, ◌∙◌, subst, ℕ, min, length, take_all, none}
+use Rattle.meaning_numbers.proofs.Prelude.{◌≡◌, refl, sym, ap, ◌∙◌, subst, ℕ, min, length, take_all, None}
 use Rattle.meaning_filter.specs.{declared.Pick.Pick, Matches.all_matches, Matches.candidate_at, Matches.candidate_runs, Matches.candidate_count, Matches.match_list, Closest.closest, Closest.IsClosest, Closest.handed}
 use Rattle.meaning_filter.proofs.Closest.{closest-many, closest-matches}
 use Rattle.meaning_entries.specs.Search.{SearchCall, SearchBuffers, handing, question, search_matches, search_handed, search_candidates, search_refusal, search_told, search_answer, looked_after}
@@ -12,7 +12,7 @@ pub as-all : (p : Pick) (c : SearchCall) → (candidate_runs c.index (question (
 unfolding question candidate_at candidate_runs candidate_count match_list
 as-all p c = (refl, refl, refl)
 
-module _ (c : SearchCall) (before after : SearchBuffers) {answer : Found} {k : ℕ} (kept : SearchKept c before answer after) (picks : c.ask.pick ≡ Pick.Closest k) (free : search_refusal c before ≡ none) where
+module _ (c : SearchCall) (before after : SearchBuffers) {answer : Found} {k : ℕ} (kept : SearchKept c before answer after) (picks : c.ask.pick ≡ Pick.Closest k) (free : search_refusal c before ≡ None) where
   -- both counts are true, and of all matches
   pub few-counts : answer ≡ Found.Few (search_candidates c) (length (search_matches c))
   unfolding search_answer search_told

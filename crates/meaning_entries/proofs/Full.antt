@@ -1,5 +1,5 @@
 -- What a search that kept its promise and answered 24 has listed: the first of the matches that it means, as many as the list holds (`full-listed`), and through an index that passes the first of all matches (`full-all`).
-use Rattle.meaning_numbers.proofs.Prelude.{◌≡◌, refl, sym, ap, subst, ◌∙◌, Option, none, some, ℕ, ◌<◌, arith, dec_le, length, take, length-take-le}
+use Rattle.meaning_numbers.proofs.Prelude.{◌≡◌, refl, sym, ap, subst, ◌∙◌, Option, None, Some, ℕ, ◌<◌, arith, dec_le, length, take, length-take-le}
 use Rattle.meaning_filter.specs.{declared.Pick.Pick, Matches.all_matches, Closest.handed}
 use Rattle.meaning_entries.specs.Search.{SearchCall, SearchBuffers, question, list_room, search_matches, search_handed, search_candidates, search_plan, search_told, search_answer, looked_after}
 use Rattle.meaning_entries.specs.{declared.Found.Found, Refusal.first_refusal, Buffers.filled, Audit.PassesCovered, Demand2.SearchKept, Demand3.pairs}
@@ -7,7 +7,7 @@ use Rattle.meaning_entries.proofs.{Looked.plan-refused, Looked.plan-all, Looked.
 
 -- 24: nothing refuses before the search looks, all were asked for, the counts are those meant, and there are more matches than the list holds
 pub record FullAnswered (c : SearchCall) (b : SearchBuffers) (candidates count : ℕ) : Type 0 where
-  pub unrefused : first_refusal (search_plan c b) ≡ none
+  pub unrefused : first_refusal (search_plan c b) ≡ None
   pub whole : c.ask.pick ≡ Pick.All
   pub looked : candidates ≡ search_candidates c
   pub counted : count ≡ length (search_matches c)
@@ -24,9 +24,9 @@ not-told (Pick.Closest k) candidates matches e = let z : ◌≡◌ {A = ℕ} 0 1
 module _ (c : SearchCall) (b : SearchBuffers) {a n : ℕ} (h : Found.Full a n ≡ search_answer c b) where
   answered-by : (o : Option (ℕ × ℕ)) (p : Pick) → first_refusal (search_plan c b) ≡ o → c.ask.pick ≡ p → FullAnswered c b a n
   unfolding handed
-  answered-by (some r) p e q = other-answer (h ∙ (plan-refused c b e).0)
-  answered-by none (Pick.Closest k) e q = not-told c.ask.pick _ _ (h ∙ (plan-all c b e (few-fit c b e q)).0)
-  answered-by none Pick.All e q = elim (dec_le (length (search_handed c)) (list_room b)) [
+  answered-by (Some r) p e q = other-answer (h ∙ (plan-refused c b e).0)
+  answered-by None (Pick.Closest k) e q = not-told c.ask.pick _ _ (h ∙ (plan-all c b e (few-fit c b e q)).0)
+  answered-by None Pick.All e q = elim (dec_le (length (search_handed c)) (list_room b)) [
     | yes l ↦ not-told c.ask.pick _ _ (h ∙ (plan-all c b e l).0)
     | no f ↦
         let s : list_room b < length (search_handed c) = omega arith in

@@ -1,6 +1,6 @@
 -- The table of a search is what is known before it looks (`search_plan`), and whether the list holds all matches, which is known only at its end. Where the first part refuses, that is the answer and no buffer is altered (`plan-refused`);
 -- else the buffers are those of a search that looked, and the answer is by how many are handed out (`plan-all`, `plan-full`); of the closest few the list holds all (`few-fit`), so that 24 is never given (`closest-never-24`). Through an index that passes, what the search finds is all matches (`matches-all`).
-use Rattle.meaning_numbers.proofs.Prelude.{◌≡◌, refl, sym, ◌∙◌, ap, subst, clash, false, List, [], ◌∷◌, Option, none, some, Option·some-ne-none, ℕ, ◌<◌, ◌≤◌, arith, T, eqb, length, lt-ltb, le-ltb}
+use Rattle.meaning_numbers.proofs.Prelude.{◌≡◌, refl, sym, ◌∙◌, ap, subst, clash, false, List, [], ◌∷◌, Option, None, Some, none-some, ℕ, ◌<◌, ◌≤◌, arith, T, eqb, length, lt-ltb, le-ltb}
 use Rattle.meaning_filter.specs.{declared.Pick.Pick, Matches.all_matches, Closest.handed, Closest.fewest}
 use Rattle.meaning_filter.proofs.{Matches.all_found, Closest.closest-many}
 use Rattle.meaning_entries.specs.Search.{SearchCall, SearchBuffers, question, list_room, search_matches, search_handed, search_candidates, search_plan, search_table, search_refusal, looked, search_refused, search_told, search_answer, looked_after, search_after}
@@ -17,11 +17,11 @@ unfolding open_lines search_plan lacks
 not-24 c b = tt
 
 -- the last line, by how many are handed out
-list-holds : (room found : ℕ) → found ≤ room → first_refusal (list_short room found ∷ []) ≡ none
+list-holds : (room found : ℕ) → found ≤ room → first_refusal (list_short room found ∷ []) ≡ None
 unfolding list_short
 list-holds room found h = passed_is (more (rw (le-ltb room found h)) end)
 
-list-short : (room found : ℕ) → room < found → first_refusal (list_short room found ∷ []) ≡ some (24, 0)
+list-short : (room found : ℕ) → room < found → first_refusal (list_short room found ∷ []) ≡ Some (24, 0)
 unfolding list_short
 list-short room found h = first-is (here (rw (lt-ltb room found h)))
 
@@ -32,11 +32,11 @@ few-handed k l = omega (arith, closest-many k l)
 
 module _ (c : SearchCall) (b : SearchBuffers) where
   -- refused before it looks
-  module _ {n p : ℕ} (e : first_refusal (search_plan c b) ≡ some (n, p)) where
+  module _ {n p : ℕ} (e : first_refusal (search_plan c b) ≡ Some (n, p)) where
     f : First (search_plan c b) n p
     f = is-first _ n p e
 
-    pub plan-refusal : search_refusal c b ≡ some (n, p)
+    pub plan-refusal : search_refusal c b ≡ Some (n, p)
     unfolding search_table
     plan-refusal = first-is (first-left _ f)
 
@@ -48,7 +48,7 @@ module _ (c : SearchCall) (b : SearchBuffers) where
     plan-refused = (rw (plan-refusal, search_answer) (rw (plan-other, search_refused)), rw (plan-refusal, search_after) (rw plan-other))
 
   -- not refused before it looks
-  module _ (e : first_refusal (search_plan c b) ≡ none) where
+  module _ (e : first_refusal (search_plan c b) ≡ None) where
     last-decides : search_refusal c b ≡ first_refusal (last_line c b ∷ [])
     unfolding search_table
     last-decides = first-right _ (is-passed _ e)
@@ -73,7 +73,7 @@ module _ (c : SearchCall) (b : SearchBuffers) where
         let few = subst (λ (q : Pick). length (handed q (search_matches c)) ≤ k) (sym p) (few-handed k (search_matches c)) in
         omega (arith, room-few)
 
-    pub few-free : {k : ℕ} → c.ask.pick ≡ Pick.Closest k → search_refusal c b ≡ none
+    pub few-free : {k : ℕ} → c.ask.pick ≡ Pick.Closest k → search_refusal c b ≡ None
     few-free p = last-decides ∙ list-holds _ _ (few-fit p)
 
     pub matches-all : PassesCovered c.index c.series → search_matches c ≡ all_matches (question c)
@@ -83,16 +83,16 @@ module _ (c : SearchCall) (b : SearchBuffers) where
         all_found _ _ (passes-reached _ _ p) (query-line _ _ (passed-line t 6)).0.least (omega (arith, (scale-line _ _ (passed-line t 10)).0.least))
 
   -- a search that is not refused is not refused before it looks
-  pub plan-passed : search_refusal c b ≡ none → first_refusal (search_plan c b) ≡ none
+  pub plan-passed : search_refusal c b ≡ None → first_refusal (search_plan c b) ≡ None
   unfolding search_table
   plan-passed e = passed_is (passed-both (search_plan c b) _ (is-passed _ e)).0
 
   -- 02, item 2: 24 is not given
-  pub closest-never-24 : {k : ℕ} → c.ask.pick ≡ Pick.Closest k → (place : ℕ) → search_refusal c b ≡ some (24, place) → ⊥
+  pub closest-never-24 : {k : ℕ} → c.ask.pick ≡ Pick.Closest k → (place : ℕ) → search_refusal c b ≡ Some (24, place) → ⊥
   closest-never-24 p place r = by _ refl
     where
       by : (o : Option (ℕ × ℕ)) → first_refusal (search_plan c b) ≡ o → ⊥
-      by none e = Option·some-ne-none _ (sym r ∙ few-free e p)
-      by (some x) e =
+      by None e = none-some _ (sym (sym r ∙ few-free e p))
+      by (Some x) e =
           let same : x ≡ (24, place) = cc (sym (plan-refusal e) ∙ r) in
           clash refl (rw same at (plan-other e))

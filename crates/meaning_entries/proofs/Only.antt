@@ -1,5 +1,5 @@
 -- Each promise leaves one outcome: an entry that keeps it gives the answer that is meant and leaves the buffers that are meant. The converse of `Demand2`.
-use Rattle.meaning_numbers.proofs.Prelude.{◌≡◌, refl, sym, ap, ◌∙◌, List, Option, none, some, ℕ, ℤ, pos}
+use Rattle.meaning_numbers.proofs.Prelude.{◌≡◌, refl, sym, ap, ◌∙◌, List, Option, None, Some, ℕ, ℤ, pos}
 use Rattle.meaning_rows.specs.Index.{Index}
 use Rattle.meaning_filter.specs.declared.Ask.{Ask}
 use Rattle.meaning_entries.specs.Demand2.{BuildKept, ExtendKept, AuditKept, WriteKept, LoadKept, SearchKept, AuditTextKept, ProgramKept}
@@ -35,8 +35,8 @@ pub program-refuses-only : {t out : List ℕ} → ProgramRefuses t out → out �
 program-refuses-only {t} {out} k = by _ refl
   where
     by : (o : Option (ℕ × ℕ)) → first_refusal (program_table t) ≡ o → out ≡ program t
-    by none e = k.free e ∙ sym (program-free t e)
-    by (some r) e = k.refused r.0 r.1 e ∙ sym (program-by t r.0 r.1 e)
+    by None e = k.free e ∙ sym (program-free t e)
+    by (Some r) e = k.refused r.0 r.1 e ∙ sym (program-by t r.0 r.1 e)
 
 -- what the code is asked, and back: nothing of it is lost
 pub plain-lent : (a : Ask) → plain_ask (lent_ask a) ≡ a

@@ -1,5 +1,5 @@
 -- The number of the C entry tells the answer again: `unpack` is inverse to `pack` for every answer that the audit of two texts gives (`audit-text-back`), since the numbers of refusals are below 32 and the offsets of a well-formed index below the most windows.
-use Rattle.meaning_numbers.proofs.Prelude.{◌≡◌, refl, sym, ap₂, ◌∙◌, subst, Bool, true, false, ◌&&◌, List, [], ◌∷◌, Option, none, some, ℕ, zero, suc, ◌+◌, ◌*◌, ◌/◌, ◌%◌, ◌<◌, arith, T, eqb, eqb→eq, ltb, ltb→lt, ℤ, two-tests}
+use Rattle.meaning_numbers.proofs.Prelude.{◌≡◌, refl, sym, ap₂, ◌∙◌, subst, Bool, true, false, ◌&&◌, List, [], ◌∷◌, Option, None, Some, ℕ, zero, suc, ◌+◌, ◌*◌, ◌/◌, ◌%◌, ◌<◌, arith, T, eqb, eqb→eq, ltb, ltb→lt, ℤ, two-tests}
 use Rattle.meaning_curves.specs.Limits.{most_values}
 use Rattle.meaning_rows.specs.{Index.zero_row, Index.Index, Judge.first_bad_row, Audit.first_wrong}
 use Rattle.meaning_rows.proofs.{Judge.well-formed, Judge.row_at, Judge.stands-below, Audit.first-wrong}
@@ -52,11 +52,11 @@ unfolding numbers-pass
 first_passes P t (here {c} {l} e) = (two-tests (P _) (numbers-pass P l) t).0
 first_passes P t (later {c} {l} e f) = first_passes P (two-tests (P _) (numbers-pass P l) t).1 f
 
-small-number : (x s : List ℕ) {n p : ℕ} → first_refusal (audit_text_table x s) ≡ some (n, p) → n < 32
+small-number : (x s : List ℕ) {n p : ℕ} → first_refusal (audit_text_table x s) ≡ Some (n, p) → n < 32
 unfolding open_lines numbers-pass audit_text_table audit_table
 small-number x s {n} {p} e = ltb→lt n 32 (first_passes (λ k. ltb k 32) tt (is-first _ n p e))
 
-wrong-offset : (x : Index) (s : List ℤ) (k j : ℕ) → first_bad_row x ≡ none → first_wrong x s ≡ some (k, j) → j < most_values
+wrong-offset : (x : Index) (s : List ℤ) (k j : ℕ) → first_bad_row x ≡ None → first_wrong x s ≡ Some (k, j) → j < most_values
 wrong-offset x s k j h e =
     let g = well-formed x h in
     let w = first-wrong x s g zero_row k j e in
@@ -67,20 +67,20 @@ unfolding complete
 complete-packable zero = tt
 complete-packable (suc n) = tt
 
-audited-packable : (c : AuditCall) (o : Option (ℕ × ℕ)) → first_bad_row c.index ≡ none → first_wrong c.index c.series ≡ o → Packable (audited c)
+audited-packable : (c : AuditCall) (o : Option (ℕ × ℕ)) → first_bad_row c.index ≡ None → first_wrong c.index c.series ≡ o → Packable (audited c)
 unfolding audited
-audited-packable c none h e = rw (e, audited) (complete-packable _)
-audited-packable c (some r) h e = rw (e, audited) (wrong-offset _ _ r.0 r.1 h e)
+audited-packable c None h e = rw (e, audited) (complete-packable _)
+audited-packable c (Some r) h e = rw (e, audited) (wrong-offset _ _ r.0 r.1 h e)
 
-formed : (x s : List ℕ) → first_refusal (audit_text_table x s) ≡ none → first_bad_row (text_index x) ≡ none
+formed : (x s : List ℕ) → first_refusal (audit_text_table x s) ≡ None → first_bad_row (text_index x) ≡ None
 unfolding open_lines audit_text_table audit_table
 formed x s e = passed-line (is-passed _ e) 20
 
 packable-by : (x s : List ℕ) (o : Option (ℕ × ℕ)) → first_refusal (audit_text_table x s) ≡ o → Packable (audit_text_answer x s)
 unfolding audit_text_answer
-packable-by x s none e =
+packable-by x s None e =
     rw (e, audit_text_answer) (audited-packable (text_call x s) _ (formed x s e) refl)
-packable-by x s (some r) e = rw (e, audit_text_answer) (small-number x s e)
+packable-by x s (Some r) e = rw (e, audit_text_answer) (small-number x s e)
 
 pub audit-text-back : (x s : List ℕ) → unpack (audit_text x s) ≡ audit_text_answer x s
 unfolding audit_text

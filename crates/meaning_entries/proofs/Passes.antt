@@ -1,5 +1,5 @@
 -- What it says that an index passes against a series (`passed`): it is well formed, it has n - w + 1 windows, and each stands in the row that holds its sum and in no other; and back (`passes`). So every window of an index that passes against the part of a series that it covers can be reached by the filter (`passes-reached`), and on a yes the run lengths total the windows (`passes-total`).
-use Rattle.meaning_numbers.proofs.Prelude.{◌≡◌, refl, List, Option, none, some, ℕ, zero, suc, ◌+◌, ◌-◌, arith, T, ℤ, pos, nat_abs, ◌-ℤ◌, length, take_all, ◌≤ℤ◌, zarith, z-add, z-sub}
+use Rattle.meaning_numbers.proofs.Prelude.{◌≡◌, refl, List, Option, None, Some, ℕ, zero, suc, ◌+◌, ◌-◌, arith, T, ℤ, pos, nat_abs, ◌-ℤ◌, length, take_all, ◌≤ℤ◌, zarith, z-add, z-sub}
 use Rattle.meaning_curves.specs.Limits.{most_values, length_in, first_outside}
 use Rattle.meaning_rows.specs.{Index.Index, Index.covered, Audit.first_wrong, Audit.missing, Judge.length_total}
 use Rattle.meaning_rows.proofs.{Judge.WellFormed, Judge.none-bad, Audit.Filed, Audit.audit-yes, Audit.filed-passes, Audit.yes-total}
@@ -10,8 +10,8 @@ use Rattle.meaning_entries.proofs.Lines.{formed-line, fewer-line, more-line, ser
 
 -- yes is said where nothing refuses, nothing is filed wrongly and nothing is missing
 record Yes (c : AuditCall) : Type 0 where
-  free : first_refusal (audit_table most_values c) ≡ none
-  right : first_wrong c.index c.series ≡ none
+  free : first_refusal (audit_table most_values c) ≡ None
+  right : first_wrong c.index c.series ≡ None
   full : missing c.index ≡ 0
 
 complete-yes : (n : ℕ) → complete n ≡ Audited.Yes → n ≡ 0
@@ -19,15 +19,15 @@ unfolding complete
 complete-yes zero e = refl
 complete-yes (suc n) e = let z : ◌≡◌ {A = ℕ} 0 1 = cc in absurd (omega arith)
 
-yes-right : (c : AuditCall) → first_refusal (audit_table most_values c) ≡ none → (o : Option (ℕ × ℕ)) → first_wrong c.index c.series ≡ o → audited c ≡ Audited.Yes → Yes c
+yes-right : (c : AuditCall) → first_refusal (audit_table most_values c) ≡ None → (o : Option (ℕ × ℕ)) → first_wrong c.index c.series ≡ o → audited c ≡ Audited.Yes → Yes c
 unfolding audited
-yes-right c free none e h = record { free = free; right = e; full = complete-yes _ (rw (e, audited) at h) }
-yes-right c free (some x) e h = let z : ◌≡◌ {A = ℕ} 0 1 = cc in absurd (omega arith)
+yes-right c free None e h = record { free = free; right = e; full = complete-yes _ (rw (e, audited) at h) }
+yes-right c free (Some x) e h = let z : ◌≡◌ {A = ℕ} 0 1 = cc in absurd (omega arith)
 
 yes-free : (c : AuditCall) (o : Option (ℕ × ℕ)) → first_refusal (audit_table most_values c) ≡ o → audit_answer c ≡ Audited.Yes → Yes c
 unfolding audit_answer
-yes-free c none e h = yes-right c e _ refl (rw (e, audit_answer) at h)
-yes-free c (some r) e h = let z : ◌≡◌ {A = ℕ} 0 1 = cc in absurd (omega arith)
+yes-free c None e h = yes-right c e _ refl (rw (e, audit_answer) at h)
+yes-free c (Some r) e h = let z : ◌≡◌ {A = ℕ} 0 1 = cc in absurd (omega arith)
 
 -- an index that passes
 pub record Passed (x : Index) (s : List ℤ) : Type 0 where
@@ -74,11 +74,11 @@ passes-total x s p = let y = passed x s p in yes-total x s y.formed y.filed
 
 -- ---- and back
 
-yes-said : (c : AuditCall) → first_refusal (audit_table most_values c) ≡ none → first_wrong c.index c.series ≡ none → missing c.index ≡ 0 → audit_answer c ≡ Audited.Yes
+yes-said : (c : AuditCall) → first_refusal (audit_table most_values c) ≡ None → first_wrong c.index c.series ≡ None → missing c.index ≡ 0 → audit_answer c ≡ Audited.Yes
 unfolding audit_answer audited complete
 yes-said c free right full = rw (free, audit_answer) (rw (right, audited) (rw full refl))
 
-pub passes : (x : Index) (s : List ℤ) → T (length_in most_values (length s)) → first_outside s ≡ none → Passed x s → Passes x s
+pub passes : (x : Index) (s : List ℤ) → T (length_in most_values (length s)) → first_outside s ≡ None → Passed x s → Passes x s
 unfolding audit_table ill_formed
 passes x s long values p =
     let c : AuditCall = record { series = s; index = x } in

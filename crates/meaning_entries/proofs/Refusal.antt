@@ -1,31 +1,31 @@
 -- The tables of refusals are total and exclusive: a call is refused by exactly one line, the first that applies, or by none, and then no line applies. A table in two parts is refused by the first part or else by the second (`first-left`, `first-right`). By induction on the table.
-use Rattle.meaning_numbers.proofs.Prelude.{◌≡◌, refl, sym, ◌∙◌, subst₂, Bool, true, false, not, cond, ◌&&◌, List, [], ◌∷◌, ◌++◌, ◌⊎◌, inl, inr, Option, none, some, ℕ, arith, T, eqb, is_false, two-tests}
+use Rattle.meaning_numbers.proofs.Prelude.{◌≡◌, refl, sym, ◌∙◌, subst₂, Bool, true, false, not, cond, ◌&&◌, List, [], ◌∷◌, ◌++◌, ◌⊎◌, inl, inr, Option, None, Some, ℕ, arith, T, eqb, is_false, two-tests}
 use Rattle.meaning_entries.specs.Refusal.{Condition, first_refusal, at_zero, length_outside, value_outside, window_outside, width_outside, merge_outside, query_length_outside, query_below_window, band_outside, threshold_outside, scale_or_shift_outside, count_outside, flat_query, unreadable, ill_formed, fewer_windows, more_windows, buffer_short, list_short}
 
 -- no line applies
 pub data AllPass : List Condition → Type 0 where
   end : AllPass []
-  more : {c : Condition} {l : List Condition} → c.place ≡ none → AllPass l → AllPass (c ∷ l)
+  more : {c : Condition} {l : List Condition} → c.place ≡ None → AllPass l → AllPass (c ∷ l)
 
 -- the first line that applies has the number n and the place p
 pub data First : List Condition → ℕ → ℕ → Type 0 where
-  here : {c : Condition} {l : List Condition} {p : ℕ} → c.place ≡ some p → First (c ∷ l) c.number p
-  later : {c : Condition} {l : List Condition} {n p : ℕ} → c.place ≡ none → First l n p → First (c ∷ l) n p
+  here : {c : Condition} {l : List Condition} {p : ℕ} → c.place ≡ Some p → First (c ∷ l) c.number p
+  later : {c : Condition} {l : List Condition} {n p : ℕ} → c.place ≡ None → First l n p → First (c ∷ l) n p
 
-first-yes : (c : Condition) (l : List Condition) (p : ℕ) → c.place ≡ some p → first_refusal (c ∷ l) ≡ some (c.number, p)
+first-yes : (c : Condition) (l : List Condition) (p : ℕ) → c.place ≡ Some p → first_refusal (c ∷ l) ≡ Some (c.number, p)
 unfolding first_refusal
 first-yes c l p e = rw (e, first_refusal)
 
-first-no : (c : Condition) (l : List Condition) → c.place ≡ none → first_refusal (c ∷ l) ≡ first_refusal l
+first-no : (c : Condition) (l : List Condition) → c.place ≡ None → first_refusal (c ∷ l) ≡ first_refusal l
 unfolding first_refusal
 first-no c l e = rw (e, first_refusal)
 
-pub passed_is : {l : List Condition} → AllPass l → first_refusal l ≡ none
+pub passed_is : {l : List Condition} → AllPass l → first_refusal l ≡ None
 unfolding first_refusal
 passed_is end = refl
 passed_is (more {c} {l} e h) = first-no c l e ∙ passed_is h
 
-pub first-is : {l : List Condition} {n p : ℕ} → First l n p → first_refusal l ≡ some (n, p)
+pub first-is : {l : List Condition} {n p : ℕ} → First l n p → first_refusal l ≡ Some (n, p)
 first-is (here {c} {l} {p} e) = first-yes c l p e
 first-is (later {c} {l} e h) = first-no c l e ∙ first-is h
 
@@ -35,15 +35,15 @@ judged [] = inl end
 judged (c ∷ l) = by _ refl (judged l)
   where
     by : (o : Option ℕ) → c.place ≡ o → AllPass l ⊎ ((n : ℕ) × (p : ℕ) × First l n p) → AllPass (c ∷ l) ⊎ ((n : ℕ) × (p : ℕ) × First (c ∷ l) n p)
-    by (some p) e r = inr (c.number, p, here e)
-    by none e (inl h) = inl (more e h)
-    by none e (inr h) = inr (h.0, h.1, later e h.2)
+    by (Some p) e r = inr (c.number, p, here e)
+    by None e (inl h) = inl (more e h)
+    by None e (inr h) = inr (h.0, h.1, later e h.2)
 
 -- and what `first_refusal` says is which
-none-some : {A B : Type 0} {a : A} → none ≡ some a → B
+none-some : {A B : Type 0} {a : A} → None ≡ Some a → B
 none-some e = let z : ◌≡◌ {A = ℕ} 0 1 = cc in absurd (omega arith)
 
-pub is-passed : (l : List Condition) → first_refusal l ≡ none → AllPass l
+pub is-passed : (l : List Condition) → first_refusal l ≡ None → AllPass l
 is-passed l e = by (judged l)
   where
     by : AllPass l ⊎ ((n : ℕ) × (p : ℕ) × First l n p) → AllPass l
@@ -51,10 +51,10 @@ is-passed l e = by (judged l)
     by (inr h) = none-some (sym e ∙ first-is h.2)
 
 -- two refusals that are the same have the same number and the same place
-same-refusal : {r t : ℕ × ℕ} → some r ≡ some t → (r.0 ≡ t.0) × (r.1 ≡ t.1)
+same-refusal : {r t : ℕ × ℕ} → Some r ≡ Some t → (r.0 ≡ t.0) × (r.1 ≡ t.1)
 same-refusal {r} {t} e = let q : r ≡ t = cc in (rw q, rw q)
 
-pub is-first : (l : List Condition) (n p : ℕ) → first_refusal l ≡ some (n, p) → First l n p
+pub is-first : (l : List Condition) (n p : ℕ) → first_refusal l ≡ Some (n, p) → First l n p
 is-first l n p e = by (judged l)
   where
     by : AllPass l ⊎ ((m : ℕ) × (k : ℕ) × First l m k) → First l n p
@@ -80,7 +80,7 @@ first-right b (more {c} {l} e h) = first-no c _ e ∙ first-right b h
 
 -- the first line that has the number n
 unfoldable pub numbered : ℕ → List Condition → Condition
-numbered n [] = record { number = n; place = none }
+numbered n [] = record { number = n; place = None }
 numbered n (c ∷ l) = cond (eqb c.number n) c (numbered n l)
 
 -- the lines behind it
@@ -122,11 +122,11 @@ unfoldable pub open_lines : Unit {0}
 unfolding numbered behind length_outside value_outside window_outside width_outside merge_outside query_length_outside query_below_window band_outside threshold_outside scale_or_shift_outside count_outside flat_query unreadable ill_formed fewer_windows more_windows buffer_short list_short
 open_lines = tt
 
-one_of : (t : Bool) (c d : Condition) → c.place ≡ none → d.place ≡ none → (cond t c d).place ≡ none
+one_of : (t : Bool) (c d : Condition) → c.place ≡ None → d.place ≡ None → (cond t c d).place ≡ None
 one_of true c d e f = e
 one_of false c d e f = f
 
-pub passed-line : {l : List Condition} → AllPass l → (n : ℕ) → (numbered n l).place ≡ none
+pub passed-line : {l : List Condition} → AllPass l → (n : ℕ) → (numbered n l).place ≡ None
 unfolding numbered
 passed-line end n = refl
 passed-line (more {c} {l} e h) n = one_of (eqb _ n) c (numbered n l) e (passed-line h n)
@@ -142,6 +142,6 @@ passed-behind end n = end
 passed-behind (more {c} {l} e h) n = either (eqb _ n) l _ h (passed-behind h n)
 
 -- a condition whose place is 0 and that does not apply: its test fails
-pub not-if : (n : ℕ) (t : Bool) → (at_zero n t).place ≡ none → T (not t)
+pub not-if : (n : ℕ) (t : Bool) → (at_zero n t).place ≡ None → T (not t)
 not-if n true e = none-some (sym e)
 not-if n false e = tt

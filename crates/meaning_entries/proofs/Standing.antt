@@ -1,6 +1,6 @@
 -- What stands in the buffers after a build that answered an index passes against the series (`build-stands`); so does what an extension leaves there, if the old index passes against the part of the series that it covers (`extend-stands`).
 -- Each has at most as many rows and runs as windows. Both are laws of the promises, so of every function that keeps them.
-use Rattle.meaning_numbers.proofs.Prelude.{◌≡◌, refl, sym, ap, ◌∙◌, List, [], ◌∷◌, ◌++◌, map, none, some, ℕ, ◌≤◌, arith, ℤ, pos, nat_abs, length, take, length-map, take-append_seam}
+use Rattle.meaning_numbers.proofs.Prelude.{◌≡◌, refl, sym, ap, ◌∙◌, List, [], ◌∷◌, ◌++◌, map, None, Some, ℕ, ◌≤◌, arith, ℤ, pos, nat_abs, length, take, length-map, take-append_seam}
 use Rattle.meaning_curves.specs.Curve.{window_count}
 use Rattle.meaning_rows.specs.Index.{zero_row, Index, Entry, entries, lent, laid_out, all_runs}
 use Rattle.meaning_rows.specs.{declared.Row.Row, declared.Head.Head, Runs.runs, Build.SetRow, Build.merged, Build.entry, Build.with_runs, Build.built_rows, Build.built, Extend.insert_rows, Extend.extended_rows, Extend.extended}
@@ -50,10 +50,10 @@ read_back w d n rows b =
     }
 
 -- whatever index the answer tells of stands in the buffers that it was put into
-stood : (x : Index) (s : List ℤ) (windows : ℕ) (before after : IndexBuffers) (h : Head) (n k : ℕ) → some h ≡ some (head_of x) → ◌≡◌ {A = ℕ × ℕ} (n, k) (length x.rows, length x.runs) → after ≡ index_in x before
+stood : (x : Index) (s : List ℤ) (windows : ℕ) (before after : IndexBuffers) (h : Head) (n k : ℕ) → Some h ≡ Some (head_of x) → ◌≡◌ {A = ℕ × ℕ} (n, k) (length x.rows, length x.runs) → after ≡ index_in x before
     → index_of (head_of x) (length x.rows) (length x.runs) (index_in x before) ≡ x → Passes x s → (length x.rows ≤ windows) × (length x.runs ≤ windows) → Stands (index_of h n k after) s windows n k
 stood x s windows before after h n k p c b whole passes most =
-    let q : h ≡ head_of x = ap (λ o. elim o [ some y ↦ y | none ↦ h ]) p in
+    let q : h ≡ head_of x = ap (λ o. elim o [ Some y ↦ y | None ↦ h ]) p in
     record {
       passes = rw ((λ i. index_of (q i) (c i).0 (c i).1 (b i)) ∙ whole) passes;
       few-rows = omega (arith, ap (λ z. z.0) c, most.0);

@@ -1,5 +1,5 @@
 -- 01: texts are read first (12), then the lowest number that applies wins; 02, item 2: but 30 directly after 10. A table's first line that applies is the first by `order`, since the lines of each table follow it. No table but the audits' has a line 21. By computation.
-use Rattle.meaning_numbers.proofs.Prelude.{◌≡◌, refl, clash, List, some, ℕ, T}
+use Rattle.meaning_numbers.proofs.Prelude.{◌≡◌, refl, clash, List, Some, ℕ, T}
 use Rattle.meaning_rows.specs.Index.{Index}
 use Rattle.meaning_entries.specs.{Refusal.order, Refusal.follows, Buffers.IndexBuffers, Build.BuildCall, Build.build_table, Extend.ExtendCall, Extend.extend_table, Audit.AuditCall, Audit.audit_table, Write.write_table, Load.load_table, Search.SearchCall, Search.SearchBuffers, Search.search_plan, Search.search_table, Search.search_refusal, AuditText.audit_text_table, Program.call_lines, Program.program_table}
 use Rattle.meaning_entries.proofs.Refusal.{open_lines, is-first, lacks, first-lacks}
@@ -46,7 +46,7 @@ search-lacks-21 : (c : SearchCall) (b : SearchBuffers) → T (lacks 21 (search_t
 unfolding open_tables lacks
 search-lacks-21 c b = tt
 
-pub search-never-21 : (c : SearchCall) (b : SearchBuffers) (place : ℕ) → search_refusal c b ≡ some (21, place) → ⊥
+pub search-never-21 : (c : SearchCall) (b : SearchBuffers) (place : ℕ) → search_refusal c b ≡ Some (21, place) → ⊥
 search-never-21 c b place e = clash refl (first-lacks 21 (search-lacks-21 c b) (is-first (search_table c b) 21 place e))
 
 others-lack-21 : (build : BuildCall) (extend : ExtendCall) (b : IndexBuffers) (x : Index) (text : List ℕ)

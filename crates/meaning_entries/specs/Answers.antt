@@ -1,6 +1,7 @@
 -- Document 01's number, place, counts and values for each case of each answer. A refusal gives counts 0, except 24.
 use Rattle.std.specs.Prelude.{ℕ, nat_abs}
-use Rattle.std.proofs.Math.Option.{Option, none, some}
+use Rattle.std.specs.declared.option.Option.{Option}
+use Rattle.std.specs.Prelude.{None, Some}
 use Rattle.meaning_rows.specs.{declared.Head.Head, Index.Index}
 use Rattle.meaning_entries.specs.{declared.Built.Built, declared.Extended.Extended, declared.Audited.Audited, declared.Written.Written, declared.Loaded.Loaded, declared.Found.Found, declared.Both.Both}
 
@@ -11,37 +12,37 @@ head_of x = record { window = nat_abs x.window; width = nat_abs x.width; windows
 -- ---- number and place, where the call is refused
 
 abbrev pub built_refusal : Built → Option (ℕ × ℕ)
-built_refusal (Built.Index h rows runs) = none
-built_refusal (Built.Refused n p) = some (n, p)
+built_refusal (Built.Index h rows runs) = None
+built_refusal (Built.Refused n p) = Some (n, p)
 
 abbrev pub extended_refusal : Extended → Option (ℕ × ℕ)
-extended_refusal (Extended.Index h rows runs) = none
-extended_refusal (Extended.Refused n p) = some (n, p)
+extended_refusal (Extended.Index h rows runs) = None
+extended_refusal (Extended.Refused n p) = Some (n, p)
 
 abbrev pub audited_refusal : Audited → Option (ℕ × ℕ)
-audited_refusal Audited.Yes = none
-audited_refusal (Audited.Wrong row offset) = none
-audited_refusal (Audited.Missing count) = none
-audited_refusal (Audited.Refused n p) = some (n, p)
+audited_refusal Audited.Yes = None
+audited_refusal (Audited.Wrong row offset) = None
+audited_refusal (Audited.Missing count) = None
+audited_refusal (Audited.Refused n p) = Some (n, p)
 
 abbrev pub written_refusal : Written → Option (ℕ × ℕ)
-written_refusal (Written.Text bytes) = none
-written_refusal (Written.Refused n p) = some (n, p)
+written_refusal (Written.Text bytes) = None
+written_refusal (Written.Refused n p) = Some (n, p)
 
 abbrev pub loaded_refusal : Loaded → Option (ℕ × ℕ)
-loaded_refusal (Loaded.Index h rows runs) = none
-loaded_refusal (Loaded.Refused n p) = some (n, p)
+loaded_refusal (Loaded.Index h rows runs) = None
+loaded_refusal (Loaded.Refused n p) = Some (n, p)
 
 -- a full list is refusal 24
 abbrev pub found_refusal : Found → Option (ℕ × ℕ)
-found_refusal (Found.All candidates matches) = none
-found_refusal (Found.Full candidates matches) = some (24, 0)
-found_refusal (Found.Few candidates matches) = none
-found_refusal (Found.Refused n p) = some (n, p)
+found_refusal (Found.All candidates matches) = None
+found_refusal (Found.Full candidates matches) = Some (24, 0)
+found_refusal (Found.Few candidates matches) = None
+found_refusal (Found.Refused n p) = Some (n, p)
 
 -- of the audit or search that stood in the way
 abbrev pub both_refusal : Both → Option (ℕ × ℕ)
-both_refusal (Both.Listed first second) = none
+both_refusal (Both.Listed first second) = None
 both_refusal (Both.FirstAudit a) = audited_refusal a
 both_refusal (Both.SecondAudit a) = audited_refusal a
 both_refusal (Both.FirstSearch f) = found_refusal f
@@ -51,31 +52,31 @@ both_refusal (Both.SecondSearch f) = found_refusal f
 
 -- the head of the index that stands in the buffers
 abbrev pub built_head : Built → Option Head
-built_head (Built.Index h rows runs) = some h
-built_head (Built.Refused n p) = none
+built_head (Built.Index h rows runs) = Some h
+built_head (Built.Refused n p) = None
 
 abbrev pub extended_head : Extended → Option Head
-extended_head (Extended.Index h rows runs) = some h
-extended_head (Extended.Refused n p) = none
+extended_head (Extended.Index h rows runs) = Some h
+extended_head (Extended.Refused n p) = None
 
 abbrev pub loaded_head : Loaded → Option Head
-loaded_head (Loaded.Index h rows runs) = some h
-loaded_head (Loaded.Refused n p) = none
+loaded_head (Loaded.Index h rows runs) = Some h
+loaded_head (Loaded.Refused n p) = None
 
 -- the first row and offset filed wrongly
 abbrev pub wrong_place : Audited → Option (ℕ × ℕ)
-wrong_place Audited.Yes = none
-wrong_place (Audited.Wrong row offset) = some (row, offset)
-wrong_place (Audited.Missing count) = none
-wrong_place (Audited.Refused n p) = none
+wrong_place Audited.Yes = None
+wrong_place (Audited.Wrong row offset) = Some (row, offset)
+wrong_place (Audited.Missing count) = None
+wrong_place (Audited.Refused n p) = None
 
 -- of the audit that stood in the way
 abbrev pub both_wrong : Both → Option (ℕ × ℕ)
-both_wrong (Both.Listed first second) = none
+both_wrong (Both.Listed first second) = None
 both_wrong (Both.FirstAudit a) = wrong_place a
 both_wrong (Both.SecondAudit a) = wrong_place a
-both_wrong (Both.FirstSearch f) = none
-both_wrong (Both.SecondSearch f) = none
+both_wrong (Both.FirstSearch f) = None
+both_wrong (Both.SecondSearch f) = None
 
 -- ---- counts
 

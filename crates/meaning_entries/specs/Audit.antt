@@ -1,6 +1,7 @@
 -- The entry audit, and what it is for an index to pass against a series.
 use Rattle.std.specs.Prelude.{ℕ, zero, suc, ℤ, length, List, ◌∷◌, ◌++◌, ◌≡◌}
-use Rattle.std.proofs.Math.Option.{Option, none, some}
+use Rattle.std.specs.declared.option.Option.{Option}
+use Rattle.std.specs.Prelude.{None, Some}
 use Rattle.meaning_curves.specs.Limits.{most_values}
 use Rattle.meaning_rows.specs.{declared.Row.Row, declared.Head.Head, Index.Index, Index.lent, Index.covered, Audit.first_wrong, Audit.missing}
 use Rattle.meaning_entries.specs.{declared.Audited.Audited, Refusal.Condition, Refusal.first_refusal, Refusal.ill_formed, Refusal.series_lines, Refusal.count_lines}
@@ -32,20 +33,20 @@ complete (suc n) = Audited.Missing (suc n)
 
 -- what an audit that is not refused says
 unfoldable pub audited : AuditCall → Audited
-audited c = elim (first_wrong c.index c.series) [ some x ↦ Audited.Wrong x.0 x.1 | none ↦ complete (missing c.index) ]
+audited c = elim (first_wrong c.index c.series) [ Some x ↦ Audited.Wrong x.0 x.1 | None ↦ complete (missing c.index) ]
 
 unfoldable pub audit_answer : AuditCall → Audited
-audit_answer c = elim (first_refusal (audit_table most_values c)) [ some r ↦ Audited.Refused r.0 r.1 | none ↦ audited c ]
+audit_answer c = elim (first_refusal (audit_table most_values c)) [ Some r ↦ Audited.Refused r.0 r.1 | None ↦ audited c ]
 
 -- the first row and offset filed wrongly, of an audit that nothing refuses
 unfoldable pub wrong_in : Option (ℕ × ℕ) → AuditCall → Option (ℕ × ℕ)
-wrong_in (some r) c = none
-wrong_in none c = first_wrong c.index c.series
+wrong_in (Some r) c = None
+wrong_in None c = first_wrong c.index c.series
 
 -- how many windows stand nowhere, of an audit that nothing refuses and that finds none filed wrongly; else 0
 unfoldable pub missing_in : Option (ℕ × ℕ) → AuditCall → ℕ
-missing_in (some r) c = 0
-missing_in none c = elim (first_wrong c.index c.series) [ some x ↦ 0 | none ↦ missing c.index ]
+missing_in (Some r) c = 0
+missing_in None c = elim (first_wrong c.index c.series) [ Some x ↦ 0 | None ↦ missing c.index ]
 
 -- the same of the entry `audit`, by its own table; the audit of two texts has another
 abbrev pub audit_wrong : AuditCall → Option (ℕ × ℕ)

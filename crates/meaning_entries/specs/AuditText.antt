@@ -1,6 +1,6 @@
 -- The audit of two texts, as the payout program calls it: index text and series line as bytes, a number as the answer.
 use Rattle.std.specs.Prelude.{ℕ, zero, suc, ◌+◌, ◌*◌, ◌/◌, ◌%◌, eqb, ℤ, true, false, List, [], ◌∷◌}
-use Rattle.std.proofs.Math.Option.{none, some}
+use Rattle.std.specs.Prelude.{None, Some}
 use Rattle.meaning_curves.specs.Limits.{most_values, most_program_values}
 use Rattle.meaning_text.specs.{Bytes.newlines, Read.fine, Read.unfit, Read.read_text, Texts.index_form, Texts.series_form}
 use Rattle.meaning_entries.specs.{declared.Audited.Audited, Refusal.Condition, Refusal.first_refusal, Refusal.unreadable, Audit.AuditCall, Audit.audit_table, Audit.audited, Load.text_index}
@@ -21,7 +21,7 @@ audit_text_table index series =
     ∷ audit_table most_program_values (text_call index series)
 
 unfoldable pub audit_text_answer : List ℕ → List ℕ → Audited
-audit_text_answer index series = elim (first_refusal (audit_text_table index series)) [ some r ↦ Audited.Refused r.0 r.1 | none ↦ audited (text_call index series) ]
+audit_text_answer index series = elim (first_refusal (audit_text_table index series)) [ Some r ↦ Audited.Refused r.0 r.1 | None ↦ audited (text_call index series) ]
 
 -- ---- the number that the entry returns
 

@@ -2,7 +2,8 @@
 -- What is answered, in the order in which it is looked at: both audits, then both searches. An audit that does not say yes, or a search that is refused, by 24 too, stands in the way, and the first that does is told.
 -- Demand 3 is about searches that give the whole list: `c` hands out all matches (02, item 2), so neither answers `Found.Few`.
 use Rattle.std.specs.Prelude.{ℕ, length, Bool, true, false, cond, ◌≡◌}
-use Rattle.std.proofs.Math.Option.{Option, none, some}
+use Rattle.std.specs.declared.option.Option.{Option}
+use Rattle.std.specs.Prelude.{None, Some}
 use Rattle.meaning_curves.specs.Limits.{most_values}
 use Rattle.meaning_rows.specs.Index.{Index, covered}
 use Rattle.meaning_entries.specs.{declared.Audited.Audited, declared.Found.Found, declared.Both.Both, Refusal.first_refusal, Audit.AuditCall, Audit.audit_table, Audit.audit_answer, Audit.audit_wrong, Audit.audit_missing, Audit.PassesCovered, Search.SearchCall, Search.SearchBuffers, Search.search_matches, Search.search_refusal, Search.search_answer, Search.search_counts, Demand3.through, Demand3.list_in, Demand3.SameMatches, Answers.both_refusal, Answers.both_wrong, Answers.both_missing, Answers.both_counts, Answers.both_found, Demand2.SearchKept}
@@ -43,17 +44,17 @@ demand_answer c x b₁ b₂ = told (audit_answer (audit_of c)) (audit_answer (au
 unfoldable pub in_turn : {A : Type 0} → SearchCall → Index → SearchBuffers → SearchBuffers → A → A → A → A → A → A
 in_turn c x b₁ b₂ one two first second lists =
     cond (yes (audit_answer (audit_of c)))
-    (cond (yes (audit_answer (audit_of (through x c)))) (elim (search_refusal c b₁) [ some r ↦ first | none ↦ elim (search_refusal (through x c) b₂) [ some r ↦ second | none ↦ lists ] ]) two)
+    (cond (yes (audit_answer (audit_of (through x c)))) (elim (search_refusal c b₁) [ Some r ↦ first | None ↦ elim (search_refusal (through x c) b₂) [ Some r ↦ second | None ↦ lists ] ]) two)
     one
 
 -- number and place
 abbrev pub demand_refusal : SearchCall → Index → SearchBuffers → SearchBuffers → Option (ℕ × ℕ)
 demand_refusal c x b₁ b₂ =
-    in_turn c x b₁ b₂ (first_refusal (audit_table most_values (audit_of c))) (first_refusal (audit_table most_values (audit_of (through x c)))) (search_refusal c b₁) (search_refusal (through x c) b₂) none
+    in_turn c x b₁ b₂ (first_refusal (audit_table most_values (audit_of c))) (first_refusal (audit_table most_values (audit_of (through x c)))) (search_refusal c b₁) (search_refusal (through x c) b₂) None
 
 -- the first row and offset filed wrongly
 abbrev pub demand_wrong : SearchCall → Index → SearchBuffers → SearchBuffers → Option (ℕ × ℕ)
-demand_wrong c x b₁ b₂ = in_turn c x b₁ b₂ (audit_wrong (audit_of c)) (audit_wrong (audit_of (through x c))) none none none
+demand_wrong c x b₁ b₂ = in_turn c x b₁ b₂ (audit_wrong (audit_of c)) (audit_wrong (audit_of (through x c))) None None None
 
 -- how many windows stand nowhere
 abbrev pub demand_missing : SearchCall → Index → SearchBuffers → SearchBuffers → ℕ
@@ -79,12 +80,12 @@ pub record BothListed (c : SearchCall) (answer : Both) (after₁ after₂ : Sear
 -- `c` is the first search, `through x c` the same search through the other index
 pub record Demand3Kept (c : SearchCall) (x : Index) (before₁ before₂ : SearchBuffers) (answer : Both) (after₁ after₂ : SearchBuffers) : Type 0 where
   -- where both audits say yes and neither search is refused
-  pub listed : PassesCovered c.index c.series → PassesCovered x c.series → search_refusal c before₁ ≡ none → search_refusal (through x c) before₂ ≡ none → BothListed c answer after₁ after₂
+  pub listed : PassesCovered c.index c.series → PassesCovered x c.series → search_refusal c before₁ ≡ None → search_refusal (through x c) before₂ ≡ None → BothListed c answer after₁ after₂
   -- where not, the first that fails is told, with all that it answered: the audits, then the searches
   pub first-audit : (PassesCovered c.index c.series → ⊥) → answer ≡ Both.FirstAudit (audit_answer (audit_of c))
   pub second-audit : PassesCovered c.index c.series → (PassesCovered x c.series → ⊥) → answer ≡ Both.SecondAudit (audit_answer (audit_of (through x c)))
-  pub first-search : PassesCovered c.index c.series → PassesCovered x c.series → (search_refusal c before₁ ≡ none → ⊥) → answer ≡ Both.FirstSearch (search_answer c before₁)
-  pub second-search : PassesCovered c.index c.series → PassesCovered x c.series → search_refusal c before₁ ≡ none → (search_refusal (through x c) before₂ ≡ none → ⊥) → answer ≡ Both.SecondSearch (search_answer (through x c) before₂)
+  pub first-search : PassesCovered c.index c.series → PassesCovered x c.series → (search_refusal c before₁ ≡ None → ⊥) → answer ≡ Both.FirstSearch (search_answer c before₁)
+  pub second-search : PassesCovered c.index c.series → PassesCovered x c.series → search_refusal c before₁ ≡ None → (search_refusal (through x c) before₂ ≡ None → ⊥) → answer ≡ Both.SecondSearch (search_answer (through x c) before₂)
   -- this paper's number and place, wrong row and offset, windows that stand nowhere, matches of both lists, and true counts of 24
   pub refused : both_refusal answer ≡ demand_refusal c x before₁ before₂
   pub wrong : both_wrong answer ≡ demand_wrong c x before₁ before₂

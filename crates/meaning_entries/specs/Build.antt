@@ -1,6 +1,7 @@
 -- The entry build.
 use Rattle.std.specs.Prelude.{ℕ, ℤ, pos, nat_abs, length, List, [], ◌∷◌, ◌++◌}
-use Rattle.std.proofs.Math.Option.{Option, none, some}
+use Rattle.std.specs.declared.option.Option.{Option}
+use Rattle.std.specs.Prelude.{None, Some}
 use Rattle.meaning_curves.specs.{Limits.most_values, Curve.window_count}
 use Rattle.meaning_rows.specs.{declared.Head.Head, Index.Index, Build.built}
 use Rattle.meaning_entries.specs.Refusal.{Condition, first_refusal, window_outside, width_outside, merge_outside, series_lines, room_lines}
@@ -44,18 +45,18 @@ build_index c = built c.series (nat_abs c.window) (nat_abs c.width) (nat_abs c.m
 
 unfoldable pub build_answer : BuildCall → IndexBuffers → Built
 build_answer c b = elim (build_refusal c b) [
-  | some r ↦ Built.Refused r.0 r.1
-  | none ↦ Built.Index (head_of (build_index c)) (length (build_index c).rows) (length (build_index c).runs)
+  | Some r ↦ Built.Refused r.0 r.1
+  | None ↦ Built.Index (head_of (build_index c)) (length (build_index c).rows) (length (build_index c).runs)
 ]
 
 -- the head of the index that stands in the buffers; a refusal gives none
 unfoldable pub build_head : BuildCall → IndexBuffers → Option Head
-build_head c b = elim (build_refusal c b) [ some r ↦ none | none ↦ some (head_of (build_index c)) ]
+build_head c b = elim (build_refusal c b) [ Some r ↦ None | None ↦ Some (head_of (build_index c)) ]
 
 -- how many rows and runs stand in the buffers; a refusal gives counts 0
 unfoldable pub build_counts : BuildCall → IndexBuffers → ℕ × ℕ
-build_counts c b = elim (build_refusal c b) [ some r ↦ (0, 0) | none ↦ (length (build_index c).rows, length (build_index c).runs) ]
+build_counts c b = elim (build_refusal c b) [ Some r ↦ (0, 0) | None ↦ (length (build_index c).rows, length (build_index c).runs) ]
 
 -- the buffers afterwards
 unfoldable pub build_after : BuildCall → IndexBuffers → IndexBuffers
-build_after c b = elim (build_refusal c b) [ some r ↦ b | none ↦ index_in (build_index c) b ]
+build_after c b = elim (build_refusal c b) [ Some r ↦ b | None ↦ index_in (build_index c) b ]

@@ -1,6 +1,7 @@
 -- Demand 1: an entry refuses by the conditions of its table and by no others, for every input. (That it takes every input and ends is what a proved function without `requires` does.)
 use Rattle.std.specs.Prelude.{ℕ, List, ◌≡◌}
-use Rattle.std.proofs.Math.Option.{Option, none, some}
+use Rattle.std.specs.declared.option.Option.{Option}
+use Rattle.std.specs.Prelude.{None, Some}
 use Rattle.meaning_curves.specs.Limits.{most_values}
 use Rattle.meaning_rows.specs.Index.{Index}
 use Rattle.meaning_text.specs.Texts.{refused_text}
@@ -34,5 +35,5 @@ AuditTextRefuses index series answer = Refuses (audit_text_table index series) (
 
 -- the search program prints its refusal; where nothing refuses, the index and the list (law: `program-refuses-only`)
 pub record ProgramRefuses (input output : List ℕ) : Type 0 where
-  pub refused : (n p : ℕ) → first_refusal (program_table input) ≡ some (n, p) → output ≡ refused_text n p
-  pub free : first_refusal (program_table input) ≡ none → output ≡ printed (text_program input)
+  pub refused : (n p : ℕ) → first_refusal (program_table input) ≡ Some (n, p) → output ≡ refused_text n p
+  pub free : first_refusal (program_table input) ≡ None → output ≡ printed (text_program input)

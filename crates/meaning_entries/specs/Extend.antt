@@ -1,6 +1,7 @@
 -- The entry extend: the old index is lent, the result goes to fresh buffers.
 use Rattle.std.specs.Prelude.{ℕ, ℤ, nat_abs, length, List, ◌∷◌, ◌++◌}
-use Rattle.std.proofs.Math.Option.{Option, none, some}
+use Rattle.std.specs.declared.option.Option.{Option}
+use Rattle.std.specs.Prelude.{None, Some}
 use Rattle.meaning_curves.specs.{Limits.most_values, Curve.window_count}
 use Rattle.meaning_rows.specs.{declared.Row.Row, declared.Head.Head, Index.Index, Index.lent, Extend.extended}
 use Rattle.meaning_entries.specs.{declared.Extended.Extended, Buffers.IndexBuffers, Buffers.run_room, Buffers.index_in, Answers.head_of, Refusal.Condition, Refusal.first_refusal, Refusal.ill_formed, Refusal.more_windows, Refusal.series_lines, Refusal.room_lines}
@@ -38,18 +39,18 @@ extend_index c = extended c.index c.series
 
 unfoldable pub extend_answer : ExtendCall → IndexBuffers → Extended
 extend_answer c b = elim (extend_refusal c b) [
-  | some r ↦ Extended.Refused r.0 r.1
-  | none ↦ Extended.Index (head_of (extend_index c)) (length (extend_index c).rows) (length (extend_index c).runs)
+  | Some r ↦ Extended.Refused r.0 r.1
+  | None ↦ Extended.Index (head_of (extend_index c)) (length (extend_index c).rows) (length (extend_index c).runs)
 ]
 
 -- the head of the index that stands in the buffers; a refusal gives none
 unfoldable pub extend_head : ExtendCall → IndexBuffers → Option Head
-extend_head c b = elim (extend_refusal c b) [ some r ↦ none | none ↦ some (head_of (extend_index c)) ]
+extend_head c b = elim (extend_refusal c b) [ Some r ↦ None | None ↦ Some (head_of (extend_index c)) ]
 
 -- how many rows and runs stand in the buffers; a refusal gives counts 0
 unfoldable pub extend_counts : ExtendCall → IndexBuffers → ℕ × ℕ
-extend_counts c b = elim (extend_refusal c b) [ some r ↦ (0, 0) | none ↦ (length (extend_index c).rows, length (extend_index c).runs) ]
+extend_counts c b = elim (extend_refusal c b) [ Some r ↦ (0, 0) | None ↦ (length (extend_index c).rows, length (extend_index c).runs) ]
 
 -- the buffers afterwards
 unfoldable pub extend_after : ExtendCall → IndexBuffers → IndexBuffers
-extend_after c b = elim (extend_refusal c b) [ some r ↦ b | none ↦ index_in (extend_index c) b ]
+extend_after c b = elim (extend_refusal c b) [ Some r ↦ b | None ↦ index_in (extend_index c) b ]

@@ -1,6 +1,7 @@
 -- The entry read: an index text becomes an index in lent buffers.
 use Rattle.std.specs.Prelude.{ℕ, pos, length, List, [], ◌∷◌}
-use Rattle.std.proofs.Math.Option.{Option, none, some}
+use Rattle.std.specs.declared.option.Option.{Option}
+use Rattle.std.specs.Prelude.{None, Some}
 use Rattle.meaning_rows.specs.{declared.Head.Head, Index.Index}
 use Rattle.meaning_text.specs.{Read.fine, Read.unfit, Read.read_text, Texts.index_form, Texts.index_said}
 use Rattle.meaning_entries.specs.{declared.Loaded.Loaded, Refusal.Condition, Refusal.first_refusal, Refusal.unreadable, Refusal.ill_formed, Refusal.room_lines, Buffers.IndexBuffers, Buffers.run_room, Buffers.index_in, Answers.head_of}
@@ -27,18 +28,18 @@ load_refusal t b = first_refusal (load_table t b)
 
 unfoldable pub load_answer : List ℕ → IndexBuffers → Loaded
 load_answer t b = elim (load_refusal t b) [
-  | some r ↦ Loaded.Refused r.0 r.1
-  | none ↦ Loaded.Index (head_of (text_index t)) (length (text_index t).rows) (length (text_index t).runs)
+  | Some r ↦ Loaded.Refused r.0 r.1
+  | None ↦ Loaded.Index (head_of (text_index t)) (length (text_index t).rows) (length (text_index t).runs)
 ]
 
 -- the head of the index that stands in the buffers; a refusal gives none
 unfoldable pub load_head : List ℕ → IndexBuffers → Option Head
-load_head t b = elim (load_refusal t b) [ some r ↦ none | none ↦ some (head_of (text_index t)) ]
+load_head t b = elim (load_refusal t b) [ Some r ↦ None | None ↦ Some (head_of (text_index t)) ]
 
 -- how many rows and runs stand in the buffers; a refusal gives counts 0
 unfoldable pub load_counts : List ℕ → IndexBuffers → ℕ × ℕ
-load_counts t b = elim (load_refusal t b) [ some r ↦ (0, 0) | none ↦ (length (text_index t).rows, length (text_index t).runs) ]
+load_counts t b = elim (load_refusal t b) [ Some r ↦ (0, 0) | None ↦ (length (text_index t).rows, length (text_index t).runs) ]
 
 -- the buffers afterwards
 unfoldable pub load_after : List ℕ → IndexBuffers → IndexBuffers
-load_after t b = elim (load_refusal t b) [ some r ↦ b | none ↦ index_in (text_index t) b ]
+load_after t b = elim (load_refusal t b) [ Some r ↦ b | None ↦ index_in (text_index t) b ]

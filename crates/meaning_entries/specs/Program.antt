@@ -1,6 +1,6 @@
 -- The search program, from the bytes it reads to the bytes it prints. Build and search are judged together as one call, before anything is printed.
 use Rattle.std.specs.Prelude.{ℕ, ℤ, pos, length, List, [], ◌∷◌, ◌++◌}
-use Rattle.std.proofs.Math.Option.{none, some}
+use Rattle.std.specs.Prelude.{None, Some}
 use Rattle.meaning_curves.specs.Limits.{most_program_values}
 use Rattle.meaning_rows.specs.Index.{Index}
 use Rattle.meaning_filter.specs.{declared.Kind.TheVariants.Raw, declared.Pick.Pick}
@@ -71,4 +71,4 @@ printed c =
 
 -- a refusal prints only `(refused N P)`
 unfoldable pub program : List ℕ → List ℕ
-program t = elim (first_refusal (program_table t)) [ some r ↦ refused_text r.0 r.1 | none ↦ printed (text_program t) ]
+program t = elim (first_refusal (program_table t)) [ Some r ↦ refused_text r.0 r.1 | None ↦ printed (text_program t) ]

@@ -2,7 +2,8 @@
 -- An entry's table is a list of them in the order of their numbers (`order`), and the call is refused by the first that applies.
 use Rattle.std.specs.Prelude.{ℕ, ◌+◌, eqb, ltb, ℤ, pos, ◌+ℤ◌, ◌-ℤ◌, length, Bool, true, false, not, cond, ◌||◌, List, [], ◌∷◌}
 use Rattle.std.specs.Int.Signed.{lt_z}
-use Rattle.std.proofs.Math.Option.{Option, none, some}
+use Rattle.std.specs.declared.option.Option.{Option}
+use Rattle.std.specs.Prelude.{None, Some}
 use Rattle.meaning_curves.specs.Limits.{length_in, window_in, width_in, merge_in, query_length_in, band_in, threshold_in, scale_in, shift_in, closest_in, first_outside}
 use Rattle.meaning_curves.specs.{Curve.at, Normal.flat}
 use Rattle.meaning_rows.specs.{Index.Index, Judge.first_bad_row}
@@ -16,8 +17,8 @@ pub record Condition : Type 0 where
 
 -- the first line that applies: its number and place
 unfoldable pub first_refusal : List Condition → Option (ℕ × ℕ)
-first_refusal [] = none
-first_refusal (c ∷ l) = elim c.place [ some p ↦ some (c.number, p) | none ↦ first_refusal l ]
+first_refusal [] = None
+first_refusal (c ∷ l) = elim c.place [ Some p ↦ Some (c.number, p) | None ↦ first_refusal l ]
 
 -- the order in which the numbers are judged: texts are read first, then the lowest number wins; but 30 comes directly after 10 (02, item 2)
 unfoldable pub order : List ℕ
@@ -35,7 +36,7 @@ at_place n p = record { number = n; place = p }
 
 -- a condition whose place is 0
 abbrev pub at_zero : ℕ → Bool → Condition
-at_zero n t = record { number = n; place = cond t (some 0) none }
+at_zero n t = record { number = n; place = cond t (Some 0) None }
 
 -- 1: n outside its limit
 unfoldable pub length_outside : ℕ → ℕ → Condition
@@ -97,7 +98,7 @@ flat_query kind q = at_zero 11 (normal_flat kind q)
 
 -- the first bad line of a text that is not in the form, after `before` lines
 unfoldable pub bad_line : Form → ℕ → List ℕ → Option ℕ
-bad_line f before t = elim (read_text f t) [ fine v ↦ none | unfit p ↦ some (before + line_of t p) ]
+bad_line f before t = elim (read_text f t) [ fine v ↦ None | unfit p ↦ Some (before + line_of t p) ]
 
 -- 12: a text that cannot be read; first bad line
 unfoldable pub unreadable : Form → ℕ → List ℕ → Condition

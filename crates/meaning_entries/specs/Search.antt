@@ -1,6 +1,7 @@
 -- The entry search: one series, one index, one query of either kind, straight or warped; it hands out all matches, or the closest few (02, item 2).
 use Rattle.std.specs.Prelude.{ℕ, eqb, ℤ, pos, nat_abs, length, take, Bool, true, false, List, [], ◌∷◌, ◌++◌, map}
-use Rattle.std.proofs.Math.Option.{Option, none, some}
+use Rattle.std.specs.declared.option.Option.{Option}
+use Rattle.std.specs.Prelude.{None, Some}
 use Rattle.meaning_curves.specs.{Limits.most_values, Curve.window_count}
 use Rattle.meaning_rows.specs.{declared.Row.Row, declared.Head.Head, Index.Index, Index.lent}
 use Rattle.meaning_filter.specs.{declared.Kind.Kind, declared.Pick.Pick, declared.Ask.Ask, Matches.Question, Matches.candidate_runs, Matches.candidate_count, Matches.match_list, Closest.handed, Closest.fewest}
@@ -127,8 +128,8 @@ search_refusal c b = first_refusal (search_table c b)
 
 -- a search that looked: not refused, or refused by 24 alone
 unfoldable pub looked : Option (ℕ × ℕ) → Bool
-looked none = true
-looked (some r) = eqb r.0 24
+looked None = true
+looked (Some r) = eqb r.0 24
 
 -- how many candidates there are
 abbrev pub search_candidates : SearchCall → ℕ
@@ -144,7 +145,7 @@ search_told Pick.All candidates matches = Found.All candidates matches
 search_told (Pick.Closest k) candidates matches = Found.Few candidates matches
 
 unfoldable pub search_answer : SearchCall → SearchBuffers → Found
-search_answer c b = elim (search_refusal c b) [ some r ↦ search_refused c r | none ↦ search_told c.ask.pick (search_candidates c) (length (search_matches c)) ]
+search_answer c b = elim (search_refusal c b) [ Some r ↦ search_refused c r | None ↦ search_told c.ask.pick (search_candidates c) (length (search_matches c)) ]
 
 -- how many candidates and matches; a refusal gives counts 0, but 24 both true counts
 unfoldable pub search_counts : SearchCall → SearchBuffers → ℕ × ℕ

@@ -1,6 +1,7 @@
 -- The entry write: a lent index becomes an index text.
 use Rattle.std.specs.Prelude.{ℕ, length, List, [], ◌∷◌}
-use Rattle.std.proofs.Math.Option.{Option, none, some}
+use Rattle.std.specs.declared.option.Option.{Option}
+use Rattle.std.specs.Prelude.{None, Some}
 use Rattle.meaning_rows.specs.Index.{Index}
 use Rattle.meaning_text.specs.Texts.{index_text}
 use Rattle.meaning_entries.specs.{declared.Written.Written, Refusal.Condition, Refusal.first_refusal, Refusal.ill_formed, Refusal.buffer_short, Buffers.filled}
@@ -13,12 +14,12 @@ abbrev pub write_refusal : Index → List ℕ → Option (ℕ × ℕ)
 write_refusal x text = first_refusal (write_table x text)
 
 unfoldable pub write_answer : Index → List ℕ → Written
-write_answer x text = elim (write_refusal x text) [ some r ↦ Written.Refused r.0 r.1 | none ↦ Written.Text (length (index_text x)) ]
+write_answer x text = elim (write_refusal x text) [ Some r ↦ Written.Refused r.0 r.1 | None ↦ Written.Text (length (index_text x)) ]
 
 -- how many bytes were written; a refusal gives count 0
 unfoldable pub write_count : Index → List ℕ → ℕ
-write_count x text = elim (write_refusal x text) [ some r ↦ 0 | none ↦ length (index_text x) ]
+write_count x text = elim (write_refusal x text) [ Some r ↦ 0 | None ↦ length (index_text x) ]
 
 -- the text buffer afterwards
 unfoldable pub write_after : Index → List ℕ → List ℕ
-write_after x text = elim (write_refusal x text) [ some r ↦ text | none ↦ filled 0 (index_text x) text ]
+write_after x text = elim (write_refusal x text) [ Some r ↦ text | None ↦ filled 0 (index_text x) text ]

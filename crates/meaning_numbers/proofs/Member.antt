@@ -1,7 +1,7 @@
 -- Members of lists. Where some entry passes there is one in the list that does (`any_found`), and back (`any-mem`); every entry is so (`All`); the members of a mapped list and of the numbers from k on.
 use Rattle.meaning_numbers.specs.Place.{place_from, any, numbers_from}
 use Rattle.meaning_numbers.proofs.Tests.{by-test, clash}
-use Rattle.meaning_numbers.proofs.Prelude.{ℕ, zero, suc, ◌+◌, ◌<◌, ◌≤◌, T, length, get_or, Bool, true, false, ◌&&◌, ◌||◌, false≢true, List, [], ◌∷◌, map, List-as-Memᴰ as Mem, List·Memᴰ·head as here, List·Memᴰ·tail as there, List·Memᴰ·not-nil as not-nil, List·Memᴰ·cases-cons as cases, ⊎_elim, none, ◌≡◌, refl, sym, ap, subst, dec_le, arith}
+use Rattle.meaning_numbers.proofs.Prelude.{ℕ, zero, suc, ◌+◌, ◌<◌, ◌≤◌, T, length, get_or, Bool, true, false, ◌&&◌, ◌||◌, false≢true, List, [], ◌∷◌, map, List-as-Memᴰ as Mem, List·Memᴰ·head as here, List·Memᴰ·tail as there, List·Memᴰ·not-nil as not-nil, List·Memᴰ·cases-cons as cases, ⊎_elim, None, ◌≡◌, refl, sym, ap, subst, dec_le, arith}
 
 -- every entry passes the test
 unfoldable pub every : {A : Type 0} → (A → Bool) → List A → Bool
@@ -44,7 +44,7 @@ module _ {A : Type 0} where
   mem-at o (x ∷ l) (suc k) h = there (mem-at o l k (omega arith))
 
   -- where no entry passes, none is placed
-  pub place_none : (k : ℕ) (p : A → Bool) (l : List A) → place_from k p l ≡ none → (x : A) → Mem x l → p x ≡ false
+  pub place_none : (k : ℕ) (p : A → Bool) (l : List A) → place_from k p l ≡ None → (x : A) → Mem x l → p x ≡ false
   unfolding place_from
   place_none k p [] e x m = absurd (not-nil m)
   place_none k p (y ∷ l) e x m = by-test (p y) (λ t. let z : ◌≡◌ {A = ℕ} 0 1 = cc (sym (rw t at e)) in absurd (omega arith))

@@ -1,8 +1,9 @@
 -- Names of the toolchain's libraries, passed on so that a file brings them in by one line. Nothing is defined here.
 pub use mathlib.Core.Path.{◌∙◌, ◌≡◌, ap, ap₂, fun_ext, refl, subst, subst₂, sym}
 pub use mathlib.Core.Bool.{Bool, ◌&&◌, ◌||◌, and_assoc, and-false, and-true, cond, false, false≢true, not, or_assoc, or-false, or-true, true}
-pub use mathlib.Core.Option.{Option, some-ne-none as Option·some-ne-none, bind-eq-some_iff, none, some}
-unfoldable pub use mathlib.Core.Option.{bind}
+pub use Rattle.std.specs.declared.option.Option.{Option}
+pub use Rattle.std.specs.Prelude.{None, Some}
+pub use Rattle.std.proofs.lemmas.Option.{none-some}
 pub use mathlib.Core.List.Memᴰ.{append_cases as List·Memᴰ·append-cases}
 pub use mathlib.Core.List.Memᴰ.{append_left as Memᴰ·append-left}
 pub use mathlib.Core.List.Memᴰ.{append_right as Memᴰ·append-right}

@@ -1,11 +1,12 @@
 -- Lists and the places in them, counted from 0.
 use Rattle.std.specs.Prelude.{ℕ, zero, suc, Bool, false, cond, ◌||◌, List, [], ◌∷◌}
-use Rattle.std.proofs.Math.Option.{Option, none, some}
+use Rattle.std.specs.declared.option.Option.{Option}
+use Rattle.std.specs.Prelude.{None, Some}
 
 -- the place of the first entry that passes the test, counted on from k
 unfoldable pub place_from : {A : Type 0} → ℕ → (A → Bool) → List A → Option ℕ
-place_from k p [] = none
-place_from k p (x ∷ l) = cond (p x) (some k) (place_from (suc k) p l)
+place_from k p [] = None
+place_from k p (x ∷ l) = cond (p x) (Some k) (place_from (suc k) p l)
 
 -- the place of the first entry that passes the test
 abbrev pub first_place : {A : Type 0} → (A → Bool) → List A → Option ℕ

@@ -3,7 +3,7 @@
 use Rattle.meaning_numbers.specs.{Sum.bit, Place.any, Place.numbers_from}
 use Rattle.meaning_numbers.proofs.Count.{count-never, never-count, count-not}
 use Rattle.meaning_numbers.proofs.Member.{any-mem, any_found, any_none, any-map, numbers-mem, mem-numbers, All, all-mem, mem-all, mem-at}
-use Rattle.meaning_numbers.proofs.Prelude.{◌≡◌, refl, sym, ap, ◌∙◌, ◌⊎◌, inl, inr, ⊎_elim, Bool, true, false, ◌&&◌, or-true, List, [], ◌∷◌, ◌++◌, map, List-as-Memᴰ as Mem, List·Memᴰ·head as here, List·Memᴰ·tail as there, List·Memᴰ·not-nil as not-nil, List·Memᴰ·cases-cons as cases, List·Memᴰ·append-cases as append_cases, Memᴰ·append-left as in_left, Memᴰ·append-right as in_right, Option, none, some, ℕ, zero, suc, ◌+◌, ◌-◌, ◌<◌, ◌≤◌, arith, dec_le, leb, ℤ, nat_abs, length, get_or, ◌≤ℤ◌, leb-true, le-leb, not-false, zarith, by-test, both, clash}
+use Rattle.meaning_numbers.proofs.Prelude.{◌≡◌, refl, sym, ap, ◌∙◌, ◌⊎◌, inl, inr, ⊎_elim, Bool, true, false, ◌&&◌, or-true, List, [], ◌∷◌, ◌++◌, map, List-as-Memᴰ as Mem, List·Memᴰ·head as here, List·Memᴰ·tail as there, List·Memᴰ·not-nil as not-nil, List·Memᴰ·cases-cons as cases, List·Memᴰ·append-cases as append_cases, Memᴰ·append-left as in_left, Memᴰ·append-right as in_right, Option, None, Some, ℕ, zero, suc, ◌+◌, ◌-◌, ◌<◌, ◌≤◌, arith, dec_le, leb, ℤ, nat_abs, length, get_or, ◌≤ℤ◌, leb-true, le-leb, not-false, zarith, by-test, both, clash}
 use Rattle.meaning_curves.specs.Limits.{lowest_end}
 use Rattle.meaning_rows.specs.{declared.Row.Row, Range.inside, Index.zero_row, Index.Index, Index.runs_of, Index.stands, Build.entry, Judge.length_total, Audit.offsets, Audit.wrong_in, Audit.wrong_from, Audit.sums, Audit.first_wrong, Audit.missing}
 use Rattle.meaning_rows.proofs.{Range.is-inside, Runs.Apart, Runs.held, Runs.entries-hold, Times.Ascending, Times.times, Times.sizes, Times.sizes-count, Times.none-times, Judge.GoodRow, Judge.WellFormed, Judge.range_of, Judge.lengths-are, Judge.stands-below, Judge.each_row, Judge.ranges-ascend}
@@ -84,7 +84,7 @@ module _ (sum : ℕ → ℤ) (k : ℕ) (r : Row) (after : Option (ℕ × ℕ)) w
   passed (j ∷ l) h = rw (h j (here refl)) (passed l (λ i m. h i (there m)))
 
   wrong-or : (a : ℕ) (js : List ℕ) → Rising a js
-      → ((j : ℕ) × WrongAt sum r js j × (wrong_in sum k r js after ≡ some (k, j))) ⊎ ((j : ℕ) → Mem j js → inside r.low r.up (sum j) ≡ true)
+      → ((j : ℕ) × WrongAt sum r js j × (wrong_in sum k r js after ≡ Some (k, j))) ⊎ ((j : ℕ) → Mem j js → inside r.low r.up (sum j) ≡ true)
   unfolding wrong_in Rising
   wrong-or a [] p = inr (λ j m. absurd (not-nil m))
   wrong-or a (j ∷ l) p = by-test _
@@ -109,7 +109,7 @@ first-before x sum o r l k h f zero b = h
 first-before x sum o r l k h f (suc i) b = f i (omega arith)
 
 module _ (x : Index) (sum : ℕ → ℤ) where
-  pub right-none : (k : ℕ) (l : List Row) → All (GoodRow x) l → All (RightRow x sum) l → wrong_from x sum k l ≡ none
+  pub right-none : (k : ℕ) (l : List Row) → All (GoodRow x) l → All (RightRow x sum) l → wrong_from x sum k l ≡ None
   unfolding wrong_from All
   right-none k [] g h = refl
   right-none k (r ∷ l) g h =
@@ -117,7 +117,7 @@ module _ (x : Index) (sum : ℕ → ℤ) where
 
   -- either every filing is right, or there is a first wrong one, and the audit says it
   right-or-wrong : (o : Row) (k : ℕ) (l : List Row) → All (GoodRow x) l
-      → All (RightRow x sum) l ⊎ ((i j : ℕ) × FirstWrong x sum o l i j × (wrong_from x sum k l ≡ some (k + i, j)))
+      → All (RightRow x sum) l ⊎ ((i j : ℕ) × FirstWrong x sum o l i j × (wrong_from x sum k l ≡ Some (k + i, j)))
   unfolding wrong_from All
   right-or-wrong o k [] g = inl tt
   right-or-wrong o k (r ∷ l) g = ⊎_elim
@@ -163,22 +163,22 @@ one-wrong x sum o l k j i c f w =
     let e : i ≡ k = omega arith in
     (e, omega (arith, a.1 e, b.1 (sym e)))
 
-some-none : {p : ℕ × ℕ} → some p ≡ none → ⊥
+some-none : {p : ℕ × ℕ} → Some p ≡ None → ⊥
 some-none e = let z : ◌≡◌ {A = ℕ} 0 1 = cc in omega arith
 
-same-pair : {p q : ℕ × ℕ} → some p ≡ some q → p ≡ q
+same-pair : {p q : ℕ × ℕ} → Some p ≡ Some q → p ≡ q
 same-pair e = cc
 
 module _ (x : Index) (s : List ℤ) (g : WellFormed x) where
-  pub all_right : first_wrong x s ≡ none → All (RightRow x (sums x s)) x.rows
+  pub all_right : first_wrong x s ≡ None → All (RightRow x (sums x s)) x.rows
   unfolding first_wrong
   all_right e = ⊎_elim (λ a. a) (λ w. absurd (some-none (sym w.3 ∙ e))) (right-or-wrong x _ zero_row 0 _ (each_row x g))
 
-  pub none-wrong : All (RightRow x (sums x s)) x.rows → first_wrong x s ≡ none
+  pub none-wrong : All (RightRow x (sums x s)) x.rows → first_wrong x s ≡ None
   unfolding first_wrong
   none-wrong a = right-none x _ 0 _ (each_row x g) a
 
-  pub first-wrong : (o : Row) (k j : ℕ) → first_wrong x s ≡ some (k, j) → FirstWrong x (sums x s) o x.rows k j
+  pub first-wrong : (o : Row) (k j : ℕ) → first_wrong x s ≡ Some (k, j) → FirstWrong x (sums x s) o x.rows k j
   unfolding first_wrong
   first-wrong o k j e = ⊎_elim
       (λ a. absurd (some-none (sym e ∙ none-wrong a)))
@@ -188,7 +188,7 @@ module _ (x : Index) (s : List ℤ) (g : WellFormed x) where
       (right-or-wrong x _ o 0 _ (each_row x g))
 
   -- there is one first wrong filing
-  pub wrong_first : (o : Row) (k j : ℕ) → FirstWrong x (sums x s) o x.rows k j → first_wrong x s ≡ some (k, j)
+  pub wrong_first : (o : Row) (k j : ℕ) → FirstWrong x (sums x s) o x.rows k j → first_wrong x s ≡ Some (k, j)
   unfolding first_wrong
   wrong_first o k j f = ⊎_elim
       (λ a. clash (all-mem (RightRow x _) _ a (mem-at o _ k f.is-row) j f.stands-there) f.outside)
@@ -244,7 +244,7 @@ module _ (x : Index) (s : List ℤ) (g : WellFormed x) where
         no_other = λ r m t. one-holder lowest_end _ r _ _ (ranges-ascend x g) m at.is (right r m t) h;
       }
 
-  pub audit-yes : first_wrong x s ≡ none → missing x ≡ 0 → Filed x s
+  pub audit-yes : first_wrong x s ≡ None → missing x ≡ 0 → Filed x s
   unfolding missing
   audit-yes e z = record {
     home = λ j b. home_of j
@@ -252,7 +252,7 @@ module _ (x : Index) (s : List ℤ) (g : WellFormed x) where
         (not-false _ (never-count _ _ z j b));
   }
 
-  pub filed-passes : Filed x s → (first_wrong x s ≡ none) × (missing x ≡ 0)
+  pub filed-passes : Filed x s → (first_wrong x s ≡ None) × (missing x ≡ 0)
   unfolding missing
   filed-passes f = (
     none-wrong x s g (mem-all _ _ (λ r m j t.
@@ -286,7 +286,7 @@ unfolding All length_total sizes
 lengths-sizes x [] g = refl
 lengths-sizes x (r ∷ l) g = rw (lengths-are x r g.0, lengths-sizes x l g.1)
 
-pub missing-are : (x : Index) (s : List ℤ) → WellFormed x → first_wrong x s ≡ none → missing x + length_total x x.rows ≡ nat_abs x.windows
+pub missing-are : (x : Index) (s : List ℤ) → WellFormed x → first_wrong x s ≡ None → missing x + length_total x x.rows ≡ nat_abs x.windows
 unfolding missing
 missing-are x s g e =
     let n = nat_abs x.windows in

@@ -1,7 +1,7 @@
 -- The index that is built of a series passes against it: it is well formed, no offset is filed wrongly and no window is missing (`built-passes`), with at most as many rows and runs as windows.
 -- Its rows ascend and hold each window once, by the laws of the build, and its ends are in their limits, since the window sums are.
 use Rattle.meaning_numbers.proofs.Member.{All, all-mem, mem-all}
-use Rattle.meaning_numbers.proofs.Prelude.{◌≡◌, refl, sym, ◌∙◌, true, List, none, ℕ, ◌<◌, ◌≤◌, arith, ℤ, pos, length, ◌≤ℤ◌}
+use Rattle.meaning_numbers.proofs.Prelude.{◌≡◌, refl, sym, ◌∙◌, true, List, None, ℕ, ◌<◌, ◌≤◌, arith, ℤ, pos, length, ◌≤ℤ◌}
 use Rattle.meaning_curves.specs.Limits.{window_in, width_in, most_values, first_outside, lowest_end}
 use Rattle.meaning_curves.specs.Curve.{window_sum, window_count}
 use Rattle.meaning_rows.specs.{Judge.first_bad_row, Audit.first_wrong, Audit.missing, Build.SetRow, Build.built_rows, Build.built}
@@ -14,7 +14,7 @@ pub record Buildable (s : List ℤ) (w d : ℕ) : Type 0 where
   pub width : width_in (pos d) ≡ true
   pub long : w ≤ length s
   pub short : length s ≤ most_values
-  pub values : first_outside s ≡ none
+  pub values : first_outside s ≡ None
 
 module _ (s : List ℤ) (w d g : ℕ) (b : Buildable s w d) where
   abbrev sum : ℕ → ℤ
@@ -60,7 +60,7 @@ module _ (s : List ℤ) (w d g : ℕ) (b : Buildable s w d) where
         (once-any j rows (built-once sum d count one g j l));
   }
 
-  pub built-passes : (first_bad_row (built s w d g) ≡ none) × (first_wrong (built s w d g) s ≡ none) × (missing (built s w d g) ≡ 0)
+  pub built-passes : (first_bad_row (built s w d g) ≡ None) × (first_wrong (built s w d g) s ≡ None) × (missing (built s w d g) ≡ 0)
   built-passes = let p = filed-passes (built s w d g) s built-well-formed built-filed in (none-bad (built s w d g) built-well-formed, p.0, p.1)
 
   -- at most as many rows and runs as windows

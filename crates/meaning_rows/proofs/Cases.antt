@@ -1,6 +1,6 @@
 -- Small cases of the definitions, in one table that one proof covers.
 use Rattle.meaning_numbers.proofs.Table.{holds, sameℤ, same_list}
-use Rattle.meaning_numbers.proofs.Prelude.{Bool, true, false, ◌&&◌, List, [], ◌∷◌, ◌++◌, Option, none, some, ℕ, T, eqb, ℤ, pos, negsuc, length}
+use Rattle.meaning_numbers.proofs.Prelude.{Bool, true, false, ◌&&◌, List, [], ◌∷◌, ◌++◌, Option, None, Some, ℕ, T, eqb, ℤ, pos, negsuc, length}
 use Rattle.meaning_rows.specs.{Range.row_number, Range.low_of, Range.up_of, Index.Index, Index.Entry, Index.covered, Index.RangeRow, Index.laid_out, Index.range_rows, Judge.first_bad_row, Audit.first_wrong, Audit.missing, Build.built, Extend.extended}
 use Rattle.meaning_rows.proofs.Open.{open_rows}
 
@@ -24,13 +24,13 @@ index : List RangeRow → Index
 index l = laid_out (pos 2) (pos 2) (pos 4) l
 
 bad_at : Index → Option ℕ → Bool
-bad_at x o = elim (first_bad_row x) [ none ↦ elim o [ none ↦ true | some k ↦ false ] | some p ↦ elim o [ none ↦ false | some k ↦ eqb p k ] ]
+bad_at x o = elim (first_bad_row x) [ None ↦ elim o [ None ↦ true | Some k ↦ false ] | Some p ↦ elim o [ None ↦ false | Some k ↦ eqb p k ] ]
 
 wrong_at : Index → List ℤ → ℕ → ℕ → Bool
-wrong_at x s k j = elim (first_wrong x s) [ none ↦ false | some f ↦ eqb f.0 k && eqb f.1 j ]
+wrong_at x s k j = elim (first_wrong x s) [ None ↦ false | Some f ↦ eqb f.0 k && eqb f.1 j ]
 
 missing_of : Index → List ℤ → ℕ → Bool
-missing_of x s n = elim (first_wrong x s) [ none ↦ eqb (missing x) n | some f ↦ false ]
+missing_of x s n = elim (first_wrong x s) [ None ↦ eqb (missing x) n | Some f ↦ false ]
 
 worked : List ℤ
 worked = pos 1 ∷ pos 2 ∷ pos 4 ∷ pos 3 ∷ pos 1 ∷ []
@@ -53,21 +53,21 @@ cases =
     ∷ is_index (built (pos 0 ∷ pos 5 ∷ pos 0 ∷ pos 5 ∷ []) 1 1 80) (pos 0 ∷ pos 6 ∷ pos 1 ∷ pos 0 ∷ pos 3 ∷ [])
     ∷ is_index (built (pos 7 ∷ pos 7 ∷ []) 2 1000000 100) (pos 0 ∷ pos 1000000 ∷ pos 1 ∷ pos 0 ∷ pos 0 ∷ [])
     -- judging: fine; no rows; overlap; empty range; no multiple; no run; runs that touch; a run past the windows; more than the windows in all
-    ∷ bad_at (index two) none
-    ∷ bad_at (index []) none
-    ∷ bad_at (index (row (pos 2) (pos 6) ((pos 0, pos 0) ∷ []) ∷ row (pos 4) (pos 8) ((pos 1, pos 3) ∷ []) ∷ [])) (some 1)
-    ∷ bad_at (index (row (pos 2) (pos 2) ((pos 0, pos 0) ∷ []) ∷ [])) (some 0)
-    ∷ bad_at (index (row (pos 2) (pos 5) ((pos 0, pos 0) ∷ []) ∷ [])) (some 0)
-    ∷ bad_at (index (row (pos 2) (pos 4) [] ∷ [])) (some 0)
-    ∷ bad_at (index (row (pos 2) (pos 4) ((pos 0, pos 0) ∷ (pos 1, pos 1) ∷ []) ∷ [])) (some 0)
-    ∷ bad_at (index (row (pos 2) (pos 4) ((pos 0, pos 0) ∷ (pos 2, pos 2) ∷ []) ∷ [])) none
-    ∷ bad_at (index (row (pos 2) (pos 4) ((pos 4, pos 4) ∷ []) ∷ [])) (some 0)
-    ∷ bad_at (index (row (pos 2) (pos 4) ((negsuc 0, pos 0) ∷ []) ∷ [])) (some 0)
-    ∷ bad_at (index (row (pos 2) (pos 4) ((pos 0, pos 2) ∷ []) ∷ row (pos 4) (pos 6) ((pos 0, pos 1) ∷ []) ∷ [])) (some 1)
-    ∷ bad_at (index (row (negsuc 4000001) (pos 4) ((pos 0, pos 2) ∷ []) ∷ [])) (some 0)
-    ∷ bad_at (laid_out (pos 257) (pos 2) (pos 4) two) (some 0)
-    ∷ bad_at (laid_out (pos 2) (pos 0) (pos 4) two) (some 0)
-    ∷ bad_at (laid_out (pos 2) (pos 2) (pos 0) []) (some 0)
+    ∷ bad_at (index two) None
+    ∷ bad_at (index []) None
+    ∷ bad_at (index (row (pos 2) (pos 6) ((pos 0, pos 0) ∷ []) ∷ row (pos 4) (pos 8) ((pos 1, pos 3) ∷ []) ∷ [])) (Some 1)
+    ∷ bad_at (index (row (pos 2) (pos 2) ((pos 0, pos 0) ∷ []) ∷ [])) (Some 0)
+    ∷ bad_at (index (row (pos 2) (pos 5) ((pos 0, pos 0) ∷ []) ∷ [])) (Some 0)
+    ∷ bad_at (index (row (pos 2) (pos 4) [] ∷ [])) (Some 0)
+    ∷ bad_at (index (row (pos 2) (pos 4) ((pos 0, pos 0) ∷ (pos 1, pos 1) ∷ []) ∷ [])) (Some 0)
+    ∷ bad_at (index (row (pos 2) (pos 4) ((pos 0, pos 0) ∷ (pos 2, pos 2) ∷ []) ∷ [])) None
+    ∷ bad_at (index (row (pos 2) (pos 4) ((pos 4, pos 4) ∷ []) ∷ [])) (Some 0)
+    ∷ bad_at (index (row (pos 2) (pos 4) ((negsuc 0, pos 0) ∷ []) ∷ [])) (Some 0)
+    ∷ bad_at (index (row (pos 2) (pos 4) ((pos 0, pos 2) ∷ []) ∷ row (pos 4) (pos 6) ((pos 0, pos 1) ∷ []) ∷ [])) (Some 1)
+    ∷ bad_at (index (row (negsuc 4000001) (pos 4) ((pos 0, pos 2) ∷ []) ∷ [])) (Some 0)
+    ∷ bad_at (laid_out (pos 257) (pos 2) (pos 4) two) (Some 0)
+    ∷ bad_at (laid_out (pos 2) (pos 0) (pos 4) two) (Some 0)
+    ∷ bad_at (laid_out (pos 2) (pos 2) (pos 0) []) (Some 0)
     -- four windows of two values cover five
     ∷ same_list sameℤ (covered (index two) (worked ++ (pos 9 ∷ []))) worked
     -- auditing: yes, wrong, missing

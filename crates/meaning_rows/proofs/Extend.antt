@@ -3,7 +3,7 @@
 -- a copy (`extended-copy`). New rows go beside the old, whose ranges are whole numbers of row widths.
 use Rattle.meaning_numbers.specs.{Sum.count, Place.any}
 use Rattle.meaning_numbers.proofs.Member.{any-mem, any_found, none_any, mem-map, map-mem, All, all-mem, mem-all}
-use Rattle.meaning_numbers.proofs.Prelude.{◌≡◌, refl, sym, ap, ◌∙◌, subst, ◌⊎◌, inl, inr, ⊎_elim, Bool, true, false, ◌&&◌, List, [], ◌∷◌, map, List-as-Memᴰ as Mem, List·Memᴰ·head as here, List·Memᴰ·tail as there, List·Memᴰ·not-nil as not-nil, List·Memᴰ·cases-cons as cases, none, ℕ, zero, suc, ◌+◌, ◌-◌, ◌<◌, ◌≤◌, arith, dec_lt, ltb, ℤ, pos, nat_abs, length, take, ◌≤ℤ◌, ◌<ℤ◌, lt_z, le-leb, lt-leb, lt-ltb, zarith, *ℤ-mono, lt_z-true, lt_z-false, by-test, clash}
+use Rattle.meaning_numbers.proofs.Prelude.{◌≡◌, refl, sym, ap, ◌∙◌, subst, ◌⊎◌, inl, inr, ⊎_elim, Bool, true, false, ◌&&◌, List, [], ◌∷◌, map, List-as-Memᴰ as Mem, List·Memᴰ·head as here, List·Memᴰ·tail as there, List·Memᴰ·not-nil as not-nil, List·Memᴰ·cases-cons as cases, None, ℕ, zero, suc, ◌+◌, ◌-◌, ◌<◌, ◌≤◌, arith, dec_lt, ltb, ℤ, pos, nat_abs, length, take, ◌≤ℤ◌, ◌<ℤ◌, lt_z, le-leb, lt-leb, lt-ltb, zarith, *ℤ-mono, lt_z-true, lt_z-false, by-test, clash}
 use Rattle.meaning_numbers.proofs.{Quotient.floor-most, Count.count-cong, Count.count-never}
 use Rattle.meaning_curves.specs.{Limits.most_values, Limits.first_outside, Limits.lowest_end, Curve.window_sum, Curve.window_count}
 use Rattle.meaning_rows.specs.Extend.{grown, known, new_numbers, added, insert_row, insert_rows, extended_rows, extended}
@@ -119,7 +119,7 @@ module _ (x : Index) (sum : ℕ → ℤ) (d old : ℕ) where
 pub record Extendable (x : Index) (s : List ℤ) : Type 0 where
   pub longer : nat_abs x.windows ≤ window_count (length s) (nat_abs x.window)
   pub short : length s ≤ most_values
-  pub values : first_outside s ≡ none
+  pub values : first_outside s ≡ None
 
 -- a good row has a window
 some-member : (n : ℕ) (l : List (ℕ × ℕ)) → Apart n 0 l → 1 ≤ length (map entry l) → (j : ℕ) × (j < n) × (held l j ≡ true)

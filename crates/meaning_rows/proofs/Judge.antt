@@ -1,7 +1,7 @@
 -- What judging an index means: `first_bad_row` is none exactly if the index is well formed, as a record of facts (`well-formed`, `none-bad`), and else the place of the first bad row (`first-bad`, `bad-first`).
 -- Each test is turned into its fact and back; a well-formed index has at most as many rows as runs, and runs as windows (`rows-at-most`, `runs-at-most`).
 use Rattle.meaning_numbers.specs.{Order.within, Quotient.multiple, Sum.count, Place.any}
-use Rattle.meaning_numbers.proofs.Prelude.{◌≡◌, refl, sym, ap, ◌∙◌, subst, ◌⊎◌, inl, inr, ⊎_elim, true, List, [], ◌∷◌, map, Option, none, some, ℕ, zero, suc, ◌+◌, ◌<◌, ◌≤◌, arith, dec_le, ℤ, pos, negsuc, ◌+ℤ◌, nat_abs, length, get_or, take, length-take, length-drop, take-take, ◌≤ℤ◌, ◌<ℤ◌, le_z, lt_z, leb-true, eqb-true, le-leb, eq-eqb, lt-ltb, ltb-true, zarith, lt_z-true, le_z-true, lt-lt_z, by-test, both, of-both, clash}
+use Rattle.meaning_numbers.proofs.Prelude.{◌≡◌, refl, sym, ap, ◌∙◌, subst, ◌⊎◌, inl, inr, ⊎_elim, true, List, [], ◌∷◌, map, Option, None, Some, ℕ, zero, suc, ◌+◌, ◌<◌, ◌≤◌, arith, dec_le, ℤ, pos, negsuc, ◌+ℤ◌, nat_abs, length, get_or, take, length-take, length-drop, take-take, ◌≤ℤ◌, ◌<ℤ◌, le_z, lt_z, leb-true, eqb-true, le-leb, eq-eqb, lt-ltb, ltb-true, zarith, lt_z-true, le_z-true, lt-lt_z, by-test, both, of-both, clash}
 use Rattle.meaning_numbers.proofs.{Count.count-cong, Member.All, Member.all-mem, Member.mem-at}
 use Rattle.meaning_curves.specs.Limits.{end_in, lowest_end, most_values}
 use Rattle.meaning_rows.specs.Judge.{head_good, runs_good, run_lengths, range_good, part_good, row_good, bad_row_from, first_bad_row, length_total}
@@ -112,10 +112,10 @@ pub record WellFormed (x : Index) : Type 0 where
   pub head : GoodHead x
   pub rows : GoodRows x lowest_end 0 0 x.rows
 
-is_some : {k : ℕ} → some k ≡ none → ⊥
+is_some : {k : ℕ} → Some k ≡ None → ⊥
 is_some e = let z : ◌≡◌ {A = ℕ} 0 1 = cc in omega arith
 
-same_some : {m k : ℕ} → some k ≡ some m → m ≡ k
+same_some : {m k : ℕ} → Some k ≡ Some m → m ≡ k
 same_some e = cc
 
 module _ (x : Index) (h : GoodHead x) where
@@ -155,20 +155,20 @@ module _ (x : Index) (h : GoodHead x) where
       (of-both (of-both (le-leb _ _ o.some-run) (of-both (eq-eqb _ _ g.begins) (le-leb _ _ o.fits)))
       (of-both (subst (λ (z : ℤ). runs_good z (pos 0) (runs_of x r) ≡ true) (sym h.windows.is) (runs-good _ 0 _ o.good)) (le-leb _ _ g.total)))
 
-  good-from : (k : ℕ) (least : ℤ) (first taken : ℕ) (l : List Row) → bad_row_from x k least first taken l ≡ none → GoodRows x least first taken l
+  good-from : (k : ℕ) (least : ℤ) (first taken : ℕ) (l : List Row) → bad_row_from x k least first taken l ≡ None → GoodRows x least first taken l
   unfolding bad_row_from GoodRows
   good-from k least first taken [] e = tt
   good-from k least first taken (r ∷ l) e = by-test _
       (λ t. (next_row least first taken r t, good-from (suc k) r.up _ _ l (rw t at e)))
       (λ f. absurd (is_some (rw f at e)))
 
-  from-good : (k : ℕ) (least : ℤ) (first taken : ℕ) (l : List Row) → GoodRows x least first taken l → bad_row_from x k least first taken l ≡ none
+  from-good : (k : ℕ) (least : ℤ) (first taken : ℕ) (l : List Row) → GoodRows x least first taken l → bad_row_from x k least first taken l ≡ None
   unfolding bad_row_from GoodRows
   from-good k least first taken [] g = refl
   from-good k least first taken (r ∷ l) g = rw (row_next least first taken r g.0) (from-good (suc k) r.up _ _ l g.1)
 
   -- the rows before the i-th are good, and with it they are not
-  bad-from : (k m : ℕ) (least : ℤ) (first taken : ℕ) (l : List Row) → bad_row_from x k least first taken l ≡ some m
+  bad-from : (k m : ℕ) (least : ℤ) (first taken : ℕ) (l : List Row) → bad_row_from x k least first taken l ≡ Some m
       → (i : ℕ) × (m ≡ k + i) × (i < length l) × GoodRows x least first taken (take i l) × (GoodRows x least first taken (take (suc i) l) → ⊥)
   unfolding bad_row_from GoodRows
   bad-from k m least first taken [] e = absurd (is_some (sym e))
@@ -177,13 +177,13 @@ module _ (x : Index) (h : GoodHead x) where
       (suc b.0, omega arith, omega arith, (next_row least first taken r t, b.3), λ g. b.4 g.1))
       (λ f. let i = same_some (rw f at e) in (0, omega arith, omega arith, tt, λ g. clash (row_next least first taken r g.0) f))
 
-pub well-formed : (x : Index) → first_bad_row x ≡ none → WellFormed x
+pub well-formed : (x : Index) → first_bad_row x ≡ None → WellFormed x
 unfolding first_bad_row
 well-formed x e = by-test _
     (λ t. let h = good-head x t in record { head = h; rows = good-from x h 0 lowest_end 0 0 _ (rw t at e) })
     (λ f. absurd (is_some (rw f at e)))
 
-pub none-bad : (x : Index) → WellFormed x → first_bad_row x ≡ none
+pub none-bad : (x : Index) → WellFormed x → first_bad_row x ≡ None
 unfolding first_bad_row
 none-bad x g = rw (head-good x g.head) (from-good x g.head 0 lowest_end 0 0 _ g.rows)
 
@@ -194,7 +194,7 @@ pub record FirstBad (x : Index) (k : ℕ) : Type 0 where
   pub before : GoodRows x lowest_end 0 0 (take k x.rows)
   pub bad : GoodRows x lowest_end 0 0 (take (suc k) x.rows) → ⊥
 
-pub first-bad : (x : Index) (k : ℕ) → first_bad_row x ≡ some k → ((k ≡ 0) × (GoodHead x → ⊥)) ⊎ FirstBad x k
+pub first-bad : (x : Index) (k : ℕ) → first_bad_row x ≡ Some k → ((k ≡ 0) × (GoodHead x → ⊥)) ⊎ FirstBad x k
 unfolding first_bad_row
 first-bad x k e = by-test _
     (λ t. let h = good-head x t in let b = bad-from x h 0 k lowest_end 0 0 _ (rw t at e) in
@@ -215,13 +215,13 @@ not_after x k m f b = elim (dec_le k m) [
 ]
 
 -- there is one first bad row, and it is said
-pub bad-first : (x : Index) (k : ℕ) → FirstBad x k → first_bad_row x ≡ some k
+pub bad-first : (x : Index) (k : ℕ) → FirstBad x k → first_bad_row x ≡ Some k
 bad-first x k f = said _ refl
   where
-    said : (o : Option ℕ) → first_bad_row x ≡ o → first_bad_row x ≡ some k
-    said none e = absurd (f.bad (good-part x (suc k) lowest_end 0 0 x.rows (well-formed x e).rows))
-    said (some m) e = ⊎_elim (λ h. absurd (h.1 f.head))
-        (λ b. let a = not_after x k m f b in let c = not_after x m k b f in let same : m ≡ k = omega arith in e ∙ ap some same) (first-bad x m e)
+    said : (o : Option ℕ) → first_bad_row x ≡ o → first_bad_row x ≡ Some k
+    said None e = absurd (f.bad (good-part x (suc k) lowest_end 0 0 x.rows (well-formed x e).rows))
+    said (Some m) e = ⊎_elim (λ h. absurd (h.1 f.head))
+        (λ b. let a = not_after x k m f b in let c = not_after x m k b f in let same : m ≡ k = omega arith in e ∙ ap Some same) (first-bad x m e)
 
 -- ---- what follows for the rows of a well-formed index
 

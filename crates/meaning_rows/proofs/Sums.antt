@@ -1,14 +1,14 @@
 -- The limits of window sums: values in their limits have window sums of at most 10,000 w either way (`sum-limits`), so the ends of a sum's row are good ends of a range (`ends-good`).
 -- The windows of a series and of a part from its start have the same sums (`sum-of-part`).
 use Rattle.meaning_numbers.specs.Order.{within}
-use Rattle.meaning_numbers.proofs.Prelude.{◌≡◌, true, not, List, none, ℕ, ◌+◌, ◌*◌, ◌<◌, ◌≤◌, arith, dec_lt, ℤ, pos, negsuc, neg_ℤ, ◌+ℤ◌, length, get_or, take, List·get_d-eq-default, get_or-take, ◌≤ℤ◌, ◌<ℤ◌, not-false, up, dn, rep_pos, rep_neg, rep-le, zarith, z-neg, le_z-true, both, of-both}
+use Rattle.meaning_numbers.proofs.Prelude.{◌≡◌, true, not, List, None, ℕ, ◌+◌, ◌*◌, ◌<◌, ◌≤◌, arith, dec_lt, ℤ, pos, negsuc, neg_ℤ, ◌+ℤ◌, length, get_or, take, List·get_d-eq-default, get_or-take, ◌≤ℤ◌, ◌<ℤ◌, not-false, up, dn, rep_pos, rep_neg, rep-le, zarith, z-neg, le_z-true, both, of-both}
 use Rattle.meaning_numbers.proofs.{Sum.rep-Σ-self, Sum.Σℕ-le, Sum.Σℤ-same, Member.mem-at, Member.place_none}
 use Rattle.meaning_curves.specs.{Limits.value_in, Limits.end_in, Limits.lowest_end, Limits.first_outside, Curve.stretch, Curve.window_sum}
 use Rattle.meaning_rows.specs.Range.{row_number, low_of, up_of}
 use Rattle.meaning_rows.proofs.{Range.le-le_z, Range.row_below, Range.row-above, Range.up_is, Range.multiple-of, Judge.GoodEnd}
 
 -- every value of a series in its limits; what stands past the end is 0
-pub value-in : (s : List ℤ) → first_outside s ≡ none → (k : ℕ) → value_in (get_or s k (pos 0)) ≡ true
+pub value-in : (s : List ℤ) → first_outside s ≡ None → (k : ℕ) → value_in (get_or s k (pos 0)) ≡ true
 unfolding first_outside within
 value-in s e k = elim (dec_lt k (length s)) [
   | yes h ↦ not-false _ (place_none 0 (λ x. not (value_in x)) s e _ (mem-at (pos 0) s k h))
@@ -27,7 +27,7 @@ value-limits x e =
     sizes (pos n) lo hi = (omega zarith, omega arith)
     sizes (negsuc n) lo hi = (omega arith, omega zarith)
 
-pub sum-limits : (s : List ℤ) (w j : ℕ) → first_outside s ≡ none → (neg_ℤ (pos (10000 * w)) ≤ℤ window_sum s w j) × (window_sum s w j ≤ℤ pos (10000 * w))
+pub sum-limits : (s : List ℤ) (w j : ℕ) → first_outside s ≡ None → (neg_ℤ (pos (10000 * w)) ≤ℤ window_sum s w j) × (window_sum s w j ≤ℤ pos (10000 * w))
 unfolding window_sum
 sum-limits s w j e =
     let f = stretch s j in
@@ -40,7 +40,7 @@ unfolding within
 end-in z a b = of-both (le-le_z a) (le-le_z b)
 
 -- the row that holds a window's sum has good ends
-pub ends-good : (s : List ℤ) (w d j : ℕ) → first_outside s ≡ none → w ≤ 256 → 0 < d → d ≤ 1000000
+pub ends-good : (s : List ℤ) (w d j : ℕ) → first_outside s ≡ None → w ≤ 256 → 0 < d → d ≤ 1000000
     → GoodEnd d (low_of d (row_number d (window_sum s w j))) × GoodEnd d (up_of d (row_number d (window_sum s w j)))
 ends-good s w d j e small one most =
     let z = window_sum s w j in

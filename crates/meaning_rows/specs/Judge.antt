@@ -1,7 +1,8 @@
 -- When an index is well formed, and the first bad row (01, Rows). The head is judged first; a row is judged by itself and against the rows before it.
 use Rattle.std.specs.Prelude.{ℕ, suc, ◌+◌, ◌-◌, leb, eqb, ℤ, pos, ◌+ℤ◌, nat_abs, length, Bool, true, cond, ◌&&◌, List, [], ◌∷◌}
 use Rattle.std.specs.Int.Signed.{le_z, lt_z}
-use Rattle.std.proofs.Math.Option.{Option, none, some}
+use Rattle.std.specs.declared.option.Option.{Option}
+use Rattle.std.specs.Prelude.{None, Some}
 use Rattle.meaning_numbers.specs.Quotient.{multiple}
 use Rattle.meaning_curves.specs.Limits.{window_in, width_in, windows_in, end_in, lowest_end}
 use Rattle.meaning_rows.specs.{declared.Row.Row, Index.Index, Index.Entry, Index.runs_of}
@@ -41,10 +42,10 @@ row_good x least first taken r =
 
 -- the place of the first bad row, counted on from k
 unfoldable pub bad_row_from : Index → ℕ → ℤ → ℕ → ℕ → List Row → Option ℕ
-bad_row_from x k least first taken [] = none
+bad_row_from x k least first taken [] = None
 bad_row_from x k least first taken (r ∷ l) =
-    cond (row_good x least first taken r) (bad_row_from x (suc k) r.up (first + r.runs) (taken + run_lengths (runs_of x r)) l) (some k)
+    cond (row_good x least first taken r) (bad_row_from x (suc k) r.up (first + r.runs) (taken + run_lengths (runs_of x r)) l) (Some k)
 
 -- 01, Refused for the state, 20: the first bad row; 0 for the head; none where the index is well formed
 unfoldable pub first_bad_row : Index → Option ℕ
-first_bad_row x = cond (head_good x) (bad_row_from x 0 lowest_end 0 0 x.rows) (some 0)
+first_bad_row x = cond (head_good x) (bad_row_from x 0 lowest_end 0 0 x.rows) (Some 0)

@@ -1,5 +1,5 @@
 -- Reading byte by byte, for any form: an automaton whose every state has a reader for what is left of the text (`Onward`), such that a byte takes a state to one that reads the rest alike, comes to what `read_text` says, whatever the pieces in which the text comes.
-use Rattle.meaning_numbers.proofs.Prelude.{◌≡◌, refl, ap, ◌∙◌, List, [], ◌∷◌, ◌++◌, Option, none, some, ℕ, suc, ◌+◌, ◌-◌, ◌<◌, ◌≤◌, add-one, arith, length, get_or, drop, drop_of_length-le, drop-cons}
+use Rattle.meaning_numbers.proofs.Prelude.{◌≡◌, refl, ap, ◌∙◌, List, [], ◌∷◌, ◌++◌, Option, None, Some, ℕ, suc, ◌+◌, ◌-◌, ◌<◌, ◌≤◌, add-one, arith, length, get_or, drop, drop_of_length-le, drop-cons}
 use Rattle.meaning_text.specs.{Number.Read, Number.got, Number.bad, Form.Form, Form.Value, Form.read, Read.Verdict, Read.fine, Read.unfit, Read.ended, Read.read_text}
 use Rattle.meaning_text.proofs.Onward.{Rest}
 
@@ -8,16 +8,16 @@ pub data Fed (S : Type 0) : Type 0 where
   going : S → ℕ → Fed S
   failed : ℕ → Fed S
 
-pub on-option : {A B : Type 0} (x : Option A) → ((a : A) → x ≡ some a → B) → (x ≡ none → B) → B
-on-option (some a) f g = f a refl
-on-option none f g = g refl
+pub on-option : {A B : Type 0} (x : Option A) → ((a : A) → x ≡ Some a → B) → (x ≡ None → B) → B
+on-option (Some a) f g = f a refl
+on-option None f g = g refl
 
 -- ---- feeding
 
 module _ {S : Type 0} (step : S → ℕ → Option S) where
   abbrev pub after : Option S → ℕ → Fed S
-  after (some s) p = going s (suc p)
-  after none p = failed p
+  after (Some s) p = going s (suc p)
+  after None p = failed p
 
   abbrev pub feed_byte : Fed S → ℕ → Fed S
   feed_byte (going s p) b = after (step s b) p
@@ -38,19 +38,19 @@ module _ {S : Type 0} (step : S → ℕ → Option S) where
   feed-failed [] p = refl
   feed-failed (b ∷ t) p = feed-failed t p
 
-  pub feed-one : (s m : S) (b : ℕ) (l : List ℕ) (p : ℕ) → step s b ≡ some m → feed (going s p) (b ∷ l) ≡ feed (going m (suc p)) l
+  pub feed-one : (s m : S) (b : ℕ) (l : List ℕ) (p : ℕ) → step s b ≡ Some m → feed (going s p) (b ∷ l) ≡ feed (going m (suc p)) l
   unfolding feed
   feed-one s m b l p e = rw e
 
-  pub feed-none : (s : S) (b : ℕ) (l : List ℕ) (p : ℕ) → step s b ≡ none → feed (going s p) (b ∷ l) ≡ failed p
+  pub feed-none : (s : S) (b : ℕ) (l : List ℕ) (p : ℕ) → step s b ≡ None → feed (going s p) (b ∷ l) ≡ failed p
   unfolding feed
   feed-none s b l p e = rw e (feed-failed l p)
 
   -- for a loop over a slice: a turn, a refusal, the end
-  pub feed-turn : (s m : S) (t : List ℕ) (i p : ℕ) → i < length t → step s (get_or t i 0) ≡ some m → feed (going s p) (drop i t) ≡ feed (going m (suc p)) (drop (i + 1) t)
+  pub feed-turn : (s m : S) (t : List ℕ) (i p : ℕ) → i < length t → step s (get_or t i 0) ≡ Some m → feed (going s p) (drop i t) ≡ feed (going m (suc p)) (drop (i + 1) t)
   feed-turn s m t i p h e = ap (feed (going s p)) (drop-cons t i 0 h) ∙ feed-one s m _ _ p e ∙ rw (add-one i)
 
-  pub feed-refuse : (s : S) (t : List ℕ) (i p : ℕ) → i < length t → step s (get_or t i 0) ≡ none → feed (going s p) (drop i t) ≡ failed p
+  pub feed-refuse : (s : S) (t : List ℕ) (i p : ℕ) → i < length t → step s (get_or t i 0) ≡ None → feed (going s p) (drop i t) ≡ failed p
   feed-refuse s t i p h e = ap (feed (going s p)) (drop-cons t i 0 h) ∙ feed-none s _ (drop (suc i) t) p e
 
   pub feed-end : (x : Fed S) (t : List ℕ) (i : ℕ) → length t ≤ i → feed x (drop i t) ≡ x
@@ -61,8 +61,8 @@ module _ {S : Type 0} (step : S → ℕ → Option S) where
 
 -- a value, or the place where the text ends too early
 abbrev pub at_end : {A : Type 0} → Option A → ℕ → Verdict A
-at_end (some a) p = fine a
-at_end none p = unfit p
+at_end (Some a) p = fine a
+at_end None p = unfit p
 
 module _ {S A : Type 0} (accept : S → Option A) where
   abbrev pub judged : Fed S → Verdict A
@@ -96,22 +96,22 @@ halts-unfit b t n over = refl
 
 -- the rest of a text that has ended
 abbrev pub at_rest : {A : Type 0} → Option A → Read A
-at_rest (some a) = got a []
-at_rest none = bad []
+at_rest (Some a) = got a []
+at_rest None = bad []
 
 module _ {S A : Type 0} (step : S → ℕ → Option S) (accept : S → Option A) (Good : S → Type 0) (rest : S → Rest A) where
   -- what is asked of an automaton
   pub record Follows : Type 0 where
-    pub stays-good : (s : S) (b : ℕ) (n : S) → Good s → step s b ≡ some n → Good n
-    pub goes_on : (s : S) (b : ℕ) (n : S) → Good s → step s b ≡ some n → (t : List ℕ) → rest s (b ∷ t) ≡ rest n t
-    pub halts : (s : S) (b : ℕ) → Good s → step s b ≡ none → (t : List ℕ) → Halts (b ∷ t) (rest s (b ∷ t))
+    pub stays-good : (s : S) (b : ℕ) (n : S) → Good s → step s b ≡ Some n → Good n
+    pub goes_on : (s : S) (b : ℕ) (n : S) → Good s → step s b ≡ Some n → (t : List ℕ) → rest s (b ∷ t) ≡ rest n t
+    pub halts : (s : S) (b : ℕ) → Good s → step s b ≡ None → (t : List ℕ) → Halts (b ∷ t) (rest s (b ∷ t))
     pub ends : (s : S) → Good s → rest s [] ≡ at_rest (accept s)
 
   module _ (L : Follows) where
     end-judged : (x : Option A) (p : ℕ) → ended (p + 0) (at_rest x) ≡ at_end x p
     unfolding ended
-    end-judged (some a) p = refl
-    end-judged none p = ap unfit (omega arith)
+    end-judged (Some a) p = refl
+    end-judged None p = ap unfit (omega arith)
 
     pub fed-comes : (t : List ℕ) (s : S) (p : ℕ) → Good s → ended (p + length t) (rest s t) ≡ judged accept (feed step (going s p) t)
     unfolding feed

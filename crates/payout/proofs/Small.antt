@@ -1,6 +1,6 @@
 -- The number of an answer fits 64 bits (`number_small`): a line of an index text has at least 8 bytes but the last, a series line is one line, and rows and offsets are no more than windows.
 use Rattle.meaning_numbers.proofs.Member.{All}
-use Rattle.meaning_numbers.proofs.Prelude.{◌≡◌, refl, sym, ap, ◌∙◌, Bool, true, false, not, cond, List, [], ◌∷◌, ◌++◌, append-nil, ⊎_elim, Option, none, some, ℕ, zero, suc, ◌+◌, ◌*◌, ◌<◌, ◌≤◌, ◌^◌, arith, eqb, ltb, ℤ, pos, negsuc, nat_abs, length, get_or, take, length-take-le, lt_z, ne_eqb, ltb-true}
+use Rattle.meaning_numbers.proofs.Prelude.{◌≡◌, refl, sym, ap, ◌∙◌, Bool, true, false, not, cond, List, [], ◌∷◌, ◌++◌, append-nil, ⊎_elim, Option, None, Some, ℕ, zero, suc, ◌+◌, ◌*◌, ◌<◌, ◌≤◌, ◌^◌, arith, eqb, ltb, ℤ, pos, negsuc, nat_abs, length, get_or, take, length-take-le, lt_z, ne_eqb, ltb-true}
 use Rattle.meaning_curves.specs.Limits.{most_values, most_program_values, length_in, lowest_end, first_outside}
 use Rattle.meaning_rows.specs.{Index.zero_row, Index.Index, Judge.first_bad_row, Audit.first_wrong, declared.Row.Row}
 use Rattle.meaning_rows.proofs.Audit.{first-wrong, missing-are}
@@ -60,7 +60,7 @@ rows_few x least first taken (r ∷ l) h g =
     let n = g.0 in
     omega (arith, rows_few x r.up _ _ l n.total g.1, runs-lengths x r n.row, n.row.some-run)
 
-bad-row-few : (x : Index) (k : ℕ) → first_bad_row x ≡ some k → k ≤ most_values
+bad-row-few : (x : Index) (k : ℕ) → first_bad_row x ≡ Some k → k ≤ most_values
 bad-row-few x k e = ⊎_elim
     (λ z. omega (arith, z.0))
     (λ b. omega (arith, rows_few x lowest_end 0 0 _ (omega arith) b.before, length-take-le k x.rows (omega (arith, b.is-row)), b.head.windows.most))
@@ -70,24 +70,24 @@ bad-row-few x k e = ⊎_elim
 
 -- a line of a table with a small number and small places
 abbrev SmallLine : Condition → Type 0
-SmallLine c = (c.number < 32) × ((p : ℕ) → c.place ≡ some p → p ≤ most_values)
+SmallLine c = (c.number < 32) × ((p : ℕ) → c.place ≡ Some p → p ≤ most_values)
 
 first_small : {l : List Condition} {n p : ℕ} → All SmallLine l → First l n p → (n < 32) × (p ≤ most_values)
 unfolding All
 first_small {p = p} a (here e) = (a.0.0, a.0.1 p e)
 first_small a (later e f) = first_small a.1 f
 
-none-some : {A : Type 0} {n : ℕ} → none ≡ some n → A
+none-some : {A : Type 0} {n : ℕ} → None ≡ Some n → A
 none-some e = let z : ◌≡◌ {A = ℕ} 0 1 = cc in absurd (omega arith)
 
-some_same : {m n : ℕ} → some m ≡ some n → m ≡ n
+some_same : {m n : ℕ} → Some m ≡ Some n → m ≡ n
 some_same e = cc
 
-zero-place : (t : Bool) (p : ℕ) → cond t (some 0) none ≡ some p → p ≤ most_values
+zero-place : (t : Bool) (p : ℕ) → cond t (Some 0) None ≡ Some p → p ≤ most_values
 zero-place true p e = omega (arith, some_same e)
 zero-place false p e = none-some e
 
-outside-few : (s : List ℤ) (k : ℕ) → length s ≤ most_program_values → first_outside s ≡ some k → k ≤ most_values
+outside-few : (s : List ℤ) (k : ℕ) → length s ≤ most_program_values → first_outside s ≡ Some k → k ≤ most_values
 outside-few s k h e =
     let q = sym (leading-outside s) ∙ e in
     on-flag (ltb (leading s) (length s))
@@ -142,15 +142,15 @@ module _ (c : AuditCall) where
   unfolding All audit_table
   lines h = (long-line, (value_line h, (formed-line, (fewer-line, (more-line, tt)))))
 
-  small-audited : first_bad_row c.index ≡ none → pack (audited c) < 2 ^ 64
+  small-audited : first_bad_row c.index ≡ None → pack (audited c) < 2 ^ 64
   unfolding audited pack
   small-audited h = by _ refl
     where
       by : (o : Option (ℕ × ℕ)) → first_wrong c.index c.series ≡ o → pack (audited c) < 2 ^ 64
-      by none e =
+      by None e =
           let g = well-formed c.index h in
           rw (e, audited) (small-complete _ (omega (arith, missing-are c.index c.series g e, g.head.windows.most)))
-      by (some p) e =
+      by (Some p) e =
           let g = well-formed c.index h in
           let w = first-wrong c.index c.series g zero_row p.0 p.1 e in
           let j = stands-below c.index (get_or c.index.rows p.0 zero_row) p.1 (row_at c.index g zero_row p.0 w.is-row) w.stands-there in
@@ -167,15 +167,15 @@ module _ (x s : List ℕ) (few : length x < 2 ^ 63) where
     abbrev call : AuditCall
     call = record { series = w; index = text_index x }
 
-    formed : first_refusal (audit_table most_program_values call) ≡ none → first_bad_row (text_index x) ≡ none
+    formed : first_refusal (audit_table most_program_values call) ≡ None → first_bad_row (text_index x) ≡ None
     unfolding open_lines audit_table
     formed e = passed-line (is-passed (audit_table most_program_values call) e) 20
 
     by_length : (t : Bool) → length_in most_program_values (length w) ≡ t → (o : Option (ℕ × ℕ)) → first_refusal (audit_table most_program_values call) ≡ o → pack (audit_text_answer x s) < 2 ^ 64
     unfolding pack
     by_length false e o f = rw (refused-by x s (1, 0) (table_is x s v readable w read ∙ outside x s v readable w read e)) (small-refusal 1 0 (omega arith) (omega arith))
-    by_length true e none f = rw (none-refuses x s v readable w read (table_is x s v readable w read ∙ f)) (small-audited call (formed f))
-    by_length true e (some p) f =
+    by_length true e None f = rw (none-refuses x s v readable w read (table_is x s v readable w read ∙ f)) (small-audited call (formed f))
+    by_length true e (Some p) f =
         let b = between 1 most_program_values (pos (length w)) e in
         let k = first_small (lines call b.most) (is-first (audit_table most_program_values call) p.0 p.1 f) in
         rw (refused-by x s p (table_is x s v readable w read ∙ f)) (small-refusal p.0 p.1 k.0 k.1)

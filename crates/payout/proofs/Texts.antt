@@ -1,5 +1,5 @@
 -- The audit of two texts by what they come to: the index text cannot be read (`index-unread`); the series line cannot (`line-unread`); both can (`both_read`).
-use Rattle.meaning_numbers.proofs.Prelude.{◌≡◌, refl, sym, ap, ◌∙◌, Bool, true, false, List, ◌++◌, map, Option, none, some, ℕ, ◌+◌, ◌≤◌, arith, ℤ, pos, length, take, drop, replicate, length-replicate, length-map, sets-eq, take-append_seam}
+use Rattle.meaning_numbers.proofs.Prelude.{◌≡◌, refl, sym, ap, ◌∙◌, Bool, true, false, List, ◌++◌, map, Option, None, Some, ℕ, ◌+◌, ◌≤◌, arith, ℤ, pos, length, take, drop, replicate, length-replicate, length-map, sets-eq, take-append_seam}
 use Rattle.meaning_curves.specs.Limits.{most_values, most_program_values, length_in}
 use Rattle.meaning_rows.proofs.Judge.{between, is_within}
 use Rattle.meaning_text.specs.{Form.Value, Bytes.newlines, Read.fine, Read.unfit, Read.read_text, Read.line_of, Texts.index_form, Texts.series_form}
@@ -10,11 +10,11 @@ use Rattle.payout.specs.Counted.{counted_answer}
 use Rattle.payout.proofs.Clamped.{clamped-answer}
 
 module _ (x s : List ℕ) where
-  pub refused-by : (p : ℕ × ℕ) → first_refusal (audit_text_table x s) ≡ some p → audit_text_answer x s ≡ Audited.Refused p.0 p.1
+  pub refused-by : (p : ℕ × ℕ) → first_refusal (audit_text_table x s) ≡ Some p → audit_text_answer x s ≡ Audited.Refused p.0 p.1
   unfolding audit_text_answer
   refused-by p e = rw (e, audit_text_answer) refl
 
-  index-first : (q : ℕ) → read_text index_form x ≡ unfit q → first_refusal (audit_text_table x s) ≡ some (12, line_of x q)
+  index-first : (q : ℕ) → read_text index_form x ≡ unfit q → first_refusal (audit_text_table x s) ≡ Some (12, line_of x q)
   unfolding audit_text_table first_refusal unreadable bad_line
   index-first q e = let z : 0 + line_of x q ≡ line_of x q = omega arith in rw (e, bad_line, z) refl
 
@@ -22,7 +22,7 @@ module _ (x s : List ℕ) where
   index-unread q e = refused-by (12, line_of x q) (index-first q e)
 
   module _ (v : Value index_form) (readable : read_text index_form x ≡ fine v) where
-    line_first : (q : ℕ) → read_text series_form s ≡ unfit q → first_refusal (audit_text_table x s) ≡ some (12, newlines x + line_of s q)
+    line_first : (q : ℕ) → read_text series_form s ≡ unfit q → first_refusal (audit_text_table x s) ≡ Some (12, newlines x + line_of s q)
     unfolding audit_text_table first_refusal unreadable bad_line
     line_first q e = rw (readable, bad_line, e) refl
 
@@ -41,11 +41,11 @@ module _ (x s : List ℕ) where
       unfolding audit_text_table first_refusal unreadable bad_line
       table_is = rw (readable, bad_line, read, series-is) refl
 
-      pub outside : length_in most_program_values (length w) ≡ false → first_refusal (audit_table most_program_values call) ≡ some (1, 0)
+      pub outside : length_in most_program_values (length w) ≡ false → first_refusal (audit_table most_program_values call) ≡ Some (1, 0)
       unfolding first_refusal audit_table length_outside
       outside e = rw e refl
 
-      pub none-refuses : first_refusal (audit_text_table x s) ≡ none → audit_text_answer x s ≡ audited call
+      pub none-refuses : first_refusal (audit_text_table x s) ≡ None → audit_text_answer x s ≡ audited call
       unfolding audit_text_answer
       none-refuses e = rw (e, audit_text_answer, series-is) refl
 
@@ -58,8 +58,8 @@ module _ (x s : List ℕ) where
 
       by-refusal : (o : Option (ℕ × ℕ)) → first_refusal (audit_table most_values call) ≡ o → first_refusal (audit_text_table x s) ≡ o → audit_answer call ≡ audit_text_answer x s
       unfolding audit_answer audit_text_answer
-      by-refusal none e f = rw (e, audit_answer, f, audit_text_answer, series-is) refl
-      by-refusal (some p) e f = rw (e, audit_answer, f, audit_text_answer) refl
+      by-refusal None e f = rw (e, audit_answer, f, audit_text_answer, series-is) refl
+      by-refusal (Some p) e f = rw (e, audit_answer, f, audit_text_answer) refl
 
       -- the first values of a buffer that the line was read into
       values-are : (n : ℕ) → length w ≤ n → take (length w) (stored (replicate n (pos 0)) w) ≡ map clamp w

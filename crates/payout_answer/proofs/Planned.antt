@@ -1,5 +1,5 @@
 -- The audit of an index text against a series: its plan's refusal is that of the table (`plan-is`); what the audit of the rows asks holds where nothing refuses (`goes-sized`), and what is answered is what the meanings say (`stopped-right`, `walked-right`).
-use Rattle.meaning_numbers.proofs.Prelude.{ℕ, ◌+◌, ℤ, nat_abs, length, true, List, [], ◌∷◌, ◌++◌, Option, none, some, ◌≡◌, refl, sym, ap, subst, ◌∙◌, arith}
+use Rattle.meaning_numbers.proofs.Prelude.{ℕ, ◌+◌, ℤ, nat_abs, length, true, List, [], ◌∷◌, ◌++◌, Option, None, Some, ◌≡◌, refl, sym, ap, subst, ◌∙◌, arith}
 use Rattle.meaning_curves.specs.Limits.{most_values}
 use Rattle.meaning_rows.specs.{declared.Head.Head, Index.Index, Index.lent, Judge.head_good, Audit.first_wrong, Audit.missing}
 use Rattle.meaning_rows.proofs.{Judge.WellFormed, Judge.good-head, Judge.none-bad, Audit.missing-are}
@@ -61,14 +61,14 @@ module _ (series : List ℤ) (v : Value index_form) where
         let w = (good-head (lent h [] [] []) good.0).window in
         record { values = values-in call the_plan plan-is z; least = w.least; window = w.most }
 
-    lacking-is : first_wrong X series ≡ none → the_plan.lacking ≡ missing X
+    lacking-is : first_wrong X series ≡ None → the_plan.lacking ≡ missing X
     unfolding plan_of judged_rows index_said
     lacking-is e = rw (good.0, good.1) (omega (arith, missing-are X series well e, rows_taken v good.0 good.1, ap nat_abs (head-is v good.0).windows))
 
     went : (o : Option (ℕ × ℕ)) → first_wrong X series ≡ o → answer_of the_plan (found o) ≡ audit_answer call
     unfolding found
-    went none e = went-right call the_plan plan-is z _ refl e (lacking-is e)
-    went (some w) e = went-wrong call the_plan plan-is z w.0 w.1 e
+    went None e = went-right call the_plan plan-is z _ refl e (lacking-is e)
+    went (Some w) e = went-wrong call the_plan plan-is z w.0 w.1 e
 
     pub walked_by : (t : List ℕ) (s : RowsAudited) → read_text index_form t ≡ fine v → Walked series h t s → answer_of the_plan s ≡ audit_answer call
     unfolding Walked index_said

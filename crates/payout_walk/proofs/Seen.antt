@@ -1,5 +1,5 @@
 -- What is known of the rows is a view of what has been said, so that a pass over a text comes to the text's own rows (`walked_by`); once an offset is filed wrongly nothing changes any more (`walked-stopped`).
-use Rattle.meaning_numbers.proofs.Prelude.{◌≡◌, refl, sym, ap, subst, ◌∙◌, false, ◌&&◌, List, [], ◌∷◌, ◌++◌, some, ℕ, suc, ◌+◌, ◌<◌, ◌≤◌, arith, leb, ℤ, length, get_or, drop, length-append}
+use Rattle.meaning_numbers.proofs.Prelude.{◌≡◌, refl, sym, ap, subst, ◌∙◌, false, ◌&&◌, List, [], ◌∷◌, ◌++◌, Some, ℕ, suc, ◌+◌, ◌<◌, ◌≤◌, arith, leb, ℤ, length, get_or, drop, length-append}
 use Rattle.meaning_rows.specs.{declared.Head.Head, Index.Entry}
 use Rattle.meaning_text.specs.{Form.Value, Read.Verdict, Read.fine, Read.unfit, Read.read_text, Texts.index_form, Texts.row_form}
 use Rattle.meaning_text.proofs.Reading.{on-flag}
@@ -140,7 +140,7 @@ module _ (series : List ℤ) (h : Head) where
   fed-stays [] State.Done t i e = refl
   fed-stays (b ∷ l) s t i e = by (λ x g. fed-stays l x.state x.kept (suc i) g) (index_step s b) refl
     where
-      to : Stays l (suc i) → (x : Seen Walk) → keep (tell_walk series h) shut_walk (seen s t) b ≡ some x → x.kept.found ≡ t.found → Ends t.found (end_of (feed (keep (tell_walk series h) shut_walk) (going (seen s t) i) (b ∷ l)))
+      to : Stays l (suc i) → (x : Seen Walk) → keep (tell_walk series h) shut_walk (seen s t) b ≡ Some x → x.kept.found ≡ t.found → Ends t.found (end_of (feed (keep (tell_walk series h) shut_walk) (going (seen s t) i) (b ∷ l)))
       to ih x k f =
           let g : x.kept.found.go ≡ false = ap (λ (u : RowsAudited). u.go) f ∙ e in
           rw (feed-one (keep (tell_walk series h) shut_walk) (seen s t) x b l i k) (subst (λ (u : RowsAudited). Ends u (end_of (feed (keep (tell_walk series h) shut_walk) (going x (suc i)) l))) f (ih x g))

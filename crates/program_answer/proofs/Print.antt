@@ -1,5 +1,5 @@
 -- Laws of specs/Print.
-use Rattle.meaning_numbers.proofs.Prelude.{◌≡◌, refl, sym, ap, ◌∙◌, List, [], ◌∷◌, ◌++◌, map, none, ℕ, ◌+◌, ◌-◌, ◌<◌, ◌≤◌, ◌^◌, min, arith, ℤ, pos, nat_abs, ◌-ℤ◌, length, take, drop, replicate, length-append, length-map, length-replicate, take-append_seam, ◌≤ℤ◌, le-ltb, zarith, z-add, z-sub}
+use Rattle.meaning_numbers.proofs.Prelude.{◌≡◌, refl, sym, ap, ◌∙◌, List, [], ◌∷◌, ◌++◌, map, None, ℕ, ◌+◌, ◌-◌, ◌<◌, ◌≤◌, ◌^◌, min, arith, ℤ, pos, nat_abs, ◌-ℤ◌, length, take, drop, replicate, length-append, length-map, length-replicate, take-append_seam, ◌≤ℤ◌, le-ltb, zarith, z-add, z-sub}
 use Rattle.meaning_numbers.proofs.{Count.count-le, Between.yes-within}
 use Rattle.meaning_curves.specs.{Limits.most_values, Limits.most_program_values, Curve.window_count, Curve.window_sum}
 use Rattle.meaning_rows.specs.Build.{SetRow, entry, with_runs, built_rows, merged, filed, built}
@@ -24,7 +24,7 @@ use Rattle.program_answer.proofs.Sizes.{index-size, all-size}
 use Rattle.meaning_entries.proofs.Passes as Audit
 
 -- a line that does not apply
-enough : (room need : ℕ) → need ≤ room → (buffer_short room need).place ≡ none
+enough : (room need : ℕ) → need ≤ room → (buffer_short room need).place ≡ None
 unfolding buffer_short
 enough room need h = rw (le-ltb room need h)
 
@@ -100,7 +100,7 @@ module _ (s q : List ℤ) (a : Asked) (free : AllPass (call_lines (call_of s q a
     b = index_buffers rows left right
 
     -- its build is not refused
-    pub build-free : build_refusal c b ≡ none
+    pub build-free : build_refusal c b ≡ None
     unfolding build_table
     build-free = passed_is (passed-join series-part (passed-join width-part (room-passes (omega (arith, r, windows-few)) (omega (arith, l, k, windows-few)))))
 
@@ -196,7 +196,7 @@ module _ (s q : List ℤ) (a : Asked) (free : AllPass (call_lines (call_of s q a
   index-few = let m = most-x no_rows zeros zeros rows_long zeros-long zeros-long in index-size s w _ _ passed_here.formed m.0 m.1
 
   -- the text has room
-  pub write-free : (text : List ℕ) → 1048576 ≤ length text → write_refusal x text ≡ none
+  pub write-free : (text : List ℕ) → 1048576 ≤ length text → write_refusal x text ≡ None
   unfolding write_table ill_formed
   write-free text h = passed_is (more (none-bad x passed_here.formed) (more (enough (length text) (length (index_text x)) (omega (arith, h, index-few))) end))
 
@@ -205,7 +205,7 @@ module _ (s q : List ℤ) (a : Asked) (free : AllPass (call_lines (call_of s q a
   unfolding build_index built
   windows-fit = omega (zarith, z-add (pos (length s) -ℤ pos w) (pos 1), z-sub (pos (length s)) (pos w), window-in.1)
 
-  pub search-free : a.ask.pick ≡ Pick.All → (before : SearchBuffers) → length before.left ≡ 4096 → length before.right ≡ 4096 → length before.scratch ≡ 4096 → length before.offsets ≡ 4096 → length before.distances ≡ 4096 → search_refusal d before ≡ none
+  pub search-free : a.ask.pick ≡ Pick.All → (before : SearchBuffers) → length before.left ≡ 4096 → length before.right ≡ 4096 → length before.scratch ≡ 4096 → length before.offsets ≡ 4096 → length before.distances ≡ 4096 → search_refusal d before ≡ None
   unfolding open_lines search_plan search_table call_lines call_of build_index built pick_outside fewest handed
   search-free picks before hl hr hc ho hd =
       let value-part = passed-join series-part (more (passed-line (passed-behind free 2) 2) end) in
@@ -217,7 +217,7 @@ module _ (s q : List ℤ) (a : Asked) (free : AllPass (call_lines (call_of s q a
 
 -- ---- the list behind the index text
 
-pub list_put : (d : SearchCall) (before after : SearchBuffers) (t : Found) (text : List ℕ) (at : ℕ) (new : List ℕ) (to : ℕ) → d.ask.pick ≡ Pick.All → SearchKept d before t after → search_refusal d before ≡ none → FoundPut t text at after.offsets after.distances new to
+pub list_put : (d : SearchCall) (before after : SearchBuffers) (t : Found) (text : List ℕ) (at : ℕ) (new : List ℕ) (to : ℕ) → d.ask.pick ≡ Pick.All → SearchKept d before t after → search_refusal d before ≡ None → FoundPut t text at after.offsets after.distances new to
     → Put text at (found_text (length (search_matches d)) (search_candidates d) (search_matches d)) new to
 list_put d before after t text at new to picks h e p =
     let k : t ≡ Found.All (search_candidates d) (length (search_matches d)) = h.answered ∙ all_told d before picks e in

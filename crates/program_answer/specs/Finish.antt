@@ -1,6 +1,6 @@
 -- What is left in the text buffer: the list (`Listed`), the index and the list (`Prints`), and at the end of the input what the program prints (`Finishes`).
 use Rattle.std.specs.Prelude.{ℕ, ◌≤◌, ℤ, length, take, List, ◌≡◌}
-use Rattle.std.proofs.Math.Option.{none}
+use Rattle.std.specs.Prelude.{None}
 use Rattle.meaning_filter.specs.declared.Pick.{Pick}
 use Rattle.meaning_text.specs.Texts.{found_text}
 use Rattle.meaning_entries.specs.{Search.SearchCall, Search.SearchBuffers, Search.search_refusal, Search.search_matches, Search.search_candidates, Demand2.ProgramKept}
@@ -11,7 +11,7 @@ use Rattle.program_input.specs.{declared.Input.Input, Input.Stands, Input.Open}
 abbrev pub Listed : SearchCall → List ℕ → ℕ → List ℕ → ℕ → Type 0
 Listed d text at new to =
     d.ask.pick ≡ Pick.All
-    → ((b : SearchBuffers) → length b.left ≡ 4096 → length b.right ≡ 4096 → length b.scratch ≡ 4096 → length b.offsets ≡ 4096 → length b.distances ≡ 4096 → search_refusal d b ≡ none)
+    → ((b : SearchBuffers) → length b.left ≡ 4096 → length b.right ≡ 4096 → length b.scratch ≡ 4096 → length b.offsets ≡ 4096 → length b.distances ≡ 4096 → search_refusal d b ≡ None)
     → Put text at (found_text (length (search_matches d)) (search_candidates d) (search_matches d)) new to
 
 -- the first n bytes of the buffer are the text

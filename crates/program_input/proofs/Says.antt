@@ -1,5 +1,5 @@
 -- What the table over what was kept says of the text (`end_is`), and what is asked where nothing refuses (`asked_is`).
-use Rattle.meaning_numbers.proofs.Prelude.{◌≡◌, refl, sym, ap, ◌∙◌, subst, Bool, true, false, cond, List, [], ◌∷◌, ◌++◌, map, none, some, ℕ, ◌+◌, ◌≤◌, arith, ltb, ℤ, pos, negsuc, nat_abs, length, take, drop, sets-eq, length-sets, take-append_seam, ◌≤ℤ◌, ltb-false, zarith, z-sub, le-lt_z, by-test}
+use Rattle.meaning_numbers.proofs.Prelude.{◌≡◌, refl, sym, ap, ◌∙◌, subst, Bool, true, false, cond, List, [], ◌∷◌, ◌++◌, map, None, Some, ℕ, ◌+◌, ◌≤◌, arith, ltb, ℤ, pos, negsuc, nat_abs, length, take, drop, sets-eq, length-sets, take-append_seam, ◌≤ℤ◌, ltb-false, zarith, z-sub, le-lt_z, by-test}
 use Rattle.meaning_curves.specs.Limits.{most_program_values, value_in, first_outside}
 use Rattle.meaning_curves.proofs.Values.{yes-value, none-outside}
 use Rattle.meaning_filter.specs.declared.Pick.{Pick}
@@ -33,7 +33,7 @@ unfolding leading
 map-clamp [] h = refl
 map-clamp (x ∷ vs) h = on-flag (value_in x) (λ e. rw (clamp-in x e, (map-clamp vs (omega (arith, (rw e at h)))))) (λ e. absurd (omega (arith, (rw e at h))))
 
-out_none : (v : Values) → first_out v ≡ none → v.count ≤ v.inside
+out_none : (v : Values) → first_out v ≡ None → v.count ≤ v.inside
 out_none v e = by-test (ltb v.inside v.count) (λ t. let z : ◌≡◌ {A = ℕ} 0 1 = cc in absurd (omega arith)) (λ f. ltb-false v.inside v.count f)
 
 module _ {base vs : List ℤ} {v : Values} {buf : List ℤ} (k : Kept base vs v buf) where
@@ -41,7 +41,7 @@ module _ {base vs : List ℤ} {v : Values} {buf : List ℤ} (k : Kept base vs v 
   out-is = rw (k.inside, k.count) (sym (leading-outside vs))
 
   -- where none is outside and there was room for all
-  all-kept : first_out v ≡ none → v.count ≤ length base → take v.count buf ≡ vs
+  all-kept : first_out v ≡ None → v.count ≤ length base → take v.count buf ≡ vs
   unfolding stored
   all-kept e l =
       let c = map-clamp vs (omega (arith, out_none v e, k.count, k.inside)) in
@@ -98,7 +98,7 @@ holds_of : (kept asked : List ℤ) (numbers series query : List ℤ) (p : Progre
 holds_of kept asked numbers series query p (going y n) s = (y.said, s.2)
 holds_of kept asked numbers series query p (failed n) s = absurd s
 
-not_done : (s : State) → is_done s ≡ false → (g : Said) → accept_state program_value s g ≡ none
+not_done : (s : State) → is_done s ≡ false → (g : Said) → accept_state program_value s g ≡ None
 not_done (State.In w k) e g = refl
 not_done (State.At p n) e g = refl
 not_done (State.Before t) e g = refl
@@ -110,15 +110,15 @@ is-done (State.At p n) e = let z : ◌≡◌ {A = ℕ} 0 1 = cc in absurd (omega
 is-done (State.Before t) e = let z : ◌≡◌ {A = ℕ} 0 1 = cc in absurd (omega arith)
 is-done State.Done e = refl
 
-unread : (t : List ℕ) (m : ℕ) → read_text program_form t ≡ unfit m → (unreadable program_form 0 t).place ≡ some (line_of t m)
+unread : (t : List ℕ) (m : ℕ) → read_text program_form t ≡ unfit m → (unreadable program_form 0 t).place ≡ Some (line_of t m)
 unfolding unreadable bad_line
-unread t m e = rw (e, bad_line) (ap some (omega arith))
+unread t m e = rw (e, bad_line) (ap Some (omega arith))
 
 text-said : (t : List ℕ) (g : Said) → read_text program_form t ≡ fine (program_value g) → text_program t ≡ program_said (program_value g)
 unfolding text_program
 text-said t g e = rw (e, text_program)
 
-read-fine : (t : List ℕ) (g : Said) → read_text program_form t ≡ fine (program_value g) → (unreadable program_form 0 t).place ≡ none
+read-fine : (t : List ℕ) (g : Said) → read_text program_form t ≡ fine (program_value g) → (unreadable program_form 0 t).place ≡ None
 unfolding unreadable bad_line
 read-fine t g e = rw (e, bad_line)
 
@@ -150,14 +150,14 @@ module _ (kept asked : List ℤ) (t : List ℕ) (r : Input) (numbers series quer
       bad m line e l = (λ i. record { number = 12; place = l i }) ∙ sym (place_is (unreadable program_form 0 t) (call_lines (text_program t)) (unread t m e)) ∙ ap refusal_of (sym (table_is t))
 
       by : (x : Input) → Stands kept asked t x numbers series query → refusal_of (end_table x numbers query) ≡ refusal_of (program_table t)
-      by (Input.Failed line) (m, (h, l)) = place_is (record { number = 12; place = some line }) [] refl ∙ bad m line (program-failed kept asked t numbers series query m h) l
+      by (Input.Failed line) (m, (h, l)) = place_is (record { number = 12; place = Some line }) [] refl ∙ bad m line (program-failed kept asked t numbers series query m h) l
       by (Input.Going p line) (h, l) =
           by-test (is_done p.state)
           (λ d. let w = program-done kept asked t numbers series query p (is-done p.state d) h in
-          rw d (place_none (record { number = 12; place = none }) (call_table p.series p.query (numbers_at numbers) query) refl)
+          rw d (place_none (record { number = 12; place = None }) (call_table p.series p.query (numbers_at numbers) query) refl)
           ∙ call-is w.2 room
           ∙ rw (table_is t, text-said t w.0 w.1) (sym (place_none (unreadable program_form 0 t) (call_lines (program_said (program_value w.0))) (read-fine t w.0 w.1))))
-          (λ d. rw d (place_is (record { number = 12; place = some line }) (call_table p.series p.query (numbers_at numbers) query) refl)
+          (λ d. rw d (place_is (record { number = 12; place = Some line }) (call_table p.series p.query (numbers_at numbers) query) refl)
           ∙ bad p.at line (text-short program_form program_value program_start program-comes kept asked t numbers series query p (not_done p.state d) h) (l ∙ ap (line_of t) (sym (going-is kept asked t numbers series query p h))))
 
 -- ---- what is asked

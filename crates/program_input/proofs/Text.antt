@@ -1,5 +1,5 @@
 -- What the table over what was kept says of the text.
-use Rattle.meaning_numbers.proofs.Prelude.{◌≡◌, refl, sym, ap, ◌∙◌, true, false, not, none, List, [], ℕ, ◌+◌, ◌<◌, ◌≤◌, ◌^◌, T, arith, ℤ, pos, negsuc, w64, to_z, length, lt_z, le_z, lt_z-true, lt_z-false, z-cast, up, dn, by-test}
+use Rattle.meaning_numbers.proofs.Prelude.{◌≡◌, refl, sym, ap, ◌∙◌, true, false, not, None, List, [], ℕ, ◌+◌, ◌<◌, ◌≤◌, ◌^◌, T, arith, ℤ, pos, negsuc, w64, to_z, length, lt_z, le_z, lt_z-true, lt_z-false, z-cast, up, dn, by-test}
 use Rattle.meaning_curves.specs.Limits.{most_program_values}
 use Rattle.meaning_entries.specs.Refusal.{Condition}
 use Rattle.meaning_entries.proofs.Refusal.{AllPass, open_lines, passed-line, passed-behind, lacks}
@@ -38,11 +38,11 @@ pub series-few : (v q : Values) → AllPass (values_table v q) → v.count ≤ 4
 unfolding open_lines values_table
 series-few v q h = (long-line most_program_values v.count (passed-line h 1)).most
 
-pub series-in : (v q : Values) → AllPass (values_table v q) → first_out v ≡ none
+pub series-in : (v q : Values) → AllPass (values_table v q) → first_out v ≡ None
 unfolding open_lines values_table
 series-in v q h = passed-line h 2
 
-pub query-in : (v q : Values) → AllPass (values_table v q) → first_out q ≡ none
+pub query-in : (v q : Values) → AllPass (values_table v q) → first_out q ≡ None
 unfolding open_lines values_table
 query-in v q h = passed-line (passed-behind h 2) 2
 

@@ -1,7 +1,8 @@
 -- The program's refusals in order, over what was kept of its lines: counts of values, how many stand before the first outside, the single numbers, the kept query.
 use Rattle.std.specs.Prelude.{ℕ, ◌<◌, ◌≤◌, ◌^◌, ltb, ℤ, pos, nat_abs, length, get_or, take, ◌≤ℤ◌, Bool, true, false, cond, List, [], ◌∷◌, ◌++◌, ◌≡◌}
 use Rattle.std.specs.Int.Signed.{lt_z}
-use Rattle.std.proofs.Math.Option.{Option, none, some}
+use Rattle.std.specs.declared.option.Option.{Option}
+use Rattle.std.specs.Prelude.{None, Some}
 use Rattle.meaning_curves.specs.Limits.{most_program_values}
 use Rattle.meaning_curves.proofs.Values.{AllIn}
 use Rattle.meaning_filter.specs.{declared.Kind.Kind, declared.Pick.Pick}
@@ -34,7 +35,7 @@ asks_of x = record { kind = kind_of x.raw; band = x.band; threshold = x.threshol
 
 -- the place of the first value outside its limits
 abbrev pub first_out : Values → Option ℕ
-first_out v = cond (ltb v.inside v.count) (some v.inside) none
+first_out v = cond (ltb v.inside v.count) (Some v.inside) None
 
 -- 1 and 2
 unfoldable pub values_table : Values → Values → List Condition
@@ -57,8 +58,8 @@ is_done State.Done = true
 
 -- all, at the end of the input
 unfoldable pub end_table : Input → List ℤ → List ℤ → List Condition
-end_table (Input.Failed line) numbers query = at_place 12 (some line) ∷ []
-end_table (Input.Going p line) numbers query = at_place 12 (cond (is_done p.state) none (some line)) ∷ call_table p.series p.query (numbers_at numbers) query
+end_table (Input.Failed line) numbers query = at_place 12 (Some line) ∷ []
+end_table (Input.Going p line) numbers query = at_place 12 (cond (is_done p.state) None (Some line)) ∷ call_table p.series p.query (numbers_at numbers) query
 
 -- ---- what the code asks of what was kept
 
@@ -66,7 +67,7 @@ end_table (Input.Going p line) numbers query = at_place 12 (cond (is_done p.stat
 pub record Sound (q : Values) (query : List ℤ) : Type 0 where
   pub few : q.count < 2 ^ 63
   pub long : 1024 ≤ length query
-  pub inside : first_out q ≡ none → q.count ≤ 1024 → AllIn (take q.count query)
+  pub inside : first_out q ≡ None → q.count ≤ 1024 → AllIn (take q.count query)
 
 abbrev pub SoundEnd : Input → List ℤ → List ℤ → Type 0
 SoundEnd (Input.Failed line) numbers query = Unit {0}

@@ -1,5 +1,5 @@
 -- Laws of specs/Refusal.
-use Rattle.meaning_numbers.proofs.Prelude.{◌≡◌, refl, sym, ap, ◌∙◌, Bool, true, false, not, List, [], ◌∷◌, ◌++◌, Option, none, some, ℕ, ℤ, length}
+use Rattle.meaning_numbers.proofs.Prelude.{◌≡◌, refl, sym, ap, ◌∙◌, Bool, true, false, not, List, [], ◌∷◌, ◌++◌, Option, None, Some, ℕ, ℤ, length}
 use Rattle.meaning_curves.specs.Limits.{most_values, length_in, first_outside}
 use Rattle.meaning_entries.specs.Refusal.{Condition, first_refusal, at_zero, length_outside, value_outside, series_lines}
 use Rattle.meaning_entries.proofs.Refusal.{AllPass, is-first, first-is, first-left, first-right}
@@ -16,11 +16,11 @@ line-is n true l = refl
 line-is n false l = refl
 
 -- a line with a place of its own
-pub place_is : (c : Condition) (l : List Condition) {p : ℕ} → c.place ≡ some p → refusal_of (c ∷ l) ≡ record { number = c.number; place = p }
+pub place_is : (c : Condition) (l : List Condition) {p : ℕ} → c.place ≡ Some p → refusal_of (c ∷ l) ≡ record { number = c.number; place = p }
 unfolding as_refusal first_refusal
 place_is c l e = rw (e, first_refusal)
 
-pub place_none : (c : Condition) (l : List Condition) → c.place ≡ none → refusal_of (c ∷ l) ≡ refusal_of l
+pub place_none : (c : Condition) (l : List Condition) → c.place ≡ None → refusal_of (c ∷ l) ≡ refusal_of l
 unfolding first_refusal
 place_none c l e = rw (e, first_refusal)
 
@@ -29,8 +29,8 @@ unfolding refuse_at
 place-before {r} {r'} c l e f = by _ refl
   where
     by : (o : Option ℕ) → c.place ≡ o → r' ≡ refusal_of (c ∷ l)
-    by none h = f ∙ ap (λ o. refuse_at c.number o r) h ∙ e ∙ sym (place_none c l h)
-    by (some p) h = f ∙ ap (λ o. refuse_at c.number o r) h ∙ sym (place_is c l h)
+    by None h = f ∙ ap (λ o. refuse_at c.number o r) h ∙ e ∙ sym (place_none c l h)
+    by (Some p) h = f ∙ ap (λ o. refuse_at c.number o r) h ∙ sym (place_is c l h)
 
 -- a test before what a table says
 pub line_before : (n : ℕ) {r r' : Refusal} {b : Bool} (t : Bool) (l : List Condition) → r ≡ refusal_of l → b ≡ t → r' ≡ refuse_if b n r → r' ≡ refusal_of (at_zero n t ∷ l)

@@ -1,7 +1,8 @@
 -- What refuses a call, as code has it, by a table of conditions (`refusal_of`): a line of it, what it says (`passes`, `refuses`), and its parts.
 use Rattle.std.specs.Prelude.{ℕ, T, Bool, cond, List, ◌≡◌, refl}
 use Rattle.std.proofs.Common.{eq-eqb, sym, ap, ◌∙◌}
-use Rattle.std.proofs.Math.Option.{Option, none, some}
+use Rattle.std.specs.declared.option.Option.{Option}
+use Rattle.std.specs.Prelude.{None, Some}
 use Rattle.meaning_numbers.proofs.Tests.{clash}
 use Rattle.meaning_rows.specs.{Index.Index, Judge.first_bad_row}
 use Rattle.meaning_entries.specs.Refusal.{Condition, first_refusal, at_place, ill_formed}
@@ -14,8 +15,8 @@ abbrev pub unrefused : Refusal
 unrefused = record { number = 0; place = 0 }
 
 unfoldable pub as_refusal : Option (ℕ × ℕ) → Refusal
-as_refusal none = unrefused
-as_refusal (some r) = record { number = r.0; place = r.1 }
+as_refusal None = unrefused
+as_refusal (Some r) = record { number = r.0; place = r.1 }
 
 -- by the first line of a table that applies
 abbrev pub refusal_of : List Condition → Refusal
@@ -27,8 +28,8 @@ refuse_if t n r = cond t (record { number = n; place = 0 }) r
 
 -- by a line that has a place of its own, or else by what comes after it
 unfoldable pub refuse_at : ℕ → Option ℕ → Refusal → Refusal
-refuse_at n none r = r
-refuse_at n (some p) r = record { number = n; place = p }
+refuse_at n None r = r
+refuse_at n (Some p) r = record { number = n; place = p }
 
 -- 20, by what judging said
 abbrev pub judged_line : Judged → Condition
@@ -44,17 +45,17 @@ unfolding as_refusal
 passes {r} l t e z = by (first_refusal l) refl
   where
     by : (o : Option (ℕ × ℕ)) → first_refusal l ≡ o → AllPass l
-    by none h = is-passed l h
-    by (some x) h =
+    by None h = is-passed l h
+    by (Some x) h =
         clash (eq-eqb x.0 0 (sym (ap (λ (y : Option (ℕ × ℕ)). (as_refusal y).number) h) ∙ sym (ap (λ (y : Refusal). y.number) e) ∙ z)) (first-lacks 0 t (is-first l x.0 x.1 h))
 
 -- any other number is that of the first line that applies
-pub refuses : {r : Refusal} (l : List Condition) → r ≡ refusal_of l → (r.number ≡ 0 → ⊥) → first_refusal l ≡ some (r.number, r.place)
+pub refuses : {r : Refusal} (l : List Condition) → r ≡ refusal_of l → (r.number ≡ 0 → ⊥) → first_refusal l ≡ Some (r.number, r.place)
 unfolding as_refusal
 refuses {r} l e f = by (first_refusal l) refl
   where
-    by : (o : Option (ℕ × ℕ)) → first_refusal l ≡ o → first_refusal l ≡ some (r.number, r.place)
-    by none h = absurd (f (ap (λ (y : Refusal). y.number) e ∙ ap (λ (x : Option (ℕ × ℕ)). (as_refusal x).number) h))
-    by (some x) h =
+    by : (o : Option (ℕ × ℕ)) → first_refusal l ≡ o → first_refusal l ≡ Some (r.number, r.place)
+    by None h = absurd (f (ap (λ (y : Refusal). y.number) e ∙ ap (λ (x : Option (ℕ × ℕ)). (as_refusal x).number) h))
+    by (Some x) h =
         let g : r ≡ record { number = x.0; place = x.1 } = e ∙ ap as_refusal h in
-        h ∙ sym (ap (λ (y : Refusal). some (y.number, y.place)) g)
+        h ∙ sym (ap (λ (y : Refusal). Some (y.number, y.place)) g)

@@ -1,5 +1,5 @@
 -- Judging row after row ends in what the meanings say: `judged` has it for all rows of an index. `Judging` is the invariant of the loop over lent records, with how it starts, moves, stops and ends.
-use Rattle.meaning_numbers.proofs.Prelude.{◌≡◌, refl, sym, ◌∙◌, ap, Bool, true, false, cond, not, ◌&&◌, List, [], ◌∷◌, Option, some, ℕ, suc, zero-le, ◌+◌, ◌<◌, ◌≤◌, add-one, arith, ℤ, length, get_or, drop, drop_of_length-le, not-true, not-false, by-test, both}
+use Rattle.meaning_numbers.proofs.Prelude.{◌≡◌, refl, sym, ◌∙◌, ap, Bool, true, false, cond, not, ◌&&◌, List, [], ◌∷◌, Option, Some, ℕ, suc, zero-le, ◌+◌, ◌<◌, ◌≤◌, add-one, arith, ℤ, length, get_or, drop, drop_of_length-le, not-true, not-false, by-test, both}
 use Rattle.meaning_rows.specs.Judge.{head_good, run_lengths, range_good, part_good, row_good, bad_row_from, first_bad_row, length_total}
 use Rattle.meaning_rows.specs.{declared.Row.Row, declared.Head.Head, Index.Index, Index.lent, Index.runs_of}
 use Rattle.rows_records.specs.Records.{zero_row}
@@ -67,7 +67,7 @@ module _ (x : Index) where
   unfolding bad_row_from
   row_on k s r l e = rw e refl
 
-  row-off : (k : ℕ) (s : RowsJudged) (r : Row) (l : List Row) → tested s r ≡ false → bad_row_from x k s.least s.first s.taken (r ∷ l) ≡ some k
+  row-off : (k : ℕ) (s : RowsJudged) (r : Row) (l : List Row) → tested s r ≡ false → bad_row_from x k s.least s.first s.taken (r ∷ l) ≡ Some k
   unfolding bad_row_from
   row-off k s r l e = rw e refl
 

@@ -1,5 +1,5 @@
 -- Laws of specs/Feed.
-use Rattle.meaning_numbers.proofs.Prelude.{◌≡◌, refl, ◌∙◌, Bool, true, false, cond, List, some, ℕ, suc, ◌+◌, ◌<◌, ◌≤◌, arith, ℤ, length, get_or, drop, set, length-set}
+use Rattle.meaning_numbers.proofs.Prelude.{◌≡◌, refl, ◌∙◌, Bool, true, false, cond, List, Some, ℕ, suc, ◌+◌, ◌<◌, ◌≤◌, arith, ℤ, length, get_or, drop, set, length-set}
 use Rattle.meaning_text.proofs.Automaton.{going, failed, feed, feed-turn, feed-refuse, feed-end}
 use Rattle.numbers.specs.Narrow.{clamp}
 use Rattle.text_lines.specs.Follow.{Said, nothing_said, told, named, at, moved, step}
@@ -48,12 +48,12 @@ set_long false l k z = refl
 module _ {piece : List ℕ} {numbers₀ series₀ query₀ : List ℤ} {s₀ : State} {v₀ q₀ : Values} {start : ℕ} {numbers series query : List ℤ} {s : State} {v q : Values} {i : ℕ}
     (r : Sofar piece numbers₀ series₀ query₀ s₀ v₀ q₀ start numbers series query s v q i) (h : i < length piece) where
   -- what the automaton comes to, from what it has come to
-  turn : (g n : Said) (m : State) (k : Said) → moved (line_step s (get_or piece i 0)) n ≡ some (at m k) → feed step (going (at s₀ g) start) piece ≡ feed step (going (at s n) (start + i)) (drop i piece)
+  turn : (g n : Said) (m : State) (k : Said) → moved (line_step s (get_or piece i 0)) n ≡ Some (at m k) → feed step (going (at s₀ g) start) piece ≡ feed step (going (at s n) (start + i)) (drop i piece)
       → feed step (going (at s₀ g) start) piece ≡ feed step (going (at m k) (start + (i + 1))) (drop (i + 1) piece)
   unfolding step
   turn g n m k e f = let z : start + (i + 1) ≡ suc (start + i) = omega arith in f ∙ rw z (feed-turn step (at s n) (at m k) piece i (start + i) h e)
 
-  stay : (m : State) (n k : Said) → moved (line_step s (get_or piece i 0)) n ≡ some (at m k) → GoodState m
+  stay : (m : State) (n k : Said) → moved (line_step s (get_or piece i 0)) n ≡ Some (at m k) → GoodState m
   unfolding step
   stay m n k e = stays _ _ _ r.good e
 

@@ -1,6 +1,6 @@
 -- Laws of specs/Keep.
 use Rattle.meaning_numbers.specs.Place.{place_from}
-use Rattle.meaning_numbers.proofs.Prelude.{◌≡◌, refl, sym, ap, ◌∙◌, true, false, cond, not, List, [], ◌∷◌, ◌++◌, map, none, some, ℕ, suc, ◌+◌, arith, eqb, ltb, ℤ, length, set, length-append, length-map, sets, le_z, ◌<ℤ◌, ◌≤ℤ◌, clash_ℤ, eq-eqb, ne_eqb, eqb-true, eqb-false, ltb-true, ltb-false, lt-ltb, le-ltb, z-le, le_z-true, f-gt}
+use Rattle.meaning_numbers.proofs.Prelude.{◌≡◌, refl, sym, ap, ◌∙◌, true, false, cond, not, List, [], ◌∷◌, ◌++◌, map, None, Some, ℕ, suc, ◌+◌, arith, eqb, ltb, ℤ, length, set, length-append, length-map, sets, le_z, ◌<ℤ◌, ◌≤ℤ◌, clash_ℤ, eq-eqb, ne_eqb, eqb-true, eqb-false, ltb-true, ltb-false, lt-ltb, le-ltb, z-le, le_z-true, f-gt}
 use Rattle.meaning_curves.specs.Limits.{value_in, first_outside}
 use Rattle.meaning_text.proofs.{Reading.on-flag, Sets.sets-append}
 use Rattle.numbers.specs.Narrow.{clamp}
@@ -39,11 +39,11 @@ kept_more base vs v buf z k = record {
 }
 
 -- the place of the first value outside its limits
-pub leading-outside : (vs : List ℤ) → first_outside vs ≡ cond (ltb (leading vs) (length vs)) (some (leading vs)) none
+pub leading-outside : (vs : List ℤ) → first_outside vs ≡ cond (ltb (leading vs) (length vs)) (Some (leading vs)) None
 unfolding first_outside place_from leading
 leading-outside vs = let e : 0 + leading vs ≡ leading vs = omega arith in from vs 0 ∙ rw e
   where
-    from : (vs : List ℤ) (k : ℕ) → place_from k (λ x. not (value_in x)) vs ≡ cond (ltb (leading vs) (length vs)) (some (k + leading vs)) none
+    from : (vs : List ℤ) (k : ℕ) → place_from k (λ x. not (value_in x)) vs ≡ cond (ltb (leading vs) (length vs)) (Some (k + leading vs)) None
     from [] k = refl
     from (x ∷ vs) k =
         let e : k + suc (leading vs) ≡ suc k + leading vs = omega arith in

@@ -1,5 +1,5 @@
 -- Laws of specs/Whole.
-use Rattle.meaning_numbers.proofs.Prelude.{◌≡◌, refl, sym, ap, ◌∙◌, List, none, ℕ, ℤ}
+use Rattle.meaning_numbers.proofs.Prelude.{◌≡◌, refl, sym, ap, ◌∙◌, List, None, ℕ, ℤ}
 use Rattle.meaning_text.specs.{Form.Form, Form.Value, Read.fine, Read.unfit, Read.read_text, Texts.program_form}
 use Rattle.meaning_text.proofs.Automaton.{Fed, going, failed, feed, feed-failed, judged}
 use Rattle.text_lines.specs.declared.State.{State}
@@ -44,13 +44,13 @@ module _ (f : Form) (fin : Said → Value f) (start : Reading) (comes : (t : Lis
       → (g : Said) × (read_text f t ≡ fine (fin g)) × Holds kept asked g numbers p.series p.query series query
   text-done p e s = let d = done-by p (feed step _ t) e s in (d.0, comes t ∙ d.1, d.2)
 
-  short-by : (p : Progress) (x : Fed Reading) → ((g : Said) → accept_state fin p.state g ≡ none) → Shows kept asked (Feeding.Going p) x numbers series query → judged (accept fin) x ≡ unfit p.at
+  short-by : (p : Progress) (x : Fed Reading) → ((g : Said) → accept_state fin p.state g ≡ None) → Shows kept asked (Feeding.Going p) x numbers series query → judged (accept fin) x ≡ unfit p.at
   unfolding accept
   short-by p (going y n) e s = rw (← s.0, e _, s.1)
   short-by p (failed n) e s = absurd s
 
   -- the text was cut short
-  pub text-short : (p : Progress) → ((g : Said) → accept_state fin p.state g ≡ none) → Shows kept asked (Feeding.Going p) (feed step (going start 0) t) numbers series query → read_text f t ≡ unfit p.at
+  pub text-short : (p : Progress) → ((g : Said) → accept_state fin p.state g ≡ None) → Shows kept asked (Feeding.Going p) (feed step (going start 0) t) numbers series query → read_text f t ≡ unfit p.at
   text-short p e s = comes t ∙ short-by p (feed step _ t) e s
 
 -- the program's lines

@@ -1,5 +1,5 @@
 -- The automaton of the index text follows `index_form`: each state with what has been said so far has a reader for the rest of the text, and a byte takes it to the next. So the bytes of a text come to what `read_text` says.
-use Rattle.meaning_numbers.proofs.Prelude.{ℕ, suc, ◌+◌, ◌<◌, ltb-true, ltb-false, eqb, ℤ, pos, length, drop, Bool, true, false, cond, List, [], ◌∷◌, ◌++◌, append_assoc, append-nil, Option, none, some, ◌≡◌, refl, ◌∙◌, arith}
+use Rattle.meaning_numbers.proofs.Prelude.{ℕ, suc, ◌+◌, ◌<◌, ltb-true, ltb-false, eqb, ℤ, pos, length, drop, Bool, true, false, cond, List, [], ◌∷◌, ◌++◌, append_assoc, append-nil, Option, None, Some, ◌≡◌, refl, ◌∙◌, arith}
 use Rattle.meaning_text.specs.{Bytes.bytes, Number.got, Number.bad, Form.Value, Form.many, Form.read, Read.read_text, Texts.index_form, Texts.row_form, Texts.run_form}
 use Rattle.meaning_text.proofs.Automaton.{going, feed, bad-here, over, at_rest, Follows, judged, form-comes}
 use Rattle.meaning_text.proofs.Onward.{Rest, word_then, read_then, read-alone, lead-then, trail-then, both-then, many-then, many-ends, word_over, word_next, word-off, word-short}
@@ -53,19 +53,19 @@ abbrev pub at : State → Said → Reading
 at s g = record { state = s; said = g }
 
 abbrev pub moved : Moved → Said → Option Reading
-moved (Moved.To s) g = some (at s g)
-moved (Moved.Value s p z) g = some (at s (told p z g))
-moved (Moved.Closed s) g = some (at s (closed g))
-moved Moved.Refuse g = none
+moved (Moved.To s) g = Some (at s g)
+moved (Moved.Value s p z) g = Some (at s (told p z g))
+moved (Moved.Closed s) g = Some (at s (closed g))
+moved Moved.Refuse g = None
 
 unfoldable pub step : Reading → ℕ → Option Reading
 step x b = moved (index_step x.state b) x.said
 
 abbrev pub accept_state : State → Said → Option (Value index_form)
-accept_state (State.In w k) g = none
-accept_state (State.At p n) g = none
-accept_state (State.Before t) g = none
-accept_state State.Done g = some (value g)
+accept_state (State.In w k) g = None
+accept_state (State.At p n) g = None
+accept_state (State.Before t) g = None
+accept_state State.Done g = Some (value g)
 
 unfoldable pub accept : Reading → Option (Value index_form)
 accept x = accept_state x.state x.said
@@ -202,10 +202,10 @@ not_first w = by (closing w)
 
 -- where a byte leads
 abbrev pub turned : Reached → Said → Option Reading
-turned (Reached.There s) g = some (at s g)
-turned Reached.Not g = none
+turned (Reached.There s) g = Some (at s g)
+turned Reached.Not g = None
 
-pub led-moved : (x : Reached) (f : State → Moved) (g h : Said) → ((s : State) → moved (f s) g ≡ some (at s h)) → moved (led x f) g ≡ turned x h
+pub led-moved : (x : Reached) (f : State → Moved) (g h : Said) → ((s : State) → moved (f s) g ≡ Some (at s h)) → moved (led x f) g ≡ turned x h
 led-moved (Reached.There s) f g h e = e s
 led-moved Reached.Not f g h e = refl
 
@@ -289,10 +289,10 @@ after_turn Field.Right g = refl
 
 -- ---- every state
 
-pub some_same : {x y : Reading} → some x ≡ some y → x ≡ y
+pub some_same : {x y : Reading} → Some x ≡ Some y → x ≡ y
 some_same e = cc
 
-pub none-some : {A : Type 0} {x : Reading} → none ≡ some x → A
+pub none-some : {A : Type 0} {x : Reading} → None ≡ Some x → A
 none-some e = let z : ◌≡◌ {A = ℕ} 0 1 = cc in absurd (omega arith)
 
 -- behind a number or between two words
@@ -338,7 +338,7 @@ begins t = read-alone index_form t ∙ rw index-then
 pub index-good : Good start
 index-good = word-long Word.Window
 
-pub stays : (x : Reading) (b : ℕ) (n : Reading) → Good x → step x b ≡ some n → Good n
+pub stays : (x : Reading) (b : ℕ) (n : Reading) → Good x → step x b ≡ Some n → Good n
 stays = follows-index.stays-good
 
 -- feeding a text, whatever its pieces, comes to what the form says of it

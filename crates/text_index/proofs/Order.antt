@@ -1,5 +1,5 @@
 -- Where a text stands tells what has not been said yet: no row and no run before the head's end, and no run between two rows.
-use Rattle.meaning_numbers.proofs.Prelude.{ℕ, suc, ◌+◌, ◌<◌, ltb-true, ltb-false, eqb, ℤ, length, get_or, cond, [], Option, none, some, ◌≡◌, refl, arith}
+use Rattle.meaning_numbers.proofs.Prelude.{ℕ, suc, ◌+◌, ◌<◌, ltb-true, ltb-false, eqb, ℤ, length, get_or, cond, [], Option, None, Some, ◌≡◌, refl, arith}
 use Rattle.meaning_text.specs.Bytes.{bytes}
 use Rattle.meaning_text.proofs.Reading.{on-flag}
 use Rattle.text_numbers.specs.Number.{num_step, whole}
@@ -71,8 +71,8 @@ order-behind Word.RowEnd k g h o = let e : k ≡ 1 = omega arith in rw e refl
 order-behind Word.End k g h o = o
 
 abbrev Kept : Option Reading → Type 0
-Kept (some n) = Order (state_part n.state) n.said
-Kept none = Unit {0}
+Kept (Some n) = Order (state_part n.state) n.said
+Kept None = Unit {0}
 
 word-order : (w : Word) (k b : ℕ) → k < length (word w) → (g : Said) → Order (word_part w) g → Kept (turned (reach w k b) (cond (closes w k) (closed g) g))
 unfolding reach
@@ -117,7 +117,7 @@ order-by (State.Before t) g b h o = rw (led-moved _ _ g g (λ s. refl)) (turn-or
 order-by State.Done g b h o = tt
 
 -- a byte keeps the order
-pub order-step : (x : Reading) (b : ℕ) (n : Reading) → GoodState x.state → Order (state_part x.state) x.said → step x b ≡ some n → Order (state_part n.state) n.said
+pub order-step : (x : Reading) (b : ℕ) (n : Reading) → GoodState x.state → Order (state_part x.state) x.said → step x b ≡ Some n → Order (state_part n.state) n.said
 unfolding step
 order-step x b n h o e = rw e at (order-by x.state x.said b h o)
 

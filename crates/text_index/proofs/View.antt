@@ -1,5 +1,5 @@
 -- Laws of specs/View.
-use Rattle.meaning_numbers.proofs.Prelude.{ℕ, suc, ◌+◌, ◌<◌, ◌≤◌, ℤ, length, get_or, drop, List, [], ◌∷◌, Option, none, some, ◌≡◌, refl, ap, ◌∙◌, arith}
+use Rattle.meaning_numbers.proofs.Prelude.{ℕ, suc, ◌+◌, ◌<◌, ◌≤◌, ℤ, length, get_or, drop, List, [], ◌∷◌, Option, None, Some, ◌≡◌, refl, ap, ◌∙◌, arith}
 use Rattle.meaning_text.specs.{Form.Value, Read.Verdict, Read.fine, Read.unfit, Read.read_text, Texts.index_form}
 use Rattle.meaning_text.proofs.Automaton.{Fed, going, failed, feed, feed-failed, feed-turn, feed-refuse, feed-end, on-option, at_end, judged, verdict_of}
 use Rattle.text_index.specs.{declared.Field.Field, declared.State.State, declared.Moved.Moved, Step.index_step, Step.GoodState, View.kept_at}
@@ -33,10 +33,10 @@ fed-ordered (b ∷ l) x p h o =
 
 module _ {T : Type 0} (tell : Field → ℤ → T → T) (shut : T → T) where
   abbrev pub moved_to : Moved → T → Option (Seen T)
-  moved_to (Moved.To s) t = some (seen s t)
-  moved_to (Moved.Value s p z) t = some (seen s (tell p z t))
-  moved_to (Moved.Closed s) t = some (seen s (shut t))
-  moved_to Moved.Refuse t = none
+  moved_to (Moved.To s) t = Some (seen s t)
+  moved_to (Moved.Value s p z) t = Some (seen s (tell p z t))
+  moved_to (Moved.Closed s) t = Some (seen s (shut t))
+  moved_to Moved.Refuse t = None
 
   unfoldable pub keep : Seen T → ℕ → Option (Seen T)
   keep x b = moved_to (index_step x.state b) x.kept
@@ -46,8 +46,8 @@ module _ {T : Type 0} (tell : Field → ℤ → T → T) (shut : T → T) where
     seen_of x = seen x.state (view x.said)
 
     abbrev seen_maybe : Option Reading → Option (Seen T)
-    seen_maybe (some x) = some (seen_of x)
-    seen_maybe none = none
+    seen_maybe (Some x) = Some (seen_of x)
+    seen_maybe None = None
 
     abbrev seen_fed : Fed Reading → Fed (Seen T)
     seen_fed (going x p) = going (seen_of x) p
@@ -117,7 +117,7 @@ module _ {T : Type 0} (tell : Field → ℤ → T → T) (shut : T → T) (t₀ 
   kept-start = record { good = index-good; inside = omega arith; same = refl }
 
   module _ (s : State) (t : T) (i : ℕ) (r : Kept s t i) (h : i < length text) where
-    kept_on : (m : Moved) (n : State) (u : T) → index_step s (get_or text i 0) ≡ m → GoodState n → moved_to tell shut m t ≡ some (seen n u) → Kept n u (i + 1)
+    kept_on : (m : Moved) (n : State) (u : T) → index_step s (get_or text i 0) ≡ m → GoodState n → moved_to tell shut m t ≡ Some (seen n u) → Kept n u (i + 1)
     unfolding keep
     kept_on m n u e g k =
         let q : suc i ≡ i + 1 = omega arith in

@@ -1,6 +1,6 @@
 -- The tally has the first bad row: numbers that the code's types do not hold become numbers outside every limit, so that a head, a run, a range and a row are judged as the meanings judge them (`text-bad`), and where the rows are good their counts are the text's (`rows-counted`).
 use Rattle.meaning_numbers.specs.{Order.within, Quotient.multiple}
-use Rattle.meaning_numbers.proofs.Prelude.{◌≡◌, refl, sym, ap, ◌∙◌, subst, Bool, true, false, cond, ◌&&◌, false≢true, List, [], ◌∷◌, map, none, some, ℕ, suc, ◌+◌, ◌-◌, ◌<◌, ◌≤◌, arith, leb, ltb, ℤ, pos, negsuc, ◌+ℤ◌, nat_abs, length, length-append, length-map, le_z, lt_z, ◌≤ℤ◌, leb-true, le-leb, ltb-true, ltb-false, lt-ltb, le-ltb, eq-eqb, zmach, le-lt_z}
+use Rattle.meaning_numbers.proofs.Prelude.{◌≡◌, refl, sym, ap, ◌∙◌, subst, Bool, true, false, cond, ◌&&◌, false≢true, List, [], ◌∷◌, map, None, Some, ℕ, suc, ◌+◌, ◌-◌, ◌<◌, ◌≤◌, arith, leb, ltb, ℤ, pos, negsuc, ◌+ℤ◌, nat_abs, length, length-append, length-map, le_z, lt_z, ◌≤ℤ◌, leb-true, le-leb, ltb-true, ltb-false, lt-ltb, le-ltb, eq-eqb, zmach, le-lt_z}
 use Rattle.meaning_curves.specs.Limits.{end_in, lowest_end}
 use Rattle.meaning_rows.specs.Index.{Index, Entry, RangeRow, lent, runs_of, records, all_runs}
 use Rattle.meaning_rows.specs.Judge.{head_good, runs_good, run_lengths, range_good, part_good, row_good, bad_row_from, first_bad_row}
@@ -255,7 +255,7 @@ module _ (h : Head) (x : Index) (width : nat_abs x.width ≡ h.width) (windows :
   unfolding bad_row_from
   bad-on k least first taken r l e = rw e refl
 
-  bad-off : (k : ℕ) (least : ℤ) (first taken : ℕ) (r : Row) (l : List Row) → row_good x least first taken r ≡ false → bad_row_from x k least first taken (r ∷ l) ≡ some k
+  bad-off : (k : ℕ) (least : ℤ) (first taken : ℕ) (r : Row) (l : List Row) → row_good x least first taken r ≡ false → bad_row_from x k least first taken (r ∷ l) ≡ Some k
   unfolding bad_row_from
   bad-off k least first taken r l e = rw e refl
 
@@ -282,7 +282,7 @@ module _ (h : Head) (x : Index) (width : nat_abs x.width ≡ h.width) (windows :
 
   -- the first bad row after rows that are good
   found : (l : List (Value row_form)) (c : Rows) → c.good ≡ true → Lays x.runs c.runs (map row_said l)
-      → bad_row_from x c.rows c.least c.runs c.taken (records c.runs (map row_said l)) ≡ cond (rows_from h c l).good none (some (rows_from h c l).rows)
+      → bad_row_from x c.rows c.least c.runs c.taken (records c.runs (map row_said l)) ≡ cond (rows_from h c l).good None (Some (rows_from h c l).rows)
   unfolding records rows_from Lays bad_row_from
   found [] c g o = rw g refl
   found (r ∷ l) c g o =
@@ -369,7 +369,7 @@ module _ (v : Value index_form) where
   rows_are = refl
 
   -- 01, 20: the first bad row; 0 for the head
-  pub text-bad : first_bad_row X ≡ cond (head_good (lent h [] [] [])) (cond c.good none (some c.rows)) (some 0)
+  pub text-bad : first_bad_row X ≡ cond (head_good (lent h [] [] [])) (cond c.good None (Some c.rows)) (Some 0)
   unfolding first_bad_row
   text-bad =
       rw head-same
@@ -382,10 +382,10 @@ module _ (v : Value index_form) where
   unfolding judged_rows bad_row
   rows-judged = on-flag (head_good (lent h [] [] [])) (λ e. on-flag c.good (λ g. rw (e, g) (sym (text-bad ∙ rw (e, g) refl))) (λ g. rw (e, g) (sym (text-bad ∙ rw (e, g) refl)))) (λ e. rw e (sym (text-bad ∙ rw e refl)))
 
-  pub rows-good : first_bad_row X ≡ none → (head_good (lent h [] [] []) ≡ true) × (c.good ≡ true)
+  pub rows-good : first_bad_row X ≡ None → (head_good (lent h [] [] []) ≡ true) × (c.good ≡ true)
   rows-good n = on-flag (head_good (lent h [] [] []))
-      (λ e. on-flag c.good (λ g. (e, g)) (λ g. let q : some c.rows ≡ none = sym (text-bad ∙ rw (e, g) refl) ∙ n in let z : ◌≡◌ {A = ℕ} 0 1 = cc in absurd (omega arith)))
-      (λ e. let q : some 0 ≡ none = sym (text-bad ∙ rw e refl) ∙ n in let z : ◌≡◌ {A = ℕ} 0 1 = cc in absurd (omega arith))
+      (λ e. on-flag c.good (λ g. (e, g)) (λ g. let q : Some c.rows ≡ None = sym (text-bad ∙ rw (e, g) refl) ∙ n in let z : ◌≡◌ {A = ℕ} 0 1 = cc in absurd (omega arith)))
+      (λ e. let q : Some 0 ≡ None = sym (text-bad ∙ rw e refl) ∙ n in let z : ◌≡◌ {A = ℕ} 0 1 = cc in absurd (omega arith))
 
   -- where the rows are good they are all counted, and their runs
   pub rows-counted : head_good (lent h [] [] []) ≡ true → c.good ≡ true → (c.rows ≡ length X.rows) × (c.runs ≡ length X.runs)

@@ -1,5 +1,5 @@
 -- The automaton of the lines follows `series_form` and `program_form`, each from its own start: each state with what has been said so far has a reader for the rest of the text, and a byte takes it to the next. So the bytes of a text come to what `read_text` says.
-use Rattle.meaning_numbers.proofs.Prelude.{ℕ, suc, ◌+◌, ◌<◌, ltb-true, ltb-false, ltb, eqb, ℤ, length, drop, Bool, true, false, cond, List, [], ◌∷◌, append_assoc, append-nil, Option, none, some, ◌≡◌, refl, ◌∙◌, arith}
+use Rattle.meaning_numbers.proofs.Prelude.{ℕ, suc, ◌+◌, ◌<◌, ltb-true, ltb-false, ltb, eqb, ℤ, length, drop, Bool, true, false, cond, List, [], ◌∷◌, append_assoc, append-nil, Option, None, Some, ◌≡◌, refl, ◌∙◌, arith}
 use Rattle.meaning_text.specs.{Bytes.bytes, Number.got, Number.bad, Form.number, Form.one_of, Form.lead, Form.read, Read.read_text, Texts.values_form, Texts.series_form, Texts.program_form}
 use Rattle.meaning_text.proofs.Automaton.{going, feed, bad-here, over, at_rest, Follows, judged, form-comes}
 use Rattle.meaning_text.proofs.Onward.{Rest, word_then, read_then, word-both, read-alone, lead-then, trail-then, both-then, one_then, one-ends, many-then, many-ends, word_over, word_next, word-off, word-short}
@@ -20,10 +20,10 @@ Good x = GoodState x.state
 
 module _ {A : Type 0} (fin : Said → A) where
   abbrev pub accept_state : State → Said → Option A
-  accept_state (State.In w k) g = none
-  accept_state (State.At p n) g = none
-  accept_state (State.Before t) g = none
-  accept_state State.Done g = some (fin g)
+  accept_state (State.In w k) g = None
+  accept_state (State.At p n) g = None
+  accept_state (State.Before t) g = None
+  accept_state State.Done g = Some (fin g)
 
   unfoldable pub accept : Reading → Option A
   accept x = accept_state x.state x.said
@@ -115,10 +115,10 @@ module _ {A : Type 0} (fin : Said → A) where
 
 -- where a byte leads
 abbrev turned : Reached → Said → Option Reading
-turned (Reached.There s) g = some (at s g)
-turned Reached.Not g = none
+turned (Reached.There s) g = Some (at s g)
+turned Reached.Not g = None
 
-led-moved : (x : Reached) (f : State → Moved) (g h : Said) → ((s : State) → moved (f s) g ≡ some (at s h)) → moved (led x f) g ≡ turned x h
+led-moved : (x : Reached) (f : State → Moved) (g h : Said) → ((s : State) → moved (f s) g ≡ Some (at s h)) → moved (led x f) g ≡ turned x h
 led-moved (Reached.There s) f g h e = e s
 led-moved Reached.Not f g h e = refl
 
@@ -278,7 +278,7 @@ series-good = word-long Word.Line
 pub program-good : Good program_start
 program-good = word-long Word.Window
 
-pub stays : (x : Reading) (b : ℕ) (n : Reading) → Good x → step x b ≡ some n → Good n
+pub stays : (x : Reading) (b : ℕ) (n : Reading) → Good x → step x b ≡ Some n → Good n
 stays = (follows-lines (λ g. g)).stays-good
 
 series-then : read_then series_form (λ v u. got v u) ≡ word_then (word Word.Line) (behind_then series_value Word.Line nothing_said)

@@ -1,6 +1,7 @@
 -- The automaton of the lines follows `series_form` and `program_form`, each from its own start: each state with what has been said so far has a reader for the rest of the text, and a byte takes it to the next. So the bytes of a text come to what `read_text` says.
 use Rattle.std.specs.Prelude.{ℕ, ℤ, pos, Bool, true, false, List, [], ◌∷◌, ◌++◌}
-use Rattle.std.proofs.Math.Option.{Option, none, some}
+use Rattle.std.specs.declared.option.Option.{Option}
+use Rattle.std.specs.Prelude.{None, Some}
 use Rattle.meaning_text.specs.{Form.Value, Texts.series_form, Texts.program_form}
 use Rattle.text_lines.specs.{declared.Word.Word, declared.Field.Field, declared.State.State, declared.Moved.Moved, Step.line_step}
 
@@ -70,10 +71,10 @@ abbrev pub at : State → Said → Reading
 at s g = record { state = s; said = g }
 
 abbrev pub moved : Moved → Said → Option Reading
-moved (Moved.To s) g = some (at s g)
-moved (Moved.Value s p z) g = some (at s (told p z g))
-moved (Moved.Ended s w) g = some (at s (named w g))
-moved Moved.Refuse g = none
+moved (Moved.To s) g = Some (at s g)
+moved (Moved.Value s p z) g = Some (at s (told p z g))
+moved (Moved.Ended s w) g = Some (at s (named w g))
+moved Moved.Refuse g = None
 
 unfoldable pub step : Reading → ℕ → Option Reading
 step x b = moved (line_step x.state b) x.said

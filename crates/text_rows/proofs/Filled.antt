@@ -1,5 +1,5 @@
 -- The rows that a text is read to, line by line, are the row records of its index, and past them records of zeros (`row_at`, `rows-filled`), where the index is well formed. By what has been said after each line.
-use Rattle.meaning_numbers.proofs.Prelude.{ℕ, zero, suc, ◌+◌, ◌-◌, ◌<◌, ◌≤◌, min, ℤ, length, get_or, take, drop, replicate, length-replicate, length-append, length-map, length-take, length-drop, List·get_d-eq-default, drop-append_seam, drop-drop, get_or-set_same, get_or-set_other, ext_get_or, true, List, [], ◌∷◌, ◌++◌, map, append_assoc, append-nil, ◌⊎◌, inl, inr, some, ◌≡◌, refl, sym, ap, ◌∙◌, subst, dec_le, arith}
+use Rattle.meaning_numbers.proofs.Prelude.{ℕ, zero, suc, ◌+◌, ◌-◌, ◌<◌, ◌≤◌, min, ℤ, length, get_or, take, drop, replicate, length-replicate, length-append, length-map, length-take, length-drop, List·get_d-eq-default, drop-append_seam, drop-drop, get_or-set_same, get_or-set_other, ext_get_or, true, List, [], ◌∷◌, ◌++◌, map, append_assoc, append-nil, ◌⊎◌, inl, inr, Some, ◌≡◌, refl, sym, ap, ◌∙◌, subst, dec_le, arith}
 use Rattle.meaning_rows.specs.{declared.Head.Head, declared.Row.Row, Index.zero_row, Index.RangeRow, Index.lent, Index.records, Index.all_runs, Judge.head_good}
 use Rattle.meaning_rows.proofs.Laid.{length-records}
 use Rattle.meaning_text.specs.{Form.Value, Read.fine, Read.unfit, Read.read_text, Texts.index_form, Texts.row_form, Texts.row_said}
@@ -51,7 +51,7 @@ record Grows (g n : Said) : Type 0 where
 grows-as : {g : Said} {n m : Reading} → n ≡ m → Grows g n.said → Grows g m.said
 grows-as e h = rw (← e) h
 
-grows : (g : Said) (m : Moved) (n : Reading) → moved m g ≡ some n → Grows g n.said
+grows : (g : Said) (m : Moved) (n : Reading) → moved m g ≡ Some n → Grows g n.said
 grows g (Moved.To s) n e = grows-as (some_same e) (record { more = []; rows = sym (append-nil _) })
 grows g (Moved.Value s p z) n e = grows-as (some_same e) (record { more = []; rows = told-rows p z g ∙ sym (append-nil _) })
 grows g (Moved.Closed s) n e = grows-as (some_same e) (record { more = (g.low, (g.up, g.runs)) ∷ []; rows = refl })
@@ -85,7 +85,7 @@ told-head Field.Right z g o h = refl
 head_as : (g : Said) {n m : Reading} → n ≡ m → SameHead g n.said → SameHead g m.said
 head_as g e h = h ∙ rw e
 
-head-moved : (s : State) (b : ℕ) (g : Said) (m : Moved) (n : Reading) → index_step s b ≡ m → moved m g ≡ some n → Order (state_part s) g → (g.rows ≡ [] → ⊥) → SameHead g n.said
+head-moved : (s : State) (b : ℕ) (g : Said) (m : Moved) (n : Reading) → index_step s b ≡ m → moved m g ≡ Some n → Order (state_part s) g → (g.rows ≡ [] → ⊥) → SameHead g n.said
 head-moved s b g (Moved.To q) n i e o h = head_as g (some_same e) refl
 head-moved s b g (Moved.Value q p z) n i e o h = head_as g (some_same e) (told-head p z g (order_value s b q p z g i o) h)
 head-moved s b g (Moved.Closed q) n i e o h = head_as g (some_same e) refl
@@ -134,7 +134,7 @@ record LineIs (s : State) (g : Said) (i : ℕ) (l : List ℕ) (v : Value index_f
   row : Closes g said p.row ⊎ Ends g said v p.row
 
 -- one byte before a line
-line_before : (s n : State) (g h : Said) (i b : ℕ) (l : List ℕ) (v : Value index_form) (p : Line) → step (at s g) b ≡ some (at n h) → h.rows ≡ g.rows → LineIs n h (suc i) l v p → LineIs s g i (b ∷ l) v p
+line_before : (s n : State) (g h : Said) (i b : ℕ) (l : List ℕ) (v : Value index_form) (p : Line) → step (at s g) b ≡ Some (at n h) → h.rows ≡ g.rows → LineIs n h (suc i) l v p → LineIs s g i (b ∷ l) v p
 line_before s n g h i b l v p e q r = record {
   said = r.said;
   read = b ∷ r.read;
@@ -162,13 +162,13 @@ line-move l v on s g i b (Moved.To n) e h o j =
     (on n g (suc i) (stays (at s g) b (at n g) h q) (order-step (at s g) b (at n g) h o q) (ap (judged accept) (sym (feed-one step (at s g) (at n g) b l i q)) ∙ j)))
 line-move l v on s g i b (Moved.Value n p z) e h o j =
     let k = told p z g in
-    let q : step (at s g) b ≡ some (at n k) = ap (λ m. moved m g) e in
+    let q : step (at s g) b ≡ Some (at n k) = ap (λ m. moved m g) e in
     subst (LineIs s g i (b ∷ l) v) (ap (λ t. line_from n t (suc i) l) (tells p z g (order_value s b n p z g e o)) ∙ sym (line-byte s (tally_of g) i b l (Moved.Value n p z) e))
     (line_before s n g k i b l v (line_from n (tally_of k) (suc i) l) q (told-rows p z g)
     (on n k (suc i) (stays (at s g) b (at n k) h q) (order-step (at s g) b (at n k) h o q) (ap (judged accept) (sym (feed-one step (at s g) (at n k) b l i q)) ∙ j)))
 line-move l v on s g i b (Moved.Closed n) e h o j =
     let k = closed g in
-    let q : step (at s g) b ≡ some (at n k) = ap (λ m. moved m g) e in
+    let q : step (at s g) b ≡ Some (at n k) = ap (λ m. moved m g) e in
     subst (LineIs s g i (b ∷ l) v) (sym (line-byte s (tally_of g) i b l (Moved.Closed n) e))
     (record {
       said = k;

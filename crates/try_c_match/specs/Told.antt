@@ -1,6 +1,7 @@
 -- What the functions for C tell, and what they leave in lent buffers.
 use Rattle.std.specs.Prelude.{◌≡◌, ℕ, zero, suc, ◌+◌, ◌%◌, ◌^◌, ◌<◌, ◌≤◌, List, length, ℤ, pos}
-use Rattle.std.proofs.Math.Option.{Option, none, some}
+use Rattle.std.specs.declared.option.Option.{Option}
+use Rattle.std.specs.Prelude.{None, Some}
 use Rattle.meaning_curves.specs.{Limits.longest_window, Limits.greatest_scale, Curve.at, Curve.stretch, Curve.window_sum, Curve.spread}
 use Rattle.meaning_curves.proofs.Values.{AllIn}
 use Rattle.meaning_rows.specs.Range.{row_number}
@@ -12,8 +13,8 @@ use Rattle.try_c_distance.specs.{Fits.Fits, Outcome.Written, Outcome.Outcome, To
 
 -- a place, or n where there is none
 abbrev pub place_or : ℕ → Option ℕ → ℕ
-place_or n none = n
-place_or n (some p) = p
+place_or n None = n
+place_or n (Some p) = p
 
 -- a kind by its number
 abbrev pub kind_of : ℕ → Kind

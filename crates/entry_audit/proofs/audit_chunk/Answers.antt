@@ -1,5 +1,5 @@
 -- `audit_chunk`: each loop begins, goes on and ends with what is filed wrongly first among what is left to audit.
-use Rattle.meaning_numbers.proofs.Prelude.{not-true, not-false, ◌≡◌, sym, ap, ◌∙◌, Bool, true, false, List, none, ℕ, ◌+◌, ◌-◌, ◌≤◌, ℤ, arith, get_or, rules, w32, SFits, to_z, of_z, to_z-of_z}
+use Rattle.meaning_numbers.proofs.Prelude.{not-true, not-false, ◌≡◌, sym, ap, ◌∙◌, Bool, true, false, List, None, ℕ, ◌+◌, ◌-◌, ◌≤◌, ℤ, arith, get_or, rules, w32, SFits, to_z, of_z, to_z-of_z}
 use Rattle.meaning_curves.specs.Curve.{window_sum}
 use Rattle.meaning_rows.specs.Range.{inside}
 use Rattle.rows_records.specs.Records.{zero_row}
@@ -81,7 +81,7 @@ returns-after-rows c =
     let go = not-false _ c.if-not-s.false in
     let size = (c.requires go).size in
     still-found c.rows.go c.rows.row c.rows.offset c.rows.invariant.1
-    ∙ chunk-found a.series.now a.head a.left.now a.right.now a.s _ a.chunk go none
+    ∙ chunk-found a.series.now a.head a.left.now a.right.now a.s _ a.chunk go None
     (none_left a.series.now a.head.window a.left.now a.right.now _ a.chunk c.rows.k (omega (arith, size, c.rows-test.false)) ∙ c.rows.invariant.2)
 
 pub returns-then-not-holds : goal.returns-then-not-holds

@@ -1,5 +1,5 @@
 -- `refuse_value`, by the first value outside.
-use Rattle.meaning_numbers.proofs.Prelude.{◌≡◌, refl, sym, ap, ◌∙◌, Option, none, some, ℕ}
+use Rattle.meaning_numbers.proofs.Prelude.{◌≡◌, refl, sym, ap, ◌∙◌, Option, None, Some, ℕ}
 use Rattle.meaning_curves.specs.Limits.{first_outside}
 use Rattle.values.specs.declared.Place.TheVariants.{At, Nowhere}
 use Rattle.values.specs.{declared.Place.Place, Place.placed}
@@ -8,12 +8,12 @@ use Rattle.refusals.proofs.refuse_value.Goals as goal
 
 -- the place that code tells
 abbrev unplaced : Place → Option ℕ
-unplaced (At k) = some k
-unplaced Nowhere = none
+unplaced (At k) = Some k
+unplaced Nowhere = None
 
 told : (o : Option ℕ) → unplaced (placed o) ≡ o
-told none = refl
-told (some k) = refl
+told None = refl
+told (Some k) = refl
 
 pub returns-in-At : goal.returns-in-At
 unfolding refuse_at
