@@ -3,7 +3,7 @@ use Rattle.meaning_numbers.proofs.Prelude.{List, ℕ, ◌≤◌, T, ℤ, pos, le
 use Rattle.meaning_curves.specs.{Limits.most_values, Curve.window_count}
 use Rattle.meaning_curves.proofs.Values.{AllIn}
 use Rattle.meaning_entries.specs.Build.{lent_build, build_lines}
-use Rattle.meaning_entries.proofs.Refusal.{AllPass, open_lines, passed-line, passed-behind, lacks}
+use Rattle.meaning_entries.proofs.Refused.{AllPass, open_lines, passed-line, passed-behind, lacks}
 use Rattle.meaning_entries.proofs.Lines.{long-line, values-line, window-line, width-line, merge-line, room-line}
 
 -- numbers in their limits, and room

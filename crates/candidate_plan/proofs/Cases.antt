@@ -2,7 +2,7 @@
 use Rattle.meaning_numbers.proofs.Prelude.{List, ℕ, ◌≤◌, T, ℤ, length}
 use Rattle.meaning_curves.proofs.Values.{AllIn}
 use Rattle.meaning_filter.specs.declared.Ask.{Ask}
-use Rattle.meaning_entries.proofs.Refusal.{AllPass, open_lines, passed-line, passed-behind, lacks}
+use Rattle.meaning_entries.proofs.Refused.{AllPass, open_lines, passed-line, passed-behind, lacks}
 use Rattle.meaning_entries.proofs.Lines.{values-line, query-line}
 use Rattle.candidate_plan.specs.Tables.{values_table, numbers_table, input_table}
 

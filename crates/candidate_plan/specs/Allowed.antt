@@ -12,7 +12,7 @@ use Rattle.meaning_filter.specs.{declared.Kind.Kind, declared.Limits.Limits, dec
 use Rattle.meaning_entries.specs.Search.{SearchCall, SearchBuffers, lent_search, list_room, search_plan, search_answer, search_after}
 use Rattle.meaning_entries.specs.{declared.Found.Found, Refusal.first_refusal, Refusal.normal_flat, Refusal.more_windows, Buffers.pair_room}
 use Rattle.meaning_entries.proofs.Lines.{long-line, values-line, query-line, below-line, band-line, threshold-line, scale-line, flat_line, formed-line, room-line}
-use Rattle.meaning_entries.proofs.Refusal.{AllPass, passed_is, open_lines, passed-line, passed-behind, lacks}
+use Rattle.meaning_entries.proofs.Refused.{AllPass, passed_is, open_lines, passed-line, passed-behind, lacks}
 use Rattle.meaning_entries.proofs.Looked.{plan-refused}
 use Rattle.rows_judge.specs.Judged.{judged_of, bad-row}
 use Rattle.refusals.specs.{declared.Refusal.Refusal, Refusal.refusal_of, Refusal.judged-line, Refusal.passes, Refusal.refuses}

@@ -5,7 +5,7 @@ use Rattle.meaning_curves.proofs.Values.{AllIn}
 use Rattle.meaning_rows.specs.Audit.{first_wrong, missing}
 use Rattle.meaning_rows.proofs.Judge.{WellFormed}
 use Rattle.meaning_entries.specs.{declared.Audited.Audited, Refusal.first_refusal, Audit.AuditCall, Audit.audit_table, Audit.complete, Audit.audited, Audit.audit_answer}
-use Rattle.meaning_entries.proofs.{Refusal.AllPass, Refusal.passed_is, Refusal.open_lines, Refusal.passed-line, Refusal.lacks, Lines.values-line, Lines.formed-line, Lines.fewer-line, Lines.more-line, Passes.same-windows}
+use Rattle.meaning_entries.proofs.{Refused.AllPass, Refused.passed_is, Refused.open_lines, Refused.passed-line, Refused.lacks, Lines.values-line, Lines.formed-line, Lines.fewer-line, Lines.more-line, Passes.same-windows}
 use Rattle.refusals.specs.Refusal.{refusal_of, passes, refuses}
 use Rattle.entry_audit.specs.{declared.AuditPlan.AuditPlan, declared.RowsAudited.RowsAudited, Auditing.found, Plan.answer_of}
 

@@ -5,7 +5,7 @@ use Rattle.meaning_curves.specs.Curve.{window_sum, window_count}
 use Rattle.meaning_rows.specs.{declared.Row.Row, Index.Index, Build.SetRow, Build.with_runs, Build.built, Build.built_rows}
 use Rattle.meaning_rows.proofs.{Build.merged_rows, Build.holds_sum, Build.built-covers, Laid.length-records}
 use Rattle.meaning_entries.specs.{declared.Built.Built, Buffers.IndexBuffers, Buffers.filled, Buffers.run_room, Buffers.index_in, Build.lent_build, Build.build_table, Build.build_refusal, Build.build_index, Build.build_answer, Build.build_after, Demand2.BuildKept}
-use Rattle.meaning_entries.proofs.{Refusal.AllPass, Refusal.passed_is, Demand2.build-kept}
+use Rattle.meaning_entries.proofs.{Refused.AllPass, Refused.passed_is, Demand2.build-kept}
 use Rattle.rows_records.specs.Records.{zero_row}
 use Rattle.refusals.specs.Refusal.{refusal_of, passes, refuses}
 use Rattle.sums_slide.specs.Levels.{Lent, windows_of}

@@ -15,7 +15,7 @@ use Rattle.meaning_text.specs.{Form.Value, Read.fine, Read.unfit, Read.read_text
 use Rattle.meaning_text.proofs.Reading.{by-test}
 use Rattle.meaning_entries.specs.Buffers.{filled, IndexBuffers, run_room, lefts, rights, index_in}
 use Rattle.meaning_entries.specs.{declared.Loaded.Loaded, Refusal.first_refusal, Refusal.bad_line, Refusal.unreadable, Refusal.room_lines, Answers.head_of, Load.text_index, Load.load_table, Load.load_refusal, Load.load_answer, Load.load_after, Demand2.LoadKept}
-use Rattle.meaning_entries.proofs.Refusal.{AllPass, passed_is, open_lines, passed-line, passed-behind, lacks, same-behind}
+use Rattle.meaning_entries.proofs.Refused.{AllPass, passed_is, open_lines, passed-line, passed-behind, lacks, same-behind}
 use Rattle.meaning_entries.proofs.{Lines.room-line, Demand2.load_kept, Again.text-fine}
 use Rattle.refusals.specs.declared.Refusal.{Refusal}
 use Rattle.refusals.specs.Refusal.{refusal_of, as_refusal, judged_line, judged-line, passes, refuses}

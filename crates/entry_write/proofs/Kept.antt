@@ -3,7 +3,7 @@ use Rattle.meaning_numbers.proofs.Prelude.{◌≡◌, refl, sym, ap, ◌∙◌, 
 use Rattle.meaning_rows.specs.Index.{Index}
 use Rattle.meaning_text.specs.Texts.{index_text}
 use Rattle.meaning_entries.specs.{declared.Written.Written, Refusal.buffer_short, Buffers.filled, Write.write_table, Write.write_refusal, Write.write_answer, Write.write_after, Demand2.WriteKept}
-use Rattle.meaning_entries.proofs.{Refusal.passed_is, Refusal.open_lines, Refusal.passed-line, Refusal.lacks, Lines.room-line, Demand2.write_kept}
+use Rattle.meaning_entries.proofs.{Refused.passed_is, Refused.open_lines, Refused.passed-line, Refused.lacks, Lines.room-line, Demand2.write_kept}
 use Rattle.clear.specs.Clear.{cleared_from}
 use Rattle.rows_judge.specs.{declared.Judged.Judged, Judged.judged_of, Judged.bad-row}
 use Rattle.refusals.specs.Refusal.{refusal_of, judged-line, passes, refuses}

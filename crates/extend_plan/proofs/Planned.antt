@@ -9,7 +9,7 @@ use mathlib.Core.Path.{◌≡◌, refl}
 use Rattle.meaning_rows.specs.{declared.Row.Row, declared.Head.Head, Index.Index, Index.lent}
 use Rattle.meaning_rows.proofs.{Judge.WellFormed, Extend.Extendable}
 use Rattle.meaning_entries.specs.{Refusal.more_windows, Buffers.IndexBuffers, Buffers.run_room, Extend.ExtendCall, Extend.lent_extend, Extend.extend_windows, Extend.extend_table, Extend.extend_refusal}
-use Rattle.meaning_entries.proofs.Refusal.{AllPass, passed_is, open_lines, passed-line, passed-behind, lacks}
+use Rattle.meaning_entries.proofs.Refused.{AllPass, passed_is, open_lines, passed-line, passed-behind, lacks}
 use Rattle.meaning_entries.proofs.{Lines.room-line, Made.extend-formed, Made.extendable}
 use Rattle.rows_judge.specs.Judged.{judged_of, bad-row}
 use Rattle.refusals.specs.{declared.Refusal.Refusal, Refusal.refusal_of, Refusal.judged-line, Refusal.passes, Refusal.refuses}

@@ -2,7 +2,7 @@
 use Rattle.meaning_numbers.proofs.Prelude.{◌≡◌, refl, sym, subst, None, length}
 use Rattle.meaning_rows.specs.Index.{Index}
 use Rattle.meaning_filter.specs.declared.Pick.{Pick}
-use Rattle.meaning_entries.specs.{declared.Audited.Audited, declared.Found.Found, declared.Both.Both, Audit.PassesCovered, Search.SearchCall, Search.SearchBuffers, Search.search_matches, Search.search_candidates, Search.search_refusal, Search.search_answer, Demand2.AuditKept, Demand2.SearchKept, Demand3.through, Both.told, Both.audit_of, Both.demand_answer, Both.BothListed, Both.Demand3Kept}
+use Rattle.meaning_entries.specs.{Answers.AuditAnswer, Answers.SearchAnswer, declared.Both.Both, Audit.PassesCovered, Search.SearchCall, Search.SearchBuffers, Search.search_matches, Search.search_candidates, Search.search_refusal, Search.search_answer, Demand2.AuditKept, Demand2.SearchKept, Demand3.through, Both.told, Both.audit_of, Both.demand_answer, Both.BothListed, Both.Demand3Kept}
 use Rattle.meaning_entries.proofs.Demand3.{demand3}
 use Rattle.meaning_entries.proofs.BothTold.{all_told, first-audit, second-audit, first-search, second-search, both-listed, demand-refusal, demand-wrong, demand-missing, demand-counts, demand-found}
 
@@ -35,7 +35,7 @@ module _ (c : SearchCall) (x : Index) (before₁ before₂ after₁ after₂ : S
       second = search₂;
     }
 
-  module _ (one two : Audited) (first second : Found) (audit₁ : AuditKept (audit_of c) one) (audit₂ : AuditKept (audit_of (through x c)) two)
+  module _ (one two : AuditAnswer) (first second : SearchAnswer) (audit₁ : AuditKept (audit_of c) one) (audit₂ : AuditKept (audit_of (through x c)) two)
       (search₁ : SearchKept c before₁ first after₁) (search₂ : SearchKept (through x c) before₂ second after₂) where
     told-meant : told one two first second ≡ demand_answer c x before₁ before₂
     unfolding demand_answer

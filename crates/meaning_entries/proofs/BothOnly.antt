@@ -1,17 +1,18 @@
 -- The promise of demand 3 leaves one outcome, of searches that hand out all matches: one answer, and one content of every buffer.
+use Rattle.std.specs.Prelude.{Ok, Err}
 use Rattle.meaning_numbers.proofs.Prelude.{◌≡◌, refl, sym, ◌∙◌, ap, false≢true, Option, None, Some, none-some, ℕ}
 use Rattle.meaning_rows.specs.Index.{Index}
 use Rattle.meaning_filter.specs.declared.Pick.{Pick}
-use Rattle.meaning_entries.specs.{declared.Audited.Audited, declared.Both.Both, Answers.both_counts, Audit.PassesCovered, Search.SearchCall, Search.SearchBuffers, Search.search_refusal, Search.search_after, Demand3.through, Both.yes, Both.demand_answer, Both.Demand3Kept}
+use Rattle.meaning_entries.specs.{declared.Audited.Audited, declared.Both.Both, Answers.AuditAnswer, Answers.both_counts, Audit.PassesCovered, Search.SearchCall, Search.SearchBuffers, Search.search_refusal, Search.search_after, Demand3.through, Both.yes, Both.demand_answer, Both.Demand3Kept}
 use Rattle.meaning_entries.proofs.BothTold.{first-audit, second-audit, first-search, second-search, both-listed, demand-counts}
 
 -- whether an audit says yes, and whether a search is refused, is known
-by-audit : {P : Type 0} (a : Audited) → (a ≡ Audited.Yes → P) → ((a ≡ Audited.Yes → ⊥) → P) → P
+by-audit : {P : Type 0} (a : AuditAnswer) → (a ≡ Ok Audited.Yes → P) → ((a ≡ Ok Audited.Yes → ⊥) → P) → P
 unfolding yes
-by-audit Audited.Yes y n = y refl
-by-audit (Audited.Wrong row offset) y n = n (λ e. false≢true (ap yes e))
-by-audit (Audited.Missing count) y n = n (λ e. false≢true (ap yes e))
-by-audit (Audited.Refused number place) y n = n (λ e. false≢true (ap yes e))
+by-audit (Ok Audited.Yes) y n = y refl
+by-audit (Ok (Audited.Wrong row offset)) y n = n (λ e. false≢true (ap yes e))
+by-audit (Ok (Audited.Missing count)) y n = n (λ e. false≢true (ap yes e))
+by-audit (Err r) y n = n (λ e. false≢true (ap yes e))
 
 by-refusal : {P : Type 0} (o : Option (ℕ × ℕ)) → (o ≡ None → P) → ((o ≡ None → ⊥) → P) → P
 by-refusal None y n = y refl

@@ -1,43 +1,44 @@
 -- Two audits and two searches as one call: what is answered by what each audit and each search means (`demand-by`), case by case too, and that this paper's number, place, values and counts of the answer are those that are meant. By cases on the audits and on the refusals.
+use Rattle.std.specs.Prelude.{Ok, Err}
 use Rattle.meaning_numbers.proofs.Prelude.{◌≡◌, refl, sym, ap, ◌∙◌, Bool, true, false, cond, Option, None, Some, none-some, ℕ, length}
 use Rattle.meaning_rows.specs.Index.{Index}
 use Rattle.meaning_filter.specs.declared.Pick.{Pick}
 use Rattle.meaning_entries.specs.Both.{yes, told_second, told_found, told, audit_of, demand_answer, in_turn, demand_refusal, demand_wrong, demand_missing, demand_counts, demand_found}
 use Rattle.meaning_entries.specs.Search.{SearchCall, SearchBuffers, search_matches, search_candidates, search_refusal, search_told, search_answer, search_after}
-use Rattle.meaning_entries.specs.{declared.Audited.Audited, declared.Found.Found, declared.Both.Both, Audit.AuditCall, Audit.audit_answer, Audit.PassesCovered, Demand2.AuditKept, Demand2.SearchKept, Demand3.through, Answers.found_refusal, Answers.both_refusal, Answers.both_wrong, Answers.both_missing, Answers.both_counts, Answers.both_found}
+use Rattle.meaning_entries.specs.{declared.Audited.Audited, declared.Found.Found, declared.Both.Both, Answers.AuditAnswer, Answers.SearchAnswer, Audit.AuditCall, Audit.audit_answer, Audit.PassesCovered, Demand2.AuditKept, Demand2.SearchKept, Demand3.through, Answers.found_refusal, Answers.both_refusal, Answers.both_wrong, Answers.both_missing, Answers.both_counts, Answers.both_found}
 use Rattle.meaning_entries.proofs.Demand2.{audit-kept, search-kept}
 
 -- an audit that does not say yes
-no-yes : (a : Audited) → (a ≡ Audited.Yes → ⊥) → yes a ≡ false
+no-yes : (a : AuditAnswer) → (a ≡ Ok Audited.Yes → ⊥) → yes a ≡ false
 unfolding yes
-no-yes Audited.Yes fails = absurd (fails refl)
-no-yes (Audited.Wrong row offset) fails = refl
-no-yes (Audited.Missing count) fails = refl
-no-yes (Audited.Refused number place) fails = refl
+no-yes (Ok Audited.Yes) fails = absurd (fails refl)
+no-yes (Ok (Audited.Wrong row offset)) fails = refl
+no-yes (Ok (Audited.Missing count)) fails = refl
+no-yes (Err r) fails = refl
 
 is_some : (o : Option (ℕ × ℕ)) → (o ≡ None → ⊥) → (r : ℕ × ℕ) × (o ≡ Some r)
 is_some (Some r) fails = (r, refl)
 is_some None fails = absurd (fails refl)
 
 -- a search that is refused stands in the way
-first-refused : (f g : Found) (r : ℕ × ℕ) → found_refusal f ≡ Some r → told_found f g ≡ Both.FirstSearch f
+first-refused : (f g : SearchAnswer) (r : ℕ × ℕ) → found_refusal f ≡ Some r → told_found f g ≡ Both.FirstSearch f
 unfolding told_found
-first-refused (Found.All candidates matches) g r e = absurd (none-some _ e)
-first-refused (Found.Few candidates matches) g r e = absurd (none-some _ e)
-first-refused (Found.Full candidates matches) g r e = refl
-first-refused (Found.Refused number place) g r e = refl
+first-refused (Ok (Found.All candidates matches)) g r e = absurd (none-some _ e)
+first-refused (Ok (Found.Few candidates matches)) g r e = absurd (none-some _ e)
+first-refused (Ok (Found.Full candidates matches)) g r e = refl
+first-refused (Err x) g r e = refl
 
-second-refused : (count : ℕ) (g : Found) (r : ℕ × ℕ) → found_refusal g ≡ Some r → told_second count g ≡ Both.SecondSearch g
+second-refused : (count : ℕ) (g : SearchAnswer) (r : ℕ × ℕ) → found_refusal g ≡ Some r → told_second count g ≡ Both.SecondSearch g
 unfolding told_second
-second-refused count (Found.All candidates matches) r e = absurd (none-some _ e)
-second-refused count (Found.Few candidates matches) r e = absurd (none-some _ e)
-second-refused count (Found.Full candidates matches) r e = refl
-second-refused count (Found.Refused number place) r e = refl
+second-refused count (Ok (Found.All candidates matches)) r e = absurd (none-some _ e)
+second-refused count (Ok (Found.Few candidates matches)) r e = absurd (none-some _ e)
+second-refused count (Ok (Found.Full candidates matches)) r e = refl
+second-refused count (Err x) r e = refl
 
 -- one that is not, and hands out all matches, lists them
-pub all_told : (c : SearchCall) (b : SearchBuffers) → c.ask.pick ≡ Pick.All → search_refusal c b ≡ None → search_answer c b ≡ Found.All (search_candidates c) (length (search_matches c))
+pub all_told : (c : SearchCall) (b : SearchBuffers) → c.ask.pick ≡ Pick.All → search_refusal c b ≡ None → search_answer c b ≡ Ok (Found.All (search_candidates c) (length (search_matches c)))
 unfolding search_answer search_told
-all_told c b p e = rw (e, search_answer) (ap (λ q. search_told q (search_candidates c) (length (search_matches c))) p)
+all_told c b p e = rw (e, search_answer) (ap (λ q. Ok (search_told q (search_candidates c) (length (search_matches c)))) p)
 
 kept : (c : SearchCall) (b : SearchBuffers) → SearchKept c b (search_answer c b) (search_after c b)
 kept c b = search-kept c b _ _ refl refl
@@ -46,16 +47,16 @@ audit : (c : AuditCall) → AuditKept c (audit_answer c)
 audit c = audit-kept c _ refl
 
 module _ (c : SearchCall) (x : Index) (b₁ b₂ : SearchBuffers) (picks : c.ask.pick ≡ Pick.All) where
-  abbrev one : Audited
+  abbrev one : AuditAnswer
   one = audit_answer (audit_of c)
 
-  abbrev two : Audited
+  abbrev two : AuditAnswer
   two = audit_answer (audit_of (through x c))
 
-  abbrev first : Found
+  abbrev first : SearchAnswer
   first = search_answer c b₁
 
-  abbrev second : Found
+  abbrev second : SearchAnswer
   second = search_answer (through x c) b₂
 
   abbrev listed : Both
@@ -65,7 +66,7 @@ module _ (c : SearchCall) (x : Index) (b₁ b₂ : SearchBuffers) (picks : c.ask
       → ◌≡◌ {A = A} (F (told_found first second)) (elim o [ Some r ↦ F (Both.FirstSearch first) | None ↦ elim p [ Some r ↦ F (Both.SecondSearch second) | None ↦ F listed ] ])
   unfolding told_found told_second
   searches-by F (Some r) p e h = ap F (first-refused first second r ((kept c b₁).refused ∙ e))
-  searches-by F None (Some r) e h = ap F (ap (λ (f : Found). told_found f second) (all_told c b₁ picks e) ∙ second-refused _ second r ((kept _ b₂).refused ∙ h))
+  searches-by F None (Some r) e h = ap F (ap (λ (f : SearchAnswer). told_found f second) (all_told c b₁ picks e) ∙ second-refused _ second r ((kept _ b₂).refused ∙ h))
   searches-by F None None e h = ap F (rw (all_told c b₁ picks e, all_told _ b₂ picks h) refl)
 
   told-by : {A : Type 0} (F : Both → A) (s t : Bool) → yes one ≡ s → yes two ≡ t → F (told one two first second) ≡ cond s (cond t (F (told_found first second)) (F (Both.SecondAudit two))) (F (Both.FirstAudit one))

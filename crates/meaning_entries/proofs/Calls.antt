@@ -1,11 +1,12 @@
 -- Rows of the table of cases that are calls over lent buffers: the answer, and every buffer afterwards. Answers and buffers are compared as lists of numbers.
 use Rattle.meaning_numbers.proofs.Table.{same_list}
+use Rattle.std.specs.Prelude.{Ok, Err}
 use Rattle.meaning_numbers.proofs.Prelude.{Bool, ◌&&◌, List, [], ◌∷◌, ◌++◌, Option, None, Some, ℕ, eqb, ℤ, pos, negsuc, nat_abs, drop, replicate}
 use Rattle.meaning_rows.specs.{declared.Row.Row, declared.Head.Head, Index.Index, Index.lent}
 use Rattle.meaning_filter.specs.{declared.Kind.Kind, declared.Kind.TheVariants.Raw, declared.Kind.TheVariants.Normal, declared.Pick.Pick, declared.Ask.Ask}
 use Rattle.meaning_text.specs.{Bytes.bytes, Form.spell, Texts.series_form}
-use Rattle.meaning_entries.specs.Answers.{built_counts, extended_counts, loaded_counts, found_counts, both_refusal, both_wrong, both_missing, both_counts, both_found}
-use Rattle.meaning_entries.specs.{declared.Built.Built, declared.Extended.Extended, declared.Audited.Audited, declared.Written.Written, declared.Loaded.Loaded, declared.Found.Found, declared.Both.Both, Buffers.IndexBuffers, Build.BuildCall, Build.lent_build, Build.build_answer, Build.build_after, Extend.ExtendCall, Extend.lent_extend, Extend.extend_answer, Extend.extend_after, Audit.lent_audit, Audit.audit_answer, Write.write_answer, Write.write_after, Load.load_answer, Load.load_after, Search.SearchCall, Search.SearchBuffers, Search.handing, Search.lent_search, Search.search_answer, Search.search_after, Both.demand_answer, AuditText.audit_text_answer, AuditText.audit_text, AuditText.pack, AuditText.unpack, Program.program}
+use Rattle.meaning_entries.specs.Answers.{Built, Written, AuditAnswer, SearchAnswer, refusal, held, held_counts, found_counts, both_refusal, both_wrong, both_missing, both_counts, both_found}
+use Rattle.meaning_entries.specs.{declared.Audited.Audited, declared.Found.Found, declared.Both.Both, Buffers.IndexBuffers, Build.BuildCall, Build.lent_build, Build.build_answer, Build.build_after, Extend.ExtendCall, Extend.lent_extend, Extend.extend_answer, Extend.extend_after, Audit.lent_audit, Audit.audit_answer, Write.write_answer, Write.write_after, Load.load_answer, Load.load_after, Search.SearchCall, Search.SearchBuffers, Search.handing, Search.lent_search, Search.search_answer, Search.search_after, Both.demand_answer, AuditText.audit_text_answer, AuditText.audit_text, AuditText.pack, AuditText.unpack, Program.program}
 
 -- ---- as numbers
 
@@ -14,34 +15,24 @@ head h = h.window ∷ h.width ∷ h.windows ∷ []
 
 built : Built → List ℕ
 unfolding head
-built (Built.Index h rows runs) = head h ++ (rows ∷ runs ∷ [])
-built (Built.Refused n p) = n ∷ p ∷ []
-
-grown : Extended → List ℕ
-unfolding head
-grown (Extended.Index h rows runs) = head h ++ (rows ∷ runs ∷ [])
-grown (Extended.Refused n p) = n ∷ p ∷ []
-
-loaded : Loaded → List ℕ
-unfolding head
-loaded (Loaded.Index h rows runs) = head h ++ (rows ∷ runs ∷ [])
-loaded (Loaded.Refused n p) = n ∷ p ∷ []
+built (Ok m) = head m.head ++ (m.rows ∷ m.runs ∷ [])
+built (Err r) = r.number ∷ r.place ∷ []
 
 written : Written → List ℕ
-written (Written.Text bytes) = bytes ∷ []
-written (Written.Refused n p) = n ∷ p ∷ []
+written (Ok bytes) = bytes ∷ []
+written (Err r) = r.number ∷ r.place ∷ []
 
-audited : Audited → List ℕ
-audited Audited.Yes = []
-audited (Audited.Wrong row offset) = 1 ∷ row ∷ offset ∷ []
-audited (Audited.Missing count) = 2 ∷ count ∷ []
-audited (Audited.Refused n p) = 3 ∷ n ∷ p ∷ []
+audited : AuditAnswer → List ℕ
+audited (Ok Audited.Yes) = []
+audited (Ok (Audited.Wrong row offset)) = 1 ∷ row ∷ offset ∷ []
+audited (Ok (Audited.Missing count)) = 2 ∷ count ∷ []
+audited (Err r) = 3 ∷ r.number ∷ r.place ∷ []
 
-found : Found → List ℕ
-found (Found.All candidates matches) = 0 ∷ candidates ∷ matches ∷ []
-found (Found.Full candidates matches) = 24 ∷ candidates ∷ matches ∷ []
-found (Found.Few candidates matches) = 1 ∷ candidates ∷ matches ∷ []
-found (Found.Refused n p) = n ∷ p ∷ []
+found : SearchAnswer → List ℕ
+found (Ok (Found.All candidates matches)) = 0 ∷ candidates ∷ matches ∷ []
+found (Ok (Found.Full candidates matches)) = 24 ∷ candidates ∷ matches ∷ []
+found (Ok (Found.Few candidates matches)) = 1 ∷ candidates ∷ matches ∷ []
+found (Err r) = r.number ∷ r.place ∷ []
 
 both : Both → List ℕ
 unfolding found
@@ -109,8 +100,8 @@ unfolding built buffer_numbers
 builds c b answer after = same (built (build_answer c b)) answer && same (buffer_numbers (build_after c b)) after
 
 grows : ExtendCall → IndexBuffers → List ℕ → List ℕ → Bool
-unfolding grown buffer_numbers
-grows c b answer after = same (grown (extend_answer c b)) answer && same (buffer_numbers (extend_after c b)) after
+unfolding built buffer_numbers
+grows c b answer after = same (built (extend_answer c b)) answer && same (buffer_numbers (extend_after c b)) after
 
 -- a straight search with a = 10, h = 0
 search_in : List ℤ → Index → Kind → List ℤ → ℤ → SearchCall
@@ -161,7 +152,7 @@ demands : Index → Index → SearchBuffers → SearchBuffers → List ℕ → B
 unfolding both search_for
 demands x y b₁ b₂ answer = same (both (demand_answer (search_for x Raw (pos 4 ∷ pos 3 ∷ []) (pos 0)) y b₁ b₂)) answer
 
-packs : Audited → Bool
+packs : AuditAnswer → Bool
 unfolding audited
 packs a = same (audited (unpack (pack a))) (audited a)
 
@@ -196,7 +187,7 @@ unfolding other
 misfiled = other (row (pos 2) (pos 4) 0 1 ∷ []) (0 ∷ []) (3 ∷ [])
 
 unfoldable pub calls : List Bool
-unfolding worked worked_index row build builds grows search_in search_for few few_for few_after lists finds audited audits demands packs other unmerged early late misfiled apart asks sevens same grown loaded written pair place numbers
+unfolding worked worked_index row build builds grows search_in search_for few few_for few_after lists finds audited audits demands packs other unmerged early late misfiled apart asks sevens same built written pair place numbers
 calls =
     -- build: success, unused entries 0, also past the shorter slice; refused, nothing altered
     builds (build worked (pos 2) (pos 2) (pos 80)) (sevens 4 4 5) (2 ∷ 2 ∷ 4 ∷ 2 ∷ 2 ∷ [])
@@ -212,9 +203,9 @@ calls =
     -- extend: equal window counts give a copy
     ∷ grows (record { series = worked; index = worked_index }) (sevens 4 4 4) (2 ∷ 2 ∷ 4 ∷ 2 ∷ 2 ∷ [])
     (2 ∷ 4 ∷ 0 ∷ 1 ∷ 4 ∷ 8 ∷ 1 ∷ 1 ∷ 0 ∷ 0 ∷ 0 ∷ 0 ∷ 0 ∷ 0 ∷ 0 ∷ 0 ∷ 0 ∷ 1 ∷ 0 ∷ 0 ∷ 0 ∷ 3 ∷ 0 ∷ 0 ∷ [])
-    ∷ same (grown (extend_answer (record { series = pos 1 ∷ pos 2 ∷ []; index = worked_index }) (sevens 0 0 0))) (22 ∷ 0 ∷ [])
-    ∷ same (grown (extend_answer (record { series = worked; index = worked_index }) (sevens 4 3 4))) (23 ∷ 0 ∷ [])
-    ∷ same (grown (extend_answer (record { series = worked; index = worked_index }) (sevens 3 4 4))) (23 ∷ 0 ∷ [])
+    ∷ same (built (extend_answer (record { series = pos 1 ∷ pos 2 ∷ []; index = worked_index }) (sevens 0 0 0))) (22 ∷ 0 ∷ [])
+    ∷ same (built (extend_answer (record { series = worked; index = worked_index }) (sevens 4 3 4))) (23 ∷ 0 ∷ [])
+    ∷ same (built (extend_answer (record { series = worked; index = worked_index }) (sevens 3 4 4))) (23 ∷ 0 ∷ [])
     -- audit: yes; fewer windows; more windows; w above n
     ∷ audits worked worked_index []
     ∷ audits (worked ++ (pos 1 ∷ [])) worked_index (3 ∷ 21 ∷ 0 ∷ [])
@@ -231,13 +222,13 @@ calls =
     ∷ same (drop 72 (write_after worked_index (replicate 76 7))) (41 ∷ 10 ∷ 0 ∷ 0 ∷ [])
     ∷ same (write_after worked_index (replicate 3 7)) (7 ∷ 7 ∷ 7 ∷ [])
     -- read: the worked index text, buffers exactly long enough, and too short
-    ∷ same (loaded (load_answer (bytes "(index (window 2) (width 2) (windows 4)\n(row 2 4 (0 0))\n(row 4 8 (1 3))\n)\n") (sevens 2 2 2))) (2 ∷ 2 ∷ 4 ∷ 2 ∷ 2 ∷ [])
+    ∷ same (built (load_answer (bytes "(index (window 2) (width 2) (windows 4)\n(row 2 4 (0 0))\n(row 4 8 (1 3))\n)\n") (sevens 2 2 2))) (2 ∷ 2 ∷ 4 ∷ 2 ∷ 2 ∷ [])
     ∷ same (buffer_numbers (load_after (bytes "(index (window 2) (width 2) (windows 4)\n(row 2 4 (0 0))\n(row 4 8 (1 3))\n)\n") (sevens 2 3 2)))
     (2 ∷ 4 ∷ 0 ∷ 1 ∷ 4 ∷ 8 ∷ 1 ∷ 1 ∷ 0 ∷ 1 ∷ 0 ∷ 0 ∷ 3 ∷ [])
-    ∷ same (loaded (load_answer (bytes "(index (window 2) (width 2) (windows 4)\n(row 2 4 (0 0))\n(row 4 8 (1 3))\n)\n") (sevens 1 2 2))) (23 ∷ 0 ∷ [])
-    ∷ same (loaded (load_answer (bytes "(index (window 2) (width 2) (windows 4)\n(row 2 4 (0 0))\n(row 4 8 (1 3))\n)\n") (sevens 2 2 1))) (23 ∷ 0 ∷ [])
-    ∷ same (loaded (load_answer (bytes "(index (window 2) (width 2) (windows 4)\n(row 2 4 (0 0))\n(row 3 8 (1 3))\n)\n") (sevens 1 2 2))) (20 ∷ 1 ∷ [])
-    ∷ same (loaded (load_answer (bytes "(index (window 2) (width 2) (windows 4)\n(row 2 4 (0 0))\n(row 3 8 (1 3))\n") (sevens 1 2 2))) (12 ∷ 4 ∷ [])
+    ∷ same (built (load_answer (bytes "(index (window 2) (width 2) (windows 4)\n(row 2 4 (0 0))\n(row 4 8 (1 3))\n)\n") (sevens 1 2 2))) (23 ∷ 0 ∷ [])
+    ∷ same (built (load_answer (bytes "(index (window 2) (width 2) (windows 4)\n(row 2 4 (0 0))\n(row 4 8 (1 3))\n)\n") (sevens 2 2 1))) (23 ∷ 0 ∷ [])
+    ∷ same (built (load_answer (bytes "(index (window 2) (width 2) (windows 4)\n(row 2 4 (0 0))\n(row 3 8 (1 3))\n)\n") (sevens 1 2 2))) (20 ∷ 1 ∷ [])
+    ∷ same (built (load_answer (bytes "(index (window 2) (width 2) (windows 4)\n(row 2 4 (0 0))\n(row 3 8 (1 3))\n") (sevens 1 2 2))) (12 ∷ 4 ∷ [])
     -- search: success; a list exactly full; 24 with both true counts and the first matches; a list of length 0
     ∷ finds (search_for worked_index Raw (pos 2 ∷ pos 4 ∷ []) (pos 5)) (lists 4 4 4) (0 ∷ 4 ∷ 3 ∷ []) (0 ∷ 0 ∷ 0 ∷ 0 ∷ 3 ∷ 0 ∷ 0 ∷ 0 ∷ 0 ∷ 0 ∷ 0 ∷ 0 ∷ 0 ∷ 1 ∷ 2 ∷ 0 ∷ 5 ∷ 0 ∷ 5 ∷ 0 ∷ [])
     ∷ finds (search_for worked_index Raw (pos 2 ∷ pos 4 ∷ []) (pos 5)) (lists 4 4 3) (0 ∷ 4 ∷ 3 ∷ []) (0 ∷ 0 ∷ 0 ∷ 0 ∷ 3 ∷ 0 ∷ 0 ∷ 0 ∷ 0 ∷ 0 ∷ 0 ∷ 0 ∷ 0 ∷ 1 ∷ 2 ∷ 5 ∷ 0 ∷ 5 ∷ [])
@@ -276,7 +267,7 @@ calls =
     -- each slice of a pair too short by itself; scratch holds windows, and not offsets, where m is above w
     ∷ builds (build worked (pos 2) (pos 2) (pos 80)) (sevens 4 3 4) (23 ∷ 0 ∷ []) (replicate 23 7)
     ∷ grows (record { series = worked; index = worked_index }) (sevens 4 4 3) (23 ∷ 0 ∷ []) (replicate 23 7)
-    ∷ same (loaded (load_answer (bytes "(index (window 2) (width 2) (windows 4)\n(row 2 4 (0 0))\n(row 4 8 (1 3))\n)\n") (sevens 2 1 2))) (23 ∷ 0 ∷ [])
+    ∷ same (built (load_answer (bytes "(index (window 2) (width 2) (windows 4)\n(row 2 4 (0 0))\n(row 4 8 (1 3))\n)\n") (sevens 2 1 2))) (23 ∷ 0 ∷ [])
     ∷ finds (search_for worked_index Raw (pos 2 ∷ pos 4 ∷ []) (pos 5)) (record { left = replicate 4 7; right = replicate 3 7; scratch = replicate 4 7; offsets = []; distances = [] }) (23 ∷ 0 ∷ []) (replicate 11 7)
     ∷ finds (search_for worked_index Raw (pos 2 ∷ pos 4 ∷ []) (pos 5)) (record { left = replicate 3 7; right = replicate 4 7; scratch = replicate 4 7; offsets = []; distances = [] }) (23 ∷ 0 ∷ []) (replicate 11 7)
     ∷ finds (search_in (pos 1 ∷ pos 2 ∷ []) (lent (record { window = 1; width = 1; windows = 2 }) (row (pos 1) (pos 2) 0 1 ∷ row (pos 2) (pos 3) 1 1 ∷ []) (0 ∷ 1 ∷ []) (0 ∷ 1 ∷ [])) Raw (pos 1 ∷ pos 2 ∷ []) (pos 0)) (lists 2 1 1) (23 ∷ 0 ∷ []) (replicate 7 7)
@@ -301,16 +292,14 @@ calls =
     ∷ demands worked_index unmerged (lists 4 4 1) (lists 4 4 0) (104 ∷ 24 ∷ 2 ∷ 1 ∷ [])
     -- this paper's numbers of each kind of answer
     ∷ same (numbers (Both.Listed 1 2)) (0 ∷ 1 ∷ 2 ∷ 0 ∷ 0 ∷ [])
-    ∷ same (numbers (Both.FirstAudit (Audited.Wrong 1 2))) (1 ∷ 2 ∷ 0 ∷ 0 ∷ 0 ∷ 0 ∷ 0 ∷ [])
-    ∷ same (numbers (Both.SecondAudit (Audited.Missing 3))) (3 ∷ 0 ∷ 0 ∷ 0 ∷ 0 ∷ [])
-    ∷ same (numbers (Both.SecondAudit (Audited.Refused 20 1))) (20 ∷ 1 ∷ 0 ∷ 0 ∷ 0 ∷ 0 ∷ 0 ∷ [])
-    ∷ same (numbers (Both.FirstSearch (Found.Full 3 2))) (24 ∷ 0 ∷ 0 ∷ 0 ∷ 0 ∷ 3 ∷ 2 ∷ [])
-    ∷ same (numbers (Both.SecondSearch (Found.Refused 23 0))) (23 ∷ 0 ∷ 0 ∷ 0 ∷ 0 ∷ 0 ∷ 0 ∷ [])
-    ∷ same (pair (built_counts (Built.Index (apart 4) 2 3))) (2 ∷ 3 ∷ [])
-    ∷ same (pair (extended_counts (Extended.Index (apart 4) 2 3))) (2 ∷ 3 ∷ [])
-    ∷ same (pair (loaded_counts (Loaded.Index (apart 4) 2 3))) (2 ∷ 3 ∷ [])
-    ∷ same (pair (found_counts (Found.All 4 3))) (4 ∷ 3 ∷ [])
-    ∷ same (pair (found_counts (Found.Few 4 3))) (4 ∷ 3 ∷ [])
+    ∷ same (numbers (Both.FirstAudit (Ok (Audited.Wrong 1 2)))) (1 ∷ 2 ∷ 0 ∷ 0 ∷ 0 ∷ 0 ∷ 0 ∷ [])
+    ∷ same (numbers (Both.SecondAudit (Ok (Audited.Missing 3)))) (3 ∷ 0 ∷ 0 ∷ 0 ∷ 0 ∷ [])
+    ∷ same (numbers (Both.SecondAudit (Err (refusal (20, 1))))) (20 ∷ 1 ∷ 0 ∷ 0 ∷ 0 ∷ 0 ∷ 0 ∷ [])
+    ∷ same (numbers (Both.FirstSearch (Ok (Found.Full 3 2)))) (24 ∷ 0 ∷ 0 ∷ 0 ∷ 0 ∷ 3 ∷ 2 ∷ [])
+    ∷ same (numbers (Both.SecondSearch (Err (refusal (23, 0))))) (23 ∷ 0 ∷ 0 ∷ 0 ∷ 0 ∷ 0 ∷ 0 ∷ [])
+    ∷ same (pair (held_counts (Ok (held (apart 4) 2 3)))) (2 ∷ 3 ∷ [])
+    ∷ same (pair (found_counts (Ok (Found.All 4 3)))) (4 ∷ 3 ∷ [])
+    ∷ same (pair (found_counts (Ok (Found.Few 4 3)))) (4 ∷ 3 ∷ [])
     -- the audit of two texts takes 4,096 values and no more; the index is of another series
     ∷ same (audited (audit_text_answer (bytes "(index (window 1) (width 1) (windows 1)\n)\n") (spell series_form (replicate 4096 (pos 0))))) (3 ∷ 21 ∷ 0 ∷ [])
     ∷ same (audited (audit_text_answer (bytes "(index (window 1) (width 1) (windows 1)\n)\n") (spell series_form (replicate 4097 (pos 0))))) (3 ∷ 1 ∷ 0 ∷ [])
@@ -319,10 +308,10 @@ calls =
     -- the number of the C entry: wrong at row 1, offset 1
     ∷ eqb (audit_text (bytes "(index (window 1) (width 1) (windows 2)\n(row 0 1 (0 0))\n(row 1 2 (1 1))\n)\n") (bytes "(series 0 0)\n")) 8388617
     -- and back
-    ∷ packs Audited.Yes
-    ∷ packs (Audited.Wrong 4095 4095)
-    ∷ packs (Audited.Missing 4096)
-    ∷ packs (Audited.Refused 12 1000000000000000000)
-    ∷ packs (Audited.Refused 2 4095)
-    ∷ packs (Audited.Refused 22 0)
+    ∷ packs (Ok Audited.Yes)
+    ∷ packs (Ok (Audited.Wrong 4095 4095))
+    ∷ packs (Ok (Audited.Missing 4096))
+    ∷ packs (Err (refusal (12, 1000000000000000000)))
+    ∷ packs (Err (refusal (2, 4095)))
+    ∷ packs (Err (refusal (22, 0)))
     ∷ []

@@ -1,4 +1,5 @@
 -- Demand 1 of the meanings: each entry's answer refuses by the first line of its table that applies, and by no other. By cases on that line; of a search, the one line with the number 24 has the place 0.
+use Rattle.std.specs.Prelude.{Ok, Err}
 use Rattle.meaning_numbers.proofs.Prelude.{◌≡◌, refl, sym, ap, ◌∙◌, subst, Bool, true, false, not, cond, ◌&&◌, List, [], ◌∷◌, Option, None, Some, ℕ, zero, suc, arith, T, T_not, eqb, eqb→eq, ltb, two-tests}
 use Rattle.meaning_curves.specs.Limits.{most_values}
 use Rattle.meaning_rows.specs.{Index.Index, Audit.first_wrong}
@@ -6,10 +7,10 @@ use Rattle.meaning_text.specs.Texts.{refused_text}
 use Rattle.meaning_entries.specs.Demand1.{BuildRefuses, ExtendRefuses, AuditRefuses, WriteRefuses, LoadRefuses, SearchRefuses, AuditTextRefuses, ProgramRefuses}
 use Rattle.meaning_filter.specs.declared.Pick.{Pick}
 use Rattle.meaning_entries.specs.Search.{SearchCall, SearchBuffers, list_room, search_plan, search_table, search_refused, search_told, search_answer}
-use Rattle.meaning_entries.specs.{Refusal.Condition, Refusal.first_refusal, Refusal.list_short, Buffers.IndexBuffers, Build.BuildCall, Build.build_table, Build.build_answer, Extend.ExtendCall, Extend.extend_table, Extend.extend_answer, Audit.AuditCall, Audit.audit_table, Audit.complete, Audit.audited, Audit.audit_answer, Write.write_table, Write.write_answer, Load.load_table, Load.load_answer, AuditText.audit_text_table, AuditText.audit_text_answer, AuditText.audit_text, Program.text_program, Program.program_table, Program.printed, Program.program, Answers.built_refusal, Answers.extended_refusal, Answers.audited_refusal, Answers.written_refusal, Answers.loaded_refusal, Answers.found_refusal}
-use Rattle.meaning_entries.proofs.{Refusal.open_lines, Refusal.First, Refusal.here, Refusal.later, Refusal.is-first, Pack.audit-text-back}
+use Rattle.meaning_entries.specs.{Refusal.Condition, Refusal.first_refusal, Refusal.list_short, Buffers.IndexBuffers, Build.BuildCall, Build.build_table, Build.build_answer, Extend.ExtendCall, Extend.extend_table, Extend.extend_answer, Audit.AuditCall, Audit.audit_table, Audit.complete, Audit.audited, Audit.audit_answer, Write.write_table, Write.write_answer, Load.load_table, Load.load_answer, AuditText.audit_text_table, AuditText.audit_text_answer, AuditText.audit_text, Program.text_program, Program.program_table, Program.printed, Program.program, Answers.found_refusal, Answers.refusal_in}
+use Rattle.meaning_entries.proofs.{Refused.open_lines, Refused.First, Refused.here, Refused.later, Refused.is-first, Pack.audit-text-back}
 
-build-by : (c : BuildCall) (b : IndexBuffers) (o : Option (ℕ × ℕ)) → first_refusal (build_table c b) ≡ o → built_refusal (build_answer c b) ≡ o
+build-by : (c : BuildCall) (b : IndexBuffers) (o : Option (ℕ × ℕ)) → first_refusal (build_table c b) ≡ o → refusal_in (build_answer c b) ≡ o
 unfolding build_answer
 build-by c b None e = rw (e, build_answer)
 build-by c b (Some r) e = rw (e, build_answer)
@@ -17,7 +18,7 @@ build-by c b (Some r) e = rw (e, build_answer)
 pub build-refuses : (c : BuildCall) (b : IndexBuffers) → BuildRefuses c b (build_answer c b)
 build-refuses c b = record { same = build-by c b _ refl }
 
-extend-by : (c : ExtendCall) (b : IndexBuffers) (o : Option (ℕ × ℕ)) → first_refusal (extend_table c b) ≡ o → extended_refusal (extend_answer c b) ≡ o
+extend-by : (c : ExtendCall) (b : IndexBuffers) (o : Option (ℕ × ℕ)) → first_refusal (extend_table c b) ≡ o → refusal_in (extend_answer c b) ≡ o
 unfolding extend_answer
 extend-by c b None e = rw (e, extend_answer)
 extend-by c b (Some r) e = rw (e, extend_answer)
@@ -25,7 +26,7 @@ extend-by c b (Some r) e = rw (e, extend_answer)
 pub extend-refuses : (c : ExtendCall) (b : IndexBuffers) → ExtendRefuses c b (extend_answer c b)
 extend-refuses c b = record { same = extend-by c b _ refl }
 
-write-by : (x : Index) (t : List ℕ) (o : Option (ℕ × ℕ)) → first_refusal (write_table x t) ≡ o → written_refusal (write_answer x t) ≡ o
+write-by : (x : Index) (t : List ℕ) (o : Option (ℕ × ℕ)) → first_refusal (write_table x t) ≡ o → refusal_in (write_answer x t) ≡ o
 unfolding write_answer
 write-by x t None e = rw (e, write_answer)
 write-by x t (Some r) e = rw (e, write_answer)
@@ -33,7 +34,7 @@ write-by x t (Some r) e = rw (e, write_answer)
 pub write-refuses : (x : Index) (t : List ℕ) → WriteRefuses x t (write_answer x t)
 write-refuses x t = record { same = write-by x t _ refl }
 
-load-by : (t : List ℕ) (b : IndexBuffers) (o : Option (ℕ × ℕ)) → first_refusal (load_table t b) ≡ o → loaded_refusal (load_answer t b) ≡ o
+load-by : (t : List ℕ) (b : IndexBuffers) (o : Option (ℕ × ℕ)) → first_refusal (load_table t b) ≡ o → refusal_in (load_answer t b) ≡ o
 unfolding load_answer
 load-by t b None e = rw (e, load_answer)
 load-by t b (Some r) e = rw (e, load_answer)
@@ -41,36 +42,23 @@ load-by t b (Some r) e = rw (e, load_answer)
 pub load-refuses : (t : List ℕ) (b : IndexBuffers) → LoadRefuses t b (load_answer t b)
 load-refuses t b = record { same = load-by t b _ refl }
 
--- ---- audits: what is said where nothing refuses is no refusal
+-- ---- audits
 
-complete-said : (n : ℕ) → audited_refusal (complete n) ≡ None
-unfolding complete
-complete-said zero = refl
-complete-said (suc n) = refl
-
-audited-by : (c : AuditCall) (o : Option (ℕ × ℕ)) → first_wrong c.index c.series ≡ o → audited_refusal (audited c) ≡ None
-unfolding audited
-audited-by c None e = rw (e, audited) (complete-said _)
-audited-by c (Some x) e = rw (e, audited)
-
-audited-said : (c : AuditCall) → audited_refusal (audited c) ≡ None
-audited-said c = audited-by c _ refl
-
-audit-by : (c : AuditCall) (o : Option (ℕ × ℕ)) → first_refusal (audit_table most_values c) ≡ o → audited_refusal (audit_answer c) ≡ o
+audit-by : (c : AuditCall) (o : Option (ℕ × ℕ)) → first_refusal (audit_table most_values c) ≡ o → refusal_in (audit_answer c) ≡ o
 unfolding audit_answer
-audit-by c None e = rw (e, audit_answer) (audited-said c)
+audit-by c None e = rw (e, audit_answer)
 audit-by c (Some r) e = rw (e, audit_answer)
 
 pub audit-refuses : (c : AuditCall) → AuditRefuses c (audit_answer c)
 audit-refuses c = record { same = audit-by c _ refl }
 
-audit-text-by : (x s : List ℕ) (o : Option (ℕ × ℕ)) → first_refusal (audit_text_table x s) ≡ o → audited_refusal (audit_text_answer x s) ≡ o
+audit-text-by : (x s : List ℕ) (o : Option (ℕ × ℕ)) → first_refusal (audit_text_table x s) ≡ o → refusal_in (audit_text_answer x s) ≡ o
 unfolding audit_text_answer
-audit-text-by x s None e = rw (e, audit_text_answer) (audited-said _)
+audit-text-by x s None e = rw (e, audit_text_answer)
 audit-text-by x s (Some r) e = rw (e, audit_text_answer)
 
 pub audit-text-refuses : (x s : List ℕ) → AuditTextRefuses x s (audit_text x s)
-audit-text-refuses x s = record { same = ap audited_refusal (audit-text-back x s) ∙ audit-text-by x s _ refl }
+audit-text-refuses x s = record { same = ap refusal_in (audit-text-back x s) ∙ audit-text-by x s _ refl }
 
 -- ---- a search: 24 has the place 0
 
@@ -117,7 +105,7 @@ refused-by c n p true e z =
     rw (e, search_refused) (rw (i, z i) refl)
 refused-by c n p false e z = rw (e, search_refused)
 
-told_free : (p : Pick) (a n : ℕ) → found_refusal (search_told p a n) ≡ None
+told_free : (p : Pick) (a n : ℕ) → found_refusal (Ok (search_told p a n)) ≡ None
 unfolding search_told
 told_free Pick.All a n = refl
 told_free (Pick.Closest k) a n = refl

@@ -1,13 +1,14 @@
 -- The fault that 02, item 1 is for, ruled out: a search fell into an extension, went through the old index over the longer series, and passed over the windows that reach into new prices.
 -- An index was made for a series and prices have come since, any number of them: no search is refused for going through it (`accepted`), and one that kept its promise lists exactly all matches of the longer series, which is what a scan of all offsets lists (`grown-scans`).
 -- So through what a build left in the buffers (`build-scans`), through the old index of an extension that is cut off after any number of its new prices (`cut-off-scans`), and through what an extension left (`extend-scans`). Laws of the promises, so of every function that keeps them.
+use Rattle.std.specs.Prelude.{Ok, Err}
 use Rattle.meaning_numbers.proofs.Prelude.{◌≡◌, refl, sym, ap, subst, ◌∙◌, List, ◌++◌, None, ℕ, ◌+◌, ◌-◌, ◌≤◌, arith, ℤ, pos, nat_abs, ◌-ℤ◌, length, length-take, take, take-append_seam, take-take, zarith, z-add, z-sub}
 use Rattle.meaning_rows.proofs.Judge.{none-bad}
 use Rattle.meaning_rows.specs.{declared.Row.Row, declared.Head.Head, Index.Index, Index.lent, Index.covered}
 use Rattle.meaning_filter.specs.{declared.Ask.Ask, Matches.Exactly}
 use Rattle.meaning_filter.proofs.Matches.{all-exactly}
 use Rattle.meaning_entries.specs.Search.{SearchCall, SearchBuffers, lent_ask, lent_search, question}
-use Rattle.meaning_entries.specs.{declared.Built.Built, declared.Extended.Extended, Buffers.IndexBuffers, Build.lent_build, Extend.lent_extend, Refusal.ill_formed, Refusal.more_windows, Audit.Passes, Audit.PassesCovered, Demand2.BuildKept, Demand2.ExtendKept, Demand3.list_in, Demand3.Lists, Demand3.Scans}
+use Rattle.meaning_entries.specs.{Answers.held, Buffers.IndexBuffers, Build.lent_build, Extend.lent_extend, Refusal.ill_formed, Refusal.more_windows, Audit.Passes, Audit.PassesCovered, Demand2.BuildKept, Demand2.ExtendKept, Demand3.list_in, Demand3.Lists, Demand3.Scans}
 use Rattle.meaning_entries.proofs.{Lines.more-passes, Demand3.all_listed, Passes.passed, Standing.index_of, Standing.build-stands, Standing.extend-stands}
 
 -- such a search is refused for its own input and room alone, never for its index; by 21 no search is (`search-never-21`)
@@ -45,7 +46,7 @@ search_of s h n k b ask q = record { series = s; index = index_of h n k b; query
 
 module _ (ask : Ask) (q : List ℤ) (count : ℕ) (after : SearchBuffers) where
   -- a build over s, and prices that came since
-  pub build-scans : (s more : List ℤ) (w d g : ℕ) (old new : IndexBuffers) (h : Head) (n k : ℕ) → BuildKept (lent_build s w d g) old (Built.Index h n k) new
+  pub build-scans : (s more : List ℤ) (w d g : ℕ) (old new : IndexBuffers) (h : Head) (n k : ℕ) → BuildKept (lent_build s w d g) old (Ok (held h n k)) new
       → Lists (search_of (s ++ more) h n k new ask q) count after → Scans (search_of (s ++ more) h n k new ask q) count after
   build-scans s more w d g old new h n k kept l = grown-scans _ s more count after (build-stands s w d g old new h n k kept).passes refl l
 
@@ -57,6 +58,6 @@ module _ (ask : Ask) (q : List ℤ) (count : ℕ) (after : SearchBuffers) where
         covered-scans _ count after (rw (take-take k (k + came) s (omega arith)) passes) l
 
     -- it has ended, and prices came since
-    pub extend-scans : (more : List ℤ) (old new : IndexBuffers) (h : Head) (n k : ℕ) → ExtendKept (lent_extend s head rows left right) old (Extended.Index h n k) new
+    pub extend-scans : (more : List ℤ) (old new : IndexBuffers) (h : Head) (n k : ℕ) → ExtendKept (lent_extend s head rows left right) old (Ok (held h n k)) new
         → Lists (search_of (s ++ more) h n k new ask q) count after → Scans (search_of (s ++ more) h n k new ask q) count after
     extend-scans more old new h n k kept l = grown-scans _ s more count after (extend-stands s head rows left right old new h n k kept passes).passes refl l

@@ -1,6 +1,6 @@
 -- What the definitions imply, by subject.
 pub mod Open
-pub mod Refusal
+pub mod Refused
 pub mod Lines
 pub mod Tables
 pub mod Passes

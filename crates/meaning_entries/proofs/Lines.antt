@@ -8,7 +8,7 @@ use Rattle.meaning_rows.specs.Index.{Index}
 use Rattle.meaning_rows.proofs.Judge.{between, WellFormed, well-formed}
 use Rattle.meaning_filter.specs.declared.Kind.{Kind}
 use Rattle.meaning_entries.specs.Refusal.{at_zero, length_outside, value_outside, window_outside, width_outside, merge_outside, query_length_outside, query_below_window, band_outside, threshold_outside, scale_or_shift_outside, normal_flat, flat_query, ill_formed, windows_of, fewer_windows, more_windows, buffer_short, series_lines, count_lines, room_lines}
-use Rattle.meaning_entries.proofs.Refusal.{AllPass, end, more, not-if}
+use Rattle.meaning_entries.proofs.Refused.{AllPass, end, more, not-if}
 pub use Rattle.meaning_rows.proofs.Judge.{Natural}
 
 -- limits that are not passed

@@ -1,11 +1,12 @@
 -- The table of a search is what is known before it looks (`search_plan`), and whether the list holds all matches, which is known only at its end. Where the first part refuses, that is the answer and no buffer is altered (`plan-refused`);
 -- else the buffers are those of a search that looked, and the answer is by how many are handed out (`plan-all`, `plan-full`); of the closest few the list holds all (`few-fit`), so that 24 is never given (`closest-never-24`). Through an index that passes, what the search finds is all matches (`matches-all`).
+use Rattle.std.specs.Prelude.{Ok, Err}
 use Rattle.meaning_numbers.proofs.Prelude.{◌≡◌, refl, sym, ◌∙◌, ap, subst, clash, false, List, [], ◌∷◌, Option, None, Some, none-some, ℕ, ◌<◌, ◌≤◌, arith, T, eqb, length, lt-ltb, le-ltb}
 use Rattle.meaning_filter.specs.{declared.Pick.Pick, Matches.all_matches, Closest.handed, Closest.fewest}
 use Rattle.meaning_filter.proofs.{Matches.all_found, Closest.closest-many}
 use Rattle.meaning_entries.specs.Search.{SearchCall, SearchBuffers, question, list_room, search_matches, search_handed, search_candidates, search_plan, search_table, search_refusal, looked, search_refused, search_told, search_answer, looked_after, search_after}
-use Rattle.meaning_entries.specs.{declared.Found.Found, Refusal.Condition, Refusal.first_refusal, Refusal.list_short, Audit.PassesCovered}
-use Rattle.meaning_entries.proofs.Refusal.{open_lines, First, here, more, end, passed_is, first-is, is-passed, is-first, lacks, first-left, first-right, first-lacks, passed-line, passed-both}
+use Rattle.meaning_entries.specs.{declared.Found.Found, Answers.refusal, Refusal.Condition, Refusal.first_refusal, Refusal.list_short, Audit.PassesCovered}
+use Rattle.meaning_entries.proofs.Refused.{open_lines, First, here, more, end, passed_is, first-is, is-passed, is-first, lacks, first-left, first-right, first-lacks, passed-line, passed-both}
 use Rattle.meaning_entries.proofs.{Lines.query-line, Lines.scale-line, Lines.room-line, Passes.passes-reached}
 
 -- 24
@@ -43,7 +44,7 @@ module _ (c : SearchCall) (b : SearchBuffers) where
     pub plan-other : eqb n 24 ≡ false
     plan-other = first-lacks 24 (not-24 c b) f
 
-    pub plan-refused : (search_answer c b ≡ Found.Refused n p) × (search_after c b ≡ b)
+    pub plan-refused : (search_answer c b ≡ Err (refusal (n, p))) × (search_after c b ≡ b)
     unfolding search_answer search_refused search_after looked
     plan-refused = (rw (plan-refusal, search_answer) (rw (plan-other, search_refused)), rw (plan-refusal, search_after) (rw plan-other))
 
@@ -53,11 +54,11 @@ module _ (c : SearchCall) (b : SearchBuffers) where
     unfolding search_table
     last-decides = first-right _ (is-passed _ e)
 
-    pub plan-all : length (search_handed c) ≤ list_room b → (search_answer c b ≡ search_told c.ask.pick (search_candidates c) (length (search_matches c))) × (search_after c b ≡ looked_after c b)
+    pub plan-all : length (search_handed c) ≤ list_room b → (search_answer c b ≡ Ok (search_told c.ask.pick (search_candidates c) (length (search_matches c)))) × (search_after c b ≡ looked_after c b)
     unfolding search_answer search_after looked
     plan-all h = let f = last-decides ∙ list-holds _ _ h in (rw (f, search_answer), rw (f, search_after))
 
-    pub plan-full : list_room b < length (search_handed c) → (search_answer c b ≡ Found.Full (search_candidates c) (length (search_matches c))) × (search_after c b ≡ looked_after c b)
+    pub plan-full : list_room b < length (search_handed c) → (search_answer c b ≡ Ok (Found.Full (search_candidates c) (length (search_matches c)))) × (search_after c b ≡ looked_after c b)
     unfolding search_answer search_after search_refused looked
     plan-full h = let f = last-decides ∙ list-short _ _ h in (rw (f, search_answer, search_refused), rw (f, search_after))
 

@@ -8,7 +8,7 @@ use Rattle.meaning_rows.proofs.{Judge.is_within, Judge.WellFormed, Extend.Extend
 use Rattle.meaning_filter.specs.Matches.{all_matches}
 use Rattle.meaning_filter.proofs.Matches.{all_found}
 use Rattle.meaning_entries.specs.{Refusal.at_zero, Refusal.first_refusal, Refusal.window_outside, Refusal.width_outside, Buffers.IndexBuffers, Audit.Passes, Audit.PassesCovered, Build.BuildCall, Build.build_table, Build.build_refusal, Build.build_index, Build.build_windows, Search.question, Search.search_matches, Program.text_program, Program.call_lines, Program.program_table, Program.program_index, Program.program_search, Extend.ExtendCall, Extend.extend_table, Extend.extend_refusal, Extend.extend_index, Extend.extend_windows}
-use Rattle.meaning_entries.proofs.{Refusal.is-passed, Refusal.open_lines, Refusal.passed-line, Refusal.not-if, Lines.long-line, Lines.window-line, Lines.width-line, Lines.formed-line, Lines.more-line, Lines.query-line, Lines.scale-line, Passes.Passed, Passes.passed, Passes.whole-reached, Passes.passes}
+use Rattle.meaning_entries.proofs.{Refused.is-passed, Refused.open_lines, Refused.passed-line, Refused.not-if, Lines.long-line, Lines.window-line, Lines.width-line, Lines.formed-line, Lines.more-line, Lines.query-line, Lines.scale-line, Passes.Passed, Passes.passed, Passes.whole-reached, Passes.passes}
 
 -- a test that does not refuse where its failing would
 holds : (n : ℕ) (t : Bool) → (at_zero n (not t)).place ≡ None → T t

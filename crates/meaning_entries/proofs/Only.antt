@@ -3,25 +3,25 @@ use Rattle.meaning_numbers.proofs.Prelude.{◌≡◌, refl, sym, ap, ◌∙◌, 
 use Rattle.meaning_rows.specs.Index.{Index}
 use Rattle.meaning_filter.specs.declared.Ask.{Ask}
 use Rattle.meaning_entries.specs.Demand2.{BuildKept, ExtendKept, AuditKept, WriteKept, LoadKept, SearchKept, AuditTextKept, ProgramKept}
-use Rattle.meaning_entries.specs.{declared.Built.Built, declared.Extended.Extended, declared.Audited.Audited, declared.Written.Written, declared.Loaded.Loaded, declared.Found.Found, Refusal.first_refusal, Buffers.IndexBuffers, Build.BuildCall, Build.lent_build, Build.build_answer, Build.build_after, Extend.ExtendCall, Extend.extend_answer, Extend.extend_after, Audit.AuditCall, Audit.audit_answer, Write.write_answer, Write.write_after, Load.load_answer, Load.load_after, Search.SearchCall, Search.SearchBuffers, Search.lent_ask, Search.plain_ask, Search.search_answer, Search.search_after, AuditText.audit_text_answer, AuditText.audit_text, AuditText.unpack, Program.program_table, Program.program, Demand1.ProgramRefuses}
+use Rattle.meaning_entries.specs.{Answers.Built, Answers.AuditAnswer, Answers.Written, Answers.SearchAnswer, Refusal.first_refusal, Buffers.IndexBuffers, Build.BuildCall, Build.lent_build, Build.build_answer, Build.build_after, Extend.ExtendCall, Extend.extend_answer, Extend.extend_after, Audit.AuditCall, Audit.audit_answer, Write.write_answer, Write.write_after, Load.load_answer, Load.load_after, Search.SearchCall, Search.SearchBuffers, Search.lent_ask, Search.plain_ask, Search.search_answer, Search.search_after, AuditText.audit_text_answer, AuditText.audit_text, AuditText.unpack, Program.program_table, Program.program, Demand1.ProgramRefuses}
 use Rattle.meaning_entries.proofs.{Demand1.program-by, Demand1.program-free, Pack.audit-text-back}
 
 pub build-only : {c : BuildCall} {b : IndexBuffers} {a : Built} {after : IndexBuffers} → BuildKept c b a after → (a ≡ build_answer c b) × (after ≡ build_after c b)
 build-only k = (k.answered, λ i. record { rows = k.rows i; left = k.left i; right = k.right i })
 
-pub extend-only : {c : ExtendCall} {b : IndexBuffers} {a : Extended} {after : IndexBuffers} → ExtendKept c b a after → (a ≡ extend_answer c b) × (after ≡ extend_after c b)
+pub extend-only : {c : ExtendCall} {b : IndexBuffers} {a : Built} {after : IndexBuffers} → ExtendKept c b a after → (a ≡ extend_answer c b) × (after ≡ extend_after c b)
 extend-only k = (k.answered, λ i. record { rows = k.rows i; left = k.left i; right = k.right i })
 
-pub audit-only : {c : AuditCall} {a : Audited} → AuditKept c a → a ≡ audit_answer c
+pub audit-only : {c : AuditCall} {a : AuditAnswer} → AuditKept c a → a ≡ audit_answer c
 audit-only k = k.answered
 
 pub write-only : {x : Index} {t : List ℕ} {a : Written} {after : List ℕ} → WriteKept x t a after → (a ≡ write_answer x t) × (after ≡ write_after x t)
 write-only k = (k.answered, k.text)
 
-pub load-only : {t : List ℕ} {b : IndexBuffers} {a : Loaded} {after : IndexBuffers} → LoadKept t b a after → (a ≡ load_answer t b) × (after ≡ load_after t b)
+pub load-only : {t : List ℕ} {b : IndexBuffers} {a : Built} {after : IndexBuffers} → LoadKept t b a after → (a ≡ load_answer t b) × (after ≡ load_after t b)
 load-only k = (k.answered, λ i. record { rows = k.rows i; left = k.left i; right = k.right i })
 
-pub search-only : {c : SearchCall} {b : SearchBuffers} {a : Found} {after : SearchBuffers} → SearchKept c b a after → (a ≡ search_answer c b) × (after ≡ search_after c b)
+pub search-only : {c : SearchCall} {b : SearchBuffers} {a : SearchAnswer} {after : SearchBuffers} → SearchKept c b a after → (a ≡ search_answer c b) × (after ≡ search_after c b)
 search-only k = (k.answered, λ i. record { left = k.left i; right = k.right i; scratch = k.scratch i; offsets = k.offsets i; distances = k.distances i })
 
 pub audit-text-only : {x s : List ℕ} {a : ℕ} → AuditTextKept x s a → (a ≡ audit_text x s) × (unpack a ≡ audit_text_answer x s)

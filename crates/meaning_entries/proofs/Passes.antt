@@ -1,11 +1,12 @@
 -- What it says that an index passes against a series (`passed`): it is well formed, it has n - w + 1 windows, and each stands in the row that holds its sum and in no other; and back (`passes`). So every window of an index that passes against the part of a series that it covers can be reached by the filter (`passes-reached`), and on a yes the run lengths total the windows (`passes-total`).
+use Rattle.std.specs.Prelude.{Ok, Err}
 use Rattle.meaning_numbers.proofs.Prelude.{◌≡◌, refl, List, Option, None, Some, ℕ, zero, suc, ◌+◌, ◌-◌, arith, T, ℤ, pos, nat_abs, ◌-ℤ◌, length, take_all, ◌≤ℤ◌, zarith, z-add, z-sub}
 use Rattle.meaning_curves.specs.Limits.{most_values, length_in, first_outside}
 use Rattle.meaning_rows.specs.{Index.Index, Index.covered, Audit.first_wrong, Audit.missing, Judge.length_total}
 use Rattle.meaning_rows.proofs.{Judge.WellFormed, Judge.none-bad, Audit.Filed, Audit.audit-yes, Audit.filed-passes, Audit.yes-total}
 use Rattle.meaning_filter.proofs.Candidates.{Reached, filed-reached}
-use Rattle.meaning_entries.specs.{declared.Audited.Audited, Refusal.first_refusal, Refusal.ill_formed, Refusal.windows_of, Audit.AuditCall, Audit.audit_table, Audit.complete, Audit.audited, Audit.audit_answer, Audit.Passes, Audit.PassesCovered}
-use Rattle.meaning_entries.proofs.Refusal.{more, passed_is, passed-join, is-passed, open_lines, passed-line}
+use Rattle.meaning_entries.specs.{declared.Audited.Audited, Answers.AuditAnswer, Refusal.first_refusal, Refusal.ill_formed, Refusal.windows_of, Audit.AuditCall, Audit.audit_table, Audit.complete, Audit.audited, Audit.audit_answer, Audit.Passes, Audit.PassesCovered}
+use Rattle.meaning_entries.proofs.Refused.{more, passed_is, passed-join, is-passed, open_lines, passed-line}
 use Rattle.meaning_entries.proofs.Lines.{formed-line, fewer-line, more-line, series-passes, count-passes}
 
 -- yes is said where nothing refuses, nothing is filed wrongly and nothing is missing
@@ -24,9 +25,9 @@ unfolding audited
 yes-right c free None e h = record { free = free; right = e; full = complete-yes _ (rw (e, audited) at h) }
 yes-right c free (Some x) e h = let z : ◌≡◌ {A = ℕ} 0 1 = cc in absurd (omega arith)
 
-yes-free : (c : AuditCall) (o : Option (ℕ × ℕ)) → first_refusal (audit_table most_values c) ≡ o → audit_answer c ≡ Audited.Yes → Yes c
+yes-free : (c : AuditCall) (o : Option (ℕ × ℕ)) → first_refusal (audit_table most_values c) ≡ o → audit_answer c ≡ Ok Audited.Yes → Yes c
 unfolding audit_answer
-yes-free c None e h = yes-right c e _ refl (rw (e, audit_answer) at h)
+yes-free c None e h = let k : ◌≡◌ {A = AuditAnswer} (Ok (audited c)) (Ok Audited.Yes) = rw (e, audit_answer) at h in yes-right c e _ refl cc
 yes-free c (Some r) e h = let z : ◌≡◌ {A = ℕ} 0 1 = cc in absurd (omega arith)
 
 -- an index that passes
@@ -74,7 +75,7 @@ passes-total x s p = let y = passed x s p in yes-total x s y.formed y.filed
 
 -- ---- and back
 
-yes-said : (c : AuditCall) → first_refusal (audit_table most_values c) ≡ None → first_wrong c.index c.series ≡ None → missing c.index ≡ 0 → audit_answer c ≡ Audited.Yes
+yes-said : (c : AuditCall) → first_refusal (audit_table most_values c) ≡ None → first_wrong c.index c.series ≡ None → missing c.index ≡ 0 → audit_answer c ≡ Ok Audited.Yes
 unfolding audit_answer audited complete
 yes-said c free right full = rw (free, audit_answer) (rw (right, audited) (rw full refl))
 

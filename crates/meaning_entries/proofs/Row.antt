@@ -1,10 +1,11 @@
 -- Rows of the table of cases that are whole texts: what goes in, and what must come out.
 use Prim.Native.String.{String}
 use Rattle.meaning_numbers.proofs.Table.{same_list}
+use Rattle.std.specs.Prelude.{Ok, Err}
 use Rattle.meaning_numbers.proofs.Prelude.{Bool, false, List, ◌++◌, ℕ, eqb, pos, replicate}
 use Rattle.meaning_rows.specs.Index.{zero_row, Index}
 use Rattle.meaning_text.specs.{Bytes.bytes, Number.spellℤ, Form.both, Read.fine, Read.unfit, Read.read_text, Texts.index_form, Texts.series_form, Texts.index_said, Texts.index_text, Texts.refused_text}
-use Rattle.meaning_entries.specs.{declared.Audited.Audited, declared.Extended.Extended, Buffers.IndexBuffers, Extend.ExtendCall, Extend.extend_answer, Extend.extend_index, AuditText.audit_text, AuditText.unpack, Program.program}
+use Rattle.meaning_entries.specs.{declared.Audited.Audited, Answers.AuditAnswer, Answers.Built, Buffers.IndexBuffers, Extend.ExtendCall, Extend.extend_answer, Extend.extend_index, AuditText.audit_text, AuditText.unpack, Program.program}
 
 same : List ℕ → String → Bool
 same t s = same_list eqb t (bytes s)
@@ -18,12 +19,12 @@ prints input output = same (program (bytes input)) output
 item : ℕ → List ℕ
 item n = bytes " " ++ spellℤ (pos n)
 
-said : Audited → List ℕ
+said : AuditAnswer → List ℕ
 unfolding item
-said Audited.Yes = bytes "(yes)\n"
-said (Audited.Wrong row offset) = bytes "(wrong" ++ (item row ++ (item offset ++ bytes ")\n"))
-said (Audited.Missing count) = bytes "(missing" ++ (item count ++ bytes ")\n")
-said (Audited.Refused n p) = refused_text n p
+said (Ok Audited.Yes) = bytes "(yes)\n"
+said (Ok (Audited.Wrong row offset)) = bytes "(wrong" ++ (item row ++ (item offset ++ bytes ")\n"))
+said (Ok (Audited.Missing count)) = bytes "(missing" ++ (item count ++ bytes ")\n")
+said (Err r) = refused_text r.number r.place
 
 -- the audit of two texts, by way of the number that the entry returns
 unfoldable pub audits : String → String → String → Bool
@@ -33,9 +34,9 @@ audits index series output = same (said (unpack (audit_text (bytes index) (bytes
 room : IndexBuffers
 room = record { rows = replicate 100 zero_row; left = replicate 100 0; right = replicate 100 0 }
 
-grown_by : ExtendCall → Extended → List ℕ
-grown_by c (Extended.Index h rows runs) = index_text (extend_index c)
-grown_by c (Extended.Refused n p) = refused_text n p
+grown_by : ExtendCall → Built → List ℕ
+grown_by c (Ok m) = index_text (extend_index c)
+grown_by c (Err r) = refused_text r.number r.place
 
 -- an index text with a series line behind it: the index extended over the series
 unfoldable pub extends : String → String → Bool

@@ -1,11 +1,12 @@
 -- What stands in the buffers after a build that answered an index passes against the series (`build-stands`); so does what an extension leaves there, if the old index passes against the part of the series that it covers (`extend-stands`).
 -- Each has at most as many rows and runs as windows. Both are laws of the promises, so of every function that keeps them.
+use Rattle.std.specs.Prelude.{Ok, Err}
 use Rattle.meaning_numbers.proofs.Prelude.{◌≡◌, refl, sym, ap, ◌∙◌, List, [], ◌∷◌, ◌++◌, map, None, Some, ℕ, ◌≤◌, arith, ℤ, pos, nat_abs, length, take, length-map, take-append_seam}
 use Rattle.meaning_curves.specs.Curve.{window_count}
 use Rattle.meaning_rows.specs.Index.{zero_row, Index, Entry, entries, lent, laid_out, all_runs}
 use Rattle.meaning_rows.specs.{declared.Row.Row, declared.Head.Head, Runs.runs, Build.SetRow, Build.merged, Build.entry, Build.with_runs, Build.built_rows, Build.built, Extend.insert_rows, Extend.extended_rows, Extend.extended}
 use Rattle.meaning_entries.specs.Extend.{ExtendCall, lent_extend, extend_index, extend_head, extend_counts, extend_after, extend_windows}
-use Rattle.meaning_entries.specs.{declared.Built.Built, declared.Extended.Extended, Buffers.IndexBuffers, Buffers.filled, Buffers.lefts, Buffers.rights, Buffers.index_in, Answers.head_of, Build.BuildCall, Build.lent_build, Build.build_index, Build.build_head, Build.build_counts, Build.build_after, Build.build_windows, Audit.Passes, Audit.PassesCovered, Demand2.BuildKept, Demand2.ExtendKept}
+use Rattle.meaning_entries.specs.{Answers.held, Buffers.IndexBuffers, Buffers.filled, Buffers.lefts, Buffers.rights, Buffers.index_in, Answers.head_of, Build.BuildCall, Build.lent_build, Build.build_index, Build.build_head, Build.build_counts, Build.build_after, Build.build_windows, Audit.Passes, Audit.PassesCovered, Demand2.BuildKept, Demand2.ExtendKept}
 use Rattle.meaning_entries.proofs.Made.{build-passes, build-most, extend-passes, extend-most}
 
 -- an index of n rows and k runs out of buffers
@@ -68,7 +69,7 @@ module _ (s : List ℤ) (w d g : ℕ) (before : IndexBuffers) where
   unfolding build_index built built_rows
   build-whole = let m = window_count _ w in read_back w d m (merged g m _) before
 
-  pub build-stands : (after : IndexBuffers) (h : Head) (n k : ℕ) → BuildKept build before (Built.Index h n k) after → Stands (index_of h n k after) s (build_windows build) n k
+  pub build-stands : (after : IndexBuffers) (h : Head) (n k : ℕ) → BuildKept build before (Ok (held h n k)) after → Stands (index_of h n k after) s (build_windows build) n k
   unfolding build_head build_counts build_after
   build-stands after h n k kept =
       let e = sym kept.refused in
@@ -84,7 +85,7 @@ module _ (s : List ℤ) (head : Head) (from : List Row) (olds : List ℕ) (ends 
   extend-whole =
       read_back _ head.width (window_count _ _) (insert_rows _ _) before
 
-  pub extend-stands : (after : IndexBuffers) (h : Head) (n k : ℕ) → ExtendKept extend before (Extended.Index h n k) after
+  pub extend-stands : (after : IndexBuffers) (h : Head) (n k : ℕ) → ExtendKept extend before (Ok (held h n k)) after
       → PassesCovered extend.index s → Stands (index_of h n k after) s (extend_windows extend) n k
   unfolding extend_head extend_counts extend_after
   extend-stands after h n k kept p =

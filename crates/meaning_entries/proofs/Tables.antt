@@ -2,7 +2,7 @@
 use Rattle.meaning_numbers.proofs.Prelude.{◌≡◌, refl, clash, List, Some, ℕ, T}
 use Rattle.meaning_rows.specs.Index.{Index}
 use Rattle.meaning_entries.specs.{Refusal.order, Refusal.follows, Buffers.IndexBuffers, Build.BuildCall, Build.build_table, Extend.ExtendCall, Extend.extend_table, Audit.AuditCall, Audit.audit_table, Write.write_table, Load.load_table, Search.SearchCall, Search.SearchBuffers, Search.search_plan, Search.search_table, Search.search_refusal, AuditText.audit_text_table, Program.call_lines, Program.program_table}
-use Rattle.meaning_entries.proofs.Refusal.{open_lines, is-first, lacks, first-lacks}
+use Rattle.meaning_entries.proofs.Refused.{open_lines, is-first, lacks, first-lacks}
 
 unfoldable open_tables : Unit {0}
 unfolding open_lines order follows build_table extend_table audit_table write_table load_table search_plan search_table audit_text_table call_lines program_table

@@ -1,4 +1,5 @@
 -- Demand 3 is not empty: searches that it speaks of exist. Of the worked series, all four queries, each through three indexes with other w, d and g, of which one covers only the first three values. By computation.
+use Rattle.std.specs.Prelude.{Ok, Err}
 use Rattle.meaning_numbers.proofs.Prelude.{◌≡◌, refl, List, [], ◌∷◌, ℕ, ℤ, pos, replicate, take}
 use Rattle.meaning_rows.specs.{Index.Index, Build.built}
 use Rattle.meaning_filter.specs.{declared.Kind.Kind, declared.Kind.TheVariants.Raw, declared.Kind.TheVariants.Normal, declared.Pick.Pick}
@@ -36,7 +37,7 @@ unfolding open_entries series merged single early search room
 open_witness = tt
 
 -- a search with the list's first entries, by what it computes to
-searched : (c : SearchCall) (candidates count : ℕ) (list : List (ℕ × ℕ)) → PassesCovered c.index c.series → Found.All candidates count ≡ search_answer c room →
+searched : (c : SearchCall) (candidates count : ℕ) (list : List (ℕ × ℕ)) → PassesCovered c.index c.series → Ok (Found.All candidates count) ≡ search_answer c room →
     list ≡ list_in count (search_after c room) → Searched c count list
 searched c candidates count list p e l =
     record { passes = p; before = room; after = search_after c room; candidates = candidates; kept = search-kept c room _ _ e refl; listed = l }

@@ -1,10 +1,10 @@
 -- The entry audit, and what it is for an index to pass against a series.
 use Rattle.std.specs.Prelude.{ℕ, zero, suc, ℤ, length, List, ◌∷◌, ◌++◌, ◌≡◌}
 use Rattle.std.specs.declared.option.Option.{Option}
-use Rattle.std.specs.Prelude.{None, Some}
+use Rattle.std.specs.Prelude.{None, Some, Ok, Err}
 use Rattle.meaning_curves.specs.Limits.{most_values}
 use Rattle.meaning_rows.specs.{declared.Row.Row, declared.Head.Head, Index.Index, Index.lent, Index.covered, Audit.first_wrong, Audit.missing}
-use Rattle.meaning_entries.specs.{declared.Audited.Audited, Refusal.Condition, Refusal.first_refusal, Refusal.ill_formed, Refusal.series_lines, Refusal.count_lines}
+use Rattle.meaning_entries.specs.{declared.Audited.Audited, Answers.AuditAnswer, Answers.refusal, Refusal.Condition, Refusal.first_refusal, Refusal.ill_formed, Refusal.series_lines, Refusal.count_lines}
 
 -- the series, and the index that is to have its windows
 pub record AuditCall : Type 0 where
@@ -35,8 +35,8 @@ complete (suc n) = Audited.Missing (suc n)
 unfoldable pub audited : AuditCall → Audited
 audited c = elim (first_wrong c.index c.series) [ Some x ↦ Audited.Wrong x.0 x.1 | None ↦ complete (missing c.index) ]
 
-unfoldable pub audit_answer : AuditCall → Audited
-audit_answer c = elim (first_refusal (audit_table most_values c)) [ Some r ↦ Audited.Refused r.0 r.1 | None ↦ audited c ]
+unfoldable pub audit_answer : AuditCall → AuditAnswer
+audit_answer c = elim (first_refusal (audit_table most_values c)) [ Some r ↦ Err (refusal r) | None ↦ Ok (audited c) ]
 
 -- the first row and offset filed wrongly, of an audit that nothing refuses
 unfoldable pub wrong_in : Option (ℕ × ℕ) → AuditCall → Option (ℕ × ℕ)
@@ -57,7 +57,7 @@ audit_missing c = missing_in (first_refusal (audit_table most_values c)) c
 
 -- 01, Rows: an index passes against a series exactly if the audit of the two, over lent rows, is not refused and says yes; here of any index, lent ones among them (law: `passed`)
 abbrev pub Passes : Index → List ℤ → Type 0
-Passes x s = audit_answer (record { series = s; index = x }) ≡ Audited.Yes
+Passes x s = audit_answer (record { series = s; index = x }) ≡ Ok Audited.Yes
 
 -- 02, item 1: it passes against the part of the series that it covers
 abbrev pub PassesCovered : Index → List ℤ → Type 0

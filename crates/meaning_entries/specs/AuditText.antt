@@ -1,9 +1,9 @@
 -- The audit of two texts, as the payout program calls it: index text and series line as bytes, a number as the answer.
 use Rattle.std.specs.Prelude.{ℕ, zero, suc, ◌+◌, ◌*◌, ◌/◌, ◌%◌, eqb, ℤ, true, false, List, [], ◌∷◌}
-use Rattle.std.specs.Prelude.{None, Some}
+use Rattle.std.specs.Prelude.{None, Some, Ok, Err}
 use Rattle.meaning_curves.specs.Limits.{most_values, most_program_values}
 use Rattle.meaning_text.specs.{Bytes.newlines, Read.fine, Read.unfit, Read.read_text, Texts.index_form, Texts.series_form}
-use Rattle.meaning_entries.specs.{declared.Audited.Audited, Refusal.Condition, Refusal.first_refusal, Refusal.unreadable, Audit.AuditCall, Audit.audit_table, Audit.audited, Load.text_index}
+use Rattle.meaning_entries.specs.{declared.Audited.Audited, Answers.AuditAnswer, Answers.refusal, Refusal.Condition, Refusal.first_refusal, Refusal.unreadable, Audit.AuditCall, Audit.audit_table, Audit.audited, Load.text_index}
 
 -- the series that a line gives; of a line that cannot be read nothing is asked
 unfoldable pub text_series : List ℕ → List ℤ
@@ -20,8 +20,8 @@ audit_text_table index series =
     ∷ unreadable series_form (newlines index) series
     ∷ audit_table most_program_values (text_call index series)
 
-unfoldable pub audit_text_answer : List ℕ → List ℕ → Audited
-audit_text_answer index series = elim (first_refusal (audit_text_table index series)) [ Some r ↦ Audited.Refused r.0 r.1 | None ↦ audited (text_call index series) ]
+unfoldable pub audit_text_answer : List ℕ → List ℕ → AuditAnswer
+audit_text_answer index series = elim (first_refusal (audit_text_table index series)) [ Some r ↦ Err (refusal r) | None ↦ Ok (audited (text_call index series)) ]
 
 -- ---- the number that the entry returns
 
@@ -30,22 +30,22 @@ unfoldable pub pack_refusal : ℕ → ℕ → ℕ
 pack_refusal n p = elim (eqb n 12) [ true ↦ 8 * p + 3 | false ↦ 8 * (32 * p + n) + 4 ]
 
 -- an answer as a number: the remainder by 8 is 0 for yes, 1 for wrong, 2 for missing
-unfoldable pub pack : Audited → ℕ
-pack Audited.Yes = 0
-pack (Audited.Wrong row offset) = 8 * (most_values * row + offset) + 1
-pack (Audited.Missing count) = 8 * count + 2
-pack (Audited.Refused n p) = pack_refusal n p
+unfoldable pub pack : AuditAnswer → ℕ
+pack (Ok Audited.Yes) = 0
+pack (Ok (Audited.Wrong row offset)) = 8 * (most_values * row + offset) + 1
+pack (Ok (Audited.Missing count)) = 8 * count + 2
+pack (Err r) = pack_refusal r.number r.place
 
 -- the answer of a quotient, by the remainder
-unfoldable pub unpack_by : ℕ → ℕ → Audited
-unpack_by zero v = Audited.Yes
-unpack_by (suc zero) v = Audited.Wrong (v / most_values) (v % most_values)
-unpack_by (suc (suc zero)) v = Audited.Missing v
-unpack_by (suc (suc (suc zero))) v = Audited.Refused 12 v
-unpack_by (suc (suc (suc (suc r)))) v = Audited.Refused (v % 32) (v / 32)
+unfoldable pub unpack_by : ℕ → ℕ → AuditAnswer
+unpack_by zero v = Ok Audited.Yes
+unpack_by (suc zero) v = Ok (Audited.Wrong (v / most_values) (v % most_values))
+unpack_by (suc (suc zero)) v = Ok (Audited.Missing v)
+unpack_by (suc (suc (suc zero))) v = Err (refusal (12, v))
+unpack_by (suc (suc (suc (suc r)))) v = Err (refusal (v % 32, v / 32))
 
 -- an answer from its number
-unfoldable pub unpack : ℕ → Audited
+unfoldable pub unpack : ℕ → AuditAnswer
 unpack n = unpack_by (n % 8) (n / 8)
 
 -- the audit of two texts

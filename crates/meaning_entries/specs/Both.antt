@@ -3,32 +3,32 @@
 -- Demand 3 is about searches that give the whole list: `c` hands out all matches (02, item 2), so neither answers `Found.Few`.
 use Rattle.std.specs.Prelude.{ℕ, length, Bool, true, false, cond, ◌≡◌}
 use Rattle.std.specs.declared.option.Option.{Option}
-use Rattle.std.specs.Prelude.{None, Some}
+use Rattle.std.specs.Prelude.{None, Some, Ok, Err}
 use Rattle.meaning_curves.specs.Limits.{most_values}
 use Rattle.meaning_rows.specs.Index.{Index, covered}
-use Rattle.meaning_entries.specs.{declared.Audited.Audited, declared.Found.Found, declared.Both.Both, Refusal.first_refusal, Audit.AuditCall, Audit.audit_table, Audit.audit_answer, Audit.audit_wrong, Audit.audit_missing, Audit.PassesCovered, Search.SearchCall, Search.SearchBuffers, Search.search_matches, Search.search_refusal, Search.search_answer, Search.search_counts, Demand3.through, Demand3.list_in, Demand3.SameMatches, Answers.both_refusal, Answers.both_wrong, Answers.both_missing, Answers.both_counts, Answers.both_found, Demand2.SearchKept}
+use Rattle.meaning_entries.specs.{declared.Audited.Audited, declared.Found.Found, declared.Both.Both, Answers.AuditAnswer, Answers.SearchAnswer, Refusal.first_refusal, Audit.AuditCall, Audit.audit_table, Audit.audit_answer, Audit.audit_wrong, Audit.audit_missing, Audit.PassesCovered, Search.SearchCall, Search.SearchBuffers, Search.search_matches, Search.search_refusal, Search.search_answer, Search.search_counts, Demand3.through, Demand3.list_in, Demand3.SameMatches, Answers.both_refusal, Answers.both_wrong, Answers.both_missing, Answers.both_counts, Answers.both_found, Demand2.SearchKept}
 
-unfoldable pub yes : Audited → Bool
-yes Audited.Yes = true
-yes (Audited.Wrong row offset) = false
-yes (Audited.Missing count) = false
-yes (Audited.Refused number place) = false
+unfoldable pub yes : AuditAnswer → Bool
+yes (Ok Audited.Yes) = true
+yes (Ok (Audited.Wrong row offset)) = false
+yes (Ok (Audited.Missing count)) = false
+yes (Err r) = false
 
 -- where the first search listed `count` matches
-unfoldable pub told_second : ℕ → Found → Both
-told_second count (Found.All candidates matches) = Both.Listed count matches
-told_second count (Found.Full candidates matches) = Both.SecondSearch (Found.Full candidates matches)
-told_second count (Found.Few candidates matches) = Both.SecondSearch (Found.Few candidates matches)
-told_second count (Found.Refused number place) = Both.SecondSearch (Found.Refused number place)
+unfoldable pub told_second : ℕ → SearchAnswer → Both
+told_second count (Ok (Found.All candidates matches)) = Both.Listed count matches
+told_second count (Ok (Found.Full candidates matches)) = Both.SecondSearch (Ok (Found.Full candidates matches))
+told_second count (Ok (Found.Few candidates matches)) = Both.SecondSearch (Ok (Found.Few candidates matches))
+told_second count (Err r) = Both.SecondSearch (Err r)
 
-unfoldable pub told_found : Found → Found → Both
-told_found (Found.All candidates matches) second = told_second matches second
-told_found (Found.Full candidates matches) second = Both.FirstSearch (Found.Full candidates matches)
-told_found (Found.Few candidates matches) second = Both.FirstSearch (Found.Few candidates matches)
-told_found (Found.Refused number place) second = Both.FirstSearch (Found.Refused number place)
+unfoldable pub told_found : SearchAnswer → SearchAnswer → Both
+told_found (Ok (Found.All candidates matches)) second = told_second matches second
+told_found (Ok (Found.Full candidates matches)) second = Both.FirstSearch (Ok (Found.Full candidates matches))
+told_found (Ok (Found.Few candidates matches)) second = Both.FirstSearch (Ok (Found.Few candidates matches))
+told_found (Err r) second = Both.FirstSearch (Err r)
 
 -- what two audits and two searches come to
-unfoldable pub told : Audited → Audited → Found → Found → Both
+unfoldable pub told : AuditAnswer → AuditAnswer → SearchAnswer → SearchAnswer → Both
 told one two first second = cond (yes one) (cond (yes two) (told_found first second) (Both.SecondAudit two)) (Both.FirstAudit one)
 
 -- the audit of a search's index, against the part of the series that it covers

@@ -1,11 +1,11 @@
 -- The entry build.
 use Rattle.std.specs.Prelude.{ℕ, ℤ, pos, nat_abs, length, List, [], ◌∷◌, ◌++◌}
 use Rattle.std.specs.declared.option.Option.{Option}
-use Rattle.std.specs.Prelude.{None, Some}
+use Rattle.std.specs.Prelude.{None, Some, Ok, Err}
 use Rattle.meaning_curves.specs.{Limits.most_values, Curve.window_count}
 use Rattle.meaning_rows.specs.{declared.Head.Head, Index.Index, Build.built}
 use Rattle.meaning_entries.specs.Refusal.{Condition, first_refusal, window_outside, width_outside, merge_outside, series_lines, room_lines}
-use Rattle.meaning_entries.specs.{declared.Built.Built, Buffers.IndexBuffers, Buffers.run_room, Buffers.index_in, Answers.head_of}
+use Rattle.meaning_entries.specs.{Buffers.IndexBuffers, Buffers.run_room, Buffers.index_in, Answers.Built, Answers.refusal, Answers.held, Answers.head_of}
 
 -- series, window length w, row width d, merge percentage g
 pub record BuildCall : Type 0 where
@@ -45,8 +45,8 @@ build_index c = built c.series (nat_abs c.window) (nat_abs c.width) (nat_abs c.m
 
 unfoldable pub build_answer : BuildCall → IndexBuffers → Built
 build_answer c b = elim (build_refusal c b) [
-  | Some r ↦ Built.Refused r.0 r.1
-  | None ↦ Built.Index (head_of (build_index c)) (length (build_index c).rows) (length (build_index c).runs)
+  | Some r ↦ Err (refusal r)
+  | None ↦ Ok (held (head_of (build_index c)) (length (build_index c).rows) (length (build_index c).runs))
 ]
 
 -- the head of the index that stands in the buffers; a refusal gives none

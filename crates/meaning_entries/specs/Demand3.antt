@@ -1,7 +1,7 @@
 -- Demand 3: through whichever two audited indexes, the same list, and that list is exactly all matches. One claim about both searches together and all four queries.
 -- 02, item 1: each index passes the audit against the series cut to windows + w - 1 values, each to its own cut; the matches are those of the whole series.
 -- It is a claim about the meanings: a search that keeps its promise (`SearchKept`, demand 2) meets it, through whichever index passes.
-use Rattle.std.specs.Prelude.{ℕ, length, take, List, [], ◌∷◌, ◌≡◌}
+use Rattle.std.specs.Prelude.{ℕ, length, take, List, [], ◌∷◌, ◌≡◌, Ok}
 use Rattle.meaning_rows.specs.Index.{Index}
 use Rattle.meaning_filter.specs.Matches.{all_matches, Exactly}
 use Rattle.meaning_entries.specs.{declared.Found.Found, Audit.PassesCovered, Search.SearchCall, Search.SearchBuffers, Search.question, Demand2.SearchKept}
@@ -22,7 +22,7 @@ pub record Searched (c : SearchCall) (count : ℕ) (list : List (ℕ × ℕ)) : 
   pub before : SearchBuffers
   pub after : SearchBuffers
   pub candidates : ℕ
-  pub kept : SearchKept c before (Found.All candidates count) after
+  pub kept : SearchKept c before (Ok (Found.All candidates count)) after
   pub listed : list ≡ list_in count after
 
 -- the same search through another index
@@ -47,7 +47,7 @@ Demand3 =
 
 -- a search that kept its promise and listed `count` matches
 abbrev pub Lists : SearchCall → ℕ → SearchBuffers → Type 0
-Lists c count after = (before : SearchBuffers) × (candidates : ℕ) × SearchKept c before (Found.All candidates count) after
+Lists c count after = (before : SearchBuffers) × (candidates : ℕ) × SearchKept c before (Ok (Found.All candidates count)) after
 
 -- its list is what a scan of all offsets lists, and that is exactly all matches (law: `scans-only`, there is one such list)
 pub record Scans (c : SearchCall) (count : ℕ) (after : SearchBuffers) : Type 0 where

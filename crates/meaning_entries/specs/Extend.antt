@@ -1,10 +1,10 @@
 -- The entry extend: the old index is lent, the result goes to fresh buffers.
 use Rattle.std.specs.Prelude.{ℕ, ℤ, nat_abs, length, List, ◌∷◌, ◌++◌}
 use Rattle.std.specs.declared.option.Option.{Option}
-use Rattle.std.specs.Prelude.{None, Some}
+use Rattle.std.specs.Prelude.{None, Some, Ok, Err}
 use Rattle.meaning_curves.specs.{Limits.most_values, Curve.window_count}
 use Rattle.meaning_rows.specs.{declared.Row.Row, declared.Head.Head, Index.Index, Index.lent, Extend.extended}
-use Rattle.meaning_entries.specs.{declared.Extended.Extended, Buffers.IndexBuffers, Buffers.run_room, Buffers.index_in, Answers.head_of, Refusal.Condition, Refusal.first_refusal, Refusal.ill_formed, Refusal.more_windows, Refusal.series_lines, Refusal.room_lines}
+use Rattle.meaning_entries.specs.{Buffers.IndexBuffers, Buffers.run_room, Buffers.index_in, Answers.Built, Answers.refusal, Answers.held, Answers.head_of, Refusal.Condition, Refusal.first_refusal, Refusal.ill_formed, Refusal.more_windows, Refusal.series_lines, Refusal.room_lines}
 
 -- the whole, longer series, and the old index
 pub record ExtendCall : Type 0 where
@@ -37,10 +37,10 @@ extend_refusal c b = first_refusal (extend_table c b)
 unfoldable pub extend_index : ExtendCall → Index
 extend_index c = extended c.index c.series
 
-unfoldable pub extend_answer : ExtendCall → IndexBuffers → Extended
+unfoldable pub extend_answer : ExtendCall → IndexBuffers → Built
 extend_answer c b = elim (extend_refusal c b) [
-  | Some r ↦ Extended.Refused r.0 r.1
-  | None ↦ Extended.Index (head_of (extend_index c)) (length (extend_index c).rows) (length (extend_index c).runs)
+  | Some r ↦ Err (refusal r)
+  | None ↦ Ok (held (head_of (extend_index c)) (length (extend_index c).rows) (length (extend_index c).runs))
 ]
 
 -- the head of the index that stands in the buffers; a refusal gives none

@@ -1,4 +1,5 @@
 -- The entries of documents 01 and 02: for each its refusals in order, its answer, and every lent buffer afterwards; the demands.
+pub mod Reasons
 pub mod Refusal
 pub mod Buffers
 pub mod Answers

@@ -1,10 +1,10 @@
 -- The entry read: an index text becomes an index in lent buffers.
 use Rattle.std.specs.Prelude.{ℕ, pos, length, List, [], ◌∷◌}
 use Rattle.std.specs.declared.option.Option.{Option}
-use Rattle.std.specs.Prelude.{None, Some}
+use Rattle.std.specs.Prelude.{None, Some, Ok, Err}
 use Rattle.meaning_rows.specs.{declared.Head.Head, Index.Index}
 use Rattle.meaning_text.specs.{Read.fine, Read.unfit, Read.read_text, Texts.index_form, Texts.index_said}
-use Rattle.meaning_entries.specs.{declared.Loaded.Loaded, Refusal.Condition, Refusal.first_refusal, Refusal.unreadable, Refusal.ill_formed, Refusal.room_lines, Buffers.IndexBuffers, Buffers.run_room, Buffers.index_in, Answers.head_of}
+use Rattle.meaning_entries.specs.{Refusal.Condition, Refusal.first_refusal, Refusal.unreadable, Refusal.ill_formed, Refusal.room_lines, Buffers.IndexBuffers, Buffers.run_room, Buffers.index_in, Answers.Built, Answers.refusal, Answers.held, Answers.head_of}
 
 -- the index that a text gives; of a text that cannot be read nothing is asked
 unfoldable pub text_index : List ℕ → Index
@@ -26,10 +26,10 @@ load_table t b = load_lines t (length b.rows) (run_room b)
 abbrev pub load_refusal : List ℕ → IndexBuffers → Option (ℕ × ℕ)
 load_refusal t b = first_refusal (load_table t b)
 
-unfoldable pub load_answer : List ℕ → IndexBuffers → Loaded
+unfoldable pub load_answer : List ℕ → IndexBuffers → Built
 load_answer t b = elim (load_refusal t b) [
-  | Some r ↦ Loaded.Refused r.0 r.1
-  | None ↦ Loaded.Index (head_of (text_index t)) (length (text_index t).rows) (length (text_index t).runs)
+  | Some r ↦ Err (refusal r)
+  | None ↦ Ok (held (head_of (text_index t)) (length (text_index t).rows) (length (text_index t).runs))
 ]
 
 -- the head of the index that stands in the buffers; a refusal gives none

@@ -1,12 +1,12 @@
 -- The entry search: one series, one index, one query of either kind, straight or warped; it hands out all matches, or the closest few (02, item 2).
 use Rattle.std.specs.Prelude.{ℕ, eqb, ℤ, pos, nat_abs, length, take, Bool, true, false, List, [], ◌∷◌, ◌++◌, map}
 use Rattle.std.specs.declared.option.Option.{Option}
-use Rattle.std.specs.Prelude.{None, Some}
+use Rattle.std.specs.Prelude.{None, Some, Ok, Err}
 use Rattle.meaning_curves.specs.{Limits.most_values, Curve.window_count}
 use Rattle.meaning_rows.specs.{declared.Row.Row, declared.Head.Head, Index.Index, Index.lent}
 use Rattle.meaning_filter.specs.{declared.Kind.Kind, declared.Pick.Pick, declared.Ask.Ask, Matches.Question, Matches.candidate_runs, Matches.candidate_count, Matches.match_list, Closest.handed, Closest.fewest}
 use Rattle.meaning_entries.specs.Refusal.{Condition, first_refusal, value_outside, query_length_outside, query_below_window, band_outside, threshold_outside, scale_or_shift_outside, count_outside, flat_query, ill_formed, more_windows, buffer_short, list_short, series_lines, room_lines}
-use Rattle.meaning_entries.specs.{declared.Found.Found, Buffers.filled, Buffers.pair_room}
+use Rattle.meaning_entries.specs.{declared.Found.Found, Answers.SearchAnswer, Answers.refusal, Buffers.filled, Buffers.pair_room}
 
 -- what is asked beside the query. Band b, threshold E, scale limit a, shift limit h are whole numbers, as a text may have any; no text says what is handed out
 pub record Asking : Type 0 where
@@ -136,16 +136,16 @@ abbrev pub search_candidates : SearchCall → ℕ
 search_candidates c = candidate_count c.index (question c)
 
 -- refused: number and place; but 24 gives both true counts
-unfoldable pub search_refused : SearchCall → ℕ × ℕ → Found
-search_refused c r = elim (eqb r.0 24) [ true ↦ Found.Full (search_candidates c) (length (search_matches c)) | false ↦ Found.Refused r.0 r.1 ]
+unfoldable pub search_refused : SearchCall → ℕ × ℕ → SearchAnswer
+search_refused c r = elim (eqb r.0 24) [ true ↦ Ok (Found.Full (search_candidates c) (length (search_matches c))) | false ↦ Err (refusal r) ]
 
 -- not refused: both counts, of all matches whatever is handed out
 unfoldable pub search_told : Pick → ℕ → ℕ → Found
 search_told Pick.All candidates matches = Found.All candidates matches
 search_told (Pick.Closest k) candidates matches = Found.Few candidates matches
 
-unfoldable pub search_answer : SearchCall → SearchBuffers → Found
-search_answer c b = elim (search_refusal c b) [ Some r ↦ search_refused c r | None ↦ search_told c.ask.pick (search_candidates c) (length (search_matches c)) ]
+unfoldable pub search_answer : SearchCall → SearchBuffers → SearchAnswer
+search_answer c b = elim (search_refusal c b) [ Some r ↦ search_refused c r | None ↦ Ok (search_told c.ask.pick (search_candidates c) (length (search_matches c))) ]
 
 -- how many candidates and matches; a refusal gives counts 0, but 24 both true counts
 unfoldable pub search_counts : SearchCall → SearchBuffers → ℕ × ℕ

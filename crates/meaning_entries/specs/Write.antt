@@ -1,10 +1,10 @@
 -- The entry write: a lent index becomes an index text.
 use Rattle.std.specs.Prelude.{ℕ, length, List, [], ◌∷◌}
 use Rattle.std.specs.declared.option.Option.{Option}
-use Rattle.std.specs.Prelude.{None, Some}
+use Rattle.std.specs.Prelude.{None, Some, Ok, Err}
 use Rattle.meaning_rows.specs.Index.{Index}
 use Rattle.meaning_text.specs.Texts.{index_text}
-use Rattle.meaning_entries.specs.{declared.Written.Written, Refusal.Condition, Refusal.first_refusal, Refusal.ill_formed, Refusal.buffer_short, Buffers.filled}
+use Rattle.meaning_entries.specs.{Answers.Written, Answers.refusal, Refusal.Condition, Refusal.first_refusal, Refusal.ill_formed, Refusal.buffer_short, Buffers.filled}
 
 -- the refusals, in order
 unfoldable pub write_table : Index → List ℕ → List Condition
@@ -14,7 +14,7 @@ abbrev pub write_refusal : Index → List ℕ → Option (ℕ × ℕ)
 write_refusal x text = first_refusal (write_table x text)
 
 unfoldable pub write_answer : Index → List ℕ → Written
-write_answer x text = elim (write_refusal x text) [ Some r ↦ Written.Refused r.0 r.1 | None ↦ Written.Text (length (index_text x)) ]
+write_answer x text = elim (write_refusal x text) [ Some r ↦ Err (refusal r) | None ↦ Ok (length (index_text x)) ]
 
 -- how many bytes were written; a refusal gives count 0
 unfoldable pub write_count : Index → List ℕ → ℕ

@@ -9,7 +9,7 @@ use Rattle.meaning_text.specs.{Bytes.bytes, Bytes.newlines, Number.spellℕ, Num
 use Rattle.meaning_text.proofs.{Reading.on-flag, Number.spell-one, Number.spell-more, Number.by_digits, Texts.index-laws, Texts.series-laws, Lines.newlines-append, Lines.index-lines, Lines.bad-line}
 use Rattle.meaning_entries.specs.Refusal.{Condition, first_refusal, length_outside, value_outside, ill_formed, windows_of, fewer_windows, more_windows}
 use Rattle.meaning_entries.specs.{declared.Audited.Audited, Audit.AuditCall, Audit.audit_table, Audit.complete, Audit.audited, Load.text_index, AuditText.pack_refusal, AuditText.pack, AuditText.audit_text_answer}
-use Rattle.meaning_entries.proofs.Refusal.{First, here, later, is-passed, is-first, open_lines, passed-line}
+use Rattle.meaning_entries.proofs.Refused.{First, here, later, is-passed, is-first, open_lines, passed-line}
 use Rattle.text_feed.specs.Keep.{leading}
 use Rattle.text_feed.proofs.Keep.{leading-outside}
 use Rattle.payout.proofs.Texts.{refused-by, index-unread, line-unread, table_is, outside, none-refuses}

@@ -5,7 +5,7 @@ use Rattle.meaning_rows.specs.{declared.Head.Head, Index.Index, Index.lent, Judg
 use Rattle.meaning_rows.proofs.{Judge.WellFormed, Judge.good-head, Judge.none-bad, Audit.missing-are}
 use Rattle.meaning_text.specs.{Form.Value, Read.Verdict, Read.fine, Read.unfit, Read.read_text, Texts.index_form, Texts.index_said}
 use Rattle.meaning_entries.specs.{declared.Audited.Audited, Refusal.first_refusal, Refusal.series_lines, Refusal.count_lines, Audit.AuditCall, Audit.audit_table, Audit.audit_answer, Load.text_index}
-use Rattle.meaning_entries.proofs.{Again.text-fine, Refusal.AllPass, Refusal.open_lines, Refusal.passed-line, Refusal.same-behind}
+use Rattle.meaning_entries.proofs.{Again.text-fine, Refused.AllPass, Refused.open_lines, Refused.passed-line, Refused.same-behind}
 use Rattle.rows_judge.specs.declared.Judged.{Judged}
 use Rattle.refusals.specs.Refusal.{refusal_of, as_refusal, judged_line, judged-line}
 use Rattle.entry_audit.specs.{declared.AuditPlan.AuditPlan, declared.RowsAudited.RowsAudited, Auditing.found, Plan.table_of, Plan.plan_of, Plan.answer_of}

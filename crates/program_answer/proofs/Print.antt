@@ -14,7 +14,7 @@ use Rattle.meaning_entries.specs.Refusal.{Condition, flat_query, ill_formed, win
 use Rattle.meaning_entries.specs.Search.{SearchCall, SearchBuffers, lent_ask, lent_search, value_lines, limit_lines, search_plan, search_table, search_refusal, search_matches, search_handed, search_candidates, question}
 use Rattle.meaning_entries.specs.{declared.Built.Built, declared.Found.Found, Answers.head_of, Write.write_table, Write.write_refusal, Program.call_lines, Program.program_index, Program.printed, Demand2.BuildKept, Demand2.SearchKept}
 use Rattle.meaning_entries.proofs.Lines.{long-line, window-line, query-line, threshold-line, scale-line, series-passes, more-passes, room-passes}
-use Rattle.meaning_entries.proofs.Refusal.{AllPass, end, more, passed_is, passed-both, passed-join, open_lines, passed-line, passed-behind}
+use Rattle.meaning_entries.proofs.Refused.{AllPass, end, more, passed_is, passed-both, passed-join, open_lines, passed-line, passed-behind}
 use Rattle.meaning_entries.proofs.{Made.build-passes, Made.build-most, Listed.listed-is, BothTold.all_told}
 use Rattle.text_put.specs.Put.{Put}
 use Rattle.text_put.proofs.Put.{put-room, put-length}

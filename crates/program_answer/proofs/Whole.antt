@@ -6,7 +6,7 @@ use Rattle.meaning_rows.specs.{declared.Row.Row, declared.Head.Head, Index.Index
 use Rattle.meaning_filter.specs.declared.Pick.{Pick}
 use Rattle.meaning_text.specs.Texts.{index_text, found_text}
 use Rattle.meaning_entries.specs.{declared.Built.Built, declared.Written.Written, Answers.head_of, Answers.written_count, Build.lent_build, Write.write_count, Write.write_after, Search.SearchCall, Search.lent_search, Search.search_matches, Search.search_candidates, Program.call_lines, Program.printed, Demand2.BuildKept, Demand2.WriteKept, Buffers.index_buffers}
-use Rattle.meaning_entries.proofs.{Refusal.AllPass, Refusal.open_lines, Refusal.passed-line, Refusal.not-if, Made.build-most}
+use Rattle.meaning_entries.proofs.{Refused.AllPass, Refused.open_lines, Refused.passed-line, Refused.not-if, Made.build-most}
 use Rattle.program_input.specs.{declared.Asked.Asked, Tables.call_of}
 use Rattle.program_answer.specs.Finish.{Listed, Prints}
 use Rattle.program_answer.proofs.Print.{x, few, build-free, stands, lent_is, d, search_is, printed-is, found-few, index-few, write-free, search-free, put-behind}

@@ -9,7 +9,7 @@ ghost use Rattle.meaning_entries.specs.Answers.{written_count};
 ghost use Rattle.program_answer.specs.Print.{FoundPut};
 ghost use Rattle.program_answer.specs.Finish.{Listed, Prints};
 ghost use Rattle.meaning_entries.specs.Program.{call_lines, printed};
-ghost use Rattle.meaning_entries.proofs.Refusal.{AllPass};
+ghost use Rattle.meaning_entries.proofs.Refused.{AllPass};
 ghost use Rattle.program_input.specs.Tables.{call_of};
 
 use meaning_curves::MOST_PROGRAM_VALUES;

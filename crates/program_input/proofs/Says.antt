@@ -7,7 +7,7 @@ use Rattle.meaning_text.specs.{Read.read_text, Read.fine, Read.unfit, Read.line_
 use Rattle.meaning_text.proofs.{Automaton.Fed, Automaton.going, Automaton.failed, Reading.on-flag}
 use Rattle.meaning_entries.specs.{Refusal.value_outside, Refusal.flat_query, Refusal.bad_line, Refusal.unreadable, Build.width_lines, Search.value_lines, Search.limit_lines, Program.ProgramCall, Program.program_said, Program.text_program, Program.call_lines, Program.program_table}
 use Rattle.meaning_entries.proofs.Lines.{Natural, window-line, width-line, merge-line, band-line, threshold-line, scale-line}
-use Rattle.meaning_entries.proofs.Refusal.{AllPass, same-behind, passed-both, open_lines, passed-line, passed-behind}
+use Rattle.meaning_entries.proofs.Refused.{AllPass, same-behind, passed-both, open_lines, passed-line, passed-behind}
 use Rattle.numbers.specs.Narrow.{clamp}
 use Rattle.refusals.specs.Refusal.{refusal_of, as_refusal}
 use Rattle.refusals.proofs.RefusalLaws.{place_is, place_none}

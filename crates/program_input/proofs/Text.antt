@@ -2,7 +2,7 @@
 use Rattle.meaning_numbers.proofs.Prelude.{◌≡◌, refl, sym, ap, ◌∙◌, true, false, not, None, List, [], ℕ, ◌+◌, ◌<◌, ◌≤◌, ◌^◌, T, arith, ℤ, pos, negsuc, w64, to_z, length, lt_z, le_z, lt_z-true, lt_z-false, z-cast, up, dn, by-test}
 use Rattle.meaning_curves.specs.Limits.{most_program_values}
 use Rattle.meaning_entries.specs.Refusal.{Condition}
-use Rattle.meaning_entries.proofs.Refusal.{AllPass, open_lines, passed-line, passed-behind, lacks}
+use Rattle.meaning_entries.proofs.Refused.{AllPass, open_lines, passed-line, passed-behind, lacks}
 use Rattle.meaning_entries.proofs.Lines.{long-line, query-line}
 use Rattle.refusals.specs.{declared.Refusal.Refusal, Refusal.refusal_of}
 use Rattle.refusals.proofs.RefusalLaws.{place_is, place_none}

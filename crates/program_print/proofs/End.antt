@@ -9,7 +9,7 @@ use mathlib.Core.Path.{◌≡◌, sym, ap, ◌∙◌, subst}
 use native.Mathlib.Omega.{arith}
 use Rattle.meaning_text.specs.Texts.{refused_text}
 use Rattle.meaning_entries.specs.Program.{ProgramCall, call_lines, program_table, printed, program}
-use Rattle.meaning_entries.proofs.Refusal.{AllPass, passed_is, open_lines, passed-line, lacks, passed-behind}
+use Rattle.meaning_entries.proofs.Refused.{AllPass, passed_is, open_lines, passed-line, lacks, passed-behind}
 use Rattle.refusals.specs.{declared.Refusal.Refusal, Refusal.refusal_of, Refusal.passes, Refusal.refuses}
 use Rattle.text_put.specs.Put.{Put}
 use Rattle.text_put.proofs.Put.{put-room, put-length}

@@ -2,7 +2,7 @@
 use Rattle.meaning_numbers.proofs.Prelude.{◌≡◌, refl, sym, ap, ◌∙◌, Bool, true, false, not, List, [], ◌∷◌, ◌++◌, Option, None, Some, ℕ, ℤ, length}
 use Rattle.meaning_curves.specs.Limits.{most_values, length_in, first_outside}
 use Rattle.meaning_entries.specs.Refusal.{Condition, first_refusal, at_zero, length_outside, value_outside, series_lines}
-use Rattle.meaning_entries.proofs.Refusal.{AllPass, is-first, first-is, first-left, first-right}
+use Rattle.meaning_entries.proofs.Refused.{AllPass, is-first, first-is, first-left, first-right}
 use Rattle.refusals.specs.declared.Refusal.{Refusal}
 use Rattle.refusals.specs.Refusal.{unrefused, as_refusal, refusal_of, refuse_if, refuse_at, refuses}
 

@@ -6,7 +6,7 @@ use Rattle.std.specs.Prelude.{None, Some}
 use Rattle.meaning_numbers.proofs.Tests.{clash}
 use Rattle.meaning_rows.specs.{Index.Index, Judge.first_bad_row}
 use Rattle.meaning_entries.specs.Refusal.{Condition, first_refusal, at_place, ill_formed}
-use Rattle.meaning_entries.proofs.Refusal.{AllPass, is-passed, is-first, lacks, first-lacks}
+use Rattle.meaning_entries.proofs.Refused.{AllPass, is-passed, is-first, lacks, first-lacks}
 use Rattle.rows_judge.specs.{declared.Judged.Judged, Judged.bad_row}
 use Rattle.refusals.specs.declared.Refusal.{Refusal}
 

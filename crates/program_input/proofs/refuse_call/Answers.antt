@@ -1,7 +1,7 @@
 -- `refuse_call`, one part of the table after the other.
 use Rattle.meaning_numbers.proofs.Prelude.{rules, ◌≤◌, length, take, length-take, List, [], ◌∷◌, ◌++◌, ◌∙◌, w64, to_z-of_z, arith}
 use Rattle.meaning_entries.specs.Refusal.{Condition, flat_query, normal_flat}
-use Rattle.meaning_entries.proofs.Refusal.{AllPass}
+use Rattle.meaning_entries.proofs.Refused.{AllPass}
 use Rattle.refusals.specs.Refusal.{passes}
 use Rattle.refusals.proofs.RefusalLaws.{line_before, part-refuses, part-passes}
 use Rattle.program_input.specs.Tables.{kind_of, values_table, numbers_table, call_table}

@@ -1,6 +1,6 @@
 -- `refuse_numbers`: each test is a line of the table (`line_before`).
 use Rattle.meaning_numbers.proofs.Prelude.{rules, ◌||◌, w64, to_z-of_z}
-use Rattle.meaning_entries.proofs.Refusal.{open_lines}
+use Rattle.meaning_entries.proofs.Refused.{open_lines}
 use Rattle.refusals.proofs.RefusalLaws.{line_before}
 use Rattle.program_input.specs.Tables.{numbers_table}
 use Rattle.program_input.proofs.refuse_numbers.Goals as goal
