@@ -1,7 +1,9 @@
--- RowsJudged a row's runs, one run at a time: `scan-next` for a good run, `scan-bad` for a bad one, `scan-end` where none is left. `part-next` has the first run of a part of the run buffer.
+-- Judging a row's runs, one run at a time: `scan-next` for a good run, `scan-bad` for a bad one, `scan-end` where none is left. `part-next` has the first run of a part of the run buffer.
 use Rattle.meaning_numbers.proofs.Prelude.{◌≡◌, refl, sym, ◌∙◌, ap, Bool, true, false, cond, ◌&&◌, ◌||◌, false≢true, List, [], ◌∷◌, ℕ, zero, suc, ◌+◌, ◌-◌, ◌<◌, ◌≤◌, arith, leb, ltb, ℤ, pos, length, get_or, take, drop, leb-true, ltb-true, ltb-false, le-leb, lt-leb, by-test, of-both}
 use Rattle.meaning_rows.specs.{Index.Entry, Index.entries, Judge.runs_good, Judge.run_lengths}
-use Rattle.rows_judge.specs.{Judging.untold, Judging.scan, declared.Lengths.Lengths}
+use Rattle.std.specs.Prelude.{None, Some}
+use Rattle.std.specs.declared.option.Option.{Option}
+use Rattle.rows_judge.specs.Judging.{scan}
 pub use Rattle.meaning_numbers.proofs.Tests.{both}
 pub use Rattle.meaning_rows.proofs.Grown.{length-entries}
 
@@ -65,21 +67,21 @@ module _ (windows least total l r : ℕ) (rest : List Entry) where
       let n : total + (r + 1 - l + run_lengths rest) ≡ total + (r + 1 - l) + run_lengths rest = omega arith in
       rw (all-four _ (leb l r) _ _ e, n) refl
 
-  pub scan-bad : run_good windows least l r ≡ false → scan (pos windows) (pos least) total ((pos l, pos r) ∷ rest) ≡ untold
+  pub scan-bad : run_good windows least l r ≡ false → scan (pos windows) (pos least) total ((pos l, pos r) ∷ rest) ≡ None
   unfolding scan runs_good
   scan-bad e = rw (not-all _ (leb l r) _ _ e) refl
 
-pub scan-end : (windows least : ℤ) (total : ℕ) → scan windows least total [] ≡ record { good = true; total = total }
+pub scan-end : (windows least : ℤ) (total : ℕ) → scan windows least total [] ≡ Some total
 unfolding scan runs_good run_lengths
 scan-end windows least total = let n : total + 0 ≡ total = omega arith in rw n refl
 
 -- ---- runs of which only the last is held to the windows
 
 -- what is told of runs, where the last before them ends below `least`
-abbrev pub inside : ℕ → ℕ → Lengths → Lengths
-inside windows least t = cond (leb least (windows + 1)) t untold
+abbrev pub inside : ℕ → ℕ → Option ℕ → Option ℕ
+inside windows least t = cond (leb least (windows + 1)) t None
 
-cond_same : (b : Bool) (t : Lengths) → cond b t t ≡ t
+cond_same : (b : Bool) (t : Option ℕ) → cond b t t ≡ t
 cond_same true t = refl
 cond_same false t = refl
 
@@ -103,8 +105,8 @@ pub follows : (least l r : ℕ) → (ltb l least || ltb r l) ≡ false → Follo
 follows least l r e = let p = neither-is _ _ e in record { below = ltb-false l least p.0; order = ltb-false r l p.1 }
 
 module _ (windows least total l r : ℕ) (rest : List Entry) where
-  pub inside-bad : (ltb l least || ltb r l) ≡ true → inside windows least (scan (pos windows) (pos least) total ((pos l, pos r) ∷ rest)) ≡ untold
-  inside-bad e = let n = scan-bad windows least total l r rest (stray windows least l r e) in ap (inside windows least) n ∙ cond_same (leb least _) untold
+  pub inside-bad : (ltb l least || ltb r l) ≡ true → inside windows least (scan (pos windows) (pos least) total ((pos l, pos r) ∷ rest)) ≡ None
+  inside-bad e = let n = scan-bad windows least total l r rest (stray windows least l r e) in ap (inside windows least) n ∙ cond_same (leb least _) None
 
   pub inside-next : Follows least l r
       → inside windows (r + 2) (scan (pos windows) (pos (r + 2)) (total + (r + 1 - l)) rest) ≡ inside windows least (scan (pos windows) (pos least) total ((pos l, pos r) ∷ rest))
@@ -117,5 +119,5 @@ module _ (windows least total l r : ℕ) (rest : List Entry) where
       rw (le-leb (r + 2) (windows + 1) (omega arith), le-leb least (windows + 1) (omega arith), n) refl)
       (λ e. let i = ltb-false r windows e in
       let n = scan-bad windows least total l r rest (rw (le-leb least l h, le-leb l r k, e) refl) in
-      let o : inside windows (r + 2) (scan (pos windows) (pos (r + 2)) (total + (r + 1 - l)) rest) ≡ untold = rw (lt-leb (r + 2) (windows + 1) (omega arith)) refl in
-      o ∙ sym (ap (inside windows least) n ∙ cond_same (leb least (windows + 1)) untold))
+      let o : inside windows (r + 2) (scan (pos windows) (pos (r + 2)) (total + (r + 1 - l)) rest) ≡ None = rw (lt-leb (r + 2) (windows + 1) (omega arith)) refl in
+      o ∙ sym (ap (inside windows least) n ∙ cond_same (leb least (windows + 1)) None))

@@ -1,14 +1,16 @@
 -- The outcome of judging an index, by the meanings: the first bad row, or that there is none, with the run lengths of all rows added up.
-use Rattle.std.specs.Prelude.{ℕ, ◌≡◌, refl}
-use Rattle.std.specs.declared.option.Option.{Option}
-use Rattle.std.specs.Prelude.{None, Some}
+use Rattle.std.specs.Prelude.{ℕ, ◌≡◌, refl, None, Some, Ok, Err}
+use Rattle.std.specs.declared.{option.Option.Option, result.Result.Result}
 use Rattle.meaning_rows.specs.{Index.Index, Judge.length_total, Judge.first_bad_row}
-use Rattle.rows_judge.specs.declared.Judged.{Judged}
+
+-- what judging says: the total, or the first bad row
+abbrev pub Judged : Type 0
+Judged = Result ℕ ℕ
 
 -- the first bad row, or else the total
 unfoldable pub outcome : Option ℕ → ℕ → Judged
-outcome None total = Judged.Fine total
-outcome (Some k) total = Judged.Bad k
+outcome None total = Ok total
+outcome (Some k) total = Err k
 
 -- 01, Rows: an index is judged by its first bad row
 unfoldable pub judged_of : Index → Judged
@@ -16,8 +18,8 @@ judged_of x = outcome (first_bad_row x) (length_total x x.rows)
 
 -- the first bad row, by what judging said
 unfoldable pub bad_row : Judged → Option ℕ
-bad_row (Judged.Fine total) = None
-bad_row (Judged.Bad row) = Some row
+bad_row (Ok total) = None
+bad_row (Err row) = Some row
 
 -- ---- laws
 

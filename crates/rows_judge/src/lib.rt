@@ -1,50 +1,34 @@
-// RowsJudged a lent index: whether it is well formed, and else the first bad row (01, Rows). The head is judged first. Any content may be lent, and no sum wraps.
+// Judging a lent index: whether it is well formed, and else the first bad row (01, Rows). The head is judged first. Any content may be lent, and no sum wraps.
 #![tactic(auto)]
 
-ghost use Rattle.std.specs.Prelude.{◌≡◌, ◌&&◌, [], ◌+◌, ◌-◌, ◌≤◌, min, leb, ltb, pos, length, take, drop};
+ghost use Rattle.std.specs.Prelude.{◌≡◌, ◌&&◌, [], ◌+◌, ◌-◌, ◌≤◌, min, leb, ltb, pos, length, take, drop, Some};
 ghost use Rattle.std.specs.Int.Signed.{le_z, lt_z};
 ghost use Rattle.meaning_numbers.specs.Quotient.{multiple};
 ghost use Rattle.meaning_curves.specs.Limits.{end_in};
 ghost use Rattle.meaning_rows.specs.Index.{lent, entries};
 ghost use Rattle.meaning_rows.specs.Judge.{head_good, range_good};
 ghost use Rattle.rows_judge.specs.Judged.{judged_of};
-ghost use Rattle.rows_judge.specs.Judging.{start, room, fits, scan, after, next, verdict_of};
+ghost use Rattle.rows_judge.specs.Judging.{start, room, fits, scan, after, next};
 
 use meaning_curves::{HIGHEST_END, LONGEST_WINDOW, LOWEST_END, MOST_VALUES, WIDEST_ROW};
 use meaning_rows::{Head, Row};
-use numbers::{magnitude, shorter};
 use rows_records::row_at;
 
 // The most windows of an index.
 const WINDOWS: u32 = MOST_VALUES as u32;
 
-// What is known after some rows: that they are good, where the last one's range ends, where its runs end in the run buffer, and what the run lengths total.
+// What is known after good rows: where the last one's range ends, where its runs end in the run buffer, and what the run lengths total.
 #[derive(Clone, Copy)]
 pub struct RowsJudged {
-    pub good: bool,
     pub least: i32,
     pub first: usize,
     pub taken: usize,
 }
 
-// A row's runs: that they are good, and their lengths added up.
-#[derive(Clone, Copy)]
-pub struct Lengths {
-    pub good: bool,
-    pub total: usize,
-}
-
-// The outcome: the run lengths of all rows added up, or the first bad row, 0 for the head.
-#[derive(Clone, Copy)]
-pub enum Judged {
-    Fine { total: usize },
-    Bad { row: usize },
-}
-
 pub fn is_multiple(d: u32, z: i32) -> bool
     ensures { result ≡ multiple d z }
 {
-    let m = magnitude(z);
+    let m = z.unsigned_abs();
     if d == 0 { m == 0 } else { m % d == 0 }
 }
 
@@ -77,14 +61,18 @@ pub fn head_good(head: Head) -> bool
         & (((1 <= d) & (d <= WIDEST_ROW)) & ((1 <= n) & (n <= WINDOWS)))
 }
 
-pub fn judge_head(head: Head) -> RowsJudged
+// The state before the first row, of a good head.
+pub fn judge_head(head: Head) -> Option<RowsJudged>
     ensures { result ≡ start (lent head [] [] []) }
 {
-    RowsJudged {
-        good: head_good(head),
-        least: LOWEST_END,
-        first: 0,
-        taken: 0,
+    if head_good(head) {
+        Some(RowsJudged {
+            least: LOWEST_END,
+            first: 0,
+            taken: 0,
+        })
+    } else {
+        None
     }
 }
 
@@ -117,7 +105,7 @@ pub fn part_good(size: usize, first: usize, r: Row) -> bool
 pub fn row_fits(head: Head, s: RowsJudged, r: Row, size: usize) -> bool
     ensures { result ≡ fits (lent head [] [] []) s r size }
 {
-    s.good & (range_good(head, s.least, r) & part_good(size, s.first, r))
+    range_good(head, s.least, r) & part_good(size, s.first, r)
 }
 
 // A run, after runs that end below `least`.
@@ -127,37 +115,32 @@ pub fn run_good(windows: u64, least: u64, l: u64, r: u64) -> bool
     (least <= l) & ((l <= r) & (r < windows))
 }
 
-// The runs of one row, in the run buffer from `from` up to and not with `to`. As each lies above the one before, only the last is held to the windows.
-pub fn judge_runs(left: &[u32], right: &[u32], from: usize, to: usize, windows: u32) -> Lengths
+// The lengths of one row's runs added up, which stand in the run buffer from `from` up to and not with `to`; none where a run is not good. As each lies above the one before, only the last is held to the windows.
+pub fn judge_runs(
+    left: &[u32],
+    right: &[u32],
+    from: usize,
+    to: usize,
+    windows: u32,
+) -> Option<usize>
     requires { (from ≤ to) × (to ≤ length left.now) × (to ≤ length right.now) }
     ensures { result ≡ scan (pos windows) (pos 0) 0 (take (to - from) (drop from (entries left.now right.now))) }
 {
     let mut least: u64 = 0;
     let mut total: u64 = 0;
-    let mut i = from;
-    while i < to {
+    for i in from..to {
         let l = left[i] as u64;
         let r = right[i] as u64;
         if (l < least) | (r < l) {
-            return Lengths {
-                good: false,
-                total: 0,
-            };
+            return None;
         }
         total += r + 1 - l;
         least = r + 2;
-        i += 1;
     }
     if least <= windows as u64 + 1 {
-        Lengths {
-            good: true,
-            total: total as usize,
-        }
+        Some(total as usize)
     } else {
-        Lengths {
-            good: false,
-            total: 0,
-        }
+        None
     }
 }
 
@@ -165,78 +148,56 @@ pub fn judge_runs(left: &[u32], right: &[u32], from: usize, to: usize, windows: 
 pub fn total_good(windows: usize, taken: usize, total: usize) -> bool
     ensures { result ≡ leb (taken + total) windows }
 {
-    if taken <= windows {
-        total <= windows - taken
-    } else {
-        false
-    }
+    taken <= windows && total <= windows - taken
 }
 
-// The state after a row whose runs have been judged.
-pub fn after_row(windows: u32, s: RowsJudged, r: Row, t: Lengths) -> RowsJudged
-    ensures { result ≡ after windows s r t }
+// The state after a row whose runs total so much.
+pub fn after_row(windows: u32, s: RowsJudged, r: Row, total: usize) -> Option<RowsJudged>
+    ensures { result ≡ after windows s r (Some total) }
 {
-    let total = t.total;
-    if t.good & total_good(windows as usize, s.taken, total) {
-        RowsJudged {
-            good: true,
+    if total_good(windows as usize, s.taken, total) {
+        Some(RowsJudged {
             least: r.up,
             first: r.first as usize + r.runs as usize,
             taken: s.taken + total,
-        }
+        })
     } else {
-        RowsJudged {
-            good: false,
-            least: 0,
-            first: 0,
-            taken: 0,
-        }
+        None
     }
 }
 
-// The state after one row more.
-pub fn judge_row(head: Head, s: RowsJudged, r: Row, left: &[u32], right: &[u32]) -> RowsJudged
+// The state after one row more, where it is good.
+pub fn judge_row(
+    head: Head,
+    s: RowsJudged,
+    r: Row,
+    left: &[u32],
+    right: &[u32],
+) -> Option<RowsJudged>
     ensures { result ≡ next (lent head [] left.now right.now) s r }
 {
-    let size = shorter(left.len(), right.len());
+    let size = left.len().min(right.len());
     if !row_fits(head, s, r, size) {
-        return RowsJudged {
-            good: false,
-            least: 0,
-            first: 0,
-            taken: 0,
-        };
+        return None;
     }
-    let windows = head.windows;
     let from = r.first as usize;
     let to = from + r.runs as usize;
-    let t = judge_runs(left, right, from, to, windows);
-    after_row(windows, s, r, t)
+    let total = judge_runs(left, right, from, to, head.windows)?;
+    after_row(head.windows, s, r, total)
 }
 
-// The outcome, where judging ended at row k.
-pub fn verdict(s: RowsJudged, k: usize) -> Judged
-    ensures { result ≡ verdict_of s k }
-{
-    if s.good {
-        Judged::Fine { total: s.taken }
-    } else {
-        Judged::Bad { row: k }
-    }
-}
-
-// Whether a lent index is well formed.
-pub fn judge(head: Head, rows: &[Row], left: &[u32], right: &[u32]) -> Judged
+// Whether a lent index is well formed: the run lengths of all rows added up, or the first bad row, 0 for the head.
+pub fn judge(head: Head, rows: &[Row], left: &[u32], right: &[u32]) -> Result<usize, usize>
     ensures { result ≡ judged_of (lent head rows.now left.now right.now) }
 {
-    let mut s = judge_head(head);
-    let mut k: usize = 0;
-    while k < rows.len() {
-        s = judge_row(head, s, row_at(rows, k), left, right);
-        if !s.good {
-            break;
-        }
-        k += 1;
+    let Some(mut s) = judge_head(head) else {
+        return Err(0);
+    };
+    for k in 0..rows.len() {
+        let Some(next) = judge_row(head, s, row_at(rows, k), left, right) else {
+            return Err(k);
+        };
+        s = next;
     }
-    verdict(s, k)
+    Ok(s.taken)
 }

@@ -7,8 +7,8 @@ pub returns-then-d-eq0 : goal.returns-then-d-eq0
 unfolding multiple
 returns-then-d-eq0 c =
     let d = c.if-d-eq0.true in
-    rw (c.magnitude-m.ensures ∙ ap nat_abs (to_z-of_z w32 _ c.ranges.z) ∙ sym (ap (λ d. nat_abs c.args.z % d) d ∙ mod-zero _))
+    rw (c.unsigned_abs-m.ensures.value ∙ ap nat_abs (to_z-of_z w32 _ c.ranges.z) ∙ sym (ap (λ d. nat_abs c.args.z % d) d ∙ mod-zero _))
 
 pub returns-else-d-eq0 : goal.returns-else-d-eq0
 unfolding multiple
-returns-else-d-eq0 c = rw (c.magnitude-m.ensures ∙ ap nat_abs (to_z-of_z w32 _ c.ranges.z))
+returns-else-d-eq0 c = rw (c.unsigned_abs-m.ensures.value ∙ ap nat_abs (to_z-of_z w32 _ c.ranges.z))
