@@ -1,52 +1,45 @@
--- Laws of specs/Refusal.
-use Rattle.meaning_numbers.proofs.Prelude.{◌≡◌, refl, sym, ap, ◌∙◌, Bool, true, false, not, List, [], ◌∷◌, ◌++◌, Option, None, Some, ℕ, ℤ, length}
-use Rattle.meaning_curves.specs.Limits.{most_values, length_in, first_outside}
-use Rattle.meaning_entries.specs.Refusal.{Condition, first_refusal, at_zero, length_outside, value_outside, series_lines}
-use Rattle.meaning_entries.proofs.Refused.{AllPass, is-first, first-is, first-left, first-right}
-use Rattle.refusals.specs.declared.Refusal.{Refusal}
-use Rattle.refusals.specs.Refusal.{unrefused, as_refusal, refusal_of, refuse_if, refuse_at, refuses}
+-- Laws of specs/Refusal: a table line by line, and part by part.
+use Rattle.std.specs.Prelude.{Ok, Err}
+use Rattle.std.specs.declared.result.Result.{Result}
+use Rattle.meaning_numbers.proofs.Prelude.{◌≡◌, refl, ap, ◌∙◌, Bool, true, false, List, [], ◌∷◌, ◌++◌, None, Some, ℕ}
+use Rattle.meaning_entries.specs.{declared.Refusal.Refusal, Answers.refusal, Refusal.Condition, Refusal.first_refusal, Refusal.at_zero}
+use Rattle.meaning_entries.proofs.Refused.{is-first, first-is, first-left, first-right}
+use Rattle.refusals.specs.Refusal.{verdict_of, verdict, passes, refuses}
 
-pub none_is : refusal_of [] ≡ unrefused
-unfolding as_refusal first_refusal
+-- no line
+pub none_is : Ok tt ≡ verdict []
+unfolding verdict_of first_refusal
 none_is = refl
 
-pub line-is : (n : ℕ) (t : Bool) (l : List Condition) → refusal_of (at_zero n t ∷ l) ≡ refuse_if t n (refusal_of l)
-unfolding as_refusal first_refusal
-line-is n true l = refl
-line-is n false l = refl
-
--- a line with a place of its own
-pub place_is : (c : Condition) (l : List Condition) {p : ℕ} → c.place ≡ Some p → refusal_of (c ∷ l) ≡ record { number = c.number; place = p }
-unfolding as_refusal first_refusal
+-- a line that applies, and one that does not
+pub place_is : (c : Condition) (l : List Condition) {p : ℕ} → c.place ≡ Some p → verdict (c ∷ l) ≡ Err (refusal (c.number, p))
+unfolding verdict_of first_refusal
 place_is c l e = rw (e, first_refusal)
 
-pub place_none : (c : Condition) (l : List Condition) → c.place ≡ None → refusal_of (c ∷ l) ≡ refusal_of l
+pub place_none : (c : Condition) (l : List Condition) → c.place ≡ None → verdict (c ∷ l) ≡ verdict l
 unfolding first_refusal
 place_none c l e = rw (e, first_refusal)
 
-pub place-before : {r r' : Refusal} (c : Condition) (l : List Condition) → r ≡ refusal_of l → r' ≡ refuse_at c.number c.place r → r' ≡ refusal_of (c ∷ l)
-unfolding refuse_at
-place-before {r} {r'} c l e f = by _ refl
-  where
-    by : (o : Option ℕ) → c.place ≡ o → r' ≡ refusal_of (c ∷ l)
-    by None h = f ∙ ap (λ o. refuse_at c.number o r) h ∙ e ∙ sym (place_none c l h)
-    by (Some p) h = f ∙ ap (λ o. refuse_at c.number o r) h ∙ sym (place_is c l h)
+-- a test
+pub test-is : (n : ℕ) (t : Bool) → t ≡ true → Err (refusal (n, 0)) ≡ verdict (at_zero n t ∷ [])
+unfolding verdict_of first_refusal
+test-is n t e = rw e refl
 
--- a test before what a table says
-pub line_before : (n : ℕ) {r r' : Refusal} {b : Bool} (t : Bool) (l : List Condition) → r ≡ refusal_of l → b ≡ t → r' ≡ refuse_if b n r → r' ≡ refusal_of (at_zero n t ∷ l)
-line_before n t l e f g = cc (e, f, g, line-is n t l)
+pub test-none : (n : ℕ) (t : Bool) → t ≡ false → Ok tt ≡ verdict (at_zero n t ∷ [])
+unfolding verdict_of first_refusal
+test-none n t e = rw e refl
 
--- the length of a series, and its values, before what a table says
-pub series-before : {r r' : Refusal} (s : List ℤ) (l : List Condition) → r ≡ refusal_of l → r' ≡ refuse_if (not (length_in most_values (length s))) 1 (refuse_at 2 (first_outside s) r) → r' ≡ refusal_of (series_lines most_values s ++ l)
-unfolding length_outside value_outside
-series-before s l e f = line_before 1 {b = not (length_in most_values (length s))} _ _ (place-before (value_outside s) l e refl) refl f
+-- the line of a test, by a verdict on what the code tested
+pub line : (n : ℕ) {r : Result (Unit {0}) Refusal} {b t : Bool} → b ≡ t → r ≡ verdict (at_zero n b ∷ []) → r ≡ verdict (at_zero n t ∷ [])
+line n e f = f ∙ ap (λ b. verdict (at_zero n b ∷ [])) e
 
--- the first part of a table refuses
-pub part-refuses : {r : Refusal} (a b : List Condition) → r ≡ refusal_of a → (r.number ≡ 0 → ⊥) → r ≡ refusal_of (a ++ b)
-part-refuses {r} a b e f =
-    let h = refuses a e f in
-    e ∙ ap as_refusal (h ∙ sym (first-is (first-left b (is-first a _ _ h))))
+-- ---- a table in two parts, of a verdict that is still by all of it
 
--- or it does not
-pub part-passes : {r : Refusal} {a : List Condition} (b : List Condition) → AllPass a → r ≡ refusal_of b → r ≡ refusal_of (a ++ b)
-part-passes b h e = e ∙ sym (ap as_refusal (first-right b h))
+-- the first part passes: what is left decides
+pub goes-on : {v r : Result (Unit {0}) Refusal} (a l : List Condition) → v ≡ verdict (a ++ l) → r ≡ verdict a → r ≡ Ok tt → v ≡ verdict l
+goes-on a l e f z = e ∙ ap verdict_of (first-right l (passes a f z))
+
+-- it refuses
+pub stops : {v r : Result (Unit {0}) Refusal} {p : Refusal} (a l : List Condition) → v ≡ verdict (a ++ l) → r ≡ verdict a → r ≡ Err p → v ≡ Err p
+unfolding verdict_of
+stops a l e f z = e ∙ ap verdict_of (first-is (first-left l (is-first a _ _ (refuses a f z))))

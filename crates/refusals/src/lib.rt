@@ -1,13 +1,13 @@
 // The conditions under which a call is refused, a function each, and the first of them that applies (01, 'Refused for the input' and 'Refused for the state').
 #![tactic(auto)]
 
-ghost use Rattle.std.specs.Prelude.{◌≡◌, not, ◌||◌, [], ◌+◌, ◌-◌, ◌≤◌, ltb, pos, ◌+ℤ◌, ◌-ℤ◌, length};
+ghost use Rattle.std.specs.Prelude.{◌≡◌, not, ◌||◌, [], ◌∷◌, ◌+◌, ◌-◌, ◌≤◌, ltb, pos, ◌+ℤ◌, ◌-ℤ◌, length};
 ghost use Rattle.std.specs.Int.Signed.{lt_z};
-ghost use Rattle.meaning_curves.specs.Limits.{most_values, length_in, window_in, width_in, merge_in, query_length_in, band_in, threshold_in, scale_in, shift_in, first_outside, longest_query};
-ghost use Rattle.meaning_entries.specs.Refusal.{room_lines, normal_flat, pick_outside};
+ghost use Rattle.meaning_curves.specs.Limits.{most_values, length_in, window_in, width_in, merge_in, query_length_in, band_in, threshold_in, scale_in, shift_in, longest_query};
+ghost use Rattle.meaning_entries.specs.Refusal.{at_zero, value_outside, series_lines, room_lines, normal_flat, pick_outside};
+ghost use Rattle.meaning_entries.specs.Reasons.{number_of};
 ghost use Rattle.meaning_filter.specs.Closest.{fewest};
-ghost use Rattle.rows_judge.specs.Judged.{bad_row};
-ghost use Rattle.refusals.specs.Refusal.{refusal_of, refuse_if, refuse_at};
+ghost use Rattle.refusals.specs.Refusal.{verdict, judged_line};
 ghost use Rattle.meaning_curves.specs.Curve.{at};
 ghost use Rattle.meaning_curves.specs.Normal.{flat};
 ghost use Rattle.meaning_curves.proofs.Values.{AllIn};
@@ -16,39 +16,18 @@ use meaning_curves::{
     GREATEST_MERGE, GREATEST_SCALE, GREATEST_SHIFT, GREATEST_THRESHOLD, LEAST_SCALE, LONGEST_QUERY,
     LONGEST_WINDOW, MOST_CLOSEST, MOST_VALUES, WIDEST_ROW,
 };
+use meaning_entries::{Reason, Refusal};
 use meaning_filter::{Kind, Pick};
-use rows_judge::Judged;
-use values::{Place, first_outside, spread_of, sums_at};
+use values::{first_outside, spread_of, sums_at};
 
-// What refuses a call: a number of the tables and its place; number 0 where nothing does.
-#[derive(Clone, Copy)]
-pub struct Refusal {
-    pub number: u32,
-    pub place: usize,
-}
-
-// Nothing refuses.
-pub fn unrefused() -> Refusal
-    ensures { result ≡ refusal_of [] }
-{
-    Refusal {
-        number: 0,
-        place: 0,
-    }
-}
-
-// Refused by `number` at place 0 where a test passes, else by what comes after it.
-pub fn refuse_if(t: bool, number: u32, after: Refusal) -> Refusal
-    ensures { result ≡ refuse_if t number after }
+// Refused for a reason, at place 0, where a test passes.
+pub fn refuse_if(t: bool, reason: Reason) -> Result<(), Refusal>
+    ensures { result ≡ verdict (at_zero (number_of reason) t ∷ []) }
 {
     if t {
-        Refusal {
-            number: number,
-            place: 0,
-        }
-    } else {
-        after
+        return Err(Refusal::at(reason, 0));
     }
+    Ok(())
 }
 
 // The length of a series is in its limits, where the call takes so many values at most.
@@ -58,30 +37,22 @@ pub fn length_in(most: usize, n: usize) -> bool
     (1 <= n) & (n <= most)
 }
 
-// The first value outside its limits, or else what comes after it.
-pub fn refuse_value(s: &[i32], after: Refusal) -> Refusal
-    ensures { result ≡ refuse_at 2 (first_outside s.now) after }
+// Refused where a value is outside its limits, at the first.
+pub fn refuse_value(s: &[i32]) -> Result<(), Refusal>
+    ensures { result ≡ verdict (value_outside s.now ∷ []) }
 {
     match first_outside(s) {
-        Place::At(k) => Refusal {
-            number: 2,
-            place: k,
-        },
-        Place::Nowhere => after,
+        Some(k) => Err(Refusal::at(Reason::Value, k)),
+        None => Ok(()),
     }
 }
 
-// The length of a series, then its values, or else what comes after them.
-pub fn refuse_series(s: &[i32], after: Refusal) -> Refusal
-    ensures { result ≡ refuse_if (not (length_in most_values (length s.now))) 1 (refuse_at 2 (first_outside s.now) after) }
+// The length of a series, then its values.
+pub fn refuse_series(s: &[i32]) -> Result<(), Refusal>
+    ensures { result ≡ verdict (series_lines most_values s.now) }
 {
-    if length_in(MOST_VALUES, s.len()) {
-        return refuse_value(s, after);
-    }
-    Refusal {
-        number: 1,
-        place: 0,
-    }
+    refuse_if(!length_in(MOST_VALUES, s.len()), Reason::SeriesLength)?;
+    refuse_value(s)
 }
 
 // A window length is outside its limits, or above that of the series.
@@ -184,25 +155,22 @@ pub fn too_short(room: usize, w: u32, n: usize) -> bool
     if size <= n { room <= n - size } else { false }
 }
 
-// The first bad row of an index, 0 for the head, or else what comes after it.
-pub fn refuse_judged(j: Judged, after: Refusal) -> Refusal
-    ensures { result ≡ refuse_at 20 (bad_row j) after }
+// Refused where judging an index found a bad row, 0 for the head.
+pub fn refuse_judged(judged: Result<usize, usize>) -> Result<(), Refusal>
+    ensures { result ≡ verdict (judged_line judged ∷ []) }
 {
-    match j {
-        Judged::Fine { total: _ } => after,
-        Judged::Bad { row } => Refusal {
-            number: 20,
-            place: row,
-        },
+    match judged {
+        Ok(_) => Ok(()),
+        Err(row) => Err(Refusal::at(Reason::IllFormed, row)),
     }
 }
 
-// Two buffers hold fewer entries than a series of n values has windows.
-pub fn refuse_room(one: usize, other: usize, w: u32, n: usize) -> Refusal
-    ensures { result ≡ refusal_of (room_lines one (n + 1 - w) other (n + 1 - w)) }
+// Refused where one of two buffers holds fewer entries than a series of n values has windows.
+pub fn refuse_room(one: usize, other: usize, w: u32, n: usize) -> Result<(), Refusal>
+    ensures { result ≡ verdict (room_lines one (n + 1 - w) other (n + 1 - w)) }
 {
-    let second = refuse_if(too_short(other, w, n), 23, unrefused());
-    refuse_if(too_short(one, w, n), 23, second)
+    refuse_if(too_short(one, w, n), Reason::Room)?;
+    refuse_if(too_short(other, w, n), Reason::Room)
 }
 
 // A query is flat.

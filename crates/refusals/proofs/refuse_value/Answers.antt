@@ -1,28 +1,15 @@
 -- `refuse_value`, by the first value outside.
-use Rattle.meaning_numbers.proofs.Prelude.{◌≡◌, refl, sym, ap, ◌∙◌, Option, None, Some, ℕ}
-use Rattle.meaning_curves.specs.Limits.{first_outside}
-use Rattle.values.specs.declared.Place.TheVariants.{At, Nowhere}
-use Rattle.values.specs.{declared.Place.Place, Place.placed}
-use Rattle.refusals.specs.Refusal.{refuse_at}
+use Rattle.meaning_numbers.proofs.Prelude.{sym, ap, ◌∙◌, []}
+use Rattle.std.specs.Prelude.{Err}
+use Rattle.meaning_entries.specs.Refusal.{value_outside}
+use Rattle.refusals.proofs as own
+use own.RefusalLaws.{none_is, place_is, place_none}
 use Rattle.refusals.proofs.refuse_value.Goals as goal
 
--- the place that code tells
-abbrev unplaced : Place → Option ℕ
-unplaced (At k) = Some k
-unplaced Nowhere = None
+pub returns-in-Some : goal.returns-in-Some
+unfolding value_outside
+returns-in-Some c = ap (λ r. Err r) c.at.ensures ∙ sym (place_is (value_outside c.args.s.now) [] (sym c.first_outside.ensures ∙ c.in-Some.is))
 
-told : (o : Option ℕ) → unplaced (placed o) ≡ o
-told None = refl
-told (Some k) = refl
-
-pub returns-in-At : goal.returns-in-At
-unfolding refuse_at
-returns-in-At c =
-    let a = c.args in
-    ap (λ o. refuse_at 2 o a.after) (ap unplaced (sym c.in-At.is ∙ c.first_outside.ensures) ∙ told (first_outside a.s.now))
-
-pub returns-in-Nowhere : goal.returns-in-Nowhere
-unfolding refuse_at
-returns-in-Nowhere c =
-    let a = c.args in
-    ap (λ o. refuse_at 2 o a.after) (ap unplaced (sym c.in-Nowhere.is ∙ c.first_outside.ensures) ∙ told (first_outside a.s.now))
+pub returns-in-None : goal.returns-in-None
+unfolding value_outside
+returns-in-None c = none_is ∙ sym (place_none (value_outside c.args.s.now) [] (sym c.first_outside.ensures ∙ c.in-None.is))
