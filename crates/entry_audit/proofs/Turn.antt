@@ -1,19 +1,13 @@
 -- The turns of the loops over a chunk's rows, their runs and the offsets of a run: what is filed wrongly first among what is left. A row begins (`row-begins`) and ends (`row_ends`), a run begins (`run-begins`) and ends (`run_ends`),
 -- an offset is filed right (`filed-right`) or wrongly (`filed-wrong`), and where no row is left none is (`none_left`).
 use Rattle.meaning_numbers.specs.Place.{numbers_from}
-use Rattle.meaning_numbers.proofs.Prelude.{◌≡◌, refl, sym, ap, ◌∙◌, Bool, true, false, List, [], ◌∷◌, ◌++◌, Option, None, Some, ℕ, suc, ◌+◌, ◌-◌, ◌<◌, ◌≤◌, arith, ℤ, length, get_or, drop, drop_of_length-le}
+use Rattle.meaning_numbers.proofs.Prelude.{◌≡◌, refl, true, false, List, [], ◌∷◌, ◌++◌, Option, None, Some, ℕ, suc, ◌+◌, ◌-◌, ◌<◌, ◌≤◌, arith, ℤ, length, get_or, drop, drop_of_length-le}
 use Rattle.meaning_curves.specs.Curve.{window_sum}
-use Rattle.meaning_rows.specs.{declared.Row.Row, declared.Head.Head, Range.inside, Audit.offsets, Audit.wrong_in, Audit.wrong_from}
+use Rattle.meaning_rows.specs.{declared.Row.Row, Range.inside, Audit.offsets, Audit.wrong_in, Audit.wrong_from}
 use Rattle.rows_records.specs.Records.{zero_row}
 use Rattle.rows_records.proofs.Rest.{drop-next}
 use Rattle.rows_judge.proofs.Scan.{part, part-next, part_none}
-use Rattle.entry_audit.specs.{declared.RowsAudited.RowsAudited, Auditing.found, Auditing.wrong_of, Auditing.chunked}
-
--- nothing is filed wrongly so far
-pub record Still (go : Bool) (row offset : ℕ) : Type 0 where
-  pub goes : go ≡ true
-  pub no_row : row ≡ 0
-  pub no-offset : offset ≡ 0
+use Rattle.entry_audit.specs.Auditing.{wrong_of}
 
 numbers_more : (j last : ℕ) → j ≤ last → numbers_from j (last + 1 - j) ≡ j ∷ numbers_from (j + 1) (last + 1 - (j + 1))
 unfolding numbers_from
@@ -74,23 +68,3 @@ module _ (series : List ℤ) (w : ℕ) (left right : List ℕ) where
   pub none_left : (n : ℕ) (chunk : List Row) (k : ℕ) → length chunk ≤ k → None ≡ wrong_of series w left right n (drop k chunk)
   unfolding wrong_from
   none_left n chunk k h = rw (drop_of_length-le chunk h) refl
-
--- ---- the state after a chunk
-
-module _ (series : List ℤ) (h : Head) (left right : List ℕ) (s : RowsAudited) (from : ℕ) (chunk : List Row) where
-  pub chunk-off : s.go ≡ false → s ≡ chunked series h left right s from chunk
-  unfolding chunked
-  chunk-off e = sym (rw e)
-
-  pub chunk-found : s.go ≡ true → (o : Option (ℕ × ℕ)) → o ≡ wrong_of series h.window left right from chunk → found o ≡ chunked series h left right s from chunk
-  unfolding chunked
-  chunk-found e o p = ap found p ∙ sym (rw e)
-
-pub still-found : (go : Bool) (row offset : ℕ) → Still go row offset → record { go = go; row = row; offset = offset } ≡ found None
-unfolding found
-still-found go row offset t =
-    λ i. record { go = t.goes i; row = t.no_row i; offset = t.no-offset i }
-
-pub wrong-found : (row offset : ℕ) → record { go = false; row = row; offset = offset } ≡ found (Some (row, offset))
-unfolding found
-wrong-found row offset = refl

@@ -1,17 +1,10 @@
--- The state of an audit: that it goes on, or the row and offset filed wrongly. `Ready` is what the audit of a chunk of rows asks: every value in its limits, and every run of the rows inside the run buffer and the series.
-use Rattle.std.specs.Prelude.{ℕ, ◌+◌, ◌<◌, ◌≤◌, ◌^◌, ℤ, pos, length, get_or, true, false, cond, List, [], ◌≡◌}
+-- What is filed wrongly first among the rows of a chunk (`wrong_of`). `Ready` is what the audit of a chunk of rows asks: every value in its limits, and every run of the rows inside the run buffer and the series.
+use Rattle.std.specs.Prelude.{ℕ, ◌+◌, ◌<◌, ◌≤◌, ◌^◌, ℤ, pos, length, get_or, List, [], ◌≡◌}
 use Rattle.std.specs.declared.option.Option.{Option}
-use Rattle.std.specs.Prelude.{None, Some}
 use Rattle.meaning_curves.specs.Curve.{window_sum}
 use Rattle.meaning_curves.proofs.Values.{AllIn}
 use Rattle.meaning_rows.specs.{declared.Row.Row, declared.Head.Head, Index.Index, Index.entries, Audit.wrong_from}
 use Rattle.rows_records.specs.Records.{zero_row}
-use Rattle.entry_audit.specs.declared.RowsAudited.{RowsAudited}
-
--- the state, by what is filed wrongly first
-unfoldable pub found : Option (ℕ × ℕ) → RowsAudited
-found None = record { go = true; row = 0; offset = 0 }
-found (Some p) = record { go = false; row = p.0; offset = p.1 }
 
 -- a row's runs lie in both slices, and each of its windows, of length w, among n values
 pub record Reads (n w : ℕ) (left right : List ℕ) (r : Row) : Type 0 where
@@ -35,7 +28,3 @@ only_runs left right = record { window = pos 0; width = pos 0; windows = pos 0; 
 -- the first row and offset filed wrongly among rows that are counted on from a place, at window length w
 abbrev pub wrong_of : List ℤ → ℕ → List ℕ → List ℕ → ℕ → List Row → Option (ℕ × ℕ)
 wrong_of series w left right from l = wrong_from (only_runs left right) (window_sum series w) from l
-
--- after the rows of a chunk; an audit that does not go on stays as it is
-unfoldable pub chunked : List ℤ → Head → List ℕ → List ℕ → RowsAudited → ℕ → List Row → RowsAudited
-chunked series h left right s from l = cond s.go (found (wrong_of series h.window left right from l)) s
