@@ -1,2 +1,2 @@
 -- Laws of clear.
-pub mod Clear
+pub mod Cleared

@@ -1,49 +1,15 @@
-// Every clearing of a buffer: one law for the four widths.
+// The clearing of a buffer from a place on, for entries of any type.
 #![tactic(auto)]
 
 ghost use Rattle.std.specs.Prelude.{◌≡◌};
-ghost use Rattle.clear.specs.Clear.{cleared_from};
+ghost use Rattle.clear.specs.Clear.{cleared_to};
 
-// Every entry from `from` on is made 0.
-pub fn clear_u8(buffer: &mut [u8], from: usize)
-    ensures { buffer.new ≡ cleared_from from buffer.old }
+// Every entry from `from` on is made `zero`.
+pub fn clear<T: Copy>(buffer: &mut [T], from: usize, zero: T)
+    ensures { buffer.new ≡ cleared_to zero from buffer.old }
 {
-    let mut i = from;
-    while i < buffer.len() {
-        buffer[i] = 0;
-        i += 1;
-    }
-}
-
-// Every entry from `from` on is made 0.
-pub fn clear_u16(buffer: &mut [u16], from: usize)
-    ensures { buffer.new ≡ cleared_from from buffer.old }
-{
-    let mut i = from;
-    while i < buffer.len() {
-        buffer[i] = 0;
-        i += 1;
-    }
-}
-
-// Every entry from `from` on is made 0.
-pub fn clear_u32(buffer: &mut [u32], from: usize)
-    ensures { buffer.new ≡ cleared_from from buffer.old }
-{
-    let mut i = from;
-    while i < buffer.len() {
-        buffer[i] = 0;
-        i += 1;
-    }
-}
-
-// Every entry from `from` on is made 0.
-pub fn clear_u64(buffer: &mut [u64], from: usize)
-    ensures { buffer.new ≡ cleared_from from buffer.old }
-{
-    let mut i = from;
-    while i < buffer.len() {
-        buffer[i] = 0;
-        i += 1;
+    // std's `fill` promises this only of a type whose clones equal what they are made of, and `Copy` alone does not say so.
+    for i in from..buffer.len() {
+        buffer[i] = zero;
     }
 }
