@@ -1,6 +1,4 @@
 -- The sizes of a frame's numbers, within the limits of a query: all products fit 64 bits (`frame-in`).
-use Rattle.std.specs.Int.{int_min, int_max}
-use Rattle.std.proofs.lemmas.Int.{ints}
 use Rattle.meaning_numbers.specs.{Root.root, Order.minℤ, Order.maxℤ}
 use Rattle.meaning_numbers.proofs.Root.{root_is, le-of-sq-le}
 use Rattle.meaning_numbers.proofs.Prelude.{◌≡◌, ◌∙◌, ℕ, ◌*◌, ◌/◌, ◌≤◌, arith, mul-le-mul, div-le_self, ℤ, pos, ◌+ℤ◌, ◌-ℤ◌, ◌*ℤ◌, w64, SFits, to_z, of_z}
@@ -74,15 +72,6 @@ module _ {m w : ℕ} {l : Limits} {values spread : ℕ} (q : QueryIn m w l value
   }
 
 -- ---- an end of a part's range
-
--- std's lesser and greater are those of the definitions
-pub min-is : (x y : ℤ) → int_min x y ≡ minℤ x y
-unfolding minℤ
-min-is x y = grind (arith, ints)
-
-pub max-is : (x y : ℤ) → int_max x y ≡ maxℤ x y
-unfolding maxℤ
-max-is x y = grind (arith, ints)
 
 -- x is the sum of an envelope moved by the reach; its two multiples, and one of them with more added, are small, so their bits are those of the numbers
 module _ {f : Frame} {sum more : ℤ} (step : ℤ → ℤ → ℤ) (i : FrameIn f) (h : Small 2560000 sum) (k : Small 1310720000000 more) (s : Small 18560256 (step sum f.reach)) where
