@@ -27,7 +27,8 @@ pub fn find_number(numbers: &[u32], count: usize, k: u64) -> usize
     requires has { Has numbers.now count k }
     ensures { (result < count) × (get_or numbers.now result 0 ≡ k) }
 {
-    let mut lo: usize = 0;
+    // std's `partition_point` jumps on each number that it reads.
+    let mut lo = 0;
     let mut size = count;
     while 1 < size {
         let half = size / 2;

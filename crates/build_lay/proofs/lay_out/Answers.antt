@@ -1,11 +1,18 @@
--- `lay_out_by`: there is room for the rows, and the counts of their runs can be summed up.
-use Rattle.meaning_numbers.proofs.Prelude.{length, ◌≡◌, ap, arith}
+-- `lay_out`: there is room for the flags and the rows, and the counts of their runs can be summed up.
+use Rattle.meaning_numbers.proofs.Prelude.{ℕ, ◌≤◌, replicate, length-replicate, length, ◌≡◌, ap, arith}
 use Rattle.sums_slide.specs.Table.{table}
 use Rattle.rows_pack.specs.Packed.{total}
 use Rattle.rows_pack.proofs.Records.{counts-fit}
 use Rattle.build_lay.proofs as own
 use own.Laid.{rows_fit}
-use Rattle.build_lay.proofs.lay_out_by.Goals as goal
+use Rattle.build_lay.proofs.lay_out.Goals as goal
+
+-- of n flags there are n
+flags : (n x : ℕ) → 1 ≤ n → n ≤ 1000000 → (1 ≤ length (replicate n x)) × (length (replicate n x) ≤ 1000000)
+flags n x some most = rw (length-replicate n x) (some, most)
+
+pub plan-n-requires-clause-in_bounds : goal.plan-n-requires-clause-in_bounds
+plan-n-requires-clause-in_bounds c = flags 262144 0 (omega arith) (omega arith)
 
 pub plan-n-requires-clause-d_in_bounds : goal.plan-n-requires-clause-d_in_bounds
 plan-n-requires-clause-d_in_bounds c = (omega (arith, rows_fit c.requires, c.requires.in_left), omega (arith, rows_fit c.requires, c.requires.in_right))
