@@ -1,4 +1,3 @@
 -- What the contracts of values cite.
 pub mod Place
 pub mod Sums
-pub mod Copy

@@ -7,18 +7,10 @@ ghost use Rattle.meaning_curves.specs.Limits.{value_in, first_outside, longest_w
 ghost use Rattle.meaning_curves.specs.Curve.{stretch, window_sum, spread};
 ghost use Rattle.meaning_curves.proofs.Values.{AllIn};
 ghost use Rattle.numbers.specs.Raised.{raised};
-ghost use Rattle.values.specs.Place.{placed, InTo};
+ghost use Rattle.values.specs.Place.{InTo};
 ghost use Rattle.values.specs.Sums.{AreSums};
-ghost use Rattle.values.specs.Copy.{Copied};
 
 use numbers::{RAISE, in_limits, lower, raise};
-
-// The place of what was looked for.
-#[derive(Clone, Copy)]
-pub enum Place {
-    At(usize),
-    Nowhere,
-}
 
 // How many of the `n` values from `from` on are outside their limits.
 pub fn count_outside(s: &[i32], from: usize, n: usize) -> u32
@@ -27,43 +19,37 @@ pub fn count_outside(s: &[i32], from: usize, n: usize) -> u32
     ensures { result ≡ count (λ k. not (value_in (stretch s.now from k))) n }
 {
     let mut found: u32 = 0;
-    let mut k: usize = 0;
-    while k < n {
-        let x = s[from + k];
-        found += !in_limits(x) as u32;
-        k += 1;
+    for k in 0..n {
+        found += !in_limits(s[from + k]) as u32;
     }
     found
 }
 
 // The place of the first value outside its limits, where none before `from` is.
-pub fn outside_from(s: &[i32], from: usize) -> Place
+pub fn outside_from(s: &[i32], from: usize) -> Option<usize>
     requires { (from ≤ length s.now) × InTo s.now from }
-    ensures { result ≡ placed (first_outside s.now) }
+    ensures { result ≡ first_outside s.now }
 {
-    let mut i = from;
-    while i < s.len() {
-        let x = s[i];
-        if !in_limits(x) {
-            return Place::At(i);
+    for i in from..s.len() {
+        if !in_limits(s[i]) {
+            return Some(i);
         }
-        i += 1;
     }
-    Place::Nowhere
+    None
 }
 
 // The place of the first value outside its limits. Most series have none: a block is counted without a jump, and looked through only where one is outside.
-pub fn first_outside(s: &[i32]) -> Place
-    ensures { result ≡ placed (first_outside s.now) }
+pub fn first_outside(s: &[i32]) -> Option<usize>
+    ensures { result ≡ first_outside s.now }
 {
-    let mut i: usize = 0;
-    while 256 <= s.len() - i {
-        if count_outside(s, i, 256) != 0 {
-            return outside_from(s, i);
+    let blocks = s.len() / 256;
+    for b in 0..blocks {
+        let from = b * 256;
+        if count_outside(s, from, 256) != 0 {
+            return outside_from(s, from);
         }
-        i += 256;
     }
-    outside_from(s, i)
+    outside_from(s, blocks * 256)
 }
 
 // The sum of the raised values of the stretch of `m` values that starts at `from`.
@@ -74,11 +60,8 @@ pub fn raised_sum(s: &[i32], from: usize, m: usize) -> u64
     ensures { result ≡ Σℕ m (λ k. raised (stretch s.now from k)) }
 {
     let mut sum: u64 = 0;
-    let mut k: usize = 0;
-    while k < m {
-        let x = s[from + k];
-        sum += raise(x);
-        k += 1;
+    for k in 0..m {
+        sum += raise(s[from + k]);
     }
     sum
 }
@@ -124,18 +107,12 @@ pub fn sums_at(s: &[i32], from: usize, m: usize) -> Sums
 {
     let mut values: u64 = 0;
     let mut squares: u64 = 0;
-    let mut k: usize = 0;
-    while k < m {
-        let x = s[from + k];
-        let v = raise(x);
+    for k in 0..m {
+        let v = raise(s[from + k]);
         values += v;
         squares += v * v;
-        k += 1;
     }
-    Sums {
-        values: values,
-        squares: squares,
-    }
+    Sums { values, squares }
 }
 
 // The sums of the next stretch.
@@ -164,18 +141,4 @@ pub fn spread_of(s: &[i32], from: usize, m: usize, t: Sums) -> u64
     ensures { result ≡ spread (stretch s.now from) m }
 {
     (m as u64) * t.squares - t.values * t.values
-}
-
-// The values of `q` into `out`.
-pub fn copy_values(q: &[i32], out: &mut [i32])
-    requires { length out.old ≡ length q.now }
-    ensures { Copied q.now out.new }
-{
-    let m = q.len();
-    let mut j: usize = 0;
-    while j < m {
-        let x = q[j];
-        out[j] = x;
-        j += 1;
-    }
 }

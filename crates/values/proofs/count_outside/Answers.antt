@@ -6,7 +6,7 @@ use Rattle.meaning_curves.specs.{Curve.stretch, Limits.value_in}
 use Rattle.values.proofs.count_outside.Goals as goal
 
 pub loop-k-init : goal.loop-k-init
-loop-k-init c = (omega arith, sym (count_none _))
+loop-k-init c = sym (count_none _)
 
 -- a turn looks at the value at k
 module _ (c : goal.After-in_limits) where
@@ -17,10 +17,10 @@ module _ (c : goal.After-in_limits) where
   told = ap not (c.in_limits.ensures ∙ ap value_in (to_z-of_z w32 _ (search rules)))
 
   more : c.loop-k.found + bool_byte (not c.in_limits.result) ≡ count outside (c.loop-k.k + 1)
-  more = omega (arith, c.loop-k.invariant.1, ap bool_byte told, flag-bit (outside c.loop-k.k), count-more outside c.loop-k.k)
+  more = omega (arith, c.loop-k.invariant, ap bool_byte told, flag-bit (outside c.loop-k.k), count-more outside c.loop-k.k)
 
 pub overflow_add-found : goal.overflow_add-found
 overflow_add-found c = omega (arith, more c, count-le (outside c) (c.loop-k.k + 1))
 
 pub loop-k-preserved : goal.loop-k-preserved
-loop-k-preserved c = (omega arith, more c)
+loop-k-preserved c = more c

@@ -1,6 +1,6 @@
 use Rattle.meaning_numbers.specs.Sum.{count}
 use Rattle.meaning_numbers.proofs.Count.{never-count}
-use Rattle.meaning_numbers.proofs.Prelude.{not-false, ◌≡◌, sym, subst, not, List, ℕ, ◌+◌, ◌-◌, arith, dec_lt, T, ℤ}
+use Rattle.meaning_numbers.proofs.Prelude.{not-false, ◌≡◌, sym, subst, not, List, ℕ, ◌+◌, ◌-◌, ◌*◌, arith, dec_lt, T, ℤ}
 use Rattle.meaning_curves.specs.{Curve.stretch, Limits.value_in}
 use Rattle.values.specs.Place.{InTo}
 use Rattle.values.proofs.first_outside.Goals as goal
@@ -16,6 +16,7 @@ block_in s i n h none = record {
   ];
 }
 
-pub loop-i-preserved : goal.loop-i-preserved
-loop-i-preserved c =
-    (omega arith, block_in _ _ 256 c.loop-i.invariant.1 (omega arith))
+pub loop-b-preserved : goal.loop-b-preserved
+loop-b-preserved c =
+    let e : c.loop-b.b * 256 + 256 ≡ (c.loop-b.b + 1) * 256 = omega arith in
+    rw e at (block_in _ _ 256 c.loop-b.invariant (omega arith))

@@ -1,10 +1,7 @@
 -- `first_outside`. The invariant: every value passed is in its limits; a block that counts none adds its values (`block_in`).
-use Rattle.meaning_numbers.proofs.Prelude.{◌-◌, ◌≤◌, length}
+use Rattle.meaning_numbers.proofs.Prelude.{◌*◌}
 use Rattle.values.specs.Place.{InTo}
 use Rattle.values.proofs.first_outside.Given as goal
 
-abbrev pub invariant-loop-i : goal.invariant-loop-i
-invariant-loop-i l = (l.i ≤ length l.s) × InTo l.s l.i
-
-abbrev pub decreases-loop-i : goal.decreases-loop-i
-decreases-loop-i l = length l.s - l.i
+abbrev pub invariant-loop-b : goal.invariant-loop-b
+invariant-loop-b l = InTo l.s (l.b * 256)

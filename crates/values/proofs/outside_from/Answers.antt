@@ -1,7 +1,6 @@
 use Rattle.meaning_numbers.proofs.Prelude.{rules, ◌≡◌, sym, ap, ◌∙◌, arith, w32, to_z-of_z}
 use Rattle.meaning_curves.specs.{Curve.at, Limits.value_in}
 use Rattle.meaning_curves.proofs.{Limits.outside-is, Limits.in-values, Values.no_value}
-use Rattle.values.specs.Place.{placed}
 use Rattle.values.proofs.outside_from.Goals as goal
 
 -- the answer speaks of the value at i
@@ -11,7 +10,7 @@ told c =
 
 pub returns-then-not-in_limits : goal.returns-then-not-in_limits
 returns-then-not-in_limits c =
-    sym (ap placed (outside-is (record { there = omega arith; outside = no_value _ (sym (told c) ∙ c.if-not-in_limits.true); before = search rules })))
+    sym (outside-is (record { there = omega arith; outside = no_value _ (sym (told c) ∙ c.if-not-in_limits.true); before = c.loop-i.invariant.inside }))
 
 pub returns : goal.returns
-returns c = sym (ap placed (in-values _ (λ k l. c.loop-i.invariant.1 k (omega arith))))
+returns c = sym (in-values _ (λ k l. c.loop-i.invariant.inside k (omega arith)))

@@ -17,4 +17,4 @@ module _ (c : goal.After-raise-sum) where
   small = rw told (raised-le (c.requires.all_in.at _))
 
 pub loop-k-preserved : goal.loop-k-preserved
-loop-k-preserved c = rw Σℕ-more (omega arith, omega (arith, small c), omega (arith, told c))
+loop-k-preserved c = rw Σℕ-more (omega (arith, small c), omega (arith, told c))

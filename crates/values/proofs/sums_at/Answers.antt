@@ -19,4 +19,4 @@ module _ (c : goal.After-raise-v) where
   square-small = omega (arith, sq-le small)
 
 pub loop-k-preserved : goal.loop-k-preserved
-loop-k-preserved c = rw (Σℕ-more, Σℕ-more) (omega arith, omega (arith, small c), omega (arith, square-small c), omega (arith, told c), rw (told c) (omega arith))
+loop-k-preserved c = rw (Σℕ-more, Σℕ-more) (omega (arith, small c), omega (arith, square-small c), omega (arith, told c), rw (told c) (omega arith))
