@@ -12,7 +12,7 @@ ghost use Rattle.distance_match.specs.Matched.{matched};
 ghost use Rattle.distance_match.specs.Alike.{Alike, Says};
 
 use distance_query::Query;
-use distance_within::{Match, compare, compare_normal};
+use distance_within::{compare, compare_normal};
 use meaning_filter::{Kind, Limits};
 use numbers::difference;
 use values::{Sums, spread_of};
@@ -52,7 +52,7 @@ pub fn match_normal(
     l: Limits,
     room: &mut [i32],
     row: &mut [u64],
-) -> Match
+) -> Option<u64>
     requires q_in_bounds { from + length q.now ≤ length s.now }
     requires q_nonzero { (0 < length q.now) × (length q.now ≤ longest_query) }
     requires room_fits { (length room.old ≡ length q.now) × (length q.now < length row.old) }
@@ -65,7 +65,7 @@ pub fn match_normal(
     let a = spread_of(s, from, m, t);
     let p = t.values;
     if !alike(a, p, query, m, l) {
-        return Match::No;
+        return None;
     }
     let b = l.band as usize;
     let threshold = l.threshold;
@@ -86,7 +86,7 @@ pub fn match_at(
     l: Limits,
     room: &mut [i32],
     row: &mut [u64],
-) -> Match
+) -> Option<u64>
     requires q_in_bounds { from + length q.now ≤ length s.now }
     requires q_nonzero { (0 < length q.now) × (length q.now ≤ longest_query) }
     requires room_fits { (length room.old ≡ length q.now) × (length q.now < length row.old) }
