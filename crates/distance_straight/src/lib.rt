@@ -21,13 +21,9 @@ pub fn part(s: &[i32], from: usize, q: &[i32], p: usize, n: usize) -> u64
     ensures { result ≡ Σℕ n (λ k. cost (stretch s.now from (p + k)) (at q.now (p + k))) }
 {
     let mut sum: u64 = 0;
-    let mut k: usize = 0;
-    while k < n {
+    for k in 0..n {
         let j = p + k;
-        let x = s[from + j];
-        let y = q[j];
-        sum += squared(x, y);
-        k += 1;
+        sum += squared(s[from + j], q[j]);
     }
     sum
 }
@@ -41,14 +37,13 @@ pub fn straight(s: &[i32], from: usize, q: &[i32], limit: u64) -> u64
     ensures { Within (straight (stretch s.now from) (at q.now) (length q.now)) limit result }
 {
     let m = q.len();
+    let blocks = m / 16;
     let mut total: u64 = 0;
-    let mut i: usize = 0;
-    while 16 <= m - i {
-        total += part(s, from, q, i, 16);
+    for b in 0..blocks {
+        total += part(s, from, q, b * 16, 16);
         if limit < total {
             return total;
         }
-        i += 16;
     }
-    total + part(s, from, q, i, m - i)
+    total + part(s, from, q, blocks * 16, m % 16)
 }
