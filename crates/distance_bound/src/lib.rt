@@ -16,13 +16,8 @@ pub fn outside(low: i32, high: i32, x: i32) -> u32
     requires in_limits_3 { InLimits x }
     ensures { result ≡ excess low high x }
 {
-    let a = x - high;
-    let b = low - x;
-    let mut d = a;
-    if a < b {
-        d = b;
-    }
-    if d < 0 { 0 } else { d as u32 }
+    let d = (x - high).max(low - x);
+    d.max(0) as u32
 }
 
 // The square of that.
@@ -44,10 +39,7 @@ pub fn excess_at(s: &[i32], from: usize, low: &[i32], high: &[i32], j: usize) ->
     requires all_in { AllIn s.now × AllIn low.now × AllIn high.now }
     ensures { result ≡ apart (stretch s.now from) (at low.now) (at high.now) j }
 {
-    let x = s[from + j];
-    let l = low[j];
-    let h = high[j];
-    outside_squared(l, h, x)
+    outside_squared(low[j], high[j], s[from + j])
 }
 
 // The sum of the squares of what `n` values, from place `p` on of the stretch of `s` that starts at `from`, lie outside the envelope.
@@ -60,10 +52,8 @@ pub fn envelope_part(s: &[i32], from: usize, low: &[i32], high: &[i32], p: usize
     ensures { result ≡ Σℕ n (λ k. apart (stretch s.now from) (at low.now) (at high.now) (p + k)) }
 {
     let mut sum: u64 = 0;
-    let mut k: usize = 0;
-    while k < n {
+    for k in 0..n {
         sum += excess_at(s, from, low, high, p + k);
-        k += 1;
     }
     sum
 }
@@ -77,14 +67,13 @@ pub fn envelope_bound(s: &[i32], from: usize, low: &[i32], high: &[i32], limit: 
     ensures { Within (Σℕ (length low.now) (apart (stretch s.now from) (at low.now) (at high.now))) limit result }
 {
     let m = low.len();
+    let blocks = m / 16;
     let mut total: u64 = 0;
-    let mut i: usize = 0;
-    while 16 <= m - i {
-        total += envelope_part(s, from, low, high, i, 16);
+    for b in 0..blocks {
+        total += envelope_part(s, from, low, high, b * 16, 16);
         if limit < total {
             return total;
         }
-        i += 16;
     }
-    total + envelope_part(s, from, low, high, i, m - i)
+    total + envelope_part(s, from, low, high, blocks * 16, m % 16)
 }
