@@ -39,7 +39,8 @@ pub fn excess_at(s: &[i32], from: usize, low: &[i32], high: &[i32], j: usize) ->
     requires all_in { AllIn s.now × AllIn low.now × AllIn high.now }
     ensures { result ≡ apart (stretch s.now from) (at low.now) (at high.now) j }
 {
-    outside_squared(low[j], high[j], s[from + j])
+    let x = s[from + j];
+    outside_squared(low[j], high[j], x)
 }
 
 // The sum of the squares of what `n` values, from place `p` on of the stretch of `s` that starts at `from`, lie outside the envelope.
