@@ -85,7 +85,7 @@ pub fn gap(x: i32, y: i32) -> u32
     requires in_limits_2 { InLimits y }
     ensures { result ≡ nat_abs (x -ℤ y) }
 {
-    x.abs_diff(y)
+    (x - y).unsigned_abs()
 }
 
 // The squared difference of two values.
