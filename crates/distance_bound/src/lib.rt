@@ -39,7 +39,8 @@ pub fn excess_at(s: &[i32], from: usize, low: &[i32], high: &[i32], j: usize) ->
     requires all_in { AllIn s.now × AllIn low.now × AllIn high.now }
     ensures { result ≡ apart (stretch s.now from) (at low.now) (at high.now) j }
 {
-    outside_squared(low[j], high[j], s[from + j])
+    let x = s[from + j];
+    outside_squared(low[j], high[j], x)
 }
 
 // The sum of the squares of what `n` values, from place `p` on of the stretch of `s` that starts at `from`, lie outside the envelope.
@@ -67,13 +68,15 @@ pub fn envelope_bound(s: &[i32], from: usize, low: &[i32], high: &[i32], limit: 
     ensures { Within (Σℕ (length low.now) (apart (stretch s.now from) (at low.now) (at high.now))) limit result }
 {
     let m = low.len();
-    let blocks = m / 16;
     let mut total: u64 = 0;
-    for b in 0..blocks {
-        total += envelope_part(s, from, low, high, b * 16, 16);
+    let mut i: usize = 0;
+    // Not a `for` over blocks: that tells LLVM that fewer than 16 values are left in the end, and it does not vectorise so few.
+    while 16 <= m - i {
+        total += envelope_part(s, from, low, high, i, 16);
         if limit < total {
             return total;
         }
+        i += 16;
     }
-    total + envelope_part(s, from, low, high, blocks * 16, m % 16)
+    total + envelope_part(s, from, low, high, i, m - i)
 }

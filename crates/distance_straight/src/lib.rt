@@ -37,13 +37,15 @@ pub fn straight(s: &[i32], from: usize, q: &[i32], limit: u64) -> u64
     ensures { Within (straight (stretch s.now from) (at q.now) (length q.now)) limit result }
 {
     let m = q.len();
-    let blocks = m / 16;
     let mut total: u64 = 0;
-    for b in 0..blocks {
-        total += part(s, from, q, b * 16, 16);
+    let mut i: usize = 0;
+    // Not a `for` over blocks: that tells LLVM that fewer than 16 values are left in the end, and it does not vectorise so few.
+    while 16 <= m - i {
+        total += part(s, from, q, i, 16);
         if limit < total {
             return total;
         }
+        i += 16;
     }
-    total + part(s, from, q, blocks * 16, m % 16)
+    total + part(s, from, q, i, m - i)
 }

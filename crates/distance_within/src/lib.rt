@@ -71,19 +71,20 @@ pub fn normalise_within(
 {
     let m = out.len();
     let f = factor(a);
-    let blocks = m / 16;
     let mut total: u64 = 0;
-    for b in 0..blocks {
-        let i = b * 16;
+    let mut i: usize = 0;
+    // A `while` for the reason that `envelope_bound` has.
+    while 16 <= m - i {
         normalise_part(s, from, t, a, f, i, 16, out);
-        total += envelope_part(&out[..i + 16], 0, low, high, i, 16);
+        let end = i + 16;
+        total += envelope_part(&out[..end], 0, low, high, i, 16);
         if limit < total {
             return total;
         }
+        i = end;
     }
-    let i = blocks * 16;
-    normalise_part(s, from, t, a, f, i, m % 16, out);
-    total + envelope_part(out, 0, low, high, i, m % 16)
+    normalise_part(s, from, t, a, f, i, m - i, out);
+    total + envelope_part(&out[..m], 0, low, high, i, m - i)
 }
 
 // The distance of a curve and the normalised values of a stretch that is not flat, of its sums and its spread, where it is at most the threshold. Values are normalised only as far as the envelope bound lets them. `room` is room for these values.

@@ -30,7 +30,7 @@ pub fn root(y: u64) -> u64
         if t * t <= y {
             r = t;
         }
-        width = width - half;
+        width -= half;
     }
     r
 }
@@ -39,10 +39,7 @@ pub fn root(y: u64) -> u64
 pub fn quotient(n: u32, d: u32) -> u32
     ensures { result ≡ n / d }
 {
-    if d == 0 {
-        return 0;
-    }
-    n / d
+    n.checked_div(d).unwrap_or(0)
 }
 
 // The number of the row that holds a sum, for negative sums too; for rows of width 0, which nothing asks for, 0 or -1.
@@ -62,13 +59,7 @@ pub fn row_number(sum: i32, width: u32) -> i32
 pub fn in_limits(x: i32) -> bool
     ensures { result ≡ value_in x }
 {
-    if x < LEAST_VALUE {
-        return false;
-    }
-    if GREATEST_VALUE < x {
-        return false;
-    }
-    true
+    LEAST_VALUE <= x && x <= GREATEST_VALUE
 }
 
 // A value raised by 10,000.
@@ -94,8 +85,7 @@ pub fn gap(x: i32, y: i32) -> u32
     requires in_limits_2 { InLimits y }
     ensures { result ≡ nat_abs (x -ℤ y) }
 {
-    let d = x - y;
-    if d < 0 { (0 - d) as u32 } else { d as u32 }
+    (x - y).unsigned_abs()
 }
 
 // The squared difference of two values.
@@ -189,8 +179,7 @@ pub fn ceil_quotient(z: i64, d: u64) -> i64
     requires { (0 < d) × Small 4611686018427387904 z }
     ensures { result ≡ ceilℤ z d }
 {
-    let f = floor_quotient(0 - z, d);
-    0 - f
+    -floor_quotient(-z, d)
 }
 
 // The sum of two numbers.
@@ -221,26 +210,14 @@ pub fn times(x: i64, y: i64) -> i64
 pub fn narrow(z: i64) -> i32
     ensures { result ≡ clamp z }
 {
-    if z < -2147483648 {
-        return -2147483648;
-    }
-    if 2147483647 < z {
-        return 2147483647;
-    }
-    z as i32
+    z.clamp(i32::MIN as i64, i32::MAX as i64) as i32
 }
 
 // A number as a u32 holds it; one that it does not hold becomes the greatest, which is outside every limit.
 pub fn hold(z: i64) -> u32
     ensures { result ≡ held z }
 {
-    if z < 0 {
-        return 4294967295;
-    }
-    if 4294967295 < z {
-        return 4294967295;
-    }
-    z as u32
+    u32::try_from(z).unwrap_or(u32::MAX)
 }
 
 // The place before `k`, or 0.

@@ -1,5 +1,5 @@
 use Rattle.meaning_numbers.specs.Sum.{Σℕ}
-use Rattle.meaning_numbers.proofs.Prelude.{◌≡◌, refl, List, ℕ, ◌+◌, ◌*◌, ◌/◌, ◌≤◌, arith, ℤ, length}
+use Rattle.meaning_numbers.proofs.Prelude.{◌≡◌, List, ℕ, ◌+◌, ◌*◌, ◌≤◌, arith, ℤ}
 use Rattle.meaning_curves.specs.Curve.{at, stretch}
 use Rattle.meaning_curves.proofs.Values.{AllIn}
 use Rattle.meaning_filter.proofs.{Bound.apart, Apart.aparts-le}
@@ -11,25 +11,23 @@ module _ {s low high : List ℤ} (all : AllIn s × AllIn low × AllIn high) (fro
   small : r ≤ 400000000 * n
   small = omega (arith, told, aparts-le all.0 all.1 all.2 from i n)
 
-  more : {total end : ℕ} → i + n ≡ end → Made (apart (stretch s from) (at low) (at high)) 400000000 i total → Made (apart (stretch s from) (at low) (at high)) 400000000 end (total + r)
-  more e d = rw e at (made_more n r d told small)
+  more : {total : ℕ} → Made (apart (stretch s from) (at low) (at high)) 400000000 i total → Made (apart (stretch s from) (at low) (at high)) 400000000 (i + n) (total + r)
+  more d = made_more n r d told small
 
-pub loop-b-init : goal.loop-b-init
-loop-b-init c = made_none _ _
+pub loop-i-init : goal.loop-i-init
+loop-i-init c = (omega arith, omega arith, made_none _ _)
 
 pub overflow_add-total : goal.overflow_add-total
-overflow_add-total c = omega (arith, small c.requires.all_in c.args.from _ 16 c.envelope_part-total.ensures)
+overflow_add-total c = omega (arith, small c.requires.all_in c.args.from c.loop-i.i 16 c.envelope_part-total.ensures)
 
 pub returns-then-limit-total : goal.returns-then-limit-total
-returns-then-limit-total c = made-left (more c.requires.all_in c.args.from _ 16 c.envelope_part-total.ensures refl c.loop-b.invariant) (omega arith) (omega arith)
+returns-then-limit-total c = made-left (more c.requires.all_in c.args.from c.loop-i.i 16 c.envelope_part-total.ensures c.loop-i.invariant.2) (omega arith) (omega arith)
 
-pub loop-b-preserved : goal.loop-b-preserved
-loop-b-preserved c = more c.requires.all_in c.args.from _ 16 c.envelope_part-total.ensures (omega arith) c.loop-b.invariant
+pub loop-i-preserved : goal.loop-i-preserved
+loop-i-preserved c = (omega arith, omega arith, more c.requires.all_in c.args.from c.loop-i.i 16 c.envelope_part-total.ensures c.loop-i.invariant.2)
 
 pub overflow_add-result : goal.overflow_add-result
-overflow_add-result c = omega (arith, small c.requires.all_in c.args.from _ _ c.envelope_part.ensures)
+overflow_add-result c = omega (arith, small c.requires.all_in c.args.from c.loop-i.i _ c.envelope_part.ensures)
 
 pub returns : goal.returns
-returns c =
-    let e : c.loop-b.b ≡ length c.args.low.now / 16 = omega arith in
-    made-whole (more c.requires.all_in c.args.from _ _ c.envelope_part.ensures (omega arith) (rw e at c.loop-b.invariant)) refl
+returns c = made-whole (more c.requires.all_in c.args.from c.loop-i.i _ c.envelope_part.ensures c.loop-i.invariant.2) (omega arith)

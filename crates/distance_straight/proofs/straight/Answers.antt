@@ -1,5 +1,5 @@
 use Rattle.meaning_numbers.specs.Sum.{Σℕ}
-use Rattle.meaning_numbers.proofs.Prelude.{◌≡◌, refl, List, ℕ, ◌+◌, ◌*◌, ◌/◌, ◌≤◌, arith, ℤ, length}
+use Rattle.meaning_numbers.proofs.Prelude.{◌≡◌, List, ℕ, ◌+◌, ◌*◌, ◌≤◌, arith, ℤ}
 use Rattle.meaning_curves.specs.{Curve.at, Curve.stretch, Straight.cost, Straight.straight}
 use Rattle.meaning_curves.proofs.Values.{AllIn, costs-le}
 use Rattle.numbers.proofs.Blocks.{Made, made_none, made_more, made-left, made-whole}
@@ -10,27 +10,25 @@ module _ {s q : List ℤ} (in_s : AllIn s) (in_q : AllIn q) (from i n : ℕ) {r 
   small : r ≤ 400000000 * n
   small = omega (arith, told, costs-le in_s in_q from i n)
 
-  more : {total end : ℕ} → i + n ≡ end → Made (λ k. cost (stretch s from k) (at q k)) 400000000 i total → Made (λ k. cost (stretch s from k) (at q k)) 400000000 end (total + r)
-  more e d = rw e at (made_more n r d told small)
+  more : {total : ℕ} → Made (λ k. cost (stretch s from k) (at q k)) 400000000 i total → Made (λ k. cost (stretch s from k) (at q k)) 400000000 (i + n) (total + r)
+  more d = made_more n r d told small
 
-pub loop-b-init : goal.loop-b-init
-loop-b-init c = made_none _ _
+pub loop-i-init : goal.loop-i-init
+loop-i-init c = (omega arith, omega arith, made_none _ _)
 
 pub overflow_add-total : goal.overflow_add-total
-overflow_add-total c = omega (arith, small c.requires.all_in c.requires.all_in_2 c.args.from _ 16 c.part-total.ensures)
+overflow_add-total c = omega (arith, small c.requires.all_in c.requires.all_in_2 c.args.from c.loop-i.i 16 c.part-total.ensures)
 
 pub returns-then-limit-total : goal.returns-then-limit-total
 unfolding straight
-returns-then-limit-total c = made-left (more c.requires.all_in c.requires.all_in_2 c.args.from _ 16 c.part-total.ensures refl c.loop-b.invariant) (omega arith) (omega arith)
+returns-then-limit-total c = made-left (more c.requires.all_in c.requires.all_in_2 c.args.from c.loop-i.i 16 c.part-total.ensures c.loop-i.invariant.2) (omega arith) (omega arith)
 
-pub loop-b-preserved : goal.loop-b-preserved
-loop-b-preserved c = more c.requires.all_in c.requires.all_in_2 c.args.from _ 16 c.part-total.ensures (omega arith) c.loop-b.invariant
+pub loop-i-preserved : goal.loop-i-preserved
+loop-i-preserved c = (omega arith, omega arith, more c.requires.all_in c.requires.all_in_2 c.args.from c.loop-i.i 16 c.part-total.ensures c.loop-i.invariant.2)
 
 pub overflow_add-result : goal.overflow_add-result
-overflow_add-result c = omega (arith, small c.requires.all_in c.requires.all_in_2 c.args.from _ _ c.part.ensures)
+overflow_add-result c = omega (arith, small c.requires.all_in c.requires.all_in_2 c.args.from c.loop-i.i _ c.part.ensures)
 
 pub returns : goal.returns
 unfolding straight
-returns c =
-    let e : c.loop-b.b ≡ length c.args.q.now / 16 = omega arith in
-    made-whole (more c.requires.all_in c.requires.all_in_2 c.args.from _ _ c.part.ensures (omega arith) (rw e at c.loop-b.invariant)) refl
+returns c = made-whole (more c.requires.all_in c.requires.all_in_2 c.args.from c.loop-i.i _ c.part.ensures c.loop-i.invariant.2) (omega arith)
