@@ -70,26 +70,16 @@ pub fn count_new(
     ensures { Counted s.now w e old ups.now count counts.old (windows_of s.now w) counts.new }
 {
     let windows = s.len() + 1 - w;
-    let mut j = old;
-    let mut n = level_at(s, w, e, old);
-    while j < windows {
-        let i = find_above(ups, count, n);
+    let mut at = Window {
+        offset: old,
+        level: level_at(s, w, e, old),
+    };
+    while at.offset < windows {
+        let i = find_above(ups, count, at.level);
         counts[i] += 1;
         let low = start_of(ups, i) as u64;
         let up = ups[i] as u64;
-        let next = next_out(
-            s,
-            w,
-            e,
-            Window {
-                offset: j,
-                level: n,
-            },
-            low,
-            up,
-        );
-        j = next.offset;
-        n = next.level;
+        at = next_out(s, w, e, at, low, up);
     }
 }
 
