@@ -18,7 +18,6 @@ use check_few::keep_entry;
 use clear::clear;
 use distance_match::match_at;
 use distance_query::Query;
-use distance_within::Match;
 use meaning_curves::LONGEST_QUERY;
 use meaning_filter::{Kind, Limits, Pick};
 use values::{Sums, next_sums, sums_at};
@@ -89,7 +88,7 @@ pub fn note_entry(
 // What the match test says of offset `j`, noted in the list after `k` matches; how many there are then.
 pub fn note_match(
     pick: Pick,
-    tested: Match,
+    tested: Option<u64>,
     j: usize,
     k: usize,
     offsets: &mut [u32],
@@ -99,8 +98,8 @@ pub fn note_match(
     ensures { Notes pick (entries_of j tested) k result offsets.old distances.old offsets.new distances.new }
 {
     match tested {
-        Match::No => k,
-        Match::Yes { distance } => {
+        None => k,
+        Some(distance) => {
             note_entry(pick, j, distance, k, offsets, distances);
             k + 1
         }
