@@ -25,7 +25,7 @@ pub record Allowed (s : List ℤ) (h : Head) (x : Index) (ask : Ask) (q : List �
   pub values : AllIn s
   pub query : AllIn q
   pub long : length s ≤ 1048576
-  pub Some : 0 < length q
+  pub some : 0 < length q
   pub few : length q ≤ 1024
   pub inside : length q ≤ length s
   pub window : h.window ≤ length q
@@ -97,7 +97,7 @@ module _ (s : List ℤ) (h : Head) (rows : List Row) (left right : List ℕ) (as
           values = values-line s (passed-line t 2);
           query = values-line q (passed-line (passed-behind t 2) 2);
           long = (long-line most_values n (passed-line t 1)).most;
-          Some = length-in.0.least;
+          some = length-in.0.least;
           few = length-in.0.most;
           inside = length-in.1;
           window = omega (zarith, below-line m (pos h.window) (passed-line t 7));
