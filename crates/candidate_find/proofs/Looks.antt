@@ -1,10 +1,11 @@
 -- Finding candidates, where nothing refuses the search before it looks: what its parts ask for is had (`put-asked`, `meet-asked`, `hand-asked`), and what they promise is that the candidates are gathered (`gathered`). By the plan that is the promise of finding (`halts`, `went`).
 use Prim.Native.Nat.{ℕ, zero, suc, ◌+◌, ◌-◌, ◌*◌, ◌/◌, ◌<◌, ◌≤◌}
-use borrow.Author.Tests.{eqb-true, eqb-false, not-true, not-false}
+use Rattle.std.specs.Prelude.{Ok, Err}
+use Rattle.std.specs.declared.result.Result.{Result}
 use lib.Dec.{leb, eqb}
 use lib.IntN.{ℤ}
 use lib.ListN.{length, get_or, length-replicate}
-use mathlib.Core.Bool.{Bool, true, false, not, ◌||◌}
+use mathlib.Core.Bool.{Bool, ◌||◌}
 use mathlib.Core.List.{List, [], map}
 use mathlib.Core.Path.{◌≡◌, refl, sym, ap, ◌∙◌}
 use native.Mathlib.Nat.{div-le_self, div-mul-le_self}
@@ -14,17 +15,18 @@ use Rattle.meaning_rows.proofs.Runs.{runs-cong}
 use Rattle.meaning_filter.specs.{declared.Ask.Ask, Range.range_of, Range.ranges, Candidates.admits, Matches.candidate_at, Matches.candidate_runs, Matches.candidate_count}
 use Rattle.meaning_filter.proofs.Candidates.{count, count-cong}
 use Rattle.meaning_entries.specs.Buffers.{filled, pair_room}
-use Rattle.meaning_entries.specs.Search.{SearchCall, SearchBuffers, lent_search, question, list_room}
-use Rattle.rows_judge.specs.{declared.Judged.Judged, Judged.judged_of}
+use Rattle.meaning_entries.specs.Search.{SearchCall, SearchBuffers, lent_search, question, list_room, search_plan}
+use Rattle.rows_judge.specs.Judged.{Judged, judged_of}
 use Rattle.rows_judge.proofs.Scan.{length-entries}
-use Rattle.refusals.specs.{declared.Refusal.Refusal, Refusal.as_refusal}
+use Rattle.meaning_entries.specs.declared.Refusal.{Refusal}
+use Rattle.refusals.specs.Refusal.{refuses}
 use Rattle.candidate_counts.proofs.{LeadingLaws.leading, LeadingLaws.Counted, Leading.leading-all}
 use Rattle.candidate_met.specs.{declared.Span.Span, Met.clamp_of, Met.met_span}
 use Rattle.candidate_met.proofs.{Parts.FoundAll, Meaning.cleared-zeros, Meaning.found_all, Stored.raised-most, Stored.lowered, Spanned.span-met, Spanned.span-inside, Spanned.span-few, Spanned.clamp-stands, Spanned.climbs}
 use Rattle.candidate_plan.specs.{Tables.plan_of, Allowed.Allowed, Allowed.the_plan, Allowed.plan-is, Allowed.goes_on, Allowed.allowed}
 use Rattle.candidate_spans.specs.{Held.at, Held.RangesReady, Held.RangesHeld, Met.span_at, Met.MeetReady, Met.AllMet, Raised.stretch_hit}
 use Rattle.candidate_spans.proofs.Raised.{counted-all}
-use Rattle.candidate_find.specs.{declared.Sought.Sought, Sought.stopped, Sought.HandReady, Sought.HandedOut, Sought.Gathered, Sought.SoughtKept}
+use Rattle.candidate_find.specs.{declared.Sought.Sought, Sought.HandReady, Sought.HandedOut, Sought.Gathered, Sought.SoughtKept}
 
 length-cleared : (l : List ℕ) → length (filled 0 [] l) ≡ length l
 unfolding filled
@@ -164,7 +166,6 @@ module _ (s : List ℤ) (h : Head) (rows : List Row) (left right : List ℕ) (as
 
         pub gathered : Gathered call first last scratch t left' right' scratch'
         gathered = record {
-          unrefused = e.goes_on;
           runs = found.count-is ∙ ap length runs-are;
           candidates = found.found-is ∙ count-is;
           handed-left = found.left_is ∙ ap (λ (y : List (ℕ × ℕ)). filled 0 (map (λ t. t.0) y) first₂) runs-are ∙ filled-same _ first₂ _ (all.first-long ∙ held.first-long);
@@ -174,39 +175,28 @@ module _ (s : List ℤ) (h : Head) (rows : List Row) (left right : List ℕ) (as
 
 -- ---- by the plan
 
-module _ (s : List ℤ) (h : Head) (rows : List Row) (left right : List ℕ) (ask : Ask) (q : List ℤ) (b : SearchBuffers) {j : Judged} {p : Refusal}
+module _ (s : List ℤ) (h : Head) (rows : List Row) (left right : List ℕ) (ask : Ask) (q : List ℤ) (b : SearchBuffers) {j : Judged} {p : Result (Unit {0}) Refusal}
     (judged : j ≡ judged_of (lent h rows left right)) (planned : p ≡ plan_of s h j ask q (list_room b) (pair_room b.left b.right) (length b.scratch)) where
-  abbrev plan : Refusal
+  abbrev plan : Result (Unit {0}) Refusal
   plan = the_plan s h rows left right ask q b
 
   abbrev C : SearchCall
   C = lent_search s h rows left right ask q
 
-  plan-here : p ≡ plan
-  plan-here = planned ∙ rw judged
+  plan-here : plan ≡ p
+  plan-here = sym (planned ∙ rw judged)
 
   -- it refuses
-  pub halts : not (eqb p.number 0) ≡ true → {t : Sought} → t ≡ stopped p → SoughtKept C b t b.left b.right b.scratch
-  halts f e = rw (e, plan-here) record {
-    judged = plan-is s h rows left right ask q b;
-    stays = λ _. (refl, refl, refl);
-    uncounted = λ _. (refl, refl);
-    gathered = λ g. absurd (eqb-false _ 0 (not-true _ f) (ap (λ r. r.number) plan-here ∙ g));
-  }
+  pub halts : {r : Refusal} → p ≡ Err r → SoughtKept C b (Err r) b.left b.right b.scratch
+  halts e = record { judged = sym (refuses (search_plan C b) (plan-is s h rows left right ask q b) (plan-here ∙ e)); left = (refl, refl, refl) }
 
   -- it does not
-  module _ (f : not (eqb p.number 0) ≡ false) where
-    free : plan.number ≡ 0
-    free = sym (ap (λ r. r.number) plan-here) ∙ eqb-true _ 0 (not-false _ f)
+  module _ (z : p ≡ Ok tt) where
+    free : plan ≡ Ok tt
+    free = plan-here ∙ z
 
     pub goes : Allowed s h (lent h rows left right) ask q (pair_room b.left b.right) (length b.scratch)
     goes = allowed s h rows left right ask q b free
 
-    pub went : {t : Sought} {left' right' scratch' : List ℕ} → Gathered C b.left b.right b.scratch t left' right' scratch' → SoughtKept C b t left' right' scratch'
-    unfolding as_refusal
-    went g = record {
-      judged = g.unrefused ∙ sym (ap as_refusal (goes_on s h rows left right ask q b free));
-      stays = λ n. absurd (n (rw g.unrefused));
-      uncounted = λ n. absurd (n (rw g.unrefused));
-      gathered = λ _. g;
-    }
+    pub went : {t : Sought} {left' right' scratch' : List ℕ} → Gathered C b.left b.right b.scratch t left' right' scratch' → SoughtKept C b (Ok t) left' right' scratch'
+    went g = record { judged = sym (goes_on s h rows left right ask q b free); left = g }

@@ -3,7 +3,7 @@
 
 ghost use Rattle.std.specs.Prelude.{◌≡◌, ◌/◌, length};
 ghost use Rattle.candidate_spans.specs.Held.{RangesReady, RangesHeld};
-ghost use Rattle.candidate_find.specs.Sought.{stopped, unstopped, HandReady, HandedOut, Gathered, SoughtKept};
+ghost use Rattle.candidate_find.specs.Sought.{HandReady, HandedOut, Gathered, SoughtKept};
 ghost use Rattle.meaning_rows.specs.Index.{lent};
 ghost use Rattle.meaning_entries.specs.Buffers.{pair_room};
 ghost use Rattle.meaning_entries.specs.Search.{lent_search, search_buffers};
@@ -12,16 +12,15 @@ ghost use Rattle.candidate_plan.specs.Allowed.{Allowed};
 use candidate_counts::collect;
 use candidate_plan::plan_search;
 use candidate_spans::{meet_parts, put_ranges, raise_stretches};
-use clear::clear_u16;
+use clear::clear;
+use meaning_entries::Refusal;
 use meaning_filter::Ask;
 use meaning_rows::{Head, Row};
-use refusals::Refusal;
 use rows_judge::judge;
 
-// What finding candidates comes to: what refuses the search before it looks, or how many runs of candidates stand in the candidate buffer, and how many candidates they are.
+// What finding candidates comes to: how many runs of candidates stand in the candidate buffer, and how many candidates they are.
 #[derive(Clone, Copy)]
 pub struct Sought {
-    pub refusal: Refusal,
     pub runs: usize,
     pub candidates: usize,
 }
@@ -32,37 +31,8 @@ pub fn put_parts(ask: Ask, q: &[i32], head: Head, first: &mut [u32], last: &mut 
     ensures { RangesHeld ask.kind q.now ask.limits head.window first.old last.old first.new last.new × (result ≡ length q.now / head.window) }
 {
     let w = head.window;
-    let kind = ask.kind;
-    let l = ask.limits;
-    put_ranges(kind, q, l, w, first, last);
-    let length = w as usize;
-    q.len() / length
-}
-
-// A plan refuses.
-pub fn stop(r: Refusal) -> Sought
-    ensures { result ≡ stopped r }
-{
-    Sought {
-        refusal: r,
-        runs: 0,
-        candidates: 0,
-    }
-}
-
-// So many runs, and candidates.
-pub fn tell_sought(runs: usize, candidates: usize) -> Sought
-    ensures { result ≡ unstopped runs candidates }
-{
-    let refusal = Refusal {
-        number: 0,
-        place: 0,
-    };
-    Sought {
-        refusal,
-        runs,
-        candidates,
-    }
+    put_ranges(ask.kind, q, ask.limits, w, first, last);
+    q.len() / w as usize
 }
 
 // The candidates that the parts' stretches leave, handed out.
@@ -83,11 +53,14 @@ pub fn hand_out(
     let m = query.len();
     let parts = m / w;
     let n = series.len() + 1 - m;
-    clear_u16(scratch, 0);
+    clear(scratch, 0, 0);
     let windows = head.windows as usize;
     raise_stretches(scratch, left, right, first, last, windows, w, parts, n);
-    let c = collect(scratch, parts as u16, n, first, last);
-    tell_sought(c.runs, c.candidates)
+    let found = collect(scratch, parts as u16, n, first, last);
+    Sought {
+        runs: found.runs,
+        candidates: found.candidates,
+    }
 }
 
 // The candidates of a search that looks.
@@ -125,14 +98,14 @@ pub fn find_candidates(
     scratch: &mut [u16],
     offsets: &[u32],
     distances: &[u64],
-) -> Sought
+) -> Result<Sought, Refusal>
     ensures { SoughtKept (lent_search series.now head rows.now left.now right.now ask query.now) (search_buffers first.old last.old scratch.old offsets.now distances.now) result first.new last.new scratch.new }
 {
-    let j = judge(head, rows, left, right);
-    let r = plan_search(
+    let judged = judge(head, rows, left, right);
+    plan_search(
         series,
         head,
-        j,
+        judged,
         ask,
         query,
         first.len(),
@@ -140,11 +113,8 @@ pub fn find_candidates(
         scratch.len(),
         offsets.len(),
         distances.len(),
-    );
-    if r.number != 0 {
-        return stop(r);
-    }
-    gather(
+    )?;
+    Ok(gather(
         series, head, rows, left, right, ask, query, first, last, scratch,
-    )
+    ))
 }

@@ -1,6 +1,7 @@
 -- The plan over a lent index is the refusal of the search before it looks (`plan-is`). Where it refuses, that is the answer, and no buffer is altered (`plan-stops`). Where it does not, the call is within all limits (`allowed`), and what is left to decide is whether the list holds all matches (`goes_on`).
-use Rattle.std.specs.Prelude.{ℕ, zero, suc, ◌+◌, ◌-◌, ◌<◌, ◌≤◌, T, eqb, ℤ, pos, length, false, List, ◌≡◌}
-use Rattle.std.specs.Prelude.{None, Some}
+use Rattle.std.specs.Prelude.{ℕ, zero, suc, ◌+◌, ◌-◌, ◌<◌, ◌≤◌, eqb, ℤ, pos, length, false, List, ◌≡◌}
+use Rattle.std.specs.Prelude.{None, Ok, Err}
+use Rattle.std.specs.declared.result.Result.{Result}
 use Rattle.std.proofs.Math.Path.{refl}
 use Rattle.std.proofs.Common.{subst, arith}
 use Rattle.meaning_numbers.proofs.{Rep.zarith, Rep.z-sub, Tests.clash}
@@ -10,12 +11,12 @@ use Rattle.meaning_rows.specs.{declared.Row.Row, declared.Head.Head, Index.Index
 use Rattle.meaning_rows.proofs.Judge.{WellFormed}
 use Rattle.meaning_filter.specs.{declared.Kind.Kind, declared.Limits.Limits, declared.Ask.Ask}
 use Rattle.meaning_entries.specs.Search.{SearchCall, SearchBuffers, lent_search, list_room, search_plan, search_answer, search_after}
-use Rattle.meaning_entries.specs.{declared.Found.Found, Refusal.first_refusal, Refusal.normal_flat, Refusal.more_windows, Buffers.pair_room}
+use Rattle.meaning_entries.specs.{declared.Refusal.Refusal, Refusal.first_refusal, Refusal.normal_flat, Refusal.more_windows, Buffers.pair_room}
 use Rattle.meaning_entries.proofs.Lines.{long-line, values-line, query-line, below-line, band-line, threshold-line, scale-line, flat_line, formed-line, room-line}
-use Rattle.meaning_entries.proofs.Refused.{AllPass, passed_is, open_lines, passed-line, passed-behind, lacks}
+use Rattle.meaning_entries.proofs.Refused.{AllPass, passed_is, open_lines, passed-line, passed-behind}
 use Rattle.meaning_entries.proofs.Looked.{plan-refused}
 use Rattle.rows_judge.specs.Judged.{judged_of, bad-row}
-use Rattle.refusals.specs.{declared.Refusal.Refusal, Refusal.refusal_of, Refusal.judged-line, Refusal.passes, Refusal.refuses}
+use Rattle.refusals.specs.Refusal.{verdict, judged-line, passes, refuses}
 use Rattle.candidate_plan.specs.Tables.{values_table, numbers_table, input_table, windows_table, state_table, plan_of}
 pub use Rattle.meaning_curves.specs.Limits.{most_values, longest_window}
 
@@ -24,7 +25,7 @@ pub record Allowed (s : List ℤ) (h : Head) (x : Index) (ask : Ask) (q : List �
   pub values : AllIn s
   pub query : AllIn q
   pub long : length s ≤ 1048576
-  pub Some : 0 < length q
+  pub some : 0 < length q
   pub few : length q ≤ 1024
   pub inside : length q ≤ length s
   pub window : h.window ≤ length q
@@ -56,23 +57,19 @@ module _ (s : List ℤ) (h : Head) (rows : List Row) (left right : List ℕ) (as
   call = lent_search s h rows left right ask q
 
   -- the plan, where the index is judged
-  abbrev pub the_plan : Refusal
+  abbrev pub the_plan : Result (Unit {0}) Refusal
   the_plan = plan_of s h (judged_of X) ask q (list_room b) (pair_room b.left b.right) (length b.scratch)
 
-  pub plan-is : the_plan ≡ refusal_of (search_plan call b)
+  pub plan-is : the_plan ≡ verdict (search_plan call b)
   unfolding plan_of search_plan input_table values_table numbers_table state_table windows_table more_windows
   plan-is = rw (judged-line X (judged_of X) (bad-row X)) refl
 
-  never-0 : T (lacks 0 (search_plan call b))
-  unfolding open_lines search_plan lacks
-  never-0 = tt
+  pub plan-stops : {r : Refusal} → the_plan ≡ Err r → (search_answer call b ≡ Err r) × (search_after call b ≡ b)
+  plan-stops e = plan-refused call b (refuses (search_plan call b) plan-is e)
 
-  pub plan-stops : (the_plan.number ≡ 0 → ⊥) → (search_answer call b ≡ Found.Refused the_plan.number the_plan.place) × (search_after call b ≡ b)
-  plan-stops f = plan-refused call b (refuses (search_plan call b) plan-is f)
-
-  module _ (z : the_plan.number ≡ 0) where
+  module _ (z : the_plan ≡ Ok tt) where
     t : AllPass (search_plan call b)
-    t = passes (search_plan call b) never-0 plan-is z
+    t = passes (search_plan call b) plan-is z
 
     pub goes_on : first_refusal (search_plan call b) ≡ None
     goes_on = passed_is t
@@ -100,7 +97,7 @@ module _ (s : List ℤ) (h : Head) (rows : List Row) (left right : List ℕ) (as
           values = values-line s (passed-line t 2);
           query = values-line q (passed-line (passed-behind t 2) 2);
           long = (long-line most_values n (passed-line t 1)).most;
-          Some = length-in.0.least;
+          some = length-in.0.least;
           few = length-in.0.most;
           inside = length-in.1;
           window = omega (zarith, below-line m (pos h.window) (passed-line t 7));

@@ -1,11 +1,13 @@
 -- The refusals of a search but 24, in order, over what code has: the index is told by its head and by what judging said of it.
 use Rattle.std.specs.Prelude.{ℕ, ℤ, pos, length, List, [], ◌∷◌, ◌++◌}
+use Rattle.std.specs.declared.result.Result.{Result}
 use Rattle.meaning_curves.specs.Limits.{most_values}
 use Rattle.meaning_rows.specs.{declared.Head.Head, Index.lent}
 use Rattle.meaning_filter.specs.{declared.Ask.Ask, declared.Pick.Pick}
 use Rattle.meaning_entries.specs.{Refusal.Condition, Refusal.count_outside, Refusal.flat_query, Search.lent_ask, Search.value_lines, Search.limit_lines, Search.window_lines}
-use Rattle.rows_judge.specs.declared.Judged.{Judged}
-use Rattle.refusals.specs.{declared.Refusal.Refusal, Refusal.refusal_of, Refusal.judged_line}
+use Rattle.meaning_entries.specs.declared.Refusal.{Refusal}
+use Rattle.rows_judge.specs.Judged.{Judged}
+use Rattle.refusals.specs.Refusal.{verdict, judged_line}
 
 -- 1 and 2
 unfoldable pub values_table : List ℤ → List ℤ → List Condition
@@ -28,5 +30,5 @@ unfoldable pub state_table : List ℤ → Head → Judged → Pick → ℕ → �
 state_table s h j pick list candidates scratch = judged_line j ∷ windows_table s h pick list candidates scratch
 
 -- the plan: what refuses before the search looks
-unfoldable pub plan_of : List ℤ → Head → Judged → Ask → List ℤ → ℕ → ℕ → ℕ → Refusal
-plan_of s h j a q list candidates scratch = refusal_of (input_table s q h.window a ++ state_table s h j a.pick list candidates scratch)
+unfoldable pub plan_of : List ℤ → Head → Judged → Ask → List ℤ → ℕ → ℕ → ℕ → Result (Unit {0}) Refusal
+plan_of s h j a q list candidates scratch = verdict (input_table s q h.window a ++ state_table s h j a.pick list candidates scratch)

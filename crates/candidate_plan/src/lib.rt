@@ -2,55 +2,50 @@
 #![tactic(auto)]
 
 ghost use Rattle.std.specs.Prelude.{◌≡◌, min};
-ghost use Rattle.refusals.specs.Refusal.{refusal_of};
+ghost use Rattle.refusals.specs.Refusal.{verdict};
 ghost use Rattle.candidate_plan.specs.Tables.{values_table, numbers_table, input_table, windows_table, state_table, plan_of};
 
+use meaning_entries::{Reason, Refusal};
 use meaning_filter::{Ask, Pick};
 use meaning_rows::Head;
-use numbers::lesser;
 use refusals::{
-    Refusal, band_outside, below_window, list_below, more, normal_flat, pick_outside,
-    query_length_outside, refuse_if, refuse_judged, refuse_room, refuse_series, refuse_value,
-    scale_or_shift_outside, threshold_outside, unrefused,
+    band_outside, below_window, list_below, more, normal_flat, pick_outside, query_length_outside,
+    refuse_if, refuse_judged, refuse_room, refuse_series, refuse_value, scale_or_shift_outside,
+    threshold_outside,
 };
-use rows_judge::Judged;
 
 // The length of the series, then its values, then those of the query.
-pub fn refuse_values(s: &[i32], q: &[i32]) -> Refusal
-    ensures { result ≡ refusal_of (values_table s.now q.now) }
+pub fn refuse_values(s: &[i32], q: &[i32]) -> Result<(), Refusal>
+    ensures { result ≡ verdict (values_table s.now q.now) }
 {
-    refuse_series(s, refuse_value(q, unrefused()))
+    refuse_series(s)?;
+    refuse_value(q)
 }
 
 // The length of the query, the limits, and how many are handed out.
-pub fn refuse_numbers(s: &[i32], q: &[i32], w: u32, ask: Ask) -> Refusal
-    ensures { result ≡ refusal_of (numbers_table s.now q.now w ask) }
+pub fn refuse_numbers(s: &[i32], q: &[i32], w: u32, ask: Ask) -> Result<(), Refusal>
+    ensures { result ≡ verdict (numbers_table s.now q.now w ask) }
 {
     let l = ask.limits;
     let m = q.len();
-    let pick = ask.pick;
-    let few = refuse_if(pick_outside(pick), 30, unrefused());
-    let scale = refuse_if(scale_or_shift_outside(l.scale, l.shift), 10, few);
-    let threshold = refuse_if(threshold_outside(l.threshold), 9, scale);
-    let band = refuse_if(band_outside(m, l.band), 8, threshold);
-    let window = refuse_if(below_window(m, w), 7, band);
-    refuse_if(query_length_outside(m, s.len()), 6, window)
+    refuse_if(query_length_outside(m, s.len()), Reason::QueryLength)?;
+    refuse_if(below_window(m, w), Reason::QueryBelowWindow)?;
+    refuse_if(band_outside(m, l.band), Reason::Band)?;
+    refuse_if(threshold_outside(l.threshold), Reason::Threshold)?;
+    refuse_if(
+        scale_or_shift_outside(l.scale, l.shift),
+        Reason::ScaleOrShift,
+    )?;
+    refuse_if(pick_outside(ask.pick), Reason::ClosestCount)
 }
 
 // Everything about the input.
-pub fn refuse_input(s: &[i32], q: &[i32], w: u32, ask: Ask) -> Refusal
-    ensures { result ≡ refusal_of (input_table s.now q.now w ask) }
+pub fn refuse_input(s: &[i32], q: &[i32], w: u32, ask: Ask) -> Result<(), Refusal>
+    ensures { result ≡ verdict (input_table s.now q.now w ask) }
 {
-    let values = refuse_values(s, q);
-    if values.number != 0 {
-        return values;
-    }
-    let numbers = refuse_numbers(s, q, w, ask);
-    if numbers.number != 0 {
-        return numbers;
-    }
-    let kind = ask.kind;
-    refuse_if(normal_flat(kind, q), 11, unrefused())
+    refuse_values(s, q)?;
+    refuse_numbers(s, q, w, ask)?;
+    refuse_if(normal_flat(ask.kind, q), Reason::FlatQuery)
 }
 
 // More windows than the series has, and the room of list, candidates and scratch.
@@ -61,37 +56,38 @@ pub fn refuse_windows(
     list: usize,
     candidates: usize,
     scratch: usize,
-) -> Refusal
-    ensures { result ≡ refusal_of (windows_table s.now head pick list candidates scratch) }
+) -> Result<(), Refusal>
+    ensures { result ≡ verdict (windows_table s.now head pick list candidates scratch) }
 {
     let n = s.len();
     let w = head.window;
     let windows = head.windows;
-    let room = refuse_room(candidates, scratch, w, n);
-    let few = refuse_if(list_below(list, pick), 23, room);
-    refuse_if(more(windows, w, n), 22, few)
+    refuse_if(more(windows, w, n), Reason::MoreWindows)?;
+    refuse_if(list_below(list, pick), Reason::Room)?;
+    refuse_room(candidates, scratch, w, n)
 }
 
 // Everything about the state, by what judging said of the index.
 pub fn refuse_state(
     s: &[i32],
     head: Head,
-    j: Judged,
+    judged: Result<usize, usize>,
     pick: Pick,
     list: usize,
     candidates: usize,
     scratch: usize,
-) -> Refusal
-    ensures { result ≡ refusal_of (state_table s.now head j pick list candidates scratch) }
+) -> Result<(), Refusal>
+    ensures { result ≡ verdict (state_table s.now head judged pick list candidates scratch) }
 {
-    refuse_judged(j, refuse_windows(s, head, pick, list, candidates, scratch))
+    refuse_judged(judged)?;
+    refuse_windows(s, head, pick, list, candidates, scratch)
 }
 
 // The plan of a search: what refuses it before it looks. The candidate buffer is two slices of `left` and `right` entries, the list two of `offsets` and `distances`.
 pub fn plan_search(
     s: &[i32],
     head: Head,
-    j: Judged,
+    judged: Result<usize, usize>,
     ask: Ask,
     q: &[i32],
     left: usize,
@@ -99,16 +95,11 @@ pub fn plan_search(
     scratch: usize,
     offsets: usize,
     distances: usize,
-) -> Refusal
-    ensures { result ≡ plan_of s.now head j ask q.now (min offsets distances) (min left right) scratch }
+) -> Result<(), Refusal>
+    ensures { result ≡ plan_of s.now head judged ask q.now (min offsets distances) (min left right) scratch }
 {
-    let w = head.window;
-    let input = refuse_input(s, q, w, ask);
-    if input.number != 0 {
-        return input;
-    }
-    let pick = ask.pick;
-    let list = lesser(offsets as u64, distances as u64) as usize;
-    let candidates = lesser(left as u64, right as u64) as usize;
-    refuse_state(s, head, j, pick, list, candidates, scratch)
+    let list = offsets.min(distances);
+    let candidates = left.min(right);
+    refuse_input(s, q, head.window, ask)?;
+    refuse_state(s, head, judged, ask.pick, list, candidates, scratch)
 }

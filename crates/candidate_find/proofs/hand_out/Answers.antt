@@ -2,21 +2,18 @@
 use mathlib.Core.Path.{◌∙◌}
 use native.Mathlib.Omega.{arith}
 use Rattle.meaning_entries.specs.Buffers.{filled}
-use Rattle.clear.specs.Clear.{cleared_from}
+use Rattle.clear.specs.Clear.{cleared_to}
 use Rattle.candidate_met.proofs.Meaning.{cleared-same}
 use Rattle.candidate_find.proofs.hand_out.Goals as goal
 
 pub raise_stretches-requires : goal.raise_stretches-requires
-unfolding filled cleared_from
-raise_stretches-requires c = rw c.clear_u16.ensures c.requires.stretches
+unfolding filled cleared_to
+raise_stretches-requires c = rw c.clear.ensures c.requires.stretches
 
 pub returns : goal.returns
-returns c =
-    let told = c.tell_sought.ensures in
-    record {
-      counts = c.raise_stretches.new.scratch;
-      goes_on = rw told;
-      counted = c.raise_stretches.ensures;
-      handed = rw told c.collect-c.ensures.0;
-      cleared = c.collect-c.ensures.1 ∙ cleared-same c.raise_stretches.new.scratch c.args.scratch.now (omega (arith, c.raise_stretches.auto.scratch, c.clear_u16.auto.buffer));
-    }
+returns c = record {
+  counts = c.raise_stretches.new.scratch;
+  counted = c.raise_stretches.ensures;
+  handed = c.collect-found.ensures.0;
+  cleared = c.collect-found.ensures.1 ∙ cleared-same c.raise_stretches.new.scratch c.args.scratch.now (omega (arith, c.raise_stretches.auto.scratch, c.clear.auto.buffer));
+}

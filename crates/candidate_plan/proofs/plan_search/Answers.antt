@@ -1,21 +1,17 @@
 -- `plan_search`: the input, then the state.
-use Rattle.meaning_numbers.proofs.Prelude.{ap₂, ◌∙◌, ℕ, min}
-use Rattle.refusals.specs.Refusal.{refusal_of, passes}
-use Rattle.refusals.proofs.RefusalLaws.{part-refuses, part-passes}
+use Rattle.std.specs.Prelude.{Err}
+use Rattle.meaning_numbers.proofs.Prelude.{◌≡◌, refl, sym, ap₂, ◌∙◌, ℕ, rules}
+use Rattle.refusals.specs.Refusal.{verdict}
+use Rattle.refusals.proofs.RefusalLaws.{goes-on, stops}
 use Rattle.candidate_plan.specs.Tables.{input_table, state_table, plan_of}
-use Rattle.candidate_plan.proofs.Cases.{input-lacks}
 use Rattle.candidate_plan.proofs.plan_search.Goals as goal
 
-pub returns-then-input-ne0 : goal.returns-then-input-ne0
+pub returns-in_err-refuse_input : goal.returns-in_err-refuse_input
 unfolding plan_of
-returns-then-input-ne0 c =
-    let a = c.args in
-    part-refuses (input_table a.s.now a.q.now a.head.window a.ask) (state_table a.s.now a.head a.j a.ask.pick (min a.offsets a.distances) (min a.left a.right) a.scratch) c.refuse_input-input.ensures c.if-input-ne0.true
+returns-in_err-refuse_input c =
+    let e : c.from_residual.result ≡ Err c.in_err-refuse_input.field-0.0 = search rules in
+    e ∙ sym (stops (input_table c.args.s.now c.args.q.now c.args.head.window c.args.ask) _ refl (c.refuse_input.ensures) c.in_err-refuse_input.was)
 
 pub returns : goal.returns
 unfolding plan_of
-returns c =
-    let a = c.args in
-    part-passes (state_table a.s.now a.head a.j a.ask.pick (min a.offsets a.distances) (min a.left a.right) a.scratch)
-    (passes (input_table a.s.now a.q.now a.head.window a.ask) (input-lacks a.s.now a.q.now a.head.window a.ask) c.refuse_input-input.ensures c.if-input-ne0.false)
-    (c.refuse_state.ensures ∙ ap₂ (λ (l n : ℕ). refusal_of (state_table a.s.now a.head a.j a.ask.pick l n a.scratch)) c.lesser-list.ensures c.lesser-candidates.ensures)
+returns c = (c.refuse_state.ensures ∙ ap₂ (λ (l n : ℕ). verdict (state_table c.args.s.now c.args.head c.args.judged c.args.ask.pick l n c.args.scratch)) c.min-list.ensures c.min-candidates.ensures) ∙ sym (goes-on (input_table c.args.s.now c.args.q.now c.args.head.window c.args.ask) _ refl (c.refuse_input.ensures) c.in_ok-refuse_input.was)
