@@ -61,13 +61,6 @@ pub struct TallyAt {
     pub at: usize,
 }
 
-// A text cannot be read from a place on; or what its head and rows come to.
-#[derive(Clone, Copy)]
-pub enum Scanned {
-    Bad(usize),
-    Fine(Head, Rows),
-}
-
 pub fn no_runs() -> Runs
     ensures { result ≡ no_runs }
 {
@@ -281,21 +274,17 @@ pub fn no_tally() -> Tally
 }
 
 // The end of a text of `at` bytes.
-fn scan_end(s: State, t: Tally, at: usize) -> Scanned
+fn scan_end(s: State, t: Tally, at: usize) -> Result<(Head, Rows), usize>
     ensures { result ≡ kept_scanned (at_end (kept_at s t) at) }
 {
-    let head = t.head;
-    let rows = t.rows;
     match s {
-        State::In(_, _) => Scanned::Bad(at),
-        State::At(_, _) => Scanned::Bad(at),
-        State::Before(_) => Scanned::Bad(at),
-        State::Done => Scanned::Fine(head, rows),
+        State::In(_, _) | State::At(_, _) | State::Before(_) => Err(at),
+        State::Done => Ok((t.head, t.rows)),
     }
 }
 
-// A whole text.
-pub fn scan(text: &[u8]) -> Scanned
+// A whole text: its head and rows; an `Err` is the place of its first bad byte.
+pub fn scan(text: &[u8]) -> Result<(Head, Rows), usize>
     ensures { result ≡ scanned (read_text index_form text.now) }
 {
     let mut s = State::In(Word::Window, 0);
@@ -324,12 +313,8 @@ pub fn scan(text: &[u8]) -> Scanned
                 t = shut(t);
                 i = at;
             }
-            Event::Refuse(_, at) => {
-                return Scanned::Bad(at);
-            }
-            Event::End(n, at) => {
-                return scan_end(n, t, at);
-            }
+            Event::Refuse(_, at) => return Err(at),
+            Event::End(n, at) => return scan_end(n, t, at),
         }
     }
 }
