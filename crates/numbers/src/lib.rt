@@ -98,68 +98,6 @@ pub fn squared(x: i32, y: i32) -> u64
     d * d
 }
 
-// The size of the difference of two numbers.
-pub fn difference(a: u64, b: u64) -> u64
-    ensures { result ≡ nat_abs (pos a -ℤ pos b) }
-{
-    if a < b { b - a } else { a - b }
-}
-
-// The difference, 0 where it would be negative.
-pub fn monus(a: usize, b: usize) -> usize
-    ensures { result ≡ a - b }
-{
-    if a < b { 0 } else { a - b }
-}
-
-pub fn lesser(a: u64, b: u64) -> u64
-    ensures { result ≡ min a b }
-{
-    if a < b { a } else { b }
-}
-
-pub fn greater(a: u64, b: u64) -> u64
-    ensures { result ≡ max a b }
-{
-    if a < b { b } else { a }
-}
-
-pub fn lesser_value(x: i32, y: i32) -> i32
-    ensures { result ≡ minℤ x y }
-{
-    if x < y { x } else { y }
-}
-
-pub fn greater_value(x: i32, y: i32) -> i32
-    ensures { result ≡ maxℤ x y }
-{
-    if x < y { y } else { x }
-}
-
-// A number without its sign.
-pub fn magnitude(z: i32) -> u32
-    ensures { result ≡ nat_abs z }
-{
-    if z < 0 {
-        let y = 0 - (z + 1);
-        (y as u32) + 1
-    } else {
-        z as u32
-    }
-}
-
-pub fn lesser_of(x: i64, y: i64) -> i64
-    ensures { result ≡ minℤ x y }
-{
-    if x < y { x } else { y }
-}
-
-pub fn greater_of(x: i64, y: i64) -> i64
-    ensures { result ≡ maxℤ x y }
-{
-    if x < y { y } else { x }
-}
-
 // The quotient, rounded down for negative numbers too.
 pub fn floor_quotient(z: i64, d: u64) -> i64
     requires { 0 < d }
@@ -182,30 +120,6 @@ pub fn ceil_quotient(z: i64, d: u64) -> i64
     -floor_quotient(-z, d)
 }
 
-// The sum of two numbers.
-pub fn plus(x: i64, y: i64) -> i64
-    requires { Small 4000000000000000 x × Small 4000000000000000 y }
-    ensures { result ≡ x +ℤ y }
-{
-    x + y
-}
-
-// The difference of two numbers.
-pub fn minus(x: i64, y: i64) -> i64
-    requires { Small 4000000000000000 x × Small 4000000000000000 y }
-    ensures { result ≡ x -ℤ y }
-{
-    x - y
-}
-
-// The product of two numbers.
-pub fn times(x: i64, y: i64) -> i64
-    requires { Small 40000000 x × Small 300000000 y }
-    ensures { result ≡ x *ℤ y }
-{
-    x * y
-}
-
 // The nearest value that an i32 holds.
 pub fn narrow(z: i64) -> i32
     ensures { result ≡ clamp z }
@@ -218,18 +132,4 @@ pub fn hold(z: i64) -> u32
     ensures { result ≡ held z }
 {
     u32::try_from(z).unwrap_or(u32::MAX)
-}
-
-// The place before `k`, or 0.
-pub fn place_before(k: usize) -> usize
-    ensures { result ≡ k - 1 }
-{
-    if k == 0 { 0 } else { k - 1 }
-}
-
-// The lesser of two lengths.
-pub fn shorter(a: usize, b: usize) -> usize
-    ensures { result ≡ min a b }
-{
-    if a < b { a } else { b }
 }
