@@ -14,7 +14,7 @@ ghost use Rattle.text_judge.specs.Judged.{judged_rows};
 use meaning_curves::LOWEST_END;
 use meaning_rows::{Head, Row};
 use numbers::{hold, narrow};
-use rows_judge::{Judged, head_good, range_good, run_good, total_good};
+use rows_judge::{head_good, range_good, run_good, total_good};
 use text_event::{Event, next_event, plain_run, run_left, run_length, run_right};
 use text_index::{Field, State, Turn, Word};
 
@@ -319,15 +319,15 @@ pub fn scan(text: &[u8]) -> Result<(Head, Rows), usize>
     }
 }
 
-// What judging a text said: the first bad row, 0 for the head, or how many windows stand in runs.
-pub fn judged_rows(head: Head, c: Rows) -> Judged
+// What judging a text said: how many windows stand in runs, or the first bad row, 0 for the head.
+pub fn judged_rows(head: Head, c: Rows) -> Result<usize, usize>
     ensures { result ≡ judged_rows head c }
 {
     if !head_good(head) {
-        return Judged::Bad { row: 0 };
+        return Err(0);
     }
     if !c.good {
-        return Judged::Bad { row: c.rows };
+        return Err(c.rows);
     }
-    Judged::Fine { total: c.taken }
+    Ok(c.taken)
 }
