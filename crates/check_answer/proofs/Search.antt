@@ -3,7 +3,7 @@ use Prim.Native.Nat.{ℕ, ◌<◌}
 use lib.IntN.{ℤ}
 use lib.ListN.{length}
 use mathlib.Core.List.{List}
-use Rattle.std.specs.Prelude.{None}
+use Rattle.std.specs.Prelude.{None, Ok}
 use mathlib.Core.Path.{◌≡◌, refl, sym, ap, ◌∙◌}
 use native.Mathlib.Decide.{dec_le}
 use native.Mathlib.Omega.{arith}
@@ -34,24 +34,24 @@ module _ (c : SearchCall) (b : SearchBuffers) (free : first_refusal (search_plan
 
   -- the answer, and the buffers of a search that looked
   record Ends : Type 0 where
-    answer : answer_of c.ask.pick (search_candidates c) M (list_room b) ≡ search_answer c b
+    answer : Ok (answer_of c.ask.pick (search_candidates c) M (list_room b)) ≡ search_answer c b
     after : search_after c b ≡ looked_after c b
 
   ends_by : (p : Pick) → c.ask.pick ≡ p → Ends
   unfolding answer_of search_told handed
   ends_by (Pick.Closest k) e =
       let p = plan-all c b free (few-fit c b free e) in
-      record { answer = answer-by e ∙ sym (told-by e) ∙ sym p.0; after = p.1 }
+      record { answer = ap (λ f. Ok f) (answer-by e ∙ sym (told-by e)) ∙ sym p.0; after = p.1 }
   ends_by Pick.All e =
       let all : length (search_handed c) ≡ M = ap (λ q. length (handed q (search_matches c))) e in
       elim (dec_le M (list_room b)) [
         | yes h ↦
             let p = plan-all c b free (omega (arith, all)) in
-            record { answer = answer-by e ∙ sym (answer-all (search_candidates c) M (list_room b) h) ∙ sym (told-by e) ∙ sym p.0; after = p.1 }
+            record { answer = ap (λ f. Ok f) (answer-by e ∙ sym (answer-all (search_candidates c) M (list_room b) h) ∙ sym (told-by e)) ∙ sym p.0; after = p.1 }
         | no f ↦
             let h : list_room b < M = omega arith in
             let p = plan-full c b free (omega (arith, all)) in
-            record { answer = answer-by e ∙ sym (answer-full (search_candidates c) M (list_room b) h) ∙ sym p.0; after = p.1 }
+            record { answer = ap (λ f. Ok f) (answer-by e ∙ sym (answer-full (search_candidates c) M (list_room b) h)) ∙ sym p.0; after = p.1 }
       ]
 
   ends : Ends
@@ -59,14 +59,14 @@ module _ (c : SearchCall) (b : SearchBuffers) (free : first_refusal (search_plan
 
   pub search-done : {r : Found} {left right scratch offsets distances : List ℕ} → left ≡ (looked_after c b).left → right ≡ (looked_after c b).right → scratch ≡ (looked_after c b).scratch
       → Answers c.ask.pick (search_matches c) (search_candidates c) r b.offsets b.distances offsets distances
-      → SearchKept c b r (record { left = left; right = right; scratch = scratch; offsets = offsets; distances = distances })
+      → SearchKept c b (Ok r) (record { left = left; right = right; scratch = scratch; offsets = offsets; distances = distances })
   search-done {r} {left} {right} {scratch} {offsets} {distances} e f g a =
       let t = list-after c b a.list in
       let o = t.1 in
       let d = t.2 in
       let same : record { left = left; right = right; scratch = scratch; offsets = offsets; distances = distances } ≡ looked_after c b
       = λ i. record { left = e i; right = f i; scratch = g i; offsets = o i; distances = d i } in
-      search-kept c b r (record { left = left; right = right; scratch = scratch; offsets = offsets; distances = distances }) (a.answered ∙ ends.answer) (same ∙ sym ends.after)
+      search-kept c b (Ok r) (record { left = left; right = right; scratch = scratch; offsets = offsets; distances = distances }) (ap (λ f. Ok f) a.answered ∙ ends.answer) (same ∙ sym ends.after)
 
 -- ---- over a lent index
 
@@ -92,7 +92,7 @@ module _ (s : List ℤ) (h : Head) (rows : List Row) (left right : List ℕ) (as
     meant = rw (same_runs, ← asked_is) (found_among call.index (question call))
 
     -- and what is found of them is what the search means
-    pub search-ends : {r : Found} {scratch offsets distances : List ℕ} {candidates : ℕ} → (the_plan s h rows left right ask q b).number ≡ 0 → scratch ≡ (looked_after call b).scratch → candidates ≡ search_candidates call
+    pub search-ends : {r : Found} {scratch offsets distances : List ℕ} {candidates : ℕ} → the_plan s h rows left right ask q b ≡ Ok tt → scratch ≡ (looked_after call b).scratch → candidates ≡ search_candidates call
         → Answers ask.pick (found (wanted ask s q) (members (lent_runs lefts rights k))) candidates r b.offsets b.distances offsets distances
-        → SearchKept call b r (record { left = lefts; right = rights; scratch = scratch; offsets = offsets; distances = distances })
+        → SearchKept call b (Ok r) (record { left = lefts; right = rights; scratch = scratch; offsets = offsets; distances = distances })
     search-ends z i j a = search-done call b (goes_on s h rows left right ask q b z) e f i (rw (meant, j) at a)

@@ -16,27 +16,28 @@ use distance_query::prepare;
 use meaning_curves::LONGEST_QUERY;
 use meaning_entries::Found;
 use meaning_filter::{Ask, Kind, Limits, Pick};
-use numbers::lesser;
 
 // What a search for all matches answers that looked: they are listed, or the list is full.
+#[tactic(auto, unfolding(crate::specs::Answer::answer_of))]
 pub fn answer_all(candidates: usize, matches: usize, offsets: usize, distances: usize) -> Found
     ensures { result ≡ answer_of Pick.All candidates matches (min offsets distances) }
 {
-    let room = lesser(offsets as u64, distances as u64) as usize;
+    let room = offsets.min(distances);
     if matches <= room {
         Found::All {
-            candidates: candidates,
-            matches: matches,
+            candidates,
+            matches,
         }
     } else {
         Found::Full {
-            candidates: candidates,
-            matches: matches,
+            candidates,
+            matches,
         }
     }
 }
 
 // What a search answers that looked.
+#[tactic(auto, unfolding(crate::specs::Answer::answer_of))]
 pub fn answer(
     pick: Pick,
     candidates: usize,
@@ -48,9 +49,9 @@ pub fn answer(
 {
     match pick {
         Pick::All => answer_all(candidates, matches, offsets, distances),
-        Pick::Closest { count: _ } => Found::Few {
-            candidates: candidates,
-            matches: matches,
+        Pick::Closest { .. } => Found::Few {
+            candidates,
+            matches,
         },
     }
 }
@@ -101,29 +102,24 @@ pub fn find_matches(
     requires pick_bound { fewest ask.pick ≤ pair_room offsets.old distances.old }
     ensures { Answers ask.pick (found (wanted ask s.now q.now) (members (lent_runs left.now right.now runs))) candidates result offsets.old distances.old offsets.new distances.new }
 {
-    let kind = ask.kind;
-    let l = ask.limits;
-    let pick = ask.pick;
-    let mut curve: [i32; LONGEST_QUERY] = [0; LONGEST_QUERY];
-    let mut low: [i32; LONGEST_QUERY] = [0; LONGEST_QUERY];
-    let mut high: [i32; LONGEST_QUERY] = [0; LONGEST_QUERY];
+    let mut curve = [0; LONGEST_QUERY];
+    let mut low = [0; LONGEST_QUERY];
+    let mut high = [0; LONGEST_QUERY];
     let m = q.len();
-    let entries = offsets.len();
-    let sizes = distances.len();
-    let n = check_prepared(
-        pick,
-        kind,
+    let found = check_prepared(
+        ask.pick,
+        ask.kind,
         s,
         q,
-        l,
+        ask.limits,
         left,
         right,
         runs,
-        &mut curve[0..m],
-        &mut low[0..m],
-        &mut high[0..m],
+        &mut curve[..m],
+        &mut low[..m],
+        &mut high[..m],
         offsets,
         distances,
     );
-    answer(pick, candidates, n, entries, sizes)
+    answer(ask.pick, candidates, found, offsets.len(), distances.len())
 }
