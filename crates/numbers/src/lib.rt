@@ -160,7 +160,7 @@ pub fn greater_of(x: i64, y: i64) -> i64
     if x < y { y } else { x }
 }
 
-// The quotient, rounded down for negative numbers too.
+// The quotient, rounded down for negative numbers too. `div_euclid` would ask that `d` fits an i64.
 pub fn floor_quotient(z: i64, d: u64) -> i64
     requires { 0 < d }
     ensures { result ≡ floorℤ z d }
