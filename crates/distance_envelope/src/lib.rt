@@ -8,7 +8,7 @@ ghost use Rattle.distance_envelope.specs.Best.{pick, edge};
 ghost use Rattle.distance_envelope.specs.Pass.{PassAhead, PassBack, Ahead, Back};
 ghost use Rattle.distance_envelope.specs.Envelope.{IsEnvelope};
 
-// The lesser of two values, or the greater.
+// The lesser of two values, or the greater. A flag and not a closure: it is the flag of `edge`, by which one set of laws serves both envelopes.
 pub fn pick(low: bool, x: i32, y: i32) -> i32
     ensures { result ≡ pick low x y }
 {
@@ -32,7 +32,7 @@ pub fn pass_ahead(out: &mut [i32], d: usize, low: bool)
     }
 }
 
-// The same with the value `d` places back.
+// The same with the value `d` places back, from the end on, since what a place reads must not be picked yet: one function for both ways would be told the order and the place by its caller.
 pub fn pass_back(out: &mut [i32], d: usize, low: bool)
     ensures { PassBack low d out.old out.new }
 {

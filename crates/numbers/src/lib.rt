@@ -98,7 +98,7 @@ pub fn squared(x: i32, y: i32) -> u64
     d * d
 }
 
-// The quotient, rounded down for negative numbers too.
+// The quotient, rounded down for negative numbers too. `div_euclid` would ask that `d` fits an i64.
 pub fn floor_quotient(z: i64, d: u64) -> i64
     requires { 0 < d }
     ensures { result ≡ floorℤ z d }

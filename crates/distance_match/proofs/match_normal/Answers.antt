@@ -1,5 +1,5 @@
 -- `match_normal`: where a cheap test fails the stretch does not match (`unlike-matched`), else the distance decides (`alike-matched`).
-use Rattle.meaning_numbers.proofs.Prelude.{rules, ◌∙◌, ap, ℕ, length}
+use Rattle.meaning_numbers.proofs.Prelude.{◌∙◌, ap, ℕ, length}
 use Rattle.meaning_curves.specs.Curve.{at, stretch}
 use Rattle.meaning_curves.proofs.Same.{distance-same}
 use Rattle.values.proofs.SumsLaws.{spread-bound}
@@ -10,14 +10,11 @@ use own.AlikeLaws.{alike-matched, unlike-matched}
 use own.Shift.{shift-raised, spread-limit}
 use Rattle.distance_match.proofs.match_normal.Goals as goal
 
-pub alike-requires : goal.alike-requires
-alike-requires c =
-    let r = c.requires in
-    record {
-      a_bound = rw c.spread_of-a.ensures (spread-bound r.all_in.0 r.are_sums r.q_nonzero.1);
-      spread_bound = rw r.ready.spread (spread-limit (length c.args.q.now) r.all_in.1 r.q_nonzero.1);
-      m_le_longest_query = (r.q_nonzero.1, search rules);
-    }
+pub alike-requires-clause-a_bound : goal.alike-requires-clause-a_bound
+alike-requires-clause-a_bound c = let r = c.requires in rw c.spread_of-a.ensures (spread-bound r.all_in.0 r.are_sums r.q_nonzero.1)
+
+pub alike-requires-clause-spread_bound : goal.alike-requires-clause-spread_bound
+alike-requires-clause-spread_bound c = let r = c.requires in rw r.ready.spread (spread-limit (length c.args.q.now) r.all_in.1 r.q_nonzero.1)
 
 pub returns-then-not-alike : goal.returns-then-not-alike
 returns-then-not-alike c =

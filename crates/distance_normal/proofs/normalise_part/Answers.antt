@@ -1,8 +1,8 @@
 use borrow.Author.Count.{below_more}
-use Rattle.meaning_numbers.proofs.Prelude.{◌≡◌, ◌∙◌, sym, ℕ, ◌+◌, ◌≤◌, ◌<◌, mul-le-mul, arith, length, length-set, get_or-set_same, get_or-set_other, pos, ℤ, w32, to_z, of_z, to_z-of_z}
+use Rattle.meaning_numbers.proofs.Prelude.{◌≡◌, ◌∙◌, sym, ℕ, ◌+◌, ◌<◌, arith, length, length-set, get_or-set_same, get_or-set_other, pos, ℤ, w32, to_z, of_z, to_z-of_z}
 use Rattle.meaning_curves.specs.{Curve.stretch, Normal.normalised}
 use Rattle.meaning_curves.proofs.Values.{InLimits}
-use Rattle.numbers.specs.Raised.{raised, raised-le}
+use Rattle.numbers.specs.Raised.{raised}
 use Rattle.numbers.proofs.Back.{raised-back}
 use Rattle.values.proofs.SumsLaws.{sums-le, spread-bound, centred-raised}
 use Rattle.distance_normal.proofs as own
@@ -13,18 +13,16 @@ use Rattle.distance_normal.proofs.normalise_part.Goals as goal
 told : {x : ℤ} {r : ℕ} → InLimits x → r ≡ raised (to_z w32 (of_z w32 x)) → r ≡ raised x
 told in_x e = e ∙ raised-back in_x
 
-pub normal_of-requires : goal.normal_of-requires
-normal_of-requires c =
+pub normal_of-requires-clause-p_bound : goal.normal_of-requires-clause-p_bound
+normal_of-requires-clause-p_bound c =
     let r = c.requires.ready in
     let l = sums-le r.values-in r.sums in
-    let at_most : c.raise.result ≤ 20000 = rw (told (r.values-in.at _) c.raise.ensures) (raised-le (r.values-in.at _)) in
-    record {
-      x_bound = omega (arith, mul-le-mul r.short at_most);
-      p_bound = omega (arith, r.short);
-      a_nonzero = r.some;
-      a_bound = omega (arith, spread-bound r.values-in r.sums r.short, r.spread-is);
-      factor = c.requires.factor;
-    }
+    omega (arith, r.short)
+
+pub normal_of-requires-clause-a_bound : goal.normal_of-requires-clause-a_bound
+normal_of-requires-clause-a_bound c =
+    let r = c.requires.ready in
+    omega (arith, spread-bound r.values-in r.sums r.short, r.spread-is)
 
 stored : (c : goal.After-normal_of) → to_z w32 (of_z w32 c.normal_of.result) ≡ normalised (stretch c.args.s.now c.args.from) (length c.args.out.now) (c.args.p + c.loop-k.k)
 stored c =

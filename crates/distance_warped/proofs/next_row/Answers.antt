@@ -1,7 +1,7 @@
 use Rattle.meaning_numbers.proofs.Prelude.{rules, ◌≡◌, ◌∙◌, sym, ℕ, ◌+◌, ◌-◌, ◌≤◌, ◌<◌, arith, length, length-set, ℤ}
 use Rattle.meaning_curves.specs.{Curve.at, Curve.stretch, Straight.cost}
 use Rattle.meaning_curves.proofs.Values.{cost-le}
-use Rattle.numbers.proofs.Back.{cost-back, in-arg}
+use Rattle.numbers.proofs.Back.{cost-back}
 use Rattle.distance_warped.specs.Rows.{big, before_more, cells, row-start, row-end, before-le, next-cell, least_more, low-new}
 use Rattle.distance_warped.proofs as own
 use own.Rows.{halfway-more}
@@ -16,16 +16,12 @@ loop-j-init c =
     let e : c.saturating_sub-lo.result ≡ i + 1 - b = omega arith in
     (rw e (row-start S Q b i _ _ (omega arith) (omega arith) c.requires.row_is), c.requires.row_is.at _ (omega arith), rw e (sym (low-new S Q b i _ (omega arith))), search rules)
 
-pub cell-left-requires : goal.cell-left-requires
-cell-left-requires c =
+pub cell-left-requires-clause-left_le_big : goal.cell-left-requires-clause-left_le_big
+cell-left-requires-clause-left_le_big c =
     let all = c.requires.all_in in
     let S = stretch c.args.s.now c.args.from in
     let Q = at c.args.q.now in
-    record {
-      left_le_big = omega (arith, c.loop-j.invariant.2, before-le S Q c.args.b (λ x y. cost-le (all.0.at _) (all.1.at _)) (c.args.i + 1) c.loop-j.j (omega arith));
-      in_limits = in-arg (all.0.at _);
-      in_limits_2 = in-arg (all.1.at _);
-    }
+    omega (arith, c.loop-j.invariant.2, before-le S Q c.args.b (λ x y. cost-le (all.0.at _) (all.1.at _)) (c.args.i + 1) c.loop-j.j (omega arith))
 
 -- a turn
 module _ (l : goal.After-min-least) where
@@ -65,7 +61,5 @@ loop-j-preserved c =
       rw c.min-least.ensures (least_more (S c) (Q c) _ (small c) (c.args.i + 1) _ j _ _ new v.3),
     )
 
-pub returns : goal.returns
-returns c =
-    let v = c.loop-j.invariant in
-    record { row_is_2 = row-end (stretch c.args.s.now c.args.from) (at c.args.q.now) _ _ _ _ _ (omega arith) v.0; least_of = record { at = λ j u n. v.3 j (omega arith) (omega arith) } }
+pub returns-clause-row_is_2 : goal.returns-clause-row_is_2
+returns-clause-row_is_2 c = row-end (stretch c.args.s.now c.args.from) (at c.args.q.now) _ _ _ _ _ (omega arith) c.loop-j.invariant.0

@@ -40,13 +40,8 @@ module _ {s q low high : List ℤ} (from i rest : ℕ) {b bound x least : ℕ} (
   under : least + (rest - x) ≤ warped (stretch s from) (at q) b (length q)
   under = omega (arith, enough _ i rest rest-is bound-is here x-is, left _ i rest rest-is bound-is here x-is, rest-least (stretch s from) e (i + 1) least here l)
 
-pub excess_at-requires : goal.excess_at-requires
-excess_at-requires c = record {
-  j_in_bounds = omega arith;
-  j_in_bounds_2 = omega arith;
-  j_in_bounds_3 = omega arith;
-  all_in = (c.requires.all_in.0, low-in c.requires.all_in.1 c.requires.envelopes, high-in c.requires.all_in.1 c.requires.envelopes);
-}
+pub excess_at-requires-clause-all_in : goal.excess_at-requires-clause-all_in
+excess_at-requires-clause-all_in c = (c.requires.all_in.0, low-in c.requires.all_in.1 c.requires.envelopes, high-in c.requires.all_in.1 c.requires.envelopes)
 
 pub overflow_sub-rest : goal.overflow_sub-rest
 overflow_sub-rest c = first-le _ c.requires.q_nonzero.0 c.requires.bound_value c.excess_at.ensures
@@ -57,13 +52,8 @@ loop-i-init c =
     let g = first-le _ c.requires.q_nonzero.0 c.requires.bound_value c.excess_at.ensures in
     (c.first_row.ensures, omega (arith, f, g))
 
-pub excess_at-rest-requires : goal.excess_at-rest-requires
-excess_at-rest-requires c = record {
-  j_in_bounds = omega arith;
-  j_in_bounds_2 = omega arith;
-  j_in_bounds_3 = omega arith;
-  all_in = (c.requires.all_in.0, low-in c.requires.all_in.1 c.requires.envelopes, high-in c.requires.all_in.1 c.requires.envelopes);
-}
+pub excess_at-rest-requires-clause-all_in : goal.excess_at-rest-requires-clause-all_in
+excess_at-rest-requires-clause-all_in c = (c.requires.all_in.0, low-in c.requires.all_in.1 c.requires.envelopes, high-in c.requires.all_in.1 c.requires.envelopes)
 
 pub overflow_sub-rest-in-loop-i : goal.overflow_sub-rest-in-loop-i
 overflow_sub-rest-in-loop-i c = enough _ _ _ c.loop-i.invariant.1 c.requires.bound_value (omega arith) c.excess_at-rest.ensures

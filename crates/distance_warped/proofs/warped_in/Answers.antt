@@ -11,8 +11,8 @@ use Rattle.distance_warped.proofs as own
 use own.Rest.{bound-le}
 use Rattle.distance_warped.proofs.warped_in.Goals as goal
 
-pub envelope_bound-bound-requires : goal.envelope_bound-bound-requires
-envelope_bound-bound-requires c = record { low_in_bounds = search rules; low_len = search rules; low_len_bound = search rules; all_in = (c.requires.all_in.0, low-in c.requires.all_in.1 c.requires.envelopes, high-in c.requires.all_in.1 c.requires.envelopes) }
+pub envelope_bound-bound-requires-clause-all_in : goal.envelope_bound-bound-requires-clause-all_in
+envelope_bound-bound-requires-clause-all_in c = (c.requires.all_in.0, low-in c.requires.all_in.1 c.requires.envelopes, high-in c.requires.all_in.1 c.requires.envelopes)
 
 module _ (c : goal.Then-limit-bound) where
   abbrev S : ℕ → ℤ

@@ -10,11 +10,11 @@ use Rattle.distance_within.proofs as own
 use own.{Answer.no_answer, Room.normal-room, Room.same_self}
 use Rattle.distance_within.proofs.compare_normal.Goals as goal
 
-pub normalise_within-bound-requires : goal.normalise_within-bound-requires
-normalise_within-bound-requires c =
+pub normalise_within-bound-requires-clause-all_in : goal.normalise_within-bound-requires-clause-all_in
+normalise_within-bound-requires-clause-all_in c =
     let e = c.requires.envelopes in
     let q = c.requires.curve_nonzero.1 in
-    rw c.requires.room_fits.0 (record { ready = c.requires.normal_ready; low_as_long = (e.below.long, e.above.long); all_in = (low-in q e, high-in q e) })
+    (low-in q e, high-in q e)
 
 pub returns-then-threshold-bound : goal.returns-then-threshold-bound
 returns-then-threshold-bound c =
@@ -22,17 +22,12 @@ returns-then-threshold-bound c =
     let w = rw c.requires.room_fits.0 at c.normalise_within-bound.ensures in
     no_answer {E = c.args.threshold} (omega (arith, within-above w.bound c.if-threshold-bound.true, bound-le S c.requires.envelopes c.requires.curve_nonzero.0))
 
-pub compare-requires : goal.compare-requires
-compare-requires c =
+pub compare-requires-clause-all_in : goal.compare-requires-clause-all_in
+compare-requires-clause-all_in c =
     let r = c.requires in
     let some : 0 < spread (stretch c.args.s.now c.args.from) (length c.args.curve.now) = omega (arith, r.normal_ready.spread-is, r.normal_ready.some) in
     let w = rw r.room_fits.0 at c.normalise_within-bound.ensures in
-    record {
-      curve_in_bounds = omega arith;
-      curve_fits = (r.curve_nonzero.0, r.normal_ready.short, r.room_fits.1);
-      all_in = (normalised-in some r.normal_ready.short (w.made c.if-threshold-bound.false), r.curve_nonzero.1);
-      envelopes = r.envelopes;
-    }
+    (normalised-in some r.normal_ready.short (w.made c.if-threshold-bound.false), r.curve_nonzero.1)
 
 pub returns : goal.returns
 returns c =

@@ -1,5 +1,5 @@
 use Rattle.meaning_numbers.specs.Sum.{Σℕ}
-use Rattle.meaning_numbers.proofs.Prelude.{◌≡◌, refl, ◌∙◌, List, ℕ, ◌+◌, ◌-◌, ◌<◌, ◌≤◌, arith, ℤ, length, take, length-take}
+use Rattle.meaning_numbers.proofs.Prelude.{◌≡◌, refl, List, ℕ, ◌+◌, ◌-◌, ◌<◌, ◌≤◌, arith, ℤ, length, take}
 use Rattle.meaning_curves.specs.{Curve.at, Curve.stretch, Curve.spread, Normal.normalised}
 use Rattle.meaning_curves.proofs.Values.{AllIn}
 use Rattle.meaning_filter.proofs.Bound.{apart}
@@ -18,9 +18,6 @@ module _ {s low high out out' : List ℤ} {from m values squares a i n e : ℕ} 
   to : NormalTo (stretch s from) m e out'
   to = rw is (normal-next t (rw t.long at p))
 
-  long : length (take e out') ≡ e
-  long = length-take e out' ∙ omega (arith, to.long)
-
   reads : AllIn (take e out')
   reads = made_in some ready.short fits to
 
@@ -32,19 +29,10 @@ module _ {s low high out out' : List ℤ} {from m values squares a i n e : ℕ} 
 pub loop-i-init : goal.loop-i-init
 loop-i-init c = (omega arith, record { long = refl; at = λ k h. absurd (omega arith) }, made_none _ _)
 
-pub envelope_part-total-requires : goal.envelope_part-total-requires
-envelope_part-total-requires c =
+pub envelope_part-total-requires-clause-all_in : goal.envelope_part-total-requires-clause-all_in
+envelope_part-total-requires-clause-all_in c =
     let r = c.requires in
-    let t = c.loop-i.invariant.1 in
-    let p = c.normalise_part.ensures in
-    let l = long r.ready r.all_in.0 r.all_in.1 t p refl (omega arith) in
-    record {
-      n_in_bounds = omega (arith, l);
-      n_in_bounds_2 = omega arith;
-      n_in_bounds_3 = omega arith;
-      n_le_longest_query = omega arith;
-      all_in = (reads r.ready r.all_in.0 r.all_in.1 t p refl (omega arith), r.all_in.0, r.all_in.1);
-    }
+    (reads r.ready r.all_in.0 r.all_in.1 c.loop-i.invariant.1 c.normalise_part.ensures refl (omega arith), r.all_in.0, r.all_in.1)
 
 pub overflow_add-total : goal.overflow_add-total
 overflow_add-total c =
@@ -68,20 +56,11 @@ loop-i-preserved c =
       more r.ready r.all_in.0 r.all_in.1 t p refl (omega arith) c.loop-i.invariant.2 c.envelope_part-total.ensures,
     )
 
-pub envelope_part-requires : goal.envelope_part-requires
-envelope_part-requires c =
+pub envelope_part-requires-clause-all_in : goal.envelope_part-requires-clause-all_in
+envelope_part-requires-clause-all_in c =
     let r = c.requires in
-    let t = c.loop-i.invariant.1 in
-    let p = c.normalise_part-2.ensures in
     let is : length c.args.out.now ≡ c.loop-i.i + (length c.args.out.now - c.loop-i.i) = omega arith in
-    let l = long r.ready r.all_in.0 r.all_in.1 t p is (omega arith) in
-    record {
-      n_in_bounds = omega (arith, l);
-      n_in_bounds_2 = omega arith;
-      n_in_bounds_3 = omega arith;
-      n_le_longest_query = omega (arith, r.ready.short);
-      all_in = (reads r.ready r.all_in.0 r.all_in.1 t p is (omega arith), r.all_in.0, r.all_in.1);
-    }
+    (reads r.ready r.all_in.0 r.all_in.1 c.loop-i.invariant.1 c.normalise_part-2.ensures is (omega arith), r.all_in.0, r.all_in.1)
 
 pub overflow_add-result : goal.overflow_add-result
 overflow_add-result c =

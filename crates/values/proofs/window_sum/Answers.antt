@@ -7,10 +7,10 @@ use Rattle.values.proofs as own
 use own.Window.{window-raised}
 use Rattle.values.proofs.window_sum.Goals as goal
 
-pub lower-requires : goal.lower-requires
-lower-requires c =
+pub lower-requires-clause-n_bound : goal.lower-requires-clause-n_bound
+lower-requires-clause-n_bound c =
     let a = c.args in
-    record { n_bound = omega (arith, c.raised_sum-sum.ensures, Σℕ-le a.w 20000 (λ k. raised (stretch a.s.now a.j k)) (λ k l. raised-le (c.requires.all_in.at _))); k_bound = omega arith }
+    omega (arith, c.raised_sum-sum.ensures, Σℕ-le a.w 20000 (λ k. raised (stretch a.s.now a.j k)) (λ k l. raised-le (c.requires.all_in.at _)))
 
 pub returns : goal.returns
 returns c =
