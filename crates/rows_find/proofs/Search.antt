@@ -1,31 +1,41 @@
--- What a search of the rows rests on: the rows whose upper end is at most the sum come first, and what `partition_point` says of them is what is found.
-use Rattle.std.specs.List.Sorted.{IsPartitionedBy, IsPartitionPoint}
-use Rattle.std.proofs.lemmas.List.{get_or_default}
-use Rattle.meaning_numbers.proofs.Prelude.{by-test, ◌≡◌, ◌∙◌, ℕ, ◌<◌, ◌≤◌, arith, dec_lt, true, false, List, get_or, get_or-take, length, length-take, take, ℤ, le_z, ◌≤ℤ◌, ◌<ℤ◌, zarith, zmach}
+-- A binary search over plain variables: the invariant, its start, a turn and its end.
+use Rattle.meaning_numbers.proofs.Prelude.{le_z, zmach, true, false, ◌≡◌, ℕ, ◌+◌, ◌<◌, ◌≤◌, arith, dec_lt, List, get_or, ℤ, ◌≤ℤ◌, ◌<ℤ◌, zarith}
 use Rattle.meaning_rows.specs.declared.Row.{Row}
 use Rattle.rows_records.specs.Records.{zero_row}
 use Rattle.rows_find.specs.Search.{Climbs, Found, Reached}
 
-module _ (rows : List Row) (n : ℕ) (sum : ℤ) where
-  -- record k of the first n
-  front_at : (k : ℕ) (d : Row) → n ≤ length rows → k < n → get_or (take n rows) k d ≡ get_or rows k zero_row
-  front_at k d within h = get_or-take n rows k d h ∙ get_or_default rows k d zero_row (omega arith)
+-- the first row whose upper end is above the sum stands from lo to hi
+pub record Between (rows : List Row) (n : ℕ) (sum : ℤ) (lo hi : ℕ) : Type 0 where
+  pub order : lo ≤ hi
+  pub within : hi ≤ n
+  pub before : (k : ℕ) → k < lo → (get_or rows k zero_row).up ≤ℤ sum
+  pub after : (k : ℕ) → hi ≤ k → k < n → sum <ℤ (get_or rows k zero_row).up
 
-  pub parted : Climbs rows n → IsPartitionedBy (λ r. le_z r.up sum) (take n rows)
-  parted c i j d order h t =
-      let low : j < n = omega (arith, h, length-take n rows) in
-      let up : (get_or rows i zero_row).up ≤ℤ (get_or rows j zero_row).up = c.up i j order low in
-      let top : le_z (get_or rows j zero_row).up sum ≡ true = rw (front_at j d c.within low) at t in
-      rw (front_at i d c.within (omega arith)) (by-test (le_z (get_or rows i zero_row).up sum) (λ y. y) (λ f. absurd (omega zmach)))
+pub between-starts : (rows : List Row) (n : ℕ) (sum : ℤ) → Between rows n sum 0 n
+between-starts rows n sum = record { order = omega arith; within = omega arith; before = λ k l. absurd (omega arith); after = λ k l m. absurd (omega arith) }
 
-  pub found : Climbs rows n → (k : ℕ) → k ≤ length (take n rows) → IsPartitionPoint (λ r. le_z r.up sum ≡ true) (λ r. le_z r.up sum ≡ false) (take n rows) k → Found rows n sum k
-  found c k h p =
-      let long : length (take n rows) ≡ n = omega (arith, length-take n rows, c.within) in
-      record {
-        within = omega (arith, h, long);
-        before = λ i l. let t : le_z (get_or rows i zero_row).up sum ≡ true = rw (front_at i zero_row c.within (omega (arith, h, long, l))) at (p.0 i zero_row (omega arith) l) in omega zmach;
-        at = λ l. let t : le_z (get_or rows k zero_row).up sum ≡ false = rw (front_at k zero_row c.within l) at (p.1 k zero_row (omega arith) (omega (arith, long, l))) in omega zmach;
-      }
+module _ {rows : List Row} {n : ℕ} {sum : ℤ} {lo hi : ℕ} (asc : Climbs rows n) (b : Between rows n sum lo hi) (mid : ℕ) (above : lo ≤ mid) (below : mid < hi) {r : Row} (is : r ≡ get_or rows mid zero_row) where
+  in_rows : mid < n
+  in_rows = omega (arith, below, b.within)
+
+  pub up : le_z r.up sum ≡ true → Between rows n sum (mid + 1) hi
+  up t = record {
+    order = omega (arith, below);
+    within = b.within;
+    before = λ k m. let a : (get_or rows k zero_row).up ≤ℤ r.up = rw is (asc.up k mid (omega arith) in_rows) in omega zmach;
+    after = b.after;
+  }
+
+  pub down : le_z r.up sum ≡ false → Between rows n sum lo mid
+  down t = record {
+    order = above;
+    within = omega (arith, in_rows);
+    before = b.before;
+    after = λ k m o. let a : r.up ≤ℤ (get_or rows k zero_row).up = rw is (asc.up mid k m o) in omega zmach;
+  }
+
+pub between_ends : (rows : List Row) (n : ℕ) (sum : ℤ) (lo hi : ℕ) → Between rows n sum lo hi → hi ≤ lo → Found rows n sum lo
+between_ends rows n sum lo hi b h = record { within = omega (arith, b.order, b.within); before = b.before; at = λ l. b.after lo h l }
 
 -- where one row reaches above the sum, the search finds one
 pub found_below : (rows : List Row) (n : ℕ) (z : ℤ) (k : ℕ) → Reached rows n z → Found rows n z k → k < n

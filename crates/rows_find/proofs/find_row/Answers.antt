@@ -1,12 +1,14 @@
--- `find_row`: the rows whose upper end is at most the sum come first.
-use Rattle.std.proofs.Common.{rules}
-use Rattle.std.proofs.lemmas.List.Sorted.{IsPartitionPoint-from_clause}
-use Rattle.meaning_numbers.proofs.Prelude.{le_z}
-use Rattle.rows_find.proofs.Search.{parted, found}
+-- `find_row`: a turn of the binary search reads the middle row and halves what is left.
+use Rattle.meaning_numbers.proofs.Prelude.{rules, arith, ◌+◌, ◌-◌, ◌/◌, w32, SFits, to_z-of_z}
+use Rattle.rows_find.proofs.Search.{up, down}
 use Rattle.rows_find.proofs.find_row.Goals as goal
 
-pub returns : goal.returns
-returns c =
-    let a = c.args in
-    let point = IsPartitionPoint-from_clause (λ r. le_z r.up a.sum) _ _ c.partition_point.ensures.partitioned (parted a.rows.now a.count a.sum c.requires) (λ x r q k. search rules) in
-    found a.rows.now a.count a.sum c.requires c.partition_point.result c.partition_point.ensures.bound point
+pub loop-lo-preserved-then-row_at-sum : goal.loop-lo-preserved-then-row_at-sum
+loop-lo-preserved-then-row_at-sum c =
+    let fits : SFits w32 c.row_at.result.up = search rules in
+    up c.requires c.loop-lo.invariant (c.loop-lo.lo + (c.loop-lo.hi - c.loop-lo.lo) / 2) (omega arith) (omega arith) c.row_at.ensures (rw (to_z-of_z w32 c.row_at.result.up fits) at c.if-row_at-sum.true)
+
+pub loop-lo-preserved : goal.loop-lo-preserved
+loop-lo-preserved c =
+    let fits : SFits w32 c.row_at.result.up = search rules in
+    down c.requires c.loop-lo.invariant (c.loop-lo.lo + (c.loop-lo.hi - c.loop-lo.lo) / 2) (omega arith) (omega arith) c.row_at.ensures (rw (to_z-of_z w32 c.row_at.result.up fits) at c.if-row_at-sum.false)
